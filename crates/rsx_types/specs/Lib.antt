@@ -1,0 +1,5 @@
+-- Definitions that contracts cite.
+pub mod Meaning
+pub mod Notes
+pub mod Plain
+pub mod Stream
