@@ -1,0 +1,215 @@
+-- One level of the definitions by recursion on an expression: at a node, and at each variant. And the induction.
+use Rattle.std.proofs.Common.{◌≡◌, ℕ, ℤ, ◌+◌, ◌≤◌, List, [], ◌∷◌, length, map, nat_le, Option, Some, None, option_map, slice_get, Vec, Global, Box, refl, sym, ap, subst, ◌∙◌, arith}
+use Rattle.rsx_types.specs.Plain.{plain, listed, range_items}
+use Rattle.rsx_types.specs.declared.stage.Stage.{Stage}
+use Rattle.rsx_model.specs.declared.check.BadExpr.{BadExpr}
+use Rattle.rsx_model.specs.declared.check.BadExpr.TheVariants.{Depth, Nodes, Number, Length}
+use Rattle.rsx_model.specs.declared.expr.Expr.{Expr}
+use Rattle.rsx_model.specs.declared.expr.Expr.TheOpen.{Expr-F}
+use Rattle.rsx_model.specs.declared.expr.Expr.TheOpen as layer
+use Rattle.rsx_model.specs.declared.expr.Expr.TheFolds.{map-Expr, fold_out-Expr, ind-Expr}
+use Rattle.rsx_model.specs.declared.expr.Expr.TheVariants.{Items, Range}
+use Rattle.rsx_model.specs.declared.expr.Expr.TheViews.{Plain, outs-Items, outs-Range, outs-Plain, rolls-Items, rolls-Range, rolls-Plain, roll-out-Expr, out-Expr, roll-Expr, out-roll-Expr}
+use Rattle.rsx_model.specs.Shape.{children, leaf_here, sum_of, max_of, nodes, depth, leaves}
+use Rattle.rsx_model.specs.Check.{own_fault, or_else, first_of, first_fault, unless, range_fits, refusal}
+use Rattle.rsx_model.specs.Eval.{Environment, Meant, quiet, node_value, node_meant, meant}
+
+-- ---- a node and its children
+
+own_fault-map : {T A B : Type 0} (hubs : ℕ) (h : A → B) (x : Expr-F T A) → own_fault hubs (map-Expr T A B h x) ≡ own_fault hubs x
+own_fault-map hubs h (layer.Items v) = refl
+own_fault-map hubs h (layer.Range a n) = refl
+own_fault-map hubs h (layer.Plain g b) = refl
+
+leaf_here-map : {T A B : Type 0} (h : A → B) (x : Expr-F T A) → leaf_here (map-Expr T A B h x) ≡ leaf_here x
+leaf_here-map h (layer.Items v) = refl
+leaf_here-map h (layer.Range a n) = refl
+leaf_here-map h (layer.Plain g b) = refl
+
+-- the children's answers
+children-map : {T A B : Type 0} (h : A → B) (x : Expr-F T A) → children (map-Expr T A B h x) ≡ map h (children x)
+children-map h (layer.Items v) = refl
+children-map h (layer.Range a n) = refl
+children-map h (layer.Plain g b) = refl
+
+pub nodes_out : {T : Type 0} (e : Expr T) → nodes e ≡ 1 + sum_of (map nodes (children (out-Expr T e)))
+nodes_out {T} e = fold_out-Expr T ℕ (λ x. 1 + sum_of (children x)) e ∙ ap (λ xs. 1 + sum_of xs) (children-map nodes (out-Expr T e))
+
+pub depth_out : {T : Type 0} (e : Expr T) → depth e ≡ 1 + max_of (map depth (children (out-Expr T e)))
+depth_out {T} e = fold_out-Expr T ℕ (λ x. 1 + max_of (children x)) e ∙ ap (λ xs. 1 + max_of xs) (children-map depth (out-Expr T e))
+
+pub leaves_out : {T : Type 0} (e : Expr T) → leaves e ≡ leaf_here (out-Expr T e) + sum_of (map leaves (children (out-Expr T e)))
+leaves_out {T} e =
+    fold_out-Expr T ℕ (λ x. leaf_here x + sum_of (children x)) e
+    ∙ ap (λ n. n + sum_of (children (map-Expr T (Expr T) ℕ leaves (out-Expr T e)))) (leaf_here-map leaves (out-Expr T e))
+    ∙ ap (λ xs. leaf_here (out-Expr T e) + sum_of xs) (children-map leaves (out-Expr T e))
+
+-- a node's own fault, and then its children's
+pub fault_out : {T : Type 0} (hubs : ℕ) (e : Expr T) → first_fault hubs e ≡ or_else (own_fault hubs (out-Expr T e)) (first_of (map (first_fault hubs) (children (out-Expr T e))))
+fault_out {T} hubs e =
+    fold_out-Expr T (Option BadExpr) (λ x. or_else (own_fault hubs x) (first_of (children x))) e
+    ∙ ap (λ o. or_else o (first_of (children (map-Expr T (Expr T) (Option BadExpr) (first_fault hubs) (out-Expr T e))))) (own_fault-map hubs (first_fault hubs) (out-Expr T e))
+    ∙ ap (λ xs. or_else (own_fault hubs (out-Expr T e)) (first_of xs)) (children-map (first_fault hubs) (out-Expr T e))
+
+pub meant_out : {T : Type 0} (w : Environment T) (e : Expr T) → meant w e ≡ node_meant w (map-Expr T (Expr T) (Meant T) (meant w) (out-Expr T e))
+meant_out {T} w e = fold_out-Expr T (Meant T) (node_meant w) e
+
+-- the value of a node where it stands
+pub value_out : {T : Type 0} (w : Environment T) (e : Expr T) (at leaf : ℕ) → (meant w e).value at leaf ≡ node_value w (map-Expr T (Expr T) (Meant T) (meant w) (out-Expr T e)) at leaf
+value_out {T} w e at leaf = ap (λ (m : Meant T). m.value at leaf) (meant_out w e)
+
+-- ---- induction by the children
+
+-- P of each element
+abbrev pub Each : {A : Type 0} → (A → Type 0) → List A → Type 0
+Each P [] = Unit {0}
+Each P (x ∷ xs) = P x × Each P xs
+
+all_of_pairs : {A : Type 0} (P : A → Type 0) (zs : List ((e : A) × P e)) → Each P (map (λ z. z.0) zs)
+all_of_pairs P [] = tt
+all_of_pairs P (z ∷ zs) = (z.1, all_of_pairs P zs)
+
+-- what holds of an expression where it holds of each child holds of every expression
+pub by_children : {T : Type 0} (P : Expr T → Type 0) → ((e : Expr T) → Each P (children (out-Expr T e)) → P e) → (e : Expr T) → P e
+by_children {T} P step = ind-Expr T P (λ x y is.
+    let kids : Each P (children x) =
+    subst (λ z. Each P (children z)) is (rw children-map (all_of_pairs P (children y))) in
+    step (roll-Expr T x) (rw out-roll-Expr kids))
+
+or_else-nothing : (o : Option BadExpr) → or_else o None ≡ o
+or_else-nothing None = refl
+or_else-nothing (Some k) = refl
+
+-- ---- the equations at each variant
+
+abbrev Listed : Type 0 → Type 0
+Listed T = Vec T Global
+
+abbrev Below : Type 0 → Type 0
+Below T = Box (Expr T) Global
+
+pub nodes_Items : {T : Type 0} (v : Listed T) → nodes (Items v) ≡ 1
+nodes_Items v = rw (nodes_out, outs-Items) refl
+
+pub nodes_Range : (T : Type 0) (a : ℤ) (n : ℕ) → nodes {T = T} (Range a n) ≡ 1
+nodes_Range T a n = rw (nodes_out, outs-Range) refl
+
+pub nodes_Plain : {T : Type 0} (g : Stage) (b : Below T) → nodes (Plain g b) ≡ 1 + nodes b.value
+nodes_Plain g b = rw (nodes_out, outs-Plain) (omega arith)
+
+pub depth_Items : {T : Type 0} (v : Listed T) → depth (Items v) ≡ 1
+depth_Items v = rw (depth_out, outs-Items) refl
+
+pub depth_Range : (T : Type 0) (a : ℤ) (n : ℕ) → depth {T = T} (Range a n) ≡ 1
+depth_Range T a n = rw (depth_out, outs-Range) refl
+
+pub depth_Plain : {T : Type 0} (g : Stage) (b : Below T) → depth (Plain g b) ≡ 1 + depth b.value
+depth_Plain g b = rw (depth_out, outs-Plain) (omega arith)
+
+pub leaves_Items : {T : Type 0} (v : Listed T) → leaves (Items v) ≡ 0
+leaves_Items v = rw (leaves_out, outs-Items) refl
+
+pub leaves_Range : (T : Type 0) (a : ℤ) (n : ℕ) → leaves {T = T} (Range a n) ≡ 0
+leaves_Range T a n = rw (leaves_out, outs-Range) refl
+
+pub leaves_Plain : {T : Type 0} (g : Stage) (b : Below T) → leaves (Plain g b) ≡ leaves b.value
+leaves_Plain g b = rw (leaves_out, outs-Plain) (omega arith)
+
+pub first_fault_Items : {T : Type 0} (hubs : ℕ) (v : Listed T) → first_fault hubs (Items v) ≡ unless (nat_le (length v.items) 1024) Length
+first_fault_Items hubs v = rw (fault_out, outs-Items) (or_else-nothing _)
+
+pub first_fault_Range : (T : Type 0) (hubs : ℕ) (a : ℤ) (n : ℕ) → first_fault {T = T} hubs (Range a n) ≡ unless (range_fits a n) Number
+first_fault_Range T hubs a n = rw (fault_out, outs-Range) (or_else-nothing _)
+
+pub first_fault_Plain : {T : Type 0} (hubs : ℕ) (g : Stage) (b : Below T) → first_fault hubs (Plain g b) ≡ first_fault hubs b.value
+first_fault_Plain hubs g b = rw (fault_out, outs-Plain) (or_else-nothing _)
+
+pub value_Items : {T : Type 0} (w : Environment T) (v : Listed T) (at leaf : ℕ) → (meant w (Items v)).value at leaf ≡ quiet (slice_get w.notes at) (Some (listed v.items))
+value_Items w v at leaf = rw (value_out, outs-Items) refl
+
+pub value_Range : {T : Type 0} (w : Environment T) (a : ℤ) (n : ℕ) (at leaf : ℕ) → (meant w (Range a n)).value at leaf ≡ quiet (slice_get w.notes at) (Some (listed (range_items w.meaning a n)))
+value_Range w a n at leaf = rw (value_out, outs-Range) refl
+
+pub value_Plain : {T : Type 0} (w : Environment T) (g : Stage) (b : Below T) (at leaf : ℕ) → (meant w (Plain g b)).value at leaf ≡ quiet (slice_get w.notes at) (option_map (plain w.meaning g) ((meant w b.value).value (at + 1) leaf))
+value_Plain w g b at leaf = rw (value_out, outs-Plain) refl
+
+node_case : {T : Type 0} (P : Expr T → Type 0) → ((v : Listed T) → P (Items v)) → ((a : ℤ) (n : ℕ) → P (Range a n)) → ((g : Stage) (b : Below T) → P b.value → P (Plain g b)) → (x : Expr-F T (Expr T)) → Each P (children x) → P (roll-Expr T x)
+node_case P items range below (layer.Items v) kids = subst P (sym (rolls-Items v)) (items v)
+node_case P items range below (layer.Range a n) kids = subst P (sym (rolls-Range a n)) (range a n)
+node_case P items range below (layer.Plain g b) kids = subst P (sym (rolls-Plain g b)) (below g b kids.0)
+
+-- what holds of items, of ranges, and of an operator where it holds below, holds of every expression
+pub by_variant : {T : Type 0} (P : Expr T → Type 0) → ((v : Listed T) → P (Items v)) → ((a : ℤ) (n : ℕ) → P (Range a n)) → ((g : Stage) (b : Below T) → P b.value → P (Plain g b)) → (e : Expr T) → P e
+by_variant {T} P items range below = by_children P (λ e kids. subst P (roll-out-Expr T e) (node_case P items range below (out-Expr T e) kids))
+
+-- ---- the size of what an expression means
+
+sum_le : {A : Type 0} (f g : A → ℕ) (xs : List A) → Each (λ x. f x ≤ g x) xs → sum_of (map f xs) ≤ sum_of (map g xs)
+sum_le f g [] h = omega arith
+sum_le f g (x ∷ xs) h = omega (arith, h.0, sum_le f g xs h.1)
+
+same_sum : {A : Type 0} (f g : A → ℕ) (xs : List A) → Each (λ x. f x ≡ g x) xs → sum_of (map f xs) ≡ sum_of (map g xs)
+same_sum f g [] h = refl
+same_sum f g (x ∷ xs) h = omega (arith, h.0, same_sum f g xs h.1)
+
+map_twice : {A B C : Type 0} (f : B → C) (g : A → B) (xs : List A) → map f (map g xs) ≡ map (λ x. f (g x)) xs
+map_twice f g [] = refl
+map_twice f g (x ∷ xs) = ap (λ ys. f (g x) ∷ ys) (map_twice f g xs)
+
+leaf_here-le : {T A : Type 0} (x : Expr-F T A) → leaf_here x ≤ 1
+leaf_here-le (layer.Items v) = omega arith
+leaf_here-le (layer.Range a n) = omega arith
+leaf_here-le (layer.Plain g b) = omega arith
+
+pub leaves_le_nodes : {T : Type 0} (e : Expr T) → leaves e ≤ nodes e
+leaves_le_nodes {T} = by_children (λ e. leaves e ≤ nodes e) (λ e kids.
+    omega (arith, nodes_out e, leaves_out e, leaf_here-le (out-Expr T e), sum_le leaves nodes (children (out-Expr T e)) kids))
+
+pub meant_nodes : {T : Type 0} (w : Environment T) (e : Expr T) → (meant w e).nodes ≡ nodes e
+meant_nodes {T} w = by_children (λ e. (meant w e).nodes ≡ nodes e) (λ e kids.
+    let cs = children (out-Expr T e) in
+    ap (λ (m : Meant T). m.nodes) (meant_out w e)
+    ∙ ap (λ ms. 1 + sum_of (map (λ (m : Meant T). m.nodes) ms)) (children-map (meant w) (out-Expr T e))
+    ∙ ap (λ ns. 1 + sum_of ns) (map_twice (λ (m : Meant T). m.nodes) (meant w) cs)
+    ∙ ap (λ n. 1 + n) (same_sum (λ c. (meant w c).nodes) nodes cs kids)
+    ∙ sym (nodes_out e))
+
+pub meant_leaves : {T : Type 0} (w : Environment T) (e : Expr T) → (meant w e).leaves ≡ leaves e
+meant_leaves {T} w = by_children (λ e. (meant w e).leaves ≡ leaves e) (λ e kids.
+    let cs = children (out-Expr T e) in
+    ap (λ (m : Meant T). m.leaves) (meant_out w e)
+    ∙ ap (λ n. n + sum_of (map (λ (m : Meant T). m.leaves) (children (map-Expr T (Expr T) (Meant T) (meant w) (out-Expr T e))))) (leaf_here-map (meant w) (out-Expr T e))
+    ∙ ap (λ ms. leaf_here (out-Expr T e) + sum_of (map (λ (m : Meant T). m.leaves) ms)) (children-map (meant w) (out-Expr T e))
+    ∙ ap (λ ns. leaf_here (out-Expr T e) + sum_of ns) (map_twice (λ (m : Meant T). m.leaves) (meant w) cs)
+    ∙ ap (λ n. leaf_here (out-Expr T e) + n) (same_sum (λ c. (meant w c).leaves) leaves cs kids)
+    ∙ sym (leaves_out e))
+
+-- ---- an expression that is not refused
+
+or_none : (o rest : Option BadExpr) → or_else o rest ≡ None → (o ≡ None) × (rest ≡ None)
+or_none None rest h = (refl, h)
+or_none (Some k) rest h = cc
+
+few_nodes : (n : ℕ) → unless (nat_le n 256) Nodes ≡ None → n ≤ 256
+few_nodes n e = grind arith
+
+few_levels : (n : ℕ) → unless (nat_le n 32) Depth ≡ None → n ≤ 32
+few_levels n e = grind arith
+
+pub record IsSound {T : Type 0} (hubs : ℕ) (e : Expr T) : Type 0 where
+  pub deep : depth e ≤ 32
+  pub small : nodes e ≤ 256
+  pub few_leaves : leaves e ≤ 256
+  pub fault : first_fault hubs e ≡ None
+
+pub sound : {T : Type 0} (hubs : ℕ) (e : Expr T) → refusal hubs e ≡ None → IsSound hubs e
+sound hubs e h =
+    let level = or_none _ _ h in
+    let both = or_none _ _ level.1 in
+    let small = few_nodes (nodes e) both.0 in
+    record {
+      deep = few_levels (depth e) level.0;
+      small = small;
+      few_leaves = omega (arith, small, leaves_le_nodes e);
+      fault = both.1;
+    }

@@ -1,0 +1,25 @@
+use Rattle.std.proofs.Common.{◌≡◌, length, sym, arith}
+use Rattle.rsx_model.specs.Shape.{nodes, leaves}
+use Rattle.rsx_model.proofs.Unfold.{sound}
+use Rattle.rsx_model.proofs.evaluate.scratch.Goals as goal
+
+pub returns-then-leaves_of-joins : goal.returns-then-leaves_of-joins
+returns-then-leaves_of-joins g c =
+    let s = sound (length c.args.hubs.now) c.args.expr.now (sym c.in-None.ensures) in
+    (sym c.in-None.ensures, λ complete. absurd (omega (arith, s.few_leaves, c.leaves_of.ensures, complete.1)))
+
+pub returns-in-Ok : goal.returns-in-Ok
+returns-in-Ok g c =
+    let e = c.args.expr.now in
+    let s = sound (length c.args.hubs.now) e (sym c.in-None.ensures) in
+    let noted : length c.args.notes.now ≡ nodes e = omega (arith, s.small, c.nodes_of.ensures) in
+    let joined : length c.args.joins.now ≡ leaves e = omega (arith, s.few_leaves, c.leaves_of.ensures) in
+    (sym c.in-None.ensures, (noted, joined), c.in-Ok.ensures)
+
+pub returns-in-Err-OutOfMemory : goal.returns-in-Err-OutOfMemory
+returns-in-Err-OutOfMemory g c =
+    let e = c.args.expr.now in
+    let s = sound (length c.args.hubs.now) e (sym c.in-None.ensures) in
+    let noted : length c.args.notes.now ≡ nodes e = omega (arith, s.small, c.nodes_of.ensures) in
+    let joined : length c.args.joins.now ≡ leaves e = omega (arith, s.few_leaves, c.leaves_of.ensures) in
+    (sym c.in-None.ensures, (noted, joined), rw c.in-Err-OutOfMemory.field-0-is at c.in-Err-OutOfMemory.ensures)

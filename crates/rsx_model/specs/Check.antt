@@ -1,0 +1,49 @@
+-- Which expressions are refused, and why.
+use Rattle.std.specs.Prelude.{ℕ, ℤ, pos, ◌+ℤ◌, Bool, true, false, ◌&&◌, ◌||◌, int_le, nat_eq, nat_le, List, [], ◌∷◌, length, Option, Some, None}
+use Rattle.rsx_model.specs.declared.expr.Expr.{Expr}
+use Rattle.rsx_model.specs.declared.expr.Expr.TheOpen.{Expr-F, Items, Range, Plain}
+use Rattle.rsx_model.specs.declared.expr.Expr.TheFolds.{fold-Expr}
+use Rattle.rsx_model.specs.declared.check.BadExpr.{BadExpr}
+use Rattle.rsx_model.specs.declared.check.BadExpr.TheVariants.{Depth, Nodes, Number, Length}
+use Rattle.rsx_model.specs.Shape.{children, nodes, depth}
+
+-- the number of a kind of refusal
+abbrev pub kind_number : BadExpr → ℕ
+kind_number Depth = 1
+kind_number Nodes = 2
+kind_number Number = 4
+kind_number Length = 7
+
+-- the first refusal of two
+abbrev pub or_else : Option BadExpr → Option BadExpr → Option BadExpr
+or_else (Some k) other = Some k
+or_else None other = other
+
+-- the first refusal of a list
+abbrev pub first_of : List (Option BadExpr) → Option BadExpr
+first_of [] = None
+first_of (o ∷ os) = or_else o (first_of os)
+
+-- refused by k, unless ok
+abbrev pub unless : Bool → BadExpr → Option BadExpr
+unless true k = None
+unless false k = Some k
+
+-- at most 1,000,000 numbers, and the last is at most 2^63-1
+abbrev pub range_fits : ℤ → ℕ → Bool
+range_fits a n = nat_le n 1000000 && (nat_eq n 0 || int_le (a +ℤ pos n) (pos 9223372036854775808))
+
+-- what is wrong with one node where there are so many hubs, leaving out its children
+abbrev pub own_fault : {T A : Type 0} → ℕ → Expr-F T A → Option BadExpr
+own_fault hubs (Items v) = unless (nat_le (length v.items) 1024) Length
+own_fault hubs (Range a n) = unless (range_fits a n) Number
+own_fault hubs (Plain g b) = None
+
+-- what is wrong with the first faulty node in pre-order
+abbrev pub first_fault : {T : Type 0} → ℕ → Expr T → Option BadExpr
+first_fault {T} hubs = fold-Expr T (Option BadExpr) (λ e. or_else (own_fault hubs e) (first_of (children e)))
+
+-- why an expression is refused where there are so many hubs, if it is
+abbrev pub refusal : {T : Type 0} → ℕ → Expr T → Option BadExpr
+refusal hubs e =
+    or_else (unless (nat_le (depth e) 32) Depth) (or_else (unless (nat_le (nodes e) 256) Nodes) (first_fault hubs e))

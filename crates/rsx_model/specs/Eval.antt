@@ -1,0 +1,64 @@
+-- The value of an expression, from scratch.
+use Rattle.std.specs.Prelude.{ℕ, ◌+◌, List, [], ◌∷◌, map, Option, Some, None, option_map, option_and_then, slice_get}
+pub use Rattle.rsx_types.specs.Stream.{Stream}
+pub use Rattle.rsx_types.specs.Meaning.{Meaning}
+pub use Rattle.rsx_types.specs.Plain.{plain, listed, range_items}
+use Rattle.rsx_types.specs.declared.note.Note.{Note}
+use Rattle.rsx_types.specs.declared.note.Note.TheVariants.{Nothing, Picks, Ended}
+use Rattle.rsx_model.specs.declared.expr.Expr.{Expr}
+use Rattle.rsx_model.specs.declared.expr.Expr.TheOpen.{Expr-F, Items, Range, Plain}
+use Rattle.rsx_model.specs.declared.expr.Expr.TheFolds.{fold-Expr}
+use Rattle.rsx_model.specs.Shape.{children, sum_of, leaf_here}
+
+-- all that the value of an expression depends on: the functions, the hubs' values, and what was recorded
+pub record Environment (T : Type 0) : Type 0 where
+  pub meaning : Meaning T
+  pub hubs : List (Stream T)
+  pub joins : List ℕ
+  pub notes : List Note
+
+-- an environment of these
+abbrev pub environment : {T : Type 0} → Meaning T → List (Stream T) → List ℕ → List Note → Environment T
+environment m hubs joins notes = record { meaning = m; hubs = hubs; joins = joins; notes = notes }
+
+-- a subtree: its size, and its value where its root has the number `at` and its first hub leaf the number `leaf`
+pub record Meant (T : Type 0) : Type 0 where
+  pub nodes : ℕ
+  pub leaves : ℕ
+  pub value : ℕ → ℕ → Option (Stream T)
+
+-- the values of subtrees that stand side by side
+abbrev pub in_order : {T : Type 0} → List (Meant T) → ℕ → ℕ → Option (List (Stream T))
+in_order [] at leaf = Some []
+in_order (m ∷ ms) at leaf =
+    option_and_then (λ s. option_map (λ ss. s ∷ ss) (in_order ms (at + m.nodes) (leaf + m.leaves))) (m.value at leaf)
+
+-- the value of a node that records nothing: none where something was recorded
+abbrev pub quiet : {A : Type 0} → Option Note → Option A → Option A
+quiet None o = None
+quiet (Some Nothing) o = o
+quiet (Some (Picks cs)) o = None
+quiet (Some (Ended i)) o = None
+
+-- the value of one node where it stands, from what its children mean
+abbrev pub node_value : {T : Type 0} → Environment T → Expr-F T (Meant T) → ℕ → ℕ → Option (Stream T)
+node_value w (Items v) at leaf = quiet (slice_get w.notes at) (Some (listed v.items))
+node_value w (Range a n) at leaf = quiet (slice_get w.notes at) (Some (listed (range_items w.meaning a n)))
+node_value w (Plain g b) at leaf =
+    quiet (slice_get w.notes at) (option_map (plain w.meaning g) (b.value.value (at + 1) leaf))
+
+-- what one node means, from what its children mean
+abbrev pub node_meant : {T : Type 0} → Environment T → Expr-F T (Meant T) → Meant T
+node_meant w e = record {
+  nodes = 1 + sum_of (map (λ m. m.nodes) (children e));
+  leaves = leaf_here e + sum_of (map (λ m. m.leaves) (children e));
+  value = node_value w e;
+}
+
+-- what an expression means
+abbrev pub meant : {T : Type 0} → Environment T → Expr T → Meant T
+meant {T} w = fold-Expr T (Meant T) (node_meant w)
+
+-- the value of a whole expression; none where the notes or the joins don't fit
+abbrev pub eval : {T : Type 0} → Environment T → Expr T → Option (Stream T)
+eval w e = (meant w e).value 0 0

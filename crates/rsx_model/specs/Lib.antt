@@ -1,0 +1,6 @@
+-- Definitions that contracts cite.
+pub mod Shape
+pub mod Check
+pub mod Eval
+pub mod Numbers
+pub mod Answer

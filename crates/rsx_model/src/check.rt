@@ -1,0 +1,136 @@
+//! Which expressions are refused, and why.
+
+ghost use Rattle.std.specs.Prelude.{◌≡◌, min, nat_le, MatchResult, Some, None};
+ghost use Rattle.rsx_model.specs.Shape.{nodes, leaves, depth};
+ghost use Rattle.rsx_model.specs.Check.{refusal, first_fault, own_fault, unless, range_fits, kind_number};
+ghost use Rattle.rsx_model.specs.declared.expr.Expr.TheViews.{out-Expr};
+
+use crate::expr::Expr;
+use thiserror::Error;
+
+/// Why an expression is refused. The first two speak of the whole expression, in this order; the others of the first
+/// faulty node in pre-order.
+#[derive(Clone, Copy, Debug, PartialEq, Eq, Error)]
+pub enum BadExpr {
+    /// It is deeper than 32 nodes.
+    #[error("the expression is deeper than 32 nodes")]
+    Depth,
+    /// It has more than 256 nodes.
+    #[error("the expression has more than 256 nodes")]
+    Nodes,
+    /// A number is out of its limit: a range of more than 1,000,000 numbers, or whose last one is above 2^63-1.
+    #[error("a number is out of its limit")]
+    Number,
+    /// A list has more than 1,024 items.
+    #[error("a list has more than 1024 items")]
+    Length,
+}
+
+impl BadExpr {
+    /// The number of this kind: 1 for the depth, 2 for the nodes, 4 for a number, 7 for a list's length.
+    pub fn number(self) -> u8
+        ensures { result ≡ kind_number self }
+    {
+        match self {
+            BadExpr::Depth => 1,
+            BadExpr::Nodes => 2,
+            BadExpr::Number => 4,
+            BadExpr::Length => 7,
+        }
+    }
+}
+
+/// Whether an expression keeps the limits, in a graph of so many hubs: at most 32 nodes deep, at most 256 nodes, and no
+/// node with a fault of its own. It takes no memory. The error is the kind of the first limit that is broken.
+pub fn check_expr<T>(expr: &Expr<T>, hubs: u32) -> Result<(), BadExpr>
+    ensures { MatchResult result (λ _. refusal hubs expr.now ≡ None) (λ k. refusal hubs expr.now ≡ Some k) }
+{
+    match refusal_of(expr, u64::from(hubs)) {
+        Some(kind) => Err(kind),
+        None => Ok(()),
+    }
+}
+
+/// Why an expression is refused, if it is.
+pub(crate) fn refusal_of<T>(expr: &Expr<T>, hubs: u64) -> Option<BadExpr>
+    ensures { result ≡ refusal hubs expr.now }
+{
+    if !is_within_depth(expr, 32) {
+        return Some(BadExpr::Depth);
+    }
+    if nodes_of(expr) > 256 {
+        return Some(BadExpr::Nodes);
+    }
+    first_fault_of(expr, hubs)
+}
+
+/// Whether the depth is at most this. It goes no deeper than that.
+fn is_within_depth<T>(expr: &Expr<T>, most: u64) -> bool
+    ensures { result ≡ nat_le (depth expr.now) most }
+{
+    if most == 0 {
+        return false;
+    }
+    match expr {
+        Expr::Items(_) | Expr::Range(_, _) => true,
+        Expr::Plain(_, below) => is_within_depth(below, most - 1),
+    }
+}
+
+/// How many nodes there are, or 257 if there are more.
+pub fn nodes_of<T>(expr: &Expr<T>) -> u64
+    ensures { result ≡ min (nodes expr.now) 257 }
+{
+    match expr {
+        Expr::Items(_) | Expr::Range(_, _) => 1,
+        Expr::Plain(_, below) => (1 + nodes_of(below)).min(257),
+    }
+}
+
+/// How many leaves are hubs, or 257 if there are more.
+pub fn leaves_of<T>(expr: &Expr<T>) -> u64
+    ensures { result ≡ min (leaves expr.now) 257 }
+{
+    match expr {
+        Expr::Items(_) | Expr::Range(_, _) => 0,
+        Expr::Plain(_, below) => leaves_of(below),
+    }
+}
+
+/// The fault of the first faulty node in pre-order.
+fn first_fault_of<T>(expr: &Expr<T>, hubs: u64) -> Option<BadExpr>
+    ensures { result ≡ first_fault hubs expr.now }
+{
+    let own = own_fault_of(expr, hubs);
+    if own.is_some() {
+        return own;
+    }
+    match expr {
+        Expr::Items(_) | Expr::Range(_, _) => None,
+        Expr::Plain(_, below) => first_fault_of(below, hubs),
+    }
+}
+
+/// What is wrong with one node, leaving out its children.
+fn own_fault_of<T>(expr: &Expr<T>, hubs: u64) -> Option<BadExpr>
+    ensures { result ≡ own_fault hubs (out-Expr T expr.now) }
+{
+    match expr {
+        Expr::Items(items) => unless_ok(items.len() <= 1024, BadExpr::Length),
+        Expr::Range(first, count) => unless_ok(is_range(*first, *count), BadExpr::Number),
+        Expr::Plain(_, _) => None,
+    }
+}
+
+fn unless_ok(ok: bool, refusal: BadExpr) -> Option<BadExpr>
+    ensures { result ≡ unless ok refusal }
+{
+    if ok { None } else { Some(refusal) }
+}
+
+fn is_range(first: i64, count: u64) -> bool
+    ensures { result ≡ range_fits first count }
+{
+    count <= 1_000_000
+        && (count == 0 || i128::from(first) + i128::from(count) <= 9_223_372_036_854_775_808)
+}

@@ -1,0 +1,170 @@
+//! The slow evaluator.
+
+ghost use Rattle.std.specs.Prelude.{◌≡◌, ◌⊎◌, ◌≤◌, ◌+◌, ◌+ℤ◌, ◌≤ℤ◌, pos, length, Option, Some, None, option_map, codes};
+ghost use Rattle.rsx_types.specs.Stream.{Stream};
+ghost use Rattle.rsx_types.specs.Plain.{plain, listed, range_items};
+ghost use Rattle.rsx_model.specs.declared.evaluate.Trouble.TheVariants.{OutOfMemory};
+ghost use Rattle.rsx_model.specs.Shape.{nodes, leaves};
+ghost use Rattle.rsx_model.specs.Check.{first_fault};
+ghost use Rattle.rsx_model.specs.Eval.{environment, meant, quiet};
+ghost use Rattle.rsx_model.specs.Answer.{Gives, IsScratch, name_codes};
+
+use crate::check::{BadExpr, leaves_of, nodes_of, refusal_of};
+use crate::expr::Expr;
+use crate::plain::{apply, copies_of, range_list};
+use rsx_types::{Ending, NoMemory, Note, Ops, Stage, StreamValue};
+use std::alloc::Global;
+use thiserror::Error;
+
+/// Why an expression has no value.
+#[derive(Clone, Copy, Debug, PartialEq, Eq, Error)]
+pub enum ScratchRefusal {
+    /// M1: `check_expr` refuses the expression, with this kind.
+    #[error("bad expression: {0}")]
+    BadExpr(BadExpr),
+    /// M2: the notes or the joins don't fit the expression: a wrong number of them, or a note of the wrong kind.
+    #[error("the notes or the joins do not fit the expression")]
+    BadNotes,
+    /// M3: a growth was refused.
+    #[error("out of memory")]
+    NoMemory,
+}
+
+impl ScratchRefusal {
+    /// The name of this refusal: M1, M2 or M3.
+    pub fn name(self) -> &'static str
+        ensures { result.now ≡ name_codes self }
+    {
+        match self {
+            ScratchRefusal::BadExpr(_) => "M1",
+            ScratchRefusal::BadNotes => "M2",
+            ScratchRefusal::NoMemory => "M3",
+        }
+    }
+}
+
+/// Why a subtree has no value.
+#[derive(Clone, Copy, Debug, PartialEq, Eq)]
+pub(crate) enum Trouble {
+    BadNotes,
+    OutOfMemory,
+}
+
+impl From<NoMemory> for Trouble {
+    ghost from_gives = { λ _ e. e ≡ OutOfMemory };
+
+    fn from(_e: NoMemory) -> Trouble {
+        Trouble::OutOfMemory
+    }
+}
+
+/// The value of an expression from scratch: over the hubs' values, in the order of their ids, with the joins of its hub
+/// leaves, from left to right, and the notes of its nodes, in pre-order.
+///
+/// A bad expression is found first, then notes or joins that don't fit, and want of memory last. No expression names a
+/// hub yet: any hubs do, and the list of joins is empty.
+pub fn scratch<O: Ops>(
+    alloc: Global,
+    ops: &O,
+    expr: &Expr<O::Item>,
+    hubs: &[StreamValue<O::Item>],
+    joins: &[u64],
+    notes: &[Note],
+) -> Result<StreamValue<O::Item>, ScratchRefusal>
+    ensures { IsScratch (environment (O.meaning ops.now) hubs.now joins.now notes.now) expr.now result }
+{
+    match refusal_of(expr, hubs.len() as u64) {
+        Some(kind) => return Err(ScratchRefusal::BadExpr(kind)),
+        None => {}
+    }
+    if nodes_of(expr) != notes.len() as u64 {
+        return Err(ScratchRefusal::BadNotes);
+    }
+    if leaves_of(expr) != joins.len() as u64 {
+        return Err(ScratchRefusal::BadNotes);
+    }
+    match value_of(alloc, ops, expr, hubs, joins, notes, 0, 0) {
+        Ok(value) => Ok(value),
+        Err(Trouble::BadNotes) => Err(ScratchRefusal::BadNotes),
+        Err(Trouble::OutOfMemory) => Err(ScratchRefusal::NoMemory),
+    }
+}
+
+/// The value of the subtree whose root has the number `at` and whose first hub leaf the number `leaf`.
+fn value_of<O: Ops>(
+    alloc: Global,
+    ops: &O,
+    expr: &Expr<O::Item>,
+    hubs: &[StreamValue<O::Item>],
+    joins: &[u64],
+    notes: &[Note],
+    at: usize,
+    leaf: usize,
+) -> Result<StreamValue<O::Item>, Trouble>
+    requires sound { first_fault (length hubs.now) expr.now ≡ None }
+    requires small { nodes expr.now ≤ 256 }
+    requires noted { at + nodes expr.now ≤ length notes.now }
+    requires joined { leaf + leaves expr.now ≤ length joins.now }
+    ensures { Gives result ((meant (environment (O.meaning ops.now) hubs.now joins.now notes.now) expr.now).value at leaf) }
+{
+    let note = &notes[at];
+    match expr {
+        Expr::Items(items) => if_quiet(note, items_of(alloc, ops, items)),
+        Expr::Range(first, count) => if_quiet(note, range_of(alloc, ops, *first, *count)),
+        Expr::Plain(stage, below) => {
+            let input = value_of(alloc, ops, below, hubs, joins, notes, at + 1, leaf);
+            if_quiet(note, plain_of(alloc, ops, *stage, input))
+        }
+    }
+}
+
+/// The answer of a node that records nothing; any record is out of place.
+fn if_quiet<T: Drop>(
+    note: &Note,
+    answer: Result<StreamValue<T>, Trouble>,
+) -> Result<StreamValue<T>, Trouble>
+    ensures { (o : Option (Stream T)) → Gives answer o → Gives result (quiet (Some note.now) o) }
+{
+    match note {
+        Note::Nothing => answer,
+        Note::Picks(_) => Err(Trouble::BadNotes),
+        Note::Ended(_) => Err(Trouble::BadNotes),
+    }
+}
+
+fn items_of<O: Ops>(
+    alloc: Global,
+    ops: &O,
+    items: &[O::Item],
+) -> Result<StreamValue<O::Item>, Trouble>
+    ensures { Gives result (Some (listed items.now)) }
+{
+    Ok(StreamValue::new(copies_of(alloc, ops, items)?, Ending::Done))
+}
+
+fn range_of<O: Ops>(
+    alloc: Global,
+    ops: &O,
+    first: i64,
+    count: u64,
+) -> Result<StreamValue<O::Item>, Trouble>
+    requires few { count ≤ 1000000 }
+    requires fits { (count ≡ 0) ⊎ ((first +ℤ pos count) ≤ℤ pos 9223372036854775808) }
+    ensures { Gives result (Some (listed (range_items (O.meaning ops.now) first count))) }
+{
+    Ok(StreamValue::new(range_list(alloc, ops, first, count)?, Ending::Done))
+}
+
+fn plain_of<O: Ops>(
+    alloc: Global,
+    ops: &O,
+    stage: Stage,
+    input: Result<StreamValue<O::Item>, Trouble>,
+) -> Result<StreamValue<O::Item>, Trouble>
+    ensures { (o : Option (Stream O.Item)) → Gives input o → Gives result (option_map (plain (O.meaning ops.now) stage) o) }
+{
+    match input {
+        Ok(value) => Ok(apply(alloc, ops, stage, value)?),
+        Err(trouble) => Err(trouble),
+    }
+}
