@@ -1,0 +1,6 @@
+-- Definitions that contracts cite.
+pub mod Items
+pub mod Machine
+pub mod Range
+pub mod Slot
+pub mod Steps

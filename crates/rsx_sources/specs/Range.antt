@@ -1,0 +1,33 @@
+-- What still comes out of a range.
+use Rattle.std.specs.Prelude.{◌≡◌, ℕ, ℤ, pos, ◌+◌, ◌-◌, ◌+ℤ◌, List, map, Option, Some}
+use Rattle.std.specs.List.{range_with_len}
+use Rattle.rsx_types.specs.declared.note.Note.{Note}
+use Rattle.rsx_types.specs.declared.signal.Signal.{Signal}
+use Rattle.rsx_types.specs.declared.signal.Signal.TheVariants.{Next, Complete, Error}
+use Rattle.rsx_types.specs.Meaning.{Meaning}
+use Rattle.rsx_types.specs.Plain.{listed}
+use Rattle.rsx_types.specs.Stream.{Stream}
+use Rattle.rsx_sources.specs.Machine.{Incoming, quiet, first_of}
+use Rattle.rsx_sources.specs.declared.range.RangeNode.{RangeNode}
+
+-- the items of the numbers first + at, first + at + 1, .. up to first + count, which is left out
+abbrev pub range_from : {T : Type 0} → Meaning T → ℤ → ℕ → ℕ → List T
+range_from m first at count = map (λ k. m.number (first +ℤ pos k)) (range_with_len at (count - at))
+
+-- the items of the numbers that are left
+abbrev pub range_left : {T : Type 0} → Meaning T → RangeNode T → List T
+range_left m n = range_from m n.first n.at n.count
+
+-- they still come out, and then the completion
+abbrev pub range_comes_out : {T : Type 0} → Meaning T → RangeNode T → Incoming T → Note → Option (Stream T)
+range_comes_out m n inc further = quiet further (listed (range_left m n))
+
+-- the item of the next number waits, or else the completion
+abbrev pub range_waiting : {T : Type 0} → Meaning T → RangeNode T → Option (Signal T)
+range_waiting m n = Some (first_of (range_left m n))
+
+-- an item leaves the range; the completion leaves all as it is
+abbrev pub range_popped : {T : Type 0} → RangeNode T → Signal T → RangeNode T → Type 0
+range_popped old (Next x) new = (new.first ≡ old.first) × (new.count ≡ old.count) × (new.at ≡ old.at + 1)
+range_popped old Complete new = new ≡ old
+range_popped old (Error c) new = ⊥

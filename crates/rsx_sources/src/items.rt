@@ -1,0 +1,193 @@
+//! The source of a list of items.
+
+ghost use Rattle.std.specs.Prelude.{◌≡◌, IfOk, length};
+
+use crate::machine::{Front, Machine, NotMade, NotTaken};
+use rsx_types::{Ending, NoMemory, Note, Ops, Signal, StreamValue};
+use std::alloc::Global;
+use std::marker::Model;
+
+/// A source that puts out its items in order, and then the completion. Contracts see the items that are left, and how
+/// many items it has memory for.
+///
+/// It takes memory only when it is made: from then on each item is moved out, and moved back in by
+/// [`put_back`](Machine::put_back).
+#[derive(Drop)]
+pub struct ItemsNode<T> {
+    // The items that are left, the last one first.
+    reversed: Vec<T>,
+}
+
+impl<T> Model for ItemsNode<T> {
+    ghost use Rattle.std.specs.Prelude.{List, reverse, vec_capacity};
+    ghost use Rattle.rsx_sources.specs.Items.{ItemsLeft};
+
+    ghost Value = { ItemsLeft T };
+
+    ghost view = { λ n. record { left = reverse n.reversed.items; room = vec_capacity n.reversed } };
+}
+
+impl<T: Drop> ItemsNode<T> {
+    ghost use Rattle.std.specs.Prelude.{◌≡◌, IfOk, length};
+    ghost use Rattle.rsx_types.specs.Meaning.{Meaning};
+    ghost use Rattle.rsx_types.specs.Plain.{listed};
+    ghost use Rattle.rsx_types.specs.declared.note.Note.{Note};
+    ghost use Rattle.rsx_sources.specs.Machine.{Incoming, quiet};
+    ghost use Rattle.rsx_sources.specs.Items.{items_comes_out};
+
+    /// The source of a copy of the items.
+    pub fn new<O: Ops<Item = T>>(
+        alloc: Global,
+        ops: &O,
+        items: &[T],
+    ) -> Result<ItemsNode<T>, NoMemory>
+        ensures made { IfOk result (λ n. n ≡ record { left = items.now; room = length items.now }) }
+        ensures fresh { IfOk result (λ n. (m : Meaning T) (inc : Incoming T) (further : Note) → items_comes_out m n inc further ≡ quiet further (listed items.now)) }
+    {
+        let mut reversed = Vec::with_capacity(alloc, items.len())?;
+        for at in (0..items.len()).rev() {
+            let copy = ops.copy(alloc, &items[at])?;
+            reversed.push_reserved(copy);
+        }
+        Ok(ItemsNode { reversed })
+    }
+}
+
+impl<T: Drop> Machine for ItemsNode<T> {
+    type Item = T;
+
+    ghost use Rattle.std.specs.Prelude.{◌≡◌, true, false, IfOk, IfErr, OnOk, OnErr};
+    ghost use Rattle.rsx_types.specs.Notes.{note_then};
+    ghost use Rattle.rsx_types.specs.declared.note.Note.{Note};
+    ghost use Rattle.rsx_types.specs.declared.note.Note.TheVariants.{Nothing};
+    ghost use Rattle.rsx_sources.specs.Machine.{TakesIn, Keeps, Records, incoming_of};
+    ghost use Rattle.rsx_sources.specs.Steps.{IsPopped, IsNotTaken, IsNotMade};
+    ghost use Rattle.rsx_sources.specs.Items.{ItemsLeft, items_comes_out, items_waiting, items_popped};
+
+    ghost comes_out = { items_comes_out };
+
+    ghost waiting = { items_waiting };
+
+    ghost takes = { λ n i. false };
+
+    ghost picks = { λ n i a s. false };
+
+    ghost rows = { λ n a s. false };
+
+    ghost recording = { λ n i. Nothing };
+
+    ghost recorded = { λ n. Nothing };
+
+    ghost wanted = { λ n i a s. 0 };
+
+    ghost popped = { items_popped };
+
+    fn front(&self) -> Option<Front> {
+        if self.reversed.is_empty() {
+            Some(Front::Completion)
+        } else {
+            Some(Front::Item)
+        }
+    }
+
+    fn pop_front<O: Ops<Item = T>>(
+        &mut self,
+        alloc: Global,
+        ops: &O,
+    ) -> Result<Option<Signal<T>>, NoMemory>
+        ensures ok { IfOk result (λ s. IsPopped (items_comes_out (O.meaning ops.now)) items_popped (items_waiting (O.meaning ops.now) self.old) self.old s self.new) }
+        ensures err { OnErr result (self.new ≡ self.old) }
+    {
+        match self.reversed.pop() {
+            Some(item) => Ok(Some(Signal::Next(item))),
+            None => Ok(Some(Signal::Complete)),
+        }
+    }
+
+    fn put_back(&mut self, signal: Signal<T>)
+        ensures { (before : ItemsLeft T) → items_popped before signal self.old → self.new ≡ before }
+    {
+        if let Signal::Next(item) = signal {
+            if self.reversed.len() < self.reversed.capacity() {
+                self.reversed.push_reserved(item);
+            }
+        }
+    }
+
+    fn can_take(&self, input: u32) -> bool {
+        false
+    }
+
+    fn on_signal<O: Ops<Item = T>>(
+        &mut self,
+        alloc: Global,
+        ops: &O,
+        input: u32,
+        signal: Signal<T>,
+    ) -> Result<(), NotTaken<T>>
+        ensures ok { OnOk result (TakesIn (items_comes_out (O.meaning ops.now)) self.old input signal self.new) }
+        ensures enabled { OnOk result (false ≡ true) }
+        ensures err { IfErr result (IsNotTaken false signal) }
+        ensures same { OnErr result (self.new ≡ self.old) }
+    {
+        Err(NotTaken::Busy(signal))
+    }
+
+    fn on_ask(&mut self, asked: u64) {}
+
+    fn on_pick<O: Ops<Item = T>>(
+        &mut self,
+        alloc: Global,
+        ops: &O,
+        input: u64,
+        asked: u64,
+        sent: u64,
+    ) -> Result<(), NotMade>
+        ensures ok { OnOk result (Records (items_comes_out (O.meaning ops.now)) self.old Nothing self.new) }
+        ensures enabled { OnOk result (false ≡ true) }
+        ensures err { IfErr result (IsNotMade false) }
+        ensures same { OnErr result (self.new ≡ self.old) }
+    {
+        Err(NotMade::NotEnabled)
+    }
+
+    fn on_row<O: Ops<Item = T>>(
+        &mut self,
+        alloc: Global,
+        ops: &O,
+        asked: u64,
+        sent: u64,
+    ) -> Result<(), NotMade>
+        ensures ok { OnOk result (Keeps (items_comes_out (O.meaning ops.now)) self.old self.new) }
+        ensures enabled { OnOk result (false ≡ true) }
+        ensures err { IfErr result (IsNotMade false) }
+        ensures same { OnErr result (self.new ≡ self.old) }
+    {
+        Err(NotMade::NotEnabled)
+    }
+
+    fn want(&self, input: u32, asked: u64, sent: u64) -> u64 {
+        0
+    }
+
+    fn note(&self, alloc: Global) -> Result<Note, NoMemory> {
+        Ok(Note::Nothing)
+    }
+
+    fn residual<O: Ops<Item = T>>(
+        &self,
+        alloc: Global,
+        ops: &O,
+        incoming: &[StreamValue<T>],
+    ) -> Result<StreamValue<T>, NoMemory>
+        ensures { IfOk result (λ v. (further : Note) → note_then Nothing further ≡ Nothing → items_comes_out (O.meaning ops.now) self.now (incoming_of incoming.now) further ≡ Some v) }
+    {
+        let reversed = self.reversed.as_slice();
+        let mut left = Vec::with_capacity(alloc, reversed.len())?;
+        for at in (0..reversed.len()).rev() {
+            let copy = ops.copy(alloc, &reversed[at])?;
+            left.push_reserved(copy);
+        }
+        Ok(StreamValue::new(left, Ending::Done))
+    }
+}

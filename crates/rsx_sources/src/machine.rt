@@ -1,0 +1,169 @@
+//! What every node of a tree promises.
+
+ghost use Rattle.std.specs.Prelude.{◌≡◌, ℕ, Bool, Option};
+ghost use Rattle.rsx_types.specs.Meaning.{Meaning};
+ghost use Rattle.rsx_types.specs.Stream.{Stream};
+ghost use Rattle.rsx_types.specs.declared.note.Note.{Note};
+ghost use Rattle.rsx_types.specs.declared.signal.Signal.{Signal};
+ghost use Rattle.rsx_sources.specs.Machine.{Incoming};
+
+use rsx_types::{Cause, NoMemory, Note, Ops, Signal, StreamValue};
+use std::alloc::Global;
+
+/// Which signal a node offers.
+#[derive(Clone, Copy, Debug, PartialEq, Eq)]
+pub enum Front {
+    /// An item.
+    Item,
+    /// The completion.
+    Completion,
+    /// The failure with this cause.
+    Failure(Cause),
+}
+
+/// Why a node did not take a signal, which comes back.
+#[derive(Debug, Drop)]
+pub enum NotTaken<T> {
+    /// The node can't take a signal of this input now.
+    Busy(Signal<T>),
+    /// A growth was refused.
+    NoMemory(Signal<T>),
+}
+
+/// Why a step of a node was not made.
+#[derive(Clone, Copy, Debug, PartialEq, Eq)]
+pub enum NotMade {
+    /// The node can't make it now.
+    NotEnabled,
+    /// A growth was refused.
+    NoMemory,
+}
+
+/// A node of a tree: it takes the signals of its inputs and offers the signals of its output.
+///
+/// `comes_out` is the stream value that still comes out, given what still comes in and what is still chosen; it is
+/// nothing where the choices don't fit the node. A fresh node's is its operator of what comes in. Each call says how
+/// `comes_out` moves, so over any list of calls what came out, followed by what still comes out, is the operator of all
+/// that came in under all that was chosen.
+pub trait Machine {
+    /// An item of the node's streams.
+    type Item: Drop;
+
+    ghost comes_out: { Meaning Self.Item → Self → Incoming Self.Item → Note → Option (Stream Self.Item) };
+
+    /// The signal that is offered.
+    ghost waiting: { Meaning Self.Item → Self → Option (Signal Self.Item) };
+
+    /// Whether a signal of an input can be taken.
+    ghost takes: { Self → ℕ → Bool };
+
+    /// Whether an input can be picked, where so much is asked of the node and was sent by it.
+    ghost picks: { Self → ℕ → ℕ → ℕ → Bool };
+
+    /// Whether a row can be made, where so much is asked of the node and was sent by it.
+    ghost rows: { Self → ℕ → ℕ → Bool };
+
+    /// What picking an input adds to what the node recorded.
+    ghost recording: { Self → ℕ → Note };
+
+    /// What the node recorded.
+    ghost recorded: { Self → Note };
+
+    /// What is to be asked of an input in all, where so much is asked of the node and was sent by it.
+    ghost wanted: { Self → ℕ → ℕ → ℕ → ℕ };
+
+    /// The second is the first without the signal that it offered.
+    ghost popped: { Self → Signal Self.Item → Self → Type 0 };
+
+    ghost use Rattle.std.specs.Prelude.{◌≡◌, OnOk, OnErr, IfOk, IfErr, MatchResult, Some, None, true, false, option_map, length, ◌≤◌};
+    ghost use Rattle.rsx_types.specs.Notes.{note_then};
+    ghost use Rattle.rsx_sources.specs.Machine.{Keeps, TakesIn, Records, LetsGo, front_of, incoming_of};
+    ghost use Rattle.rsx_sources.specs.Steps.{IsPopped, IsNotTaken, IsNotMade};
+
+    /// Which signal is offered, if one is: the first signal that still comes out.
+    fn front(&self) -> Option<Front>
+        ensures { (m : Meaning Self.Item) → result ≡ option_map front_of (waiting m self.now) };
+
+    /// Takes the offered signal out of the node. For want of memory it stays, and the node is unchanged.
+    fn pop_front<O: Ops<Item = Self::Item>>(
+        &mut self,
+        alloc: Global,
+        ops: &O,
+    ) -> Result<Option<Signal<Self::Item>>, NoMemory>
+        ensures ok { IfOk result (λ s. IsPopped (comes_out (O.meaning ops.now)) popped (waiting (O.meaning ops.now) self.old) self.old s self.new) }
+        ensures err { OnErr result (self.new ≡ self.old) };
+
+    /// Puts the signal back that was popped last. Then the node is as it was before that.
+    fn put_back(&mut self, signal: Signal<Self::Item>)
+        ensures { (before : Self) → popped before signal self.old → self.new ≡ before };
+
+    /// Whether a signal of this input can be taken.
+    fn can_take(&self, input: u32) -> bool
+        ensures { result ≡ takes self.now input };
+
+    /// Takes a signal of an input. Where it can't, or for want of memory, the signal comes back and the node is unchanged.
+    fn on_signal<O: Ops<Item = Self::Item>>(
+        &mut self,
+        alloc: Global,
+        ops: &O,
+        input: u32,
+        signal: Signal<Self::Item>,
+    ) -> Result<(), NotTaken<Self::Item>>
+        ensures ok { OnOk result (TakesIn (comes_out (O.meaning ops.now)) self.old input signal self.new) }
+        ensures enabled { OnOk result (takes self.old input ≡ true) }
+        ensures recorded { recorded self.new ≡ recorded self.old }
+        ensures err { IfErr result (IsNotTaken (takes self.old input) signal) }
+        ensures same { OnErr result (self.new ≡ self.old) };
+
+    /// Learns that so much is asked of the node.
+    fn on_ask(&mut self, asked: u64)
+        ensures same { (m : Meaning Self.Item) → Keeps (comes_out m) self.old self.new }
+        ensures waits { (m : Meaning Self.Item) → waiting m self.new ≡ waiting m self.old }
+        ensures recorded { recorded self.new ≡ recorded self.old };
+
+    /// Picks an input: takes its next signal, and records the choice.
+    fn on_pick<O: Ops<Item = Self::Item>>(
+        &mut self,
+        alloc: Global,
+        ops: &O,
+        input: u64,
+        asked: u64,
+        sent: u64,
+    ) -> Result<(), NotMade>
+        ensures ok { OnOk result (Records (comes_out (O.meaning ops.now)) self.old (recording self.old input) self.new) }
+        ensures enabled { OnOk result (picks self.old input asked sent ≡ true) }
+        ensures recorded { OnOk result (recorded self.new ≡ note_then (recorded self.old) (recording self.old input)) }
+        ensures err { IfErr result (IsNotMade (picks self.old input asked sent)) }
+        ensures same { OnErr result (self.new ≡ self.old) };
+
+    /// Makes a row of the next item of each input.
+    fn on_row<O: Ops<Item = Self::Item>>(
+        &mut self,
+        alloc: Global,
+        ops: &O,
+        asked: u64,
+        sent: u64,
+    ) -> Result<(), NotMade>
+        ensures ok { OnOk result (Keeps (comes_out (O.meaning ops.now)) self.old self.new) }
+        ensures enabled { OnOk result (rows self.old asked sent ≡ true) }
+        ensures recorded { recorded self.new ≡ recorded self.old }
+        ensures err { IfErr result (IsNotMade (rows self.old asked sent)) }
+        ensures same { OnErr result (self.new ≡ self.old) };
+
+    /// What is to be asked of an input in all, where `asked` is asked of the node and it sent `sent` items.
+    fn want(&self, input: u32, asked: u64, sent: u64) -> u64
+        ensures { result ≡ wanted self.now input asked sent };
+
+    /// What the node recorded.
+    fn note(&self, alloc: Global) -> Result<Note, NoMemory>
+        ensures { IfOk result (λ n. n ≡ recorded self.now) };
+
+    /// The stream value that still comes out, where just these values come in and nothing more is chosen.
+    fn residual<O: Ops<Item = Self::Item>>(
+        &self,
+        alloc: Global,
+        ops: &O,
+        incoming: &[StreamValue<Self::Item>],
+    ) -> Result<StreamValue<Self::Item>, NoMemory>
+        ensures { IfOk result (λ v. (further : Note) → note_then (recorded self.now) further ≡ recorded self.now → comes_out (O.meaning ops.now) self.now (incoming_of incoming.now) further ≡ Some v) };
+}

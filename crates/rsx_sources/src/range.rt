@@ -1,0 +1,201 @@
+//! The source of a range of numbers.
+
+ghost use Rattle.std.specs.Prelude.{◌≡◌, pos, ◌+ℤ◌, ◌≤ℤ◌, ◌<◌, ◌≤◌, ◌^◌};
+
+use crate::machine::{Front, Machine, NotMade, NotTaken};
+use rsx_types::{Ending, NoMemory, Note, Ops, Signal, StreamValue};
+use std::alloc::Global;
+use std::marker::PhantomData;
+
+/// A source that puts out the items of `first`, `first + 1` and so on, `count` of them, and then the completion. Each
+/// item is made when it is taken.
+#[derive(Drop)]
+pub struct RangeNode<T> {
+    /// The first number.
+    pub first: i64,
+    /// How many numbers there are: 0 to 1,000,000.
+    pub count: u64,
+    /// How many of them came out: 0 to `count`.
+    pub at: u64,
+    /// The type of the items.
+    pub item: PhantomData<T>,
+    ghost within: { at ≤ count },
+    ghost limited: { count ≤ 1000000 },
+    ghost fits: { 0 < count → (first +ℤ pos count) ≤ℤ pos (2 ^ 63) },
+}
+
+impl<T: Drop> RangeNode<T> {
+    ghost use Rattle.std.specs.Prelude.{◌≡◌, pos, ◌+ℤ◌, ◌≤ℤ◌, ◌<◌, ◌≤◌, ◌^◌};
+    ghost use Rattle.rsx_types.specs.Meaning.{Meaning};
+    ghost use Rattle.rsx_types.specs.Plain.{listed, range_items};
+    ghost use Rattle.rsx_types.specs.declared.note.Note.{Note};
+    ghost use Rattle.rsx_sources.specs.Machine.{Incoming, quiet};
+    ghost use Rattle.rsx_sources.specs.Range.{range_comes_out};
+
+    /// The source of `count` numbers from `first` on. The last of them is at most the greatest `i64`.
+    pub fn new(first: i64, count: u64) -> RangeNode<T>
+        requires limited { count ≤ 1000000 }
+        requires fits { 0 < count → (first +ℤ pos count) ≤ℤ pos (2 ^ 63) }
+        ensures first { result.first ≡ first }
+        ensures count { result.count ≡ count }
+        ensures at { result.at ≡ 0 }
+        ensures fresh { (m : Meaning T) (inc : Incoming T) (further : Note) → range_comes_out m result inc further ≡ quiet further (listed (range_items m first count)) }
+    {
+        RangeNode {
+            first,
+            count,
+            at: 0,
+            item: PhantomData,
+        }
+    }
+}
+
+/// The number with the index `at` in a range.
+fn number_at(first: i64, at: u64) -> i64
+    requires limited { at ≤ 1000000 }
+    requires fits { (first +ℤ pos at +ℤ pos 1) ≤ℤ pos (2 ^ 63) }
+    ensures { result ≡ first +ℤ pos at }
+{
+    first + at as i64
+}
+
+impl<T: Drop> Machine for RangeNode<T> {
+    type Item = T;
+
+    ghost use Rattle.std.specs.Prelude.{◌≡◌, true, false, IfOk, IfErr, OnOk, OnErr};
+    ghost use Rattle.rsx_types.specs.Notes.{note_then};
+    ghost use Rattle.rsx_types.specs.declared.note.Note.{Note};
+    ghost use Rattle.rsx_types.specs.declared.note.Note.TheVariants.{Nothing};
+    ghost use Rattle.rsx_sources.specs.Machine.{TakesIn, Keeps, Records, incoming_of};
+    ghost use Rattle.rsx_sources.specs.Steps.{IsPopped, IsNotTaken, IsNotMade};
+    ghost use Rattle.rsx_sources.specs.Range.{range_comes_out, range_waiting, range_popped};
+    ghost use Rattle.rsx_sources.specs.declared.range.RangeNode.{RangeNode};
+
+    ghost comes_out = { range_comes_out };
+
+    ghost waiting = { range_waiting };
+
+    ghost takes = { λ n i. false };
+
+    ghost picks = { λ n i a s. false };
+
+    ghost rows = { λ n a s. false };
+
+    ghost recording = { λ n i. Nothing };
+
+    ghost recorded = { λ n. Nothing };
+
+    ghost wanted = { λ n i a s. 0 };
+
+    ghost popped = { range_popped };
+
+    fn front(&self) -> Option<Front> {
+        if self.at < self.count {
+            Some(Front::Item)
+        } else {
+            Some(Front::Completion)
+        }
+    }
+
+    fn pop_front<O: Ops<Item = T>>(
+        &mut self,
+        alloc: Global,
+        ops: &O,
+    ) -> Result<Option<Signal<T>>, NoMemory>
+        ensures ok { IfOk result (λ s. IsPopped (range_comes_out (O.meaning ops.now)) range_popped (range_waiting (O.meaning ops.now) self.old) self.old s self.new) }
+        ensures err { OnErr result (self.new ≡ self.old) }
+    {
+        if self.at == self.count {
+            return Ok(Some(Signal::Complete));
+        }
+        let item = ops.from_i64(alloc, number_at(self.first, self.at))?;
+        self.at += 1;
+        Ok(Some(Signal::Next(item)))
+    }
+
+    fn put_back(&mut self, signal: Signal<T>)
+        ensures { (before : RangeNode T) → range_popped before signal self.old → self.new ≡ before }
+    {
+        if let Signal::Next(_) = signal {
+            if self.at > 0 {
+                self.at -= 1;
+            }
+        }
+    }
+
+    fn can_take(&self, input: u32) -> bool {
+        false
+    }
+
+    fn on_signal<O: Ops<Item = T>>(
+        &mut self,
+        alloc: Global,
+        ops: &O,
+        input: u32,
+        signal: Signal<T>,
+    ) -> Result<(), NotTaken<T>>
+        ensures ok { OnOk result (TakesIn (range_comes_out (O.meaning ops.now)) self.old input signal self.new) }
+        ensures enabled { OnOk result (false ≡ true) }
+        ensures err { IfErr result (IsNotTaken false signal) }
+        ensures same { OnErr result (self.new ≡ self.old) }
+    {
+        Err(NotTaken::Busy(signal))
+    }
+
+    fn on_ask(&mut self, asked: u64) {}
+
+    fn on_pick<O: Ops<Item = T>>(
+        &mut self,
+        alloc: Global,
+        ops: &O,
+        input: u64,
+        asked: u64,
+        sent: u64,
+    ) -> Result<(), NotMade>
+        ensures ok { OnOk result (Records (range_comes_out (O.meaning ops.now)) self.old Nothing self.new) }
+        ensures enabled { OnOk result (false ≡ true) }
+        ensures err { IfErr result (IsNotMade false) }
+        ensures same { OnErr result (self.new ≡ self.old) }
+    {
+        Err(NotMade::NotEnabled)
+    }
+
+    fn on_row<O: Ops<Item = T>>(
+        &mut self,
+        alloc: Global,
+        ops: &O,
+        asked: u64,
+        sent: u64,
+    ) -> Result<(), NotMade>
+        ensures ok { OnOk result (Keeps (range_comes_out (O.meaning ops.now)) self.old self.new) }
+        ensures enabled { OnOk result (false ≡ true) }
+        ensures err { IfErr result (IsNotMade false) }
+        ensures same { OnErr result (self.new ≡ self.old) }
+    {
+        Err(NotMade::NotEnabled)
+    }
+
+    fn want(&self, input: u32, asked: u64, sent: u64) -> u64 {
+        0
+    }
+
+    fn note(&self, alloc: Global) -> Result<Note, NoMemory> {
+        Ok(Note::Nothing)
+    }
+
+    fn residual<O: Ops<Item = T>>(
+        &self,
+        alloc: Global,
+        ops: &O,
+        incoming: &[StreamValue<T>],
+    ) -> Result<StreamValue<T>, NoMemory>
+        ensures { IfOk result (λ v. (further : Note) → note_then Nothing further ≡ Nothing → range_comes_out (O.meaning ops.now) self.now (incoming_of incoming.now) further ≡ Some v) }
+    {
+        let mut left = Vec::with_capacity(alloc, (self.count - self.at) as usize)?;
+        for at in self.at..self.count {
+            let item = ops.from_i64(alloc, number_at(self.first, at))?;
+            left.push_reserved(item);
+        }
+        Ok(StreamValue::new(left, Ending::Done))
+    }
+}

@@ -1,0 +1,108 @@
+//! The out slot of a node.
+
+ghost use Rattle.std.specs.Prelude.{◌≡◌, ◌∷◌, [], ◌++◌, ◌<◌, ◌==◌, length, slice_get};
+ghost use Rattle.std.specs.Option.{option_copied, option_to_list};
+ghost use Rattle.rsx_sources.specs.Slot.{is_nil};
+
+use rsx_types::Signal;
+use std::marker::Model;
+
+/// The signals that a node has put out and its receiver has not taken yet: at most two, the oldest in front. Contracts see
+/// the list of the signals.
+#[derive(Drop)]
+pub struct OutSlot<T> {
+    first: Option<Signal<T>>,
+    second: Option<Signal<T>>,
+}
+
+impl<T> Model for OutSlot<T> {
+    ghost use Rattle.std.specs.Prelude.{◌≡◌, List, ◌++◌, None};
+    ghost use Rattle.std.specs.Option.{option_to_list};
+    ghost use Rattle.rsx_types.specs.declared.signal.Signal.{Signal};
+
+    ghost Value = { List (Signal T) };
+
+    ghost view = { λ s. option_to_list s.first ++ option_to_list s.second };
+
+    ghost invariant = { λ s. s.first ≡ None → s.second ≡ None };
+}
+
+impl<T: Drop> OutSlot<T> {
+    /// An empty slot. It takes no memory.
+    pub fn new() -> OutSlot<T>
+        ensures { result ≡ [] }
+    {
+        OutSlot {
+            first: None,
+            second: None,
+        }
+    }
+
+    /// Whether there is no signal.
+    pub fn is_empty(&self) -> bool
+        ensures { result ≡ is_nil self.now }
+    {
+        self.first.is_none()
+    }
+
+    /// The number of signals: 0 to 2.
+    pub fn len(&self) -> usize
+        ensures { result ≡ length self.now }
+    {
+        match (&self.first, &self.second) {
+            (None, _) => 0,
+            (Some(_), None) => 1,
+            (Some(_), Some(_)) => 2,
+        }
+    }
+
+    /// The oldest signal, if there is one.
+    pub fn front(&self) -> Option<&Signal<T>>
+        ensures { option_copied result ≡ slice_get self.now 0 }
+    {
+        self.first.as_ref()
+    }
+
+    /// The signal with so many older ones before it, if there is one.
+    pub fn get(&self, at: usize) -> Option<&Signal<T>>
+        ensures { option_copied result ≡ slice_get self.now at }
+    {
+        match at {
+            0 => self.front(),
+            1 => self.second.as_ref(),
+            _ => None,
+        }
+    }
+
+    /// Puts a signal behind the others. It takes no memory.
+    pub fn put(&mut self, signal: Signal<T>)
+        requires { length self.old < 2 }
+        ensures { self.new ≡ self.old ++ signal ∷ [] }
+    {
+        if self.is_empty() {
+            self.first = Some(signal);
+        } else {
+            self.second = Some(signal);
+        }
+    }
+
+    /// Takes the oldest signal, if there is one.
+    pub fn pop(&mut self) -> Option<Signal<T>>
+        ensures after { self.old ≡ option_to_list result ++ self.new }
+        ensures value { result ≡ slice_get self.old 0 }
+        ensures room { length self.new < 2 }
+    {
+        let signal = self.first.take();
+        self.first = self.second.take();
+        signal
+    }
+
+    /// Puts a signal in front of the others. It takes no memory.
+    pub fn put_back(&mut self, signal: Signal<T>)
+        requires { length self.old < 2 }
+        ensures { self.new ≡ signal ∷ self.old }
+    {
+        self.second = self.first.take();
+        self.first = Some(signal);
+    }
+}
