@@ -1,0 +1,16 @@
+-- How an operator answers a signal.
+use Rattle.std.specs.Prelude.{◌≡◌, List, [], ◌∷◌, ⊤}
+use Rattle.rsx_types.specs.declared.signal.Signal.{Signal}
+use Rattle.rsx_types.specs.declared.signal.Signal.TheVariants.{Next, Complete, Error}
+use Rattle.rsx_types.specs.Stream.{Stream, signal_then, signals_then}
+
+-- whatever still comes: the signal goes into old, out comes out, and new is left
+abbrev pub Moves : {T S : Type 0} → (S → Stream T → Stream T) → S → Signal T → List (Signal T) → S → Type 0
+Moves {T} from old s out new = (rest : Stream T) → from old (signal_then s rest) ≡ signals_then out (from new rest)
+
+-- nothing stands behind a completion or a failure
+abbrev pub EndsLast : {T : Type 0} → List (Signal T) → Type 0
+EndsLast [] = ⊤
+EndsLast (Next x ∷ ss) = EndsLast ss
+EndsLast (Complete ∷ ss) = ss ≡ []
+EndsLast (Error c ∷ ss) = ss ≡ []

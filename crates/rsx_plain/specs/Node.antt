@@ -1,0 +1,30 @@
+-- What still comes out of a plain operator with its out slot.
+use Rattle.std.specs.Prelude.{◌≡◌, ℕ, ◌<◌, ◌==◌, ◌&&◌, Bool, ◌∷◌, length, slice_get, Option}
+use Rattle.rsx_types.specs.declared.note.Note.{Note}
+use Rattle.rsx_types.specs.declared.signal.Signal.{Signal}
+use Rattle.rsx_types.specs.Meaning.{Meaning}
+use Rattle.rsx_types.specs.Stream.{Stream, signals_then}
+use Rattle.rsx_sources.specs.Machine.{Incoming, quiet}
+use Rattle.rsx_sources.specs.Slot.{is_nil}
+use Rattle.rsx_plain.specs.declared.node.PlainNode.{PlainNode}
+use Rattle.rsx_plain.specs.State.{plain_from, wanted_from}
+
+-- what stands in the slot, and then the operator of what comes in
+abbrev pub plain_comes_out : {T : Type 0} → Meaning T → PlainNode T → Incoming T → Note → Option (Stream T)
+plain_comes_out m n inc further = quiet further (signals_then n.slot (plain_from m n.state inc.first))
+
+-- the oldest signal of the slot waits
+abbrev pub plain_waiting : {T : Type 0} → Meaning T → PlainNode T → Option (Signal T)
+plain_waiting m n = slice_get n.slot 0
+
+-- a signal of the one input is taken where the slot is empty
+abbrev pub plain_takes : {T : Type 0} → PlainNode T → ℕ → Bool
+plain_takes n input = (input == 0) && is_nil n.slot
+
+-- what is asked of the input is what its state wants
+abbrev pub plain_wanted : {T : Type 0} → PlainNode T → ℕ → ℕ → ℕ → ℕ
+plain_wanted n input asked sent = wanted_from n.state asked sent
+
+-- the oldest signal leaves the slot
+abbrev pub plain_popped : {T : Type 0} → PlainNode T → Signal T → PlainNode T → Type 0
+plain_popped old s new = (old.slot ≡ s ∷ new.slot) × (old.state ≡ new.state) × (length new.slot < 2)

@@ -1,0 +1,16 @@
+#![tactic(auto)]
+//!
+//! [`PlainState`] is the state of one operator, and [`Operator`] what it does with the signals of its input.
+//!
+//! An operator answers each signal of its input with at most two signals (rule 1.1: what it may send is what was asked of
+//! it), and puts nothing behind a completion or a failure (rule 1.7).
+
+pub mod node;
+pub mod operator;
+pub mod state;
+#[cfg(test)]
+mod tests;
+
+pub use node::PlainNode;
+pub use operator::Operator;
+pub use state::PlainState;

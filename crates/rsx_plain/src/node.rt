@@ -1,0 +1,198 @@
+//! Plain operators as nodes of a tree.
+
+ghost use Rattle.std.specs.Prelude.{◌≡◌, []};
+
+use crate::operator::Operator;
+use crate::state::PlainState;
+use rsx_sources::{Front, Machine, NotMade, NotTaken, OutSlot};
+use rsx_types::{Ending, NoMemory, Note, Ops, Signal, Stage, StreamValue};
+use std::alloc::Global;
+
+/// A plain operator with its out slot. It takes a signal of its one input where the slot is empty.
+#[derive(Drop)]
+pub struct PlainNode<T> {
+    /// The operator.
+    pub state: PlainState,
+    /// What it has put out and its receiver has not taken yet.
+    pub slot: OutSlot<T>,
+}
+
+impl<T: Drop> PlainNode<T> {
+    ghost use Rattle.std.specs.Prelude.{◌≡◌, []};
+    ghost use Rattle.rsx_types.specs.Meaning.{Meaning};
+    ghost use Rattle.rsx_types.specs.Plain.{plain};
+    ghost use Rattle.rsx_types.specs.declared.note.Note.{Note};
+    ghost use Rattle.rsx_sources.specs.Machine.{Incoming, quiet};
+    ghost use Rattle.rsx_plain.specs.State.{plain_start};
+    ghost use Rattle.rsx_plain.specs.Node.{plain_comes_out};
+
+    /// The node of an operator before it has taken anything. It takes no memory.
+    pub fn new(stage: Stage) -> PlainNode<T>
+        ensures state { result.state ≡ plain_start stage }
+        ensures slot { result.slot ≡ [] }
+        ensures fresh { (m : Meaning T) (inc : Incoming T) (further : Note) → plain_comes_out m result inc further ≡ quiet further (plain m stage inc.first) }
+    {
+        PlainNode {
+            state: PlainState::new(stage),
+            slot: OutSlot::new(),
+        }
+    }
+}
+
+impl<T: Drop> Machine for PlainNode<T> {
+    type Item = T;
+
+    ghost use Rattle.std.specs.Prelude.{◌≡◌, true, false, IfOk, IfErr, OnOk, OnErr};
+    ghost use Rattle.rsx_types.specs.Notes.{note_then};
+    ghost use Rattle.rsx_types.specs.declared.note.Note.{Note};
+    ghost use Rattle.rsx_types.specs.declared.note.Note.TheVariants.{Nothing};
+    ghost use Rattle.rsx_sources.specs.Machine.{TakesIn, Keeps, Records, incoming_of};
+    ghost use Rattle.rsx_sources.specs.Steps.{IsPopped, IsNotTaken, IsNotMade};
+    ghost use Rattle.rsx_plain.specs.Node.{plain_comes_out, plain_waiting, plain_takes, plain_wanted, plain_popped};
+    ghost use Rattle.rsx_plain.specs.declared.node.PlainNode.{PlainNode};
+
+    ghost comes_out = { plain_comes_out };
+
+    ghost waiting = { plain_waiting };
+
+    ghost takes = { plain_takes };
+
+    ghost picks = { λ n i a s. false };
+
+    ghost rows = { λ n a s. false };
+
+    ghost recording = { λ n i. Nothing };
+
+    ghost recorded = { λ n. Nothing };
+
+    ghost wanted = { plain_wanted };
+
+    ghost popped = { plain_popped };
+
+    fn front(&self) -> Option<Front> {
+        match self.slot.front() {
+            Some(Signal::Next(_)) => Some(Front::Item),
+            Some(Signal::Complete) => Some(Front::Completion),
+            Some(Signal::Error(cause)) => Some(Front::Failure(*cause)),
+            None => None,
+        }
+    }
+
+    fn pop_front<O: Ops<Item = T>>(
+        &mut self,
+        alloc: Global,
+        ops: &O,
+    ) -> Result<Option<Signal<T>>, NoMemory>
+        ensures ok { IfOk result (λ s. IsPopped (plain_comes_out (O.meaning ops.now)) plain_popped (plain_waiting (O.meaning ops.now) self.old) self.old s self.new) }
+        ensures err { OnErr result (self.new ≡ self.old) }
+    {
+        match self.slot.pop() {
+            Some(signal) => Ok(Some(signal)),
+            None => Ok(None),
+        }
+    }
+
+    fn put_back(&mut self, signal: Signal<T>)
+        ensures { (before : PlainNode T) → plain_popped before signal self.old → self.new ≡ before }
+    {
+        if self.slot.len() < 2 {
+            self.slot.put_back(signal);
+        }
+    }
+
+    fn can_take(&self, input: u32) -> bool {
+        input == 0 && self.slot.is_empty()
+    }
+
+    fn on_signal<O: Ops<Item = T>>(
+        &mut self,
+        alloc: Global,
+        ops: &O,
+        input: u32,
+        signal: Signal<T>,
+    ) -> Result<(), NotTaken<T>>
+        ensures ok { OnOk result (TakesIn (plain_comes_out (O.meaning ops.now)) self.old input signal self.new) }
+        ensures enabled { OnOk result (plain_takes self.old input ≡ true) }
+        ensures err { IfErr result (IsNotTaken (plain_takes self.old input) signal) }
+        ensures same { OnErr result (self.new ≡ self.old) }
+    {
+        if input != 0 || !self.slot.is_empty() {
+            return Err(NotTaken::Busy(signal));
+        }
+        match self.state.react(alloc, ops, signal, &mut self.slot) {
+            Ok(()) => Ok(()),
+            Err(signal) => Err(NotTaken::NoMemory(signal)),
+        }
+    }
+
+    fn on_ask(&mut self, asked: u64) {}
+
+    fn on_pick<O: Ops<Item = T>>(
+        &mut self,
+        alloc: Global,
+        ops: &O,
+        input: u64,
+        asked: u64,
+        sent: u64,
+    ) -> Result<(), NotMade>
+        ensures ok { OnOk result (Records (plain_comes_out (O.meaning ops.now)) self.old Nothing self.new) }
+        ensures enabled { OnOk result (false ≡ true) }
+        ensures err { IfErr result (IsNotMade false) }
+        ensures same { OnErr result (self.new ≡ self.old) }
+    {
+        Err(NotMade::NotEnabled)
+    }
+
+    fn on_row<O: Ops<Item = T>>(
+        &mut self,
+        alloc: Global,
+        ops: &O,
+        asked: u64,
+        sent: u64,
+    ) -> Result<(), NotMade>
+        ensures ok { OnOk result (Keeps (plain_comes_out (O.meaning ops.now)) self.old self.new) }
+        ensures enabled { OnOk result (false ≡ true) }
+        ensures err { IfErr result (IsNotMade false) }
+        ensures same { OnErr result (self.new ≡ self.old) }
+    {
+        Err(NotMade::NotEnabled)
+    }
+
+    fn want(&self, input: u32, asked: u64, sent: u64) -> u64 {
+        self.state.want(asked, sent)
+    }
+
+    fn note(&self, alloc: Global) -> Result<Note, NoMemory> {
+        Ok(Note::Nothing)
+    }
+
+    fn residual<O: Ops<Item = T>>(
+        &self,
+        alloc: Global,
+        ops: &O,
+        incoming: &[StreamValue<T>],
+    ) -> Result<StreamValue<T>, NoMemory>
+        ensures { IfOk result (λ v. (further : Note) → note_then Nothing further ≡ Nothing → plain_comes_out (O.meaning ops.now) self.now (incoming_of incoming.now) further ≡ Some v) }
+    {
+        let mut out = Vec::new(alloc);
+        for at in 0..self.slot.len() {
+            match self.slot.get(at) {
+                Some(Signal::Next(item)) => {
+                    let copy = ops.copy(alloc, item)?;
+                    out.push(copy)?;
+                }
+                Some(Signal::Complete) => return Ok(StreamValue::new(out, Ending::Done)),
+                Some(Signal::Error(cause)) => {
+                    return Ok(StreamValue::new(out, Ending::Failed(*cause)));
+                }
+                None => {}
+            }
+        }
+        match incoming.first() {
+            Some(value) => self
+                .state
+                .rest(alloc, ops, out, value.items(), value.ending()),
+            None => self.state.rest(alloc, ops, out, &[], Ending::Open),
+        }
+    }
+}
