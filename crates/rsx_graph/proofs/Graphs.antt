@@ -1,0 +1,267 @@
+-- How the subscriptions of a graph stand together.
+use Rattle.std.proofs.Common.{◌≡◌, ℕ, zero, suc, ◌+◌, ◌-◌, ◌<◌, ◌≤◌, List, [], ◌∷◌, ◌++◌, length, get_or, slice_get, refl, ap, sym, ◌∙◌, subst, arith, append_assoc, length-append, take, map, option_map, Option, Some, None, Bool, true, false, nat_eq, if◌then◌else◌}
+use Rattle.std.proofs.Math.ListN.{set}
+use Rattle.std.proofs.lemmas.Bool.Decides.{nat_tests}
+use Rattle.std.proofs.lemmas.List.{take_more, take_all}
+use Rattle.rsx_types.specs.declared.names.Tree.{Tree}
+use Rattle.rsx_graph.specs.declared.refusal.Refusal.{Refusal}
+use Rattle.rsx_model.specs.declared.expr.Expr.{Expr}
+use Rattle.rsx_types.specs.Notes.{unchosen}
+use Rattle.rsx_types.specs.declared.signal.Ending.{Ending}
+use Rattle.rsx_types.specs.declared.signal.Ending.TheVariants.{Open as NotEnded}
+use Rattle.rsx_types.specs.declared.names.Move.{Move}
+use Rattle.rsx_types.specs.declared.names.SubId.{SubId}
+use Rattle.rsx_types.specs.declared.signal.Signal.{Signal}
+use Rattle.rsx_types.specs.Meaning.{Meaning}
+use Rattle.rsx_types.specs.Stream.{Stream, signals_then, ended_by}
+use Rattle.rsx_graph.specs.declared.edge.EdgeState.TheVariants.{Live}
+use Rattle.rsx_graph.specs.declared.state.SubscriptionState.{SubscriptionState}
+use Rattle.rsx_graph.specs.declared.state.SubscriptionState.TheVariants.{Open, Ended, Cancelled, Refused}
+use Rattle.rsx_graph.specs.Built.{IsBuilt}
+use Rattle.rsx_graph.specs.Tree.{comes_out, notes_of}
+use Rattle.rsx_graph.proofs.Trees.{notes_then-unrecorded, notes_then-unchosen, unchosen_notes}
+use Rattle.rsx_graph.specs.declared.subscription.Subscription.{Subscription}
+use Rattle.rsx_graph.specs.declared.step.Step.{Step}
+use Rattle.rsx_graph.specs.declared.step.Answer.{Answer}
+use Rattle.rsx_graph.specs.History.{Past, History, subscribed, IsLive, Belongs, AllBelong, IsSubscribeRefusal, IsMakeRefusal, changed, extended, all_extended, delivered, given, HasAsked, state_at}
+use Rattle.rsx_graph.specs.Pumped.{IsPumped, AllPumped, given_all, to}
+use Rattle.rsx_graph.proofs.Signals.{append_none, some_same}
+use Rattle.rsx_graph.specs.Stands.{Stands, AllStand, StandsFor, enabled_at, move_enabled_in, values_then, evaluated, owed_from, owes_in, OwedAt}
+
+pub AllStand-push : {T : Type 0} (m : Meaning T) (published : List (Stream T)) (subs : List (Subscription T)) (pasts : List (Past T)) (s : Subscription T) (p : Past T) → Stands m published s p → AllStand m published subs pasts → AllStand m published (subs ++ s ∷ []) (pasts ++ p ∷ [])
+AllStand-push m published [] [] s p k h = (k, tt)
+AllStand-push m published (t ∷ subs) (q ∷ pasts) s p k h = (h.0, AllStand-push m published subs pasts s p k h.1)
+AllStand-push m published [] (q ∷ pasts) s p k h = absurd h
+AllStand-push m published (t ∷ subs) [] s p k h = absurd h
+
+-- one subscription moved, and its past grew as it should
+pub AllStand-set : {T : Type 0} (m : Meaning T) (published : List (Stream T)) (f : Past T → Past T) (subs : List (Subscription T)) (pasts : List (Past T)) (i : ℕ) (old new : Subscription T) → i < length subs → get_or subs i old ≡ old → ((p : Past T) → Stands m published old p → Stands m published new (f p)) → AllStand m published subs pasts → AllStand m published (set subs i new) (changed f pasts i)
+AllStand-set m published f [] pasts i old new lt e k h = absurd (omega arith)
+AllStand-set m published f (s ∷ subs) [] i old new lt e k h = absurd h
+AllStand-set {T} m published f (s ∷ subs) (p ∷ pasts) zero old new lt e k h = let P : Subscription T → Type 0 = λ t. Stands m published t p in (k p (subst P e h.0), h.1)
+AllStand-set m published f (s ∷ subs) (p ∷ pasts) (suc i) old new lt e k h = (h.0, AllStand-set m published f subs pasts i old new (omega arith) e k h.1)
+
+pub changed_same : {A : Type 0} (xs : List A) (i : ℕ) → changed (λ x. x) xs i ≡ xs
+changed_same [] i = refl
+changed_same (x ∷ xs) zero = refl
+changed_same (x ∷ xs) (suc i) = ap (λ l. x ∷ l) (changed_same xs i)
+
+-- one subscription moved, and no past grew
+pub AllStand-moved : {T : Type 0} (m : Meaning T) (published : List (Stream T)) (subs : List (Subscription T)) (pasts : List (Past T)) (i : ℕ) (old new : Subscription T) → i < length subs → get_or subs i old ≡ old → ((p : Past T) → Stands m published old p → Stands m published new p) → AllStand m published subs pasts → AllStand m published (set subs i new) pasts
+AllStand-moved {T} m published subs pasts i old new lt e k h =
+    let P : List (Past T) → Type 0 = λ ps. AllStand m published (set subs i new) ps in
+    subst P (changed_same pasts i) (AllStand-set m published (λ p. p) subs pasts i old new lt e k h)
+
+pub all_extended-more : {T : Type 0} (h : History T) (steps : List (Step T)) (answers : List (Answer T)) (s : Step T) (a : Answer T) → length steps ≡ length answers → all_extended h (steps ++ s ∷ []) (answers ++ a ∷ []) ≡ extended (all_extended h steps answers) s a
+all_extended-more h [] [] s a e = refl
+all_extended-more h (t ∷ steps) (b ∷ answers) s a e = all_extended-more (extended h t b) steps answers s a (omega arith)
+all_extended-more h [] (b ∷ answers) s a e = absurd (omega arith)
+all_extended-more h (t ∷ steps) [] s a e = absurd (omega arith)
+
+pub count_same : {T : Type 0} (m : Meaning T) (published : List (Stream T)) (subs : List (Subscription T)) (pasts : List (Past T)) → AllStand m published subs pasts → length subs ≡ length pasts
+count_same m published [] [] h = refl
+count_same m published (s ∷ ss) (p ∷ ps) h = ap suc (count_same m published ss ps h.1)
+count_same m published [] (p ∷ ps) h = absurd h
+count_same m published (s ∷ ss) [] h = absurd h
+
+pub set_same : {A : Type 0} (xs : List A) (i : ℕ) (old new : A) → i < length xs → get_or xs i old ≡ old → new ≡ old → set xs i new ≡ xs
+set_same [] i old new lt e n = absurd (omega arith)
+set_same (x ∷ xs) zero old new lt e n = ap (λ y. y ∷ xs) (n ∙ sym e)
+set_same (x ∷ xs) (suc i) old new lt e n = ap (λ ys. x ∷ ys) (set_same xs i old new (omega arith) e n)
+
+pub found : {A : Type 0} (xs : List A) (i : ℕ) (old : A) → i < length xs → get_or xs i old ≡ old → slice_get xs i ≡ Some old
+found [] i old lt e = absurd (omega arith)
+found (x ∷ xs) zero old lt e = ap Some e
+found (x ∷ xs) (suc i) old lt e = found xs i old (omega arith) e
+
+-- a move at a subscription that is there
+pub enabled_there : {T : Type 0} (m : Meaning T) (subs : List (Subscription T)) (i : ℕ) (old : Subscription T) (mv : Move) → i < length subs → get_or subs i old ≡ old → enabled_at m subs i mv ≡ move_enabled_in m old mv
+enabled_there m [] i old mv lt e = absurd (omega arith)
+enabled_there m (s ∷ subs) zero old mv lt e = ap (λ t. move_enabled_in m t mv) e
+enabled_there m (s ∷ subs) (suc i) old mv lt e =
+    above (nat_eq (suc i) 0) (suc_not_zero i) (move_enabled_in m s mv) (enabled_at m subs (suc i - 1) mv)
+    ∙ (ap (λ k. enabled_at m subs k mv) (suc_less i) ∙ enabled_there m subs i old mv (omega arith) e)
+  where
+    above : (b : Bool) → b ≡ false → (x y : Bool) → (if b then x else y) ≡ y
+    above true e x y = cc
+    above false e x y = refl
+
+    suc_not_zero : (i : ℕ) → nat_eq (suc i) 0 ≡ false
+    suc_not_zero i = grind (arith, nat_tests)
+
+    suc_less : (i : ℕ) → suc i - 1 ≡ i
+    suc_less i = omega arith
+
+pub asked_there : {T : Type 0} (m : Meaning T) (published : List (Stream T)) (subs : List (Subscription T)) (pasts : List (Past T)) (i : ℕ) (sub : Subscription T) → i < length subs → get_or subs i sub ≡ sub → AllStand m published subs pasts → HasAsked pasts i sub.root.demand.asked
+asked_there m published [] pasts i sub lt e h = absurd (omega arith)
+asked_there m published (s ∷ subs) [] i sub lt e h = absurd h
+asked_there {T} m published (s ∷ subs) (p ∷ pasts) zero sub lt e h = let P : Subscription T → Type 0 = λ t. Stands m published t p in let k : Stands m published sub p = subst P e h.0 in k.asked
+asked_there m published (s ∷ subs) (p ∷ pasts) (suc i) sub lt e h = asked_there m published subs pasts i sub (omega arith) e h.1
+
+pub state_there : {T : Type 0} (m : Meaning T) (published : List (Stream T)) (subs : List (Subscription T)) (pasts : List (Past T)) (i : ℕ) (sub : Subscription T) → slice_get subs i ≡ Some sub → AllStand m published subs pasts → state_at pasts i ≡ Some sub.state
+state_there m published [] pasts i sub e h = cc
+state_there m published (s ∷ subs) [] i sub e h = absurd h
+state_there {T} m published (s ∷ subs) (p ∷ pasts) zero sub e h =
+    let same : s ≡ sub = some_same s sub e in
+    let P : Subscription T → Type 0 = λ t. Stands m published t p in
+    let k : Stands m published sub p = subst P same h.0 in ap Some (sym k.state)
+state_there m published (s ∷ subs) (p ∷ pasts) (suc i) sub e h = state_there m published subs pasts i sub e h.1
+
+-- ---- deliveries
+
+pub delivered_to : {T : Type 0} (published : List (Stream T)) (pasts : List (Past T)) (i : SubId) (ss : List (Signal T)) → delivered (record { published = published; pasts = pasts }) (to i ss) ≡ record { published = published; pasts = changed (given_all ss) pasts i.0 }
+delivered_to published pasts i [] = ap (λ ps. record { published = published; pasts = ps }) (sym (changed_same pasts i.0))
+delivered_to {T} published pasts i (s ∷ ss) =
+    delivered_to published (changed (given s) pasts i.0) i ss ∙ ap (λ ps. record { published = published; pasts = ps }) (changed_twice (given s) (given_all ss) pasts i.0)
+  where
+    changed_twice : {A : Type 0} (f g : A → A) (xs : List A) (i : ℕ) → changed g (changed f xs i) i ≡ changed (λ x. g (f x)) xs i
+    changed_twice f g [] i = refl
+    changed_twice f g (x ∷ xs) zero = refl
+    changed_twice f g (x ∷ xs) (suc i) = ap (λ l. x ∷ l) (changed_twice f g xs i)
+
+pub pumped_there : {T : Type 0} (m : Meaning T) (id : SubId) (subs : List (Subscription T)) (old new : Subscription T) (before after : List (SubId × Signal T)) → id.0 < length subs → get_or subs id.0 old ≡ old → IsPumped m id old before new after → AllPumped m subs before (set subs id.0 new) after
+pumped_there {T} m id subs old new before after lt e k = record {
+  signals = to id k.signals;
+  output = k.output;
+  stands = λ h s.
+      let P : History T → Type 0 = λ g. StandsFor m (set subs id.0 new) g in
+      subst P (sym (delivered_to h.published h.pasts id k.signals)) (AllStand-set m h.published (given_all k.signals) subs h.pasts id.0 old new lt e (λ p t. k.stands h.published p t) s);
+}
+
+pub delivered_append : {T : Type 0} (h : History T) (a b : List (SubId × Signal T)) → delivered h (a ++ b) ≡ delivered (delivered h a) b
+delivered_append h [] b = refl
+delivered_append h (d ∷ a) b = delivered_append _ a b
+
+pub pumped_on : {T : Type 0} (m : Meaning T) (s1 s2 s3 : List (Subscription T)) (o1 o2 o3 : List (SubId × Signal T)) → AllPumped m s1 o1 s2 o2 → AllPumped m s2 o2 s3 o3 → AllPumped m s1 o1 s3 o3
+pumped_on {T} m s1 s2 s3 o1 o2 o3 a b = record {
+  signals = a.signals ++ b.signals;
+  output = b.output ∙ (ap (λ o. o ++ b.signals) a.output ∙ append_assoc o1 a.signals b.signals);
+  stands = λ h s. let P : History T → Type 0 = λ g. StandsFor m s3 g in subst P (sym (delivered_append h a.signals b.signals)) (b.stands (delivered h a.signals) (a.stands h s));
+}
+
+pub pumped_none : {T : Type 0} (m : Meaning T) (s : List (Subscription T)) (o : List (SubId × Signal T)) → AllPumped m s o s o
+pumped_none m s o = record { signals = []; output = sym (append_none o); stands = λ h k. k }
+
+-- ---- a subscription that has just begun
+
+pub stands_fresh : {T : Type 0} (m : Meaning T) (published : List (Stream T)) (e : Expr T) (sub : Subscription T) → IsBuilt m e sub.tree → sub.queue ≡ [] → sub.root.state ≡ Live → sub.root.demand.asked ≡ 0 → sub.root.demand.sent ≡ 0 → sub.state ≡ Open → Stands m published sub (subscribed e [])
+stands_fresh {T} m published e sub b q l a s o =
+    let live : IsLive sub.state = rw o tt in
+    record {
+      state = o;
+      value = λ _ more further len.
+          rw (q, notes_then-unrecorded (notes_of sub.tree) further b.notes len) (map_same (comes_out m (values_then published more) further sub.tree 0) ∙ b.value (values_then published more) [] further 0 0);
+      prefix = λ dead. absurd (dead live);
+      orderly = rw q tt;
+      unended = λ _. rw q tt;
+      waits = λ _. tt;
+      counted = λ _. rw (q, s) refl;
+      most = rw s (omega arith);
+      within = rw (s, a) (omega arith);
+      asked = a;
+      closed = λ dead. absurd (dead live);
+    }
+  where
+    map_same : {T : Type 0} (o : Option (Stream T)) → option_map (λ v. v) (option_map (λ v. v) o) ≡ o
+    map_same None = refl
+    map_same (Some v) = refl
+
+-- ---- what is owed
+
+values_then-none : {T : Type 0} (published : List (Stream T)) → values_then published [] ≡ published
+values_then-none [] = refl
+values_then-none (v ∷ vs) = refl
+
+pub owes : {T : Type 0} (m : Meaning T) (published : List (Stream T)) (sub : Subscription T) (past : Past T) (v : Stream T) → sub.state ≡ Open → ((hubs : List (Stream T)) → owed_from m hubs (map unchosen (notes_of sub.tree)) sub ≡ Some v) → Stands m published sub past → evaluated m published past (notes_of sub.tree) ≡ Some (signals_then past.received v)
+owes {T} m published sub past v o e h =
+    let live : IsLive sub.state = rw o tt in
+    let whole = h.value live [] (map unchosen (notes_of sub.tree)) (unchosen_notes (notes_of sub.tree)) in
+    let there : option_map (signals_then past.received) (owed_from m (values_then published []) (map unchosen (notes_of sub.tree)) sub) ≡ Some (signals_then past.received v) = ap (option_map (signals_then past.received)) (e (values_then published [])) in
+    ap (λ p. evaluated m p past (notes_of sub.tree)) (sym (values_then-none published))
+    ∙ (ap (λ ns. evaluated m (values_then published []) past ns) (sym (notes_then-unchosen (notes_of sub.tree))) ∙ (sym whole ∙ there))
+
+pub owed_open : {T : Type 0} (m : Meaning T) (published : List (Stream T)) (subs : List (Subscription T)) (pasts : List (Past T)) (i : ℕ) (sub : Subscription T) (v : Stream T) → i < length subs → get_or subs i sub ≡ sub → sub.state ≡ Open → ((hubs : List (Stream T)) → owed_from m hubs (map unchosen (notes_of sub.tree)) sub ≡ Some v) → AllStand m published subs pasts → OwedAt m published subs pasts i v
+owed_open m published [] pasts i sub v lt e o w h = absurd (omega arith)
+owed_open m published (s ∷ subs) [] i sub v lt e o w h = absurd h
+owed_open {T} m published (s ∷ subs) (p ∷ pasts) zero sub v lt e o w h =
+    let P : Subscription T → Type 0 = λ t. Stands m published t p in
+    let Q : Subscription T → Type 0 = λ t. evaluated m published p (notes_of t.tree) ≡ Some (signals_then p.received v) in
+    let k : Stands m published sub p = subst P e h.0 in
+    let w' : evaluated m published p (notes_of s.tree) ≡ Some (signals_then p.received v) = subst Q (sym e) (owes m published sub p v o w k) in
+    let R : SubscriptionState → Type 0 = λ t. owes_in m published s p v t in
+    subst R (sym o ∙ k.state) w'
+owed_open m published (s ∷ subs) (p ∷ pasts) (suc i) sub v lt e o w h = owed_open m published subs pasts i sub v (omega arith) e o w h.1
+
+pub owed_none : {T : Type 0} (m : Meaning T) (published : List (Stream T)) (subs : List (Subscription T)) (pasts : List (Past T)) (i : ℕ) (sub : Subscription T) (v : Stream T) → i < length subs → get_or subs i sub ≡ sub → (sub.state ≡ Open → ⊥) → v ≡ ended_by NotEnded → AllStand m published subs pasts → OwedAt m published subs pasts i v
+owed_none m published [] pasts i sub v lt e o w h = absurd (omega arith)
+owed_none m published (s ∷ subs) [] i sub v lt e o w h = absurd h
+owed_none {T} m published (s ∷ subs) (p ∷ pasts) zero sub v lt e o w h =
+    let P : Subscription T → Type 0 = λ t. Stands m published t p in
+    let k : Stands m published sub p = subst P e h.0 in
+    by_state p.state (λ q. o (k.state ∙ q))
+  where
+    by_state : (t : SubscriptionState) → (t ≡ Open → ⊥) → owes_in m published s p v t
+    by_state Open n = absurd (n refl)
+    by_state Ended n = w
+    by_state Cancelled n = w
+    by_state Refused n = w
+owed_none m published (s ∷ subs) (p ∷ pasts) (suc i) sub v lt e o w h = owed_none m published subs pasts i sub v (omega arith) e o w h.1
+
+-- ---- a list of steps
+
+pub AllBelong-more : {T : Type 0} (h : History T) (steps : List (Step T)) (answers : List (Answer T)) (s : Step T) (a : Answer T) → AllBelong h steps answers → Belongs (all_extended h steps answers) s a → AllBelong h (steps ++ s ∷ []) (answers ++ a ∷ [])
+AllBelong-more h [] [] s a k b = (b, tt)
+AllBelong-more h (t ∷ steps) (u ∷ answers) s a k b = (k.0, AllBelong-more (extended h t u) steps answers s a k.1 b)
+AllBelong-more h [] (u ∷ answers) s a k b = absurd k
+AllBelong-more h (t ∷ steps) [] s a k b = absurd k
+
+-- what a list of steps with its answers has done so far
+pub record HasRun {T : Type 0} (m : Meaning T) (old new : List (Subscription T)) (steps : List (Step T)) (answers : List (Answer T)) : Type 0 where
+  pub count : length steps ≡ length answers
+  pub stands : (h : History T) → StandsFor m old h → StandsFor m new (all_extended h steps answers)
+  pub belongs : (h : History T) → StandsFor m old h → AllBelong h steps answers
+
+pub run_more : {T : Type 0} (m m' : Meaning T) (steps : List (Step T)) (i : ℕ) (s : Step T) (first before after : List (Subscription T)) (answers answers' : List (Answer T)) (a : Answer T) →
+    m' ≡ m → i < length steps → s ≡ get_or steps i s → answers' ≡ answers ++ a ∷ [] →
+    HasRun m first before (take i steps) answers →
+    ((h : History T) → StandsFor m' before h → StandsFor m' after (extended h s a)) →
+    ((h : History T) → StandsFor m' before h → Belongs h s a) →
+    HasRun m first after (take (i + 1) steps) answers'
+run_more {T} m m' steps i s first before after answers answers' a same lt at pushed r stands belongs =
+    let taken : take (i + 1) steps ≡ take i steps ++ s ∷ [] = take_more steps i s lt ∙ ap (λ t. take i steps ++ t ∷ []) (sym at) in
+    let P : List (Step T) → Type 0 = λ l. HasRun m first after l answers' in
+    let Q : List (Answer T) → Type 0 = λ l. HasRun m first after (take i steps ++ s ∷ []) l in
+    let S : Meaning T → Type 0 = λ n. (h : History T) → StandsFor n before h → StandsFor n after (extended h s a) in
+    let B : Meaning T → Type 0 = λ n. (h : History T) → StandsFor n before h → Belongs h s a in
+    let stands' : (h : History T) → StandsFor m before h → StandsFor m after (extended h s a) = subst S same stands in
+    let belongs' : (h : History T) → StandsFor m before h → Belongs h s a = subst B same belongs in
+    let grown : HasRun m first after (take i steps ++ s ∷ []) (answers ++ a ∷ []) = record {
+      count = simp (length-append) (omega (arith, r.count));
+      stands = λ h k. let G : History T → Type 0 = λ g. StandsFor m after g in subst G (sym (all_extended-more h (take i steps) answers s a r.count)) (stands' (all_extended h (take i steps) answers) (r.stands h k));
+      belongs = λ h k. AllBelong-more h (take i steps) answers s a (r.belongs h k) (belongs' (all_extended h (take i steps) answers) (r.stands h k));
+    } in
+    subst P (sym taken) (subst Q (sym pushed) grown)
+
+pub has_run_all : {T : Type 0} (m : Meaning T) (steps items : List (Step T)) (i : ℕ) (first after : List (Subscription T)) (answers : List (Answer T)) → items ≡ steps → length items ≤ i → HasRun m first after (take i items) answers → HasRun m first after steps answers
+has_run_all {T} m steps items i first after answers e l r =
+    let P : List (Step T) → Type 0 = λ s. HasRun m first after s answers in
+    subst P (take_all i items l ∙ e) r
+
+pub has_run_none : {T : Type 0} (m : Meaning T) (subs : List (Subscription T)) (steps : List (Step T)) (answers : List (Answer T)) → answers ≡ [] → HasRun m subs subs (take 0 steps) answers
+has_run_none {T} m subs steps answers e =
+    let P : List (Answer T) → Type 0 = λ a. HasRun m subs subs [] a in
+    subst P (sym e) (record { count = refl; stands = λ h k. k; belongs = λ h k. tt })
+
+pub pumped_same : {T : Type 0} (m m' : Meaning T) (s1 s2 : List (Subscription T)) (o1 o2 : List (SubId × Signal T)) → m' ≡ m → AllPumped m' s1 o1 s2 o2 → AllPumped m s1 o1 s2 o2
+pumped_same {T} m m' s1 s2 o1 o2 e h = let P : Meaning T → Type 0 = λ n. AllPumped n s1 o1 s2 o2 in subst P e h
+
+-- ---- answers that belong to their steps
+
+pub subscribe_refusal : {T : Type 0} (a b : ℕ) (e : Expr T) (r : Refusal) → a ≡ b → IsSubscribeRefusal a e r → IsSubscribeRefusal b e r
+subscribe_refusal {T} a b e r s h = let P : ℕ → Type 0 = λ n. IsSubscribeRefusal n e r in subst P s h
+
+pub make_refusal : (a b : ℕ) (enabled : Bool) (t : Tree) (r : Refusal) → a ≡ b → IsMakeRefusal a enabled t r → IsMakeRefusal b enabled t r
+make_refusal a b enabled t r s h = let P : ℕ → Type 0 = λ n. IsMakeRefusal n enabled t r in subst P s h
+
+pub ended_value : {T : Type 0} (v : Stream T) (e : Ending) → v.items ≡ [] → v.ending ≡ e → v ≡ ended_by e
+ended_value v e a b = ap (λ xs. record { items = xs; ending = v.ending }) a ∙ ap (λ x. record { items = []; ending = x }) b

@@ -1,0 +1,5 @@
+pub mod Graphs
+pub mod Moves
+pub mod Sentence
+pub mod Signals
+pub mod Trees

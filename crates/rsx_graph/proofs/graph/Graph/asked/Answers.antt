@@ -1,0 +1,11 @@
+use Rattle.std.proofs.Common.{◌<◌, length, sym, arith}
+use Rattle.rsx_graph.proofs.Graphs.{asked_there}
+use Rattle.rsx_graph.proofs.graph.Graph.asked.Goals as goal
+
+pub returns-clause-asked : goal.returns-clause-asked
+returns-clause-asked g c = λ h s.
+    let m = g.O.Ops.meaning c.args.self.now.ops in
+    let l = c.len.ensures in
+    let subs = c.args.self.now.subscriptions.items in
+    let within : c.args.sub.0 < length c.args.self.now.subscriptions.items = omega (arith, l, c.if-at-len.false) in
+    asked_there m h.published c.args.self.now.subscriptions.items h.pasts c.args.sub.0 c.index-subscription.result.now within (sym c.index-subscription.ensures) s

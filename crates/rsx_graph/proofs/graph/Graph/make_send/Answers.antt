@@ -1,0 +1,63 @@
+use Rattle.std.proofs.Common.{refl}
+use Rattle.std.proofs.Common.{◌<◌, ◌∙◌, length, sym, arith}
+use Rattle.rsx_graph.proofs.Graphs.{AllStand-moved, enabled_there, set_same, found}
+use Rattle.rsx_graph.proofs.graph.Graph.make_send.Goals as goal
+
+pub returns-in-Ok-clause-stands : goal.returns-in-Ok-clause-stands
+returns-in-Ok-clause-stands g c = λ h s.
+    let m = g.O.Ops.meaning c.args.self.now.ops in
+    let l = c.len.ensures in
+    let subs = c.args.self.now.subscriptions.items in
+    let within : c.args.sub.0 < length c.args.self.now.subscriptions.items = omega (arith, l, c.if-at-len.false) in
+    AllStand-moved m h.published c.args.self.now.subscriptions.items h.pasts c.args.sub.0 c.index_mut-subscription.result.now c.send.new.self within (sym c.index_mut-subscription.ensures.value) (λ p k. c.in-Ok.ensures.ok h.published p k) s
+
+pub returns-in-Ok-clause-enabled : goal.returns-in-Ok-clause-enabled
+returns-in-Ok-clause-enabled g c =
+    let m = g.O.Ops.meaning c.args.self.now.ops in
+    let l = c.len.ensures in
+    let subs = c.args.self.now.subscriptions.items in
+    let within : c.args.sub.0 < length c.args.self.now.subscriptions.items = omega (arith, l, c.if-at-len.false) in
+    enabled_there m c.args.self.now.subscriptions.items c.args.sub.0 c.index_mut-subscription.result.now _ within (sym c.index_mut-subscription.ensures.value) ∙ c.in-Ok.ensures.enabled
+
+pub returns-in-Err-NotEnabled-clause-err : goal.returns-in-Err-NotEnabled-clause-err
+returns-in-Err-NotEnabled-clause-err g c =
+    let refused = rw c.in-Err-NotEnabled.field-0-is at c.in-Err-NotEnabled.ensures.err in
+    let m = g.O.Ops.meaning c.args.self.now.ops in
+    let l = c.len.ensures in
+    let within : c.args.sub.0 < length c.args.self.now.subscriptions.items = omega (arith, l, c.if-at-len.false) in
+    (within, enabled_there m c.args.self.now.subscriptions.items c.args.sub.0 c.index_mut-subscription.result.now _ within (sym c.index_mut-subscription.ensures.value) ∙ refused)
+
+pub returns-in-Err-NotEnabled-clause-same : goal.returns-in-Err-NotEnabled-clause-same
+returns-in-Err-NotEnabled-clause-same g c =
+    let m = g.O.Ops.meaning c.args.self.now.ops in
+    let l = c.len.ensures in
+    let within : c.args.sub.0 < length c.args.self.now.subscriptions.items = omega (arith, l, c.if-at-len.false) in
+    set_same c.args.self.now.subscriptions.items c.args.sub.0 c.index_mut-subscription.result.now c.send.new.self within (sym c.index_mut-subscription.ensures.value) c.in-Err-NotEnabled.ensures.same
+
+pub returns-in-Err-NoMemory-clause-err : goal.returns-in-Err-NoMemory-clause-err
+returns-in-Err-NoMemory-clause-err g c =
+    let refused = rw c.in-Err-NoMemory.field-0-is at c.in-Err-NoMemory.ensures.err in
+    let m = g.O.Ops.meaning c.args.self.now.ops in
+    let l = c.len.ensures in
+    let within : c.args.sub.0 < length c.args.self.now.subscriptions.items = omega (arith, l, c.if-at-len.false) in
+    (within, enabled_there m c.args.self.now.subscriptions.items c.args.sub.0 c.index_mut-subscription.result.now _ within (sym c.index_mut-subscription.ensures.value) ∙ refused)
+
+pub returns-in-Err-NoMemory-clause-same : goal.returns-in-Err-NoMemory-clause-same
+returns-in-Err-NoMemory-clause-same g c =
+    let m = g.O.Ops.meaning c.args.self.now.ops in
+    let l = c.len.ensures in
+    let within : c.args.sub.0 < length c.args.self.now.subscriptions.items = omega (arith, l, c.if-at-len.false) in
+    set_same c.args.self.now.subscriptions.items c.args.sub.0 c.index_mut-subscription.result.now c.send.new.self within (sym c.index_mut-subscription.ensures.value) c.in-Err-NoMemory.ensures.same
+
+pub returns-in-Ok-clause-effect : goal.returns-in-Ok-clause-effect
+returns-in-Ok-clause-effect g c =
+    let m = g.O.Ops.meaning c.args.self.now.ops in
+    let l = c.len.ensures in
+    let within : c.args.sub.0 < length c.args.self.now.subscriptions.items = omega (arith, l, c.if-at-len.false) in
+    record {
+      old = c.index_mut-subscription.result.now;
+      new = c.send.new.self;
+      there = found c.args.self.now.subscriptions.items c.args.sub.0 c.index_mut-subscription.result.now within (sym c.index_mut-subscription.ensures.value);
+      effect = c.in-Ok.ensures.effect;
+      others = refl;
+    }

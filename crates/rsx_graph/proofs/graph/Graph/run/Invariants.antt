@@ -1,0 +1,11 @@
+use Rattle.std.proofs.Common.{◌≡◌, length, take, vec_capacity}
+use Rattle.rsx_graph.proofs.Graphs.{HasRun}
+use Rattle.rsx_graph.proofs.graph.Graph.run.Given as goal
+
+abbrev pub invariant-loop-step : goal.invariant-loop-step
+invariant-loop-step g l = record {
+  ops : l.self.ops ≡ l.fn.self.ops;
+  count : length l.answers.items ≡ l.step-index;
+  room : vec_capacity l.answers ≡ length l.step-items;
+  run : HasRun (g.O.Ops.meaning l.fn.self.ops) l.fn.self.subscriptions.items l.self.subscriptions.items (take l.step-index l.step-items) l.answers.items;
+}

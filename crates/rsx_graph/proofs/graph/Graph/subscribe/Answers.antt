@@ -1,0 +1,9 @@
+use Rattle.std.proofs.Common.{[]}
+use Rattle.rsx_graph.specs.History.{subscribed}
+use Rattle.rsx_graph.proofs.Graphs.{AllStand-push}
+use Rattle.rsx_graph.proofs.graph.Graph.subscribe.Goals as goal
+
+pub returns-in-Ok-add-clause-stands : goal.returns-in-Ok-add-clause-stands
+returns-in-Ok-add-clause-stands g c = λ h s.
+    let m = g.O.Ops.meaning c.args.self.now.ops in
+    rw c.in-Ok-add.ensures.ok (AllStand-push m h.published c.args.self.now.subscriptions.items h.pasts c.in-Ok.subscription (subscribed c.args.expr.now []) (c.in-Ok.ensures h.published) s)

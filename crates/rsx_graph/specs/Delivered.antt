@@ -1,0 +1,9 @@
+-- The signals that a graph delivered.
+use Rattle.std.specs.Prelude.{ℕ, List}
+use Rattle.rsx_types.specs.declared.names.SubId.{SubId}
+use Rattle.rsx_types.specs.declared.signal.Signal.{Signal}
+
+-- the signals, each with its subscriber, and for how many there is memory
+pub record Delivered (T : Type 0) : Type 0 where
+  pub signals : List (SubId × Signal T)
+  pub room : ℕ

@@ -1,0 +1,245 @@
+-- What has happened so far: histories of a list of edits and moves with their answers.
+use Rattle.std.specs.Prelude.{◌≡◌, ℕ, ◌≤◌, ◌<◌, ℤ, pos, negsuc, zero, suc, Bool, true, false, List, [], ◌∷◌, ◌++◌, length, Option, Some, None, if◌then◌else◌}
+use Rattle.rsx_demand.specs.Demand.{saturating_total}
+use Rattle.rsx_model.specs.Check.{refusal}
+use Rattle.rsx_model.specs.declared.expr.Expr.{Expr}
+use Rattle.rsx_types.specs.Stream.{Stream}
+use Rattle.rsx_types.specs.declared.names.SubId.{SubId}
+use Rattle.rsx_types.specs.declared.names.Tree.{Tree}
+use Rattle.rsx_types.specs.declared.names.Tree.TheVariants.{Sub, Feed}
+use Rattle.rsx_types.specs.declared.names.Move.{Move}
+use Rattle.rsx_types.specs.declared.names.Move.TheVariants.{Ask, Send, Take}
+use Rattle.rsx_types.specs.declared.signal.Cause.TheVariants.{NonPositiveRequest}
+use Rattle.rsx_types.specs.declared.signal.Signal.{Signal}
+use Rattle.rsx_types.specs.declared.signal.Signal.TheVariants.{Next, Complete, Error}
+use Rattle.rsx_graph.specs.declared.state.SubscriptionState.{SubscriptionState}
+use Rattle.rsx_graph.specs.declared.state.SubscriptionState.TheVariants.{Open, Ended, Cancelled, Refused}
+use Rattle.rsx_graph.specs.declared.step.Step.{Step}
+use Rattle.rsx_graph.specs.declared.step.Step.TheVariants.{Subscribe, Request, Cancel, Make}
+use Rattle.rsx_graph.specs.declared.step.Answer.{Answer}
+use Rattle.rsx_graph.specs.declared.step.Answer.TheVariants.{Subscribed, Requested, Cancelled as CancelTaken, Made, Refused as NotDone}
+use Rattle.rsx_graph.specs.declared.refusal.Refusal.{Refusal}
+use Rattle.rsx_graph.specs.declared.refusal.Refusal.TheVariants.{UnknownHub, UnknownSub, TooMany, BadExpr, NotEnabled, NoMemory}
+
+-- ---- one subscriber
+
+-- what has happened to a subscriber: its expression and joins, the signals it received, the items it asked for, how it stands
+pub record Past (T : Type 0) : Type 0 where
+  pub expression : Expr T
+  pub joins : List ℕ
+  pub received : List (Signal T)
+  pub asked : ℕ
+  pub state : SubscriptionState
+
+-- it subscribed
+abbrev pub subscribed : {T : Type 0} → Expr T → List ℕ → Past T
+subscribed e joins = record { expression = e; joins = joins; received = []; asked = 0; state = Open }
+
+-- how a subscription stands after a signal of its expression
+abbrev pub state_after : {T : Type 0} → SubscriptionState → Signal T → SubscriptionState
+state_after s (Next x) = s
+state_after s Complete = Ended
+state_after s (Error c) = Ended
+
+-- it received a signal
+abbrev pub given : {T : Type 0} → Signal T → Past T → Past T
+given s p = record { expression = p.expression; joins = p.joins; received = p.received ++ s ∷ []; asked = p.asked; state = state_after p.state s }
+
+abbrev pub cancelled_state : SubscriptionState → SubscriptionState
+cancelled_state Open = Cancelled
+cancelled_state Ended = Ended
+cancelled_state Cancelled = Cancelled
+cancelled_state Refused = Refused
+
+-- it cancelled; this does nothing unless it was open
+abbrev pub cancelled : {T : Type 0} → Past T → Past T
+cancelled p = record { expression = p.expression; joins = p.joins; received = p.received; asked = p.asked; state = cancelled_state p.state }
+
+-- it asked for n items more
+abbrev pub asked_more : {T : Type 0} → ℕ → Past T → Past T
+asked_more n p = record { expression = p.expression; joins = p.joins; received = p.received; asked = saturating_total p.asked n; state = p.state }
+
+-- it asked for 0 items or fewer: it receives the error, and is closed
+abbrev pub refused : {T : Type 0} → Past T → Past T
+refused p = record { expression = p.expression; joins = p.joins; received = p.received ++ Error NonPositiveRequest ∷ []; asked = p.asked; state = Refused }
+
+abbrev pub requested_open : {T : Type 0} → ℤ → Past T → Past T
+requested_open (pos zero) p = refused p
+requested_open (pos (suc n)) p = asked_more (suc n) p
+requested_open (negsuc n) p = refused p
+
+abbrev pub requested_in : {T : Type 0} → SubscriptionState → ℤ → Past T → Past T
+requested_in Open n p = requested_open n p
+requested_in Ended n p = p
+requested_in Cancelled n p = p
+requested_in Refused n p = p
+
+-- it requested n; this does nothing unless it was open
+abbrev pub requested : {T : Type 0} → ℤ → Past T → Past T
+requested n p = requested_in p.state n p
+
+-- a request of n in this state is a bad one
+abbrev pub is_bad : SubscriptionState → ℤ → Bool
+is_bad Open (pos zero) = true
+is_bad Open (pos (suc n)) = false
+is_bad Open (negsuc n) = true
+is_bad Ended n = false
+is_bad Cancelled n = false
+is_bad Refused n = false
+
+-- what a request answers
+abbrev pub request_answer : {T : Type 0} → SubscriptionState → ℤ → Option (Signal T)
+request_answer s n = if is_bad s n then Some (Error NonPositiveRequest) else None
+
+-- a subscriber is live unless it cancelled or made a bad request
+abbrev pub IsLive : SubscriptionState → Type 0
+IsLive Open = Unit {0}
+IsLive Ended = Unit {0}
+IsLive Cancelled = ⊥
+IsLive Refused = ⊥
+
+-- the items among the signals
+abbrev pub items_in : {T : Type 0} → List (Signal T) → List T
+items_in [] = []
+items_in (Next x ∷ ss) = x ∷ items_in ss
+items_in (Complete ∷ ss) = items_in ss
+items_in (Error c ∷ ss) = items_in ss
+
+-- no ending among them
+abbrev pub IsUnended : {T : Type 0} → List (Signal T) → Type 0
+IsUnended [] = Unit {0}
+IsUnended (Next x ∷ ss) = IsUnended ss
+IsUnended (Complete ∷ ss) = ⊥
+IsUnended (Error c ∷ ss) = ⊥
+
+-- nothing follows an ending
+abbrev pub IsOrderly : {T : Type 0} → List (Signal T) → Type 0
+IsOrderly [] = Unit {0}
+IsOrderly (Next x ∷ ss) = IsOrderly ss
+IsOrderly (Complete ∷ ss) = ss ≡ []
+IsOrderly (Error c ∷ ss) = ss ≡ []
+
+abbrev pub IsPrefixOf : {T : Type 0} → List T → List T → Type 0
+IsPrefixOf {T} xs ys = (rest : List T) × (xs ++ rest ≡ ys)
+
+-- ---- a whole graph
+
+-- what was published at each hub, and what has happened to each subscriber
+pub record History (T : Type 0) : Type 0 where
+  pub published : List (Stream T)
+  pub pasts : List (Past T)
+
+-- nothing has happened
+abbrev pub no_history : {T : Type 0} → History T
+no_history = record { published = []; pasts = [] }
+
+-- the past of subscription i changed
+abbrev pub changed : {A : Type 0} → (A → A) → List A → ℕ → List A
+changed f [] i = []
+changed f (x ∷ xs) zero = f x ∷ xs
+changed f (x ∷ xs) (suc i) = x ∷ changed f xs i
+
+abbrev pub with_past : {T : Type 0} → (Past T → Past T) → SubId → History T → History T
+with_past f i h = record { published = h.published; pasts = changed f h.pasts i.0 }
+
+abbrev pub with_subscriber : {T : Type 0} → Expr T → History T → History T
+with_subscriber e h = record { published = h.published; pasts = h.pasts ++ subscribed e [] ∷ [] }
+
+-- a move was made, and delivered this
+abbrev pub with_made : {T : Type 0} → Option (SubId × Signal T) → History T → History T
+with_made None h = h
+with_made (Some d) h = with_past (given d.1) d.0 h
+
+-- the history after one step with its answer
+abbrev pub extended : {T : Type 0} → History T → Step T → Answer T → History T
+extended h (Subscribe e) (Subscribed i) = with_subscriber e h
+extended h (Request i n) (Requested o) = with_past (requested n) i h
+extended h (Cancel i) CancelTaken = with_past cancelled i h
+extended h (Make mv) (Made o) = with_made o h
+extended h s a = h
+
+-- the history after a list of steps with their answers
+abbrev pub all_extended : {T : Type 0} → History T → List (Step T) → List (Answer T) → History T
+all_extended h (s ∷ ss) (a ∷ as') = all_extended (extended h s a) ss as'
+all_extended h [] as' = h
+all_extended h (s ∷ ss) [] = h
+
+-- the history after deliveries
+abbrev pub delivered : {T : Type 0} → History T → List (SubId × Signal T) → History T
+delivered h [] = h
+delivered h (d ∷ ds) = delivered (with_past (given d.1) d.0 h) ds
+
+-- ---- which answers belong to a step
+
+-- the state of the subscription with this number
+abbrev pub state_at : {T : Type 0} → List (Past T) → ℕ → Option SubscriptionState
+state_at [] i = None
+state_at (p ∷ ps) zero = Some p.state
+state_at (p ∷ ps) (suc i) = state_at ps i
+
+-- why a subscription is refused: the expression first, then the limit, and memory last
+abbrev pub IsSubscribeRefusal : {T : Type 0} → ℕ → Expr T → Refusal → Type 0
+IsSubscribeRefusal count e (BadExpr k) = refusal 0 e ≡ Some k
+IsSubscribeRefusal count e TooMany = (refusal 0 e ≡ None) × (256 ≤ count)
+IsSubscribeRefusal count e NoMemory = (refusal 0 e ≡ None) × (count < 256)
+IsSubscribeRefusal count e UnknownHub = ⊥
+IsSubscribeRefusal count e UnknownSub = ⊥
+IsSubscribeRefusal count e NotEnabled = ⊥
+
+-- the tree in which a move is made
+abbrev pub tree_of : Move → Tree
+tree_of (Ask t n) = t
+tree_of (Send t n) = t
+tree_of (Take t n) = t
+
+-- why a move is refused: an unknown name first, then a move that isn't enabled, and memory last
+abbrev pub IsMakeRefusal : ℕ → Bool → Tree → Refusal → Type 0
+IsMakeRefusal count enabled (Feed h) UnknownHub = Unit {0}
+IsMakeRefusal count enabled (Feed h) _ = ⊥
+IsMakeRefusal count enabled (Sub i) UnknownSub = count ≤ i.0
+IsMakeRefusal count enabled (Sub i) NotEnabled = (i.0 < count) × (enabled ≡ false)
+IsMakeRefusal count enabled (Sub i) NoMemory = (i.0 < count) × (enabled ≡ true)
+IsMakeRefusal count enabled (Sub i) _ = ⊥
+
+-- what a move that was made answers: a Take from a root edge hands its signal on
+abbrev pub IsMadeAnswer : {T : Type 0} → Move → Option (SubId × Signal T) → Type 0
+IsMadeAnswer (Ask t n) o = o ≡ None
+IsMadeAnswer (Send t n) o = o ≡ None
+IsMadeAnswer {T} (Take (Sub i) n) o = (s : Signal T) × (o ≡ Some (i, s))
+IsMadeAnswer (Take (Feed h) n) o = ⊥
+
+-- an answer that belongs to a step after this history: its names are those of the history, and a refusal comes in its case
+abbrev pub Belongs : {T : Type 0} → History T → Step T → Answer T → Type 0
+Belongs h (Subscribe e) (Subscribed i) = (i.0 ≡ length h.pasts) × (refusal 0 e ≡ None) × (length h.pasts < 256)
+Belongs h (Subscribe e) (NotDone r) = IsSubscribeRefusal (length h.pasts) e r
+Belongs h (Request i n) (Requested o) = (s : SubscriptionState) × (state_at h.pasts i.0 ≡ Some s) × (o ≡ request_answer s n)
+Belongs h (Request i n) (NotDone r) = (r ≡ UnknownSub) × (length h.pasts ≤ i.0)
+Belongs h (Cancel i) CancelTaken = i.0 < length h.pasts
+Belongs h (Cancel i) (NotDone r) = (r ≡ UnknownSub) × (length h.pasts ≤ i.0)
+Belongs h (Make mv) (Made o) = IsMadeAnswer mv o
+Belongs h (Make mv) (NotDone r) = (enabled : Bool) × IsMakeRefusal (length h.pasts) enabled (tree_of mv) r
+Belongs h s a = ⊥
+
+-- each answer belongs to its step
+abbrev pub AllBelong : {T : Type 0} → History T → List (Step T) → List (Answer T) → Type 0
+AllBelong h [] [] = Unit {0}
+AllBelong h (s ∷ ss) (a ∷ as') = Belongs h s a × AllBelong (extended h s a) ss as'
+AllBelong h [] (a ∷ as') = ⊥
+AllBelong h (s ∷ ss) [] = ⊥
+
+-- the subscriber with this number asked for so many items
+abbrev pub HasAsked : {T : Type 0} → List (Past T) → ℕ → ℕ → Type 0
+HasAsked [] i n = ⊥
+HasAsked (p ∷ ps) zero n = n ≡ p.asked
+HasAsked (p ∷ ps) (suc i) n = HasAsked ps i n
+
+-- why a look at a subscription is refused
+abbrev pub IsLookRefusal : ℕ → SubId → Refusal → Type 0
+IsLookRefusal count i UnknownSub = count ≤ i.0
+IsLookRefusal count i NoMemory = i.0 < count
+IsLookRefusal count i _ = ⊥
+
+-- why a look at a tree is refused
+abbrev pub IsTreeRefusal : ℕ → Tree → Refusal → Type 0
+IsTreeRefusal count (Sub i) r = IsLookRefusal count i r
+IsTreeRefusal count (Feed h) r = r ≡ UnknownHub

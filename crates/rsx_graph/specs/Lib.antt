@@ -1,0 +1,9 @@
+-- Definitions that contracts cite.
+pub mod Built
+pub mod Delivered
+pub mod Edges
+pub mod Headline
+pub mod History
+pub mod Pumped
+pub mod Stands
+pub mod Tree

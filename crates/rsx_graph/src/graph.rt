@@ -1,0 +1,412 @@
+//! A graph of subscriptions.
+
+ghost use Rattle.std.specs.Prelude.{◌≡◌, ◌<◌, ◌≤◌, ◌++◌, ◌∷◌, [], List, length, OnOk, OnErr, IfOk, IfErr, None, Some, true, false};
+ghost use Rattle.rsx_types.specs.Stream.{Stream};
+ghost use Rattle.rsx_model.specs.Check.{refusal};
+ghost use Rattle.rsx_graph.specs.History.{History, no_history, subscribed, given, with_subscriber, with_past, with_made, cancelled, requested, extended, all_extended, IsSubscribeRefusal, IsMakeRefusal, IsMadeAnswer, Belongs, AllBelong, HasAsked, IsLookRefusal, IsTreeRefusal, tree_of};
+ghost use Rattle.rsx_graph.specs.Stands.{Stands, StandsFor, IsRequested, IsOwed, HasNotes, HasNotesAt, IsMade, IsMadeAt, enabled_in_tree, enabled_at};
+ghost use Rattle.rsx_graph.specs.Pumped.{AllPumped};
+
+use crate::build::build;
+use crate::deliveries::Deliveries;
+use crate::edge::Edge;
+use crate::queue::SignalQueue;
+use crate::refusal::Refusal;
+use crate::state::SubscriptionState;
+use crate::step::{Answer, Pumped, Step};
+use crate::subscription::Subscription;
+use rsx_model::{Expr, check_expr};
+use rsx_sources::NotMade;
+use rsx_types::{Ending, Move, NoMemory, NodeId, Note, Ops, Signal, StreamValue, SubId, Tree};
+use std::alloc::Global;
+
+/// Subscriptions to expressions, driven by edits and moves.
+#[derive(Drop)]
+pub struct Graph<O: Ops> {
+    /// The functions of the caller.
+    pub ops: O,
+    /// The subscriptions, in the order of their making.
+    pub subscriptions: Vec<Subscription<O::Item>>,
+}
+
+impl<O: Ops> Graph<O> {
+    /// How many subscriptions a graph may have.
+    pub const SUBSCRIPTIONS: usize = 256;
+
+    /// A graph with no subscription.
+    pub fn new(alloc: Global, ops: O) -> Result<Graph<O>, Refusal>
+        ensures ops { IfOk result (λ g. g.ops ≡ ops) }
+        ensures stands { IfOk result (λ g. StandsFor (O.meaning ops) g.subscriptions.items no_history) }
+    {
+        Ok(Graph {
+            ops,
+            subscriptions: Vec::new(alloc),
+        })
+    }
+
+    /// Subscribes to an expression.
+    pub fn subscribe(&mut self, alloc: Global, expr: &Expr<O::Item>) -> Result<SubId, Refusal>
+        ensures ops { self.new.ops ≡ self.old.ops }
+        ensures stands { OnOk result ((h : History O.Item) → StandsFor (O.meaning self.old.ops) self.old.subscriptions.items h → StandsFor (O.meaning self.old.ops) self.new.subscriptions.items (with_subscriber expr.now h)) }
+        ensures id { IfOk result (λ id. (id.0 ≡ length self.old.subscriptions.items) × (refusal 0 expr.now ≡ None) × (length self.old.subscriptions.items < 256)) }
+        ensures err { IfErr result (λ r. IsSubscribeRefusal (length self.old.subscriptions.items) expr.now r) }
+        ensures same { OnErr result (self.new.subscriptions.items ≡ self.old.subscriptions.items) }
+    {
+        if let Err(kind) = check_expr(expr, 0) {
+            return Err(Refusal::BadExpr(kind));
+        }
+        let count = self.subscriptions.len();
+        if count >= 256 {
+            return Err(Refusal::TooMany);
+        }
+        let subscription = match new_subscription(alloc, &self.ops, expr) {
+            Ok(subscription) => subscription,
+            Err(NoMemory) => return Err(Refusal::NoMemory),
+        };
+        match add(&mut self.subscriptions, subscription) {
+            Ok(()) => Ok(SubId(count as u32)),
+            Err(NoMemory) => Err(Refusal::NoMemory),
+        }
+    }
+
+    /// Cancels a subscription (rules 3.5 to 3.7). Where it isn't open, nothing happens.
+    pub fn cancel(&mut self, sub: SubId) -> Result<(), Refusal>
+        ensures ops { self.new.ops ≡ self.old.ops }
+        ensures stands { OnOk result ((h : History O.Item) → StandsFor (O.meaning self.old.ops) self.old.subscriptions.items h → StandsFor (O.meaning self.old.ops) self.new.subscriptions.items (with_past cancelled sub h)) }
+        ensures known { OnOk result (sub.0 < length self.old.subscriptions.items) }
+        ensures err { IfErr result (λ r. (r ≡ Refusal.UnknownSub) × (length self.old.subscriptions.items ≤ sub.0)) }
+        ensures same { OnErr result (self.new.subscriptions.items ≡ self.old.subscriptions.items) }
+    {
+        let at = sub.0 as usize;
+        if at >= self.subscriptions.len() {
+            return Err(Refusal::UnknownSub);
+        }
+        let subscription = &mut self.subscriptions[at];
+        subscription.cancel();
+        Ok(())
+    }
+
+    /// Requests `n` items more (rules 3.8, 3.9 and 3.17). The signal is the error of a bad request. Where the subscription
+    /// isn't open, nothing happens.
+    pub fn request(&mut self, sub: SubId, n: i64) -> Result<Option<Signal<O::Item>>, Refusal>
+        ensures ops { self.new.ops ≡ self.old.ops }
+        ensures stands { OnOk result ((h : History O.Item) → StandsFor (O.meaning self.old.ops) self.old.subscriptions.items h → StandsFor (O.meaning self.old.ops) self.new.subscriptions.items (with_past (requested n) sub h)) }
+        ensures answer { IfOk result (λ o. IsRequested self.old.subscriptions.items sub n o) }
+        ensures err { IfErr result (λ r. (r ≡ Refusal.UnknownSub) × (length self.old.subscriptions.items ≤ sub.0)) }
+        ensures same { OnErr result (self.new.subscriptions.items ≡ self.old.subscriptions.items) }
+    {
+        let at = sub.0 as usize;
+        if at >= self.subscriptions.len() {
+            return Err(Refusal::UnknownSub);
+        }
+        let subscription = &mut self.subscriptions[at];
+        Ok(subscription.request(n))
+    }
+
+    /// Makes one move. A Take from the root edge of a subscription answers the signal that it delivered.
+    pub fn make(
+        &mut self,
+        alloc: Global,
+        step: Move,
+    ) -> Result<Option<(SubId, Signal<O::Item>)>, Refusal>
+        ensures ops { self.new.ops ≡ self.old.ops }
+        ensures stands { IfOk result (λ o. (h : History O.Item) → StandsFor (O.meaning self.old.ops) self.old.subscriptions.items h → StandsFor (O.meaning self.old.ops) self.new.subscriptions.items (with_made o h)) }
+        ensures answer { IfOk result (λ o. IsMadeAnswer step o) }
+        ensures enabled { OnOk result (enabled_in_tree (O.meaning self.old.ops) self.old.subscriptions.items (tree_of step) step ≡ true) }
+        ensures effect { IfOk result (λ o. IsMade (O.meaning self.old.ops) step (tree_of step) self.old.subscriptions.items self.new.subscriptions.items o) }
+        ensures err { IfErr result (λ r. IsMakeRefusal (length self.old.subscriptions.items) (enabled_in_tree (O.meaning self.old.ops) self.old.subscriptions.items (tree_of step) step) (tree_of step) r) }
+        ensures same { OnErr result (self.new.subscriptions.items ≡ self.old.subscriptions.items) }
+    {
+        match step {
+            Move::Ask(Tree::Sub(sub), node) => match self.make_ask(sub, node) {
+                Ok(()) => Ok(None),
+                Err(why) => Err(why),
+            },
+            Move::Send(Tree::Sub(sub), node) => match self.make_send(alloc, sub, node) {
+                Ok(()) => Ok(None),
+                Err(why) => Err(why),
+            },
+            Move::Take(Tree::Sub(sub), node) => match self.make_take(sub, node) {
+                Ok(signal) => Ok(Some((sub, signal))),
+                Err(why) => Err(why),
+            },
+            Move::Ask(Tree::Feed(_), _)
+            | Move::Send(Tree::Feed(_), _)
+            | Move::Take(Tree::Feed(_), _) => Err(Refusal::UnknownHub),
+        }
+    }
+
+    fn make_ask(&mut self, sub: SubId, node: NodeId) -> Result<(), Refusal>
+        ensures ops { self.new.ops ≡ self.old.ops }
+        ensures stands { OnOk result ((h : History O.Item) → StandsFor (O.meaning self.old.ops) self.old.subscriptions.items h → StandsFor (O.meaning self.old.ops) self.new.subscriptions.items h) }
+        ensures enabled { OnOk result (enabled_at (O.meaning self.old.ops) self.old.subscriptions.items sub.0 (Move.Ask (Tree.Sub sub) node) ≡ true) }
+        ensures effect { OnOk result (IsMadeAt (O.meaning self.old.ops) (Move.Ask (Tree.Sub sub) node) sub.0 self.old.subscriptions.items self.new.subscriptions.items None) }
+        ensures err { IfErr result (λ r. IsMakeRefusal (length self.old.subscriptions.items) (enabled_at (O.meaning self.old.ops) self.old.subscriptions.items sub.0 (Move.Ask (Tree.Sub sub) node)) (Tree.Sub sub) r) }
+        ensures same { OnErr result (self.new.subscriptions.items ≡ self.old.subscriptions.items) }
+    {
+        let at = sub.0 as usize;
+        if at >= self.subscriptions.len() {
+            return Err(Refusal::UnknownSub);
+        }
+        let subscription = &mut self.subscriptions[at];
+        match subscription.ask(node.0) {
+            Ok(()) => Ok(()),
+            Err(_) => Err(Refusal::NotEnabled),
+        }
+    }
+
+    fn make_send(&mut self, alloc: Global, sub: SubId, node: NodeId) -> Result<(), Refusal>
+        ensures ops { self.new.ops ≡ self.old.ops }
+        ensures stands { OnOk result ((h : History O.Item) → StandsFor (O.meaning self.old.ops) self.old.subscriptions.items h → StandsFor (O.meaning self.old.ops) self.new.subscriptions.items h) }
+        ensures enabled { OnOk result (enabled_at (O.meaning self.old.ops) self.old.subscriptions.items sub.0 (Move.Send (Tree.Sub sub) node) ≡ true) }
+        ensures effect { OnOk result (IsMadeAt (O.meaning self.old.ops) (Move.Send (Tree.Sub sub) node) sub.0 self.old.subscriptions.items self.new.subscriptions.items None) }
+        ensures err { IfErr result (λ r. IsMakeRefusal (length self.old.subscriptions.items) (enabled_at (O.meaning self.old.ops) self.old.subscriptions.items sub.0 (Move.Send (Tree.Sub sub) node)) (Tree.Sub sub) r) }
+        ensures same { OnErr result (self.new.subscriptions.items ≡ self.old.subscriptions.items) }
+    {
+        let at = sub.0 as usize;
+        if at >= self.subscriptions.len() {
+            return Err(Refusal::UnknownSub);
+        }
+        let ops = self.ops;
+        let subscription = &mut self.subscriptions[at];
+        match subscription.send(alloc, &ops, node.0) {
+            Ok(()) => Ok(()),
+            Err(NotMade::NotEnabled) => Err(Refusal::NotEnabled),
+            Err(NotMade::NoMemory) => Err(Refusal::NoMemory),
+        }
+    }
+
+    fn make_take(&mut self, sub: SubId, node: NodeId) -> Result<Signal<O::Item>, Refusal>
+        ensures ops { self.new.ops ≡ self.old.ops }
+        ensures stands { IfOk result (λ s. (h : History O.Item) → StandsFor (O.meaning self.old.ops) self.old.subscriptions.items h → StandsFor (O.meaning self.old.ops) self.new.subscriptions.items (with_past (given s) sub h)) }
+        ensures enabled { OnOk result (enabled_at (O.meaning self.old.ops) self.old.subscriptions.items sub.0 (Move.Take (Tree.Sub sub) node) ≡ true) }
+        ensures effect { IfOk result (λ s. IsMadeAt (O.meaning self.old.ops) (Move.Take (Tree.Sub sub) node) sub.0 self.old.subscriptions.items self.new.subscriptions.items (Some (sub, s))) }
+        ensures err { IfErr result (λ r. IsMakeRefusal (length self.old.subscriptions.items) (enabled_at (O.meaning self.old.ops) self.old.subscriptions.items sub.0 (Move.Take (Tree.Sub sub) node)) (Tree.Sub sub) r) }
+        ensures same { OnErr result (self.new.subscriptions.items ≡ self.old.subscriptions.items) }
+    {
+        let at = sub.0 as usize;
+        if at >= self.subscriptions.len() {
+            return Err(Refusal::UnknownSub);
+        }
+        let subscription = &mut self.subscriptions[at];
+        match subscription.take(node.0) {
+            Some(signal) => Ok(signal),
+            None => Err(Refusal::NotEnabled),
+        }
+    }
+
+    /// Makes enabled moves, in an order of its own, until none is enabled (Idle) or `budget` moves were made (Budget); where
+    /// both hold it answers Idle. What is delivered is put into `out`. Where it meets want of memory it answers G8; the
+    /// moves made before stand, and their deliveries are in `out`.
+    pub fn pump(
+        &mut self,
+        alloc: Global,
+        budget: u32,
+        out: &mut Deliveries<O::Item>,
+    ) -> Result<Pumped, Refusal>
+        ensures ops { self.new.ops ≡ self.old.ops }
+        ensures pumped { AllPumped (O.meaning self.old.ops) self.old.subscriptions.items out.old.signals self.new.subscriptions.items out.new.signals }
+        ensures err { IfErr result (λ r. r ≡ Refusal.NoMemory) }
+    {
+        let mut left = budget;
+        let count = self.subscriptions.len().min(256) as u32;
+        for at in 0..count {
+            left = match self.pump_one(alloc, SubId(at), left, out) {
+                Ok(left) => left,
+                Err(why) => return Err(why),
+            };
+        }
+        let idle = left > 0 || self.is_idle();
+        if idle {
+            Ok(Pumped::Idle)
+        } else {
+            Ok(Pumped::Budget)
+        }
+    }
+
+    /// Drives one subscription, and answers how many of the budget are left.
+    fn pump_one(
+        &mut self,
+        alloc: Global,
+        sub: SubId,
+        budget: u32,
+        out: &mut Deliveries<O::Item>,
+    ) -> Result<u32, Refusal>
+        requires { sub.0 < length self.old.subscriptions.items }
+        ensures ops { self.new.ops ≡ self.old.ops }
+        ensures count { length self.new.subscriptions.items ≡ length self.old.subscriptions.items }
+        ensures pumped { AllPumped (O.meaning self.old.ops) self.old.subscriptions.items out.old.signals self.new.subscriptions.items out.new.signals }
+        ensures err { IfErr result (λ r. r ≡ Refusal.NoMemory) }
+    {
+        let ops = self.ops;
+        let subscription = &mut self.subscriptions[sub.0 as usize];
+        match subscription.pump(alloc, &ops, sub, budget, out) {
+            Ok(left) => Ok(left),
+            Err(NoMemory) => Err(Refusal::NoMemory),
+        }
+    }
+
+    /// Whether no move is enabled.
+    fn is_idle(&self) -> bool {
+        self.subscriptions.iter().all(|s| s.is_idle())
+    }
+
+    /// What the graph still owes a subscriber: what is on its root edge, and then what comes out of its tree where nothing
+    /// more is published and nothing more is chosen. For a subscriber that got its ending or isn't live it is nothing, Open.
+    pub fn owed(&self, alloc: Global, sub: SubId) -> Result<StreamValue<O::Item>, Refusal>
+        ensures owes { IfOk result (λ v. (h : History O.Item) → StandsFor (O.meaning self.now.ops) self.now.subscriptions.items h → IsOwed (O.meaning self.now.ops) self.now.subscriptions.items h sub v) }
+        ensures err { IfErr result (λ r. IsLookRefusal (length self.now.subscriptions.items) sub r) }
+    {
+        let at = sub.0 as usize;
+        if at >= self.subscriptions.len() {
+            return Err(Refusal::UnknownSub);
+        }
+        let subscription = &self.subscriptions[at];
+        match subscription.state {
+            SubscriptionState::Open => {}
+            _ => return Ok(StreamValue::new(Vec::new(alloc), Ending::Open)),
+        }
+        match subscription.owed(alloc, &self.ops) {
+            Ok(value) => Ok(value),
+            Err(NoMemory) => Err(Refusal::NoMemory),
+        }
+    }
+
+    /// What the nodes of a tree recorded, in pre-order.
+    pub fn notes(&self, alloc: Global, tree: Tree) -> Result<Vec<Note>, Refusal>
+        ensures notes { IfOk result (λ v. HasNotes self.now.subscriptions.items tree v.items) }
+        ensures err { IfErr result (λ r. IsTreeRefusal (length self.now.subscriptions.items) tree r) }
+    {
+        match tree {
+            Tree::Feed(_) => Err(Refusal::UnknownHub),
+            Tree::Sub(sub) => match self.notes_of_sub(alloc, sub) {
+                Ok(notes) => Ok(notes),
+                Err(why) => Err(why),
+            },
+        }
+    }
+
+    fn notes_of_sub(&self, alloc: Global, sub: SubId) -> Result<Vec<Note>, Refusal>
+        ensures notes { IfOk result (λ v. HasNotesAt self.now.subscriptions.items sub v.items) }
+        ensures err { IfErr result (λ r. IsLookRefusal (length self.now.subscriptions.items) sub r) }
+    {
+        let at = sub.0 as usize;
+        if at >= self.subscriptions.len() {
+            return Err(Refusal::UnknownSub);
+        }
+        let subscription = &self.subscriptions[at];
+        match subscription.tree.notes(alloc) {
+            Ok(notes) => Ok(notes),
+            Err(NoMemory) => Err(Refusal::NoMemory),
+        }
+    }
+
+    /// The joins of a tree's hub leaves, from left to right; no tree has one yet.
+    pub fn joins(&self, alloc: Global, tree: Tree) -> Result<Vec<u64>, Refusal>
+        ensures joins { IfOk result (λ v. v.items ≡ []) }
+        ensures err { IfErr result (λ r. IsTreeRefusal (length self.now.subscriptions.items) tree r) }
+    {
+        let Tree::Sub(sub) = tree else {
+            return Err(Refusal::UnknownHub);
+        };
+        if sub.0 as usize >= self.subscriptions.len() {
+            return Err(Refusal::UnknownSub);
+        }
+        Ok(Vec::new(alloc))
+    }
+
+    /// How many items a subscriber asked for. It takes no memory.
+    pub fn asked(&self, sub: SubId) -> Result<u64, Refusal>
+        ensures asked { IfOk result (λ n. (h : History O.Item) → StandsFor (O.meaning self.now.ops) self.now.subscriptions.items h → HasAsked h.pasts sub.0 n) }
+        ensures err { IfErr result (λ r. (r ≡ Refusal.UnknownSub) × (length self.now.subscriptions.items ≤ sub.0)) }
+    {
+        let at = sub.0 as usize;
+        if at >= self.subscriptions.len() {
+            return Err(Refusal::UnknownSub);
+        }
+        let subscription = &self.subscriptions[at];
+        Ok(subscription.root.demand.asked)
+    }
+
+    /// Makes one step.
+    pub fn step(&mut self, alloc: Global, step: &Step<O::Item>) -> Answer<O::Item>
+        ensures ops { self.new.ops ≡ self.old.ops }
+        ensures stands { (h : History O.Item) → StandsFor (O.meaning self.old.ops) self.old.subscriptions.items h → StandsFor (O.meaning self.old.ops) self.new.subscriptions.items (extended h step.now result) }
+        ensures belongs { (h : History O.Item) → StandsFor (O.meaning self.old.ops) self.old.subscriptions.items h → Belongs h step.now result }
+    {
+        match step {
+            Step::Subscribe(expr) => match self.subscribe(alloc, expr) {
+                Ok(id) => Answer::Subscribed(id),
+                Err(why) => Answer::Refused(why),
+            },
+            Step::Request(sub, n) => match self.request(*sub, *n) {
+                Ok(signal) => Answer::Requested(signal),
+                Err(why) => Answer::Refused(why),
+            },
+            Step::Cancel(sub) => match self.cancel(*sub) {
+                Ok(()) => Answer::Cancelled,
+                Err(why) => Answer::Refused(why),
+            },
+            Step::Make(what) => match self.make(alloc, *what) {
+                Ok(delivered) => Answer::Made(delivered),
+                Err(why) => Answer::Refused(why),
+            },
+        }
+    }
+
+    /// Makes the steps, in their order, refused ones included, and answers each. Room for all answers is made before the
+    /// first step; where that is refused nothing is done, and the list comes back (G8).
+    pub fn run(
+        &mut self,
+        alloc: Global,
+        steps: Vec<Step<O::Item>>,
+    ) -> Result<Vec<Answer<O::Item>>, Vec<Step<O::Item>>>
+        ensures ops { self.new.ops ≡ self.old.ops }
+        ensures stands { IfOk result (λ answers. (h : History O.Item) → StandsFor (O.meaning self.old.ops) self.old.subscriptions.items h → StandsFor (O.meaning self.old.ops) self.new.subscriptions.items (all_extended h steps.items answers.items)) }
+        ensures belongs { IfOk result (λ answers. (h : History O.Item) → StandsFor (O.meaning self.old.ops) self.old.subscriptions.items h → AllBelong h steps.items answers.items) }
+        ensures err { IfErr result (λ back. (back.items ≡ steps.items) × (self.new.subscriptions.items ≡ self.old.subscriptions.items)) }
+    {
+        let mut answers = match Vec::with_capacity(alloc, steps.len()) {
+            Ok(answers) => answers,
+            Err(_) => return Err(steps),
+        };
+        for step in &steps {
+            let answer = self.step(alloc, step);
+            answers.push_reserved(answer);
+        }
+        Ok(answers)
+    }
+}
+
+/// Puts a subscription behind the others.
+fn add<T: Drop>(
+    subscriptions: &mut Vec<Subscription<T>>,
+    subscription: Subscription<T>,
+) -> Result<(), NoMemory>
+    ensures ok { OnOk result (subscriptions.new.items ≡ subscriptions.old.items ++ subscription ∷ []) }
+    ensures err { OnErr result (subscriptions.new.items ≡ subscriptions.old.items) }
+{
+    match subscriptions.push(subscription) {
+        Ok(()) => Ok(()),
+        Err(_) => Err(NoMemory),
+    }
+}
+
+/// A subscription that has just begun.
+fn new_subscription<O: Ops>(
+    alloc: Global,
+    ops: &O,
+    expr: &Expr<O::Item>,
+) -> Result<Subscription<O::Item>, NoMemory>
+    requires { refusal 0 expr.now ≡ None }
+    ensures { IfOk result (λ s. (published : List (Stream O.Item)) → Stands (O.meaning ops.now) published s (subscribed expr.now [])) }
+{
+    let queue = SignalQueue::new(alloc)?;
+    let tree = build(alloc, ops, expr)?;
+    Ok(Subscription {
+        tree,
+        root: Edge::new(),
+        queue,
+        state: SubscriptionState::Open,
+    })
+}

@@ -1,0 +1,21 @@
+//! The headline, for whoever reads nothing else.
+
+ghost use Rattle.std.specs.Prelude.{List};
+ghost use Rattle.rsx_types.specs.Meaning.{Meaning};
+ghost use Rattle.rsx_graph.specs.declared.subscription.Subscription.{Subscription as AnySubscription};
+ghost use Rattle.rsx_graph.specs.History.{History};
+ghost use Rattle.rsx_graph.specs.Stands.{StandsFor};
+ghost use Rattle.rsx_graph.specs.Headline.{Headline};
+
+use rsx_types::Ops;
+
+/// The headline: wherever the subscriptions of a graph stand for a history, what each live subscriber received, followed
+/// by what it is still owed, is its expression evaluated from scratch; it received no more than it asked for and nothing
+/// after an ending; and a subscriber that isn't live holds a prefix.
+///
+/// `Graph::new` stands for the history in which nothing has happened, and `Graph::run`, like each single call of a graph,
+/// leads from the history so far to the one that its steps and answers extend it to. So the sentence holds after any list
+/// of edits and moves, in any order. The function does nothing; its contract is the sentence.
+pub fn headline<O: Ops>()
+    ensures { (m : Meaning O.Item) (subs : List (AnySubscription O.Item)) (h : History O.Item) → StandsFor m subs h → Headline m subs h }
+{}

@@ -1,0 +1,45 @@
+//! Why a call of a graph was refused.
+
+ghost use Rattle.std.specs.Prelude.{◌≡◌};
+
+use rsx_model::BadExpr;
+use rsx_types::NoMemory;
+use std::alloc::AllocFailed;
+use thiserror::Error;
+
+/// Why a call of a graph was refused. After a refusal the graph is as it was.
+#[derive(Clone, Copy, Debug, PartialEq, Eq, Error)]
+pub enum Refusal {
+    /// G1: no such hub, or the feed of a hub that has none.
+    #[error("unknown hub")]
+    UnknownHub,
+    /// G2: no such subscription.
+    #[error("unknown subscription")]
+    UnknownSub,
+    /// G5: the graph has 256 subscriptions.
+    #[error("too many")]
+    TooMany,
+    /// G6: the expression goes past a limit.
+    #[error("bad expression: {0}")]
+    BadExpr(BadExpr),
+    /// G7: the move is not enabled.
+    #[error("move not enabled")]
+    NotEnabled,
+    /// G8: a growth was refused.
+    #[error("out of memory")]
+    NoMemory,
+}
+
+impl Refusal {
+    /// The refusal's name, G1 to G8.
+    pub fn name(self) -> &'static str {
+        match self {
+            Refusal::UnknownHub => "G1",
+            Refusal::UnknownSub => "G2",
+            Refusal::TooMany => "G5",
+            Refusal::BadExpr(_) => "G6",
+            Refusal::NotEnabled => "G7",
+            Refusal::NoMemory => "G8",
+        }
+    }
+}
