@@ -1,0 +1,3 @@
+-- Lemmas that proofs cite.
+pub mod Lengths
+pub mod Lists

@@ -1,0 +1,15 @@
+use Rattle.std.proofs.Common.{◌≡◌, ◌∙◌, sym, ap, refl, arith, length}
+use Rattle.rsx_demo.proofs.Lists.{items_of_one, differ_at}
+use Rattle.rsx_demo.proofs.val.+same.Goals as goal
+
+pub is_same_list-returns-then-xs_items-ys_items-clause-no : goal.is_same_list-returns-then-xs_items-ys_items-clause-no
+is_same_list-returns-then-xs_items-ys_items-clause-no t c _ same =
+    let lists = items_of_one _ _ _ _ c.xs.view_is c.ys.view_is same in
+    let slices : c.as_slice-xs_items.result.now ≡ c.as_slice-ys_items.result.now = c.as_slice-xs_items.ensures.value ∙ lists ∙ sym c.as_slice-ys_items.ensures.value in
+    absurd (omega (arith, ap length slices))
+
+pub is_same_list-returns-then-not-is_same_val-clause-no : goal.is_same_list-returns-then-not-is_same_val-clause-no
+is_same_list-returns-then-not-is_same_val-clause-no t c _ same =
+    let lists = items_of_one _ _ _ _ c.xs.view_is c.ys.view_is same in
+    let slices : c.as_slice-xs_items.result.now ≡ c.as_slice-ys_items.result.now = c.as_slice-xs_items.ensures.value ∙ lists ∙ sym c.as_slice-ys_items.ensures.value in
+    differ_at _ _ c.loop-i.i _ _ c.loop-i-test.true c.index-xs_items-i.is c.index-ys_items-i.is (λ e. c.if-not-is_same_val.ensures.no refl e) slices

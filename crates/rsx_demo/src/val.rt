@@ -1,0 +1,171 @@
+//! Items that are numbers or lists.
+
+ghost use Rattle.std.specs.Prelude.{◌≡◌, ◌≢◌, ◌==◌, true, false, IfOk};
+
+use rsx_types::NoMemory;
+use std::alloc::Global;
+use std::fmt;
+use std::marker::Model;
+
+/// An item of the demonstration.
+#[cycle(val)]
+#[derive(Drop)]
+pub enum Val {
+    /// A number.
+    Int(i64),
+    /// A list of items.
+    List(Vals),
+}
+
+/// The items of a list.
+#[cycle(val)]
+#[derive(Drop)]
+pub struct Vals {
+    items: Vec<Val>,
+}
+
+impl Model for Vals {
+    ghost use Rattle.rsx_demo.specs.Data.{Data, data_code, data_size};
+
+    ghost Value = { Data };
+
+    ghost coded = { data_code };
+
+    ghost use Rattle.rsx_demo.specs.Items.{data_of};
+
+    ghost view = { λ v. data_of v.items.items };
+
+    ghost size = { data_size };
+
+    ghost use Rattle.rsx_demo.specs.Falls.{most_le};
+
+    ghost size_decreases = { λ v h. most_le v };
+}
+
+impl Vals {
+    ghost use Rattle.rsx_demo.specs.Data.{data_len};
+    ghost use Rattle.rsx_demo.specs.Items.{data_of};
+
+    /// A list of these items. It takes no memory.
+    pub fn new(items: Vec<Val>) -> Vals
+        ensures { result ≡ data_of items.items }
+    {
+        Vals { items }
+    }
+
+    /// The items, in their order.
+    pub fn as_slice(&self) -> &[Val]
+        ensures { data_of result.now ≡ self.now }
+    {
+        self.items.as_slice()
+    }
+
+    /// How many items it has.
+    pub fn len(&self) -> usize
+        ensures { result ≡ data_len self.now }
+    {
+        self.as_slice().len()
+    }
+
+    /// Whether it has none.
+    pub fn is_empty(&self) -> bool
+        ensures { result ≡ (data_len self.now == 0) }
+    {
+        self.len() == 0
+    }
+}
+
+/// A copy of an item.
+///
+/// # Errors
+///
+/// `NoMemory` where a growth was refused.
+#[cycle(copy)]
+pub fn copy_val(alloc: Global, x: &Val) -> Result<Val, NoMemory>
+    ensures { IfOk result (λ y. y ≡ x.now) }
+{
+    match x {
+        Val::Int(n) => Ok(Val::Int(*n)),
+        Val::List(items) => Ok(Val::List(copy_vals(alloc, items)?)),
+    }
+}
+
+#[cycle(copy)]
+fn copy_vals(alloc: Global, x: &Vals) -> Result<Vals, NoMemory>
+    ensures { IfOk result (λ y. y ≡ x.now) }
+{
+    let mut out = Vec::new(alloc);
+    for item in &x.items {
+        out.push(copy_val(alloc, item)?)?;
+    }
+    Ok(Vals { items: out })
+}
+
+/// Copies of these items, in their order.
+///
+/// # Errors
+///
+/// `NoMemory` where a growth was refused.
+pub fn copy_items(alloc: Global, xs: &[Val]) -> Result<Vec<Val>, NoMemory>
+    ensures { IfOk result (λ ys. ys.items ≡ xs.now) }
+{
+    let mut out = Vec::new(alloc);
+    for x in xs {
+        out.push(copy_val(alloc, x)?)?;
+    }
+    Ok(out)
+}
+
+/// Whether two items are the same: equal numbers, or lists of the same items.
+#[cycle(same)]
+pub fn is_same_val(x: &Val, y: &Val) -> bool
+    ensures yes { result ≡ true → x.now ≡ y.now }
+    ensures no { result ≡ false → x.now ≢ y.now }
+{
+    match (x, y) {
+        (Val::Int(m), Val::Int(n)) => m == n,
+        (Val::List(xs), Val::List(ys)) => is_same_list(xs, ys),
+        _ => false,
+    }
+}
+
+#[cycle(same)]
+fn is_same_list(xs: &Vals, ys: &Vals) -> bool
+    ensures yes { result ≡ true → xs.now ≡ ys.now }
+    ensures no { result ≡ false → xs.now ≢ ys.now }
+{
+    let xs_items = xs.items.as_slice();
+    let ys_items = ys.items.as_slice();
+    if xs_items.len() != ys_items.len() {
+        return false;
+    }
+    for (i, x) in xs_items.iter().enumerate() {
+        if !is_same_val(x, &ys_items[i]) {
+            return false;
+        }
+    }
+    true
+}
+
+impl fmt::Display for Val {
+    #[cycle(shown)]
+    fn fmt<W: fmt::Write>(&self, f: &mut fmt::Formatter<W>) -> fmt::Result {
+        match self {
+            Val::Int(n) => write!(f, "{n}"),
+            Val::List(items) => write!(f, "[{items}]"),
+        }
+    }
+}
+
+impl fmt::Display for Vals {
+    #[cycle(shown)]
+    fn fmt<W: fmt::Write>(&self, f: &mut fmt::Formatter<W>) -> fmt::Result {
+        for (i, item) in self.items.iter().enumerate() {
+            if i > 0 {
+                f.write_str(" ")?;
+            }
+            write!(f, "{item}")?;
+        }
+        Ok(())
+    }
+}
