@@ -1,0 +1,86 @@
+#![tactic(auto)]
+//! The program `rsx`: runs a script of commands over a graph of reactive streams.
+//!
+//! `rsx run` reads standard input, one command a line, and writes one answer for each to standard output. Exit status 0
+//! where the input ended; 1 after a line that can't be read; 2 after a command line that `clap` refused or that asked
+//! for help; 3 after a read or a write that failed; 4 where memory was wanted.
+
+mod command;
+mod drive;
+mod fault;
+mod parse;
+mod print;
+mod session;
+mod words;
+
+use clap::error::ErrorKind;
+use clap::{Command, Error};
+use drive::{Mode, drive};
+use fault::AppFault;
+use std::alloc::Global;
+use std::process::ExitCode;
+use std::rt::Env;
+use std::{env, io};
+
+/// The exit status after a command line that was refused or that asked for help.
+const USAGE: u8 = 2;
+
+/// What the command line asks for.
+fn mode_of(alloc: Global, words: &[String]) -> Result<Mode, Error> {
+    let run = Command::new(alloc, "run").about("Answers each command of a script");
+    let program = Command::new(alloc, "rsx")
+        .bin_name("rsx")?
+        .about("Runs scripts over graphs of reactive streams")
+        .disable_help_subcommand(true)
+        .subcommand_required(true)
+        .subcommand(run)?;
+    program.try_get_matches_from(words)?;
+    Ok(Mode::Run)
+}
+
+/// The words of the command line, the program's own first.
+fn words_of(rt: &(impl Env + AllocGlobal)) -> io::Result<Vec<String>> {
+    let mut words = Vec::new(rt.alloc());
+    for word in env::args(rt)? {
+        words.push(word)?;
+    }
+    Ok(words)
+}
+
+/// Runs the program, and answers with its exit status. What `clap` says goes to standard error, help too.
+fn run(rt: &(impl Input + Print + Eprint + AllocGlobal), words: &[String]) -> u8 {
+    let alloc = rt.alloc();
+    let mode = match mode_of(alloc, words) {
+        Ok(mode) => mode,
+        Err(error) if error.kind() == ErrorKind::OutOfMemory => {
+            return complain(rt, AppFault::Memory);
+        }
+        Err(error) => {
+            let _ = rt.eprint(&error);
+            return USAGE;
+        }
+    };
+    match drive(alloc, mode, &mut rt.reader(), &mut io::writer(rt)) {
+        Ok(()) => 0,
+        Err(fault) => complain(rt, fault),
+    }
+}
+
+/// Writes the line of a fault to standard error, where there is memory for it, and answers with the exit status.
+fn complain(rt: &(impl Eprint + AllocGlobal), fault: AppFault) -> u8 {
+    if let Ok(text) = fault.text(rt.alloc()) {
+        let _ = rt.eprintln(text.as_str());
+    }
+    fault.status()
+}
+
+fn main(rt: HostRuntime) -> ExitCode {
+    let status = match words_of(&rt) {
+        Ok(words) => run(&rt, &words),
+        Err(_) => complain(&rt, AppFault::Memory),
+    };
+    ExitCode::from(status)
+}
+
+#[cfg(test)]
+mod tests;
