@@ -1,0 +1,4 @@
+pub mod Closing
+pub mod Joining
+pub mod Keeps
+pub mod Runs

@@ -1,0 +1,4 @@
+pub mod Laws
+pub mod Machine
+pub mod Plays
+pub mod Seats
