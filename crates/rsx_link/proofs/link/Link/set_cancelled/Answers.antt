@@ -1,0 +1,6 @@
+use Rattle.std.proofs.Common.{arith}
+use Rattle.rsx_link.proofs.Keeps.{cancels}
+use Rattle.rsx_link.proofs.link.Link.set_cancelled.Goals as goal
+
+pub fetch_or-requires : goal.fetch_or-requires
+fetch_or-requires g c = let sized = c.args.self.now.sized in (c.requires.0, omega arith, cancels _ _ _ c.requires.1 c.requires.2)

@@ -1,0 +1,75 @@
+//! The link: what crosses an edge of a graph whose two ends run on different threads.
+//!
+//! A publisher and its subscriber on one thread need no more than a queue and two counts. Where the edge
+//! crosses from one thread to another, three things must cross with it, each in one direction:
+//!
+//! | what | from | to | how |
+//! |---|---|---|---|
+//! | signals | [`Up`] | [`Down`] | a ring buffer for one sender and one receiver |
+//! | the total of items asked for | [`Down`] | [`Up`] | a word that only the receiving end stores into |
+//! | flag 1, cancelled, and flag 2, bad request | [`CancelSeat`], [`Down`] | [`Up`] | a word of flags, which are set and never cleared |
+//!
+//! [`Link`] owns the two words. The ends and the cancel seats move to whatever thread uses them, and each of their
+//! calls takes the link by reference. No call waits, none takes memory once [`Link::new`] has made the link, and
+//! each makes at most two atomic steps besides those of the queue.
+//!
+//! # The total, and why it is a store
+//!
+//! Demand is a running total since the link was made, and never a difference that is added and taken away. So
+//! one end alone writes the word, by a plain `store`, and no step of the other end can get between a load and a
+//! store of it. The sending end compares the total that it saw last with the items that it has sent. What it saw
+//! may be old, and then it is smaller: it may send fewer items than were asked for, until it looks again, and
+//! never more (rule 1.1). The total saturates at 2^63 - 1 (rule 3.17), and no later store is smaller, so what was
+//! seen stays asked for.
+//!
+//! # The flags, and why they are a `fetch_or`
+//!
+//! A cancel (rule 3.5) may come from several threads at once, and a bad request (rule 3.9) beside it. Each sets its
+//! own flag by one `fetch_or`, which leaves the other as it is. Its answer is the flags as they were: so a bad
+//! request knows whether it came first, and only then is its error given to the subscriber, once. After a cancel no
+//! error is given (rule 3.6).
+//!
+//! # The seats, and what is proved
+//!
+//! Each end and each canceller has a seat, a token with no bytes, which carries what its thread knows: the list of
+//! its own steps, the newest first, each with what it stored or found. The rule in `specs/Link.antt` ties all
+//! seats to the two words, and is proved to hold between any two steps of any threads:
+//!
+//! - the first word is the total that the receiving end stored last, and each total is no smaller than the one before;
+//! - flag 2 is set exactly where the receiving end made a bad request, and flag 1 exactly where some seat cancelled;
+//! - what the sending end saw is so: its total is at most the word, and a flag that it saw is set.
+//!
+//! Each call adds just its own steps to its seat, and its answer is what they found. Of the items, `sent <= seen`
+//! holds of each [`Up`] and `taken <= asked` of each [`Down`].
+//!
+//! What the sending end sent is compared with what the receiving end took where both are in one thread again:
+//! [`Link::close`] takes both, and then **what was taken, followed by what is still held, is what was sent**. It
+//! answers the total and the flags, too. Flag 1 is known from both sides there: the right to cancel is one whole,
+//! each [`CancelSeat::split`] halves it and each [`CancelSeat::join`] puts it together, and with the whole in hand
+//! the flag is set exactly where one of these seats cancelled.
+//!
+//! # What is not proved
+//!
+//! That a signal arrives, or how soon; and that `take` found a queue empty because it was, which tests show. No
+//! clause compares two ends while they are in different threads.
+#![tactic(auto)]
+
+mod cancel;
+mod closed;
+mod down;
+mod link;
+mod plays;
+mod rule;
+mod signals;
+#[cfg(test)]
+mod tests;
+mod up;
+mod view;
+
+pub use cancel::CancelSeat;
+pub use closed::{Closed, Held};
+pub use down::Down;
+pub use link::Link;
+pub use rule::Rule;
+pub use up::{Found, Up};
+pub use view::{Role, Step, View};

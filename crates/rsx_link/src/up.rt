@@ -1,0 +1,100 @@
+// The sending end.
+ghost use Rattle.std.specs.Prelude.{◌≡◌, ◌≤◌, []};
+ghost use Rattle.rtrb.specs.Ring.{sent as sent_into};
+ghost use Rattle.rsx_link.specs.Link.{view_cancels};
+ghost use Rattle.rsx_link.specs.Steps.{seen_of};
+ghost use Rattle.rsx_link.specs.Signals.{items_in};
+ghost use Rattle.rsx_link.specs.declared.view.Role.TheVariants.{Upstream};
+
+use crate::link::{CANCELLED, Link, REFUSED, Seat};
+use crate::signals::is_item;
+use rsx_types::Signal;
+use rtrb::{Producer, PushError};
+
+/// What a look found: the total first, and then the flags.
+#[derive(Clone, Copy, Debug, PartialEq, Eq)]
+pub struct Found {
+    /// The items asked for since the link was made, at most 2^63 - 1.
+    pub asked: u64,
+    /// Some canceller cancelled.
+    pub cancelled: bool,
+    /// The receiving end made a bad request.
+    pub refused: bool,
+}
+
+/// The sending end of a link: it sends the signals of a publisher, and sees what was asked of it.
+///
+/// Of each one it is known that the items sent are at most the total that it saw last (`covered`, rule 1.1).
+#[derive(Drop)]
+pub struct Up<T> {
+    pub(crate) producer: Producer<Signal<T>>,
+    pub(crate) seat: Seat,
+    // The items sent.
+    pub(crate) sent: u64,
+    // The total that was seen last.
+    pub(crate) seen: u64,
+    pub ghost alone: { (seat.me.0.role ≡ Upstream) × (seat.me.1 ≡ []) },
+    pub ghost never_cancels: { (seat.me.0.parts ≡ []) × (view_cancels seat.me.0 ≡ 0) },
+    pub ghost saw: { seen ≡ seen_of seat.me.0.steps },
+    pub ghost counts: { sent ≡ items_in (sent_into producer) },
+    pub ghost covered: { sent ≤ seen },
+}
+
+impl<T> Up<T> {
+    ghost use Rattle.std.specs.Prelude.{◌<◌, ◌-◌, [], ◌∷◌, ◌++◌, OnOk, IfErr, IsOk};
+    ghost use Rattle.rsx_link.specs.Ends.{IsUpOf, up_steps, sent_signals, free_slots, items_sent, seen_total, MaySend, Looks, SameUp};
+
+    /// Reads the total that was asked for, and then the flags, each by one load.
+    ///
+    /// The total is no smaller than at any look before, and a flag that was seen is seen again. Either may have
+    /// changed by the time that the caller reads the answer, but the total only grows and a flag stays set.
+    pub fn look(&mut self, link: &Link<T>) -> Found
+        requires { IsUpOf link.now self.old }
+        ensures same { IsUpOf link.now self.new × (sent_signals self.new ≡ sent_signals self.old) × (free_slots self.new ≡ free_slots self.old) }
+        ensures looked { Looks (up_steps self.old) (up_steps self.new) result }
+    {
+        self.seen = link.load_asked(&mut self.seat);
+        let flags = link.load_flags(&mut self.seat);
+        Found {
+            asked: self.seen,
+            cancelled: flags & CANCELLED != 0,
+            refused: flags & REFUSED != 0,
+        }
+    }
+
+    /// How many items may be sent before the next look: the total that was seen last, less the items sent.
+    pub fn room(&self) -> u64
+        ensures { result ≡ seen_total self.now - items_sent self.now }
+    {
+        self.seen - self.sent
+    }
+
+    /// Puts a signal into the queue, behind all that were sent before.
+    ///
+    /// The caller sees to it that an item is sent only while [`Up::room`] is not 0 (rule 1.1). An ending needs no
+    /// demand.
+    ///
+    /// # Errors
+    ///
+    /// Where the queue has no room the signal comes back, and nothing was sent.
+    pub fn send(&mut self, link: &Link<T>, signal: Signal<T>) -> Result<(), Signal<T>>
+        requires end { IsUpOf link.now self.old }
+        requires asked { MaySend self.old signal }
+        ensures same { SameUp link.now self.old self.new }
+        ensures ok { OnOk result (sent_signals self.new ≡ sent_signals self.old ++ signal ∷ []) }
+        ensures full { IfErr result (λ back. (back ≡ signal) × (sent_signals self.new ≡ sent_signals self.old) × (free_slots self.new ≡ 0)) }
+        ensures succeeds { 0 < free_slots self.old → IsOk result }
+    {
+        let _ = link;
+        let is_item = is_item(&signal);
+        match self.producer.push(signal) {
+            Ok(()) => {
+                if is_item {
+                    self.sent += 1;
+                }
+                Ok(())
+            }
+            Err(PushError::Full(signal)) => Err(signal),
+        }
+    }
+}
