@@ -243,3 +243,8 @@ IsLookRefusal count i _ = ⊥
 abbrev pub IsTreeRefusal : ℕ → Tree → Refusal → Type 0
 IsTreeRefusal count (Sub i) r = IsLookRefusal count i r
 IsTreeRefusal count (Feed h) r = r ≡ UnknownHub
+
+-- a tree that is there
+abbrev pub IsKnownTree : ℕ → Tree → Type 0
+IsKnownTree count (Sub i) = i.0 < count
+IsKnownTree count (Feed h) = ⊥

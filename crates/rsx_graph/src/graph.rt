@@ -3,7 +3,7 @@
 ghost use Rattle.std.specs.Prelude.{◌≡◌, ◌<◌, ◌≤◌, ◌++◌, ◌∷◌, [], List, length, OnOk, OnErr, IfOk, IfErr, None, Some, true, false};
 ghost use Rattle.rsx_types.specs.Stream.{Stream};
 ghost use Rattle.rsx_model.specs.Check.{refusal};
-ghost use Rattle.rsx_graph.specs.History.{History, no_history, subscribed, given, with_subscriber, with_past, with_made, cancelled, requested, extended, all_extended, IsSubscribeRefusal, IsMakeRefusal, IsMadeAnswer, Belongs, AllBelong, HasAsked, IsLookRefusal, IsTreeRefusal, tree_of};
+ghost use Rattle.rsx_graph.specs.History.{History, no_history, subscribed, given, with_subscriber, with_past, with_made, cancelled, requested, extended, all_extended, IsSubscribeRefusal, IsMakeRefusal, IsMadeAnswer, Belongs, AllBelong, HasAsked, IsLookRefusal, IsTreeRefusal, IsKnownTree, tree_of};
 ghost use Rattle.rsx_graph.specs.Stands.{Stands, StandsFor, IsRequested, IsOwed, HasNotes, HasNotesAt, IsMade, IsMadeAt, enabled_in_tree, enabled_at};
 ghost use Rattle.rsx_graph.specs.Pumped.{AllPumped};
 
@@ -303,16 +303,19 @@ impl<O: Ops> Graph<O> {
 
     /// The joins of a tree's hub leaves, from left to right; no tree has one yet.
     pub fn joins(&self, alloc: Global, tree: Tree) -> Result<Vec<u64>, Refusal>
+        ensures known { OnOk result (IsKnownTree (length self.now.subscriptions.items) tree) }
         ensures joins { IfOk result (λ v. v.items ≡ []) }
         ensures err { IfErr result (λ r. IsTreeRefusal (length self.now.subscriptions.items) tree r) }
     {
-        let Tree::Sub(sub) = tree else {
-            return Err(Refusal::UnknownHub);
-        };
-        if sub.0 as usize >= self.subscriptions.len() {
-            return Err(Refusal::UnknownSub);
+        match tree {
+            Tree::Feed(_) => Err(Refusal::UnknownHub),
+            Tree::Sub(sub) => {
+                if sub.0 as usize >= self.subscriptions.len() {
+                    return Err(Refusal::UnknownSub);
+                }
+                Ok(Vec::new(alloc))
+            }
         }
-        Ok(Vec::new(alloc))
     }
 
     /// How many items a subscriber asked for. It takes no memory.
