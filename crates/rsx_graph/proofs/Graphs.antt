@@ -23,10 +23,14 @@ use Rattle.rsx_graph.proofs.Trees.{notes_then-unrecorded, notes_then-unchosen, u
 use Rattle.rsx_graph.specs.declared.subscription.Subscription.{Subscription}
 use Rattle.rsx_graph.specs.declared.step.Step.{Step}
 use Rattle.rsx_graph.specs.declared.step.Answer.{Answer}
-use Rattle.rsx_graph.specs.History.{Past, History, subscribed, IsLive, Belongs, AllBelong, IsSubscribeRefusal, IsMakeRefusal, changed, extended, all_extended, delivered, given, HasAsked, state_at}
-use Rattle.rsx_graph.specs.Pumped.{IsPumped, AllPumped, given_all, to}
+use Rattle.rsx_graph.specs.History.{Past, History, subscribed, IsLive, Belongs, AllBelong, IsSubscribeRefusal, IsMakeRefusal, changed, extended, all_extended, delivered, given, HasAsked, state_at, tree_of}
+use Rattle.std.proofs.Common.{◌⊎◌, inl, inr}
+use Rattle.rsx_types.specs.declared.names.Move.TheVariants.{Ask, Send, Take}
+use Rattle.rsx_types.specs.declared.names.Tree.TheVariants.{Sub, Feed}
+use Rattle.rsx_graph.proofs.Moves.{leads_on}
+use Rattle.rsx_graph.specs.Pumped.{IsPumped, AllPumped, IsMoved, IsMoveMade, Leads, IsQuiet, IsAwake, AreQuiet, IsAllQuiet, IsAnyAwake, given_all, to}
 use Rattle.rsx_graph.proofs.Signals.{append_none, some_same}
-use Rattle.rsx_graph.specs.Stands.{Stands, AllStand, StandsFor, enabled_at, move_enabled_in, values_then, evaluated, owed_from, owes_in, OwedAt}
+use Rattle.rsx_graph.specs.Stands.{Stands, AllStand, StandsFor, IsMade, enabled_in_tree, enabled_at, move_enabled_in, values_then, evaluated, owed_from, owes_in, OwedAt}
 
 pub AllStand-push : {T : Type 0} (m : Meaning T) (published : List (Stream T)) (subs : List (Subscription T)) (pasts : List (Past T)) (s : Subscription T) (p : Past T) → Stands m published s p → AllStand m published subs pasts → AllStand m published (subs ++ s ∷ []) (pasts ++ p ∷ [])
 AllStand-push m published [] [] s p k h = (k, tt)
@@ -74,23 +78,23 @@ found [] i old lt e = absurd (omega arith)
 found (x ∷ xs) zero old lt e = ap Some e
 found (x ∷ xs) (suc i) old lt e = found xs i old (omega arith) e
 
+past_first : (x y : Bool) (i : ℕ) → (if nat_eq (suc i) 0 then x else y) ≡ y
+past_first x y i = other (nat_eq (suc i) 0) (grind (arith, nat_tests))
+  where
+    other : (b : Bool) → b ≡ false → (if b then x else y) ≡ y
+    other true e = cc
+    other false e = refl
+
+suc_less : (i : ℕ) → suc i - 1 ≡ i
+suc_less i = omega arith
+
 -- a move at a subscription that is there
 pub enabled_there : {T : Type 0} (m : Meaning T) (subs : List (Subscription T)) (i : ℕ) (old : Subscription T) (mv : Move) → i < length subs → get_or subs i old ≡ old → enabled_at m subs i mv ≡ move_enabled_in m old mv
 enabled_there m [] i old mv lt e = absurd (omega arith)
 enabled_there m (s ∷ subs) zero old mv lt e = ap (λ t. move_enabled_in m t mv) e
 enabled_there m (s ∷ subs) (suc i) old mv lt e =
-    above (nat_eq (suc i) 0) (suc_not_zero i) (move_enabled_in m s mv) (enabled_at m subs (suc i - 1) mv)
+    past_first (move_enabled_in m s mv) (enabled_at m subs (suc i - 1) mv) i
     ∙ (ap (λ k. enabled_at m subs k mv) (suc_less i) ∙ enabled_there m subs i old mv (omega arith) e)
-  where
-    above : (b : Bool) → b ≡ false → (x y : Bool) → (if b then x else y) ≡ y
-    above true e x y = cc
-    above false e x y = refl
-
-    suc_not_zero : (i : ℕ) → nat_eq (suc i) 0 ≡ false
-    suc_not_zero i = grind (arith, nat_tests)
-
-    suc_less : (i : ℕ) → suc i - 1 ≡ i
-    suc_less i = omega arith
 
 pub asked_there : {T : Type 0} (m : Meaning T) (published : List (Stream T)) (subs : List (Subscription T)) (pasts : List (Past T)) (i : ℕ) (sub : Subscription T) → i < length subs → get_or subs i sub ≡ sub → AllStand m published subs pasts → HasAsked pasts i sub.root.demand.asked
 asked_there m published [] pasts i sub lt e h = absurd (omega arith)
@@ -119,10 +123,51 @@ delivered_to {T} published pasts i (s ∷ ss) =
     changed_twice f g (x ∷ xs) zero = refl
     changed_twice f g (x ∷ xs) (suc i) = ap (λ l. x ∷ l) (changed_twice f g xs i)
 
-pub pumped_there : {T : Type 0} (m : Meaning T) (id : SubId) (subs : List (Subscription T)) (old new : Subscription T) (before after : List (SubId × Signal T)) → id.0 < length subs → get_or subs id.0 old ≡ old → IsPumped m id old before new after → AllPumped m subs before (set subs id.0 new) after
-pumped_there {T} m id subs old new before after lt e k = record {
+set_twice : {A : Type 0} (xs : List A) (i : ℕ) (a b : A) → set (set xs i a) i b ≡ set xs i b
+set_twice [] i a b = refl
+set_twice (x ∷ xs) zero a b = refl
+set_twice (x ∷ xs) (suc i) a b = ap (λ l. x ∷ l) (set_twice xs i a b)
+
+set_count : {A : Type 0} (xs : List A) (i : ℕ) (a : A) → length (set xs i a) ≡ length xs
+set_count [] i a = refl
+set_count (x ∷ xs) zero a = refl
+set_count (x ∷ xs) (suc i) a = ap suc (set_count xs i a)
+
+set_there : {A : Type 0} (xs : List A) (i : ℕ) (a : A) → i < length xs → get_or (set xs i a) i a ≡ a
+set_there [] i a lt = absurd (omega arith)
+set_there (x ∷ xs) zero a lt = refl
+set_there (x ∷ xs) (suc i) a lt = set_there xs i a (omega arith)
+
+-- a move of one subscription is a move of the graph
+move_there : {T : Type 0} (m : Meaning T) (id : SubId) (subs : List (Subscription T)) (old new : Subscription T) (o : Option (SubId × Signal T)) → id.0 < length subs → get_or subs id.0 old ≡ old → IsMoved m id old o new → IsMoveMade m subs o (set subs id.0 new)
+move_there {T} m id subs old new o lt e v =
+    let P : Tree → Type 0 = λ t. IsMade m v.move t subs (set subs id.0 new) o in
+    record {
+      move = v.move;
+      enabled = ap (λ t. enabled_in_tree m subs t v.move) v.tree ∙ (enabled_there m subs id.0 old v.move lt e ∙ v.enabled);
+      effect = subst P (sym v.tree) (record { old = old; new = new; there = found subs id.0 old lt e; effect = v.effect; others = refl });
+      answer = v.answer;
+    }
+
+leads_there : {T : Type 0} (m : Meaning T) (id : SubId) (n : ℕ) (subs : List (Subscription T)) (old new : Subscription T) (ds : List (SubId × Signal T)) → id.0 < length subs → get_or subs id.0 old ≡ old → Leads (IsMoved m id) n old ds new → Leads (IsMoveMade m) n subs ds (set subs id.0 new)
+leads_there m id zero subs old new ds lt e x = (x.0, set_same subs id.0 old new lt e x.1)
+leads_there {T} m id (suc n) subs old new ds lt e x =
+    let mid : Subscription T = x.0 in
+    let P : List (Subscription T) → Type 0 = λ l. Leads (IsMoveMade m) n (set subs id.0 mid) x.2 l in
+    let within : id.0 < length (set subs id.0 mid) = rw (set_count subs id.0 mid) lt in (
+      set subs id.0 mid,
+      x.1,
+      x.2,
+      move_there m id subs old mid x.1 lt e x.3,
+      subst P (set_twice subs id.0 mid new) (leads_there m id n (set subs id.0 mid) mid new x.2 within (set_there subs id.0 mid lt) x.4),
+      x.5,
+    )
+
+pub pumped_there : {T : Type 0} (m : Meaning T) (id : SubId) (n : ℕ) (subs : List (Subscription T)) (old new : Subscription T) (before after : List (SubId × Signal T)) → id.0 < length subs → get_or subs id.0 old ≡ old → IsPumped m id n old before new after → AllPumped m n subs before (set subs id.0 new) after
+pumped_there {T} m id n subs old new before after lt e k = record {
   signals = to id k.signals;
   output = k.output;
+  moves = leads_there m id n subs old new (to id k.signals) lt e k.moves;
   stands = λ h s.
       let P : History T → Type 0 = λ g. StandsFor m (set subs id.0 new) g in
       subst P (sym (delivered_to h.published h.pasts id k.signals)) (AllStand-set m h.published (given_all k.signals) subs h.pasts id.0 old new lt e (λ p t. k.stands h.published p t) s);
@@ -132,15 +177,75 @@ pub delivered_append : {T : Type 0} (h : History T) (a b : List (SubId × Signal
 delivered_append h [] b = refl
 delivered_append h (d ∷ a) b = delivered_append _ a b
 
-pub pumped_on : {T : Type 0} (m : Meaning T) (s1 s2 s3 : List (Subscription T)) (o1 o2 o3 : List (SubId × Signal T)) → AllPumped m s1 o1 s2 o2 → AllPumped m s2 o2 s3 o3 → AllPumped m s1 o1 s3 o3
-pumped_on {T} m s1 s2 s3 o1 o2 o3 a b = record {
+pub pumped_on : {T : Type 0} (m : Meaning T) (n k : ℕ) (s1 s2 s3 : List (Subscription T)) (o1 o2 o3 : List (SubId × Signal T)) → AllPumped m n s1 o1 s2 o2 → AllPumped m k s2 o2 s3 o3 → AllPumped m (n + k) s1 o1 s3 o3
+pumped_on {T} m n k s1 s2 s3 o1 o2 o3 a b = record {
   signals = a.signals ++ b.signals;
   output = b.output ∙ (ap (λ o. o ++ b.signals) a.output ∙ append_assoc o1 a.signals b.signals);
+  moves = leads_on (IsMoveMade m) n k s1 s2 s3 a.signals b.signals a.moves b.moves;
   stands = λ h s. let P : History T → Type 0 = λ g. StandsFor m s3 g in subst P (sym (delivered_append h a.signals b.signals)) (b.stands (delivered h a.signals) (a.stands h s));
 }
 
-pub pumped_none : {T : Type 0} (m : Meaning T) (s : List (Subscription T)) (o : List (SubId × Signal T)) → AllPumped m s o s o
-pumped_none m s o = record { signals = []; output = sym (append_none o); stands = λ h k. k }
+pub pumped_none : {T : Type 0} (m : Meaning T) (s : List (Subscription T)) (o : List (SubId × Signal T)) → AllPumped m 0 s o s o
+pumped_none m s o = record { signals = []; output = sym (append_none o); moves = (refl, refl); stands = λ h k. k }
+
+-- ---- no enabled move, and some
+
+quiet_move : {T : Type 0} (m : Meaning T) (sub : Subscription T) (mv : Move) → IsQuiet m sub → move_enabled_in m sub mv ≡ false
+quiet_move m sub (Ask t n) h = (h n.0).0
+quiet_move m sub (Send t n) h = (h n.0).1
+quiet_move m sub (Take t n) h = (h n.0).2
+
+-- one subscription more is quiet
+pub quiet_there : {T : Type 0} (m : Meaning T) (subs : List (Subscription T)) (i : ℕ) (new : Subscription T) → IsQuiet m new → ((j : ℕ) → j < i → (s : Subscription T) → slice_get subs j ≡ Some s → IsQuiet m s) →
+    (j : ℕ) → j < i + 1 → (s : Subscription T) → slice_get (set subs i new) j ≡ Some s → IsQuiet m s
+quiet_there m [] i new q h j l s e = cc
+quiet_there {T} m (x ∷ subs) zero new q h zero l s e = let P : Subscription T → Type 0 = λ t. IsQuiet m t in subst P (some_same new s e) q
+quiet_there m (x ∷ subs) zero new q h (suc j) l s e = absurd (omega arith)
+quiet_there m (x ∷ subs) (suc i) new q h zero l s e = h 0 (omega arith) s e
+quiet_there m (x ∷ subs) (suc i) new q h (suc j) l s e = quiet_there m subs i new q (λ k lt t is. h (suc k) (omega arith) t is) j (omega arith) s e
+
+-- the same where the subscription is as it was
+pub quiet_next : {T : Type 0} (m : Meaning T) (subs : List (Subscription T)) (i : ℕ) (old : Subscription T) → slice_get subs i ≡ Some old → IsQuiet m old → AreQuiet m subs i → AreQuiet m subs (i + 1)
+quiet_next {T} m subs i old there q h j l s e =
+    elim (less_or_same j i l) [ inl less ↦ h j less s e | inr same ↦ let P : Subscription T → Type 0 = λ t. IsQuiet m t in subst P (some_same old s (sym there ∙ (ap (λ k. slice_get subs k) (sym same) ∙ e))) q ]
+  where
+    less_or_same : (j i : ℕ) → j < i + 1 → (j < i) ⊎ (j ≡ i)
+    less_or_same zero zero l = inr refl
+    less_or_same zero (suc i) l = inl (omega arith)
+    less_or_same (suc j) zero l = absurd (omega arith)
+    less_or_same (suc j) (suc i) l = elim (less_or_same j i (omega arith)) [ inl k ↦ inl (omega (arith, k)) | inr k ↦ inr (ap suc k) ]
+
+pub quiet_same : {T : Type 0} (m m' : Meaning T) (s1 s2 : List (Subscription T)) (i j : ℕ) → m' ≡ m → (AreQuiet m' s1 i → AreQuiet m' s2 j) → AreQuiet m s1 i → AreQuiet m s2 j
+quiet_same {T} m m' s1 s2 i j e h = let P : Meaning T → Type 0 = λ n. AreQuiet n s1 i → AreQuiet n s2 j in subst P e h
+
+pub none_quiet : {T : Type 0} (m : Meaning T) (subs : List (Subscription T)) → AreQuiet m subs 0
+none_quiet m subs j l s e = absurd (omega arith)
+
+pub all_quiet : {T : Type 0} (m : Meaning T) (subs : List (Subscription T)) (n : ℕ) → length subs ≤ n → AreQuiet m subs n → IsAllQuiet m subs
+all_quiet {T} m subs n lt h mv = in_tree (tree_of mv)
+  where
+    within : (ss : List (Subscription T)) (j : ℕ) (s : Subscription T) → slice_get ss j ≡ Some s → j < length ss
+    within [] j s e = cc
+    within (x ∷ ss) zero s e = omega arith
+    within (x ∷ ss) (suc j) s e = let k = within ss j s e in omega (arith, k)
+
+    none_at : (ss : List (Subscription T)) (i : ℕ) → ((j : ℕ) (s : Subscription T) → slice_get ss j ≡ Some s → IsQuiet m s) → enabled_at m ss i mv ≡ false
+    none_at [] i k = refl
+    none_at (s ∷ ss) zero k = quiet_move m s mv (k 0 s refl)
+    none_at (s ∷ ss) (suc i) k = past_first (move_enabled_in m s mv) (enabled_at m ss (suc i - 1) mv) i ∙ (ap (λ j. enabled_at m ss j mv) (suc_less i) ∙ none_at ss i (λ j t e. k (suc j) t e))
+
+    in_tree : (t : Tree) → enabled_in_tree m subs t mv ≡ false
+    in_tree (Sub i) = none_at subs i.0 (λ j s e. let k = within subs j s e in h j (omega (arith, k, lt)) s e)
+    in_tree (Feed f) = refl
+
+pub any_awake : {T : Type 0} (m : Meaning T) (subs : List (Subscription T)) (i : ℕ) (sub : Subscription T) → i < length subs → get_or subs i sub ≡ sub → IsAwake m sub → IsAnyAwake m subs
+any_awake m subs i sub lt e h = elim h.1 [
+  | inl a ↦ (Ask (Sub (record { 0 = i })) (record { 0 = h.0 }), enabled_there m subs i sub _ lt e ∙ a)
+  | inr b ↦ elim b [
+    | inl s ↦ (Send (Sub (record { 0 = i })) (record { 0 = h.0 }), enabled_there m subs i sub _ lt e ∙ s)
+    | inr t ↦ (Take (Sub (record { 0 = i })) (record { 0 = h.0 }), enabled_there m subs i sub _ lt e ∙ t)
+  ]
+]
 
 -- ---- a subscription that has just begun
 
@@ -252,8 +357,8 @@ has_run_none {T} m subs steps answers e =
     let P : List (Answer T) → Type 0 = λ a. HasRun m subs subs [] a in
     subst P (sym e) (record { count = refl; stands = λ h k. k; belongs = λ h k. tt })
 
-pub pumped_same : {T : Type 0} (m m' : Meaning T) (s1 s2 : List (Subscription T)) (o1 o2 : List (SubId × Signal T)) → m' ≡ m → AllPumped m' s1 o1 s2 o2 → AllPumped m s1 o1 s2 o2
-pumped_same {T} m m' s1 s2 o1 o2 e h = let P : Meaning T → Type 0 = λ n. AllPumped n s1 o1 s2 o2 in subst P e h
+pub pumped_same : {T : Type 0} (m m' : Meaning T) (n : ℕ) (s1 s2 : List (Subscription T)) (o1 o2 : List (SubId × Signal T)) → m' ≡ m → AllPumped m' n s1 o1 s2 o2 → AllPumped m n s1 o1 s2 o2
+pumped_same {T} m m' n s1 s2 o1 o2 e h = let P : Meaning T → Type 0 = λ k. AllPumped k n s1 o1 s2 o2 in subst P e h
 
 -- ---- answers that belong to their steps
 

@@ -19,12 +19,15 @@ use Rattle.rsx_graph.specs.Edges.{edge_view, EdgeView, passed, IsPassed, can_pas
 use Rattle.rsx_graph.specs.Tree.{comes_out, notes_of, offers, IsAllClosed, IsKept, IsLetGo}
 use Rattle.rsx_graph.specs.History.{Past, items_in, IsUnended, IsOrderly, IsPrefixOf, IsLive, cancelled, cancelled_state, state_after, refused, requested, requested_in, given, asked_more}
 use Rattle.rsx_types.specs.declared.names.SubId.{SubId}
-use Rattle.rsx_graph.specs.Pumped.{IsPumped, given_all, to}
-use Rattle.rsx_graph.specs.Stands.{Stands, evaluated, owed_from, values_then}
+use Rattle.std.specs.Option.{option_to_list}
+use Rattle.rsx_types.specs.declared.names.Move.TheVariants.{Ask, Send, Take}
+use Rattle.rsx_types.specs.declared.names.Tree.TheVariants.{Sub}
+use Rattle.rsx_graph.specs.Pumped.{IsPumped, IsMoved, IsQuiet, IsAwake, Leads, given_all, to}
+use Rattle.rsx_graph.specs.Stands.{Stands, evaluated, owed_from, values_then, send_enabled, take_enabled, has_room, negated, is_empty, IsTake}
 use Rattle.rsx_graph.proofs.Signals.{IsOrderly-front, IsOrderly-more, IsUnended-more, items_in-append, append_none, prefix_of_some, map_then-last, map_then-first}
-use Rattle.rsx_graph.proofs.Trees.{pass_live, front_there, above_root, sent_all}
-use Rattle.rsx_graph.specs.Tree.{edges, front_at, ended_at, IsSentAt}
-use Rattle.std.proofs.Common.{◌-◌, Bool}
+use Rattle.rsx_graph.proofs.Trees.{pass_live, front_there, above_root, sent_all, asked_all, above_zero, suc_minus, at_zero}
+use Rattle.rsx_graph.specs.Tree.{edges, front_at, ended_at, want_at, can_ask, can_send, can_go, IsAskedAt, IsSentAt, IsAdvanced, IsIdle, IsBusy}
+use Rattle.std.proofs.Common.{◌-◌, Bool, false, None, ◌&&◌, nat_eq, nat_lt}
 use Rattle.rsx_graph.specs.Stands.{IsSend, QueueAfter}
 
 pub IsLive-open : (s : SubscriptionState) → s ≡ Open → IsLive s
@@ -324,11 +327,34 @@ is_sending {T} m old new s f o t can p within st q =
 
 -- ---- driving a subscription
 
-pub pumped_moved : {T : Type 0} (m : Meaning T) (id : SubId) (old new : Subscription T) (o : List (SubId × Signal T)) → ((published : List (Stream T)) (past : Past T) → Stands m published old past → Stands m published new past) → IsPumped m id old o new o
-pumped_moved m id old new o k = record { signals = []; output = sym (append_none o); stands = k }
+pub leads_on : {S D : Type 0} (step : S → Option D → S → Type 0) (n k : ℕ) (a b c : S) (ds es : List D) → Leads step n a ds b → Leads step k b es c → Leads step (n + k) a (ds ++ es) c
+leads_on {S} {D} step zero k a b c ds es x y =
+    let P : S → Type 0 = λ s. Leads step k s es c in
+    let Q : List D → Type 0 = λ l. Leads step k a (l ++ es) c in
+    let R : ℕ → Type 0 = λ i. Leads step i a (ds ++ es) c in
+    let none : k ≡ 0 + k = omega arith in
+    subst R none (subst Q (sym x.0) (subst P x.1 y))
+leads_on {S} {D} step (suc n) k a b c ds es x y =
+    let R : ℕ → Type 0 = λ i. Leads step i a (ds ++ es) c in
+    let more : suc (n + k) ≡ suc n + k = omega arith in
+    subst R more (x.0, x.1, x.2 ++ es, x.3, leads_on step n k x.0 b c x.2 es x.4 y, ap (λ l. l ++ es) x.5 ∙ append_assoc (option_to_list x.1) x.2 es)
 
-pub pumped_one : {T : Type 0} (m : Meaning T) (id : SubId) (old new : Subscription T) (o o' : List (SubId × Signal T)) (s : Signal T) → o' ≡ o ++ (id, s) ∷ [] → ((published : List (Stream T)) (past : Past T) → Stands m published old past → Stands m published new (given s past)) → IsPumped m id old o new o'
-pumped_one m id old new o o' s e k = record { signals = s ∷ []; output = e; stands = k }
+pub pumped_none : {T : Type 0} (m : Meaning T) (id : SubId) (sub : Subscription T) (o : List (SubId × Signal T)) → IsPumped m id 0 sub o sub o
+pumped_none m id sub o = record { signals = []; output = sym (append_none o); moves = (refl, refl); stands = λ p q h. h }
+
+pub pumped_same_sub : {T : Type 0} (m : Meaning T) (id : SubId) (old new : Subscription T) (o : List (SubId × Signal T)) → new ≡ old → IsPumped m id 0 old o new o
+pumped_same_sub {T} m id old new o e = let P : Subscription T → Type 0 = λ s. IsPumped m id 0 old o s o in subst P (sym e) (pumped_none m id old o)
+
+pub pumped_moved : {T : Type 0} (m : Meaning T) (id : SubId) (old new : Subscription T) (o : List (SubId × Signal T)) → IsMoved m id old None new → ((published : List (Stream T)) (past : Past T) → Stands m published old past → Stands m published new past) → IsPumped m id 1 old o new o
+pumped_moved m id old new o v k = record { signals = []; output = sym (append_none o); moves = (new, None, [], v, (refl, refl), refl); stands = k }
+
+pub pumped_one : {T : Type 0} (m : Meaning T) (id : SubId) (old new : Subscription T) (o o' : List (SubId × Signal T)) (s : Signal T) → o' ≡ o ++ (id, s) ∷ [] → take_enabled old 0 ≡ true → IsTake old s new → ((published : List (Stream T)) (past : Past T) → Stands m published old past → Stands m published new (given s past)) → IsPumped m id 1 old o new o'
+pumped_one m id old new o o' s e can took k = record {
+  signals = s ∷ [];
+  output = e;
+  moves = (new, Some (id, s), [], record { move = Take (Sub id) (record { 0 = 0 }); tree = refl; enabled = can; effect = took; answer = (s, refl) }, (refl, refl), refl);
+  stands = k;
+}
 
 pub given_all-append : {T : Type 0} (a b : List (Signal T)) (p : Past T) → given_all (a ++ b) p ≡ given_all b (given_all a p)
 given_all-append [] b p = refl
@@ -338,14 +364,17 @@ to_append : {T : Type 0} (id : SubId) (a b : List (Signal T)) → to id (a ++ b)
 to_append id [] b = refl
 to_append id (s ∷ a) b = ap (λ l. (id, s) ∷ l) (to_append id a b)
 
-pub pumped_more : {T : Type 0} (m : Meaning T) (id : SubId) (s1 s2 s3 : Subscription T) (o1 o2 o3 : List (SubId × Signal T)) → IsPumped m id s1 o1 s2 o2 → IsPumped m id s2 o2 s3 o3 → IsPumped m id s1 o1 s3 o3
-pumped_more {T} m id s1 s2 s3 o1 o2 o3 a b = record {
-  signals = a.signals ++ b.signals;
-  output = b.output ∙ (ap (λ o. o ++ to id b.signals) a.output ∙ (append_assoc o1 (to id a.signals) (to id b.signals) ∙ ap (λ l. o1 ++ l) (sym (to_append id a.signals b.signals))));
-  stands = λ published past h.
-      let P : Past T → Type 0 = λ p. Stands m published s3 p in
-      subst P (sym (given_all-append a.signals b.signals past)) (b.stands published (given_all a.signals past) (a.stands published past h));
-}
+pub pumped_more : {T : Type 0} (m : Meaning T) (id : SubId) (n k : ℕ) (s1 s2 s3 : Subscription T) (o1 o2 o3 : List (SubId × Signal T)) → IsPumped m id n s1 o1 s2 o2 → IsPumped m id k s2 o2 s3 o3 → IsPumped m id (n + k) s1 o1 s3 o3
+pumped_more {T} m id n k s1 s2 s3 o1 o2 o3 a b =
+    let L : List (SubId × Signal T) → Type 0 = λ l. Leads (IsMoved m id) (n + k) s1 l s3 in
+    record {
+      signals = a.signals ++ b.signals;
+      output = b.output ∙ (ap (λ o. o ++ to id b.signals) a.output ∙ (append_assoc o1 (to id a.signals) (to id b.signals) ∙ ap (λ l. o1 ++ l) (sym (to_append id a.signals b.signals))));
+      moves = subst L (sym (to_append id a.signals b.signals)) (leads_on (IsMoved m id) n k s1 s2 s3 (to id a.signals) (to id b.signals) a.moves b.moves);
+      stands = λ published past h.
+          let P : Past T → Type 0 = λ p. Stands m published s3 p in
+          subst P (sym (given_all-append a.signals b.signals past)) (b.stands published (given_all a.signals past) (a.stands published past h));
+    }
 
 -- ---- the effect of a Send
 
@@ -366,3 +395,76 @@ sent_root m old new s f o t p q = record {
   edges = ap (λ e. e ∷ edges new.tree) p ∙ ap (λ es. passed (edge_view old.root) f ∷ es) t.edges;
   queue = (s, t.offered, q);
 }
+
+-- ---- enabled moves
+
+pub moved_root : {T : Type 0} (m : Meaning T) (id : SubId) (old new : Subscription T) → send_enabled m old 0 ≡ true → IsSend m old 0 new → IsMoved m id old None new
+moved_root m id old new can sent = record { move = Send (Sub id) (record { 0 = 0 }); tree = refl; enabled = can; effect = sent; answer = refl }
+
+pub moved_below : {T : Type 0} (m : Meaning T) (id : SubId) (old : Subscription T) (tree : Node T) → IsAdvanced m old.tree old.root.demand.asked old.root.demand.sent tree → IsMoved m id old None (record { tree = tree; root = old.root; queue = old.queue; state = old.state })
+moved_below {T} m id old tree a =
+    let asked : ℕ = old.root.demand.asked in
+    let sent : ℕ = old.root.demand.sent in
+    let above : 0 < a.at + 1 = omega arith in
+    let A : ℕ → Type 0 = λ k. IsAskedAt old.tree k asked sent tree in
+    let S : ℕ → Type 0 = λ k. IsSentAt m old.tree k tree in
+    elim a.made [
+      | inl k ↦ record {
+        move = Ask (Sub id) (record { 0 = a.at + 1 });
+        tree = refl;
+        enabled = above_zero a.at false (can_ask old.tree ((a.at + 1) - 1) asked sent) ∙ ap (λ i. can_ask old.tree i asked sent) (suc_minus a.at) ∙ k.0;
+        effect = record {
+          edges = asked_all (edge_view old.root) (edges old.tree) (edges tree) (a.at + 1) (want_at old.tree ((a.at + 1) - 1) asked sent) asked above (subst A (sym (suc_minus a.at)) k.1);
+          queue = refl;
+        };
+        answer = refl;
+      }
+      | inr k ↦ record {
+        move = Send (Sub id) (record { 0 = a.at + 1 });
+        tree = refl;
+        enabled = above_zero a.at (has_room old && can_go (edge_view old.root) (option_map front_of (offers m old.tree))) (can_send m old.tree ((a.at + 1) - 1)) ∙ ap (λ i. can_send m old.tree i) (suc_minus a.at) ∙ k.0;
+        effect = sent_below_root m old tree (a.at + 1) above (subst S (sym (suc_minus a.at)) k.1);
+        answer = refl;
+      }
+    ]
+
+-- a subscription with no enabled move in its tree, none over its root edge, and nothing queued is quiet
+pub quiet_when : {T : Type 0} (m : Meaning T) (sub : Subscription T) → length sub.queue ≤ 0 → can_go (edge_view sub.root) (option_map front_of (offers m sub.tree)) ≡ false → IsIdle m sub.tree sub.root.demand.asked sub.root.demand.sent → IsQuiet m sub
+quiet_when m sub e r t at = (
+  at_zero at false (can_ask sub.tree (at - 1) sub.root.demand.asked sub.root.demand.sent) false refl (t (at - 1)).0,
+  at_zero at (has_room sub && can_go (edge_view sub.root) (option_map front_of (offers m sub.tree))) (can_send m sub.tree (at - 1)) false (and_false (has_room sub) _ r) (t (at - 1)).1,
+  nothing_queued at sub.queue e,
+)
+  where
+    and_false : (a b : Bool) → b ≡ false → a && b ≡ false
+    and_false true b e = e
+    and_false false b e = refl
+
+    nothing_queued : {A : Type 0} (at : ℕ) (xs : List A) → length xs ≤ 0 → nat_eq at 0 && negated (is_empty xs) ≡ false
+    nothing_queued at [] e = and_false (nat_eq at 0) false refl
+    nothing_queued at (x ∷ xs) e = absurd (omega arith)
+
+-- something queued can be taken
+pub awake_queue : {T : Type 0} (m : Meaning T) (sub : Subscription T) → 0 < length sub.queue → IsAwake m sub
+awake_queue m sub h = (0, inr (inr (something sub.queue h)))
+  where
+    something : {A : Type 0} (xs : List A) → 0 < length xs → nat_eq 0 0 && negated (is_empty xs) ≡ true
+    something [] h = absurd (omega arith)
+    something (x ∷ xs) h = refl
+
+-- with nothing queued, what the root offers can go over the root edge
+pub awake_root : {T : Type 0} (m : Meaning T) (sub : Subscription T) → length sub.queue ≤ 0 → can_go (edge_view sub.root) (option_map front_of (offers m sub.tree)) ≡ true → IsAwake m sub
+awake_root m sub e h = (0, inr (inl (room sub.queue e ∙ h)))
+  where
+    room : {A : Type 0} (xs : List A) {b : Bool} → length xs ≤ 0 → nat_lt (length xs) 64 && b ≡ b
+    room [] e = refl
+    room (x ∷ xs) e = absurd (omega arith)
+
+pub awake_tree : {T : Type 0} (m : Meaning T) (sub : Subscription T) → IsBusy m sub.tree sub.root.demand.asked sub.root.demand.sent → IsAwake m sub
+awake_tree m sub h = (
+  h.0 + 1,
+  elim h.1 [
+    | inl a ↦ inl (above_zero h.0 false (can_ask sub.tree ((h.0 + 1) - 1) sub.root.demand.asked sub.root.demand.sent) ∙ ap (λ i. can_ask sub.tree i sub.root.demand.asked sub.root.demand.sent) (suc_minus h.0) ∙ a)
+    | inr s ↦ inr (inl (above_zero h.0 (has_room sub && can_go (edge_view sub.root) (option_map front_of (offers m sub.tree))) (can_send m sub.tree ((h.0 + 1) - 1)) ∙ ap (λ i. can_send m sub.tree i) (suc_minus h.0) ∙ s))
+  ],
+)

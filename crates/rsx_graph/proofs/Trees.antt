@@ -22,7 +22,7 @@ use Rattle.rsx_graph.specs.declared.edge.Edge.{Edge}
 use Rattle.rsx_graph.specs.declared.node.Node.{Node, Items, Range, Plain'}
 use Rattle.rsx_graph.specs.declared.node.Node.TheViews.{Plain}
 use Rattle.rsx_graph.specs.Edges.{edge_view, EdgeView, is_live, is_ending, can_pass, can_ask_for, IsAsked, asked_up_to, changed_at, carried, carried_at, closed_if, closed_view, passed}
-use Rattle.rsx_graph.specs.Tree.{offers, comes_out, through, notes_of, none_incoming, one_incoming, IsAllClosed, IsKept, IsPassedOn, IsLetGo, IsUnchosen, edges, want_at, front_at, ended_at, IsAskedAt, IsSentAt, IsSentOver, IsPopped, IsIdle, IsBusy, IsIdleHere, IsAdvancedHere, IsAdvanced, popped, can_ask, can_send, can_send_over, can_go}
+use Rattle.rsx_graph.specs.Tree.{offers, comes_out, through, notes_of, none_incoming, one_incoming, IsAllClosed, IsKept, IsPassedOn, IsLetGo, IsUnchosen, edges, want_at, front_at, ended_at, IsAskedAt, IsSentAt, IsSentOver, IsPopped, IsIdle, IsBusy, IsIdleHere, IsAdvancedHere, IsAdvanced, IsMadeBelow, IsAskedOver, popped, can_ask, can_send, can_send_over, can_go}
 use Rattle.std.proofs.Common.{◌<◌, ◌≤◌, min}
 use Rattle.rsx_demand.specs.declared.TheConstants.{UNBOUNDED}
 use Rattle.rsx_graph.proofs.Signals.{append_none}
@@ -196,32 +196,6 @@ busy_below m n edge below asked sent h = (
   ],
 )
 
--- an enabled move over the edge of the root's input is one of the tree
-pub busy_here : {T : Type 0} (m : Meaning T) (n : PlainNode T) (edge : Edge) (below : Below T) (asked sent : ℕ) → (can_ask_for (edge_view edge) (plain_wanted n 0 asked sent) ≡ true) ⊎ (can_send_over m n edge below.value ≡ true) → IsBusy m (Plain n edge below) asked sent
-busy_here m n edge below asked sent e = (0, e)
-
-pub advanced_here : {T : Type 0} (m : Meaning T) (old : Node T) (n n' : PlainNode T) (edge edge' : Edge) (below below' : Below T) (was : Node T) (asked sent : ℕ) → old ≡ Plain n edge below → was ≡ below.value → IsAdvancedHere m n edge was asked sent n' below'.value → IsAdvanced m old asked sent (Plain n' edge' below')
-advanced_here {T} m old n n' edge edge' below below' was asked sent is at h =
-    let P : Node T → Type 0 = λ t. IsAdvancedHere m n edge t asked sent n' below'.value in
-    let Q : Node T → Type 0 = λ t. IsBusy m t asked sent in
-    let k : IsAdvancedHere m n edge below.value asked sent n' below'.value = subst P at h in
-    record {
-      enabled = subst Q (sym is) (busy_here m n edge below asked sent k.enabled);
-      kept = kept_plain m old n n' edge edge' below below' is k.value k.notes;
-    }
-
-pub advanced_below : {T : Type 0} (m : Meaning T) (old : Node T) (n n' : PlainNode T) (edge edge' : Edge) (below below' : Below T) (was : Node T) (asked sent : ℕ) → old ≡ Plain n edge below → n' ≡ n → edge' ≡ edge → was ≡ below.value → IsAdvanced m was edge'.demand.asked edge'.demand.sent below'.value → IsAdvanced m old asked sent (Plain n' edge' below')
-advanced_below {T} m old n n' edge edge' below below' was asked sent is same_n same_e at h =
-    let P : Node T → Type 0 = λ t. IsAdvanced m t edge.demand.asked edge.demand.sent below'.value in
-    let R : Edge → Type 0 = λ e. IsAdvanced m was e.demand.asked e.demand.sent below'.value in
-    let Q : Node T → Type 0 = λ t. IsBusy m t asked sent in
-    let N : PlainNode T → Type 0 = λ k. IsKept m old (Plain k edge' below') in
-    let k : IsAdvanced m below.value edge.demand.asked edge.demand.sent below'.value = subst P at (subst R same_e h) in
-    record {
-      enabled = subst Q (sym is) (busy_below m n edge below asked sent k.enabled);
-      kept = subst N (sym same_n) (kept_input m old n edge edge' below below' below.value is refl k.kept);
-    }
-
 pub idle_below : {T : Type 0} (m : Meaning T) (old : Node T) (n : PlainNode T) (edge edge' : Edge) (below : Below T) (was : Node T) (asked sent : ℕ) → old ≡ Plain n edge below → edge' ≡ edge → was ≡ below.value → IsIdleHere m n edge below.value asked sent → IsIdle m was edge'.demand.asked edge'.demand.sent → IsIdle m old asked sent
 idle_below {T} m old n edge edge' below was asked sent is same_e at here h =
     let P : Node T → Type 0 = λ t. IsIdle m t edge.demand.asked edge.demand.sent in
@@ -386,3 +360,62 @@ front_there at root below f z e = chosen_second (nat_eq at 0) root below (not_ze
 
 pub above_root : (at : ℕ) → 0 < at → nat_eq at 0 ≡ false
 above_root at z = not_zero at z
+
+-- ---- an enabled move that was made
+
+made_busy : {T : Type 0} (m : Meaning T) (old new : Node T) (at asked sent : ℕ) → IsMadeBelow m old at asked sent new → IsBusy m old asked sent
+made_busy m old new at asked sent h = (at, elim h [ inl a ↦ inl a.0 | inr s ↦ inr s.0 ])
+
+pub advanced_not_closed : {T : Type 0} (m : Meaning T) (old new : Node T) (asked sent : ℕ) → IsAdvanced m old asked sent new → IsAllClosed old → ⊥
+advanced_not_closed m old new asked sent a = busy_not_closed m old asked sent (made_busy m old new a.at asked sent a.made)
+
+pub asked_over : {T : Type 0} (n : PlainNode T) (edge edge' : Edge) (input : Node T) (asked sent want : ℕ) → want ≡ plain_wanted n 0 asked sent → IsAsked want (edge_view edge) (edge_view edge') → IsAskedOver n edge input asked sent edge' input
+asked_over n edge edge' input asked sent want w k = ap (λ e. e ∷ edges input) (asked_view want (edge_view edge) (edge_view edge') k ∙ ap (λ v. asked_up_to v (edge_view edge)) w)
+
+made_here : {T : Type 0} (m : Meaning T) (n n' : PlainNode T) (edge edge' : Edge) (below below' : Below T) (asked sent : ℕ) →
+    ((can_ask_for (edge_view edge) (plain_wanted n 0 asked sent) ≡ true) × IsAskedOver n edge below.value asked sent edge' below'.value) ⊎ ((can_send_over m n edge below.value ≡ true) × IsSentOver m edge below.value n' edge' below'.value) →
+    IsMadeBelow m (Plain n edge below) 0 asked sent (Plain n' edge' below')
+made_here m n n' edge edge' below below' asked sent h =
+    elim h [ inl a ↦ inl (a.0, a.1) | inr s ↦ inr (s.0, record { front = s.1.front; offered = s.1.offered; edges = s.1.edges }) ]
+
+made_under : {T : Type 0} (m : Meaning T) (n : PlainNode T) (edge : Edge) (below below' : Below T) (at asked sent : ℕ) → IsMadeBelow m below.value at edge.demand.asked edge.demand.sent below'.value → IsMadeBelow m (Plain n edge below) (at + 1) asked sent (Plain n edge below')
+made_under m n edge below below' at asked sent h =
+    let A : ℕ → Type 0 = λ k. IsAskedAt below.value k edge.demand.asked edge.demand.sent below'.value in
+    let S : ℕ → Type 0 = λ k. IsSentAt m below.value k below'.value in
+    let above : 0 < at + 1 = omega arith in
+    elim h [
+      | inl a ↦ inl (
+        above_zero at _ _ ∙ ap (λ k. can_ask below.value k edge.demand.asked edge.demand.sent) (suc_minus at) ∙ a.0,
+        asked_below (Plain n edge below) n edge below below' below.value (at + 1) asked sent refl refl above (subst A (sym (suc_minus at)) a.1),
+      )
+      | inr s ↦ inr (
+        above_zero at _ _ ∙ ap (λ k. can_send m below.value k) (suc_minus at) ∙ s.0,
+        sent_below m (Plain n edge below) n edge below below' below.value (at + 1) refl refl above (subst S (sym (suc_minus at)) s.1),
+      )
+    ]
+
+pub advanced_here : {T : Type 0} (m : Meaning T) (old : Node T) (n n' : PlainNode T) (edge edge' : Edge) (below below' : Below T) (was : Node T) (asked sent : ℕ) → old ≡ Plain n edge below → was ≡ below.value → IsAdvancedHere m n edge was asked sent n' edge' below'.value → IsAdvanced m old asked sent (Plain n' edge' below')
+advanced_here {T} m old n n' edge edge' below below' was asked sent is at h =
+    let P : Node T → Type 0 = λ t. IsAdvancedHere m n edge t asked sent n' edge' below'.value in
+    let Q : Node T → Type 0 = λ t. IsMadeBelow m t 0 asked sent (Plain n' edge' below') in
+    let k : IsAdvancedHere m n edge below.value asked sent n' edge' below'.value = subst P at h in
+    record {
+      at = 0;
+      made = subst Q (sym is) (made_here m n n' edge edge' below below' asked sent k.made);
+      kept = kept_plain m old n n' edge edge' below below' is k.value k.notes;
+    }
+
+pub advanced_below : {T : Type 0} (m : Meaning T) (old : Node T) (n n' : PlainNode T) (edge edge' : Edge) (below below' : Below T) (was : Node T) (asked sent : ℕ) → old ≡ Plain n edge below → n' ≡ n → edge' ≡ edge → was ≡ below.value → IsAdvanced m was edge'.demand.asked edge'.demand.sent below'.value → IsAdvanced m old asked sent (Plain n' edge' below')
+advanced_below {T} m old n n' edge edge' below below' was asked sent is same_n same_e at h =
+    let P : Node T → Type 0 = λ t. IsAdvanced m t edge.demand.asked edge.demand.sent below'.value in
+    let R : Edge → Type 0 = λ e. IsAdvanced m was e.demand.asked e.demand.sent below'.value in
+    let k : IsAdvanced m below.value edge.demand.asked edge.demand.sent below'.value = subst P at (subst R same_e h) in
+    let Q : Node T → Type 0 = λ t. IsMadeBelow m t (k.at + 1) asked sent (Plain n' edge' below') in
+    let E : Edge → Type 0 = λ e. IsMadeBelow m (Plain n edge below) (k.at + 1) asked sent (Plain n e below') in
+    let M : PlainNode T → Type 0 = λ p. IsMadeBelow m (Plain n edge below) (k.at + 1) asked sent (Plain p edge' below') in
+    let N : PlainNode T → Type 0 = λ p. IsKept m old (Plain p edge' below') in
+    record {
+      at = k.at + 1;
+      made = subst Q (sym is) (subst M (sym same_n) (subst E (sym same_e) (made_under m n edge below below' k.at asked sent k.made)));
+      kept = subst N (sym same_n) (kept_input m old n edge edge' below below' below.value is refl k.kept);
+    }

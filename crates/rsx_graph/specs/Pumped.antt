@@ -1,12 +1,20 @@
 -- What driving a subscription, and a graph, until it is idle does.
-use Rattle.std.specs.Prelude.{◌≡◌, ℕ, false, List, [], ◌∷◌, ◌++◌, map}
+use Rattle.std.specs.Prelude.{◌≡◌, ◌⊎◌, ℕ, zero, suc, ◌+◌, ◌≤◌, ◌<◌, Bool, true, false, List, [], ◌∷◌, ◌++◌, length, map, Option, Some, Result, Ok, Err, slice_get}
+use Rattle.std.specs.Option.{option_to_list}
 use Rattle.rsx_types.specs.Meaning.{Meaning}
 use Rattle.rsx_types.specs.Stream.{Stream}
+use Rattle.rsx_types.specs.declared.names.Move.{Move}
 use Rattle.rsx_types.specs.declared.names.SubId.{SubId}
+use Rattle.rsx_types.specs.declared.names.Tree.{Tree}
+use Rattle.rsx_types.specs.declared.names.Tree.TheVariants.{Sub}
 use Rattle.rsx_types.specs.declared.signal.Signal.{Signal}
+use Rattle.rsx_graph.specs.declared.refusal.Refusal.{Refusal}
+use Rattle.rsx_graph.specs.declared.refusal.Refusal.TheVariants.{NoMemory}
+use Rattle.rsx_graph.specs.declared.step.Pumped.{Pumped}
+use Rattle.rsx_graph.specs.declared.step.Pumped.TheVariants.{Idle, Budget}
 use Rattle.rsx_graph.specs.declared.subscription.Subscription.{Subscription}
-use Rattle.rsx_graph.specs.History.{Past, History, given, delivered}
-use Rattle.rsx_graph.specs.Stands.{Stands, StandsFor, ask_enabled, send_enabled, take_enabled}
+use Rattle.rsx_graph.specs.History.{Past, History, given, delivered, tree_of, IsMadeAnswer}
+use Rattle.rsx_graph.specs.Stands.{Stands, StandsFor, IsEffect, IsMade, ask_enabled, send_enabled, take_enabled, move_enabled_in, enabled_in_tree}
 
 -- the past of a subscriber that received these signals
 abbrev pub given_all : {T : Type 0} → List (Signal T) → Past T → Past T
@@ -17,18 +25,81 @@ given_all (s ∷ ss) p = given_all ss (given s p)
 abbrev pub to : {T : Type 0} → SubId → List (Signal T) → List (SubId × Signal T)
 to i ss = map (λ s. (i, s)) ss
 
--- a subscription moved on, and these signals of it were delivered
-pub record IsPumped {T : Type 0} (m : Meaning T) (id : SubId) (old : Subscription T) (before : List (SubId × Signal T)) (new : Subscription T) (after : List (SubId × Signal T)) : Type 0 where
+-- ---- moves one after the other
+
+-- so many steps lead from the first state to the second, and answered these in their order
+abbrev pub Leads : {S D : Type 0} → (S → Option D → S → Type 0) → ℕ → S → List D → S → Type 0
+Leads step zero a ds b = (ds ≡ []) × (b ≡ a)
+Leads {S} {D} step (suc n) a ds b =
+    (mid : S) × (o : Option D) × (rest : List D) × step a o mid × Leads step n mid rest b × (ds ≡ option_to_list o ++ rest)
+
+-- an enabled move of a subscription was made, and had its effect
+pub record IsMoved {T : Type 0} (m : Meaning T) (id : SubId) (old : Subscription T) (o : Option (SubId × Signal T)) (new : Subscription T) : Type 0 where
+  pub move : Move
+  pub tree : tree_of move ≡ Sub id
+  pub enabled : move_enabled_in m old move ≡ true
+  pub effect : IsEffect m move old new o
+  pub answer : IsMadeAnswer move o
+
+-- an enabled move of a graph was made, and had its effect: what `make` promises
+pub record IsMoveMade {T : Type 0} (m : Meaning T) (old : List (Subscription T)) (o : Option (SubId × Signal T)) (new : List (Subscription T)) : Type 0 where
+  pub move : Move
+  pub enabled : enabled_in_tree m old (tree_of move) move ≡ true
+  pub effect : IsMade m move (tree_of move) old new o
+  pub answer : IsMadeAnswer move o
+
+-- ---- a subscription
+
+-- a subscription made so many enabled moves, and these signals of it were delivered
+pub record IsPumped {T : Type 0} (m : Meaning T) (id : SubId) (count : ℕ) (old : Subscription T) (before : List (SubId × Signal T)) (new : Subscription T) (after : List (SubId × Signal T)) : Type 0 where
   pub signals : List (Signal T)
   pub output : after ≡ before ++ to id signals
+  pub moves : Leads (IsMoved m id) count old (to id signals) new
   pub stands : (published : List (Stream T)) (past : Past T) → Stands m published old past → Stands m published new (given_all signals past)
+
+-- how many moves were made, where the answer is whether one was
+abbrev pub moves_of : {E : Type 0} → Result Bool E → ℕ
+moves_of (Ok true) = 1
+moves_of (Ok false) = 0
+moves_of (Err e) = 0
+
+-- so many of the budget were spent, where the answer is how many are left
+abbrev pub Spent : {E : Type 0} → ℕ → ℕ → Result ℕ E → Type 0
+Spent budget n (Ok left) = n + left ≡ budget
+Spent budget n (Err e) = n ≤ budget
 
 -- no move of a subscription is enabled
 abbrev pub IsQuiet : {T : Type 0} → Meaning T → Subscription T → Type 0
 IsQuiet m sub = (at : ℕ) → (ask_enabled sub at ≡ false) × (send_enabled m sub at ≡ false) × (take_enabled sub at ≡ false)
 
--- a graph moved on, and these signals were delivered
-pub record AllPumped {T : Type 0} (m : Meaning T) (old : List (Subscription T)) (before : List (SubId × Signal T)) (new : List (Subscription T)) (after : List (SubId × Signal T)) : Type 0 where
+-- some move of a subscription is enabled
+abbrev pub IsAwake : {T : Type 0} → Meaning T → Subscription T → Type 0
+IsAwake m sub = (at : ℕ) × ((ask_enabled sub at ≡ true) ⊎ ((send_enabled m sub at ≡ true) ⊎ (take_enabled sub at ≡ true)))
+
+-- ---- a graph
+
+-- a graph made so many enabled moves, and these signals were delivered
+pub record AllPumped {T : Type 0} (m : Meaning T) (count : ℕ) (old : List (Subscription T)) (before : List (SubId × Signal T)) (new : List (Subscription T)) (after : List (SubId × Signal T)) : Type 0 where
   pub signals : List (SubId × Signal T)
   pub output : after ≡ before ++ signals
+  pub moves : Leads (IsMoveMade m) count old signals new
   pub stands : (h : History T) → StandsFor m old h → StandsFor m new (delivered h signals)
+
+-- no move of a graph is enabled
+abbrev pub IsAllQuiet : {T : Type 0} → Meaning T → List (Subscription T) → Type 0
+IsAllQuiet m subs = (move : Move) → enabled_in_tree m subs (tree_of move) move ≡ false
+
+-- some move of a graph is enabled
+abbrev pub IsAnyAwake : {T : Type 0} → Meaning T → List (Subscription T) → Type 0
+IsAnyAwake m subs = (move : Move) × (enabled_in_tree m subs (tree_of move) move ≡ true)
+
+-- the first subscriptions, so many of them, are quiet
+abbrev pub AreQuiet : {T : Type 0} → Meaning T → List (Subscription T) → ℕ → Type 0
+AreQuiet {T} m subs n = (i : ℕ) → i < n → (s : Subscription T) → slice_get subs i ≡ Some s → IsQuiet m s
+
+-- how driving a graph ends after so many moves: Idle where no move is enabled, and Budget where one is and the whole
+-- budget was spent; a graph has at most 256 subscriptions
+abbrev pub HasEnded : {T : Type 0} → Meaning T → ℕ → ℕ → List (Subscription T) → Result Pumped Refusal → Type 0
+HasEnded m budget n subs (Ok Idle) = (n ≤ budget) × (length subs ≤ 256 → IsAllQuiet m subs)
+HasEnded m budget n subs (Ok Budget) = (n ≡ budget) × IsAnyAwake m subs
+HasEnded m budget n subs (Err r) = (n ≤ budget) × (r ≡ NoMemory)

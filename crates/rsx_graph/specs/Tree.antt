@@ -130,17 +130,6 @@ IsIdle m t asked sent = (at : ℕ) → (can_ask t at asked sent ≡ false) × (c
 abbrev pub IsBusy : {T : Type 0} → Meaning T → Node T → ℕ → ℕ → Type 0
 IsBusy m t asked sent = (at : ℕ) × ((can_ask t at asked sent ≡ true) ⊎ (can_send m t at ≡ true))
 
--- an enabled move below the root was made
-pub record IsAdvanced {T : Type 0} (m : Meaning T) (old : Node T) (asked sent : ℕ) (new : Node T) : Type 0 where
-  pub enabled : IsBusy m old asked sent
-  pub kept : IsKept m old new
-
--- an Ask or a Send over the edge of this node's input was enabled, and was made
-pub record IsAdvancedHere {T : Type 0} (m : Meaning T) (n : PlainNode T) (edge : Edge) (input : Node T) (asked sent : ℕ) (n' : PlainNode T) (input' : Node T) : Type 0 where
-  pub enabled : (can_ask_for (edge_view edge) (plain_wanted n 0 asked sent) ≡ true) ⊎ (can_send_over m n edge input ≡ true)
-  pub value : IsPassedOn m n input n' input'
-  pub notes : notes_of input' ≡ notes_of input
-
 -- neither an Ask nor a Send over the edge of this node's input is enabled
 pub record IsIdleHere {T : Type 0} (m : Meaning T) (n : PlainNode T) (edge : Edge) (input : Node T) (asked sent : ℕ) : Type 0 where
   pub ask : can_ask_for (edge_view edge) (plain_wanted n 0 asked sent) ≡ false
@@ -180,3 +169,28 @@ pub record IsSentOver {T : Type 0} (m : Meaning T) (edge : Edge) (input : Node T
   pub front : Front
   pub offered : option_map front_of (offers m input) ≡ Some front
   pub edges : edge_view edge' ∷ edges input' ≡ carried (is_ending (option_map front_of (plain_waiting m n'))) front (edge_view edge ∷ edges input)
+
+-- an Ask over the edge of this node's input
+abbrev pub IsAskedOver : {T : Type 0} → PlainNode T → Edge → Node T → ℕ → ℕ → Edge → Node T → Type 0
+IsAskedOver n edge input asked sent edge' input' =
+    edge_view edge' ∷ edges input' ≡ asked_up_to (plain_wanted n 0 asked sent) (edge_view edge) ∷ edges input
+
+-- ---- an enabled move that was made
+
+-- an Ask or a Send over the edge `at` below the root was enabled, and was made
+abbrev pub IsMadeBelow : {T : Type 0} → Meaning T → Node T → ℕ → ℕ → ℕ → Node T → Type 0
+IsMadeBelow m old at asked sent new =
+    ((can_ask old at asked sent ≡ true) × IsAskedAt old at asked sent new) ⊎ ((can_send m old at ≡ true) × IsSentAt m old at new)
+
+-- a move below the root was made
+pub record IsAdvanced {T : Type 0} (m : Meaning T) (old : Node T) (asked sent : ℕ) (new : Node T) : Type 0 where
+  pub at : ℕ
+  pub made : IsMadeBelow m old at asked sent new
+  pub kept : IsKept m old new
+
+-- an Ask or a Send over the edge of this node's input was enabled, and was made
+pub record IsAdvancedHere {T : Type 0} (m : Meaning T) (n : PlainNode T) (edge : Edge) (input : Node T) (asked sent : ℕ) (n' : PlainNode T) (edge' : Edge) (input' : Node T) : Type 0 where
+  pub made : ((can_ask_for (edge_view edge) (plain_wanted n 0 asked sent) ≡ true) × IsAskedOver n edge input asked sent edge' input') ⊎
+      ((can_send_over m n edge input ≡ true) × IsSentOver m edge input n' edge' input')
+  pub value : IsPassedOn m n input n' input'
+  pub notes : notes_of input' ≡ notes_of input

@@ -1,11 +1,11 @@
 //! A graph of subscriptions.
 
-ghost use Rattle.std.specs.Prelude.{◌≡◌, ◌<◌, ◌≤◌, ◌++◌, ◌∷◌, [], List, length, OnOk, OnErr, IfOk, IfErr, None, Some, true, false};
+ghost use Rattle.std.specs.Prelude.{◌≡◌, ℕ, ◌+◌, ◌<◌, ◌≤◌, ◌++◌, ◌∷◌, [], List, length, OnOk, OnErr, IfOk, IfErr, None, Some, true, false};
 ghost use Rattle.rsx_types.specs.Stream.{Stream};
 ghost use Rattle.rsx_model.specs.Check.{refusal};
 ghost use Rattle.rsx_graph.specs.History.{History, no_history, subscribed, given, with_subscriber, with_past, with_made, cancelled, requested, extended, all_extended, IsSubscribeRefusal, IsMakeRefusal, IsMadeAnswer, Belongs, AllBelong, HasAsked, IsLookRefusal, IsTreeRefusal, IsKnownTree, tree_of};
 ghost use Rattle.rsx_graph.specs.Stands.{Stands, StandsFor, IsRequested, IsOwed, HasNotes, HasNotesAt, IsMade, IsMadeAt, enabled_in_tree, enabled_at};
-ghost use Rattle.rsx_graph.specs.Pumped.{AllPumped};
+ghost use Rattle.rsx_graph.specs.Pumped.{AllPumped, Spent, HasEnded, AreQuiet, IsAllQuiet, IsAnyAwake};
 
 use crate::build::build;
 use crate::deliveries::Deliveries;
@@ -205,8 +205,7 @@ impl<O: Ops> Graph<O> {
         out: &mut Deliveries<O::Item>,
     ) -> Result<Pumped, Refusal>
         ensures ops { self.new.ops ≡ self.old.ops }
-        ensures pumped { AllPumped (O.meaning self.old.ops) self.old.subscriptions.items out.old.signals self.new.subscriptions.items out.new.signals }
-        ensures err { IfErr result (λ r. r ≡ Refusal.NoMemory) }
+        ensures pumped { (n : ℕ) × HasEnded (O.meaning self.old.ops) budget n self.new.subscriptions.items result × AllPumped (O.meaning self.old.ops) n self.old.subscriptions.items out.old.signals self.new.subscriptions.items out.new.signals }
     {
         let mut left = budget;
         let count = self.subscriptions.len().min(256) as u32;
@@ -216,11 +215,12 @@ impl<O: Ops> Graph<O> {
                 Err(why) => return Err(why),
             };
         }
-        let idle = left > 0 || self.is_idle();
-        if idle {
-            Ok(Pumped::Idle)
-        } else {
-            Ok(Pumped::Budget)
+        if left > 0 {
+            return Ok(Pumped::Idle);
+        }
+        match self.is_idle() {
+            true => Ok(Pumped::Idle),
+            false => Ok(Pumped::Budget),
         }
     }
 
@@ -235,7 +235,8 @@ impl<O: Ops> Graph<O> {
         requires { sub.0 < length self.old.subscriptions.items }
         ensures ops { self.new.ops ≡ self.old.ops }
         ensures count { length self.new.subscriptions.items ≡ length self.old.subscriptions.items }
-        ensures pumped { AllPumped (O.meaning self.old.ops) self.old.subscriptions.items out.old.signals self.new.subscriptions.items out.new.signals }
+        ensures pumped { (n : ℕ) × Spent budget n result × AllPumped (O.meaning self.old.ops) n self.old.subscriptions.items out.old.signals self.new.subscriptions.items out.new.signals }
+        ensures quiet { IfOk result (λ left. 0 < left → AreQuiet (O.meaning self.old.ops) self.old.subscriptions.items sub.0 → AreQuiet (O.meaning self.old.ops) self.new.subscriptions.items (sub.0 + 1)) }
         ensures err { IfErr result (λ r. r ≡ Refusal.NoMemory) }
     {
         let ops = self.ops;
@@ -247,8 +248,16 @@ impl<O: Ops> Graph<O> {
     }
 
     /// Whether no move is enabled.
-    fn is_idle(&self) -> bool {
-        self.subscriptions.iter().all(|s| s.is_idle())
+    fn is_idle(&self) -> bool
+        ensures yes { result ≡ true → IsAllQuiet (O.meaning self.now.ops) self.now.subscriptions.items }
+        ensures no { result ≡ false → IsAnyAwake (O.meaning self.now.ops) self.now.subscriptions.items }
+    {
+        for subscription in &self.subscriptions {
+            if !subscription.is_idle() {
+                return false;
+            }
+        }
+        true
     }
 
     /// What the graph still owes a subscriber: what is on its root edge, and then what comes out of its tree where nothing

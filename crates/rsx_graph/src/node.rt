@@ -291,7 +291,7 @@ fn advance_here<O: Ops>(
     asked: u64,
     sent: u64,
 ) -> Result<bool, NoMemory>
-    ensures made { IfOk result (λ b. b ≡ true → IsAdvancedHere (O.meaning ops.now) node.old edge.old input.old asked sent node.new input.new) }
+    ensures made { IfOk result (λ b. b ≡ true → IsAdvancedHere (O.meaning ops.now) node.old edge.old input.old asked sent node.new edge.new input.new) }
     ensures idle { IfOk result (λ b. b ≡ false → IsIdleHere (O.meaning ops.now) node.old edge.old input.old asked sent) }
     ensures same { IfOk result (λ b. b ≡ false → (node.new ≡ node.old) × (edge.new ≡ edge.old) × (input.new ≡ input.old)) }
     ensures err { OnErr result ((node.new ≡ node.old) × (edge.new ≡ edge.old) × (input.new ≡ input.old)) }

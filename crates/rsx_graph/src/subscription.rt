@@ -27,16 +27,18 @@ pub struct Subscription<T> {
 }
 
 impl<T: Drop> Subscription<T> {
-    ghost use Rattle.std.specs.Prelude.{◌≡◌, ◌≤◌, ◌<◌, length, ℕ, ◌++◌, ◌∷◌, [], List, OnOk, OnErr, IfOk, IfErr, IfSome, OnSome, IfNone, Some, None, true, false, map};
+    ghost use Rattle.std.specs.Prelude.{◌≡◌, ◌≤◌, ◌<◌, length, ℕ, ◌++◌, ◌∷◌, [], List, OnOk, OnErr, IfOk, IfErr, IfSome, OnSome, IfNone, Some, None, true, false, map, option_map};
     ghost use Rattle.rsx_types.specs.Meaning.{Meaning};
     ghost use Rattle.rsx_types.specs.Notes.{unchosen};
     ghost use Rattle.rsx_types.specs.Stream.{Stream};
     ghost use Rattle.rsx_sources.specs.Steps.{IsNotMade};
     ghost use Rattle.rsx_graph.specs.Tree.{comes_out, notes_of, IsAllClosed};
     ghost use Rattle.rsx_graph.specs.History.{Past, cancelled, requested, given, request_answer};
-    ghost use Rattle.rsx_graph.specs.Tree.{IsIdle};
+    ghost use Rattle.rsx_graph.specs.Tree.{IsIdle, can_go, offers};
+    ghost use Rattle.rsx_graph.specs.Edges.{edge_view};
+    ghost use Rattle.rsx_sources.specs.Machine.{front_of};
     ghost use Rattle.rsx_graph.specs.Stands.{Stands, owed_from, ask_enabled, send_enabled, take_enabled, IsAsk, IsSend, IsTake};
-    ghost use Rattle.rsx_graph.specs.Pumped.{IsPumped, IsQuiet};
+    ghost use Rattle.rsx_graph.specs.Pumped.{IsPumped, IsMoved, IsQuiet, IsAwake, Spent, moves_of};
 
     /// Closes the subscription and all below it.
     fn close(&mut self, state: SubscriptionState)
@@ -178,40 +180,48 @@ impl<T: Drop> Subscription<T> {
         id: SubId,
         out: &mut Deliveries<T>,
     ) -> Result<bool, NoMemory>
-        ensures pumped { IsPumped (O.meaning ops.now) id self.old out.old.signals self.new out.new.signals }
+        ensures pumped { IsPumped (O.meaning ops.now) id (moves_of result) self.old out.old.signals self.new out.new.signals }
         ensures idle { IfOk result (λ b. b ≡ false → IsQuiet (O.meaning ops.now) self.new) }
     {
         if self.queue.len() > 0 {
             out.reserve()?;
-            return Ok(self.deliver(id, out));
+            self.deliver(id, out);
+            return Ok(true);
         }
         match self.send_root(alloc, ops) {
             Ok(()) => Ok(true),
             Err(NotMade::NoMemory) => Err(NoMemory),
-            Err(NotMade::NotEnabled) => self.advance_tree(alloc, ops),
+            Err(NotMade::NotEnabled) => match self.advance_tree(alloc, ops, id) {
+                Ok(true) => Ok(true),
+                Ok(false) => Ok(false),
+                Err(NoMemory) => Err(NoMemory),
+            },
         }
     }
 
     /// Hands the front signal of the queue to the subscriber.
-    fn deliver(&mut self, id: SubId, out: &mut Deliveries<T>) -> bool
-        requires { length out.old.signals < out.old.room }
-        ensures pumped { (m : Meaning T) → IsPumped m id self.old out.old.signals self.new out.new.signals }
-        ensures some { result ≡ take_enabled self.old 0 }
-        ensures none { result ≡ false → self.new ≡ self.old }
+    fn deliver(&mut self, id: SubId, out: &mut Deliveries<T>)
+        requires room { length out.old.signals < out.old.room }
+        requires waits { 0 < length self.old.queue }
+        ensures { (m : Meaning T) → IsPumped m id 1 self.old out.old.signals self.new out.new.signals }
     {
-        match self.take(0) {
-            Some(signal) => {
-                out.push(id, signal);
-                true
-            }
-            None => false,
+        if let Some(signal) = self.take(0) {
+            out.push(id, signal);
         }
     }
 
     /// Makes the first enabled move of the tree, if there is one.
-    fn advance_tree<O: Ops<Item = T>>(&mut self, alloc: Global, ops: &O) -> Result<bool, NoMemory>
+    fn advance_tree<O: Ops<Item = T>>(
+        &mut self,
+        alloc: Global,
+        ops: &O,
+        id: SubId,
+    ) -> Result<bool, NoMemory>
         ensures stands { (published : List (Stream T)) (past : Past T) → Stands (O.meaning ops.now) published self.old past → Stands (O.meaning ops.now) published self.new past }
-        ensures idle { IfOk result (λ b. b ≡ false → (self.new ≡ self.old) × IsIdle (O.meaning ops.now) self.old.tree self.old.root.demand.asked self.old.root.demand.sent) }
+        ensures made { IfOk result (λ b. b ≡ true → IsMoved (O.meaning ops.now) id self.old None self.new) }
+        ensures idle { IfOk result (λ b. b ≡ false → IsIdle (O.meaning ops.now) self.old.tree self.old.root.demand.asked self.old.root.demand.sent) }
+        ensures none { IfOk result (λ b. b ≡ false → self.new ≡ self.old) }
+        ensures same { OnErr result (self.new ≡ self.old) }
     {
         match self
             .tree
@@ -232,30 +242,42 @@ impl<T: Drop> Subscription<T> {
         budget: u32,
         out: &mut Deliveries<T>,
     ) -> Result<u32, NoMemory>
-        ensures pumped { IsPumped (O.meaning ops.now) id self.old out.old.signals self.new out.new.signals }
+        ensures pumped { (n : ℕ) × Spent budget n result × IsPumped (O.meaning ops.now) id n self.old out.old.signals self.new out.new.signals }
         ensures idle { IfOk result (λ left. 0 < left → IsQuiet (O.meaning ops.now) self.new) }
-        ensures left { IfOk result (λ left. left ≤ budget) }
     {
         for made in 0..budget {
-            if !self.advance(alloc, ops, id, out)? {
-                return Ok(budget - made);
+            match self.advance(alloc, ops, id, out) {
+                Ok(true) => {}
+                Ok(false) => return Ok(budget - made),
+                Err(NoMemory) => return Err(NoMemory),
             }
         }
         Ok(0)
     }
 
     /// Whether no move is enabled.
-    pub fn is_idle(&self) -> bool {
+    pub fn is_idle(&self) -> bool
+        ensures yes { (m : Meaning T) → result ≡ true → IsQuiet m self.now }
+        ensures no { (m : Meaning T) → result ≡ false → IsAwake m self.now }
+    {
         if self.queue.len() > 0 {
             return false;
         }
-        if let Some(front) = self.tree.front() {
-            if self.root.can_carry(front) {
-                return false;
-            }
+        if self.can_send_root() {
+            return false;
         }
         self.tree
             .is_idle(self.root.demand.asked, self.root.demand.sent)
+    }
+
+    /// Whether the tree offers a signal that can go over the root edge, whose queue aside.
+    fn can_send_root(&self) -> bool
+        ensures { (m : Meaning T) → result ≡ can_go (edge_view self.now.root) (option_map front_of (offers m self.now.tree)) }
+    {
+        match self.tree.front() {
+            Some(front) => self.root.can_carry(front),
+            None => false,
+        }
     }
 
     /// What is still owed: what is queued, and then what comes out of the tree.

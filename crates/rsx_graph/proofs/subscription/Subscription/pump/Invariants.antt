@@ -1,5 +1,6 @@
+use Rattle.std.proofs.Common.{◌≤◌}
 use Rattle.rsx_graph.specs.Pumped.{IsPumped}
 use Rattle.rsx_graph.proofs.subscription.Subscription.pump.Given as goal
 
 abbrev pub invariant-loop-made : goal.invariant-loop-made
-invariant-loop-made g l = IsPumped (g.O.Ops.meaning l.ops) l.id l.fn.self l.fn.out.signals l.self l.out.signals
+invariant-loop-made g l = IsPumped (g.O.Ops.meaning l.ops) l.id l.made l.fn.self l.fn.out.signals l.self l.out.signals
