@@ -1,1 +1,3 @@
 pub mod Residuals
+pub mod Endings
+pub mod Taken

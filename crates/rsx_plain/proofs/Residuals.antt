@@ -26,7 +26,7 @@ get_none (suc at) [] h = rw add-one refl
 get_none zero (x ∷ xs) h = cc
 get_none (suc at) (x ∷ xs) h = rw add-one (rw add-one at (get_none at xs h))
 
-drop_all : {A : Type 0} (at : ℕ) (xs : List A) → length xs ≤ at → drop at xs ≡ []
+pub drop_all : {A : Type 0} (at : ℕ) (xs : List A) → length xs ≤ at → drop at xs ≡ []
 drop_all zero [] h = refl
 drop_all (suc at) [] h = refl
 drop_all zero (x ∷ xs) h = absurd (omega arith)

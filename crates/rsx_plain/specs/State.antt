@@ -1,24 +1,34 @@
 -- The plain operators from a state.
-use Rattle.std.specs.Prelude.{ℕ, ◌+◌, min, Bool, true, false, Result, Ok, Err}
+use Rattle.std.specs.Prelude.{◌≡◌, ℕ, ◌+◌, ◌-◌, ◌*◌, min, Bool, true, false, nat_eq, nat_le, if◌then◌else◌, List, [], ◌∷◌, ◌++◌, length, Result, Ok, Err}
+use Rattle.std.specs.Set.{is_member}
 use Rattle.rsx_types.specs.declared.signal.Signal.{Signal}
 use Rattle.rsx_types.specs.declared.signal.Signal.TheVariants.{Next, Complete, Error}
 use Rattle.rsx_types.specs.declared.stage.Stage.{Stage}
-use Rattle.rsx_types.specs.declared.stage.Stage.TheVariants.{Map, Filter}
+use Rattle.rsx_types.specs.declared.stage.Stage.TheVariants.{Map, Filter, Take, Scan, Buffer, Distinct}
 use Rattle.rsx_types.specs.Meaning.{Meaning}
-use Rattle.rsx_types.specs.Plain.{mapped_items, filtered_items}
+use Rattle.rsx_types.specs.Plain.{mapped_items, filtered_items, taken_items, scanned_items, buffered_items, distinct_items}
 use Rattle.rsx_types.specs.Stream.{Stream}
+use Rattle.rsx_plain.specs.Moves.{Moves, EndsLast}
 use Rattle.rsx_plain.specs.declared.state.PlainState.{PlainState}
-use Rattle.rsx_plain.specs.declared.state.PlainState.TheVariants.{Map as MapFrom, Filter as FilterFrom}
+use Rattle.rsx_plain.specs.declared.state.PlainState.TheVariants.{Map as MapFrom, Filter as FilterFrom, Take as TakeFrom, Scan as ScanFrom, Buffer as BufferFrom, Distinct as DistinctFrom}
 
 -- the operator from a state on, of what still comes in
-abbrev pub plain_from : {T : Type 0} → Meaning T → PlainState → Stream T → Stream T
+abbrev pub plain_from : {T : Type 0} → Meaning T → PlainState T → Stream T → Stream T
 plain_from m (MapFrom f) v = mapped_items (m.mapped f) v.items v.ending
 plain_from m (FilterFrom f n) v = filtered_items (m.tested f) v.items v.ending
+plain_from m (TakeFrom n left) v = taken_items left v.items v.ending
+plain_from m (ScanFrom f a) v = scanned_items (m.folded f) a v.items v.ending
+plain_from m (BufferFrom n xs) v = buffered_items m.list_of n xs v.items v.ending
+plain_from m (DistinctFrom f ks n) v = distinct_items (m.keyed f) ks v.items v.ending
 
 -- the state in which an operator begins
-abbrev pub plain_start : Stage → PlainState
+abbrev pub plain_start : {T : Type 0} → Stage T → PlainState T
 plain_start (Map f) = MapFrom f
 plain_start (Filter f) = FilterFrom f 0
+plain_start (Take n) = TakeFrom n n
+plain_start (Scan f s) = ScanFrom f s
+plain_start (Buffer n) = BufferFrom n []
+plain_start (Distinct f) = DistinctFrom f [] 0
 
 -- the most that can be asked of a node in all
 abbrev pub most_asked : ℕ
@@ -30,14 +40,54 @@ dropped_after n (Ok true) = n
 dropped_after n (Ok false) = min most_asked (n + 1)
 dropped_after n (Err c) = n
 
+-- the accumulation after an answer; a fault leaves it
+abbrev pub last_after : {T : Type 0} → T → Result T ℕ → T
+last_after a (Ok b) = b
+last_after a (Err c) = a
+
+-- the started list after an item; where it is full it came out
+abbrev pub started_after : {T : Type 0} → ℕ → List T → T → List T
+started_after n xs x = if nat_le n (length xs + 1) then [] else xs ++ x ∷ []
+
+-- the state of a `distinct` after a key
+abbrev pub distinct_after : {T : Type 0} → ℕ → List ℕ → ℕ → Result ℕ ℕ → PlainState T
+distinct_after f ks n (Ok k) =
+    if is_member nat_eq ks k then DistinctFrom f ks (min most_asked (n + 1)) else DistinctFrom f (ks ++ k ∷ []) n
+distinct_after f ks n (Err c) = DistinctFrom f ks n
+
+-- the state after an item
+abbrev pub after_item : {T : Type 0} → Meaning T → PlainState T → T → PlainState T
+after_item m (MapFrom f) x = MapFrom f
+after_item m (FilterFrom f n) x = FilterFrom f (dropped_after n (m.tested f x))
+after_item m (TakeFrom n left) x = TakeFrom n (left - 1)
+after_item m (ScanFrom f a) x = ScanFrom f (last_after a (m.folded f a x))
+after_item m (BufferFrom n xs) x = BufferFrom n (started_after n xs x)
+after_item m (DistinctFrom f ks n) x = distinct_after f ks n (m.keyed f x)
+
+-- the state after an ending: a list that was started came out or was dropped
+abbrev pub after_ending : {T : Type 0} → PlainState T → PlainState T
+after_ending (MapFrom f) = MapFrom f
+after_ending (FilterFrom f n) = FilterFrom f n
+after_ending (TakeFrom n left) = TakeFrom n left
+after_ending (ScanFrom f a) = ScanFrom f a
+after_ending (BufferFrom n xs) = BufferFrom n []
+after_ending (DistinctFrom f ks n) = DistinctFrom f ks n
+
 -- the state after a signal
-abbrev pub after_signal : {T : Type 0} → Meaning T → PlainState → Signal T → PlainState
-after_signal m (MapFrom f) s = MapFrom f
-after_signal m (FilterFrom f n) (Next x) = FilterFrom f (dropped_after n (m.tested f x))
-after_signal m (FilterFrom f n) Complete = FilterFrom f n
-after_signal m (FilterFrom f n) (Error c) = FilterFrom f n
+abbrev pub after_signal : {T : Type 0} → Meaning T → PlainState T → Signal T → PlainState T
+after_signal m state (Next x) = after_item m state x
+after_signal m state Complete = after_ending state
+after_signal m state (Error c) = after_ending state
+
+-- the signal went in, and out came out of the old state, which left the new one
+abbrev pub Reacts : {T : Type 0} → Meaning T → PlainState T → Signal T → List (Signal T) → PlainState T → Type 0
+Reacts m old s out new = Moves (plain_from m) old s out new × EndsLast out × (new ≡ after_signal m old s)
 
 -- what is to be asked of the input in all, where so much is asked of the operator and so much came out of it
-abbrev pub wanted_from : PlainState → ℕ → ℕ → ℕ
+abbrev pub wanted_from : {T : Type 0} → PlainState T → ℕ → ℕ → ℕ
 wanted_from (MapFrom f) asked sent = asked
 wanted_from (FilterFrom f n) asked sent = min most_asked (asked + n)
+wanted_from (TakeFrom n left) asked sent = min asked n
+wanted_from (ScanFrom f a) asked sent = asked - 1
+wanted_from (BufferFrom n xs) asked sent = min most_asked (asked * n)
+wanted_from (DistinctFrom f ks n) asked sent = min most_asked (asked + n)

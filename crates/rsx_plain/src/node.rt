@@ -1,6 +1,6 @@
 //! Plain operators as nodes of a tree.
 
-ghost use Rattle.std.specs.Prelude.{◌≡◌, []};
+ghost use Rattle.std.specs.Prelude.{◌≡◌};
 
 use crate::operator::Operator;
 use crate::state::PlainState;
@@ -12,30 +12,58 @@ use std::alloc::Global;
 #[derive(Drop)]
 pub struct PlainNode<T> {
     /// The operator.
-    pub state: PlainState,
+    pub state: PlainState<T>,
     /// What it has put out and its receiver has not taken yet.
     pub slot: OutSlot<T>,
 }
 
 impl<T: Drop> PlainNode<T> {
-    ghost use Rattle.std.specs.Prelude.{◌≡◌, []};
+    ghost use Rattle.std.specs.Prelude.{◌≡◌, IfOk};
     ghost use Rattle.rsx_types.specs.Meaning.{Meaning};
     ghost use Rattle.rsx_types.specs.Plain.{plain};
     ghost use Rattle.rsx_types.specs.declared.note.Note.{Note};
     ghost use Rattle.rsx_sources.specs.Machine.{Incoming, quiet};
     ghost use Rattle.rsx_plain.specs.State.{plain_start};
-    ghost use Rattle.rsx_plain.specs.Node.{plain_comes_out};
+    ghost use Rattle.rsx_plain.specs.Node.{plain_comes_out, start_slot, plain_ended};
 
-    /// The node of an operator before it has taken anything. It takes no memory.
-    pub fn new(stage: Stage) -> PlainNode<T>
-        ensures state { result.state ≡ plain_start stage }
-        ensures slot { result.slot ≡ [] }
-        ensures fresh { (m : Meaning T) (inc : Incoming T) (further : Note) → plain_comes_out m result inc further ≡ quiet further (plain m stage inc.first) }
+    /// The node of an operator before it has taken anything. Its slot begins with the seed of `scan`, or the completion of
+    /// `take 0`. It takes memory for copies of a seed alone; for want of it the answer is [`NoMemory`].
+    pub fn new<O: Ops<Item = T>>(
+        alloc: Global,
+        ops: &O,
+        stage: &Stage<T>,
+    ) -> Result<PlainNode<T>, NoMemory>
+        ensures state { IfOk result (λ n. n.state ≡ plain_start stage.now) }
+        ensures slot { IfOk result (λ n. n.slot ≡ start_slot stage.now) }
+        ensures fresh { IfOk result (λ n. (m : Meaning T) (inc : Incoming T) (further : Note) → plain_comes_out m n inc further ≡ quiet further (plain m stage.now inc.first)) }
     {
-        PlainNode {
-            state: PlainState::new(stage),
-            slot: OutSlot::new(),
+        let state = PlainState::new(alloc, ops, stage)?;
+        let mut slot = OutSlot::new();
+        match stage {
+            Stage::Take(0) => slot.put(Signal::Complete),
+            Stage::Scan(_, seed) => {
+                let copy = ops.copy(alloc, seed)?;
+                slot.put(Signal::Next(copy));
+            }
+            _ => {}
         }
+        Ok(PlainNode { state, slot })
+    }
+
+    /// Whether a completion or a failure stands in the slot, in front or behind an item: then the node takes nothing more
+    /// of its input.
+    pub fn has_ended(&self) -> bool
+        ensures { result ≡ plain_ended self.now }
+    {
+        for at in 0..self.slot.len() {
+            match self.slot.get(at) {
+                Some(Signal::Next(_)) => {}
+                Some(Signal::Complete) => return true,
+                Some(Signal::Error(_)) => return true,
+                None => {}
+            }
+        }
+        false
     }
 }
 

@@ -1,22 +1,22 @@
 //! The states of the plain operators.
 
 ghost use Rattle.std.specs.Prelude.{◌≡◌, [], IfOk, IfErr, OnOk, OnErr};
-ghost use Rattle.rsx_types.specs.Plain.{mapped_items, filtered_items};
 ghost use Rattle.rsx_types.specs.Stream.{items_then};
 ghost use Rattle.rsx_plain.specs.Moves.{Moves, EndsLast};
 ghost use Rattle.rsx_plain.specs.State.{plain_from, plain_start, after_signal, wanted_from};
 
+use crate::keys::Keys;
 use crate::operator::Operator;
+use crate::reactions::{MOST, Reactions};
+use crate::rest::OverLists;
+use crate::started::Started;
 use rsx_sources::OutSlot;
-use rsx_types::{Cause, Ending, Fault, NoMemory, Ops, Signal, Stage, StreamValue};
+use rsx_types::{Ending, NoMemory, Ops, Signal, Stage, StreamValue};
 use std::alloc::Global;
 
-/// The most that can be asked of a node in all: 2^63 - 1.
-const MOST: u64 = 0x7fff_ffff_ffff_ffff;
-
 /// A plain operator that has taken some of its input.
-#[derive(Debug, Drop)]
-pub enum PlainState {
+#[derive(Drop)]
+pub enum PlainState<T> {
     /// The answers of a function.
     Map {
         /// The number of the function.
@@ -29,24 +29,80 @@ pub enum PlainState {
         /// How many items came in whose test was false, or 2^63 - 1 where there were more.
         dropped: u64,
     },
+    /// The first items, and then the completion.
+    Take {
+        /// How many items come out in all.
+        count: u64,
+        /// How many of them have not come out yet.
+        left: u64,
+    },
+    /// The accumulations.
+    Scan {
+        /// The number of the function.
+        function: u16,
+        /// The seed, or the accumulation that came out last.
+        last: T,
+    },
+    /// Lists of the items.
+    Buffer {
+        /// How many items a list has.
+        size: u64,
+        /// The items of the list that is not full yet.
+        started: Started<T>,
+    },
+    /// The first item of each key.
+    Distinct {
+        /// The number of the function that answers keys.
+        function: u16,
+        /// The keys of the items that came out.
+        keys: Keys,
+        /// How many items came in whose key was known, or 2^63 - 1 where there were more.
+        dropped: u64,
+    },
 }
 
-impl PlainState {
-    /// The operator before it has taken anything.
-    pub fn new(stage: Stage) -> PlainState
-        ensures { result ≡ plain_start stage }
+impl<T: Drop> PlainState<T> {
+    /// The operator before it has taken anything. It takes memory for a copy of a seed alone; for want of it the answer is
+    /// [`NoMemory`].
+    pub fn new<O: Ops<Item = T>>(
+        alloc: Global,
+        ops: &O,
+        stage: &Stage<T>,
+    ) -> Result<PlainState<T>, NoMemory>
+        ensures { IfOk result (λ s. s ≡ plain_start stage.now) }
     {
-        match stage {
-            Stage::Map(function) => PlainState::Map { function },
+        let state = match stage {
+            Stage::Map(function) => PlainState::Map {
+                function: *function,
+            },
             Stage::Filter(function) => PlainState::Filter {
-                function,
+                function: *function,
                 dropped: 0,
             },
-        }
+            Stage::Take(count) => PlainState::Take {
+                count: *count,
+                left: *count,
+            },
+            Stage::Scan(function, seed) => PlainState::Scan {
+                function: *function,
+                last: ops.copy(alloc, seed)?,
+            },
+            Stage::Buffer(size) => PlainState::Buffer {
+                size: *size,
+                started: Started::new(alloc),
+            },
+            Stage::Distinct(function) => PlainState::Distinct {
+                function: *function,
+                keys: Keys::new(alloc),
+                dropped: 0,
+            },
+        };
+        Ok(state)
     }
 
     /// What is to be asked of the input in all, where `asked` is asked of the operator and `sent` items came out of it:
-    /// an item that was dropped is asked for again. It is at most 2^63 - 1 where `asked` is.
+    /// an item that was dropped is asked for again, `take` asks for no more than it lets through, the seed of `scan` needs
+    /// no item, and a list needs as many as it has. It is at most 2^63 - 1 where `asked` is.
     pub fn want(&self, asked: u64, sent: u64) -> u64
         ensures { result ≡ wanted_from self.now asked sent }
     {
@@ -56,11 +112,22 @@ impl PlainState {
                 function: _,
                 dropped,
             } => asked.saturating_add(*dropped).min(MOST),
+            PlainState::Take { count, left: _ } => asked.min(*count),
+            PlainState::Scan {
+                function: _,
+                last: _,
+            } => asked.saturating_sub(1),
+            PlainState::Buffer { size, started: _ } => asked.saturating_mul(*size).min(MOST),
+            PlainState::Distinct {
+                function: _,
+                keys: _,
+                dropped,
+            } => asked.saturating_add(*dropped).min(MOST),
         }
     }
 }
 
-impl<T: Drop> Operator<T> for PlainState {
+impl<T: Drop> Operator<T> for PlainState<T> {
     ghost from = { plain_from };
 
     ghost after = { after_signal };
@@ -80,24 +147,22 @@ impl<T: Drop> Operator<T> for PlainState {
         ensures same { OnErr result (self.new ≡ self.old) }
         ensures none { OnErr result (out.new ≡ []) }
     {
-        let Signal::Next(item) = signal else {
-            out.put(signal);
-            return Ok(());
-        };
         match self {
-            PlainState::Map { function } => match ops.map(alloc, *function, &item) {
-                Ok(answer) => out.put(Signal::Next(answer)),
-                Err(Fault::Code(code)) => out.put(Signal::Error(Cause::Function(code))),
-                Err(Fault::Memory) => return Err(Signal::Next(item)),
-            },
-            PlainState::Filter { function, dropped } => match ops.test(*function, &item) {
-                Ok(true) => out.put(Signal::Next(item)),
-                Ok(false) => *dropped = dropped.saturating_add(1).min(MOST),
-                Err(Fault::Code(code)) => out.put(Signal::Error(Cause::Function(code))),
-                Err(Fault::Memory) => return Err(Signal::Next(item)),
-            },
+            PlainState::Map { function } => out.mapped(alloc, ops, *function, signal),
+            PlainState::Filter { function, dropped } => {
+                out.filtered(alloc, ops, *function, dropped, signal)
+            }
+            PlainState::Take { count, left } => out.taken(alloc, ops, *count, left, signal),
+            PlainState::Scan { function, last } => out.scanned(alloc, ops, *function, last, signal),
+            PlainState::Buffer { size, started } => {
+                out.buffered(alloc, ops, *size, started, signal)
+            }
+            PlainState::Distinct {
+                function,
+                keys,
+                dropped,
+            } => out.told_apart(alloc, ops, *function, keys, dropped, signal),
         }
-        Ok(())
     }
 
     fn rest<O: Ops<Item = T>>(
@@ -116,87 +181,20 @@ impl<T: Drop> Operator<T> for PlainState {
                 function,
                 dropped: _,
             } => self.filtered(alloc, ops, *function, out, items, ending),
-        }
-    }
-}
-
-/// The operators over whole lists. What comes out is put behind `out`.
-trait OverLists<T: Drop> {
-    /// The answers of a function, up to the first fault.
-    fn mapped<O: Ops<Item = T>>(
-        &self,
-        alloc: Global,
-        ops: &O,
-        function: u16,
-        out: Vec<T>,
-        items: &[T],
-        ending: Ending,
-    ) -> Result<StreamValue<T>, NoMemory>
-        ensures { IfOk result (λ v. v ≡ items_then out.items (mapped_items ((O.meaning ops.now).mapped function) items.now ending)) };
-
-    /// The items whose test is true, up to the first fault.
-    fn filtered<O: Ops<Item = T>>(
-        &self,
-        alloc: Global,
-        ops: &O,
-        function: u16,
-        out: Vec<T>,
-        items: &[T],
-        ending: Ending,
-    ) -> Result<StreamValue<T>, NoMemory>
-        ensures { IfOk result (λ v. v ≡ items_then out.items (filtered_items ((O.meaning ops.now).tested function) items.now ending)) };
-}
-
-impl<T: Drop> OverLists<T> for PlainState {
-    fn mapped<O: Ops<Item = T>>(
-        &self,
-        alloc: Global,
-        ops: &O,
-        function: u16,
-        out: Vec<T>,
-        items: &[T],
-        ending: Ending,
-    ) -> Result<StreamValue<T>, NoMemory>
-        ensures { IfOk result (λ v. v ≡ items_then out.items (mapped_items ((O.meaning ops.now).mapped function) items.now ending)) }
-    {
-        let mut out = out;
-        for item in items {
-            match ops.map(alloc, function, item) {
-                Ok(answer) => out.push(answer)?,
-                Err(Fault::Code(code)) => {
-                    return Ok(StreamValue::new(out, Ending::Failed(Cause::Function(code))));
-                }
-                Err(Fault::Memory) => return Err(NoMemory),
+            PlainState::Take { count: _, left } => {
+                self.taken(alloc, ops, *left, out, items, ending)
             }
-        }
-        Ok(StreamValue::new(out, ending))
-    }
-
-    fn filtered<O: Ops<Item = T>>(
-        &self,
-        alloc: Global,
-        ops: &O,
-        function: u16,
-        out: Vec<T>,
-        items: &[T],
-        ending: Ending,
-    ) -> Result<StreamValue<T>, NoMemory>
-        ensures { IfOk result (λ v. v ≡ items_then out.items (filtered_items ((O.meaning ops.now).tested function) items.now ending)) }
-    {
-        let mut out = out;
-        for item in items {
-            match ops.test(function, item) {
-                Ok(true) => {
-                    let copy = ops.copy(alloc, item)?;
-                    out.push(copy)?;
-                }
-                Ok(false) => {}
-                Err(Fault::Code(code)) => {
-                    return Ok(StreamValue::new(out, Ending::Failed(Cause::Function(code))));
-                }
-                Err(Fault::Memory) => return Err(NoMemory),
+            PlainState::Scan { function, last } => {
+                self.scanned(alloc, ops, *function, last, out, items, ending)
             }
+            PlainState::Buffer { size, started } => {
+                self.buffered(alloc, ops, *size, started.items(), out, items, ending)
+            }
+            PlainState::Distinct {
+                function,
+                keys,
+                dropped: _,
+            } => self.told_apart(alloc, ops, *function, keys, out, items, ending),
         }
-        Ok(StreamValue::new(out, ending))
     }
 }
