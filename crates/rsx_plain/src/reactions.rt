@@ -1,10 +1,13 @@
 //! What each plain operator puts into its empty out slot for a signal of its input.
 
-ghost use Rattle.std.specs.Prelude.{◌≡◌, List, [], IfErr, OnOk, OnErr};
+ghost use Rattle.std.specs.Prelude.{◌≡◌, ◌≢◌, ◌-◌, List, [], ◌∷◌, IfErr, OnOk, OnErr};
 ghost use Rattle.rsx_types.specs.declared.signal.Signal.{Signal};
 ghost use Rattle.rsx_types.specs.declared.signal.Signal.TheVariants.{Next, Complete};
+ghost use Rattle.rsx_types.specs.Plain.{taken_items};
+ghost use Rattle.rsx_types.specs.Stream.{Stream, signals_then};
+ghost use Rattle.rsx_plain.specs.Moves.{EndsLast};
 ghost use Rattle.rsx_plain.specs.State.{Reacts};
-ghost use Rattle.rsx_plain.specs.declared.state.PlainState.TheVariants.{Map as MapFrom, Filter as FilterFrom, Take as TakeFrom, Scan as ScanFrom, Buffer as BufferFrom, Distinct as DistinctFrom};
+ghost use Rattle.rsx_plain.specs.declared.state.PlainState.TheVariants.{Map as MapFrom, Filter as FilterFrom, Scan as ScanFrom, Buffer as BufferFrom, Distinct as DistinctFrom};
 
 use crate::keys::Keys;
 use crate::started::Started;
@@ -27,11 +30,11 @@ pub(crate) trait Reactions<T: Drop> {
         alloc: Global,
         ops: &O,
         function: u16,
-        signal: Signal<T>,
+        item: T,
     ) -> Result<(), Signal<T>>
         requires { slot self.old ≡ [] }
-        ensures ok { OnOk result (Reacts (O.meaning ops.now) (MapFrom function) signal (slot self.new) (MapFrom function)) }
-        ensures err { IfErr result (λ s. s ≡ signal) }
+        ensures ok { OnOk result (Reacts (O.meaning ops.now) (MapFrom function) (Next item) (slot self.new) (MapFrom function)) }
+        ensures err { IfErr result (λ s. s ≡ Next item) }
         ensures none { OnErr result (slot self.new ≡ []) };
 
     /// Puts an item whose test is true, and counts one whose test is false.
@@ -41,28 +44,21 @@ pub(crate) trait Reactions<T: Drop> {
         ops: &O,
         function: u16,
         dropped: &mut u64,
-        signal: Signal<T>,
+        item: T,
     ) -> Result<(), Signal<T>>
         requires { slot self.old ≡ [] }
-        ensures ok { OnOk result (Reacts (O.meaning ops.now) (FilterFrom function dropped.old) signal (slot self.new) (FilterFrom function dropped.new)) }
-        ensures err { IfErr result (λ s. s ≡ signal) }
+        ensures ok { OnOk result (Reacts (O.meaning ops.now) (FilterFrom function dropped.old) (Next item) (slot self.new) (FilterFrom function dropped.new)) }
+        ensures err { IfErr result (λ s. s ≡ Next item) }
         ensures same { OnErr result (dropped.new ≡ dropped.old) }
         ensures none { OnErr result (slot self.new ≡ []) };
 
-    /// Puts an item while some are left, and with the last one the completion.
-    fn taken<O: Ops<Item = T>>(
-        &mut self,
-        alloc: Global,
-        ops: &O,
-        count: u64,
-        left: &mut u64,
-        signal: Signal<T>,
-    ) -> Result<(), Signal<T>>
-        requires { slot self.old ≡ [] }
-        ensures ok { OnOk result (Reacts (O.meaning ops.now) (TakeFrom count left.old) signal (slot self.new) (TakeFrom count left.new)) }
-        ensures err { IfErr result (λ s. s ≡ signal) }
-        ensures same { OnErr result (left.new ≡ left.old) }
-        ensures none { OnErr result (slot self.new ≡ []) };
+    /// Puts an item of those that are left, and with the last one the completion.
+    fn taken(&mut self, left: &mut u64, item: T)
+        requires some { left.old ≢ 0 }
+        requires none { slot self.old ≡ [] }
+        ensures ok { (rest : Stream T) → taken_items left.old (item ∷ rest.items) rest.ending ≡ signals_then (slot self.new) (taken_items left.new rest.items rest.ending) }
+        ensures cut { EndsLast (slot self.new) }
+        ensures left { left.new ≡ left.old - 1 };
 
     /// Puts the accumulation, and keeps a copy of it as the last one.
     fn scanned<O: Ops<Item = T>>(
@@ -71,27 +67,12 @@ pub(crate) trait Reactions<T: Drop> {
         ops: &O,
         function: u16,
         last: &mut T,
-        signal: Signal<T>,
+        item: T,
     ) -> Result<(), Signal<T>>
         requires { slot self.old ≡ [] }
-        ensures ok { OnOk result (Reacts (O.meaning ops.now) (ScanFrom function last.old) signal (slot self.new) (ScanFrom function last.new)) }
-        ensures err { IfErr result (λ s. s ≡ signal) }
+        ensures ok { OnOk result (Reacts (O.meaning ops.now) (ScanFrom function last.old) (Next item) (slot self.new) (ScanFrom function last.new)) }
+        ensures err { IfErr result (λ s. s ≡ Next item) }
         ensures same { OnErr result (last.new ≡ last.old) }
-        ensures none { OnErr result (slot self.new ≡ []) };
-
-    /// Puts a list once it has so many items. A shorter last one comes out before the completion alone.
-    fn buffered<O: Ops<Item = T>>(
-        &mut self,
-        alloc: Global,
-        ops: &O,
-        size: u64,
-        started: &mut Started<T>,
-        signal: Signal<T>,
-    ) -> Result<(), Signal<T>>
-        requires { slot self.old ≡ [] }
-        ensures ok { OnOk result (Reacts (O.meaning ops.now) (BufferFrom size started.old) signal (slot self.new) (BufferFrom size started.new)) }
-        ensures err { IfErr result (λ s. s ≡ signal) }
-        ensures same { OnErr result (started.new ≡ started.old) }
         ensures none { OnErr result (slot self.new ≡ []) };
 
     /// Gathers an item, and puts the list once it is full. Without memory for the list the item goes back.
@@ -130,13 +111,13 @@ pub(crate) trait Reactions<T: Drop> {
         ops: &O,
         function: u16,
         keys: &mut Keys,
-        dropped: &mut u64,
-        signal: Signal<T>,
+        repeated: &mut u64,
+        item: T,
     ) -> Result<(), Signal<T>>
         requires { slot self.old ≡ [] }
-        ensures ok { OnOk result (Reacts (O.meaning ops.now) (DistinctFrom function keys.old dropped.old) signal (slot self.new) (DistinctFrom function keys.new dropped.new)) }
-        ensures err { IfErr result (λ s. s ≡ signal) }
-        ensures same { OnErr result ((keys.new ≡ keys.old) × (dropped.new ≡ dropped.old)) }
+        ensures ok { OnOk result (Reacts (O.meaning ops.now) (DistinctFrom function keys.old repeated.old) (Next item) (slot self.new) (DistinctFrom function keys.new repeated.new)) }
+        ensures err { IfErr result (λ s. s ≡ Next item) }
+        ensures same { OnErr result ((keys.new ≡ keys.old) × (repeated.new ≡ repeated.old)) }
         ensures none { OnErr result (slot self.new ≡ []) };
 }
 
@@ -148,20 +129,17 @@ impl<T: Drop> Reactions<T> for OutSlot<T> {
         alloc: Global,
         ops: &O,
         function: u16,
-        signal: Signal<T>,
+        item: T,
     ) -> Result<(), Signal<T>>
         requires { self.old ≡ [] }
-        ensures ok { OnOk result (Reacts (O.meaning ops.now) (MapFrom function) signal self.new (MapFrom function)) }
-        ensures err { IfErr result (λ s. s ≡ signal) }
+        ensures ok { OnOk result (Reacts (O.meaning ops.now) (MapFrom function) (Next item) self.new (MapFrom function)) }
+        ensures err { IfErr result (λ s. s ≡ Next item) }
         ensures none { OnErr result (self.new ≡ []) }
     {
-        match signal {
-            Signal::Next(item) => match ops.map(alloc, function, &item) {
-                Ok(answer) => self.put(Signal::Next(answer)),
-                Err(Fault::Code(code)) => self.put(Signal::Error(Cause::Function(code))),
-                Err(Fault::Memory) => return Err(Signal::Next(item)),
-            },
-            ending => self.put(ending),
+        match ops.map(alloc, function, &item) {
+            Ok(answer) => self.put(Signal::Next(answer)),
+            Err(Fault::Code(code)) => self.put(Signal::Error(Cause::Function(code))),
+            Err(Fault::Memory) => return Err(Signal::Next(item)),
         }
         Ok(())
     }
@@ -172,52 +150,35 @@ impl<T: Drop> Reactions<T> for OutSlot<T> {
         ops: &O,
         function: u16,
         dropped: &mut u64,
-        signal: Signal<T>,
+        item: T,
     ) -> Result<(), Signal<T>>
         requires { self.old ≡ [] }
-        ensures ok { OnOk result (Reacts (O.meaning ops.now) (FilterFrom function dropped.old) signal self.new (FilterFrom function dropped.new)) }
-        ensures err { IfErr result (λ s. s ≡ signal) }
+        ensures ok { OnOk result (Reacts (O.meaning ops.now) (FilterFrom function dropped.old) (Next item) self.new (FilterFrom function dropped.new)) }
+        ensures err { IfErr result (λ s. s ≡ Next item) }
         ensures same { OnErr result (dropped.new ≡ dropped.old) }
         ensures none { OnErr result (self.new ≡ []) }
     {
-        match signal {
-            Signal::Next(item) => match ops.test(function, &item) {
-                Ok(true) => self.put(Signal::Next(item)),
-                Ok(false) => *dropped = dropped.saturating_add(1).min(MOST),
-                Err(Fault::Code(code)) => self.put(Signal::Error(Cause::Function(code))),
-                Err(Fault::Memory) => return Err(Signal::Next(item)),
-            },
-            ending => self.put(ending),
+        match ops.test(function, &item) {
+            Ok(true) => self.put(Signal::Next(item)),
+            Ok(false) => *dropped = dropped.saturating_add(1).min(MOST),
+            Err(Fault::Code(code)) => self.put(Signal::Error(Cause::Function(code))),
+            Err(Fault::Memory) => return Err(Signal::Next(item)),
         }
         Ok(())
     }
 
-    fn taken<O: Ops<Item = T>>(
-        &mut self,
-        alloc: Global,
-        ops: &O,
-        count: u64,
-        left: &mut u64,
-        signal: Signal<T>,
-    ) -> Result<(), Signal<T>>
-        requires { self.old ≡ [] }
-        ensures ok { OnOk result (Reacts (O.meaning ops.now) (TakeFrom count left.old) signal self.new (TakeFrom count left.new)) }
-        ensures err { IfErr result (λ s. s ≡ signal) }
-        ensures same { OnErr result (left.new ≡ left.old) }
-        ensures none { OnErr result (self.new ≡ []) }
+    fn taken(&mut self, left: &mut u64, item: T)
+        requires some { left.old ≢ 0 }
+        requires none { self.old ≡ [] }
+        ensures ok { (rest : Stream T) → taken_items left.old (item ∷ rest.items) rest.ending ≡ signals_then self.new (taken_items left.new rest.items rest.ending) }
+        ensures cut { EndsLast self.new }
+        ensures left { left.new ≡ left.old - 1 }
     {
-        match signal {
-            _ if *left == 0 => self.put(Signal::Complete),
-            Signal::Next(item) => {
-                self.put(Signal::Next(item));
-                *left -= 1;
-                if *left == 0 {
-                    self.put(Signal::Complete);
-                }
-            }
-            ending => self.put(ending),
+        self.put(Signal::Next(item));
+        *left -= 1;
+        if *left == 0 {
+            self.put(Signal::Complete);
         }
-        Ok(())
     }
 
     fn scanned<O: Ops<Item = T>>(
@@ -226,54 +187,26 @@ impl<T: Drop> Reactions<T> for OutSlot<T> {
         ops: &O,
         function: u16,
         last: &mut T,
-        signal: Signal<T>,
+        item: T,
     ) -> Result<(), Signal<T>>
         requires { self.old ≡ [] }
-        ensures ok { OnOk result (Reacts (O.meaning ops.now) (ScanFrom function last.old) signal self.new (ScanFrom function last.new)) }
-        ensures err { IfErr result (λ s. s ≡ signal) }
+        ensures ok { OnOk result (Reacts (O.meaning ops.now) (ScanFrom function last.old) (Next item) self.new (ScanFrom function last.new)) }
+        ensures err { IfErr result (λ s. s ≡ Next item) }
         ensures same { OnErr result (last.new ≡ last.old) }
         ensures none { OnErr result (self.new ≡ []) }
     {
-        match signal {
-            Signal::Next(item) => match ops.fold(alloc, function, last, &item) {
-                Ok(next) => match ops.copy(alloc, &next) {
-                    Ok(copy) => {
-                        *last = next;
-                        self.put(Signal::Next(copy));
-                    }
-                    Err(NoMemory) => return Err(Signal::Next(item)),
-                },
-                Err(Fault::Code(code)) => self.put(Signal::Error(Cause::Function(code))),
-                Err(Fault::Memory) => return Err(Signal::Next(item)),
+        match ops.fold(alloc, function, last, &item) {
+            Ok(next) => match ops.copy(alloc, &next) {
+                Ok(copy) => {
+                    *last = next;
+                    self.put(Signal::Next(copy));
+                }
+                Err(NoMemory) => return Err(Signal::Next(item)),
             },
-            ending => self.put(ending),
+            Err(Fault::Code(code)) => self.put(Signal::Error(Cause::Function(code))),
+            Err(Fault::Memory) => return Err(Signal::Next(item)),
         }
         Ok(())
-    }
-
-    fn buffered<O: Ops<Item = T>>(
-        &mut self,
-        alloc: Global,
-        ops: &O,
-        size: u64,
-        started: &mut Started<T>,
-        signal: Signal<T>,
-    ) -> Result<(), Signal<T>>
-        requires { self.old ≡ [] }
-        ensures ok { OnOk result (Reacts (O.meaning ops.now) (BufferFrom size started.old) signal self.new (BufferFrom size started.new)) }
-        ensures err { IfErr result (λ s. s ≡ signal) }
-        ensures same { OnErr result (started.new ≡ started.old) }
-        ensures none { OnErr result (self.new ≡ []) }
-    {
-        match signal {
-            Signal::Next(item) => self.gathered(alloc, ops, size, started, item),
-            Signal::Complete => self.finished(alloc, ops, size, started),
-            Signal::Error(cause) => {
-                started.clear();
-                self.put(Signal::Error(cause));
-                Ok(())
-            }
-        }
     }
 
     fn gathered<O: Ops<Item = T>>(
@@ -339,26 +272,23 @@ impl<T: Drop> Reactions<T> for OutSlot<T> {
         ops: &O,
         function: u16,
         keys: &mut Keys,
-        dropped: &mut u64,
-        signal: Signal<T>,
+        repeated: &mut u64,
+        item: T,
     ) -> Result<(), Signal<T>>
         requires { self.old ≡ [] }
-        ensures ok { OnOk result (Reacts (O.meaning ops.now) (DistinctFrom function keys.old dropped.old) signal self.new (DistinctFrom function keys.new dropped.new)) }
-        ensures err { IfErr result (λ s. s ≡ signal) }
-        ensures same { OnErr result ((keys.new ≡ keys.old) × (dropped.new ≡ dropped.old)) }
+        ensures ok { OnOk result (Reacts (O.meaning ops.now) (DistinctFrom function keys.old repeated.old) (Next item) self.new (DistinctFrom function keys.new repeated.new)) }
+        ensures err { IfErr result (λ s. s ≡ Next item) }
+        ensures same { OnErr result ((keys.new ≡ keys.old) × (repeated.new ≡ repeated.old)) }
         ensures none { OnErr result (self.new ≡ []) }
     {
-        match signal {
-            Signal::Next(item) => match ops.key(function, &item) {
-                Ok(key) => match keys.note(key) {
-                    Ok(false) => self.put(Signal::Next(item)),
-                    Ok(true) => *dropped = dropped.saturating_add(1).min(MOST),
-                    Err(NoMemory) => return Err(Signal::Next(item)),
-                },
-                Err(Fault::Code(code)) => self.put(Signal::Error(Cause::Function(code))),
-                Err(Fault::Memory) => return Err(Signal::Next(item)),
+        match ops.key(function, &item) {
+            Ok(key) => match keys.note(key) {
+                Ok(false) => self.put(Signal::Next(item)),
+                Ok(true) => *repeated = repeated.saturating_add(1).min(MOST),
+                Err(NoMemory) => return Err(Signal::Next(item)),
             },
-            ending => self.put(ending),
+            Err(Fault::Code(code)) => self.put(Signal::Error(Cause::Function(code))),
+            Err(Fault::Memory) => return Err(Signal::Next(item)),
         }
         Ok(())
     }

@@ -10,6 +10,7 @@ use crate::operator::Operator;
 use crate::reactions::{MOST, Reactions};
 use crate::rest::OverLists;
 use crate::started::Started;
+use rsx_rules::rules;
 use rsx_sources::OutSlot;
 use rsx_types::{Ending, NoMemory, Ops, Signal, Stage, StreamValue};
 use std::alloc::Global;
@@ -57,7 +58,7 @@ pub enum PlainState<T> {
         /// The keys of the items that came out.
         keys: Keys,
         /// How many items came in whose key was known, or 2^63 - 1 where there were more.
-        dropped: u64,
+        repeated: u64,
     },
 }
 
@@ -94,7 +95,7 @@ impl<T: Drop> PlainState<T> {
             Stage::Distinct(function) => PlainState::Distinct {
                 function: *function,
                 keys: Keys::new(alloc),
-                dropped: 0,
+                repeated: 0,
             },
         };
         Ok(state)
@@ -121,8 +122,8 @@ impl<T: Drop> PlainState<T> {
             PlainState::Distinct {
                 function: _,
                 keys: _,
-                dropped,
-            } => asked.saturating_add(*dropped).min(MOST),
+                repeated,
+            } => asked.saturating_add(*repeated).min(MOST),
         }
     }
 }
@@ -132,6 +133,7 @@ impl<T: Drop> Operator<T> for PlainState<T> {
 
     ghost after = { after_signal };
 
+    #[tactic(auto, using(crate::proofs::Taken::taken_ended))]
     fn react<O: Ops<Item = T>>(
         &mut self,
         alloc: Global,
@@ -147,22 +149,28 @@ impl<T: Drop> Operator<T> for PlainState<T> {
         ensures same { OnErr result (self.new ≡ self.old) }
         ensures none { OnErr result (out.new ≡ []) }
     {
-        match self {
-            PlainState::Map { function } => out.mapped(alloc, ops, *function, signal),
-            PlainState::Filter { function, dropped } => {
-                out.filtered(alloc, ops, *function, dropped, signal)
-            }
-            PlainState::Take { count, left } => out.taken(alloc, ops, *count, left, signal),
-            PlainState::Scan { function, last } => out.scanned(alloc, ops, *function, last, signal),
-            PlainState::Buffer { size, started } => {
-                out.buffered(alloc, ops, *size, started, signal)
-            }
-            PlainState::Distinct {
-                function,
-                keys,
-                dropped,
-            } => out.told_apart(alloc, ops, *function, keys, dropped, signal),
-        }
+        let ((), answer) = rules! { &mut *self, signal;
+            PlainState::Map { function }, Signal::Next(item) =>
+                (), out.mapped(alloc, ops, *function, item);
+            PlainState::Filter { function, dropped }, Signal::Next(item) =>
+                (), out.filtered(alloc, ops, *function, dropped, item);
+            PlainState::Take { count: _, left: 0 }, _ =>
+                (), { out.put(Signal::Complete); Ok(()) };
+            PlainState::Take { count: _, left }, Signal::Next(item) =>
+                (), { out.taken(left, item); Ok(()) };
+            PlainState::Scan { function, last }, Signal::Next(item) =>
+                (), out.scanned(alloc, ops, *function, last, item);
+            PlainState::Buffer { size, started }, Signal::Next(item) =>
+                (), out.gathered(alloc, ops, *size, started, item);
+            PlainState::Buffer { size, started }, Signal::Complete =>
+                (), out.finished(alloc, ops, *size, started);
+            PlainState::Buffer { size: _, started }, Signal::Error(cause) =>
+                (), { started.clear(); out.put(Signal::Error(cause)); Ok(()) };
+            PlainState::Distinct { function, keys, repeated }, Signal::Next(item) =>
+                (), out.told_apart(alloc, ops, *function, keys, repeated, item);
+            _, ending => (), { out.put(ending); Ok(()) };
+        };
+        answer
     }
 
     fn rest<O: Ops<Item = T>>(
@@ -193,7 +201,7 @@ impl<T: Drop> Operator<T> for PlainState<T> {
             PlainState::Distinct {
                 function,
                 keys,
-                dropped: _,
+                repeated: _,
             } => self.told_apart(alloc, ops, *function, keys, out, items, ending),
         }
     }
