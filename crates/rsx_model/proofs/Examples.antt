@@ -1,9 +1,9 @@
 -- Worked examples: the definitions at small expressions.
 use Rattle.std.proofs.Common.{◌≡◌, ℤ, pos, List, [], ◌∷◌, Some, None, Vec, Global, Box, refl}
 use Rattle.rsx_types.specs.Plain.{plain, listed, range_items}
-use Rattle.rsx_types.specs.declared.signal.Cause.TheVariants.{Function}
-use Rattle.rsx_types.specs.declared.signal.Ending.TheVariants.{Failed}
-use Rattle.rsx_types.specs.declared.stage.Stage.TheVariants.{Map, Filter}
+use Rattle.rsx_types.specs.declared.signal.Cause.TheVariants.{User, Function}
+use Rattle.rsx_types.specs.declared.signal.Ending.TheVariants.{Open, Failed}
+use Rattle.rsx_types.specs.declared.stage.Stage.TheVariants.{Map, Filter, Take, Scan, Buffer, Distinct}
 use Rattle.rsx_types.specs.declared.note.Note.{Note}
 use Rattle.rsx_types.specs.declared.note.Note.TheVariants.{Nothing, Picks}
 use Rattle.rsx_model.specs.declared.expr.Expr.{Expr}
@@ -24,6 +24,39 @@ cut = refl
 -- the numbers above 0
 above : plain numbers (Filter 2) (listed (pos 0 ∷ pos 7 ∷ [])) ≡ listed (pos 7 ∷ [])
 above = refl
+
+-- the first two, and then the completion; nothing but the completion of `take 0`, whatever comes
+first_two : plain numbers (Take 2) (listed (pos 7 ∷ pos 8 ∷ pos 9 ∷ [])) ≡ listed (pos 7 ∷ pos 8 ∷ [])
+first_two = refl
+
+none_taken : plain numbers (Take 0) (record { items = []; ending = Failed (User 7) }) ≡ listed []
+none_taken = refl
+
+-- where the items end before, their ending stays
+too_few : plain numbers (Take 2) (record { items = pos 7 ∷ []; ending = Open }) ≡ record { items = pos 7 ∷ []; ending = Open }
+too_few = refl
+
+-- the seed, and then the largest so far
+largest : plain numbers (Scan 1 (pos 2)) (listed (pos 1 ∷ pos 5 ∷ pos 3 ∷ [])) ≡ listed (pos 2 ∷ pos 2 ∷ pos 5 ∷ pos 5 ∷ [])
+largest = refl
+
+-- the seed comes before a failure, of the input or of the function
+seed_before_failure : plain numbers (Scan 1 (pos 100)) (record { items = []; ending = Failed (User 7) }) ≡ record { items = pos 100 ∷ []; ending = Failed (User 7) }
+seed_before_failure = refl
+
+seed_before_fault : plain numbers (Scan 2 (pos 100)) (listed (pos 1 ∷ pos 2 ∷ [])) ≡ record { items = pos 100 ∷ []; ending = Failed (Function 4) }
+seed_before_fault = refl
+
+-- lists of two, each by its sum: the started one comes out at the completion, and not at a failure
+complete_lists : plain numbers (Buffer 2) (listed (pos 1 ∷ pos 2 ∷ pos 4 ∷ [])) ≡ listed (pos 3 ∷ pos 4 ∷ [])
+complete_lists = refl
+
+failed_lists : plain numbers (Buffer 2) (record { items = pos 1 ∷ pos 2 ∷ pos 4 ∷ []; ending = Failed (User 7) }) ≡ record { items = pos 3 ∷ []; ending = Failed (User 7) }
+failed_lists = refl
+
+-- the first number of each remainder by 3
+first_seen : plain numbers (Distinct 1) (listed (pos 4 ∷ pos 1 ∷ pos 2 ∷ pos 7 ∷ pos 3 ∷ pos 5 ∷ [])) ≡ listed (pos 4 ∷ pos 2 ∷ pos 3 ∷ [])
+first_seen = refl
 
 abbrev noted : List Note → Environment ℤ
 noted ns = environment numbers [] [] ns

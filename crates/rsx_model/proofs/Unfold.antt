@@ -11,7 +11,7 @@ use Rattle.rsx_model.specs.declared.expr.Expr.TheFolds.{map-Expr, fold_out-Expr,
 use Rattle.rsx_model.specs.declared.expr.Expr.TheVariants.{Items, Range}
 use Rattle.rsx_model.specs.declared.expr.Expr.TheViews.{Plain, outs-Items, outs-Range, outs-Plain, rolls-Items, rolls-Range, rolls-Plain, roll-out-Expr, out-Expr, roll-Expr, out-roll-Expr}
 use Rattle.rsx_model.specs.Shape.{children, leaf_here, sum_of, max_of, nodes, depth, leaves}
-use Rattle.rsx_model.specs.Check.{own_fault, or_else, first_of, first_fault, unless, range_fits, refusal}
+use Rattle.rsx_model.specs.Check.{own_fault, or_else, first_of, first_fault, unless, range_fits, stage_fits, refusal}
 use Rattle.rsx_model.specs.Eval.{Environment, Meant, quiet, node_value, node_meant, meant}
 
 -- ---- a node and its children
@@ -94,7 +94,7 @@ nodes_Items v = rw (nodes_out, outs-Items) refl
 pub nodes_Range : (T : Type 0) (a : ℤ) (n : ℕ) → nodes {T = T} (Range a n) ≡ 1
 nodes_Range T a n = rw (nodes_out, outs-Range) refl
 
-pub nodes_Plain : {T : Type 0} (g : Stage) (b : Below T) → nodes (Plain g b) ≡ 1 + nodes b.value
+pub nodes_Plain : {T : Type 0} (g : Stage T) (b : Below T) → nodes (Plain g b) ≡ 1 + nodes b.value
 nodes_Plain g b = rw (nodes_out, outs-Plain) (omega arith)
 
 pub depth_Items : {T : Type 0} (v : Listed T) → depth (Items v) ≡ 1
@@ -103,7 +103,7 @@ depth_Items v = rw (depth_out, outs-Items) refl
 pub depth_Range : (T : Type 0) (a : ℤ) (n : ℕ) → depth {T = T} (Range a n) ≡ 1
 depth_Range T a n = rw (depth_out, outs-Range) refl
 
-pub depth_Plain : {T : Type 0} (g : Stage) (b : Below T) → depth (Plain g b) ≡ 1 + depth b.value
+pub depth_Plain : {T : Type 0} (g : Stage T) (b : Below T) → depth (Plain g b) ≡ 1 + depth b.value
 depth_Plain g b = rw (depth_out, outs-Plain) (omega arith)
 
 pub leaves_Items : {T : Type 0} (v : Listed T) → leaves (Items v) ≡ 0
@@ -112,7 +112,7 @@ leaves_Items v = rw (leaves_out, outs-Items) refl
 pub leaves_Range : (T : Type 0) (a : ℤ) (n : ℕ) → leaves {T = T} (Range a n) ≡ 0
 leaves_Range T a n = rw (leaves_out, outs-Range) refl
 
-pub leaves_Plain : {T : Type 0} (g : Stage) (b : Below T) → leaves (Plain g b) ≡ leaves b.value
+pub leaves_Plain : {T : Type 0} (g : Stage T) (b : Below T) → leaves (Plain g b) ≡ leaves b.value
 leaves_Plain g b = rw (leaves_out, outs-Plain) (omega arith)
 
 pub first_fault_Items : {T : Type 0} (hubs : ℕ) (v : Listed T) → first_fault hubs (Items v) ≡ unless (nat_le (length v.items) 1024) Length
@@ -121,8 +121,8 @@ first_fault_Items hubs v = rw (fault_out, outs-Items) (or_else-nothing _)
 pub first_fault_Range : (T : Type 0) (hubs : ℕ) (a : ℤ) (n : ℕ) → first_fault {T = T} hubs (Range a n) ≡ unless (range_fits a n) Number
 first_fault_Range T hubs a n = rw (fault_out, outs-Range) (or_else-nothing _)
 
-pub first_fault_Plain : {T : Type 0} (hubs : ℕ) (g : Stage) (b : Below T) → first_fault hubs (Plain g b) ≡ first_fault hubs b.value
-first_fault_Plain hubs g b = rw (fault_out, outs-Plain) (or_else-nothing _)
+pub first_fault_Plain : {T : Type 0} (hubs : ℕ) (g : Stage T) (b : Below T) → first_fault hubs (Plain g b) ≡ or_else (unless (stage_fits g) Number) (first_fault hubs b.value)
+first_fault_Plain hubs g b = rw (fault_out, outs-Plain) (ap (or_else (unless (stage_fits g) Number)) (or_else-nothing _))
 
 pub value_Items : {T : Type 0} (w : Environment T) (v : Listed T) (at leaf : ℕ) → (meant w (Items v)).value at leaf ≡ quiet (slice_get w.notes at) (Some (listed v.items))
 value_Items w v at leaf = rw (value_out, outs-Items) refl
@@ -130,16 +130,16 @@ value_Items w v at leaf = rw (value_out, outs-Items) refl
 pub value_Range : {T : Type 0} (w : Environment T) (a : ℤ) (n : ℕ) (at leaf : ℕ) → (meant w (Range a n)).value at leaf ≡ quiet (slice_get w.notes at) (Some (listed (range_items w.meaning a n)))
 value_Range w a n at leaf = rw (value_out, outs-Range) refl
 
-pub value_Plain : {T : Type 0} (w : Environment T) (g : Stage) (b : Below T) (at leaf : ℕ) → (meant w (Plain g b)).value at leaf ≡ quiet (slice_get w.notes at) (option_map (plain w.meaning g) ((meant w b.value).value (at + 1) leaf))
+pub value_Plain : {T : Type 0} (w : Environment T) (g : Stage T) (b : Below T) (at leaf : ℕ) → (meant w (Plain g b)).value at leaf ≡ quiet (slice_get w.notes at) (option_map (plain w.meaning g) ((meant w b.value).value (at + 1) leaf))
 value_Plain w g b at leaf = rw (value_out, outs-Plain) refl
 
-node_case : {T : Type 0} (P : Expr T → Type 0) → ((v : Listed T) → P (Items v)) → ((a : ℤ) (n : ℕ) → P (Range a n)) → ((g : Stage) (b : Below T) → P b.value → P (Plain g b)) → (x : Expr-F T (Expr T)) → Each P (children x) → P (roll-Expr T x)
+node_case : {T : Type 0} (P : Expr T → Type 0) → ((v : Listed T) → P (Items v)) → ((a : ℤ) (n : ℕ) → P (Range a n)) → ((g : Stage T) (b : Below T) → P b.value → P (Plain g b)) → (x : Expr-F T (Expr T)) → Each P (children x) → P (roll-Expr T x)
 node_case P items range below (layer.Items v) kids = subst P (sym (rolls-Items v)) (items v)
 node_case P items range below (layer.Range a n) kids = subst P (sym (rolls-Range a n)) (range a n)
 node_case P items range below (layer.Plain g b) kids = subst P (sym (rolls-Plain g b)) (below g b kids.0)
 
 -- what holds of items, of ranges, and of an operator where it holds below, holds of every expression
-pub by_variant : {T : Type 0} (P : Expr T → Type 0) → ((v : Listed T) → P (Items v)) → ((a : ℤ) (n : ℕ) → P (Range a n)) → ((g : Stage) (b : Below T) → P b.value → P (Plain g b)) → (e : Expr T) → P e
+pub by_variant : {T : Type 0} (P : Expr T → Type 0) → ((v : Listed T) → P (Items v)) → ((a : ℤ) (n : ℕ) → P (Range a n)) → ((g : Stage T) (b : Below T) → P b.value → P (Plain g b)) → (e : Expr T) → P e
 by_variant {T} P items range below = by_children P (λ e kids. subst P (roll-out-Expr T e) (node_case P items range below (out-Expr T e) kids))
 
 -- ---- the size of what an expression means

@@ -1,5 +1,7 @@
 -- Which expressions are refused, and why.
 use Rattle.std.specs.Prelude.{ℕ, ℤ, pos, ◌+ℤ◌, Bool, true, false, ◌&&◌, ◌||◌, int_le, nat_eq, nat_le, List, [], ◌∷◌, length, Option, Some, None}
+use Rattle.rsx_types.specs.declared.stage.Stage.{Stage}
+use Rattle.rsx_types.specs.declared.stage.Stage.TheVariants.{Map, Filter, Take, Scan, Buffer, Distinct}
 use Rattle.rsx_model.specs.declared.expr.Expr.{Expr}
 use Rattle.rsx_model.specs.declared.expr.Expr.TheOpen.{Expr-F, Items, Range, Plain}
 use Rattle.rsx_model.specs.declared.expr.Expr.TheFolds.{fold-Expr}
@@ -33,11 +35,20 @@ unless false k = Some k
 abbrev pub range_fits : ℤ → ℕ → Bool
 range_fits a n = nat_le n 1000000 && (nat_eq n 0 || int_le (a +ℤ pos n) (pos 9223372036854775808))
 
+-- a `take` of at most 1,000,000 items, and a `buffer` of lists of 1 to 1,024 items
+abbrev pub stage_fits : {T : Type 0} → Stage T → Bool
+stage_fits (Take n) = nat_le n 1000000
+stage_fits (Buffer n) = nat_le 1 n && nat_le n 1024
+stage_fits (Map f) = true
+stage_fits (Filter f) = true
+stage_fits (Scan f s) = true
+stage_fits (Distinct f) = true
+
 -- what is wrong with one node where there are so many hubs, leaving out its children
 abbrev pub own_fault : {T A : Type 0} → ℕ → Expr-F T A → Option BadExpr
 own_fault hubs (Items v) = unless (nat_le (length v.items) 1024) Length
 own_fault hubs (Range a n) = unless (range_fits a n) Number
-own_fault hubs (Plain g b) = None
+own_fault hubs (Plain g b) = unless (stage_fits g) Number
 
 -- what is wrong with the first faulty node in pre-order
 abbrev pub first_fault : {T : Type 0} → ℕ → Expr T → Option BadExpr

@@ -2,10 +2,11 @@
 
 ghost use Rattle.std.specs.Prelude.{◌≡◌, min, nat_le, MatchResult, Some, None};
 ghost use Rattle.rsx_model.specs.Shape.{nodes, leaves, depth};
-ghost use Rattle.rsx_model.specs.Check.{refusal, first_fault, own_fault, unless, range_fits, kind_number};
+ghost use Rattle.rsx_model.specs.Check.{refusal, first_fault, own_fault, unless, range_fits, stage_fits, kind_number};
 ghost use Rattle.rsx_model.specs.declared.expr.Expr.TheViews.{out-Expr};
 
 use crate::expr::Expr;
+use rsx_types::Stage;
 use thiserror::Error;
 
 /// Why an expression is refused. The first two speak of the whole expression, in this order; the others of the first
@@ -18,7 +19,8 @@ pub enum BadExpr {
     /// It has more than 256 nodes.
     #[error("the expression has more than 256 nodes")]
     Nodes,
-    /// A number is out of its limit: a range of more than 1,000,000 numbers, or whose last one is above 2^63-1.
+    /// A number is out of its limit: a range of more than 1,000,000 numbers, or whose last one is above 2^63-1; a `take`
+    /// of more than 1,000,000 items; a `buffer` whose lists aren't of 1 to 1,024 items.
     #[error("a number is out of its limit")]
     Number,
     /// A list has more than 1,024 items.
@@ -118,7 +120,7 @@ fn own_fault_of<T>(expr: &Expr<T>, hubs: u64) -> Option<BadExpr>
     match expr {
         Expr::Items(items) => unless_ok(items.len() <= 1024, BadExpr::Length),
         Expr::Range(first, count) => unless_ok(is_range(*first, *count), BadExpr::Number),
-        Expr::Plain(_, _) => None,
+        Expr::Plain(stage, _) => unless_ok(is_stage(stage), BadExpr::Number),
     }
 }
 
@@ -133,4 +135,15 @@ fn is_range(first: i64, count: u64) -> bool
 {
     count <= 1_000_000
         && (count == 0 || i128::from(first) + i128::from(count) <= 9_223_372_036_854_775_808)
+}
+
+/// Whether the number of an operator is within its limit.
+fn is_stage<T>(stage: &Stage<T>) -> bool
+    ensures { result ≡ stage_fits stage.now }
+{
+    match stage {
+        Stage::Take(items) => *items <= 1_000_000,
+        Stage::Buffer(size) => 1 <= *size && *size <= 1024,
+        Stage::Map(_) | Stage::Filter(_) | Stage::Scan(_, _) | Stage::Distinct(_) => true,
+    }
 }

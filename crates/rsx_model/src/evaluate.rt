@@ -113,7 +113,7 @@ fn value_of<O: Ops>(
         Expr::Range(first, count) => if_quiet(note, range_of(alloc, ops, *first, *count)),
         Expr::Plain(stage, below) => {
             let input = value_of(alloc, ops, below, hubs, joins, notes, at + 1, leaf);
-            if_quiet(note, plain_of(alloc, ops, *stage, input))
+            if_quiet(note, plain_of(alloc, ops, stage, input))
         }
     }
 }
@@ -158,10 +158,10 @@ fn range_of<O: Ops>(
 fn plain_of<O: Ops>(
     alloc: Global,
     ops: &O,
-    stage: Stage,
+    stage: &Stage<O::Item>,
     input: Result<StreamValue<O::Item>, Trouble>,
 ) -> Result<StreamValue<O::Item>, Trouble>
-    ensures { (o : Option (Stream O.Item)) → Gives input o → Gives result (option_map (plain (O.meaning ops.now) stage) o) }
+    ensures { (o : Option (Stream O.Item)) → Gives input o → Gives result (option_map (plain (O.meaning ops.now) stage.now) o) }
 {
     match input {
         Ok(value) => Ok(apply(alloc, ops, stage, value)?),

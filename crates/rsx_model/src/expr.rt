@@ -10,5 +10,5 @@ pub enum Expr<T> {
     /// So many numbers, from the first on, and then the completion: at most 1,000,000, the last at most 2^63-1.
     Range(i64, u64),
     /// One plain operator over what is below it.
-    Plain(Stage, Box<Expr<T>>),
+    Plain(Stage<T>, Box<Expr<T>>),
 }

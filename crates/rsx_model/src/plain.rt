@@ -1,8 +1,10 @@
 //! The plain operators over whole lists.
 
-ghost use Rattle.std.specs.Prelude.{◌≡◌, ◌⊎◌, ◌≤◌, pos, ◌+ℤ◌, ◌≤ℤ◌, IfOk};
-ghost use Rattle.rsx_types.specs.Plain.{mapped_items, filtered_items, plain, range_items};
+ghost use Rattle.std.specs.Prelude.{◌≡◌, ◌⊎◌, ◌≤◌, pos, ◌+ℤ◌, ◌≤ℤ◌, IfOk, []};
+ghost use Rattle.rsx_types.specs.Plain.{mapped_items, filtered_items, taken_items, scanned_items, buffered_items, last_list, distinct_items, plain, range_items};
+ghost use Rattle.rsx_types.specs.Stream.{item_then, items_then};
 
+use indexmap::IndexSet;
 use rsx_types::{Cause, Ending, Fault, NoMemory, Ops, Stage, StreamValue};
 use std::alloc::Global;
 
@@ -10,15 +12,19 @@ use std::alloc::Global;
 pub(crate) fn apply<O: Ops>(
     alloc: Global,
     ops: &O,
-    stage: Stage,
+    stage: &Stage<O::Item>,
     input: StreamValue<O::Item>,
 ) -> Result<StreamValue<O::Item>, NoMemory>
-    ensures { IfOk result (λ v. v ≡ plain (O.meaning ops.now) stage input) }
+    ensures { IfOk result (λ v. v ≡ plain (O.meaning ops.now) stage.now input) }
 {
     let ending = input.ending();
     match stage {
-        Stage::Map(f) => map_items(alloc, ops, f, input.items(), ending),
-        Stage::Filter(f) => filter_items(alloc, ops, f, input.into_items(), ending),
+        Stage::Map(f) => map_items(alloc, ops, *f, input.items(), ending),
+        Stage::Filter(f) => filter_items(alloc, ops, *f, input.into_items(), ending),
+        Stage::Take(count) => Ok(take_items(*count, input.into_items(), ending)),
+        Stage::Scan(f, seed) => scan_items(alloc, ops, *f, seed, input.items(), ending),
+        Stage::Buffer(size) => buffer_items(alloc, ops, *size, input.into_items(), ending),
+        Stage::Distinct(f) => distinct_items(alloc, ops, *f, input.into_items(), ending),
     }
 }
 
@@ -58,6 +64,114 @@ fn filter_items<O: Ops>(
         match ops.test(f, &x) {
             Ok(true) => out.push(x)?,
             Ok(false) => {}
+            Err(Fault::Code(fault)) => return Ok(cut_by(out, fault)),
+            Err(Fault::Memory) => return Err(NoMemory),
+        }
+    }
+    Ok(StreamValue::new(out, ending))
+}
+
+/// The first items and the completion; where there are fewer, all of them and their ending. It takes no memory.
+fn take_items<T: Drop>(count: u64, items: Vec<T>, ending: Ending) -> StreamValue<T>
+    ensures { result ≡ taken_items count items.items ending }
+{
+    if (items.len() as u64) < count {
+        return StreamValue::new(items, ending);
+    }
+    let mut first = items;
+    first.truncate(count as usize);
+    StreamValue::new(first, Ending::Done)
+}
+
+/// The seed, and then the accumulations in order, up to the first fault.
+fn scan_items<O: Ops>(
+    alloc: Global,
+    ops: &O,
+    f: u16,
+    seed: &O::Item,
+    items: &[O::Item],
+    ending: Ending,
+) -> Result<StreamValue<O::Item>, NoMemory>
+    ensures { IfOk result (λ v. v ≡ item_then seed.now (scanned_items ((O.meaning ops.now).folded f) seed.now items.now ending)) }
+{
+    let mut out = Vec::new(alloc);
+    let mut latest = ops.copy(alloc, seed)?;
+    for x in items {
+        match ops.fold(alloc, f, &latest, x) {
+            Ok(next) => {
+                out.push(latest)?;
+                latest = next;
+            }
+            Err(Fault::Code(fault)) => {
+                out.push(latest)?;
+                return Ok(cut_by(out, fault));
+            }
+            Err(Fault::Memory) => return Err(NoMemory),
+        }
+    }
+    out.push(latest)?;
+    Ok(StreamValue::new(out, ending))
+}
+
+/// The items in lists of this size. A shorter last list is there only where the items are complete.
+fn buffer_items<O: Ops>(
+    alloc: Global,
+    ops: &O,
+    size: u64,
+    items: Vec<O::Item>,
+    ending: Ending,
+) -> Result<StreamValue<O::Item>, NoMemory>
+    ensures { IfOk result (λ v. v ≡ buffered_items (O.meaning ops.now).list_of size [] items.items ending) }
+{
+    let mut out = Vec::new(alloc);
+    let mut started = Vec::new(alloc);
+    for x in items {
+        started.push(x)?;
+        if started.len() as u64 >= size {
+            out.push(ops.list(alloc, started.as_slice())?)?;
+            started.clear();
+        }
+    }
+    with_last_list(alloc, ops, out, started, ending)
+}
+
+/// The lists so far, and then the list that was started where the items are complete.
+fn with_last_list<O: Ops>(
+    alloc: Global,
+    ops: &O,
+    lists: Vec<O::Item>,
+    started: Vec<O::Item>,
+    ending: Ending,
+) -> Result<StreamValue<O::Item>, NoMemory>
+    ensures { IfOk result (λ v. v ≡ items_then lists.items (last_list (O.meaning ops.now).list_of started.items ending)) }
+{
+    let mut out = lists;
+    match ending {
+        Ending::Done if !started.is_empty() => out.push(ops.list(alloc, started.as_slice())?)?,
+        _ => {}
+    }
+    Ok(StreamValue::new(out, ending))
+}
+
+/// The first item of each key, up to the first fault.
+fn distinct_items<O: Ops>(
+    alloc: Global,
+    ops: &O,
+    f: u16,
+    items: Vec<O::Item>,
+    ending: Ending,
+) -> Result<StreamValue<O::Item>, NoMemory>
+    ensures { IfOk result (λ v. v ≡ distinct_items ((O.meaning ops.now).keyed f) [] items.items ending) }
+{
+    let mut seen: IndexSet<u64> = IndexSet::new(alloc);
+    let mut out = Vec::new(alloc);
+    for x in items {
+        match ops.key(f, &x) {
+            Ok(key) => {
+                if seen.insert(key)? {
+                    out.push(x)?;
+                }
+            }
             Err(Fault::Code(fault)) => return Ok(cut_by(out, fault)),
             Err(Fault::Memory) => return Err(NoMemory),
         }

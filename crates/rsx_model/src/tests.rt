@@ -1,6 +1,7 @@
 //! The worked rows over numbers, and each public function once.
 
-ghost use Rattle.rsx_model.specs.Numbers.{numbers, numbers_lawful};
+ghost use Rattle.std.specs.Prelude.{◌≡◌, IfOk};
+ghost use Rattle.rsx_model.specs.Numbers.{numbers, numbers_lawful, total};
 
 use crate::{
     BadExpr, Expr, Note, ScratchRefusal, Stage, StreamValue, check_expr, leaves_of, nodes_of,
@@ -15,6 +16,10 @@ const INC: u16 = 1;
 const DOUBLE: u16 = 2;
 
 const POSITIVE: u16 = 2;
+
+const LARGER: u16 = 1;
+
+const REMAINDER: u16 = 1;
 
 /// Items that are numbers.
 #[derive(Clone, Copy)]
@@ -42,12 +47,20 @@ impl Ops for Numbers {
         }
     }
 
-    fn fold(&self, _alloc: Global, _f: u16, _acc: &i64, _x: &i64) -> Result<i64, Fault> {
-        Err(Fault::Code(4))
+    fn fold(&self, _alloc: Global, f: u16, acc: &i64, x: &i64) -> Result<i64, Fault> {
+        if f == 1 {
+            Ok((*acc).max(*x))
+        } else {
+            Err(Fault::Code(4))
+        }
     }
 
-    fn key(&self, _f: u16, _x: &i64) -> Result<u64, Fault> {
-        Err(Fault::Code(4))
+    fn key(&self, f: u16, x: &i64) -> Result<u64, Fault> {
+        if f == 1 {
+            Ok(x.rem_euclid(3).unsigned_abs())
+        } else {
+            Err(Fault::Code(4))
+        }
     }
 
     fn expand(&self, _alloc: Global, _f: u16, _x: &i64) -> Result<Vec<i64>, Fault> {
@@ -58,8 +71,8 @@ impl Ops for Numbers {
         Ok(0)
     }
 
-    fn list(&self, _alloc: Global, _xs: &[i64]) -> Result<i64, NoMemory> {
-        Ok(0)
+    fn list(&self, _alloc: Global, xs: &[i64]) -> Result<i64, NoMemory> {
+        sum_of(xs)
     }
 
     fn tag(&self, _alloc: Global, _key: u64, x: &i64) -> Result<i64, NoMemory> {
@@ -77,8 +90,22 @@ impl Ops for Numbers {
     ghost lawful = { λ _. numbers_lawful };
 }
 
+/// The sum, or want of memory where 64 bits don't hold it.
+fn sum_of(xs: &[i64]) -> Result<i64, NoMemory>
+    ensures { IfOk result (λ y. y ≡ total xs.now) }
+{
+    let mut sum: i64 = 0;
+    for x in xs {
+        match sum.checked_add(*x) {
+            Some(more) => sum = more,
+            None => return Err(NoMemory),
+        }
+    }
+    Ok(sum)
+}
+
 /// A plain operator over an expression.
-fn plain(alloc: Global, stage: Stage, below: Expr<i64>) -> Result<Expr<i64>, Fail> {
+fn plain(alloc: Global, stage: Stage<i64>, below: Expr<i64>) -> Result<Expr<i64>, Fail> {
     Ok(Expr::Plain(stage, Box::new(alloc, below)?))
 }
 
@@ -139,6 +166,83 @@ fn gives_the_worked_values(rt: HostRuntime) -> Result<(), Fail> {
         assert_eq!(rt; got.items(), items, "row {i}");
         assert_eq!(rt; got.ending(), ending, "row {i}");
     }
+    Ok(())
+}
+
+#[test]
+fn widens_to_each_operator(rt: HostRuntime) -> Result<(), Fail> {
+    let alloc = rt.alloc();
+    let fault = |number| Ending::Failed(Cause::Function(number));
+    let rows: [(Stage<i64>, &[i64], Ending); 12] = [
+        (Stage::Take(0), &[], Ending::Done),
+        (Stage::Take(2), &[4, 1], Ending::Done),
+        (Stage::Take(5), &[4, 1, 2, 7, 3], Ending::Done),
+        (Stage::Take(6), &[4, 1, 2, 7, 3], Ending::Done),
+        (Stage::Scan(LARGER, 2), &[2, 4, 4, 4, 7, 7], Ending::Done),
+        (Stage::Scan(2, 100), &[100], fault(4)),
+        (Stage::Buffer(1), &[4, 1, 2, 7, 3], Ending::Done),
+        (Stage::Buffer(2), &[5, 9, 3], Ending::Done),
+        (Stage::Buffer(5), &[17], Ending::Done),
+        (Stage::Buffer(1024), &[17], Ending::Done),
+        (Stage::Distinct(REMAINDER), &[4, 2, 3], Ending::Done),
+        (Stage::Distinct(2), &[], fault(4)),
+    ];
+    for (i, (stage, items, ending)) in rows.into_iter().enumerate() {
+        let list = Expr::Items(vec![in alloc; 4, 1, 2, 7, 3]?);
+        let got = value(alloc, &plain(alloc, stage, list)?)?;
+        assert_eq!(rt; got.items(), items, "row {i}");
+        assert_eq!(rt; got.ending(), ending, "row {i}");
+    }
+    Ok(())
+}
+
+/// The numbers 1 and 2, and then the fault of `inc`.
+fn failing(alloc: Global) -> Result<Expr<i64>, Fail> {
+    let list = Expr::Items(vec![in alloc; 0, 1, i64::MAX, 3]?);
+    plain(alloc, Stage::Map(INC), list)
+}
+
+#[test]
+fn keeps_the_failure_of_an_input(rt: HostRuntime) -> Result<(), Fail> {
+    let alloc = rt.alloc();
+    let failed = Ending::Failed(Cause::Function(1));
+    let rows: [(Stage<i64>, &[i64], Ending); 6] = [
+        (Stage::Take(2), &[1, 2], Ending::Done),
+        (Stage::Take(3), &[1, 2], failed),
+        (Stage::Scan(LARGER, 5), &[5, 5, 5], failed),
+        (Stage::Buffer(2), &[3], failed),
+        (Stage::Buffer(3), &[], failed),
+        (Stage::Distinct(REMAINDER), &[1, 2], failed),
+    ];
+    for (i, (stage, items, ending)) in rows.into_iter().enumerate() {
+        let got = value(alloc, &plain(alloc, stage, failing(alloc)?)?)?;
+        assert_eq!(rt; got.items(), items, "row {i}");
+        assert_eq!(rt; got.ending(), ending, "row {i}");
+    }
+    Ok(())
+}
+
+#[test]
+fn checks_the_number_of_an_operator(rt: HostRuntime) -> Result<(), Fail> {
+    let alloc = rt.alloc();
+    let number = Some(BadExpr::Number);
+    let rows: [(Stage<i64>, Option<BadExpr>); 8] = [
+        (Stage::Take(0), None),
+        (Stage::Take(1_000_000), None),
+        (Stage::Take(1_000_001), number),
+        (Stage::Buffer(0), number),
+        (Stage::Buffer(1), None),
+        (Stage::Buffer(1024), None),
+        (Stage::Buffer(1025), number),
+        (Stage::Distinct(9), None),
+    ];
+    for (i, (stage, fault)) in rows.into_iter().enumerate() {
+        let expr = plain(alloc, stage, Expr::Range(1, 3))?;
+        assert_eq!(rt; check_expr(&expr, 0).err(), fault, "row {i}");
+    }
+    let long = Expr::Items(vec![in alloc; 5; 1025]?);
+    let outer = plain(alloc, Stage::Buffer(0), long)?;
+    assert_eq!(rt; check_expr(&outer, 0).err(), number);
     Ok(())
 }
 

@@ -8,6 +8,11 @@ returns-then-leaves_of-joins g c =
     let s = sound (length c.args.hubs.now) c.args.expr.now (sym c.in-None.ensures) in
     (sym c.in-None.ensures, λ complete. absurd (omega (arith, s.few_leaves, c.leaves_of.ensures, complete.1)))
 
+pub value_of-requires-clause-joined : goal.value_of-requires-clause-joined
+value_of-requires-clause-joined g c κs within =
+    let s = sound (length c.args.hubs.now) c.args.expr.now (sym c.in-None.ensures) in
+    omega (arith, s.few_leaves, c.leaves_of.ensures, c.if-leaves_of-joins.false)
+
 pub returns-in-Ok : goal.returns-in-Ok
 returns-in-Ok g c =
     let e = c.args.expr.now in
