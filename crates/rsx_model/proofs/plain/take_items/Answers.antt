@@ -1,7 +1,7 @@
 use Rattle.std.proofs.Common.{◌≡◌, ℕ, ◌<◌, ◌≤◌, zero, suc, List, [], ◌∷◌, length, take, refl, ap, arith}
 use Rattle.rsx_types.specs.declared.signal.Ending.{Ending}
 use Rattle.rsx_types.specs.declared.signal.Ending.TheVariants.{Done}
-use Rattle.rsx_types.specs.Stream.{Stream, item_then}
+use Rattle.rsx_types.specs.Stream.{item_then}
 use Rattle.rsx_types.specs.Plain.{taken_items}
 use Rattle.rsx_model.proofs.plain.take_items.Goals as goal
 
