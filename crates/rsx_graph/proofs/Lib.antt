@@ -1,3 +1,4 @@
+pub mod Builds
 pub mod Graphs
 pub mod Moves
 pub mod Sentence

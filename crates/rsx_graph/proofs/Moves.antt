@@ -384,7 +384,7 @@ sent_below_root {T} m old tree at z k =
     record {
       front = k.front;
       carries = front_there at (option_map front_of (offers m old.tree)) (front_at m old.tree (at - 1)) k.front z k.offered;
-      edges = sent_all (edge_view old.root) (edges old.tree) (edges tree) at (ended_at m tree (at - 1)) k.front z k.edges;
+      edges = sent_all (edge_view old.root) (edges old.tree) (edges tree) at (ended_at tree (at - 1)) k.front z k.edges;
       queue = subst Q (sym (above_root at z)) refl;
     }
 

@@ -14,14 +14,14 @@ use Rattle.rsx_sources.specs.Steps as Steps
 use Rattle.rsx_sources.specs.Items.{ItemsLeft, items_comes_out, items_popped, items_waiting}
 use Rattle.rsx_sources.specs.Range.{range_comes_out, range_popped, range_waiting}
 use Rattle.rsx_sources.specs.declared.range.RangeNode.{RangeNode}
-use Rattle.rsx_plain.specs.Node.{plain_comes_out, plain_wanted, plain_takes, plain_popped, plain_waiting}
+use Rattle.rsx_plain.specs.Node.{plain_comes_out, plain_wanted, plain_takes, plain_popped, plain_waiting, plain_ended}
 use Rattle.rsx_plain.specs.declared.node.PlainNode.{PlainNode}
 use Rattle.rsx_graph.specs.declared.edge.EdgeState.{EdgeState}
 use Rattle.rsx_graph.specs.declared.edge.EdgeState.TheVariants.{Live, Closed, Ended as EdgeEnded}
 use Rattle.rsx_graph.specs.declared.edge.Edge.{Edge}
 use Rattle.rsx_graph.specs.declared.node.Node.{Node, Items, Range, Plain'}
 use Rattle.rsx_graph.specs.declared.node.Node.TheViews.{Plain}
-use Rattle.rsx_graph.specs.Edges.{edge_view, EdgeView, is_live, is_ending, can_pass, can_ask_for, IsAsked, asked_up_to, changed_at, carried, carried_at, closed_if, closed_view, passed}
+use Rattle.rsx_graph.specs.Edges.{edge_view, EdgeView, is_live, can_pass, can_ask_for, IsAsked, asked_up_to, changed_at, carried, carried_at, closed_if, closed_view, passed}
 use Rattle.rsx_graph.specs.Tree.{offers, comes_out, through, notes_of, none_incoming, one_incoming, IsAllClosed, IsKept, IsPassedOn, IsLetGo, IsUnchosen, edges, want_at, front_at, ended_at, IsAskedAt, IsSentAt, IsSentOver, IsPopped, IsIdle, IsBusy, IsIdleHere, IsAdvancedHere, IsAdvanced, IsMadeBelow, IsAskedOver, popped, can_ask, can_send, can_send_over, can_go}
 use Rattle.std.proofs.Common.{◌<◌, ◌≤◌, min}
 use Rattle.rsx_demand.specs.declared.TheConstants.{UNBOUNDED}
@@ -300,8 +300,8 @@ sent_here {T} m old n n' edge edge' below below' was at is same z h =
     let Q : Node T → Type 0 = λ t. IsSentOver m edge t n' edge' below'.value in
     let k : IsSentOver m edge below.value n' edge' below'.value = subst Q same h in
     let zero_is = is_zero at z in
-    let over : Bool = is_ending (option_map front_of (plain_waiting m n')) in
-    let ended : ended_at m (Plain n' edge' below') at ≡ over = chosen_first (nat_eq at 0) over (ended_at m below'.value (at - 1)) zero_is in
+    let over : Bool = plain_ended n' in
+    let ended : ended_at (Plain n' edge' below') at ≡ over = chosen_first (nat_eq at 0) over (ended_at below'.value (at - 1)) zero_is in
     let there : carried_at over k.front at (edges (Plain n edge below)) ≡ carried over k.front (edges (Plain n edge below)) = chosen_first (nat_eq at 0) _ _ zero_is in
     subst P (sym is) (record {
       front = k.front;
@@ -315,8 +315,8 @@ sent_below {T} m old n edge below below' was at is same z h =
     let Q : Node T → Type 0 = λ t. IsSentAt m t (at - 1) below'.value in
     let k : IsSentAt m below.value (at - 1) below'.value = subst Q same h in
     let not = not_zero at z in
-    let over : Bool = ended_at m below'.value (at - 1) in
-    let ended : ended_at m (Plain n edge below') at ≡ over = chosen_second (nat_eq at 0) (is_ending (option_map front_of (plain_waiting m n))) over not in
+    let over : Bool = ended_at below'.value (at - 1) in
+    let ended : ended_at (Plain n edge below') at ≡ over = chosen_second (nat_eq at 0) (plain_ended n) over not in
     let there : carried_at over k.front at (edges (Plain n edge below)) ≡ edge_view edge ∷ carried_at over k.front (at - 1) (edges below.value) = chosen_second (nat_eq at 0) _ _ not in
     subst P (sym is) (record {
       front = k.front;
@@ -324,11 +324,11 @@ sent_below {T} m old n edge below below' was at is same z h =
       edges = ap (λ es. edge_view edge ∷ es) k.edges ∙ (sym there ∙ ap (λ b. carried_at b k.front at (edges (Plain n edge below))) (sym ended));
     })
 
-pub sent_over : {T : Type 0} (m : Meaning T) (edge edge1 edge' : Edge) (input input1 input' : Node T) (n' : PlainNode T) (f : Front) → option_map front_of (offers m input) ≡ Some f → edges input1 ≡ edges input → edge_view edge1 ≡ passed (edge_view edge) f → edge_view edge' ∷ edges input' ≡ closed_if (is_ending (option_map front_of (plain_waiting m n'))) (edge_view edge1 ∷ edges input1) → IsSentOver m edge input n' edge' input'
+pub sent_over : {T : Type 0} (m : Meaning T) (edge edge1 edge' : Edge) (input input1 input' : Node T) (n' : PlainNode T) (f : Front) → option_map front_of (offers m input) ≡ Some f → edges input1 ≡ edges input → edge_view edge1 ≡ passed (edge_view edge) f → edge_view edge' ∷ edges input' ≡ closed_if (plain_ended n') (edge_view edge1 ∷ edges input1) → IsSentOver m edge input n' edge' input'
 sent_over m edge edge1 edge' input input1 input' n' f o e p c = record {
   front = f;
   offered = o;
-  edges = c ∙ (ap (λ es. closed_if (is_ending (option_map front_of (plain_waiting m n'))) (edge_view edge1 ∷ es)) e ∙ ap (λ v. closed_if (is_ending (option_map front_of (plain_waiting m n'))) (v ∷ edges input)) p);
+  edges = c ∙ (ap (λ es. closed_if (plain_ended n') (edge_view edge1 ∷ es)) e ∙ ap (λ v. closed_if (plain_ended n') (v ∷ edges input)) p);
 }
 
 pub closed_over : (b : Bool) (e e' : EdgeView) (es es' : List EdgeView) → b ≡ true → e' ≡ closed_view e → es' ≡ map closed_view es → e' ∷ es' ≡ closed_if b (e ∷ es)

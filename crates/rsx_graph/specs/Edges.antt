@@ -1,5 +1,5 @@
 -- Edges: what was asked and sent, and whether signals still go over them.
-use Rattle.std.specs.Prelude.{◌≡◌, ℕ, ◌+◌, ◌-◌, min, Bool, true, false, ◌&&◌, nat_lt, nat_eq, if◌then◌else◌, List, [], ◌∷◌, map, Option, Some, None}
+use Rattle.std.specs.Prelude.{◌≡◌, ℕ, ◌+◌, ◌-◌, min, Bool, true, false, ◌&&◌, nat_lt, nat_eq, if◌then◌else◌, List, [], ◌∷◌, map}
 use Rattle.rsx_demand.specs.declared.TheConstants.{UNBOUNDED}
 use Rattle.rsx_graph.specs.declared.edge.Edge.{Edge}
 use Rattle.rsx_graph.specs.declared.edge.EdgeState.{EdgeState}
@@ -78,10 +78,3 @@ carried ended f (e ∷ es) = closed_if ended (passed e f ∷ es)
 abbrev pub carried_at : Bool → Front → ℕ → List EdgeView → List EdgeView
 carried_at ended f at [] = []
 carried_at ended f at (e ∷ es) = if nat_eq at 0 then carried ended f (e ∷ es) else e ∷ carried_at ended f (at - 1) es
-
--- whether an offered signal is an ending
-abbrev pub is_ending : Option Front → Bool
-is_ending None = false
-is_ending (Some Item) = false
-is_ending (Some Completion) = true
-is_ending (Some (Failure c)) = true

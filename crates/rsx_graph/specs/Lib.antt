@@ -1,4 +1,5 @@
 -- Definitions that contracts cite.
+pub mod Begun
 pub mod Built
 pub mod Delivered
 pub mod Edges

@@ -167,9 +167,9 @@ wanted sub at = if nat_eq at 0 then sub.root.demand.asked else want_at sub.tree 
 abbrev pub offered : {T : Type 0} → Meaning T → Subscription T → ℕ → Option Front
 offered m sub at = if nat_eq at 0 then option_map front_of (offers m sub.tree) else front_at m sub.tree (at - 1)
 
--- whether the receiver of an edge offers an ending; a subscriber offers nothing
-abbrev pub receiver_ended : {T : Type 0} → Meaning T → Subscription T → ℕ → Bool
-receiver_ended m sub at = if nat_eq at 0 then false else ended_at m sub.tree (at - 1)
+-- whether the receiver of an edge has put out an ending; a subscriber puts out nothing
+abbrev pub receiver_ended : {T : Type 0} → Subscription T → ℕ → Bool
+receiver_ended sub at = if nat_eq at 0 then false else ended_at sub.tree (at - 1)
 
 -- an Ask: what was asked of this edge is what its receiver wants, and nothing else changed
 pub record IsAsk {T : Type 0} (old : Subscription T) (at : ℕ) (new : Subscription T) : Type 0 where
@@ -186,7 +186,7 @@ QueueAfter m old queue false = queue ≡ old.queue
 pub record IsSend {T : Type 0} (m : Meaning T) (old : Subscription T) (at : ℕ) (new : Subscription T) : Type 0 where
   pub front : Front
   pub carries : offered m old at ≡ Some front
-  pub edges : all_edges new ≡ carried_at (receiver_ended m new at) front at (all_edges old)
+  pub edges : all_edges new ≡ carried_at (receiver_ended new at) front at (all_edges old)
   pub queue : QueueAfter m old new.queue (nat_eq at 0)
 
 -- a Take: the front signal left the queue, and no edge changed

@@ -10,9 +10,9 @@ use Rattle.rsx_sources.specs.Machine.{Incoming, front_of}
 use Rattle.rsx_sources.specs.Items.{items_comes_out, items_waiting, items_popped}
 use Rattle.rsx_sources.specs.Range.{range_comes_out, range_waiting, range_popped}
 use Rattle.rsx_sources.specs.declared.machine.Front.{Front}
-use Rattle.rsx_plain.specs.Node.{plain_comes_out, plain_waiting, plain_popped, plain_takes, plain_wanted}
+use Rattle.rsx_plain.specs.Node.{plain_comes_out, plain_waiting, plain_popped, plain_takes, plain_wanted, plain_ended}
 use Rattle.rsx_plain.specs.declared.node.PlainNode.{PlainNode}
-use Rattle.rsx_graph.specs.Edges.{edge_view, EdgeView, can_ask_for, can_pass, asked_up_to, changed_at, carried, carried_at, is_ending}
+use Rattle.rsx_graph.specs.Edges.{edge_view, EdgeView, can_ask_for, can_pass, asked_up_to, changed_at, carried, carried_at}
 use Rattle.rsx_graph.specs.declared.edge.Edge.{Edge}
 use Rattle.rsx_graph.specs.declared.edge.EdgeState.TheVariants.{Live}
 use Rattle.rsx_graph.specs.declared.node.Node.{Node, Items, Range, Plain'}
@@ -148,11 +148,11 @@ front_at m (Items n) at = None
 front_at m (Range n) at = None
 front_at m (Plain' n edge p input) at = if nat_eq at 0 then option_map front_of (offers m input) else front_at m input (at - 1)
 
--- whether the receiver of the edge `at` below the root offers an ending
-abbrev pub ended_at : {T : Type 0} → Meaning T → Node T → ℕ → Bool
-ended_at m (Items n) at = false
-ended_at m (Range n) at = false
-ended_at m (Plain' n edge p input) at = if nat_eq at 0 then is_ending (option_map front_of (plain_waiting m n)) else ended_at m input (at - 1)
+-- whether the receiver of the edge `at` below the root has put out an ending
+abbrev pub ended_at : {T : Type 0} → Node T → ℕ → Bool
+ended_at (Items n) at = false
+ended_at (Range n) at = false
+ended_at (Plain' n edge p input) at = if nat_eq at 0 then plain_ended n else ended_at input (at - 1)
 
 -- an Ask: what was asked of the edge rose to what its receiver wants, and no other edge changed
 abbrev pub IsAskedAt : {T : Type 0} → Node T → ℕ → ℕ → ℕ → Node T → Type 0
@@ -162,13 +162,13 @@ IsAskedAt old at asked sent new = edges new ≡ changed_at (asked_up_to (want_at
 pub record IsSentAt {T : Type 0} (m : Meaning T) (old : Node T) (at : ℕ) (new : Node T) : Type 0 where
   pub front : Front
   pub offered : front_at m old at ≡ Some front
-  pub edges : edges new ≡ carried_at (ended_at m new at) front at (edges old)
+  pub edges : edges new ≡ carried_at (ended_at new at) front at (edges old)
 
 -- the same over the edge of this node's input
 pub record IsSentOver {T : Type 0} (m : Meaning T) (edge : Edge) (input : Node T) (n' : PlainNode T) (edge' : Edge) (input' : Node T) : Type 0 where
   pub front : Front
   pub offered : option_map front_of (offers m input) ≡ Some front
-  pub edges : edge_view edge' ∷ edges input' ≡ carried (is_ending (option_map front_of (plain_waiting m n'))) front (edge_view edge ∷ edges input)
+  pub edges : edge_view edge' ∷ edges input' ≡ carried (plain_ended n') front (edge_view edge ∷ edges input)
 
 -- an Ask over the edge of this node's input
 abbrev pub IsAskedOver : {T : Type 0} → PlainNode T → Edge → Node T → ℕ → ℕ → Edge → Node T → Type 0

@@ -5,7 +5,7 @@ ghost use Rattle.rsx_model.specs.Check.{first_fault};
 ghost use Rattle.rsx_graph.specs.Built.{IsBuilt};
 
 use crate::edge::Edge;
-use crate::node::Node;
+use crate::node::{Node, close_if_ended};
 use rsx_model::Expr;
 use rsx_plain::PlainNode;
 use rsx_sources::{ItemsNode, RangeNode};
@@ -25,8 +25,11 @@ pub fn build<O: Ops>(
         Expr::Items(items) => Ok(Node::Items(ItemsNode::new(alloc, ops, items)?)),
         Expr::Range(first, count) => Ok(Node::Range(RangeNode::new(*first, *count))),
         Expr::Plain(stage, input) => {
-            let below = build(alloc, ops, input)?;
-            Ok(Node::Plain(PlainNode::new(*stage), Edge::new(), Box::new(alloc, below)?))
+            let mut below = build(alloc, ops, input)?;
+            let node = PlainNode::new(alloc, ops, stage)?;
+            let mut edge = Edge::new();
+            close_if_ended(&node, &mut edge, &mut below);
+            Ok(Node::Plain(node, edge, Box::new(alloc, below)?))
         }
     }
 }

@@ -2,7 +2,6 @@
 
 ghost use Rattle.std.specs.Prelude.{◌≡◌, ◌<◌, ◌≤◌, true, false, IfErr, OnOk, OnErr, IfSome, IfNone, min};
 ghost use Rattle.rsx_graph.specs.Edges.{IsAsked, IsPassed, can_ask_for, can_pass, closed_view, edge_view};
-ghost use Rattle.rsx_graph.specs.Edges.{is_ending as ending_offered};
 ghost use Rattle.rsx_demand.specs.declared.TheConstants.{UNBOUNDED};
 
 use rsx_demand::Demand;
@@ -87,15 +86,5 @@ impl Edge {
         if matches!(self.state, EdgeState::Live) {
             self.state = EdgeState::Closed;
         }
-    }
-}
-
-/// Whether what a node offers is an ending.
-pub fn is_ending(front: Option<Front>) -> bool
-    ensures { result ≡ ending_offered front }
-{
-    match front {
-        Some(Front::Completion) | Some(Front::Failure(_)) => true,
-        Some(Front::Item) | None => false,
     }
 }

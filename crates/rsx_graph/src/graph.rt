@@ -5,6 +5,7 @@ ghost use Rattle.rsx_types.specs.Stream.{Stream};
 ghost use Rattle.rsx_model.specs.Check.{refusal};
 ghost use Rattle.rsx_graph.specs.History.{History, no_history, subscribed, given, with_subscriber, with_past, with_made, cancelled, requested, extended, all_extended, IsSubscribeRefusal, IsMakeRefusal, IsMadeAnswer, Belongs, AllBelong, HasAsked, IsLookRefusal, IsTreeRefusal, IsKnownTree, tree_of};
 ghost use Rattle.rsx_graph.specs.Stands.{Stands, StandsFor, IsRequested, IsOwed, HasNotes, HasNotesAt, IsMade, IsMadeAt, enabled_in_tree, enabled_at};
+ghost use Rattle.rsx_graph.specs.Begun.{IsFresh, IsSubscribed};
 ghost use Rattle.rsx_graph.specs.Pumped.{AllPumped, Spent, HasEnded, AreQuiet, IsAllQuiet, IsAnyAwake};
 
 use crate::build::build;
@@ -48,6 +49,7 @@ impl<O: Ops> Graph<O> {
     pub fn subscribe(&mut self, alloc: Global, expr: &Expr<O::Item>) -> Result<SubId, Refusal>
         ensures ops { self.new.ops ≡ self.old.ops }
         ensures stands { OnOk result ((h : History O.Item) → StandsFor (O.meaning self.old.ops) self.old.subscriptions.items h → StandsFor (O.meaning self.old.ops) self.new.subscriptions.items (with_subscriber expr.now h)) }
+        ensures effect { OnOk result (IsSubscribed expr.now self.old.subscriptions.items self.new.subscriptions.items) }
         ensures id { IfOk result (λ id. (id.0 ≡ length self.old.subscriptions.items) × (refusal 0 expr.now ≡ None) × (length self.old.subscriptions.items < 256)) }
         ensures err { IfErr result (λ r. IsSubscribeRefusal (length self.old.subscriptions.items) expr.now r) }
         ensures same { OnErr result (self.new.subscriptions.items ≡ self.old.subscriptions.items) }
@@ -411,7 +413,8 @@ fn new_subscription<O: Ops>(
     expr: &Expr<O::Item>,
 ) -> Result<Subscription<O::Item>, NoMemory>
     requires { refusal 0 expr.now ≡ None }
-    ensures { IfOk result (λ s. (published : List (Stream O.Item)) → Stands (O.meaning ops.now) published s (subscribed expr.now [])) }
+    ensures stands { IfOk result (λ s. (published : List (Stream O.Item)) → Stands (O.meaning ops.now) published s (subscribed expr.now [])) }
+    ensures fresh { IfOk result (λ s. IsFresh expr.now s) }
 {
     let queue = SignalQueue::new(alloc)?;
     let tree = build(alloc, ops, expr)?;

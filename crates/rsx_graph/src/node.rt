@@ -2,15 +2,15 @@
 
 ghost use Rattle.std.specs.Prelude.{◌≡◌, ◌∷◌, [], OnOk, OnErr, IfOk, IfErr, Some, true, false, option_map};
 ghost use Rattle.rsx_sources.specs.Machine.{front_of};
-ghost use Rattle.rsx_graph.specs.Edges.{edge_view, closed_if, is_ending as ending_offered};
+ghost use Rattle.rsx_graph.specs.Edges.{edge_view, closed_if};
 ghost use Rattle.rsx_types.specs.Meaning.{Meaning};
 ghost use Rattle.rsx_sources.specs.Steps.{IsNotMade};
 ghost use Rattle.rsx_sources.specs.Items.{items_comes_out};
 ghost use Rattle.rsx_sources.specs.Range.{range_comes_out};
-ghost use Rattle.rsx_plain.specs.Node.{plain_comes_out, plain_waiting};
+ghost use Rattle.rsx_plain.specs.Node.{plain_comes_out, plain_ended};
 ghost use Rattle.rsx_graph.specs.Tree.{IsKept, IsPassedOn, IsAdvancedHere, IsIdleHere, can_send_over, IsSentOver, edges, none_incoming, one_incoming, notes_of};
 
-use crate::edge::{Edge, is_ending};
+use crate::edge::Edge;
 use rsx_plain::PlainNode;
 use rsx_sources::{Front, ItemsNode, Machine, NotMade, NotTaken, RangeNode};
 use rsx_types::{NoMemory, Note, Ops, Signal, StreamValue};
@@ -356,11 +356,11 @@ fn can_send_signal<T: Drop>(node: &PlainNode<T>, edge: &Edge, input: &Node<T>) -
 }
 
 /// Where the node has ended, closes the edge of its input and all below it.
-fn close_if_ended<T: Drop>(node: &PlainNode<T>, edge: &mut Edge, input: &mut Node<T>)
+pub(crate) fn close_if_ended<T: Drop>(node: &PlainNode<T>, edge: &mut Edge, input: &mut Node<T>)
     ensures kept { (m : Meaning T) → IsKept m input.old input.new }
-    ensures closed { (m : Meaning T) → edge_view edge.new ∷ edges input.new ≡ closed_if (ending_offered (option_map front_of (plain_waiting m node.now))) (edge_view edge.old ∷ edges input.old) }
+    ensures closed { edge_view edge.new ∷ edges input.new ≡ closed_if (plain_ended node.now) (edge_view edge.old ∷ edges input.old) }
 {
-    if is_ending(node.front()) {
+    if node.has_ended() {
         edge.close();
         input.close();
     }

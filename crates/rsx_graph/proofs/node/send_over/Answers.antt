@@ -20,4 +20,4 @@ returns-in-Ok-clause-effect g c =
     let m = g.O.Ops.meaning c.args.ops.now in
     let gone : IsLetGo m c.args.input.now c.in-Ok-Some.signal c.pop.new.self = rw c.in-Ok-Some.field-0-is at c.in-Ok-Some.ensures.ok in
     sent_over m c.args.edge.now c.carry.new.self c.close_if_ended.new.edge c.args.input.now c.pop.new.self c.close_if_ended.new.input c.on_signal.new.self c.in-Some.front
-    (sym (c.front.ensures m) ∙ c.in-Some.is) gone.edges c.carry.ensures (c.close_if_ended.ensures.closed m)
+    (sym (c.front.ensures m) ∙ c.in-Some.is) gone.edges c.carry.ensures c.close_if_ended.ensures.closed
