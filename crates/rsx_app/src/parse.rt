@@ -70,21 +70,38 @@ fn expression(alloc: Global, words: &mut Words<'_>) -> Result<Expr<Val>, LineRef
     match name {
         "items" => Ok(Expr::Items(items(alloc, words)?)),
         "range" => range(words),
-        "map" => {
-            let stage = Stage::Map(function(words, Role::Map)?);
+        _ => {
+            let stage = stage(column, name, words)?;
             plain(alloc, stage, words)
         }
-        "filter" => {
-            let stage = Stage::Filter(function(words, Role::Test)?);
-            plain(alloc, stage, words)
+    }
+}
+
+/// The plain operator with this name, which stands at this column, with its functions and numbers.
+fn stage(column: u64, name: &str, words: &mut Words<'_>) -> Result<Stage<Val>, LineRefusal>
+    ensures { length words.new.rest.now ≤ length words.old.rest.now }
+{
+    match name {
+        "map" => Ok(Stage::Map(function(words, Role::Map)?)),
+        "filter" => Ok(Stage::Filter(function(words, Role::Test)?)),
+        "take" => Ok(Stage::Take(words.number()?)),
+        "scan" => {
+            let fold = function(words, Role::Fold)?;
+            Ok(Stage::Scan(fold, Val::Int(words.number()?)))
         }
+        "buffer" => Ok(Stage::Buffer(words.number()?)),
+        "distinct" => Ok(Stage::Distinct(function(words, Role::Key)?)),
         _ => Err(LineRefusal::UnknownName(column)),
     }
 }
 
 /// A plain operator over the expression that follows.
 #[cycle(expression)]
-fn plain(alloc: Global, stage: Stage, words: &mut Words<'_>) -> Result<Expr<Val>, LineRefusal> {
+fn plain(
+    alloc: Global,
+    stage: Stage<Val>,
+    words: &mut Words<'_>,
+) -> Result<Expr<Val>, LineRefusal> {
     let input = expression(alloc, words)?;
     words.close()?;
     match Box::new(alloc, input) {

@@ -4,6 +4,7 @@ mod examples;
 mod faults;
 mod graph;
 mod lines;
+mod operators;
 
 use crate::drive::{Mode, drive};
 use crate::fault::AppFault;
