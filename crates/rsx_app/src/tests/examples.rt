@@ -21,6 +21,11 @@ fn examples(rt: HostRuntime) -> Result<(), Fail> {
             "subscribe (filter even (map inc (range 1 9))); request 0 3; pump 100; show 0; check 0; request 0 3; pump 100; show 0; check 0",
             "sub 0; ok; idle; received 2 4 6 | owed 8 10 complete; equal; ok; idle; received 2 4 6 8 10 complete | owed; equal",
         ),
+        // lists.rsx
+        (
+            "subscribe (buffer 2 (range 1 5)); request 0 2; pump 100; show 0; check 0; subscribe (take 3 (scan add 0 (distinct mod3 (range 1 9)))); request 1 9; pump 1000; show 1; check 1",
+            "sub 0; ok; idle; received [1 2] [3 4] | owed [5] complete; equal; sub 1; ok; idle; received 0 1 3 complete | owed; equal",
+        ),
         // failure.rsx
         (
             "subscribe (map inc (items 1 9223372036854775807 3)); request 0 1; pump 100; show 0; request 0 8; pump 100; show 0; check 0",

@@ -1,7 +1,47 @@
-//! The operators that hold something back: `take`, `scan`, `buffer` and `distinct`.
+//! The operators, each alone and over one another.
 
 use super::expect_answers;
 use std::test::Fail;
+
+/// The scripts of `docs/OPERATORS.md`.
+#[test]
+fn pages(rt: HostRuntime) -> Result<(), Fail> {
+    let rows = [
+        (
+            "subscribe (items 7 3 7); request 0 2; pump 100; show 0",
+            "sub 0; ok; idle; received 7 3 | owed 7 complete",
+        ),
+        (
+            "subscribe (range 1 5); request 0 9; pump 100; show 0",
+            "sub 0; ok; idle; received 1 2 3 4 5 complete | owed",
+        ),
+        (
+            "subscribe (map double (range 1 5)); request 0 2; pump 100; show 0",
+            "sub 0; ok; idle; received 2 4 | owed 6 8 10 complete",
+        ),
+        (
+            "subscribe (filter even (range 1 6)); request 0 2; pump 100; show 0",
+            "sub 0; ok; idle; received 2 4 | owed 6 complete",
+        ),
+        (
+            "subscribe (take 2 (range 1 5)); request 0 9; pump 100; show 0",
+            "sub 0; ok; idle; received 1 2 complete | owed",
+        ),
+        (
+            "subscribe (scan add 100 (items 1 2 3)); request 0 2; pump 100; show 0",
+            "sub 0; ok; idle; received 100 101 | owed 103 106 complete",
+        ),
+        (
+            "subscribe (buffer 2 (items 1 2 3)); request 0 1; pump 100; show 0; request 0 1; pump 100; show 0",
+            "sub 0; ok; idle; received [1 2] | owed [3] complete; ok; idle; received [1 2] [3] complete | owed",
+        ),
+        (
+            "subscribe (distinct mod3 (range 1 6)); request 0 3; pump 100; show 0; request 0 1; pump 100; show 0",
+            "sub 0; ok; idle; received 1 2 3 | owed complete; ok; idle; received 1 2 3 complete | owed",
+        ),
+    ];
+    expect_answers(&rt, rt.alloc(), &rows)
+}
 
 #[test]
 fn takes_a_first_part(rt: HostRuntime) -> Result<(), Fail> {
