@@ -18,6 +18,8 @@ const MOST_READS: u32 = 16_777_216;
 pub enum Mode {
     /// Each line is a command over one graph.
     Run,
+    /// The same, but `show` answers the value of the slow evaluator.
+    Scratch,
 }
 
 /// Answers each line that the reader gives with one line to the writer, until the input ends. A last line needs no
@@ -35,16 +37,12 @@ pub fn drive<R: Read, W: Write>(
     reader: &mut R,
     writer: &mut W,
 ) -> Result<(), AppFault> {
-    match mode {
-        Mode::Run => {
-            let mut script = Script::new(alloc)?;
-            match script.answer_all(alloc, reader, writer) {
-                Err(AppFault::Io) => Err(AppFault::Io),
-                outcome => {
-                    script.write_out(writer)?;
-                    outcome
-                }
-            }
+    let mut script = Script::new(alloc, mode)?;
+    match script.answer_all(alloc, reader, writer) {
+        Err(AppFault::Io) => Err(AppFault::Io),
+        outcome => {
+            script.write_out(writer)?;
+            outcome
         }
     }
 }
@@ -62,9 +60,9 @@ struct Script {
 }
 
 impl Script {
-    fn new(alloc: Global) -> Result<Script, AppFault> {
+    fn new(alloc: Global, mode: Mode) -> Result<Script, AppFault> {
         Ok(Script {
-            session: Session::new(alloc)?,
+            session: Session::new(alloc, mode)?,
             line: Vec::new(alloc),
             number: 1,
             out: String::new(alloc),

@@ -1,8 +1,9 @@
 #![tactic(auto)]
 //! The program `rsx`: runs a script of commands over a graph of reactive streams.
 //!
-//! `rsx run` reads standard input, one command a line, and writes one answer for each to standard output. Exit status 0
-//! where the input ended; 1 after a line that can't be read; 2 after a command line that `clap` refused or that asked
+//! `rsx run` reads standard input, one command a line, and writes one answer for each to standard output. `rsx scratch`
+//! does the same, but shows a subscription by the value of its expression, evaluated from scratch. Exit status 0 where
+//! the input ended; 1 after a line that can't be read; 2 after a command line that `clap` refused or that asked
 //! for help; 3 after a read or a write that failed; 4 where memory was wanted.
 
 mod command;
@@ -28,14 +29,20 @@ const USAGE: u8 = 2;
 /// What the command line asks for.
 fn mode_of(alloc: Global, words: &[String]) -> Result<Mode, Error> {
     let run = Command::new(alloc, "run").about("Answers each command of a script");
+    let scratch = Command::new(alloc, "scratch")
+        .about("Answers each command of a script, and shows values evaluated from scratch");
     let program = Command::new(alloc, "rsx")
         .bin_name("rsx")?
         .about("Runs scripts over graphs of reactive streams")
         .disable_help_subcommand(true)
         .subcommand_required(true)
-        .subcommand(run)?;
-    program.try_get_matches_from(words)?;
-    Ok(Mode::Run)
+        .subcommand(run)?
+        .subcommand(scratch)?;
+    let matches = program.try_get_matches_from(words)?;
+    match matches.subcommand_name() {
+        Some("scratch") => Ok(Mode::Scratch),
+        _ => Ok(Mode::Run),
+    }
 }
 
 /// The words of the command line, the program's own first.

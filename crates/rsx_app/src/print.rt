@@ -17,6 +17,8 @@ pub enum Answer<'a> {
     Budget,
     /// What a subscriber received, and the rest.
     Shown(Shown<'a>),
+    /// The value of the slow evaluator.
+    Value(StreamValue<Val>),
     /// How much a subscriber asked for in all.
     Asked(u64),
     /// How many items a subscriber received.
@@ -59,6 +61,10 @@ impl fmt::Display for Answer<'_> {
             Answer::Idle => f.write_str("idle"),
             Answer::Budget => f.write_str("budget"),
             Answer::Shown(shown) => write!(f, "{shown}"),
+            Answer::Value(value) => {
+                f.write_str("scratch")?;
+                write_signals(f, value.items(), value.ending())
+            }
             Answer::Asked(asked) => write!(f, "asked {asked}"),
             Answer::Count(count) => write!(f, "count {count}"),
             Answer::Equal => f.write_str("equal"),

@@ -3,6 +3,7 @@
 ghost use Rattle.std.specs.Prelude.{◌≡◌, ◌≤◌, true, length};
 
 use crate::command::Command;
+use crate::drive::Mode;
 use crate::fault::AppFault;
 use crate::print::{Answer, Rest, Shown};
 use rsx_demo::{Demo, Val, is_same_val};
@@ -71,20 +72,22 @@ impl<T: Drop> From<AllocFailed<T>> for Trouble {
 /// A graph with what each of its subscribers received.
 #[derive(Drop)]
 pub struct Session {
+    mode: Mode,
     graph: Graph<Demo>,
     /// The subscriptions, in the order of their ids.
     records: Vec<Record>,
 }
 
 impl Session {
-    /// An empty graph.
+    /// An empty graph, whose subscriptions are shown as the mode says.
     ///
     /// # Errors
     ///
     /// `Memory` where a growth was refused.
-    pub fn new(alloc: Global) -> Result<Session, AppFault> {
+    pub fn new(alloc: Global, mode: Mode) -> Result<Session, AppFault> {
         match Graph::new(alloc, Demo) {
             Ok(graph) => Ok(Session {
+                mode,
                 graph,
                 records: Vec::new(alloc),
             }),
@@ -205,6 +208,16 @@ impl Session {
     }
 
     fn show(&self, alloc: Global, sub: SubId) -> Result<Answer<'_>, Trouble> {
+        match self.mode {
+            Mode::Run => self.show_received(alloc, sub),
+            Mode::Scratch => {
+                let record = self.record(sub)?;
+                Ok(Answer::Value(self.value(alloc, sub, &record.expr)?))
+            }
+        }
+    }
+
+    fn show_received(&self, alloc: Global, sub: SubId) -> Result<Answer<'_>, Trouble> {
         let record = self.record(sub)?;
         let rest = match record.standing {
             Standing::Live => Rest::Owed(self.graph.owed(alloc, sub)?),
@@ -218,12 +231,22 @@ impl Session {
         }))
     }
 
+    /// The value of a subscription's expression, evaluated from scratch.
+    fn value(
+        &self,
+        alloc: Global,
+        sub: SubId,
+        expr: &Expr<Val>,
+    ) -> Result<StreamValue<Val>, Trouble> {
+        let notes = self.graph.notes(alloc, Tree::Sub(sub))?;
+        let joins = self.graph.joins(alloc, Tree::Sub(sub))?;
+        Ok(scratch(alloc, &Demo, expr, &[], &joins, &notes)?)
+    }
+
     /// Compares with the value of the expression, evaluated from scratch.
     fn check(&self, alloc: Global, sub: SubId) -> Result<Answer<'_>, Trouble> {
         let record = self.record(sub)?;
-        let notes = self.graph.notes(alloc, Tree::Sub(sub))?;
-        let joins = self.graph.joins(alloc, Tree::Sub(sub))?;
-        let value = scratch(alloc, &Demo, &record.expr, &[], &joins, &notes)?;
+        let value = self.value(alloc, sub, &record.expr)?;
         let is_right = match record.standing {
             Standing::Live => record.is_whole(&self.graph.owed(alloc, sub)?, &value),
             Standing::Cancelled | Standing::Closed => begins(value.items(), &record.received),

@@ -5,6 +5,7 @@ mod faults;
 mod graph;
 mod lines;
 mod operators;
+mod values;
 
 use crate::drive::{Mode, drive};
 use crate::fault::AppFault;
@@ -15,9 +16,14 @@ use std::test::Fail;
 
 /// What a script writes, and how it ends.
 fn run(alloc: Global, script: &[u8]) -> (Vec<u8>, Result<(), AppFault>) {
+    run_as(alloc, Mode::Run, script)
+}
+
+/// What a script writes in a mode, and how it ends.
+fn run_as(alloc: Global, mode: Mode, script: &[u8]) -> (Vec<u8>, Result<(), AppFault>) {
     let mut input = script;
     let mut written = Vec::new(alloc);
-    let ended = drive(alloc, Mode::Run, &mut input, &mut written);
+    let ended = drive(alloc, mode, &mut input, &mut written);
     (written, ended)
 }
 
@@ -33,8 +39,18 @@ fn lines_of(alloc: Global, text: &str) -> Result<String, AllocError> {
 
 /// Runs each script and compares what it writes. Lines are separated by `; ` here.
 fn expect_answers(rt: &impl Abort, alloc: Global, rows: &[(&str, &str)]) -> Result<(), Fail> {
+    expect_answers_as(rt, alloc, Mode::Run, rows)
+}
+
+/// Runs each script in a mode and compares what it writes. Lines are separated by `; ` here.
+fn expect_answers_as(
+    rt: &impl Abort,
+    alloc: Global,
+    mode: Mode,
+    rows: &[(&str, &str)],
+) -> Result<(), Fail> {
     for (script, answers) in rows {
-        let (written, ended) = run(alloc, lines_of(alloc, script)?.as_bytes());
+        let (written, ended) = run_as(alloc, mode, lines_of(alloc, script)?.as_bytes());
         assert_eq!(rt; ended, Ok(()), "{script}");
         let answers = lines_of(alloc, answers)?;
         assert_eq!(rt; written.as_slice(), answers.as_bytes(), "{script}");
@@ -136,23 +152,24 @@ fn last_line_needs_no_newline(rt: HostRuntime) {
 fn command_line(rt: HostRuntime) -> Result<(), Fail> {
     let alloc = rt.alloc();
     let rows = [
-        ("rsx run", None),
-        ("rsx", Some(ErrorKind::MissingSubcommand)),
-        ("rsx --help", Some(ErrorKind::DisplayHelp)),
-        ("rsx run --help", Some(ErrorKind::DisplayHelp)),
-        ("rsx walk", Some(ErrorKind::InvalidSubcommand)),
-        ("rsx run twice", Some(ErrorKind::UnknownArgument)),
+        ("rsx run", Ok(Mode::Run)),
+        ("rsx scratch", Ok(Mode::Scratch)),
+        ("rsx", Err(ErrorKind::MissingSubcommand)),
+        ("rsx --help", Err(ErrorKind::DisplayHelp)),
+        ("rsx run --help", Err(ErrorKind::DisplayHelp)),
+        ("rsx walk", Err(ErrorKind::InvalidSubcommand)),
+        ("rsx run twice", Err(ErrorKind::UnknownArgument)),
     ];
     for (line, want) in rows {
         let mut words = Vec::new(alloc);
         for word in line.split(' ') {
             words.push(String::from_str(alloc, word)?)?;
         }
-        let kind = match crate::mode_of(alloc, &words) {
-            Ok(Mode::Run) => None,
-            Err(error) => Some(error.kind()),
+        let mode = match crate::mode_of(alloc, &words) {
+            Ok(mode) => Ok(mode),
+            Err(error) => Err(error.kind()),
         };
-        assert_eq!(rt; kind, want, "{line}");
+        assert_eq!(rt; mode, want, "{line}");
     }
     Ok(())
 }
