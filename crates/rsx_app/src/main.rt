@@ -29,8 +29,9 @@ const USAGE: u8 = 2;
 /// What the command line asks for.
 fn mode_of(alloc: Global, words: &[String]) -> Result<Mode, Error> {
     let run = Command::new(alloc, "run").about("Answers each command of a script");
-    let scratch = Command::new(alloc, "scratch")
-        .about("Answers each command of a script, and shows values evaluated from scratch");
+    let scratch = Command::new(alloc, "scratch").about(
+        "The same, but shows values evaluated from scratch",
+    );
     let program = Command::new(alloc, "rsx")
         .bin_name("rsx")?
         .about("Runs scripts over graphs of reactive streams")

@@ -45,15 +45,27 @@ fn wrong_words(rt: HostRuntime) {
         ("subscribe (take x (items))", LineRefusal::Syntax(17)),
         ("subscribe (take -1 (items))", LineRefusal::Syntax(17)),
         ("subscribe (take (items))", LineRefusal::Syntax(17)),
-        ("subscribe (take 18446744073709551616 (items))", LineRefusal::Syntax(17)),
+        (
+            "subscribe (take 18446744073709551616 (items))",
+            LineRefusal::Syntax(17),
+        ),
         ("subscribe (take 2)", LineRefusal::Syntax(18)),
-        ("subscribe (scan inc 1 (items))", LineRefusal::UnknownName(17)),
-        ("subscribe (scan 1 add (items))", LineRefusal::UnknownName(17)),
+        (
+            "subscribe (scan inc 1 (items))",
+            LineRefusal::UnknownName(17),
+        ),
+        (
+            "subscribe (scan 1 add (items))",
+            LineRefusal::UnknownName(17),
+        ),
         ("subscribe (scan add x (items))", LineRefusal::Syntax(21)),
         ("subscribe (scan add (items))", LineRefusal::Syntax(21)),
         ("subscribe (buffer two (items))", LineRefusal::Syntax(19)),
         ("subscribe (buffer 2 items)", LineRefusal::Syntax(21)),
-        ("subscribe (distinct add (items))", LineRefusal::UnknownName(21)),
+        (
+            "subscribe (distinct add (items))",
+            LineRefusal::UnknownName(21),
+        ),
         ("subscribe (distinct (items))", LineRefusal::Syntax(21)),
         ("subscribe (skip 2 (items))", LineRefusal::UnknownName(12)),
         // bytes that no word has
