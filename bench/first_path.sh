@@ -1,13 +1,22 @@
 #!/usr/bin/env bash
-# Times the first path on the built program: a range through `map`, with all demand given at once, pumped to its end.
-# For each number of items it prints the least of five runs in milliseconds, with what an empty script takes beside it,
-# and the nanoseconds for each item, the empty run taken off.
+# Times the first path on the built program: a range through plain operators, pumped to its end. For each expression and
+# each number of items of the range it prints the least of five runs in milliseconds, with what an empty script takes
+# beside it, and the nanoseconds for each item of the range, the empty run taken off. All demand is given at once, but in
+# the last row, where each item is asked for and pumped by itself.
 set -euo pipefail
 
 rsx=$(cd "$(dirname "${BASH_SOURCE[0]}")/.." && pwd)/rsx
 
+# The expression over a range of so many items, all asked for at once.
 script() {
-    printf 'subscribe (map double (range 1 %d))\nrequest 0 %d\npump 4294967295\ncount 0\nasked 0\n' "$1" "$1"
+    printf 'subscribe %s\nrequest 0 %d\npump 4294967295\ncount 0\n' "$1" "$2"
+}
+
+# The same, asked for one at a time.
+one_at_a_time() {
+    printf 'subscribe %s\n' "$1"
+    awk -v n="$2" 'BEGIN { for (i = 0; i < n; i++) print "request 0 1\npump 100" }'
+    printf 'count 0\n'
 }
 
 # The least time of five runs over a file, in nanoseconds.
@@ -32,15 +41,32 @@ trap 'rm -f "$input" "$answers"' EXIT
 program=$(dirname "$rsx")/crates/rsx_app/out/rsx_app
 empty=$(least "$input")
 
-printf '%10s %12s %12s %14s\n' items 'run in ms' 'empty in ms' 'ns an item'
-for items in 10000 100000 1000000; do
-    script "$items" >"$input"
+# Runs the script in the input, whose last answer has to be this count, and prints its row.
+row() {
+    local name=$1 items=$2 count=$3 time
     time=$(least "$input")
-    if [[ $(tail -2 "$answers") != "count $items"$'\n'"asked $items" ]]; then
+    if [[ $(tail -1 "$answers") != "count $count" ]]; then
         echo "unexpected answers:" >&2
-        cat "$answers" >&2
+        tail -3 "$answers" >&2
         exit 1
     fi
-    awk -v n="$items" -v t="$time" -v e="$empty" \
-        'BEGIN { printf "%10d %12.2f %12.2f %14.1f\n", n, t / 1e6, e / 1e6, (t - e) / n }'
+    awk -v m="$name" -v n="$items" -v t="$time" -v e="$empty" \
+        'BEGIN { printf "%-34s %10d %12.2f %12.2f %14.1f\n", m, n, t / 1e6, e / 1e6, (t - e) / n }'
+}
+
+printf '%-34s %10s %12s %12s %14s\n' expression items 'run in ms' 'empty in ms' 'ns an item'
+for items in 10000 100000 1000000; do
+    script "(map double (range 1 $items))" "$items" >"$input"
+    row 'map double' "$items" "$items"
 done
+items=1000000
+script "(filter even (map double (range 1 $items)))" "$items" >"$input"
+row 'filter even (map double)' "$items" "$items"
+script "(buffer 10 (range 1 $items))" "$items" >"$input"
+row 'buffer 10' "$items" "$((items / 10))"
+script "(take $items (scan add 0 (range 1 $items)))" "$items" >"$input"
+row 'take (scan add)' "$items" "$items"
+script "(distinct same (range 1 $items))" "$items" >"$input"
+row 'distinct same' "$items" "$items"
+one_at_a_time "(map double (range 1 100000))" 100000 >"$input"
+row 'map double, one at a time' 100000 100000
