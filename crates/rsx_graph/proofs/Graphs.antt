@@ -14,12 +14,15 @@ use Rattle.rsx_types.specs.declared.names.SubId.{SubId}
 use Rattle.rsx_types.specs.declared.signal.Signal.{Signal}
 use Rattle.rsx_types.specs.Meaning.{Meaning}
 use Rattle.rsx_types.specs.Stream.{Stream, signals_then, ended_by}
-use Rattle.rsx_graph.specs.declared.edge.EdgeState.TheVariants.{Live}
+use Rattle.rsx_pipe.specs.declared.edge.EdgeState.TheVariants.{Live}
 use Rattle.rsx_graph.specs.declared.state.SubscriptionState.{SubscriptionState}
 use Rattle.rsx_graph.specs.declared.state.SubscriptionState.TheVariants.{Open, Ended, Cancelled, Refused}
-use Rattle.rsx_graph.specs.Built.{IsBuilt}
-use Rattle.rsx_graph.specs.Tree.{comes_out, notes_of}
-use Rattle.rsx_graph.proofs.Trees.{notes_then-unrecorded, notes_then-unchosen, unchosen_notes}
+use Rattle.rsx_pipe.specs.Built.{IsBuilt, fresh_edge}
+use Rattle.rsx_graph.specs.Begun.{IsFresh}
+use Rattle.rsx_pipe.specs.Edges.{edge_view}
+use Rattle.rsx_pipe.proofs.Builds.{fresh_edge_is}
+use Rattle.rsx_pipe.specs.Tree.{comes_out, notes_of, edges}
+use Rattle.rsx_pipe.proofs.Trees.{notes_then-unrecorded, notes_then-unchosen, unchosen_notes}
 use Rattle.rsx_graph.specs.declared.subscription.Subscription.{Subscription}
 use Rattle.rsx_graph.specs.declared.step.Step.{Step}
 use Rattle.rsx_graph.specs.declared.step.Answer.{Answer}
@@ -29,7 +32,8 @@ use Rattle.rsx_types.specs.declared.names.Move.TheVariants.{Ask, Send, Take}
 use Rattle.rsx_types.specs.declared.names.Tree.TheVariants.{Sub, Feed}
 use Rattle.rsx_graph.proofs.Moves.{leads_on}
 use Rattle.rsx_graph.specs.Pumped.{IsPumped, AllPumped, IsMoved, IsMoveMade, Leads, IsQuiet, IsAwake, AreQuiet, IsAllQuiet, IsAnyAwake, given_all, to}
-use Rattle.rsx_graph.proofs.Signals.{append_none, some_same}
+use Rattle.std.proofs.lemmas.List.{append-nil}
+use Rattle.rsx_graph.proofs.Signals.{some_same}
 use Rattle.rsx_graph.specs.Stands.{Stands, AllStand, StandsFor, IsMade, enabled_in_tree, enabled_at, move_enabled_in, values_then, evaluated, owed_from, owes_in, OwedAt}
 
 pub AllStand-push : {T : Type 0} (m : Meaning T) (published : List (Stream T)) (subs : List (Subscription T)) (pasts : List (Past T)) (s : Subscription T) (p : Past T) → Stands m published s p → AllStand m published subs pasts → AllStand m published (subs ++ s ∷ []) (pasts ++ p ∷ [])
@@ -186,7 +190,7 @@ pumped_on {T} m n k s1 s2 s3 o1 o2 o3 a b = record {
 }
 
 pub pumped_none : {T : Type 0} (m : Meaning T) (s : List (Subscription T)) (o : List (SubId × Signal T)) → AllPumped m 0 s o s o
-pumped_none m s o = record { signals = []; output = sym (append_none o); moves = (refl, refl); stands = λ h k. k }
+pumped_none m s o = record { signals = []; output = sym (append-nil o); moves = (refl, refl); stands = λ h k. k }
 
 -- ---- no enabled move, and some
 
@@ -270,6 +274,13 @@ stands_fresh {T} m published e sub b q l a s o =
     map_same : {T : Type 0} (o : Option (Stream T)) → option_map (λ v. v) (option_map (λ v. v) o) ≡ o
     map_same None = refl
     map_same (Some v) = refl
+
+pub fresh_sub : {T : Type 0} (m : Meaning T) (e : Expr T) (sub : Subscription T) → IsBuilt m e sub.tree → sub.root.demand.asked ≡ 0 → sub.root.demand.sent ≡ 0 → sub.root.state ≡ Live → sub.queue ≡ [] → sub.state ≡ Open → IsFresh e sub
+fresh_sub m e sub b a s l q o = record {
+  edges = ap (λ v. v ∷ edges sub.tree) (fresh_edge_is sub.root a s l) ∙ ap (λ es. fresh_edge ∷ es) b.edges;
+  queue = q;
+  state = o;
+}
 
 -- ---- what is owed
 

@@ -1,6 +1,4 @@
-pub mod Builds
 pub mod Graphs
 pub mod Moves
 pub mod Sentence
 pub mod Signals
-pub mod Trees

@@ -8,15 +8,15 @@ use Rattle.rsx_types.specs.Stream.{Stream, signals_then}
 use Rattle.rsx_types.specs.declared.note.Note.{Note}
 use Rattle.rsx_types.specs.declared.signal.Signal.{Signal}
 use Rattle.rsx_types.specs.declared.signal.Signal.TheVariants.{Next, Complete, Error}
-use Rattle.rsx_graph.specs.declared.edge.EdgeState.TheVariants.{Live}
+use Rattle.rsx_pipe.specs.declared.edge.EdgeState.TheVariants.{Live}
 use Rattle.rsx_graph.specs.declared.subscription.Subscription.{Subscription}
 use Rattle.rsx_graph.specs.declared.state.SubscriptionState.{SubscriptionState}
 use Rattle.rsx_graph.specs.declared.state.SubscriptionState.TheVariants.{Open, Ended, Cancelled, Refused}
 use Rattle.rsx_sources.specs.Machine.{front_of}
 use Rattle.rsx_sources.specs.declared.machine.Front.{Front}
-use Rattle.rsx_graph.specs.declared.node.Node.{Node}
-use Rattle.rsx_graph.specs.Edges.{edge_view, EdgeView, passed, IsPassed, can_pass}
-use Rattle.rsx_graph.specs.Tree.{comes_out, notes_of, offers, IsAllClosed, IsKept, IsLetGo}
+use Rattle.rsx_pipe.specs.declared.node.Node.{Node}
+use Rattle.rsx_pipe.specs.Edges.{edge_view, EdgeView, passed, IsPassed, can_pass}
+use Rattle.rsx_pipe.specs.Tree.{comes_out, notes_of, offers, IsAllClosed, IsKept, IsLetGo}
 use Rattle.rsx_graph.specs.History.{Past, items_in, IsUnended, IsOrderly, IsPrefixOf, IsLive, cancelled, cancelled_state, state_after, refused, requested, requested_in, given, asked_more}
 use Rattle.rsx_types.specs.declared.names.SubId.{SubId}
 use Rattle.std.specs.Option.{option_to_list}
@@ -24,9 +24,10 @@ use Rattle.rsx_types.specs.declared.names.Move.TheVariants.{Ask, Send, Take}
 use Rattle.rsx_types.specs.declared.names.Tree.TheVariants.{Sub}
 use Rattle.rsx_graph.specs.Pumped.{IsPumped, IsMoved, IsQuiet, IsAwake, Leads, given_all, to}
 use Rattle.rsx_graph.specs.Stands.{Stands, evaluated, owed_from, values_then, send_enabled, take_enabled, has_room, negated, is_empty, IsTake}
-use Rattle.rsx_graph.proofs.Signals.{IsOrderly-front, IsOrderly-more, IsUnended-more, items_in-append, append_none, prefix_of_some, map_then-last, map_then-first}
-use Rattle.rsx_graph.proofs.Trees.{pass_live, front_there, above_root, sent_all, asked_all, above_zero, suc_minus, at_zero}
-use Rattle.rsx_graph.specs.Tree.{edges, front_at, ended_at, want_at, can_ask, can_send, can_go, IsAskedAt, IsSentAt, IsAdvanced, IsIdle, IsBusy}
+use Rattle.std.proofs.lemmas.List.{append-nil}
+use Rattle.rsx_graph.proofs.Signals.{IsOrderly-front, IsOrderly-more, IsUnended-more, items_in-append, prefix_of_some, map_then-last, map_then-first}
+use Rattle.rsx_pipe.proofs.Trees.{pass_live, front_there, above_root, sent_all, asked_all, above_zero, suc_minus, at_zero}
+use Rattle.rsx_pipe.specs.Tree.{edges, front_at, ended_at, want_at, can_ask, can_send, can_go, IsAskedAt, IsSentAt, IsAdvanced, IsIdle, IsBusy}
 use Rattle.std.proofs.Common.{◌-◌, Bool, false, None, ◌&&◌, nat_eq, nat_lt}
 use Rattle.rsx_graph.specs.Stands.{IsSend, QueueAfter}
 
@@ -79,7 +80,7 @@ stands_closed m published old new past past' k dead s p h = record {
   value = λ l more further len. absurd (dead l);
   prefix = λ _ more further len v e.
       rw p.items (prefix_open m published old past k.was_open h more further (rw k.notes at len) v (rw (p.expression, p.joins, k.notes) at e));
-  orderly = rw (k.queue, append_none) p.orderly;
+  orderly = rw (k.queue, append-nil) p.orderly;
   unended = λ l. absurd (k.root l);
   waits = λ w. absurd (not_live new.state dead w);
   counted = λ l. absurd (dead l);
@@ -122,7 +123,7 @@ stands_uncancelled m published sub past n h =
 pub stands_refused : {T : Type 0} (m : Meaning T) (published : List (Stream T)) (old new : Subscription T) (past : Past T) → IsClosing old new → new.state ≡ Refused → Stands m published old past → Stands m published new (refused past)
 stands_refused m published old new past k s h =
     stands_closed m published old new past (refused past) k (not_refused new.state s) s
-    (record { expression = refl; joins = refl; items = items_in-append past.received _ ∙ append_none (items_in past.received); orderly = IsOrderly-more past.received _ (h.waits k.was_open); asked = refl }) h
+    (record { expression = refl; joins = refl; items = items_in-append past.received _ ∙ append-nil (items_in past.received); orderly = IsOrderly-more past.received _ (h.waits k.was_open); asked = refl }) h
 
 -- a request of 0 or less is a bad one
 pub refused_request : {T : Type 0} (past : Past T) (n : ℤ) → Open ≡ past.state → n ≤ℤ pos 0 → refused past ≡ requested n past
@@ -340,13 +341,13 @@ leads_on {S} {D} step (suc n) k a b c ds es x y =
     subst R more (x.0, x.1, x.2 ++ es, x.3, leads_on step n k x.0 b c x.2 es x.4 y, ap (λ l. l ++ es) x.5 ∙ append_assoc (option_to_list x.1) x.2 es)
 
 pub pumped_none : {T : Type 0} (m : Meaning T) (id : SubId) (sub : Subscription T) (o : List (SubId × Signal T)) → IsPumped m id 0 sub o sub o
-pumped_none m id sub o = record { signals = []; output = sym (append_none o); moves = (refl, refl); stands = λ p q h. h }
+pumped_none m id sub o = record { signals = []; output = sym (append-nil o); moves = (refl, refl); stands = λ p q h. h }
 
 pub pumped_same_sub : {T : Type 0} (m : Meaning T) (id : SubId) (old new : Subscription T) (o : List (SubId × Signal T)) → new ≡ old → IsPumped m id 0 old o new o
 pumped_same_sub {T} m id old new o e = let P : Subscription T → Type 0 = λ s. IsPumped m id 0 old o s o in subst P (sym e) (pumped_none m id old o)
 
 pub pumped_moved : {T : Type 0} (m : Meaning T) (id : SubId) (old new : Subscription T) (o : List (SubId × Signal T)) → IsMoved m id old None new → ((published : List (Stream T)) (past : Past T) → Stands m published old past → Stands m published new past) → IsPumped m id 1 old o new o
-pumped_moved m id old new o v k = record { signals = []; output = sym (append_none o); moves = (new, None, [], v, (refl, refl), refl); stands = k }
+pumped_moved m id old new o v k = record { signals = []; output = sym (append-nil o); moves = (new, None, [], v, (refl, refl), refl); stands = k }
 
 pub pumped_one : {T : Type 0} (m : Meaning T) (id : SubId) (old new : Subscription T) (o o' : List (SubId × Signal T)) (s : Signal T) → o' ≡ o ++ (id, s) ∷ [] → take_enabled old 0 ≡ true → IsTake old s new → ((published : List (Stream T)) (past : Past T) → Stands m published old past → Stands m published new (given s past)) → IsPumped m id 1 old o new o'
 pumped_one m id old new o o' s e can took k = record {

@@ -38,10 +38,6 @@ items_in-append (Next x ∷ a) b = ap (λ l. x ∷ l) (items_in-append a b)
 items_in-append (Complete ∷ a) b = items_in-append a b
 items_in-append (Error c ∷ a) b = items_in-append a b
 
-pub append_none : {A : Type 0} (a : List A) → a ++ [] ≡ a
-append_none [] = refl
-append_none (x ∷ a) = ap (λ l. x ∷ l) (append_none a)
-
 -- what came first begins the value
 pub prefix_of_then : {T : Type 0} (a : List (Signal T)) (v : Stream T) → IsUnended a → IsPrefixOf (items_in a) (signals_then a v).items
 prefix_of_then [] v h = (v.items, refl)

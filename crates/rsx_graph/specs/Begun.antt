@@ -3,7 +3,7 @@ use Rattle.std.specs.Prelude.{◌≡◌, List, [], ◌∷◌, ◌++◌}
 use Rattle.rsx_model.specs.declared.expr.Expr.{Expr}
 use Rattle.rsx_graph.specs.declared.state.SubscriptionState.TheVariants.{Open}
 use Rattle.rsx_graph.specs.declared.subscription.Subscription.{Subscription}
-use Rattle.rsx_graph.specs.Built.{fresh_edge, fresh_edges}
+use Rattle.rsx_pipe.specs.Built.{fresh_edge, fresh_edges}
 use Rattle.rsx_graph.specs.Stands.{all_edges}
 
 -- nothing was asked and nothing sent, and what a node that has put out its ending closes is closed

@@ -14,12 +14,12 @@ use Rattle.rsx_types.specs.declared.signal.Ending.{Ending}
 use Rattle.rsx_types.specs.declared.signal.Ending.TheVariants.{Open as NotEnded, Done, Failed}
 use Rattle.rsx_types.specs.declared.signal.Signal.{Signal}
 use Rattle.rsx_sources.specs.Machine.{front_of}
-use Rattle.rsx_graph.specs.declared.edge.EdgeState.TheVariants.{Live}
+use Rattle.rsx_pipe.specs.declared.edge.EdgeState.TheVariants.{Live}
 use Rattle.rsx_graph.specs.declared.state.SubscriptionState.{SubscriptionState}
 use Rattle.rsx_graph.specs.declared.state.SubscriptionState.TheVariants.{Open, Ended, Cancelled, Refused}
 use Rattle.rsx_graph.specs.declared.subscription.Subscription.{Subscription}
-use Rattle.rsx_graph.specs.Edges.{edge_view, EdgeView, changed_at, carried_at, asked_up_to}
-use Rattle.rsx_graph.specs.Tree.{comes_out, notes_of, offers, can_ask, can_send, can_go, IsAllClosed, edges, want_at, front_at, ended_at}
+use Rattle.rsx_pipe.specs.Edges.{edge_view, EdgeView, changed_at, carried_at, asked_up_to}
+use Rattle.rsx_pipe.specs.Tree.{comes_out, notes_of, offers, can_ask, can_send, can_go, IsAllClosed, edges, want_at, front_at, ended_at}
 use Rattle.rsx_sources.specs.declared.machine.Front.{Front}
 use Rattle.rsx_graph.specs.History.{Past, History, IsLive, items_in, IsUnended, IsOrderly, IsPrefixOf, request_answer}
 

@@ -8,15 +8,15 @@ ghost use Rattle.rsx_graph.specs.Stands.{Stands, StandsFor, IsRequested, IsOwed,
 ghost use Rattle.rsx_graph.specs.Begun.{IsFresh, IsSubscribed};
 ghost use Rattle.rsx_graph.specs.Pumped.{AllPumped, Spent, HasEnded, AreQuiet, IsAllQuiet, IsAnyAwake};
 
-use crate::build::build;
 use crate::deliveries::Deliveries;
-use crate::edge::Edge;
 use crate::queue::SignalQueue;
 use crate::refusal::Refusal;
 use crate::state::SubscriptionState;
 use crate::step::{Answer, Pumped, Step};
 use crate::subscription::Subscription;
 use rsx_model::{Expr, check_expr};
+use rsx_pipe::Edge;
+use rsx_pipe::build::build;
 use rsx_sources::NotMade;
 use rsx_types::{Ending, Move, NoMemory, NodeId, Note, Ops, Signal, StreamValue, SubId, Tree};
 use std::alloc::Global;

@@ -5,10 +5,9 @@ ghost use Rattle.rsx_types.specs.Stream.{signals_then};
 ghost use Rattle.rsx_graph.specs.History.{state_after as after_signal};
 
 use crate::deliveries::Deliveries;
-use crate::edge::{Edge, EdgeState};
-use crate::node::Node;
 use crate::queue::SignalQueue;
 use crate::state::SubscriptionState;
+use rsx_pipe::{Edge, EdgeState, Node};
 use rsx_sources::{Front, NotMade};
 use rsx_types::{Cause, Ending, NoMemory, Ops, Signal, StreamValue, SubId};
 use std::alloc::Global;
@@ -32,10 +31,10 @@ impl<T: Drop> Subscription<T> {
     ghost use Rattle.rsx_types.specs.Notes.{unchosen};
     ghost use Rattle.rsx_types.specs.Stream.{Stream};
     ghost use Rattle.rsx_sources.specs.Steps.{IsNotMade};
-    ghost use Rattle.rsx_graph.specs.Tree.{comes_out, notes_of, IsAllClosed};
+    ghost use Rattle.rsx_pipe.specs.Tree.{comes_out, notes_of, IsAllClosed};
     ghost use Rattle.rsx_graph.specs.History.{Past, cancelled, requested, given, request_answer};
-    ghost use Rattle.rsx_graph.specs.Tree.{IsIdle, can_go, offers};
-    ghost use Rattle.rsx_graph.specs.Edges.{edge_view};
+    ghost use Rattle.rsx_pipe.specs.Tree.{IsIdle, can_go, offers};
+    ghost use Rattle.rsx_pipe.specs.Edges.{edge_view};
     ghost use Rattle.rsx_sources.specs.Machine.{front_of};
     ghost use Rattle.rsx_graph.specs.Stands.{Stands, owed_from, ask_enabled, send_enabled, take_enabled, IsAsk, IsSend, IsTake};
     ghost use Rattle.rsx_graph.specs.Pumped.{IsPumped, IsMoved, IsQuiet, IsAwake, Spent, moves_of};

@@ -1,6 +1,5 @@
 use Rattle.std.proofs.Common.{refl}
-use Rattle.rsx_graph.proofs.Builds.{fresh_sub}
-use Rattle.rsx_graph.proofs.Graphs.{stands_fresh}
+use Rattle.rsx_graph.proofs.Graphs.{fresh_sub, stands_fresh}
 use Rattle.rsx_graph.proofs.graph.new_subscription.Goals as goal
 
 pub returns-clause-stands : goal.returns-clause-stands

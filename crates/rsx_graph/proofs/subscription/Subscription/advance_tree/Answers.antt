@@ -1,4 +1,4 @@
-use Rattle.rsx_graph.proofs.Trees.{advanced_not_closed}
+use Rattle.rsx_pipe.proofs.Trees.{advanced_not_closed}
 use Rattle.rsx_graph.proofs.Moves.{moved_tree, moved_below}
 use Rattle.rsx_graph.proofs.subscription.Subscription.advance_tree.Goals as goal
 

@@ -1,4 +1,4 @@
-use Rattle.rsx_graph.proofs.Trees.{ask_not_closed}
+use Rattle.rsx_pipe.proofs.Trees.{ask_not_closed}
 use Rattle.rsx_graph.proofs.Moves.{moved_tree}
 use Rattle.rsx_graph.proofs.subscription.Subscription.ask.Goals as goal
 

@@ -2,8 +2,8 @@ use Rattle.std.proofs.Common.{ap, sym, ◌∙◌, map, Some, option_map}
 use Rattle.std.proofs.lemmas.Result.{IfOk-weaker}
 use Rattle.rsx_types.specs.Notes.{unchosen}
 use Rattle.rsx_types.specs.Stream.{signals_then}
-use Rattle.rsx_graph.specs.Tree.{notes_of}
-use Rattle.rsx_graph.proofs.Trees.{unchosen_tree}
+use Rattle.rsx_pipe.specs.Tree.{notes_of}
+use Rattle.rsx_pipe.proofs.Trees.{unchosen_tree}
 use Rattle.rsx_graph.proofs.subscription.Subscription.owed.Goals as goal
 
 pub returns : goal.returns

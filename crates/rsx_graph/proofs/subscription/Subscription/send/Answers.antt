@@ -1,4 +1,4 @@
-use Rattle.rsx_graph.proofs.Trees.{send_not_closed}
+use Rattle.rsx_pipe.proofs.Trees.{send_not_closed}
 use Rattle.rsx_graph.proofs.Moves.{moved_tree, sent_below_root}
 use Rattle.rsx_graph.proofs.subscription.Subscription.send.Goals as goal
 

@@ -1,6 +1,6 @@
 use Rattle.std.proofs.Common.{rules, ◌≡◌, refl, sym, ◌∙◌, true}
-use Rattle.rsx_graph.specs.Edges.{can_pass, edge_view}
-use Rattle.rsx_graph.specs.Tree.{IsLetGo}
+use Rattle.rsx_pipe.specs.Edges.{can_pass, edge_view}
+use Rattle.rsx_pipe.specs.Tree.{IsLetGo}
 use Rattle.rsx_graph.proofs.Moves.{stands_sent, is_sending, sent_root}
 use Rattle.rsx_graph.proofs.subscription.Subscription.send_root.Goals as goal
 

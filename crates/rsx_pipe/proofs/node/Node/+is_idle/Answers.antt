@@ -1,0 +1,20 @@
+use Rattle.std.proofs.Common.{refl, ap, sym, ◌∙◌, subst}
+use Rattle.rsx_pipe.specs.declared.node.Node.{Node}
+use Rattle.rsx_pipe.specs.Edges.{edge_view, can_ask_for}
+use Rattle.rsx_pipe.specs.Tree.{IsBusy, can_send_over}
+use Rattle.rsx_pipe.proofs.Trees.{idle_below, busy_below, busy_tree}
+use Rattle.rsx_pipe.proofs.node.Node.+is_idle.Goals as goal
+
+pub returns-else-can_send_signal-clause-yes : goal.returns-else-can_send_signal-clause-yes
+returns-else-can_send_signal-clause-yes g t c = λ m e.
+    idle_below m c.args.self.now c.in-Plain.node c.in-Plain.edge c.in-Plain.edge c.in-Plain.input c.deref-in-Plain.result.now c.args.asked c.args.sent c.in-Plain.is refl c.deref-in-Plain.ensures
+    (record {
+      ask = ap (λ w. can_ask_for (edge_view c.in-Plain.edge) w) (sym c.want-want.ensures) ∙ (sym c.can_ask.ensures ∙ c.if-can_ask.false);
+      send = ap (λ i. can_send_over m c.in-Plain.node c.in-Plain.edge i) (sym c.deref.ensures) ∙ (sym (c.can_send_signal.ensures m) ∙ c.if-can_send_signal.false);
+    }) (c.is_idle.ensures.yes m e)
+
+pub returns-else-can_send_signal-clause-no : goal.returns-else-can_send_signal-clause-no
+returns-else-can_send_signal-clause-no g t c = λ m e.
+    let P : Node _ → Type 0 = λ i. IsBusy m i c.in-Plain.edge.demand.asked c.in-Plain.edge.demand.sent in
+    busy_tree m c.args.self.now c.in-Plain.node c.in-Plain.edge c.in-Plain.input c.args.asked c.args.sent c.in-Plain.is
+    (busy_below m c.in-Plain.node c.in-Plain.edge c.in-Plain.input c.args.asked c.args.sent (subst P c.deref-in-Plain.ensures (c.is_idle.ensures.no m e)))
