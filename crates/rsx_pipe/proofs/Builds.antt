@@ -11,13 +11,13 @@ use Rattle.rsx_model.specs.Eval.{environment, meant, quiet}
 use Rattle.rsx_model.specs.declared.expr.Expr.{Expr}
 use Rattle.rsx_model.specs.declared.expr.Expr.TheViews.{Plain as PlainOf, outs-Plain}
 use Rattle.rsx_model.proofs.Unfold.{value_Plain}
-use Rattle.rsx_plain.specs.Node.{plain_comes_out, plain_ended, start_slot, is_ending}
+use Rattle.rsx_plain.specs.Node.{plain_comes_out, plain_ended, start_slot}
 use Rattle.rsx_plain.specs.declared.node.PlainNode.{PlainNode}
 use Rattle.rsx_pipe.specs.declared.edge.Edge.{Edge}
 use Rattle.rsx_pipe.specs.declared.edge.EdgeState.TheVariants.{Live}
 use Rattle.rsx_pipe.specs.declared.node.Node.{Node}
 use Rattle.rsx_pipe.specs.declared.node.Node.TheViews.{Plain}
-use Rattle.std.specs.List.{list_any}
+use Rattle.rsx_plain.specs.Moves.{has_ending}
 use Rattle.rsx_model.specs.declared.expr.Expr.TheFolds.{fold_out-Expr}
 use Rattle.rsx_pipe.specs.Built.{IsBuilt, AllUnrecorded, fresh_edge, fresh_edges, starts_ended}
 use Rattle.rsx_pipe.specs.Edges.{EdgeView, closed_if, edge_view}
@@ -50,7 +50,7 @@ built_plain {T} m e g b n edge edge' was below box input is in_box w0 fresh slot
     let c : edge_view edge' ∷ edges box.value ≡ closed_if (plain_ended n) (edge_view edge ∷ edges was) = subst R (sym at_box) closed in
     let N : List Note → Type 0 = λ ns. AllUnrecorded ns in
     let below_is : edge_view edge ∷ edges was ≡ fresh_edge ∷ fresh_edges b.value = ap (λ v. v ∷ edges was) new ∙ ap (λ es. fresh_edge ∷ es) w.edges in
-    let ended_is : plain_ended n ≡ starts_ended g = ap (λ l. list_any is_ending l) slot in
+    let ended_is : plain_ended n ≡ starts_ended g = ap has_ending slot in
     subst P (sym is) (record {
       value = λ hubs joins further at leaf.
           fresh_through m g n fresh (comes_out m hubs further box.value (at + 1)) (slice_get further at)

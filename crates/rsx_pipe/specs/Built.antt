@@ -7,11 +7,11 @@ use Rattle.rsx_types.specs.Notes.{note_then}
 use Rattle.rsx_types.specs.Stream.{Stream}
 use Rattle.rsx_types.specs.declared.note.Note.{Note}
 use Rattle.rsx_pipe.specs.declared.node.Node.{Node}
-use Rattle.std.specs.List.{list_any}
 use Rattle.rsx_model.specs.declared.expr.Expr.TheFolds.{fold-Expr}
 use Rattle.rsx_model.specs.declared.expr.Expr.TheOpen.{Expr-F, Items, Range, Plain}
 use Rattle.rsx_types.specs.declared.stage.Stage.{Stage}
-use Rattle.rsx_plain.specs.Node.{start_slot, is_ending}
+use Rattle.rsx_plain.specs.Moves.{has_ending}
+use Rattle.rsx_plain.specs.Node.{start_slot}
 use Rattle.rsx_pipe.specs.declared.edge.EdgeState.TheVariants.{Live}
 use Rattle.rsx_pipe.specs.Edges.{EdgeView, closed_if}
 use Rattle.rsx_pipe.specs.Tree.{comes_out, notes_of, edges}
@@ -30,7 +30,7 @@ fresh_edge = record { asked = 0; sent = 0; state = Live }
 
 -- whether a plain operator has put out its ending before it took anything: `take 0`
 abbrev pub starts_ended : {T : Type 0} → Stage T → Bool
-starts_ended g = list_any is_ending (start_slot g)
+starts_ended g = has_ending (start_slot g)
 
 -- the edges of a node of an expression, from those of its input
 abbrev pub fresh_below : {T : Type 0} → Expr-F T (List EdgeView) → List EdgeView

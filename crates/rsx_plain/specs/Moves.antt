@@ -1,5 +1,6 @@
 -- How an operator answers a signal.
-use Rattle.std.specs.Prelude.{◌≡◌, List, [], ◌∷◌, ⊤}
+use Rattle.std.specs.Prelude.{◌≡◌, Bool, true, false, List, [], ◌∷◌, ⊤}
+use Rattle.std.specs.List.{list_any}
 use Rattle.rsx_types.specs.declared.signal.Signal.{Signal}
 use Rattle.rsx_types.specs.declared.signal.Signal.TheVariants.{Next, Complete, Error}
 use Rattle.rsx_types.specs.Stream.{Stream, signal_then, signals_then}
@@ -14,3 +15,13 @@ EndsLast [] = ⊤
 EndsLast (Next x ∷ ss) = EndsLast ss
 EndsLast (Complete ∷ ss) = ss ≡ []
 EndsLast (Error c ∷ ss) = ss ≡ []
+
+-- whether a signal is a completion or a failure
+abbrev pub is_ending : {T : Type 0} → Signal T → Bool
+is_ending (Next x) = false
+is_ending Complete = true
+is_ending (Error c) = true
+
+-- whether an ending is among the signals, in front or behind an item
+abbrev pub has_ending : {T : Type 0} → List (Signal T) → Bool
+has_ending ss = list_any is_ending ss

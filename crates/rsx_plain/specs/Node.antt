@@ -1,9 +1,8 @@
 -- What still comes out of a plain operator with its out slot.
-use Rattle.std.specs.Prelude.{◌≡◌, ℕ, zero, suc, ◌<◌, ◌==◌, ◌&&◌, Bool, true, false, List, [], ◌∷◌, length, slice_get, Option}
-use Rattle.std.specs.List.{list_any}
+use Rattle.std.specs.Prelude.{◌≡◌, ℕ, zero, suc, ◌<◌, ◌==◌, ◌&&◌, Bool, List, [], ◌∷◌, length, slice_get, Option}
 use Rattle.rsx_types.specs.declared.note.Note.{Note}
 use Rattle.rsx_types.specs.declared.signal.Signal.{Signal}
-use Rattle.rsx_types.specs.declared.signal.Signal.TheVariants.{Next, Complete, Error}
+use Rattle.rsx_types.specs.declared.signal.Signal.TheVariants.{Next, Complete}
 use Rattle.rsx_types.specs.declared.stage.Stage.{Stage}
 use Rattle.rsx_types.specs.declared.stage.Stage.TheVariants.{Map, Filter, Take, Scan, Buffer, Distinct}
 use Rattle.rsx_types.specs.Meaning.{Meaning}
@@ -11,6 +10,7 @@ use Rattle.rsx_types.specs.Stream.{Stream, signals_then}
 use Rattle.rsx_sources.specs.Machine.{Incoming, quiet}
 use Rattle.rsx_sources.specs.Slot.{is_nil}
 use Rattle.rsx_plain.specs.declared.node.PlainNode.{PlainNode}
+use Rattle.rsx_plain.specs.Moves.{has_ending}
 use Rattle.rsx_plain.specs.State.{plain_from, wanted_from}
 
 -- what stands in the slot at the start: the seed of `scan`, and the completion of `take 0`
@@ -43,12 +43,6 @@ plain_wanted n input asked sent = wanted_from n.state asked sent
 abbrev pub plain_popped : {T : Type 0} → PlainNode T → Signal T → PlainNode T → Type 0
 plain_popped old s new = (old.slot ≡ s ∷ new.slot) × (old.state ≡ new.state) × (length new.slot < 2)
 
--- whether a signal is a completion or a failure
-abbrev pub is_ending : {T : Type 0} → Signal T → Bool
-is_ending (Next x) = false
-is_ending Complete = true
-is_ending (Error c) = true
-
 -- whether an ending stands in the slot, in front or behind an item
 abbrev pub plain_ended : {T : Type 0} → PlainNode T → Bool
-plain_ended n = list_any is_ending n.slot
+plain_ended n = has_ending n.slot

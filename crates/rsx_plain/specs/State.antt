@@ -83,6 +83,15 @@ after_signal m state (Error c) = after_ending state
 abbrev pub Reacts : {T : Type 0} → Meaning T → PlainState T → Signal T → List (Signal T) → PlainState T → Type 0
 Reacts m old s out new = Moves (plain_from m) old s out new × EndsLast out × (new ≡ after_signal m old s)
 
+-- whether nothing more of the input matters: a `take` has let all its items through
+abbrev pub is_over : {T : Type 0} → PlainState T → Bool
+is_over (MapFrom f) = false
+is_over (FilterFrom f n) = false
+is_over (TakeFrom n left) = nat_eq left 0
+is_over (ScanFrom f a) = false
+is_over (BufferFrom n xs) = false
+is_over (DistinctFrom f ks n) = false
+
 -- what is to be asked of the input in all, where so much is asked of the operator and so much came out of it
 abbrev pub wanted_from : {T : Type 0} → PlainState T → ℕ → ℕ → ℕ
 wanted_from (MapFrom f) asked sent = asked

@@ -18,7 +18,7 @@ pub struct PlainNode<T> {
 }
 
 impl<T: Drop> PlainNode<T> {
-    ghost use Rattle.std.specs.Prelude.{◌≡◌, IfOk};
+    ghost use Rattle.std.specs.Prelude.{◌≡◌, IfOk, IsTrue};
     ghost use Rattle.rsx_types.specs.Meaning.{Meaning};
     ghost use Rattle.rsx_types.specs.Plain.{plain};
     ghost use Rattle.rsx_types.specs.declared.note.Note.{Note};
@@ -50,10 +50,11 @@ impl<T: Drop> PlainNode<T> {
         Ok(PlainNode { state, slot })
     }
 
-    /// Whether a completion or a failure stands in the slot, in front or behind an item: then the node takes nothing more
-    /// of its input.
+    /// Whether a completion or a failure stands in the slot, in front or behind an item: then what still comes in no longer
+    /// matters, and the input can be closed.
     pub fn has_ended(&self) -> bool
-        ensures { result ≡ plain_ended self.now }
+        ensures ended { result ≡ plain_ended self.now }
+        ensures closed { IsTrue result → (m : Meaning T) (inc other : Incoming T) (further : Note) → plain_comes_out m self.now inc further ≡ plain_comes_out m self.now other further }
     {
         for at in 0..self.slot.len() {
             match self.slot.get(at) {
@@ -76,7 +77,8 @@ impl<T: Drop> Machine for PlainNode<T> {
     ghost use Rattle.rsx_types.specs.declared.note.Note.TheVariants.{Nothing};
     ghost use Rattle.rsx_sources.specs.Machine.{TakesIn, Keeps, Records, incoming_of};
     ghost use Rattle.rsx_sources.specs.Steps.{IsPopped, IsNotTaken, IsNotMade};
-    ghost use Rattle.rsx_plain.specs.Node.{plain_comes_out, plain_waiting, plain_takes, plain_wanted, plain_popped};
+    ghost use Rattle.rsx_plain.specs.Node.{plain_comes_out, plain_waiting, plain_takes, plain_wanted, plain_popped, plain_ended};
+    ghost use Rattle.rsx_plain.specs.State.{is_over};
     ghost use Rattle.rsx_plain.specs.declared.node.PlainNode.{PlainNode};
 
     ghost comes_out = { plain_comes_out };
@@ -141,6 +143,7 @@ impl<T: Drop> Machine for PlainNode<T> {
     ) -> Result<(), NotTaken<T>>
         ensures ok { OnOk result (TakesIn (plain_comes_out (O.meaning ops.now)) self.old input signal self.new) }
         ensures enabled { OnOk result (plain_takes self.old input ≡ true) }
+        ensures over { OnOk result (is_over self.new.state ≡ true → plain_ended self.new ≡ true) }
         ensures err { IfErr result (IsNotTaken (plain_takes self.old input) signal) }
         ensures same { OnErr result (self.new ≡ self.old) }
     {

@@ -1,6 +1,6 @@
 //! What a plain operator does with the signals of its input.
 
-ghost use Rattle.std.specs.Prelude.{◌≡◌};
+ghost use Rattle.std.specs.Prelude.{◌≡◌, Bool};
 ghost use Rattle.rsx_types.specs.Meaning.{Meaning};
 ghost use Rattle.rsx_types.specs.Stream.{Stream};
 ghost use Rattle.rsx_types.specs.declared.signal.Signal.{Signal};
@@ -12,18 +12,20 @@ use std::alloc::Global;
 /// A plain operator that has taken some of its input.
 ///
 /// `from` is the operator from here on, as a function of what still comes in, and `after` the operator once it has taken
-/// a signal.
+/// a signal. `over` says where nothing more of the input matters.
 pub trait Operator<T: Drop> {
     ghost from: { Meaning T → Self → Stream T → Stream T };
 
     ghost after: { Meaning T → Self → Signal T → Self };
 
-    ghost use Rattle.std.specs.Prelude.{◌≡◌, [], OnOk, OnErr, IfOk, IfErr};
-    ghost use Rattle.rsx_types.specs.Stream.{items_then};
-    ghost use Rattle.rsx_plain.specs.Moves.{Moves, EndsLast};
+    ghost over: { Self → Bool };
 
-    /// Takes a signal of the input, and puts the answer into the empty slot. For want of memory the signal comes back, and
-    /// nothing has changed.
+    ghost use Rattle.std.specs.Prelude.{◌≡◌, true, [], OnOk, OnErr, IfOk, IfErr};
+    ghost use Rattle.rsx_types.specs.Stream.{items_then};
+    ghost use Rattle.rsx_plain.specs.Moves.{Moves, EndsLast, has_ending};
+
+    /// Takes a signal of the input, and puts the answer into the empty slot. Where the operator is over now, its ending is
+    /// part of the answer. For want of memory the signal comes back, and nothing has changed.
     fn react<O: Ops<Item = T>>(
         &mut self,
         alloc: Global,
@@ -34,6 +36,7 @@ pub trait Operator<T: Drop> {
         requires { out.old ≡ [] }
         ensures ok { OnOk result (Moves (from (O.meaning ops.now)) self.old signal out.new self.new) }
         ensures cut { OnOk result (EndsLast out.new) }
+        ensures over { OnOk result (over self.new ≡ true → has_ending out.new ≡ true) }
         ensures state { OnOk result (self.new ≡ after (O.meaning ops.now) self.old signal) }
         ensures err { IfErr result (λ s. s ≡ signal) }
         ensures same { OnErr result (self.new ≡ self.old) }

@@ -1,11 +1,11 @@
 //! What each plain operator puts into its empty out slot for a signal of its input.
 
-ghost use Rattle.std.specs.Prelude.{◌≡◌, ◌≢◌, ◌-◌, List, [], ◌∷◌, IfErr, OnOk, OnErr};
+ghost use Rattle.std.specs.Prelude.{◌≡◌, ◌≢◌, ◌-◌, true, List, [], ◌∷◌, IfErr, OnOk, OnErr};
 ghost use Rattle.rsx_types.specs.declared.signal.Signal.{Signal};
 ghost use Rattle.rsx_types.specs.declared.signal.Signal.TheVariants.{Next, Complete};
 ghost use Rattle.rsx_types.specs.Plain.{taken_items};
 ghost use Rattle.rsx_types.specs.Stream.{Stream, signals_then};
-ghost use Rattle.rsx_plain.specs.Moves.{EndsLast};
+ghost use Rattle.rsx_plain.specs.Moves.{EndsLast, has_ending};
 ghost use Rattle.rsx_plain.specs.State.{Reacts};
 ghost use Rattle.rsx_plain.specs.declared.state.PlainState.TheVariants.{Map as MapFrom, Filter as FilterFrom, Scan as ScanFrom, Buffer as BufferFrom, Distinct as DistinctFrom};
 
@@ -58,6 +58,7 @@ pub(crate) trait Reactions<T: Drop> {
         requires none { slot self.old ≡ [] }
         ensures ok { (rest : Stream T) → taken_items left.old (item ∷ rest.items) rest.ending ≡ signals_then (slot self.new) (taken_items left.new rest.items rest.ending) }
         ensures cut { EndsLast (slot self.new) }
+        ensures over { left.new ≡ 0 → has_ending (slot self.new) ≡ true }
         ensures left { left.new ≡ left.old - 1 };
 
     /// Puts the accumulation, and keeps a copy of it as the last one.
@@ -172,6 +173,7 @@ impl<T: Drop> Reactions<T> for OutSlot<T> {
         requires none { self.old ≡ [] }
         ensures ok { (rest : Stream T) → taken_items left.old (item ∷ rest.items) rest.ending ≡ signals_then self.new (taken_items left.new rest.items rest.ending) }
         ensures cut { EndsLast self.new }
+        ensures over { left.new ≡ 0 → has_ending self.new ≡ true }
         ensures left { left.new ≡ left.old - 1 }
     {
         self.put(Signal::Next(item));

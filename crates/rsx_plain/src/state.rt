@@ -1,9 +1,9 @@
 //! The states of the plain operators.
 
-ghost use Rattle.std.specs.Prelude.{◌≡◌, [], IfOk, IfErr, OnOk, OnErr};
+ghost use Rattle.std.specs.Prelude.{◌≡◌, true, [], IfOk, IfErr, OnOk, OnErr};
 ghost use Rattle.rsx_types.specs.Stream.{items_then};
-ghost use Rattle.rsx_plain.specs.Moves.{Moves, EndsLast};
-ghost use Rattle.rsx_plain.specs.State.{plain_from, plain_start, after_signal, wanted_from};
+ghost use Rattle.rsx_plain.specs.Moves.{Moves, EndsLast, has_ending};
+ghost use Rattle.rsx_plain.specs.State.{plain_from, plain_start, after_signal, is_over, wanted_from};
 
 use crate::keys::Keys;
 use crate::operator::Operator;
@@ -133,6 +133,8 @@ impl<T: Drop> Operator<T> for PlainState<T> {
 
     ghost after = { after_signal };
 
+    ghost over = { is_over };
+
     #[tactic(auto, using(crate::proofs::Taken::taken_ended))]
     fn react<O: Ops<Item = T>>(
         &mut self,
@@ -144,6 +146,7 @@ impl<T: Drop> Operator<T> for PlainState<T> {
         requires { out.old ≡ [] }
         ensures ok { OnOk result (Moves (plain_from (O.meaning ops.now)) self.old signal out.new self.new) }
         ensures cut { OnOk result (EndsLast out.new) }
+        ensures over { OnOk result (is_over self.new ≡ true → has_ending out.new ≡ true) }
         ensures state { OnOk result (self.new ≡ after_signal (O.meaning ops.now) self.old signal) }
         ensures err { IfErr result (λ s. s ≡ signal) }
         ensures same { OnErr result (self.new ≡ self.old) }

@@ -1,6 +1,6 @@
 use Rattle.std.proofs.Common.{◌≡◌, drop}
 use Rattle.std.specs.List.{list_any}
-use Rattle.rsx_plain.specs.Node.{is_ending}
+use Rattle.rsx_plain.specs.Moves.{is_ending}
 use Rattle.rsx_plain.proofs.node.PlainNode.has_ended.Given as goal
 
 abbrev pub invariant-loop-at : goal.invariant-loop-at
