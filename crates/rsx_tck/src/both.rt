@@ -3,7 +3,7 @@
 ghost use Rattle.std.specs.Prelude.{◌≡◌, ◌||◌};
 ghost use Rattle.rsx_tck.specs.Passes.{is_breach};
 
-use crate::event::Stamped;
+use rsx_trace::Stamped;
 use crate::pass::{Effect, Pass};
 use rsx_rules::rules;
 

@@ -2,12 +2,12 @@
 
 ghost use Rattle.std.specs.Prelude.{◌≡◌, ◌&&◌, ◌||◌, not};
 ghost use Rattle.rsx_tck.specs.declared.rule.Rule.TheVariants as rule;
-ghost use Rattle.rsx_tck.specs.Events.{is_bad_request, is_bad_request_error, is_ending, is_next, is_next_or_ending, is_on_subscribe, is_positive_request, is_signal, is_subscribe, of};
+ghost use Rattle.rsx_trace.specs.Events.{is_bad_request, is_bad_request_error, is_ending, is_next, is_next_or_ending, is_on_subscribe, is_positive_request, is_signal, is_subscribe, of};
 ghost use Rattle.rsx_tck.specs.Sentences.{Keeps};
 ghost use Rattle.rsx_tck.specs.Passes.{Tells, is_breach};
 ghost use Rattle.rsx_tck.specs.Laws.Following.{each_after-none, each_after-other, none_after-none, none_after-other, tells-other};
 
-use crate::event::{Event, Stamped};
+use rsx_trace::{Event, Stamped};
 use crate::pass::{Effect, Pass};
 use rsx_rules::rules;
 use rsx_types::Cause;

@@ -7,7 +7,6 @@
 mod answers;
 mod both;
 mod counts;
-mod event;
 mod flags;
 mod pass;
 mod reports;
@@ -15,10 +14,8 @@ mod rule;
 mod running;
 #[cfg(test)]
 mod tests;
-mod trace;
 mod workers;
 
-pub use event::{Event, Stamped};
 pub use reports::{judge, report};
+pub use rsx_trace::{Event, Stamped, TraceRefusal, parse_trace, print_trace};
 pub use rule::{Class, Rule, Verdict};
-pub use trace::{TraceRefusal, parse_trace, print_trace};

@@ -1,15 +1,15 @@
 //! The verdict on a rule, over all subscribers of a trace.
 
 ghost use Rattle.std.specs.Prelude.{◌≡◌, ℕ, List, length, MatchOption};
-ghost use Rattle.rsx_tck.specs.declared.event.Stamped.{Stamped};
-ghost use Rattle.rsx_tck.specs.Events.{subscriber_of};
+ghost use Rattle.rsx_trace.specs.declared.event.Stamped.{Stamped};
+ghost use Rattle.rsx_trace.specs.Events.{subscriber_of};
 ghost use Rattle.rsx_tck.specs.Verdicts.{AllKeep, IsReport, Judged};
 ghost use Rattle.rsx_tck.specs.Passes.{BeginsAt, IsFirstBreach, KeepsThrough, least_from};
 
 use crate::answers::BadRequest;
 use crate::both::Both;
 use crate::counts::{NoMoreAfterCancel, NoMoreThanRequested};
-use crate::event::Stamped;
+use rsx_trace::Stamped;
 use crate::flags::{
     BadRequestFirst, NothingAfterEnding, OnSubscribeFirst, OneOnSubscribe, OneSubscribe,
     RequestFirst,

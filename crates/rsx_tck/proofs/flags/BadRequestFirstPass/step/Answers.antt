@@ -1,4 +1,4 @@
-use Rattle.rsx_tck.specs.Events.{is_bad_request, is_bad_request_error}
+use Rattle.rsx_trace.specs.Events.{is_bad_request, is_bad_request_error}
 use Rattle.rsx_tck.specs.Laws.Following.{each_after-step}
 use Rattle.rsx_tck.proofs.flags.BadRequestFirstPass.step.Goals as goal
 

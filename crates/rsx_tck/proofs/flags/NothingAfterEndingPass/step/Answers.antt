@@ -1,4 +1,4 @@
-use Rattle.rsx_tck.specs.Events.{is_ending, is_signal}
+use Rattle.rsx_trace.specs.Events.{is_ending, is_signal}
 use Rattle.rsx_tck.specs.Laws.Following.{none_after-step}
 use Rattle.rsx_tck.proofs.flags.NothingAfterEndingPass.step.Goals as goal
 

@@ -1,4 +1,4 @@
-use Rattle.rsx_tck.specs.Events.{is_on_subscribe, is_next_or_ending}
+use Rattle.rsx_trace.specs.Events.{is_on_subscribe, is_next_or_ending}
 use Rattle.rsx_tck.specs.Laws.Following.{each_after-step}
 use Rattle.rsx_tck.proofs.flags.OnSubscribeFirstPass.step.Goals as goal
 

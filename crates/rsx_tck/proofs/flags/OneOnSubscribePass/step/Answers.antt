@@ -1,4 +1,4 @@
-use Rattle.rsx_tck.specs.Events.{is_on_subscribe}
+use Rattle.rsx_trace.specs.Events.{is_on_subscribe}
 use Rattle.rsx_tck.specs.Laws.Following.{none_after-step}
 use Rattle.rsx_tck.proofs.flags.OneOnSubscribePass.step.Goals as goal
 

@@ -1,4 +1,4 @@
-use Rattle.rsx_tck.specs.Events.{is_positive_request, is_next}
+use Rattle.rsx_trace.specs.Events.{is_positive_request, is_next}
 use Rattle.rsx_tck.specs.Laws.Following.{each_after-step}
 use Rattle.rsx_tck.proofs.flags.RequestFirstPass.step.Goals as goal
 

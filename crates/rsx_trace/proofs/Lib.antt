@@ -1,0 +1,8 @@
+-- Lemmas.
+pub mod Numbers
+pub mod Places
+pub mod Lines
+pub mod Words
+pub mod Events
+pub mod Traces
+pub mod Sound
