@@ -29,11 +29,11 @@ plain_again : (text : List ℕ) (n : ℕ) → IsNumber 9223372036854775807 text 
 plain_again [] n h = absurd (omega (arith, h.digits.0))
 plain_again (b ∷ text) n h = plain_sign b text n (no_minus 9223372036854775807 b text n h) (number_of_again 9223372036854775807 (b ∷ text) n h)
 
-signed_of_again : (text : List ℕ) (z : ℤ) → IsSigned text z → signed_of text ≡ Some z
+pub signed_of_again : (text : List ℕ) (z : ℤ) → IsSigned text z → signed_of text ≡ Some z
 signed_of_again text z (inl h) = plain_again text h.0 h.1 ∙ ap (λ (y : ℤ). Some y) (sym h.2)
 signed_of_again text z (inr h) = ap signed_of h.2 ∙ minus_sign h.0 h.1 (number_of_again 9223372036854775808 h.0 h.1 h.3) ∙ ap (λ (y : ℤ). Some y) (sym h.4)
 
-IsWord-signed : (text : List ℕ) (z : ℤ) → IsSigned text z → IsWord text
+pub IsWord-signed : (text : List ℕ) (z : ℤ) → IsSigned text z → IsWord text
 IsWord-signed text z (inl h) = IsWord-number 9223372036854775807 text h.0 h.1
 IsWord-signed text z (inr h) = rw h.2 (IsWord-minus h.0 (IsWord-number 9223372036854775808 h.0 h.1 h.3))
 
@@ -58,7 +58,7 @@ function_steps : (bytes w rest more : List ℕ) (n : ℕ) → word_at bytes ≡ 
 unfolding cause_at
 function_steps bytes w rest more n e f g h k = rw (e, f, g, h, k) refl
 
-name_is : (w : List ℕ) → 0 < length w → position_or_len space w ≡ length w → IsWord w
+pub name_is : (w : List ℕ) → 0 < length w → position_or_len space w ≡ length w → IsWord w
 name_is w some solid = record { some = some; solid = solid }
 
 cause_again : (ws : List (List ℕ)) (cause : Cause) → IsCause ws cause → cause_at (joined ws) ≡ Ok (cause, [])

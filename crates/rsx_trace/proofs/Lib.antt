@@ -6,3 +6,5 @@ pub mod Words
 pub mod Events
 pub mod Traces
 pub mod Sound
+pub mod Continuing
+pub mod Parts

@@ -7,7 +7,8 @@ use Rattle.std.proofs.lemmas.List.{append-nil, take_all, drop_all, length-drop}
 use Rattle.std.proofs.lemmas.List.Splits.{slice_split_first, length-slice_split}
 use Rattle.rsx_trace.specs.declared.event.Stamped.{Stamped}
 use Rattle.rsx_trace.specs.declared.line.Line.TheVariants as kinds
-use Rattle.rsx_trace.specs.Reading.{◌>>=◌, lines, lines_of_parts, events_of, line_at, trace_of}
+use Rattle.rsx_trace.specs.Texts.{lines, lines_of_parts}
+use Rattle.rsx_trace.specs.Reading.{◌>>=◌, events_of, line_at, trace_of}
 use Rattle.rsx_trace.proofs.Places.{place-le}
 
 abbrev pub newline : ℕ → Bool

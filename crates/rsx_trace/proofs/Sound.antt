@@ -21,7 +21,8 @@ use Rattle.rsx_trace.specs.declared.line.Kind.{Kind}
 use Rattle.rsx_trace.specs.declared.line.Kind.TheVariants as kind
 use Rattle.rsx_trace.specs.declared.line.Line.{Line}
 use Rattle.rsx_trace.specs.declared.line.Line.TheVariants as kinds
-use Rattle.rsx_trace.specs.Reading.{◌>>=◌, behind, word_at, valued, ends, number_of, option_map_to, number_at, signed_of, signed_at, kind_of, cause_at, tail_of, event_at, stamped_at, line_at, first_at, lines, at_line, line_then, nothing_more, events_of, trace_of_lines, trace_of}
+use Rattle.rsx_trace.specs.Texts.{lines}
+use Rattle.rsx_trace.specs.Reading.{◌>>=◌, behind, word_at, valued, ends, number_of, option_map_to, number_at, signed_of, signed_at, kind_of, cause_at, tail_of, event_at, stamped_at, line_at, first_at, at_line, line_then, nothing_more, events_of, trace_of_lines, trace_of}
 use Rattle.rsx_trace.specs.Grammar.{u32, IsNumber, IsSigned, IsCause, IsEvent, IsLine, AreLines, first_text, IsTrace}
 use Rattle.rsx_trace.proofs.Places.{place-le}
 use Rattle.rsx_trace.proofs.Words.{space, IsWord, joined, joined_some, place-append}
@@ -199,7 +200,7 @@ some_of x = Some x
 some_is : (x y : ℤ) → some_of x ≡ some_of y → x ≡ y
 some_is x y e = cc
 
-number_is : (most : ℕ) (text : List ℕ) (n : ℕ) → number_of most text ≡ Some n → IsNumber most text n
+pub number_is : (most : ℕ) (text : List ℕ) (n : ℕ) → number_of most text ≡ Some n → IsNumber most text n
 unfolding number_of
 number_is most text n e =
     let h = picked ((ltb 0 (length text) && all_ascii_digits text) && leb (digits_value 10 text) most) (digits_value 10 text) n e in
@@ -220,7 +221,7 @@ mapped : (f : ℕ → ℤ) (o : Option ℕ) (z : ℤ) → option_map_to f o ≡ 
 mapped f None z e = absurd cc
 mapped f (Some n) z e = (n, refl, some_is (f n) z e)
 
-signed_is : (text : List ℕ) (z : ℤ) → signed_of text ≡ Some z → IsSigned text z
+pub signed_is : (text : List ℕ) (z : ℤ) → signed_of text ≡ Some z → IsSigned text z
 unfolding signed_of
 signed_is [] z e = absurd cc
 signed_is (b ∷ text) z e =
@@ -242,17 +243,17 @@ signed_sound bytes z rest e =
 
 -- ---- causes
 
-named : (w name : List ℕ) → bytes_eq w name ≡ true → w ≡ name
+pub named : (w name : List ℕ) → bytes_eq w name ≡ true → w ≡ name
 named w name e = (bytes_eq-Decides w name).0 e
 
 -- the branches of `cause_at`
-abbrev function_of : List ℕ → List ℕ × List ℕ → Result (Cause × List ℕ) ℕ
+abbrev pub function_of : List ℕ → List ℕ × List ℕ → Result (Cause × List ℕ) ℕ
 function_of bytes word = cond (bytes_eq word.0 (codes "function")) (number_at u32 word.1 >>= λ n. Ok (Function n.0, n.1)) (Err (length bytes))
 
-abbrev counted_of : List ℕ → List ℕ × List ℕ → Result (Cause × List ℕ) ℕ
+abbrev pub counted_of : List ℕ → List ℕ × List ℕ → Result (Cause × List ℕ) ℕ
 counted_of bytes word = cond (bytes_eq word.0 (codes "user")) (number_at u32 word.1 >>= λ n. Ok (User n.0, n.1)) (function_of bytes word)
 
-abbrev cause_of : List ℕ → List ℕ × List ℕ → Result (Cause × List ℕ) ℕ
+abbrev pub cause_of : List ℕ → List ℕ × List ℕ → Result (Cause × List ℕ) ℕ
 cause_of bytes word = cond (bytes_eq word.0 (codes "bad-request")) (Ok (NonPositiveRequest, word.1)) (counted_of bytes word)
 
 cause_sound : (bytes : List ℕ) (cause : Cause) → cause_at bytes ≡ Ok (cause, []) → Spelt (λ ws. IsCause ws cause) bytes
@@ -292,7 +293,7 @@ cause_sound bytes cause e =
 
 -- ---- events
 
-abbrev kind_text : Kind → List ℕ
+abbrev pub kind_text : Kind → List ℕ
 kind_text kind.Subscribe = codes "subscribe"
 kind_text kind.OnSubscribe = codes "on-subscribe"
 kind_text kind.Next = codes "next"
@@ -341,7 +342,7 @@ kinds_from_1 w = cond (bytes_eq w (codes "on-subscribe")) (Some kind.OnSubscribe
 abbrev kinds_from_0 : List ℕ → Option Kind
 kinds_from_0 w = cond (bytes_eq w (codes "subscribe")) (Some kind.Subscribe) (kinds_from_1 w)
 
-kind_is : (w : List ℕ) (k : Kind) → kind_of w ≡ Some k → w ≡ kind_text k
+pub kind_is : (w : List ℕ) (k : Kind) → kind_of w ≡ Some k → w ≡ kind_text k
 kind_is w k e =
     elim (pick (bytes_eq w (codes "subscribe")) kind.Subscribe (kinds_from_1 w) k e) [
       | inl h ↦ named w (codes "subscribe") h.0 ∙ ap kind_text h.1
@@ -474,7 +475,7 @@ line_sound stamped bytes r h =
 abbrev placed : {A : Type 0} → A → Result A (ℕ × ℕ)
 placed x = Ok x
 
-placed_is : {A : Type 0} (x y : A) → placed x ≡ placed y → x ≡ y
+pub placed_is : {A : Type 0} (x y : A) → placed x ≡ placed y → x ≡ y
 placed_is x y e = cc
 
 at_ok : {A : Type 0} (n : ℕ) (line : List ℕ) (r : Result A ℕ) (x : A) → at_line n line r ≡ Ok x → r ≡ Ok x
@@ -513,13 +514,13 @@ events_sound n stamped (line ∷ others) events e =
     ]
 
 -- the branches of `first_at`
-abbrev second_of : List ℕ × List ℕ → List ℕ × List ℕ → Result Bool ℕ
+abbrev pub second_of : List ℕ × List ℕ → List ℕ × List ℕ → Result Bool ℕ
 second_of word version = cond (bytes_eq version.0 (codes "2")) (ends version.1 true) (Err (length word.1))
 
-abbrev version_of : List ℕ × List ℕ → List ℕ × List ℕ → Result Bool ℕ
+abbrev pub version_of : List ℕ × List ℕ → List ℕ × List ℕ → Result Bool ℕ
 version_of word version = cond (bytes_eq version.0 (codes "1")) (ends version.1 false) (second_of word version)
 
-abbrev first_of : List ℕ → List ℕ × List ℕ → Result Bool ℕ
+abbrev pub first_of : List ℕ → List ℕ × List ℕ → Result Bool ℕ
 first_of bytes word = cond (bytes_eq word.0 (codes "trace")) (word_at word.1 >>= λ version. version_of word version) (Err (length bytes))
 
 first_sound : (bytes : List ℕ) (stamped : Bool) → first_at bytes ≡ Ok stamped → bytes ≡ first_text stamped

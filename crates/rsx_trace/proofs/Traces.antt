@@ -16,7 +16,8 @@ use Rattle.rsx_trace.specs.declared.event.Event.{Event}
 use Rattle.rsx_trace.specs.declared.event.Event.TheVariants as event
 use Rattle.rsx_trace.specs.declared.event.Stamped.{Stamped}
 use Rattle.rsx_trace.specs.declared.line.Line.TheVariants as kinds
-use Rattle.rsx_trace.specs.Reading.{lines, line_at, first_at, events_of, trace_of}
+use Rattle.rsx_trace.specs.Texts.{lines}
+use Rattle.rsx_trace.specs.Reading.{line_at, first_at, events_of, trace_of}
 use Rattle.rsx_trace.specs.Format.{cause_text, event_text, line_text, lines_text, trace_text, FitsCause, FitsEvent, FitsStamped, AllFit}
 use Rattle.rsx_trace.specs.Grammar.{u32, IsNumber, IsSigned, IsCause, IsPlain, IsEvent, IsLine, AreLines, first_text, IsTrace}
 use Rattle.rsx_trace.proofs.Lines.{newline, some_line}
@@ -91,7 +92,7 @@ line_and_rest line rest h =
 
 -- ---- the text of an event
 
-number_text : (most n : ℕ) → n ≤ most → most < 2 ^ 64 → IsNumber most (decimal n) n
+pub number_text : (most n : ℕ) → n ≤ most → most < 2 ^ 64 → IsNumber most (decimal n) n
 number_text most n le lt =
     let is = decimal_is_IsNumeral n (omega arith) in
     record { digits = is.0; value = is.1; small = le }

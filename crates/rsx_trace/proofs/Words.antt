@@ -30,11 +30,11 @@ pub joined_some : (w : List ℕ) (ws : List (List ℕ)) → 0 < length w → 0 <
 joined_some w [] lt = lt
 joined_some w (v ∷ vs) lt = omega (arith, length-append w (32 ∷ joined (v ∷ vs)))
 
-place_step : (t : Bool) (n m : ℕ) → cond (not t) (1 + n) 0 ≡ suc m → (t ≡ false) × (n ≡ m)
+pub place_step : (t : Bool) (n m : ℕ) → cond (not t) (1 + n) 0 ≡ suc m → (t ≡ false) × (n ≡ m)
 place_step true n m e = absurd (omega arith)
 place_step false n m e = (refl, omega arith)
 
-place_again : (t : Bool) (n : ℕ) → t ≡ false → cond (not t) (1 + n) 0 ≡ suc n
+pub place_again : (t : Bool) (n : ℕ) → t ≡ false → cond (not t) (1 + n) 0 ≡ suc n
 place_again true n e = absurd cc
 place_again false n e = omega arith
 
@@ -48,7 +48,7 @@ chosen : {A : Type 0} (b : Bool) (x y : A) → b ≡ false → cond b x y ≡ y
 chosen true x y e = absurd cc
 chosen false x y e = refl
 
-word_is : (bytes : List ℕ) (n : ℕ) → position_or_len space bytes ≡ n → 0 < n → word_at bytes ≡ Ok (take n bytes, behind (drop n bytes))
+pub word_is : (bytes : List ℕ) (n : ℕ) → position_or_len space bytes ≡ n → 0 < n → word_at bytes ≡ Ok (take n bytes, behind (drop n bytes))
 unfolding word_at
 word_is bytes n e lt =
     let some : eqb (position_or_len space bytes) 0 ≡ false = grind (arith, nat_tests) in

@@ -7,7 +7,7 @@ use Rattle.rsx_types.specs.declared.signal.Cause.TheVariants.{User, Function, No
 use Rattle.rsx_trace.specs.declared.event.Event.{Event}
 use Rattle.rsx_trace.specs.declared.event.Event.TheVariants as event
 use Rattle.rsx_trace.specs.declared.event.Stamped.{Stamped}
-use Rattle.rsx_trace.specs.Reading.{lines}
+use Rattle.rsx_trace.specs.Texts.{lines}
 
 -- A number's text: the digits of its value, with as many zeros before them as one likes. No number is above the greatest.
 pub record IsNumber (most : ℕ) (text : List ℕ) (n : ℕ) : Type 0 where
@@ -63,7 +63,10 @@ abbrev pub first_text : Bool → List ℕ
 first_text false = codes "trace 1"
 first_text true = codes "trace 2"
 
--- The text is a trace of these events: its first line says the format, then comes a line for each event, and its last
--- line is `end`.
+-- These lines are a trace of these events: the first says the format, then comes a line for each event, and the last is
+-- `end`.
+abbrev pub AreTrace : List (List ℕ) → List Stamped → Type 0
+AreTrace parts events = (stamped : Bool) × (body : List (List ℕ)) × (parts ≡ first_text stamped ∷ (body ++ codes "end" ∷ [])) × AreLines stamped body events
+
 abbrev pub IsTrace : List ℕ → List Stamped → Type 0
-IsTrace text events = (stamped : Bool) × (body : List (List ℕ)) × (lines text ≡ first_text stamped ∷ (body ++ codes "end" ∷ [])) × AreLines stamped body events
+IsTrace text events = AreTrace (lines text) events

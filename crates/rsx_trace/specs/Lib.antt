@@ -1,6 +1,8 @@
 -- Definitions that contracts cite.
 pub mod Events
 pub mod Format
-pub mod Reading
+pub mod Texts
 pub mod Grammar
+pub mod FirstWrong
+pub mod Reading
 pub mod Gives

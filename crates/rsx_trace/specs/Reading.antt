@@ -1,6 +1,6 @@
 -- Reading a trace from left to right, with the first wrong word that is met.
 use Rattle.std.specs.Prelude.{ℕ, ◌+◌, ◌-◌, ◌^◌, Bool, true, false, ◌&&◌, ◌==◌, if◌then◌else◌, List, [], ◌∷◌, length, drop, nat_le, nat_lt, ℤ, pos, neg_ℤ, Option, Some, None, Result, Ok, Err, codes}
-use Rattle.std.specs.List.{before_first, slice_split, position_or_len}
+use Rattle.std.specs.List.{before_first, position_or_len}
 use Rattle.std.specs.Str.{bytes_eq, all_ascii_digits}
 use Rattle.std.specs.Str.Parse.{digits_value}
 use Rattle.rsx_types.specs.declared.signal.Cause.{Cause}
@@ -12,6 +12,7 @@ use Rattle.rsx_trace.specs.declared.line.Kind.{Kind}
 use Rattle.rsx_trace.specs.declared.line.Kind.TheVariants as kind
 use Rattle.rsx_trace.specs.declared.line.Line.{Line}
 use Rattle.rsx_trace.specs.declared.line.Line.TheVariants as line
+use Rattle.rsx_trace.specs.Texts.{lines}
 
 infixl 10 ◌>>=◌
 abbrev pub ◌>>=◌ : {A B W : Type 0} → Result A W → (A → Result B W) → Result B W
@@ -133,19 +134,6 @@ first_at bytes = do
   if bytes_eq word.0 (codes "trace") then (word_at word.1 >>= λ version.
       (if bytes_eq version.0 (codes "1") then ends version.1 false else
       (if bytes_eq version.0 (codes "2") then ends version.1 true else Err (length word.1)))) else Err (length bytes)
-
--- The lines of a text. The last may lack its newline.
-abbrev pub last_line : List ℕ → List (List ℕ)
-last_line [] = []
-last_line (b ∷ bytes) = (b ∷ bytes) ∷ []
-
-abbrev pub lines_of_parts : List (List ℕ) → List (List ℕ)
-lines_of_parts [] = []
-lines_of_parts (part ∷ []) = last_line part
-lines_of_parts (part ∷ next ∷ parts) = part ∷ lines_of_parts (next ∷ parts)
-
-unfoldable pub lines : List ℕ → List (List ℕ)
-lines text = lines_of_parts (slice_split (λ b. b == 10) text)
 
 -- what was read of a line, or the line's number and the column of its wrong word; columns count bytes from 1
 abbrev pub at_line : {A : Type 0} → ℕ → List ℕ → Result A ℕ → Result A (ℕ × ℕ)

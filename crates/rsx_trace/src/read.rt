@@ -1,7 +1,8 @@
 //! Reading a whole trace.
 
 ghost use Rattle.std.specs.Prelude.{◌≡◌, ◌<◌, ◌≤◌, ◌+◌, ◌-◌, ◌^◌, ◌∷◌, List, length, IfOk, Ok};
-ghost use Rattle.rsx_trace.specs.Reading.{lines, events_of, trace_of};
+ghost use Rattle.rsx_trace.specs.Texts.{lines};
+ghost use Rattle.rsx_trace.specs.Reading.{events_of, trace_of};
 ghost use Rattle.rsx_trace.specs.declared.event.Stamped.{Stamped};
 ghost use Rattle.rsx_trace.specs.Grammar.{IsTrace};
 ghost use Rattle.rsx_trace.specs.Gives.{GivesTrace, IsPlace};

@@ -2,7 +2,8 @@ use Rattle.std.proofs.Common.{◌≡◌, ◌++◌, ◌∷◌, [], ◌<◌, lengt
 use Rattle.std.proofs.lemmas.Bool.Decides.{nat_tests}
 use Rattle.rsx_trace.specs.declared.line.Line.TheVariants as kinds
 use Rattle.rsx_trace.specs.declared.event.Stamped.{Stamped}
-use Rattle.rsx_trace.specs.Reading.{lines, events_of, line_at}
+use Rattle.rsx_trace.specs.Texts.{lines}
+use Rattle.rsx_trace.specs.Reading.{events_of, line_at}
 use Rattle.rsx_trace.proofs.Lines.{goes_on, is_wrong, is_done, goes_past, has_no_end}
 use Rattle.rsx_trace.proofs.read.events_in.Goals as goal
 

@@ -1,5 +1,6 @@
 use Rattle.std.proofs.Common.{◌≡◌, ◌+◌, ◌≤◌, length}
-use Rattle.rsx_trace.specs.Reading.{lines, events_of}
+use Rattle.rsx_trace.specs.Texts.{lines}
+use Rattle.rsx_trace.specs.Reading.{events_of}
 use Rattle.rsx_trace.proofs.Lines.{with_front}
 use Rattle.rsx_trace.proofs.read.events_in.Given as goal
 
