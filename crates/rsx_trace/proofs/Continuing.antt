@@ -37,10 +37,10 @@ pull_wrong P x before [] g = record { begins = g.begins; stops = g.stops }
 pull_wrong P x before (y ∷ rest) g = record { begins = g.begins; stops = g.stops }
 
 -- the first items of two lists that are the same
-heads : {X : Type 0} (x y : X) (xs ys : List X) → x ∷ xs ≡ y ∷ ys → x ≡ y
+pub heads : {X : Type 0} (x y : X) (xs ys : List X) → x ∷ xs ≡ y ∷ ys → x ≡ y
 heads x y xs ys e = cc
 
-tails : {X : Type 0} (x y : X) (xs ys : List X) → x ∷ xs ≡ y ∷ ys → xs ≡ ys
+pub tails : {X : Type 0} (x y : X) (xs ys : List X) → x ∷ xs ≡ y ∷ ys → xs ≡ ys
 tails x y xs ys e = cc
 
 -- a right list that begins with some items begins with the first of them

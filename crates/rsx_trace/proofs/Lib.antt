@@ -8,3 +8,4 @@ pub mod Traces
 pub mod Sound
 pub mod Continuing
 pub mod Parts
+pub mod WrongWords
