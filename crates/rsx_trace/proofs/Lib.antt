@@ -9,3 +9,4 @@ pub mod Sound
 pub mod Continuing
 pub mod Parts
 pub mod WrongWords
+pub mod WrongLines

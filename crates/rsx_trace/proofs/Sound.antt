@@ -459,7 +459,7 @@ stamped_sound true bytes e r =
     let s = event_sound b.0.1 c.0 c.1 in
     subst (λ (x : Stamped). IsLine true bytes x) (ok_is (stamp b.0.0 c.0) e c.2) (n.0, s.words, n.1, s.is, onto bytes n.0 b.0.1 s.words n.2 s.joins s.starts)
 
-line_sound : (stamped : Bool) (bytes : List ℕ) (r : Line) → line_at stamped bytes ≡ Ok r → ((kinds.End ≡ r) × (bytes ≡ codes "end")) ⊎ ((e : Stamped) × (kinds.Event e ≡ r) × IsLine stamped bytes e)
+pub line_sound : (stamped : Bool) (bytes : List ℕ) (r : Line) → line_at stamped bytes ≡ Ok r → ((kinds.End ≡ r) × (bytes ≡ codes "end")) ⊎ ((e : Stamped) × (kinds.Event e ≡ r) × IsLine stamped bytes e)
 unfolding line_at
 line_sound stamped bytes r h =
     let b = bind_ok (word_at bytes) (λ word. cond (bytes_eq word.0 (codes "end")) (ends word.1 kinds.End) (stamped_at stamped bytes >>= λ e. Ok (kinds.Event e))) r h in
@@ -478,7 +478,7 @@ placed x = Ok x
 pub placed_is : {A : Type 0} (x y : A) → placed x ≡ placed y → x ≡ y
 placed_is x y e = cc
 
-at_ok : {A : Type 0} (n : ℕ) (line : List ℕ) (r : Result A ℕ) (x : A) → at_line n line r ≡ Ok x → r ≡ Ok x
+pub at_ok : {A : Type 0} (n : ℕ) (line : List ℕ) (r : Result A ℕ) (x : A) → at_line n line r ≡ Ok x → r ≡ Ok x
 at_ok {A} n line (Ok y) x e = ap (λ (z : A). Ok z) (placed_is y x e)
 at_ok n line (Err w) x e = absurd cc
 
@@ -523,7 +523,7 @@ version_of word version = cond (bytes_eq version.0 (codes "1")) (ends version.1 
 abbrev pub first_of : List ℕ → List ℕ × List ℕ → Result Bool ℕ
 first_of bytes word = cond (bytes_eq word.0 (codes "trace")) (word_at word.1 >>= λ version. version_of word version) (Err (length bytes))
 
-first_sound : (bytes : List ℕ) (stamped : Bool) → first_at bytes ≡ Ok stamped → bytes ≡ first_text stamped
+pub first_sound : (bytes : List ℕ) (stamped : Bool) → first_at bytes ≡ Ok stamped → bytes ≡ first_text stamped
 unfolding first_at
 first_sound bytes stamped e =
     let b = bind_ok (word_at bytes) (λ word. first_of bytes word) stamped e in

@@ -124,7 +124,7 @@ ends_wrong {A} P (w ∷ ws) x left here more e =
     let n = length (bytes_from (w ∷ ws)) in
     found_here P w ws left ([], here) (more w) (sym (left_is {A = A} n left (sym (ends_wrong_at w ws x) ∙ e)))
 
-abbrev Nothing : List (List ℕ) → Type 0
+abbrev pub Nothing : List (List ℕ) → Type 0
 Nothing ws = ws ≡ []
 
 more_than_nothing : (w : List ℕ) (more : List (List ℕ)) → Nothing (w ∷ more) → ⊥
@@ -132,7 +132,7 @@ more_than_nothing w more e = cc
 
 -- ---- one word that has a value
 
-abbrev One : {V : Type 0} → (List ℕ → Option V) → List (List ℕ) → Type 0
+abbrev pub One : {V : Type 0} → (List ℕ → Option V) → List (List ℕ) → Type 0
 One {V} o ws = (w : List ℕ) × (x : V) × (o w ≡ Some x) × (ws ≡ w ∷ [])
 
 one_none : {V : Type 0} (o : List ℕ → Option V) → One o [] → ⊥
@@ -174,7 +174,7 @@ signed_steps bytes f = bind_assoc (word_at bytes) (λ word. valued bytes (signed
 other_name : (w name : List ℕ) → bytes_eq w name ≡ false → w ≡ name → ⊥
 other_name w name f e = let t = (bytes_eq-Decides w name).1 e in cc
 
-abbrev SomeCause : List (List ℕ) → Type 0
+abbrev pub SomeCause : List (List ℕ) → Type 0
 SomeCause ws = (cause : Cause) × IsCause ws cause
 
 no_cause : (cause : Cause) → IsCause [] cause → ⊥
@@ -255,7 +255,7 @@ cause_wrong g ws left solid e =
 -- ---- events
 
 -- what stands behind the number of the subscriber
-abbrev Behind : Kind → List (List ℕ) → Type 0
+abbrev pub Behind : Kind → List (List ℕ) → Type 0
 Behind kind.Subscribe ws = Nothing ws
 Behind kind.OnSubscribe ws = Nothing ws
 Behind kind.Next ws = Nothing ws
@@ -390,10 +390,10 @@ number_wrong k ws left solid e =
     (λ h. no_number k (opened (kind_text k ∷ []) h.0 h.1)) (λ w more none h. bad_number k w more none (opened (kind_text k ∷ w ∷ more) h.0 h.1)) e
     (λ w n more is solid' e'. found_push (λ xs. SomeEvent (kind_text k ∷ xs)) (Behind k) w more left (event_behind k w n is) (tail_wrong k n more left solid' e'))
 
-next_zero : SomeEvent (codes "next" ∷ decimal 0 ∷ [])
+pub next_zero : SomeEvent (codes "next" ∷ decimal 0 ∷ [])
 next_zero = closed kind.Next (decimal 0) 0 [] (zero_text u32 (lit< tt)) refl
 
-event_wrong : (ws : List (List ℕ)) (left : ℕ) → AllSolid ws → event_at (bytes_from ws) ≡ Err left → Found SomeEvent ws left
+pub event_wrong : (ws : List (List ℕ)) (left : ℕ) → AllSolid ws → event_at (bytes_from ws) ≡ Err left → Found SomeEvent ws left
 unfolding event_at
 event_wrong ws left solid e =
     value_step SomeEvent kind_of ws (λ k. (number_at u32 k.1 >>= λ s. tail_of k.0 s.0 s.1)) left solid (codes "next" ∷ decimal 0 ∷ [], next_zero)
@@ -416,7 +416,7 @@ abbrev pub Stampable : Bool → List (List ℕ) → Type 0
 Stampable false ws = SomeEvent ws
 Stampable true ws = Numbered ws
 
-abbrev stamp : ℕ → Event → Stamped
+abbrev pub stamp : ℕ → Event → Stamped
 stamp w e = record { worker = w; event = e }
 
 numbered_event : (w : List ℕ) (n : ℕ) → IsNumber 15 w n → (xs : List (List ℕ)) → Numbered (w ∷ xs) ↔ SomeEvent xs
@@ -452,7 +452,7 @@ stamped_wrong true ws left solid e =
     no_numbered bad_worker e
     (λ w n more is solid' e'. found_push Numbered SomeEvent w more left (numbered_event w n is) (event_only n more left solid' e'))
 
-kind_word : (k : Kind) → IsWord (kind_text k) × (bytes_eq (kind_text k) (codes "end") ≡ false)
+pub kind_word : (k : Kind) → IsWord (kind_text k) × (bytes_eq (kind_text k) (codes "end") ≡ false)
 kind_word kind.Subscribe = (name_is (codes "subscribe") (lit< tt) refl, refl)
 kind_word kind.OnSubscribe = (name_is (codes "on-subscribe") (lit< tt) refl, refl)
 kind_word kind.Next = (name_is (codes "next") (lit< tt) refl, refl)
