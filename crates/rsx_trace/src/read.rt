@@ -1,9 +1,10 @@
 //! Reading a whole trace.
 
-ghost use Rattle.std.specs.Prelude.{◌≡◌, ◌<◌, ◌≤◌, ◌+◌, ◌-◌, ◌^◌, ◌∷◌, List, length, IfOk, Ok};
+ghost use Rattle.std.specs.Prelude.{◌≡◌, ◌<◌, ◌≤◌, ◌+◌, ◌-◌, ◌^◌, ◌∷◌, ℕ, List, length, IfOk, IfErr, Ok, Err};
 ghost use Rattle.rsx_trace.specs.Texts.{lines};
 ghost use Rattle.rsx_trace.specs.Reading.{events_of, trace_of};
 ghost use Rattle.rsx_trace.specs.declared.event.Stamped.{Stamped};
+ghost use Rattle.rsx_trace.specs.FirstWrong.{IsFirstWrong, NamesFirstWrong};
 ghost use Rattle.rsx_trace.specs.Grammar.{IsTrace};
 ghost use Rattle.rsx_trace.specs.Gives.{GivesTrace, IsPlace};
 
@@ -87,8 +88,10 @@ pub fn parse_trace(alloc: Global, text: &[u8]) -> Result<Vec<Stamped>, TraceRefu
     ensures found { IfOk result (λ v. IsTrace text.now v.items) }
     // What is a trace is read, unless memory runs out.
     ensures only { (events : List Stamped) → IsTrace text.now events → GivesTrace (λ v. v.items) result (Ok events) }
-    // Which events they are, or which word is wrong.
-    ensures exact { GivesTrace (λ v. v.items) result (trace_of text.now) }
+    // What is refused is refused at its first wrong word.
+    ensures place { IfErr result (λ refusal. NamesFirstWrong text.now refusal) }
+    // What has a first wrong word is refused there, unless memory runs out.
+    ensures refused { (place : ℕ × ℕ) → IsFirstWrong text.now place → GivesTrace (λ v. v.items) result (Err place) }
 {
     trace_in(alloc, text)
 }
