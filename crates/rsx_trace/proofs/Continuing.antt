@@ -1,7 +1,7 @@
 -- Lists that can be gone on with to right ones, up to their first wrong item.
 use Rattle.std.proofs.Common.{◌≡◌, List, [], ◌∷◌, ◌++◌, refl, sym, ap, subst, ◌∙◌}
 use Rattle.std.specs.Prelude.{◌↔◌}
-use Rattle.rsx_trace.specs.FirstWrong.{Begins, Stops, GoesWrong}
+use Rattle.rsx_trace.specs.FirstWrong.{Begins, GoesWrong}
 
 -- no list that begins so is right
 pub never : {X : Type 0} (P : List X → Type 0) (front : List X) → ((more : List X) → P (front ++ more) → ⊥) → ¬ Begins P front

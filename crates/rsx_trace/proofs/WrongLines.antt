@@ -1,5 +1,5 @@
 -- The place at which a text is refused is that of its first wrong word, and there is no other.
-use Rattle.std.proofs.Common.{◌≡◌, ℕ, suc, ◌+◌, ◌-◌, ◌<◌, ◌⊎◌, Bool, true, false, List, [], ◌∷◌, ◌++◌, length, Option, Some, Result, Ok, Err, lit<, refl, sym, ap, subst, ◌∙◌, append_assoc, arith, inl, inr}
+use Rattle.std.proofs.Common.{◌≡◌, ℕ, ◌+◌, ◌-◌, ◌<◌, ◌⊎◌, Bool, true, false, List, [], ◌∷◌, ◌++◌, length, Result, Ok, Err, lit<, refl, sym, ap, subst, ◌∙◌, append_assoc, arith, inl, inr}
 use Rattle.std.proofs.Common.{Vec, Global}
 use Rattle.std.specs.Prelude.{◌↔◌, IfErr, codes}
 use Rattle.std.proofs.lemmas.List.{append-nil}
@@ -14,15 +14,15 @@ use Rattle.rsx_trace.specs.declared.refusal.TraceRefusal.{TraceRefusal}
 use Rattle.rsx_trace.specs.declared.refusal.TraceRefusal.TheVariants.{BadTrace, NoMemory}
 use Rattle.rsx_trace.specs.Gives.{GivesTrace}
 use Rattle.rsx_trace.specs.Texts.{lines, words, bytes_from}
-use Rattle.rsx_trace.specs.Grammar.{IsCause, IsEvent, IsLine, AreLines, first_text, AreTrace, IsTrace}
-use Rattle.rsx_trace.specs.FirstWrong.{Begins, Stops, GoesWrong, HasWords, IsWrongWord, MayFollow, IsColumn, IsWrongPlace, AreSomeTrace, IsFirstWrong, NamesFirstWrong}
-use Rattle.rsx_trace.specs.Reading.{◌>>=◌, number_of, signed_of, line_at, first_at, at_line, line_then, nothing_more, events_of, trace_of_lines, trace_of}
-use Rattle.rsx_trace.proofs.Words.{IsWord, joined, IsWord-number}
+use Rattle.rsx_trace.specs.Grammar.{IsCause, IsLine, AreLines, first_text, IsTrace}
+use Rattle.rsx_trace.specs.FirstWrong.{Begins, GoesWrong, HasWords, IsWrongWord, MayFollow, IsColumn, IsWrongPlace, AreSomeTrace, IsFirstWrong, NamesFirstWrong}
+use Rattle.rsx_trace.specs.Reading.{◌>>=◌, line_at, first_at, at_line, line_then, nothing_more, events_of, trace_of_lines, trace_of}
+use Rattle.rsx_trace.proofs.Words.{joined, IsWord-number}
 use Rattle.rsx_trace.proofs.Events.{name_is, IsWord-signed, line_again, end_again, first_again}
-use Rattle.rsx_trace.proofs.Sound.{kind_text, number_is, signed_is, at_ok, line_sound, first_sound, trace_sound}
+use Rattle.rsx_trace.proofs.Sound.{kind_text, signed_is, at_ok, line_sound, first_sound, trace_sound}
 use Rattle.rsx_trace.proofs.Continuing.{begun, same_wrong, push_wrong, heads, tails, one_place}
 use Rattle.rsx_trace.proofs.Parts.{AllWords, words_solid, words_line, words_joined}
-use Rattle.rsx_trace.proofs.WrongWords.{Nothing, One, SomeCause, Behind, Opened, opened, SomeEvent, Stampable, LineWords, version, FirstWords, Found, kind_word, stamp, line_wrong, first_wrong}
+use Rattle.rsx_trace.proofs.WrongWords.{Nothing, Behind, Opened, opened, SomeEvent, Stampable, LineWords, version, FirstWords, Found, kind_word, stamp, line_wrong, first_wrong}
 
 -- ---- the words of right lines
 

@@ -1,5 +1,5 @@
 -- Where a reader refuses a line, its words go wrong at the word that it refuses.
-use Rattle.std.proofs.Common.{◌≡◌, ℕ, suc, ◌+◌, ◌≤◌, ◌<◌, ◌⊎◌, Bool, true, false, cond, List, [], ◌∷◌, ◌++◌, length, Option, Some, None, Result, Ok, Err, lit<, refl, sym, ap, subst, ◌∙◌, arith, inl, inr}
+use Rattle.std.proofs.Common.{◌≡◌, ℕ, ◌<◌, ◌⊎◌, Bool, true, false, cond, List, [], ◌∷◌, ◌++◌, length, Option, Some, None, Result, Ok, Err, lit<, refl, sym, ap, subst, ◌∙◌, arith, inl, inr}
 use Rattle.std.specs.Prelude.{◌↔◌, ℤ, pos, codes}
 use Rattle.std.specs.Str.{bytes_eq}
 use Rattle.std.specs.Fmt.{decimal}
@@ -14,13 +14,13 @@ use Rattle.rsx_trace.specs.declared.line.Line.TheVariants as kinds
 use Rattle.rsx_trace.specs.Texts.{bytes_from}
 use Rattle.rsx_trace.specs.FirstWrong.{Begins, GoesWrong}
 use Rattle.rsx_trace.specs.Reading.{◌>>=◌, word_at, valued, ends, number_of, number_at, signed_of, signed_at, kind_of, cause_at, tail_of, event_at, stamped_at, line_at, first_at}
-use Rattle.rsx_trace.specs.Grammar.{u32, IsNumber, IsSigned, IsCause, IsEvent}
+use Rattle.rsx_trace.specs.Grammar.{u32, IsNumber, IsCause, IsEvent}
 use Rattle.rsx_trace.proofs.Words.{IsWord, number_of_again, IsWord-number, not_end}
 use Rattle.rsx_trace.proofs.Events.{name_is, signed_of_again}
 use Rattle.std.proofs.lemmas.Slice.Eq.{bytes_eq-Decides}
 use Rattle.rsx_trace.proofs.Traces.{number_text}
-use Rattle.rsx_trace.proofs.Sound.{named, number_is, signed_is, kind_is, kind_text, cause_of, counted_of, function_of, version_of, second_of, first_of}
-use Rattle.rsx_trace.proofs.Continuing.{never, begun, same_wrong, push_wrong, pull_wrong, heads, tails}
+use Rattle.rsx_trace.proofs.Sound.{named, number_is, signed_is, kind_is, kind_text, cause_of, counted_of, function_of, version_of, first_of}
+use Rattle.rsx_trace.proofs.Continuing.{never, same_wrong, push_wrong, pull_wrong, heads, tails}
 use Rattle.rsx_trace.proofs.Parts.{AllSolid, word_missing, word_empty, word_first, ends_wrong_at}
 
 -- ---- steps

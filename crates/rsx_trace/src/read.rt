@@ -8,9 +8,9 @@ ghost use Rattle.rsx_trace.specs.FirstWrong.{IsFirstWrong, NamesFirstWrong};
 ghost use Rattle.rsx_trace.specs.Grammar.{IsTrace};
 ghost use Rattle.rsx_trace.specs.Gives.{GivesTrace, IsPlace};
 
+use crate::event::Stamped;
 use crate::line::{Line, Wrong, first_of, len_to, line_of};
 use crate::refusal::TraceRefusal;
-use crate::event::Stamped;
 use std::alloc::Global;
 
 /// The first line, without its newline, and what stands behind it.

@@ -10,10 +10,10 @@ use thiserror::Error;
 #[derive(Clone, Copy, Debug, PartialEq, Eq, Error)]
 pub enum TraceRefusal {
     /// The text isn't in a format of traces: the line of its first wrong word and the word's column, both counted
-    /// from 1, columns in bytes. The refusal V1.
+    /// from 1, columns in bytes.
     #[error("bad trace at line {0}, column {1}")]
     BadTrace(u64, u64),
-    /// A growth was refused. The refusal V2.
+    /// A growth was refused.
     #[error("out of memory")]
     NoMemory,
 }
