@@ -7,9 +7,9 @@ ghost use Rattle.rsx_tck.specs.Sentences.{Keeps};
 ghost use Rattle.rsx_tck.specs.Passes.{KnowsAnswer, is_breach, is_unanswered, next_answer};
 ghost use Rattle.rsx_tck.specs.Laws.Answering.{answered-none, answered-other, knows_answer-other};
 
-use rsx_trace::{Event, Stamped};
 use crate::pass::{Effect, Pass};
 use rsx_rules::rules;
+use rsx_trace::{Event, Stamped};
 use rsx_types::Cause;
 
 /// Rule 3.9: a request of 0 or less is answered by `onError`.

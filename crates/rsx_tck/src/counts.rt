@@ -8,10 +8,10 @@ ghost use Rattle.rsx_tck.specs.Sentences.{Keeps, before_cancel, items_in, reques
 ghost use Rattle.rsx_tck.specs.Passes.{Tells, is_breach};
 ghost use Rattle.rsx_tck.specs.Laws.Counting.{before_cancel-other, counted-other, counted_before_cancel-other, each-none, requested-other};
 
-use rsx_trace::{Event, Stamped};
 use crate::pass::{Effect, Pass};
 use rsx_demand::{Demand, saturating_total};
 use rsx_rules::rules;
+use rsx_trace::{Event, Stamped};
 
 /// Rule 1.1: no more items come than were requested.
 #[derive(Clone, Copy)]

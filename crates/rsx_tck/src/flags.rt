@@ -7,9 +7,9 @@ ghost use Rattle.rsx_tck.specs.Sentences.{Keeps};
 ghost use Rattle.rsx_tck.specs.Passes.{Tells, is_breach};
 ghost use Rattle.rsx_tck.specs.Laws.Following.{each_after-none, each_after-other, none_after-none, none_after-other, tells-other};
 
-use rsx_trace::{Event, Stamped};
 use crate::pass::{Effect, Pass};
 use rsx_rules::rules;
+use rsx_trace::{Event, Stamped};
 use rsx_types::Cause;
 
 /// Rule 1.10: a subscriber is handed to `subscribe` at most once.

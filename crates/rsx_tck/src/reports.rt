@@ -9,7 +9,6 @@ ghost use Rattle.rsx_tck.specs.Passes.{BeginsAt, IsFirstBreach, KeepsThrough, le
 use crate::answers::BadRequest;
 use crate::both::Both;
 use crate::counts::{NoMoreAfterCancel, NoMoreThanRequested};
-use rsx_trace::Stamped;
 use crate::flags::{
     BadRequestFirst, NothingAfterEnding, OnSubscribeFirst, OneOnSubscribe, OneSubscribe,
     RequestFirst,
@@ -17,6 +16,7 @@ use crate::flags::{
 use crate::pass::{Pass, first_breach};
 use crate::rule::{Rule, Verdict};
 use crate::running::{NoCallInEnding, OneSignalAtATime, SecondRefused};
+use rsx_trace::Stamped;
 
 fn lesser_from(from: u64, subscriber: u32, least: Option<u32>) -> Option<u32>
     ensures { result ≡ least_from from subscriber least }

@@ -9,10 +9,10 @@ ghost use Rattle.rsx_tck.specs.Laws.Running.{apart-none, apart-other, knows_sign
 ghost use Rattle.rsx_tck.specs.Laws.Working.{knows_endings-other, quiet-none, quiet-other};
 ghost use Rattle.rsx_tck.specs.Laws.Refusing.{knows_held-other, refuses-none, refuses-other};
 
-use rsx_trace::{Event, Stamped};
 use crate::pass::{Effect, Pass};
 use crate::workers::Workers;
 use rsx_rules::rules;
+use rsx_trace::{Event, Stamped};
 
 /// Rule 1.3: no signal begins while another is in progress.
 #[derive(Clone, Copy)]

@@ -1,4 +1,4 @@
-use crate::{Class, Event, Rule, Stamped, Verdict, judge, report};
+use crate::{Class, Event, Rule, Stamped, Verdict, judge, parse_trace, report};
 use rsx_types::Cause;
 use std::alloc::{AllocError, Global};
 use std::test::Fail;
@@ -89,90 +89,36 @@ fn a_verdict_as_text(rt: HostRuntime) -> Result<(), Fail> {
     Ok(())
 }
 
-/// The same events, once on the workers that they happened on and once all on worker 0.
-fn on_worker_0(alloc: Global, trace: &[Stamped]) -> Result<Vec<Stamped>, AllocError> {
-    trace
-        .iter()
-        .map(|stamped| Stamped {
-            worker: 0,
-            event: stamped.event,
-        })
-        .collect(alloc)
-}
-
+/// A signal begins while one on another worker is in progress: what the exit of a third worker means, only a text of
+/// format 2 can say.
 #[test]
 fn signals_of_two_workers(rt: HostRuntime) -> Result<(), Fail> {
-    let trace = [
-        Stamped {
-            worker: 0,
-            event: Event::Subscribe(0),
-        },
-        Stamped {
-            worker: 0,
-            event: Event::OnSubscribe(0),
-        },
-        Stamped {
-            worker: 0,
-            event: Event::Exit(0),
-        },
-        Stamped {
-            worker: 0,
-            event: Event::Request(0, 2),
-        },
-        Stamped {
-            worker: 1,
-            event: Event::Next(0),
-        },
-        Stamped {
-            worker: 2,
-            event: Event::Exit(0),
-        },
-        Stamped {
-            worker: 2,
-            event: Event::Next(0),
-        },
-    ];
-    assert_eq!(rt; judge(Rule::Rule1_3, &trace), Verdict::Broken(6));
-    assert_eq!(rt;
-        judge(Rule::Rule1_3, &on_worker_0(rt.alloc(), &trace)?),
-        Verdict::Held
-    );
+    let on_workers = parse_trace(
+        rt.alloc(),
+        b"trace 2\n0 subscribe 0\n0 on-subscribe 0\n0 exit 0\n0 request 0 2\n1 next 0\n2 exit 0\n2 next 0\nend\n",
+    )?;
+    assert_eq!(rt; judge(Rule::Rule1_3, &on_workers), Verdict::Broken(6));
+    let on_one = parse_trace(
+        rt.alloc(),
+        b"trace 1\nsubscribe 0\non-subscribe 0\nexit 0\nrequest 0 2\nnext 0\nexit 0\nnext 0\nend\n",
+    )?;
+    assert_eq!(rt; judge(Rule::Rule1_3, &on_one), Verdict::Held);
     Ok(())
 }
 
+/// A cancel comes from another worker while an ending is in progress, which only a text of format 2 can say.
 #[test]
 fn a_cancel_from_elsewhere_within_an_ending(rt: HostRuntime) -> Result<(), Fail> {
-    let trace = [
-        Stamped {
-            worker: 0,
-            event: Event::Subscribe(0),
-        },
-        Stamped {
-            worker: 0,
-            event: Event::OnSubscribe(0),
-        },
-        Stamped {
-            worker: 0,
-            event: Event::Exit(0),
-        },
-        Stamped {
-            worker: 1,
-            event: Event::Complete(0),
-        },
-        Stamped {
-            worker: 2,
-            event: Event::Cancel(0),
-        },
-        Stamped {
-            worker: 1,
-            event: Event::Exit(0),
-        },
-    ];
-    assert_eq!(rt; judge(Rule::Rule2_3, &trace), Verdict::Held);
-    assert_eq!(rt;
-        judge(Rule::Rule2_3, &on_worker_0(rt.alloc(), &trace)?),
-        Verdict::Broken(4)
-    );
+    let on_workers = parse_trace(
+        rt.alloc(),
+        b"trace 2\n0 subscribe 0\n0 on-subscribe 0\n0 exit 0\n1 complete 0\n2 cancel 0\n1 exit 0\nend\n",
+    )?;
+    assert_eq!(rt; judge(Rule::Rule2_3, &on_workers), Verdict::Held);
+    let on_one = parse_trace(
+        rt.alloc(),
+        b"trace 1\nsubscribe 0\non-subscribe 0\nexit 0\ncomplete 0\ncancel 0\nexit 0\nend\n",
+    )?;
+    assert_eq!(rt; judge(Rule::Rule2_3, &on_one), Verdict::Broken(4));
     Ok(())
 }
 

@@ -7,7 +7,7 @@ use Rattle.rsx_trace.specs.declared.refusal.TraceRefusal.TheVariants.{BadTrace, 
 use Rattle.rsx_trace.specs.Texts.{lines, words, bytes_from}
 use Rattle.rsx_trace.specs.Grammar.{AreTrace}
 
--- Some right list begins with these items.
+-- Some right list begins with these items: it has more behind them, or none.
 abbrev pub Begins : {X : Type 0} → (List X → Type 0) → List X → Type 0
 Begins {X} right front = (more : List X) × right (front ++ more)
 
@@ -34,7 +34,7 @@ pub record IsWrongWord (right : List ℕ → Type 0) (line : List ℕ) (column :
   pub wrong : GoesWrong (HasWords right) before rest
   pub place : column ≡ length line - length (bytes_from rest) + 1
 
--- Behind these lines, which begin right, this line goes on rightly.
+-- Some right lines begin with those before and this one.
 abbrev pub MayFollow : (List (List ℕ) → Type 0) → List (List ℕ) → List ℕ → Type 0
 MayFollow right before line = Begins right (before ++ line ∷ [])
 

@@ -1,5 +1,4 @@
-use super::*;
-use crate::event::{Event, Stamped};
+use crate::{Event, Stamped, TraceRefusal, parse_trace, print_trace};
 use rsx_types::Cause;
 use std::test::Fail;
 
