@@ -108,6 +108,21 @@ impl<T: Drop> Prefetch<T> {
         self.ring.front()
     }
 
+    /// The item with `index` others in front of it, or none where there are no more items than that.
+    pub fn get(&self, index: usize) -> Option<&T>
+        ensures { option_copied result ≡ slice_get self.now.items index }
+    {
+        self.ring.get(index)
+    }
+
+    /// Drops all items. They don't count as taken: the capacity, the count of the items taken and the
+    /// credits stay as they are.
+    pub fn clear(&mut self)
+        ensures { self.new ≡ queue [] self.old.capacity self.old.taken }
+    {
+        self.ring.clear();
+    }
+
     /// How many items the queue holds.
     pub fn len(&self) -> usize
         ensures len { result ≡ length self.now.items }

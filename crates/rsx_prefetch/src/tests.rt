@@ -96,3 +96,38 @@ fn a_queue_is_dropped_with_its_items(rt: HostRuntime) -> Result<(), Fail> {
     assert_eq!(rt; queue.len(), 1);
     Ok(())
 }
+
+#[test]
+fn items_by_their_index(rt: HostRuntime) -> Result<(), Fail> {
+    let mut queue = Prefetch::new(rt.alloc(), 3)?;
+    for n in 0..3u64 {
+        assert!(rt; queue.has_room());
+        queue.put(10 + n);
+    }
+    // The ring's first item is no longer in its first place.
+    assert_eq!(rt; queue.take(), Some(10));
+    assert!(rt; queue.has_room());
+    queue.put(13);
+    assert_eq!(rt; queue.get(0).copied(), Some(11));
+    assert_eq!(rt; queue.get(1).copied(), Some(12));
+    assert_eq!(rt; queue.get(2).copied(), Some(13));
+    assert_eq!(rt; queue.get(3), None::<&u64>);
+    Ok(())
+}
+
+#[test]
+fn a_cleared_queue_keeps_its_count(rt: HostRuntime) -> Result<(), Fail> {
+    let mut queue = Prefetch::new(rt.alloc(), 3)?;
+    for n in 0..3u64 {
+        assert!(rt; queue.has_room());
+        queue.put(n);
+    }
+    assert_eq!(rt; queue.take(), Some(0));
+    queue.clear();
+    assert_eq!(rt; (queue.len(), queue.capacity(), queue.taken()), (0, 3, 1));
+    assert_eq!(rt; queue.front(), None::<&u64>);
+    assert!(rt; queue.has_room());
+    queue.put(7);
+    assert_eq!(rt; queue.take(), Some(7));
+    Ok(())
+}
