@@ -1,41 +1,47 @@
 //! The queue of a root edge.
 
-ghost use Rattle.std.specs.Prelude.{◌≡◌, ◌∷◌, ◌++◌, [], length, IfOk, IfErr, OnOk, OnErr, IfSome, IfNone, ◌<◌, slice_index_or};
+ghost use Rattle.std.specs.Prelude.{◌≡◌, ◌∷◌, ◌++◌, [], length, IfOk, IfSome, IfNone, ◌<◌, slice_index_or};
 
+use rsx_prefetch::Prefetch;
 use rsx_types::{NoMemory, Signal};
 use std::alloc::Global;
-use std::collections::VecDeque;
 use std::marker::Model;
 
-/// The signals on a root edge, first in, first out. Contracts see a list.
+/// How many signals a root edge holds.
+pub const CAPACITY: usize = 64;
+
+/// The signals on a root edge, at most 64, first in, first out. Contracts see a list.
+///
+/// The memory for them is taken when the queue is made, and no later call takes any.
 #[derive(Drop)]
 pub struct SignalQueue<T> {
-    signals: VecDeque<Signal<T>>,
+    signals: Prefetch<Signal<T>>,
 }
 
 impl<T> Model for SignalQueue<T> {
-    ghost use Rattle.std.specs.Prelude.{List};
+    ghost use Rattle.std.specs.Prelude.{◌≡◌, List};
     ghost use Rattle.rsx_types.specs.declared.signal.Signal.{Signal};
 
     ghost Value = { List (Signal T) };
 
     ghost view = { λ q. q.signals.items };
+
+    ghost invariant = { λ q. q.signals.capacity ≡ 64 };
 }
 
 impl<T: Drop> SignalQueue<T> {
-    /// How many signals a root edge holds.
-    pub const CAPACITY: usize = 64;
-
     /// An empty queue with memory for 64 signals.
+    ///
+    /// # Errors
+    /// [`NoMemory`] where that memory was refused.
     pub fn new(alloc: Global) -> Result<SignalQueue<T>, NoMemory>
         ensures { IfOk result (λ q. q ≡ []) }
     {
-        Ok(SignalQueue {
-            signals: VecDeque::with_capacity(alloc, Self::CAPACITY)?,
-        })
+        let signals = Prefetch::new(alloc, CAPACITY)?;
+        Ok(SignalQueue { signals })
     }
 
-    /// How many signals wait.
+    /// How many signals wait, 0 to 64.
     pub fn len(&self) -> usize
         ensures { result ≡ length self.now }
     {
@@ -47,26 +53,23 @@ impl<T: Drop> SignalQueue<T> {
         requires { index < length self.now }
         ensures { result.now ≡ slice_index_or self.now index result.now }
     {
-        &self.signals[index]
+        self.signals.get(index).unwrap()
     }
 
-    /// Puts a signal at the back. For want of memory it comes back.
-    pub fn push(&mut self, signal: Signal<T>) -> Result<(), Signal<T>>
-        ensures ok { OnOk result (self.new ≡ self.old ++ signal ∷ []) }
-        ensures err { IfErr result (λ s. (s ≡ signal) × (self.new ≡ self.old)) }
+    /// Puts a signal at the back. The queue has room for it, which [`SignalQueue::len`] tells.
+    pub fn push(&mut self, signal: Signal<T>)
+        requires { length self.old < 64 }
+        ensures { self.new ≡ self.old ++ signal ∷ [] }
     {
-        match self.signals.push_back(signal) {
-            Ok(()) => Ok(()),
-            Err(failed) => Err(failed.value),
-        }
+        self.signals.put(signal);
     }
 
-    /// Takes the front signal.
+    /// Takes the front signal. An empty queue stays as it is.
     pub fn pop(&mut self) -> Option<Signal<T>>
         ensures some { IfSome result (λ s. self.old ≡ s ∷ self.new) }
         ensures none { IfNone result ((self.old ≡ []) × (self.new ≡ self.old)) }
     {
-        self.signals.pop_front()
+        self.signals.take()
     }
 
     /// Drops all signals.

@@ -159,16 +159,9 @@ impl<T: Drop> Subscription<T> {
             Ok(None) => return Err(NotMade::NotEnabled),
             Err(NoMemory) => return Err(NotMade::NoMemory),
         };
-        match self.queue.push(signal) {
-            Ok(()) => {
-                self.root.carry(front);
-                Ok(())
-            }
-            Err(signal) => {
-                self.tree.put_back(signal);
-                Err(NotMade::NoMemory)
-            }
-        }
+        self.queue.push(signal);
+        self.root.carry(front);
+        Ok(())
     }
 
     /// Makes the first enabled move, if there is one; a signal that it delivers is put into `out`.
