@@ -1,5 +1,5 @@
 -- A tree that was built over the tree of its input.
-use Rattle.std.proofs.Common.{◌≡◌, ℕ, ◌+◌, List, [], ◌∷◌, refl, ap, sym, ◌∙◌, subst, Option, Some, None, option_map, option_and_then, slice_get, Box, Global}
+use Rattle.std.proofs.Common.{◌≡◌, ◌+◌, List, [], ◌∷◌, refl, ap, sym, ◌∙◌, subst, Option, Some, None, option_map, option_and_then, slice_get, Box, Global}
 use Rattle.rsx_types.specs.Meaning.{Meaning}
 use Rattle.rsx_types.specs.Plain.{plain}
 use Rattle.rsx_types.specs.Stream.{Stream}
@@ -7,7 +7,7 @@ use Rattle.rsx_types.specs.declared.note.Note.{Note}
 use Rattle.rsx_types.specs.declared.note.Note.TheVariants.{Nothing, Picks, Ended}
 use Rattle.rsx_types.specs.declared.stage.Stage.{Stage}
 use Rattle.rsx_sources.specs.Machine.{Incoming, quiet as quiet_at}
-use Rattle.rsx_model.specs.Eval.{environment, meant, quiet}
+use Rattle.rsx_model.specs.Eval.{environment, quiet}
 use Rattle.rsx_model.specs.declared.expr.Expr.{Expr}
 use Rattle.rsx_model.specs.declared.expr.Expr.TheViews.{Plain as PlainOf, outs-Plain}
 use Rattle.rsx_model.proofs.Unfold.{value_Plain}
@@ -20,8 +20,8 @@ use Rattle.rsx_pipe.specs.declared.node.Node.TheViews.{Plain}
 use Rattle.rsx_plain.specs.Moves.{has_ending}
 use Rattle.rsx_model.specs.declared.expr.Expr.TheFolds.{fold_out-Expr}
 use Rattle.rsx_pipe.specs.Built.{IsBuilt, AllUnrecorded, fresh_edge, fresh_edges, starts_ended}
-use Rattle.rsx_pipe.specs.Edges.{EdgeView, closed_if, edge_view}
-use Rattle.rsx_pipe.specs.Tree.{comes_out, edges, notes_of, through, one_incoming, IsKept}
+use Rattle.rsx_pipe.specs.Edges.{closed_if, edge_view}
+use Rattle.rsx_pipe.specs.Tree.{comes_out, edges, through, one_incoming, IsKept}
 
 -- what comes out of a fresh node is its operator of what comes in
 fresh_through : {T : Type 0} (m : Meaning T) (g : Stage T) (n : PlainNode T) → ((inc : Incoming T) (further : Note) → plain_comes_out m n inc further ≡ quiet_at further (plain m g inc.first)) →

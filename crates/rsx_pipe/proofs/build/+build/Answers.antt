@@ -1,4 +1,3 @@
-use Rattle.std.proofs.Common.{refl, ap, ◌∙◌, sym}
 use Rattle.rsx_pipe.proofs.Builds.{built_plain, fresh_edge_is}
 use Rattle.rsx_pipe.proofs.build.+build.Goals as goal
 

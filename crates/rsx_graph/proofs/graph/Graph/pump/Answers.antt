@@ -1,6 +1,4 @@
-use Rattle.std.proofs.Common.{◌≡◌, ◌+◌, ◌≤◌, ◌<◌, ◌∙◌, ℕ, ap, sym, subst, arith, length, min}
-use Rattle.rsx_types.specs.Meaning.{Meaning}
-use Rattle.rsx_graph.specs.Pumped.{AllPumped, AreQuiet}
+use Rattle.std.proofs.Common.{◌+◌, ◌≤◌, ◌<◌, ◌∙◌, ap, arith, length}
 use Rattle.rsx_graph.proofs.Graphs.{pumped_on, pumped_same, all_quiet, quiet_same}
 use Rattle.rsx_graph.proofs.graph.Graph.pump.Goals as goal
 

@@ -1,5 +1,5 @@
 use Rattle.std.proofs.Common.{◌∙◌}
-use Rattle.rsx_graph.proofs.Moves.{pumped_none, pumped_same_sub, pumped_moved, moved_root}
+use Rattle.rsx_graph.proofs.Moves.{pumped_same_sub, pumped_moved, moved_root}
 use Rattle.rsx_graph.proofs.subscription.Subscription.advance.Goals as goal
 
 pub returns-then-len-gt0-clause-pumped : goal.returns-then-len-gt0-clause-pumped

@@ -1,4 +1,4 @@
-use Rattle.std.proofs.Common.{arith, length, ◌≤◌, sym, ◌∙◌}
+use Rattle.std.proofs.Common.{arith, length, ◌≤◌, sym}
 use Rattle.rsx_graph.proofs.Moves.{quiet_when, awake_tree}
 use Rattle.rsx_graph.proofs.subscription.Subscription.is_idle.Goals as goal
 

@@ -1,4 +1,3 @@
-use Rattle.std.proofs.Common.{◌≤◌}
 use Rattle.rsx_graph.specs.Pumped.{IsPumped}
 use Rattle.rsx_graph.proofs.subscription.Subscription.pump.Given as goal
 
