@@ -3,5 +3,6 @@ pub mod Begun
 pub mod Delivered
 pub mod Headline
 pub mod History
+pub mod Names
 pub mod Pumped
 pub mod Stands

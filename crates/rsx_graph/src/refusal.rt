@@ -1,6 +1,7 @@
 //! Why a call of a graph was refused.
 
 ghost use Rattle.std.specs.Prelude.{◌≡◌};
+ghost use Rattle.rsx_graph.specs.Names.{name_codes};
 
 use rsx_model::BadExpr;
 use rsx_types::NoMemory;
@@ -32,7 +33,9 @@ pub enum Refusal {
 
 impl Refusal {
     /// The refusal's name, G1 to G8.
-    pub fn name(self) -> &'static str {
+    pub fn name(self) -> &'static str
+        ensures { result.now ≡ name_codes self }
+    {
         match self {
             Refusal::UnknownHub => "G1",
             Refusal::UnknownSub => "G2",
