@@ -1,3 +1,4 @@
+pub mod Counts
 pub mod Residuals
 pub mod Endings
 pub mod Taken

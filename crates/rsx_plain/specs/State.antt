@@ -1,5 +1,5 @@
 -- The plain operators from a state.
-use Rattle.std.specs.Prelude.{◌≡◌, ℕ, ◌+◌, ◌-◌, ◌*◌, min, Bool, true, false, nat_eq, nat_le, if◌then◌else◌, List, [], ◌∷◌, ◌++◌, length, Result, Ok, Err}
+use Rattle.std.specs.Prelude.{◌≡◌, ◌<◌, ℕ, ◌+◌, ◌-◌, ◌*◌, min, Bool, true, false, nat_eq, nat_le, if◌then◌else◌, List, [], ◌∷◌, ◌++◌, length, Result, Ok, Err}
 use Rattle.std.specs.Set.{is_member}
 use Rattle.rsx_types.specs.declared.signal.Signal.{Signal}
 use Rattle.rsx_types.specs.declared.signal.Signal.TheVariants.{Next, Complete, Error}
@@ -8,7 +8,7 @@ use Rattle.rsx_types.specs.declared.stage.Stage.TheVariants.{Map, Filter, Take, 
 use Rattle.rsx_types.specs.Meaning.{Meaning}
 use Rattle.rsx_types.specs.Plain.{mapped_items, filtered_items, taken_items, scanned_items, buffered_items, distinct_items}
 use Rattle.rsx_types.specs.Stream.{Stream}
-use Rattle.rsx_plain.specs.Moves.{Moves, EndsLast}
+use Rattle.rsx_plain.specs.Moves.{Moves, EndsLast, has_ending}
 use Rattle.rsx_plain.specs.declared.state.PlainState.{PlainState}
 use Rattle.rsx_plain.specs.declared.state.PlainState.TheVariants.{Map as MapFrom, Filter as FilterFrom, Take as TakeFrom, Scan as ScanFrom, Buffer as BufferFrom, Distinct as DistinctFrom}
 
@@ -82,6 +82,22 @@ after_signal m state (Error c) = after_ending state
 -- the signal went in, and out came out of the old state, which left the new one
 abbrev pub Reacts : {T : Type 0} → Meaning T → PlainState T → Signal T → List (Signal T) → PlainState T → Type 0
 Reacts m old s out new = Moves (plain_from m) old s out new × EndsLast out × (new ≡ after_signal m old s)
+
+-- how many items came in and how many were put out, as long as no ending was; a count of dropped items that has reached
+-- its limit says nothing more
+abbrev pub balanced : {T : Type 0} → PlainState T → ℕ → ℕ → Type 0
+balanced (MapFrom f) taken put = put ≡ taken
+balanced (FilterFrom f n) taken put = n < most_asked → taken ≡ put + n
+balanced (TakeFrom n left) taken put = (put ≡ taken) × (put + left ≡ n)
+balanced (ScanFrom f a) taken put = put ≡ taken + 1
+balanced (BufferFrom n xs) taken put = (taken ≡ put * n + length xs) × (length xs < n)
+balanced (DistinctFrom f ks n) taken put = n < most_asked → taken ≡ put + n
+
+-- an item leaves the counts balanced, unless an ending came out; an ending brings one
+abbrev pub Counts : {T : Type 0} → PlainState T → Signal T → List (Signal T) → PlainState T → Type 0
+Counts old (Next x) out new = has_ending out ≡ false → (taken put : ℕ) → balanced old taken put → balanced new (taken + 1) (put + length out)
+Counts old Complete out new = has_ending out ≡ true
+Counts old (Error c) out new = has_ending out ≡ true
 
 -- whether nothing more of the input matters: a `take` has let all its items through
 abbrev pub is_over : {T : Type 0} → PlainState T → Bool

@@ -78,7 +78,7 @@ impl<T: Drop> Machine for PlainNode<T> {
     ghost use Rattle.rsx_sources.specs.Machine.{TakesIn, Keeps, Records, incoming_of};
     ghost use Rattle.rsx_sources.specs.Steps.{IsPopped, IsNotTaken, IsNotMade};
     ghost use Rattle.rsx_plain.specs.Node.{plain_comes_out, plain_waiting, plain_takes, plain_wanted, plain_popped, plain_ended};
-    ghost use Rattle.rsx_plain.specs.State.{is_over};
+    ghost use Rattle.rsx_plain.specs.State.{is_over, after_signal, Counts};
     ghost use Rattle.rsx_plain.specs.declared.node.PlainNode.{PlainNode};
 
     ghost comes_out = { plain_comes_out };
@@ -144,6 +144,8 @@ impl<T: Drop> Machine for PlainNode<T> {
         ensures ok { OnOk result (TakesIn (plain_comes_out (O.meaning ops.now)) self.old input signal self.new) }
         ensures enabled { OnOk result (plain_takes self.old input ≡ true) }
         ensures over { OnOk result (is_over self.new.state ≡ true → plain_ended self.new ≡ true) }
+        ensures state { OnOk result (self.new.state ≡ after_signal (O.meaning ops.now) self.old.state signal) }
+        ensures counts { OnOk result (Counts self.old.state signal self.new.slot self.new.state) }
         ensures err { IfErr result (IsNotTaken (plain_takes self.old input) signal) }
         ensures same { OnErr result (self.new ≡ self.old) }
     {
