@@ -1,2 +1,3 @@
+pub mod Balances
 pub mod Builds
 pub mod Trees

@@ -22,6 +22,7 @@ use Rattle.rsx_pipe.specs.declared.edge.Edge.{Edge}
 use Rattle.rsx_pipe.specs.declared.node.Node.{Node, Items, Range, Plain'}
 use Rattle.rsx_pipe.specs.declared.node.Node.TheViews.{Plain}
 use Rattle.rsx_pipe.specs.Edges.{edge_view, EdgeView, is_live, can_pass, can_ask_for, IsAsked, asked_up_to, changed_at, carried, carried_at, closed_if, closed_view, passed}
+use Rattle.rsx_pipe.proofs.Balances.{leaf_balanced, balanced_popped, suc_minus, above_zero}
 use Rattle.rsx_pipe.specs.Tree.{offers, comes_out, through, notes_of, none_incoming, one_incoming, IsAllClosed, IsKept, IsPassedOn, IsLetGo, IsUnchosen, edges, want_at, front_at, ended_at, IsAskedAt, IsSentAt, IsSentOver, IsPopped, IsIdle, IsBusy, IsIdleHere, IsAdvancedHere, IsAdvanced, IsMadeBelow, IsAskedOver, popped, can_ask, can_send, can_send_over, can_go}
 use Rattle.std.proofs.Common.{◌<◌, ◌≤◌, min}
 use Rattle.rsx_demand.specs.declared.TheConstants.{UNBOUNDED}
@@ -147,6 +148,7 @@ popped_items m old new (Some s) h = record {
   value = λ hubs further at. leaf_lets_go (items_comes_out m old none_incoming) (items_comes_out m new none_incoming) s (λ k. h.2 none_incoming k) (slice_get further at);
   notes = refl;
   edges = refl;
+  balance = λ sent b. leaf_balanced s (Items new) sent (λ k. tt);
 }
 
 pub popped_range : {T : Type 0} (m : Meaning T) (old new : RangeNode T) (o : Option (Signal T)) → Steps.IsPopped (range_comes_out m) range_popped (range_waiting m old) old o new → IsPopped m (Range old) o (Range new)
@@ -157,6 +159,7 @@ popped_range m old new (Some s) h = record {
   value = λ hubs further at. leaf_lets_go (range_comes_out m old none_incoming) (range_comes_out m new none_incoming) s (λ k. h.2 none_incoming k) (slice_get further at);
   notes = refl;
   edges = refl;
+  balance = λ sent b. leaf_balanced s (Range new) sent (λ k. tt);
 }
 
 pub popped_plain : {T : Type 0} (m : Meaning T) (old new : PlainNode T) (edge : Edge) (below : Below T) (o : Option (Signal T)) → Steps.IsPopped (plain_comes_out m) plain_popped (plain_waiting m old) old o new → IsPopped m (Plain old edge below) o (Plain new edge below)
@@ -168,6 +171,7 @@ popped_plain m old new edge below (Some s) h = record {
       (λ k. through_lets_go m old new s h.2 (comes_out m hubs further below.value (at + 1)) k) (slice_get further at);
   notes = refl;
   edges = refl;
+  balance = λ sent b. balanced_popped old new edge below s sent h.1 b;
 }
 
 -- ---- no enabled move
@@ -179,12 +183,6 @@ at_zero at x y z e f = elim (nat_eq at 0) as (λ b. (if b then x else y) ≡ z) 
 pub idle_plain : {T : Type 0} (m : Meaning T) (n : PlainNode T) (edge : Edge) (below : Below T) (asked sent : ℕ) → can_ask_for (edge_view edge) (plain_wanted n 0 asked sent) ≡ false → can_send_over m n edge below.value ≡ false → IsIdle m below.value edge.demand.asked edge.demand.sent → IsIdle m (Plain n edge below) asked sent
 idle_plain m n edge below asked sent a s h at =
     (at_zero at _ (can_ask below.value (at - 1) edge.demand.asked edge.demand.sent) false a (h (at - 1)).0, at_zero at _ (can_send m below.value (at - 1)) false s (h (at - 1)).1)
-
-pub suc_minus : (at : ℕ) → (at + 1) - 1 ≡ at
-suc_minus at = omega arith
-
-pub above_zero : (at : ℕ) (x y : Bool) → (if nat_eq (at + 1) 0 then x else y) ≡ y
-above_zero at x y = grind (arith, nat_tests)
 
 -- an enabled move of the input is one of the tree
 pub busy_below : {T : Type 0} (m : Meaning T) (n : PlainNode T) (edge : Edge) (below : Below T) (asked sent : ℕ) → IsBusy m below.value edge.demand.asked edge.demand.sent → IsBusy m (Plain n edge below) asked sent

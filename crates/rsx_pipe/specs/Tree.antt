@@ -12,6 +12,7 @@ use Rattle.rsx_sources.specs.Range.{range_comes_out, range_waiting, range_popped
 use Rattle.rsx_sources.specs.declared.machine.Front.{Front}
 use Rattle.rsx_plain.specs.Node.{plain_comes_out, plain_waiting, plain_popped, plain_takes, plain_wanted, plain_ended}
 use Rattle.rsx_plain.specs.declared.node.PlainNode.{PlainNode}
+use Rattle.rsx_pipe.specs.Balance.{IsBalanced, IsBalancedAfter}
 use Rattle.rsx_pipe.specs.Edges.{edge_view, EdgeView, can_ask_for, can_pass, asked_up_to, changed_at, carried, carried_at}
 use Rattle.rsx_pipe.specs.declared.edge.Edge.{Edge}
 use Rattle.rsx_pipe.specs.declared.edge.EdgeState.TheVariants.{Live}
@@ -110,6 +111,7 @@ pub record IsLetGo {T : Type 0} (m : Meaning T) (old : Node T) (s : Signal T) (n
   pub value : (hubs : List (Stream T)) (further : List Note) (at : ℕ) → comes_out m hubs further old at ≡ option_map (signal_then s) (comes_out m hubs further new at)
   pub notes : notes_of new ≡ notes_of old
   pub edges : edges new ≡ edges old
+  pub balance : (sent : ℕ) → IsBalanced old sent → IsBalancedAfter s new sent
 
 -- what was popped is what the root offered; where it offered nothing, the tree is as it was
 abbrev pub IsPopped : {T : Type 0} → Meaning T → Node T → Option (Signal T) → Node T → Type 0

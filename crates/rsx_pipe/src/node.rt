@@ -1,6 +1,6 @@
 //! One tree of nodes, with its edges.
 
-ghost use Rattle.std.specs.Prelude.{◌≡◌, ◌∷◌, [], OnOk, OnErr, IfOk, IfErr, Some, true, false, option_map};
+ghost use Rattle.std.specs.Prelude.{◌≡◌, ◌∷◌, [], ℕ, OnOk, OnErr, IfOk, IfErr, Some, true, false, option_map};
 ghost use Rattle.rsx_sources.specs.Machine.{front_of};
 ghost use Rattle.rsx_pipe.specs.Edges.{edge_view, closed_if};
 ghost use Rattle.rsx_types.specs.Meaning.{Meaning};
@@ -8,6 +8,7 @@ ghost use Rattle.rsx_sources.specs.Steps.{IsNotMade};
 ghost use Rattle.rsx_sources.specs.Items.{items_comes_out};
 ghost use Rattle.rsx_sources.specs.Range.{range_comes_out};
 ghost use Rattle.rsx_plain.specs.Node.{plain_comes_out, plain_ended};
+ghost use Rattle.rsx_pipe.specs.Balance.{IsNodeBalanced};
 ghost use Rattle.rsx_pipe.specs.Tree.{IsKept, IsPassedOn, IsAdvancedHere, IsIdleHere, can_send_over, IsSentOver, edges, none_incoming, one_incoming, notes_of};
 
 use crate::edge::Edge;
@@ -35,6 +36,9 @@ impl<T: Drop> Node<T> {
     ghost use Rattle.rsx_types.specs.declared.note.Note.{Note as NoteSpec};
     ghost use Rattle.rsx_sources.specs.Machine.{front_of};
     ghost use Rattle.rsx_sources.specs.Steps.{IsNotMade};
+    ghost use Rattle.std.specs.Prelude.{◌<◌};
+    ghost use Rattle.rsx_types.specs.declared.signal.Signal.{Signal};
+    ghost use Rattle.rsx_pipe.specs.Balance.{IsBalanced, IsWithin};
     ghost use Rattle.rsx_pipe.specs.Tree.{comes_out, notes_of, offers, popped, IsAllClosed, can_ask, can_send, IsKept, IsPopped, IsUnchosen, IsAdvanced, IsIdle, IsBusy, IsAskedAt, IsSentAt, edges};
 
     /// Which signal the root offers, if it does.
@@ -100,6 +104,7 @@ impl<T: Drop> Node<T> {
         ensures notes { notes_of self.new ≡ notes_of self.old }
         ensures ok { OnOk result (can_ask self.old at asked sent ≡ true) }
         ensures effect { OnOk result (IsAskedAt self.old at asked sent self.new) }
+        ensures balance { (s : ℕ) → IsBalanced self.old s → IsBalanced self.new s }
         ensures err { IfErr result (λ e. (e ≡ NotMade.NotEnabled) × (can_ask self.old at asked sent ≡ false)) }
         ensures same { OnErr result (self.new ≡ self.old) }
     {
@@ -127,6 +132,7 @@ impl<T: Drop> Node<T> {
         ensures kept { OnOk result (IsKept (O.meaning ops.now) self.old self.new) }
         ensures ok { OnOk result (can_send (O.meaning ops.now) self.old at ≡ true) }
         ensures effect { OnOk result (IsSentAt (O.meaning ops.now) self.old at self.new) }
+        ensures balance { OnOk result ((s : ℕ) → IsBalanced self.old s → IsBalanced self.new s) }
         ensures err { IfErr result (IsNotMade (can_send (O.meaning ops.now) self.old at)) }
         ensures same { OnErr result (self.new ≡ self.old) }
     {
@@ -157,6 +163,7 @@ impl<T: Drop> Node<T> {
         sent: u64,
     ) -> Result<bool, NoMemory>
         ensures made { IfOk result (λ b. b ≡ true → IsAdvanced (O.meaning ops.now) self.old asked sent self.new) }
+        ensures balance { (s : ℕ) → IsBalanced self.old s → IsBalanced self.new s }
         ensures idle { IfOk result (λ b. b ≡ false → (self.new ≡ self.old) × IsIdle (O.meaning ops.now) self.old asked sent) }
         ensures err { OnErr result (self.new ≡ self.old) }
     {
@@ -179,6 +186,9 @@ impl<T: Drop> Node<T> {
     pub fn is_idle(&self, asked: u64, sent: u64) -> bool
         ensures yes { (m : Meaning T) → result ≡ true → IsIdle m self.now asked sent }
         ensures no { (m : Meaning T) → result ≡ false → IsBusy m self.now asked sent }
+
+        // Idle means that what is asked for is offered.
+        ensures offers { (m : Meaning T) → result ≡ true → IsBalanced self.now sent → sent < asked → IsWithin self.now → (s : Signal T) × (offers m self.now ≡ Some s) }
     {
         match self {
             Node::Items(_) | Node::Range(_) => true,
@@ -241,6 +251,7 @@ fn send_over<O: Ops>(
     ensures notes { OnOk result (notes_of input.new ≡ notes_of input.old) }
     ensures ok { OnOk result (can_send_over (O.meaning ops.now) node.old edge.old input.old ≡ true) }
     ensures effect { OnOk result (IsSentOver (O.meaning ops.now) edge.old input.old node.new edge.new input.new) }
+    ensures balance { OnOk result ((sent : ℕ) → IsNodeBalanced node.old edge.old input.old sent → IsNodeBalanced node.new edge.new input.new sent) }
     ensures err { IfErr result (IsNotMade (can_send_over (O.meaning ops.now) node.old edge.old input.old)) }
     ensures same { OnErr result ((node.new ≡ node.old) × (edge.new ≡ edge.old) × (input.new ≡ input.old)) }
 {
@@ -292,6 +303,7 @@ fn advance_here<O: Ops>(
     sent: u64,
 ) -> Result<bool, NoMemory>
     ensures made { IfOk result (λ b. b ≡ true → IsAdvancedHere (O.meaning ops.now) node.old edge.old input.old asked sent node.new edge.new input.new) }
+    ensures balance { (s : ℕ) → IsNodeBalanced node.old edge.old input.old s → IsNodeBalanced node.new edge.new input.new s }
     ensures idle { IfOk result (λ b. b ≡ false → IsIdleHere (O.meaning ops.now) node.old edge.old input.old asked sent) }
     ensures same { IfOk result (λ b. b ≡ false → (node.new ≡ node.old) × (edge.new ≡ edge.old) × (input.new ≡ input.old)) }
     ensures err { OnErr result ((node.new ≡ node.old) × (edge.new ≡ edge.old) × (input.new ≡ input.old)) }
@@ -359,6 +371,7 @@ fn can_send_signal<T: Drop>(node: &PlainNode<T>, edge: &Edge, input: &Node<T>) -
 pub(crate) fn close_if_ended<T: Drop>(node: &PlainNode<T>, edge: &mut Edge, input: &mut Node<T>)
     ensures kept { (m : Meaning T) → IsKept m input.old input.new }
     ensures closed { edge_view edge.new ∷ edges input.new ≡ closed_if (plain_ended node.now) (edge_view edge.old ∷ edges input.old) }
+    ensures same { plain_ended node.now ≡ false → (edge.new ≡ edge.old) × (input.new ≡ input.old) }
 {
     if node.has_ended() {
         edge.close();
