@@ -89,8 +89,13 @@ balanced_over {T} n n' e e1 e' i i1 i' f s sent named nil rest counts over view 
         let K : ℕ → Type 0 = λ k. IsBalanced i1 k in
         elim h [
           | inl ended ↦ absurd (ended_and_not (plain_ended n) ended was)
-          | inr r ↦ inr (q, not_over (is_over n'.state) refl q, state ∙ r.2, subst B (sym count) (subst P put (c q e.demand.sent (sent + length n.slot) r.3)),
-            subst I (sym (same q).1) (subst K (sym count) (r1 e.demand.sent r.4)))
+          | inr r ↦ inr (
+            q,
+            not_over (is_over n'.state) refl q,
+            state ∙ r.2,
+            subst B (sym count) (subst P put (c q e.demand.sent (sent + length n.slot) r.3)),
+            subst I (sym (same q).1) (subst K (sym count) (r1 e.demand.sent r.4)),
+          )
         ]
       where
         ended_and_not : (b : Bool) → b ≡ true → b ≡ false → ⊥
@@ -178,9 +183,10 @@ offers_more {T} m (Plain' n edge p input) asked sent idle b l w = by_slot (λ i 
   where
     idle_below : IsIdle m input edge.demand.asked edge.demand.sent
     idle_below at =
-        let here = idle (at + 1) in
-        (sym (ap (λ k. can_ask input k edge.demand.asked edge.demand.sent) (suc_minus at)) ∙ (sym (above_zero at _ _) ∙ here.0),
-        sym (ap (λ k. can_send m input k) (suc_minus at)) ∙ (sym (above_zero at _ _) ∙ here.1))
+        let here = idle (at + 1) in (
+          sym (ap (λ k. can_ask input k edge.demand.asked edge.demand.sent) (suc_minus at)) ∙ (sym (above_zero at _ _) ∙ here.0),
+          sym (ap (λ k. can_send m input k) (suc_minus at)) ∙ (sym (above_zero at _ _) ∙ here.1),
+        )
 
     never : (x : Bool) → x ≡ true → x ≡ false → ⊥
     never x y z = cc
@@ -192,15 +198,15 @@ offers_more {T} m (Plain' n edge p input) asked sent idle b l w = by_slot (λ i 
     stuck below empty = elim b [
       | inl e ↦ never (plain_ended n) e (ap has_ending empty)
       | inr r ↦
-        let live : is_live edge.state ≡ true = ap is_live r.2 in
-        let none : length n.slot ≡ 0 = ap length empty in
-        let less : sent + length n.slot < asked = omega (arith, none, l) in
-        let want : edge.demand.sent < plain_wanted n 0 asked sent = wants_more n.state edge.demand.sent (sent + length n.slot) asked sent r.3 r.1 less w.0 in
-        let asks : can_ask_for (edge_view edge) (plain_wanted n 0 asked sent) ≡ false = (idle 0).0 in
-        let room : edge.demand.sent < edge.demand.asked = enough edge.demand.asked (plain_wanted n 0 asked sent) edge.demand.sent (is_live edge.state) live asks want in
-        let s = below idle_below r.4 room w.1 in
-        let goes : can_send_over m n edge input ≡ true = rw (empty, s.1) (can_pass_live (edge_view edge) (front_of s.0) live room) in
-        never (can_send_over m n edge input) goes (idle 0).1
+          let live : is_live edge.state ≡ true = ap is_live r.2 in
+          let none : length n.slot ≡ 0 = ap length empty in
+          let less : sent + length n.slot < asked = omega (arith, none, l) in
+          let want : edge.demand.sent < plain_wanted n 0 asked sent = wants_more n.state edge.demand.sent (sent + length n.slot) asked sent r.3 r.1 less w.0 in
+          let asks : can_ask_for (edge_view edge) (plain_wanted n 0 asked sent) ≡ false = (idle 0).0 in
+          let room : edge.demand.sent < edge.demand.asked = enough edge.demand.asked (plain_wanted n 0 asked sent) edge.demand.sent (is_live edge.state) live asks want in
+          let s = below idle_below r.4 room w.1 in
+          let goes : can_send_over m n edge input ≡ true = rw (empty, s.1) (can_pass_live (edge_view edge) (front_of s.0) live room) in
+          never (can_send_over m n edge input) goes (idle 0).1
     ]
       where
         enough : (a k c : ℕ) (v : Bool) → v ≡ true → v && nat_lt a k ≡ false → c < k → c < a

@@ -13,6 +13,7 @@ use Rattle.rsx_types.specs.declared.stage.Stage.{Stage}
 use Rattle.rsx_plain.specs.Moves.{has_ending}
 use Rattle.rsx_plain.specs.Node.{start_slot}
 use Rattle.rsx_pipe.specs.declared.edge.EdgeState.TheVariants.{Live}
+use Rattle.rsx_pipe.specs.Balance.{IsBalanced}
 use Rattle.rsx_pipe.specs.Edges.{EdgeView, closed_if}
 use Rattle.rsx_pipe.specs.Tree.{comes_out, notes_of, edges}
 
@@ -42,8 +43,10 @@ fresh_below (Plain g b) = closed_if (starts_ended g) (fresh_edge ∷ b.value)
 abbrev pub fresh_edges : {T : Type 0} → Expr T → List EdgeView
 fresh_edges {T} = fold-Expr T (List EdgeView) fresh_below
 
--- what comes out of the tree is what the expression means, nothing is recorded, and its edges are as at the start
+-- what comes out of the tree is what the expression means, nothing is recorded, its edges are as at the start, and its counts
+-- are balanced
 pub record IsBuilt {T : Type 0} (m : Meaning T) (e : Expr T) (node : Node T) : Type 0 where
   pub value : (hubs : List (Stream T)) (joins : List ℕ) (further : List Note) (at leaf : ℕ) → comes_out m hubs further node at ≡ (meant (environment m hubs joins further) e).value at leaf
   pub notes : AllUnrecorded (notes_of node)
   pub edges : edges node ≡ fresh_edges e
+  pub balance : IsBalanced node 0

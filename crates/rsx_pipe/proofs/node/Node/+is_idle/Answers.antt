@@ -24,11 +24,11 @@ returns-else-can_send_signal-clause-no g t c = λ m e.
 pub returns-else-can_send_signal-clause-offers : goal.returns-else-can_send_signal-clause-offers
 returns-else-can_send_signal-clause-offers g t c = λ m e b l w.
     let idle : IsIdle m c.args.self.now c.args.asked c.args.sent =
-        idle_below m c.args.self.now c.in-Plain.node c.in-Plain.edge c.in-Plain.edge c.in-Plain.input c.deref-in-Plain.result.now c.args.asked c.args.sent c.in-Plain.is refl c.deref-in-Plain.ensures
-        (record {
-          ask = ap (λ k. can_ask_for (edge_view c.in-Plain.edge) k) (sym c.want-want.ensures) ∙ (sym c.can_ask.ensures ∙ c.if-can_ask.false);
-          send = ap (λ i. can_send_over m c.in-Plain.node c.in-Plain.edge i) (sym c.deref.ensures) ∙ (sym (c.can_send_signal.ensures m) ∙ c.if-can_send_signal.false);
-        }) (c.is_idle.ensures.yes m e) in
+    idle_below m c.args.self.now c.in-Plain.node c.in-Plain.edge c.in-Plain.edge c.in-Plain.input c.deref-in-Plain.result.now c.args.asked c.args.sent c.in-Plain.is refl c.deref-in-Plain.ensures
+    (record {
+      ask = ap (λ k. can_ask_for (edge_view c.in-Plain.edge) k) (sym c.want-want.ensures) ∙ (sym c.can_ask.ensures ∙ c.if-can_ask.false);
+      send = ap (λ i. can_send_over m c.in-Plain.node c.in-Plain.edge i) (sym c.deref.ensures) ∙ (sym (c.can_send_signal.ensures m) ∙ c.if-can_send_signal.false);
+    }) (c.is_idle.ensures.yes m e) in
     offers_more m c.args.self.now c.args.asked c.args.sent idle b l w
 
 pub returns-in-Items-clause-offers : goal.returns-in-Items-clause-offers
