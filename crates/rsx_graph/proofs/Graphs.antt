@@ -82,14 +82,14 @@ found [] i old lt e = absurd (omega arith)
 found (x ∷ xs) zero old lt e = ap Some e
 found (x ∷ xs) (suc i) old lt e = found xs i old (omega arith) e
 
-past_first : (x y : Bool) (i : ℕ) → (if nat_eq (suc i) 0 then x else y) ≡ y
+pub past_first : (x y : Bool) (i : ℕ) → (if nat_eq (suc i) 0 then x else y) ≡ y
 past_first x y i = other (nat_eq (suc i) 0) (grind (arith, nat_tests))
   where
     other : (b : Bool) → b ≡ false → (if b then x else y) ≡ y
     other true e = cc
     other false e = refl
 
-suc_less : (i : ℕ) → suc i - 1 ≡ i
+pub suc_less : (i : ℕ) → suc i - 1 ≡ i
 suc_less i = omega arith
 
 -- a move at a subscription that is there
@@ -264,6 +264,10 @@ stands_fresh {T} m published e sub b q l a s o =
       orderly = rw q tt;
       unended = λ _. rw q tt;
       waits = λ _. tt;
+      got = λ e. let k = o in cc;
+      unclosed = λ _ c. let k = l in cc;
+      ended = λ _ e. let k = l in cc;
+      balance = λ _. rw s b.balance;
       counted = λ _. rw (q, s) refl;
       most = rw s (omega arith);
       within = rw (s, a) (omega arith);
@@ -284,7 +288,7 @@ fresh_sub m e sub b a s l q o = record {
 
 -- ---- what is owed
 
-values_then-none : {T : Type 0} (published : List (Stream T)) → values_then published [] ≡ published
+pub values_then-none : {T : Type 0} (published : List (Stream T)) → values_then published [] ≡ published
 values_then-none [] = refl
 values_then-none (v ∷ vs) = refl
 

@@ -1,4 +1,5 @@
 pub mod Graphs
 pub mod Moves
 pub mod Sentence
+pub mod Serving
 pub mod Signals

@@ -8,7 +8,8 @@ use Rattle.rsx_types.specs.Stream.{Stream, signals_then}
 use Rattle.rsx_types.specs.declared.note.Note.{Note}
 use Rattle.rsx_types.specs.declared.signal.Signal.{Signal}
 use Rattle.rsx_types.specs.declared.signal.Signal.TheVariants.{Next, Complete, Error}
-use Rattle.rsx_pipe.specs.declared.edge.EdgeState.TheVariants.{Live}
+use Rattle.rsx_pipe.specs.Balance.{IsBalanced, IsBalancedAfter}
+use Rattle.rsx_pipe.specs.declared.edge.EdgeState.TheVariants.{Live, Closed, Ended as EdgeEnded}
 use Rattle.rsx_graph.specs.declared.subscription.Subscription.{Subscription}
 use Rattle.rsx_graph.specs.declared.state.SubscriptionState.{SubscriptionState}
 use Rattle.rsx_graph.specs.declared.state.SubscriptionState.TheVariants.{Open, Ended, Cancelled, Refused}
@@ -25,8 +26,9 @@ use Rattle.rsx_types.specs.declared.names.Tree.TheVariants.{Sub}
 use Rattle.rsx_graph.specs.Pumped.{IsPumped, IsMoved, IsQuiet, IsAwake, Leads, given_all, to}
 use Rattle.rsx_graph.specs.Stands.{Stands, evaluated, owed_from, values_then, send_enabled, take_enabled, has_room, negated, is_empty, IsTake}
 use Rattle.std.proofs.lemmas.List.{append-nil}
-use Rattle.rsx_graph.proofs.Signals.{IsOrderly-front, IsOrderly-more, IsUnended-more, items_in-append, prefix_of_some, map_then-last, map_then-first}
-use Rattle.rsx_pipe.proofs.Trees.{pass_live, front_there, above_root, sent_all, asked_all, above_zero, suc_minus, at_zero}
+use Rattle.rsx_graph.proofs.Signals.{IsOrderly-front, IsOrderly-more, IsUnended-more, IsUnended-last, IsUnended-front, items_in-append, prefix_of_some, map_then-last, map_then-first}
+use Rattle.rsx_pipe.proofs.Trees.{pass_live, front_there, above_root, sent_all, asked_all, at_zero}
+use Rattle.rsx_pipe.proofs.Balances.{above_zero, suc_minus}
 use Rattle.rsx_pipe.specs.Tree.{edges, front_at, ended_at, want_at, can_ask, can_send, can_go, IsAskedAt, IsSentAt, IsAdvanced, IsIdle, IsBusy}
 use Rattle.std.proofs.Common.{◌-◌, Bool, false, None, ◌&&◌, nat_eq, nat_lt}
 use Rattle.rsx_graph.specs.Stands.{IsSend, QueueAfter}
@@ -83,6 +85,10 @@ stands_closed m published old new past past' k dead s p h = record {
   orderly = rw (k.queue, append-nil) p.orderly;
   unended = λ l. absurd (k.root l);
   waits = λ w. absurd (not_live new.state dead w);
+  got = λ e. absurd (dead (rw e tt));
+  unclosed = λ o. absurd (not_live new.state dead o);
+  ended = λ l. absurd (dead l);
+  balance = λ l. absurd (k.root l);
   counted = λ l. absurd (dead l);
   most = rw (p.items, k.sent) h.most;
   within = rw (k.sent, k.asked) h.within;
@@ -107,6 +113,10 @@ stands_uncancelled m published sub past n h =
       orderly = h.orderly;
       unended = h.unended;
       waits = h.waits;
+      got = h.got;
+      unclosed = h.unclosed;
+      ended = h.ended;
+      balance = h.balance;
       counted = h.counted;
       most = h.most;
       within = h.within;
@@ -154,6 +164,10 @@ stands_asked m published old new past n k h = record {
   orderly = rw k.queue h.orderly;
   unended = rw (k.queue, k.edge) h.unended;
   waits = rw k.state h.waits;
+  got = rw k.state h.got;
+  unclosed = rw (k.state, k.edge) h.unclosed;
+  ended = rw (k.state, k.edge, k.queue) h.ended;
+  balance = rw (k.edge, k.tree, k.sent) h.balance;
   counted = rw (k.state, k.queue, k.sent) h.counted;
   most = rw k.sent h.most;
   within = k.within;
@@ -189,6 +203,7 @@ pub record IsMoving {T : Type 0} (m : Meaning T) (old new : Subscription T) : Ty
   pub queue : new.queue ≡ old.queue
   pub root : new.root ≡ old.root
   pub tree : IsKept m old.tree new.tree
+  pub balance : (sent : ℕ) → IsBalanced old.tree sent → IsBalanced new.tree sent
   pub alive : IsAllClosed old.tree → ⊥
 
 pub stands_moved : {T : Type 0} (m : Meaning T) (published : List (Stream T)) (old new : Subscription T) (past : Past T) → IsMoving m old new → Stands m published old past → Stands m published new past
@@ -200,6 +215,10 @@ stands_moved m published old new past k h = record {
   orderly = rw k.queue h.orderly;
   unended = rw (k.queue, k.root) h.unended;
   waits = rw k.state h.waits;
+  got = rw k.state h.got;
+  unclosed = rw (k.state, k.root) h.unclosed;
+  ended = rw (k.state, k.root, k.queue) h.ended;
+  balance = rw k.root (λ l. k.balance old.root.demand.sent (h.balance l));
   counted = rw (k.state, k.queue, k.root) h.counted;
   most = rw k.root h.most;
   within = rw k.root h.within;
@@ -216,6 +235,8 @@ pub record IsSending {T : Type 0} (m : Meaning T) (old new : Subscription T) (s 
   pub asked : new.root.demand.asked ≡ old.root.demand.asked
   pub within : new.root.demand.sent ≤ new.root.demand.asked
   pub edge : new.root.state ≡ Live → (x : T) × (s ≡ Next x)
+  pub shut : new.root.state ≡ Closed → ⊥
+  pub last : new.root.state ≡ EdgeEnded → (x : T) → s ≡ Next x → ⊥
   pub tree : IsLetGo m old.tree s new.tree
 
 pub stands_sent : {T : Type 0} (m : Meaning T) (published : List (Stream T)) (old new : Subscription T) (s : Signal T) (past : Past T) → IsSending m old new s → Stands m published old past → Stands m published new past
@@ -235,6 +256,15 @@ stands_sent {T} m published old new s past k h =
       orderly = rw grown (IsOrderly-more before s open_before);
       unended = λ l. let x = k.edge l in rw (grown, x.1) (IsUnended-more before x.0 open_before);
       waits = λ o. h.waits (sym k.state ∙ o);
+      got = λ e. h.got (sym k.state ∙ e);
+      unclosed = λ _. k.shut;
+      ended = λ _ e u. let x = IsUnended-last before s (rw grown at u) in k.last e x.0 x.1;
+      balance = λ l.
+          let x = k.edge l in
+          let B : Signal T → Type 0 = λ t. IsBalancedAfter t new.tree old.root.demand.sent in
+          let C : ℕ → Type 0 = λ c. IsBalanced new.tree c in
+          let one : new.root.demand.sent ≡ old.root.demand.sent + 1 = k.sent ∙ ap (λ t. old.root.demand.sent + length (items_in (t ∷ []))) x.1 in
+          subst C (sym one) (subst B x.1 (k.tree.balance old.root.demand.sent (h.balance k.was_live)));
       counted = λ _. rw (more_items, length-append, k.sent) (omega (arith, count));
       most = rw k.sent (omega (arith, h.most));
       within = k.within;
@@ -259,6 +289,16 @@ IsUnended-after state a (Next x) h o = IsUnended-more a x (h o)
 IsUnended-after state a Complete h o = cc
 IsUnended-after state a (Error c) h o = cc
 
+ended_after : {T : Type 0} (state : SubscriptionState) (a : List (Signal T)) (s : Signal T) → (state ≡ Ended → IsUnended a → ⊥) → state_after state s ≡ Ended → IsUnended (a ++ s ∷ []) → ⊥
+ended_after state a (Next x) h e u = h e (IsUnended-front a (Next x ∷ []) u)
+ended_after state a Complete h e u = let x = IsUnended-last a Complete u in let k = x.1 in cc
+ended_after state a (Error c) h e u = let x = IsUnended-last a (Error c) u in let k = x.1 in cc
+
+open_before : {T : Type 0} (state : SubscriptionState) (s : Signal T) → state_after state s ≡ Open → state ≡ Open
+open_before state (Next x) e = e
+open_before state Complete e = cc
+open_before state (Error c) e = cc
+
 pub stands_taken : {T : Type 0} (m : Meaning T) (published : List (Stream T)) (old new : Subscription T) (s : Signal T) (past : Past T) → IsTaking old new s → Stands m published old past → Stands m published new (given s past)
 stands_taken {T} m published old new s past k h =
     let live : IsLive old.state = elim (live_or_not old.state) [ inl l ↦ l | inr dead ↦ let e = (h.closed dead).2 in let q = k.queue in cc ] in
@@ -277,6 +317,10 @@ stands_taken {T} m published old new s past k h =
       orderly = rw moved h.orderly;
       unended = rw (moved, k.root) h.unended;
       waits = λ o. IsUnended-after old.state past.received s h.waits (sym k.state ∙ o);
+      got = λ e. ended_after old.state past.received s h.got (sym k.state ∙ e);
+      unclosed = λ o. rw k.root (h.unclosed (open_before old.state s (sym k.state ∙ o)));
+      ended = λ _. rw (moved, k.root) (h.ended live);
+      balance = rw (k.root, k.tree) h.balance;
       counted = λ _. rw k.root (omega (arith, count, front_count, received_count));
       most = rw k.root (omega (arith, count, front_count, received_count));
       within = rw k.root h.within;
@@ -290,9 +334,9 @@ stands_taken {T} m published old new s past k h =
 
 -- ---- what the calls give
 
-pub moved_tree : {T : Type 0} (m : Meaning T) (published : List (Stream T)) (old : Subscription T) (tree : Node T) (past : Past T) → IsKept m old.tree tree → (IsAllClosed old.tree → ⊥) → Stands m published old past → Stands m published (record { tree = tree; root = old.root; queue = old.queue; state = old.state }) past
-moved_tree m published old tree past k alive h =
-    stands_moved m published old (record { tree = tree; root = old.root; queue = old.queue; state = old.state }) past (record { state = refl; queue = refl; root = refl; tree = k; alive = alive }) h
+pub moved_tree : {T : Type 0} (m : Meaning T) (published : List (Stream T)) (old : Subscription T) (tree : Node T) (past : Past T) → IsKept m old.tree tree → ((sent : ℕ) → IsBalanced old.tree sent → IsBalanced tree sent) → (IsAllClosed old.tree → ⊥) → Stands m published old past → Stands m published (record { tree = tree; root = old.root; queue = old.queue; state = old.state }) past
+moved_tree m published old tree past k balance alive h =
+    stands_moved m published old (record { tree = tree; root = old.root; queue = old.queue; state = old.state }) past (record { state = refl; queue = refl; root = refl; tree = k; balance = balance; alive = alive }) h
 
 passed_sent : {T : Type 0} (e : EdgeView) (s : Signal T) → (passed e (front_of s)).sent ≡ e.sent + length (items_in (s ∷ []))
 passed_sent e (Next x) = refl
@@ -309,6 +353,16 @@ passed_live e (Next x) h = (x, refl)
 passed_live e Complete h = cc
 passed_live e (Error c) h = cc
 
+passed_open : {T : Type 0} (e : EdgeView) (s : Signal T) → e.state ≡ Live → (passed e (front_of s)).state ≡ Closed → ⊥
+passed_open e (Next x) l c = cc
+passed_open e Complete l c = cc
+passed_open e (Error k) l c = cc
+
+passed_last : {T : Type 0} (e : EdgeView) (s : Signal T) → e.state ≡ Live → (passed e (front_of s)).state ≡ EdgeEnded → (x : T) → s ≡ Next x → ⊥
+passed_last e (Next y) l c x i = cc
+passed_last e Complete l c x i = cc
+passed_last e (Error k) l c x i = cc
+
 pub is_sending : {T : Type 0} (m : Meaning T) (old new : Subscription T) (s : Signal T) (f : Front) → Some f ≡ option_map front_of (offers m old.tree) → IsLetGo m old.tree s new.tree → can_pass (edge_view old.root) f ≡ true → IsPassed f (edge_view old.root) (edge_view new.root) → new.root.demand.sent ≤ new.root.demand.asked → new.state ≡ old.state → new.queue ≡ old.queue ++ s ∷ [] → IsSending m old new s
 is_sending {T} m old new s f o t can p within st q =
     let offered : Some f ≡ Some (front_of s) = o ∙ ap (λ x. option_map front_of x) t.offered in
@@ -323,6 +377,8 @@ is_sending {T} m old new s f o t can p within st q =
       asked = ap (λ e. e.asked) view ∙ passed_asked (edge_view old.root) s;
       within = within;
       edge = λ l. passed_live (edge_view old.root) s (sym (ap (λ e. e.state) view) ∙ l);
+      shut = λ c. passed_open (edge_view old.root) s (pass_live (edge_view old.root) f can) (sym (ap (λ e. e.state) view) ∙ c);
+      last = λ e. passed_last (edge_view old.root) s (pass_live (edge_view old.root) f can) (sym (ap (λ v. v.state) view) ∙ e);
       tree = t;
     }
 

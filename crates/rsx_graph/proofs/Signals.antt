@@ -28,6 +28,21 @@ IsUnended-more (Next y ∷ a) x h = IsUnended-more a x h
 IsUnended-more (Complete ∷ a) x h = h
 IsUnended-more (Error c ∷ a) x h = h
 
+-- the last signal of those without an ending is an item
+pub IsUnended-last : {T : Type 0} (a : List (Signal T)) (s : Signal T) → IsUnended (a ++ s ∷ []) → (x : T) × (s ≡ Next x)
+IsUnended-last [] (Next x) h = (x, refl)
+IsUnended-last [] Complete h = absurd h
+IsUnended-last [] (Error c) h = absurd h
+IsUnended-last (Next y ∷ a) s h = IsUnended-last a s h
+IsUnended-last (Complete ∷ a) s h = absurd h
+IsUnended-last (Error c ∷ a) s h = absurd h
+
+pub IsUnended-front : {T : Type 0} (a b : List (Signal T)) → IsUnended (a ++ b) → IsUnended a
+IsUnended-front [] b h = tt
+IsUnended-front (Next y ∷ a) b h = IsUnended-front a b h
+IsUnended-front (Complete ∷ a) b h = absurd h
+IsUnended-front (Error c ∷ a) b h = absurd h
+
 pub signals_then-append : {T : Type 0} (a b : List (Signal T)) (v : Stream T) → signals_then (a ++ b) v ≡ signals_then a (signals_then b v)
 signals_then-append [] b v = refl
 signals_then-append (s ∷ a) b v = ap (λ w. signal_then s w) (signals_then-append a b v)

@@ -5,4 +5,5 @@ pub mod Headline
 pub mod History
 pub mod Names
 pub mod Pumped
+pub mod Served
 pub mod Stands

@@ -14,7 +14,8 @@ use Rattle.rsx_types.specs.declared.signal.Ending.{Ending}
 use Rattle.rsx_types.specs.declared.signal.Ending.TheVariants.{Open as NotEnded, Done, Failed}
 use Rattle.rsx_types.specs.declared.signal.Signal.{Signal}
 use Rattle.rsx_sources.specs.Machine.{front_of}
-use Rattle.rsx_pipe.specs.declared.edge.EdgeState.TheVariants.{Live}
+use Rattle.rsx_pipe.specs.Balance.{IsBalanced}
+use Rattle.rsx_pipe.specs.declared.edge.EdgeState.TheVariants.{Live, Closed, Ended as EdgeEnded}
 use Rattle.rsx_graph.specs.declared.state.SubscriptionState.{SubscriptionState}
 use Rattle.rsx_graph.specs.declared.state.SubscriptionState.TheVariants.{Open, Ended, Cancelled, Refused}
 use Rattle.rsx_graph.specs.declared.subscription.Subscription.{Subscription}
@@ -61,11 +62,17 @@ pub record Stands {T : Type 0} (m : Meaning T) (published : List (Stream T)) (su
   pub orderly : IsOrderly (past.received ++ sub.queue)
   pub unended : sub.root.state ≡ Live → IsUnended (past.received ++ sub.queue)
   pub waits : sub.state ≡ Open → IsUnended past.received
+  pub got : sub.state ≡ Ended → IsUnended past.received → ⊥
   -- the items received and those queued are as many as the root edge has sent
   pub counted : IsLive sub.state → length (items_in past.received) + length (items_in sub.queue) ≡ sub.root.demand.sent
   pub most : length (items_in past.received) ≤ sub.root.demand.sent
   pub within : sub.root.demand.sent ≤ sub.root.demand.asked
   pub asked : sub.root.demand.asked ≡ past.asked
+  -- the root edge of an open subscription isn't closed, and while the subscriber is live it ends with an ending alone
+  pub unclosed : sub.state ≡ Open → sub.root.state ≡ Closed → ⊥
+  pub ended : IsLive sub.state → sub.root.state ≡ EdgeEnded → IsUnended (past.received ++ sub.queue) → ⊥
+  -- while the root edge is live, the counts along all edges belong together
+  pub balance : sub.root.state ≡ Live → IsBalanced sub.tree sub.root.demand.sent
   -- not live: the tree is closed, and nothing is queued
   pub closed : (IsLive sub.state → ⊥) → IsAllClosed sub.tree × (sub.root.state ≡ Live → ⊥) × (sub.queue ≡ [])
 

@@ -1,4 +1,4 @@
-//! The headline, for whoever reads nothing else.
+//! The headline, and that idle means delivered, for whoever reads nothing else.
 
 ghost use Rattle.std.specs.Prelude.{List};
 ghost use Rattle.rsx_types.specs.Meaning.{Meaning};
@@ -6,6 +6,8 @@ ghost use Rattle.rsx_graph.specs.declared.subscription.Subscription.{Subscriptio
 ghost use Rattle.rsx_graph.specs.History.{History};
 ghost use Rattle.rsx_graph.specs.Stands.{StandsFor};
 ghost use Rattle.rsx_graph.specs.Headline.{Headline};
+ghost use Rattle.rsx_graph.specs.Pumped.{IsAllQuiet};
+ghost use Rattle.rsx_graph.specs.Served.{AllServed};
 
 use rsx_types::Ops;
 
@@ -18,4 +20,13 @@ use rsx_types::Ops;
 /// of edits and moves, in any order. The function does nothing; its contract is the sentence.
 pub fn headline<O: Ops>()
     ensures { (m : Meaning O.Item) (subs : List (AnySubscription O.Item)) (h : History O.Item) → StandsFor m subs h → Headline m subs h }
+{}
+
+/// Idle means delivered: wherever the subscriptions of a graph stand for a history and no move is enabled, each live
+/// subscriber got the first items of its expression's value, as many as it asked for or as there are; and the ending too,
+/// where it asked for more than there are and the value has one. It holds as long as no edge has carried 2^63-1 items.
+///
+/// `Graph::pump` answers Idle only where no move is enabled. The function does nothing; its contract is the sentence.
+pub fn idle_means_delivered<O: Ops>()
+    ensures { (m : Meaning O.Item) (subs : List (AnySubscription O.Item)) (h : History O.Item) → StandsFor m subs h → IsAllQuiet m subs → AllServed m h.published subs h.pasts }
 {}

@@ -170,7 +170,7 @@ wants_more (DistinctFrom f ks d) taken put asked sent b o l w = dropped_more tak
 not_less : (a b : ℕ) → a < b → nat_lt a b ≡ true
 not_less a b l = grind (arith, nat_tests)
 
-can_pass_live : (e : EdgeView) (f : Front) → is_live e.state ≡ true → e.sent < e.asked → can_pass e f ≡ true
+pub can_pass_live : (e : EdgeView) (f : Front) → is_live e.state ≡ true → e.sent < e.asked → can_pass e f ≡ true
 can_pass_live e Item v l = rw (v, not_less e.sent e.asked l) refl
 can_pass_live e Completion v l = v
 can_pass_live e (Failure c) v l = v

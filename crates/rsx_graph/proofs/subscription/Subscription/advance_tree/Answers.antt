@@ -6,7 +6,7 @@ pub returns-in-Ok-true-clause-stands : goal.returns-in-Ok-true-clause-stands
 returns-in-Ok-true-clause-stands g c = λ published past h.
     let m = g.O.Ops.meaning c.args.ops.now in
     let a = c.in-Ok-true.ensures.made c.in-Ok-true.field-0-test in
-    moved_tree m published c.args.self.now c.advance.new.self past a.kept
+    moved_tree m published c.args.self.now c.advance.new.self past a.kept c.in-Ok-true.ensures.balance
     (advanced_not_closed m c.args.self.now.tree c.advance.new.self c.args.self.now.root.demand.asked c.args.self.now.root.demand.sent a) h
 
 pub returns-in-Ok-true-clause-made : goal.returns-in-Ok-true-clause-made

@@ -5,7 +5,7 @@ use Rattle.rsx_graph.proofs.subscription.Subscription.send.Goals as goal
 pub returns-in-Ok-clause-ok : goal.returns-in-Ok-clause-ok
 returns-in-Ok-clause-ok g c = λ published past h.
     let m = g.O.Ops.meaning c.args.ops.now in
-    moved_tree m published c.args.self.now c.send.new.self past c.in-Ok.ensures.kept
+    moved_tree m published c.args.self.now c.send.new.self past c.in-Ok.ensures.kept c.in-Ok.ensures.balance
     (send_not_closed m c.args.self.now.tree _ c.in-Ok.ensures.ok) h
 
 pub returns-in-Ok-clause-effect : goal.returns-in-Ok-clause-effect
