@@ -6,6 +6,7 @@ ghost use Rattle.rsx_model.specs.Check.{refusal};
 ghost use Rattle.rsx_graph.specs.History.{History, no_history, subscribed, given, with_subscriber, with_past, with_made, cancelled, requested, extended, all_extended, IsSubscribeRefusal, IsMakeRefusal, IsMadeAnswer, Belongs, AllBelong, HasAsked, IsLookRefusal, IsTreeRefusal, IsKnownTree, tree_of};
 ghost use Rattle.rsx_graph.specs.Stands.{Stands, StandsFor, IsRequested, IsOwed, HasNotes, HasNotesAt, IsMade, IsMadeAt, enabled_in_tree, enabled_at};
 ghost use Rattle.rsx_graph.specs.Begun.{IsFresh, IsSubscribed};
+ghost use Rattle.rsx_graph.specs.Served.{AllServed};
 ghost use Rattle.rsx_graph.specs.Pumped.{AllPumped, Spent, HasEnded, AreQuiet, IsAllQuiet, IsAnyAwake};
 
 use crate::deliveries::Deliveries;
@@ -208,6 +209,9 @@ impl<O: Ops> Graph<O> {
     ) -> Result<Pumped, Refusal>
         ensures ops { self.new.ops ≡ self.old.ops }
         ensures pumped { (n : ℕ) × HasEnded (O.meaning self.old.ops) budget n self.new.subscriptions.items result × AllPumped (O.meaning self.old.ops) n self.old.subscriptions.items out.old.signals self.new.subscriptions.items out.new.signals }
+
+        // Idle means delivered.
+        ensures served { IfOk result (λ p. p ≡ Pumped.Idle → length self.new.subscriptions.items ≤ 256 → (h : History O.Item) → StandsFor (O.meaning self.old.ops) self.new.subscriptions.items h → AllServed (O.meaning self.old.ops) h.published self.new.subscriptions.items h.pasts) }
     {
         let mut left = budget;
         let count = self.subscriptions.len().min(256) as u32;

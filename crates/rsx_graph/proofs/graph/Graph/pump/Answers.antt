@@ -1,5 +1,8 @@
-use Rattle.std.proofs.Common.{◌+◌, ◌≤◌, ◌<◌, ◌∙◌, ap, arith, length}
+use Rattle.std.proofs.Common.{◌+◌, ◌≤◌, ◌<◌, ◌∙◌, ap, arith, length, subst}
+use Rattle.rsx_types.specs.Meaning.{Meaning}
+use Rattle.rsx_graph.specs.Pumped.{IsAllQuiet}
 use Rattle.rsx_graph.proofs.Graphs.{pumped_on, pumped_same, all_quiet, quiet_same}
+use Rattle.rsx_graph.proofs.Serving.{all_served}
 use Rattle.rsx_graph.proofs.graph.Graph.pump.Goals as goal
 
 pub returns-in-Err-clause-pumped : goal.returns-in-Err-clause-pumped
@@ -51,3 +54,17 @@ returns-then-left-gt0-clause-pumped g c =
       ),
       i.pumped.2,
     )
+
+pub returns-then-left-gt0-clause-served : goal.returns-then-left-gt0-clause-served
+returns-then-left-gt0-clause-served g c = λ _ few h s.
+    let i = c.loop-at.invariant in
+    let m = g.O.Ops.meaning c.args.self.now.ops in
+    let all : length c.loop-at.self.subscriptions.items ≤ c.loop-at.at =
+    let l = c.len.ensures in let n = i.count in let k = c.min-count.ensures in let t = c.loop-at-test.false in omega (arith, l, n, k, t, few) in
+    all_served m h.published c.loop-at.self.subscriptions.items h.pasts (all_quiet m c.loop-at.self.subscriptions.items c.loop-at.at all (i.quiet c.if-left-gt0.true)) s
+
+pub returns-in-true-clause-served : goal.returns-in-true-clause-served
+returns-in-true-clause-served g c = λ _ few h s.
+    let m = g.O.Ops.meaning c.args.self.now.ops in
+    let P : Meaning _ → Type 0 = λ n. IsAllQuiet n c.loop-at.self.subscriptions.items in
+    all_served m h.published c.loop-at.self.subscriptions.items h.pasts (subst P (ap g.O.Ops.meaning c.loop-at.invariant.ops) (c.is_idle.ensures.yes c.in-true.is)) s
