@@ -1,9 +1,9 @@
 -- What the functions of the demonstration answer. Each has a number; faults are 1 where a result leaves the type i64,
 -- 2 for an item of the wrong kind, 3 for an expansion of more than 1,024 items, and 4 for a number that isn't listed.
-use Rattle.std.specs.Prelude.{ℕ, ℤ, pos, negsuc, ◌+◌, ◌+ℤ◌, ◌%◌, ◌^◌, ◌==◌, Bool, List, [], ◌∷◌, map, Result, Ok, Err, if◌then◌else◌, nat_lt, neg_ℤ, unsigned_abs, int_lt}
+use Rattle.std.specs.Prelude.{ℕ, ℤ, pos, negsuc, ◌+◌, ◌+ℤ◌, ◌%◌, ◌^◌, ◌==◌, Bool, true, false, List, [], ◌∷◌, map, Result, Ok, Err, if◌then◌else◌, nat_lt, neg_ℤ, unsigned_abs, int_lt}
 use Rattle.std.specs.List.{range_with_len}
 use Rattle.std.specs.Int.{int_max, int_rem_euclid, cast_unsigned, cast_signed, w64}
-use Rattle.rsx_types.specs.Meaning.{Meaning}
+use Rattle.rsx_types.specs.Meaning.{Meaning, Allocates}
 use Rattle.rsx_types.specs.declared.fault.Fault.{Fault}
 use Rattle.rsx_types.specs.declared.fault.Fault.TheVariants.{Code}
 use Rattle.rsx_demo.specs.declared.val.Val.{Val}
@@ -98,4 +98,19 @@ demo_meaning = record {
   list_of = list_item;
   tagged = λ key x. list_item (is.Int (cast_signed w64 key) ∷ x ∷ []);
   number = λ z. is.Int z;
+}
+
+-- a new list and a copy of a list take memory, and a number takes none
+abbrev pub demo_allocates : Allocates
+demo_allocates = record {
+  mapped = false;
+  tested = false;
+  folded = false;
+  keyed = false;
+  expanded = true;
+  row_of = true;
+  list_of = true;
+  tagged = true;
+  copied = true;
+  number = false;
 }

@@ -5,7 +5,7 @@ ghost use Rattle.std.specs.Int.{w64, int_max, int_rem_euclid, cast_unsigned};
 ghost use Rattle.std.specs.List.{range_with_len};
 ghost use Rattle.std.specs.Option.{SomeIff};
 ghost use Rattle.rsx_types.specs.Meaning.{AnswersList};
-ghost use Rattle.rsx_demo.specs.Demo.{exactly, of_number, both_numbers, number_item, size_of, list_item, up_to, demo_meaning};
+ghost use Rattle.rsx_demo.specs.Demo.{exactly, of_number, both_numbers, number_item, size_of, list_item, up_to, demo_meaning, demo_allocates};
 ghost use Rattle.rsx_demo.specs.Lawful.{demo_lawful};
 
 use crate::val::{Val, Vals, copy_items, copy_val};
@@ -163,6 +163,8 @@ impl Ops for Demo {
     type Item = Val;
 
     ghost meaning = { λ _. demo_meaning };
+
+    ghost allocates = { λ _. demo_allocates };
 
     fn map(&self, _alloc: Global, f: u16, x: &Val) -> Result<Val, Fault> {
         match f {

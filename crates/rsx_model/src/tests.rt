@@ -1,6 +1,7 @@
 //! The worked rows over numbers, and each public function once.
 
-ghost use Rattle.std.specs.Prelude.{◌≡◌, IfOk};
+ghost use Rattle.std.specs.Prelude.{◌≡◌, IfOk, true};
+ghost use Rattle.rsx_types.specs.Meaning.{none_allocates};
 ghost use Rattle.rsx_model.specs.Numbers.{numbers, numbers_lawful, total};
 
 use crate::{
@@ -29,6 +30,9 @@ impl Ops for Numbers {
     type Item = i64;
 
     ghost meaning = { λ _. numbers };
+
+    // A sum that leaves 64 bits is refused.
+    ghost allocates = { λ _. record none_allocates { list_of = true } };
 
     fn map(&self, _alloc: Global, f: u16, x: &i64) -> Result<i64, Fault> {
         match f {

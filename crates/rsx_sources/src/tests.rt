@@ -16,8 +16,11 @@ impl Ops for Numbers {
 
     ghost use Rattle.std.specs.Prelude.{Err, pos};
     ghost use Rattle.std.proofs.Common.{rules};
+    ghost use Rattle.rsx_types.specs.Meaning.{none_allocates};
 
     ghost meaning = { λ o. record { mapped = λ f x. Err 7; tested = λ f x. Err 7; folded = λ f a x. Err 7; keyed = λ f x. Err 7; expanded = λ f x. Err 7; row_of = λ xs. pos 0; list_of = λ xs. pos 0; tagged = λ k x. x; number = λ v. v } };
+
+    ghost allocates = { λ o. none_allocates };
 
     ghost lawful = { λ o. record { map_fault = λ f x. Prim.search rules; test_fault = λ f x. Prim.search rules; fold_fault = λ f a x. Prim.search rules; key_fault = λ f x. Prim.search rules; expansion = λ f x. Prim.search rules } };
 

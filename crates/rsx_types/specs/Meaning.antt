@@ -1,5 +1,5 @@
 -- What a caller's functions mean, want of memory aside.
-use Rattle.std.specs.Prelude.{◌≡◌, ℕ, ℤ, ◌≤◌, Bool, List, length, Result, Ok, Err, ⊤, Vec, vec_items}
+use Rattle.std.specs.Prelude.{◌≡◌, ℕ, ℤ, ◌≤◌, Bool, false, List, length, Result, Ok, Err, ⊤, Vec, vec_items}
 use Rattle.rsx_types.specs.declared.fault.Fault.{Fault}
 use Rattle.rsx_types.specs.declared.fault.Fault.TheVariants.{Code, Memory}
 
@@ -42,3 +42,20 @@ abbrev pub AnswersList : {A Z : Type 0} → Result (Vec A Z) Fault → Result (L
 AnswersList (Ok v) m = m ≡ Ok (vec_items v)
 AnswersList (Err (Code c)) m = m ≡ Err c
 AnswersList (Err Memory) m = ⊤
+
+-- which of a caller's functions may allocate, and so may answer want of memory
+pub record Allocates : Type 0 where
+  pub mapped : Bool
+  pub tested : Bool
+  pub folded : Bool
+  pub keyed : Bool
+  pub expanded : Bool
+  pub row_of : Bool
+  pub list_of : Bool
+  pub tagged : Bool
+  pub copied : Bool
+  pub number : Bool
+
+-- none of them
+abbrev pub none_allocates : Allocates
+none_allocates = record { mapped = false; tested = false; folded = false; keyed = false; expanded = false; row_of = false; list_of = false; tagged = false; copied = false; number = false }

@@ -9,7 +9,7 @@ loop-item-preserved g c =
     let whole = items_then c.args.out.items (taken_items c.args.left c.args.items.now c.args.ending) in
     let s = makes_more c.loop-item.out.items c.loop-item.left c.loop-item.item-index c.args.items.now c.item-item.result c.args.ending whole c.loop-item.invariant.items c.loop-item.invariant.ending c.if-left-eq0.false c.item-item.is c.loop-item-test.true in
     record {
-      items = rw (c.in_ok-push.ensures.items, c.in_ok-copy.ensures) s.items;
+      items = rw (c.in_ok-push.ensures.items, c.in_ok-copy.ensures.answer) s.items;
       ending = s.ending;
     }
 
