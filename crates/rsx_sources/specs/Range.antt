@@ -1,10 +1,10 @@
 -- What still comes out of a range.
-use Rattle.std.specs.Prelude.{◌≡◌, ℕ, ℤ, pos, ◌+◌, ◌-◌, ◌+ℤ◌, List, map, Option, Some}
+use Rattle.std.specs.Prelude.{◌≡◌, ℕ, ℤ, pos, ◌+◌, ◌-◌, ◌+ℤ◌, Bool, List, map, Option, Some}
 use Rattle.std.specs.List.{range_with_len}
 use Rattle.rsx_types.specs.declared.note.Note.{Note}
 use Rattle.rsx_types.specs.declared.signal.Signal.{Signal}
 use Rattle.rsx_types.specs.declared.signal.Signal.TheVariants.{Next, Complete, Error}
-use Rattle.rsx_types.specs.Meaning.{Meaning}
+use Rattle.rsx_types.specs.Meaning.{Meaning, Allocates}
 use Rattle.rsx_types.specs.Plain.{listed}
 use Rattle.rsx_types.specs.Stream.{Stream}
 use Rattle.rsx_sources.specs.Machine.{Incoming, quiet, first_of}
@@ -31,3 +31,7 @@ abbrev pub range_popped : {T : Type 0} → RangeNode T → Signal T → RangeNod
 range_popped old (Next x) new = (new.first ≡ old.first) × (new.count ≡ old.count) × (new.at ≡ old.at + 1)
 range_popped old Complete new = new ≡ old
 range_popped old (Error c) new = ⊥
+
+-- a range makes its items when they are taken out
+abbrev pub range_pop_allocates : {T : Type 0} → Allocates → RangeNode T → Bool
+range_pop_allocates a n = a.number

@@ -56,7 +56,7 @@ impl<T: Drop> ItemsNode<T> {
 impl<T: Drop> Machine for ItemsNode<T> {
     type Item = T;
 
-    ghost use Rattle.std.specs.Prelude.{◌≡◌, true, false, IfOk, IfErr, OnOk, OnErr};
+    ghost use Rattle.std.specs.Prelude.{◌≡◌, true, false, IfOk, IfErr, IsOk, OnOk, OnErr};
     ghost use Rattle.rsx_types.specs.Notes.{note_then};
     ghost use Rattle.rsx_types.specs.declared.note.Note.{Note};
     ghost use Rattle.rsx_types.specs.declared.note.Note.TheVariants.{Nothing};
@@ -82,6 +82,10 @@ impl<T: Drop> Machine for ItemsNode<T> {
 
     ghost popped = { items_popped };
 
+    ghost pop_allocates = { λ a n. false };
+
+    ghost signal_allocates = { λ a n. false };
+
     fn front(&self) -> Option<Front> {
         if self.reversed.is_empty() {
             Some(Front::Completion)
@@ -97,6 +101,7 @@ impl<T: Drop> Machine for ItemsNode<T> {
     ) -> Result<Option<Signal<T>>, NoMemory>
         ensures ok { IfOk result (λ s. IsPopped (items_comes_out (O.meaning ops.now)) items_popped (items_waiting (O.meaning ops.now) self.old) self.old s self.new) }
         ensures err { OnErr result (self.new ≡ self.old) }
+        ensures memory { IsOk result }
     {
         match self.reversed.pop() {
             Some(item) => Ok(Some(Signal::Next(item))),
@@ -128,6 +133,7 @@ impl<T: Drop> Machine for ItemsNode<T> {
         ensures ok { OnOk result (TakesIn (items_comes_out (O.meaning ops.now)) self.old input signal self.new) }
         ensures enabled { OnOk result (false ≡ true) }
         ensures err { IfErr result (IsNotTaken false signal) }
+        ensures memory { IfErr result (λ e. e ≡ NotTaken.Busy signal) }
         ensures same { OnErr result (self.new ≡ self.old) }
     {
         Err(NotTaken::Busy(signal))

@@ -1,7 +1,7 @@
 //! What every node of a tree promises.
 
 ghost use Rattle.std.specs.Prelude.{◌≡◌, ℕ, Bool, Option};
-ghost use Rattle.rsx_types.specs.Meaning.{Meaning};
+ghost use Rattle.rsx_types.specs.Meaning.{Meaning, Allocates};
 ghost use Rattle.rsx_types.specs.Stream.{Stream};
 ghost use Rattle.rsx_types.specs.declared.note.Note.{Note};
 ghost use Rattle.rsx_types.specs.declared.signal.Signal.{Signal};
@@ -75,7 +75,13 @@ pub trait Machine {
     /// The second is the first without the signal that it offered.
     ghost popped: { Self → Signal Self.Item → Self → Type 0 };
 
-    ghost use Rattle.std.specs.Prelude.{◌≡◌, OnOk, OnErr, IfOk, IfErr, MatchResult, Some, None, true, false, option_map, length, ◌≤◌};
+    /// Whether taking the offered signal out may allocate, where these of the caller's functions may.
+    ghost pop_allocates: { Allocates → Self → Bool };
+
+    /// Whether taking a signal in may allocate, where these of the caller's functions may.
+    ghost signal_allocates: { Allocates → Self → Bool };
+
+    ghost use Rattle.std.specs.Prelude.{◌≡◌, OnOk, OnErr, IfOk, IfErr, IsOk, MatchResult, Some, None, true, false, option_map, length, ◌≤◌};
     ghost use Rattle.rsx_types.specs.Notes.{note_then};
     ghost use Rattle.rsx_sources.specs.Machine.{Keeps, TakesIn, Records, LetsGo, front_of, incoming_of};
     ghost use Rattle.rsx_sources.specs.Steps.{IsPopped, IsNotTaken, IsNotMade};
@@ -84,14 +90,16 @@ pub trait Machine {
     fn front(&self) -> Option<Front>
         ensures { (m : Meaning Self.Item) → result ≡ option_map front_of (waiting m self.now) };
 
-    /// Takes the offered signal out of the node. For want of memory it stays, and the node is unchanged.
+    /// Takes the offered signal out of the node. For want of memory it stays, and the node is unchanged; that comes only
+    /// where `pop_allocates`.
     fn pop_front<O: Ops<Item = Self::Item>>(
         &mut self,
         alloc: Global,
         ops: &O,
     ) -> Result<Option<Signal<Self::Item>>, NoMemory>
         ensures ok { IfOk result (λ s. IsPopped (comes_out (O.meaning ops.now)) popped (waiting (O.meaning ops.now) self.old) self.old s self.new) }
-        ensures err { OnErr result (self.new ≡ self.old) };
+        ensures err { OnErr result (self.new ≡ self.old) }
+        ensures memory { pop_allocates (O.allocates ops.now) self.old ≡ false → IsOk result };
 
     /// Puts the signal back that was popped last. Then the node is as it was before that.
     fn put_back(&mut self, signal: Signal<Self::Item>)
@@ -102,6 +110,7 @@ pub trait Machine {
         ensures { result ≡ takes self.now input };
 
     /// Takes a signal of an input. Where it can't, or for want of memory, the signal comes back and the node is unchanged.
+    /// Want of memory comes only where `signal_allocates`.
     fn on_signal<O: Ops<Item = Self::Item>>(
         &mut self,
         alloc: Global,
@@ -113,6 +122,7 @@ pub trait Machine {
         ensures enabled { OnOk result (takes self.old input ≡ true) }
         ensures recorded { recorded self.new ≡ recorded self.old }
         ensures err { IfErr result (IsNotTaken (takes self.old input) signal) }
+        ensures memory { signal_allocates (O.allocates ops.now) self.old ≡ false → IfErr result (λ e. e ≡ NotTaken.Busy signal) }
         ensures same { OnErr result (self.new ≡ self.old) };
 
     /// Learns that so much is asked of the node.

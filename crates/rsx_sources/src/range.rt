@@ -62,13 +62,13 @@ fn number_at(first: i64, at: u64) -> i64
 impl<T: Drop> Machine for RangeNode<T> {
     type Item = T;
 
-    ghost use Rattle.std.specs.Prelude.{◌≡◌, true, false, IfOk, IfErr, OnOk, OnErr};
+    ghost use Rattle.std.specs.Prelude.{◌≡◌, true, false, IfOk, IfErr, IsOk, OnOk, OnErr};
     ghost use Rattle.rsx_types.specs.Notes.{note_then};
     ghost use Rattle.rsx_types.specs.declared.note.Note.{Note};
     ghost use Rattle.rsx_types.specs.declared.note.Note.TheVariants.{Nothing};
     ghost use Rattle.rsx_sources.specs.Machine.{TakesIn, Keeps, Records, incoming_of};
     ghost use Rattle.rsx_sources.specs.Steps.{IsPopped, IsNotTaken, IsNotMade};
-    ghost use Rattle.rsx_sources.specs.Range.{range_comes_out, range_waiting, range_popped};
+    ghost use Rattle.rsx_sources.specs.Range.{range_comes_out, range_waiting, range_popped, range_pop_allocates};
     ghost use Rattle.rsx_sources.specs.declared.range.RangeNode.{RangeNode};
 
     ghost comes_out = { range_comes_out };
@@ -89,6 +89,10 @@ impl<T: Drop> Machine for RangeNode<T> {
 
     ghost popped = { range_popped };
 
+    ghost pop_allocates = { range_pop_allocates };
+
+    ghost signal_allocates = { λ a n. false };
+
     fn front(&self) -> Option<Front> {
         if self.at < self.count {
             Some(Front::Item)
@@ -104,6 +108,7 @@ impl<T: Drop> Machine for RangeNode<T> {
     ) -> Result<Option<Signal<T>>, NoMemory>
         ensures ok { IfOk result (λ s. IsPopped (range_comes_out (O.meaning ops.now)) range_popped (range_waiting (O.meaning ops.now) self.old) self.old s self.new) }
         ensures err { OnErr result (self.new ≡ self.old) }
+        ensures memory { range_pop_allocates (O.allocates ops.now) self.old ≡ false → IsOk result }
     {
         if self.at == self.count {
             return Ok(Some(Signal::Complete));
@@ -137,6 +142,7 @@ impl<T: Drop> Machine for RangeNode<T> {
         ensures ok { OnOk result (TakesIn (range_comes_out (O.meaning ops.now)) self.old input signal self.new) }
         ensures enabled { OnOk result (false ≡ true) }
         ensures err { IfErr result (IsNotTaken false signal) }
+        ensures memory { IfErr result (λ e. e ≡ NotTaken.Busy signal) }
         ensures same { OnErr result (self.new ≡ self.old) }
     {
         Err(NotTaken::Busy(signal))
