@@ -5,13 +5,13 @@ use Rattle.rsx_types.specs.declared.signal.Signal.{Signal}
 use Rattle.rsx_types.specs.declared.signal.Signal.TheVariants.{Next, Complete}
 use Rattle.rsx_types.specs.declared.stage.Stage.{Stage}
 use Rattle.rsx_types.specs.declared.stage.Stage.TheVariants.{Map, Filter, Take, Scan, Buffer, Distinct}
-use Rattle.rsx_types.specs.Meaning.{Meaning}
+use Rattle.rsx_types.specs.Meaning.{Meaning, Allocates}
 use Rattle.rsx_types.specs.Stream.{Stream, signals_then}
 use Rattle.rsx_sources.specs.Machine.{Incoming, quiet}
 use Rattle.rsx_sources.specs.Slot.{is_nil}
 use Rattle.rsx_plain.specs.declared.node.PlainNode.{PlainNode}
 use Rattle.rsx_plain.specs.Moves.{has_ending}
-use Rattle.rsx_plain.specs.State.{plain_from, wanted_from}
+use Rattle.rsx_plain.specs.State.{plain_from, wanted_from, allocates_from}
 
 -- what stands in the slot at the start: the seed of `scan`, and the completion of `take 0`
 abbrev pub start_slot : {T : Type 0} → Stage T → List (Signal T)
@@ -46,3 +46,7 @@ plain_popped old s new = (old.slot ≡ s ∷ new.slot) × (old.state ≡ new.sta
 -- whether an ending stands in the slot, in front or behind an item
 abbrev pub plain_ended : {T : Type 0} → PlainNode T → Bool
 plain_ended n = has_ending n.slot
+
+-- whether taking a signal may allocate
+abbrev pub plain_allocates : {T : Type 0} → Allocates → PlainNode T → Bool
+plain_allocates a n = allocates_from a n.state

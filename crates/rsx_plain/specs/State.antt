@@ -1,11 +1,11 @@
 -- The plain operators from a state.
-use Rattle.std.specs.Prelude.{◌≡◌, ◌<◌, ℕ, ◌+◌, ◌-◌, ◌*◌, min, Bool, true, false, nat_eq, nat_le, if◌then◌else◌, List, [], ◌∷◌, ◌++◌, length, Result, Ok, Err}
+use Rattle.std.specs.Prelude.{◌≡◌, ◌<◌, ℕ, ◌+◌, ◌-◌, ◌*◌, min, Bool, true, false, ◌||◌, nat_eq, nat_le, if◌then◌else◌, List, [], ◌∷◌, ◌++◌, length, Result, Ok, Err}
 use Rattle.std.specs.Set.{is_member}
 use Rattle.rsx_types.specs.declared.signal.Signal.{Signal}
 use Rattle.rsx_types.specs.declared.signal.Signal.TheVariants.{Next, Complete, Error}
 use Rattle.rsx_types.specs.declared.stage.Stage.{Stage}
 use Rattle.rsx_types.specs.declared.stage.Stage.TheVariants.{Map, Filter, Take, Scan, Buffer, Distinct}
-use Rattle.rsx_types.specs.Meaning.{Meaning}
+use Rattle.rsx_types.specs.Meaning.{Meaning, Allocates}
 use Rattle.rsx_types.specs.Plain.{mapped_items, filtered_items, taken_items, scanned_items, buffered_items, distinct_items}
 use Rattle.rsx_types.specs.Stream.{Stream}
 use Rattle.rsx_plain.specs.Moves.{Moves, EndsLast, has_ending}
@@ -107,6 +107,20 @@ is_over (TakeFrom n left) = nat_eq left 0
 is_over (ScanFrom f a) = false
 is_over (BufferFrom n xs) = false
 is_over (DistinctFrom f ks n) = false
+
+-- a `scan` keeps a copy of its last accumulation
+abbrev pub scan_allocates : Allocates → Bool
+scan_allocates a = a.folded || a.copied
+
+-- whether taking a signal may allocate, where these of the caller's functions may: a `buffer` keeps a list, and a
+-- `distinct` keeps keys
+abbrev pub allocates_from : {T : Type 0} → Allocates → PlainState T → Bool
+allocates_from a (MapFrom f) = a.mapped
+allocates_from a (FilterFrom f n) = a.tested
+allocates_from a (TakeFrom n left) = false
+allocates_from a (ScanFrom f x) = scan_allocates a
+allocates_from a (BufferFrom n xs) = true
+allocates_from a (DistinctFrom f ks n) = true
 
 -- what is to be asked of the input in all, where so much is asked of the operator and so much came out of it
 abbrev pub wanted_from : {T : Type 0} → PlainState T → ℕ → ℕ → ℕ

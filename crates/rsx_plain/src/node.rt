@@ -71,13 +71,13 @@ impl<T: Drop> PlainNode<T> {
 impl<T: Drop> Machine for PlainNode<T> {
     type Item = T;
 
-    ghost use Rattle.std.specs.Prelude.{◌≡◌, true, false, IfOk, IfErr, OnOk, OnErr};
+    ghost use Rattle.std.specs.Prelude.{◌≡◌, true, false, IfOk, IfErr, IsOk, OnOk, OnErr};
     ghost use Rattle.rsx_types.specs.Notes.{note_then};
     ghost use Rattle.rsx_types.specs.declared.note.Note.{Note};
     ghost use Rattle.rsx_types.specs.declared.note.Note.TheVariants.{Nothing};
     ghost use Rattle.rsx_sources.specs.Machine.{TakesIn, Keeps, Records, incoming_of};
     ghost use Rattle.rsx_sources.specs.Steps.{IsPopped, IsNotTaken, IsNotMade};
-    ghost use Rattle.rsx_plain.specs.Node.{plain_comes_out, plain_waiting, plain_takes, plain_wanted, plain_popped, plain_ended};
+    ghost use Rattle.rsx_plain.specs.Node.{plain_comes_out, plain_waiting, plain_takes, plain_wanted, plain_popped, plain_ended, plain_allocates};
     ghost use Rattle.rsx_plain.specs.State.{is_over, after_signal, Counts};
     ghost use Rattle.rsx_plain.specs.declared.node.PlainNode.{PlainNode};
 
@@ -99,6 +99,10 @@ impl<T: Drop> Machine for PlainNode<T> {
 
     ghost popped = { plain_popped };
 
+    ghost pop_allocates = { λ a n. false };
+
+    ghost signal_allocates = { plain_allocates };
+
     fn front(&self) -> Option<Front> {
         match self.slot.front() {
             Some(Signal::Next(_)) => Some(Front::Item),
@@ -115,6 +119,7 @@ impl<T: Drop> Machine for PlainNode<T> {
     ) -> Result<Option<Signal<T>>, NoMemory>
         ensures ok { IfOk result (λ s. IsPopped (plain_comes_out (O.meaning ops.now)) plain_popped (plain_waiting (O.meaning ops.now) self.old) self.old s self.new) }
         ensures err { OnErr result (self.new ≡ self.old) }
+        ensures memory { IsOk result }
     {
         match self.slot.pop() {
             Some(signal) => Ok(Some(signal)),
@@ -147,6 +152,7 @@ impl<T: Drop> Machine for PlainNode<T> {
         ensures state { OnOk result (self.new.state ≡ after_signal (O.meaning ops.now) self.old.state signal) }
         ensures counts { OnOk result (Counts self.old.state signal self.new.slot self.new.state) }
         ensures err { IfErr result (IsNotTaken (plain_takes self.old input) signal) }
+        ensures memory { plain_allocates (O.allocates ops.now) self.old ≡ false → IfErr result (λ e. e ≡ NotTaken.Busy signal) }
         ensures same { OnErr result (self.new ≡ self.old) }
     {
         if input != 0 || !self.slot.is_empty() {

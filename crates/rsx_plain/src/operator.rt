@@ -1,7 +1,7 @@
 //! What a plain operator does with the signals of its input.
 
 ghost use Rattle.std.specs.Prelude.{◌≡◌, Bool};
-ghost use Rattle.rsx_types.specs.Meaning.{Meaning};
+ghost use Rattle.rsx_types.specs.Meaning.{Meaning, Allocates};
 ghost use Rattle.rsx_types.specs.Stream.{Stream};
 ghost use Rattle.rsx_types.specs.declared.signal.Signal.{Signal};
 
@@ -12,7 +12,8 @@ use std::alloc::Global;
 /// A plain operator that has taken some of its input.
 ///
 /// `from` is the operator from here on, as a function of what still comes in, and `after` the operator once it has taken
-/// a signal. `over` says where nothing more of the input matters.
+/// a signal. `over` says where nothing more of the input matters, and `allocates` whether taking a signal may allocate, where
+/// these of the caller's functions may.
 pub trait Operator<T: Drop> {
     ghost from: { Meaning T → Self → Stream T → Stream T };
 
@@ -20,12 +21,15 @@ pub trait Operator<T: Drop> {
 
     ghost over: { Self → Bool };
 
-    ghost use Rattle.std.specs.Prelude.{◌≡◌, true, [], OnOk, OnErr, IfOk, IfErr};
+    ghost allocates: { Allocates → Self → Bool };
+
+    ghost use Rattle.std.specs.Prelude.{◌≡◌, true, false, [], OnOk, OnErr, IfOk, IfErr, IsOk};
     ghost use Rattle.rsx_types.specs.Stream.{items_then};
     ghost use Rattle.rsx_plain.specs.Moves.{Moves, EndsLast, has_ending};
 
     /// Takes a signal of the input, and puts the answer into the empty slot. Where the operator is over now, its ending is
-    /// part of the answer. For want of memory the signal comes back, and nothing has changed.
+    /// part of the answer. For want of memory the signal comes back, and nothing has changed; that comes only where it
+    /// `allocates`.
     fn react<O: Ops<Item = T>>(
         &mut self,
         alloc: Global,
@@ -39,6 +43,7 @@ pub trait Operator<T: Drop> {
         ensures over { OnOk result (over self.new ≡ true → has_ending out.new ≡ true) }
         ensures state { OnOk result (self.new ≡ after (O.meaning ops.now) self.old signal) }
         ensures err { IfErr result (λ s. s ≡ signal) }
+        ensures memory { allocates (O.allocates ops.now) self.old ≡ false → IsOk result }
         ensures same { OnErr result (self.new ≡ self.old) }
         ensures none { OnErr result (out.new ≡ []) };
 

@@ -1,12 +1,12 @@
 //! What each plain operator puts into its empty out slot for a signal of its input.
 
-ghost use Rattle.std.specs.Prelude.{◌≡◌, ◌≢◌, ◌-◌, true, List, [], ◌∷◌, IfErr, OnOk, OnErr};
+ghost use Rattle.std.specs.Prelude.{◌≡◌, ◌≢◌, ◌-◌, true, false, List, [], ◌∷◌, IfErr, IsOk, OnOk, OnErr};
 ghost use Rattle.rsx_types.specs.declared.signal.Signal.{Signal};
 ghost use Rattle.rsx_types.specs.declared.signal.Signal.TheVariants.{Next, Complete};
 ghost use Rattle.rsx_types.specs.Plain.{taken_items};
 ghost use Rattle.rsx_types.specs.Stream.{Stream, signals_then};
 ghost use Rattle.rsx_plain.specs.Moves.{EndsLast, has_ending};
-ghost use Rattle.rsx_plain.specs.State.{Reacts};
+ghost use Rattle.rsx_plain.specs.State.{Reacts, scan_allocates};
 ghost use Rattle.rsx_plain.specs.declared.state.PlainState.TheVariants.{Map as MapFrom, Filter as FilterFrom, Scan as ScanFrom, Buffer as BufferFrom, Distinct as DistinctFrom};
 
 use crate::keys::Keys;
@@ -19,7 +19,8 @@ use std::alloc::Global;
 pub(crate) const MOST: u64 = 0x7fff_ffff_ffff_ffff;
 
 /// The answers of the operators. Each takes a signal of the input, puts what comes out into the empty slot, and moves the
-/// operator's state. For want of memory the signal comes back, and nothing has changed.
+/// operator's state. For want of memory the signal comes back, and nothing has changed; `mapped`, `filtered` and `scanned`
+/// take no memory but what the caller's functions take.
 pub(crate) trait Reactions<T: Drop> {
     /// The signals of the slot.
     ghost slot: { Self → List (Signal T) };
@@ -35,6 +36,7 @@ pub(crate) trait Reactions<T: Drop> {
         requires { slot self.old ≡ [] }
         ensures ok { OnOk result (Reacts (O.meaning ops.now) (MapFrom function) (Next item) (slot self.new) (MapFrom function)) }
         ensures err { IfErr result (λ s. s ≡ Next item) }
+        ensures memory { (O.allocates ops.now).mapped ≡ false → IsOk result }
         ensures none { OnErr result (slot self.new ≡ []) };
 
     /// Puts an item whose test is true, and counts one whose test is false.
@@ -50,6 +52,7 @@ pub(crate) trait Reactions<T: Drop> {
         ensures ok { OnOk result (Reacts (O.meaning ops.now) (FilterFrom function dropped.old) (Next item) (slot self.new) (FilterFrom function dropped.new)) }
         ensures err { IfErr result (λ s. s ≡ Next item) }
         ensures same { OnErr result (dropped.new ≡ dropped.old) }
+        ensures memory { (O.allocates ops.now).tested ≡ false → IsOk result }
         ensures none { OnErr result (slot self.new ≡ []) };
 
     /// Puts an item of those that are left, and with the last one the completion.
@@ -74,6 +77,7 @@ pub(crate) trait Reactions<T: Drop> {
         ensures ok { OnOk result (Reacts (O.meaning ops.now) (ScanFrom function last.old) (Next item) (slot self.new) (ScanFrom function last.new)) }
         ensures err { IfErr result (λ s. s ≡ Next item) }
         ensures same { OnErr result (last.new ≡ last.old) }
+        ensures memory { scan_allocates (O.allocates ops.now) ≡ false → IsOk result }
         ensures none { OnErr result (slot self.new ≡ []) };
 
     /// Gathers an item, and puts the list once it is full. Without memory for the list the item goes back.
@@ -135,6 +139,7 @@ impl<T: Drop> Reactions<T> for OutSlot<T> {
         requires { self.old ≡ [] }
         ensures ok { OnOk result (Reacts (O.meaning ops.now) (MapFrom function) (Next item) self.new (MapFrom function)) }
         ensures err { IfErr result (λ s. s ≡ Next item) }
+        ensures memory { (O.allocates ops.now).mapped ≡ false → IsOk result }
         ensures none { OnErr result (self.new ≡ []) }
     {
         match ops.map(alloc, function, &item) {
@@ -157,6 +162,7 @@ impl<T: Drop> Reactions<T> for OutSlot<T> {
         ensures ok { OnOk result (Reacts (O.meaning ops.now) (FilterFrom function dropped.old) (Next item) self.new (FilterFrom function dropped.new)) }
         ensures err { IfErr result (λ s. s ≡ Next item) }
         ensures same { OnErr result (dropped.new ≡ dropped.old) }
+        ensures memory { (O.allocates ops.now).tested ≡ false → IsOk result }
         ensures none { OnErr result (self.new ≡ []) }
     {
         match ops.test(function, &item) {
@@ -195,6 +201,7 @@ impl<T: Drop> Reactions<T> for OutSlot<T> {
         ensures ok { OnOk result (Reacts (O.meaning ops.now) (ScanFrom function last.old) (Next item) self.new (ScanFrom function last.new)) }
         ensures err { IfErr result (λ s. s ≡ Next item) }
         ensures same { OnErr result (last.new ≡ last.old) }
+        ensures memory { scan_allocates (O.allocates ops.now) ≡ false → IsOk result }
         ensures none { OnErr result (self.new ≡ []) }
     {
         match ops.fold(alloc, function, last, &item) {

@@ -1,9 +1,9 @@
 //! The states of the plain operators.
 
-ghost use Rattle.std.specs.Prelude.{◌≡◌, true, [], IfOk, IfErr, OnOk, OnErr};
+ghost use Rattle.std.specs.Prelude.{◌≡◌, true, false, [], IfOk, IfErr, IsOk, OnOk, OnErr};
 ghost use Rattle.rsx_types.specs.Stream.{items_then};
 ghost use Rattle.rsx_plain.specs.Moves.{Moves, EndsLast, has_ending};
-ghost use Rattle.rsx_plain.specs.State.{plain_from, plain_start, after_signal, is_over, wanted_from};
+ghost use Rattle.rsx_plain.specs.State.{plain_from, plain_start, after_signal, is_over, allocates_from, wanted_from};
 
 use crate::keys::Keys;
 use crate::operator::Operator;
@@ -135,6 +135,8 @@ impl<T: Drop> Operator<T> for PlainState<T> {
 
     ghost over = { is_over };
 
+    ghost allocates = { allocates_from };
+
     #[tactic(auto, using(crate::proofs::Taken::taken_ended))]
     fn react<O: Ops<Item = T>>(
         &mut self,
@@ -149,6 +151,7 @@ impl<T: Drop> Operator<T> for PlainState<T> {
         ensures over { OnOk result (is_over self.new ≡ true → has_ending out.new ≡ true) }
         ensures state { OnOk result (self.new ≡ after_signal (O.meaning ops.now) self.old signal) }
         ensures err { IfErr result (λ s. s ≡ signal) }
+        ensures memory { allocates_from (O.allocates ops.now) self.old ≡ false → IsOk result }
         ensures same { OnErr result (self.new ≡ self.old) }
         ensures none { OnErr result (out.new ≡ []) }
     {
