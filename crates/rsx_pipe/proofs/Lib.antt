@@ -1,3 +1,4 @@
 pub mod Balances
 pub mod Builds
+pub mod Memory
 pub mod Trees

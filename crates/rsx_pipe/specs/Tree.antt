@@ -1,16 +1,16 @@
 -- One tree of nodes: what still comes out of it, what it recorded, and which of its moves are enabled.
-use Rattle.std.specs.Prelude.{◌≡◌, ◌⊎◌, ℕ, ◌+◌, ◌-◌, Bool, true, false, ◌&&◌, nat_eq, if◌then◌else◌, List, [], ◌∷◌, Option, Some, None, option_map, option_and_then, slice_get}
+use Rattle.std.specs.Prelude.{◌≡◌, ◌⊎◌, ℕ, ◌+◌, ◌-◌, Bool, true, false, ◌&&◌, ◌||◌, nat_eq, if◌then◌else◌, List, [], ◌∷◌, Option, Some, None, option_map, option_and_then, slice_get}
 use Rattle.rsx_types.specs.declared.signal.Ending.TheVariants.{Open}
 use Rattle.rsx_types.specs.declared.signal.Signal.{Signal}
 use Rattle.rsx_types.specs.declared.note.Note.{Note}
 use Rattle.rsx_types.specs.declared.note.Note.TheVariants.{Nothing}
-use Rattle.rsx_types.specs.Meaning.{Meaning}
+use Rattle.rsx_types.specs.Meaning.{Meaning, Allocates}
 use Rattle.rsx_types.specs.Stream.{Stream, ended_by, signal_then}
 use Rattle.rsx_sources.specs.Machine.{Incoming, front_of}
 use Rattle.rsx_sources.specs.Items.{items_comes_out, items_waiting, items_popped}
-use Rattle.rsx_sources.specs.Range.{range_comes_out, range_waiting, range_popped}
+use Rattle.rsx_sources.specs.Range.{range_comes_out, range_waiting, range_popped, range_pop_allocates}
 use Rattle.rsx_sources.specs.declared.machine.Front.{Front}
-use Rattle.rsx_plain.specs.Node.{plain_comes_out, plain_waiting, plain_popped, plain_takes, plain_wanted, plain_ended}
+use Rattle.rsx_plain.specs.Node.{plain_comes_out, plain_waiting, plain_popped, plain_takes, plain_wanted, plain_ended, plain_allocates}
 use Rattle.rsx_plain.specs.declared.node.PlainNode.{PlainNode}
 use Rattle.rsx_pipe.specs.Balance.{IsBalanced, IsBalancedAfter}
 use Rattle.rsx_pipe.specs.Edges.{edge_view, EdgeView, can_ask_for, can_pass, asked_up_to, changed_at, carried, carried_at}
@@ -155,6 +155,22 @@ abbrev pub ended_at : {T : Type 0} → Node T → ℕ → Bool
 ended_at (Items n) at = false
 ended_at (Range n) at = false
 ended_at (Plain' n edge p input) at = if nat_eq at 0 then plain_ended n else ended_at input (at - 1)
+
+-- whether taking the signal out that the root of a tree offers may allocate, where these of the caller's functions may
+abbrev pub pop_allocates : {T : Type 0} → Allocates → Node T → Bool
+pop_allocates a (Items n) = false
+pop_allocates a (Range n) = range_pop_allocates a n
+pop_allocates a (Plain' n edge p input) = false
+
+-- whether a Send from this input to this node may allocate
+abbrev pub send_over_allocates : {T : Type 0} → Allocates → PlainNode T → Node T → Bool
+send_over_allocates a n input = pop_allocates a input || plain_allocates a n
+
+-- whether a Send over the edge `at` below the root may allocate
+abbrev pub send_allocates : {T : Type 0} → Allocates → Node T → ℕ → Bool
+send_allocates a (Items n) at = false
+send_allocates a (Range n) at = false
+send_allocates a (Plain' n edge p input) at = if nat_eq at 0 then send_over_allocates a n input else send_allocates a input (at - 1)
 
 -- an Ask: what was asked of the edge rose to what its receiver wants, and no other edge changed
 abbrev pub IsAskedAt : {T : Type 0} → Node T → ℕ → ℕ → ℕ → Node T → Type 0

@@ -1,6 +1,6 @@
 //! One tree of nodes, with its edges.
 
-ghost use Rattle.std.specs.Prelude.{◌≡◌, ◌∷◌, [], ℕ, OnOk, OnErr, IfOk, IfErr, Some, true, false, option_map};
+ghost use Rattle.std.specs.Prelude.{◌≡◌, ◌∷◌, [], ℕ, OnOk, OnErr, IfOk, IfErr, IsOk, Some, true, false, option_map};
 ghost use Rattle.rsx_sources.specs.Machine.{front_of};
 ghost use Rattle.rsx_pipe.specs.Edges.{edge_view, closed_if};
 ghost use Rattle.rsx_types.specs.Meaning.{Meaning};
@@ -9,7 +9,7 @@ ghost use Rattle.rsx_sources.specs.Items.{items_comes_out};
 ghost use Rattle.rsx_sources.specs.Range.{range_comes_out};
 ghost use Rattle.rsx_plain.specs.Node.{plain_comes_out, plain_ended};
 ghost use Rattle.rsx_pipe.specs.Balance.{IsNodeBalanced};
-ghost use Rattle.rsx_pipe.specs.Tree.{IsKept, IsPassedOn, IsAdvancedHere, IsIdleHere, can_send_over, IsSentOver, edges, none_incoming, one_incoming, notes_of};
+ghost use Rattle.rsx_pipe.specs.Tree.{IsKept, IsPassedOn, IsAdvancedHere, IsIdleHere, can_send_over, send_over_allocates, IsSentOver, edges, none_incoming, one_incoming, notes_of};
 
 use crate::edge::Edge;
 use rsx_plain::PlainNode;
@@ -29,7 +29,7 @@ pub enum Node<T> {
 }
 
 impl<T: Drop> Node<T> {
-    ghost use Rattle.std.specs.Prelude.{◌≡◌, Option, Some, None, IsTrue, true, false, OnOk, OnErr, IfOk, IfErr, option_map, List, ℕ, map};
+    ghost use Rattle.std.specs.Prelude.{◌≡◌, Option, Some, None, IsTrue, true, false, OnOk, OnErr, IfOk, IfErr, IsOk, option_map, List, ℕ, map};
     ghost use Rattle.rsx_pipe.specs.Edges.{closed_view};
     ghost use Rattle.rsx_types.specs.Meaning.{Meaning};
     ghost use Rattle.rsx_types.specs.Stream.{Stream};
@@ -39,7 +39,7 @@ impl<T: Drop> Node<T> {
     ghost use Rattle.std.specs.Prelude.{◌<◌};
     ghost use Rattle.rsx_types.specs.declared.signal.Signal.{Signal};
     ghost use Rattle.rsx_pipe.specs.Balance.{IsBalanced, IsWithin};
-    ghost use Rattle.rsx_pipe.specs.Tree.{comes_out, notes_of, offers, popped, IsAllClosed, can_ask, can_send, IsKept, IsPopped, IsUnchosen, IsAdvanced, IsIdle, IsBusy, IsAskedAt, IsSentAt, edges};
+    ghost use Rattle.rsx_pipe.specs.Tree.{comes_out, notes_of, offers, popped, IsAllClosed, can_ask, can_send, IsKept, IsPopped, IsUnchosen, IsAdvanced, IsIdle, IsBusy, IsAskedAt, IsSentAt, edges, pop_allocates, send_allocates};
 
     /// Which signal the root offers, if it does.
     pub fn front(&self) -> Option<Front>
@@ -52,7 +52,8 @@ impl<T: Drop> Node<T> {
         }
     }
 
-    /// Takes the signal that the root offers.
+    /// Takes the signal that the root offers. It answers [`NoMemory`] only where the root makes its item now and that may
+    /// allocate; then the tree is as it was.
     pub fn pop<O: Ops<Item = T>>(
         &mut self,
         alloc: Global,
@@ -60,6 +61,7 @@ impl<T: Drop> Node<T> {
     ) -> Result<Option<Signal<T>>, NoMemory>
         ensures ok { IfOk result (λ s. IsPopped (O.meaning ops.now) self.old s self.new) }
         ensures err { OnErr result (self.new ≡ self.old) }
+        ensures memory { pop_allocates (O.allocates ops.now) self.old ≡ false → IsOk result }
     {
         match self {
             Node::Items(node) => node.pop_front(alloc, ops),
@@ -127,13 +129,15 @@ impl<T: Drop> Node<T> {
         }
     }
 
-    /// Moves the signal that the edge `at` below the root can carry to its receiver.
+    /// Moves the signal that the edge `at` below the root can carry to its receiver. It answers [`NotMade::NoMemory`] only
+    /// where a function of the caller that it calls may allocate, or where the receiver is a `buffer` or a `distinct`.
     pub fn send<O: Ops<Item = T>>(&mut self, alloc: Global, ops: &O, at: u32) -> Result<(), NotMade>
         ensures kept { OnOk result (IsKept (O.meaning ops.now) self.old self.new) }
         ensures ok { OnOk result (can_send (O.meaning ops.now) self.old at ≡ true) }
         ensures effect { OnOk result (IsSentAt (O.meaning ops.now) self.old at self.new) }
         ensures balance { OnOk result ((s : ℕ) → IsBalanced self.old s → IsBalanced self.new s) }
         ensures err { IfErr result (IsNotMade (can_send (O.meaning ops.now) self.old at)) }
+        ensures memory { send_allocates (O.allocates ops.now) self.old at ≡ false → IfErr result (λ e. e ≡ NotMade.NotEnabled) }
         ensures same { OnErr result (self.new ≡ self.old) }
     {
         match self {
@@ -166,6 +170,7 @@ impl<T: Drop> Node<T> {
         ensures balance { (s : ℕ) → IsBalanced self.old s → IsBalanced self.new s }
         ensures idle { IfOk result (λ b. b ≡ false → (self.new ≡ self.old) × IsIdle (O.meaning ops.now) self.old asked sent) }
         ensures err { OnErr result (self.new ≡ self.old) }
+        ensures memory { ((at : ℕ) → send_allocates (O.allocates ops.now) self.old at ≡ false) → IsOk result }
     {
         match self {
             Node::Items(_) | Node::Range(_) => Ok(false),
@@ -253,6 +258,7 @@ fn send_over<O: Ops>(
     ensures effect { OnOk result (IsSentOver (O.meaning ops.now) edge.old input.old node.new edge.new input.new) }
     ensures balance { OnOk result ((sent : ℕ) → IsNodeBalanced node.old edge.old input.old sent → IsNodeBalanced node.new edge.new input.new sent) }
     ensures err { IfErr result (IsNotMade (can_send_over (O.meaning ops.now) node.old edge.old input.old)) }
+    ensures memory { send_over_allocates (O.allocates ops.now) node.old input.old ≡ false → IfErr result (λ e. e ≡ NotMade.NotEnabled) }
     ensures same { OnErr result ((node.new ≡ node.old) × (edge.new ≡ edge.old) × (input.new ≡ input.old)) }
 {
     let Some(front) = input.front() else {
@@ -307,6 +313,7 @@ fn advance_here<O: Ops>(
     ensures idle { IfOk result (λ b. b ≡ false → IsIdleHere (O.meaning ops.now) node.old edge.old input.old asked sent) }
     ensures same { IfOk result (λ b. b ≡ false → (node.new ≡ node.old) × (edge.new ≡ edge.old) × (input.new ≡ input.old)) }
     ensures err { OnErr result ((node.new ≡ node.old) × (edge.new ≡ edge.old) × (input.new ≡ input.old)) }
+    ensures memory { send_over_allocates (O.allocates ops.now) node.old input.old ≡ false → IsOk result }
 {
     let want = node.want(0, asked, sent);
     if edge.can_ask(want) {
