@@ -1,4 +1,5 @@
 pub mod Balances
 pub mod Builds
+pub mod Drives
 pub mod Memory
 pub mod Trees

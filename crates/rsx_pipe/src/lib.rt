@@ -6,7 +6,8 @@
 //! - [`build`]: the tree of an expression.
 //!
 //! The definitions stand in `specs/`, apart from the code: `Edges` (edges, and how a move changes them), `Tree` (what a
-//! tree still puts out, which moves are enabled and what they change) and `Built` (a tree that has just begun).
+//! tree still puts out, which moves are enabled and what they change), `Driven` (a run of such moves), `Balance` (the counts
+//! along the edges) and `Built` (a tree that has just begun).
 
 pub mod build;
 pub mod edge;

@@ -40,6 +40,7 @@ impl<T: Drop> Node<T> {
     ghost use Rattle.rsx_types.specs.declared.signal.Signal.{Signal};
     ghost use Rattle.rsx_pipe.specs.Balance.{IsBalanced, IsWithin};
     ghost use Rattle.rsx_pipe.specs.Tree.{comes_out, notes_of, offers, popped, IsAllClosed, can_ask, can_send, IsKept, IsPopped, IsUnchosen, IsAdvanced, IsIdle, IsBusy, IsAskedAt, IsSentAt, edges, pop_allocates, send_allocates};
+    ghost use Rattle.rsx_pipe.specs.Driven.{IsDriven, Spent};
 
     /// Which signal the root offers, if it does.
     pub fn front(&self) -> Option<Front>
@@ -185,6 +186,30 @@ impl<T: Drop> Node<T> {
                 Err(NoMemory) => Err(NoMemory),
             },
         }
+    }
+
+    /// Makes enabled moves of the tree until none is enabled or `budget` moves were made, and answers how many of the budget
+    /// are left; `asked` and `sent` are those of the root's own edge. For want of memory the moves made before stand.
+    pub fn drive<O: Ops<Item = T>>(
+        &mut self,
+        alloc: Global,
+        ops: &O,
+        asked: u64,
+        sent: u64,
+        budget: u32,
+    ) -> Result<u32, NoMemory>
+        ensures driven { (n : ℕ) × Spent budget n result × IsDriven (O.meaning ops.now) n self.old asked sent self.new }
+        ensures balance { (s : ℕ) → IsBalanced self.old s → IsBalanced self.new s }
+        ensures idle { IfOk result (λ left. 0 < left → IsIdle (O.meaning ops.now) self.new asked sent) }
+    {
+        for made in 0..budget {
+            match self.advance(alloc, ops, asked, sent) {
+                Ok(true) => {}
+                Ok(false) => return Ok(budget - made),
+                Err(NoMemory) => return Err(NoMemory),
+            }
+        }
+        Ok(0)
     }
 
     /// Whether no move of the tree is enabled; `asked` and `sent` are those of the root's own edge.
