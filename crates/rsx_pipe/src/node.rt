@@ -202,14 +202,33 @@ impl<T: Drop> Node<T> {
         ensures balance { (s : ℕ) → IsBalanced self.old s → IsBalanced self.new s }
         ensures idle { IfOk result (λ left. 0 < left → IsIdle (O.meaning ops.now) self.new asked sent) }
     {
-        for made in 0..budget {
-            match self.advance(alloc, ops, asked, sent) {
-                Ok(true) => {}
-                Ok(false) => return Ok(budget - made),
-                Err(NoMemory) => return Err(NoMemory),
+        match self {
+            Node::Items(_) | Node::Range(_) => Ok(budget),
+            Node::Plain(node, edge, input) => {
+                let mut left = budget;
+                'moves: while left > 0 {
+                    left = match input.drive(
+                        alloc,
+                        ops,
+                        edge.demand.asked,
+                        edge.demand.sent,
+                        left,
+                    ) {
+                        Ok(left) => left,
+                        Err(NoMemory) => return Err(NoMemory),
+                    };
+                    if left == 0 {
+                        return Ok(0);
+                    }
+                    match advance_here(alloc, ops, node, edge, input, asked, sent) {
+                        Ok(true) => left -= 1,
+                        Ok(false) => return Ok(left),
+                        Err(NoMemory) => return Err(NoMemory),
+                    }
+                }
+                Ok(0)
             }
         }
-        Ok(0)
     }
 
     /// Whether no move of the tree is enabled; `asked` and `sent` are those of the root's own edge.
