@@ -1,29 +1,39 @@
 -- Where an ending stands in the slot.
-use Rattle.std.proofs.Common.{◌≡◌, ℕ, ◌+◌, true, false, List, [], ◌∷◌, drop, Some, None, refl, sym, ap, ◌∙◌}
+use Rattle.std.proofs.Common.{◌≡◌, ℕ, ◌≤◌, Bool, true, false, ◌||◌, List, [], ◌∷◌, length, Some, None, refl, sym, ap, ◌∙◌, arith}
 use Rattle.std.specs.Prelude.{slice_get}
 use Rattle.std.specs.List.{list_any}
 use Rattle.rsx_types.specs.declared.signal.Signal.{Signal}
 use Rattle.rsx_types.specs.declared.signal.Signal.TheVariants.{Next, Complete, Error}
 use Rattle.rsx_types.specs.Stream.{Stream, item_then, signals_then}
-use Rattle.rsx_plain.specs.Moves.{is_ending}
-use Rattle.rsx_plain.proofs.Residuals.{get_drop, get_none}
+use Rattle.rsx_plain.specs.Moves.{is_ending, has_ending}
 
--- an ending at the index `at`, where the signals before it are none
-pub ending_at : {T : Type 0} (slot : List (Signal T)) (at : ℕ) (s : Signal T) → list_any is_ending (drop at slot) ≡ list_any is_ending slot → Some s ≡ slice_get slot at → is_ending s ≡ true → true ≡ list_any is_ending slot
-ending_at slot at s i h e =
-    let d : list_any is_ending (drop at slot) ≡ list_any is_ending (s ∷ drop (at + 1) slot) = ap (list_any is_ending) (get_drop at slot s h) in
-    let t : list_any is_ending (s ∷ drop (at + 1) slot) ≡ true = rw e refl in
-    sym (sym i ∙ d ∙ t)
+-- ---- at most two signals, one by one
 
--- an item is none
-pub item_at : {T : Type 0} (slot : List (Signal T)) (at : ℕ) (s : Signal T) → list_any is_ending (drop at slot) ≡ list_any is_ending slot → Some s ≡ slice_get slot at → is_ending s ≡ false → list_any is_ending (drop (at + 1) slot) ≡ list_any is_ending slot
-item_at slot at s i h e =
-    let d : list_any is_ending (drop at slot) ≡ list_any is_ending (s ∷ drop (at + 1) slot) = ap (list_any is_ending) (get_drop at slot s h) in
-    let t : list_any is_ending (s ∷ drop (at + 1) slot) ≡ list_any is_ending (drop (at + 1) slot) = rw e refl in
-    sym t ∙ sym d ∙ i
+pub ended_none : {T : Type 0} (slot : List (Signal T)) → None ≡ slice_get slot 0 → false ≡ has_ending slot
+ended_none [] e = refl
+ended_none (a ∷ ss) e = cc
 
-pub nothing_at : {T : Type 0} (slot : List (Signal T)) (at : ℕ) → list_any is_ending (drop at slot) ≡ list_any is_ending slot → None ≡ slice_get slot at → list_any is_ending (drop (at + 1) slot) ≡ list_any is_ending slot
-nothing_at slot at i h = ap (list_any is_ending) (sym (get_none at slot h)) ∙ i
+pub ended_first : {T : Type 0} (slot : List (Signal T)) (s : Signal T) → Some s ≡ slice_get slot 0 → is_ending s ≡ true → true ≡ has_ending slot
+ended_first [] s g e = cc
+ended_first (a ∷ ss) s g e = let t : is_ending a ≡ true = cc in rw t refl
+
+pub ended_one : {T : Type 0} (slot : List (Signal T)) (s : Signal T) → Some s ≡ slice_get slot 0 → is_ending s ≡ false → None ≡ slice_get slot 1 → false ≡ has_ending slot
+ended_one [] s g e n = cc
+ended_one (a ∷ []) s g e n = let t : is_ending a ≡ false = cc in rw t refl
+ended_one (a ∷ b ∷ ss) s g e n = cc
+
+pub ended_second : {T : Type 0} (slot : List (Signal T)) (s t : Signal T) (ends : Bool) → length slot ≤ 2 → Some s ≡ slice_get slot 0 → is_ending s ≡ false → Some t ≡ slice_get slot 1 → is_ending t ≡ ends → ends ≡ has_ending slot
+ended_second [] s t ends l g e h f = cc
+ended_second (a ∷ []) s t ends l g e h f = cc
+ended_second (a ∷ b ∷ []) s t ends l g e h f =
+    let first : is_ending a ≡ false = cc in
+    let second : is_ending b ≡ ends = cc in
+    rw (first, second) (alone ends)
+  where
+    alone : (x : Bool) → x ≡ x || false
+    alone true = refl
+    alone false = refl
+ended_second (a ∷ b ∷ c ∷ ss) s t ends l g e h f = absurd (omega (arith, l))
 
 -- where an ending stands in the slot, what the operator would give does not come out
 pub ended_slot : {T : Type 0} (slot : List (Signal T)) (v w : Stream T) → true ≡ list_any is_ending slot → signals_then slot v ≡ signals_then slot w

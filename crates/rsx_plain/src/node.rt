@@ -52,19 +52,22 @@ impl<T: Drop> PlainNode<T> {
 
     /// Whether a completion or a failure stands in the slot, in front or behind an item: then what still comes in no longer
     /// matters, and the input can be closed.
+    #[inline]
     pub fn has_ended(&self) -> bool
         ensures ended { result ≡ plain_ended self.now }
         ensures closed { IsTrue result → (m : Meaning T) (inc other : Incoming T) (further : Note) → plain_comes_out m self.now inc further ≡ plain_comes_out m self.now other further }
     {
-        for at in 0..self.slot.len() {
-            match self.slot.get(at) {
-                Some(Signal::Next(_)) => {}
-                Some(Signal::Complete) => return true,
-                Some(Signal::Error(_)) => return true,
-                None => {}
-            }
+        match self.slot.front() {
+            None => false,
+            Some(Signal::Complete) => true,
+            Some(Signal::Error(_)) => true,
+            Some(Signal::Next(_)) => match self.slot.get(1) {
+                None => false,
+                Some(Signal::Complete) => true,
+                Some(Signal::Error(_)) => true,
+                Some(Signal::Next(_)) => false,
+            },
         }
-        false
     }
 }
 
@@ -103,6 +106,7 @@ impl<T: Drop> Machine for PlainNode<T> {
 
     ghost signal_allocates = { plain_allocates };
 
+    #[inline]
     fn front(&self) -> Option<Front> {
         match self.slot.front() {
             Some(Signal::Next(_)) => Some(Front::Item),
@@ -112,6 +116,7 @@ impl<T: Drop> Machine for PlainNode<T> {
         }
     }
 
+    #[inline]
     fn pop_front<O: Ops<Item = T>>(
         &mut self,
         alloc: Global,
@@ -127,6 +132,7 @@ impl<T: Drop> Machine for PlainNode<T> {
         }
     }
 
+    #[inline]
     fn put_back(&mut self, signal: Signal<T>)
         ensures { (before : PlainNode T) → plain_popped before signal self.old → self.new ≡ before }
     {
@@ -135,6 +141,7 @@ impl<T: Drop> Machine for PlainNode<T> {
         }
     }
 
+    #[inline]
     fn can_take(&self, input: u32) -> bool {
         input == 0 && self.slot.is_empty()
     }
@@ -197,6 +204,7 @@ impl<T: Drop> Machine for PlainNode<T> {
         Err(NotMade::NotEnabled)
     }
 
+    #[inline]
     fn want(&self, input: u32, asked: u64, sent: u64) -> u64 {
         self.state.want(asked, sent)
     }

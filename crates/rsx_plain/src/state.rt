@@ -104,6 +104,7 @@ impl<T: Drop> PlainState<T> {
     /// What is to be asked of the input in all, where `asked` is asked of the operator and `sent` items came out of it:
     /// an item that was dropped is asked for again, `take` asks for no more than it lets through, the seed of `scan` needs
     /// no item, and a list needs as many as it has. It is at most 2^63 - 1 where `asked` is.
+    #[inline]
     pub fn want(&self, asked: u64, sent: u64) -> u64
         ensures { result ≡ wanted_from self.now asked sent }
     {

@@ -1,6 +1,6 @@
 //! The out slot of a node.
 
-ghost use Rattle.std.specs.Prelude.{◌≡◌, ◌∷◌, [], ◌++◌, ◌<◌, ◌==◌, length, slice_get};
+ghost use Rattle.std.specs.Prelude.{◌≡◌, ◌∷◌, [], ◌++◌, ◌<◌, ◌≤◌, ◌==◌, length, slice_get};
 ghost use Rattle.std.specs.Option.{option_copied, option_to_list};
 ghost use Rattle.rsx_sources.specs.Slot.{is_nil};
 
@@ -29,6 +29,7 @@ impl<T> Model for OutSlot<T> {
 
 impl<T: Drop> OutSlot<T> {
     /// An empty slot. It takes no memory.
+    #[inline]
     pub fn new() -> OutSlot<T>
         ensures { result ≡ [] }
     {
@@ -39,6 +40,7 @@ impl<T: Drop> OutSlot<T> {
     }
 
     /// Whether there is no signal.
+    #[inline]
     pub fn is_empty(&self) -> bool
         ensures { result ≡ is_nil self.now }
     {
@@ -46,6 +48,7 @@ impl<T: Drop> OutSlot<T> {
     }
 
     /// The number of signals: 0 to 2.
+    #[inline]
     pub fn len(&self) -> usize
         ensures { result ≡ length self.now }
     {
@@ -57,6 +60,7 @@ impl<T: Drop> OutSlot<T> {
     }
 
     /// The oldest signal, if there is one.
+    #[inline]
     pub fn front(&self) -> Option<&Signal<T>>
         ensures { option_copied result ≡ slice_get self.now 0 }
     {
@@ -64,8 +68,10 @@ impl<T: Drop> OutSlot<T> {
     }
 
     /// The signal with so many older ones before it, if there is one.
+    #[inline]
     pub fn get(&self, at: usize) -> Option<&Signal<T>>
-        ensures { option_copied result ≡ slice_get self.now at }
+        ensures signal { option_copied result ≡ slice_get self.now at }
+        ensures most { length self.now ≤ 2 }
     {
         match at {
             0 => self.front(),
@@ -75,6 +81,7 @@ impl<T: Drop> OutSlot<T> {
     }
 
     /// Puts a signal behind the others. It takes no memory.
+    #[inline]
     pub fn put(&mut self, signal: Signal<T>)
         requires { length self.old < 2 }
         ensures { self.new ≡ self.old ++ signal ∷ [] }
@@ -87,17 +94,22 @@ impl<T: Drop> OutSlot<T> {
     }
 
     /// Takes the oldest signal, if there is one.
+    #[inline]
     pub fn pop(&mut self) -> Option<Signal<T>>
         ensures after { self.old ≡ option_to_list result ++ self.new }
         ensures value { result ≡ slice_get self.old 0 }
         ensures room { length self.new < 2 }
     {
         let signal = self.first.take();
-        self.first = self.second.take();
+        // Mostly there is no second signal, and then nothing has to be moved.
+        if self.second.is_some() {
+            self.first = self.second.take();
+        }
         signal
     }
 
     /// Puts a signal in front of the others. It takes no memory.
+    #[inline]
     pub fn put_back(&mut self, signal: Signal<T>)
         requires { length self.old < 2 }
         ensures { self.new ≡ signal ∷ self.old }

@@ -8,19 +8,19 @@ use Rattle.rsx_plain.proofs.node.PlainNodeMachine.residual.Goals.{in-Some-Next+i
 pub returns-in-Some-Complete : goal.returns-in-Some-Complete
 returns-in-Some-Complete g c =
     ends_here (g.O.Ops.meaning c.args.ops.now) c.args.self.now (incoming_of c.args.incoming.now) c.loop-at.out.items c.loop-at.at c.in-Some-Complete.field-0.now _ c.new.result c.loop-at.invariant
-    c.in-Some-Complete.ensures (λ v. ap (λ t. signal_then t v) c.in-Some-Complete.field-0-is) c.new.ensures.items c.new.ensures.ending
+    c.in-Some-Complete.ensures.signal (λ v. ap (λ t. signal_then t v) c.in-Some-Complete.field-0-is) c.new.ensures.items c.new.ensures.ending
 
 pub returns-in-Some-Error : goal.returns-in-Some-Error
 returns-in-Some-Error g c =
     ends_here (g.O.Ops.meaning c.args.ops.now) c.args.self.now (incoming_of c.args.incoming.now) c.loop-at.out.items c.loop-at.at c.in-Some-Error.field-0.now _ c.new-in-Some-Error.result c.loop-at.invariant
-    c.in-Some-Error.ensures (λ v. ap (λ t. signal_then t v) c.in-Some-Error.field-0-is) c.new-in-Some-Error.ensures.items c.new-in-Some-Error.ensures.ending
+    c.in-Some-Error.ensures.signal (λ v. ap (λ t. signal_then t v) c.in-Some-Error.field-0-is) c.new-in-Some-Error.ensures.items c.new-in-Some-Error.ensures.ending
 
 pub loop-at-preserved : goal.loop-at-preserved
 loop-at-preserved g c =
     elim c.match-get.branch [
       | in-Some-Next+in_ok-copy-in-Some-Next+in_ok-push-in-Some-Next w ↦
           (let e : c.match-get.out.items ≡ c.loop-at.out.items ++ w.in-Some-Next.item ∷ [] = search rules in
-          after_item c.loop-at.out.items c.match-get.out.items c.loop-at.at c.args.self.now.slot w.in-Some-Next.field-0.now w.in-Some-Next.item c.loop-at.invariant w.in-Some-Next.ensures w.in-Some-Next.field-0-is e)
+          after_item c.loop-at.out.items c.match-get.out.items c.loop-at.at c.args.self.now.slot w.in-Some-Next.field-0.now w.in-Some-Next.item c.loop-at.invariant w.in-Some-Next.ensures.signal w.in-Some-Next.field-0-is e)
       | in-None w ↦
           (let e : c.match-get.out.items ≡ c.loop-at.out.items = search rules in
           rw e (after_none c.loop-at.out.items c.loop-at.at c.args.self.now.slot c.loop-at.invariant (search rules)))
