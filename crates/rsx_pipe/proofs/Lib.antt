@@ -1,5 +1,8 @@
 pub mod Balances
 pub mod Builds
 pub mod Drives
+pub mod Looks
 pub mod Memory
+pub mod Parts
+pub mod Signals
 pub mod Trees

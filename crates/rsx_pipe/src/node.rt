@@ -409,7 +409,7 @@ fn residual_over<O: Ops>(
 }
 
 /// Whether the input offers a signal that can go over the edge, and the node can take it.
-fn can_send_signal<T: Drop>(node: &PlainNode<T>, edge: &Edge, input: &Node<T>) -> bool
+pub(crate) fn can_send_signal<T: Drop>(node: &PlainNode<T>, edge: &Edge, input: &Node<T>) -> bool
     ensures { (m : Meaning T) → result ≡ can_send_over m node.now edge.now input.now }
 {
     match input.front() {

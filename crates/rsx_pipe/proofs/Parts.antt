@@ -1,0 +1,460 @@
+-- How each move keeps what a part stands for.
+use Rattle.std.proofs.Common.{◌≡◌, ◌⊎◌, inl, inr, ℕ, zero, suc, ◌+◌, ◌-◌, ◌<◌, ◌≤◌, min, Bool, true, false, ◌&&◌, nat_eq, nat_lt, List, [], ◌∷◌, ◌++◌, length, length-append, take, map, option_map, Option, Some, None, Result, Ok, Err, refl, ap, sym, ◌∙◌, subst, arith, append_assoc, add-zero}
+use Rattle.std.proofs.lemmas.Bool.Decides.{nat_tests}
+use Rattle.std.proofs.lemmas.List.{append-nil, take_all}
+use Rattle.rsx_demand.specs.Demand.{saturating_total}
+use Rattle.rsx_model.specs.declared.expr.Expr.{Expr}
+use Rattle.rsx_types.specs.Meaning.{Meaning}
+use Rattle.rsx_types.specs.Notes.{unchosen, notes_then}
+use Rattle.rsx_types.specs.Stream.{Stream, signals_then}
+use Rattle.rsx_types.specs.declared.note.Note.{Note}
+use Rattle.rsx_types.specs.declared.names.Move.{Move}
+use Rattle.rsx_types.specs.declared.names.Move.TheVariants.{Ask, Send, Take}
+use Rattle.rsx_types.specs.declared.names.NodeId.{NodeId}
+use Rattle.rsx_types.specs.declared.names.Tree.{Tree as TreeName}
+use Rattle.rsx_types.specs.declared.names.Tree.TheVariants.{Sub}
+use Rattle.rsx_types.specs.declared.signal.Signal.{Signal}
+use Rattle.rsx_types.specs.declared.signal.Signal.TheVariants.{Next, Complete, Error}
+use Rattle.rsx_sources.specs.Machine.{front_of}
+use Rattle.rsx_sources.specs.declared.machine.Front.{Front}
+use Rattle.rsx_pipe.specs.Balance.{IsBalanced, IsBalancedAfter, IsWithin}
+use Rattle.rsx_pipe.specs.Built.{IsBuilt, fresh_edge, fresh_edges}
+use Rattle.rsx_pipe.specs.Driven.{IsDriven}
+use Rattle.rsx_pipe.specs.Edges.{edge_view, EdgeView, passed, is_live, closed_view, closed_state, can_pass}
+use Rattle.rsx_pipe.specs.Output.{items_in, IsUnended, IsOrderly, values_then}
+use Rattle.rsx_pipe.specs.Part.{PartStands, IsPutOut, IsRootSent, IsMade, IsMoved, IsMovedBy, IsPumped, IsQuiet, IsAwake, IsDelivered, IsServed, IsSpent, HasEnded, IsAsk, IsSend, IsEffect, GoesOut, all_edges, ask_enabled, send_enabled, move_enabled, has_room, evaluated}
+use Rattle.rsx_pipe.specs.Tree.{comes_out, notes_of, offers, edges, can_ask, can_send, can_go, want_at, front_at, ended_at, IsAllClosed, IsKept, IsLetGo, IsAdvanced, IsAskedAt, IsSentAt, IsIdle, IsBusy}
+use Rattle.rsx_pipe.specs.declared.edge.Edge.{Edge}
+use Rattle.rsx_pipe.specs.declared.edge.EdgeState.{EdgeState}
+use Rattle.rsx_pipe.specs.declared.edge.EdgeState.TheVariants.{Live, Closed, Ended}
+use Rattle.rsx_pipe.specs.declared.node.Node.{Node}
+use Rattle.rsx_pipe.specs.declared.part.Part.{Part}
+use Rattle.rsx_pipe.specs.declared.part.Pumped.{Pumped}
+use Rattle.rsx_pipe.specs.declared.part.Pumped.TheVariants.{Idle, Budget}
+use Rattle.rsx_pipe.proofs.Balances.{offers_more, can_pass_live, above_zero, suc_minus}
+use Rattle.rsx_pipe.proofs.Signals.{IsOrderly-more, IsUnended-more, IsUnended-last, items_in-append, map_then-last, prefix_of_orderly, cut_value}
+use Rattle.rsx_pipe.proofs.Trees.{pass_live, front_there, above_root, sent_all, asked_all, at_zero, advanced_not_closed, notes_then-unchosen, notes_then-unrecorded, unchosen_notes}
+
+-- ---- what goes out
+
+same_output : {T : Type 0} (m : Meaning T) (published : List (Stream T)) (part : Part T) (e : Expr T) (joins : List ℕ) (output : List (Signal T)) → PartStands m published part e joins output → PartStands m published part e joins (output ++ [])
+same_output {T} m published part e joins output h =
+    let P : List (Signal T) → Type 0 = λ l. PartStands m published part e joins l in
+    subst P (sym (append-nil output)) h
+
+pub put_out_none : {T : Type 0} (m : Meaning T) (part : Part T) → IsPutOut m part [] part
+put_out_none m part published e joins output h = same_output m published part e joins output h
+
+-- moves inside the tree
+pub put_out_kept : {T : Type 0} (m : Meaning T) (old new : Part T) → IsKept m old.tree new.tree → ((sent : ℕ) → IsBalanced old.tree sent → IsBalanced new.tree sent) → new.root ≡ old.root → (IsAllClosed old.tree → ⊥) → IsPutOut m old [] new
+put_out_kept m old new k balance root alive published e joins output h =
+    same_output m published new e joins output (record {
+      value = λ more further len. rw (k.notes, k.value (values_then published more) further 0) (h.value more further (rw k.notes at len));
+      orderly = h.orderly;
+      unended = rw root h.unended;
+      ended = rw root h.ended;
+      counted = rw root h.counted;
+      balance = rw root (λ l. balance old.root.demand.sent (h.balance l));
+      closed = λ c. absurd (alive (h.closed (ap (λ r. r.state) (sym root) ∙ c)));
+    })
+
+passed_sent : {T : Type 0} (e : EdgeView) (s : Signal T) → (passed e (front_of s)).sent ≡ e.sent + length (items_in (s ∷ []))
+passed_sent e (Next x) = refl
+passed_sent e Complete = sym (add-zero e.sent)
+passed_sent e (Error c) = sym (add-zero e.sent)
+
+passed_asked : {T : Type 0} (e : EdgeView) (s : Signal T) → (passed e (front_of s)).asked ≡ e.asked
+passed_asked e (Next x) = refl
+passed_asked e Complete = refl
+passed_asked e (Error c) = refl
+
+passed_live : {T : Type 0} (e : EdgeView) (s : Signal T) → (passed e (front_of s)).state ≡ Live → (x : T) × (s ≡ Next x)
+passed_live e (Next x) h = (x, refl)
+passed_live e Complete h = cc
+passed_live e (Error c) h = cc
+
+passed_open : {T : Type 0} (e : EdgeView) (s : Signal T) → e.state ≡ Live → (passed e (front_of s)).state ≡ Closed → ⊥
+passed_open e (Next x) l c = cc
+passed_open e Complete l c = cc
+passed_open e (Error k) l c = cc
+
+passed_last : {T : Type 0} (e : EdgeView) (s : Signal T) → e.state ≡ Live → (passed e (front_of s)).state ≡ Ended → (x : T) → s ≡ Next x → ⊥
+passed_last e (Next y) l c x i = cc
+passed_last e Complete l c x i = cc
+passed_last e (Error k) l c x i = cc
+
+-- what a signal over the root edge leaves of that edge
+record IsRootAfter {T : Type 0} (old new : Part T) (s : Signal T) : Type 0 where
+  was_live : old.root.state ≡ Live
+  view : edge_view new.root ≡ passed (edge_view old.root) (front_of s)
+
+root_after : {T : Type 0} (m : Meaning T) (old new : Part T) (queue queue' : List (Signal T)) → (k : IsRootSent m old queue new queue') → IsRootAfter old new k.signal
+root_after m old new queue queue' k =
+    let offered : Some k.front ≡ Some (front_of k.signal) = sym k.offered ∙ ap (λ x. option_map front_of x) k.gone.offered in
+    let named : k.front ≡ front_of k.signal = cc in
+    let P : Front → Type 0 = λ g. edge_view new.root ≡ passed (edge_view old.root) g in
+    record { was_live = pass_live (edge_view old.root) k.front k.can; view = subst P named k.passed }
+
+-- the root's signal goes over the root edge
+pub put_out_sent : {T : Type 0} (m : Meaning T) (old new : Part T) (queue queue' : List (Signal T)) → (k : IsRootSent m old queue new queue') → IsPutOut m old (k.signal ∷ []) new
+put_out_sent {T} m old new queue queue' k published e joins output h =
+    let r = root_after m old new queue queue' k in
+    let open_before : IsUnended output = h.unended r.was_live in
+    let sent : new.root.demand.sent ≡ old.root.demand.sent + length (items_in (k.signal ∷ [])) = ap (λ v. v.sent) r.view ∙ passed_sent (edge_view old.root) k.signal in
+    let live_item : new.root.state ≡ Live → (x : T) × (k.signal ≡ Next x) = λ l. passed_live (edge_view old.root) k.signal (sym (ap (λ v. v.state) r.view) ∙ l) in
+    record {
+      value = λ more further len.
+          rw (map_then-last output k.signal (comes_out m (values_then published more) further new.tree 0), k.gone.notes, ← k.gone.value (values_then published more) further 0)
+          (h.value more further (rw k.gone.notes at len));
+      orderly = IsOrderly-more output k.signal open_before;
+      unended = λ l. let x = live_item l in rw x.1 (IsUnended-more output x.0 open_before);
+      ended = λ c u. let x = IsUnended-last output k.signal u in passed_last (edge_view old.root) k.signal r.was_live (sym (ap (λ v. v.state) r.view) ∙ c) x.0 x.1;
+      counted = ap length (items_in-append output (k.signal ∷ [])) ∙ (length-append (items_in output) (items_in (k.signal ∷ [])) ∙ (ap (λ n. n + length (items_in (k.signal ∷ []))) h.counted ∙ sym sent));
+      balance = λ l.
+          let x = live_item l in
+          let B : Signal T → Type 0 = λ t. IsBalancedAfter t new.tree old.root.demand.sent in
+          let C : ℕ → Type 0 = λ c. IsBalanced new.tree c in
+          let one : new.root.demand.sent ≡ old.root.demand.sent + 1 = sent ∙ ap (λ t. old.root.demand.sent + length (items_in (t ∷ []))) x.1 in
+          subst C (sym one) (subst B x.1 (k.gone.balance old.root.demand.sent (h.balance r.was_live)));
+      closed = λ c. absurd (passed_open (edge_view old.root) k.signal r.was_live (sym (ap (λ v. v.state) r.view) ∙ c));
+    }
+
+-- what was asked over the root edge rises
+pub put_out_asked : {T : Type 0} (m : Meaning T) (old new : Part T) → new.tree ≡ old.tree → new.root.state ≡ old.root.state → new.root.demand.sent ≡ old.root.demand.sent → IsPutOut m old [] new
+put_out_asked m old new tree state sent published e joins output h =
+    same_output m published new e joins output (record {
+      value = rw tree h.value;
+      orderly = h.orderly;
+      unended = rw state h.unended;
+      ended = rw state h.ended;
+      counted = rw sent h.counted;
+      balance = rw (state, tree, sent) h.balance;
+      closed = rw (state, tree) h.closed;
+    })
+
+-- the part is closed
+pub put_out_closed : {T : Type 0} (m : Meaning T) (old new : Part T) → IsKept m old.tree new.tree → IsAllClosed new.tree → edge_view new.root ≡ closed_view (edge_view old.root) → IsPutOut m old [] new
+put_out_closed m old new k closed root published e joins output h =
+    same_output m published new e joins output (record {
+      value = λ more further len. rw (k.notes, k.value (values_then published more) further 0) (h.value more further (rw k.notes at len));
+      orderly = h.orderly;
+      unended = λ l. absurd (never_live (edge_view old.root) (sym (ap (λ v. v.state) root) ∙ l));
+      ended = λ x. h.ended (was_ended (edge_view old.root) (sym (ap (λ v. v.state) root) ∙ x));
+      counted = h.counted ∙ sym (ap (λ v. v.sent) root);
+      balance = λ l. absurd (never_live (edge_view old.root) (sym (ap (λ v. v.state) root) ∙ l));
+      closed = λ _. closed;
+    })
+  where
+    never_live : (e : EdgeView) → (closed_view e).state ≡ Live → ⊥
+    never_live e l = by_state e.state l
+      where
+        by_state : (s : EdgeState) → closed_state s ≡ Live → ⊥
+        by_state Live l = cc
+        by_state Ended l = cc
+        by_state Closed l = cc
+
+    was_ended : (e : EdgeView) → (closed_view e).state ≡ Ended → e.state ≡ Ended
+    was_ended e l = by_state e.state l
+      where
+        by_state : (s : EdgeState) → closed_state s ≡ Ended → s ≡ Ended
+        by_state Live l = cc
+        by_state Ended l = refl
+        by_state Closed l = cc
+
+pub put_out_on : {T : Type 0} (m : Meaning T) (a b c : Part T) (first rest : List (Signal T)) → IsPutOut m a first b → IsPutOut m b rest c → IsPutOut m a (first ++ rest) c
+put_out_on {T} m a b c first rest x y published e joins output h =
+    let P : List (Signal T) → Type 0 = λ l. PartStands m published c e joins l in
+    subst P (append_assoc output first rest) (y published e joins (output ++ first) (x published e joins output h))
+
+-- ---- many moves
+
+pub moved_on : {T : Type 0} (m : Meaning T) (n k : ℕ) (a b c : Part T) (q q' q'' : List (Signal T)) (ds es : List (Signal T)) → IsMovedBy m n a q ds b q' → IsMovedBy m k b q' es c q'' → IsMovedBy m (n + k) a q (ds ++ es) c q''
+moved_on {T} m zero k a b c q q' q'' ds es x y =
+    let P : Part T → Type 0 = λ s. IsMovedBy m k s q' es c q'' in
+    let Q : List (Signal T) → Type 0 = λ l. IsMovedBy m k a l es c q'' in
+    let D : List (Signal T) → Type 0 = λ l. IsMovedBy m k a q (l ++ es) c q'' in
+    let R : ℕ → Type 0 = λ i. IsMovedBy m i a q (ds ++ es) c q'' in
+    let none : k ≡ 0 + k = omega arith in
+    subst R none (subst D (sym x.0) (subst Q x.2 (subst P x.1 y)))
+moved_on {T} m (suc n) k a b c q q' q'' ds es x y =
+    let R : ℕ → Type 0 = λ i. IsMovedBy m i a q (ds ++ es) c q'' in
+    let more : suc (n + k) ≡ suc n + k = omega arith in
+    subst R more (x.0, x.1, x.2, x.3 ++ es, x.4, moved_on m n k x.0 b c x.2 q' q'' x.3 es x.5 y, ap (λ l. l ++ es) x.6 ∙ append_assoc x.1 x.3 es)
+
+pub pumped_none : {T : Type 0} (m : Meaning T) (part : Part T) (queue : List (Signal T)) → IsPumped m 0 part queue part queue
+pumped_none m part queue = record { out = []; queued = sym (append-nil queue); moves = (refl, refl, refl); stands = put_out_none m part; asked = refl; unclosed = λ h. h }
+
+pub pumped_on : {T : Type 0} (m : Meaning T) (n k : ℕ) (a b c : Part T) (q q' q'' : List (Signal T)) → IsPumped m n a q b q' → IsPumped m k b q' c q'' → IsPumped m (n + k) a q c q''
+pumped_on m n k a b c q q' q'' x y = record {
+  out = x.out ++ y.out;
+  queued = y.queued ∙ (ap (λ l. l ++ y.out) x.queued ∙ append_assoc q x.out y.out);
+  moves = moved_on m n k a b c q q' q'' x.out y.out x.moves y.moves;
+  stands = put_out_on m a b c x.out y.out x.stands y.stands;
+  asked = y.asked ∙ x.asked;
+  unclosed = λ h. y.unclosed (x.unclosed h);
+}
+
+-- ---- one move
+
+pub sent_below_root : {T : Type 0} (m : Meaning T) (old : Part T) (tree : Node T) (at : ℕ) → 0 < at → IsSentAt m old.tree (at - 1) tree → IsSend m old at [] (record { tree = tree; root = old.root })
+sent_below_root {T} m old tree at z k =
+    let Q : Bool → Type 0 = λ b. GoesOut m old b [] in
+    record {
+      front = k.front;
+      carries = front_there at (option_map front_of (offers m old.tree)) (front_at m old.tree (at - 1)) k.front z k.offered;
+      edges = sent_all (edge_view old.root) (edges old.tree) (edges tree) at (ended_at tree (at - 1)) k.front z k.edges;
+      goes = subst Q (sym (above_root at z)) refl;
+    }
+
+pub asked_below_root : {T : Type 0} (old : Part T) (tree : Node T) (at : ℕ) → 0 < at → IsAskedAt old.tree (at - 1) old.root.demand.asked old.root.demand.sent tree → IsAsk old at (record { tree = tree; root = old.root })
+asked_below_root old tree at z k = asked_all (edge_view old.root) (edges old.tree) (edges tree) at (want_at old.tree (at - 1) old.root.demand.asked old.root.demand.sent) old.root.demand.asked z k
+
+pub sent_root : {T : Type 0} (m : Meaning T) (old new : Part T) (queue queue' : List (Signal T)) → (k : IsRootSent m old queue new queue') → IsSend m old 0 (k.signal ∷ []) new
+sent_root m old new queue queue' k = record {
+  front = k.front;
+  carries = k.offered;
+  edges = ap (λ e. e ∷ edges new.tree) k.passed ∙ ap (λ es. passed (edge_view old.root) k.front ∷ es) k.gone.edges;
+  goes = (k.signal, k.gone.offered, refl);
+}
+
+pub root_can : {T : Type 0} (m : Meaning T) (old new : Part T) (queue queue' : List (Signal T)) → (k : IsRootSent m old queue new queue') → send_enabled m old queue 0 ≡ true
+root_can m old new queue queue' k = rw (k.room, k.offered) k.can
+
+pub moved_root : {T : Type 0} (m : Meaning T) (old new : Part T) (queue queue' : List (Signal T)) → (k : IsRootSent m old queue new queue') → IsMoved m old queue (k.signal ∷ []) new queue'
+moved_root m old new queue queue' k = record {
+  move = Send (Sub (record { 0 = 0 })) (record { 0 = 0 });
+  enabled = root_can m old new queue queue' k;
+  effect = sent_root m old new queue queue' k;
+  queued = k.queued;
+}
+
+root_unclosed : {T : Type 0} (m : Meaning T) (old new : Part T) (queue queue' : List (Signal T)) → (k : IsRootSent m old queue new queue') → new.root.state ≡ Closed → ⊥
+root_unclosed m old new queue queue' k c =
+    let r = root_after m old new queue queue' k in
+    passed_open (edge_view old.root) k.signal r.was_live (sym (ap (λ v. v.state) r.view) ∙ c)
+
+root_asked : {T : Type 0} (m : Meaning T) (old new : Part T) (queue queue' : List (Signal T)) → (k : IsRootSent m old queue new queue') → new.root.demand.asked ≡ old.root.demand.asked
+root_asked m old new queue queue' k =
+    let r = root_after m old new queue queue' k in
+    ap (λ v. v.asked) r.view ∙ passed_asked (edge_view old.root) k.signal
+
+pub pumped_root : {T : Type 0} (m : Meaning T) (old new : Part T) (queue queue' : List (Signal T)) → IsRootSent m old queue new queue' → IsPumped m 1 old queue new queue'
+pumped_root m old new queue queue' k = record {
+  out = k.signal ∷ [];
+  queued = k.queued;
+  moves = (new, k.signal ∷ [], queue', [], moved_root m old new queue queue' k, (refl, refl, refl), refl);
+  stands = put_out_sent m old new queue queue' k;
+  asked = root_asked m old new queue queue' k;
+  unclosed = λ _. root_unclosed m old new queue queue' k;
+}
+
+pub moved_below : {T : Type 0} (m : Meaning T) (old : Part T) (tree : Node T) (queue : List (Signal T)) → IsAdvanced m old.tree old.root.demand.asked old.root.demand.sent tree → IsMoved m old queue [] (record { tree = tree; root = old.root }) queue
+moved_below {T} m old tree queue a =
+    let asked : ℕ = old.root.demand.asked in
+    let sent : ℕ = old.root.demand.sent in
+    let above : 0 < a.at + 1 = omega arith in
+    let A : ℕ → Type 0 = λ k. IsAskedAt old.tree k asked sent tree in
+    let S : ℕ → Type 0 = λ k. IsSentAt m old.tree k tree in
+    elim a.made [
+      | inl k ↦ record {
+        move = Ask (Sub (record { 0 = 0 })) (record { 0 = a.at + 1 });
+        enabled = above_zero a.at false (can_ask old.tree ((a.at + 1) - 1) asked sent) ∙ ap (λ i. can_ask old.tree i asked sent) (suc_minus a.at) ∙ k.0;
+        effect = (refl, asked_below_root old tree (a.at + 1) above (subst A (sym (suc_minus a.at)) k.1));
+        queued = sym (append-nil queue);
+      }
+      | inr k ↦ record {
+        move = Send (Sub (record { 0 = 0 })) (record { 0 = a.at + 1 });
+        enabled = above_zero a.at (has_room queue && can_go (edge_view old.root) (option_map front_of (offers m old.tree))) (can_send m old.tree ((a.at + 1) - 1)) ∙ ap (λ i. can_send m old.tree i) (suc_minus a.at) ∙ k.0;
+        effect = sent_below_root m old tree (a.at + 1) above (subst S (sym (suc_minus a.at)) k.1);
+        queued = sym (append-nil queue);
+      }
+    ]
+
+-- what a call that makes a move gives
+pub made_root : {T : Type 0} (m : Meaning T) (move : Move) (tree : TreeName) (n : NodeId) (old new : Part T) (queue queue' : List (Signal T)) → move ≡ Send tree n → n.0 ≡ 0 → IsRootSent m old queue new queue' → IsMade m move old queue new queue'
+made_root {T} m move tree n old new queue queue' e z k =
+    let P : Move → Type 0 = λ mv. IsMade m mv old queue new queue' in
+    let Q : ℕ → Type 0 = λ i. IsSend m old i (k.signal ∷ []) new in
+    subst P (sym e) (record {
+      out = k.signal ∷ [];
+      effect = subst Q (sym z) (sent_root m old new queue queue' k);
+      queued = k.queued;
+      stands = put_out_sent m old new queue queue' k;
+      asked = root_asked m old new queue queue' k;
+      unclosed = λ _. root_unclosed m old new queue queue' k;
+    })
+
+pub made_inside : {T : Type 0} (m : Meaning T) (move : Move) (old new : Part T) (queue : List (Signal T)) → IsEffect m move old [] new → IsPutOut m old [] new → new.root ≡ old.root → IsMade m move old queue new queue
+made_inside m move old new queue effect stands root = record {
+  out = [];
+  effect = effect;
+  queued = sym (append-nil queue);
+  stands = stands;
+  asked = ap (λ r. r.demand.asked) root;
+  unclosed = λ h c. h (ap (λ r. r.state) (sym root) ∙ c);
+}
+
+pub made_ask : {T : Type 0} (m : Meaning T) (move : Move) (tree : TreeName) (n : NodeId) (old new : Part T) (queue : List (Signal T)) → move ≡ Ask tree n → IsAsk old n.0 new → IsPutOut m old [] new → new.root ≡ old.root → IsMade m move old queue new queue
+made_ask {T} m move tree n old new queue e effect stands root =
+    let P : Move → Type 0 = λ mv. IsEffect m mv old [] new in
+    made_inside m move old new queue (subst P (sym e) (refl, effect)) stands root
+
+pub made_below : {T : Type 0} (m : Meaning T) (move : Move) (tree : TreeName) (n : NodeId) (old new : Part T) (queue : List (Signal T)) → move ≡ Send tree n → 0 < n.0 → IsSend m old ((n.0 - 1) + 1) [] new → IsPutOut m old [] new → new.root ≡ old.root → IsMade m move old queue new queue
+made_below {T} m move tree n old new queue e z effect stands root =
+    let P : Move → Type 0 = λ mv. IsEffect m mv old [] new in
+    let Q : ℕ → Type 0 = λ i. IsSend m old i [] new in
+    let same : (n.0 - 1) + 1 ≡ n.0 = omega (arith, z) in
+    made_inside m move old new queue (subst P (sym e) (subst Q same effect)) stands root
+
+-- ---- a part that has just begun
+
+pub fresh_part : {T : Type 0} (m : Meaning T) (published : List (Stream T)) (e : Expr T) (part : Part T) → IsBuilt m e part.tree → part.root.state ≡ Live → part.root.demand.sent ≡ 0 → PartStands m published part e [] []
+fresh_part m published e part b l s = record {
+  value = λ more further len.
+      rw (notes_then-unrecorded (notes_of part.tree) further b.notes len) (map_same (comes_out m (values_then published more) further part.tree 0) ∙ b.value (values_then published more) [] further 0 0);
+  orderly = tt;
+  unended = λ _. tt;
+  ended = λ x. let k = l in cc;
+  counted = sym s;
+  balance = λ _. rw s b.balance;
+  closed = λ x. let k = l in cc;
+}
+  where
+    map_same : {T : Type 0} (o : Option (Stream T)) → option_map (λ v. v) o ≡ o
+    map_same None = refl
+    map_same (Some v) = refl
+
+-- ---- many moves of the tree
+
+pub driven_kept : {T : Type 0} (m : Meaning T) (n : ℕ) (old new : Node T) (asked sent : ℕ) → IsDriven m n old asked sent new → IsKept m old new
+driven_kept {T} m zero old new asked sent d = let P : Node T → Type 0 = λ t. IsKept m old t in subst P (sym d) (record { value = λ hubs further at. refl; notes = refl })
+driven_kept m (suc n) old new asked sent d =
+    let a = d.1.kept in
+    let b = driven_kept m n d.0 new asked sent d.2 in
+    record { value = λ hubs further at. b.value hubs further at ∙ a.value hubs further at; notes = b.notes ∙ a.notes }
+
+driven_moves : {T : Type 0} (m : Meaning T) (n : ℕ) (root : Edge) (old new : Node T) (queue : List (Signal T)) → IsDriven m n old root.demand.asked root.demand.sent new → IsMovedBy m n (record { tree = old; root = root }) queue [] (record { tree = new; root = root }) queue
+driven_moves m zero root old new queue d = (refl, ap (λ t. record { tree = t; root = root }) d, refl)
+driven_moves m (suc n) root old new queue d =
+    (record { tree = d.0; root = root }, [], queue, [], moved_below m (record { tree = old; root = root }) d.0 queue d.1, driven_moves m n root d.0 new queue d.2, refl)
+
+driven_put_out : {T : Type 0} (m : Meaning T) (n : ℕ) (root : Edge) (old new : Node T) → IsDriven m n old root.demand.asked root.demand.sent new → ((s : ℕ) → IsBalanced old s → IsBalanced new s) → IsPutOut m (record { tree = old; root = root }) [] (record { tree = new; root = root })
+driven_put_out {T} m zero root old new d balance = let P : Node T → Type 0 = λ t. IsPutOut m (record { tree = old; root = root }) [] (record { tree = t; root = root }) in subst P (sym d) (put_out_none m (record { tree = old; root = root }))
+driven_put_out m (suc n) root old new d balance =
+    put_out_kept m (record { tree = old; root = root }) (record { tree = new; root = root }) (driven_kept m (suc n) old new root.demand.asked root.demand.sent d) balance refl (advanced_not_closed m old d.0 root.demand.asked root.demand.sent d.1)
+
+pub pumped_driven : {T : Type 0} (m : Meaning T) (n : ℕ) (old : Part T) (tree : Node T) (queue : List (Signal T)) → IsDriven m n old.tree old.root.demand.asked old.root.demand.sent tree → ((s : ℕ) → IsBalanced old.tree s → IsBalanced tree s) → IsPumped m n old queue (record { tree = tree; root = old.root }) queue
+pumped_driven m n old tree queue d balance = record {
+  out = [];
+  queued = sym (append-nil queue);
+  moves = driven_moves m n old.root old.tree tree queue d;
+  stands = driven_put_out m n old.root old.tree tree d balance;
+  asked = refl;
+  unclosed = λ h. h;
+}
+
+-- ---- where no move is enabled
+
+pub quiet_when : {T : Type 0} (m : Meaning T) (part : Part T) (queue : List (Signal T)) → send_enabled m part queue 0 ≡ false → IsIdle m part.tree part.root.demand.asked part.root.demand.sent → IsQuiet m part queue
+quiet_when m part queue r t (Ask tree n) = at_zero n.0 false (can_ask part.tree (n.0 - 1) part.root.demand.asked part.root.demand.sent) false refl (t (n.0 - 1)).0
+quiet_when m part queue r t (Send tree n) = at_zero n.0 (has_room queue && can_go (edge_view part.root) (option_map front_of (offers m part.tree))) (can_send m part.tree (n.0 - 1)) false r (t (n.0 - 1)).1
+quiet_when m part queue r t (Take tree n) = refl
+
+pub awake_root : {T : Type 0} (m : Meaning T) (part : Part T) (queue : List (Signal T)) → send_enabled m part queue 0 ≡ true → IsAwake m part queue
+awake_root m part queue h = (Send (Sub (record { 0 = 0 })) (record { 0 = 0 }), h)
+
+pub awake_tree : {T : Type 0} (m : Meaning T) (part : Part T) (queue : List (Signal T)) → IsBusy m part.tree part.root.demand.asked part.root.demand.sent → IsAwake m part queue
+awake_tree m part queue h = elim h.1 [
+  | inl a ↦ (Ask (Sub (record { 0 = 0 })) (record { 0 = h.0 + 1 }), above_zero h.0 false (can_ask part.tree ((h.0 + 1) - 1) part.root.demand.asked part.root.demand.sent) ∙ ap (λ i. can_ask part.tree i part.root.demand.asked part.root.demand.sent) (suc_minus h.0) ∙ a)
+  | inr s ↦ (Send (Sub (record { 0 = 0 })) (record { 0 = h.0 + 1 }), above_zero h.0 (has_room queue && can_go (edge_view part.root) (option_map front_of (offers m part.tree))) (can_send m part.tree ((h.0 + 1) - 1)) ∙ ap (λ i. can_send m part.tree i) (suc_minus h.0) ∙ s)
+]
+
+-- ---- idle means delivered
+
+never : (b : Bool) → b ≡ true → b ≡ false → ⊥
+never b x y = cc
+
+idle_tree : {T : Type 0} (m : Meaning T) (part : Part T) (queue : List (Signal T)) → IsQuiet m part queue → IsIdle m part.tree part.root.demand.asked part.root.demand.sent
+idle_tree m part queue q at =
+    let a = q (Ask (Sub (record { 0 = 0 })) (record { 0 = at + 1 })) in
+    let s = q (Send (Sub (record { 0 = 0 })) (record { 0 = at + 1 })) in (
+      sym (ap (λ k. can_ask part.tree k part.root.demand.asked part.root.demand.sent) (suc_minus at)) ∙ (sym (above_zero at false (can_ask part.tree ((at + 1) - 1) part.root.demand.asked part.root.demand.sent)) ∙ a),
+      sym (ap (λ k. can_send m part.tree k) (suc_minus at)) ∙ (sym (above_zero at (has_room queue && can_go (edge_view part.root) (option_map front_of (offers m part.tree))) (can_send m part.tree ((at + 1) - 1))) ∙ s),
+    )
+
+-- over a live root edge with room behind it all that was asked for went
+sent_all_asked : {T : Type 0} (m : Meaning T) (part : Part T) (queue : List (Signal T)) → IsQuiet m part queue → part.root.state ≡ Live → length queue < 64 → IsBalanced part.tree part.root.demand.sent → IsWithin part.tree → part.root.demand.sent < part.root.demand.asked → ⊥
+sent_all_asked m part queue q live room b w less =
+    let s = offers_more m part.tree part.root.demand.asked part.root.demand.sent (idle_tree m part queue q) b less w in
+    let r : has_room queue ≡ true = grind (arith, nat_tests, room) in
+    let goes : send_enabled m part queue 0 ≡ true = rw (r, s.1) (can_pass_live (edge_view part.root) (front_of s.0) (ap is_live live) less) in
+    never (send_enabled m part queue 0) goes (q (Send (Sub (record { 0 = 0 })) (record { 0 = 0 })))
+
+take_front : {A : Type 0} (xs rest : List A) (n : ℕ) → n ≡ length xs → take n (xs ++ rest) ≡ xs
+take_front [] rest n e = rw e refl
+take_front (x ∷ xs) rest zero e = absurd (omega (arith, e))
+take_front (x ∷ xs) rest (suc n) e = ap (λ l. x ∷ l) (take_front xs rest n (omega (arith, e)))
+
+pub values_then-none : {T : Type 0} (published : List (Stream T)) → values_then published [] ≡ published
+values_then-none [] = refl
+values_then-none (v ∷ vs) = refl
+
+now_published : {T : Type 0} (m : Meaning T) (published : List (Stream T)) (e : Expr T) (joins : List ℕ) (ns : List Note) (v : Stream T) → evaluated m published joins e ns ≡ Some v → evaluated m (values_then published []) joins e (notes_then ns (map unchosen ns)) ≡ Some v
+now_published m published e joins ns v h =
+    ap (λ p. evaluated m p joins e (notes_then ns (map unchosen ns))) (values_then-none published) ∙ (ap (λ k. evaluated m published joins e k) (notes_then-unchosen ns) ∙ h)
+
+not_less : (a b : ℕ) → (a < b → ⊥) → b ≤ a
+not_less a b n = by_test (nat_lt a b) refl
+  where
+    by_test : (t : Bool) → nat_lt a b ≡ t → b ≤ a
+    by_test true x = absurd (n (grind (arith, nat_tests)))
+    by_test false x = grind (arith, nat_tests)
+
+-- what went out, followed by what still comes out, is the value that stands now
+pub value_now : {T : Type 0} (m : Meaning T) (published : List (Stream T)) (part : Part T) (e : Expr T) (joins : List ℕ) (output : List (Signal T)) (v : Stream T) → PartStands m published part e joins output → evaluated m published joins e (notes_of part.tree) ≡ Some v →
+    option_map (signals_then output) (comes_out m (values_then published []) (map unchosen (notes_of part.tree)) part.tree 0) ≡ Some v
+value_now m published part e joins output v h x = h.value [] (map unchosen (notes_of part.tree)) (unchosen_notes (notes_of part.tree)) ∙ now_published m published e joins (notes_of part.tree) v x
+
+served_live : {T : Type 0} (m : Meaning T) (published : List (Stream T)) (part : Part T) (queue : List (Signal T)) (e : Expr T) (joins : List ℕ) (output : List (Signal T)) → IsQuiet m part queue → part.root.state ≡ Live → length queue < 64 → IsWithin part.tree → PartStands m published part e joins output → (v : Stream T) → evaluated m published joins e (notes_of part.tree) ≡ Some v → IsServed part output v
+served_live m published part queue e joins output q live room w h v x =
+    let full : part.root.demand.asked ≤ part.root.demand.sent = not_less part.root.demand.sent part.root.demand.asked (sent_all_asked m part queue q live room (h.balance live) w) in
+    let within = part.root.demand.covered in
+    let counted = h.counted in
+    let count : length (items_in output) ≡ part.root.demand.asked = omega (arith, full, within, counted) in
+    let p = prefix_of_orderly output (comes_out m (values_then published []) (map unchosen (notes_of part.tree)) part.tree 0) v h.orderly (value_now m published part e joins output v h x) in
+    let longer : length v.items ≡ length (items_in output) + length p.0 = ap length (sym p.1) ∙ length-append (items_in output) p.0 in
+    let least : min part.root.demand.asked (length v.items) ≡ length (items_in output) = omega (arith, count, longer) in
+    record {
+      items = sym (ap (λ l. take (min part.root.demand.asked (length v.items)) l) (sym p.1) ∙ take_front (items_in output) p.0 (min part.root.demand.asked (length v.items)) least);
+      ending = λ less _. absurd (omega (arith, less, count, longer));
+    }
+
+served_ended : {T : Type 0} (m : Meaning T) (published : List (Stream T)) (part : Part T) (e : Expr T) (joins : List ℕ) (output : List (Signal T)) → part.root.state ≡ Ended → PartStands m published part e joins output → (v : Stream T) → evaluated m published joins e (notes_of part.tree) ≡ Some v → IsServed part output v
+served_ended m published part e joins output s h v x =
+    let all : items_in output ≡ v.items = cut_value output (comes_out m (values_then published []) (map unchosen (notes_of part.tree)) part.tree 0) v h.orderly (h.ended s) (value_now m published part e joins output v h x) in
+    let within = part.root.demand.covered in
+    let counted = h.counted in
+    let count : length (items_in output) ≡ length v.items = ap length all in
+    let few : length v.items ≤ min part.root.demand.asked (length v.items) = omega (arith, within, counted, count) in
+    record {
+      items = all ∙ sym (take_all (min part.root.demand.asked (length v.items)) v.items few);
+      ending = λ _ _. s;
+    }
+
+pub delivered : {T : Type 0} (m : Meaning T) (part : Part T) (queue : List (Signal T)) → IsQuiet m part queue → IsDelivered m part queue
+delivered {T} m part queue q published e joins output h unclosed room w v x = by_state part.root.state refl
+  where
+    by_state : (s : EdgeState) → part.root.state ≡ s → IsServed part output v
+    by_state Live s = served_live m published part queue e joins output q s room w h v x
+    by_state Ended s = served_ended m published part e joins output s h v x
+    by_state Closed s = absurd (unclosed s)
+
+-- ---- how driving ends
+
+pub spent_ended : {T : Type 0} (E : Type 0) (m : Meaning T) (budget n : ℕ) (part : Part T) (queue : List (Signal T)) (p : Pumped) → n ≡ budget → IsSpent m part queue p → HasEnded {E = E} m budget n part queue (Ok p)
+spent_ended E m budget n part queue (Idle left) e s = let z = s.0 in (omega (arith, e, z), s.1)
+spent_ended E m budget n part queue Budget e s = (e, s)
+
+pub spent_served : {T : Type 0} (m : Meaning T) (part : Part T) (queue : List (Signal T)) (p : Pumped) → IsSpent m part queue p → (left : ℕ) → p ≡ Idle left → IsDelivered m part queue
+spent_served m part queue (Idle k) s left e = delivered m part queue s.1
+spent_served m part queue Budget s left e = cc

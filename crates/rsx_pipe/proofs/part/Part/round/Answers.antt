@@ -1,0 +1,24 @@
+use Rattle.std.proofs.Common.{refl, arith, subst, sym, ap, ◌≡◌, ◌+◌, ◌-◌, ◌<◌}
+use Rattle.rsx_types.specs.declared.signal.Signal.{Signal}
+use Rattle.rsx_pipe.proofs.Parts.{pumped_root, pumped_driven}
+use Rattle.rsx_pipe.proofs.part.Part.round.Goals as goal
+
+pub returns-in-Ok-clause-pumped : goal.returns-in-Ok-clause-pumped
+returns-in-Ok-clause-pumped g c =
+    let m = g.O.Ops.meaning c.args.ops.now in
+    let more : 1 + (c.args.budget - 1) ≡ c.args.budget = let z = c.requires in omega (arith, z) in
+    (1, more, pumped_root m c.args.self.now c.send_root.new.self c.args.out.now c.send_root.new.out c.in-Ok.ensures.sent)
+
+pub returns-in-Ok-drive-clause-pumped : goal.returns-in-Ok-drive-clause-pumped
+returns-in-Ok-drive-clause-pumped g c =
+    let m = g.O.Ops.meaning c.args.ops.now in
+    let same = c.in-Err-NotEnabled.ensures.same in
+    let d = c.in-Ok-drive.ensures.driven in
+    (d.0, d.1, rw (← same.0, ← same.1) (pumped_driven m d.0 c.send_root.new.self c.drive.new.self c.send_root.new.out d.2 c.in-Ok-drive.ensures.balance))
+
+pub returns-in-Err-clause-pumped : goal.returns-in-Err-clause-pumped
+returns-in-Err-clause-pumped g c =
+    let m = g.O.Ops.meaning c.args.ops.now in
+    let same = c.in-Err-NotEnabled.ensures.same in
+    let d = c.in-Err.ensures.driven in
+    (d.0, d.1, rw (← same.0, ← same.1) (pumped_driven m d.0 c.send_root.new.self c.drive.new.self c.send_root.new.out d.2 c.in-Err.ensures.balance))

@@ -1,0 +1,207 @@
+-- A part: a tree with the edge from its root. What it stands for, which of its moves are enabled, and what they change.
+use Rattle.std.specs.Prelude.{◌≡◌, ◌⊎◌, ℕ, zero, suc, ◌+◌, ◌-◌, ◌<◌, ◌≤◌, min, Bool, true, false, ◌&&◌, nat_lt, nat_eq, if◌then◌else◌, List, [], ◌∷◌, ◌++◌, length, take, Option, Some, None, option_map, Result, Ok, Err}
+use Rattle.rsx_model.specs.Eval.{environment, eval}
+use Rattle.rsx_model.specs.declared.expr.Expr.{Expr}
+use Rattle.rsx_types.specs.Meaning.{Meaning}
+use Rattle.rsx_types.specs.Notes.{notes_then}
+use Rattle.rsx_types.specs.Stream.{Stream, signals_then}
+use Rattle.rsx_types.specs.declared.names.Move.{Move}
+use Rattle.rsx_types.specs.declared.names.Move.TheVariants.{Ask, Send, Take}
+use Rattle.rsx_types.specs.declared.names.Tree.{Tree}
+use Rattle.rsx_types.specs.declared.note.Note.{Note}
+use Rattle.rsx_types.specs.declared.signal.Ending.TheVariants.{Open}
+use Rattle.rsx_types.specs.declared.signal.Signal.{Signal}
+use Rattle.rsx_sources.specs.Machine.{front_of}
+use Rattle.rsx_sources.specs.declared.machine.Front.{Front}
+use Rattle.rsx_pipe.specs.Balance.{IsBalanced, IsWithin}
+use Rattle.rsx_pipe.specs.Edges.{edge_view, EdgeView, can_pass, IsPassed, changed_at, carried_at, asked_up_to}
+use Rattle.rsx_pipe.specs.Output.{items_in, IsUnended, IsOrderly, values_then}
+use Rattle.rsx_pipe.specs.Tree.{comes_out, notes_of, offers, can_ask, can_send, can_go, IsAllClosed, IsLetGo, edges, want_at, front_at, ended_at}
+use Rattle.rsx_pipe.specs.declared.edge.EdgeState.TheVariants.{Live, Closed, Ended}
+use Rattle.rsx_pipe.specs.declared.part.Part.{Part}
+use Rattle.rsx_pipe.specs.declared.part.Pumped.{Pumped}
+use Rattle.rsx_pipe.specs.declared.part.Pumped.TheVariants.{Idle, Budget}
+
+-- ---- what a part stands for
+
+-- the value of an expression over these hubs' values
+abbrev pub evaluated : {T : Type 0} → Meaning T → List (Stream T) → List ℕ → Expr T → List Note → Option (Stream T)
+evaluated m hubs joins e notes = eval (environment m hubs joins notes) e
+
+-- a part stands for an expression, where the signals `output` went over its root edge
+pub record PartStands {T : Type 0} (m : Meaning T) (published : List (Stream T)) (part : Part T) (e : Expr T) (joins : List ℕ) (output : List (Signal T)) : Type 0 where
+  -- what went out, followed by what still comes out, is the expression evaluated from scratch, whatever is still published
+  -- and whatever is still chosen
+  pub value : (more : List (Stream T)) (further : List Note) → length further ≡ length (notes_of part.tree) →
+      option_map (signals_then output) (comes_out m (values_then published more) further part.tree 0) ≡ evaluated m (values_then published more) joins e (notes_then (notes_of part.tree) further)
+  -- nothing followed an ending, and the root edge is live until an ending went over it
+  pub orderly : IsOrderly output
+  pub unended : part.root.state ≡ Live → IsUnended output
+  pub ended : part.root.state ≡ Ended → IsUnended output → ⊥
+  -- the items are as many as the root edge has sent
+  pub counted : length (items_in output) ≡ part.root.demand.sent
+  -- while the root edge is live, the counts along all edges belong together
+  pub balance : part.root.state ≡ Live → IsBalanced part.tree part.root.demand.sent
+  -- all below a closed root edge is closed
+  pub closed : part.root.state ≡ Closed → IsAllClosed part.tree
+
+-- ---- edges and enabled moves
+
+-- all edges, the root edge first, and then in pre-order
+abbrev pub all_edges : {T : Type 0} → Part T → List EdgeView
+all_edges part = edge_view part.root ∷ edges part.tree
+
+-- a queue has room for a signal
+abbrev pub has_room : {A : Type 0} → List A → Bool
+has_room queue = nat_lt (length queue) 64
+
+-- Ask: the root edge rises by requests alone
+abbrev pub ask_enabled : {T : Type 0} → Part T → ℕ → Bool
+ask_enabled part at = if nat_eq at 0 then false else can_ask part.tree (at - 1) part.root.demand.asked part.root.demand.sent
+
+-- Send: over the root edge into the queue behind it, or over an edge of the tree
+abbrev pub send_enabled : {T : Type 0} → Meaning T → Part T → List (Signal T) → ℕ → Bool
+send_enabled m part queue at =
+    if nat_eq at 0 then has_room queue && can_go (edge_view part.root) (option_map front_of (offers m part.tree))
+    else can_send m part.tree (at - 1)
+
+-- no edge inside a part has a queue yet, so no Take is a part's own
+abbrev pub move_enabled : {T : Type 0} → Meaning T → Part T → List (Signal T) → Move → Bool
+move_enabled m part queue (Ask t n) = ask_enabled part n.0
+move_enabled m part queue (Send t n) = send_enabled m part queue n.0
+move_enabled m part queue (Take t n) = false
+
+-- the tree in which a move is made
+abbrev pub tree_of : Move → Tree
+tree_of (Ask t n) = t
+tree_of (Send t n) = t
+tree_of (Take t n) = t
+
+-- the number of the node that a move names
+abbrev pub number_of : Move → ℕ
+number_of (Ask t n) = n.0
+number_of (Send t n) = n.0
+number_of (Take t n) = n.0
+
+-- ---- what a move changes
+
+-- what the receiver of an edge wants of it in all; the root's receiver asks by requests
+abbrev pub wanted : {T : Type 0} → Part T → ℕ → ℕ
+wanted part at = if nat_eq at 0 then part.root.demand.asked else want_at part.tree (at - 1) part.root.demand.asked part.root.demand.sent
+
+-- which signal is offered over an edge
+abbrev pub offered : {T : Type 0} → Meaning T → Part T → ℕ → Option Front
+offered m part at = if nat_eq at 0 then option_map front_of (offers m part.tree) else front_at m part.tree (at - 1)
+
+-- whether the receiver of an edge has put out an ending; the root's receiver puts out nothing
+abbrev pub receiver_ended : {T : Type 0} → Part T → ℕ → Bool
+receiver_ended part at = if nat_eq at 0 then false else ended_at part.tree (at - 1)
+
+-- an Ask: what was asked of this edge is what its receiver wants, and no other edge changed
+abbrev pub IsAsk : {T : Type 0} → Part T → ℕ → Part T → Type 0
+IsAsk old at new = all_edges new ≡ changed_at (asked_up_to (wanted old at)) at (all_edges old)
+
+-- what went over the root edge: the offered signal, where the Send went over it, and else nothing
+abbrev pub GoesOut : {T : Type 0} → Meaning T → Part T → Bool → List (Signal T) → Type 0
+GoesOut {T} m old true out = (s : Signal T) × (offers m old.tree ≡ Some s) × (out ≡ s ∷ [])
+GoesOut m old false out = out ≡ []
+
+-- a Send: the offered signal went over this edge; where the receiver ended by it, all from there on is closed
+pub record IsSend {T : Type 0} (m : Meaning T) (old : Part T) (at : ℕ) (out : List (Signal T)) (new : Part T) : Type 0 where
+  pub front : Front
+  pub carries : offered m old at ≡ Some front
+  pub edges : all_edges new ≡ carried_at (receiver_ended new at) front at (all_edges old)
+  pub goes : GoesOut m old (nat_eq at 0) out
+
+-- a move's effect, where these signals went over the root edge
+abbrev pub IsEffect : {T : Type 0} → Meaning T → Move → Part T → List (Signal T) → Part T → Type 0
+IsEffect m (Ask t n) old out new = (out ≡ []) × IsAsk old n.0 new
+IsEffect m (Send t n) old out new = IsSend m old n.0 out new
+IsEffect m (Take t n) old out new = ⊥
+
+-- ---- one move, and many
+
+-- the part stands for what it stood for, where these signals went over the root edge besides
+abbrev pub IsPutOut : {T : Type 0} → Meaning T → Part T → List (Signal T) → Part T → Type 0
+IsPutOut {T} m old out new =
+    (published : List (Stream T)) (e : Expr T) (joins : List ℕ) (output : List (Signal T)) → PartStands m published old e joins output → PartStands m published new e joins (output ++ out)
+
+-- an enabled move was made, and had its effect; what went over the root edge is behind what the queue held
+pub record IsMoved {T : Type 0} (m : Meaning T) (old : Part T) (queue : List (Signal T)) (out : List (Signal T)) (new : Part T) (queue' : List (Signal T)) : Type 0 where
+  pub move : Move
+  pub enabled : move_enabled m old queue move ≡ true
+  pub effect : IsEffect m move old out new
+  pub queued : queue' ≡ queue ++ out
+
+-- the root's signal went over the root edge, to the back of the queue
+pub record IsRootSent {T : Type 0} (m : Meaning T) (old : Part T) (queue : List (Signal T)) (new : Part T) (queue' : List (Signal T)) : Type 0 where
+  pub signal : Signal T
+  pub front : Front
+  pub offered : option_map front_of (offers m old.tree) ≡ Some front
+  pub gone : IsLetGo m old.tree signal new.tree
+  pub room : has_room queue ≡ true
+  pub can : can_pass (edge_view old.root) front ≡ true
+  pub passed : IsPassed front (edge_view old.root) (edge_view new.root)
+  pub queued : queue' ≡ queue ++ signal ∷ []
+
+-- what a call that made a move promises
+pub record IsMade {T : Type 0} (m : Meaning T) (move : Move) (old : Part T) (queue : List (Signal T)) (new : Part T) (queue' : List (Signal T)) : Type 0 where
+  pub out : List (Signal T)
+  pub effect : IsEffect m move old out new
+  pub queued : queue' ≡ queue ++ out
+  pub stands : IsPutOut m old out new
+  -- what was asked over the root edge stays, and it isn't closed by a move
+  pub asked : new.root.demand.asked ≡ old.root.demand.asked
+  pub unclosed : (old.root.state ≡ Closed → ⊥) → new.root.state ≡ Closed → ⊥
+
+-- so many enabled moves were made one after the other, and all that went over the root edge is `out`
+abbrev pub IsMovedBy : {T : Type 0} → Meaning T → ℕ → Part T → List (Signal T) → List (Signal T) → Part T → List (Signal T) → Type 0
+IsMovedBy m zero old queue out new queue' = (out ≡ []) × (new ≡ old) × (queue' ≡ queue)
+IsMovedBy {T} m (suc n) old queue out new queue' =
+    (mid : Part T) × (first : List (Signal T)) × (behind : List (Signal T)) × (rest : List (Signal T)) ×
+    IsMoved m old queue first mid behind × IsMovedBy m n mid behind rest new queue' × (out ≡ first ++ rest)
+
+-- so many moves were made, these signals went over the root edge, and the part stands for what it stood for
+pub record IsPumped {T : Type 0} (m : Meaning T) (count : ℕ) (old : Part T) (queue : List (Signal T)) (new : Part T) (queue' : List (Signal T)) : Type 0 where
+  pub out : List (Signal T)
+  pub queued : queue' ≡ queue ++ out
+  pub moves : IsMovedBy m count old queue out new queue'
+  pub stands : IsPutOut m old out new
+  -- what was asked, and that its root edge is open, stays
+  pub asked : new.root.demand.asked ≡ old.root.demand.asked
+  pub unclosed : (old.root.state ≡ Closed → ⊥) → new.root.state ≡ Closed → ⊥
+
+-- no move of a part is enabled
+abbrev pub IsQuiet : {T : Type 0} → Meaning T → Part T → List (Signal T) → Type 0
+IsQuiet m part queue = (move : Move) → move_enabled m part queue move ≡ false
+
+-- some move of a part is enabled
+abbrev pub IsAwake : {T : Type 0} → Meaning T → Part T → List (Signal T) → Type 0
+IsAwake m part queue = (move : Move) × (move_enabled m part queue move ≡ true)
+
+-- how driving a part ends after so many moves: Idle, with what is left of the budget, where no move is enabled; Budget where
+-- one is and the whole budget was spent
+abbrev pub HasEnded : {T E : Type 0} → Meaning T → ℕ → ℕ → Part T → List (Signal T) → Result Pumped E → Type 0
+HasEnded m budget n part queue (Ok (Idle left)) = (n + left ≡ budget) × IsQuiet m part queue
+HasEnded m budget n part queue (Ok Budget) = (n ≡ budget) × IsAwake m part queue
+HasEnded m budget n part queue (Err e) = n ≤ budget
+
+-- how it ends where the whole budget was spent
+abbrev pub IsSpent : {T : Type 0} → Meaning T → Part T → List (Signal T) → Pumped → Type 0
+IsSpent m part queue (Idle left) = (left ≡ 0) × IsQuiet m part queue
+IsSpent m part queue Budget = IsAwake m part queue
+
+-- ---- idle means delivered
+
+-- the first items of a value were sent, as many as were asked for or as there are, and the ending too where more was asked
+-- for than there are and the value has one
+pub record IsServed {T : Type 0} (part : Part T) (output : List (Signal T)) (v : Stream T) : Type 0 where
+  pub items : items_in output ≡ take (min part.root.demand.asked (length v.items)) v.items
+  pub ending : length v.items < part.root.demand.asked → (v.ending ≡ Open → ⊥) → part.root.state ≡ Ended
+
+-- a part whose root edge isn't closed and whose receiver has room did so, as long as no edge has carried 2^63-1 items
+abbrev pub IsDelivered : {T : Type 0} → Meaning T → Part T → List (Signal T) → Type 0
+IsDelivered {T} m part queue =
+    (published : List (Stream T)) (e : Expr T) (joins : List ℕ) (output : List (Signal T)) → PartStands m published part e joins output →
+    (part.root.state ≡ Closed → ⊥) → length queue < 64 → IsWithin part.tree →
+    (v : Stream T) → evaluated m published joins e (notes_of part.tree) ≡ Some v → IsServed part output v

@@ -1,0 +1,362 @@
+//! A part of a graph: one tree of nodes with its edges.
+
+ghost use Rattle.std.specs.Prelude.{◌≡◌, IfSome, true};
+
+use crate::build::build;
+use crate::edge::{Edge, EdgeState};
+use crate::node::Node;
+use crate::queue::{CAPACITY, SignalQueue};
+use rsx_model::Expr;
+use rsx_sources::NotMade;
+use rsx_types::{Move, NoMemory, NodeId, Note, Ops, StreamValue, Tree};
+use std::alloc::Global;
+
+/// How a [`Part::pump`] ended.
+#[derive(Clone, Copy, Debug, PartialEq, Eq)]
+pub enum Pumped {
+    /// No move is enabled. So much of the budget is left.
+    Idle(u32),
+    /// The budget is used up, and a move is enabled.
+    Budget,
+}
+
+/// One tree of nodes with its edges: the edge from its root, and those below it.
+///
+/// What the root sends goes into a queue that each call is handed: that of a subscription's root edge. All that went over
+/// the root edge, followed by what still comes out of the tree, is the expression that the part was made for. The nodes
+/// are numbered in pre-order from 0, and an edge has the number of the node that sends over it.
+#[derive(Drop)]
+pub struct Part<T> {
+    /// The tree.
+    pub tree: Node<T>,
+    /// The edge from the tree's root to its receiver.
+    pub root: Edge,
+}
+
+impl<T: Drop> Part<T> {
+    ghost use Rattle.std.specs.Prelude.{◌≡◌, ◌<◌, ◌+◌, ◌^◌, ℕ, List, [], ◌∷◌, Option, Some, None, true, false, OnOk, OnErr, IfOk, IfErr, IfSome, IfNone, map};
+    ghost use Rattle.rsx_demand.specs.Demand.{saturating_total};
+    ghost use Rattle.rsx_model.specs.Check.{first_fault};
+    ghost use Rattle.rsx_types.specs.Meaning.{Meaning};
+    ghost use Rattle.rsx_types.specs.Notes.{unchosen};
+    ghost use Rattle.rsx_types.specs.Stream.{Stream};
+    ghost use Rattle.rsx_sources.specs.Steps.{IsNotMade};
+    ghost use Rattle.rsx_pipe.specs.Built.{fresh_edge, fresh_edges};
+    ghost use Rattle.rsx_pipe.specs.Edges.{closed_view, edge_view};
+    ghost use Rattle.rsx_pipe.specs.Tree.{comes_out, notes_of, can_send, IsAllClosed};
+    ghost use Rattle.rsx_pipe.specs.Driven.{Spent};
+    ghost use Rattle.rsx_pipe.specs.Part.{PartStands, IsPutOut, IsMade, IsPumped, IsQuiet, IsAwake, IsSpent, IsRootSent, HasEnded, IsDelivered, number_of, all_edges, move_enabled, tree_of, ask_enabled, send_enabled, IsAsk, IsSend};
+
+    /// The part of an expression that `check_expr` accepts, before anything was asked of it.
+    ///
+    /// # Errors
+    /// [`NoMemory`] where a growth was refused.
+    pub fn new<O: Ops<Item = T>>(
+        alloc: Global,
+        ops: &O,
+        expr: &Expr<T>,
+    ) -> Result<Part<T>, NoMemory>
+        requires { first_fault 0 expr.now ≡ None }
+        ensures stands { IfOk result (λ p. (published : List (Stream T)) → PartStands (O.meaning ops.now) published p expr.now [] []) }
+        ensures edges { IfOk result (λ p. all_edges p ≡ fresh_edge ∷ fresh_edges expr.now) }
+    {
+        let tree = build(alloc, ops, expr)?;
+        Ok(Part {
+            tree,
+            root: Edge::new(),
+        })
+    }
+
+    /// Asks for `n` items more over the root edge, at most 2^63 - 1 in all (rules 3.8 and 3.17). It takes no memory.
+    pub fn request(&mut self, n: u64)
+        ensures stands { (m : Meaning T) → IsPutOut m self.old [] self.new }
+        ensures asked { self.new.root.demand.asked ≡ saturating_total self.old.root.demand.asked n }
+        ensures sent { self.new.root.demand.sent ≡ self.old.root.demand.sent }
+        ensures state { self.new.root.state ≡ self.old.root.state }
+        ensures tree { self.new.tree ≡ self.old.tree }
+    {
+        self.root.demand.ask(n);
+    }
+
+    /// Closes the root edge and every edge below it (rule 3.12). An edge that has ended stays so. It takes no memory.
+    pub fn close(&mut self)
+        ensures stands { (m : Meaning T) → IsPutOut m self.old [] self.new }
+        ensures edges { all_edges self.new ≡ map closed_view (all_edges self.old) }
+        ensures closed { IsAllClosed self.new.tree }
+        ensures root { self.new.root.state ≡ EdgeState.Live → ⊥ }
+        ensures asked { self.new.root.demand.asked ≡ self.old.root.demand.asked }
+        ensures notes { notes_of self.new.tree ≡ notes_of self.old.tree }
+    {
+        self.root.close();
+        self.tree.close();
+    }
+
+    /// Whether a move is enabled, where the root's signals go into the queue `out`. The tree that the move names is the
+    /// caller's to know.
+    pub fn enabled(&self, step: Move, out: &SignalQueue<T>) -> bool
+        ensures { (m : Meaning T) → result ≡ move_enabled m self.now out.now step }
+    {
+        match step {
+            Move::Ask(_, node) => self.can_ask(node.0),
+            Move::Send(_, node) => self.can_send(node.0, out),
+            Move::Take(_, _) => false,
+        }
+    }
+
+    /// Whether the Ask of the node `at` is enabled.
+    fn can_ask(&self, at: u32) -> bool
+        ensures { result ≡ ask_enabled self.now at }
+    {
+        if at == 0 {
+            return false;
+        }
+        self.tree
+            .can_ask(at - 1, self.root.demand.asked, self.root.demand.sent)
+    }
+
+    /// Whether the Send of the node `at` is enabled.
+    fn can_send(&self, at: u32, out: &SignalQueue<T>) -> bool
+        ensures { (m : Meaning T) → result ≡ send_enabled m self.now out.now at }
+    {
+        if at == 0 {
+            return self.can_send_root(out);
+        }
+        self.tree.can_send(at - 1)
+    }
+
+    /// Whether the Send of the root is enabled.
+    fn can_send_root(&self, out: &SignalQueue<T>) -> bool
+        ensures { (m : Meaning T) → result ≡ send_enabled m self.now out.now 0 }
+    {
+        if out.len() >= CAPACITY {
+            return false;
+        }
+        match self.tree.front() {
+            Some(front) => self.root.can_carry(front),
+            None => false,
+        }
+    }
+
+    /// The first enabled move, from the root down, as a move of this tree. None where no move is enabled.
+    pub fn first_enabled(&self, tree: Tree, out: &SignalQueue<T>) -> Option<Move>
+        ensures some { (m : Meaning T) → IfSome result (λ step. (tree_of step ≡ tree) × (move_enabled m self.now out.now step ≡ true)) }
+        ensures none { (m : Meaning T) → IfNone result ((step : Move) → (number_of step < 2 ^ 32) → move_enabled m self.now out.now step ≡ false) }
+    {
+        if self.can_send_root(out) {
+            return Some(Move::Send(tree, NodeId(0)));
+        }
+        self.tree
+            .first_enabled(tree, 1, self.root.demand.asked, self.root.demand.sent)
+    }
+
+    /// Makes a move; what goes over the root edge goes into the queue `out`. The tree that the move names is the caller's to
+    /// know.
+    ///
+    /// # Errors
+    /// [`NotMade::NotEnabled`] exactly where the move isn't enabled, and [`NotMade::NoMemory`] where a growth was refused.
+    /// Then nothing changed.
+    pub fn make<O: Ops<Item = T>>(
+        &mut self,
+        alloc: Global,
+        ops: &O,
+        step: Move,
+        out: &mut SignalQueue<T>,
+    ) -> Result<(), NotMade>
+        ensures made { OnOk result (IsMade (O.meaning ops.now) step self.old out.old self.new out.new) }
+        ensures enabled { OnOk result (move_enabled (O.meaning ops.now) self.old out.old step ≡ true) }
+        ensures err { IfErr result (IsNotMade (move_enabled (O.meaning ops.now) self.old out.old step)) }
+        ensures same { OnErr result ((self.new ≡ self.old) × (out.new ≡ out.old)) }
+    {
+        match step {
+            Move::Ask(_, node) => match self.ask(node.0) {
+                Ok(()) => Ok(()),
+                Err(why) => Err(why),
+            },
+            Move::Send(_, node) => {
+                if node.0 > 0 {
+                    return match self.send_below(alloc, ops, node.0 - 1) {
+                        Ok(()) => Ok(()),
+                        Err(why) => Err(why),
+                    };
+                }
+                match self.send_root(alloc, ops, out) {
+                    Ok(()) => Ok(()),
+                    Err(why) => Err(why),
+                }
+            }
+            Move::Take(_, _) => Err(NotMade::NotEnabled),
+        }
+    }
+
+    /// Makes the Ask of the node `at`.
+    fn ask(&mut self, at: u32) -> Result<(), NotMade>
+        ensures stands { (m : Meaning T) → OnOk result (IsPutOut m self.old [] self.new) }
+        ensures effect { OnOk result (IsAsk self.old at self.new) }
+        ensures root { self.new.root ≡ self.old.root }
+        ensures enabled { OnOk result (ask_enabled self.old at ≡ true) }
+        ensures err { IfErr result (λ e. (e ≡ NotMade.NotEnabled) × (ask_enabled self.old at ≡ false)) }
+        ensures same { OnErr result (self.new ≡ self.old) }
+    {
+        if at == 0 {
+            return Err(NotMade::NotEnabled);
+        }
+        match self
+            .tree
+            .ask(at - 1, self.root.demand.asked, self.root.demand.sent)
+        {
+            Ok(()) => Ok(()),
+            Err(why) => Err(why),
+        }
+    }
+
+    /// Makes the Send over the edge `at` below the root.
+    fn send_below<O: Ops<Item = T>>(
+        &mut self,
+        alloc: Global,
+        ops: &O,
+        at: u32,
+    ) -> Result<(), NotMade>
+        ensures stands { OnOk result (IsPutOut (O.meaning ops.now) self.old [] self.new) }
+        ensures effect { OnOk result (IsSend (O.meaning ops.now) self.old (at + 1) [] self.new) }
+        ensures root { self.new.root ≡ self.old.root }
+        ensures enabled { OnOk result (can_send (O.meaning ops.now) self.old.tree at ≡ true) }
+        ensures err { IfErr result (IsNotMade (can_send (O.meaning ops.now) self.old.tree at)) }
+        ensures same { OnErr result (self.new ≡ self.old) }
+    {
+        match self.tree.send(alloc, ops, at) {
+            Ok(()) => Ok(()),
+            Err(why) => Err(why),
+        }
+    }
+
+    /// Makes the Send over the root edge: moves the root's signal into the queue.
+    fn send_root<O: Ops<Item = T>>(
+        &mut self,
+        alloc: Global,
+        ops: &O,
+        out: &mut SignalQueue<T>,
+    ) -> Result<(), NotMade>
+        ensures sent { OnOk result (IsRootSent (O.meaning ops.now) self.old out.old self.new out.new) }
+        ensures err { IfErr result (IsNotMade (send_enabled (O.meaning ops.now) self.old out.old 0)) }
+        ensures same { OnErr result ((self.new ≡ self.old) × (out.new ≡ out.old)) }
+    {
+        let Some(front) = self.tree.front() else {
+            return Err(NotMade::NotEnabled);
+        };
+        if out.len() >= CAPACITY || !self.root.can_carry(front) {
+            return Err(NotMade::NotEnabled);
+        }
+        let signal = match self.tree.pop(alloc, ops) {
+            Ok(Some(signal)) => signal,
+            Ok(None) => return Err(NotMade::NotEnabled),
+            Err(NoMemory) => return Err(NotMade::NoMemory),
+        };
+        out.push(signal);
+        self.root.carry(front);
+        Ok(())
+    }
+
+    /// Makes enabled moves, in an order of its own, until none is enabled (Idle) or `budget` moves were made (Budget); where
+    /// both hold it answers Idle. What goes over the root edge goes into the queue `out`; where that is full, a Send over the
+    /// root edge isn't enabled.
+    ///
+    /// # Errors
+    /// [`NoMemory`] where a growth was refused; the moves made before stand.
+    pub fn pump<O: Ops<Item = T>>(
+        &mut self,
+        alloc: Global,
+        ops: &O,
+        budget: u32,
+        out: &mut SignalQueue<T>,
+    ) -> Result<Pumped, NoMemory>
+        ensures pumped { (n : ℕ) × HasEnded (O.meaning ops.now) budget n self.new out.new result × IsPumped (O.meaning ops.now) n self.old out.old self.new out.new }
+
+        // Idle means delivered.
+        ensures served { IfOk result (λ p. (left : ℕ) → p ≡ Pumped.Idle left → IsDelivered (O.meaning ops.now) self.new out.new) }
+    {
+        let mut left = budget;
+        for round in 0..budget {
+            if left == 0 {
+                return Ok(self.spent(out));
+            }
+            let before = left;
+            left = match self.round(alloc, ops, before, out) {
+                Ok(left) => left,
+                Err(NoMemory) => return Err(NoMemory),
+            };
+            if left == before {
+                return Ok(Pumped::Idle(left));
+            }
+        }
+        Ok(self.spent(out))
+    }
+
+    /// Sends over the root edge, or where that isn't enabled makes the moves of the tree; answers how many of the budget are
+    /// left. As many as before are left only where no move is enabled.
+    fn round<O: Ops<Item = T>>(
+        &mut self,
+        alloc: Global,
+        ops: &O,
+        budget: u32,
+        out: &mut SignalQueue<T>,
+    ) -> Result<u32, NoMemory>
+        requires { 0 < budget }
+        ensures pumped { (n : ℕ) × Spent budget n result × IsPumped (O.meaning ops.now) n self.old out.old self.new out.new }
+        ensures idle { IfOk result (λ left. left ≡ budget → IsQuiet (O.meaning ops.now) self.new out.new) }
+    {
+        match self.send_root(alloc, ops, out) {
+            Ok(()) => Ok(budget - 1),
+            Err(NotMade::NoMemory) => Err(NoMemory),
+            Err(NotMade::NotEnabled) => match self.tree.drive(
+                alloc,
+                ops,
+                self.root.demand.asked,
+                self.root.demand.sent,
+                budget,
+            ) {
+                Ok(left) => Ok(left),
+                Err(NoMemory) => Err(NoMemory),
+            },
+        }
+    }
+
+    /// How driving the part ends where the budget is used up.
+    fn spent(&self, out: &SignalQueue<T>) -> Pumped
+        ensures { (m : Meaning T) → IsSpent m self.now out.now result }
+    {
+        match self.is_idle(out) {
+            true => Pumped::Idle(0),
+            false => Pumped::Budget,
+        }
+    }
+
+    /// Whether no move is enabled.
+    pub fn is_idle(&self, out: &SignalQueue<T>) -> bool
+        ensures yes { (m : Meaning T) → result ≡ true → IsQuiet m self.now out.now }
+        ensures no { (m : Meaning T) → result ≡ false → IsAwake m self.now out.now }
+    {
+        if self.can_send_root(out) {
+            return false;
+        }
+        self.tree
+            .is_idle(self.root.demand.asked, self.root.demand.sent)
+    }
+
+    /// What the nodes recorded, in pre-order.
+    pub fn notes(&self, alloc: Global) -> Result<Vec<Note>, NoMemory>
+        ensures { IfOk result (λ v. v.items ≡ notes_of self.now.tree) }
+    {
+        self.tree.notes(alloc)
+    }
+
+    /// The stream value that still comes out, where nothing more is published and nothing more is chosen.
+    pub fn residual<O: Ops<Item = T>>(
+        &self,
+        alloc: Global,
+        ops: &O,
+    ) -> Result<StreamValue<T>, NoMemory>
+        ensures { IfOk result (λ v. (hubs : List (Stream T)) → comes_out (O.meaning ops.now) hubs (map unchosen (notes_of self.now.tree)) self.now.tree 0 ≡ Some v) }
+    {
+        self.tree.residual(alloc, ops)
+    }
+}
