@@ -68,6 +68,11 @@ plain m (Scan f s) v = item_then s (scanned_items (m.folded f) s v.items v.endin
 plain m (Buffer n) v = buffered_items m.list_of n [] v.items v.ending
 plain m (Distinct f) v = distinct_items (m.keyed f) [] v.items v.ending
 
+-- plain operators one behind another, the first one innermost
+abbrev pub chained : {T : Type 0} → Meaning T → List (Stage T) → Stream T → Stream T
+chained m [] v = v
+chained m (g ∷ gs) v = chained m gs (plain m g v)
+
 -- a list of items, and the completion
 abbrev pub listed : {T : Type 0} → List T → Stream T
 listed xs = record { items = xs; ending = Done }
