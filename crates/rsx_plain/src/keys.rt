@@ -1,6 +1,7 @@
 //! The keys that `distinct` has seen.
 
-ghost use Rattle.std.specs.Prelude.{◌≡◌, [], nat_eq, IfOk, OnOk, OnErr};
+ghost use Rattle.std.specs.Prelude.{◌≡◌, [], ◌++◌, nat_eq, IfOk, OnOk, OnErr};
+ghost use Rattle.std.specs.Option.{option_to_list, IfNone};
 ghost use Rattle.std.specs.Set.{is_member};
 ghost use Rattle.indexmap.specs.IndexSet.{insert_key};
 
@@ -34,7 +35,7 @@ impl Keys {
     }
 
     /// Puts a key last, unless it is there, and answers whether it was there. For want of memory nothing has changed.
-    pub(crate) fn note(&mut self, key: u64) -> Result<bool, NoMemory>
+    pub fn note(&mut self, key: u64) -> Result<bool, NoMemory>
         ensures known { IfOk result (λ known. known ≡ is_member nat_eq self.old key) }
         ensures keys { OnOk result (self.new ≡ insert_key nat_eq self.old key) }
         ensures same { OnErr result (self.new ≡ self.old) }
@@ -43,6 +44,14 @@ impl Keys {
             Ok(new) => Ok(!new),
             Err(_) => Err(NoMemory),
         }
+    }
+
+    /// Takes the last key, if there is one.
+    pub fn pop(&mut self) -> Option<u64>
+        ensures rest { self.old ≡ self.new ++ option_to_list result }
+        ensures none { IfNone result (self.old ≡ []) }
+    {
+        self.set.pop()
     }
 
     /// The same keys once more.

@@ -31,14 +31,14 @@ impl<T: Drop> Started<T> {
     }
 
     /// The items, in their order.
-    pub(crate) fn items(&self) -> &[T]
+    pub fn items(&self) -> &[T]
         ensures { result.now ≡ self.now }
     {
         self.items.as_slice()
     }
 
     /// Puts an item behind the others. For want of memory it comes back, and nothing has changed.
-    pub(crate) fn push(&mut self, item: T) -> Result<(), T>
+    pub fn push(&mut self, item: T) -> Result<(), T>
         ensures ok { OnOk result (self.new ≡ self.old ++ item ∷ []) }
         ensures err { IfErr result (λ x. x ≡ item) }
         ensures same { OnErr result (self.new ≡ self.old) }
@@ -50,7 +50,7 @@ impl<T: Drop> Started<T> {
     }
 
     /// Takes the last item, if there is one.
-    pub(crate) fn pop(&mut self) -> Option<T>
+    pub fn pop(&mut self) -> Option<T>
         ensures rest { self.old ≡ self.new ++ option_to_list result }
         ensures none { IfNone result (self.old ≡ []) }
     {
@@ -58,7 +58,7 @@ impl<T: Drop> Started<T> {
     }
 
     /// Lets all items go. It keeps its memory.
-    pub(crate) fn clear(&mut self)
+    pub fn clear(&mut self)
         ensures { self.new ≡ [] }
     {
         self.items.clear();
