@@ -1,0 +1,75 @@
+-- What an operator holds on to until the operators behind it have taken its answer.
+use Rattle.std.specs.Prelude.{◌≡◌, ℕ, ◌-◌, nat_le, if◌then◌else◌, List, [], ◌∷◌, length, Option, Some, None}
+use Rattle.rsx_types.specs.declared.signal.Ending.{Ending}
+use Rattle.rsx_types.specs.declared.signal.Ending.TheVariants.{Open, Done, Failed}
+use Rattle.rsx_types.specs.Meaning.{Meaning}
+use Rattle.rsx_types.specs.Stream.{Stream}
+use Rattle.rsx_plain.specs.State.{plain_from}
+use Rattle.rsx_plain.specs.declared.state.PlainState.{PlainState}
+use Rattle.rsx_plain.specs.declared.state.PlainState.TheVariants.{Map, Filter, Take, Scan, Buffer, Distinct}
+use Rattle.rsx_chain.specs.Portions.{portion_then}
+use Rattle.rsx_chain.specs.declared.portion.Portion.{Portion}
+use Rattle.rsx_chain.specs.declared.attempt.Attempt.{Attempt}
+use Rattle.rsx_chain.specs.declared.attempt.Held.{Held}
+use Rattle.rsx_chain.specs.declared.attempt.Held.TheVariants.{Nothing, Kept, HandedOn, Accumulated, Gathered}
+
+-- a list that begins with x, without its last element
+abbrev pub without_last_from : {A : Type 0} → A → List A → List A
+without_last_from x [] = []
+without_last_from x (y ∷ ys) = x ∷ without_last_from y ys
+
+-- a list without its last element
+abbrev pub without_last : {A : Type 0} → List A → List A
+without_last [] = []
+without_last (x ∷ xs) = without_last_from x xs
+
+-- the last element of a list that begins with x
+abbrev pub last_from : {A : Type 0} → A → List A → A
+last_from x [] = x
+last_from x (y ∷ ys) = last_from y ys
+
+-- the last element, if there is one
+abbrev pub last_of : {A : Type 0} → List A → Option A
+last_of [] = None
+last_of (x ∷ xs) = Some (last_from x xs)
+
+-- the operator once its answer was taken
+abbrev pub committed : {T : Type 0} → PlainState T → Held T → PlainState T
+committed (Take n left) HandedOn = Take n (left - 1)
+committed (Scan f a) (Accumulated x b) = Scan f b
+committed (Buffer n xs) Gathered = Buffer n (if nat_le n (length xs) then [] else xs)
+committed s h = s
+
+-- the operator once its answer was refused: as it was before
+abbrev pub rolled_back : {T : Type 0} → PlainState T → Held T → PlainState T
+rolled_back (Buffer n xs) Gathered = Buffer n (without_last xs)
+rolled_back (Distinct f ks n) HandedOn = Distinct f (without_last ks) n
+rolled_back s h = s
+
+-- the item that came in, where this item, if any, came out
+abbrev pub taken_back : {T : Type 0} → PlainState T → Held T → Option T → Option T
+taken_back s Nothing y = None
+taken_back s (Kept x) y = Some x
+taken_back s HandedOn y = y
+taken_back s (Accumulated x b) y = Some x
+taken_back (Buffer n xs) Gathered y = last_of xs
+taken_back s Gathered y = None
+
+-- the list that was started comes out where the items are complete
+abbrev pub list_at_end : {T : Type 0} → (List T → T) → List T → Ending → Option T
+list_at_end list [] e = None
+list_at_end list (x ∷ xs) Done = Some (list (x ∷ xs))
+list_at_end list (x ∷ xs) Open = None
+list_at_end list (x ∷ xs) (Failed c) = None
+
+-- the list of n items that was started comes out where it is full or the items are complete
+abbrev pub list_due : {T : Type 0} → (List T → T) → ℕ → List T → Ending → Option T
+list_due list n xs e = if nat_le n (length xs) then Some (list xs) else list_at_end list xs e
+
+-- the portion came in; once the answer is taken, what came out of the old state is the answer, and then what comes out of
+-- the new one; once it is refused, all is as before
+abbrev pub Tries : {T : Type 0} → Meaning T → PlainState T → Portion T → PlainState T → Attempt T → Type 0
+Tries {T} m before p now a =
+    ((v : Stream T) → plain_from m before (portion_then p v) ≡ portion_then a.answer (plain_from m (committed now a.held) v))
+    × (rolled_back now a.held ≡ before)
+    × (taken_back now a.held a.answer.item ≡ p.item)

@@ -1,0 +1,170 @@
+//! Chains of plain operators.
+
+ghost use Rattle.std.specs.Prelude.{◌≡◌, [], IfOk, IfErr, OnOk, OnErr, IsTrue};
+ghost use Rattle.rsx_types.specs.Meaning.{Meaning};
+ghost use Rattle.rsx_types.specs.Plain.{plain, chained};
+ghost use Rattle.rsx_types.specs.Stream.{Stream};
+ghost use Rattle.rsx_plain.specs.Moves.{Moves, EndsLast};
+ghost use Rattle.rsx_plain.specs.State.{plain_from, plain_start};
+ghost use Rattle.rsx_chain.specs.Chain.{chain_from};
+ghost use Rattle.rsx_chain.specs.Portions.{portion_then, followed_by};
+
+use crate::attempt::{commit, roll_back, try_take};
+use crate::portion::Portion;
+use rsx_plain::{Operator, PlainState};
+use rsx_sources::OutSlot;
+use rsx_types::{Ending, NoMemory, Ops, Signal, Stage, StreamValue};
+use std::alloc::Global;
+
+/// Plain operators one behind another that have taken some of their input.
+#[derive(Drop)]
+pub enum ChainState<T> {
+    /// No operator: what comes in comes out.
+    End,
+    /// The first operator, and the chain behind it, into which it puts what comes out of it.
+    Stage(PlainState<T>, Box<ChainState<T>>),
+}
+
+/// A chain that has taken nothing yet, with what comes out of it at the start.
+#[derive(Drop)]
+pub struct Begun<T> {
+    /// The chain.
+    pub chain: ChainState<T>,
+    /// What comes out at the start.
+    pub first: StreamValue<T>,
+}
+
+impl<T: Drop> ChainState<T> {
+    ghost use Rattle.std.specs.Prelude.{◌≡◌, [], IfOk, IfErr, OnOk, OnErr, IsTrue};
+    ghost use Rattle.rsx_types.specs.Meaning.{Meaning};
+    ghost use Rattle.rsx_types.specs.Plain.{chained};
+    ghost use Rattle.rsx_types.specs.Stream.{Stream};
+    ghost use Rattle.rsx_plain.specs.Moves.{Moves, EndsLast};
+    ghost use Rattle.rsx_chain.specs.Chain.{chain_from};
+    ghost use Rattle.rsx_chain.specs.Portions.{portion_then, followed_by};
+
+    /// The chain of these operators, the first one innermost.
+    pub fn new<O: Ops<Item = T>>(
+        alloc: Global,
+        ops: &O,
+        stages: &[Stage<T>],
+    ) -> Result<Begun<T>, NoMemory>
+        ensures { IfOk result (λ b. (v : Stream T) → chained (O.meaning ops.now) stages.now v ≡ followed_by b.first (chain_from (O.meaning ops.now) b.chain v)) }
+    {
+        match stages.split_first() {
+            None => Ok(Begun {
+                chain: ChainState::End,
+                first: StreamValue::new(Vec::new(alloc), Ending::Open),
+            }),
+            Some((stage, behind)) => {
+                let Begun { chain, first } = ChainState::new(alloc, ops, behind)?;
+                let mut chain = chain;
+                let state = PlainState::new(alloc, ops, stage)?;
+                let seed = start(alloc, ops, stage)?;
+                match chain.take(alloc, ops, seed) {
+                    Ok(out) => {
+                        let first = out.behind(first)?;
+                        let chain = ChainState::Stage(state, Box::new(alloc, chain)?);
+                        Ok(Begun { chain, first })
+                    }
+                    Err(_) => Err(NoMemory),
+                }
+            }
+        }
+    }
+
+    /// Takes a signal of the input, and puts what comes out of the chain into the empty slot.
+    pub fn react<O: Ops<Item = T>>(
+        &mut self,
+        alloc: Global,
+        ops: &O,
+        signal: Signal<T>,
+        out: &mut OutSlot<T>,
+    ) -> Result<(), Signal<T>>
+        requires { out.old ≡ [] }
+        ensures ok { OnOk result (Moves (chain_from (O.meaning ops.now)) self.old signal out.new self.new) }
+        ensures cut { OnOk result (EndsLast out.new) }
+        ensures err { IfErr result (λ s. s ≡ signal) }
+        ensures same { OnErr result (self.new ≡ self.old) }
+        ensures none { OnErr result (out.new ≡ []) }
+    {
+        match self.take(alloc, ops, Portion::from_signal(signal)) {
+            Ok(portion) => {
+                portion.put_into(out);
+                Ok(())
+            }
+            Err(portion) => Err(portion.into_signal()),
+        }
+    }
+
+    /// Takes a portion of the input, and answers the portion that comes out. For want of memory the portion comes back, and
+    /// nothing has changed.
+    fn take<O: Ops<Item = T>>(
+        &mut self,
+        alloc: Global,
+        ops: &O,
+        portion: Portion<T>,
+    ) -> Result<Portion<T>, Portion<T>>
+        ensures ok { IfOk result (λ out. (v : Stream T) → chain_from (O.meaning ops.now) self.old (portion_then portion v) ≡ portion_then out (chain_from (O.meaning ops.now) self.new v)) }
+        ensures err { IfErr result (λ p. p ≡ portion) }
+        ensures same { OnErr result (self.new ≡ self.old) }
+    {
+        match self {
+            ChainState::End => Ok(portion),
+            ChainState::Stage(state, behind) => {
+                let ending = portion.ending;
+                match try_take(alloc, ops, state, portion) {
+                    Ok(attempt) => match behind.take(alloc, ops, attempt.answer) {
+                        Ok(out) => {
+                            commit(state, attempt.held);
+                            Ok(out)
+                        }
+                        Err(back) => Err(Portion {
+                            item: roll_back(state, attempt.held, back.item),
+                            ending,
+                        }),
+                    },
+                    Err(portion) => Err(portion),
+                }
+            }
+        }
+    }
+
+    /// What still comes out, where just this value still comes in.
+    pub fn rest<O: Ops<Item = T>>(
+        &self,
+        alloc: Global,
+        ops: &O,
+        value: StreamValue<T>,
+    ) -> Result<StreamValue<T>, NoMemory>
+        ensures { IfOk result (λ v. v ≡ chain_from (O.meaning ops.now) self.now value) }
+    {
+        match self {
+            ChainState::End => Ok(value),
+            ChainState::Stage(state, behind) => {
+                let out = state.rest(alloc, ops, Vec::new(alloc), value.items(), value.ending())?;
+                behind.rest(alloc, ops, out)
+            }
+        }
+    }
+}
+
+/// What comes out of an operator at the start: the seed of `scan`, and the completion of `take 0`.
+fn start<T: Drop, O: Ops<Item = T>>(
+    alloc: Global,
+    ops: &O,
+    stage: &Stage<T>,
+) -> Result<Portion<T>, NoMemory>
+    ensures { IfOk result (λ p. (m : Meaning T) (v : Stream T) → plain m stage.now v ≡ portion_then p (plain_from m (plain_start stage.now) v)) }
+{
+    let mut portion = Portion {
+        item: None,
+        ending: Ending::Open,
+    };
+    match stage {
+        Stage::Take(0) => portion.ending = Ending::Done,
+        Stage::Scan(_, seed) => portion.item = Some(ops.copy(alloc, seed)?),
+        _ => {}
+    }
+    Ok(portion)
+}
