@@ -117,11 +117,12 @@ pub fn step(state: &mut State, demand: &mut Demand, input: Input) -> Result<Effe
     ensures answer { result ≡ answer (cell_of state.old input) demand.old }
 
     // What the table means: items and endings reach only an open subscription, an item only within
-    // its demand, and a closed subscription stays as it is.
+    // its demand, a closed subscription stays as it is, and one that was opened was opened for good.
     ensures delivered { result ≡ Ok Effect.Deliver → state.old ≡ State.Open }
     ensures covered { input ≡ Input.Next → result ≡ Ok Effect.Deliver
         → demand.old.sent < demand.old.asked }
     ensures closed { IsClosed state.old → state.new ≡ state.old }
+    ensures opened { (state.old ≡ State.Fresh → ⊥) → state.new ≡ State.Fresh → ⊥ }
 
     ensures refused { OnErr result ((state.new ≡ state.old) × (demand.new ≡ demand.old)) }
 {
