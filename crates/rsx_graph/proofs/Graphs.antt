@@ -17,9 +17,11 @@ use Rattle.rsx_types.specs.Stream.{Stream, signals_then, ended_by}
 use Rattle.rsx_pipe.specs.declared.edge.EdgeState.TheVariants.{Live}
 use Rattle.rsx_graph.specs.declared.state.SubscriptionState.{SubscriptionState}
 use Rattle.rsx_graph.specs.declared.state.SubscriptionState.TheVariants.{Open, Ended, Cancelled, Refused}
+use Rattle.rsx_demand.specs.declared.Demand.{Demand}
+use Rattle.rsx_subscription.specs.declared.State.TheVariants.{Open as OpenState}
+use Rattle.rsx_graph.specs.Standing.{standing}
 use Rattle.rsx_pipe.specs.Built.{IsBuilt, fresh_edge}
 use Rattle.rsx_graph.specs.Begun.{IsFresh}
-use Rattle.rsx_pipe.specs.Edges.{edge_view}
 use Rattle.rsx_pipe.proofs.Builds.{fresh_edge_is}
 use Rattle.rsx_pipe.specs.Tree.{comes_out, notes_of, edges}
 use Rattle.rsx_pipe.proofs.Trees.{notes_then-unrecorded, notes_then-unchosen, unchosen_notes}
@@ -30,11 +32,11 @@ use Rattle.rsx_graph.specs.History.{Past, History, subscribed, IsLive, Belongs, 
 use Rattle.std.proofs.Common.{◌⊎◌, inl, inr}
 use Rattle.rsx_types.specs.declared.names.Move.TheVariants.{Ask, Send, Take}
 use Rattle.rsx_types.specs.declared.names.Tree.TheVariants.{Sub, Feed}
-use Rattle.rsx_graph.proofs.Moves.{leads_on}
+use Rattle.rsx_graph.proofs.Moves.{leads_on, live_test}
 use Rattle.rsx_graph.specs.Pumped.{IsPumped, AllPumped, IsMoved, IsMoveMade, Leads, IsQuiet, IsAwake, AreQuiet, IsAllQuiet, IsAnyAwake, given_all, to}
 use Rattle.std.proofs.lemmas.List.{append-nil}
 use Rattle.rsx_graph.proofs.Signals.{some_same}
-use Rattle.rsx_graph.specs.Stands.{Stands, AllStand, StandsFor, IsMade, enabled_in_tree, enabled_at, move_enabled_in, values_then, evaluated, owed_from, owes_in, OwedAt}
+use Rattle.rsx_graph.specs.Stands.{Stands, AllStand, StandsFor, IsMade, enabled_in_tree, enabled_at, move_enabled_in, values_then, evaluated, owed_from, owes_in, OwedAt, standing_of}
 
 pub AllStand-push : {T : Type 0} (m : Meaning T) (published : List (Stream T)) (subs : List (Subscription T)) (pasts : List (Past T)) (s : Subscription T) (p : Past T) → Stands m published s p → AllStand m published subs pasts → AllStand m published (subs ++ s ∷ []) (pasts ++ p ∷ [])
 AllStand-push m published [] [] s p k h = (k, tt)
@@ -100,13 +102,13 @@ enabled_there m (s ∷ subs) (suc i) old mv lt e =
     past_first (move_enabled_in m s mv) (enabled_at m subs (suc i - 1) mv) i
     ∙ (ap (λ k. enabled_at m subs k mv) (suc_less i) ∙ enabled_there m subs i old mv (omega arith) e)
 
-pub asked_there : {T : Type 0} (m : Meaning T) (published : List (Stream T)) (subs : List (Subscription T)) (pasts : List (Past T)) (i : ℕ) (sub : Subscription T) → i < length subs → get_or subs i sub ≡ sub → AllStand m published subs pasts → HasAsked pasts i sub.root.demand.asked
+pub asked_there : {T : Type 0} (m : Meaning T) (published : List (Stream T)) (subs : List (Subscription T)) (pasts : List (Past T)) (i : ℕ) (sub : Subscription T) → i < length subs → get_or subs i sub ≡ sub → AllStand m published subs pasts → HasAsked pasts i sub.demand.asked
 asked_there m published [] pasts i sub lt e h = absurd (omega arith)
 asked_there m published (s ∷ subs) [] i sub lt e h = absurd h
-asked_there {T} m published (s ∷ subs) (p ∷ pasts) zero sub lt e h = let P : Subscription T → Type 0 = λ t. Stands m published t p in let k : Stands m published sub p = subst P e h.0 in k.asked
+asked_there {T} m published (s ∷ subs) (p ∷ pasts) zero sub lt e h = let P : Subscription T → Type 0 = λ t. Stands m published t p in let k : Stands m published sub p = subst P e h.0 in k.requested
 asked_there m published (s ∷ subs) (p ∷ pasts) (suc i) sub lt e h = asked_there m published subs pasts i sub (omega arith) e h.1
 
-pub state_there : {T : Type 0} (m : Meaning T) (published : List (Stream T)) (subs : List (Subscription T)) (pasts : List (Past T)) (i : ℕ) (sub : Subscription T) → slice_get subs i ≡ Some sub → AllStand m published subs pasts → state_at pasts i ≡ Some sub.state
+pub state_there : {T : Type 0} (m : Meaning T) (published : List (Stream T)) (subs : List (Subscription T)) (pasts : List (Past T)) (i : ℕ) (sub : Subscription T) → slice_get subs i ≡ Some sub → AllStand m published subs pasts → state_at pasts i ≡ Some (standing_of sub)
 state_there m published [] pasts i sub e h = cc
 state_there m published (s ∷ subs) [] i sub e h = absurd h
 state_there {T} m published (s ∷ subs) (p ∷ pasts) zero sub e h =
@@ -253,11 +255,23 @@ any_awake m subs i sub lt e h = elim h.1 [
 
 -- ---- a subscription that has just begun
 
-pub stands_fresh : {T : Type 0} (m : Meaning T) (published : List (Stream T)) (e : Expr T) (sub : Subscription T) → IsBuilt m e sub.tree → sub.queue ≡ [] → sub.root.state ≡ Live → sub.root.demand.asked ≡ 0 → sub.root.demand.sent ≡ 0 → sub.state ≡ Open → Stands m published sub (subscribed e [])
-stands_fresh {T} m published e sub b q l a s o =
-    let live : IsLive sub.state = rw o tt in
+-- how the subscriber stands at the beginning
+pub record IsBegun {T : Type 0} (sub : Subscription T) : Type 0 where
+  pub state : sub.state ≡ OpenState
+  pub live : sub.live ≡ true
+  pub asked : sub.demand.asked ≡ 0
+  pub delivered : sub.demand.sent ≡ 0
+
+pub begun : {T : Type 0} (sub : Subscription T) (d : Demand) → d.asked ≡ 0 → d.sent ≡ 0 → sub.state ≡ OpenState → sub.live ≡ true → sub.demand.asked ≡ d.asked → sub.demand.sent ≡ d.sent → IsBegun sub
+begun sub d a s o l r t = record { state = o; live = l; asked = r ∙ a; delivered = t ∙ s }
+
+pub stands_fresh : {T : Type 0} (m : Meaning T) (published : List (Stream T)) (e : Expr T) (sub : Subscription T) → IsBuilt m e sub.tree → sub.queue ≡ [] → sub.root.state ≡ Live → sub.root.demand.asked ≡ 0 → sub.root.demand.sent ≡ 0 → IsBegun sub → Stands m published sub (subscribed e [])
+stands_fresh {T} m published e sub b q l a s f =
+    let o : standing_of sub ≡ Open = ap (λ t. standing t sub.live) f.state in
+    let live : IsLive (standing_of sub) = rw o tt in
     record {
       state = o;
+      live = f.live ∙ sym (live_test (standing_of sub) live);
       value = λ _ more further len.
           rw (q, notes_then-unrecorded (notes_of sub.tree) further b.notes len) (map_same (comes_out m (values_then published more) further sub.tree 0) ∙ b.value (values_then published more) [] further 0 0);
       prefix = λ dead. absurd (dead live);
@@ -272,6 +286,8 @@ stands_fresh {T} m published e sub b q l a s o =
       most = rw s (omega arith);
       within = rw (s, a) (omega arith);
       asked = a;
+      requested = f.asked;
+      delivered = f.delivered;
       closed = λ dead. absurd (dead live);
     }
   where
@@ -279,11 +295,14 @@ stands_fresh {T} m published e sub b q l a s o =
     map_same None = refl
     map_same (Some v) = refl
 
-pub fresh_sub : {T : Type 0} (m : Meaning T) (e : Expr T) (sub : Subscription T) → IsBuilt m e sub.tree → sub.root.demand.asked ≡ 0 → sub.root.demand.sent ≡ 0 → sub.root.state ≡ Live → sub.queue ≡ [] → sub.state ≡ Open → IsFresh e sub
-fresh_sub m e sub b a s l q o = record {
+pub fresh_sub : {T : Type 0} (m : Meaning T) (e : Expr T) (sub : Subscription T) → IsBuilt m e sub.tree → sub.root.demand.asked ≡ 0 → sub.root.demand.sent ≡ 0 → sub.root.state ≡ Live → sub.queue ≡ [] → IsBegun sub → IsFresh e sub
+fresh_sub m e sub b a s l q f = record {
   edges = ap (λ v. v ∷ edges sub.tree) (fresh_edge_is sub.root a s l) ∙ ap (λ es. fresh_edge ∷ es) b.edges;
   queue = q;
-  state = o;
+  state = f.state;
+  live = f.live;
+  asked = f.asked;
+  delivered = f.delivered;
 }
 
 -- ---- what is owed
@@ -292,15 +311,15 @@ pub values_then-none : {T : Type 0} (published : List (Stream T)) → values_the
 values_then-none [] = refl
 values_then-none (v ∷ vs) = refl
 
-pub owes : {T : Type 0} (m : Meaning T) (published : List (Stream T)) (sub : Subscription T) (past : Past T) (v : Stream T) → sub.state ≡ Open → ((hubs : List (Stream T)) → owed_from m hubs (map unchosen (notes_of sub.tree)) sub ≡ Some v) → Stands m published sub past → evaluated m published past (notes_of sub.tree) ≡ Some (signals_then past.received v)
+pub owes : {T : Type 0} (m : Meaning T) (published : List (Stream T)) (sub : Subscription T) (past : Past T) (v : Stream T) → standing_of sub ≡ Open → ((hubs : List (Stream T)) → owed_from m hubs (map unchosen (notes_of sub.tree)) sub ≡ Some v) → Stands m published sub past → evaluated m published past (notes_of sub.tree) ≡ Some (signals_then past.received v)
 owes {T} m published sub past v o e h =
-    let live : IsLive sub.state = rw o tt in
+    let live : IsLive (standing_of sub) = rw o tt in
     let whole = h.value live [] (map unchosen (notes_of sub.tree)) (unchosen_notes (notes_of sub.tree)) in
     let there : option_map (signals_then past.received) (owed_from m (values_then published []) (map unchosen (notes_of sub.tree)) sub) ≡ Some (signals_then past.received v) = ap (option_map (signals_then past.received)) (e (values_then published [])) in
     ap (λ p. evaluated m p past (notes_of sub.tree)) (sym (values_then-none published))
     ∙ (ap (λ ns. evaluated m (values_then published []) past ns) (sym (notes_then-unchosen (notes_of sub.tree))) ∙ (sym whole ∙ there))
 
-pub owed_open : {T : Type 0} (m : Meaning T) (published : List (Stream T)) (subs : List (Subscription T)) (pasts : List (Past T)) (i : ℕ) (sub : Subscription T) (v : Stream T) → i < length subs → get_or subs i sub ≡ sub → sub.state ≡ Open → ((hubs : List (Stream T)) → owed_from m hubs (map unchosen (notes_of sub.tree)) sub ≡ Some v) → AllStand m published subs pasts → OwedAt m published subs pasts i v
+pub owed_open : {T : Type 0} (m : Meaning T) (published : List (Stream T)) (subs : List (Subscription T)) (pasts : List (Past T)) (i : ℕ) (sub : Subscription T) (v : Stream T) → i < length subs → get_or subs i sub ≡ sub → standing_of sub ≡ Open → ((hubs : List (Stream T)) → owed_from m hubs (map unchosen (notes_of sub.tree)) sub ≡ Some v) → AllStand m published subs pasts → OwedAt m published subs pasts i v
 owed_open m published [] pasts i sub v lt e o w h = absurd (omega arith)
 owed_open m published (s ∷ subs) [] i sub v lt e o w h = absurd h
 owed_open {T} m published (s ∷ subs) (p ∷ pasts) zero sub v lt e o w h =
@@ -312,7 +331,7 @@ owed_open {T} m published (s ∷ subs) (p ∷ pasts) zero sub v lt e o w h =
     subst R (sym o ∙ k.state) w'
 owed_open m published (s ∷ subs) (p ∷ pasts) (suc i) sub v lt e o w h = owed_open m published subs pasts i sub v (omega arith) e o w h.1
 
-pub owed_none : {T : Type 0} (m : Meaning T) (published : List (Stream T)) (subs : List (Subscription T)) (pasts : List (Past T)) (i : ℕ) (sub : Subscription T) (v : Stream T) → i < length subs → get_or subs i sub ≡ sub → (sub.state ≡ Open → ⊥) → v ≡ ended_by NotEnded → AllStand m published subs pasts → OwedAt m published subs pasts i v
+pub owed_none : {T : Type 0} (m : Meaning T) (published : List (Stream T)) (subs : List (Subscription T)) (pasts : List (Past T)) (i : ℕ) (sub : Subscription T) (v : Stream T) → i < length subs → get_or subs i sub ≡ sub → (standing_of sub ≡ Open → ⊥) → v ≡ ended_by NotEnded → AllStand m published subs pasts → OwedAt m published subs pasts i v
 owed_none m published [] pasts i sub v lt e o w h = absurd (omega arith)
 owed_none m published (s ∷ subs) [] i sub v lt e o w h = absurd h
 owed_none {T} m published (s ∷ subs) (p ∷ pasts) zero sub v lt e o w h =

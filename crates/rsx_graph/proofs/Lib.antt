@@ -3,3 +3,4 @@ pub mod Moves
 pub mod Sentence
 pub mod Serving
 pub mod Signals
+pub mod Standings

@@ -1,22 +1,20 @@
 -- Where no move is enabled, what was asked for was delivered.
-use Rattle.std.proofs.Common.{◌≡◌, ◌⊎◌, inl, inr, ℕ, zero, suc, ◌+◌, ◌-◌, ◌<◌, ◌≤◌, min, Bool, true, false, ◌&&◌, nat_eq, nat_lt, List, [], ◌∷◌, ◌++◌, length, length-append, take, map, option_map, Option, Some, None, slice_get, refl, sym, ap, ◌∙◌, subst, arith}
+use Rattle.std.proofs.Common.{◌≡◌, ℕ, zero, suc, ◌+◌, ◌-◌, ◌<◌, ◌≤◌, min, Bool, true, false, ◌&&◌, nat_lt, List, [], ◌∷◌, ◌++◌, length, length-append, take, map, option_map, Option, Some, None, slice_get, refl, sym, ap, ◌∙◌, arith}
 use Rattle.std.proofs.lemmas.Bool.Decides.{nat_tests}
 use Rattle.std.proofs.lemmas.List.{append-nil, take_all}
 use Rattle.rsx_types.specs.Meaning.{Meaning}
 use Rattle.rsx_types.specs.Notes.{unchosen, notes_then}
-use Rattle.rsx_types.specs.Stream.{Stream, signals_then, signal_then, ended_by}
+use Rattle.rsx_types.specs.Stream.{Stream, signals_then}
 use Rattle.rsx_types.specs.declared.note.Note.{Note}
 use Rattle.rsx_types.specs.declared.names.Move.{Move}
 use Rattle.rsx_types.specs.declared.names.Move.TheVariants.{Ask, Send, Take}
 use Rattle.rsx_types.specs.declared.names.Tree.TheVariants.{Sub}
-use Rattle.rsx_types.specs.declared.signal.Ending.TheVariants.{Open as NotEnded}
 use Rattle.rsx_types.specs.declared.signal.Signal.{Signal}
 use Rattle.rsx_types.specs.declared.signal.Signal.TheVariants.{Next, Complete, Error}
 use Rattle.rsx_sources.specs.Machine.{front_of}
-use Rattle.rsx_sources.specs.declared.machine.Front.{Front}
 use Rattle.rsx_pipe.specs.Balance.{IsBalanced, IsWithin}
-use Rattle.rsx_pipe.specs.Edges.{edge_view, EdgeView, is_live, can_pass}
-use Rattle.rsx_pipe.specs.Tree.{offers, can_ask, can_send, can_go, notes_of, comes_out, IsIdle}
+use Rattle.rsx_pipe.specs.Edges.{edge_view, is_live}
+use Rattle.rsx_pipe.specs.Tree.{offers, can_ask, can_send, can_go, notes_of, IsIdle}
 use Rattle.rsx_pipe.specs.declared.edge.EdgeState.{EdgeState}
 use Rattle.rsx_pipe.specs.declared.edge.EdgeState.TheVariants.{Live, Closed, Ended as EdgeEnded}
 use Rattle.rsx_pipe.proofs.Balances.{offers_more, can_pass_live, above_zero, suc_minus}
@@ -24,12 +22,12 @@ use Rattle.rsx_pipe.proofs.Trees.{notes_then-unchosen, unchosen_notes}
 use Rattle.rsx_graph.specs.declared.state.SubscriptionState.{SubscriptionState}
 use Rattle.rsx_graph.specs.declared.state.SubscriptionState.TheVariants.{Open, Ended, Cancelled, Refused}
 use Rattle.rsx_graph.specs.declared.subscription.Subscription.{Subscription}
-use Rattle.rsx_graph.specs.History.{Past, IsLive, IsUnended, IsOrderly, IsPrefixOf, items_in}
+use Rattle.rsx_graph.specs.History.{Past, IsLive, IsUnended, IsOrderly, items_in}
 use Rattle.rsx_graph.specs.Pumped.{IsQuiet, IsAllQuiet}
 use Rattle.rsx_graph.specs.Served.{IsServed, AllServed}
-use Rattle.rsx_graph.specs.Stands.{Stands, AllStand, enabled_at, move_enabled_in, evaluated, owed_from, values_then, send_enabled, take_enabled, ask_enabled, has_room, negated, is_empty}
+use Rattle.rsx_graph.specs.Stands.{Stands, AllStand, enabled_at, move_enabled_in, evaluated, owed_from, values_then, send_enabled, take_enabled, has_room, standing_of}
 use Rattle.rsx_graph.proofs.Graphs.{values_then-none, past_first, suc_less}
-use Rattle.rsx_graph.proofs.Moves.{prefix_open}
+use Rattle.rsx_graph.proofs.Moves.{prefix_open, take_queued}
 use Rattle.rsx_graph.proofs.Signals.{some_same}
 
 never : (b : Bool) → b ≡ true → b ≡ false → ⊥
@@ -37,12 +35,14 @@ never b x y = cc
 
 -- ---- a quiet subscription
 
-nothing_queued : {T : Type 0} (m : Meaning T) (sub : Subscription T) → IsQuiet m sub → sub.queue ≡ []
-nothing_queued m sub q = empty sub.queue (q 0).2
+nothing_queued : {T : Type 0} (m : Meaning T) (published : List (Stream T)) (sub : Subscription T) (past : Past T) → IsQuiet m sub → Stands m published sub past → sub.queue ≡ []
+nothing_queued {T} m published sub past q h = by_queue sub.queue refl
   where
-    empty : {A : Type 0} (xs : List A) → nat_eq 0 0 && negated (is_empty xs) ≡ false → xs ≡ []
-    empty [] e = refl
-    empty (x ∷ xs) e = cc
+    by_queue : (l : List (Signal T)) → sub.queue ≡ l → sub.queue ≡ []
+    by_queue [] e = e
+    by_queue (t ∷ l) e =
+        let some : 0 < length sub.queue = rw e (omega arith) in
+        absurd (never (take_enabled sub 0) (take_queued m published sub past h some) (q 0).2)
 
 idle_tree : {T : Type 0} (m : Meaning T) (sub : Subscription T) → IsQuiet m sub → IsIdle m sub.tree sub.root.demand.asked sub.root.demand.sent
 idle_tree m sub q at =
@@ -52,18 +52,18 @@ idle_tree m sub q at =
     )
 
 -- over a live root edge all that was asked for went
-sent_all_asked : {T : Type 0} (m : Meaning T) (sub : Subscription T) → IsQuiet m sub → sub.root.state ≡ Live → IsBalanced sub.tree sub.root.demand.sent → IsWithin sub.tree → sub.root.demand.sent < sub.root.demand.asked → ⊥
-sent_all_asked m sub q live b w less =
+sent_all_asked : {T : Type 0} (m : Meaning T) (sub : Subscription T) → IsQuiet m sub → sub.queue ≡ [] → sub.root.state ≡ Live → IsBalanced sub.tree sub.root.demand.sent → IsWithin sub.tree → sub.root.demand.sent < sub.root.demand.asked → ⊥
+sent_all_asked m sub q empty live b w less =
     let s = offers_more m sub.tree sub.root.demand.asked sub.root.demand.sent (idle_tree m sub q) b less w in
-    let room : has_room sub ≡ true = ap (λ l. nat_lt (length l) 64) (nothing_queued m sub q) in
+    let room : has_room sub ≡ true = ap (λ l. nat_lt (length l) 64) empty in
     let goes : send_enabled m sub 0 ≡ true = rw (room, s.1) (can_pass_live (edge_view sub.root) (front_of s.0) (ap is_live live) less) in
     never (send_enabled m sub 0) goes (q 0).1
 
-live_root : {T : Type 0} (m : Meaning T) (published : List (Stream T)) (sub : Subscription T) (past : Past T) → IsQuiet m sub → sub.state ≡ Open → Stands m published sub past → sub.root.state ≡ Live
+live_root : {T : Type 0} (m : Meaning T) (published : List (Stream T)) (sub : Subscription T) (past : Past T) → IsQuiet m sub → standing_of sub ≡ Open → Stands m published sub past → sub.root.state ≡ Live
 live_root {T} m published sub past q o h = by_state sub.root.state refl
   where
     whole : past.received ++ sub.queue ≡ past.received
-    whole = ap (λ l. past.received ++ l) (nothing_queued m sub q) ∙ append-nil past.received
+    whole = ap (λ l. past.received ++ l) (nothing_queued m published sub past q h) ∙ append-nil past.received
 
     by_state : (s : EdgeState) → sub.root.state ≡ s → sub.root.state ≡ Live
     by_state Live e = e
@@ -79,13 +79,13 @@ now_published : {T : Type 0} (m : Meaning T) (published : List (Stream T)) (past
 now_published m published past ns v e =
     ap (λ p. evaluated m p past (notes_then ns (map unchosen ns))) (values_then-none published) ∙ (ap (λ k. evaluated m published past k) (notes_then-unchosen ns) ∙ e)
 
-served_open : {T : Type 0} (m : Meaning T) (published : List (Stream T)) (sub : Subscription T) (past : Past T) → IsQuiet m sub → sub.state ≡ Open → IsWithin sub.tree → Stands m published sub past → (v : Stream T) → evaluated m published past (notes_of sub.tree) ≡ Some v → IsServed m published sub past v
+served_open : {T : Type 0} (m : Meaning T) (published : List (Stream T)) (sub : Subscription T) (past : Past T) → IsQuiet m sub → standing_of sub ≡ Open → IsWithin sub.tree → Stands m published sub past → (v : Stream T) → evaluated m published past (notes_of sub.tree) ≡ Some v → IsServed m published sub past v
 served_open {T} m published sub past q o w h v e =
     let live = live_root m published sub past q o h in
-    let full : sub.root.demand.asked ≤ sub.root.demand.sent = not_less sub.root.demand.sent sub.root.demand.asked (sent_all_asked m sub q live (h.balance live) w) in
+    let full : sub.root.demand.asked ≤ sub.root.demand.sent = not_less sub.root.demand.sent sub.root.demand.asked (sent_all_asked m sub q (nothing_queued m published sub past q h) live (h.balance live) w) in
     let within = h.within in
     let asked = h.asked in
-    let none : length (items_in sub.queue) ≡ 0 = ap (λ l. length (items_in l)) (nothing_queued m sub q) in
+    let none : length (items_in sub.queue) ≡ 0 = ap (λ l. length (items_in l)) (nothing_queued m published sub past q h) in
     let counted = h.counted (rw o tt) in
     let count : length (items_in past.received) ≡ past.asked = omega (arith, full, within, asked, none, counted) in
     let p = prefix_open m published sub past o h [] (map unchosen (notes_of sub.tree)) (unchosen_notes (notes_of sub.tree)) v (now_published m published past (notes_of sub.tree) v e) in
@@ -115,10 +115,10 @@ cut_value : {T : Type 0} (a : List (Signal T)) (o : Option (Stream T)) (v : Stre
 cut_value a None v ord n e = cc
 cut_value a (Some w) v ord n e = sym (cut_items a w ord n) ∙ ap (λ s. s.items) (some_same (signals_then a w) v e)
 
-served_ended : {T : Type 0} (m : Meaning T) (published : List (Stream T)) (sub : Subscription T) (past : Past T) → IsQuiet m sub → sub.state ≡ Ended → Stands m published sub past → (v : Stream T) → evaluated m published past (notes_of sub.tree) ≡ Some v → IsServed m published sub past v
+served_ended : {T : Type 0} (m : Meaning T) (published : List (Stream T)) (sub : Subscription T) (past : Past T) → IsQuiet m sub → standing_of sub ≡ Ended → Stands m published sub past → (v : Stream T) → evaluated m published past (notes_of sub.tree) ≡ Some v → IsServed m published sub past v
 served_ended {T} m published sub past q s h v e =
-    let live : IsLive sub.state = rw s tt in
-    let whole : past.received ++ sub.queue ≡ past.received = ap (λ l. past.received ++ l) (nothing_queued m sub q) ∙ append-nil past.received in
+    let live : IsLive (standing_of sub) = rw s tt in
+    let whole : past.received ++ sub.queue ≡ past.received = ap (λ l. past.received ++ l) (nothing_queued m published sub past q h) ∙ append-nil past.received in
     let orderly : IsOrderly past.received = rw whole at h.orderly in
     let value = h.value live [] (map unchosen (notes_of sub.tree)) (unchosen_notes (notes_of sub.tree)) ∙ now_published m published past (notes_of sub.tree) v e in
     let all : items_in past.received ≡ v.items = cut_value past.received (owed_from m (values_then published []) (map unchosen (notes_of sub.tree)) sub) v orderly (h.got s) value in
@@ -147,9 +147,9 @@ quiet_got m subs i sub q e at =
     (sym (enabled_got m subs i sub a e) ∙ q a, sym (enabled_got m subs i sub s e) ∙ q s, sym (enabled_got m subs i sub t e) ∙ q t)
 
 served : {T : Type 0} (m : Meaning T) (published : List (Stream T)) (sub : Subscription T) (past : Past T) → IsQuiet m sub → Stands m published sub past → IsLive past.state → IsWithin sub.tree → (v : Stream T) → evaluated m published past (notes_of sub.tree) ≡ Some v → IsServed m published sub past v
-served {T} m published sub past q h live w v e = by_state sub.state refl
+served {T} m published sub past q h live w v e = by_state (standing_of sub) refl
   where
-    by_state : (s : SubscriptionState) → sub.state ≡ s → IsServed m published sub past v
+    by_state : (s : SubscriptionState) → standing_of sub ≡ s → IsServed m published sub past v
     by_state Open o = served_open m published sub past q o w h v e
     by_state Ended o = served_ended m published sub past q o h v e
     by_state Cancelled o = absurd (dead past.state (sym o ∙ h.state) live)

@@ -6,4 +6,5 @@ pub mod History
 pub mod Names
 pub mod Pumped
 pub mod Served
+pub mod Standing
 pub mod Stands

@@ -1,5 +1,5 @@
 -- What a graph has delivered where no move of it is enabled.
-use Rattle.std.specs.Prelude.{◌≡◌, ℕ, ◌<◌, min, List, [], ◌∷◌, length, take, Some}
+use Rattle.std.specs.Prelude.{◌≡◌, ◌<◌, min, List, [], ◌∷◌, length, take, Some}
 use Rattle.rsx_types.specs.Meaning.{Meaning}
 use Rattle.rsx_types.specs.Stream.{Stream}
 use Rattle.rsx_types.specs.declared.signal.Ending.TheVariants.{Open as NotEnded}
@@ -7,7 +7,7 @@ use Rattle.rsx_pipe.specs.Balance.{IsWithin}
 use Rattle.rsx_pipe.specs.Tree.{notes_of}
 use Rattle.rsx_graph.specs.declared.state.SubscriptionState.TheVariants.{Ended}
 use Rattle.rsx_graph.specs.declared.subscription.Subscription.{Subscription}
-use Rattle.rsx_graph.specs.History.{Past, History, IsLive, items_in}
+use Rattle.rsx_graph.specs.History.{Past, IsLive, items_in}
 use Rattle.rsx_graph.specs.Stands.{evaluated}
 
 -- a subscriber got the first items of its expression's value, as many as it asked for or as there are, and the ending too

@@ -19,6 +19,7 @@ use Rattle.rsx_pipe.specs.declared.edge.EdgeState.TheVariants.{Live, Closed, End
 use Rattle.rsx_graph.specs.declared.state.SubscriptionState.{SubscriptionState}
 use Rattle.rsx_graph.specs.declared.state.SubscriptionState.TheVariants.{Open, Ended, Cancelled, Refused}
 use Rattle.rsx_graph.specs.declared.subscription.Subscription.{Subscription}
+use Rattle.rsx_graph.specs.Standing.{standing, live_in, delivers}
 use Rattle.rsx_pipe.specs.Edges.{edge_view, EdgeView, changed_at, carried_at, asked_up_to}
 use Rattle.rsx_pipe.specs.Tree.{comes_out, notes_of, offers, can_ask, can_send, can_go, IsAllClosed, edges, want_at, front_at, ended_at}
 use Rattle.rsx_sources.specs.declared.machine.Front.{Front}
@@ -48,33 +49,41 @@ evaluated m hubs past notes = eval (environment m hubs past.joins notes) past.ex
 abbrev pub owed_from : {T : Type 0} → Meaning T → List (Stream T) → List Note → Subscription T → Option (Stream T)
 owed_from m hubs further sub = option_map (signals_then sub.queue) (comes_out m hubs further sub.tree 0)
 
+-- how a subscription stands
+abbrev pub standing_of : {T : Type 0} → Subscription T → SubscriptionState
+standing_of sub = standing sub.state sub.live
+
 -- a subscription stands for its past
 pub record Stands {T : Type 0} (m : Meaning T) (published : List (Stream T)) (sub : Subscription T) (past : Past T) : Type 0 where
-  pub state : sub.state ≡ past.state
+  pub state : standing_of sub ≡ past.state
+  pub live : sub.live ≡ live_in (standing_of sub)
   -- live: what was received, and then what is owed, is the expression evaluated from scratch, whatever is still published
   -- and whatever is still chosen
-  pub value : IsLive sub.state → (more : List (Stream T)) (further : List Note) → length further ≡ length (notes_of sub.tree) →
+  pub value : IsLive (standing_of sub) → (more : List (Stream T)) (further : List Note) → length further ≡ length (notes_of sub.tree) →
       option_map (signals_then past.received) (owed_from m (values_then published more) further sub) ≡ evaluated m (values_then published more) past (notes_then (notes_of sub.tree) further)
   -- not live: the items received begin that value
-  pub prefix : (IsLive sub.state → ⊥) → (more : List (Stream T)) (further : List Note) → length further ≡ length (notes_of sub.tree) →
+  pub prefix : (IsLive (standing_of sub) → ⊥) → (more : List (Stream T)) (further : List Note) → length further ≡ length (notes_of sub.tree) →
       (v : Stream T) → evaluated m (values_then published more) past (notes_then (notes_of sub.tree) further) ≡ Some v → IsPrefixOf (items_in past.received) v.items
   -- nothing follows an ending
   pub orderly : IsOrderly (past.received ++ sub.queue)
   pub unended : sub.root.state ≡ Live → IsUnended (past.received ++ sub.queue)
-  pub waits : sub.state ≡ Open → IsUnended past.received
-  pub got : sub.state ≡ Ended → IsUnended past.received → ⊥
+  pub waits : standing_of sub ≡ Open → IsUnended past.received
+  pub got : standing_of sub ≡ Ended → IsUnended past.received → ⊥
   -- the items received and those queued are as many as the root edge has sent
-  pub counted : IsLive sub.state → length (items_in past.received) + length (items_in sub.queue) ≡ sub.root.demand.sent
+  pub counted : IsLive (standing_of sub) → length (items_in past.received) + length (items_in sub.queue) ≡ sub.root.demand.sent
   pub most : length (items_in past.received) ≤ sub.root.demand.sent
   pub within : sub.root.demand.sent ≤ sub.root.demand.asked
   pub asked : sub.root.demand.asked ≡ past.asked
+  -- the subscriber's own demand: what it requested, and the items it received
+  pub requested : sub.demand.asked ≡ past.asked
+  pub delivered : sub.demand.sent ≡ length (items_in past.received)
   -- the root edge of an open subscription isn't closed, and while the subscriber is live it ends with an ending alone
-  pub unclosed : sub.state ≡ Open → sub.root.state ≡ Closed → ⊥
-  pub ended : IsLive sub.state → sub.root.state ≡ EdgeEnded → IsUnended (past.received ++ sub.queue) → ⊥
+  pub unclosed : standing_of sub ≡ Open → sub.root.state ≡ Closed → ⊥
+  pub ended : IsLive (standing_of sub) → sub.root.state ≡ EdgeEnded → IsUnended (past.received ++ sub.queue) → ⊥
   -- while the root edge is live, the counts along all edges belong together
   pub balance : sub.root.state ≡ Live → IsBalanced sub.tree sub.root.demand.sent
   -- not live: the tree is closed, and nothing is queued
-  pub closed : (IsLive sub.state → ⊥) → IsAllClosed sub.tree × (sub.root.state ≡ Live → ⊥) × (sub.queue ≡ [])
+  pub closed : (IsLive (standing_of sub) → ⊥) → IsAllClosed sub.tree × (sub.root.state ≡ Live → ⊥) × (sub.queue ≡ [])
 
 -- each subscription stands for its own past
 abbrev pub AllStand : {T : Type 0} → Meaning T → List (Stream T) → List (Subscription T) → List (Past T) → Type 0
@@ -93,14 +102,6 @@ StandsFor m subs h = AllStand m h.published subs h.pasts
 abbrev pub has_room : {T : Type 0} → Subscription T → Bool
 has_room sub = nat_lt (length sub.queue) 64
 
-abbrev pub is_empty : {A : Type 0} → List A → Bool
-is_empty [] = true
-is_empty (x ∷ xs) = false
-
-abbrev pub negated : Bool → Bool
-negated true = false
-negated false = true
-
 -- Ask: the root edge rises by requests alone
 abbrev pub ask_enabled : {T : Type 0} → Subscription T → ℕ → Bool
 ask_enabled sub at = if nat_eq at 0 then false else can_ask sub.tree (at - 1) sub.root.demand.asked sub.root.demand.sent
@@ -111,9 +112,9 @@ send_enabled m sub at =
     if nat_eq at 0 then has_room sub && can_go (edge_view sub.root) (option_map front_of (offers m sub.tree))
     else can_send m sub.tree (at - 1)
 
--- Take: from the queue of the root edge
+-- Take: from the queue of the root edge, where the table delivers its front signal
 abbrev pub take_enabled : {T : Type 0} → Subscription T → ℕ → Bool
-take_enabled sub at = nat_eq at 0 && negated (is_empty sub.queue)
+take_enabled sub at = nat_eq at 0 && delivers sub.state sub.demand sub.queue
 
 abbrev pub move_enabled_in : {T : Type 0} → Meaning T → Subscription T → Move → Bool
 move_enabled_in m sub (Ask t n) = ask_enabled sub n.0
@@ -133,7 +134,7 @@ enabled_in_tree m subs (Feed h) mv = false
 
 -- a request answers the error of a bad request, or nothing
 abbrev pub IsRequested : {T : Type 0} → List (Subscription T) → SubId → ℤ → Option (Signal T) → Type 0
-IsRequested {T} subs i n o = (s : Subscription T) × (slice_get subs i.0 ≡ Some s) × (o ≡ request_answer s.state n)
+IsRequested {T} subs i n o = (s : Subscription T) × (slice_get subs i.0 ≡ Some s) × (o ≡ request_answer (standing_of s) n)
 
 -- this is what a subscriber is owed: while it is open, its expression's value is what it received followed by this; else
 -- nothing

@@ -15,10 +15,12 @@ use crate::refusal::Refusal;
 use crate::state::SubscriptionState;
 use crate::step::{Answer, Pumped, Step};
 use crate::subscription::Subscription;
+use rsx_demand::Demand;
 use rsx_model::{Expr, check_expr};
 use rsx_pipe::Edge;
 use rsx_pipe::build::build;
 use rsx_sources::NotMade;
+use rsx_subscription::{Input, State, step};
 use rsx_types::{Ending, Move, NoMemory, NodeId, Note, Ops, Signal, StreamValue, SubId, Tree};
 use std::alloc::Global;
 
@@ -277,7 +279,7 @@ impl<O: Ops> Graph<O> {
             return Err(Refusal::UnknownSub);
         }
         let subscription = &self.subscriptions[at];
-        match subscription.state {
+        match subscription.standing() {
             SubscriptionState::Open => {}
             _ => return Ok(StreamValue::new(Vec::new(alloc), Ending::Open)),
         }
@@ -343,7 +345,7 @@ impl<O: Ops> Graph<O> {
             return Err(Refusal::UnknownSub);
         }
         let subscription = &self.subscriptions[at];
-        Ok(subscription.root.demand.asked)
+        Ok(subscription.demand.asked)
     }
 
     /// Makes one step.
@@ -422,10 +424,16 @@ fn new_subscription<O: Ops>(
 {
     let queue = SignalQueue::new(alloc)?;
     let tree = build(alloc, ops, expr)?;
+    let mut state = State::Fresh;
+    let mut demand = Demand::new();
+    // `onSubscribe` comes before everything else (rule 1.9).
+    let _ = step(&mut state, &mut demand, Input::Subscribe);
     Ok(Subscription {
         tree,
         root: Edge::new(),
         queue,
-        state: SubscriptionState::Open,
+        state,
+        demand,
+        live: true,
     })
 }

@@ -1,28 +1,40 @@
-//! One subscription: its tree, its root edge with the queue of it, and how it stands.
+//! One subscription: its tree, its root edge with the queue of it, and where it stands in the subscription table.
 
 ghost use Rattle.std.specs.Prelude.{◌≡◌, IfOk};
 ghost use Rattle.rsx_types.specs.Stream.{signals_then};
-ghost use Rattle.rsx_graph.specs.History.{state_after as after_signal};
+ghost use Rattle.rsx_subscription.specs.declared.State.TheVariants.{Fresh};
+ghost use Rattle.rsx_subscription.specs.Table.{answer, asked_after, cell_of, sent_after, state_after};
+ghost use Rattle.rsx_graph.specs.Standing.{input_of, is_delivery};
 
 use crate::deliveries::Deliveries;
 use crate::queue::SignalQueue;
 use crate::state::SubscriptionState;
+use rsx_demand::Demand;
 use rsx_pipe::{Edge, EdgeState, Node};
 use rsx_sources::{Front, NotMade};
+use rsx_subscription::{Effect, Input, State, step};
 use rsx_types::{Cause, Ending, NoMemory, Ops, Signal, StreamValue, SubId};
 use std::alloc::Global;
 
 /// One subscription of a graph.
+///
+/// Its state and its demand move by the table of `rsx_subscription` alone.
 #[derive(Drop)]
 pub struct Subscription<T> {
     /// The tree of its expression.
     pub tree: Node<T>,
-    /// The edge from the tree's root to the subscriber.
+    /// The edge from the tree's root to the queue: asked is what the subscriber requested, sent what was put into the queue.
     pub root: Edge,
     /// The signals on that edge, at most 64.
     pub queue: SignalQueue<T>,
-    /// How the subscription stands.
-    pub state: SubscriptionState,
+    /// Where the subscription stands in the table. It is opened before anything else happens (rule 1.9).
+    pub state: State,
+    /// The subscriber's own demand: asked is what it requested, sent the items that it was delivered (rule 1.1).
+    pub demand: Demand,
+    /// Whether the subscriber takes part still: it neither cancelled while it was open nor made a bad request then. The
+    /// table has one state for a bad request and for an error of the expression, and this tells them apart.
+    pub live: bool,
+    pub ghost opened: { state ≡ Fresh → ⊥ },
 }
 
 impl<T: Drop> Subscription<T> {
@@ -33,15 +45,31 @@ impl<T: Drop> Subscription<T> {
     ghost use Rattle.rsx_sources.specs.Steps.{IsNotMade};
     ghost use Rattle.rsx_pipe.specs.Tree.{comes_out, notes_of, IsAllClosed};
     ghost use Rattle.rsx_graph.specs.History.{Past, cancelled, requested, given, request_answer};
-    ghost use Rattle.rsx_pipe.specs.Tree.{IsIdle, can_go, offers};
-    ghost use Rattle.rsx_pipe.specs.Edges.{edge_view};
-    ghost use Rattle.rsx_sources.specs.Machine.{front_of};
-    ghost use Rattle.rsx_graph.specs.Stands.{Stands, owed_from, ask_enabled, send_enabled, take_enabled, IsAsk, IsSend, IsTake};
+    ghost use Rattle.rsx_pipe.specs.Tree.{IsIdle};
+    ghost use Rattle.rsx_graph.specs.Stands.{Stands, standing_of, owed_from, ask_enabled, send_enabled, take_enabled, IsAsk, IsSend, IsTake};
     ghost use Rattle.rsx_graph.specs.Pumped.{IsPumped, IsMoved, IsQuiet, IsAwake, Spent, moves_of};
 
-    /// Closes the subscription and all below it.
-    fn close(&mut self, state: SubscriptionState)
-        ensures state { self.new.state ≡ state }
+    /// How the subscription stands.
+    pub fn standing(&self) -> SubscriptionState
+        ensures { result ≡ standing_of self.now }
+    {
+        match self.state {
+            State::Fresh => SubscriptionState::Open,
+            State::Open => SubscriptionState::Open,
+            State::Cancelled => SubscriptionState::Cancelled,
+            State::Done => SubscriptionState::Ended,
+            State::Failed => match self.live {
+                true => SubscriptionState::Ended,
+                false => SubscriptionState::Refused,
+            },
+        }
+    }
+
+    /// The subscriber is gone: closes the root edge and all below it, and drops what is queued.
+    fn close(&mut self)
+        ensures state { self.new.state ≡ self.old.state }
+        ensures demand { self.new.demand ≡ self.old.demand }
+        ensures live { self.new.live ≡ false }
         ensures queue { self.new.queue ≡ [] }
         ensures root { self.new.root.state ≡ EdgeState.Live → ⊥ }
         ensures asked { self.new.root.demand.asked ≡ self.old.root.demand.asked }
@@ -49,7 +77,7 @@ impl<T: Drop> Subscription<T> {
         ensures tree { IsAllClosed self.new.tree }
         ensures notes { notes_of self.new.tree ≡ notes_of self.old.tree }
     {
-        self.state = state;
+        self.live = false;
         self.root.close();
         self.queue.clear();
         self.tree.close();
@@ -59,8 +87,8 @@ impl<T: Drop> Subscription<T> {
     pub fn cancel(&mut self)
         ensures { (m : Meaning T) (published : List (Stream T)) (past : Past T) → Stands m published self.old past → Stands m published self.new (cancelled past) }
     {
-        match self.state {
-            SubscriptionState::Open => self.close(SubscriptionState::Cancelled),
+        match step(&mut self.state, &mut self.demand, Input::Cancel) {
+            Ok(Effect::Close) => self.close(),
             _ => {}
         }
     }
@@ -68,23 +96,26 @@ impl<T: Drop> Subscription<T> {
     /// Asks for `n` items more, where the subscription is open. The signal is the error of a bad request (rules 3.8 and 3.9).
     pub fn request(&mut self, n: i64) -> Option<Signal<T>>
         ensures stands { (m : Meaning T) (published : List (Stream T)) (past : Past T) → Stands m published self.old past → Stands m published self.new (requested n past) }
-        ensures answer { result ≡ request_answer self.old.state n }
+        ensures answer { result ≡ request_answer (standing_of self.old) n }
     {
-        match self.state {
-            SubscriptionState::Open => {
-                if n > 0 {
-                    self.root.demand.ask(n as u64);
-                    None
-                } else {
-                    self.close(SubscriptionState::Refused);
-                    Some(Signal::Error(Cause::NonPositiveRequest))
-                }
+        let Ok(effect) = step(&mut self.state, &mut self.demand, Input::Request(n)) else {
+            return None;
+        };
+        match effect {
+            Effect::Add => {
+                self.root.demand.ask(n.unsigned_abs());
+                None
+            }
+            Effect::Bad => {
+                self.close();
+                Some(Signal::Error(Cause::NonPositiveRequest))
             }
             _ => None,
         }
     }
 
-    /// Makes the move Take of the node `at`: the root hands the front signal of its queue to the subscriber.
+    /// Makes the move Take of the node `at`: the root hands the front signal of its queue to the subscriber, where the table
+    /// delivers it. An item with no demand left stays queued (rule 1.1).
     pub fn take(&mut self, at: u32) -> Option<Signal<T>>
         ensures some { IfSome result (λ s. (m : Meaning T) (published : List (Stream T)) (past : Past T) → Stands m published self.old past → Stands m published self.new (given s past)) }
         ensures enabled { OnSome result (take_enabled self.old at ≡ true) }
@@ -94,13 +125,30 @@ impl<T: Drop> Subscription<T> {
         if at != 0 {
             return None;
         }
-        match self.queue.pop() {
-            None => None,
-            Some(signal) => {
-                self.state = state_after(self.state, &signal);
-                Some(signal)
-            }
+        if self.queue.len() == 0 {
+            return None;
         }
+        // The step is made on copies, so that one that delivers nothing changes nothing.
+        let mut state = self.state;
+        let mut demand = self.demand;
+        if !delivers(&mut state, &mut demand, self.queue.at(0)) {
+            return None;
+        }
+        self.state = state;
+        self.demand = demand;
+        Some(self.queue.pop().unwrap())
+    }
+
+    /// Whether the move Take of the root is enabled.
+    fn can_take(&self) -> bool
+        ensures { result ≡ take_enabled self.now 0 }
+    {
+        if self.queue.len() == 0 {
+            return false;
+        }
+        let mut state = self.state;
+        let mut demand = self.demand;
+        delivers(&mut state, &mut demand, self.queue.at(0))
     }
 
     /// Makes the move Ask of the node `at`.
@@ -175,10 +223,10 @@ impl<T: Drop> Subscription<T> {
         ensures pumped { IsPumped (O.meaning ops.now) id (moves_of result) self.old out.old.signals self.new out.new.signals }
         ensures idle { IfOk result (λ b. b ≡ false → IsQuiet (O.meaning ops.now) self.new) }
     {
-        if self.queue.len() > 0 {
-            out.reserve()?;
-            self.deliver(id, out);
-            return Ok(true);
+        match self.advance_queue(id, out) {
+            Ok(true) => return Ok(true),
+            Ok(false) => {}
+            Err(NoMemory) => return Err(NoMemory),
         }
         match self.send_root(alloc, ops) {
             Ok(()) => Ok(true),
@@ -191,14 +239,21 @@ impl<T: Drop> Subscription<T> {
         }
     }
 
-    /// Hands the front signal of the queue to the subscriber.
-    fn deliver(&mut self, id: SubId, out: &mut Deliveries<T>)
-        requires room { length out.old.signals < out.old.room }
-        requires waits { 0 < length self.old.queue }
-        ensures { (m : Meaning T) → IsPumped m id 1 self.old out.old.signals self.new out.new.signals }
+    /// Hands the front signal of the queue to the subscriber, where the table delivers one.
+    fn advance_queue(&mut self, id: SubId, out: &mut Deliveries<T>) -> Result<bool, NoMemory>
+        ensures pumped { (m : Meaning T) → IsPumped m id (moves_of result) self.old out.old.signals self.new out.new.signals }
+        ensures none { IfOk result (λ b. b ≡ false → (self.new ≡ self.old) × (out.new.signals ≡ out.old.signals) × (take_enabled self.old 0 ≡ false)) }
     {
-        if let Some(signal) = self.take(0) {
-            out.push(id, signal);
+        if self.queue.len() == 0 {
+            return Ok(false);
+        }
+        out.reserve()?;
+        match self.take(0) {
+            Some(signal) => {
+                out.push(id, signal);
+                Ok(true)
+            }
+            None => Ok(false),
         }
     }
 
@@ -252,7 +307,7 @@ impl<T: Drop> Subscription<T> {
         ensures yes { (m : Meaning T) → result ≡ true → IsQuiet m self.now }
         ensures no { (m : Meaning T) → result ≡ false → IsAwake m self.now }
     {
-        if self.queue.len() > 0 {
+        if self.can_take() {
             return false;
         }
         if self.can_send_root() {
@@ -262,10 +317,13 @@ impl<T: Drop> Subscription<T> {
             .is_idle(self.root.demand.asked, self.root.demand.sent)
     }
 
-    /// Whether the tree offers a signal that can go over the root edge, whose queue aside.
+    /// Whether the move Send of the root is enabled.
     fn can_send_root(&self) -> bool
-        ensures { (m : Meaning T) → result ≡ can_go (edge_view self.now.root) (option_map front_of (offers m self.now.tree)) }
+        ensures { (m : Meaning T) → result ≡ send_enabled m self.now 0 }
     {
+        if self.queue.len() >= 64 {
+            return false;
+        }
         match self.tree.front() {
             Some(front) => self.root.can_carry(front),
             None => false,
@@ -304,12 +362,20 @@ fn behind<O: Ops>(
     Ok(StreamValue::new(items, ending))
 }
 
-/// How a subscription stands after a signal of its expression.
-fn state_after<T>(state: SubscriptionState, signal: &Signal<T>) -> SubscriptionState
-    ensures { result ≡ after_signal state signal.now }
+/// Makes the step of a signal by the table, and answers whether the table delivers it.
+fn delivers<T>(state: &mut State, demand: &mut Demand, signal: &Signal<T>) -> bool
+    ensures delivered { result ≡ is_delivery (answer (cell_of state.old (input_of signal.now)) demand.old) }
+    ensures state { state.new ≡ state_after (cell_of state.old (input_of signal.now)) state.old }
+    ensures asked { demand.new.asked ≡ asked_after (cell_of state.old (input_of signal.now)) demand.old }
+    ensures sent { demand.new.sent ≡ sent_after (cell_of state.old (input_of signal.now)) demand.old }
 {
-    match signal {
-        Signal::Next(_) => state,
-        Signal::Complete | Signal::Error(_) => SubscriptionState::Ended,
+    let input = match signal {
+        Signal::Next(_) => Input::Next,
+        Signal::Complete => Input::Complete,
+        Signal::Error(_) => Input::Error,
+    };
+    match step(state, demand, input) {
+        Ok(effect) => matches!(effect, Effect::Deliver),
+        Err(_) => false,
     }
 }

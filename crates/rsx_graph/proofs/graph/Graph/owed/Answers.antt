@@ -11,7 +11,7 @@ returns-in_default g c = record {
       let l = c.len.ensures in
       let within : c.args.sub.0 < length c.args.self.now.subscriptions.items = omega (arith, l, c.if-at-len.false) in
       let none : c.new-in_default.result ≡ ended_by Open = ended_value c.new-in_default.result Open (c.new-in_default.ensures.items ∙ c.new.ensures.items) c.new-in_default.ensures.ending in
-      owed_none m h.published c.args.self.now.subscriptions.items h.pasts c.args.sub.0 c.index-subscription.result.now c.new-in_default.result within (sym c.index-subscription.ensures) c.in_default.not-Open none s;
+      owed_none m h.published c.args.self.now.subscriptions.items h.pasts c.args.sub.0 c.index-subscription.result.now c.new-in_default.result within (sym c.index-subscription.ensures) (λ o. c.in_default.not-Open (c.standing.ensures ∙ o)) none s;
   err = tt;
 }
 
@@ -20,4 +20,4 @@ returns-in-Ok-clause-owes g c = λ h s.
     let m = g.O.Ops.meaning c.args.self.now.ops in
     let l = c.len.ensures in
     let within : c.args.sub.0 < length c.args.self.now.subscriptions.items = omega (arith, l, c.if-at-len.false) in
-    owed_open m h.published c.args.self.now.subscriptions.items h.pasts c.args.sub.0 c.index-subscription.result.now c.in-Ok.value within (sym c.index-subscription.ensures) c.in-Open.is c.in-Ok.ensures s
+    owed_open m h.published c.args.self.now.subscriptions.items h.pasts c.args.sub.0 c.index-subscription.result.now c.in-Ok.value within (sym c.index-subscription.ensures) (sym c.standing.ensures ∙ c.in-Open.is) c.in-Ok.ensures s

@@ -1,5 +1,6 @@
 use Rattle.std.proofs.Common.{rules, length, ◌∙◌, arith}
 use Rattle.rsx_graph.proofs.Graphs.{count_same, state_there, subscribe_refusal, make_refusal}
+use Rattle.rsx_graph.specs.Stands.{standing_of}
 use Rattle.rsx_graph.proofs.graph.Graph.step.Goals as goal
 
 pub returns-in-Ok-clause-belongs : goal.returns-in-Ok-clause-belongs
@@ -15,7 +16,7 @@ returns-in-Err-clause-belongs g c = λ h s.
 pub returns-in-Ok-request-clause-belongs : goal.returns-in-Ok-request-clause-belongs
 returns-in-Ok-request-clause-belongs g c = λ h s.
     let a = c.in-Ok-request.ensures.answer in
-    rw c.in-Request.is (a.0.state, state_there (g.O.Ops.meaning c.args.self.now.ops) h.published c.args.self.now.subscriptions.items h.pasts c.in-Request.sub.0 a.0 a.1 s, search (rules, a.2))
+    rw c.in-Request.is (standing_of a.0, state_there (g.O.Ops.meaning c.args.self.now.ops) h.published c.args.self.now.subscriptions.items h.pasts c.in-Request.sub.0 a.0 a.1 s, search (rules, a.2))
 
 pub returns-in-Err-request-clause-belongs : goal.returns-in-Err-request-clause-belongs
 returns-in-Err-request-clause-belongs g c = λ h s.

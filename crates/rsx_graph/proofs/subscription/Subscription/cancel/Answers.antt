@@ -1,7 +1,23 @@
+use Rattle.std.proofs.Common.{sym, ap, ◌∙◌, Ok}
 use Rattle.rsx_graph.proofs.Moves.{stands_cancelled}
+use Rattle.rsx_graph.proofs.Standings.{cancel_closes, cancel_asks, open_standing}
 use Rattle.rsx_graph.proofs.subscription.Subscription.cancel.Goals as goal
 
-pub returns-in-Open : goal.returns-in-Open
-returns-in-Open g c = λ m published past h.
+pub returns-in-Ok-Close : goal.returns-in-Ok-Close
+returns-in-Ok-Close g c = λ m published past h.
     let k = c.close.ensures in
-    stands_cancelled m published c.args.self.now c.close.new.self past (record { was_open = c.in-Open.is; queue = k.queue; root = k.root; asked = k.asked; sent = k.sent; tree = k.tree; notes = k.notes }) k.state h
+    let t = c.step.ensures in
+    let closes = cancel_closes c.args.self.now.state c.args.self.now.demand (sym t.answer ∙ (c.in-Ok-Close.is ∙ ap Ok c.in-Ok-Close.field-0-is)) in
+    let kept = cancel_asks c.args.self.now.state c.args.self.now.demand in
+    stands_cancelled m published c.args.self.now c.close.new.self past (record {
+      was_open = open_standing c.args.self.now.state c.args.self.now.live closes.0;
+      live = k.live;
+      queue = k.queue;
+      root = k.root;
+      asked = k.asked;
+      sent = k.sent;
+      tree = k.tree;
+      notes = k.notes;
+      requested = ap (λ d. d.asked) k.demand ∙ (t.asked ∙ kept.0);
+      delivered = ap (λ d. d.sent) k.demand ∙ (t.sent ∙ kept.1);
+    }) (k.state ∙ (t.state ∙ closes.1)) h

@@ -1,10 +1,78 @@
-use Rattle.std.proofs.Common.{pos, ◌≤ℤ◌, arith}
-use Rattle.std.proofs.lemmas.Int.{ints}
-use Rattle.rsx_graph.proofs.Moves.{stands_bad}
+use Rattle.std.proofs.Common.{refl, sym, ap, ◌∙◌, Ok, unsigned_abs, w64}
+use Rattle.std.proofs.lemmas.Int.{to_z-of_z}
+use Rattle.rsx_demand.specs.Demand.{saturating_total}
+use Rattle.rsx_subscription.specs.declared.Effect.TheVariants.{Add, Bad}
+use Rattle.rsx_graph.proofs.Moves.{stands_added, stands_bad, stands_unrequested}
+use Rattle.rsx_graph.proofs.Standings.{request_adds, request_bad, request_ignored, open_standing, same_effect}
 use Rattle.rsx_graph.proofs.subscription.Subscription.request.Goals as goal
 
-pub returns-else-n-gt0-clause-stands : goal.returns-else-n-gt0-clause-stands
-returns-else-n-gt0-clause-stands g c = λ m published past h.
+pub returns-in-Add-clause-stands : goal.returns-in-Add-clause-stands
+returns-in-Add-clause-stands g c = λ m published past h.
+    let n = to_z-of_z w64 c.args.n c.ranges.n in
+    let t = rw n at c.step.ensures in
+    let k = request_adds c.args.self.now.state c.args.n c.args.self.now.demand (sym t.answer ∙ (c.in-Ok.is ∙ ap Ok c.in-Add.is)) in
+    stands_added m published c.args.self.now _ past c.args.n k (record {
+      queue = refl;
+      tree = refl;
+      state = t.state ∙ k.state;
+      live = refl;
+      edge = refl;
+      sent = c.ask.ensures.sent;
+      asked = c.ask.ensures.asked ∙ ap (λ i. saturating_total c.args.self.now.root.demand.asked i) (c.unsigned_abs.ensures.value ∙ ap unsigned_abs n);
+      requested = t.asked ∙ k.asked;
+      delivered = t.sent ∙ k.sent;
+      within = c.ask.new.self.covered;
+    }) h
+
+pub returns-in-Bad-clause-stands : goal.returns-in-Bad-clause-stands
+returns-in-Bad-clause-stands g c = λ m published past h.
+    let n = to_z-of_z w64 c.args.n c.ranges.n in
+    let t = rw n at c.step.ensures in
     let k = c.close.ensures in
-    let z : c.args.n ≤ℤ pos 0 = grind (arith, ints, c.if-n-gt0.false, c.ranges.n.sfits) in
-    stands_bad m published c.args.self.now c.close.new.self past c.args.n (record { was_open = c.in-Open.is; queue = k.queue; root = k.root; asked = k.asked; sent = k.sent; tree = k.tree; notes = k.notes }) k.state z h
+    let b = request_bad c.args.self.now.state c.args.n c.args.self.now.demand (sym t.answer ∙ (c.in-Ok.is ∙ ap Ok c.in-Bad.is)) in
+    stands_bad m published c.args.self.now c.close.new.self past c.args.n (record {
+      was_open = open_standing c.args.self.now.state c.args.self.now.live b.was;
+      live = k.live;
+      queue = k.queue;
+      root = k.root;
+      asked = k.asked;
+      sent = k.sent;
+      tree = k.tree;
+      notes = k.notes;
+      requested = ap (λ d. d.asked) k.demand ∙ (t.asked ∙ b.asked);
+      delivered = ap (λ d. d.sent) k.demand ∙ (t.sent ∙ b.sent);
+    }) (k.state ∙ (t.state ∙ b.state)) b.bad h
+
+pub returns-in_default-effect-clause-stands : goal.returns-in_default-effect-clause-stands
+returns-in_default-effect-clause-stands g c = λ m published past h.
+    let n = to_z-of_z w64 c.args.n c.ranges.n in
+    let t = rw n at c.step.ensures in
+    let i = request_ignored c.args.self.now.state c.args.n c.args.self.now.demand
+    (λ e. c.in_default-effect.not-Add (same_effect c.step.result c.in-Ok.effect Add c.in-Ok.is (t.answer ∙ e)))
+    (λ e. c.in_default-effect.not-Bad (same_effect c.step.result c.in-Ok.effect Bad c.in-Ok.is (t.answer ∙ e))) in
+    stands_unrequested m published c.args.self.now _ past c.args.n i.was (record {
+      tree = refl;
+      root = refl;
+      queue = refl;
+      state = t.state ∙ i.state;
+      live = refl;
+      requested = t.asked ∙ i.asked;
+      delivered = t.sent ∙ i.sent;
+    }) h
+
+pub returns-in_default-clause-stands : goal.returns-in_default-clause-stands
+returns-in_default-clause-stands g c = λ m published past h.
+    let n = to_z-of_z w64 c.args.n c.ranges.n in
+    let t = rw n at c.step.ensures in
+    let i = request_ignored c.args.self.now.state c.args.n c.args.self.now.demand
+    (λ e. c.in_default.not-Ok Add (t.answer ∙ e))
+    (λ e. c.in_default.not-Ok Bad (t.answer ∙ e)) in
+    stands_unrequested m published c.args.self.now _ past c.args.n i.was (record {
+      tree = refl;
+      root = refl;
+      queue = refl;
+      state = t.state ∙ i.state;
+      live = refl;
+      requested = t.asked ∙ i.asked;
+      delivered = t.sent ∙ i.sent;
+    }) h

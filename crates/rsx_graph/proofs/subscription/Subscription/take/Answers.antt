@@ -1,8 +1,8 @@
-use Rattle.std.proofs.Common.{refl}
-use Rattle.rsx_graph.proofs.Moves.{stands_taken}
+use Rattle.std.proofs.Common.{refl, sym, ◌∙◌}
+use Rattle.rsx_graph.proofs.Moves.{stands_taken, is_taking}
 use Rattle.rsx_graph.proofs.subscription.Subscription.take.Goals as goal
 
-pub returns-in-Some-clause-some : goal.returns-in-Some-clause-some
-returns-in-Some-clause-some g c = λ m published past h.
-    stands_taken m published c.args.self.now (record { tree = c.args.self.now.tree; root = c.args.self.now.root; queue = c.pop.new.self; state = c.state_after-self.result }) c.in-Some.signal past
-    (record { queue = c.in-Some.ensures.some; state = c.state_after-self.ensures; root = refl; tree = refl }) h
+pub returns-clause-some : goal.returns-clause-some
+returns-clause-some g c = λ m published past h.
+    let t = c.delivers.ensures in
+    stands_taken m published c.args.self.now _ _ past (is_taking c.args.self.now _ c.at.result.now c.unwrap.result c.pop.result c.at.ensures c.unwrap.ensures c.pop.ensures.some (sym t.delivered ∙ c.if-not-delivers.false) t.state refl t.asked t.sent refl refl) h
