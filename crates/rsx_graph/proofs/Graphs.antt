@@ -1,5 +1,5 @@
 -- How the subscriptions of a graph stand together.
-use Rattle.std.proofs.Common.{◌≡◌, ℕ, zero, suc, ◌+◌, ◌-◌, ◌<◌, ◌≤◌, List, [], ◌∷◌, ◌++◌, length, get_or, slice_get, refl, ap, sym, ◌∙◌, subst, arith, append_assoc, length-append, take, map, option_map, Option, Some, None, Bool, true, false, nat_eq, if◌then◌else◌}
+use Rattle.std.proofs.Common.{◌≡◌, ℕ, zero, suc, ◌+◌, ◌-◌, ◌<◌, ◌≤◌, List, [], ◌∷◌, ◌++◌, length, get_or, slice_get, refl, ap, sym, ◌∙◌, subst, arith, append_assoc, length-append, take, map, option_map, Option, Some, None, Result, Ok, Err, Bool, true, false, nat_eq, if◌then◌else◌}
 use Rattle.std.proofs.Math.ListN.{set}
 use Rattle.std.proofs.lemmas.Bool.Decides.{nat_tests}
 use Rattle.std.proofs.lemmas.List.{take_more, take_all}
@@ -14,17 +14,23 @@ use Rattle.rsx_types.specs.declared.names.SubId.{SubId}
 use Rattle.rsx_types.specs.declared.signal.Signal.{Signal}
 use Rattle.rsx_types.specs.Meaning.{Meaning}
 use Rattle.rsx_types.specs.Stream.{Stream, signals_then, ended_by}
-use Rattle.rsx_pipe.specs.declared.edge.EdgeState.TheVariants.{Live}
+use Rattle.rsx_pipe.specs.declared.edge.EdgeState.TheVariants.{Live, Closed}
+use Rattle.rsx_pipe.specs.Edges.{edge_view, EdgeView}
+use Rattle.rsx_pipe.specs.Part.{PartStands, all_edges}
+use Rattle.rsx_pipe.specs.Part as Part
+use Rattle.rsx_pipe.specs.declared.part.Pumped.{Pumped as Rest}
+use Rattle.rsx_pipe.specs.declared.part.Pumped.TheVariants.{Idle as Rests, Budget as Wakes}
+use Rattle.rsx_pipe.proofs.Parts.{values_then-none}
+use Rattle.rsx_graph.proofs.Sentence.{live_value}
 use Rattle.rsx_graph.specs.declared.state.SubscriptionState.{SubscriptionState}
 use Rattle.rsx_graph.specs.declared.state.SubscriptionState.TheVariants.{Open, Ended, Cancelled, Refused}
 use Rattle.rsx_demand.specs.declared.Demand.{Demand}
 use Rattle.rsx_subscription.specs.declared.State.TheVariants.{Open as OpenState}
 use Rattle.rsx_graph.specs.Standing.{standing}
-use Rattle.rsx_pipe.specs.Built.{IsBuilt, fresh_edge}
+use Rattle.rsx_pipe.specs.Built.{fresh_edge, fresh_edges}
 use Rattle.rsx_graph.specs.Begun.{IsFresh}
-use Rattle.rsx_pipe.proofs.Builds.{fresh_edge_is}
-use Rattle.rsx_pipe.specs.Tree.{comes_out, notes_of, edges}
-use Rattle.rsx_pipe.proofs.Trees.{notes_then-unrecorded, notes_then-unchosen, unchosen_notes}
+use Rattle.rsx_pipe.specs.Tree.{notes_of}
+use Rattle.rsx_pipe.proofs.Trees.{notes_then-unchosen, unchosen_notes}
 use Rattle.rsx_graph.specs.declared.subscription.Subscription.{Subscription}
 use Rattle.rsx_graph.specs.declared.step.Step.{Step}
 use Rattle.rsx_graph.specs.declared.step.Answer.{Answer}
@@ -33,10 +39,10 @@ use Rattle.std.proofs.Common.{◌⊎◌, inl, inr}
 use Rattle.rsx_types.specs.declared.names.Move.TheVariants.{Ask, Send, Take}
 use Rattle.rsx_types.specs.declared.names.Tree.TheVariants.{Sub, Feed}
 use Rattle.rsx_graph.proofs.Moves.{leads_on, live_test}
-use Rattle.rsx_graph.specs.Pumped.{IsPumped, AllPumped, IsMoved, IsMoveMade, Leads, IsQuiet, IsAwake, AreQuiet, IsAllQuiet, IsAnyAwake, given_all, to}
+use Rattle.rsx_graph.specs.Pumped.{IsPumped, AllPumped, IsMoved, IsMoveMade, Leads, IsQuiet, IsAwake, AreQuiet, HasRested, HasRestedAt, IsAllQuiet, IsAnyAwake, given_all, to}
 use Rattle.std.proofs.lemmas.List.{append-nil}
-use Rattle.rsx_graph.proofs.Signals.{some_same}
-use Rattle.rsx_graph.specs.Stands.{Stands, AllStand, StandsFor, IsMade, enabled_in_tree, enabled_at, move_enabled_in, values_then, evaluated, owed_from, owes_in, OwedAt, standing_of}
+use Rattle.rsx_pipe.proofs.Signals.{some_same}
+use Rattle.rsx_graph.specs.Stands.{Stands, AllStand, StandsFor, IsInside, IsWorked, IsEffect, IsMade, enabled_in_tree, enabled_at, move_enabled_in, values_then, evaluated, owed_from, owes_in, OwedAt, standing_of}
 
 pub AllStand-push : {T : Type 0} (m : Meaning T) (published : List (Stream T)) (subs : List (Subscription T)) (pasts : List (Past T)) (s : Subscription T) (p : Past T) → Stands m published s p → AllStand m published subs pasts → AllStand m published (subs ++ s ∷ []) (pasts ++ p ∷ [])
 AllStand-push m published [] [] s p k h = (k, tt)
@@ -101,6 +107,17 @@ enabled_there m (s ∷ subs) zero old mv lt e = ap (λ t. move_enabled_in m t mv
 enabled_there m (s ∷ subs) (suc i) old mv lt e =
     past_first (move_enabled_in m s mv) (enabled_at m subs (suc i - 1) mv) i
     ∙ (ap (λ k. enabled_at m subs k mv) (suc_less i) ∙ enabled_there m subs i old mv (omega arith) e)
+
+-- a move inside a tree is enabled where it is one of the part
+pub inside_enabled : {T : Type 0} (m : Meaning T) (sub : Subscription T) (mv : Move) → IsInside mv → Part.move_enabled m sub.part sub.queue mv ≡ move_enabled_in m sub mv
+inside_enabled m sub (Ask t n) h = refl
+inside_enabled m sub (Send t n) h = refl
+inside_enabled m sub (Take t n) h = absurd h
+
+pub inside_effect : {T : Type 0} (m : Meaning T) (mv : Move) (old new : Subscription T) → IsWorked m mv old new → IsEffect m mv old new None
+inside_effect m (Ask t n) old new h = h
+inside_effect m (Send t n) old new h = h
+inside_effect m (Take t n) old new h = absurd h
 
 pub asked_there : {T : Type 0} (m : Meaning T) (published : List (Stream T)) (subs : List (Subscription T)) (pasts : List (Past T)) (i : ℕ) (sub : Subscription T) → i < length subs → get_or subs i sub ≡ sub → AllStand m published subs pasts → HasAsked pasts i sub.demand.asked
 asked_there m published [] pasts i sub lt e h = absurd (omega arith)
@@ -210,20 +227,6 @@ quiet_there m (x ∷ subs) zero new q h (suc j) l s e = absurd (omega arith)
 quiet_there m (x ∷ subs) (suc i) new q h zero l s e = h 0 (omega arith) s e
 quiet_there m (x ∷ subs) (suc i) new q h (suc j) l s e = quiet_there m subs i new q (λ k lt t is. h (suc k) (omega arith) t is) j (omega arith) s e
 
--- the same where the subscription is as it was
-pub quiet_next : {T : Type 0} (m : Meaning T) (subs : List (Subscription T)) (i : ℕ) (old : Subscription T) → slice_get subs i ≡ Some old → IsQuiet m old → AreQuiet m subs i → AreQuiet m subs (i + 1)
-quiet_next {T} m subs i old there q h j l s e =
-    elim (less_or_same j i l) [ inl less ↦ h j less s e | inr same ↦ let P : Subscription T → Type 0 = λ t. IsQuiet m t in subst P (some_same old s (sym there ∙ (ap (λ k. slice_get subs k) (sym same) ∙ e))) q ]
-  where
-    less_or_same : (j i : ℕ) → j < i + 1 → (j < i) ⊎ (j ≡ i)
-    less_or_same zero zero l = inr refl
-    less_or_same zero (suc i) l = inl (omega arith)
-    less_or_same (suc j) zero l = absurd (omega arith)
-    less_or_same (suc j) (suc i) l = elim (less_or_same j i (omega arith)) [ inl k ↦ inl (omega (arith, k)) | inr k ↦ inr (ap suc k) ]
-
-pub quiet_same : {T : Type 0} (m m' : Meaning T) (s1 s2 : List (Subscription T)) (i j : ℕ) → m' ≡ m → (AreQuiet m' s1 i → AreQuiet m' s2 j) → AreQuiet m s1 i → AreQuiet m s2 j
-quiet_same {T} m m' s1 s2 i j e h = let P : Meaning T → Type 0 = λ n. AreQuiet n s1 i → AreQuiet n s2 j in subst P e h
-
 pub none_quiet : {T : Type 0} (m : Meaning T) (subs : List (Subscription T)) → AreQuiet m subs 0
 none_quiet m subs j l s e = absurd (omega arith)
 
@@ -253,6 +256,26 @@ any_awake m subs i sub lt e h = elim h.1 [
   ]
 ]
 
+-- ---- how driving one subscription ends
+
+pub rested_there : {T : Type 0} (E : Type 0) (m : Meaning T) (budget n i : ℕ) (subs : List (Subscription T)) (old new : Subscription T) (p : Rest) → i < length subs → HasRested {E = E} m budget n new (Ok p) → HasRestedAt m budget n subs i (set subs i new) (Ok p)
+rested_there E m budget n i subs old new (Rests left) lt h = (h.0, λ q. quiet_there m subs i new h.1 q)
+rested_there E m budget n i subs old new Wakes lt h = (h.0, any_awake m (set subs i new) i new (set_length subs i new lt) (set_got subs i new lt) h.1)
+  where
+    set_length : {A : Type 0} (xs : List A) (i : ℕ) (a : A) → i < length xs → i < length (set xs i a)
+    set_length [] i a l = absurd (omega arith)
+    set_length (x ∷ xs) zero a l = omega arith
+    set_length (x ∷ xs) (suc i) a l = let k = set_length xs i a (omega arith) in omega (arith, k)
+
+    set_got : {A : Type 0} (xs : List A) (i : ℕ) (a : A) → i < length xs → get_or (set xs i a) i a ≡ a
+    set_got [] i a l = absurd (omega arith)
+    set_got (x ∷ xs) zero a l = refl
+    set_got (x ∷ xs) (suc i) a l = set_got xs i a (omega arith)
+
+-- the same functions mean the same
+pub rested_same : {T : Type 0} (m m' : Meaning T) (budget n i : ℕ) (olds news : List (Subscription T)) (r : Result Rest Refusal) → m' ≡ m → HasRestedAt m' budget n olds i news r → HasRestedAt m budget n olds i news r
+rested_same {T} m m' budget n i olds news r e h = let P : Meaning T → Type 0 = λ k. HasRestedAt k budget n olds i news r in subst P e h
+
 -- ---- a subscription that has just begun
 
 -- how the subscriber stands at the beginning
@@ -265,39 +288,34 @@ pub record IsBegun {T : Type 0} (sub : Subscription T) : Type 0 where
 pub begun : {T : Type 0} (sub : Subscription T) (d : Demand) → d.asked ≡ 0 → d.sent ≡ 0 → sub.state ≡ OpenState → sub.live ≡ true → sub.demand.asked ≡ d.asked → sub.demand.sent ≡ d.sent → IsBegun sub
 begun sub d a s o l r t = record { state = o; live = l; asked = r ∙ a; delivered = t ∙ s }
 
-pub stands_fresh : {T : Type 0} (m : Meaning T) (published : List (Stream T)) (e : Expr T) (sub : Subscription T) → IsBuilt m e sub.tree → sub.queue ≡ [] → sub.root.state ≡ Live → sub.root.demand.asked ≡ 0 → sub.root.demand.sent ≡ 0 → IsBegun sub → Stands m published sub (subscribed e [])
-stands_fresh {T} m published e sub b q l a s f =
+pub stands_fresh : {T : Type 0} (m : Meaning T) (published : List (Stream T)) (e : Expr T) (sub : Subscription T) (es : List EdgeView) → PartStands m published sub.part e [] [] → all_edges sub.part ≡ fresh_edge ∷ es → sub.queue ≡ [] → IsBegun sub → Stands m published sub (subscribed e [])
+stands_fresh {T} m published e sub es b k q f =
     let o : standing_of sub ≡ Open = ap (λ t. standing t sub.live) f.state in
     let live : IsLive (standing_of sub) = rw o tt in
+    let root : edge_view sub.part.root ≡ fresh_edge = cc in
     record {
       state = o;
       live = f.live ∙ sym (live_test (standing_of sub) live);
-      value = λ _ more further len.
-          rw (q, notes_then-unrecorded (notes_of sub.tree) further b.notes len) (map_same (comes_out m (values_then published more) further sub.tree 0) ∙ b.value (values_then published more) [] further 0 0);
-      prefix = λ dead. absurd (dead live);
-      orderly = rw q tt;
-      unended = λ _. rw q tt;
+      output = [];
+      part = b;
+      held = λ _. q;
+      begun = λ dead. absurd (dead live);
+      orderly = tt;
       waits = λ _. tt;
-      got = λ e. let k = o in cc;
-      unclosed = λ _ c. let k = l in cc;
-      ended = λ _ e. let k = l in cc;
-      balance = λ _. rw s b.balance;
-      counted = λ _. rw (q, s) refl;
-      most = rw s (omega arith);
-      within = rw (s, a) (omega arith);
-      asked = a;
+      got = λ x. let k = o in cc;
+      unclosed = λ _ c. not_closed (ap (λ v. v.state) (sym root) ∙ c);
+      asked = ap (λ v. v.asked) root;
       requested = f.asked;
       delivered = f.delivered;
       closed = λ dead. absurd (dead live);
     }
   where
-    map_same : {T : Type 0} (o : Option (Stream T)) → option_map (λ v. v) (option_map (λ v. v) o) ≡ o
-    map_same None = refl
-    map_same (Some v) = refl
+    not_closed : Live ≡ Closed → ⊥
+    not_closed c = cc
 
-pub fresh_sub : {T : Type 0} (m : Meaning T) (e : Expr T) (sub : Subscription T) → IsBuilt m e sub.tree → sub.root.demand.asked ≡ 0 → sub.root.demand.sent ≡ 0 → sub.root.state ≡ Live → sub.queue ≡ [] → IsBegun sub → IsFresh e sub
-fresh_sub m e sub b a s l q f = record {
-  edges = ap (λ v. v ∷ edges sub.tree) (fresh_edge_is sub.root a s l) ∙ ap (λ es. fresh_edge ∷ es) b.edges;
+pub fresh_sub : {T : Type 0} (m : Meaning T) (e : Expr T) (sub : Subscription T) → all_edges sub.part ≡ fresh_edge ∷ fresh_edges e → sub.queue ≡ [] → IsBegun sub → IsFresh e sub
+fresh_sub m e sub b q f = record {
+  edges = b;
   queue = q;
   state = f.state;
   live = f.live;
@@ -307,26 +325,22 @@ fresh_sub m e sub b a s l q f = record {
 
 -- ---- what is owed
 
-pub values_then-none : {T : Type 0} (published : List (Stream T)) → values_then published [] ≡ published
-values_then-none [] = refl
-values_then-none (v ∷ vs) = refl
-
-pub owes : {T : Type 0} (m : Meaning T) (published : List (Stream T)) (sub : Subscription T) (past : Past T) (v : Stream T) → standing_of sub ≡ Open → ((hubs : List (Stream T)) → owed_from m hubs (map unchosen (notes_of sub.tree)) sub ≡ Some v) → Stands m published sub past → evaluated m published past (notes_of sub.tree) ≡ Some (signals_then past.received v)
+pub owes : {T : Type 0} (m : Meaning T) (published : List (Stream T)) (sub : Subscription T) (past : Past T) (v : Stream T) → standing_of sub ≡ Open → ((hubs : List (Stream T)) → owed_from m hubs (map unchosen (notes_of sub.part.tree)) sub ≡ Some v) → Stands m published sub past → evaluated m published past (notes_of sub.part.tree) ≡ Some (signals_then past.received v)
 owes {T} m published sub past v o e h =
     let live : IsLive (standing_of sub) = rw o tt in
-    let whole = h.value live [] (map unchosen (notes_of sub.tree)) (unchosen_notes (notes_of sub.tree)) in
-    let there : option_map (signals_then past.received) (owed_from m (values_then published []) (map unchosen (notes_of sub.tree)) sub) ≡ Some (signals_then past.received v) = ap (option_map (signals_then past.received)) (e (values_then published [])) in
-    ap (λ p. evaluated m p past (notes_of sub.tree)) (sym (values_then-none published))
-    ∙ (ap (λ ns. evaluated m (values_then published []) past ns) (sym (notes_then-unchosen (notes_of sub.tree))) ∙ (sym whole ∙ there))
+    let whole = live_value m published sub past h live [] (map unchosen (notes_of sub.part.tree)) (unchosen_notes (notes_of sub.part.tree)) in
+    let there : option_map (signals_then past.received) (owed_from m (values_then published []) (map unchosen (notes_of sub.part.tree)) sub) ≡ Some (signals_then past.received v) = ap (option_map (signals_then past.received)) (e (values_then published [])) in
+    ap (λ p. evaluated m p past (notes_of sub.part.tree)) (sym (values_then-none published))
+    ∙ (ap (λ ns. evaluated m (values_then published []) past ns) (sym (notes_then-unchosen (notes_of sub.part.tree))) ∙ (sym whole ∙ there))
 
-pub owed_open : {T : Type 0} (m : Meaning T) (published : List (Stream T)) (subs : List (Subscription T)) (pasts : List (Past T)) (i : ℕ) (sub : Subscription T) (v : Stream T) → i < length subs → get_or subs i sub ≡ sub → standing_of sub ≡ Open → ((hubs : List (Stream T)) → owed_from m hubs (map unchosen (notes_of sub.tree)) sub ≡ Some v) → AllStand m published subs pasts → OwedAt m published subs pasts i v
+pub owed_open : {T : Type 0} (m : Meaning T) (published : List (Stream T)) (subs : List (Subscription T)) (pasts : List (Past T)) (i : ℕ) (sub : Subscription T) (v : Stream T) → i < length subs → get_or subs i sub ≡ sub → standing_of sub ≡ Open → ((hubs : List (Stream T)) → owed_from m hubs (map unchosen (notes_of sub.part.tree)) sub ≡ Some v) → AllStand m published subs pasts → OwedAt m published subs pasts i v
 owed_open m published [] pasts i sub v lt e o w h = absurd (omega arith)
 owed_open m published (s ∷ subs) [] i sub v lt e o w h = absurd h
 owed_open {T} m published (s ∷ subs) (p ∷ pasts) zero sub v lt e o w h =
     let P : Subscription T → Type 0 = λ t. Stands m published t p in
-    let Q : Subscription T → Type 0 = λ t. evaluated m published p (notes_of t.tree) ≡ Some (signals_then p.received v) in
+    let Q : Subscription T → Type 0 = λ t. evaluated m published p (notes_of t.part.tree) ≡ Some (signals_then p.received v) in
     let k : Stands m published sub p = subst P e h.0 in
-    let w' : evaluated m published p (notes_of s.tree) ≡ Some (signals_then p.received v) = subst Q (sym e) (owes m published sub p v o w k) in
+    let w' : evaluated m published p (notes_of s.part.tree) ≡ Some (signals_then p.received v) = subst Q (sym e) (owes m published sub p v o w k) in
     let R : SubscriptionState → Type 0 = λ t. owes_in m published s p v t in
     subst R (sym o ∙ k.state) w'
 owed_open m published (s ∷ subs) (p ∷ pasts) (suc i) sub v lt e o w h = owed_open m published subs pasts i sub v (omega arith) e o w h.1

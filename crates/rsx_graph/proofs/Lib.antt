@@ -2,5 +2,4 @@ pub mod Graphs
 pub mod Moves
 pub mod Sentence
 pub mod Serving
-pub mod Signals
 pub mod Standings

@@ -13,15 +13,15 @@ use Rattle.rsx_graph.specs.Stands.{owed_from, evaluated, values_then}
 pub record Holds {T : Type 0} (m : Meaning T) (published : List (Stream T)) (sub : Subscription T) (past : Past T) : Type 0 where
   -- live: what it received, followed by what it is still owed, is its expression evaluated from scratch over what was
   -- published, whatever is published after it and whatever is still chosen
-  pub live : IsLive past.state → (more : List (Stream T)) (further : List Note) → length further ≡ length (notes_of sub.tree) →
-      option_map (signals_then past.received) (owed_from m (values_then published more) further sub) ≡ evaluated m (values_then published more) past (notes_then (notes_of sub.tree) further)
+  pub live : IsLive past.state → (more : List (Stream T)) (further : List Note) → length further ≡ length (notes_of sub.part.tree) →
+      option_map (signals_then past.received) (owed_from m (values_then published more) further sub) ≡ evaluated m (values_then published more) past (notes_then (notes_of sub.part.tree) further)
   -- it received no more items than it asked for
   pub asked : length (items_in past.received) ≤ past.asked
   -- and nothing after an ending
   pub ended : IsOrderly past.received
   -- not live: the items that it received begin that value
-  pub prefix : (IsLive past.state → ⊥) → (more : List (Stream T)) (further : List Note) → length further ≡ length (notes_of sub.tree) →
-      (v : Stream T) → evaluated m (values_then published more) past (notes_then (notes_of sub.tree) further) ≡ Some v → IsPrefixOf (items_in past.received) v.items
+  pub prefix : (IsLive past.state → ⊥) → (more : List (Stream T)) (further : List Note) → length further ≡ length (notes_of sub.part.tree) →
+      (v : Stream T) → evaluated m (values_then published more) past (notes_then (notes_of sub.part.tree) further) ≡ Some v → IsPrefixOf (items_in past.received) v.items
 
 -- the sentence for each subscriber
 abbrev pub AllHold : {T : Type 0} → Meaning T → List (Stream T) → List (Subscription T) → List (Past T) → Type 0

@@ -3,6 +3,8 @@ use Rattle.std.specs.Prelude.{◌≡◌, ℕ, ◌≤◌, ◌<◌, ℤ, pos, negs
 use Rattle.rsx_demand.specs.Demand.{saturating_total}
 use Rattle.rsx_model.specs.Check.{refusal}
 use Rattle.rsx_model.specs.declared.expr.Expr.{Expr}
+pub use Rattle.rsx_pipe.specs.Output.{items_in, IsUnended, IsOrderly, IsPrefixOf}
+pub use Rattle.rsx_pipe.specs.Part.{tree_of}
 use Rattle.rsx_types.specs.Stream.{Stream}
 use Rattle.rsx_types.specs.declared.names.SubId.{SubId}
 use Rattle.rsx_types.specs.declared.names.Tree.{Tree}
@@ -98,30 +100,6 @@ IsLive Ended = Unit {0}
 IsLive Cancelled = ⊥
 IsLive Refused = ⊥
 
--- the items among the signals
-abbrev pub items_in : {T : Type 0} → List (Signal T) → List T
-items_in [] = []
-items_in (Next x ∷ ss) = x ∷ items_in ss
-items_in (Complete ∷ ss) = items_in ss
-items_in (Error c ∷ ss) = items_in ss
-
--- no ending among them
-abbrev pub IsUnended : {T : Type 0} → List (Signal T) → Type 0
-IsUnended [] = Unit {0}
-IsUnended (Next x ∷ ss) = IsUnended ss
-IsUnended (Complete ∷ ss) = ⊥
-IsUnended (Error c ∷ ss) = ⊥
-
--- nothing follows an ending
-abbrev pub IsOrderly : {T : Type 0} → List (Signal T) → Type 0
-IsOrderly [] = Unit {0}
-IsOrderly (Next x ∷ ss) = IsOrderly ss
-IsOrderly (Complete ∷ ss) = ss ≡ []
-IsOrderly (Error c ∷ ss) = ss ≡ []
-
-abbrev pub IsPrefixOf : {T : Type 0} → List T → List T → Type 0
-IsPrefixOf {T} xs ys = (rest : List T) × (xs ++ rest ≡ ys)
-
 -- ---- a whole graph
 
 -- what was published at each hub, and what has happened to each subscriber
@@ -185,12 +163,6 @@ IsSubscribeRefusal count e NoMemory = (refusal 0 e ≡ None) × (count < 256)
 IsSubscribeRefusal count e UnknownHub = ⊥
 IsSubscribeRefusal count e UnknownSub = ⊥
 IsSubscribeRefusal count e NotEnabled = ⊥
-
--- the tree in which a move is made
-abbrev pub tree_of : Move → Tree
-tree_of (Ask t n) = t
-tree_of (Send t n) = t
-tree_of (Take t n) = t
 
 -- why a move is refused: an unknown name first, then a move that isn't enabled, and memory last
 abbrev pub IsMakeRefusal : ℕ → Bool → Tree → Refusal → Type 0

@@ -7,6 +7,9 @@ use Rattle.rsx_types.specs.declared.names.Move.{Move}
 use Rattle.rsx_types.specs.declared.names.SubId.{SubId}
 use Rattle.rsx_types.specs.declared.names.Tree.TheVariants.{Sub}
 use Rattle.rsx_types.specs.declared.signal.Signal.{Signal}
+pub use Rattle.rsx_pipe.specs.Driven.{Spent}
+use Rattle.rsx_pipe.specs.declared.part.Pumped.{Pumped as Rest}
+use Rattle.rsx_pipe.specs.declared.part.Pumped.TheVariants.{Idle as Rests, Budget as Wakes}
 use Rattle.rsx_graph.specs.declared.refusal.Refusal.{Refusal}
 use Rattle.rsx_graph.specs.declared.refusal.Refusal.TheVariants.{NoMemory}
 use Rattle.rsx_graph.specs.declared.step.Pumped.{Pumped}
@@ -62,11 +65,6 @@ moves_of (Ok true) = 1
 moves_of (Ok false) = 0
 moves_of (Err e) = 0
 
--- so many of the budget were spent, where the answer is how many are left
-abbrev pub Spent : {E : Type 0} → ℕ → ℕ → Result ℕ E → Type 0
-Spent budget n (Ok left) = n + left ≡ budget
-Spent budget n (Err e) = n ≤ budget
-
 -- no move of a subscription is enabled
 abbrev pub IsQuiet : {T : Type 0} → Meaning T → Subscription T → Type 0
 IsQuiet m sub = (at : ℕ) → (ask_enabled sub at ≡ false) × (send_enabled m sub at ≡ false) × (take_enabled sub at ≡ false)
@@ -74,6 +72,18 @@ IsQuiet m sub = (at : ℕ) → (ask_enabled sub at ≡ false) × (send_enabled m
 -- some move of a subscription is enabled
 abbrev pub IsAwake : {T : Type 0} → Meaning T → Subscription T → Type 0
 IsAwake m sub = (at : ℕ) × ((ask_enabled sub at ≡ true) ⊎ ((send_enabled m sub at ≡ true) ⊎ (take_enabled sub at ≡ true)))
+
+-- how driving a subscription ends after so many moves: Idle, with what is left of the budget, where no move is enabled;
+-- Budget where one is and the whole budget was spent
+abbrev pub HasRested : {T E : Type 0} → Meaning T → ℕ → ℕ → Subscription T → Result Rest E → Type 0
+HasRested m budget n sub (Ok (Rests left)) = (n + left ≡ budget) × IsQuiet m sub
+HasRested m budget n sub (Ok Wakes) = (n ≡ budget) × IsAwake m sub
+HasRested m budget n sub (Err e) = n ≤ budget
+
+-- how it ends where so much of the budget is left
+abbrev pub IsRest : {T : Type 0} → Meaning T → Subscription T → ℕ → Rest → Type 0
+IsRest m sub left (Rests k) = (k ≡ left) × IsQuiet m sub
+IsRest m sub left Wakes = (left ≡ 0) × IsAwake m sub
 
 -- ---- a graph
 
@@ -95,6 +105,12 @@ IsAnyAwake m subs = (move : Move) × (enabled_in_tree m subs (tree_of move) move
 -- the first subscriptions, so many of them, are quiet
 abbrev pub AreQuiet : {T : Type 0} → Meaning T → List (Subscription T) → ℕ → Type 0
 AreQuiet {T} m subs n = (i : ℕ) → i < n → (s : Subscription T) → slice_get subs i ≡ Some s → IsQuiet m s
+
+-- the same of the subscription with this number in a graph
+abbrev pub HasRestedAt : {T : Type 0} → Meaning T → ℕ → ℕ → List (Subscription T) → ℕ → List (Subscription T) → Result Rest Refusal → Type 0
+HasRestedAt m budget n olds i news (Ok (Rests left)) = (n + left ≡ budget) × (AreQuiet m olds i → AreQuiet m news (i + 1))
+HasRestedAt m budget n olds i news (Ok Wakes) = (n ≡ budget) × IsAnyAwake m news
+HasRestedAt m budget n olds i news (Err r) = (n ≤ budget) × (r ≡ NoMemory)
 
 -- how driving a graph ends after so many moves: Idle where no move is enabled, and Budget where one is and the whole
 -- budget was spent; a graph has at most 256 subscriptions

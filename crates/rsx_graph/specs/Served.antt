@@ -20,6 +20,6 @@ pub record IsServed {T : Type 0} (m : Meaning T) (published : List (Stream T)) (
 abbrev pub AllServed : {T : Type 0} → Meaning T → List (Stream T) → List (Subscription T) → List (Past T) → Type 0
 AllServed m published [] [] = Unit {0}
 AllServed {T} m published (s ∷ ss) (p ∷ ps) =
-    (IsLive p.state → IsWithin s.tree → (v : Stream T) → evaluated m published p (notes_of s.tree) ≡ Some v → IsServed m published s p v) × AllServed m published ss ps
+    (IsLive p.state → IsWithin s.part.tree → (v : Stream T) → evaluated m published p (notes_of s.part.tree) ≡ Some v → IsServed m published s p v) × AllServed m published ss ps
 AllServed m published [] (p ∷ ps) = ⊥
 AllServed m published (s ∷ ss) [] = ⊥

@@ -1,8 +1,6 @@
 -- What a subscription, and a whole graph, stand for.
-use Rattle.std.specs.Prelude.{◌≡◌, ℕ, ◌+◌, ◌≤◌, Bool, true, false, ◌&&◌, nat_lt, nat_eq, if◌then◌else◌, List, [], ◌∷◌, ◌++◌, length, Option, Some, None, option_map, ◌-◌, slice_get, ℤ, zero, suc, slice_set}
-use Rattle.rsx_model.specs.Eval.{environment, eval}
+use Rattle.std.specs.Prelude.{◌≡◌, ℕ, ◌+◌, ◌≤◌, Bool, true, false, ◌&&◌, nat_eq, if◌then◌else◌, List, [], ◌∷◌, ◌++◌, length, Option, Some, None, option_map, ◌-◌, slice_get, ℤ, zero, suc, slice_set}
 use Rattle.rsx_types.specs.Meaning.{Meaning}
-use Rattle.rsx_types.specs.Notes.{notes_then}
 use Rattle.rsx_types.specs.Stream.{Stream, items_then, signals_then, ended_by}
 use Rattle.rsx_types.specs.declared.note.Note.{Note}
 use Rattle.rsx_types.specs.declared.names.SubId.{SubId}
@@ -10,80 +8,54 @@ use Rattle.rsx_types.specs.declared.names.Tree.{Tree}
 use Rattle.rsx_types.specs.declared.names.Tree.TheVariants.{Sub, Feed}
 use Rattle.rsx_types.specs.declared.names.Move.{Move}
 use Rattle.rsx_types.specs.declared.names.Move.TheVariants.{Ask, Send, Take}
-use Rattle.rsx_types.specs.declared.signal.Ending.{Ending}
-use Rattle.rsx_types.specs.declared.signal.Ending.TheVariants.{Open as NotEnded, Done, Failed}
+use Rattle.rsx_types.specs.declared.signal.Ending.TheVariants.{Open as NotEnded}
 use Rattle.rsx_types.specs.declared.signal.Signal.{Signal}
-use Rattle.rsx_sources.specs.Machine.{front_of}
-use Rattle.rsx_pipe.specs.Balance.{IsBalanced}
-use Rattle.rsx_pipe.specs.declared.edge.EdgeState.TheVariants.{Live, Closed, Ended as EdgeEnded}
+pub use Rattle.rsx_pipe.specs.Output.{values_then}
+use Rattle.rsx_pipe.specs.Part.{PartStands}
+use Rattle.rsx_pipe.specs.Part as Part
+use Rattle.rsx_pipe.specs.Tree.{comes_out, notes_of, IsAllClosed}
+use Rattle.rsx_pipe.specs.declared.edge.EdgeState.TheVariants.{Live, Closed}
 use Rattle.rsx_graph.specs.declared.state.SubscriptionState.{SubscriptionState}
 use Rattle.rsx_graph.specs.declared.state.SubscriptionState.TheVariants.{Open, Ended, Cancelled, Refused}
 use Rattle.rsx_graph.specs.declared.subscription.Subscription.{Subscription}
 use Rattle.rsx_graph.specs.Standing.{standing, live_in, delivers}
-use Rattle.rsx_pipe.specs.Edges.{edge_view, EdgeView, changed_at, carried_at, asked_up_to}
-use Rattle.rsx_pipe.specs.Tree.{comes_out, notes_of, offers, can_ask, can_send, can_go, IsAllClosed, edges, want_at, front_at, ended_at}
-use Rattle.rsx_sources.specs.declared.machine.Front.{Front}
 use Rattle.rsx_graph.specs.History.{Past, History, IsLive, items_in, IsUnended, IsOrderly, IsPrefixOf, request_answer}
-
--- more behind what has this ending
-abbrev pub more_after : {T : Type 0} → Ending → Stream T → Stream T → Stream T
-more_after NotEnded v more = items_then v.items more
-more_after Done v more = v
-more_after (Failed c) v more = v
-
--- what was published at a hub, and what is published there after it
-abbrev pub published_then : {T : Type 0} → Stream T → Stream T → Stream T
-published_then v more = more_after v.ending v more
-
--- what was published at each hub, and what is published there after it
-abbrev pub values_then : {T : Type 0} → List (Stream T) → List (Stream T) → List (Stream T)
-values_then [] ms = []
-values_then (v ∷ vs) [] = v ∷ vs
-values_then (v ∷ vs) (m ∷ ms) = published_then v m ∷ values_then vs ms
 
 -- the expression of a subscriber, evaluated from scratch over the hubs' values, under its joins and these notes
 abbrev pub evaluated : {T : Type 0} → Meaning T → List (Stream T) → Past T → List Note → Option (Stream T)
-evaluated m hubs past notes = eval (environment m hubs past.joins notes) past.expression
+evaluated m hubs past notes = Part.evaluated m hubs past.joins past.expression notes
 
 -- what comes out of a subscription, its queue and then its tree, where each node still chooses `further`
 abbrev pub owed_from : {T : Type 0} → Meaning T → List (Stream T) → List Note → Subscription T → Option (Stream T)
-owed_from m hubs further sub = option_map (signals_then sub.queue) (comes_out m hubs further sub.tree 0)
+owed_from m hubs further sub = option_map (signals_then sub.queue) (comes_out m hubs further sub.part.tree 0)
 
 -- how a subscription stands
 abbrev pub standing_of : {T : Type 0} → Subscription T → SubscriptionState
 standing_of sub = standing sub.state sub.live
 
--- a subscription stands for its past
+-- a subscription stands for its past, where its part has put out `output`
 pub record Stands {T : Type 0} (m : Meaning T) (published : List (Stream T)) (sub : Subscription T) (past : Past T) : Type 0 where
   pub state : standing_of sub ≡ past.state
   pub live : sub.live ≡ live_in (standing_of sub)
-  -- live: what was received, and then what is owed, is the expression evaluated from scratch, whatever is still published
-  -- and whatever is still chosen
-  pub value : IsLive (standing_of sub) → (more : List (Stream T)) (further : List Note) → length further ≡ length (notes_of sub.tree) →
-      option_map (signals_then past.received) (owed_from m (values_then published more) further sub) ≡ evaluated m (values_then published more) past (notes_then (notes_of sub.tree) further)
-  -- not live: the items received begin that value
-  pub prefix : (IsLive (standing_of sub) → ⊥) → (more : List (Stream T)) (further : List Note) → length further ≡ length (notes_of sub.tree) →
-      (v : Stream T) → evaluated m (values_then published more) past (notes_then (notes_of sub.tree) further) ≡ Some v → IsPrefixOf (items_in past.received) v.items
+  -- what the part has put out, followed by what still comes out of it, is the expression evaluated from scratch
+  pub output : List (Signal T)
+  pub part : PartStands m published sub.part past.expression past.joins output
+  -- live: what was received, and then what is queued, is all that was put out
+  pub held : IsLive (standing_of sub) → past.received ++ sub.queue ≡ output
+  -- not live: the items received begin those put out
+  pub begun : (IsLive (standing_of sub) → ⊥) → IsPrefixOf (items_in past.received) (items_in output)
   -- nothing follows an ending
-  pub orderly : IsOrderly (past.received ++ sub.queue)
-  pub unended : sub.root.state ≡ Live → IsUnended (past.received ++ sub.queue)
+  pub orderly : IsOrderly past.received
   pub waits : standing_of sub ≡ Open → IsUnended past.received
   pub got : standing_of sub ≡ Ended → IsUnended past.received → ⊥
-  -- the items received and those queued are as many as the root edge has sent
-  pub counted : IsLive (standing_of sub) → length (items_in past.received) + length (items_in sub.queue) ≡ sub.root.demand.sent
-  pub most : length (items_in past.received) ≤ sub.root.demand.sent
-  pub within : sub.root.demand.sent ≤ sub.root.demand.asked
-  pub asked : sub.root.demand.asked ≡ past.asked
-  -- the subscriber's own demand: what it requested, and the items it received
+  -- what was requested is asked of the part, and the items received are counted as delivered
+  pub asked : sub.part.root.demand.asked ≡ past.asked
   pub requested : sub.demand.asked ≡ past.asked
   pub delivered : sub.demand.sent ≡ length (items_in past.received)
-  -- the root edge of an open subscription isn't closed, and while the subscriber is live it ends with an ending alone
-  pub unclosed : standing_of sub ≡ Open → sub.root.state ≡ Closed → ⊥
-  pub ended : IsLive (standing_of sub) → sub.root.state ≡ EdgeEnded → IsUnended (past.received ++ sub.queue) → ⊥
-  -- while the root edge is live, the counts along all edges belong together
-  pub balance : sub.root.state ≡ Live → IsBalanced sub.tree sub.root.demand.sent
+  -- the root edge of a live subscriber isn't closed
+  pub unclosed : IsLive (standing_of sub) → sub.part.root.state ≡ Closed → ⊥
   -- not live: the tree is closed, and nothing is queued
-  pub closed : (IsLive (standing_of sub) → ⊥) → IsAllClosed sub.tree × (sub.root.state ≡ Live → ⊥) × (sub.queue ≡ [])
+  pub closed : (IsLive (standing_of sub) → ⊥) → IsAllClosed sub.part.tree × (sub.part.root.state ≡ Live → ⊥) × (sub.queue ≡ [])
 
 -- each subscription stands for its own past
 abbrev pub AllStand : {T : Type 0} → Meaning T → List (Stream T) → List (Subscription T) → List (Past T) → Type 0
@@ -98,19 +70,13 @@ StandsFor m subs h = AllStand m h.published subs h.pasts
 
 -- ---- enabled moves
 
--- the queue of a root edge has room for a signal
-abbrev pub has_room : {T : Type 0} → Subscription T → Bool
-has_room sub = nat_lt (length sub.queue) 64
-
 -- Ask: the root edge rises by requests alone
 abbrev pub ask_enabled : {T : Type 0} → Subscription T → ℕ → Bool
-ask_enabled sub at = if nat_eq at 0 then false else can_ask sub.tree (at - 1) sub.root.demand.asked sub.root.demand.sent
+ask_enabled sub at = Part.ask_enabled sub.part at
 
 -- Send: over the root edge into its queue, or over an edge of the tree
 abbrev pub send_enabled : {T : Type 0} → Meaning T → Subscription T → ℕ → Bool
-send_enabled m sub at =
-    if nat_eq at 0 then has_room sub && can_go (edge_view sub.root) (option_map front_of (offers m sub.tree))
-    else can_send m sub.tree (at - 1)
+send_enabled m sub at = Part.send_enabled m sub.part sub.queue at
 
 -- Take: from the queue of the root edge, where the table delivers its front signal
 abbrev pub take_enabled : {T : Type 0} → Subscription T → ℕ → Bool
@@ -139,7 +105,7 @@ IsRequested {T} subs i n o = (s : Subscription T) × (slice_get subs i.0 ≡ Som
 -- this is what a subscriber is owed: while it is open, its expression's value is what it received followed by this; else
 -- nothing
 abbrev pub owes_in : {T : Type 0} → Meaning T → List (Stream T) → Subscription T → Past T → Stream T → SubscriptionState → Type 0
-owes_in m published sub past v Open = evaluated m published past (notes_of sub.tree) ≡ Some (signals_then past.received v)
+owes_in m published sub past v Open = evaluated m published past (notes_of sub.part.tree) ≡ Some (signals_then past.received v)
 owes_in m published sub past v Ended = v ≡ ended_by NotEnded
 owes_in m published sub past v Cancelled = v ≡ ended_by NotEnded
 owes_in m published sub past v Refused = v ≡ ended_by NotEnded
@@ -155,7 +121,7 @@ IsOwed m subs h i v = OwedAt m h.published subs h.pasts i.0 v
 
 -- these are the notes of a tree
 abbrev pub HasNotesAt : {T : Type 0} → List (Subscription T) → SubId → List Note → Type 0
-HasNotesAt {T} subs i ns = (s : Subscription T) × (slice_get subs i.0 ≡ Some s) × (ns ≡ notes_of s.tree)
+HasNotesAt {T} subs i ns = (s : Subscription T) × (slice_get subs i.0 ≡ Some s) × (ns ≡ notes_of s.part.tree)
 
 abbrev pub HasNotes : {T : Type 0} → List (Subscription T) → Tree → List Note → Type 0
 HasNotes subs (Sub i) ns = HasNotesAt subs i ns
@@ -163,43 +129,33 @@ HasNotes subs (Feed h) ns = ⊥
 
 -- ---- what a move changes
 
--- all edges of a subscription, its root edge first
-abbrev pub all_edges : {T : Type 0} → Subscription T → List EdgeView
-all_edges sub = edge_view sub.root ∷ edges sub.tree
-
--- what the receiver of an edge wants of it in all; a subscriber asks by requests
-abbrev pub wanted : {T : Type 0} → Subscription T → ℕ → ℕ
-wanted sub at = if nat_eq at 0 then sub.root.demand.asked else want_at sub.tree (at - 1) sub.root.demand.asked sub.root.demand.sent
-
--- which signal is offered over an edge
-abbrev pub offered : {T : Type 0} → Meaning T → Subscription T → ℕ → Option Front
-offered m sub at = if nat_eq at 0 then option_map front_of (offers m sub.tree) else front_at m sub.tree (at - 1)
-
--- whether the receiver of an edge has put out an ending; a subscriber puts out nothing
-abbrev pub receiver_ended : {T : Type 0} → Subscription T → ℕ → Bool
-receiver_ended sub at = if nat_eq at 0 then false else ended_at sub.tree (at - 1)
-
 -- an Ask: what was asked of this edge is what its receiver wants, and nothing else changed
 pub record IsAsk {T : Type 0} (old : Subscription T) (at : ℕ) (new : Subscription T) : Type 0 where
-  pub edges : all_edges new ≡ changed_at (asked_up_to (wanted old at)) at (all_edges old)
+  pub edges : Part.IsAsk old.part at new.part
   pub queue : new.queue ≡ old.queue
-
--- the queue of the root edge, where a Send went over the root edge, and where it did not
-abbrev pub QueueAfter : {T : Type 0} → Meaning T → Subscription T → List (Signal T) → Bool → Type 0
-QueueAfter {T} m old queue true = (s : Signal T) × (offers m old.tree ≡ Some s) × (queue ≡ old.queue ++ s ∷ [])
-QueueAfter m old queue false = queue ≡ old.queue
 
 -- a Send: the offered signal went over this edge, from the root into the queue; where the receiver ended by it, all from
 -- there on is closed
 pub record IsSend {T : Type 0} (m : Meaning T) (old : Subscription T) (at : ℕ) (new : Subscription T) : Type 0 where
-  pub front : Front
-  pub carries : offered m old at ≡ Some front
-  pub edges : all_edges new ≡ carried_at (receiver_ended new at) front at (all_edges old)
-  pub queue : QueueAfter m old new.queue (nat_eq at 0)
+  pub out : List (Signal T)
+  pub edges : Part.IsSend m old.part at out new.part
+  pub queue : new.queue ≡ old.queue ++ out
+
+-- a move inside a tree
+abbrev pub IsInside : Move → Type 0
+IsInside (Ask t n) = Unit {0}
+IsInside (Send t n) = Unit {0}
+IsInside (Take t n) = ⊥
+
+-- the effect of an Ask or a Send
+abbrev pub IsWorked : {T : Type 0} → Meaning T → Move → Subscription T → Subscription T → Type 0
+IsWorked m (Ask t n) old new = IsAsk old n.0 new
+IsWorked m (Send t n) old new = IsSend m old n.0 new
+IsWorked m (Take t n) old new = ⊥
 
 -- a Take: the front signal left the queue, and no edge changed
 pub record IsTake {T : Type 0} (old : Subscription T) (s : Signal T) (new : Subscription T) : Type 0 where
-  pub edges : all_edges new ≡ all_edges old
+  pub part : new.part ≡ old.part
   pub queue : old.queue ≡ s ∷ new.queue
 
 -- a move's effect on the subscription in which it was made

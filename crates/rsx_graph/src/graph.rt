@@ -4,21 +4,19 @@ ghost use Rattle.std.specs.Prelude.{◌≡◌, ℕ, ◌+◌, ◌<◌, ◌≤◌,
 ghost use Rattle.rsx_types.specs.Stream.{Stream};
 ghost use Rattle.rsx_model.specs.Check.{refusal};
 ghost use Rattle.rsx_graph.specs.History.{History, no_history, subscribed, given, with_subscriber, with_past, with_made, cancelled, requested, extended, all_extended, IsSubscribeRefusal, IsMakeRefusal, IsMadeAnswer, Belongs, AllBelong, HasAsked, IsLookRefusal, IsTreeRefusal, IsKnownTree, tree_of};
-ghost use Rattle.rsx_graph.specs.Stands.{Stands, StandsFor, IsRequested, IsOwed, HasNotes, HasNotesAt, IsMade, IsMadeAt, enabled_in_tree, enabled_at};
+ghost use Rattle.rsx_graph.specs.Stands.{Stands, StandsFor, IsRequested, IsOwed, HasNotes, HasNotesAt, IsInside, IsMade, IsMadeAt, enabled_in_tree, enabled_at};
 ghost use Rattle.rsx_graph.specs.Begun.{IsFresh, IsSubscribed};
 ghost use Rattle.rsx_graph.specs.Served.{AllServed};
-ghost use Rattle.rsx_graph.specs.Pumped.{AllPumped, Spent, HasEnded, AreQuiet, IsAllQuiet, IsAnyAwake};
+ghost use Rattle.rsx_graph.specs.Pumped.{AllPumped, HasEnded, HasRestedAt};
 
 use crate::deliveries::Deliveries;
-use crate::queue::SignalQueue;
 use crate::refusal::Refusal;
 use crate::state::SubscriptionState;
 use crate::step::{Answer, Pumped, Step};
 use crate::subscription::Subscription;
 use rsx_demand::Demand;
 use rsx_model::{Expr, check_expr};
-use rsx_pipe::Edge;
-use rsx_pipe::build::build;
+use rsx_pipe::{Part, Pumped as Driven, SignalQueue};
 use rsx_sources::NotMade;
 use rsx_subscription::{Input, State, step};
 use rsx_types::{Ending, Move, NoMemory, NodeId, Note, Ops, Signal, StreamValue, SubId, Tree};
@@ -123,14 +121,12 @@ impl<O: Ops> Graph<O> {
         ensures same { OnErr result (self.new.subscriptions.items ≡ self.old.subscriptions.items) }
     {
         match step {
-            Move::Ask(Tree::Sub(sub), node) => match self.make_ask(sub, node) {
-                Ok(()) => Ok(None),
-                Err(why) => Err(why),
-            },
-            Move::Send(Tree::Sub(sub), node) => match self.make_send(alloc, sub, node) {
-                Ok(()) => Ok(None),
-                Err(why) => Err(why),
-            },
+            Move::Ask(Tree::Sub(sub), _) | Move::Send(Tree::Sub(sub), _) => {
+                match self.make_inside(alloc, sub, step) {
+                    Ok(()) => Ok(None),
+                    Err(why) => Err(why),
+                }
+            }
             Move::Take(Tree::Sub(sub), node) => match self.make_take(sub, node) {
                 Ok(signal) => Ok(Some((sub, signal))),
                 Err(why) => Err(why),
@@ -141,31 +137,14 @@ impl<O: Ops> Graph<O> {
         }
     }
 
-    fn make_ask(&mut self, sub: SubId, node: NodeId) -> Result<(), Refusal>
+    /// Makes an Ask or a Send in the tree of a subscription.
+    fn make_inside(&mut self, alloc: Global, sub: SubId, step: Move) -> Result<(), Refusal>
+        requires { IsInside step }
         ensures ops { self.new.ops ≡ self.old.ops }
         ensures stands { OnOk result ((h : History O.Item) → StandsFor (O.meaning self.old.ops) self.old.subscriptions.items h → StandsFor (O.meaning self.old.ops) self.new.subscriptions.items h) }
-        ensures enabled { OnOk result (enabled_at (O.meaning self.old.ops) self.old.subscriptions.items sub.0 (Move.Ask (Tree.Sub sub) node) ≡ true) }
-        ensures effect { OnOk result (IsMadeAt (O.meaning self.old.ops) (Move.Ask (Tree.Sub sub) node) sub.0 self.old.subscriptions.items self.new.subscriptions.items None) }
-        ensures err { IfErr result (λ r. IsMakeRefusal (length self.old.subscriptions.items) (enabled_at (O.meaning self.old.ops) self.old.subscriptions.items sub.0 (Move.Ask (Tree.Sub sub) node)) (Tree.Sub sub) r) }
-        ensures same { OnErr result (self.new.subscriptions.items ≡ self.old.subscriptions.items) }
-    {
-        let at = sub.0 as usize;
-        if at >= self.subscriptions.len() {
-            return Err(Refusal::UnknownSub);
-        }
-        let subscription = &mut self.subscriptions[at];
-        match subscription.ask(node.0) {
-            Ok(()) => Ok(()),
-            Err(_) => Err(Refusal::NotEnabled),
-        }
-    }
-
-    fn make_send(&mut self, alloc: Global, sub: SubId, node: NodeId) -> Result<(), Refusal>
-        ensures ops { self.new.ops ≡ self.old.ops }
-        ensures stands { OnOk result ((h : History O.Item) → StandsFor (O.meaning self.old.ops) self.old.subscriptions.items h → StandsFor (O.meaning self.old.ops) self.new.subscriptions.items h) }
-        ensures enabled { OnOk result (enabled_at (O.meaning self.old.ops) self.old.subscriptions.items sub.0 (Move.Send (Tree.Sub sub) node) ≡ true) }
-        ensures effect { OnOk result (IsMadeAt (O.meaning self.old.ops) (Move.Send (Tree.Sub sub) node) sub.0 self.old.subscriptions.items self.new.subscriptions.items None) }
-        ensures err { IfErr result (λ r. IsMakeRefusal (length self.old.subscriptions.items) (enabled_at (O.meaning self.old.ops) self.old.subscriptions.items sub.0 (Move.Send (Tree.Sub sub) node)) (Tree.Sub sub) r) }
+        ensures enabled { OnOk result (enabled_at (O.meaning self.old.ops) self.old.subscriptions.items sub.0 step ≡ true) }
+        ensures effect { OnOk result (IsMadeAt (O.meaning self.old.ops) step sub.0 self.old.subscriptions.items self.new.subscriptions.items None) }
+        ensures err { IfErr result (λ r. IsMakeRefusal (length self.old.subscriptions.items) (enabled_at (O.meaning self.old.ops) self.old.subscriptions.items sub.0 step) (Tree.Sub sub) r) }
         ensures same { OnErr result (self.new.subscriptions.items ≡ self.old.subscriptions.items) }
     {
         let at = sub.0 as usize;
@@ -174,13 +153,14 @@ impl<O: Ops> Graph<O> {
         }
         let ops = self.ops;
         let subscription = &mut self.subscriptions[at];
-        match subscription.send(alloc, &ops, node.0) {
+        match subscription.make(alloc, &ops, step) {
             Ok(()) => Ok(()),
             Err(NotMade::NotEnabled) => Err(Refusal::NotEnabled),
             Err(NotMade::NoMemory) => Err(Refusal::NoMemory),
         }
     }
 
+    /// Makes the Take from the queue of a subscription.
     fn make_take(&mut self, sub: SubId, node: NodeId) -> Result<Signal<O::Item>, Refusal>
         ensures ops { self.new.ops ≡ self.old.ops }
         ensures stands { IfOk result (λ s. (h : History O.Item) → StandsFor (O.meaning self.old.ops) self.old.subscriptions.items h → StandsFor (O.meaning self.old.ops) self.new.subscriptions.items (with_past (given s) sub h)) }
@@ -219,53 +199,33 @@ impl<O: Ops> Graph<O> {
         let count = self.subscriptions.len().min(256) as u32;
         for at in 0..count {
             left = match self.pump_one(alloc, SubId(at), left, out) {
-                Ok(left) => left,
+                Ok(Driven::Idle(left)) => left,
+                Ok(Driven::Budget) => return Ok(Pumped::Budget),
                 Err(why) => return Err(why),
             };
         }
-        if left > 0 {
-            return Ok(Pumped::Idle);
-        }
-        match self.is_idle() {
-            true => Ok(Pumped::Idle),
-            false => Ok(Pumped::Budget),
-        }
+        Ok(Pumped::Idle)
     }
 
-    /// Drives one subscription, and answers how many of the budget are left.
+    /// Drives one subscription.
     fn pump_one(
         &mut self,
         alloc: Global,
         sub: SubId,
         budget: u32,
         out: &mut Deliveries<O::Item>,
-    ) -> Result<u32, Refusal>
+    ) -> Result<Driven, Refusal>
         requires { sub.0 < length self.old.subscriptions.items }
         ensures ops { self.new.ops ≡ self.old.ops }
         ensures count { length self.new.subscriptions.items ≡ length self.old.subscriptions.items }
-        ensures pumped { (n : ℕ) × Spent budget n result × AllPumped (O.meaning self.old.ops) n self.old.subscriptions.items out.old.signals self.new.subscriptions.items out.new.signals }
-        ensures quiet { IfOk result (λ left. 0 < left → AreQuiet (O.meaning self.old.ops) self.old.subscriptions.items sub.0 → AreQuiet (O.meaning self.old.ops) self.new.subscriptions.items (sub.0 + 1)) }
-        ensures err { IfErr result (λ r. r ≡ Refusal.NoMemory) }
+        ensures pumped { (n : ℕ) × HasRestedAt (O.meaning self.old.ops) budget n self.old.subscriptions.items sub.0 self.new.subscriptions.items result × AllPumped (O.meaning self.old.ops) n self.old.subscriptions.items out.old.signals self.new.subscriptions.items out.new.signals }
     {
         let ops = self.ops;
         let subscription = &mut self.subscriptions[sub.0 as usize];
         match subscription.pump(alloc, &ops, sub, budget, out) {
-            Ok(left) => Ok(left),
+            Ok(ended) => Ok(ended),
             Err(NoMemory) => Err(Refusal::NoMemory),
         }
-    }
-
-    /// Whether no move is enabled.
-    fn is_idle(&self) -> bool
-        ensures yes { result ≡ true → IsAllQuiet (O.meaning self.now.ops) self.now.subscriptions.items }
-        ensures no { result ≡ false → IsAnyAwake (O.meaning self.now.ops) self.now.subscriptions.items }
-    {
-        for subscription in &self.subscriptions {
-            if !subscription.is_idle() {
-                return false;
-            }
-        }
-        true
     }
 
     /// What the graph still owes a subscriber: what is on its root edge, and then what comes out of its tree where nothing
@@ -312,7 +272,7 @@ impl<O: Ops> Graph<O> {
             return Err(Refusal::UnknownSub);
         }
         let subscription = &self.subscriptions[at];
-        match subscription.tree.notes(alloc) {
+        match subscription.part.notes(alloc) {
             Ok(notes) => Ok(notes),
             Err(NoMemory) => Err(Refusal::NoMemory),
         }
@@ -423,14 +383,13 @@ fn new_subscription<O: Ops>(
     ensures fresh { IfOk result (λ s. IsFresh expr.now s) }
 {
     let queue = SignalQueue::new(alloc)?;
-    let tree = build(alloc, ops, expr)?;
+    let part = Part::new(alloc, ops, expr)?;
     let mut state = State::Fresh;
     let mut demand = Demand::new();
     // `onSubscribe` comes before everything else (rule 1.9).
     let _ = step(&mut state, &mut demand, Input::Subscribe);
     Ok(Subscription {
-        tree,
-        root: Edge::new(),
+        part,
         queue,
         state,
         demand,

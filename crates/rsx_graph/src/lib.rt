@@ -3,8 +3,8 @@
 //!
 //! - [`graph`]: [`Graph`], with every edit, move and look; `run` makes a list of steps.
 //! - [`law`]: `headline`, what is proved of all of them, as the contract of one function.
-//! - [`subscription`]: one subscription: its tree, its root edge with the queue of it, and how it stands.
-//! - [`step`], [`refusal`], [`deliveries`], [`queue`], [`state`]: the types that the calls speak of.
+//! - [`subscription`]: one subscription: its part of the graph, the queue behind it, and how it stands.
+//! - [`step`], [`refusal`], [`deliveries`], [`state`]: the types that the calls speak of.
 //!
 //! The definitions stand in `specs/`, apart from the code: `History` (what has happened so far, by the steps and their
 //! answers), `Stands` (what a subscription and a graph stand for, and the effect of a move), `Begun`, `Pumped` and
@@ -13,7 +13,6 @@
 pub mod deliveries;
 pub mod graph;
 pub mod law;
-pub mod queue;
 pub mod refusal;
 pub mod state;
 pub mod step;

@@ -1,4 +1,4 @@
-//! One subscription: its tree, its root edge with the queue of it, and where it stands in the subscription table.
+//! One subscription: its part of the graph, the queue behind that, and where it stands in the subscription table.
 
 ghost use Rattle.std.specs.Prelude.{◌≡◌, IfOk};
 ghost use Rattle.rsx_types.specs.Stream.{signals_then};
@@ -7,13 +7,12 @@ ghost use Rattle.rsx_subscription.specs.Table.{answer, asked_after, cell_of, sen
 ghost use Rattle.rsx_graph.specs.Standing.{input_of, is_delivery};
 
 use crate::deliveries::Deliveries;
-use crate::queue::SignalQueue;
 use crate::state::SubscriptionState;
 use rsx_demand::Demand;
-use rsx_pipe::{Edge, EdgeState, Node};
-use rsx_sources::{Front, NotMade};
+use rsx_pipe::{EdgeState, Part, Pumped, SignalQueue};
+use rsx_sources::NotMade;
 use rsx_subscription::{Effect, Input, State, step};
-use rsx_types::{Cause, Ending, NoMemory, Ops, Signal, StreamValue, SubId};
+use rsx_types::{Cause, Ending, Move, NoMemory, Ops, Signal, StreamValue, SubId};
 use std::alloc::Global;
 
 /// One subscription of a graph.
@@ -21,11 +20,10 @@ use std::alloc::Global;
 /// Its state and its demand move by the table of `rsx_subscription` alone.
 #[derive(Drop)]
 pub struct Subscription<T> {
-    /// The tree of its expression.
-    pub tree: Node<T>,
-    /// The edge from the tree's root to the queue: asked is what the subscriber requested, sent what was put into the queue.
-    pub root: Edge,
-    /// The signals on that edge, at most 64.
+    /// The tree of its expression with its edges. Of the root edge asked is what the subscriber requested, and sent what was
+    /// put into the queue.
+    pub part: Part<T>,
+    /// The signals on the root edge, at most 64.
     pub queue: SignalQueue<T>,
     /// Where the subscription stands in the table. It is opened before anything else happens (rule 1.9).
     pub state: State,
@@ -38,16 +36,18 @@ pub struct Subscription<T> {
 }
 
 impl<T: Drop> Subscription<T> {
-    ghost use Rattle.std.specs.Prelude.{◌≡◌, ◌≤◌, ◌<◌, length, ℕ, ◌++◌, ◌∷◌, [], List, OnOk, OnErr, IfOk, IfErr, IfSome, OnSome, IfNone, Some, None, true, false, map, option_map};
+    ghost use Rattle.std.specs.Prelude.{◌≡◌, ◌<◌, ℕ, [], List, OnOk, OnErr, IfOk, IfErr, IfSome, OnSome, IfNone, Some, None, true, false, map, option_map};
     ghost use Rattle.rsx_types.specs.Meaning.{Meaning};
     ghost use Rattle.rsx_types.specs.Notes.{unchosen};
     ghost use Rattle.rsx_types.specs.Stream.{Stream};
     ghost use Rattle.rsx_sources.specs.Steps.{IsNotMade};
-    ghost use Rattle.rsx_pipe.specs.Tree.{comes_out, notes_of, IsAllClosed};
+    ghost use Rattle.rsx_types.specs.declared.names.SubId.{SubId};
+    ghost use Rattle.rsx_types.specs.declared.signal.Signal.{Signal};
+    ghost use Rattle.rsx_pipe.specs.Part.{HasEnded, IsPutOut, move_enabled};
+    ghost use Rattle.rsx_pipe.specs.Tree.{notes_of, IsAllClosed};
     ghost use Rattle.rsx_graph.specs.History.{Past, cancelled, requested, given, request_answer};
-    ghost use Rattle.rsx_pipe.specs.Tree.{IsIdle};
-    ghost use Rattle.rsx_graph.specs.Stands.{Stands, standing_of, owed_from, ask_enabled, send_enabled, take_enabled, IsAsk, IsSend, IsTake};
-    ghost use Rattle.rsx_graph.specs.Pumped.{IsPumped, IsMoved, IsQuiet, IsAwake, Spent, moves_of};
+    ghost use Rattle.rsx_graph.specs.Stands.{Stands, standing_of, owed_from, take_enabled, IsWorked, IsTake};
+    ghost use Rattle.rsx_graph.specs.Pumped.{IsPumped, HasRested, IsRest, IsQuiet, IsAwake, Spent, moves_of};
 
     /// How the subscription stands.
     pub fn standing(&self) -> SubscriptionState
@@ -71,16 +71,14 @@ impl<T: Drop> Subscription<T> {
         ensures demand { self.new.demand ≡ self.old.demand }
         ensures live { self.new.live ≡ false }
         ensures queue { self.new.queue ≡ [] }
-        ensures root { self.new.root.state ≡ EdgeState.Live → ⊥ }
-        ensures asked { self.new.root.demand.asked ≡ self.old.root.demand.asked }
-        ensures sent { self.new.root.demand.sent ≡ self.old.root.demand.sent }
-        ensures tree { IsAllClosed self.new.tree }
-        ensures notes { notes_of self.new.tree ≡ notes_of self.old.tree }
+        ensures root { self.new.part.root.state ≡ EdgeState.Live → ⊥ }
+        ensures asked { self.new.part.root.demand.asked ≡ self.old.part.root.demand.asked }
+        ensures tree { IsAllClosed self.new.part.tree }
+        ensures stands { (m : Meaning T) → IsPutOut m self.old.part [] self.new.part }
     {
         self.live = false;
-        self.root.close();
+        self.part.close();
         self.queue.clear();
-        self.tree.close();
     }
 
     /// Cancels the subscription, where it is open (rules 3.5 to 3.7).
@@ -103,7 +101,7 @@ impl<T: Drop> Subscription<T> {
         };
         match effect {
             Effect::Add => {
-                self.root.demand.ask(n.unsigned_abs());
+                self.part.request(n.unsigned_abs());
                 None
             }
             Effect::Bad => {
@@ -151,91 +149,22 @@ impl<T: Drop> Subscription<T> {
         delivers(&mut state, &mut demand, self.queue.at(0))
     }
 
-    /// Makes the move Ask of the node `at`.
-    pub fn ask(&mut self, at: u32) -> Result<(), NotMade>
-        ensures stands { (m : Meaning T) (published : List (Stream T)) (past : Past T) → Stands m published self.old past → Stands m published self.new past }
-        ensures ok { OnOk result (ask_enabled self.old at ≡ true) }
-        ensures effect { OnOk result (IsAsk self.old at self.new) }
-        ensures err { IfErr result (λ e. (e ≡ NotMade.NotEnabled) × (ask_enabled self.old at ≡ false)) }
-        ensures same { OnErr result (self.new ≡ self.old) }
-    {
-        if at == 0 {
-            return Err(NotMade::NotEnabled);
-        }
-        match self
-            .tree
-            .ask(at - 1, self.root.demand.asked, self.root.demand.sent)
-        {
-            Ok(()) => Ok(()),
-            Err(why) => Err(why),
-        }
-    }
-
-    /// Makes the move Send of the node `at`.
-    pub fn send<O: Ops<Item = T>>(&mut self, alloc: Global, ops: &O, at: u32) -> Result<(), NotMade>
-        ensures ok { OnOk result ((published : List (Stream T)) (past : Past T) → Stands (O.meaning ops.now) published self.old past → Stands (O.meaning ops.now) published self.new past) }
-        ensures enabled { OnOk result (send_enabled (O.meaning ops.now) self.old at ≡ true) }
-        ensures effect { OnOk result (IsSend (O.meaning ops.now) self.old at self.new) }
-        ensures err { IfErr result (IsNotMade (send_enabled (O.meaning ops.now) self.old at)) }
-        ensures same { OnErr result (self.new ≡ self.old) }
-    {
-        if at > 0 {
-            return match self.tree.send(alloc, ops, at - 1) {
-                Ok(()) => Ok(()),
-                Err(why) => Err(why),
-            };
-        }
-        self.send_root(alloc, ops)
-    }
-
-    /// Moves the root's signal into the queue.
-    fn send_root<O: Ops<Item = T>>(&mut self, alloc: Global, ops: &O) -> Result<(), NotMade>
-        ensures ok { OnOk result ((published : List (Stream T)) (past : Past T) → Stands (O.meaning ops.now) published self.old past → Stands (O.meaning ops.now) published self.new past) }
-        ensures enabled { OnOk result (send_enabled (O.meaning ops.now) self.old 0 ≡ true) }
-        ensures effect { OnOk result (IsSend (O.meaning ops.now) self.old 0 self.new) }
-        ensures err { IfErr result (IsNotMade (send_enabled (O.meaning ops.now) self.old 0)) }
-        ensures same { OnErr result (self.new ≡ self.old) }
-    {
-        let Some(front) = self.tree.front() else {
-            return Err(NotMade::NotEnabled);
-        };
-        if self.queue.len() >= 64 || !self.root.can_carry(front) {
-            return Err(NotMade::NotEnabled);
-        }
-        let signal = match self.tree.pop(alloc, ops) {
-            Ok(Some(signal)) => signal,
-            Ok(None) => return Err(NotMade::NotEnabled),
-            Err(NoMemory) => return Err(NotMade::NoMemory),
-        };
-        self.queue.push(signal);
-        self.root.carry(front);
-        Ok(())
-    }
-
-    /// Makes the first enabled move, if there is one; a signal that it delivers is put into `out`.
-    pub fn advance<O: Ops<Item = T>>(
+    /// Makes the move Ask or Send of a node.
+    pub fn make<O: Ops<Item = T>>(
         &mut self,
         alloc: Global,
         ops: &O,
-        id: SubId,
-        out: &mut Deliveries<T>,
-    ) -> Result<bool, NoMemory>
-        ensures pumped { IsPumped (O.meaning ops.now) id (moves_of result) self.old out.old.signals self.new out.new.signals }
-        ensures idle { IfOk result (λ b. b ≡ false → IsQuiet (O.meaning ops.now) self.new) }
+        step: Move,
+    ) -> Result<(), NotMade>
+        ensures stands { OnOk result ((published : List (Stream T)) (past : Past T) → Stands (O.meaning ops.now) published self.old past → Stands (O.meaning ops.now) published self.new past) }
+        ensures enabled { OnOk result (move_enabled (O.meaning ops.now) self.old.part self.old.queue step ≡ true) }
+        ensures effect { OnOk result (IsWorked (O.meaning ops.now) step self.old self.new) }
+        ensures err { IfErr result (IsNotMade (move_enabled (O.meaning ops.now) self.old.part self.old.queue step)) }
+        ensures same { OnErr result (self.new ≡ self.old) }
     {
-        match self.advance_queue(id, out) {
-            Ok(true) => return Ok(true),
-            Ok(false) => {}
-            Err(NoMemory) => return Err(NoMemory),
-        }
-        match self.send_root(alloc, ops) {
-            Ok(()) => Ok(true),
-            Err(NotMade::NoMemory) => Err(NoMemory),
-            Err(NotMade::NotEnabled) => match self.advance_tree(alloc, ops, id) {
-                Ok(true) => Ok(true),
-                Ok(false) => Ok(false),
-                Err(NoMemory) => Err(NoMemory),
-            },
+        match self.part.make(alloc, ops, step, &mut self.queue) {
+            Ok(()) => Ok(()),
+            Err(why) => Err(why),
         }
     }
 
@@ -243,6 +172,7 @@ impl<T: Drop> Subscription<T> {
     fn advance_queue(&mut self, id: SubId, out: &mut Deliveries<T>) -> Result<bool, NoMemory>
         ensures pumped { (m : Meaning T) → IsPumped m id (moves_of result) self.old out.old.signals self.new out.new.signals }
         ensures none { IfOk result (λ b. b ≡ false → (self.new ≡ self.old) × (out.new.signals ≡ out.old.signals) × (take_enabled self.old 0 ≡ false)) }
+        ensures part { self.new.part ≡ self.old.part }
     {
         if self.queue.len() == 0 {
             return Ok(false);
@@ -257,30 +187,41 @@ impl<T: Drop> Subscription<T> {
         }
     }
 
-    /// Makes the first enabled move of the tree, if there is one.
-    fn advance_tree<O: Ops<Item = T>>(
+    /// Hands the signals of the queue to the subscriber, at most `budget` of them, and answers how many of the budget are
+    /// left.
+    fn deliver(&mut self, id: SubId, budget: u32, out: &mut Deliveries<T>) -> Result<u32, NoMemory>
+        ensures pumped { (m : Meaning T) → (n : ℕ) × Spent budget n result × IsPumped m id n self.old out.old.signals self.new out.new.signals }
+        ensures none { IfOk result (λ left. left ≡ budget → self.new ≡ self.old) }
+        ensures rest { IfOk result (λ left. 0 < left → take_enabled self.new 0 ≡ false) }
+    {
+        for made in 0..budget {
+            match self.advance_queue(id, out) {
+                Ok(true) => {}
+                Ok(false) => return Ok(budget - made),
+                Err(NoMemory) => return Err(NoMemory),
+            }
+        }
+        Ok(0)
+    }
+
+    /// Makes enabled moves of the part until none is enabled or `budget` moves were made.
+    fn pump_part<O: Ops<Item = T>>(
         &mut self,
         alloc: Global,
         ops: &O,
         id: SubId,
-    ) -> Result<bool, NoMemory>
-        ensures stands { (published : List (Stream T)) (past : Past T) → Stands (O.meaning ops.now) published self.old past → Stands (O.meaning ops.now) published self.new past }
-        ensures made { IfOk result (λ b. b ≡ true → IsMoved (O.meaning ops.now) id self.old None self.new) }
-        ensures idle { IfOk result (λ b. b ≡ false → IsIdle (O.meaning ops.now) self.old.tree self.old.root.demand.asked self.old.root.demand.sent) }
-        ensures none { IfOk result (λ b. b ≡ false → self.new ≡ self.old) }
-        ensures same { OnErr result (self.new ≡ self.old) }
+        budget: u32,
+    ) -> Result<Pumped, NoMemory>
+        ensures pumped { (n : ℕ) × HasEnded (O.meaning ops.now) budget n self.new.part self.new.queue result × ((o : List (SubId × Signal T)) → IsPumped (O.meaning ops.now) id n self.old o self.new o) }
     {
-        match self
-            .tree
-            .advance(alloc, ops, self.root.demand.asked, self.root.demand.sent)
-        {
-            Ok(true) => Ok(true),
-            Ok(false) => Ok(false),
+        match self.part.pump(alloc, ops, budget, &mut self.queue) {
+            Ok(ended) => Ok(ended),
             Err(NoMemory) => Err(NoMemory),
         }
     }
 
-    /// Makes enabled moves until none is enabled or `budget` moves were made, and answers how many of the budget are left.
+    /// Makes enabled moves until none is enabled (Idle) or `budget` moves were made (Budget); where both hold it answers
+    /// Idle. A signal that is delivered is put into `out`.
     pub fn pump<O: Ops<Item = T>>(
         &mut self,
         alloc: Global,
@@ -288,18 +229,35 @@ impl<T: Drop> Subscription<T> {
         id: SubId,
         budget: u32,
         out: &mut Deliveries<T>,
-    ) -> Result<u32, NoMemory>
-        ensures pumped { (n : ℕ) × Spent budget n result × IsPumped (O.meaning ops.now) id n self.old out.old.signals self.new out.new.signals }
-        ensures idle { IfOk result (λ left. 0 < left → IsQuiet (O.meaning ops.now) self.new) }
+    ) -> Result<Pumped, NoMemory>
+        ensures pumped { (n : ℕ) × HasRested (O.meaning ops.now) budget n self.new result × IsPumped (O.meaning ops.now) id n self.old out.old.signals self.new out.new.signals }
     {
-        for made in 0..budget {
-            match self.advance(alloc, ops, id, out) {
-                Ok(true) => {}
-                Ok(false) => return Ok(budget - made),
+        let mut left = budget;
+        for round in 0..budget {
+            let before = match self.pump_part(alloc, ops, id, left) {
+                Ok(Pumped::Idle(left)) => left,
+                Ok(Pumped::Budget) => return Ok(Pumped::Budget),
                 Err(NoMemory) => return Err(NoMemory),
+            };
+            left = match self.deliver(id, before, out) {
+                Ok(left) => left,
+                Err(NoMemory) => return Err(NoMemory),
+            };
+            if left == before {
+                return Ok(self.rest(left));
             }
         }
-        Ok(0)
+        Ok(self.rest(left))
+    }
+
+    /// How driving the subscription ends where so much of the budget is left.
+    fn rest(&self, left: u32) -> Pumped
+        ensures { (m : Meaning T) → (0 < left → IsQuiet m self.now) → IsRest m self.now left result }
+    {
+        match self.is_idle() {
+            true => Pumped::Idle(left),
+            false => Pumped::Budget,
+        }
     }
 
     /// Whether no move is enabled.
@@ -310,31 +268,14 @@ impl<T: Drop> Subscription<T> {
         if self.can_take() {
             return false;
         }
-        if self.can_send_root() {
-            return false;
-        }
-        self.tree
-            .is_idle(self.root.demand.asked, self.root.demand.sent)
-    }
-
-    /// Whether the move Send of the root is enabled.
-    fn can_send_root(&self) -> bool
-        ensures { (m : Meaning T) → result ≡ send_enabled m self.now 0 }
-    {
-        if self.queue.len() >= 64 {
-            return false;
-        }
-        match self.tree.front() {
-            Some(front) => self.root.can_carry(front),
-            None => false,
-        }
+        self.part.is_idle(&self.queue)
     }
 
     /// What is still owed: what is queued, and then what comes out of the tree.
     pub fn owed<O: Ops<Item = T>>(&self, alloc: Global, ops: &O) -> Result<StreamValue<T>, NoMemory>
-        ensures { IfOk result (λ v. (hubs : List (Stream T)) → owed_from (O.meaning ops.now) hubs (map unchosen (notes_of self.now.tree)) self.now ≡ Some v) }
+        ensures { IfOk result (λ v. (hubs : List (Stream T)) → owed_from (O.meaning ops.now) hubs (map unchosen (notes_of self.now.part.tree)) self.now ≡ Some v) }
     {
-        let rest = self.tree.residual(alloc, ops)?;
+        let rest = self.part.residual(alloc, ops)?;
         behind(alloc, ops, &self.queue, rest)
     }
 }

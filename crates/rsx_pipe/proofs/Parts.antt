@@ -1,5 +1,5 @@
 -- How each move keeps what a part stands for.
-use Rattle.std.proofs.Common.{◌≡◌, ◌⊎◌, inl, inr, ℕ, zero, suc, ◌+◌, ◌-◌, ◌<◌, ◌≤◌, min, Bool, true, false, ◌&&◌, nat_eq, nat_lt, List, [], ◌∷◌, ◌++◌, length, length-append, take, map, option_map, Option, Some, None, Result, Ok, Err, refl, ap, sym, ◌∙◌, subst, arith, append_assoc, add-zero}
+use Rattle.std.proofs.Common.{◌≡◌, ◌⊎◌, inl, inr, ℕ, zero, suc, ◌+◌, ◌-◌, ◌<◌, ◌≤◌, min, Bool, true, false, ◌&&◌, nat_eq, nat_lt, if◌then◌else◌, List, [], ◌∷◌, ◌++◌, length, length-append, take, map, option_map, Option, Some, None, Result, Ok, Err, refl, ap, sym, ◌∙◌, subst, arith, append_assoc, add-zero}
 use Rattle.std.proofs.lemmas.Bool.Decides.{nat_tests}
 use Rattle.std.proofs.lemmas.List.{append-nil, take_all}
 use Rattle.rsx_demand.specs.Demand.{saturating_total}
@@ -33,11 +33,11 @@ use Rattle.rsx_pipe.specs.declared.part.Pumped.{Pumped}
 use Rattle.rsx_pipe.specs.declared.part.Pumped.TheVariants.{Idle, Budget}
 use Rattle.rsx_pipe.proofs.Balances.{offers_more, can_pass_live, above_zero, suc_minus}
 use Rattle.rsx_pipe.proofs.Signals.{IsOrderly-more, IsUnended-more, IsUnended-last, items_in-append, map_then-last, prefix_of_orderly, cut_value}
-use Rattle.rsx_pipe.proofs.Trees.{pass_live, front_there, above_root, sent_all, asked_all, at_zero, advanced_not_closed, notes_then-unchosen, notes_then-unrecorded, unchosen_notes}
+use Rattle.rsx_pipe.proofs.Trees.{pass_live, front_there, above_root, sent_all, asked_all, at_zero, advanced_not_closed, ask_not_closed, send_not_closed, go_live, and_right, notes_then-unchosen, notes_then-unrecorded, unchosen_notes}
 
 -- ---- what goes out
 
-same_output : {T : Type 0} (m : Meaning T) (published : List (Stream T)) (part : Part T) (e : Expr T) (joins : List ℕ) (output : List (Signal T)) → PartStands m published part e joins output → PartStands m published part e joins (output ++ [])
+pub same_output : {T : Type 0} (m : Meaning T) (published : List (Stream T)) (part : Part T) (e : Expr T) (joins : List ℕ) (output : List (Signal T)) → PartStands m published part e joins output → PartStands m published part e joins (output ++ [])
 same_output {T} m published part e joins output h =
     let P : List (Signal T) → Type 0 = λ l. PartStands m published part e joins l in
     subst P (sym (append-nil output)) h
@@ -323,6 +323,28 @@ fresh_part m published e part b l s = record {
     map_same : {T : Type 0} (o : Option (Stream T)) → option_map (λ v. v) o ≡ o
     map_same None = refl
     map_same (Some v) = refl
+
+-- a closed part makes no move
+pub moved_alive : {T : Type 0} (m : Meaning T) (old new : Part T) (queue queue' out : List (Signal T)) → IsMoved m old queue out new queue' → IsAllClosed old.tree → (old.root.state ≡ Live → ⊥) → ⊥
+moved_alive {T} m old new queue queue' out k closed shut = by_move k.move k.enabled
+  where
+    by_test : (b x y : Bool) → (if b then x else y) ≡ true → (x ≡ true) ⊎ (y ≡ true)
+    by_test true x y e = inl e
+    by_test false x y e = inr e
+
+    below : (at : ℕ) (x y : Bool) → (if nat_eq at 0 then x else y) ≡ true → (x ≡ true) ⊎ (y ≡ true)
+    below at x y e = by_test (nat_eq at 0) x y e
+
+    by_move : (move : Move) → move_enabled m old queue move ≡ true → ⊥
+    by_move (Ask t n) e = elim (below n.0 false (can_ask old.tree (n.0 - 1) old.root.demand.asked old.root.demand.sent) e) [
+      | inl f ↦ cc
+      | inr a ↦ ask_not_closed old.tree (n.0 - 1) old.root.demand.asked old.root.demand.sent a closed
+    ]
+    by_move (Send t n) e = elim (below n.0 (has_room queue && can_go (edge_view old.root) (option_map front_of (offers m old.tree))) (can_send m old.tree (n.0 - 1)) e) [
+      | inl r ↦ shut (go_live (edge_view old.root) (option_map front_of (offers m old.tree)) (and_right (has_room queue) _ r))
+      | inr s ↦ send_not_closed m old.tree (n.0 - 1) s closed
+    ]
+    by_move (Take t n) e = cc
 
 -- ---- many moves of the tree
 

@@ -14,6 +14,15 @@ IsOrderly-front (Complete ∷ (s ∷ a)) b h = cc
 IsOrderly-front (Error c ∷ []) b h = refl
 IsOrderly-front (Error c ∷ (s ∷ a)) b h = cc
 
+-- what something follows has no ending
+pub unended_before : {T : Type 0} (a : List (Signal T)) (s : Signal T) (b : List (Signal T)) → IsOrderly (a ++ s ∷ b) → IsUnended a
+unended_before [] s b h = tt
+unended_before (Next x ∷ a) s b h = unended_before a s b h
+unended_before (Complete ∷ []) s b h = cc
+unended_before (Complete ∷ (t ∷ a)) s b h = cc
+unended_before (Error c ∷ []) s b h = cc
+unended_before (Error c ∷ (t ∷ a)) s b h = cc
+
 -- one more signal behind those that have no ending
 pub IsOrderly-more : {T : Type 0} (a : List (Signal T)) (s : Signal T) → IsUnended a → IsOrderly (a ++ s ∷ [])
 IsOrderly-more [] (Next x) h = tt

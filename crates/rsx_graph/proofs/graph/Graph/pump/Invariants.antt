@@ -1,4 +1,4 @@
-use Rattle.std.proofs.Common.{◌≡◌, ◌<◌, ◌+◌, ℕ, length}
+use Rattle.std.proofs.Common.{◌≡◌, ◌+◌, ℕ, length}
 use Rattle.rsx_graph.specs.Pumped.{AllPumped, AreQuiet}
 use Rattle.rsx_graph.proofs.graph.Graph.pump.Given as goal
 
@@ -7,5 +7,5 @@ invariant-loop-at g l = record {
   ops : l.self.ops ≡ l.fn.self.ops;
   count : length l.self.subscriptions.items ≡ length l.fn.self.subscriptions.items;
   pumped : (n : ℕ) × (n + l.left ≡ l.fn.budget) × AllPumped (g.O.Ops.meaning l.fn.self.ops) n l.fn.self.subscriptions.items l.fn.out.signals l.self.subscriptions.items l.out.signals;
-  quiet : 0 < l.left → AreQuiet (g.O.Ops.meaning l.fn.self.ops) l.self.subscriptions.items l.at;
+  quiet : AreQuiet (g.O.Ops.meaning l.fn.self.ops) l.self.subscriptions.items l.at;
 }

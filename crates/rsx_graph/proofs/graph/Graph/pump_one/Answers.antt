@@ -1,17 +1,19 @@
-use Rattle.std.proofs.Common.{sym}
-use Rattle.rsx_graph.proofs.Graphs.{pumped_there, quiet_there}
+use Rattle.std.proofs.Common.{refl, sym}
+use Rattle.rsx_types.specs.declared.fault.NoMemory.{NoMemory}
+use Rattle.rsx_graph.proofs.Graphs.{pumped_there, rested_there}
 use Rattle.rsx_graph.proofs.graph.Graph.pump_one.Goals as goal
 
 pub returns-in-Ok-clause-pumped : goal.returns-in-Ok-clause-pumped
 returns-in-Ok-clause-pumped g c =
-    let p = c.in-Ok.ensures.pumped in
-    (p.0, p.1, pumped_there (g.O.Ops.meaning c.args.self.now.ops) c.args.sub p.0 c.args.self.now.subscriptions.items c.index_mut-subscription.result.now c.pump.new.self c.args.out.now.signals c.pump.new.out.signals c.requires (sym c.index_mut-subscription.ensures.value) p.2)
-
-pub returns-in-Ok-clause-quiet : goal.returns-in-Ok-clause-quiet
-returns-in-Ok-clause-quiet g c = λ more before.
-    quiet_there (g.O.Ops.meaning c.args.self.now.ops) c.args.self.now.subscriptions.items c.args.sub.0 c.pump.new.self (c.in-Ok.ensures.idle more) before
+    let m = g.O.Ops.meaning c.args.self.now.ops in
+    let p = c.in-Ok.ensures.pumped in (
+      p.0,
+      rested_there NoMemory m c.args.budget p.0 c.args.sub.0 c.args.self.now.subscriptions.items c.index_mut-subscription.result.now c.pump.new.self c.in-Ok.ended c.requires p.1,
+      pumped_there m c.args.sub p.0 c.args.self.now.subscriptions.items c.index_mut-subscription.result.now c.pump.new.self c.args.out.now.signals c.pump.new.out.signals c.requires (sym c.index_mut-subscription.ensures.value) p.2,
+    )
 
 pub returns-in-Err-clause-pumped : goal.returns-in-Err-clause-pumped
 returns-in-Err-clause-pumped g c =
+    let m = g.O.Ops.meaning c.args.self.now.ops in
     let p = c.in-Err.ensures.pumped in
-    (p.0, p.1, pumped_there (g.O.Ops.meaning c.args.self.now.ops) c.args.sub p.0 c.args.self.now.subscriptions.items c.index_mut-subscription.result.now c.pump.new.self c.args.out.now.signals c.pump.new.out.signals c.requires (sym c.index_mut-subscription.ensures.value) p.2)
+    (p.0, (p.1, refl), pumped_there m c.args.sub p.0 c.args.self.now.subscriptions.items c.index_mut-subscription.result.now c.pump.new.self c.args.out.now.signals c.pump.new.out.signals c.requires (sym c.index_mut-subscription.ensures.value) p.2)

@@ -15,9 +15,8 @@ returns-in-Ok-Close g c = λ m published past h.
       queue = k.queue;
       root = k.root;
       asked = k.asked;
-      sent = k.sent;
       tree = k.tree;
-      notes = k.notes;
+      put = k.stands;
       requested = ap (λ d. d.asked) k.demand ∙ (t.asked ∙ kept.0);
       delivered = ap (λ d. d.sent) k.demand ∙ (t.sent ∙ kept.1);
     }) (k.state ∙ (t.state ∙ closes.1)) h

@@ -13,15 +13,14 @@ returns-in-Add-clause-stands g c = λ m published past h.
     let k = request_adds c.args.self.now.state c.args.n c.args.self.now.demand (sym t.answer ∙ (c.in-Ok.is ∙ ap Ok c.in-Add.is)) in
     stands_added m published c.args.self.now _ past c.args.n k (record {
       queue = refl;
-      tree = refl;
       state = t.state ∙ k.state;
       live = refl;
-      edge = refl;
-      sent = c.ask.ensures.sent;
-      asked = c.ask.ensures.asked ∙ ap (λ i. saturating_total c.args.self.now.root.demand.asked i) (c.unsigned_abs.ensures.value ∙ ap unsigned_abs n);
+      tree = c.request.ensures.tree;
+      edge = c.request.ensures.state;
+      put = c.request.ensures.stands;
+      asked = c.request.ensures.asked ∙ ap (λ i. saturating_total c.args.self.now.part.root.demand.asked i) (c.unsigned_abs.ensures.value ∙ ap unsigned_abs n);
       requested = t.asked ∙ k.asked;
       delivered = t.sent ∙ k.sent;
-      within = c.ask.new.self.covered;
     }) h
 
 pub returns-in-Bad-clause-stands : goal.returns-in-Bad-clause-stands
@@ -36,9 +35,8 @@ returns-in-Bad-clause-stands g c = λ m published past h.
       queue = k.queue;
       root = k.root;
       asked = k.asked;
-      sent = k.sent;
       tree = k.tree;
-      notes = k.notes;
+      put = k.stands;
       requested = ap (λ d. d.asked) k.demand ∙ (t.asked ∙ b.asked);
       delivered = ap (λ d. d.sent) k.demand ∙ (t.sent ∙ b.sent);
     }) (k.state ∙ (t.state ∙ b.state)) b.bad h
@@ -51,8 +49,7 @@ returns-in_default-effect-clause-stands g c = λ m published past h.
     (λ e. c.in_default-effect.not-Add (same_effect c.step.result c.in-Ok.effect Add c.in-Ok.is (t.answer ∙ e)))
     (λ e. c.in_default-effect.not-Bad (same_effect c.step.result c.in-Ok.effect Bad c.in-Ok.is (t.answer ∙ e))) in
     stands_unrequested m published c.args.self.now _ past c.args.n i.was (record {
-      tree = refl;
-      root = refl;
+      part = refl;
       queue = refl;
       state = t.state ∙ i.state;
       live = refl;
@@ -68,8 +65,7 @@ returns-in_default-clause-stands g c = λ m published past h.
     (λ e. c.in_default.not-Ok Add (t.answer ∙ e))
     (λ e. c.in_default.not-Ok Bad (t.answer ∙ e)) in
     stands_unrequested m published c.args.self.now _ past c.args.n i.was (record {
-      tree = refl;
-      root = refl;
+      part = refl;
       queue = refl;
       state = t.state ∙ i.state;
       live = refl;

@@ -1,7 +1,7 @@
 use Rattle.std.proofs.Common.{refl}
 use Rattle.std.proofs.Common.{◌<◌, ◌∙◌, length, sym, arith}
-use Rattle.rsx_graph.proofs.Graphs.{AllStand-moved, enabled_there, set_same, found}
-use Rattle.rsx_graph.proofs.graph.Graph.make_send.Goals as goal
+use Rattle.rsx_graph.proofs.Graphs.{AllStand-moved, enabled_there, inside_enabled, inside_effect, set_same, found}
+use Rattle.rsx_graph.proofs.graph.Graph.make_inside.Goals as goal
 
 pub returns-in-Ok-clause-stands : goal.returns-in-Ok-clause-stands
 returns-in-Ok-clause-stands g c = λ h s.
@@ -9,7 +9,7 @@ returns-in-Ok-clause-stands g c = λ h s.
     let l = c.len.ensures in
     let subs = c.args.self.now.subscriptions.items in
     let within : c.args.sub.0 < length c.args.self.now.subscriptions.items = omega (arith, l, c.if-at-len.false) in
-    AllStand-moved m h.published c.args.self.now.subscriptions.items h.pasts c.args.sub.0 c.index_mut-subscription.result.now c.send.new.self within (sym c.index_mut-subscription.ensures.value) (λ p k. c.in-Ok.ensures.ok h.published p k) s
+    AllStand-moved m h.published c.args.self.now.subscriptions.items h.pasts c.args.sub.0 c.index_mut-subscription.result.now c.make.new.self within (sym c.index_mut-subscription.ensures.value) (λ p k. c.in-Ok.ensures.stands h.published p k) s
 
 pub returns-in-Ok-clause-enabled : goal.returns-in-Ok-clause-enabled
 returns-in-Ok-clause-enabled g c =
@@ -17,7 +17,7 @@ returns-in-Ok-clause-enabled g c =
     let l = c.len.ensures in
     let subs = c.args.self.now.subscriptions.items in
     let within : c.args.sub.0 < length c.args.self.now.subscriptions.items = omega (arith, l, c.if-at-len.false) in
-    enabled_there m c.args.self.now.subscriptions.items c.args.sub.0 c.index_mut-subscription.result.now _ within (sym c.index_mut-subscription.ensures.value) ∙ c.in-Ok.ensures.enabled
+    enabled_there m c.args.self.now.subscriptions.items c.args.sub.0 c.index_mut-subscription.result.now c.args.step within (sym c.index_mut-subscription.ensures.value) ∙ (sym (inside_enabled m c.index_mut-subscription.result.now c.args.step c.requires) ∙ c.in-Ok.ensures.enabled)
 
 pub returns-in-Err-NotEnabled-clause-err : goal.returns-in-Err-NotEnabled-clause-err
 returns-in-Err-NotEnabled-clause-err g c =
@@ -25,14 +25,14 @@ returns-in-Err-NotEnabled-clause-err g c =
     let m = g.O.Ops.meaning c.args.self.now.ops in
     let l = c.len.ensures in
     let within : c.args.sub.0 < length c.args.self.now.subscriptions.items = omega (arith, l, c.if-at-len.false) in
-    (within, enabled_there m c.args.self.now.subscriptions.items c.args.sub.0 c.index_mut-subscription.result.now _ within (sym c.index_mut-subscription.ensures.value) ∙ refused)
+    (within, enabled_there m c.args.self.now.subscriptions.items c.args.sub.0 c.index_mut-subscription.result.now c.args.step within (sym c.index_mut-subscription.ensures.value) ∙ (sym (inside_enabled m c.index_mut-subscription.result.now c.args.step c.requires) ∙ refused))
 
 pub returns-in-Err-NotEnabled-clause-same : goal.returns-in-Err-NotEnabled-clause-same
 returns-in-Err-NotEnabled-clause-same g c =
     let m = g.O.Ops.meaning c.args.self.now.ops in
     let l = c.len.ensures in
     let within : c.args.sub.0 < length c.args.self.now.subscriptions.items = omega (arith, l, c.if-at-len.false) in
-    set_same c.args.self.now.subscriptions.items c.args.sub.0 c.index_mut-subscription.result.now c.send.new.self within (sym c.index_mut-subscription.ensures.value) c.in-Err-NotEnabled.ensures.same
+    set_same c.args.self.now.subscriptions.items c.args.sub.0 c.index_mut-subscription.result.now c.make.new.self within (sym c.index_mut-subscription.ensures.value) c.in-Err-NotEnabled.ensures.same
 
 pub returns-in-Err-NoMemory-clause-err : goal.returns-in-Err-NoMemory-clause-err
 returns-in-Err-NoMemory-clause-err g c =
@@ -40,14 +40,14 @@ returns-in-Err-NoMemory-clause-err g c =
     let m = g.O.Ops.meaning c.args.self.now.ops in
     let l = c.len.ensures in
     let within : c.args.sub.0 < length c.args.self.now.subscriptions.items = omega (arith, l, c.if-at-len.false) in
-    (within, enabled_there m c.args.self.now.subscriptions.items c.args.sub.0 c.index_mut-subscription.result.now _ within (sym c.index_mut-subscription.ensures.value) ∙ refused)
+    (within, enabled_there m c.args.self.now.subscriptions.items c.args.sub.0 c.index_mut-subscription.result.now c.args.step within (sym c.index_mut-subscription.ensures.value) ∙ (sym (inside_enabled m c.index_mut-subscription.result.now c.args.step c.requires) ∙ refused))
 
 pub returns-in-Err-NoMemory-clause-same : goal.returns-in-Err-NoMemory-clause-same
 returns-in-Err-NoMemory-clause-same g c =
     let m = g.O.Ops.meaning c.args.self.now.ops in
     let l = c.len.ensures in
     let within : c.args.sub.0 < length c.args.self.now.subscriptions.items = omega (arith, l, c.if-at-len.false) in
-    set_same c.args.self.now.subscriptions.items c.args.sub.0 c.index_mut-subscription.result.now c.send.new.self within (sym c.index_mut-subscription.ensures.value) c.in-Err-NoMemory.ensures.same
+    set_same c.args.self.now.subscriptions.items c.args.sub.0 c.index_mut-subscription.result.now c.make.new.self within (sym c.index_mut-subscription.ensures.value) c.in-Err-NoMemory.ensures.same
 
 pub returns-in-Ok-clause-effect : goal.returns-in-Ok-clause-effect
 returns-in-Ok-clause-effect g c =
@@ -56,8 +56,8 @@ returns-in-Ok-clause-effect g c =
     let within : c.args.sub.0 < length c.args.self.now.subscriptions.items = omega (arith, l, c.if-at-len.false) in
     record {
       old = c.index_mut-subscription.result.now;
-      new = c.send.new.self;
+      new = c.make.new.self;
       there = found c.args.self.now.subscriptions.items c.args.sub.0 c.index_mut-subscription.result.now within (sym c.index_mut-subscription.ensures.value);
-      effect = c.in-Ok.ensures.effect;
+      effect = inside_effect m c.args.step c.index_mut-subscription.result.now c.make.new.self c.in-Ok.ensures.effect;
       others = refl;
     }
