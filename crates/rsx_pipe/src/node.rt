@@ -159,7 +159,7 @@ impl<T: Drop> Node<T> {
     }
 
     /// Makes the first enabled move of the tree, if there is one, from the root down; `asked` and `sent` are those of the
-    /// root's own edge.
+    /// root's own edge. It answers [`NoMemory`] only where some Send of the tree may allocate; then the tree is as it was.
     pub fn advance<O: Ops<Item = T>>(
         &mut self,
         alloc: Global,
