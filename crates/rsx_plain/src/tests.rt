@@ -1,6 +1,6 @@
 //! Each public call once, with functions of a small caller over `i64`.
 
-ghost use Rattle.std.specs.Prelude.{IfOk};
+ghost use Rattle.std.specs.Prelude.{◌≡◌, [], IfOk};
 
 use crate::{Operator, PlainNode, PlainState};
 use rsx_sources::{Front, Machine, NotMade, NotTaken, OutSlot};
@@ -121,6 +121,26 @@ fn after_five_and_one(alloc: Global, node: &PlainNode<i64>) -> Result<StreamValu
     let mut incoming = Vec::new(alloc);
     incoming.push(StreamValue::new(items, Ending::Done))?;
     node.residual(alloc, &PLENTY, incoming.as_slice())
+}
+
+/// Gives an item to a `map` that has none waiting, where every growth is refused. That the node takes it is proved.
+fn give_without_memory(alloc: Global, node: &mut PlainNode<i64>, item: i64)
+    requires map { node.old.state ≡ PlainState.Map 0 }
+    requires empty { node.old.slot ≡ [] }
+{
+    let taken = node
+        .on_signal(alloc, &SCARCE, 0, Signal::Next(item))
+        .is_ok();
+    prove!(taken);
+}
+
+#[test]
+fn a_map_takes_an_item_without_memory(rt: HostRuntime) -> Result<(), Fail> {
+    let alloc = rt.alloc();
+    let mut node = PlainNode::new(alloc, &SCARCE, &Stage::Map(0))?;
+    give_without_memory(alloc, &mut node, 4);
+    assert_eq!(rt; node.front(), Some(Front::Item));
+    Ok(())
 }
 
 #[test]
