@@ -69,6 +69,8 @@ gathers m n xs x e = (
   (λ v. rw (length_after xs x) (gathered_in m.list_of n (xs ++ x ∷ []) e v (nat_le n (length xs + 1)))),
   ap (Buffer n) (without_last_after xs x),
   last_after xs x,
+  (λ h. h),
+  (λ h. cc),
 )
 
 -- the same, of a list and an item that are known by equations

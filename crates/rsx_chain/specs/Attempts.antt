@@ -1,13 +1,13 @@
 -- What an operator holds on to until the operators behind it have taken its answer.
-use Rattle.std.specs.Prelude.{◌≡◌, ℕ, ◌-◌, nat_le, if◌then◌else◌, List, [], ◌∷◌, length, Option, Some, None}
+use Rattle.std.specs.Prelude.{◌≡◌, ℕ, ◌-◌, true, nat_le, if◌then◌else◌, List, [], ◌∷◌, length, Option, Some, None}
 use Rattle.rsx_types.specs.declared.signal.Ending.{Ending}
 use Rattle.rsx_types.specs.declared.signal.Ending.TheVariants.{Open, Done, Failed}
 use Rattle.rsx_types.specs.Meaning.{Meaning}
 use Rattle.rsx_types.specs.Stream.{Stream}
-use Rattle.rsx_plain.specs.State.{plain_from}
+use Rattle.rsx_plain.specs.State.{plain_from, is_over}
 use Rattle.rsx_plain.specs.declared.state.PlainState.{PlainState}
 use Rattle.rsx_plain.specs.declared.state.PlainState.TheVariants.{Map, Filter, Take, Scan, Buffer, Distinct}
-use Rattle.rsx_chain.specs.Portions.{portion_then}
+use Rattle.rsx_chain.specs.Portions.{portion_then, has_ended}
 use Rattle.rsx_chain.specs.declared.portion.Portion.{Portion}
 use Rattle.rsx_chain.specs.declared.attempt.Attempt.{Attempt}
 use Rattle.rsx_chain.specs.declared.attempt.Held.{Held}
@@ -67,9 +67,11 @@ abbrev pub list_due : {T : Type 0} → (List T → T) → ℕ → List T → End
 list_due list n xs e = if nat_le n (length xs) then Some (list xs) else list_at_end list xs e
 
 -- the portion came in; once the answer is taken, what came out of the old state is the answer, and then what comes out of
--- the new one; once it is refused, all is as before
+-- the new one; once it is refused, all is as before; an ending of the input, or of an operator that is over, is answered
 abbrev pub Tries : {T : Type 0} → Meaning T → PlainState T → Portion T → PlainState T → Attempt T → Type 0
 Tries {T} m before p now a =
     ((v : Stream T) → plain_from m before (portion_then p v) ≡ portion_then a.answer (plain_from m (committed now a.held) v))
     × (rolled_back now a.held ≡ before)
     × (taken_back now a.held a.answer.item ≡ p.item)
+    × (has_ended p.ending ≡ true → has_ended a.answer.ending ≡ true)
+    × (is_over (committed now a.held) ≡ true → has_ended a.answer.ending ≡ true)

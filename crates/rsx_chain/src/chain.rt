@@ -1,13 +1,13 @@
 //! Chains of plain operators.
 
-ghost use Rattle.std.specs.Prelude.{◌≡◌, [], IfOk, IfErr, OnOk, OnErr, IsTrue};
+ghost use Rattle.std.specs.Prelude.{◌≡◌, true, [], IfOk, IfErr, OnOk, OnErr, IsTrue};
 ghost use Rattle.rsx_types.specs.Meaning.{Meaning};
 ghost use Rattle.rsx_types.specs.Plain.{plain, chained};
 ghost use Rattle.rsx_types.specs.Stream.{Stream};
-ghost use Rattle.rsx_plain.specs.Moves.{Moves, EndsLast};
-ghost use Rattle.rsx_plain.specs.State.{plain_from, plain_start};
-ghost use Rattle.rsx_chain.specs.Chain.{chain_from};
-ghost use Rattle.rsx_chain.specs.Portions.{portion_then, followed_by};
+ghost use Rattle.rsx_plain.specs.Moves.{Moves, EndsLast, is_ending, has_ending};
+ghost use Rattle.rsx_plain.specs.State.{plain_from, plain_start, is_over};
+ghost use Rattle.rsx_chain.specs.Chain.{chain_from, chain_over};
+ghost use Rattle.rsx_chain.specs.Portions.{portion_then, followed_by, has_ended};
 
 use crate::attempt::{commit, roll_back, try_take};
 use crate::portion::Portion;
@@ -35,13 +35,13 @@ pub struct Begun<T> {
 }
 
 impl<T: Drop> ChainState<T> {
-    ghost use Rattle.std.specs.Prelude.{◌≡◌, [], IfOk, IfErr, OnOk, OnErr, IsTrue};
+    ghost use Rattle.std.specs.Prelude.{◌≡◌, true, [], IfOk, IfErr, OnOk, OnErr, IsTrue};
     ghost use Rattle.rsx_types.specs.Meaning.{Meaning};
     ghost use Rattle.rsx_types.specs.Plain.{chained};
     ghost use Rattle.rsx_types.specs.Stream.{Stream};
-    ghost use Rattle.rsx_plain.specs.Moves.{Moves, EndsLast};
-    ghost use Rattle.rsx_chain.specs.Chain.{chain_from};
-    ghost use Rattle.rsx_chain.specs.Portions.{portion_then, followed_by};
+    ghost use Rattle.rsx_plain.specs.Moves.{Moves, EndsLast, is_ending, has_ending};
+    ghost use Rattle.rsx_chain.specs.Chain.{chain_from, chain_over};
+    ghost use Rattle.rsx_chain.specs.Portions.{portion_then, followed_by, has_ended};
 
     /// The chain of these operators, the first one innermost.
     pub fn new<O: Ops<Item = T>>(
@@ -49,7 +49,8 @@ impl<T: Drop> ChainState<T> {
         ops: &O,
         stages: &[Stage<T>],
     ) -> Result<Begun<T>, NoMemory>
-        ensures { IfOk result (λ b. (v : Stream T) → chained (O.meaning ops.now) stages.now v ≡ followed_by b.first (chain_from (O.meaning ops.now) b.chain v)) }
+        ensures fresh { IfOk result (λ b. (v : Stream T) → chained (O.meaning ops.now) stages.now v ≡ followed_by b.first (chain_from (O.meaning ops.now) b.chain v)) }
+        ensures over { IfOk result (λ b. chain_over b.chain ≡ true → has_ended b.first.ending ≡ true) }
     {
         match stages.split_first() {
             None => Ok(Begun {
@@ -84,6 +85,8 @@ impl<T: Drop> ChainState<T> {
         requires { out.old ≡ [] }
         ensures ok { OnOk result (Moves (chain_from (O.meaning ops.now)) self.old signal out.new self.new) }
         ensures cut { OnOk result (EndsLast out.new) }
+        ensures ended { OnOk result (is_ending signal ≡ true → has_ending out.new ≡ true) }
+        ensures over { OnOk result (chain_over self.new ≡ true → has_ending out.new ≡ true) }
         ensures err { IfErr result (λ s. s ≡ signal) }
         ensures same { OnErr result (self.new ≡ self.old) }
         ensures none { OnErr result (out.new ≡ []) }
@@ -106,6 +109,8 @@ impl<T: Drop> ChainState<T> {
         portion: Portion<T>,
     ) -> Result<Portion<T>, Portion<T>>
         ensures ok { IfOk result (λ out. (v : Stream T) → chain_from (O.meaning ops.now) self.old (portion_then portion v) ≡ portion_then out (chain_from (O.meaning ops.now) self.new v)) }
+        ensures ended { IfOk result (λ out. has_ended portion.ending ≡ true → has_ended out.ending ≡ true) }
+        ensures over { IfOk result (λ out. chain_over self.new ≡ true → has_ended out.ending ≡ true) }
         ensures err { IfErr result (λ p. p ≡ portion) }
         ensures same { OnErr result (self.new ≡ self.old) }
     {
@@ -127,6 +132,19 @@ impl<T: Drop> ChainState<T> {
                     Err(portion) => Err(portion),
                 }
             }
+        }
+    }
+
+    /// Whether nothing more of the input matters, since a `take` of the chain has let all its items through. The ending that
+    /// it brought has come out then.
+    pub fn is_over(&self) -> bool
+        ensures over { result ≡ chain_over self.now }
+        ensures closed { IsTrue result → (m : Meaning T) (v w : Stream T) → chain_from m self.now v ≡ chain_from m self.now w }
+    {
+        match self {
+            ChainState::End => false,
+            ChainState::Stage(PlainState::Take { count: _, left: 0 }, _) => true,
+            ChainState::Stage(_, behind) => behind.is_over(),
         }
     }
 
@@ -155,7 +173,8 @@ fn start<T: Drop, O: Ops<Item = T>>(
     ops: &O,
     stage: &Stage<T>,
 ) -> Result<Portion<T>, NoMemory>
-    ensures { IfOk result (λ p. (m : Meaning T) (v : Stream T) → plain m stage.now v ≡ portion_then p (plain_from m (plain_start stage.now) v)) }
+    ensures fresh { IfOk result (λ p. (m : Meaning T) (v : Stream T) → plain m stage.now v ≡ portion_then p (plain_from m (plain_start stage.now) v)) }
+    ensures over { IfOk result (λ p. is_over (plain_start stage.now) ≡ true → has_ended p.ending ≡ true) }
 {
     let mut portion = Portion {
         item: None,

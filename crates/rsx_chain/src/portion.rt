@@ -1,9 +1,9 @@
 //! What goes from one operator of a chain to the next at once.
 
-ghost use Rattle.std.specs.Prelude.{◌≡◌, ◌<◌, [], ◌++◌, length, IfOk};
+ghost use Rattle.std.specs.Prelude.{◌≡◌, ◌<◌, true, [], ◌++◌, length, IfOk};
 ghost use Rattle.rsx_types.specs.Stream.{Stream, ending_signals};
 ghost use Rattle.rsx_types.specs.declared.signal.Signal.{Signal};
-ghost use Rattle.rsx_chain.specs.Portions.{portion_of, portion_signals, portion_then, followed_by};
+ghost use Rattle.rsx_chain.specs.Portions.{portion_of, portion_signals, portion_then, followed_by, has_ended};
 
 use rsx_sources::OutSlot;
 use rsx_types::{Ending, NoMemory, Signal, StreamValue};
@@ -65,7 +65,9 @@ impl<T: Drop> Portion<T> {
 
     /// Puts the item and the ending behind a stream value, unless that has ended.
     pub(crate) fn behind(self, first: StreamValue<T>) -> Result<StreamValue<T>, NoMemory>
-        ensures { IfOk result (λ r. (v : Stream T) → followed_by r v ≡ followed_by first (portion_then self v)) }
+        ensures joined { IfOk result (λ r. (v : Stream T) → followed_by r v ≡ followed_by first (portion_then self v)) }
+        ensures ended { IfOk result (λ r. has_ended self.ending ≡ true → has_ended r.ending ≡ true) }
+        ensures kept { IfOk result (λ r. has_ended first.ending ≡ true → has_ended r.ending ≡ true) }
     {
         let Portion { item, ending } = self;
         match first.ending() {

@@ -97,6 +97,22 @@ struct Received {
     ending: Ending,
 }
 
+/// Puts an item behind the others. Where memory is refused, it tries once more.
+fn put(items: &mut Vec<i64>, item: i64) -> Result<(), NoMemory> {
+    match items.push(item) {
+        Ok(()) => Ok(()),
+        Err(_) => Ok(items.push(item)?),
+    }
+}
+
+/// The chain of these operators. Where memory is refused, it tries once more.
+fn begun(alloc: Global, stages: &[Stage<i64>]) -> Result<Begun<i64>, NoMemory> {
+    match ChainState::new(alloc, &PLENTY, stages) {
+        Ok(begun) => Ok(begun),
+        Err(NoMemory) => ChainState::new(alloc, &PLENTY, stages),
+    }
+}
+
 /// The chain takes the signal, and what comes out goes behind what came out before. Where memory is refused, the chain takes
 /// the signal once more.
 fn feed(
@@ -115,7 +131,7 @@ fn feed(
     }
     for _ in 0..2 {
         match out.pop() {
-            Some(Signal::Next(item)) => received.items.push(item)?,
+            Some(Signal::Next(item)) => put(&mut received.items, item)?,
             Some(Signal::Complete) => received.ending = Ending::Done,
             Some(Signal::Error(cause)) => received.ending = Ending::Failed(cause),
             None => {}
@@ -126,10 +142,7 @@ fn feed(
 
 /// All that comes out of the chain of these operators where these items come in, and then the completion.
 fn all_of(alloc: Global, stages: &[Stage<i64>], items: &[i64]) -> Result<Received, NoMemory> {
-    let Begun { chain, first } = match ChainState::new(alloc, &PLENTY, stages) {
-        Ok(begun) => begun,
-        Err(NoMemory) => ChainState::new(alloc, &PLENTY, stages)?,
-    };
+    let Begun { chain, first } = begun(alloc, stages)?;
     let mut chain = chain;
     let ending = first.ending();
     let mut received = Received {
@@ -147,13 +160,13 @@ fn all_of(alloc: Global, stages: &[Stage<i64>], items: &[i64]) -> Result<Receive
     Ok(received)
 }
 
-/// These items, in a list of its own.
-fn list_of(alloc: Global, items: &[i64]) -> Result<Vec<i64>, NoMemory> {
-    let mut list = Vec::new(alloc);
-    for item in items {
-        list.push(*item)?;
+/// What comes out of a chain where 6, 2, 7 and then the completion still come in.
+fn after_three(alloc: Global, chain: &ChainState<i64>) -> Result<StreamValue<i64>, NoMemory> {
+    let mut items = Vec::new(alloc);
+    for item in [6, 2, 7] {
+        put(&mut items, item)?;
     }
-    Ok(list)
+    chain.rest(alloc, &PLENTY, StreamValue::new(items, Ending::Done))
 }
 
 #[test]
@@ -177,7 +190,8 @@ fn the_seed_of_a_scan_goes_through_the_next_one(rt: HostRuntime) -> Result<(), F
 #[test]
 fn a_seed_is_enough_for_a_take_of_one(rt: HostRuntime) -> Result<(), Fail> {
     let alloc = rt.alloc();
-    let begun = ChainState::new(alloc, &PLENTY, &[Stage::Scan(0, 2), Stage::Take(1)])?;
+    let begun = begun(alloc, &[Stage::Scan(0, 2), Stage::Take(1)])?;
+    assert!(rt; begun.chain.is_over());
     assert_eq!(rt; begun.first.items(), [2].as_slice());
     assert_eq!(rt; begun.first.ending(), Ending::Done);
     let all = all_of(alloc, &[Stage::Scan(0, 2), Stage::Take(1)], &[5, 3])?;
@@ -244,7 +258,7 @@ fn a_fault_of_the_second_operator_ends_the_chain(rt: HostRuntime) -> Result<(), 
 #[test]
 fn a_failure_passes_through_all_operators(rt: HostRuntime) -> Result<(), Fail> {
     let alloc = rt.alloc();
-    let begun = ChainState::new(alloc, &PLENTY, &[Stage::Buffer(2), Stage::Map(0)])?;
+    let begun = begun(alloc, &[Stage::Buffer(2), Stage::Map(0)])?;
     let mut chain = begun.chain;
     let mut received = Received {
         items: begun.first.into_items(),
@@ -266,7 +280,7 @@ fn a_failure_passes_through_all_operators(rt: HostRuntime) -> Result<(), Fail> {
 fn what_is_left_is_what_still_comes_out(rt: HostRuntime) -> Result<(), Fail> {
     let alloc = rt.alloc();
     let stages = [Stage::Distinct(0), Stage::Buffer(3), Stage::Scan(0, 0)];
-    let begun = ChainState::new(alloc, &PLENTY, &stages)?;
+    let begun = begun(alloc, &stages)?;
     let mut chain = begun.chain;
     let mut received = Received {
         items: begun.first.into_items(),
@@ -274,8 +288,11 @@ fn what_is_left_is_what_still_comes_out(rt: HostRuntime) -> Result<(), Fail> {
     };
     feed(alloc, &mut chain, &mut received, Signal::Next(5))?;
     assert_eq!(rt; received.items.as_slice(), [0].as_slice());
-    let value = StreamValue::new(list_of(alloc, &[6, 2, 7])?, Ending::Done);
-    let left = chain.rest(alloc, &PLENTY, value)?;
+    assert!(rt; !chain.is_over());
+    let left = match after_three(alloc, &chain) {
+        Ok(left) => left,
+        Err(NoMemory) => after_three(alloc, &chain)?,
+    };
     assert_eq!(rt; left.items(), [2].as_slice());
     assert_eq!(rt; left.ending(), Ending::Done);
     Ok(())
@@ -290,7 +307,7 @@ fn a_chain_without_memory_stays_as_it_was(rt: HostRuntime) -> Result<(), Fail> {
         Stage::Take(2),
         Stage::Scan(0, 0),
     ];
-    let begun = ChainState::new(alloc, &PLENTY, &stages)?;
+    let begun = begun(alloc, &stages)?;
     let mut chain = begun.chain;
     let mut received = Received {
         items: begun.first.into_items(),
