@@ -1,16 +1,14 @@
 -- Answers that can still go back.
-use Rattle.std.proofs.Common.{◌≡◌, ℕ, zero, suc, ◌+◌, ◌≤◌, Bool, true, false, nat_le, if◌then◌else◌, List, [], ◌∷◌, ◌++◌, length, Option, Some, None, refl, sym, ap, ◌∙◌, append-nil, arith}
+use Rattle.std.proofs.Common.{◌≡◌, ℕ, zero, suc, ◌+◌, Bool, true, false, nat_le, if◌then◌else◌, List, [], ◌∷◌, ◌++◌, length, Option, Some, None, refl, sym, ap, ◌∙◌, append-nil, arith}
 use Rattle.std.specs.Option.{option_to_list, IfNone}
 use Rattle.rsx_types.specs.declared.signal.Ending.{Ending}
 use Rattle.rsx_types.specs.declared.signal.Ending.TheVariants.{Open, Done, Failed}
 use Rattle.rsx_types.specs.Meaning.{Meaning}
 use Rattle.rsx_types.specs.Plain.{taken_items, buffered_items}
 use Rattle.rsx_types.specs.Stream.{Stream, item_then}
-use Rattle.rsx_plain.specs.State.{plain_from}
-use Rattle.rsx_plain.specs.declared.state.PlainState.{PlainState}
 use Rattle.rsx_plain.specs.declared.state.PlainState.TheVariants.{Buffer}
-use Rattle.rsx_chain.specs.Portions.{portion_then, ended_or, item_or}
-use Rattle.rsx_chain.specs.Attempts.{without_last, without_last_from, last_of, last_from, list_at_end, list_due, committed, Tries}
+use Rattle.rsx_chain.specs.Portions.{ended_or, item_or}
+use Rattle.rsx_chain.specs.Attempts.{without_last, without_last_from, last_of, last_from, list_at_end, list_due, Tries}
 use Rattle.rsx_chain.specs.declared.attempt.Held.TheVariants.{Gathered}
 
 without_last_from_after : {A : Type 0} (y : A) (xs : List A) (x : A) → without_last_from y (xs ++ x ∷ []) ≡ y ∷ xs

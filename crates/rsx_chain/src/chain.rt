@@ -16,7 +16,10 @@ use rsx_sources::OutSlot;
 use rsx_types::{Ending, NoMemory, Ops, Signal, Stage, StreamValue};
 use std::alloc::Global;
 
-/// Plain operators one behind another that have taken some of their input.
+/// Plain operators one behind another that have taken some of their input. Each puts what comes out of it into the next one
+/// at once, so nothing waits inside a chain.
+///
+/// A chain asks for nothing itself. So the counts of what `filter` and `distinct` dropped, which serve that, stay at 0.
 #[derive(Drop)]
 pub enum ChainState<T> {
     /// No operator: what comes in comes out.
@@ -43,7 +46,12 @@ impl<T: Drop> ChainState<T> {
     ghost use Rattle.rsx_chain.specs.Chain.{chain_from, chain_over};
     ghost use Rattle.rsx_chain.specs.Portions.{portion_then, followed_by, has_ended};
 
-    /// The chain of these operators, the first one innermost.
+    /// The chain of these operators, the first one innermost, before it has taken anything, with what comes out of it at the
+    /// start: the seed of each `scan` goes through the operators behind it, and `take 0` completes at once. Where the chain is
+    /// over from the start, its ending is part of that.
+    ///
+    /// It takes memory for each operator, for copies of the seeds, and for what the operators behind them answer. For want of
+    /// it the answer is [`NoMemory`].
     pub fn new<O: Ops<Item = T>>(
         alloc: Global,
         ops: &O,
@@ -74,7 +82,12 @@ impl<T: Drop> ChainState<T> {
         }
     }
 
-    /// Takes a signal of the input, and puts what comes out of the chain into the empty slot.
+    /// Takes a signal of the input, and puts what comes out of the chain into the empty slot: at most an item, and then at
+    /// most an ending. Nothing stands behind an ending (rule 1.7). An ending of the input is answered with an ending, and so is
+    /// any signal by which the chain is over.
+    ///
+    /// The operators take memory as they do alone, and the chain takes none beside theirs. For want of it the signal comes back,
+    /// and every operator is as it was.
     pub fn react<O: Ops<Item = T>>(
         &mut self,
         alloc: Global,
@@ -100,8 +113,9 @@ impl<T: Drop> ChainState<T> {
         }
     }
 
-    /// Takes a portion of the input, and answers the portion that comes out. For want of memory the portion comes back, and
-    /// nothing has changed.
+    /// Takes a portion of the input, and answers the portion that comes out. The first operator answers, and its answer stands
+    /// once the chain behind it has taken it; where that refuses it, the first operator goes back. So for want of memory the
+    /// portion comes back, and nothing has changed.
     fn take<O: Ops<Item = T>>(
         &mut self,
         alloc: Global,
@@ -148,7 +162,8 @@ impl<T: Drop> ChainState<T> {
         }
     }
 
-    /// What still comes out, where just this value still comes in.
+    /// What still comes out, where just this value still comes in. The chain stays as it is. For want of memory the answer is
+    /// [`NoMemory`].
     pub fn rest<O: Ops<Item = T>>(
         &self,
         alloc: Global,

@@ -1,5 +1,21 @@
 #![tactic(auto)]
 //! Chains of plain operators: operators one behind another, each of whose output is the input of the next.
+//!
+//! [`ChainState`] is for an operator that gives each of its lanes a chain of its own. It has no out slot, no edge and no demand
+//! inside: a signal that goes in is answered at once, by at most two signals.
+//!
+//! - `ChainState::new` makes a chain. What the operators give for a whole stream value, one after the other, is what comes
+//!   out at the start, and then what the chain gives for that value.
+//! - `ChainState::react` takes one signal. What came out of the chain before is the answer, and then what comes out of it now.
+//! - `ChainState::rest` computes what still comes out.
+//!
+//! For want of memory a signal comes back, and the whole chain is as it was, though the operators in front may have answered
+//! before the one that found no memory. So an operator answers in two steps. First it computes its answer and holds on to
+//! what it needs, to go on or to go back. Once the operators behind it have taken the answer, it goes on, which can't fail;
+//! where they refused it, it goes back. No operator is copied for that.
+//!
+//! The definitions stand in `specs/`: `Chain` (what comes out of a chain), `Portions` (what goes from one operator to the next
+//! at once) and `Attempts` (an answer that can still go back). A chain over whole stream values is `chained` of `rsx_types`.
 
 mod attempt;
 pub mod chain;
