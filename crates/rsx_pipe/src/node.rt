@@ -43,6 +43,7 @@ impl<T: Drop> Node<T> {
     ghost use Rattle.rsx_pipe.specs.Driven.{IsDriven, Spent};
 
     /// Which signal the root offers, if it does.
+    #[inline(always)]
     pub fn front(&self) -> Option<Front>
         ensures { (m : Meaning T) → result ≡ option_map front_of (offers m self.now) }
     {
@@ -55,6 +56,7 @@ impl<T: Drop> Node<T> {
 
     /// Takes the signal that the root offers. It answers [`NoMemory`] only where the root makes its item now and that may
     /// allocate; then the tree is as it was.
+    #[inline(always)]
     pub fn pop<O: Ops<Item = T>>(
         &mut self,
         alloc: Global,
@@ -305,10 +307,13 @@ fn send_over<O: Ops>(
     ensures memory { send_over_allocates (O.allocates ops.now) node.old input.old ≡ false → IfErr result (λ e. e ≡ NotMade.NotEnabled) }
     ensures same { OnErr result ((node.new ≡ node.old) × (edge.new ≡ edge.old) × (input.new ≡ input.old)) }
 {
+    if !node.can_take(0) {
+        return Err(NotMade::NotEnabled);
+    }
     let Some(front) = input.front() else {
         return Err(NotMade::NotEnabled);
     };
-    if !node.can_take(0) || !edge.can_carry(front) {
+    if !edge.can_carry(front) {
         return Err(NotMade::NotEnabled);
     }
     let signal = match input.pop(alloc, ops) {
