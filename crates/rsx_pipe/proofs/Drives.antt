@@ -1,5 +1,5 @@
 -- Runs of moves of a tree: how they are put together.
-use Rattle.std.proofs.Common.{◌≡◌, ℕ, length, zero, suc, ◌+◌, ◌-◌, ◌<◌, ◌≤◌, refl, sym, ap, ◌∙◌, subst, arith, inl, inr, Box, Global}
+use Rattle.std.proofs.Common.{◌≡◌, ℕ, Bool, true, false, if◌then◌else◌, length, zero, suc, ◌+◌, ◌-◌, ◌<◌, refl, sym, ap, ◌∙◌, subst, arith, inl, inr, Box, Global}
 use Rattle.std.specs.Box.{with_value}
 use Rattle.rsx_types.specs.Meaning.{Meaning}
 use Rattle.rsx_plain.specs.declared.node.PlainNode.{PlainNode}
@@ -103,6 +103,24 @@ under_way_depth m old asked sent budget left n edge below u =
     let same : suc (length (notes_of below.value)) ≡ length (notes_of old) = ap length (driven_notes m u.count old (Plain n edge below) asked sent u.driven) in
     omega (arith, same)
 
-pub above_none : (n : ℕ) → (n ≡ 0 → ⊥) → 0 < n
-above_none zero h = absurd (h refl)
-above_none (suc n) h = omega arith
+-- where no move is enabled here and none below, none is enabled
+pub idle_still : {T : Type 0} (m : Meaning T) (asked sent : ℕ) (n n' : PlainNode T) (edge edge' : Edge) (below : Below T) (was now : Node T) → n' ≡ n → edge' ≡ edge → was ≡ below.value → now ≡ was → IsIdleHere m n edge was asked sent → IsIdle m below.value edge.demand.asked edge.demand.sent → IsIdle m (Plain n' edge' (with_value below now)) asked sent
+idle_still {T} m asked sent n n' edge edge' below was now same_n same_e at same here h =
+    let I : Node T → Type 0 = λ t. IsIdleHere m n edge t asked sent in
+    let k : IsIdleHere m n edge below.value asked sent = subst I at here in
+    let N : PlainNode T → Type 0 = λ x. IsIdle m (Plain x edge below) asked sent in
+    let E : Edge → Type 0 = λ x. IsIdle m (Plain n' x below) asked sent in
+    let W : Node T → Type 0 = λ t. IsIdle m (Plain n' edge' (with_value below t)) asked sent in
+    subst W (sym (same ∙ at)) (subst E (sym same_e) (subst N (sym same_n) (idle_plain m n edge below asked sent k.ask k.send h)))
+
+-- ---- the measure of the loop: twice the budget that is left, and one more where the input may have a move
+
+pub fewer_left : (left : ℕ) (was now : Bool) → 0 < left → (left - 1) + (left - 1) + (if now then 0 else 1) < left + left + (if was then 0 else 1)
+fewer_left left true true h = omega (arith, h)
+fewer_left left true false h = omega (arith, h)
+fewer_left left false true h = omega (arith, h)
+fewer_left left false false h = omega (arith, h)
+
+pub idle_now : (left left' k : ℕ) (was : Bool) → k + left' ≡ left → was ≡ false → left' + left' + 0 < left + left + (if was then 0 else 1)
+idle_now left left' k true e h = cc
+idle_now left left' k false e h = omega (arith, e)

@@ -2,12 +2,12 @@
 
 ghost use Rattle.std.specs.Prelude.{◌≡◌, ◌∷◌, [], ℕ, OnOk, OnErr, IfOk, IfErr, IsOk, Some, true, false, option_map};
 ghost use Rattle.rsx_sources.specs.Machine.{front_of};
-ghost use Rattle.rsx_pipe.specs.Edges.{edge_view, closed_if};
+ghost use Rattle.rsx_pipe.specs.Edges.{IsAsked, can_ask_for, edge_view, closed_if};
 ghost use Rattle.rsx_types.specs.Meaning.{Meaning};
 ghost use Rattle.rsx_sources.specs.Steps.{IsNotMade};
 ghost use Rattle.rsx_sources.specs.Items.{items_comes_out};
 ghost use Rattle.rsx_sources.specs.Range.{range_comes_out};
-ghost use Rattle.rsx_plain.specs.Node.{plain_comes_out, plain_ended};
+ghost use Rattle.rsx_plain.specs.Node.{plain_comes_out, plain_ended, plain_wanted};
 ghost use Rattle.rsx_pipe.specs.Balance.{IsNodeBalanced};
 ghost use Rattle.rsx_pipe.specs.Tree.{IsKept, IsPassedOn, IsAdvancedHere, IsIdleHere, can_send_over, send_over_allocates, IsSentOver, edges, none_incoming, one_incoming, notes_of};
 
@@ -190,6 +190,18 @@ impl<T: Drop> Node<T> {
         }
     }
 
+    /// Whether the root is a source. Such a tree has no edge, so it has no move.
+    #[inline(always)]
+    fn is_source(&self) -> bool
+        ensures { result ≡ true → (m : Meaning T) (asked sent : ℕ) → IsIdle m self.now asked sent }
+    {
+        match self {
+            Node::Items(_) => true,
+            Node::Range(_) => true,
+            Node::Plain(_, _, _) => false,
+        }
+    }
+
     /// Makes enabled moves of the tree until none is enabled or `budget` moves were made, and answers how many of the budget
     /// are left; `asked` and `sent` are those of the root's own edge. For want of memory the moves made before stand.
     pub fn drive<O: Ops<Item = T>>(
@@ -208,23 +220,29 @@ impl<T: Drop> Node<T> {
             Node::Items(_) | Node::Range(_) => Ok(budget),
             Node::Plain(node, edge, input) => {
                 let mut left = budget;
+                let mut is_idle_below = input.is_source();
                 'moves: while left > 0 {
-                    left = match input.drive(
-                        alloc,
-                        ops,
-                        edge.demand.asked,
-                        edge.demand.sent,
-                        left,
-                    ) {
-                        Ok(left) => left,
-                        Err(NoMemory) => return Err(NoMemory),
-                    };
-                    if left == 0 {
-                        return Ok(0);
-                    }
                     match advance_here(alloc, ops, node, edge, input, asked, sent) {
-                        Ok(true) => left -= 1,
-                        Ok(false) => return Ok(left),
+                        Ok(true) => {
+                            left -= 1;
+                            is_idle_below = input.is_source();
+                        }
+                        Ok(false) => {
+                            if is_idle_below {
+                                return Ok(left);
+                            }
+                            left = match input.drive(
+                                alloc,
+                                ops,
+                                edge.demand.asked,
+                                edge.demand.sent,
+                                left,
+                            ) {
+                                Ok(left) => left,
+                                Err(NoMemory) => return Err(NoMemory),
+                            };
+                            is_idle_below = true;
+                        }
                         Err(NoMemory) => return Err(NoMemory),
                     }
                 }
@@ -347,6 +365,20 @@ fn one_note(alloc: Global) -> Result<Vec<Note>, NoMemory>
     Ok(notes)
 }
 
+/// Makes the Ask over the edge of a node's input, where it is enabled.
+#[inline]
+fn ask_over<T: Drop>(node: &PlainNode<T>, edge: &mut Edge, asked: u64, sent: u64) -> bool
+    ensures made { result ≡ true → (can_ask_for (edge_view edge.old) (plain_wanted node.now 0 asked sent) ≡ true) × IsAsked (plain_wanted node.now 0 asked sent) (edge_view edge.old) (edge_view edge.new) }
+    ensures idle { result ≡ false → (can_ask_for (edge_view edge.old) (plain_wanted node.now 0 asked sent) ≡ false) × (edge.new ≡ edge.old) }
+{
+    let want = node.want(0, asked, sent);
+    if !edge.can_ask(want) {
+        return false;
+    }
+    edge.ask_up_to(want);
+    true
+}
+
 /// Makes the Ask or the Send over the edge of a node's input, where one is enabled.
 fn advance_here<O: Ops>(
     alloc: Global,
@@ -364,14 +396,12 @@ fn advance_here<O: Ops>(
     ensures err { OnErr result ((node.new ≡ node.old) × (edge.new ≡ edge.old) × (input.new ≡ input.old)) }
     ensures memory { send_over_allocates (O.allocates ops.now) node.old input.old ≡ false → IsOk result }
 {
-    let want = node.want(0, asked, sent);
-    if edge.can_ask(want) {
-        edge.ask_up_to(want);
-        return Ok(true);
+    if !node.can_take(0) {
+        return Ok(ask_over(node, edge, asked, sent));
     }
     match send_over(alloc, ops, node, edge, input) {
         Ok(()) => Ok(true),
-        Err(NotMade::NotEnabled) => Ok(false),
+        Err(NotMade::NotEnabled) => Ok(ask_over(node, edge, asked, sent)),
         Err(NotMade::NoMemory) => Err(NoMemory),
     }
 }
