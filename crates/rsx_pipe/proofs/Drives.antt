@@ -1,11 +1,14 @@
 -- Runs of moves of a tree: how they are put together.
-use Rattle.std.proofs.Common.{◌≡◌, ℕ, Bool, true, false, if◌then◌else◌, length, zero, suc, ◌+◌, ◌-◌, ◌<◌, refl, sym, ap, ◌∙◌, subst, arith, inl, inr, Box, Global}
+use Rattle.std.proofs.Common.{◌≡◌, ℕ, Bool, true, false, ◌&&◌, if◌then◌else◌, option_map, length, zero, suc, ◌+◌, ◌-◌, ◌<◌, refl, sym, ap, ◌∙◌, subst, arith, inl, inr, Box, Global}
 use Rattle.std.specs.Box.{with_value}
 use Rattle.rsx_types.specs.Meaning.{Meaning}
+use Rattle.rsx_sources.specs.Machine.{front_of}
+use Rattle.rsx_plain.specs.Node.{plain_takes, plain_wanted}
 use Rattle.rsx_plain.specs.declared.node.PlainNode.{PlainNode}
 use Rattle.rsx_pipe.specs.Balance.{IsBalanced, IsNodeBalanced}
 use Rattle.rsx_pipe.specs.Driven.{IsDriven}
-use Rattle.rsx_pipe.specs.Tree.{IsAdvanced, IsAdvancedHere, IsIdle, IsIdleHere, notes_of}
+use Rattle.rsx_pipe.specs.Edges.{can_ask_for, edge_view}
+use Rattle.rsx_pipe.specs.Tree.{can_go, can_send_over, offers, IsAdvanced, IsAdvancedHere, IsIdle, IsIdleHere, notes_of}
 use Rattle.rsx_pipe.specs.declared.edge.Edge.{Edge}
 use Rattle.rsx_pipe.specs.declared.node.Node.{Node}
 use Rattle.rsx_pipe.specs.declared.node.Node.TheViews.{Plain}
@@ -112,6 +115,16 @@ idle_still {T} m asked sent n n' edge edge' below was now same_n same_e at same 
     let E : Edge → Type 0 = λ x. IsIdle m (Plain n' x below) asked sent in
     let W : Node T → Type 0 = λ t. IsIdle m (Plain n' edge' (with_value below t)) asked sent in
     subst W (sym (same ∙ at)) (subst E (sym same_e) (subst N (sym same_n) (idle_plain m n edge below asked sent k.ask k.send h)))
+
+-- where no Ask is enabled here, the node takes no signal, and no move is enabled below, none is enabled
+pub idle_full : {T : Type 0} (m : Meaning T) (asked sent : ℕ) (n n' : PlainNode T) (edge edge' : Edge) (below : Below T) (was now : Node T) (takes : Bool) → n' ≡ n → edge' ≡ edge → IsIdleHere m n edge was asked sent → takes ≡ plain_takes n' 0 → takes ≡ false → IsIdle m now edge'.demand.asked edge'.demand.sent → IsIdle m (Plain n' edge' (with_value below now)) asked sent
+idle_full {T} m asked sent n n' edge edge' below was now takes same_n same_e here is full h =
+    let N : PlainNode T → Type 0 = λ x. can_ask_for (edge_view edge) (plain_wanted x 0 asked sent) ≡ false in
+    let E : Edge → Type 0 = λ x. can_ask_for (edge_view x) (plain_wanted n' 0 asked sent) ≡ false in
+    let ask : can_ask_for (edge_view edge') (plain_wanted n' 0 asked sent) ≡ false = subst E (sym same_e) (subst N (sym same_n) here.ask) in
+    let go : Bool = can_go (edge_view edge') (option_map front_of (offers m now)) in
+    let send : can_send_over m n' edge' now ≡ false = ap (λ b. b && go) (sym is ∙ full) in
+    idle_plain m n' edge' (with_value below now) asked sent ask send h
 
 -- ---- the measure of the loop: twice the budget that is left, and one more where the input may have a move
 

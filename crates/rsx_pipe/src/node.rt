@@ -241,6 +241,10 @@ impl<T: Drop> Node<T> {
                                 Ok(left) => left,
                                 Err(NoMemory) => return Err(NoMemory),
                             };
+                            // While its slot is full, no move below enables one of the node.
+                            if !node.can_take(0) {
+                                return Ok(left);
+                            }
                             is_idle_below = true;
                         }
                         Err(NoMemory) => return Err(NoMemory),

@@ -86,3 +86,25 @@ returns-in-Err-drive-clause-driven g t c =
     let v = under_way_below m c.args.self.now c.args.asked c.args.sent c.args.budget c.moves.left (c.moves.left - k.0) c.advance_here.new.node c.advance_here.new.edge (with_value c.moves.input c.advance_here.new.input) c.deref_mut-in-Ok-false.result.now c.drive.new.self k.0
     u c.deref_mut-in-Ok-false.ensures.value rest k.2 c.drive.ensures.balance in
     (v.count, let q = v.spent in omega (arith, q), v.driven)
+
+pub returns-then-not-can_take-clause-driven : goal.returns-then-not-can_take-clause-driven
+returns-then-not-can_take-clause-driven g t c =
+    let m = g.O.Ops.meaning c.args.ops.now in
+    let same = c.in-Ok-false.ensures.same c.in-Ok-false.field-0-test in
+    let u = under_way_same m c.args.self.now c.args.asked c.args.sent c.args.budget c.moves.left c.moves.node c.advance_here.new.node c.moves.edge c.advance_here.new.edge c.moves.input c.moves.input.value c.deref_mut.result.now c.advance_here.new.input
+    c.moves.invariant.0 same.0 same.1 c.deref_mut.ensures.value same.2 in
+    let k = c.in-Ok.ensures.driven in
+    let v = under_way_below m c.args.self.now c.args.asked c.args.sent c.args.budget c.moves.left c.in-Ok.left c.advance_here.new.node c.advance_here.new.edge (with_value c.moves.input c.advance_here.new.input) c.deref_mut-in-Ok-false.result.now c.drive.new.self k.0
+    u c.deref_mut-in-Ok-false.ensures.value k.1 k.2 c.drive.ensures.balance in
+    (v.count, v.spent, v.driven)
+
+pub returns-then-not-can_take-clause-balance : goal.returns-then-not-can_take-clause-balance
+returns-then-not-can_take-clause-balance g t c =
+    let m = g.O.Ops.meaning c.args.ops.now in
+    let same = c.in-Ok-false.ensures.same c.in-Ok-false.field-0-test in
+    let u = under_way_same m c.args.self.now c.args.asked c.args.sent c.args.budget c.moves.left c.moves.node c.advance_here.new.node c.moves.edge c.advance_here.new.edge c.moves.input c.moves.input.value c.deref_mut.result.now c.advance_here.new.input
+    c.moves.invariant.0 same.0 same.1 c.deref_mut.ensures.value same.2 in
+    let k = c.in-Ok.ensures.driven in
+    let v = under_way_below m c.args.self.now c.args.asked c.args.sent c.args.budget c.moves.left c.in-Ok.left c.advance_here.new.node c.advance_here.new.edge (with_value c.moves.input c.advance_here.new.input) c.deref_mut-in-Ok-false.result.now c.drive.new.self k.0
+    u c.deref_mut-in-Ok-false.ensures.value k.1 k.2 c.drive.ensures.balance in
+    v.balance
