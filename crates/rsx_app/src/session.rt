@@ -190,6 +190,7 @@ impl Session {
     }
 
     /// Takes in a signal to a subscriber.
+    #[inline]
     fn take_in(&mut self, sub: SubId, signal: Signal<Val>) -> Result<(), Trouble> {
         let Some(record) = self.records.get_mut(sub.0 as usize) else {
             return Ok(());
