@@ -27,8 +27,11 @@ impl Ops for Numbers {
 
     ghost use Rattle.std.specs.Prelude.{Ok, Err, pos, negsuc, min, length, int_le, ◌==◌, if◌then◌else◌};
     ghost use Rattle.std.proofs.Common.{rules};
+    ghost use Rattle.rsx_types.specs.Meaning.{none_allocates};
 
     ghost meaning = { λ o. record { mapped = λ f x. if f == 0 then Ok (negsuc 0) else Err 7; tested = λ f x. if f == 0 then Ok (int_le x (pos 3)) else Err 7; folded = λ f a x. if f == 0 then Ok (if int_le a x then x else a) else Err 7; keyed = λ f x. if f == 0 then Ok (if int_le x (pos 3) then 0 else 1) else Err 7; expanded = λ f x. Err 7; row_of = λ xs. pos 0; list_of = λ xs. pos (min (length xs) 9); tagged = λ k x. x; number = λ v. v } };
+
+    ghost allocates = { λ o. record none_allocates { folded = o.scarce; list_of = o.scarce } };
 
     ghost lawful = { λ o. record { map_fault = λ f x. Prim.search rules; test_fault = λ f x. Prim.search rules; fold_fault = λ f a x. Prim.search rules; key_fault = λ f x. Prim.search rules; expansion = λ f x. Prim.search rules } };
 

@@ -1,5 +1,5 @@
 -- How the subscriptions of a graph stand together.
-use Rattle.std.proofs.Common.{◌≡◌, ℕ, zero, suc, ◌+◌, ◌-◌, ◌<◌, ◌≤◌, List, [], ◌∷◌, ◌++◌, length, get_or, slice_get, refl, ap, sym, ◌∙◌, subst, arith, append_assoc, length-append, take, map, option_map, Option, Some, None, Result, Ok, Err, Bool, true, false, nat_eq, if◌then◌else◌}
+use Rattle.std.proofs.Common.{◌≡◌, ℕ, zero, suc, ◌+◌, ◌-◌, ◌<◌, ◌≤◌, List, [], ◌∷◌, ◌++◌, length, get_or, slice_get, refl, ap, sym, ◌∙◌, subst, arith, append_assoc, length-append, take, map, option_map, Option, Some, None, Result, Ok, Bool, true, false, nat_eq, if◌then◌else◌}
 use Rattle.std.proofs.Math.ListN.{set}
 use Rattle.std.proofs.lemmas.Bool.Decides.{nat_tests}
 use Rattle.std.proofs.lemmas.List.{take_more, take_all}
@@ -12,7 +12,7 @@ use Rattle.rsx_types.specs.declared.signal.Ending.TheVariants.{Open as NotEnded}
 use Rattle.rsx_types.specs.declared.names.Move.{Move}
 use Rattle.rsx_types.specs.declared.names.SubId.{SubId}
 use Rattle.rsx_types.specs.declared.signal.Signal.{Signal}
-use Rattle.rsx_types.specs.Meaning.{Meaning}
+use Rattle.rsx_types.specs.Meaning.{Meaning, Allocates}
 use Rattle.rsx_types.specs.Stream.{Stream, signals_then, ended_by}
 use Rattle.rsx_pipe.specs.declared.edge.EdgeState.TheVariants.{Live, Closed}
 use Rattle.rsx_pipe.specs.Edges.{edge_view, EdgeView}
@@ -35,14 +35,14 @@ use Rattle.rsx_graph.specs.declared.subscription.Subscription.{Subscription}
 use Rattle.rsx_graph.specs.declared.step.Step.{Step}
 use Rattle.rsx_graph.specs.declared.step.Answer.{Answer}
 use Rattle.rsx_graph.specs.History.{Past, History, subscribed, IsLive, Belongs, AllBelong, IsSubscribeRefusal, IsMakeRefusal, changed, extended, all_extended, delivered, given, HasAsked, state_at, tree_of}
-use Rattle.std.proofs.Common.{◌⊎◌, inl, inr}
+use Rattle.std.proofs.Common.{inl, inr}
 use Rattle.rsx_types.specs.declared.names.Move.TheVariants.{Ask, Send, Take}
 use Rattle.rsx_types.specs.declared.names.Tree.TheVariants.{Sub, Feed}
 use Rattle.rsx_graph.proofs.Moves.{leads_on, live_test}
 use Rattle.rsx_graph.specs.Pumped.{IsPumped, AllPumped, IsMoved, IsMoveMade, Leads, IsQuiet, IsAwake, AreQuiet, HasRested, HasRestedAt, IsAllQuiet, IsAnyAwake, given_all, to}
 use Rattle.std.proofs.lemmas.List.{append-nil}
 use Rattle.rsx_pipe.proofs.Signals.{some_same}
-use Rattle.rsx_graph.specs.Stands.{Stands, AllStand, StandsFor, IsInside, IsWorked, IsEffect, IsMade, enabled_in_tree, enabled_at, move_enabled_in, values_then, evaluated, owed_from, owes_in, OwedAt, standing_of}
+use Rattle.rsx_graph.specs.Stands.{Stands, AllStand, StandsFor, allocates_at, IsInside, IsWorked, IsEffect, IsMade, enabled_in_tree, enabled_at, move_enabled_in, values_then, evaluated, owed_from, owes_in, OwedAt, standing_of}
 
 pub AllStand-push : {T : Type 0} (m : Meaning T) (published : List (Stream T)) (subs : List (Subscription T)) (pasts : List (Past T)) (s : Subscription T) (p : Past T) → Stands m published s p → AllStand m published subs pasts → AllStand m published (subs ++ s ∷ []) (pasts ++ p ∷ [])
 AllStand-push m published [] [] s p k h = (k, tt)
@@ -107,6 +107,11 @@ enabled_there m (s ∷ subs) zero old mv lt e = ap (λ t. move_enabled_in m t mv
 enabled_there m (s ∷ subs) (suc i) old mv lt e =
     past_first (move_enabled_in m s mv) (enabled_at m subs (suc i - 1) mv) i
     ∙ (ap (λ k. enabled_at m subs k mv) (suc_less i) ∙ enabled_there m subs i old mv (omega arith) e)
+
+pub allocates_there : {T : Type 0} (a : Allocates) (subs : List (Subscription T)) (i : ℕ) (old : Subscription T) (mv : Move) → i < length subs → get_or subs i old ≡ old → allocates_at a subs i mv ≡ Part.make_allocates a old.part mv
+allocates_there a [] i old mv lt e = absurd (omega arith)
+allocates_there a (s ∷ subs) zero old mv lt e = ap (λ t. Part.make_allocates a t.part mv) e
+allocates_there a (s ∷ subs) (suc i) old mv lt e = past_first (Part.make_allocates a s.part mv) (allocates_at a subs (suc i - 1) mv) i ∙ (ap (λ k. allocates_at a subs k mv) (suc_less i) ∙ allocates_there a subs i old mv (omega arith) e)
 
 -- a move inside a tree is enabled where it is one of the part
 pub inside_enabled : {T : Type 0} (m : Meaning T) (sub : Subscription T) (mv : Move) → IsInside mv → Part.move_enabled m sub.part sub.queue mv ≡ move_enabled_in m sub mv

@@ -1,5 +1,5 @@
 -- How each edit and each move keeps what a subscription stands for.
-use Rattle.std.proofs.Common.{◌≡◌, ℕ, zero, suc, ◌+◌, ◌-◌, ◌<◌, ◌≤◌, Bool, true, false, ◌&&◌, nat_eq, nat_lt, List, [], ◌∷◌, ◌++◌, length, refl, ap, sym, ◌∙◌, subst, arith, append_assoc, length-append, ◌⊎◌, inl, inr, ℤ, pos, negsuc, int_lt, unsigned_abs, slice_index_or, Option, Some, None, Result, Ok, Err}
+use Rattle.std.proofs.Common.{◌≡◌, ℕ, zero, suc, ◌+◌, ◌<◌, Bool, true, false, ◌&&◌, nat_eq, nat_lt, List, [], ◌∷◌, ◌++◌, length, refl, ap, sym, ◌∙◌, subst, arith, append_assoc, length-append, ◌⊎◌, inl, inr, ℤ, pos, negsuc, int_lt, unsigned_abs, slice_index_or, Option, Some, None, Ok}
 use mathlib.Core.HLevel.{⊥_prop, Π_prop}
 use Rattle.std.proofs.lemmas.Bool.Decides.{nat_tests}
 use Rattle.std.proofs.lemmas.List.{append-nil}
@@ -9,21 +9,19 @@ use Rattle.rsx_types.specs.Meaning.{Meaning}
 use Rattle.rsx_types.specs.Stream.{Stream}
 use Rattle.rsx_types.specs.declared.names.Move.{Move}
 use Rattle.rsx_types.specs.declared.names.Move.TheVariants.{Ask, Send, Take}
-use Rattle.rsx_types.specs.declared.names.NodeId.{NodeId}
 use Rattle.rsx_types.specs.declared.names.SubId.{SubId}
 use Rattle.rsx_types.specs.declared.names.Tree.{Tree}
 use Rattle.rsx_types.specs.declared.names.Tree.TheVariants.{Sub}
 use Rattle.rsx_types.specs.declared.signal.Signal.{Signal}
 use Rattle.rsx_types.specs.declared.signal.Signal.TheVariants.{Next, Complete, Error}
-use Rattle.rsx_pipe.specs.Edges.{edge_view}
 use Rattle.rsx_pipe.specs.Part.{PartStands, IsPutOut}
 use Rattle.rsx_pipe.specs.Part as Part
-use Rattle.rsx_pipe.specs.Tree.{IsAllClosed, can_go}
+use Rattle.rsx_pipe.specs.Tree.{IsAllClosed}
 use Rattle.rsx_pipe.specs.declared.edge.EdgeState.TheVariants.{Live, Closed}
 use Rattle.rsx_pipe.specs.declared.part.Part.{Part as AnyPart}
 use Rattle.rsx_pipe.specs.declared.part.Pumped.{Pumped as Rest}
 use Rattle.rsx_pipe.specs.declared.part.Pumped.TheVariants.{Idle as Rests, Budget as Wakes}
-use Rattle.rsx_pipe.proofs.Parts.{same_output, moved_alive}
+use Rattle.rsx_pipe.proofs.Parts.{moved_alive}
 use Rattle.rsx_pipe.proofs.Signals.{IsOrderly-more, IsUnended-more, IsUnended-last, IsUnended-front, items_in-append, unended_before}
 use Rattle.rsx_subscription.specs.Table.{answer, cell_of, state_after as next_state, asked_after, sent_after}
 use Rattle.rsx_subscription.specs.declared.State.TheVariants.{Fresh, Open as OpenState, Cancelled as CancelledState, Failed as FailedState}
@@ -32,9 +30,9 @@ use Rattle.rsx_graph.proofs.Standings.{standing_open, open_standing, open_delive
 use Rattle.rsx_graph.specs.declared.subscription.Subscription.{Subscription}
 use Rattle.rsx_graph.specs.declared.state.SubscriptionState.{SubscriptionState}
 use Rattle.rsx_graph.specs.declared.state.SubscriptionState.TheVariants.{Open, Ended, Cancelled, Refused}
-use Rattle.rsx_graph.specs.History.{Past, items_in, IsUnended, IsOrderly, IsPrefixOf, IsLive, IsMadeAnswer, tree_of, cancelled, cancelled_state, state_after, refused, requested, requested_in, given, asked_more}
+use Rattle.rsx_graph.specs.History.{Past, items_in, IsUnended, IsOrderly, IsPrefixOf, IsLive, cancelled, cancelled_state, state_after, refused, requested, requested_in, given, asked_more}
 use Rattle.rsx_graph.specs.Pumped.{IsPumped, IsMoved, IsQuiet, IsAwake, IsRest, HasRested, Leads, given_all, to}
-use Rattle.rsx_graph.specs.Stands.{Stands, take_enabled, move_enabled_in, IsEffect, IsWorked, IsTake, IsAsk, IsSend, standing_of}
+use Rattle.rsx_graph.specs.Stands.{Stands, take_enabled, IsWorked, IsTake, standing_of}
 
 pub IsLive-open : (s : SubscriptionState) → s ≡ Open → IsLive s
 IsLive-open s e = rw e tt

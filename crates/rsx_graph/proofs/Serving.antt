@@ -1,5 +1,5 @@
 -- Where no move is enabled, what was asked for was delivered.
-use Rattle.std.proofs.Common.{◌≡◌, ℕ, zero, suc, ◌-◌, ◌<◌, Bool, true, false, nat_eq, List, [], ◌∷◌, ◌++◌, length, Option, Some, None, slice_get, refl, sym, ap, ◌∙◌, subst, arith}
+use Rattle.std.proofs.Common.{◌≡◌, ℕ, zero, suc, ◌-◌, ◌<◌, Bool, true, false, List, [], ◌∷◌, ◌++◌, length, Some, slice_get, refl, sym, ap, ◌∙◌, subst, arith}
 use Rattle.std.proofs.lemmas.List.{append-nil}
 use Rattle.rsx_types.specs.Meaning.{Meaning}
 use Rattle.rsx_types.specs.Stream.{Stream}
@@ -15,7 +15,7 @@ use Rattle.rsx_pipe.proofs.Signals.{some_same}
 use Rattle.rsx_graph.specs.declared.state.SubscriptionState.{SubscriptionState}
 use Rattle.rsx_graph.specs.declared.state.SubscriptionState.TheVariants.{Open, Ended, Cancelled, Refused}
 use Rattle.rsx_graph.specs.declared.subscription.Subscription.{Subscription}
-use Rattle.rsx_graph.specs.History.{Past, IsLive, IsUnended, items_in}
+use Rattle.rsx_graph.specs.History.{Past, IsLive, IsUnended}
 use Rattle.rsx_graph.specs.Pumped.{IsQuiet, IsAllQuiet}
 use Rattle.rsx_graph.specs.Served.{IsServed, AllServed}
 use Rattle.rsx_graph.specs.Stands.{Stands, AllStand, enabled_at, move_enabled_in, evaluated, take_enabled, standing_of}

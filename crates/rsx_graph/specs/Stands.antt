@@ -1,7 +1,7 @@
 -- What a subscription, and a whole graph, stand for.
-use Rattle.std.specs.Prelude.{◌≡◌, ℕ, ◌+◌, ◌≤◌, Bool, true, false, ◌&&◌, nat_eq, if◌then◌else◌, List, [], ◌∷◌, ◌++◌, length, Option, Some, None, option_map, ◌-◌, slice_get, ℤ, zero, suc, slice_set}
-use Rattle.rsx_types.specs.Meaning.{Meaning}
-use Rattle.rsx_types.specs.Stream.{Stream, items_then, signals_then, ended_by}
+use Rattle.std.specs.Prelude.{◌≡◌, ℕ, Bool, false, ◌&&◌, nat_eq, if◌then◌else◌, List, [], ◌∷◌, ◌++◌, length, Option, Some, None, option_map, ◌-◌, slice_get, ℤ, zero, suc, slice_set}
+use Rattle.rsx_types.specs.Meaning.{Meaning, Allocates}
+use Rattle.rsx_types.specs.Stream.{Stream, signals_then, ended_by}
 use Rattle.rsx_types.specs.declared.note.Note.{Note}
 use Rattle.rsx_types.specs.declared.names.SubId.{SubId}
 use Rattle.rsx_types.specs.declared.names.Tree.{Tree}
@@ -95,6 +95,15 @@ enabled_at m (s ∷ ss) i mv = if nat_eq i 0 then move_enabled_in m s mv else en
 abbrev pub enabled_in_tree : {T : Type 0} → Meaning T → List (Subscription T) → Tree → Move → Bool
 enabled_in_tree m subs (Sub i) mv = enabled_at m subs i.0 mv
 enabled_in_tree m subs (Feed h) mv = false
+
+-- whether a move in the subscription with this number may allocate, where these of the caller's functions may
+abbrev pub allocates_at : {T : Type 0} → Allocates → List (Subscription T) → ℕ → Move → Bool
+allocates_at a [] i mv = false
+allocates_at a (s ∷ ss) i mv = if nat_eq i 0 then Part.make_allocates a s.part mv else allocates_at a ss (i - 1) mv
+
+abbrev pub allocates_in_tree : {T : Type 0} → Allocates → List (Subscription T) → Tree → Move → Bool
+allocates_in_tree a subs (Sub i) mv = allocates_at a subs i.0 mv
+allocates_in_tree a subs (Feed h) mv = false
 
 -- ---- what the looks and a request answer
 

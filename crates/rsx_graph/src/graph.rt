@@ -1,10 +1,10 @@
 //! A graph of subscriptions.
 
-ghost use Rattle.std.specs.Prelude.{◌≡◌, ℕ, ◌+◌, ◌<◌, ◌≤◌, ◌++◌, ◌∷◌, [], List, length, OnOk, OnErr, IfOk, IfErr, None, Some, true, false};
+ghost use Rattle.std.specs.Prelude.{◌≡◌, ◌≢◌, ℕ, ◌+◌, ◌<◌, ◌≤◌, ◌++◌, ◌∷◌, [], List, length, OnOk, OnErr, IfOk, IfErr, None, Some, true, false};
 ghost use Rattle.rsx_types.specs.Stream.{Stream};
 ghost use Rattle.rsx_model.specs.Check.{refusal};
 ghost use Rattle.rsx_graph.specs.History.{History, no_history, subscribed, given, with_subscriber, with_past, with_made, cancelled, requested, extended, all_extended, IsSubscribeRefusal, IsMakeRefusal, IsMadeAnswer, Belongs, AllBelong, HasAsked, IsLookRefusal, IsTreeRefusal, IsKnownTree, tree_of};
-ghost use Rattle.rsx_graph.specs.Stands.{Stands, StandsFor, IsRequested, IsOwed, HasNotes, HasNotesAt, IsInside, IsMade, IsMadeAt, enabled_in_tree, enabled_at};
+ghost use Rattle.rsx_graph.specs.Stands.{Stands, StandsFor, IsRequested, IsOwed, HasNotes, HasNotesAt, IsInside, IsMade, IsMadeAt, allocates_at, allocates_in_tree, enabled_in_tree, enabled_at};
 ghost use Rattle.rsx_graph.specs.Begun.{IsFresh, IsSubscribed};
 ghost use Rattle.rsx_graph.specs.Served.{AllServed};
 ghost use Rattle.rsx_graph.specs.Pumped.{AllPumped, HasEnded, HasRestedAt};
@@ -107,6 +107,11 @@ impl<O: Ops> Graph<O> {
     }
 
     /// Makes one move. A Take from the root edge of a subscription answers the signal that it delivered.
+    ///
+    /// # Errors
+    /// G1 and G2 for a tree that isn't there, else G7 exactly where the move isn't enabled, and G8 where a growth was refused.
+    /// An Ask and a Take allocate nothing, and a Send only where its receiver is a `buffer` or a `distinct`, or where a
+    /// function of the caller's that it calls may.
     pub fn make(
         &mut self,
         alloc: Global,
@@ -118,6 +123,9 @@ impl<O: Ops> Graph<O> {
         ensures enabled { OnOk result (enabled_in_tree (O.meaning self.old.ops) self.old.subscriptions.items (tree_of step) step ≡ true) }
         ensures effect { IfOk result (λ o. IsMade (O.meaning self.old.ops) step (tree_of step) self.old.subscriptions.items self.new.subscriptions.items o) }
         ensures err { IfErr result (λ r. IsMakeRefusal (length self.old.subscriptions.items) (enabled_in_tree (O.meaning self.old.ops) self.old.subscriptions.items (tree_of step) step) (tree_of step) r) }
+
+        // An enabled move that takes no memory is made.
+        ensures memory { allocates_in_tree (O.allocates self.old.ops) self.old.subscriptions.items (tree_of step) step ≡ false → IfErr result (λ r. r ≢ Refusal.NoMemory) }
         ensures same { OnErr result (self.new.subscriptions.items ≡ self.old.subscriptions.items) }
     {
         match step {
@@ -145,6 +153,7 @@ impl<O: Ops> Graph<O> {
         ensures enabled { OnOk result (enabled_at (O.meaning self.old.ops) self.old.subscriptions.items sub.0 step ≡ true) }
         ensures effect { OnOk result (IsMadeAt (O.meaning self.old.ops) step sub.0 self.old.subscriptions.items self.new.subscriptions.items None) }
         ensures err { IfErr result (λ r. IsMakeRefusal (length self.old.subscriptions.items) (enabled_at (O.meaning self.old.ops) self.old.subscriptions.items sub.0 step) (Tree.Sub sub) r) }
+        ensures memory { allocates_at (O.allocates self.old.ops) self.old.subscriptions.items sub.0 step ≡ false → IfErr result (λ r. r ≢ Refusal.NoMemory) }
         ensures same { OnErr result (self.new.subscriptions.items ≡ self.old.subscriptions.items) }
     {
         let at = sub.0 as usize;
@@ -167,6 +176,7 @@ impl<O: Ops> Graph<O> {
         ensures enabled { OnOk result (enabled_at (O.meaning self.old.ops) self.old.subscriptions.items sub.0 (Move.Take (Tree.Sub sub) node) ≡ true) }
         ensures effect { IfOk result (λ s. IsMadeAt (O.meaning self.old.ops) (Move.Take (Tree.Sub sub) node) sub.0 self.old.subscriptions.items self.new.subscriptions.items (Some (sub, s))) }
         ensures err { IfErr result (λ r. IsMakeRefusal (length self.old.subscriptions.items) (enabled_at (O.meaning self.old.ops) self.old.subscriptions.items sub.0 (Move.Take (Tree.Sub sub) node)) (Tree.Sub sub) r) }
+        ensures memory { IfErr result (λ r. r ≢ Refusal.NoMemory) }
         ensures same { OnErr result (self.new.subscriptions.items ≡ self.old.subscriptions.items) }
     {
         let at = sub.0 as usize;

@@ -43,7 +43,7 @@ impl<T: Drop> Subscription<T> {
     ghost use Rattle.rsx_sources.specs.Steps.{IsNotMade};
     ghost use Rattle.rsx_types.specs.declared.names.SubId.{SubId};
     ghost use Rattle.rsx_types.specs.declared.signal.Signal.{Signal};
-    ghost use Rattle.rsx_pipe.specs.Part.{HasEnded, IsPutOut, move_enabled};
+    ghost use Rattle.rsx_pipe.specs.Part.{HasEnded, IsPutOut, make_allocates, move_enabled};
     ghost use Rattle.rsx_pipe.specs.Tree.{notes_of, IsAllClosed};
     ghost use Rattle.rsx_graph.specs.History.{Past, cancelled, requested, given, request_answer};
     ghost use Rattle.rsx_graph.specs.Stands.{Stands, standing_of, owed_from, take_enabled, IsWorked, IsTake};
@@ -160,6 +160,7 @@ impl<T: Drop> Subscription<T> {
         ensures enabled { OnOk result (move_enabled (O.meaning ops.now) self.old.part self.old.queue step ≡ true) }
         ensures effect { OnOk result (IsWorked (O.meaning ops.now) step self.old self.new) }
         ensures err { IfErr result (IsNotMade (move_enabled (O.meaning ops.now) self.old.part self.old.queue step)) }
+        ensures memory { make_allocates (O.allocates ops.now) self.old.part step ≡ false → IfErr result (λ e. e ≡ NotMade.NotEnabled) }
         ensures same { OnErr result (self.new ≡ self.old) }
     {
         match self.part.make(alloc, ops, step, &mut self.queue) {

@@ -2,7 +2,7 @@
 use Rattle.std.specs.Prelude.{◌≡◌, ◌⊎◌, ℕ, zero, suc, ◌+◌, ◌-◌, ◌<◌, ◌≤◌, min, Bool, true, false, ◌&&◌, nat_lt, nat_eq, if◌then◌else◌, List, [], ◌∷◌, ◌++◌, length, take, Option, Some, None, option_map, Result, Ok, Err}
 use Rattle.rsx_model.specs.Eval.{environment, eval}
 use Rattle.rsx_model.specs.declared.expr.Expr.{Expr}
-use Rattle.rsx_types.specs.Meaning.{Meaning}
+use Rattle.rsx_types.specs.Meaning.{Meaning, Allocates}
 use Rattle.rsx_types.specs.Notes.{notes_then}
 use Rattle.rsx_types.specs.Stream.{Stream, signals_then}
 use Rattle.rsx_types.specs.declared.names.Move.{Move}
@@ -16,7 +16,7 @@ use Rattle.rsx_sources.specs.declared.machine.Front.{Front}
 use Rattle.rsx_pipe.specs.Balance.{IsBalanced, IsWithin}
 use Rattle.rsx_pipe.specs.Edges.{edge_view, EdgeView, can_pass, IsPassed, changed_at, carried_at, asked_up_to}
 use Rattle.rsx_pipe.specs.Output.{items_in, IsUnended, IsOrderly, values_then}
-use Rattle.rsx_pipe.specs.Tree.{comes_out, notes_of, offers, can_ask, can_send, can_go, IsAllClosed, IsLetGo, edges, want_at, front_at, ended_at}
+use Rattle.rsx_pipe.specs.Tree.{comes_out, notes_of, offers, can_ask, can_send, can_go, IsAllClosed, IsLetGo, edges, want_at, front_at, ended_at, pop_allocates, send_allocates}
 use Rattle.rsx_pipe.specs.declared.edge.EdgeState.TheVariants.{Live, Closed, Ended}
 use Rattle.rsx_pipe.specs.declared.part.Part.{Part}
 use Rattle.rsx_pipe.specs.declared.part.Pumped.{Pumped}
@@ -70,6 +70,12 @@ abbrev pub move_enabled : {T : Type 0} → Meaning T → Part T → List (Signal
 move_enabled m part queue (Ask t n) = ask_enabled part n.0
 move_enabled m part queue (Send t n) = send_enabled m part queue n.0
 move_enabled m part queue (Take t n) = false
+
+-- whether a move may allocate, where these of the caller's functions may
+abbrev pub make_allocates : {T : Type 0} → Allocates → Part T → Move → Bool
+make_allocates a part (Ask t n) = false
+make_allocates a part (Send t n) = if nat_eq n.0 0 then pop_allocates a part.tree else send_allocates a part.tree (n.0 - 1)
+make_allocates a part (Take t n) = false
 
 -- the tree in which a move is made
 abbrev pub tree_of : Move → Tree

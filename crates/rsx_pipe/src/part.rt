@@ -43,9 +43,9 @@ impl<T: Drop> Part<T> {
     ghost use Rattle.rsx_sources.specs.Steps.{IsNotMade};
     ghost use Rattle.rsx_pipe.specs.Built.{fresh_edge, fresh_edges};
     ghost use Rattle.rsx_pipe.specs.Edges.{closed_view, edge_view};
-    ghost use Rattle.rsx_pipe.specs.Tree.{comes_out, notes_of, can_send, IsAllClosed};
+    ghost use Rattle.rsx_pipe.specs.Tree.{comes_out, notes_of, can_send, pop_allocates, send_allocates, IsAllClosed};
     ghost use Rattle.rsx_pipe.specs.Driven.{Spent};
-    ghost use Rattle.rsx_pipe.specs.Part.{PartStands, IsPutOut, IsMade, IsPumped, IsQuiet, IsAwake, IsSpent, IsRootSent, HasEnded, IsDelivered, number_of, all_edges, move_enabled, tree_of, ask_enabled, send_enabled, IsAsk, IsSend};
+    ghost use Rattle.rsx_pipe.specs.Part.{PartStands, IsPutOut, IsMade, IsPumped, IsQuiet, IsAwake, IsSpent, IsRootSent, HasEnded, IsDelivered, make_allocates, number_of, all_edges, move_enabled, tree_of, ask_enabled, send_enabled, IsAsk, IsSend};
 
     /// The part of an expression that `check_expr` accepts, before anything was asked of it.
     ///
@@ -153,8 +153,9 @@ impl<T: Drop> Part<T> {
     /// know.
     ///
     /// # Errors
-    /// [`NotMade::NotEnabled`] exactly where the move isn't enabled, and [`NotMade::NoMemory`] where a growth was refused.
-    /// Then nothing changed.
+    /// [`NotMade::NotEnabled`] exactly where the move isn't enabled, and [`NotMade::NoMemory`] where a growth was refused:
+    /// only a Send may allocate, to a `buffer` or a `distinct`, or where a function of the caller's that it calls may. Then
+    /// nothing changed.
     pub fn make<O: Ops<Item = T>>(
         &mut self,
         alloc: Global,
@@ -165,6 +166,7 @@ impl<T: Drop> Part<T> {
         ensures made { OnOk result (IsMade (O.meaning ops.now) step self.old out.old self.new out.new) }
         ensures enabled { OnOk result (move_enabled (O.meaning ops.now) self.old out.old step ≡ true) }
         ensures err { IfErr result (IsNotMade (move_enabled (O.meaning ops.now) self.old out.old step)) }
+        ensures memory { make_allocates (O.allocates ops.now) self.old step ≡ false → IfErr result (λ e. e ≡ NotMade.NotEnabled) }
         ensures same { OnErr result ((self.new ≡ self.old) × (out.new ≡ out.old)) }
     {
         match step {
@@ -221,6 +223,7 @@ impl<T: Drop> Part<T> {
         ensures root { self.new.root ≡ self.old.root }
         ensures enabled { OnOk result (can_send (O.meaning ops.now) self.old.tree at ≡ true) }
         ensures err { IfErr result (IsNotMade (can_send (O.meaning ops.now) self.old.tree at)) }
+        ensures memory { send_allocates (O.allocates ops.now) self.old.tree at ≡ false → IfErr result (λ e. e ≡ NotMade.NotEnabled) }
         ensures same { OnErr result (self.new ≡ self.old) }
     {
         match self.tree.send(alloc, ops, at) {
@@ -238,6 +241,7 @@ impl<T: Drop> Part<T> {
     ) -> Result<(), NotMade>
         ensures sent { OnOk result (IsRootSent (O.meaning ops.now) self.old out.old self.new out.new) }
         ensures err { IfErr result (IsNotMade (send_enabled (O.meaning ops.now) self.old out.old 0)) }
+        ensures memory { pop_allocates (O.allocates ops.now) self.old.tree ≡ false → IfErr result (λ e. e ≡ NotMade.NotEnabled) }
         ensures same { OnErr result ((self.new ≡ self.old) × (out.new ≡ out.old)) }
     {
         let Some(front) = self.tree.front() else {

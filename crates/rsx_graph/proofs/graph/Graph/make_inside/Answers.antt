@@ -1,6 +1,6 @@
 use Rattle.std.proofs.Common.{refl}
 use Rattle.std.proofs.Common.{◌<◌, ◌∙◌, length, sym, arith}
-use Rattle.rsx_graph.proofs.Graphs.{AllStand-moved, enabled_there, inside_enabled, inside_effect, set_same, found}
+use Rattle.rsx_graph.proofs.Graphs.{AllStand-moved, allocates_there, enabled_there, inside_enabled, inside_effect, set_same, found}
 use Rattle.rsx_graph.proofs.graph.Graph.make_inside.Goals as goal
 
 pub returns-in-Ok-clause-stands : goal.returns-in-Ok-clause-stands
@@ -61,3 +61,11 @@ returns-in-Ok-clause-effect g c =
       effect = inside_effect m c.args.step c.index_mut-subscription.result.now c.make.new.self c.in-Ok.ensures.effect;
       others = refl;
     }
+
+pub returns-in-Err-NoMemory-clause-memory : goal.returns-in-Err-NoMemory-clause-memory
+returns-in-Err-NoMemory-clause-memory g c = λ none _.
+    let refused = rw c.in-Err-NoMemory.field-0-is at c.in-Err-NoMemory.ensures.memory in
+    let l = c.len.ensures in
+    let within : c.args.sub.0 < length c.args.self.now.subscriptions.items = omega (arith, l, c.if-at-len.false) in
+    let k = refused (sym (allocates_there (g.O.Ops.allocates c.args.self.now.ops) c.args.self.now.subscriptions.items c.args.sub.0 c.index_mut-subscription.result.now c.args.step within (sym c.index_mut-subscription.ensures.value)) ∙ none) in
+    cc

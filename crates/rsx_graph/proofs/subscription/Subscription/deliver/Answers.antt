@@ -1,4 +1,4 @@
-use Rattle.std.proofs.Common.{◌≡◌, ◌+◌, ◌-◌, ◌<◌, ◌≤◌, ◌∙◌, ℕ, arith}
+use Rattle.std.proofs.Common.{◌+◌, ◌≤◌, arith}
 use Rattle.rsx_graph.specs.Pumped.{IsPumped}
 use Rattle.rsx_graph.proofs.Moves.{pumped_more}
 use Rattle.rsx_graph.proofs.subscription.Subscription.deliver.Goals as goal

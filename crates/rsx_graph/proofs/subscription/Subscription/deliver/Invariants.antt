@@ -1,4 +1,4 @@
-use Rattle.std.specs.Prelude.{◌≡◌, ℕ}
+use Rattle.std.specs.Prelude.{◌≡◌}
 use Rattle.rsx_types.specs.Meaning.{Meaning}
 use Rattle.rsx_graph.specs.Pumped.{IsPumped}
 use Rattle.rsx_graph.proofs.subscription.Subscription.deliver.Given as goal

@@ -1,5 +1,5 @@
 use Rattle.std.proofs.Common.{sym, ◌∙◌}
-use Rattle.rsx_graph.proofs.Moves.{quiet_when, awake_part, awake_take}
+use Rattle.rsx_graph.proofs.Moves.{quiet_when, awake_part}
 use Rattle.rsx_graph.proofs.subscription.Subscription.is_idle.Goals as goal
 
 pub returns-clause-yes : goal.returns-clause-yes

@@ -1,6 +1,5 @@
-use Rattle.std.proofs.Common.{◌≡◌, ◌+◌, ◌-◌, ◌<◌, ◌≤◌, ◌∙◌, ℕ, arith, sym, ap}
+use Rattle.std.proofs.Common.{◌≡◌, ◌+◌, arith}
 use Rattle.rsx_types.specs.declared.fault.NoMemory.{NoMemory}
-use Rattle.rsx_graph.specs.Pumped.{IsQuiet}
 use Rattle.rsx_graph.proofs.Moves.{pumped_more, rest_ended, awake_part, rest_quiet}
 use Rattle.rsx_graph.proofs.subscription.Subscription.pump.Goals as goal
 
