@@ -7,8 +7,9 @@
 //! - [`step`], [`refusal`], [`deliveries`], [`state`]: the types that the calls speak of.
 //!
 //! The definitions stand in `specs/`, apart from the code: `History` (what has happened so far, by the steps and their
-//! answers), `Stands` (what a subscription and a graph stand for, and the effect of a move), `Begun`, `Pumped` and
-//! `Headline`. Those of trees and edges are in `rsx_pipe`.
+//! answers), `Stands` (what a subscription and a graph stand for, and the effect of a move), `Standing` (where a
+//! subscription stands in the table of `rsx_subscription`), `Begun`, `Pumped`, `Served` and `Headline`. Those of parts,
+//! trees and edges are in `rsx_pipe`.
 
 pub mod deliveries;
 pub mod graph;
