@@ -2,7 +2,6 @@ pub mod Balances
 pub mod Builds
 pub mod Drives
 pub mod Looks
-pub mod Memory
 pub mod Parts
 pub mod Signals
 pub mod Trees

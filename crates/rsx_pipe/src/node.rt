@@ -39,7 +39,7 @@ impl<T: Drop> Node<T> {
     ghost use Rattle.std.specs.Prelude.{◌<◌};
     ghost use Rattle.rsx_types.specs.declared.signal.Signal.{Signal};
     ghost use Rattle.rsx_pipe.specs.Balance.{IsBalanced, IsWithin};
-    ghost use Rattle.rsx_pipe.specs.Tree.{comes_out, notes_of, offers, popped, IsAllClosed, can_ask, can_send, IsKept, IsPopped, IsUnchosen, IsAdvanced, IsIdle, IsBusy, IsAskedAt, IsSentAt, edges, pop_allocates, send_allocates};
+    ghost use Rattle.rsx_pipe.specs.Tree.{comes_out, notes_of, offers, popped, IsAllClosed, can_ask, can_send, IsKept, IsPopped, IsUnchosen, IsIdle, IsBusy, IsAskedAt, IsSentAt, edges, pop_allocates, send_allocates};
     ghost use Rattle.rsx_pipe.specs.Driven.{IsDriven, Spent};
 
     /// Which signal the root offers, if it does.
@@ -157,36 +157,6 @@ impl<T: Drop> Node<T> {
                     Err(why) => Err(why),
                 }
             }
-        }
-    }
-
-    /// Makes the first enabled move of the tree, if there is one, from the root down; `asked` and `sent` are those of the
-    /// root's own edge. It answers [`NoMemory`] only where some Send of the tree may allocate; then the tree is as it was.
-    pub fn advance<O: Ops<Item = T>>(
-        &mut self,
-        alloc: Global,
-        ops: &O,
-        asked: u64,
-        sent: u64,
-    ) -> Result<bool, NoMemory>
-        ensures made { IfOk result (λ b. b ≡ true → IsAdvanced (O.meaning ops.now) self.old asked sent self.new) }
-        ensures balance { (s : ℕ) → IsBalanced self.old s → IsBalanced self.new s }
-        ensures idle { IfOk result (λ b. b ≡ false → (self.new ≡ self.old) × IsIdle (O.meaning ops.now) self.old asked sent) }
-        ensures err { OnErr result (self.new ≡ self.old) }
-        ensures memory { ((at : ℕ) → send_allocates (O.allocates ops.now) self.old at ≡ false) → IsOk result }
-    {
-        match self {
-            Node::Items(_) | Node::Range(_) => Ok(false),
-            Node::Plain(node, edge, input) => match advance_here(
-                alloc, ops, node, edge, input, asked, sent,
-            ) {
-                Ok(true) => Ok(true),
-                Ok(false) => match input.advance(alloc, ops, edge.demand.asked, edge.demand.sent) {
-                    Ok(made) => Ok(made),
-                    Err(NoMemory) => Err(NoMemory),
-                },
-                Err(NoMemory) => Err(NoMemory),
-            },
         }
     }
 
