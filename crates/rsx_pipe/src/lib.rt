@@ -24,3 +24,6 @@ pub use edge::{Edge, EdgeState};
 pub use node::Node;
 pub use part::{Part, Pumped};
 pub use queue::SignalQueue;
+
+#[cfg(test)]
+mod tests;
