@@ -18,6 +18,8 @@ pub mod refusal;
 pub mod state;
 pub mod step;
 pub mod subscription;
+#[cfg(test)]
+mod tests;
 
 pub use deliveries::Deliveries;
 pub use graph::Graph;
