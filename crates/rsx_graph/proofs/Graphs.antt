@@ -14,8 +14,8 @@ use Rattle.rsx_types.specs.declared.names.SubId.{SubId}
 use Rattle.rsx_types.specs.declared.signal.Signal.{Signal}
 use Rattle.rsx_types.specs.Meaning.{Meaning, Allocates}
 use Rattle.rsx_types.specs.Stream.{Stream, signals_then, ended_by}
-use Rattle.rsx_pipe.specs.declared.edge.EdgeState.TheVariants.{Live, Closed}
-use Rattle.rsx_pipe.specs.Edges.{edge_view, EdgeView}
+use Rattle.rsx_edge.specs.declared.edge.EdgeState.TheVariants.{Live, Closed}
+use Rattle.rsx_edge.specs.Edges.{edge_view, EdgeView}
 use Rattle.rsx_pipe.specs.Part.{PartStands, all_edges}
 use Rattle.rsx_pipe.specs.Part as Part
 use Rattle.rsx_pipe.specs.declared.part.Pumped.{Pumped as Rest}
@@ -27,10 +27,10 @@ use Rattle.rsx_graph.specs.declared.state.SubscriptionState.TheVariants.{Open, E
 use Rattle.rsx_demand.specs.declared.Demand.{Demand}
 use Rattle.rsx_subscription.specs.declared.State.TheVariants.{Open as OpenState}
 use Rattle.rsx_graph.specs.Standing.{standing}
-use Rattle.rsx_pipe.specs.Built.{fresh_edge, fresh_edges}
+use Rattle.rsx_tree.specs.Built.{fresh_edge, fresh_edges}
 use Rattle.rsx_graph.specs.Begun.{IsFresh}
-use Rattle.rsx_pipe.specs.Tree.{notes_of}
-use Rattle.rsx_pipe.proofs.Trees.{notes_then-unchosen, unchosen_notes}
+use Rattle.rsx_tree.specs.Tree.{notes_of}
+use Rattle.rsx_tree.proofs.Trees.{notes_then-unchosen, unchosen_notes}
 use Rattle.rsx_graph.specs.declared.subscription.Subscription.{Subscription}
 use Rattle.rsx_graph.specs.declared.step.Step.{Step}
 use Rattle.rsx_graph.specs.declared.step.Answer.{Answer}

@@ -4,7 +4,7 @@ use Rattle.rsx_types.specs.Meaning.{Meaning}
 use Rattle.rsx_types.specs.Notes.{notes_then}
 use Rattle.rsx_types.specs.Stream.{Stream, signals_then}
 use Rattle.rsx_types.specs.declared.note.Note.{Note}
-use Rattle.rsx_pipe.specs.Tree.{comes_out, notes_of}
+use Rattle.rsx_tree.specs.Tree.{comes_out, notes_of}
 use Rattle.rsx_pipe.proofs.Signals.{map_then-append, prefix_of_orderly}
 use Rattle.rsx_graph.specs.declared.subscription.Subscription.{Subscription}
 use Rattle.rsx_graph.specs.declared.state.SubscriptionState.{SubscriptionState}

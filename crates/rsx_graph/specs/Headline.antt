@@ -5,7 +5,7 @@ use Rattle.rsx_types.specs.Notes.{notes_then}
 use Rattle.rsx_types.specs.Stream.{Stream, signals_then}
 use Rattle.rsx_types.specs.declared.note.Note.{Note}
 use Rattle.rsx_graph.specs.declared.subscription.Subscription.{Subscription}
-use Rattle.rsx_pipe.specs.Tree.{notes_of}
+use Rattle.rsx_tree.specs.Tree.{notes_of}
 use Rattle.rsx_graph.specs.History.{Past, History, IsLive, IsOrderly, IsPrefixOf, items_in}
 use Rattle.rsx_graph.specs.Stands.{owed_from, evaluated, values_then}
 

@@ -3,8 +3,8 @@ use Rattle.std.specs.Prelude.{◌≡◌, ◌<◌, min, List, [], ◌∷◌, leng
 use Rattle.rsx_types.specs.Meaning.{Meaning}
 use Rattle.rsx_types.specs.Stream.{Stream}
 use Rattle.rsx_types.specs.declared.signal.Ending.TheVariants.{Open as NotEnded}
-use Rattle.rsx_pipe.specs.Balance.{IsWithin}
-use Rattle.rsx_pipe.specs.Tree.{notes_of}
+use Rattle.rsx_tree.specs.Balance.{IsWithin}
+use Rattle.rsx_tree.specs.Tree.{notes_of}
 use Rattle.rsx_graph.specs.declared.state.SubscriptionState.TheVariants.{Ended}
 use Rattle.rsx_graph.specs.declared.subscription.Subscription.{Subscription}
 use Rattle.rsx_graph.specs.History.{Past, IsLive, items_in}

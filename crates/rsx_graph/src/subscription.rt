@@ -44,7 +44,7 @@ impl<T: Drop> Subscription<T> {
     ghost use Rattle.rsx_types.specs.declared.names.SubId.{SubId};
     ghost use Rattle.rsx_types.specs.declared.signal.Signal.{Signal};
     ghost use Rattle.rsx_pipe.specs.Part.{HasEnded, IsPutOut, make_allocates, move_enabled};
-    ghost use Rattle.rsx_pipe.specs.Tree.{notes_of, IsAllClosed};
+    ghost use Rattle.rsx_tree.specs.Tree.{notes_of, IsAllClosed};
     ghost use Rattle.rsx_graph.specs.History.{Past, cancelled, requested, given, request_answer};
     ghost use Rattle.rsx_graph.specs.Stands.{Stands, standing_of, owed_from, take_enabled, IsWorked, IsTake};
     ghost use Rattle.rsx_graph.specs.Pumped.{IsPumped, HasRested, IsRest, IsQuiet, IsAwake, Spent, moves_of};
