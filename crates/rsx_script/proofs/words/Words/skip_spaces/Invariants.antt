@@ -1,5 +1,5 @@
 use Rattle.std.proofs.Common.{◌≤◌, length}
-use Rattle.rsx_app.proofs.words.Words.skip_spaces.Given as goal
+use Rattle.rsx_script.proofs.words.Words.skip_spaces.Given as goal
 
 abbrev pub decreases-loop-self : goal.decreases-loop-self
 decreases-loop-self l = length l.self.rest.now

@@ -1,9 +1,8 @@
 //! Runs a script: reads lines, answers each, and writes the answers.
 
 use crate::fault::AppFault;
-use crate::parse::{MOST_BYTES, parse_line};
-use crate::session::Session;
-use crate::words::LineRefusal;
+use crate::session::{Mode, Session};
+use rsx_script::{LineRefusal, MOST_BYTES, parse_line};
 use std::alloc::Global;
 use std::io::{Read, Write};
 
@@ -13,19 +12,14 @@ const READ_BYTES: usize = 4096;
 /// The most reads of one script.
 const MOST_READS: u32 = 16_777_216;
 
-/// What is done with the lines of the input.
-#[derive(Clone, Copy, Debug, PartialEq, Eq)]
-pub enum Mode {
-    /// Each line is a command over one graph.
-    Run,
-    /// The same, but `show` answers the value of the slow evaluator.
-    Scratch,
-}
+/// So many bytes of answers are written as soon as they have gathered.
+const GATHERED_BYTES: usize = 65_536;
 
 /// Answers each line that the reader gives with one line to the writer, until the input ends. A last line needs no
 /// newline; a line that is empty or spaces alone has no answer.
 ///
-/// The answers so far are written before each read and at the end, also before an error of `Line` or `Memory`.
+/// The answers so far are written as soon as they have 65,536 bytes, before each read, and at the end, also before an
+/// error of `Line` or `Memory`. So at most that many bytes and one answer wait to be written.
 ///
 /// # Errors
 ///
@@ -82,18 +76,26 @@ impl Script {
             match reader.read(&mut bytes) {
                 Ok(0) if self.line.is_empty() => return Ok(()),
                 Ok(0) => return self.end_line(alloc),
-                Ok(count) => self.take_in(alloc, &bytes[..count])?,
+                Ok(count) => self.take_in(alloc, &bytes[..count], writer)?,
                 Err(_) => return Err(AppFault::Io),
             }
         }
         Err(AppFault::Io)
     }
 
-    /// Adds bytes to the line, and answers each line that ends among them.
-    fn take_in(&mut self, alloc: Global, bytes: &[u8]) -> Result<(), AppFault> {
+    /// Adds bytes to the line, answers each line that ends among them, and writes what gathers meanwhile.
+    fn take_in<W: Write>(
+        &mut self,
+        alloc: Global,
+        bytes: &[u8],
+        writer: &mut W,
+    ) -> Result<(), AppFault> {
         for byte in bytes {
             if *byte == b'\n' {
                 self.end_line(alloc)?;
+                if self.out.len() >= GATHERED_BYTES {
+                    self.write_out(writer)?;
+                }
             } else if self.line.len() >= MOST_BYTES {
                 return Err(AppFault::Line(self.number, LineRefusal::TooLong));
             } else {

@@ -1,6 +1,6 @@
 //! What ends a run before its input does.
 
-use crate::words::LineRefusal;
+use rsx_script::LineRefusal;
 use rsx_types::NoMemory;
 use std::alloc::{AllocError, Global};
 use thiserror::Error;

@@ -1,5 +1,5 @@
 use Rattle.std.proofs.Common.{◌+◌, ◌*◌, length}
-use Rattle.rsx_app.proofs.parse.+expression.Given as goal
+use Rattle.rsx_script.proofs.parse.+expression.Given as goal
 
 abbrev pub decreases-expression : goal.decreases-expression
 decreases-expression l = 2 * length l.words.now.rest.now
