@@ -2,7 +2,7 @@
 ghost use Rattle.std.specs.Prelude.{◌≡◌};
 ghost use Rattle.rsx_gate.specs.Seats.{IsSeatOf};
 
-use crate::{Gate, Kept, Left, More, Noted, Pass, Seat};
+use rsx_gate::{Gate, Kept, Left, More, Noted, Pass, Seat};
 use std::test::Fail;
 
 #[derive(Drop)]

@@ -2,7 +2,7 @@
 ghost use Rattle.std.specs.Prelude.{◌≡◌, ◌≤◌, IfOk};
 ghost use Rattle.rsx_gate.specs.Seats.{IsSeatOf};
 
-use crate::{Count, Outcome, visit};
+use gate_uses::{Count, Outcome, visit};
 use rsx_gate::{Gate, Seat};
 use std::alloc::Global;
 use std::test::Fail;

@@ -1,6 +1,7 @@
+// A link's two ends in one thread. That a queue which is called empty was empty no clause says.
 ghost use Rattle.rsx_link.specs.Ends.{IsUpOf};
 
-use crate::{CancelSeat, Down, Found, Link, Up};
+use rsx_link::{Found, Link, Up};
 use rsx_types::{Cause, Signal};
 use std::test::Fail;
 
@@ -55,28 +56,5 @@ fn one_thread(rt: HostRuntime) -> Result<(), Fail> {
     assert_eq!(rt; closed.held.pop(), Some(Signal::Complete));
     assert!(rt; closed.held.is_empty());
     assert_eq!(rt; closed.held.pop(), None);
-    Ok(())
-}
-
-#[test]
-fn limits(rt: HostRuntime) -> Result<(), Fail> {
-    let (link, mut up, mut down, mut cancel) = Link::new(rt.alloc(), 1)?;
-    assert_eq!(rt; down.ask(&link, i64::MAX), None);
-    assert_eq!(rt; down.ask(&link, i64::MAX), None);
-    assert_eq!(rt; up.look(&link).asked, 9_223_372_036_854_775_807);
-    assert_eq!(rt; down.take(&link), None);
-    assert!(rt; sends(&link, &mut up, 1));
-    assert_eq!(rt; up.send(&link, Signal::Complete), Err(Signal::Complete));
-    cancel.cancel(&link);
-    assert_eq!(rt; down.ask(&link, 0), None);
-    assert_eq!(rt;
-        up.look(&link),
-        found(9_223_372_036_854_775_807, true, true)
-    );
-    assert_eq!(rt; down.take(&link), Some(Signal::Next(1)));
-    assert_eq!(rt; up.send(&link, Signal::Error(Cause::User(7))), Ok(()));
-    assert_eq!(rt; down.take(&link), Some(Signal::Error(Cause::User(7))));
-    let closed = link.close(up, down, cancel);
-    assert!(rt; closed.held.is_empty());
     Ok(())
 }
