@@ -8,7 +8,7 @@
 
 use clap::error::ErrorKind;
 use rsx_command_line::mode_of;
-use rsx_session::{AppFault, drive};
+use rsx_drive::{AppFault, drive};
 use std::process::ExitCode;
 use std::rt::Env;
 use std::{env, io};

@@ -2,12 +2,11 @@
 
 ghost use Rattle.std.specs.Prelude.{◌≡◌, ◌≤◌, true, length};
 
-use crate::fault::AppFault;
 use rsx_demo::{Demo, Val, is_same_val};
 use rsx_graph::{Deliveries, Graph, Pumped, Refusal};
 use rsx_model::{Expr, ScratchRefusal, scratch};
 use rsx_script::{Answer, Command, Rest, Shown};
-use rsx_types::{Cause, Ending, Signal, StreamValue, SubId, Tree};
+use rsx_types::{Cause, Ending, NoMemory, Signal, StreamValue, SubId, Tree};
 use std::alloc::{AllocFailed, Global};
 
 /// The most moves of one call of `Graph::pump`, so that what it delivers is taken in before it grows large.
@@ -90,15 +89,15 @@ impl Session {
     ///
     /// # Errors
     ///
-    /// `Memory` where a growth was refused.
-    pub fn new(alloc: Global, mode: Mode) -> Result<Session, AppFault> {
+    /// `NoMemory` where a growth was refused.
+    pub fn new(alloc: Global, mode: Mode) -> Result<Session, NoMemory> {
         match Graph::new(alloc, Demo) {
             Ok(graph) => Ok(Session {
                 mode,
                 graph,
                 records: Vec::new(alloc),
             }),
-            Err(_) => Err(AppFault::Memory),
+            Err(_) => Err(NoMemory),
         }
     }
 
@@ -106,17 +105,17 @@ impl Session {
     ///
     /// # Errors
     ///
-    /// `Memory` where a growth was refused; the text is then as it was.
+    /// `NoMemory` where a growth was refused; the text is then as it was.
     pub fn answer(
         &mut self,
         alloc: Global,
         command: Command,
         out: &mut String,
-    ) -> Result<(), AppFault> {
+    ) -> Result<(), NoMemory> {
         let answer = match self.run(alloc, command) {
             Ok(answer) => answer,
             Err(Trouble::Refused(name)) => Answer::Refused(name),
-            Err(Trouble::Memory) => return Err(AppFault::Memory),
+            Err(Trouble::Memory) => return Err(NoMemory),
         };
         let text = format!(in alloc; "{answer}\n")?;
         out.push_str(text.as_str())?;

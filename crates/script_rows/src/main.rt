@@ -1,60 +1,79 @@
 #![tactic(auto)]
-//! Answers the worked rows of the script language. What it writes is stored beside it, so that its input and its output
-//! are one table.
+//! Runs the worked rows of the script language. What it writes is stored beside it, and is their table.
 //!
-//! A line `run` or `scratch` begins a graph of its own, for the mode of that name. A line `example NAME` compares what
-//! the example script of this name writes with its stored answers. Any other line is one of a script; below it stands
-//! its answer, or why it can't be read.
+//! A line `run` or `scratch` begins a script for the mode of that name, which goes on up to the next such line. The
+//! script is written, then a line `answers`, its answers, and the line of the fault that ended it. A line
+//! `example NAME` compares what the example script of this name writes with its stored answers.
 
-use rsx_script::parse_line;
-use rsx_session::{AppFault, Mode, Session, drive};
-use std::alloc::Global;
+use rsx_drive::{AppFault, drive};
+use rsx_session::Mode;
+use std::alloc::{AllocError, Global};
+use std::io::Write;
 use std::rt::Files;
 use std::{fs, io};
 
-/// The answer to a line of a script, or why it can't be read.
-fn answer(alloc: Global, session: &mut Session, line: &str) -> Result<String, AppFault> {
-    let mut out = String::new(alloc);
-    match parse_line(alloc, line.as_bytes()) {
-        Ok(None) => {}
-        Ok(Some(command)) => session.answer(alloc, command, &mut out)?,
-        Err(refusal) => out = format!(in alloc; "{refusal}\n")?,
+/// What a script writes, and then the line of the fault that ended it.
+fn answers_of(alloc: Global, mode: Mode, script: &str) -> Result<Vec<u8>, AllocError> {
+    let mut input = script.as_bytes();
+    let mut written = Vec::new(alloc);
+    if let Err(fault) = drive(alloc, mode, &mut input, &mut written) {
+        let text = format!(in alloc; "{fault}\n")?;
+        written.extend_from_slice(text.as_bytes())?;
     }
-    Ok(out)
+    Ok(written)
 }
 
 /// Whether the example of this name writes its stored answers, and ends as it should.
 fn is_as_stored(rt: &(impl Files + AllocGlobal), name: &str) -> io::Result<bool> {
     let alloc = rt.alloc();
-    let script = fs::read(rt, format!(in alloc; "{name}.rsx")?)?;
+    let script = fs::read_to_string(rt, format!(in alloc; "{name}.rsx")?)?;
     let answers = fs::read(rt, format!(in alloc; "{name}.answers")?)?;
-    let mut written = Vec::new(alloc);
-    let mut input = script.as_slice();
-    let ended = drive(alloc, Mode::Run, &mut input, &mut written);
-    Ok(ended == Ok(()) && written.as_slice() == answers.as_slice())
+    let written = answers_of(alloc, Mode::Run, script.as_str())?;
+    Ok(written.as_slice() == answers.as_slice())
 }
 
-fn no_memory(_fault: AppFault) -> io::Error {
-    io::Error::from(io::ErrorKind::OutOfMemory)
+/// Writes a script with its answers.
+fn write_row(rt: &(impl Print + AllocGlobal), mode: Mode, script: &str) -> io::Result<()> {
+    if script.is_empty() {
+        return Ok(());
+    }
+    let answers = answers_of(rt.alloc(), mode, script)?;
+    let heading = match mode {
+        Mode::Run => "run\n",
+        Mode::Scratch => "scratch\n",
+    };
+    let mut out = io::writer(rt);
+    out.write_all(heading.as_bytes())?;
+    out.write_all(script.as_bytes())?;
+    out.write_all(b"answers\n")?;
+    out.write_all(&answers)
 }
 
 fn main(rt: HostRuntime) -> io::Result<()> {
-    let alloc = rt.alloc();
-    let mut session = Session::new(alloc, Mode::Run).map_err(no_memory)?;
-    for line in rt.lines(alloc) {
+    let mut mode = Mode::Run;
+    let mut script = String::new(rt.alloc());
+    for line in rt.lines(rt.alloc()) {
         let line = line?;
-        println!(rt; "{line}")?;
-        if line.as_str() == "run" {
-            session = Session::new(alloc, Mode::Run).map_err(no_memory)?;
-        } else if line.as_str() == "scratch" {
-            session = Session::new(alloc, Mode::Scratch).map_err(no_memory)?;
+        let begun = match line.as_str() {
+            "run" => Some(Mode::Run),
+            "scratch" => Some(Mode::Scratch),
+            _ => None,
+        };
+        if let Some(begun) = begun {
+            write_row(&rt, mode, script.as_str())?;
+            mode = begun;
+            script.clear();
         } else if let Some(name) = line.strip_prefix("example ") {
-            let is_right = is_as_stored(&rt, name)?;
-            println!(rt; "{}", if is_right { "as stored" } else { "differs" })?;
+            let found = if is_as_stored(&rt, name)? {
+                "as stored"
+            } else {
+                "differs"
+            };
+            println!(rt; "{name}: {found}")?;
         } else {
-            let text = answer(alloc, &mut session, line.as_str()).map_err(no_memory)?;
-            print!(rt; "{text}")?;
+            script.push_str(line.as_str())?;
+            script.push('\n')?;
         }
     }
-    Ok(())
+    write_row(&rt, mode, script.as_str())
 }

@@ -2,8 +2,9 @@
 
 use clap::error::ErrorKind;
 use rsx_command_line::mode_of;
+use rsx_drive::{AppFault, drive};
 use rsx_script::LineRefusal;
-use rsx_session::{AppFault, Mode, drive};
+use rsx_session::Mode;
 use std::alloc::Global;
 use std::io;
 use std::io::{Read, Write};
@@ -234,7 +235,7 @@ fn answers_do_not_gather(rt: HostRuntime) -> Result<(), Fail> {
     let ended = drive(rt.alloc(), Mode::Run, &mut reader, &mut writer);
     assert_eq!(rt; ended, Ok(()));
     assert_eq!(rt; writer.taken.len(), 6 + 50 * 35_025);
-    assert_eq!(rt; writer.most, 2 * 35_025);
+    assert_eq!(rt; writer.most, 6 + 2 * 35_025);
     Ok(())
 }
 

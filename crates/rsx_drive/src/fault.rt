@@ -44,3 +44,9 @@ impl From<AllocError> for AppFault {
         AppFault::Memory
     }
 }
+
+impl From<NoMemory> for AppFault {
+    fn from(_e: NoMemory) -> AppFault {
+        AppFault::Memory
+    }
+}
