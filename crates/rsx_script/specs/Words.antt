@@ -1,5 +1,5 @@
 -- The words of a line, as its bytes.
-use Rattle.std.specs.Prelude.{◌≡◌, ℕ, ◌-◌, Bool, true, false, ◌||◌, ◌==◌, not, List, [], ◌∷◌, length, drop, is_some, Option, None, Result, Ok, Err}
+use Rattle.std.specs.Prelude.{◌≡◌, ℕ, ◌-◌, Bool, true, ◌||◌, ◌==◌, not, List, [], ◌∷◌, length, drop, is_some, None}
 use Rattle.std.specs.List.{before_first, position, position_or_len}
 use Rattle.std.specs.Char.{is_ascii_graphic}
 use Rattle.rsx_script.specs.declared.words.Word.{Word}
