@@ -37,17 +37,20 @@ answers() {
     ends_with "$status" "$2" <"$1" && diff "$room/written" "$3" && diff "$room/said" "$fault"
 }
 
-# Whether the program ends for want of memory where it may have 64 MiB, and has written what it had answered by then.
+# Whether the program ends for want of memory where it may have 32 MiB, and has written what it had answered by then.
 ends_without_memory() (
-    ulimit -v 65536
-    printf 'subscribe (range 1 1000000)\nrequest 0 1000000\npump 4294967295\n' >"$room/large"
-    ends_with 4 run <"$room/large" && diff "$room/written" <(printf 'sub 0\nok\n') &&
+    ulimit -v 32768
+    printf 'subscribe (range 1 1000000)\nsubscribe (range 1 1000000)\n' >"$room/large"
+    printf 'request 0 1000000\nrequest 1 1000000\npump 4294967295\n' >>"$room/large"
+    ends_with 4 run <"$room/large" && diff "$room/written" <(printf 'sub 0\nsub 1\nok\nok\n') &&
         diff "$room/said" <(echo 'rsx: out of memory')
 )
 
 # Proves and builds the program where that is needed, so that what follows only runs it.
 "$rsx" run </dev/null || exit
 
+expect 'the copies that the gate compares' \
+    diff -r -x README.md -x check.sh -x jvm "$here" "$here/../crates/script_rows/data"
 for script in "$here"/*.rsx; do
     name=$(basename "$script" .rsx)
     expect "$name" answers "$script" run "${script%.rsx}.answers"

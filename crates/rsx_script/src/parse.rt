@@ -1,6 +1,6 @@
 //! Reads a line: its command, with numbers, names and expressions.
 
-ghost use Rattle.std.specs.Prelude.{◌≤◌, length};
+ghost use Rattle.std.specs.Prelude.{◌≡◌, ◌<◌, ◌≤◌, length};
 
 use crate::command::Command;
 use crate::words::{LineRefusal, Word, Words, number_of};
@@ -18,7 +18,9 @@ pub const MOST_BYTES: usize = 4096;
 ///
 /// `TooLong` before all others; else at the first wrong word `UnknownName` where a name is wanted and any other word
 /// than a parenthesis stands, and `Syntax` elsewhere; `NoMemory` where a growth was refused.
-pub fn parse_line(alloc: Global, line: &[u8]) -> Result<Option<Command>, LineRefusal> {
+pub fn parse_line(alloc: Global, line: &[u8]) -> Result<Option<Command>, LineRefusal>
+    ensures { 4096 < length line.now → result ≡ Err LineRefusal.TooLong }
+{
     if line.len() > MOST_BYTES {
         return Err(LineRefusal::TooLong);
     }

@@ -1,6 +1,6 @@
 //! A graph with what each of its subscribers received: the state of a run.
 
-ghost use Rattle.std.specs.Prelude.{◌≡◌, ◌≤◌, true, length};
+ghost use Rattle.std.specs.Prelude.{◌≡◌, ◌≤◌, ◌++◌, ℕ, List, true, length, string_bytes, OnErr, OnOk};
 
 use rsx_demo::{Demo, Val, is_same_val};
 use rsx_graph::{Deliveries, Graph, Pumped, Refusal};
@@ -111,7 +111,10 @@ impl Session {
         alloc: Global,
         command: Command,
         out: &mut String,
-    ) -> Result<(), NoMemory> {
+    ) -> Result<(), NoMemory>
+        ensures same { OnErr result (string_bytes out.new ≡ string_bytes out.old) }
+        ensures grows { OnOk result ((text : List ℕ) × (string_bytes out.new ≡ string_bytes out.old ++ text)) }
+    {
         let answer = match self.run(alloc, command) {
             Ok(answer) => answer,
             Err(Trouble::Refused(name)) => Answer::Refused(name),

@@ -1,5 +1,5 @@
 #![tactic(auto)]
-//! Runs the worked rows of the script language. What it writes is stored beside it, and is their table.
+//! Runs scripts and writes their answers. What it writes is stored beside it, and is a table of the script language.
 //!
 //! A line `run` or `scratch` begins a script for the mode of that name, which goes on up to the next such line. The
 //! script is written, then a line `answers`, its answers, and the line of the fault that ended it. A line
@@ -23,13 +23,16 @@ fn answers_of(alloc: Global, mode: Mode, script: &str) -> Result<Vec<u8>, AllocE
     Ok(written)
 }
 
-/// Whether the example of this name writes its stored answers, and ends as it should.
+/// Whether the example of this name writes its stored answers, and then the stored line of its fault, where it has one.
 fn is_as_stored(rt: &(impl Files + AllocGlobal), name: &str) -> io::Result<bool> {
     let alloc = rt.alloc();
     let script = fs::read_to_string(rt, format!(in alloc; "{name}.rsx")?)?;
-    let answers = fs::read(rt, format!(in alloc; "{name}.answers")?)?;
+    let mut stored = fs::read(rt, format!(in alloc; "{name}.answers")?)?;
+    if let Ok(fault) = fs::read(rt, format!(in alloc; "{name}.fault")?) {
+        stored.extend_from_slice(&fault)?;
+    }
     let written = answers_of(alloc, Mode::Run, script.as_str())?;
-    Ok(written.as_slice() == answers.as_slice())
+    Ok(written.as_slice() == stored.as_slice())
 }
 
 /// Writes a script with its answers.
