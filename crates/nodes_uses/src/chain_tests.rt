@@ -16,22 +16,15 @@ fn give(
     received: &mut Received,
     signal: Signal<i64>,
 ) -> Result<(), NoMemory> {
-    let mut out = OutSlot::new();
-    let mut taken = chain.react(alloc, &SCARCE, signal, &mut out);
-    for _ in 0..2 {
-        if let Err(back) = taken {
-            taken = chain.react(alloc, &PLENTY, back, &mut out);
+    let mut signal = signal;
+    for ops in [SCARCE, PLENTY, PLENTY] {
+        let mut out = OutSlot::new();
+        match chain.react(alloc, &ops, signal, &mut out) {
+            Ok(()) => return received.note_both(out),
+            Err(back) => signal = back,
         }
     }
-    if taken.is_err() {
-        return Err(NoMemory);
-    }
-    for _ in 0..2 {
-        if let Some(signal) = out.pop() {
-            received.note(signal)?;
-        }
-    }
-    Ok(())
+    Err(NoMemory)
 }
 
 /// All that comes out of a chain where these items come in, and then the ending, as long as the chain goes on.

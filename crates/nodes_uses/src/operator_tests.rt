@@ -12,13 +12,10 @@ use std::test::Fail;
 
 /// The node takes a signal, first without memory and then with it. Where it found none, the signal came back.
 fn give(alloc: Global, node: &mut PlainNode<i64>, signal: Signal<i64>) -> Result<(), NoMemory> {
-    let mut back = match node.on_signal(alloc, &SCARCE, 0, signal) {
-        Err(NotTaken::NoMemory(back)) => back,
-        _ => return Ok(()),
-    };
-    for _ in 0..2 {
-        match node.on_signal(alloc, &PLENTY, 0, back) {
-            Err(NotTaken::NoMemory(again)) => back = again,
+    let mut signal = signal;
+    for ops in [SCARCE, PLENTY, PLENTY] {
+        match node.on_signal(alloc, &ops, 0, signal) {
+            Err(NotTaken::NoMemory(back)) => signal = back,
             _ => return Ok(()),
         }
     }

@@ -1,7 +1,7 @@
 //! What came out, in its order.
 
 use crate::numbers::PLENTY;
-use rsx_sources::Machine;
+use rsx_sources::{Machine, OutSlot};
 use rsx_types::{Ending, NoMemory, Signal};
 use std::alloc::Global;
 
@@ -25,6 +25,17 @@ impl Received {
             }
             Signal::Complete => self.ending = Ending::Done,
             Signal::Error(cause) => self.ending = Ending::Failed(cause),
+        }
+        Ok(())
+    }
+
+    /// Puts the signals of a slot behind the others.
+    pub(crate) fn note_both(&mut self, slot: OutSlot<i64>) -> Result<(), NoMemory> {
+        let mut slot = slot;
+        for _ in 0..2 {
+            if let Some(signal) = slot.pop() {
+                self.note(signal)?;
+            }
         }
         Ok(())
     }
