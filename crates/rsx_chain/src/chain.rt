@@ -4,10 +4,10 @@ ghost use Rattle.std.specs.Prelude.{◌≡◌, true, [], IfOk, IfErr, OnOk, OnEr
 ghost use Rattle.rsx_types.specs.Meaning.{Meaning};
 ghost use Rattle.rsx_types.specs.Plain.{plain, chained};
 ghost use Rattle.rsx_types.specs.Stream.{Stream};
-ghost use Rattle.rsx_plain.specs.Moves.{Moves, EndsLast, is_ending, has_ending};
+ghost use Rattle.rsx_plain.specs.Moves.{Moves, EndsLast, is_ending, has_ending, has_ended};
 ghost use Rattle.rsx_plain.specs.State.{plain_from, plain_start, is_over};
 ghost use Rattle.rsx_chain.specs.Chain.{chain_from, chain_over};
-ghost use Rattle.rsx_chain.specs.Portions.{portion_then, followed_by, has_ended};
+ghost use Rattle.rsx_chain.specs.Portions.{portion_then, followed_by};
 
 use crate::attempt::{commit, roll_back, try_take};
 use crate::portion::Portion;
@@ -42,9 +42,9 @@ impl<T: Drop> ChainState<T> {
     ghost use Rattle.rsx_types.specs.Meaning.{Meaning};
     ghost use Rattle.rsx_types.specs.Plain.{chained};
     ghost use Rattle.rsx_types.specs.Stream.{Stream};
-    ghost use Rattle.rsx_plain.specs.Moves.{Moves, EndsLast, is_ending, has_ending};
+    ghost use Rattle.rsx_plain.specs.Moves.{Moves, EndsLast, is_ending, has_ending, has_ended};
     ghost use Rattle.rsx_chain.specs.Chain.{chain_from, chain_over};
-    ghost use Rattle.rsx_chain.specs.Portions.{portion_then, followed_by, has_ended};
+    ghost use Rattle.rsx_chain.specs.Portions.{portion_then, followed_by};
 
     /// The chain of these operators, the first one innermost, before it has taken anything, with what comes out of it at the
     /// start: the seed of each `scan` goes through the operators behind it, and `take 0` completes at once. Where the chain is
@@ -157,8 +157,7 @@ impl<T: Drop> ChainState<T> {
     {
         match self {
             ChainState::End => false,
-            ChainState::Stage(PlainState::Take { count: _, left: 0 }, _) => true,
-            ChainState::Stage(_, behind) => behind.is_over(),
+            ChainState::Stage(state, behind) => state.is_over() || behind.is_over(),
         }
     }
 
