@@ -1,8 +1,7 @@
 -- How each move keeps what a part stands for.
-use Rattle.std.proofs.Common.{◌≡◌, ◌⊎◌, inl, inr, ℕ, zero, suc, ◌+◌, ◌-◌, ◌<◌, ◌≤◌, min, Bool, true, false, ◌&&◌, nat_eq, nat_lt, if◌then◌else◌, List, [], ◌∷◌, ◌++◌, length, length-append, take, map, option_map, Option, Some, None, Result, Ok, Err, refl, ap, sym, ◌∙◌, subst, arith, append_assoc, add-zero}
+use Rattle.std.proofs.Common.{◌≡◌, ◌⊎◌, inl, inr, ℕ, zero, suc, ◌+◌, ◌-◌, ◌<◌, ◌≤◌, min, Bool, true, false, ◌&&◌, nat_eq, nat_lt, if◌then◌else◌, List, [], ◌∷◌, ◌++◌, length, length-append, take, map, option_map, Option, Some, None, Ok, refl, ap, sym, ◌∙◌, subst, arith, append_assoc, add-zero}
 use Rattle.std.proofs.lemmas.Bool.Decides.{nat_tests}
 use Rattle.std.proofs.lemmas.List.{append-nil, take_all}
-use Rattle.rsx_demand.specs.Demand.{saturating_total}
 use Rattle.rsx_model.specs.declared.expr.Expr.{Expr}
 use Rattle.rsx_types.specs.Meaning.{Meaning}
 use Rattle.rsx_types.specs.Notes.{unchosen, notes_then}
@@ -17,23 +16,23 @@ use Rattle.rsx_types.specs.declared.signal.Signal.{Signal}
 use Rattle.rsx_types.specs.declared.signal.Signal.TheVariants.{Next, Complete, Error}
 use Rattle.rsx_sources.specs.Machine.{front_of}
 use Rattle.rsx_sources.specs.declared.machine.Front.{Front}
-use Rattle.rsx_pipe.specs.Balance.{IsBalanced, IsBalancedAfter, IsWithin}
-use Rattle.rsx_pipe.specs.Built.{IsBuilt, fresh_edge, fresh_edges}
-use Rattle.rsx_pipe.specs.Driven.{IsDriven}
-use Rattle.rsx_pipe.specs.Edges.{edge_view, EdgeView, passed, is_live, closed_view, closed_state, can_pass}
-use Rattle.rsx_pipe.specs.Output.{items_in, IsUnended, IsOrderly, values_then}
-use Rattle.rsx_pipe.specs.Part.{PartStands, IsPutOut, IsRootSent, IsMade, IsMoved, IsMovedBy, IsPumped, IsQuiet, IsAwake, IsDelivered, IsServed, IsSpent, HasEnded, IsAsk, IsSend, IsEffect, GoesOut, all_edges, ask_enabled, send_enabled, move_enabled, has_room, evaluated}
-use Rattle.rsx_pipe.specs.Tree.{comes_out, notes_of, offers, edges, can_ask, can_send, can_go, want_at, front_at, ended_at, IsAllClosed, IsKept, IsLetGo, IsAdvanced, IsAskedAt, IsSentAt, IsIdle, IsBusy}
-use Rattle.rsx_pipe.specs.declared.edge.Edge.{Edge}
-use Rattle.rsx_pipe.specs.declared.edge.EdgeState.{EdgeState}
-use Rattle.rsx_pipe.specs.declared.edge.EdgeState.TheVariants.{Live, Closed, Ended}
-use Rattle.rsx_pipe.specs.declared.node.Node.{Node}
+use Rattle.rsx_tree.specs.Balance.{IsBalanced, IsBalancedAfter, IsWithin}
+use Rattle.rsx_tree.specs.Built.{IsBuilt}
+use Rattle.rsx_tree.specs.Driven.{IsDriven}
+use Rattle.rsx_edge.specs.Edges.{edge_view, EdgeView, passed, is_live, closed_view, closed_state}
+use Rattle.rsx_pipe.specs.Output.{items_in, IsUnended, values_then}
+use Rattle.rsx_pipe.specs.Part.{PartStands, IsPutOut, IsRootSent, IsMade, IsMoved, IsMovedBy, IsPumped, IsQuiet, IsAwake, IsDelivered, IsServed, IsSpent, HasEnded, IsAsk, IsSend, IsEffect, GoesOut, send_enabled, move_enabled, has_room, evaluated}
+use Rattle.rsx_tree.specs.Tree.{comes_out, notes_of, offers, edges, can_ask, can_send, can_go, want_at, front_at, ended_at, IsAllClosed, IsKept, IsAdvanced, IsAskedAt, IsSentAt, IsIdle, IsBusy}
+use Rattle.rsx_edge.specs.declared.edge.Edge.{Edge}
+use Rattle.rsx_edge.specs.declared.edge.EdgeState.{EdgeState}
+use Rattle.rsx_edge.specs.declared.edge.EdgeState.TheVariants.{Live, Closed, Ended}
+use Rattle.rsx_tree.specs.declared.node.Node.{Node}
 use Rattle.rsx_pipe.specs.declared.part.Part.{Part}
 use Rattle.rsx_pipe.specs.declared.part.Pumped.{Pumped}
 use Rattle.rsx_pipe.specs.declared.part.Pumped.TheVariants.{Idle, Budget}
-use Rattle.rsx_pipe.proofs.Balances.{offers_more, can_pass_live, above_zero, suc_minus}
+use Rattle.rsx_tree.proofs.Balances.{offers_more, can_pass_live, above_zero, suc_minus}
 use Rattle.rsx_pipe.proofs.Signals.{IsOrderly-more, IsUnended-more, IsUnended-last, items_in-append, map_then-last, prefix_of_orderly, cut_value}
-use Rattle.rsx_pipe.proofs.Trees.{pass_live, front_there, above_root, sent_all, asked_all, at_zero, advanced_not_closed, ask_not_closed, send_not_closed, go_live, and_right, notes_then-unchosen, notes_then-unrecorded, unchosen_notes}
+use Rattle.rsx_tree.proofs.Trees.{pass_live, front_there, above_root, sent_all, asked_all, at_zero, advanced_not_closed, ask_not_closed, send_not_closed, go_live, and_right, notes_then-unchosen, notes_then-unrecorded, unchosen_notes}
 
 -- ---- what goes out
 

@@ -1,5 +1,5 @@
 -- A part: a tree with the edge from its root. What it stands for, which of its moves are enabled, and what they change.
-use Rattle.std.specs.Prelude.{◌≡◌, ◌⊎◌, ℕ, zero, suc, ◌+◌, ◌-◌, ◌<◌, ◌≤◌, min, Bool, true, false, ◌&&◌, nat_lt, nat_eq, if◌then◌else◌, List, [], ◌∷◌, ◌++◌, length, take, Option, Some, None, option_map, Result, Ok, Err}
+use Rattle.std.specs.Prelude.{◌≡◌, ℕ, zero, suc, ◌+◌, ◌-◌, ◌<◌, ◌≤◌, min, Bool, true, false, ◌&&◌, nat_lt, nat_eq, if◌then◌else◌, List, [], ◌∷◌, ◌++◌, length, take, Option, Some, option_map, Result, Ok, Err}
 use Rattle.rsx_model.specs.Eval.{environment, eval}
 use Rattle.rsx_model.specs.declared.expr.Expr.{Expr}
 use Rattle.rsx_types.specs.Meaning.{Meaning, Allocates}
@@ -13,11 +13,11 @@ use Rattle.rsx_types.specs.declared.signal.Ending.TheVariants.{Open}
 use Rattle.rsx_types.specs.declared.signal.Signal.{Signal}
 use Rattle.rsx_sources.specs.Machine.{front_of}
 use Rattle.rsx_sources.specs.declared.machine.Front.{Front}
-use Rattle.rsx_pipe.specs.Balance.{IsBalanced, IsWithin}
-use Rattle.rsx_pipe.specs.Edges.{edge_view, EdgeView, can_pass, IsPassed, changed_at, carried_at, asked_up_to}
+use Rattle.rsx_tree.specs.Balance.{IsBalanced, IsWithin}
+use Rattle.rsx_edge.specs.Edges.{edge_view, EdgeView, can_pass, IsPassed, changed_at, carried_at, asked_up_to}
 use Rattle.rsx_pipe.specs.Output.{items_in, IsUnended, IsOrderly, values_then}
-use Rattle.rsx_pipe.specs.Tree.{comes_out, notes_of, offers, can_ask, can_send, can_go, IsAllClosed, IsLetGo, edges, want_at, front_at, ended_at, pop_allocates, send_allocates}
-use Rattle.rsx_pipe.specs.declared.edge.EdgeState.TheVariants.{Live, Closed, Ended}
+use Rattle.rsx_tree.specs.Tree.{comes_out, notes_of, offers, can_ask, can_send, can_go, IsAllClosed, IsLetGo, edges, want_at, front_at, ended_at, pop_allocates, send_allocates}
+use Rattle.rsx_edge.specs.declared.edge.EdgeState.TheVariants.{Live, Closed, Ended}
 use Rattle.rsx_pipe.specs.declared.part.Part.{Part}
 use Rattle.rsx_pipe.specs.declared.part.Pumped.{Pumped}
 use Rattle.rsx_pipe.specs.declared.part.Pumped.TheVariants.{Idle, Budget}

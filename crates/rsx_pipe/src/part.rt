@@ -2,12 +2,12 @@
 
 ghost use Rattle.std.specs.Prelude.{◌≡◌, IfSome, true};
 
-use crate::build::build;
-use crate::edge::{Edge, EdgeState};
-use crate::node::Node;
-use crate::queue::{CAPACITY, SignalQueue};
+use rsx_edge::{Edge, EdgeState};
 use rsx_model::Expr;
+use rsx_queue::{CAPACITY, SignalQueue};
 use rsx_sources::NotMade;
+use rsx_tree::Node;
+use rsx_tree::build::build;
 use rsx_types::{Move, NoMemory, NodeId, Note, Ops, StreamValue, Tree};
 use std::alloc::Global;
 
@@ -41,10 +41,10 @@ impl<T: Drop> Part<T> {
     ghost use Rattle.rsx_types.specs.Notes.{unchosen};
     ghost use Rattle.rsx_types.specs.Stream.{Stream};
     ghost use Rattle.rsx_sources.specs.Steps.{IsNotMade};
-    ghost use Rattle.rsx_pipe.specs.Built.{fresh_edge, fresh_edges};
-    ghost use Rattle.rsx_pipe.specs.Edges.{closed_view, edge_view};
-    ghost use Rattle.rsx_pipe.specs.Tree.{comes_out, notes_of, can_send, pop_allocates, send_allocates, IsAllClosed};
-    ghost use Rattle.rsx_pipe.specs.Driven.{Spent};
+    ghost use Rattle.rsx_tree.specs.Built.{fresh_edge, fresh_edges};
+    ghost use Rattle.rsx_edge.specs.Edges.{closed_view, edge_view};
+    ghost use Rattle.rsx_tree.specs.Tree.{comes_out, notes_of, can_send, pop_allocates, send_allocates, IsAllClosed};
+    ghost use Rattle.rsx_tree.specs.Driven.{Spent};
     ghost use Rattle.rsx_pipe.specs.Part.{PartStands, IsPutOut, IsMade, IsPumped, IsQuiet, IsAwake, IsSpent, IsRootSent, HasEnded, IsDelivered, make_allocates, number_of, all_edges, move_enabled, tree_of, ask_enabled, send_enabled, IsAsk, IsSend};
 
     /// The part of an expression that `check_expr` accepts, before anything was asked of it.

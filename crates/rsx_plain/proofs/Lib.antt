@@ -1,4 +1,5 @@
 pub mod Counts
+pub mod Drained
 pub mod Residuals
 pub mod Endings
 pub mod Taken

@@ -171,7 +171,11 @@ impl<T: Drop> Machine for PlainNode<T> {
         }
     }
 
-    fn on_ask(&mut self, asked: u64) {}
+    fn on_ask(&mut self, asked: u64)
+        ensures { self.new ≡ self.old }
+    {
+        // An operator goes by what came in, not by what is asked of it.
+    }
 
     fn on_pick<O: Ops<Item = T>>(
         &mut self,

@@ -2,10 +2,10 @@
 use Rattle.std.proofs.Common.{◌≡◌, List, [], ◌∷◌, true, sym, ap, ◌∙◌}
 use Rattle.rsx_demand.specs.declared.Demand.{Demand}
 use Rattle.rsx_model.specs.declared.expr.Expr.{Expr}
-use Rattle.rsx_pipe.specs.Built.{fresh_edge, fresh_edges}
-use Rattle.rsx_pipe.specs.Edges.{edge_view, EdgeView}
+use Rattle.rsx_tree.specs.Built.{fresh_edge, fresh_edges}
+use Rattle.rsx_edge.specs.Edges.{edge_view, EdgeView}
 use Rattle.rsx_pipe.specs.Part.{PartStands, all_edges}
-use Rattle.rsx_pipe.specs.declared.edge.EdgeState.TheVariants.{Live, Closed}
+use Rattle.rsx_edge.specs.declared.edge.EdgeState.TheVariants.{Live, Closed}
 use Rattle.rsx_subscriber.proofs.Moves.{live_test}
 use Rattle.rsx_subscriber.specs.Begun.{IsFresh}
 use Rattle.rsx_subscriber.specs.Past.{subscribed, IsLive}

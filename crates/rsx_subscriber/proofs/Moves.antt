@@ -16,8 +16,8 @@ use Rattle.rsx_types.specs.declared.signal.Signal.{Signal}
 use Rattle.rsx_types.specs.declared.signal.Signal.TheVariants.{Next, Complete, Error}
 use Rattle.rsx_pipe.specs.Part.{PartStands, IsPutOut}
 use Rattle.rsx_pipe.specs.Part as Part
-use Rattle.rsx_pipe.specs.Tree.{IsAllClosed}
-use Rattle.rsx_pipe.specs.declared.edge.EdgeState.TheVariants.{Live, Closed}
+use Rattle.rsx_tree.specs.Tree.{IsAllClosed}
+use Rattle.rsx_edge.specs.declared.edge.EdgeState.TheVariants.{Live, Closed}
 use Rattle.rsx_pipe.specs.declared.part.Part.{Part as AnyPart}
 use Rattle.rsx_pipe.specs.declared.part.Pumped.{Pumped as Rest}
 use Rattle.rsx_pipe.specs.declared.part.Pumped.TheVariants.{Idle as Rests, Budget as Wakes}

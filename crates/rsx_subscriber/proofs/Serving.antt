@@ -6,9 +6,9 @@ use Rattle.rsx_types.specs.Stream.{Stream}
 use Rattle.rsx_types.specs.declared.names.Move.{Move}
 use Rattle.rsx_types.specs.declared.names.Move.TheVariants.{Ask, Send, Take}
 use Rattle.rsx_types.specs.declared.signal.Signal.{Signal}
-use Rattle.rsx_pipe.specs.Balance.{IsWithin}
+use Rattle.rsx_tree.specs.Balance.{IsWithin}
 use Rattle.rsx_pipe.specs.Part as Part
-use Rattle.rsx_pipe.specs.Tree.{notes_of}
+use Rattle.rsx_tree.specs.Tree.{notes_of}
 use Rattle.rsx_pipe.proofs.Parts.{delivered}
 use Rattle.rsx_subscriber.specs.declared.state.SubscriptionState.{SubscriptionState}
 use Rattle.rsx_subscriber.specs.declared.state.SubscriptionState.TheVariants.{Open, Ended, Cancelled, Refused}

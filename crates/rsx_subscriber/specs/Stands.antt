@@ -12,8 +12,8 @@ use Rattle.rsx_types.specs.declared.signal.Signal.{Signal}
 pub use Rattle.rsx_pipe.specs.Output.{values_then}
 use Rattle.rsx_pipe.specs.Part.{PartStands}
 use Rattle.rsx_pipe.specs.Part as Part
-use Rattle.rsx_pipe.specs.Tree.{comes_out, notes_of, IsAllClosed}
-use Rattle.rsx_pipe.specs.declared.edge.EdgeState.TheVariants.{Live, Closed}
+use Rattle.rsx_tree.specs.Tree.{comes_out, notes_of, IsAllClosed}
+use Rattle.rsx_edge.specs.declared.edge.EdgeState.TheVariants.{Live, Closed}
 use Rattle.rsx_subscriber.specs.declared.state.SubscriptionState.{SubscriptionState}
 use Rattle.rsx_subscriber.specs.declared.state.SubscriptionState.TheVariants.{Open, Ended, Cancelled, Refused}
 use Rattle.rsx_subscriber.specs.declared.subscription.Subscription.{Subscription}

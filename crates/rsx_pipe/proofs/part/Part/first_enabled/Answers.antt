@@ -1,4 +1,4 @@
-use Rattle.std.proofs.Common.{sym, ◌∙◌}
+use Rattle.std.proofs.Common.{sym}
 use Rattle.rsx_pipe.proofs.Looks.{first_some, first_none}
 use Rattle.rsx_pipe.proofs.part.Part.first_enabled.Goals as goal
 

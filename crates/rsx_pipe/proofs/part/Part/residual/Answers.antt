@@ -1,8 +1,8 @@
-use Rattle.std.proofs.Common.{map, ap}
+use Rattle.std.proofs.Common.{map}
 use Rattle.std.proofs.lemmas.Result.{IfOk-weaker}
 use Rattle.rsx_types.specs.Notes.{unchosen}
-use Rattle.rsx_pipe.specs.Tree.{notes_of}
-use Rattle.rsx_pipe.proofs.Trees.{unchosen_tree}
+use Rattle.rsx_tree.specs.Tree.{notes_of}
+use Rattle.rsx_tree.proofs.Trees.{unchosen_tree}
 use Rattle.rsx_pipe.proofs.part.Part.residual.Goals as goal
 
 pub returns : goal.returns

@@ -1,5 +1,4 @@
-use Rattle.std.proofs.Common.{refl, arith, subst, sym, ap, ◌≡◌, ◌+◌, ◌-◌, ◌<◌}
-use Rattle.rsx_types.specs.declared.signal.Signal.{Signal}
+use Rattle.std.proofs.Common.{arith, ◌≡◌, ◌+◌, ◌-◌}
 use Rattle.rsx_pipe.proofs.Parts.{pumped_root, pumped_driven}
 use Rattle.rsx_pipe.proofs.part.Part.round.Goals as goal
 

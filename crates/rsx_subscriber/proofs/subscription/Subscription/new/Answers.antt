@@ -1,5 +1,5 @@
 use Rattle.std.proofs.Common.{refl}
-use Rattle.rsx_pipe.specs.Built.{fresh_edges}
+use Rattle.rsx_tree.specs.Built.{fresh_edges}
 use Rattle.rsx_subscriber.proofs.Begun.{begun, fresh_sub, stands_fresh}
 use Rattle.rsx_subscriber.proofs.subscription.Subscription.new.Goals as goal
 
