@@ -1,4 +1,5 @@
 use Rattle.std.proofs.Common.{refl, sym}
+use Rattle.std.proofs.lemmas.List.{length-set}
 use Rattle.rsx_types.specs.declared.fault.NoMemory.{NoMemory}
 use Rattle.rsx_graph.proofs.Graphs.{pumped_there, rested_there}
 use Rattle.rsx_graph.proofs.graph.Graph.pump_one.Goals as goal
@@ -17,3 +18,9 @@ returns-in-Err-clause-pumped g c =
     let m = g.O.Ops.meaning c.args.self.now.ops in
     let p = c.in-Err.ensures.pumped in
     (p.0, (p.1, refl), pumped_there m c.args.sub p.0 c.args.self.now.subscriptions.items c.index_mut-subscription.result.now c.pump.new.self c.args.out.now.signals c.pump.new.out.signals c.requires (sym c.index_mut-subscription.ensures.value) p.2)
+
+pub returns-in-Ok-clause-count : goal.returns-in-Ok-clause-count
+returns-in-Ok-clause-count g c = length-set c.args.self.now.subscriptions.items c.args.sub.0 c.pump.new.self
+
+pub returns-in-Err-clause-count : goal.returns-in-Err-clause-count
+returns-in-Err-clause-count g c = length-set c.args.self.now.subscriptions.items c.args.sub.0 c.pump.new.self
