@@ -5,8 +5,8 @@
 //! script is written, then a line `answers`, its answers, and the line of the fault that ended it. A line
 //! `example NAME` compares what the example script of this name writes with its stored answers.
 
-use rsx_drive::{AppFault, drive};
-use rsx_session::Mode;
+use rsx_drive::drive;
+use rsx_script::{Mode, mode_named};
 use std::alloc::{AllocError, Global};
 use std::io::Write;
 use std::rt::Files;
@@ -57,12 +57,7 @@ fn main(rt: HostRuntime) -> io::Result<()> {
     let mut script = String::new(rt.alloc());
     for line in rt.lines(rt.alloc()) {
         let line = line?;
-        let begun = match line.as_str() {
-            "run" => Some(Mode::Run),
-            "scratch" => Some(Mode::Scratch),
-            _ => None,
-        };
-        if let Some(begun) = begun {
+        if let Some(begun) = mode_named(line.as_str()) {
             write_row(&rt, mode, script.as_str())?;
             mode = begun;
             script.clear();

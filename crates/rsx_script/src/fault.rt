@@ -1,6 +1,9 @@
 //! What ends a run before its input does.
 
-use rsx_script::LineRefusal;
+ghost use Rattle.std.specs.Prelude.{◌≡◌};
+ghost use Rattle.rsx_script.specs.Fault.{status_of};
+
+use crate::words::LineRefusal;
 use rsx_types::NoMemory;
 use std::alloc::{AllocError, Global};
 use thiserror::Error;
@@ -21,7 +24,9 @@ pub enum AppFault {
 
 impl AppFault {
     /// The exit status: 1 for a line, 3 for a read or a write, 4 for want of memory.
-    pub fn status(self) -> u8 {
+    pub fn status(self) -> u8
+        ensures { result ≡ status_of self }
+    {
         match self {
             AppFault::Line(_, _) => 1,
             AppFault::Io => 3,
