@@ -3,10 +3,10 @@
 ghost use Rattle.std.specs.Prelude.{◌≡◌, []};
 
 use crate::numbers::{PLENTY, SCARCE};
-use crate::received::{Received, signal_of, take_all};
+use crate::received::{Received, chooses_nothing, signal_of, take_all};
 use rsx_plain::{Operator, PlainNode, PlainState};
-use rsx_sources::{Front, Machine, NotMade, NotTaken, OutSlot};
-use rsx_types::{Cause, Ending, NoMemory, Note, Signal, Stage, StreamValue};
+use rsx_sources::{Front, Machine, NotTaken, OutSlot};
+use rsx_types::{Cause, Ending, NoMemory, Signal, Stage, StreamValue};
 use std::alloc::Global;
 use std::test::Fail;
 
@@ -224,15 +224,9 @@ fn a_filter_asks_again_and_chooses_nothing(rt: HostRuntime) -> Result<(), Fail> 
     let alloc = rt.alloc();
     let mut node = PlainNode::new(alloc, &PLENTY, &Stage::Filter(0))?;
     give(alloc, &mut node, Signal::Next(4))?;
-    node.on_ask(2);
-    assert_eq!(rt; node.want(0, 2, 0), 3);
+    assert!(rt; chooses_nothing(alloc, &mut node)?);
     assert!(rt; node.can_take(0));
-    assert_eq!(rt;
-        node.on_pick(alloc, &PLENTY, 0, 2, 0),
-        Err(NotMade::NotEnabled)
-    );
-    assert_eq!(rt; node.on_row(alloc, &PLENTY, 2, 0), Err(NotMade::NotEnabled));
-    assert!(rt; matches!(node.note(alloc)?, Note::Nothing));
+    assert_eq!(rt; node.want(0, 2, 0), 3);
     Ok(())
 }
 

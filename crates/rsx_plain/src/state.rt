@@ -1,9 +1,7 @@
 //! The states of the plain operators.
 
-ghost use Rattle.std.specs.Prelude.{◌≡◌, true, false, [], IfOk, IfErr, IsOk, OnOk, OnErr, IsTrue};
-ghost use Rattle.rsx_types.specs.Meaning.{Meaning};
-ghost use Rattle.rsx_types.specs.Stream.{Stream, items_then, ended_by};
-ghost use Rattle.rsx_types.specs.declared.signal.Ending.TheVariants.{Done};
+ghost use Rattle.std.specs.Prelude.{◌≡◌, true, false, [], IfOk, IfErr, IsOk, OnOk, OnErr};
+ghost use Rattle.rsx_types.specs.Stream.{items_then};
 ghost use Rattle.rsx_plain.specs.Moves.{Moves, EndsLast, has_ending};
 ghost use Rattle.rsx_plain.specs.State.{plain_from, plain_start, after_signal, is_over, allocates_from, wanted_from};
 
@@ -133,10 +131,29 @@ impl<T: Drop> PlainState<T> {
     /// Whether nothing more of the input matters: a `take` has let all its items through, and completes.
     #[inline]
     pub fn is_over(&self) -> bool
-        ensures over { result ≡ is_over self.now }
-        ensures done { IsTrue result → (m : Meaning T) (v : Stream T) → plain_from m self.now v ≡ ended_by Done }
+        ensures { result ≡ is_over self.now }
     {
-        matches!(self, PlainState::Take { count: _, left: 0 })
+        match self {
+            PlainState::Map { function: _ } => false,
+            PlainState::Filter {
+                function: _,
+                dropped: _,
+            } => false,
+            PlainState::Take { count: _, left } => *left == 0,
+            PlainState::Scan {
+                function: _,
+                last: _,
+            } => false,
+            PlainState::Buffer {
+                size: _,
+                started: _,
+            } => false,
+            PlainState::Distinct {
+                function: _,
+                keys: _,
+                repeated: _,
+            } => false,
+        }
     }
 }
 

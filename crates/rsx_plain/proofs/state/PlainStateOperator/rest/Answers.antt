@@ -9,7 +9,7 @@ loop-item-preserved g c = record {
 }
 
 pub returns-then-is_over : goal.returns-then-is_over
-returns-then-is_over g c = over_at_once (g.O.Ops.meaning c.args.ops.now) c.args.self.now _ c.args.out.items c.new.result (sym c.is_over.ensures.over ∙ c.if-is_over.true) c.new.ensures.items c.new.ensures.ending
+returns-then-is_over g c = over_at_once (g.O.Ops.meaning c.args.ops.now) c.args.self.now _ c.args.out.items c.new.result (sym c.is_over.ensures ∙ c.if-is_over.true) c.new.ensures.items c.new.ensures.ending
 
 pub returns-in_default : goal.returns-in_default
 returns-in_default g c = ends_at c.in_ok-last-in-Ok.last c.drain.new.out.items _ _ _ c.in_default.not-Open (takes_item (g.O.Ops.meaning c.args.ops.now) c.loop-item.state c.react.new.self c.item-item.result c.in_ok-copy.field-0 c.args.items.now c.loop-item.item-index c.args.ending c.in_ok-last-in-Ok.last c.react.new.out c.loop-item.out.items c.drain.new.out.items _ c.loop-item.invariant.whole c.item-item.is c.loop-item-test.true c.in_ok-copy.ensures.answer c.in-Ok.ensures.ok c.in_ok-last-in-Ok.ensures.moves) c.new-in_default.ensures.items c.new-in_default.ensures.ending
