@@ -1,12 +1,14 @@
 -- A subscription that has just begun stands for its past.
-use Rattle.std.proofs.Common.{◌≡◌, List, [], ◌∷◌, true, sym, ap, ◌∙◌}
+use Rattle.std.proofs.Common.{◌≡◌, List, [], ◌∷◌, length, true, None, sym, ap, ◌∙◌}
 use Rattle.rsx_demand.specs.declared.Demand.{Demand}
+use Rattle.rsx_model.specs.Check.{refusal}
 use Rattle.rsx_model.specs.declared.expr.Expr.{Expr}
 use Rattle.rsx_tree.specs.Built.{fresh_edge, fresh_edges}
-use Rattle.rsx_edge.specs.Edges.{edge_view, EdgeView}
+use Rattle.rsx_edge.specs.Edges.{edge_view}
 use Rattle.rsx_pipe.specs.Part.{PartStands, all_edges}
 use Rattle.rsx_edge.specs.declared.edge.EdgeState.TheVariants.{Live, Closed}
 use Rattle.rsx_subscriber.proofs.Moves.{live_test}
+use Rattle.rsx_subscriber.proofs.Values.{refusal_none, fresh_count, leaves_none}
 use Rattle.rsx_subscriber.specs.Begun.{IsFresh}
 use Rattle.rsx_subscriber.specs.Past.{subscribed, IsLive}
 use Rattle.rsx_subscriber.specs.Standing.{standing}
@@ -27,8 +29,8 @@ pub record IsBegun {T : Type 0} (sub : Subscription T) : Type 0 where
 pub begun : {T : Type 0} (sub : Subscription T) (d : Demand) → d.asked ≡ 0 → d.sent ≡ 0 → sub.state ≡ OpenState → sub.live ≡ true → sub.demand.asked ≡ d.asked → sub.demand.sent ≡ d.sent → IsBegun sub
 begun sub d a s o l r t = record { state = o; live = l; asked = r ∙ a; delivered = t ∙ s }
 
-pub stands_fresh : {T : Type 0} (m : Meaning T) (published : List (Stream T)) (e : Expr T) (sub : Subscription T) (es : List EdgeView) → PartStands m published sub.part e [] [] → all_edges sub.part ≡ fresh_edge ∷ es → sub.queue ≡ [] → IsBegun sub → Stands m published sub (subscribed e [])
-stands_fresh {T} m published e sub es b k q f =
+pub stands_fresh : {T : Type 0} (m : Meaning T) (published : List (Stream T)) (e : Expr T) (sub : Subscription T) → refusal 0 e ≡ None → PartStands m published sub.part e [] [] → all_edges sub.part ≡ fresh_edge ∷ fresh_edges e → sub.queue ≡ [] → IsBegun sub → Stands m published sub (subscribed e [])
+stands_fresh {T} m published e sub ok b k q f =
     let o : standing_of sub ≡ Open = ap (λ t. standing t sub.live) f.state in
     let live : IsLive (standing_of sub) = rw o tt in
     let root : edge_view sub.part.root ≡ fresh_edge = cc in
@@ -46,6 +48,9 @@ stands_fresh {T} m published e sub es b k q f =
       asked = ap (λ v. v.asked) root;
       requested = f.asked;
       delivered = f.delivered;
+      admitted = refusal_none 0 (length published) e ok;
+      shape = ap length k ∙ fresh_count e;
+      joined = sym (leaves_none e);
       closed = λ dead. absurd (dead live);
     }
   where

@@ -4,3 +4,4 @@ pub mod Moves
 pub mod Sentence
 pub mod Serving
 pub mod Standings
+pub mod Values

@@ -1,5 +1,5 @@
 -- How each edit and each move keeps what a subscription stands for.
-use Rattle.std.proofs.Common.{◌≡◌, ℕ, zero, suc, ◌+◌, ◌<◌, Bool, true, false, ◌&&◌, nat_eq, nat_lt, List, [], ◌∷◌, ◌++◌, length, refl, ap, sym, ◌∙◌, subst, arith, append_assoc, length-append, ◌⊎◌, inl, inr, ℤ, pos, negsuc, int_lt, unsigned_abs, slice_index_or, Option, Some, None, Ok}
+use Rattle.std.proofs.Common.{◌≡◌, ℕ, zero, suc, ◌+◌, ◌<◌, Bool, true, false, ◌&&◌, nat_eq, nat_lt, List, [], ◌∷◌, ◌++◌, length, map, refl, ap, sym, ◌∙◌, subst, arith, append_assoc, length-append, ◌⊎◌, inl, inr, ℤ, pos, negsuc, int_lt, unsigned_abs, slice_index_or, Option, Some, None, Ok}
 use mathlib.Core.HLevel.{⊥_prop, Π_prop}
 use Rattle.std.proofs.lemmas.Bool.Decides.{nat_tests}
 use Rattle.std.proofs.lemmas.List.{append-nil}
@@ -14,9 +14,10 @@ use Rattle.rsx_types.specs.declared.names.Tree.{Tree}
 use Rattle.rsx_types.specs.declared.names.Tree.TheVariants.{Sub}
 use Rattle.rsx_types.specs.declared.signal.Signal.{Signal}
 use Rattle.rsx_types.specs.declared.signal.Signal.TheVariants.{Next, Complete, Error}
-use Rattle.rsx_pipe.specs.Part.{PartStands, IsPutOut}
+use Rattle.rsx_edge.specs.Edges.{closed_view}
+use Rattle.rsx_pipe.specs.Part.{PartStands, IsPutOut, all_edges}
 use Rattle.rsx_pipe.specs.Part as Part
-use Rattle.rsx_tree.specs.Tree.{IsAllClosed}
+use Rattle.rsx_tree.specs.Tree.{IsAllClosed, edges}
 use Rattle.rsx_edge.specs.declared.edge.EdgeState.TheVariants.{Live, Closed}
 use Rattle.rsx_pipe.specs.declared.part.Part.{Part as AnyPart}
 use Rattle.rsx_pipe.specs.declared.part.Pumped.{Pumped as Rest}
@@ -26,6 +27,7 @@ use Rattle.rsx_pipe.proofs.Signals.{IsOrderly-more, IsUnended-more, IsUnended-la
 use Rattle.rsx_subscription.specs.Table.{answer, cell_of, state_after as next_state, asked_after, sent_after}
 use Rattle.rsx_subscription.specs.declared.State.TheVariants.{Fresh, Open as OpenState, Cancelled as CancelledState, Failed as FailedState}
 use Rattle.rsx_subscriber.specs.Standing.{standing, live_in, input_of, is_delivery, delivers}
+use Rattle.rsx_subscriber.proofs.Values.{closed_count, effect_count, moved_count}
 use Rattle.rsx_subscriber.proofs.Standings.{standing_open, open_standing, open_delivers, Delivers, Adds, signal_delivered, delivery_made}
 use Rattle.rsx_subscriber.specs.declared.subscription.Subscription.{Subscription}
 use Rattle.rsx_subscriber.specs.declared.state.SubscriptionState.{SubscriptionState}
@@ -72,6 +74,7 @@ pub record IsClosing {T : Type 0} (old new : Subscription T) : Type 0 where
   pub asked : new.part.root.demand.asked ≡ old.part.root.demand.asked
   pub tree : IsAllClosed new.part.tree
   pub put : (m : Meaning T) → IsPutOut m old.part [] new.part
+  pub edges : all_edges new.part ≡ map closed_view (all_edges old.part)
   pub requested : new.demand.asked ≡ old.demand.asked
   pub delivered : new.demand.sent ≡ old.demand.sent
 
@@ -101,6 +104,9 @@ stands_closed {T} m published old new past past' k gone dead s p h =
       asked = k.asked ∙ (h.asked ∙ sym p.asked);
       requested = k.requested ∙ (h.requested ∙ sym p.asked);
       delivered = k.delivered ∙ (h.delivered ∙ ap length (sym p.items));
+      admitted = rw p.expression h.admitted;
+      shape = rw p.expression (closed_count old.part new.part k.edges ∙ h.shape);
+      joined = rw (p.expression, p.joins) h.joined;
       closed = λ _. (k.tree, k.root, k.queue);
     }
 
@@ -135,6 +141,9 @@ stands_same m published old new past k h = record {
   asked = rw k.part h.asked;
   requested = rw k.requested h.requested;
   delivered = rw k.delivered h.delivered;
+  admitted = h.admitted;
+  shape = rw k.part h.shape;
+  joined = h.joined;
   closed = rw (k.state, k.live, k.part, k.queue) h.closed;
 }
 
@@ -199,6 +208,9 @@ stands_asked m published old new past n k h = record {
   asked = k.asked ∙ ap (λ a. saturating_total a n) h.asked;
   requested = k.requested ∙ ap (λ a. saturating_total a n) h.requested;
   delivered = k.delivered ∙ h.delivered;
+  admitted = h.admitted;
+  shape = ap (λ t. suc (length (edges t))) k.tree ∙ h.shape;
+  joined = h.joined;
   closed = rw (k.state, k.live, k.tree, k.edge, k.queue) h.closed;
 }
 
@@ -241,6 +253,7 @@ pub record IsWorking {T : Type 0} (m : Meaning T) (old new : Subscription T) : T
   pub asked : new.part.root.demand.asked ≡ old.part.root.demand.asked
   pub unclosed : (old.part.root.state ≡ Closed → ⊥) → new.part.root.state ≡ Closed → ⊥
   pub alive : IsAllClosed old.part.tree → (old.part.root.state ≡ Live → ⊥) → ⊥
+  pub count : length (all_edges new.part) ≡ length (all_edges old.part)
 
 pub stands_worked : {T : Type 0} (m : Meaning T) (published : List (Stream T)) (old new : Subscription T) (past : Past T) → IsWorking m old new → Stands m published old past → Stands m published new past
 stands_worked {T} m published old new past k h =
@@ -261,6 +274,9 @@ stands_worked {T} m published old new past k h =
       asked = k.asked ∙ h.asked;
       requested = ap (λ d. d.asked) k.kept.demand ∙ h.requested;
       delivered = ap (λ d. d.sent) k.kept.demand ∙ h.delivered;
+      admitted = h.admitted;
+      shape = k.count ∙ h.shape;
+      joined = h.joined;
       closed = λ dead. absurd (dead live');
     }
 
@@ -331,6 +347,9 @@ stands_taken {T} m published old new s past k h =
       asked = rw k.take.part h.asked;
       requested = k.take.requested ∙ (k.delivers.asked ∙ h.requested);
       delivered = k.take.delivered ∙ (k.delivers.sent ∙ (ap (λ n. n + length (items_in (s ∷ []))) h.delivered ∙ sym received_count));
+      admitted = h.admitted;
+      shape = rw k.take.part h.shape;
+      joined = h.joined;
       closed = λ dead. absurd (dead live');
     }
 
@@ -453,6 +472,7 @@ pumped_part {T} m id n sub w part' queue' o k = record {
           asked = k.asked;
           unclosed = k.unclosed;
           alive = moved_alive m sub.part k.moves.0 sub.queue k.moves.2 k.moves.1 k.moves.4;
+          count = moved_count m (suc n) sub.part part' sub.queue k.out queue' k.moves;
         }) h
 
 -- one Ask or Send
@@ -471,6 +491,7 @@ stands_made m move published old new past r can k h =
       asked = k.asked;
       unclosed = k.unclosed;
       alive = moved_alive m old.part new.part old.queue new.queue k.out (record { move = move; enabled = can; effect = k.effect; queued = k.queued });
+      count = effect_count m move old.part new.part k.out k.effect;
     }) h
 
 -- ---- where no move is enabled

@@ -2,18 +2,19 @@
 use Rattle.std.proofs.Common.{◌≡◌, List, [], ◌++◌, length, sym, ap, ◌∙◌, subst, arith, append_assoc, map, Option, Some, option_map}
 use Rattle.rsx_types.specs.Meaning.{Meaning}
 use Rattle.rsx_types.specs.Notes.{notes_then, unchosen}
-use Rattle.rsx_types.specs.Stream.{Stream, signals_then, ended_by}
+use Rattle.rsx_types.specs.Stream.{Stream, signals, signals_then, ended_by}
 use Rattle.rsx_types.specs.declared.note.Note.{Note}
 use Rattle.rsx_types.specs.declared.signal.Ending.{Ending}
 use Rattle.rsx_tree.specs.Tree.{comes_out, notes_of}
 use Rattle.rsx_pipe.proofs.Parts.{values_then-none}
 use Rattle.rsx_pipe.proofs.Signals.{map_then-append, prefix_of_orderly}
 use Rattle.rsx_tree.proofs.Trees.{notes_then-unchosen, unchosen_notes}
+use Rattle.rsx_subscriber.proofs.Values.{notes_count, signals_ended, value_there}
 use Rattle.rsx_subscriber.specs.Holds.{Holds}
 use Rattle.rsx_subscriber.specs.Past.{Past, IsLive, IsPrefixOf, items_in}
 use Rattle.rsx_subscriber.specs.Stands.{Stands, evaluated, owed_from, standing_of, values_then}
 use Rattle.rsx_subscriber.specs.declared.state.SubscriptionState.{SubscriptionState}
-use Rattle.rsx_subscriber.specs.declared.state.SubscriptionState.TheVariants.{Open}
+use Rattle.rsx_subscriber.specs.declared.state.SubscriptionState.TheVariants.{Open, Ended}
 use Rattle.rsx_subscriber.specs.declared.subscription.Subscription.{Subscription}
 
 -- what a live subscriber received, followed by what it is owed, is its expression's value
@@ -26,11 +27,27 @@ live_value {T} m published sub past h live more further len =
 prefix_on : {A : Type 0} (xs ys zs : List A) → IsPrefixOf xs ys → IsPrefixOf ys zs → IsPrefixOf xs zs
 prefix_on xs ys zs a b = (a.0 ++ b.0, sym (append_assoc xs a.0 b.0) ∙ (ap (λ l. l ++ b.0) a.1 ∙ b.1))
 
+-- the same where nothing more is published and nothing more is chosen
+owed_now : {T : Type 0} (m : Meaning T) (published : List (Stream T)) (sub : Subscription T) (past : Past T) → Stands m published sub past → IsLive (standing_of sub) →
+    option_map (signals_then past.received) (owed_from m published (map unchosen (notes_of sub.part.tree)) sub) ≡ evaluated m published past (notes_of sub.part.tree)
+owed_now {T} m published sub past h live =
+    let ns : List Note = notes_of sub.part.tree in
+    ap (λ p. option_map (signals_then past.received) (owed_from m p (map unchosen ns) sub)) (sym (values_then-none published))
+    ∙ (live_value m published sub past h live [] (map unchosen ns) (unchosen_notes ns)
+    ∙ (ap (λ p. evaluated m p past (notes_then ns (map unchosen ns))) (values_then-none published) ∙ ap (λ k. evaluated m published past k) (notes_then-unchosen ns)))
+
 pub holds : {T : Type 0} (m : Meaning T) (published : List (Stream T)) (sub : Subscription T) (past : Past T) → Stands m published sub past → Holds m published sub past
 holds {T} m published sub past h =
     let L : SubscriptionState → Type 0 = λ s. IsLive s in
+    let there = value_there m published sub.part past.expression past.joins h.output h.part in
     record {
       live = λ l. live_value m published sub past h (subst L (sym h.state) l);
+      value = signals_then h.output there.left;
+      scratch = (h.admitted, (notes_count sub.part.tree ∙ h.shape, h.joined), there.value);
+      owed = λ l. owed_now m published sub past h (subst L (sym h.state) l) ∙ there.value;
+      whole = λ e.
+          let ended : standing_of sub ≡ Ended = h.state ∙ e in
+          signals_ended past.received sub.queue there.left h.orderly (h.got ended) ∙ ap (λ o. signals (signals_then o there.left)) (h.held (rw ended tt));
       asked = omega (arith, h.delivered, h.requested, sub.demand.covered);
       ended = h.orderly;
       prefix = λ dead more further len v e.

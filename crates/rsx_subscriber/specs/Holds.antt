@@ -1,10 +1,12 @@
 -- What holds of each subscriber whose subscription stands for its past.
-use Rattle.std.specs.Prelude.{◌≡◌, ◌<◌, ◌≤◌, min, List, length, take, Some, option_map}
+use Rattle.std.specs.Prelude.{◌≡◌, ◌<◌, ◌≤◌, min, List, length, take, map, Some, Ok, option_map}
 use Rattle.rsx_types.specs.Meaning.{Meaning}
-use Rattle.rsx_types.specs.Notes.{notes_then}
-use Rattle.rsx_types.specs.Stream.{Stream, signals_then}
+use Rattle.rsx_types.specs.Notes.{notes_then, unchosen}
+use Rattle.rsx_types.specs.Stream.{Stream, signals, signals_then}
 use Rattle.rsx_types.specs.declared.note.Note.{Note}
 use Rattle.rsx_types.specs.declared.signal.Ending.TheVariants.{Open as NotEnded}
+use Rattle.rsx_model.specs.Answer.{IsScratch}
+use Rattle.rsx_model.specs.Eval.{environment}
 use Rattle.rsx_tree.specs.Tree.{notes_of}
 use Rattle.rsx_subscriber.specs.declared.state.SubscriptionState.TheVariants.{Ended}
 use Rattle.rsx_subscriber.specs.declared.subscription.Subscription.{Subscription}
@@ -17,6 +19,13 @@ pub record Holds {T : Type 0} (m : Meaning T) (published : List (Stream T)) (sub
   -- published, whatever is published after it and whatever is still chosen
   pub live : IsLive past.state → (more : List (Stream T)) (further : List Note) → length further ≡ length (notes_of sub.part.tree) →
       option_map (signals_then past.received) (owed_from m (values_then published more) further sub) ≡ evaluated m (values_then published more) past (notes_then (notes_of sub.part.tree) further)
+  -- under what its nodes recorded, the slow evaluator answers a value over what was published
+  pub value : Stream T
+  pub scratch : IsScratch (environment m published past.joins (notes_of sub.part.tree)) past.expression (Ok value)
+  -- live: that is what it received, followed by what it is still owed where nothing more is published and nothing more chosen
+  pub owed : IsLive past.state → option_map (signals_then past.received) (owed_from m published (map unchosen (notes_of sub.part.tree)) sub) ≡ Some value
+  -- it got its ending: that is all that it received
+  pub whole : past.state ≡ Ended → past.received ≡ signals value
   -- it received no more items than it asked for
   pub asked : length (items_in past.received) ≤ past.asked
   -- and nothing after an ending

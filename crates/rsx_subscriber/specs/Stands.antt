@@ -10,7 +10,9 @@ use Rattle.rsx_types.specs.declared.names.Move.TheVariants.{Ask, Send, Take}
 use Rattle.rsx_types.specs.declared.signal.Ending.TheVariants.{Open as NotEnded}
 use Rattle.rsx_types.specs.declared.signal.Signal.{Signal}
 pub use Rattle.rsx_pipe.specs.Output.{values_then}
-use Rattle.rsx_pipe.specs.Part.{PartStands}
+use Rattle.rsx_model.specs.Check.{refusal}
+use Rattle.rsx_model.specs.Shape.{nodes, leaves}
+use Rattle.rsx_pipe.specs.Part.{PartStands, all_edges}
 use Rattle.rsx_pipe.specs.Part as Part
 use Rattle.rsx_tree.specs.Tree.{comes_out, notes_of, IsAllClosed}
 use Rattle.rsx_edge.specs.declared.edge.EdgeState.TheVariants.{Live, Closed}
@@ -54,6 +56,10 @@ pub record Stands {T : Type 0} (m : Meaning T) (published : List (Stream T)) (su
   pub delivered : sub.demand.sent ≡ length (items_in past.received)
   -- the root edge of a live subscriber isn't closed
   pub unclosed : IsLive (standing_of sub) → sub.part.root.state ≡ Closed → ⊥
+  -- the expression isn't refused, its part has an edge for each of its nodes, and there is a join for each hub leaf
+  pub admitted : refusal (length published) past.expression ≡ None
+  pub shape : length (all_edges sub.part) ≡ nodes past.expression
+  pub joined : length past.joins ≡ leaves past.expression
   -- not live: the tree is closed, and nothing is queued
   pub closed : (IsLive (standing_of sub) → ⊥) → IsAllClosed sub.part.tree × (sub.part.root.state ≡ Live → ⊥) × (sub.queue ≡ [])
 

@@ -18,6 +18,7 @@ returns-in-Ok-Close-clause-stands g c = λ m published past h.
       asked = k.asked;
       tree = k.tree;
       put = k.stands;
+      edges = k.edges;
       requested = ap (λ d. d.asked) k.demand ∙ (t.asked ∙ kept.0);
       delivered = ap (λ d. d.sent) k.demand ∙ (t.sent ∙ kept.1);
     }) (k.state ∙ (t.state ∙ closes.1)) h

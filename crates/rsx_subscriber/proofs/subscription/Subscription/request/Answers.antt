@@ -40,6 +40,7 @@ returns-in-Bad-clause-stands g c = λ m published past h.
       asked = k.asked;
       tree = k.tree;
       put = k.stands;
+      edges = k.edges;
       requested = ap (λ d. d.asked) k.demand ∙ (t.asked ∙ b.asked);
       delivered = ap (λ d. d.sent) k.demand ∙ (t.sent ∙ b.sent);
     }) (k.state ∙ (t.state ∙ b.state)) b.bad h
