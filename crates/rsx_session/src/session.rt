@@ -13,7 +13,7 @@ use std::alloc::{AllocFailed, Global};
 const SLICE: u32 = 65_536;
 
 /// Whether a subscription still takes part.
-#[derive(Clone, Copy, Debug, PartialEq, Eq)]
+#[derive(Clone, Copy)]
 enum Standing {
     /// It wasn't closed; it may have ended.
     Live,
@@ -159,7 +159,7 @@ impl Session {
     fn cancel(&mut self, sub: SubId) -> Result<Answer<'_>, Trouble> {
         self.graph.cancel(sub)?;
         if let Some(record) = self.records.get_mut(sub.0 as usize) {
-            if record.ending == Ending::Open && record.standing == Standing::Live {
+            if let (Ending::Open, Standing::Live) = (record.ending, record.standing) {
                 record.standing = Standing::Cancelled;
             }
         }
