@@ -1,7 +1,7 @@
 //! Graphs over the demonstration's functions, with ample memory.
 
 use rsx_demo::{Demo, Val};
-use rsx_graph::{Answer, Deliveries, Graph, Pumped, Refusal, Step};
+use rsx_graph::{Answer, Deliveries, Graph, Pumped, Refusal, Step, replay};
 use rsx_model::Expr;
 use rsx_types::{Ending, HubId, Move, NodeId, Signal, Stage, SubId, Tree};
 use std::alloc::Global;
@@ -48,6 +48,14 @@ fn is_number(item: &Val, wanted: i64) -> bool {
     matches!(item, Val::Int(n) if *n == wanted)
 }
 
+/// Whether a delivery is this number, for subscription 0.
+fn is_item(delivery: &(SubId, Signal<Val>), wanted: i64) -> bool {
+    match delivery {
+        (SubId(0), Signal::Next(Val::Int(n))) => *n == wanted,
+        _ => false,
+    }
+}
+
 /// Whether the graph owes so many items, of which the first is this number, and then the completion.
 fn owes(alloc: Global, graph: &Graph<Demo>, count: usize, first: i64) -> Result<bool, Refusal> {
     let owed = graph.owed(alloc, SUB)?;
@@ -64,8 +72,10 @@ fn a_take_from_an_empty_queue_is_refused(rt: HostRuntime) -> Result<(), Fail> {
     for step in [ASK_BELOW, SEND_BELOW, SEND_ROOT] {
         assert!(rt; made(alloc, &mut graph, step)?.is_none());
     }
-    let delivered = made(alloc, &mut graph, TAKE)?;
-    assert!(rt; matches!(delivered, Some((SubId(0), Signal::Next(Val::Int(4))))));
+    match made(alloc, &mut graph, TAKE)? {
+        Some(delivery) => assert!(rt; is_item(&delivery, 4)),
+        None => assert!(rt; false, "a Take hands its signal on"),
+    }
     assert!(rt; matches!(made(alloc, &mut graph, TAKE), Err(Refusal::NotEnabled)));
     assert!(rt; owes(alloc, &graph, 2, 6)?);
     Ok(())
@@ -78,7 +88,7 @@ fn a_pump_delivers_what_was_asked_for(rt: HostRuntime) -> Result<(), Fail> {
     let mut out = Deliveries::new(alloc);
     assert_eq!(rt; graph.pump(alloc, 100, &mut out)?, Pumped::Idle);
     assert_eq!(rt; out.len(), 2);
-    assert!(rt; matches!(out.as_slice()[1], (SubId(0), Signal::Next(Val::Int(6)))));
+    assert!(rt; is_item(&out.as_slice()[1], 6));
     assert_eq!(rt; graph.asked(SUB)?, 2);
     assert_eq!(rt; graph.notes(alloc, TREE)?.len(), 2);
     assert_eq!(rt; graph.joins(alloc, TREE)?.len(), 0);
@@ -97,10 +107,9 @@ fn a_list_of_steps_is_answered(rt: HostRuntime) -> Result<(), Fail> {
     steps.push(Step::Request(SUB, 2))?;
     steps.push(Step::Make(Move::Ask(Tree::Feed(HubId(0)), NodeId(0))))?;
     steps.push(Step::Cancel(SUB))?;
-    let mut graph = Graph::new(alloc, Demo)?;
-    let answers = match graph.run(alloc, steps) {
-        Ok(answers) => answers,
-        Err(_) => Vec::new(alloc),
+    let answers = match replay(alloc, Demo, steps) {
+        Ok((_graph, answers)) => answers,
+        Err(_steps) => Vec::new(alloc),
     };
     assert_eq!(rt; answers.len(), 5);
     assert!(rt; matches!(answers[0], Answer::Subscribed(SubId(0))));
