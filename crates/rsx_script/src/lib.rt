@@ -1,8 +1,8 @@
 #![tactic(auto)]
 //! The language of scripts: what a line asks for, and the text of answers.
 //!
-//! - [`words`]: the words of a line, with their columns, and why a line can't be read.
-//! - [`parse`]: a line's command, with its numbers, names and expressions; [`command`]: what commands there are.
+//! - [`parse`]: a line's command, with its words, numbers, names and expressions; [`command`]: what commands there are.
+//! - [`LineRefusal`]: why a line can't be read.
 //! - [`print`]: what each command answers, as text.
 //! - [`mode`]: how a script is run; [`fault`]: what ends it before its input does.
 //!
@@ -14,7 +14,7 @@ pub mod fault;
 pub mod mode;
 pub mod parse;
 pub mod print;
-pub mod words;
+mod words;
 
 pub use command::Command;
 pub use fault::AppFault;
