@@ -8,7 +8,7 @@ ghost use Rattle.rsx_plain.specs.State.{plain_from, plain_start, after_signal, i
 use crate::keys::Keys;
 use crate::operator::Operator;
 use crate::reactions::{MOST, Reactions};
-use crate::rest::{Copied, drain, signal_of};
+use crate::rest::{Collected, Copied};
 use crate::started::Started;
 use rsx_rules::rules;
 use rsx_sources::OutSlot;
@@ -223,28 +223,8 @@ impl<T: Drop> Operator<T> for PlainState<T> {
         }
         let mut state = self.copied(alloc, ops)?;
         let mut out = out;
-        for item in items {
-            let signal = Signal::Next(ops.copy(alloc, item)?);
-            let mut slot = OutSlot::new();
-            match state.react(alloc, ops, signal, &mut slot) {
-                Err(_) => return Err(NoMemory),
-                Ok(()) => match drain(slot, &mut out)? {
-                    Ending::Open => {}
-                    last => return Ok(StreamValue::new(out, last)),
-                },
-            }
-        }
-        let mut slot = OutSlot::new();
-        match signal_of(ending) {
-            None => Ok(StreamValue::new(out, Ending::Open)),
-            Some(signal) => match state.react(alloc, ops, signal, &mut slot) {
-                Err(_) => Err(NoMemory),
-                Ok(()) => {
-                    let last = drain(slot, &mut out)?;
-                    Ok(StreamValue::new(out, last))
-                }
-            },
-        }
+        let last = out.take_all(alloc, ops, &mut state, items, ending)?;
+        Ok(StreamValue::new(out, last))
     }
 }
 
