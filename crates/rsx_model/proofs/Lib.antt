@@ -1,2 +1,3 @@
 pub mod Unfold
 pub mod Steps
+pub mod Laws

@@ -3,3 +3,4 @@ pub mod Shape
 pub mod Check
 pub mod Eval
 pub mod Answer
+pub mod Laws
