@@ -20,11 +20,11 @@ use Rattle.rsx_pipe.specs.declared.node.Node.{Node, Items, Range, Plain'}
 
 -- nothing comes in
 abbrev pub none_incoming : {T : Type 0} → Incoming T
-none_incoming = record { first = ended_by Open; others = [] }
+none_incoming = record { hubs = []; first = ended_by Open; others = [] }
 
 -- this value comes in at the one input
 abbrev pub one_incoming : {T : Type 0} → Stream T → Incoming T
-one_incoming v = record { first = v; others = [] }
+one_incoming v = record { hubs = []; first = v; others = [] }
 
 -- what comes out of a plain node that still chooses `k`, where `o` still comes in
 abbrev pub through : {T : Type 0} → Meaning T → PlainNode T → Option (Stream T) → Note → Option (Stream T)

@@ -212,7 +212,7 @@ impl<T: Drop> Node<T> {
                                 Err(NoMemory) => return Err(NoMemory),
                             };
                             // While its slot is full, no move below enables one of the node.
-                            if !node.can_take(0) {
+                            if !node.can_take(0, Front::Item) {
                                 return Ok(left);
                             }
                             is_idle_below = true;
@@ -299,7 +299,7 @@ fn send_over<O: Ops>(
     ensures memory { send_over_allocates (O.allocates ops.now) node.old input.old ≡ false → IfErr result (λ e. e ≡ NotMade.NotEnabled) }
     ensures same { OnErr result ((node.new ≡ node.old) × (edge.new ≡ edge.old) × (input.new ≡ input.old)) }
 {
-    if !node.can_take(0) {
+    if !node.can_take(0, Front::Item) {
         return Err(NotMade::NotEnabled);
     }
     let Some(front) = input.front() else {
@@ -370,7 +370,7 @@ fn advance_here<O: Ops>(
     ensures err { OnErr result ((node.new ≡ node.old) × (edge.new ≡ edge.old) × (input.new ≡ input.old)) }
     ensures memory { send_over_allocates (O.allocates ops.now) node.old input.old ≡ false → IsOk result }
 {
-    if !node.can_take(0) {
+    if !node.can_take(0, Front::Item) {
         return Ok(ask_over(node, edge, asked, sent));
     }
     match send_over(alloc, ops, node, edge, input) {
@@ -389,7 +389,7 @@ fn items_residual<O: Ops>(
     ensures { IfOk result (λ v. items_comes_out (O.meaning ops.now) node.now none_incoming Note.Nothing ≡ Some v) }
 {
     let none: [StreamValue<O::Item>; 0] = [];
-    node.residual(alloc, ops, &none)
+    node.residual(alloc, ops, &none, &none)
 }
 
 /// What still comes out of a source of numbers.
@@ -401,7 +401,7 @@ fn range_residual<O: Ops>(
     ensures { IfOk result (λ v. range_comes_out (O.meaning ops.now) node.now none_incoming Note.Nothing ≡ Some v) }
 {
     let none: [StreamValue<O::Item>; 0] = [];
-    node.residual(alloc, ops, &none)
+    node.residual(alloc, ops, &none, &none)
 }
 
 /// What still comes out of a plain node, where this value comes in.
@@ -413,8 +413,9 @@ fn residual_over<O: Ops>(
 ) -> Result<StreamValue<O::Item>, NoMemory>
     ensures { IfOk result (λ v. plain_comes_out (O.meaning ops.now) node.now (one_incoming incoming) Note.Nothing ≡ Some v) }
 {
+    let none: [StreamValue<O::Item>; 0] = [];
     let values = [incoming];
-    node.residual(alloc, ops, &values)
+    node.residual(alloc, ops, &none, &values)
 }
 
 /// Whether the input offers a signal that can go over the edge, and the node can take it.
@@ -422,7 +423,7 @@ pub(crate) fn can_send_signal<T: Drop>(node: &PlainNode<T>, edge: &Edge, input: 
     ensures { (m : Meaning T) → result ≡ can_send_over m node.now edge.now input.now }
 {
     match input.front() {
-        Some(front) => node.can_take(0) && edge.can_carry(front),
+        Some(front) => node.can_take(0, Front::Item) && edge.can_carry(front),
         None => false,
     }
 }

@@ -1,3 +1,4 @@
+pub mod Balance
 pub mod Counts
 pub mod Residuals
 pub mod Endings

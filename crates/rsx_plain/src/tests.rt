@@ -120,7 +120,7 @@ fn after_five_and_one(alloc: Global, node: &PlainNode<i64>) -> Result<StreamValu
     items.push(1)?;
     let mut incoming = Vec::new(alloc);
     incoming.push(StreamValue::new(items, Ending::Done))?;
-    node.residual(alloc, &PLENTY, incoming.as_slice())
+    node.residual(alloc, &PLENTY, &[], incoming.as_slice())
 }
 
 /// Gives an item to a `map` that has none waiting, where every growth is refused. That the node takes it is proved.
@@ -147,10 +147,10 @@ fn a_map_takes_an_item_without_memory(rt: HostRuntime) -> Result<(), Fail> {
 fn a_map_answers_each_item(rt: HostRuntime) -> Result<(), Fail> {
     let alloc = rt.alloc();
     let mut node = PlainNode::new(alloc, &PLENTY, &Stage::Map(0))?;
-    assert!(rt; node.can_take(0));
+    assert!(rt; node.can_take(0, Front::Item));
     assert_eq!(rt; node.front(), None);
     assert!(rt; node.on_signal(alloc, &PLENTY, 0, Signal::Next(4)).is_ok());
-    assert!(rt; !node.can_take(0));
+    assert!(rt; !node.can_take(0, Front::Item));
     assert_eq!(rt; node.front(), Some(Front::Item));
     let busy = node.on_signal(alloc, &PLENTY, 0, Signal::Next(5));
     assert!(rt; matches!(busy, Err(NotTaken::Busy(Signal::Next(5)))));
@@ -170,7 +170,7 @@ fn a_fault_ends_a_map(rt: HostRuntime) -> Result<(), Fail> {
     let mut node = PlainNode::new(alloc, &PLENTY, &Stage::Map(1))?;
     assert!(rt; node.on_signal(alloc, &PLENTY, 0, Signal::Next(4)).is_ok());
     assert_eq!(rt; node.front(), Some(Front::Failure(Cause::Function(7))));
-    let left = node.residual(alloc, &PLENTY, &[])?;
+    let left = node.residual(alloc, &PLENTY, &[], &[])?;
     assert_eq!(rt; left.items().len(), 0);
     assert_eq!(rt; left.ending(), Ending::Failed(Cause::Function(7)));
     Ok(())
@@ -198,7 +198,6 @@ fn a_filter_asks_again_for_what_it_dropped(rt: HostRuntime) -> Result<(), Fail> 
 fn a_plain_node_chooses_nothing(rt: HostRuntime) -> Result<(), Fail> {
     let alloc = rt.alloc();
     let mut node = PlainNode::new(alloc, &PLENTY, &Stage::Map(0))?;
-    node.on_ask(5);
     assert_eq!(rt;
         node.on_pick(alloc, &PLENTY, 0, 5, 0),
         Err(NotMade::NotEnabled)
@@ -253,7 +252,7 @@ fn a_take_of_none_begins_with_its_completion(rt: HostRuntime) -> Result<(), Fail
     let alloc = rt.alloc();
     let mut node = PlainNode::new(alloc, &PLENTY, &Stage::Take(0))?;
     assert!(rt; node.has_ended());
-    assert!(rt; !node.can_take(0));
+    assert!(rt; !node.can_take(0, Front::Item));
     assert_eq!(rt; node.want(0, 9, 0), 0);
     assert_eq!(rt; node.front(), Some(Front::Completion));
     let left = after_five_and_one(alloc, &node)?;

@@ -90,7 +90,7 @@ fn items_come_out_in_order(rt: HostRuntime) -> Result<(), Fail> {
     if let Some(signal) = first {
         node.put_back(signal);
     }
-    let left = node.residual(alloc, &Numbers, &[])?;
+    let left = node.residual(alloc, &Numbers, &[], &[])?;
     assert_eq!(rt; left.items(), [3, 5].as_slice());
     assert_eq!(rt; left.ending(), Ending::Done);
     let _ = node.pop_front(alloc, &Numbers)?;
@@ -107,7 +107,7 @@ fn a_range_ends_at_the_greatest_number(rt: HostRuntime) -> Result<(), Fail> {
     let alloc = rt.alloc();
     let mut node = RangeNode::new(9223372036854775806, 2);
     assert_eq!(rt; node.front(), Some(Front::Item));
-    let left = node.residual(alloc, &Numbers, &[])?;
+    let left = node.residual(alloc, &Numbers, &[], &[])?;
     assert_eq!(rt;
         left.items(),
         [9223372036854775806, 9223372036854775807].as_slice()
@@ -128,10 +128,9 @@ fn a_range_ends_at_the_greatest_number(rt: HostRuntime) -> Result<(), Fail> {
 fn a_source_takes_nothing(rt: HostRuntime) -> Result<(), Fail> {
     let alloc = rt.alloc();
     let mut node = RangeNode::new(1, 1);
-    assert!(rt; !node.can_take(0));
+    assert!(rt; !node.can_take(0, Front::Item));
     let back = node.on_signal(alloc, &Numbers, 0, Signal::Next(2));
     assert!(rt; matches!(back, Err(NotTaken::Busy(Signal::Next(2)))));
-    node.on_ask(5);
     assert_eq!(rt;
         node.on_pick(alloc, &Numbers, 0, 5, 0),
         Err(NotMade::NotEnabled)

@@ -3,8 +3,9 @@ use Rattle.rsx_sources.specs.Machine.{quiet}
 use Rattle.rsx_plain.specs.Moves.{is_ending}
 use Rattle.rsx_plain.specs.Node.{plain_ended}
 use Rattle.rsx_plain.specs.State.{plain_from}
-use Rattle.rsx_plain.proofs.Endings.{ended_none, ended_first, ended_one, ended_second, ended_slot}
-use Rattle.rsx_plain.proofs.node.PlainNode.has_ended.Goals as goal
+use Rattle.rsx_plain.proofs.Endings.{ended_none, ended_first, ended_one, ended_second}
+use Rattle.rsx_plain.specs.Laws.{ended_slot}
+use Rattle.rsx_plain.proofs.node.PlainNodeMachine.has_ended.Goals as goal
 
 pub returns-in-None-clause-ended : goal.returns-in-None-clause-ended
 returns-in-None-clause-ended g c = ended_none c.args.self.now.slot c.in-None.ensures
