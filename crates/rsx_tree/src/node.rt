@@ -1,0 +1,204 @@
+//! One tree of nodes of any kind.
+
+ghost use Rattle.std.specs.Prelude.{◌≡◌};
+
+use crate::edge::Edge;
+use crate::inputs::Inputs;
+use rsx_sources::{Front, Machine, NotMade};
+use rsx_types::{NoMemory, Note, Ops, Signal, StreamValue};
+use std::alloc::Global;
+
+/// A node with all that is below it.
+#[derive(Drop)]
+pub struct Node<M> {
+    /// The node.
+    pub machine: M,
+    /// Its inputs.
+    pub inputs: Inputs<M>,
+}
+
+impl<M: Machine> Node<M> {
+    ghost use Rattle.std.specs.Prelude.{◌≡◌, OnOk, OnErr, IfOk, IfErr, IsOk, true, false, option_map, map, List, ℕ};
+    ghost use Rattle.rsx_types.specs.Meaning.{Meaning};
+    ghost use Rattle.rsx_types.specs.Stream.{Stream};
+    ghost use Rattle.rsx_types.specs.declared.note.Note.{Note as NoteSpec};
+    ghost use Rattle.rsx_sources.specs.Machine.{front_of};
+    ghost use Rattle.rsx_sources.specs.Steps.{IsNotMade};
+    ghost use Rattle.std.specs.Prelude.{◌<◌};
+    ghost use Rattle.rsx_tree.specs.Driven.{IsDriven, IsIdle, IsBusy, Spent};
+    ghost use Rattle.rsx_tree.specs.Edges.{closed_view};
+    ghost use Rattle.rsx_tree.specs.Inputs.{closed_row};
+    ghost use Rattle.rsx_tree.specs.Tree.{comes_out, notes, edges, offers, popped, IsPopped, IsKept, IsAllClosed, can_ask, can_send, send_allocates, IsAskedAt, IsSentAt, IsUnchosen};
+
+    /// Which signal the root offers, if it does.
+    #[inline]
+    pub fn front(&self) -> Option<Front>
+        ensures { (m : Meaning M.Item) → result ≡ option_map front_of (offers M.Machine m self.now) }
+    {
+        self.machine.front()
+    }
+
+    /// Takes the signal that the root offers. For want of memory the tree is as it was.
+    #[inline]
+    pub fn pop<O: Ops<Item = M::Item>>(
+        &mut self,
+        alloc: Global,
+        ops: &O,
+    ) -> Result<Option<Signal<M::Item>>, NoMemory>
+        ensures ok { IfOk result (λ s. IsPopped M.Machine (O.meaning ops.now) self.old s self.new) }
+        ensures err { OnErr result (self.new ≡ self.old) }
+        ensures memory { M.pop_allocates (O.allocates ops.now) self.old.machine ≡ false → IsOk result }
+    {
+        match self.machine.pop_front(alloc, ops) {
+            Ok(signal) => Ok(signal),
+            Err(NoMemory) => Err(NoMemory),
+        }
+    }
+
+    /// Puts the signal back that was popped last.
+    pub fn put_back(&mut self, signal: Signal<M::Item>)
+        ensures { (before : Node M) → popped M.Machine before signal self.old → self.new ≡ before }
+    {
+        self.machine.put_back(signal);
+    }
+
+    /// Closes every edge below the root (rule 3.12).
+    pub fn close(&mut self)
+        ensures kept { (m : Meaning M.Item) → IsKept M.Machine m self.old self.new }
+        ensures offers { (m : Meaning M.Item) → offers M.Machine m self.new ≡ offers M.Machine m self.old }
+        ensures closed { IsAllClosed self.new }
+        ensures edges { edges self.new ≡ map closed_view (edges self.old) }
+    {
+        self.inputs.close();
+    }
+
+    /// Raises what is asked of the edge `at` below the root to what its receiver wants; `asked` and `sent` are those of the
+    /// root's own edge.
+    pub fn ask(&mut self, at: u32, asked: u64, sent: u64) -> Result<(), NotMade>
+        ensures kept { (m : Meaning M.Item) → IsKept M.Machine m self.old self.new }
+        ensures offers { (m : Meaning M.Item) → offers M.Machine m self.new ≡ offers M.Machine m self.old }
+        ensures ok { OnOk result (can_ask M.Machine self.old at asked sent ≡ true) }
+        ensures effect { OnOk result (IsAskedAt M.Machine self.old at asked sent self.new) }
+        ensures err { IfErr result (λ e. (e ≡ NotMade.NotEnabled) × (can_ask M.Machine self.old at asked sent ≡ false)) }
+        ensures same { OnErr result (self.new ≡ self.old) }
+    {
+        match self.inputs.ask(&self.machine, 0, asked, sent, at) {
+            Ok(()) => Ok(()),
+            Err(why) => Err(why),
+        }
+    }
+
+    /// Moves the signal that the edge `at` below the root can carry to its receiver.
+    pub fn send<O: Ops<Item = M::Item>>(
+        &mut self,
+        alloc: Global,
+        ops: &O,
+        at: u32,
+    ) -> Result<(), NotMade>
+        ensures kept { OnOk result (IsKept M.Machine (O.meaning ops.now) self.old self.new) }
+        ensures ok { OnOk result (can_send M.Machine (O.meaning ops.now) self.old at ≡ true) }
+        ensures effect { OnOk result (IsSentAt M.Machine (O.meaning ops.now) self.old at self.new) }
+        ensures err { IfErr result (IsNotMade (can_send M.Machine (O.meaning ops.now) self.old at)) }
+        ensures memory { send_allocates M.Machine (O.allocates ops.now) self.old at ≡ false → IfErr result (λ e. e ≡ NotMade.NotEnabled) }
+        ensures same { OnErr result (self.new ≡ self.old) }
+    {
+        match self.inputs.send(alloc, ops, &mut self.machine, 0, at) {
+            Ok(own) => {
+                self.inputs.close_if(self.machine.has_ended(), own);
+                Ok(())
+            }
+            Err(why) => Err(why),
+        }
+    }
+
+    /// What the nodes recorded, in pre-order.
+    pub fn notes(&self, alloc: Global) -> Result<Vec<Note>, NoMemory>
+        ensures { IfOk result (λ v. v.items ≡ notes M.Machine self.now) }
+    {
+        let mut notes = Vec::new(alloc);
+        notes.push(self.machine.note(alloc)?)?;
+        self.inputs.notes(alloc, &mut notes)?;
+        Ok(notes)
+    }
+
+    /// The stream value that still comes out of the tree, where `hubs` is still published and nothing more is chosen.
+    pub fn residual<O: Ops<Item = M::Item>>(
+        &self,
+        alloc: Global,
+        ops: &O,
+        hubs: &[StreamValue<M::Item>],
+    ) -> Result<StreamValue<M::Item>, NoMemory>
+        ensures { IfOk result (λ v. (further : List NoteSpec) (at : ℕ) → IsUnchosen M.Machine further self.now at → comes_out M.Machine (O.meaning ops.now) hubs.now further self.now at ≡ Some v) }
+    {
+        let mut incoming = Vec::new(alloc);
+        self.inputs.residual(alloc, ops, hubs, &mut incoming)?;
+        self.machine.residual(alloc, ops, hubs, incoming.as_slice())
+    }
+
+    /// Makes enabled moves until none is enabled or the budget is used up.
+    pub fn drive<O: Ops<Item = M::Item>>(
+        &mut self,
+        alloc: Global,
+        ops: &O,
+        asked: u64,
+        sent: u64,
+        budget: u32,
+    ) -> Result<u32, NoMemory>
+        ensures driven { (n : ℕ) × Spent budget n result × IsDriven M.Machine (O.meaning ops.now) false n self.old asked sent self.new }
+        ensures kept { IsKept M.Machine (O.meaning ops.now) self.old self.new }
+        ensures idle { IfOk result (λ left. 0 < left → IsIdle M.Machine (O.meaning ops.now) self.new asked sent) }
+    {
+        let mut left = budget;
+        let mut is_done = budget == 0;
+        'rounds: while !is_done {
+            let before = left;
+            let pass = match self
+                .inputs
+                .drive(alloc, ops, &mut self.machine, 0, asked, sent, before)
+            {
+                Ok(pass) => pass,
+                Err(NoMemory) => return Err(NoMemory),
+            };
+            left = pass.left;
+            self.inputs.close_if(pass.is_over, true);
+            is_done = (left == before) | (left == 0);
+        }
+        Ok(left)
+    }
+
+    /// Whether no Ask and no Send of the tree is enabled; `asked` and `sent` are those of the root's own edge.
+    pub fn is_idle(&self, asked: u64, sent: u64) -> bool
+        ensures yes { (m : Meaning M.Item) → result ≡ true → IsIdle M.Machine m self.now asked sent }
+        ensures no { (m : Meaning M.Item) → result ≡ false → IsBusy M.Machine m self.now asked sent }
+    {
+        self.inputs.is_idle(&self.machine, 0, asked, sent)
+    }
+}
+
+impl<M: Machine + Drop> Node<M> {
+    ghost use Rattle.std.specs.Prelude.{◌≡◌, IfOk};
+    ghost use Rattle.rsx_tree.specs.Inputs.{closed_row_if};
+    ghost use Rattle.rsx_tree.specs.Tree.{IsJoined};
+
+    /// A node over its inputs. Where it has put out its ending already, all below it is closed.
+    pub fn new(machine: M, inputs: Inputs<M>) -> Node<M>
+        ensures machine { result.machine ≡ machine }
+        ensures inputs { result.inputs ≡ closed_row_if (M.ended machine) inputs }
+    {
+        let mut below = inputs;
+        below.close_if(machine.has_ended(), true);
+        Node {
+            machine,
+            inputs: below,
+        }
+    }
+
+    /// The tree as an input, over a fresh edge, in front of those beside it.
+    pub fn join(self, alloc: Global, beside: Inputs<M>) -> Result<Inputs<M>, NoMemory>
+        ensures { IfOk result (λ row. IsJoined self beside row) }
+    {
+        let below = Box::new(alloc, self.inputs)?;
+        let others = Box::new(alloc, beside)?;
+        Ok(Inputs::More(Edge::new(), self.machine, below, others))
+    }
+}
