@@ -31,6 +31,14 @@ ended_slot (Error c ∷ ss) v w h = refl
 pub plain_drops : {T : Type 0} (m : Meaning T) (n : PlainNode T) (inc other : Incoming T) (further : Note) → plain_ended n ≡ true → plain_comes_out m n inc further ≡ plain_comes_out m n other further
 plain_drops m n inc other further e = ap (quiet further) (ended_slot n.slot (plain_from m n.state inc.first) (plain_from m n.state other.first) (sym e))
 
+some_waits : {T : Type 0} (slot : List (Signal T)) → list_any is_ending slot ≡ true → (s : Signal T) × (slice_get slot 0 ≡ Some s)
+some_waits [] e = cc
+some_waits (s ∷ ss) e = (s, refl)
+
+-- the slot of a node that has ended isn't empty
+pub plain_ending_waits : {T : Type 0} (m : Meaning T) (n : PlainNode T) → plain_ended n ≡ true → (s : Signal T) × (plain_waiting m n ≡ Some s)
+plain_ending_waits m n e = some_waits n.slot e
+
 less_or_not : (a b : ℕ) → (a < b) ⊎ (b ≤ a)
 less_or_not a b = by_test (nat_lt a b) refl
   where

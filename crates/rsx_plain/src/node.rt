@@ -55,7 +55,7 @@ impl<T: Drop> Machine for PlainNode<T> {
     type Item = T;
 
     ghost use Rattle.std.specs.Prelude.{◌≡◌, true, false, refl, IfOk, IfErr, IsOk, IsTrue, OnOk, OnErr};
-    ghost use Rattle.rsx_plain.specs.Laws.{plain_drops, plain_hungry};
+    ghost use Rattle.rsx_plain.specs.Laws.{plain_drops, plain_ending_waits, plain_hungry};
     ghost use Rattle.rsx_types.specs.Meaning.{Meaning};
     ghost use Rattle.rsx_types.specs.Notes.{note_then};
     ghost use Rattle.rsx_types.specs.declared.note.Note.{Note};
@@ -266,6 +266,8 @@ impl<T: Drop> Machine for PlainNode<T> {
     ghost drops = { plain_drops };
 
     ghost settles = { λ m n inc. (_, refl) };
+
+    ghost ending_waits = { plain_ending_waits };
 
     ghost hungry = { plain_hungry };
 }

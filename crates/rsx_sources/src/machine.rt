@@ -214,6 +214,9 @@ pub trait Machine {
     /// Where nothing more is chosen, something comes out.
     ghost settles: { (m : Meaning Self.Item) (n : Self) (inc : Incoming Self.Item) → (v : Stream Self.Item) × (comes_out m n inc (unchosen (recorded n)) ≡ Some v) };
 
+    /// Of a node that has ended, a signal waits: its ending, or an item in front of that.
+    ghost ending_waits: { (m : Meaning Self.Item) (n : Self) → ended n ≡ true → (s : Signal Self.Item) × (waiting m n ≡ Some s) };
+
     /// A node that offers nothing, and of which more is asked than it sent, can make a step or wants more at an input.
     ghost hungry: { (m : Meaning Self.Item) (n : Self) (taken : List ℕ) (asked sent : ℕ) → ended n ≡ false → counted n taken sent → waiting m n ≡ None → sent < asked → AreWithin taken → IsHungry takes picks rows done wanted n taken asked sent };
 }

@@ -231,5 +231,7 @@ impl<T: Drop> Machine for RangeNode<T> {
 
     ghost settles = { λ m n inc. (_, refl) };
 
+    ghost ending_waits = { λ m n e. (_, refl) };
+
     ghost hungry = { λ m n taken asked sent still counts none more within. Prim.search rules };
 }

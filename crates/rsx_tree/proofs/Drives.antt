@@ -15,6 +15,8 @@ use Rattle.rsx_tree.specs.Stepped.{IsStepped, Step, IsPickedHere, IsRowMadeHere}
 use Rattle.rsx_tree.specs.Tree.{IsKept}
 use Rattle.rsx_tree.specs.Driven.{IsMade, IsAskMade, IsSendMade, IsStepMade, IsRowRun, IsRowEnded, IsRowDriven, IsRowIdle, IsDriven, IsAdvanced, IsIdle, IsRowBusy, IsBusy}
 use Rattle.rsx_tree.proofs.Trees.{node, kept_asked, can_asked, asked_effect, kept_sent, can_sent, sent_effect}
+use Rattle.rsx_tree.specs.Balance.{IsBalanced}
+use Rattle.rsx_tree.proofs.Balances.{tree_ask_balanced, tree_send_balanced}
 use Rattle.rsx_tree.proofs.Rows.{size_sent}
 use Rattle.rsx_tree.proofs.Effects.{row_asked}
 use Rattle.rsx_tree.proofs.Changes.{Rest, chosen_first, chosen_second, not_zero, is_within, is_beyond, changed_here}
@@ -37,6 +39,7 @@ pub record IsTreeUnderWay {M T : Type 0} (b : Machine M T) (m : Meaning T) (old 
   pub spent : count + left ≡ budget
   pub run : IsDriven b m false count old asked sent now
   pub kept : IsKept b m old now
+  pub balance : (s : ℕ) → IsBalanced b old s → IsBalanced b now s
 
 -- ---- a move of a part of the row is one of the row
 
@@ -376,7 +379,7 @@ if_same f true d x x' y z z' p q = p
 if_same f false true x x' y z z' p q = refl
 if_same f false false x x' y z z' p q = q
 
-send_anywhere : {M T : Type 0} (b : Machine M T) (m : Meaning T) (r : M) (i a s a' s' : ℕ) (t : Inputs M) (at : ℕ) → can_send_in b m (place r i a s t at) ≡ can_send_in b m (place r i a' s' t at)
+pub send_anywhere : {M T : Type 0} (b : Machine M T) (m : Meaning T) (r : M) (i a s a' s' : ℕ) (t : Inputs M) (at : ℕ) → can_send_in b m (place r i a s t at) ≡ can_send_in b m (place r i a' s' t at)
 send_anywhere b m r i a s a' s' End at = refl
 send_anywhere b m r i a s a' s' (More' e n p below q beside) at =
     if_same (can_send_in b m) (nat_eq at 0) (nat_le at (size below)) _ _ _ (place r (i + 1) a s beside (at - 1 - size below)) (place r (i + 1) a' s' beside (at - 1 - size below)) refl (send_anywhere b m r (i + 1) a s a' s' beside (at - 1 - size below))
@@ -401,6 +404,7 @@ advanced {M} b m r r' asked sent at ends t mid h = elim h [
         at = at;
         made = inl (can_asked b r asked sent at t mid made, asked_effect b r asked sent at t mid made);
         kept = λ _. kept_asked b m r asked sent at t mid made;
+        balance = λ _ s k. tree_ask_balanced b r asked sent t at mid s made k;
       }))
   | inr y ↦ elim y [
     | inl x ↦
@@ -408,6 +412,7 @@ advanced {M} b m r r' asked sent at ends t mid h = elim h [
           at = at;
           made = inr (inl (can_sent b m r r' at t mid (x.made 0 0), sent_effect b m r r' at t mid (closed_row_if ends mid) (x.made 0 0) (ap (λ c. closed_row_if c mid) x.ends_is)));
           kept = λ _. kept_sent b m r r' at t mid (closed_row_if ends mid) ends (x.made 0 0) refl;
+          balance = λ _ s k. tree_send_balanced b m r r' 0 0 t at mid (closed_row_if ends mid) s (x.made 0 0) (ap (λ c. closed_row_if c mid) x.ends_is) k;
         }
     | inr z ↦ let f = z.0 in cc
   ]
@@ -442,15 +447,19 @@ kept_run b m (suc k) x y asked sent h =
     let one = h.1.kept refl in
     record { value = λ hubs further at. rest.value hubs further at ∙ one.value hubs further at; notes = rest.notes ∙ one.notes }
 
+balance_run : {M T : Type 0} (b : Machine M T) (m : Meaning T) (k : ℕ) (x y : Node M) (asked sent : ℕ) → IsDriven b m false k x asked sent y → (s : ℕ) → IsBalanced b x s → IsBalanced b y s
+balance_run {M} b m zero x y asked sent h s w = let Q : Node M → Type 0 = λ t. IsBalanced b t s in subst Q (sym h) w
+balance_run b m (suc k) x y asked sent h s w = balance_run b m k h.0 y asked sent h.2 s (h.1.balance refl s w)
+
 pub tree_begun : {M T : Type 0} (b : Machine M T) (m : Meaning T) (x : Node M) (asked sent budget : ℕ) → IsTreeUnderWay b m x asked sent budget budget x
-tree_begun b m x asked sent budget = record { count = 0; spent = omega arith; run = refl; kept = kept_run b m 0 x x asked sent refl }
+tree_begun b m x asked sent budget = record { count = 0; spent = omega arith; run = refl; kept = kept_run b m 0 x x asked sent refl; balance = λ s k. k }
 
 pub tree_under_way : {M T : Type 0} (b : Machine M T) (m : Meaning T) (x : Node M) (asked sent budget left left' k : ℕ) (over : Bool) (r r' : M) (t now new : Inputs M) →
     IsTreeUnderWay b m x asked sent budget left (node r t) → k + left' ≡ left → IsRowDriven b m false k over 0 asked sent r t r' now → new ≡ closed_row_if over now → IsTreeUnderWay b m x asked sent budget left' (node r' new)
 tree_under_way {M} b m x asked sent budget left left' k over r r' t now new u spent h shut =
     let Q : Inputs M → Type 0 = λ z. IsDriven b m false (u.count + k) x asked sent (node r' z) in
     let run : IsDriven b m false (u.count + k) x asked sent (node r' new) = subst Q (sym shut) (tree_then b m u.count k x (node r t) (node r' (closed_row_if over now)) asked sent u.run (tree_driven b m k over asked sent r r' t now h)) in
-    record { count = u.count + k; spent = let q = u.spent in omega (arith, q, spent); run = run; kept = kept_run b m (u.count + k) x (node r' new) asked sent run }
+    record { count = u.count + k; spent = let q = u.spent in omega (arith, q, spent); run = run; kept = kept_run b m (u.count + k) x (node r' new) asked sent run; balance = balance_run b m (u.count + k) x (node r' new) asked sent run }
 
 -- a pass that made no move found none
 pub idle_after : {M T : Type 0} (b : Machine M T) (m : Meaning T) (k : ℕ) (over : Bool) (asked sent : ℕ) (r r' : M) (t now new : Inputs M) → k ≡ 0 → IsRowDriven b m false k over 0 asked sent r t r' now → new ≡ closed_row_if over now → IsRowIdle b m r' 0 asked sent now → IsIdle b m (node r' new) asked sent

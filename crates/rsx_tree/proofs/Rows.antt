@@ -54,7 +54,7 @@ in_front_incoming : {T : Type 0} (hubs : List (Stream T)) (before : List (Stream
 in_front_incoming hubs [] s v vs = refl
 in_front_incoming hubs (w ∷ ws) s v vs = ap (λ l. record { hubs = hubs; first = w; others = l }) (in_front_others ws s v vs)
 
-out_lets_go : {M T : Type 0} (b : Machine M T) (m : Meaning T) (hubs : List (Stream T)) (n n' : M) (s : Signal T) → LetsGo (b.comes_out m) n s n' → (o : Option (List (Stream T))) (k : Option Note) → out_of b m hubs n o k ≡ option_map (signal_then s) (out_of b m hubs n' o k)
+pub out_lets_go : {M T : Type 0} (b : Machine M T) (m : Meaning T) (hubs : List (Stream T)) (n n' : M) (s : Signal T) → LetsGo (b.comes_out m) n s n' → (o : Option (List (Stream T))) (k : Option Note) → out_of b m hubs n o k ≡ option_map (signal_then s) (out_of b m hubs n' o k)
 out_lets_go b m hubs n n' s h o None = refl
 out_lets_go b m hubs n n' s h None (Some k) = refl
 out_lets_go b m hubs n n' s h (Some vs) (Some k) = h (incoming_of hubs vs) k

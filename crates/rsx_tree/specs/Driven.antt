@@ -7,6 +7,7 @@ use Rattle.rsx_tree.specs.declared.inputs.Pass.{Pass}
 use Rattle.rsx_tree.specs.declared.node.Node.{Node}
 use Rattle.rsx_tree.specs.Edges.{edge_view, can_ask_for}
 use Rattle.rsx_tree.specs.Inputs.{size, place, is_own, can_ask_in, can_send_in, closed_row_if}
+use Rattle.rsx_tree.specs.Balance.{IsBalanced}
 use Rattle.rsx_tree.specs.Changed.{IsChanged, IsAskedOver, IsSentOver}
 use Rattle.rsx_tree.specs.Stepped.{IsStepped, IsPickedHere, IsRowMadeHere}
 use Rattle.rsx_tree.specs.Tree.{IsKept, IsAskedAt, IsSentAt, can_ask, can_send}
@@ -81,6 +82,7 @@ pub record IsAdvanced {M T : Type 0} (b : Machine M T) (m : Meaning T) (steps : 
       ⊎ (((can_send b m old at ≡ true) × IsSentAt b m old at new)
       ⊎ ((steps ≡ true) × IsStepMade b m old.machine old.inputs at false new.machine new.inputs))
   pub kept : steps ≡ false → IsKept b m old new
+  pub balance : steps ≡ false → (s : ℕ) → IsBalanced b old s → IsBalanced b new s
 
 -- so many enabled moves lead from the first tree to the second
 abbrev pub IsDriven : {M T : Type 0} → Machine M T → Meaning T → Bool → ℕ → Node M → ℕ → ℕ → Node M → Type 0

@@ -13,6 +13,7 @@ use Rattle.rsx_tree.specs.declared.edge.EdgeState.{EdgeState}
 use Rattle.rsx_tree.specs.declared.edge.EdgeState.TheVariants.{Live}
 use Rattle.rsx_tree.specs.declared.inputs.Inputs.{Inputs, End, More'}
 use Rattle.rsx_tree.specs.declared.node.Node.{Node}
+use Rattle.rsx_tree.specs.Balance.{IsBalanced, IsBalancedAfter}
 use Rattle.rsx_tree.specs.Changed.{Hold}
 use Rattle.rsx_tree.specs.Edges.{EdgeView, asked_up_to, changed_at, closed_if}
 use Rattle.rsx_tree.specs.Inputs.{Place, place, size, is_own, comes_in, out_of, notes_of, edges as edges_in, can_ask_in, can_send_in, wanted_at, send_allocates_in, sent_edges, IsUnchosen as IsUnchosenIn}
@@ -62,6 +63,7 @@ pub record IsLetGo {M T : Type 0} (b : Machine M T) (m : Meaning T) (old : Node 
   pub popped : popped b old s new
   pub value : (hubs : List (Stream T)) (further : List Note) (at : ℕ) → comes_out b m hubs further old at ≡ option_map (signal_then s) (comes_out b m hubs further new at)
   pub notes : notes b new ≡ notes b old
+  pub balance : (sent : ℕ) → IsBalanced b old sent → IsBalancedAfter b s new sent
 
 -- what was popped is what the root offered; where it offered nothing, the tree is as it was
 abbrev pub IsPopped : {M T : Type 0} → Machine M T → Meaning T → Node M → Option (Signal T) → Node M → Type 0

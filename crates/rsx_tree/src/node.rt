@@ -24,10 +24,12 @@ impl<M: Machine> Node<M> {
     ghost use Rattle.rsx_types.specs.declared.note.Note.{Note as NoteSpec};
     ghost use Rattle.rsx_sources.specs.Machine.{front_of};
     ghost use Rattle.rsx_sources.specs.Steps.{IsNotMade};
-    ghost use Rattle.std.specs.Prelude.{◌<◌};
+    ghost use Rattle.std.specs.Prelude.{◌<◌, ◌≤◌, ◌^◌, Some};
     ghost use Rattle.rsx_tree.specs.Driven.{IsDriven, IsIdle, IsBusy, Spent};
     ghost use Rattle.rsx_tree.specs.Edges.{closed_view};
-    ghost use Rattle.rsx_tree.specs.Inputs.{closed_row};
+    ghost use Rattle.rsx_tree.specs.Balance.{IsBalanced, IsStill, IsWithin};
+    ghost use Rattle.rsx_tree.specs.Inputs.{closed_row, size};
+    ghost use Rattle.rsx_types.specs.declared.signal.Signal.{Signal as SignalSpec};
     ghost use Rattle.rsx_tree.specs.Tree.{comes_out, notes, edges, offers, popped, IsPopped, IsKept, IsAllClosed, can_ask, can_send, send_allocates, IsAskedAt, IsSentAt, IsUnchosen};
 
     /// Which signal the root offers, if it does.
@@ -79,6 +81,7 @@ impl<M: Machine> Node<M> {
         ensures offers { (m : Meaning M.Item) → offers M.Machine m self.new ≡ offers M.Machine m self.old }
         ensures ok { OnOk result (can_ask M.Machine self.old at asked sent ≡ true) }
         ensures effect { OnOk result (IsAskedAt M.Machine self.old at asked sent self.new) }
+        ensures balance { (s : ℕ) → IsBalanced M.Machine self.old s → IsBalanced M.Machine self.new s }
         ensures err { IfErr result (λ e. (e ≡ NotMade.NotEnabled) × (can_ask M.Machine self.old at asked sent ≡ false)) }
         ensures same { OnErr result (self.new ≡ self.old) }
     {
@@ -98,6 +101,7 @@ impl<M: Machine> Node<M> {
         ensures kept { OnOk result (IsKept M.Machine (O.meaning ops.now) self.old self.new) }
         ensures ok { OnOk result (can_send M.Machine (O.meaning ops.now) self.old at ≡ true) }
         ensures effect { OnOk result (IsSentAt M.Machine (O.meaning ops.now) self.old at self.new) }
+        ensures balance { OnOk result ((s : ℕ) → IsBalanced M.Machine self.old s → IsBalanced M.Machine self.new s) }
         ensures err { IfErr result (IsNotMade (can_send M.Machine (O.meaning ops.now) self.old at)) }
         ensures memory { send_allocates M.Machine (O.allocates ops.now) self.old at ≡ false → IfErr result (λ e. e ≡ NotMade.NotEnabled) }
         ensures same { OnErr result (self.new ≡ self.old) }
@@ -146,6 +150,7 @@ impl<M: Machine> Node<M> {
     ) -> Result<u32, NoMemory>
         ensures driven { (n : ℕ) × Spent budget n result × IsDriven M.Machine (O.meaning ops.now) false n self.old asked sent self.new }
         ensures kept { IsKept M.Machine (O.meaning ops.now) self.old self.new }
+        ensures balance { (s : ℕ) → IsBalanced M.Machine self.old s → IsBalanced M.Machine self.new s }
         ensures idle { IfOk result (λ left. 0 < left → IsIdle M.Machine (O.meaning ops.now) self.new asked sent) }
     {
         let mut left = budget;
@@ -170,6 +175,9 @@ impl<M: Machine> Node<M> {
     pub fn is_idle(&self, asked: u64, sent: u64) -> bool
         ensures yes { (m : Meaning M.Item) → result ≡ true → IsIdle M.Machine m self.now asked sent }
         ensures no { (m : Meaning M.Item) → result ≡ false → IsBusy M.Machine m self.now asked sent }
+
+        // Idle means that what is asked for is offered.
+        ensures offers { (m : Meaning M.Item) → result ≡ true → size self.now.inputs ≤ 2 ^ 64 → IsStill M.Machine self.now asked sent → IsBalanced M.Machine self.now sent → sent < asked → IsWithin self.now → (s : SignalSpec M.Item) × (offers M.Machine m self.now ≡ Some s) }
     {
         self.inputs.is_idle(&self.machine, 0, asked, sent)
     }

@@ -32,3 +32,11 @@ rounds-preserved g c =
           idle_after g.M.Machine (g.O.Ops.meaning c.args.ops.now) k.0 c.in-Ok.pass.is_over c.args.asked c.args.sent c.rounds.self.machine c.drive.new.receiver c.rounds.self.inputs c.drive.new.self c.close_if.new.self
           none k.2 shut (c.in-Ok.ensures.idle same (c.rounds.invariant.1 c.rounds-test.true)),
     )
+
+pub returns-in-Err-clause-balance : goal.returns-in-Err-clause-balance
+returns-in-Err-clause-balance g c =
+    let k = c.in-Err.ensures.driven in
+    let rest : k.0 + (c.rounds.left - k.0) ≡ c.rounds.left = let q = k.1 in omega (arith, q) in
+    let u = tree_under_way g.M.Machine (g.O.Ops.meaning c.args.ops.now) c.args.self.now c.args.asked c.args.sent c.args.budget c.rounds.left (c.rounds.left - k.0) k.0 false c.rounds.self.machine c.drive.new.receiver c.rounds.self.inputs c.drive.new.self c.drive.new.self
+    c.rounds.invariant.0 rest k.2 refl in
+    u.balance

@@ -1,3 +1,4 @@
+use Rattle.rsx_tree.proofs.Balances.{tree_send_balanced}
 use Rattle.std.proofs.Common.{◌≡◌, ◌&&◌, ap, sym, ◌∙◌, rules}
 use Rattle.rsx_tree.specs.Inputs.{closed_row_if, is_own}
 use Rattle.rsx_tree.proofs.Trees.{kept_sent, can_sent, sent_effect}
@@ -16,3 +17,7 @@ returns-in-Ok-clause-effect g c =
 
 pub returns-in-Err-clause-err : goal.returns-in-Err-clause-err
 returns-in-Err-clause-err g c = c.in-Err.ensures.err 0 0
+
+pub returns-in-Ok-clause-balance : goal.returns-in-Ok-clause-balance
+returns-in-Ok-clause-balance g c = λ s k.
+    tree_send_balanced g.M.Machine (g.O.Ops.meaning c.args.ops.now) c.args.self.now.machine c.send.new.receiver 0 0 c.args.self.now.inputs c.args.at c.send.new.self c.close_if.new.self s (c.in-Ok.ensures.made 0 0) (search rules) k

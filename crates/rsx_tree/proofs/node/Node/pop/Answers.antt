@@ -1,0 +1,5 @@
+use Rattle.rsx_tree.proofs.Trees.{popped_tree}
+use Rattle.rsx_tree.proofs.node.Node.pop.Goals as goal
+
+pub returns-in-Ok-clause-ok : goal.returns-in-Ok-clause-ok
+returns-in-Ok-clause-ok g c = popped_tree g.M.Machine (g.O.Ops.meaning c.args.ops.now) c.args.self.now.machine c.pop_front.new.self c.args.self.now.inputs c.in-Ok.signal c.in-Ok.ensures.ok c.pop_front.ensures.recorded c.in-Ok.ensures.counts
