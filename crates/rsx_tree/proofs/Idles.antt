@@ -23,14 +23,14 @@ use Rattle.rsx_tree.proofs.Drives.{back, back_over, send_anywhere}
 -- ---- the moves of a part of a row
 
 -- there is no edge with a number past the row's
-place_none : {M : Type 0} (r : M) (i asked sent : ℕ) (t : Inputs M) (at : ℕ) → size t ≤ at → place r i asked sent t at ≡ None
+pub place_none : {M : Type 0} (r : M) (i asked sent : ℕ) (t : Inputs M) (at : ℕ) → size t ≤ at → place r i asked sent t at ≡ None
 place_none r i asked sent End at h = refl
 place_none r i asked sent (More' e n p below q beside) at h =
     chosen_second (nat_eq at 0) _ _ (not_zero at (omega (arith, h)))
     ∙ (chosen_second (nat_le at (size below)) (place n 0 e.demand.asked e.demand.sent below (at - 1)) (place r (i + 1) asked sent beside (at - 1 - size below)) (is_beyond at (size below) (omega (arith, h)))
     ∙ place_none r (i + 1) asked sent beside (at - 1 - size below) (omega (arith, h)))
 
-less_or_more : (a b : ℕ) → (a < b) ⊎ (b ≤ a)
+pub less_or_more : (a b : ℕ) → (a < b) ⊎ (b ≤ a)
 less_or_more a b = by_test (nat_lt a b) refl
   where
     by_test : (c : Bool) → nat_lt a b ≡ c → (a < b) ⊎ (b ≤ a)
@@ -86,7 +86,7 @@ within_row (More' e n p below q beside) w = (w.0, within_row beside w.2)
 not_less : (a b : ℕ) → a < b → nat_lt a b ≡ true
 not_less a b l = grind (arith, nat_tests)
 
-can_pass_live : (e : EdgeView) (f : Front) → is_live e.state ≡ true → e.sent < e.asked → can_pass e f ≡ true
+pub can_pass_live : (e : EdgeView) (f : Front) → is_live e.state ≡ true → e.sent < e.asked → can_pass e f ≡ true
 can_pass_live e Item v l = rw (v, not_less e.sent e.asked l) refl
 can_pass_live e Completion v l = v
 can_pass_live e (Failure c) v l = v
@@ -153,9 +153,12 @@ none_hungry {M} {T} b m waits hungers r i asked sent (More' e n p below q beside
     ]
 
 -- an idle tree of which more is asked than it sent offers a signal
-pub idle_offers : {M T : Type 0} (b : Machine M T) (m : Meaning T) → Waits b m → Hungers b m → (t : Node M) (asked sent : ℕ) → size t.inputs ≤ 2 ^ 64 → IsIdle b m t asked sent → IsStill b t asked sent → IsBalanced b t sent → sent < asked → IsWithin t → (s : Signal T) × (offers b m t ≡ Some s)
-idle_offers {M} {T} b m waits hungers t asked sent small idle still balanced more within = by_offer (offers b m t) refl
+pub idle_offers : {M T : Type 0} (b : Machine M T) (m : Meaning T) → Waits b m → Hungers b m → (t : Node M) (asked sent : ℕ) → IsIdle b m t asked sent → IsStill b t asked sent → IsBalanced b t sent → sent < asked → IsWithin t → (s : Signal T) × (offers b m t ≡ Some s)
+idle_offers {M} {T} b m waits hungers t asked sent idle still balanced more within = by_offer (offers b m t) refl
   where
+    small : 0 + size t.inputs ≤ 2 ^ 64
+    small = let w = within.0 in omega (arith, w)
+
     row_idle : IsRowIdle b m t.machine 0 asked sent t.inputs
     row_idle at lt = let k = idle at (omega (arith, lt)) in (k.0, send_anywhere b m t.machine 0 asked sent 0 0 t.inputs at ∙ k.1)
 
@@ -163,7 +166,7 @@ idle_offers {M} {T} b m waits hungers t asked sent small idle still balanced mor
     zero_plus k = omega arith
 
     stuck : b.waiting m t.machine ≡ None → b.ended t.machine ≡ false → b.counted t.machine (sent_over t.inputs) sent → IsRowBalanced b t.machine 0 t.inputs → ⊥
-    stuck none open_still counted row = elim (hungers t.machine (sent_over t.inputs) asked sent open_still counted none more (within_row t.inputs within)) [
+    stuck none open_still counted row = elim (hungers t.machine (sent_over t.inputs) asked sent open_still counted none more (within_row t.inputs within.1)) [
       | inl k ↦ both (b.picks t.machine k.0 asked sent) k.2 (still.0 k.0 k.1)
       | inr y ↦ elim y [
         | inl k ↦ both (b.rows t.machine asked sent) k still.1
@@ -171,7 +174,7 @@ idle_offers {M} {T} b m waits hungers t asked sent small idle still balanced mor
             let D : ℕ → Type 0 = λ j. b.done t.machine j ≡ false in
             let F : ℕ → Type 0 = λ j. (f : Front) → b.takes t.machine j f ≡ true in
             let W : ℕ → Type 0 = λ j. k.c < b.wanted t.machine j asked sent in
-            none_hungry b m waits hungers t.machine 0 asked sent t.inputs (omega (arith, small)) row_idle row within still.2 k.i k.c k.at (subst D (zero_plus k.i) k.open_still) (subst F (zero_plus k.i) k.takes_any) (subst W (zero_plus k.i) k.wants)
+            none_hungry b m waits hungers t.machine 0 asked sent t.inputs small row_idle row within.1 still.2 k.i k.c k.at (subst D (zero_plus k.i) k.open_still) (subst F (zero_plus k.i) k.takes_any) (subst W (zero_plus k.i) k.wants)
       ]
     ]
 

@@ -11,9 +11,11 @@ use Rattle.rsx_tree.specs.declared.look.Enabled.{Enabled}
 use Rattle.rsx_tree.specs.declared.look.Enabled.TheVariants.{Ask, Send}
 use Rattle.rsx_tree.specs.Edges.{edge_view, can_ask_for}
 use Rattle.rsx_tree.specs.Inputs.{size, place, Place, can_send_over, can_ask_in, can_send_in}
-use Rattle.rsx_tree.specs.Look.{IsEnabledIn}
+use Rattle.rsx_tree.specs.Look.{IsEnabledIn, IsEnabledAt}
+use Rattle.rsx_tree.specs.Tree.{can_ask, can_send}
+use Rattle.rsx_tree.specs.declared.node.Node.{Node}
 use Rattle.rsx_tree.proofs.Changes.{Rest, chosen_first, chosen_second, not_zero, is_within, is_beyond}
-use Rattle.rsx_tree.proofs.Drives.{back, back_over, row_tree}
+use Rattle.rsx_tree.proofs.Drives.{back, back_over, row_tree, send_anywhere}
 
 pub at_below : {M : Type 0} (r : M) (i asked sent : ℕ) (e : Edge) (n : M) (below beside : Rest M) (at : ℕ) → at < size below.value → place r i asked sent (More e n below beside) (at + 1) ≡ place n 0 e.demand.asked e.demand.sent below.value at
 at_below r i asked sent e n below beside at w =
@@ -101,3 +103,15 @@ none_beside {M} b m r i asked sent first inside t e n below beside was was' None
 
 pub all_counted : (s inside at k : ℕ) {z : ℕ} → z ≡ s → inside ≡ min z (4294967295 - at) → inside ≡ 4294967295 - at → at + 1 + s + k < 2 ^ 32 → ⊥
 all_counted s inside at k is e all lt = omega (arith, is, e, all, lt)
+
+-- ---- a tree
+
+pub enabled_tree : {M T : Type 0} (b : Machine M T) (m : Meaning T) (t : Node M) (asked sent first : ℕ) (o : Option Enabled) → IfSome o (λ e. IsEnabledIn b m t.machine 0 asked sent t.inputs first e) → IfSome o (λ e. IsEnabledAt b m t asked sent first e)
+enabled_tree b m t asked sent first None h = tt
+enabled_tree b m t asked sent first (Some (Ask n)) h = h
+enabled_tree b m t asked sent first (Some (Send n)) h = (h.0, h.1, h.2, send_anywhere b m t.machine 0 0 0 asked sent t.inputs h.0 ∙ h.3)
+
+pub none_tree : {M T : Type 0} (b : Machine M T) (m : Meaning T) (t : Node M) (asked sent first : ℕ) (o : Option Enabled) → IfNone o (NoneUpTo b m t.machine 0 asked sent t.inputs first) →
+    IfNone o ((k : ℕ) → first + k < 2 ^ 32 → (can_ask b t k asked sent ≡ false) × (can_send b m t k ≡ false))
+none_tree b m t asked sent first (Some e) h = tt
+none_tree b m t asked sent first None h = λ k lt. let q = h k lt in (q.0, send_anywhere b m t.machine 0 0 0 asked sent t.inputs k ∙ q.1)

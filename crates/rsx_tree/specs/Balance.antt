@@ -41,9 +41,9 @@ abbrev pub IsRowWithin : {M : Type 0} → Inputs M → Type 0
 IsRowWithin End = ⊤
 IsRowWithin (More' e n p below q beside) = (e.demand.sent < 9223372036854775807) × IsRowWithin below × IsRowWithin beside
 
--- nor has an edge below the root
+-- nor has an edge below the root; and each node below it has a number
 abbrev pub IsWithin : {M : Type 0} → Node M → Type 0
-IsWithin t = IsRowWithin t.inputs
+IsWithin t = (size t.inputs + 1 < 2 ^ 32) × IsRowWithin t.inputs
 
 -- no node of the row can pick or make a row
 abbrev pub IsRowStill : {M T : Type 0} → Machine M T → Inputs M → Type 0

@@ -4,6 +4,7 @@ ghost use Rattle.std.specs.Prelude.{◌≡◌};
 
 use crate::edge::Edge;
 use crate::inputs::Inputs;
+use crate::look::Enabled;
 use rsx_sources::{Front, Machine, NotMade};
 use rsx_types::{NoMemory, Note, Ops, Signal, StreamValue};
 use std::alloc::Global;
@@ -24,11 +25,12 @@ impl<M: Machine> Node<M> {
     ghost use Rattle.rsx_types.specs.declared.note.Note.{Note as NoteSpec};
     ghost use Rattle.rsx_sources.specs.Machine.{front_of};
     ghost use Rattle.rsx_sources.specs.Steps.{IsNotMade};
-    ghost use Rattle.std.specs.Prelude.{◌<◌, ◌≤◌, ◌^◌, Some};
+    ghost use Rattle.std.specs.Prelude.{◌<◌, ◌+◌, ◌^◌, Some, IfSome, IfNone};
     ghost use Rattle.rsx_tree.specs.Driven.{IsDriven, IsIdle, IsBusy, Spent};
     ghost use Rattle.rsx_tree.specs.Edges.{closed_view};
     ghost use Rattle.rsx_tree.specs.Balance.{IsBalanced, IsStill, IsWithin};
-    ghost use Rattle.rsx_tree.specs.Inputs.{closed_row, size};
+    ghost use Rattle.rsx_tree.specs.Inputs.{closed_row};
+    ghost use Rattle.rsx_tree.specs.Look.{IsEnabledAt};
     ghost use Rattle.rsx_types.specs.declared.signal.Signal.{Signal as SignalSpec};
     ghost use Rattle.rsx_tree.specs.Tree.{comes_out, notes, edges, offers, popped, IsPopped, IsKept, IsAllClosed, can_ask, can_send, send_allocates, IsAskedAt, IsSentAt, IsUnchosen};
 
@@ -177,9 +179,19 @@ impl<M: Machine> Node<M> {
         ensures no { (m : Meaning M.Item) → result ≡ false → IsBusy M.Machine m self.now asked sent }
 
         // Idle means that what is asked for is offered.
-        ensures offers { (m : Meaning M.Item) → result ≡ true → size self.now.inputs ≤ 2 ^ 64 → IsStill M.Machine self.now asked sent → IsBalanced M.Machine self.now sent → sent < asked → IsWithin self.now → (s : SignalSpec M.Item) × (offers M.Machine m self.now ≡ Some s) }
+        ensures offers { (m : Meaning M.Item) → result ≡ true → IsStill M.Machine self.now asked sent → IsBalanced M.Machine self.now sent → sent < asked → IsWithin self.now → (s : SignalSpec M.Item) × (offers M.Machine m self.now ≡ Some s) }
     {
         self.inputs.is_idle(&self.machine, 0, asked, sent)
+    }
+
+    /// The first enabled move in pre-order, where the edge just below the root has the number `first`; `asked` and `sent` are
+    /// those of the root's own edge. None where no move is enabled, of all that a number can name.
+    pub fn first_enabled(&self, first: u32, asked: u64, sent: u64) -> Option<Enabled>
+        ensures some { (m : Meaning M.Item) → IfSome result (λ e. IsEnabledAt M.Machine m self.now asked sent first e) }
+        ensures none { (m : Meaning M.Item) → IfNone result ((k : ℕ) → first + k < 2 ^ 32 → (can_ask M.Machine self.now k asked sent ≡ false) × (can_send M.Machine m self.now k ≡ false)) }
+    {
+        self.inputs
+            .first_enabled(&self.machine, 0, asked, sent, first)
     }
 }
 
