@@ -7,6 +7,7 @@ ghost use Rattle.rsx_tree.specs.Inputs.{can_send_over};
 
 use crate::edge::Edge;
 use crate::inputs::Inputs;
+use crate::node::Node;
 use rsx_sources::Machine;
 
 /// An enabled move over the edge with a number.
@@ -132,6 +133,26 @@ impl<M: Machine> Inputs<M> {
                 beside.first_enabled(receiver, input + 1, asked, sent, at + 1 + inside)
             }
         }
+    }
+}
+
+impl<M: Machine> Node<M> {
+    ghost use Rattle.std.specs.Prelude.{◌≡◌};
+    ghost use Rattle.rsx_types.specs.Meaning.{Meaning};
+    ghost use Rattle.rsx_tree.specs.Tree.{can_ask, can_send};
+
+    /// Whether an Ask over the edge `at` below the root is enabled; `asked` and `sent` are those of the root's own edge.
+    pub fn can_ask(&self, at: u32, asked: u64, sent: u64) -> bool
+        ensures { result ≡ can_ask M.Machine self.now at asked sent }
+    {
+        self.inputs.can_ask(&self.machine, 0, asked, sent, at)
+    }
+
+    /// Whether a Send over the edge `at` below the root is enabled.
+    pub fn can_send(&self, at: u32) -> bool
+        ensures { (m : Meaning M.Item) → result ≡ can_send M.Machine m self.now at }
+    {
+        self.inputs.can_send(&self.machine, 0, at)
     }
 }
 
