@@ -70,6 +70,7 @@ impl<M: Machine> Node<M> {
     pub fn close(&mut self)
         ensures kept { (m : Meaning M.Item) → IsKept M.Machine m self.old self.new }
         ensures offers { (m : Meaning M.Item) → offers M.Machine m self.new ≡ offers M.Machine m self.old }
+        ensures notes { notes M.Machine self.new ≡ notes M.Machine self.old }
         ensures closed { IsAllClosed self.new }
         ensures edges { edges self.new ≡ map closed_view (edges self.old) }
     {
