@@ -1,19 +1,62 @@
-#!/bin/sh
-# Nanoseconds of processor time for one round of enter, add, mark and leave by one thread, beside the same three atomic steps in plain Rust.
-# First build crates/gate_bench (rt run makes crates/gate_bench/out/gate_bench). The least of nine runs counts.
-set -eu
-cd "$(dirname "$0")/.."
-rounds=${1:-10000000}
-rustc -O -o "${TMPDIR:-/tmp}/gate_baseline" bench/gate/baseline.rs
+#!/usr/bin/env bash
+# Runs the gate, `rt ci`, from nothing and prints what each of its own steps cost in processor seconds: for each crate its proof, its tests, its first
+# must-fail edit (which checks the whole crate again) and the mean of its further edits, and the sum of all.
+# Usage: bench/gate.sh [LOG]. The gate's own output goes to LOG (standard error where none is given), the table to standard output, most dear first.
+# Processor time grows with the load of the machine, by up to a half: say the load beside a figure.
+set -uo pipefail
 
-measure() {
-    least=
-    for _ in 1 2 3 4 5 6 7 8 9; do
-        seconds=$({ echo "$rounds" | env time -f %U "$1" >/dev/null; } 2>&1)
-        least=$(printf '%s\n%s\n' "$seconds" "${least:-$seconds}" | sort -g | head -1)
-    done
-    awk -v s="$least" -v n="$rounds" -v name="$2" 'BEGIN { printf "%s: %.1f ns a round\n", name, s * 1e9 / n }'
-}
+root=$(cd "$(dirname "${BASH_SOURCE[0]}")/.." && pwd) || exit 2
+log=${1:-/dev/stderr}
+kit=$(dirname "$(rt doc)") || exit 2
+room=$(mktemp -d) || exit 2
+trap 'rm -rf "$room"' EXIT
 
-measure crates/gate_bench/out/gate_bench 'rsx_gate'
-measure "${TMPDIR:-/tmp}/gate_baseline" 'plain Rust'
+# A copy of the toolchain's folder, all links but for the two files of `rt` and the prover, which is called through a clock.
+mkdir "$room/bin"
+for it in "$kit"/*; do [[ $(basename "$it") == bin ]] || ln -s "$it" "$room/"; done
+for it in "$kit"/bin/*; do ln -s "$it" "$room/bin/"; done
+rm "$room/bin/rt" "$room/bin/rtlib.py" "$room/bin/rattle"
+cp "$kit/bin/rt" "$kit/bin/rtlib.py" "$room/bin/"
+cat >"$room/bin/rattle" <<CLOCK
+#!/usr/bin/env python3
+import os, resource, subprocess, sys
+words = sys.argv[1:]
+status = subprocess.call(["$kit/bin/rattle", *words], close_fds=False)
+used = resource.getrusage(resource.RUSAGE_CHILDREN)
+if "--crate-name" in words:
+    kind = "edit" if os.path.basename(os.getcwd()).startswith("rt-edit-") else "tests" if "--test" in words else "proof"
+    with open("$room/steps", "a") as it:
+        it.write(f"{words[words.index('--crate-name') + 1]} {kind} {used.ru_utime + used.ru_stime:.2f}\\n")
+if status < 0:
+    os.kill(os.getpid(), -status)
+sys.exit(status)
+CLOCK
+chmod +x "$room/bin/rattle"
+
+cd "$root" || exit 2
+begun=$(date +%s)
+"$room/bin/rt" ci >"$log" 2>&1
+status=$?
+ended=$(date +%s)
+
+python3 - "$room/steps" "$((ended - begun))" <<'TABLE'
+import collections, sys
+crates = collections.defaultdict(lambda: {"proof": 0.0, "tests": 0.0, "edits": []})
+for line in open(sys.argv[1]):
+    name, kind, used = line.split()
+    if kind == "edit":
+        crates[name]["edits"].append(float(used))
+    else:
+        crates[name][kind] += float(used)
+rows = []
+for name, it in crates.items():
+    first, further = it["edits"][:1], it["edits"][1:]
+    rows.append((it["proof"] + it["tests"] + sum(it["edits"]), name, it["proof"], it["tests"], sum(first), sum(further) / max(len(further), 1), len(it["edits"])))
+form = "{:20} {:>8} {:>8} {:>11} {:>13} {:>7} {:>8}"
+print(form.format("crate", "proof", "tests", "first edit", "further edit", "checks", "in all"))
+for whole, name, proof, tests, first, mean, count in sorted(rows, reverse=True):
+    print(form.format(name, f"{proof:.0f}", f"{tests:.0f}", f"{first:.0f}", f"{mean:.1f}", count, f"{whole:.0f}"))
+print(f"all: {sum(it[0] for it in rows):.0f} s of processor time, of it proofs {sum(it[2] for it in rows):.0f}, tests {sum(it[3] for it in rows):.0f}, edits {sum(it[0] - it[2] - it[3] for it in rows):.0f}; {sys.argv[2]} s by the clock")
+TABLE
+echo "the gate ended with status $status"
+exit "$status"

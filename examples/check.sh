@@ -1,15 +1,68 @@
 #!/usr/bin/env bash
-# Runs each example and compares what it writes with its stored answers.
+# Runs each example and compares what it writes and how it ends with what is stored: its answers in NAME.answers, by
+# `rsx scratch` in NAME.scratch where that file is there, and in NAME.fault the line on standard error of an example that
+# ends with status 1. Then it looks at what the launcher hands through.
 set -uo pipefail
 
-here=$(cd "$(dirname "${BASH_SOURCE[0]}")" && pwd)
+here=$(cd "$(dirname "$(readlink -f "${BASH_SOURCE[0]}")")" && pwd)
+rsx=$here/../rsx
+room=$(mktemp -d)
+trap 'rm -rf "$room"' EXIT
 failed=0
-for script in "$here"/*.rsx; do
-    if diff <("$here"/../rsx run <"$script") "${script%.rsx}.answers"; then
-        echo "$(basename "$script"): as stored"
+
+# Says whether a thing is as it should be: a name, and a command that tells.
+expect() {
+    if "${@:2}"; then
+        echo "$1: as stored"
     else
-        echo "$(basename "$script"): differs" >&2
+        echo "$1: differs" >&2
         failed=1
     fi
+}
+
+# Whether the program ends with this status, given the rest of the words and its standard input.
+ends_with() {
+    "$rsx" "${@:2}" >"$room/written" 2>"$room/said"
+    local status=$?
+    ((status == $1)) || echo "status $status in place of $1" >&2
+    ((status == $1))
+}
+
+# Whether a script writes the answers of that file in this mode, and ends as it should.
+answers() {
+    local fault=${1%.rsx}.fault status=1
+    if [[ ! -f $fault ]]; then
+        fault=/dev/null status=0
+    fi
+    ends_with "$status" "$2" <"$1" && diff "$room/written" "$3" && diff "$room/said" "$fault"
+}
+
+# Whether the program ends for want of memory where it may have 32 MiB, and has written what it had answered by then.
+ends_without_memory() (
+    ulimit -v 32768
+    printf 'subscribe (range 1 1000000)\nsubscribe (range 1 1000000)\n' >"$room/large"
+    printf 'request 0 1000000\nrequest 1 1000000\npump 4294967295\n' >>"$room/large"
+    ends_with 4 run <"$room/large" && diff "$room/written" <(printf 'sub 0\nsub 1\nok\nok\n') &&
+        diff "$room/said" <(echo 'rsx: out of memory')
+)
+
+# Proves and builds the program where that is needed, so that what follows only runs it.
+"$rsx" run </dev/null || exit
+
+expect 'the copies that the gate compares' \
+    diff -r -x README.md -x check.sh -x jvm "$here" "$here/../crates/script_rows/data"
+for script in "$here"/*.rsx; do
+    name=$(basename "$script" .rsx)
+    expect "$name" answers "$script" run "${script%.rsx}.answers"
+    if [[ -f ${script%.rsx}.scratch ]]; then
+        expect "$name by scratch" answers "$script" scratch "${script%.rsx}.scratch"
+    fi
 done
+expect 'a command line without a mode' ends_with 2 </dev/null
+expect 'a command line that asks for help' ends_with 2 --help </dev/null
+expect 'an argument that is no text' ends_with 2 run $'\xff' </dev/null
+expect 'want of memory' ends_without_memory
+ln -s "$rsx" "$room/linked"
+expect 'the launcher by a symlink, from another folder' \
+    diff <(cd / && "$room/linked" run <"$here/first.rsx") "$here/first.answers"
 exit $failed

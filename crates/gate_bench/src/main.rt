@@ -1,5 +1,5 @@
 //! One seat enters a gate, adds one, marks and leaves, as many times as the first line of the input says. It prints the count.
-//! `bench/gate.sh` takes its time.
+//! `bench/gate_rounds.sh` takes its time.
 #![tactic(auto)]
 
 ghost use Rattle.rsx_gate.specs.Seats.{IsSeatOf};

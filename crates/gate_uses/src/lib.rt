@@ -1,14 +1,11 @@
 //! A holder of the gate: a count to which threads add, one at a time.
 #![tactic(auto)]
 
-ghost use Rattle.std.specs.Prelude.{◌≡◌, ◌≤◌};
+ghost use Rattle.std.specs.Prelude.{◌≡◌, ◌+◌, ◌-◌, ◌^◌, ◌≤◌, min};
 ghost use Rattle.rsx_gate.specs.Seats.{IsSeatOf};
-ghost use Rattle.gate_uses.specs.Outcome.{EndedBy};
+ghost use Rattle.gate_uses.specs.Outcome.{Visited};
 
 use rsx_gate::{Gate, Kept, Left, More, Noted, Pass, Seat};
-
-#[cfg(test)]
-mod tests;
 
 /// A count, which is never below what it began at: the key of its gate.
 #[derive(Drop)]
@@ -20,8 +17,8 @@ impl Kept<u64> for Count {
     ghost fits = { λ key count. key ≤ count.0 };
 }
 
-/// How often a holder looks for notes before it gives up.
-const ROUNDS: u8 = 8;
+/// How often a holder marks and leaves before it gives up.
+pub const ROUNDS: u8 = 8;
 
 /// What a visit to the gate came to.
 #[derive(Clone, Copy)]
@@ -34,25 +31,27 @@ pub enum Outcome {
     More,
 }
 
+/// Counts one more, up to the largest number.
 fn add(count: &mut Count)
-    ensures { count.old.0 ≤ count.new.0 }
+    ensures one_more { count.new.0 ≡ min (2 ^ 64 - 1) (count.old.0 + 1) }
+    ensures no_less { count.old.0 ≤ count.new.0 }
 {
     count.0 = count.0.saturating_add(1);
 }
 
-/// Adds one where it gets the pass, and marks until a leave finds no note. The seat has no pass before or after, and keeps its parts; its newest step is the one that the outcome tells of.
+/// Adds one where it gets the pass, then marks and leaves until no one entered in between, and after [`ROUNDS`] such rounds gives up. The seat has no pass before or after, and keeps its parts; it made just the steps that the outcome tells of.
 pub fn visit(gate: &Gate<Count, u64>, seat: &mut Seat<Count, u64>) -> Outcome
     requires { IsSeatOf gate.now seat.old }
     ensures seat { IsSeatOf gate.now seat.new }
     ensures parts { seat.new.me.0.parts ≡ seat.old.me.0.parts }
-    ensures outcome { EndedBy result seat.new.me.0.steps }
+    ensures steps { Visited result seat.old.me.0.steps seat.new.me.0.steps }
 {
     let mut pass = match Pass::enter(seat, gate) {
         Ok(pass) => pass,
         Err(Noted) => return Outcome::Noted,
     };
     add(pass.value(gate));
-    for _ in 0..ROUNDS {
+    for round in 0..ROUNDS {
         pass.mark(gate);
         match pass.leave(gate) {
             Left::Gone => return Outcome::Gone,

@@ -3,48 +3,19 @@
 //!
 //! `rsx run` reads standard input, one command a line, and writes one answer for each to standard output. `rsx scratch`
 //! does the same, but shows a subscription by the value of its expression, evaluated from scratch. Exit status 0 where
-//! the input ended; 1 after a line that can't be read; 2 after a command line that `clap` refused or that asked
-//! for help; 3 after a read or a write that failed; 4 where memory was wanted.
-
-mod command;
-mod drive;
-mod fault;
-mod parse;
-mod print;
-mod session;
-mod words;
+//! the input ended; 1 after a line that can't be read; 2 after a command line that is wrong or that asked for help; 3
+//! after a read or a write that failed; 4 where memory was wanted.
 
 use clap::error::ErrorKind;
-use clap::{Command, Error};
-use drive::{Mode, drive};
-use fault::AppFault;
-use std::alloc::Global;
+use rsx_command_line::mode_of;
+use rsx_drive::drive;
+use rsx_script::AppFault;
 use std::process::ExitCode;
 use std::rt::Env;
 use std::{env, io};
 
 /// The exit status after a command line that was refused or that asked for help.
 const USAGE: u8 = 2;
-
-/// What the command line asks for.
-fn mode_of(alloc: Global, words: &[String]) -> Result<Mode, Error> {
-    let run = Command::new(alloc, "run").about("Answers each command of a script");
-    let scratch = Command::new(alloc, "scratch").about(
-        "The same, but shows values evaluated from scratch",
-    );
-    let program = Command::new(alloc, "rsx")
-        .bin_name("rsx")?
-        .about("Runs scripts over graphs of reactive streams")
-        .disable_help_subcommand(true)
-        .subcommand_required(true)
-        .subcommand(run)?
-        .subcommand(scratch)?;
-    let matches = program.try_get_matches_from(words)?;
-    match matches.subcommand_name() {
-        Some("scratch") => Ok(Mode::Scratch),
-        _ => Ok(Mode::Run),
-    }
-}
 
 /// The words of the command line, the program's own first.
 fn words_of(rt: &(impl Env + AllocGlobal)) -> io::Result<Vec<String>> {
@@ -82,13 +53,19 @@ fn complain(rt: &(impl Eprint + AllocGlobal), fault: AppFault) -> u8 {
     fault.status()
 }
 
+/// What the program comes to where its arguments can't be had: there is no memory for them, or one of them is no text.
+fn refuse(rt: &(impl Eprint + AllocGlobal), error: &io::Error) -> u8 {
+    if error.kind() == io::ErrorKind::OutOfMemory {
+        return complain(rt, AppFault::Memory);
+    }
+    let _ = rt.eprintln("rsx: an argument is no text");
+    USAGE
+}
+
 fn main(rt: HostRuntime) -> ExitCode {
     let status = match words_of(&rt) {
         Ok(words) => run(&rt, &words),
-        Err(_) => complain(&rt, AppFault::Memory),
+        Err(error) => refuse(&rt, &error),
     };
     ExitCode::from(status)
 }
-
-#[cfg(test)]
-mod tests;

@@ -7,7 +7,8 @@ use Rattle.rsx_types.specs.Meaning.{Meaning}
 use Rattle.rsx_types.specs.Plain.{taken_items, buffered_items}
 use Rattle.rsx_types.specs.Stream.{Stream, item_then}
 use Rattle.rsx_plain.specs.declared.state.PlainState.TheVariants.{Buffer}
-use Rattle.rsx_chain.specs.Portions.{ended_or, item_or}
+use Rattle.rsx_plain.specs.Moves.{ended_or}
+use Rattle.rsx_chain.specs.Portions.{item_or}
 use Rattle.rsx_chain.specs.Attempts.{without_last, without_last_from, last_of, last_from, list_at_end, list_due, Tries}
 use Rattle.rsx_chain.specs.declared.attempt.Held.TheVariants.{Gathered}
 

@@ -7,7 +7,8 @@ use Rattle.rsx_types.specs.Stream.{Stream}
 use Rattle.rsx_plain.specs.State.{plain_from, is_over}
 use Rattle.rsx_plain.specs.declared.state.PlainState.{PlainState}
 use Rattle.rsx_plain.specs.declared.state.PlainState.TheVariants.{Take, Scan, Buffer, Distinct}
-use Rattle.rsx_chain.specs.Portions.{portion_then, has_ended}
+use Rattle.rsx_plain.specs.Moves.{has_ended}
+use Rattle.rsx_chain.specs.Portions.{portion_then}
 use Rattle.rsx_chain.specs.declared.portion.Portion.{Portion}
 use Rattle.rsx_chain.specs.declared.attempt.Attempt.{Attempt}
 use Rattle.rsx_chain.specs.declared.attempt.Held.{Held}

@@ -1,23 +1,12 @@
 -- At most one item, and then at most one ending: what stands in front of what still comes.
-use Rattle.std.specs.Prelude.{Bool, true, false, List, [], ◌∷◌, ◌++◌, Option, Some, None}
+use Rattle.std.specs.Prelude.{List, [], ◌∷◌, ◌++◌, Option, Some, None}
 use Rattle.rsx_types.specs.declared.signal.Ending.{Ending}
 use Rattle.rsx_types.specs.declared.signal.Ending.TheVariants.{Open, Done, Failed}
 use Rattle.rsx_types.specs.declared.signal.Signal.{Signal}
 use Rattle.rsx_types.specs.declared.signal.Signal.TheVariants.{Next, Complete, Error}
-use Rattle.rsx_types.specs.Stream.{Stream, ended_by, item_then, items_then, ending_signals}
+use Rattle.rsx_types.specs.Stream.{Stream, item_then, items_then, ending_signals}
+use Rattle.rsx_plain.specs.Moves.{ended_or}
 use Rattle.rsx_chain.specs.declared.portion.Portion.{Portion}
-
--- whether there is an ending
-abbrev pub has_ended : Ending → Bool
-has_ended Open = false
-has_ended Done = true
-has_ended (Failed c) = true
-
--- an ending cuts what follows it; where there is none yet, that comes
-abbrev pub ended_or : {T : Type 0} → Ending → Stream T → Stream T
-ended_or Open v = v
-ended_or Done v = ended_by Done
-ended_or (Failed c) v = ended_by (Failed c)
 
 -- an item, if there is one, and then what comes
 abbrev pub item_or : {T : Type 0} → Option T → Stream T → Stream T

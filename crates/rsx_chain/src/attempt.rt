@@ -1,6 +1,7 @@
 //! One operator of a chain takes a portion, and can still give it back.
 
-ghost use Rattle.std.specs.Prelude.{◌≡◌, Some, None, IfOk, IfErr, OnErr};
+ghost use Rattle.std.specs.Prelude.{◌≡◌, Some, None, false, IfOk, IfErr, IsOk, OnErr};
+ghost use Rattle.rsx_plain.specs.State.{scan_allocates, allocates_from};
 ghost use Rattle.rsx_plain.specs.declared.state.PlainState.TheVariants.{Map as MapFrom, Filter as FilterFrom, Take as TakeFrom, Scan as ScanFrom, Buffer as BufferFrom, Distinct as DistinctFrom};
 ghost use Rattle.rsx_chain.specs.Attempts.{Tries, committed, rolled_back, taken_back, list_at_end as at_end, list_due as due};
 
@@ -89,6 +90,7 @@ fn mapped<T: Drop, O: Ops<Item = T>>(
 ) -> Result<Attempt<T>, T>
     ensures ok { IfOk result (λ a. Tries (O.meaning ops.now) (MapFrom function) (record { item = Some item; ending = ending }) (MapFrom function) a) }
     ensures err { IfErr result (λ x. x ≡ item) }
+    ensures memory { (O.allocates ops.now).mapped ≡ false → IsOk result }
 {
     match ops.map(alloc, function, &item) {
         Ok(answer) => Ok(kept(item, Some(answer), ending)),
@@ -107,6 +109,7 @@ fn filtered<T: Drop, O: Ops<Item = T>>(
 ) -> Result<Attempt<T>, T>
     ensures ok { IfOk result (λ a. Tries (O.meaning ops.now) (FilterFrom function dropped) (record { item = Some item; ending = ending }) (FilterFrom function dropped) a) }
     ensures err { IfErr result (λ x. x ≡ item) }
+    ensures memory { (O.allocates ops.now).tested ≡ false → IsOk result }
 {
     match ops.test(function, &item) {
         Ok(true) => Ok(handed_on(item, ending)),
@@ -144,6 +147,7 @@ fn scanned<T: Drop, O: Ops<Item = T>>(
 ) -> Result<Attempt<T>, T>
     ensures ok { IfOk result (λ a. Tries (O.meaning ops.now) (ScanFrom function last.now) (record { item = Some item; ending = ending }) (ScanFrom function last.now) a) }
     ensures err { IfErr result (λ x. x ≡ item) }
+    ensures memory { scan_allocates (O.allocates ops.now) ≡ false → IsOk result }
 {
     match ops.fold(alloc, function, last, &item) {
         Ok(next) => match ops.copy(alloc, &next) {
@@ -260,7 +264,8 @@ fn ended<T: Drop, O: Ops<Item = T>>(
     state: &PlainState<T>,
     ending: Ending,
 ) -> Result<Attempt<T>, NoMemory>
-    ensures { IfOk result (λ a. Tries (O.meaning ops.now) state.now (record { item = None; ending = ending }) state.now a) }
+    ensures ok { IfOk result (λ a. Tries (O.meaning ops.now) state.now (record { item = None; ending = ending }) state.now a) }
+    ensures memory { allocates_from (O.allocates ops.now) state.now ≡ false → IsOk result }
 {
     match state {
         PlainState::Take { count: _, left: 0 } => Ok(still(None, Ending::Done)),
@@ -285,6 +290,7 @@ fn with_item<T: Drop, O: Ops<Item = T>>(
     ensures ok { IfOk result (λ a. Tries (O.meaning ops.now) state.old (record { item = Some item; ending = ending }) state.new a) }
     ensures err { IfErr result (λ x. x ≡ item) }
     ensures same { OnErr result (state.new ≡ state.old) }
+    ensures memory { allocates_from (O.allocates ops.now) state.old ≡ false → IsOk result }
 {
     match state {
         PlainState::Map { function } => mapped(alloc, ops, *function, item, ending),
@@ -307,7 +313,7 @@ fn with_item<T: Drop, O: Ops<Item = T>>(
 }
 
 /// What an operator answers for a portion. The answer stands once it is committed, and [`roll_back`] undoes it. For want of
-/// memory the portion comes back, and nothing has changed.
+/// memory the portion comes back, and nothing has changed; that comes only where the operator may allocate.
 pub(crate) fn try_take<T: Drop, O: Ops<Item = T>>(
     alloc: Global,
     ops: &O,
@@ -317,6 +323,7 @@ pub(crate) fn try_take<T: Drop, O: Ops<Item = T>>(
     ensures ok { IfOk result (λ a. Tries (O.meaning ops.now) state.old portion state.new a) }
     ensures err { IfErr result (λ p. p ≡ portion) }
     ensures same { OnErr result (state.new ≡ state.old) }
+    ensures memory { allocates_from (O.allocates ops.now) state.old ≡ false → IsOk result }
 {
     let ending = portion.ending;
     match portion.item {

@@ -1,13 +1,13 @@
 //! Chains of plain operators.
 
-ghost use Rattle.std.specs.Prelude.{◌≡◌, true, [], IfOk, IfErr, OnOk, OnErr, IsTrue};
+ghost use Rattle.std.specs.Prelude.{◌≡◌, true, false, [], IfOk, IfErr, IsOk, OnOk, OnErr, IsTrue};
 ghost use Rattle.rsx_types.specs.Meaning.{Meaning};
 ghost use Rattle.rsx_types.specs.Plain.{plain, chained};
 ghost use Rattle.rsx_types.specs.Stream.{Stream};
-ghost use Rattle.rsx_plain.specs.Moves.{Moves, EndsLast, is_ending, has_ending};
+ghost use Rattle.rsx_plain.specs.Moves.{Moves, EndsLast, is_ending, has_ending, has_ended};
 ghost use Rattle.rsx_plain.specs.State.{plain_from, plain_start, is_over};
-ghost use Rattle.rsx_chain.specs.Chain.{chain_from, chain_over};
-ghost use Rattle.rsx_chain.specs.Portions.{portion_then, followed_by, has_ended};
+ghost use Rattle.rsx_chain.specs.Chain.{chain_from, chain_over, chain_allocates};
+ghost use Rattle.rsx_chain.specs.Portions.{portion_then, followed_by};
 
 use crate::attempt::{commit, roll_back, try_take};
 use crate::portion::Portion;
@@ -38,13 +38,13 @@ pub struct Begun<T> {
 }
 
 impl<T: Drop> ChainState<T> {
-    ghost use Rattle.std.specs.Prelude.{◌≡◌, true, [], IfOk, IfErr, OnOk, OnErr, IsTrue};
+    ghost use Rattle.std.specs.Prelude.{◌≡◌, true, false, [], IfOk, IfErr, IsOk, OnOk, OnErr, IsTrue};
     ghost use Rattle.rsx_types.specs.Meaning.{Meaning};
     ghost use Rattle.rsx_types.specs.Plain.{chained};
     ghost use Rattle.rsx_types.specs.Stream.{Stream};
-    ghost use Rattle.rsx_plain.specs.Moves.{Moves, EndsLast, is_ending, has_ending};
-    ghost use Rattle.rsx_chain.specs.Chain.{chain_from, chain_over};
-    ghost use Rattle.rsx_chain.specs.Portions.{portion_then, followed_by, has_ended};
+    ghost use Rattle.rsx_plain.specs.Moves.{Moves, EndsLast, is_ending, has_ending, has_ended};
+    ghost use Rattle.rsx_chain.specs.Chain.{chain_from, chain_over, chain_allocates};
+    ghost use Rattle.rsx_chain.specs.Portions.{portion_then, followed_by};
 
     /// The chain of these operators, the first one innermost, before it has taken anything, with what comes out of it at the
     /// start: the seed of each `scan` goes through the operators behind it, and `take 0` completes at once. Where the chain is
@@ -87,7 +87,7 @@ impl<T: Drop> ChainState<T> {
     /// any signal by which the chain is over.
     ///
     /// The operators take memory as they do alone, and the chain takes none beside theirs. For want of it the signal comes back,
-    /// and every operator is as it was.
+    /// and every operator is as it was; that comes only where one of the operators may allocate.
     pub fn react<O: Ops<Item = T>>(
         &mut self,
         alloc: Global,
@@ -101,6 +101,7 @@ impl<T: Drop> ChainState<T> {
         ensures ended { OnOk result (is_ending signal ≡ true → has_ending out.new ≡ true) }
         ensures over { OnOk result (chain_over self.new ≡ true → has_ending out.new ≡ true) }
         ensures err { IfErr result (λ s. s ≡ signal) }
+        ensures memory { chain_allocates (O.allocates ops.now) self.old ≡ false → IsOk result }
         ensures same { OnErr result (self.new ≡ self.old) }
         ensures none { OnErr result (out.new ≡ []) }
     {
@@ -126,6 +127,7 @@ impl<T: Drop> ChainState<T> {
         ensures ended { IfOk result (λ out. has_ended portion.ending ≡ true → has_ended out.ending ≡ true) }
         ensures over { IfOk result (λ out. chain_over self.new ≡ true → has_ended out.ending ≡ true) }
         ensures err { IfErr result (λ p. p ≡ portion) }
+        ensures memory { chain_allocates (O.allocates ops.now) self.old ≡ false → IsOk result }
         ensures same { OnErr result (self.new ≡ self.old) }
     {
         match self {
@@ -157,8 +159,7 @@ impl<T: Drop> ChainState<T> {
     {
         match self {
             ChainState::End => false,
-            ChainState::Stage(PlainState::Take { count: _, left: 0 }, _) => true,
-            ChainState::Stage(_, behind) => behind.is_over(),
+            ChainState::Stage(state, behind) => state.is_over() || behind.is_over(),
         }
     }
 

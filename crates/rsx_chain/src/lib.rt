@@ -20,7 +20,5 @@
 mod attempt;
 pub mod chain;
 mod portion;
-#[cfg(test)]
-mod tests;
 
 pub use chain::{Begun, ChainState};

@@ -3,7 +3,8 @@
 ghost use Rattle.std.specs.Prelude.{◌≡◌, ◌<◌, true, [], ◌++◌, length, IfOk};
 ghost use Rattle.rsx_types.specs.Stream.{Stream, ending_signals};
 ghost use Rattle.rsx_types.specs.declared.signal.Signal.{Signal};
-ghost use Rattle.rsx_chain.specs.Portions.{portion_of, portion_signals, portion_then, followed_by, has_ended};
+ghost use Rattle.rsx_plain.specs.Moves.{has_ended};
+ghost use Rattle.rsx_chain.specs.Portions.{portion_of, portion_signals, portion_then, followed_by};
 
 use rsx_sources::OutSlot;
 use rsx_types::{Ending, NoMemory, Signal, StreamValue};

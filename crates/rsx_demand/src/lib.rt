@@ -12,9 +12,6 @@ ghost use Rattle.std.specs.Prelude.{◌≡◌, ◌+◌, ◌-◌, ◌<◌, ◌≤
 ghost use Rattle.rsx_demand.specs.Demand as spec;
 ghost use Rattle.rsx_demand.specs.declared.TheConstants.{UNBOUNDED};
 
-#[cfg(test)]
-mod tests;
-
 /// The largest demand, 2^63 - 1. Who asks for so much takes whatever comes (rule 3.17).
 pub const UNBOUNDED: u64 = 9_223_372_036_854_775_807;
 

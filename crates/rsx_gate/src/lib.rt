@@ -95,8 +95,6 @@ mod gate;
 mod laws;
 mod plays;
 mod rule;
-#[cfg(test)]
-mod tests;
 mod view;
 
 pub use gate::{Gate, Left, More, Noted, Pass, Seat};

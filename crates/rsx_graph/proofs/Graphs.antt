@@ -1,48 +1,40 @@
 -- How the subscriptions of a graph stand together.
-use Rattle.std.proofs.Common.{◌≡◌, ℕ, zero, suc, ◌+◌, ◌-◌, ◌<◌, ◌≤◌, List, [], ◌∷◌, ◌++◌, length, get_or, slice_get, refl, ap, sym, ◌∙◌, subst, arith, append_assoc, length-append, take, map, option_map, Option, Some, None, Result, Ok, Bool, true, false, nat_eq, if◌then◌else◌}
+use Rattle.std.proofs.Common.{◌^◌, ◌≡◌, ℕ, zero, suc, ◌+◌, ◌-◌, ◌<◌, ◌≤◌, List, [], ◌∷◌, ◌++◌, length, get_or, slice_get, refl, ap, sym, ◌∙◌, subst, arith, append_assoc, length-append, take, map, Option, Some, Result, Ok, Bool, true, false, nat_eq, if◌then◌else◌, inl, inr}
 use Rattle.std.proofs.Math.ListN.{set}
 use Rattle.std.proofs.lemmas.Bool.Decides.{nat_tests}
-use Rattle.std.proofs.lemmas.List.{take_more, take_all}
-use Rattle.rsx_types.specs.declared.names.Tree.{Tree}
-use Rattle.rsx_graph.specs.declared.refusal.Refusal.{Refusal}
+use Rattle.std.proofs.lemmas.List.{take_more, take_all, append-nil}
 use Rattle.rsx_model.specs.declared.expr.Expr.{Expr}
-use Rattle.rsx_types.specs.Notes.{unchosen}
-use Rattle.rsx_types.specs.declared.signal.Ending.{Ending}
-use Rattle.rsx_types.specs.declared.signal.Ending.TheVariants.{Open as NotEnded}
-use Rattle.rsx_types.specs.declared.names.Move.{Move}
-use Rattle.rsx_types.specs.declared.names.SubId.{SubId}
-use Rattle.rsx_types.specs.declared.signal.Signal.{Signal}
 use Rattle.rsx_types.specs.Meaning.{Meaning, Allocates}
+use Rattle.rsx_types.specs.Notes.{unchosen}
 use Rattle.rsx_types.specs.Stream.{Stream, signals_then, ended_by}
-use Rattle.rsx_pipe.specs.declared.edge.EdgeState.TheVariants.{Live, Closed}
-use Rattle.rsx_pipe.specs.Edges.{edge_view, EdgeView}
-use Rattle.rsx_pipe.specs.Part.{PartStands, all_edges}
+use Rattle.rsx_types.specs.declared.names.Move.{Move}
+use Rattle.rsx_types.specs.declared.names.Move.TheVariants.{Ask, Send, Take}
+use Rattle.rsx_types.specs.declared.names.SubId.{SubId}
+use Rattle.rsx_types.specs.declared.names.Tree.{Tree}
+use Rattle.rsx_types.specs.declared.names.Tree.TheVariants.{Sub, Feed}
+use Rattle.rsx_types.specs.declared.signal.Ending.TheVariants.{Open as NotEnded}
+use Rattle.rsx_types.specs.declared.signal.Signal.{Signal}
 use Rattle.rsx_pipe.specs.Part as Part
+use Rattle.rsx_pipe.specs.Tree.{notes_of}
 use Rattle.rsx_pipe.specs.declared.part.Pumped.{Pumped as Rest}
 use Rattle.rsx_pipe.specs.declared.part.Pumped.TheVariants.{Idle as Rests, Budget as Wakes}
-use Rattle.rsx_pipe.proofs.Parts.{values_then-none}
-use Rattle.rsx_graph.proofs.Sentence.{live_value}
-use Rattle.rsx_graph.specs.declared.state.SubscriptionState.{SubscriptionState}
-use Rattle.rsx_graph.specs.declared.state.SubscriptionState.TheVariants.{Open, Ended, Cancelled, Refused}
-use Rattle.rsx_demand.specs.declared.Demand.{Demand}
-use Rattle.rsx_subscription.specs.declared.State.TheVariants.{Open as OpenState}
-use Rattle.rsx_graph.specs.Standing.{standing}
-use Rattle.rsx_pipe.specs.Built.{fresh_edge, fresh_edges}
-use Rattle.rsx_graph.specs.Begun.{IsFresh}
-use Rattle.rsx_pipe.specs.Tree.{notes_of}
-use Rattle.rsx_pipe.proofs.Trees.{notes_then-unchosen, unchosen_notes}
-use Rattle.rsx_graph.specs.declared.subscription.Subscription.{Subscription}
+use Rattle.rsx_pipe.proofs.Signals.{some_same}
+use Rattle.rsx_subscriber.specs.Past.{Past, given}
+use Rattle.rsx_subscriber.specs.Pumped.{IsPumped, IsMoved, Leads, IsQuiet, IsAwake, HasRested, given_all, to}
+use Rattle.rsx_subscriber.specs.Stands.{Stands, move_enabled_in, evaluated, owed_from, owes_in, standing_of}
+use Rattle.rsx_subscriber.specs.declared.state.SubscriptionState.{SubscriptionState}
+use Rattle.rsx_subscriber.specs.declared.state.SubscriptionState.TheVariants.{Open, Ended, Cancelled, Refused}
+use Rattle.rsx_subscriber.specs.declared.subscription.Subscription.{Subscription}
+use Rattle.rsx_subscriber.proofs.Moves.{leads_on}
+use Rattle.rsx_subscriber.proofs.Sentence.{owes}
+use Rattle.rsx_subscriber.proofs.Serving.{quiet_move}
+use Rattle.rsx_graph.specs.declared.refusal.Refusal.{Refusal}
 use Rattle.rsx_graph.specs.declared.step.Step.{Step}
 use Rattle.rsx_graph.specs.declared.step.Answer.{Answer}
-use Rattle.rsx_graph.specs.History.{Past, History, subscribed, IsLive, Belongs, AllBelong, IsSubscribeRefusal, IsMakeRefusal, changed, extended, all_extended, delivered, given, HasAsked, state_at, tree_of}
-use Rattle.std.proofs.Common.{inl, inr}
-use Rattle.rsx_types.specs.declared.names.Move.TheVariants.{Ask, Send, Take}
-use Rattle.rsx_types.specs.declared.names.Tree.TheVariants.{Sub, Feed}
-use Rattle.rsx_graph.proofs.Moves.{leads_on, live_test}
-use Rattle.rsx_graph.specs.Pumped.{IsPumped, AllPumped, IsMoved, IsMoveMade, Leads, IsQuiet, IsAwake, AreQuiet, HasRested, HasRestedAt, IsAllQuiet, IsAnyAwake, given_all, to}
-use Rattle.std.proofs.lemmas.List.{append-nil}
-use Rattle.rsx_pipe.proofs.Signals.{some_same}
-use Rattle.rsx_graph.specs.Stands.{Stands, AllStand, StandsFor, allocates_at, IsInside, IsWorked, IsEffect, IsMade, enabled_in_tree, enabled_at, move_enabled_in, values_then, evaluated, owed_from, owes_in, OwedAt, standing_of}
+use Rattle.rsx_graph.specs.History.{History, Belongs, AllBelong, IsSubscribeRefusal, IsMakeRefusal, changed, extended, all_extended, delivered, HasAsked, state_at, tree_of}
+use Rattle.rsx_graph.specs.Done.{IsDone, AllDone}
+use Rattle.rsx_graph.specs.Pumped.{AllPumped, IsMoveMade, AreQuiet, HasRestedAt, IsAllQuiet, IsAnyAwake}
+use Rattle.rsx_graph.specs.Stands.{AllStand, StandsFor, allocates_at, IsMade, enabled_in_tree, enabled_at, OwedAt}
 
 pub AllStand-push : {T : Type 0} (m : Meaning T) (published : List (Stream T)) (subs : List (Subscription T)) (pasts : List (Past T)) (s : Subscription T) (p : Past T) → Stands m published s p → AllStand m published subs pasts → AllStand m published (subs ++ s ∷ []) (pasts ++ p ∷ [])
 AllStand-push m published [] [] s p k h = (k, tt)
@@ -112,17 +104,6 @@ pub allocates_there : {T : Type 0} (a : Allocates) (subs : List (Subscription T)
 allocates_there a [] i old mv lt e = absurd (omega arith)
 allocates_there a (s ∷ subs) zero old mv lt e = ap (λ t. Part.make_allocates a t.part mv) e
 allocates_there a (s ∷ subs) (suc i) old mv lt e = past_first (Part.make_allocates a s.part mv) (allocates_at a subs (suc i - 1) mv) i ∙ (ap (λ k. allocates_at a subs k mv) (suc_less i) ∙ allocates_there a subs i old mv (omega arith) e)
-
--- a move inside a tree is enabled where it is one of the part
-pub inside_enabled : {T : Type 0} (m : Meaning T) (sub : Subscription T) (mv : Move) → IsInside mv → Part.move_enabled m sub.part sub.queue mv ≡ move_enabled_in m sub mv
-inside_enabled m sub (Ask t n) h = refl
-inside_enabled m sub (Send t n) h = refl
-inside_enabled m sub (Take t n) h = absurd h
-
-pub inside_effect : {T : Type 0} (m : Meaning T) (mv : Move) (old new : Subscription T) → IsWorked m mv old new → IsEffect m mv old new None
-inside_effect m (Ask t n) old new h = h
-inside_effect m (Send t n) old new h = h
-inside_effect m (Take t n) old new h = absurd h
 
 pub asked_there : {T : Type 0} (m : Meaning T) (published : List (Stream T)) (subs : List (Subscription T)) (pasts : List (Past T)) (i : ℕ) (sub : Subscription T) → i < length subs → get_or subs i sub ≡ sub → AllStand m published subs pasts → HasAsked pasts i sub.demand.asked
 asked_there m published [] pasts i sub lt e h = absurd (omega arith)
@@ -218,11 +199,6 @@ pumped_none m s o = record { signals = []; output = sym (append-nil o); moves = 
 
 -- ---- no enabled move, and some
 
-quiet_move : {T : Type 0} (m : Meaning T) (sub : Subscription T) (mv : Move) → IsQuiet m sub → move_enabled_in m sub mv ≡ false
-quiet_move m sub (Ask t n) h = (h n.0).0
-quiet_move m sub (Send t n) h = (h n.0).1
-quiet_move m sub (Take t n) h = (h n.0).2
-
 -- one subscription more is quiet
 pub quiet_there : {T : Type 0} (m : Meaning T) (subs : List (Subscription T)) (i : ℕ) (new : Subscription T) → IsQuiet m new → ((j : ℕ) → j < i → (s : Subscription T) → slice_get subs j ≡ Some s → IsQuiet m s) →
     (j : ℕ) → j < i + 1 → (s : Subscription T) → slice_get (set subs i new) j ≡ Some s → IsQuiet m s
@@ -236,7 +212,7 @@ pub none_quiet : {T : Type 0} (m : Meaning T) (subs : List (Subscription T)) →
 none_quiet m subs j l s e = absurd (omega arith)
 
 pub all_quiet : {T : Type 0} (m : Meaning T) (subs : List (Subscription T)) (n : ℕ) → length subs ≤ n → AreQuiet m subs n → IsAllQuiet m subs
-all_quiet {T} m subs n lt h mv = in_tree (tree_of mv)
+all_quiet {T} m subs n lt h mv small = in_tree (tree_of mv)
   where
     within : (ss : List (Subscription T)) (j : ℕ) (s : Subscription T) → slice_get ss j ≡ Some s → j < length ss
     within [] j s e = cc
@@ -245,7 +221,7 @@ all_quiet {T} m subs n lt h mv = in_tree (tree_of mv)
 
     none_at : (ss : List (Subscription T)) (i : ℕ) → ((j : ℕ) (s : Subscription T) → slice_get ss j ≡ Some s → IsQuiet m s) → enabled_at m ss i mv ≡ false
     none_at [] i k = refl
-    none_at (s ∷ ss) zero k = quiet_move m s mv (k 0 s refl)
+    none_at (s ∷ ss) zero k = quiet_move m s mv small (k 0 s refl)
     none_at (s ∷ ss) (suc i) k = past_first (move_enabled_in m s mv) (enabled_at m ss (suc i - 1) mv) i ∙ (ap (λ j. enabled_at m ss j mv) (suc_less i) ∙ none_at ss i (λ j t e. k (suc j) t e))
 
     in_tree : (t : Tree) → enabled_in_tree m subs t mv ≡ false
@@ -253,7 +229,7 @@ all_quiet {T} m subs n lt h mv = in_tree (tree_of mv)
     in_tree (Feed f) = refl
 
 pub any_awake : {T : Type 0} (m : Meaning T) (subs : List (Subscription T)) (i : ℕ) (sub : Subscription T) → i < length subs → get_or subs i sub ≡ sub → IsAwake m sub → IsAnyAwake m subs
-any_awake m subs i sub lt e h = elim h.1 [
+any_awake m subs i sub lt e h = elim h.2 [
   | inl a ↦ (Ask (Sub (record { 0 = i })) (record { 0 = h.0 }), enabled_there m subs i sub _ lt e ∙ a)
   | inr b ↦ elim b [
     | inl s ↦ (Send (Sub (record { 0 = i })) (record { 0 = h.0 }), enabled_there m subs i sub _ lt e ∙ s)
@@ -281,62 +257,7 @@ rested_there E m budget n i subs old new Wakes lt h = (h.0, any_awake m (set sub
 pub rested_same : {T : Type 0} (m m' : Meaning T) (budget n i : ℕ) (olds news : List (Subscription T)) (r : Result Rest Refusal) → m' ≡ m → HasRestedAt m' budget n olds i news r → HasRestedAt m budget n olds i news r
 rested_same {T} m m' budget n i olds news r e h = let P : Meaning T → Type 0 = λ k. HasRestedAt k budget n olds i news r in subst P e h
 
--- ---- a subscription that has just begun
-
--- how the subscriber stands at the beginning
-pub record IsBegun {T : Type 0} (sub : Subscription T) : Type 0 where
-  pub state : sub.state ≡ OpenState
-  pub live : sub.live ≡ true
-  pub asked : sub.demand.asked ≡ 0
-  pub delivered : sub.demand.sent ≡ 0
-
-pub begun : {T : Type 0} (sub : Subscription T) (d : Demand) → d.asked ≡ 0 → d.sent ≡ 0 → sub.state ≡ OpenState → sub.live ≡ true → sub.demand.asked ≡ d.asked → sub.demand.sent ≡ d.sent → IsBegun sub
-begun sub d a s o l r t = record { state = o; live = l; asked = r ∙ a; delivered = t ∙ s }
-
-pub stands_fresh : {T : Type 0} (m : Meaning T) (published : List (Stream T)) (e : Expr T) (sub : Subscription T) (es : List EdgeView) → PartStands m published sub.part e [] [] → all_edges sub.part ≡ fresh_edge ∷ es → sub.queue ≡ [] → IsBegun sub → Stands m published sub (subscribed e [])
-stands_fresh {T} m published e sub es b k q f =
-    let o : standing_of sub ≡ Open = ap (λ t. standing t sub.live) f.state in
-    let live : IsLive (standing_of sub) = rw o tt in
-    let root : edge_view sub.part.root ≡ fresh_edge = cc in
-    record {
-      state = o;
-      live = f.live ∙ sym (live_test (standing_of sub) live);
-      output = [];
-      part = b;
-      held = λ _. q;
-      begun = λ dead. absurd (dead live);
-      orderly = tt;
-      waits = λ _. tt;
-      got = λ x. let k = o in cc;
-      unclosed = λ _ c. not_closed (ap (λ v. v.state) (sym root) ∙ c);
-      asked = ap (λ v. v.asked) root;
-      requested = f.asked;
-      delivered = f.delivered;
-      closed = λ dead. absurd (dead live);
-    }
-  where
-    not_closed : Live ≡ Closed → ⊥
-    not_closed c = cc
-
-pub fresh_sub : {T : Type 0} (m : Meaning T) (e : Expr T) (sub : Subscription T) → all_edges sub.part ≡ fresh_edge ∷ fresh_edges e → sub.queue ≡ [] → IsBegun sub → IsFresh e sub
-fresh_sub m e sub b q f = record {
-  edges = b;
-  queue = q;
-  state = f.state;
-  live = f.live;
-  asked = f.asked;
-  delivered = f.delivered;
-}
-
 -- ---- what is owed
-
-pub owes : {T : Type 0} (m : Meaning T) (published : List (Stream T)) (sub : Subscription T) (past : Past T) (v : Stream T) → standing_of sub ≡ Open → ((hubs : List (Stream T)) → owed_from m hubs (map unchosen (notes_of sub.part.tree)) sub ≡ Some v) → Stands m published sub past → evaluated m published past (notes_of sub.part.tree) ≡ Some (signals_then past.received v)
-owes {T} m published sub past v o e h =
-    let live : IsLive (standing_of sub) = rw o tt in
-    let whole = live_value m published sub past h live [] (map unchosen (notes_of sub.part.tree)) (unchosen_notes (notes_of sub.part.tree)) in
-    let there : option_map (signals_then past.received) (owed_from m (values_then published []) (map unchosen (notes_of sub.part.tree)) sub) ≡ Some (signals_then past.received v) = ap (option_map (signals_then past.received)) (e (values_then published [])) in
-    ap (λ p. evaluated m p past (notes_of sub.part.tree)) (sym (values_then-none published))
-    ∙ (ap (λ ns. evaluated m (values_then published []) past ns) (sym (notes_then-unchosen (notes_of sub.part.tree))) ∙ (sym whole ∙ there))
 
 pub owed_open : {T : Type 0} (m : Meaning T) (published : List (Stream T)) (subs : List (Subscription T)) (pasts : List (Past T)) (i : ℕ) (sub : Subscription T) (v : Stream T) → i < length subs → get_or subs i sub ≡ sub → standing_of sub ≡ Open → ((hubs : List (Stream T)) → owed_from m hubs (map unchosen (notes_of sub.part.tree)) sub ≡ Some v) → AllStand m published subs pasts → OwedAt m published subs pasts i v
 owed_open m published [] pasts i sub v lt e o w h = absurd (omega arith)
@@ -373,42 +294,53 @@ AllBelong-more h (t ∷ steps) (u ∷ answers) s a k b = (k.0, AllBelong-more (e
 AllBelong-more h [] (u ∷ answers) s a k b = absurd k
 AllBelong-more h (t ∷ steps) [] s a k b = absurd k
 
+pub AllDone-more : {T : Type 0} (m : Meaning T) (a : Allocates) (old mid new : List (Subscription T)) (steps : List (Step T)) (answers : List (Answer T)) (s : Step T) (r : Answer T) → AllDone m a old steps answers mid → IsDone m a mid s r new → AllDone m a old (steps ++ s ∷ []) (answers ++ r ∷ []) new
+AllDone-more {T} m a old mid new [] [] s r k d = let P : List (Subscription T) → Type 0 = λ l. IsDone m a l s r new in (new, subst P k d, refl)
+AllDone-more m a old mid new (t ∷ steps) (u ∷ answers) s r k d = (k.0, k.1, AllDone-more m a k.0 mid new steps answers s r k.2 d)
+AllDone-more m a old mid new [] (u ∷ answers) s r k d = absurd k
+AllDone-more m a old mid new (t ∷ steps) [] s r k d = absurd k
+
 -- what a list of steps with its answers has done so far
-pub record HasRun {T : Type 0} (m : Meaning T) (old new : List (Subscription T)) (steps : List (Step T)) (answers : List (Answer T)) : Type 0 where
+pub record HasRun {T : Type 0} (m : Meaning T) (a : Allocates) (old new : List (Subscription T)) (steps : List (Step T)) (answers : List (Answer T)) : Type 0 where
   pub count : length steps ≡ length answers
   pub stands : (h : History T) → StandsFor m old h → StandsFor m new (all_extended h steps answers)
   pub belongs : (h : History T) → StandsFor m old h → AllBelong h steps answers
+  pub done : AllDone m a old steps answers new
 
-pub run_more : {T : Type 0} (m m' : Meaning T) (steps : List (Step T)) (i : ℕ) (s : Step T) (first before after : List (Subscription T)) (answers answers' : List (Answer T)) (a : Answer T) →
-    m' ≡ m → i < length steps → s ≡ get_or steps i s → answers' ≡ answers ++ a ∷ [] →
-    HasRun m first before (take i steps) answers →
-    ((h : History T) → StandsFor m' before h → StandsFor m' after (extended h s a)) →
-    ((h : History T) → StandsFor m' before h → Belongs h s a) →
-    HasRun m first after (take (i + 1) steps) answers'
-run_more {T} m m' steps i s first before after answers answers' a same lt at pushed r stands belongs =
+pub run_more : {T : Type 0} (m m' : Meaning T) (a a' : Allocates) (steps : List (Step T)) (i : ℕ) (s : Step T) (first before after : List (Subscription T)) (answers answers' : List (Answer T)) (r : Answer T) →
+    m' ≡ m → a' ≡ a → i < length steps → s ≡ get_or steps i s → answers' ≡ answers ++ r ∷ [] →
+    HasRun m a first before (take i steps) answers →
+    ((h : History T) → StandsFor m' before h → StandsFor m' after (extended h s r)) →
+    ((h : History T) → StandsFor m' before h → Belongs h s r) →
+    IsDone m' a' before s r after →
+    HasRun m a first after (take (i + 1) steps) answers'
+run_more {T} m m' a a' steps i s first before after answers answers' r same alike lt at pushed k stands belongs done =
     let taken : take (i + 1) steps ≡ take i steps ++ s ∷ [] = take_more steps i s lt ∙ ap (λ t. take i steps ++ t ∷ []) (sym at) in
-    let P : List (Step T) → Type 0 = λ l. HasRun m first after l answers' in
-    let Q : List (Answer T) → Type 0 = λ l. HasRun m first after (take i steps ++ s ∷ []) l in
-    let S : Meaning T → Type 0 = λ n. (h : History T) → StandsFor n before h → StandsFor n after (extended h s a) in
-    let B : Meaning T → Type 0 = λ n. (h : History T) → StandsFor n before h → Belongs h s a in
-    let stands' : (h : History T) → StandsFor m before h → StandsFor m after (extended h s a) = subst S same stands in
-    let belongs' : (h : History T) → StandsFor m before h → Belongs h s a = subst B same belongs in
-    let grown : HasRun m first after (take i steps ++ s ∷ []) (answers ++ a ∷ []) = record {
-      count = simp (length-append) (omega (arith, r.count));
-      stands = λ h k. let G : History T → Type 0 = λ g. StandsFor m after g in subst G (sym (all_extended-more h (take i steps) answers s a r.count)) (stands' (all_extended h (take i steps) answers) (r.stands h k));
-      belongs = λ h k. AllBelong-more h (take i steps) answers s a (r.belongs h k) (belongs' (all_extended h (take i steps) answers) (r.stands h k));
+    let P : List (Step T) → Type 0 = λ l. HasRun m a first after l answers' in
+    let Q : List (Answer T) → Type 0 = λ l. HasRun m a first after (take i steps ++ s ∷ []) l in
+    let S : Meaning T → Type 0 = λ n. (h : History T) → StandsFor n before h → StandsFor n after (extended h s r) in
+    let B : Meaning T → Type 0 = λ n. (h : History T) → StandsFor n before h → Belongs h s r in
+    let D : Meaning T → Type 0 = λ n. IsDone n a' before s r after in
+    let E : Allocates → Type 0 = λ b. IsDone m b before s r after in
+    let stands' : (h : History T) → StandsFor m before h → StandsFor m after (extended h s r) = subst S same stands in
+    let belongs' : (h : History T) → StandsFor m before h → Belongs h s r = subst B same belongs in
+    let grown : HasRun m a first after (take i steps ++ s ∷ []) (answers ++ r ∷ []) = record {
+      count = simp (length-append) (omega (arith, k.count));
+      stands = λ h x. let G : History T → Type 0 = λ g. StandsFor m after g in subst G (sym (all_extended-more h (take i steps) answers s r k.count)) (stands' (all_extended h (take i steps) answers) (k.stands h x));
+      belongs = λ h x. AllBelong-more h (take i steps) answers s r (k.belongs h x) (belongs' (all_extended h (take i steps) answers) (k.stands h x));
+      done = AllDone-more m a first before after (take i steps) answers s r k.done (subst E alike (subst D same done));
     } in
     subst P (sym taken) (subst Q (sym pushed) grown)
 
-pub has_run_all : {T : Type 0} (m : Meaning T) (steps items : List (Step T)) (i : ℕ) (first after : List (Subscription T)) (answers : List (Answer T)) → items ≡ steps → length items ≤ i → HasRun m first after (take i items) answers → HasRun m first after steps answers
-has_run_all {T} m steps items i first after answers e l r =
-    let P : List (Step T) → Type 0 = λ s. HasRun m first after s answers in
+pub has_run_all : {T : Type 0} (m : Meaning T) (a : Allocates) (steps items : List (Step T)) (i : ℕ) (first after : List (Subscription T)) (answers : List (Answer T)) → items ≡ steps → length items ≤ i → HasRun m a first after (take i items) answers → HasRun m a first after steps answers
+has_run_all {T} m a steps items i first after answers e l r =
+    let P : List (Step T) → Type 0 = λ s. HasRun m a first after s answers in
     subst P (take_all i items l ∙ e) r
 
-pub has_run_none : {T : Type 0} (m : Meaning T) (subs : List (Subscription T)) (steps : List (Step T)) (answers : List (Answer T)) → answers ≡ [] → HasRun m subs subs (take 0 steps) answers
-has_run_none {T} m subs steps answers e =
-    let P : List (Answer T) → Type 0 = λ a. HasRun m subs subs [] a in
-    subst P (sym e) (record { count = refl; stands = λ h k. k; belongs = λ h k. tt })
+pub has_run_none : {T : Type 0} (m : Meaning T) (a : Allocates) (subs : List (Subscription T)) (steps : List (Step T)) (answers : List (Answer T)) → answers ≡ [] → HasRun m a subs subs (take 0 steps) answers
+has_run_none {T} m a subs steps answers e =
+    let P : List (Answer T) → Type 0 = λ l. HasRun m a subs subs [] l in
+    subst P (sym e) (record { count = refl; stands = λ h k. k; belongs = λ h k. tt; done = refl })
 
 pub pumped_same : {T : Type 0} (m m' : Meaning T) (n : ℕ) (s1 s2 : List (Subscription T)) (o1 o2 : List (SubId × Signal T)) → m' ≡ m → AllPumped m' n s1 o1 s2 o2 → AllPumped m n s1 o1 s2 o2
 pumped_same {T} m m' n s1 s2 o1 o2 e h = let P : Meaning T → Type 0 = λ k. AllPumped k n s1 o1 s2 o2 in subst P e h
@@ -420,6 +352,3 @@ subscribe_refusal {T} a b e r s h = let P : ℕ → Type 0 = λ n. IsSubscribeRe
 
 pub make_refusal : (a b : ℕ) (enabled : Bool) (t : Tree) (r : Refusal) → a ≡ b → IsMakeRefusal a enabled t r → IsMakeRefusal b enabled t r
 make_refusal a b enabled t r s h = let P : ℕ → Type 0 = λ n. IsMakeRefusal n enabled t r in subst P s h
-
-pub ended_value : {T : Type 0} (v : Stream T) (e : Ending) → v.items ≡ [] → v.ending ≡ e → v ≡ ended_by e
-ended_value v e a b = ap (λ xs. record { items = xs; ending = v.ending }) a ∙ ap (λ x. record { items = []; ending = x }) b

@@ -1,19 +1,8 @@
--- A subscription that has just begun.
-use Rattle.std.specs.Prelude.{◌≡◌, true, List, [], ◌∷◌, ◌++◌}
+-- A graph with one subscription more.
+use Rattle.std.specs.Prelude.{◌≡◌, List, [], ◌∷◌, ◌++◌}
 use Rattle.rsx_model.specs.declared.expr.Expr.{Expr}
-use Rattle.rsx_subscription.specs.declared.State.TheVariants.{Open}
-use Rattle.rsx_graph.specs.declared.subscription.Subscription.{Subscription}
-use Rattle.rsx_pipe.specs.Built.{fresh_edge, fresh_edges}
-use Rattle.rsx_pipe.specs.Part.{all_edges}
-
--- nothing was asked and nothing sent or delivered, and what a node that has put out its ending closes is closed
-pub record IsFresh {T : Type 0} (e : Expr T) (sub : Subscription T) : Type 0 where
-  pub edges : all_edges sub.part ≡ fresh_edge ∷ fresh_edges e
-  pub queue : sub.queue ≡ []
-  pub state : sub.state ≡ Open
-  pub live : sub.live ≡ true
-  pub asked : sub.demand.asked ≡ 0
-  pub delivered : sub.demand.sent ≡ 0
+use Rattle.rsx_subscriber.specs.declared.subscription.Subscription.{Subscription}
+use Rattle.rsx_subscriber.specs.Begun.{IsFresh}
 
 -- a subscription to an expression began, behind the others, which stay
 abbrev pub IsSubscribed : {T : Type 0} → Expr T → List (Subscription T) → List (Subscription T) → Type 0

@@ -1,10 +1,10 @@
 -- Definitions that contracts cite.
 pub mod Begun
-pub mod Delivered
+pub mod Done
 pub mod Headline
 pub mod History
 pub mod Names
 pub mod Pumped
+pub mod Replayed
 pub mod Served
-pub mod Standing
 pub mod Stands

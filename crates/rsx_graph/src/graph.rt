@@ -1,24 +1,22 @@
 //! A graph of subscriptions.
 
-ghost use Rattle.std.specs.Prelude.{◌≡◌, ◌≢◌, ℕ, ◌+◌, ◌<◌, ◌≤◌, ◌++◌, ◌∷◌, [], List, length, OnOk, OnErr, IfOk, IfErr, None, Some, true, false};
-ghost use Rattle.rsx_types.specs.Stream.{Stream};
+ghost use Rattle.std.specs.Prelude.{◌≡◌, ◌≢◌, ℕ, ◌+◌, ◌<◌, ◌≤◌, ◌++◌, ◌∷◌, [], length, OnOk, OnErr, IfOk, IfErr, IsOk, None, Some, true, false};
 ghost use Rattle.rsx_model.specs.Check.{refusal};
-ghost use Rattle.rsx_graph.specs.History.{History, no_history, subscribed, given, with_subscriber, with_past, with_made, cancelled, requested, extended, all_extended, IsSubscribeRefusal, IsMakeRefusal, IsMadeAnswer, Belongs, AllBelong, HasAsked, IsLookRefusal, IsTreeRefusal, IsKnownTree, tree_of};
-ghost use Rattle.rsx_graph.specs.Stands.{Stands, StandsFor, IsRequested, IsOwed, HasNotes, HasNotesAt, IsInside, IsMade, IsMadeAt, allocates_at, allocates_in_tree, enabled_in_tree, enabled_at};
-ghost use Rattle.rsx_graph.specs.Begun.{IsFresh, IsSubscribed};
+ghost use Rattle.rsx_subscriber.specs.Past.{given, cancelled, requested};
+ghost use Rattle.rsx_subscriber.specs.Stands.{IsInside, IsMadeAnswer};
+ghost use Rattle.rsx_graph.specs.History.{History, no_history, with_subscriber, with_past, with_made, extended, all_extended, IsSubscribeRefusal, IsMakeRefusal, Belongs, AllBelong, HasAsked, IsLookRefusal, IsTreeRefusal, IsKnownTree, tree_of};
+ghost use Rattle.rsx_graph.specs.Done.{IsDone, AllDone};
+ghost use Rattle.rsx_graph.specs.Stands.{StandsFor, IsRequestedAt, IsCancelledAt, IsOwed, HasNotes, HasNotesAt, IsMade, IsMadeAt, allocates_at, allocates_in_tree, enabled_in_tree, enabled_at};
+ghost use Rattle.rsx_graph.specs.Begun.{IsSubscribed};
 ghost use Rattle.rsx_graph.specs.Served.{AllServed};
 ghost use Rattle.rsx_graph.specs.Pumped.{AllPumped, HasEnded, HasRestedAt};
 
-use crate::deliveries::Deliveries;
 use crate::refusal::Refusal;
-use crate::state::SubscriptionState;
 use crate::step::{Answer, Pumped, Step};
-use crate::subscription::Subscription;
-use rsx_demand::Demand;
 use rsx_model::{Expr, check_expr};
-use rsx_pipe::{Part, Pumped as Driven, SignalQueue};
+use rsx_pipe::Pumped as Driven;
 use rsx_sources::NotMade;
-use rsx_subscription::{Input, State, step};
+use rsx_subscriber::{Deliveries, Subscription, SubscriptionState};
 use rsx_types::{Ending, Move, NoMemory, NodeId, Note, Ops, Signal, StreamValue, SubId, Tree};
 use std::alloc::Global;
 
@@ -35,9 +33,11 @@ impl<O: Ops> Graph<O> {
     /// How many subscriptions a graph may have.
     pub const SUBSCRIPTIONS: usize = 256;
 
-    /// A graph with no subscription.
+    /// A graph with no subscription. It takes no memory so far, and is never refused.
     pub fn new(alloc: Global, ops: O) -> Result<Graph<O>, Refusal>
+        ensures made { IsOk result }
         ensures ops { IfOk result (λ g. g.ops ≡ ops) }
+        ensures empty { IfOk result (λ g. g.subscriptions.items ≡ []) }
         ensures stands { IfOk result (λ g. StandsFor (O.meaning ops) g.subscriptions.items no_history) }
     {
         Ok(Graph {
@@ -62,7 +62,7 @@ impl<O: Ops> Graph<O> {
         if count >= 256 {
             return Err(Refusal::TooMany);
         }
-        let subscription = match new_subscription(alloc, &self.ops, expr) {
+        let subscription = match Subscription::new(alloc, &self.ops, expr) {
             Ok(subscription) => subscription,
             Err(NoMemory) => return Err(Refusal::NoMemory),
         };
@@ -72,10 +72,15 @@ impl<O: Ops> Graph<O> {
         }
     }
 
-    /// Cancels a subscription (rules 3.5 to 3.7). Where it isn't open, nothing happens.
+    /// Cancels a subscription (rules 3.5 to 3.7): the edges of its part are closed, and nothing is queued for it. Where it
+    /// isn't open, nothing happens. It takes no memory.
+    ///
+    /// # Errors
+    /// G2 exactly where there is no such subscription; nothing changed.
     pub fn cancel(&mut self, sub: SubId) -> Result<(), Refusal>
         ensures ops { self.new.ops ≡ self.old.ops }
         ensures stands { OnOk result ((h : History O.Item) → StandsFor (O.meaning self.old.ops) self.old.subscriptions.items h → StandsFor (O.meaning self.old.ops) self.new.subscriptions.items (with_past cancelled sub h)) }
+        ensures effect { OnOk result (IsCancelledAt sub.0 self.old.subscriptions.items self.new.subscriptions.items) }
         ensures known { OnOk result (sub.0 < length self.old.subscriptions.items) }
         ensures err { IfErr result (λ r. (r ≡ Refusal.UnknownSub) × (length self.old.subscriptions.items ≤ sub.0)) }
         ensures same { OnErr result (self.new.subscriptions.items ≡ self.old.subscriptions.items) }
@@ -89,12 +94,15 @@ impl<O: Ops> Graph<O> {
         Ok(())
     }
 
-    /// Requests `n` items more (rules 3.8, 3.9 and 3.17). The signal is the error of a bad request. Where the subscription
-    /// isn't open, nothing happens.
+    /// Requests `n` items more, at most 2^63-1 in all (rules 3.8, 3.9 and 3.17). The signal is the error of a bad request,
+    /// which closes the subscription. Where the subscription isn't open, nothing happens. It takes no memory.
+    ///
+    /// # Errors
+    /// G2 exactly where there is no such subscription; nothing changed.
     pub fn request(&mut self, sub: SubId, n: i64) -> Result<Option<Signal<O::Item>>, Refusal>
         ensures ops { self.new.ops ≡ self.old.ops }
         ensures stands { OnOk result ((h : History O.Item) → StandsFor (O.meaning self.old.ops) self.old.subscriptions.items h → StandsFor (O.meaning self.old.ops) self.new.subscriptions.items (with_past (requested n) sub h)) }
-        ensures answer { IfOk result (λ o. IsRequested self.old.subscriptions.items sub n o) }
+        ensures effect { IfOk result (λ o. IsRequestedAt sub.0 n self.old.subscriptions.items self.new.subscriptions.items o) }
         ensures err { IfErr result (λ r. (r ≡ Refusal.UnknownSub) × (length self.old.subscriptions.items ≤ sub.0)) }
         ensures same { OnErr result (self.new.subscriptions.items ≡ self.old.subscriptions.items) }
     {
@@ -288,11 +296,15 @@ impl<O: Ops> Graph<O> {
         }
     }
 
-    /// The joins of a tree's hub leaves, from left to right; no tree has one yet.
+    /// The joins of a tree's hub leaves, from left to right; no tree has one yet. An empty list takes no memory.
+    ///
+    /// # Errors
+    /// G1 for the tree of a hub, and G2 where there is no such subscription.
     pub fn joins(&self, alloc: Global, tree: Tree) -> Result<Vec<u64>, Refusal>
         ensures known { OnOk result (IsKnownTree (length self.now.subscriptions.items) tree) }
         ensures joins { IfOk result (λ v. v.items ≡ []) }
         ensures err { IfErr result (λ r. IsTreeRefusal (length self.now.subscriptions.items) tree r) }
+        ensures memory { IfErr result (λ r. r ≢ Refusal.NoMemory) }
     {
         match tree {
             Tree::Feed(_) => Err(Refusal::UnknownHub),
@@ -318,11 +330,14 @@ impl<O: Ops> Graph<O> {
         Ok(subscription.demand.asked)
     }
 
-    /// Makes one step.
+    /// Makes one step. A refused step leaves all as it was.
     pub fn step(&mut self, alloc: Global, step: &Step<O::Item>) -> Answer<O::Item>
         ensures ops { self.new.ops ≡ self.old.ops }
         ensures stands { (h : History O.Item) → StandsFor (O.meaning self.old.ops) self.old.subscriptions.items h → StandsFor (O.meaning self.old.ops) self.new.subscriptions.items (extended h step.now result) }
         ensures belongs { (h : History O.Item) → StandsFor (O.meaning self.old.ops) self.old.subscriptions.items h → Belongs h step.now result }
+
+        // What was done, by the answer.
+        ensures done { IsDone (O.meaning self.old.ops) (O.allocates self.old.ops) self.old.subscriptions.items step.now result self.new.subscriptions.items }
     {
         match step {
             Step::Subscribe(expr) => match self.subscribe(alloc, expr) {
@@ -354,6 +369,9 @@ impl<O: Ops> Graph<O> {
         ensures ops { self.new.ops ≡ self.old.ops }
         ensures stands { IfOk result (λ answers. (h : History O.Item) → StandsFor (O.meaning self.old.ops) self.old.subscriptions.items h → StandsFor (O.meaning self.old.ops) self.new.subscriptions.items (all_extended h steps.items answers.items)) }
         ensures belongs { IfOk result (λ answers. (h : History O.Item) → StandsFor (O.meaning self.old.ops) self.old.subscriptions.items h → AllBelong h steps.items answers.items) }
+
+        // What was done, step by step.
+        ensures done { IfOk result (λ answers. AllDone (O.meaning self.old.ops) (O.allocates self.old.ops) self.old.subscriptions.items steps.items answers.items self.new.subscriptions.items) }
         ensures err { IfErr result (λ back. (back.items ≡ steps.items) × (self.new.subscriptions.items ≡ self.old.subscriptions.items)) }
     {
         let mut answers = match Vec::with_capacity(alloc, steps.len()) {
@@ -380,29 +398,4 @@ fn add<T: Drop>(
         Ok(()) => Ok(()),
         Err(_) => Err(NoMemory),
     }
-}
-
-/// A subscription that has just begun.
-fn new_subscription<O: Ops>(
-    alloc: Global,
-    ops: &O,
-    expr: &Expr<O::Item>,
-) -> Result<Subscription<O::Item>, NoMemory>
-    requires { refusal 0 expr.now ≡ None }
-    ensures stands { IfOk result (λ s. (published : List (Stream O.Item)) → Stands (O.meaning ops.now) published s (subscribed expr.now [])) }
-    ensures fresh { IfOk result (λ s. IsFresh expr.now s) }
-{
-    let queue = SignalQueue::new(alloc)?;
-    let part = Part::new(alloc, ops, expr)?;
-    let mut state = State::Fresh;
-    let mut demand = Demand::new();
-    // `onSubscribe` comes before everything else (rule 1.9).
-    let _ = step(&mut state, &mut demand, Input::Subscribe);
-    Ok(Subscription {
-        part,
-        queue,
-        state,
-        demand,
-        live: true,
-    })
 }

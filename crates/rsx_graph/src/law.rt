@@ -2,7 +2,7 @@
 
 ghost use Rattle.std.specs.Prelude.{List};
 ghost use Rattle.rsx_types.specs.Meaning.{Meaning};
-ghost use Rattle.rsx_graph.specs.declared.subscription.Subscription.{Subscription as AnySubscription};
+ghost use Rattle.rsx_subscriber.specs.declared.subscription.Subscription.{Subscription as AnySubscription};
 ghost use Rattle.rsx_graph.specs.History.{History};
 ghost use Rattle.rsx_graph.specs.Stands.{StandsFor};
 ghost use Rattle.rsx_graph.specs.Headline.{Headline};

@@ -3,26 +3,23 @@
 //!
 //! - [`graph`]: [`Graph`], with every edit, move and look; `run` makes a list of steps.
 //! - [`law`]: `headline`, what is proved of all of them, as the contract of one function.
-//! - [`subscription`]: one subscription: its part of the graph, the queue behind it, and how it stands.
-//! - [`step`], [`refusal`], [`deliveries`], [`state`]: the types that the calls speak of.
+//! - [`replays`]: `replay`, a list of steps from nothing, whose contract is the headline with no premise.
+//! - [`step`], [`refusal`]: the types that the calls speak of.
 //!
 //! The definitions stand in `specs/`, apart from the code: `History` (what has happened so far, by the steps and their
-//! answers), `Stands` (what a subscription and a graph stand for, and the effect of a move), `Standing` (where a
-//! subscription stands in the table of `rsx_subscription`), `Begun`, `Pumped`, `Served` and `Headline`. Those of parts,
-//! trees and edges are in `rsx_pipe`.
+//! answers), `Stands` (what a graph stands for, and the effect of a move), `Begun`, `Done` (what each step did),
+//! `Pumped`, `Served`, `Headline` and `Replayed`.
+//! Those of one subscription are in `rsx_subscriber`, and those of parts, trees and edges below it.
 
-pub mod deliveries;
 pub mod graph;
 pub mod law;
 pub mod refusal;
-pub mod state;
+pub mod replays;
 pub mod step;
-pub mod subscription;
-#[cfg(test)]
-mod tests;
 
-pub use deliveries::Deliveries;
 pub use graph::Graph;
 pub use law::headline;
 pub use refusal::Refusal;
+pub use replays::replay;
+pub use rsx_subscriber::{Deliveries, Subscription, SubscriptionState};
 pub use step::{Answer, Pumped, Step};

@@ -61,8 +61,6 @@ mod link;
 mod plays;
 mod rule;
 mod signals;
-#[cfg(test)]
-mod tests;
 mod up;
 mod view;
 

@@ -1,15 +1,12 @@
 //! The two ends of a link in threads of their own: one sends the numbers from 0 up, the other takes them.
 //!
 //! `rsx_link_bench MODE COUNT` sends COUNT numbers over a link whose queue has room for 64, and prints how many came
-//! in order. MODE is `batches` (48 items are asked for at a time, as a prefetch of 64 does, and the sending end looks
+//! in order. Further pairs of MODE and COUNT are further runs, each over a link of its own. MODE is `batches` (48 items are asked for at a time, as a prefetch of 64 does, and the sending end looks
 //! once it has sent all that it saw), `single` (each item taken is asked for again, and the sending end looks before
 //! each) or `lockstep` (one item is asked for at a time, so that each waits for the one before it).
 //!
 //! It prints no time, so that its output is the same in every run: `bench/link.sh` takes the time of it.
 #![tactic(auto)]
-
-#[cfg(test)]
-mod tests;
 
 ghost use Rattle.std.specs.Prelude.{◌≡◌};
 ghost use Rattle.rsx_link.specs.Ends.{IsDownOf, IsUpOf};
@@ -161,17 +158,21 @@ fn mode_of(name: &str) -> Option<Mode> {
 
 fn main(rt: HostRuntime) -> anyhow::Result<()> {
     let mut words = env::args(&rt)?.skip(1);
-    let mode = words.next().and_then(|word| mode_of(word.as_str()));
-    let count = words
-        .next()
-        .and_then(|word| word.as_str().parse::<u64>().ok());
-    let (Some(mode), Some(count)) = (mode, count) else {
-        bail!("usage: rsx_link_bench batches|single|lockstep COUNT");
-    };
-    let outcome = run(&rt, rt.alloc(), mode, count)?;
-    println!(rt;
-        "{} in order, {} taken, {} held",
-        outcome.in_order, outcome.taken, outcome.held
-    )?;
+    for _ in 0..u64::MAX {
+        let Some(word) = words.next() else {
+            break;
+        };
+        let count = words
+            .next()
+            .and_then(|word| word.as_str().parse::<u64>().ok());
+        let (Some(mode), Some(count)) = (mode_of(word.as_str()), count) else {
+            bail!("usage: rsx_link_bench [batches|single|lockstep COUNT]..");
+        };
+        let outcome = run(&rt, rt.alloc(), mode, count)?;
+        println!(rt;
+            "{} in order, {} taken, {} held",
+            outcome.in_order, outcome.taken, outcome.held
+        )?;
+    }
     Ok(())
 }

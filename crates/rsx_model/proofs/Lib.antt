@@ -1,2 +1,2 @@
 pub mod Unfold
-mod Examples
+pub mod Steps

@@ -2,5 +2,4 @@
 pub mod Shape
 pub mod Check
 pub mod Eval
-pub mod Numbers
 pub mod Answer

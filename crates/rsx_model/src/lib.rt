@@ -11,8 +11,6 @@ mod check;
 mod evaluate;
 mod expr;
 mod plain;
-#[cfg(test)]
-mod tests;
 
 pub use check::{BadExpr, check_expr, leaves_of, nodes_of};
 pub use evaluate::{ScratchRefusal, scratch};

@@ -1,7 +1,6 @@
-pub mod Balances
-pub mod Builds
-pub mod Drives
+-- Lemmas about parts.
 pub mod Looks
+pub mod Numbers
 pub mod Parts
 pub mod Signals
 pub mod Trees

@@ -3,7 +3,7 @@ use Rattle.std.proofs.Common.{◌≡◌, ℕ, zero, suc, ◌+◌, ◌-◌, ◌*�
 use Rattle.std.proofs.lemmas.Bool.Decides.{nat_tests}
 use Rattle.std.specs.Set.{is_member}
 use Rattle.rsx_types.specs.Meaning.{Meaning}
-use Rattle.rsx_types.specs.Plain.{taken_items, accumulated_then, last_list, new_key_then, distinct_items, buffered_items}
+use Rattle.rsx_types.specs.Plain.{taken_items, accumulated_then, last_list, new_key_then, buffered_items}
 use Rattle.rsx_types.specs.Stream.{Stream, ended_by, item_then, answer_then, kept_then, signals_then}
 use Rattle.rsx_types.specs.declared.signal.Cause.{Cause}
 use Rattle.rsx_types.specs.declared.signal.Ending.{Ending}

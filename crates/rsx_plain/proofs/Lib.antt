@@ -1,5 +1,6 @@
 pub mod Balance
 pub mod Counts
+pub mod Drained
 pub mod Residuals
 pub mod Endings
 pub mod Taken

@@ -13,8 +13,6 @@ mod reactions;
 mod rest;
 pub mod started;
 pub mod state;
-#[cfg(test)]
-mod tests;
 
 pub use keys::Keys;
 pub use node::PlainNode;

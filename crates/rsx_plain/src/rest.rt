@@ -1,287 +1,58 @@
-//! The plain operators over whole lists, from a state.
+//! What a slot and an ending come to, behind the items that came out before.
 
-ghost use Rattle.std.specs.Prelude.{◌≡◌, IfOk};
-ghost use Rattle.rsx_types.specs.Plain.{mapped_items, filtered_items, taken_items, scanned_items, buffered_items, distinct_items};
-ghost use Rattle.rsx_types.specs.Stream.{items_then};
+ghost use Rattle.std.specs.Prelude.{◌≡◌, true, IfOk};
+ghost use Rattle.std.specs.Option.{option_to_list};
+ghost use Rattle.rsx_types.specs.Stream.{Stream, items_then, signals_then, ending_signals};
+ghost use Rattle.rsx_plain.specs.Moves.{ended_or, has_ended, has_ending};
 
-use crate::keys::Keys;
-use crate::state::PlainState;
-use rsx_types::{Cause, Ending, Fault, NoMemory, Ops, StreamValue};
+use rsx_sources::OutSlot;
+use rsx_types::{Ending, NoMemory, Ops, Signal};
 use std::alloc::Global;
 
-/// The operators over whole lists. What comes out is put behind `out`.
-pub(crate) trait OverLists<T: Drop> {
-    /// The answers of a function, up to the first fault.
-    fn mapped<O: Ops<Item = T>>(
-        &self,
-        alloc: Global,
-        ops: &O,
-        function: u16,
-        out: Vec<T>,
-        items: &[T],
-        ending: Ending,
-    ) -> Result<StreamValue<T>, NoMemory>
-        ensures { IfOk result (λ v. v ≡ items_then out.items (mapped_items ((O.meaning ops.now).mapped function) items.now ending)) };
+/// What can be made once more with the caller's copies of items.
+pub(crate) trait Copied<T: Drop> {
+    ghost use Rattle.std.specs.Prelude.{◌≡◌, IfOk};
 
-    /// The items whose test is true, up to the first fault.
-    fn filtered<O: Ops<Item = T>>(
-        &self,
-        alloc: Global,
-        ops: &O,
-        function: u16,
-        out: Vec<T>,
-        items: &[T],
-        ending: Ending,
-    ) -> Result<StreamValue<T>, NoMemory>
-        ensures { IfOk result (λ v. v ≡ items_then out.items (filtered_items ((O.meaning ops.now).tested function) items.now ending)) };
-
-    /// The first items, as many as are left, and the completion; where the items end before, their ending.
-    fn taken<O: Ops<Item = T>>(
-        &self,
-        alloc: Global,
-        ops: &O,
-        left: u64,
-        out: Vec<T>,
-        items: &[T],
-        ending: Ending,
-    ) -> Result<StreamValue<T>, NoMemory>
-        ensures { IfOk result (λ v. v ≡ items_then out.items (taken_items left items.now ending)) };
-
-    /// The accumulations after `last`, up to the first fault.
-    fn scanned<O: Ops<Item = T>>(
-        &self,
-        alloc: Global,
-        ops: &O,
-        function: u16,
-        last: &T,
-        out: Vec<T>,
-        items: &[T],
-        ending: Ending,
-    ) -> Result<StreamValue<T>, NoMemory>
-        ensures { IfOk result (λ v. v ≡ items_then out.items (scanned_items ((O.meaning ops.now).folded function) last.now items.now ending)) };
-
-    /// The items in lists of so many, where a list is started by these.
-    fn buffered<O: Ops<Item = T>>(
-        &self,
-        alloc: Global,
-        ops: &O,
-        size: u64,
-        started: &[T],
-        out: Vec<T>,
-        items: &[T],
-        ending: Ending,
-    ) -> Result<StreamValue<T>, NoMemory>
-        ensures { IfOk result (λ v. v ≡ items_then out.items (buffered_items (O.meaning ops.now).list_of size started.now items.now ending)) };
-
-    /// The first item of each key, where these keys were seen, up to the first fault.
-    fn told_apart<O: Ops<Item = T>>(
-        &self,
-        alloc: Global,
-        ops: &O,
-        function: u16,
-        keys: &Keys,
-        out: Vec<T>,
-        items: &[T],
-        ending: Ending,
-    ) -> Result<StreamValue<T>, NoMemory>
-        ensures { IfOk result (λ v. v ≡ items_then out.items (distinct_items ((O.meaning ops.now).keyed function) keys.now items.now ending)) };
-
-    /// Copies of the items.
-    fn copies<O: Ops<Item = T>>(
-        &self,
-        alloc: Global,
-        ops: &O,
-        items: &[T],
-    ) -> Result<Vec<T>, NoMemory>
-        ensures { IfOk result (λ v. v.items ≡ items.now) };
+    /// The same once more. For want of memory the answer is [`NoMemory`].
+    fn copied<O: Ops<Item = T>>(&self, alloc: Global, ops: &O) -> Result<Self, NoMemory>
+        ensures { IfOk result (λ copy. copy ≡ self.now) };
 }
 
-impl<T: Drop> OverLists<T> for PlainState<T> {
-    fn mapped<O: Ops<Item = T>>(
-        &self,
-        alloc: Global,
-        ops: &O,
-        function: u16,
-        out: Vec<T>,
-        items: &[T],
-        ending: Ending,
-    ) -> Result<StreamValue<T>, NoMemory>
-        ensures { IfOk result (λ v. v ≡ items_then out.items (mapped_items ((O.meaning ops.now).mapped function) items.now ending)) }
-    {
-        let mut out = out;
-        for item in items {
-            match ops.map(alloc, function, item) {
-                Ok(answer) => out.push(answer)?,
-                Err(Fault::Code(code)) => {
-                    return Ok(StreamValue::new(out, Ending::Failed(Cause::Function(code))));
-                }
-                Err(Fault::Memory) => return Err(NoMemory),
-            }
-        }
-        Ok(StreamValue::new(out, ending))
+/// Puts the items of a slot behind the others, and answers its ending, `Open` where it has none.
+pub(crate) fn drain<T: Drop>(slot: OutSlot<T>, out: &mut Vec<T>) -> Result<Ending, NoMemory>
+    ensures moves { IfOk result (λ e. (v : Stream T) → items_then out.old.items (signals_then slot v) ≡ items_then out.new.items (ended_or e v)) }
+    ensures ended { IfOk result (λ e. has_ending slot ≡ true → has_ended e ≡ true) }
+{
+    let mut slot = slot;
+    match put_behind(slot.pop(), out)? {
+        Ending::Open => put_behind(slot.pop(), out),
+        last => Ok(last),
     }
+}
 
-    fn filtered<O: Ops<Item = T>>(
-        &self,
-        alloc: Global,
-        ops: &O,
-        function: u16,
-        out: Vec<T>,
-        items: &[T],
-        ending: Ending,
-    ) -> Result<StreamValue<T>, NoMemory>
-        ensures { IfOk result (λ v. v ≡ items_then out.items (filtered_items ((O.meaning ops.now).tested function) items.now ending)) }
-    {
-        let mut out = out;
-        for item in items {
-            match ops.test(function, item) {
-                Ok(true) => {
-                    let copy = ops.copy(alloc, item)?;
-                    out.push(copy)?;
-                }
-                Ok(false) => {}
-                Err(Fault::Code(code)) => {
-                    return Ok(StreamValue::new(out, Ending::Failed(Cause::Function(code))));
-                }
-                Err(Fault::Memory) => return Err(NoMemory),
-            }
+/// Puts the item of a signal, if it has one, behind the others, and answers its ending, `Open` where it is none.
+fn put_behind<T: Drop>(signal: Option<Signal<T>>, out: &mut Vec<T>) -> Result<Ending, NoMemory>
+    ensures moves { IfOk result (λ e. (v : Stream T) → items_then out.old.items (signals_then (option_to_list signal) v) ≡ items_then out.new.items (ended_or e v)) }
+    ensures ended { IfOk result (λ e. has_ending (option_to_list signal) ≡ true → has_ended e ≡ true) }
+{
+    match signal {
+        Some(Signal::Next(item)) => {
+            out.push(item)?;
+            Ok(Ending::Open)
         }
-        Ok(StreamValue::new(out, ending))
+        Some(Signal::Complete) => Ok(Ending::Done),
+        Some(Signal::Error(cause)) => Ok(Ending::Failed(cause)),
+        None => Ok(Ending::Open),
     }
+}
 
-    fn taken<O: Ops<Item = T>>(
-        &self,
-        alloc: Global,
-        ops: &O,
-        left: u64,
-        out: Vec<T>,
-        items: &[T],
-        ending: Ending,
-    ) -> Result<StreamValue<T>, NoMemory>
-        ensures { IfOk result (λ v. v ≡ items_then out.items (taken_items left items.now ending)) }
-    {
-        let mut out = out;
-        let mut left = left;
-        for item in items {
-            if left == 0 {
-                return Ok(StreamValue::new(out, Ending::Done));
-            }
-            let copy = ops.copy(alloc, item)?;
-            out.push(copy)?;
-            left -= 1;
-        }
-        if left == 0 {
-            return Ok(StreamValue::new(out, Ending::Done));
-        }
-        Ok(StreamValue::new(out, ending))
-    }
-
-    fn scanned<O: Ops<Item = T>>(
-        &self,
-        alloc: Global,
-        ops: &O,
-        function: u16,
-        last: &T,
-        out: Vec<T>,
-        items: &[T],
-        ending: Ending,
-    ) -> Result<StreamValue<T>, NoMemory>
-        ensures { IfOk result (λ v. v ≡ items_then out.items (scanned_items ((O.meaning ops.now).folded function) last.now items.now ending)) }
-    {
-        let mut out = out;
-        let mut last = ops.copy(alloc, last)?;
-        for item in items {
-            match ops.fold(alloc, function, &last, item) {
-                Ok(next) => {
-                    let copy = ops.copy(alloc, &next)?;
-                    out.push(copy)?;
-                    last = next;
-                }
-                Err(Fault::Code(code)) => {
-                    return Ok(StreamValue::new(out, Ending::Failed(Cause::Function(code))));
-                }
-                Err(Fault::Memory) => return Err(NoMemory),
-            }
-        }
-        Ok(StreamValue::new(out, ending))
-    }
-
-    fn buffered<O: Ops<Item = T>>(
-        &self,
-        alloc: Global,
-        ops: &O,
-        size: u64,
-        started: &[T],
-        out: Vec<T>,
-        items: &[T],
-        ending: Ending,
-    ) -> Result<StreamValue<T>, NoMemory>
-        ensures { IfOk result (λ v. v ≡ items_then out.items (buffered_items (O.meaning ops.now).list_of size started.now items.now ending)) }
-    {
-        let mut out = out;
-        let mut list = self.copies(alloc, ops, started)?;
-        for item in items {
-            let copy = ops.copy(alloc, item)?;
-            list.push(copy)?;
-            if list.len() as u64 >= size {
-                let full = ops.list(alloc, list.as_slice())?;
-                out.push(full)?;
-                list.clear();
-            }
-        }
-        if ending == Ending::Done && !list.is_empty() {
-            let last = ops.list(alloc, list.as_slice())?;
-            out.push(last)?;
-        }
-        Ok(StreamValue::new(out, ending))
-    }
-
-    fn told_apart<O: Ops<Item = T>>(
-        &self,
-        alloc: Global,
-        ops: &O,
-        function: u16,
-        keys: &Keys,
-        out: Vec<T>,
-        items: &[T],
-        ending: Ending,
-    ) -> Result<StreamValue<T>, NoMemory>
-        ensures { IfOk result (λ v. v ≡ items_then out.items (distinct_items ((O.meaning ops.now).keyed function) keys.now items.now ending)) }
-    {
-        let mut out = out;
-        let mut seen = keys.copy()?;
-        for item in items {
-            match ops.key(function, item) {
-                Ok(key) => match seen.note(key) {
-                    Ok(true) => {}
-                    Ok(false) => {
-                        let copy = ops.copy(alloc, item)?;
-                        out.push(copy)?;
-                    }
-                    Err(NoMemory) => return Err(NoMemory),
-                },
-                Err(Fault::Code(code)) => {
-                    return Ok(StreamValue::new(out, Ending::Failed(Cause::Function(code))));
-                }
-                Err(Fault::Memory) => return Err(NoMemory),
-            }
-        }
-        Ok(StreamValue::new(out, ending))
-    }
-
-    fn copies<O: Ops<Item = T>>(
-        &self,
-        alloc: Global,
-        ops: &O,
-        items: &[T],
-    ) -> Result<Vec<T>, NoMemory>
-        ensures { IfOk result (λ v. v.items ≡ items.now) }
-    {
-        let mut out = Vec::new(alloc);
-        for item in items {
-            let copy = ops.copy(alloc, item)?;
-            out.push(copy)?;
-        }
-        Ok(out)
+/// The signal of an ending, if it is one.
+pub(crate) fn signal_of<T>(ending: Ending) -> Option<Signal<T>>
+    ensures { option_to_list result ≡ ending_signals ending }
+{
+    match ending {
+        Ending::Open => None,
+        Ending::Done => Some(Signal::Complete),
+        Ending::Failed(cause) => Some(Signal::Error(cause)),
     }
 }

@@ -3,6 +3,8 @@
 ghost use Rattle.std.specs.Prelude.{◌≡◌, [], ◌∷◌, ◌++◌, IfErr, OnOk, OnErr};
 ghost use Rattle.std.specs.Option.{option_to_list, IfNone};
 
+use crate::rest::Copied;
+use rsx_types::{NoMemory, Ops};
 use std::alloc::Global;
 use std::marker::Model;
 
@@ -62,5 +64,16 @@ impl<T: Drop> Started<T> {
         ensures { self.new ≡ [] }
     {
         self.items.clear();
+    }
+}
+
+impl<T: Drop> Copied<T> for Started<T> {
+    fn copied<O: Ops<Item = T>>(&self, alloc: Global, ops: &O) -> Result<Started<T>, NoMemory> {
+        let mut items = Vec::new(alloc);
+        for item in &self.items {
+            let copy = ops.copy(alloc, item)?;
+            items.push(copy)?;
+        }
+        Ok(Started { items })
     }
 }

@@ -1,14 +1,16 @@
 //! The states of the plain operators.
 
-ghost use Rattle.std.specs.Prelude.{◌≡◌, true, false, [], IfOk, IfErr, IsOk, OnOk, OnErr};
-ghost use Rattle.rsx_types.specs.Stream.{items_then};
+ghost use Rattle.std.specs.Prelude.{◌≡◌, true, false, [], IfOk, IfErr, IsOk, OnOk, OnErr, IsTrue};
+ghost use Rattle.rsx_types.specs.Meaning.{Meaning};
+ghost use Rattle.rsx_types.specs.Stream.{Stream, items_then, ended_by};
+ghost use Rattle.rsx_types.specs.declared.signal.Ending.TheVariants.{Done};
 ghost use Rattle.rsx_plain.specs.Moves.{Moves, EndsLast, has_ending};
 ghost use Rattle.rsx_plain.specs.State.{plain_from, plain_start, after_signal, is_over, allocates_from, wanted_from};
 
 use crate::keys::Keys;
 use crate::operator::Operator;
 use crate::reactions::{MOST, Reactions};
-use crate::rest::OverLists;
+use crate::rest::{Copied, drain, signal_of};
 use crate::started::Started;
 use rsx_rules::rules;
 use rsx_sources::OutSlot;
@@ -127,6 +129,15 @@ impl<T: Drop> PlainState<T> {
             } => asked.saturating_add(*repeated).min(MOST),
         }
     }
+
+    /// Whether nothing more of the input matters: a `take` has let all its items through, and completes.
+    #[inline]
+    pub fn is_over(&self) -> bool
+        ensures over { result ≡ is_over self.now }
+        ensures done { IsTrue result → (m : Meaning T) (v : Stream T) → plain_from m self.now v ≡ ended_by Done }
+    {
+        matches!(self, PlainState::Take { count: _, left: 0 })
+    }
 }
 
 impl<T: Drop> Operator<T> for PlainState<T> {
@@ -190,26 +201,68 @@ impl<T: Drop> Operator<T> for PlainState<T> {
     ) -> Result<StreamValue<T>, NoMemory>
         ensures { IfOk result (λ v. v ≡ items_then out.items (plain_from (O.meaning ops.now) self.now (record { items = items.now; ending = ending }))) }
     {
-        match self {
-            PlainState::Map { function } => self.mapped(alloc, ops, *function, out, items, ending),
-            PlainState::Filter {
-                function,
-                dropped: _,
-            } => self.filtered(alloc, ops, *function, out, items, ending),
-            PlainState::Take { count: _, left } => {
-                self.taken(alloc, ops, *left, out, items, ending)
+        if self.is_over() {
+            return Ok(StreamValue::new(out, Ending::Done));
+        }
+        let mut state = self.copied(alloc, ops)?;
+        let mut out = out;
+        for item in items {
+            let signal = Signal::Next(ops.copy(alloc, item)?);
+            let mut slot = OutSlot::new();
+            match state.react(alloc, ops, signal, &mut slot) {
+                Err(_) => return Err(NoMemory),
+                Ok(()) => match drain(slot, &mut out)? {
+                    Ending::Open => {}
+                    last => return Ok(StreamValue::new(out, last)),
+                },
             }
-            PlainState::Scan { function, last } => {
-                self.scanned(alloc, ops, *function, last, out, items, ending)
-            }
-            PlainState::Buffer { size, started } => {
-                self.buffered(alloc, ops, *size, started.items(), out, items, ending)
-            }
+        }
+        let mut slot = OutSlot::new();
+        match signal_of(ending) {
+            None => Ok(StreamValue::new(out, Ending::Open)),
+            Some(signal) => match state.react(alloc, ops, signal, &mut slot) {
+                Err(_) => Err(NoMemory),
+                Ok(()) => {
+                    let last = drain(slot, &mut out)?;
+                    Ok(StreamValue::new(out, last))
+                }
+            },
+        }
+    }
+}
+
+impl<T: Drop> Copied<T> for PlainState<T> {
+    fn copied<O: Ops<Item = T>>(&self, alloc: Global, ops: &O) -> Result<PlainState<T>, NoMemory> {
+        let state = match self {
+            PlainState::Map { function } => PlainState::Map {
+                function: *function,
+            },
+            PlainState::Filter { function, dropped } => PlainState::Filter {
+                function: *function,
+                dropped: *dropped,
+            },
+            PlainState::Take { count, left } => PlainState::Take {
+                count: *count,
+                left: *left,
+            },
+            PlainState::Scan { function, last } => PlainState::Scan {
+                function: *function,
+                last: ops.copy(alloc, last)?,
+            },
+            PlainState::Buffer { size, started } => PlainState::Buffer {
+                size: *size,
+                started: started.copied(alloc, ops)?,
+            },
             PlainState::Distinct {
                 function,
                 keys,
-                repeated: _,
-            } => self.told_apart(alloc, ops, *function, keys, out, items, ending),
-        }
+                repeated,
+            } => PlainState::Distinct {
+                function: *function,
+                keys: keys.copy()?,
+                repeated: *repeated,
+            },
+        };
+        Ok(state)
     }
 }

@@ -20,9 +20,6 @@ ghost use Rattle.rsx_demand.specs.Demand.{saturating_total};
 ghost use Rattle.rsx_prefetch.specs.Credits as spec;
 ghost use Rattle.rsx_prefetch.specs.Queue.{queue};
 
-#[cfg(test)]
-mod tests;
-
 use circular_buffer::HeapCircularBuffer;
 use rsx_demand::{UNBOUNDED, saturating_total};
 use rsx_types::NoMemory;

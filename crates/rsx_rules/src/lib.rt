@@ -31,8 +31,6 @@
 #![tactic(auto)]
 
 pub mod example;
-#[cfg(test)]
-mod tests;
 
 /// A table over a state and a signal, as the crate's page says: rows
 /// `state, signal, guard => new state, effect;`, of which the last is total. Its value is the pair of

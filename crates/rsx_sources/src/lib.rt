@@ -12,8 +12,6 @@ pub mod items;
 pub mod machine;
 pub mod range;
 pub mod slot;
-#[cfg(test)]
-mod tests;
 
 pub use items::ItemsNode;
 pub use machine::{Front, Machine, NotMade, NotTaken};

@@ -29,9 +29,6 @@
 ghost use Rattle.std.specs.Prelude.{◌≡◌, ◌<◌, OnErr};
 ghost use Rattle.rsx_subscription.specs.Table.{cell_of, IsClosed, state_after, asked_after, sent_after, answer};
 
-#[cfg(test)]
-mod tests;
-
 use rsx_demand::Demand;
 use rsx_rules::rules;
 use thiserror::Error;

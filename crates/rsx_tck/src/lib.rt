@@ -12,8 +12,6 @@ mod pass;
 mod reports;
 mod rule;
 mod running;
-#[cfg(test)]
-mod tests;
 mod workers;
 
 pub use reports::{judge, report};

@@ -8,9 +8,6 @@
 //! standard error.
 #![tactic(auto)]
 
-#[cfg(test)]
-mod tests;
-
 use anyhow::{Context, Result};
 use rsx_tck::{Event, Rule, Stamped, Verdict, parse_trace, report};
 use std::alloc::{AllocError, Global};

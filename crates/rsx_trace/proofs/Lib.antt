@@ -6,6 +6,7 @@ pub mod Words
 pub mod Events
 pub mod Traces
 pub mod Sound
+pub mod Workers
 pub mod Continuing
 pub mod Parts
 pub mod WrongWords

@@ -6,3 +6,4 @@ pub mod Grammar
 pub mod FirstWrong
 pub mod Reading
 pub mod Gives
+pub mod RefusalText

@@ -9,8 +9,6 @@ mod line;
 mod print;
 mod read;
 mod refusal;
-#[cfg(test)]
-mod tests;
 
 pub use event::{Event, Stamped};
 pub use print::print_trace;

@@ -1,6 +1,6 @@
 //! Reading a whole trace.
 
-ghost use Rattle.std.specs.Prelude.{◌≡◌, ◌<◌, ◌≤◌, ◌+◌, ◌-◌, ◌^◌, ◌∷◌, ℕ, List, length, IfOk, IfErr, Ok, Err};
+ghost use Rattle.std.specs.Prelude.{◌≡◌, ◌<◌, ◌≤◌, ◌+◌, ◌-◌, ◌^◌, ◌∷◌, ℕ, List, length, IfOk, IfErr, Ok, Err, All};
 ghost use Rattle.rsx_trace.specs.Texts.{lines};
 ghost use Rattle.rsx_trace.specs.Reading.{events_of, trace_of};
 ghost use Rattle.rsx_trace.specs.declared.event.Stamped.{Stamped};
@@ -86,6 +86,8 @@ fn trace_in(alloc: Global, text: &[u8]) -> Result<Vec<Stamped>, TraceRefusal>
 pub fn parse_trace(alloc: Global, text: &[u8]) -> Result<Vec<Stamped>, TraceRefusal>
     // What is read is a trace of these events.
     ensures found { IfOk result (λ v. IsTrace text.now v.items) }
+    // A worker's number is at most 15, as `print_trace` wants it.
+    ensures workers { IfOk result (λ v. All (λ e. e.worker ≤ 15) v.items) }
     // What is a trace is read, unless memory runs out.
     ensures only { (events : List Stamped) → IsTrace text.now events → GivesTrace (λ v. v.items) result (Ok events) }
     // What is refused is refused at its first wrong word.

@@ -36,13 +36,13 @@ first_below {M} b m r i asked sent first t e n below beside was (Ask k) is at h 
     let q = subst W at h in
     let w = q.1 in
     let c = q.2 in
-    row_tree (λ x. IsEnabledIn b m r i asked sent x first (Ask k)) t e n below beside is (q.0 + 1, omega (arith, w), omega (arith, c), ap (can_ask_in b) (at_below r i asked sent e n below beside q.0 w) ∙ q.3)
+    row_tree (λ x. IsEnabledIn b m r i asked sent x first (Ask k)) t e n below beside is (q.0 + 1, omega (arith, w), omega (arith, c), q.3, ap (can_ask_in b) (at_below r i asked sent e n below beside q.0 w) ∙ q.4)
 first_below {M} b m r i asked sent first t e n below beside was (Send k) is at h =
     let W : Inputs M → Type 0 = λ x. IsEnabledIn b m n 0 e.demand.asked e.demand.sent x (first + 1) (Send k) in
     let q = subst W at h in
     let w = q.1 in
     let c = q.2 in
-    row_tree (λ x. IsEnabledIn b m r i asked sent x first (Send k)) t e n below beside is (q.0 + 1, omega (arith, w), omega (arith, c), ap (can_send_in b m) (at_below r i asked sent e n below beside q.0 w) ∙ q.3)
+    row_tree (λ x. IsEnabledIn b m r i asked sent x first (Send k)) t e n below beside is (q.0 + 1, omega (arith, w), omega (arith, c), q.3, ap (can_send_in b m) (at_below r i asked sent e n below beside q.0 w) ∙ q.4)
 
 -- the number of nodes below, where there are fewer than were counted up to
 pub counted : (k inside most : ℕ) → inside ≡ min k most → (inside ≡ most → ⊥) → inside ≡ k
@@ -56,11 +56,11 @@ some_beside : {M T : Type 0} (b : Machine M T) (m : Meaning T) (r : M) (i asked 
 some_beside b m r i asked sent first e n below beside (Ask k) q =
     let w = q.1 in
     let c = q.2 in
-    (q.0 + 1 + size below.value, omega (arith, w), omega (arith, c), ap (can_ask_in b) (at_beside r i asked sent e n below beside q.0) ∙ q.3)
+    (q.0 + 1 + size below.value, omega (arith, w), omega (arith, c), q.3, ap (can_ask_in b) (at_beside r i asked sent e n below beside q.0) ∙ q.4)
 some_beside b m r i asked sent first e n below beside (Send k) q =
     let w = q.1 in
     let c = q.2 in
-    (q.0 + 1 + size below.value, omega (arith, w), omega (arith, c), ap (can_send_in b m) (at_beside r i asked sent e n below beside q.0) ∙ q.3)
+    (q.0 + 1 + size below.value, omega (arith, w), omega (arith, c), q.3, ap (can_send_in b m) (at_beside r i asked sent e n below beside q.0) ∙ q.4)
 
 pub first_beside : {M T : Type 0} (b : Machine M T) (m : Meaning T) (r : M) (i asked sent first inside : ℕ) (t : Inputs M) (e : Edge) (n : M) (below beside : Rest M) (was : Inputs M) (o : Option Enabled) → t ≡ More e n below beside → was ≡ beside.value → inside ≡ size below.value →
     IfSome o (λ step. IsEnabledIn b m r (i + 1) asked sent was (first + 1 + inside) step) → IfSome o (λ step. IsEnabledIn b m r i asked sent t first step)
@@ -109,7 +109,7 @@ all_counted s inside at k is e all lt = omega (arith, is, e, all, lt)
 pub enabled_tree : {M T : Type 0} (b : Machine M T) (m : Meaning T) (t : Node M) (asked sent first : ℕ) (o : Option Enabled) → IfSome o (λ e. IsEnabledIn b m t.machine 0 asked sent t.inputs first e) → IfSome o (λ e. IsEnabledAt b m t asked sent first e)
 enabled_tree b m t asked sent first None h = tt
 enabled_tree b m t asked sent first (Some (Ask n)) h = h
-enabled_tree b m t asked sent first (Some (Send n)) h = (h.0, h.1, h.2, send_anywhere b m t.machine 0 0 0 asked sent t.inputs h.0 ∙ h.3)
+enabled_tree b m t asked sent first (Some (Send n)) h = (h.0, h.1, h.2, h.3, send_anywhere b m t.machine 0 0 0 asked sent t.inputs h.0 ∙ h.4)
 
 pub none_tree : {M T : Type 0} (b : Machine M T) (m : Meaning T) (t : Node M) (asked sent first : ℕ) (o : Option Enabled) → IfNone o (NoneUpTo b m t.machine 0 asked sent t.inputs first) →
     IfNone o ((k : ℕ) → first + k < 2 ^ 32 → (can_ask b t k asked sent ≡ false) × (can_send b m t k ≡ false))

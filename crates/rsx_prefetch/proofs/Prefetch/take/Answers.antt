@@ -1,4 +1,4 @@
-use Rattle.std.proofs.Common.{◌≤◌, arith}
+use Rattle.std.proofs.Common.{◌≤◌, arith, rules}
 use Rattle.rsx_prefetch.proofs.Batches.{credits-mono}
 use Rattle.rsx_prefetch.proofs.Prefetch.take.Goals as goal
 
@@ -7,3 +7,9 @@ returns-clause-credited g c =
     let counted : c.self.inside.taken ≤ c.saturating_total-self-inside.result
     = omega (arith, c.saturating_total-self-inside.ensures, c.self.invariant.counted)
     in rw (c.pop_front.ensures.items, ← c.self.view_is) (credits-mono _ _ _ c.self.invariant.positive counted)
+
+pub returns-clause-front : goal.returns-clause-front
+returns-clause-front g c = search rules
+
+pub returns-clause-taken : goal.returns-clause-taken
+returns-clause-taken g c = search rules

@@ -1,6 +1,7 @@
 use Rattle.std.proofs.Common.{refl}
 use Rattle.std.proofs.Common.{◌<◌, ◌∙◌, length, sym, arith}
-use Rattle.rsx_graph.proofs.Graphs.{AllStand-moved, allocates_there, enabled_there, inside_enabled, inside_effect, set_same, found}
+use Rattle.rsx_graph.proofs.Graphs.{AllStand-moved, allocates_there, enabled_there, set_same, found}
+use Rattle.rsx_subscriber.proofs.Moves.{inside_enabled, inside_effect}
 use Rattle.rsx_graph.proofs.graph.Graph.make_inside.Goals as goal
 
 pub returns-in-Ok-clause-stands : goal.returns-in-Ok-clause-stands

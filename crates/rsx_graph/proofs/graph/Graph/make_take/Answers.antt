@@ -1,6 +1,6 @@
 use Rattle.std.proofs.Common.{refl}
 use Rattle.std.proofs.Common.{◌<◌, ◌∙◌, length, sym, arith}
-use Rattle.rsx_graph.specs.History.{given}
+use Rattle.rsx_subscriber.specs.Past.{given}
 use Rattle.rsx_graph.proofs.Graphs.{AllStand-set, enabled_there, set_same, found}
 use Rattle.rsx_graph.proofs.graph.Graph.make_take.Goals as goal
 

@@ -1,7 +1,8 @@
 use Rattle.std.proofs.Common.{◌≡◌, ◌<◌, length, sym, arith, ◌∙◌}
 use Rattle.rsx_types.specs.Stream.{ended_by}
 use Rattle.rsx_types.specs.declared.signal.Ending.TheVariants.{Open}
-use Rattle.rsx_graph.proofs.Graphs.{owed_open, owed_none, ended_value}
+use Rattle.rsx_graph.proofs.Graphs.{owed_open, owed_none}
+use Rattle.rsx_subscriber.proofs.Sentence.{ended_value}
 use Rattle.rsx_graph.proofs.graph.Graph.owed.Goals as goal
 
 pub returns-in_default : goal.returns-in_default

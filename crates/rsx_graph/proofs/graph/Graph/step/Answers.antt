@@ -1,6 +1,7 @@
-use Rattle.std.proofs.Common.{rules, length, ◌∙◌, arith}
+use Rattle.std.proofs.Common.{rules, length, ◌∙◌, arith, w64}
+use Rattle.std.proofs.lemmas.Int.{to_z-of_z}
 use Rattle.rsx_graph.proofs.Graphs.{count_same, state_there, subscribe_refusal, make_refusal}
-use Rattle.rsx_graph.specs.Stands.{standing_of}
+use Rattle.rsx_subscriber.specs.Stands.{standing_of}
 use Rattle.rsx_graph.proofs.graph.Graph.step.Goals as goal
 
 pub returns-in-Ok-clause-belongs : goal.returns-in-Ok-clause-belongs
@@ -15,8 +16,8 @@ returns-in-Err-clause-belongs g c = λ h s.
 
 pub returns-in-Ok-request-clause-belongs : goal.returns-in-Ok-request-clause-belongs
 returns-in-Ok-request-clause-belongs g c = λ h s.
-    let a = c.in-Ok-request.ensures.answer in
-    rw c.in-Request.is (standing_of a.0, state_there (g.O.Ops.meaning c.args.self.now.ops) h.published c.args.self.now.subscriptions.items h.pasts c.in-Request.sub.0 a.0 a.1 s, search (rules, a.2))
+    let a = c.in-Ok-request.ensures.effect in
+    rw c.in-Request.is (standing_of a.old, state_there (g.O.Ops.meaning c.args.self.now.ops) h.published c.args.self.now.subscriptions.items h.pasts c.in-Request.sub.0 a.old a.there s, search (rules, a.answer))
 
 pub returns-in-Err-request-clause-belongs : goal.returns-in-Err-request-clause-belongs
 returns-in-Err-request-clause-belongs g c = λ h s.
@@ -37,3 +38,27 @@ pub returns-in-Err-make-clause-belongs : goal.returns-in-Err-make-clause-belongs
 returns-in-Err-make-clause-belongs g c = λ h s.
     let same = count_same (g.O.Ops.meaning c.args.self.now.ops) h.published c.args.self.now.subscriptions.items h.pasts s in
     rw c.in-Make.is (_, make_refusal (length c.args.self.now.subscriptions.items) (length h.pasts) _ _ c.in-Err-make.why same c.in-Err-make.ensures.err)
+
+pub returns-in-Ok-clause-done : goal.returns-in-Ok-clause-done
+returns-in-Ok-clause-done g c = let i = c.in-Ok.ensures.id in rw c.in-Subscribe.is (i.0, i.1, i.2, c.in-Ok.ensures.effect)
+
+pub returns-in-Err-clause-done : goal.returns-in-Err-clause-done
+returns-in-Err-clause-done g c = rw c.in-Subscribe.is (c.in-Err.ensures.err, c.in-Err.ensures.same)
+
+pub returns-in-Ok-request-clause-done : goal.returns-in-Ok-request-clause-done
+returns-in-Ok-request-clause-done g c = let n = to_z-of_z w64 c.in-Request.n (search rules) in rw c.in-Request.is (rw n at c.in-Ok-request.ensures.effect)
+
+pub returns-in-Err-request-clause-done : goal.returns-in-Err-request-clause-done
+returns-in-Err-request-clause-done g c = let r = c.in-Err-request.ensures.err in rw c.in-Request.is (r.0, r.1, c.in-Err-request.ensures.same)
+
+pub returns-in-Ok-cancel-clause-done : goal.returns-in-Ok-cancel-clause-done
+returns-in-Ok-cancel-clause-done g c = rw c.in-Cancel.is c.in-Ok-cancel.ensures.effect
+
+pub returns-in-Err-cancel-clause-done : goal.returns-in-Err-cancel-clause-done
+returns-in-Err-cancel-clause-done g c = let r = c.in-Err-cancel.ensures.err in rw c.in-Cancel.is (r.0, r.1, c.in-Err-cancel.ensures.same)
+
+pub returns-in-Ok-make-clause-done : goal.returns-in-Ok-make-clause-done
+returns-in-Ok-make-clause-done g c = rw c.in-Make.is (c.in-Ok-make.ensures.enabled, c.in-Ok-make.ensures.effect, c.in-Ok-make.ensures.answer)
+
+pub returns-in-Err-make-clause-done : goal.returns-in-Err-make-clause-done
+returns-in-Err-make-clause-done g c = rw c.in-Make.is (c.in-Err-make.ensures.err, c.in-Err-make.ensures.memory, c.in-Err-make.ensures.same)

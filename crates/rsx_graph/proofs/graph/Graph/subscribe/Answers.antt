@@ -1,5 +1,5 @@
 use Rattle.std.proofs.Common.{[]}
-use Rattle.rsx_graph.specs.History.{subscribed}
+use Rattle.rsx_subscriber.specs.Past.{subscribed}
 use Rattle.rsx_graph.proofs.Graphs.{AllStand-push}
 use Rattle.rsx_graph.proofs.graph.Graph.subscribe.Goals as goal
 

@@ -1,0 +1,5 @@
+#![tactic(auto)]
+//! Tests of graphs over the demonstration's functions: each call once on its happy path, and a refused move.
+
+#[cfg(test)]
+mod tests;

@@ -1,0 +1,91 @@
+//! The functions of a small caller over `i64`.
+
+ghost use Rattle.std.specs.Prelude.{IfOk};
+
+use rsx_types::{Fault, NoMemory, Ops};
+use std::alloc::Global;
+
+/// Function 0 of `map` answers -1, and of `scan` the greater of the two; test 0 asks whether the number is at most 3, and
+/// key 0 is 0 for these and 1 for the others. A list is its length, at most 9. The other functions fault with 7.
+#[derive(Clone, Copy)]
+pub(crate) struct Numbers {
+    /// Whether `scan` and `buffer` find no memory.
+    pub(crate) scarce: bool,
+}
+
+/// Memory for everything.
+pub(crate) const PLENTY: Numbers = Numbers { scarce: false };
+
+/// No memory for accumulations and lists.
+pub(crate) const SCARCE: Numbers = Numbers { scarce: true };
+
+impl Ops for Numbers {
+    type Item = i64;
+
+    ghost use Rattle.std.specs.Prelude.{Ok, Err, pos, negsuc, min, length, int_le, ◌==◌, if◌then◌else◌};
+    ghost use Rattle.std.proofs.Common.{rules};
+    ghost use Rattle.rsx_types.specs.Meaning.{none_allocates};
+
+    ghost meaning = { λ o. record { mapped = λ f x. if f == 0 then Ok (negsuc 0) else Err 7; tested = λ f x. if f == 0 then Ok (int_le x (pos 3)) else Err 7; folded = λ f a x. if f == 0 then Ok (if int_le a x then x else a) else Err 7; keyed = λ f x. if f == 0 then Ok (if int_le x (pos 3) then 0 else 1) else Err 7; expanded = λ f x. Err 7; row_of = λ xs. pos 0; list_of = λ xs. pos (min (length xs) 9); tagged = λ k x. x; number = λ v. v } };
+
+    ghost allocates = { λ o. record none_allocates { folded = o.scarce; list_of = o.scarce } };
+
+    ghost lawful = { λ o. record { map_fault = λ f x. Prim.search rules; test_fault = λ f x. Prim.search rules; fold_fault = λ f a x. Prim.search rules; key_fault = λ f x. Prim.search rules; expansion = λ f x. Prim.search rules } };
+
+    fn map(&self, alloc: Global, f: u16, x: &i64) -> Result<i64, Fault> {
+        if f == 0 { Ok(-1) } else { Err(Fault::Code(7)) }
+    }
+
+    fn test(&self, f: u16, x: &i64) -> Result<bool, Fault> {
+        if f == 0 {
+            Ok(*x <= 3)
+        } else {
+            Err(Fault::Code(7))
+        }
+    }
+
+    fn fold(&self, alloc: Global, f: u16, acc: &i64, x: &i64) -> Result<i64, Fault> {
+        if self.scarce {
+            return Err(Fault::Memory);
+        }
+        if f != 0 {
+            return Err(Fault::Code(7));
+        }
+        if *acc <= *x { Ok(*x) } else { Ok(*acc) }
+    }
+
+    fn key(&self, f: u16, x: &i64) -> Result<u64, Fault> {
+        if f != 0 {
+            return Err(Fault::Code(7));
+        }
+        if *x <= 3 { Ok(0) } else { Ok(1) }
+    }
+
+    fn expand(&self, alloc: Global, f: u16, x: &i64) -> Result<Vec<i64>, Fault> {
+        Err(Fault::Code(7))
+    }
+
+    fn row(&self, alloc: Global, xs: &[i64]) -> Result<i64, NoMemory> {
+        Ok(0)
+    }
+
+    fn list(&self, alloc: Global, xs: &[i64]) -> Result<i64, NoMemory> {
+        if self.scarce {
+            return Err(NoMemory);
+        }
+        let count = xs.len().min(9);
+        Ok(count as i64)
+    }
+
+    fn tag(&self, alloc: Global, key: u64, x: &i64) -> Result<i64, NoMemory> {
+        Ok(*x)
+    }
+
+    fn copy(&self, alloc: Global, x: &i64) -> Result<i64, NoMemory> {
+        Ok(*x)
+    }
+
+    fn from_i64(&self, alloc: Global, v: i64) -> Result<i64, NoMemory> {
+        Ok(v)
+    }
+}

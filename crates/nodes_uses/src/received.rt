@@ -1,0 +1,74 @@
+//! What came out, in its order.
+
+use crate::numbers::PLENTY;
+use rsx_sources::{Machine, OutSlot};
+use rsx_types::{Ending, NoMemory, Signal};
+use std::alloc::Global;
+
+/// What came out so far: items, and then an ending, or `Open`.
+#[derive(Drop)]
+pub(crate) struct Received {
+    /// The items.
+    pub(crate) items: Vec<i64>,
+    /// The ending.
+    pub(crate) ending: Ending,
+}
+
+impl Received {
+    /// Puts a signal behind the others. Where memory is refused, it tries once more.
+    pub(crate) fn note(&mut self, signal: Signal<i64>) -> Result<(), NoMemory> {
+        match signal {
+            Signal::Next(item) => {
+                if self.items.push(item).is_err() {
+                    self.items.push(item)?;
+                }
+            }
+            Signal::Complete => self.ending = Ending::Done,
+            Signal::Error(cause) => self.ending = Ending::Failed(cause),
+        }
+        Ok(())
+    }
+
+    /// Puts the signals of a slot behind the others.
+    pub(crate) fn note_both(&mut self, slot: OutSlot<i64>) -> Result<(), NoMemory> {
+        let mut slot = slot;
+        for _ in 0..2 {
+            if let Some(signal) = slot.pop() {
+                self.note(signal)?;
+            }
+        }
+        Ok(())
+    }
+
+    /// Whether just these items and this ending came out.
+    pub(crate) fn is(&self, items: &[i64], ending: Ending) -> bool {
+        self.items.as_slice() == items && self.ending == ending
+    }
+}
+
+/// The signal of an ending, if it is one.
+pub(crate) fn signal_of(ending: Ending) -> Option<Signal<i64>> {
+    match ending {
+        Ending::Open => None,
+        Ending::Done => Some(Signal::Complete),
+        Ending::Failed(cause) => Some(Signal::Error(cause)),
+    }
+}
+
+/// Takes what a node offers, at most nine signals, up to an ending. Each signal is put back and taken once more.
+pub(crate) fn take_all<M: Machine<Item = i64>>(
+    alloc: Global,
+    node: &mut M,
+    received: &mut Received,
+) -> Result<(), NoMemory> {
+    for _ in 0..9 {
+        if let Some(signal) = node.pop_front(alloc, &PLENTY)? {
+            node.put_back(signal);
+        }
+        match node.pop_front(alloc, &PLENTY)? {
+            Some(signal) if received.ending == Ending::Open => received.note(signal)?,
+            _ => return Ok(()),
+        }
+    }
+    Ok(())
+}

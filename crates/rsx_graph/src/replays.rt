@@ -1,0 +1,35 @@
+//! A list of steps from nothing.
+
+ghost use Rattle.std.specs.Prelude.{◌≡◌, IfOk, IfErr};
+ghost use Rattle.rsx_graph.specs.Replayed.{IsReplayed};
+
+use crate::graph::Graph;
+use crate::step::{Answer, Step};
+use rsx_types::Ops;
+use std::alloc::Global;
+
+/// Makes the steps, in their order, on a graph with no subscription: the graph after them, and the answer of each.
+///
+/// The contract is the headline for what this call gives back, and speaks of no state that a caller would have to know: each
+/// step did what its answer says, each answer belongs to its step, and what each live subscriber received by these answers,
+/// followed by what the graph still owes it, is its expression evaluated from scratch.
+///
+/// # Errors
+/// The steps come back where the memory for their answers was refused; none of them was made.
+pub fn replay<O: Ops>(
+    alloc: Global,
+    ops: O,
+    steps: Vec<Step<O::Item>>,
+) -> Result<(Graph<O>, Vec<Answer<O::Item>>), Vec<Step<O::Item>>>
+    ensures ops { IfOk result (λ r. r.0.ops ≡ ops) }
+    ensures replayed { IfOk result (λ r. IsReplayed (O.meaning ops) (O.allocates ops) steps.items r.1.items r.0.subscriptions.items) }
+    ensures err { IfErr result (λ back. back.items ≡ steps.items) }
+{
+    let Ok(mut graph) = Graph::new(alloc, ops) else {
+        return Err(steps);
+    };
+    match graph.run(alloc, steps) {
+        Ok(answers) => Ok((graph, answers)),
+        Err(steps) => Err(steps),
+    }
+}

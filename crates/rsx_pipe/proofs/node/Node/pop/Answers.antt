@@ -1,7 +1,0 @@
-use Rattle.std.proofs.lemmas.Result.{IfOk-weaker}
-use Rattle.rsx_pipe.proofs.Trees.{popped_range}
-use Rattle.rsx_pipe.proofs.node.Node.pop.Goals as goal
-
-pub returns-in-Range-clause-ok : goal.returns-in-Range-clause-ok
-returns-in-Range-clause-ok g c =
-    rw c.in-Range.is (IfOk-weaker c.pop_front-in-Range.result _ _ (λ s. popped_range (g.O.Ops.meaning c.args.ops.now) c.in-Range.node c.pop_front-in-Range.new.self s) c.pop_front-in-Range.ensures.ok)

@@ -1,0 +1,288 @@
+//! A graph with what each of its subscribers received: the state of a run.
+
+ghost use Rattle.std.specs.Prelude.{◌≡◌, ◌≤◌, ◌++◌, ℕ, List, true, length, string_bytes, OnErr, OnOk};
+
+use rsx_demo::{Demo, Val, is_same_val};
+use rsx_graph::{Deliveries, Graph, Pumped, Refusal};
+use rsx_model::{Expr, ScratchRefusal, scratch};
+use rsx_script::{Answer, Command, Mode, Rest, Shown};
+use rsx_types::{Cause, Ending, NoMemory, Signal, StreamValue, SubId, Tree};
+use std::alloc::{AllocFailed, Global};
+
+/// The most moves of one call of `Graph::pump`, so that what it delivers is taken in before it grows large.
+const SLICE: u32 = 65_536;
+
+/// Whether a subscription still takes part.
+#[derive(Clone, Copy, Debug, PartialEq, Eq)]
+enum Standing {
+    /// It wasn't closed; it may have ended.
+    Live,
+    /// Its subscriber cancelled it while it was open.
+    Cancelled,
+    /// A bad request closed it.
+    Closed,
+}
+
+/// What a run knows of a subscription.
+#[derive(Drop)]
+struct Record {
+    expr: Expr<Val>,
+    received: Vec<Val>,
+    /// The ending that was received, or `Open`.
+    ending: Ending,
+    standing: Standing,
+}
+
+/// Why a command has no answer of its own.
+#[derive(Drop)]
+enum Trouble {
+    /// A call was refused, by this name.
+    Refused(&'static str),
+    /// A growth was refused.
+    Memory,
+}
+
+impl From<Refusal> for Trouble {
+    fn from(refusal: Refusal) -> Trouble {
+        match refusal {
+            Refusal::NoMemory => Trouble::Memory,
+            _ => Trouble::Refused(refusal.name()),
+        }
+    }
+}
+
+impl From<ScratchRefusal> for Trouble {
+    fn from(refusal: ScratchRefusal) -> Trouble {
+        match refusal {
+            ScratchRefusal::NoMemory => Trouble::Memory,
+            _ => Trouble::Refused(refusal.name()),
+        }
+    }
+}
+
+impl<T: Drop> From<AllocFailed<T>> for Trouble {
+    fn from(_e: AllocFailed<T>) -> Trouble {
+        Trouble::Memory
+    }
+}
+
+/// A graph with what each of its subscribers received.
+#[derive(Drop)]
+pub struct Session {
+    mode: Mode,
+    graph: Graph<Demo>,
+    /// The subscriptions, in the order of their ids.
+    records: Vec<Record>,
+}
+
+impl Session {
+    /// An empty graph, whose subscriptions are shown as the mode says.
+    ///
+    /// # Errors
+    ///
+    /// `NoMemory` where a growth was refused.
+    pub fn new(alloc: Global, mode: Mode) -> Result<Session, NoMemory> {
+        match Graph::new(alloc, Demo) {
+            Ok(graph) => Ok(Session {
+                mode,
+                graph,
+                records: Vec::new(alloc),
+            }),
+            Err(_) => Err(NoMemory),
+        }
+    }
+
+    /// Does what a command asks for, and adds its answer to the text, with a newline.
+    ///
+    /// # Errors
+    ///
+    /// `NoMemory` where a growth was refused; the text is then as it was.
+    pub fn answer(
+        &mut self,
+        alloc: Global,
+        command: Command,
+        out: &mut String,
+    ) -> Result<(), NoMemory>
+        ensures same { OnErr result (string_bytes out.new ≡ string_bytes out.old) }
+        ensures grows { OnOk result ((text : List ℕ) × (string_bytes out.new ≡ string_bytes out.old ++ text)) }
+    {
+        let answer = match self.run(alloc, command) {
+            Ok(answer) => answer,
+            Err(Trouble::Refused(name)) => Answer::Refused(name),
+            Err(Trouble::Memory) => return Err(NoMemory),
+        };
+        let text = format!(in alloc; "{answer}\n")?;
+        out.push_str(text.as_str())?;
+        Ok(())
+    }
+
+    fn run(&mut self, alloc: Global, command: Command) -> Result<Answer<'_>, Trouble> {
+        match command {
+            Command::Subscribe(expr) => self.subscribe(alloc, expr),
+            Command::Request(sub, count) => self.request(sub, count),
+            Command::Cancel(sub) => self.cancel(sub),
+            Command::Pump(budget) => self.pump(alloc, budget),
+            Command::Show(sub) => self.show(alloc, sub),
+            Command::Asked(sub) => Ok(Answer::Asked(self.graph.asked(sub)?)),
+            Command::Count(sub) => Ok(Answer::Count(self.record(sub)?.received.len() as u64)),
+            Command::Check(sub) => self.check(alloc, sub),
+        }
+    }
+
+    fn record(&self, sub: SubId) -> Result<&Record, Trouble> {
+        match self.records.get(sub.0 as usize) {
+            Some(record) => Ok(record),
+            None => Err(Trouble::from(Refusal::UnknownSub)),
+        }
+    }
+
+    fn subscribe(&mut self, alloc: Global, expr: Expr<Val>) -> Result<Answer<'_>, Trouble> {
+        let sub = self.graph.subscribe(alloc, &expr)?;
+        self.records.push(Record {
+            expr,
+            received: Vec::new(alloc),
+            ending: Ending::Open,
+            standing: Standing::Live,
+        })?;
+        Ok(Answer::Sub(sub))
+    }
+
+    /// The error of a bad request is delivered at once (rule 3.9).
+    fn request(&mut self, sub: SubId, count: i64) -> Result<Answer<'_>, Trouble> {
+        if let Some(signal) = self.graph.request(sub, count)? {
+            self.take_in(sub, signal)?;
+        }
+        Ok(Answer::Done)
+    }
+
+    /// A subscription that ended or was closed stays as it is (rule 3.7).
+    fn cancel(&mut self, sub: SubId) -> Result<Answer<'_>, Trouble> {
+        self.graph.cancel(sub)?;
+        if let Some(record) = self.records.get_mut(sub.0 as usize) {
+            if record.ending == Ending::Open && record.standing == Standing::Live {
+                record.standing = Standing::Cancelled;
+            }
+        }
+        Ok(Answer::Done)
+    }
+
+    /// Makes at most so many moves, a slice of them at a time.
+    fn pump(&mut self, alloc: Global, budget: u32) -> Result<Answer<'_>, Trouble> {
+        for _ in 0..budget / SLICE {
+            if let Pumped::Idle = self.pump_slice(alloc, SLICE)? {
+                return Ok(Answer::Idle);
+            }
+        }
+        match self.pump_slice(alloc, budget % SLICE)? {
+            Pumped::Idle => Ok(Answer::Idle),
+            Pumped::Budget => Ok(Answer::Budget),
+        }
+    }
+
+    /// Makes at most so many moves, and takes in what they delivered.
+    fn pump_slice(&mut self, alloc: Global, budget: u32) -> Result<Pumped, Trouble> {
+        let mut deliveries = Deliveries::new(alloc);
+        let pumped = self.graph.pump(alloc, budget, &mut deliveries)?;
+        for (sub, signal) in deliveries.into_vec() {
+            self.take_in(sub, signal)?;
+        }
+        Ok(pumped)
+    }
+
+    /// Takes in a signal to a subscriber.
+    #[inline]
+    fn take_in(&mut self, sub: SubId, signal: Signal<Val>) -> Result<(), Trouble> {
+        let Some(record) = self.records.get_mut(sub.0 as usize) else {
+            return Ok(());
+        };
+        match signal {
+            Signal::Next(item) => record.received.push(item)?,
+            Signal::Complete => record.ending = Ending::Done,
+            Signal::Error(cause) => {
+                record.ending = Ending::Failed(cause);
+                if cause == Cause::NonPositiveRequest {
+                    record.standing = Standing::Closed;
+                }
+            }
+        }
+        Ok(())
+    }
+
+    fn show(&self, alloc: Global, sub: SubId) -> Result<Answer<'_>, Trouble> {
+        match self.mode {
+            Mode::Run => self.show_received(alloc, sub),
+            Mode::Scratch => {
+                let record = self.record(sub)?;
+                Ok(Answer::Value(self.value(alloc, sub, &record.expr)?))
+            }
+        }
+    }
+
+    fn show_received(&self, alloc: Global, sub: SubId) -> Result<Answer<'_>, Trouble> {
+        let record = self.record(sub)?;
+        let rest = match record.standing {
+            Standing::Live => Rest::Owed(self.graph.owed(alloc, sub)?),
+            Standing::Cancelled => Rest::Cancelled,
+            Standing::Closed => Rest::Closed,
+        };
+        Ok(Answer::Shown(Shown {
+            received: record.received.as_slice(),
+            ending: record.ending,
+            rest,
+        }))
+    }
+
+    /// The value of a subscription's expression, evaluated from scratch.
+    fn value(
+        &self,
+        alloc: Global,
+        sub: SubId,
+        expr: &Expr<Val>,
+    ) -> Result<StreamValue<Val>, Trouble> {
+        let notes = self.graph.notes(alloc, Tree::Sub(sub))?;
+        let joins = self.graph.joins(alloc, Tree::Sub(sub))?;
+        Ok(scratch(alloc, &Demo, expr, &[], &joins, &notes)?)
+    }
+
+    /// Compares with the value of the expression, evaluated from scratch.
+    fn check(&self, alloc: Global, sub: SubId) -> Result<Answer<'_>, Trouble> {
+        let record = self.record(sub)?;
+        let value = self.value(alloc, sub, &record.expr)?;
+        let is_right = match record.standing {
+            Standing::Live => record.is_whole(&self.graph.owed(alloc, sub)?, &value),
+            Standing::Cancelled | Standing::Closed => begins(value.items(), &record.received),
+        };
+        Ok(if is_right {
+            Answer::Equal
+        } else {
+            Answer::Different
+        })
+    }
+}
+
+impl Record {
+    /// Whether what was received, followed by what is owed, is this value.
+    fn is_whole(&self, owed: &StreamValue<Val>, value: &StreamValue<Val>) -> bool {
+        let ending = match self.ending {
+            Ending::Open => owed.ending(),
+            received => received,
+        };
+        let received = self.received.as_slice();
+        let items = value.items();
+        begins(items, received)
+            && is_same_list(&items[received.len()..], owed.items())
+            && ending == value.ending()
+    }
+}
+
+/// Whether the first items are these.
+fn begins(items: &[Val], first: &[Val]) -> bool
+    ensures { result ≡ true → length first.now ≤ length items.now }
+{
+    first.len() <= items.len() && is_same_list(&items[..first.len()], first)
+}
+
+/// Whether two lists have the same items.
+fn is_same_list(xs: &[Val], ys: &[Val]) -> bool {
+    xs.len() == ys.len() && xs.iter().zip(ys).all(|(x, y)| is_same_val(x, y))
+}

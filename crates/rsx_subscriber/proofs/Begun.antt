@@ -1,0 +1,63 @@
+-- A subscription that has just begun stands for its past.
+use Rattle.std.proofs.Common.{◌≡◌, List, [], ◌∷◌, true, sym, ap, ◌∙◌}
+use Rattle.rsx_demand.specs.declared.Demand.{Demand}
+use Rattle.rsx_model.specs.declared.expr.Expr.{Expr}
+use Rattle.rsx_node.specs.Built.{fresh_edge, fresh_edges}
+use Rattle.rsx_tree.specs.Edges.{edge_view, EdgeView}
+use Rattle.rsx_pipe.specs.Part.{PartStands, all_edges}
+use Rattle.rsx_tree.specs.declared.edge.EdgeState.TheVariants.{Live, Closed}
+use Rattle.rsx_subscriber.proofs.Moves.{live_test}
+use Rattle.rsx_subscriber.specs.Begun.{IsFresh}
+use Rattle.rsx_subscriber.specs.Past.{subscribed, IsLive}
+use Rattle.rsx_subscriber.specs.Standing.{standing}
+use Rattle.rsx_subscriber.specs.Stands.{Stands, standing_of}
+use Rattle.rsx_subscriber.specs.declared.state.SubscriptionState.TheVariants.{Open}
+use Rattle.rsx_subscriber.specs.declared.subscription.Subscription.{Subscription}
+use Rattle.rsx_subscription.specs.declared.State.TheVariants.{Open as OpenState}
+use Rattle.rsx_types.specs.Meaning.{Meaning}
+use Rattle.rsx_types.specs.Stream.{Stream}
+
+-- how the subscriber stands at the beginning
+pub record IsBegun {T : Type 0} (sub : Subscription T) : Type 0 where
+  pub state : sub.state ≡ OpenState
+  pub live : sub.live ≡ true
+  pub asked : sub.demand.asked ≡ 0
+  pub delivered : sub.demand.sent ≡ 0
+
+pub begun : {T : Type 0} (sub : Subscription T) (d : Demand) → d.asked ≡ 0 → d.sent ≡ 0 → sub.state ≡ OpenState → sub.live ≡ true → sub.demand.asked ≡ d.asked → sub.demand.sent ≡ d.sent → IsBegun sub
+begun sub d a s o l r t = record { state = o; live = l; asked = r ∙ a; delivered = t ∙ s }
+
+pub stands_fresh : {T : Type 0} (m : Meaning T) (published : List (Stream T)) (e : Expr T) (sub : Subscription T) (es : List EdgeView) → PartStands m published sub.part e [] [] → all_edges sub.part ≡ fresh_edge ∷ es → sub.queue ≡ [] → IsBegun sub → Stands m published sub (subscribed e [])
+stands_fresh {T} m published e sub es b k q f =
+    let o : standing_of sub ≡ Open = ap (λ t. standing t sub.live) f.state in
+    let live : IsLive (standing_of sub) = rw o tt in
+    let root : edge_view sub.part.root ≡ fresh_edge = cc in
+    record {
+      state = o;
+      live = f.live ∙ sym (live_test (standing_of sub) live);
+      output = [];
+      part = b;
+      held = λ _. q;
+      begun = λ dead. absurd (dead live);
+      orderly = tt;
+      waits = λ _. tt;
+      got = λ x. let k = o in cc;
+      unclosed = λ _ c. not_closed (ap (λ v. v.state) (sym root) ∙ c);
+      asked = ap (λ v. v.asked) root;
+      requested = f.asked;
+      delivered = f.delivered;
+      closed = λ dead. absurd (dead live);
+    }
+  where
+    not_closed : Live ≡ Closed → ⊥
+    not_closed c = cc
+
+pub fresh_sub : {T : Type 0} (m : Meaning T) (e : Expr T) (sub : Subscription T) → all_edges sub.part ≡ fresh_edge ∷ fresh_edges e → sub.queue ≡ [] → IsBegun sub → IsFresh e sub
+fresh_sub m e sub b q f = record {
+  edges = b;
+  queue = q;
+  state = f.state;
+  live = f.live;
+  asked = f.asked;
+  delivered = f.delivered;
+}

@@ -1,0 +1,85 @@
+-- What a request and a cancel change.
+use Rattle.std.proofs.Common.{◌≡◌, ◌≤◌, ◌<◌, ℕ, zero, suc, ℤ, pos, negsuc, true, false, nat_lt, int_lt, unsigned_abs, refl, ap, sym, ◌∙◌, subst, arith}
+use Rattle.std.proofs.Math.Bridge.{le_prop}
+use Rattle.std.proofs.lemmas.Bool.Decides.{nat_tests}
+use mathlib.Core.HLevel.{⊥_prop, Π_prop}
+use Rattle.rsx_demand.specs.declared.Demand.{Demand}
+use Rattle.rsx_demand.specs.declared.TheConstants.{UNBOUNDED}
+use Rattle.rsx_tree.specs.Edges.{EdgeView}
+use Rattle.rsx_subscription.specs.declared.State.{State}
+use Rattle.rsx_subscription.specs.declared.State.TheVariants.{Fresh, Open as OpenState, Cancelled as CancelledState, Failed as FailedState}
+use Rattle.rsx_subscriber.specs.Edited.{IsRaised, IsShut, IsRequested, IsCancelled}
+use Rattle.rsx_subscriber.specs.Stands.{standing_of}
+use Rattle.rsx_subscriber.specs.declared.state.SubscriptionState.{SubscriptionState}
+use Rattle.rsx_subscriber.specs.declared.state.SubscriptionState.TheVariants.{Open, Ended, Cancelled, Refused}
+use Rattle.rsx_subscriber.specs.declared.subscription.Subscription.{Subscription}
+use Rattle.rsx_subscriber.proofs.Moves.{IsSame}
+use Rattle.rsx_subscriber.proofs.Standings.{standing_open}
+
+-- ---- one that is as it was
+
+-- that a demand is covered and bounded are facts: how they are known makes no difference
+same_demand : (a b : Demand) → b.asked ≡ a.asked → b.sent ≡ a.sent → b ≡ a
+same_demand a b x y =
+    let P : ℕ → Type 0 = λ n. (s : ℕ) (c : s ≤ n) (l : n ≤ UNBOUNDED) → s ≡ a.sent → demand n s c l ≡ a in
+    let Q : ℕ → Type 0 = λ s. (c : s ≤ a.asked) (l : a.asked ≤ UNBOUNDED) → demand a.asked s c l ≡ a in
+    subst P (sym x) (λ s c l e. subst Q (sym e) known c l) b.sent b.covered b.bounded y
+  where
+    demand : (n s : ℕ) → s ≤ n → n ≤ UNBOUNDED → Demand
+    demand n s c l = record { asked = n; sent = s; covered = c; bounded = l }
+
+    known : (c : a.sent ≤ a.asked) (l : a.asked ≤ UNBOUNDED) → record { asked = a.asked; sent = a.sent; covered = c; bounded = l } ≡ a
+    known c l = ap (λ x. record { asked = a.asked; sent = a.sent; covered = x; bounded = l }) (le_prop c a.covered) ∙ ap (λ x. record { asked = a.asked; sent = a.sent; covered = a.covered; bounded = x }) (le_prop l a.bounded)
+
+pub same_sub : {T : Type 0} (old new : Subscription T) → IsSame old new → new ≡ old
+same_sub {T} old new k =
+    let P : State → Type 0 = λ s. (o : s ≡ Fresh → ⊥) → record { part = new.part; queue = new.queue; state = s; demand = new.demand; live = new.live; opened = o } ≡ old in
+    subst P (sym k.state) known new.opened
+  where
+    known : (o : old.state ≡ Fresh → ⊥) → record { part = new.part; queue = new.queue; state = old.state; demand = new.demand; live = new.live; opened = o } ≡ old
+    known o =
+        ap (λ p. record { part = p; queue = new.queue; state = old.state; demand = new.demand; live = new.live; opened = o }) k.part
+        ∙ (ap (λ q. record { part = old.part; queue = q; state = old.state; demand = new.demand; live = new.live; opened = o }) k.queue
+        ∙ (ap (λ d. record { part = old.part; queue = old.queue; state = old.state; demand = d; live = new.live; opened = o }) (same_demand old.demand new.demand k.requested k.delivered)
+        ∙ (ap (λ l. record { part = old.part; queue = old.queue; state = old.state; demand = old.demand; live = l; opened = o }) k.live
+        ∙ ap (λ w. record { part = old.part; queue = old.queue; state = old.state; demand = old.demand; live = old.live; opened = w }) (Π_prop (λ x. ⊥_prop) o old.opened))))
+
+-- ---- a request
+
+pub same_view : (a b : EdgeView) → b.asked ≡ a.asked → b.sent ≡ a.sent → b.state ≡ a.state → b ≡ a
+same_view a b x y z =
+    ap (λ v. record { asked = v; sent = b.sent; state = b.state }) x
+    ∙ (ap (λ v. record { asked = a.asked; sent = v; state = b.state }) y ∙ ap (λ v. record { asked = a.asked; sent = a.sent; state = v }) z)
+
+pub requested_raised : {T : Type 0} (old new : Subscription T) (n : ℤ) → int_lt (pos 0) n ≡ true → standing_of old ≡ Open → IsRaised old (unsigned_abs n) new → IsRequested (standing_of old) n old new
+requested_raised {T} old new n good o k = rw o (by_number n good k)
+  where
+    by_number : (n : ℤ) → int_lt (pos 0) n ≡ true → IsRaised old (unsigned_abs n) new → IsRequested Open n old new
+    by_number (pos zero) e k = cc
+    by_number (pos (suc n)) e k = k
+    by_number (negsuc n) e k = cc
+
+pub requested_shut : {T : Type 0} (old new : Subscription T) (n : ℤ) → int_lt (pos 0) n ≡ false → standing_of old ≡ Open → IsShut old FailedState new → IsRequested (standing_of old) n old new
+requested_shut {T} old new n bad o k = rw o (by_number n bad)
+  where
+    above : (k : ℕ) → nat_lt 0 (suc k) ≡ false → ⊥
+    above k e = grind (arith, nat_tests)
+
+    by_number : (n : ℤ) → int_lt (pos 0) n ≡ false → IsRequested Open n old new
+    by_number (pos zero) e = k
+    by_number (pos (suc n)) e = absurd (above n e)
+    by_number (negsuc n) e = k
+
+pub requested_same : {T : Type 0} (old new : Subscription T) (n : ℤ) → (old.state ≡ OpenState → ⊥) → IsSame old new → IsRequested (standing_of old) n old new
+requested_same {T} old new n shut k = by_state (standing_of old) (λ e. shut (standing_open old.state old.live old.opened e))
+  where
+    by_state : (s : SubscriptionState) → (s ≡ Open → ⊥) → IsRequested s n old new
+    by_state Open never = absurd (never refl)
+    by_state Ended never = same_sub old new k
+    by_state Cancelled never = same_sub old new k
+    by_state Refused never = same_sub old new k
+
+-- ---- a cancel
+
+pub cancelled_shut : {T : Type 0} (old new : Subscription T) → standing_of old ≡ Open → IsShut old CancelledState new → IsCancelled (standing_of old) old new
+cancelled_shut old new o k = rw o k

@@ -1,0 +1,6 @@
+pub mod Begun
+pub mod Edits
+pub mod Moves
+pub mod Sentence
+pub mod Serving
+pub mod Standings

@@ -1,0 +1,559 @@
+-- How each edit and each move keeps what a subscription stands for.
+use Rattle.std.proofs.Common.{◌^◌, ◌≡◌, ℕ, zero, suc, ◌+◌, ◌<◌, Bool, true, false, ◌&&◌, nat_eq, nat_lt, List, [], ◌∷◌, ◌++◌, length, refl, ap, sym, ◌∙◌, subst, arith, append_assoc, length-append, ◌⊎◌, inl, inr, ℤ, pos, negsuc, int_lt, unsigned_abs, slice_index_or, Option, Some, None, Ok}
+use mathlib.Core.HLevel.{⊥_prop, Π_prop}
+use Rattle.std.proofs.lemmas.Bool.Decides.{nat_tests}
+use Rattle.std.proofs.lemmas.List.{append-nil}
+use Rattle.std.specs.Option.{option_to_list, IfSome}
+use Rattle.rsx_demand.specs.Demand.{saturating_total}
+use Rattle.rsx_types.specs.Meaning.{Meaning}
+use Rattle.rsx_types.specs.Stream.{Stream}
+use Rattle.rsx_types.specs.declared.names.Move.{Move}
+use Rattle.rsx_types.specs.declared.names.Move.TheVariants.{Ask, Send, Take}
+use Rattle.rsx_types.specs.declared.names.SubId.{SubId}
+use Rattle.rsx_types.specs.declared.names.Tree.{Tree}
+use Rattle.rsx_types.specs.declared.names.Tree.TheVariants.{Sub}
+use Rattle.rsx_types.specs.declared.signal.Signal.{Signal}
+use Rattle.rsx_types.specs.declared.signal.Signal.TheVariants.{Next, Complete, Error}
+use Rattle.rsx_pipe.specs.Part.{PartStands, IsPutOut}
+use Rattle.rsx_pipe.specs.Part as Part
+use Rattle.rsx_pipe.specs.Tree.{IsAllClosed}
+use Rattle.rsx_tree.specs.declared.edge.EdgeState.TheVariants.{Live, Closed}
+use Rattle.rsx_pipe.specs.declared.part.Part.{Part as AnyPart}
+use Rattle.rsx_pipe.specs.declared.part.Pumped.{Pumped as Rest}
+use Rattle.rsx_pipe.specs.declared.part.Pumped.TheVariants.{Idle as Rests, Budget as Wakes}
+use Rattle.rsx_pipe.proofs.Parts.{moved_alive}
+use Rattle.rsx_pipe.proofs.Signals.{IsOrderly-more, IsUnended-more, IsUnended-last, IsUnended-front, items_in-append, unended_before}
+use Rattle.rsx_subscription.specs.Table.{answer, cell_of, state_after as next_state, asked_after, sent_after}
+use Rattle.rsx_subscription.specs.declared.State.TheVariants.{Fresh, Open as OpenState, Cancelled as CancelledState, Failed as FailedState}
+use Rattle.rsx_subscriber.specs.Standing.{standing, live_in, input_of, is_delivery, delivers}
+use Rattle.rsx_subscriber.proofs.Standings.{standing_open, open_standing, open_delivers, Delivers, Adds, signal_delivered, delivery_made}
+use Rattle.rsx_subscriber.specs.declared.subscription.Subscription.{Subscription}
+use Rattle.rsx_subscriber.specs.declared.state.SubscriptionState.{SubscriptionState}
+use Rattle.rsx_subscriber.specs.declared.state.SubscriptionState.TheVariants.{Open, Ended, Cancelled, Refused}
+use Rattle.rsx_subscriber.specs.Past.{Past, items_in, IsUnended, IsOrderly, IsPrefixOf, IsLive, cancelled, cancelled_state, state_after, refused, requested, requested_in, given, asked_more}
+use Rattle.rsx_subscriber.specs.Pumped.{IsPumped, IsMoved, IsQuiet, IsAwake, IsRest, HasRested, Leads, given_all, to}
+use Rattle.rsx_subscriber.specs.Stands.{Stands, take_enabled, IsInside, IsKeptBeside, IsWorked, IsEffect, IsTake, move_enabled_in, standing_of}
+
+pub IsLive-open : (s : SubscriptionState) → s ≡ Open → IsLive s
+IsLive-open s e = rw e tt
+
+pub not_cancelled : (s : SubscriptionState) → s ≡ Cancelled → IsLive s → ⊥
+not_cancelled s e = rw e (λ h. h)
+
+pub not_refused : (s : SubscriptionState) → s ≡ Refused → IsLive s → ⊥
+not_refused s e = rw e (λ h. h)
+
+pub not_live : (s : SubscriptionState) → (IsLive s → ⊥) → s ≡ Open → ⊥
+not_live s h e = h (IsLive-open s e)
+
+-- a live one is so by the test too
+pub live_test : (s : SubscriptionState) → IsLive s → live_in s ≡ true
+live_test Open h = refl
+live_test Ended h = refl
+live_test Cancelled h = absurd h
+live_test Refused h = absurd h
+
+pub live_or_not : (s : SubscriptionState) → IsLive s ⊎ (IsLive s → ⊥)
+live_or_not Open = inl tt
+live_or_not Ended = inl tt
+live_or_not Cancelled = inr (λ h. h)
+live_or_not Refused = inr (λ h. h)
+
+-- what was received begins what was put out
+pub held_prefix : {T : Type 0} (received queue output : List (Signal T)) → received ++ queue ≡ output → IsPrefixOf (items_in received) (items_in output)
+held_prefix received queue output e = (items_in queue, sym (items_in-append received queue) ∙ ap items_in e)
+
+-- what closing leaves of a subscription that was open
+pub record IsClosing {T : Type 0} (old new : Subscription T) : Type 0 where
+  pub was_open : standing_of old ≡ Open
+  pub live : new.live ≡ false
+  pub queue : new.queue ≡ []
+  pub root : new.part.root.state ≡ Live → ⊥
+  pub asked : new.part.root.demand.asked ≡ old.part.root.demand.asked
+  pub tree : IsAllClosed new.part.tree
+  pub put : (m : Meaning T) → IsPutOut m old.part [] new.part
+  pub requested : new.demand.asked ≡ old.demand.asked
+  pub delivered : new.demand.sent ≡ old.demand.sent
+
+-- the past of a subscriber that was closed: nothing but its signals and its state changed, and no item came
+pub record IsClosedPast {T : Type 0} (past past' : Past T) : Type 0 where
+  pub expression : past'.expression ≡ past.expression
+  pub joins : past'.joins ≡ past.joins
+  pub items : items_in past'.received ≡ items_in past.received
+  pub orderly : IsOrderly past'.received
+  pub asked : past'.asked ≡ past.asked
+
+pub stands_closed : {T : Type 0} (m : Meaning T) (published : List (Stream T)) (old new : Subscription T) (past past' : Past T) → IsClosing old new → live_in (standing_of new) ≡ false → (IsLive (standing_of new) → ⊥) → standing_of new ≡ past'.state → IsClosedPast past past' → Stands m published old past → Stands m published new past'
+stands_closed {T} m published old new past past' k gone dead s p h =
+    let held = h.held (IsLive-open (standing_of old) k.was_open) in
+    let begins = held_prefix past.received old.queue h.output held in
+    record {
+      state = s;
+      live = k.live ∙ sym gone;
+      output = h.output ++ [];
+      part = rw (p.expression, p.joins) (k.put m published past.expression past.joins h.output h.part);
+      held = λ l. absurd (dead l);
+      begun = λ _. (begins.0, ap (λ l. l ++ begins.0) p.items ∙ (begins.1 ∙ ap items_in (sym (append-nil h.output))));
+      orderly = p.orderly;
+      waits = λ w. absurd (not_live (standing_of new) dead w);
+      got = λ e. absurd (dead (rw e tt));
+      unclosed = λ l. absurd (dead l);
+      asked = k.asked ∙ (h.asked ∙ sym p.asked);
+      requested = k.requested ∙ (h.requested ∙ sym p.asked);
+      delivered = k.delivered ∙ (h.delivered ∙ ap length (sym p.items));
+      closed = λ _. (k.tree, k.root, k.queue);
+    }
+
+pub stands_cancelled : {T : Type 0} (m : Meaning T) (published : List (Stream T)) (old new : Subscription T) (past : Past T) → IsClosing old new → new.state ≡ CancelledState → Stands m published old past → Stands m published new (cancelled past)
+stands_cancelled m published old new past k c h =
+    let s : standing_of new ≡ Cancelled = ap (λ t. standing t new.live) c in
+    let o : Open ≡ past.state = sym k.was_open ∙ h.state in
+    stands_closed m published old new past (cancelled past) k (ap live_in s) (not_cancelled (standing_of new) s) (s ∙ ap cancelled_state o)
+    (record { expression = refl; joins = refl; items = refl; orderly = h.orderly; asked = refl }) h
+
+-- nothing changed
+pub record IsSame {T : Type 0} (old new : Subscription T) : Type 0 where
+  pub part : new.part ≡ old.part
+  pub queue : new.queue ≡ old.queue
+  pub state : new.state ≡ old.state
+  pub live : new.live ≡ old.live
+  pub requested : new.demand.asked ≡ old.demand.asked
+  pub delivered : new.demand.sent ≡ old.demand.sent
+
+pub stands_same : {T : Type 0} (m : Meaning T) (published : List (Stream T)) (old new : Subscription T) (past : Past T) → IsSame old new → Stands m published old past → Stands m published new past
+stands_same m published old new past k h = record {
+  state = rw (k.state, k.live) h.state;
+  live = rw (k.state, k.live) h.live;
+  output = h.output;
+  part = rw k.part h.part;
+  held = rw (k.state, k.live, k.queue) h.held;
+  begun = rw (k.state, k.live) h.begun;
+  orderly = h.orderly;
+  waits = rw (k.state, k.live) h.waits;
+  got = rw (k.state, k.live) h.got;
+  unclosed = rw (k.state, k.live, k.part) h.unclosed;
+  asked = rw k.part h.asked;
+  requested = rw k.requested h.requested;
+  delivered = rw k.delivered h.delivered;
+  closed = rw (k.state, k.live, k.part, k.queue) h.closed;
+}
+
+-- one that isn't open is left as it is by a cancel
+pub stands_uncancelled : {T : Type 0} (m : Meaning T) (published : List (Stream T)) (old new : Subscription T) (past : Past T) → (old.state ≡ OpenState → ⊥) → IsSame old new → Stands m published old past → Stands m published new (cancelled past)
+stands_uncancelled {T} m published old new past n k h =
+    let shut : past.state ≡ Open → ⊥ = λ o. n (standing_open old.state old.live old.opened (h.state ∙ o)) in
+    let same : cancelled past ≡ past = ap (λ s. record { expression = past.expression; joins = past.joins; received = past.received; asked = past.asked; state = s }) (kept past.state shut) in
+    let P : Past T → Type 0 = λ p. Stands m published new p in
+    subst P (sym same) (stands_same m published old new past k h)
+  where
+    kept : (s : SubscriptionState) → (s ≡ Open → ⊥) → cancelled_state s ≡ s
+    kept Open n = absurd (n refl)
+    kept Ended n = refl
+    kept Cancelled n = refl
+    kept Refused n = refl
+
+pub stands_refused : {T : Type 0} (m : Meaning T) (published : List (Stream T)) (old new : Subscription T) (past : Past T) → IsClosing old new → new.state ≡ FailedState → Stands m published old past → Stands m published new (refused past)
+stands_refused m published old new past k f h =
+    let s : standing_of new ≡ Refused = ap (λ t. standing t new.live) f ∙ ap (λ l. standing FailedState l) k.live in
+    stands_closed m published old new past (refused past) k (ap live_in s) (not_refused (standing_of new) s) s
+    (record { expression = refl; joins = refl; items = items_in-append past.received _ ∙ append-nil (items_in past.received); orderly = IsOrderly-more past.received _ (h.waits k.was_open); asked = refl }) h
+
+-- a request of 0 or less is a bad one
+pub refused_request : {T : Type 0} (past : Past T) (n : ℤ) → Open ≡ past.state → int_lt (pos 0) n ≡ false → refused past ≡ requested n past
+refused_request past (pos zero) o h = ap (λ s. requested_in s (pos zero) past) o
+refused_request past (pos (suc k)) o h = absurd (above k h)
+  where
+    above : (k : ℕ) → nat_lt 0 (suc k) ≡ false → ⊥
+    above k e = grind (arith, nat_tests)
+refused_request past (negsuc k) o h = ap (λ s. requested_in s (negsuc k) past) o
+
+pub stands_bad : {T : Type 0} (m : Meaning T) (published : List (Stream T)) (old new : Subscription T) (past : Past T) (n : ℤ) → IsClosing old new → new.state ≡ FailedState → int_lt (pos 0) n ≡ false → Stands m published old past → Stands m published new (requested n past)
+stands_bad m published old new past n k s z h =
+    let P : Past _ → Type 0 = λ p. Stands m published new p in
+    subst P (refused_request past n (sym k.was_open ∙ h.state) z) (stands_refused m published old new past k s h)
+
+-- all but what was asked stays
+pub record IsAsking {T : Type 0} (old new : Subscription T) (n : ℕ) : Type 0 where
+  pub queue : new.queue ≡ old.queue
+  pub state : new.state ≡ old.state
+  pub live : new.live ≡ old.live
+  pub tree : new.part.tree ≡ old.part.tree
+  pub edge : new.part.root.state ≡ old.part.root.state
+  pub put : (m : Meaning T) → IsPutOut m old.part [] new.part
+  pub asked : new.part.root.demand.asked ≡ saturating_total old.part.root.demand.asked n
+  pub requested : new.demand.asked ≡ saturating_total old.demand.asked n
+  pub delivered : new.demand.sent ≡ old.demand.sent
+
+pub stands_asked : {T : Type 0} (m : Meaning T) (published : List (Stream T)) (old new : Subscription T) (past : Past T) (n : ℕ) → IsAsking old new n → Stands m published old past → Stands m published new (asked_more n past)
+stands_asked m published old new past n k h = record {
+  state = rw (k.state, k.live) h.state;
+  live = rw (k.state, k.live) h.live;
+  output = h.output ++ [];
+  part = k.put m published past.expression past.joins h.output h.part;
+  held = rw (k.state, k.live, k.queue, append-nil h.output) h.held;
+  begun = rw (k.state, k.live, append-nil h.output) h.begun;
+  orderly = h.orderly;
+  waits = rw (k.state, k.live) h.waits;
+  got = rw (k.state, k.live) h.got;
+  unclosed = rw (k.state, k.live, k.edge) h.unclosed;
+  asked = k.asked ∙ ap (λ a. saturating_total a n) h.asked;
+  requested = k.requested ∙ ap (λ a. saturating_total a n) h.requested;
+  delivered = k.delivered ∙ h.delivered;
+  closed = rw (k.state, k.live, k.tree, k.edge, k.queue) h.closed;
+}
+
+-- a request of more than 0 adds to the demand
+pub stands_requested : {T : Type 0} (m : Meaning T) (published : List (Stream T)) (old new : Subscription T) (past : Past T) (n : ℤ) (k : ℕ) → n ≡ pos k → 0 < k → standing_of old ≡ Open → IsAsking old new k → Stands m published old past → Stands m published new (requested n past)
+stands_requested m published old new past n zero e z o a h = absurd (omega arith)
+stands_requested m published old new past n (suc k) e z o a h =
+    let P : Past _ → Type 0 = λ p. Stands m published new p in
+    subst P (asked_request past n k e (sym o ∙ h.state)) (stands_asked m published old new past (suc k) a h)
+  where
+    asked_request : {T : Type 0} (past : Past T) (n : ℤ) (k : ℕ) → n ≡ pos (suc k) → Open ≡ past.state → asked_more (suc k) past ≡ requested n past
+    asked_request past n k e o = rw e (ap (λ s. requested_in s (pos (suc k)) past) o)
+
+pub stands_added : {T : Type 0} (m : Meaning T) (published : List (Stream T)) (old new : Subscription T) (past : Past T) (n : ℤ) → Adds old.state n old.demand → IsAsking old new (unsigned_abs n) → Stands m published old past → Stands m published new (requested n past)
+stands_added m published old new past (pos k) a i h = stands_requested m published old new past (pos k) k refl (above k a.good) (open_standing old.state old.live a.was) i h
+  where
+    above : (k : ℕ) → int_lt (pos 0) (pos k) ≡ true → 0 < k
+    above zero e = cc
+    above (suc k) e = omega arith
+stands_added m published old new past (negsuc k) a i h = let e = a.good in cc
+
+-- one that isn't open is left as it is by a request
+pub stands_unrequested : {T : Type 0} (m : Meaning T) (published : List (Stream T)) (old new : Subscription T) (past : Past T) (n : ℤ) → (old.state ≡ OpenState → ⊥) → IsSame old new → Stands m published old past → Stands m published new (requested n past)
+stands_unrequested {T} m published old new past n o k h =
+    let P : Past T → Type 0 = λ p. Stands m published new p in
+    subst P (sym (same past.state past n (λ e. o (standing_open old.state old.live old.opened (h.state ∙ e))))) (stands_same m published old new past k h)
+  where
+    same : {T : Type 0} (s : SubscriptionState) (past : Past T) (n : ℤ) → (s ≡ Open → ⊥) → requested_in s n past ≡ past
+    same Open past n o = absurd (o refl)
+    same Ended past n o = refl
+    same Cancelled past n o = refl
+    same Refused past n o = refl
+
+-- the part made moves, of which some put signals out, into the queue
+pub record IsWorking {T : Type 0} (m : Meaning T) (old new : Subscription T) : Type 0 where
+  pub kept : IsKeptBeside old new
+  pub out : List (Signal T)
+  pub queue : new.queue ≡ old.queue ++ out
+  pub put : IsPutOut m old.part out new.part
+  pub asked : new.part.root.demand.asked ≡ old.part.root.demand.asked
+  pub unclosed : (old.part.root.state ≡ Closed → ⊥) → new.part.root.state ≡ Closed → ⊥
+  pub alive : IsAllClosed old.part.tree → (old.part.root.state ≡ Live → ⊥) → ⊥
+
+pub stands_worked : {T : Type 0} (m : Meaning T) (published : List (Stream T)) (old new : Subscription T) (past : Past T) → IsWorking m old new → Stands m published old past → Stands m published new past
+stands_worked {T} m published old new past k h =
+    let same : standing_of new ≡ standing_of old = ap (λ s. standing s new.live) k.kept.state ∙ ap (λ l. standing old.state l) k.kept.live in
+    let live : IsLive (standing_of old) = elim (live_or_not (standing_of old)) [ inl l ↦ l | inr dead ↦ let c = h.closed dead in absurd (k.alive c.0 c.1) ] in
+    let live' : IsLive (standing_of new) = rw same live in
+    record {
+      state = same ∙ h.state;
+      live = k.kept.live ∙ (h.live ∙ ap live_in (sym same));
+      output = h.output ++ k.out;
+      part = k.put published past.expression past.joins h.output h.part;
+      held = λ _. ap (λ q. past.received ++ q) k.queue ∙ (sym (append_assoc past.received old.queue k.out) ∙ ap (λ l. l ++ k.out) (h.held live));
+      begun = λ dead. absurd (dead live');
+      orderly = h.orderly;
+      waits = λ o. h.waits (sym same ∙ o);
+      got = λ e. h.got (sym same ∙ e);
+      unclosed = λ _. k.unclosed (h.unclosed live);
+      asked = k.asked ∙ h.asked;
+      requested = ap (λ d. d.asked) k.kept.demand ∙ h.requested;
+      delivered = ap (λ d. d.sent) k.kept.demand ∙ h.delivered;
+      closed = λ dead. absurd (dead live');
+    }
+
+-- the subscriber takes the front signal of the queue, which the table delivers
+pub record IsTaking {T : Type 0} (old new : Subscription T) (s : Signal T) : Type 0 where
+  pub take : IsTake old s new
+  pub delivers : Delivers old.state s old.demand
+
+popped : {T : Type 0} (o : Option (Signal T)) (s : Signal T) (old new : List (Signal T)) → o ≡ Some s → IfSome o (λ x. old ≡ x ∷ new) → old ≡ s ∷ new
+popped None s old new e h = cc
+popped (Some x) s old new e h = cc
+
+pub is_taking : {T : Type 0} (old new : Subscription T) (front s : Signal T) (o : Option (Signal T)) → front ≡ slice_index_or old.queue 0 front → o ≡ Some s → IfSome o (λ x. old.queue ≡ x ∷ new.queue) → is_delivery (answer (cell_of old.state (input_of front)) old.demand) ≡ true →
+    new.state ≡ next_state (cell_of old.state (input_of front)) old.state → new.live ≡ old.live → new.demand.asked ≡ asked_after (cell_of old.state (input_of front)) old.demand → new.demand.sent ≡ sent_after (cell_of old.state (input_of front)) old.demand →
+    new.part ≡ old.part → IsTaking old new s
+is_taking {T} old new front s o f i w d st l a n p =
+    let q : old.queue ≡ s ∷ new.queue = popped o s old.queue new.queue i w in
+    let named : front ≡ s = f ∙ ap (λ l. slice_index_or l 0 front) q in
+    record {
+      take = record {
+        part = p;
+        queue = q;
+        state = rw named at st;
+        live = l;
+        requested = rw named at a;
+        delivered = rw named at n;
+      };
+      delivers = signal_delivered old.state s old.demand (delivery_made _ (rw named at d));
+    }
+
+pub live_after : {T : Type 0} (state : SubscriptionState) (s : Signal T) → IsLive state → IsLive (state_after state s)
+live_after state (Next x) h = h
+live_after state Complete h = tt
+live_after state (Error c) h = tt
+
+pub IsUnended-after : {T : Type 0} (state : SubscriptionState) (a : List (Signal T)) (s : Signal T) → (state ≡ Open → IsUnended a) → state_after state s ≡ Open → IsUnended (a ++ s ∷ [])
+IsUnended-after state a (Next x) h o = IsUnended-more a x (h o)
+IsUnended-after state a Complete h o = cc
+IsUnended-after state a (Error c) h o = cc
+
+ended_after : {T : Type 0} (state : SubscriptionState) (a : List (Signal T)) (s : Signal T) → (state ≡ Ended → IsUnended a → ⊥) → state_after state s ≡ Ended → IsUnended (a ++ s ∷ []) → ⊥
+ended_after state a (Next x) h e u = h e (IsUnended-front a (Next x ∷ []) u)
+ended_after state a Complete h e u = let x = IsUnended-last a Complete u in let k = x.1 in cc
+ended_after state a (Error c) h e u = let x = IsUnended-last a (Error c) u in let k = x.1 in cc
+
+pub stands_taken : {T : Type 0} (m : Meaning T) (published : List (Stream T)) (old new : Subscription T) (s : Signal T) (past : Past T) → IsTaking old new s → Stands m published old past → Stands m published new (given s past)
+stands_taken {T} m published old new s past k h =
+    let live : IsLive (standing_of old) = elim (live_or_not (standing_of old)) [ inl l ↦ l | inr dead ↦ let e = (h.closed dead).2 in let q = k.take.queue in cc ] in
+    let was_live : old.live ≡ true = h.live ∙ live_test (standing_of old) live in
+    let after : standing_of new ≡ state_after (standing_of old) s =
+    ap (λ l. standing new.state l) (k.take.live ∙ was_live) ∙ (ap (λ t. standing t true) k.take.state ∙ (k.delivers.state ∙ ap (λ l. state_after (standing old.state l) s) (sym was_live))) in
+    let live' : IsLive (standing_of new) = rw after (live_after (standing_of old) s live) in
+    let moved : (past.received ++ s ∷ []) ++ new.queue ≡ past.received ++ old.queue = rw k.take.queue (append_assoc past.received (s ∷ []) new.queue) in
+    let received : items_in (past.received ++ s ∷ []) ≡ items_in past.received ++ items_in (s ∷ []) = items_in-append past.received (s ∷ []) in
+    let received_count : length (items_in (past.received ++ s ∷ [])) ≡ length (items_in past.received) + length (items_in (s ∷ [])) = ap length received ∙ length-append (items_in past.received) (items_in (s ∷ [])) in
+    let whole : IsOrderly (past.received ++ s ∷ new.queue) = rw (← k.take.queue, h.held live) h.part.orderly in
+    record {
+      state = after ∙ ap (λ t. state_after t s) h.state;
+      live = k.take.live ∙ (was_live ∙ sym (live_test (standing_of new) live'));
+      output = h.output;
+      part = rw k.take.part h.part;
+      held = λ _. moved ∙ h.held live;
+      begun = λ dead. absurd (dead live');
+      orderly = IsOrderly-more past.received s (unended_before past.received s new.queue whole);
+      waits = λ o. IsUnended-after (standing_of old) past.received s h.waits (sym after ∙ o);
+      got = λ e. ended_after (standing_of old) past.received s h.got (sym after ∙ e);
+      unclosed = λ _. rw k.take.part (h.unclosed live);
+      asked = rw k.take.part h.asked;
+      requested = k.take.requested ∙ (k.delivers.asked ∙ h.requested);
+      delivered = k.take.delivered ∙ (k.delivers.sent ∙ (ap (λ n. n + length (items_in (s ∷ []))) h.delivered ∙ sym received_count));
+      closed = λ dead. absurd (dead live');
+    }
+
+-- ---- driving a subscription
+
+pub leads_on : {S D : Type 0} (step : S → Option D → S → Type 0) (n k : ℕ) (a b c : S) (ds es : List D) → Leads step n a ds b → Leads step k b es c → Leads step (n + k) a (ds ++ es) c
+leads_on {S} {D} step zero k a b c ds es x y =
+    let P : S → Type 0 = λ s. Leads step k s es c in
+    let Q : List D → Type 0 = λ l. Leads step k a (l ++ es) c in
+    let R : ℕ → Type 0 = λ i. Leads step i a (ds ++ es) c in
+    let none : k ≡ 0 + k = omega arith in
+    subst R none (subst Q (sym x.0) (subst P x.1 y))
+leads_on {S} {D} step (suc n) k a b c ds es x y =
+    let R : ℕ → Type 0 = λ i. Leads step i a (ds ++ es) c in
+    let more : suc (n + k) ≡ suc n + k = omega arith in
+    subst R more (x.0, x.1, x.2 ++ es, x.3, leads_on step n k x.0 b c x.2 es x.4 y, ap (λ l. l ++ es) x.5 ∙ append_assoc (option_to_list x.1) x.2 es)
+
+pub pumped_none : {T : Type 0} (m : Meaning T) (id : SubId) (sub : Subscription T) (o : List (SubId × Signal T)) → IsPumped m id 0 sub o sub o
+pumped_none m id sub o = record { signals = []; output = sym (append-nil o); moves = (refl, refl); stands = λ p q h. h }
+
+pub pumped_from : {T : Type 0} (m : Meaning T) (id : SubId) (n : ℕ) (old mid new : Subscription T) (o o' after : List (SubId × Signal T)) → mid ≡ old → o' ≡ o → IsPumped m id n mid o' new after → IsPumped m id n old o new after
+pumped_from {T} m id n old mid new o o' after e f h =
+    let P : Subscription T → Type 0 = λ s. IsPumped m id n s o new after in
+    let Q : List (SubId × Signal T) → Type 0 = λ l. IsPumped m id n mid l new after in
+    subst P e (subst Q f h)
+
+pub pumped_same_sub : {T : Type 0} (m : Meaning T) (id : SubId) (old new : Subscription T) (o : List (SubId × Signal T)) → new ≡ old → IsPumped m id 0 old o new o
+pumped_same_sub {T} m id old new o e = let P : Subscription T → Type 0 = λ s. IsPumped m id 0 old o s o in subst P (sym e) (pumped_none m id old o)
+
+pub pumped_one : {T : Type 0} (m : Meaning T) (id : SubId) (old new : Subscription T) (o o' : List (SubId × Signal T)) (s : Signal T) → o' ≡ o ++ (id, s) ∷ [] → take_enabled old 0 ≡ true → IsTake old s new → ((published : List (Stream T)) (past : Past T) → Stands m published old past → Stands m published new (given s past)) → IsPumped m id 1 old o new o'
+pumped_one m id old new o o' s e can took k = record {
+  signals = s ∷ [];
+  output = e;
+  moves = (new, Some (id, s), [], record { move = Take (Sub id) (record { 0 = 0 }); tree = refl; enabled = can; effect = took; answer = (s, refl) }, (refl, refl), refl);
+  stands = k;
+}
+
+pub given_all-append : {T : Type 0} (a b : List (Signal T)) (p : Past T) → given_all (a ++ b) p ≡ given_all b (given_all a p)
+given_all-append [] b p = refl
+given_all-append (s ∷ a) b p = given_all-append a b (given s p)
+
+to_append : {T : Type 0} (id : SubId) (a b : List (Signal T)) → to id (a ++ b) ≡ to id a ++ to id b
+to_append id [] b = refl
+to_append id (s ∷ a) b = ap (λ l. (id, s) ∷ l) (to_append id a b)
+
+pub pumped_more : {T : Type 0} (m : Meaning T) (id : SubId) (n k : ℕ) (s1 s2 s3 : Subscription T) (o1 o2 o3 : List (SubId × Signal T)) → IsPumped m id n s1 o1 s2 o2 → IsPumped m id k s2 o2 s3 o3 → IsPumped m id (n + k) s1 o1 s3 o3
+pumped_more {T} m id n k s1 s2 s3 o1 o2 o3 a b =
+    let L : List (SubId × Signal T) → Type 0 = λ l. Leads (IsMoved m id) (n + k) s1 l s3 in
+    record {
+      signals = a.signals ++ b.signals;
+      output = b.output ∙ (ap (λ o. o ++ to id b.signals) a.output ∙ (append_assoc o1 (to id a.signals) (to id b.signals) ∙ ap (λ l. o1 ++ l) (sym (to_append id a.signals b.signals))));
+      moves = subst L (sym (to_append id a.signals b.signals)) (leads_on (IsMoved m id) n k s1 s2 s3 (to id a.signals) (to id b.signals) a.moves b.moves);
+      stands = λ published past h.
+          let P : Past T → Type 0 = λ p. Stands m published s3 p in
+          subst P (sym (given_all-append a.signals b.signals past)) (b.stands published (given_all a.signals past) (a.stands published past h));
+    }
+
+-- ---- the moves of a part
+
+-- a move under the name of another tree
+renamed : Move → Tree → Move
+renamed (Ask t n) tree = Ask tree n
+renamed (Send t n) tree = Send tree n
+renamed (Take t n) tree = Take tree n
+
+-- an enabled move of a part is one of the subscription
+moved_part : {T : Type 0} (m : Meaning T) (id : SubId) (old new : Subscription T) (out : List (Signal T)) → IsKeptBeside old new → Part.IsMoved m old.part old.queue out new.part new.queue → IsMoved m id old None new
+moved_part {T} m id old new out r k = by_move k.move k.enabled k.effect
+  where
+    by_move : (move : Move) → Part.move_enabled m old.part old.queue move ≡ true → Part.IsEffect m move old.part out new.part → IsMoved m id old None new
+    by_move (Ask t n) can e = record {
+      move = Ask (Sub id) n;
+      tree = refl;
+      enabled = can;
+      effect = record { edges = e.1; queue = k.queued ∙ (ap (λ l. old.queue ++ l) e.0 ∙ append-nil old.queue); kept = r };
+      answer = refl;
+    }
+    by_move (Send t n) can e = record {
+      move = Send (Sub id) n;
+      tree = refl;
+      enabled = can;
+      effect = record { out = out; edges = e; queue = k.queued; kept = r };
+      answer = refl;
+    }
+    by_move (Take t n) can e = absurd e
+
+-- the subscription with another part and queue
+abbrev pub with_part : {T : Type 0} → (sub : Subscription T) → (sub.state ≡ Fresh → ⊥) → AnyPart T → List (Signal T) → Subscription T
+with_part sub o part queue = record { part = part; queue = queue; state = sub.state; demand = sub.demand; live = sub.live; opened = o }
+
+-- that a subscription was opened is a fact: how it is known makes no difference
+same_part : {T : Type 0} (sub : Subscription T) (o : sub.state ≡ Fresh → ⊥) → with_part sub o sub.part sub.queue ≡ sub
+same_part sub o = ap (λ w. with_part sub w sub.part sub.queue) (Π_prop (λ x. ⊥_prop) o sub.opened)
+
+part_leads : {T : Type 0} (m : Meaning T) (id : SubId) (n : ℕ) (sub : Subscription T) (o : sub.state ≡ Fresh → ⊥) (part part' : AnyPart T) (queue queue' out : List (Signal T)) → Part.IsMovedBy m n part queue out part' queue' → Leads (IsMoved m id) n (with_part sub o part queue) [] (with_part sub o part' queue')
+part_leads m id zero sub o part part' queue queue' out k = (refl, ap (λ p. with_part sub o p queue') k.1 ∙ ap (λ q. with_part sub o part q) k.2)
+part_leads m id (suc n) sub o part part' queue queue' out k =
+    (with_part sub o k.0 k.2, None, [], moved_part m id (with_part sub o part queue) (with_part sub o k.0 k.2) k.1 (record { state = refl; live = refl; demand = refl }) k.4, part_leads m id n sub o k.0 part' k.2 queue' k.3 k.5, refl)
+
+pub pumped_part : {T : Type 0} (m : Meaning T) (id : SubId) (n : ℕ) (sub : Subscription T) (w : sub.state ≡ Fresh → ⊥) (part' : AnyPart T) (queue' : List (Signal T)) (o : List (SubId × Signal T)) → Part.IsPumped m n sub.part sub.queue part' queue' → IsPumped m id n sub o (with_part sub w part' queue') o
+pumped_part {T} m id n sub w part' queue' o k = record {
+  signals = [];
+  output = sym (append-nil o);
+  moves = subst L (same_part sub w) (part_leads m id n sub w sub.part part' sub.queue queue' k.out k.moves);
+  stands = λ published past h. by_count n k published past h;
+}
+  where
+    L : Subscription T → Type 0
+    L s = Leads (IsMoved m id) n s [] (with_part sub w part' queue')
+
+    by_count : (n : ℕ) → Part.IsPumped m n sub.part sub.queue part' queue' → (published : List (Stream T)) (past : Past T) → Stands m published sub past → Stands m published (with_part sub w part' queue') past
+    by_count zero k published past h =
+        stands_same m published sub (with_part sub w part' queue') past (record { part = k.moves.1; queue = k.moves.2; state = refl; live = refl; requested = refl; delivered = refl }) h
+    by_count (suc n) k published past h =
+        stands_worked m published sub (with_part sub w part' queue') past (record {
+          kept = record { state = refl; live = refl; demand = refl };
+          out = k.out;
+          queue = k.queued;
+          put = k.stands;
+          asked = k.asked;
+          unclosed = k.unclosed;
+          alive = moved_alive m sub.part k.moves.0 sub.queue k.moves.2 k.moves.1 k.moves.4;
+        }) h
+
+-- one Ask or Send
+pub worked_part : {T : Type 0} (m : Meaning T) (move : Move) (old new : Subscription T) → IsKeptBeside old new → Part.IsMade m move old.part old.queue new.part new.queue → IsWorked m move old new
+worked_part m (Ask t n) old new r k = record { edges = k.effect.1; queue = k.queued ∙ (ap (λ l. old.queue ++ l) k.effect.0 ∙ append-nil old.queue); kept = r }
+worked_part m (Send t n) old new r k = record { out = k.out; edges = k.effect; queue = k.queued; kept = r }
+worked_part m (Take t n) old new r k = absurd k.effect
+
+pub stands_made : {T : Type 0} (m : Meaning T) (move : Move) (published : List (Stream T)) (old new : Subscription T) (past : Past T) → IsKeptBeside old new → Part.move_enabled m old.part old.queue move ≡ true → Part.IsMade m move old.part old.queue new.part new.queue → Stands m published old past → Stands m published new past
+stands_made m move published old new past r can k h =
+    stands_worked m published old new past (record {
+      kept = r;
+      out = k.out;
+      queue = k.queued;
+      put = k.stands;
+      asked = k.asked;
+      unclosed = k.unclosed;
+      alive = moved_alive m old.part new.part old.queue new.queue k.out (record { move = move; enabled = can; effect = k.effect; queued = k.queued });
+    }) h
+
+-- ---- where no move is enabled
+
+-- a subscription whose part is quiet, with nothing to take, is quiet
+pub quiet_when : {T : Type 0} (m : Meaning T) (sub : Subscription T) → take_enabled sub 0 ≡ false → Part.IsQuiet m sub.part sub.queue → IsQuiet m sub
+quiet_when m sub e q at l = (q (Ask (Sub (record { 0 = 0 })) (record { 0 = at })) l, q (Send (Sub (record { 0 = 0 })) (record { 0 = at })) l, and_false (nat_eq at 0) _ e)
+  where
+    and_false : (a b : Bool) → b ≡ false → a && b ≡ false
+    and_false true b e = e
+    and_false false b e = refl
+
+pub awake_part : {T : Type 0} (m : Meaning T) (sub : Subscription T) → Part.IsAwake m sub.part sub.queue → IsAwake m sub
+awake_part {T} m sub h = by_move h.0 h.1 h.2
+  where
+    by_move : (move : Move) → Part.number_of move < 2 ^ 32 → Part.move_enabled m sub.part sub.queue move ≡ true → IsAwake m sub
+    by_move (Ask t n) l e = (n.0, l, inl e)
+    by_move (Send t n) l e = (n.0, l, inr (inl e))
+    by_move (Take t n) l e = cc
+
+pub awake_take : {T : Type 0} (m : Meaning T) (sub : Subscription T) → take_enabled sub 0 ≡ true → IsAwake m sub
+awake_take m sub e = (0, omega arith, inr (inr e))
+
+-- what is queued can be taken just where something is queued
+pub take_queued : {T : Type 0} (m : Meaning T) (published : List (Stream T)) (sub : Subscription T) (past : Past T) → Stands m published sub past → 0 < length sub.queue → take_enabled sub 0 ≡ true
+take_queued {T} m published sub past h some = by_queue sub.queue refl
+  where
+    within : (t : Signal T) (q : List (Signal T)) → sub.queue ≡ t ∷ q → IsLive (standing_of sub) → (x : T) → t ≡ Next x → sub.demand.sent < sub.demand.asked
+    within t q e live x i =
+        let all : length (items_in h.output) ≡ length (items_in past.received) + length (items_in sub.queue) = ap (λ l. length (items_in l)) (sym (h.held live)) ∙ (ap length (items_in-append past.received sub.queue) ∙ length-append (items_in past.received) (items_in sub.queue)) in
+        let one : length (items_in sub.queue) ≡ suc (length (items_in q)) = ap (λ l. length (items_in l)) (e ∙ ap (λ s. s ∷ q) i) in
+        omega (arith, all, one, h.part.counted, sub.part.root.demand.covered, h.asked, h.requested, h.delivered)
+
+    by_state : (t : Signal T) (q : List (Signal T)) → sub.queue ≡ t ∷ q → (s : SubscriptionState) → standing_of sub ≡ s → delivers sub.state sub.demand (t ∷ q) ≡ true
+    by_state t q e Open o =
+        rw (standing_open sub.state sub.live sub.opened o) (open_delivers sub.demand t q (within t q e (IsLive-open (standing_of sub) o)))
+    by_state t q e Ended o =
+        let whole : IsOrderly (past.received ++ t ∷ q) = rw (← e, h.held (rw o tt)) h.part.orderly in
+        absurd (h.got o (unended_before past.received t q whole))
+    by_state t q e Cancelled o = let none = (h.closed (not_cancelled (standing_of sub) o)).2 in cc
+    by_state t q e Refused o = let none = (h.closed (not_refused (standing_of sub) o)).2 in cc
+
+    by_queue : (q : List (Signal T)) → sub.queue ≡ q → take_enabled sub 0 ≡ true
+    by_queue [] e = absurd (omega (arith, some, ap length e))
+    by_queue (t ∷ q) e = rw e (by_state t q e (standing_of sub) refl)
+
+-- ---- how driving ends
+
+pub rest_ended : {T : Type 0} (E : Type 0) (m : Meaning T) (budget n left : ℕ) (sub : Subscription T) (p : Rest) → n + left ≡ budget → IsRest m sub left p → HasRested {E = E} m budget n sub (Ok p)
+rest_ended E m budget n left sub (Rests k) e r = (ap (λ i. n + i) r.0 ∙ e, r.1)
+rest_ended E m budget n left sub Wakes e r = let z = r.0 in (omega (arith, e, z), r.1)
+
+-- where a move is enabled nothing of the budget is left
+pub none_left : {T : Type 0} (m : Meaning T) (sub : Subscription T) (left : ℕ) → (0 < left → IsQuiet m sub) → IsAwake m sub → left ≡ 0
+none_left m sub zero q a = refl
+none_left m sub (suc left) q a =
+    let h = q (omega arith) a.0 a.1 in
+    absurd (elim a.2 [
+      | inl x ↦ never _ x h.0
+      | inr b ↦ elim b [
+        | inl x ↦ never _ x h.1
+        | inr x ↦ never _ x h.2
+      ]
+    ])
+  where
+    never : (b : Bool) → b ≡ true → b ≡ false → ⊥
+    never b x y = cc
+
+-- a part that is quiet stays so where no signal was taken
+pub rest_quiet : {T : Type 0} (m : Meaning T) (old new : Subscription T) → new ≡ old → take_enabled new 0 ≡ false → Part.IsQuiet m old.part old.queue → IsQuiet m new
+rest_quiet {T} m old new same e q =
+    let P : Subscription T → Type 0 = λ s. Part.IsQuiet m s.part s.queue in
+    quiet_when m new e (subst P (sym same) q)
+
+-- ---- moves inside a tree
+
+-- a move inside a tree is enabled where it is one of the part
+pub inside_enabled : {T : Type 0} (m : Meaning T) (sub : Subscription T) (mv : Move) → IsInside mv → Part.move_enabled m sub.part sub.queue mv ≡ move_enabled_in m sub mv
+inside_enabled m sub (Ask t n) h = refl
+inside_enabled m sub (Send t n) h = refl
+inside_enabled m sub (Take t n) h = absurd h
+
+pub inside_effect : {T : Type 0} (m : Meaning T) (mv : Move) (old new : Subscription T) → IsWorked m mv old new → IsEffect m mv old new None
+inside_effect m (Ask t n) old new h = h
+inside_effect m (Send t n) old new h = h
+inside_effect m (Take t n) old new h = absurd h

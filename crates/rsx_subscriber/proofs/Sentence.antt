@@ -1,0 +1,52 @@
+-- A subscription that stands for its past keeps the headline.
+use Rattle.std.proofs.Common.{◌≡◌, List, [], ◌++◌, length, sym, ap, ◌∙◌, subst, arith, append_assoc, map, Option, Some, option_map}
+use Rattle.rsx_types.specs.Meaning.{Meaning}
+use Rattle.rsx_types.specs.Notes.{notes_then, unchosen}
+use Rattle.rsx_types.specs.Stream.{Stream, signals_then, ended_by}
+use Rattle.rsx_types.specs.declared.note.Note.{Note}
+use Rattle.rsx_types.specs.declared.signal.Ending.{Ending}
+use Rattle.rsx_pipe.specs.Tree.{comes_out, notes_of}
+use Rattle.rsx_pipe.proofs.Parts.{values_then-none}
+use Rattle.rsx_pipe.proofs.Signals.{map_then-append, prefix_of_orderly}
+use Rattle.rsx_pipe.proofs.Trees.{notes_then-unchosen, unchosen_notes}
+use Rattle.rsx_subscriber.specs.Holds.{Holds}
+use Rattle.rsx_subscriber.specs.Past.{Past, IsLive, IsPrefixOf, items_in}
+use Rattle.rsx_subscriber.specs.Stands.{Stands, evaluated, owed_from, standing_of, values_then}
+use Rattle.rsx_subscriber.specs.declared.state.SubscriptionState.{SubscriptionState}
+use Rattle.rsx_subscriber.specs.declared.state.SubscriptionState.TheVariants.{Open}
+use Rattle.rsx_subscriber.specs.declared.subscription.Subscription.{Subscription}
+
+-- what a live subscriber received, followed by what it is owed, is its expression's value
+pub live_value : {T : Type 0} (m : Meaning T) (published : List (Stream T)) (sub : Subscription T) (past : Past T) → Stands m published sub past → IsLive (standing_of sub) → (more : List (Stream T)) (further : List Note) → length further ≡ length (notes_of sub.part.tree) →
+    option_map (signals_then past.received) (owed_from m (values_then published more) further sub) ≡ evaluated m (values_then published more) past (notes_then (notes_of sub.part.tree) further)
+live_value {T} m published sub past h live more further len =
+    let still : Option (Stream T) = comes_out m (values_then published more) further sub.part.tree 0 in
+    sym (map_then-append past.received sub.queue still) ∙ (ap (λ l. option_map (signals_then l) still) (h.held live) ∙ h.part.value more further len)
+
+prefix_on : {A : Type 0} (xs ys zs : List A) → IsPrefixOf xs ys → IsPrefixOf ys zs → IsPrefixOf xs zs
+prefix_on xs ys zs a b = (a.0 ++ b.0, sym (append_assoc xs a.0 b.0) ∙ (ap (λ l. l ++ b.0) a.1 ∙ b.1))
+
+pub holds : {T : Type 0} (m : Meaning T) (published : List (Stream T)) (sub : Subscription T) (past : Past T) → Stands m published sub past → Holds m published sub past
+holds {T} m published sub past h =
+    let L : SubscriptionState → Type 0 = λ s. IsLive s in
+    record {
+      live = λ l. live_value m published sub past h (subst L (sym h.state) l);
+      asked = omega (arith, h.delivered, h.requested, sub.demand.covered);
+      ended = h.orderly;
+      prefix = λ dead more further len v e.
+          prefix_on (items_in past.received) (items_in h.output) v.items (h.begun (λ l. dead (subst L h.state l)))
+          (prefix_of_orderly h.output (comes_out m (values_then published more) further sub.part.tree 0) v h.part.orderly (h.part.value more further len ∙ e));
+    }
+
+-- ---- what is owed
+
+pub owes : {T : Type 0} (m : Meaning T) (published : List (Stream T)) (sub : Subscription T) (past : Past T) (v : Stream T) → standing_of sub ≡ Open → ((hubs : List (Stream T)) → owed_from m hubs (map unchosen (notes_of sub.part.tree)) sub ≡ Some v) → Stands m published sub past → evaluated m published past (notes_of sub.part.tree) ≡ Some (signals_then past.received v)
+owes {T} m published sub past v o e h =
+    let live : IsLive (standing_of sub) = rw o tt in
+    let whole = live_value m published sub past h live [] (map unchosen (notes_of sub.part.tree)) (unchosen_notes (notes_of sub.part.tree)) in
+    let there : option_map (signals_then past.received) (owed_from m (values_then published []) (map unchosen (notes_of sub.part.tree)) sub) ≡ Some (signals_then past.received v) = ap (option_map (signals_then past.received)) (e (values_then published [])) in
+    ap (λ p. evaluated m p past (notes_of sub.part.tree)) (sym (values_then-none published))
+    ∙ (ap (λ ns. evaluated m (values_then published []) past ns) (sym (notes_then-unchosen (notes_of sub.part.tree))) ∙ (sym whole ∙ there))
+
+pub ended_value : {T : Type 0} (v : Stream T) (e : Ending) → v.items ≡ [] → v.ending ≡ e → v ≡ ended_by e
+ended_value v e a b = ap (λ xs. record { items = xs; ending = v.ending }) a ∙ ap (λ x. record { items = []; ending = x }) b

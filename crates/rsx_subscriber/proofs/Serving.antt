@@ -1,0 +1,68 @@
+-- Where no move of a subscription is enabled, what was asked for was delivered.
+use Rattle.std.proofs.Common.{◌^◌, ◌≡◌, ◌<◌, Bool, true, false, List, [], ◌∷◌, ◌++◌, length, Some, refl, sym, ap, ◌∙◌, subst, arith}
+use Rattle.std.proofs.lemmas.List.{append-nil}
+use Rattle.rsx_types.specs.Meaning.{Meaning}
+use Rattle.rsx_types.specs.Stream.{Stream}
+use Rattle.rsx_types.specs.declared.names.Move.{Move}
+use Rattle.rsx_types.specs.declared.names.Move.TheVariants.{Ask, Send, Take}
+use Rattle.rsx_types.specs.declared.signal.Signal.{Signal}
+use Rattle.rsx_pipe.specs.Tree.{IsWithin}
+use Rattle.rsx_pipe.specs.Part as Part
+use Rattle.rsx_pipe.specs.Tree.{notes_of}
+use Rattle.rsx_pipe.proofs.Parts.{delivered}
+use Rattle.rsx_subscriber.specs.declared.state.SubscriptionState.{SubscriptionState}
+use Rattle.rsx_subscriber.specs.declared.state.SubscriptionState.TheVariants.{Open, Ended, Cancelled, Refused}
+use Rattle.rsx_subscriber.specs.declared.subscription.Subscription.{Subscription}
+use Rattle.rsx_subscriber.specs.Holds.{IsServed}
+use Rattle.rsx_subscriber.specs.Past.{Past, IsLive, IsUnended}
+use Rattle.rsx_subscriber.specs.Pumped.{IsQuiet}
+use Rattle.rsx_subscriber.specs.Stands.{Stands, evaluated, move_enabled_in, take_enabled, standing_of}
+use Rattle.rsx_subscriber.proofs.Moves.{take_queued}
+
+never : (b : Bool) → b ≡ true → b ≡ false → ⊥
+never b x y = cc
+
+-- ---- a quiet subscription
+
+nothing_queued : {T : Type 0} (m : Meaning T) (published : List (Stream T)) (sub : Subscription T) (past : Past T) → IsQuiet m sub → Stands m published sub past → sub.queue ≡ []
+nothing_queued {T} m published sub past q h = by_queue sub.queue refl
+  where
+    by_queue : (l : List (Signal T)) → sub.queue ≡ l → sub.queue ≡ []
+    by_queue [] e = e
+    by_queue (t ∷ l) e =
+        let some : 0 < length sub.queue = rw e (omega arith) in
+        absurd (never (take_enabled sub 0) (take_queued m published sub past h some) (q 0 (omega arith)).2)
+
+quiet_part : {T : Type 0} (m : Meaning T) (sub : Subscription T) → IsQuiet m sub → Part.IsQuiet m sub.part sub.queue
+quiet_part m sub q (Ask t n) l = (q n.0 l).0
+quiet_part m sub q (Send t n) l = (q n.0 l).1
+quiet_part m sub q (Take t n) l = refl
+
+-- a live subscriber got all that its part put out, and that is what was asked for
+served_live : {T : Type 0} (m : Meaning T) (published : List (Stream T)) (sub : Subscription T) (past : Past T) → IsQuiet m sub → Stands m published sub past → IsLive (standing_of sub) → IsWithin sub.part.tree → (v : Stream T) → evaluated m published past (notes_of sub.part.tree) ≡ Some v → IsServed m published sub past v
+served_live {T} m published sub past q h live w v e =
+    let none = nothing_queued m published sub past q h in
+    let all : past.received ≡ h.output = sym (append-nil past.received) ∙ (ap (λ l. past.received ++ l) (sym none) ∙ h.held live) in
+    let room : length sub.queue < 64 = rw none (omega arith) in
+    let d = delivered m sub.part sub.queue (quiet_part m sub q) published past.expression past.joins h.output h.part (h.unclosed live) room w v e in
+    record {
+      items = rw (all, ← h.asked) d.items;
+      ending = λ less some. sym h.state ∙ by_state (standing_of sub) refl (λ u. h.part.ended (d.ending (rw h.asked less) some) (rw all at u));
+    }
+  where
+    by_state : (s : SubscriptionState) → standing_of sub ≡ s → (IsUnended past.received → ⊥) → standing_of sub ≡ Ended
+    by_state Open o n = absurd (n (h.waits o))
+    by_state Ended o n = o
+    by_state Cancelled o n = absurd (rw o at live)
+    by_state Refused o n = absurd (rw o at live)
+
+pub served : {T : Type 0} (m : Meaning T) (published : List (Stream T)) (sub : Subscription T) (past : Past T) → IsQuiet m sub → Stands m published sub past → IsLive past.state → IsWithin sub.part.tree → (v : Stream T) → evaluated m published past (notes_of sub.part.tree) ≡ Some v → IsServed m published sub past v
+served {T} m published sub past q h live w v e =
+    let L : SubscriptionState → Type 0 = λ s. IsLive s in
+    served_live m published sub past q h (subst L (sym h.state) live) w v e
+
+-- no move that is named is enabled
+pub quiet_move : {T : Type 0} (m : Meaning T) (sub : Subscription T) (mv : Move) → Part.number_of mv < 2 ^ 32 → IsQuiet m sub → move_enabled_in m sub mv ≡ false
+quiet_move m sub (Ask t n) l h = (h n.0 l).0
+quiet_move m sub (Send t n) l h = (h n.0 l).1
+quiet_move m sub (Take t n) l h = (h n.0 l).2

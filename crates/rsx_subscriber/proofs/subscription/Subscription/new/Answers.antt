@@ -1,0 +1,16 @@
+use Rattle.std.proofs.Common.{refl}
+use Rattle.rsx_node.specs.Built.{fresh_edges}
+use Rattle.rsx_subscriber.proofs.Begun.{begun, fresh_sub, stands_fresh}
+use Rattle.rsx_subscriber.proofs.subscription.Subscription.new.Goals as goal
+
+pub returns-clause-stands : goal.returns-clause-stands
+returns-clause-stands g c = λ published.
+    let t = c.step.ensures in
+    let d = c.new-demand.ensures in
+    stands_fresh (g.O.Ops.meaning c.args.ops.now) published c.args.expr.now _ (fresh_edges c.args.expr.now) (c.in_ok-part.ensures.stands published) c.in_ok-part.ensures.edges c.in_ok-queue.ensures (begun _ c.new-demand.result d.asked d.sent t.state refl t.asked t.sent)
+
+pub returns-clause-fresh : goal.returns-clause-fresh
+returns-clause-fresh g c =
+    let t = c.step.ensures in
+    let d = c.new-demand.ensures in
+    fresh_sub (g.O.Ops.meaning c.args.ops.now) c.args.expr.now _ c.in_ok-part.ensures.edges c.in_ok-queue.ensures (begun _ c.new-demand.result d.asked d.sent t.state refl t.asked t.sent)

@@ -1,0 +1,9 @@
+-- Definitions that contracts cite.
+pub mod Begun
+pub mod Delivered
+pub mod Edited
+pub mod Holds
+pub mod Past
+pub mod Pumped
+pub mod Standing
+pub mod Stands

@@ -1,0 +1,76 @@
+-- What driving a subscription until it is idle does.
+use Rattle.std.specs.Prelude.{◌<◌, ◌^◌, ◌≡◌, ◌⊎◌, ℕ, zero, suc, ◌+◌, ◌≤◌, Bool, true, false, List, [], ◌∷◌, ◌++◌, map, Option, Result, Ok, Err}
+use Rattle.std.specs.Option.{option_to_list}
+use Rattle.rsx_types.specs.Meaning.{Meaning}
+use Rattle.rsx_types.specs.Stream.{Stream}
+use Rattle.rsx_types.specs.declared.names.Move.{Move}
+use Rattle.rsx_types.specs.declared.names.SubId.{SubId}
+use Rattle.rsx_types.specs.declared.names.Tree.TheVariants.{Sub}
+use Rattle.rsx_types.specs.declared.signal.Signal.{Signal}
+pub use Rattle.rsx_tree.specs.Driven.{Spent}
+use Rattle.rsx_pipe.specs.Part.{tree_of}
+use Rattle.rsx_pipe.specs.declared.part.Pumped.{Pumped as Rest}
+use Rattle.rsx_pipe.specs.declared.part.Pumped.TheVariants.{Idle as Rests, Budget as Wakes}
+use Rattle.rsx_subscriber.specs.declared.subscription.Subscription.{Subscription}
+use Rattle.rsx_subscriber.specs.Past.{Past, given}
+use Rattle.rsx_subscriber.specs.Stands.{Stands, IsEffect, IsMadeAnswer, ask_enabled, send_enabled, take_enabled, move_enabled_in}
+
+-- the past of a subscriber that received these signals
+abbrev pub given_all : {T : Type 0} → List (Signal T) → Past T → Past T
+given_all [] p = p
+given_all (s ∷ ss) p = given_all ss (given s p)
+
+-- signals to one subscriber
+abbrev pub to : {T : Type 0} → SubId → List (Signal T) → List (SubId × Signal T)
+to i ss = map (λ s. (i, s)) ss
+
+-- ---- moves one after the other
+
+-- so many steps lead from the first state to the second, and answered these in their order
+abbrev pub Leads : {S D : Type 0} → (S → Option D → S → Type 0) → ℕ → S → List D → S → Type 0
+Leads step zero a ds b = (ds ≡ []) × (b ≡ a)
+Leads {S} {D} step (suc n) a ds b =
+    (mid : S) × (o : Option D) × (rest : List D) × step a o mid × Leads step n mid rest b × (ds ≡ option_to_list o ++ rest)
+
+-- an enabled move of a subscription was made, and had its effect
+pub record IsMoved {T : Type 0} (m : Meaning T) (id : SubId) (old : Subscription T) (o : Option (SubId × Signal T)) (new : Subscription T) : Type 0 where
+  pub move : Move
+  pub tree : tree_of move ≡ Sub id
+  pub enabled : move_enabled_in m old move ≡ true
+  pub effect : IsEffect m move old new o
+  pub answer : IsMadeAnswer move o
+
+-- ---- a subscription
+
+-- a subscription made so many enabled moves, and these signals of it were delivered
+pub record IsPumped {T : Type 0} (m : Meaning T) (id : SubId) (count : ℕ) (old : Subscription T) (before : List (SubId × Signal T)) (new : Subscription T) (after : List (SubId × Signal T)) : Type 0 where
+  pub signals : List (Signal T)
+  pub output : after ≡ before ++ to id signals
+  pub moves : Leads (IsMoved m id) count old (to id signals) new
+  pub stands : (published : List (Stream T)) (past : Past T) → Stands m published old past → Stands m published new (given_all signals past)
+
+-- how many moves were made, where the answer is whether one was
+abbrev pub moves_of : {E : Type 0} → Result Bool E → ℕ
+moves_of (Ok true) = 1
+moves_of (Ok false) = 0
+moves_of (Err e) = 0
+
+-- no move of a subscription that has a number is enabled
+abbrev pub IsQuiet : {T : Type 0} → Meaning T → Subscription T → Type 0
+IsQuiet m sub = (at : ℕ) → at < 2 ^ 32 → (ask_enabled sub at ≡ false) × (send_enabled m sub at ≡ false) × (take_enabled sub at ≡ false)
+
+-- some move of a subscription that has a number is enabled
+abbrev pub IsAwake : {T : Type 0} → Meaning T → Subscription T → Type 0
+IsAwake m sub = (at : ℕ) × (at < 2 ^ 32) × ((ask_enabled sub at ≡ true) ⊎ ((send_enabled m sub at ≡ true) ⊎ (take_enabled sub at ≡ true)))
+
+-- how driving a subscription ends after so many moves: Idle, with what is left of the budget, where no move is enabled;
+-- Budget where one is and the whole budget was spent
+abbrev pub HasRested : {T E : Type 0} → Meaning T → ℕ → ℕ → Subscription T → Result Rest E → Type 0
+HasRested m budget n sub (Ok (Rests left)) = (n + left ≡ budget) × IsQuiet m sub
+HasRested m budget n sub (Ok Wakes) = (n ≡ budget) × IsAwake m sub
+HasRested m budget n sub (Err e) = n ≤ budget
+
+-- how it ends where so much of the budget is left
+abbrev pub IsRest : {T : Type 0} → Meaning T → Subscription T → ℕ → Rest → Type 0
+IsRest m sub left (Rests k) = (k ≡ left) × IsQuiet m sub
+IsRest m sub left Wakes = (left ≡ 0) × IsAwake m sub

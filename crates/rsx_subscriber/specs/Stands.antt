@@ -1,0 +1,145 @@
+-- What a subscription stands for, its enabled moves, and what a move changes.
+use Rattle.std.specs.Prelude.{◌≡◌, ℕ, Bool, ◌&&◌, nat_eq, List, [], ◌∷◌, ◌++◌, length, Option, Some, None, option_map}
+use Rattle.rsx_types.specs.Meaning.{Meaning}
+use Rattle.rsx_types.specs.Stream.{Stream, signals_then, ended_by}
+use Rattle.rsx_types.specs.declared.note.Note.{Note}
+use Rattle.rsx_types.specs.declared.names.SubId.{SubId}
+use Rattle.rsx_types.specs.declared.names.Tree.TheVariants.{Sub, Feed}
+use Rattle.rsx_types.specs.declared.names.Move.{Move}
+use Rattle.rsx_types.specs.declared.names.Move.TheVariants.{Ask, Send, Take}
+use Rattle.rsx_types.specs.declared.signal.Ending.TheVariants.{Open as NotEnded}
+use Rattle.rsx_types.specs.declared.signal.Signal.{Signal}
+pub use Rattle.rsx_pipe.specs.Output.{values_then}
+use Rattle.rsx_pipe.specs.Part.{PartStands}
+use Rattle.rsx_pipe.specs.Part as Part
+use Rattle.rsx_pipe.specs.Tree.{comes_out, notes_of, IsAllClosed}
+use Rattle.rsx_tree.specs.declared.edge.EdgeState.TheVariants.{Live, Closed}
+use Rattle.rsx_subscriber.specs.declared.state.SubscriptionState.{SubscriptionState}
+use Rattle.rsx_subscriber.specs.declared.state.SubscriptionState.TheVariants.{Open, Ended, Cancelled, Refused}
+use Rattle.rsx_subscriber.specs.declared.subscription.Subscription.{Subscription}
+use Rattle.rsx_subscription.specs.Table.{cell_of, state_after, asked_after, sent_after}
+use Rattle.rsx_subscriber.specs.Standing.{standing, live_in, delivers, input_of}
+use Rattle.rsx_subscriber.specs.Past.{Past, IsLive, items_in, IsUnended, IsOrderly, IsPrefixOf}
+
+-- the expression of a subscriber, evaluated from scratch over the hubs' values, under its joins and these notes
+abbrev pub evaluated : {T : Type 0} → Meaning T → List (Stream T) → Past T → List Note → Option (Stream T)
+evaluated m hubs past notes = Part.evaluated m hubs past.joins past.expression notes
+
+-- what comes out of a subscription, its queue and then its tree, where each node still chooses `further`
+abbrev pub owed_from : {T : Type 0} → Meaning T → List (Stream T) → List Note → Subscription T → Option (Stream T)
+owed_from m hubs further sub = option_map (signals_then sub.queue) (comes_out m hubs further sub.part.tree 0)
+
+-- how a subscription stands
+abbrev pub standing_of : {T : Type 0} → Subscription T → SubscriptionState
+standing_of sub = standing sub.state sub.live
+
+-- a subscription stands for its past, where its part has put out `output`
+pub record Stands {T : Type 0} (m : Meaning T) (published : List (Stream T)) (sub : Subscription T) (past : Past T) : Type 0 where
+  pub state : standing_of sub ≡ past.state
+  pub live : sub.live ≡ live_in (standing_of sub)
+  -- what the part has put out, followed by what still comes out of it, is the expression evaluated from scratch
+  pub output : List (Signal T)
+  pub part : PartStands m published sub.part past.expression past.joins output
+  -- live: what was received, and then what is queued, is all that was put out
+  pub held : IsLive (standing_of sub) → past.received ++ sub.queue ≡ output
+  -- not live: the items received begin those put out
+  pub begun : (IsLive (standing_of sub) → ⊥) → IsPrefixOf (items_in past.received) (items_in output)
+  -- nothing follows an ending
+  pub orderly : IsOrderly past.received
+  pub waits : standing_of sub ≡ Open → IsUnended past.received
+  pub got : standing_of sub ≡ Ended → IsUnended past.received → ⊥
+  -- what was requested is asked of the part, and the items received are counted as delivered
+  pub asked : sub.part.root.demand.asked ≡ past.asked
+  pub requested : sub.demand.asked ≡ past.asked
+  pub delivered : sub.demand.sent ≡ length (items_in past.received)
+  -- the root edge of a live subscriber isn't closed
+  pub unclosed : IsLive (standing_of sub) → sub.part.root.state ≡ Closed → ⊥
+  -- not live: the tree is closed, and nothing is queued
+  pub closed : (IsLive (standing_of sub) → ⊥) → IsAllClosed sub.part.tree × (sub.part.root.state ≡ Live → ⊥) × (sub.queue ≡ [])
+
+-- ---- enabled moves
+
+-- Ask: the root edge rises by requests alone
+abbrev pub ask_enabled : {T : Type 0} → Subscription T → ℕ → Bool
+ask_enabled sub at = Part.ask_enabled sub.part at
+
+-- Send: over the root edge into its queue, or over an edge of the tree
+abbrev pub send_enabled : {T : Type 0} → Meaning T → Subscription T → ℕ → Bool
+send_enabled m sub at = Part.send_enabled m sub.part sub.queue at
+
+-- Take: from the queue of the root edge, where the table delivers its front signal
+abbrev pub take_enabled : {T : Type 0} → Subscription T → ℕ → Bool
+take_enabled sub at = nat_eq at 0 && delivers sub.state sub.demand sub.queue
+
+abbrev pub move_enabled_in : {T : Type 0} → Meaning T → Subscription T → Move → Bool
+move_enabled_in m sub (Ask t n) = ask_enabled sub n.0
+move_enabled_in m sub (Send t n) = send_enabled m sub n.0
+move_enabled_in m sub (Take t n) = take_enabled sub n.0
+
+-- ---- what the looks answer
+
+-- this is what a subscriber is owed: while it is open, its expression's value is what it received followed by this; else
+-- nothing
+abbrev pub owes_in : {T : Type 0} → Meaning T → List (Stream T) → Subscription T → Past T → Stream T → SubscriptionState → Type 0
+owes_in m published sub past v Open = evaluated m published past (notes_of sub.part.tree) ≡ Some (signals_then past.received v)
+owes_in m published sub past v Ended = v ≡ ended_by NotEnded
+owes_in m published sub past v Cancelled = v ≡ ended_by NotEnded
+owes_in m published sub past v Refused = v ≡ ended_by NotEnded
+
+-- ---- what a move changes
+
+-- all but the part and its queue stays: where the subscription stands, and the subscriber's demand
+pub record IsKeptBeside {T : Type 0} (old new : Subscription T) : Type 0 where
+  pub state : new.state ≡ old.state
+  pub live : new.live ≡ old.live
+  pub demand : new.demand ≡ old.demand
+
+-- an Ask: what was asked of this edge is what its receiver wants, and nothing else changed
+pub record IsAsk {T : Type 0} (old : Subscription T) (at : ℕ) (new : Subscription T) : Type 0 where
+  pub edges : Part.IsAsk old.part at new.part
+  pub queue : new.queue ≡ old.queue
+  pub kept : IsKeptBeside old new
+
+-- a Send: the offered signal went over this edge, from the root into the queue; where the receiver ended by it, all from
+-- there on is closed
+pub record IsSend {T : Type 0} (m : Meaning T) (old : Subscription T) (at : ℕ) (new : Subscription T) : Type 0 where
+  pub out : List (Signal T)
+  pub edges : Part.IsSend m old.part at out new.part
+  pub queue : new.queue ≡ old.queue ++ out
+  pub kept : IsKeptBeside old new
+
+-- a move inside a tree
+abbrev pub IsInside : Move → Type 0
+IsInside (Ask t n) = Unit {0}
+IsInside (Send t n) = Unit {0}
+IsInside (Take t n) = ⊥
+
+-- the effect of an Ask or a Send
+abbrev pub IsWorked : {T : Type 0} → Meaning T → Move → Subscription T → Subscription T → Type 0
+IsWorked m (Ask t n) old new = IsAsk old n.0 new
+IsWorked m (Send t n) old new = IsSend m old n.0 new
+IsWorked m (Take t n) old new = ⊥
+
+-- a Take: the front signal left the queue, no edge changed, and the subscription stands as the table says; an item is
+-- counted as delivered
+pub record IsTake {T : Type 0} (old : Subscription T) (s : Signal T) (new : Subscription T) : Type 0 where
+  pub part : new.part ≡ old.part
+  pub queue : old.queue ≡ s ∷ new.queue
+  pub state : new.state ≡ state_after (cell_of old.state (input_of s)) old.state
+  pub live : new.live ≡ old.live
+  pub requested : new.demand.asked ≡ asked_after (cell_of old.state (input_of s)) old.demand
+  pub delivered : new.demand.sent ≡ sent_after (cell_of old.state (input_of s)) old.demand
+
+-- a move's effect on the subscription in which it was made
+abbrev pub IsEffect : {T : Type 0} → Meaning T → Move → Subscription T → Subscription T → Option (SubId × Signal T) → Type 0
+IsEffect m (Ask t n) old new o = IsAsk old n.0 new
+IsEffect m (Send t n) old new o = IsSend m old n.0 new
+IsEffect m (Take t n) old new None = ⊥
+IsEffect m (Take t n) old new (Some d) = IsTake old d.1 new
+
+-- what a move that was made answers: a Take from a root edge hands its signal on
+abbrev pub IsMadeAnswer : {T : Type 0} → Move → Option (SubId × Signal T) → Type 0
+IsMadeAnswer (Ask t n) o = o ≡ None
+IsMadeAnswer (Send t n) o = o ≡ None
+IsMadeAnswer {T} (Take (Sub i) n) o = (s : Signal T) × (o ≡ Some (i, s))
+IsMadeAnswer (Take (Feed h) n) o = ⊥

@@ -1,0 +1,77 @@
+//! The signals that a graph delivered.
+
+ghost use Rattle.std.specs.Prelude.{◌≡◌, ◌∷◌, ◌++◌, [], ◌<◌, ◌≤◌, length, OnOk, OnErr};
+
+use rsx_types::{NoMemory, Signal, SubId};
+use std::alloc::Global;
+use std::marker::Model;
+
+/// The signals that a graph delivered, each with its subscriber, in their order. Contracts see the list of the signals,
+/// and for how many there is memory.
+#[derive(Drop)]
+pub struct Deliveries<T> {
+    signals: Vec<(SubId, Signal<T>)>,
+}
+
+impl<T> Model for Deliveries<T> {
+    ghost use Rattle.std.specs.Prelude.{vec_capacity};
+    ghost use Rattle.rsx_subscriber.specs.Delivered.{Delivered};
+
+    ghost Value = { Delivered T };
+
+    ghost view = { λ d. record { signals = d.signals.items; room = vec_capacity d.signals } };
+}
+
+impl<T: Drop> Deliveries<T> {
+    /// No signal. It takes no memory.
+    pub fn new(alloc: Global) -> Deliveries<T>
+        ensures { result.signals ≡ [] }
+    {
+        Deliveries {
+            signals: Vec::new(alloc),
+        }
+    }
+
+    /// How many signals there are.
+    pub fn len(&self) -> usize
+        ensures { result ≡ length self.now.signals }
+    {
+        self.signals.len()
+    }
+
+    /// The signals, in their order.
+    pub fn as_slice(&self) -> &[(SubId, Signal<T>)]
+        ensures { result.now ≡ self.now.signals }
+    {
+        self.signals.as_slice()
+    }
+
+    /// The list of the signals. It takes no memory.
+    pub fn into_vec(self) -> Vec<(SubId, Signal<T>)>
+        ensures { result.items ≡ self.signals }
+    {
+        let Deliveries { signals } = self;
+        signals
+    }
+
+    /// Makes room for one signal more. Where there is room already it takes no memory.
+    ///
+    /// # Errors
+    /// [`NoMemory`] where a growth was refused: there was no room. The signals stay.
+    pub fn reserve(&mut self) -> Result<(), NoMemory>
+        ensures signals { self.new.signals ≡ self.old.signals }
+        ensures room { OnOk result (length self.new.signals < self.new.room) }
+        ensures full { OnErr result (self.old.room ≤ length self.old.signals) }
+    {
+        self.signals.reserve(1)?;
+        Ok(())
+    }
+
+    /// Puts a signal at the end. It takes no memory.
+    pub fn push(&mut self, sub: SubId, signal: Signal<T>)
+        requires { length self.old.signals < self.old.room }
+        ensures { self.new.signals ≡ self.old.signals ++ (sub, signal) ∷ [] }
+    {
+        self.signals.push_reserved((sub, signal));
+    }
+}

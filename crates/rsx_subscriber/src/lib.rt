@@ -1,0 +1,19 @@
+#![tactic(auto)]
+//! One subscription to an expression: its part, the queue behind it, and where it stands in the subscription table.
+//!
+//! - [`subscription`]: [`Subscription`], with its edits (request, cancel), its moves and `pump`.
+//! - [`deliveries`]: [`Deliveries`], the signals that were handed to subscribers.
+//! - [`state`]: [`SubscriptionState`], how a subscription stands.
+//!
+//! The definitions stand in `specs/`, apart from the code: `Past` (what has happened to a subscriber), `Stands` (what a
+//! subscription stands for, its enabled moves and their effect), `Standing` (where it stands in the table of
+//! `rsx_subscription`), `Begun`, `Pumped`, and `Holds` (what holds of a subscriber whose subscription stands for its past).
+//! Those of parts, trees and edges are in the crates below.
+
+pub mod deliveries;
+pub mod state;
+pub mod subscription;
+
+pub use deliveries::Deliveries;
+pub use state::SubscriptionState;
+pub use subscription::Subscription;

@@ -1,0 +1,361 @@
+//! One subscription: its part of the graph, the queue behind that, and where it stands in the subscription table.
+
+ghost use Rattle.std.specs.Prelude.{◌≡◌, IfOk};
+ghost use Rattle.rsx_types.specs.Stream.{signals_then};
+ghost use Rattle.rsx_subscription.specs.declared.State.TheVariants.{Fresh};
+ghost use Rattle.rsx_subscription.specs.Table.{answer, asked_after, cell_of, sent_after, state_after};
+ghost use Rattle.rsx_subscriber.specs.Standing.{input_of, is_delivery};
+
+use crate::deliveries::Deliveries;
+use crate::state::SubscriptionState;
+use rsx_demand::Demand;
+use rsx_model::Expr;
+use rsx_pipe::{EdgeState, Part, Pumped, SignalQueue};
+use rsx_sources::NotMade;
+use rsx_subscription::{Effect, Input, State, step};
+use rsx_types::{Cause, Ending, Move, NoMemory, Ops, Signal, StreamValue, SubId};
+use std::alloc::Global;
+
+/// One subscription of a graph.
+///
+/// Its state and its demand move by the table of `rsx_subscription` alone.
+#[derive(Drop)]
+pub struct Subscription<T> {
+    /// The tree of its expression with its edges. Of the root edge asked is what the subscriber requested, and sent what was
+    /// put into the queue.
+    pub part: Part<T>,
+    /// The signals on the root edge, at most 64.
+    pub queue: SignalQueue<T>,
+    /// Where the subscription stands in the table. It is opened before anything else happens (rule 1.9).
+    pub state: State,
+    /// The subscriber's own demand: asked is what it requested, sent the items that it was delivered (rule 1.1).
+    pub demand: Demand,
+    /// Whether the subscriber takes part still: it neither cancelled while it was open nor made a bad request then. The
+    /// table has one state for a bad request and for an error of the expression, and this tells them apart.
+    pub live: bool,
+    pub ghost opened: { state ≡ Fresh → ⊥ },
+}
+
+impl<T: Drop> Subscription<T> {
+    ghost use Rattle.std.specs.Prelude.{◌≡◌, ◌<◌, ℕ, [], List, OnOk, OnErr, IfOk, IfErr, IfSome, OnSome, IfNone, Some, None, true, false, map, option_map};
+    ghost use Rattle.rsx_types.specs.Meaning.{Meaning};
+    ghost use Rattle.rsx_types.specs.Notes.{unchosen};
+    ghost use Rattle.rsx_types.specs.Stream.{Stream};
+    ghost use Rattle.rsx_sources.specs.Steps.{IsNotMade};
+    ghost use Rattle.rsx_model.specs.Check.{refusal};
+    ghost use Rattle.rsx_types.specs.declared.names.SubId.{SubId};
+    ghost use Rattle.rsx_types.specs.declared.signal.Signal.{Signal};
+    ghost use Rattle.rsx_tree.specs.Edges.{closed_view};
+    ghost use Rattle.rsx_pipe.specs.Part.{all_edges, HasEnded, IsPutOut, make_allocates, move_enabled};
+    ghost use Rattle.rsx_pipe.specs.Tree.{notes_of, IsAllClosed};
+    ghost use Rattle.rsx_subscriber.specs.Past.{Past, subscribed, cancelled, requested, given, request_answer};
+    ghost use Rattle.rsx_subscriber.specs.Stands.{Stands, standing_of, owed_from, take_enabled, IsWorked, IsTake};
+    ghost use Rattle.rsx_subscriber.specs.Begun.{IsFresh};
+    ghost use Rattle.rsx_subscriber.specs.Edited.{IsRequested, IsCancelled};
+    ghost use Rattle.rsx_subscriber.specs.Pumped.{IsPumped, HasRested, IsRest, IsQuiet, IsAwake, Spent, moves_of};
+
+    /// A subscription that has just begun: nothing was asked, and nothing was sent.
+    ///
+    /// # Errors
+    /// [`NoMemory`] where a growth was refused.
+    pub fn new<O: Ops<Item = T>>(
+        alloc: Global,
+        ops: &O,
+        expr: &Expr<T>,
+    ) -> Result<Subscription<T>, NoMemory>
+        requires { refusal 0 expr.now ≡ None }
+        ensures stands { IfOk result (λ s. (published : List (Stream T)) → Stands (O.meaning ops.now) published s (subscribed expr.now [])) }
+        ensures fresh { IfOk result (λ s. IsFresh expr.now s) }
+    {
+        let queue = SignalQueue::new(alloc)?;
+        let part = Part::new(alloc, ops, expr)?;
+        let mut state = State::Fresh;
+        let mut demand = Demand::new();
+        // `onSubscribe` comes before everything else (rule 1.9).
+        let _ = step(&mut state, &mut demand, Input::Subscribe);
+        Ok(Subscription {
+            part,
+            queue,
+            state,
+            demand,
+            live: true,
+        })
+    }
+
+    /// How the subscription stands.
+    pub fn standing(&self) -> SubscriptionState
+        ensures { result ≡ standing_of self.now }
+    {
+        match self.state {
+            State::Fresh => SubscriptionState::Open,
+            State::Open => SubscriptionState::Open,
+            State::Cancelled => SubscriptionState::Cancelled,
+            State::Done => SubscriptionState::Ended,
+            State::Failed => match self.live {
+                true => SubscriptionState::Ended,
+                false => SubscriptionState::Refused,
+            },
+        }
+    }
+
+    /// The subscriber is gone: closes the root edge and all below it, and drops what is queued.
+    fn close(&mut self)
+        ensures state { self.new.state ≡ self.old.state }
+        ensures demand { self.new.demand ≡ self.old.demand }
+        ensures live { self.new.live ≡ false }
+        ensures queue { self.new.queue ≡ [] }
+        ensures root { self.new.part.root.state ≡ EdgeState.Live → ⊥ }
+        ensures asked { self.new.part.root.demand.asked ≡ self.old.part.root.demand.asked }
+        ensures tree { IsAllClosed self.new.part.tree }
+        ensures edges { all_edges self.new.part ≡ map closed_view (all_edges self.old.part) }
+        ensures notes { notes_of self.new.part.tree ≡ notes_of self.old.part.tree }
+        ensures stands { (m : Meaning T) → IsPutOut m self.old.part [] self.new.part }
+    {
+        self.live = false;
+        self.part.close();
+        self.queue.clear();
+    }
+
+    /// Cancels the subscription, where it is open (rules 3.5 to 3.7): closes the edges of its part and drops what is queued.
+    pub fn cancel(&mut self)
+        ensures effect { IsCancelled (standing_of self.old) self.old self.new }
+        ensures stands { (m : Meaning T) (published : List (Stream T)) (past : Past T) → Stands m published self.old past → Stands m published self.new (cancelled past) }
+    {
+        match step(&mut self.state, &mut self.demand, Input::Cancel) {
+            Ok(Effect::Close) => self.close(),
+            _ => {}
+        }
+    }
+
+    /// Asks for `n` items more, where the subscription is open. The signal is the error of a bad request (rules 3.8 and 3.9),
+    /// which closes the subscription as a cancel does.
+    pub fn request(&mut self, n: i64) -> Option<Signal<T>>
+        ensures effect { IsRequested (standing_of self.old) n self.old self.new }
+        ensures stands { (m : Meaning T) (published : List (Stream T)) (past : Past T) → Stands m published self.old past → Stands m published self.new (requested n past) }
+        ensures answer { result ≡ request_answer (standing_of self.old) n }
+    {
+        let Ok(effect) = step(&mut self.state, &mut self.demand, Input::Request(n)) else {
+            return None;
+        };
+        match effect {
+            Effect::Add => {
+                self.part.request(n.unsigned_abs());
+                None
+            }
+            Effect::Bad => {
+                self.close();
+                Some(Signal::Error(Cause::NonPositiveRequest))
+            }
+            _ => None,
+        }
+    }
+
+    /// Makes the move Take of the node `at`: the root hands the front signal of its queue to the subscriber, where the table
+    /// delivers it. An item with no demand left stays queued (rule 1.1).
+    pub fn take(&mut self, at: u32) -> Option<Signal<T>>
+        ensures some { IfSome result (λ s. (m : Meaning T) (published : List (Stream T)) (past : Past T) → Stands m published self.old past → Stands m published self.new (given s past)) }
+        ensures enabled { OnSome result (take_enabled self.old at ≡ true) }
+        ensures effect { IfSome result (λ s. IsTake self.old s self.new) }
+        ensures none { IfNone result ((self.new ≡ self.old) × (take_enabled self.old at ≡ false)) }
+    {
+        if at != 0 {
+            return None;
+        }
+        if self.queue.len() == 0 {
+            return None;
+        }
+        // The step is made on copies, so that one that delivers nothing changes nothing.
+        let mut state = self.state;
+        let mut demand = self.demand;
+        if !delivers(&mut state, &mut demand, self.queue.at(0)) {
+            return None;
+        }
+        self.state = state;
+        self.demand = demand;
+        Some(self.queue.pop().unwrap())
+    }
+
+    /// Whether the move Take of the root is enabled.
+    fn can_take(&self) -> bool
+        ensures { result ≡ take_enabled self.now 0 }
+    {
+        if self.queue.len() == 0 {
+            return false;
+        }
+        let mut state = self.state;
+        let mut demand = self.demand;
+        delivers(&mut state, &mut demand, self.queue.at(0))
+    }
+
+    /// Makes the move Ask or Send of a node.
+    pub fn make<O: Ops<Item = T>>(
+        &mut self,
+        alloc: Global,
+        ops: &O,
+        step: Move,
+    ) -> Result<(), NotMade>
+        ensures stands { OnOk result ((published : List (Stream T)) (past : Past T) → Stands (O.meaning ops.now) published self.old past → Stands (O.meaning ops.now) published self.new past) }
+        ensures enabled { OnOk result (move_enabled (O.meaning ops.now) self.old.part self.old.queue step ≡ true) }
+        ensures effect { OnOk result (IsWorked (O.meaning ops.now) step self.old self.new) }
+        ensures err { IfErr result (IsNotMade (move_enabled (O.meaning ops.now) self.old.part self.old.queue step)) }
+        ensures memory { make_allocates (O.allocates ops.now) self.old.part step ≡ false → IfErr result (λ e. e ≡ NotMade.NotEnabled) }
+        ensures same { OnErr result (self.new ≡ self.old) }
+    {
+        match self.part.make(alloc, ops, step, &mut self.queue) {
+            Ok(()) => Ok(()),
+            Err(why) => Err(why),
+        }
+    }
+
+    /// Hands the front signal of the queue to the subscriber, where the table delivers one.
+    fn advance_queue(&mut self, id: SubId, out: &mut Deliveries<T>) -> Result<bool, NoMemory>
+        ensures pumped { (m : Meaning T) → IsPumped m id (moves_of result) self.old out.old.signals self.new out.new.signals }
+        ensures none { IfOk result (λ b. b ≡ false → (self.new ≡ self.old) × (out.new.signals ≡ out.old.signals) × (take_enabled self.old 0 ≡ false)) }
+        ensures part { self.new.part ≡ self.old.part }
+    {
+        if self.queue.len() == 0 {
+            return Ok(false);
+        }
+        out.reserve()?;
+        match self.take(0) {
+            Some(signal) => {
+                out.push(id, signal);
+                Ok(true)
+            }
+            None => Ok(false),
+        }
+    }
+
+    /// Hands the signals of the queue to the subscriber, at most `budget` of them, and answers how many of the budget are
+    /// left.
+    fn deliver(&mut self, id: SubId, budget: u32, out: &mut Deliveries<T>) -> Result<u32, NoMemory>
+        ensures pumped { (m : Meaning T) → (n : ℕ) × Spent budget n result × IsPumped m id n self.old out.old.signals self.new out.new.signals }
+        ensures none { IfOk result (λ left. left ≡ budget → self.new ≡ self.old) }
+        ensures rest { IfOk result (λ left. 0 < left → take_enabled self.new 0 ≡ false) }
+    {
+        for made in 0..budget {
+            match self.advance_queue(id, out) {
+                Ok(true) => {}
+                Ok(false) => return Ok(budget - made),
+                Err(NoMemory) => return Err(NoMemory),
+            }
+        }
+        Ok(0)
+    }
+
+    /// Makes enabled moves of the part until none is enabled or `budget` moves were made.
+    fn pump_part<O: Ops<Item = T>>(
+        &mut self,
+        alloc: Global,
+        ops: &O,
+        id: SubId,
+        budget: u32,
+    ) -> Result<Pumped, NoMemory>
+        ensures pumped { (n : ℕ) × HasEnded (O.meaning ops.now) budget n self.new.part self.new.queue result × ((o : List (SubId × Signal T)) → IsPumped (O.meaning ops.now) id n self.old o self.new o) }
+    {
+        match self.part.pump(alloc, ops, budget, &mut self.queue) {
+            Ok(ended) => Ok(ended),
+            Err(NoMemory) => Err(NoMemory),
+        }
+    }
+
+    /// Makes enabled moves until none is enabled (Idle) or `budget` moves were made (Budget); where both hold it answers
+    /// Idle. A signal that is delivered is put into `out`.
+    pub fn pump<O: Ops<Item = T>>(
+        &mut self,
+        alloc: Global,
+        ops: &O,
+        id: SubId,
+        budget: u32,
+        out: &mut Deliveries<T>,
+    ) -> Result<Pumped, NoMemory>
+        ensures pumped { (n : ℕ) × HasRested (O.meaning ops.now) budget n self.new result × IsPumped (O.meaning ops.now) id n self.old out.old.signals self.new out.new.signals }
+    {
+        let mut left = budget;
+        for round in 0..budget {
+            let before = match self.pump_part(alloc, ops, id, left) {
+                Ok(Pumped::Idle(left)) => left,
+                Ok(Pumped::Budget) => return Ok(Pumped::Budget),
+                Err(NoMemory) => return Err(NoMemory),
+            };
+            left = match self.deliver(id, before, out) {
+                Ok(left) => left,
+                Err(NoMemory) => return Err(NoMemory),
+            };
+            if left == before {
+                return Ok(self.rest(left));
+            }
+        }
+        Ok(self.rest(left))
+    }
+
+    /// How driving the subscription ends where so much of the budget is left.
+    fn rest(&self, left: u32) -> Pumped
+        ensures { (m : Meaning T) → (0 < left → IsQuiet m self.now) → IsRest m self.now left result }
+    {
+        match self.is_idle() {
+            true => Pumped::Idle(left),
+            false => Pumped::Budget,
+        }
+    }
+
+    /// Whether no move is enabled.
+    pub fn is_idle(&self) -> bool
+        ensures yes { (m : Meaning T) → result ≡ true → IsQuiet m self.now }
+        ensures no { (m : Meaning T) → result ≡ false → IsAwake m self.now }
+    {
+        if self.can_take() {
+            return false;
+        }
+        self.part.is_idle(&self.queue)
+    }
+
+    /// What is still owed: what is queued, and then what comes out of the tree.
+    pub fn owed<O: Ops<Item = T>>(&self, alloc: Global, ops: &O) -> Result<StreamValue<T>, NoMemory>
+        ensures { IfOk result (λ v. (hubs : List (Stream T)) → owed_from (O.meaning ops.now) hubs (map unchosen (notes_of self.now.part.tree)) self.now ≡ Some v) }
+    {
+        let rest = self.part.residual(alloc, ops)?;
+        behind(alloc, ops, &self.queue, rest)
+    }
+}
+
+/// What comes out of a queue, and then the rest.
+fn behind<O: Ops>(
+    alloc: Global,
+    ops: &O,
+    queue: &SignalQueue<O::Item>,
+    rest: StreamValue<O::Item>,
+) -> Result<StreamValue<O::Item>, NoMemory>
+    ensures { IfOk result (λ v. v ≡ signals_then queue.now rest) }
+{
+    let ending = rest.ending();
+    let mut left = rest.into_items();
+    let mut items = Vec::new(alloc);
+    for index in 0..queue.len() {
+        match queue.at(index) {
+            Signal::Next(x) => items.push(ops.copy(alloc, x)?)?,
+            Signal::Complete => return Ok(StreamValue::new(items, Ending::Done)),
+            Signal::Error(c) => return Ok(StreamValue::new(items, Ending::Failed(*c))),
+        }
+    }
+    items.append(&mut left)?;
+    Ok(StreamValue::new(items, ending))
+}
+
+/// Makes the step of a signal by the table, and answers whether the table delivers it.
+fn delivers<T>(state: &mut State, demand: &mut Demand, signal: &Signal<T>) -> bool
+    ensures delivered { result ≡ is_delivery (answer (cell_of state.old (input_of signal.now)) demand.old) }
+    ensures state { state.new ≡ state_after (cell_of state.old (input_of signal.now)) state.old }
+    ensures asked { demand.new.asked ≡ asked_after (cell_of state.old (input_of signal.now)) demand.old }
+    ensures sent { demand.new.sent ≡ sent_after (cell_of state.old (input_of signal.now)) demand.old }
+{
+    let input = match signal {
+        Signal::Next(_) => Input::Next,
+        Signal::Complete => Input::Complete,
+        Signal::Error(_) => Input::Error,
+    };
+    match step(state, demand, input) {
+        Ok(effect) => matches!(effect, Effect::Deliver),
+        Err(_) => false,
+    }
+}

@@ -1,0 +1,5 @@
+#![tactic(auto)]
+//! Tests of scripts: how lines are read, what is answered, and what ends a run.
+
+#[cfg(test)]
+mod tests;
