@@ -56,7 +56,7 @@ fn computed(
     let node = PlainNode::new(alloc, &PLENTY, stage)?;
     let mut incoming = Vec::new(alloc);
     incoming.push(StreamValue::new(Vec::from_slice(alloc, items)?, ending))?;
-    node.residual(alloc, &PLENTY, incoming.as_slice())
+    node.residual(alloc, &PLENTY, &[], incoming.as_slice())
 }
 
 /// Whether an operator answers these items and their ending with these items and this ending, one by one and computed.
@@ -225,7 +225,7 @@ fn a_filter_asks_again_and_chooses_nothing(rt: HostRuntime) -> Result<(), Fail> 
     let mut node = PlainNode::new(alloc, &PLENTY, &Stage::Filter(0))?;
     give(alloc, &mut node, Signal::Next(4))?;
     assert!(rt; chooses_nothing(alloc, &mut node)?);
-    assert!(rt; node.can_take(0));
+    assert!(rt; node.can_take(0, Front::Item));
     assert_eq!(rt; node.want(0, 2, 0), 3);
     Ok(())
 }

@@ -73,12 +73,11 @@ pub(crate) fn take_all<M: Machine<Item = i64>>(
     Ok(())
 }
 
-/// Whether a node, of which 5 items are asked, chooses nothing and has noted nothing.
+/// Whether a node chooses nothing where 5 items are asked of it, and has noted nothing.
 pub(crate) fn chooses_nothing<M: Machine<Item = i64>>(
     alloc: Global,
     node: &mut M,
 ) -> Result<bool, NoMemory> {
-    node.on_ask(5);
     let pick = node.on_pick(alloc, &PLENTY, 0, 5, 0);
     let row = node.on_row(alloc, &PLENTY, 5, 0);
     let note = node.note(alloc)?;

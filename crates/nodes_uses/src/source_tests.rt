@@ -13,7 +13,7 @@ fn offers<M: Machine<Item = i64>>(
     node: &mut M,
     items: &[i64],
 ) -> Result<bool, NoMemory> {
-    let left = node.residual(alloc, &PLENTY, &[])?;
+    let left = node.residual(alloc, &PLENTY, &[], &[])?;
     let mut received = Received {
         items: Vec::new(alloc),
         ending: Ending::Open,
@@ -25,7 +25,7 @@ fn offers<M: Machine<Item = i64>>(
 /// Whether a node takes no signal, hands it back, and asks for none.
 fn takes_nothing<M: Machine<Item = i64>>(alloc: Global, node: &mut M) -> bool {
     let back = node.on_signal(alloc, &PLENTY, 0, Signal::Next(2));
-    !node.can_take(0)
+    !node.can_take(0, Front::Item)
         && matches!(back, Err(NotTaken::Busy(Signal::Next(2))))
         && node.want(0, 5, 0) == 0
 }

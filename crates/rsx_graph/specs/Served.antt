@@ -2,8 +2,8 @@
 use Rattle.std.specs.Prelude.{◌≡◌, List, [], ◌∷◌, Some}
 use Rattle.rsx_types.specs.Meaning.{Meaning}
 use Rattle.rsx_types.specs.Stream.{Stream}
-use Rattle.rsx_tree.specs.Balance.{IsWithin}
-use Rattle.rsx_tree.specs.Tree.{notes_of}
+use Rattle.rsx_pipe.specs.Tree.{IsWithin}
+use Rattle.rsx_pipe.specs.Tree.{notes_of}
 use Rattle.rsx_subscriber.specs.declared.subscription.Subscription.{Subscription}
 use Rattle.rsx_subscriber.specs.Holds.{IsServed}
 use Rattle.rsx_subscriber.specs.Past.{Past, IsLive}
