@@ -31,7 +31,7 @@ pub record AllPumped {T : Type 0} (m : Meaning T) (count : ℕ) (old : List (Sub
   pub moves : Leads (IsMoveMade m) count old signals new
   pub stands : (h : History T) → StandsFor m old h → StandsFor m new (delivered h signals)
 
--- no move of a graph is enabled
+-- no move of a graph is enabled, of all that the number of a node can name
 abbrev pub IsAllQuiet : {T : Type 0} → Meaning T → List (Subscription T) → Type 0
 IsAllQuiet m subs = (move : Move) → number_of move < 2 ^ 32 → enabled_in_tree m subs (tree_of move) move ≡ false
 

@@ -9,7 +9,7 @@ use Rattle.rsx_subscriber.specs.Holds.{IsServed}
 use Rattle.rsx_subscriber.specs.Past.{Past, IsLive}
 use Rattle.rsx_subscriber.specs.Stands.{evaluated}
 
--- each live subscriber did, as long as no edge of its tree has carried 2^63-1 items
+-- each live subscriber did, as long as no edge of its tree has carried 2^63-1 items and each of its nodes has a number
 abbrev pub AllServed : {T : Type 0} → Meaning T → List (Stream T) → List (Subscription T) → List (Past T) → Type 0
 AllServed m published [] [] = Unit {0}
 AllServed {T} m published (s ∷ ss) (p ∷ ps) =
