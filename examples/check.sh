@@ -37,6 +37,13 @@ answers() {
     ends_with "$status" "$2" <"$1" && diff "$room/written" "$3" && diff "$room/said" "$fault"
 }
 
+# Whether a script in this mode and its answers are among the rows that the gate compares.
+is_row() {
+    local fault=${1%.rsx}.fault
+    [[ -f $fault && $2 == run ]] || fault=/dev/null
+    [[ $(<"$here/../crates/script_rows/stdout") == *"$(echo "$2" && cat "$1" && echo answers && cat "$3" "$fault")"* ]]
+}
+
 # Whether the program ends for want of memory where it may have 32 MiB, and has written what it had answered by then.
 ends_without_memory() (
     ulimit -v 32768
@@ -49,13 +56,13 @@ ends_without_memory() (
 # Proves and builds the program where that is needed, so that what follows only runs it.
 "$rsx" run </dev/null || exit
 
-expect 'the copies that the gate compares' \
-    diff -r -x README.md -x check.sh -x jvm "$here" "$here/../crates/script_rows/data"
 for script in "$here"/*.rsx; do
     name=$(basename "$script" .rsx)
     expect "$name" answers "$script" run "${script%.rsx}.answers"
+    expect "$name among the rows" is_row "$script" run "${script%.rsx}.answers"
     if [[ -f ${script%.rsx}.scratch ]]; then
         expect "$name by scratch" answers "$script" scratch "${script%.rsx}.scratch"
+        expect "$name by scratch among the rows" is_row "$script" scratch "${script%.rsx}.scratch"
     fi
 done
 expect 'a command line without a mode' ends_with 2 </dev/null

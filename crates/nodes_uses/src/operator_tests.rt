@@ -3,10 +3,10 @@
 ghost use Rattle.std.specs.Prelude.{◌≡◌, []};
 
 use crate::numbers::{PLENTY, SCARCE};
-use crate::received::{Received, signal_of, take_all};
+use crate::received::{Received, chooses_nothing, signal_of, take_all};
 use rsx_plain::{Operator, PlainNode, PlainState};
-use rsx_sources::{Front, Machine, NotMade, NotTaken, OutSlot};
-use rsx_types::{Cause, Ending, NoMemory, Note, Signal, Stage, StreamValue};
+use rsx_sources::{Front, Machine, NotTaken, OutSlot};
+use rsx_types::{Cause, Ending, NoMemory, Signal, Stage, StreamValue};
 use std::alloc::Global;
 use std::test::Fail;
 
@@ -56,7 +56,7 @@ fn computed(
     let node = PlainNode::new(alloc, &PLENTY, stage)?;
     let mut incoming = Vec::new(alloc);
     incoming.push(StreamValue::new(Vec::from_slice(alloc, items)?, ending))?;
-    node.residual(alloc, &PLENTY, incoming.as_slice())
+    node.residual(alloc, &PLENTY, &[], incoming.as_slice())
 }
 
 /// Whether an operator answers these items and their ending with these items and this ending, one by one and computed.
@@ -224,15 +224,9 @@ fn a_filter_asks_again_and_chooses_nothing(rt: HostRuntime) -> Result<(), Fail> 
     let alloc = rt.alloc();
     let mut node = PlainNode::new(alloc, &PLENTY, &Stage::Filter(0))?;
     give(alloc, &mut node, Signal::Next(4))?;
-    node.on_ask(2);
+    assert!(rt; chooses_nothing(alloc, &mut node)?);
+    assert!(rt; node.can_take(0, Front::Item));
     assert_eq!(rt; node.want(0, 2, 0), 3);
-    assert!(rt; node.can_take(0));
-    assert_eq!(rt;
-        node.on_pick(alloc, &PLENTY, 0, 2, 0),
-        Err(NotMade::NotEnabled)
-    );
-    assert_eq!(rt; node.on_row(alloc, &PLENTY, 2, 0), Err(NotMade::NotEnabled));
-    assert!(rt; matches!(node.note(alloc)?, Note::Nothing));
     Ok(())
 }
 

@@ -1,8 +1,8 @@
 //! What came out, in its order.
 
 use crate::numbers::PLENTY;
-use rsx_sources::{Machine, OutSlot};
-use rsx_types::{Ending, NoMemory, Signal};
+use rsx_sources::{Machine, NotMade, OutSlot};
+use rsx_types::{Ending, NoMemory, Note, Signal};
 use std::alloc::Global;
 
 /// What came out so far: items, and then an ending, or `Open`.
@@ -71,4 +71,19 @@ pub(crate) fn take_all<M: Machine<Item = i64>>(
         }
     }
     Ok(())
+}
+
+/// Whether a node chooses nothing where 5 items are asked of it, and has noted nothing.
+pub(crate) fn chooses_nothing<M: Machine<Item = i64>>(
+    alloc: Global,
+    node: &mut M,
+) -> Result<bool, NoMemory> {
+    let pick = node.on_pick(alloc, &PLENTY, 0, 5, 0);
+    let row = node.on_row(alloc, &PLENTY, 5, 0);
+    let note = node.note(alloc)?;
+    Ok(
+        pick == Err(NotMade::NotEnabled)
+            && row == Err(NotMade::NotEnabled)
+            && matches!(note, Note::Nothing),
+    )
 }

@@ -1,9 +1,9 @@
 //! Sources and the out slot.
 
 use crate::numbers::PLENTY;
-use crate::received::{Received, take_all};
-use rsx_sources::{Front, ItemsNode, Machine, NotMade, NotTaken, OutSlot, RangeNode};
-use rsx_types::{Ending, NoMemory, Note, Signal};
+use crate::received::{Received, chooses_nothing, take_all};
+use rsx_sources::{Front, ItemsNode, Machine, NotTaken, OutSlot, RangeNode};
+use rsx_types::{Ending, NoMemory, Signal};
 use std::alloc::Global;
 use std::test::Fail;
 
@@ -13,7 +13,7 @@ fn offers<M: Machine<Item = i64>>(
     node: &mut M,
     items: &[i64],
 ) -> Result<bool, NoMemory> {
-    let left = node.residual(alloc, &PLENTY, &[])?;
+    let left = node.residual(alloc, &PLENTY, &[], &[])?;
     let mut received = Received {
         items: Vec::new(alloc),
         ending: Ending::Open,
@@ -22,28 +22,19 @@ fn offers<M: Machine<Item = i64>>(
     Ok(left.items() == items && left.ending() == Ending::Done && received.is(items, Ending::Done))
 }
 
-/// Whether a node takes nothing, asks for nothing, chooses nothing and notes nothing.
-fn is_quiet<M: Machine<Item = i64>>(alloc: Global, node: &mut M) -> Result<bool, NoMemory> {
+/// Whether a node takes no signal, hands it back, and asks for none.
+fn takes_nothing<M: Machine<Item = i64>>(alloc: Global, node: &mut M) -> bool {
     let back = node.on_signal(alloc, &PLENTY, 0, Signal::Next(2));
-    node.on_ask(5);
-    let pick = node.on_pick(alloc, &PLENTY, 0, 5, 0);
-    let row = node.on_row(alloc, &PLENTY, 5, 0);
-    let note = node.note(alloc)?;
-    Ok(
-        !node.can_take(0)
-            && matches!(back, Err(NotTaken::Busy(Signal::Next(2))))
-            && pick == Err(NotMade::NotEnabled)
-            && row == Err(NotMade::NotEnabled)
-            && node.want(0, 5, 0) == 0
-            && matches!(note, Note::Nothing),
-    )
+    !node.can_take(0, Front::Item)
+        && matches!(back, Err(NotTaken::Busy(Signal::Next(2))))
+        && node.want(0, 5, 0) == 0
 }
 
 #[test]
 fn items_come_out_in_order(rt: HostRuntime) -> Result<(), Fail> {
     let alloc = rt.alloc();
     let mut node = ItemsNode::new(alloc, &PLENTY, &[3, 5])?;
-    assert!(rt; is_quiet(alloc, &mut node)?);
+    assert!(rt; takes_nothing(alloc, &mut node) && chooses_nothing(alloc, &mut node)?);
     assert_eq!(rt; node.front(), Some(Front::Item));
     assert!(rt; offers(alloc, &mut node, &[3, 5])?);
     assert_eq!(rt; node.front(), Some(Front::Completion));
@@ -54,7 +45,7 @@ fn items_come_out_in_order(rt: HostRuntime) -> Result<(), Fail> {
 fn a_range_ends_at_the_greatest_number(rt: HostRuntime) -> Result<(), Fail> {
     let alloc = rt.alloc();
     let mut node = RangeNode::new(9223372036854775806, 2);
-    assert!(rt; is_quiet(alloc, &mut node)?);
+    assert!(rt; takes_nothing(alloc, &mut node) && chooses_nothing(alloc, &mut node)?);
     assert_eq!(rt; node.front(), Some(Front::Item));
     assert!(rt;
         offers(

@@ -8,7 +8,8 @@
 
 use clap::error::ErrorKind;
 use rsx_command_line::mode_of;
-use rsx_drive::{AppFault, drive};
+use rsx_drive::drive;
+use rsx_script::AppFault;
 use std::process::ExitCode;
 use std::rt::Env;
 use std::{env, io};

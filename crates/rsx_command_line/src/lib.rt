@@ -1,8 +1,8 @@
 #![tactic(auto)]
-//! The command line of the program `rsx`.
+//! The command line of the program `rsx`: what `clap` makes of the words. It is tested.
 
 use clap::{Command, Error};
-use rsx_session::Mode;
+use rsx_script::{Mode, mode_named};
 use std::alloc::Global;
 
 /// What `--help` says below the list of subcommands.
@@ -28,8 +28,9 @@ pub fn mode_of(alloc: Global, words: &[String]) -> Result<Mode, Error> {
         .subcommand(run)?
         .subcommand(scratch)?;
     let matches = program.try_get_matches_from(words)?;
+    // `clap` lets no other name pass than those of the two subcommands.
     match matches.subcommand_name() {
-        Some("scratch") => Ok(Mode::Scratch),
-        _ => Ok(Mode::Run),
+        Some(name) => Ok(mode_named(name).unwrap_or(Mode::Run)),
+        None => Ok(Mode::Run),
     }
 }

@@ -11,6 +11,3 @@ pub mod val;
 pub use demo::Demo;
 pub use names::{Role, function_number};
 pub use val::{Val, Vals, copy_items, copy_val, is_same_val};
-
-#[cfg(test)]
-mod tests;

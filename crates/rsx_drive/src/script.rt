@@ -1,8 +1,7 @@
 //! Runs a script: reads lines, answers each, and writes the answers.
 
-use crate::fault::AppFault;
-use rsx_script::{LineRefusal, MOST_BYTES, parse_line};
-use rsx_session::{Mode, Session};
+use rsx_script::{AppFault, LineRefusal, MOST_BYTES, Mode, parse_line};
+use rsx_session::Session;
 use std::alloc::Global;
 use std::io::{Read, Write};
 

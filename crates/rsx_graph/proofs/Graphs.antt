@@ -1,5 +1,5 @@
 -- How the subscriptions of a graph stand together.
-use Rattle.std.proofs.Common.{◌≡◌, ℕ, zero, suc, ◌+◌, ◌-◌, ◌<◌, ◌≤◌, List, [], ◌∷◌, ◌++◌, length, get_or, slice_get, refl, ap, sym, ◌∙◌, subst, arith, append_assoc, length-append, take, map, Option, Some, Result, Ok, Bool, true, false, nat_eq, if◌then◌else◌, inl, inr}
+use Rattle.std.proofs.Common.{◌^◌, ◌≡◌, ℕ, zero, suc, ◌+◌, ◌-◌, ◌<◌, ◌≤◌, List, [], ◌∷◌, ◌++◌, length, get_or, slice_get, refl, ap, sym, ◌∙◌, subst, arith, append_assoc, length-append, take, map, Option, Some, Result, Ok, Bool, true, false, nat_eq, if◌then◌else◌, inl, inr}
 use Rattle.std.proofs.Math.ListN.{set}
 use Rattle.std.proofs.lemmas.Bool.Decides.{nat_tests}
 use Rattle.std.proofs.lemmas.List.{take_more, take_all, append-nil}
@@ -15,7 +15,7 @@ use Rattle.rsx_types.specs.declared.names.Tree.TheVariants.{Sub, Feed}
 use Rattle.rsx_types.specs.declared.signal.Ending.TheVariants.{Open as NotEnded}
 use Rattle.rsx_types.specs.declared.signal.Signal.{Signal}
 use Rattle.rsx_pipe.specs.Part as Part
-use Rattle.rsx_tree.specs.Tree.{notes_of}
+use Rattle.rsx_pipe.specs.Tree.{notes_of}
 use Rattle.rsx_pipe.specs.declared.part.Pumped.{Pumped as Rest}
 use Rattle.rsx_pipe.specs.declared.part.Pumped.TheVariants.{Idle as Rests, Budget as Wakes}
 use Rattle.rsx_pipe.proofs.Signals.{some_same}
@@ -212,7 +212,7 @@ pub none_quiet : {T : Type 0} (m : Meaning T) (subs : List (Subscription T)) →
 none_quiet m subs j l s e = absurd (omega arith)
 
 pub all_quiet : {T : Type 0} (m : Meaning T) (subs : List (Subscription T)) (n : ℕ) → length subs ≤ n → AreQuiet m subs n → IsAllQuiet m subs
-all_quiet {T} m subs n lt h mv = in_tree (tree_of mv)
+all_quiet {T} m subs n lt h mv small = in_tree (tree_of mv)
   where
     within : (ss : List (Subscription T)) (j : ℕ) (s : Subscription T) → slice_get ss j ≡ Some s → j < length ss
     within [] j s e = cc
@@ -221,7 +221,7 @@ all_quiet {T} m subs n lt h mv = in_tree (tree_of mv)
 
     none_at : (ss : List (Subscription T)) (i : ℕ) → ((j : ℕ) (s : Subscription T) → slice_get ss j ≡ Some s → IsQuiet m s) → enabled_at m ss i mv ≡ false
     none_at [] i k = refl
-    none_at (s ∷ ss) zero k = quiet_move m s mv (k 0 s refl)
+    none_at (s ∷ ss) zero k = quiet_move m s mv small (k 0 s refl)
     none_at (s ∷ ss) (suc i) k = past_first (move_enabled_in m s mv) (enabled_at m ss (suc i - 1) mv) i ∙ (ap (λ j. enabled_at m ss j mv) (suc_less i) ∙ none_at ss i (λ j t e. k (suc j) t e))
 
     in_tree : (t : Tree) → enabled_in_tree m subs t mv ≡ false
@@ -229,7 +229,7 @@ all_quiet {T} m subs n lt h mv = in_tree (tree_of mv)
     in_tree (Feed f) = refl
 
 pub any_awake : {T : Type 0} (m : Meaning T) (subs : List (Subscription T)) (i : ℕ) (sub : Subscription T) → i < length subs → get_or subs i sub ≡ sub → IsAwake m sub → IsAnyAwake m subs
-any_awake m subs i sub lt e h = elim h.1 [
+any_awake m subs i sub lt e h = elim h.2 [
   | inl a ↦ (Ask (Sub (record { 0 = i })) (record { 0 = h.0 }), enabled_there m subs i sub _ lt e ∙ a)
   | inr b ↦ elim b [
     | inl s ↦ (Send (Sub (record { 0 = i })) (record { 0 = h.0 }), enabled_there m subs i sub _ lt e ∙ s)

@@ -22,11 +22,11 @@ enabled_got m (s ∷ subs) zero sub mv e = ap (λ t. move_enabled_in m t mv) (so
 enabled_got m (s ∷ subs) (suc i) sub mv e = past_first (move_enabled_in m s mv) (enabled_at m subs (suc i - 1) mv) i ∙ (ap (λ k. enabled_at m subs k mv) (suc_less i) ∙ enabled_got m subs i sub mv e)
 
 quiet_got : {T : Type 0} (m : Meaning T) (subs : List (Subscription T)) (i : ℕ) (sub : Subscription T) → IsAllQuiet m subs → slice_get subs i ≡ Some sub → IsQuiet m sub
-quiet_got m subs i sub q e at =
+quiet_got m subs i sub q e at l =
     let a : Move = Ask (Sub (record { 0 = i })) (record { 0 = at }) in
     let s : Move = Send (Sub (record { 0 = i })) (record { 0 = at }) in
     let t : Move = Take (Sub (record { 0 = i })) (record { 0 = at }) in
-    (sym (enabled_got m subs i sub a e) ∙ q a, sym (enabled_got m subs i sub s e) ∙ q s, sym (enabled_got m subs i sub t e) ∙ q t)
+    (sym (enabled_got m subs i sub a e) ∙ q a l, sym (enabled_got m subs i sub s e) ∙ q s l, sym (enabled_got m subs i sub t e) ∙ q t l)
 
 each_served : {T : Type 0} (m : Meaning T) (published : List (Stream T)) (subs : List (Subscription T)) (pasts : List (Past T)) → ((i : ℕ) (s : Subscription T) → slice_get subs i ≡ Some s → IsQuiet m s) → AllStand m published subs pasts → AllServed m published subs pasts
 each_served m published [] [] q h = tt

@@ -1,9 +1,10 @@
 -- What driving a graph until it is idle does.
-use Rattle.std.specs.Prelude.{◌≡◌, ℕ, ◌+◌, ◌≤◌, ◌<◌, true, false, List, ◌++◌, length, Option, Some, Result, Ok, Err, slice_get}
+use Rattle.std.specs.Prelude.{◌^◌, ◌≡◌, ℕ, ◌+◌, ◌≤◌, ◌<◌, true, false, List, ◌++◌, length, Option, Some, Result, Ok, Err, slice_get}
 use Rattle.rsx_types.specs.Meaning.{Meaning}
 use Rattle.rsx_types.specs.declared.names.Move.{Move}
 use Rattle.rsx_types.specs.declared.names.SubId.{SubId}
 use Rattle.rsx_types.specs.declared.signal.Signal.{Signal}
+use Rattle.rsx_pipe.specs.Part.{number_of}
 use Rattle.rsx_pipe.specs.declared.part.Pumped.{Pumped as Rest}
 use Rattle.rsx_pipe.specs.declared.part.Pumped.TheVariants.{Idle as Rests, Budget as Wakes}
 use Rattle.rsx_subscriber.specs.declared.subscription.Subscription.{Subscription}
@@ -30,9 +31,9 @@ pub record AllPumped {T : Type 0} (m : Meaning T) (count : ℕ) (old : List (Sub
   pub moves : Leads (IsMoveMade m) count old signals new
   pub stands : (h : History T) → StandsFor m old h → StandsFor m new (delivered h signals)
 
--- no move of a graph is enabled
+-- no move of a graph is enabled, of all that the number of a node can name
 abbrev pub IsAllQuiet : {T : Type 0} → Meaning T → List (Subscription T) → Type 0
-IsAllQuiet m subs = (move : Move) → enabled_in_tree m subs (tree_of move) move ≡ false
+IsAllQuiet m subs = (move : Move) → number_of move < 2 ^ 32 → enabled_in_tree m subs (tree_of move) move ≡ false
 
 -- some move of a graph is enabled
 abbrev pub IsAnyAwake : {T : Type 0} → Meaning T → List (Subscription T) → Type 0

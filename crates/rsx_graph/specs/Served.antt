@@ -2,14 +2,14 @@
 use Rattle.std.specs.Prelude.{◌≡◌, List, [], ◌∷◌, Some}
 use Rattle.rsx_types.specs.Meaning.{Meaning}
 use Rattle.rsx_types.specs.Stream.{Stream}
-use Rattle.rsx_tree.specs.Balance.{IsWithin}
-use Rattle.rsx_tree.specs.Tree.{notes_of}
+use Rattle.rsx_pipe.specs.Tree.{IsWithin}
+use Rattle.rsx_pipe.specs.Tree.{notes_of}
 use Rattle.rsx_subscriber.specs.declared.subscription.Subscription.{Subscription}
 use Rattle.rsx_subscriber.specs.Holds.{IsServed}
 use Rattle.rsx_subscriber.specs.Past.{Past, IsLive}
 use Rattle.rsx_subscriber.specs.Stands.{evaluated}
 
--- each live subscriber did, as long as no edge of its tree has carried 2^63-1 items
+-- each live subscriber did, as long as no edge of its tree has carried 2^63-1 items and each of its nodes has a number
 abbrev pub AllServed : {T : Type 0} → Meaning T → List (Stream T) → List (Subscription T) → List (Past T) → Type 0
 AllServed m published [] [] = Unit {0}
 AllServed {T} m published (s ∷ ss) (p ∷ ps) =

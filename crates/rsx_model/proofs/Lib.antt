@@ -1,2 +1,3 @@
 pub mod Unfold
-mod Examples
+pub mod Steps
+pub mod Laws

@@ -2,5 +2,5 @@
 pub mod Shape
 pub mod Check
 pub mod Eval
-pub mod Numbers
 pub mod Answer
+pub mod Laws

@@ -3,6 +3,10 @@
 use rsx_types::Stage;
 
 /// An expression: a tree of operators.
+///
+/// A bad one can be of any depth, and is refused (`check_expr`, `scratch`) without going deeper than the limit of 32
+/// nodes. Dropping it takes some stack for each level, as do `nodes_of` and `leaves_of`: at a depth of some 100,000 nodes
+/// that can end the program.
 #[derive(Drop)]
 pub enum Expr<T> {
     /// These items, and then the completion: at most 1,024.

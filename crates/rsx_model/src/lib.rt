@@ -3,18 +3,19 @@
 //!
 //! An expression is a tree of operators over lists and ranges. Its nodes are counted from 0 in pre-order, and what
 //! a node recorded stands in a list of notes at its number. The definitions that contracts cite stand in `specs/`:
-//! `Shape` (nodes, depth, leaves), `Check` (which expressions are refused, and why), `Eval` (the value of an expression)
-//! and `Answer` (what the evaluator answers). `proofs/Unfold` has each definition one level down, and the induction by
+//! `Shape` (nodes, depth, leaves), `Check` (which expressions are refused, and why), `Eval` (the value of an expression),
+//! `Answer` (what the evaluator answers) and `Laws` (what `scan`, `buffer` and `distinct` give, in the words of lists; and
+//! that no expression fails with a bad request). `proofs/Unfold` has each definition one level down, and the induction by
 //! the children.
 
 mod check;
 mod evaluate;
 mod expr;
+mod law;
 mod plain;
-#[cfg(test)]
-mod tests;
 
 pub use check::{BadExpr, check_expr, leaves_of, nodes_of};
 pub use evaluate::{ScratchRefusal, scratch};
 pub use expr::Expr;
+pub use law::{buffer_cuts, distinct_keeps_first, never_a_bad_request, scan_folds};
 pub use rsx_types::{Choices, Note, Stage, StreamValue};

@@ -145,12 +145,17 @@ fn with_last_list<O: Ops>(
 ) -> Result<StreamValue<O::Item>, NoMemory>
     ensures { IfOk result (λ v. v ≡ items_then lists.items (last_list (O.meaning ops.now).list_of started.items ending)) }
 {
-    let mut out = lists;
-    match ending {
-        Ending::Done if !started.is_empty() => out.push(ops.list(alloc, started.as_slice())?)?,
-        _ => {}
+    if started.is_empty() {
+        return Ok(StreamValue::new(lists, ending));
     }
-    Ok(StreamValue::new(out, ending))
+    match ending {
+        Ending::Done => {
+            let mut out = lists;
+            out.push(ops.list(alloc, started.as_slice())?)?;
+            Ok(StreamValue::new(out, ending))
+        }
+        Ending::Open | Ending::Failed(_) => Ok(StreamValue::new(lists, ending)),
+    }
 }
 
 /// The first item of each key, up to the first fault.

@@ -1,3 +1,6 @@
+-- Lemmas about parts.
 pub mod Looks
+pub mod Numbers
 pub mod Parts
 pub mod Signals
+pub mod Trees

@@ -1,7 +1,8 @@
 -- How each move keeps what a part stands for.
-use Rattle.std.proofs.Common.{◌≡◌, ◌⊎◌, inl, inr, ℕ, zero, suc, ◌+◌, ◌-◌, ◌<◌, ◌≤◌, min, Bool, true, false, ◌&&◌, nat_eq, nat_lt, if◌then◌else◌, List, [], ◌∷◌, ◌++◌, length, length-append, take, map, option_map, Option, Some, None, Ok, refl, ap, sym, ◌∙◌, subst, arith, append_assoc, add-zero}
+use Rattle.std.proofs.Common.{◌≡◌, ◌⊎◌, inl, inr, ℕ, zero, suc, ◌+◌, ◌-◌, ◌<◌, ◌≤◌, min, Bool, true, false, ◌&&◌, nat_eq, nat_lt, ◌^◌, if◌then◌else◌, List, [], ◌∷◌, ◌++◌, length, length-append, take, map, option_map, Option, Some, None, Result, Ok, Err, refl, ap, sym, ◌∙◌, subst, arith, append_assoc, add-zero}
 use Rattle.std.proofs.lemmas.Bool.Decides.{nat_tests}
 use Rattle.std.proofs.lemmas.List.{append-nil, take_all}
+use Rattle.rsx_demand.specs.Demand.{saturating_total}
 use Rattle.rsx_model.specs.declared.expr.Expr.{Expr}
 use Rattle.rsx_types.specs.Meaning.{Meaning}
 use Rattle.rsx_types.specs.Notes.{unchosen, notes_then}
@@ -16,23 +17,31 @@ use Rattle.rsx_types.specs.declared.signal.Signal.{Signal}
 use Rattle.rsx_types.specs.declared.signal.Signal.TheVariants.{Next, Complete, Error}
 use Rattle.rsx_sources.specs.Machine.{front_of}
 use Rattle.rsx_sources.specs.declared.machine.Front.{Front}
-use Rattle.rsx_tree.specs.Balance.{IsBalanced, IsBalancedAfter, IsWithin}
-use Rattle.rsx_tree.specs.Built.{IsBuilt}
-use Rattle.rsx_tree.specs.Driven.{IsDriven}
-use Rattle.rsx_edge.specs.Edges.{edge_view, EdgeView, passed, is_live, closed_view, closed_state}
-use Rattle.rsx_pipe.specs.Output.{items_in, IsUnended, values_then}
-use Rattle.rsx_pipe.specs.Part.{PartStands, IsPutOut, IsRootSent, IsMade, IsMoved, IsMovedBy, IsPumped, IsQuiet, IsAwake, IsDelivered, IsServed, IsSpent, HasEnded, IsAsk, IsSend, IsEffect, GoesOut, send_enabled, move_enabled, has_room, evaluated}
-use Rattle.rsx_tree.specs.Tree.{comes_out, notes_of, offers, edges, can_ask, can_send, can_go, want_at, front_at, ended_at, IsAllClosed, IsKept, IsAdvanced, IsAskedAt, IsSentAt, IsIdle, IsBusy}
-use Rattle.rsx_edge.specs.declared.edge.Edge.{Edge}
-use Rattle.rsx_edge.specs.declared.edge.EdgeState.{EdgeState}
-use Rattle.rsx_edge.specs.declared.edge.EdgeState.TheVariants.{Live, Closed, Ended}
-use Rattle.rsx_tree.specs.declared.node.Node.{Node}
+use Rattle.rsx_node.specs.Built.{IsBuilt, fresh_edge, fresh_edges}
+use Rattle.rsx_tree.specs.Edges.{changed_at, asked_up_to, edge_view, EdgeView, passed, is_live, closed_view, closed_state, can_pass}
+use Rattle.rsx_pipe.specs.Output.{items_in, IsUnended, IsOrderly, values_then}
+use Rattle.rsx_pipe.specs.Part.{PartStands, IsPutOut, IsRootSent, IsMade, IsMoved, IsMovedBy, IsPumped, IsQuiet, IsAwake, IsDelivered, IsServed, IsSpent, HasEnded, IsAsk, IsSend, IsEffect, GoesOut, all_edges, sent_at, ask_enabled, send_enabled, move_enabled, has_room, number_of, evaluated}
+use Rattle.rsx_pipe.specs.Tree.{AnyTree, comes_out, notes_of, offers, edges, edges_after, can_ask, can_send, can_go, want_at, want_in, front_at, front_in, ended_at, IsAllClosed, IsKept, IsLetGo, IsAdvanced, IsAskedAt, IsSentAt, IsDriven, IsIdle, IsBusy, IsBalanced, IsBalancedAfter, IsWithin}
+use Rattle.rsx_tree.specs.declared.edge.Edge.{Edge}
+use Rattle.rsx_tree.specs.declared.edge.EdgeState.{EdgeState}
+use Rattle.rsx_tree.specs.declared.edge.EdgeState.TheVariants.{Live, Closed, Ended}
 use Rattle.rsx_pipe.specs.declared.part.Part.{Part}
 use Rattle.rsx_pipe.specs.declared.part.Pumped.{Pumped}
 use Rattle.rsx_pipe.specs.declared.part.Pumped.TheVariants.{Idle, Budget}
-use Rattle.rsx_tree.proofs.Balances.{offers_more, can_pass_live, above_zero, suc_minus}
+use Rattle.rsx_node.specs.Any.{any_machine}
+use Rattle.rsx_tree.specs.Balance.{IsStill}
+use Rattle.rsx_node.specs.Laws.{any_ending_waits, any_hungry}
+use Rattle.rsx_tree.specs.Inputs.{size, wanted_at, can_ask_in, can_send_in, edges as edges_in}
+use Rattle.rsx_tree.proofs.Changes.{chosen_second}
+use Rattle.rsx_tree.proofs.Idles.{idle_offers, can_pass_live, place_none, less_or_more}
+use Rattle.rsx_pipe.proofs.Numbers.{above_zero, suc_minus}
 use Rattle.rsx_pipe.proofs.Signals.{IsOrderly-more, IsUnended-more, IsUnended-last, items_in-append, map_then-last, prefix_of_orderly, cut_value}
-use Rattle.rsx_tree.proofs.Trees.{pass_live, front_there, above_root, sent_all, asked_all, at_zero, advanced_not_closed, ask_not_closed, send_not_closed, go_live, and_right, notes_then-unchosen, notes_then-unrecorded, unchosen_notes}
+use Rattle.rsx_tree.proofs.Shut.{pass_live, and_right}
+use Rattle.rsx_pipe.proofs.Trees.{advanced_not_closed, ask_not_closed, send_not_closed, go_live, notes_then-unchosen, notes_then-unrecorded, unchosen_notes, still_tree}
+use Rattle.rsx_pipe.proofs.Numbers.{front_there, above_root, asked_all, at_zero}
+
+never : (b : Bool) → b ≡ true → b ≡ false → ⊥
+never b x y = cc
 
 -- ---- what goes out
 
@@ -48,7 +57,9 @@ put_out_none m part published e joins output h = same_output m published part e 
 pub put_out_kept : {T : Type 0} (m : Meaning T) (old new : Part T) → IsKept m old.tree new.tree → ((sent : ℕ) → IsBalanced old.tree sent → IsBalanced new.tree sent) → new.root ≡ old.root → (IsAllClosed old.tree → ⊥) → IsPutOut m old [] new
 put_out_kept m old new k balance root alive published e joins output h =
     same_output m published new e joins output (record {
-      value = λ more further len. rw (k.notes, k.value (values_then published more) further 0) (h.value more further (rw k.notes at len));
+      value = λ more further len.
+          ap (λ o. option_map (signals_then output) o) (k.value (values_then published more) further 0)
+          ∙ (h.value more further (len ∙ ap length k.notes) ∙ ap (λ ns. evaluated m (values_then published more) joins e (notes_then ns further)) (sym k.notes));
       orderly = h.orderly;
       unended = rw root h.unended;
       ended = rw root h.ended;
@@ -103,8 +114,9 @@ put_out_sent {T} m old new queue queue' k published e joins output h =
     let live_item : new.root.state ≡ Live → (x : T) × (k.signal ≡ Next x) = λ l. passed_live (edge_view old.root) k.signal (sym (ap (λ v. v.state) r.view) ∙ l) in
     record {
       value = λ more further len.
-          rw (map_then-last output k.signal (comes_out m (values_then published more) further new.tree 0), k.gone.notes, ← k.gone.value (values_then published more) further 0)
-          (h.value more further (rw k.gone.notes at len));
+          map_then-last output k.signal (comes_out m (values_then published more) further new.tree 0)
+          ∙ (ap (λ o. option_map (signals_then output) o) (sym (k.gone.value (values_then published more) further 0))
+          ∙ (h.value more further (len ∙ ap length k.gone.notes) ∙ ap (λ ns. evaluated m (values_then published more) joins e (notes_then ns further)) (sym k.gone.notes)));
       orderly = IsOrderly-more output k.signal open_before;
       unended = λ l. let x = live_item l in rw x.1 (IsUnended-more output x.0 open_before);
       ended = λ c u. let x = IsUnended-last output k.signal u in passed_last (edge_view old.root) k.signal r.was_live (sym (ap (λ v. v.state) r.view) ∙ c) x.0 x.1;
@@ -120,22 +132,29 @@ put_out_sent {T} m old new queue queue' k published e joins output h =
 
 -- what was asked over the root edge rises
 pub put_out_asked : {T : Type 0} (m : Meaning T) (old new : Part T) → new.tree ≡ old.tree → new.root.state ≡ old.root.state → new.root.demand.sent ≡ old.root.demand.sent → IsPutOut m old [] new
-put_out_asked m old new tree state sent published e joins output h =
+put_out_asked {T} m old new tree state sent published e joins output h =
+    let V : AnyTree T → Type 0 = λ t. (more : List (Stream T)) (further : List Note) → length further ≡ length (notes_of t) →
+    option_map (signals_then output) (comes_out m (values_then published more) further t 0) ≡ evaluated m (values_then published more) joins e (notes_then (notes_of t) further) in
+    let B : AnyTree T → Type 0 = λ t. IsBalanced t old.root.demand.sent in
+    let S : ℕ → Type 0 = λ k. IsBalanced new.tree k in
+    let C : AnyTree T → Type 0 = λ t. IsAllClosed t in
     same_output m published new e joins output (record {
-      value = rw tree h.value;
+      value = subst V (sym tree) h.value;
       orderly = h.orderly;
-      unended = rw state h.unended;
-      ended = rw state h.ended;
-      counted = rw sent h.counted;
-      balance = rw (state, tree, sent) h.balance;
-      closed = rw (state, tree) h.closed;
+      unended = λ l. h.unended (sym state ∙ l);
+      ended = λ x. h.ended (sym state ∙ x);
+      counted = h.counted ∙ sym sent;
+      balance = λ l. subst S (sym sent) (subst B (sym tree) (h.balance (sym state ∙ l)));
+      closed = λ x. subst C (sym tree) (h.closed (sym state ∙ x));
     })
 
 -- the part is closed
 pub put_out_closed : {T : Type 0} (m : Meaning T) (old new : Part T) → IsKept m old.tree new.tree → IsAllClosed new.tree → edge_view new.root ≡ closed_view (edge_view old.root) → IsPutOut m old [] new
 put_out_closed m old new k closed root published e joins output h =
     same_output m published new e joins output (record {
-      value = λ more further len. rw (k.notes, k.value (values_then published more) further 0) (h.value more further (rw k.notes at len));
+      value = λ more further len.
+          ap (λ o. option_map (signals_then output) o) (k.value (values_then published more) further 0)
+          ∙ (h.value more further (len ∙ ap length k.notes) ∙ ap (λ ns. evaluated m (values_then published more) joins e (notes_then ns further)) (sym k.notes));
       orderly = h.orderly;
       unended = λ l. absurd (never_live (edge_view old.root) (sym (ap (λ v. v.state) root) ∙ l));
       ended = λ x. h.ended (was_ended (edge_view old.root) (sym (ap (λ v. v.state) root) ∙ x));
@@ -195,24 +214,31 @@ pumped_on m n k a b c q q' q'' x y = record {
 
 -- ---- one move
 
-pub sent_below_root : {T : Type 0} (m : Meaning T) (old : Part T) (tree : Node T) (at : ℕ) → 0 < at → IsSentAt m old.tree (at - 1) tree → IsSend m old at [] (record { tree = tree; root = old.root })
+pub sent_below_root : {T : Type 0} (m : Meaning T) (old : Part T) (tree : AnyTree T) (at : ℕ) → 0 < at → IsSentAt m old.tree (at - 1) tree → IsSend m old at [] (record { tree = tree; root = old.root })
 sent_below_root {T} m old tree at z k =
     let Q : Bool → Type 0 = λ b. GoesOut m old b [] in
+    let not : nat_eq at 0 ≡ false = above_root at z in
+    let ended : Bool = ended_at tree (at - 1) in
+    let same : (if nat_eq at 0 then false else ended) ≡ ended = chosen_second (nat_eq at 0) false ended not in
+    let there : sent_at ended k.front old at ≡ edge_view old.root ∷ edges_after ended k.front old.tree (at - 1) = chosen_second (nat_eq at 0) _ _ not in
     record {
       front = k.front;
-      carries = front_there at (option_map front_of (offers m old.tree)) (front_at m old.tree (at - 1)) k.front z k.offered;
-      edges = sent_all (edge_view old.root) (edges old.tree) (edges tree) at (ended_at tree (at - 1)) k.front z k.edges;
-      goes = subst Q (sym (above_root at z)) refl;
+      carries = front_there at (option_map front_of (offers m old.tree)) (front_at m old.tree (at - 1)) k.front z (ap (front_in m) k.is ∙ k.offered);
+      edges = ap (λ l. edge_view old.root ∷ l) k.edges ∙ (sym there ∙ ap (λ v. sent_at v k.front old at) (sym same));
+      goes = subst Q (sym not) refl;
     }
 
-pub asked_below_root : {T : Type 0} (old : Part T) (tree : Node T) (at : ℕ) → 0 < at → IsAskedAt old.tree (at - 1) old.root.demand.asked old.root.demand.sent tree → IsAsk old at (record { tree = tree; root = old.root })
-asked_below_root old tree at z k = asked_all (edge_view old.root) (edges old.tree) (edges tree) at (want_at old.tree (at - 1) old.root.demand.asked old.root.demand.sent) old.root.demand.asked z k
+pub asked_below_root : {T : Type 0} (old : Part T) (tree : AnyTree T) (at : ℕ) → 0 < at → IsAskedAt old.tree (at - 1) old.root.demand.asked old.root.demand.sent tree → IsAsk old at (record { tree = tree; root = old.root })
+asked_below_root old tree at z k =
+    let want : wanted_at any_machine k.there ≡ want_at old.tree (at - 1) old.root.demand.asked old.root.demand.sent = sym (ap want_in k.is) in
+    asked_all (edge_view old.root) (edges old.tree) (edges tree) at (want_at old.tree (at - 1) old.root.demand.asked old.root.demand.sent) old.root.demand.asked z
+    (k.edges ∙ ap (λ w. changed_at (asked_up_to w) (at - 1) (edges old.tree)) want)
 
 pub sent_root : {T : Type 0} (m : Meaning T) (old new : Part T) (queue queue' : List (Signal T)) → (k : IsRootSent m old queue new queue') → IsSend m old 0 (k.signal ∷ []) new
 sent_root m old new queue queue' k = record {
   front = k.front;
   carries = k.offered;
-  edges = ap (λ e. e ∷ edges new.tree) k.passed ∙ ap (λ es. passed (edge_view old.root) k.front ∷ es) k.gone.edges;
+  edges = ap (λ e. e ∷ edges new.tree) k.passed ∙ ap (λ t. passed (edge_view old.root) k.front ∷ edges_in t) (sym k.gone.popped.1);
   goes = (k.signal, k.gone.offered, refl);
 }
 
@@ -247,7 +273,7 @@ pumped_root m old new queue queue' k = record {
   unclosed = λ _. root_unclosed m old new queue queue' k;
 }
 
-pub moved_below : {T : Type 0} (m : Meaning T) (old : Part T) (tree : Node T) (queue : List (Signal T)) → IsAdvanced m old.tree old.root.demand.asked old.root.demand.sent tree → IsMoved m old queue [] (record { tree = tree; root = old.root }) queue
+pub moved_below : {T : Type 0} (m : Meaning T) (old : Part T) (tree : AnyTree T) (queue : List (Signal T)) → IsAdvanced m old.tree old.root.demand.asked old.root.demand.sent tree → IsMoved m old queue [] (record { tree = tree; root = old.root }) queue
 moved_below {T} m old tree queue a =
     let asked : ℕ = old.root.demand.asked in
     let sent : ℕ = old.root.demand.sent in
@@ -261,12 +287,15 @@ moved_below {T} m old tree queue a =
         effect = (refl, asked_below_root old tree (a.at + 1) above (subst A (sym (suc_minus a.at)) k.1));
         queued = sym (append-nil queue);
       }
-      | inr k ↦ record {
-        move = Send (Sub (record { 0 = 0 })) (record { 0 = a.at + 1 });
-        enabled = above_zero a.at (has_room queue && can_go (edge_view old.root) (option_map front_of (offers m old.tree))) (can_send m old.tree ((a.at + 1) - 1)) ∙ ap (λ i. can_send m old.tree i) (suc_minus a.at) ∙ k.0;
-        effect = sent_below_root m old tree (a.at + 1) above (subst S (sym (suc_minus a.at)) k.1);
-        queued = sym (append-nil queue);
-      }
+      | inr y ↦ elim y [
+        | inl k ↦ record {
+          move = Send (Sub (record { 0 = 0 })) (record { 0 = a.at + 1 });
+          enabled = above_zero a.at (has_room queue && can_go (edge_view old.root) (option_map front_of (offers m old.tree))) (can_send m old.tree ((a.at + 1) - 1)) ∙ ap (λ i. can_send m old.tree i) (suc_minus a.at) ∙ k.0;
+          effect = sent_below_root m old tree (a.at + 1) above (subst S (sym (suc_minus a.at)) k.1);
+          queued = sym (append-nil queue);
+        }
+        | inr k ↦ absurd (never true refl (sym k.0))
+      ]
     ]
 
 -- what a call that makes a move gives
@@ -310,7 +339,7 @@ made_below {T} m move tree n old new queue e z effect stands root =
 pub fresh_part : {T : Type 0} (m : Meaning T) (published : List (Stream T)) (e : Expr T) (part : Part T) → IsBuilt m e part.tree → part.root.state ≡ Live → part.root.demand.sent ≡ 0 → PartStands m published part e [] []
 fresh_part m published e part b l s = record {
   value = λ more further len.
-      rw (notes_then-unrecorded (notes_of part.tree) further b.notes len) (map_same (comes_out m (values_then published more) further part.tree 0) ∙ b.value (values_then published more) [] further 0 0);
+      rw (notes_then-unrecorded (notes_of part.tree) further b.notes len) (map_same (comes_out m (values_then published more) further part.tree 0) ∙ b.value (values_then published more) (values_then published more) [] further 0 0);
   orderly = tt;
   unended = λ _. tt;
   ended = λ x. let k = l in cc;
@@ -347,24 +376,24 @@ moved_alive {T} m old new queue queue' out k closed shut = by_move k.move k.enab
 
 -- ---- many moves of the tree
 
-pub driven_kept : {T : Type 0} (m : Meaning T) (n : ℕ) (old new : Node T) (asked sent : ℕ) → IsDriven m n old asked sent new → IsKept m old new
-driven_kept {T} m zero old new asked sent d = let P : Node T → Type 0 = λ t. IsKept m old t in subst P (sym d) (record { value = λ hubs further at. refl; notes = refl })
+pub driven_kept : {T : Type 0} (m : Meaning T) (n : ℕ) (old new : AnyTree T) (asked sent : ℕ) → IsDriven m n old asked sent new → IsKept m old new
+driven_kept {T} m zero old new asked sent d = let P : AnyTree T → Type 0 = λ t. IsKept m old t in subst P (sym d) (record { value = λ hubs further at. refl; notes = refl })
 driven_kept m (suc n) old new asked sent d =
-    let a = d.1.kept in
+    let a = d.1.kept refl in
     let b = driven_kept m n d.0 new asked sent d.2 in
     record { value = λ hubs further at. b.value hubs further at ∙ a.value hubs further at; notes = b.notes ∙ a.notes }
 
-driven_moves : {T : Type 0} (m : Meaning T) (n : ℕ) (root : Edge) (old new : Node T) (queue : List (Signal T)) → IsDriven m n old root.demand.asked root.demand.sent new → IsMovedBy m n (record { tree = old; root = root }) queue [] (record { tree = new; root = root }) queue
+driven_moves : {T : Type 0} (m : Meaning T) (n : ℕ) (root : Edge) (old new : AnyTree T) (queue : List (Signal T)) → IsDriven m n old root.demand.asked root.demand.sent new → IsMovedBy m n (record { tree = old; root = root }) queue [] (record { tree = new; root = root }) queue
 driven_moves m zero root old new queue d = (refl, ap (λ t. record { tree = t; root = root }) d, refl)
 driven_moves m (suc n) root old new queue d =
     (record { tree = d.0; root = root }, [], queue, [], moved_below m (record { tree = old; root = root }) d.0 queue d.1, driven_moves m n root d.0 new queue d.2, refl)
 
-driven_put_out : {T : Type 0} (m : Meaning T) (n : ℕ) (root : Edge) (old new : Node T) → IsDriven m n old root.demand.asked root.demand.sent new → ((s : ℕ) → IsBalanced old s → IsBalanced new s) → IsPutOut m (record { tree = old; root = root }) [] (record { tree = new; root = root })
-driven_put_out {T} m zero root old new d balance = let P : Node T → Type 0 = λ t. IsPutOut m (record { tree = old; root = root }) [] (record { tree = t; root = root }) in subst P (sym d) (put_out_none m (record { tree = old; root = root }))
+driven_put_out : {T : Type 0} (m : Meaning T) (n : ℕ) (root : Edge) (old new : AnyTree T) → IsDriven m n old root.demand.asked root.demand.sent new → ((s : ℕ) → IsBalanced old s → IsBalanced new s) → IsPutOut m (record { tree = old; root = root }) [] (record { tree = new; root = root })
+driven_put_out {T} m zero root old new d balance = let P : AnyTree T → Type 0 = λ t. IsPutOut m (record { tree = old; root = root }) [] (record { tree = t; root = root }) in subst P (sym d) (put_out_none m (record { tree = old; root = root }))
 driven_put_out m (suc n) root old new d balance =
     put_out_kept m (record { tree = old; root = root }) (record { tree = new; root = root }) (driven_kept m (suc n) old new root.demand.asked root.demand.sent d) balance refl (advanced_not_closed m old d.0 root.demand.asked root.demand.sent d.1)
 
-pub pumped_driven : {T : Type 0} (m : Meaning T) (n : ℕ) (old : Part T) (tree : Node T) (queue : List (Signal T)) → IsDriven m n old.tree old.root.demand.asked old.root.demand.sent tree → ((s : ℕ) → IsBalanced old.tree s → IsBalanced tree s) → IsPumped m n old queue (record { tree = tree; root = old.root }) queue
+pub pumped_driven : {T : Type 0} (m : Meaning T) (n : ℕ) (old : Part T) (tree : AnyTree T) (queue : List (Signal T)) → IsDriven m n old.tree old.root.demand.asked old.root.demand.sent tree → ((s : ℕ) → IsBalanced old.tree s → IsBalanced tree s) → IsPumped m n old queue (record { tree = tree; root = old.root }) queue
 pumped_driven m n old tree queue d balance = record {
   out = [];
   queued = sym (append-nil queue);
@@ -377,39 +406,43 @@ pumped_driven m n old tree queue d balance = record {
 -- ---- where no move is enabled
 
 pub quiet_when : {T : Type 0} (m : Meaning T) (part : Part T) (queue : List (Signal T)) → send_enabled m part queue 0 ≡ false → IsIdle m part.tree part.root.demand.asked part.root.demand.sent → IsQuiet m part queue
-quiet_when m part queue r t (Ask tree n) = at_zero n.0 false (can_ask part.tree (n.0 - 1) part.root.demand.asked part.root.demand.sent) false refl (t (n.0 - 1)).0
-quiet_when m part queue r t (Send tree n) = at_zero n.0 (has_room queue && can_go (edge_view part.root) (option_map front_of (offers m part.tree))) (can_send m part.tree (n.0 - 1)) false r (t (n.0 - 1)).1
-quiet_when m part queue r t (Take tree n) = refl
+quiet_when m part queue r t (Ask tree n) l = at_zero n.0 false (can_ask part.tree (n.0 - 1) part.root.demand.asked part.root.demand.sent) false refl (t (n.0 - 1) (omega (arith, l))).0
+quiet_when m part queue r t (Send tree n) l = at_zero n.0 (has_room queue && can_go (edge_view part.root) (option_map front_of (offers m part.tree))) (can_send m part.tree (n.0 - 1)) false r (t (n.0 - 1) (omega (arith, l))).1
+quiet_when m part queue r t (Take tree n) l = refl
 
 pub awake_root : {T : Type 0} (m : Meaning T) (part : Part T) (queue : List (Signal T)) → send_enabled m part queue 0 ≡ true → IsAwake m part queue
-awake_root m part queue h = (Send (Sub (record { 0 = 0 })) (record { 0 = 0 }), h)
+awake_root m part queue h = (Send (Sub (record { 0 = 0 })) (record { 0 = 0 }), omega arith, h)
 
-pub awake_tree : {T : Type 0} (m : Meaning T) (part : Part T) (queue : List (Signal T)) → IsBusy m part.tree part.root.demand.asked part.root.demand.sent → IsAwake m part queue
-awake_tree m part queue h = elim h.1 [
-  | inl a ↦ (Ask (Sub (record { 0 = 0 })) (record { 0 = h.0 + 1 }), above_zero h.0 false (can_ask part.tree ((h.0 + 1) - 1) part.root.demand.asked part.root.demand.sent) ∙ ap (λ i. can_ask part.tree i part.root.demand.asked part.root.demand.sent) (suc_minus h.0) ∙ a)
-  | inr s ↦ (Send (Sub (record { 0 = 0 })) (record { 0 = h.0 + 1 }), above_zero h.0 (has_room queue && can_go (edge_view part.root) (option_map front_of (offers m part.tree))) (can_send m part.tree ((h.0 + 1) - 1)) ∙ ap (λ i. can_send m part.tree i) (suc_minus h.0) ∙ s)
-]
+pub awake_ask : {T : Type 0} (m : Meaning T) (part : Part T) (queue : List (Signal T)) (n : ℕ) → n < 2 ^ 32 → ask_enabled part n ≡ true → IsAwake m part queue
+awake_ask m part queue n l h = (Ask (Sub (record { 0 = 0 })) (record { 0 = n }), l, h)
+
+pub awake_send : {T : Type 0} (m : Meaning T) (part : Part T) (queue : List (Signal T)) (n : ℕ) → n < 2 ^ 32 → send_enabled m part queue n ≡ true → IsAwake m part queue
+awake_send m part queue n l h = (Send (Sub (record { 0 = 0 })) (record { 0 = n }), l, h)
 
 -- ---- idle means delivered
 
-never : (b : Bool) → b ≡ true → b ≡ false → ⊥
-never b x y = cc
-
-idle_tree : {T : Type 0} (m : Meaning T) (part : Part T) (queue : List (Signal T)) → IsQuiet m part queue → IsIdle m part.tree part.root.demand.asked part.root.demand.sent
-idle_tree m part queue q at =
-    let a = q (Ask (Sub (record { 0 = 0 })) (record { 0 = at + 1 })) in
-    let s = q (Send (Sub (record { 0 = 0 })) (record { 0 = at + 1 })) in (
-      sym (ap (λ k. can_ask part.tree k part.root.demand.asked part.root.demand.sent) (suc_minus at)) ∙ (sym (above_zero at false (can_ask part.tree ((at + 1) - 1) part.root.demand.asked part.root.demand.sent)) ∙ a),
-      sym (ap (λ k. can_send m part.tree k) (suc_minus at)) ∙ (sym (above_zero at (has_room queue && can_go (edge_view part.root) (option_map front_of (offers m part.tree))) (can_send m part.tree ((at + 1) - 1))) ∙ s),
-    )
+idle_tree : {T : Type 0} (m : Meaning T) (part : Part T) (queue : List (Signal T)) → IsQuiet m part queue → IsWithin part.tree → IsIdle m part.tree part.root.demand.asked part.root.demand.sent
+idle_tree {T} m part queue q within at lt = elim (less_or_more at (size part.tree.inputs)) [
+  | inl w ↦
+      let small = within.0 in
+      let a = q (Ask (Sub (record { 0 = 0 })) (record { 0 = at + 1 })) (omega (arith, w, small)) in
+      let s = q (Send (Sub (record { 0 = 0 })) (record { 0 = at + 1 })) (omega (arith, w, small)) in (
+        sym (ap (λ k. can_ask part.tree k part.root.demand.asked part.root.demand.sent) (suc_minus at)) ∙ (sym (above_zero at false (can_ask part.tree ((at + 1) - 1) part.root.demand.asked part.root.demand.sent)) ∙ a),
+        sym (ap (λ k. can_send m part.tree k) (suc_minus at)) ∙ (sym (above_zero at (has_room queue && can_go (edge_view part.root) (option_map front_of (offers m part.tree))) (can_send m part.tree ((at + 1) - 1))) ∙ s),
+      )
+  | inr w ↦ (
+    ap (can_ask_in any_machine) (place_none part.tree.machine 0 part.root.demand.asked part.root.demand.sent part.tree.inputs at w),
+    ap (can_send_in any_machine m) (place_none part.tree.machine 0 0 0 part.tree.inputs at w),
+  )
+]
 
 -- over a live root edge with room behind it all that was asked for went
 sent_all_asked : {T : Type 0} (m : Meaning T) (part : Part T) (queue : List (Signal T)) → IsQuiet m part queue → part.root.state ≡ Live → length queue < 64 → IsBalanced part.tree part.root.demand.sent → IsWithin part.tree → part.root.demand.sent < part.root.demand.asked → ⊥
 sent_all_asked m part queue q live room b w less =
-    let s = offers_more m part.tree part.root.demand.asked part.root.demand.sent (idle_tree m part queue q) b less w in
+    let s = idle_offers any_machine m (any_ending_waits m) (any_hungry m) part.tree part.root.demand.asked part.root.demand.sent (idle_tree m part queue q w) (still_tree part.tree part.root.demand.asked part.root.demand.sent) b less w in
     let r : has_room queue ≡ true = grind (arith, nat_tests, room) in
     let goes : send_enabled m part queue 0 ≡ true = rw (r, s.1) (can_pass_live (edge_view part.root) (front_of s.0) (ap is_live live) less) in
-    never (send_enabled m part queue 0) goes (q (Send (Sub (record { 0 = 0 })) (record { 0 = 0 })))
+    never (send_enabled m part queue 0) goes (q (Send (Sub (record { 0 = 0 })) (record { 0 = 0 })) (omega arith))
 
 take_front : {A : Type 0} (xs rest : List A) (n : ℕ) → n ≡ length xs → take n (xs ++ rest) ≡ xs
 take_front [] rest n e = rw e refl

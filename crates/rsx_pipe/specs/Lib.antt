@@ -1,3 +1,4 @@
 -- Definitions that contracts cite.
 pub mod Output
 pub mod Part
+pub mod Tree

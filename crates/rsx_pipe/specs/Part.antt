@@ -1,5 +1,5 @@
 -- A part: a tree with the edge from its root. What it stands for, which of its moves are enabled, and what they change.
-use Rattle.std.specs.Prelude.{◌≡◌, ℕ, zero, suc, ◌+◌, ◌-◌, ◌<◌, ◌≤◌, min, Bool, true, false, ◌&&◌, nat_lt, nat_eq, if◌then◌else◌, List, [], ◌∷◌, ◌++◌, length, take, Option, Some, option_map, Result, Ok, Err}
+use Rattle.std.specs.Prelude.{◌≡◌, ◌⊎◌, ℕ, zero, suc, ◌+◌, ◌-◌, ◌<◌, ◌≤◌, ◌^◌, min, Bool, true, false, ◌&&◌, nat_lt, nat_eq, if◌then◌else◌, List, [], ◌∷◌, ◌++◌, length, take, Option, Some, None, option_map, Result, Ok, Err}
 use Rattle.rsx_model.specs.Eval.{environment, eval}
 use Rattle.rsx_model.specs.declared.expr.Expr.{Expr}
 use Rattle.rsx_types.specs.Meaning.{Meaning, Allocates}
@@ -13,11 +13,10 @@ use Rattle.rsx_types.specs.declared.signal.Ending.TheVariants.{Open}
 use Rattle.rsx_types.specs.declared.signal.Signal.{Signal}
 use Rattle.rsx_sources.specs.Machine.{front_of}
 use Rattle.rsx_sources.specs.declared.machine.Front.{Front}
-use Rattle.rsx_tree.specs.Balance.{IsBalanced, IsWithin}
-use Rattle.rsx_edge.specs.Edges.{edge_view, EdgeView, can_pass, IsPassed, changed_at, carried_at, asked_up_to}
+use Rattle.rsx_tree.specs.Edges.{edge_view, EdgeView, can_pass, IsPassed, passed, changed_at, asked_up_to}
 use Rattle.rsx_pipe.specs.Output.{items_in, IsUnended, IsOrderly, values_then}
-use Rattle.rsx_tree.specs.Tree.{comes_out, notes_of, offers, can_ask, can_send, can_go, IsAllClosed, IsLetGo, edges, want_at, front_at, ended_at, pop_allocates, send_allocates}
-use Rattle.rsx_edge.specs.declared.edge.EdgeState.TheVariants.{Live, Closed, Ended}
+use Rattle.rsx_pipe.specs.Tree.{comes_out, notes_of, offers, can_ask, can_send, can_go, IsAllClosed, IsLetGo, edges, edges_after, want_at, front_at, ended_at, pop_allocates, send_allocates, IsBalanced, IsWithin}
+use Rattle.rsx_tree.specs.declared.edge.EdgeState.TheVariants.{Live, Closed, Ended}
 use Rattle.rsx_pipe.specs.declared.part.Part.{Part}
 use Rattle.rsx_pipe.specs.declared.part.Pumped.{Pumped}
 use Rattle.rsx_pipe.specs.declared.part.Pumped.TheVariants.{Idle, Budget}
@@ -112,11 +111,17 @@ abbrev pub GoesOut : {T : Type 0} → Meaning T → Part T → Bool → List (Si
 GoesOut {T} m old true out = (s : Signal T) × (offers m old.tree ≡ Some s) × (out ≡ s ∷ [])
 GoesOut m old false out = out ≡ []
 
--- a Send: the offered signal went over this edge; where the receiver ended by it, all from there on is closed
+-- all edges after a signal went over this edge; where the receiver ended by it, all its inputs and all below them are closed
+abbrev pub sent_at : {T : Type 0} → Bool → Front → Part T → ℕ → List EdgeView
+sent_at ended front part at =
+    if nat_eq at 0 then passed (edge_view part.root) front ∷ edges part.tree
+    else edge_view part.root ∷ edges_after ended front part.tree (at - 1)
+
+-- a Send: the offered signal went over this edge; where the receiver ended by it, all its inputs and all below them are closed
 pub record IsSend {T : Type 0} (m : Meaning T) (old : Part T) (at : ℕ) (out : List (Signal T)) (new : Part T) : Type 0 where
   pub front : Front
   pub carries : offered m old at ≡ Some front
-  pub edges : all_edges new ≡ carried_at (receiver_ended new at) front at (all_edges old)
+  pub edges : all_edges new ≡ sent_at (receiver_ended new at) front old at
   pub goes : GoesOut m old (nat_eq at 0) out
 
 -- a move's effect, where these signals went over the root edge
@@ -177,13 +182,13 @@ pub record IsPumped {T : Type 0} (m : Meaning T) (count : ℕ) (old : Part T) (q
   pub asked : new.root.demand.asked ≡ old.root.demand.asked
   pub unclosed : (old.root.state ≡ Closed → ⊥) → new.root.state ≡ Closed → ⊥
 
--- no move of a part is enabled
+-- no move of a part that has a number is enabled
 abbrev pub IsQuiet : {T : Type 0} → Meaning T → Part T → List (Signal T) → Type 0
-IsQuiet m part queue = (move : Move) → move_enabled m part queue move ≡ false
+IsQuiet m part queue = (move : Move) → number_of move < 2 ^ 32 → move_enabled m part queue move ≡ false
 
--- some move of a part is enabled
+-- some move of a part that has a number is enabled
 abbrev pub IsAwake : {T : Type 0} → Meaning T → Part T → List (Signal T) → Type 0
-IsAwake m part queue = (move : Move) × (move_enabled m part queue move ≡ true)
+IsAwake m part queue = (move : Move) × (number_of move < 2 ^ 32) × (move_enabled m part queue move ≡ true)
 
 -- how driving a part ends after so many moves: Idle, with what is left of the budget, where no move is enabled; Budget where
 -- one is and the whole budget was spent

@@ -2,12 +2,12 @@
 
 ghost use Rattle.std.specs.Prelude.{◌≡◌, IfSome, true};
 
-use rsx_edge::{Edge, EdgeState};
 use rsx_model::Expr;
+use rsx_node::AnyNode;
+use rsx_node::build::build;
 use rsx_queue::{CAPACITY, SignalQueue};
 use rsx_sources::NotMade;
-use rsx_tree::Node;
-use rsx_tree::build::build;
+use rsx_tree::{Edge, EdgeState, Enabled, Node};
 use rsx_types::{Move, NoMemory, NodeId, Note, Ops, StreamValue, Tree};
 use std::alloc::Global;
 
@@ -28,7 +28,7 @@ pub enum Pumped {
 #[derive(Drop)]
 pub struct Part<T> {
     /// The tree.
-    pub tree: Node<T>,
+    pub tree: Node<AnyNode<T>>,
     /// The edge from the tree's root to its receiver.
     pub root: Edge,
 }
@@ -41,9 +41,9 @@ impl<T: Drop> Part<T> {
     ghost use Rattle.rsx_types.specs.Notes.{unchosen};
     ghost use Rattle.rsx_types.specs.Stream.{Stream};
     ghost use Rattle.rsx_sources.specs.Steps.{IsNotMade};
-    ghost use Rattle.rsx_tree.specs.Built.{fresh_edge, fresh_edges};
-    ghost use Rattle.rsx_edge.specs.Edges.{closed_view, edge_view};
-    ghost use Rattle.rsx_tree.specs.Tree.{comes_out, notes_of, can_send, pop_allocates, send_allocates, IsAllClosed};
+    ghost use Rattle.rsx_node.specs.Built.{fresh_edge, fresh_edges};
+    ghost use Rattle.rsx_tree.specs.Edges.{closed_view, edge_view};
+    ghost use Rattle.rsx_pipe.specs.Tree.{comes_out, notes_of, can_send, pop_allocates, send_allocates, IsAllClosed};
     ghost use Rattle.rsx_tree.specs.Driven.{Spent};
     ghost use Rattle.rsx_pipe.specs.Part.{PartStands, IsPutOut, IsMade, IsPumped, IsQuiet, IsAwake, IsSpent, IsRootSent, HasEnded, IsDelivered, make_allocates, number_of, all_edges, move_enabled, tree_of, ask_enabled, send_enabled, IsAsk, IsSend};
 
@@ -145,8 +145,14 @@ impl<T: Drop> Part<T> {
         if self.can_send_root(out) {
             return Some(Move::Send(tree, NodeId(0)));
         }
-        self.tree
-            .first_enabled(tree, 1, self.root.demand.asked, self.root.demand.sent)
+        match self
+            .tree
+            .first_enabled(1, self.root.demand.asked, self.root.demand.sent)
+        {
+            Some(Enabled::Ask(node)) => Some(Move::Ask(tree, NodeId(node))),
+            Some(Enabled::Send(node)) => Some(Move::Send(tree, NodeId(node))),
+            None => None,
+        }
     }
 
     /// Makes a move; what goes over the root edge goes into the queue `out`. The tree that the move names is the caller's to
@@ -342,8 +348,14 @@ impl<T: Drop> Part<T> {
         if self.can_send_root(out) {
             return false;
         }
-        self.tree
-            .is_idle(self.root.demand.asked, self.root.demand.sent)
+        match self
+            .tree
+            .first_enabled(1, self.root.demand.asked, self.root.demand.sent)
+        {
+            Some(Enabled::Ask(node)) => false,
+            Some(Enabled::Send(node)) => false,
+            None => true,
+        }
     }
 
     /// What the nodes recorded, in pre-order.
@@ -361,6 +373,7 @@ impl<T: Drop> Part<T> {
     ) -> Result<StreamValue<T>, NoMemory>
         ensures { IfOk result (λ v. (hubs : List (Stream T)) → comes_out (O.meaning ops.now) hubs (map unchosen (notes_of self.now.tree)) self.now.tree 0 ≡ Some v) }
     {
-        self.tree.residual(alloc, ops)
+        let none: [StreamValue<T>; 0] = [];
+        self.tree.residual(alloc, ops, &none)
     }
 }

@@ -100,36 +100,72 @@ not_over : (over : Bool) → (over ≡ true → false ≡ true) → over ≡ fal
 not_over true h = let f = h refl in cc
 not_over false h = refl
 
--- an item went in: what came out and what still comes out are the whole
-pub takes_item : {T : Type 0} (m : Meaning T) (old new : PlainState T) (x copy : T) (items : List T) (at : ℕ) (e last : Ending) (slot : List (Signal T)) (out out' : List T) (whole : Stream T) →
-    items_then out (plain_from m old (record { items = drop at items; ending = e })) ≡ whole → x ≡ get_or items at x → at < length items → copy ≡ x → Moves (plain_from m) old (Next copy) slot new → ((v : Stream T) → items_then out (signals_then slot v) ≡ items_then out' (ended_or last v)) →
-    items_then out' (ended_or last (plain_from m new (record { items = drop (at + 1) items; ending = e }))) ≡ whole
-takes_item {T} m old new x copy items at e last slot out out' whole h i b c v k =
-    let d : drop at items ≡ x ∷ drop (at + 1) items = rw add-one (drop-cons items at x b ∙ ap (λ y. y ∷ drop (suc at) items) (sym i)) in
-    let w : Stream T = record { items = drop (at + 1) items; ending = e } in
-    sym (k (plain_from m new w)) ∙ ap (items_then out) (sym (v w)) ∙ ap (λ y. items_then out (plain_from m old (signal_then (Next y) w))) c ∙ ap (λ l. items_then out (plain_from m old (record { items = l; ending = e }))) (sym d) ∙ h
+-- where nothing follows, the items that came out and the ending are all
+nothing_behind : {T : Type 0} (out : List T) (e : Ending) → items_then out (ended_by e) ≡ record { items = out; ending = e }
+nothing_behind out e = rw append-nil refl
 
--- none came out, so the operator is not over
-pub goes_on : {T : Type 0} (s : PlainState T) (slot : List (Signal T)) (last : Ending) → (is_over s ≡ true → has_ending slot ≡ true) → (has_ending slot ≡ true → has_ended last ≡ true) → last ≡ Open → is_over s ≡ false
-goes_on s slot last over ended o = not_over (is_over s) (λ t. let f : has_ended last ≡ true = ended (over t) in let e : has_ended last ≡ false = ap has_ended o in cc)
+-- a signal was answered by a slot, which was emptied
+pub takes_signal : {T S : Type 0} (from : S → Stream T → Stream T) (old new : S) (s : Signal T) (slot : List (Signal T)) (last : Ending) (out out' : List T) → Moves from old s slot new → ((v : Stream T) → items_then out (signals_then slot v) ≡ items_then out' (ended_or last v)) →
+    (v : Stream T) → items_then out (from old (signal_then s v)) ≡ items_then out' (ended_or last (from new v))
+takes_signal from old new s slot last out out' m k v = ap (items_then out) (m v) ∙ k (from new v)
 
--- an ending came out, and cuts what still comes out
-pub ends_at : {T : Type 0} (last : Ending) (out : List T) (v whole r : Stream T) → (last ≡ Open → ⊥) → items_then out (ended_or last v) ≡ whole → r.items ≡ out → r.ending ≡ last → r ≡ whole
-ends_at Open out v whole r n h p q = absurd (n refl)
-ends_at Done out v whole r n h p q = rw (← h, append-nil, ← p, ← q) refl
-ends_at (Failed c) out v whole r n h p q = rw (← h, append-nil, ← p, ← q) refl
+-- ---- of any operator
 
--- all items went in, and no ending follows
-pub stays_open : {T : Type 0} (m : Meaning T) (s : PlainState T) (items : List T) (at : ℕ) (e : Ending) (out : List T) (whole r : Stream T) →
-    items_then out (plain_from m s (record { items = drop at items; ending = e })) ≡ whole → is_over s ≡ false → length items ≤ at → ending_signals {T = T} e ≡ [] → r.items ≡ out → r.ending ≡ Open → r ≡ whole
-stays_open m s items at Open out whole r h o b n p q = rw (← h, drop_all at items b, open_after m s o, append-nil, ← p, ← q) refl
-stays_open m s items at Done out whole r h o b n p q = cc
-stays_open m s items at (Failed c) out whole r h o b n p q = cc
+item_in : {T S : Type 0} (from : S → Stream T → Stream T) (old new : S) (x copy : T) (items : List T) (at : ℕ) (e last : Ending) (out out' : List T) (whole : Stream T) →
+    items_then out (from old (record { items = drop at items; ending = e })) ≡ whole → x ≡ get_or items at x → at < length items → copy ≡ x → ((v : Stream T) → items_then out (from old (signal_then (Next copy) v)) ≡ items_then out' (ended_or last (from new v))) →
+    items_then out' (ended_or last (from new (record { items = drop (at + 1) items; ending = e }))) ≡ whole
+item_in {T} from old new x copy items at e last out out' whole h i b c k =
+    let d : x ∷ drop (at + 1) items ≡ drop at items = sym (rw add-one (drop-cons items at x b ∙ ap (λ y. y ∷ drop (suc at) items) (sym i))) in
+    let left : Stream T = record { items = drop (at + 1) items; ending = e } in
+    let named : items_then out (from old (record { items = copy ∷ drop (at + 1) items; ending = e })) ≡ items_then out (from old (record { items = x ∷ drop (at + 1) items; ending = e })) = ap (λ y. items_then out (from old (record { items = y ∷ drop (at + 1) items; ending = e }))) c in
+    let whole_left : items_then out (from old (record { items = x ∷ drop (at + 1) items; ending = e })) ≡ items_then out (from old (record { items = drop at items; ending = e })) = ap (λ l. items_then out (from old (record { items = l; ending = e }))) d in
+    sym (k left) ∙ named ∙ whole_left ∙ h
+
+open_in : {T S : Type 0} (from : S → Stream T → Stream T) (s : S) (items : List T) (at : ℕ) (e : Ending) (out : List T) (whole : Stream T) →
+    items_then out (from s (record { items = drop at items; ending = e })) ≡ whole → from s (ended_by Open) ≡ ended_by Open → length items ≤ at → e ≡ Open → whole ≡ record { items = out; ending = Open }
+open_in from s items at e out whole h o b n =
+    let none : from s (record { items = drop at items; ending = e }) ≡ from s (ended_by Open) = ap (λ f. from s (record { items = drop at items; ending = f })) n ∙ ap (λ l. from s (record { items = l; ending = Open })) (drop_all at items b) in
+    sym h ∙ ap (items_then out) (none ∙ o) ∙ nothing_behind out Open
 
 ending_in : {T : Type 0} (s : Signal T) (e : Ending) (v : Stream T) → s ∷ [] ≡ ending_signals e → ended_by e ≡ signal_then s v
 ending_in s Open v h = cc
 ending_in s Done v h = let k : s ≡ Complete = cc in rw k refl
 ending_in s (Failed c) v h = let k : s ≡ Error c = cc in rw k refl
+
+signal_in : {T S : Type 0} (from : S → Stream T → Stream T) (old new : S) (s : Signal T) (items : List T) (at : ℕ) (e last : Ending) (out out' : List T) (whole : Stream T) →
+    items_then out (from old (record { items = drop at items; ending = e })) ≡ whole → length items ≤ at → s ∷ [] ≡ ending_signals e → ((v : Stream T) → items_then out (from old (signal_then s v)) ≡ items_then out' (ended_or last (from new v))) →
+    ended_or last (from new (ended_by Open)) ≡ ended_by last → whole ≡ record { items = out'; ending = last }
+signal_in from old new s items at e last out out' whole h b i k closed =
+    let all : from old (record { items = drop at items; ending = e }) ≡ from old (signal_then s (ended_by Open)) = ap (λ l. from old (record { items = l; ending = e })) (drop_all at items b) ∙ ap (from old) (ending_in s e (ended_by Open) i) in
+    sym h ∙ ap (items_then out) all ∙ k (ended_by Open) ∙ ap (items_then out') closed ∙ nothing_behind out' last
+
+-- ---- of a plain operator
+
+-- an item went in: what came out and what still comes out are the whole
+pub takes_item : {T : Type 0} (m : Meaning T) (old new : PlainState T) (x copy : T) (items : List T) (at : ℕ) (e last : Ending) (out out' : List T) (whole : Stream T) →
+    items_then out (plain_from m old (record { items = drop at items; ending = e })) ≡ whole → x ≡ get_or items at x → at < length items → copy ≡ x → ((v : Stream T) → items_then out (plain_from m old (signal_then (Next copy) v)) ≡ items_then out' (ended_or last (plain_from m new v))) →
+    items_then out' (ended_or last (plain_from m new (record { items = drop (at + 1) items; ending = e }))) ≡ whole
+takes_item m = item_in (plain_from m)
+
+-- none came out, so the operator is not over
+pub goes_on : {T : Type 0} (s : PlainState T) (last : Ending) → (is_over s ≡ true → has_ended last ≡ true) → last ≡ Open → is_over s ≡ false
+goes_on s last over o = not_over (is_over s) (λ t. let f : has_ended last ≡ true = over t in let e : has_ended last ≡ false = ap has_ended o in cc)
+
+-- an ending came out, and cuts what still comes out
+pub ends_at : {T : Type 0} (last : Ending) (out : List T) (v whole : Stream T) → (last ≡ Open → ⊥) → items_then out (ended_or last v) ≡ whole → whole ≡ record { items = out; ending = last }
+ends_at Open out v whole n h = absurd (n refl)
+ends_at Done out v whole n h = sym h ∙ nothing_behind out Done
+ends_at (Failed c) out v whole n h = sym h ∙ nothing_behind out (Failed c)
+
+stays_so : {T : Type 0} (e : Ending) → ending_signals {T = T} e ≡ [] → e ≡ Open
+stays_so Open h = refl
+stays_so Done h = cc
+stays_so (Failed c) h = cc
+
+-- all items went in, and no ending follows
+pub stays_open : {T : Type 0} (m : Meaning T) (s : PlainState T) (items : List T) (at : ℕ) (e : Ending) (out : List T) (whole : Stream T) →
+    items_then out (plain_from m s (record { items = drop at items; ending = e })) ≡ whole → is_over s ≡ false → length items ≤ at → ending_signals {T = T} e ≡ [] → whole ≡ record { items = out; ending = Open }
+stays_open {T} m s items at e out whole h o b n = open_in (plain_from m) s items at e out whole h (open_after m s o) b (stays_so {T = T} e n)
 
 closed_by : {T : Type 0} (m : Meaning T) (s : PlainState T) (last : Ending) → (is_over s ≡ true → has_ended last ≡ true) → ended_or last (plain_from m s (ended_by Open)) ≡ ended_by last
 closed_by m s Open h = open_after m s (not_over (is_over s) h)
@@ -137,13 +173,15 @@ closed_by m s Done h = refl
 closed_by m s (Failed c) h = refl
 
 -- all items and the ending went in
-pub takes_ending : {T : Type 0} (m : Meaning T) (old new : PlainState T) (s : Signal T) (items : List T) (at : ℕ) (e last : Ending) (slot : List (Signal T)) (out out' : List T) (whole r : Stream T) →
-    items_then out (plain_from m old (record { items = drop at items; ending = e })) ≡ whole → length items ≤ at → s ∷ [] ≡ ending_signals e → Moves (plain_from m) old s slot new → (is_over new ≡ true → has_ending slot ≡ true) →
-    ((v : Stream T) → items_then out (signals_then slot v) ≡ items_then out' (ended_or last v)) → (has_ending slot ≡ true → has_ended last ≡ true) → r.items ≡ out' → r.ending ≡ last → r ≡ whole
-takes_ending m old new s items at e last slot out out' whole r h b i v over k ended p q =
-    let all = sym h ∙ ap (λ l. items_then out (plain_from m old (record { items = l; ending = e }))) (drop_all at items b) ∙ ap (λ w. items_then out (plain_from m old w)) (ending_in s e (ended_by Open) i) ∙ ap (items_then out) (v (ended_by Open)) ∙ k (plain_from m new (ended_by Open)) ∙ ap (items_then out') (closed_by m new last (λ o. ended (over o))) in
-    rw (all, append-nil, ← p, ← q) refl
+pub takes_ending : {T : Type 0} (m : Meaning T) (old new : PlainState T) (s : Signal T) (items : List T) (at : ℕ) (e last : Ending) (out out' : List T) (whole : Stream T) →
+    items_then out (plain_from m old (record { items = drop at items; ending = e })) ≡ whole → length items ≤ at → s ∷ [] ≡ ending_signals e → ((v : Stream T) → items_then out (plain_from m old (signal_then s v)) ≡ items_then out' (ended_or last (plain_from m new v))) →
+    (is_over new ≡ true → has_ended last ≡ true) → whole ≡ record { items = out'; ending = last }
+takes_ending m old new s items at e last out out' whole h b i k over = signal_in (plain_from m) old new s items at e last out out' whole h b i k (closed_by m new last over)
 
 -- the operator is over at once
 pub over_at_once : {T : Type 0} (m : Meaning T) (s : PlainState T) (v : Stream T) (out : List T) (r : Stream T) → is_over s ≡ true → r.items ≡ out → r.ending ≡ Done → r ≡ items_then out (plain_from m s v)
 over_at_once m s v out r o p q = rw (over_done m s o v, append-nil, ← p, ← q) refl
+
+-- what was put together is the whole
+pub is_whole : {T : Type 0} (r whole : Stream T) (out : List T) (last : Ending) → r.items ≡ out → r.ending ≡ last → whole ≡ record { items = out; ending = last } → r ≡ whole
+is_whole r whole out last p q h = rw (h, ← p, ← q) refl

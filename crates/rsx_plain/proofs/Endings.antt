@@ -1,10 +1,8 @@
 -- Where an ending stands in the slot.
 use Rattle.std.proofs.Common.{◌≡◌, ◌≤◌, Bool, true, false, ◌||◌, List, [], ◌∷◌, length, Some, None, refl, ap, arith}
 use Rattle.std.specs.Prelude.{slice_get}
-use Rattle.std.specs.List.{list_any}
 use Rattle.rsx_types.specs.declared.signal.Signal.{Signal}
 use Rattle.rsx_types.specs.declared.signal.Signal.TheVariants.{Next, Complete, Error}
-use Rattle.rsx_types.specs.Stream.{Stream, item_then, signals_then}
 use Rattle.rsx_plain.specs.Moves.{is_ending, has_ending}
 
 -- ---- at most two signals, one by one
@@ -34,10 +32,3 @@ ended_second (a ∷ b ∷ []) s t ends l g e h f =
     alone true = refl
     alone false = refl
 ended_second (a ∷ b ∷ c ∷ ss) s t ends l g e h f = absurd (omega (arith, l))
-
--- where an ending stands in the slot, what the operator would give does not come out
-pub ended_slot : {T : Type 0} (slot : List (Signal T)) (v w : Stream T) → true ≡ list_any is_ending slot → signals_then slot v ≡ signals_then slot w
-ended_slot [] v w h = cc
-ended_slot (Next x ∷ ss) v w h = ap (item_then x) (ended_slot ss v w h)
-ended_slot (Complete ∷ ss) v w h = refl
-ended_slot (Error c ∷ ss) v w h = refl

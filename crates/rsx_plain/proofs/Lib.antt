@@ -1,3 +1,4 @@
+pub mod Balance
 pub mod Counts
 pub mod Drained
 pub mod Residuals

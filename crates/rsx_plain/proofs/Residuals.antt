@@ -62,10 +62,10 @@ rest_behind {T} m n inc items at first r i h e o =
         let all = sym (i (plain_from m n.state first)) ∙ ap (λ l. items_then items (signals_then l (plain_from m n.state first))) (drop_all at n.slot h) in
         rw (f, e, all, g) refl
 
-pub first_is : {T : Type 0} (vs : List (Stream T)) (v : Stream T) → Some v ≡ slice_get vs 0 → (incoming_of vs).first ≡ v
-first_is [] v h = cc
-first_is (w ∷ vs) v h = cc
+pub first_is : {T : Type 0} (hubs vs : List (Stream T)) (v : Stream T) → Some v ≡ slice_get vs 0 → (incoming_of hubs vs).first ≡ v
+first_is hubs [] v h = cc
+first_is hubs (w ∷ vs) v h = cc
 
-pub first_none : {T : Type 0} (vs : List (Stream T)) → None ≡ slice_get vs 0 → (incoming_of vs).first ≡ ended_by Open
-first_none [] h = refl
-first_none (w ∷ vs) h = cc
+pub first_none : {T : Type 0} (hubs vs : List (Stream T)) → None ≡ slice_get vs 0 → (incoming_of hubs vs).first ≡ ended_by Open
+first_none hubs [] h = refl
+first_none hubs (w ∷ vs) h = cc

@@ -1,4 +1,5 @@
 -- Definitions that contracts cite.
+pub mod Laws
 pub mod Moves
 pub mod Node
 pub mod State

@@ -1,5 +1,5 @@
 -- What still comes out of a plain operator with its out slot.
-use Rattle.std.specs.Prelude.{◌≡◌, ℕ, zero, suc, ◌<◌, ◌==◌, ◌&&◌, Bool, List, [], ◌∷◌, length, slice_get, Option}
+use Rattle.std.specs.Prelude.{◌≡◌, ℕ, zero, suc, ◌+◌, ◌<◌, ◌==◌, false, ◌&&◌, Bool, List, [], ◌∷◌, length, slice_get, Option}
 use Rattle.rsx_types.specs.declared.note.Note.{Note}
 use Rattle.rsx_types.specs.declared.signal.Signal.{Signal}
 use Rattle.rsx_types.specs.declared.signal.Signal.TheVariants.{Next, Complete}
@@ -11,7 +11,7 @@ use Rattle.rsx_sources.specs.Machine.{Incoming, quiet}
 use Rattle.rsx_sources.specs.Slot.{is_nil}
 use Rattle.rsx_plain.specs.declared.node.PlainNode.{PlainNode}
 use Rattle.rsx_plain.specs.Moves.{has_ending}
-use Rattle.rsx_plain.specs.State.{plain_from, wanted_from, allocates_from}
+use Rattle.rsx_plain.specs.State.{plain_from, wanted_from, allocates_from, balanced, is_over}
 
 -- what stands in the slot at the start: the seed of `scan`, and the completion of `take 0`
 abbrev pub start_slot : {T : Type 0} → Stage T → List (Signal T)
@@ -50,3 +50,7 @@ plain_ended n = has_ending n.slot
 -- whether taking a signal may allocate
 abbrev pub plain_allocates : {T : Type 0} → Allocates → PlainNode T → Bool
 plain_allocates a n = allocates_from a n.state
+
+-- while the slot has no ending: how many items came in and how many were put out
+abbrev pub plain_counted : {T : Type 0} → PlainNode T → List ℕ → ℕ → Type 0
+plain_counted n taken sent = (c : ℕ) × (taken ≡ c ∷ []) × (is_over n.state ≡ false) × balanced n.state c (sent + length n.slot)

@@ -49,38 +49,21 @@ impl<T: Drop> PlainNode<T> {
         }
         Ok(PlainNode { state, slot })
     }
-
-    /// Whether a completion or a failure stands in the slot, in front or behind an item: then what still comes in no longer
-    /// matters, and the input can be closed.
-    #[inline]
-    pub fn has_ended(&self) -> bool
-        ensures ended { result ≡ plain_ended self.now }
-        ensures closed { IsTrue result → (m : Meaning T) (inc other : Incoming T) (further : Note) → plain_comes_out m self.now inc further ≡ plain_comes_out m self.now other further }
-    {
-        match self.slot.front() {
-            None => false,
-            Some(Signal::Complete) => true,
-            Some(Signal::Error(_)) => true,
-            Some(Signal::Next(_)) => match self.slot.get(1) {
-                None => false,
-                Some(Signal::Complete) => true,
-                Some(Signal::Error(_)) => true,
-                Some(Signal::Next(_)) => false,
-            },
-        }
-    }
 }
 
 impl<T: Drop> Machine for PlainNode<T> {
     type Item = T;
 
-    ghost use Rattle.std.specs.Prelude.{◌≡◌, true, false, IfOk, IfErr, IsOk, OnOk, OnErr};
+    ghost use Rattle.std.specs.Prelude.{◌≡◌, true, false, refl, IfOk, IfErr, IsOk, IsTrue, OnOk, OnErr};
+    ghost use Rattle.rsx_plain.specs.Laws.{plain_drops, plain_ending_waits, plain_hungry};
+    ghost use Rattle.rsx_types.specs.Meaning.{Meaning};
     ghost use Rattle.rsx_types.specs.Notes.{note_then};
     ghost use Rattle.rsx_types.specs.declared.note.Note.{Note};
     ghost use Rattle.rsx_types.specs.declared.note.Note.TheVariants.{Nothing};
-    ghost use Rattle.rsx_sources.specs.Machine.{TakesIn, Keeps, Records, incoming_of};
+    ghost use Rattle.rsx_sources.specs.Counts.{CountsIn, CountsOut};
+    ghost use Rattle.rsx_sources.specs.Machine.{Incoming, TakesIn, Keeps, Records, incoming_of};
     ghost use Rattle.rsx_sources.specs.Steps.{IsPopped, IsNotTaken, IsNotMade};
-    ghost use Rattle.rsx_plain.specs.Node.{plain_comes_out, plain_waiting, plain_takes, plain_wanted, plain_popped, plain_ended, plain_allocates};
+    ghost use Rattle.rsx_plain.specs.Node.{plain_comes_out, plain_waiting, plain_takes, plain_wanted, plain_popped, plain_ended, plain_allocates, plain_counted};
     ghost use Rattle.rsx_plain.specs.State.{is_over, after_signal, Counts};
     ghost use Rattle.rsx_plain.specs.declared.node.PlainNode.{PlainNode};
 
@@ -88,7 +71,7 @@ impl<T: Drop> Machine for PlainNode<T> {
 
     ghost waiting = { plain_waiting };
 
-    ghost takes = { plain_takes };
+    ghost takes = { λ n i f. plain_takes n i };
 
     ghost picks = { λ n i a s. false };
 
@@ -97,6 +80,12 @@ impl<T: Drop> Machine for PlainNode<T> {
     ghost recording = { λ n i. Nothing };
 
     ghost recorded = { λ n. Nothing };
+
+    ghost ended = { plain_ended };
+
+    ghost done = { λ n i. false };
+
+    ghost counted = { plain_counted };
 
     ghost wanted = { plain_wanted };
 
@@ -123,6 +112,7 @@ impl<T: Drop> Machine for PlainNode<T> {
         ops: &O,
     ) -> Result<Option<Signal<T>>, NoMemory>
         ensures ok { IfOk result (λ s. IsPopped (plain_comes_out (O.meaning ops.now)) plain_popped (plain_waiting (O.meaning ops.now) self.old) self.old s self.new) }
+        ensures counted { IfOk result (λ s. CountsOut plain_counted plain_ended (λ n i. false) self.old s self.new) }
         ensures err { OnErr result (self.new ≡ self.old) }
         ensures memory { IsOk result }
     {
@@ -142,7 +132,25 @@ impl<T: Drop> Machine for PlainNode<T> {
     }
 
     #[inline]
-    fn can_take(&self, input: u32) -> bool {
+    fn has_ended(&self) -> bool
+        ensures ended { result ≡ plain_ended self.now }
+        ensures closed { IsTrue result → (m : Meaning T) (inc other : Incoming T) (further : Note) → plain_comes_out m self.now inc further ≡ plain_comes_out m self.now other further }
+    {
+        match self.slot.front() {
+            None => false,
+            Some(Signal::Complete) => true,
+            Some(Signal::Error(_)) => true,
+            Some(Signal::Next(_)) => match self.slot.get(1) {
+                None => false,
+                Some(Signal::Complete) => true,
+                Some(Signal::Error(_)) => true,
+                Some(Signal::Next(_)) => false,
+            },
+        }
+    }
+
+    #[inline]
+    fn can_take(&self, input: u64, front: Front) -> bool {
         input == 0 && self.slot.is_empty()
     }
 
@@ -150,7 +158,7 @@ impl<T: Drop> Machine for PlainNode<T> {
         &mut self,
         alloc: Global,
         ops: &O,
-        input: u32,
+        input: u64,
         signal: Signal<T>,
     ) -> Result<(), NotTaken<T>>
         ensures ok { OnOk result (TakesIn (plain_comes_out (O.meaning ops.now)) self.old input signal self.new) }
@@ -158,6 +166,7 @@ impl<T: Drop> Machine for PlainNode<T> {
         ensures over { OnOk result (is_over self.new.state ≡ true → plain_ended self.new ≡ true) }
         ensures state { OnOk result (self.new.state ≡ after_signal (O.meaning ops.now) self.old.state signal) }
         ensures counts { OnOk result (Counts self.old.state signal self.new.slot self.new.state) }
+        ensures counted { OnOk result (CountsIn plain_counted plain_ended (λ n i. false) self.old input signal self.new) }
         ensures err { IfErr result (IsNotTaken (plain_takes self.old input) signal) }
         ensures memory { plain_allocates (O.allocates ops.now) self.old ≡ false → IfErr result (λ e. e ≡ NotTaken.Busy signal) }
         ensures same { OnErr result (self.new ≡ self.old) }
@@ -171,10 +180,12 @@ impl<T: Drop> Machine for PlainNode<T> {
         }
     }
 
-    fn on_ask(&mut self, asked: u64)
-        ensures { self.new ≡ self.old }
-    {
-        // An operator goes by what came in, not by what is asked of it.
+    fn can_pick(&self, input: u64, asked: u64, sent: u64) -> bool {
+        false
+    }
+
+    fn next_pick(&self, asked: u64, sent: u64) -> Option<u64> {
+        None
     }
 
     fn on_pick<O: Ops<Item = T>>(
@@ -193,6 +204,10 @@ impl<T: Drop> Machine for PlainNode<T> {
         Err(NotMade::NotEnabled)
     }
 
+    fn can_row(&self, asked: u64, sent: u64) -> bool {
+        false
+    }
+
     fn on_row<O: Ops<Item = T>>(
         &mut self,
         alloc: Global,
@@ -209,7 +224,7 @@ impl<T: Drop> Machine for PlainNode<T> {
     }
 
     #[inline]
-    fn want(&self, input: u32, asked: u64, sent: u64) -> u64 {
+    fn want(&self, input: u64, asked: u64, sent: u64) -> u64 {
         self.state.want(asked, sent)
     }
 
@@ -221,9 +236,10 @@ impl<T: Drop> Machine for PlainNode<T> {
         &self,
         alloc: Global,
         ops: &O,
+        hubs: &[StreamValue<T>],
         incoming: &[StreamValue<T>],
     ) -> Result<StreamValue<T>, NoMemory>
-        ensures { IfOk result (λ v. (further : Note) → note_then Nothing further ≡ Nothing → plain_comes_out (O.meaning ops.now) self.now (incoming_of incoming.now) further ≡ Some v) }
+        ensures { IfOk result (λ v. (further : Note) → note_then Nothing further ≡ Nothing → plain_comes_out (O.meaning ops.now) self.now (incoming_of hubs.now incoming.now) further ≡ Some v) }
     {
         let mut out = Vec::new(alloc);
         for at in 0..self.slot.len() {
@@ -246,4 +262,12 @@ impl<T: Drop> Machine for PlainNode<T> {
             None => self.state.rest(alloc, ops, out, &[], Ending::Open),
         }
     }
+
+    ghost drops = { plain_drops };
+
+    ghost settles = { λ m n inc. (_, refl) };
+
+    ghost ending_waits = { plain_ending_waits };
+
+    ghost hungry = { plain_hungry };
 }

@@ -1,16 +1,14 @@
 //! The states of the plain operators.
 
-ghost use Rattle.std.specs.Prelude.{◌≡◌, true, false, [], IfOk, IfErr, IsOk, OnOk, OnErr, IsTrue};
-ghost use Rattle.rsx_types.specs.Meaning.{Meaning};
-ghost use Rattle.rsx_types.specs.Stream.{Stream, items_then, ended_by};
-ghost use Rattle.rsx_types.specs.declared.signal.Ending.TheVariants.{Done};
+ghost use Rattle.std.specs.Prelude.{◌≡◌, true, false, [], IfOk, IfErr, IsOk, OnOk, OnErr};
+ghost use Rattle.rsx_types.specs.Stream.{items_then};
 ghost use Rattle.rsx_plain.specs.Moves.{Moves, EndsLast, has_ending};
 ghost use Rattle.rsx_plain.specs.State.{plain_from, plain_start, after_signal, is_over, allocates_from, wanted_from};
 
 use crate::keys::Keys;
 use crate::operator::Operator;
 use crate::reactions::{MOST, Reactions};
-use crate::rest::{Copied, drain, signal_of};
+use crate::rest::{Collected, Copied};
 use crate::started::Started;
 use rsx_rules::rules;
 use rsx_sources::OutSlot;
@@ -133,10 +131,29 @@ impl<T: Drop> PlainState<T> {
     /// Whether nothing more of the input matters: a `take` has let all its items through, and completes.
     #[inline]
     pub fn is_over(&self) -> bool
-        ensures over { result ≡ is_over self.now }
-        ensures done { IsTrue result → (m : Meaning T) (v : Stream T) → plain_from m self.now v ≡ ended_by Done }
+        ensures { result ≡ is_over self.now }
     {
-        matches!(self, PlainState::Take { count: _, left: 0 })
+        match self {
+            PlainState::Map { function: _ } => false,
+            PlainState::Filter {
+                function: _,
+                dropped: _,
+            } => false,
+            PlainState::Take { count: _, left } => *left == 0,
+            PlainState::Scan {
+                function: _,
+                last: _,
+            } => false,
+            PlainState::Buffer {
+                size: _,
+                started: _,
+            } => false,
+            PlainState::Distinct {
+                function: _,
+                keys: _,
+                repeated: _,
+            } => false,
+        }
     }
 }
 
@@ -206,28 +223,8 @@ impl<T: Drop> Operator<T> for PlainState<T> {
         }
         let mut state = self.copied(alloc, ops)?;
         let mut out = out;
-        for item in items {
-            let signal = Signal::Next(ops.copy(alloc, item)?);
-            let mut slot = OutSlot::new();
-            match state.react(alloc, ops, signal, &mut slot) {
-                Err(_) => return Err(NoMemory),
-                Ok(()) => match drain(slot, &mut out)? {
-                    Ending::Open => {}
-                    last => return Ok(StreamValue::new(out, last)),
-                },
-            }
-        }
-        let mut slot = OutSlot::new();
-        match signal_of(ending) {
-            None => Ok(StreamValue::new(out, Ending::Open)),
-            Some(signal) => match state.react(alloc, ops, signal, &mut slot) {
-                Err(_) => Err(NoMemory),
-                Ok(()) => {
-                    let last = drain(slot, &mut out)?;
-                    Ok(StreamValue::new(out, last))
-                }
-            },
-        }
+        let last = out.take_all(alloc, ops, &mut state, items, ending)?;
+        Ok(StreamValue::new(out, last))
     }
 }
 

@@ -5,4 +5,4 @@
 
 pub mod session;
 
-pub use session::{Mode, Session};
+pub use session::Session;

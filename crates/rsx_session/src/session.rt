@@ -5,24 +5,15 @@ ghost use Rattle.std.specs.Prelude.{◌≡◌, ◌≤◌, ◌++◌, ℕ, List, t
 use rsx_demo::{Demo, Val, is_same_val};
 use rsx_graph::{Deliveries, Graph, Pumped, Refusal};
 use rsx_model::{Expr, ScratchRefusal, scratch};
-use rsx_script::{Answer, Command, Rest, Shown};
+use rsx_script::{Answer, Command, Mode, Rest, Shown};
 use rsx_types::{Cause, Ending, NoMemory, Signal, StreamValue, SubId, Tree};
 use std::alloc::{AllocFailed, Global};
 
 /// The most moves of one call of `Graph::pump`, so that what it delivers is taken in before it grows large.
 const SLICE: u32 = 65_536;
 
-/// What a session's `show` answers.
-#[derive(Clone, Copy, Debug, PartialEq, Eq)]
-pub enum Mode {
-    /// What was received, and then the rest.
-    Run,
-    /// The value of the slow evaluator.
-    Scratch,
-}
-
 /// Whether a subscription still takes part.
-#[derive(Clone, Copy, Debug, PartialEq, Eq)]
+#[derive(Clone, Copy)]
 enum Standing {
     /// It wasn't closed; it may have ended.
     Live,
@@ -168,7 +159,7 @@ impl Session {
     fn cancel(&mut self, sub: SubId) -> Result<Answer<'_>, Trouble> {
         self.graph.cancel(sub)?;
         if let Some(record) = self.records.get_mut(sub.0 as usize) {
-            if record.ending == Ending::Open && record.standing == Standing::Live {
+            if let (Ending::Open, Standing::Live) = (record.ending, record.standing) {
                 record.standing = Standing::Cancelled;
             }
         }

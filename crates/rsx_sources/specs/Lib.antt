@@ -1,4 +1,5 @@
 -- Definitions that contracts cite.
+pub mod Counts
 pub mod Items
 pub mod Machine
 pub mod Range

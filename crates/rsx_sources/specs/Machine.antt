@@ -10,26 +10,28 @@ use Rattle.rsx_types.specs.Notes.{note_then}
 use Rattle.rsx_sources.specs.declared.machine.Front.{Front}
 use Rattle.rsx_sources.specs.declared.machine.Front.TheVariants.{Item, Completion, Failure}
 
--- what still comes in: the value of input 0, and those of the inputs behind it
+-- what still comes in: what is still published at each hub, the value of input 0, and those of the inputs behind it
 pub record Incoming (T : Type 0) : Type 0 where
+  pub hubs : List (Stream T)
   pub first : Stream T
   pub others : List (Stream T)
 
--- these values come in; where none is named, nothing comes
-abbrev pub incoming_of : {T : Type 0} → List (Stream T) → Incoming T
-incoming_of [] = record { first = ended_by Open; others = [] }
-incoming_of (v ∷ vs) = record { first = v; others = vs }
+-- this is still published, and these values come in; where none is named, nothing comes
+abbrev pub incoming_of : {T : Type 0} → List (Stream T) → List (Stream T) → Incoming T
+incoming_of hubs [] = record { hubs = hubs; first = ended_by Open; others = [] }
+incoming_of hubs (v ∷ vs) = record { hubs = hubs; first = v; others = vs }
 
--- a signal in front of the value with the number i
+-- a signal in front of the value with the number i; nothing else comes at an input that has no value
 abbrev pub in_front_at : {T : Type 0} → ℕ → Signal T → List (Stream T) → List (Stream T)
-in_front_at i s [] = []
+in_front_at zero s [] = signal_then s (ended_by Open) ∷ []
+in_front_at (suc i) s [] = ended_by Open ∷ in_front_at i s []
 in_front_at zero s (v ∷ vs) = signal_then s v ∷ vs
 in_front_at (suc i) s (v ∷ vs) = v ∷ in_front_at i s vs
 
 -- a signal in front of what still comes in at input i
 abbrev pub in_front : {T : Type 0} → ℕ → Signal T → Incoming T → Incoming T
-in_front zero s inc = record { first = signal_then s inc.first; others = inc.others }
-in_front (suc i) s inc = record { first = inc.first; others = in_front_at i s inc.others }
+in_front zero s inc = record { hubs = inc.hubs; first = signal_then s inc.first; others = inc.others }
+in_front (suc i) s inc = record { hubs = inc.hubs; first = inc.first; others = in_front_at i s inc.others }
 
 -- which signal waits
 abbrev pub front_of : {T : Type 0} → Signal T → Front

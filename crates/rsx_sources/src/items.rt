@@ -56,19 +56,20 @@ impl<T: Drop> ItemsNode<T> {
 impl<T: Drop> Machine for ItemsNode<T> {
     type Item = T;
 
-    ghost use Rattle.std.specs.Prelude.{◌≡◌, true, false, IfOk, IfErr, IsOk, OnOk, OnErr};
+    ghost use Rattle.std.specs.Prelude.{◌≡◌, ⊤, refl, Some, true, false, IfOk, IfErr, IsOk, OnOk, OnErr};
     ghost use Rattle.rsx_types.specs.Notes.{note_then};
     ghost use Rattle.rsx_types.specs.declared.note.Note.{Note};
     ghost use Rattle.rsx_types.specs.declared.note.Note.TheVariants.{Nothing};
     ghost use Rattle.rsx_sources.specs.Machine.{TakesIn, Keeps, Records, incoming_of};
     ghost use Rattle.rsx_sources.specs.Steps.{IsPopped, IsNotTaken, IsNotMade};
     ghost use Rattle.rsx_sources.specs.Items.{ItemsLeft, items_comes_out, items_waiting, items_popped};
+    ghost use Rattle.std.proofs.Common.{rules};
 
     ghost comes_out = { items_comes_out };
 
     ghost waiting = { items_waiting };
 
-    ghost takes = { λ n i. false };
+    ghost takes = { λ n i f. false };
 
     ghost picks = { λ n i a s. false };
 
@@ -77,6 +78,12 @@ impl<T: Drop> Machine for ItemsNode<T> {
     ghost recording = { λ n i. Nothing };
 
     ghost recorded = { λ n. Nothing };
+
+    ghost ended = { λ n. false };
+
+    ghost done = { λ n i. false };
+
+    ghost counted = { λ n taken sent. ⊤ };
 
     ghost wanted = { λ n i a s. 0 };
 
@@ -119,7 +126,11 @@ impl<T: Drop> Machine for ItemsNode<T> {
         }
     }
 
-    fn can_take(&self, input: u32) -> bool {
+    fn has_ended(&self) -> bool {
+        false
+    }
+
+    fn can_take(&self, input: u64, front: Front) -> bool {
         false
     }
 
@@ -127,7 +138,7 @@ impl<T: Drop> Machine for ItemsNode<T> {
         &mut self,
         alloc: Global,
         ops: &O,
-        input: u32,
+        input: u64,
         signal: Signal<T>,
     ) -> Result<(), NotTaken<T>>
         ensures ok { OnOk result (TakesIn (items_comes_out (O.meaning ops.now)) self.old input signal self.new) }
@@ -139,7 +150,13 @@ impl<T: Drop> Machine for ItemsNode<T> {
         Err(NotTaken::Busy(signal))
     }
 
-    fn on_ask(&mut self, asked: u64) {}
+    fn can_pick(&self, input: u64, asked: u64, sent: u64) -> bool {
+        false
+    }
+
+    fn next_pick(&self, asked: u64, sent: u64) -> Option<u64> {
+        None
+    }
 
     fn on_pick<O: Ops<Item = T>>(
         &mut self,
@@ -157,6 +174,10 @@ impl<T: Drop> Machine for ItemsNode<T> {
         Err(NotMade::NotEnabled)
     }
 
+    fn can_row(&self, asked: u64, sent: u64) -> bool {
+        false
+    }
+
     fn on_row<O: Ops<Item = T>>(
         &mut self,
         alloc: Global,
@@ -172,7 +193,7 @@ impl<T: Drop> Machine for ItemsNode<T> {
         Err(NotMade::NotEnabled)
     }
 
-    fn want(&self, input: u32, asked: u64, sent: u64) -> u64 {
+    fn want(&self, input: u64, asked: u64, sent: u64) -> u64 {
         0
     }
 
@@ -184,9 +205,10 @@ impl<T: Drop> Machine for ItemsNode<T> {
         &self,
         alloc: Global,
         ops: &O,
+        hubs: &[StreamValue<T>],
         incoming: &[StreamValue<T>],
     ) -> Result<StreamValue<T>, NoMemory>
-        ensures { IfOk result (λ v. (further : Note) → note_then Nothing further ≡ Nothing → items_comes_out (O.meaning ops.now) self.now (incoming_of incoming.now) further ≡ Some v) }
+        ensures { IfOk result (λ v. (further : Note) → note_then Nothing further ≡ Nothing → items_comes_out (O.meaning ops.now) self.now (incoming_of hubs.now incoming.now) further ≡ Some v) }
     {
         let reversed = self.reversed.as_slice();
         let mut left = Vec::with_capacity(alloc, reversed.len())?;
@@ -196,4 +218,12 @@ impl<T: Drop> Machine for ItemsNode<T> {
         }
         Ok(StreamValue::new(left, Ending::Done))
     }
+
+    ghost drops = { λ m n inc other further e. Prim.search rules };
+
+    ghost settles = { λ m n inc. (_, refl) };
+
+    ghost ending_waits = { λ m n e. (_, refl) };
+
+    ghost hungry = { λ m n taken asked sent still counts none more within. Prim.search rules };
 }

@@ -1,11 +1,12 @@
 //! What every node of a tree promises.
 
-ghost use Rattle.std.specs.Prelude.{◌≡◌, ℕ, Bool, Option};
+ghost use Rattle.std.specs.Prelude.{◌≡◌, ℕ, Bool, List, Option};
 ghost use Rattle.rsx_types.specs.Meaning.{Meaning, Allocates};
 ghost use Rattle.rsx_types.specs.Stream.{Stream};
 ghost use Rattle.rsx_types.specs.declared.note.Note.{Note};
 ghost use Rattle.rsx_types.specs.declared.signal.Signal.{Signal};
 ghost use Rattle.rsx_sources.specs.Machine.{Incoming};
+ghost use Rattle.rsx_sources.specs.declared.machine.Front.{Front as FrontSpec};
 
 use rsx_types::{Cause, NoMemory, Note, Ops, Signal, StreamValue};
 use std::alloc::Global;
@@ -49,13 +50,14 @@ pub trait Machine {
     /// An item of the node's streams.
     type Item: Drop;
 
+    /// The stream value that still comes out.
     ghost comes_out: { Meaning Self.Item → Self → Incoming Self.Item → Note → Option (Stream Self.Item) };
 
     /// The signal that is offered.
     ghost waiting: { Meaning Self.Item → Self → Option (Signal Self.Item) };
 
-    /// Whether a signal of an input can be taken.
-    ghost takes: { Self → ℕ → Bool };
+    /// Whether such a signal of an input can be taken.
+    ghost takes: { Self → ℕ → FrontSpec → Bool };
 
     /// Whether an input can be picked, where so much is asked of the node and was sent by it.
     ghost picks: { Self → ℕ → ℕ → ℕ → Bool };
@@ -69,6 +71,15 @@ pub trait Machine {
     /// What the node recorded.
     ghost recorded: { Self → Note };
 
+    /// Whether the node has put out its ending, so that what still comes in doesn't matter.
+    ghost ended: { Self → Bool };
+
+    /// Whether the completion of an input was taken, of a node that has not ended.
+    ghost done: { Self → ℕ → Bool };
+
+    /// Whether so many items were taken at each input and so many were sent, of a node that has not ended.
+    ghost counted: { Self → List ℕ → ℕ → Type 0 };
+
     /// What is to be asked of an input in all, where so much is asked of the node and was sent by it.
     ghost wanted: { Self → ℕ → ℕ → ℕ → ℕ };
 
@@ -81,9 +92,10 @@ pub trait Machine {
     /// Whether taking a signal in may allocate, where these of the caller's functions may.
     ghost signal_allocates: { Allocates → Self → Bool };
 
-    ghost use Rattle.std.specs.Prelude.{◌≡◌, OnOk, OnErr, IfOk, IfErr, IsOk, MatchResult, Some, None, true, false, option_map, length, ◌≤◌};
-    ghost use Rattle.rsx_types.specs.Notes.{note_then};
-    ghost use Rattle.rsx_sources.specs.Machine.{Keeps, TakesIn, Records, LetsGo, front_of, incoming_of};
+    ghost use Rattle.std.specs.Prelude.{◌≡◌, ◌<◌, ◌^◌, OnOk, OnErr, IfOk, IfErr, IfSome, IfNone, IsOk, Some, None, true, false, option_map};
+    ghost use Rattle.rsx_types.specs.Notes.{note_then, unchosen};
+    ghost use Rattle.rsx_sources.specs.Counts.{CountsIn, CountsOut, CountsStep, IsHungry, AreWithin};
+    ghost use Rattle.rsx_sources.specs.Machine.{Keeps, TakesIn, Records, front_of, incoming_of};
     ghost use Rattle.rsx_sources.specs.Steps.{IsPopped, IsNotTaken, IsNotMade};
 
     /// Which signal is offered, if one is: the first signal that still comes out.
@@ -98,6 +110,8 @@ pub trait Machine {
         ops: &O,
     ) -> Result<Option<Signal<Self::Item>>, NoMemory>
         ensures ok { IfOk result (λ s. IsPopped (comes_out (O.meaning ops.now)) popped (waiting (O.meaning ops.now) self.old) self.old s self.new) }
+        ensures recorded { recorded self.new ≡ recorded self.old }
+        ensures counts { IfOk result (λ s. CountsOut counted ended done self.old s self.new) }
         ensures err { OnErr result (self.new ≡ self.old) }
         ensures memory { pop_allocates (O.allocates ops.now) self.old ≡ false → IsOk result };
 
@@ -105,9 +119,13 @@ pub trait Machine {
     fn put_back(&mut self, signal: Signal<Self::Item>)
         ensures { (before : Self) → popped before signal self.old → self.new ≡ before };
 
-    /// Whether a signal of this input can be taken.
-    fn can_take(&self, input: u32) -> bool
-        ensures { result ≡ takes self.now input };
+    /// Whether the node has put out its ending.
+    fn has_ended(&self) -> bool
+        ensures { result ≡ ended self.now };
+
+    /// Whether such a signal of this input can be taken.
+    fn can_take(&self, input: u64, front: Front) -> bool
+        ensures { result ≡ takes self.now input front };
 
     /// Takes a signal of an input. Where it can't, or for want of memory, the signal comes back and the node is unchanged.
     /// Want of memory comes only where `signal_allocates`.
@@ -115,21 +133,25 @@ pub trait Machine {
         &mut self,
         alloc: Global,
         ops: &O,
-        input: u32,
+        input: u64,
         signal: Signal<Self::Item>,
     ) -> Result<(), NotTaken<Self::Item>>
         ensures ok { OnOk result (TakesIn (comes_out (O.meaning ops.now)) self.old input signal self.new) }
-        ensures enabled { OnOk result (takes self.old input ≡ true) }
+        ensures enabled { OnOk result (takes self.old input (front_of signal) ≡ true) }
         ensures recorded { recorded self.new ≡ recorded self.old }
-        ensures err { IfErr result (IsNotTaken (takes self.old input) signal) }
+        ensures counts { OnOk result (CountsIn counted ended done self.old input signal self.new) }
+        ensures err { IfErr result (IsNotTaken (takes self.old input (front_of signal)) signal) }
         ensures memory { signal_allocates (O.allocates ops.now) self.old ≡ false → IfErr result (λ e. e ≡ NotTaken.Busy signal) }
         ensures same { OnErr result (self.new ≡ self.old) };
 
-    /// Learns that so much is asked of the node.
-    fn on_ask(&mut self, asked: u64)
-        ensures same { (m : Meaning Self.Item) → Keeps (comes_out m) self.old self.new }
-        ensures waits { (m : Meaning Self.Item) → waiting m self.new ≡ waiting m self.old }
-        ensures recorded { recorded self.new ≡ recorded self.old };
+    /// Whether an input can be picked, where `asked` is asked of the node and it sent `sent` items.
+    fn can_pick(&self, input: u64, asked: u64, sent: u64) -> bool
+        ensures { result ≡ picks self.now input asked sent };
+
+    /// An input that can be picked, if there is one.
+    fn next_pick(&self, asked: u64, sent: u64) -> Option<u64>
+        ensures some { IfSome result (λ i. picks self.now i asked sent ≡ true) }
+        ensures none { IfNone result ((i : ℕ) → i < 2 ^ 64 → picks self.now i asked sent ≡ false) };
 
     /// Picks an input: takes its next signal, and records the choice.
     fn on_pick<O: Ops<Item = Self::Item>>(
@@ -143,8 +165,14 @@ pub trait Machine {
         ensures ok { OnOk result (Records (comes_out (O.meaning ops.now)) self.old (recording self.old input) self.new) }
         ensures enabled { OnOk result (picks self.old input asked sent ≡ true) }
         ensures recorded { OnOk result (recorded self.new ≡ note_then (recorded self.old) (recording self.old input)) }
+        ensures composes { (further : Note) → note_then (note_then (recorded self.old) (recording self.old input)) further ≡ note_then (recorded self.old) (note_then (recording self.old input) further) }
+        ensures counts { OnOk result (CountsStep counted ended done self.old self.new) }
         ensures err { IfErr result (IsNotMade (picks self.old input asked sent)) }
         ensures same { OnErr result (self.new ≡ self.old) };
+
+    /// Whether a row can be made, where `asked` is asked of the node and it sent `sent` items.
+    fn can_row(&self, asked: u64, sent: u64) -> bool
+        ensures { result ≡ rows self.now asked sent };
 
     /// Makes a row of the next item of each input.
     fn on_row<O: Ops<Item = Self::Item>>(
@@ -157,23 +185,38 @@ pub trait Machine {
         ensures ok { OnOk result (Keeps (comes_out (O.meaning ops.now)) self.old self.new) }
         ensures enabled { OnOk result (rows self.old asked sent ≡ true) }
         ensures recorded { recorded self.new ≡ recorded self.old }
+        ensures counts { OnOk result (CountsStep counted ended done self.old self.new) }
         ensures err { IfErr result (IsNotMade (rows self.old asked sent)) }
         ensures same { OnErr result (self.new ≡ self.old) };
 
     /// What is to be asked of an input in all, where `asked` is asked of the node and it sent `sent` items.
-    fn want(&self, input: u32, asked: u64, sent: u64) -> u64
+    fn want(&self, input: u64, asked: u64, sent: u64) -> u64
         ensures { result ≡ wanted self.now input asked sent };
 
     /// What the node recorded.
     fn note(&self, alloc: Global) -> Result<Note, NoMemory>
         ensures { IfOk result (λ n. n ≡ recorded self.now) };
 
-    /// The stream value that still comes out, where just these values come in and nothing more is chosen.
+    /// The stream value that still comes out, where just these values come in, these are still published at the hubs, and
+    /// nothing more is chosen.
     fn residual<O: Ops<Item = Self::Item>>(
         &self,
         alloc: Global,
         ops: &O,
+        hubs: &[StreamValue<Self::Item>],
         incoming: &[StreamValue<Self::Item>],
     ) -> Result<StreamValue<Self::Item>, NoMemory>
-        ensures { IfOk result (λ v. (further : Note) → note_then (recorded self.now) further ≡ recorded self.now → comes_out (O.meaning ops.now) self.now (incoming_of incoming.now) further ≡ Some v) };
+        ensures { IfOk result (λ v. (further : Note) → note_then (recorded self.now) further ≡ recorded self.now → comes_out (O.meaning ops.now) self.now (incoming_of hubs.now incoming.now) further ≡ Some v) };
+
+    /// What comes in no longer matters to a node that has ended.
+    ghost drops: { (m : Meaning Self.Item) (n : Self) (inc other : Incoming Self.Item) (further : Note) → ended n ≡ true → comes_out m n inc further ≡ comes_out m n other further };
+
+    /// Where nothing more is chosen, something comes out.
+    ghost settles: { (m : Meaning Self.Item) (n : Self) (inc : Incoming Self.Item) → (v : Stream Self.Item) × (comes_out m n inc (unchosen (recorded n)) ≡ Some v) };
+
+    /// Of a node that has ended, a signal waits: its ending, or an item in front of that.
+    ghost ending_waits: { (m : Meaning Self.Item) (n : Self) → ended n ≡ true → (s : Signal Self.Item) × (waiting m n ≡ Some s) };
+
+    /// A node that offers nothing, and of which more is asked than it sent, can make a step or wants more at an input.
+    ghost hungry: { (m : Meaning Self.Item) (n : Self) (taken : List ℕ) (asked sent : ℕ) → ended n ≡ false → counted n taken sent → waiting m n ≡ None → sent < asked → AreWithin taken → IsHungry takes picks rows done wanted n taken asked sent };
 }

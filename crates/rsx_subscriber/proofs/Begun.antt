@@ -3,10 +3,10 @@ use Rattle.std.proofs.Common.{◌≡◌, List, [], ◌∷◌, length, true, None
 use Rattle.rsx_demand.specs.declared.Demand.{Demand}
 use Rattle.rsx_model.specs.Check.{refusal}
 use Rattle.rsx_model.specs.declared.expr.Expr.{Expr}
-use Rattle.rsx_tree.specs.Built.{fresh_edge, fresh_edges}
-use Rattle.rsx_edge.specs.Edges.{edge_view}
+use Rattle.rsx_node.specs.Built.{fresh_edge, fresh_edges}
+use Rattle.rsx_tree.specs.Edges.{edge_view}
 use Rattle.rsx_pipe.specs.Part.{PartStands, all_edges}
-use Rattle.rsx_edge.specs.declared.edge.EdgeState.TheVariants.{Live, Closed}
+use Rattle.rsx_tree.specs.declared.edge.EdgeState.TheVariants.{Live, Closed}
 use Rattle.rsx_subscriber.proofs.Moves.{live_test}
 use Rattle.rsx_subscriber.proofs.Values.{refusal_none, fresh_count, leaves_none}
 use Rattle.rsx_subscriber.specs.Begun.{IsFresh}

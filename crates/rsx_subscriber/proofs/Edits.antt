@@ -5,7 +5,7 @@ use Rattle.std.proofs.lemmas.Bool.Decides.{nat_tests}
 use mathlib.Core.HLevel.{⊥_prop, Π_prop}
 use Rattle.rsx_demand.specs.declared.Demand.{Demand}
 use Rattle.rsx_demand.specs.declared.TheConstants.{UNBOUNDED}
-use Rattle.rsx_edge.specs.Edges.{EdgeView}
+use Rattle.rsx_tree.specs.Edges.{EdgeView}
 use Rattle.rsx_subscription.specs.declared.State.{State}
 use Rattle.rsx_subscription.specs.declared.State.TheVariants.{Fresh, Open as OpenState, Cancelled as CancelledState, Failed as FailedState}
 use Rattle.rsx_subscriber.specs.Edited.{IsRaised, IsShut, IsRequested, IsCancelled}

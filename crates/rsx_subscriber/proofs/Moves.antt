@@ -1,5 +1,5 @@
 -- How each edit and each move keeps what a subscription stands for.
-use Rattle.std.proofs.Common.{◌≡◌, ℕ, zero, suc, ◌+◌, ◌<◌, Bool, true, false, ◌&&◌, nat_eq, nat_lt, List, [], ◌∷◌, ◌++◌, length, map, refl, ap, sym, ◌∙◌, subst, arith, append_assoc, length-append, ◌⊎◌, inl, inr, ℤ, pos, negsuc, int_lt, unsigned_abs, slice_index_or, Option, Some, None, Ok}
+use Rattle.std.proofs.Common.{◌^◌, ◌≡◌, ℕ, zero, suc, ◌+◌, ◌<◌, Bool, true, false, ◌&&◌, nat_eq, nat_lt, List, [], ◌∷◌, ◌++◌, length, map, refl, ap, sym, ◌∙◌, subst, arith, append_assoc, length-append, ◌⊎◌, inl, inr, ℤ, pos, negsuc, int_lt, unsigned_abs, slice_index_or, Option, Some, None, Ok}
 use mathlib.Core.HLevel.{⊥_prop, Π_prop}
 use Rattle.std.proofs.lemmas.Bool.Decides.{nat_tests}
 use Rattle.std.proofs.lemmas.List.{append-nil}
@@ -14,11 +14,11 @@ use Rattle.rsx_types.specs.declared.names.Tree.{Tree}
 use Rattle.rsx_types.specs.declared.names.Tree.TheVariants.{Sub}
 use Rattle.rsx_types.specs.declared.signal.Signal.{Signal}
 use Rattle.rsx_types.specs.declared.signal.Signal.TheVariants.{Next, Complete, Error}
-use Rattle.rsx_edge.specs.Edges.{closed_view}
+use Rattle.rsx_tree.specs.Edges.{closed_view}
 use Rattle.rsx_pipe.specs.Part.{PartStands, IsPutOut, all_edges}
 use Rattle.rsx_pipe.specs.Part as Part
-use Rattle.rsx_tree.specs.Tree.{IsAllClosed, edges}
-use Rattle.rsx_edge.specs.declared.edge.EdgeState.TheVariants.{Live, Closed}
+use Rattle.rsx_pipe.specs.Tree.{IsAllClosed, edges}
+use Rattle.rsx_tree.specs.declared.edge.EdgeState.TheVariants.{Live, Closed}
 use Rattle.rsx_pipe.specs.declared.part.Part.{Part as AnyPart}
 use Rattle.rsx_pipe.specs.declared.part.Pumped.{Pumped as Rest}
 use Rattle.rsx_pipe.specs.declared.part.Pumped.TheVariants.{Idle as Rests, Budget as Wakes}
@@ -498,22 +498,22 @@ stands_made m move published old new past r can k h =
 
 -- a subscription whose part is quiet, with nothing to take, is quiet
 pub quiet_when : {T : Type 0} (m : Meaning T) (sub : Subscription T) → take_enabled sub 0 ≡ false → Part.IsQuiet m sub.part sub.queue → IsQuiet m sub
-quiet_when m sub e q at = (q (Ask (Sub (record { 0 = 0 })) (record { 0 = at })), q (Send (Sub (record { 0 = 0 })) (record { 0 = at })), and_false (nat_eq at 0) _ e)
+quiet_when m sub e q at l = (q (Ask (Sub (record { 0 = 0 })) (record { 0 = at })) l, q (Send (Sub (record { 0 = 0 })) (record { 0 = at })) l, and_false (nat_eq at 0) _ e)
   where
     and_false : (a b : Bool) → b ≡ false → a && b ≡ false
     and_false true b e = e
     and_false false b e = refl
 
 pub awake_part : {T : Type 0} (m : Meaning T) (sub : Subscription T) → Part.IsAwake m sub.part sub.queue → IsAwake m sub
-awake_part {T} m sub h = by_move h.0 h.1
+awake_part {T} m sub h = by_move h.0 h.1 h.2
   where
-    by_move : (move : Move) → Part.move_enabled m sub.part sub.queue move ≡ true → IsAwake m sub
-    by_move (Ask t n) e = (n.0, inl e)
-    by_move (Send t n) e = (n.0, inr (inl e))
-    by_move (Take t n) e = cc
+    by_move : (move : Move) → Part.number_of move < 2 ^ 32 → Part.move_enabled m sub.part sub.queue move ≡ true → IsAwake m sub
+    by_move (Ask t n) l e = (n.0, l, inl e)
+    by_move (Send t n) l e = (n.0, l, inr (inl e))
+    by_move (Take t n) l e = cc
 
 pub awake_take : {T : Type 0} (m : Meaning T) (sub : Subscription T) → take_enabled sub 0 ≡ true → IsAwake m sub
-awake_take m sub e = (0, inr (inr e))
+awake_take m sub e = (0, omega arith, inr (inr e))
 
 -- what is queued can be taken just where something is queued
 pub take_queued : {T : Type 0} (m : Meaning T) (published : List (Stream T)) (sub : Subscription T) (past : Past T) → Stands m published sub past → 0 < length sub.queue → take_enabled sub 0 ≡ true
@@ -548,8 +548,8 @@ rest_ended E m budget n left sub Wakes e r = let z = r.0 in (omega (arith, e, z)
 pub none_left : {T : Type 0} (m : Meaning T) (sub : Subscription T) (left : ℕ) → (0 < left → IsQuiet m sub) → IsAwake m sub → left ≡ 0
 none_left m sub zero q a = refl
 none_left m sub (suc left) q a =
-    let h = q (omega arith) a.0 in
-    absurd (elim a.1 [
+    let h = q (omega arith) a.0 a.1 in
+    absurd (elim a.2 [
       | inl x ↦ never _ x h.0
       | inr b ↦ elim b [
         | inl x ↦ never _ x h.1

@@ -5,10 +5,10 @@ use Rattle.rsx_types.specs.Notes.{notes_then, unchosen}
 use Rattle.rsx_types.specs.Stream.{Stream, signals, signals_then, ended_by}
 use Rattle.rsx_types.specs.declared.note.Note.{Note}
 use Rattle.rsx_types.specs.declared.signal.Ending.{Ending}
-use Rattle.rsx_tree.specs.Tree.{comes_out, notes_of}
+use Rattle.rsx_pipe.specs.Tree.{comes_out, notes_of}
 use Rattle.rsx_pipe.proofs.Parts.{values_then-none}
 use Rattle.rsx_pipe.proofs.Signals.{map_then-append, prefix_of_orderly}
-use Rattle.rsx_tree.proofs.Trees.{notes_then-unchosen, unchosen_notes}
+use Rattle.rsx_pipe.proofs.Trees.{notes_then-unchosen, unchosen_notes}
 use Rattle.rsx_subscriber.proofs.Values.{notes_count, signals_ended, value_there}
 use Rattle.rsx_subscriber.specs.Holds.{Holds}
 use Rattle.rsx_subscriber.specs.Past.{Past, IsLive, IsPrefixOf, items_in}

@@ -1,14 +1,14 @@
 -- Where no move of a subscription is enabled, what was asked for was delivered.
-use Rattle.std.proofs.Common.{◌≡◌, ◌<◌, Bool, true, false, List, [], ◌∷◌, ◌++◌, length, Some, refl, sym, ap, ◌∙◌, subst, arith}
+use Rattle.std.proofs.Common.{◌^◌, ◌≡◌, ◌<◌, Bool, true, false, List, [], ◌∷◌, ◌++◌, length, Some, refl, sym, ap, ◌∙◌, subst, arith}
 use Rattle.std.proofs.lemmas.List.{append-nil}
 use Rattle.rsx_types.specs.Meaning.{Meaning}
 use Rattle.rsx_types.specs.Stream.{Stream}
 use Rattle.rsx_types.specs.declared.names.Move.{Move}
 use Rattle.rsx_types.specs.declared.names.Move.TheVariants.{Ask, Send, Take}
 use Rattle.rsx_types.specs.declared.signal.Signal.{Signal}
-use Rattle.rsx_tree.specs.Balance.{IsWithin}
+use Rattle.rsx_pipe.specs.Tree.{IsWithin}
 use Rattle.rsx_pipe.specs.Part as Part
-use Rattle.rsx_tree.specs.Tree.{notes_of}
+use Rattle.rsx_pipe.specs.Tree.{notes_of}
 use Rattle.rsx_pipe.proofs.Parts.{delivered}
 use Rattle.rsx_subscriber.specs.declared.state.SubscriptionState.{SubscriptionState}
 use Rattle.rsx_subscriber.specs.declared.state.SubscriptionState.TheVariants.{Open, Ended, Cancelled, Refused}
@@ -31,12 +31,12 @@ nothing_queued {T} m published sub past q h = by_queue sub.queue refl
     by_queue [] e = e
     by_queue (t ∷ l) e =
         let some : 0 < length sub.queue = rw e (omega arith) in
-        absurd (never (take_enabled sub 0) (take_queued m published sub past h some) (q 0).2)
+        absurd (never (take_enabled sub 0) (take_queued m published sub past h some) (q 0 (omega arith)).2)
 
 quiet_part : {T : Type 0} (m : Meaning T) (sub : Subscription T) → IsQuiet m sub → Part.IsQuiet m sub.part sub.queue
-quiet_part m sub q (Ask t n) = (q n.0).0
-quiet_part m sub q (Send t n) = (q n.0).1
-quiet_part m sub q (Take t n) = refl
+quiet_part m sub q (Ask t n) l = (q n.0 l).0
+quiet_part m sub q (Send t n) l = (q n.0 l).1
+quiet_part m sub q (Take t n) l = refl
 
 -- a live subscriber got all that its part put out, and that is what was asked for
 served_live : {T : Type 0} (m : Meaning T) (published : List (Stream T)) (sub : Subscription T) (past : Past T) → IsQuiet m sub → Stands m published sub past → IsLive (standing_of sub) → IsWithin sub.part.tree → (v : Stream T) → evaluated m published past (notes_of sub.part.tree) ≡ Some v → IsServed m published sub past v
@@ -62,7 +62,7 @@ served {T} m published sub past q h live w v e =
     served_live m published sub past q h (subst L (sym h.state) live) w v e
 
 -- no move that is named is enabled
-pub quiet_move : {T : Type 0} (m : Meaning T) (sub : Subscription T) (mv : Move) → IsQuiet m sub → move_enabled_in m sub mv ≡ false
-quiet_move m sub (Ask t n) h = (h n.0).0
-quiet_move m sub (Send t n) h = (h n.0).1
-quiet_move m sub (Take t n) h = (h n.0).2
+pub quiet_move : {T : Type 0} (m : Meaning T) (sub : Subscription T) (mv : Move) → Part.number_of mv < 2 ^ 32 → IsQuiet m sub → move_enabled_in m sub mv ≡ false
+quiet_move m sub (Ask t n) l h = (h n.0 l).0
+quiet_move m sub (Send t n) l h = (h n.0 l).1
+quiet_move m sub (Take t n) l h = (h n.0 l).2

@@ -1,5 +1,5 @@
 -- The value of an expression under what its part recorded: it is there, and notes and joins fit it.
-use Rattle.std.proofs.Common.{◌≡◌, ℕ, ℤ, zero, suc, ◌+◌, ◌-◌, Bool, true, false, nat_eq, nat_le, if◌then◌else◌, Vec, Global, Box, List, [], ◌∷◌, ◌++◌, length, map, Some, None, option_map, refl, ap, sym, ◌∙◌, arith}
+use Rattle.std.proofs.Common.{◌≡◌, ℕ, ℤ, zero, suc, ◌+◌, ◌-◌, Bool, true, false, nat_eq, nat_le, if◌then◌else◌, ◌&&◌, Vec, Global, Box, List, [], ◌∷◌, ◌++◌, length, length-append, map, Some, None, option_map, refl, ap, sym, ◌∙◌, arith}
 use Rattle.std.proofs.lemmas.List.{length-map}
 use Rattle.rsx_model.proofs.Unfold.{by_variant, leaves_Items, leaves_Range, leaves_Plain, nodes_Items, nodes_Range, nodes_Plain, first_fault_Items, first_fault_Range, first_fault_Plain}
 use Rattle.rsx_model.specs.Check.{refusal, first_fault, or_else, unless, stage_fits}
@@ -10,21 +10,24 @@ use Rattle.rsx_model.specs.declared.expr.Expr.TheFolds.{fold_out-Expr}
 use Rattle.rsx_model.specs.declared.expr.Expr.TheVariants.{Items as ItemsOf, Range as RangeOf}
 use Rattle.rsx_model.specs.declared.expr.Expr.TheViews.{Plain as PlainOf, outs-Items, outs-Range, outs-Plain}
 use Rattle.rsx_pipe.proofs.Parts.{values_then-none}
-use Rattle.rsx_tree.proofs.Trees.{notes_then-unchosen, unchosen_notes, unchosen_tree}
-use Rattle.rsx_tree.specs.Built.{fresh_edge, fresh_edges, starts_ended}
-use Rattle.rsx_edge.specs.Edges.{EdgeView, asked_up_to, changed_at, closed_if, closed_view, passed, carried, carried_at}
+use Rattle.rsx_pipe.proofs.Trees.{notes_then-unchosen, unchosen_notes, unchosen_tree}
+use Rattle.rsx_node.specs.Built.{fresh_edge, fresh_edges, starts_ended}
+use Rattle.rsx_tree.specs.Edges.{edge_view, EdgeView, asked_up_to, changed_at, closed_if, closed_view, passed}
 use Rattle.rsx_pipe.specs.Output.{values_then}
 use Rattle.rsx_pipe.specs.Part as Part
 use Rattle.rsx_pipe.specs.Part.{all_edges, PartStands}
-use Rattle.rsx_tree.specs.Tree.{comes_out, edges, notes_of, IsUnchosen}
-use Rattle.rsx_tree.specs.declared.node.Node.{Node, Items, Range, Plain'}
+use Rattle.rsx_pipe.specs.Tree.{AnyTree, comes_out, edges, edges_after, notes_of}
+use Rattle.rsx_tree.specs.Tree.{IsUnchosen}
+use Rattle.rsx_tree.specs.Inputs.{size, is_own, beside_of, comes_in, sent_edges, edges as edges_in, notes_of as notes_in, IsUnchosen as IsUnchosenIn}
+use Rattle.rsx_tree.specs.declared.inputs.Inputs.{Inputs, End, More'}
+use Rattle.rsx_node.specs.Any.{any_machine}
+use Rattle.rsx_node.specs.Laws.{any_settles}
+use Rattle.rsx_node.specs.declared.any_node.AnyNode.{AnyNode}
 use Rattle.rsx_pipe.specs.declared.part.Part.{Part as AnyPart}
-use Rattle.rsx_plain.specs.State.{plain_from}
-use Rattle.rsx_sources.specs.Range.{range_left}
+use Rattle.rsx_sources.specs.Machine.{incoming_of}
 use Rattle.rsx_sources.specs.declared.machine.Front.{Front}
 use Rattle.rsx_types.specs.Meaning.{Meaning}
 use Rattle.rsx_types.specs.Notes.{notes_then, unchosen}
-use Rattle.rsx_types.specs.Plain.{listed}
 use Rattle.rsx_types.specs.Stream.{Stream, signals, signals_then}
 use Rattle.rsx_types.specs.declared.names.Move.{Move}
 use Rattle.rsx_types.specs.declared.names.Move.TheVariants.{Ask, Send, Take}
@@ -36,13 +39,21 @@ use Rattle.rsx_subscriber.specs.Past.{IsUnended, IsOrderly}
 
 -- ---- the value is there
 
--- what comes out of a tree where nothing more is chosen is there
-comes_out_there : {T : Type 0} (m : Meaning T) (hubs : List (Stream T)) (further : List Note) (t : Node T) (at : ℕ) → IsUnchosen further t at → (v : Stream T) × (comes_out m hubs further t at ≡ Some v)
-comes_out_there m hubs further (Items n) at u = (listed n.left, rw u refl)
-comes_out_there m hubs further (Range n) at u = (listed (range_left m n), rw u refl)
-comes_out_there m hubs further (Plain' n edge p input) at u =
-    let b = comes_out_there m hubs further input (at + 1) u.1 in
-    (signals_then n.slot (plain_from m n.state b.0), rw (u.0, b.1) refl)
+-- what comes in at each input of a row where nothing more is chosen is there
+row_there : {T : Type 0} (m : Meaning T) (hubs : List (Stream T)) (further : List Note) (t : Inputs (AnyNode T)) (at : ℕ) → IsUnchosenIn any_machine further t at → (vs : List (Stream T)) × (comes_in any_machine m hubs further t at ≡ Some vs)
+row_there m hubs further End at u = ([], refl)
+row_there {T} m hubs further (More' e n p below q beside) at u =
+    let vs = row_there m hubs further below (at + 1) u.1 in
+    let ws = row_there m hubs further beside (at + 1 + size below) u.2 in
+    let v = any_settles m n (incoming_of hubs vs.0) in
+    (v.0 ∷ ws.0, rw (u.0, vs.1, ws.1) (ap (λ o. beside_of o (Some ws.0)) v.1))
+
+-- and so is what comes out of a tree
+comes_out_there : {T : Type 0} (m : Meaning T) (hubs : List (Stream T)) (further : List Note) (t : AnyTree T) (at : ℕ) → IsUnchosen any_machine further t at → (v : Stream T) × (comes_out m hubs further t at ≡ Some v)
+comes_out_there m hubs further t at u =
+    let vs = row_there m hubs further t.inputs (at + 1) u.1 in
+    let v = any_settles m t.machine (incoming_of hubs vs.0) in
+    (v.0, rw (u.0, vs.1) v.1)
 
 -- so what a part stands for has a value under what was recorded: what went out, and then what is left
 pub record HasValue {T : Type 0} (m : Meaning T) (published : List (Stream T)) (part : AnyPart T) (e : Expr T) (joins : List ℕ) (output : List (Signal T)) : Type 0 where
@@ -103,10 +114,15 @@ fresh_count {T} =
     ap (λ es. suc (length es)) (fresh_Plain g b) ∙ (ap suc (closed_if_length (starts_ended g) (fresh_edge ∷ fresh_edges b.value)) ∙ (ap suc k ∙ omega (arith, nodes_Plain g b))))
 
 -- a tree recorded a note for each of its edges and one for its root
-pub notes_count : {T : Type 0} (t : Node T) → length (notes_of t) ≡ suc (length (edges t))
-notes_count (Items n) = refl
-notes_count (Range n) = refl
-notes_count (Plain' n edge p input) = ap suc (notes_count input)
+row_notes : {T : Type 0} (t : Inputs (AnyNode T)) → length (notes_in any_machine t) ≡ length (edges_in t)
+row_notes End = refl
+row_notes (More' e n p below q beside) =
+    let ns = notes_in any_machine below in
+    let es = edges_in below in
+    ap suc (length-append ns (notes_in any_machine beside) ∙ (ap (λ k. k + length (notes_in any_machine beside)) (row_notes below) ∙ (ap (λ k. length es + k) (row_notes beside) ∙ sym (length-append es (edges_in beside)))))
+
+pub notes_count : {T : Type 0} (t : AnyTree T) → length (notes_of t) ≡ suc (length (edges t))
+notes_count t = ap suc (row_notes t.inputs)
 
 changed_length : (f : EdgeView → EdgeView) (at : ℕ) (es : List EdgeView) → length (changed_at f at es) ≡ length es
 changed_length f at [] = refl
@@ -116,20 +132,50 @@ changed_length f at (e ∷ es) = by_test (nat_eq at 0) (changed_length f (at - 1
     by_test true k = refl
     by_test false k = ap suc k
 
-carried_length : (ended : Bool) (f : Front) (at : ℕ) (es : List EdgeView) → length (carried_at ended f at es) ≡ length es
-carried_length ended f at [] = refl
-carried_length ended f at (e ∷ es) = by_test (nat_eq at 0) (carried_length ended f (at - 1) es)
+-- a Send leaves as many edges as there were
+row_sent : {M : Type 0} (ended : Bool) (f : Front) (t : Inputs M) (at : ℕ) → length (sent_edges ended f t at) ≡ length (edges_in t)
+row_sent ended f End at = refl
+row_sent {M} ended f (More' e n p below q beside) at = by_first (row_sent ended f below (at - 1)) (row_sent ended f beside (at - 1 - size below)) (nat_eq at 0)
   where
-    by_test : (b : Bool) → length (carried_at ended f (at - 1) es) ≡ length es → length (if b then carried ended f (e ∷ es) else e ∷ carried_at ended f (at - 1) es) ≡ suc (length es)
-    by_test true k = closed_if_length ended (passed e f ∷ es)
-    by_test false k = ap suc k
+    es : List EdgeView
+    es = edges_in below
+
+    fs : List EdgeView
+    fs = edges_in beside
+
+    inner : List EdgeView
+    inner = sent_edges ended f below (at - 1)
+
+    under : List EdgeView
+    under = closed_if (ended && is_own below (at - 1)) inner
+
+    past : List EdgeView
+    past = sent_edges ended f beside (at - 1 - size below)
+
+    by_place : length inner ≡ length es → length past ≡ length fs → (c : Bool) → length (if c then edge_view e ∷ (under ++ fs) else edge_view e ∷ (es ++ past)) ≡ suc (length (es ++ fs))
+    by_place i j true = ap suc (length-append under fs ∙ (ap (λ k. k + length fs) (closed_if_length (ended && is_own below (at - 1)) inner ∙ i) ∙ sym (length-append es fs)))
+    by_place i j false = ap suc (length-append es past ∙ (ap (λ k. length es + k) j ∙ sym (length-append es fs)))
+
+    by_first : length inner ≡ length es → length past ≡ length fs → (c : Bool) → length (if c then passed (edge_view e) f ∷ (es ++ fs) else (if nat_le at (size below) then edge_view e ∷ (under ++ fs) else edge_view e ∷ (es ++ past))) ≡ suc (length (es ++ fs))
+    by_first i j true = refl
+    by_first i j false = by_place i j (nat_le at (size below))
+
+sent_length : {T : Type 0} (ended : Bool) (f : Front) (part : AnyPart T) (at : ℕ) → length (Part.sent_at ended f part at) ≡ length (all_edges part)
+sent_length {T} ended f part at = by_root (nat_eq at 0)
+  where
+    after : List EdgeView
+    after = edges_after ended f part.tree (at - 1)
+
+    by_root : (c : Bool) → length (if c then passed (edge_view part.root) f ∷ edges part.tree else edge_view part.root ∷ after) ≡ suc (length (edges part.tree))
+    by_root true = refl
+    by_root false = ap suc (closed_if_length (ended && is_own part.tree.inputs (at - 1)) (sent_edges ended f part.tree.inputs (at - 1)) ∙ row_sent ended f part.tree.inputs (at - 1))
 
 pub closed_count : {T : Type 0} (old new : AnyPart T) → all_edges new ≡ map closed_view (all_edges old) → length (all_edges new) ≡ length (all_edges old)
 closed_count old new e = ap length e ∙ length-map (all_edges old) closed_view
 
 pub effect_count : {T : Type 0} (m : Meaning T) (move : Move) (old new : AnyPart T) (out : List (Signal T)) → Part.IsEffect m move old out new → length (all_edges new) ≡ length (all_edges old)
 effect_count m (Ask t n) old new out k = ap length k.1 ∙ changed_length (asked_up_to (Part.wanted old n.0)) n.0 (all_edges old)
-effect_count m (Send t n) old new out k = ap length k.edges ∙ carried_length (Part.receiver_ended new n.0) k.front n.0 (all_edges old)
+effect_count m (Send t n) old new out k = ap length k.edges ∙ sent_length (Part.receiver_ended new n.0) k.front old n.0
 effect_count m (Take t n) old new out k = absurd k
 
 pub moved_count : {T : Type 0} (m : Meaning T) (n : ℕ) (old new : AnyPart T) (queue out queue' : List (Signal T)) → Part.IsMovedBy m n old queue out new queue' → length (all_edges new) ≡ length (all_edges old)

@@ -1,9 +1,9 @@
 -- What a request and a cancel change.
 use Rattle.std.specs.Prelude.{◌≡◌, ℕ, ℤ, pos, negsuc, zero, suc, false, [], map}
 use Rattle.rsx_demand.specs.Demand.{saturating_total}
-use Rattle.rsx_edge.specs.Edges.{EdgeView, edge_view, closed_view}
+use Rattle.rsx_tree.specs.Edges.{EdgeView, edge_view, closed_view}
 use Rattle.rsx_pipe.specs.Part.{all_edges}
-use Rattle.rsx_tree.specs.Tree.{notes_of}
+use Rattle.rsx_pipe.specs.Tree.{notes_of}
 use Rattle.rsx_subscription.specs.declared.State.{State}
 use Rattle.rsx_subscription.specs.declared.State.TheVariants.{Cancelled as CancelledState, Failed as FailedState}
 use Rattle.rsx_subscriber.specs.declared.state.SubscriptionState.{SubscriptionState}

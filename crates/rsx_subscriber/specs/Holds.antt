@@ -7,7 +7,7 @@ use Rattle.rsx_types.specs.declared.note.Note.{Note}
 use Rattle.rsx_types.specs.declared.signal.Ending.TheVariants.{Open as NotEnded}
 use Rattle.rsx_model.specs.Answer.{IsScratch}
 use Rattle.rsx_model.specs.Eval.{environment}
-use Rattle.rsx_tree.specs.Tree.{notes_of}
+use Rattle.rsx_pipe.specs.Tree.{notes_of}
 use Rattle.rsx_subscriber.specs.declared.state.SubscriptionState.TheVariants.{Ended}
 use Rattle.rsx_subscriber.specs.declared.subscription.Subscription.{Subscription}
 use Rattle.rsx_subscriber.specs.Past.{Past, IsLive, IsOrderly, IsPrefixOf, items_in}

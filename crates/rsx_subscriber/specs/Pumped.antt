@@ -1,5 +1,5 @@
 -- What driving a subscription until it is idle does.
-use Rattle.std.specs.Prelude.{◌≡◌, ◌⊎◌, ℕ, zero, suc, ◌+◌, ◌≤◌, Bool, true, false, List, [], ◌∷◌, ◌++◌, map, Option, Result, Ok, Err}
+use Rattle.std.specs.Prelude.{◌<◌, ◌^◌, ◌≡◌, ◌⊎◌, ℕ, zero, suc, ◌+◌, ◌≤◌, Bool, true, false, List, [], ◌∷◌, ◌++◌, map, Option, Result, Ok, Err}
 use Rattle.std.specs.Option.{option_to_list}
 use Rattle.rsx_types.specs.Meaning.{Meaning}
 use Rattle.rsx_types.specs.Stream.{Stream}
@@ -55,13 +55,13 @@ moves_of (Ok true) = 1
 moves_of (Ok false) = 0
 moves_of (Err e) = 0
 
--- no move of a subscription is enabled
+-- no move of a subscription that has a number is enabled
 abbrev pub IsQuiet : {T : Type 0} → Meaning T → Subscription T → Type 0
-IsQuiet m sub = (at : ℕ) → (ask_enabled sub at ≡ false) × (send_enabled m sub at ≡ false) × (take_enabled sub at ≡ false)
+IsQuiet m sub = (at : ℕ) → at < 2 ^ 32 → (ask_enabled sub at ≡ false) × (send_enabled m sub at ≡ false) × (take_enabled sub at ≡ false)
 
--- some move of a subscription is enabled
+-- some move of a subscription that has a number is enabled
 abbrev pub IsAwake : {T : Type 0} → Meaning T → Subscription T → Type 0
-IsAwake m sub = (at : ℕ) × ((ask_enabled sub at ≡ true) ⊎ ((send_enabled m sub at ≡ true) ⊎ (take_enabled sub at ≡ true)))
+IsAwake m sub = (at : ℕ) × (at < 2 ^ 32) × ((ask_enabled sub at ≡ true) ⊎ ((send_enabled m sub at ≡ true) ⊎ (take_enabled sub at ≡ true)))
 
 -- how driving a subscription ends after so many moves: Idle, with what is left of the budget, where no move is enabled;
 -- Budget where one is and the whole budget was spent

@@ -14,8 +14,8 @@ use Rattle.rsx_model.specs.Check.{refusal}
 use Rattle.rsx_model.specs.Shape.{nodes, leaves}
 use Rattle.rsx_pipe.specs.Part.{PartStands, all_edges}
 use Rattle.rsx_pipe.specs.Part as Part
-use Rattle.rsx_tree.specs.Tree.{comes_out, notes_of, IsAllClosed}
-use Rattle.rsx_edge.specs.declared.edge.EdgeState.TheVariants.{Live, Closed}
+use Rattle.rsx_pipe.specs.Tree.{comes_out, notes_of, IsAllClosed}
+use Rattle.rsx_tree.specs.declared.edge.EdgeState.TheVariants.{Live, Closed}
 use Rattle.rsx_subscriber.specs.declared.state.SubscriptionState.{SubscriptionState}
 use Rattle.rsx_subscriber.specs.declared.state.SubscriptionState.TheVariants.{Open, Ended, Cancelled, Refused}
 use Rattle.rsx_subscriber.specs.declared.subscription.Subscription.{Subscription}

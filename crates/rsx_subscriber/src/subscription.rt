@@ -45,9 +45,9 @@ impl<T: Drop> Subscription<T> {
     ghost use Rattle.rsx_model.specs.Check.{refusal};
     ghost use Rattle.rsx_types.specs.declared.names.SubId.{SubId};
     ghost use Rattle.rsx_types.specs.declared.signal.Signal.{Signal};
-    ghost use Rattle.rsx_edge.specs.Edges.{closed_view};
+    ghost use Rattle.rsx_tree.specs.Edges.{closed_view};
     ghost use Rattle.rsx_pipe.specs.Part.{all_edges, HasEnded, IsPutOut, make_allocates, move_enabled};
-    ghost use Rattle.rsx_tree.specs.Tree.{notes_of, IsAllClosed};
+    ghost use Rattle.rsx_pipe.specs.Tree.{notes_of, IsAllClosed};
     ghost use Rattle.rsx_subscriber.specs.Past.{Past, subscribed, cancelled, requested, given, request_answer};
     ghost use Rattle.rsx_subscriber.specs.Stands.{Stands, standing_of, owed_from, take_enabled, IsWorked, IsTake};
     ghost use Rattle.rsx_subscriber.specs.Begun.{IsFresh};

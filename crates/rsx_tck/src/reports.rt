@@ -106,7 +106,8 @@ pub fn judge(rule: Rule, trace: &[Stamped]) -> Verdict
     }
 }
 
-/// Each rule with what the trace says of it, in the order of the rules. It takes no memory.
+/// Each rule with what the trace says of it, in the order of the rules. It takes no memory, and its time is that of
+/// [`judge`] for each of the 13 rules that are judged.
 pub fn report(trace: &[Stamped]) -> [(Rule, Verdict); 43]
     ensures { IsReport trace.now result }
 {

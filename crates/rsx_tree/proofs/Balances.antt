@@ -1,218 +1,204 @@
--- How the counts along the edges stay balanced, and what an idle tree with balanced counts offers.
-use Rattle.std.proofs.Common.{◌≡◌, ◌⊎◌, inl, inr, ℕ, zero, suc, ◌+◌, ◌-◌, ◌*◌, ◌<◌, ◌≤◌, min, Bool, true, false, ◌&&◌, nat_lt, nat_eq, if◌then◌else◌, List, [], ◌∷◌, ◌++◌, length, refl, sym, ap, ◌∙◌, subst, arith, Option, Some, None, option_map, slice_get, Box, Global}
-use Rattle.std.proofs.Math.Nat.{mul-le-mul_right}
-use Rattle.std.proofs.lemmas.Bool.Decides.{nat_tests}
+-- How the counts along the edges stay balanced.
+use Rattle.std.proofs.Common.{◌≡◌, ◌⊎◌, inl, inr, ℕ, zero, suc, ◌+◌, ◌-◌, ◌<◌, ◌≤◌, Bool, true, false, ◌&&◌, List, [], ◌∷◌, ◌++◌, length, refl, ap, sym, ◌∙◌, subst, arith, append_assoc, length-append, Option, Some, None, option_map}
 use Rattle.rsx_types.specs.Meaning.{Meaning}
 use Rattle.rsx_types.specs.declared.signal.Signal.{Signal}
 use Rattle.rsx_types.specs.declared.signal.Signal.TheVariants.{Next, Complete, Error}
-use Rattle.rsx_sources.specs.Machine.{front_of, first_of}
-use Rattle.rsx_sources.specs.Range.{range_left}
-use Rattle.rsx_sources.specs.Slot.{is_nil}
-use Rattle.rsx_sources.specs.declared.machine.Front.{Front}
-use Rattle.rsx_sources.specs.declared.machine.Front.TheVariants.{Item, Completion, Failure}
-use Rattle.rsx_plain.specs.Moves.{has_ending}
-use Rattle.rsx_plain.specs.Node.{plain_ended, plain_popped, plain_takes, plain_wanted, plain_waiting}
-use Rattle.rsx_plain.specs.State.{balanced, is_over, Counts, most_asked, wanted_from}
-use Rattle.rsx_plain.specs.declared.node.PlainNode.{PlainNode}
-use Rattle.rsx_plain.specs.declared.state.PlainState.{PlainState}
-use Rattle.rsx_plain.specs.declared.state.PlainState.TheVariants.{Map as MapFrom, Filter as FilterFrom, Take as TakeFrom, Scan as ScanFrom, Buffer as BufferFrom, Distinct as DistinctFrom}
-use Rattle.rsx_tree.specs.Balance.{IsBalanced, IsNodeBalanced, IsBalancedAfter, IsWithin}
-use Rattle.rsx_edge.specs.Edges.{edge_view, EdgeView, is_live, can_ask_for, can_pass, passed, IsAsked}
-use Rattle.rsx_tree.specs.Tree.{offers, can_go, can_send_over, can_ask, can_send, IsIdle}
-use Rattle.rsx_edge.specs.declared.edge.Edge.{Edge}
-use Rattle.rsx_edge.specs.declared.edge.EdgeState.TheVariants.{Live}
-use Rattle.rsx_tree.specs.declared.node.Node.{Node, Items, Range, Plain'}
-use Rattle.rsx_tree.specs.declared.node.Node.TheViews.{Plain}
+use Rattle.rsx_sources.specs.Counts.{CountsIn, CountsOut, taken_after, one_more, ends_input}
+use Rattle.rsx_sources.specs.Machine.{front_of}
+use Rattle.rsx_sources.specs.declared.machine.Machine.{Ghosts as Machine}
+use Rattle.rsx_tree.specs.declared.edge.Edge.{Edge}
+use Rattle.rsx_tree.specs.declared.edge.EdgeState.{EdgeState}
+use Rattle.rsx_tree.specs.declared.edge.EdgeState.TheVariants.{Live, Ended, Closed}
+use Rattle.rsx_tree.specs.declared.inputs.Inputs.{Inputs, End, More'}
+use Rattle.rsx_tree.specs.declared.node.Node.{Node}
+use Rattle.rsx_tree.specs.Edges.{edge_view, EdgeView, passed, asked_up_to}
+use Rattle.rsx_tree.specs.Inputs.{size, is_own, closed_row_if}
+use Rattle.rsx_tree.specs.Changed.{Change, IsChanged, IsAskedOver, IsSentOver}
+use Rattle.rsx_tree.specs.Balance.{sent_over, IsOwnerBalanced, IsRowBalanced, IsBalanced, IsBalancedAfter}
 
-abbrev Below : Type 0 → Type 0
-Below T = Box (Node T) Global
+-- ---- an Ask
 
--- ---- a signal leaves a plain node
+pub record IsAskBalanced {M T : Type 0} (b : Machine M T) (r : M) (i : ℕ) (t : Inputs M) (r' : M) (t' : Inputs M) : Type 0 where
+  pub receiver : r' ≡ r
+  pub counts : sent_over t' ≡ sent_over t
+  pub row : IsRowBalanced b r i t → IsRowBalanced b r i t'
 
-pub balanced_popped : {T : Type 0} (n n' : PlainNode T) (edge : Edge) (below : Below T) (s : Signal T) (sent : ℕ) → plain_popped n s n' → IsBalanced (Plain n edge below) sent → IsBalancedAfter s (Plain n' edge below) sent
-balanced_popped {T} n n' edge below (Next x) sent p h =
-    let ended : plain_ended n' ≡ plain_ended n = sym (ap has_ending p.0) in
-    let fewer : length n.slot ≡ length n'.slot + 1 = ap length p.0 ∙ one_more (length n'.slot) in
-    let P : PlainState T → Type 0 = λ st. balanced st edge.demand.sent (sent + length n.slot) in
-    let Q : ℕ → Type 0 = λ put. balanced n'.state edge.demand.sent put in
-    let moved : sent + length n.slot ≡ (sent + 1) + length n'.slot = omega (arith, fewer) in
-    elim h [
-      | inl e ↦ inl (ended ∙ e)
-      | inr r ↦ inr (ended ∙ r.0, ap is_over (sym p.1) ∙ r.1, r.2, subst Q moved (subst P p.1 r.3), r.4)
-    ]
-  where
-    one_more : (k : ℕ) → suc k ≡ k + 1
-    one_more k = omega arith
-balanced_popped n n' edge below Complete sent p h = tt
-balanced_popped n n' edge below (Error c) sent p h = tt
-
-pub leaf_balanced : {T : Type 0} (s : Signal T) (t : Node T) (sent : ℕ) → ((k : ℕ) → IsBalanced t k) → IsBalancedAfter s t sent
-leaf_balanced (Next x) t sent h = h (sent + 1)
-leaf_balanced Complete t sent h = tt
-leaf_balanced (Error c) t sent h = tt
-
--- ---- a signal goes into a plain node
-
-nil_of : {A : Type 0} (xs : List A) → is_nil xs ≡ true → xs ≡ []
-nil_of [] e = refl
-nil_of (x ∷ xs) e = cc
-
-pub balanced_over : {T : Type 0} (n n' : PlainNode T) (e e1 e' : Edge) (i i1 i' : Node T) (f : Front) (s : Signal T) (sent : ℕ) →
-    f ≡ front_of s → is_nil n.slot ≡ true → ((k : ℕ) → IsBalanced i k → IsBalancedAfter s i1 k) → Counts n.state s n'.slot n'.state → (is_over n'.state ≡ true → plain_ended n' ≡ true) →
-    edge_view e1 ≡ passed (edge_view e) f → (plain_ended n' ≡ false → (e' ≡ e1) × (i' ≡ i1)) → IsNodeBalanced n e i sent → IsNodeBalanced n' e' i' sent
-balanced_over {T} n n' e e1 e' i i1 i' f s sent named nil rest counts over view same h = by_end (plain_ended n') refl
-  where
-    empty : n.slot ≡ []
-    empty = nil_of n.slot nil
-
-    not_over : (b : Bool) → is_over n'.state ≡ b → plain_ended n' ≡ false → is_over n'.state ≡ false
-    not_over true o q = let t = over o in cc
-    not_over false o q = o
-
-    item : (x : T) → s ≡ Next x → plain_ended n' ≡ false → IsNodeBalanced n' e' i' sent
-    item x is q =
-        let C : Signal T → Type 0 = λ t. Counts n.state t n'.slot n'.state in
-        let R : Signal T → Type 0 = λ t. (k : ℕ) → IsBalanced i k → IsBalancedAfter t i1 k in
-        let c : Counts n.state (Next x) n'.slot n'.state = subst C is counts in
-        let r1 : (k : ℕ) → IsBalanced i k → IsBalanced i1 (k + 1) = subst R is rest in
-        let front : f ≡ Item = named ∙ ap front_of is in
-        let went : edge_view e1 ≡ passed (edge_view e) Item = view ∙ ap (passed (edge_view e)) front in
-        let to : e' ≡ e1 = (same q).0 in
-        let count : e'.demand.sent ≡ e.demand.sent + 1 = ap (λ d. d.demand.sent) to ∙ ap (λ v. v.sent) went in
-        let state : e'.state ≡ e.state = ap (λ d. d.state) to ∙ ap (λ v. v.state) went in
-        let was : plain_ended n ≡ false = ap has_ending empty in
-        let none : length n.slot ≡ 0 = ap length empty in
-        let put : sent + length n.slot + length n'.slot ≡ sent + length n'.slot = omega (arith, none) in
-        let B : ℕ → Type 0 = λ k. balanced n'.state k (sent + length n'.slot) in
-        let P : ℕ → Type 0 = λ k. balanced n'.state (e.demand.sent + 1) k in
-        let I : Node T → Type 0 = λ t. IsBalanced t e'.demand.sent in
-        let K : ℕ → Type 0 = λ k. IsBalanced i1 k in
-        elim h [
-          | inl ended ↦ absurd (ended_and_not (plain_ended n) ended was)
-          | inr r ↦ inr (
-            q,
-            not_over (is_over n'.state) refl q,
-            state ∙ r.2,
-            subst B (sym count) (subst P put (c q e.demand.sent (sent + length n.slot) r.3)),
-            subst I (sym (same q).1) (subst K (sym count) (r1 e.demand.sent r.4)),
-          )
-        ]
-      where
-        ended_and_not : (b : Bool) → b ≡ true → b ≡ false → ⊥
-        ended_and_not b x y = cc
-
-    by_signal : (t : Signal T) → s ≡ t → plain_ended n' ≡ false → IsNodeBalanced n' e' i' sent
-    by_signal (Next x) is q = item x is q
-    by_signal Complete is q = let C : Signal T → Type 0 = λ t. Counts n.state t n'.slot n'.state in let c : plain_ended n' ≡ true = subst C is counts in cc
-    by_signal (Error c) is q = let C : Signal T → Type 0 = λ t. Counts n.state t n'.slot n'.state in let k : plain_ended n' ≡ true = subst C is counts in cc
-
-    by_end : (b : Bool) → plain_ended n' ≡ b → IsNodeBalanced n' e' i' sent
-    by_end true q = inl q
-    by_end false q = by_signal s refl q
-
--- ---- one arm of a match on a tree
-
-pub balanced_here : {T : Type 0} (old was : Node T) (n n' : PlainNode T) (edge edge' : Edge) (below below' : Below T) (sent : ℕ) → old ≡ Plain n edge below → was ≡ below.value → (IsNodeBalanced n edge was sent → IsNodeBalanced n' edge' below'.value sent) → IsBalanced old sent → IsBalanced (Plain n' edge' below') sent
-balanced_here {T} old was n n' edge edge' below below' sent is at h b =
-    let P : Node T → Type 0 = λ t. IsBalanced t sent in
-    let Q : Node T → Type 0 = λ t. IsNodeBalanced n edge t sent in
-    let k : IsNodeBalanced n edge below.value sent = subst P is b in
-    h (subst Q (sym at) k)
-
-pub balanced_below : {T : Type 0} (old was : Node T) (n : PlainNode T) (edge : Edge) (below below' : Below T) (sent : ℕ) → old ≡ Plain n edge below → was ≡ below.value → ((k : ℕ) → IsBalanced was k → IsBalanced below'.value k) → IsBalanced old sent → IsBalanced (Plain n edge below') sent
-balanced_below {T} old was n edge below below' sent is at h b =
-    balanced_here old was n n edge edge below below' sent is at (λ k. elim k [ inl e ↦ inl e | inr r ↦ inr (r.0, r.1, r.2, r.3, h edge.demand.sent r.4) ]) b
-
--- an Ask leaves what was sent
-pub balanced_asked : {T : Type 0} (n : PlainNode T) (edge edge' : Edge) (input : Node T) (sent want : ℕ) → IsAsked want (edge_view edge) (edge_view edge') → IsNodeBalanced n edge input sent → IsNodeBalanced n edge' input sent
-balanced_asked {T} n edge edge' input sent want k h =
-    let B : ℕ → Type 0 = λ c. balanced n.state c (sent + length n.slot) in
-    let I : ℕ → Type 0 = λ c. IsBalanced input c in
-    elim h [ inl e ↦ inl e | inr r ↦ inr (r.0, r.1, k.state ∙ r.2, subst B (sym k.sent) r.3, subst I (sym k.sent) r.4) ]
-
--- ---- an idle tree
-
-pub suc_minus : (at : ℕ) → (at + 1) - 1 ≡ at
-suc_minus at = omega arith
-
-pub above_zero : (at : ℕ) (x y : Bool) → (if nat_eq (at + 1) 0 then x else y) ≡ y
-above_zero at x y = grind (arith, nat_tests)
-
-less_or_not : (a b : ℕ) → (a < b) ⊎ (b ≤ a)
-less_or_not a b = by_test (nat_lt a b) refl
-  where
-    by_test : (t : Bool) → nat_lt a b ≡ t → (a < b) ⊎ (b ≤ a)
-    by_test true e = inl (grind (arith, nat_tests))
-    by_test false e = inr (grind (arith, nat_tests))
-
-dropped_more : (taken put asked d : ℕ) → (d < most_asked → taken ≡ put + d) → put < asked → taken < most_asked → taken < min most_asked (asked + d)
-dropped_more taken put asked d b l w = elim (less_or_not d most_asked) [
-  | inl few ↦ let c = b few in omega (arith, c, l, w)
-  | inr many ↦ omega (arith, many, l, w)
+pub ask_balanced : {M T : Type 0} (b : Machine M T) (r : M) (i asked sent : ℕ) (t : Inputs M) (at : ℕ) (r' : M) (t' : Inputs M) → IsChanged (IsAskedOver b) (λ n. false) r i asked sent t at r' t' → IsAskBalanced b r i t r' t'
+ask_balanced b r i asked sent End at r' t' h = absurd h
+ask_balanced {M} b r i asked sent (More' e n p below q beside) at r' t' h = elim h [
+  | inl x ↦
+      let Q : Inputs M → Type 0 = λ u. IsRowBalanced b r i u in
+      let made = x.made in
+      let count : x.e'.demand.sent ≡ e.demand.sent = ap (λ v. v.sent) made.edge in
+      let state : x.e'.state ≡ e.state = ap (λ v. v.state) made.edge in
+      let S : ℕ → Type 0 = λ k. IsOwnerBalanced b n (sent_over below) k (IsRowBalanced b n 0 below) in
+      let N : M → Type 0 = λ k. IsOwnerBalanced b k (sent_over below) x.e'.demand.sent (IsRowBalanced b k 0 below) in
+      record {
+        receiver = made.receiver;
+        counts = ap sent_over x.new_is ∙ ap (λ k. k ∷ sent_over beside) count;
+        row = λ k. subst Q (sym x.new_is) (elim k.0 [ inl d ↦ inl d | inr o ↦ inr (state ∙ o.0, subst N (sym made.sender) (subst S (sym count) o.1)) ], k.1);
+      }
+  | inr y ↦ elim y [
+    | inl x ↦
+        let rec = ask_balanced b n 0 e.demand.asked e.demand.sent below (at - 1) x.n' x.mid x.made in
+        let whole : t' ≡ More' e n p x.mid q beside = x.new_is ∙ ap (λ k. More' e k p x.mid q beside) rec.receiver in
+        let Q : Inputs M → Type 0 = λ u. IsRowBalanced b r i u in
+        let C : List ℕ → Type 0 = λ l. b.counted n l e.demand.sent in
+        record {
+          receiver = x.receiver;
+          counts = ap sent_over whole;
+          row = λ k. subst Q (sym whole) (elim k.0 [ inl d ↦ inl d | inr o ↦ inr (o.0, elim o.1 [ inl f ↦ inl f | inr w ↦ inr (w.0, subst C (sym rec.counts) w.1, rec.row w.2) ]) ], k.1);
+        }
+    | inr x ↦
+        let rec = ask_balanced b r (i + 1) asked sent beside (at - 1 - size below) r' x.beside' x.made in
+        let Q : Inputs M → Type 0 = λ u. IsRowBalanced b r i u in
+        record {
+          receiver = rec.receiver;
+          counts = ap sent_over x.new_is ∙ ap (λ l. e.demand.sent ∷ l) rec.counts;
+          row = λ k. subst Q (sym x.new_is) (k.0, rec.row k.1);
+        }
+  ]
 ]
 
--- where more is asked of a node than it put out, it wants more than it took in
-wants_more : {T : Type 0} (state : PlainState T) (taken put asked sent : ℕ) → balanced state taken put → is_over state ≡ false → put < asked → taken < most_asked → taken < wanted_from state asked sent
-wants_more (MapFrom f) taken put asked sent b o l w = omega (arith, b, l)
-wants_more (FilterFrom f d) taken put asked sent b o l w = dropped_more taken put asked d b l w
-wants_more (TakeFrom n zero) taken put asked sent b o l w = cc
-wants_more (TakeFrom n (suc left)) taken put asked sent b o l w = let p = b.0 in let q = b.1 in omega (arith, p, q, l)
-wants_more (ScanFrom f a) taken put asked sent b o l w = omega (arith, b, l)
-wants_more (BufferFrom n xs) taken put asked sent b o l w =
-    let more : put + 1 ≤ asked = omega (arith, l) in
-    let times : (put + 1) * n ≤ asked * n = mul-le-mul_right n more in
-    let spread : (put + 1) * n ≡ put * n + n = grind arith in
-    let p = b.0 in
-    let q = b.1 in
-    omega (arith, p, q, times, spread, w)
-wants_more (DistinctFrom f ks d) taken put asked sent b o l w = dropped_more taken put asked d b l w
+-- ---- a Send
 
-not_less : (a b : ℕ) → a < b → nat_lt a b ≡ true
-not_less a b l = grind (arith, nat_tests)
+-- what was done stays done, so the inputs that didn't change stay balanced
+others_balanced : {M T : Type 0} (b : Machine M T) (r r' : M) (i : ℕ) (t : Inputs M) → ((j : ℕ) → b.done r j ≡ true → b.done r' j ≡ true) → IsRowBalanced b r i t → IsRowBalanced b r' i t
+others_balanced b r r' i End stays h = tt
+others_balanced b r r' i (More' e n p below q beside) stays h = (elim h.0 [ inl d ↦ inl (stays i d) | inr o ↦ inr o ], others_balanced b r r' (i + 1) beside stays h.1)
 
-pub can_pass_live : (e : EdgeView) (f : Front) → is_live e.state ≡ true → e.sent < e.asked → can_pass e f ≡ true
-can_pass_live e Item v l = rw (v, not_less e.sent e.asked l) refl
-can_pass_live e Completion v l = v
-can_pass_live e (Failure c) v l = v
+one_more_at : (before : List ℕ) (c : ℕ) (cs : List ℕ) → one_more (length before) (before ++ c ∷ cs) ≡ before ++ (c + 1) ∷ cs
+one_more_at [] c cs = refl
+one_more_at (k ∷ ks) c cs = ap (λ l. k ∷ l) (one_more_at ks c cs)
 
--- an idle tree of which more is asked than it sent offers a signal
-pub offers_more : {T : Type 0} (m : Meaning T) (t : Node T) (asked sent : ℕ) → IsIdle m t asked sent → IsBalanced t sent → sent < asked → IsWithin t → (s : Signal T) × (offers m t ≡ Some s)
-offers_more m (Items n) asked sent idle b l w = (first_of n.left, refl)
-offers_more m (Range n) asked sent idle b l w = (first_of (range_left m n), refl)
-offers_more {T} m (Plain' n edge p input) asked sent idle b l w = by_slot (λ i k r v. offers_more m input edge.demand.asked edge.demand.sent i k r v) n.slot refl
-  where
-    idle_below : IsIdle m input edge.demand.asked edge.demand.sent
-    idle_below at =
-        let here = idle (at + 1) in (
-          sym (ap (λ k. can_ask input k edge.demand.asked edge.demand.sent) (suc_minus at)) ∙ (sym (above_zero at _ _) ∙ here.0),
-          sym (ap (λ k. can_send m input k) (suc_minus at)) ∙ (sym (above_zero at _ _) ∙ here.1),
-        )
+-- a signal went over an edge that carried `c` items
+abbrev sent_after : {T : Type 0} → Signal T → ℕ → ℕ
+sent_after (Next x) c = c + 1
+sent_after Complete c = c
+sent_after (Error f) c = c
 
-    never : (x : Bool) → x ≡ true → x ≡ false → ⊥
-    never x y z = cc
+taken_is : {T : Type 0} (s : Signal T) (before : List ℕ) (c : ℕ) (cs : List ℕ) → taken_after (length before) s (before ++ c ∷ cs) ≡ before ++ sent_after s c ∷ cs
+taken_is (Next x) before c cs = one_more_at before c cs
+taken_is Complete before c cs = refl
+taken_is (Error f) before c cs = refl
 
-    OffersBelow : Type 0
-    OffersBelow = IsIdle m input edge.demand.asked edge.demand.sent → IsBalanced input edge.demand.sent → edge.demand.sent < edge.demand.asked → IsWithin input → (s : Signal T) × (offers m input ≡ Some s)
+passed_count : {T : Type 0} (e : EdgeView) (s : Signal T) → (passed e (front_of s)).sent ≡ sent_after s e.sent
+passed_count e (Next x) = refl
+passed_count e Complete = refl
+passed_count e (Error c) = refl
 
-    stuck : OffersBelow → n.slot ≡ [] → ⊥
-    stuck below empty = elim b [
-      | inl e ↦ never (plain_ended n) e (ap has_ending empty)
-      | inr r ↦
-          let live : is_live edge.state ≡ true = ap is_live r.2 in
-          let none : length n.slot ≡ 0 = ap length empty in
-          let less : sent + length n.slot < asked = omega (arith, none, l) in
-          let want : edge.demand.sent < plain_wanted n 0 asked sent = wants_more n.state edge.demand.sent (sent + length n.slot) asked sent r.3 r.1 less w.0 in
-          let asks : can_ask_for (edge_view edge) (plain_wanted n 0 asked sent) ≡ false = (idle 0).0 in
-          let room : edge.demand.sent < edge.demand.asked = enough edge.demand.asked (plain_wanted n 0 asked sent) edge.demand.sent (is_live edge.state) live asks want in
-          let s = below idle_below r.4 room w.1 in
-          let goes : can_send_over m n edge input ≡ true = rw (empty, s.1) (can_pass_live (edge_view edge) (front_of s.0) live room) in
-          never (can_send_over m n edge input) goes (idle 0).1
+-- an input after its signal went over its edge
+first_balanced : {M T : Type 0} (b : Machine M T) (r' : M) (i : ℕ) (e e' : Edge) (n n' : M) (below : Inputs M) (s : Signal T) → edge_view e' ≡ passed (edge_view e) (front_of s) → CountsOut b.counted b.ended b.done n (Some s) n' → (ends_input s ≡ true → b.done r' i ≡ true) →
+    (b.done r' i ≡ true) ⊎ ((e.state ≡ Live) × IsOwnerBalanced b n (sent_over below) e.demand.sent (IsRowBalanced b n 0 below)) →
+    (b.done r' i ≡ true) ⊎ ((e'.state ≡ Live) × IsOwnerBalanced b n' (sent_over below) e'.demand.sent (IsRowBalanced b n' 0 below))
+first_balanced {M} b r' i e e' n n' below (Next x) edge counts is_done h =
+    let C : ℕ → Type 0 = λ k. b.counted n' (sent_over below) k in
+    let count : e'.demand.sent ≡ e.demand.sent + 1 = ap (λ v. v.sent) edge in
+    elim h [
+      | inl d ↦ inl d
+      | inr o ↦ inr (
+        ap (λ v. v.state) edge ∙ o.0,
+        elim o.1 [
+          | inl f ↦ inl (counts.0 ∙ f)
+          | inr w ↦ inr (counts.0 ∙ w.0, subst C (sym count) (counts.1 (sent_over below) e.demand.sent w.1), others_balanced b n n' 0 below counts.2 w.2)
+        ],
+      )
     ]
-      where
-        enough : (a k c : ℕ) (v : Bool) → v ≡ true → v && nat_lt a k ≡ false → c < k → c < a
-        enough a k c true e f g = elim (less_or_not a k) [ inl x ↦ absurd (never (nat_lt a k) (not_less a k x) f) | inr y ↦ omega (arith, y, g) ]
-        enough a k c false e f g = cc
+first_balanced b r' i e e' n n' below Complete edge counts is_done h = inl (is_done refl)
+first_balanced b r' i e e' n n' below (Error c) edge counts is_done h = inl (is_done refl)
 
-    by_slot : OffersBelow → (xs : List (Signal T)) → n.slot ≡ xs → (s : Signal T) × (slice_get n.slot 0 ≡ Some s)
-    by_slot below [] e = absurd (stuck below e)
-    by_slot below (s ∷ ss) e = (s, ap (λ ys. slice_get ys 0) e)
+pub record IsSendBalanced {M T : Type 0} (b : Machine M T) (r : M) (i : ℕ) (t : Inputs M) (r' : M) (t' : Inputs M) : Type 0 where
+  pub stays : b.ended r ≡ true → b.ended r' ≡ true
+  pub done : (j : ℕ) → b.done r j ≡ true → b.done r' j ≡ true
+  pub row : b.ended r' ≡ false → IsRowBalanced b r i t → IsRowBalanced b r' i t'
+  pub counted : b.ended r' ≡ false → (before : List ℕ) → length before ≡ i → (s : ℕ) → b.counted r (before ++ sent_over t) s → b.counted r' (before ++ sent_over t') s
+
+-- a node below ended by it, or is balanced still
+below_balanced : {M T : Type 0} (b : Machine M T) (n n' : M) (below mid : Inputs M) (own : Bool) (s : ℕ) → IsSendBalanced b n 0 below n' mid → IsOwnerBalanced b n (sent_over below) s (IsRowBalanced b n 0 below) →
+    IsOwnerBalanced b n' (sent_over (closed_row_if (b.ended n' && own) mid)) s (IsRowBalanced b n' 0 (closed_row_if (b.ended n' && own) mid))
+below_balanced {M} b n n' below mid own s rec h = elim h [ inl f ↦ inl (rec.stays f) | inr w ↦ by_end (b.ended n') refl w.1 w.2 ]
+  where
+    by_end : (c : Bool) → b.ended n' ≡ c → b.counted n (sent_over below) s → IsRowBalanced b n 0 below → IsOwnerBalanced b n' (sent_over (closed_row_if (b.ended n' && own) mid)) s (IsRowBalanced b n' 0 (closed_row_if (b.ended n' && own) mid))
+    by_end true c count row = inl c
+    by_end false c count row =
+        let Q : Inputs M → Type 0 = λ u. IsOwnerBalanced b n' (sent_over u) s (IsRowBalanced b n' 0 u) in
+        let open_still : closed_row_if (b.ended n' && own) mid ≡ mid = ap (λ d. closed_row_if (d && own) mid) c in
+        subst Q (sym open_still) (inr (c, rec.counted c [] refl s count, rec.row c row))
+
+pub send_balanced : {M T : Type 0} (b : Machine M T) (m : Meaning T) (r : M) (i asked sent : ℕ) (t : Inputs M) (at : ℕ) (r' : M) (t' : Inputs M) → IsChanged (IsSentOver b m) b.ended r i asked sent t at r' t' → IsSendBalanced b r i t r' t'
+send_balanced b m r i asked sent End at r' t' h = absurd h
+send_balanced {M} b m r i asked sent (More' e n p below q beside) at r' t' h = elim h [
+  | inl x ↦
+      let made = x.made in
+      let counts = made.counts_in in
+      let Q : Inputs M → Type 0 = λ u. IsRowBalanced b r' i u in
+      let count : x.e'.demand.sent ≡ sent_after made.signal e.demand.sent = ap (λ v. v.sent) made.edge ∙ passed_count (edge_view e) made.signal in
+      record {
+        stays = counts.stays_ended;
+        done = counts.stays_done;
+        row = λ still k. subst Q (sym x.new_is) (
+          first_balanced b r' i e x.e' n x.n' below made.signal made.edge made.counts_out (counts.is_done still) (elim k.0 [ inl d ↦ inl (counts.stays_done i d) | inr o ↦ inr o ]),
+          others_balanced b r r' (i + 1) beside counts.stays_done k.1,
+        );
+        counted = λ still before len s c.
+            let L : List ℕ → Type 0 = λ l. b.counted r' l s in
+            let moved : taken_after i made.signal (before ++ e.demand.sent ∷ sent_over beside) ≡ before ++ sent_over t' =
+            ap (λ j. taken_after j made.signal (before ++ e.demand.sent ∷ sent_over beside)) (sym len)
+            ∙ (taken_is made.signal before e.demand.sent (sent_over beside)
+            ∙ (ap (λ k. before ++ k ∷ sent_over beside) (sym count) ∙ ap (λ u. before ++ sent_over u) (sym x.new_is))) in
+            subst L moved (counts.counts still (before ++ e.demand.sent ∷ sent_over beside) s c);
+      }
+  | inr y ↦ elim y [
+    | inl x ↦
+        let own = is_own below (at - 1) in
+        let rec = send_balanced b m n 0 e.demand.asked e.demand.sent below (at - 1) x.n' x.mid x.made in
+        let Q : Inputs M → Type 0 = λ u. IsRowBalanced b r' i u in
+        let R : M → Type 0 = λ k. IsRowBalanced b k i (More' e x.n' p (closed_row_if (b.ended x.n' && own) x.mid) q beside) in
+        record {
+          stays = λ f. ap b.ended x.receiver ∙ f;
+          done = λ j d. ap (λ k. b.done k j) x.receiver ∙ d;
+          row = λ still k. subst Q (sym x.new_is) (subst R (sym x.receiver) (elim k.0 [ inl d ↦ inl d | inr o ↦ inr (o.0, below_balanced b n x.n' below x.mid own e.demand.sent rec o.1) ], k.1));
+          counted = λ still before len s c.
+              let L : M → Type 0 = λ k. b.counted k (before ++ sent_over t') s in
+              let S : List ℕ → Type 0 = λ l. b.counted r (before ++ l) s in
+              subst L (sym x.receiver) (subst S (sym (ap sent_over x.new_is)) c);
+        }
+    | inr x ↦
+        let rec = send_balanced b m r (i + 1) asked sent beside (at - 1 - size below) r' x.beside' x.made in
+        let Q : Inputs M → Type 0 = λ u. IsRowBalanced b r' i u in
+        record {
+          stays = rec.stays;
+          done = rec.done;
+          row = λ still k. subst Q (sym x.new_is) (elim k.0 [ inl d ↦ inl (rec.done i d) | inr o ↦ inr o ], rec.row still k.1);
+          counted = λ still before len s c.
+              let S : List ℕ → Type 0 = λ l. b.counted r' (before ++ l) s in
+              let A : List ℕ → Type 0 = λ l. b.counted r l s in
+              let B : List ℕ → Type 0 = λ l. b.counted r' l s in
+              subst S (sym (ap sent_over x.new_is)) (subst B (append_assoc before (e.demand.sent ∷ []) (sent_over x.beside'))
+              (rec.counted still (before ++ e.demand.sent ∷ []) (length-append before (e.demand.sent ∷ []) ∙ ap (λ j. j + 1) len) s (subst A (sym (append_assoc before (e.demand.sent ∷ []) (sent_over beside))) c)));
+        }
+  ]
+]
+
+-- ---- a tree
+
+pub tree_ask_balanced : {M T : Type 0} (b : Machine M T) (r : M) (asked sent : ℕ) (t : Inputs M) (at : ℕ) (t' : Inputs M) (s : ℕ) → IsChanged (IsAskedOver b) (λ n. false) r 0 asked sent t at r t' → IsBalanced b (record { machine = r; inputs = t }) s → IsBalanced b (record { machine = r; inputs = t' }) s
+tree_ask_balanced b r asked sent t at t' s h k =
+    let rec = ask_balanced b r 0 asked sent t at r t' h in
+    let C : List ℕ → Type 0 = λ l. b.counted r l s in
+    elim k [ inl f ↦ inl f | inr w ↦ inr (w.0, subst C (sym rec.counts) w.1, rec.row w.2) ]
+
+pub tree_send_balanced : {M T : Type 0} (b : Machine M T) (m : Meaning T) (r r' : M) (asked sent : ℕ) (t : Inputs M) (at : ℕ) (mid new : Inputs M) (s : ℕ) → IsChanged (IsSentOver b m) b.ended r 0 asked sent t at r' mid → new ≡ closed_row_if (b.ended r' && is_own t at) mid →
+    IsBalanced b (record { machine = r; inputs = t }) s → IsBalanced b (record { machine = r'; inputs = new }) s
+tree_send_balanced {M} b m r r' asked sent t at mid new s h is k =
+    let Q : Inputs M → Type 0 = λ u. IsOwnerBalanced b r' (sent_over u) s (IsRowBalanced b r' 0 u) in
+    subst Q (sym is) (below_balanced b r r' t mid (is_own t at) s (send_balanced b m r 0 asked sent t at r' mid h) k)
+
+-- the root let a signal go
+pub tree_pop_balanced : {M T : Type 0} (b : Machine M T) (n n' : M) (t : Inputs M) (s : Signal T) (sent : ℕ) → CountsOut b.counted b.ended b.done n (Some s) n' → IsBalanced b (record { machine = n; inputs = t }) sent → IsBalancedAfter b s (record { machine = n'; inputs = t }) sent
+tree_pop_balanced b n n' t (Next x) sent counts h = elim h [
+  | inl f ↦ inl (counts.0 ∙ f)
+  | inr w ↦ inr (counts.0 ∙ w.0, counts.1 (sent_over t) sent w.1, others_balanced b n n' 0 t counts.2 w.2)
+]
+tree_pop_balanced b n n' t Complete sent counts h = tt
+tree_pop_balanced b n n' t (Error c) sent counts h = tt

@@ -1,139 +1,531 @@
--- Runs of moves of a tree: how they are put together.
-use Rattle.std.proofs.Common.{◌≡◌, ℕ, Bool, true, false, ◌&&◌, if◌then◌else◌, option_map, length, zero, suc, ◌+◌, ◌-◌, ◌<◌, refl, sym, ap, ◌∙◌, subst, arith, inl, inr, Box, Global}
+-- Runs of moves: how they are put together.
+use Rattle.std.proofs.Common.{◌^◌, ◌||◌, ◌≡◌, ◌⊎◌, inl, inr, ℕ, zero, suc, ◌+◌, ◌-◌, ◌<◌, ◌≤◌, Bool, true, false, ◌&&◌, nat_eq, nat_le, if◌then◌else◌, refl, ap, sym, ◌∙◌, subst, arith, Option, Some, None, Box, Global}
+use Rattle.std.proofs.lemmas.Bool.Decides.{nat_tests}
 use Rattle.std.specs.Box.{with_value}
 use Rattle.rsx_types.specs.Meaning.{Meaning}
-use Rattle.rsx_sources.specs.Machine.{front_of}
-use Rattle.rsx_plain.specs.Node.{plain_takes, plain_wanted}
-use Rattle.rsx_plain.specs.declared.node.PlainNode.{PlainNode}
-use Rattle.rsx_tree.specs.Balance.{IsBalanced, IsNodeBalanced}
-use Rattle.rsx_tree.specs.Driven.{IsDriven}
-use Rattle.rsx_edge.specs.Edges.{can_ask_for, edge_view}
-use Rattle.rsx_tree.specs.Tree.{can_go, can_send_over, offers, IsAdvanced, IsAdvancedHere, IsIdle, IsIdleHere, notes_of}
-use Rattle.rsx_edge.specs.declared.edge.Edge.{Edge}
+use Rattle.rsx_sources.specs.declared.machine.Machine.{Ghosts as Machine}
+use Rattle.rsx_tree.specs.declared.edge.Edge.{Edge}
+use Rattle.rsx_tree.specs.declared.inputs.Inputs.{Inputs, End, More'}
+use Rattle.rsx_tree.specs.declared.inputs.Inputs.TheViews.{More}
 use Rattle.rsx_tree.specs.declared.node.Node.{Node}
-use Rattle.rsx_tree.specs.declared.node.Node.TheViews.{Plain}
-use Rattle.rsx_tree.proofs.Balances.{balanced_here}
-use Rattle.rsx_tree.proofs.Trees.{advanced_here, advanced_below, idle_plain}
+use Rattle.rsx_tree.specs.Edges.{edge_view, can_ask_for}
+use Rattle.rsx_tree.specs.Inputs.{size, is_own, place, Place, closed_row_if, can_send_over, can_ask_in, can_send_in}
+use Rattle.rsx_tree.specs.Changed.{Change, IsChanged, IsAskedOver, IsSentOver, Hold}
+use Rattle.rsx_tree.specs.Stepped.{IsStepped, Step, IsPickedHere, IsRowMadeHere}
+use Rattle.rsx_tree.specs.Tree.{IsKept}
+use Rattle.rsx_tree.specs.Driven.{IsMade, IsAskMade, IsSendMade, IsStepMade, IsRowRun, IsRowEnded, IsRowDriven, IsRowIdle, IsDriven, IsAdvanced, IsIdle, IsRowBusy, IsBusy}
+use Rattle.rsx_tree.proofs.Trees.{node, kept_asked, can_asked, asked_effect, kept_sent, can_sent, sent_effect}
+use Rattle.rsx_tree.specs.Balance.{IsBalanced}
+use Rattle.rsx_tree.proofs.Balances.{tree_ask_balanced, tree_send_balanced}
+use Rattle.rsx_tree.proofs.Rows.{size_sent}
+use Rattle.rsx_tree.proofs.Effects.{row_asked}
+use Rattle.rsx_tree.proofs.Changes.{Rest, chosen_first, chosen_second, not_zero, is_within, is_beyond, changed_here}
 
--- one run, and then another
-pub driven_then : {T : Type 0} (m : Meaning T) (n k : ℕ) (a b c : Node T) (asked sent : ℕ) → IsDriven m n a asked sent b → IsDriven m k b asked sent c → IsDriven m (n + k) a asked sent c
-driven_then {T} m zero k a b c asked sent first rest =
-    let P : Node T → Type 0 = λ t. IsDriven m k t asked sent c in
-    let Q : ℕ → Type 0 = λ j. IsDriven m j a asked sent c in
+-- so much of a budget is left in a run of moves of a row that has led to this receiver and this row
+pub record IsUnderWay {M T : Type 0} (b : Machine M T) (m : Meaning T) (i asked sent budget : ℕ) (r : M) (t : Inputs M) (left : ℕ) (r' : M) (t' : Inputs M) : Type 0 where
+  pub count : ℕ
+  pub spent : count + left ≡ budget
+  pub run : IsRowRun b m false count i asked sent r t r' t'
+
+-- no move is enabled over the first edge and below it
+pub record IsDone {M T : Type 0} (b : Machine M T) (m : Meaning T) (r : M) (i asked sent : ℕ) (e : Edge) (n : M) (below : Inputs M) : Type 0 where
+  pub ask : can_ask_for (edge_view e) (b.wanted r i asked sent) ≡ false
+  pub send : can_send_over b m r i (edge_view e) n ≡ false
+  pub idle : IsRowIdle b m n 0 e.demand.asked e.demand.sent below
+
+-- the same of a tree
+pub record IsTreeUnderWay {M T : Type 0} (b : Machine M T) (m : Meaning T) (old : Node M) (asked sent budget left : ℕ) (now : Node M) : Type 0 where
+  pub count : ℕ
+  pub spent : count + left ≡ budget
+  pub run : IsDriven b m false count old asked sent now
+  pub kept : IsKept b m old now
+  pub balance : (s : ℕ) → IsBalanced b old s → IsBalanced b now s
+
+-- ---- a move of a part of the row is one of the row
+
+and_false : (x : Bool) → false ≡ (x && false)
+and_false true = refl
+and_false false = refl
+
+and_true : (x : Bool) → (x && true) ≡ x
+and_true true = refl
+and_true false = refl
+
+pub changed_within : {M : Type 0} (P : Change M) (ends : M → Bool) (r : M) (i asked sent : ℕ) (t : Inputs M) (at : ℕ) (r' : M) (t' : Inputs M) → IsChanged P ends r i asked sent t at r' t' → at < size t
+changed_within P ends r i asked sent End at r' t' h = absurd h
+changed_within P ends r i asked sent (More' e n p below q beside) at r' t' h = elim h [
+  | inl x ↦ let z = x.at_is in omega (arith, z)
+  | inr y ↦ elim y [
+    | inl x ↦ let w = x.within in omega (arith, w)
+    | inr x ↦ let w = changed_within P ends r (i + 1) asked sent beside (at - 1 - size below) r' x.beside' x.made in let l = x.beyond in omega (arith, w, l)
+  ]
+]
+
+stepped_within : {M : Type 0} (P : Step M) (ends : M → Bool) (t : Inputs M) (at : ℕ) (t' : Inputs M) → IsStepped P ends t at t' → at < size t
+stepped_within P ends End at t' h = absurd h
+stepped_within P ends (More' e n p below q beside) at t' h = elim h [
+  | inl x ↦ let z = x.at_is in omega (arith, z)
+  | inr y ↦ elim y [
+    | inl x ↦ let w = x.within in omega (arith, w)
+    | inr x ↦ let w = stepped_within P ends beside (at - 1 - size below) x.beside' x.made in let l = x.beyond in omega (arith, w, l)
+  ]
+]
+
+pub back : (at : ℕ) → at ≡ at + 1 - 1
+back at = omega arith
+
+pub back_over : (at k : ℕ) → at ≡ at + 1 + k - 1 - k
+back_over at k = omega arith
+
+not_own : {M : Type 0} (e : Edge) (n : M) (p q : Hold) (below beside : Inputs M) (at : ℕ) → 0 < at → at ≤ size below → is_own (More' e n p below q beside) at ≡ false
+not_own e n p q below beside at above within = chosen_second (nat_eq at 0) _ _ (not_zero at above) ∙ chosen_first (nat_le at (size below)) _ _ (is_within at (size below) within)
+
+own_beside : {M : Type 0} (e : Edge) (n : M) (p q : Hold) (below beside : Inputs M) (at : ℕ) → is_own (More' e n p below q beside) (at + 1 + size below) ≡ is_own beside at
+own_beside e n p q below beside at =
+    chosen_second (nat_eq (at + 1 + size below) 0) _ _ (not_zero (at + 1 + size below) (omega arith))
+    ∙ (chosen_second (nat_le (at + 1 + size below) (size below)) _ _ (is_beyond (at + 1 + size below) (size below) (omega arith)) ∙ ap (λ k. is_own beside k) (sym (back_over at (size below))))
+
+-- a move below the first node
+pub made_below : {M T : Type 0} (b : Machine M T) (m : Meaning T) (steps : Bool) (r : M) (i asked sent : ℕ) (e : Edge) (n : M) (p : Hold) (below : Inputs M) (q : Hold) (beside : Inputs M) (at : ℕ) (ends : Bool) (n' : M) (mid : Inputs M) →
+    IsMade b m steps n 0 e.demand.asked e.demand.sent below at ends n' mid → IsMade b m steps r i asked sent (More' e n p below q beside) (at + 1) false r (More' e n' p (closed_row_if ends mid) q beside)
+made_below {M} b m steps r i asked sent e n p below q beside at ends n' mid h = elim h [
+  | inl x ↦
+      let w = changed_within (IsAskedOver b) (λ k. false) n 0 e.demand.asked e.demand.sent below at n' mid x.made in
+      let K : ℕ → Type 0 = λ k. IsChanged (IsAskedOver b) (λ n. false) n 0 e.demand.asked e.demand.sent below k n' mid in
+      inl (record {
+        made = inr (inl (record { n' = n'; mid = mid; above = omega arith; within = omega (arith, w); receiver = refl; made = subst K (back at) x.made; new_is = ap (λ c. More' e n' p (closed_row_if c mid) q beside) x.stays }));
+        stays = refl;
+      })
+  | inr y ↦ elim y [
+    | inl x ↦
+        let w = changed_within (IsSentOver b m) b.ended n 0 e.demand.asked e.demand.sent below at n' mid (x.made e.demand.asked e.demand.sent) in
+        let K : ℕ → Type 0 = λ k. IsChanged (IsSentOver b m) b.ended n 0 e.demand.asked e.demand.sent below k n' mid in
+        inr (inl (record {
+          made = λ a s. inr (inl (record {
+            n' = n';
+            mid = mid;
+            above = omega arith;
+            within = omega (arith, w);
+            receiver = refl;
+            made = subst K (back at) (x.made e.demand.asked e.demand.sent);
+            new_is = ap (λ c. More' e n' p (closed_row_if c mid) q beside) (x.ends_is ∙ ap (λ k. b.ended n' && is_own below k) (back at));
+          }));
+          ends_is = and_false (b.ended r) ∙ ap (λ o. b.ended r && o) (sym (not_own e n p q below beside (at + 1) (omega arith) (omega (arith, w))));
+        }))
+    | inr z ↦
+        let x = z.1 in
+        let same : More' e n' p (closed_row_if ends mid) q beside ≡ More' e n p mid q beside = ap (λ k. More' e k p (closed_row_if ends mid) q beside) x.receiver ∙ ap (λ c. More' e n p (closed_row_if c mid) q beside) x.stays in
+        inr (inr (
+          z.0,
+          record {
+            made = elim x.made [
+              | inl k ↦
+                  let w = stepped_within (IsPickedHere b m k.0) b.ended below at mid k.1 in
+                  let K : ℕ → Type 0 = λ j. IsStepped (IsPickedHere b m k.0) b.ended below j mid in
+                  inl (k.0, inr (inl (record { below' = mid; above = omega arith; within = omega (arith, w); made = subst K (back at) k.1; new_is = same })))
+              | inr k ↦
+                  let w = stepped_within (IsRowMadeHere b m) b.ended below at mid k in
+                  let K : ℕ → Type 0 = λ j. IsStepped (IsRowMadeHere b m) b.ended below j mid in
+                  inr (inr (inl (record { below' = mid; above = omega arith; within = omega (arith, w); made = subst K (back at) k; new_is = same })))
+            ];
+            receiver = refl;
+            stays = refl;
+          },
+        ))
+  ]
+]
+
+-- a move beside the first
+pub made_beside : {M T : Type 0} (b : Machine M T) (m : Meaning T) (steps : Bool) (r : M) (i asked sent : ℕ) (e : Edge) (n : M) (p : Hold) (below : Inputs M) (q : Hold) (beside : Inputs M) (at : ℕ) (ends : Bool) (r' : M) (beside' : Inputs M) →
+    IsMade b m steps r (i + 1) asked sent beside at ends r' beside' → IsMade b m steps r i asked sent (More' e n p below q beside) (at + 1 + size below) ends r' (More' e n p below q beside')
+made_beside {M} b m steps r i asked sent e n p below q beside at ends r' beside' h = elim h [
+  | inl x ↦
+      let K : ℕ → Type 0 = λ k. IsChanged (IsAskedOver b) (λ n. false) r (i + 1) asked sent beside k r' beside' in
+      inl (record { made = inr (inr (record { beside' = beside'; beyond = omega arith; made = subst K (back_over at (size below)) x.made; new_is = refl })); stays = x.stays })
+  | inr y ↦ elim y [
+    | inl x ↦
+        inr (inl (record {
+          made = λ a s.
+              let K : ℕ → Type 0 = λ k. IsChanged (IsSentOver b m) b.ended r (i + 1) a s beside k r' beside' in
+              inr (inr (record { beside' = beside'; beyond = omega arith; made = subst K (back_over at (size below)) (x.made a s); new_is = refl }));
+          ends_is = x.ends_is ∙ ap (λ o. b.ended r' && o) (sym (own_beside e n p q below beside at));
+        }))
+    | inr z ↦
+        let x = z.1 in
+        inr (inr (
+          z.0,
+          record {
+            made = elim x.made [
+              | inl k ↦
+                  let K : ℕ → Type 0 = λ j. IsStepped (IsPickedHere b m k.0) b.ended beside j beside' in
+                  inl (k.0, inr (inr (record { beside' = beside'; beyond = omega arith; made = subst K (back_over at (size below)) k.1; new_is = refl })))
+              | inr k ↦
+                  let K : ℕ → Type 0 = λ j. IsStepped (IsRowMadeHere b m) b.ended beside j beside' in
+                  inr (inr (inr (record { beside' = beside'; beyond = omega arith; made = subst K (back_over at (size below)) k; new_is = refl })))
+            ];
+            receiver = x.receiver;
+            stays = x.stays;
+          },
+        ))
+  ]
+]
+
+-- ---- runs
+
+pub run_then : {M T : Type 0} (b : Machine M T) (m : Meaning T) (steps : Bool) (n k i asked sent : ℕ) (r r1 r' : M) (t t1 t' : Inputs M) → IsRowRun b m steps n i asked sent r t r1 t1 → IsRowRun b m steps k i asked sent r1 t1 r' t' → IsRowRun b m steps (n + k) i asked sent r t r' t'
+run_then {M} b m steps zero k i asked sent r r1 r' t t1 t' first rest =
+    let R : M → Type 0 = λ x. IsRowRun b m steps k i asked sent x t1 r' t' in
+    let P : Inputs M → Type 0 = λ x. IsRowRun b m steps k i asked sent r x r' t' in
+    let Q : ℕ → Type 0 = λ j. IsRowRun b m steps j i asked sent r t r' t' in
     let same : k ≡ 0 + k = omega arith in
-    subst Q same (subst P first rest)
-driven_then {T} m (suc n) k a b c asked sent first rest =
-    let Q : ℕ → Type 0 = λ j. IsDriven m j a asked sent c in
-    let more : IsDriven m (suc (n + k)) a asked sent c = (first.0, first.1, driven_then m n k first.0 b c asked sent first.2 rest) in
+    subst Q same (subst P first.1 (subst R first.0 rest))
+run_then {M} b m steps (suc n) k i asked sent r r1 r' t t1 t' first rest =
+    let Q : ℕ → Type 0 = λ j. IsRowRun b m steps j i asked sent r t r' t' in
+    let more : IsRowRun b m steps (suc (n + k)) i asked sent r t r' t' = (first.0, first.1, first.2, first.3, run_then b m steps n k i asked sent first.1 r1 r' first.2 t1 t' first.4 rest) in
     let same : suc (n + k) ≡ suc n + k = omega arith in
     subst Q same more
 
-pub driven_once : {T : Type 0} (m : Meaning T) (a b : Node T) (asked sent : ℕ) → IsAdvanced m a asked sent b → IsDriven m 1 a asked sent b
-driven_once m a b asked sent h = (b, h, refl)
+pub run_once : {M T : Type 0} (b : Machine M T) (m : Meaning T) (steps : Bool) (i asked sent at : ℕ) (r r' : M) (t t' : Inputs M) → IsMade b m steps r i asked sent t at false r' t' → IsRowRun b m steps 1 i asked sent r t r' t'
+run_once b m steps i asked sent at r r' t t' h = (at, r', t', h, (refl, refl))
 
--- what was recorded stays
-pub driven_notes : {T : Type 0} (m : Meaning T) (n : ℕ) (a b : Node T) (asked sent : ℕ) → IsDriven m n a asked sent b → notes_of b ≡ notes_of a
-driven_notes m zero a b asked sent h = ap notes_of h
-driven_notes m (suc n) a b asked sent h = driven_notes m n h.0 b asked sent h.2 ∙ h.1.kept.notes
+pub driven_then : {M T : Type 0} (b : Machine M T) (m : Meaning T) (steps : Bool) (n k : ℕ) (over : Bool) (i asked sent : ℕ) (r r1 r' : M) (t t1 t' : Inputs M) → IsRowRun b m steps n i asked sent r t r1 t1 → IsRowDriven b m steps k over i asked sent r1 t1 r' t' → IsRowDriven b m steps (n + k) over i asked sent r t r' t'
+driven_then b m steps n k false i asked sent r r1 r' t t1 t' first rest = run_then b m steps n k i asked sent r r1 r' t t1 t' first rest
+driven_then b m steps n k true i asked sent r r1 r' t t1 t' first rest = record {
+  before = n + rest.before;
+  count = let c = rest.count in omega (arith, c);
+  r1 = rest.r1;
+  t1 = rest.t1;
+  at = rest.at;
+  run = run_then b m steps n rest.before i asked sent r r1 rest.r1 t t1 rest.t1 first rest.run;
+  last = rest.last;
+}
 
--- the input of a node, in its box
-abbrev Below : Type 0 → Type 0
-Below T = Box (Node T) Global
+-- a run below the first node
+pub run_below : {M T : Type 0} (b : Machine M T) (m : Meaning T) (steps : Bool) (k i asked sent : ℕ) (r : M) (e : Edge) (n n' : M) (p : Hold) (below below' : Inputs M) (q : Hold) (beside : Inputs M) →
+    IsRowRun b m steps k 0 e.demand.asked e.demand.sent n below n' below' → IsRowRun b m steps k i asked sent r (More' e n p below q beside) r (More' e n' p below' q beside)
+run_below b m steps zero i asked sent r e n n' p below below' q beside h = (refl, ap (λ x. More' e x p below' q beside) h.0 ∙ ap (λ x. More' e n p x q beside) h.1)
+run_below b m steps (suc k) i asked sent r e n n' p below below' q beside h =
+    (h.0 + 1, r, More' e h.1 p h.2 q beside, made_below b m steps r i asked sent e n p below q beside h.0 false h.1 h.2 h.3, run_below b m steps k i asked sent r e h.1 n' p h.2 below' q beside h.4)
 
--- a run of the input is one of the tree over it
-pub driven_under : {T : Type 0} (m : Meaning T) (k : ℕ) (n : PlainNode T) (edge : Edge) (below : Below T) (now : Node T) (asked sent : ℕ) → IsDriven m k below.value edge.demand.asked edge.demand.sent now → IsDriven m k (Plain n edge below) asked sent (Plain n edge (with_value below now))
-driven_under m zero n edge below now asked sent h = ap (λ t. Plain n edge (with_value below t)) h
-driven_under m (suc k) n edge below now asked sent h = (
-  Plain n edge (with_value below h.0),
-  advanced_below m (Plain n edge below) n n edge edge below (with_value below h.0) below.value asked sent refl refl refl refl h.1,
-  driven_under m k n edge (with_value below h.0) now asked sent h.2,
+pub driven_below : {M T : Type 0} (b : Machine M T) (m : Meaning T) (steps : Bool) (k : ℕ) (over : Bool) (i asked sent : ℕ) (r : M) (e : Edge) (n n' : M) (p : Hold) (below below' : Inputs M) (q : Hold) (beside : Inputs M) →
+    IsRowDriven b m steps k over 0 e.demand.asked e.demand.sent n below n' below' → IsRowRun b m steps k i asked sent r (More' e n p below q beside) r (More' e n' p (closed_row_if over below') q beside)
+driven_below b m steps k false i asked sent r e n n' p below below' q beside h = run_below b m steps k i asked sent r e n n' p below below' q beside h
+driven_below {M} b m steps k true i asked sent r e n n' p below below' q beside h =
+    let Q : ℕ → Type 0 = λ j. IsRowRun b m steps j i asked sent r (More' e n p below q beside) r (More' e n' p (closed_row_if true below') q beside) in
+    subst Q (sym h.count) (run_then b m steps h.before 1 i asked sent r r r (More' e n p below q beside) (More' e h.r1 p h.t1 q beside) (More' e n' p (closed_row_if true below') q beside)
+    (run_below b m steps h.before i asked sent r e n h.r1 p below h.t1 q beside h.run)
+    (run_once b m steps i asked sent (h.at + 1) r r (More' e h.r1 p h.t1 q beside) (More' e n' p (closed_row_if true below') q beside) (made_below b m steps r i asked sent e h.r1 p h.t1 q beside h.at true n' below' h.last)))
+
+-- a run of the inputs beside the first
+pub run_beside : {M T : Type 0} (b : Machine M T) (m : Meaning T) (steps : Bool) (k i asked sent : ℕ) (r r' : M) (e : Edge) (n : M) (p : Hold) (below : Inputs M) (q : Hold) (beside beside' : Inputs M) →
+    IsRowRun b m steps k (i + 1) asked sent r beside r' beside' → IsRowRun b m steps k i asked sent r (More' e n p below q beside) r' (More' e n p below q beside')
+run_beside b m steps zero i asked sent r r' e n p below q beside beside' h = (h.0, ap (λ x. More' e n p below q x) h.1)
+run_beside b m steps (suc k) i asked sent r r' e n p below q beside beside' h =
+    (h.0 + 1 + size below, h.1, More' e n p below q h.2, made_beside b m steps r i asked sent e n p below q beside h.0 false h.1 h.2 h.3, run_beside b m steps k i asked sent h.1 r' e n p below q h.2 beside' h.4)
+
+pub driven_beside : {M T : Type 0} (b : Machine M T) (m : Meaning T) (steps : Bool) (k : ℕ) (over : Bool) (i asked sent : ℕ) (r r' : M) (e : Edge) (n : M) (p : Hold) (below : Inputs M) (q : Hold) (beside beside' : Inputs M) →
+    IsRowDriven b m steps k over (i + 1) asked sent r beside r' beside' → IsRowDriven b m steps k over i asked sent r (More' e n p below q beside) r' (More' e n p below q beside')
+driven_beside b m steps k false i asked sent r r' e n p below q beside beside' h = run_beside b m steps k i asked sent r r' e n p below q beside beside' h
+driven_beside b m steps k true i asked sent r r' e n p below q beside beside' h = record {
+  before = h.before;
+  count = h.count;
+  r1 = h.r1;
+  t1 = More' e n p below q h.t1;
+  at = h.at + 1 + size below;
+  run = run_beside b m steps h.before i asked sent r h.r1 e n p below q beside h.t1 h.run;
+  last = made_beside b m steps h.r1 i asked sent e n p below q h.t1 h.at true r' beside' h.last;
+}
+
+-- ---- the loop over one edge
+
+pub under_way_begun : {M T : Type 0} (b : Machine M T) (m : Meaning T) (i asked sent budget : ℕ) (r : M) (t now : Inputs M) → t ≡ now → IsUnderWay b m i asked sent budget r t budget r now
+under_way_begun b m i asked sent budget r t now is = record { count = 0; spent = omega arith; run = (refl, sym is) }
+
+sent_here : {M T : Type 0} (b : Machine M T) (m : Meaning T) (ends : Bool) (i asked sent : ℕ) (r r' : M) (e e' : Edge) (n n' : M) (below beside : Rest M) →
+    ((a s : ℕ) → IsSentOver b m r i a s e n r' e' n') → b.ended r' ≡ ends → IsMade b m false r i asked sent (More e n below beside) 0 ends r' (More e' n' below beside)
+sent_here b m ends i asked sent r r' e e' n n' below beside h o = inr (inl (record {
+  made = λ a s. inl (record { e' = e'; n' = n'; at_is = refl; made = h a s; new_is = refl });
+  ends_is = sym o ∙ sym (and_true (b.ended r'));
+}))
+
+pub under_way_sent : {M T : Type 0} (b : Machine M T) (m : Meaning T) (i asked sent budget left : ℕ) (r0 : M) (t0 : Inputs M) (r r' : M) (e e' : Edge) (n n' : M) (below beside : Rest M) →
+    IsUnderWay b m i asked sent budget r0 t0 left r (More e n below beside) → 0 < left → ((a s : ℕ) → IsSentOver b m r i a s e n r' e' n') → b.ended r' ≡ false → IsUnderWay b m i asked sent budget r0 t0 (left - 1) r' (More e' n' below beside)
+under_way_sent b m i asked sent budget left r0 t0 r r' e e' n n' below beside u some h o = record {
+  count = u.count + 1;
+  spent = let q = u.spent in omega (arith, q, some);
+  run = run_then b m false u.count 1 i asked sent r0 r r' t0 (More e n below beside) (More e' n' below beside) u.run (run_once b m false i asked sent 0 r r' (More e n below beside) (More e' n' below beside) (sent_here b m false i asked sent r r' e e' n n' below beside h o));
+}
+
+pub ended_sent : {M T : Type 0} (b : Machine M T) (m : Meaning T) (i asked sent budget left : ℕ) (r0 : M) (t0 : Inputs M) (r r' : M) (e e' : Edge) (n n' : M) (below beside : Rest M) →
+    IsUnderWay b m i asked sent budget r0 t0 left r (More e n below beside) → 0 < left → ((a s : ℕ) → IsSentOver b m r i a s e n r' e' n') → b.ended r' ≡ true →
+    (x : ℕ) × (x + (left - 1) ≡ budget) × IsRowEnded b m false x i asked sent r0 t0 r' (More e' n' below beside)
+ended_sent b m i asked sent budget left r0 t0 r r' e e' n n' below beside u some h o = (
+  u.count + 1,
+  let q = u.spent in omega (arith, q, some),
+  record { before = u.count; count = refl; r1 = r; t1 = More e n below beside; at = 0; run = u.run; last = sent_here b m true i asked sent r r' e e' n n' below beside h o },
 )
 
--- so much of a budget is left in a run of moves that has led to this node over its input
-pub record IsUnderWay {T : Type 0} (m : Meaning T) (old : Node T) (asked sent budget left : ℕ) (now : Node T) : Type 0 where
-  pub count : ℕ
-  pub spent : count + left ≡ budget
-  pub driven : IsDriven m count old asked sent now
-  pub balance : (s : ℕ) → IsBalanced old s → IsBalanced now s
-
-pub under_way_begun : {T : Type 0} (m : Meaning T) (old now : Node T) (asked sent budget : ℕ) → old ≡ now → IsUnderWay m old asked sent budget budget now
-under_way_begun {T} m old now asked sent budget is = record {
-  count = 0;
-  spent = omega arith;
-  driven = sym is;
-  balance = λ s b. let P : Node T → Type 0 = λ t. IsBalanced t s in subst P is b;
+pub under_way_asked : {M T : Type 0} (b : Machine M T) (m : Meaning T) (i asked sent budget left : ℕ) (r0 : M) (t0 : Inputs M) (r r' : M) (e e' : Edge) (n n' : M) (below beside : Rest M) →
+    IsUnderWay b m i asked sent budget r0 t0 left r (More e n below beside) → 0 < left → IsAskedOver b r i asked sent e n r' e' n' → IsUnderWay b m i asked sent budget r0 t0 (left - 1) r' (More e' n' below beside)
+under_way_asked b m i asked sent budget left r0 t0 r r' e e' n n' below beside u some h = record {
+  count = u.count + 1;
+  spent = let q = u.spent in omega (arith, q, some);
+  run = run_then b m false u.count 1 i asked sent r0 r r' t0 (More e n below beside) (More e' n' below beside) u.run (run_once b m false i asked sent 0 r r' (More e n below beside) (More e' n' below beside)
+      (inl (record { made = inl (record { e' = e'; n' = n'; at_is = refl; made = h; new_is = refl }); stays = refl })));
 }
 
-under_way_then : {T : Type 0} (m : Meaning T) (old mid now : Node T) (asked sent budget left left' k : ℕ) → IsUnderWay m old asked sent budget left mid → k + left' ≡ left → IsDriven m k mid asked sent now → ((s : ℕ) → IsBalanced mid s → IsBalanced now s) → IsUnderWay m old asked sent budget left' now
-under_way_then m old mid now asked sent budget left left' k u e h b = record {
-  count = u.count + k;
-  spent = let q = u.spent in omega (arith, q, e);
-  driven = driven_then m u.count k old mid now asked sent u.driven h;
-  balance = λ s x. b s (u.balance s x);
-}
+-- no move over the edge, then a run below it
+pub under_way_below : {M T : Type 0} (b : Machine M T) (m : Meaning T) (i asked sent budget left left' k : ℕ) (over : Bool) (r0 : M) (t0 : Inputs M) (r r' : M) (e e' : Edge) (n n1 n' : M) (below beside : Rest M) (was now new : Inputs M) →
+    IsUnderWay b m i asked sent budget r0 t0 left r (More e n below beside) → (r' ≡ r) × (e' ≡ e) × (n1 ≡ n) → was ≡ below.value → k + left' ≡ left →
+    IsRowDriven b m false k over 0 e'.demand.asked e'.demand.sent n1 was n' now → new ≡ closed_row_if over now → IsUnderWay b m i asked sent budget r0 t0 left' r' (More e' n' (with_value below new) beside)
+under_way_below {M} b m i asked sent budget left left' k over r0 t0 r r' e e' n n1 n' below beside was now new u same at spent h shut =
+    let R : M → Type 0 = λ x. IsRowRun b m false u.count i asked sent r0 t0 x (More e n below beside) in
+    let E : Edge → Type 0 = λ x. IsRowRun b m false u.count i asked sent r0 t0 r' (More x n below beside) in
+    let N : M → Type 0 = λ x. IsRowRun b m false u.count i asked sent r0 t0 r' (More e' x below beside) in
+    let W : Inputs M → Type 0 = λ x. IsRowDriven b m false k over 0 e'.demand.asked e'.demand.sent n1 x n' now in
+    let S : Inputs M → Type 0 = λ x. IsRowRun b m false k i asked sent r' (More e' n1 below beside) r' (More e' n' (with_value below x) beside) in
+    let P : Hold = record { ptr = below.ptr; alloc = below.alloc; value = tt } in
+    let Q : Hold = record { ptr = beside.ptr; alloc = beside.alloc; value = tt } in
+    let more : IsRowRun b m false k i asked sent r' (More e' n1 below beside) r' (More e' n' (with_value below (closed_row_if over now)) beside) = driven_below b m false k over i asked sent r' e' n1 n' P below.value now Q beside.value (subst W at h) in
+    record {
+      count = u.count + k;
+      spent = let q = u.spent in omega (arith, q, spent);
+      run = run_then b m false u.count k i asked sent r0 r' r' t0 (More e' n1 below beside) (More e' n' (with_value below new) beside) (subst N (sym same.2) (subst E (sym same.1) (subst R (sym same.0) u.run))) (subst S (sym shut) more);
+    }
 
--- a move over the edge of the node's input
-pub under_way_here : {T : Type 0} (m : Meaning T) (old : Node T) (asked sent budget left : ℕ) (n n' : PlainNode T) (edge edge' : Edge) (below below' : Below T) (was : Node T) → IsUnderWay m old asked sent budget left (Plain n edge below) → 0 < left → was ≡ below.value →
-    IsAdvancedHere m n edge was asked sent n' edge' below'.value → ((s : ℕ) → IsNodeBalanced n edge was s → IsNodeBalanced n' edge' below'.value s) → IsUnderWay m old asked sent budget (left - 1) (Plain n' edge' below')
-under_way_here m old asked sent budget left n n' edge edge' below below' was u some at h b =
-    let one : 1 + (left - 1) ≡ left = omega (arith, some) in
-    under_way_then m old (Plain n edge below) (Plain n' edge' below') asked sent budget left (left - 1) 1 u one
-    (driven_once m _ _ asked sent (advanced_here m (Plain n edge below) n n' edge edge' below below' was asked sent refl at h))
-    (λ s x. balanced_here (Plain n edge below) was n n' edge edge' below below' s refl at (b s) x)
+-- a run of the inputs beside
+pub over_beside : {M T : Type 0} (b : Machine M T) (m : Meaning T) (i next asked sent budget left left' k : ℕ) (over : Bool) (r0 : M) (t0 : Inputs M) (r r' : M) (e : Edge) (n : M) (below beside : Rest M) (was now : Inputs M) →
+    IsUnderWay b m i asked sent budget r0 t0 left r (More e n below beside) → next ≡ i + 1 → was ≡ beside.value → k + left' ≡ left → IsRowDriven b m false k over next asked sent r was r' now →
+    (x : ℕ) × (x + left' ≡ budget) × IsRowDriven b m false x over i asked sent r0 t0 r' (More e n below (with_value beside now))
+over_beside {M} b m i next asked sent budget left left' k over r0 t0 r r' e n below beside was now u up at spent h =
+    let I : ℕ → Type 0 = λ j. IsRowDriven b m false k over j asked sent r was r' now in
+    let W : Inputs M → Type 0 = λ x. IsRowDriven b m false k over (i + 1) asked sent r x r' now in
+    let P : Hold = record { ptr = below.ptr; alloc = below.alloc; value = tt } in
+    let Q : Hold = record { ptr = beside.ptr; alloc = beside.alloc; value = tt } in (
+      u.count + k,
+      let q = u.spent in omega (arith, q, spent),
+      driven_then b m false u.count k over i asked sent r0 r r' t0 (More e n below beside) (More e n below (with_value beside now)) u.run (driven_beside b m false k over i asked sent r r' e n P below.value Q beside.value now (subst W at (subst I up h))),
+    )
 
--- a run of the node's input
-pub under_way_below : {T : Type 0} (m : Meaning T) (old : Node T) (asked sent budget left left' : ℕ) (n : PlainNode T) (edge : Edge) (below : Below T) (was now : Node T) (k : ℕ) → IsUnderWay m old asked sent budget left (Plain n edge below) → was ≡ below.value → k + left' ≡ left →
-    IsDriven m k was edge.demand.asked edge.demand.sent now → ((s : ℕ) → IsBalanced was s → IsBalanced now s) → IsUnderWay m old asked sent budget left' (Plain n edge (with_value below now))
-under_way_below {T} m old asked sent budget left left' n edge below was now k u at e h b =
-    let W : Node T → Type 0 = λ t. IsDriven m k t edge.demand.asked edge.demand.sent now in
-    let B : Node T → Type 0 = λ t. (s : ℕ) → IsBalanced t s → IsBalanced now s in
-    let rest : (s : ℕ) → IsBalanced below.value s → IsBalanced now s = subst B at b in
-    under_way_then m old (Plain n edge below) (Plain n edge (with_value below now)) asked sent budget left left' k u e
-    (driven_under m k n edge below now asked sent (subst W at h))
-    (λ s x. elim x [ inl q ↦ inl q | inr r ↦ inr (r.0, r.1, r.2, r.3, rest edge.demand.sent r.4) ])
+-- ---- idle
 
--- no move
-pub under_way_same : {T : Type 0} (m : Meaning T) (old : Node T) (asked sent budget left : ℕ) (n n' : PlainNode T) (edge edge' : Edge) (below : Below T) (mid was now : Node T) → IsUnderWay m old asked sent budget left (Plain n edge (with_value below mid)) → n' ≡ n → edge' ≡ edge → was ≡ mid → now ≡ was → IsUnderWay m old asked sent budget left (Plain n' edge' (with_value below now))
-under_way_same {T} m old asked sent budget left n n' edge edge' below mid was now u same_n same_e at same =
-    let N : PlainNode T → Type 0 = λ x. IsUnderWay m old asked sent budget left (Plain x edge (with_value below mid)) in
-    let E : Edge → Type 0 = λ x. IsUnderWay m old asked sent budget left (Plain n' x (with_value below mid)) in
-    let W : Node T → Type 0 = λ t. IsUnderWay m old asked sent budget left (Plain n' edge' (with_value below t)) in
-    subst W (sym (same ∙ at)) (subst E (sym same_e) (subst N (sym same_n) u))
+-- a run of no moves
+pub nothing_done : {M T : Type 0} (b : Machine M T) (m : Meaning T) (k : ℕ) (over : Bool) (i asked sent : ℕ) (r r' : M) (t t' : Inputs M) → k ≡ 0 → IsRowDriven b m false k over i asked sent r t r' t' → (over ≡ false) × (r' ≡ r) × (t' ≡ t)
+nothing_done b m zero false i asked sent r r' t t' z h = (refl, h.0, h.1)
+nothing_done b m (suc k) false i asked sent r r' t t' z h = cc
+nothing_done b m k true i asked sent r r' t t' z h = let c = h.count in absurd (omega (arith, z, c))
 
--- the tree that a run has led to has as many nodes as the first
-pub under_way_depth : {T : Type 0} (m : Meaning T) (old : Node T) (asked sent budget left : ℕ) (n : PlainNode T) (edge : Edge) (below : Below T) → IsUnderWay m old asked sent budget left (Plain n edge below) → length (notes_of below.value) < length (notes_of old)
-under_way_depth m old asked sent budget left n edge below u =
-    let same : suc (length (notes_of below.value)) ≡ length (notes_of old) = ap length (driven_notes m u.count old (Plain n edge below) asked sent u.driven) in
-    omega (arith, same)
+pub idle_end : {M T : Type 0} (b : Machine M T) (m : Meaning T) (r : M) (i asked sent : ℕ) (t : Inputs M) → t ≡ End → IsRowIdle b m r i asked sent t
+idle_end {M} b m r i asked sent t is = let Q : Inputs M → Type 0 = λ x. IsRowIdle b m r i asked sent x in subst Q (sym is) (λ at lt. (refl, refl))
 
--- where no move is enabled here and none below, none is enabled
-pub idle_still : {T : Type 0} (m : Meaning T) (asked sent : ℕ) (n n' : PlainNode T) (edge edge' : Edge) (below : Below T) (was now : Node T) → n' ≡ n → edge' ≡ edge → was ≡ below.value → now ≡ was → IsIdleHere m n edge was asked sent → IsIdle m below.value edge.demand.asked edge.demand.sent → IsIdle m (Plain n' edge' (with_value below now)) asked sent
-idle_still {T} m asked sent n n' edge edge' below was now same_n same_e at same here h =
-    let I : Node T → Type 0 = λ t. IsIdleHere m n edge t asked sent in
-    let k : IsIdleHere m n edge below.value asked sent = subst I at here in
-    let N : PlainNode T → Type 0 = λ x. IsIdle m (Plain x edge below) asked sent in
-    let E : Edge → Type 0 = λ x. IsIdle m (Plain n' x below) asked sent in
-    let W : Node T → Type 0 = λ t. IsIdle m (Plain n' edge' (with_value below t)) asked sent in
-    subst W (sym (same ∙ at)) (subst E (sym same_e) (subst N (sym same_n) (idle_plain m n edge below asked sent k.ask k.send h)))
+pub idle_whole : {M T : Type 0} (b : Machine M T) (m : Meaning T) (r : M) (i asked sent : ℕ) (e : Edge) (n : M) (below beside : Rest M) → IsDone b m r i asked sent e n below.value → IsRowIdle b m r (i + 1) asked sent beside.value → IsRowIdle b m r i asked sent (More e n below beside)
+idle_whole b m r i asked sent e n below beside d h zero lt = (d.ask, d.send)
+idle_whole {M} b m r i asked sent e n below beside d h (suc k) lt = deeper (nat_le (suc k) (size below.value)) refl
+  where
+    deeper : (c : Bool) → nat_le (suc k) (size below.value) ≡ c → (can_ask_in b (place r i asked sent (More e n below beside) (suc k)) ≡ false) × (can_send_in b m (place r i asked sent (More e n below beside) (suc k)) ≡ false)
+    deeper true c =
+        let Q : Option (Place M) → Type 0 = λ o. (can_ask_in b o ≡ false) × (can_send_in b m o ≡ false) in
+        subst Q (sym (chosen_second (nat_eq (suc k) 0) _ _ (not_zero (suc k) (omega arith)) ∙ chosen_first (nat_le (suc k) (size below.value)) (place n 0 e.demand.asked e.demand.sent below.value (suc k - 1)) (place r (i + 1) asked sent beside.value (suc k - 1 - size below.value)) c)) (d.idle (suc k - 1) (omega (arith, lt)))
+    deeper false c =
+        let Q : Option (Place M) → Type 0 = λ o. (can_ask_in b o ≡ false) × (can_send_in b m o ≡ false) in
+        subst Q (sym (chosen_second (nat_eq (suc k) 0) _ _ (not_zero (suc k) (omega arith)) ∙ chosen_second (nat_le (suc k) (size below.value)) (place n 0 e.demand.asked e.demand.sent below.value (suc k - 1)) (place r (i + 1) asked sent beside.value (suc k - 1 - size below.value)) c)) (h (suc k - 1 - size below.value) (omega (arith, lt)))
 
--- where no Ask is enabled here, the node takes no signal, and no move is enabled below, none is enabled
-pub idle_full : {T : Type 0} (m : Meaning T) (asked sent : ℕ) (n n' : PlainNode T) (edge edge' : Edge) (below : Below T) (was now : Node T) (takes : Bool) → n' ≡ n → edge' ≡ edge → IsIdleHere m n edge was asked sent → takes ≡ plain_takes n' 0 → takes ≡ false → IsIdle m now edge'.demand.asked edge'.demand.sent → IsIdle m (Plain n' edge' (with_value below now)) asked sent
-idle_full {T} m asked sent n n' edge edge' below was now takes same_n same_e here is full h =
-    let N : PlainNode T → Type 0 = λ x. can_ask_for (edge_view edge) (plain_wanted x 0 asked sent) ≡ false in
-    let E : Edge → Type 0 = λ x. can_ask_for (edge_view x) (plain_wanted n' 0 asked sent) ≡ false in
-    let ask : can_ask_for (edge_view edge') (plain_wanted n' 0 asked sent) ≡ false = subst E (sym same_e) (subst N (sym same_n) here.ask) in
-    let go : Bool = can_go (edge_view edge') (option_map front_of (offers m now)) in
-    let send : can_send_over m n' edge' now ≡ false = ap (λ b. b && go) (sym is ∙ full) in
-    idle_plain m n' edge' (with_value below now) asked sent ask send h
+pub idle_last : {M T : Type 0} (b : Machine M T) (m : Meaning T) (r : M) (i asked sent : ℕ) (e : Edge) (n : M) (below beside : Rest M) → 2 ^ 64 ≤ i + 1 → IsDone b m r i asked sent e n below.value → IsRowIdle b m r i asked sent (More e n below beside)
+idle_last b m r i asked sent e n below beside far d = idle_whole b m r i asked sent e n below beside d (λ at lt. absurd (omega (arith, far, lt)))
 
--- ---- the measure of the loop: twice the budget that is left, and one more where the input may have a move
+-- no move over the edge, and none below it
+pub done_below : {M T : Type 0} (b : Machine M T) (m : Meaning T) (i asked sent k : ℕ) (over : Bool) (r r' : M) (e e' : Edge) (n n1 n' : M) (was now new : Inputs M) →
+    (r' ≡ r) × (e' ≡ e) × (n1 ≡ n) → can_ask_for (edge_view e) (b.wanted r i asked sent) ≡ false → can_send_over b m r i (edge_view e) n ≡ false →
+    k ≡ 0 → IsRowDriven b m false k over 0 e'.demand.asked e'.demand.sent n1 was n' now → new ≡ closed_row_if over now → IsRowIdle b m n' 0 e'.demand.asked e'.demand.sent now → IsDone b m r' i asked sent e' n' new
+done_below {M} b m i asked sent k over r r' e e' n n1 n' was now new same ask send none h shut idle =
+    let z = nothing_done b m k over 0 e'.demand.asked e'.demand.sent n1 n' was now none h in
+    let I : Inputs M → Type 0 = λ x. IsRowIdle b m n' 0 e'.demand.asked e'.demand.sent x in
+    record {
+      ask = ap (λ x. can_ask_for (edge_view x) (b.wanted r' i asked sent)) same.1 ∙ (ap (λ x. can_ask_for (edge_view e) (b.wanted x i asked sent)) same.0 ∙ ask);
+      send = ap (λ x. can_send_over b m x i (edge_view e') n') same.0 ∙ (ap (λ x. can_send_over b m r i (edge_view x) n') same.1 ∙ (ap (λ x. can_send_over b m r i (edge_view e) x) (z.1 ∙ same.2) ∙ send));
+      idle = subst I (sym (shut ∙ ap (λ c. closed_row_if c now) z.0)) idle;
+    }
 
-pub fewer_left : (left : ℕ) (was now : Bool) → 0 < left → (left - 1) + (left - 1) + (if now then 0 else 1) < left + left + (if was then 0 else 1)
-fewer_left left true true h = omega (arith, h)
-fewer_left left true false h = omega (arith, h)
-fewer_left left false true h = omega (arith, h)
-fewer_left left false false h = omega (arith, h)
+pub shut_by : {M : Type 0} (over : Bool) (was now new : Inputs M) → new ≡ closed_row_if (over && true) was → was ≡ now → new ≡ closed_row_if over now
+shut_by over was now new is at = is ∙ (ap (λ c. closed_row_if c was) (and_true over) ∙ ap (λ x. closed_row_if over x) at)
 
-pub idle_now : (left left' k : ℕ) (was : Bool) → k + left' ≡ left → was ≡ false → left' + left' + 0 < left + left + (if was then 0 else 1)
-idle_now left left' k true e h = cc
-idle_now left left' k false e h = omega (arith, e)
+pub still_some : (x : Bool) (k : ℕ) → (x || nat_eq k 0) ≡ false → 0 < k
+still_some true k e = cc
+still_some false zero e = cc
+still_some false (suc k) e = omega arith
+
+pub idle_beside : {M T : Type 0} (b : Machine M T) (m : Meaning T) (i next asked sent k : ℕ) (over : Bool) (r r' : M) (e : Edge) (n : M) (below beside : Rest M) (was now : Inputs M) →
+    IsDone b m r i asked sent e n below.value → next ≡ i + 1 → k ≡ 0 → IsRowDriven b m false k over next asked sent r was r' now → IsRowIdle b m r' next asked sent now → IsRowIdle b m r' i asked sent (More e n below (with_value beside now))
+idle_beside {M} b m i next asked sent k over r r' e n below beside was now d up none h idle =
+    let z = nothing_done b m k over next asked sent r r' was now none h in
+    let D : M → Type 0 = λ x. IsDone b m x i asked sent e n below.value in
+    let I : ℕ → Type 0 = λ j. IsRowIdle b m r' j asked sent now in
+    idle_whole b m r' i asked sent e n below (with_value beside now) (subst D (sym z.1) d) (subst I up idle)
+
+-- ---- a run leaves as many nodes
+
+pub size_run : {M T : Type 0} (b : Machine M T) (m : Meaning T) (k i asked sent : ℕ) (r r' : M) (t t' : Inputs M) → IsRowRun b m false k i asked sent r t r' t' → size t' ≡ size t
+size_run b m zero i asked sent r r' t t' h = ap size h.1
+size_run b m (suc k) i asked sent r r' t t' h = size_run b m k i asked sent h.1 r' h.2 t' h.4 ∙ elim h.3 [
+  | inl x ↦ (row_asked b (λ n. false) r i asked sent t h.0 h.1 h.2 (λ n. refl) x.made).size
+  | inr y ↦ elim y [ inl x ↦ size_sent b m b.ended r i asked sent t h.0 h.1 h.2 (x.made asked sent) | inr z ↦ let f = z.0 in cc ]
+]
+
+-- ---- a tree
+
+-- whether a Send is enabled doesn't depend on what is asked of the receiver
+if_same : {A : Type 0} (f : A → Bool) (c d : Bool) (x x' y z z' : A) → f x ≡ f x' → f z ≡ f z' → f (if c then x else (if d then y else z)) ≡ f (if c then x' else (if d then y else z'))
+if_same f true d x x' y z z' p q = p
+if_same f false true x x' y z z' p q = refl
+if_same f false false x x' y z z' p q = q
+
+pub send_anywhere : {M T : Type 0} (b : Machine M T) (m : Meaning T) (r : M) (i a s a' s' : ℕ) (t : Inputs M) (at : ℕ) → can_send_in b m (place r i a s t at) ≡ can_send_in b m (place r i a' s' t at)
+send_anywhere b m r i a s a' s' End at = refl
+send_anywhere b m r i a s a' s' (More' e n p below q beside) at =
+    if_same (can_send_in b m) (nat_eq at 0) (nat_le at (size below)) _ _ _ (place r (i + 1) a s beside (at - 1 - size below)) (place r (i + 1) a' s' beside (at - 1 - size below)) refl (send_anywhere b m r (i + 1) a s a' s' beside (at - 1 - size below))
+
+pub idle_tree : {M T : Type 0} (b : Machine M T) (m : Meaning T) (r : M) (t : Inputs M) (asked sent : ℕ) → IsRowIdle b m r 0 asked sent t → IsIdle b m (node r t) asked sent
+idle_tree b m r t asked sent h at lt = let q = h at (omega (arith, lt)) in (q.0, send_anywhere b m r 0 0 0 asked sent t at ∙ q.1)
+
+receiver_same : {M T : Type 0} (b : Machine M T) (ends : M → Bool) (r : M) (i asked sent : ℕ) (t : Inputs M) (at : ℕ) (r' : M) (t' : Inputs M) → IsChanged (IsAskedOver b) ends r i asked sent t at r' t' → r' ≡ r
+receiver_same b ends r i asked sent End at r' t' h = absurd h
+receiver_same b ends r i asked sent (More' e n p below q beside) at r' t' h = elim h [ inl x ↦ x.made.receiver | inr y ↦ elim y [ inl x ↦ x.receiver | inr x ↦ receiver_same b ends r (i + 1) asked sent beside (at - 1 - size below) r' x.beside' x.made ] ]
+
+-- a move of the root's row, where the root then closes it if it ended
+advanced : {M T : Type 0} (b : Machine M T) (m : Meaning T) (r r' : M) (asked sent at : ℕ) (ends : Bool) (t mid : Inputs M) → IsMade b m false r 0 asked sent t at ends r' mid → IsAdvanced b m false (node r t) asked sent (node r' (closed_row_if ends mid))
+advanced {M} b m r r' asked sent at ends t mid h = elim h [
+  | inl x ↦
+      let C : Bool → Type 0 = λ c. IsAdvanced b m false (node r t) asked sent (node r' (closed_row_if c mid)) in
+      let R : M → Type 0 = λ k. IsAdvanced b m false (node r t) asked sent (node k mid) in
+      let S : M → Type 0 = λ k. IsChanged (IsAskedOver b) (λ n. false) r 0 asked sent t at k mid in
+      let same = receiver_same b (λ n. false) r 0 asked sent t at r' mid x.made in
+      let made : IsChanged (IsAskedOver b) (λ n. false) r 0 asked sent t at r mid = subst S same x.made in
+      subst C (sym x.stays) (subst R (sym same) (record {
+        at = at;
+        made = inl (can_asked b r asked sent at t mid made, asked_effect b r asked sent at t mid made);
+        kept = λ _. kept_asked b m r asked sent at t mid made;
+        balance = λ _ s k. tree_ask_balanced b r asked sent t at mid s made k;
+      }))
+  | inr y ↦ elim y [
+    | inl x ↦
+        record {
+          at = at;
+          made = inr (inl (can_sent b m r r' at t mid (x.made 0 0), sent_effect b m r r' at t mid (closed_row_if ends mid) (x.made 0 0) (ap (λ c. closed_row_if c mid) x.ends_is)));
+          kept = λ _. kept_sent b m r r' at t mid (closed_row_if ends mid) ends (x.made 0 0) refl;
+          balance = λ _ s k. tree_send_balanced b m r r' 0 0 t at mid (closed_row_if ends mid) s (x.made 0 0) (ap (λ c. closed_row_if c mid) x.ends_is) k;
+        }
+    | inr z ↦ let f = z.0 in cc
+  ]
+]
+
+tree_run : {M T : Type 0} (b : Machine M T) (m : Meaning T) (k asked sent : ℕ) (r r' : M) (t t' : Inputs M) → IsRowRun b m false k 0 asked sent r t r' t' → IsDriven b m false k (node r t) asked sent (node r' t')
+tree_run b m zero asked sent r r' t t' h = ap (λ x. node x t') h.0 ∙ ap (λ x. node r x) h.1
+tree_run b m (suc k) asked sent r r' t t' h = (node h.1 h.2, advanced b m r h.1 asked sent h.0 false t h.2 h.3, tree_run b m k asked sent h.1 r' h.2 t' h.4)
+
+tree_then : {M T : Type 0} (b : Machine M T) (m : Meaning T) (n k : ℕ) (x y z : Node M) (asked sent : ℕ) → IsDriven b m false n x asked sent y → IsDriven b m false k y asked sent z → IsDriven b m false (n + k) x asked sent z
+tree_then {M} b m zero k x y z asked sent first rest =
+    let P : Node M → Type 0 = λ t. IsDriven b m false k t asked sent z in
+    let Q : ℕ → Type 0 = λ j. IsDriven b m false j x asked sent z in
+    let same : k ≡ 0 + k = omega arith in
+    subst Q same (subst P first rest)
+tree_then {M} b m (suc n) k x y z asked sent first rest =
+    let Q : ℕ → Type 0 = λ j. IsDriven b m false j x asked sent z in
+    let more : IsDriven b m false (suc (n + k)) x asked sent z = (first.0, first.1, tree_then b m n k first.0 y z asked sent first.2 rest) in
+    let same : suc (n + k) ≡ suc n + k = omega arith in
+    subst Q same more
+
+tree_driven : {M T : Type 0} (b : Machine M T) (m : Meaning T) (k : ℕ) (over : Bool) (asked sent : ℕ) (r r' : M) (t t' : Inputs M) → IsRowDriven b m false k over 0 asked sent r t r' t' → IsDriven b m false k (node r t) asked sent (node r' (closed_row_if over t'))
+tree_driven b m k false asked sent r r' t t' h = tree_run b m k asked sent r r' t t' h
+tree_driven {M} b m k true asked sent r r' t t' h =
+    let Q : ℕ → Type 0 = λ j. IsDriven b m false j (node r t) asked sent (node r' (closed_row_if true t')) in
+    subst Q (sym h.count) (tree_then b m h.before 1 (node r t) (node h.r1 h.t1) (node r' (closed_row_if true t')) asked sent (tree_run b m h.before asked sent r h.r1 t h.t1 h.run) (node r' (closed_row_if true t'), advanced b m h.r1 r' asked sent h.at true h.t1 t' h.last, refl))
+
+kept_run : {M T : Type 0} (b : Machine M T) (m : Meaning T) (k : ℕ) (x y : Node M) (asked sent : ℕ) → IsDriven b m false k x asked sent y → IsKept b m x y
+kept_run {M} b m zero x y asked sent h = let Q : Node M → Type 0 = λ t. IsKept b m x t in subst Q (sym h) (record { value = λ hubs further at. refl; notes = refl })
+kept_run b m (suc k) x y asked sent h =
+    let rest = kept_run b m k h.0 y asked sent h.2 in
+    let one = h.1.kept refl in
+    record { value = λ hubs further at. rest.value hubs further at ∙ one.value hubs further at; notes = rest.notes ∙ one.notes }
+
+balance_run : {M T : Type 0} (b : Machine M T) (m : Meaning T) (k : ℕ) (x y : Node M) (asked sent : ℕ) → IsDriven b m false k x asked sent y → (s : ℕ) → IsBalanced b x s → IsBalanced b y s
+balance_run {M} b m zero x y asked sent h s w = let Q : Node M → Type 0 = λ t. IsBalanced b t s in subst Q (sym h) w
+balance_run b m (suc k) x y asked sent h s w = balance_run b m k h.0 y asked sent h.2 s (h.1.balance refl s w)
+
+pub tree_begun : {M T : Type 0} (b : Machine M T) (m : Meaning T) (x : Node M) (asked sent budget : ℕ) → IsTreeUnderWay b m x asked sent budget budget x
+tree_begun b m x asked sent budget = record { count = 0; spent = omega arith; run = refl; kept = kept_run b m 0 x x asked sent refl; balance = λ s k. k }
+
+pub tree_under_way : {M T : Type 0} (b : Machine M T) (m : Meaning T) (x : Node M) (asked sent budget left left' k : ℕ) (over : Bool) (r r' : M) (t now new : Inputs M) →
+    IsTreeUnderWay b m x asked sent budget left (node r t) → k + left' ≡ left → IsRowDriven b m false k over 0 asked sent r t r' now → new ≡ closed_row_if over now → IsTreeUnderWay b m x asked sent budget left' (node r' new)
+tree_under_way {M} b m x asked sent budget left left' k over r r' t now new u spent h shut =
+    let Q : Inputs M → Type 0 = λ z. IsDriven b m false (u.count + k) x asked sent (node r' z) in
+    let run : IsDriven b m false (u.count + k) x asked sent (node r' new) = subst Q (sym shut) (tree_then b m u.count k x (node r t) (node r' (closed_row_if over now)) asked sent u.run (tree_driven b m k over asked sent r r' t now h)) in
+    record { count = u.count + k; spent = let q = u.spent in omega (arith, q, spent); run = run; kept = kept_run b m (u.count + k) x (node r' new) asked sent run; balance = balance_run b m (u.count + k) x (node r' new) asked sent run }
+
+-- a pass that made no move found none
+pub idle_after : {M T : Type 0} (b : Machine M T) (m : Meaning T) (k : ℕ) (over : Bool) (asked sent : ℕ) (r r' : M) (t now new : Inputs M) → k ≡ 0 → IsRowDriven b m false k over 0 asked sent r t r' now → new ≡ closed_row_if over now → IsRowIdle b m r' 0 asked sent now → IsIdle b m (node r' new) asked sent
+idle_after {M} b m k over asked sent r r' t now new none h shut idle =
+    let z = nothing_done b m k over 0 asked sent r r' t now none h in
+    let Q : Inputs M → Type 0 = λ u. IsIdle b m (node r' u) asked sent in
+    subst Q (sym (shut ∙ ap (λ c. closed_row_if c now) z.0)) (idle_tree b m r' now asked sent idle)
+
+pub pass_same : (k left : ℕ) → (nat_eq k left || nat_eq k 0) ≡ true → 0 < k → k ≡ left
+pass_same k left e some = grind (arith, nat_tests)
+
+-- ---- looks
+
+Enabled : {M T : Type 0} → Machine M T → Meaning T → Option (Place M) → Type 0
+Enabled b m o = (can_ask_in b o ≡ true) ⊎ (can_send_in b m o ≡ true)
+
+pub row_tree : {M : Type 0} (Q : Inputs M → Type 0) (t : Inputs M) (e : Edge) (n : M) (below beside : Rest M) → t ≡ More e n below beside → Q (More e n below beside) → Q t
+row_tree Q t e n below beside is h = subst Q (sym is) h
+
+pub busy_here : {M T : Type 0} (b : Machine M T) (m : Meaning T) (r : M) (i asked sent : ℕ) (t : Inputs M) (e : Edge) (n : M) (below beside : Rest M) → t ≡ More e n below beside →
+    ((can_ask_for (edge_view e) (b.wanted r i asked sent) ≡ true) ⊎ (can_send_over b m r i (edge_view e) n ≡ true)) → IsRowBusy b m r i asked sent t
+busy_here b m r i asked sent t e n below beside is h = row_tree (λ x. IsRowBusy b m r i asked sent x) t e n below beside is (record { at = 0; within = omega arith; enabled = h })
+
+pub busy_below : {M T : Type 0} (b : Machine M T) (m : Meaning T) (r : M) (i asked sent : ℕ) (t : Inputs M) (e : Edge) (n : M) (below beside : Rest M) (was : Inputs M) → t ≡ More e n below beside → was ≡ below.value →
+    IsRowBusy b m n 0 e.demand.asked e.demand.sent was → IsRowBusy b m r i asked sent t
+busy_below {M} b m r i asked sent t e n below beside was is at h =
+    let W : Inputs M → Type 0 = λ x. IsRowBusy b m n 0 e.demand.asked e.demand.sent x in
+    let k = subst W at h in
+    let Q : Option (Place M) → Type 0 = λ o. (can_ask_in b o ≡ true) ⊎ (can_send_in b m o ≡ true) in
+    let N : ℕ → Type 0 = λ j. Q (place n 0 e.demand.asked e.demand.sent below.value j) in
+    let w = k.within in
+    row_tree (λ x. IsRowBusy b m r i asked sent x) t e n below beside is (record {
+      at = k.at + 1;
+      within = omega (arith, w);
+      enabled = subst Q (sym (chosen_second (nat_eq (k.at + 1) 0) _ _ (not_zero (k.at + 1) (omega arith)) ∙ chosen_first (nat_le (k.at + 1) (size below.value)) (place n 0 e.demand.asked e.demand.sent below.value (k.at + 1 - 1)) (place r (i + 1) asked sent beside.value (k.at + 1 - 1 - size below.value)) (is_within (k.at + 1) (size below.value) (omega (arith, w))))) (subst N (back k.at) k.enabled);
+    })
+
+pub busy_beside : {M T : Type 0} (b : Machine M T) (m : Meaning T) (r : M) (i next asked sent : ℕ) (t : Inputs M) (e : Edge) (n : M) (below beside : Rest M) (was : Inputs M) → t ≡ More e n below beside → was ≡ beside.value → next ≡ i + 1 →
+    IsRowBusy b m r next asked sent was → IsRowBusy b m r i asked sent t
+busy_beside {M} b m r i next asked sent t e n below beside was is at up h =
+    let I : ℕ → Type 0 = λ j. IsRowBusy b m r j asked sent was in
+    let W : Inputs M → Type 0 = λ x. IsRowBusy b m r (i + 1) asked sent x in
+    let k = subst W at (subst I up h) in
+    let Q : Option (Place M) → Type 0 = λ o. (can_ask_in b o ≡ true) ⊎ (can_send_in b m o ≡ true) in
+    let N : ℕ → Type 0 = λ j. Q (place r (i + 1) asked sent beside.value j) in
+    let w = k.within in
+    let pos : ℕ = k.at + 1 + size below.value in
+    row_tree (λ x. IsRowBusy b m r i asked sent x) t e n below beside is (record {
+      at = k.at + 1 + size below.value;
+      within = omega (arith, w);
+      enabled = subst Q (sym (chosen_second (nat_eq (k.at + 1 + size below.value) 0) _ _ (not_zero (k.at + 1 + size below.value) (omega arith)) ∙ chosen_second (nat_le (k.at + 1 + size below.value) (size below.value)) (place n 0 e.demand.asked e.demand.sent below.value (k.at + 1 + size below.value - 1)) (place r (i + 1) asked sent beside.value (k.at + 1 + size below.value - 1 - size below.value)) (is_beyond (k.at + 1 + size below.value) (size below.value) (omega arith)))) (subst N (back_over k.at (size below.value)) k.enabled);
+    })
+
+pub idle_row : {M T : Type 0} (b : Machine M T) (m : Meaning T) (r : M) (i next asked sent : ℕ) (t : Inputs M) (e : Edge) (n : M) (below beside : Rest M) (was was' : Inputs M) → t ≡ More e n below beside → was ≡ below.value → was' ≡ beside.value → next ≡ i + 1 →
+    can_ask_for (edge_view e) (b.wanted r i asked sent) ≡ false → can_send_over b m r i (edge_view e) n ≡ false → IsRowIdle b m n 0 e.demand.asked e.demand.sent was → IsRowIdle b m r next asked sent was' → IsRowIdle b m r i asked sent t
+idle_row {M} b m r i next asked sent t e n below beside was was' is at at' up ask send h k =
+    let B : Inputs M → Type 0 = λ x. IsRowIdle b m n 0 e.demand.asked e.demand.sent x in
+    let I : ℕ → Type 0 = λ j. IsRowIdle b m r j asked sent was' in
+    let W : Inputs M → Type 0 = λ x. IsRowIdle b m r (i + 1) asked sent x in
+    row_tree (λ x. IsRowIdle b m r i asked sent x) t e n below beside is (idle_whole b m r i asked sent e n below beside (record { ask = ask; send = send; idle = subst B at h }) (subst W at' (subst I up k)))
+
+pub idle_row_last : {M T : Type 0} (b : Machine M T) (m : Meaning T) (r : M) (i asked sent : ℕ) (t : Inputs M) (e : Edge) (n : M) (below beside : Rest M) (was : Inputs M) → t ≡ More e n below beside → was ≡ below.value → 2 ^ 64 ≤ i + 1 →
+    can_ask_for (edge_view e) (b.wanted r i asked sent) ≡ false → can_send_over b m r i (edge_view e) n ≡ false → IsRowIdle b m n 0 e.demand.asked e.demand.sent was → IsRowIdle b m r i asked sent t
+idle_row_last {M} b m r i asked sent t e n below beside was is at far ask send h =
+    let B : Inputs M → Type 0 = λ x. IsRowIdle b m n 0 e.demand.asked e.demand.sent x in
+    row_tree (λ x. IsRowIdle b m r i asked sent x) t e n below beside is (idle_last b m r i asked sent e n below beside far (record { ask = ask; send = send; idle = subst B at h }))
+
+pub busy_tree : {M T : Type 0} (b : Machine M T) (m : Meaning T) (r : M) (t : Inputs M) (asked sent : ℕ) → IsRowBusy b m r 0 asked sent t → IsBusy b m (node r t) asked sent
+busy_tree b m r t asked sent h = record { at = h.at; within = h.within; enabled = elim h.enabled [ inl x ↦ inl x | inr x ↦ inr (send_anywhere b m r 0 0 0 asked sent t h.at ∙ x) ] }

@@ -1,56 +1,117 @@
--- The first enabled move of a tree, found below its first edge.
-use Rattle.std.proofs.Common.{◌≡◌, ℕ, zero, suc, ◌+◌, ◌-◌, ◌<◌, Bool, true, false, ◌&&◌, nat_eq, List, option_map, refl, ap, sym, ◌∙◌, subst, arith, Option, Some, None, IfSome, IfNone, Box, Global}
+-- The first enabled move of a row.
+use Rattle.std.proofs.Common.{◌^◌, ◌≡◌, ◌⊎◌, inl, inr, ℕ, zero, suc, ◌+◌, ◌-◌, ◌<◌, ◌≤◌, min, Bool, true, false, nat_eq, nat_le, if◌then◌else◌, refl, ap, sym, ◌∙◌, subst, arith, Option, Some, None}
+use Rattle.std.proofs.lemmas.Bool.Decides.{nat_tests}
+use Rattle.std.specs.Prelude.{IfSome, IfNone}
 use Rattle.rsx_types.specs.Meaning.{Meaning}
-use Rattle.rsx_types.specs.declared.names.Move.{Move}
-use Rattle.rsx_types.specs.declared.names.Move.TheVariants.{Ask, Send, Take}
-use Rattle.rsx_types.specs.declared.names.Tree.{Tree as TreeName}
-use Rattle.rsx_plain.specs.Node.{plain_wanted}
-use Rattle.rsx_plain.specs.declared.node.PlainNode.{PlainNode}
-use Rattle.rsx_edge.specs.Edges.{edge_view, can_ask_for}
-use Rattle.rsx_tree.specs.Look.{IsEnabledBelow}
-use Rattle.rsx_tree.specs.Tree.{can_ask, can_send, can_send_over}
-use Rattle.rsx_edge.specs.declared.edge.Edge.{Edge}
+use Rattle.rsx_sources.specs.declared.machine.Machine.{Ghosts as Machine}
+use Rattle.rsx_tree.specs.declared.edge.Edge.{Edge}
+use Rattle.rsx_tree.specs.declared.inputs.Inputs.{Inputs}
+use Rattle.rsx_tree.specs.declared.inputs.Inputs.TheViews.{More}
+use Rattle.rsx_tree.specs.declared.look.Enabled.{Enabled}
+use Rattle.rsx_tree.specs.declared.look.Enabled.TheVariants.{Ask, Send}
+use Rattle.rsx_tree.specs.Edges.{edge_view, can_ask_for}
+use Rattle.rsx_tree.specs.Inputs.{size, place, Place, can_send_over, can_ask_in, can_send_in}
+use Rattle.rsx_tree.specs.Look.{IsEnabledIn, IsEnabledAt}
+use Rattle.rsx_tree.specs.Tree.{can_ask, can_send}
 use Rattle.rsx_tree.specs.declared.node.Node.{Node}
-use Rattle.rsx_tree.specs.declared.node.Node.TheViews.{Plain}
-use Rattle.rsx_tree.proofs.Balances.{above_zero, suc_minus}
+use Rattle.rsx_tree.proofs.Changes.{Rest, chosen_first, chosen_second, not_zero, is_within, is_beyond}
+use Rattle.rsx_tree.proofs.Drives.{back, back_over, row_tree, send_anywhere}
 
-abbrev Below : Type 0 → Type 0
-Below T = Box (Node T) Global
+pub at_below : {M : Type 0} (r : M) (i asked sent : ℕ) (e : Edge) (n : M) (below beside : Rest M) (at : ℕ) → at < size below.value → place r i asked sent (More e n below beside) (at + 1) ≡ place n 0 e.demand.asked e.demand.sent below.value at
+at_below r i asked sent e n below beside at w =
+    chosen_second (nat_eq (at + 1) 0) _ _ (not_zero (at + 1) (omega arith))
+    ∙ (chosen_first (nat_le (at + 1) (size below.value)) (place n 0 e.demand.asked e.demand.sent below.value (at + 1 - 1)) (place r (i + 1) asked sent beside.value (at + 1 - 1 - size below.value)) (is_within (at + 1) (size below.value) (omega (arith, w)))
+    ∙ ap (λ j. place n 0 e.demand.asked e.demand.sent below.value j) (sym (back at)))
 
-enabled_over : {T : Type 0} (m : Meaning T) (n : PlainNode T) (edge : Edge) (below : Below T) (tree : TreeName) (first next asked sent : ℕ) (step : Move) → next ≡ first + 1 → IsEnabledBelow m below.value tree next edge.demand.asked edge.demand.sent step → IsEnabledBelow m (Plain n edge below) tree first asked sent step
-enabled_over m n edge below tree first next asked sent (Ask t i) e h =
-    let num = h.2 in
-    (h.0 + 1, h.1, omega (arith, num, e), above_zero h.0 _ _ ∙ ap (λ k. can_ask below.value k edge.demand.asked edge.demand.sent) (suc_minus h.0) ∙ h.3)
-enabled_over m n edge below tree first next asked sent (Send t i) e h =
-    let num = h.2 in
-    (h.0 + 1, h.1, omega (arith, num, e), above_zero h.0 _ _ ∙ ap (λ k. can_send m below.value k) (suc_minus h.0) ∙ h.3)
-enabled_over m n edge below tree first next asked sent (Take t i) e h = absurd h
+pub at_beside : {M : Type 0} (r : M) (i asked sent : ℕ) (e : Edge) (n : M) (below beside : Rest M) (at : ℕ) → place r i asked sent (More e n below beside) (at + 1 + size below.value) ≡ place r (i + 1) asked sent beside.value at
+at_beside r i asked sent e n below beside at =
+    chosen_second (nat_eq (at + 1 + size below.value) 0) _ _ (not_zero (at + 1 + size below.value) (omega arith))
+    ∙ (chosen_second (nat_le (at + 1 + size below.value) (size below.value)) (place n 0 e.demand.asked e.demand.sent below.value (at + 1 + size below.value - 1)) (place r (i + 1) asked sent beside.value (at + 1 + size below.value - 1 - size below.value)) (is_beyond (at + 1 + size below.value) (size below.value) (omega arith))
+    ∙ ap (λ j. place r (i + 1) asked sent beside.value j) (sym (back_over at (size below.value))))
 
-pub some_deeper : {T : Type 0} (m : Meaning T) (old was : Node T) (n : PlainNode T) (edge : Edge) (below : Below T) (tree : TreeName) (first next asked sent : ℕ) (o : Option Move) → old ≡ Plain n edge below → was ≡ below.value → next ≡ first + 1 →
-    IfSome o (λ step. IsEnabledBelow m was tree next edge.demand.asked edge.demand.sent step) → IfSome o (λ step. IsEnabledBelow m old tree first asked sent step)
-some_deeper m old was n edge below tree first next asked sent None is at e h = tt
-some_deeper {T} m old was n edge below tree first next asked sent (Some step) is at e h =
-    let P : Node T → Type 0 = λ t. IsEnabledBelow m t tree first asked sent step in
-    let Q : Node T → Type 0 = λ t. IsEnabledBelow m t tree next edge.demand.asked edge.demand.sent step in
-    subst P (sym is) (enabled_over m n edge below tree first next asked sent step e (subst Q at h))
+pub first_below : {M T : Type 0} (b : Machine M T) (m : Meaning T) (r : M) (i asked sent first : ℕ) (t : Inputs M) (e : Edge) (n : M) (below beside : Rest M) (was : Inputs M) (step : Enabled) → t ≡ More e n below beside → was ≡ below.value →
+    IsEnabledIn b m n 0 e.demand.asked e.demand.sent was (first + 1) step → IsEnabledIn b m r i asked sent t first step
+first_below {M} b m r i asked sent first t e n below beside was (Ask k) is at h =
+    let W : Inputs M → Type 0 = λ x. IsEnabledIn b m n 0 e.demand.asked e.demand.sent x (first + 1) (Ask k) in
+    let q = subst W at h in
+    let w = q.1 in
+    let c = q.2 in
+    row_tree (λ x. IsEnabledIn b m r i asked sent x first (Ask k)) t e n below beside is (q.0 + 1, omega (arith, w), omega (arith, c), q.3, ap (can_ask_in b) (at_below r i asked sent e n below beside q.0 w) ∙ q.4)
+first_below {M} b m r i asked sent first t e n below beside was (Send k) is at h =
+    let W : Inputs M → Type 0 = λ x. IsEnabledIn b m n 0 e.demand.asked e.demand.sent x (first + 1) (Send k) in
+    let q = subst W at h in
+    let w = q.1 in
+    let c = q.2 in
+    row_tree (λ x. IsEnabledIn b m r i asked sent x first (Send k)) t e n below beside is (q.0 + 1, omega (arith, w), omega (arith, c), q.3, ap (can_send_in b m) (at_below r i asked sent e n below beside q.0 w) ∙ q.4)
 
-idle_over : {T : Type 0} (m : Meaning T) (n : PlainNode T) (edge : Edge) (below : Below T) (most first next asked sent : ℕ) → next ≡ first + 1 → can_ask_for (edge_view edge) (plain_wanted n 0 asked sent) ≡ false → can_send_over m n edge below.value ≡ false →
-    ((k : ℕ) → next + k < most → (can_ask below.value k edge.demand.asked edge.demand.sent ≡ false) × (can_send m below.value k ≡ false)) →
-    (k : ℕ) → first + k < most → (can_ask (Plain n edge below) k asked sent ≡ false) × (can_send m (Plain n edge below) k ≡ false)
-idle_over m n edge below most first next asked sent e a s h zero l = (a, s)
-idle_over m n edge below most first next asked sent e a s h (suc k) l =
-    let less : next + k < most = omega (arith, e, l) in
-    let r = h k less in
-    let one : suc k ≡ k + 1 = omega arith in (
-      ap (λ i. can_ask (Plain n edge below) i asked sent) one ∙ (above_zero k _ _ ∙ (ap (λ i. can_ask below.value i edge.demand.asked edge.demand.sent) (suc_minus k) ∙ r.0)),
-      ap (λ i. can_send m (Plain n edge below) i) one ∙ (above_zero k _ _ ∙ (ap (λ i. can_send m below.value i) (suc_minus k) ∙ r.1)),
-    )
+-- the number of nodes below, where there are fewer than were counted up to
+pub counted : (k inside most : ℕ) → inside ≡ min k most → (inside ≡ most → ⊥) → inside ≡ k
+counted k inside most c e = omega (arith, c, e)
 
-pub none_deeper : {T : Type 0} (m : Meaning T) (old was : Node T) (n : PlainNode T) (edge : Edge) (below : Below T) (most first next asked sent : ℕ) (o : Option Move) → old ≡ Plain n edge below → was ≡ below.value → next ≡ first + 1 → can_ask_for (edge_view edge) (plain_wanted n 0 asked sent) ≡ false → can_send_over m n edge below.value ≡ false →
-    IfNone o ((k : ℕ) → next + k < most → (can_ask was k edge.demand.asked edge.demand.sent ≡ false) × (can_send m was k ≡ false)) →
-    IfNone o ((k : ℕ) → first + k < most → (can_ask old k asked sent ≡ false) × (can_send m old k ≡ false))
-none_deeper m old was n edge below most first next asked sent (Some step) is at e a s h = tt
-none_deeper {T} m old was n edge below most first next asked sent None is at e a s h =
-    let Q : Node T → Type 0 = λ t. (k : ℕ) → next + k < most → (can_ask t k edge.demand.asked edge.demand.sent ≡ false) × (can_send m t k ≡ false) in
-    let P : Node T → Type 0 = λ t. (k : ℕ) → first + k < most → (can_ask t k asked sent ≡ false) × (can_send m t k ≡ false) in
-    subst P (sym is) (idle_over m n edge below most first next asked sent e a s (subst Q at h))
+past : (k s : ℕ) → nat_le k s ≡ false → s < k
+past k s e = grind (arith, nat_tests)
+
+some_beside : {M T : Type 0} (b : Machine M T) (m : Meaning T) (r : M) (i asked sent first : ℕ) (e : Edge) (n : M) (below beside : Rest M) (step : Enabled) →
+    IsEnabledIn b m r (i + 1) asked sent beside.value (first + 1 + size below.value) step → IsEnabledIn b m r i asked sent (More e n below beside) first step
+some_beside b m r i asked sent first e n below beside (Ask k) q =
+    let w = q.1 in
+    let c = q.2 in
+    (q.0 + 1 + size below.value, omega (arith, w), omega (arith, c), q.3, ap (can_ask_in b) (at_beside r i asked sent e n below beside q.0) ∙ q.4)
+some_beside b m r i asked sent first e n below beside (Send k) q =
+    let w = q.1 in
+    let c = q.2 in
+    (q.0 + 1 + size below.value, omega (arith, w), omega (arith, c), q.3, ap (can_send_in b m) (at_beside r i asked sent e n below beside q.0) ∙ q.4)
+
+pub first_beside : {M T : Type 0} (b : Machine M T) (m : Meaning T) (r : M) (i asked sent first inside : ℕ) (t : Inputs M) (e : Edge) (n : M) (below beside : Rest M) (was : Inputs M) (o : Option Enabled) → t ≡ More e n below beside → was ≡ beside.value → inside ≡ size below.value →
+    IfSome o (λ step. IsEnabledIn b m r (i + 1) asked sent was (first + 1 + inside) step) → IfSome o (λ step. IsEnabledIn b m r i asked sent t first step)
+first_beside b m r i asked sent first inside t e n below beside was None is at count h = h
+first_beside {M} b m r i asked sent first inside t e n below beside was (Some step) is at count h =
+    let W : Inputs M → Type 0 = λ x. IsEnabledIn b m r (i + 1) asked sent x (first + 1 + inside) step in
+    let C : ℕ → Type 0 = λ j. IsEnabledIn b m r (i + 1) asked sent beside.value (first + 1 + j) step in
+    row_tree (λ x. IsEnabledIn b m r i asked sent x first step) t e n below beside is (some_beside b m r i asked sent first e n below beside step (subst C count (subst W at h)))
+
+abbrev pub NoneUpTo : {M T : Type 0} → Machine M T → Meaning T → M → ℕ → ℕ → ℕ → Inputs M → ℕ → Type 0
+NoneUpTo b m r i asked sent t first = (k : ℕ) → first + k < 2 ^ 32 → (can_ask_in b (place r i asked sent t k) ≡ false) × (can_send_in b m (place r i asked sent t k) ≡ false)
+
+none_whole : {M T : Type 0} (b : Machine M T) (m : Meaning T) (r : M) (i asked sent first : ℕ) (e : Edge) (n : M) (below beside : Rest M) → can_ask_for (edge_view e) (b.wanted r i asked sent) ≡ false → can_send_over b m r i (edge_view e) n ≡ false →
+    NoneUpTo b m n 0 e.demand.asked e.demand.sent below.value (first + 1) → NoneUpTo b m r (i + 1) asked sent beside.value (first + 1 + size below.value) → NoneUpTo b m r i asked sent (More e n below beside) first
+none_whole b m r i asked sent first e n below beside ask send h q zero lt = (ask, send)
+none_whole {M} b m r i asked sent first e n below beside ask send h q (suc k) lt = deeper (nat_le (suc k) (size below.value)) refl
+  where
+    deeper : (c : Bool) → nat_le (suc k) (size below.value) ≡ c → (can_ask_in b (place r i asked sent (More e n below beside) (suc k)) ≡ false) × (can_send_in b m (place r i asked sent (More e n below beside) (suc k)) ≡ false)
+    deeper true c =
+        let Q : Option (Place M) → Type 0 = λ o. (can_ask_in b o ≡ false) × (can_send_in b m o ≡ false) in
+        subst Q (sym (chosen_second (nat_eq (suc k) 0) _ _ (not_zero (suc k) (omega arith)) ∙ chosen_first (nat_le (suc k) (size below.value)) (place n 0 e.demand.asked e.demand.sent below.value (suc k - 1)) (place r (i + 1) asked sent beside.value (suc k - 1 - size below.value)) c)) (h (suc k - 1) (omega (arith, lt)))
+    deeper false c =
+        let Q : Option (Place M) → Type 0 = λ o. (can_ask_in b o ≡ false) × (can_send_in b m o ≡ false) in
+        let far : size below.value < suc k = past (suc k) (size below.value) c in
+        subst Q (sym (chosen_second (nat_eq (suc k) 0) _ _ (not_zero (suc k) (omega arith)) ∙ chosen_second (nat_le (suc k) (size below.value)) (place n 0 e.demand.asked e.demand.sent below.value (suc k - 1)) (place r (i + 1) asked sent beside.value (suc k - 1 - size below.value)) c)) (q (suc k - 1 - size below.value) (omega (arith, lt, far)))
+
+pub none_row : {M T : Type 0} (b : Machine M T) (m : Meaning T) (r : M) (i asked sent first : ℕ) (t : Inputs M) (e : Edge) (n : M) (below beside : Rest M) (was : Inputs M) → t ≡ More e n below beside → was ≡ below.value →
+    can_ask_for (edge_view e) (b.wanted r i asked sent) ≡ false → can_send_over b m r i (edge_view e) n ≡ false → NoneUpTo b m n 0 e.demand.asked e.demand.sent was (first + 1) → NoneUpTo b m r (i + 1) asked sent beside.value (first + 1 + size below.value) → NoneUpTo b m r i asked sent t first
+none_row {M} b m r i asked sent first t e n below beside was is at ask send h q =
+    let W : Inputs M → Type 0 = λ x. NoneUpTo b m n 0 e.demand.asked e.demand.sent x (first + 1) in
+    row_tree (λ x. NoneUpTo b m r i asked sent x first) t e n below beside is (none_whole b m r i asked sent first e n below beside ask send (subst W at h) q)
+
+pub none_beside : {M T : Type 0} (b : Machine M T) (m : Meaning T) (r : M) (i asked sent first inside : ℕ) (t : Inputs M) (e : Edge) (n : M) (below beside : Rest M) (was was' : Inputs M) (o : Option Enabled) → t ≡ More e n below beside → was ≡ below.value → was' ≡ beside.value → inside ≡ size below.value →
+    can_ask_for (edge_view e) (b.wanted r i asked sent) ≡ false → can_send_over b m r i (edge_view e) n ≡ false → NoneUpTo b m n 0 e.demand.asked e.demand.sent was (first + 1) → IfNone o (NoneUpTo b m r (i + 1) asked sent was' (first + 1 + inside)) → IfNone o (NoneUpTo b m r i asked sent t first)
+none_beside b m r i asked sent first inside t e n below beside was was' (Some step) is at at' count ask send h q = q
+none_beside {M} b m r i asked sent first inside t e n below beside was was' None is at at' count ask send h q =
+    let W : Inputs M → Type 0 = λ x. NoneUpTo b m r (i + 1) asked sent x (first + 1 + inside) in
+    let C : ℕ → Type 0 = λ j. NoneUpTo b m r (i + 1) asked sent beside.value (first + 1 + j) in
+    none_row b m r i asked sent first t e n below beside was is at ask send h (subst C count (subst W at' q))
+
+pub all_counted : (s inside at k : ℕ) {z : ℕ} → z ≡ s → inside ≡ min z (4294967295 - at) → inside ≡ 4294967295 - at → at + 1 + s + k < 2 ^ 32 → ⊥
+all_counted s inside at k is e all lt = omega (arith, is, e, all, lt)
+
+-- ---- a tree
+
+pub enabled_tree : {M T : Type 0} (b : Machine M T) (m : Meaning T) (t : Node M) (asked sent first : ℕ) (o : Option Enabled) → IfSome o (λ e. IsEnabledIn b m t.machine 0 asked sent t.inputs first e) → IfSome o (λ e. IsEnabledAt b m t asked sent first e)
+enabled_tree b m t asked sent first None h = tt
+enabled_tree b m t asked sent first (Some (Ask n)) h = h
+enabled_tree b m t asked sent first (Some (Send n)) h = (h.0, h.1, h.2, h.3, send_anywhere b m t.machine 0 0 0 asked sent t.inputs h.0 ∙ h.4)
+
+pub none_tree : {M T : Type 0} (b : Machine M T) (m : Meaning T) (t : Node M) (asked sent first : ℕ) (o : Option Enabled) → IfNone o (NoneUpTo b m t.machine 0 asked sent t.inputs first) →
+    IfNone o ((k : ℕ) → first + k < 2 ^ 32 → (can_ask b t k asked sent ≡ false) × (can_send b m t k ≡ false))
+none_tree b m t asked sent first (Some e) h = tt
+none_tree b m t asked sent first None h = λ k lt. let q = h k lt in (q.0, send_anywhere b m t.machine 0 0 0 asked sent t.inputs k ∙ q.1)

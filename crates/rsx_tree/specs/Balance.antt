@@ -1,37 +1,56 @@
--- The counts along the edges of a tree: how much each node took in belongs to how much it put out.
-use Rattle.std.specs.Prelude.{◌≡◌, ◌⊎◌, ℕ, ◌+◌, ◌<◌, Bool, true, false, List, length}
+-- The counts along the edges of a tree: how much each node took in belongs to how much it sent.
+use Rattle.std.specs.Prelude.{◌≡◌, ◌⊎◌, ⊤, ℕ, ◌+◌, ◌<◌, ◌≤◌, ◌^◌, Bool, true, false, List, [], ◌∷◌}
 use Rattle.rsx_types.specs.declared.signal.Signal.{Signal}
 use Rattle.rsx_types.specs.declared.signal.Signal.TheVariants.{Next, Complete, Error}
-use Rattle.rsx_plain.specs.Node.{plain_ended}
-use Rattle.rsx_plain.specs.State.{balanced, is_over, most_asked}
-use Rattle.rsx_plain.specs.declared.node.PlainNode.{PlainNode}
-use Rattle.rsx_edge.specs.declared.edge.Edge.{Edge}
-use Rattle.rsx_edge.specs.declared.edge.EdgeState.TheVariants.{Live}
-use Rattle.rsx_tree.specs.declared.node.Node.{Node, Items, Range, Plain'}
+use Rattle.rsx_sources.specs.Counts.{AreWithin}
+use Rattle.rsx_sources.specs.declared.machine.Machine.{Ghosts as Machine}
+use Rattle.rsx_tree.specs.declared.edge.EdgeState.TheVariants.{Live}
+use Rattle.rsx_tree.specs.declared.inputs.Inputs.{Inputs, End, More'}
+use Rattle.rsx_tree.specs.declared.node.Node.{Node}
+use Rattle.rsx_tree.specs.Inputs.{size}
 
--- While the root's own edge is live and carried so many items: each node has put out its ending, or the edge of its input
--- is live and its counts are balanced.
-abbrev pub IsBalanced : {T : Type 0} → Node T → ℕ → Type 0
-IsBalanced (Items n) sent = Unit {0}
-IsBalanced (Range n) sent = Unit {0}
-IsBalanced (Plain' n edge p input) sent =
-    (plain_ended n ≡ true) ⊎
-    ((plain_ended n ≡ false) × (is_over n.state ≡ false) × (edge.state ≡ Live) × balanced n.state edge.demand.sent (sent + length n.slot) × IsBalanced input edge.demand.sent)
+-- how many items went over each of the row's own edges
+abbrev pub sent_over : {M : Type 0} → Inputs M → List ℕ
+sent_over End = []
+sent_over (More' e n p below q beside) = e.demand.sent ∷ sent_over beside
 
--- the same of a plain node, the edge of its input, and its input
-abbrev pub IsNodeBalanced : {T : Type 0} → PlainNode T → Edge → Node T → ℕ → Type 0
-IsNodeBalanced n edge input sent =
-    (plain_ended n ≡ true) ⊎
-    ((plain_ended n ≡ false) × (is_over n.state ≡ false) × (edge.state ≡ Live) × balanced n.state edge.demand.sent (sent + length n.slot) × IsBalanced input edge.demand.sent)
+-- a node that sent so many has ended, or its counts are balanced, and so is what is below it
+abbrev pub IsOwnerBalanced : {M T : Type 0} → Machine M T → M → List ℕ → ℕ → Type 0 → Type 0
+IsOwnerBalanced b n taken sent below = (b.ended n ≡ true) ⊎ ((b.ended n ≡ false) × b.counted n taken sent × below)
+
+-- of each input of a receiver that has not ended, the first of the row being input `i`: its completion was taken, or its edge
+-- is live and its node is balanced
+abbrev pub IsRowBalanced : {M T : Type 0} → Machine M T → M → ℕ → Inputs M → Type 0
+IsRowBalanced b r i End = ⊤
+IsRowBalanced b r i (More' e n p below q beside) =
+    ((b.done r i ≡ true) ⊎ ((e.state ≡ Live) × IsOwnerBalanced b n (sent_over below) e.demand.sent (IsRowBalanced b n 0 below)))
+    × IsRowBalanced b r (i + 1) beside
+
+-- while the root's own edge is live and carried so many items
+abbrev pub IsBalanced : {M T : Type 0} → Machine M T → Node M → ℕ → Type 0
+IsBalanced b t sent = IsOwnerBalanced b t.machine (sent_over t.inputs) sent (IsRowBalanced b t.machine 0 t.inputs)
 
 -- after a signal went over the root's own edge; an ending ended that edge
-abbrev pub IsBalancedAfter : {T : Type 0} → Signal T → Node T → ℕ → Type 0
-IsBalancedAfter (Next x) t sent = IsBalanced t (sent + 1)
-IsBalancedAfter Complete t sent = Unit {0}
-IsBalancedAfter (Error c) t sent = Unit {0}
+abbrev pub IsBalancedAfter : {M T : Type 0} → Machine M T → Signal T → Node M → ℕ → Type 0
+IsBalancedAfter b (Next x) t sent = IsBalanced b t (sent + 1)
+IsBalancedAfter b Complete t sent = ⊤
+IsBalancedAfter b (Error c) t sent = ⊤
 
--- no edge below the root has carried as many items as can be asked for
-abbrev pub IsWithin : {T : Type 0} → Node T → Type 0
-IsWithin (Items n) = Unit {0}
-IsWithin (Range n) = Unit {0}
-IsWithin (Plain' n edge p input) = (edge.demand.sent < most_asked) × IsWithin input
+-- no edge of the row has carried as many items as can be asked for
+abbrev pub IsRowWithin : {M : Type 0} → Inputs M → Type 0
+IsRowWithin End = ⊤
+IsRowWithin (More' e n p below q beside) = (e.demand.sent < 9223372036854775807) × IsRowWithin below × IsRowWithin beside
+
+-- nor has an edge below the root; and each node below it has a number
+abbrev pub IsWithin : {M : Type 0} → Node M → Type 0
+IsWithin t = (size t.inputs + 1 < 2 ^ 32) × IsRowWithin t.inputs
+
+-- no node of the row can pick or make a row
+abbrev pub IsRowStill : {M T : Type 0} → Machine M T → Inputs M → Type 0
+IsRowStill b End = ⊤
+IsRowStill b (More' e n p below q beside) =
+    ((j : ℕ) → j < 2 ^ 64 → b.picks n j e.demand.asked e.demand.sent ≡ false) × (b.rows n e.demand.asked e.demand.sent ≡ false) × IsRowStill b below × IsRowStill b beside
+
+-- nor can one of the tree, where so much is asked of the root and was sent by it
+abbrev pub IsStill : {M T : Type 0} → Machine M T → Node M → ℕ → ℕ → Type 0
+IsStill b t asked sent = ((j : ℕ) → j < 2 ^ 64 → b.picks t.machine j asked sent ≡ false) × (b.rows t.machine asked sent ≡ false) × IsRowStill b t.inputs

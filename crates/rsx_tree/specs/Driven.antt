@@ -1,16 +1,106 @@
--- Runs of moves of a tree, one after the other.
-use Rattle.std.specs.Prelude.{◌≡◌, ℕ, zero, suc, ◌+◌, ◌≤◌, Result, Ok, Err}
+-- Runs of moves, one after the other.
+use Rattle.std.specs.Prelude.{◌≡◌, ◌⊎◌, ℕ, zero, suc, ◌+◌, ◌<◌, ◌≤◌, ◌^◌, Bool, true, false, ◌&&◌, Result, Ok, Err}
 use Rattle.rsx_types.specs.Meaning.{Meaning}
-use Rattle.rsx_tree.specs.Tree.{IsAdvanced}
+use Rattle.rsx_sources.specs.declared.machine.Machine.{Ghosts as Machine}
+use Rattle.rsx_tree.specs.declared.inputs.Inputs.{Inputs}
+use Rattle.rsx_tree.specs.declared.inputs.Pass.{Pass}
 use Rattle.rsx_tree.specs.declared.node.Node.{Node}
+use Rattle.rsx_tree.specs.Edges.{edge_view, can_ask_for}
+use Rattle.rsx_tree.specs.Inputs.{size, place, is_own, can_ask_in, can_send_in, closed_row_if}
+use Rattle.rsx_tree.specs.Balance.{IsBalanced}
+use Rattle.rsx_tree.specs.Changed.{IsChanged, IsAskedOver, IsSentOver}
+use Rattle.rsx_tree.specs.Stepped.{IsStepped, IsPickedHere, IsRowMadeHere}
+use Rattle.rsx_tree.specs.Tree.{IsKept, IsAskedAt, IsSentAt, can_ask, can_send}
+
+-- ---- a move of a row, whose first edge is input `i` of `r`; `ends` says that `r` ended by it, so that its owner closes the row
+
+pub record IsAskMade {M T : Type 0} (b : Machine M T) (r : M) (i asked sent : ℕ) (t : Inputs M) (at : ℕ) (ends : Bool) (r' : M) (t' : Inputs M) : Type 0 where
+  pub made : IsChanged (IsAskedOver b) (λ n. false) r i asked sent t at r' t'
+  pub stays : ends ≡ false
+
+pub record IsSendMade {M T : Type 0} (b : Machine M T) (m : Meaning T) (r : M) (i : ℕ) (t : Inputs M) (at : ℕ) (ends : Bool) (r' : M) (t' : Inputs M) : Type 0 where
+  pub made : (asked sent : ℕ) → IsChanged (IsSentOver b m) b.ended r i asked sent t at r' t'
+  pub ends_is : ends ≡ (b.ended r' && is_own t at)
+
+-- a pick or a row of the node `at` of the row
+pub record IsStepMade {M T : Type 0} (b : Machine M T) (m : Meaning T) (r : M) (t : Inputs M) (at : ℕ) (ends : Bool) (r' : M) (t' : Inputs M) : Type 0 where
+  pub made : ((input : ℕ) × IsStepped (IsPickedHere b m input) b.ended t at t') ⊎ IsStepped (IsRowMadeHere b m) b.ended t at t'
+  pub receiver : r' ≡ r
+  pub stays : ends ≡ false
+
+-- an enabled move was made; picks and rows only where `steps`
+abbrev pub IsMade : {M T : Type 0} → Machine M T → Meaning T → Bool → M → ℕ → ℕ → ℕ → Inputs M → ℕ → Bool → M → Inputs M → Type 0
+IsMade b m steps r i asked sent t at ends r' t' =
+    IsAskMade b r i asked sent t at ends r' t' ⊎ (IsSendMade b m r i t at ends r' t' ⊎ ((steps ≡ true) × IsStepMade b m r t at ends r' t'))
+
+-- so many moves of the row, by none of which its receiver ended
+abbrev pub IsRowRun : {M T : Type 0} → Machine M T → Meaning T → Bool → ℕ → ℕ → ℕ → ℕ → M → Inputs M → M → Inputs M → Type 0
+IsRowRun b m steps zero i asked sent r t r' t' = (r' ≡ r) × (t' ≡ t)
+IsRowRun {M} b m steps (suc n) i asked sent r t r' t' =
+    (at : ℕ) × (r1 : M) × (t1 : Inputs M) × IsMade b m steps r i asked sent t at false r1 t1 × IsRowRun b m steps n i asked sent r1 t1 r' t'
+
+-- so many moves and then one by which the receiver of the row ended
+pub record IsRowEnded {M T : Type 0} (b : Machine M T) (m : Meaning T) (steps : Bool) (n i asked sent : ℕ) (r : M) (t : Inputs M) (r' : M) (t' : Inputs M) : Type 0 where
+  pub before : ℕ
+  pub count : n ≡ before + 1
+  pub r1 : M
+  pub t1 : Inputs M
+  pub at : ℕ
+  pub run : IsRowRun b m steps before i asked sent r t r1 t1
+  pub last : IsMade b m steps r1 i asked sent t1 at true r' t'
+
+-- so many moves of the row; `over` says that its receiver ended by the last
+abbrev pub IsRowDriven : {M T : Type 0} → Machine M T → Meaning T → Bool → ℕ → Bool → ℕ → ℕ → ℕ → M → Inputs M → M → Inputs M → Type 0
+IsRowDriven b m steps n false i asked sent r t r' t' = IsRowRun b m steps n i asked sent r t r' t'
+IsRowDriven b m steps n true i asked sent r t r' t' = IsRowEnded b m steps n i asked sent r t r' t'
+
+-- so many of the budget were spent
+abbrev pub SpentPass : {E : Type 0} → ℕ → ℕ → Result Pass E → Type 0
+SpentPass budget n (Ok p) = n + p.left ≡ budget
+SpentPass budget n (Err e) = n ≤ budget
+
+abbrev pub is_over_in : {E : Type 0} → Result Pass E → Bool
+is_over_in (Ok p) = p.is_over
+is_over_in (Err e) = false
+
+-- no Ask and no Send of the row that has a number is enabled
+abbrev pub IsRowIdle : {M T : Type 0} → Machine M T → Meaning T → M → ℕ → ℕ → ℕ → Inputs M → Type 0
+IsRowIdle b m r i asked sent t =
+    (at : ℕ) → i + at < 2 ^ 64 → (can_ask_in b (place r i asked sent t at) ≡ false) × (can_send_in b m (place r i asked sent t at) ≡ false)
+
+-- ---- a tree
 
 -- so many of the budget were spent, where the answer is how many are left
 abbrev pub Spent : {E : Type 0} → ℕ → ℕ → Result ℕ E → Type 0
 Spent budget n (Ok left) = n + left ≡ budget
 Spent budget n (Err e) = n ≤ budget
 
--- so many enabled moves below the root lead from the first tree to the second; `asked` and `sent` are those of the root's
--- own edge, which stay
-abbrev pub IsDriven : {T : Type 0} → Meaning T → ℕ → Node T → ℕ → ℕ → Node T → Type 0
-IsDriven m zero old asked sent new = new ≡ old
-IsDriven {T} m (suc n) old asked sent new = (mid : Node T) × IsAdvanced m old asked sent mid × IsDriven m n mid asked sent new
+-- an enabled move of the tree was made, with its effect; picks and rows only where `steps`
+pub record IsAdvanced {M T : Type 0} (b : Machine M T) (m : Meaning T) (steps : Bool) (old : Node M) (asked sent : ℕ) (new : Node M) : Type 0 where
+  pub at : ℕ
+  pub made : ((can_ask b old at asked sent ≡ true) × IsAskedAt b old at asked sent new)
+      ⊎ (((can_send b m old at ≡ true) × IsSentAt b m old at new)
+      ⊎ ((steps ≡ true) × IsStepMade b m old.machine old.inputs at false new.machine new.inputs))
+  pub kept : steps ≡ false → IsKept b m old new
+  pub balance : steps ≡ false → (s : ℕ) → IsBalanced b old s → IsBalanced b new s
+
+-- so many enabled moves lead from the first tree to the second
+abbrev pub IsDriven : {M T : Type 0} → Machine M T → Meaning T → Bool → ℕ → Node M → ℕ → ℕ → Node M → Type 0
+IsDriven b m steps zero old asked sent new = new ≡ old
+IsDriven {M} b m steps (suc n) old asked sent new = (mid : Node M) × IsAdvanced b m steps old asked sent mid × IsDriven b m steps n mid asked sent new
+
+-- no Ask and no Send of the tree that has a number is enabled
+abbrev pub IsIdle : {M T : Type 0} → Machine M T → Meaning T → Node M → ℕ → ℕ → Type 0
+IsIdle b m t asked sent = (at : ℕ) → at < 2 ^ 64 → (can_ask b t at asked sent ≡ false) × (can_send b m t at ≡ false)
+
+-- some Ask or Send of the row is enabled
+pub record IsRowBusy {M T : Type 0} (b : Machine M T) (m : Meaning T) (r : M) (i asked sent : ℕ) (t : Inputs M) : Type 0 where
+  pub at : ℕ
+  pub within : at < size t
+  pub enabled : (can_ask_in b (place r i asked sent t at) ≡ true) ⊎ (can_send_in b m (place r i asked sent t at) ≡ true)
+
+-- some Ask or Send of the tree is enabled
+pub record IsBusy {M T : Type 0} (b : Machine M T) (m : Meaning T) (t : Node M) (asked sent : ℕ) : Type 0 where
+  pub at : ℕ
+  pub within : at < size t.inputs
+  pub enabled : (can_ask b t at asked sent ≡ true) ⊎ (can_send b m t at ≡ true)

@@ -1,214 +1,122 @@
--- One tree of nodes: what still comes out of it, what it recorded, and which of its moves are enabled.
-use Rattle.std.specs.Prelude.{◌≡◌, ◌⊎◌, ℕ, ◌+◌, ◌-◌, Bool, true, false, ◌&&◌, ◌||◌, nat_eq, if◌then◌else◌, List, [], ◌∷◌, Option, Some, None, option_map, option_and_then, slice_get}
-use Rattle.rsx_types.specs.declared.signal.Ending.TheVariants.{Open}
-use Rattle.rsx_types.specs.declared.signal.Signal.{Signal}
-use Rattle.rsx_types.specs.declared.note.Note.{Note}
-use Rattle.rsx_types.specs.declared.note.Note.TheVariants.{Nothing}
+-- One tree of nodes: what still comes out of it, what it recorded, and its moves.
+use Rattle.std.specs.Prelude.{◌≡◌, ℕ, ◌+◌, Bool, true, false, ◌&&◌, nat_eq, nat_le, if◌then◌else◌, ◌-◌, List, [], ◌∷◌, map, Option, Some, None, option_map, option_and_then, slice_get}
 use Rattle.rsx_types.specs.Meaning.{Meaning, Allocates}
-use Rattle.rsx_types.specs.Stream.{Stream, ended_by, signal_then}
-use Rattle.rsx_sources.specs.Machine.{Incoming, front_of}
-use Rattle.rsx_sources.specs.Items.{items_comes_out, items_waiting, items_popped}
-use Rattle.rsx_sources.specs.Range.{range_comes_out, range_waiting, range_popped, range_pop_allocates}
+use Rattle.rsx_types.specs.Notes.{unchosen}
+use Rattle.rsx_types.specs.Stream.{Stream, signal_then}
+use Rattle.rsx_types.specs.declared.note.Note.{Note}
+use Rattle.rsx_types.specs.declared.signal.Signal.{Signal}
+use Rattle.rsx_sources.specs.Machine.{front_of}
 use Rattle.rsx_sources.specs.declared.machine.Front.{Front}
-use Rattle.rsx_plain.specs.Node.{plain_comes_out, plain_waiting, plain_popped, plain_takes, plain_wanted, plain_ended, plain_allocates}
-use Rattle.rsx_plain.specs.declared.node.PlainNode.{PlainNode}
+use Rattle.rsx_sources.specs.declared.machine.Machine.{Ghosts as Machine}
+use Rattle.rsx_tree.specs.declared.edge.Edge.{Edge}
+use Rattle.rsx_tree.specs.declared.edge.EdgeState.{EdgeState}
+use Rattle.rsx_tree.specs.declared.edge.EdgeState.TheVariants.{Live}
+use Rattle.rsx_tree.specs.declared.inputs.Inputs.{Inputs, End, More'}
+use Rattle.rsx_tree.specs.declared.node.Node.{Node}
 use Rattle.rsx_tree.specs.Balance.{IsBalanced, IsBalancedAfter}
-use Rattle.rsx_edge.specs.Edges.{edge_view, EdgeView, can_ask_for, can_pass, asked_up_to, changed_at, carried, carried_at}
-use Rattle.rsx_edge.specs.declared.edge.Edge.{Edge}
-use Rattle.rsx_edge.specs.declared.edge.EdgeState.TheVariants.{Live}
-use Rattle.rsx_tree.specs.declared.node.Node.{Node, Items, Range, Plain'}
+use Rattle.rsx_tree.specs.Changed.{Hold}
+use Rattle.rsx_tree.specs.Edges.{EdgeView, asked_up_to, changed_at, closed_if}
+use Rattle.rsx_tree.specs.Inputs.{Place, place, size, is_own, comes_in, out_of, notes_of, edges as edges_in, can_ask_in, can_send_in, wanted_at, send_allocates_in, sent_edges, IsUnchosen as IsUnchosenIn}
 
--- nothing comes in
-abbrev pub none_incoming : {T : Type 0} → Incoming T
-none_incoming = record { first = ended_by Open; others = [] }
-
--- this value comes in at the one input
-abbrev pub one_incoming : {T : Type 0} → Stream T → Incoming T
-one_incoming v = record { first = v; others = [] }
-
--- what comes out of a plain node that still chooses `k`, where `o` still comes in
-abbrev pub through : {T : Type 0} → Meaning T → PlainNode T → Option (Stream T) → Note → Option (Stream T)
-through m n o k = option_and_then (λ v. plain_comes_out m n (one_incoming v) k) o
-
--- what still comes out of the tree whose root has the number `at`, where the hubs' values are `hubs` and `further` is what
--- each node of the whole tree still chooses; nothing where those choices don't fit
-abbrev pub comes_out : {T : Type 0} → Meaning T → List (Stream T) → List Note → Node T → ℕ → Option (Stream T)
-comes_out m hubs further (Items n) at = option_and_then (items_comes_out m n none_incoming) (slice_get further at)
-comes_out m hubs further (Range n) at = option_and_then (range_comes_out m n none_incoming) (slice_get further at)
-comes_out m hubs further (Plain' n edge p input) at =
-    option_and_then (through m n (comes_out m hubs further input (at + 1))) (slice_get further at)
+-- what still comes out of the tree whose root has the number `at`, where `hubs` is what is still published at each hub and
+-- `further` what each node of the whole tree still chooses; nothing where those choices don't fit
+abbrev pub comes_out : {M T : Type 0} → Machine M T → Meaning T → List (Stream T) → List Note → Node M → ℕ → Option (Stream T)
+comes_out b m hubs further t at = out_of b m hubs t.machine (comes_in b m hubs further t.inputs (at + 1)) (slice_get further at)
 
 -- what the nodes recorded, in pre-order
-abbrev pub notes_of : {T : Type 0} → Node T → List Note
-notes_of (Items n) = Nothing ∷ []
-notes_of (Range n) = Nothing ∷ []
-notes_of (Plain' n edge p input) = Nothing ∷ notes_of input
-
--- the signal that the root of a tree offers
-abbrev pub offers : {T : Type 0} → Meaning T → Node T → Option (Signal T)
-offers m (Items n) = items_waiting m n
-offers m (Range n) = range_waiting m n
-offers m (Plain' n edge p input) = plain_waiting m n
-
--- the second tree is the first without the signal that its root offered
-abbrev pub popped : {T : Type 0} → Node T → Signal T → Node T → Type 0
-popped (Items a) s (Items b) = items_popped a s b
-popped (Range a) s (Range b) = range_popped a s b
-popped (Plain' a e p i) s (Plain' b e' p' i') = plain_popped a s b × (e ≡ e') × (p ≡ p') × (i ≡ i')
-popped a s b = ⊥
-
--- no edge below the root is live
-abbrev pub IsAllClosed : {T : Type 0} → Node T → Type 0
-IsAllClosed (Items n) = Unit {0}
-IsAllClosed (Range n) = Unit {0}
-IsAllClosed (Plain' n edge p input) = (edge.state ≡ Live → ⊥) × IsAllClosed input
+abbrev pub notes : {M T : Type 0} → Machine M T → Node M → List Note
+notes b t = b.recorded t.machine ∷ notes_of b t.inputs
 
 -- the edges below the root, in pre-order
-abbrev pub edges : {T : Type 0} → Node T → List EdgeView
-edges (Items n) = []
-edges (Range n) = []
-edges (Plain' n edge p input) = edge_view edge ∷ edges input
+abbrev pub edges : {M : Type 0} → Node M → List EdgeView
+edges t = edges_in t.inputs
 
--- the edge `at` below the root is live, and its receiver wants more than it asked for; `asked` and `sent` are those of the
--- root's own edge
-abbrev pub can_ask : {T : Type 0} → Node T → ℕ → ℕ → ℕ → Bool
-can_ask (Items n) at asked sent = false
-can_ask (Range n) at asked sent = false
-can_ask (Plain' n edge p input) at asked sent =
-    if nat_eq at 0 then can_ask_for (edge_view edge) (plain_wanted n 0 asked sent)
-    else can_ask input (at - 1) edge.demand.asked edge.demand.sent
+-- the signal that the root of a tree offers
+abbrev pub offers : {M T : Type 0} → Machine M T → Meaning T → Node M → Option (Signal T)
+offers b m t = b.waiting m t.machine
 
--- a node offers a signal that can go over its edge
-abbrev pub can_go : EdgeView → Option Front → Bool
-can_go e None = false
-can_go e (Some f) = can_pass e f
+-- the second tree is the first without the signal that its root offered
+abbrev pub popped : {M T : Type 0} → Machine M T → Node M → Signal T → Node M → Type 0
+popped b old s new = b.popped old.machine s new.machine × (old.inputs ≡ new.inputs)
 
--- the input of a node offers a signal that can go over its edge, and the node can take it
-abbrev pub can_send_over : {T : Type 0} → Meaning T → PlainNode T → Edge → Node T → Bool
-can_send_over m n edge input = plain_takes n 0 && can_go (edge_view edge) (option_map front_of (offers m input))
+-- no edge is live
+abbrev pub NoneLive : List EdgeView → Type 0
+NoneLive [] = Unit {0}
+NoneLive (e ∷ es) = (e.state ≡ Live → ⊥) × NoneLive es
 
--- a signal can go over the edge `at` below the root, and its receiver can take it
-abbrev pub can_send : {T : Type 0} → Meaning T → Node T → ℕ → Bool
-can_send m (Items n) at = false
-can_send m (Range n) at = false
-can_send m (Plain' n edge p input) at =
-    if nat_eq at 0 then can_send_over m n edge input else can_send m input (at - 1)
-
--- what still comes out and what was recorded stay
-pub record IsKept {T : Type 0} (m : Meaning T) (old new : Node T) : Type 0 where
-  pub value : (hubs : List (Stream T)) (further : List Note) (at : ℕ) → comes_out m hubs further new at ≡ comes_out m hubs further old at
-  pub notes : notes_of new ≡ notes_of old
-
--- what comes out of a node over its input stays
-abbrev pub IsPassedOn : {T : Type 0} → Meaning T → PlainNode T → Node T → PlainNode T → Node T → Type 0
-IsPassedOn {T} m n input n' input' =
-    (hubs : List (Stream T)) (further : List Note) (at : ℕ) (k : Note) → through m n' (comes_out m hubs further input' at) k ≡ through m n (comes_out m hubs further input at) k
-
--- the signal came out, and then the rest comes out of the second tree
-pub record IsLetGo {T : Type 0} (m : Meaning T) (old : Node T) (s : Signal T) (new : Node T) : Type 0 where
-  pub offered : offers m old ≡ Some s
-  pub popped : popped old s new
-  pub value : (hubs : List (Stream T)) (further : List Note) (at : ℕ) → comes_out m hubs further old at ≡ option_map (signal_then s) (comes_out m hubs further new at)
-  pub notes : notes_of new ≡ notes_of old
-  pub edges : edges new ≡ edges old
-  pub balance : (sent : ℕ) → IsBalanced old sent → IsBalancedAfter s new sent
-
--- what was popped is what the root offered; where it offered nothing, the tree is as it was
-abbrev pub IsPopped : {T : Type 0} → Meaning T → Node T → Option (Signal T) → Node T → Type 0
-IsPopped m old None new = (offers m old ≡ None) × (new ≡ old)
-IsPopped m old (Some s) new = IsLetGo m old s new
+-- no edge below the root is live
+abbrev pub IsAllClosed : {M : Type 0} → Node M → Type 0
+IsAllClosed t = NoneLive (edges t)
 
 -- nothing more is chosen at any node of the tree whose root has the number `at`
-abbrev pub IsUnchosen : {T : Type 0} → List Note → Node T → ℕ → Type 0
-IsUnchosen further (Items n) at = slice_get further at ≡ Some Nothing
-IsUnchosen further (Range n) at = slice_get further at ≡ Some Nothing
-IsUnchosen further (Plain' n edge p input) at = (slice_get further at ≡ Some Nothing) × IsUnchosen further input (at + 1)
+abbrev pub IsUnchosen : {M T : Type 0} → Machine M T → List Note → Node M → ℕ → Type 0
+IsUnchosen b further t at = (slice_get further at ≡ Some (unchosen (b.recorded t.machine))) × IsUnchosenIn b further t.inputs (at + 1)
 
--- no move below the root is enabled
-abbrev pub IsIdle : {T : Type 0} → Meaning T → Node T → ℕ → ℕ → Type 0
-IsIdle m t asked sent = (at : ℕ) → (can_ask t at asked sent ≡ false) × (can_send m t at ≡ false)
+-- what still comes out and what was recorded stay
+pub record IsKept {M T : Type 0} (b : Machine M T) (m : Meaning T) (old new : Node M) : Type 0 where
+  pub value : (hubs : List (Stream T)) (further : List Note) (at : ℕ) → comes_out b m hubs further new at ≡ comes_out b m hubs further old at
+  pub notes : notes b new ≡ notes b old
 
--- some move below the root is enabled
-abbrev pub IsBusy : {T : Type 0} → Meaning T → Node T → ℕ → ℕ → Type 0
-IsBusy m t asked sent = (at : ℕ) × ((can_ask t at asked sent ≡ true) ⊎ (can_send m t at ≡ true))
+-- the signal came out, and then the rest comes out of the second tree
+pub record IsLetGo {M T : Type 0} (b : Machine M T) (m : Meaning T) (old : Node M) (s : Signal T) (new : Node M) : Type 0 where
+  pub offered : offers b m old ≡ Some s
+  pub popped : popped b old s new
+  pub value : (hubs : List (Stream T)) (further : List Note) (at : ℕ) → comes_out b m hubs further old at ≡ option_map (signal_then s) (comes_out b m hubs further new at)
+  pub notes : notes b new ≡ notes b old
+  pub balance : (sent : ℕ) → IsBalanced b old sent → IsBalancedAfter b s new sent
 
--- neither an Ask nor a Send over the edge of this node's input is enabled
-pub record IsIdleHere {T : Type 0} (m : Meaning T) (n : PlainNode T) (edge : Edge) (input : Node T) (asked sent : ℕ) : Type 0 where
-  pub ask : can_ask_for (edge_view edge) (plain_wanted n 0 asked sent) ≡ false
-  pub send : can_send_over m n edge input ≡ false
+-- what was popped is what the root offered; where it offered nothing, the tree is as it was
+abbrev pub IsPopped : {M T : Type 0} → Machine M T → Meaning T → Node M → Option (Signal T) → Node M → Type 0
+IsPopped b m old None new = (offers b m old ≡ None) × (new ≡ old)
+IsPopped b m old (Some s) new = IsLetGo b m old s new
 
--- what the receiver of the edge `at` below the root wants of it in all
-abbrev pub want_at : {T : Type 0} → Node T → ℕ → ℕ → ℕ → ℕ
-want_at (Items n) at asked sent = 0
-want_at (Range n) at asked sent = 0
-want_at (Plain' n edge p input) at asked sent =
-    if nat_eq at 0 then plain_wanted n 0 asked sent else want_at input (at - 1) edge.demand.asked edge.demand.sent
+-- ---- moves
 
--- which signal is offered over the edge `at` below the root
-abbrev pub front_at : {T : Type 0} → Meaning T → Node T → ℕ → Option Front
-front_at m (Items n) at = None
-front_at m (Range n) at = None
-front_at m (Plain' n edge p input) at = if nat_eq at 0 then option_map front_of (offers m input) else front_at m input (at - 1)
+-- the edge `at` below the root; `asked` and `sent` are those of the root's own edge
+abbrev pub place_of : {M : Type 0} → Node M → ℕ → ℕ → ℕ → Option (Place M)
+place_of t at asked sent = place t.machine 0 asked sent t.inputs at
 
--- whether the receiver of the edge `at` below the root has put out an ending
-abbrev pub ended_at : {T : Type 0} → Node T → ℕ → Bool
-ended_at (Items n) at = false
-ended_at (Range n) at = false
-ended_at (Plain' n edge p input) at = if nat_eq at 0 then plain_ended n else ended_at input (at - 1)
+-- the edge is live, and its receiver wants more than it asked for
+abbrev pub can_ask : {M T : Type 0} → Machine M T → Node M → ℕ → ℕ → ℕ → Bool
+can_ask b t at asked sent = can_ask_in b (place_of t at asked sent)
 
--- whether taking the signal out that the root of a tree offers may allocate, where these of the caller's functions may
-abbrev pub pop_allocates : {T : Type 0} → Allocates → Node T → Bool
-pop_allocates a (Items n) = false
-pop_allocates a (Range n) = range_pop_allocates a n
-pop_allocates a (Plain' n edge p input) = false
+-- a signal can go over the edge, and its receiver can take it
+abbrev pub can_send : {M T : Type 0} → Machine M T → Meaning T → Node M → ℕ → Bool
+can_send b m t at = can_send_in b m (place_of t at 0 0)
 
--- whether a Send from this input to this node may allocate
-abbrev pub send_over_allocates : {T : Type 0} → Allocates → PlainNode T → Node T → Bool
-send_over_allocates a n input = pop_allocates a input || plain_allocates a n
+-- whether a Send over the edge may allocate
+abbrev pub send_allocates : {M T : Type 0} → Machine M T → Allocates → Node M → ℕ → Bool
+send_allocates b a t at = send_allocates_in b a (place_of t at 0 0)
 
--- whether a Send over the edge `at` below the root may allocate
-abbrev pub send_allocates : {T : Type 0} → Allocates → Node T → ℕ → Bool
-send_allocates a (Items n) at = false
-send_allocates a (Range n) at = false
-send_allocates a (Plain' n edge p input) at = if nat_eq at 0 then send_over_allocates a n input else send_allocates a input (at - 1)
+-- whether the receiver of the edge `at` has put out its ending
+abbrev pub ended_in : {M T : Type 0} → Machine M T → M → Inputs M → ℕ → Bool
+ended_in b r End at = false
+ended_in b r (More' e n p below q beside) at =
+    if nat_eq at 0 then b.ended r else (if nat_le at (size below) then ended_in b n below (at - 1) else ended_in b r beside (at - 1 - size below))
+
+abbrev pub ended_at : {M T : Type 0} → Machine M T → Node M → ℕ → Bool
+ended_at b t at = ended_in b t.machine t.inputs at
 
 -- an Ask: what was asked of the edge rose to what its receiver wants, and no other edge changed
-abbrev pub IsAskedAt : {T : Type 0} → Node T → ℕ → ℕ → ℕ → Node T → Type 0
-IsAskedAt old at asked sent new = edges new ≡ changed_at (asked_up_to (want_at old at asked sent)) at (edges old)
+pub record IsAskedAt {M T : Type 0} (b : Machine M T) (old : Node M) (at asked sent : ℕ) (new : Node M) : Type 0 where
+  pub there : Place M
+  pub is : place_of old at asked sent ≡ Some there
+  pub edges : edges new ≡ changed_at (asked_up_to (wanted_at b there)) at (edges old)
 
--- a Send: the offered signal went over the edge, and where its receiver ended by it, all from there on is closed
-pub record IsSentAt {T : Type 0} (m : Meaning T) (old : Node T) (at : ℕ) (new : Node T) : Type 0 where
+-- a Send: the offered signal went over the edge, and where its receiver ended by it, all edges below that are closed
+pub record IsSentAt {M T : Type 0} (b : Machine M T) (m : Meaning T) (old : Node M) (at : ℕ) (new : Node M) : Type 0 where
+  pub there : Place M
   pub front : Front
-  pub offered : front_at m old at ≡ Some front
-  pub edges : edges new ≡ carried_at (ended_at new at) front at (edges old)
+  pub is : place_of old at 0 0 ≡ Some there
+  pub offered : option_map front_of (b.waiting m there.sender) ≡ Some front
+  pub edges : edges new ≡ closed_if (ended_at b new at && is_own old.inputs at) (sent_edges (ended_at b new at) front old.inputs at)
 
--- the same over the edge of this node's input
-pub record IsSentOver {T : Type 0} (m : Meaning T) (edge : Edge) (input : Node T) (n' : PlainNode T) (edge' : Edge) (input' : Node T) : Type 0 where
-  pub front : Front
-  pub offered : option_map front_of (offers m input) ≡ Some front
-  pub edges : edge_view edge' ∷ edges input' ≡ carried (plain_ended n') front (edge_view edge ∷ edges input)
-
--- an Ask over the edge of this node's input
-abbrev pub IsAskedOver : {T : Type 0} → PlainNode T → Edge → Node T → ℕ → ℕ → Edge → Node T → Type 0
-IsAskedOver n edge input asked sent edge' input' =
-    edge_view edge' ∷ edges input' ≡ asked_up_to (plain_wanted n 0 asked sent) (edge_view edge) ∷ edges input
-
--- ---- an enabled move that was made
-
--- an Ask or a Send over the edge `at` below the root was enabled, and was made
-abbrev pub IsMadeBelow : {T : Type 0} → Meaning T → Node T → ℕ → ℕ → ℕ → Node T → Type 0
-IsMadeBelow m old at asked sent new =
-    ((can_ask old at asked sent ≡ true) × IsAskedAt old at asked sent new) ⊎ ((can_send m old at ≡ true) × IsSentAt m old at new)
-
--- a move below the root was made
-pub record IsAdvanced {T : Type 0} (m : Meaning T) (old : Node T) (asked sent : ℕ) (new : Node T) : Type 0 where
-  pub at : ℕ
-  pub made : IsMadeBelow m old at asked sent new
-  pub kept : IsKept m old new
-
--- an Ask or a Send over the edge of this node's input was enabled, and was made
-pub record IsAdvancedHere {T : Type 0} (m : Meaning T) (n : PlainNode T) (edge : Edge) (input : Node T) (asked sent : ℕ) (n' : PlainNode T) (edge' : Edge) (input' : Node T) : Type 0 where
-  pub made : ((can_ask_for (edge_view edge) (plain_wanted n 0 asked sent) ≡ true) × IsAskedOver n edge input asked sent edge' input') ⊎
-      ((can_send_over m n edge input ≡ true) × IsSentOver m edge input n' edge' input')
-  pub value : IsPassedOn m n input n' input'
-  pub notes : notes_of input' ≡ notes_of input
+-- a tree became an input, over an edge over which nothing went yet
+pub record IsJoined {M : Type 0} (t : Node M) (beside row : Inputs M) : Type 0 where
+  pub e : Edge
+  pub p : Hold
+  pub q : Hold
+  pub row_is : row ≡ More' e t.machine p t.inputs q beside
+  pub asked : e.demand.asked ≡ 0
+  pub sent : e.demand.sent ≡ 0
+  pub live : e.state ≡ Live

@@ -1,16 +1,15 @@
 #![tactic(auto)]
-//! Trees of nodes, with the edges below the root.
+//! Trees of nodes of any kind, with their edges.
 //!
-//! - [`node`]: [`Node`], a tree: its moves, what still comes out of it, and what it recorded.
-//! - [`build`]: the tree of an expression.
-//! - [`look`]: which moves of a tree are enabled.
-//!
-//! The definitions stand in `specs/`, apart from the code: `Tree` (what a tree still puts out, and its moves), `Driven` and
-//! `Look` (many moves, and the first enabled one), `Balance` (the counts along the edges) and `Built` (a tree that has just
-//! begun).
+//! A node is anything that keeps the laws of [`Machine`](rsx_sources::Machine); what is proved here is proved of all kinds at
+//! once, with any number of inputs.
 
-pub mod build;
+pub mod edge;
+pub mod inputs;
 pub mod look;
 pub mod node;
 
+pub use edge::{Edge, EdgeState};
+pub use inputs::{Inputs, Pass};
+pub use look::Enabled;
 pub use node::Node;

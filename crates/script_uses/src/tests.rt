@@ -2,9 +2,8 @@
 
 use clap::error::ErrorKind;
 use rsx_command_line::mode_of;
-use rsx_drive::{AppFault, drive};
-use rsx_script::LineRefusal;
-use rsx_session::Mode;
+use rsx_drive::drive;
+use rsx_script::{AppFault, LineRefusal, Mode};
 use std::alloc::Global;
 use std::io;
 use std::io::{Read, Write};

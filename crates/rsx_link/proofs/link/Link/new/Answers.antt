@@ -1,4 +1,4 @@
-use Rattle.std.proofs.Common.{◌≡◌, ap, ◌∙◌, arith}
+use Rattle.std.proofs.Common.{◌≡◌, ap, ◌∙◌, arith, rules}
 use Rattle.rsx_link.specs.declared.view.Role.TheVariants.{Upstream, Canceller}
 use Rattle.rsx_link.specs.Link.{newborn, view_cancels}
 use Rattle.rsx_link.proofs.Keeps.{starts, splits}
@@ -19,3 +19,6 @@ split_seat-cancel_seat-requires g c =
     let made = c.in_ok-table.ensures in
     let view_is : c.split_seat-up_seat.new.seat.me.0 ≡ newborn = ap (λ m. m.0) c.split_seat-up_seat.ensures.2 ∙ ap (λ m. m.0) made.4 in
     (c.split_seat-up_seat.ensures.0 ∙ made.2, omega arith, splits _ _ Canceller _ _ (λ e. cc) (cut_all _) (λ views at h e. ap view_cancels view_is))
+
+pub returns : goal.returns
+returns g c = search rules

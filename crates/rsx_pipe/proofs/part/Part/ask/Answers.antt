@@ -1,6 +1,6 @@
 use Rattle.std.proofs.Common.{refl}
 use Rattle.rsx_pipe.proofs.Parts.{put_out_kept}
-use Rattle.rsx_tree.proofs.Trees.{ask_not_closed}
+use Rattle.rsx_pipe.proofs.Trees.{ask_not_closed}
 use Rattle.rsx_pipe.proofs.part.Part.ask.Goals as goal
 
 pub returns-in-Ok-clause-stands : goal.returns-in-Ok-clause-stands

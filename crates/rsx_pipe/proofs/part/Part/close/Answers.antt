@@ -2,4 +2,4 @@ use Rattle.rsx_pipe.proofs.Parts.{put_out_closed}
 use Rattle.rsx_pipe.proofs.part.Part.close.Goals as goal
 
 pub returns-clause-stands : goal.returns-clause-stands
-returns-clause-stands g c = λ m. put_out_closed m c.args.self.now (record { tree = c.close-2.new.self; root = c.close.new.self }) (c.close-2.ensures.kept m) c.close-2.ensures.closed c.close.ensures
+returns-clause-stands g c = λ m. put_out_closed m c.args.self.now (record { tree = c.close-2.new.self; root = c.close.new.self }) (c.close-2.ensures.kept m) c.close-2.ensures.closed c.close.ensures.view

@@ -1,4 +1,4 @@
-use Rattle.std.proofs.Common.{arith, ◌≡◌}
+use Rattle.std.proofs.Common.{arith, ◌≡◌, ◌<◌}
 use Rattle.rsx_pipe.proofs.Parts.{made_ask, made_root}
 use Rattle.rsx_pipe.proofs.part.Part.make.Goals as goal
 

@@ -1,4 +1,5 @@
-use Rattle.std.proofs.Common.{arith, ◌≡◌, ◌+◌, ◌-◌}
+use Rattle.std.proofs.Common.{refl, arith, subst, sym, ap, ◌≡◌, ◌+◌, ◌-◌, ◌<◌}
+use Rattle.rsx_types.specs.declared.signal.Signal.{Signal}
 use Rattle.rsx_pipe.proofs.Parts.{pumped_root, pumped_driven}
 use Rattle.rsx_pipe.proofs.part.Part.round.Goals as goal
 

@@ -1,8 +1,8 @@
 use Rattle.std.proofs.Common.{refl, subst, sym, arith, ◌<◌, ◌+◌, ℕ}
-use Rattle.rsx_tree.specs.Tree.{IsSentAt}
-use Rattle.rsx_tree.proofs.Balances.{suc_minus}
+use Rattle.rsx_pipe.specs.Tree.{IsSentAt}
+use Rattle.rsx_pipe.proofs.Numbers.{suc_minus}
 use Rattle.rsx_pipe.proofs.Parts.{put_out_kept, sent_below_root}
-use Rattle.rsx_tree.proofs.Trees.{send_not_closed}
+use Rattle.rsx_pipe.proofs.Trees.{send_not_closed}
 use Rattle.rsx_pipe.proofs.part.Part.send_below.Goals as goal
 
 pub returns-in-Ok-clause-stands : goal.returns-in-Ok-clause-stands

@@ -3,7 +3,7 @@ use Rattle.std.proofs.lemmas.Int.{to_z-of_z}
 use Rattle.rsx_demand.specs.Demand.{saturating_total}
 use Rattle.rsx_subscription.specs.declared.Effect.TheVariants.{Add, Bad}
 use Rattle.rsx_subscriber.proofs.Moves.{stands_added, stands_bad, stands_unrequested}
-use Rattle.rsx_edge.specs.Edges.{edge_view}
+use Rattle.rsx_tree.specs.Edges.{edge_view}
 use Rattle.rsx_subscriber.proofs.Edits.{requested_raised, requested_shut, requested_same, same_view}
 use Rattle.rsx_subscriber.specs.Edited.{raised}
 use Rattle.rsx_subscriber.proofs.Standings.{request_adds, request_bad, request_ignored, open_standing, same_effect}

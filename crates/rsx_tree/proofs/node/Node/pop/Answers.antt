@@ -1,7 +1,5 @@
-use Rattle.std.proofs.lemmas.Result.{IfOk-weaker}
-use Rattle.rsx_tree.proofs.Trees.{popped_range}
+use Rattle.rsx_tree.proofs.Trees.{popped_tree}
 use Rattle.rsx_tree.proofs.node.Node.pop.Goals as goal
 
-pub returns-in-Range-clause-ok : goal.returns-in-Range-clause-ok
-returns-in-Range-clause-ok g c =
-    rw c.in-Range.is (IfOk-weaker c.pop_front-in-Range.result _ _ (λ s. popped_range (g.O.Ops.meaning c.args.ops.now) c.in-Range.node c.pop_front-in-Range.new.self s) c.pop_front-in-Range.ensures.ok)
+pub returns-in-Ok-clause-ok : goal.returns-in-Ok-clause-ok
+returns-in-Ok-clause-ok g c = popped_tree g.M.Machine (g.O.Ops.meaning c.args.ops.now) c.args.self.now.machine c.pop_front.new.self c.args.self.now.inputs c.in-Ok.signal c.in-Ok.ensures.ok c.pop_front.ensures.recorded c.in-Ok.ensures.counts

@@ -1,0 +1,10 @@
+use Rattle.std.proofs.Common.{◌≡◌, true, sym, rules}
+use Rattle.rsx_chain.specs.Chain.{chain_over}
+use Rattle.rsx_chain.proofs.Overs.{chain_closed}
+use Rattle.rsx_chain.proofs.chain.ChainState.+is_over.Goals as goal
+
+pub returns-then-is_over-clause-closed : goal.returns-then-is_over-clause-closed
+returns-then-is_over-clause-closed g t c = λ h m v w. chain_closed m c.args.self.now (search rules) v w
+
+pub returns-else-is_over-clause-closed : goal.returns-else-is_over-clause-closed
+returns-else-is_over-clause-closed g t c = λ h m v w. chain_closed m c.args.self.now (search rules) v w

@@ -1,0 +1,167 @@
+-- A tree that was built over the trees of its inputs.
+use Rattle.std.proofs.Common.{◌≡◌, ◌⊎◌, inl, inr, ℕ, zero, suc, ◌+◌, ◌*◌, ◌<◌, Bool, true, false, nat_eq, List, [], ◌∷◌, ◌++◌, length, refl, ap, sym, ◌∙◌, subst, arith, Option, Some, None, option_map, option_and_then, slice_get, Box, Vec, Global, ℤ}
+use Rattle.std.proofs.lemmas.Bool.Decides.{nat_tests}
+use Rattle.std.proofs.lemmas.List.{append-nil}
+use Rattle.rsx_types.specs.Meaning.{Meaning}
+use Rattle.rsx_types.specs.Plain.{plain, listed, range_items}
+use Rattle.rsx_types.specs.Stream.{Stream}
+use Rattle.rsx_types.specs.declared.note.Note.{Note}
+use Rattle.rsx_types.specs.declared.note.Note.TheVariants.{Nothing, Picks, Ended}
+use Rattle.rsx_types.specs.declared.signal.Signal.{Signal}
+use Rattle.rsx_types.specs.declared.stage.Stage.{Stage}
+use Rattle.rsx_types.specs.declared.stage.Stage.TheVariants.{Map, Filter, Take, Scan, Buffer, Distinct}
+use Rattle.rsx_sources.specs.Machine.{Incoming, incoming_of, quiet as quiet_at}
+use Rattle.rsx_sources.specs.Items.{ItemsLeft, items_comes_out}
+use Rattle.rsx_sources.specs.Range.{range_comes_out}
+use Rattle.rsx_sources.specs.declared.range.RangeNode.{RangeNode}
+use Rattle.rsx_model.specs.Eval.{environment, quiet, meant}
+use Rattle.rsx_model.specs.Check.{first_fault, stage_fits, or_else, unless}
+use Rattle.rsx_model.specs.declared.check.BadExpr.{BadExpr}
+use Rattle.rsx_model.specs.declared.check.BadExpr.TheVariants.{Number}
+use Rattle.rsx_model.specs.declared.expr.Expr.{Expr}
+use Rattle.rsx_model.specs.declared.expr.Expr.TheFolds.{fold_out-Expr}
+use Rattle.rsx_model.specs.declared.expr.Expr.TheVariants.{Items as ItemsOf, Range as RangeOf}
+use Rattle.rsx_model.specs.declared.expr.Expr.TheViews.{Plain as PlainOf, outs-Items, outs-Range, outs-Plain}
+use Rattle.rsx_model.proofs.Unfold.{value_Items, value_Range, value_Plain, first_fault_Plain}
+use Rattle.rsx_plain.specs.Moves.{has_ending}
+use Rattle.rsx_plain.specs.Node.{plain_comes_out, plain_ended, plain_counted, start_slot}
+use Rattle.rsx_plain.specs.State.{plain_start, is_over, balanced}
+use Rattle.rsx_plain.specs.declared.node.PlainNode.{PlainNode}
+use Rattle.rsx_plain.specs.declared.state.PlainState.{PlainState}
+use Rattle.rsx_tree.specs.declared.edge.Edge.{Edge}
+use Rattle.rsx_tree.specs.declared.edge.EdgeState.TheVariants.{Live}
+use Rattle.rsx_tree.specs.declared.inputs.Inputs.{Inputs, End, More'}
+use Rattle.rsx_tree.specs.declared.node.Node.{Node}
+use Rattle.rsx_tree.specs.Balance.{IsBalanced, IsOwnerBalanced, IsRowBalanced, sent_over}
+use Rattle.rsx_tree.specs.Changed.{Hold}
+use Rattle.rsx_tree.specs.Edges.{EdgeView, closed_if, edge_view}
+use Rattle.rsx_tree.specs.Inputs.{size, comes_in, out_of, beside_of, closed_row_if, notes_of, edges as edges_in}
+use Rattle.rsx_tree.specs.Tree.{comes_out, notes, edges, IsJoined}
+use Rattle.rsx_tree.proofs.Rows.{comes_in_closed_if, notes_closed_if}
+use Rattle.rsx_tree.proofs.Effects.{edges_closed_if}
+use Rattle.rsx_node.specs.declared.any_node.AnyNode.{AnyNode}
+use Rattle.rsx_node.specs.declared.any_node.AnyNode.TheVariants.{Items, Range, Plain}
+use Rattle.rsx_node.specs.Any.{any_machine}
+use Rattle.rsx_node.specs.Built.{IsBuilt, AllUnrecorded, fresh_edge, fresh_edges, starts_ended}
+
+-- what comes out of a fresh node is its operator of what comes in
+fresh_out : {T : Type 0} (m : Meaning T) (hubs : List (Stream T)) (n : AnyNode T) (f : List (Stream T) → Stream T) → ((vs : List (Stream T)) (k : Note) → any_machine.comes_out m n (incoming_of hubs vs) k ≡ quiet_at k (f vs)) →
+    (o : Option (List (Stream T))) (k : Option Note) → out_of any_machine m hubs n o k ≡ quiet k (option_map f o)
+fresh_out m hubs n f h o None = refl
+fresh_out m hubs n f h None (Some Nothing) = refl
+fresh_out m hubs n f h None (Some (Picks cs)) = refl
+fresh_out m hubs n f h None (Some (Ended i)) = refl
+fresh_out m hubs n f h (Some vs) (Some Nothing) = h vs Nothing
+fresh_out m hubs n f h (Some vs) (Some (Picks cs)) = h vs (Picks cs)
+fresh_out m hubs n f h (Some vs) (Some (Ended i)) = h vs (Ended i)
+
+-- ---- a source
+
+abbrev node_of : {T : Type 0} → AnyNode T → Inputs (AnyNode T) → Node (AnyNode T)
+node_of n r = record { machine = n; inputs = r }
+
+-- a source whose items are those of the expression
+pub built_source : {T : Type 0} (m : Meaning T) (e : Expr T) (n : AnyNode T) (v : Stream T) (t : Node (AnyNode T)) → t.machine ≡ n → t.inputs ≡ End → ((inc : Incoming T) (k : Note) → any_machine.comes_out m n inc k ≡ quiet_at k v) →
+    ((hubs : List (Stream T)) (joins : List ℕ) (further : List Note) (at leaf : ℕ) → (meant (environment m hubs joins further) e).value at leaf ≡ quiet (slice_get further at) (Some v)) → fresh_edges e ≡ [] → any_machine.ended n ≡ false → any_machine.counted n [] 0 → IsBuilt m e t
+built_source {T} m e n v t n_is r_is fresh value none still counted = record {
+  value = λ more hubs joins further at leaf.
+      ap (λ x. out_of any_machine m more x (comes_in any_machine m more further t.inputs (at + 1)) (slice_get further at)) n_is
+      ∙ (ap (λ r. out_of any_machine m more n (comes_in any_machine m more further r (at + 1)) (slice_get further at)) r_is
+      ∙ (fresh_out m more n (λ vs. v) (λ vs k. fresh (incoming_of more vs) k) (Some []) (slice_get further at)
+      ∙ sym (value hubs joins further at leaf)));
+  notes = let P : Inputs (AnyNode T) → Type 0 = λ r. AllUnrecorded (Nothing ∷ notes_of any_machine r) in subst P (sym r_is) ((λ k. refl), tt);
+  edges = ap edges_in r_is ∙ sym none;
+  balance =
+      let R : Inputs (AnyNode T) → Type 0 = λ r. IsOwnerBalanced any_machine t.machine (sent_over r) 0 (IsRowBalanced any_machine t.machine 0 r) in
+      let N : AnyNode T → Type 0 = λ x. IsOwnerBalanced any_machine x [] 0 (Unit {0}) in
+      subst R (sym r_is) (subst N (sym n_is) (inr (still, counted, tt)));
+}
+
+-- ---- a plain operator
+
+first_of_one : {T : Type 0} (hubs : List (Stream T)) (f : Stream T → Stream T) (o : Option (Stream T)) → option_map (λ vs. f (incoming_of hubs vs).first) (beside_of o (Some [])) ≡ option_map f o
+first_of_one hubs f None = refl
+first_of_one hubs f (Some v) = refl
+
+-- a fresh node has put out its ending, or its counts are balanced
+fresh_counts : {T : Type 0} (g : Stage T) (n : PlainNode T) → n.state ≡ plain_start g → n.slot ≡ start_slot g → stage_fits g ≡ true → (plain_ended n ≡ true) ⊎ ((plain_ended n ≡ false) × (is_over n.state ≡ false) × balanced n.state 0 (0 + length n.slot))
+fresh_counts {T} g n st sl fits =
+    let P : PlainState T → Type 0 = λ s. (has_ending n.slot ≡ true) ⊎ ((has_ending n.slot ≡ false) × (is_over s ≡ false) × balanced s 0 (0 + length n.slot)) in
+    let Q : List (Signal T) → Type 0 = λ l. (has_ending l ≡ true) ⊎ ((has_ending l ≡ false) × (is_over (plain_start g) ≡ false) × balanced (plain_start g) 0 (0 + length l)) in
+    subst P (sym st) (subst Q (sym sl) (at_start g fits))
+  where
+    at_start : (g : Stage T) → stage_fits g ≡ true → (has_ending (start_slot g) ≡ true) ⊎ ((has_ending (start_slot g) ≡ false) × (is_over (plain_start g) ≡ false) × balanced (plain_start g) 0 (0 + length (start_slot g)))
+    at_start (Map f) e = inr (refl, refl, refl)
+    at_start (Filter f) e = inr (refl, refl, λ l. refl)
+    at_start (Take zero) e = inl refl
+    at_start (Take (suc k)) e = inr (refl, some_left k, (refl, omega arith))
+      where
+        some_left : (k : ℕ) → nat_eq (suc k) 0 ≡ false
+        some_left k = grind (arith, nat_tests)
+    at_start (Scan f s) e = inr (refl, refl, refl)
+    at_start (Buffer k) e = inr (refl, refl, (none k, some k e))
+      where
+        none : (k : ℕ) → 0 ≡ 0 * k + 0
+        none k = grind arith
+
+        some : (k : ℕ) → stage_fits {T = T} (Buffer k) ≡ true → 0 < k
+        some zero e = cc
+        some (suc k) e = omega arith
+    at_start (Distinct f) e = inr (refl, refl, λ l. refl)
+
+fits_of : (b : Bool) (o : Option BadExpr) → or_else (unless b Number) o ≡ None → b ≡ true
+fits_of true o e = refl
+fits_of false o e = cc
+
+-- the same over the edge of its input
+fresh_balanced : {T : Type 0} (g : Stage T) (n : PlainNode T) (below : Node (AnyNode T)) (e : Edge) (p q : Hold) → n.state ≡ plain_start g → n.slot ≡ start_slot g → stage_fits g ≡ true → e.demand.sent ≡ 0 → e.state ≡ Live → IsBalanced any_machine below 0 →
+    IsBalanced any_machine (node_of (Plain n) (closed_row_if (plain_ended n) (More' e below.machine p below.inputs q End))) 0
+fresh_balanced {T} g n below e p q st sl fits sent live w = elim (fresh_counts g n st sl fits) [
+  | inl f ↦ inl f
+  | inr r ↦
+      let row : Inputs (AnyNode T) = More' e below.machine p below.inputs q End in
+      let Q : Inputs (AnyNode T) → Type 0 = λ u. IsOwnerBalanced any_machine (Plain n) (sent_over u) 0 (IsRowBalanced any_machine (Plain n) 0 u) in
+      let open_still : closed_row_if (plain_ended n) row ≡ row = ap (λ c. closed_row_if c row) r.0 in
+      let B : ℕ → Type 0 = λ k. balanced n.state k (0 + length n.slot) in
+      let W : ℕ → Type 0 = λ k. IsBalanced any_machine below k in
+      subst Q (sym open_still) (inr (r.0, (e.demand.sent, refl, r.1, subst B (sym sent) r.2), (inr (live, subst W (sym sent) w), tt)))
+]
+
+fresh_Plain : {T : Type 0} (g : Stage T) (b : Box (Expr T) Global) → fresh_edges (PlainOf g b) ≡ closed_if (starts_ended g) (fresh_edge ∷ fresh_edges b.value)
+fresh_Plain {T} g b = rw (fold_out-Expr, outs-Plain) refl
+
+fresh_edge_is : (e : Edge) → e.demand.asked ≡ 0 → e.demand.sent ≡ 0 → e.state ≡ Live → edge_view e ≡ fresh_edge
+fresh_edge_is e a s l =
+    ap (λ x. record { asked = x; sent = e.demand.sent; state = e.state }) a
+    ∙ (ap (λ x. record { asked = 0; sent = x; state = e.state }) s ∙ ap (λ x. record { asked = 0; sent = 0; state = x }) l)
+
+pub built_plain : {T : Type 0} (m : Meaning T) (e : Expr T) (g : Stage T) (box : Box (Expr T) Global) (input : Expr T) (below : Node (AnyNode T)) (n : PlainNode T) (row : Inputs (AnyNode T)) (t : Node (AnyNode T)) →
+    e ≡ PlainOf g box → input ≡ box.value → first_fault 0 e ≡ None → IsBuilt m input below → ((inc : Incoming T) (further : Note) → plain_comes_out m n inc further ≡ quiet_at further (plain m g inc.first)) → n.state ≡ plain_start g → n.slot ≡ start_slot g →
+    IsJoined below End row → t.machine ≡ Plain n → t.inputs ≡ closed_row_if (plain_ended n) row → IsBuilt m e t
+built_plain {T} m e g box input below n row t is in_box fine w0 fresh st sl j n_is r_is =
+    let P : Expr T → Type 0 = λ x. IsBuilt m x t in
+    let I : Expr T → Type 0 = λ x. IsBuilt m x below in
+    let w : IsBuilt m box.value below = subst I in_box w0 in
+    let c = plain_ended n in
+    let whole : Inputs (AnyNode T) = More' j.e below.machine j.p below.inputs j.q End in
+    let tree_is : t.inputs ≡ closed_row_if c whole = r_is ∙ ap (closed_row_if c) j.row_is in
+    let fits : stage_fits g ≡ true = fits_of (stage_fits g) (first_fault 0 box.value) (sym (first_fault_Plain 0 g box) ∙ (ap (first_fault 0) (sym is) ∙ fine)) in
+    let ended_is : c ≡ starts_ended g = ap has_ending sl in
+    let new : edge_view j.e ≡ fresh_edge = fresh_edge_is j.e j.asked j.sent j.live in
+    let N : List Note → Type 0 = λ ns. AllUnrecorded (Nothing ∷ ns) in
+    let notes_are : notes_of any_machine t.inputs ≡ notes any_machine below = ap (notes_of any_machine) tree_is ∙ (notes_closed_if any_machine c whole ∙ ap (λ l. Nothing ∷ l) (append-nil (notes_of any_machine below.inputs))) in
+    let below_is : edges_in whole ≡ fresh_edge ∷ fresh_edges box.value = ap (λ v. v ∷ (edges_in below.inputs ++ [])) new ∙ ap (λ l. fresh_edge ∷ l) (append-nil (edges_in below.inputs) ∙ w.edges) in
+    let B : AnyNode T → Inputs (AnyNode T) → Type 0 = λ x r. IsBalanced any_machine (node_of x r) 0 in
+    let BN : AnyNode T → Type 0 = λ x. B x t.inputs in
+    let BR : Inputs (AnyNode T) → Type 0 = λ r. B (Plain n) r in
+    subst P (sym is) (record {
+      value = λ more hubs joins further at leaf.
+          ap (λ x. out_of any_machine m more x (comes_in any_machine m more further t.inputs (at + 1)) (slice_get further at)) n_is
+          ∙ (ap (λ o. out_of any_machine m more (Plain n) o (slice_get further at)) (ap (λ r. comes_in any_machine m more further r (at + 1)) tree_is ∙ comes_in_closed_if any_machine m more further c whole (at + 1))
+          ∙ (fresh_out m more (Plain n) (λ vs. plain m g (incoming_of more vs).first) (λ vs d. fresh (incoming_of more vs) d) (beside_of (comes_out any_machine m more further below (at + 1)) (Some [])) (slice_get further at)
+          ∙ (ap (quiet (slice_get further at)) (first_of_one more (plain m g) (comes_out any_machine m more further below (at + 1)) ∙ ap (option_map (plain m g)) (w.value more hubs joins further (at + 1) leaf))
+          ∙ sym (value_Plain (environment m hubs joins further) g box at leaf))));
+      notes = subst N (sym notes_are) ((λ x. refl), w.notes);
+      edges = ap edges_in tree_is ∙ (edges_closed_if c whole ∙ (ap (closed_if c) below_is ∙ (ap (λ d. closed_if d (fresh_edge ∷ fresh_edges box.value)) ended_is ∙ sym (fresh_Plain g box))));
+      balance = subst BN (sym n_is) (subst BR (sym tree_is) (fresh_balanced g n below j.e j.p j.q st sl fits j.sent j.live w.balance));
+    })

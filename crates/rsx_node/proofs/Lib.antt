@@ -1,0 +1,3 @@
+-- Lemmas about nodes of any kind and trees that were built.
+pub mod Builds
+pub mod Dispatch

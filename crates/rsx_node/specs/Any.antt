@@ -1,0 +1,89 @@
+-- A node of any kind: its meaning is that of its kind.
+use Rattle.std.specs.Prelude.{◌≡◌, ⊤, ℕ, Bool, true, false, List, Option, Some, None}
+use Rattle.rsx_types.specs.declared.note.Note.{Note}
+use Rattle.rsx_types.specs.declared.note.Note.TheVariants.{Nothing}
+use Rattle.rsx_types.specs.declared.signal.Signal.{Signal}
+use Rattle.rsx_types.specs.Meaning.{Meaning, Allocates}
+use Rattle.rsx_types.specs.Stream.{Stream}
+use Rattle.rsx_sources.specs.Machine.{Incoming}
+use Rattle.rsx_sources.specs.declared.machine.Front.{Front}
+use Rattle.rsx_sources.specs.declared.machine.Machine.{Ghosts as Machine}
+use Rattle.rsx_sources.specs.Items.{items_comes_out, items_waiting, items_popped}
+use Rattle.rsx_sources.specs.Range.{range_comes_out, range_waiting, range_popped, range_pop_allocates}
+use Rattle.rsx_plain.specs.Node.{plain_comes_out, plain_waiting, plain_popped, plain_takes, plain_wanted, plain_ended, plain_allocates, plain_counted}
+use Rattle.rsx_node.specs.declared.any_node.AnyNode.{AnyNode}
+use Rattle.rsx_node.specs.declared.any_node.AnyNode.TheVariants.{Items, Range, Plain}
+
+-- what still comes out
+abbrev pub any_comes_out : {T : Type 0} → Meaning T → AnyNode T → Incoming T → Note → Option (Stream T)
+any_comes_out m (Items n) inc k = items_comes_out m n inc k
+any_comes_out m (Range n) inc k = range_comes_out m n inc k
+any_comes_out m (Plain n) inc k = plain_comes_out m n inc k
+
+-- the signal that waits
+abbrev pub any_waiting : {T : Type 0} → Meaning T → AnyNode T → Option (Signal T)
+any_waiting m (Items n) = items_waiting m n
+any_waiting m (Range n) = range_waiting m n
+any_waiting m (Plain n) = plain_waiting m n
+
+-- whether such a signal of an input can be taken; a source has no input
+abbrev pub any_takes : {T : Type 0} → AnyNode T → ℕ → Front → Bool
+any_takes (Items n) i f = false
+any_takes (Range n) i f = false
+any_takes (Plain n) i f = plain_takes n i
+
+-- whether its ending was put out
+abbrev pub any_ended : {T : Type 0} → AnyNode T → Bool
+any_ended (Items n) = false
+any_ended (Range n) = false
+any_ended (Plain n) = plain_ended n
+
+-- how many items came in and how many were sent; a source takes none in
+abbrev pub any_counted : {T : Type 0} → AnyNode T → List ℕ → ℕ → Type 0
+any_counted (Items n) taken sent = ⊤
+any_counted (Range n) taken sent = ⊤
+any_counted (Plain n) taken sent = plain_counted n taken sent
+
+-- what is to be asked of an input
+abbrev pub any_wanted : {T : Type 0} → AnyNode T → ℕ → ℕ → ℕ → ℕ
+any_wanted (Items n) i a s = 0
+any_wanted (Range n) i a s = 0
+any_wanted (Plain n) i a s = plain_wanted n i a s
+
+-- the second is the first without the signal that it offered
+abbrev pub any_popped : {T : Type 0} → AnyNode T → Signal T → AnyNode T → Type 0
+any_popped (Items a) s (Items b) = items_popped a s b
+any_popped (Range a) s (Range b) = range_popped a s b
+any_popped (Plain a) s (Plain b) = plain_popped a s b
+any_popped a s b = ⊥
+
+-- whether taking the offered signal out may allocate
+abbrev pub any_pop_allocates : {T : Type 0} → Allocates → AnyNode T → Bool
+any_pop_allocates a (Items n) = false
+any_pop_allocates a (Range n) = range_pop_allocates a n
+any_pop_allocates a (Plain n) = false
+
+-- whether taking a signal in may allocate
+abbrev pub any_signal_allocates : {T : Type 0} → Allocates → AnyNode T → Bool
+any_signal_allocates a (Items n) = false
+any_signal_allocates a (Range n) = false
+any_signal_allocates a (Plain n) = plain_allocates a n
+
+-- the meaning of all kinds together
+abbrev pub any_machine : {T : Type 0} → Machine (AnyNode T) T
+any_machine = record {
+  comes_out = any_comes_out;
+  waiting = any_waiting;
+  takes = any_takes;
+  picks = λ n i a s. false;
+  rows = λ n a s. false;
+  recording = λ n i. Nothing;
+  recorded = λ n. Nothing;
+  ended = any_ended;
+  done = λ n i. false;
+  counted = any_counted;
+  wanted = any_wanted;
+  popped = any_popped;
+  pop_allocates = any_pop_allocates;
+  signal_allocates = any_signal_allocates;
+}

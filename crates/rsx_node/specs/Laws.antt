@@ -1,0 +1,46 @@
+-- A node of any kind keeps the laws of its kind.
+use Rattle.std.specs.Prelude.{◌≡◌, ◌<◌, ℕ, Bool, true, false, List, Option, Some, None, refl}
+use Rattle.std.proofs.Common.{inl, inr}
+use Rattle.rsx_types.specs.declared.note.Note.{Note}
+use Rattle.rsx_types.specs.declared.note.Note.TheVariants.{Nothing}
+use Rattle.rsx_types.specs.declared.signal.Signal.{Signal}
+use Rattle.rsx_types.specs.Meaning.{Meaning}
+use Rattle.rsx_types.specs.Notes.{unchosen}
+use Rattle.rsx_types.specs.Stream.{Stream}
+use Rattle.rsx_sources.specs.Counts.{AreWithin, IsHungry, IsHungryAt}
+use Rattle.rsx_sources.specs.Machine.{Incoming}
+use Rattle.rsx_plain.specs.Laws.{plain_drops, plain_ending_waits, plain_hungry}
+use Rattle.rsx_node.specs.Any.{any_comes_out, any_waiting, any_takes, any_ended, any_counted, any_wanted}
+use Rattle.rsx_node.specs.declared.any_node.AnyNode.{AnyNode}
+use Rattle.rsx_node.specs.declared.any_node.AnyNode.TheVariants.{Items, Range, Plain}
+
+-- what comes in no longer matters once it has ended
+pub any_drops : {T : Type 0} (m : Meaning T) (n : AnyNode T) (inc other : Incoming T) (further : Note) → any_ended n ≡ true → any_comes_out m n inc further ≡ any_comes_out m n other further
+any_drops m (Items n) inc other further e = refl
+any_drops m (Range n) inc other further e = refl
+any_drops m (Plain n) inc other further e = plain_drops m n inc other further e
+
+-- something comes out where nothing more is chosen
+pub any_settles : {T : Type 0} (m : Meaning T) (n : AnyNode T) (inc : Incoming T) → (v : Stream T) × (any_comes_out m n inc (unchosen Nothing) ≡ Some v)
+any_settles m (Items n) inc = (_, refl)
+any_settles m (Range n) inc = (_, refl)
+any_settles m (Plain n) inc = (_, refl)
+
+-- once it has ended, a signal waits
+pub any_ending_waits : {T : Type 0} (m : Meaning T) (n : AnyNode T) → any_ended n ≡ true → (s : Signal T) × (any_waiting m n ≡ Some s)
+any_ending_waits m (Items n) e = (_, refl)
+any_ending_waits m (Range n) e = (_, refl)
+any_ending_waits m (Plain n) e = plain_ending_waits m n e
+
+-- it isn't stuck
+pub any_hungry : {T : Type 0} (m : Meaning T) (n : AnyNode T) (taken : List ℕ) (asked sent : ℕ) → any_ended n ≡ false → any_counted n taken sent → any_waiting m n ≡ None → sent < asked → AreWithin taken →
+    IsHungry any_takes (λ k i a s. false) (λ k a s. false) (λ k i. false) any_wanted n taken asked sent
+any_hungry m (Items n) taken asked sent still counted waits more within = cc
+any_hungry m (Range n) taken asked sent still counted waits more within = cc
+any_hungry m (Plain n) taken asked sent still counted waits more within = elim (plain_hungry m n taken asked sent still counted waits more within) [
+  | inl k ↦ inl k
+  | inr y ↦ elim y [
+    | inl k ↦ inr (inl k)
+    | inr k ↦ inr (inr (record { i = k.i; c = k.c; at = k.at; open_still = k.open_still; takes_any = k.takes_any; wants = k.wants }))
+  ]
+]

@@ -1,0 +1,218 @@
+//! A node of any kind.
+
+ghost use Rattle.std.specs.Prelude.{◌≡◌};
+
+use rsx_plain::PlainNode;
+use rsx_sources::{Front, ItemsNode, Machine, NotMade, NotTaken, RangeNode};
+use rsx_types::{NoMemory, Note, Ops, Signal, StreamValue};
+use std::alloc::Global;
+
+/// A node of any kind.
+#[derive(Drop)]
+pub enum AnyNode<T> {
+    /// The source `items`.
+    Items(ItemsNode<T>),
+    /// The source `range`.
+    Range(RangeNode<T>),
+    /// A plain operator.
+    Plain(PlainNode<T>),
+}
+
+impl<T: Drop> Machine for AnyNode<T> {
+    type Item = T;
+
+    ghost use Rattle.std.specs.Prelude.{◌≡◌, true, false, IfOk, IfErr, IsOk, OnOk, OnErr, Some};
+    ghost use Rattle.rsx_types.specs.Notes.{note_then};
+    ghost use Rattle.rsx_types.specs.declared.note.Note.{Note as NoteSpec};
+    ghost use Rattle.rsx_types.specs.declared.note.Note.TheVariants.{Nothing};
+    ghost use Rattle.rsx_sources.specs.Counts.{CountsIn, CountsOut};
+    ghost use Rattle.rsx_sources.specs.Machine.{TakesIn, Keeps, Records, front_of, incoming_of};
+    ghost use Rattle.rsx_sources.specs.Steps.{IsPopped, IsNotTaken, IsNotMade};
+    ghost use Rattle.rsx_node.specs.Any.{any_comes_out, any_waiting, any_takes, any_ended, any_counted, any_wanted, any_popped, any_pop_allocates, any_signal_allocates};
+    ghost use Rattle.rsx_node.specs.Laws.{any_drops, any_settles, any_ending_waits, any_hungry};
+    ghost use Rattle.rsx_node.specs.declared.any_node.AnyNode.{AnyNode};
+
+    ghost comes_out = { any_comes_out };
+
+    ghost waiting = { any_waiting };
+
+    ghost takes = { any_takes };
+
+    ghost picks = { λ n i a s. false };
+
+    ghost rows = { λ n a s. false };
+
+    ghost recording = { λ n i. Nothing };
+
+    ghost recorded = { λ n. Nothing };
+
+    ghost ended = { any_ended };
+
+    ghost done = { λ n i. false };
+
+    ghost counted = { any_counted };
+
+    ghost wanted = { any_wanted };
+
+    ghost popped = { any_popped };
+
+    ghost pop_allocates = { any_pop_allocates };
+
+    ghost signal_allocates = { any_signal_allocates };
+
+    #[inline]
+    fn front(&self) -> Option<Front> {
+        match self {
+            AnyNode::Items(node) => node.front(),
+            AnyNode::Range(node) => node.front(),
+            AnyNode::Plain(node) => node.front(),
+        }
+    }
+
+    #[inline]
+    fn pop_front<O: Ops<Item = T>>(
+        &mut self,
+        alloc: Global,
+        ops: &O,
+    ) -> Result<Option<Signal<T>>, NoMemory>
+        ensures ok { IfOk result (λ s. IsPopped (any_comes_out (O.meaning ops.now)) any_popped (any_waiting (O.meaning ops.now) self.old) self.old s self.new) }
+        ensures counts { IfOk result (λ s. CountsOut any_counted any_ended (λ n i. false) self.old s self.new) }
+        ensures err { OnErr result (self.new ≡ self.old) }
+        ensures memory { any_pop_allocates (O.allocates ops.now) self.old ≡ false → IsOk result }
+    {
+        match self {
+            AnyNode::Items(node) => node.pop_front(alloc, ops),
+            AnyNode::Range(node) => node.pop_front(alloc, ops),
+            AnyNode::Plain(node) => node.pop_front(alloc, ops),
+        }
+    }
+
+    fn put_back(&mut self, signal: Signal<T>)
+        ensures { (before : AnyNode T) → any_popped before signal self.old → self.new ≡ before }
+    {
+        match self {
+            AnyNode::Items(node) => node.put_back(signal),
+            AnyNode::Range(node) => node.put_back(signal),
+            AnyNode::Plain(node) => node.put_back(signal),
+        }
+    }
+
+    #[inline]
+    fn has_ended(&self) -> bool {
+        match self {
+            AnyNode::Items(node) => node.has_ended(),
+            AnyNode::Range(node) => node.has_ended(),
+            AnyNode::Plain(node) => node.has_ended(),
+        }
+    }
+
+    #[inline]
+    fn can_take(&self, input: u64, front: Front) -> bool {
+        match self {
+            AnyNode::Items(node) => node.can_take(input, front),
+            AnyNode::Range(node) => node.can_take(input, front),
+            AnyNode::Plain(node) => node.can_take(input, front),
+        }
+    }
+
+    #[inline]
+    fn on_signal<O: Ops<Item = T>>(
+        &mut self,
+        alloc: Global,
+        ops: &O,
+        input: u64,
+        signal: Signal<T>,
+    ) -> Result<(), NotTaken<T>>
+        ensures ok { OnOk result (TakesIn (any_comes_out (O.meaning ops.now)) self.old input signal self.new) }
+        ensures enabled { OnOk result (any_takes self.old input (front_of signal) ≡ true) }
+        ensures counts { OnOk result (CountsIn any_counted any_ended (λ n i. false) self.old input signal self.new) }
+        ensures err { IfErr result (IsNotTaken (any_takes self.old input (front_of signal)) signal) }
+        ensures memory { any_signal_allocates (O.allocates ops.now) self.old ≡ false → IfErr result (λ e. e ≡ NotTaken.Busy signal) }
+        ensures same { OnErr result (self.new ≡ self.old) }
+    {
+        match self {
+            AnyNode::Items(_) | AnyNode::Range(_) => Err(NotTaken::Busy(signal)),
+            AnyNode::Plain(node) => node.on_signal(alloc, ops, input, signal),
+        }
+    }
+
+    fn can_pick(&self, input: u64, asked: u64, sent: u64) -> bool {
+        false
+    }
+
+    fn next_pick(&self, asked: u64, sent: u64) -> Option<u64> {
+        None
+    }
+
+    fn on_pick<O: Ops<Item = T>>(
+        &mut self,
+        alloc: Global,
+        ops: &O,
+        input: u64,
+        asked: u64,
+        sent: u64,
+    ) -> Result<(), NotMade>
+        ensures ok { OnOk result (Records (any_comes_out (O.meaning ops.now)) self.old Nothing self.new) }
+        ensures enabled { OnOk result (false ≡ true) }
+        ensures err { IfErr result (IsNotMade false) }
+        ensures same { OnErr result (self.new ≡ self.old) }
+    {
+        Err(NotMade::NotEnabled)
+    }
+
+    fn can_row(&self, asked: u64, sent: u64) -> bool {
+        false
+    }
+
+    fn on_row<O: Ops<Item = T>>(
+        &mut self,
+        alloc: Global,
+        ops: &O,
+        asked: u64,
+        sent: u64,
+    ) -> Result<(), NotMade>
+        ensures ok { OnOk result (Keeps (any_comes_out (O.meaning ops.now)) self.old self.new) }
+        ensures enabled { OnOk result (false ≡ true) }
+        ensures err { IfErr result (IsNotMade false) }
+        ensures same { OnErr result (self.new ≡ self.old) }
+    {
+        Err(NotMade::NotEnabled)
+    }
+
+    #[inline]
+    fn want(&self, input: u64, asked: u64, sent: u64) -> u64 {
+        match self {
+            AnyNode::Items(node) => node.want(input, asked, sent),
+            AnyNode::Range(node) => node.want(input, asked, sent),
+            AnyNode::Plain(node) => node.want(input, asked, sent),
+        }
+    }
+
+    fn note(&self, alloc: Global) -> Result<Note, NoMemory> {
+        Ok(Note::Nothing)
+    }
+
+    fn residual<O: Ops<Item = T>>(
+        &self,
+        alloc: Global,
+        ops: &O,
+        hubs: &[StreamValue<T>],
+        incoming: &[StreamValue<T>],
+    ) -> Result<StreamValue<T>, NoMemory>
+        ensures { IfOk result (λ v. (further : NoteSpec) → note_then Nothing further ≡ Nothing → any_comes_out (O.meaning ops.now) self.now (incoming_of hubs.now incoming.now) further ≡ Some v) }
+    {
+        match self {
+            AnyNode::Items(node) => node.residual(alloc, ops, hubs, incoming),
+            AnyNode::Range(node) => node.residual(alloc, ops, hubs, incoming),
+            AnyNode::Plain(node) => node.residual(alloc, ops, hubs, incoming),
+        }
+    }
+
+    ghost drops = { any_drops };
+
+    ghost settles = { any_settles };
+
+    ghost ending_waits = { any_ending_waits };
+
+    ghost hungry = { any_hungry };
+}

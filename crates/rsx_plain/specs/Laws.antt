@@ -1,0 +1,89 @@
+-- The laws of a node: what comes in doesn't matter once it has ended, and why it isn't stuck.
+use Rattle.std.specs.Prelude.{◌≡◌, ◌⊎◌, ℕ, zero, suc, ◌+◌, ◌-◌, ◌*◌, ◌<◌, ◌≤◌, min, Bool, true, false, nat_lt, List, [], ◌∷◌, length, slice_get, Option, Some, None, refl}
+use Rattle.std.proofs.Common.{inl, inr, sym, ap, subst, arith}
+use Rattle.std.proofs.Math.Nat.{mul-le-mul_right}
+use Rattle.std.proofs.lemmas.Bool.Decides.{nat_tests}
+use Rattle.std.specs.List.{list_any}
+use Rattle.rsx_types.specs.Meaning.{Meaning}
+use Rattle.rsx_types.specs.declared.note.Note.{Note}
+use Rattle.rsx_types.specs.declared.signal.Signal.{Signal}
+use Rattle.rsx_types.specs.declared.signal.Signal.TheVariants.{Next, Complete, Error}
+use Rattle.rsx_types.specs.Stream.{Stream, item_then, signals_then}
+use Rattle.rsx_sources.specs.Counts.{IsHungry, IsHungryAt, AreWithin}
+use Rattle.rsx_sources.specs.Machine.{Incoming, quiet}
+use Rattle.rsx_sources.specs.Slot.{is_nil}
+use Rattle.rsx_sources.specs.declared.machine.Front.{Front}
+use Rattle.rsx_plain.specs.Moves.{is_ending}
+use Rattle.rsx_plain.specs.Node.{plain_comes_out, plain_ended, plain_takes, plain_wanted, plain_waiting, plain_counted}
+use Rattle.rsx_plain.specs.State.{plain_from, balanced, is_over, most_asked, wanted_from}
+use Rattle.rsx_plain.specs.declared.node.PlainNode.{PlainNode}
+use Rattle.rsx_plain.specs.declared.state.PlainState.{PlainState}
+use Rattle.rsx_plain.specs.declared.state.PlainState.TheVariants.{Map as MapFrom, Filter as FilterFrom, Take as TakeFrom, Scan as ScanFrom, Buffer as BufferFrom, Distinct as DistinctFrom}
+
+-- where an ending stands in the slot, what the operator would give does not come out
+pub ended_slot : {T : Type 0} (slot : List (Signal T)) (v w : Stream T) → true ≡ list_any is_ending slot → signals_then slot v ≡ signals_then slot w
+ended_slot [] v w h = cc
+ended_slot (Next x ∷ ss) v w h = ap (item_then x) (ended_slot ss v w h)
+ended_slot (Complete ∷ ss) v w h = refl
+ended_slot (Error c ∷ ss) v w h = refl
+
+-- an ending in the slot cuts off whatever comes in
+pub plain_drops : {T : Type 0} (m : Meaning T) (n : PlainNode T) (inc other : Incoming T) (further : Note) → plain_ended n ≡ true → plain_comes_out m n inc further ≡ plain_comes_out m n other further
+plain_drops m n inc other further e = ap (quiet further) (ended_slot n.slot (plain_from m n.state inc.first) (plain_from m n.state other.first) (sym e))
+
+some_waits : {T : Type 0} (slot : List (Signal T)) → list_any is_ending slot ≡ true → (s : Signal T) × (slice_get slot 0 ≡ Some s)
+some_waits [] e = cc
+some_waits (s ∷ ss) e = (s, refl)
+
+-- the slot of a node that has ended isn't empty
+pub plain_ending_waits : {T : Type 0} (m : Meaning T) (n : PlainNode T) → plain_ended n ≡ true → (s : Signal T) × (plain_waiting m n ≡ Some s)
+plain_ending_waits m n e = some_waits n.slot e
+
+less_or_not : (a b : ℕ) → (a < b) ⊎ (b ≤ a)
+less_or_not a b = by_test (nat_lt a b) refl
+  where
+    by_test : (t : Bool) → nat_lt a b ≡ t → (a < b) ⊎ (b ≤ a)
+    by_test true e = inl (grind (arith, nat_tests))
+    by_test false e = inr (grind (arith, nat_tests))
+
+dropped_more : (taken put asked d : ℕ) → (d < most_asked → taken ≡ put + d) → put < asked → taken < most_asked → taken < min most_asked (asked + d)
+dropped_more taken put asked d b l w = elim (less_or_not d most_asked) [
+  | inl few ↦ let c = b few in omega (arith, c, l, w)
+  | inr many ↦ omega (arith, many, l, w)
+]
+
+-- where more is asked of an operator than it put out, it wants more than it took in
+wants_more : {T : Type 0} (state : PlainState T) (taken put asked sent : ℕ) → balanced state taken put → is_over state ≡ false → put < asked → taken < most_asked → taken < wanted_from state asked sent
+wants_more (MapFrom f) taken put asked sent b o l w = omega (arith, b, l)
+wants_more (FilterFrom f d) taken put asked sent b o l w = dropped_more taken put asked d b l w
+wants_more (TakeFrom n zero) taken put asked sent b o l w = cc
+wants_more (TakeFrom n (suc left)) taken put asked sent b o l w = let p = b.0 in let q = b.1 in omega (arith, p, q, l)
+wants_more (ScanFrom f a) taken put asked sent b o l w = omega (arith, b, l)
+wants_more (BufferFrom n xs) taken put asked sent b o l w =
+    let more : put + 1 ≤ asked = omega (arith, l) in
+    let times : (put + 1) * n ≤ asked * n = mul-le-mul_right n more in
+    let spread : (put + 1) * n ≡ put * n + n = grind arith in
+    let p = b.0 in
+    let q = b.1 in
+    omega (arith, p, q, times, spread, w)
+wants_more (DistinctFrom f ks d) taken put asked sent b o l w = dropped_more taken put asked d b l w
+
+none_waits : {A : Type 0} (xs : List A) → slice_get xs 0 ≡ None → xs ≡ []
+none_waits [] e = refl
+none_waits (x ∷ xs) e = cc
+
+pub plain_hungry : {T : Type 0} (m : Meaning T) (n : PlainNode T) (taken : List ℕ) (asked sent : ℕ) → plain_ended n ≡ false → plain_counted n taken sent → plain_waiting m n ≡ None → sent < asked → AreWithin taken →
+    IsHungry (λ k i f. plain_takes k i) (λ k i a s. false) (λ k a s. false) (λ k i. false) plain_wanted n taken asked sent
+plain_hungry {T} m n taken asked sent still c waits more within =
+    let empty : n.slot ≡ [] = none_waits n.slot waits in
+    let none : length n.slot ≡ 0 = ap length empty in
+    let less : sent + length n.slot < asked = omega (arith, none, more) in
+    let low : AreWithin (c.0 ∷ []) = subst AreWithin c.1 within in
+    inr (inr (record {
+      i = 0;
+      c = c.0;
+      at = ap (λ l. slice_get l 0) c.1;
+      open_still = refl;
+      takes_any = λ f. ap is_nil empty;
+      wants = wants_more n.state c.0 (sent + length n.slot) asked sent c.3 c.2 less low.0;
+    }))

@@ -1,0 +1,9 @@
+-- The names of the modes.
+use Rattle.std.specs.Prelude.{ℕ, List, Option, Some, None, codes, if◌then◌else◌}
+use Rattle.std.specs.Str.{bytes_eq}
+use Rattle.rsx_script.specs.declared.mode.Mode.{Mode}
+use Rattle.rsx_script.specs.declared.mode.Mode.TheVariants.{Run, Scratch}
+
+-- the mode with this name
+abbrev pub mode_of_name : List ℕ → Option Mode
+mode_of_name name = if bytes_eq name (codes "run") then Some Run else (if bytes_eq name (codes "scratch") then Some Scratch else None)

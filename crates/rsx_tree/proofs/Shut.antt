@@ -1,0 +1,84 @@
+-- No move goes over an edge that isn't live.
+use Rattle.std.proofs.Common.{◌≡◌, ◌⊎◌, inl, inr, ℕ, ◌+◌, ◌-◌, Bool, true, false, ◌&&◌, nat_eq, nat_le, if◌then◌else◌, List, [], ◌∷◌, ◌++◌, refl, ap, sym, ◌∙◌, Option, Some, None, option_map}
+use Rattle.rsx_types.specs.Meaning.{Meaning}
+use Rattle.rsx_sources.specs.Machine.{front_of}
+use Rattle.rsx_sources.specs.declared.machine.Front.{Front}
+use Rattle.rsx_sources.specs.declared.machine.Front.TheVariants.{Item, Completion, Failure}
+use Rattle.rsx_sources.specs.declared.machine.Machine.{Ghosts as Machine}
+use Rattle.rsx_tree.specs.declared.edge.Edge.{Edge}
+use Rattle.rsx_tree.specs.declared.edge.EdgeState.{EdgeState}
+use Rattle.rsx_tree.specs.declared.edge.EdgeState.TheVariants.{Live, Ended as EdgeEnded, Closed}
+use Rattle.rsx_tree.specs.declared.inputs.Inputs.{Inputs, End, More'}
+use Rattle.rsx_tree.specs.declared.node.Node.{Node}
+use Rattle.rsx_tree.specs.Edges.{EdgeView, edge_view, is_live, can_pass, can_ask_for}
+use Rattle.rsx_tree.specs.Inputs.{Place, place, size, edges, tests, can_go, can_ask_at, can_send_at, can_ask_in, can_send_in}
+use Rattle.rsx_tree.specs.Tree.{NoneLive, IsAllClosed, can_ask, can_send}
+
+none_left : (es fs : List EdgeView) → NoneLive (es ++ fs) → NoneLive es
+none_left [] fs h = tt
+none_left (e ∷ es) fs h = (h.0, none_left es fs h.1)
+
+none_right : (es fs : List EdgeView) → NoneLive (es ++ fs) → NoneLive fs
+none_right [] fs h = h
+none_right (e ∷ es) fs h = none_right es fs h.1
+
+-- where both branches have a property, so has the choice of them
+if_both : {A : Type 0} (P : A → Type 0) (c : Bool) (x y : A) → P x → P y → P (if c then x else y)
+if_both P true x y p q = p
+if_both P false x y p q = q
+
+abbrev state_in : {M : Type 0} → Option (Place M) → EdgeState
+state_in None = Closed
+state_in (Some p) = p.edge.state
+
+abbrev Shut : {M : Type 0} → Option (Place M) → Type 0
+Shut o = state_in o ≡ Live → ⊥
+
+closed_place : {M : Type 0} (r : M) (i asked sent : ℕ) (t : Inputs M) (at : ℕ) → NoneLive (edges t) → Shut (place r i asked sent t at)
+closed_place r i asked sent End at h = λ e. never e
+  where
+    never : Closed ≡ Live → ⊥
+    never e = cc
+closed_place r i asked sent (More' e n p below q beside) at h =
+    if_both Shut (nat_eq at 0) _ _ h.0
+    (if_both Shut (nat_le at (size below)) (place n 0 e.demand.asked e.demand.sent below (at - 1)) (place r (i + 1) asked sent beside (at - 1 - size below))
+    (closed_place n 0 e.demand.asked e.demand.sent below (at - 1) (none_left (edges below) (edges beside) h.1))
+    (closed_place r (i + 1) asked sent beside (at - 1 - size below) (none_right (edges below) (edges beside) h.1)))
+
+live_true : (s : EdgeState) → is_live s ≡ true → s ≡ Live
+live_true Live e = refl
+live_true EdgeEnded e = cc
+live_true Closed e = cc
+
+and_left : (a b : Bool) → a && b ≡ true → a ≡ true
+and_left true b e = refl
+and_left false b e = e
+
+pub and_right : (a b : Bool) → a && b ≡ true → b ≡ true
+and_right true b e = e
+and_right false b e = cc
+
+-- a signal goes over a live edge only
+pub pass_live : (e : EdgeView) (f : Front) → can_pass e f ≡ true → e.state ≡ Live
+pass_live e Item h = live_true e.state (and_left (is_live e.state) _ h)
+pass_live e Completion h = live_true e.state h
+pass_live e (Failure c) h = live_true e.state h
+
+go_live : (takes : Front → Bool) (e : EdgeView) (o : Option Front) → can_go takes e o ≡ true → e.state ≡ Live
+go_live takes e None h = cc
+go_live takes e (Some f) h = pass_live e f (and_right (takes f) (can_pass e f) h)
+
+ask_live : {M T : Type 0} (b : Machine M T) (o : Option (Place M)) → can_ask_in b o ≡ true → state_in o ≡ Live
+ask_live b None h = cc
+ask_live b (Some p) h = live_true p.edge.state (and_left (is_live p.edge.state) _ h)
+
+send_live : {M T : Type 0} (b : Machine M T) (m : Meaning T) (o : Option (Place M)) → can_send_in b m o ≡ true → state_in o ≡ Live
+send_live b m None h = cc
+send_live b m (Some p) h = go_live (b.takes p.receiver p.input) p.edge (option_map front_of (b.waiting m p.sender)) h
+
+-- a tree whose edges are all closed has no move
+pub ask_not_closed : {M T : Type 0} (b : Machine M T) (t : Node M) (at asked sent : ℕ) → can_ask b t at asked sent ≡ true → IsAllClosed t → ⊥
+ask_not_closed b t at asked sent e h = closed_place t.machine 0 asked sent t.inputs at h (ask_live b (place t.machine 0 asked sent t.inputs at) e)
+
+pub send_not_closed : {M T : Type 0} (b : Machine M T) (m : Meaning T) (t : Node M) (at : ℕ) → can_send b m t at ≡ true → IsAllClosed t → ⊥
+send_not_closed b m t at e h = closed_place t.machine 0 0 0 t.inputs at h (send_live b m (place t.machine 0 0 0 t.inputs at) e)

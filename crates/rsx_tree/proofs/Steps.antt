@@ -1,0 +1,55 @@
+-- How a step of one node is put together from a step below a node, or beside it.
+use Rattle.std.proofs.Common.{◌≡◌, ◌⊎◌, inl, inr, ℕ, ◌+◌, ◌-◌, ◌<◌, ◌≤◌, min, Bool, true, false, ◌&&◌, nat_eq, nat_le, if◌then◌else◌, refl, ap, sym, ◌∙◌, subst, arith, Option, Some, None}
+use Rattle.std.specs.Box.{with_value}
+use Rattle.rsx_tree.specs.declared.edge.Edge.{Edge}
+use Rattle.rsx_tree.specs.declared.inputs.Inputs.{Inputs, End, More'}
+use Rattle.rsx_tree.specs.declared.inputs.Inputs.TheViews.{More}
+use Rattle.rsx_tree.specs.Edges.{is_live}
+use Rattle.rsx_tree.specs.Inputs.{size, closed_row_if}
+use Rattle.rsx_tree.specs.Stepped.{Step, IsStepped, Station, station}
+use Rattle.rsx_tree.proofs.Changes.{Rest, chosen_first, chosen_second, not_zero, is_within, is_beyond, counted_all, counted_some}
+
+pub stepped_here : {M : Type 0} (P : Step M) (ends : M → Bool) (old : Inputs M) (e : Edge) (n n' : M) (below beside : Rest M) (was new : Inputs M) (at : ℕ) → old ≡ More e n below beside → was ≡ below.value → at ≡ 0 → is_live e.state ≡ true → P n e.demand.asked e.demand.sent n' →
+    new ≡ closed_row_if (ends n' && true) was → IsStepped P ends old at (More e n' (with_value below new) beside)
+stepped_here {M} P ends old e n n' below beside was new at is w z live p shut =
+    let Q : Inputs M → Type 0 = λ t. IsStepped P ends t at (More e n' (with_value below new) beside) in
+    let fit : new ≡ closed_row_if (ends n' && true) below.value = shut ∙ ap (closed_row_if (ends n' && true)) w in
+    subst Q (sym is) (inl (record { n' = n'; at_is = z; live = live; made = p; new_is = ap (λ t. More e n' (with_value below t) beside) fit }))
+
+pub stepped_beside : {M : Type 0} (P : Step M) (ends : M → Bool) (old : Inputs M) (e : Edge) (n : M) (below beside : Rest M) (under was new : Inputs M) (at inside : ℕ) →
+    old ≡ More e n below beside → under ≡ below.value → was ≡ beside.value → inside ≡ min (size under) at → inside < at → IsStepped P ends was (at - 1 - inside) new → IsStepped P ends old at (More e n below (with_value beside new))
+stepped_beside {M} P ends old e n below beside under was new at inside is u w c far h =
+    let Q : Inputs M → Type 0 = λ t. IsStepped P ends t at (More e n below (with_value beside new)) in
+    let all : inside ≡ size below.value = counted_all (size under) inside at c far ∙ ap size u in
+    let L : ℕ → Type 0 = λ k. k < at in
+    let A : ℕ → Type 0 = λ k. IsStepped P ends was (at - 1 - k) new in
+    let W : Inputs M → Type 0 = λ t. IsStepped P ends t (at - 1 - size below.value) new in
+    subst Q (sym is) (inr (inr (record { beside' = new; beyond = subst L all far; made = subst W w (subst A all h); new_is = refl })))
+
+pub stepped_below : {M : Type 0} (P : Step M) (ends : M → Bool) (old : Inputs M) (e : Edge) (n : M) (below beside : Rest M) (under was new : Inputs M) (at inside : ℕ) →
+    old ≡ More e n below beside → under ≡ below.value → was ≡ below.value → inside ≡ min (size under) at → 0 < at → at ≤ inside → IsStepped P ends was (at - 1) new → IsStepped P ends old at (More e n (with_value below new) beside)
+stepped_below {M} P ends old e n below beside under was new at inside is u w c above near h =
+    let Q : Inputs M → Type 0 = λ t. IsStepped P ends t at (More e n (with_value below new) beside) in
+    let W : Inputs M → Type 0 = λ t. IsStepped P ends t (at - 1) new in
+    let S : Inputs M → Type 0 = λ t. at ≤ size t in
+    subst Q (sym is) (inr (inl (record { below' = new; above = above; within = subst S u (counted_some (size under) inside at c near); made = subst W w h; new_is = refl })))
+
+pub station_beside : {M : Type 0} (old : Inputs M) (e : Edge) (n : M) (below beside : Rest M) (under was : Inputs M) (at inside : ℕ) → old ≡ More e n below beside → under ≡ below.value → was ≡ beside.value → inside ≡ min (size under) at → inside < at → station old at ≡ station was (at - 1 - inside)
+station_beside {M} old e n below beside under was at inside is u w c far =
+    let all : inside ≡ size below.value = counted_all (size under) inside at c far ∙ ap size u in
+    let L : ℕ → Type 0 = λ k. k < at in
+    let beyond : size below.value < at = subst L all far in
+    let above : 0 < at = omega arith in
+    ap (λ t. station t at) is
+    ∙ (chosen_second (nat_eq at 0) _ _ (not_zero at above)
+    ∙ (chosen_second (nat_le at (size below.value)) (station below.value (at - 1)) (station beside.value (at - 1 - size below.value)) (is_beyond at (size below.value) beyond)
+    ∙ (ap (λ k. station beside.value (at - 1 - k)) (sym all) ∙ ap (λ t. station t (at - 1 - inside)) (sym w))))
+
+pub station_below : {M : Type 0} (old : Inputs M) (e : Edge) (n : M) (below beside : Rest M) (under was : Inputs M) (at inside : ℕ) → old ≡ More e n below beside → under ≡ below.value → was ≡ below.value → inside ≡ min (size under) at → 0 < at → at ≤ inside → station old at ≡ station was (at - 1)
+station_below {M} old e n below beside under was at inside is u w c above near =
+    let S : Inputs M → Type 0 = λ t. at ≤ size t in
+    let within : at ≤ size below.value = subst S u (counted_some (size under) inside at c near) in
+    ap (λ t. station t at) is
+    ∙ (chosen_second (nat_eq at 0) _ _ (not_zero at above)
+    ∙ (chosen_first (nat_le at (size below.value)) (station below.value (at - 1)) (station beside.value (at - 1 - size below.value)) (is_within at (size below.value) within)
+    ∙ ap (λ t. station t (at - 1)) (sym w)))

@@ -1,0 +1,84 @@
+-- How a move changes a row of inputs: one edge and the nodes at its ends, and nothing else.
+use Rattle.std.specs.Prelude.{◌≡◌, ◌⊎◌, Box, ℕ, ◌+◌, ◌-◌, ◌<◌, ◌≤◌, Bool, true, false, ◌&&◌, List, ◌++◌, length, Option, Some, None, option_map}
+use Rattle.std.specs.declared.alloc.Global.{Global}
+use Rattle.rsx_types.specs.Meaning.{Meaning}
+use Rattle.rsx_types.specs.Stream.{Stream}
+use Rattle.rsx_types.specs.declared.note.Note.{Note}
+use Rattle.rsx_types.specs.declared.signal.Signal.{Signal}
+use Rattle.rsx_sources.specs.Counts.{CountsIn, CountsOut}
+use Rattle.rsx_sources.specs.Machine.{LetsGo, TakesIn, front_of}
+use Rattle.rsx_sources.specs.declared.machine.Machine.{Ghosts as Machine}
+use Rattle.rsx_tree.specs.declared.edge.Edge.{Edge}
+use Rattle.rsx_tree.specs.declared.inputs.Inputs.{Inputs, End, More'}
+use Rattle.rsx_tree.specs.Edges.{edge_view, asked_up_to, passed, can_ask_for}
+use Rattle.rsx_tree.specs.Inputs.{size, is_own, closed_row_if, can_send_over, comes_in, through}
+
+-- a place in memory, without what it holds
+abbrev pub Hold : Type 0
+Hold = Box (Unit {0}) Global
+
+-- what a move does to the receiver of an edge, the edge, and its sender
+abbrev pub Change : Type 0 → Type 1
+Change M = M → ℕ → ℕ → ℕ → Edge → M → M → Edge → M → Type 0
+
+-- an Ask: what was asked rose to what the receiver wants, and nothing else changed
+pub record IsAskedOver {M T : Type 0} (b : Machine M T) (r : M) (i asked sent : ℕ) (e : Edge) (n r' : M) (e' : Edge) (n' : M) : Type 0 where
+  pub can : can_ask_for (edge_view e) (b.wanted r i asked sent) ≡ true
+  pub edge : edge_view e' ≡ asked_up_to (b.wanted r i asked sent) (edge_view e)
+  pub receiver : r' ≡ r
+  pub sender : n' ≡ n
+
+-- a Send: the signal that the sender offered came out of it, went over the edge, and came into the receiver
+pub record IsSentOver {M T : Type 0} (b : Machine M T) (m : Meaning T) (r : M) (i asked sent : ℕ) (e : Edge) (n r' : M) (e' : Edge) (n' : M) : Type 0 where
+  pub signal : Signal T
+  pub can : can_send_over b m r i (edge_view e) n ≡ true
+  pub offered : b.waiting m n ≡ Some signal
+  pub gone : LetsGo (b.comes_out m) n signal n'
+  pub taken : TakesIn (b.comes_out m) r i signal r'
+  pub edge : edge_view e' ≡ passed (edge_view e) (front_of signal)
+  pub receiver : b.recorded r' ≡ b.recorded r
+  pub sender : b.recorded n' ≡ b.recorded n
+  pub counts_in : CountsIn b.counted b.ended b.done r i signal r'
+  pub counts_out : CountsOut b.counted b.ended b.done n (Some signal) n'
+
+-- the first edge of the row changed
+pub record IsHere {M : Type 0} (P : Change M) (r : M) (i asked sent : ℕ) (e : Edge) (n : M) (p : Hold) (below : Inputs M) (q : Hold) (beside : Inputs M) (at : ℕ) (r' : M) (new : Inputs M) : Type 0 where
+  pub e' : Edge
+  pub n' : M
+  pub at_is : at ≡ 0
+  pub made : P r i asked sent e n r' e' n'
+  pub new_is : new ≡ More' e' n' p below q beside
+
+-- an edge below the first node changed; where that node ended by it, all below it is closed
+pub record IsBelow {M : Type 0} (ends : M → Bool) (Rec : M → Inputs M → Type 0) (r : M) (e : Edge) (p : Hold) (below : Inputs M) (q : Hold) (beside : Inputs M) (at : ℕ) (r' : M) (new : Inputs M) : Type 0 where
+  pub n' : M
+  pub mid : Inputs M
+  pub above : 0 < at
+  pub within : at ≤ size below
+  pub receiver : r' ≡ r
+  pub made : Rec n' mid
+  pub new_is : new ≡ More' e n' p (closed_row_if (ends n' && is_own below (at - 1)) mid) q beside
+
+-- an edge of the inputs beside the first, or below them, changed
+pub record IsBeside {M : Type 0} (Rec : Inputs M → Type 0) (e : Edge) (n : M) (p : Hold) (below : Inputs M) (q : Hold) (at : ℕ) (new : Inputs M) : Type 0 where
+  pub beside' : Inputs M
+  pub beyond : size below < at
+  pub made : Rec beside'
+  pub new_is : new ≡ More' e n p below q beside'
+
+-- the edge `at` of a row changed, where the row's first edge is input `i` of the receiver `r`; a node that ended by it closed
+-- all its inputs, except for the receiver `r`
+abbrev pub IsChanged : {M : Type 0} → Change M → (M → Bool) → M → ℕ → ℕ → ℕ → Inputs M → ℕ → M → Inputs M → Type 0
+IsChanged P ends r i asked sent End at r' new = ⊥
+IsChanged P ends r i asked sent (More' e n p below q beside) at r' new =
+    IsHere P r i asked sent e n p below q beside at r' new
+    ⊎ (IsBelow ends (λ n' mid. IsChanged P ends n 0 e.demand.asked e.demand.sent below (at - 1) n' mid) r e p below q beside at r' new
+    ⊎ IsBeside (λ beside'. IsChanged P ends r (i + 1) asked sent beside (at - 1 - size below) r' beside') e n p below q at new)
+
+-- ---- what a change keeps
+
+-- what comes out of the receiver over this row stays, where the row's first edge is input `i`, whatever comes in before it
+abbrev pub IsPassedOn : {M T : Type 0} → Machine M T → Meaning T → ℕ → M → Inputs M → M → Inputs M → Type 0
+IsPassedOn {M} {T} b m i r t r' t' =
+    (before : List (Stream T)) → length before ≡ i → (hubs : List (Stream T)) (further : List Note) (pos : ℕ) (k : Note) →
+    through b m hubs r' (option_map (λ vs. before ++ vs) (comes_in b m hubs further t' pos)) k ≡ through b m hubs r (option_map (λ vs. before ++ vs) (comes_in b m hubs further t pos)) k

@@ -1,0 +1,97 @@
+-- A step of one node: a pick, or a row.
+use Rattle.std.specs.Prelude.{◌≡◌, ◌⊎◌, ℕ, zero, suc, ◌+◌, ◌-◌, ◌<◌, ◌≤◌, Bool, true, false, ◌&&◌, nat_eq, nat_le, if◌then◌else◌, List, [], ◌∷◌, ◌++◌, Option, Some, None}
+use Rattle.rsx_types.specs.Meaning.{Meaning}
+use Rattle.rsx_types.specs.Notes.{note_then}
+use Rattle.rsx_types.specs.declared.note.Note.{Note}
+use Rattle.rsx_sources.specs.Counts.{CountsStep}
+use Rattle.rsx_sources.specs.Machine.{Keeps, Records}
+use Rattle.rsx_sources.specs.declared.machine.Machine.{Ghosts as Machine}
+use Rattle.rsx_tree.specs.declared.edge.Edge.{Edge}
+use Rattle.rsx_tree.specs.declared.edge.EdgeState.{EdgeState}
+use Rattle.rsx_tree.specs.declared.inputs.Inputs.{Inputs, End, More'}
+use Rattle.rsx_tree.specs.Edges.{is_live}
+use Rattle.rsx_tree.specs.Inputs.{size, closed_row_if, tests}
+use Rattle.rsx_tree.specs.Changed.{Hold}
+
+-- a node with its edge: what is asked of it, what it sent, and whether signals still go over the edge
+pub record Station (M : Type 0) : Type 0 where
+  pub machine : M
+  pub state : EdgeState
+  pub asked : ℕ
+  pub sent : ℕ
+
+-- the node `at` of a row
+abbrev pub station : {M : Type 0} → Inputs M → ℕ → Option (Station M)
+station End at = None
+station (More' e n p below q beside) at =
+    if nat_eq at 0 then Some (record { machine = n; state = e.state; asked = e.demand.asked; sent = e.demand.sent })
+    else (if nat_le at (size below) then station below (at - 1) else station beside (at - 1 - size below))
+
+-- its edge is live, and it can pick the input
+abbrev pub can_pick_in : {M T : Type 0} → Machine M T → ℕ → Option (Station M) → Bool
+can_pick_in b i o = tests (λ s. is_live s.state && b.picks s.machine i s.asked s.sent) o
+
+-- its edge is live, and it can make a row
+abbrev pub can_row_in : {M T : Type 0} → Machine M T → Option (Station M) → Bool
+can_row_in b o = tests (λ s. is_live s.state && b.rows s.machine s.asked s.sent) o
+
+-- what a step does to a node, of which so much is asked and which sent so much
+abbrev pub Step : Type 0 → Type 1
+Step M = M → ℕ → ℕ → M → Type 0
+
+-- a pick: the node recorded it
+pub record IsPickedHere {M T : Type 0} (b : Machine M T) (m : Meaning T) (i : ℕ) (n : M) (asked sent : ℕ) (n' : M) : Type 0 where
+  pub can : b.picks n i asked sent ≡ true
+  pub value : Records (b.comes_out m) n (b.recording n i) n'
+  pub recorded : b.recorded n' ≡ note_then (b.recorded n) (b.recording n i)
+  pub composes : (k : Note) → note_then (note_then (b.recorded n) (b.recording n i)) k ≡ note_then (b.recorded n) (note_then (b.recording n i) k)
+  pub counts : CountsStep b.counted b.ended b.done n n'
+
+-- a row
+pub record IsRowMadeHere {M T : Type 0} (b : Machine M T) (m : Meaning T) (n : M) (asked sent : ℕ) (n' : M) : Type 0 where
+  pub can : b.rows n asked sent ≡ true
+  pub value : Keeps (b.comes_out m) n n'
+  pub recorded : b.recorded n' ≡ b.recorded n
+  pub counts : CountsStep b.counted b.ended b.done n n'
+
+pub record IsStepHere {M : Type 0} (P : Step M) (ends : M → Bool) (e : Edge) (n : M) (p : Hold) (below : Inputs M) (q : Hold) (beside : Inputs M) (at : ℕ) (new : Inputs M) : Type 0 where
+  pub n' : M
+  pub at_is : at ≡ 0
+  pub live : is_live e.state ≡ true
+  pub made : P n e.demand.asked e.demand.sent n'
+  pub new_is : new ≡ More' e n' p (closed_row_if (ends n' && true) below) q beside
+
+pub record IsStepBelow {M : Type 0} (Rec : Inputs M → Type 0) (e : Edge) (n : M) (p : Hold) (below : Inputs M) (q : Hold) (beside : Inputs M) (at : ℕ) (new : Inputs M) : Type 0 where
+  pub below' : Inputs M
+  pub above : 0 < at
+  pub within : at ≤ size below
+  pub made : Rec below'
+  pub new_is : new ≡ More' e n p below' q beside
+
+pub record IsStepBeside {M : Type 0} (Rec : Inputs M → Type 0) (e : Edge) (n : M) (p : Hold) (below : Inputs M) (q : Hold) (at : ℕ) (new : Inputs M) : Type 0 where
+  pub beside' : Inputs M
+  pub beyond : size below < at
+  pub made : Rec beside'
+  pub new_is : new ≡ More' e n p below q beside'
+
+-- the node `at` of a row changed, and where it ended by it, all below it is closed
+abbrev pub IsStepped : {M : Type 0} → Step M → (M → Bool) → Inputs M → ℕ → Inputs M → Type 0
+IsStepped P ends End at new = ⊥
+IsStepped P ends (More' e n p below q beside) at new =
+    IsStepHere P ends e n p below q beside at new
+    ⊎ (IsStepBelow (λ below'. IsStepped P ends below (at - 1) below') e n p below q beside at new
+    ⊎ IsStepBeside (λ beside'. IsStepped P ends beside (at - 1 - size below) beside') e n p below q at new)
+
+-- ---- what a step says of choices
+
+-- a note in front of what the node `at` still chooses
+abbrev pub chosen_at : ℕ → Note → List Note → List Note
+chosen_at at note [] = []
+chosen_at zero note (k ∷ ks) = note_then note k ∷ ks
+chosen_at (suc at) note (k ∷ ks) = k ∷ chosen_at at note ks
+
+-- a note behind what the node `at` recorded
+abbrev pub recorded_at : ℕ → Note → List Note → List Note
+recorded_at at note [] = []
+recorded_at zero note (n ∷ ns) = note_then n note ∷ ns
+recorded_at (suc at) note (n ∷ ns) = n ∷ recorded_at at note ns

@@ -1,4 +1,0 @@
-subscribe (map double (range 1 5))
-request 0 2
-pump 100
-show 0
