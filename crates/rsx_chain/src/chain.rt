@@ -1,6 +1,6 @@
 //! Chains of plain operators.
 
-ghost use Rattle.std.specs.Prelude.{◌≡◌, true, false, [], IfOk, IfErr, IsOk, OnOk, OnErr, IsTrue};
+ghost use Rattle.std.specs.Prelude.{◌≡◌, true, false, ◌||◌, [], IfOk, IfErr, IsOk, OnOk, OnErr, IsTrue};
 ghost use Rattle.rsx_types.specs.Meaning.{Meaning};
 ghost use Rattle.rsx_types.specs.Plain.{plain, chained};
 ghost use Rattle.rsx_types.specs.Stream.{Stream};
@@ -38,11 +38,12 @@ pub struct Begun<T> {
 }
 
 impl<T: Drop> ChainState<T> {
-    ghost use Rattle.std.specs.Prelude.{◌≡◌, true, false, [], IfOk, IfErr, IsOk, OnOk, OnErr, IsTrue};
+    ghost use Rattle.std.specs.Prelude.{◌≡◌, true, false, ◌||◌, [], IfOk, IfErr, IsOk, OnOk, OnErr, IsTrue};
     ghost use Rattle.rsx_types.specs.Meaning.{Meaning};
-    ghost use Rattle.rsx_types.specs.Plain.{chained};
+    ghost use Rattle.rsx_types.specs.Plain.{plain, chained};
     ghost use Rattle.rsx_types.specs.Stream.{Stream};
     ghost use Rattle.rsx_plain.specs.Moves.{Moves, EndsLast, is_ending, has_ending, has_ended};
+    ghost use Rattle.rsx_plain.specs.State.{plain_from, plain_start, is_over};
     ghost use Rattle.rsx_chain.specs.Chain.{chain_from, chain_over, chain_allocates};
     ghost use Rattle.rsx_chain.specs.Portions.{portion_then, followed_by};
 
@@ -68,18 +69,45 @@ impl<T: Drop> ChainState<T> {
             Some((stage, behind)) => {
                 let Begun { chain, first } = ChainState::new(alloc, ops, behind)?;
                 let mut chain = chain;
-                let state = PlainState::new(alloc, ops, stage)?;
-                let seed = start(alloc, ops, stage)?;
-                match chain.take(alloc, ops, seed) {
-                    Ok(out) => {
-                        let first = out.behind(first)?;
-                        let chain = ChainState::Stage(state, Box::new(alloc, chain)?);
-                        Ok(Begun { chain, first })
-                    }
-                    Err(_) => Err(NoMemory),
-                }
+                let first = chain.take_start(alloc, ops, stage, first)?;
+                let chain = chain.behind(alloc, ops, stage)?;
+                Ok(Begun { chain, first })
             }
         }
+    }
+
+    /// Takes what comes out of this operator at the start, and puts what comes out of the chain behind what came out before.
+    /// The chain is only borrowed here, so that no early return lets it go.
+    fn take_start<O: Ops<Item = T>>(
+        &mut self,
+        alloc: Global,
+        ops: &O,
+        stage: &Stage<T>,
+        first: StreamValue<T>,
+    ) -> Result<StreamValue<T>, NoMemory>
+        ensures fresh { IfOk result (λ r. (v : Stream T) → followed_by first (chain_from (O.meaning ops.now) self.old (plain (O.meaning ops.now) stage.now v)) ≡ followed_by r (chain_from (O.meaning ops.now) self.new (plain_from (O.meaning ops.now) (plain_start stage.now) v))) }
+        ensures front { IfOk result (λ r. is_over (plain_start stage.now) ≡ true → has_ended r.ending ≡ true) }
+        ensures over { IfOk result (λ r. chain_over self.new ≡ true → has_ended r.ending ≡ true) }
+    {
+        let seed = start(alloc, ops, stage)?;
+        match self.take(alloc, ops, seed) {
+            Ok(out) => out.behind(first),
+            Err(_) => Err(NoMemory),
+        }
+    }
+
+    /// This chain behind an operator that has taken nothing yet.
+    fn behind<O: Ops<Item = T>>(
+        self,
+        alloc: Global,
+        ops: &O,
+        stage: &Stage<T>,
+    ) -> Result<ChainState<T>, NoMemory>
+        ensures from { IfOk result (λ c. (m : Meaning T) (v : Stream T) → chain_from m c v ≡ chain_from m self (plain_from m (plain_start stage.now) v)) }
+        ensures over { IfOk result (λ c. chain_over c ≡ (is_over (plain_start stage.now) || chain_over self)) }
+    {
+        let state = PlainState::new(alloc, ops, stage)?;
+        Ok(ChainState::Stage(state, Box::new(alloc, self)?))
     }
 
     /// Takes a signal of the input, and puts what comes out of the chain into the empty slot: at most an item, and then at
