@@ -1,6 +1,6 @@
 //! Chains of plain operators.
 
-ghost use Rattle.std.specs.Prelude.{◌≡◌, true, false, [], IfOk, IfErr, IsOk, OnOk, OnErr, IsTrue};
+ghost use Rattle.std.specs.Prelude.{◌≡◌, true, false, ◌||◌, [], IfOk, IfErr, IsOk, OnOk, OnErr, IsTrue};
 ghost use Rattle.rsx_types.specs.Meaning.{Meaning};
 ghost use Rattle.rsx_types.specs.Plain.{plain, chained};
 ghost use Rattle.rsx_types.specs.Stream.{Stream};
@@ -37,12 +37,39 @@ pub struct Begun<T> {
     pub first: StreamValue<T>,
 }
 
+impl<T: Drop> Begun<T> {
+    ghost use Rattle.std.specs.Prelude.{◌≡◌, true, IfOk};
+    ghost use Rattle.rsx_types.specs.Plain.{plain};
+    ghost use Rattle.rsx_types.specs.Stream.{Stream};
+    ghost use Rattle.rsx_plain.specs.Moves.{has_ended};
+    ghost use Rattle.rsx_chain.specs.Chain.{chain_from, chain_over};
+    ghost use Rattle.rsx_chain.specs.Portions.{followed_by};
+
+    /// The chain behind an operator that has taken nothing yet, with what comes out of both at the start.
+    fn behind<O: Ops<Item = T>>(
+        self,
+        alloc: Global,
+        ops: &O,
+        stage: &Stage<T>,
+    ) -> Result<Begun<T>, NoMemory>
+        ensures fresh { IfOk result (λ b. (v : Stream T) → followed_by self.first (chain_from (O.meaning ops.now) self.chain (plain (O.meaning ops.now) stage.now v)) ≡ followed_by b.first (chain_from (O.meaning ops.now) b.chain v)) }
+        ensures over { IfOk result (λ b. chain_over b.chain ≡ true → has_ended b.first.ending ≡ true) }
+    {
+        let Begun { chain, first } = self;
+        let mut chain = chain;
+        let first = chain.take_start(alloc, ops, stage, first)?;
+        let chain = chain.behind(alloc, ops, stage)?;
+        Ok(Begun { chain, first })
+    }
+}
+
 impl<T: Drop> ChainState<T> {
-    ghost use Rattle.std.specs.Prelude.{◌≡◌, true, false, [], IfOk, IfErr, IsOk, OnOk, OnErr, IsTrue};
+    ghost use Rattle.std.specs.Prelude.{◌≡◌, true, false, ◌||◌, [], IfOk, IfErr, IsOk, OnOk, OnErr, IsTrue};
     ghost use Rattle.rsx_types.specs.Meaning.{Meaning};
-    ghost use Rattle.rsx_types.specs.Plain.{chained};
+    ghost use Rattle.rsx_types.specs.Plain.{plain, chained};
     ghost use Rattle.rsx_types.specs.Stream.{Stream};
     ghost use Rattle.rsx_plain.specs.Moves.{Moves, EndsLast, is_ending, has_ending, has_ended};
+    ghost use Rattle.rsx_plain.specs.State.{plain_from, plain_start, is_over};
     ghost use Rattle.rsx_chain.specs.Chain.{chain_from, chain_over, chain_allocates};
     ghost use Rattle.rsx_chain.specs.Portions.{portion_then, followed_by};
 
@@ -66,20 +93,45 @@ impl<T: Drop> ChainState<T> {
                 first: StreamValue::new(Vec::new(alloc), Ending::Open),
             }),
             Some((stage, behind)) => {
-                let Begun { chain, first } = ChainState::new(alloc, ops, behind)?;
-                let mut chain = chain;
-                let state = PlainState::new(alloc, ops, stage)?;
-                let seed = start(alloc, ops, stage)?;
-                match chain.take(alloc, ops, seed) {
-                    Ok(out) => {
-                        let first = out.behind(first)?;
-                        let chain = ChainState::Stage(state, Box::new(alloc, chain)?);
-                        Ok(Begun { chain, first })
-                    }
-                    Err(_) => Err(NoMemory),
-                }
+                let begun = ChainState::new(alloc, ops, behind)?;
+                begun.behind(alloc, ops, stage)
             }
         }
+    }
+
+    /// Takes what comes out of this operator at the start, and puts what comes out of the chain behind what came out before.
+    /// The chain is only borrowed here, so that no early return lets it go.
+    fn take_start<O: Ops<Item = T>>(
+        &mut self,
+        alloc: Global,
+        ops: &O,
+        stage: &Stage<T>,
+        first: StreamValue<T>,
+    ) -> Result<StreamValue<T>, NoMemory>
+        ensures fresh { IfOk result (λ r. (v : Stream T) → followed_by first (chain_from (O.meaning ops.now) self.old (plain (O.meaning ops.now) stage.now v)) ≡ followed_by r (chain_from (O.meaning ops.now) self.new (plain_from (O.meaning ops.now) (plain_start stage.now) v))) }
+        ensures front { IfOk result (λ r. is_over (plain_start stage.now) ≡ true → has_ended r.ending ≡ true) }
+        ensures over { IfOk result (λ r. chain_over self.new ≡ true → has_ended r.ending ≡ true) }
+    {
+        let seed = start(alloc, ops, stage)?;
+        match self.take(alloc, ops, seed) {
+            Ok(out) => out.behind(first),
+            Err(_) => Err(NoMemory),
+        }
+    }
+
+    /// This chain behind an operator that has taken nothing yet.
+    fn behind<O: Ops<Item = T>>(
+        self,
+        alloc: Global,
+        ops: &O,
+        stage: &Stage<T>,
+    ) -> Result<ChainState<T>, NoMemory>
+        ensures from { IfOk result (λ c. (m : Meaning T) (v : Stream T) → chain_from m c v ≡ chain_from m self (plain_from m (plain_start stage.now) v)) }
+        ensures over { IfOk result (λ c. chain_over c ≡ (is_over (plain_start stage.now) || chain_over self)) }
+    {
+        let behind = Box::new(alloc, self)?;
+        let state = PlainState::new(alloc, ops, stage)?;
+        Ok(ChainState::Stage(state, behind))
     }
 
     /// Takes a signal of the input, and puts what comes out of the chain into the empty slot: at most an item, and then at
