@@ -3,7 +3,7 @@
 ghost use Rattle.std.specs.Prelude.{◌≡◌};
 
 use rsx_plain::PlainNode;
-use rsx_sources::{Front, ItemsNode, Machine, NotMade, NotTaken, RangeNode};
+use rsx_sources::{Front, ItemsNode, Machine, NotMade, NotTaken, Passed, RangeNode};
 use rsx_types::{NoMemory, Note, Ops, Signal, StreamValue};
 use std::alloc::Global;
 
@@ -134,6 +134,14 @@ impl<T: Drop> Machine for AnyNode<T> {
             AnyNode::Items(_) | AnyNode::Range(_) => Err(NotTaken::Busy(signal)),
             AnyNode::Plain(node) => node.on_signal(alloc, ops, input, signal),
         }
+    }
+
+    fn pop_item<O: Ops<Item = T>>(&mut self, alloc: Global, ops: &O) -> Option<T> {
+        None
+    }
+
+    fn pass<O: Ops<Item = T>>(&mut self, alloc: Global, ops: &O, input: u64, item: T) -> Passed<T> {
+        Passed::Declined(item)
     }
 
     fn can_pick(&self, input: u64, asked: u64, sent: u64) -> bool {

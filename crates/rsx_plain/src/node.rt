@@ -4,7 +4,7 @@ ghost use Rattle.std.specs.Prelude.{◌≡◌};
 
 use crate::operator::Operator;
 use crate::state::PlainState;
-use rsx_sources::{Front, Machine, NotMade, NotTaken, OutSlot};
+use rsx_sources::{Front, Machine, NotMade, NotTaken, OutSlot, Passed};
 use rsx_types::{Ending, NoMemory, Note, Ops, Signal, Stage, StreamValue};
 use std::alloc::Global;
 
@@ -178,6 +178,14 @@ impl<T: Drop> Machine for PlainNode<T> {
             Ok(()) => Ok(()),
             Err(signal) => Err(NotTaken::NoMemory(signal)),
         }
+    }
+
+    fn pop_item<O: Ops<Item = T>>(&mut self, alloc: Global, ops: &O) -> Option<T> {
+        None
+    }
+
+    fn pass<O: Ops<Item = T>>(&mut self, alloc: Global, ops: &O, input: u64, item: T) -> Passed<T> {
+        Passed::Declined(item)
     }
 
     fn can_pick(&self, input: u64, asked: u64, sent: u64) -> bool {

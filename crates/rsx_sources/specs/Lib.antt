@@ -2,6 +2,7 @@
 pub mod Counts
 pub mod Items
 pub mod Machine
+pub mod Passed
 pub mod Range
 pub mod Slot
 pub mod Steps

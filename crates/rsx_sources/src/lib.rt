@@ -14,6 +14,6 @@ pub mod range;
 pub mod slot;
 
 pub use items::ItemsNode;
-pub use machine::{Front, Machine, NotMade, NotTaken};
+pub use machine::{Front, Machine, NotMade, NotTaken, Passed};
 pub use range::RangeNode;
 pub use slot::OutSlot;

@@ -40,6 +40,17 @@ pub enum NotMade {
     NoMemory,
 }
 
+/// What came of an item that was to go through a node in one go.
+#[derive(Debug, Drop)]
+pub enum Passed<T> {
+    /// It was taken in, and this item, the first that the node put out for it, went out again.
+    Item(T),
+    /// It was taken in, and nothing was put out for it.
+    Kept,
+    /// It comes back, and the node is as it was.
+    Declined(T),
+}
+
 /// A node of a tree: it takes the signals of its inputs and offers the signals of its output.
 ///
 /// `comes_out` is the stream value that still comes out, given what still comes in and what is still chosen; it is
@@ -96,6 +107,7 @@ pub trait Machine {
     ghost use Rattle.rsx_types.specs.Notes.{note_then, unchosen};
     ghost use Rattle.rsx_sources.specs.Counts.{CountsIn, CountsOut, CountsStep, IsHungry, AreWithin};
     ghost use Rattle.rsx_sources.specs.Machine.{Keeps, TakesIn, Records, front_of, incoming_of};
+    ghost use Rattle.rsx_sources.specs.Passed.{IsItemOut, IsPassed};
     ghost use Rattle.rsx_sources.specs.Steps.{IsPopped, IsNotTaken, IsNotMade};
 
     /// Which signal is offered, if one is: the first signal that still comes out.
@@ -143,6 +155,25 @@ pub trait Machine {
         ensures err { IfErr result (IsNotTaken (takes self.old input (front_of signal)) signal) }
         ensures memory { signal_allocates (O.allocates ops.now) self.old ≡ false → IfErr result (λ e. e ≡ NotTaken.Busy signal) }
         ensures same { OnErr result (self.new ≡ self.old) };
+
+    /// Takes the offered item out, as `pop_front` does. Where it answers nothing the node is unchanged, and `pop_front`
+    /// tells the rest: that nothing is offered, an ending, or want of memory.
+    fn pop_item<O: Ops<Item = Self::Item>>(&mut self, alloc: Global, ops: &O) -> Option<Self::Item>
+        ensures some { IfSome result (λ x. IsItemOut (comes_out (O.meaning ops.now)) (waiting (O.meaning ops.now)) popped recorded counted ended done self.old x self.new) }
+        ensures none { IfNone result (self.new ≡ self.old) };
+
+    /// Takes an item of an input in, as `on_signal` does, and takes the item out that the node puts out for it, as
+    /// `pop_front` does; the item doesn't have to wait in the node. A node may decline any item, and declines those by
+    /// which it would end and those for which it finds no memory; then the item comes back, the node is unchanged, and the
+    /// two calls do the work.
+    fn pass<O: Ops<Item = Self::Item>>(
+        &mut self,
+        alloc: Global,
+        ops: &O,
+        input: u64,
+        item: Self::Item,
+    ) -> Passed<Self::Item>
+        ensures { IsPassed (comes_out (O.meaning ops.now)) (waiting (O.meaning ops.now)) takes popped recorded counted ended done self.old input item result self.new };
 
     /// Whether an input can be picked, where `asked` is asked of the node and it sent `sent` items.
     fn can_pick(&self, input: u64, asked: u64, sent: u64) -> bool

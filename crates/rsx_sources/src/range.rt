@@ -2,7 +2,7 @@
 
 ghost use Rattle.std.specs.Prelude.{◌≡◌, pos, ◌+ℤ◌, ◌≤ℤ◌, ◌<◌, ◌≤◌, ◌^◌};
 
-use crate::machine::{Front, Machine, NotMade, NotTaken};
+use crate::machine::{Front, Machine, NotMade, NotTaken, Passed};
 use rsx_types::{Ending, NoMemory, Note, Ops, Signal, StreamValue};
 use std::alloc::Global;
 use std::marker::PhantomData;
@@ -157,6 +157,14 @@ impl<T: Drop> Machine for RangeNode<T> {
         ensures same { OnErr result (self.new ≡ self.old) }
     {
         Err(NotTaken::Busy(signal))
+    }
+
+    fn pop_item<O: Ops<Item = T>>(&mut self, alloc: Global, ops: &O) -> Option<T> {
+        None
+    }
+
+    fn pass<O: Ops<Item = T>>(&mut self, alloc: Global, ops: &O, input: u64, item: T) -> Passed<T> {
+        Passed::Declined(item)
     }
 
     fn can_pick(&self, input: u64, asked: u64, sent: u64) -> bool {

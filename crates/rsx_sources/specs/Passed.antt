@@ -1,0 +1,36 @@
+-- An item that goes through a node in one go, without waiting in it.
+use Rattle.std.specs.Prelude.{◌≡◌, ℕ, Bool, true, false, List, Option, Some}
+use Rattle.rsx_types.specs.declared.note.Note.{Note}
+use Rattle.rsx_types.specs.declared.signal.Signal.{Signal}
+use Rattle.rsx_types.specs.declared.signal.Signal.TheVariants.{Next}
+use Rattle.rsx_types.specs.Stream.{Stream}
+use Rattle.rsx_sources.specs.Counts.{CountsIn, CountsOut}
+use Rattle.rsx_sources.specs.Machine.{Incoming, LetsGo, TakesIn, front_of}
+use Rattle.rsx_sources.specs.declared.machine.Front.{Front}
+use Rattle.rsx_sources.specs.declared.machine.Passed.{Passed}
+use Rattle.rsx_sources.specs.declared.machine.Passed.TheVariants.{Item, Kept, Declined}
+
+-- a signal of input i was taken in, and the node has not ended by it
+pub record IsTakenIn {T S : Type 0} (comes_out : S → Incoming T → Note → Option (Stream T)) (takes : S → ℕ → Front → Bool) (recorded : S → Note) (counted : S → List ℕ → ℕ → Type 0) (ended : S → Bool) (done : S → ℕ → Bool) (old : S) (i : ℕ) (s : Signal T) (new : S) : Type 0 where
+  pub enabled : takes old i (front_of s) ≡ true
+  pub value : TakesIn comes_out old i s new
+  pub notes : recorded new ≡ recorded old
+  pub counts : CountsIn counted ended done old i s new
+  pub goes_on : ended new ≡ false
+
+-- the item that waited went out
+pub record IsItemOut {T S : Type 0} (comes_out : S → Incoming T → Note → Option (Stream T)) (waiting : S → Option (Signal T)) (popped : S → Signal T → S → Type 0) (recorded : S → Note) (counted : S → List ℕ → ℕ → Type 0) (ended : S → Bool) (done : S → ℕ → Bool) (old : S) (x : T) (new : S) : Type 0 where
+  pub waited : waiting old ≡ Some (Next x)
+  pub popped_out : popped old (Next x) new
+  pub value : LetsGo comes_out old (Next x) new
+  pub notes : recorded new ≡ recorded old
+  pub counts : CountsOut counted ended done old (Some (Next x)) new
+
+-- what came of an item of input i: it was taken in, and what the node put out first went out of it again, an item; or
+-- the node put out nothing for it; or it came back, and nothing has changed
+abbrev pub IsPassed : {T S : Type 0} → (S → Incoming T → Note → Option (Stream T)) → (S → Option (Signal T)) → (S → ℕ → Front → Bool) → (S → Signal T → S → Type 0) → (S → Note) → (S → List ℕ → ℕ → Type 0) → (S → Bool) → (S → ℕ → Bool) → S → ℕ → T → Passed T → S → Type 0
+IsPassed {T} {S} comes_out waiting takes popped recorded counted ended done old i x (Item y) new =
+    (mid : S) × IsTakenIn comes_out takes recorded counted ended done old i (Next x) mid × IsItemOut comes_out waiting popped recorded counted ended done mid y new
+IsPassed comes_out waiting takes popped recorded counted ended done old i x Kept new =
+    IsTakenIn comes_out takes recorded counted ended done old i (Next x) new
+IsPassed comes_out waiting takes popped recorded counted ended done old i x (Declined y) new = (y ≡ x) × (new ≡ old)
