@@ -24,9 +24,10 @@ use std::alloc::Global;
 #[derive(Drop)]
 pub struct Graph<O: Ops> {
     /// The functions of the caller.
-    pub ops: O,
+    ops: O,
     /// The subscriptions, in the order of their making.
-    pub subscriptions: Vec<Subscription<O::Item>>,
+    subscriptions: Vec<Subscription<O::Item>>,
+    pub ghost few: { length subscriptions.items ≤ 256 },
 }
 
 impl<O: Ops> Graph<O> {
@@ -211,10 +212,10 @@ impl<O: Ops> Graph<O> {
         ensures pumped { (n : ℕ) × HasEnded (O.meaning self.old.ops) budget n self.new.subscriptions.items result × AllPumped (O.meaning self.old.ops) n self.old.subscriptions.items out.old.signals self.new.subscriptions.items out.new.signals }
 
         // Idle means delivered.
-        ensures served { IfOk result (λ p. p ≡ Pumped.Idle → length self.new.subscriptions.items ≤ 256 → (h : History O.Item) → StandsFor (O.meaning self.old.ops) self.new.subscriptions.items h → AllServed (O.meaning self.old.ops) h.published self.new.subscriptions.items h.pasts) }
+        ensures served { IfOk result (λ p. p ≡ Pumped.Idle → (h : History O.Item) → StandsFor (O.meaning self.old.ops) self.new.subscriptions.items h → AllServed (O.meaning self.old.ops) h.published self.new.subscriptions.items h.pasts) }
     {
         let mut left = budget;
-        let count = self.subscriptions.len().min(256) as u32;
+        let count = self.subscriptions.len() as u32;
         for at in 0..count {
             left = match self.pump_one(alloc, SubId(at), left, out) {
                 Ok(Driven::Idle(left)) => left,
@@ -290,7 +291,7 @@ impl<O: Ops> Graph<O> {
             return Err(Refusal::UnknownSub);
         }
         let subscription = &self.subscriptions[at];
-        match subscription.part.notes(alloc) {
+        match subscription.notes(alloc) {
             Ok(notes) => Ok(notes),
             Err(NoMemory) => Err(Refusal::NoMemory),
         }
@@ -327,7 +328,7 @@ impl<O: Ops> Graph<O> {
             return Err(Refusal::UnknownSub);
         }
         let subscription = &self.subscriptions[at];
-        Ok(subscription.demand.asked)
+        Ok(subscription.asked())
     }
 
     /// Makes one step. A refused step leaves all as it was.
