@@ -4,7 +4,7 @@ ghost use Rattle.std.specs.Prelude.{◌≡◌, ◌≢◌, ℕ, ◌+◌, ◌<◌,
 ghost use Rattle.rsx_model.specs.Check.{refusal};
 ghost use Rattle.rsx_subscriber.specs.Past.{given, cancelled, requested};
 ghost use Rattle.rsx_subscriber.specs.Stands.{IsInside, IsMadeAnswer};
-ghost use Rattle.rsx_graph.specs.History.{History, no_history, with_subscriber, with_past, with_made, extended, all_extended, IsSubscribeRefusal, IsMakeRefusal, Belongs, AllBelong, HasAsked, IsLookRefusal, IsTreeRefusal, IsKnownTree, tree_of};
+ghost use Rattle.rsx_graph.specs.History.{History, no_history, with_subscriber, with_past, with_made, extended, all_extended, IsSubscribeRefusal, IsMakeRefusal, Belongs, AllBelong, HasAsked, state_at, IsLookRefusal, IsTreeRefusal, IsKnownTree, tree_of};
 ghost use Rattle.rsx_graph.specs.Done.{IsDone, AllDone};
 ghost use Rattle.rsx_graph.specs.Stands.{StandsFor, IsRequestedAt, IsCancelledAt, IsOwed, HasNotes, HasNotesAt, IsMade, IsMadeAt, allocates_at, allocates_in_tree, enabled_in_tree, enabled_at};
 ghost use Rattle.rsx_graph.specs.Begun.{IsSubscribed};
@@ -329,6 +329,23 @@ impl<O: Ops> Graph<O> {
         }
         let subscription = &self.subscriptions[at];
         Ok(subscription.asked())
+    }
+
+    /// How a subscription stands: whether it is open, has ended, was cancelled, or was closed by a bad request. It takes no
+    /// memory.
+    ///
+    /// # Errors
+    /// G2 exactly where there is no such subscription.
+    pub fn standing(&self, sub: SubId) -> Result<SubscriptionState, Refusal>
+        ensures standing { IfOk result (λ s. (h : History O.Item) → StandsFor (O.meaning self.now.ops) self.now.subscriptions.items h → state_at h.pasts sub.0 ≡ Some s) }
+        ensures err { IfErr result (λ r. (r ≡ Refusal.UnknownSub) × (length self.now.subscriptions.items ≤ sub.0)) }
+    {
+        let at = sub.0 as usize;
+        if at >= self.subscriptions.len() {
+            return Err(Refusal::UnknownSub);
+        }
+        let subscription = &self.subscriptions[at];
+        Ok(subscription.standing())
     }
 
     /// Makes one step. A refused step leaves all as it was.
