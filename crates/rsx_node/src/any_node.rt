@@ -28,13 +28,15 @@ impl<T: Drop> Machine for AnyNode<T> {
     ghost use Rattle.rsx_sources.specs.Counts.{CountsIn, CountsOut};
     ghost use Rattle.rsx_sources.specs.Machine.{TakesIn, Keeps, Records, front_of, incoming_of};
     ghost use Rattle.rsx_sources.specs.Steps.{IsPopped, IsNotTaken, IsNotMade};
-    ghost use Rattle.rsx_node.specs.Any.{any_comes_out, any_waiting, any_takes, any_ended, any_counted, any_wanted, any_popped, any_pop_allocates, any_signal_allocates};
-    ghost use Rattle.rsx_node.specs.Laws.{any_drops, any_settles, any_ending_waits, any_hungry};
+    ghost use Rattle.rsx_node.specs.Any.{any_comes_out, any_waiting, any_shown, any_takes, any_ended, any_counted, any_wanted, any_popped, any_pop_allocates, any_signal_allocates};
+    ghost use Rattle.rsx_node.specs.Laws.{any_shows, any_drops, any_ends, any_settles, any_ending_waits, any_hungry};
     ghost use Rattle.rsx_node.specs.declared.any_node.AnyNode.{AnyNode};
 
     ghost comes_out = { any_comes_out };
 
     ghost waiting = { any_waiting };
+
+    ghost shown = { any_shown };
 
     ghost takes = { any_takes };
 
@@ -216,7 +218,11 @@ impl<T: Drop> Machine for AnyNode<T> {
         }
     }
 
+    ghost shows = { any_shows };
+
     ghost drops = { any_drops };
+
+    ghost ends = { any_ends };
 
     ghost settles = { any_settles };
 

@@ -55,7 +55,7 @@ impl<T: Drop> Machine for PlainNode<T> {
     type Item = T;
 
     ghost use Rattle.std.specs.Prelude.{◌≡◌, true, false, refl, IfOk, IfErr, IsOk, IsTrue, OnOk, OnErr};
-    ghost use Rattle.rsx_plain.specs.Laws.{plain_drops, plain_ending_waits, plain_hungry};
+    ghost use Rattle.rsx_plain.specs.Laws.{plain_drops, plain_ends, plain_ending_waits, plain_hungry};
     ghost use Rattle.rsx_types.specs.Meaning.{Meaning};
     ghost use Rattle.rsx_types.specs.Notes.{note_then};
     ghost use Rattle.rsx_types.specs.declared.note.Note.{Note};
@@ -63,13 +63,15 @@ impl<T: Drop> Machine for PlainNode<T> {
     ghost use Rattle.rsx_sources.specs.Counts.{CountsIn, CountsOut};
     ghost use Rattle.rsx_sources.specs.Machine.{Incoming, TakesIn, Keeps, Records, incoming_of};
     ghost use Rattle.rsx_sources.specs.Steps.{IsPopped, IsNotTaken, IsNotMade};
-    ghost use Rattle.rsx_plain.specs.Node.{plain_comes_out, plain_waiting, plain_takes, plain_wanted, plain_popped, plain_ended, plain_allocates, plain_counted};
+    ghost use Rattle.rsx_plain.specs.Node.{plain_comes_out, plain_waiting, plain_shown, plain_takes, plain_wanted, plain_popped, plain_ended, plain_allocates, plain_counted};
     ghost use Rattle.rsx_plain.specs.State.{is_over, after_signal, Counts};
     ghost use Rattle.rsx_plain.specs.declared.node.PlainNode.{PlainNode};
 
     ghost comes_out = { plain_comes_out };
 
     ghost waiting = { plain_waiting };
+
+    ghost shown = { plain_shown };
 
     ghost takes = { λ n i f. plain_takes n i };
 
@@ -271,7 +273,11 @@ impl<T: Drop> Machine for PlainNode<T> {
         }
     }
 
+    ghost shows = { λ m n. refl };
+
     ghost drops = { plain_drops };
+
+    ghost ends = { plain_ends };
 
     ghost settles = { λ m n inc. (_, refl) };
 

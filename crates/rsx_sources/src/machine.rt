@@ -67,6 +67,9 @@ pub trait Machine {
     /// The signal that is offered.
     ghost waiting: { Meaning Self.Item → Self → Option (Signal Self.Item) };
 
+    /// Which signal is offered, if one is.
+    ghost shown: { Self → Option FrontSpec };
+
     /// Whether such a signal of an input can be taken.
     ghost takes: { Self → ℕ → FrontSpec → Bool };
 
@@ -105,14 +108,15 @@ pub trait Machine {
 
     ghost use Rattle.std.specs.Prelude.{◌≡◌, ◌<◌, ◌^◌, OnOk, OnErr, IfOk, IfErr, IfSome, IfNone, IsOk, Some, None, true, false, option_map};
     ghost use Rattle.rsx_types.specs.Notes.{note_then, unchosen};
-    ghost use Rattle.rsx_sources.specs.Counts.{CountsIn, CountsOut, CountsStep, IsHungry, AreWithin};
+    ghost use Rattle.rsx_sources.specs.Counts.{CountsIn, CountsOut, CountsStep, CanStep, IsHungry, AreWithin, ends_input};
     ghost use Rattle.rsx_sources.specs.Machine.{Keeps, TakesIn, Records, front_of, incoming_of};
     ghost use Rattle.rsx_sources.specs.Passed.{IsItemOut, IsPassed};
     ghost use Rattle.rsx_sources.specs.Steps.{IsPopped, IsNotTaken, IsNotMade};
 
     /// Which signal is offered, if one is: the first signal that still comes out.
     fn front(&self) -> Option<Front>
-        ensures { (m : Meaning Self.Item) → result ≡ option_map front_of (waiting m self.now) };
+        ensures shown { result ≡ shown self.now }
+        ensures first { (m : Meaning Self.Item) → result ≡ option_map front_of (waiting m self.now) };
 
     /// Takes the offered signal out of the node. For want of memory it stays, and the node is unchanged; that comes only
     /// where `pop_allocates`.
@@ -239,14 +243,21 @@ pub trait Machine {
     ) -> Result<StreamValue<Self::Item>, NoMemory>
         ensures { IfOk result (λ v. (further : Note) → note_then (recorded self.now) further ≡ recorded self.now → comes_out (O.meaning ops.now) self.now (incoming_of hubs.now incoming.now) further ≡ Some v) };
 
+    /// What is shown is the signal that waits, whatever the caller's functions mean.
+    ghost shows: { (m : Meaning Self.Item) (n : Self) → shown n ≡ option_map front_of (waiting m n) };
+
     /// What comes in no longer matters to a node that has ended.
     ghost drops: { (m : Meaning Self.Item) (n : Self) (inc other : Incoming Self.Item) (further : Note) → ended n ≡ true → comes_out m n inc further ≡ comes_out m n other further };
+
+    /// Nor does it matter to a node that offers its ending.
+    ghost ends: { (m : Meaning Self.Item) (n : Self) (s : Signal Self.Item) (inc other : Incoming Self.Item) (further : Note) → waiting m n ≡ Some s → ends_input s ≡ true → comes_out m n inc further ≡ comes_out m n other further };
 
     /// Where nothing more is chosen, something comes out.
     ghost settles: { (m : Meaning Self.Item) (n : Self) (inc : Incoming Self.Item) → (v : Stream Self.Item) × (comes_out m n inc (unchosen (recorded n)) ≡ Some v) };
 
-    /// Of a node that has ended, a signal waits: its ending, or an item in front of that.
-    ghost ending_waits: { (m : Meaning Self.Item) (n : Self) → ended n ≡ true → (s : Signal Self.Item) × (waiting m n ≡ Some s) };
+    /// A node that has ended and offers nothing, and of which more is asked than it sent, can make a step: its ending, or an
+    /// item in front of that, is still in it.
+    ghost ending_waits: { (m : Meaning Self.Item) (n : Self) (asked sent : ℕ) → ended n ≡ true → waiting m n ≡ None → sent < asked → CanStep picks rows n asked sent };
 
     /// A node that offers nothing, and of which more is asked than it sent, can make a step or wants more at an input.
     ghost hungry: { (m : Meaning Self.Item) (n : Self) (taken : List ℕ) (asked sent : ℕ) → ended n ≡ false → counted n taken sent → waiting m n ≡ None → sent < asked → AreWithin taken → IsHungry takes picks rows done wanted n taken asked sent };
