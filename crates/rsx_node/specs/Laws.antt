@@ -1,5 +1,5 @@
 -- A node of any kind keeps the laws of its kind.
-use Rattle.std.specs.Prelude.{◌≡◌, ◌<◌, ℕ, Bool, true, false, List, Option, Some, None, refl}
+use Rattle.std.specs.Prelude.{◌≡◌, ◌<◌, ℕ, true, false, List, Some, None, refl}
 use Rattle.std.proofs.Common.{inl, inr}
 use Rattle.rsx_types.specs.declared.note.Note.{Note}
 use Rattle.rsx_types.specs.declared.note.Note.TheVariants.{Nothing}
@@ -7,12 +7,25 @@ use Rattle.rsx_types.specs.declared.signal.Signal.{Signal}
 use Rattle.rsx_types.specs.Meaning.{Meaning}
 use Rattle.rsx_types.specs.Notes.{unchosen}
 use Rattle.rsx_types.specs.Stream.{Stream}
-use Rattle.rsx_sources.specs.Counts.{AreWithin, IsHungry, IsHungryAt}
+use Rattle.rsx_sources.specs.Counts.{AreWithin, IsHungry}
 use Rattle.rsx_sources.specs.Machine.{Incoming}
-use Rattle.rsx_plain.specs.Laws.{plain_drops, plain_ending_waits, plain_hungry}
-use Rattle.rsx_node.specs.Any.{any_comes_out, any_waiting, any_takes, any_ended, any_counted, any_wanted}
+use Rattle.rsx_sources.specs.Steps.{AllocatesAlike}
+use Rattle.rsx_plain.specs.Laws.{plain_popped_alike, plain_drops, plain_ending_waits, plain_hungry}
+use Rattle.rsx_node.specs.Any.{any_comes_out, any_waiting, any_takes, any_ended, any_counted, any_wanted, any_popped, any_pop_allocates, any_signal_allocates}
 use Rattle.rsx_node.specs.declared.any_node.AnyNode.{AnyNode}
 use Rattle.rsx_node.specs.declared.any_node.AnyNode.TheVariants.{Items, Range, Plain}
+
+-- what may allocate stays as a signal is taken out
+pub any_popped_alike : {T : Type 0} (old : AnyNode T) (s : Signal T) (new : AnyNode T) → any_popped old s new → AllocatesAlike any_pop_allocates any_signal_allocates old new
+any_popped_alike (Items n) s (Items k) h a = (refl, refl)
+any_popped_alike (Items n) s (Range k) h a = absurd h
+any_popped_alike (Items n) s (Plain k) h a = absurd h
+any_popped_alike (Range n) s (Items k) h a = absurd h
+any_popped_alike (Range n) s (Range k) h a = (refl, refl)
+any_popped_alike (Range n) s (Plain k) h a = absurd h
+any_popped_alike (Plain n) s (Items k) h a = absurd h
+any_popped_alike (Plain n) s (Range k) h a = absurd h
+any_popped_alike (Plain n) s (Plain k) h a = plain_popped_alike n s k h a
 
 -- what comes in no longer matters once it has ended
 pub any_drops : {T : Type 0} (m : Meaning T) (n : AnyNode T) (inc other : Incoming T) (further : Note) → any_ended n ≡ true → any_comes_out m n inc further ≡ any_comes_out m n other further
