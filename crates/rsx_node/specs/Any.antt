@@ -1,5 +1,5 @@
 -- A node of any kind: its meaning is that of its kind.
-use Rattle.std.specs.Prelude.{◌≡◌, ⊤, ℕ, Bool, true, false, List, Option, Some, None}
+use Rattle.std.specs.Prelude.{⊤, ℕ, Bool, false, List, Option}
 use Rattle.rsx_types.specs.declared.note.Note.{Note}
 use Rattle.rsx_types.specs.declared.note.Note.TheVariants.{Nothing}
 use Rattle.rsx_types.specs.declared.signal.Signal.{Signal}

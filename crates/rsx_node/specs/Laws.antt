@@ -9,9 +9,10 @@ use Rattle.rsx_types.specs.Notes.{unchosen}
 use Rattle.rsx_types.specs.Stream.{Stream}
 use Rattle.rsx_sources.specs.Counts.{AreWithin, CanStep, IsHungry, IsHungryAt, ends_input}
 use Rattle.rsx_sources.specs.Machine.{Incoming, front_of}
-use Rattle.rsx_plain.specs.Laws.{plain_drops, plain_ends, plain_ending_waits, plain_hungry}
+use Rattle.rsx_sources.specs.Steps.{AllocatesAlike}
+use Rattle.rsx_plain.specs.Laws.{plain_popped_alike, plain_drops, plain_ends, plain_ending_waits, plain_hungry}
 use Rattle.rsx_sources.specs.Range.{range_shows}
-use Rattle.rsx_node.specs.Any.{any_comes_out, any_waiting, any_shown, any_takes, any_ended, any_counted, any_wanted}
+use Rattle.rsx_node.specs.Any.{any_comes_out, any_waiting, any_shown, any_takes, any_ended, any_counted, any_wanted, any_popped, any_pop_allocates, any_signal_allocates}
 use Rattle.rsx_node.specs.declared.any_node.AnyNode.{AnyNode}
 use Rattle.rsx_node.specs.declared.any_node.AnyNode.TheVariants.{Items, Range, Plain}
 
@@ -20,6 +21,18 @@ pub any_shows : {T : Type 0} (m : Meaning T) (n : AnyNode T) → any_shown n ≡
 any_shows m (Items n) = refl
 any_shows m (Range n) = range_shows m n
 any_shows m (Plain n) = refl
+
+-- what may allocate stays as a signal is taken out
+pub any_popped_alike : {T : Type 0} (old : AnyNode T) (s : Signal T) (new : AnyNode T) → any_popped old s new → AllocatesAlike any_pop_allocates any_signal_allocates old new
+any_popped_alike (Items n) s (Items k) h a = (refl, refl)
+any_popped_alike (Items n) s (Range k) h a = absurd h
+any_popped_alike (Items n) s (Plain k) h a = absurd h
+any_popped_alike (Range n) s (Items k) h a = absurd h
+any_popped_alike (Range n) s (Range k) h a = (refl, refl)
+any_popped_alike (Range n) s (Plain k) h a = absurd h
+any_popped_alike (Plain n) s (Items k) h a = absurd h
+any_popped_alike (Plain n) s (Range k) h a = absurd h
+any_popped_alike (Plain n) s (Plain k) h a = plain_popped_alike n s k h a
 
 -- what comes in no longer matters once it has ended
 pub any_drops : {T : Type 0} (m : Meaning T) (n : AnyNode T) (inc other : Incoming T) (further : Note) → any_ended n ≡ true → any_comes_out m n inc further ≡ any_comes_out m n other further

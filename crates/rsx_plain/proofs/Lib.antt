@@ -3,4 +3,5 @@ pub mod Counts
 pub mod Drained
 pub mod Residuals
 pub mod Endings
+pub mod Passes
 pub mod Taken

@@ -1,5 +1,5 @@
 -- The laws of a node: what comes in doesn't matter once it has ended, and why it isn't stuck.
-use Rattle.std.specs.Prelude.{◌≡◌, ◌⊎◌, ℕ, zero, suc, ◌+◌, ◌-◌, ◌*◌, ◌<◌, ◌≤◌, min, Bool, true, false, nat_lt, List, [], ◌∷◌, length, slice_get, Option, Some, None, refl}
+use Rattle.std.specs.Prelude.{◌≡◌, ◌⊎◌, ℕ, zero, suc, ◌+◌, ◌*◌, ◌<◌, ◌≤◌, min, Bool, true, false, nat_lt, List, [], ◌∷◌, length, slice_get, Some, None, refl}
 use Rattle.std.proofs.Common.{inl, inr, sym, ap, subst, arith}
 use Rattle.std.proofs.Math.Nat.{mul-le-mul_right}
 use Rattle.std.proofs.lemmas.Bool.Decides.{nat_tests}
@@ -11,14 +11,18 @@ use Rattle.rsx_types.specs.declared.signal.Signal.TheVariants.{Next, Complete, E
 use Rattle.rsx_types.specs.Stream.{Stream, item_then, signals_then}
 use Rattle.rsx_sources.specs.Counts.{CanStep, IsHungry, IsHungryAt, AreWithin, ends_input}
 use Rattle.rsx_sources.specs.Machine.{Incoming, quiet}
+use Rattle.rsx_sources.specs.Steps.{AllocatesAlike}
 use Rattle.rsx_sources.specs.Slot.{is_nil}
-use Rattle.rsx_sources.specs.declared.machine.Front.{Front}
 use Rattle.rsx_plain.specs.Moves.{is_ending}
-use Rattle.rsx_plain.specs.Node.{plain_comes_out, plain_ended, plain_takes, plain_wanted, plain_waiting, plain_counted}
-use Rattle.rsx_plain.specs.State.{plain_from, balanced, is_over, most_asked, wanted_from}
+use Rattle.rsx_plain.specs.Node.{plain_allocates, plain_comes_out, plain_ended, plain_popped, plain_takes, plain_wanted, plain_waiting, plain_counted}
+use Rattle.rsx_plain.specs.State.{allocates_from, plain_from, balanced, is_over, most_asked, wanted_from}
 use Rattle.rsx_plain.specs.declared.node.PlainNode.{PlainNode}
 use Rattle.rsx_plain.specs.declared.state.PlainState.{PlainState}
 use Rattle.rsx_plain.specs.declared.state.PlainState.TheVariants.{Map as MapFrom, Filter as FilterFrom, Take as TakeFrom, Scan as ScanFrom, Buffer as BufferFrom, Distinct as DistinctFrom}
+
+-- what leaves the slot leaves what may allocate as it is
+pub plain_popped_alike : {T : Type 0} (old : PlainNode T) (s : Signal T) (new : PlainNode T) → plain_popped old s new → AllocatesAlike (λ a n. false) plain_allocates old new
+plain_popped_alike old s new h a = (refl, ap (allocates_from a) (sym h.1))
 
 -- where an ending stands in the slot, what the operator would give does not come out
 pub ended_slot : {T : Type 0} (slot : List (Signal T)) (v w : Stream T) → true ≡ list_any is_ending slot → signals_then slot v ≡ signals_then slot w

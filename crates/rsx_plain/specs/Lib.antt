@@ -2,4 +2,5 @@
 pub mod Laws
 pub mod Moves
 pub mod Node
+pub mod Passes
 pub mod State

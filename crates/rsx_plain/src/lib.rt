@@ -9,6 +9,7 @@
 pub mod keys;
 pub mod node;
 pub mod operator;
+mod pass;
 mod reactions;
 mod rest;
 pub mod started;

@@ -3,6 +3,7 @@
 ghost use Rattle.std.specs.Prelude.{◌≡◌};
 
 use crate::operator::Operator;
+use crate::pass::Passing;
 use crate::state::PlainState;
 use rsx_sources::{Front, Machine, NotMade, NotTaken, OutSlot, Passed};
 use rsx_types::{Ending, NoMemory, Note, Ops, Signal, Stage, StreamValue};
@@ -55,8 +56,8 @@ impl<T: Drop> Machine for PlainNode<T> {
     type Item = T;
 
     ghost use Rattle.std.specs.Prelude.{◌≡◌, true, false, refl, IfOk, IfErr, IsOk, IsTrue, OnOk, OnErr};
-    ghost use Rattle.rsx_plain.specs.Laws.{plain_drops, plain_ends, plain_ending_waits, plain_hungry};
-    ghost use Rattle.rsx_types.specs.Meaning.{Meaning};
+    ghost use Rattle.rsx_plain.specs.Laws.{plain_drops, plain_ends, plain_ending_waits, plain_hungry, plain_popped_alike};
+    ghost use Rattle.rsx_types.specs.Meaning.{Meaning, Allocates};
     ghost use Rattle.rsx_types.specs.Notes.{note_then};
     ghost use Rattle.rsx_types.specs.declared.note.Note.{Note};
     ghost use Rattle.rsx_types.specs.declared.note.Note.TheVariants.{Nothing};
@@ -116,6 +117,7 @@ impl<T: Drop> Machine for PlainNode<T> {
         ensures ok { IfOk result (λ s. IsPopped (plain_comes_out (O.meaning ops.now)) plain_popped (plain_waiting (O.meaning ops.now) self.old) self.old s self.new) }
         ensures counted { IfOk result (λ s. CountsOut plain_counted plain_ended (λ n i. false) self.old s self.new) }
         ensures err { OnErr result (self.new ≡ self.old) }
+        ensures state { self.new.state ≡ self.old.state }
         ensures memory { IsOk result }
     {
         match self.slot.pop() {
@@ -171,6 +173,7 @@ impl<T: Drop> Machine for PlainNode<T> {
         ensures counted { OnOk result (CountsIn plain_counted plain_ended (λ n i. false) self.old input signal self.new) }
         ensures err { IfErr result (IsNotTaken (plain_takes self.old input) signal) }
         ensures memory { plain_allocates (O.allocates ops.now) self.old ≡ false → IfErr result (λ e. e ≡ NotTaken.Busy signal) }
+        ensures alike { (a : Allocates) → plain_allocates a self.new ≡ plain_allocates a self.old }
         ensures same { OnErr result (self.new ≡ self.old) }
     {
         if input != 0 || !self.slot.is_empty() {
@@ -182,12 +185,17 @@ impl<T: Drop> Machine for PlainNode<T> {
         }
     }
 
+    #[inline]
     fn pop_item<O: Ops<Item = T>>(&mut self, alloc: Global, ops: &O) -> Option<T> {
-        None
+        self.slot.pop_item()
     }
 
+    #[inline]
     fn pass<O: Ops<Item = T>>(&mut self, alloc: Global, ops: &O, input: u64, item: T) -> Passed<T> {
-        Passed::Declined(item)
+        if !self.can_take(input, Front::Item) {
+            return Passed::Declined(item);
+        }
+        self.state.pass(alloc, ops, item)
     }
 
     fn can_pick(&self, input: u64, asked: u64, sent: u64) -> bool {
@@ -209,7 +217,7 @@ impl<T: Drop> Machine for PlainNode<T> {
         ensures ok { OnOk result (Records (plain_comes_out (O.meaning ops.now)) self.old Nothing self.new) }
         ensures enabled { OnOk result (false ≡ true) }
         ensures err { IfErr result (IsNotMade false) }
-        ensures same { OnErr result (self.new ≡ self.old) }
+        ensures same { self.new ≡ self.old }
     {
         Err(NotMade::NotEnabled)
     }
@@ -228,7 +236,7 @@ impl<T: Drop> Machine for PlainNode<T> {
         ensures ok { OnOk result (Keeps (plain_comes_out (O.meaning ops.now)) self.old self.new) }
         ensures enabled { OnOk result (false ≡ true) }
         ensures err { IfErr result (IsNotMade false) }
-        ensures same { OnErr result (self.new ≡ self.old) }
+        ensures same { self.new ≡ self.old }
     {
         Err(NotMade::NotEnabled)
     }
@@ -274,6 +282,8 @@ impl<T: Drop> Machine for PlainNode<T> {
     }
 
     ghost shows = { λ m n. refl };
+
+    ghost popped_alike = { plain_popped_alike };
 
     ghost drops = { plain_drops };
 

@@ -152,8 +152,9 @@ impl<T: Drop> Machine for ItemsNode<T> {
         Err(NotTaken::Busy(signal))
     }
 
+    #[inline]
     fn pop_item<O: Ops<Item = T>>(&mut self, alloc: Global, ops: &O) -> Option<T> {
-        None
+        self.reversed.pop()
     }
 
     fn pass<O: Ops<Item = T>>(&mut self, alloc: Global, ops: &O, input: u64, item: T) -> Passed<T> {
@@ -230,6 +231,8 @@ impl<T: Drop> Machine for ItemsNode<T> {
     }
 
     ghost shows = { λ m n. refl };
+
+    ghost popped_alike = { λ old s new h a. (refl, refl) };
 
     ghost drops = { λ m n inc other further e. Prim.search rules };
 

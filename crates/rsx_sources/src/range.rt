@@ -161,8 +161,18 @@ impl<T: Drop> Machine for RangeNode<T> {
         Err(NotTaken::Busy(signal))
     }
 
+    #[inline]
     fn pop_item<O: Ops<Item = T>>(&mut self, alloc: Global, ops: &O) -> Option<T> {
-        None
+        if self.at >= self.count {
+            return None;
+        }
+        match ops.from_i64(alloc, number_at(self.first, self.at)) {
+            Ok(item) => {
+                self.at += 1;
+                Some(item)
+            }
+            Err(NoMemory) => None,
+        }
     }
 
     fn pass<O: Ops<Item = T>>(&mut self, alloc: Global, ops: &O, input: u64, item: T) -> Passed<T> {
@@ -238,6 +248,8 @@ impl<T: Drop> Machine for RangeNode<T> {
     }
 
     ghost shows = { range_shows };
+
+    ghost popped_alike = { λ old s new h a. (refl, refl) };
 
     ghost drops = { λ m n inc other further e. Prim.search rules };
 

@@ -1,5 +1,5 @@
 use Rattle.std.proofs.Common.{rules}
-use Rattle.rsx_link.proofs.closed.Held.pop.Goals as goal
+use Rattle.rsx_link.proofs.closed.Remaining.pop.Goals as goal
 
 pub returns-clause-some : goal.returns-clause-some
 returns-clause-some g c = search rules
