@@ -120,11 +120,11 @@ fn takes(alloc: Global) -> Result<(bool, bool), NoMemory> {
 fn items_cross_in_order_and_the_ending_behind_them(rt: HostRuntime) -> Result<(), Fail> {
     let alloc = rt.alloc();
     let all = given(alloc, 3, 9)?;
-    assert_eq!(rt; all.as_slice(), &[2, 4, 6, 0]);
+    assert_eq!(rt; all.as_slice(), [2, 4, 6, 0].as_slice());
     let asked_for = given(alloc, 3, 2)?;
-    assert_eq!(rt; asked_for.as_slice(), &[2, 4]);
+    assert_eq!(rt; asked_for.as_slice(), [2, 4].as_slice());
     let again = put_back(alloc)?;
-    assert_eq!(rt; again.as_slice(), &[1, 2, 3, 0, -1]);
+    assert_eq!(rt; again.as_slice(), [1, 2, 3, 0, -1].as_slice());
     Ok(())
 }
 

@@ -1,2 +1,2 @@
 -- Lemmas about a queue behind a node.
-pub mod Moves
+pub mod Edges

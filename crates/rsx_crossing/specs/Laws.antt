@@ -1,5 +1,5 @@
 -- A node with its queue keeps the laws of a node, where the node inside does.
-use Rattle.std.specs.Prelude.{◌≡◌, ◌⊎◌, ℕ, ◌+◌, ◌<◌, ◌^◌, Bool, true, false, ◌&&◌, ◌||◌, nat_lt, min, List, [], ◌∷◌, length, slice_get, Option, Some, None, option_map, refl}
+use Rattle.std.specs.Prelude.{◌≡◌, ℕ, ◌+◌, ◌<◌, Bool, true, false, ◌&&◌, ◌||◌, nat_lt, min, List, [], ◌∷◌, length, Option, Some, None, option_map, refl}
 use Rattle.std.proofs.Common.{inl, inr, sym, ap, ◌∙◌, subst, arith}
 use Rattle.std.proofs.lemmas.Bool.Decides.{nat_tests}
 use Rattle.rsx_types.specs.declared.note.Note.{Note}
@@ -8,8 +8,9 @@ use Rattle.rsx_types.specs.declared.signal.Signal.TheVariants.{Next, Complete, E
 use Rattle.rsx_types.specs.Meaning.{Meaning}
 use Rattle.rsx_types.specs.Notes.{unchosen}
 use Rattle.rsx_types.specs.Stream.{Stream}
-use Rattle.rsx_sources.specs.Counts.{AreWithin, CanStep, IsHungry, IsHungryAt, ends_input}
+use Rattle.rsx_sources.specs.Counts.{AreWithin, CanStep, IsHungry, ends_input}
 use Rattle.rsx_sources.specs.Machine.{Incoming, front_of}
+use Rattle.rsx_sources.specs.Steps.{AllocatesAlike}
 use Rattle.rsx_sources.specs.declared.machine.Front.{Front}
 use Rattle.rsx_sources.specs.declared.machine.Front.TheVariants.{Item, Completion as CompletionFront, Failure as FailureFront}
 use Rattle.rsx_sources.specs.declared.machine.Machine.{Ghosts as Machine}
@@ -17,7 +18,7 @@ use Rattle.rsx_crossing.specs.declared.queued.Queued.{Queued}
 use Rattle.rsx_crossing.specs.declared.tail.Tail.{Tail}
 use Rattle.rsx_crossing.specs.declared.tail.Tail.TheVariants.{Open, Completion, Failure, Taken}
 use Rattle.rsx_crossing.specs.Held.{is_open, held_then, first_held, first_shown, comes_in_at}
-use Rattle.rsx_crossing.specs.Queued.{out, queued_comes_out, queued_waiting, queued_shown, queued_takes, queued_picks, queued_rows, queued_ended, queued_done, queued_counted, queued_wanted, node_sent, may_go, can_move, pick_of, row_of, is_ended, ended_in}
+use Rattle.rsx_crossing.specs.Queued.{out, queued_comes_out, queued_waiting, queued_shown, queued_takes, queued_picks, queued_rows, queued_ended, queued_done, queued_counted, queued_wanted, queued_popped, queued_allocates, node_sent, may_go, can_move, pick_of, row_of, is_ended, ended_in}
 
 -- ---- the laws of the node inside
 
@@ -71,6 +72,16 @@ ends_in b m n q Taken s inc other further w e = refl
 
 pub queued_ends : {M T : Type 0} (b : Machine M T) (m : Meaning T) (n : Queued M T) (s : Signal T) (inc other : Incoming T) (further : Note) → queued_waiting m n ≡ Some s → ends_input s ≡ true → queued_comes_out b m n inc further ≡ queued_comes_out b m n other further
 queued_ends b m n s inc other further w e = ends_in b m n.node n.queue n.tail s inc other further w e
+
+-- ---- the same calls may allocate
+
+node_stays : {M T : Type 0} (old : Queued M T) (s : Signal T) (new : Queued M T) → queued_popped old s new → old.node ≡ new.node
+node_stays old (Next x) new h = h.0
+node_stays old Complete new h = h.0
+node_stays old (Error c) new h = h.0
+
+pub queued_popped_alike : {M T : Type 0} (b : Machine M T) (old : Queued M T) (s : Signal T) (new : Queued M T) → queued_popped old s new → AllocatesAlike (λ a n. false) (queued_allocates b) old new
+queued_popped_alike b old s new h = λ a. (refl, ap (b.signal_allocates a) (sym (node_stays old s new h)))
 
 -- ---- something comes out
 

@@ -5,9 +5,11 @@
 //! it, and itself a node, proved once over any kind of node. So a tree needs no edge of another kind.
 
 pub mod item_queue;
+pub mod law;
 pub mod queued;
 pub mod tail;
 
 pub use item_queue::{CAPACITY, ItemQueue};
+pub use law::edge;
 pub use queued::Queued;
 pub use tail::Tail;

@@ -83,12 +83,12 @@ impl<M: Machine<Item = T>, T: Drop> Queued<M, T> {
 impl<M: Machine<Item = T>, T: Drop> Machine for Queued<M, T> {
     type Item = T;
 
-    ghost use Rattle.rsx_crossing.specs.Laws.{queued_shows, queued_drops, queued_ends, queued_settles, queued_ending_waits, queued_hungry};
+    ghost use Rattle.rsx_crossing.specs.Laws.{queued_shows, queued_popped_alike, queued_drops, queued_ends, queued_settles, queued_ending_waits, queued_hungry};
     ghost use Rattle.rsx_crossing.specs.Queued.{queued_comes_out, queued_waiting, queued_shown, queued_takes, queued_picks, queued_rows, queued_ended, queued_done, queued_counted, queued_wanted, queued_popped, queued_allocates, can_transfer};
     ghost use Rattle.rsx_crossing.specs.declared.queued.Queued.{Queued};
     ghost use Rattle.rsx_sources.specs.Counts.{CountsIn, CountsStep};
     ghost use Rattle.rsx_sources.specs.Machine.{TakesIn, Keeps, front_of};
-    ghost use Rattle.rsx_sources.specs.Steps.{IsNotTaken, IsNotMade};
+    ghost use Rattle.rsx_sources.specs.Steps.{AllocatesAlike, IsNotTaken, IsNotMade};
     ghost use Rattle.rsx_crossing.specs.Transfer.{IsTransferred};
     ghost use Rattle.std.specs.Prelude.{◌≡◌, true, false, IsOk, OnOk, OnErr, IfErr};
 
@@ -181,6 +181,7 @@ impl<M: Machine<Item = T>, T: Drop> Machine for Queued<M, T> {
         ensures counts { OnOk result (CountsIn (queued_counted M.Machine) (queued_ended M.Machine) (queued_done M.Machine) self.old input signal self.new) }
         ensures err { IfErr result (IsNotTaken (queued_takes M.Machine self.old input (front_of signal)) signal) }
         ensures memory { M.signal_allocates (O.allocates ops.now) self.old.node ≡ false → IfErr result (λ e. e ≡ NotTaken.Busy signal) }
+        ensures alike { AllocatesAlike (λ a n. false) (queued_allocates M.Machine) self.old self.new }
         ensures same { OnErr result (self.new ≡ self.old) }
     {
         if !self.tail.is_open() {
@@ -248,6 +249,7 @@ impl<M: Machine<Item = T>, T: Drop> Machine for Queued<M, T> {
         ensures recorded { M.recorded self.new.node ≡ M.recorded self.old.node }
         ensures counts { OnOk result (CountsStep (queued_counted M.Machine) (queued_ended M.Machine) (queued_done M.Machine) self.old self.new) }
         ensures err { IfErr result (IsNotMade (queued_rows M.Machine self.old asked sent)) }
+        ensures alike { AllocatesAlike (λ a n. false) (queued_allocates M.Machine) self.old self.new }
         ensures same { OnErr result (self.new ≡ self.old) }
 
         // Where a signal can go over the edge, this is the Send over it, and else a row of the node, of which the queue is none.
@@ -318,6 +320,8 @@ impl<M: Machine<Item = T>, T: Drop> Machine for Queued<M, T> {
     }
 
     ghost shows = { queued_shows };
+
+    ghost popped_alike = { λ old s new h. queued_popped_alike M.Machine.own old s new h };
 
     ghost drops = { λ m n inc other further e. queued_drops M.Machine.own m (M.drops m) n inc other further e };
 
