@@ -13,12 +13,12 @@ use Rattle.rsx_sources.specs.Counts.{IsHungry, IsHungryAt, AreWithin}
 use Rattle.rsx_sources.specs.Machine.{Incoming, quiet}
 use Rattle.rsx_sources.specs.Slot.{is_nil}
 use Rattle.rsx_sources.specs.declared.machine.Front.{Front}
-use Rattle.rsx_plain.specs.Moves.{is_ending}
+use Rattle.rsx_operators.specs.Moves.{is_ending}
 use Rattle.rsx_plain.specs.Node.{plain_comes_out, plain_ended, plain_takes, plain_wanted, plain_waiting, plain_counted}
-use Rattle.rsx_plain.specs.State.{plain_from, balanced, is_over, most_asked, wanted_from}
+use Rattle.rsx_operators.specs.State.{plain_from, balanced, is_over, most_asked, wanted_from}
 use Rattle.rsx_plain.specs.declared.node.PlainNode.{PlainNode}
-use Rattle.rsx_plain.specs.declared.state.PlainState.{PlainState}
-use Rattle.rsx_plain.specs.declared.state.PlainState.TheVariants.{Map as MapFrom, Filter as FilterFrom, Take as TakeFrom, Scan as ScanFrom, Buffer as BufferFrom, Distinct as DistinctFrom}
+use Rattle.rsx_operators.specs.declared.state.PlainState.{PlainState}
+use Rattle.rsx_operators.specs.declared.state.PlainState.TheVariants.{Map as MapFrom, Filter as FilterFrom, Take as TakeFrom, Scan as ScanFrom, Buffer as BufferFrom, Distinct as DistinctFrom}
 
 -- where an ending stands in the slot, what the operator would give does not come out
 pub ended_slot : {T : Type 0} (slot : List (Signal T)) (v w : Stream T) → true ≡ list_any is_ending slot → signals_then slot v ≡ signals_then slot w

@@ -1,5 +1,3 @@
 -- Definitions that contracts cite.
 pub mod Laws
-pub mod Moves
 pub mod Node
-pub mod State
