@@ -1,8 +1,8 @@
 use Rattle.std.proofs.Common.{◌≡◌, ◌∙◌, ap, sym, length, arith}
 use Rattle.std.specs.Vec.Iter.{into_iter_items}
 use Rattle.rsx_types.specs.Plain.{distinct_items}
-use Rattle.rsx_model.proofs.Steps.{item_out, none_out, all_out, none_left, distinct_new, distinct_known, distinct_fault}
-use Rattle.rsx_model.proofs.plain.distinct_items.Goals as goal
+use Rattle.rsx_values.proofs.Steps.{item_out, none_out, all_out, none_left, distinct_new, distinct_known, distinct_fault}
+use Rattle.rsx_values.proofs.plain.distinct_items.Goals as goal
 
 pub loop-x-preserved-in-Continue-branch-2 : goal.loop-x-preserved-in-Continue-branch-2
 loop-x-preserved-in-Continue-branch-2 g c =

@@ -3,7 +3,7 @@ use Rattle.rsx_types.specs.declared.signal.Ending.{Ending}
 use Rattle.rsx_types.specs.declared.signal.Ending.TheVariants.{Done}
 use Rattle.rsx_types.specs.Stream.{item_then}
 use Rattle.rsx_types.specs.Plain.{taken_items}
-use Rattle.rsx_model.proofs.plain.take_items.Goals as goal
+use Rattle.rsx_values.proofs.plain.take_items.Goals as goal
 
 taken_of_fewer : {T : Type 0} (n : ℕ) (xs : List T) (e : Ending) → length xs < n → taken_items n xs e ≡ record { items = xs; ending = e }
 taken_of_fewer zero xs e few = absurd (omega (arith, few))

@@ -2,8 +2,8 @@ use Rattle.std.proofs.Common.{◌∙◌, ◌+◌, ap, refl, drop}
 use Rattle.std.proofs.lemmas.List.{at_drop_all}
 use Rattle.rsx_types.specs.Stream.{item_then}
 use Rattle.rsx_types.specs.Plain.{scanned_items}
-use Rattle.rsx_model.proofs.Steps.{item_out, all_out, item_at, scanned_item}
-use Rattle.rsx_model.proofs.plain.scan_items.Goals as goal
+use Rattle.rsx_values.proofs.Steps.{item_out, all_out, item_at, scanned_item}
+use Rattle.rsx_values.proofs.plain.scan_items.Goals as goal
 
 pub loop-x-preserved : goal.loop-x-preserved
 loop-x-preserved g c =

@@ -1,7 +1,7 @@
 use Rattle.std.proofs.Common.{◌≡◌, drop}
 use Rattle.rsx_types.specs.Stream.{item_then, items_then}
 use Rattle.rsx_types.specs.Plain.{scanned_items}
-use Rattle.rsx_model.proofs.plain.scan_items.Given as goal
+use Rattle.rsx_values.proofs.plain.scan_items.Given as goal
 
 abbrev pub invariant-loop-x : goal.invariant-loop-x
 invariant-loop-x g l =

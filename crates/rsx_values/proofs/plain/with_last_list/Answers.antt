@@ -1,8 +1,8 @@
 use Rattle.std.proofs.Common.{◌≡◌, ◌<◌, ◌∙◌, ◌++◌, ◌∷◌, [], ap, refl, length, arith}
 use Rattle.rsx_types.specs.declared.signal.Ending.TheVariants.{Done}
 use Rattle.rsx_types.specs.Plain.{last_list}
-use Rattle.rsx_model.proofs.Steps.{item_out, all_out, last_of_none, last_of_some}
-use Rattle.rsx_model.proofs.plain.with_last_list.Goals as goal
+use Rattle.rsx_values.proofs.Steps.{item_out, all_out, last_of_none, last_of_some}
+use Rattle.rsx_values.proofs.plain.with_last_list.Goals as goal
 
 pub returns-then-is_empty : goal.returns-then-is_empty
 returns-then-is_empty g c =

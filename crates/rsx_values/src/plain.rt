@@ -8,8 +8,12 @@ use indexmap::IndexSet;
 use rsx_types::{Cause, Ending, Fault, NoMemory, Ops, Stage, StreamValue};
 use std::alloc::Global;
 
-/// One plain operator over a whole value.
-pub(crate) fn apply<O: Ops>(
+/// The value that a plain operator gives for a whole input. A fault of a function of the caller is its ending.
+///
+/// # Errors
+///
+/// [`NoMemory`] where a growth was refused, in a function of the caller too.
+pub fn apply<O: Ops>(
     alloc: Global,
     ops: &O,
     stage: &Stage<O::Item>,
@@ -192,8 +196,12 @@ fn cut_by<T>(items: Vec<T>, fault: u32) -> StreamValue<T>
     StreamValue::new(items, Ending::Failed(Cause::Function(fault)))
 }
 
-/// Copies of the items.
-pub(crate) fn copies_of<O: Ops>(
+/// Copies of the items, in their order.
+///
+/// # Errors
+///
+/// [`NoMemory`] where a growth was refused, in `Ops::copy` too.
+pub fn copies_of<O: Ops>(
     alloc: Global,
     ops: &O,
     items: &[O::Item],
@@ -207,8 +215,12 @@ pub(crate) fn copies_of<O: Ops>(
     Ok(out)
 }
 
-/// So many numbers, from the first on.
-pub(crate) fn range_list<O: Ops>(
+/// The items of so many numbers, from the first on: at most 1,000,000, the last at most 2^63-1.
+///
+/// # Errors
+///
+/// [`NoMemory`] where a growth was refused, in `Ops::from_i64` too.
+pub fn range_list<O: Ops>(
     alloc: Global,
     ops: &O,
     first: i64,

@@ -1,7 +1,7 @@
 use Rattle.std.proofs.Common.{◌≡◌, drop}
 use Rattle.rsx_types.specs.Stream.{items_then}
 use Rattle.rsx_types.specs.Plain.{mapped_items}
-use Rattle.rsx_model.proofs.plain.map_items.Given as goal
+use Rattle.rsx_values.proofs.plain.map_items.Given as goal
 
 abbrev pub invariant-loop-x : goal.invariant-loop-x
 invariant-loop-x g l =

@@ -2,7 +2,7 @@ use Rattle.std.proofs.Common.{◌≡◌}
 use Rattle.std.specs.Vec.Iter.{into_iter_items}
 use Rattle.rsx_types.specs.Stream.{items_then}
 use Rattle.rsx_types.specs.Plain.{filtered_items}
-use Rattle.rsx_model.proofs.plain.filter_items.Given as goal
+use Rattle.rsx_values.proofs.plain.filter_items.Given as goal
 
 abbrev pub invariant-loop-x : goal.invariant-loop-x
 invariant-loop-x g l =
