@@ -5,11 +5,11 @@ use Rattle.rsx_types.specs.declared.signal.Signal.{Signal}
 use Rattle.rsx_types.specs.declared.signal.Signal.TheVariants.{Next, Complete, Error}
 use Rattle.rsx_sources.specs.Counts.{CountsIn, CountsOut, ends_input, taken_after}
 use Rattle.rsx_sources.specs.Slot.{is_nil}
-use Rattle.rsx_plain.specs.Moves.{has_ending}
+use Rattle.rsx_operators.specs.Moves.{has_ending}
 use Rattle.rsx_plain.specs.Node.{plain_ended, plain_takes, plain_popped, plain_counted}
-use Rattle.rsx_plain.specs.State.{balanced, is_over, Counts}
+use Rattle.rsx_operators.specs.State.{balanced, is_over, Counts}
 use Rattle.rsx_plain.specs.declared.node.PlainNode.{PlainNode}
-use Rattle.rsx_plain.specs.declared.state.PlainState.{PlainState}
+use Rattle.rsx_operators.specs.declared.state.PlainState.{PlainState}
 
 both : (b : Bool) → b ≡ true → b ≡ false → ⊥
 both b x y = cc

@@ -9,14 +9,14 @@ use Rattle.rsx_sources.specs.Slot.{is_nil}
 use Rattle.rsx_sources.specs.Passed.{IsItemOut, IsPassed, IsTakenIn}
 use Rattle.rsx_sources.specs.declared.machine.Passed.{Passed}
 use Rattle.rsx_sources.specs.declared.machine.Passed.TheVariants.{Item, Kept, Declined}
-use Rattle.rsx_plain.specs.Moves.{has_ending}
+use Rattle.rsx_operators.specs.Moves.{has_ending}
 use Rattle.rsx_plain.specs.Node.{plain_comes_out, plain_waiting, plain_takes, plain_popped, plain_ended, plain_counted}
 use Rattle.rsx_plain.specs.Passes.{IsAnswered, IsAnsweredBy}
-use Rattle.rsx_plain.specs.State.{is_over}
+use Rattle.rsx_operators.specs.State.{is_over}
 use Rattle.rsx_plain.specs.declared.node.PlainNode.{PlainNode}
-use Rattle.rsx_plain.specs.declared.state.PlainState.{PlainState}
+use Rattle.rsx_operators.specs.declared.state.PlainState.{PlainState}
 use Rattle.rsx_plain.proofs.Balance.{is_zero, left_of, nil_of, right_of, plain_counts_in, plain_counts_out}
-use Rattle.rsx_plain.proofs.Counts.{counts}
+use Rattle.rsx_operators.proofs.Counts.{counts}
 
 abbrev node : {T : Type 0} → PlainState T → List (Signal T) → PlainNode T
 node state slot = record { state = state; slot = slot }

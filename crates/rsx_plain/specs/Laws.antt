@@ -13,12 +13,12 @@ use Rattle.rsx_sources.specs.Counts.{CanStep, IsHungry, IsHungryAt, AreWithin, e
 use Rattle.rsx_sources.specs.Machine.{Incoming, quiet}
 use Rattle.rsx_sources.specs.Steps.{AllocatesAlike}
 use Rattle.rsx_sources.specs.Slot.{is_nil}
-use Rattle.rsx_plain.specs.Moves.{is_ending}
+use Rattle.rsx_operators.specs.Moves.{is_ending}
 use Rattle.rsx_plain.specs.Node.{plain_allocates, plain_comes_out, plain_ended, plain_popped, plain_takes, plain_wanted, plain_waiting, plain_counted}
-use Rattle.rsx_plain.specs.State.{allocates_from, plain_from, balanced, is_over, most_asked, wanted_from}
+use Rattle.rsx_operators.specs.State.{allocates_from, plain_from, balanced, is_over, most_asked, wanted_from}
 use Rattle.rsx_plain.specs.declared.node.PlainNode.{PlainNode}
-use Rattle.rsx_plain.specs.declared.state.PlainState.{PlainState}
-use Rattle.rsx_plain.specs.declared.state.PlainState.TheVariants.{Map as MapFrom, Filter as FilterFrom, Take as TakeFrom, Scan as ScanFrom, Buffer as BufferFrom, Distinct as DistinctFrom}
+use Rattle.rsx_operators.specs.declared.state.PlainState.{PlainState}
+use Rattle.rsx_operators.specs.declared.state.PlainState.TheVariants.{Map as MapFrom, Filter as FilterFrom, Take as TakeFrom, Scan as ScanFrom, Buffer as BufferFrom, Distinct as DistinctFrom}
 
 -- what leaves the slot leaves what may allocate as it is
 pub plain_popped_alike : {T : Type 0} (old : PlainNode T) (s : Signal T) (new : PlainNode T) → plain_popped old s new → AllocatesAlike (λ a n. false) plain_allocates old new

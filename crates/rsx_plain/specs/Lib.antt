@@ -1,6 +1,4 @@
 -- Definitions that contracts cite.
 pub mod Laws
-pub mod Moves
 pub mod Node
 pub mod Passes
-pub mod State

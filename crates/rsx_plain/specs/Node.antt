@@ -11,8 +11,8 @@ use Rattle.rsx_sources.specs.Machine.{Incoming, quiet, front_of}
 use Rattle.rsx_sources.specs.declared.machine.Front.{Front}
 use Rattle.rsx_sources.specs.Slot.{is_nil}
 use Rattle.rsx_plain.specs.declared.node.PlainNode.{PlainNode}
-use Rattle.rsx_plain.specs.Moves.{has_ending}
-use Rattle.rsx_plain.specs.State.{plain_from, wanted_from, allocates_from, balanced, is_over}
+use Rattle.rsx_operators.specs.Moves.{has_ending}
+use Rattle.rsx_operators.specs.State.{plain_from, wanted_from, allocates_from, balanced, is_over}
 
 -- what stands in the slot at the start: the seed of `scan`, and the completion of `take 0`
 abbrev pub start_slot : {T : Type 0} → Stage T → List (Signal T)

@@ -2,9 +2,8 @@
 
 ghost use Rattle.std.specs.Prelude.{◌≡◌};
 
-use crate::operator::Operator;
 use crate::pass::Passing;
-use crate::state::PlainState;
+use rsx_operators::{Operator, PlainState};
 use rsx_sources::{Front, Machine, NotMade, NotTaken, OutSlot, Passed};
 use rsx_types::{Ending, NoMemory, Note, Ops, Signal, Stage, StreamValue};
 use std::alloc::Global;
@@ -24,7 +23,7 @@ impl<T: Drop> PlainNode<T> {
     ghost use Rattle.rsx_types.specs.Plain.{plain};
     ghost use Rattle.rsx_types.specs.declared.note.Note.{Note};
     ghost use Rattle.rsx_sources.specs.Machine.{Incoming, quiet};
-    ghost use Rattle.rsx_plain.specs.State.{plain_start};
+    ghost use Rattle.rsx_operators.specs.State.{plain_start};
     ghost use Rattle.rsx_plain.specs.Node.{plain_comes_out, start_slot, plain_ended};
 
     /// The node of an operator before it has taken anything. Its slot begins with the seed of `scan`, or the completion of
@@ -65,7 +64,7 @@ impl<T: Drop> Machine for PlainNode<T> {
     ghost use Rattle.rsx_sources.specs.Machine.{Incoming, TakesIn, Keeps, Records, incoming_of};
     ghost use Rattle.rsx_sources.specs.Steps.{IsPopped, IsNotTaken, IsNotMade};
     ghost use Rattle.rsx_plain.specs.Node.{plain_comes_out, plain_waiting, plain_shown, plain_takes, plain_wanted, plain_popped, plain_ended, plain_allocates, plain_counted};
-    ghost use Rattle.rsx_plain.specs.State.{is_over, after_signal, Counts};
+    ghost use Rattle.rsx_operators.specs.State.{is_over, after_signal, Counts};
     ghost use Rattle.rsx_plain.specs.declared.node.PlainNode.{PlainNode};
 
     ghost comes_out = { plain_comes_out };

@@ -1,18 +1,16 @@
 //! An item that goes through a plain operator in one go, without its out slot.
 //!
 //! An operator declines what it would answer with more than an item: a fault of the caller's function, and the last item of
-//! a `take`. It answers those by [`react`](crate::Operator::react).
+//! a `take`. It answers those by [`react`](rsx_operators::Operator::react).
 
 ghost use Rattle.std.specs.Prelude.{◌+◌, ◌≤◌, ℕ, length};
 ghost use Rattle.rsx_types.specs.Meaning.{Meaning};
 ghost use Rattle.rsx_plain.specs.Passes.{IsAnswered};
-ghost use Rattle.rsx_plain.specs.declared.state.PlainState.{PlainState as StateSpec};
-ghost use Rattle.rsx_plain.specs.declared.state.PlainState.TheVariants.{Map as MapFrom, Filter as FilterFrom, Take as TakeFrom, Scan as ScanFrom, Buffer as BufferFrom, Distinct as DistinctFrom};
+ghost use Rattle.rsx_operators.specs.declared.state.PlainState.{PlainState as StateSpec};
+ghost use Rattle.rsx_operators.specs.declared.state.PlainState.TheVariants.{Map as MapFrom, Filter as FilterFrom, Take as TakeFrom, Scan as ScanFrom, Buffer as BufferFrom, Distinct as DistinctFrom};
 
-use crate::keys::Keys;
-use crate::reactions::MOST;
-use crate::started::Started;
-use crate::state::PlainState;
+use rsx_collections::{Buffered, Keys};
+use rsx_operators::{MOST_ASKED, PlainState};
 use rsx_sources::Passed;
 use rsx_types::{NoMemory, Ops};
 use std::alloc::Global;
@@ -41,8 +39,8 @@ impl<T: Drop> Passing<T> for PlainState<T> {
             }
             PlainState::Take { count: _, left } => item.through_take(left),
             PlainState::Scan { function, last } => item.through_scan(alloc, ops, *function, last),
-            PlainState::Buffer { size, started } => {
-                item.through_buffer(alloc, ops, *size, started)
+            PlainState::Buffer { size, gathered } => {
+                item.through_buffer(alloc, ops, *size, gathered)
             }
             PlainState::Distinct {
                 function,
@@ -88,9 +86,9 @@ trait Through: Drop {
         alloc: Global,
         ops: &O,
         size: u64,
-        started: &mut Started<Self>,
+        gathered: &mut Buffered<Self>,
     ) -> Passed<Self>
-        ensures { IsAnswered (O.meaning ops.now) (BufferFrom size started.old) self result (BufferFrom size started.new) };
+        ensures { IsAnswered (O.meaning ops.now) (BufferFrom size gathered.old) self result (BufferFrom size gathered.new) };
 
     /// The list that becomes full with the item.
     fn through_full_buffer<O: Ops<Item = Self>>(
@@ -98,10 +96,10 @@ trait Through: Drop {
         alloc: Global,
         ops: &O,
         size: u64,
-        started: &mut Started<Self>,
+        gathered: &mut Buffered<Self>,
     ) -> Passed<Self>
-        requires { size ≤ length started.old + 1 }
-        ensures { IsAnswered (O.meaning ops.now) (BufferFrom size started.old) self result (BufferFrom size started.new) };
+        requires { size ≤ length gathered.old + 1 }
+        ensures { IsAnswered (O.meaning ops.now) (BufferFrom size gathered.old) self result (BufferFrom size gathered.new) };
 
     /// The item where its key is new; where its key was seen it is counted.
     fn through_distinct<O: Ops<Item = Self>>(
@@ -131,7 +129,7 @@ impl<T: Drop> Through for T {
         match ops.test(function, &self) {
             Ok(true) => Passed::Item(self),
             Ok(false) => {
-                *dropped = dropped.saturating_add(1).min(MOST);
+                *dropped = dropped.saturating_add(1).min(MOST_ASKED);
                 Passed::Kept
             }
             Err(_) => Passed::Declined(self),
@@ -170,12 +168,12 @@ impl<T: Drop> Through for T {
         alloc: Global,
         ops: &O,
         size: u64,
-        started: &mut Started<T>,
+        gathered: &mut Buffered<T>,
     ) -> Passed<T> {
-        if (started.items().len() as u64) >= size.saturating_sub(1) {
-            return self.through_full_buffer(alloc, ops, size, started);
+        if (gathered.items().len() as u64) >= size.saturating_sub(1) {
+            return self.through_full_buffer(alloc, ops, size, gathered);
         }
-        match started.push(self) {
+        match gathered.push(self) {
             Ok(()) => Passed::Kept,
             Err(item) => Passed::Declined(item),
         }
@@ -188,17 +186,17 @@ impl<T: Drop> Through for T {
         alloc: Global,
         ops: &O,
         size: u64,
-        started: &mut Started<T>,
+        gathered: &mut Buffered<T>,
     ) -> Passed<T> {
-        if let Err(item) = started.push(self) {
+        if let Err(item) = gathered.push(self) {
             return Passed::Declined(item);
         }
-        match ops.list(alloc, started.items()) {
+        match ops.list(alloc, gathered.items()) {
             Ok(list) => {
-                started.clear();
+                gathered.clear();
                 Passed::Item(list)
             }
-            Err(NoMemory) => match started.pop() {
+            Err(NoMemory) => match gathered.pop() {
                 Some(item) => Passed::Declined(item),
                 None => Passed::Kept,
             },
@@ -216,7 +214,7 @@ impl<T: Drop> Through for T {
             Ok(key) => match keys.note(key) {
                 Ok(false) => Passed::Item(self),
                 Ok(true) => {
-                    *repeated = repeated.saturating_add(1).min(MOST);
+                    *repeated = repeated.saturating_add(1).min(MOST_ASKED);
                     Passed::Kept
                 }
                 Err(NoMemory) => Passed::Declined(self),

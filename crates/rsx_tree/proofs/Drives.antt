@@ -418,7 +418,7 @@ advanced {M} b m r r' asked sent at ends t mid h = elim h [
   ]
 ]
 
-tree_run : {M T : Type 0} (b : Machine M T) (m : Meaning T) (k asked sent : ℕ) (r r' : M) (t t' : Inputs M) → IsRowRun b m false k 0 asked sent r t r' t' → IsDriven b m false k (node r t) asked sent (node r' t')
+pub tree_run : {M T : Type 0} (b : Machine M T) (m : Meaning T) (k asked sent : ℕ) (r r' : M) (t t' : Inputs M) → IsRowRun b m false k 0 asked sent r t r' t' → IsDriven b m false k (node r t) asked sent (node r' t')
 tree_run b m zero asked sent r r' t t' h = ap (λ x. node x t') h.0 ∙ ap (λ x. node r x) h.1
 tree_run b m (suc k) asked sent r r' t t' h = (node h.1 h.2, advanced b m r h.1 asked sent h.0 false t h.2 h.3, tree_run b m k asked sent h.1 r' h.2 t' h.4)
 
@@ -440,14 +440,14 @@ tree_driven {M} b m k true asked sent r r' t t' h =
     let Q : ℕ → Type 0 = λ j. IsDriven b m false j (node r t) asked sent (node r' (closed_row_if true t')) in
     subst Q (sym h.count) (tree_then b m h.before 1 (node r t) (node h.r1 h.t1) (node r' (closed_row_if true t')) asked sent (tree_run b m h.before asked sent r h.r1 t h.t1 h.run) (node r' (closed_row_if true t'), advanced b m h.r1 r' asked sent h.at true h.t1 t' h.last, refl))
 
-kept_run : {M T : Type 0} (b : Machine M T) (m : Meaning T) (k : ℕ) (x y : Node M) (asked sent : ℕ) → IsDriven b m false k x asked sent y → IsKept b m x y
+pub kept_run : {M T : Type 0} (b : Machine M T) (m : Meaning T) (k : ℕ) (x y : Node M) (asked sent : ℕ) → IsDriven b m false k x asked sent y → IsKept b m x y
 kept_run {M} b m zero x y asked sent h = let Q : Node M → Type 0 = λ t. IsKept b m x t in subst Q (sym h) (record { value = λ hubs further at. refl; notes = refl })
 kept_run b m (suc k) x y asked sent h =
     let rest = kept_run b m k h.0 y asked sent h.2 in
     let one = h.1.kept refl in
     record { value = λ hubs further at. rest.value hubs further at ∙ one.value hubs further at; notes = rest.notes ∙ one.notes }
 
-balance_run : {M T : Type 0} (b : Machine M T) (m : Meaning T) (k : ℕ) (x y : Node M) (asked sent : ℕ) → IsDriven b m false k x asked sent y → (s : ℕ) → IsBalanced b x s → IsBalanced b y s
+pub balance_run : {M T : Type 0} (b : Machine M T) (m : Meaning T) (k : ℕ) (x y : Node M) (asked sent : ℕ) → IsDriven b m false k x asked sent y → (s : ℕ) → IsBalanced b x s → IsBalanced b y s
 balance_run {M} b m zero x y asked sent h s w = let Q : Node M → Type 0 = λ t. IsBalanced b t s in subst Q (sym h) w
 balance_run b m (suc k) x y asked sent h s w = balance_run b m k h.0 y asked sent h.2 s (h.1.balance refl s w)
 
