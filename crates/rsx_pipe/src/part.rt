@@ -28,9 +28,9 @@ pub enum Pumped {
 #[derive(Drop)]
 pub struct Part<T> {
     /// The tree.
-    pub tree: Node<AnyNode<T>>,
+    tree: Node<AnyNode<T>>,
     /// The edge from the tree's root to its receiver.
-    pub root: Edge,
+    root: Edge,
 }
 
 impl<T: Drop> Part<T> {
