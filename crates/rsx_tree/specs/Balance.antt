@@ -44,13 +44,3 @@ IsRowWithin (More' e n p below q beside) = (e.demand.sent < 9223372036854775807)
 -- nor has an edge below the root; and each node below it has a number
 abbrev pub IsWithin : {M : Type 0} → Node M → Type 0
 IsWithin t = (size t.inputs + 1 < 2 ^ 32) × IsRowWithin t.inputs
-
--- no node of the row can pick or make a row
-abbrev pub IsRowStill : {M T : Type 0} → Machine M T → Inputs M → Type 0
-IsRowStill b End = ⊤
-IsRowStill b (More' e n p below q beside) =
-    ((j : ℕ) → j < 2 ^ 64 → b.picks n j e.demand.asked e.demand.sent ≡ false) × (b.rows n e.demand.asked e.demand.sent ≡ false) × IsRowStill b below × IsRowStill b beside
-
--- nor can one of the tree, where so much is asked of the root and was sent by it
-abbrev pub IsStill : {M T : Type 0} → Machine M T → Node M → ℕ → ℕ → Type 0
-IsStill b t asked sent = ((j : ℕ) → j < 2 ^ 64 → b.picks t.machine j asked sent ≡ false) × (b.rows t.machine asked sent ≡ false) × IsRowStill b t.inputs
