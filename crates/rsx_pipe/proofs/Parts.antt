@@ -31,6 +31,7 @@ use Rattle.rsx_pipe.specs.declared.part.Pumped.TheVariants.{Idle, Budget}
 use Rattle.rsx_node.specs.Any.{any_machine}
 use Rattle.rsx_tree.specs.Stepped.{station}
 use Rattle.rsx_tree.proofs.Drives.{chosen_run}
+use Rattle.rsx_tree.proofs.Effects.{length_edges}
 use Rattle.rsx_tree.proofs.Noted.{kept_chosen}
 use Rattle.rsx_node.specs.Laws.{any_ending_waits, any_hungry}
 use Rattle.rsx_tree.specs.Inputs.{size, wanted_at, can_ask_in, can_send_in, edges as edges_in}
@@ -421,10 +422,13 @@ awake_root m part queue h = (Send (Sub (record { 0 = 0 })) (record { 0 = 0 }), o
 
 -- ---- idle means delivered
 
-idle_tree : {T : Type 0} (m : Meaning T) (part : Part T) (queue : List (Signal T)) → IsQuiet m part queue → IsWithin part.tree → IsIdle m part.tree part.root.demand.asked part.root.demand.sent
-idle_tree {T} m part queue q within at lt = elim (less_or_more at (size part.tree.inputs)) [
+few_below : {T : Type 0} (part : Part T) → length (all_edges part) ≤ 256 → size part.tree.inputs < 256
+few_below part few = let len = length_edges part.tree.inputs in omega (arith, len, few)
+
+idle_tree : {T : Type 0} (m : Meaning T) (part : Part T) (queue : List (Signal T)) → IsQuiet m part queue → length (all_edges part) ≤ 256 → IsIdle m part.tree part.root.demand.asked part.root.demand.sent
+idle_tree {T} m part queue q few at lt = elim (less_or_more at (size part.tree.inputs)) [
   | inl w ↦
-      let small = within.0 in
+      let small : size part.tree.inputs < 256 = few_below part few in
       let a = q (Ask (Sub (record { 0 = 0 })) (record { 0 = at + 1 })) (omega (arith, w, small)) in
       let s = q (Send (Sub (record { 0 = 0 })) (record { 0 = at + 1 })) (omega (arith, w, small)) in (
         sym (ap (λ k. can_ask part.tree k part.root.demand.asked part.root.demand.sent) (suc_minus at)) ∙ (sym (above_zero at false (can_ask part.tree ((at + 1) - 1) part.root.demand.asked part.root.demand.sent)) ∙ a),
@@ -439,9 +443,9 @@ idle_tree {T} m part queue q within at lt = elim (less_or_more at (size part.tre
 ]
 
 -- over a live root edge with room behind it all that was asked for went
-sent_all_asked : {T : Type 0} (m : Meaning T) (part : Part T) (queue : List (Signal T)) → IsQuiet m part queue → part.root.state ≡ Live → length queue < 64 → IsBalanced part.tree part.root.demand.sent → IsWithin part.tree → part.root.demand.sent < part.root.demand.asked → ⊥
-sent_all_asked m part queue q live room b w less =
-    let s = idle_offers any_machine m (any_ending_waits m) (any_hungry m) part.tree part.root.demand.asked part.root.demand.sent (idle_tree m part queue q w) ((λ j l. refl), refl) b less w in
+sent_all_asked : {T : Type 0} (m : Meaning T) (part : Part T) (queue : List (Signal T)) → IsQuiet m part queue → part.root.state ≡ Live → length queue < 64 → IsBalanced part.tree part.root.demand.sent → length (all_edges part) ≤ 256 → IsWithin part.tree → part.root.demand.sent < part.root.demand.asked → ⊥
+sent_all_asked m part queue q live room b few w less =
+    let s = idle_offers any_machine m (any_ending_waits m) (any_hungry m) part.tree part.root.demand.asked part.root.demand.sent (idle_tree m part queue q few) ((λ j l. refl), refl) b less (let k = few_below part few in omega (arith, k)) w in
     let r : has_room queue ≡ true = grind (arith, nat_tests, room) in
     let goes : send_enabled m part queue 0 ≡ true = rw (r, s.1) (can_pass_live (edge_view part.root) (front_of s.0) (ap is_live live) less) in
     never (send_enabled m part queue 0) goes (q (Send (Sub (record { 0 = 0 })) (record { 0 = 0 })) (omega arith))
@@ -471,9 +475,9 @@ pub value_now : {T : Type 0} (m : Meaning T) (published : List (Stream T)) (part
     option_map (signals_then output) (comes_out m (values_then published []) (map unchosen (notes_of part.tree)) part.tree 0) ≡ Some v
 value_now m published part e joins output v h x = h.value [] (map unchosen (notes_of part.tree)) (unchosen_notes (notes_of part.tree)) ∙ now_published m published e joins (notes_of part.tree) v x
 
-served_live : {T : Type 0} (m : Meaning T) (published : List (Stream T)) (part : Part T) (queue : List (Signal T)) (e : Expr T) (joins : List ℕ) (output : List (Signal T)) → IsQuiet m part queue → part.root.state ≡ Live → length queue < 64 → IsWithin part.tree → PartStands m published part e joins output → (v : Stream T) → evaluated m published joins e (notes_of part.tree) ≡ Some v → IsServed part output v
-served_live m published part queue e joins output q live room w h v x =
-    let full : part.root.demand.asked ≤ part.root.demand.sent = not_less part.root.demand.sent part.root.demand.asked (sent_all_asked m part queue q live room (h.balance live) w) in
+served_live : {T : Type 0} (m : Meaning T) (published : List (Stream T)) (part : Part T) (queue : List (Signal T)) (e : Expr T) (joins : List ℕ) (output : List (Signal T)) → IsQuiet m part queue → part.root.state ≡ Live → length queue < 64 → length (all_edges part) ≤ 256 → IsWithin part.tree → PartStands m published part e joins output → (v : Stream T) → evaluated m published joins e (notes_of part.tree) ≡ Some v → IsServed part output v
+served_live m published part queue e joins output q live room few w h v x =
+    let full : part.root.demand.asked ≤ part.root.demand.sent = not_less part.root.demand.sent part.root.demand.asked (sent_all_asked m part queue q live room (h.balance live) few w) in
     let within = part.root.demand.covered in
     let counted = h.counted in
     let count : length (items_in output) ≡ part.root.demand.asked = omega (arith, full, within, counted) in
@@ -498,10 +502,10 @@ served_ended m published part e joins output s h v x =
     }
 
 pub delivered : {T : Type 0} (m : Meaning T) (part : Part T) (queue : List (Signal T)) → IsQuiet m part queue → IsDelivered m part queue
-delivered {T} m part queue q published e joins output h unclosed room w v x = by_state part.root.state refl
+delivered {T} m part queue q published e joins output h unclosed room few w v x = by_state part.root.state refl
   where
     by_state : (s : EdgeState) → part.root.state ≡ s → IsServed part output v
-    by_state Live s = served_live m published part queue e joins output q s room w h v x
+    by_state Live s = served_live m published part queue e joins output q s room few w h v x
     by_state Ended s = served_ended m published part e joins output s h v x
     by_state Closed s = absurd (unclosed s)
 

@@ -111,6 +111,6 @@ IsBalanced t sent = Counts.IsBalanced any_machine t sent
 abbrev pub IsBalancedAfter : {T : Type 0} → Signal T → AnyTree T → ℕ → Type 0
 IsBalancedAfter s t sent = Counts.IsBalancedAfter any_machine s t sent
 
--- no edge below the root has carried as many items as can be asked for, and each node below it has a number
+-- no edge below the root has carried as many items as can be asked for
 abbrev pub IsWithin : {T : Type 0} → AnyTree T → Type 0
 IsWithin t = Counts.IsWithin t

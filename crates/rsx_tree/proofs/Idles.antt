@@ -177,11 +177,11 @@ none_hungry {M} {T} b m waits hungers r i asked sent (More' e n p below q beside
     ]
 
 -- an idle tree of which more is asked than it sent offers a signal
-pub idle_offers : {M T : Type 0} (b : Machine M T) (m : Meaning T) → Waits b m → Hungers b m → (t : Node M) (asked sent : ℕ) → IsIdle b m t asked sent → IsNodeStill b t.machine asked sent → IsBalanced b t sent → sent < asked → IsWithin t → (s : Signal T) × (offers b m t ≡ Some s)
-idle_offers {M} {T} b m waits hungers t asked sent idle still balanced more within = by_offer (offers b m t) refl
+pub idle_offers : {M T : Type 0} (b : Machine M T) (m : Meaning T) → Waits b m → Hungers b m → (t : Node M) (asked sent : ℕ) → IsIdle b m t asked sent → IsNodeStill b t.machine asked sent → IsBalanced b t sent → sent < asked → size t.inputs ≤ 2 ^ 64 → IsWithin t → (s : Signal T) × (offers b m t ≡ Some s)
+idle_offers {M} {T} b m waits hungers t asked sent idle still balanced more few within = by_offer (offers b m t) refl
   where
     small : 0 + size t.inputs ≤ 2 ^ 64
-    small = let w = within.0 in omega (arith, w)
+    small = omega (arith, few)
 
     row_idle : IsRowIdle b m t.machine 0 asked sent t.inputs
     row_idle at lt = let k = idle at (omega (arith, lt)) in (k.0, send_anywhere b m t.machine 0 asked sent 0 0 t.inputs at ∙ k.1, k.2)
@@ -190,7 +190,7 @@ idle_offers {M} {T} b m waits hungers t asked sent idle still balanced more with
     zero_plus k = omega arith
 
     stuck : b.waiting m t.machine ≡ None → b.ended t.machine ≡ false → b.counted t.machine (sent_over t.inputs) sent → IsRowBalanced b t.machine 0 t.inputs → ⊥
-    stuck none open_still counted row = elim (hungers t.machine (sent_over t.inputs) asked sent open_still counted none more (within_row t.inputs within.1)) [
+    stuck none open_still counted row = elim (hungers t.machine (sent_over t.inputs) asked sent open_still counted none more (within_row t.inputs within)) [
       | inl k ↦ both (b.picks t.machine k.0 asked sent) k.2 (still.0 k.0 k.1)
       | inr y ↦ elim y [
         | inl k ↦ both (b.rows t.machine asked sent) k still.1
@@ -198,7 +198,7 @@ idle_offers {M} {T} b m waits hungers t asked sent idle still balanced more with
             let D : ℕ → Type 0 = λ j. b.done t.machine j ≡ false in
             let F : ℕ → Type 0 = λ j. (f : Front) → b.takes t.machine j f ≡ true in
             let W : ℕ → Type 0 = λ j. k.c < b.wanted t.machine j asked sent in
-            none_hungry b m waits hungers t.machine 0 asked sent t.inputs small row_idle row within.1 k.i k.c k.at (subst D (zero_plus k.i) k.open_still) (subst F (zero_plus k.i) k.takes_any) (subst W (zero_plus k.i) k.wants)
+            none_hungry b m waits hungers t.machine 0 asked sent t.inputs small row_idle row within k.i k.c k.at (subst D (zero_plus k.i) k.open_still) (subst F (zero_plus k.i) k.takes_any) (subst W (zero_plus k.i) k.wants)
       ]
     ]
 
