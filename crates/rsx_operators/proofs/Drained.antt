@@ -1,5 +1,5 @@
 -- What comes out where all that still comes in is taken, signal by signal.
-use Rattle.std.proofs.Common.{◌≡◌, ℕ, zero, suc, ◌+◌, ◌<◌, ◌≤◌, Bool, true, false, nat_eq, List, [], ◌∷◌, ◌++◌, drop, get_or, length, Option, Result, refl, sym, ap, ◌∙◌, add-one, append-nil, arith}
+use Rattle.std.proofs.Common.{append_assoc, ◌≡◌, ℕ, zero, suc, ◌+◌, ◌<◌, ◌≤◌, Bool, true, false, nat_eq, List, [], ◌∷◌, ◌++◌, drop, get_or, length, Option, Some, Result, refl, sym, ap, ◌∙◌, add-one, append-nil, arith}
 use Rattle.std.proofs.lemmas.Bool.Decides.{nat_tests}
 use Rattle.std.proofs.Math.Seq.{drop-cons}
 use Rattle.std.specs.Prelude.{slice_get, IfOk}
@@ -76,6 +76,15 @@ ended_second {T} slot left s t first r a n o l g k =
         let both : has_ending (option_to_list s ++ left) ≡ true = sym (ap has_ending a) ∙ h in
         let here : has_ending left ≡ true = either_ending (option_to_list s) left both (λ x. let f : has_ended first ≡ true = n x in let e : has_ended first ≡ false = ap has_ended o in cc) in
         k (sym (ap has_ending (emptied left t l g)) ∙ here)
+
+-- ---- one signal
+
+pub item_out : {T : Type 0} (old new : List T) (r : Option (Signal T)) (s : Signal T) (x : T) → r ≡ Some s → s ≡ Next x → new ≡ old ++ x ∷ [] → (v : Stream T) → items_then old (signals_then (option_to_list r) v) ≡ items_then new v
+item_out old new r s x i n e v =
+    ap (λ o. items_then old (signals_then (option_to_list o) v)) (i ∙ ap Some n) ∙ ap (λ l. record { items = l; ending = v.ending }) (sym (append_assoc old (x ∷ []) v.items)) ∙ ap (λ l. items_then l v) (sym e)
+
+pub item_is_none : {T : Type 0} (r : Option (Signal T)) (s : Signal T) (x : T) (b : Bool) → r ≡ Some s → s ≡ Next x → has_ending (option_to_list r) ≡ true → b ≡ true
+item_is_none r s x b i n h = let e : has_ending (option_to_list r) ≡ false = ap (λ o. has_ending (option_to_list o)) (i ∙ ap Some n) in cc
 
 -- ---- an operator that takes them
 

@@ -6,11 +6,11 @@ use Rattle.rsx_types.specs.declared.signal.Ending.TheVariants.{Open, Done, Faile
 use Rattle.rsx_types.specs.Meaning.{Meaning}
 use Rattle.rsx_types.specs.Plain.{taken_items, buffered_items}
 use Rattle.rsx_types.specs.Stream.{Stream, item_then}
-use Rattle.rsx_operators.specs.declared.state.PlainState.TheVariants.{Buffer}
+use Rattle.rsx_operators.specs.declared.state.PlainState.TheVariants.{Take, Buffer}
 use Rattle.rsx_operators.specs.Moves.{ended_or}
 use Rattle.rsx_operators.specs.Emission.{item_or}
 use Rattle.rsx_operators.specs.Prepared.{without_last, without_last_from, last_of, last_from, list_at_end, list_due, IsPrepared}
-use Rattle.rsx_operators.specs.declared.prepared.Pending.TheVariants.{Gathered}
+use Rattle.rsx_operators.specs.declared.prepared.Pending.TheVariants.{Kept, Forwarded, Gathered}
 
 without_last_from_after : {A : Type 0} (y : A) (xs : List A) (x : A) → without_last_from y (xs ++ x ∷ []) ≡ y ∷ xs
 without_last_from_after y [] x = refl
@@ -75,3 +75,12 @@ gathers m n xs x e = (
 -- the same, of a list and an item that are known by equations
 pub gathers_by : {T : Type 0} (m : Meaning T) (n : ℕ) (xs : List T) (x : T) (e : Ending) (ys : List T) (out : Option T) → ys ≡ xs ++ x ∷ [] → out ≡ list_due m.list_of n ys e → IsPrepared m (Buffer n xs) (record { item = Some x; ending = e }) (Buffer n ys) (record { pending = Gathered; answer = record { item = out; ending = e } })
 gathers_by m n xs x e ys out h o = rw (o, h) (gathers m n xs x e)
+
+-- ---- a `take`
+
+pub takes_none : {T : Type 0} (m : Meaning T) (n left : ℕ) (x : T) (e : Ending) → left ≡ 0 → IsPrepared m (Take n left) (record { item = Some x; ending = e }) (Take n left) (record { pending = Kept x; answer = record { item = None; ending = Done } })
+takes_none m n zero x e z = (λ v. refl, refl, refl, λ h. refl, λ h. refl)
+takes_none m n (suc left) x e z = cc
+
+pub takes_last : {T : Type 0} (m : Meaning T) (n left : ℕ) (x : T) (e : Ending) → left ≡ 1 → IsPrepared m (Take n left) (record { item = Some x; ending = e }) (Take n left) (record { pending = Forwarded; answer = record { item = Some x; ending = Done } })
+takes_last m n left x e z = rw z (λ v. refl, refl, refl, λ h. refl, λ h. refl)

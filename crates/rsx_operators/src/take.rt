@@ -20,9 +20,10 @@ pub(crate) fn react<T: Drop>(left: &mut u64, item: T, out: &mut OutSlot<T>)
     ensures over { left.new ≡ 0 → has_ending out.new ≡ true }
     ensures left { left.new ≡ left.old - 1 }
 {
+    let fewer = *left - 1;
+    *left = fewer;
     out.put(Signal::Next(item));
-    *left -= 1;
-    if *left == 0 {
+    if fewer == 0 {
         out.put(Signal::Complete);
     }
 }
