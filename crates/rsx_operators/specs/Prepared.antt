@@ -78,6 +78,6 @@ IsPrepared {T} m before p now a =
     × (is_over (committed now a.pending) ≡ true → has_ended a.answer.ending ≡ true)
 
 -- what came of an emission: it is answered, and the answer can still go back; or for want of memory nothing has changed
-abbrev pub IsAnswered : {T E : Type 0} → Meaning T → Allocates → PlainState T → Emission T → Result (Prepared T) E → PlainState T → Type 0
-IsAnswered m a before p (Ok answer) now = IsPrepared m before p now answer
-IsAnswered m a before p (Err e) now = (now ≡ before) × (allocates_from a before ≡ false → ⊥)
+abbrev pub IsPreparation : {T E : Type 0} → Meaning T → Allocates → PlainState T → Emission T → Result (Prepared T) E → PlainState T → Type 0
+IsPreparation m a before p (Ok answer) now = IsPrepared m before p now answer
+IsPreparation m a before p (Err e) now = (now ≡ before) × (allocates_from a before ≡ false → ⊥)

@@ -3,7 +3,7 @@
 ghost use Rattle.std.specs.Prelude.{◌≡◌, ◌*◌, min, Some, List, [], IfOk, IfErr};
 ghost use Rattle.rsx_types.specs.declared.signal.Signal.{Signal};
 ghost use Rattle.rsx_types.specs.declared.signal.Signal.TheVariants.{Next, Complete};
-ghost use Rattle.rsx_operators.specs.Prepared.{IsAnswered, list_at_end as at_end, list_due as due};
+ghost use Rattle.rsx_operators.specs.Prepared.{IsPreparation, list_at_end as at_end, list_due as due};
 ghost use Rattle.rsx_operators.specs.State.{IsReaction, most_asked};
 ghost use Rattle.rsx_operators.specs.declared.state.PlainState.TheVariants.{Buffer as BufferFrom};
 
@@ -112,7 +112,7 @@ pub(crate) fn prepare<T: Drop, O: Ops<Item = T>>(
     item: T,
     ending: Ending,
 ) -> Result<Prepared<T>, T>
-    ensures answer { IsAnswered (O.meaning ops.now) (O.allocates ops.now) (BufferFrom size gathered.old) (record { item = Some item; ending = ending }) result (BufferFrom size gathered.new) }
+    ensures answer { IsPreparation (O.meaning ops.now) (O.allocates ops.now) (BufferFrom size gathered.old) (record { item = Some item; ending = ending }) result (BufferFrom size gathered.new) }
     ensures err { IfErr result (λ x. x ≡ item) }
 {
     if let Err(item) = gathered.push(item) {

@@ -3,7 +3,7 @@
 ghost use Rattle.std.specs.Prelude.{◌≡◌, ◌+◌, min, Some, List, [], IfErr};
 ghost use Rattle.rsx_types.specs.declared.signal.Signal.{Signal};
 ghost use Rattle.rsx_types.specs.declared.signal.Signal.TheVariants.{Next};
-ghost use Rattle.rsx_operators.specs.Prepared.{IsAnswered};
+ghost use Rattle.rsx_operators.specs.Prepared.{IsPreparation};
 ghost use Rattle.rsx_operators.specs.State.{IsReaction, most_asked};
 ghost use Rattle.rsx_operators.specs.declared.state.PlainState.TheVariants.{Distinct as DistinctFrom};
 
@@ -74,7 +74,7 @@ pub(crate) fn prepare<T: Drop, O: Ops<Item = T>>(
     item: T,
     ending: Ending,
 ) -> Result<Prepared<T>, T>
-    ensures answer { IsAnswered (O.meaning ops.now) (O.allocates ops.now) (DistinctFrom function keys.old repeated) (record { item = Some item; ending = ending }) result (DistinctFrom function keys.new repeated) }
+    ensures answer { IsPreparation (O.meaning ops.now) (O.allocates ops.now) (DistinctFrom function keys.old repeated) (record { item = Some item; ending = ending }) result (DistinctFrom function keys.new repeated) }
     ensures err { IfErr result (λ x. x ≡ item) }
 {
     match ops.key(function, &item) {

@@ -1,7 +1,7 @@
 //! Answers that can still go back, for chains: prepare, and then commit or roll back.
 
 ghost use Rattle.std.specs.Prelude.{◌≡◌, Some, None, false, IfOk, IfErr, IsOk, OnErr};
-ghost use Rattle.rsx_operators.specs.Prepared.{IsPrepared, IsAnswered, committed, rolled_back, taken_back};
+ghost use Rattle.rsx_operators.specs.Prepared.{IsPrepared, IsPreparation, committed, rolled_back, taken_back};
 ghost use Rattle.rsx_operators.specs.State.{allocates_from};
 
 use crate::prepared::{Emission, Pending, Prepared, without_item};
@@ -98,7 +98,7 @@ fn to_item<T: Drop, O: Ops<Item = T>>(
     item: T,
     ending: Ending,
 ) -> Result<Prepared<T>, T>
-    ensures answer { IsAnswered (O.meaning ops.now) (O.allocates ops.now) state.old (record { item = Some item; ending = ending }) result state.new }
+    ensures answer { IsPreparation (O.meaning ops.now) (O.allocates ops.now) state.old (record { item = Some item; ending = ending }) result state.new }
     ensures err { IfErr result (λ x. x ≡ item) }
 {
     match state {
@@ -129,7 +129,7 @@ fn to_ending<T: Drop, O: Ops<Item = T>>(
     state: &PlainState<T>,
     ending: Ending,
 ) -> Result<Prepared<T>, NoMemory>
-    ensures { IsAnswered (O.meaning ops.now) (O.allocates ops.now) state.now (record { item = None; ending = ending }) result state.now }
+    ensures { IsPreparation (O.meaning ops.now) (O.allocates ops.now) state.now (record { item = None; ending = ending }) result state.now }
 {
     match state {
         PlainState::Take { count: _, left: 0 } => Ok(without_item(None, Ending::Done)),

@@ -3,7 +3,7 @@
 ghost use Rattle.std.specs.Prelude.{◌≡◌, ◌-◌, Some, List, [], IfErr};
 ghost use Rattle.rsx_types.specs.declared.signal.Signal.{Signal};
 ghost use Rattle.rsx_types.specs.declared.signal.Signal.TheVariants.{Next};
-ghost use Rattle.rsx_operators.specs.Prepared.{IsAnswered};
+ghost use Rattle.rsx_operators.specs.Prepared.{IsPreparation};
 ghost use Rattle.rsx_operators.specs.State.{IsReaction};
 ghost use Rattle.rsx_operators.specs.declared.state.PlainState.TheVariants.{Scan as ScanFrom};
 
@@ -73,7 +73,7 @@ pub(crate) fn prepare<T: Drop, O: Ops<Item = T>>(
     item: T,
     ending: Ending,
 ) -> Result<Prepared<T>, T>
-    ensures answer { IsAnswered (O.meaning ops.now) (O.allocates ops.now) (ScanFrom function last.now) (record { item = Some item; ending = ending }) result (ScanFrom function last.now) }
+    ensures answer { IsPreparation (O.meaning ops.now) (O.allocates ops.now) (ScanFrom function last.now) (record { item = Some item; ending = ending }) result (ScanFrom function last.now) }
     ensures err { IfErr result (λ x. x ≡ item) }
 {
     match ops.fold(alloc, function, last, &item) {
