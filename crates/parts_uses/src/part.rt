@@ -133,27 +133,32 @@ fn sends_one_item(
     Ok(())
 }
 
-/// Whether a pump with this budget ends so, and leaves so many signals waiting, once so many items more are asked for.
+/// Whether a pump keeps a row: how many items more are asked for, the budget, how the pump ends, and how many signals wait
+/// then.
 fn is_pumped(
     alloc: Global,
-    one: &mut QueuedPart,
-    count: u64,
-    budget: u32,
-    ended: Pumped,
-    waiting: usize,
+    part: &mut Part<Val>,
+    out: &mut SignalQueue<Val>,
+    row: (u64, u32, Pumped, usize),
 ) -> Result<bool, NoMemory> {
-    request(&mut one.part, count);
-    let got = pumped(alloc, &mut one.part, budget, &mut one.out)?;
-    Ok(got == ended && one.out.len() == waiting)
+    let (count, budget, ended, waiting) = row;
+    request(part, count);
+    let got = pumped(alloc, part, budget, out)?;
+    Ok(got == ended && out.len() == waiting)
 }
 
 /// For two items: Ask below, and then Send below and Send over the root edge for each. For the other three and the
 /// completion: Ask below, and two Sends for each.
-fn pumps(rt: &impl Abort, alloc: Global, one: &mut QueuedPart) -> Result<(), NoMemory> {
-    assert!(rt; is_pumped(alloc, one, 0, 9, Pumped::Idle(9), 0)?);
-    assert!(rt; is_pumped(alloc, one, 2, 3, Pumped::Budget, 1)?);
-    assert!(rt; is_pumped(alloc, one, 0, 9, Pumped::Idle(7), 2)?);
-    assert!(rt; is_pumped(alloc, one, 9, 9, Pumped::Idle(0), 6)?);
+fn pumps(
+    rt: &impl Abort,
+    alloc: Global,
+    part: &mut Part<Val>,
+    out: &mut SignalQueue<Val>,
+) -> Result<(), NoMemory> {
+    assert!(rt; is_pumped(alloc, part, out, (0, 9, Pumped::Idle(9), 0))?);
+    assert!(rt; is_pumped(alloc, part, out, (2, 3, Pumped::Budget, 1))?);
+    assert!(rt; is_pumped(alloc, part, out, (0, 9, Pumped::Idle(7), 2))?);
+    assert!(rt; is_pumped(alloc, part, out, (9, 9, Pumped::Idle(0), 6))?);
     Ok(())
 }
 
@@ -197,7 +202,7 @@ fn a_part_makes_the_moves_that_are_enabled(rt: HostRuntime) -> Result<(), NoMemo
 fn a_part_pumps_to_its_budget_and_to_idle(rt: HostRuntime) -> Result<(), NoMemory> {
     let alloc = rt.alloc();
     let mut one = doubling_part(&rt, alloc)?;
-    pumps(&rt, alloc, &mut one)?;
+    pumps(&rt, alloc, &mut one.part, &mut one.out)?;
     takes_all(&rt, &mut one.out);
     Ok(())
 }
