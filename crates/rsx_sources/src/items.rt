@@ -56,18 +56,20 @@ impl<T: Drop> ItemsNode<T> {
 impl<T: Drop> Machine for ItemsNode<T> {
     type Item = T;
 
-    ghost use Rattle.std.specs.Prelude.{◌≡◌, ⊤, refl, Some, true, false, IfOk, IfErr, IsOk, OnOk, OnErr};
+    ghost use Rattle.std.specs.Prelude.{◌≡◌, ⊤, refl, Some, true, false, IfOk, IfErr, OnOk, OnErr};
     ghost use Rattle.rsx_types.specs.Notes.{note_then};
     ghost use Rattle.rsx_types.specs.declared.note.Note.{Note};
     ghost use Rattle.rsx_types.specs.declared.note.Note.TheVariants.{Nothing};
-    ghost use Rattle.rsx_sources.specs.Machine.{TakesIn, Keeps, Records, incoming_of};
-    ghost use Rattle.rsx_sources.specs.Steps.{IsPopped, IsNotTaken, IsNotMade};
-    ghost use Rattle.rsx_sources.specs.Items.{ItemsLeft, items_comes_out, items_waiting, items_popped};
+    ghost use Rattle.rsx_sources.specs.Machine.{TakesIn, incoming_of};
+    ghost use Rattle.rsx_sources.specs.Steps.{IsNotTaken};
+    ghost use Rattle.rsx_sources.specs.Items.{ItemsLeft, items_comes_out, items_waiting, items_shown, items_popped};
     ghost use Rattle.std.proofs.Common.{rules};
 
     ghost comes_out = { items_comes_out };
 
     ghost waiting = { items_waiting };
+
+    ghost shown = { items_shown };
 
     ghost takes = { λ n i f. false };
 
@@ -105,11 +107,7 @@ impl<T: Drop> Machine for ItemsNode<T> {
         &mut self,
         alloc: Global,
         ops: &O,
-    ) -> Result<Option<Signal<T>>, NoMemory>
-        ensures ok { IfOk result (λ s. IsPopped (items_comes_out (O.meaning ops.now)) items_popped (items_waiting (O.meaning ops.now) self.old) self.old s self.new) }
-        ensures err { OnErr result (self.new ≡ self.old) }
-        ensures memory { IsOk result }
-    {
+    ) -> Result<Option<Signal<T>>, NoMemory> {
         match self.reversed.pop() {
             Some(item) => Ok(Some(Signal::Next(item))),
             None => Ok(Some(Signal::Complete)),
@@ -150,8 +148,9 @@ impl<T: Drop> Machine for ItemsNode<T> {
         Err(NotTaken::Busy(signal))
     }
 
+    #[inline]
     fn pop_item<O: Ops<Item = T>>(&mut self, alloc: Global, ops: &O) -> Option<T> {
-        None
+        self.reversed.pop()
     }
 
     fn pass<O: Ops<Item = T>>(&mut self, alloc: Global, ops: &O, input: u64, item: T) -> Passed<T> {
@@ -173,12 +172,7 @@ impl<T: Drop> Machine for ItemsNode<T> {
         input: u64,
         asked: u64,
         sent: u64,
-    ) -> Result<(), NotMade>
-        ensures ok { OnOk result (Records (items_comes_out (O.meaning ops.now)) self.old Nothing self.new) }
-        ensures enabled { OnOk result (false ≡ true) }
-        ensures err { IfErr result (IsNotMade false) }
-        ensures same { OnErr result (self.new ≡ self.old) }
-    {
+    ) -> Result<(), NotMade> {
         Err(NotMade::NotEnabled)
     }
 
@@ -192,12 +186,7 @@ impl<T: Drop> Machine for ItemsNode<T> {
         ops: &O,
         asked: u64,
         sent: u64,
-    ) -> Result<(), NotMade>
-        ensures ok { OnOk result (Keeps (items_comes_out (O.meaning ops.now)) self.old self.new) }
-        ensures enabled { OnOk result (false ≡ true) }
-        ensures err { IfErr result (IsNotMade false) }
-        ensures same { OnErr result (self.new ≡ self.old) }
-    {
+    ) -> Result<(), NotMade> {
         Err(NotMade::NotEnabled)
     }
 
@@ -227,11 +216,17 @@ impl<T: Drop> Machine for ItemsNode<T> {
         Ok(StreamValue::new(left, Ending::Done))
     }
 
+    ghost shows = { λ m n. refl };
+
+    ghost popped_alike = { λ old s new h a. (refl, refl) };
+
     ghost drops = { λ m n inc other further e. Prim.search rules };
+
+    ghost ends = { λ m n s inc other further w e. Prim.search rules };
 
     ghost settles = { λ m n inc. (_, refl) };
 
-    ghost ending_waits = { λ m n e. (_, refl) };
+    ghost ending_waits = { λ m n asked sent e none more. Prim.search rules };
 
     ghost hungry = { λ m n taken asked sent still counts none more within. Prim.search rules };
 }

@@ -13,7 +13,7 @@ use rsx_model::Expr;
 use rsx_pipe::{EdgeState, Part, Pumped, SignalQueue};
 use rsx_sources::NotMade;
 use rsx_subscription::{Effect, Input, State, step};
-use rsx_types::{Cause, Ending, Move, NoMemory, Ops, Signal, StreamValue, SubId};
+use rsx_types::{Cause, Ending, Move, NoMemory, Note, Ops, Signal, StreamValue, SubId};
 use std::alloc::Global;
 
 /// One subscription of a graph.
@@ -23,21 +23,21 @@ use std::alloc::Global;
 pub struct Subscription<T> {
     /// The tree of its expression with its edges. Of the root edge asked is what the subscriber requested, and sent what was
     /// put into the queue.
-    pub part: Part<T>,
+    part: Part<T>,
     /// The signals on the root edge, at most 64.
-    pub queue: SignalQueue<T>,
+    queue: SignalQueue<T>,
     /// Where the subscription stands in the table. It is opened before anything else happens (rule 1.9).
-    pub state: State,
+    state: State,
     /// The subscriber's own demand: asked is what it requested, sent the items that it was delivered (rule 1.1).
-    pub demand: Demand,
+    demand: Demand,
     /// Whether the subscriber takes part still: it neither cancelled while it was open nor made a bad request then. The
     /// table has one state for a bad request and for an error of the expression, and this tells them apart.
-    pub live: bool,
+    live: bool,
     pub ghost opened: { state ≡ Fresh → ⊥ },
 }
 
 impl<T: Drop> Subscription<T> {
-    ghost use Rattle.std.specs.Prelude.{◌≡◌, ◌<◌, ℕ, [], List, OnOk, OnErr, IfOk, IfErr, IfSome, OnSome, IfNone, Some, None, true, false, map, option_map};
+    ghost use Rattle.std.specs.Prelude.{◌≡◌, ◌<◌, ◌+◌, ℕ, [], List, OnOk, OnErr, IfOk, IfErr, IfSome, OnSome, IfNone, Some, None, true, false, map, option_map};
     ghost use Rattle.rsx_types.specs.Meaning.{Meaning};
     ghost use Rattle.rsx_types.specs.Notes.{unchosen};
     ghost use Rattle.rsx_types.specs.Stream.{Stream};
@@ -259,9 +259,106 @@ impl<T: Drop> Subscription<T> {
         }
     }
 
+    /// Pulls an item through the part and hands it to the subscriber in one go, where the table delivers an item: a Send over
+    /// the root edge, and the Take behind it. Each move takes one of the budget that is `left`. Where the budget ends between
+    /// the two, or a growth of `out` is refused, the item waits in the queue. Answers whether an item was delivered.
+    fn fetch_one<O: Ops<Item = T>>(
+        &mut self,
+        alloc: Global,
+        ops: &O,
+        id: SubId,
+        left: &mut u32,
+        out: &mut Deliveries<T>,
+    ) -> Result<bool, NoMemory>
+        requires { self.old.queue ≡ [] }
+        ensures pumped { (n : ℕ) × (n + left.new ≡ left.old) × IsPumped (O.meaning ops.now) id n self.old out.old.signals self.new out.new.signals }
+        ensures delivered { IfOk result (λ b. b ≡ true → (self.new.queue ≡ []) × (left.new < left.old)) }
+    {
+        // The step is made on copies, so that one that delivers nothing changes nothing.
+        let mut state_behind = self.state;
+        let mut demand_behind = self.demand;
+        if !delivers_item(&mut state_behind, &mut demand_behind) {
+            return Ok(false);
+        }
+        let item = match self.part.fetch(alloc, ops, left) {
+            Some(item) => item,
+            None => return Ok(false),
+        };
+        if *left == 0 {
+            self.queue.push(Signal::Next(item));
+            return Ok(false);
+        }
+        match out.reserve() {
+            Ok(()) => {}
+            Err(NoMemory) => {
+                self.queue.push(Signal::Next(item));
+                return Err(NoMemory);
+            }
+        }
+        *left -= 1;
+        self.state = state_behind;
+        self.demand = demand_behind;
+        out.push(id, Signal::Next(item));
+        Ok(true)
+    }
+
+    /// Where nothing is queued, pulls items through the part and hands them to the subscriber, as long as each comes in one go
+    /// and the budget lasts. Answers how many of the budget are left.
+    fn fetch<O: Ops<Item = T>>(
+        &mut self,
+        alloc: Global,
+        ops: &O,
+        id: SubId,
+        budget: u32,
+        out: &mut Deliveries<T>,
+    ) -> Result<u32, NoMemory>
+        ensures pumped { (n : ℕ) × Spent budget n result × IsPumped (O.meaning ops.now) id n self.old out.old.signals self.new out.new.signals }
+    {
+        if self.queue.len() > 0 {
+            return Ok(budget);
+        }
+        let mut left = budget;
+        'items: while left > 0 {
+            match self.fetch_one(alloc, ops, id, &mut left, out) {
+                Ok(true) => {}
+                Ok(false) => return Ok(left),
+                Err(NoMemory) => return Err(NoMemory),
+            }
+        }
+        Ok(left)
+    }
+
     /// Makes enabled moves until none is enabled (Idle) or `budget` moves were made (Budget); where both hold it answers
     /// Idle. A signal that is delivered is put into `out`.
     pub fn pump<O: Ops<Item = T>>(
+        &mut self,
+        alloc: Global,
+        ops: &O,
+        id: SubId,
+        budget: u32,
+        out: &mut Deliveries<T>,
+    ) -> Result<Pumped, NoMemory>
+        ensures pumped { (n : ℕ) × HasRested (O.meaning ops.now) budget n self.new result × IsPumped (O.meaning ops.now) id n self.old out.old.signals self.new out.new.signals }
+    {
+        let behind = match self.deliver(id, budget, out) {
+            Ok(left) => left,
+            Err(NoMemory) => return Err(NoMemory),
+        };
+        let left = match self.fetch(alloc, ops, id, behind, out) {
+            Ok(left) => left,
+            Err(NoMemory) => return Err(NoMemory),
+        };
+        if self.is_idle() {
+            return Ok(Pumped::Idle(left));
+        }
+        match self.settle(alloc, ops, id, left, out) {
+            Ok(ended) => Ok(ended),
+            Err(NoMemory) => Err(NoMemory),
+        }
+    }
+
+    /// Makes enabled moves one after the other, as [`Subscription::pump`] promises it.
+    fn settle<O: Ops<Item = T>>(
         &mut self,
         alloc: Global,
         ops: &O,
@@ -310,6 +407,23 @@ impl<T: Drop> Subscription<T> {
         self.part.is_idle(&self.queue)
     }
 
+    /// How many items the subscriber asked for.
+    pub fn asked(&self) -> u64
+        ensures { result ≡ self.now.demand.asked }
+    {
+        self.demand.asked
+    }
+
+    /// What the nodes of its tree recorded, in pre-order.
+    ///
+    /// # Errors
+    /// [`NoMemory`] where a growth was refused.
+    pub fn notes(&self, alloc: Global) -> Result<Vec<Note>, NoMemory>
+        ensures { IfOk result (λ v. v.items ≡ notes_of self.now.part.tree) }
+    {
+        self.part.notes(alloc)
+    }
+
     /// What is still owed: what is queued, and then what comes out of the tree.
     pub fn owed<O: Ops<Item = T>>(&self, alloc: Global, ops: &O) -> Result<StreamValue<T>, NoMemory>
         ensures { IfOk result (λ v. (hubs : List (Stream T)) → owed_from (O.meaning ops.now) hubs (map unchosen (notes_of self.now.part.tree)) self.now ≡ Some v) }
@@ -340,6 +454,20 @@ fn behind<O: Ops>(
     }
     items.append(&mut left)?;
     Ok(StreamValue::new(items, ending))
+}
+
+/// Makes the step of an item by the table, and answers whether the table delivers it.
+#[inline]
+fn delivers_item(state: &mut State, demand: &mut Demand) -> bool
+    ensures delivered { result ≡ is_delivery (answer (cell_of state.old Input.Next) demand.old) }
+    ensures state { state.new ≡ state_after (cell_of state.old Input.Next) state.old }
+    ensures asked { demand.new.asked ≡ asked_after (cell_of state.old Input.Next) demand.old }
+    ensures sent { demand.new.sent ≡ sent_after (cell_of state.old Input.Next) demand.old }
+{
+    match step(state, demand, Input::Next) {
+        Ok(effect) => matches!(effect, Effect::Deliver),
+        Err(_) => false,
+    }
 }
 
 /// Makes the step of a signal by the table, and answers whether the table delivers it.

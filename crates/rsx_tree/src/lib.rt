@@ -5,11 +5,12 @@
 //! once, with any number of inputs.
 
 pub mod edge;
+pub mod fetch;
 pub mod inputs;
 pub mod look;
 pub mod node;
 
 pub use edge::{Edge, EdgeState};
 pub use inputs::{Inputs, Pass};
-pub use look::Enabled;
+pub use look::NodeMove;
 pub use node::Node;

@@ -1,78 +1,62 @@
-use Rattle.std.proofs.Common.{◌≡◌, ◌+◌, arith}
+use Rattle.std.proofs.Common.{◌≡◌, ◌+◌, ◌≤◌, arith, Ok, Err, sym, ◌∙◌}
 use Rattle.rsx_types.specs.declared.fault.NoMemory.{NoMemory}
-use Rattle.rsx_subscriber.proofs.Moves.{pumped_more, rest_ended, awake_part, rest_quiet}
+use Rattle.rsx_subscriber.proofs.Fetches.{rested_after}
+use Rattle.rsx_subscriber.proofs.Moves.{pumped_more}
 use Rattle.rsx_subscriber.proofs.subscription.Subscription.pump.Goals as goal
 
-pub returns-in-Ok-Budget : goal.returns-in-Ok-Budget
-returns-in-Ok-Budget g c =
-    let m = g.O.Ops.meaning c.args.ops.now in
-    let done = c.loop-round.invariant.1 in
-    let p = rw c.in-Ok-Budget.field-0-is at c.in-Ok-Budget.ensures.pumped in
-    let e = done.1 in
-    let k = p.1.0 in
-    record { pumped = (done.0 + p.0, (omega (arith, e, k), awake_part m c.pump_part.new.self p.1.1), pumped_more m c.args.id done.0 p.0 c.args.self.now c.loop-round.self c.pump_part.new.self c.args.out.now.signals c.loop-round.out.signals c.loop-round.out.signals done.2 (p.2 c.loop-round.out.signals)) }
-
 pub returns-in-Err : goal.returns-in-Err
-returns-in-Err g c =
-    let m = g.O.Ops.meaning c.args.ops.now in
-    let done = c.loop-round.invariant.1 in
-    let p = c.in-Err.ensures.pumped in
-    let e = done.1 in
-    let k = p.1 in
-    record { pumped = (done.0 + p.0, omega (arith, e, k), pumped_more m c.args.id done.0 p.0 c.args.self.now c.loop-round.self c.pump_part.new.self c.args.out.now.signals c.loop-round.out.signals c.loop-round.out.signals done.2 (p.2 c.loop-round.out.signals)) }
+returns-in-Err g c = record { pumped = c.in-Err.ensures.pumped (g.O.Ops.meaning c.args.ops.now) }
 
-pub returns-in-Err-deliver : goal.returns-in-Err-deliver
-returns-in-Err-deliver g c =
+pub returns-in-Err-fetch : goal.returns-in-Err-fetch
+returns-in-Err-fetch g c =
     let m = g.O.Ops.meaning c.args.ops.now in
-    let done = c.loop-round.invariant.1 in
-    let p = rw c.in-Ok-Idle.field-0-is at c.in-Ok-Idle.ensures.pumped in
-    let d = c.in-Err-deliver.ensures.pumped m in
-    let e = done.1 in
-    let k = p.1.0 in
-    let j = d.1 in
-    let first = pumped_more m c.args.id done.0 p.0 c.args.self.now c.loop-round.self c.pump_part.new.self c.args.out.now.signals c.loop-round.out.signals c.loop-round.out.signals done.2 (p.2 c.loop-round.out.signals) in
-    record { pumped = ((done.0 + p.0) + d.0, omega (arith, e, k, j), pumped_more m c.args.id (done.0 + p.0) d.0 c.args.self.now c.pump_part.new.self c.deliver.new.self c.args.out.now.signals c.loop-round.out.signals c.deliver.new.out.signals first d.2) }
-
-pub returns-then-left-before : goal.returns-then-left-before
-returns-then-left-before g c =
-    let m = g.O.Ops.meaning c.args.ops.now in
-    let done = c.loop-round.invariant.1 in
-    let p = rw c.in-Ok-Idle.field-0-is at c.in-Ok-Idle.ensures.pumped in
     let d = c.in-Ok.ensures.pumped m in
-    let e = done.1 in
-    let k = p.1.0 in
-    let j = d.1 in
-    let all : ((done.0 + p.0) + d.0) + c.in-Ok.left ≡ c.args.budget = omega (arith, e, k, j) in
-    let same = c.in-Ok.ensures.none c.if-left-before.true in
-    let first = pumped_more m c.args.id done.0 p.0 c.args.self.now c.loop-round.self c.pump_part.new.self c.args.out.now.signals c.loop-round.out.signals c.loop-round.out.signals done.2 (p.2 c.loop-round.out.signals) in
+    let f = c.in-Err-fetch.ensures.pumped in
+    let e = d.1 in
+    let k = f.1 in
+    record { pumped = (d.0 + f.0, omega (arith, e, k), pumped_more m c.args.id d.0 f.0 c.args.self.now c.deliver.new.self c.fetch.new.self c.args.out.now.signals c.deliver.new.out.signals c.fetch.new.out.signals d.2 f.2) }
+
+pub returns-then-is_idle : goal.returns-then-is_idle
+returns-then-is_idle g c =
+    let m = g.O.Ops.meaning c.args.ops.now in
+    let d = c.in-Ok.ensures.pumped m in
+    let f = c.in-Ok-fetch.ensures.pumped in
+    let e = d.1 in
+    let k = f.1 in
+    record { pumped = (d.0 + f.0, (omega (arith, e, k), c.is_idle.ensures.yes m c.if-is_idle.true), pumped_more m c.args.id d.0 f.0 c.args.self.now c.deliver.new.self c.fetch.new.self c.args.out.now.signals c.deliver.new.out.signals c.fetch.new.out.signals d.2 f.2) }
+
+pub returns-in-Ok-settle : goal.returns-in-Ok-settle
+returns-in-Ok-settle g c =
+    let m = g.O.Ops.meaning c.args.ops.now in
+    let d = c.in-Ok.ensures.pumped m in
+    let f = c.in-Ok-fetch.ensures.pumped in
+    let s = c.in-Ok-settle.ensures.pumped in
+    let e = d.1 in
+    let k = f.1 in
+    let all : (d.0 + f.0) + c.in-Ok-fetch.left ≡ c.args.budget = omega (arith, e, k) in
+    let first = pumped_more m c.args.id d.0 f.0 c.args.self.now c.deliver.new.self c.fetch.new.self c.args.out.now.signals c.deliver.new.out.signals c.fetch.new.out.signals d.2 f.2 in
     record {
       pumped = (
-        (done.0 + p.0) + d.0,
-        rest_ended NoMemory m c.args.budget ((done.0 + p.0) + d.0) c.in-Ok.left c.deliver.new.self c.rest.result all (c.rest.ensures m (λ some. rest_quiet m c.pump_part.new.self c.deliver.new.self same (c.in-Ok.ensures.rest some) p.1.1)),
-        pumped_more m c.args.id (done.0 + p.0) d.0 c.args.self.now c.pump_part.new.self c.deliver.new.self c.args.out.now.signals c.loop-round.out.signals c.deliver.new.out.signals first d.2,
+        (d.0 + f.0) + s.0,
+        rested_after {E = NoMemory} m c.args.budget c.in-Ok-fetch.left (d.0 + f.0) s.0 c.settle.new.self (Ok c.in-Ok-settle.ended) all s.1,
+        pumped_more m c.args.id (d.0 + f.0) s.0 c.args.self.now c.fetch.new.self c.settle.new.self c.args.out.now.signals c.fetch.new.out.signals c.settle.new.out.signals first s.2,
       );
     }
 
-pub loop-round-preserved : goal.loop-round-preserved
-loop-round-preserved g c =
+pub returns-in-Err-settle : goal.returns-in-Err-settle
+returns-in-Err-settle g c =
     let m = g.O.Ops.meaning c.args.ops.now in
-    let within = c.loop-round.invariant.0 in
-    let done = c.loop-round.invariant.1 in
-    let p = rw c.in-Ok-Idle.field-0-is at c.in-Ok-Idle.ensures.pumped in
     let d = c.in-Ok.ensures.pumped m in
-    let e = done.1 in
-    let k = p.1.0 in
-    let j = d.1 in
-    let n = c.if-left-before.false in
-    let first = pumped_more m c.args.id done.0 p.0 c.args.self.now c.loop-round.self c.pump_part.new.self c.args.out.now.signals c.loop-round.out.signals c.loop-round.out.signals done.2 (p.2 c.loop-round.out.signals) in (
-      omega (arith, within, k, j, n),
-      ((done.0 + p.0) + d.0, omega (arith, e, k, j), pumped_more m c.args.id (done.0 + p.0) d.0 c.args.self.now c.pump_part.new.self c.deliver.new.self c.args.out.now.signals c.loop-round.out.signals c.deliver.new.out.signals first d.2),
-    )
-
-pub returns : goal.returns
-returns g c =
-    let m = g.O.Ops.meaning c.args.ops.now in
-    let within = c.loop-round.invariant.0 in
-    let done = c.loop-round.invariant.1 in
-    let t = c.loop-round-test.false in
-    record { pumped = (done.0, rest_ended NoMemory m c.args.budget done.0 c.loop-round.left c.loop-round.self c.rest-2.result done.1 (c.rest-2.ensures m (λ some. absurd (omega (arith, within, t, some)))), done.2) }
+    let f = c.in-Ok-fetch.ensures.pumped in
+    let s = c.in-Err-settle.ensures.pumped in
+    let e = d.1 in
+    let k = f.1 in
+    let j = s.1 in
+    let first = pumped_more m c.args.id d.0 f.0 c.args.self.now c.deliver.new.self c.fetch.new.self c.args.out.now.signals c.deliver.new.out.signals c.fetch.new.out.signals d.2 f.2 in
+    record {
+      pumped = (
+        (d.0 + f.0) + s.0,
+        omega (arith, e, k, j),
+        pumped_more m c.args.id (d.0 + f.0) s.0 c.args.self.now c.fetch.new.self c.settle.new.self c.args.out.now.signals c.fetch.new.out.signals c.settle.new.out.signals first s.2,
+      );
+    }

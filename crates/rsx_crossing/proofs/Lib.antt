@@ -1,0 +1,2 @@
+-- Lemmas about a queue behind a node.
+pub mod Edges

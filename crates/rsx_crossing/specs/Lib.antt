@@ -1,0 +1,5 @@
+-- Definitions that contracts cite.
+pub mod Held
+pub mod Laws
+pub mod Queued
+pub mod Transfer
