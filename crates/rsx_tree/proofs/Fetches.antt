@@ -59,7 +59,7 @@ pub below_none : {M T : Type 0} (b : Machine M T) (m : Meaning T) (asked sent bu
     IsUnderWay b m false 0 asked sent budget r0 t0 left r (More e n below beside) → n1 ≡ n → was ≡ below.value → IsRowFetched b m left e.demand.asked e.demand.sent n1 was None left' n' now →
     IsUnderWay b m false 0 asked sent budget r0 t0 left' r (More e n' (with_value below now) beside)
 below_none b m asked sent budget left left' r0 t0 r e n n1 n' below beside was now u same at h =
-    under_way_below b m false 0 asked sent budget left left' h.0 false r0 t0 r r e e n n1 n' below beside was now now u (refl, refl, same) at h.1 h.2 refl
+    under_way_below b m false 0 asked sent budget left left' h.0 false r0 t0 r r e e n n1 n' below beside was now now u refl refl same at h.1 h.2 refl
 
 -- an item was taken out of the sender of the edge, which had come to offer it
 abbrev pub IsTaken : {M T : Type 0} → Machine M T → Meaning T → ℕ → ℕ → ℕ → M → Inputs M → ℕ → M → Edge → T → M → Rest M → Rest M → Type 0
@@ -72,7 +72,7 @@ pub below_item : {M T : Type 0} (b : Machine M T) (m : Meaning T) (asked sent bu
     IsTaken b m asked sent budget r0 t0 left' r e x n' (with_value below now) beside
 below_item b m asked sent budget left left' r0 t0 r e n n1 n' below beside was now x u same at h = (
   h.1,
-  under_way_below b m false 0 asked sent budget left left' h.0 false r0 t0 r r e e n n1 h.1 below beside was now now u (refl, refl, same) at h.2 h.3 refl,
+  under_way_below b m false 0 asked sent budget left left' h.0 false r0 t0 r r e e n n1 h.1 below beside was now now u refl refl same at h.2 h.3 refl,
   h.4,
 )
 

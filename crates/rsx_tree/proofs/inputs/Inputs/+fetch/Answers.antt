@@ -1,4 +1,4 @@
-use Rattle.std.proofs.Common.{◌≡◌, ℕ}
+use Rattle.std.proofs.Common.{◌≡◌, ℕ, false}
 use Rattle.std.specs.Box.{with_value}
 use Rattle.rsx_tree.specs.declared.inputs.Inputs.TheViews.{More}
 use Rattle.rsx_tree.proofs.Changes.{Rest}
