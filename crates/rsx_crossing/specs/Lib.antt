@@ -2,4 +2,5 @@
 pub mod Held
 pub mod Laws
 pub mod Queued
+pub mod Sender
 pub mod Transfer
