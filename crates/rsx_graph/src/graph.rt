@@ -47,7 +47,12 @@ impl<O: Ops> Graph<O> {
         })
     }
 
-    /// Subscribes to an expression.
+    /// Subscribes to an expression. The subscription stands behind the others, so its number is how many there were. It is
+    /// open, and nothing was asked of it yet.
+    ///
+    /// # Errors
+    /// G6 exactly where the expression goes past a limit, else G5 exactly where there are 256 subscriptions, else G8 where a
+    /// growth was refused; nothing changed.
     pub fn subscribe(&mut self, alloc: Global, expr: &Expr<O::Item>) -> Result<SubId, Refusal>
         ensures ops { self.new.ops ≡ self.old.ops }
         ensures stands { OnOk result ((h : History O.Item) → StandsFor (O.meaning self.old.ops) self.old.subscriptions.items h → StandsFor (O.meaning self.old.ops) self.new.subscriptions.items (with_subscriber expr.now h)) }
@@ -200,8 +205,10 @@ impl<O: Ops> Graph<O> {
     }
 
     /// Makes enabled moves, in an order of its own, until none is enabled (Idle) or `budget` moves were made (Budget); where
-    /// both hold it answers Idle. What is delivered is put into `out`. Where it meets want of memory it answers G8; the
-    /// moves made before stand, and their deliveries are in `out`.
+    /// both hold it answers Idle. What is delivered is put into `out`, behind what stands there.
+    ///
+    /// # Errors
+    /// G8 where a growth was refused; the moves made before stand, and their deliveries are in `out`.
     pub fn pump(
         &mut self,
         alloc: Global,
@@ -249,6 +256,9 @@ impl<O: Ops> Graph<O> {
 
     /// What the graph still owes a subscriber: what is on its root edge, and then what comes out of its tree where nothing
     /// more is published and nothing more is chosen. For a subscriber that got its ending or isn't live it is nothing, Open.
+    ///
+    /// # Errors
+    /// G2 exactly where there is no such subscription, and G8 where a growth was refused.
     pub fn owed(&self, alloc: Global, sub: SubId) -> Result<StreamValue<O::Item>, Refusal>
         ensures owes { IfOk result (λ v. (h : History O.Item) → StandsFor (O.meaning self.now.ops) self.now.subscriptions.items h → IsOwed (O.meaning self.now.ops) self.now.subscriptions.items h sub v) }
         ensures err { IfErr result (λ r. IsLookRefusal (length self.now.subscriptions.items) sub r) }
@@ -269,6 +279,9 @@ impl<O: Ops> Graph<O> {
     }
 
     /// What the nodes of a tree recorded, in pre-order.
+    ///
+    /// # Errors
+    /// G1 for the tree of a hub, G2 where there is no such subscription, and G8 where a growth was refused.
     pub fn notes(&self, alloc: Global, tree: Tree) -> Result<Vec<Note>, Refusal>
         ensures notes { IfOk result (λ v. HasNotes self.now.subscriptions.items tree v.items) }
         ensures err { IfErr result (λ r. IsTreeRefusal (length self.now.subscriptions.items) tree r) }
@@ -318,7 +331,10 @@ impl<O: Ops> Graph<O> {
         }
     }
 
-    /// How many items a subscriber asked for. It takes no memory.
+    /// How many items a subscriber asked for, at most 2^63-1. It takes no memory.
+    ///
+    /// # Errors
+    /// G2 exactly where there is no such subscription.
     pub fn asked(&self, sub: SubId) -> Result<u64, Refusal>
         ensures asked { IfOk result (λ n. (h : History O.Item) → StandsFor (O.meaning self.now.ops) self.now.subscriptions.items h → HasAsked h.pasts sub.0 n) }
         ensures err { IfErr result (λ r. (r ≡ Refusal.UnknownSub) × (length self.now.subscriptions.items ≤ sub.0)) }
@@ -348,7 +364,8 @@ impl<O: Ops> Graph<O> {
         Ok(subscription.standing())
     }
 
-    /// Makes one step. A refused step leaves all as it was.
+    /// Makes one step, and answers what its call answers. A refused step comes in the cases of that call, and leaves all as
+    /// it was.
     pub fn step(&mut self, alloc: Global, step: &Step<O::Item>) -> Answer<O::Item>
         ensures ops { self.new.ops ≡ self.old.ops }
         ensures stands { (h : History O.Item) → StandsFor (O.meaning self.old.ops) self.old.subscriptions.items h → StandsFor (O.meaning self.old.ops) self.new.subscriptions.items (extended h step.now result) }
@@ -378,7 +395,10 @@ impl<O: Ops> Graph<O> {
     }
 
     /// Makes the steps, in their order, refused ones included, and answers each. Room for all answers is made before the
-    /// first step; where that is refused nothing is done, and the list comes back (G8).
+    /// first step.
+    ///
+    /// # Errors
+    /// The steps come back where room for their answers was refused; none of them was made.
     pub fn run(
         &mut self,
         alloc: Global,

@@ -1,7 +1,9 @@
 //! A list of steps from nothing.
 
 ghost use Rattle.std.specs.Prelude.{◌≡◌, IfOk, IfErr};
+ghost use Rattle.rsx_graph.specs.History.{all_extended, no_history};
 ghost use Rattle.rsx_graph.specs.Replayed.{IsReplayed};
+ghost use Rattle.rsx_graph.specs.Stands.{StandsFor};
 
 use crate::graph::Graph;
 use crate::step::{Answer, Step};
@@ -23,6 +25,9 @@ pub fn replay<O: Ops>(
 ) -> Result<(Graph<O>, Vec<Answer<O::Item>>), Vec<Step<O::Item>>>
     ensures ops { IfOk result (λ r. r.0.ops ≡ ops) }
     ensures replayed { IfOk result (λ r. IsReplayed (O.meaning ops) (O.allocates ops) steps.items r.1.items r.0.subscriptions.items) }
+
+    // Further calls of the graph go on from here.
+    ensures stands { IfOk result (λ r. StandsFor (O.meaning ops) r.0.subscriptions.items (all_extended no_history steps.items r.1.items)) }
     ensures err { IfErr result (λ back. back.items ≡ steps.items) }
 {
     let Ok(mut graph) = Graph::new(alloc, ops) else {

@@ -117,6 +117,7 @@ impl<T: Drop> Subscription<T> {
     }
 
     /// Cancels the subscription, where it is open (rules 3.5 to 3.7): closes the edges of its part and drops what is queued.
+    /// It takes no memory.
     pub fn cancel(&mut self)
         ensures effect { IsCancelled (standing_of self.old) self.old self.new }
         ensures stands { (m : Meaning T) (published : List (Stream T)) (past : Past T) → Stands m published self.old past → Stands m published self.new (cancelled past) }
@@ -128,7 +129,7 @@ impl<T: Drop> Subscription<T> {
     }
 
     /// Asks for `n` items more, where the subscription is open. The signal is the error of a bad request (rules 3.8 and 3.9),
-    /// which closes the subscription as a cancel does.
+    /// which closes the subscription as a cancel does. It takes no memory.
     pub fn request(&mut self, n: i64) -> Option<Signal<T>>
         ensures effect { IsRequested (standing_of self.old) n self.old self.new }
         ensures stands { (m : Meaning T) (published : List (Stream T)) (past : Past T) → Stands m published self.old past → Stands m published self.new (requested n past) }
@@ -151,7 +152,8 @@ impl<T: Drop> Subscription<T> {
     }
 
     /// Makes the move Take of the node `at`: the root hands the front signal of its queue to the subscriber, where the table
-    /// delivers it. An item with no demand left stays queued (rule 1.1).
+    /// delivers it. An item with no demand left stays queued (rule 1.1). None exactly where the Take isn't enabled; then
+    /// nothing changed. It takes no memory.
     pub fn take(&mut self, at: u32) -> Option<Signal<T>>
         ensures some { IfSome result (λ s. (m : Meaning T) (published : List (Stream T)) (past : Past T) → Stands m published self.old past → Stands m published self.new (given s past)) }
         ensures enabled { OnSome result (take_enabled self.old at ≡ true) }
@@ -188,6 +190,10 @@ impl<T: Drop> Subscription<T> {
     }
 
     /// Makes the move Ask or Send of a node.
+    ///
+    /// # Errors
+    /// [`NotMade::NotEnabled`] exactly where the move isn't enabled, and [`NotMade::NoMemory`] where a growth was refused, of a
+    /// Send that may allocate; nothing changed.
     pub fn make<O: Ops<Item = T>>(
         &mut self,
         alloc: Global,
@@ -425,6 +431,9 @@ impl<T: Drop> Subscription<T> {
     }
 
     /// What is still owed: what is queued, and then what comes out of the tree.
+    ///
+    /// # Errors
+    /// [`NoMemory`] where a growth was refused.
     pub fn owed<O: Ops<Item = T>>(&self, alloc: Global, ops: &O) -> Result<StreamValue<T>, NoMemory>
         ensures { IfOk result (λ v. (hubs : List (Stream T)) → owed_from (O.meaning ops.now) hubs (map unchosen (notes_of self.now.part.tree)) self.now ≡ Some v) }
     {

@@ -11,27 +11,39 @@ use Rattle.rsx_graph.proofs.Sentence.{all_hold}
 use Rattle.rsx_graph.proofs.replays.replay.Goals as goal
 
 -- a run from no subscription
+stood : {T : Type 0} (m m' : Meaning T) (steps : List (Step T)) (answers : List (Answer T)) (old new : List (Subscription T)) → m' ≡ m → old ≡ [] →
+    ((h : History T) → StandsFor m' old h → StandsFor m' new (all_extended h steps answers)) →
+    StandsFor m new (all_extended no_history steps answers)
+stood {T} m m' steps answers old new same none stands =
+    let S : List (Subscription T) → Type 0 = λ l. (h : History T) → StandsFor m' l h → StandsFor m' new (all_extended h steps answers) in
+    let M : Meaning T → Type 0 = λ n. StandsFor n new (all_extended no_history steps answers) in
+    subst M same (subst S none stands no_history tt)
+
 replayed : {T : Type 0} (m m' : Meaning T) (a a' : Allocates) (steps : List (Step T)) (answers : List (Answer T)) (old new : List (Subscription T)) → m' ≡ m → a' ≡ a → old ≡ [] →
     AllDone m' a' old steps answers new →
     ((h : History T) → StandsFor m' old h → AllBelong h steps answers) →
-    ((h : History T) → StandsFor m' old h → StandsFor m' new (all_extended h steps answers)) →
+    StandsFor m new (all_extended no_history steps answers) →
     IsReplayed m a steps answers new
-replayed {T} m m' a a' steps answers old new same alike none done belongs stands =
+replayed {T} m m' a a' steps answers old new same alike none done belongs held =
     let D : List (Subscription T) → Type 0 = λ l. AllDone m' a' l steps answers new in
     let B : List (Subscription T) → Type 0 = λ l. (h : History T) → StandsFor m' l h → AllBelong h steps answers in
-    let S : List (Subscription T) → Type 0 = λ l. (h : History T) → StandsFor m' l h → StandsFor m' new (all_extended h steps answers) in
-    let M : Meaning T → Type 0 = λ n. IsReplayed n a steps answers new in
-    let A : Allocates → Type 0 = λ b. IsReplayed m' b steps answers new in
-    let held : StandsFor m' new (all_extended no_history steps answers) = subst S none stands no_history tt in
+    let M : Meaning T → Type 0 = λ n. AllDone n a [] steps answers new in
+    let A : Allocates → Type 0 = λ b. AllDone m' b [] steps answers new in
     let h : History T = all_extended no_history steps answers in
-    subst M same (subst A alike (record {
-      done = subst D none done;
+    record {
+      done = subst M same (subst A alike (subst D none done));
       belongs = subst B none belongs no_history tt;
-      headline = all_hold m' h.published new h.pasts held;
-    }))
+      headline = all_hold m h.published new h.pasts held;
+    }
+
+pub returns-in-Ok-run-clause-stands : goal.returns-in-Ok-run-clause-stands
+returns-in-Ok-run-clause-stands g c =
+    stood (g.O.Ops.meaning c.args.ops) (g.O.Ops.meaning c.in-Ok.graph.ops) c.args.steps.items c.in-Ok-run.answers.items c.in-Ok.graph.subscriptions.items c.run.new.self.subscriptions.items
+    (ap g.O.Ops.meaning c.in-Ok.ensures.ops) c.in-Ok.ensures.empty c.in-Ok-run.ensures.stands
 
 pub returns-in-Ok-run-clause-replayed : goal.returns-in-Ok-run-clause-replayed
 returns-in-Ok-run-clause-replayed g c =
     let k = c.in-Ok-run.ensures in
     replayed (g.O.Ops.meaning c.args.ops) (g.O.Ops.meaning c.in-Ok.graph.ops) (g.O.Ops.allocates c.args.ops) (g.O.Ops.allocates c.in-Ok.graph.ops) c.args.steps.items c.in-Ok-run.answers.items c.in-Ok.graph.subscriptions.items c.run.new.self.subscriptions.items
-    (ap g.O.Ops.meaning c.in-Ok.ensures.ops) (ap g.O.Ops.allocates c.in-Ok.ensures.ops) c.in-Ok.ensures.empty k.done k.belongs k.stands
+    (ap g.O.Ops.meaning c.in-Ok.ensures.ops) (ap g.O.Ops.allocates c.in-Ok.ensures.ops) c.in-Ok.ensures.empty k.done k.belongs
+    (stood (g.O.Ops.meaning c.args.ops) (g.O.Ops.meaning c.in-Ok.graph.ops) c.args.steps.items c.in-Ok-run.answers.items c.in-Ok.graph.subscriptions.items c.run.new.self.subscriptions.items (ap g.O.Ops.meaning c.in-Ok.ensures.ops) c.in-Ok.ensures.empty k.stands)
