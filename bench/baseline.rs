@@ -160,5 +160,5 @@ fn main() {
         scope.spawn(|| send_numbers(up, count, looks_always));
         take_numbers(down, first, batch)
     });
-    println!("{in_order} in order, {taken} taken, 0 held");
+    println!("{in_order} in order, {taken} taken, 0 remaining");
 }

@@ -2,7 +2,7 @@
 
 use crate::numbers::{PLENTY, SCARCE};
 use crate::received::{Received, signal_of};
-use rsx_chain::{Begun, ChainState};
+use rsx_chain::{ChainState, NewChain};
 use rsx_sources::OutSlot;
 use rsx_types::{Cause, Ending, NoMemory, Signal, Stage, StreamValue};
 use std::alloc::Global;
@@ -34,7 +34,7 @@ fn taken_out(
     items: &[i64],
     ending: Ending,
 ) -> Result<Received, NoMemory> {
-    let Begun { chain, first } = ChainState::new(alloc, &PLENTY, stages)?;
+    let NewChain { chain, first } = ChainState::new(alloc, &PLENTY, stages)?;
     let mut chain = chain;
     let mut received = Received {
         ending: first.ending(),
@@ -60,7 +60,7 @@ fn computed(
     items: &[i64],
     ending: Ending,
 ) -> Result<Received, NoMemory> {
-    let Begun { chain, first } = ChainState::new(alloc, &PLENTY, stages)?;
+    let NewChain { chain, first } = ChainState::new(alloc, &PLENTY, stages)?;
     let value = StreamValue::new(Vec::from_slice(alloc, items)?, ending);
     let rest = chain.rest(alloc, &PLENTY, value)?;
     let mut received = Received {

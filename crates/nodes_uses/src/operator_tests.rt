@@ -4,7 +4,8 @@ ghost use Rattle.std.specs.Prelude.{◌≡◌, []};
 
 use crate::numbers::{PLENTY, SCARCE};
 use crate::received::{Received, chooses_nothing, signal_of, take_all};
-use rsx_plain::{Operator, PlainNode, PlainState};
+use rsx_operators::{Operator, PlainState};
+use rsx_plain::PlainNode;
 use rsx_sources::{Front, Machine, NotTaken, OutSlot};
 use rsx_types::{Cause, Ending, NoMemory, Signal, Stage, StreamValue};
 use std::alloc::Global;

@@ -2,8 +2,8 @@
 use Rattle.std.proofs.Common.{◌≡◌, Bool, true, false, ◌||◌, refl, sym, ap, ◌∙◌}
 use Rattle.rsx_types.specs.Meaning.{Meaning}
 use Rattle.rsx_types.specs.Stream.{Stream}
-use Rattle.rsx_plain.specs.State.{plain_from, is_over}
-use Rattle.rsx_plain.proofs.Drained.{over_done}
+use Rattle.rsx_operators.specs.State.{plain_from, is_over}
+use Rattle.rsx_operators.proofs.Drained.{over_done}
 use Rattle.rsx_chain.specs.Chain.{chain_from, chain_over}
 use Rattle.rsx_chain.specs.declared.chain.ChainState.{ChainState, End, Stage'}
 

@@ -2,7 +2,7 @@
 use Rattle.std.specs.Prelude.{Bool, false, ◌||◌}
 use Rattle.rsx_types.specs.Meaning.{Meaning, Allocates}
 use Rattle.rsx_types.specs.Stream.{Stream}
-use Rattle.rsx_plain.specs.State.{plain_from, is_over, allocates_from}
+use Rattle.rsx_operators.specs.State.{plain_from, is_over, allocates_from}
 use Rattle.rsx_chain.specs.declared.chain.ChainState.{ChainState, End, Stage'}
 
 -- what comes out of the first operator goes into the chain behind it

@@ -1,4 +1,3 @@
 -- Definitions that contracts cite.
-pub mod Attempts
 pub mod Chain
-pub mod Portions
+pub mod Emissions

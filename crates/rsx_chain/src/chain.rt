@@ -4,14 +4,14 @@ ghost use Rattle.std.specs.Prelude.{◌≡◌, true, false, ◌||◌, [], IfOk, 
 ghost use Rattle.rsx_types.specs.Meaning.{Meaning};
 ghost use Rattle.rsx_types.specs.Plain.{plain, chained};
 ghost use Rattle.rsx_types.specs.Stream.{Stream};
-ghost use Rattle.rsx_plain.specs.Moves.{Moves, EndsLast, is_ending, has_ending, has_ended};
-ghost use Rattle.rsx_plain.specs.State.{plain_from, plain_start, is_over};
+ghost use Rattle.rsx_operators.specs.Moves.{Moves, EndsLast, is_ending, has_ending, has_ended};
+ghost use Rattle.rsx_operators.specs.State.{plain_from, plain_start, is_over};
 ghost use Rattle.rsx_chain.specs.Chain.{chain_from, chain_over, chain_allocates};
-ghost use Rattle.rsx_chain.specs.Portions.{portion_then, followed_by};
+ghost use Rattle.rsx_chain.specs.Emissions.{followed_by};
+ghost use Rattle.rsx_operators.specs.Emission.{emission_then};
 
-use crate::attempt::{commit, roll_back, try_take};
-use crate::portion::Portion;
-use rsx_plain::{Operator, PlainState};
+use crate::emission::{from_signal, into_signal, put_behind, put_into};
+use rsx_operators::{Emission, Operator, PlainState};
 use rsx_sources::OutSlot;
 use rsx_types::{Ending, NoMemory, Ops, Signal, Stage, StreamValue};
 use std::alloc::Global;
@@ -30,20 +30,20 @@ pub enum ChainState<T> {
 
 /// A chain that has taken nothing yet, with what comes out of it at the start.
 #[derive(Drop)]
-pub struct Begun<T> {
+pub struct NewChain<T> {
     /// The chain.
     pub chain: ChainState<T>,
     /// What comes out at the start.
     pub first: StreamValue<T>,
 }
 
-impl<T: Drop> Begun<T> {
+impl<T: Drop> NewChain<T> {
     ghost use Rattle.std.specs.Prelude.{◌≡◌, true, IfOk};
     ghost use Rattle.rsx_types.specs.Plain.{plain};
     ghost use Rattle.rsx_types.specs.Stream.{Stream};
-    ghost use Rattle.rsx_plain.specs.Moves.{has_ended};
+    ghost use Rattle.rsx_operators.specs.Moves.{has_ended};
     ghost use Rattle.rsx_chain.specs.Chain.{chain_from, chain_over};
-    ghost use Rattle.rsx_chain.specs.Portions.{followed_by};
+    ghost use Rattle.rsx_chain.specs.Emissions.{followed_by};
 
     /// The chain behind an operator that has taken nothing yet, with what comes out of both at the start.
     fn behind<O: Ops<Item = T>>(
@@ -51,15 +51,15 @@ impl<T: Drop> Begun<T> {
         alloc: Global,
         ops: &O,
         stage: &Stage<T>,
-    ) -> Result<Begun<T>, NoMemory>
+    ) -> Result<NewChain<T>, NoMemory>
         ensures fresh { IfOk result (λ b. (v : Stream T) → followed_by self.first (chain_from (O.meaning ops.now) self.chain (plain (O.meaning ops.now) stage.now v)) ≡ followed_by b.first (chain_from (O.meaning ops.now) b.chain v)) }
         ensures over { IfOk result (λ b. chain_over b.chain ≡ true → has_ended b.first.ending ≡ true) }
     {
-        let Begun { chain, first } = self;
+        let NewChain { chain, first } = self;
         let mut chain = chain;
         let first = chain.take_start(alloc, ops, stage, first)?;
         let chain = chain.behind(alloc, ops, stage)?;
-        Ok(Begun { chain, first })
+        Ok(NewChain { chain, first })
     }
 }
 
@@ -68,10 +68,11 @@ impl<T: Drop> ChainState<T> {
     ghost use Rattle.rsx_types.specs.Meaning.{Meaning};
     ghost use Rattle.rsx_types.specs.Plain.{plain, chained};
     ghost use Rattle.rsx_types.specs.Stream.{Stream};
-    ghost use Rattle.rsx_plain.specs.Moves.{Moves, EndsLast, is_ending, has_ending, has_ended};
-    ghost use Rattle.rsx_plain.specs.State.{plain_from, plain_start, is_over};
+    ghost use Rattle.rsx_operators.specs.Moves.{Moves, EndsLast, is_ending, has_ending, has_ended};
+    ghost use Rattle.rsx_operators.specs.State.{plain_from, plain_start, is_over};
     ghost use Rattle.rsx_chain.specs.Chain.{chain_from, chain_over, chain_allocates};
-    ghost use Rattle.rsx_chain.specs.Portions.{portion_then, followed_by};
+    ghost use Rattle.rsx_chain.specs.Emissions.{followed_by};
+    ghost use Rattle.rsx_operators.specs.Emission.{emission_then};
 
     /// The chain of these operators, the first one innermost, before it has taken anything, with what comes out of it at the
     /// start: the seed of each `scan` goes through the operators behind it, and `take 0` completes at once. Where the chain is
@@ -83,18 +84,18 @@ impl<T: Drop> ChainState<T> {
         alloc: Global,
         ops: &O,
         stages: &[Stage<T>],
-    ) -> Result<Begun<T>, NoMemory>
+    ) -> Result<NewChain<T>, NoMemory>
         ensures fresh { IfOk result (λ b. (v : Stream T) → chained (O.meaning ops.now) stages.now v ≡ followed_by b.first (chain_from (O.meaning ops.now) b.chain v)) }
         ensures over { IfOk result (λ b. chain_over b.chain ≡ true → has_ended b.first.ending ≡ true) }
     {
         match stages.split_first() {
-            None => Ok(Begun {
+            None => Ok(NewChain {
                 chain: ChainState::End,
                 first: StreamValue::new(Vec::new(alloc), Ending::Open),
             }),
             Some((stage, behind)) => {
-                let begun = ChainState::new(alloc, ops, behind)?;
-                begun.behind(alloc, ops, stage)
+                let chain = ChainState::new(alloc, ops, behind)?;
+                chain.behind(alloc, ops, stage)
             }
         }
     }
@@ -114,7 +115,7 @@ impl<T: Drop> ChainState<T> {
     {
         let seed = start(alloc, ops, stage)?;
         match self.take(alloc, ops, seed) {
-            Ok(out) => out.behind(first),
+            Ok(out) => put_behind(out, first),
             Err(_) => Err(NoMemory),
         }
     }
@@ -157,47 +158,47 @@ impl<T: Drop> ChainState<T> {
         ensures same { OnErr result (self.new ≡ self.old) }
         ensures none { OnErr result (out.new ≡ []) }
     {
-        match self.take(alloc, ops, Portion::from_signal(signal)) {
-            Ok(portion) => {
-                portion.put_into(out);
+        match self.take(alloc, ops, from_signal(signal)) {
+            Ok(emission) => {
+                put_into(emission, out);
                 Ok(())
             }
-            Err(portion) => Err(portion.into_signal()),
+            Err(emission) => Err(into_signal(emission)),
         }
     }
 
-    /// Takes a portion of the input, and answers the portion that comes out. The first operator answers, and its answer stands
+    /// Takes an emission of the input, and answers the emission that comes out. The first operator answers, and its answer stands
     /// once the chain behind it has taken it; where that refuses it, the first operator goes back. So for want of memory the
-    /// portion comes back, and nothing has changed.
+    /// emission comes back, and nothing has changed.
     fn take<O: Ops<Item = T>>(
         &mut self,
         alloc: Global,
         ops: &O,
-        portion: Portion<T>,
-    ) -> Result<Portion<T>, Portion<T>>
-        ensures ok { IfOk result (λ out. (v : Stream T) → chain_from (O.meaning ops.now) self.old (portion_then portion v) ≡ portion_then out (chain_from (O.meaning ops.now) self.new v)) }
-        ensures ended { IfOk result (λ out. has_ended portion.ending ≡ true → has_ended out.ending ≡ true) }
+        emission: Emission<T>,
+    ) -> Result<Emission<T>, Emission<T>>
+        ensures ok { IfOk result (λ out. (v : Stream T) → chain_from (O.meaning ops.now) self.old (emission_then emission v) ≡ emission_then out (chain_from (O.meaning ops.now) self.new v)) }
+        ensures ended { IfOk result (λ out. has_ended emission.ending ≡ true → has_ended out.ending ≡ true) }
         ensures over { IfOk result (λ out. chain_over self.new ≡ true → has_ended out.ending ≡ true) }
-        ensures err { IfErr result (λ p. p ≡ portion) }
+        ensures err { IfErr result (λ p. p ≡ emission) }
         ensures memory { chain_allocates (O.allocates ops.now) self.old ≡ false → IsOk result }
         ensures same { OnErr result (self.new ≡ self.old) }
     {
         match self {
-            ChainState::End => Ok(portion),
+            ChainState::End => Ok(emission),
             ChainState::Stage(state, behind) => {
-                let ending = portion.ending;
-                match try_take(alloc, ops, state, portion) {
-                    Ok(attempt) => match behind.take(alloc, ops, attempt.answer) {
+                let ending = emission.ending;
+                match state.prepare(alloc, ops, emission) {
+                    Ok(prepared) => match behind.take(alloc, ops, prepared.answer) {
                         Ok(out) => {
-                            commit(state, attempt.held);
+                            state.commit(prepared.pending);
                             Ok(out)
                         }
-                        Err(back) => Err(Portion {
-                            item: roll_back(state, attempt.held, back.item),
+                        Err(back) => Err(Emission {
+                            item: state.roll_back(prepared.pending, back.item),
                             ending,
                         }),
                     },
-                    Err(portion) => Err(portion),
+                    Err(emission) => Err(emission),
                 }
             }
         }
@@ -240,18 +241,18 @@ fn start<T: Drop, O: Ops<Item = T>>(
     alloc: Global,
     ops: &O,
     stage: &Stage<T>,
-) -> Result<Portion<T>, NoMemory>
-    ensures fresh { IfOk result (λ p. (m : Meaning T) (v : Stream T) → plain m stage.now v ≡ portion_then p (plain_from m (plain_start stage.now) v)) }
+) -> Result<Emission<T>, NoMemory>
+    ensures fresh { IfOk result (λ p. (m : Meaning T) (v : Stream T) → plain m stage.now v ≡ emission_then p (plain_from m (plain_start stage.now) v)) }
     ensures over { IfOk result (λ p. is_over (plain_start stage.now) ≡ true → has_ended p.ending ≡ true) }
 {
-    let mut portion = Portion {
+    let mut emission = Emission {
         item: None,
         ending: Ending::Open,
     };
     match stage {
-        Stage::Take(0) => portion.ending = Ending::Done,
-        Stage::Scan(_, seed) => portion.item = Some(ops.copy(alloc, seed)?),
+        Stage::Take(0) => emission.ending = Ending::Done,
+        Stage::Scan(_, seed) => emission.item = Some(ops.copy(alloc, seed)?),
         _ => {}
     }
-    Ok(portion)
+    Ok(emission)
 }

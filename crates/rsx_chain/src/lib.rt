@@ -10,15 +10,14 @@
 //! - `ChainState::rest` computes what still comes out.
 //!
 //! For want of memory a signal comes back, and the whole chain is as it was, though the operators in front may have answered
-//! before the one that found no memory. So an operator answers in two steps. First it computes its answer and holds on to
-//! what it needs, to go on or to go back. Once the operators behind it have taken the answer, it goes on, which can't fail;
-//! where they refused it, it goes back. No operator is copied for that.
+//! before the one that found no memory. So an operator answers in two steps, `prepare` and then `commit` or `roll_back` of
+//! `rsx_operators`: it goes on, which can't fail, once the operators behind it have taken its answer, and goes back where they
+//! refused it. No operator is copied for that.
 //!
-//! The definitions stand in `specs/`: `Chain` (what comes out of a chain), `Portions` (what goes from one operator to the next
-//! at once) and `Attempts` (an answer that can still go back). A chain over whole stream values is `chained` of `rsx_types`.
+//! The definitions stand in `specs/`: `Chain` (what comes out of a chain) and `Emissions` (what goes from one operator to the
+//! next at once). A chain over whole stream values is `chained` of `rsx_types`.
 
-mod attempt;
 pub mod chain;
-mod portion;
+mod emission;
 
-pub use chain::{Begun, ChainState};
+pub use chain::{ChainState, NewChain};

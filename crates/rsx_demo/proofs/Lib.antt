@@ -1,3 +1,4 @@
 -- Lemmas that proofs cite.
 pub mod Lengths
 pub mod Lists
+pub mod Tells

@@ -14,5 +14,5 @@ falls [] = omega arith
 falls (is.Int z ∷ vs) = omega (arith, falls vs)
 falls (is.List d ∷ vs) = omega (arith, falls vs)
 
-pub most_le : (v : Inside) → deep-Vals v ≤ data_size (data_of v.items.items)
-most_le v = omega (arith, falls v.items.items)
+pub most_le : (v : Inside) → deep-Vals v ≤ data_size (data_of v.items.value.items)
+most_le v = omega (arith, falls v.items.value.items)

@@ -5,3 +5,4 @@ pub mod Falls
 pub mod Items
 pub mod Lawful
 pub mod Names
+pub mod Same

@@ -127,7 +127,7 @@ fn bits(x: &Val) -> Result<u64, Fault>
 fn listed(alloc: Global, xs: &[Val]) -> Result<Val, NoMemory>
     ensures { IfOk result (λ y. y ≡ list_item xs.now) }
 {
-    Ok(Val::List(Vals::new(copy_items(alloc, xs)?)))
+    Ok(Val::List(Vals::new(alloc, copy_items(alloc, xs)?)?))
 }
 
 /// The numbers from 1 to `n`.
@@ -218,7 +218,7 @@ impl Ops for Demo {
 
     fn tag(&self, alloc: Global, key: u64, x: &Val) -> Result<Val, NoMemory> {
         let pair = vec![in alloc; Val::Int(key.cast_signed()), copy_val(alloc, x)?]?;
-        Ok(Val::List(Vals::new(pair)))
+        Ok(Val::List(Vals::new(alloc, pair)?))
     }
 
     fn copy(&self, alloc: Global, x: &Val) -> Result<Val, NoMemory> {

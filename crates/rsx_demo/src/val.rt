@@ -7,7 +7,11 @@ use std::alloc::Global;
 use std::fmt;
 use std::marker::Model;
 
-/// An item of the demonstration.
+/// An item of the demonstration. It takes 16 bytes.
+///
+/// Lists may be nested to any depth. Dropping an item takes some stack for each level, as do a copy, a comparison and a
+/// printed text: at a depth of some 100,000 lists that can end the program. Each item that [`crate::Demo`] makes is
+/// deeper by one list than what it was made of.
 #[cycle(val)]
 #[derive(Drop)]
 pub enum Val {
@@ -17,12 +21,14 @@ pub enum Val {
     List(Vals),
 }
 
-/// The items of a list.
+/// The items of a list, behind one pointer, so that an item that is a list is as small as one that is a number.
 #[cycle(val)]
 #[derive(Drop)]
 pub struct Vals {
-    items: Vec<Val>,
+    items: Box<Vec<Val>>,
 }
+
+const _: () = prove!(size_of::<Val>() == 16);
 
 impl Model for Vals {
     ghost use Rattle.rsx_demo.specs.Data.{Data, data_code, data_size};
@@ -33,7 +39,7 @@ impl Model for Vals {
 
     ghost use Rattle.rsx_demo.specs.Items.{data_of};
 
-    ghost view = { λ v. data_of v.items.items };
+    ghost view = { λ v. data_of v.items.value.items };
 
     ghost size = { data_size };
 
@@ -46,11 +52,16 @@ impl Vals {
     ghost use Rattle.rsx_demo.specs.Data.{data_len};
     ghost use Rattle.rsx_demo.specs.Items.{data_of};
 
-    /// A list of these items. It takes no memory.
-    pub fn new(items: Vec<Val>) -> Vals
-        ensures { result ≡ data_of items.items }
+    /// A list of these items.
+    ///
+    /// # Errors
+    ///
+    /// [`NoMemory`] where the memory for the list's own place was refused.
+    pub fn new(alloc: Global, items: Vec<Val>) -> Result<Vals, NoMemory>
+        ensures { IfOk result (λ v. v ≡ data_of items.items) }
     {
-        Vals { items }
+        let items = Box::new(alloc, items)?;
+        Ok(Vals { items })
     }
 
     /// The items, in their order.
@@ -95,10 +106,10 @@ fn copy_vals(alloc: Global, x: &Vals) -> Result<Vals, NoMemory>
     ensures { IfOk result (λ y. y ≡ x.now) }
 {
     let mut out = Vec::new(alloc);
-    for item in &x.items {
+    for item in x.items.as_slice() {
         out.push(copy_val(alloc, item)?)?;
     }
-    Ok(Vals { items: out })
+    Vals::new(alloc, out)
 }
 
 /// Copies of these items, in their order.
@@ -147,6 +158,58 @@ fn is_same_list(xs: &Vals, ys: &Vals) -> bool
     true
 }
 
+impl PartialEq for Val {
+    ghost use Rattle.std.specs.Cmp.{partial_equiv_from_equiv};
+    ghost use Rattle.rsx_demo.specs.Same.{same_item, item_equivalence};
+
+    ghost eq = { same_item };
+
+    ghost laws = { partial_equiv_from_equiv item_equivalence };
+
+    fn eq(&self, other: &Val) -> bool {
+        is_same_val(self, other)
+    }
+}
+
+impl Eq for Val {
+    ghost use Rattle.rsx_demo.specs.Same.{item_equivalence};
+
+    ghost laws = { item_equivalence };
+}
+
+impl PartialEq for Vals {
+    ghost use Rattle.std.specs.Cmp.{partial_equiv_from_equiv};
+    ghost use Rattle.rsx_demo.specs.Same.{same_data, data_equivalence};
+
+    ghost eq = { same_data };
+
+    ghost laws = { partial_equiv_from_equiv data_equivalence };
+
+    fn eq(&self, other: &Vals) -> bool {
+        is_same_list(self, other)
+    }
+}
+
+impl Eq for Vals {
+    ghost use Rattle.rsx_demo.specs.Same.{data_equivalence};
+
+    ghost laws = { data_equivalence };
+}
+
+/// The text of `{}`, which is what a script writes for the item.
+impl fmt::Debug for Val {
+    fn fmt<W: fmt::Write>(&self, f: &mut fmt::Formatter<W>) -> fmt::Result {
+        write!(f, "{self}")
+    }
+}
+
+/// The items as `{}` writes them, in brackets.
+impl fmt::Debug for Vals {
+    fn fmt<W: fmt::Write>(&self, f: &mut fmt::Formatter<W>) -> fmt::Result {
+        write!(f, "[{self}]")
+    }
+}
+
 impl fmt::Display for Val {
     #[cycle(shown)]
     fn fmt<W: fmt::Write>(&self, f: &mut fmt::Formatter<W>) -> fmt::Result {
@@ -160,7 +223,7 @@ impl fmt::Display for Val {
 impl fmt::Display for Vals {
     #[cycle(shown)]
     fn fmt<W: fmt::Write>(&self, f: &mut fmt::Formatter<W>) -> fmt::Result {
-        for (i, item) in self.items.iter().enumerate() {
+        for (i, item) in self.items.as_slice().iter().enumerate() {
             if i > 0 {
                 f.write_str(" ")?;
             }

@@ -1,4 +1,5 @@
-// The gate, its seats and its pass.
+//! The gate, its seats and its pass.
+
 ghost use Rattle.std.specs.Prelude.{◌≡◌};
 
 use crate::plays::{Cut, Entering, GivingUp, Glue, Leaving, Marking};
@@ -50,7 +51,9 @@ impl<T: Kept<K>, K> Gate<T, K> {
 
     /// A free gate with this value and key, and its first seat, which has all parts. The key serves the proofs alone, and nothing of it is kept.
     ///
-    /// At `Err` there was no memory, and the value comes back.
+    /// # Errors
+    ///
+    /// The value comes back as it was, where there was no memory for the gate.
     pub fn new(alloc: Global, value: T, key: &K) -> Result<(Gate<T, K>, Seat<T, K>), T>
         requires { T.fits key.now value }
         ensures ok { IfOk result (λ r. (key_of r.0 ≡ key.now) × IsSeatOf r.0 r.1 × (r.1.me.0 ≡ founder key.now)) }
@@ -91,7 +94,9 @@ impl<T: Kept<K>, K> Gate<T, K> {
 
     /// Ends the gate, and gives the value back, which fits the key; the seat's lists stand in one legal history that ends at a free gate.
     ///
-    /// At `Err` some seat that was not joined into this one had the pass, and nothing is known of the value. A seat with all parts gets `Ok`.
+    /// # Errors
+    ///
+    /// Where some seat that was not joined into this one has the pass: the gate ends, too, and the value comes back, of which nothing is known then. A seat with all parts gets `Ok`.
     pub fn close(self, seat: Seat<T, K>) -> Result<T, T>
         requires { IsSeatOf self seat }
         ensures ok { IfOk result (λ x. T.fits (key_of self) x × Stands seat.id seat.me.0) }
@@ -121,9 +126,13 @@ impl<'a, T, K> Pass<'a, T, K> {
     ghost use Rattle.std.specs.Borrow.{sem};
     ghost use Rattle.rsx_gate.specs.Seats.{IsSeatOf, Holds, Entered, Marked, GaveUp, IsMissed, OnMissed, key_of, seat_of, lender_of, rests_if_noted, rests_if_gone, lends_value};
 
-    /// The pass, where the gate is free; else it leaves a note for the holder, and the seat is free again at once. It never waits.
+    /// The pass, where the gate is free. It never waits.
     ///
     /// Put the work where a holder will find it before the call: at Noted it is the holder that sees to it.
+    ///
+    /// # Errors
+    ///
+    /// [`Noted`] where the gate is held: a note stands there for the holder, and the seat is free again at once.
     pub fn enter(seat: &'a mut Seat<T, K>, gate: &Gate<T, K>) -> Result<Pass<'a, T, K>, Noted>
     where
         T: Kept<K>,

@@ -1,4 +1,5 @@
-// The laws of the gate machine, each the contract of a function that does nothing.
+//! The laws of the gate machine, each the contract of a function that does nothing.
+
 ghost use Rattle.rsx_gate.specs.Laws.{AtMostOnePass, GoneHasNoNote, MissedHasNote};
 
 /// In a legal history at most one seat has the pass.

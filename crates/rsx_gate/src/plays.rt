@@ -1,4 +1,5 @@
-// What each step tells its seat. These types are for the proofs alone.
+//! What each step tells its seat. These types are for the proofs alone.
+
 ghost use Rattle.rsx_gate.specs.Plays.{entered, marked, left, gave_up, fewer, joined};
 ghost use Rattle.rsx_gate.specs.Machine.{spent, newcomer};
 

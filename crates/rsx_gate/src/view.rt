@@ -1,11 +1,16 @@
-// What a seat knows. These types are for the proofs alone, and no value of them is made.
+//! What a seat knows. These types are for the proofs alone, and no value of them is made.
+
 use std::collections::LinkedList;
 
 /// One step on the gate's word, with what it found there: 0 free, 1 held, 2 held and noted.
 pub enum Step {
+    /// [`crate::Pass::enter`].
     Enter(u64),
+    /// [`crate::Pass::mark`].
     Mark(u64),
+    /// [`crate::Pass::leave`].
     Leave(u64),
+    /// [`crate::Pass::give_up`].
     GiveUp(u64),
 }
 

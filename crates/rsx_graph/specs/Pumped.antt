@@ -50,8 +50,8 @@ HasRestedAt m budget n olds i news (Ok Wakes) = (n ≡ budget) × IsAnyAwake m n
 HasRestedAt m budget n olds i news (Err r) = (n ≤ budget) × (r ≡ NoMemory)
 
 -- how driving a graph ends after so many moves: Idle where no move is enabled, and Budget where one is and the whole
--- budget was spent; a graph has at most 256 subscriptions
+-- budget was spent
 abbrev pub HasEnded : {T : Type 0} → Meaning T → ℕ → ℕ → List (Subscription T) → Result Pumped Refusal → Type 0
-HasEnded m budget n subs (Ok Idle) = (n ≤ budget) × (length subs ≤ 256 → IsAllQuiet m subs)
+HasEnded m budget n subs (Ok Idle) = (n ≤ budget) × IsAllQuiet m subs
 HasEnded m budget n subs (Ok Budget) = (n ≡ budget) × IsAnyAwake m subs
 HasEnded m budget n subs (Err r) = (n ≤ budget) × (r ≡ NoMemory)

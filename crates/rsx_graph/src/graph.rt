@@ -4,7 +4,7 @@ ghost use Rattle.std.specs.Prelude.{◌≡◌, ◌≢◌, ℕ, ◌+◌, ◌<◌,
 ghost use Rattle.rsx_model.specs.Check.{refusal};
 ghost use Rattle.rsx_subscriber.specs.Past.{given, cancelled, requested};
 ghost use Rattle.rsx_subscriber.specs.Stands.{IsInside, IsMadeAnswer};
-ghost use Rattle.rsx_graph.specs.History.{History, no_history, with_subscriber, with_past, with_made, extended, all_extended, IsSubscribeRefusal, IsMakeRefusal, Belongs, AllBelong, HasAsked, IsLookRefusal, IsTreeRefusal, IsKnownTree, tree_of};
+ghost use Rattle.rsx_graph.specs.History.{History, no_history, with_subscriber, with_past, with_made, extended, all_extended, IsSubscribeRefusal, IsMakeRefusal, Belongs, AllBelong, HasAsked, state_at, IsLookRefusal, IsTreeRefusal, IsKnownTree, tree_of};
 ghost use Rattle.rsx_graph.specs.Done.{IsDone, AllDone};
 ghost use Rattle.rsx_graph.specs.Stands.{StandsFor, IsRequestedAt, IsCancelledAt, IsOwed, HasNotes, HasNotesAt, IsMade, IsMadeAt, allocates_at, allocates_in_tree, enabled_in_tree, enabled_at};
 ghost use Rattle.rsx_graph.specs.Begun.{IsSubscribed};
@@ -24,9 +24,10 @@ use std::alloc::Global;
 #[derive(Drop)]
 pub struct Graph<O: Ops> {
     /// The functions of the caller.
-    pub ops: O,
+    ops: O,
     /// The subscriptions, in the order of their making.
-    pub subscriptions: Vec<Subscription<O::Item>>,
+    subscriptions: Vec<Subscription<O::Item>>,
+    pub ghost few: { length subscriptions.items ≤ 256 },
 }
 
 impl<O: Ops> Graph<O> {
@@ -211,10 +212,10 @@ impl<O: Ops> Graph<O> {
         ensures pumped { (n : ℕ) × HasEnded (O.meaning self.old.ops) budget n self.new.subscriptions.items result × AllPumped (O.meaning self.old.ops) n self.old.subscriptions.items out.old.signals self.new.subscriptions.items out.new.signals }
 
         // Idle means delivered.
-        ensures served { IfOk result (λ p. p ≡ Pumped.Idle → length self.new.subscriptions.items ≤ 256 → (h : History O.Item) → StandsFor (O.meaning self.old.ops) self.new.subscriptions.items h → AllServed (O.meaning self.old.ops) h.published self.new.subscriptions.items h.pasts) }
+        ensures served { IfOk result (λ p. p ≡ Pumped.Idle → (h : History O.Item) → StandsFor (O.meaning self.old.ops) self.new.subscriptions.items h → AllServed (O.meaning self.old.ops) h.published self.new.subscriptions.items h.pasts) }
     {
         let mut left = budget;
-        let count = self.subscriptions.len().min(256) as u32;
+        let count = self.subscriptions.len() as u32;
         for at in 0..count {
             left = match self.pump_one(alloc, SubId(at), left, out) {
                 Ok(Driven::Idle(left)) => left,
@@ -290,7 +291,7 @@ impl<O: Ops> Graph<O> {
             return Err(Refusal::UnknownSub);
         }
         let subscription = &self.subscriptions[at];
-        match subscription.part.notes(alloc) {
+        match subscription.notes(alloc) {
             Ok(notes) => Ok(notes),
             Err(NoMemory) => Err(Refusal::NoMemory),
         }
@@ -327,7 +328,24 @@ impl<O: Ops> Graph<O> {
             return Err(Refusal::UnknownSub);
         }
         let subscription = &self.subscriptions[at];
-        Ok(subscription.demand.asked)
+        Ok(subscription.asked())
+    }
+
+    /// How a subscription stands: whether it is open, has ended, was cancelled, or was closed by a bad request. It takes no
+    /// memory.
+    ///
+    /// # Errors
+    /// G2 exactly where there is no such subscription.
+    pub fn standing(&self, sub: SubId) -> Result<SubscriptionState, Refusal>
+        ensures standing { IfOk result (λ s. (h : History O.Item) → StandsFor (O.meaning self.now.ops) self.now.subscriptions.items h → state_at h.pasts sub.0 ≡ Some s) }
+        ensures err { IfErr result (λ r. (r ≡ Refusal.UnknownSub) × (length self.now.subscriptions.items ≤ sub.0)) }
+    {
+        let at = sub.0 as usize;
+        if at >= self.subscriptions.len() {
+            return Err(Refusal::UnknownSub);
+        }
+        let subscription = &self.subscriptions[at];
+        Ok(subscription.standing())
     }
 
     /// Makes one step. A refused step leaves all as it was.

@@ -173,8 +173,8 @@ module _ {T : Type 0} where
   AreEnds l u d c = IsUpOf l u × IsDownOf l d × IsCancelSeatOf l c
 
   pub record Closes (u : Up T) (d : Down T) (c : CancelSeat) (r : Closed T) : Type 0 where
-    -- what was taken, and then what is held, is what was sent
-    pub signals : received_signals d ++ r.held ≡ sent_signals u
+    -- what was taken, and then what remains, is what was sent
+    pub signals : received_signals d ++ r.remaining ≡ sent_signals u
     pub asked : r.asked ≡ asked_total d
     pub seen : seen_total u ≤ r.asked
     pub refused : r.refused ≡ is_refused (down_steps d)

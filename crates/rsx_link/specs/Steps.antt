@@ -47,7 +47,7 @@ flags_after (SeeFlags n) a = n
 flags_after (Cancel n) a = a
 flags_after (Refuse n) a = a
 
--- the flags that a look found last
+-- the flags that were found last
 abbrev pub flags_of : List Step → ℕ
 flags_of [] = 0
 flags_of (x ∷ xs) = flags_after x (flags_of xs)

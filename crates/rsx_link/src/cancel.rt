@@ -1,4 +1,5 @@
-// The seats by which a link is cancelled.
+//! The seats by which a link is cancelled.
+
 ghost use Rattle.std.specs.Prelude.{◌≡◌, ◌≢◌, []};
 ghost use Rattle.rsx_link.specs.declared.view.Role.TheVariants.{Canceller};
 

@@ -1,25 +1,26 @@
-// What is left of a link once both ends are in one thread.
+//! What is left of a link once both ends are in one thread.
+
 use rsx_types::Signal;
 use rtrb::Consumer;
 use std::marker::Model;
 
 /// The signals that were sent and not taken, the oldest first. Contracts see it as their list.
 #[derive(Drop)]
-pub struct Held<T> {
+pub struct Remaining<T> {
     pub(crate) consumer: Consumer<Signal<T>>,
 }
 
-impl<T> Model for Held<T> {
+impl<T> Model for Remaining<T> {
     ghost use Rattle.std.specs.Prelude.{List};
     ghost use Rattle.rtrb.specs.Ring.{known_items};
     ghost use Rattle.rsx_types.specs.declared.signal.Signal.{Signal};
 
     ghost Value = { List (Signal T) };
 
-    ghost view = { λ h. known_items h.consumer };
+    ghost view = { λ r. known_items r.consumer };
 }
 
-impl<T> Held<T> {
+impl<T> Remaining<T> {
     ghost use Rattle.std.specs.Prelude.{◌≡◌, [], ◌∷◌, length, IfSome, IfNone, IsTrue, ◌↔◌};
 
     /// How many signals are left.
@@ -58,5 +59,5 @@ pub struct Closed<T> {
     /// The receiving end made a bad request.
     pub refused: bool,
     /// The signals that were sent and not taken.
-    pub held: Held<T>,
+    pub remaining: Remaining<T>,
 }

@@ -1,4 +1,5 @@
-// The receiving end.
+//! The receiving end.
+
 ghost use Rattle.std.specs.Prelude.{◌≡◌, ℤ, []};
 ghost use Rattle.rtrb.specs.Ring.{received as received_from};
 ghost use Rattle.rsx_link.specs.Link.{view_cancels};

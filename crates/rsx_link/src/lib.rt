@@ -43,7 +43,7 @@
 //! holds of each [`Up`] and `taken <= asked` of each [`Down`].
 //!
 //! What the sending end sent is compared with what the receiving end took where both are in one thread again:
-//! [`Link::close`] takes both, and then **what was taken, followed by what is still held, is what was sent**. It
+//! [`Link::close`] takes both, and then **what was taken, followed by what remains in the queue, is what was sent**. It
 //! answers the total and the flags, too. Flag 1 is known from both sides there: the right to cancel is one whole,
 //! each [`CancelSeat::split`] halves it and each [`CancelSeat::join`] puts it together, and with the whole in hand
 //! the flag is set exactly where one of these seats cancelled.
@@ -65,7 +65,7 @@ mod up;
 mod view;
 
 pub use cancel::CancelSeat;
-pub use closed::{Closed, Held};
+pub use closed::{Closed, Remaining};
 pub use down::Down;
 pub use link::Link;
 pub use rule::Rule;

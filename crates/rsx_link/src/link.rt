@@ -1,8 +1,9 @@
-// The link's words, and the steps of their seats.
+//! The link's words, and the steps of their seats.
+
 ghost use Rattle.std.specs.Prelude.{◌≡◌};
 
 use crate::cancel::CancelSeat;
-use crate::closed::{Closed, Held};
+use crate::closed::{Closed, Remaining};
 use crate::down::Down;
 use crate::plays::{
     Asking, Cancelling, CutCanceller, CutUpstream, GiveCanceller, Glue, Refusing, SeeingAsked,
@@ -77,9 +78,9 @@ impl<T: Drop> Link<T> {
         Ok((link, up, down, CancelSeat { seat: cancel_seat }))
     }
 
-    /// Takes both ends and a cancel seat back, and answers what the words say and what the queue holds.
+    /// Takes both ends and a cancel seat back, and answers what the words say and what remains in the queue.
     ///
-    /// What was taken, followed by what is held, is what was sent. The total is the receiving end's, and flag 2 says
+    /// What was taken, followed by what remains, is what was sent. The total is the receiving end's, and flag 2 says
     /// whether it made a bad request. Flag 1 is set where the seat cancelled; where it has the whole right to cancel,
     /// because all other seats were joined into it, the flag is set nowhere else.
     pub fn close(self, up: Up<T>, down: Down<T>, cancel: CancelSeat) -> Closed<T>
@@ -109,7 +110,7 @@ impl<T: Drop> Link<T> {
             asked,
             cancelled: flags & CANCELLED != 0,
             refused: flags & REFUSED != 0,
-            held: Held { consumer },
+            remaining: Remaining { consumer },
         }
     }
 }
@@ -123,7 +124,7 @@ impl<T> Link<T> {
     ghost use Rattle.rsx_link.specs.Steps.{asked_of};
     ghost use Rattle.rsx_link.specs.declared.view.Role.TheVariants.{Upstream, Downstream, Canceller};
 
-    // One store, so that a look finds either the old total or the new one.
+    // One store, so that a load finds either the old total or the new one.
     pub(crate) fn store_asked(&self, seat: &mut Seat, total: u64)
         requires seat { (seat.old.table_id ≡ self.now.table.shared.table_id) × (seat.old.me.0.role ≡ Downstream) }
         requires rises { asked_of seat.old.me.0.steps ≤ total }

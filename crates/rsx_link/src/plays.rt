@@ -1,4 +1,5 @@
-// What each step tells its seat. These types are for the proofs alone.
+//! What each step tells its seat. These types are for the proofs alone.
+
 ghost use Rattle.std.specs.Prelude.{[]};
 ghost use Rattle.rsx_link.specs.Link.{fresh, joined, with_parts};
 ghost use Rattle.rsx_link.specs.Parts.{halved};

@@ -1,4 +1,5 @@
-// The rule of a link's table.
+//! The rule of a link's table.
+
 ghost use Rattle.rsx_link.specs.Link.{Linked, newborn};
 
 use crate::view::View;

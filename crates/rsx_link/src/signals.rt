@@ -1,4 +1,5 @@
-// Signals and requests.
+//! Signals and requests.
+
 ghost use Rattle.std.specs.Prelude.{◌≡◌};
 ghost use Rattle.rsx_link.specs.Signals as spec;
 

@@ -1,4 +1,5 @@
-// The sending end.
+//! The sending end.
+
 ghost use Rattle.std.specs.Prelude.{◌≡◌, ◌≤◌, []};
 ghost use Rattle.rtrb.specs.Ring.{sent as sent_into};
 ghost use Rattle.rsx_link.specs.Link.{view_cancels};
@@ -11,7 +12,7 @@ use crate::signals::is_item;
 use rsx_types::Signal;
 use rtrb::{Producer, PushError};
 
-/// What a look found: the total first, and then the flags.
+/// What [`Up::look`] found: the total first, and then the flags.
 #[derive(Clone, Copy, Debug, PartialEq, Eq)]
 pub struct Found {
     /// The items asked for since the link was made, at most 2^63 - 1.
@@ -46,7 +47,7 @@ impl<T> Up<T> {
 
     /// Reads the total that was asked for, and then the flags, each by one load.
     ///
-    /// The total is no smaller than at any look before, and a flag that was seen is seen again. Either may have
+    /// The total is no smaller than in any answer before, and a flag that was seen is seen again. Either may have
     /// changed by the time that the caller reads the answer, but the total only grows and a flag stays set.
     pub fn look(&mut self, link: &Link<T>) -> Found
         requires { IsUpOf link.now self.old }
@@ -62,7 +63,7 @@ impl<T> Up<T> {
         }
     }
 
-    /// How many items may be sent before the next look: the total that was seen last, less the items sent.
+    /// How many items may be sent before the next [`Up::look`]: the total that was seen last, less the items sent.
     pub fn room(&self) -> u64
         ensures { result ≡ seen_total self.now - items_sent self.now }
     {

@@ -1,4 +1,5 @@
-// What a seat of the link's table knows. No value of these types is ever made: they stand in proofs alone.
+//! What a seat of the link's table knows. No value of these types is ever made: they stand in proofs alone.
+
 use std::collections::LinkedList;
 
 /// What a seat is for.

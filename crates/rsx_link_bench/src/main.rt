@@ -1,9 +1,10 @@
 //! The two ends of a link in threads of their own: one sends the numbers from 0 up, the other takes them.
 //!
 //! `rsx_link_bench MODE COUNT` sends COUNT numbers over a link whose queue has room for 64, and prints how many came
-//! in order. Further pairs of MODE and COUNT are further runs, each over a link of its own. MODE is `batches` (48 items are asked for at a time, as a prefetch of 64 does, and the sending end looks
-//! once it has sent all that it saw), `single` (each item taken is asked for again, and the sending end looks before
-//! each) or `lockstep` (one item is asked for at a time, so that each waits for the one before it).
+//! in order. Further pairs of MODE and COUNT are further runs, each over a link of its own. MODE is `batches` (48 items
+//! are asked for at a time, as a prefetch of 64 does, and the sending end looks once it has sent all that it saw),
+//! `single` (each item taken is asked for again, and the sending end looks before each) or `lockstep` (one item is asked
+//! for at a time, so that each waits for the one before it).
 //!
 //! It prints no time, so that its output is the same in every run: `bench/link.sh` takes the time of it.
 #![tactic(auto)]
@@ -115,7 +116,7 @@ fn take_numbers(link: &Link<u64>, mut down: Down<u64>, mode: Mode) -> (Down<u64>
 struct Outcome {
     in_order: u64,
     taken: u64,
-    held: usize,
+    remaining: usize,
 }
 
 fn run<R: Threads + Sync>(
@@ -142,7 +143,7 @@ fn run<R: Threads + Sync>(
     Ok(Outcome {
         in_order,
         taken,
-        held: closed.held.len(),
+        remaining: closed.remaining.len(),
     })
 }
 
@@ -170,8 +171,8 @@ fn main(rt: HostRuntime) -> anyhow::Result<()> {
         };
         let outcome = run(&rt, rt.alloc(), mode, count)?;
         println!(rt;
-            "{} in order, {} taken, {} held",
-            outcome.in_order, outcome.taken, outcome.held
+            "{} in order, {} taken, {} remaining",
+            outcome.in_order, outcome.taken, outcome.remaining
         )?;
     }
     Ok(())

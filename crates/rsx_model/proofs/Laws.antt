@@ -21,7 +21,7 @@ use Rattle.rsx_model.specs.declared.expr.Expr.TheVariants.{Items, Range}
 use Rattle.rsx_model.specs.declared.expr.Expr.TheViews.{Plain}
 use Rattle.rsx_model.specs.Eval.{Environment, meant, quiet}
 use Rattle.rsx_model.specs.Laws.{folded_in, folded, ScanFolds, joined, IsCut, given_lists, BufferCuts, DistinctKeepsFirst, NoBadRequest}
-use Rattle.rsx_model.proofs.Steps.{buffered_full, buffered_more}
+use Rattle.rsx_values.proofs.Steps.{buffered_full, buffered_more}
 use Rattle.rsx_model.proofs.Unfold.{value_Items, value_Range, value_Plain, by_variant}
 
 -- ---- scan

@@ -1,3 +1,2 @@
 pub mod Unfold
-pub mod Steps
 pub mod Laws

@@ -11,8 +11,8 @@ ghost use Rattle.rsx_model.specs.Answer.{Gives, IsScratch, name_codes};
 
 use crate::check::{BadExpr, leaves_of, nodes_of, refusal_of};
 use crate::expr::Expr;
-use crate::plain::{apply, copies_of, range_list};
 use rsx_types::{Ending, NoMemory, Note, Ops, Stage, StreamValue};
+use rsx_values::{apply, copies_of, range_list};
 use std::alloc::Global;
 use thiserror::Error;
 

@@ -5,9 +5,11 @@ use rsx_types::Stage;
 /// An expression: a tree of operators.
 ///
 /// A bad one can be of any depth, and is refused (`check_expr`, `scratch`) without going deeper than the limit of 32
-/// nodes. Dropping it takes some stack for each level, as do `nodes_of` and `leaves_of`: at a depth of some 100,000 nodes
-/// that can end the program.
-#[derive(Drop)]
+/// nodes. Dropping it takes some stack for each level, as do `nodes_of`, `leaves_of`, a comparison and `{:?}`: at a depth of
+/// some 100,000 nodes that can end the program.
+///
+/// Two expressions are equal where they are the same tree of equal operators over equal items.
+#[derive(Debug, PartialEq, Eq, Drop)]
 pub enum Expr<T> {
     /// These items, and then the completion: at most 1,024.
     Items(Vec<T>),

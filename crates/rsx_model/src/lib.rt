@@ -12,7 +12,6 @@ mod check;
 mod evaluate;
 mod expr;
 mod law;
-mod plain;
 
 pub use check::{BadExpr, check_expr, leaves_of, nodes_of};
 pub use evaluate::{ScratchRefusal, scratch};

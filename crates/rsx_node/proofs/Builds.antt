@@ -1,9 +1,9 @@
 -- A tree that was built over the trees of its inputs.
-use Rattle.std.proofs.Common.{◌≡◌, ◌⊎◌, inl, inr, ℕ, zero, suc, ◌+◌, ◌*◌, ◌<◌, Bool, true, false, nat_eq, List, [], ◌∷◌, ◌++◌, length, refl, ap, sym, ◌∙◌, subst, arith, Option, Some, None, option_map, option_and_then, slice_get, Box, Vec, Global, ℤ}
+use Rattle.std.proofs.Common.{◌≡◌, ◌⊎◌, inl, inr, ℕ, zero, suc, ◌+◌, ◌*◌, ◌<◌, Bool, true, false, nat_eq, List, [], ◌∷◌, ◌++◌, length, refl, ap, sym, ◌∙◌, subst, arith, Option, Some, None, option_map, slice_get, Box, Global}
 use Rattle.std.proofs.lemmas.Bool.Decides.{nat_tests}
 use Rattle.std.proofs.lemmas.List.{append-nil}
 use Rattle.rsx_types.specs.Meaning.{Meaning}
-use Rattle.rsx_types.specs.Plain.{plain, listed, range_items}
+use Rattle.rsx_types.specs.Plain.{plain}
 use Rattle.rsx_types.specs.Stream.{Stream}
 use Rattle.rsx_types.specs.declared.note.Note.{Note}
 use Rattle.rsx_types.specs.declared.note.Note.TheVariants.{Nothing, Picks, Ended}
@@ -11,36 +11,32 @@ use Rattle.rsx_types.specs.declared.signal.Signal.{Signal}
 use Rattle.rsx_types.specs.declared.stage.Stage.{Stage}
 use Rattle.rsx_types.specs.declared.stage.Stage.TheVariants.{Map, Filter, Take, Scan, Buffer, Distinct}
 use Rattle.rsx_sources.specs.Machine.{Incoming, incoming_of, quiet as quiet_at}
-use Rattle.rsx_sources.specs.Items.{ItemsLeft, items_comes_out}
-use Rattle.rsx_sources.specs.Range.{range_comes_out}
-use Rattle.rsx_sources.specs.declared.range.RangeNode.{RangeNode}
 use Rattle.rsx_model.specs.Eval.{environment, quiet, meant}
 use Rattle.rsx_model.specs.Check.{first_fault, stage_fits, or_else, unless}
 use Rattle.rsx_model.specs.declared.check.BadExpr.{BadExpr}
 use Rattle.rsx_model.specs.declared.check.BadExpr.TheVariants.{Number}
 use Rattle.rsx_model.specs.declared.expr.Expr.{Expr}
 use Rattle.rsx_model.specs.declared.expr.Expr.TheFolds.{fold_out-Expr}
-use Rattle.rsx_model.specs.declared.expr.Expr.TheVariants.{Items as ItemsOf, Range as RangeOf}
-use Rattle.rsx_model.specs.declared.expr.Expr.TheViews.{Plain as PlainOf, outs-Items, outs-Range, outs-Plain}
-use Rattle.rsx_model.proofs.Unfold.{value_Items, value_Range, value_Plain, first_fault_Plain}
-use Rattle.rsx_plain.specs.Moves.{has_ending}
-use Rattle.rsx_plain.specs.Node.{plain_comes_out, plain_ended, plain_counted, start_slot}
-use Rattle.rsx_plain.specs.State.{plain_start, is_over, balanced}
+use Rattle.rsx_model.specs.declared.expr.Expr.TheViews.{Plain as PlainOf, outs-Plain}
+use Rattle.rsx_model.proofs.Unfold.{value_Plain, first_fault_Plain}
+use Rattle.rsx_operators.specs.Moves.{has_ending}
+use Rattle.rsx_plain.specs.Node.{plain_comes_out, plain_ended, start_slot}
+use Rattle.rsx_operators.specs.State.{plain_start, is_over, balanced}
 use Rattle.rsx_plain.specs.declared.node.PlainNode.{PlainNode}
-use Rattle.rsx_plain.specs.declared.state.PlainState.{PlainState}
+use Rattle.rsx_operators.specs.declared.state.PlainState.{PlainState}
 use Rattle.rsx_tree.specs.declared.edge.Edge.{Edge}
 use Rattle.rsx_tree.specs.declared.edge.EdgeState.TheVariants.{Live}
 use Rattle.rsx_tree.specs.declared.inputs.Inputs.{Inputs, End, More'}
 use Rattle.rsx_tree.specs.declared.node.Node.{Node}
 use Rattle.rsx_tree.specs.Balance.{IsBalanced, IsOwnerBalanced, IsRowBalanced, sent_over}
 use Rattle.rsx_tree.specs.Changed.{Hold}
-use Rattle.rsx_tree.specs.Edges.{EdgeView, closed_if, edge_view}
-use Rattle.rsx_tree.specs.Inputs.{size, comes_in, out_of, beside_of, closed_row_if, notes_of, edges as edges_in}
-use Rattle.rsx_tree.specs.Tree.{comes_out, notes, edges, IsJoined}
+use Rattle.rsx_tree.specs.Edges.{closed_if, edge_view}
+use Rattle.rsx_tree.specs.Inputs.{comes_in, out_of, beside_of, closed_row_if, notes_of, edges as edges_in}
+use Rattle.rsx_tree.specs.Tree.{comes_out, notes, IsJoined}
 use Rattle.rsx_tree.proofs.Rows.{comes_in_closed_if, notes_closed_if}
 use Rattle.rsx_tree.proofs.Effects.{edges_closed_if}
 use Rattle.rsx_node.specs.declared.any_node.AnyNode.{AnyNode}
-use Rattle.rsx_node.specs.declared.any_node.AnyNode.TheVariants.{Items, Range, Plain}
+use Rattle.rsx_node.specs.declared.any_node.AnyNode.TheVariants.{Plain}
 use Rattle.rsx_node.specs.Any.{any_machine}
 use Rattle.rsx_node.specs.Built.{IsBuilt, AllUnrecorded, fresh_edge, fresh_edges, starts_ended}
 

@@ -1,17 +1,23 @@
 -- A node of any kind moves as its kind does.
-use Rattle.std.proofs.Common.{◌≡◌, ap, ℕ, Bool, false, List, Option, Some, None}
+use Rattle.std.specs.Prelude.{IfSome, ⊤}
+use Rattle.std.proofs.Common.{◌≡◌, ap, ℕ, false, Option, Some, None}
 use Rattle.rsx_types.specs.Meaning.{Meaning}
+use Rattle.rsx_types.specs.declared.note.Note.TheVariants.{Nothing}
 use Rattle.rsx_types.specs.declared.signal.Signal.{Signal}
 use Rattle.rsx_types.specs.declared.signal.Signal.TheVariants.{Next, Complete, Error}
 use Rattle.rsx_sources.specs.Counts.{CountsIn, CountsOut}
+use Rattle.rsx_sources.specs.Passed.{IsItemOut, IsPassed, IsTakenIn}
 use Rattle.rsx_sources.specs.Steps.{IsPopped}
+use Rattle.rsx_sources.specs.Items.{ItemsLeft, items_comes_out, items_popped, items_waiting}
+use Rattle.rsx_sources.specs.declared.machine.Passed.{Passed}
+use Rattle.rsx_sources.specs.declared.machine.Passed.TheVariants.{Item, Kept, Declined}
 use Rattle.rsx_sources.specs.Range.{range_comes_out, range_popped, range_waiting}
 use Rattle.rsx_sources.specs.declared.range.RangeNode.{RangeNode}
-use Rattle.rsx_plain.specs.Node.{plain_popped, plain_counted, plain_ended}
+use Rattle.rsx_plain.specs.Node.{plain_comes_out, plain_popped, plain_counted, plain_ended, plain_takes, plain_waiting}
 use Rattle.rsx_plain.specs.declared.node.PlainNode.{PlainNode}
 use Rattle.rsx_node.specs.declared.any_node.AnyNode.{AnyNode}
 use Rattle.rsx_node.specs.declared.any_node.AnyNode.TheVariants.{Items, Range, Plain}
-use Rattle.rsx_node.specs.Any.{any_comes_out, any_popped, any_waiting, any_counted, any_ended}
+use Rattle.rsx_node.specs.Any.{any_comes_out, any_popped, any_waiting, any_counted, any_ended, any_takes}
 
 pub popped_range : {T : Type 0} (m : Meaning T) (old new : RangeNode T) (o : Option (Signal T)) → IsPopped (range_comes_out m) range_popped (range_waiting m old) old o new → IsPopped (any_comes_out m) any_popped (range_waiting m old) (Range old) o (Range new)
 popped_range m old new None h = (h.0, ap Range h.1)
@@ -30,3 +36,39 @@ pub returned_plain : {T : Type 0} (before : AnyNode T) (s : Signal T) (n n' : Pl
 returned_plain (Items a) s n n' h k = absurd h
 returned_plain (Range a) s n n' h k = absurd h
 returned_plain (Plain a) s n n' h k = ap Plain (k a h)
+
+-- ---- an item that goes through in one go
+
+abbrev pub IsOutAny : {T : Type 0} → Meaning T → AnyNode T → T → AnyNode T → Type 0
+IsOutAny m old x new = IsItemOut (any_comes_out m) (any_waiting m) any_popped (λ n. Nothing) any_counted any_ended (λ n i. false) old x new
+
+out_items : {T : Type 0} (m : Meaning T) (old new : ItemsLeft T) (x : T) → IsItemOut (items_comes_out m) (items_waiting m) items_popped (λ n. Nothing) (λ n taken sent. ⊤) (λ n. false) (λ n i. false) old x new → IsOutAny m (Items old) x (Items new)
+out_items m old new x h = record { waited = h.waited; popped_out = h.popped_out; value = h.value; notes = h.notes; counts = h.counts }
+
+out_range : {T : Type 0} (m : Meaning T) (old new : RangeNode T) (x : T) → IsItemOut (range_comes_out m) (range_waiting m) range_popped (λ n. Nothing) (λ n taken sent. ⊤) (λ n. false) (λ n i. false) old x new → IsOutAny m (Range old) x (Range new)
+out_range m old new x h = record { waited = h.waited; popped_out = h.popped_out; value = h.value; notes = h.notes; counts = h.counts }
+
+out_plain : {T : Type 0} (m : Meaning T) (old new : PlainNode T) (x : T) → IsItemOut (plain_comes_out m) (plain_waiting m) plain_popped (λ n. Nothing) plain_counted plain_ended (λ n i. false) old x new → IsOutAny m (Plain old) x (Plain new)
+out_plain m old new x h = record { waited = h.waited; popped_out = h.popped_out; value = h.value; notes = h.notes; counts = h.counts }
+
+pub item_out_items : {T : Type 0} (m : Meaning T) (old new : ItemsLeft T) (o : Option T) → IfSome o (λ x. IsItemOut (items_comes_out m) (items_waiting m) items_popped (λ n. Nothing) (λ n taken sent. ⊤) (λ n. false) (λ n i. false) old x new) → IfSome o (λ x. IsOutAny m (Items old) x (Items new))
+item_out_items m old new None h = h
+item_out_items m old new (Some x) h = out_items m old new x h
+
+pub item_out_range : {T : Type 0} (m : Meaning T) (old new : RangeNode T) (o : Option T) → IfSome o (λ x. IsItemOut (range_comes_out m) (range_waiting m) range_popped (λ n. Nothing) (λ n taken sent. ⊤) (λ n. false) (λ n i. false) old x new) → IfSome o (λ x. IsOutAny m (Range old) x (Range new))
+item_out_range m old new None h = h
+item_out_range m old new (Some x) h = out_range m old new x h
+
+pub item_out_plain : {T : Type 0} (m : Meaning T) (old new : PlainNode T) (o : Option T) → IfSome o (λ x. IsItemOut (plain_comes_out m) (plain_waiting m) plain_popped (λ n. Nothing) plain_counted plain_ended (λ n i. false) old x new) → IfSome o (λ x. IsOutAny m (Plain old) x (Plain new))
+item_out_plain m old new None h = h
+item_out_plain m old new (Some x) h = out_plain m old new x h
+
+in_plain : {T : Type 0} (m : Meaning T) (old new : PlainNode T) (i : ℕ) (s : Signal T) → IsTakenIn (plain_comes_out m) (λ n j f. plain_takes n j) (λ n. Nothing) plain_counted plain_ended (λ n j. false) old i s new →
+    IsTakenIn (any_comes_out m) any_takes (λ n. Nothing) any_counted any_ended (λ n j. false) (Plain old) i s (Plain new)
+in_plain m old new i s h = record { enabled = h.enabled; value = h.value; notes = h.notes; counts = taken_plain old new i s h.counts; goes_on = h.goes_on }
+
+pub passed_plain : {T : Type 0} (m : Meaning T) (old new : PlainNode T) (i : ℕ) (x : T) (r : Passed T) → IsPassed (plain_comes_out m) (plain_waiting m) (λ n j f. plain_takes n j) plain_popped (λ n. Nothing) plain_counted plain_ended (λ n j. false) old i x r new →
+    IsPassed (any_comes_out m) (any_waiting m) any_takes any_popped (λ n. Nothing) any_counted any_ended (λ n j. false) (Plain old) i x r (Plain new)
+passed_plain m old new i x (Item y) h = (Plain h.0, in_plain m old h.0 i (Next x) h.1, out_plain m h.0 new y h.2)
+passed_plain m old new i x Kept h = in_plain m old new i (Next x) h
+passed_plain m old new i x (Declined y) h = (h.0, ap Plain h.1)

@@ -1,5 +1,5 @@
 -- A node of any kind: its meaning is that of its kind.
-use Rattle.std.specs.Prelude.{◌≡◌, ⊤, ℕ, Bool, true, false, List, Option, Some, None}
+use Rattle.std.specs.Prelude.{⊤, ℕ, Bool, false, List, Option}
 use Rattle.rsx_types.specs.declared.note.Note.{Note}
 use Rattle.rsx_types.specs.declared.note.Note.TheVariants.{Nothing}
 use Rattle.rsx_types.specs.declared.signal.Signal.{Signal}
@@ -8,9 +8,9 @@ use Rattle.rsx_types.specs.Stream.{Stream}
 use Rattle.rsx_sources.specs.Machine.{Incoming}
 use Rattle.rsx_sources.specs.declared.machine.Front.{Front}
 use Rattle.rsx_sources.specs.declared.machine.Machine.{Ghosts as Machine}
-use Rattle.rsx_sources.specs.Items.{items_comes_out, items_waiting, items_popped}
-use Rattle.rsx_sources.specs.Range.{range_comes_out, range_waiting, range_popped, range_pop_allocates}
-use Rattle.rsx_plain.specs.Node.{plain_comes_out, plain_waiting, plain_popped, plain_takes, plain_wanted, plain_ended, plain_allocates, plain_counted}
+use Rattle.rsx_sources.specs.Items.{items_comes_out, items_waiting, items_shown, items_popped}
+use Rattle.rsx_sources.specs.Range.{range_comes_out, range_waiting, range_shown, range_popped, range_pop_allocates}
+use Rattle.rsx_plain.specs.Node.{plain_comes_out, plain_waiting, plain_shown, plain_popped, plain_takes, plain_wanted, plain_ended, plain_allocates, plain_counted}
 use Rattle.rsx_node.specs.declared.any_node.AnyNode.{AnyNode}
 use Rattle.rsx_node.specs.declared.any_node.AnyNode.TheVariants.{Items, Range, Plain}
 
@@ -25,6 +25,12 @@ abbrev pub any_waiting : {T : Type 0} → Meaning T → AnyNode T → Option (Si
 any_waiting m (Items n) = items_waiting m n
 any_waiting m (Range n) = range_waiting m n
 any_waiting m (Plain n) = plain_waiting m n
+
+-- which signal that is
+abbrev pub any_shown : {T : Type 0} → AnyNode T → Option Front
+any_shown (Items n) = items_shown n
+any_shown (Range n) = range_shown n
+any_shown (Plain n) = plain_shown n
 
 -- whether such a signal of an input can be taken; a source has no input
 abbrev pub any_takes : {T : Type 0} → AnyNode T → ℕ → Front → Bool
@@ -74,6 +80,7 @@ abbrev pub any_machine : {T : Type 0} → Machine (AnyNode T) T
 any_machine = record {
   comes_out = any_comes_out;
   waiting = any_waiting;
+  shown = any_shown;
   takes = any_takes;
   picks = λ n i a s. false;
   rows = λ n a s. false;

@@ -9,7 +9,7 @@ use Rattle.rsx_types.specs.Notes.{note_then}
 use Rattle.rsx_types.specs.Stream.{Stream}
 use Rattle.rsx_types.specs.declared.note.Note.{Note}
 use Rattle.rsx_types.specs.declared.stage.Stage.{Stage}
-use Rattle.rsx_plain.specs.Moves.{has_ending}
+use Rattle.rsx_operators.specs.Moves.{has_ending}
 use Rattle.rsx_plain.specs.Node.{start_slot}
 use Rattle.rsx_tree.specs.declared.edge.EdgeState.TheVariants.{Live}
 use Rattle.rsx_tree.specs.declared.node.Node.{Node}

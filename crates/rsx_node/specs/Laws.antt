@@ -1,5 +1,5 @@
 -- A node of any kind keeps the laws of its kind.
-use Rattle.std.specs.Prelude.{◌≡◌, ◌<◌, ℕ, Bool, true, false, List, Option, Some, None, refl}
+use Rattle.std.specs.Prelude.{◌≡◌, ◌<◌, ℕ, Bool, true, false, List, Option, Some, None, option_map, refl}
 use Rattle.std.proofs.Common.{inl, inr}
 use Rattle.rsx_types.specs.declared.note.Note.{Note}
 use Rattle.rsx_types.specs.declared.note.Note.TheVariants.{Nothing}
@@ -7,18 +7,44 @@ use Rattle.rsx_types.specs.declared.signal.Signal.{Signal}
 use Rattle.rsx_types.specs.Meaning.{Meaning}
 use Rattle.rsx_types.specs.Notes.{unchosen}
 use Rattle.rsx_types.specs.Stream.{Stream}
-use Rattle.rsx_sources.specs.Counts.{AreWithin, IsHungry, IsHungryAt}
-use Rattle.rsx_sources.specs.Machine.{Incoming}
-use Rattle.rsx_plain.specs.Laws.{plain_drops, plain_ending_waits, plain_hungry}
-use Rattle.rsx_node.specs.Any.{any_comes_out, any_waiting, any_takes, any_ended, any_counted, any_wanted}
+use Rattle.rsx_sources.specs.Counts.{AreWithin, CanStep, IsHungry, IsHungryAt, ends_input}
+use Rattle.rsx_sources.specs.Machine.{Incoming, front_of}
+use Rattle.rsx_sources.specs.Steps.{AllocatesAlike}
+use Rattle.rsx_plain.specs.Laws.{plain_popped_alike, plain_drops, plain_ends, plain_ending_waits, plain_hungry}
+use Rattle.rsx_sources.specs.Range.{range_shows}
+use Rattle.rsx_node.specs.Any.{any_comes_out, any_waiting, any_shown, any_takes, any_ended, any_counted, any_wanted, any_popped, any_pop_allocates, any_signal_allocates}
 use Rattle.rsx_node.specs.declared.any_node.AnyNode.{AnyNode}
 use Rattle.rsx_node.specs.declared.any_node.AnyNode.TheVariants.{Items, Range, Plain}
+
+-- what it shows is what waits
+pub any_shows : {T : Type 0} (m : Meaning T) (n : AnyNode T) → any_shown n ≡ option_map front_of (any_waiting m n)
+any_shows m (Items n) = refl
+any_shows m (Range n) = range_shows m n
+any_shows m (Plain n) = refl
+
+-- what may allocate stays as a signal is taken out
+pub any_popped_alike : {T : Type 0} (old : AnyNode T) (s : Signal T) (new : AnyNode T) → any_popped old s new → AllocatesAlike any_pop_allocates any_signal_allocates old new
+any_popped_alike (Items n) s (Items k) h a = (refl, refl)
+any_popped_alike (Items n) s (Range k) h a = absurd h
+any_popped_alike (Items n) s (Plain k) h a = absurd h
+any_popped_alike (Range n) s (Items k) h a = absurd h
+any_popped_alike (Range n) s (Range k) h a = (refl, refl)
+any_popped_alike (Range n) s (Plain k) h a = absurd h
+any_popped_alike (Plain n) s (Items k) h a = absurd h
+any_popped_alike (Plain n) s (Range k) h a = absurd h
+any_popped_alike (Plain n) s (Plain k) h a = plain_popped_alike n s k h a
 
 -- what comes in no longer matters once it has ended
 pub any_drops : {T : Type 0} (m : Meaning T) (n : AnyNode T) (inc other : Incoming T) (further : Note) → any_ended n ≡ true → any_comes_out m n inc further ≡ any_comes_out m n other further
 any_drops m (Items n) inc other further e = refl
 any_drops m (Range n) inc other further e = refl
 any_drops m (Plain n) inc other further e = plain_drops m n inc other further e
+
+-- nor once it offers its ending
+pub any_ends : {T : Type 0} (m : Meaning T) (n : AnyNode T) (s : Signal T) (inc other : Incoming T) (further : Note) → any_waiting m n ≡ Some s → ends_input s ≡ true → any_comes_out m n inc further ≡ any_comes_out m n other further
+any_ends m (Items n) s inc other further w e = refl
+any_ends m (Range n) s inc other further w e = refl
+any_ends m (Plain n) s inc other further w e = plain_ends m n s inc other further w e
 
 -- something comes out where nothing more is chosen
 pub any_settles : {T : Type 0} (m : Meaning T) (n : AnyNode T) (inc : Incoming T) → (v : Stream T) × (any_comes_out m n inc (unchosen Nothing) ≡ Some v)
@@ -27,10 +53,10 @@ any_settles m (Range n) inc = (_, refl)
 any_settles m (Plain n) inc = (_, refl)
 
 -- once it has ended, a signal waits
-pub any_ending_waits : {T : Type 0} (m : Meaning T) (n : AnyNode T) → any_ended n ≡ true → (s : Signal T) × (any_waiting m n ≡ Some s)
-any_ending_waits m (Items n) e = (_, refl)
-any_ending_waits m (Range n) e = (_, refl)
-any_ending_waits m (Plain n) e = plain_ending_waits m n e
+pub any_ending_waits : {T : Type 0} (m : Meaning T) (n : AnyNode T) (asked sent : ℕ) → any_ended n ≡ true → any_waiting m n ≡ None → sent < asked → CanStep (λ k i a s. false) (λ k a s. false) n asked sent
+any_ending_waits m (Items n) asked sent e none more = cc
+any_ending_waits m (Range n) asked sent e none more = cc
+any_ending_waits m (Plain n) asked sent e none more = plain_ending_waits m n asked sent e none more
 
 -- it isn't stuck
 pub any_hungry : {T : Type 0} (m : Meaning T) (n : AnyNode T) (taken : List ℕ) (asked sent : ℕ) → any_ended n ≡ false → any_counted n taken sent → any_waiting m n ≡ None → sent < asked → AreWithin taken →

@@ -27,14 +27,16 @@ impl<T: Drop> Machine for AnyNode<T> {
     ghost use Rattle.rsx_types.specs.declared.note.Note.TheVariants.{Nothing};
     ghost use Rattle.rsx_sources.specs.Counts.{CountsIn, CountsOut};
     ghost use Rattle.rsx_sources.specs.Machine.{TakesIn, Keeps, Records, front_of, incoming_of};
-    ghost use Rattle.rsx_sources.specs.Steps.{IsPopped, IsNotTaken, IsNotMade};
-    ghost use Rattle.rsx_node.specs.Any.{any_comes_out, any_waiting, any_takes, any_ended, any_counted, any_wanted, any_popped, any_pop_allocates, any_signal_allocates};
-    ghost use Rattle.rsx_node.specs.Laws.{any_drops, any_settles, any_ending_waits, any_hungry};
+    ghost use Rattle.rsx_sources.specs.Steps.{IsPopped, IsNotTaken, IsNotMade, AllocatesAlike};
+    ghost use Rattle.rsx_node.specs.Any.{any_comes_out, any_waiting, any_shown, any_takes, any_ended, any_counted, any_wanted, any_popped, any_pop_allocates, any_signal_allocates};
+    ghost use Rattle.rsx_node.specs.Laws.{any_shows, any_drops, any_ends, any_settles, any_ending_waits, any_hungry, any_popped_alike};
     ghost use Rattle.rsx_node.specs.declared.any_node.AnyNode.{AnyNode};
 
     ghost comes_out = { any_comes_out };
 
     ghost waiting = { any_waiting };
+
+    ghost shown = { any_shown };
 
     ghost takes = { any_takes };
 
@@ -79,6 +81,7 @@ impl<T: Drop> Machine for AnyNode<T> {
         ensures counts { IfOk result (λ s. CountsOut any_counted any_ended (λ n i. false) self.old s self.new) }
         ensures err { OnErr result (self.new ≡ self.old) }
         ensures memory { any_pop_allocates (O.allocates ops.now) self.old ≡ false → IsOk result }
+        ensures alike { AllocatesAlike any_pop_allocates any_signal_allocates self.old self.new }
     {
         match self {
             AnyNode::Items(node) => node.pop_front(alloc, ops),
@@ -128,6 +131,7 @@ impl<T: Drop> Machine for AnyNode<T> {
         ensures counts { OnOk result (CountsIn any_counted any_ended (λ n i. false) self.old input signal self.new) }
         ensures err { IfErr result (IsNotTaken (any_takes self.old input (front_of signal)) signal) }
         ensures memory { any_signal_allocates (O.allocates ops.now) self.old ≡ false → IfErr result (λ e. e ≡ NotTaken.Busy signal) }
+        ensures alike { AllocatesAlike any_pop_allocates any_signal_allocates self.old self.new }
         ensures same { OnErr result (self.new ≡ self.old) }
     {
         match self {
@@ -136,12 +140,21 @@ impl<T: Drop> Machine for AnyNode<T> {
         }
     }
 
+    #[inline]
     fn pop_item<O: Ops<Item = T>>(&mut self, alloc: Global, ops: &O) -> Option<T> {
-        None
+        match self {
+            AnyNode::Items(node) => node.pop_item(alloc, ops),
+            AnyNode::Range(node) => node.pop_item(alloc, ops),
+            AnyNode::Plain(node) => node.pop_item(alloc, ops),
+        }
     }
 
+    #[inline]
     fn pass<O: Ops<Item = T>>(&mut self, alloc: Global, ops: &O, input: u64, item: T) -> Passed<T> {
-        Passed::Declined(item)
+        match self {
+            AnyNode::Items(_) | AnyNode::Range(_) => Passed::Declined(item),
+            AnyNode::Plain(node) => node.pass(alloc, ops, input, item),
+        }
     }
 
     fn can_pick(&self, input: u64, asked: u64, sent: u64) -> bool {
@@ -163,7 +176,7 @@ impl<T: Drop> Machine for AnyNode<T> {
         ensures ok { OnOk result (Records (any_comes_out (O.meaning ops.now)) self.old Nothing self.new) }
         ensures enabled { OnOk result (false ≡ true) }
         ensures err { IfErr result (IsNotMade false) }
-        ensures same { OnErr result (self.new ≡ self.old) }
+        ensures same { self.new ≡ self.old }
     {
         Err(NotMade::NotEnabled)
     }
@@ -182,7 +195,7 @@ impl<T: Drop> Machine for AnyNode<T> {
         ensures ok { OnOk result (Keeps (any_comes_out (O.meaning ops.now)) self.old self.new) }
         ensures enabled { OnOk result (false ≡ true) }
         ensures err { IfErr result (IsNotMade false) }
-        ensures same { OnErr result (self.new ≡ self.old) }
+        ensures same { self.new ≡ self.old }
     {
         Err(NotMade::NotEnabled)
     }
@@ -216,7 +229,13 @@ impl<T: Drop> Machine for AnyNode<T> {
         }
     }
 
+    ghost shows = { any_shows };
+
+    ghost popped_alike = { any_popped_alike };
+
     ghost drops = { any_drops };
+
+    ghost ends = { any_ends };
 
     ghost settles = { any_settles };
 

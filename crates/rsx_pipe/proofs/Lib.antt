@@ -1,4 +1,5 @@
 -- Lemmas about parts.
+pub mod Fetches
 pub mod Looks
 pub mod Numbers
 pub mod Parts

@@ -1,4 +1,5 @@
 -- Definitions that contracts cite.
+pub mod Fetched
 pub mod Output
 pub mod Part
 pub mod Tree

@@ -6,9 +6,9 @@ use rsx_model::Expr;
 use rsx_node::AnyNode;
 use rsx_node::build::build;
 use rsx_queue::{CAPACITY, SignalQueue};
-use rsx_sources::NotMade;
+use rsx_sources::{Front, NotMade};
 use rsx_tree::{Edge, EdgeState, Node, NodeMove};
-use rsx_types::{Move, NoMemory, NodeId, Note, Ops, StreamValue, Tree};
+use rsx_types::{Move, NoMemory, NodeId, Note, Ops, Signal, StreamValue, Tree};
 use std::alloc::Global;
 
 /// How a [`Part::pump`] ended.
@@ -28,9 +28,9 @@ pub enum Pumped {
 #[derive(Drop)]
 pub struct Part<T> {
     /// The tree.
-    pub tree: Node<AnyNode<T>>,
+    tree: Node<AnyNode<T>>,
     /// The edge from the tree's root to its receiver.
-    pub root: Edge,
+    root: Edge,
 }
 
 impl<T: Drop> Part<T> {
@@ -45,6 +45,7 @@ impl<T: Drop> Part<T> {
     ghost use Rattle.rsx_tree.specs.Edges.{closed_view, edge_view};
     ghost use Rattle.rsx_pipe.specs.Tree.{comes_out, notes_of, can_send, pop_allocates, send_allocates, IsAllClosed};
     ghost use Rattle.rsx_tree.specs.Driven.{Spent};
+    ghost use Rattle.rsx_pipe.specs.Fetched.{IsFetched};
     ghost use Rattle.rsx_pipe.specs.Part.{PartStands, IsPutOut, IsMade, IsPumped, IsQuiet, IsAwake, IsSpent, IsRootSent, HasEnded, IsDelivered, make_allocates, number_of, all_edges, move_enabled, tree_of, ask_enabled, send_enabled, IsAsk, IsSend};
 
     /// The part of an expression that `check_expr` accepts, before anything was asked of it.
@@ -267,6 +268,35 @@ impl<T: Drop> Part<T> {
         out.push(signal);
         self.root.carry(front);
         Ok(())
+    }
+
+    /// Makes enabled moves of the tree until its root offers an item, sends that over the root edge, and hands it out: the
+    /// caller puts it into the queue behind the root edge, which has to have room, or takes it from there at once. Each move
+    /// takes one of the budget that is `left`.
+    ///
+    /// It answers nothing where the root edge carries no item now, where the budget is used up, and where the way to an item
+    /// isn't straight, as [`Node::fetch`] says. Then the moves made stand, nothing went over the root edge, and
+    /// [`Part::pump`] goes on from there.
+    #[inline]
+    pub fn fetch<O: Ops<Item = T>>(&mut self, alloc: Global, ops: &O, left: &mut u32) -> Option<T>
+        ensures { IsFetched (O.meaning ops.now) left.old self.old result left.new self.new }
+    {
+        if !self.root.can_carry(Front::Item) {
+            return None;
+        }
+        let asked = self.root.demand.asked;
+        let sent = self.root.demand.sent;
+        let item = match self.tree.fetch(alloc, ops, asked, sent, left) {
+            Some(item) => item,
+            None => return None,
+        };
+        if *left == 0 {
+            self.tree.put_back(Signal::Next(item));
+            return None;
+        }
+        *left -= 1;
+        self.root.carry(Front::Item);
+        Some(item)
     }
 
     /// Makes enabled moves, in an order of its own, until none is enabled (Idle) or `budget` moves were made (Budget); where

@@ -5,28 +5,28 @@ use Rattle.rsx_types.specs.declared.signal.Signal.{Signal}
 use Rattle.rsx_types.specs.declared.signal.Signal.TheVariants.{Next, Complete, Error}
 use Rattle.rsx_sources.specs.Counts.{CountsIn, CountsOut, ends_input, taken_after}
 use Rattle.rsx_sources.specs.Slot.{is_nil}
-use Rattle.rsx_plain.specs.Moves.{has_ending}
+use Rattle.rsx_operators.specs.Moves.{has_ending}
 use Rattle.rsx_plain.specs.Node.{plain_ended, plain_takes, plain_popped, plain_counted}
-use Rattle.rsx_plain.specs.State.{balanced, is_over, Counts}
+use Rattle.rsx_operators.specs.State.{balanced, is_over, Counts}
 use Rattle.rsx_plain.specs.declared.node.PlainNode.{PlainNode}
-use Rattle.rsx_plain.specs.declared.state.PlainState.{PlainState}
+use Rattle.rsx_operators.specs.declared.state.PlainState.{PlainState}
 
 both : (b : Bool) → b ≡ true → b ≡ false → ⊥
 both b x y = cc
 
-nil_of : {A : Type 0} (xs : List A) → is_nil xs ≡ true → xs ≡ []
+pub nil_of : {A : Type 0} (xs : List A) → is_nil xs ≡ true → xs ≡ []
 nil_of [] e = refl
 nil_of (x ∷ xs) e = cc
 
-left_of : (a b : Bool) → a && b ≡ true → a ≡ true
+pub left_of : (a b : Bool) → a && b ≡ true → a ≡ true
 left_of true b e = refl
 left_of false b e = cc
 
-right_of : (a b : Bool) → a && b ≡ true → b ≡ true
+pub right_of : (a b : Bool) → a && b ≡ true → b ≡ true
 right_of true b e = e
 right_of false b e = cc
 
-is_zero : (i : ℕ) → (i == 0) ≡ true → i ≡ 0
+pub is_zero : (i : ℕ) → (i == 0) ≡ true → i ≡ 0
 is_zero i e = grind (arith, nat_tests)
 
 -- ---- the counts

@@ -1,9 +1,8 @@
 -- Where an ending stands in the slot.
-use Rattle.std.proofs.Common.{◌≡◌, ◌≤◌, Bool, true, false, ◌||◌, List, [], ◌∷◌, length, Some, None, refl, ap, arith}
+use Rattle.std.proofs.Common.{◌≡◌, ◌≤◌, Bool, true, false, ◌||◌, List, [], ◌∷◌, length, Some, None, refl, arith}
 use Rattle.std.specs.Prelude.{slice_get}
 use Rattle.rsx_types.specs.declared.signal.Signal.{Signal}
-use Rattle.rsx_types.specs.declared.signal.Signal.TheVariants.{Next, Complete, Error}
-use Rattle.rsx_plain.specs.Moves.{is_ending, has_ending}
+use Rattle.rsx_operators.specs.Moves.{is_ending, has_ending}
 
 -- ---- at most two signals, one by one
 

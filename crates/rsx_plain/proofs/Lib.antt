@@ -1,6 +1,4 @@
 pub mod Balance
-pub mod Counts
-pub mod Drained
-pub mod Residuals
 pub mod Endings
-pub mod Taken
+pub mod Passes
+pub mod Residuals

@@ -11,7 +11,8 @@ use Rattle.rsx_types.specs.declared.signal.Signal.TheVariants.{Next}
 use Rattle.rsx_types.specs.Meaning.{Meaning}
 use Rattle.rsx_types.specs.Stream.{Stream, ended_by, items_then, signal_then, signals_then}
 use Rattle.rsx_sources.specs.Machine.{Incoming, incoming_of}
-use Rattle.rsx_plain.specs.State.{plain_from}
+use Rattle.rsx_operators.specs.State.{plain_from}
+use Rattle.rsx_operators.proofs.Drained.{drop_all}
 use Rattle.rsx_plain.specs.Node.{plain_comes_out}
 use Rattle.rsx_plain.specs.declared.node.PlainNode.{PlainNode}
 
@@ -25,12 +26,6 @@ get_none zero [] h = refl
 get_none (suc at) [] h = rw add-one refl
 get_none zero (x ∷ xs) h = cc
 get_none (suc at) (x ∷ xs) h = rw add-one (rw add-one at (get_none at xs h))
-
-pub drop_all : {A : Type 0} (at : ℕ) (xs : List A) → length xs ≤ at → drop at xs ≡ []
-drop_all zero [] h = refl
-drop_all (suc at) [] h = refl
-drop_all zero (x ∷ xs) h = absurd (omega arith)
-drop_all (suc at) (x ∷ xs) h = drop_all at xs (omega arith)
 
 -- items that came out, and then the signals from the index `at` on, are all the signals of the slot
 abbrev pub IsAfter : {T : Type 0} → List T → ℕ → List (Signal T) → Type 0

@@ -1,5 +1,4 @@
 -- Definitions that contracts cite.
 pub mod Laws
-pub mod Moves
 pub mod Node
-pub mod State
+pub mod Passes

@@ -1,5 +1,5 @@
 -- What still comes out of a plain operator with its out slot.
-use Rattle.std.specs.Prelude.{◌≡◌, ℕ, zero, suc, ◌+◌, ◌<◌, ◌==◌, false, ◌&&◌, Bool, List, [], ◌∷◌, length, slice_get, Option}
+use Rattle.std.specs.Prelude.{◌≡◌, ℕ, zero, suc, ◌+◌, ◌<◌, ◌==◌, false, ◌&&◌, Bool, List, [], ◌∷◌, length, slice_get, Option, option_map}
 use Rattle.rsx_types.specs.declared.note.Note.{Note}
 use Rattle.rsx_types.specs.declared.signal.Signal.{Signal}
 use Rattle.rsx_types.specs.declared.signal.Signal.TheVariants.{Next, Complete}
@@ -7,11 +7,12 @@ use Rattle.rsx_types.specs.declared.stage.Stage.{Stage}
 use Rattle.rsx_types.specs.declared.stage.Stage.TheVariants.{Map, Filter, Take, Scan, Buffer, Distinct}
 use Rattle.rsx_types.specs.Meaning.{Meaning, Allocates}
 use Rattle.rsx_types.specs.Stream.{Stream, signals_then}
-use Rattle.rsx_sources.specs.Machine.{Incoming, quiet}
+use Rattle.rsx_sources.specs.Machine.{Incoming, quiet, front_of}
+use Rattle.rsx_sources.specs.declared.machine.Front.{Front}
 use Rattle.rsx_sources.specs.Slot.{is_nil}
 use Rattle.rsx_plain.specs.declared.node.PlainNode.{PlainNode}
-use Rattle.rsx_plain.specs.Moves.{has_ending}
-use Rattle.rsx_plain.specs.State.{plain_from, wanted_from, allocates_from, balanced, is_over}
+use Rattle.rsx_operators.specs.Moves.{has_ending}
+use Rattle.rsx_operators.specs.State.{plain_from, wanted_from, allocates_from, balanced, is_over}
 
 -- what stands in the slot at the start: the seed of `scan`, and the completion of `take 0`
 abbrev pub start_slot : {T : Type 0} → Stage T → List (Signal T)
@@ -30,6 +31,10 @@ plain_comes_out m n inc further = quiet further (signals_then n.slot (plain_from
 -- the oldest signal of the slot waits
 abbrev pub plain_waiting : {T : Type 0} → Meaning T → PlainNode T → Option (Signal T)
 plain_waiting m n = slice_get n.slot 0
+
+-- which signal that is
+abbrev pub plain_shown : {T : Type 0} → PlainNode T → Option Front
+plain_shown n = option_map front_of (slice_get n.slot 0)
 
 -- a signal of the one input is taken where the slot is empty
 abbrev pub plain_takes : {T : Type 0} → PlainNode T → ℕ → Bool

@@ -2,8 +2,8 @@
 
 ghost use Rattle.std.specs.Prelude.{◌≡◌};
 
-use crate::operator::Operator;
-use crate::state::PlainState;
+use crate::pass::Passing;
+use rsx_operators::{Operator, PlainState};
 use rsx_sources::{Front, Machine, NotMade, NotTaken, OutSlot, Passed};
 use rsx_types::{Ending, NoMemory, Note, Ops, Signal, Stage, StreamValue};
 use std::alloc::Global;
@@ -23,7 +23,7 @@ impl<T: Drop> PlainNode<T> {
     ghost use Rattle.rsx_types.specs.Plain.{plain};
     ghost use Rattle.rsx_types.specs.declared.note.Note.{Note};
     ghost use Rattle.rsx_sources.specs.Machine.{Incoming, quiet};
-    ghost use Rattle.rsx_plain.specs.State.{plain_start};
+    ghost use Rattle.rsx_operators.specs.State.{plain_start};
     ghost use Rattle.rsx_plain.specs.Node.{plain_comes_out, start_slot, plain_ended};
 
     /// The node of an operator before it has taken anything. Its slot begins with the seed of `scan`, or the completion of
@@ -55,21 +55,23 @@ impl<T: Drop> Machine for PlainNode<T> {
     type Item = T;
 
     ghost use Rattle.std.specs.Prelude.{◌≡◌, true, false, refl, IfOk, IfErr, IsOk, IsTrue, OnOk, OnErr};
-    ghost use Rattle.rsx_plain.specs.Laws.{plain_drops, plain_ending_waits, plain_hungry};
-    ghost use Rattle.rsx_types.specs.Meaning.{Meaning};
+    ghost use Rattle.rsx_plain.specs.Laws.{plain_drops, plain_ends, plain_ending_waits, plain_hungry, plain_popped_alike};
+    ghost use Rattle.rsx_types.specs.Meaning.{Meaning, Allocates};
     ghost use Rattle.rsx_types.specs.Notes.{note_then};
     ghost use Rattle.rsx_types.specs.declared.note.Note.{Note};
     ghost use Rattle.rsx_types.specs.declared.note.Note.TheVariants.{Nothing};
     ghost use Rattle.rsx_sources.specs.Counts.{CountsIn, CountsOut};
     ghost use Rattle.rsx_sources.specs.Machine.{Incoming, TakesIn, Keeps, Records, incoming_of};
     ghost use Rattle.rsx_sources.specs.Steps.{IsPopped, IsNotTaken, IsNotMade};
-    ghost use Rattle.rsx_plain.specs.Node.{plain_comes_out, plain_waiting, plain_takes, plain_wanted, plain_popped, plain_ended, plain_allocates, plain_counted};
-    ghost use Rattle.rsx_plain.specs.State.{is_over, after_signal, Counts};
+    ghost use Rattle.rsx_plain.specs.Node.{plain_comes_out, plain_waiting, plain_shown, plain_takes, plain_wanted, plain_popped, plain_ended, plain_allocates, plain_counted};
+    ghost use Rattle.rsx_operators.specs.State.{is_over, after_signal, Counts};
     ghost use Rattle.rsx_plain.specs.declared.node.PlainNode.{PlainNode};
 
     ghost comes_out = { plain_comes_out };
 
     ghost waiting = { plain_waiting };
+
+    ghost shown = { plain_shown };
 
     ghost takes = { λ n i f. plain_takes n i };
 
@@ -114,6 +116,7 @@ impl<T: Drop> Machine for PlainNode<T> {
         ensures ok { IfOk result (λ s. IsPopped (plain_comes_out (O.meaning ops.now)) plain_popped (plain_waiting (O.meaning ops.now) self.old) self.old s self.new) }
         ensures counted { IfOk result (λ s. CountsOut plain_counted plain_ended (λ n i. false) self.old s self.new) }
         ensures err { OnErr result (self.new ≡ self.old) }
+        ensures state { self.new.state ≡ self.old.state }
         ensures memory { IsOk result }
     {
         match self.slot.pop() {
@@ -169,6 +172,7 @@ impl<T: Drop> Machine for PlainNode<T> {
         ensures counted { OnOk result (CountsIn plain_counted plain_ended (λ n i. false) self.old input signal self.new) }
         ensures err { IfErr result (IsNotTaken (plain_takes self.old input) signal) }
         ensures memory { plain_allocates (O.allocates ops.now) self.old ≡ false → IfErr result (λ e. e ≡ NotTaken.Busy signal) }
+        ensures alike { (a : Allocates) → plain_allocates a self.new ≡ plain_allocates a self.old }
         ensures same { OnErr result (self.new ≡ self.old) }
     {
         if input != 0 || !self.slot.is_empty() {
@@ -180,12 +184,17 @@ impl<T: Drop> Machine for PlainNode<T> {
         }
     }
 
+    #[inline]
     fn pop_item<O: Ops<Item = T>>(&mut self, alloc: Global, ops: &O) -> Option<T> {
-        None
+        self.slot.pop_item()
     }
 
+    #[inline]
     fn pass<O: Ops<Item = T>>(&mut self, alloc: Global, ops: &O, input: u64, item: T) -> Passed<T> {
-        Passed::Declined(item)
+        if !self.can_take(input, Front::Item) {
+            return Passed::Declined(item);
+        }
+        self.state.pass(alloc, ops, item)
     }
 
     fn can_pick(&self, input: u64, asked: u64, sent: u64) -> bool {
@@ -207,7 +216,7 @@ impl<T: Drop> Machine for PlainNode<T> {
         ensures ok { OnOk result (Records (plain_comes_out (O.meaning ops.now)) self.old Nothing self.new) }
         ensures enabled { OnOk result (false ≡ true) }
         ensures err { IfErr result (IsNotMade false) }
-        ensures same { OnErr result (self.new ≡ self.old) }
+        ensures same { self.new ≡ self.old }
     {
         Err(NotMade::NotEnabled)
     }
@@ -226,7 +235,7 @@ impl<T: Drop> Machine for PlainNode<T> {
         ensures ok { OnOk result (Keeps (plain_comes_out (O.meaning ops.now)) self.old self.new) }
         ensures enabled { OnOk result (false ≡ true) }
         ensures err { IfErr result (IsNotMade false) }
-        ensures same { OnErr result (self.new ≡ self.old) }
+        ensures same { self.new ≡ self.old }
     {
         Err(NotMade::NotEnabled)
     }
@@ -271,7 +280,13 @@ impl<T: Drop> Machine for PlainNode<T> {
         }
     }
 
+    ghost shows = { λ m n. refl };
+
+    ghost popped_alike = { plain_popped_alike };
+
     ghost drops = { plain_drops };
+
+    ghost ends = { plain_ends };
 
     ghost settles = { λ m n inc. (_, refl) };
 

@@ -3,25 +3,14 @@
 ghost use Rattle.std.specs.Prelude.{◌≡◌, ◌≤◌, ◌++◌, ℕ, List, true, length, string_bytes, OnErr, OnOk};
 
 use rsx_demo::{Demo, Val, is_same_val};
-use rsx_graph::{Deliveries, Graph, Pumped, Refusal};
+use rsx_graph::{Deliveries, Graph, Pumped, Refusal, SubscriptionState};
 use rsx_model::{Expr, ScratchRefusal, scratch};
 use rsx_script::{Answer, Command, Mode, Rest, Shown};
-use rsx_types::{Cause, Ending, NoMemory, Signal, StreamValue, SubId, Tree};
+use rsx_types::{Ending, NoMemory, Signal, StreamValue, SubId, Tree};
 use std::alloc::{AllocFailed, Global};
 
 /// The most moves of one call of `Graph::pump`, so that what it delivers is taken in before it grows large.
 const SLICE: u32 = 65_536;
-
-/// Whether a subscription still takes part.
-#[derive(Clone, Copy)]
-enum Standing {
-    /// It wasn't closed; it may have ended.
-    Live,
-    /// Its subscriber cancelled it while it was open.
-    Cancelled,
-    /// A bad request closed it.
-    Closed,
-}
 
 /// What a run knows of a subscription.
 #[derive(Drop)]
@@ -30,7 +19,6 @@ struct Record {
     received: Vec<Val>,
     /// The ending that was received, or `Open`.
     ending: Ending,
-    standing: Standing,
 }
 
 /// Why a command has no answer of its own.
@@ -142,7 +130,6 @@ impl Session {
             expr,
             received: Vec::new(alloc),
             ending: Ending::Open,
-            standing: Standing::Live,
         })?;
         Ok(Answer::Sub(sub))
     }
@@ -158,11 +145,6 @@ impl Session {
     /// A subscription that ended or was closed stays as it is (rule 3.7).
     fn cancel(&mut self, sub: SubId) -> Result<Answer<'_>, Trouble> {
         self.graph.cancel(sub)?;
-        if let Some(record) = self.records.get_mut(sub.0 as usize) {
-            if let (Ending::Open, Standing::Live) = (record.ending, record.standing) {
-                record.standing = Standing::Cancelled;
-            }
-        }
         Ok(Answer::Done)
     }
 
@@ -198,12 +180,7 @@ impl Session {
         match signal {
             Signal::Next(item) => record.received.push(item)?,
             Signal::Complete => record.ending = Ending::Done,
-            Signal::Error(cause) => {
-                record.ending = Ending::Failed(cause);
-                if cause == Cause::NonPositiveRequest {
-                    record.standing = Standing::Closed;
-                }
-            }
+            Signal::Error(cause) => record.ending = Ending::Failed(cause),
         }
         Ok(())
     }
@@ -220,10 +197,10 @@ impl Session {
 
     fn show_received(&self, alloc: Global, sub: SubId) -> Result<Answer<'_>, Trouble> {
         let record = self.record(sub)?;
-        let rest = match record.standing {
-            Standing::Live => Rest::Owed(self.graph.owed(alloc, sub)?),
-            Standing::Cancelled => Rest::Cancelled,
-            Standing::Closed => Rest::Closed,
+        let rest = match self.graph.standing(sub)? {
+            SubscriptionState::Cancelled => Rest::Cancelled,
+            SubscriptionState::Refused => Rest::Closed,
+            _ => Rest::Owed(self.graph.owed(alloc, sub)?),
         };
         Ok(Answer::Shown(Shown {
             received: record.received.as_slice(),
@@ -248,9 +225,11 @@ impl Session {
     fn check(&self, alloc: Global, sub: SubId) -> Result<Answer<'_>, Trouble> {
         let record = self.record(sub)?;
         let value = self.value(alloc, sub, &record.expr)?;
-        let is_right = match record.standing {
-            Standing::Live => record.is_whole(&self.graph.owed(alloc, sub)?, &value),
-            Standing::Cancelled | Standing::Closed => begins(value.items(), &record.received),
+        let is_right = match self.graph.standing(sub)? {
+            SubscriptionState::Cancelled | SubscriptionState::Refused => {
+                begins(value.items(), &record.received)
+            }
+            _ => record.is_whole(&self.graph.owed(alloc, sub)?, &value),
         };
         Ok(if is_right {
             Answer::Equal

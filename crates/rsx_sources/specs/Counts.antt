@@ -57,6 +57,10 @@ pub record IsHungryAt {S : Type 0} (takes : S → ℕ → Front → Bool) (done 
   pub takes_any : (f : Front) → takes n i f ≡ true
   pub wants : c < wanted n i asked sent
 
+-- an input can be picked, or a row can be made
+abbrev pub CanStep : {S : Type 0} → (S → ℕ → ℕ → ℕ → Bool) → (S → ℕ → ℕ → Bool) → S → ℕ → ℕ → Type 0
+CanStep picks rows n asked sent = ((i : ℕ) × (i < 2 ^ 64) × (picks n i asked sent ≡ true)) ⊎ (rows n asked sent ≡ true)
+
 -- an input can be picked, or a row can be made, or the node wants more at an input
 abbrev pub IsHungry : {S : Type 0} → (S → ℕ → Front → Bool) → (S → ℕ → ℕ → ℕ → Bool) → (S → ℕ → ℕ → Bool) → (S → ℕ → Bool) → (S → ℕ → ℕ → ℕ → ℕ) → S → List ℕ → ℕ → ℕ → Type 0
 IsHungry takes picks rows done wanted n taken asked sent =

@@ -6,7 +6,8 @@ use Rattle.rsx_types.specs.declared.signal.Signal.TheVariants.{Next, Complete, E
 use Rattle.rsx_types.specs.Meaning.{Meaning}
 use Rattle.rsx_types.specs.Plain.{listed}
 use Rattle.rsx_types.specs.Stream.{Stream}
-use Rattle.rsx_sources.specs.Machine.{Incoming, quiet, first_of}
+use Rattle.rsx_sources.specs.Machine.{Incoming, quiet, first_of, front_of}
+use Rattle.rsx_sources.specs.declared.machine.Front.{Front}
 
 -- the items that are left, and how many items there is memory for
 pub record ItemsLeft (T : Type 0) : Type 0 where
@@ -20,6 +21,10 @@ items_comes_out m n inc further = quiet further (listed n.left)
 -- the next item waits, or else the completion
 abbrev pub items_waiting : {T : Type 0} → Meaning T → ItemsLeft T → Option (Signal T)
 items_waiting m n = Some (first_of n.left)
+
+-- which of the two it is
+abbrev pub items_shown : {T : Type 0} → ItemsLeft T → Option Front
+items_shown n = Some (front_of (first_of n.left))
 
 -- an item leaves the list, and there is memory to put it back; the completion leaves all as it is
 abbrev pub items_popped : {T : Type 0} → ItemsLeft T → Signal T → ItemsLeft T → Type 0

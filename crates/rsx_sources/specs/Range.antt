@@ -1,5 +1,6 @@
 -- What still comes out of a range.
-use Rattle.std.specs.Prelude.{◌≡◌, ℕ, ℤ, pos, ◌+◌, ◌-◌, ◌+ℤ◌, Bool, List, map, Option, Some}
+use Rattle.std.specs.Prelude.{◌≡◌, ℕ, ℤ, pos, ◌+◌, ◌-◌, ◌+ℤ◌, Bool, List, [], ◌∷◌, map, Option, Some, option_map, refl}
+use Rattle.std.proofs.Common.{ap}
 use Rattle.std.specs.List.{range_with_len}
 use Rattle.rsx_types.specs.declared.note.Note.{Note}
 use Rattle.rsx_types.specs.declared.signal.Signal.{Signal}
@@ -7,7 +8,8 @@ use Rattle.rsx_types.specs.declared.signal.Signal.TheVariants.{Next, Complete, E
 use Rattle.rsx_types.specs.Meaning.{Meaning, Allocates}
 use Rattle.rsx_types.specs.Plain.{listed}
 use Rattle.rsx_types.specs.Stream.{Stream}
-use Rattle.rsx_sources.specs.Machine.{Incoming, quiet, first_of}
+use Rattle.rsx_sources.specs.Machine.{Incoming, quiet, first_of, front_of}
+use Rattle.rsx_sources.specs.declared.machine.Front.{Front}
 use Rattle.rsx_sources.specs.declared.range.RangeNode.{RangeNode}
 
 -- the items of the numbers first + at, first + at + 1, .. up to first + count, which is left out
@@ -25,6 +27,17 @@ range_comes_out m n inc further = quiet further (listed (range_left m n))
 -- the item of the next number waits, or else the completion
 abbrev pub range_waiting : {T : Type 0} → Meaning T → RangeNode T → Option (Signal T)
 range_waiting m n = Some (first_of (range_left m n))
+
+-- which of the two it is: an item while there are numbers left
+abbrev pub range_shown : {T : Type 0} → RangeNode T → Option Front
+range_shown n = Some (front_of (first_of (range_with_len n.at (n.count - n.at))))
+
+first_mapped : {A B : Type 0} (f : A → B) (xs : List A) → front_of (first_of xs) ≡ front_of (first_of (map f xs))
+first_mapped f [] = refl
+first_mapped f (x ∷ xs) = refl
+
+pub range_shows : {T : Type 0} (m : Meaning T) (n : RangeNode T) → range_shown n ≡ option_map front_of (range_waiting m n)
+range_shows m n = ap Some (first_mapped (λ k. m.number (n.first +ℤ pos k)) (range_with_len n.at (n.count - n.at)))
 
 -- an item leaves the range; the completion leaves all as it is
 abbrev pub range_popped : {T : Type 0} → RangeNode T → Signal T → RangeNode T → Type 0

@@ -2,6 +2,7 @@
 use Rattle.std.specs.Prelude.{◌≡◌, Bool, true, false, Option, Some, None}
 use Rattle.rsx_types.specs.declared.note.Note.{Note}
 use Rattle.rsx_types.specs.declared.signal.Signal.{Signal}
+use Rattle.rsx_types.specs.Meaning.{Allocates}
 use Rattle.rsx_types.specs.Stream.{Stream}
 use Rattle.rsx_sources.specs.Machine.{Incoming, LetsGo}
 use Rattle.rsx_sources.specs.declared.machine.NotTaken.{NotTaken}
@@ -13,6 +14,10 @@ use Rattle.rsx_sources.specs.declared.machine.NotMade.TheVariants.{NotEnabled, N
 abbrev pub IsPopped : {T S : Type 0} → (S → Incoming T → Note → Option (Stream T)) → (S → Signal T → S → Type 0) → Option (Signal T) → S → Option (Signal T) → S → Type 0
 IsPopped comes_out popped w old None new = (w ≡ None) × (new ≡ old)
 IsPopped comes_out popped w old (Some s) new = (w ≡ Some s) × popped old s new × LetsGo comes_out old s new
+
+-- the same calls may allocate
+abbrev pub AllocatesAlike : {S : Type 0} → (Allocates → S → Bool) → (Allocates → S → Bool) → S → S → Type 0
+AllocatesAlike pops signals old new = (a : Allocates) → (pops a new ≡ pops a old) × (signals a new ≡ signals a old)
 
 -- the signal came back, and the node was busy exactly where it says so
 abbrev pub IsNotTaken : {T : Type 0} → Bool → Signal T → NotTaken T → Type 0

@@ -62,12 +62,14 @@ impl<T: Drop> Machine for ItemsNode<T> {
     ghost use Rattle.rsx_types.specs.declared.note.Note.TheVariants.{Nothing};
     ghost use Rattle.rsx_sources.specs.Machine.{TakesIn, Keeps, Records, incoming_of};
     ghost use Rattle.rsx_sources.specs.Steps.{IsPopped, IsNotTaken, IsNotMade};
-    ghost use Rattle.rsx_sources.specs.Items.{ItemsLeft, items_comes_out, items_waiting, items_popped};
+    ghost use Rattle.rsx_sources.specs.Items.{ItemsLeft, items_comes_out, items_waiting, items_shown, items_popped};
     ghost use Rattle.std.proofs.Common.{rules};
 
     ghost comes_out = { items_comes_out };
 
     ghost waiting = { items_waiting };
+
+    ghost shown = { items_shown };
 
     ghost takes = { λ n i f. false };
 
@@ -150,8 +152,9 @@ impl<T: Drop> Machine for ItemsNode<T> {
         Err(NotTaken::Busy(signal))
     }
 
+    #[inline]
     fn pop_item<O: Ops<Item = T>>(&mut self, alloc: Global, ops: &O) -> Option<T> {
-        None
+        self.reversed.pop()
     }
 
     fn pass<O: Ops<Item = T>>(&mut self, alloc: Global, ops: &O, input: u64, item: T) -> Passed<T> {
@@ -227,11 +230,17 @@ impl<T: Drop> Machine for ItemsNode<T> {
         Ok(StreamValue::new(left, Ending::Done))
     }
 
+    ghost shows = { λ m n. refl };
+
+    ghost popped_alike = { λ old s new h a. (refl, refl) };
+
     ghost drops = { λ m n inc other further e. Prim.search rules };
+
+    ghost ends = { λ m n s inc other further w e. Prim.search rules };
 
     ghost settles = { λ m n inc. (_, refl) };
 
-    ghost ending_waits = { λ m n e. (_, refl) };
+    ghost ending_waits = { λ m n asked sent e none more. Prim.search rules };
 
     ghost hungry = { λ m n taken asked sent still counts none more within. Prim.search rules };
 }

@@ -67,6 +67,9 @@ pub trait Machine {
     /// The signal that is offered.
     ghost waiting: { Meaning Self.Item → Self → Option (Signal Self.Item) };
 
+    /// Which signal is offered, if one is.
+    ghost shown: { Self → Option FrontSpec };
+
     /// Whether such a signal of an input can be taken.
     ghost takes: { Self → ℕ → FrontSpec → Bool };
 
@@ -105,14 +108,15 @@ pub trait Machine {
 
     ghost use Rattle.std.specs.Prelude.{◌≡◌, ◌<◌, ◌^◌, OnOk, OnErr, IfOk, IfErr, IfSome, IfNone, IsOk, Some, None, true, false, option_map};
     ghost use Rattle.rsx_types.specs.Notes.{note_then, unchosen};
-    ghost use Rattle.rsx_sources.specs.Counts.{CountsIn, CountsOut, CountsStep, IsHungry, AreWithin};
+    ghost use Rattle.rsx_sources.specs.Counts.{CountsIn, CountsOut, CountsStep, CanStep, IsHungry, AreWithin, ends_input};
     ghost use Rattle.rsx_sources.specs.Machine.{Keeps, TakesIn, Records, front_of, incoming_of};
     ghost use Rattle.rsx_sources.specs.Passed.{IsItemOut, IsPassed};
-    ghost use Rattle.rsx_sources.specs.Steps.{IsPopped, IsNotTaken, IsNotMade};
+    ghost use Rattle.rsx_sources.specs.Steps.{AllocatesAlike, IsPopped, IsNotTaken, IsNotMade};
 
     /// Which signal is offered, if one is: the first signal that still comes out.
     fn front(&self) -> Option<Front>
-        ensures { (m : Meaning Self.Item) → result ≡ option_map front_of (waiting m self.now) };
+        ensures shown { result ≡ shown self.now }
+        ensures first { (m : Meaning Self.Item) → result ≡ option_map front_of (waiting m self.now) };
 
     /// Takes the offered signal out of the node. For want of memory it stays, and the node is unchanged; that comes only
     /// where `pop_allocates`.
@@ -125,7 +129,8 @@ pub trait Machine {
         ensures recorded { recorded self.new ≡ recorded self.old }
         ensures counts { IfOk result (λ s. CountsOut counted ended done self.old s self.new) }
         ensures err { OnErr result (self.new ≡ self.old) }
-        ensures memory { pop_allocates (O.allocates ops.now) self.old ≡ false → IsOk result };
+        ensures memory { pop_allocates (O.allocates ops.now) self.old ≡ false → IsOk result }
+        ensures alike { AllocatesAlike pop_allocates signal_allocates self.old self.new };
 
     /// Puts the signal back that was popped last. Then the node is as it was before that.
     fn put_back(&mut self, signal: Signal<Self::Item>)
@@ -154,12 +159,14 @@ pub trait Machine {
         ensures counts { OnOk result (CountsIn counted ended done self.old input signal self.new) }
         ensures err { IfErr result (IsNotTaken (takes self.old input (front_of signal)) signal) }
         ensures memory { signal_allocates (O.allocates ops.now) self.old ≡ false → IfErr result (λ e. e ≡ NotTaken.Busy signal) }
+        ensures alike { AllocatesAlike pop_allocates signal_allocates self.old self.new }
         ensures same { OnErr result (self.new ≡ self.old) };
 
     /// Takes the offered item out, as `pop_front` does. Where it answers nothing the node is unchanged, and `pop_front`
     /// tells the rest: that nothing is offered, an ending, or want of memory.
     fn pop_item<O: Ops<Item = Self::Item>>(&mut self, alloc: Global, ops: &O) -> Option<Self::Item>
         ensures some { IfSome result (λ x. IsItemOut (comes_out (O.meaning ops.now)) (waiting (O.meaning ops.now)) popped recorded counted ended done self.old x self.new) }
+        ensures alike { AllocatesAlike pop_allocates signal_allocates self.old self.new }
         ensures none { IfNone result (self.new ≡ self.old) };
 
     /// Takes an item of an input in, as `on_signal` does, and takes the item out that the node puts out for it, as
@@ -173,7 +180,8 @@ pub trait Machine {
         input: u64,
         item: Self::Item,
     ) -> Passed<Self::Item>
-        ensures { IsPassed (comes_out (O.meaning ops.now)) (waiting (O.meaning ops.now)) takes popped recorded counted ended done self.old input item result self.new };
+        ensures passed { IsPassed (comes_out (O.meaning ops.now)) (waiting (O.meaning ops.now)) takes popped recorded counted ended done self.old input item result self.new }
+        ensures alike { AllocatesAlike pop_allocates signal_allocates self.old self.new };
 
     /// Whether an input can be picked, where `asked` is asked of the node and it sent `sent` items.
     fn can_pick(&self, input: u64, asked: u64, sent: u64) -> bool
@@ -199,6 +207,7 @@ pub trait Machine {
         ensures composes { (further : Note) → note_then (note_then (recorded self.old) (recording self.old input)) further ≡ note_then (recorded self.old) (note_then (recording self.old input) further) }
         ensures counts { OnOk result (CountsStep counted ended done self.old self.new) }
         ensures err { IfErr result (IsNotMade (picks self.old input asked sent)) }
+        ensures alike { AllocatesAlike pop_allocates signal_allocates self.old self.new }
         ensures same { OnErr result (self.new ≡ self.old) };
 
     /// Whether a row can be made, where `asked` is asked of the node and it sent `sent` items.
@@ -218,6 +227,7 @@ pub trait Machine {
         ensures recorded { recorded self.new ≡ recorded self.old }
         ensures counts { OnOk result (CountsStep counted ended done self.old self.new) }
         ensures err { IfErr result (IsNotMade (rows self.old asked sent)) }
+        ensures alike { AllocatesAlike pop_allocates signal_allocates self.old self.new }
         ensures same { OnErr result (self.new ≡ self.old) };
 
     /// What is to be asked of an input in all, where `asked` is asked of the node and it sent `sent` items.
@@ -239,14 +249,25 @@ pub trait Machine {
     ) -> Result<StreamValue<Self::Item>, NoMemory>
         ensures { IfOk result (λ v. (further : Note) → note_then (recorded self.now) further ≡ recorded self.now → comes_out (O.meaning ops.now) self.now (incoming_of hubs.now incoming.now) further ≡ Some v) };
 
+    /// What is shown is the signal that waits, whatever the caller's functions mean.
+    ghost shows: { (m : Meaning Self.Item) (n : Self) → shown n ≡ option_map front_of (waiting m n) };
+
+    /// Taking the offered signal out, and putting it back, leaves what may allocate as it is. No call changes that, so of a
+    /// node none of whose calls may allocate at the start, none ever may.
+    ghost popped_alike: { (old : Self) (s : Signal Self.Item) (new : Self) → popped old s new → AllocatesAlike pop_allocates signal_allocates old new };
+
     /// What comes in no longer matters to a node that has ended.
     ghost drops: { (m : Meaning Self.Item) (n : Self) (inc other : Incoming Self.Item) (further : Note) → ended n ≡ true → comes_out m n inc further ≡ comes_out m n other further };
+
+    /// Nor does it matter to a node that offers its ending.
+    ghost ends: { (m : Meaning Self.Item) (n : Self) (s : Signal Self.Item) (inc other : Incoming Self.Item) (further : Note) → waiting m n ≡ Some s → ends_input s ≡ true → comes_out m n inc further ≡ comes_out m n other further };
 
     /// Where nothing more is chosen, something comes out.
     ghost settles: { (m : Meaning Self.Item) (n : Self) (inc : Incoming Self.Item) → (v : Stream Self.Item) × (comes_out m n inc (unchosen (recorded n)) ≡ Some v) };
 
-    /// Of a node that has ended, a signal waits: its ending, or an item in front of that.
-    ghost ending_waits: { (m : Meaning Self.Item) (n : Self) → ended n ≡ true → (s : Signal Self.Item) × (waiting m n ≡ Some s) };
+    /// A node that has ended and offers nothing, and of which more is asked than it sent, can make a step: its ending, or an
+    /// item in front of that, is still in it.
+    ghost ending_waits: { (m : Meaning Self.Item) (n : Self) (asked sent : ℕ) → ended n ≡ true → waiting m n ≡ None → sent < asked → CanStep picks rows n asked sent };
 
     /// A node that offers nothing, and of which more is asked than it sent, can make a step or wants more at an input.
     ghost hungry: { (m : Meaning Self.Item) (n : Self) (taken : List ℕ) (asked sent : ℕ) → ended n ≡ false → counted n taken sent → waiting m n ≡ None → sent < asked → AreWithin taken → IsHungry takes picks rows done wanted n taken asked sent };

@@ -68,13 +68,15 @@ impl<T: Drop> Machine for RangeNode<T> {
     ghost use Rattle.rsx_types.specs.declared.note.Note.TheVariants.{Nothing};
     ghost use Rattle.rsx_sources.specs.Machine.{TakesIn, Keeps, Records, incoming_of};
     ghost use Rattle.rsx_sources.specs.Steps.{IsPopped, IsNotTaken, IsNotMade};
-    ghost use Rattle.rsx_sources.specs.Range.{range_comes_out, range_waiting, range_popped, range_pop_allocates};
+    ghost use Rattle.rsx_sources.specs.Range.{range_comes_out, range_waiting, range_shown, range_shows, range_popped, range_pop_allocates};
     ghost use Rattle.rsx_sources.specs.declared.range.RangeNode.{RangeNode};
     ghost use Rattle.std.proofs.Common.{rules};
 
     ghost comes_out = { range_comes_out };
 
     ghost waiting = { range_waiting };
+
+    ghost shown = { range_shown };
 
     ghost takes = { λ n i f. false };
 
@@ -159,8 +161,18 @@ impl<T: Drop> Machine for RangeNode<T> {
         Err(NotTaken::Busy(signal))
     }
 
+    #[inline]
     fn pop_item<O: Ops<Item = T>>(&mut self, alloc: Global, ops: &O) -> Option<T> {
-        None
+        if self.at >= self.count {
+            return None;
+        }
+        match ops.from_i64(alloc, number_at(self.first, self.at)) {
+            Ok(item) => {
+                self.at += 1;
+                Some(item)
+            }
+            Err(NoMemory) => None,
+        }
     }
 
     fn pass<O: Ops<Item = T>>(&mut self, alloc: Global, ops: &O, input: u64, item: T) -> Passed<T> {
@@ -235,11 +247,17 @@ impl<T: Drop> Machine for RangeNode<T> {
         Ok(StreamValue::new(left, Ending::Done))
     }
 
+    ghost shows = { range_shows };
+
+    ghost popped_alike = { λ old s new h a. (refl, refl) };
+
     ghost drops = { λ m n inc other further e. Prim.search rules };
+
+    ghost ends = { λ m n s inc other further w e. Prim.search rules };
 
     ghost settles = { λ m n inc. (_, refl) };
 
-    ghost ending_waits = { λ m n e. (_, refl) };
+    ghost ending_waits = { λ m n asked sent e none more. Prim.search rules };
 
     ghost hungry = { λ m n taken asked sent still counts none more within. Prim.search rules };
 }

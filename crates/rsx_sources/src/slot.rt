@@ -1,8 +1,9 @@
 //! The out slot of a node.
 
-ghost use Rattle.std.specs.Prelude.{◌≡◌, ◌∷◌, [], ◌++◌, ◌<◌, ◌≤◌, ◌==◌, length, slice_get};
+ghost use Rattle.std.specs.Prelude.{◌≡◌, ◌∷◌, [], ◌++◌, ◌<◌, ◌≤◌, ◌==◌, IfSome, IfNone, IsSome, true, false, length, slice_get};
 ghost use Rattle.std.specs.Option.{option_copied, option_to_list};
-ghost use Rattle.rsx_sources.specs.Slot.{is_nil};
+ghost use Rattle.rsx_types.specs.declared.signal.Signal.TheVariants.{Next};
+ghost use Rattle.rsx_sources.specs.Slot.{is_nil, is_item_first};
 
 use rsx_types::Signal;
 use std::marker::Model;
@@ -106,6 +107,33 @@ impl<T: Drop> OutSlot<T> {
             self.first = self.second.take();
         }
         signal
+    }
+
+    /// Takes the oldest signal where that is an item, and answers the item. Otherwise nothing has changed.
+    #[inline]
+    pub fn pop_item(&mut self) -> Option<T>
+        ensures some { IfSome result (λ x. self.old ≡ Next x ∷ self.new) }
+        ensures room { IfSome result (λ x. length self.new < 2) }
+        ensures none { IfNone result (is_item_first self.old ≡ false) }
+        ensures same { IfNone result (self.new ≡ self.old) }
+    {
+        match &self.first {
+            Some(Signal::Next(_)) => self.take_item(),
+            _ => None,
+        }
+    }
+
+    // An item seldom waits here, so this isn't inlined.
+    #[inline(never)]
+    fn take_item(&mut self) -> Option<T>
+        requires { is_item_first self.old ≡ true }
+        ensures some { IfSome result (λ x. (self.old ≡ Next x ∷ self.new) × (length self.new < 2)) }
+        ensures none { IsSome result }
+    {
+        match self.pop() {
+            Some(Signal::Next(item)) => Some(item),
+            _ => None,
+        }
     }
 
     /// Puts a signal in front of the others. It takes no memory.

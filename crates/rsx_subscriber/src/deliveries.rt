@@ -54,6 +54,14 @@ impl<T: Drop> Deliveries<T> {
         signals
     }
 
+    /// Lets all signals go. Their memory stays, so that a list is used again with no growth.
+    pub fn clear(&mut self)
+        ensures signals { self.new.signals ≡ [] }
+        ensures room { self.new.room ≡ self.old.room }
+    {
+        self.signals.clear();
+    }
+
     /// Makes room for one signal more. Where there is room already it takes no memory.
     ///
     /// # Errors

@@ -13,7 +13,7 @@ use rsx_model::Expr;
 use rsx_pipe::{EdgeState, Part, Pumped, SignalQueue};
 use rsx_sources::NotMade;
 use rsx_subscription::{Effect, Input, State, step};
-use rsx_types::{Cause, Ending, Move, NoMemory, Ops, Signal, StreamValue, SubId};
+use rsx_types::{Cause, Ending, Move, NoMemory, Note, Ops, Signal, StreamValue, SubId};
 use std::alloc::Global;
 
 /// One subscription of a graph.
@@ -23,16 +23,16 @@ use std::alloc::Global;
 pub struct Subscription<T> {
     /// The tree of its expression with its edges. Of the root edge asked is what the subscriber requested, and sent what was
     /// put into the queue.
-    pub part: Part<T>,
+    part: Part<T>,
     /// The signals on the root edge, at most 64.
-    pub queue: SignalQueue<T>,
+    queue: SignalQueue<T>,
     /// Where the subscription stands in the table. It is opened before anything else happens (rule 1.9).
-    pub state: State,
+    state: State,
     /// The subscriber's own demand: asked is what it requested, sent the items that it was delivered (rule 1.1).
-    pub demand: Demand,
+    demand: Demand,
     /// Whether the subscriber takes part still: it neither cancelled while it was open nor made a bad request then. The
     /// table has one state for a bad request and for an error of the expression, and this tells them apart.
-    pub live: bool,
+    live: bool,
     pub ghost opened: { state ≡ Fresh → ⊥ },
 }
 
@@ -308,6 +308,23 @@ impl<T: Drop> Subscription<T> {
             return false;
         }
         self.part.is_idle(&self.queue)
+    }
+
+    /// How many items the subscriber asked for.
+    pub fn asked(&self) -> u64
+        ensures { result ≡ self.now.demand.asked }
+    {
+        self.demand.asked
+    }
+
+    /// What the nodes of its tree recorded, in pre-order.
+    ///
+    /// # Errors
+    /// [`NoMemory`] where a growth was refused.
+    pub fn notes(&self, alloc: Global) -> Result<Vec<Note>, NoMemory>
+        ensures { IfOk result (λ v. v.items ≡ notes_of self.now.part.tree) }
+    {
+        self.part.notes(alloc)
     }
 
     /// What is still owed: what is queued, and then what comes out of the tree.

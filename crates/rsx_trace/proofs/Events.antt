@@ -1,7 +1,6 @@
 -- The lines of the grammar are read as their events.
-use Rattle.std.proofs.Common.{◌≡◌, ℕ, ◌<◌, Bool, true, false, List, [], ◌∷◌, length, Some, Ok, lit<, refl, sym, ap, ◌∙◌, arith, inl, inr}
+use Rattle.std.proofs.Common.{◌≡◌, ℕ, Bool, true, false, List, [], ◌∷◌, Option, Some, None, Ok, lit<, refl, sym, ap, ◌∙◌, arith, inl, inr}
 use Rattle.std.specs.Prelude.{ℤ, pos, neg_ℤ, codes, ◌==◌}
-use Rattle.std.specs.List.{position_or_len}
 use Rattle.std.specs.Str.{bytes_eq}
 use Rattle.rsx_types.specs.declared.signal.Cause.{Cause}
 use Rattle.rsx_types.specs.declared.signal.Cause.TheVariants.{User, Function, NonPositiveRequest}
@@ -13,7 +12,8 @@ use Rattle.rsx_trace.specs.declared.line.Kind.TheVariants as kind
 use Rattle.rsx_trace.specs.declared.line.Line.TheVariants as kinds
 use Rattle.rsx_trace.specs.Reading.{word_at, ends, number_of, number_at, signed_of, signed_at, kind_of, cause_at, tail_of, event_at, stamped_at, line_at, first_at}
 use Rattle.rsx_trace.specs.Grammar.{u32, IsNumber, IsSigned, IsCause, IsPlain, IsEvent, IsLine, first_text}
-use Rattle.rsx_trace.proofs.Words.{space, IsWord, StartWell, joined, word_again, number_again, number_of_again, IsWord-number, IsWord-minus, no_minus, not_end}
+use Rattle.rsx_trace.proofs.KindWords.{kind_text, kind_named, name_is}
+use Rattle.rsx_trace.proofs.Words.{IsWord, StartWell, joined, word_again, number_again, number_of_again, IsWord-number, IsWord-minus, no_minus, not_end, stamp}
 
 -- ---- a number with a sign
 
@@ -58,9 +58,6 @@ function_steps : (bytes w rest more : List ℕ) (n : ℕ) → word_at bytes ≡ 
 unfolding cause_at
 function_steps bytes w rest more n e f g h k = rw (e, f, g, h, k) refl
 
-pub name_is : (w : List ℕ) → 0 < length w → position_or_len space w ≡ length w → IsWord w
-name_is w some solid = record { some = some; solid = solid }
-
 cause_again : (ws : List (List ℕ)) (cause : Cause) → IsCause ws cause → cause_at (joined ws) ≡ Ok (cause, [])
 cause_again ws (User n) h =
     let first = word_again (codes "user") (h.0 ∷ []) (name_is (codes "user") (lit< tt) refl) (IsWord-number u32 h.0 n h.1).some in
@@ -84,38 +81,29 @@ event_steps : (bytes w rest more : List ℕ) (k : Kind) (s : ℕ) → word_at by
 unfolding event_at
 event_steps bytes w rest more k s e f g = rw (e, f, g) refl
 
-plain_event : (name : List ℕ) (k : Kind) (e : ℕ → Event) (ws : List (List ℕ)) (s : ℕ) → IsWord name → kind_of name ≡ Some k → ((n : ℕ) → tail_of k n [] ≡ Ok (e n)) → IsPlain name ws s → event_at (joined ws) ≡ Ok (e s)
-plain_event name k e ws s word is done h =
-    let first = word_again name (h.0 ∷ []) word (IsWord-number u32 h.0 s h.1).some in
-    ap (λ (x : List (List ℕ)). event_at (joined x)) h.2 ∙ event_steps (joined (name ∷ h.0 ∷ [])) name (joined (h.0 ∷ [])) [] k s first is (number_again u32 h.0 s [] h.1 tt) ∙ done s
+-- the event of a kind whose lines end with the number of the subscriber
+abbrev plain_of : Kind → ℕ → Option Event
+plain_of kind.Subscribe s = Some (event.Subscribe s)
+plain_of kind.OnSubscribe s = Some (event.OnSubscribe s)
+plain_of kind.Next s = Some (event.Next s)
+plain_of kind.Complete s = Some (event.Complete s)
+plain_of kind.Error s = None
+plain_of kind.Exit s = Some (event.Exit s)
+plain_of kind.Request s = None
+plain_of kind.Cancel s = Some (event.Cancel s)
+plain_of kind.CancelNew s = Some (event.CancelNew s)
 
-subscribe_done : (n : ℕ) → tail_of kind.Subscribe n [] ≡ Ok (event.Subscribe n)
+plain_done : (k : Kind) (s : ℕ) (e : Event) → plain_of k s ≡ Some e → tail_of k s [] ≡ Ok e
 unfolding tail_of ends
-subscribe_done n = refl
-
-on_subscribe_done : (n : ℕ) → tail_of kind.OnSubscribe n [] ≡ Ok (event.OnSubscribe n)
-unfolding tail_of ends
-on_subscribe_done n = refl
-
-next_done : (n : ℕ) → tail_of kind.Next n [] ≡ Ok (event.Next n)
-unfolding tail_of ends
-next_done n = refl
-
-complete_done : (n : ℕ) → tail_of kind.Complete n [] ≡ Ok (event.Complete n)
-unfolding tail_of ends
-complete_done n = refl
-
-exit_done : (n : ℕ) → tail_of kind.Exit n [] ≡ Ok (event.Exit n)
-unfolding tail_of ends
-exit_done n = refl
-
-cancel_done : (n : ℕ) → tail_of kind.Cancel n [] ≡ Ok (event.Cancel n)
-unfolding tail_of ends
-cancel_done n = refl
-
-cancel_new_done : (n : ℕ) → tail_of kind.CancelNew n [] ≡ Ok (event.CancelNew n)
-unfolding tail_of ends
-cancel_new_done n = refl
+plain_done kind.Subscribe s e h = cc
+plain_done kind.OnSubscribe s e h = cc
+plain_done kind.Next s e h = cc
+plain_done kind.Complete s e h = cc
+plain_done kind.Error s e h = absurd cc
+plain_done kind.Exit s e h = cc
+plain_done kind.Request s e h = absurd cc
+plain_done kind.Cancel s e h = cc
+plain_done kind.CancelNew s e h = cc
 
 error_done : (s : ℕ) (bytes : List ℕ) (cause : Cause) → cause_at bytes ≡ Ok (cause, []) → tail_of kind.Error s bytes ≡ Ok (event.Error s cause)
 unfolding tail_of ends
@@ -124,33 +112,6 @@ error_done s bytes cause e = rw e refl
 request_done : (s : ℕ) (bytes : List ℕ) (n : ℤ) → signed_at bytes ≡ Ok (n, []) → tail_of kind.Request s bytes ≡ Ok (event.Request s n)
 unfolding tail_of ends
 request_done s bytes n e = rw e refl
-
-word_subscribe : IsWord (codes "subscribe")
-word_subscribe = name_is (codes "subscribe") (lit< tt) refl
-
-word_on_subscribe : IsWord (codes "on-subscribe")
-word_on_subscribe = name_is (codes "on-subscribe") (lit< tt) refl
-
-word_next : IsWord (codes "next")
-word_next = name_is (codes "next") (lit< tt) refl
-
-word_complete : IsWord (codes "complete")
-word_complete = name_is (codes "complete") (lit< tt) refl
-
-word_error : IsWord (codes "error")
-word_error = name_is (codes "error") (lit< tt) refl
-
-word_exit : IsWord (codes "exit")
-word_exit = name_is (codes "exit") (lit< tt) refl
-
-word_request : IsWord (codes "request")
-word_request = name_is (codes "request") (lit< tt) refl
-
-word_cancel : IsWord (codes "cancel")
-word_cancel = name_is (codes "cancel") (lit< tt) refl
-
-word_cancel_new : IsWord (codes "cancel-new")
-word_cancel_new = name_is (codes "cancel-new") (lit< tt) refl
 
 -- what a line of an event begins with, and what it is read as
 pub record Reads (ws : List (List ℕ)) (e : Event) : Type 0 where
@@ -161,58 +122,43 @@ pub record Reads (ws : List (List ℕ)) (e : Event) : Type 0 where
   pub not-end : bytes_eq first (codes "end") ≡ false
   pub whole : event_at (joined ws) ≡ Ok e
 
-Reads-plain : (name : List ℕ) (k : Kind) (e : ℕ → Event) (ws : List (List ℕ)) (s : ℕ) → IsWord name → bytes_eq name (codes "end") ≡ false → kind_of name ≡ Some k → ((n : ℕ) → tail_of k n [] ≡ Ok (e n)) → IsPlain name ws s → Reads ws (e s)
-Reads-plain name k e ws s word other is done h = record {
-  first = name;
-  rest = joined (h.0 ∷ []);
-  some = rw h.2 word.some;
-  begins = ap (λ (x : List (List ℕ)). word_at (joined x)) h.2 ∙ word_again name (h.0 ∷ []) word (IsWord-number u32 h.0 s h.1).some;
-  not-end = other;
-  whole = plain_event name k e ws s word is done h;
-}
+-- a line that begins with the word of a kind and the number of a subscriber
+Reads-kind : (k : Kind) (ws more : List (List ℕ)) (number : List ℕ) (s : ℕ) (e : Event) → IsNumber u32 number s → StartWell more → tail_of k s (joined more) ≡ Ok e → ws ≡ kind_text k ∷ number ∷ more → Reads ws e
+Reads-kind k ws more number s e n start done is =
+    let known = kind_named k in
+    let first = word_again (kind_text k) (number ∷ more) known.word (IsWord-number u32 number s n).some in
+    record {
+      first = kind_text k;
+      rest = joined (number ∷ more);
+      some = rw is known.word.some;
+      begins = ap (λ (x : List (List ℕ)). word_at (joined x)) is ∙ first;
+      not-end = known.not-end;
+      whole = ap (λ (x : List (List ℕ)). event_at (joined x)) is
+          ∙ event_steps (joined (kind_text k ∷ number ∷ more)) (kind_text k) (joined (number ∷ more)) (joined more) k s first known.kind (number_again u32 number s more n start)
+          ∙ done;
+    }
+
+Reads-plain : (k : Kind) (ws : List (List ℕ)) (s : ℕ) (e : Event) → plain_of k s ≡ Some e → IsPlain (kind_text k) ws s → Reads ws e
+Reads-plain k ws s e is h = Reads-kind k ws [] h.0 s e h.1 tt (plain_done k s e is) h.2
 
 pub Reads-event : (ws : List (List ℕ)) (e : Event) → IsEvent ws e → Reads ws e
-Reads-event ws (event.Subscribe s) h = Reads-plain (codes "subscribe") kind.Subscribe (λ n. event.Subscribe n) ws s word_subscribe refl refl subscribe_done h
-Reads-event ws (event.OnSubscribe s) h = Reads-plain (codes "on-subscribe") kind.OnSubscribe (λ n. event.OnSubscribe n) ws s word_on_subscribe refl refl on_subscribe_done h
-Reads-event ws (event.Next s) h = Reads-plain (codes "next") kind.Next (λ n. event.Next n) ws s word_next refl refl next_done h
-Reads-event ws (event.Complete s) h = Reads-plain (codes "complete") kind.Complete (λ n. event.Complete n) ws s word_complete refl refl complete_done h
+Reads-event ws (event.Subscribe s) h = Reads-plain kind.Subscribe ws s (event.Subscribe s) refl h
+Reads-event ws (event.OnSubscribe s) h = Reads-plain kind.OnSubscribe ws s (event.OnSubscribe s) refl h
+Reads-event ws (event.Next s) h = Reads-plain kind.Next ws s (event.Next s) refl h
+Reads-event ws (event.Complete s) h = Reads-plain kind.Complete ws s (event.Complete s) refl h
 Reads-event ws (event.Error s cause) h =
-    let start = StartWell-cause h.1 cause h.3 in
-    let first = word_again (codes "error") (h.0 ∷ h.1) word_error (IsWord-number u32 h.0 s h.2).some in
-    record {
-      first = codes "error";
-      rest = joined (h.0 ∷ h.1);
-      some = rw h.4 (lit< tt);
-      begins = ap (λ (x : List (List ℕ)). word_at (joined x)) h.4 ∙ first;
-      not-end = refl;
-      whole = ap (λ (x : List (List ℕ)). event_at (joined x)) h.4
-          ∙ event_steps (joined (codes "error" ∷ h.0 ∷ h.1)) (codes "error") (joined (h.0 ∷ h.1)) (joined h.1) kind.Error s first refl (number_again u32 h.0 s h.1 h.2 start)
-          ∙ error_done s (joined h.1) cause (cause_again h.1 cause h.3);
-    }
-Reads-event ws (event.Exit s) h = Reads-plain (codes "exit") kind.Exit (λ n. event.Exit n) ws s word_exit refl refl exit_done h
+    Reads-kind kind.Error ws h.1 h.0 s (event.Error s cause) h.2 (StartWell-cause h.1 cause h.3) (error_done s (joined h.1) cause (cause_again h.1 cause h.3)) h.4
+Reads-event ws (event.Exit s) h = Reads-plain kind.Exit ws s (event.Exit s) refl h
 Reads-event ws (event.Request s n) h =
-    let first = word_again (codes "request") (h.0 ∷ h.1 ∷ []) word_request (IsWord-number u32 h.0 s h.2).some in
-    record {
-      first = codes "request";
-      rest = joined (h.0 ∷ h.1 ∷ []);
-      some = rw h.4 (lit< tt);
-      begins = ap (λ (x : List (List ℕ)). word_at (joined x)) h.4 ∙ first;
-      not-end = refl;
-      whole = ap (λ (x : List (List ℕ)). event_at (joined x)) h.4
-          ∙ event_steps (joined (codes "request" ∷ h.0 ∷ h.1 ∷ [])) (codes "request") (joined (h.0 ∷ h.1 ∷ [])) (joined (h.1 ∷ [])) kind.Request s first refl (number_again u32 h.0 s (h.1 ∷ []) h.2 (IsWord-signed h.1 n h.3).some)
-          ∙ request_done s (joined (h.1 ∷ [])) n (signed_again h.1 n [] h.3 tt);
-    }
-Reads-event ws (event.Cancel s) h = Reads-plain (codes "cancel") kind.Cancel (λ n. event.Cancel n) ws s word_cancel refl refl cancel_done h
-Reads-event ws (event.CancelNew s) h = Reads-plain (codes "cancel-new") kind.CancelNew (λ n. event.CancelNew n) ws s word_cancel_new refl refl cancel_new_done h
+    Reads-kind kind.Request ws (h.1 ∷ []) h.0 s (event.Request s n) h.2 (IsWord-signed h.1 n h.3).some (request_done s (joined (h.1 ∷ [])) n (signed_again h.1 n [] h.3 tt)) h.4
+Reads-event ws (event.Cancel s) h = Reads-plain kind.Cancel ws s (event.Cancel s) refl h
+Reads-event ws (event.CancelNew s) h = Reads-plain kind.CancelNew ws s (event.CancelNew s) refl h
 
 -- ---- a line
 
 line_steps : (stamped : Bool) (bytes w rest : List ℕ) (e : Stamped) → word_at bytes ≡ Ok (w, rest) → bytes_eq w (codes "end") ≡ false → stamped_at stamped bytes ≡ Ok e → line_at stamped bytes ≡ Ok (kinds.Event e)
 unfolding line_at
 line_steps stamped bytes w rest e f g h = rw (f, g, h) refl
-
-abbrev stamp : ℕ → Event → Stamped
-stamp w e = record { worker = w; event = e }
 
 first_steps : (bytes : List ℕ) (e : Stamped) → e.worker ≡ 0 → event_at bytes ≡ Ok e.event → stamped_at false bytes ≡ Ok e
 unfolding stamped_at

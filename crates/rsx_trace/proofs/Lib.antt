@@ -3,6 +3,7 @@ pub mod Numbers
 pub mod Places
 pub mod Lines
 pub mod Words
+pub mod KindWords
 pub mod Events
 pub mod Traces
 pub mod Sound

@@ -1,5 +1,5 @@
 -- Numbers as texts, digit by digit.
-use Rattle.std.proofs.Common.{◌≡◌, ℕ, zero, suc, ◌+◌, ◌-◌, ◌*◌, ◌<◌, ◌≤◌, Bool, true, false, cond, ltb, leb, List, [], ◌∷◌, ◌++◌, length, get_or, take, Option, Some, None, refl, sym, ap, ◌∙◌, arith}
+use Rattle.std.proofs.Common.{◌≡◌, ℕ, zero, suc, ◌+◌, ◌-◌, ◌*◌, ◌<◌, ◌≤◌, Bool, true, false, ltb, leb, List, [], ◌∷◌, ◌++◌, length, get_or, take, Option, Some, None, refl, sym, ap, ◌∙◌, arith}
 use Rattle.std.specs.Prelude.{◌&&◌, ℤ, SomeIff}
 use Rattle.std.specs.Char.{is_ascii_digit, digit_value}
 use Rattle.std.specs.Str.{all_ascii_digits}
@@ -7,43 +7,27 @@ use Rattle.std.specs.Str.Parse.{digits_value}
 use Rattle.std.proofs.lemmas.List.{take_more}
 use Rattle.std.proofs.lemmas.Int.Digits.{digits_value_push}
 use Rattle.std.proofs.lemmas.Str.Parse.{digits_value-take-le, tells_all_ascii_digits}
-use Rattle.std.proofs.lemmas.Bool.{lt-leb}
+use Rattle.std.proofs.lemmas.Bool.{lt-leb, and_parts, and_from, and_left, and_right, cond-true, cond-false}
 use Rattle.std.proofs.lemmas.Str.{digit_value_digit}
 use Rattle.rsx_trace.specs.Reading.{number_of}
 
-both : (a b : Bool) → (a && b) ≡ true → (a ≡ true) × (b ≡ true)
-both true b e = (refl, e)
-both false b e = absurd cc
-
-not_left : (a b : Bool) → a ≡ false → (a && b) ≡ false
-not_left true b e = absurd cc
-not_left false b e = refl
-
-not_right : (a b : Bool) → b ≡ false → (a && b) ≡ false
-not_right true b e = e
-not_right false b e = refl
-
-these : (a b : Bool) → a ≡ true → b ≡ true → (a && b) ≡ true
-these true b e f = f
-these false b e f = absurd cc
-
 digits_push : (ds : List ℕ) (c : ℕ) → all_ascii_digits ds ≡ true → is_ascii_digit c ≡ true → all_ascii_digits (ds ++ c ∷ []) ≡ true
-digits_push [] c h d = these (is_ascii_digit c) true d refl
+digits_push [] c h d = and_from (is_ascii_digit c) true d refl
 digits_push (b ∷ ds) c h d =
-    let parts = both (is_ascii_digit b) (all_ascii_digits ds) h in
-    these (is_ascii_digit b) (all_ascii_digits (ds ++ c ∷ [])) parts.0 (digits_push ds c parts.1 d)
+    let parts = and_parts (is_ascii_digit b) (all_ascii_digits ds) h in
+    and_from (is_ascii_digit b) (all_ascii_digits (ds ++ c ∷ [])) parts.0 (digits_push ds c parts.1 d)
 
 no_digit : (text : List ℕ) (i : ℕ) → i < length text → is_ascii_digit (get_or text i 0) ≡ false → all_ascii_digits text ≡ false
 no_digit [] i lt h = absurd (omega arith)
-no_digit (c ∷ cs) zero lt h = not_left (is_ascii_digit c) (all_ascii_digits cs) h
-no_digit (c ∷ cs) (suc i) lt h = not_right (is_ascii_digit c) (all_ascii_digits cs) (no_digit cs i (omega arith) h)
+no_digit (c ∷ cs) zero lt h = and_left (is_ascii_digit c) (all_ascii_digits cs) h
+no_digit (c ∷ cs) (suc i) lt h = and_right (is_ascii_digit c) (all_ascii_digits cs) (no_digit cs i (omega arith) h)
 
 pub digits_more : (text : List ℕ) (i c : ℕ) → i < length text → c ≡ get_or text i 0 → all_ascii_digits (take i text) ≡ true → is_ascii_digit c ≡ true → all_ascii_digits (take (i + 1) text) ≡ true
 digits_more text i c lt e h d = ap all_ascii_digits (take_more text i 0 lt) ∙ digits_push (take i text) (get_or text i 0) h (ap is_ascii_digit (sym e) ∙ d)
 
 pub ascii_value : (c : ℕ) → is_ascii_digit c ≡ true → (digit_value c + 48 ≡ c) × (c < 58)
 ascii_value c h =
-    let range = (tells_all_ascii_digits.parts c [] (these (is_ascii_digit c) true h refl)).0 in
+    let range = (tells_all_ascii_digits.parts c [] (and_from (is_ascii_digit c) true h refl)).0 in
     (digit_value_digit c range, omega (arith, range))
 
 pub value_more : (text : List ℕ) (i digit value : ℕ) → i < length text → is_ascii_digit (get_or text i 0) ≡ true → digit ≡ get_or text i 0 - 48 → value ≡ digits_value 10 (take i text) → value * 10 + digit ≡ digits_value 10 (take (i + 1) text)
@@ -56,14 +40,6 @@ value_more text i digit value lt d e h =
 test : ℕ → List ℕ → Bool
 test most text = ltb 0 (length text) && all_ascii_digits text && leb (digits_value 10 text) most
 
-chosen_none : (b : Bool) (n : ℕ) → b ≡ false → cond b (Some n) None ≡ None
-chosen_none true n e = absurd cc
-chosen_none false n e = refl
-
-chosen_some : (b : Bool) (n : ℕ) → b ≡ true → cond b (Some n) None ≡ Some n
-chosen_some true n e = refl
-chosen_some false n e = absurd cc
-
 pub number_none_empty : (most : ℕ) (text : List ℕ) → length text ≡ 0 → number_of most text ≡ None
 unfolding number_of
 number_none_empty most [] e = refl
@@ -72,18 +48,18 @@ number_none_empty most (c ∷ cs) e = absurd (omega arith)
 pub number_none_digit : (most : ℕ) (text : List ℕ) (i c : ℕ) → i < length text → c ≡ get_or text i 0 → is_ascii_digit c ≡ false → number_of most text ≡ None
 unfolding number_of
 number_none_digit most text i c lt e h =
-    chosen_none _ (digits_value 10 text) (not_left (ltb 0 (length text) && all_ascii_digits text) (leb (digits_value 10 text) most) (not_right (ltb 0 (length text)) (all_ascii_digits text) (no_digit text i lt (ap is_ascii_digit (sym e) ∙ h))))
+    cond-false _ (Some (digits_value 10 text)) None (and_left (ltb 0 (length text) && all_ascii_digits text) (leb (digits_value 10 text) most) (and_right (ltb 0 (length text)) (all_ascii_digits text) (no_digit text i lt (ap is_ascii_digit (sym e) ∙ h))))
 
 pub number_none_big : (most : ℕ) (text : List ℕ) (j : ℕ) → most < digits_value 10 (take j text) → number_of most text ≡ None
 unfolding number_of
 number_none_big most text j lt =
     let below : digits_value 10 (take j text) ≤ digits_value 10 text = digits_value-take-le 10 text j (omega arith) in
-    chosen_none _ (digits_value 10 text) (not_right (ltb 0 (length text) && all_ascii_digits text) (leb (digits_value 10 text) most) (lt-leb (digits_value 10 text) most (omega arith)))
+    cond-false _ (Some (digits_value 10 text)) None (and_right (ltb 0 (length text) && all_ascii_digits text) (leb (digits_value 10 text) most) (lt-leb (digits_value 10 text) most (omega arith)))
 
 pub number_some : (most : ℕ) (text : List ℕ) → 0 < length text → all_ascii_digits text ≡ true → digits_value 10 text ≤ most → number_of most text ≡ Some (digits_value 10 text)
 unfolding number_of
 number_some most text some digits le =
-    chosen_some _ (digits_value 10 text) (these (ltb 0 (length text) && all_ascii_digits text) (leb (digits_value 10 text) most) (these (ltb 0 (length text)) (all_ascii_digits text) (grind arith) digits) (grind arith))
+    cond-true _ (Some (digits_value 10 text)) None (and_from (ltb 0 (length text) && all_ascii_digits text) (leb (digits_value 10 text) most) (and_from (ltb 0 (length text)) (all_ascii_digits text) (grind arith) digits) (grind arith))
 
 pub some_if : (r : Option ℤ) (P : Type 0) (v : ℤ) → SomeIff r P v → P → r ≡ Some v
 some_if None P v h p = absurd (h p)

@@ -7,10 +7,10 @@ use Rattle.rsx_trace.specs.Gives.{GivesTrace}
 use Rattle.std.specs.List.{position_or_len}
 use Rattle.std.specs.Str.{bytes_eq, all_ascii_digits}
 use Rattle.std.specs.Str.Parse.{digits_value}
-use Rattle.std.proofs.lemmas.Bool.{ltb-true, leb-true, eqb-true}
+use Rattle.std.proofs.lemmas.Bool.{ltb-true, leb-true, eqb-true, and_parts}
 use Rattle.std.proofs.lemmas.Bool.Decides.{nat_tests}
 use Rattle.std.proofs.lemmas.List.{append-nil, take-append-drop, length-take}
-use Rattle.std.proofs.lemmas.Slice.Eq.{bytes_eq-Decides}
+use Rattle.std.proofs.lemmas.Option.{cond_some}
 use Rattle.std.proofs.lemmas.Str.Parse.{tells_all_ascii_digits, numerals_by_value, IsNumeralModel}
 use Rattle.rsx_types.specs.declared.signal.Cause.{Cause}
 use Rattle.rsx_types.specs.declared.signal.Cause.TheVariants.{User, Function, NonPositiveRequest}
@@ -25,7 +25,8 @@ use Rattle.rsx_trace.specs.Texts.{lines}
 use Rattle.rsx_trace.specs.Reading.{◌>>=◌, behind, word_at, valued, ends, number_of, option_map_to, number_at, signed_of, signed_at, kind_of, cause_at, tail_of, event_at, stamped_at, line_at, first_at, at_line, line_then, nothing_more, events_of, trace_of_lines, trace_of}
 use Rattle.rsx_trace.specs.Grammar.{u32, IsNumber, IsSigned, IsCause, IsEvent, IsLine, AreLines, first_text, IsTrace}
 use Rattle.rsx_trace.proofs.Places.{place-le}
-use Rattle.rsx_trace.proofs.Words.{space, IsWord, joined, joined_some, place-append}
+use Rattle.rsx_trace.proofs.KindWords.{kind_text, named, kind_is}
+use Rattle.rsx_trace.proofs.Words.{space, IsWord, joined, joined_some, place_again, place-append, stamp}
 
 -- ---- steps of reading
 
@@ -52,18 +53,10 @@ ok_is x y e = cc
 hd : (b c : ℕ) (xs ys : List ℕ) → b ∷ xs ≡ c ∷ ys → b ≡ c
 hd b c xs ys e = cc
 
-both : (a b : Bool) → (a && b) ≡ true → (a ≡ true) × (b ≡ true)
-both true b e = (refl, e)
-both false b e = absurd cc
-
 -- what a reader took: a word, behind which the line goes on, ends, or has one space at its end
 pub record Took (bytes w rest : List ℕ) : Type 0 where
   pub word : IsWord w
   pub parts : ((rest ≡ []) × (bytes ≡ w)) ⊎ ((rest ≡ 32 ∷ []) ⊎ ((0 < length rest) × (bytes ≡ w ++ 32 ∷ rest)))
-
-place_again : (t : Bool) (n : ℕ) → t ≡ false → cond (not t) (1 + n) 0 ≡ suc n
-place_again true n e = absurd cc
-place_again false n e = omega arith
 
 place_none : (t : Bool) (n : ℕ) → t ≡ true → cond (not t) (1 + n) 0 ≡ 0
 place_none true n e = refl
@@ -190,10 +183,6 @@ record Spelt (P : List (List ℕ) → Type 0) (bytes : List ℕ) : Type 0 where
 own : IsNumeralModel (λ ds. all_ascii_digits ds ≡ true) (digits_value 10)
 own = numerals_by_value (λ ds. all_ascii_digits ds ≡ true) tells_all_ascii_digits
 
-picked : (t : Bool) (v n : ℕ) → cond t (Some v) None ≡ Some n → (t ≡ true) × (v ≡ n)
-picked true v n e = (refl, cc)
-picked false v n e = absurd cc
-
 abbrev some_of : ℤ → Option ℤ
 some_of x = Some x
 
@@ -203,9 +192,9 @@ some_is x y e = cc
 pub number_is : (most : ℕ) (text : List ℕ) (n : ℕ) → number_of most text ≡ Some n → IsNumber most text n
 unfolding number_of
 number_is most text n e =
-    let h = picked ((ltb 0 (length text) && all_ascii_digits text) && leb (digits_value 10 text) most) (digits_value 10 text) n e in
-    let outer = both (ltb 0 (length text) && all_ascii_digits text) (leb (digits_value 10 text) most) h.0 in
-    let inner = both (ltb 0 (length text)) (all_ascii_digits text) outer.0 in
+    let h = cond_some ((ltb 0 (length text) && all_ascii_digits text) && leb (digits_value 10 text) most) (digits_value 10 text) n e in
+    let outer = and_parts (ltb 0 (length text) && all_ascii_digits text) (leb (digits_value 10 text) most) h.0 in
+    let inner = and_parts (ltb 0 (length text)) (all_ascii_digits text) outer.0 in
     let some : 0 < length text = ltb-true 0 (length text) inner.0 in
     let small : digits_value 10 text ≤ most = leb-true (digits_value 10 text) most outer.1 in
     record { digits = (some, own.to text inner.1); value = h.1; small = omega (arith, small, h.1) }
@@ -242,9 +231,6 @@ signed_sound bytes z rest e =
     (b.0.0, signed_is b.0.0 z v.0, subst (λ (r : List ℕ). Took bytes b.0.0 r) v.1 (word_sound bytes b.0.0 b.0.1 b.1))
 
 -- ---- causes
-
-pub named : (w name : List ℕ) → bytes_eq w name ≡ true → w ≡ name
-named w name e = (bytes_eq-Decides w name).0 e
 
 -- the branches of `cause_at`
 abbrev pub function_of : List ℕ → List ℕ × List ℕ → Result (Cause × List ℕ) ℕ
@@ -292,94 +278,6 @@ cause_sound bytes cause e =
     ]
 
 -- ---- events
-
-abbrev pub kind_text : Kind → List ℕ
-kind_text kind.Subscribe = codes "subscribe"
-kind_text kind.OnSubscribe = codes "on-subscribe"
-kind_text kind.Next = codes "next"
-kind_text kind.Complete = codes "complete"
-kind_text kind.Error = codes "error"
-kind_text kind.Exit = codes "exit"
-kind_text kind.Request = codes "request"
-kind_text kind.Cancel = codes "cancel"
-kind_text kind.CancelNew = codes "cancel-new"
-
-abbrev kind_some : Kind → Option Kind
-kind_some k = Some k
-
-kind_same : (a b : Kind) → kind_some a ≡ kind_some b → a ≡ b
-kind_same a b e = cc
-
-pick : (t : Bool) (a : Kind) (o : Option Kind) (k : Kind) → cond t (Some a) o ≡ Some k → ((t ≡ true) × (a ≡ k)) ⊎ (o ≡ Some k)
-pick true a o k e = inl (refl, kind_same a k e)
-pick false a o k e = inr e
-
--- the rest of the tests of `kind_of`, from the last on
-abbrev kinds_from_8 : List ℕ → Option Kind
-kinds_from_8 w = cond (bytes_eq w (codes "cancel-new")) (Some kind.CancelNew) None
-
-abbrev kinds_from_7 : List ℕ → Option Kind
-kinds_from_7 w = cond (bytes_eq w (codes "cancel")) (Some kind.Cancel) (kinds_from_8 w)
-
-abbrev kinds_from_6 : List ℕ → Option Kind
-kinds_from_6 w = cond (bytes_eq w (codes "request")) (Some kind.Request) (kinds_from_7 w)
-
-abbrev kinds_from_5 : List ℕ → Option Kind
-kinds_from_5 w = cond (bytes_eq w (codes "exit")) (Some kind.Exit) (kinds_from_6 w)
-
-abbrev kinds_from_4 : List ℕ → Option Kind
-kinds_from_4 w = cond (bytes_eq w (codes "error")) (Some kind.Error) (kinds_from_5 w)
-
-abbrev kinds_from_3 : List ℕ → Option Kind
-kinds_from_3 w = cond (bytes_eq w (codes "complete")) (Some kind.Complete) (kinds_from_4 w)
-
-abbrev kinds_from_2 : List ℕ → Option Kind
-kinds_from_2 w = cond (bytes_eq w (codes "next")) (Some kind.Next) (kinds_from_3 w)
-
-abbrev kinds_from_1 : List ℕ → Option Kind
-kinds_from_1 w = cond (bytes_eq w (codes "on-subscribe")) (Some kind.OnSubscribe) (kinds_from_2 w)
-
-abbrev kinds_from_0 : List ℕ → Option Kind
-kinds_from_0 w = cond (bytes_eq w (codes "subscribe")) (Some kind.Subscribe) (kinds_from_1 w)
-
-pub kind_is : (w : List ℕ) (k : Kind) → kind_of w ≡ Some k → w ≡ kind_text k
-kind_is w k e =
-    elim (pick (bytes_eq w (codes "subscribe")) kind.Subscribe (kinds_from_1 w) k e) [
-      | inl h ↦ named w (codes "subscribe") h.0 ∙ ap kind_text h.1
-      | inr e1 ↦
-          elim (pick (bytes_eq w (codes "on-subscribe")) kind.OnSubscribe (kinds_from_2 w) k e1) [
-            | inl h ↦ named w (codes "on-subscribe") h.0 ∙ ap kind_text h.1
-            | inr e2 ↦
-                elim (pick (bytes_eq w (codes "next")) kind.Next (kinds_from_3 w) k e2) [
-                  | inl h ↦ named w (codes "next") h.0 ∙ ap kind_text h.1
-                  | inr e3 ↦
-                      elim (pick (bytes_eq w (codes "complete")) kind.Complete (kinds_from_4 w) k e3) [
-                        | inl h ↦ named w (codes "complete") h.0 ∙ ap kind_text h.1
-                        | inr e4 ↦
-                            elim (pick (bytes_eq w (codes "error")) kind.Error (kinds_from_5 w) k e4) [
-                              | inl h ↦ named w (codes "error") h.0 ∙ ap kind_text h.1
-                              | inr e5 ↦
-                                  elim (pick (bytes_eq w (codes "exit")) kind.Exit (kinds_from_6 w) k e5) [
-                                    | inl h ↦ named w (codes "exit") h.0 ∙ ap kind_text h.1
-                                    | inr e6 ↦
-                                        elim (pick (bytes_eq w (codes "request")) kind.Request (kinds_from_7 w) k e6) [
-                                          | inl h ↦ named w (codes "request") h.0 ∙ ap kind_text h.1
-                                          | inr e7 ↦
-                                              elim (pick (bytes_eq w (codes "cancel")) kind.Cancel (kinds_from_8 w) k e7) [
-                                                | inl h ↦ named w (codes "cancel") h.0 ∙ ap kind_text h.1
-                                                | inr e8 ↦
-                                                    elim (pick (bytes_eq w (codes "cancel-new")) kind.CancelNew None k e8) [
-                                                      | inl h ↦ named w (codes "cancel-new") h.0 ∙ ap kind_text h.1
-                                                      | inr none ↦ absurd cc
-                                                    ]
-                                              ]
-                                        ]
-                                  ]
-                            ]
-                      ]
-                ]
-          ]
-    ]
 
 -- what stands behind the number of the subscriber
 record Tail (k : Kind) (number bytes : List ℕ) (e : Event) : Type 0 where
@@ -442,9 +340,6 @@ event_sound bytes e r =
     }
 
 -- ---- lines
-
-abbrev stamp : ℕ → Event → Stamped
-stamp w e = record { worker = w; event = e }
 
 stamped_sound : (stamped : Bool) (bytes : List ℕ) (e : Stamped) → stamped_at stamped bytes ≡ Ok e → IsLine stamped bytes e
 unfolding stamped_at

@@ -1,12 +1,15 @@
 -- Words that are joined by single spaces are read again.
 use Rattle.std.proofs.Common.{◌≡◌, ℕ, suc, ◌+◌, ◌≤◌, ◌<◌, Bool, true, false, eqb, cond, List, [], ◌∷◌, ◌++◌, length, take, drop, Option, Some, Result, Ok, Err, refl, ap, ◌∙◌, arith}
-use Rattle.std.specs.Prelude.{not, ◌&&◌, codes}
+use Rattle.std.specs.Prelude.{not, codes}
 use Rattle.std.specs.List.{position_or_len, join_with_byte}
 use Rattle.std.specs.Str.{bytes_eq, all_ascii_digits}
 use Rattle.std.specs.Str.Parse.{AllDigits}
 use Rattle.std.proofs.lemmas.List.{take_at, drop_at, take_all, drop_all, length-append}
 use Rattle.std.proofs.lemmas.Str.Parse.{tells_all_ascii_digits, numerals_by_value, digit_from_value}
+use Rattle.std.proofs.lemmas.Bool.{cond-false, and_left}
 use Rattle.std.proofs.lemmas.Bool.Decides.{nat_tests}
+use Rattle.rsx_trace.specs.declared.event.Event.{Event}
+use Rattle.rsx_trace.specs.declared.event.Stamped.{Stamped}
 use Rattle.rsx_trace.specs.Reading.{◌>>=◌, behind, word_at, valued, number_of, number_at}
 use Rattle.rsx_trace.specs.Grammar.{IsNumber}
 use Rattle.rsx_trace.proofs.Numbers.{number_some}
@@ -44,15 +47,11 @@ place-append (b ∷ w) rest e =
     let parts = place_step (space b) (position_or_len space w) (length w) e in
     place_again (space b) (position_or_len space (w ++ 32 ∷ rest)) parts.0 ∙ ap (λ (n : ℕ). suc n) (place-append w rest parts.1)
 
-chosen : {A : Type 0} (b : Bool) (x y : A) → b ≡ false → cond b x y ≡ y
-chosen true x y e = absurd cc
-chosen false x y e = refl
-
 pub word_is : (bytes : List ℕ) (n : ℕ) → position_or_len space bytes ≡ n → 0 < n → word_at bytes ≡ Ok (take n bytes, behind (drop n bytes))
 unfolding word_at
 word_is bytes n e lt =
     let some : eqb (position_or_len space bytes) 0 ≡ false = grind (arith, nat_tests) in
-    chosen _ (Err (length bytes)) (Ok (take (position_or_len space bytes) bytes, behind (drop (position_or_len space bytes) bytes))) some
+    cond-false _ (Err (length bytes)) (Ok (take (position_or_len space bytes) bytes, behind (drop (position_or_len space bytes) bytes))) some
     ∙ ap (λ (k : ℕ). Ok (take k bytes, behind (drop k bytes))) e
 
 behind_space : (bytes : List ℕ) → 0 < length bytes → behind (32 ∷ bytes) ≡ bytes
@@ -114,14 +113,15 @@ no_minus most b text n h =
 pub IsWord-minus : (text : List ℕ) → IsWord text → IsWord (codes "-" ++ text)
 IsWord-minus text h = record { some = omega arith; solid = place_again (space 45) (position_or_len space text) refl ∙ ap (λ (n : ℕ). suc n) h.solid }
 
-not_left : (a b : Bool) → a ≡ false → (a && b) ≡ false
-not_left true b e = absurd cc
-not_left false b e = refl
-
 -- a number is no `end`
 pub not_end : (most : ℕ) (text : List ℕ) (n : ℕ) → IsNumber most text n → bytes_eq text (codes "end") ≡ false
 not_end most [] n h = refl
 not_end most (b ∷ text) n h =
     let range = first_digit most b text n h in
     let other : eqb b 101 ≡ false = grind (arith, nat_tests, range) in
-    not_left (eqb b 101) (bytes_eq text (codes "nd")) other
+    and_left (eqb b 101) (bytes_eq text (codes "nd")) other
+
+-- ---- events
+
+abbrev pub stamp : ℕ → Event → Stamped
+stamp w e = record { worker = w; event = e }

@@ -18,8 +18,9 @@ use Rattle.rsx_trace.specs.Grammar.{IsCause, IsLine, AreLines, first_text, IsTra
 use Rattle.rsx_trace.specs.FirstWrong.{Begins, GoesWrong, HasWords, IsWrongWord, MayFollow, IsColumn, IsWrongPlace, AreSomeTrace, IsFirstWrong, NamesFirstWrong}
 use Rattle.rsx_trace.specs.Reading.{◌>>=◌, line_at, first_at, at_line, line_then, nothing_more, events_of, trace_of_lines, trace_of}
 use Rattle.rsx_trace.proofs.Words.{joined, IsWord-number}
-use Rattle.rsx_trace.proofs.Events.{name_is, IsWord-signed, line_again, end_again, first_again}
-use Rattle.rsx_trace.proofs.Sound.{kind_text, signed_is, at_ok, line_sound, first_sound, trace_sound}
+use Rattle.rsx_trace.proofs.KindWords.{kind_text, name_is}
+use Rattle.rsx_trace.proofs.Events.{IsWord-signed, line_again, end_again, first_again}
+use Rattle.rsx_trace.proofs.Sound.{signed_is, at_ok, line_sound, first_sound, trace_sound}
 use Rattle.rsx_trace.proofs.Continuing.{begun, same_wrong, push_wrong, heads, tails, one_place}
 use Rattle.rsx_trace.proofs.Parts.{AllWords, words_solid, words_line, words_joined}
 use Rattle.rsx_trace.proofs.WrongWords.{Nothing, Behind, Opened, opened, SomeEvent, Stampable, LineWords, version, FirstWords, Found, kind_word, stamp, line_wrong, first_wrong}

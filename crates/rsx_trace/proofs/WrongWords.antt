@@ -16,10 +16,11 @@ use Rattle.rsx_trace.specs.FirstWrong.{Begins, GoesWrong}
 use Rattle.rsx_trace.specs.Reading.{◌>>=◌, word_at, valued, ends, number_of, number_at, signed_of, signed_at, kind_of, cause_at, tail_of, event_at, stamped_at, line_at, first_at}
 use Rattle.rsx_trace.specs.Grammar.{u32, IsNumber, IsCause, IsEvent}
 use Rattle.rsx_trace.proofs.Words.{IsWord, number_of_again, IsWord-number, not_end}
-use Rattle.rsx_trace.proofs.Events.{name_is, signed_of_again}
+use Rattle.rsx_trace.proofs.Events.{signed_of_again}
+use Rattle.rsx_trace.proofs.KindWords.{kind_text, named, kind_is, name_is}
 use Rattle.std.proofs.lemmas.Slice.Eq.{bytes_eq-Decides}
 use Rattle.rsx_trace.proofs.Traces.{number_text}
-use Rattle.rsx_trace.proofs.Sound.{named, number_is, signed_is, kind_is, kind_text, cause_of, counted_of, function_of, version_of, first_of}
+use Rattle.rsx_trace.proofs.Sound.{number_is, signed_is, cause_of, counted_of, function_of, version_of, first_of}
 use Rattle.rsx_trace.proofs.Continuing.{never, same_wrong, push_wrong, pull_wrong, heads, tails}
 use Rattle.rsx_trace.proofs.Parts.{AllSolid, word_missing, word_empty, word_first, ends_wrong_at}
 

@@ -3,7 +3,7 @@ use Rattle.std.proofs.Common.{◌≡◌, ◌⊎◌, inl, inr, ℕ, zero, suc, �
 use Rattle.std.proofs.lemmas.Bool.Decides.{nat_tests}
 use Rattle.rsx_types.specs.Meaning.{Meaning}
 use Rattle.rsx_types.specs.declared.signal.Signal.{Signal}
-use Rattle.rsx_sources.specs.Counts.{AreWithin, IsHungry, IsHungryAt}
+use Rattle.rsx_sources.specs.Counts.{AreWithin, CanStep, IsHungry, IsHungryAt}
 use Rattle.rsx_sources.specs.Machine.{front_of}
 use Rattle.rsx_sources.specs.declared.machine.Front.{Front}
 use Rattle.rsx_sources.specs.declared.machine.Front.TheVariants.{Item, Completion, Failure}
@@ -83,7 +83,7 @@ idle_beside {M} b m r i asked sent e n p below q beside small idle at lt = elim 
 
 -- the laws of a node that keep an idle tree from being stuck
 abbrev pub Waits : {M T : Type 0} → Machine M T → Meaning T → Type 0
-Waits {M} {T} b m = (n : M) → b.ended n ≡ true → (s : Signal T) × (b.waiting m n ≡ Some s)
+Waits {M} b m = (n : M) (asked sent : ℕ) → b.ended n ≡ true → b.waiting m n ≡ None → sent < asked → CanStep b.picks b.rows n asked sent
 
 abbrev pub Hungers : {M T : Type 0} → Machine M T → Meaning T → Type 0
 Hungers {M} b m = (n : M) (taken : List ℕ) (asked sent : ℕ) → b.ended n ≡ false → b.counted n taken sent → b.waiting m n ≡ None → sent < asked → AreWithin taken → IsHungry b.takes b.picks b.rows b.done b.wanted n taken asked sent
@@ -102,6 +102,13 @@ live_still b e n live h = (λ j l. by_live (is_live e.state) (b.picks n j e.dema
 
 both : (c : Bool) → c ≡ true → c ≡ false → ⊥
 both c x y = cc
+
+-- no pick and no row can be made, so no step can
+no_step : {M T : Type 0} (b : Machine M T) (n : M) (asked sent : ℕ) → IsNodeStill b n asked sent → CanStep b.picks b.rows n asked sent → ⊥
+no_step b n asked sent still can = elim can [
+  | inl k ↦ both (b.picks n k.0 asked sent) k.2 (still.0 k.0 k.1)
+  | inr k ↦ both (b.rows n asked sent) k still.1
+]
 
 within_row : {M : Type 0} (t : Inputs M) → IsRowWithin t → AreWithin (sent_over t)
 within_row End w = tt
@@ -146,7 +153,7 @@ none_hungry {M} {T} b m waits hungers r i asked sent (More' e n p below q beside
       let more : e.demand.sent < e.demand.asked = asked_more e.demand.asked (b.wanted r i asked sent) e.demand.sent (is_live e.state) live here.0 (subst W (sym (none i)) (subst C (sym (first_is e.demand.sent c at)) wants)) in
       let silent : (s : Signal T) → b.waiting m n ≡ Some s → ⊥ = λ s w. first_silent b m r i e n s (subst F (sym (none i)) takes) live more w here.1 in
       elim o.1 [
-        | inl f ↦ silent (waits n f).0 (waits n f).1
+        | inl f ↦ ended_first silent (b.waiting m n) refl (λ nothing. no_step b n e.demand.asked e.demand.sent (live_still b e n live here.2) (waits n e.demand.asked e.demand.sent f nothing more))
         | inr w ↦ by_waiting (live_still b e n live here.2) silent (b.waiting m n) refl (λ nothing. hungers n (sent_over below) e.demand.asked e.demand.sent w.0 w.1 nothing more (within_row below within.1))
             (λ k d g v l o. none_hungry b m waits hungers n 0 e.demand.asked e.demand.sent below (omega (arith, small)) (idle_below b m r i asked sent e n p below q beside small idle) w.2 within.1 k d g v l o)
       ]
@@ -160,6 +167,10 @@ none_hungry {M} {T} b m waits hungers r i asked sent (More' e n p below q beside
 
     zero_plus : (k : ℕ) → k ≡ 0 + k
     zero_plus k = omega arith
+
+    ended_first : ((s : Signal T) → b.waiting m n ≡ Some s → ⊥) → (o : Option (Signal T)) → b.waiting m n ≡ o → (b.waiting m n ≡ None → ⊥) → ⊥
+    ended_first silent (Some s) w stuck = silent s w
+    ended_first silent None w stuck = stuck w
 
     by_waiting : IsNodeStill b n e.demand.asked e.demand.sent → ((s : Signal T) → b.waiting m n ≡ Some s → ⊥) → (o : Option (Signal T)) → b.waiting m n ≡ o → (b.waiting m n ≡ None → IsHungry b.takes b.picks b.rows b.done b.wanted n (sent_over below) e.demand.asked e.demand.sent) →
         ((k d : ℕ) → slice_get (sent_over below) k ≡ Some d → b.done n (0 + k) ≡ false → ((f : Front) → b.takes n (0 + k) f ≡ true) → d < b.wanted n (0 + k) e.demand.asked e.demand.sent → ⊥) → ⊥
@@ -204,4 +215,4 @@ idle_offers {M} {T} b m waits hungers t asked sent idle still balanced more few 
 
     by_offer : (o : Option (Signal T)) → offers b m t ≡ o → (s : Signal T) × (offers b m t ≡ Some s)
     by_offer (Some s) w = (s, w)
-    by_offer None w = elim balanced [ inl f ↦ waits t.machine f | inr k ↦ absurd (stuck w k.0 k.1 k.2) ]
+    by_offer None w = elim balanced [ inl f ↦ absurd (no_step b t.machine asked sent still (waits t.machine asked sent f w more)) | inr k ↦ absurd (stuck w k.0 k.1 k.2) ]

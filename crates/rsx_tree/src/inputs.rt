@@ -468,7 +468,7 @@ fn step_over<M: Machine, O: Ops<Item = M::Item>>(
 
 /// Raises what is asked of an edge to what its receiver wants.
 #[inline(always)]
-fn ask_over<M: Machine>(
+pub(crate) fn ask_over<M: Machine>(
     receiver: &M,
     input: u64,
     asked: u64,

@@ -5,6 +5,7 @@
 //! once, with any number of inputs.
 
 pub mod edge;
+pub mod fetch;
 pub mod inputs;
 pub mod look;
 pub mod node;

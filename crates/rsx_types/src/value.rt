@@ -5,8 +5,8 @@ ghost use Rattle.std.specs.Prelude.{◌≡◌};
 use crate::signal::Ending;
 use std::marker::Model;
 
-/// A stream value: a list of items with an ending.
-#[derive(Drop)]
+/// A stream value: a list of items with an ending. Two are equal where their items are, one by one, and their endings.
+#[derive(Debug, Drop)]
 pub struct StreamValue<T> {
     items: Vec<T>,
     ending: Ending,
@@ -49,4 +49,30 @@ impl<T> StreamValue<T> {
     {
         self.items
     }
+}
+
+impl<T: PartialEq> PartialEq for StreamValue<T> {
+    ghost use Rattle.std.specs.Ordering.{on, eq_of_both};
+    ghost use Rattle.std.specs.Cmp.Lexicographic.{pointwise, lists_per};
+    ghost use Rattle.std.specs.Cmp.{and_per, on_per};
+    ghost use Rattle.std.specs.Cmp.Rules.{comparing};
+    ghost use Rattle.std.proofs.Common.{rules};
+
+    ghost eq = { eq_of_both (on (λ v. v.items) (pointwise T.eq)) (on (λ v. v.ending) ⟦<Ending as PartialEq>⟧.eq) };
+
+    ghost laws = { and_per (on_per (λ v. v.items) (lists_per T.laws)) (on_per (λ v. v.ending) (Prim.search (comparing, rules))) };
+
+    fn eq(&self, other: &StreamValue<T>) -> bool {
+        let has_equal_items = self.items == other.items;
+        has_equal_items && self.ending == other.ending
+    }
+}
+
+impl<T: Eq> Eq for StreamValue<T> {
+    ghost use Rattle.std.specs.Cmp.{and_equiv, on_equiv};
+    ghost use Rattle.std.specs.Cmp.Lexicographic.{lists_equiv};
+    ghost use Rattle.std.specs.Cmp.Rules.{comparing};
+    ghost use Rattle.std.proofs.Common.{rules};
+
+    ghost laws = { and_equiv (on_equiv (λ v. v.items) (lists_equiv T.Eq.laws)) (on_equiv (λ v. v.ending) (Prim.search (comparing, rules))) };
 }

@@ -1,4 +1,5 @@
-// The answers of one thread's calls, in a row, which no clause says: a seat knows nothing of the others' steps.
+//! The answers of one thread's calls, in a row, which no clause says: a seat knows nothing of the others' steps.
+
 ghost use Rattle.std.specs.Prelude.{◌≡◌};
 ghost use Rattle.rsx_gate.specs.Seats.{IsSeatOf};
 

@@ -1,4 +1,5 @@
-// Two threads add to one count. What each found at the gate depends on the schedule, and the sum does not.
+//! Two threads add to one count. What each found at the gate depends on the schedule, and the sum does not.
+
 ghost use Rattle.std.specs.Prelude.{◌≡◌, ◌≤◌, IfOk};
 ghost use Rattle.rsx_gate.specs.Seats.{IsSeatOf};
 

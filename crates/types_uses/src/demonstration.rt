@@ -22,7 +22,7 @@ fn functions_of_numbers(rt: HostRuntime) -> Result<(), Fail> {
 fn expansions(rt: HostRuntime) -> Result<(), Fail> {
     let alloc = rt.alloc();
     for (f, x, text) in [(1, 3, "[1 2 3]"), (1, -5, "[]"), (2, 9, "[9 9]")] {
-        let items = Vals::new(Demo.expand(alloc, f, &Val::Int(x))?);
+        let items = Vals::new(alloc, Demo.expand(alloc, f, &Val::Int(x))?)?;
         let got = format!(in alloc; "{}", Val::List(items))?;
         assert_eq!(rt; got.as_str(), text, "expand {f} of {x}");
     }
@@ -36,8 +36,9 @@ fn lists(rt: HostRuntime) -> Result<(), Fail> {
     let alloc = rt.alloc();
     let pair = Demo.row(alloc, &[Val::Int(5), Val::Int(7)])?;
     let copy = Demo.copy(alloc, &pair)?;
+    assert_eq!(rt; pair, copy);
+    assert_ne!(rt; pair, Val::Int(5));
     assert!(rt; is_same_val(&pair, &copy));
-    assert!(rt; !is_same_val(&pair, &Val::Int(5)));
     let tagged = Demo.tag(alloc, u64::MAX, &Demo.from_i64(alloc, 3)?)?;
     let whole = Demo.list(alloc, &[pair, tagged])?;
     let size = Demo.map(alloc, 4, &whole)?;
@@ -49,9 +50,10 @@ fn lists(rt: HostRuntime) -> Result<(), Fail> {
 #[test]
 fn copies_and_lengths(rt: HostRuntime) -> Result<(), Fail> {
     let alloc = rt.alloc();
-    let none = Vals::new(Vec::new(alloc));
+    let none = Vals::new(alloc, Vec::new(alloc))?;
     assert!(rt; none.is_empty());
-    let some = Vals::new(copy_items(alloc, &[Val::Int(4), copy_val(alloc, &Val::List(none))?])?);
+    let items = [Val::Int(4), copy_val(alloc, &Val::List(none))?];
+    let some = Vals::new(alloc, copy_items(alloc, &items)?)?;
     assert_eq!(rt; some.len(), 2);
     assert_eq!(rt; some.as_slice().len(), 2);
     Ok(())

@@ -91,6 +91,23 @@ fn gives_the_worked_values(rt: HostRuntime) -> Result<(), Fail> {
 }
 
 #[test]
+fn expressions_are_compared_and_printed(rt: HostRuntime) -> Result<(), Fail> {
+    let alloc = rt.alloc();
+    let taken = plain(alloc, Stage::Take(2), numbers(alloc, &[4, 1])?)?;
+    assert_eq!(rt;
+        taken,
+        plain(alloc, Stage::Take(2), numbers(alloc, &[4, 1])?)?
+    );
+    assert_ne!(rt;
+        taken,
+        plain(alloc, Stage::Take(2), numbers(alloc, &[4, 2])?)?
+    );
+    let text = format!(in alloc; "{taken:?}")?;
+    assert_eq!(rt; text.as_str(), "Plain(Take(2), Items([4, 1]))");
+    Ok(())
+}
+
+#[test]
 fn keeps_the_failure_of_an_input(rt: HostRuntime) -> Result<(), Fail> {
     let alloc = rt.alloc();
     let rows = [

@@ -12,6 +12,10 @@ fn values_give_back_their_lists(rt: HostRuntime) -> Result<(), Fail> {
     let value: StreamValue<u64> = StreamValue::new(vec![in alloc; 7]?, Ending::Done);
     assert_eq!(rt; value.items(), [7].as_slice());
     assert_eq!(rt; value.ending(), Ending::Done);
+    assert_eq!(rt; value, StreamValue::new(vec![in alloc; 7]?, Ending::Done));
+    assert_ne!(rt; value, StreamValue::new(vec![in alloc; 7]?, Ending::Open));
+    let text = format!(in alloc; "{value:?}")?;
+    assert_eq!(rt; text.as_str(), "StreamValue { items: [7], ending: Done }");
     assert_eq!(rt; value.into_items().as_slice(), [7].as_slice());
     Ok(())
 }

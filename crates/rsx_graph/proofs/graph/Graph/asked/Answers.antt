@@ -8,4 +8,4 @@ returns-clause-asked g c = λ h s.
     let l = c.len.ensures in
     let subs = c.args.self.now.subscriptions.items in
     let within : c.args.sub.0 < length c.args.self.now.subscriptions.items = omega (arith, l, c.if-at-len.false) in
-    asked_there m h.published c.args.self.now.subscriptions.items h.pasts c.args.sub.0 c.index-subscription.result.now within (sym c.index-subscription.ensures) s
+    rw c.asked.ensures (asked_there m h.published c.args.self.now.subscriptions.items h.pasts c.args.sub.0 c.index-subscription.result.now within (sym c.index-subscription.ensures) s)

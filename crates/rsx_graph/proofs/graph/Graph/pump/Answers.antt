@@ -60,18 +60,17 @@ returns-clause-pumped g c =
       i.pumped.0,
       (
         omega (arith, spent),
-        λ few.
-            let all : length c.loop-at.self.subscriptions.items ≤ c.loop-at.at =
-            let l = c.len.ensures in let n = i.count in let k = c.min-count.ensures in let t = c.loop-at-test.false in omega (arith, l, n, k, t, few) in
+        let all : length c.loop-at.self.subscriptions.items ≤ c.loop-at.at =
+            let l = c.len-count.ensures in let n = i.count in let t = c.loop-at-test.false in omega (arith, l, n, t) in
             all_quiet m c.loop-at.self.subscriptions.items c.loop-at.at all i.quiet,
       ),
       i.pumped.2,
     )
 
 pub returns-clause-served : goal.returns-clause-served
-returns-clause-served g c = λ _ few h s.
+returns-clause-served g c = λ _ h s.
     let i = c.loop-at.invariant in
     let m = g.O.Ops.meaning c.args.self.now.ops in
     let all : length c.loop-at.self.subscriptions.items ≤ c.loop-at.at =
-    let l = c.len.ensures in let n = i.count in let k = c.min-count.ensures in let t = c.loop-at-test.false in omega (arith, l, n, k, t, few) in
+    let l = c.len-count.ensures in let n = i.count in let t = c.loop-at-test.false in omega (arith, l, n, t) in
     all_served m h.published c.loop-at.self.subscriptions.items h.pasts (all_quiet m c.loop-at.self.subscriptions.items c.loop-at.at all i.quiet) s

@@ -1,5 +1,5 @@
 use Rattle.std.proofs.lemmas.Result.{IfOk-weaker}
-use Rattle.rsx_node.proofs.Dispatch.{popped_range, counted_plain}
+use Rattle.rsx_node.proofs.Dispatch.{popped_range}
 use Rattle.rsx_node.proofs.any_node.AnyNodeMachine.pop_front.Goals as goal
 
 pub returns-in-Range-clause-ok : goal.returns-in-Range-clause-ok

@@ -1,8 +1,8 @@
 use Rattle.std.proofs.Common.{◌≡◌, true, ap}
 use Rattle.rsx_sources.specs.Machine.{quiet}
-use Rattle.rsx_plain.specs.Moves.{is_ending}
+use Rattle.rsx_operators.specs.Moves.{is_ending}
 use Rattle.rsx_plain.specs.Node.{plain_ended}
-use Rattle.rsx_plain.specs.State.{plain_from}
+use Rattle.rsx_operators.specs.State.{plain_from}
 use Rattle.rsx_plain.proofs.Endings.{ended_none, ended_first, ended_one, ended_second}
 use Rattle.rsx_plain.specs.Laws.{ended_slot}
 use Rattle.rsx_plain.proofs.node.PlainNodeMachine.has_ended.Goals as goal

@@ -1,0 +1,5 @@
+pub mod Counts
+pub mod Drained
+pub mod Prepares
+pub mod Reactions
+pub mod Taken

@@ -1,0 +1,14 @@
+-- At most one item, and then at most one ending: what stands in front of what still comes.
+use Rattle.std.specs.Prelude.{Option, Some, None}
+use Rattle.rsx_types.specs.Stream.{Stream, item_then}
+use Rattle.rsx_operators.specs.Moves.{ended_or}
+use Rattle.rsx_operators.specs.declared.prepared.Emission.{Emission}
+
+-- an item, if there is one, and then what comes
+abbrev pub item_or : {T : Type 0} → Option T → Stream T → Stream T
+item_or None v = v
+item_or (Some x) v = item_then x v
+
+-- an emission, and then what comes
+abbrev pub emission_then : {T : Type 0} → Emission T → Stream T → Stream T
+emission_then p v = item_or p.item (ended_or p.ending v)

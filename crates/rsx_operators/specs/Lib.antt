@@ -1,0 +1,5 @@
+-- Definitions that contracts cite.
+pub mod Emission
+pub mod Moves
+pub mod Prepared
+pub mod State

@@ -1,0 +1,89 @@
+//! `distinct`: the first item of each key.
+
+ghost use Rattle.std.specs.Prelude.{◌≡◌, ◌+◌, min, Some, List, [], IfErr};
+ghost use Rattle.rsx_types.specs.declared.signal.Signal.{Signal};
+ghost use Rattle.rsx_types.specs.declared.signal.Signal.TheVariants.{Next};
+ghost use Rattle.rsx_operators.specs.Prepared.{IsAnswered};
+ghost use Rattle.rsx_operators.specs.State.{IsReaction, most_asked};
+ghost use Rattle.rsx_operators.specs.declared.state.PlainState.TheVariants.{Distinct as DistinctFrom};
+
+use crate::prepared::{Prepared, failed, forwarded, kept};
+use crate::state::MOST_ASKED;
+use rsx_collections::Keys;
+use rsx_sources::OutSlot;
+use rsx_types::{Cause, Ending, Fault, NoMemory, Ops, Signal};
+
+/// What a `distinct` puts out.
+pub(crate) trait DistinctReaction<T: Drop> {
+    ghost slot: { Self → List (Signal T) };
+
+    /// Puts an item whose key is new into the empty slot, and counts one whose key is not. For want of memory the item comes back,
+    /// and nothing has changed.
+    fn distinct<O: Ops<Item = T>>(
+        &mut self,
+        ops: &O,
+        function: u16,
+        keys: &mut Keys,
+        repeated: &mut u64,
+        item: T,
+    ) -> Result<(), Signal<T>>
+        requires { slot self.old ≡ [] }
+        ensures { IsReaction (O.meaning ops.now) (O.allocates ops.now) (DistinctFrom function keys.old repeated.old) (Next item) result (slot self.new) (DistinctFrom function keys.new repeated.new) };
+}
+
+impl<T: Drop> DistinctReaction<T> for OutSlot<T> {
+    ghost slot = { λ s. s };
+
+    fn distinct<O: Ops<Item = T>>(
+        &mut self,
+        ops: &O,
+        function: u16,
+        keys: &mut Keys,
+        repeated: &mut u64,
+        item: T,
+    ) -> Result<(), Signal<T>> {
+        match ops.key(function, &item) {
+            Ok(key) => match keys.note(key) {
+                Ok(false) => self.put(Signal::Next(item)),
+                Ok(true) => *repeated = repeated.saturating_add(1).min(MOST_ASKED),
+                Err(NoMemory) => return Err(Signal::Next(item)),
+            },
+            Err(Fault::Code(code)) => self.put(Signal::Error(Cause::Function(code))),
+            Err(Fault::Memory) => return Err(Signal::Next(item)),
+        }
+        Ok(())
+    }
+}
+
+/// An item whose key was known is asked for again.
+#[inline]
+pub(crate) fn want(asked: u64, repeated: u64) -> u64
+    ensures { result ≡ min most_asked (asked + repeated) }
+{
+    asked.saturating_add(repeated).min(MOST_ASKED)
+}
+
+/// What a `distinct` in a chain answers to an item, and to this ending behind it. A chain asks for nothing, so an item whose
+/// key is known isn't counted. For want of memory the item comes back, and nothing has changed.
+#[tactic(auto, using(crate::proofs::Prepares::without_last_after))]
+pub(crate) fn prepare<T: Drop, O: Ops<Item = T>>(
+    ops: &O,
+    function: u16,
+    keys: &mut Keys,
+    repeated: u64,
+    item: T,
+    ending: Ending,
+) -> Result<Prepared<T>, T>
+    ensures answer { IsAnswered (O.meaning ops.now) (O.allocates ops.now) (DistinctFrom function keys.old repeated) (record { item = Some item; ending = ending }) result (DistinctFrom function keys.new repeated) }
+    ensures err { IfErr result (λ x. x ≡ item) }
+{
+    match ops.key(function, &item) {
+        Ok(key) => match keys.note(key) {
+            Ok(false) => Ok(forwarded(item, ending)),
+            Ok(true) => Ok(kept(item, None, ending)),
+            Err(NoMemory) => Err(item),
+        },
+        Err(Fault::Code(code)) => Ok(failed(item, code)),
+        Err(Fault::Memory) => Err(item),
+    }
+}

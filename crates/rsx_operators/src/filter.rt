@@ -1,0 +1,78 @@
+//! `filter`: the items whose test is true.
+
+ghost use Rattle.std.specs.Prelude.{◌≡◌, ◌+◌, min, Some, List, [], IfErr};
+ghost use Rattle.rsx_types.specs.declared.signal.Signal.{Signal};
+ghost use Rattle.rsx_types.specs.declared.signal.Signal.TheVariants.{Next};
+ghost use Rattle.rsx_operators.specs.Prepared.{IsAnswered};
+ghost use Rattle.rsx_operators.specs.State.{IsReaction, most_asked};
+ghost use Rattle.rsx_operators.specs.declared.state.PlainState.TheVariants.{Filter as FilterFrom};
+
+use crate::prepared::{Prepared, failed, forwarded, kept};
+use crate::state::MOST_ASKED;
+use rsx_sources::OutSlot;
+use rsx_types::{Cause, Ending, Fault, Ops, Signal};
+
+/// What a `filter` puts out.
+pub(crate) trait FilterReaction<T: Drop> {
+    ghost slot: { Self → List (Signal T) };
+
+    /// Puts an item whose test is true into the empty slot, and counts one whose test is false. For want of memory the item comes
+    /// back, and nothing has changed.
+    fn filter<O: Ops<Item = T>>(
+        &mut self,
+        ops: &O,
+        function: u16,
+        dropped: &mut u64,
+        item: T,
+    ) -> Result<(), Signal<T>>
+        requires { slot self.old ≡ [] }
+        ensures { IsReaction (O.meaning ops.now) (O.allocates ops.now) (FilterFrom function dropped.old) (Next item) result (slot self.new) (FilterFrom function dropped.new) };
+}
+
+impl<T: Drop> FilterReaction<T> for OutSlot<T> {
+    ghost slot = { λ s. s };
+
+    fn filter<O: Ops<Item = T>>(
+        &mut self,
+        ops: &O,
+        function: u16,
+        dropped: &mut u64,
+        item: T,
+    ) -> Result<(), Signal<T>> {
+        match ops.test(function, &item) {
+            Ok(true) => self.put(Signal::Next(item)),
+            Ok(false) => *dropped = dropped.saturating_add(1).min(MOST_ASKED),
+            Err(Fault::Code(code)) => self.put(Signal::Error(Cause::Function(code))),
+            Err(Fault::Memory) => return Err(Signal::Next(item)),
+        }
+        Ok(())
+    }
+}
+
+/// An item that was dropped is asked for again.
+#[inline]
+pub(crate) fn want(asked: u64, dropped: u64) -> u64
+    ensures { result ≡ min most_asked (asked + dropped) }
+{
+    asked.saturating_add(dropped).min(MOST_ASKED)
+}
+
+/// What a `filter` in a chain answers to an item, and to this ending behind it. A chain asks for nothing, so what is dropped
+/// isn't counted. For want of memory the item comes back.
+pub(crate) fn prepare<T: Drop, O: Ops<Item = T>>(
+    ops: &O,
+    function: u16,
+    dropped: u64,
+    item: T,
+    ending: Ending,
+) -> Result<Prepared<T>, T>
+    ensures answer { IsAnswered (O.meaning ops.now) (O.allocates ops.now) (FilterFrom function dropped) (record { item = Some item; ending = ending }) result (FilterFrom function dropped) }
+    ensures err { IfErr result (λ x. x ≡ item) }
+{
+    match ops.test(function, &item) {
+        Ok(true) => Ok(forwarded(item, ending)),
+        Ok(false) => Ok(kept(item, None, ending)),
+        Err(Fault::Code(code)) => Ok(failed(item, code)),
+        Err(Fault::Memory) => Err(item),
+    }
+}

@@ -1,0 +1,66 @@
+//! `map`: the answers of a function.
+
+ghost use Rattle.std.specs.Prelude.{◌≡◌, Some, List, [], IfErr};
+ghost use Rattle.rsx_types.specs.declared.signal.Signal.{Signal};
+ghost use Rattle.rsx_types.specs.declared.signal.Signal.TheVariants.{Next};
+ghost use Rattle.rsx_operators.specs.Prepared.{IsAnswered};
+ghost use Rattle.rsx_operators.specs.State.{IsReaction};
+ghost use Rattle.rsx_operators.specs.declared.state.PlainState.TheVariants.{Map as MapFrom};
+
+use crate::prepared::{Prepared, failed, kept};
+use rsx_sources::OutSlot;
+use rsx_types::{Cause, Ending, Fault, Ops, Signal};
+use std::alloc::Global;
+
+/// What a `map` puts out.
+pub(crate) trait MapReaction<T: Drop> {
+    ghost slot: { Self → List (Signal T) };
+
+    /// Puts the answer to an item into the empty slot. For want of memory the item comes back, and nothing has changed.
+    fn map<O: Ops<Item = T>>(
+        &mut self,
+        alloc: Global,
+        ops: &O,
+        function: u16,
+        item: T,
+    ) -> Result<(), Signal<T>>
+        requires { slot self.old ≡ [] }
+        ensures { IsReaction (O.meaning ops.now) (O.allocates ops.now) (MapFrom function) (Next item) result (slot self.new) (MapFrom function) };
+}
+
+impl<T: Drop> MapReaction<T> for OutSlot<T> {
+    ghost slot = { λ s. s };
+
+    fn map<O: Ops<Item = T>>(
+        &mut self,
+        alloc: Global,
+        ops: &O,
+        function: u16,
+        item: T,
+    ) -> Result<(), Signal<T>> {
+        match ops.map(alloc, function, &item) {
+            Ok(answer) => self.put(Signal::Next(answer)),
+            Err(Fault::Code(code)) => self.put(Signal::Error(Cause::Function(code))),
+            Err(Fault::Memory) => return Err(Signal::Next(item)),
+        }
+        Ok(())
+    }
+}
+
+/// What a `map` in a chain answers to an item, and to this ending behind it. For want of memory the item comes back.
+pub(crate) fn prepare<T: Drop, O: Ops<Item = T>>(
+    alloc: Global,
+    ops: &O,
+    function: u16,
+    item: T,
+    ending: Ending,
+) -> Result<Prepared<T>, T>
+    ensures answer { IsAnswered (O.meaning ops.now) (O.allocates ops.now) (MapFrom function) (record { item = Some item; ending = ending }) result (MapFrom function) }
+    ensures err { IfErr result (λ x. x ≡ item) }
+{
+    match ops.map(alloc, function, &item) {
+        Ok(answer) => Ok(kept(item, Some(answer), ending)),
+        Err(Fault::Code(code)) => Ok(failed(item, code)),
+        Err(Fault::Memory) => Err(item),
+    }
+}

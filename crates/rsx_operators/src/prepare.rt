@@ -1,0 +1,144 @@
+//! Answers that can still go back, for chains: prepare, and then commit or roll back.
+
+ghost use Rattle.std.specs.Prelude.{◌≡◌, Some, None, false, IfOk, IfErr, IsOk, OnErr};
+ghost use Rattle.rsx_operators.specs.Prepared.{IsPrepared, IsAnswered, committed, rolled_back, taken_back};
+ghost use Rattle.rsx_operators.specs.State.{allocates_from};
+
+use crate::prepared::{Emission, Pending, Prepared, without_item};
+use crate::state::PlainState;
+use crate::{buffer, distinct, filter, map, scan, take};
+use rsx_types::{Ending, NoMemory, Ops};
+use std::alloc::Global;
+
+impl<T: Drop> PlainState<T> {
+    /// What the operator answers to an emission. The answer stands once it is committed ([`PlainState::commit`]), and
+    /// [`PlainState::roll_back`] undoes it; until then the operator takes nothing more. For want of memory the emission comes
+    /// back, and nothing has changed; that comes only where the operator may allocate.
+    pub fn prepare<O: Ops<Item = T>>(
+        &mut self,
+        alloc: Global,
+        ops: &O,
+        emission: Emission<T>,
+    ) -> Result<Prepared<T>, Emission<T>>
+        ensures ok { IfOk result (λ a. IsPrepared (O.meaning ops.now) self.old emission self.new a) }
+        ensures err { IfErr result (λ p. p ≡ emission) }
+        ensures same { OnErr result (self.new ≡ self.old) }
+        ensures memory { allocates_from (O.allocates ops.now) self.old ≡ false → IsOk result }
+    {
+        let ending = emission.ending;
+        match emission.item {
+            Some(item) => match to_item(alloc, ops, self, item, ending) {
+                Ok(prepared) => Ok(prepared),
+                Err(item) => Err(Emission {
+                    item: Some(item),
+                    ending,
+                }),
+            },
+            None => match to_ending(alloc, ops, self, ending) {
+                Ok(prepared) => Ok(prepared),
+                Err(NoMemory) => Err(Emission { item: None, ending }),
+            },
+        }
+    }
+
+    /// Lets an answer stand: the operator is as it is after it.
+    pub fn commit(&mut self, pending: Pending<T>)
+        ensures { self.new ≡ committed self.old pending }
+    {
+        match (self, pending) {
+            (PlainState::Take { count: _, left }, Pending::Forwarded) => {
+                *left = left.saturating_sub(1);
+            }
+            (PlainState::Scan { function: _, last }, Pending::Accumulated(_, next)) => *last = next,
+            (PlainState::Buffer { size, gathered }, Pending::Gathered) => {
+                if gathered.items().len() as u64 >= *size {
+                    gathered.clear();
+                }
+            }
+            _ => {}
+        }
+    }
+
+    /// Undoes an answer, where this item, if any, came out. The operator is as it was before, and the item that came in comes
+    /// back.
+    #[tactic(auto, using(crate::proofs::Prepares::popped_list, crate::proofs::Prepares::popped_item))]
+    pub fn roll_back(&mut self, pending: Pending<T>, out: Option<T>) -> Option<T>
+        ensures state { self.new ≡ rolled_back self.old pending }
+        ensures item { result ≡ taken_back self.old pending out }
+    {
+        match pending {
+            Pending::Nothing => None,
+            Pending::Kept(item) => Some(item),
+            Pending::Accumulated(item, _) => Some(item),
+            Pending::Forwarded => {
+                if let PlainState::Distinct {
+                    function: _,
+                    keys,
+                    repeated: _,
+                } = self
+                {
+                    let _key = keys.pop();
+                }
+                out
+            }
+            Pending::Gathered => match self {
+                PlainState::Buffer { size: _, gathered } => gathered.pop(),
+                _ => None,
+            },
+        }
+    }
+}
+
+/// What an operator answers to an item, and to this ending behind it. For want of memory the item comes back, and nothing has
+/// changed.
+fn to_item<T: Drop, O: Ops<Item = T>>(
+    alloc: Global,
+    ops: &O,
+    state: &mut PlainState<T>,
+    item: T,
+    ending: Ending,
+) -> Result<Prepared<T>, T>
+    ensures answer { IsAnswered (O.meaning ops.now) (O.allocates ops.now) state.old (record { item = Some item; ending = ending }) result state.new }
+    ensures err { IfErr result (λ x. x ≡ item) }
+{
+    match state {
+        PlainState::Map { function } => map::prepare(alloc, ops, *function, item, ending),
+        PlainState::Filter { function, dropped } => {
+            filter::prepare(ops, *function, *dropped, item, ending)
+        }
+        PlainState::Take { count, left } => Ok(take::prepare(ops, *count, *left, item, ending)),
+        PlainState::Scan { function, last } => {
+            scan::prepare(alloc, ops, *function, last, item, ending)
+        }
+        PlainState::Buffer { size, gathered } => {
+            buffer::prepare(alloc, ops, *size, gathered, item, ending)
+        }
+        PlainState::Distinct {
+            function,
+            keys,
+            repeated,
+        } => distinct::prepare(ops, *function, keys, *repeated, item, ending),
+    }
+}
+
+/// What an operator answers where no item comes in. It does not move.
+#[tactic(auto, using(crate::proofs::Prepares::taken_ended, crate::proofs::Prepares::buffered_ended))]
+fn to_ending<T: Drop, O: Ops<Item = T>>(
+    alloc: Global,
+    ops: &O,
+    state: &PlainState<T>,
+    ending: Ending,
+) -> Result<Prepared<T>, NoMemory>
+    ensures { IsAnswered (O.meaning ops.now) (O.allocates ops.now) state.now (record { item = None; ending = ending }) result state.now }
+{
+    match state {
+        PlainState::Take { count: _, left: 0 } => Ok(without_item(None, Ending::Done)),
+        PlainState::Buffer { size: _, gathered } => {
+            match buffer::list_at_end(alloc, ops, gathered, ending) {
+                Ok(list) => Ok(without_item(list, ending)),
+                Err(NoMemory) => Err(NoMemory),
+            }
+        }
+        _ => Ok(without_item(None, ending)),
+    }
+}

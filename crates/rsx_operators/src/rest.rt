@@ -1,0 +1,134 @@
+//! What still comes out of an operator, computed: a copy of it takes all that still comes in.
+
+ghost use Rattle.std.specs.Prelude.{◌≡◌, true, false, List, IfOk};
+ghost use Rattle.std.specs.Option.{option_to_list};
+ghost use Rattle.rsx_types.specs.Stream.{Stream, items_then, signal_then, signals_then, ending_signals};
+ghost use Rattle.rsx_operators.specs.Moves.{ended_or, has_ended, has_ending};
+ghost use Rattle.rsx_operators.specs.State.{plain_from, is_over};
+
+use crate::operator::Operator;
+use crate::state::PlainState;
+use rsx_sources::OutSlot;
+use rsx_types::{Ending, NoMemory, Ops, Signal};
+use std::alloc::Global;
+
+/// What came out of an operator so far.
+pub(crate) trait Collected<T: Drop> {
+    /// The items that came out.
+    ghost so_far: { Self → List T };
+
+    /// Has the operator take a signal, and puts the items that come out behind the others. The answer is the ending behind
+    /// them, `Open` where none came out.
+    fn take_in<O: Ops<Item = T>>(
+        &mut self,
+        alloc: Global,
+        ops: &O,
+        state: &mut PlainState<T>,
+        signal: Signal<T>,
+    ) -> Result<Ending, NoMemory>
+        ensures moves { IfOk result (λ e. (v : Stream T) → items_then (so_far self.old) (plain_from (O.meaning ops.now) state.old (signal_then signal v)) ≡ items_then (so_far self.new) (ended_or e (plain_from (O.meaning ops.now) state.new v))) }
+        ensures over { IfOk result (λ e. is_over state.new ≡ true → has_ended e ≡ true) };
+
+    /// Has the operator take these items and this ending, and puts the items that come out behind the others. The answer is
+    /// the ending behind them, `Open` where none came out.
+    fn take_all<O: Ops<Item = T>>(
+        &mut self,
+        alloc: Global,
+        ops: &O,
+        state: &mut PlainState<T>,
+        items: &[T],
+        ending: Ending,
+    ) -> Result<Ending, NoMemory>
+        requires { is_over state.old ≡ false }
+        ensures { IfOk result (λ e. items_then (so_far self.old) (plain_from (O.meaning ops.now) state.old (record { items = items.now; ending = ending })) ≡ record { items = so_far self.new; ending = e }) };
+}
+
+impl<T: Drop> Collected<T> for Vec<T> {
+    ghost so_far = { λ v. v.items };
+
+    fn take_in<O: Ops<Item = T>>(
+        &mut self,
+        alloc: Global,
+        ops: &O,
+        state: &mut PlainState<T>,
+        signal: Signal<T>,
+    ) -> Result<Ending, NoMemory>
+        ensures moves { IfOk result (λ e. (v : Stream T) → items_then self.old.items (plain_from (O.meaning ops.now) state.old (signal_then signal v)) ≡ items_then self.new.items (ended_or e (plain_from (O.meaning ops.now) state.new v))) }
+        ensures over { IfOk result (λ e. is_over state.new ≡ true → has_ended e ≡ true) }
+    {
+        let mut slot = OutSlot::new();
+        match state.react(alloc, ops, signal, &mut slot) {
+            Err(_) => Err(NoMemory),
+            Ok(()) => {
+                let last = drain(slot, self)?;
+                Ok(last)
+            }
+        }
+    }
+
+    fn take_all<O: Ops<Item = T>>(
+        &mut self,
+        alloc: Global,
+        ops: &O,
+        state: &mut PlainState<T>,
+        items: &[T],
+        ending: Ending,
+    ) -> Result<Ending, NoMemory>
+        requires { is_over state.old ≡ false }
+        ensures { IfOk result (λ e. items_then self.old.items (plain_from (O.meaning ops.now) state.old (record { items = items.now; ending = ending })) ≡ record { items = self.new.items; ending = e }) }
+    {
+        for item in items {
+            let signal = Signal::Next(ops.copy(alloc, item)?);
+            match self.take_in(alloc, ops, state, signal)? {
+                Ending::Open => {}
+                last => return Ok(last),
+            }
+        }
+        match signal_of(ending) {
+            None => Ok(Ending::Open),
+            Some(signal) => {
+                let last = self.take_in(alloc, ops, state, signal)?;
+                Ok(last)
+            }
+        }
+    }
+}
+
+/// Puts the items of a slot behind the others, and answers its ending, `Open` where it has none.
+fn drain<T: Drop>(slot: OutSlot<T>, out: &mut Vec<T>) -> Result<Ending, NoMemory>
+    ensures moves { IfOk result (λ e. (v : Stream T) → items_then out.old.items (signals_then slot v) ≡ items_then out.new.items (ended_or e v)) }
+    ensures ended { IfOk result (λ e. has_ending slot ≡ true → has_ended e ≡ true) }
+{
+    let mut slot = slot;
+    match put_behind(slot.pop(), out)? {
+        Ending::Open => put_behind(slot.pop(), out),
+        last => Ok(last),
+    }
+}
+
+/// Puts the item of a signal, if it has one, behind the others, and answers its ending, `Open` where it is none.
+fn put_behind<T: Drop>(signal: Option<Signal<T>>, out: &mut Vec<T>) -> Result<Ending, NoMemory>
+    ensures moves { IfOk result (λ e. (v : Stream T) → items_then out.old.items (signals_then (option_to_list signal) v) ≡ items_then out.new.items (ended_or e v)) }
+    ensures ended { IfOk result (λ e. has_ending (option_to_list signal) ≡ true → has_ended e ≡ true) }
+{
+    match signal {
+        Some(Signal::Next(item)) => {
+            out.push(item)?;
+            Ok(Ending::Open)
+        }
+        Some(Signal::Complete) => Ok(Ending::Done),
+        Some(Signal::Error(cause)) => Ok(Ending::Failed(cause)),
+        None => Ok(Ending::Open),
+    }
+}
+
+/// The signal of an ending, if it is one.
+fn signal_of<T>(ending: Ending) -> Option<Signal<T>>
+    ensures { option_to_list result ≡ ending_signals ending }
+{
+    match ending {
+        Ending::Open => None,
+        Ending::Done => Some(Signal::Complete),
+        Ending::Failed(cause) => Some(Signal::Error(cause)),
+    }
+}

@@ -1,0 +1,225 @@
+//! An item that goes through a plain operator in one go, without its out slot.
+//!
+//! An operator declines what it would answer with more than an item: a fault of the caller's function, and the last item of
+//! a `take`. It answers those by [`react`](rsx_operators::Operator::react).
+
+ghost use Rattle.std.specs.Prelude.{◌+◌, ◌≤◌, ℕ, length};
+ghost use Rattle.rsx_types.specs.Meaning.{Meaning};
+ghost use Rattle.rsx_plain.specs.Passes.{IsAnswered};
+ghost use Rattle.rsx_operators.specs.declared.state.PlainState.{PlainState as StateSpec};
+ghost use Rattle.rsx_operators.specs.declared.state.PlainState.TheVariants.{Map as MapFrom, Filter as FilterFrom, Take as TakeFrom, Scan as ScanFrom, Buffer as BufferFrom, Distinct as DistinctFrom};
+
+use rsx_collections::{Buffered, Keys};
+use rsx_operators::{MOST_ASKED, PlainState};
+use rsx_sources::Passed;
+use rsx_types::{NoMemory, Ops};
+use std::alloc::Global;
+
+/// An operator that answers an item in one go.
+pub(crate) trait Passing<T: Drop> {
+    /// The operator's state.
+    ghost state: { Self → StateSpec T };
+
+    /// Takes an item in, and answers what is put out for it where that is one item or nothing. A fault of the caller's
+    /// function, the last item of a `take` and want of memory are declined: then the item comes back, and nothing has
+    /// changed.
+    fn pass<O: Ops<Item = T>>(&mut self, alloc: Global, ops: &O, item: T) -> Passed<T>
+        ensures { IsAnswered (O.meaning ops.now) (state self.old) item result (state self.new) };
+}
+
+impl<T: Drop> Passing<T> for PlainState<T> {
+    ghost state = { λ s. s };
+
+    #[inline]
+    fn pass<O: Ops<Item = T>>(&mut self, alloc: Global, ops: &O, item: T) -> Passed<T> {
+        match self {
+            PlainState::Map { function } => item.through_map(alloc, ops, *function),
+            PlainState::Filter { function, dropped } => {
+                item.through_filter(ops, *function, dropped)
+            }
+            PlainState::Take { count: _, left } => item.through_take(left),
+            PlainState::Scan { function, last } => item.through_scan(alloc, ops, *function, last),
+            PlainState::Buffer { size, gathered } => {
+                item.through_buffer(alloc, ops, *size, gathered)
+            }
+            PlainState::Distinct {
+                function,
+                keys,
+                repeated,
+            } => item.through_distinct(ops, *function, keys, repeated),
+        }
+    }
+}
+
+/// An item, through each of the operators.
+trait Through: Drop {
+    /// The answer of a function.
+    fn through_map<O: Ops<Item = Self>>(self, alloc: Global, ops: &O, function: u16) -> Passed<Self>
+        ensures { IsAnswered (O.meaning ops.now) (MapFrom function) self result (MapFrom function) };
+
+    /// The item where its test is true; where it is false it is counted.
+    fn through_filter<O: Ops<Item = Self>>(
+        self,
+        ops: &O,
+        function: u16,
+        dropped: &mut u64,
+    ) -> Passed<Self>
+        ensures { IsAnswered (O.meaning ops.now) (FilterFrom function dropped.old) self result (FilterFrom function dropped.new) };
+
+    /// The item where it isn't the last of those that are left.
+    fn through_take(self, left: &mut u64) -> Passed<Self>
+        ensures { (m : Meaning Self) (count : ℕ) → IsAnswered m (TakeFrom count left.old) self result (TakeFrom count left.new) };
+
+    /// The accumulation, of which a copy is kept as the last one.
+    fn through_scan<O: Ops<Item = Self>>(
+        self,
+        alloc: Global,
+        ops: &O,
+        function: u16,
+        last: &mut Self,
+    ) -> Passed<Self>
+        ensures { IsAnswered (O.meaning ops.now) (ScanFrom function last.old) self result (ScanFrom function last.new) };
+
+    /// The list that becomes full with the item, if it does.
+    fn through_buffer<O: Ops<Item = Self>>(
+        self,
+        alloc: Global,
+        ops: &O,
+        size: u64,
+        gathered: &mut Buffered<Self>,
+    ) -> Passed<Self>
+        ensures { IsAnswered (O.meaning ops.now) (BufferFrom size gathered.old) self result (BufferFrom size gathered.new) };
+
+    /// The list that becomes full with the item.
+    fn through_full_buffer<O: Ops<Item = Self>>(
+        self,
+        alloc: Global,
+        ops: &O,
+        size: u64,
+        gathered: &mut Buffered<Self>,
+    ) -> Passed<Self>
+        requires { size ≤ length gathered.old + 1 }
+        ensures { IsAnswered (O.meaning ops.now) (BufferFrom size gathered.old) self result (BufferFrom size gathered.new) };
+
+    /// The item where its key is new; where its key was seen it is counted.
+    fn through_distinct<O: Ops<Item = Self>>(
+        self,
+        ops: &O,
+        function: u16,
+        keys: &mut Keys,
+        repeated: &mut u64,
+    ) -> Passed<Self>
+        ensures { IsAnswered (O.meaning ops.now) (DistinctFrom function keys.old repeated.old) self result (DistinctFrom function keys.new repeated.new) };
+}
+
+impl<T: Drop> Through for T {
+    fn through_map<O: Ops<Item = T>>(self, alloc: Global, ops: &O, function: u16) -> Passed<T> {
+        match ops.map(alloc, function, &self) {
+            Ok(answer) => Passed::Item(answer),
+            Err(_) => Passed::Declined(self),
+        }
+    }
+
+    fn through_filter<O: Ops<Item = T>>(
+        self,
+        ops: &O,
+        function: u16,
+        dropped: &mut u64,
+    ) -> Passed<T> {
+        match ops.test(function, &self) {
+            Ok(true) => Passed::Item(self),
+            Ok(false) => {
+                *dropped = dropped.saturating_add(1).min(MOST_ASKED);
+                Passed::Kept
+            }
+            Err(_) => Passed::Declined(self),
+        }
+    }
+
+    fn through_take(self, left: &mut u64) -> Passed<T> {
+        if *left <= 1 {
+            return Passed::Declined(self);
+        }
+        *left -= 1;
+        Passed::Item(self)
+    }
+
+    fn through_scan<O: Ops<Item = T>>(
+        self,
+        alloc: Global,
+        ops: &O,
+        function: u16,
+        last: &mut T,
+    ) -> Passed<T> {
+        match ops.fold(alloc, function, last, &self) {
+            Ok(next) => match ops.copy(alloc, &next) {
+                Ok(copy) => {
+                    *last = next;
+                    Passed::Item(copy)
+                }
+                Err(NoMemory) => Passed::Declined(self),
+            },
+            Err(_) => Passed::Declined(self),
+        }
+    }
+
+    fn through_buffer<O: Ops<Item = T>>(
+        self,
+        alloc: Global,
+        ops: &O,
+        size: u64,
+        gathered: &mut Buffered<T>,
+    ) -> Passed<T> {
+        if (gathered.items().len() as u64) >= size.saturating_sub(1) {
+            return self.through_full_buffer(alloc, ops, size, gathered);
+        }
+        match gathered.push(self) {
+            Ok(()) => Passed::Kept,
+            Err(item) => Passed::Declined(item),
+        }
+    }
+
+    // A list seldom becomes full, so this isn't inlined.
+    #[inline(never)]
+    fn through_full_buffer<O: Ops<Item = T>>(
+        self,
+        alloc: Global,
+        ops: &O,
+        size: u64,
+        gathered: &mut Buffered<T>,
+    ) -> Passed<T> {
+        if let Err(item) = gathered.push(self) {
+            return Passed::Declined(item);
+        }
+        match ops.list(alloc, gathered.items()) {
+            Ok(list) => {
+                gathered.clear();
+                Passed::Item(list)
+            }
+            Err(NoMemory) => match gathered.pop() {
+                Some(item) => Passed::Declined(item),
+                None => Passed::Kept,
+            },
+        }
+    }
+
+    fn through_distinct<O: Ops<Item = T>>(
+        self,
+        ops: &O,
+        function: u16,
+        keys: &mut Keys,
+        repeated: &mut u64,
+    ) -> Passed<T> {
+        match ops.key(function, &self) {
+            Ok(key) => match keys.note(key) {
+                Ok(false) => Passed::Item(self),
+                Ok(true) => {
+                    *repeated = repeated.saturating_add(1).min(MOST_ASKED);
+                    Passed::Kept
+                }
+                Err(NoMemory) => Passed::Declined(self),
+            },
+            Err(_) => Passed::Declined(self),
+        }
+    }
+}

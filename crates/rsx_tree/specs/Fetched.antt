@@ -1,0 +1,48 @@
+-- An item that is pulled through a tree in one go: the moves that lead to a tree whose root offers it, and then the item out.
+use Rattle.std.specs.Prelude.{◌≡◌, ℕ, ◌+◌, false, Option, Some, None}
+use Rattle.rsx_types.specs.Meaning.{Meaning}
+use Rattle.rsx_types.specs.declared.signal.Signal.TheVariants.{Next}
+use Rattle.rsx_sources.specs.Passed.{IsItemOut}
+use Rattle.rsx_sources.specs.declared.machine.Machine.{Ghosts as Machine}
+use Rattle.rsx_tree.specs.declared.edge.Edge.{Edge}
+use Rattle.rsx_tree.specs.declared.fetch.Handed.{Handed}
+use Rattle.rsx_tree.specs.declared.fetch.Handed.TheVariants.{Item, Kept, Back}
+use Rattle.rsx_tree.specs.declared.inputs.Inputs.{Inputs}
+use Rattle.rsx_tree.specs.declared.node.Node.{Node}
+use Rattle.rsx_tree.specs.Balance.{IsBalanced}
+use Rattle.rsx_tree.specs.Changed.{IsSentOver}
+use Rattle.rsx_tree.specs.Driven.{IsDriven, IsRowRun}
+use Rattle.rsx_tree.specs.Tree.{IsKept, IsLetGo}
+
+-- the item that waited in a node went out of it
+abbrev pub IsOut : {M T : Type 0} → Machine M T → Meaning T → M → T → M → Type 0
+IsOut b m n x n' = IsItemOut (b.comes_out m) (b.waiting m) b.popped b.recorded b.counted b.ended b.done n x n'
+
+-- what came of an item that was taken out of the sender `n` of a receiver's first input: it went over the edge, one move of
+-- the budget, and what the receiver put out first went out of it again, or it put out nothing; or the item went back
+abbrev pub IsHanded : {M T : Type 0} → Machine M T → Meaning T → ℕ → M → Edge → M → Handed T → ℕ → M → Edge → M → Type 0
+IsHanded {M} b m budget r e n (Item x) left r' e' n' =
+    (mid : M) × (left + 1 ≡ budget) × ((asked sent : ℕ) → IsSentOver b m r 0 asked sent e n mid e' n') × (b.ended mid ≡ false) × IsOut b m mid x r'
+IsHanded b m budget r e n Kept left r' e' n' =
+    (left + 1 ≡ budget) × ((asked sent : ℕ) → IsSentOver b m r 0 asked sent e n r' e' n') × (b.ended r' ≡ false)
+IsHanded b m budget r e n Back left r' e' n' = (left ≡ budget) × (r' ≡ r) × (e' ≡ e) × (n' ≡ n)
+
+-- enabled moves of a row, so many as the budget fell by, lead to a receiver that offers the item, which then went out of it;
+-- with no item they are all that was done
+abbrev pub IsRowFetched : {M T : Type 0} → Machine M T → Meaning T → ℕ → ℕ → ℕ → M → Inputs M → Option T → ℕ → M → Inputs M → Type 0
+IsRowFetched {M} b m budget asked sent r t (Some x) left r' t' =
+    (n : ℕ) × (mid : M) × (n + left ≡ budget) × IsRowRun b m false n 0 asked sent r t mid t' × IsOut b m mid x r'
+IsRowFetched b m budget asked sent r t None left r' t' = (n : ℕ) × (n + left ≡ budget) × IsRowRun b m false n 0 asked sent r t r' t'
+
+-- enabled moves, so many as the budget fell by, lead from one tree to another
+pub record IsLed {M T : Type 0} (b : Machine M T) (m : Meaning T) (budget : ℕ) (old : Node M) (asked sent left : ℕ) (new : Node M) : Type 0 where
+  pub count : ℕ
+  pub spent : count + left ≡ budget
+  pub run : IsDriven b m false count old asked sent new
+  pub kept : IsKept b m old new
+  pub balance : (s : ℕ) → IsBalanced b old s → IsBalanced b new s
+
+-- they lead to a tree whose root offers the item, which then went out of it; with no item they are all that was done
+abbrev pub IsFetched : {M T : Type 0} → Machine M T → Meaning T → ℕ → Node M → ℕ → ℕ → Option T → ℕ → Node M → Type 0
+IsFetched {M} b m budget old asked sent (Some x) left new = (mid : Node M) × IsLed b m budget old asked sent left mid × IsLetGo b m mid (Next x) new
+IsFetched b m budget old asked sent None left new = IsLed b m budget old asked sent left new

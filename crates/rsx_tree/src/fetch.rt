@@ -1,0 +1,168 @@
+//! An item pulled through a whole tree in one go.
+
+ghost use Rattle.std.specs.Prelude.{◌≡◌, ℕ, true};
+ghost use Rattle.rsx_tree.specs.Edges.{can_pass, edge_view};
+ghost use Rattle.rsx_tree.specs.Fetched.{IsHanded, IsOut};
+
+use crate::edge::Edge;
+use crate::inputs::{Inputs, ask_over};
+use crate::node::Node;
+use rsx_sources::{Front, Machine, Passed};
+use rsx_types::{Ops, Signal};
+use std::alloc::Global;
+
+/// What came of an item that was handed over an edge.
+#[derive(Drop)]
+pub(crate) enum Handed<T> {
+    /// It went over, and this item went out of the receiver again.
+    Item(T),
+    /// It went over, and nothing was put out for it.
+    Kept,
+    /// It went back into its sender.
+    Back,
+}
+
+impl<M: Machine> Inputs<M> {
+    ghost use Rattle.std.specs.Prelude.{◌≡◌, length, nat_eq};
+    ghost use Rattle.rsx_tree.specs.Balance.{sent_over};
+    ghost use Rattle.rsx_tree.specs.Fetched.{IsRowFetched};
+
+    /// Whether there is one input, and no other.
+    #[inline]
+    fn is_one(&self) -> bool
+        ensures { result ≡ nat_eq (length (sent_over self.now)) 1 }
+    {
+        match self {
+            Inputs::End => false,
+            Inputs::More(_, _, _, beside) => match &**beside {
+                Inputs::End => true,
+                Inputs::More(_, _, _, _) => false,
+            },
+        }
+    }
+
+    /// Makes enabled moves of the row until `receiver` offers an item, which is taken out of it; `asked` is asked of the
+    /// receiver, and `sent` it sent. Each move takes one of the budget that is `left`. It answers nothing where the budget is
+    /// used up, where the receiver has several inputs, or where it comes upon an ending, a fault or want of memory: then the
+    /// moves made stand, and [`Inputs::drive`] goes on from there.
+    ///
+    /// The receiver offers no item when it is called.
+    pub(crate) fn fetch<O: Ops<Item = M::Item>>(
+        &mut self,
+        alloc: Global,
+        ops: &O,
+        receiver: &mut M,
+        asked: u64,
+        sent: u64,
+        left: &mut u32,
+    ) -> Option<M::Item>
+        ensures { IsRowFetched M.Machine (O.meaning ops.now) left.old asked sent receiver.old self.old result left.new receiver.new self.new }
+    {
+        if !self.is_one() {
+            return None;
+        }
+        match self {
+            Inputs::End => None,
+            Inputs::More(edge, sender, below, _) => {
+                'items: while *left > 0 {
+                    if !edge.can_carry(Front::Item) {
+                        match ask_over(receiver, 0, asked, sent, edge) {
+                            Ok(()) => *left -= 1,
+                            Err(_) => return None,
+                        }
+                    } else {
+                        let below_asked = edge.demand.asked;
+                        let below_sent = edge.demand.sent;
+                        let item = match sender.pop_item(alloc, ops) {
+                            Some(item) => item,
+                            None => {
+                                match below.fetch(
+                                    alloc,
+                                    ops,
+                                    sender,
+                                    below_asked,
+                                    below_sent,
+                                    left,
+                                ) {
+                                    Some(item) => item,
+                                    None => return None,
+                                }
+                            }
+                        };
+                        match hand_over(alloc, ops, receiver, edge, sender, item, left) {
+                            Handed::Item(item) => return Some(item),
+                            Handed::Kept => {}
+                            Handed::Back => return None,
+                        }
+                    }
+                }
+                None
+            }
+        }
+    }
+}
+
+impl<M: Machine> Node<M> {
+    ghost use Rattle.rsx_tree.specs.Fetched.{IsFetched};
+
+    /// Makes enabled moves until the root offers an item, and takes that out; `asked` and `sent` are those of the root's own
+    /// edge. Each move takes one of the budget that is `left`.
+    ///
+    /// It answers nothing where the budget is used up, and where the way to an item isn't straight: at a node of several
+    /// inputs, an ending, a fault, or want of memory. Then the moves made stand, and [`Node::drive`] goes on from there.
+    #[inline]
+    pub fn fetch<O: Ops<Item = M::Item>>(
+        &mut self,
+        alloc: Global,
+        ops: &O,
+        asked: u64,
+        sent: u64,
+        left: &mut u32,
+    ) -> Option<M::Item>
+        ensures { IsFetched M.Machine (O.meaning ops.now) left.old self.old asked sent result left.new self.new }
+    {
+        match self.machine.pop_item(alloc, ops) {
+            Some(item) => Some(item),
+            None => self
+                .inputs
+                .fetch(alloc, ops, &mut self.machine, asked, sent, left),
+        }
+    }
+}
+
+/// Hands an item, which was taken out of the sender, over the edge into the first input of the receiver, and takes out what
+/// that puts out for it. With nothing of the budget `left`, or where the receiver declines, the item goes back.
+#[inline(always)]
+fn hand_over<M: Machine, O: Ops<Item = M::Item>>(
+    alloc: Global,
+    ops: &O,
+    receiver: &mut M,
+    edge: &mut Edge,
+    sender: &mut M,
+    item: M::Item,
+    left: &mut u32,
+) -> Handed<M::Item>
+    requires { can_pass (edge_view edge.old) Front.Item ≡ true }
+    ensures { (offering : M) → IsOut M.Machine (O.meaning ops.now) offering item sender.old → IsHanded M.Machine (O.meaning ops.now) left.old receiver.old edge.old offering result left.new receiver.new edge.new sender.new }
+{
+    if *left == 0 {
+        sender.put_back(Signal::Next(item));
+        return Handed::Back;
+    }
+    match receiver.pass(alloc, ops, 0, item) {
+        Passed::Item(item) => {
+            edge.carry(Front::Item);
+            *left -= 1;
+            Handed::Item(item)
+        }
+        Passed::Kept => {
+            edge.carry(Front::Item);
+            *left -= 1;
+            Handed::Kept
+        }
+        Passed::Declined(back) => {
+            sender.put_back(Signal::Next(back));
+            Handed::Back
+        }
+    }
+}
