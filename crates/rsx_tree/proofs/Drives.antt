@@ -11,7 +11,7 @@ use Rattle.rsx_tree.specs.declared.node.Node.{Node}
 use Rattle.rsx_tree.specs.Edges.{EdgeView, edge_view, can_ask_for}
 use Rattle.rsx_tree.specs.Inputs.{size, is_own, place, Place, closed_row_if, can_send_over, can_ask_in, can_send_in}
 use Rattle.rsx_tree.specs.Changed.{Change, IsChanged, IsAskedOver, IsSentOver, Hold}
-use Rattle.rsx_tree.specs.Stepped.{IsStepped, IsStepOver, Step, Station, IsPickedHere, IsRowMadeHere, IsStill, station}
+use Rattle.rsx_tree.specs.Stepped.{IsStepped, IsStepOf, IsStepOver, Step, Station, IsPickedHere, IsRowMadeHere, IsStill, station}
 use Rattle.rsx_tree.specs.Tree.{IsKept}
 use Rattle.rsx_tree.specs.Driven.{IsMade, IsAskMade, IsSendMade, IsStepMade, IsRowRun, IsRowEnded, IsRowDriven, IsRowIdle, IsRestAt, IsRestOver, IsDriven, IsAdvanced, IsIdle}
 use Rattle.rsx_types.specs.Notes.{note_then}
@@ -259,7 +259,7 @@ pub asked_here : {M T : Type 0} (b : Machine M T) (m : Meaning T) (steps : Bool)
     (p q : Hold) (beside : Inputs M) → IsMade b m steps r i asked sent (More' e n p below q beside) 0 false r' (More' e' n' p below q beside)
 asked_here b m steps i asked sent r r' e e' n n' below h p q beside = inl (record { made = inl (record { e' = e'; n' = n'; at_is = refl; made = h; new_is = refl }); stays = refl })
 
-pub step_here : {M T : Type 0} (b : Machine M T) (m : Meaning T) (i asked sent : ℕ) (r : M) (e : Edge) (n n' : M) (below below' : Inputs M) → IsStepOver b m e n below n' below' →
+pub step_here : {M T : Type 0} (b : Machine M T) (m : Meaning T) (i asked sent : ℕ) (r : M) (e : Edge) (n n' : M) (below below' : Inputs M) → IsStepOver (IsStepOf b m) b.ended e n below n' below' →
     (p q : Hold) (beside : Inputs M) → IsMade b m true r i asked sent (More' e n p below q beside) 0 false r (More' e n' p below' q beside)
 step_here b m i asked sent r e n n' below below' h p q beside = inr (inr (
   refl,

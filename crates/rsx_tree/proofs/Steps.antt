@@ -7,15 +7,14 @@ use Rattle.rsx_tree.specs.declared.inputs.Inputs.TheViews.{More}
 use Rattle.rsx_tree.specs.declared.node.Node.{Node}
 use Rattle.rsx_tree.specs.Edges.{EdgeView, edge_view, is_live}
 use Rattle.rsx_tree.specs.Inputs.{size, closed_row_if}
-use Rattle.rsx_tree.specs.Stepped.{Step, IsStepped, IsSteppedAt, Station, station, station_of}
+use Rattle.rsx_tree.specs.Stepped.{Step, IsStepOver, IsStepped, IsSteppedAt, Station, station, station_of}
 use Rattle.rsx_tree.proofs.Changes.{Rest, chosen_first, chosen_second, not_zero, is_within, is_beyond, counted_all, counted_some}
 
-pub stepped_here : {M : Type 0} (P : Step M) (ends : M → Bool) (old : Inputs M) (e : Edge) (n n' : M) (below beside : Rest M) (was new : Inputs M) (at : ℕ) → old ≡ More e n below beside → was ≡ below.value → at ≡ 0 → is_live e.state ≡ true → P n e.demand.asked e.demand.sent n' →
-    new ≡ closed_row_if (ends n' && true) was → IsStepped P ends old at (More e n' (with_value below new) beside)
-stepped_here {M} P ends old e n n' below beside was new at is w z live p shut =
+pub stepped_here : {M : Type 0} (P : Step M) (ends : M → Bool) (old : Inputs M) (e : Edge) (n n' : M) (below beside : Rest M) (was new : Inputs M) (at : ℕ) → old ≡ More e n below beside → was ≡ below.value → at ≡ 0 → IsStepOver P ends e n was n' new → IsStepped P ends old at (More e n' (with_value below new) beside)
+stepped_here {M} P ends old e n n' below beside was new at is w z h =
     let Q : Inputs M → Type 0 = λ t. IsStepped P ends t at (More e n' (with_value below new) beside) in
-    let fit : new ≡ closed_row_if (ends n' && true) below.value = shut ∙ ap (closed_row_if (ends n' && true)) w in
-    subst Q (sym is) (inl (record { n' = n'; at_is = z; live = live; made = p; new_is = ap (λ t. More e n' (with_value below t) beside) fit }))
+    let fit : new ≡ closed_row_if (ends n' && true) below.value = h.shut ∙ ap (closed_row_if (ends n' && true)) w in
+    subst Q (sym is) (inl (record { n' = n'; at_is = z; live = h.live; made = h.made; new_is = ap (λ t. More e n' (with_value below t) beside) fit }))
 
 pub stepped_beside : {M : Type 0} (P : Step M) (ends : M → Bool) (old : Inputs M) (e : Edge) (n : M) (below beside : Rest M) (under was new : Inputs M) (at inside : ℕ) →
     old ≡ More e n below beside → under ≡ below.value → was ≡ beside.value → inside ≡ min (size under) at → inside < at → IsStepped P ends was (at - 1 - inside) new → IsStepped P ends old at (More e n below (with_value beside new))
@@ -60,10 +59,9 @@ station_below {M} old e n below beside under was at inside is u w c above near =
 abbrev tree : {M : Type 0} → M → Inputs M → Node M
 tree r t = record { machine = r; inputs = t }
 
-pub stepped_root : {M : Type 0} (P : Step M) (ends : M → Bool) (r r' : M) (t t' : Inputs M) (e : Edge) (at : ℕ) → at ≤ 0 → is_live e.state ≡ true → P r e.demand.asked e.demand.sent r' → t' ≡ closed_row_if (ends r' && true) t →
-    IsSteppedAt P ends (tree r t) (edge_view e) at (tree r' t')
-stepped_root P ends r r' t t' e zero z live made shut = record { live = live; made = made; inputs = shut }
-stepped_root P ends r r' t t' e (suc at) z live made shut = absurd (omega (arith, z))
+pub stepped_root : {M : Type 0} (P : Step M) (ends : M → Bool) (r r' : M) (t t' : Inputs M) (e : Edge) (at : ℕ) → at ≤ 0 → IsStepOver P ends e r t r' t' → IsSteppedAt P ends (tree r t) (edge_view e) at (tree r' t')
+stepped_root P ends r r' t t' e zero z h = record { live = h.live; made = h.made; inputs = h.shut }
+stepped_root P ends r r' t t' e (suc at) z h = absurd (omega (arith, z))
 
 pub stepped_tree : {M : Type 0} (P : Step M) (ends : M → Bool) (r : M) (t t' : Inputs M) (e : EdgeView) (at : ℕ) → 0 < at → IsStepped P ends t (at - 1) t' → IsSteppedAt P ends (tree r t) e at (tree r t')
 stepped_tree P ends r t t' e zero z h = absurd (omega (arith, z))

@@ -67,11 +67,11 @@ pub record IsRowMadeHere {M T : Type 0} (b : Machine M T) (m : Meaning T) (n : M
 abbrev pub IsStepOf : {M T : Type 0} → Machine M T → Meaning T → Step M
 IsStepOf b m n asked sent n' = ((input : ℕ) × IsPickedHere b m input n asked sent n') ⊎ IsRowMadeHere b m n asked sent n'
 
--- such a step was made, of a node whose edge is live; where the node ended by it, all below it is closed
-pub record IsStepOver {M T : Type 0} (b : Machine M T) (m : Meaning T) (e : Edge) (n : M) (below : Inputs M) (n' : M) (below' : Inputs M) : Type 0 where
+-- a step was made of a node whose edge is live; where the node ended by it, all below it is closed
+pub record IsStepOver {M : Type 0} (P : Step M) (ends : M → Bool) (e : Edge) (n : M) (below : Inputs M) (n' : M) (below' : Inputs M) : Type 0 where
   pub live : is_live e.state ≡ true
-  pub made : IsStepOf b m n e.demand.asked e.demand.sent n'
-  pub shut : below' ≡ closed_row_if (b.ended n' && true) below
+  pub made : P n e.demand.asked e.demand.sent n'
+  pub shut : below' ≡ closed_row_if (ends n' && true) below
 
 pub record IsStepHere {M : Type 0} (P : Step M) (ends : M → Bool) (e : Edge) (n : M) (p : Hold) (below : Inputs M) (q : Hold) (beside : Inputs M) (at : ℕ) (new : Inputs M) : Type 0 where
   pub n' : M

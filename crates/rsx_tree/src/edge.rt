@@ -53,7 +53,7 @@ impl Edge {
     pub fn can_ask(&self, want: u64) -> bool
         ensures { result ≡ can_ask_for (edge_view self.now) want }
     {
-        matches!(self.state, EdgeState::Live) && self.demand.asked < want
+        self.is_live() && self.demand.asked < want
     }
 
     /// Raises what was asked to `want`, at most 2^63 - 1 (rule 3.17).
@@ -70,9 +70,8 @@ impl Edge {
         ensures { result ≡ can_pass (edge_view self.now) front }
     {
         match front {
-            Front::Item => matches!(self.state, EdgeState::Live)
-                && self.demand.sent < self.demand.asked,
-            Front::Completion | Front::Failure(_) => matches!(self.state, EdgeState::Live),
+            Front::Item => self.is_live() && self.demand.sent < self.demand.asked,
+            Front::Completion | Front::Failure(_) => self.is_live(),
         }
     }
 
@@ -92,7 +91,7 @@ impl Edge {
         ensures view { edge_view self.new ≡ closed_view (edge_view self.old) }
         ensures whole { self.new ≡ closed_edge self.old }
     {
-        if matches!(self.state, EdgeState::Live) {
+        if self.is_live() {
             self.state = EdgeState::Closed;
         }
     }

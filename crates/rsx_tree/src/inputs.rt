@@ -1,15 +1,15 @@
 //! The inputs of a node, with all below them.
 
-ghost use Rattle.std.specs.Prelude.{◌≡◌, ℕ, OnOk, OnErr, IfOk, IsOk, IfErr, Some, true, false};
+ghost use Rattle.std.specs.Prelude.{◌≡◌, ℕ, OnOk, OnErr, IfOk, IsOk, IfErr, true, false};
 ghost use Rattle.rsx_sources.specs.Steps.{IsNotMade};
 ghost use Rattle.rsx_tree.specs.declared.inputs.Inputs.{More'};
 ghost use Rattle.rsx_tree.specs.Edges.{edge_view, can_ask_for};
 ghost use Rattle.rsx_tree.specs.Inputs.{can_send_over, send_over_allocates, size};
 ghost use Rattle.rsx_tree.specs.Changed.{Hold, IsAskedOver, IsSentOver};
 ghost use Rattle.rsx_tree.specs.Driven.{IsMade, IsRestOver};
-ghost use Rattle.rsx_tree.specs.Stepped.{IsStepOver, IsStill, over};
 
 use crate::edge::Edge;
+use crate::step::{pick_over, row_over, step_over};
 use rsx_sources::{Front, Machine, NotMade, NotTaken};
 use rsx_types::{NoMemory, Note, Ops, StreamValue};
 use std::alloc::Global;
@@ -237,16 +237,8 @@ impl<M: Machine> Inputs<M> {
             Inputs::End => Err(NotMade::NotEnabled),
             Inputs::More(edge, machine, below, beside) => {
                 if at == 0 {
-                    if !edge.is_live() {
-                        return Err(NotMade::NotEnabled);
-                    }
-                    let asked = edge.demand.asked;
-                    let sent = edge.demand.sent;
-                    return match machine.on_pick(alloc, ops, input, asked, sent) {
-                        Ok(()) => {
-                            below.close_if(machine.has_ended(), true);
-                            Ok(())
-                        }
+                    return match pick_over(alloc, ops, edge, machine, below, input) {
+                        Ok(()) => Ok(()),
                         Err(why) => Err(why),
                     };
                 }
@@ -280,16 +272,8 @@ impl<M: Machine> Inputs<M> {
             Inputs::End => Err(NotMade::NotEnabled),
             Inputs::More(edge, machine, below, beside) => {
                 if at == 0 {
-                    if !edge.is_live() {
-                        return Err(NotMade::NotEnabled);
-                    }
-                    let asked = edge.demand.asked;
-                    let sent = edge.demand.sent;
-                    return match machine.on_row(alloc, ops, asked, sent) {
-                        Ok(()) => {
-                            below.close_if(machine.has_ended(), true);
-                            Ok(())
-                        }
+                    return match row_over(alloc, ops, edge, machine, below) {
+                        Ok(()) => Ok(()),
                         Err(why) => Err(why),
                     };
                 }
@@ -308,8 +292,11 @@ impl<M: Machine> Inputs<M> {
         }
     }
 
-    /// Makes enabled moves over the edges of the row and below them, an input after the other, and answers how many of the
-    /// budget are left. It stops where `receiver` ended by one of them: then its owner closes the row.
+    /// Makes enabled moves over the edges of the row, of the nodes there and below them, an input after the other, and answers
+    /// how many of the budget are left. It stops where `receiver` ended by one of them: then its owner closes the row.
+    ///
+    /// # Errors
+    /// [`NoMemory`] where a growth was refused; the moves made before stand.
     pub fn drive<O: Ops<Item = M::Item>>(
         &mut self,
         alloc: Global,
@@ -424,45 +411,6 @@ fn advance_over<M: Machine, O: Ops<Item = M::Item>>(
         Ok(true) => Ok(Advance::Made),
         Ok(false) => Ok(Advance::Neither),
         Err(NoMemory) => Err(NoMemory),
-    }
-}
-
-/// Makes a pick or a row of a node, where one is enabled, and answers whether it did. Where the node ended by it, all below
-/// it is closed.
-fn step_over<M: Machine, O: Ops<Item = M::Item>>(
-    alloc: Global,
-    ops: &O,
-    edge: &Edge,
-    node: &mut M,
-    below: &mut Inputs<M>,
-) -> Result<bool, NoMemory>
-    ensures made { IfOk result (λ made. made ≡ true → IsStepOver M.Machine (O.meaning ops.now) edge.now node.old below.old node.new below.new) }
-    ensures still { IfOk result (λ made. made ≡ false → IsStill M.Machine (Some (over edge.now node.old))) }
-    ensures same { IfOk result (λ made. made ≡ false → (node.new ≡ node.old) × (below.new ≡ below.old)) }
-    ensures err { OnErr result ((node.new ≡ node.old) × (below.new ≡ below.old)) }
-    ensures size { size below.new ≡ size below.old }
-{
-    if !edge.is_live() {
-        return Ok(false);
-    }
-    let asked = edge.demand.asked;
-    let sent = edge.demand.sent;
-    if let Some(input) = node.next_pick(asked, sent) {
-        return match node.on_pick(alloc, ops, input, asked, sent) {
-            Ok(()) => {
-                below.close_if(node.has_ended(), true);
-                Ok(true)
-            }
-            Err(_) => Err(NoMemory),
-        };
-    }
-    match node.on_row(alloc, ops, asked, sent) {
-        Ok(()) => {
-            below.close_if(node.has_ended(), true);
-            Ok(true)
-        }
-        Err(NotMade::NotEnabled) => Ok(false),
-        Err(NotMade::NoMemory) => Err(NoMemory),
     }
 }
 

@@ -9,6 +9,7 @@ pub mod fetch;
 pub mod inputs;
 pub mod look;
 pub mod node;
+mod step;
 
 pub use edge::{Edge, EdgeState};
 pub use inputs::{Inputs, Pass};

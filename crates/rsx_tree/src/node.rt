@@ -5,6 +5,7 @@ ghost use Rattle.std.specs.Prelude.{◌≡◌};
 use crate::edge::Edge;
 use crate::inputs::Inputs;
 use crate::look::NodeMove;
+use crate::step::{pick_over, row_over};
 use rsx_sources::{Front, Machine, NotMade};
 use rsx_types::{NoMemory, Note, Ops, Signal, StreamValue};
 use std::alloc::Global;
@@ -147,17 +148,8 @@ impl<M: Machine> Node<M> {
                 Err(why) => Err(why),
             };
         }
-        if !root.is_live() {
-            return Err(NotMade::NotEnabled);
-        }
-        match self
-            .machine
-            .on_pick(alloc, ops, input, root.demand.asked, root.demand.sent)
-        {
-            Ok(()) => {
-                self.inputs.close_if(self.machine.has_ended(), true);
-                Ok(())
-            }
+        match pick_over(alloc, ops, root, &mut self.machine, &mut self.inputs, input) {
+            Ok(()) => Ok(()),
             Err(why) => Err(why),
         }
     }
@@ -189,17 +181,8 @@ impl<M: Machine> Node<M> {
                 Err(why) => Err(why),
             };
         }
-        if !root.is_live() {
-            return Err(NotMade::NotEnabled);
-        }
-        match self
-            .machine
-            .on_row(alloc, ops, root.demand.asked, root.demand.sent)
-        {
-            Ok(()) => {
-                self.inputs.close_if(self.machine.has_ended(), true);
-                Ok(())
-            }
+        match row_over(alloc, ops, root, &mut self.machine, &mut self.inputs) {
+            Ok(()) => Ok(()),
             Err(why) => Err(why),
         }
     }

@@ -2,6 +2,7 @@ use Rattle.std.proofs.Common.{◌≡◌, ◌+◌, ◌-◌, None, subst, sym, ◌
 use Rattle.rsx_pipe.specs.Fetched.{IsFetched}
 use Rattle.rsx_pipe.specs.Tree.{AnyTree}
 use Rattle.rsx_pipe.proofs.Fetches.{fetched_item, fetched_none}
+use Rattle.rsx_pipe.proofs.Parts.{pumped_none}
 use Rattle.rsx_pipe.proofs.part.Part.fetch.Goals as goal
 
 pub returns-in-None : goal.returns-in-None
@@ -21,3 +22,6 @@ returns g c =
     let one : (c.fetch.new.left - 1) + 1 ≡ c.fetch.new.left = let h = c.if-left-eq0.false in omega (arith, h) in
     fetched_item (g.O.Ops.meaning c.args.ops.now) c.args.left.now c.fetch.new.left (c.fetch.new.left - 1) c.args.self.now (record { tree = c.fetch.new.self; root = c.carry.new.self }) e.0 c.in-Some.item e.1 one e.2
     (sym c.can_carry.ensures ∙ c.if-not-can_carry.false) c.carry.ensures
+
+pub returns-then-not-can_carry : goal.returns-then-not-can_carry
+returns-then-not-can_carry g c = (0, omega arith, λ queue. pumped_none (g.O.Ops.meaning c.args.ops.now) c.args.self.now queue)

@@ -16,3 +16,24 @@ returns-in-Some-Pick-clause-none g c = λ m. absurd (none_pick m c.args.self.now
 
 pub returns-in-Some-Row-clause-none : goal.returns-in-Some-Row-clause-none
 returns-in-Some-Row-clause-none g c = λ m. absurd (none_row m c.args.self.now c.in-Some-Row.field-0 c.in-Some-Row.node c.in-Some-Row.field-0-is (c.in-Some-Row.ensures.some m))
+
+pub returns-then-can_send_root-clause-some : goal.returns-then-can_send_root-clause-some
+returns-then-can_send_root-clause-some g c = λ m. (refl, sym (c.if-can_send_root.ensures m))
+
+pub returns-then-can_send_root-clause-none : goal.returns-then-can_send_root-clause-none
+returns-then-can_send_root-clause-none g c = λ m. tt
+
+pub returns-in-Some-Ask-clause-none : goal.returns-in-Some-Ask-clause-none
+returns-in-Some-Ask-clause-none g c = λ m. tt
+
+pub returns-in-Some-Send-clause-none : goal.returns-in-Some-Send-clause-none
+returns-in-Some-Send-clause-none g c = λ m. tt
+
+pub returns-in-Some-Pick-clause-some : goal.returns-in-Some-Pick-clause-some
+returns-in-Some-Pick-clause-some g c = λ m. tt
+
+pub returns-in-Some-Row-clause-some : goal.returns-in-Some-Row-clause-some
+returns-in-Some-Row-clause-some g c = λ m. tt
+
+pub returns-in-None-clause-some : goal.returns-in-None-clause-some
+returns-in-None-clause-some g c = λ m. tt

@@ -1,4 +1,4 @@
-use Rattle.std.proofs.Common.{sym, ◌∙◌}
+use Rattle.std.proofs.Common.{sym, ◌∙◌, true, false, ◌≡◌}
 use Rattle.rsx_pipe.proofs.Looks.{awake_node, none_enabled}
 use Rattle.rsx_pipe.proofs.Parts.{awake_root}
 use Rattle.rsx_pipe.proofs.part.Part.is_idle.Goals as goal
@@ -11,3 +11,15 @@ returns-in-Some-clause-no g c = λ m _. awake_node m c.args.self.now c.args.out.
 
 pub returns-in-None-clause-yes : goal.returns-in-None-clause-yes
 returns-in-None-clause-yes g c = λ m _. none_enabled m c.args.self.now c.args.out.now (sym (c.can_send_root.ensures m) ∙ c.if-can_send_root.false) (c.in-None.ensures.none m)
+
+never : false ≡ true → ⊥
+never e = cc
+
+pub returns-then-can_send_root-clause-yes : goal.returns-then-can_send_root-clause-yes
+returns-then-can_send_root-clause-yes g c = λ m e. absurd (never e)
+
+pub returns-in-Some-clause-yes : goal.returns-in-Some-clause-yes
+returns-in-Some-clause-yes g c = λ m e. absurd (never e)
+
+pub returns-in-None-clause-no : goal.returns-in-None-clause-no
+returns-in-None-clause-no g c = λ m e. absurd (never (sym e))

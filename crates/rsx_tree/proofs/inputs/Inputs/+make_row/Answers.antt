@@ -1,12 +1,12 @@
-use Rattle.std.proofs.Common.{arith, rules, refl, sym, ◌∙◌, ap}
+use Rattle.std.proofs.Common.{arith}
 use Rattle.rsx_tree.specs.Stepped.{IsPickedHere, IsRowMadeHere}
 use Rattle.rsx_tree.proofs.Steps.{stepped_here, stepped_beside, stepped_below}
 use Rattle.rsx_tree.proofs.inputs.Inputs.+make_row.Goals as goal
 
 pub returns-in-Ok-clause-made : goal.returns-in-Ok-clause-made
 returns-in-Ok-clause-made g t c =
-    stepped_here (IsRowMadeHere g.M.Machine (g.O.Ops.meaning c.args.ops.now)) g.M.Machine.ended c.args.self.now c.in-More.edge c.in-More.machine c.on_row.new.self c.in-More.below c.in-More.beside c.deref_mut.result.now c.close_if.new.self c.args.at
-    c.in-More.is c.deref_mut.ensures.value c.if-at-eq0.true (search rules) (record { can = c.in-Ok.ensures.enabled; value = c.in-Ok.ensures.ok; recorded = c.in-Ok.ensures.recorded; counts = c.in-Ok.ensures.counts }) (search rules)
+    stepped_here (IsRowMadeHere g.M.Machine (g.O.Ops.meaning c.args.ops.now)) g.M.Machine.ended c.args.self.now c.in-More.edge c.in-More.machine c.row_over.new.node c.in-More.below c.in-More.beside c.deref_mut.result.now c.row_over.new.below c.args.at
+    c.in-More.is c.deref_mut.ensures.value c.if-at-eq0.true c.in-Ok.ensures.made
 
 pub returns-in-Ok-make_row-clause-made : goal.returns-in-Ok-make_row-clause-made
 returns-in-Ok-make_row-clause-made g t c =

@@ -1,12 +1,12 @@
-use Rattle.std.proofs.Common.{arith, rules, refl, sym, ◌∙◌, ap}
+use Rattle.std.proofs.Common.{arith}
 use Rattle.rsx_tree.specs.Stepped.{IsPickedHere, IsRowMadeHere}
 use Rattle.rsx_tree.proofs.Steps.{stepped_here, stepped_beside, stepped_below}
 use Rattle.rsx_tree.proofs.inputs.Inputs.+pick.Goals as goal
 
 pub returns-in-Ok-clause-made : goal.returns-in-Ok-clause-made
 returns-in-Ok-clause-made g t c =
-    stepped_here (IsPickedHere g.M.Machine (g.O.Ops.meaning c.args.ops.now) c.args.input) g.M.Machine.ended c.args.self.now c.in-More.edge c.in-More.machine c.on_pick.new.self c.in-More.below c.in-More.beside c.deref_mut.result.now c.close_if.new.self c.args.at
-    c.in-More.is c.deref_mut.ensures.value c.if-at-eq0.true (search rules) (record { can = c.in-Ok.ensures.enabled; value = c.in-Ok.ensures.ok; recorded = c.in-Ok.ensures.recorded; composes = c.in-Ok.ensures.composes; counts = c.in-Ok.ensures.counts }) (search rules)
+    stepped_here (IsPickedHere g.M.Machine (g.O.Ops.meaning c.args.ops.now) c.args.input) g.M.Machine.ended c.args.self.now c.in-More.edge c.in-More.machine c.pick_over.new.node c.in-More.below c.in-More.beside c.deref_mut.result.now c.pick_over.new.below c.args.at
+    c.in-More.is c.deref_mut.ensures.value c.if-at-eq0.true c.in-Ok.ensures.made
 
 pub returns-in-Ok-pick-clause-made : goal.returns-in-Ok-pick-clause-made
 returns-in-Ok-pick-clause-made g t c =

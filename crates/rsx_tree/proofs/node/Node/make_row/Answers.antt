@@ -31,27 +31,27 @@ returns-in-Ok-clause-balance g c =
     let made : IsSteppedAt (IsRowMadeHere g.M.Machine (g.O.Ops.meaning c.args.ops.now)) g.M.Machine.ended c.args.self.now (edge_view c.args.root.now) c.args.at (node c.args.self.now.machine c.make_row.new.self) = stepped_tree (IsRowMadeHere g.M.Machine (g.O.Ops.meaning c.args.ops.now)) g.M.Machine.ended c.args.self.now.machine c.args.self.now.inputs c.make_row.new.self (edge_view c.args.root.now) c.args.at c.if-at-gt0.true c.in-Ok.ensures.made in
     (row_noted g.M.Machine (g.O.Ops.meaning c.args.ops.now) c.args.self.now (edge_view c.args.root.now) c.args.at (node c.args.self.now.machine c.make_row.new.self) made).balance
 
-pub returns-in-Ok-on_row-clause-made : goal.returns-in-Ok-on_row-clause-made
-returns-in-Ok-on_row-clause-made g c =
-    let made : IsSteppedAt (IsRowMadeHere g.M.Machine (g.O.Ops.meaning c.args.ops.now)) g.M.Machine.ended c.args.self.now (edge_view c.args.root.now) c.args.at (node c.on_row.new.self c.close_if.new.self) = stepped_root (IsRowMadeHere g.M.Machine (g.O.Ops.meaning c.args.ops.now)) g.M.Machine.ended c.args.self.now.machine c.on_row.new.self c.args.self.now.inputs c.close_if.new.self c.args.root.now c.args.at c.if-at-gt0.false (sym c.is_live.ensures ∙ c.if-not-is_live.false) (record { can = c.in-Ok-on_row.ensures.enabled; value = c.in-Ok-on_row.ensures.ok; recorded = c.in-Ok-on_row.ensures.recorded; counts = c.in-Ok-on_row.ensures.counts }) (c.close_if.ensures.row ∙ ap (λ e. closed_row_if (e && true) c.args.self.now.inputs) c.has_ended.ensures) in
+pub returns-in-Ok-row_over-clause-made : goal.returns-in-Ok-row_over-clause-made
+returns-in-Ok-row_over-clause-made g c =
+    let made : IsSteppedAt (IsRowMadeHere g.M.Machine (g.O.Ops.meaning c.args.ops.now)) g.M.Machine.ended c.args.self.now (edge_view c.args.root.now) c.args.at (node c.row_over.new.node c.row_over.new.below) = stepped_root (IsRowMadeHere g.M.Machine (g.O.Ops.meaning c.args.ops.now)) g.M.Machine.ended c.args.self.now.machine c.row_over.new.node c.args.self.now.inputs c.row_over.new.below c.args.root.now c.args.at c.if-at-gt0.false c.in-Ok-row_over.ensures.made in
     made
 
-pub returns-in-Ok-on_row-clause-enabled : goal.returns-in-Ok-on_row-clause-enabled
-returns-in-Ok-on_row-clause-enabled g c =
-    let made : IsSteppedAt (IsRowMadeHere g.M.Machine (g.O.Ops.meaning c.args.ops.now)) g.M.Machine.ended c.args.self.now (edge_view c.args.root.now) c.args.at (node c.on_row.new.self c.close_if.new.self) = stepped_root (IsRowMadeHere g.M.Machine (g.O.Ops.meaning c.args.ops.now)) g.M.Machine.ended c.args.self.now.machine c.on_row.new.self c.args.self.now.inputs c.close_if.new.self c.args.root.now c.args.at c.if-at-gt0.false (sym c.is_live.ensures ∙ c.if-not-is_live.false) (record { can = c.in-Ok-on_row.ensures.enabled; value = c.in-Ok-on_row.ensures.ok; recorded = c.in-Ok-on_row.ensures.recorded; counts = c.in-Ok-on_row.ensures.counts }) (c.close_if.ensures.row ∙ ap (λ e. closed_row_if (e && true) c.args.self.now.inputs) c.has_ended.ensures) in
-    row_enabled g.M.Machine (g.O.Ops.meaning c.args.ops.now) c.args.self.now (edge_view c.args.root.now) c.args.at (node c.on_row.new.self c.close_if.new.self) made
+pub returns-in-Ok-row_over-clause-enabled : goal.returns-in-Ok-row_over-clause-enabled
+returns-in-Ok-row_over-clause-enabled g c =
+    let made : IsSteppedAt (IsRowMadeHere g.M.Machine (g.O.Ops.meaning c.args.ops.now)) g.M.Machine.ended c.args.self.now (edge_view c.args.root.now) c.args.at (node c.row_over.new.node c.row_over.new.below) = stepped_root (IsRowMadeHere g.M.Machine (g.O.Ops.meaning c.args.ops.now)) g.M.Machine.ended c.args.self.now.machine c.row_over.new.node c.args.self.now.inputs c.row_over.new.below c.args.root.now c.args.at c.if-at-gt0.false c.in-Ok-row_over.ensures.made in
+    row_enabled g.M.Machine (g.O.Ops.meaning c.args.ops.now) c.args.self.now (edge_view c.args.root.now) c.args.at (node c.row_over.new.node c.row_over.new.below) made
 
-pub returns-in-Ok-on_row-clause-effect : goal.returns-in-Ok-on_row-clause-effect
-returns-in-Ok-on_row-clause-effect g c =
-    let made : IsSteppedAt (IsRowMadeHere g.M.Machine (g.O.Ops.meaning c.args.ops.now)) g.M.Machine.ended c.args.self.now (edge_view c.args.root.now) c.args.at (node c.on_row.new.self c.close_if.new.self) = stepped_root (IsRowMadeHere g.M.Machine (g.O.Ops.meaning c.args.ops.now)) g.M.Machine.ended c.args.self.now.machine c.on_row.new.self c.args.self.now.inputs c.close_if.new.self c.args.root.now c.args.at c.if-at-gt0.false (sym c.is_live.ensures ∙ c.if-not-is_live.false) (record { can = c.in-Ok-on_row.ensures.enabled; value = c.in-Ok-on_row.ensures.ok; recorded = c.in-Ok-on_row.ensures.recorded; counts = c.in-Ok-on_row.ensures.counts }) (c.close_if.ensures.row ∙ ap (λ e. closed_row_if (e && true) c.args.self.now.inputs) c.has_ended.ensures) in
-    row_effect g.M.Machine (g.O.Ops.meaning c.args.ops.now) c.args.self.now (edge_view c.args.root.now) c.args.at (node c.on_row.new.self c.close_if.new.self) made
+pub returns-in-Ok-row_over-clause-effect : goal.returns-in-Ok-row_over-clause-effect
+returns-in-Ok-row_over-clause-effect g c =
+    let made : IsSteppedAt (IsRowMadeHere g.M.Machine (g.O.Ops.meaning c.args.ops.now)) g.M.Machine.ended c.args.self.now (edge_view c.args.root.now) c.args.at (node c.row_over.new.node c.row_over.new.below) = stepped_root (IsRowMadeHere g.M.Machine (g.O.Ops.meaning c.args.ops.now)) g.M.Machine.ended c.args.self.now.machine c.row_over.new.node c.args.self.now.inputs c.row_over.new.below c.args.root.now c.args.at c.if-at-gt0.false c.in-Ok-row_over.ensures.made in
+    row_effect g.M.Machine (g.O.Ops.meaning c.args.ops.now) c.args.self.now (edge_view c.args.root.now) c.args.at (node c.row_over.new.node c.row_over.new.below) made
 
-pub returns-in-Ok-on_row-clause-chosen : goal.returns-in-Ok-on_row-clause-chosen
-returns-in-Ok-on_row-clause-chosen g c =
-    let made : IsSteppedAt (IsRowMadeHere g.M.Machine (g.O.Ops.meaning c.args.ops.now)) g.M.Machine.ended c.args.self.now (edge_view c.args.root.now) c.args.at (node c.on_row.new.self c.close_if.new.self) = stepped_root (IsRowMadeHere g.M.Machine (g.O.Ops.meaning c.args.ops.now)) g.M.Machine.ended c.args.self.now.machine c.on_row.new.self c.args.self.now.inputs c.close_if.new.self c.args.root.now c.args.at c.if-at-gt0.false (sym c.is_live.ensures ∙ c.if-not-is_live.false) (record { can = c.in-Ok-on_row.ensures.enabled; value = c.in-Ok-on_row.ensures.ok; recorded = c.in-Ok-on_row.ensures.recorded; counts = c.in-Ok-on_row.ensures.counts }) (c.close_if.ensures.row ∙ ap (λ e. closed_row_if (e && true) c.args.self.now.inputs) c.has_ended.ensures) in
-    (row_noted g.M.Machine (g.O.Ops.meaning c.args.ops.now) c.args.self.now (edge_view c.args.root.now) c.args.at (node c.on_row.new.self c.close_if.new.self) made).chosen
+pub returns-in-Ok-row_over-clause-chosen : goal.returns-in-Ok-row_over-clause-chosen
+returns-in-Ok-row_over-clause-chosen g c =
+    let made : IsSteppedAt (IsRowMadeHere g.M.Machine (g.O.Ops.meaning c.args.ops.now)) g.M.Machine.ended c.args.self.now (edge_view c.args.root.now) c.args.at (node c.row_over.new.node c.row_over.new.below) = stepped_root (IsRowMadeHere g.M.Machine (g.O.Ops.meaning c.args.ops.now)) g.M.Machine.ended c.args.self.now.machine c.row_over.new.node c.args.self.now.inputs c.row_over.new.below c.args.root.now c.args.at c.if-at-gt0.false c.in-Ok-row_over.ensures.made in
+    (row_noted g.M.Machine (g.O.Ops.meaning c.args.ops.now) c.args.self.now (edge_view c.args.root.now) c.args.at (node c.row_over.new.node c.row_over.new.below) made).chosen
 
-pub returns-in-Ok-on_row-clause-balance : goal.returns-in-Ok-on_row-clause-balance
-returns-in-Ok-on_row-clause-balance g c =
-    let made : IsSteppedAt (IsRowMadeHere g.M.Machine (g.O.Ops.meaning c.args.ops.now)) g.M.Machine.ended c.args.self.now (edge_view c.args.root.now) c.args.at (node c.on_row.new.self c.close_if.new.self) = stepped_root (IsRowMadeHere g.M.Machine (g.O.Ops.meaning c.args.ops.now)) g.M.Machine.ended c.args.self.now.machine c.on_row.new.self c.args.self.now.inputs c.close_if.new.self c.args.root.now c.args.at c.if-at-gt0.false (sym c.is_live.ensures ∙ c.if-not-is_live.false) (record { can = c.in-Ok-on_row.ensures.enabled; value = c.in-Ok-on_row.ensures.ok; recorded = c.in-Ok-on_row.ensures.recorded; counts = c.in-Ok-on_row.ensures.counts }) (c.close_if.ensures.row ∙ ap (λ e. closed_row_if (e && true) c.args.self.now.inputs) c.has_ended.ensures) in
-    (row_noted g.M.Machine (g.O.Ops.meaning c.args.ops.now) c.args.self.now (edge_view c.args.root.now) c.args.at (node c.on_row.new.self c.close_if.new.self) made).balance
+pub returns-in-Ok-row_over-clause-balance : goal.returns-in-Ok-row_over-clause-balance
+returns-in-Ok-row_over-clause-balance g c =
+    let made : IsSteppedAt (IsRowMadeHere g.M.Machine (g.O.Ops.meaning c.args.ops.now)) g.M.Machine.ended c.args.self.now (edge_view c.args.root.now) c.args.at (node c.row_over.new.node c.row_over.new.below) = stepped_root (IsRowMadeHere g.M.Machine (g.O.Ops.meaning c.args.ops.now)) g.M.Machine.ended c.args.self.now.machine c.row_over.new.node c.args.self.now.inputs c.row_over.new.below c.args.root.now c.args.at c.if-at-gt0.false c.in-Ok-row_over.ensures.made in
+    (row_noted g.M.Machine (g.O.Ops.meaning c.args.ops.now) c.args.self.now (edge_view c.args.root.now) c.args.at (node c.row_over.new.node c.row_over.new.below) made).balance

@@ -31,27 +31,27 @@ returns-in-Ok-clause-balance g c =
     let made : IsSteppedAt (IsPickedHere g.M.Machine (g.O.Ops.meaning c.args.ops.now) c.args.input) g.M.Machine.ended c.args.self.now (edge_view c.args.root.now) c.args.at (node c.args.self.now.machine c.pick.new.self) = stepped_tree (IsPickedHere g.M.Machine (g.O.Ops.meaning c.args.ops.now) c.args.input) g.M.Machine.ended c.args.self.now.machine c.args.self.now.inputs c.pick.new.self (edge_view c.args.root.now) c.args.at c.if-at-gt0.true c.in-Ok.ensures.made in
     (picked_noted g.M.Machine (g.O.Ops.meaning c.args.ops.now) c.args.input c.args.self.now (edge_view c.args.root.now) c.args.at (node c.args.self.now.machine c.pick.new.self) made).balance
 
-pub returns-in-Ok-on_pick-clause-made : goal.returns-in-Ok-on_pick-clause-made
-returns-in-Ok-on_pick-clause-made g c =
-    let made : IsSteppedAt (IsPickedHere g.M.Machine (g.O.Ops.meaning c.args.ops.now) c.args.input) g.M.Machine.ended c.args.self.now (edge_view c.args.root.now) c.args.at (node c.on_pick.new.self c.close_if.new.self) = stepped_root (IsPickedHere g.M.Machine (g.O.Ops.meaning c.args.ops.now) c.args.input) g.M.Machine.ended c.args.self.now.machine c.on_pick.new.self c.args.self.now.inputs c.close_if.new.self c.args.root.now c.args.at c.if-at-gt0.false (sym c.is_live.ensures ∙ c.if-not-is_live.false) (record { can = c.in-Ok-on_pick.ensures.enabled; value = c.in-Ok-on_pick.ensures.ok; recorded = c.in-Ok-on_pick.ensures.recorded; composes = c.in-Ok-on_pick.ensures.composes; counts = c.in-Ok-on_pick.ensures.counts }) (c.close_if.ensures.row ∙ ap (λ e. closed_row_if (e && true) c.args.self.now.inputs) c.has_ended.ensures) in
+pub returns-in-Ok-pick_over-clause-made : goal.returns-in-Ok-pick_over-clause-made
+returns-in-Ok-pick_over-clause-made g c =
+    let made : IsSteppedAt (IsPickedHere g.M.Machine (g.O.Ops.meaning c.args.ops.now) c.args.input) g.M.Machine.ended c.args.self.now (edge_view c.args.root.now) c.args.at (node c.pick_over.new.node c.pick_over.new.below) = stepped_root (IsPickedHere g.M.Machine (g.O.Ops.meaning c.args.ops.now) c.args.input) g.M.Machine.ended c.args.self.now.machine c.pick_over.new.node c.args.self.now.inputs c.pick_over.new.below c.args.root.now c.args.at c.if-at-gt0.false c.in-Ok-pick_over.ensures.made in
     made
 
-pub returns-in-Ok-on_pick-clause-enabled : goal.returns-in-Ok-on_pick-clause-enabled
-returns-in-Ok-on_pick-clause-enabled g c =
-    let made : IsSteppedAt (IsPickedHere g.M.Machine (g.O.Ops.meaning c.args.ops.now) c.args.input) g.M.Machine.ended c.args.self.now (edge_view c.args.root.now) c.args.at (node c.on_pick.new.self c.close_if.new.self) = stepped_root (IsPickedHere g.M.Machine (g.O.Ops.meaning c.args.ops.now) c.args.input) g.M.Machine.ended c.args.self.now.machine c.on_pick.new.self c.args.self.now.inputs c.close_if.new.self c.args.root.now c.args.at c.if-at-gt0.false (sym c.is_live.ensures ∙ c.if-not-is_live.false) (record { can = c.in-Ok-on_pick.ensures.enabled; value = c.in-Ok-on_pick.ensures.ok; recorded = c.in-Ok-on_pick.ensures.recorded; composes = c.in-Ok-on_pick.ensures.composes; counts = c.in-Ok-on_pick.ensures.counts }) (c.close_if.ensures.row ∙ ap (λ e. closed_row_if (e && true) c.args.self.now.inputs) c.has_ended.ensures) in
-    picked_enabled g.M.Machine (g.O.Ops.meaning c.args.ops.now) c.args.input c.args.self.now (edge_view c.args.root.now) c.args.at (node c.on_pick.new.self c.close_if.new.self) made
+pub returns-in-Ok-pick_over-clause-enabled : goal.returns-in-Ok-pick_over-clause-enabled
+returns-in-Ok-pick_over-clause-enabled g c =
+    let made : IsSteppedAt (IsPickedHere g.M.Machine (g.O.Ops.meaning c.args.ops.now) c.args.input) g.M.Machine.ended c.args.self.now (edge_view c.args.root.now) c.args.at (node c.pick_over.new.node c.pick_over.new.below) = stepped_root (IsPickedHere g.M.Machine (g.O.Ops.meaning c.args.ops.now) c.args.input) g.M.Machine.ended c.args.self.now.machine c.pick_over.new.node c.args.self.now.inputs c.pick_over.new.below c.args.root.now c.args.at c.if-at-gt0.false c.in-Ok-pick_over.ensures.made in
+    picked_enabled g.M.Machine (g.O.Ops.meaning c.args.ops.now) c.args.input c.args.self.now (edge_view c.args.root.now) c.args.at (node c.pick_over.new.node c.pick_over.new.below) made
 
-pub returns-in-Ok-on_pick-clause-effect : goal.returns-in-Ok-on_pick-clause-effect
-returns-in-Ok-on_pick-clause-effect g c =
-    let made : IsSteppedAt (IsPickedHere g.M.Machine (g.O.Ops.meaning c.args.ops.now) c.args.input) g.M.Machine.ended c.args.self.now (edge_view c.args.root.now) c.args.at (node c.on_pick.new.self c.close_if.new.self) = stepped_root (IsPickedHere g.M.Machine (g.O.Ops.meaning c.args.ops.now) c.args.input) g.M.Machine.ended c.args.self.now.machine c.on_pick.new.self c.args.self.now.inputs c.close_if.new.self c.args.root.now c.args.at c.if-at-gt0.false (sym c.is_live.ensures ∙ c.if-not-is_live.false) (record { can = c.in-Ok-on_pick.ensures.enabled; value = c.in-Ok-on_pick.ensures.ok; recorded = c.in-Ok-on_pick.ensures.recorded; composes = c.in-Ok-on_pick.ensures.composes; counts = c.in-Ok-on_pick.ensures.counts }) (c.close_if.ensures.row ∙ ap (λ e. closed_row_if (e && true) c.args.self.now.inputs) c.has_ended.ensures) in
-    picked_effect g.M.Machine (g.O.Ops.meaning c.args.ops.now) c.args.input c.args.self.now (edge_view c.args.root.now) c.args.at (node c.on_pick.new.self c.close_if.new.self) made
+pub returns-in-Ok-pick_over-clause-effect : goal.returns-in-Ok-pick_over-clause-effect
+returns-in-Ok-pick_over-clause-effect g c =
+    let made : IsSteppedAt (IsPickedHere g.M.Machine (g.O.Ops.meaning c.args.ops.now) c.args.input) g.M.Machine.ended c.args.self.now (edge_view c.args.root.now) c.args.at (node c.pick_over.new.node c.pick_over.new.below) = stepped_root (IsPickedHere g.M.Machine (g.O.Ops.meaning c.args.ops.now) c.args.input) g.M.Machine.ended c.args.self.now.machine c.pick_over.new.node c.args.self.now.inputs c.pick_over.new.below c.args.root.now c.args.at c.if-at-gt0.false c.in-Ok-pick_over.ensures.made in
+    picked_effect g.M.Machine (g.O.Ops.meaning c.args.ops.now) c.args.input c.args.self.now (edge_view c.args.root.now) c.args.at (node c.pick_over.new.node c.pick_over.new.below) made
 
-pub returns-in-Ok-on_pick-clause-chosen : goal.returns-in-Ok-on_pick-clause-chosen
-returns-in-Ok-on_pick-clause-chosen g c =
-    let made : IsSteppedAt (IsPickedHere g.M.Machine (g.O.Ops.meaning c.args.ops.now) c.args.input) g.M.Machine.ended c.args.self.now (edge_view c.args.root.now) c.args.at (node c.on_pick.new.self c.close_if.new.self) = stepped_root (IsPickedHere g.M.Machine (g.O.Ops.meaning c.args.ops.now) c.args.input) g.M.Machine.ended c.args.self.now.machine c.on_pick.new.self c.args.self.now.inputs c.close_if.new.self c.args.root.now c.args.at c.if-at-gt0.false (sym c.is_live.ensures ∙ c.if-not-is_live.false) (record { can = c.in-Ok-on_pick.ensures.enabled; value = c.in-Ok-on_pick.ensures.ok; recorded = c.in-Ok-on_pick.ensures.recorded; composes = c.in-Ok-on_pick.ensures.composes; counts = c.in-Ok-on_pick.ensures.counts }) (c.close_if.ensures.row ∙ ap (λ e. closed_row_if (e && true) c.args.self.now.inputs) c.has_ended.ensures) in
-    (picked_noted g.M.Machine (g.O.Ops.meaning c.args.ops.now) c.args.input c.args.self.now (edge_view c.args.root.now) c.args.at (node c.on_pick.new.self c.close_if.new.self) made).chosen
+pub returns-in-Ok-pick_over-clause-chosen : goal.returns-in-Ok-pick_over-clause-chosen
+returns-in-Ok-pick_over-clause-chosen g c =
+    let made : IsSteppedAt (IsPickedHere g.M.Machine (g.O.Ops.meaning c.args.ops.now) c.args.input) g.M.Machine.ended c.args.self.now (edge_view c.args.root.now) c.args.at (node c.pick_over.new.node c.pick_over.new.below) = stepped_root (IsPickedHere g.M.Machine (g.O.Ops.meaning c.args.ops.now) c.args.input) g.M.Machine.ended c.args.self.now.machine c.pick_over.new.node c.args.self.now.inputs c.pick_over.new.below c.args.root.now c.args.at c.if-at-gt0.false c.in-Ok-pick_over.ensures.made in
+    (picked_noted g.M.Machine (g.O.Ops.meaning c.args.ops.now) c.args.input c.args.self.now (edge_view c.args.root.now) c.args.at (node c.pick_over.new.node c.pick_over.new.below) made).chosen
 
-pub returns-in-Ok-on_pick-clause-balance : goal.returns-in-Ok-on_pick-clause-balance
-returns-in-Ok-on_pick-clause-balance g c =
-    let made : IsSteppedAt (IsPickedHere g.M.Machine (g.O.Ops.meaning c.args.ops.now) c.args.input) g.M.Machine.ended c.args.self.now (edge_view c.args.root.now) c.args.at (node c.on_pick.new.self c.close_if.new.self) = stepped_root (IsPickedHere g.M.Machine (g.O.Ops.meaning c.args.ops.now) c.args.input) g.M.Machine.ended c.args.self.now.machine c.on_pick.new.self c.args.self.now.inputs c.close_if.new.self c.args.root.now c.args.at c.if-at-gt0.false (sym c.is_live.ensures ∙ c.if-not-is_live.false) (record { can = c.in-Ok-on_pick.ensures.enabled; value = c.in-Ok-on_pick.ensures.ok; recorded = c.in-Ok-on_pick.ensures.recorded; composes = c.in-Ok-on_pick.ensures.composes; counts = c.in-Ok-on_pick.ensures.counts }) (c.close_if.ensures.row ∙ ap (λ e. closed_row_if (e && true) c.args.self.now.inputs) c.has_ended.ensures) in
-    (picked_noted g.M.Machine (g.O.Ops.meaning c.args.ops.now) c.args.input c.args.self.now (edge_view c.args.root.now) c.args.at (node c.on_pick.new.self c.close_if.new.self) made).balance
+pub returns-in-Ok-pick_over-clause-balance : goal.returns-in-Ok-pick_over-clause-balance
+returns-in-Ok-pick_over-clause-balance g c =
+    let made : IsSteppedAt (IsPickedHere g.M.Machine (g.O.Ops.meaning c.args.ops.now) c.args.input) g.M.Machine.ended c.args.self.now (edge_view c.args.root.now) c.args.at (node c.pick_over.new.node c.pick_over.new.below) = stepped_root (IsPickedHere g.M.Machine (g.O.Ops.meaning c.args.ops.now) c.args.input) g.M.Machine.ended c.args.self.now.machine c.pick_over.new.node c.args.self.now.inputs c.pick_over.new.below c.args.root.now c.args.at c.if-at-gt0.false c.in-Ok-pick_over.ensures.made in
+    (picked_noted g.M.Machine (g.O.Ops.meaning c.args.ops.now) c.args.input c.args.self.now (edge_view c.args.root.now) c.args.at (node c.pick_over.new.node c.pick_over.new.below) made).balance
