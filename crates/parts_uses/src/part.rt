@@ -3,10 +3,9 @@
 use rsx_demo::{Demo, Val};
 use rsx_model::{Expr, check_expr};
 use rsx_pipe::{Part, Pumped, SignalQueue};
-use rsx_types::{Ending, Move, NoMemory, NodeId, Note, Signal, Stage, SubId, Tree};
+use rsx_types::{Ending, Move, NoMemory, NodeId, Signal, Stage, SubId, Tree};
 use std::alloc::Global;
 use std::process::Abort;
-use std::test::Fail;
 
 /// The function `double` of `map`.
 const DOUBLE: u16 = 2;
@@ -19,13 +18,34 @@ const SEND_BELOW: Move = Move::Send(TREE, NodeId(1));
 
 const SEND_ROOT: Move = Move::Send(TREE, NodeId(0));
 
-// The tests need no facts of what they call, so these functions have no clause.
+// The tests need no facts of what they call, so these functions have no clause. What has early returns only borrows: each
+// of them would let go of a part that it owns.
 
-/// The part that doubles the numbers 1 to 5.
-fn doubled(rt: &impl Abort, alloc: Global) -> Result<Part<Val>, Fail> {
-    let expr = Expr::Plain(Stage::Map(DOUBLE), Box::new(alloc, Expr::Range(1, 5))?);
-    assert!(rt; check_expr(&expr, 0).is_ok());
-    Ok(Part::new(alloc, &Demo, &expr)?)
+/// A part with the queue that its root sends into.
+#[derive(Drop)]
+struct QueuedPart {
+    part: Part<Val>,
+    out: SignalQueue<Val>,
+}
+
+/// An expression that doubles the numbers 1 to 5.
+fn doubling(alloc: Global) -> Result<Expr<Val>, NoMemory> {
+    let range = Box::new(alloc, Expr::Range(1, 5))?;
+    Ok(Expr::Plain(Stage::Map(DOUBLE), range))
+}
+
+/// The part of an expression, which keeps the limits.
+fn part_of(rt: &impl Abort, alloc: Global, expr: &Expr<Val>) -> Result<Part<Val>, NoMemory> {
+    assert!(rt; check_expr(expr, 0).is_ok());
+    Part::new(alloc, &Demo, expr)
+}
+
+/// The part that doubles the numbers 1 to 5, and an empty queue.
+fn doubling_part(rt: &impl Abort, alloc: Global) -> Result<QueuedPart, NoMemory> {
+    let out = SignalQueue::new(alloc)?;
+    let expr = doubling(alloc)?;
+    let part = part_of(rt, alloc, &expr)?;
+    Ok(QueuedPart { part, out })
 }
 
 /// Asks for so many items more.
@@ -33,14 +53,9 @@ fn request(part: &mut Part<Val>, count: u64) {
     part.request(count);
 }
 
-/// Whether a move is enabled.
-fn is_enabled(part: &Part<Val>, step: Move, out: &SignalQueue<Val>) -> bool {
-    part.enabled(step, out)
-}
-
-/// Whether a move is the first enabled one.
+/// Whether a move is enabled, and is the first that is.
 fn is_first(part: &Part<Val>, step: Move, out: &SignalQueue<Val>) -> bool {
-    part.first_enabled(TREE, out) == Some(step)
+    part.enabled(step, out) && part.first_enabled(TREE, out) == Some(step)
 }
 
 /// Whether no move is enabled.
@@ -69,15 +84,10 @@ fn left(alloc: Global, part: &Part<Val>) -> Result<(usize, Ending), NoMemory> {
     Ok((value.items().len(), value.ending()))
 }
 
-/// How many nodes recorded nothing.
-fn unrecorded(alloc: Global, part: &Part<Val>) -> Result<usize, NoMemory> {
+/// For how many nodes there is a note.
+fn noted(alloc: Global, part: &Part<Val>) -> Result<usize, NoMemory> {
     let notes = part.notes(alloc)?;
-    Ok(
-        notes
-            .iter()
-            .filter(|note| matches!(note, Note::Nothing))
-            .count(),
-    )
+    Ok(notes.len())
 }
 
 /// The number of an item.
@@ -90,71 +100,115 @@ fn number(signal: &Signal<Val>) -> Option<i64> {
 
 /// The number of the front signal, which is taken.
 fn number_popped(out: &mut SignalQueue<Val>) -> Option<i64> {
-    number(&out.pop()?)
+    match out.pop() {
+        Some(signal) => number(&signal),
+        None => None,
+    }
 }
 
 /// Whether the front signal, which is taken, is the completion.
 fn is_completion_popped(out: &mut SignalQueue<Val>) -> bool {
-    matches!(out.pop(), Some(Signal::Complete))
+    match out.pop() {
+        Some(signal) => matches!(signal, Signal::Complete),
+        None => false,
+    }
 }
 
-#[test]
-fn a_part_makes_the_moves_that_are_enabled(rt: HostRuntime) -> Result<(), Fail> {
-    let alloc = rt.alloc();
-    let mut part = doubled(&rt, alloc)?;
-    let mut out = SignalQueue::new(alloc)?;
-    assert!(rt; is_idle(&part, &out));
-    request(&mut part, 2);
-    assert!(rt; !is_made(alloc, &mut part, SEND_ROOT, &mut out));
+/// Makes the moves for one item, and finds the other four still to come.
+fn sends_one_item(
+    rt: &impl Abort,
+    alloc: Global,
+    part: &mut Part<Val>,
+    out: &mut SignalQueue<Val>,
+) -> Result<(), NoMemory> {
+    assert!(rt; is_idle(part, out));
+    request(part, 2);
+    assert!(rt; !is_made(alloc, part, SEND_ROOT, out));
     for step in [ASK_BELOW, SEND_BELOW, SEND_ROOT, SEND_BELOW] {
-        assert!(rt; is_enabled(&part, step, &out));
-        assert!(rt; is_first(&part, step, &out));
-        assert!(rt; is_made(alloc, &mut part, step, &mut out));
+        assert!(rt; is_first(part, step, out));
+        assert!(rt; is_made(alloc, part, step, out));
     }
-    assert_eq!(rt; out.len(), 1);
-    assert_eq!(rt; left(alloc, &part)?, (4, Ending::Done));
+    assert!(rt; out.len() == 1);
+    assert!(rt; left(alloc, part)? == (4, Ending::Done));
     Ok(())
 }
 
-#[test]
-fn a_part_pumps_to_its_budget_and_to_idle(rt: HostRuntime) -> Result<(), Fail> {
-    let alloc = rt.alloc();
-    let mut part = doubled(&rt, alloc)?;
-    let mut out = SignalQueue::new(alloc)?;
-    // For two items: Ask below, and then Send below and Send over the root edge for each. For the other three and the
-    // completion: Ask below, and two Sends for each.
-    let rows = [
-        (0, 9, Pumped::Idle(9), 0),
-        (2, 3, Pumped::Budget, 1),
-        (0, 9, Pumped::Idle(7), 2),
-        (9, 9, Pumped::Idle(0), 6),
-    ];
-    for (count, budget, ended, waiting) in rows {
-        request(&mut part, count);
-        assert_eq!(rt; pumped(alloc, &mut part, budget, &mut out)?, ended);
-        assert_eq!(rt; out.len(), waiting);
-    }
+/// Whether a pump keeps a row: how many items more are asked for, the budget, how the pump ends, and how many signals wait
+/// then.
+fn is_pumped(
+    alloc: Global,
+    part: &mut Part<Val>,
+    out: &mut SignalQueue<Val>,
+    row: (u64, u32, Pumped, usize),
+) -> Result<bool, NoMemory> {
+    let (count, budget, ended, waiting) = row;
+    request(part, count);
+    let got = pumped(alloc, part, budget, out)?;
+    Ok(got == ended && out.len() == waiting)
+}
+
+/// For two items: Ask below, and then Send below and Send over the root edge for each. For the other three and the
+/// completion: Ask below, and two Sends for each.
+fn pumps(
+    rt: &impl Abort,
+    alloc: Global,
+    part: &mut Part<Val>,
+    out: &mut SignalQueue<Val>,
+) -> Result<(), NoMemory> {
+    assert!(rt; is_pumped(alloc, part, out, (0, 9, Pumped::Idle(9), 0))?);
+    assert!(rt; is_pumped(alloc, part, out, (2, 3, Pumped::Budget, 1))?);
+    assert!(rt; is_pumped(alloc, part, out, (0, 9, Pumped::Idle(7), 2))?);
+    assert!(rt; is_pumped(alloc, part, out, (9, 9, Pumped::Idle(0), 6))?);
+    Ok(())
+}
+
+/// Takes the doubled numbers and the completion out of the queue.
+fn takes_all(rt: &impl Abort, out: &mut SignalQueue<Val>) {
     for wanted in [2, 4, 6, 8, 10] {
-        assert_eq!(rt; number_popped(&mut out), Some(wanted));
+        assert!(rt; number_popped(out) == Some(wanted));
     }
-    assert!(rt; is_completion_popped(&mut out));
-    assert_eq!(rt; number_popped(&mut out), None);
+    assert!(rt; is_completion_popped(out));
+    assert!(rt; number_popped(out) == None);
+}
+
+/// Closes the part behind its first item, which stays in the queue until that is cleared.
+fn closes(
+    rt: &impl Abort,
+    alloc: Global,
+    part: &mut Part<Val>,
+    out: &mut SignalQueue<Val>,
+) -> Result<(), NoMemory> {
+    request(part, 2);
+    assert!(rt; pumped(alloc, part, 3, out)? == Pumped::Budget);
+    part.close();
+    assert!(rt; is_idle(part, out));
+    assert!(rt; noted(alloc, part)? == 2);
+    assert!(rt; out.len() > 0);
+    assert!(rt; number(out.at(0)) == Some(2));
+    out.clear();
+    assert!(rt; out.len() == 0);
     Ok(())
 }
 
 #[test]
-fn a_closed_part_has_no_move(rt: HostRuntime) -> Result<(), Fail> {
+fn a_part_makes_the_moves_that_are_enabled(rt: HostRuntime) -> Result<(), NoMemory> {
     let alloc = rt.alloc();
-    let mut part = doubled(&rt, alloc)?;
-    let mut out = SignalQueue::new(alloc)?;
-    request(&mut part, 2);
-    assert_eq!(rt; pumped(alloc, &mut part, 3, &mut out)?, Pumped::Budget);
-    part.close();
-    assert!(rt; is_idle(&part, &out));
-    assert_eq!(rt; unrecorded(alloc, &part)?, 2);
-    assert!(rt; out.len() > 0);
-    assert_eq!(rt; number(out.at(0)), Some(2));
-    out.clear();
-    assert_eq!(rt; out.len(), 0);
+    let mut one = doubling_part(&rt, alloc)?;
+    sends_one_item(&rt, alloc, &mut one.part, &mut one.out)
+}
+
+#[test]
+fn a_part_pumps_to_its_budget_and_to_idle(rt: HostRuntime) -> Result<(), NoMemory> {
+    let alloc = rt.alloc();
+    let mut one = doubling_part(&rt, alloc)?;
+    pumps(&rt, alloc, &mut one.part, &mut one.out)?;
+    takes_all(&rt, &mut one.out);
     Ok(())
+}
+
+#[test]
+fn a_closed_part_has_no_move(rt: HostRuntime) -> Result<(), NoMemory> {
+    let alloc = rt.alloc();
+    let mut one = doubling_part(&rt, alloc)?;
+    closes(&rt, alloc, &mut one.part, &mut one.out)
 }

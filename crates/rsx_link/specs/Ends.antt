@@ -1,5 +1,5 @@
 -- What contracts see of a link's ends.
-use Rattle.std.specs.Prelude.{◌≡◌, ℕ, ◌<◌, ◌≤◌, true, cond, nat_eq, List, [], ◌∷◌, ◌++◌, Option, Some, None}
+use Rattle.std.specs.Prelude.{◌≡◌, ◌≢◌, ℕ, ◌<◌, ◌≤◌, true, cond, nat_eq, List, [], ◌∷◌, ◌++◌, Option, Some, None}
 use mathlib.Core.List.{IsPrefix}
 use Rattle.atomic_table.specs.declared.shared.Seat.{Seat}
 use Rattle.atomic_table.specs.Table.{step}
@@ -15,11 +15,13 @@ use Rattle.rsx_link.specs.declared.down.Down.{Down}
 use Rattle.rsx_link.specs.declared.link.Link.{Link}
 use Rattle.rsx_link.specs.declared.up.Found.{Found}
 use Rattle.rsx_link.specs.declared.up.Up.{Up}
+use Rattle.rsx_link.specs.declared.view.Role.{Role}
+use Rattle.rsx_link.specs.declared.view.Role.TheVariants.{Canceller}
 use Rattle.rsx_link.specs.declared.view.Step.{Step}
 use Rattle.rsx_link.specs.declared.view.Step.TheVariants.{Ask, SeeAsked, SeeFlags, Cancel, Refuse}
 use Rattle.rsx_link.specs.declared.view.View.{View}
 use Rattle.rsx_link.specs.Link.{total, is_positive}
-use Rattle.rsx_link.specs.Parts.{IsWhole}
+use Rattle.rsx_link.specs.Parts.{IsWhole, halved}
 use Rattle.rsx_link.specs.Plays.{Told}
 use Rattle.rsx_link.specs.Signals.{is_item, items_in}
 use Rattle.rsx_link.specs.Steps.{has_cancel, has_refusal, asked_of, seen_of, flags_of, cancel_count, is_refused}
@@ -28,7 +30,19 @@ use Rattle.rsx_link.specs.Steps.{has_cancel, has_refusal, asked_of, seen_of, fla
 abbrev pub Stepped : Told → ℕ → Seat Unit View → Seat Unit View → Type 0
 Stepped told n s s' = (s'.table_id ≡ s.table_id) × (s'.id ≡ s.id) × told (step 0 0 0 0 none) s.me n s'.me
 
+-- the same seat, which knows this now
+abbrev pub IsSeatWith : View → Seat Unit View → Seat Unit View → Type 0
+IsSeatWith v s s' = (s'.table_id ≡ s.table_id) × (s'.id ≡ s.id) × (s'.me ≡ (v, s.me.1))
+
 module _ {T : Type 0} where
+  -- a seat of this link with this role
+  abbrev pub IsSeatFor : Role → Link T → Seat Unit View → Type 0
+  IsSeatFor role l s = (s.table_id ≡ l.table.shared.table_id) × (s.me.0.role ≡ role)
+
+  -- a canceller's seat of this link, with some part of the right to cancel
+  abbrev pub MayCancel : Link T → Seat Unit View → Type 0
+  MayCancel l s = (s.table_id ≡ l.table.shared.table_id) × (s.me.0.role ≡ Canceller) × (s.me.0.parts ≢ [])
+
   -- ---- the sending end
 
   abbrev pub up_steps : Up T → List Step
@@ -58,6 +72,14 @@ module _ {T : Type 0} where
 
   abbrev pub SameUp : Link T → Up T → Up T → Type 0
   SameUp l old new = IsUpOf l new × (up_steps new ≡ up_steps old)
+
+  -- the same end, which has sent nothing more
+  abbrev pub HasSentNothing : Link T → Up T → Up T → Type 0
+  HasSentNothing l old new = IsUpOf l new × (sent_signals new ≡ sent_signals old) × (free_slots new ≡ free_slots old)
+
+  -- the queue has no room: the signal came back, and nothing was sent
+  abbrev pub ComesBack : Up T → Up T → Signal T → Signal T → Type 0
+  ComesBack old new signal back = (back ≡ signal) × (sent_signals new ≡ sent_signals old) × (free_slots new ≡ 0)
 
 -- a step on the total and then one on the flags, which show no less than was seen before
 pub record Looks (old new : List Step) (found : Found) : Type 0 where
@@ -154,6 +176,18 @@ cancels_of c = total cancel_count (cancel_steps c ∷ cancel_beside c)
 
 abbrev pub IsCancelSeatOf : {T : Type 0} → Link T → CancelSeat → Type 0
 IsCancelSeatOf l c = c.seat.table_id ≡ l.table.shared.table_id
+
+-- the same seat of the link, with the parts and the joined steps that it had
+abbrev pub KeepsParts : {T : Type 0} → Link T → CancelSeat → CancelSeat → Type 0
+KeepsParts l old new = IsCancelSeatOf l new × (cancel_beside new ≡ cancel_beside old) × (cancel_parts new ≡ cancel_parts old)
+
+-- the same seat of the link, with all steps that it had
+abbrev pub KeepsSteps : {T : Type 0} → Link T → CancelSeat → CancelSeat → Type 0
+KeepsSteps l old new = IsCancelSeatOf l new × (cancel_steps new ≡ cancel_steps old) × (cancel_beside new ≡ cancel_beside old)
+
+-- two seats that have half of one seat's parts each
+abbrev pub AreHalves : CancelSeat → CancelSeat → CancelSeat → Type 0
+AreHalves old c d = (cancel_parts c ≡ halved (cancel_parts old)) × (cancel_parts d ≡ halved (cancel_parts old))
 
 -- one step more; who has cancelled before finds flag 1
 pub record Cancels (old : CancelSeat) (new : List Step) : Type 0 where

@@ -17,15 +17,14 @@ pub struct CancelSeat {
 
 impl CancelSeat {
     ghost use Rattle.std.specs.Prelude.{◌∷◌, ◌++◌};
-    ghost use Rattle.rsx_link.specs.Parts.{halved};
-    ghost use Rattle.rsx_link.specs.Ends.{IsCancelSeatOf, cancel_steps, cancel_beside, cancel_parts, Cancels};
+    ghost use Rattle.rsx_link.specs.Ends.{IsCancelSeatOf, KeepsParts, KeepsSteps, AreHalves, cancel_steps, cancel_beside, cancel_parts, Cancels};
 
     /// Cancels the link (rule 3.5): sets flag 1, by one `fetch_or`, which leaves flag 2 as it is.
     ///
     /// To cancel again changes nothing (rule 3.7). Signals that are in the queue already may still be taken (rule 2.8).
     pub fn cancel<T>(&mut self, link: &Link<T>)
         requires { IsCancelSeatOf link.now self.old }
-        ensures same { IsCancelSeatOf link.now self.new × (cancel_beside self.new ≡ cancel_beside self.old) × (cancel_parts self.new ≡ cancel_parts self.old) }
+        ensures same { KeepsParts link.now self.old self.new }
         ensures cancelled { Cancels self.old (cancel_steps self.new) }
     {
         link.set_cancelled(&mut self.seat);
@@ -35,9 +34,9 @@ impl CancelSeat {
     /// of the right to cancel.
     pub fn split<T>(&mut self, link: &Link<T>) -> CancelSeat
         requires { IsCancelSeatOf link.now self.old }
-        ensures same { IsCancelSeatOf link.now self.new × (cancel_steps self.new ≡ cancel_steps self.old) × (cancel_beside self.new ≡ cancel_beside self.old) }
+        ensures same { KeepsSteps link.now self.old self.new }
         ensures new { IsCancelSeatOf link.now result × (cancel_steps result ≡ []) × (cancel_beside result ≡ []) }
-        ensures parts { (cancel_parts self.new ≡ halved (cancel_parts self.old)) × (cancel_parts result ≡ halved (cancel_parts self.old)) }
+        ensures parts { AreHalves self.old self.new result }
     {
         let seat = link.split_canceller(&mut self.seat);
         CancelSeat { seat }

@@ -116,17 +116,17 @@ impl<T: Drop> Link<T> {
 }
 
 impl<T> Link<T> {
-    ghost use Rattle.std.specs.Prelude.{◌≤◌, ◌≢◌, []};
+    ghost use Rattle.std.specs.Prelude.{◌≤◌, []};
     ghost use Rattle.rsx_link.specs.Link.{fresh, joined, with_parts};
     ghost use Rattle.rsx_link.specs.Parts.{halved};
     ghost use Rattle.rsx_link.specs.Plays.{asked, saw_asked, saw_flags, cancelled, refused};
-    ghost use Rattle.rsx_link.specs.Ends.{Stepped};
+    ghost use Rattle.rsx_link.specs.Ends.{IsSeatFor, IsSeatWith, MayCancel, Stepped};
     ghost use Rattle.rsx_link.specs.Steps.{asked_of};
     ghost use Rattle.rsx_link.specs.declared.view.Role.TheVariants.{Upstream, Downstream, Canceller};
 
     // One store, so that a load finds either the old total or the new one.
     pub(crate) fn store_asked(&self, seat: &mut Seat, total: u64)
-        requires seat { (seat.old.table_id ≡ self.now.table.shared.table_id) × (seat.old.me.0.role ≡ Downstream) }
+        requires seat { IsSeatFor Downstream self.now seat.old }
         requires rises { asked_of seat.old.me.0.steps ≤ total }
         ensures { Stepped asked total seat.old seat.new }
     {
@@ -135,7 +135,7 @@ impl<T> Link<T> {
 
     // One load.
     pub(crate) fn load_asked(&self, seat: &mut Seat) -> u64
-        requires { (seat.old.table_id ≡ self.now.table.shared.table_id) × (seat.old.me.0.role ≡ Upstream) }
+        requires { IsSeatFor Upstream self.now seat.old }
         ensures { Stepped saw_asked result seat.old seat.new }
     {
         self.table.shared.load::<SeeingAsked>(seat, ASKED)
@@ -143,7 +143,7 @@ impl<T> Link<T> {
 
     // One load.
     pub(crate) fn load_flags(&self, seat: &mut Seat) -> u64
-        requires { (seat.old.table_id ≡ self.now.table.shared.table_id) × (seat.old.me.0.role ≡ Upstream) }
+        requires { IsSeatFor Upstream self.now seat.old }
         ensures { Stepped saw_flags result seat.old seat.new }
     {
         self.table.shared.load::<SeeingFlags>(seat, FLAGS)
@@ -151,7 +151,7 @@ impl<T> Link<T> {
 
     // One `fetch_or`, which leaves flag 2 as it is: a bad request may come at the same time.
     pub(crate) fn set_cancelled(&self, seat: &mut Seat) -> u64
-        requires { (seat.old.table_id ≡ self.now.table.shared.table_id) × (seat.old.me.0.role ≡ Canceller) × (seat.old.me.0.parts ≢ []) }
+        requires { MayCancel self.now seat.old }
         ensures { Stepped cancelled result seat.old seat.new }
     {
         self.table
@@ -161,24 +161,24 @@ impl<T> Link<T> {
 
     // One `fetch_or`, whose answer decides who of a bad request and a cancel came first.
     pub(crate) fn set_refused(&self, seat: &mut Seat) -> u64
-        requires { (seat.old.table_id ≡ self.now.table.shared.table_id) × (seat.old.me.0.role ≡ Downstream) }
+        requires { IsSeatFor Downstream self.now seat.old }
         ensures { Stepped refused result seat.old seat.new }
     {
         self.table.shared.fetch_or::<Refusing>(seat, FLAGS, REFUSED)
     }
 
     pub(crate) fn split_canceller(&self, seat: &mut Seat) -> Seat
-        requires { (seat.old.table_id ≡ self.now.table.shared.table_id) × (seat.old.me.0.role ≡ Canceller) }
-        ensures old { (seat.new.table_id ≡ seat.old.table_id) × (seat.new.id ≡ seat.old.id) × (seat.new.me ≡ (with_parts seat.old.me.0 (halved seat.old.me.0.parts), seat.old.me.1)) }
+        requires { IsSeatFor Canceller self.now seat.old }
+        ensures old { IsSeatWith (with_parts seat.old.me.0 (halved seat.old.me.0.parts)) seat.old seat.new }
         ensures new { (result.table_id ≡ seat.old.table_id) × (result.me ≡ (fresh Canceller (halved seat.old.me.0.parts), [])) }
     {
         self.table.shared.split_seat::<CutCanceller>(seat)
     }
 
     pub(crate) fn join_canceller(&self, seat: &mut Seat, other: Seat)
-        requires seat { (seat.old.table_id ≡ self.now.table.shared.table_id) × (seat.old.me.0.role ≡ Canceller) }
+        requires seat { IsSeatFor Canceller self.now seat.old }
         requires other { (other.table_id ≡ self.now.table.shared.table_id) × (other.me.0.role ≡ Canceller) × (other.me.1 ≡ []) }
-        ensures { (seat.new.table_id ≡ seat.old.table_id) × (seat.new.id ≡ seat.old.id) × (seat.new.me ≡ (joined seat.old.me.0 other.me.0, seat.old.me.1)) }
+        ensures { IsSeatWith (joined seat.old.me.0 other.me.0) seat.old seat.new }
     {
         self.table.shared.join_seat::<Glue>(seat, other);
     }

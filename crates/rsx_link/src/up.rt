@@ -43,7 +43,7 @@ pub struct Up<T> {
 
 impl<T> Up<T> {
     ghost use Rattle.std.specs.Prelude.{◌<◌, ◌-◌, [], ◌∷◌, ◌++◌, OnOk, IfErr, IsOk};
-    ghost use Rattle.rsx_link.specs.Ends.{IsUpOf, up_steps, sent_signals, free_slots, items_sent, seen_total, MaySend, Looks, SameUp};
+    ghost use Rattle.rsx_link.specs.Ends.{IsUpOf, up_steps, sent_signals, free_slots, items_sent, seen_total, MaySend, Looks, SameUp, HasSentNothing, ComesBack};
 
     /// Reads the total that was asked for, and then the flags, each by one load.
     ///
@@ -51,7 +51,7 @@ impl<T> Up<T> {
     /// changed by the time that the caller reads the answer, but the total only grows and a flag stays set.
     pub fn look(&mut self, link: &Link<T>) -> Found
         requires { IsUpOf link.now self.old }
-        ensures same { IsUpOf link.now self.new × (sent_signals self.new ≡ sent_signals self.old) × (free_slots self.new ≡ free_slots self.old) }
+        ensures same { HasSentNothing link.now self.old self.new }
         ensures looked { Looks (up_steps self.old) (up_steps self.new) result }
     {
         self.seen = link.load_asked(&mut self.seat);
@@ -83,7 +83,7 @@ impl<T> Up<T> {
         requires asked { MaySend self.old signal }
         ensures same { SameUp link.now self.old self.new }
         ensures ok { OnOk result (sent_signals self.new ≡ sent_signals self.old ++ signal ∷ []) }
-        ensures full { IfErr result (λ back. (back ≡ signal) × (sent_signals self.new ≡ sent_signals self.old) × (free_slots self.new ≡ 0)) }
+        ensures full { IfErr result (λ back. ComesBack self.old self.new signal back) }
         ensures succeeds { 0 < free_slots self.old → IsOk result }
     {
         let _ = link;

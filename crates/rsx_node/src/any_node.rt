@@ -26,8 +26,8 @@ impl<T: Drop> Machine for AnyNode<T> {
     ghost use Rattle.rsx_types.specs.declared.note.Note.{Note as NoteSpec};
     ghost use Rattle.rsx_types.specs.declared.note.Note.TheVariants.{Nothing};
     ghost use Rattle.rsx_sources.specs.Counts.{CountsIn, CountsOut};
-    ghost use Rattle.rsx_sources.specs.Machine.{TakesIn, Keeps, Records, front_of, incoming_of};
-    ghost use Rattle.rsx_sources.specs.Steps.{IsPopped, IsNotTaken, IsNotMade, AllocatesAlike};
+    ghost use Rattle.rsx_sources.specs.Machine.{TakesIn, front_of, incoming_of};
+    ghost use Rattle.rsx_sources.specs.Steps.{IsPopped, IsNotTaken, AllocatesAlike};
     ghost use Rattle.rsx_node.specs.Any.{any_comes_out, any_waiting, any_shown, any_takes, any_ended, any_counted, any_wanted, any_popped, any_pop_allocates, any_signal_allocates};
     ghost use Rattle.rsx_node.specs.Laws.{any_shows, any_drops, any_ends, any_settles, any_ending_waits, any_hungry, any_popped_alike};
     ghost use Rattle.rsx_node.specs.declared.any_node.AnyNode.{AnyNode};
@@ -172,12 +172,7 @@ impl<T: Drop> Machine for AnyNode<T> {
         input: u64,
         asked: u64,
         sent: u64,
-    ) -> Result<(), NotMade>
-        ensures ok { OnOk result (Records (any_comes_out (O.meaning ops.now)) self.old Nothing self.new) }
-        ensures enabled { OnOk result (false ≡ true) }
-        ensures err { IfErr result (IsNotMade false) }
-        ensures same { self.new ≡ self.old }
-    {
+    ) -> Result<(), NotMade> {
         Err(NotMade::NotEnabled)
     }
 
@@ -191,12 +186,7 @@ impl<T: Drop> Machine for AnyNode<T> {
         ops: &O,
         asked: u64,
         sent: u64,
-    ) -> Result<(), NotMade>
-        ensures ok { OnOk result (Keeps (any_comes_out (O.meaning ops.now)) self.old self.new) }
-        ensures enabled { OnOk result (false ≡ true) }
-        ensures err { IfErr result (IsNotMade false) }
-        ensures same { self.new ≡ self.old }
-    {
+    ) -> Result<(), NotMade> {
         Err(NotMade::NotEnabled)
     }
 

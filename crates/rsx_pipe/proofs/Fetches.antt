@@ -6,6 +6,7 @@ use Rattle.rsx_sources.specs.Machine.{front_of}
 use Rattle.rsx_sources.specs.declared.machine.Front.TheVariants.{Item}
 use Rattle.rsx_tree.specs.Edges.{edge_view, can_pass, passed}
 use Rattle.rsx_tree.specs.Fetched.{IsLed}
+use Rattle.rsx_tree.proofs.Drives.{any_moves}
 use Rattle.rsx_node.specs.Any.{any_machine}
 use Rattle.rsx_pipe.specs.Fetched.{IsFetched}
 use Rattle.rsx_pipe.specs.Tree.{AnyTree, IsLetGo}
@@ -14,7 +15,7 @@ use Rattle.rsx_pipe.proofs.Parts.{pumped_on, pumped_driven, pumped_root}
 
 -- moves of the tree alone
 pub fetched_none : {T : Type 0} (m : Meaning T) (budget left : ℕ) (old : Part T) (tree : AnyTree T) → IsLed any_machine m budget old.tree old.root.demand.asked old.root.demand.sent left tree → IsFetched m budget old None left (record { tree = tree; root = old.root })
-fetched_none m budget left old tree led = (led.count, led.spent, λ queue. pumped_driven m led.count old tree queue led.run led.balance)
+fetched_none m budget left old tree led = (led.count, led.spent, λ queue. pumped_driven m led.count old tree queue (any_moves any_machine m led.count old.tree tree old.root.demand.asked old.root.demand.sent led.run) led.balance)
 
 -- moves of the tree, and then the item over the root edge
 pub fetched_item : {T : Type 0} (m : Meaning T) (budget left left' : ℕ) (old new : Part T) (mid : AnyTree T) (x : T) → IsLed any_machine m budget old.tree old.root.demand.asked old.root.demand.sent left mid → left' + 1 ≡ left → IsLetGo m mid (Next x) new.tree →
@@ -24,7 +25,7 @@ fetched_item {T} m budget left left' old new mid x led one gone can carried = (
   let q = led.spent in omega (arith, q, one),
   λ queue room.
       let half : Part T = record { tree = mid; root = old.root } in
-      pumped_on m led.count 1 old half new queue queue (queue ++ Next x ∷ []) (pumped_driven m led.count old mid queue led.run led.balance)
+      pumped_on m led.count 1 old half new queue queue (queue ++ Next x ∷ []) (pumped_driven m led.count old mid queue (any_moves any_machine m led.count old.tree mid old.root.demand.asked old.root.demand.sent led.run) led.balance)
       (pumped_root m half new queue (queue ++ Next x ∷ []) (record {
         signal = Next x;
         front = Item;

@@ -21,7 +21,7 @@ use Rattle.rsx_node.specs.Built.{IsBuilt, fresh_edge, fresh_edges}
 use Rattle.rsx_tree.specs.Edges.{changed_at, asked_up_to, edge_view, EdgeView, passed, is_live, closed_view, closed_state, can_pass}
 use Rattle.rsx_pipe.specs.Output.{items_in, IsUnended, IsOrderly, values_then}
 use Rattle.rsx_pipe.specs.Part.{PartStands, IsPutOut, IsRootSent, IsMade, IsMoved, IsMovedBy, IsPumped, IsQuiet, IsAwake, IsDelivered, IsServed, IsSpent, HasEnded, IsAsk, IsSend, IsEffect, GoesOut, all_edges, sent_at, ask_enabled, send_enabled, move_enabled, has_room, number_of, evaluated}
-use Rattle.rsx_pipe.specs.Tree.{AnyTree, comes_out, notes_of, offers, edges, edges_after, can_ask, can_send, can_go, want_at, want_in, front_at, front_in, ended_at, IsAllClosed, IsKept, IsLetGo, IsAdvanced, IsAskedAt, IsSentAt, IsDriven, IsIdle, IsBusy, IsBalanced, IsBalancedAfter, IsWithin}
+use Rattle.rsx_pipe.specs.Tree.{AnyTree, comes_out, notes_of, offers, edges, edges_after, can_ask, can_send, can_go, want_at, want_in, front_at, front_in, ended_at, IsAllClosed, IsKept, IsLetGo, IsAdvanced, IsAskedAt, IsSentAt, IsChosen, IsDriven, IsIdle, IsBalanced, IsBalancedAfter, IsWithin}
 use Rattle.rsx_tree.specs.declared.edge.Edge.{Edge}
 use Rattle.rsx_tree.specs.declared.edge.EdgeState.{EdgeState}
 use Rattle.rsx_tree.specs.declared.edge.EdgeState.TheVariants.{Live, Closed, Ended}
@@ -29,7 +29,10 @@ use Rattle.rsx_pipe.specs.declared.part.Part.{Part}
 use Rattle.rsx_pipe.specs.declared.part.Pumped.{Pumped}
 use Rattle.rsx_pipe.specs.declared.part.Pumped.TheVariants.{Idle, Budget}
 use Rattle.rsx_node.specs.Any.{any_machine}
-use Rattle.rsx_tree.specs.Balance.{IsStill}
+use Rattle.rsx_tree.specs.Stepped.{station}
+use Rattle.rsx_tree.proofs.Drives.{chosen_run}
+use Rattle.rsx_tree.proofs.Effects.{length_edges}
+use Rattle.rsx_tree.proofs.Noted.{kept_chosen}
 use Rattle.rsx_node.specs.Laws.{any_ending_waits, any_hungry}
 use Rattle.rsx_tree.specs.Inputs.{size, wanted_at, can_ask_in, can_send_in, edges as edges_in}
 use Rattle.rsx_tree.proofs.Changes.{chosen_second}
@@ -37,7 +40,7 @@ use Rattle.rsx_tree.proofs.Idles.{idle_offers, can_pass_live, place_none, less_o
 use Rattle.rsx_pipe.proofs.Numbers.{above_zero, suc_minus}
 use Rattle.rsx_pipe.proofs.Signals.{IsOrderly-more, IsUnended-more, IsUnended-last, items_in-append, map_then-last, prefix_of_orderly, cut_value}
 use Rattle.rsx_tree.proofs.Shut.{pass_live, and_right}
-use Rattle.rsx_pipe.proofs.Trees.{advanced_not_closed, ask_not_closed, send_not_closed, go_live, notes_then-unchosen, notes_then-unrecorded, unchosen_notes, still_tree}
+use Rattle.rsx_pipe.proofs.Trees.{advanced_not_closed, ask_not_closed, send_not_closed, go_live, notes_then-unchosen, notes_then-unrecorded, unchosen_notes, still_node, no_step}
 use Rattle.rsx_pipe.proofs.Numbers.{front_there, above_root, asked_all, at_zero}
 
 never : (b : Bool) → b ≡ true → b ≡ false → ⊥
@@ -53,13 +56,13 @@ same_output {T} m published part e joins output h =
 pub put_out_none : {T : Type 0} (m : Meaning T) (part : Part T) → IsPutOut m part [] part
 put_out_none m part published e joins output h = same_output m published part e joins output h
 
--- moves inside the tree
-pub put_out_kept : {T : Type 0} (m : Meaning T) (old new : Part T) → IsKept m old.tree new.tree → ((sent : ℕ) → IsBalanced old.tree sent → IsBalanced new.tree sent) → new.root ≡ old.root → (IsAllClosed old.tree → ⊥) → IsPutOut m old [] new
-put_out_kept m old new k balance root alive published e joins output h =
+-- moves inside the tree, by which nodes choose
+pub put_out_chosen : {T : Type 0} (m : Meaning T) (old new : Part T) → IsChosen m old.tree new.tree → ((sent : ℕ) → IsBalanced old.tree sent → IsBalanced new.tree sent) → new.root ≡ old.root → (IsAllClosed old.tree → ⊥) → IsPutOut m old [] new
+put_out_chosen m old new k balance root alive published e joins output h =
     same_output m published new e joins output (record {
       value = λ more further len.
-          ap (λ o. option_map (signals_then output) o) (k.value (values_then published more) further 0)
-          ∙ (h.value more further (len ∙ ap length k.notes) ∙ ap (λ ns. evaluated m (values_then published more) joins e (notes_then ns further)) (sym k.notes));
+          ap (λ o. option_map (signals_then output) o) (k.value (values_then published more) further)
+          ∙ (h.value more (k.choose further) (k.count further ∙ (len ∙ k.nodes)) ∙ ap (λ ns. evaluated m (values_then published more) joins e ns) (sym (k.notes further)));
       orderly = h.orderly;
       unended = rw root h.unended;
       ended = rw root h.ended;
@@ -67,6 +70,9 @@ put_out_kept m old new k balance root alive published e joins output h =
       balance = rw root (λ l. balance old.root.demand.sent (h.balance l));
       closed = λ c. absurd (alive (h.closed (ap (λ r. r.state) (sym root) ∙ c)));
     })
+
+pub put_out_kept : {T : Type 0} (m : Meaning T) (old new : Part T) → IsKept m old.tree new.tree → ((sent : ℕ) → IsBalanced old.tree sent → IsBalanced new.tree sent) → new.root ≡ old.root → (IsAllClosed old.tree → ⊥) → IsPutOut m old [] new
+put_out_kept m old new k balance root alive = put_out_chosen m old new (kept_chosen any_machine m old.tree new.tree k) balance root alive
 
 passed_sent : {T : Type 0} (e : EdgeView) (s : Signal T) → (passed e (front_of s)).sent ≡ e.sent + length (items_in (s ∷ []))
 passed_sent e (Next x) = refl
@@ -294,7 +300,7 @@ moved_below {T} m old tree queue a =
           effect = sent_below_root m old tree (a.at + 1) above (subst S (sym (suc_minus a.at)) k.1);
           queued = sym (append-nil queue);
         }
-        | inr k ↦ absurd (never true refl (sym k.0))
+        | inr k ↦ absurd (no_step m old.tree.inputs a.at tree.inputs k.1.made)
       ]
     ]
 
@@ -376,14 +382,7 @@ moved_alive {T} m old new queue queue' out k closed shut = by_move k.move k.enab
 
 -- ---- many moves of the tree
 
-pub driven_kept : {T : Type 0} (m : Meaning T) (n : ℕ) (old new : AnyTree T) (asked sent : ℕ) → IsDriven m n old asked sent new → IsKept m old new
-driven_kept {T} m zero old new asked sent d = let P : AnyTree T → Type 0 = λ t. IsKept m old t in subst P (sym d) (record { value = λ hubs further at. refl; notes = refl })
-driven_kept m (suc n) old new asked sent d =
-    let a = d.1.kept refl in
-    let b = driven_kept m n d.0 new asked sent d.2 in
-    record { value = λ hubs further at. b.value hubs further at ∙ a.value hubs further at; notes = b.notes ∙ a.notes }
-
-driven_moves : {T : Type 0} (m : Meaning T) (n : ℕ) (root : Edge) (old new : AnyTree T) (queue : List (Signal T)) → IsDriven m n old root.demand.asked root.demand.sent new → IsMovedBy m n (record { tree = old; root = root }) queue [] (record { tree = new; root = root }) queue
+pub driven_moves : {T : Type 0} (m : Meaning T) (n : ℕ) (root : Edge) (old new : AnyTree T) (queue : List (Signal T)) → IsDriven m n old root.demand.asked root.demand.sent new → IsMovedBy m n (record { tree = old; root = root }) queue [] (record { tree = new; root = root }) queue
 driven_moves m zero root old new queue d = (refl, ap (λ t. record { tree = t; root = root }) d, refl)
 driven_moves m (suc n) root old new queue d =
     (record { tree = d.0; root = root }, [], queue, [], moved_below m (record { tree = old; root = root }) d.0 queue d.1, driven_moves m n root d.0 new queue d.2, refl)
@@ -391,7 +390,7 @@ driven_moves m (suc n) root old new queue d =
 driven_put_out : {T : Type 0} (m : Meaning T) (n : ℕ) (root : Edge) (old new : AnyTree T) → IsDriven m n old root.demand.asked root.demand.sent new → ((s : ℕ) → IsBalanced old s → IsBalanced new s) → IsPutOut m (record { tree = old; root = root }) [] (record { tree = new; root = root })
 driven_put_out {T} m zero root old new d balance = let P : AnyTree T → Type 0 = λ t. IsPutOut m (record { tree = old; root = root }) [] (record { tree = t; root = root }) in subst P (sym d) (put_out_none m (record { tree = old; root = root }))
 driven_put_out m (suc n) root old new d balance =
-    put_out_kept m (record { tree = old; root = root }) (record { tree = new; root = root }) (driven_kept m (suc n) old new root.demand.asked root.demand.sent d) balance refl (advanced_not_closed m old d.0 root.demand.asked root.demand.sent d.1)
+    put_out_chosen m (record { tree = old; root = root }) (record { tree = new; root = root }) (chosen_run any_machine m true (suc n) old new root.demand.asked root.demand.sent d) balance refl (advanced_not_closed m old d.0 root.demand.asked root.demand.sent d.1)
 
 pub pumped_driven : {T : Type 0} (m : Meaning T) (n : ℕ) (old : Part T) (tree : AnyTree T) (queue : List (Signal T)) → IsDriven m n old.tree old.root.demand.asked old.root.demand.sent tree → ((s : ℕ) → IsBalanced old.tree s → IsBalanced tree s) → IsPumped m n old queue (record { tree = tree; root = old.root }) queue
 pumped_driven m n old tree queue d balance = record {
@@ -410,36 +409,43 @@ quiet_when m part queue r t (Ask tree n) l = at_zero n.0 false (can_ask part.tre
 quiet_when m part queue r t (Send tree n) l = at_zero n.0 (has_room queue && can_go (edge_view part.root) (option_map front_of (offers m part.tree))) (can_send m part.tree (n.0 - 1)) false r (t (n.0 - 1) (omega (arith, l))).1
 quiet_when m part queue r t (Take tree n) l = refl
 
+-- the tree made no move, and the root can't send
+pub quiet_driven : {T : Type 0} (m : Meaning T) (n left budget : ℕ) (part : Part T) (tree : AnyTree T) (queue : List (Signal T)) → n + left ≡ budget → left ≡ budget → IsDriven m n part.tree part.root.demand.asked part.root.demand.sent tree → send_enabled m part queue 0 ≡ false →
+    IsIdle m tree part.root.demand.asked part.root.demand.sent → IsQuiet m (record { tree = tree; root = part.root }) queue
+quiet_driven {T} m zero left budget part tree queue spent all d shut idle =
+    let S : AnyTree T → Type 0 = λ t. send_enabled m (record { tree = t; root = part.root }) queue 0 ≡ false in
+    quiet_when m (record { tree = tree; root = part.root }) queue (subst S (sym d) shut) idle
+quiet_driven m (suc n) left budget part tree queue spent all d shut idle = absurd (omega (arith, spent, all))
+
 pub awake_root : {T : Type 0} (m : Meaning T) (part : Part T) (queue : List (Signal T)) → send_enabled m part queue 0 ≡ true → IsAwake m part queue
 awake_root m part queue h = (Send (Sub (record { 0 = 0 })) (record { 0 = 0 }), omega arith, h)
 
-pub awake_ask : {T : Type 0} (m : Meaning T) (part : Part T) (queue : List (Signal T)) (n : ℕ) → n < 2 ^ 32 → ask_enabled part n ≡ true → IsAwake m part queue
-awake_ask m part queue n l h = (Ask (Sub (record { 0 = 0 })) (record { 0 = n }), l, h)
-
-pub awake_send : {T : Type 0} (m : Meaning T) (part : Part T) (queue : List (Signal T)) (n : ℕ) → n < 2 ^ 32 → send_enabled m part queue n ≡ true → IsAwake m part queue
-awake_send m part queue n l h = (Send (Sub (record { 0 = 0 })) (record { 0 = n }), l, h)
-
 -- ---- idle means delivered
 
-idle_tree : {T : Type 0} (m : Meaning T) (part : Part T) (queue : List (Signal T)) → IsQuiet m part queue → IsWithin part.tree → IsIdle m part.tree part.root.demand.asked part.root.demand.sent
-idle_tree {T} m part queue q within at lt = elim (less_or_more at (size part.tree.inputs)) [
+few_below : {T : Type 0} (part : Part T) → length (all_edges part) ≤ 256 → size part.tree.inputs < 256
+few_below part few = let len = length_edges part.tree.inputs in omega (arith, len, few)
+
+idle_tree : {T : Type 0} (m : Meaning T) (part : Part T) (queue : List (Signal T)) → IsQuiet m part queue → length (all_edges part) ≤ 256 → IsIdle m part.tree part.root.demand.asked part.root.demand.sent
+idle_tree {T} m part queue q few at lt = elim (less_or_more at (size part.tree.inputs)) [
   | inl w ↦
-      let small = within.0 in
+      let small : size part.tree.inputs < 256 = few_below part few in
       let a = q (Ask (Sub (record { 0 = 0 })) (record { 0 = at + 1 })) (omega (arith, w, small)) in
       let s = q (Send (Sub (record { 0 = 0 })) (record { 0 = at + 1 })) (omega (arith, w, small)) in (
         sym (ap (λ k. can_ask part.tree k part.root.demand.asked part.root.demand.sent) (suc_minus at)) ∙ (sym (above_zero at false (can_ask part.tree ((at + 1) - 1) part.root.demand.asked part.root.demand.sent)) ∙ a),
         sym (ap (λ k. can_send m part.tree k) (suc_minus at)) ∙ (sym (above_zero at (has_room queue && can_go (edge_view part.root) (option_map front_of (offers m part.tree))) (can_send m part.tree ((at + 1) - 1))) ∙ s),
+        still_node (station part.tree.inputs at),
       )
   | inr w ↦ (
     ap (can_ask_in any_machine) (place_none part.tree.machine 0 part.root.demand.asked part.root.demand.sent part.tree.inputs at w),
     ap (can_send_in any_machine m) (place_none part.tree.machine 0 0 0 part.tree.inputs at w),
+    still_node (station part.tree.inputs at),
   )
 ]
 
 -- over a live root edge with room behind it all that was asked for went
-sent_all_asked : {T : Type 0} (m : Meaning T) (part : Part T) (queue : List (Signal T)) → IsQuiet m part queue → part.root.state ≡ Live → length queue < 64 → IsBalanced part.tree part.root.demand.sent → IsWithin part.tree → part.root.demand.sent < part.root.demand.asked → ⊥
-sent_all_asked m part queue q live room b w less =
-    let s = idle_offers any_machine m (any_ending_waits m) (any_hungry m) part.tree part.root.demand.asked part.root.demand.sent (idle_tree m part queue q w) (still_tree part.tree part.root.demand.asked part.root.demand.sent) b less w in
+sent_all_asked : {T : Type 0} (m : Meaning T) (part : Part T) (queue : List (Signal T)) → IsQuiet m part queue → part.root.state ≡ Live → length queue < 64 → IsBalanced part.tree part.root.demand.sent → length (all_edges part) ≤ 256 → IsWithin part.tree → part.root.demand.sent < part.root.demand.asked → ⊥
+sent_all_asked m part queue q live room b few w less =
+    let s = idle_offers any_machine m (any_ending_waits m) (any_hungry m) part.tree part.root.demand.asked part.root.demand.sent (idle_tree m part queue q few) ((λ j l. refl), refl) b less (let k = few_below part few in omega (arith, k)) w in
     let r : has_room queue ≡ true = grind (arith, nat_tests, room) in
     let goes : send_enabled m part queue 0 ≡ true = rw (r, s.1) (can_pass_live (edge_view part.root) (front_of s.0) (ap is_live live) less) in
     never (send_enabled m part queue 0) goes (q (Send (Sub (record { 0 = 0 })) (record { 0 = 0 })) (omega arith))
@@ -469,9 +475,9 @@ pub value_now : {T : Type 0} (m : Meaning T) (published : List (Stream T)) (part
     option_map (signals_then output) (comes_out m (values_then published []) (map unchosen (notes_of part.tree)) part.tree 0) ≡ Some v
 value_now m published part e joins output v h x = h.value [] (map unchosen (notes_of part.tree)) (unchosen_notes (notes_of part.tree)) ∙ now_published m published e joins (notes_of part.tree) v x
 
-served_live : {T : Type 0} (m : Meaning T) (published : List (Stream T)) (part : Part T) (queue : List (Signal T)) (e : Expr T) (joins : List ℕ) (output : List (Signal T)) → IsQuiet m part queue → part.root.state ≡ Live → length queue < 64 → IsWithin part.tree → PartStands m published part e joins output → (v : Stream T) → evaluated m published joins e (notes_of part.tree) ≡ Some v → IsServed part output v
-served_live m published part queue e joins output q live room w h v x =
-    let full : part.root.demand.asked ≤ part.root.demand.sent = not_less part.root.demand.sent part.root.demand.asked (sent_all_asked m part queue q live room (h.balance live) w) in
+served_live : {T : Type 0} (m : Meaning T) (published : List (Stream T)) (part : Part T) (queue : List (Signal T)) (e : Expr T) (joins : List ℕ) (output : List (Signal T)) → IsQuiet m part queue → part.root.state ≡ Live → length queue < 64 → length (all_edges part) ≤ 256 → IsWithin part.tree → PartStands m published part e joins output → (v : Stream T) → evaluated m published joins e (notes_of part.tree) ≡ Some v → IsServed part output v
+served_live m published part queue e joins output q live room few w h v x =
+    let full : part.root.demand.asked ≤ part.root.demand.sent = not_less part.root.demand.sent part.root.demand.asked (sent_all_asked m part queue q live room (h.balance live) few w) in
     let within = part.root.demand.covered in
     let counted = h.counted in
     let count : length (items_in output) ≡ part.root.demand.asked = omega (arith, full, within, counted) in
@@ -496,10 +502,10 @@ served_ended m published part e joins output s h v x =
     }
 
 pub delivered : {T : Type 0} (m : Meaning T) (part : Part T) (queue : List (Signal T)) → IsQuiet m part queue → IsDelivered m part queue
-delivered {T} m part queue q published e joins output h unclosed room w v x = by_state part.root.state refl
+delivered {T} m part queue q published e joins output h unclosed room few w v x = by_state part.root.state refl
   where
     by_state : (s : EdgeState) → part.root.state ≡ s → IsServed part output v
-    by_state Live s = served_live m published part queue e joins output q s room w h v x
+    by_state Live s = served_live m published part queue e joins output q s room few w h v x
     by_state Ended s = served_ended m published part e joins output s h v x
     by_state Closed s = absurd (unclosed s)
 

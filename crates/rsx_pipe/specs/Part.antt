@@ -210,9 +210,10 @@ pub record IsServed {T : Type 0} (part : Part T) (output : List (Signal T)) (v :
   pub items : items_in output ≡ take (min part.root.demand.asked (length v.items)) v.items
   pub ending : length v.items < part.root.demand.asked → (v.ending ≡ Open → ⊥) → part.root.state ≡ Ended
 
--- a part whose root edge isn't closed and whose receiver has room did so, as long as no edge has carried 2^63-1 items
+-- a part whose root edge isn't closed and whose receiver has room did so, as long as no edge has carried 2^63-1 items; its
+-- expression has at most 256 nodes, as each has that isn't refused
 abbrev pub IsDelivered : {T : Type 0} → Meaning T → Part T → List (Signal T) → Type 0
 IsDelivered {T} m part queue =
     (published : List (Stream T)) (e : Expr T) (joins : List ℕ) (output : List (Signal T)) → PartStands m published part e joins output →
-    (part.root.state ≡ Closed → ⊥) → length queue < 64 → IsWithin part.tree →
+    (part.root.state ≡ Closed → ⊥) → length queue < 64 → length (all_edges part) ≤ 256 → IsWithin part.tree →
     (v : Stream T) → evaluated m published joins e (notes_of part.tree) ≡ Some v → IsServed part output v

@@ -9,6 +9,7 @@ use Rattle.rsx_sources.specs.declared.machine.Front.{Front}
 use Rattle.rsx_node.specs.Any.{any_machine, any_pop_allocates}
 use Rattle.rsx_node.specs.declared.any_node.AnyNode.{AnyNode}
 use Rattle.rsx_tree.specs.Balance as Counts
+use Rattle.rsx_tree.specs.Chosen as Choices
 use Rattle.rsx_tree.specs.Driven as Runs
 use Rattle.rsx_tree.specs.Edges.{EdgeView, can_pass, closed_if}
 use Rattle.rsx_tree.specs.Inputs.{Place, wanted_at, is_own, sent_edges}
@@ -81,6 +82,9 @@ edges_after ended f t at = closed_if (ended && is_own t.inputs at) (sent_edges e
 abbrev pub IsKept : {T : Type 0} → Meaning T → AnyTree T → AnyTree T → Type 0
 IsKept m old new = Whole.IsKept any_machine m old new
 
+abbrev pub IsChosen : {T : Type 0} → Meaning T → AnyTree T → AnyTree T → Type 0
+IsChosen m old new = Choices.IsChosen any_machine m old new
+
 abbrev pub IsLetGo : {T : Type 0} → Meaning T → AnyTree T → Signal T → AnyTree T → Type 0
 IsLetGo m old s new = Whole.IsLetGo any_machine m old s new
 
@@ -91,16 +95,13 @@ abbrev pub IsSentAt : {T : Type 0} → Meaning T → AnyTree T → ℕ → AnyTr
 IsSentAt m old at new = Whole.IsSentAt any_machine m old at new
 
 abbrev pub IsAdvanced : {T : Type 0} → Meaning T → AnyTree T → ℕ → ℕ → AnyTree T → Type 0
-IsAdvanced m old asked sent new = Runs.IsAdvanced any_machine m false old asked sent new
+IsAdvanced m old asked sent new = Runs.IsAdvanced any_machine m true old asked sent new
 
 abbrev pub IsDriven : {T : Type 0} → Meaning T → ℕ → AnyTree T → ℕ → ℕ → AnyTree T → Type 0
-IsDriven m n old asked sent new = Runs.IsDriven any_machine m false n old asked sent new
+IsDriven m n old asked sent new = Runs.IsDriven any_machine m true n old asked sent new
 
 abbrev pub IsIdle : {T : Type 0} → Meaning T → AnyTree T → ℕ → ℕ → Type 0
 IsIdle m t asked sent = Runs.IsIdle any_machine m t asked sent
-
-abbrev pub IsBusy : {T : Type 0} → Meaning T → AnyTree T → ℕ → ℕ → Type 0
-IsBusy m t asked sent = Runs.IsBusy any_machine m t asked sent
 
 -- ---- the counts along its edges
 
@@ -110,6 +111,6 @@ IsBalanced t sent = Counts.IsBalanced any_machine t sent
 abbrev pub IsBalancedAfter : {T : Type 0} → Signal T → AnyTree T → ℕ → Type 0
 IsBalancedAfter s t sent = Counts.IsBalancedAfter any_machine s t sent
 
--- no edge below the root has carried as many items as can be asked for, and each node below it has a number
+-- no edge below the root has carried as many items as can be asked for
 abbrev pub IsWithin : {T : Type 0} → AnyTree T → Type 0
 IsWithin t = Counts.IsWithin t

@@ -7,7 +7,7 @@ use rsx_node::AnyNode;
 use rsx_node::build::build;
 use rsx_queue::{CAPACITY, SignalQueue};
 use rsx_sources::{Front, NotMade};
-use rsx_tree::{Edge, EdgeState, Enabled, Node};
+use rsx_tree::{Edge, EdgeState, Node, NodeMove};
 use rsx_types::{Move, NoMemory, NodeId, Note, Ops, Signal, StreamValue, Tree};
 use std::alloc::Global;
 
@@ -150,8 +150,11 @@ impl<T: Drop> Part<T> {
             .tree
             .first_enabled(1, self.root.demand.asked, self.root.demand.sent)
         {
-            Some(Enabled::Ask(node)) => Some(Move::Ask(tree, NodeId(node))),
-            Some(Enabled::Send(node)) => Some(Move::Send(tree, NodeId(node))),
+            Some(NodeMove::Ask(node)) => Some(Move::Ask(tree, NodeId(node))),
+            Some(NodeMove::Send(node)) => Some(Move::Send(tree, NodeId(node))),
+            // No kind of node that exists picks or makes rows.
+            Some(NodeMove::Pick(node, input)) => None,
+            Some(NodeMove::Row(node)) => None,
             None => None,
         }
     }
@@ -382,8 +385,7 @@ impl<T: Drop> Part<T> {
             .tree
             .first_enabled(1, self.root.demand.asked, self.root.demand.sent)
         {
-            Some(Enabled::Ask(node)) => false,
-            Some(Enabled::Send(node)) => false,
+            Some(step) => false,
             None => true,
         }
     }

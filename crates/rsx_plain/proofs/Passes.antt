@@ -11,7 +11,7 @@ use Rattle.rsx_sources.specs.declared.machine.Passed.{Passed}
 use Rattle.rsx_sources.specs.declared.machine.Passed.TheVariants.{Item, Kept, Declined}
 use Rattle.rsx_operators.specs.Moves.{has_ending}
 use Rattle.rsx_plain.specs.Node.{plain_comes_out, plain_waiting, plain_takes, plain_popped, plain_ended, plain_counted}
-use Rattle.rsx_plain.specs.Passes.{IsAnswered, IsAnsweredBy}
+use Rattle.rsx_plain.specs.Passes.{GoesThrough, PutsOut}
 use Rattle.rsx_operators.specs.State.{is_over}
 use Rattle.rsx_plain.specs.declared.node.PlainNode.{PlainNode}
 use Rattle.rsx_operators.specs.declared.state.PlainState.{PlainState}
@@ -25,7 +25,7 @@ over_or : (b : Bool) → b ≡ false → b ≡ true → ⊥
 over_or b x y = cc
 
 -- an item went in at input 0, and these signals, none of them an ending, stand in the slot
-taken_in : {T : Type 0} (m : Meaning T) (old new : PlainState T) (x : T) (out : List (Signal T)) → has_ending out ≡ false → IsAnsweredBy m old x out new →
+taken_in : {T : Type 0} (m : Meaning T) (old new : PlainState T) (x : T) (out : List (Signal T)) → has_ending out ≡ false → PutsOut m old x out new →
     IsTakenIn (plain_comes_out m) (λ n i f. plain_takes n i) (λ n. Nothing) plain_counted plain_ended (λ n i. false) (node old []) 0 (Next x) (node new out)
 taken_in {T} m old new x out none a =
     let over : is_over new ≡ true → has_ending out ≡ true = λ e. absurd (over_or (is_over new) a.goes_on e) in
@@ -62,14 +62,14 @@ item_popped {T} m old new x slot state few =
     let Q : PlainState T → Type 0 = λ s. IsItemOut (plain_comes_out m) (plain_waiting m) plain_popped (λ n. Nothing) plain_counted plain_ended (λ n i. false) (node s (Next x ∷ new.slot)) x new in
     subst P (sym slot) (subst Q state (item_out m new.state x new.slot few))
 
-by_answer : {T : Type 0} (m : Meaning T) (old new : PlainState T) (x : T) (r : Passed T) → IsAnswered m old x r new →
+by_answer : {T : Type 0} (m : Meaning T) (old new : PlainState T) (x : T) (r : Passed T) → GoesThrough m old x r new →
     IsPassed (plain_comes_out m) (plain_waiting m) (λ n i f. plain_takes n i) plain_popped (λ n. Nothing) plain_counted plain_ended (λ n i. false) (node old []) 0 x r (node new [])
 by_answer m old new x (Item y) a = (node new (Next y ∷ []), taken_in m old new x (Next y ∷ []) refl a, item_out m new y [] (omega arith))
 by_answer m old new x Kept a = taken_in m old new x [] refl a
 by_answer m old new x (Declined y) a = (a.0, ap (λ s. node s []) a.1)
 
 -- an item that the node takes
-pub passed : {T : Type 0} (m : Meaning T) (old new : PlainState T) (slot : List (Signal T)) (input : ℕ) (x : T) (r : Passed T) → plain_takes (node old slot) input ≡ true → IsAnswered m old x r new →
+pub passed : {T : Type 0} (m : Meaning T) (old new : PlainState T) (slot : List (Signal T)) (input : ℕ) (x : T) (r : Passed T) → plain_takes (node old slot) input ≡ true → GoesThrough m old x r new →
     IsPassed (plain_comes_out m) (plain_waiting m) (λ n i f. plain_takes n i) plain_popped (λ n. Nothing) plain_counted plain_ended (λ n i. false) (node old slot) input x r (node new slot)
 passed {T} m old new slot input x r takes a =
     let first : input ≡ 0 = is_zero input (left_of (input == 0) (is_nil slot) takes) in

@@ -9,7 +9,7 @@ use Rattle.rsx_types.specs.declared.note.Note.{Note}
 use Rattle.rsx_types.specs.declared.signal.Signal.{Signal}
 use Rattle.rsx_types.specs.declared.signal.Signal.TheVariants.{Next, Complete, Error}
 use Rattle.rsx_types.specs.Stream.{Stream, item_then, signals_then}
-use Rattle.rsx_sources.specs.Counts.{CanStep, IsHungry, IsHungryAt, AreWithin, ends_input}
+use Rattle.rsx_sources.specs.Counts.{CanStep, IsHungry, AreWithin, ends_input}
 use Rattle.rsx_sources.specs.Machine.{Incoming, quiet}
 use Rattle.rsx_sources.specs.Steps.{AllocatesAlike}
 use Rattle.rsx_sources.specs.Slot.{is_nil}

@@ -10,13 +10,13 @@ use Rattle.rsx_operators.specs.State.{plain_from, after_item, is_over}
 use Rattle.rsx_operators.specs.declared.state.PlainState.{PlainState}
 
 -- the item went in, just these signals came out of the old state, which left the new one, and the operator goes on
-pub record IsAnsweredBy {T : Type 0} (m : Meaning T) (old : PlainState T) (x : T) (out : List (Signal T)) (new : PlainState T) : Type 0 where
+pub record PutsOut {T : Type 0} (m : Meaning T) (old : PlainState T) (x : T) (out : List (Signal T)) (new : PlainState T) : Type 0 where
   pub moves : Moves (plain_from m) old (Next x) out new
   pub state : new ≡ after_item m old x
   pub goes_on : is_over new ≡ false
 
 -- what came of an item: this item was put out for it, or nothing was; or it came back, and nothing has changed
-abbrev pub IsAnswered : {T : Type 0} → Meaning T → PlainState T → T → Passed T → PlainState T → Type 0
-IsAnswered m old x (Item y) new = IsAnsweredBy m old x (Next y ∷ []) new
-IsAnswered m old x Kept new = IsAnsweredBy m old x [] new
-IsAnswered m old x (Declined y) new = (y ≡ x) × (new ≡ old)
+abbrev pub GoesThrough : {T : Type 0} → Meaning T → PlainState T → T → Passed T → PlainState T → Type 0
+GoesThrough m old x (Item y) new = PutsOut m old x (Next y ∷ []) new
+GoesThrough m old x Kept new = PutsOut m old x [] new
+GoesThrough m old x (Declined y) new = (y ≡ x) × (new ≡ old)

@@ -61,8 +61,8 @@ impl<T: Drop> Machine for PlainNode<T> {
     ghost use Rattle.rsx_types.specs.declared.note.Note.{Note};
     ghost use Rattle.rsx_types.specs.declared.note.Note.TheVariants.{Nothing};
     ghost use Rattle.rsx_sources.specs.Counts.{CountsIn, CountsOut};
-    ghost use Rattle.rsx_sources.specs.Machine.{Incoming, TakesIn, Keeps, Records, incoming_of};
-    ghost use Rattle.rsx_sources.specs.Steps.{IsPopped, IsNotTaken, IsNotMade};
+    ghost use Rattle.rsx_sources.specs.Machine.{Incoming, TakesIn, incoming_of};
+    ghost use Rattle.rsx_sources.specs.Steps.{IsPopped, IsNotTaken};
     ghost use Rattle.rsx_plain.specs.Node.{plain_comes_out, plain_waiting, plain_shown, plain_takes, plain_wanted, plain_popped, plain_ended, plain_allocates, plain_counted};
     ghost use Rattle.rsx_operators.specs.State.{is_over, after_signal, Counts};
     ghost use Rattle.rsx_plain.specs.declared.node.PlainNode.{PlainNode};
@@ -212,12 +212,7 @@ impl<T: Drop> Machine for PlainNode<T> {
         input: u64,
         asked: u64,
         sent: u64,
-    ) -> Result<(), NotMade>
-        ensures ok { OnOk result (Records (plain_comes_out (O.meaning ops.now)) self.old Nothing self.new) }
-        ensures enabled { OnOk result (false ≡ true) }
-        ensures err { IfErr result (IsNotMade false) }
-        ensures same { self.new ≡ self.old }
-    {
+    ) -> Result<(), NotMade> {
         Err(NotMade::NotEnabled)
     }
 
@@ -231,12 +226,7 @@ impl<T: Drop> Machine for PlainNode<T> {
         ops: &O,
         asked: u64,
         sent: u64,
-    ) -> Result<(), NotMade>
-        ensures ok { OnOk result (Keeps (plain_comes_out (O.meaning ops.now)) self.old self.new) }
-        ensures enabled { OnOk result (false ≡ true) }
-        ensures err { IfErr result (IsNotMade false) }
-        ensures same { self.new ≡ self.old }
-    {
+    ) -> Result<(), NotMade> {
         Err(NotMade::NotEnabled)
     }
 

@@ -5,7 +5,7 @@
 
 ghost use Rattle.std.specs.Prelude.{◌+◌, ◌≤◌, ℕ, length};
 ghost use Rattle.rsx_types.specs.Meaning.{Meaning};
-ghost use Rattle.rsx_plain.specs.Passes.{IsAnswered};
+ghost use Rattle.rsx_plain.specs.Passes.{GoesThrough};
 ghost use Rattle.rsx_operators.specs.declared.state.PlainState.{PlainState as StateSpec};
 ghost use Rattle.rsx_operators.specs.declared.state.PlainState.TheVariants.{Map as MapFrom, Filter as FilterFrom, Take as TakeFrom, Scan as ScanFrom, Buffer as BufferFrom, Distinct as DistinctFrom};
 
@@ -24,7 +24,7 @@ pub(crate) trait Passing<T: Drop> {
     /// function, the last item of a `take` and want of memory are declined: then the item comes back, and nothing has
     /// changed.
     fn pass<O: Ops<Item = T>>(&mut self, alloc: Global, ops: &O, item: T) -> Passed<T>
-        ensures { IsAnswered (O.meaning ops.now) (state self.old) item result (state self.new) };
+        ensures { GoesThrough (O.meaning ops.now) (state self.old) item result (state self.new) };
 }
 
 impl<T: Drop> Passing<T> for PlainState<T> {
@@ -55,7 +55,7 @@ impl<T: Drop> Passing<T> for PlainState<T> {
 trait Through: Drop {
     /// The answer of a function.
     fn through_map<O: Ops<Item = Self>>(self, alloc: Global, ops: &O, function: u16) -> Passed<Self>
-        ensures { IsAnswered (O.meaning ops.now) (MapFrom function) self result (MapFrom function) };
+        ensures { GoesThrough (O.meaning ops.now) (MapFrom function) self result (MapFrom function) };
 
     /// The item where its test is true; where it is false it is counted.
     fn through_filter<O: Ops<Item = Self>>(
@@ -64,11 +64,11 @@ trait Through: Drop {
         function: u16,
         dropped: &mut u64,
     ) -> Passed<Self>
-        ensures { IsAnswered (O.meaning ops.now) (FilterFrom function dropped.old) self result (FilterFrom function dropped.new) };
+        ensures { GoesThrough (O.meaning ops.now) (FilterFrom function dropped.old) self result (FilterFrom function dropped.new) };
 
     /// The item where it isn't the last of those that are left.
     fn through_take(self, left: &mut u64) -> Passed<Self>
-        ensures { (m : Meaning Self) (count : ℕ) → IsAnswered m (TakeFrom count left.old) self result (TakeFrom count left.new) };
+        ensures { (m : Meaning Self) (count : ℕ) → GoesThrough m (TakeFrom count left.old) self result (TakeFrom count left.new) };
 
     /// The accumulation, of which a copy is kept as the last one.
     fn through_scan<O: Ops<Item = Self>>(
@@ -78,7 +78,7 @@ trait Through: Drop {
         function: u16,
         last: &mut Self,
     ) -> Passed<Self>
-        ensures { IsAnswered (O.meaning ops.now) (ScanFrom function last.old) self result (ScanFrom function last.new) };
+        ensures { GoesThrough (O.meaning ops.now) (ScanFrom function last.old) self result (ScanFrom function last.new) };
 
     /// The list that becomes full with the item, if it does.
     fn through_buffer<O: Ops<Item = Self>>(
@@ -88,7 +88,7 @@ trait Through: Drop {
         size: u64,
         gathered: &mut Buffered<Self>,
     ) -> Passed<Self>
-        ensures { IsAnswered (O.meaning ops.now) (BufferFrom size gathered.old) self result (BufferFrom size gathered.new) };
+        ensures { GoesThrough (O.meaning ops.now) (BufferFrom size gathered.old) self result (BufferFrom size gathered.new) };
 
     /// The list that becomes full with the item.
     fn through_full_buffer<O: Ops<Item = Self>>(
@@ -99,7 +99,7 @@ trait Through: Drop {
         gathered: &mut Buffered<Self>,
     ) -> Passed<Self>
         requires { size ≤ length gathered.old + 1 }
-        ensures { IsAnswered (O.meaning ops.now) (BufferFrom size gathered.old) self result (BufferFrom size gathered.new) };
+        ensures { GoesThrough (O.meaning ops.now) (BufferFrom size gathered.old) self result (BufferFrom size gathered.new) };
 
     /// The item where its key is new; where its key was seen it is counted.
     fn through_distinct<O: Ops<Item = Self>>(
@@ -109,7 +109,7 @@ trait Through: Drop {
         keys: &mut Keys,
         repeated: &mut u64,
     ) -> Passed<Self>
-        ensures { IsAnswered (O.meaning ops.now) (DistinctFrom function keys.old repeated.old) self result (DistinctFrom function keys.new repeated.new) };
+        ensures { GoesThrough (O.meaning ops.now) (DistinctFrom function keys.old repeated.old) self result (DistinctFrom function keys.new repeated.new) };
 }
 
 impl<T: Drop> Through for T {

@@ -56,12 +56,12 @@ impl<T: Drop> ItemsNode<T> {
 impl<T: Drop> Machine for ItemsNode<T> {
     type Item = T;
 
-    ghost use Rattle.std.specs.Prelude.{◌≡◌, ⊤, refl, Some, true, false, IfOk, IfErr, IsOk, OnOk, OnErr};
+    ghost use Rattle.std.specs.Prelude.{◌≡◌, ⊤, refl, Some, true, false, IfOk, IfErr, OnOk, OnErr};
     ghost use Rattle.rsx_types.specs.Notes.{note_then};
     ghost use Rattle.rsx_types.specs.declared.note.Note.{Note};
     ghost use Rattle.rsx_types.specs.declared.note.Note.TheVariants.{Nothing};
-    ghost use Rattle.rsx_sources.specs.Machine.{TakesIn, Keeps, Records, incoming_of};
-    ghost use Rattle.rsx_sources.specs.Steps.{IsPopped, IsNotTaken, IsNotMade};
+    ghost use Rattle.rsx_sources.specs.Machine.{TakesIn, incoming_of};
+    ghost use Rattle.rsx_sources.specs.Steps.{IsNotTaken};
     ghost use Rattle.rsx_sources.specs.Items.{ItemsLeft, items_comes_out, items_waiting, items_shown, items_popped};
     ghost use Rattle.std.proofs.Common.{rules};
 
@@ -107,11 +107,7 @@ impl<T: Drop> Machine for ItemsNode<T> {
         &mut self,
         alloc: Global,
         ops: &O,
-    ) -> Result<Option<Signal<T>>, NoMemory>
-        ensures ok { IfOk result (λ s. IsPopped (items_comes_out (O.meaning ops.now)) items_popped (items_waiting (O.meaning ops.now) self.old) self.old s self.new) }
-        ensures err { OnErr result (self.new ≡ self.old) }
-        ensures memory { IsOk result }
-    {
+    ) -> Result<Option<Signal<T>>, NoMemory> {
         match self.reversed.pop() {
             Some(item) => Ok(Some(Signal::Next(item))),
             None => Ok(Some(Signal::Complete)),
@@ -176,12 +172,7 @@ impl<T: Drop> Machine for ItemsNode<T> {
         input: u64,
         asked: u64,
         sent: u64,
-    ) -> Result<(), NotMade>
-        ensures ok { OnOk result (Records (items_comes_out (O.meaning ops.now)) self.old Nothing self.new) }
-        ensures enabled { OnOk result (false ≡ true) }
-        ensures err { IfErr result (IsNotMade false) }
-        ensures same { OnErr result (self.new ≡ self.old) }
-    {
+    ) -> Result<(), NotMade> {
         Err(NotMade::NotEnabled)
     }
 
@@ -195,12 +186,7 @@ impl<T: Drop> Machine for ItemsNode<T> {
         ops: &O,
         asked: u64,
         sent: u64,
-    ) -> Result<(), NotMade>
-        ensures ok { OnOk result (Keeps (items_comes_out (O.meaning ops.now)) self.old self.new) }
-        ensures enabled { OnOk result (false ≡ true) }
-        ensures err { IfErr result (IsNotMade false) }
-        ensures same { OnErr result (self.new ≡ self.old) }
-    {
+    ) -> Result<(), NotMade> {
         Err(NotMade::NotEnabled)
     }
 

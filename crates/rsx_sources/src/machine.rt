@@ -204,7 +204,7 @@ pub trait Machine {
         ensures ok { OnOk result (Records (comes_out (O.meaning ops.now)) self.old (recording self.old input) self.new) }
         ensures enabled { OnOk result (picks self.old input asked sent ≡ true) }
         ensures recorded { OnOk result (recorded self.new ≡ note_then (recorded self.old) (recording self.old input)) }
-        ensures composes { (further : Note) → note_then (note_then (recorded self.old) (recording self.old input)) further ≡ note_then (recorded self.old) (note_then (recording self.old input) further) }
+        ensures composes { OnOk result ((further : Note) → note_then (note_then (recorded self.old) (recording self.old input)) further ≡ note_then (recorded self.old) (note_then (recording self.old input) further)) }
         ensures counts { OnOk result (CountsStep counted ended done self.old self.new) }
         ensures err { IfErr result (IsNotMade (picks self.old input asked sent)) }
         ensures alike { AllocatesAlike pop_allocates signal_allocates self.old self.new }

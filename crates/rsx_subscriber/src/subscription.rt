@@ -37,7 +37,7 @@ pub struct Subscription<T> {
 }
 
 impl<T: Drop> Subscription<T> {
-    ghost use Rattle.std.specs.Prelude.{◌≡◌, ◌<◌, ℕ, [], List, OnOk, OnErr, IfOk, IfErr, IfSome, OnSome, IfNone, Some, None, true, false, map, option_map};
+    ghost use Rattle.std.specs.Prelude.{◌≡◌, ◌<◌, ◌+◌, ℕ, [], List, OnOk, OnErr, IfOk, IfErr, IfSome, OnSome, IfNone, Some, None, true, false, map, option_map};
     ghost use Rattle.rsx_types.specs.Meaning.{Meaning};
     ghost use Rattle.rsx_types.specs.Notes.{unchosen};
     ghost use Rattle.rsx_types.specs.Stream.{Stream};
@@ -259,9 +259,106 @@ impl<T: Drop> Subscription<T> {
         }
     }
 
+    /// Pulls an item through the part and hands it to the subscriber in one go, where the table delivers an item: a Send over
+    /// the root edge, and the Take behind it. Each move takes one of the budget that is `left`. Where the budget ends between
+    /// the two, or a growth of `out` is refused, the item waits in the queue. Answers whether an item was delivered.
+    fn fetch_one<O: Ops<Item = T>>(
+        &mut self,
+        alloc: Global,
+        ops: &O,
+        id: SubId,
+        left: &mut u32,
+        out: &mut Deliveries<T>,
+    ) -> Result<bool, NoMemory>
+        requires { self.old.queue ≡ [] }
+        ensures pumped { (n : ℕ) × (n + left.new ≡ left.old) × IsPumped (O.meaning ops.now) id n self.old out.old.signals self.new out.new.signals }
+        ensures delivered { IfOk result (λ b. b ≡ true → (self.new.queue ≡ []) × (left.new < left.old)) }
+    {
+        // The step is made on copies, so that one that delivers nothing changes nothing.
+        let mut state_behind = self.state;
+        let mut demand_behind = self.demand;
+        if !delivers_item(&mut state_behind, &mut demand_behind) {
+            return Ok(false);
+        }
+        let item = match self.part.fetch(alloc, ops, left) {
+            Some(item) => item,
+            None => return Ok(false),
+        };
+        if *left == 0 {
+            self.queue.push(Signal::Next(item));
+            return Ok(false);
+        }
+        match out.reserve() {
+            Ok(()) => {}
+            Err(NoMemory) => {
+                self.queue.push(Signal::Next(item));
+                return Err(NoMemory);
+            }
+        }
+        *left -= 1;
+        self.state = state_behind;
+        self.demand = demand_behind;
+        out.push(id, Signal::Next(item));
+        Ok(true)
+    }
+
+    /// Where nothing is queued, pulls items through the part and hands them to the subscriber, as long as each comes in one go
+    /// and the budget lasts. Answers how many of the budget are left.
+    fn fetch<O: Ops<Item = T>>(
+        &mut self,
+        alloc: Global,
+        ops: &O,
+        id: SubId,
+        budget: u32,
+        out: &mut Deliveries<T>,
+    ) -> Result<u32, NoMemory>
+        ensures pumped { (n : ℕ) × Spent budget n result × IsPumped (O.meaning ops.now) id n self.old out.old.signals self.new out.new.signals }
+    {
+        if self.queue.len() > 0 {
+            return Ok(budget);
+        }
+        let mut left = budget;
+        'items: while left > 0 {
+            match self.fetch_one(alloc, ops, id, &mut left, out) {
+                Ok(true) => {}
+                Ok(false) => return Ok(left),
+                Err(NoMemory) => return Err(NoMemory),
+            }
+        }
+        Ok(left)
+    }
+
     /// Makes enabled moves until none is enabled (Idle) or `budget` moves were made (Budget); where both hold it answers
     /// Idle. A signal that is delivered is put into `out`.
     pub fn pump<O: Ops<Item = T>>(
+        &mut self,
+        alloc: Global,
+        ops: &O,
+        id: SubId,
+        budget: u32,
+        out: &mut Deliveries<T>,
+    ) -> Result<Pumped, NoMemory>
+        ensures pumped { (n : ℕ) × HasRested (O.meaning ops.now) budget n self.new result × IsPumped (O.meaning ops.now) id n self.old out.old.signals self.new out.new.signals }
+    {
+        let behind = match self.deliver(id, budget, out) {
+            Ok(left) => left,
+            Err(NoMemory) => return Err(NoMemory),
+        };
+        let left = match self.fetch(alloc, ops, id, behind, out) {
+            Ok(left) => left,
+            Err(NoMemory) => return Err(NoMemory),
+        };
+        if self.is_idle() {
+            return Ok(Pumped::Idle(left));
+        }
+        match self.settle(alloc, ops, id, left, out) {
+            Ok(ended) => Ok(ended),
+            Err(NoMemory) => Err(NoMemory),
+        }
+    }
+
+    /// Makes enabled moves one after the other, as [`Subscription::pump`] promises it.
+    fn settle<O: Ops<Item = T>>(
         &mut self,
         alloc: Global,
         ops: &O,
@@ -357,6 +454,20 @@ fn behind<O: Ops>(
     }
     items.append(&mut left)?;
     Ok(StreamValue::new(items, ending))
+}
+
+/// Makes the step of an item by the table, and answers whether the table delivers it.
+#[inline]
+fn delivers_item(state: &mut State, demand: &mut Demand) -> bool
+    ensures delivered { result ≡ is_delivery (answer (cell_of state.old Input.Next) demand.old) }
+    ensures state { state.new ≡ state_after (cell_of state.old Input.Next) state.old }
+    ensures asked { demand.new.asked ≡ asked_after (cell_of state.old Input.Next) demand.old }
+    ensures sent { demand.new.sent ≡ sent_after (cell_of state.old Input.Next) demand.old }
+{
+    match step(state, demand, Input::Next) {
+        Ok(effect) => matches!(effect, Effect::Deliver),
+        Err(_) => false,
+    }
 }
 
 /// Makes the step of a signal by the table, and answers whether the table delivers it.

@@ -104,6 +104,7 @@ pub enum Refusal {
 /// Makes one step: moves the state, counts in the demand, and answers what the caller has to do.
 ///
 /// # Errors
+///
 /// By the table on the crate's page: S1 in the state Fresh for all but `onSubscribe`, S2 for
 /// `onSubscribe` in any other state, S3 for an item with no demand left, and S4 for a signal after an
 /// ending. A refusal changes neither the state nor the demand.

@@ -80,17 +80,17 @@ abbrev pub KnowsEndings : List Bool → ℕ → List Stamped → Type 0
 KnowsEndings flags s t = TellsWorkers flags (λ w. IsOpen (of_on s w is_ending) (of_on s w is_exit) t)
 
 -- on the worker w, an unwanted OnSubscribe after which no Exit and no CancelNew stands there
-abbrev pub IsHeld : ℕ → ℕ → List Stamped → Type 0
-IsHeld s w t =
+abbrev pub IsUnrefused : ℕ → ℕ → List Stamped → Type 0
+IsUnrefused s w t =
     (i : ℕ) × IsUnwanted s w t i × ((k : ℕ) → i < k → ¬ At (of_on s w is_exit) t k)
     × ((k : ℕ) → i < k → ¬ At (of_on s w is_cancel_new) t k)
 
 -- what a pass for 2.5 knows: whether an OnSubscribe has stood, whether a Cancel, Complete or Error has,
--- and the workers on which an unwanted subscription is held
-abbrev pub KnowsHeld : (opened settled : Bool) → List Bool → ℕ → List Stamped → Type 0
-KnowsHeld opened settled flags s t =
+-- and the workers on which an unwanted subscription has not been refused yet
+abbrev pub KnowsUnrefused : (opened settled : Bool) → List Bool → ℕ → List Stamped → Type 0
+KnowsUnrefused opened settled flags s t =
     Tells opened (of s is_on_subscribe) t × Tells settled (of s is_cancel_or_ending) t
-    × TellsWorkers flags (λ w. IsHeld s w t)
+    × TellsWorkers flags (λ w. IsUnrefused s w t)
 
 -- where the subscriber numbers that stand there from `from` on begin, or that none stands
 abbrev pub BeginsAt : List Stamped → ℕ → Option ℕ → Type 0

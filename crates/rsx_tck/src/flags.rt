@@ -33,8 +33,8 @@ pub type BadRequestFirst = EachAfter<BadRequest, BadRequestError>;
 
 /// A kind of events.
 pub trait Kind {
-    /// Whether an event is of this kind.
-    ghost has: { Event → Bool };
+    /// Whether an event is of this kind, as the definitions say it.
+    ghost has: { (event : Event) → Bool };
 
     /// Whether the event is of this kind.
     fn is(event: Event) -> bool

@@ -2,7 +2,12 @@
 //! Traces of publishers and subscribers, and the rules of Reactive Streams that a trace can show to be broken.
 //!
 //! A trace is a list of [`Stamped`] events, in the order in which they happened. Positions count from 0.
-//! [`parse_trace`] reads one from a text of either format, and [`print_trace`] writes one as text.
+//! [`parse_trace`] reads one from a text of either format, and [`print_trace`] writes one as text. [`judge`] says of one
+//! rule whether a trace keeps it, and [`report`] of all 43.
+//!
+//! Each rule that is judged is a [`pass`]: a state that goes over the events of one subscriber. [`flags`] has the passes
+//! that remember whether an event of some kind has stood, [`counts`] those that count items and requests, [`answers`]
+//! that of bad requests, and [`running`] those on what stands while a signal is in progress.
 
 mod answers;
 mod both;

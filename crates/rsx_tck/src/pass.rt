@@ -19,11 +19,11 @@ pub enum Effect {
 
 /// The state of one subscriber's pass for one rule.
 pub trait Pass {
-    /// The rule's sentence, for each subscriber.
-    ghost keeps: { ℕ → List Stamped → Type 0 };
+    /// The trace keeps the rule's sentence for the subscriber.
+    ghost keeps: { (subscriber : ℕ) (trace : List Stamped) → Type 0 };
 
-    /// What the state says of the events read so far.
-    ghost knows: { Self → ℕ → List Stamped → Type 0 };
+    /// What the state says of the subscriber's events so far.
+    ghost knows: { (state : Self) (subscriber : ℕ) (past : List Stamped) → Type 0 };
 
     /// The state before the first event.
     fn start() -> Self
@@ -34,12 +34,14 @@ pub trait Pass {
         ensures { (s : ℕ) → subscriber_of stamped.event ≡ s →
             Judges (keeps s) (knows self.old s) (knows self.new s) stamped result };
 
-    // An empty trace keeps the rule, and an event of another subscriber neither breaks it nor changes what is known.
+    /// An empty trace keeps the rule.
     ghost kept_at_first: { (s : ℕ) → keeps s [] };
 
+    /// An event of another subscriber doesn't break it.
     ghost keeps_on: { (s : ℕ) (past : List Stamped) (e : Stamped) →
         subscriber_of e.event ≢ s → keeps s past → keeps s (past ++ e ∷ []) };
 
+    /// What is known stays so over an event of another subscriber.
     ghost knows_on: { (state : Self) (s : ℕ) (past : List Stamped) (e : Stamped) →
         subscriber_of e.event ≢ s → knows state s past → knows state s (past ++ e ∷ []) };
 }

@@ -4,10 +4,10 @@ ghost use Rattle.std.specs.Prelude.{◌≡◌, ◌&&◌, ◌||◌, not, is_some}
 ghost use Rattle.rsx_tck.specs.declared.rule.Rule.TheVariants as rule;
 ghost use Rattle.rsx_trace.specs.Events.{is_cancel_new, is_cancel_or_ending, is_ending, is_exit, is_on_subscribe, is_request_or_cancel, is_signal};
 ghost use Rattle.rsx_tck.specs.Sentences.{Keeps};
-ghost use Rattle.rsx_tck.specs.Passes.{KnowsEndings, KnowsHeld, KnowsSignal, is_breach, next_signal};
+ghost use Rattle.rsx_tck.specs.Passes.{KnowsEndings, KnowsUnrefused, KnowsSignal, is_breach, next_signal};
 ghost use Rattle.rsx_tck.specs.Laws.Running.{apart-none, apart-other, knows_signal-other};
 ghost use Rattle.rsx_tck.specs.Laws.Working.{knows_endings-other, quiet-none, quiet-other};
-ghost use Rattle.rsx_tck.specs.Laws.Refusing.{knows_held-other, refuses-none, refuses-other};
+ghost use Rattle.rsx_tck.specs.Laws.Refusing.{knows_unrefused-other, refuses-none, refuses-other};
 
 use crate::pass::{Effect, Pass};
 use crate::workers::Workers;
@@ -108,31 +108,31 @@ pub struct SecondRefused {
     /// A cancel or an ending has stood.
     settled: bool,
     /// The workers on which an unwanted `onSubscribe` is in progress that hasn't cancelled its subscription.
-    held: Workers,
+    unrefused: Workers,
 }
 
 /// What the pass for rule 2.5 knows of one worker.
 #[derive(Clone, Copy)]
-struct Held {
+struct OnWorker {
     opened: bool,
     settled: bool,
-    held: bool,
+    unrefused: bool,
 }
 
-fn within_on_subscribe(state: Held, event: Event) -> (Held, Effect)
+fn within_on_subscribe(state: OnWorker, event: Event) -> (OnWorker, Effect)
     ensures opened { result.0.opened ≡ (state.opened || is_on_subscribe event) }
     ensures settled { result.0.settled ≡ (state.settled || is_cancel_or_ending event) }
-    ensures held { result.0.held ≡ ((is_on_subscribe event && (state.opened && not state.settled))
-        || (state.held && not (is_exit event || is_cancel_new event))) }
-    ensures effect { is_breach result.1 ≡ (state.held && is_exit event) }
+    ensures unrefused { result.0.unrefused ≡ ((is_on_subscribe event && (state.opened && not state.settled))
+        || (state.unrefused && not (is_exit event || is_cancel_new event))) }
+    ensures effect { is_breach result.1 ≡ (state.unrefused && is_exit event) }
 {
     rules! { state, event;
-        Held { opened, settled, held: true }, Event::Exit(_) => Held { opened, settled, held: false }, Effect::Breaks;
-        Held { opened, settled, .. }, Event::CancelNew(_) => Held { opened, settled, held: false }, Effect::Nothing;
-        Held { opened: true, settled: false, .. }, Event::OnSubscribe(_) => Held { opened: true, settled: false, held: true }, Effect::Nothing;
-        Held { settled, held, .. }, Event::OnSubscribe(_) => Held { opened: true, settled, held }, Effect::Nothing;
-        Held { opened, held, .. }, Event::Cancel(_) | Event::Complete(_) | Event::Error(_, _) =>
-            Held { opened, settled: true, held }, Effect::Nothing;
+        OnWorker { opened, settled, unrefused: true }, Event::Exit(_) => OnWorker { opened, settled, unrefused: false }, Effect::Breaks;
+        OnWorker { opened, settled, .. }, Event::CancelNew(_) => OnWorker { opened, settled, unrefused: false }, Effect::Nothing;
+        OnWorker { opened: true, settled: false, .. }, Event::OnSubscribe(_) => OnWorker { opened: true, settled: false, unrefused: true }, Effect::Nothing;
+        OnWorker { settled, unrefused, .. }, Event::OnSubscribe(_) => OnWorker { opened: true, settled, unrefused }, Effect::Nothing;
+        OnWorker { opened, unrefused, .. }, Event::Cancel(_) | Event::Complete(_) | Event::Error(_, _) =>
+            OnWorker { opened, settled: true, unrefused }, Effect::Nothing;
         state, _ => state, Effect::Nothing;
     }
 }
@@ -140,26 +140,26 @@ fn within_on_subscribe(state: Held, event: Event) -> (Held, Effect)
 impl Pass for SecondRefused {
     ghost keeps = { Keeps rule.Rule2_5 };
 
-    ghost knows = { λ state. KnowsHeld state.opened state.settled state.held.flags };
+    ghost knows = { λ state. KnowsUnrefused state.opened state.settled state.unrefused.flags };
 
     fn start() -> SecondRefused {
         SecondRefused {
             opened: false,
             settled: false,
-            held: Workers::none(),
+            unrefused: Workers::none(),
         }
     }
 
     fn step(&mut self, stamped: Stamped) -> Effect {
-        let before = Held {
+        let before = OnWorker {
             opened: self.opened,
             settled: self.settled,
-            held: self.held.has(stamped.worker),
+            unrefused: self.unrefused.has(stamped.worker),
         };
         let (after, effect) = within_on_subscribe(before, stamped.event);
         self.opened = after.opened;
         self.settled = after.settled;
-        self.held.set(stamped.worker, after.held);
+        self.unrefused.set(stamped.worker, after.unrefused);
         effect
     }
 
@@ -167,5 +167,5 @@ impl Pass for SecondRefused {
 
     ghost keeps_on = { refuses-other };
 
-    ghost knows_on = { λ state. knows_held-other state.opened state.settled state.held.flags };
+    ghost knows_on = { λ state. knows_unrefused-other state.opened state.settled state.unrefused.flags };
 }

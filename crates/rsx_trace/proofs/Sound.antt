@@ -242,6 +242,17 @@ counted_of bytes word = cond (bytes_eq word.0 (codes "user")) (number_at u32 wor
 abbrev pub cause_of : List ℕ → List ℕ × List ℕ → Result (Cause × List ℕ) ℕ
 cause_of bytes word = cond (bytes_eq word.0 (codes "bad-request")) (Ok (NonPositiveRequest, word.1)) (counted_of bytes word)
 
+-- a cause of two words: its name and a number
+counted_sound : (name : List ℕ) (make : ℕ → Cause) (bytes w rest : List ℕ) (cause : Cause) → ((number : List ℕ) (n : ℕ) → IsNumber u32 number n → IsCause (name ∷ number ∷ []) (make n)) → Took bytes w rest → w ≡ name → (number_at u32 rest >>= λ n. done {A = Cause × List ℕ} (make n.0, n.1)) ≡ Ok (cause, []) → Spelt (λ ws. IsCause ws cause) bytes
+counted_sound name make bytes w rest cause is_so took is e =
+    let c = bind_ok (number_at u32 rest) (λ n. Ok (make n.0, n.1)) (cause, []) e in
+    let p = ok_is (make c.0.0, c.0.1) (cause, []) c.2 in
+    let n = number_sound u32 rest c.0.0 c.0.1 c.1 in
+    let last : rest ≡ joined (n.0 ∷ []) = onto rest n.0 c.0.1 [] n.2 (ap (λ (q : Cause × List ℕ). q.1) p) tt in
+    let joins : bytes ≡ joined (w ∷ n.0 ∷ []) = onto bytes w rest (n.0 ∷ []) took last n.2.word in
+    let spelt : IsCause (w ∷ n.0 ∷ []) (make c.0.0) = subst (λ (x : List ℕ). IsCause (x ∷ n.0 ∷ []) (make c.0.0)) (sym is) (is_so n.0 c.0.0 n.1) in
+    subst (λ (x : Cause). Spelt (λ ws. IsCause ws x) bytes) (ap (λ (q : Cause × List ℕ). q.0) p) (record { words = w ∷ n.0 ∷ []; is = spelt; joins = joins; starts = took.word })
+
 cause_sound : (bytes : List ℕ) (cause : Cause) → cause_at bytes ≡ Ok (cause, []) → Spelt (λ ws. IsCause ws cause) bytes
 unfolding cause_at
 cause_sound bytes cause e =
@@ -255,23 +266,9 @@ cause_sound bytes cause e =
           let joins : bytes ≡ joined (w ∷ []) = onto bytes w b.0.1 [] took (ap (λ (q : Cause × List ℕ). q.1) p) tt in
           subst (λ (c : Cause). Spelt (λ ws. IsCause ws c) bytes) (ap (λ (q : Cause × List ℕ). q.0) p) (record { words = w ∷ []; is = ap (λ (x : List ℕ). x ∷ []) name; joins = joins; starts = took.word })
       | inr h ↦ elim (chosen (bytes_eq w (codes "user")) (number_at u32 b.0.1 >>= λ n. Ok (User n.0, n.1)) (function_of bytes b.0) (Ok (cause, [])) h.1) [
-        | inl k ↦
-            let name : w ≡ codes "user" = named w (codes "user") k.0 in
-            let c = bind_ok (number_at u32 b.0.1) (λ n. Ok (User n.0, n.1)) (cause, []) k.1 in
-            let p = ok_is (User c.0.0, c.0.1) (cause, []) c.2 in
-            let n = number_sound u32 b.0.1 c.0.0 c.0.1 c.1 in
-            let last : b.0.1 ≡ joined (n.0 ∷ []) = onto b.0.1 n.0 c.0.1 [] n.2 (ap (λ (q : Cause × List ℕ). q.1) p) tt in
-            let joins : bytes ≡ joined (w ∷ n.0 ∷ []) = onto bytes w b.0.1 (n.0 ∷ []) took last n.2.word in
-            subst (λ (x : Cause). Spelt (λ ws. IsCause ws x) bytes) (ap (λ (q : Cause × List ℕ). q.0) p) (record { words = w ∷ n.0 ∷ []; is = (n.0, n.1, ap (λ (x : List ℕ). x ∷ n.0 ∷ []) name); joins = joins; starts = took.word })
+        | inl k ↦ counted_sound (codes "user") (λ n. User n) bytes w b.0.1 cause (λ number n is. (number, is, refl)) took (named w (codes "user") k.0) k.1
         | inr k ↦ elim (chosen (bytes_eq w (codes "function")) (number_at u32 b.0.1 >>= λ n. Ok (Function n.0, n.1)) (Err (length bytes)) (Ok (cause, [])) k.1) [
-          | inl f ↦
-              let name : w ≡ codes "function" = named w (codes "function") f.0 in
-              let c = bind_ok (number_at u32 b.0.1) (λ n. Ok (Function n.0, n.1)) (cause, []) f.1 in
-              let p = ok_is (Function c.0.0, c.0.1) (cause, []) c.2 in
-              let n = number_sound u32 b.0.1 c.0.0 c.0.1 c.1 in
-              let last : b.0.1 ≡ joined (n.0 ∷ []) = onto b.0.1 n.0 c.0.1 [] n.2 (ap (λ (q : Cause × List ℕ). q.1) p) tt in
-              let joins : bytes ≡ joined (w ∷ n.0 ∷ []) = onto bytes w b.0.1 (n.0 ∷ []) took last n.2.word in
-              subst (λ (x : Cause). Spelt (λ ws. IsCause ws x) bytes) (ap (λ (q : Cause × List ℕ). q.0) p) (record { words = w ∷ n.0 ∷ []; is = (n.0, n.1, ap (λ (x : List ℕ). x ∷ n.0 ∷ []) name); joins = joins; starts = took.word })
+          | inl f ↦ counted_sound (codes "function") (λ n. Function n) bytes w b.0.1 cause (λ number n is. (number, is, refl)) took (named w (codes "function") f.0) f.1
           | inr f ↦ absurd (no_error (length bytes) (cause, []) f.1)
         ]
       ]
@@ -321,6 +318,21 @@ tail_sound kind.Request s bytes e number h r =
 tail_sound kind.Cancel s bytes e number h r = tail_plain kind.Cancel (event.Cancel s) number bytes e (number, h, refl) r
 tail_sound kind.CancelNew s bytes e number h r = tail_plain kind.CancelNew (event.CancelNew s) number bytes e (number, h, refl) r
 
+-- what stands behind the word of the kind: the number of the subscriber, and more
+record Behind (k : Kind) (bytes : List ℕ) (e : Event) : Type 0 where
+  number : List ℕ
+  words : List (List ℕ)
+  is : IsEvent (kind_text k ∷ number ∷ words) e
+  joins : bytes ≡ joined (number ∷ words)
+  word : IsWord number
+
+behind_sound : (k : Kind) (bytes : List ℕ) (e : Event) → (number_at u32 bytes >>= λ s. tail_of k s.0 s.1) ≡ Ok e → Behind k bytes e
+behind_sound k bytes e r =
+    let d = bind_ok (number_at u32 bytes) (λ s. tail_of k s.0 s.1) e r in
+    let n = number_sound u32 bytes d.0.0 d.0.1 d.1 in
+    let t = tail_sound k d.0.0 d.0.1 e n.0 n.1 d.2 in
+    record { number = n.0; words = t.words; is = t.is; joins = onto bytes n.0 d.0.1 t.words n.2 t.joins t.starts; word = n.2.word }
+
 event_sound : (bytes : List ℕ) (e : Event) → event_at bytes ≡ Ok e → Spelt (λ ws. IsEvent ws e) bytes
 unfolding event_at
 event_sound bytes e r =
@@ -328,14 +340,11 @@ event_sound bytes e r =
     let took = word_sound bytes b.0.0 b.0.1 b.1 in
     let c = bind_ok (valued bytes (kind_of b.0.0) b.0.1) (λ kind. (number_at u32 kind.1 >>= λ s. tail_of kind.0 s.0 s.1)) e b.2 in
     let v = valued_ok bytes (kind_of b.0.0) b.0.1 c.0.0 c.0.1 c.1 in
-    let d = bind_ok (number_at u32 c.0.1) (λ s. tail_of c.0.0 s.0 s.1) e c.2 in
-    let n = number_sound u32 c.0.1 d.0.0 d.0.1 d.1 in
-    let t = tail_sound c.0.0 d.0.0 d.0.1 e n.0 n.1 d.2 in
-    let last : b.0.1 ≡ joined (n.0 ∷ t.words) = v.1 ∙ onto c.0.1 n.0 d.0.1 t.words n.2 t.joins t.starts in
+    let t = behind_sound c.0.0 c.0.1 e c.2 in
     record {
-      words = b.0.0 ∷ n.0 ∷ t.words;
-      is = subst (λ (x : List ℕ). IsEvent (x ∷ n.0 ∷ t.words) e) (sym (kind_is b.0.0 c.0.0 v.0)) t.is;
-      joins = onto bytes b.0.0 b.0.1 (n.0 ∷ t.words) took last n.2.word;
+      words = b.0.0 ∷ t.number ∷ t.words;
+      is = subst (λ (x : List ℕ). IsEvent (x ∷ t.number ∷ t.words) e) (sym (kind_is b.0.0 c.0.0 v.0)) t.is;
+      joins = onto bytes b.0.0 b.0.1 (t.number ∷ t.words) took (v.1 ∙ t.joins) t.word;
       starts = took.word;
     }
 
@@ -418,6 +427,11 @@ version_of word version = cond (bytes_eq version.0 (codes "1")) (ends version.1 
 abbrev pub first_of : List ℕ → List ℕ × List ℕ → Result Bool ℕ
 first_of bytes word = cond (bytes_eq word.0 (codes "trace")) (word_at word.1 >>= λ version. version_of word version) (Err (length bytes))
 
+-- a line of two words, of which the first is `trace`
+first_joined : (bytes name rest version last : List ℕ) → Took bytes name rest → Took rest version last → last ≡ [] → name ≡ codes "trace" → bytes ≡ joined (codes "trace" ∷ version ∷ [])
+first_joined bytes name rest version last took second none is =
+    onto bytes name rest (version ∷ []) took (onto rest version last [] second none tt) second.word ∙ ap (λ (x : List ℕ). joined (x ∷ version ∷ [])) is
+
 pub first_sound : (bytes : List ℕ) (stamped : Bool) → first_at bytes ≡ Ok stamped → bytes ≡ first_text stamped
 unfolding first_at
 first_sound bytes stamped e =
@@ -431,13 +445,11 @@ first_sound bytes stamped e =
           elim (chosen (bytes_eq c.0.0 (codes "1")) (ends c.0.1 false) (second_of b.0 c.0) (Ok stamped) c.2) [
             | inl k ↦
                 let d = ends_ok c.0.1 false stamped k.1 in
-                let joins = onto bytes b.0.0 b.0.1 (c.0.0 ∷ []) took (onto b.0.1 c.0.0 c.0.1 [] second d.0 tt) second.word in
-                joins ∙ ap (λ (x : List ℕ). joined (x ∷ c.0.0 ∷ [])) name ∙ ap (λ (x : List ℕ). joined (codes "trace" ∷ x ∷ [])) (named c.0.0 (codes "1") k.0) ∙ ap first_text d.1
+                first_joined bytes b.0.0 b.0.1 c.0.0 c.0.1 took second d.0 name ∙ ap (λ (x : List ℕ). joined (codes "trace" ∷ x ∷ [])) (named c.0.0 (codes "1") k.0) ∙ ap first_text d.1
             | inr k ↦ elim (chosen (bytes_eq c.0.0 (codes "2")) (ends c.0.1 true) (Err (length b.0.1)) (Ok stamped) k.1) [
               | inl f ↦
                   let d = ends_ok c.0.1 true stamped f.1 in
-                  let joins = onto bytes b.0.0 b.0.1 (c.0.0 ∷ []) took (onto b.0.1 c.0.0 c.0.1 [] second d.0 tt) second.word in
-                  joins ∙ ap (λ (x : List ℕ). joined (x ∷ c.0.0 ∷ [])) name ∙ ap (λ (x : List ℕ). joined (codes "trace" ∷ x ∷ [])) (named c.0.0 (codes "2") f.0) ∙ ap first_text d.1
+                  first_joined bytes b.0.0 b.0.1 c.0.0 c.0.1 took second d.0 name ∙ ap (λ (x : List ℕ). joined (codes "trace" ∷ x ∷ [])) (named c.0.0 (codes "2") f.0) ∙ ap first_text d.1
               | inr f ↦ absurd (no_error (length b.0.1) stamped f.1)
             ]
           ]

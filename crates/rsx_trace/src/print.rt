@@ -55,8 +55,11 @@ impl fmt::Display for Stamped {
 }
 
 /// The text of a trace in format 2: the line `trace 2`, a line for each event, and the line `end`, each with its
-/// newline and its numbers without leading zeros. Each worker's number is at most 15. `NoMemory` comes where a growth
-/// was refused, and only there.
+/// newline and its numbers without leading zeros. Each worker's number is at most 15.
+///
+/// # Errors
+///
+/// `NoMemory` where a growth was refused, and only there.
 pub fn print_trace(alloc: Global, events: &[Stamped]) -> Result<String, NoMemory>
     requires { All (λ e. e.worker ≤ 15) events.now }
     ensures text { IfOk result (λ text. string_bytes text ≡ trace_text events.now) }

@@ -79,10 +79,12 @@ fn trace_in(alloc: Global, text: &[u8]) -> Result<Vec<Stamped>, TraceRefusal>
 
 /// The events of a trace of format 1 or 2; those of format 1 are worker 0's. Lines may have any length.
 ///
-/// `BadTrace` comes where the text is in neither format, with the place of its first wrong word. A word that is missing
+/// # Errors
+///
+/// `BadTrace` where the text is in neither format, with the place of its first wrong word. A word that is missing
 /// stands one byte past its line's end, a second space and one at either end of a line are wrong words themselves, and
-/// a line behind `end`, or one that is missing before it, is wrong at column 1. `NoMemory` comes only where a growth
-/// was refused.
+/// a line behind `end`, or one that is missing before it, is wrong at column 1. `NoMemory` where a growth was refused,
+/// and only there.
 pub fn parse_trace(alloc: Global, text: &[u8]) -> Result<Vec<Stamped>, TraceRefusal>
     // What is read is a trace of these events.
     ensures found { IfOk result (λ v. IsTrace text.now v.items) }

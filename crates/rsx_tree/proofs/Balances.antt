@@ -3,7 +3,7 @@ use Rattle.std.proofs.Common.{◌≡◌, ◌⊎◌, inl, inr, ℕ, zero, suc, �
 use Rattle.rsx_types.specs.Meaning.{Meaning}
 use Rattle.rsx_types.specs.declared.signal.Signal.{Signal}
 use Rattle.rsx_types.specs.declared.signal.Signal.TheVariants.{Next, Complete, Error}
-use Rattle.rsx_sources.specs.Counts.{CountsIn, CountsOut, taken_after, one_more, ends_input}
+use Rattle.rsx_sources.specs.Counts.{CountsIn, CountsOut, CountsStep, taken_after, one_more, ends_input}
 use Rattle.rsx_sources.specs.Machine.{front_of}
 use Rattle.rsx_sources.specs.declared.machine.Machine.{Ghosts as Machine}
 use Rattle.rsx_tree.specs.declared.edge.Edge.{Edge}
@@ -14,6 +14,7 @@ use Rattle.rsx_tree.specs.declared.node.Node.{Node}
 use Rattle.rsx_tree.specs.Edges.{edge_view, EdgeView, passed, asked_up_to}
 use Rattle.rsx_tree.specs.Inputs.{size, is_own, closed_row_if}
 use Rattle.rsx_tree.specs.Changed.{Change, IsChanged, IsAskedOver, IsSentOver}
+use Rattle.rsx_tree.specs.Stepped.{Step, IsStepped}
 use Rattle.rsx_tree.specs.Balance.{sent_over, IsOwnerBalanced, IsRowBalanced, IsBalanced, IsBalancedAfter}
 
 -- ---- an Ask
@@ -179,6 +180,61 @@ send_balanced {M} b m r i asked sent (More' e n p below q beside) at r' t' h = e
         }
   ]
 ]
+
+-- ---- a step
+
+-- a step of a node itself takes nothing and sends nothing
+counted_step : {M T : Type 0} (b : Machine M T) (n n' : M) (below : Inputs M) → CountsStep b.counted b.ended b.done n n' → IsSendBalanced b n 0 below n' below
+counted_step b n n' below h = record {
+  stays = h.stays_ended;
+  done = h.stays_done;
+  row = λ still k. others_balanced b n n' 0 below h.stays_done k;
+  counted = λ still before len s c. h.counts still (before ++ sent_over below) s c;
+}
+
+pub record IsStepBalanced {M T : Type 0} (b : Machine M T) (r : M) (i : ℕ) (t t' : Inputs M) : Type 0 where
+  pub counts : sent_over t' ≡ sent_over t
+  pub row : IsRowBalanced b r i t → IsRowBalanced b r i t'
+
+row_step_balanced : {M T : Type 0} (b : Machine M T) (P : Step M) → ((n : M) (asked sent : ℕ) (n' : M) → P n asked sent n' → CountsStep b.counted b.ended b.done n n') → (r : M) (i : ℕ) (t : Inputs M) (at : ℕ) (t' : Inputs M) → IsStepped P b.ended t at t' → IsStepBalanced b r i t t'
+row_step_balanced b P law r i End at t' h = absurd h
+row_step_balanced {M} b P law r i (More' e n p below q beside) at t' h = elim h [
+  | inl x ↦
+      let Q : Inputs M → Type 0 = λ u. IsRowBalanced b r i u in
+      let counts = counted_step b n x.n' below (law n e.demand.asked e.demand.sent x.n' x.made) in
+      record {
+        counts = ap sent_over x.new_is;
+        row = λ k. subst Q (sym x.new_is) (elim k.0 [ inl d ↦ inl d | inr o ↦ inr (o.0, below_balanced b n x.n' below below true e.demand.sent counts o.1) ], k.1);
+      }
+  | inr y ↦ elim y [
+    | inl x ↦
+        let rec = row_step_balanced b P law n 0 below (at - 1) x.below' x.made in
+        let Q : Inputs M → Type 0 = λ u. IsRowBalanced b r i u in
+        let C : List ℕ → Type 0 = λ l. b.counted n l e.demand.sent in
+        record {
+          counts = ap sent_over x.new_is;
+          row = λ k. subst Q (sym x.new_is) (elim k.0 [ inl d ↦ inl d | inr o ↦ inr (o.0, elim o.1 [ inl f ↦ inl f | inr w ↦ inr (w.0, subst C (sym rec.counts) w.1, rec.row w.2) ]) ], k.1);
+        }
+    | inr x ↦
+        let rec = row_step_balanced b P law r (i + 1) beside (at - 1 - size below) x.beside' x.made in
+        let Q : Inputs M → Type 0 = λ u. IsRowBalanced b r i u in
+        record {
+          counts = ap sent_over x.new_is ∙ ap (λ l. e.demand.sent ∷ l) rec.counts;
+          row = λ k. subst Q (sym x.new_is) (k.0, rec.row k.1);
+        }
+  ]
+]
+
+-- a step of the root, and of a node below it
+pub root_balanced : {M T : Type 0} (b : Machine M T) (r r' : M) (t : Inputs M) (s : ℕ) → CountsStep b.counted b.ended b.done r r' → IsBalanced b (record { machine = r; inputs = t }) s → IsBalanced b (record { machine = r'; inputs = closed_row_if (b.ended r' && true) t }) s
+root_balanced b r r' t s h k = below_balanced b r r' t t true s (counted_step b r r' t h) k
+
+pub step_balanced : {M T : Type 0} (b : Machine M T) (P : Step M) → ((n : M) (asked sent : ℕ) (n' : M) → P n asked sent n' → CountsStep b.counted b.ended b.done n n') → (r : M) (t : Inputs M) (at : ℕ) (t' : Inputs M) → IsStepped P b.ended t at t' → (s : ℕ) →
+    IsBalanced b (record { machine = r; inputs = t }) s → IsBalanced b (record { machine = r; inputs = t' }) s
+step_balanced b P law r t at t' h s k =
+    let rec = row_step_balanced b P law r 0 t at t' h in
+    let C : List ℕ → Type 0 = λ l. b.counted r l s in
+    elim k [ inl f ↦ inl f | inr w ↦ inr (w.0, subst C (sym rec.counts) w.1, rec.row w.2) ]
 
 -- ---- a tree
 

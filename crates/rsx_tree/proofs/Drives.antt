@@ -8,12 +8,16 @@ use Rattle.rsx_tree.specs.declared.edge.Edge.{Edge}
 use Rattle.rsx_tree.specs.declared.inputs.Inputs.{Inputs, End, More'}
 use Rattle.rsx_tree.specs.declared.inputs.Inputs.TheViews.{More}
 use Rattle.rsx_tree.specs.declared.node.Node.{Node}
-use Rattle.rsx_tree.specs.Edges.{edge_view, can_ask_for}
+use Rattle.rsx_tree.specs.Edges.{EdgeView, edge_view, can_ask_for}
 use Rattle.rsx_tree.specs.Inputs.{size, is_own, place, Place, closed_row_if, can_send_over, can_ask_in, can_send_in}
 use Rattle.rsx_tree.specs.Changed.{Change, IsChanged, IsAskedOver, IsSentOver, Hold}
-use Rattle.rsx_tree.specs.Stepped.{IsStepped, Step, IsPickedHere, IsRowMadeHere}
+use Rattle.rsx_tree.specs.Stepped.{IsStepped, IsStepOver, Step, Station, IsPickedHere, IsRowMadeHere, IsStill, station}
 use Rattle.rsx_tree.specs.Tree.{IsKept}
-use Rattle.rsx_tree.specs.Driven.{IsMade, IsAskMade, IsSendMade, IsStepMade, IsRowRun, IsRowEnded, IsRowDriven, IsRowIdle, IsDriven, IsAdvanced, IsIdle, IsRowBusy, IsBusy}
+use Rattle.rsx_tree.specs.Driven.{IsMade, IsAskMade, IsSendMade, IsStepMade, IsRowRun, IsRowEnded, IsRowDriven, IsRowIdle, IsRestAt, IsRestOver, IsDriven, IsAdvanced, IsIdle}
+use Rattle.rsx_types.specs.Notes.{note_then}
+use Rattle.rsx_tree.specs.declared.edge.EdgeState.TheVariants.{Live}
+use Rattle.rsx_tree.specs.Chosen.{IsChosen}
+use Rattle.rsx_tree.proofs.Noted.{pick_notes, row_notes, step_noted, picked_noted, row_noted, kept_chosen, chosen_then}
 use Rattle.rsx_tree.proofs.Trees.{node, kept_asked, can_asked, asked_effect, kept_sent, can_sent, sent_effect}
 use Rattle.rsx_tree.specs.Balance.{IsBalanced}
 use Rattle.rsx_tree.proofs.Balances.{tree_ask_balanced, tree_send_balanced}
@@ -22,23 +26,22 @@ use Rattle.rsx_tree.proofs.Effects.{row_asked}
 use Rattle.rsx_tree.proofs.Changes.{Rest, chosen_first, chosen_second, not_zero, is_within, is_beyond, changed_here}
 
 -- so much of a budget is left in a run of moves of a row that has led to this receiver and this row
-pub record IsUnderWay {M T : Type 0} (b : Machine M T) (m : Meaning T) (i asked sent budget : ℕ) (r : M) (t : Inputs M) (left : ℕ) (r' : M) (t' : Inputs M) : Type 0 where
+pub record IsUnderWay {M T : Type 0} (b : Machine M T) (m : Meaning T) (steps : Bool) (i asked sent budget : ℕ) (r : M) (t : Inputs M) (left : ℕ) (r' : M) (t' : Inputs M) : Type 0 where
   pub count : ℕ
   pub spent : count + left ≡ budget
-  pub run : IsRowRun b m false count i asked sent r t r' t'
+  pub run : IsRowRun b m steps count i asked sent r t r' t'
 
 -- no move is enabled over the first edge and below it
 pub record IsDone {M T : Type 0} (b : Machine M T) (m : Meaning T) (r : M) (i asked sent : ℕ) (e : Edge) (n : M) (below : Inputs M) : Type 0 where
-  pub ask : can_ask_for (edge_view e) (b.wanted r i asked sent) ≡ false
-  pub send : can_send_over b m r i (edge_view e) n ≡ false
+  pub rest : IsRestOver b m r i asked sent e n
   pub idle : IsRowIdle b m n 0 e.demand.asked e.demand.sent below
 
 -- the same of a tree
-pub record IsTreeUnderWay {M T : Type 0} (b : Machine M T) (m : Meaning T) (old : Node M) (asked sent budget left : ℕ) (now : Node M) : Type 0 where
+pub record IsTreeUnderWay {M T : Type 0} (b : Machine M T) (m : Meaning T) (steps : Bool) (old : Node M) (asked sent budget left : ℕ) (now : Node M) : Type 0 where
   pub count : ℕ
   pub spent : count + left ≡ budget
-  pub run : IsDriven b m false count old asked sent now
-  pub kept : IsKept b m old now
+  pub run : IsDriven b m steps count old asked sent now
+  pub chosen : IsChosen b m old now
   pub balance : (s : ℕ) → IsBalanced b old s → IsBalanced b now s
 
 -- ---- a move of a part of the row is one of the row
@@ -238,111 +241,163 @@ driven_beside b m steps k true i asked sent r r' e n p below q beside beside' h 
 
 -- ---- the loop over one edge
 
-pub under_way_begun : {M T : Type 0} (b : Machine M T) (m : Meaning T) (i asked sent budget : ℕ) (r : M) (t now : Inputs M) → t ≡ now → IsUnderWay b m i asked sent budget r t budget r now
-under_way_begun b m i asked sent budget r t now is = record { count = 0; spent = omega arith; run = (refl, sym is) }
+pub under_way_begun : {M T : Type 0} (b : Machine M T) (m : Meaning T) (steps : Bool) (i asked sent budget : ℕ) (r : M) (t now : Inputs M) → t ≡ now → IsUnderWay b m steps i asked sent budget r t budget r now
+under_way_begun b m steps i asked sent budget r t now is = record { count = 0; spent = omega arith; run = (refl, sym is) }
 
-sent_here : {M T : Type 0} (b : Machine M T) (m : Meaning T) (ends : Bool) (i asked sent : ℕ) (r r' : M) (e e' : Edge) (n n' : M) (below beside : Rest M) →
-    ((a s : ℕ) → IsSentOver b m r i a s e n r' e' n') → b.ended r' ≡ ends → IsMade b m false r i asked sent (More e n below beside) 0 ends r' (More e' n' below beside)
-sent_here b m ends i asked sent r r' e e' n n' below beside h o = inr (inl (record {
+and_same : (x : Bool) → x ≡ (x && true)
+and_same true = refl
+and_same false = refl
+
+pub sent_here : {M T : Type 0} (b : Machine M T) (m : Meaning T) (steps ends : Bool) (i asked sent : ℕ) (r r' : M) (e e' : Edge) (n n' : M) (below : Inputs M) → ((a s : ℕ) → IsSentOver b m r i a s e n r' e' n') → b.ended r' ≡ ends →
+    (p q : Hold) (beside : Inputs M) → IsMade b m steps r i asked sent (More' e n p below q beside) 0 ends r' (More' e' n' p below q beside)
+sent_here b m steps ends i asked sent r r' e e' n n' below h o p q beside = inr (inl (record {
   made = λ a s. inl (record { e' = e'; n' = n'; at_is = refl; made = h a s; new_is = refl });
-  ends_is = sym o ∙ sym (and_true (b.ended r'));
+  ends_is = sym o ∙ and_same (b.ended r');
 }))
 
-pub under_way_sent : {M T : Type 0} (b : Machine M T) (m : Meaning T) (i asked sent budget left : ℕ) (r0 : M) (t0 : Inputs M) (r r' : M) (e e' : Edge) (n n' : M) (below beside : Rest M) →
-    IsUnderWay b m i asked sent budget r0 t0 left r (More e n below beside) → 0 < left → ((a s : ℕ) → IsSentOver b m r i a s e n r' e' n') → b.ended r' ≡ false → IsUnderWay b m i asked sent budget r0 t0 (left - 1) r' (More e' n' below beside)
-under_way_sent b m i asked sent budget left r0 t0 r r' e e' n n' below beside u some h o = record {
-  count = u.count + 1;
-  spent = let q = u.spent in omega (arith, q, some);
-  run = run_then b m false u.count 1 i asked sent r0 r r' t0 (More e n below beside) (More e' n' below beside) u.run (run_once b m false i asked sent 0 r r' (More e n below beside) (More e' n' below beside) (sent_here b m false i asked sent r r' e e' n n' below beside h o));
-}
+pub asked_here : {M T : Type 0} (b : Machine M T) (m : Meaning T) (steps : Bool) (i asked sent : ℕ) (r r' : M) (e e' : Edge) (n n' : M) (below : Inputs M) → IsAskedOver b r i asked sent e n r' e' n' →
+    (p q : Hold) (beside : Inputs M) → IsMade b m steps r i asked sent (More' e n p below q beside) 0 false r' (More' e' n' p below q beside)
+asked_here b m steps i asked sent r r' e e' n n' below h p q beside = inl (record { made = inl (record { e' = e'; n' = n'; at_is = refl; made = h; new_is = refl }); stays = refl })
 
-pub ended_sent : {M T : Type 0} (b : Machine M T) (m : Meaning T) (i asked sent budget left : ℕ) (r0 : M) (t0 : Inputs M) (r r' : M) (e e' : Edge) (n n' : M) (below beside : Rest M) →
-    IsUnderWay b m i asked sent budget r0 t0 left r (More e n below beside) → 0 < left → ((a s : ℕ) → IsSentOver b m r i a s e n r' e' n') → b.ended r' ≡ true →
-    (x : ℕ) × (x + (left - 1) ≡ budget) × IsRowEnded b m false x i asked sent r0 t0 r' (More e' n' below beside)
-ended_sent b m i asked sent budget left r0 t0 r r' e e' n n' below beside u some h o = (
-  u.count + 1,
-  let q = u.spent in omega (arith, q, some),
-  record { before = u.count; count = refl; r1 = r; t1 = More e n below beside; at = 0; run = u.run; last = sent_here b m true i asked sent r r' e e' n n' below beside h o },
-)
+pub step_here : {M T : Type 0} (b : Machine M T) (m : Meaning T) (i asked sent : ℕ) (r : M) (e : Edge) (n n' : M) (below below' : Inputs M) → IsStepOver b m e n below n' below' →
+    (p q : Hold) (beside : Inputs M) → IsMade b m true r i asked sent (More' e n p below q beside) 0 false r (More' e n' p below' q beside)
+step_here b m i asked sent r e n n' below below' h p q beside = inr (inr (
+  refl,
+  record {
+    made = elim h.made [
+      | inl k ↦ inl (k.0, inl (record { n' = n'; at_is = refl; live = h.live; made = k.1; new_is = ap (λ t. More' e n' p t q beside) h.shut }))
+      | inr k ↦ inr (inl (record { n' = n'; at_is = refl; live = h.live; made = k; new_is = ap (λ t. More' e n' p t q beside) h.shut }))
+    ];
+    receiver = refl;
+    stays = refl;
+  },
+))
 
-pub under_way_asked : {M T : Type 0} (b : Machine M T) (m : Meaning T) (i asked sent budget left : ℕ) (r0 : M) (t0 : Inputs M) (r r' : M) (e e' : Edge) (n n' : M) (below beside : Rest M) →
-    IsUnderWay b m i asked sent budget r0 t0 left r (More e n below beside) → 0 < left → IsAskedOver b r i asked sent e n r' e' n' → IsUnderWay b m i asked sent budget r0 t0 (left - 1) r' (More e' n' below beside)
-under_way_asked b m i asked sent budget left r0 t0 r r' e e' n n' below beside u some h = record {
-  count = u.count + 1;
-  spent = let q = u.spent in omega (arith, q, some);
-  run = run_then b m false u.count 1 i asked sent r0 r r' t0 (More e n below beside) (More e' n' below beside) u.run (run_once b m false i asked sent 0 r r' (More e n below beside) (More e' n' below beside)
-      (inl (record { made = inl (record { e' = e'; n' = n'; at_is = refl; made = h; new_is = refl }); stays = refl })));
-}
+-- the same after calls that changed nothing
+pub made_after : {M T : Type 0} (b : Machine M T) (m : Meaning T) (steps ends : Bool) (i asked sent : ℕ) (r r1 r' : M) (e e1 e' : Edge) (n n1 n' : M) (below below' : Inputs M) → r1 ≡ r → e1 ≡ e → n1 ≡ n →
+    ((p q : Hold) (beside : Inputs M) → IsMade b m steps r1 i asked sent (More' e1 n1 p below q beside) 0 ends r' (More' e' n' p below' q beside)) →
+    (p q : Hold) (beside : Inputs M) → IsMade b m steps r i asked sent (More' e n p below q beside) 0 ends r' (More' e' n' p below' q beside)
+made_after {M} b m steps ends i asked sent r r1 r' e e1 e' n n1 n' below below' same_r same_e same_n h p q beside =
+    let R : M → Type 0 = λ x. IsMade b m steps x i asked sent (More' e1 n1 p below q beside) 0 ends r' (More' e' n' p below' q beside) in
+    let E : Edge → Type 0 = λ x. IsMade b m steps r i asked sent (More' x n1 p below q beside) 0 ends r' (More' e' n' p below' q beside) in
+    let N : M → Type 0 = λ x. IsMade b m steps r i asked sent (More' e x p below q beside) 0 ends r' (More' e' n' p below' q beside) in
+    subst N same_n (subst E same_e (subst R same_r (h p q beside)))
 
--- no move over the edge, then a run below it
-pub under_way_below : {M T : Type 0} (b : Machine M T) (m : Meaning T) (i asked sent budget left left' k : ℕ) (over : Bool) (r0 : M) (t0 : Inputs M) (r r' : M) (e e' : Edge) (n n1 n' : M) (below beside : Rest M) (was now new : Inputs M) →
-    IsUnderWay b m i asked sent budget r0 t0 left r (More e n below beside) → (r' ≡ r) × (e' ≡ e) × (n1 ≡ n) → was ≡ below.value → k + left' ≡ left →
-    IsRowDriven b m false k over 0 e'.demand.asked e'.demand.sent n1 was n' now → new ≡ closed_row_if over now → IsUnderWay b m i asked sent budget r0 t0 left' r' (More e' n' (with_value below new) beside)
-under_way_below {M} b m i asked sent budget left left' k over r0 t0 r r' e e' n n1 n' below beside was now new u same at spent h shut =
-    let R : M → Type 0 = λ x. IsRowRun b m false u.count i asked sent r0 t0 x (More e n below beside) in
-    let E : Edge → Type 0 = λ x. IsRowRun b m false u.count i asked sent r0 t0 r' (More x n below beside) in
-    let N : M → Type 0 = λ x. IsRowRun b m false u.count i asked sent r0 t0 r' (More e' x below beside) in
-    let W : Inputs M → Type 0 = λ x. IsRowDriven b m false k over 0 e'.demand.asked e'.demand.sent n1 x n' now in
-    let S : Inputs M → Type 0 = λ x. IsRowRun b m false k i asked sent r' (More e' n1 below beside) r' (More e' n' (with_value below x) beside) in
+-- one more move over the edge, or of its sender
+pub under_way_made : {M T : Type 0} (b : Machine M T) (m : Meaning T) (steps : Bool) (i asked sent budget left : ℕ) (r0 : M) (t0 : Inputs M) (r r' : M) (e e' : Edge) (n n' : M) (below beside : Rest M) (was new : Inputs M) →
+    IsUnderWay b m steps i asked sent budget r0 t0 left r (More e n below beside) → 0 < left → was ≡ below.value → ((p q : Hold) (u : Inputs M) → IsMade b m steps r i asked sent (More' e n p was q u) 0 false r' (More' e' n' p new q u)) →
+    IsUnderWay b m steps i asked sent budget r0 t0 (left - 1) r' (More e' n' (with_value below new) beside)
+under_way_made {M} b m steps i asked sent budget left r0 t0 r r' e e' n n' below beside was new u some at h =
     let P : Hold = record { ptr = below.ptr; alloc = below.alloc; value = tt } in
     let Q : Hold = record { ptr = beside.ptr; alloc = beside.alloc; value = tt } in
-    let more : IsRowRun b m false k i asked sent r' (More e' n1 below beside) r' (More e' n' (with_value below (closed_row_if over now)) beside) = driven_below b m false k over i asked sent r' e' n1 n' P below.value now Q beside.value (subst W at h) in
+    let W : Inputs M → Type 0 = λ x. IsMade b m steps r i asked sent (More' e n P x Q beside.value) 0 false r' (More' e' n' P new Q beside.value) in
+    record {
+      count = u.count + 1;
+      spent = let q = u.spent in omega (arith, q, some);
+      run = run_then b m steps u.count 1 i asked sent r0 r r' t0 (More e n below beside) (More e' n' (with_value below new) beside) u.run
+          (run_once b m steps i asked sent 0 r r' (More e n below beside) (More e' n' (with_value below new) beside) (subst W at (h P Q beside.value)));
+    }
+
+-- a last move over the edge, by which the receiver ended
+pub ended_made : {M T : Type 0} (b : Machine M T) (m : Meaning T) (steps : Bool) (i asked sent budget left : ℕ) (r0 : M) (t0 : Inputs M) (r r' : M) (e e' : Edge) (n n' : M) (below beside : Rest M) (was new : Inputs M) →
+    IsUnderWay b m steps i asked sent budget r0 t0 left r (More e n below beside) → 0 < left → was ≡ below.value → ((p q : Hold) (u : Inputs M) → IsMade b m steps r i asked sent (More' e n p was q u) 0 true r' (More' e' n' p new q u)) →
+    (x : ℕ) × (x + (left - 1) ≡ budget) × IsRowEnded b m steps x i asked sent r0 t0 r' (More e' n' (with_value below new) beside)
+ended_made {M} b m steps i asked sent budget left r0 t0 r r' e e' n n' below beside was new u some at h =
+    let P : Hold = record { ptr = below.ptr; alloc = below.alloc; value = tt } in
+    let Q : Hold = record { ptr = beside.ptr; alloc = beside.alloc; value = tt } in
+    let W : Inputs M → Type 0 = λ x. IsMade b m steps r i asked sent (More' e n P x Q beside.value) 0 true r' (More' e' n' P new Q beside.value) in (
+      u.count + 1,
+      let q = u.spent in omega (arith, q, some),
+      record { before = u.count; count = refl; r1 = r; t1 = More e n below beside; at = 0; run = u.run; last = subst W at (h P Q beside.value) },
+    )
+
+pub under_way_sent : {M T : Type 0} (b : Machine M T) (m : Meaning T) (steps : Bool) (i asked sent budget left : ℕ) (r0 : M) (t0 : Inputs M) (r r' : M) (e e' : Edge) (n n' : M) (below beside : Rest M) →
+    IsUnderWay b m steps i asked sent budget r0 t0 left r (More e n below beside) → 0 < left → ((a s : ℕ) → IsSentOver b m r i a s e n r' e' n') → b.ended r' ≡ false → IsUnderWay b m steps i asked sent budget r0 t0 (left - 1) r' (More e' n' below beside)
+under_way_sent b m steps i asked sent budget left r0 t0 r r' e e' n n' below beside u some h o =
+    under_way_made b m steps i asked sent budget left r0 t0 r r' e e' n n' below beside below.value below.value u some refl (sent_here b m steps false i asked sent r r' e e' n n' below.value h o)
+
+pub under_way_asked : {M T : Type 0} (b : Machine M T) (m : Meaning T) (steps : Bool) (i asked sent budget left : ℕ) (r0 : M) (t0 : Inputs M) (r r' : M) (e e' : Edge) (n n' : M) (below beside : Rest M) →
+    IsUnderWay b m steps i asked sent budget r0 t0 left r (More e n below beside) → 0 < left → IsAskedOver b r i asked sent e n r' e' n' → IsUnderWay b m steps i asked sent budget r0 t0 (left - 1) r' (More e' n' below beside)
+under_way_asked b m steps i asked sent budget left r0 t0 r r' e e' n n' below beside u some h =
+    under_way_made b m steps i asked sent budget left r0 t0 r r' e e' n n' below beside below.value below.value u some refl (asked_here b m steps i asked sent r r' e e' n n' below.value h)
+
+-- no move over the edge, then a run below it
+pub under_way_below : {M T : Type 0} (b : Machine M T) (m : Meaning T) (steps : Bool) (i asked sent budget left left' k : ℕ) (over : Bool) (r0 : M) (t0 : Inputs M) (r r' : M) (e e' : Edge) (n n1 n' : M) (below beside : Rest M) (was now new : Inputs M) →
+    IsUnderWay b m steps i asked sent budget r0 t0 left r (More e n below beside) → r' ≡ r → e' ≡ e → n1 ≡ n → was ≡ below.value → k + left' ≡ left →
+    IsRowDriven b m steps k over 0 e'.demand.asked e'.demand.sent n1 was n' now → new ≡ closed_row_if over now → IsUnderWay b m steps i asked sent budget r0 t0 left' r' (More e' n' (with_value below new) beside)
+under_way_below {M} b m steps i asked sent budget left left' k over r0 t0 r r' e e' n n1 n' below beside was now new u same_r same_e same_n at spent h shut =
+    let R : M → Type 0 = λ x. IsRowRun b m steps u.count i asked sent r0 t0 x (More e n below beside) in
+    let E : Edge → Type 0 = λ x. IsRowRun b m steps u.count i asked sent r0 t0 r' (More x n below beside) in
+    let N : M → Type 0 = λ x. IsRowRun b m steps u.count i asked sent r0 t0 r' (More e' x below beside) in
+    let W : Inputs M → Type 0 = λ x. IsRowDriven b m steps k over 0 e'.demand.asked e'.demand.sent n1 x n' now in
+    let S : Inputs M → Type 0 = λ x. IsRowRun b m steps k i asked sent r' (More e' n1 below beside) r' (More e' n' (with_value below x) beside) in
+    let P : Hold = record { ptr = below.ptr; alloc = below.alloc; value = tt } in
+    let Q : Hold = record { ptr = beside.ptr; alloc = beside.alloc; value = tt } in
+    let more : IsRowRun b m steps k i asked sent r' (More e' n1 below beside) r' (More e' n' (with_value below (closed_row_if over now)) beside) = driven_below b m steps k over i asked sent r' e' n1 n' P below.value now Q beside.value (subst W at h) in
     record {
       count = u.count + k;
       spent = let q = u.spent in omega (arith, q, spent);
-      run = run_then b m false u.count k i asked sent r0 r' r' t0 (More e' n1 below beside) (More e' n' (with_value below new) beside) (subst N (sym same.2) (subst E (sym same.1) (subst R (sym same.0) u.run))) (subst S (sym shut) more);
+      run = run_then b m steps u.count k i asked sent r0 r' r' t0 (More e' n1 below beside) (More e' n' (with_value below new) beside) (subst N (sym same_n) (subst E (sym same_e) (subst R (sym same_r) u.run))) (subst S (sym shut) more);
     }
 
 -- a run of the inputs beside
-pub over_beside : {M T : Type 0} (b : Machine M T) (m : Meaning T) (i next asked sent budget left left' k : ℕ) (over : Bool) (r0 : M) (t0 : Inputs M) (r r' : M) (e : Edge) (n : M) (below beside : Rest M) (was now : Inputs M) →
-    IsUnderWay b m i asked sent budget r0 t0 left r (More e n below beside) → next ≡ i + 1 → was ≡ beside.value → k + left' ≡ left → IsRowDriven b m false k over next asked sent r was r' now →
-    (x : ℕ) × (x + left' ≡ budget) × IsRowDriven b m false x over i asked sent r0 t0 r' (More e n below (with_value beside now))
-over_beside {M} b m i next asked sent budget left left' k over r0 t0 r r' e n below beside was now u up at spent h =
-    let I : ℕ → Type 0 = λ j. IsRowDriven b m false k over j asked sent r was r' now in
-    let W : Inputs M → Type 0 = λ x. IsRowDriven b m false k over (i + 1) asked sent r x r' now in
+pub over_beside : {M T : Type 0} (b : Machine M T) (m : Meaning T) (steps : Bool) (i next asked sent budget left left' k : ℕ) (over : Bool) (r0 : M) (t0 : Inputs M) (r r' : M) (e : Edge) (n : M) (below beside : Rest M) (was now : Inputs M) →
+    IsUnderWay b m steps i asked sent budget r0 t0 left r (More e n below beside) → next ≡ i + 1 → was ≡ beside.value → k + left' ≡ left → IsRowDriven b m steps k over next asked sent r was r' now →
+    (x : ℕ) × (x + left' ≡ budget) × IsRowDriven b m steps x over i asked sent r0 t0 r' (More e n below (with_value beside now))
+over_beside {M} b m steps i next asked sent budget left left' k over r0 t0 r r' e n below beside was now u up at spent h =
+    let I : ℕ → Type 0 = λ j. IsRowDriven b m steps k over j asked sent r was r' now in
+    let W : Inputs M → Type 0 = λ x. IsRowDriven b m steps k over (i + 1) asked sent r x r' now in
     let P : Hold = record { ptr = below.ptr; alloc = below.alloc; value = tt } in
     let Q : Hold = record { ptr = beside.ptr; alloc = beside.alloc; value = tt } in (
       u.count + k,
       let q = u.spent in omega (arith, q, spent),
-      driven_then b m false u.count k over i asked sent r0 r r' t0 (More e n below beside) (More e n below (with_value beside now)) u.run (driven_beside b m false k over i asked sent r r' e n P below.value Q beside.value now (subst W at (subst I up h))),
+      driven_then b m steps u.count k over i asked sent r0 r r' t0 (More e n below beside) (More e n below (with_value beside now)) u.run (driven_beside b m steps k over i asked sent r r' e n P below.value Q beside.value now (subst W at (subst I up h))),
     )
 
 -- ---- idle
 
 -- a run of no moves
-pub nothing_done : {M T : Type 0} (b : Machine M T) (m : Meaning T) (k : ℕ) (over : Bool) (i asked sent : ℕ) (r r' : M) (t t' : Inputs M) → k ≡ 0 → IsRowDriven b m false k over i asked sent r t r' t' → (over ≡ false) × (r' ≡ r) × (t' ≡ t)
-nothing_done b m zero false i asked sent r r' t t' z h = (refl, h.0, h.1)
-nothing_done b m (suc k) false i asked sent r r' t t' z h = cc
-nothing_done b m k true i asked sent r r' t t' z h = let c = h.count in absurd (omega (arith, z, c))
+pub nothing_done : {M T : Type 0} (b : Machine M T) (m : Meaning T) (steps : Bool) (k : ℕ) (over : Bool) (i asked sent : ℕ) (r r' : M) (t t' : Inputs M) → k ≡ 0 → IsRowDriven b m steps k over i asked sent r t r' t' → (over ≡ false) × (r' ≡ r) × (t' ≡ t)
+nothing_done b m steps zero false i asked sent r r' t t' z h = (refl, h.0, h.1)
+nothing_done b m steps (suc k) false i asked sent r r' t t' z h = cc
+nothing_done b m steps k true i asked sent r r' t t' z h = let c = h.count in absurd (omega (arith, z, c))
 
 pub idle_end : {M T : Type 0} (b : Machine M T) (m : Meaning T) (r : M) (i asked sent : ℕ) (t : Inputs M) → t ≡ End → IsRowIdle b m r i asked sent t
-idle_end {M} b m r i asked sent t is = let Q : Inputs M → Type 0 = λ x. IsRowIdle b m r i asked sent x in subst Q (sym is) (λ at lt. (refl, refl))
+idle_end {M} b m r i asked sent t is = let Q : Inputs M → Type 0 = λ x. IsRowIdle b m r i asked sent x in subst Q (sym is) (λ at lt. (refl, refl, ((λ k l. refl), refl)))
+
+-- the same place and the same node
+pub rest_where : {M T : Type 0} (b : Machine M T) (m : Meaning T) (o o' : Option (Place M)) (s s' : Option (Station M)) → o ≡ o' → s ≡ s' → (can_ask_in b o' ≡ false) × (can_send_in b m o' ≡ false) × IsStill b s' → (can_ask_in b o ≡ false) × (can_send_in b m o ≡ false) × IsStill b s
+rest_where {M} b m o o' s s' is at h = let S : Option (Station M) → Type 0 = λ x. IsStill b x in (ap (can_ask_in b) is ∙ h.0, ap (can_send_in b m) is ∙ h.1, subst S (sym at) h.2)
 
 pub idle_whole : {M T : Type 0} (b : Machine M T) (m : Meaning T) (r : M) (i asked sent : ℕ) (e : Edge) (n : M) (below beside : Rest M) → IsDone b m r i asked sent e n below.value → IsRowIdle b m r (i + 1) asked sent beside.value → IsRowIdle b m r i asked sent (More e n below beside)
-idle_whole b m r i asked sent e n below beside d h zero lt = (d.ask, d.send)
+idle_whole b m r i asked sent e n below beside d h zero lt = (d.rest.ask, d.rest.send, d.rest.still)
 idle_whole {M} b m r i asked sent e n below beside d h (suc k) lt = deeper (nat_le (suc k) (size below.value)) refl
   where
-    deeper : (c : Bool) → nat_le (suc k) (size below.value) ≡ c → (can_ask_in b (place r i asked sent (More e n below beside) (suc k)) ≡ false) × (can_send_in b m (place r i asked sent (More e n below beside) (suc k)) ≡ false)
-    deeper true c =
-        let Q : Option (Place M) → Type 0 = λ o. (can_ask_in b o ≡ false) × (can_send_in b m o ≡ false) in
-        subst Q (sym (chosen_second (nat_eq (suc k) 0) _ _ (not_zero (suc k) (omega arith)) ∙ chosen_first (nat_le (suc k) (size below.value)) (place n 0 e.demand.asked e.demand.sent below.value (suc k - 1)) (place r (i + 1) asked sent beside.value (suc k - 1 - size below.value)) c)) (d.idle (suc k - 1) (omega (arith, lt)))
-    deeper false c =
-        let Q : Option (Place M) → Type 0 = λ o. (can_ask_in b o ≡ false) × (can_send_in b m o ≡ false) in
-        subst Q (sym (chosen_second (nat_eq (suc k) 0) _ _ (not_zero (suc k) (omega arith)) ∙ chosen_second (nat_le (suc k) (size below.value)) (place n 0 e.demand.asked e.demand.sent below.value (suc k - 1)) (place r (i + 1) asked sent beside.value (suc k - 1 - size below.value)) c)) (h (suc k - 1 - size below.value) (omega (arith, lt)))
+    deeper : (c : Bool) → nat_le (suc k) (size below.value) ≡ c → IsRestAt b m r i asked sent (More e n below beside) (suc k)
+    deeper true c = rest_where b m _ (place n 0 e.demand.asked e.demand.sent below.value (suc k - 1)) _ (station below.value (suc k - 1))
+        (chosen_second (nat_eq (suc k) 0) _ _ (not_zero (suc k) (omega arith)) ∙ chosen_first (nat_le (suc k) (size below.value)) (place n 0 e.demand.asked e.demand.sent below.value (suc k - 1)) (place r (i + 1) asked sent beside.value (suc k - 1 - size below.value)) c)
+        (chosen_second (nat_eq (suc k) 0) _ _ (not_zero (suc k) (omega arith)) ∙ chosen_first (nat_le (suc k) (size below.value)) (station below.value (suc k - 1)) (station beside.value (suc k - 1 - size below.value)) c)
+        (d.idle (suc k - 1) (omega (arith, lt)))
+    deeper false c = rest_where b m _ (place r (i + 1) asked sent beside.value (suc k - 1 - size below.value)) _ (station beside.value (suc k - 1 - size below.value))
+        (chosen_second (nat_eq (suc k) 0) _ _ (not_zero (suc k) (omega arith)) ∙ chosen_second (nat_le (suc k) (size below.value)) (place n 0 e.demand.asked e.demand.sent below.value (suc k - 1)) (place r (i + 1) asked sent beside.value (suc k - 1 - size below.value)) c)
+        (chosen_second (nat_eq (suc k) 0) _ _ (not_zero (suc k) (omega arith)) ∙ chosen_second (nat_le (suc k) (size below.value)) (station below.value (suc k - 1)) (station beside.value (suc k - 1 - size below.value)) c)
+        (h (suc k - 1 - size below.value) (omega (arith, lt)))
 
 pub idle_last : {M T : Type 0} (b : Machine M T) (m : Meaning T) (r : M) (i asked sent : ℕ) (e : Edge) (n : M) (below beside : Rest M) → 2 ^ 64 ≤ i + 1 → IsDone b m r i asked sent e n below.value → IsRowIdle b m r i asked sent (More e n below beside)
 idle_last b m r i asked sent e n below beside far d = idle_whole b m r i asked sent e n below beside d (λ at lt. absurd (omega (arith, far, lt)))
 
 -- no move over the edge, and none below it
-pub done_below : {M T : Type 0} (b : Machine M T) (m : Meaning T) (i asked sent k : ℕ) (over : Bool) (r r' : M) (e e' : Edge) (n n1 n' : M) (was now new : Inputs M) →
-    (r' ≡ r) × (e' ≡ e) × (n1 ≡ n) → can_ask_for (edge_view e) (b.wanted r i asked sent) ≡ false → can_send_over b m r i (edge_view e) n ≡ false →
-    k ≡ 0 → IsRowDriven b m false k over 0 e'.demand.asked e'.demand.sent n1 was n' now → new ≡ closed_row_if over now → IsRowIdle b m n' 0 e'.demand.asked e'.demand.sent now → IsDone b m r' i asked sent e' n' new
-done_below {M} b m i asked sent k over r r' e e' n n1 n' was now new same ask send none h shut idle =
-    let z = nothing_done b m k over 0 e'.demand.asked e'.demand.sent n1 n' was now none h in
+pub done_below : {M T : Type 0} (b : Machine M T) (m : Meaning T) (steps : Bool) (i asked sent k : ℕ) (over : Bool) (r r' : M) (e e' : Edge) (n n1 n' : M) (was now new : Inputs M) →
+    r' ≡ r → e' ≡ e → n1 ≡ n → IsRestOver b m r i asked sent e n →
+    k ≡ 0 → IsRowDriven b m steps k over 0 e'.demand.asked e'.demand.sent n1 was n' now → new ≡ closed_row_if over now → IsRowIdle b m n' 0 e'.demand.asked e'.demand.sent now → IsDone b m r' i asked sent e' n' new
+done_below {M} b m steps i asked sent k over r r' e e' n n1 n' was now new same_r same_e same_n rest none h shut idle =
+    let z = nothing_done b m steps k over 0 e'.demand.asked e'.demand.sent n1 n' was now none h in
     let I : Inputs M → Type 0 = λ x. IsRowIdle b m n' 0 e'.demand.asked e'.demand.sent x in
+    let R : M → Type 0 = λ x. IsRestOver b m x i asked sent e n in
+    let E : Edge → Type 0 = λ x. IsRestOver b m r' i asked sent x n in
+    let N : M → Type 0 = λ x. IsRestOver b m r' i asked sent e' x in
     record {
-      ask = ap (λ x. can_ask_for (edge_view x) (b.wanted r' i asked sent)) same.1 ∙ (ap (λ x. can_ask_for (edge_view e) (b.wanted x i asked sent)) same.0 ∙ ask);
-      send = ap (λ x. can_send_over b m x i (edge_view e') n') same.0 ∙ (ap (λ x. can_send_over b m r i (edge_view x) n') same.1 ∙ (ap (λ x. can_send_over b m r i (edge_view e) x) (z.1 ∙ same.2) ∙ send));
+      rest = subst N (sym (z.1 ∙ same_n)) (subst E (sym same_e) (subst R (sym same_r) rest));
       idle = subst I (sym (shut ∙ ap (λ c. closed_row_if c now) z.0)) idle;
     }
 
@@ -354,21 +409,27 @@ still_some true k e = cc
 still_some false zero e = cc
 still_some false (suc k) e = omega arith
 
-pub idle_beside : {M T : Type 0} (b : Machine M T) (m : Meaning T) (i next asked sent k : ℕ) (over : Bool) (r r' : M) (e : Edge) (n : M) (below beside : Rest M) (was now : Inputs M) →
-    IsDone b m r i asked sent e n below.value → next ≡ i + 1 → k ≡ 0 → IsRowDriven b m false k over next asked sent r was r' now → IsRowIdle b m r' next asked sent now → IsRowIdle b m r' i asked sent (More e n below (with_value beside now))
-idle_beside {M} b m i next asked sent k over r r' e n below beside was now d up none h idle =
-    let z = nothing_done b m k over next asked sent r r' was now none h in
+pub idle_beside : {M T : Type 0} (b : Machine M T) (m : Meaning T) (steps : Bool) (i next asked sent k : ℕ) (over : Bool) (r r' : M) (e : Edge) (n : M) (below beside : Rest M) (was now : Inputs M) →
+    IsDone b m r i asked sent e n below.value → next ≡ i + 1 → k ≡ 0 → IsRowDriven b m steps k over next asked sent r was r' now → IsRowIdle b m r' next asked sent now → IsRowIdle b m r' i asked sent (More e n below (with_value beside now))
+idle_beside {M} b m steps i next asked sent k over r r' e n below beside was now d up none h idle =
+    let z = nothing_done b m steps k over next asked sent r r' was now none h in
     let D : M → Type 0 = λ x. IsDone b m x i asked sent e n below.value in
     let I : ℕ → Type 0 = λ j. IsRowIdle b m r' j asked sent now in
     idle_whole b m r' i asked sent e n below (with_value beside now) (subst D (sym z.1) d) (subst I up idle)
 
 -- ---- a run leaves as many nodes
 
-pub size_run : {M T : Type 0} (b : Machine M T) (m : Meaning T) (k i asked sent : ℕ) (r r' : M) (t t' : Inputs M) → IsRowRun b m false k i asked sent r t r' t' → size t' ≡ size t
-size_run b m zero i asked sent r r' t t' h = ap size h.1
-size_run b m (suc k) i asked sent r r' t t' h = size_run b m k i asked sent h.1 r' h.2 t' h.4 ∙ elim h.3 [
+pub size_run : {M T : Type 0} (b : Machine M T) (m : Meaning T) (steps : Bool) (k i asked sent : ℕ) (r r' : M) (t t' : Inputs M) → IsRowRun b m steps k i asked sent r t r' t' → size t' ≡ size t
+size_run b m steps zero i asked sent r r' t t' h = ap size h.1
+size_run b m steps (suc k) i asked sent r r' t t' h = size_run b m steps k i asked sent h.1 r' h.2 t' h.4 ∙ elim h.3 [
   | inl x ↦ (row_asked b (λ n. false) r i asked sent t h.0 h.1 h.2 (λ n. refl) x.made).size
-  | inr y ↦ elim y [ inl x ↦ size_sent b m b.ended r i asked sent t h.0 h.1 h.2 (x.made asked sent) | inr z ↦ let f = z.0 in cc ]
+  | inr y ↦ elim y [
+    | inl x ↦ size_sent b m b.ended r i asked sent t h.0 h.1 h.2 (x.made asked sent)
+    | inr z ↦ elim z.1.made [
+      | inl x ↦ (step_noted b m (IsPickedHere b m x.0) (λ n k. note_then (b.recording n x.0) k) (λ n k. note_then k (b.recording n x.0)) (pick_notes b m x.0) t h.0 h.2 x.1).size
+      | inr x ↦ (step_noted b m (IsRowMadeHere b m) (λ n k. k) (λ n k. k) (row_notes b m) t h.0 h.2 x).size
+    ]
+  ]
 ]
 
 -- ---- a tree
@@ -385,60 +446,87 @@ send_anywhere b m r i a s a' s' (More' e n p below q beside) at =
     if_same (can_send_in b m) (nat_eq at 0) (nat_le at (size below)) _ _ _ (place r (i + 1) a s beside (at - 1 - size below)) (place r (i + 1) a' s' beside (at - 1 - size below)) refl (send_anywhere b m r (i + 1) a s a' s' beside (at - 1 - size below))
 
 pub idle_tree : {M T : Type 0} (b : Machine M T) (m : Meaning T) (r : M) (t : Inputs M) (asked sent : ℕ) → IsRowIdle b m r 0 asked sent t → IsIdle b m (node r t) asked sent
-idle_tree b m r t asked sent h at lt = let q = h at (omega (arith, lt)) in (q.0, send_anywhere b m r 0 0 0 asked sent t at ∙ q.1)
+idle_tree b m r t asked sent h at lt = let q = h at (omega (arith, lt)) in (q.0, send_anywhere b m r 0 0 0 asked sent t at ∙ q.1, q.2)
 
 receiver_same : {M T : Type 0} (b : Machine M T) (ends : M → Bool) (r : M) (i asked sent : ℕ) (t : Inputs M) (at : ℕ) (r' : M) (t' : Inputs M) → IsChanged (IsAskedOver b) ends r i asked sent t at r' t' → r' ≡ r
 receiver_same b ends r i asked sent End at r' t' h = absurd h
 receiver_same b ends r i asked sent (More' e n p below q beside) at r' t' h = elim h [ inl x ↦ x.made.receiver | inr y ↦ elim y [ inl x ↦ x.receiver | inr x ↦ receiver_same b ends r (i + 1) asked sent beside (at - 1 - size below) r' x.beside' x.made ] ]
 
+-- a pick or a row of a node of the root's row
+stepped_chosen : {M T : Type 0} (b : Machine M T) (m : Meaning T) (r : M) (asked sent at : ℕ) (t t' : Inputs M) → ((input : ℕ) × IsStepped (IsPickedHere b m input) b.ended t at t') ⊎ IsStepped (IsRowMadeHere b m) b.ended t at t' →
+    IsChosen b m (node r t) (node r t') × ((s : ℕ) → IsBalanced b (node r t) s → IsBalanced b (node r t') s)
+stepped_chosen b m r asked sent at t t' h =
+    let e : EdgeView = record { asked = asked; sent = sent; state = Live } in
+    elim h [
+      | inl k ↦ (let n = picked_noted b m k.0 (node r t) e (suc at) (node r t') (record { machine = refl; made = k.1 }) in (n.chosen, n.balance))
+      | inr k ↦ (let n = row_noted b m (node r t) e (suc at) (node r t') (record { machine = refl; made = k }) in (n.chosen, n.balance))
+    ]
+
 -- a move of the root's row, where the root then closes it if it ended
-advanced : {M T : Type 0} (b : Machine M T) (m : Meaning T) (r r' : M) (asked sent at : ℕ) (ends : Bool) (t mid : Inputs M) → IsMade b m false r 0 asked sent t at ends r' mid → IsAdvanced b m false (node r t) asked sent (node r' (closed_row_if ends mid))
-advanced {M} b m r r' asked sent at ends t mid h = elim h [
+pub advanced : {M T : Type 0} (b : Machine M T) (m : Meaning T) (steps : Bool) (r r' : M) (asked sent at : ℕ) (ends : Bool) (t mid : Inputs M) → IsMade b m steps r 0 asked sent t at ends r' mid → IsAdvanced b m steps (node r t) asked sent (node r' (closed_row_if ends mid))
+advanced {M} b m steps r r' asked sent at ends t mid h = elim h [
   | inl x ↦
-      let C : Bool → Type 0 = λ c. IsAdvanced b m false (node r t) asked sent (node r' (closed_row_if c mid)) in
-      let R : M → Type 0 = λ k. IsAdvanced b m false (node r t) asked sent (node k mid) in
+      let C : Bool → Type 0 = λ c. IsAdvanced b m steps (node r t) asked sent (node r' (closed_row_if c mid)) in
+      let R : M → Type 0 = λ k. IsAdvanced b m steps (node r t) asked sent (node k mid) in
       let S : M → Type 0 = λ k. IsChanged (IsAskedOver b) (λ n. false) r 0 asked sent t at k mid in
       let same = receiver_same b (λ n. false) r 0 asked sent t at r' mid x.made in
       let made : IsChanged (IsAskedOver b) (λ n. false) r 0 asked sent t at r mid = subst S same x.made in
+      let kept = kept_asked b m r asked sent at t mid made in
       subst C (sym x.stays) (subst R (sym same) (record {
         at = at;
         made = inl (can_asked b r asked sent at t mid made, asked_effect b r asked sent at t mid made);
-        kept = λ _. kept_asked b m r asked sent at t mid made;
-        balance = λ _ s k. tree_ask_balanced b r asked sent t at mid s made k;
+        kept = λ _. kept;
+        chosen = kept_chosen b m (node r t) (node r mid) kept;
+        balance = λ s k. tree_ask_balanced b r asked sent t at mid s made k;
       }))
   | inr y ↦ elim y [
     | inl x ↦
+        let kept = kept_sent b m r r' at t mid (closed_row_if ends mid) ends (x.made 0 0) refl in
         record {
           at = at;
           made = inr (inl (can_sent b m r r' at t mid (x.made 0 0), sent_effect b m r r' at t mid (closed_row_if ends mid) (x.made 0 0) (ap (λ c. closed_row_if c mid) x.ends_is)));
-          kept = λ _. kept_sent b m r r' at t mid (closed_row_if ends mid) ends (x.made 0 0) refl;
-          balance = λ _ s k. tree_send_balanced b m r r' 0 0 t at mid (closed_row_if ends mid) s (x.made 0 0) (ap (λ c. closed_row_if c mid) x.ends_is) k;
+          kept = λ _. kept;
+          chosen = kept_chosen b m (node r t) (node r' (closed_row_if ends mid)) kept;
+          balance = λ s k. tree_send_balanced b m r r' 0 0 t at mid (closed_row_if ends mid) s (x.made 0 0) (ap (λ c. closed_row_if c mid) x.ends_is) k;
         }
-    | inr z ↦ let f = z.0 in cc
+    | inr z ↦
+        let C : Bool → Type 0 = λ c. IsAdvanced b m steps (node r t) asked sent (node r' (closed_row_if c mid)) in
+        let R : M → Type 0 = λ k. IsAdvanced b m steps (node r t) asked sent (node k mid) in
+        let both = stepped_chosen b m r asked sent at t mid z.1.made in
+        subst C (sym z.1.stays) (subst R (sym z.1.receiver) (record {
+          at = at;
+          made = inr (inr (z.0, record { made = z.1.made; receiver = refl; stays = refl }));
+          kept = λ f. absurd (never steps z.0 f);
+          chosen = both.0;
+          balance = both.1;
+        }))
   ]
 ]
+  where
+    never : (c : Bool) → c ≡ true → c ≡ false → ⊥
+    never c x y = cc
 
-pub tree_run : {M T : Type 0} (b : Machine M T) (m : Meaning T) (k asked sent : ℕ) (r r' : M) (t t' : Inputs M) → IsRowRun b m false k 0 asked sent r t r' t' → IsDriven b m false k (node r t) asked sent (node r' t')
-tree_run b m zero asked sent r r' t t' h = ap (λ x. node x t') h.0 ∙ ap (λ x. node r x) h.1
-tree_run b m (suc k) asked sent r r' t t' h = (node h.1 h.2, advanced b m r h.1 asked sent h.0 false t h.2 h.3, tree_run b m k asked sent h.1 r' h.2 t' h.4)
+pub tree_run : {M T : Type 0} (b : Machine M T) (m : Meaning T) (steps : Bool) (k asked sent : ℕ) (r r' : M) (t t' : Inputs M) → IsRowRun b m steps k 0 asked sent r t r' t' → IsDriven b m steps k (node r t) asked sent (node r' t')
+tree_run b m steps zero asked sent r r' t t' h = ap (λ x. node x t') h.0 ∙ ap (λ x. node r x) h.1
+tree_run b m steps (suc k) asked sent r r' t t' h = (node h.1 h.2, advanced b m steps r h.1 asked sent h.0 false t h.2 h.3, tree_run b m steps k asked sent h.1 r' h.2 t' h.4)
 
-tree_then : {M T : Type 0} (b : Machine M T) (m : Meaning T) (n k : ℕ) (x y z : Node M) (asked sent : ℕ) → IsDriven b m false n x asked sent y → IsDriven b m false k y asked sent z → IsDriven b m false (n + k) x asked sent z
-tree_then {M} b m zero k x y z asked sent first rest =
-    let P : Node M → Type 0 = λ t. IsDriven b m false k t asked sent z in
-    let Q : ℕ → Type 0 = λ j. IsDriven b m false j x asked sent z in
+pub tree_then : {M T : Type 0} (b : Machine M T) (m : Meaning T) (steps : Bool) (n k : ℕ) (x y z : Node M) (asked sent : ℕ) → IsDriven b m steps n x asked sent y → IsDriven b m steps k y asked sent z → IsDriven b m steps (n + k) x asked sent z
+tree_then {M} b m steps zero k x y z asked sent first rest =
+    let P : Node M → Type 0 = λ t. IsDriven b m steps k t asked sent z in
+    let Q : ℕ → Type 0 = λ j. IsDriven b m steps j x asked sent z in
     let same : k ≡ 0 + k = omega arith in
     subst Q same (subst P first rest)
-tree_then {M} b m (suc n) k x y z asked sent first rest =
-    let Q : ℕ → Type 0 = λ j. IsDriven b m false j x asked sent z in
-    let more : IsDriven b m false (suc (n + k)) x asked sent z = (first.0, first.1, tree_then b m n k first.0 y z asked sent first.2 rest) in
+tree_then {M} b m steps (suc n) k x y z asked sent first rest =
+    let Q : ℕ → Type 0 = λ j. IsDriven b m steps j x asked sent z in
+    let more : IsDriven b m steps (suc (n + k)) x asked sent z = (first.0, first.1, tree_then b m steps n k first.0 y z asked sent first.2 rest) in
     let same : suc (n + k) ≡ suc n + k = omega arith in
     subst Q same more
 
-tree_driven : {M T : Type 0} (b : Machine M T) (m : Meaning T) (k : ℕ) (over : Bool) (asked sent : ℕ) (r r' : M) (t t' : Inputs M) → IsRowDriven b m false k over 0 asked sent r t r' t' → IsDriven b m false k (node r t) asked sent (node r' (closed_row_if over t'))
-tree_driven b m k false asked sent r r' t t' h = tree_run b m k asked sent r r' t t' h
-tree_driven {M} b m k true asked sent r r' t t' h =
-    let Q : ℕ → Type 0 = λ j. IsDriven b m false j (node r t) asked sent (node r' (closed_row_if true t')) in
-    subst Q (sym h.count) (tree_then b m h.before 1 (node r t) (node h.r1 h.t1) (node r' (closed_row_if true t')) asked sent (tree_run b m h.before asked sent r h.r1 t h.t1 h.run) (node r' (closed_row_if true t'), advanced b m h.r1 r' asked sent h.at true h.t1 t' h.last, refl))
+pub tree_driven : {M T : Type 0} (b : Machine M T) (m : Meaning T) (steps : Bool) (k : ℕ) (over : Bool) (asked sent : ℕ) (r r' : M) (t t' : Inputs M) → IsRowDriven b m steps k over 0 asked sent r t r' t' → IsDriven b m steps k (node r t) asked sent (node r' (closed_row_if over t'))
+tree_driven b m steps k false asked sent r r' t t' h = tree_run b m steps k asked sent r r' t t' h
+tree_driven {M} b m steps k true asked sent r r' t t' h =
+    let Q : ℕ → Type 0 = λ j. IsDriven b m steps j (node r t) asked sent (node r' (closed_row_if true t')) in
+    subst Q (sym h.count) (tree_then b m steps h.before 1 (node r t) (node h.r1 h.t1) (node r' (closed_row_if true t')) asked sent (tree_run b m steps h.before asked sent r h.r1 t h.t1 h.run) (node r' (closed_row_if true t'), advanced b m steps h.r1 r' asked sent h.at true h.t1 t' h.last, refl))
 
 pub kept_run : {M T : Type 0} (b : Machine M T) (m : Meaning T) (k : ℕ) (x y : Node M) (asked sent : ℕ) → IsDriven b m false k x asked sent y → IsKept b m x y
 kept_run {M} b m zero x y asked sent h = let Q : Node M → Type 0 = λ t. IsKept b m x t in subst Q (sym h) (record { value = λ hubs further at. refl; notes = refl })
@@ -447,85 +535,62 @@ kept_run b m (suc k) x y asked sent h =
     let one = h.1.kept refl in
     record { value = λ hubs further at. rest.value hubs further at ∙ one.value hubs further at; notes = rest.notes ∙ one.notes }
 
-pub balance_run : {M T : Type 0} (b : Machine M T) (m : Meaning T) (k : ℕ) (x y : Node M) (asked sent : ℕ) → IsDriven b m false k x asked sent y → (s : ℕ) → IsBalanced b x s → IsBalanced b y s
-balance_run {M} b m zero x y asked sent h s w = let Q : Node M → Type 0 = λ t. IsBalanced b t s in subst Q (sym h) w
-balance_run b m (suc k) x y asked sent h s w = balance_run b m k h.0 y asked sent h.2 s (h.1.balance refl s w)
+none_chosen : {M T : Type 0} (b : Machine M T) (m : Meaning T) (x : Node M) → IsChosen b m x x
+none_chosen b m x = kept_chosen b m x x (record { value = λ hubs further at. refl; notes = refl })
 
-pub tree_begun : {M T : Type 0} (b : Machine M T) (m : Meaning T) (x : Node M) (asked sent budget : ℕ) → IsTreeUnderWay b m x asked sent budget budget x
-tree_begun b m x asked sent budget = record { count = 0; spent = omega arith; run = refl; kept = kept_run b m 0 x x asked sent refl; balance = λ s k. k }
+pub chosen_run : {M T : Type 0} (b : Machine M T) (m : Meaning T) (steps : Bool) (k : ℕ) (x y : Node M) (asked sent : ℕ) → IsDriven b m steps k x asked sent y → IsChosen b m x y
+chosen_run {M} b m steps zero x y asked sent h = let Q : Node M → Type 0 = λ t. IsChosen b m x t in subst Q (sym h) (none_chosen b m x)
+chosen_run b m steps (suc k) x y asked sent h = chosen_then b m x h.0 y h.1.chosen (chosen_run b m steps k h.0 y asked sent h.2)
 
-pub tree_under_way : {M T : Type 0} (b : Machine M T) (m : Meaning T) (x : Node M) (asked sent budget left left' k : ℕ) (over : Bool) (r r' : M) (t now new : Inputs M) →
-    IsTreeUnderWay b m x asked sent budget left (node r t) → k + left' ≡ left → IsRowDriven b m false k over 0 asked sent r t r' now → new ≡ closed_row_if over now → IsTreeUnderWay b m x asked sent budget left' (node r' new)
-tree_under_way {M} b m x asked sent budget left left' k over r r' t now new u spent h shut =
-    let Q : Inputs M → Type 0 = λ z. IsDriven b m false (u.count + k) x asked sent (node r' z) in
-    let run : IsDriven b m false (u.count + k) x asked sent (node r' new) = subst Q (sym shut) (tree_then b m u.count k x (node r t) (node r' (closed_row_if over now)) asked sent u.run (tree_driven b m k over asked sent r r' t now h)) in
-    record { count = u.count + k; spent = let q = u.spent in omega (arith, q, spent); run = run; kept = kept_run b m (u.count + k) x (node r' new) asked sent run; balance = balance_run b m (u.count + k) x (node r' new) asked sent run }
+pub balance_run : {M T : Type 0} (b : Machine M T) (m : Meaning T) (steps : Bool) (k : ℕ) (x y : Node M) (asked sent : ℕ) → IsDriven b m steps k x asked sent y → (s : ℕ) → IsBalanced b x s → IsBalanced b y s
+balance_run {M} b m steps zero x y asked sent h s w = let Q : Node M → Type 0 = λ t. IsBalanced b t s in subst Q (sym h) w
+balance_run b m steps (suc k) x y asked sent h s w = balance_run b m steps k h.0 y asked sent h.2 s (h.1.balance s w)
+
+-- a run with no picks and rows is one of all moves
+pub any_moves : {M T : Type 0} (b : Machine M T) (m : Meaning T) (k : ℕ) (x y : Node M) (asked sent : ℕ) → IsDriven b m false k x asked sent y → IsDriven b m true k x asked sent y
+any_moves b m zero x y asked sent h = h
+any_moves {M} b m (suc k) x y asked sent h = (
+  h.0,
+  record {
+    at = h.1.at;
+    made = elim h.1.made [ inl a ↦ inl a | inr o ↦ elim o [ inl a ↦ inr (inl a) | inr a ↦ absurd (never a.0) ] ];
+    kept = λ f. absurd (never (sym f));
+    chosen = h.1.chosen;
+    balance = h.1.balance;
+  },
+  any_moves b m k h.0 y asked sent h.2,
+)
+  where
+    never : false ≡ true → ⊥
+    never e = cc
+
+pub tree_begun : {M T : Type 0} (b : Machine M T) (m : Meaning T) (steps : Bool) (x : Node M) (asked sent budget : ℕ) → IsTreeUnderWay b m steps x asked sent budget budget x
+tree_begun b m steps x asked sent budget = record { count = 0; spent = omega arith; run = refl; chosen = none_chosen b m x; balance = λ s k. k }
+
+pub tree_under_way : {M T : Type 0} (b : Machine M T) (m : Meaning T) (steps : Bool) (x : Node M) (asked sent budget left left' k : ℕ) (over : Bool) (r r' : M) (t now new : Inputs M) →
+    IsTreeUnderWay b m steps x asked sent budget left (node r t) → k + left' ≡ left → IsRowDriven b m steps k over 0 asked sent r t r' now → new ≡ closed_row_if over now → IsTreeUnderWay b m steps x asked sent budget left' (node r' new)
+tree_under_way {M} b m steps x asked sent budget left left' k over r r' t now new u spent h shut =
+    let Q : Inputs M → Type 0 = λ z. IsDriven b m steps (u.count + k) x asked sent (node r' z) in
+    let run : IsDriven b m steps (u.count + k) x asked sent (node r' new) = subst Q (sym shut) (tree_then b m steps u.count k x (node r t) (node r' (closed_row_if over now)) asked sent u.run (tree_driven b m steps k over asked sent r r' t now h)) in
+    record { count = u.count + k; spent = let q = u.spent in omega (arith, q, spent); run = run; chosen = chosen_run b m steps (u.count + k) x (node r' new) asked sent run; balance = balance_run b m steps (u.count + k) x (node r' new) asked sent run }
 
 -- a pass that made no move found none
-pub idle_after : {M T : Type 0} (b : Machine M T) (m : Meaning T) (k : ℕ) (over : Bool) (asked sent : ℕ) (r r' : M) (t now new : Inputs M) → k ≡ 0 → IsRowDriven b m false k over 0 asked sent r t r' now → new ≡ closed_row_if over now → IsRowIdle b m r' 0 asked sent now → IsIdle b m (node r' new) asked sent
-idle_after {M} b m k over asked sent r r' t now new none h shut idle =
-    let z = nothing_done b m k over 0 asked sent r r' t now none h in
+pub idle_after : {M T : Type 0} (b : Machine M T) (m : Meaning T) (steps : Bool) (k : ℕ) (over : Bool) (asked sent : ℕ) (r r' : M) (t now new : Inputs M) → k ≡ 0 → IsRowDriven b m steps k over 0 asked sent r t r' now → new ≡ closed_row_if over now → IsRowIdle b m r' 0 asked sent now → IsIdle b m (node r' new) asked sent
+idle_after {M} b m steps k over asked sent r r' t now new none h shut idle =
+    let z = nothing_done b m steps k over 0 asked sent r r' t now none h in
     let Q : Inputs M → Type 0 = λ u. IsIdle b m (node r' u) asked sent in
     subst Q (sym (shut ∙ ap (λ c. closed_row_if c now) z.0)) (idle_tree b m r' now asked sent idle)
+
+pub none_left : (k : ℕ) → nat_eq k 0 ≡ true → 0 < k → ⊥
+none_left k e some = both (nat_eq k 0) e (not_zero k some)
+  where
+    both : (c : Bool) → c ≡ true → c ≡ false → ⊥
+    both c x y = cc
 
 pub pass_same : (k left : ℕ) → (nat_eq k left || nat_eq k 0) ≡ true → 0 < k → k ≡ left
 pass_same k left e some = grind (arith, nat_tests)
 
 -- ---- looks
 
-Enabled : {M T : Type 0} → Machine M T → Meaning T → Option (Place M) → Type 0
-Enabled b m o = (can_ask_in b o ≡ true) ⊎ (can_send_in b m o ≡ true)
-
 pub row_tree : {M : Type 0} (Q : Inputs M → Type 0) (t : Inputs M) (e : Edge) (n : M) (below beside : Rest M) → t ≡ More e n below beside → Q (More e n below beside) → Q t
 row_tree Q t e n below beside is h = subst Q (sym is) h
-
-pub busy_here : {M T : Type 0} (b : Machine M T) (m : Meaning T) (r : M) (i asked sent : ℕ) (t : Inputs M) (e : Edge) (n : M) (below beside : Rest M) → t ≡ More e n below beside →
-    ((can_ask_for (edge_view e) (b.wanted r i asked sent) ≡ true) ⊎ (can_send_over b m r i (edge_view e) n ≡ true)) → IsRowBusy b m r i asked sent t
-busy_here b m r i asked sent t e n below beside is h = row_tree (λ x. IsRowBusy b m r i asked sent x) t e n below beside is (record { at = 0; within = omega arith; enabled = h })
-
-pub busy_below : {M T : Type 0} (b : Machine M T) (m : Meaning T) (r : M) (i asked sent : ℕ) (t : Inputs M) (e : Edge) (n : M) (below beside : Rest M) (was : Inputs M) → t ≡ More e n below beside → was ≡ below.value →
-    IsRowBusy b m n 0 e.demand.asked e.demand.sent was → IsRowBusy b m r i asked sent t
-busy_below {M} b m r i asked sent t e n below beside was is at h =
-    let W : Inputs M → Type 0 = λ x. IsRowBusy b m n 0 e.demand.asked e.demand.sent x in
-    let k = subst W at h in
-    let Q : Option (Place M) → Type 0 = λ o. (can_ask_in b o ≡ true) ⊎ (can_send_in b m o ≡ true) in
-    let N : ℕ → Type 0 = λ j. Q (place n 0 e.demand.asked e.demand.sent below.value j) in
-    let w = k.within in
-    row_tree (λ x. IsRowBusy b m r i asked sent x) t e n below beside is (record {
-      at = k.at + 1;
-      within = omega (arith, w);
-      enabled = subst Q (sym (chosen_second (nat_eq (k.at + 1) 0) _ _ (not_zero (k.at + 1) (omega arith)) ∙ chosen_first (nat_le (k.at + 1) (size below.value)) (place n 0 e.demand.asked e.demand.sent below.value (k.at + 1 - 1)) (place r (i + 1) asked sent beside.value (k.at + 1 - 1 - size below.value)) (is_within (k.at + 1) (size below.value) (omega (arith, w))))) (subst N (back k.at) k.enabled);
-    })
-
-pub busy_beside : {M T : Type 0} (b : Machine M T) (m : Meaning T) (r : M) (i next asked sent : ℕ) (t : Inputs M) (e : Edge) (n : M) (below beside : Rest M) (was : Inputs M) → t ≡ More e n below beside → was ≡ beside.value → next ≡ i + 1 →
-    IsRowBusy b m r next asked sent was → IsRowBusy b m r i asked sent t
-busy_beside {M} b m r i next asked sent t e n below beside was is at up h =
-    let I : ℕ → Type 0 = λ j. IsRowBusy b m r j asked sent was in
-    let W : Inputs M → Type 0 = λ x. IsRowBusy b m r (i + 1) asked sent x in
-    let k = subst W at (subst I up h) in
-    let Q : Option (Place M) → Type 0 = λ o. (can_ask_in b o ≡ true) ⊎ (can_send_in b m o ≡ true) in
-    let N : ℕ → Type 0 = λ j. Q (place r (i + 1) asked sent beside.value j) in
-    let w = k.within in
-    let pos : ℕ = k.at + 1 + size below.value in
-    row_tree (λ x. IsRowBusy b m r i asked sent x) t e n below beside is (record {
-      at = k.at + 1 + size below.value;
-      within = omega (arith, w);
-      enabled = subst Q (sym (chosen_second (nat_eq (k.at + 1 + size below.value) 0) _ _ (not_zero (k.at + 1 + size below.value) (omega arith)) ∙ chosen_second (nat_le (k.at + 1 + size below.value) (size below.value)) (place n 0 e.demand.asked e.demand.sent below.value (k.at + 1 + size below.value - 1)) (place r (i + 1) asked sent beside.value (k.at + 1 + size below.value - 1 - size below.value)) (is_beyond (k.at + 1 + size below.value) (size below.value) (omega arith)))) (subst N (back_over k.at (size below.value)) k.enabled);
-    })
-
-pub idle_row : {M T : Type 0} (b : Machine M T) (m : Meaning T) (r : M) (i next asked sent : ℕ) (t : Inputs M) (e : Edge) (n : M) (below beside : Rest M) (was was' : Inputs M) → t ≡ More e n below beside → was ≡ below.value → was' ≡ beside.value → next ≡ i + 1 →
-    can_ask_for (edge_view e) (b.wanted r i asked sent) ≡ false → can_send_over b m r i (edge_view e) n ≡ false → IsRowIdle b m n 0 e.demand.asked e.demand.sent was → IsRowIdle b m r next asked sent was' → IsRowIdle b m r i asked sent t
-idle_row {M} b m r i next asked sent t e n below beside was was' is at at' up ask send h k =
-    let B : Inputs M → Type 0 = λ x. IsRowIdle b m n 0 e.demand.asked e.demand.sent x in
-    let I : ℕ → Type 0 = λ j. IsRowIdle b m r j asked sent was' in
-    let W : Inputs M → Type 0 = λ x. IsRowIdle b m r (i + 1) asked sent x in
-    row_tree (λ x. IsRowIdle b m r i asked sent x) t e n below beside is (idle_whole b m r i asked sent e n below beside (record { ask = ask; send = send; idle = subst B at h }) (subst W at' (subst I up k)))
-
-pub idle_row_last : {M T : Type 0} (b : Machine M T) (m : Meaning T) (r : M) (i asked sent : ℕ) (t : Inputs M) (e : Edge) (n : M) (below beside : Rest M) (was : Inputs M) → t ≡ More e n below beside → was ≡ below.value → 2 ^ 64 ≤ i + 1 →
-    can_ask_for (edge_view e) (b.wanted r i asked sent) ≡ false → can_send_over b m r i (edge_view e) n ≡ false → IsRowIdle b m n 0 e.demand.asked e.demand.sent was → IsRowIdle b m r i asked sent t
-idle_row_last {M} b m r i asked sent t e n below beside was is at far ask send h =
-    let B : Inputs M → Type 0 = λ x. IsRowIdle b m n 0 e.demand.asked e.demand.sent x in
-    row_tree (λ x. IsRowIdle b m r i asked sent x) t e n below beside is (idle_last b m r i asked sent e n below beside far (record { ask = ask; send = send; idle = subst B at h }))
-
-pub busy_tree : {M T : Type 0} (b : Machine M T) (m : Meaning T) (r : M) (t : Inputs M) (asked sent : ℕ) → IsRowBusy b m r 0 asked sent t → IsBusy b m (node r t) asked sent
-busy_tree b m r t asked sent h = record { at = h.at; within = h.within; enabled = elim h.enabled [ inl x ↦ inl x | inr x ↦ inr (send_anywhere b m r 0 0 0 asked sent t h.at ∙ x) ] }

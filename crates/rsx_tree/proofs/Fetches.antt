@@ -41,43 +41,43 @@ sent_over b m r i e n r' e' n' x out taken can carried asked sent = record {
 
 -- ---- the loop over the edge of the first input
 
-pub size_under_way : {M T : Type 0} (b : Machine M T) (m : Meaning T) (i asked sent budget : ℕ) (r0 : M) (t0 : Inputs M) (left : ℕ) (r : M) (t : Inputs M) → IsUnderWay b m i asked sent budget r0 t0 left r t → size t ≡ size t0
-size_under_way b m i asked sent budget r0 t0 left r t u = size_run b m u.count i asked sent r0 r t0 t u.run
+pub size_under_way : {M T : Type 0} (b : Machine M T) (m : Meaning T) (i asked sent budget : ℕ) (r0 : M) (t0 : Inputs M) (left : ℕ) (r : M) (t : Inputs M) → IsUnderWay b m false i asked sent budget r0 t0 left r t → size t ≡ size t0
+size_under_way b m i asked sent budget r0 t0 left r t u = size_run b m false u.count i asked sent r0 r t0 t u.run
 
 -- the row below the edge is smaller than the whole
-pub below_smaller : {M T : Type 0} (b : Machine M T) (m : Meaning T) (i asked sent budget : ℕ) (r0 : M) (t0 : Inputs M) (left : ℕ) (r : M) (e : Edge) (n : M) (below beside : Rest M) → IsUnderWay b m i asked sent budget r0 t0 left r (More e n below beside) → size below.value < size t0
+pub below_smaller : {M T : Type 0} (b : Machine M T) (m : Meaning T) (i asked sent budget : ℕ) (r0 : M) (t0 : Inputs M) (left : ℕ) (r : M) (e : Edge) (n : M) (below beside : Rest M) → IsUnderWay b m false i asked sent budget r0 t0 left r (More e n below beside) → size below.value < size t0
 below_smaller b m i asked sent budget r0 t0 left r e n below beside u =
     let whole : size below.value + size beside.value + 1 ≡ size t0 = size_under_way b m i asked sent budget r0 t0 left r (More e n below beside) u in
     omega (arith, whole)
 
 -- what was done where no item came of it
-pub fetched_none : {M T : Type 0} (b : Machine M T) (m : Meaning T) (asked sent budget : ℕ) (r0 : M) (t0 : Inputs M) (left : ℕ) (r : M) (t : Inputs M) → IsUnderWay b m 0 asked sent budget r0 t0 left r t → IsRowFetched b m budget asked sent r0 t0 None left r t
+pub fetched_none : {M T : Type 0} (b : Machine M T) (m : Meaning T) (asked sent budget : ℕ) (r0 : M) (t0 : Inputs M) (left : ℕ) (r : M) (t : Inputs M) → IsUnderWay b m false 0 asked sent budget r0 t0 left r t → IsRowFetched b m budget asked sent r0 t0 None left r t
 fetched_none b m asked sent budget r0 t0 left r t u = (u.count, u.spent, u.run)
 
 -- a run below the edge that came upon no item
 pub below_none : {M T : Type 0} (b : Machine M T) (m : Meaning T) (asked sent budget left left' : ℕ) (r0 : M) (t0 : Inputs M) (r : M) (e : Edge) (n n1 n' : M) (below beside : Rest M) (was now : Inputs M) →
-    IsUnderWay b m 0 asked sent budget r0 t0 left r (More e n below beside) → n1 ≡ n → was ≡ below.value → IsRowFetched b m left e.demand.asked e.demand.sent n1 was None left' n' now →
-    IsUnderWay b m 0 asked sent budget r0 t0 left' r (More e n' (with_value below now) beside)
+    IsUnderWay b m false 0 asked sent budget r0 t0 left r (More e n below beside) → n1 ≡ n → was ≡ below.value → IsRowFetched b m left e.demand.asked e.demand.sent n1 was None left' n' now →
+    IsUnderWay b m false 0 asked sent budget r0 t0 left' r (More e n' (with_value below now) beside)
 below_none b m asked sent budget left left' r0 t0 r e n n1 n' below beside was now u same at h =
-    under_way_below b m 0 asked sent budget left left' h.0 false r0 t0 r r e e n n1 n' below beside was now now u (refl, refl, same) at h.1 h.2 refl
+    under_way_below b m false 0 asked sent budget left left' h.0 false r0 t0 r r e e n n1 n' below beside was now now u refl refl same at h.1 h.2 refl
 
 -- an item was taken out of the sender of the edge, which had come to offer it
 abbrev pub IsTaken : {M T : Type 0} → Machine M T → Meaning T → ℕ → ℕ → ℕ → M → Inputs M → ℕ → M → Edge → T → M → Rest M → Rest M → Type 0
 IsTaken {M} b m asked sent budget r0 t0 left r e x n' below beside =
-    (n : M) × IsUnderWay b m 0 asked sent budget r0 t0 left r (More e n below beside) × IsOut b m n x n'
+    (n : M) × IsUnderWay b m false 0 asked sent budget r0 t0 left r (More e n below beside) × IsOut b m n x n'
 
 -- a run below the edge that came upon an item
 pub below_item : {M T : Type 0} (b : Machine M T) (m : Meaning T) (asked sent budget left left' : ℕ) (r0 : M) (t0 : Inputs M) (r : M) (e : Edge) (n n1 n' : M) (below beside : Rest M) (was now : Inputs M) (x : T) →
-    IsUnderWay b m 0 asked sent budget r0 t0 left r (More e n below beside) → n1 ≡ n → was ≡ below.value → IsRowFetched b m left e.demand.asked e.demand.sent n1 was (Some x) left' n' now →
+    IsUnderWay b m false 0 asked sent budget r0 t0 left r (More e n below beside) → n1 ≡ n → was ≡ below.value → IsRowFetched b m left e.demand.asked e.demand.sent n1 was (Some x) left' n' now →
     IsTaken b m asked sent budget r0 t0 left' r e x n' (with_value below now) beside
 below_item b m asked sent budget left left' r0 t0 r e n n1 n' below beside was now x u same at h = (
   h.1,
-  under_way_below b m 0 asked sent budget left left' h.0 false r0 t0 r r e e n n1 h.1 below beside was now now u (refl, refl, same) at h.2 h.3 refl,
+  under_way_below b m false 0 asked sent budget left left' h.0 false r0 t0 r r e e n n1 h.1 below beside was now now u refl refl same at h.2 h.3 refl,
   h.4,
 )
 
 -- it offered the item already
-pub taken_at_once : {M T : Type 0} (b : Machine M T) (m : Meaning T) (asked sent budget left : ℕ) (r0 : M) (t0 : Inputs M) (r : M) (e : Edge) (n n' : M) (below beside : Rest M) (x : T) → IsUnderWay b m 0 asked sent budget r0 t0 left r (More e n below beside) → IsOut b m n x n' →
+pub taken_at_once : {M T : Type 0} (b : Machine M T) (m : Meaning T) (asked sent budget left : ℕ) (r0 : M) (t0 : Inputs M) (r : M) (e : Edge) (n n' : M) (below beside : Rest M) (x : T) → IsUnderWay b m false 0 asked sent budget r0 t0 left r (More e n below beside) → IsOut b m n x n' →
     IsTaken b m asked sent budget r0 t0 left r e x n' below beside
 taken_at_once b m asked sent budget left r0 t0 r e n n' below beside x u h = (n, u, h)
 
@@ -92,39 +92,39 @@ taken_as {M} {T} b m asked sent budget left left' r0 t0 r e n n' below below' be
     subst X (sym same_x) (subst B (sym same_below) (subst N (sym same_n) (subst L (sym same_left) h)))
 
 under_way_handed : {M T : Type 0} (b : Machine M T) (m : Meaning T) (asked sent budget left left' : ℕ) (r0 : M) (t0 : Inputs M) (r r' : M) (e e' : Edge) (n n' : M) (below beside : Rest M) →
-    IsUnderWay b m 0 asked sent budget r0 t0 left r (More e n below beside) → left' + 1 ≡ left → ((a s : ℕ) → IsSentOver b m r 0 a s e n r' e' n') → b.ended r' ≡ false → IsUnderWay b m 0 asked sent budget r0 t0 left' r' (More e' n' below beside)
+    IsUnderWay b m false 0 asked sent budget r0 t0 left r (More e n below beside) → left' + 1 ≡ left → ((a s : ℕ) → IsSentOver b m r 0 a s e n r' e' n') → b.ended r' ≡ false → IsUnderWay b m false 0 asked sent budget r0 t0 left' r' (More e' n' below beside)
 under_way_handed b m asked sent budget left left' r0 t0 r r' e e' n n' below beside u one h o =
     let some : 0 < left = omega (arith, one) in
     let same : left - 1 ≡ left' = omega (arith, one) in
-    let Q : ℕ → Type 0 = λ k. IsUnderWay b m 0 asked sent budget r0 t0 k r' (More e' n' below beside) in
-    subst Q same (under_way_sent b m 0 asked sent budget left r0 t0 r r' e e' n n' below beside u some h o)
+    let Q : ℕ → Type 0 = λ k. IsUnderWay b m false 0 asked sent budget r0 t0 k r' (More e' n' below beside) in
+    subst Q same (under_way_sent b m false 0 asked sent budget left r0 t0 r r' e e' n n' below beside u some h o)
 
 -- it went over the edge, and an item went out of the receiver
 pub handed_item : {M T : Type 0} (b : Machine M T) (m : Meaning T) (asked sent budget left left' : ℕ) (r0 : M) (t0 : Inputs M) (r r' : M) (e e' : Edge) (n n' : M) (below beside : Rest M) (x : T) →
-    IsUnderWay b m 0 asked sent budget r0 t0 left r (More e n below beside) → IsHanded b m left r e n (Item x) left' r' e' n' → IsRowFetched b m budget asked sent r0 t0 (Some x) left' r' (More e' n' below beside)
+    IsUnderWay b m false 0 asked sent budget r0 t0 left r (More e n below beside) → IsHanded b m left r e n (Item x) left' r' e' n' → IsRowFetched b m budget asked sent r0 t0 (Some x) left' r' (More e' n' below beside)
 handed_item b m asked sent budget left left' r0 t0 r r' e e' n n' below beside x u h =
     let v = under_way_handed b m asked sent budget left left' r0 t0 r h.0 e e' n n' below beside u h.1 h.2 h.3 in
     (v.count, h.0, v.spent, v.run, h.4)
 
 pub handed_kept : {M T : Type 0} (b : Machine M T) (m : Meaning T) (asked sent budget left left' : ℕ) (r0 : M) (t0 : Inputs M) (r r' : M) (e e' : Edge) (n n' : M) (below beside : Rest M) →
-    IsUnderWay b m 0 asked sent budget r0 t0 left r (More e n below beside) → IsHanded b m left r e n Kept left' r' e' n' → IsUnderWay b m 0 asked sent budget r0 t0 left' r' (More e' n' below beside)
+    IsUnderWay b m false 0 asked sent budget r0 t0 left r (More e n below beside) → IsHanded b m left r e n Kept left' r' e' n' → IsUnderWay b m false 0 asked sent budget r0 t0 left' r' (More e' n' below beside)
 handed_kept b m asked sent budget left left' r0 t0 r r' e e' n n' below beside u h = under_way_handed b m asked sent budget left left' r0 t0 r r' e e' n n' below beside u h.0 h.1 h.2
 
 pub handed_back : {M T : Type 0} (b : Machine M T) (m : Meaning T) (asked sent budget left left' : ℕ) (r0 : M) (t0 : Inputs M) (r r' : M) (e e' : Edge) (n n' : M) (below beside : Rest M) →
-    IsUnderWay b m 0 asked sent budget r0 t0 left r (More e n below beside) → IsHanded b m left r e n Back left' r' e' n' → IsUnderWay b m 0 asked sent budget r0 t0 left' r' (More e' n' below beside)
+    IsUnderWay b m false 0 asked sent budget r0 t0 left r (More e n below beside) → IsHanded b m left r e n Back left' r' e' n' → IsUnderWay b m false 0 asked sent budget r0 t0 left' r' (More e' n' below beside)
 handed_back {M} b m asked sent budget left left' r0 t0 r r' e e' n n' below beside u h =
-    let L : ℕ → Type 0 = λ k. IsUnderWay b m 0 asked sent budget r0 t0 k r (More e n below beside) in
-    let R : M → Type 0 = λ k. IsUnderWay b m 0 asked sent budget r0 t0 left' k (More e n below beside) in
-    let E : Edge → Type 0 = λ k. IsUnderWay b m 0 asked sent budget r0 t0 left' r' (More k n below beside) in
-    let N : M → Type 0 = λ k. IsUnderWay b m 0 asked sent budget r0 t0 left' r' (More e' k below beside) in
+    let L : ℕ → Type 0 = λ k. IsUnderWay b m false 0 asked sent budget r0 t0 k r (More e n below beside) in
+    let R : M → Type 0 = λ k. IsUnderWay b m false 0 asked sent budget r0 t0 left' k (More e n below beside) in
+    let E : Edge → Type 0 = λ k. IsUnderWay b m false 0 asked sent budget r0 t0 left' r' (More k n below beside) in
+    let N : M → Type 0 = λ k. IsUnderWay b m false 0 asked sent budget r0 t0 left' r' (More e' k below beside) in
     subst N (sym h.3) (subst E (sym h.2) (subst R (sym h.1) (subst L (sym h.0) u)))
 
 -- ---- a tree
 
 led : {M T : Type 0} (b : Machine M T) (m : Meaning T) (k asked sent budget left : ℕ) (r r' : M) (t t' : Inputs M) → k + left ≡ budget → IsRowRun b m false k 0 asked sent r t r' t' → IsLed b m budget (node r t) asked sent left (node r' t')
 led b m k asked sent budget left r r' t t' spent h =
-    let run = tree_run b m k asked sent r r' t t' h in
-    record { count = k; spent = spent; run = run; kept = kept_run b m k (node r t) (node r' t') asked sent run; balance = balance_run b m k (node r t) (node r' t') asked sent run }
+    let run = tree_run b m false k asked sent r r' t t' h in
+    record { count = k; spent = spent; run = run; kept = kept_run b m k (node r t) (node r' t') asked sent run; balance = balance_run b m false k (node r t) (node r' t') asked sent run }
 
 item_out : {M T : Type 0} (b : Machine M T) (m : Meaning T) (n n' : M) (t : Inputs M) (x : T) → IsOut b m n x n' → IsLetGo b m (node n t) (Next x) (node n' t)
 item_out b m n n' t x h = popped_tree b m n n' t (Some (Next x)) (h.waited, h.popped_out, h.value) h.notes h.counts

@@ -13,12 +13,13 @@ use Rattle.rsx_tree.specs.declared.inputs.Inputs.{Inputs, End, More'}
 use Rattle.rsx_tree.specs.declared.node.Node.{Node}
 use Rattle.rsx_tree.specs.Edges.{edge_view, EdgeView, is_live, can_pass}
 use Rattle.rsx_tree.specs.Inputs.{size, place, Place, can_go, can_send_over, can_ask_in, can_send_in}
-use Rattle.rsx_tree.specs.Balance.{sent_over, IsOwnerBalanced, IsRowBalanced, IsBalanced, IsRowWithin, IsWithin, IsRowStill, IsStill}
+use Rattle.rsx_tree.specs.Balance.{sent_over, IsOwnerBalanced, IsRowBalanced, IsBalanced, IsRowWithin, IsWithin}
 use Rattle.rsx_tree.specs.Changed.{Hold}
-use Rattle.rsx_tree.specs.Driven.{IsRowIdle, IsIdle}
+use Rattle.rsx_tree.specs.Driven.{IsRestAt, IsRowIdle, IsIdle}
+use Rattle.rsx_tree.specs.Stepped.{IsStill, over, station}
 use Rattle.rsx_tree.specs.Tree.{offers}
 use Rattle.rsx_tree.proofs.Changes.{chosen_first, chosen_second, not_zero, is_within, is_beyond}
-use Rattle.rsx_tree.proofs.Drives.{back, back_over, send_anywhere}
+use Rattle.rsx_tree.proofs.Drives.{back, back_over, rest_where, send_anywhere}
 
 -- ---- the moves of a part of a row
 
@@ -37,34 +38,45 @@ less_or_more a b = by_test (nat_lt a b) refl
     by_test true e = inl (grind (arith, nat_tests))
     by_test false e = inr (grind (arith, nat_tests))
 
+-- nor a node
+pub station_none : {M : Type 0} (t : Inputs M) (at : ℕ) → size t ≤ at → station t at ≡ None
+station_none End at h = refl
+station_none (More' e n p below q beside) at h =
+    chosen_second (nat_eq at 0) _ _ (not_zero at (omega (arith, h)))
+    ∙ (chosen_second (nat_le at (size below)) (station below (at - 1)) (station beside (at - 1 - size below)) (is_beyond at (size below) (omega (arith, h)))
+    ∙ station_none beside (at - 1 - size below) (omega (arith, h)))
+
+rest_none : {M T : Type 0} (b : Machine M T) (m : Meaning T) (r : M) (i asked sent : ℕ) (t : Inputs M) (at : ℕ) → size t ≤ at → IsRestAt b m r i asked sent t at
+rest_none b m r i asked sent t at w = rest_where b m _ None _ None (place_none r i asked sent t at w) (station_none t at w) (refl, refl, ((λ k l. refl), refl))
+
 idle_below : {M T : Type 0} (b : Machine M T) (m : Meaning T) (r : M) (i asked sent : ℕ) (e : Edge) (n : M) (p : Hold) (below : Inputs M) (q : Hold) (beside : Inputs M) → i + (size below + size beside + 1) ≤ 2 ^ 64 →
     IsRowIdle b m r i asked sent (More' e n p below q beside) → IsRowIdle b m n 0 e.demand.asked e.demand.sent below
 idle_below {M} b m r i asked sent e n p below q beside small idle at lt = elim (less_or_more at (size below)) [
   | inl w ↦
-      let Q : Option (Place M) → Type 0 = λ o. (can_ask_in b o ≡ false) × (can_send_in b m o ≡ false) in
       let is : place r i asked sent (More' e n p below q beside) (at + 1) ≡ place n 0 e.demand.asked e.demand.sent below at =
       chosen_second (nat_eq (at + 1) 0) _ _ (not_zero (at + 1) (omega arith))
       ∙ (chosen_first (nat_le (at + 1) (size below)) (place n 0 e.demand.asked e.demand.sent below (at + 1 - 1)) (place r (i + 1) asked sent beside (at + 1 - 1 - size below)) (is_within (at + 1) (size below) (omega (arith, w)))
       ∙ ap (λ j. place n 0 e.demand.asked e.demand.sent below j) (sym (back at))) in
-      subst Q is (idle (at + 1) (omega (arith, w, small)))
-  | inr w ↦
-      let Q : Option (Place M) → Type 0 = λ o. (can_ask_in b o ≡ false) × (can_send_in b m o ≡ false) in
-      subst Q (sym (place_none n 0 e.demand.asked e.demand.sent below at w)) (refl, refl)
+      let there : station (More' e n p below q beside) (at + 1) ≡ station below at =
+      chosen_second (nat_eq (at + 1) 0) _ _ (not_zero (at + 1) (omega arith))
+      ∙ (chosen_first (nat_le (at + 1) (size below)) (station below (at + 1 - 1)) (station beside (at + 1 - 1 - size below)) (is_within (at + 1) (size below) (omega (arith, w))) ∙ ap (λ j. station below j) (sym (back at))) in
+      rest_where b m _ (place r i asked sent (More' e n p below q beside) (at + 1)) _ (station (More' e n p below q beside) (at + 1)) (sym is) (sym there) (idle (at + 1) (omega (arith, w, small)))
+  | inr w ↦ rest_none b m n 0 e.demand.asked e.demand.sent below at w
 ]
 
 idle_beside : {M T : Type 0} (b : Machine M T) (m : Meaning T) (r : M) (i asked sent : ℕ) (e : Edge) (n : M) (p : Hold) (below : Inputs M) (q : Hold) (beside : Inputs M) → i + (size below + size beside + 1) ≤ 2 ^ 64 →
     IsRowIdle b m r i asked sent (More' e n p below q beside) → IsRowIdle b m r (i + 1) asked sent beside
 idle_beside {M} b m r i asked sent e n p below q beside small idle at lt = elim (less_or_more at (size beside)) [
   | inl w ↦
-      let Q : Option (Place M) → Type 0 = λ o. (can_ask_in b o ≡ false) × (can_send_in b m o ≡ false) in
       let is : place r i asked sent (More' e n p below q beside) (at + 1 + size below) ≡ place r (i + 1) asked sent beside at =
       chosen_second (nat_eq (at + 1 + size below) 0) _ _ (not_zero (at + 1 + size below) (omega arith))
       ∙ (chosen_second (nat_le (at + 1 + size below) (size below)) (place n 0 e.demand.asked e.demand.sent below (at + 1 + size below - 1)) (place r (i + 1) asked sent beside (at + 1 + size below - 1 - size below)) (is_beyond (at + 1 + size below) (size below) (omega arith))
       ∙ ap (λ j. place r (i + 1) asked sent beside j) (sym (back_over at (size below)))) in
-      subst Q is (idle (at + 1 + size below) (omega (arith, w, small)))
-  | inr w ↦
-      let Q : Option (Place M) → Type 0 = λ o. (can_ask_in b o ≡ false) × (can_send_in b m o ≡ false) in
-      subst Q (sym (place_none r (i + 1) asked sent beside at w)) (refl, refl)
+      let there : station (More' e n p below q beside) (at + 1 + size below) ≡ station beside at =
+      chosen_second (nat_eq (at + 1 + size below) 0) _ _ (not_zero (at + 1 + size below) (omega arith))
+      ∙ (chosen_second (nat_le (at + 1 + size below) (size below)) (station below (at + 1 + size below - 1)) (station beside (at + 1 + size below - 1 - size below)) (is_beyond (at + 1 + size below) (size below) (omega arith)) ∙ ap (λ j. station beside j) (sym (back_over at (size below)))) in
+      rest_where b m _ (place r i asked sent (More' e n p below q beside) (at + 1 + size below)) _ (station (More' e n p below q beside) (at + 1 + size below)) (sym is) (sym there) (idle (at + 1 + size below) (omega (arith, w, small)))
+  | inr w ↦ rest_none b m r (i + 1) asked sent beside at w
 ]
 
 -- ---- an idle row
@@ -75,6 +87,18 @@ Waits {M} b m = (n : M) (asked sent : ℕ) → b.ended n ≡ true → b.waiting 
 
 abbrev pub Hungers : {M T : Type 0} → Machine M T → Meaning T → Type 0
 Hungers {M} b m = (n : M) (taken : List ℕ) (asked sent : ℕ) → b.ended n ≡ false → b.counted n taken sent → b.waiting m n ≡ None → sent < asked → AreWithin taken → IsHungry b.takes b.picks b.rows b.done b.wanted n taken asked sent
+
+-- a node can neither pick nor make a row
+abbrev pub IsNodeStill : {M T : Type 0} → Machine M T → M → ℕ → ℕ → Type 0
+IsNodeStill b n asked sent = ((j : ℕ) → j < 2 ^ 64 → b.picks n j asked sent ≡ false) × (b.rows n asked sent ≡ false)
+
+-- nor could it where its edge is live
+live_still : {M T : Type 0} (b : Machine M T) (e : Edge) (n : M) → is_live e.state ≡ true → IsStill b (Some (over e n)) → IsNodeStill b n e.demand.asked e.demand.sent
+live_still b e n live h = (λ j l. by_live (is_live e.state) (b.picks n j e.demand.asked e.demand.sent) live (h.0 j l), by_live (is_live e.state) (b.rows n e.demand.asked e.demand.sent) live h.1)
+  where
+    by_live : (l x : Bool) → l ≡ true → l && x ≡ false → x ≡ false
+    by_live true x e f = f
+    by_live false x e f = cc
 
 both : (c : Bool) → c ≡ true → c ≡ false → ⊥
 both c x y = cc
@@ -109,16 +133,16 @@ first_silent b m r i e n s takes live less waits idle =
     both (can_send_over b m r i (edge_view e) n) (ap (can_go (b.takes r i) (edge_view e)) (ap (option_map front_of) waits) ∙ (ap (λ c. c && can_pass (edge_view e) (front_of s)) (takes (front_of s)) ∙ can_pass_live (edge_view e) (front_of s) live less)) idle
 
 -- no receiver of an idle row wants more at one of its inputs and takes whatever comes
-pub none_hungry : {M T : Type 0} (b : Machine M T) (m : Meaning T) → Waits b m → Hungers b m → (r : M) (i asked sent : ℕ) (t : Inputs M) → i + size t ≤ 2 ^ 64 → IsRowIdle b m r i asked sent t → IsRowBalanced b r i t → IsRowWithin t → IsRowStill b t →
+pub none_hungry : {M T : Type 0} (b : Machine M T) (m : Meaning T) → Waits b m → Hungers b m → (r : M) (i asked sent : ℕ) (t : Inputs M) → i + size t ≤ 2 ^ 64 → IsRowIdle b m r i asked sent t → IsRowBalanced b r i t → IsRowWithin t →
     (j c : ℕ) → slice_get (sent_over t) j ≡ Some c → b.done r (i + j) ≡ false → ((f : Front) → b.takes r (i + j) f ≡ true) → c < b.wanted r (i + j) asked sent → ⊥
-none_hungry b m waits hungers r i asked sent End small idle balanced within still j c at open_still takes wants = cc
-none_hungry {M} {T} b m waits hungers r i asked sent (More' e n p below q beside) small idle balanced within still (suc j) c at open_still takes wants =
+none_hungry b m waits hungers r i asked sent End small idle balanced within j c at open_still takes wants = cc
+none_hungry {M} {T} b m waits hungers r i asked sent (More' e n p below q beside) small idle balanced within (suc j) c at open_still takes wants =
     let next : i + suc j ≡ i + 1 + j = omega arith in
     let D : ℕ → Type 0 = λ k. b.done r k ≡ false in
     let F : ℕ → Type 0 = λ k. (f : Front) → b.takes r k f ≡ true in
     let W : ℕ → Type 0 = λ k. c < b.wanted r k asked sent in
-    none_hungry b m waits hungers r (i + 1) asked sent beside (omega (arith, small)) (idle_beside b m r i asked sent e n p below q beside small idle) balanced.1 within.2 still.3 j c at (subst D next open_still) (subst F next takes) (subst W next wants)
-none_hungry {M} {T} b m waits hungers r i asked sent (More' e n p below q beside) small idle balanced within still zero c at open_still takes wants = elim balanced.0 [
+    none_hungry b m waits hungers r (i + 1) asked sent beside (omega (arith, small)) (idle_beside b m r i asked sent e n p below q beside small idle) balanced.1 within.2 j c at (subst D next open_still) (subst F next takes) (subst W next wants)
+none_hungry {M} {T} b m waits hungers r i asked sent (More' e n p below q beside) small idle balanced within zero c at open_still takes wants = elim balanced.0 [
   | inl d ↦ both (b.done r i) d (ap (λ k. b.done r k) (none i) ∙ open_still)
   | inr o ↦
       let live : is_live e.state ≡ true = ap is_live o.0 in
@@ -129,9 +153,9 @@ none_hungry {M} {T} b m waits hungers r i asked sent (More' e n p below q beside
       let more : e.demand.sent < e.demand.asked = asked_more e.demand.asked (b.wanted r i asked sent) e.demand.sent (is_live e.state) live here.0 (subst W (sym (none i)) (subst C (sym (first_is e.demand.sent c at)) wants)) in
       let silent : (s : Signal T) → b.waiting m n ≡ Some s → ⊥ = λ s w. first_silent b m r i e n s (subst F (sym (none i)) takes) live more w here.1 in
       elim o.1 [
-        | inl f ↦ ended_first silent (b.waiting m n) refl (λ nothing. no_step b n e.demand.asked e.demand.sent still.0 still.1 (waits n e.demand.asked e.demand.sent f nothing more))
-        | inr w ↦ by_waiting silent (b.waiting m n) refl (λ nothing. hungers n (sent_over below) e.demand.asked e.demand.sent w.0 w.1 nothing more (within_row below within.1))
-            (λ k d g v l o. none_hungry b m waits hungers n 0 e.demand.asked e.demand.sent below (omega (arith, small)) (idle_below b m r i asked sent e n p below q beside small idle) w.2 within.1 still.2 k d g v l o)
+        | inl f ↦ ended_first silent (b.waiting m n) refl (λ nothing. let still = live_still b e n live here.2 in no_step b n e.demand.asked e.demand.sent still.0 still.1 (waits n e.demand.asked e.demand.sent f nothing more))
+        | inr w ↦ by_waiting (live_still b e n live here.2) silent (b.waiting m n) refl (λ nothing. hungers n (sent_over below) e.demand.asked e.demand.sent w.0 w.1 nothing more (within_row below within.1))
+            (λ k d g v l o. none_hungry b m waits hungers n 0 e.demand.asked e.demand.sent below (omega (arith, small)) (idle_below b m r i asked sent e n p below q beside small idle) w.2 within.1 k d g v l o)
       ]
 ]
   where
@@ -148,10 +172,10 @@ none_hungry {M} {T} b m waits hungers r i asked sent (More' e n p below q beside
     ended_first silent (Some s) w stuck = silent s w
     ended_first silent None w stuck = stuck w
 
-    by_waiting : ((s : Signal T) → b.waiting m n ≡ Some s → ⊥) → (o : Option (Signal T)) → b.waiting m n ≡ o → (b.waiting m n ≡ None → IsHungry b.takes b.picks b.rows b.done b.wanted n (sent_over below) e.demand.asked e.demand.sent) →
+    by_waiting : IsNodeStill b n e.demand.asked e.demand.sent → ((s : Signal T) → b.waiting m n ≡ Some s → ⊥) → (o : Option (Signal T)) → b.waiting m n ≡ o → (b.waiting m n ≡ None → IsHungry b.takes b.picks b.rows b.done b.wanted n (sent_over below) e.demand.asked e.demand.sent) →
         ((k d : ℕ) → slice_get (sent_over below) k ≡ Some d → b.done n (0 + k) ≡ false → ((f : Front) → b.takes n (0 + k) f ≡ true) → d < b.wanted n (0 + k) e.demand.asked e.demand.sent → ⊥) → ⊥
-    by_waiting silent (Some s) w hunger deeper = silent s w
-    by_waiting silent None w hunger deeper = elim (hunger w) [
+    by_waiting still silent (Some s) w hunger deeper = silent s w
+    by_waiting still silent None w hunger deeper = elim (hunger w) [
       | inl k ↦ both (b.picks n k.0 e.demand.asked e.demand.sent) k.2 (still.0 k.0 k.1)
       | inr y ↦ elim y [
         | inl k ↦ both (b.rows n e.demand.asked e.demand.sent) k still.1
@@ -164,20 +188,20 @@ none_hungry {M} {T} b m waits hungers r i asked sent (More' e n p below q beside
     ]
 
 -- an idle tree of which more is asked than it sent offers a signal
-pub idle_offers : {M T : Type 0} (b : Machine M T) (m : Meaning T) → Waits b m → Hungers b m → (t : Node M) (asked sent : ℕ) → IsIdle b m t asked sent → IsStill b t asked sent → IsBalanced b t sent → sent < asked → IsWithin t → (s : Signal T) × (offers b m t ≡ Some s)
-idle_offers {M} {T} b m waits hungers t asked sent idle still balanced more within = by_offer (offers b m t) refl
+pub idle_offers : {M T : Type 0} (b : Machine M T) (m : Meaning T) → Waits b m → Hungers b m → (t : Node M) (asked sent : ℕ) → IsIdle b m t asked sent → IsNodeStill b t.machine asked sent → IsBalanced b t sent → sent < asked → size t.inputs ≤ 2 ^ 64 → IsWithin t → (s : Signal T) × (offers b m t ≡ Some s)
+idle_offers {M} {T} b m waits hungers t asked sent idle still balanced more few within = by_offer (offers b m t) refl
   where
     small : 0 + size t.inputs ≤ 2 ^ 64
-    small = let w = within.0 in omega (arith, w)
+    small = omega (arith, few)
 
     row_idle : IsRowIdle b m t.machine 0 asked sent t.inputs
-    row_idle at lt = let k = idle at (omega (arith, lt)) in (k.0, send_anywhere b m t.machine 0 asked sent 0 0 t.inputs at ∙ k.1)
+    row_idle at lt = let k = idle at (omega (arith, lt)) in (k.0, send_anywhere b m t.machine 0 asked sent 0 0 t.inputs at ∙ k.1, k.2)
 
     zero_plus : (k : ℕ) → k ≡ 0 + k
     zero_plus k = omega arith
 
     stuck : b.waiting m t.machine ≡ None → b.ended t.machine ≡ false → b.counted t.machine (sent_over t.inputs) sent → IsRowBalanced b t.machine 0 t.inputs → ⊥
-    stuck none open_still counted row = elim (hungers t.machine (sent_over t.inputs) asked sent open_still counted none more (within_row t.inputs within.1)) [
+    stuck none open_still counted row = elim (hungers t.machine (sent_over t.inputs) asked sent open_still counted none more (within_row t.inputs within)) [
       | inl k ↦ both (b.picks t.machine k.0 asked sent) k.2 (still.0 k.0 k.1)
       | inr y ↦ elim y [
         | inl k ↦ both (b.rows t.machine asked sent) k still.1
@@ -185,7 +209,7 @@ idle_offers {M} {T} b m waits hungers t asked sent idle still balanced more with
             let D : ℕ → Type 0 = λ j. b.done t.machine j ≡ false in
             let F : ℕ → Type 0 = λ j. (f : Front) → b.takes t.machine j f ≡ true in
             let W : ℕ → Type 0 = λ j. k.c < b.wanted t.machine j asked sent in
-            none_hungry b m waits hungers t.machine 0 asked sent t.inputs small row_idle row within.1 still.2 k.i k.c k.at (subst D (zero_plus k.i) k.open_still) (subst F (zero_plus k.i) k.takes_any) (subst W (zero_plus k.i) k.wants)
+            none_hungry b m waits hungers t.machine 0 asked sent t.inputs small row_idle row within k.i k.c k.at (subst D (zero_plus k.i) k.open_still) (subst F (zero_plus k.i) k.takes_any) (subst W (zero_plus k.i) k.wants)
       ]
     ]
 

@@ -13,6 +13,9 @@ use Rattle.rsx_tree.specs.declared.node.Node.{Node}
 use Rattle.rsx_tree.specs.Edges.{EdgeView, edge_view, is_live, can_pass, can_ask_for}
 use Rattle.rsx_tree.specs.Inputs.{Place, place, size, edges, tests, can_go, can_ask_at, can_send_at, can_ask_in, can_send_in}
 use Rattle.rsx_tree.specs.Tree.{NoneLive, IsAllClosed, can_ask, can_send}
+use Rattle.rsx_types.specs.Notes.{note_then}
+use Rattle.rsx_tree.specs.Stepped.{Station, station, IsStepped, IsPickedHere, IsRowMadeHere}
+use Rattle.rsx_tree.proofs.Noted.{step_noted, pick_notes, row_notes}
 
 none_left : (es fs : List EdgeView) → NoneLive (es ++ fs) → NoneLive es
 none_left [] fs h = tt
@@ -82,3 +85,29 @@ ask_not_closed b t at asked sent e h = closed_place t.machine 0 asked sent t.inp
 
 pub send_not_closed : {M T : Type 0} (b : Machine M T) (m : Meaning T) (t : Node M) (at : ℕ) → can_send b m t at ≡ true → IsAllClosed t → ⊥
 send_not_closed b m t at e h = closed_place t.machine 0 0 0 t.inputs at h (send_live b m (place t.machine 0 0 0 t.inputs at) e)
+
+-- nor a step of a node below its root
+abbrev Dead : {M : Type 0} → Option (Station M) → Type 0
+Dead None = Unit {0}
+Dead (Some x) = x.state ≡ Live → ⊥
+
+closed_station : {M : Type 0} (t : Inputs M) (at : ℕ) (s : Station M) → NoneLive (edges t) → station t at ≡ Some s → s.state ≡ Live → ⊥
+closed_station {M} t at s h is live = found (station t at) (closed t at h) is
+  where
+    closed : (t : Inputs M) (at : ℕ) → NoneLive (edges t) → Dead (station t at)
+    closed End at h = tt
+    closed (More' e n p below q beside) at h =
+        if_both Dead (nat_eq at 0) _ _ h.0
+        (if_both Dead (nat_le at (size below)) (station below (at - 1)) (station beside (at - 1 - size below))
+        (closed below (at - 1) (none_left (edges below) (edges beside) h.1))
+        (closed beside (at - 1 - size below) (none_right (edges below) (edges beside) h.1)))
+
+    found : (o : Option (Station M)) → Dead o → o ≡ Some s → ⊥
+    found None d e = cc
+    found (Some x) d e = let same : x ≡ s = cc in d (ap (λ k. k.state) same ∙ live)
+
+pub step_not_closed : {M T : Type 0} (b : Machine M T) (m : Meaning T) (t : Node M) (at : ℕ) (t' : Inputs M) → ((input : ℕ) × IsStepped (IsPickedHere b m input) b.ended t.inputs at t') ⊎ IsStepped (IsRowMadeHere b m) b.ended t.inputs at t' → IsAllClosed t → ⊥
+step_not_closed b m t at t' h closed = elim h [
+  | inl k ↦ (let n = step_noted b m (IsPickedHere b m k.0) (λ n l. note_then (b.recording n k.0) l) (λ n l. note_then l (b.recording n k.0)) (pick_notes b m k.0) t.inputs at t' k.1 in closed_station t.inputs at n.there closed n.is (live_true n.there.state n.live))
+  | inr k ↦ (let n = step_noted b m (IsRowMadeHere b m) (λ n l. l) (λ n l. l) (row_notes b m) t.inputs at t' k in closed_station t.inputs at n.there closed n.is (live_true n.there.state n.live))
+]

@@ -1,12 +1,13 @@
 -- How a step of one node is put together from a step below a node, or beside it.
-use Rattle.std.proofs.Common.{◌≡◌, ◌⊎◌, inl, inr, ℕ, ◌+◌, ◌-◌, ◌<◌, ◌≤◌, min, Bool, true, false, ◌&&◌, nat_eq, nat_le, if◌then◌else◌, refl, ap, sym, ◌∙◌, subst, arith, Option, Some, None}
+use Rattle.std.proofs.Common.{◌≡◌, ◌⊎◌, inl, inr, ℕ, zero, suc, ◌+◌, ◌-◌, ◌<◌, ◌≤◌, min, Bool, true, false, ◌&&◌, nat_eq, nat_le, if◌then◌else◌, refl, ap, sym, ◌∙◌, subst, arith, Option, Some, None}
 use Rattle.std.specs.Box.{with_value}
 use Rattle.rsx_tree.specs.declared.edge.Edge.{Edge}
 use Rattle.rsx_tree.specs.declared.inputs.Inputs.{Inputs, End, More'}
 use Rattle.rsx_tree.specs.declared.inputs.Inputs.TheViews.{More}
-use Rattle.rsx_tree.specs.Edges.{is_live}
+use Rattle.rsx_tree.specs.declared.node.Node.{Node}
+use Rattle.rsx_tree.specs.Edges.{EdgeView, edge_view, is_live}
 use Rattle.rsx_tree.specs.Inputs.{size, closed_row_if}
-use Rattle.rsx_tree.specs.Stepped.{Step, IsStepped, Station, station}
+use Rattle.rsx_tree.specs.Stepped.{Step, IsStepped, IsSteppedAt, Station, station, station_of}
 use Rattle.rsx_tree.proofs.Changes.{Rest, chosen_first, chosen_second, not_zero, is_within, is_beyond, counted_all, counted_some}
 
 pub stepped_here : {M : Type 0} (P : Step M) (ends : M → Bool) (old : Inputs M) (e : Edge) (n n' : M) (below beside : Rest M) (was new : Inputs M) (at : ℕ) → old ≡ More e n below beside → was ≡ below.value → at ≡ 0 → is_live e.state ≡ true → P n e.demand.asked e.demand.sent n' →
@@ -53,3 +54,33 @@ station_below {M} old e n below beside under was at inside is u w c above near =
     ∙ (chosen_second (nat_eq at 0) _ _ (not_zero at above)
     ∙ (chosen_first (nat_le at (size below.value)) (station below.value (at - 1)) (station beside.value (at - 1 - size below.value)) (is_within at (size below.value) within)
     ∙ ap (λ t. station t (at - 1)) (sym w)))
+
+-- ---- a step of a tree
+
+abbrev tree : {M : Type 0} → M → Inputs M → Node M
+tree r t = record { machine = r; inputs = t }
+
+pub stepped_root : {M : Type 0} (P : Step M) (ends : M → Bool) (r r' : M) (t t' : Inputs M) (e : Edge) (at : ℕ) → at ≤ 0 → is_live e.state ≡ true → P r e.demand.asked e.demand.sent r' → t' ≡ closed_row_if (ends r' && true) t →
+    IsSteppedAt P ends (tree r t) (edge_view e) at (tree r' t')
+stepped_root P ends r r' t t' e zero z live made shut = record { live = live; made = made; inputs = shut }
+stepped_root P ends r r' t t' e (suc at) z live made shut = absurd (omega (arith, z))
+
+pub stepped_tree : {M : Type 0} (P : Step M) (ends : M → Bool) (r : M) (t t' : Inputs M) (e : EdgeView) (at : ℕ) → 0 < at → IsStepped P ends t (at - 1) t' → IsSteppedAt P ends (tree r t) e at (tree r t')
+stepped_tree P ends r t t' e zero z h = absurd (omega (arith, z))
+stepped_tree P ends r t t' e (suc at) z h =
+    let K : ℕ → Type 0 = λ k. IsStepped P ends t k t' in
+    record { machine = refl; made = subst K (one_less at) h }
+  where
+    one_less : (k : ℕ) → suc k - 1 ≡ k
+    one_less k = omega arith
+
+pub station_tree : {M : Type 0} (t : Node M) (e : EdgeView) (at : ℕ) → 0 < at → station_of t e at ≡ station t.inputs (at - 1)
+station_tree t e zero z = absurd (omega (arith, z))
+station_tree t e (suc at) z = ap (λ k. station t.inputs k) (one_more at)
+  where
+    one_more : (k : ℕ) → k ≡ suc k - 1
+    one_more k = omega arith
+
+pub station_root : {M : Type 0} (t : Node M) (e : EdgeView) (at : ℕ) → at ≤ 0 → station_of t e at ≡ station_of t e 0
+station_root t e zero z = refl
+station_root t e (suc at) z = absurd (omega (arith, z))

@@ -1,13 +1,11 @@
 -- The counts along the edges of a tree: how much each node took in belongs to how much it sent.
-use Rattle.std.specs.Prelude.{◌≡◌, ◌⊎◌, ⊤, ℕ, ◌+◌, ◌<◌, ◌≤◌, ◌^◌, Bool, true, false, List, [], ◌∷◌}
+use Rattle.std.specs.Prelude.{◌≡◌, ◌⊎◌, ⊤, ℕ, ◌+◌, ◌<◌, Bool, true, false, List, [], ◌∷◌}
 use Rattle.rsx_types.specs.declared.signal.Signal.{Signal}
 use Rattle.rsx_types.specs.declared.signal.Signal.TheVariants.{Next, Complete, Error}
-use Rattle.rsx_sources.specs.Counts.{AreWithin}
 use Rattle.rsx_sources.specs.declared.machine.Machine.{Ghosts as Machine}
 use Rattle.rsx_tree.specs.declared.edge.EdgeState.TheVariants.{Live}
 use Rattle.rsx_tree.specs.declared.inputs.Inputs.{Inputs, End, More'}
 use Rattle.rsx_tree.specs.declared.node.Node.{Node}
-use Rattle.rsx_tree.specs.Inputs.{size}
 
 -- how many items went over each of the row's own edges
 abbrev pub sent_over : {M : Type 0} → Inputs M → List ℕ
@@ -41,16 +39,6 @@ abbrev pub IsRowWithin : {M : Type 0} → Inputs M → Type 0
 IsRowWithin End = ⊤
 IsRowWithin (More' e n p below q beside) = (e.demand.sent < 9223372036854775807) × IsRowWithin below × IsRowWithin beside
 
--- nor has an edge below the root; and each node below it has a number
+-- nor has an edge below the root
 abbrev pub IsWithin : {M : Type 0} → Node M → Type 0
-IsWithin t = (size t.inputs + 1 < 2 ^ 32) × IsRowWithin t.inputs
-
--- no node of the row can pick or make a row
-abbrev pub IsRowStill : {M T : Type 0} → Machine M T → Inputs M → Type 0
-IsRowStill b End = ⊤
-IsRowStill b (More' e n p below q beside) =
-    ((j : ℕ) → j < 2 ^ 64 → b.picks n j e.demand.asked e.demand.sent ≡ false) × (b.rows n e.demand.asked e.demand.sent ≡ false) × IsRowStill b below × IsRowStill b beside
-
--- nor can one of the tree, where so much is asked of the root and was sent by it
-abbrev pub IsStill : {M T : Type 0} → Machine M T → Node M → ℕ → ℕ → Type 0
-IsStill b t asked sent = ((j : ℕ) → j < 2 ^ 64 → b.picks t.machine j asked sent ≡ false) × (b.rows t.machine asked sent ≡ false) × IsRowStill b t.inputs
+IsWithin t = IsRowWithin t.inputs

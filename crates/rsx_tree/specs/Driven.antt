@@ -1,15 +1,17 @@
 -- Runs of moves, one after the other.
-use Rattle.std.specs.Prelude.{◌≡◌, ◌⊎◌, ℕ, zero, suc, ◌+◌, ◌<◌, ◌≤◌, ◌^◌, Bool, true, false, ◌&&◌, Result, Ok, Err}
+use Rattle.std.specs.Prelude.{◌≡◌, ◌⊎◌, ℕ, zero, suc, ◌+◌, ◌<◌, ◌≤◌, ◌^◌, Bool, true, false, ◌&&◌, Option, Some, Result, Ok, Err}
 use Rattle.rsx_types.specs.Meaning.{Meaning}
 use Rattle.rsx_sources.specs.declared.machine.Machine.{Ghosts as Machine}
+use Rattle.rsx_tree.specs.declared.edge.Edge.{Edge}
 use Rattle.rsx_tree.specs.declared.inputs.Inputs.{Inputs}
 use Rattle.rsx_tree.specs.declared.inputs.Pass.{Pass}
 use Rattle.rsx_tree.specs.declared.node.Node.{Node}
 use Rattle.rsx_tree.specs.Edges.{edge_view, can_ask_for}
-use Rattle.rsx_tree.specs.Inputs.{size, place, is_own, can_ask_in, can_send_in, closed_row_if}
+use Rattle.rsx_tree.specs.Inputs.{place, is_own, can_ask_in, can_send_in, can_send_over}
 use Rattle.rsx_tree.specs.Balance.{IsBalanced}
 use Rattle.rsx_tree.specs.Changed.{IsChanged, IsAskedOver, IsSentOver}
-use Rattle.rsx_tree.specs.Stepped.{IsStepped, IsPickedHere, IsRowMadeHere}
+use Rattle.rsx_tree.specs.Chosen.{IsChosen}
+use Rattle.rsx_tree.specs.Stepped.{IsStepped, IsPickedHere, IsRowMadeHere, IsStill, over, station}
 use Rattle.rsx_tree.specs.Tree.{IsKept, IsAskedAt, IsSentAt, can_ask, can_send}
 
 -- ---- a move of a row, whose first edge is input `i` of `r`; `ends` says that `r` ended by it, so that its owner closes the row
@@ -63,10 +65,19 @@ abbrev pub is_over_in : {E : Type 0} → Result Pass E → Bool
 is_over_in (Ok p) = p.is_over
 is_over_in (Err e) = false
 
--- no Ask and no Send of the row that has a number is enabled
+-- over this edge neither an Ask nor a Send is enabled, nor a step of its sender
+pub record IsRestOver {M T : Type 0} (b : Machine M T) (m : Meaning T) (r : M) (i asked sent : ℕ) (e : Edge) (n : M) : Type 0 where
+  pub ask : can_ask_for (edge_view e) (b.wanted r i asked sent) ≡ false
+  pub send : can_send_over b m r i (edge_view e) n ≡ false
+  pub still : IsStill b (Some (over e n))
+
+-- over the edge `at` of the row neither an Ask nor a Send is enabled, nor a step of its node
+abbrev pub IsRestAt : {M T : Type 0} → Machine M T → Meaning T → M → ℕ → ℕ → ℕ → Inputs M → ℕ → Type 0
+IsRestAt b m r i asked sent t at = (can_ask_in b (place r i asked sent t at) ≡ false) × (can_send_in b m (place r i asked sent t at) ≡ false) × IsStill b (station t at)
+
+-- no move of the row that has a number is enabled
 abbrev pub IsRowIdle : {M T : Type 0} → Machine M T → Meaning T → M → ℕ → ℕ → ℕ → Inputs M → Type 0
-IsRowIdle b m r i asked sent t =
-    (at : ℕ) → i + at < 2 ^ 64 → (can_ask_in b (place r i asked sent t at) ≡ false) × (can_send_in b m (place r i asked sent t at) ≡ false)
+IsRowIdle b m r i asked sent t = (at : ℕ) → i + at < 2 ^ 64 → IsRestAt b m r i asked sent t at
 
 -- ---- a tree
 
@@ -75,32 +86,22 @@ abbrev pub Spent : {E : Type 0} → ℕ → ℕ → Result ℕ E → Type 0
 Spent budget n (Ok left) = n + left ≡ budget
 Spent budget n (Err e) = n ≤ budget
 
--- an enabled move of the tree was made, with its effect; picks and rows only where `steps`
+-- an enabled move below the root was made, with its effect; picks and rows only where `steps`
 pub record IsAdvanced {M T : Type 0} (b : Machine M T) (m : Meaning T) (steps : Bool) (old : Node M) (asked sent : ℕ) (new : Node M) : Type 0 where
   pub at : ℕ
   pub made : ((can_ask b old at asked sent ≡ true) × IsAskedAt b old at asked sent new)
       ⊎ (((can_send b m old at ≡ true) × IsSentAt b m old at new)
       ⊎ ((steps ≡ true) × IsStepMade b m old.machine old.inputs at false new.machine new.inputs))
+  -- nothing is chosen but by picks
   pub kept : steps ≡ false → IsKept b m old new
-  pub balance : steps ≡ false → (s : ℕ) → IsBalanced b old s → IsBalanced b new s
+  pub chosen : IsChosen b m old new
+  pub balance : (s : ℕ) → IsBalanced b old s → IsBalanced b new s
 
 -- so many enabled moves lead from the first tree to the second
 abbrev pub IsDriven : {M T : Type 0} → Machine M T → Meaning T → Bool → ℕ → Node M → ℕ → ℕ → Node M → Type 0
 IsDriven b m steps zero old asked sent new = new ≡ old
 IsDriven {M} b m steps (suc n) old asked sent new = (mid : Node M) × IsAdvanced b m steps old asked sent mid × IsDriven b m steps n mid asked sent new
 
--- no Ask and no Send of the tree that has a number is enabled
+-- no move over an edge below the root, or of a node there, is enabled, of those that have a number
 abbrev pub IsIdle : {M T : Type 0} → Machine M T → Meaning T → Node M → ℕ → ℕ → Type 0
-IsIdle b m t asked sent = (at : ℕ) → at < 2 ^ 64 → (can_ask b t at asked sent ≡ false) × (can_send b m t at ≡ false)
-
--- some Ask or Send of the row is enabled
-pub record IsRowBusy {M T : Type 0} (b : Machine M T) (m : Meaning T) (r : M) (i asked sent : ℕ) (t : Inputs M) : Type 0 where
-  pub at : ℕ
-  pub within : at < size t
-  pub enabled : (can_ask_in b (place r i asked sent t at) ≡ true) ⊎ (can_send_in b m (place r i asked sent t at) ≡ true)
-
--- some Ask or Send of the tree is enabled
-pub record IsBusy {M T : Type 0} (b : Machine M T) (m : Meaning T) (t : Node M) (asked sent : ℕ) : Type 0 where
-  pub at : ℕ
-  pub within : at < size t.inputs
-  pub enabled : (can_ask b t at asked sent ≡ true) ⊎ (can_send b m t at ≡ true)
+IsIdle b m t asked sent = (at : ℕ) → at < 2 ^ 64 → (can_ask b t at asked sent ≡ false) × (can_send b m t at ≡ false) × IsStill b (station t.inputs at)

@@ -1,5 +1,5 @@
 -- A step of one node: a pick, or a row.
-use Rattle.std.specs.Prelude.{◌≡◌, ◌⊎◌, ℕ, zero, suc, ◌+◌, ◌-◌, ◌<◌, ◌≤◌, Bool, true, false, ◌&&◌, nat_eq, nat_le, if◌then◌else◌, List, [], ◌∷◌, ◌++◌, Option, Some, None}
+use Rattle.std.specs.Prelude.{◌≡◌, ◌⊎◌, ℕ, zero, suc, ◌+◌, ◌-◌, ◌<◌, ◌≤◌, ◌^◌, Bool, true, false, ◌&&◌, nat_eq, nat_le, if◌then◌else◌, Option, Some, None}
 use Rattle.rsx_types.specs.Meaning.{Meaning}
 use Rattle.rsx_types.specs.Notes.{note_then}
 use Rattle.rsx_types.specs.declared.note.Note.{Note}
@@ -9,7 +9,8 @@ use Rattle.rsx_sources.specs.declared.machine.Machine.{Ghosts as Machine}
 use Rattle.rsx_tree.specs.declared.edge.Edge.{Edge}
 use Rattle.rsx_tree.specs.declared.edge.EdgeState.{EdgeState}
 use Rattle.rsx_tree.specs.declared.inputs.Inputs.{Inputs, End, More'}
-use Rattle.rsx_tree.specs.Edges.{is_live}
+use Rattle.rsx_tree.specs.declared.node.Node.{Node}
+use Rattle.rsx_tree.specs.Edges.{EdgeView, is_live}
 use Rattle.rsx_tree.specs.Inputs.{size, closed_row_if, tests}
 use Rattle.rsx_tree.specs.Changed.{Hold}
 
@@ -20,11 +21,15 @@ pub record Station (M : Type 0) : Type 0 where
   pub asked : ℕ
   pub sent : ℕ
 
+-- a node over its edge
+abbrev pub over : {M : Type 0} → Edge → M → Station M
+over e n = record { machine = n; state = e.state; asked = e.demand.asked; sent = e.demand.sent }
+
 -- the node `at` of a row
 abbrev pub station : {M : Type 0} → Inputs M → ℕ → Option (Station M)
 station End at = None
 station (More' e n p below q beside) at =
-    if nat_eq at 0 then Some (record { machine = n; state = e.state; asked = e.demand.asked; sent = e.demand.sent })
+    if nat_eq at 0 then Some (over e n)
     else (if nat_le at (size below) then station below (at - 1) else station beside (at - 1 - size below))
 
 -- its edge is live, and it can pick the input
@@ -34,6 +39,10 @@ can_pick_in b i o = tests (λ s. is_live s.state && b.picks s.machine i s.asked 
 -- its edge is live, and it can make a row
 abbrev pub can_row_in : {M T : Type 0} → Machine M T → Option (Station M) → Bool
 can_row_in b o = tests (λ s. is_live s.state && b.rows s.machine s.asked s.sent) o
+
+-- no step of it is enabled
+abbrev pub IsStill : {M T : Type 0} → Machine M T → Option (Station M) → Type 0
+IsStill b o = ((input : ℕ) → input < 2 ^ 64 → can_pick_in b input o ≡ false) × (can_row_in b o ≡ false)
 
 -- what a step does to a node, of which so much is asked and which sent so much
 abbrev pub Step : Type 0 → Type 1
@@ -53,6 +62,16 @@ pub record IsRowMadeHere {M T : Type 0} (b : Machine M T) (m : Meaning T) (n : M
   pub value : Keeps (b.comes_out m) n n'
   pub recorded : b.recorded n' ≡ b.recorded n
   pub counts : CountsStep b.counted b.ended b.done n n'
+
+-- a pick of some input, or a row
+abbrev pub IsStepOf : {M T : Type 0} → Machine M T → Meaning T → Step M
+IsStepOf b m n asked sent n' = ((input : ℕ) × IsPickedHere b m input n asked sent n') ⊎ IsRowMadeHere b m n asked sent n'
+
+-- such a step was made, of a node whose edge is live; where the node ended by it, all below it is closed
+pub record IsStepOver {M T : Type 0} (b : Machine M T) (m : Meaning T) (e : Edge) (n : M) (below : Inputs M) (n' : M) (below' : Inputs M) : Type 0 where
+  pub live : is_live e.state ≡ true
+  pub made : IsStepOf b m n e.demand.asked e.demand.sent n'
+  pub shut : below' ≡ closed_row_if (b.ended n' && true) below
 
 pub record IsStepHere {M : Type 0} (P : Step M) (ends : M → Bool) (e : Edge) (n : M) (p : Hold) (below : Inputs M) (q : Hold) (beside : Inputs M) (at : ℕ) (new : Inputs M) : Type 0 where
   pub n' : M
@@ -82,16 +101,25 @@ IsStepped P ends (More' e n p below q beside) at new =
     ⊎ (IsStepBelow (λ below'. IsStepped P ends below (at - 1) below') e n p below q beside at new
     ⊎ IsStepBeside (λ beside'. IsStepped P ends beside (at - 1 - size below) beside') e n p below q at new)
 
--- ---- what a step says of choices
+-- ---- a step of a tree
 
--- a note in front of what the node `at` still chooses
-abbrev pub chosen_at : ℕ → Note → List Note → List Note
-chosen_at at note [] = []
-chosen_at zero note (k ∷ ks) = note_then note k ∷ ks
-chosen_at (suc at) note (k ∷ ks) = k ∷ chosen_at at note ks
+-- the node `at` of a tree, whose root has the number 0 and this edge
+abbrev pub station_of : {M : Type 0} → Node M → EdgeView → ℕ → Option (Station M)
+station_of t e zero = Some (record { machine = t.machine; state = e.state; asked = e.asked; sent = e.sent })
+station_of t e (suc at) = station t.inputs at
 
--- a note behind what the node `at` recorded
-abbrev pub recorded_at : ℕ → Note → List Note → List Note
-recorded_at at note [] = []
-recorded_at zero note (n ∷ ns) = note_then n note ∷ ns
-recorded_at (suc at) note (n ∷ ns) = n ∷ recorded_at at note ns
+-- the root changed, and where it ended by it, all below it is closed
+pub record IsRootStepped {M : Type 0} (P : Step M) (ends : M → Bool) (old : Node M) (e : EdgeView) (new : Node M) : Type 0 where
+  pub live : is_live e.state ≡ true
+  pub made : P old.machine e.asked e.sent new.machine
+  pub inputs : new.inputs ≡ closed_row_if (ends new.machine && true) old.inputs
+
+-- a node below the root changed
+pub record IsSteppedBelow {M : Type 0} (P : Step M) (ends : M → Bool) (old : Node M) (at : ℕ) (new : Node M) : Type 0 where
+  pub machine : new.machine ≡ old.machine
+  pub made : IsStepped P ends old.inputs at new.inputs
+
+-- the node `at` of a tree changed, and where it ended by it, all below it is closed
+abbrev pub IsSteppedAt : {M : Type 0} → Step M → (M → Bool) → Node M → EdgeView → ℕ → Node M → Type 0
+IsSteppedAt P ends old e zero new = IsRootStepped P ends old e new
+IsSteppedAt P ends old e (suc at) new = IsSteppedBelow P ends old at new

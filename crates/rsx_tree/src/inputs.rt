@@ -1,10 +1,13 @@
 //! The inputs of a node, with all below them.
 
-ghost use Rattle.std.specs.Prelude.{◌≡◌, ℕ, OnOk, OnErr, IfOk, IsOk, IfErr, false};
+ghost use Rattle.std.specs.Prelude.{◌≡◌, ℕ, OnOk, OnErr, IfOk, IsOk, IfErr, Some, true, false};
 ghost use Rattle.rsx_sources.specs.Steps.{IsNotMade};
+ghost use Rattle.rsx_tree.specs.declared.inputs.Inputs.{More'};
 ghost use Rattle.rsx_tree.specs.Edges.{edge_view, can_ask_for};
-ghost use Rattle.rsx_tree.specs.Inputs.{can_send_over, send_over_allocates};
-ghost use Rattle.rsx_tree.specs.Changed.{IsAskedOver, IsSentOver};
+ghost use Rattle.rsx_tree.specs.Inputs.{can_send_over, send_over_allocates, size};
+ghost use Rattle.rsx_tree.specs.Changed.{Hold, IsAskedOver, IsSentOver};
+ghost use Rattle.rsx_tree.specs.Driven.{IsMade, IsRestOver};
+ghost use Rattle.rsx_tree.specs.Stepped.{IsStepOver, IsStill, over};
 
 use crate::edge::Edge;
 use rsx_sources::{Front, Machine, NotMade, NotTaken};
@@ -29,14 +32,14 @@ pub struct Pass {
     pub is_over: bool,
 }
 
-/// Which move was made over an edge.
+/// What came of the moves over one edge.
 #[derive(Clone, Copy, Debug)]
 enum Advance {
-    /// A Send.
-    Sent,
-    /// An Ask.
-    Asked,
-    /// None: neither is enabled.
+    /// One was made.
+    Made,
+    /// A Send was made, by which the receiver ended.
+    Ended,
+    /// None is enabled.
     Neither,
 }
 
@@ -317,7 +320,7 @@ impl<M: Machine> Inputs<M> {
         sent: u64,
         budget: u32,
     ) -> Result<Pass, NoMemory>
-        ensures driven { (n : ℕ) × SpentPass budget n result × IsRowDriven M.Machine (O.meaning ops.now) false n (is_over_in result) input asked sent receiver.old self.old receiver.new self.new }
+        ensures driven { (n : ℕ) × SpentPass budget n result × IsRowDriven M.Machine (O.meaning ops.now) true n (is_over_in result) input asked sent receiver.old self.old receiver.new self.new }
         ensures idle { IfOk result (λ p. p.left ≡ budget → 0 < budget → IsRowIdle M.Machine (O.meaning ops.now) receiver.new input asked sent self.new) }
     {
         match self {
@@ -329,20 +332,18 @@ impl<M: Machine> Inputs<M> {
                 let mut left = budget;
                 let mut is_done = budget == 0;
                 'moves: while !is_done {
-                    match advance_over(alloc, ops, receiver, input, asked, sent, edge, machine) {
-                        Ok(Advance::Sent) => {
+                    match advance_over(
+                        alloc, ops, receiver, input, asked, sent, edge, machine, below,
+                    ) {
+                        Ok(Advance::Made) => {
                             left -= 1;
-                            if receiver.has_ended() {
-                                return Ok(Pass {
-                                    left,
-                                    is_over: true,
-                                });
-                            }
                             is_done = left == 0;
                         }
-                        Ok(Advance::Asked) => {
-                            left -= 1;
-                            is_done = left == 0;
+                        Ok(Advance::Ended) => {
+                            return Ok(Pass {
+                                left: left - 1,
+                                is_over: true,
+                            });
                         }
                         Ok(Advance::Neither) => {
                             let before = left;
@@ -385,7 +386,7 @@ impl<M: Machine> Inputs<M> {
     }
 }
 
-/// Makes the Send or the Ask over an edge, where one is enabled.
+/// Makes the Send or the Ask over an edge, or a step of its sender, where one is enabled.
 #[inline(always)]
 fn advance_over<M: Machine, O: Ops<Item = M::Item>>(
     alloc: Global,
@@ -396,22 +397,72 @@ fn advance_over<M: Machine, O: Ops<Item = M::Item>>(
     sent: u64,
     edge: &mut Edge,
     sender: &mut M,
+    below: &mut Inputs<M>,
 ) -> Result<Advance, NoMemory>
-    ensures sent { IfOk result (λ a. a ≡ Advance.Sent → (asked sent : ℕ) → IsSentOver M.Machine (O.meaning ops.now) receiver.old input asked sent edge.old sender.old receiver.new edge.new sender.new) }
-    ensures asked { IfOk result (λ a. a ≡ Advance.Asked → IsAskedOver M.Machine receiver.old input asked sent edge.old sender.old receiver.new edge.new sender.new) }
-    ensures can_ask { IfOk result (λ a. a ≡ Advance.Neither → can_ask_for (edge_view edge.old) (M.wanted receiver.old input asked sent) ≡ false) }
-    ensures can_send { IfOk result (λ a. a ≡ Advance.Neither → can_send_over M.Machine (O.meaning ops.now) receiver.old input (edge_view edge.old) sender.old ≡ false) }
-    ensures same { IfOk result (λ a. a ≡ Advance.Neither → (receiver.new ≡ receiver.old) × (edge.new ≡ edge.old) × (sender.new ≡ sender.old)) }
-    ensures err { OnErr result ((receiver.new ≡ receiver.old) × (edge.new ≡ edge.old) × (sender.new ≡ sender.old)) }
+    ensures made { IfOk result (λ a. a ≡ Advance.Made → (p q : Hold) (beside : Inputs M) → IsMade M.Machine (O.meaning ops.now) true receiver.old input asked sent (More' edge.old sender.old p below.old q beside) 0 false receiver.new (More' edge.new sender.new p below.new q beside)) }
+    ensures ended { IfOk result (λ a. a ≡ Advance.Ended → (p q : Hold) (beside : Inputs M) → IsMade M.Machine (O.meaning ops.now) true receiver.old input asked sent (More' edge.old sender.old p below.old q beside) 0 true receiver.new (More' edge.new sender.new p below.new q beside)) }
+    ensures neither { IfOk result (λ a. a ≡ Advance.Neither → IsRestOver M.Machine (O.meaning ops.now) receiver.old input asked sent edge.old sender.old) }
+    ensures same { IfOk result (λ a. a ≡ Advance.Neither → (receiver.new ≡ receiver.old) × (edge.new ≡ edge.old) × (sender.new ≡ sender.old) × (below.new ≡ below.old)) }
+    ensures err { OnErr result ((receiver.new ≡ receiver.old) × (edge.new ≡ edge.old) × (sender.new ≡ sender.old) × (below.new ≡ below.old)) }
+    ensures size { size below.new ≡ size below.old }
 {
     match send_over(alloc, ops, receiver, input, edge, sender) {
-        Ok(()) => return Ok(Advance::Sent),
+        Ok(()) => {
+            if receiver.has_ended() {
+                return Ok(Advance::Ended);
+            }
+            return Ok(Advance::Made);
+        }
         Err(NotMade::NoMemory) => return Err(NoMemory),
         Err(NotMade::NotEnabled) => {}
     }
     match ask_over(receiver, input, asked, sent, edge) {
-        Ok(()) => Ok(Advance::Asked),
-        Err(_) => Ok(Advance::Neither),
+        Ok(()) => return Ok(Advance::Made),
+        Err(_) => {}
+    }
+    match step_over(alloc, ops, edge, sender, below) {
+        Ok(true) => Ok(Advance::Made),
+        Ok(false) => Ok(Advance::Neither),
+        Err(NoMemory) => Err(NoMemory),
+    }
+}
+
+/// Makes a pick or a row of a node, where one is enabled, and answers whether it did. Where the node ended by it, all below
+/// it is closed.
+fn step_over<M: Machine, O: Ops<Item = M::Item>>(
+    alloc: Global,
+    ops: &O,
+    edge: &Edge,
+    node: &mut M,
+    below: &mut Inputs<M>,
+) -> Result<bool, NoMemory>
+    ensures made { IfOk result (λ made. made ≡ true → IsStepOver M.Machine (O.meaning ops.now) edge.now node.old below.old node.new below.new) }
+    ensures still { IfOk result (λ made. made ≡ false → IsStill M.Machine (Some (over edge.now node.old))) }
+    ensures same { IfOk result (λ made. made ≡ false → (node.new ≡ node.old) × (below.new ≡ below.old)) }
+    ensures err { OnErr result ((node.new ≡ node.old) × (below.new ≡ below.old)) }
+    ensures size { size below.new ≡ size below.old }
+{
+    if !edge.is_live() {
+        return Ok(false);
+    }
+    let asked = edge.demand.asked;
+    let sent = edge.demand.sent;
+    if let Some(input) = node.next_pick(asked, sent) {
+        return match node.on_pick(alloc, ops, input, asked, sent) {
+            Ok(()) => {
+                below.close_if(node.has_ended(), true);
+                Ok(true)
+            }
+            Err(_) => Err(NoMemory),
+        };
+    }
+    match node.on_row(alloc, ops, asked, sent) {
+        Ok(()) => {
+            below.close_if(node.has_ended(), true);
+            Ok(true)
+        }
+        Err(NotMade::NotEnabled) => Ok(false),
+        Err(NotMade::NoMemory) => Err(NoMemory),
     }
 }
 

@@ -12,5 +12,5 @@ pub mod node;
 
 pub use edge::{Edge, EdgeState};
 pub use inputs::{Inputs, Pass};
-pub use look::Enabled;
+pub use look::NodeMove;
 pub use node::Node;

@@ -1,32 +1,38 @@
 //! Which moves of a row are enabled.
 
-ghost use Rattle.std.specs.Prelude.{◌≡◌};
+ghost use Rattle.std.specs.Prelude.{◌≡◌, IfSome, IfNone, Some};
 ghost use Rattle.rsx_types.specs.Meaning.{Meaning};
+ghost use Rattle.rsx_tree.specs.Driven.{IsRestOver};
 ghost use Rattle.rsx_tree.specs.Edges.{edge_view};
 ghost use Rattle.rsx_tree.specs.Inputs.{can_send_over};
+ghost use Rattle.rsx_tree.specs.Look.{IsEnabledOver, IsStepEnabled};
+ghost use Rattle.rsx_tree.specs.Stepped.{IsStill, over};
 
 use crate::edge::Edge;
 use crate::inputs::Inputs;
 use crate::node::Node;
 use rsx_sources::Machine;
 
-/// An enabled move over the edge with a number.
-#[derive(Clone, Copy, Debug)]
-pub enum Enabled {
-    /// An Ask.
+/// A move inside a tree: over the edge of the node with this number, or of that node itself.
+#[derive(Clone, Copy, Debug, PartialEq, Eq)]
+pub enum NodeMove {
+    /// What is asked of the node's edge rises to what its receiver wants.
     Ask(u32),
-    /// A Send.
+    /// The node's next signal goes over its edge.
     Send(u32),
+    /// The node picks this input, takes its next signal and records the choice.
+    Pick(u32, u64),
+    /// The node makes a row of the next item of each input.
+    Row(u32),
 }
 
 impl<M: Machine> Inputs<M> {
-    ghost use Rattle.std.specs.Prelude.{◌≡◌, ◌+◌, ◌<◌, ◌^◌, ℕ};
+    ghost use Rattle.std.specs.Prelude.{◌≡◌, ◌+◌, ◌<◌, ◌≤◌, ◌^◌, ℕ, IfSome, IfNone};
     ghost use Rattle.rsx_types.specs.Meaning.{Meaning};
-    ghost use Rattle.std.specs.Prelude.{true, false};
+    ghost use Rattle.rsx_tree.specs.Driven.{IsRestAt};
     ghost use Rattle.rsx_tree.specs.Inputs.{place, can_ask_in, can_send_in};
-    ghost use Rattle.rsx_tree.specs.Driven.{IsRowIdle, IsRowBusy};
-    ghost use Rattle.std.specs.Prelude.{IfSome, IfNone, ◌≤◌};
     ghost use Rattle.rsx_tree.specs.Look.{IsEnabledIn};
+    ghost use Rattle.rsx_tree.specs.Stepped.{can_pick_in, can_row_in, station};
 
     /// Whether an Ask over the edge `at` is enabled, where the first edge is input `input` of `receiver`.
     pub fn can_ask(&self, receiver: &M, input: u64, asked: u64, sent: u64, at: u32) -> bool
@@ -68,34 +74,46 @@ impl<M: Machine> Inputs<M> {
         }
     }
 
-    /// Whether no Ask and no Send of the row is enabled, where its first edge is input `input` of `receiver`, of which
-    /// `asked` is asked and which sent `sent`.
-    pub fn is_idle(&self, receiver: &M, input: u64, asked: u64, sent: u64) -> bool
-        ensures yes { (m : Meaning M.Item) → result ≡ true → IsRowIdle M.Machine m receiver.now input asked sent self.now }
-        ensures no { (m : Meaning M.Item) → result ≡ false → IsRowBusy M.Machine m receiver.now input asked sent self.now }
+    /// Whether the node `at` of the row can pick an input.
+    pub fn can_pick(&self, at: u32, input: u64) -> bool
+        ensures { result ≡ can_pick_in M.Machine input (station self.now at) }
     {
         match self {
-            Inputs::End => true,
+            Inputs::End => false,
             Inputs::More(edge, machine, below, beside) => {
-                let want = receiver.want(input, asked, sent);
-                if edge.can_ask(want) {
-                    return false;
+                if at == 0 {
+                    return edge.is_live()
+                        && machine.can_pick(input, edge.demand.asked, edge.demand.sent);
                 }
-                if can_send_signal(receiver, input, edge, machine) {
-                    return false;
+                let inside = below.count_up_to(at);
+                if at > inside {
+                    return beside.can_pick(at - 1 - inside, input);
                 }
-                if !below.is_idle(machine, 0, edge.demand.asked, edge.demand.sent) {
-                    return false;
-                }
-                match input.checked_add(1) {
-                    Some(next) => beside.is_idle(receiver, next, asked, sent),
-                    None => true,
-                }
+                below.can_pick(at - 1, input)
             }
         }
     }
 
-    /// The first enabled move of the row in pre-order, where its first edge has the number `at`.
+    /// Whether the node `at` of the row can make a row.
+    pub fn can_row(&self, at: u32) -> bool
+        ensures { result ≡ can_row_in M.Machine (station self.now at) }
+    {
+        match self {
+            Inputs::End => false,
+            Inputs::More(edge, machine, below, beside) => {
+                if at == 0 {
+                    return edge.is_live() && machine.can_row(edge.demand.asked, edge.demand.sent);
+                }
+                let inside = below.count_up_to(at);
+                if at > inside {
+                    return beside.can_row(at - 1 - inside);
+                }
+                below.can_row(at - 1)
+            }
+        }
+    }
+
+    /// The first enabled move of the row in pre-order, where its first node has the number `at`.
     pub fn first_enabled(
         &self,
         receiver: &M,
@@ -103,20 +121,17 @@ impl<M: Machine> Inputs<M> {
         asked: u64,
         sent: u64,
         at: u32,
-    ) -> Option<Enabled>
+    ) -> Option<NodeMove>
         requires { input ≤ at }
         ensures some { (m : Meaning M.Item) → IfSome result (λ e. IsEnabledIn M.Machine m receiver.now input asked sent self.now at e) }
-        ensures none { (m : Meaning M.Item) → IfNone result ((k : ℕ) → at + k < 2 ^ 32 → (can_ask_in M.Machine (place receiver.now input asked sent self.now k) ≡ false) × (can_send_in M.Machine m (place receiver.now input asked sent self.now k) ≡ false)) }
+        ensures none { (m : Meaning M.Item) → IfNone result ((k : ℕ) → at + k < 2 ^ 32 → IsRestAt M.Machine m receiver.now input asked sent self.now k) }
     {
         match self {
             Inputs::End => None,
             Inputs::More(edge, machine, below, beside) => {
-                let want = receiver.want(input, asked, sent);
-                if edge.can_ask(want) {
-                    return Some(Enabled::Ask(at));
-                }
-                if can_send_signal(receiver, input, edge, machine) {
-                    return Some(Enabled::Send(at));
+                match first_over(receiver, input, asked, sent, edge, machine, at) {
+                    Some(step) => return Some(step),
+                    None => {}
                 }
                 let room = u32::MAX - at;
                 if room == 0 {
@@ -139,6 +154,10 @@ impl<M: Machine> Inputs<M> {
 impl<M: Machine> Node<M> {
     ghost use Rattle.std.specs.Prelude.{◌≡◌};
     ghost use Rattle.rsx_types.specs.Meaning.{Meaning};
+    ghost use Rattle.std.specs.Prelude.{IfSome, IfNone, Some};
+    ghost use Rattle.rsx_tree.specs.Edges.{edge_view};
+    ghost use Rattle.rsx_tree.specs.Look.{IsStepEnabled};
+    ghost use Rattle.rsx_tree.specs.Stepped.{IsStill, can_pick_in, can_row_in, over, station_of};
     ghost use Rattle.rsx_tree.specs.Tree.{can_ask, can_send};
 
     /// Whether an Ask over the edge `at` below the root is enabled; `asked` and `sent` are those of the root's own edge.
@@ -154,6 +173,37 @@ impl<M: Machine> Node<M> {
     {
         self.inputs.can_send(&self.machine, 0, at)
     }
+
+    /// The first pick or row of the root that is enabled, where its edge is `root`; the root has the number 0.
+    pub fn first_step(&self, root: &Edge) -> Option<NodeMove>
+        ensures some { IfSome result (λ e. IsStepEnabled M.Machine (over root.now self.now.machine) 0 e) }
+        ensures none { IfNone result (IsStill M.Machine (Some (over root.now self.now.machine))) }
+    {
+        first_step(root, &self.machine, 0)
+    }
+
+    /// Whether the node `at` can pick an input, where the root has the number 0 and the edge `root`.
+    pub fn can_pick(&self, root: &Edge, at: u32, input: u64) -> bool
+        ensures { result ≡ can_pick_in M.Machine input (station_of self.now (edge_view root.now) at) }
+    {
+        if at > 0 {
+            return self.inputs.can_pick(at - 1, input);
+        }
+        root.is_live()
+            && self
+                .machine
+                .can_pick(input, root.demand.asked, root.demand.sent)
+    }
+
+    /// Whether the node `at` can make a row, where the root has the number 0 and the edge `root`.
+    pub fn can_row(&self, root: &Edge, at: u32) -> bool
+        ensures { result ≡ can_row_in M.Machine (station_of self.now (edge_view root.now) at) }
+    {
+        if at > 0 {
+            return self.inputs.can_row(at - 1);
+        }
+        root.is_live() && self.machine.can_row(root.demand.asked, root.demand.sent)
+    }
 }
 
 /// Whether the sender offers a signal that can go over the edge, and the receiver can take it.
@@ -164,4 +214,47 @@ fn can_send_signal<M: Machine>(receiver: &M, input: u64, edge: &Edge, sender: &M
         Some(front) => receiver.can_take(input, front) && edge.can_carry(front),
         None => false,
     }
+}
+
+/// The first of the moves over an edge and of its sender, which has the number `at`, that is enabled.
+fn first_over<M: Machine>(
+    receiver: &M,
+    input: u64,
+    asked: u64,
+    sent: u64,
+    edge: &Edge,
+    sender: &M,
+    at: u32,
+) -> Option<NodeMove>
+    ensures some { (m : Meaning M.Item) → IfSome result (λ e. IsEnabledOver M.Machine m receiver.now input asked sent edge.now sender.now at e) }
+    ensures none { (m : Meaning M.Item) → IfNone result (IsRestOver M.Machine m receiver.now input asked sent edge.now sender.now) }
+{
+    let want = receiver.want(input, asked, sent);
+    if edge.can_ask(want) {
+        return Some(NodeMove::Ask(at));
+    }
+    if can_send_signal(receiver, input, edge, sender) {
+        return Some(NodeMove::Send(at));
+    }
+    first_step(edge, sender, at)
+}
+
+/// The first pick or row of a node, which has the number `at`, that is enabled.
+fn first_step<M: Machine>(edge: &Edge, node: &M, at: u32) -> Option<NodeMove>
+    ensures some { IfSome result (λ e. IsStepEnabled M.Machine (over edge.now node.now) at e) }
+    ensures none { IfNone result (IsStill M.Machine (Some (over edge.now node.now))) }
+{
+    if !edge.is_live() {
+        return None;
+    }
+    let asked = edge.demand.asked;
+    let sent = edge.demand.sent;
+    match node.next_pick(asked, sent) {
+        Some(input) => return Some(NodeMove::Pick(at, input)),
+        None => {}
+    }
+    if node.can_row(asked, sent) {
+        return Some(NodeMove::Row(at));
+    }
+    None
 }

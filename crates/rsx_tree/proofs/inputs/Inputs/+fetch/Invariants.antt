@@ -1,4 +1,4 @@
-use Rattle.std.specs.Prelude.{◌≡◌, ◌<◌}
+use Rattle.std.specs.Prelude.{false, ◌≡◌, ◌<◌}
 use Rattle.rsx_tree.specs.Inputs.{size}
 use Rattle.rsx_tree.specs.declared.inputs.Inputs.TheViews.{More}
 use Rattle.rsx_tree.proofs.Changes.{Rest}
@@ -15,5 +15,5 @@ decreases-items g l = l.left
 abbrev pub invariant-items : goal.invariant-items
 invariant-items g l =
     ((beside : Rest _) → l.fn.self ≡ More l.initial.edge l.initial.sender l.initial.below beside →
-    IsUnderWay g.M.Machine (g.O.Ops.meaning l.ops) 0 l.asked l.sent l.fn.left l.fn.receiver l.fn.self l.left l.receiver (More l.edge l.sender l.below beside))
+    IsUnderWay g.M.Machine (g.O.Ops.meaning l.ops) false 0 l.asked l.sent l.fn.left l.fn.receiver l.fn.self l.left l.receiver (More l.edge l.sender l.below beside))
     × (size l.below.value < size l.fn.self)

@@ -1,35 +1,42 @@
 use Rattle.std.proofs.Common.{◌≡◌, ◌+◌, ◌-◌, ◌<◌, ◌≤◌, ℕ, ap, sym, ◌∙◌, subst, arith, false, true, refl}
-use Rattle.rsx_tree.proofs.Drives.{tree_under_way, idle_after, shut_by, still_some, pass_same}
+use Rattle.rsx_tree.proofs.Drives.{tree_begun, tree_under_way, idle_after, none_left, shut_by, still_some, pass_same}
 use Rattle.rsx_tree.proofs.node.Node.drive.Goals as goal
+
+pub rounds-init : goal.rounds-init
+rounds-init g c = (
+  tree_begun g.M.Machine (g.O.Ops.meaning c.args.ops.now) true c.args.self.now c.args.asked c.args.sent c.args.budget,
+  still_some false c.args.budget,
+  λ none some. absurd (none_left c.args.budget none some),
+)
 
 pub returns-in-Err-clause-driven : goal.returns-in-Err-clause-driven
 returns-in-Err-clause-driven g c =
     let k = c.in-Err.ensures.driven in
     let rest : k.0 + (c.rounds.left - k.0) ≡ c.rounds.left = let q = k.1 in omega (arith, q) in
-    let u = tree_under_way g.M.Machine (g.O.Ops.meaning c.args.ops.now) c.args.self.now c.args.asked c.args.sent c.args.budget c.rounds.left (c.rounds.left - k.0) k.0 false c.rounds.self.machine c.drive.new.receiver c.rounds.self.inputs c.drive.new.self c.drive.new.self
+    let u = tree_under_way g.M.Machine (g.O.Ops.meaning c.args.ops.now) true c.args.self.now c.args.asked c.args.sent c.args.budget c.rounds.left (c.rounds.left - k.0) k.0 false c.rounds.self.machine c.drive.new.receiver c.rounds.self.inputs c.drive.new.self c.drive.new.self
     c.rounds.invariant.0 rest k.2 refl in
     (u.count, let q = u.spent in omega (arith, q), u.run)
 
-pub returns-in-Err-clause-kept : goal.returns-in-Err-clause-kept
-returns-in-Err-clause-kept g c =
+pub returns-in-Err-clause-chosen : goal.returns-in-Err-clause-chosen
+returns-in-Err-clause-chosen g c =
     let k = c.in-Err.ensures.driven in
     let rest : k.0 + (c.rounds.left - k.0) ≡ c.rounds.left = let q = k.1 in omega (arith, q) in
-    let u = tree_under_way g.M.Machine (g.O.Ops.meaning c.args.ops.now) c.args.self.now c.args.asked c.args.sent c.args.budget c.rounds.left (c.rounds.left - k.0) k.0 false c.rounds.self.machine c.drive.new.receiver c.rounds.self.inputs c.drive.new.self c.drive.new.self
+    let u = tree_under_way g.M.Machine (g.O.Ops.meaning c.args.ops.now) true c.args.self.now c.args.asked c.args.sent c.args.budget c.rounds.left (c.rounds.left - k.0) k.0 false c.rounds.self.machine c.drive.new.receiver c.rounds.self.inputs c.drive.new.self c.drive.new.self
     c.rounds.invariant.0 rest k.2 refl in
-    u.kept
+    u.chosen
 
 pub rounds-preserved : goal.rounds-preserved
 rounds-preserved g c =
     let k = c.in-Ok.ensures.driven in
     let shut = shut_by c.in-Ok.pass.is_over c.drive.new.self c.drive.new.self c.close_if.new.self c.close_if.ensures.row refl in (
-      tree_under_way g.M.Machine (g.O.Ops.meaning c.args.ops.now) c.args.self.now c.args.asked c.args.sent c.args.budget c.rounds.left c.in-Ok.pass.left k.0 c.in-Ok.pass.is_over c.rounds.self.machine c.drive.new.receiver c.rounds.self.inputs c.drive.new.self c.close_if.new.self
+      tree_under_way g.M.Machine (g.O.Ops.meaning c.args.ops.now) true c.args.self.now c.args.asked c.args.sent c.args.budget c.rounds.left c.in-Ok.pass.left k.0 c.in-Ok.pass.is_over c.rounds.self.machine c.drive.new.receiver c.rounds.self.inputs c.drive.new.self c.close_if.new.self
           c.rounds.invariant.0 k.1 k.2 shut,
       still_some _ c.in-Ok.pass.left,
       λ e some.
           let same = pass_same c.in-Ok.pass.left c.rounds.left e some in
           let s = k.1 in
           let none : k.0 ≡ 0 = omega (arith, s, same) in
-          idle_after g.M.Machine (g.O.Ops.meaning c.args.ops.now) k.0 c.in-Ok.pass.is_over c.args.asked c.args.sent c.rounds.self.machine c.drive.new.receiver c.rounds.self.inputs c.drive.new.self c.close_if.new.self
+          idle_after g.M.Machine (g.O.Ops.meaning c.args.ops.now) true k.0 c.in-Ok.pass.is_over c.args.asked c.args.sent c.rounds.self.machine c.drive.new.receiver c.rounds.self.inputs c.drive.new.self c.close_if.new.self
           none k.2 shut (c.in-Ok.ensures.idle same (c.rounds.invariant.1 c.rounds-test.true)),
     )
 
@@ -37,6 +44,6 @@ pub returns-in-Err-clause-balance : goal.returns-in-Err-clause-balance
 returns-in-Err-clause-balance g c =
     let k = c.in-Err.ensures.driven in
     let rest : k.0 + (c.rounds.left - k.0) ≡ c.rounds.left = let q = k.1 in omega (arith, q) in
-    let u = tree_under_way g.M.Machine (g.O.Ops.meaning c.args.ops.now) c.args.self.now c.args.asked c.args.sent c.args.budget c.rounds.left (c.rounds.left - k.0) k.0 false c.rounds.self.machine c.drive.new.receiver c.rounds.self.inputs c.drive.new.self c.drive.new.self
+    let u = tree_under_way g.M.Machine (g.O.Ops.meaning c.args.ops.now) true c.args.self.now c.args.asked c.args.sent c.args.budget c.rounds.left (c.rounds.left - k.0) k.0 false c.rounds.self.machine c.drive.new.receiver c.rounds.self.inputs c.drive.new.self c.drive.new.self
     c.rounds.invariant.0 rest k.2 refl in
     u.balance

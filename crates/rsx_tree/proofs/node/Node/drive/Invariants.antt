@@ -8,6 +8,6 @@ decreases-rounds g l = l.left + l.left + (if l.is_done then 0 else 1)
 
 abbrev pub invariant-rounds : goal.invariant-rounds
 invariant-rounds g l =
-    IsTreeUnderWay g.M.Machine (g.O.Ops.meaning l.ops) l.fn.self l.asked l.sent l.budget l.left l.self
+    IsTreeUnderWay g.M.Machine (g.O.Ops.meaning l.ops) true l.fn.self l.asked l.sent l.budget l.left l.self
     × (l.is_done ≡ false → 0 < l.left)
     × (l.is_done ≡ true → 0 < l.left → IsIdle g.M.Machine (g.O.Ops.meaning l.ops) l.self l.asked l.sent)

@@ -1,0 +1,138 @@
+//! A plain operator behind a source of another region: the moves of the edge between them, one by one.
+
+ghost use Rattle.std.specs.Prelude.{◌≤◌};
+
+use rsx_crossing::{CAPACITY, Queued};
+use rsx_demo::{Demo, Val};
+use rsx_node::AnyNode;
+use rsx_plain::PlainNode;
+use rsx_sources::{Front, Machine, RangeNode};
+use rsx_tree::{Inputs, Node};
+use rsx_types::{Ending, NoMemory, Signal, Stage};
+use std::alloc::Global;
+use std::test::Fail;
+
+/// The function `double` of `map`.
+const DOUBLE: u16 = 2;
+
+/// A node with a queue behind it.
+type Sender = Queued<AnyNode<Val>, Val>;
+
+// The tests need no facts of what they call, so these functions say nothing of their results.
+
+/// The numbers from 1 on, so many.
+fn numbers(alloc: Global, count: u64) -> Result<Sender, NoMemory>
+    requires { count ≤ 1000 }
+{
+    Queued::new(alloc, AnyNode::Range(RangeNode::new(1, count)))
+}
+
+/// The tree that doubles them. Both of its edges cross.
+fn doubled(alloc: Global, count: u64) -> Result<Node<Sender>, NoMemory>
+    requires { count ≤ 1000 }
+{
+    let row = Node::new(numbers(alloc, count)?, Inputs::End).join(alloc, Inputs::End)?;
+    let map = PlainNode::new(alloc, &Demo, &Stage::Map(DOUBLE))?;
+    Ok(Node::new(Queued::new(alloc, AnyNode::Plain(map))?, row))
+}
+
+/// The number of an item, the ending of a completion as 0, and no signal as -1.
+fn number(signal: &Option<Signal<Val>>) -> i64 {
+    match signal {
+        Some(Signal::Next(Val::Int(number))) => *number,
+        Some(Signal::Complete) => 0,
+        _ => -1,
+    }
+}
+
+/// What the root's queue gave in eight rounds of all moves, where so many items were asked for.
+fn given(alloc: Global, count: u64, asked: u64) -> Result<Vec<i64>, NoMemory>
+    requires { count ≤ 1000 }
+{
+    let mut tree = doubled(alloc, count)?;
+    let mut numbers = Vec::new(alloc);
+    for _ in 0..8 {
+        let taken = numbers.len() as u64;
+        let _ = tree.ask(0, asked, taken);
+        // The Send of the source, the Take of the operator, and the operator's own Send.
+        let _ = tree.inputs.make_row(alloc, &Demo, 0);
+        let _ = tree.send(alloc, &Demo, 0);
+        let _ = tree.machine.on_row(alloc, &Demo, asked, taken);
+        let signal = tree.machine.pop_front(alloc, &Demo)?;
+        if signal.is_some() {
+            numbers.push(number(&signal))?;
+        }
+    }
+    Ok(numbers)
+}
+
+/// How many of 80 Sends of a source were made, and whether one more is enabled once an item was taken.
+fn filled(alloc: Global) -> Result<(usize, bool), NoMemory> {
+    let mut sender = numbers(alloc, 100)?;
+    for _ in 0..80 {
+        let _ = sender.on_row(alloc, &Demo, 100, 0);
+    }
+    let made = sender.queue.len();
+    let _ = sender.pop_front(alloc, &Demo)?;
+    Ok((made, sender.can_row(100, 1)))
+}
+
+/// The source of 3 numbers, of which 2 are in its queue.
+fn begun(alloc: Global) -> Result<Sender, NoMemory> {
+    let mut sender = numbers(alloc, 3)?;
+    let _ = sender.on_row(alloc, &Demo, 9, 0);
+    let _ = sender.on_row(alloc, &Demo, 9, 0);
+    Ok(sender)
+}
+
+/// What it gives, where each signal is put back once.
+fn put_back(alloc: Global) -> Result<Vec<i64>, NoMemory> {
+    let mut sender = begun(alloc)?;
+    let mut numbers = Vec::new(alloc);
+    for _ in 0..5 {
+        let _ = sender.on_row(alloc, &Demo, 9, 0);
+        if let Some(signal) = sender.pop_front(alloc, &Demo)? {
+            sender.put_back(signal);
+        }
+        let signal = sender.pop_front(alloc, &Demo)?;
+        numbers.push(number(&signal))?;
+    }
+    Ok(numbers)
+}
+
+/// How many items still come out, and the ending behind them.
+fn left(alloc: Global) -> Result<(usize, Ending), NoMemory> {
+    let value = begun(alloc)?.residual(alloc, &Demo, &[], &[])?;
+    Ok((value.items().len(), value.ending()))
+}
+
+/// Whether an operator takes items, before its ending is in its queue and behind that.
+fn takes(alloc: Global) -> Result<(bool, bool), NoMemory> {
+    let map = PlainNode::new(alloc, &Demo, &Stage::Map(DOUBLE))?;
+    let mut sender = Queued::new(alloc, AnyNode::Plain(map))?;
+    let before = sender.can_take(0, Front::Item);
+    let _ = sender.on_signal(alloc, &Demo, 0, Signal::Complete);
+    let _ = sender.on_row(alloc, &Demo, 0, 0);
+    Ok((before, sender.can_take(0, Front::Item)))
+}
+
+#[test]
+fn items_cross_in_order_and_the_ending_behind_them(rt: HostRuntime) -> Result<(), Fail> {
+    let alloc = rt.alloc();
+    let all = given(alloc, 3, 9)?;
+    assert_eq!(rt; all.as_slice(), [2, 4, 6, 0].as_slice());
+    let asked_for = given(alloc, 3, 2)?;
+    assert_eq!(rt; asked_for.as_slice(), [2, 4].as_slice());
+    let again = put_back(alloc)?;
+    assert_eq!(rt; again.as_slice(), [1, 2, 3, 0, -1].as_slice());
+    Ok(())
+}
+
+#[test]
+fn a_queue_holds_so_many_and_no_more(rt: HostRuntime) -> Result<(), Fail> {
+    let alloc = rt.alloc();
+    assert_eq!(rt; filled(alloc)?, (CAPACITY, true));
+    assert_eq!(rt; left(alloc)?, (3, Ending::Done));
+    assert_eq!(rt; takes(alloc)?, (true, false));
+    Ok(())
+}

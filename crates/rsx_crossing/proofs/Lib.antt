@@ -1,0 +1,3 @@
+-- Lemmas about a queue behind a node.
+pub mod Edges
+pub mod Senders

@@ -1,0 +1,6 @@
+-- Definitions that contracts cite.
+pub mod Held
+pub mod Laws
+pub mod Queued
+pub mod Sender
+pub mod Transfer

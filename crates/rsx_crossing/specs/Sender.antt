@@ -1,0 +1,128 @@
+-- A node whose edge crosses to another region or doesn't.
+use Rattle.std.specs.Prelude.{◌≡◌, ◌⊎◌, ⊤, ℕ, ◌<◌, ◌^◌, Bool, true, false, List, Option, Some, None, option_map, refl}
+use Rattle.std.proofs.Common.{inl, inr}
+use Rattle.rsx_types.specs.declared.note.Note.{Note}
+use Rattle.rsx_types.specs.declared.signal.Signal.{Signal}
+use Rattle.rsx_types.specs.Meaning.{Meaning, Allocates}
+use Rattle.rsx_types.specs.Notes.{unchosen}
+use Rattle.rsx_types.specs.Stream.{Stream}
+use Rattle.rsx_sources.specs.Counts.{AreWithin, CanStep, IsHungry, IsHungryAt, ends_input}
+use Rattle.rsx_sources.specs.Machine.{Incoming, front_of}
+use Rattle.rsx_sources.specs.Steps.{AllocatesAlike}
+use Rattle.rsx_sources.specs.declared.machine.Front.{Front}
+use Rattle.rsx_sources.specs.declared.machine.Machine.{Ghosts as Machine}
+use Rattle.rsx_crossing.specs.declared.sender.Sender.{Sender}
+use Rattle.rsx_crossing.specs.declared.sender.Sender.TheVariants.{Direct, Crossing}
+use Rattle.rsx_crossing.specs.Laws.{Shows, Drops, Ends, Settles, Waits, Hungers, queued_shows, queued_popped_alike, queued_drops, queued_ends, queued_settles, queued_ending_waits, queued_hungry}
+use Rattle.rsx_crossing.specs.Queued.{queued_comes_out, queued_waiting, queued_shown, queued_takes, queued_picks, queued_rows, queued_ended, queued_done, queued_counted, queued_wanted, queued_popped, queued_allocates}
+
+-- ---- its meaning is that of the node, or of the node with its queue
+
+abbrev pub sender_comes_out : {M T : Type 0} → Machine M T → Meaning T → Sender M T → Incoming T → Note → Option (Stream T)
+sender_comes_out b m (Direct n) inc k = b.comes_out m n inc k
+sender_comes_out b m (Crossing n) inc k = queued_comes_out b m n inc k
+
+abbrev pub sender_waiting : {M T : Type 0} → Machine M T → Meaning T → Sender M T → Option (Signal T)
+sender_waiting b m (Direct n) = b.waiting m n
+sender_waiting b m (Crossing n) = queued_waiting m n
+
+abbrev pub sender_shown : {M T : Type 0} → Machine M T → Sender M T → Option Front
+sender_shown b (Direct n) = b.shown n
+sender_shown b (Crossing n) = queued_shown n
+
+abbrev pub sender_takes : {M T : Type 0} → Machine M T → Sender M T → ℕ → Front → Bool
+sender_takes b (Direct n) i f = b.takes n i f
+sender_takes b (Crossing n) i f = queued_takes b n i f
+
+abbrev pub sender_picks : {M T : Type 0} → Machine M T → Sender M T → ℕ → ℕ → ℕ → Bool
+sender_picks b (Direct n) i a s = b.picks n i a s
+sender_picks b (Crossing n) i a s = queued_picks b n i a s
+
+abbrev pub sender_rows : {M T : Type 0} → Machine M T → Sender M T → ℕ → ℕ → Bool
+sender_rows b (Direct n) a s = b.rows n a s
+sender_rows b (Crossing n) a s = queued_rows b n a s
+
+abbrev pub sender_recording : {M T : Type 0} → Machine M T → Sender M T → ℕ → Note
+sender_recording b (Direct n) i = b.recording n i
+sender_recording b (Crossing n) i = b.recording n.node i
+
+abbrev pub sender_recorded : {M T : Type 0} → Machine M T → Sender M T → Note
+sender_recorded b (Direct n) = b.recorded n
+sender_recorded b (Crossing n) = b.recorded n.node
+
+abbrev pub sender_ended : {M T : Type 0} → Machine M T → Sender M T → Bool
+sender_ended b (Direct n) = b.ended n
+sender_ended b (Crossing n) = queued_ended b n
+
+abbrev pub sender_done : {M T : Type 0} → Machine M T → Sender M T → ℕ → Bool
+sender_done b (Direct n) i = b.done n i
+sender_done b (Crossing n) i = queued_done b n i
+
+abbrev pub sender_counted : {M T : Type 0} → Machine M T → Sender M T → List ℕ → ℕ → Type 0
+sender_counted b (Direct n) took sent = b.counted n took sent
+sender_counted b (Crossing n) took sent = queued_counted b n took sent
+
+abbrev pub sender_wanted : {M T : Type 0} → Machine M T → Sender M T → ℕ → ℕ → ℕ → ℕ
+sender_wanted b (Direct n) i a s = b.wanted n i a s
+sender_wanted b (Crossing n) i a s = queued_wanted b n i a s
+
+abbrev pub sender_popped : {M T : Type 0} → Machine M T → Sender M T → Signal T → Sender M T → Type 0
+sender_popped b (Direct x) s (Direct y) = b.popped x s y
+sender_popped b (Crossing x) s (Crossing y) = queued_popped x s y
+sender_popped b x s y = ⊥
+
+abbrev pub sender_pop_allocates : {M T : Type 0} → Machine M T → Allocates → Sender M T → Bool
+sender_pop_allocates b a (Direct n) = b.pop_allocates a n
+sender_pop_allocates b a (Crossing n) = false
+
+abbrev pub sender_signal_allocates : {M T : Type 0} → Machine M T → Allocates → Sender M T → Bool
+sender_signal_allocates b a (Direct n) = b.signal_allocates a n
+sender_signal_allocates b a (Crossing n) = queued_allocates b a n
+
+-- ---- and so it keeps their laws
+
+pub sender_shows : {M T : Type 0} (b : Machine M T) (m : Meaning T) → Shows b m → (n : Sender M T) → sender_shown b n ≡ option_map front_of (sender_waiting b m n)
+sender_shows b m shows (Direct n) = shows n
+sender_shows b m shows (Crossing n) = queued_shows m n
+
+abbrev pub IsAlike : {M T : Type 0} → Machine M T → Type 0
+IsAlike {M} {T} b = (old : M) (s : Signal T) (new : M) → b.popped old s new → AllocatesAlike b.pop_allocates b.signal_allocates old new
+
+pub sender_alike : {M T : Type 0} (b : Machine M T) → IsAlike b → (old : Sender M T) (s : Signal T) (new : Sender M T) → sender_popped b old s new → AllocatesAlike (sender_pop_allocates b) (sender_signal_allocates b) old new
+sender_alike b alike (Direct x) s (Direct y) h = alike x s y h
+sender_alike b alike (Crossing x) s (Crossing y) h = queued_popped_alike b x s y h
+sender_alike b alike (Direct x) s (Crossing y) h = absurd h
+sender_alike b alike (Crossing x) s (Direct y) h = absurd h
+
+pub sender_drops : {M T : Type 0} (b : Machine M T) (m : Meaning T) → Drops b m → (n : Sender M T) (inc other : Incoming T) (k : Note) → sender_ended b n ≡ true → sender_comes_out b m n inc k ≡ sender_comes_out b m n other k
+sender_drops b m drops (Direct n) inc other k e = drops n inc other k e
+sender_drops b m drops (Crossing n) inc other k e = queued_drops b m drops n inc other k e
+
+pub sender_ends : {M T : Type 0} (b : Machine M T) (m : Meaning T) → Ends b m → (n : Sender M T) (s : Signal T) (inc other : Incoming T) (k : Note) → sender_waiting b m n ≡ Some s → ends_input s ≡ true → sender_comes_out b m n inc k ≡ sender_comes_out b m n other k
+sender_ends b m ends (Direct n) s inc other k w e = ends n s inc other k w e
+sender_ends b m ends (Crossing n) s inc other k w e = queued_ends b m n s inc other k w e
+
+pub sender_settles : {M T : Type 0} (b : Machine M T) (m : Meaning T) → Settles b m → (n : Sender M T) (inc : Incoming T) → (v : Stream T) × (sender_comes_out b m n inc (unchosen (sender_recorded b n)) ≡ Some v)
+sender_settles b m settles (Direct n) inc = settles n inc
+sender_settles b m settles (Crossing n) inc = queued_settles b m settles n inc
+
+pub sender_ending_waits : {M T : Type 0} (b : Machine M T) (m : Meaning T) → Shows b m → Waits b m → (n : Sender M T) (asked sent : ℕ) → sender_ended b n ≡ true → sender_waiting b m n ≡ None → sent < asked → CanStep (sender_picks b) (sender_rows b) n asked sent
+sender_ending_waits b m shows waits (Direct n) asked sent e none more = waits n asked sent e none more
+sender_ending_waits b m shows waits (Crossing n) asked sent e none more = queued_ending_waits b m shows waits n asked sent e none more
+
+pub sender_hungry : {M T : Type 0} (b : Machine M T) (m : Meaning T) → Shows b m → Hungers b m → (n : Sender M T) (took : List ℕ) (asked sent : ℕ) → sender_ended b n ≡ false → sender_counted b n took sent → sender_waiting b m n ≡ None → sent < asked → AreWithin took →
+    IsHungry (sender_takes b) (sender_picks b) (sender_rows b) (sender_done b) (sender_wanted b) n took asked sent
+sender_hungry b m shows hungers (Direct n) took asked sent going counted none more within = elim (hungers n took asked sent going counted none more within) [
+  | inl k ↦ inl k
+  | inr y ↦ elim y [
+    | inl k ↦ inr (inl k)
+    | inr k ↦ inr (inr (record { i = k.i; c = k.c; at = k.at; open_still = k.open_still; takes_any = k.takes_any; wants = k.wants }))
+  ]
+]
+sender_hungry b m shows hungers (Crossing n) took asked sent going counted none more within = elim (queued_hungry b m shows hungers n took asked sent going counted none more within) [
+  | inl k ↦ inl k
+  | inr y ↦ elim y [
+    | inl k ↦ inr (inl k)
+    | inr k ↦ inr (inr (record { i = k.i; c = k.c; at = k.at; open_still = k.open_still; takes_any = k.takes_any; wants = k.wants }))
+  ]
+]

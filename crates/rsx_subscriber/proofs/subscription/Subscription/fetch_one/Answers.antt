@@ -1,0 +1,23 @@
+use Rattle.std.proofs.Common.{◌≡◌, ◌+◌, ◌-◌, ◌∷◌, ◌++◌, [], ap, arith, refl, sym, ◌∙◌}
+use Rattle.rsx_types.specs.declared.signal.Signal.TheVariants.{Next}
+use Rattle.rsx_subscriber.proofs.Fetches.{handed_on, pulled_item, pulled_none}
+use Rattle.rsx_subscriber.proofs.subscription.Subscription.fetch_one.Goals as goal
+
+pub returns-in-None-clause-pumped : goal.returns-in-None-clause-pumped
+returns-in-None-clause-pumped g c = pulled_none (g.O.Ops.meaning c.args.ops.now) c.args.id c.args.left.now c.fetch.new.left c.args.self.now _ c.fetch.new.self c.args.out.now.signals c.in-None.ensures
+
+pub returns-then-left-eq0-clause-pumped : goal.returns-then-left-eq0-clause-pumped
+returns-then-left-eq0-clause-pumped g c =
+    pulled_item (g.O.Ops.meaning c.args.ops.now) c.args.id c.args.left.now c.fetch.new.left c.args.self.now _ c.fetch.new.self c.in-Some.item c.push.new.self c.args.out.now.signals c.args.out.now.signals c.in-Some.ensures c.requires c.push.ensures refl
+
+pub returns-in-Err-clause-pumped : goal.returns-in-Err-clause-pumped
+returns-in-Err-clause-pumped g c =
+    pulled_item (g.O.Ops.meaning c.args.ops.now) c.args.id c.args.left.now c.fetch.new.left c.args.self.now _ c.fetch.new.self c.in-Some.item c.push-in-Err.new.self c.args.out.now.signals c.reserve.new.self.signals c.in-Some.ensures c.requires c.push-in-Err.ensures c.in-Err.ensures.signals
+
+pub returns-clause-pumped : goal.returns-clause-pumped
+returns-clause-pumped g c =
+    let one : (c.fetch.new.left - 1) + 1 ≡ c.fetch.new.left = let h = c.if-left-eq0.false in omega (arith, h) in
+    let t = c.delivers_item.ensures in
+    handed_on (g.O.Ops.meaning c.args.ops.now) c.args.id c.args.left.now c.fetch.new.left (c.fetch.new.left - 1) c.args.self.now c.args.self.now.opened c.fetch.new.self c.in-Some.item _ c.args.out.now.signals c.push-2.new.self.signals
+    c.in-Some.ensures c.requires one (sym t.delivered ∙ c.if-not-delivers_item.false) (record { part = refl; queue = refl; live = refl; state = t.state; requested = t.asked; delivered = t.sent })
+    (c.push-2.ensures ∙ ap (λ l. l ++ (c.args.id, Next c.in-Some.item) ∷ []) c.in-Ok.ensures.signals)
