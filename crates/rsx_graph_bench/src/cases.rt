@@ -1,0 +1,59 @@
+//! What is measured: an expression over a range, and how it is asked for.
+
+use anyhow::{Result, bail};
+use rsx_model::Expr;
+use rsx_types::{Ops, Stage};
+use std::alloc::Global;
+
+/// The function `double` of `map`.
+const DOUBLE: u16 = 2;
+/// The function `even` of `test`.
+const EVEN: u16 = 1;
+/// The function `add` of `fold`.
+const ADD: u16 = 1;
+/// The function of `key` with 3 keys.
+const THREE_KEYS: u16 = 1;
+/// The function of `key` that tells all numbers apart.
+const ALL_KEYS: u16 = 2;
+
+/// An operator over an expression.
+fn over<T: Drop>(alloc: Global, stage: Stage<T>, input: Expr<T>) -> Result<Expr<T>> {
+    Ok(Expr::Plain(stage, Box::new(alloc, input)?))
+}
+
+/// The total of a range, which begins at 0.
+fn total<O: Ops>(alloc: Global, ops: &O, input: Expr<O::Item>) -> Result<Expr<O::Item>> {
+    match ops.from_i64(alloc, 0) {
+        Ok(seed) => over(alloc, Stage::Scan(ADD, seed), input),
+        Err(_) => bail!("no memory"),
+    }
+}
+
+/// The expression of a case over the numbers from 1 to `count`.
+pub fn expression<O: Ops>(
+    alloc: Global,
+    ops: &O,
+    case: &str,
+    count: u64,
+) -> Result<Expr<O::Item>> {
+    let range = Expr::Range(1, count);
+    match case {
+        "range" => Ok(range),
+        "map" => over(alloc, Stage::Map(DOUBLE), range),
+        "filter" | "single" => over(
+            alloc,
+            Stage::Filter(EVEN),
+            over(alloc, Stage::Map(DOUBLE), range)?,
+        ),
+        "half" => over(
+            alloc,
+            Stage::Map(DOUBLE),
+            over(alloc, Stage::Filter(EVEN), range)?,
+        ),
+        "buffer" => over(alloc, Stage::Buffer(10), range),
+        "scan" => over(alloc, Stage::Take(count), total(alloc, ops, range)?),
+        "keys3" => over(alloc, Stage::Distinct(THREE_KEYS), range),
+        "keys" => over(alloc, Stage::Distinct(ALL_KEYS), range),
+        _ => bail!("no such case"),
+    }
+}

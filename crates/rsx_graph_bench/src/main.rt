@@ -1,0 +1,140 @@
+//! Times graphs through the library, without a script.
+//!
+//! `rsx_graph_bench ITEMS CASE COUNT BUDGET ROUNDS` pumps an expression over the numbers from 1 to COUNT to its end, with
+//! so much of a budget in each call, and does so ROUNDS times. ITEMS is `numbers` (64-bit integers) or `values` (the items
+//! of the demonstration). CASE is `range`; `map` (doubles); `filter` (the even ones of the doubled); `half` (the doubled of
+//! the even ones); `single` (as `filter`, each item asked for and pumped by itself); `buffer` (lists of 10); `scan` (as
+//! many as there are of the totals); `keys3` and `keys` (distinct, with three keys and with a key for each number).
+//!
+//! How many items came and their sum go to standard output, which is the same in every run, and the least time to
+//! standard error.
+#![tactic(auto)]
+
+mod cases;
+mod numbers;
+
+use crate::cases::expression;
+use crate::numbers::Numbers;
+use anyhow::{Result, bail};
+use rsx_demo::{Demo, Val};
+use rsx_graph::{Deliveries, Graph, Pumped};
+use rsx_types::{Ops, Signal, SubId};
+use std::alloc::Global;
+use std::env;
+use std::time::Instant;
+
+/// What an item adds to the sum.
+trait Weight {
+    fn weight(&self) -> i64;
+}
+
+impl Weight for Val {
+    fn weight(&self) -> i64 {
+        match self {
+            Val::Int(n) => *n,
+            Val::List(items) => items.len() as i64,
+        }
+    }
+}
+
+impl Weight for i64 {
+    fn weight(&self) -> i64 {
+        *self
+    }
+}
+
+/// What was delivered.
+#[derive(Clone, Copy, Debug)]
+struct Sum {
+    items: u64,
+    sum: i64,
+}
+
+impl Sum {
+    /// Takes in what was delivered.
+    fn add<T: Weight + Drop>(&mut self, deliveries: &Deliveries<T>) {
+        for (_, signal) in deliveries.as_slice() {
+            if let Signal::Next(item) = signal {
+                self.items = self.items.wrapping_add(1);
+                self.sum = self.sum.wrapping_add(item.weight());
+            }
+        }
+    }
+}
+
+/// A graph with one subscription to a case.
+fn started<O: Ops>(alloc: Global, ops: O, case: &str, count: u64) -> Result<(Graph<O>, SubId)> {
+    let expr = expression(alloc, &ops, case, count)?;
+    let Ok(mut graph) = Graph::new(alloc, ops) else {
+        bail!("no memory")
+    };
+    match graph.subscribe(alloc, &expr) {
+        Ok(sub) => Ok((graph, sub)),
+        Err(_) => bail!("refused"),
+    }
+}
+
+/// Pumps until the graph is idle.
+fn pump<O: Ops>(alloc: Global, graph: &mut Graph<O>, budget: u32, sum: &mut Sum)
+where
+    O::Item: Weight,
+{
+    for _ in 0..u64::MAX {
+        let mut out = Deliveries::new(alloc);
+        let pumped = graph.pump(alloc, budget, &mut out);
+        sum.add(&out);
+        match pumped {
+            Ok(Pumped::Budget) => {}
+            _ => break,
+        }
+    }
+}
+
+/// One run of a case.
+fn run<O: Ops>(alloc: Global, ops: O, case: &str, count: u64, budget: u32) -> Result<Sum>
+where
+    O::Item: Weight,
+{
+    let (mut graph, sub) = started(alloc, ops, case, count)?;
+    let mut sum = Sum { items: 0, sum: 0 };
+    let (requests, n) = match case {
+        "single" => (count, 1),
+        _ => (1, i64::MAX),
+    };
+    for _ in 0..requests {
+        let _ = graph.request(sub, n);
+        pump(alloc, &mut graph, budget, &mut sum);
+    }
+    Ok(sum)
+}
+
+/// The number of an argument, or this one where it is left out.
+fn number(word: Option<String>, otherwise: u64) -> u64 {
+    match word {
+        Some(word) => word.as_str().parse::<u64>().unwrap_or(otherwise),
+        None => otherwise,
+    }
+}
+
+fn main(rt: HostRuntime) -> Result<()> {
+    let mut words = env::args(&rt)?.skip(1);
+    let (Some(items), Some(case)) = (words.next(), words.next()) else {
+        bail!("wanted: ITEMS CASE COUNT BUDGET ROUNDS")
+    };
+    let count = number(words.next(), 100_000);
+    let budget = number(words.next(), 65_536).min(u64::from(u32::MAX)) as u32;
+    let rounds = number(words.next(), 1);
+    let mut least = u128::MAX;
+    let mut sum = Sum { items: 0, sum: 0 };
+    for _ in 0..rounds {
+        let start = Instant::now(&rt)?;
+        sum = match items.as_str() {
+            "numbers" => run(rt.alloc(), Numbers, case.as_str(), count, budget)?,
+            _ => run(rt.alloc(), Demo, case.as_str(), count, budget)?,
+        };
+        least = least.min(start.elapsed(&rt)?.as_nanos());
+    }
+    println!(rt; "{} items, sum {}", sum.items, sum.sum)?;
+    eprintln!(rt; "{} ns", least)?;
+    Ok(())
+}
