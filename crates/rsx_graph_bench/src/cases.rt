@@ -30,12 +30,7 @@ fn total<O: Ops>(alloc: Global, ops: &O, input: Expr<O::Item>) -> Result<Expr<O:
 }
 
 /// The expression of a case over the numbers from 1 to `count`.
-pub fn expression<O: Ops>(
-    alloc: Global,
-    ops: &O,
-    case: &str,
-    count: u64,
-) -> Result<Expr<O::Item>> {
+pub fn expression<O: Ops>(alloc: Global, ops: &O, case: &str, count: u64) -> Result<Expr<O::Item>> {
     let range = Expr::Range(1, count);
     match case {
         "range" => Ok(range),

@@ -32,7 +32,7 @@ impl Weight for Val {
     fn weight(&self) -> i64 {
         match self {
             Val::Int(n) => *n,
-            Val::List(items) => items.len() as i64,
+            Val::List(items) => i64::try_from(items.len()).unwrap_or(0),
         }
     }
 }
