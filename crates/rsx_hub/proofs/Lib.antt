@@ -1,0 +1,3 @@
+-- Lemmas about hubs and their members.
+pub mod Lists
+pub mod Rests

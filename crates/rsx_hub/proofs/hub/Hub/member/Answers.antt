@@ -1,0 +1,1 @@
+use Rattle.rsx_hub.proofs.hub.Hub.member.Goals as goal

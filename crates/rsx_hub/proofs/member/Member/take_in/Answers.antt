@@ -1,0 +1,10 @@
+use Rattle.std.proofs.Common.{◌≡◌, true, rules}
+use Rattle.rsx_hub.specs.Member.{takes, took, rest}
+use Rattle.rsx_hub.proofs.Rests.{took_rest}
+use Rattle.rsx_hub.proofs.member.Member.take_in.Goals as goal
+
+pub returns-clause-value : goal.returns-clause-value
+returns-clause-value g c = λ w next.
+    let taken : takes c.args.self.now c.args.signal ≡ true = search rules in
+    let after : c.match-signal.self ≡ took c.args.self.now c.args.signal = search rules in
+    rw after (took_rest c.args.self.now c.args.signal taken w next)

@@ -1,0 +1,164 @@
+-- What a contract sees of a hub, and what its calls make of it.
+use Rattle.std.specs.Prelude.{◌≡◌, ℕ, ◌+◌, ◌-◌, ◌<◌, ◌≤◌, Bool, true, false, ◌&&◌, nat_le, List, [], ◌∷◌, ◌++◌, length, drop, Option, Some, None}
+use Rattle.circular_buffer.specs.Buffer.{keep_last}
+use Rattle.rsx_types.specs.declared.names.HubKind.{HubKind}
+use Rattle.rsx_types.specs.declared.names.HubKind.TheVariants.{Multicast, Replay}
+use Rattle.rsx_types.specs.declared.signal.Ending.{Ending}
+use Rattle.rsx_types.specs.declared.signal.Ending.TheVariants.{Open, Done, Failed}
+use Rattle.rsx_types.specs.declared.signal.Signal.{Signal}
+use Rattle.rsx_types.specs.declared.signal.Signal.TheVariants.{Next, Complete, Error}
+use Rattle.rsx_types.specs.Stream.{Stream}
+use Rattle.rsx_hub.specs.declared.TheConstants.{LARGEST, MOST_ITEMS, MOST_MEMBERS}
+use Rattle.rsx_hub.specs.declared.refusal.Rejected.{Rejected}
+use Rattle.rsx_hub.specs.declared.refusal.Rejected.TheVariants.{Ended as EndedItem, TooMany as TooManyItems, Full}
+use Rattle.rsx_hub.specs.declared.refusal.HubRefusal.{HubRefusal}
+use Rattle.rsx_hub.specs.declared.refusal.HubRefusal.TheVariants.{BadNumber, NoMemory as HubNoMemory}
+use Rattle.rsx_hub.specs.declared.refusal.TakeInRefusal.{TakeInRefusal}
+use Rattle.rsx_hub.specs.declared.refusal.TakeInRefusal.TheVariants.{Ended as HubEnded, Waiting, TooMany as TooManySignals, NoMemory as TakeInNoMemory}
+use Rattle.rsx_hub.specs.declared.refusal.AdmitRefusal.{AdmitRefusal}
+use Rattle.rsx_hub.specs.declared.refusal.AdmitRefusal.TheVariants.{TooMany as TooManyMembers, NoMemory as AdmitNoMemory}
+use Rattle.rsx_hub.specs.Waiting.{is_open, first_waiting}
+
+pub record HubState (T : Type 0) : Type 0 where
+  -- what a new member gets
+  pub kind : HubKind
+  -- where so many items wait in the inbox, no more is accepted from its emitter
+  pub capacity : ℕ
+  -- the items that were accepted and not taken in yet, the oldest first
+  pub inbox : List T
+  -- how its emitter ended
+  pub ending : Ending
+  -- how many items it took in
+  pub count : ℕ
+  -- the last of them, which it keeps for new members
+  pub kept : List T
+  -- whether its ending was taken in too
+  pub has_ended : Bool
+  -- how many members it has had
+  pub members : ℕ
+
+-- how many of the items that it took in a hub keeps at most
+abbrev pub replayed : HubKind → ℕ
+replayed Multicast = 0
+replayed (Replay n) = n
+
+-- how many items a member misses that joins where the hub took in so many
+abbrev pub join : HubKind → ℕ → ℕ
+join Multicast count = count
+join (Replay n) count = count - n
+
+abbrev pub is_number : ℕ → Bool
+is_number n = nat_le 1 n && nat_le n LARGEST
+
+-- whether the capacity and the number of a replay are in their limits
+abbrev pub are_numbers : HubKind → ℕ → Bool
+are_numbers Multicast c = is_number c
+are_numbers (Replay n) c = is_number c && is_number n
+
+-- nothing was emitted
+abbrev pub fresh_hub : {T : Type 0} → HubKind → ℕ → HubState T
+fresh_hub k c = record { kind = k; capacity = c; inbox = []; ending = Open; count = 0; kept = []; has_ended = false; members = 0 }
+
+-- why a hub was not made
+abbrev pub IsNotMade : HubRefusal → HubKind → ℕ → Type 0
+IsNotMade BadNumber k c = are_numbers k c ≡ false
+IsNotMade HubNoMemory k c = are_numbers k c ≡ true
+
+-- ---- from its emitter
+
+-- how many items it has accepted
+abbrev pub accepted_items : {T : Type 0} → HubState T → ℕ
+accepted_items h = h.count + length h.inbox
+
+-- it accepts an item
+pub record Accepts {T : Type 0} (h : HubState T) : Type 0 where
+  pub goes_on : is_open h.ending ≡ true
+  pub few : accepted_items h < MOST_ITEMS
+  pub room : length h.inbox < h.capacity
+
+-- the item stands behind the others
+abbrev pub emitted : {T : Type 0} → HubState T → T → HubState T
+emitted h x = record h { inbox = h.inbox ++ x ∷ [] }
+
+-- the item comes back, for the first of these reasons
+abbrev pub IsRejected : {T : Type 0} → HubState T → T → Rejected T → Type 0
+IsRejected h x (EndedItem y) = (y ≡ x) × (is_open h.ending ≡ false)
+IsRejected h x (TooManyItems y) = (y ≡ x) × (is_open h.ending ≡ true) × (MOST_ITEMS ≤ accepted_items h)
+IsRejected h x (Full y) = (y ≡ x) × (is_open h.ending ≡ true) × (accepted_items h < MOST_ITEMS) × (h.capacity ≤ length h.inbox)
+
+-- its emitter ended
+abbrev pub ended_with : {T : Type 0} → HubState T → Ending → HubState T
+ended_with h e = record h { ending = e }
+
+-- ---- what is taken in
+
+-- the signal that waits in front of the inbox
+abbrev pub waiting : {T : Type 0} → HubState T → Option (Signal T)
+waiting h = first_waiting h.inbox h.ending h.has_ended
+
+-- after this signal was taken in
+abbrev pub taken_in : {T : Type 0} → HubState T → Signal T → HubState T
+taken_in h (Next x) = record h { count = h.count + 1; kept = keep_last (replayed h.kind) (h.kept ++ x ∷ []) }
+taken_in h Complete = record h { ending = Done; has_ended = true }
+taken_in h (Error c) = record h { ending = Failed c; has_ended = true }
+
+-- after the signal in front of the inbox was taken in
+abbrev pub accepted : {T : Type 0} → HubState T → Option (Signal T) → HubState T
+accepted h None = h
+accepted h (Some s) = taken_in (record h { inbox = drop 1 h.inbox }) s
+
+-- how many items a signal is
+abbrev pub items_of : {T : Type 0} → Signal T → ℕ
+items_of (Next x) = 1
+items_of Complete = 0
+items_of (Error c) = 0
+
+-- it takes this signal in from a feed
+pub record TakesIn {T : Type 0} (h : HubState T) (s : Signal T) : Type 0 where
+  pub goes_on : is_open h.ending ≡ true
+  pub empty : h.inbox ≡ []
+  pub few : h.count + items_of s ≤ MOST_ITEMS
+
+-- why it doesn't
+abbrev pub IsNotTakenIn : {T : Type 0} → HubState T → Signal T → TakeInRefusal → Type 0
+IsNotTakenIn h s HubEnded = is_open h.ending ≡ false
+IsNotTakenIn h s Waiting = (is_open h.ending ≡ true) × (0 < length h.inbox)
+IsNotTakenIn h s TooManySignals = (is_open h.ending ≡ true) × (h.inbox ≡ []) × (MOST_ITEMS < h.count + items_of s)
+IsNotTakenIn h s TakeInNoMemory = TakesIn h s × (items_of s ≡ 1)
+
+-- ---- its value
+
+-- the hub took in these items and no others
+pub record HasTakenIn {T : Type 0} (h : HubState T) (taken : List T) : Type 0 where
+  pub counted : h.count ≡ length taken
+  pub kept : h.kept ≡ keep_last (replayed h.kind) taken
+
+-- the value of a hub that took in these items: what its emitter was answered ok for
+abbrev pub hub_value : {T : Type 0} → HubState T → List T → Stream T
+hub_value h taken = record { items = taken ++ h.inbox; ending = h.ending }
+
+-- a value that begins with what the hub took in
+pub record BeginsWith {T : Type 0} (h : HubState T) (taken : List T) (w : Stream T) : Type 0 where
+  pub more : List T
+  pub items : w.items ≡ taken ++ more
+  pub ended : h.has_ended ≡ true → (more ≡ []) × (w.ending ≡ h.ending)
+
+-- ---- members
+
+-- there is no new member
+abbrev pub IsNotAdmitted : {T : Type 0} → HubState T → AdmitRefusal → Type 0
+IsNotAdmitted h TooManyMembers = MOST_MEMBERS ≤ h.members
+IsNotAdmitted h AdmitNoMemory = h.members < MOST_MEMBERS
+
+abbrev pub with_members : {T : Type 0} → HubState T → ℕ → HubState T
+with_members h k = record h { members = h.members + k }
+
+-- what holds of every hub
+pub record IsHub {T : Type 0} (h : HubState T) : Type 0 where
+  pub positive : 1 ≤ h.capacity
+  pub within : h.capacity ≤ LARGEST
+  pub replays : replayed h.kind ≤ LARGEST
+  pub few_items : accepted_items h ≤ MOST_ITEMS
+  pub few_members : h.members ≤ MOST_MEMBERS
+  pub few_kept : length h.kept ≤ replayed h.kind
+  pub all_taken : h.has_ended ≡ true → (h.inbox ≡ []) × (is_open h.ending ≡ false)

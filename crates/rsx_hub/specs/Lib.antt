@@ -1,0 +1,4 @@
+-- Definitions that contracts cite.
+pub mod Hub
+pub mod Member
+pub mod Waiting

@@ -1,0 +1,112 @@
+-- What a contract sees of a member, what its calls make of it, and what it still gives out.
+use Rattle.std.specs.Prelude.{◌≡◌, ℕ, ◌+◌, ◌<◌, ◌≤◌, max, Bool, true, false, ◌&&◌, nat_lt, List, [], ◌∷◌, ◌++◌, length, drop, Option, Some, None, slice_get}
+use Rattle.rsx_types.specs.declared.signal.Ending.{Ending}
+use Rattle.rsx_types.specs.declared.signal.Ending.TheVariants.{Open, Done, Failed}
+use Rattle.rsx_types.specs.declared.signal.Signal.{Signal}
+use Rattle.rsx_types.specs.declared.signal.Signal.TheVariants.{Next, Complete, Error}
+use Rattle.rsx_types.specs.Stream.{Stream, ended_by, items_then}
+use Rattle.rsx_hub.specs.declared.TheConstants.{MOST_ITEMS}
+use Rattle.rsx_hub.specs.Hub.{HubState, replayed}
+use Rattle.rsx_hub.specs.Waiting.{is_open, first_waiting}
+
+pub record MemberState (T : Type 0) : Type 0 where
+  -- the items that it took in and hasn't given out, the oldest first
+  pub queue : List T
+  -- the ending of the hub, once it took that in
+  pub ending : Ending
+  -- whether it gave out that ending, or left
+  pub gone : Bool
+  -- how far into the hub's value it got, in items from the hub's first
+  pub reached : ℕ
+  -- where so many items wait, it takes in no more
+  pub capacity : ℕ
+  -- how many items there is storage for
+  pub places : ℕ
+
+-- ---- what it still gives out
+
+-- a value without its first items
+abbrev pub without : {T : Type 0} → ℕ → Stream T → Stream T
+without n w = record { items = drop n w.items; ending = w.ending }
+
+-- this ending, and as long as there is none, what comes
+abbrev pub ending_or : {T : Type 0} → Ending → Stream T → Stream T
+ending_or Open v = v
+ending_or Done v = ended_by Done
+ending_or (Failed c) v = ended_by (Failed c)
+
+-- what comes behind the queue: once the ending is gone, nothing
+abbrev pub behind : {T : Type 0} → Bool → Ending → Stream T → Stream T
+behind true e v = ended_by Open
+behind false e v = ending_or e v
+
+-- what a member still gives out, where the hub's whole value is w: the items of its queue, and then w from the item on
+-- that it has reached
+abbrev pub rest : {T : Type 0} → MemberState T → Stream T → Stream T
+rest m w = items_then m.queue (behind m.gone m.ending (without m.reached w))
+
+-- ---- its calls
+
+-- the ending that a new member has
+abbrev pub ending_taken : Bool → Ending → Ending
+ending_taken true e = e
+ending_taken false e = Open
+
+-- a member that has joined and nothing else: it begins with the items that the hub keeps
+abbrev pub fresh_member : {T : Type 0} → HubState T → MemberState T
+fresh_member h = record { queue = h.kept; ending = ending_taken h.has_ended h.ending; gone = false; reached = h.count; capacity = h.capacity; places = max h.capacity (replayed h.kind) }
+
+-- whether more may come in
+abbrev pub is_reading : Bool → Ending → Bool
+is_reading true e = false
+is_reading false e = is_open e
+
+-- whether it takes in an item
+abbrev pub takes_items : {T : Type 0} → MemberState T → Bool
+takes_items m = is_reading m.gone m.ending && (nat_lt (length m.queue) m.capacity && nat_lt m.reached MOST_ITEMS)
+
+-- whether it takes in this signal: an ending needs no room
+abbrev pub takes : {T : Type 0} → MemberState T → Signal T → Bool
+takes m (Next x) = takes_items m
+takes m Complete = is_reading m.gone m.ending
+takes m (Error c) = is_reading m.gone m.ending
+
+-- after it took this signal in
+abbrev pub took : {T : Type 0} → MemberState T → Signal T → MemberState T
+took m (Next x) = record m { queue = m.queue ++ x ∷ []; reached = m.reached + 1 }
+took m Complete = record m { ending = Done }
+took m (Error c) = record m { ending = Failed c }
+
+-- this signal of the value w comes next for a member that reached so many items
+abbrev pub IsNextAt : {T : Type 0} → ℕ → Stream T → Signal T → Type 0
+IsNextAt n w (Next x) = slice_get w.items n ≡ Some x
+IsNextAt n w Complete = (length w.items ≡ n) × (w.ending ≡ Done)
+IsNextAt n w (Error c) = (length w.items ≡ n) × (w.ending ≡ Failed c)
+
+-- the signal that is offered
+abbrev pub offered : {T : Type 0} → MemberState T → Option (Signal T)
+offered m = first_waiting m.queue m.ending m.gone
+
+-- after it gave out the signal that it offered
+abbrev pub given : {T : Type 0} → MemberState T → Option (Signal T) → MemberState T
+given m None = m
+given m (Some (Next x)) = record m { queue = drop 1 m.queue }
+given m (Some Complete) = record m { gone = true }
+given m (Some (Error c)) = record m { gone = true }
+
+-- after it left
+abbrev pub left : {T : Type 0} → MemberState T → MemberState T
+left m = record m { queue = []; gone = true }
+
+-- what holds of every member
+pub record IsMember {T : Type 0} (m : MemberState T) : Type 0 where
+  pub fits : length m.queue ≤ m.places
+  pub stored : m.capacity ≤ m.places
+  pub few : m.reached ≤ MOST_ITEMS
+  pub nothing_waits : m.gone ≡ true → m.queue ≡ []
+
+-- the second is the first without the signal that it offered
+pub record IsGiven {T : Type 0} (before : MemberState T) (s : Signal T) (after : MemberState T) : Type 0 where
+  pub offers : offered before ≡ Some s
+  pub gives : after ≡ given before (Some s)
+  pub member : IsMember before

@@ -1,0 +1,34 @@
+//! Hubs: what a program emits into a graph, or what one expression feeds, read by several members at their own pace.
+//!
+//! - [`Hub`] has an inbox, into which its emitter emits, and takes the signals in from there one by one. A hub that is fed
+//!   by an expression takes them in directly.
+//! - [`Member`] is one reader of a hub, with a queue of its own, so that it offers its signals with no access to the hub.
+//!
+//! A hub's value is the list of the items that its emitter was answered ok for, and its ending behind them. A member stands
+//! for what it will still give out: the items of its queue, and then that value without the items that it has taken in
+//! already ([`Member::reached`] of them). So a signal that is taken in changes nothing in what a member stands for.
+//!
+//! Whoever takes a signal out of a hub hands a copy of it to each live member, and does so only where each of them has
+//! room: so the slowest live member holds the others back (rule 1.1), and nobody loses an item.
+//!
+//! The memory of a hub and of a member is taken when it is made, and no later call takes any, but for the copies that the
+//! caller's functions make.
+#![tactic(auto)]
+
+pub mod ending;
+pub mod hub;
+pub mod member;
+pub mod refusal;
+
+pub use hub::Hub;
+pub use member::Member;
+pub use refusal::{AdmitRefusal, HasEnded, HubRefusal, Rejected, TakeInRefusal};
+
+/// The largest capacity of a hub, and the largest number of items that a new member gets of those taken in before.
+pub const LARGEST: u64 = 1_024;
+
+/// How many items a hub accepts in its life, 2^63 - 1.
+pub const MOST_ITEMS: u64 = 9_223_372_036_854_775_807;
+
+/// How many members a hub has in its life.
+pub const MOST_MEMBERS: u64 = 64;

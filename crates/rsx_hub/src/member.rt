@@ -1,0 +1,231 @@
+//! One reader of a hub.
+
+ghost use Rattle.std.specs.Prelude.{◌≡◌, ℕ, ◌+◌, ◌<◌, ◌≤◌, ◌↔◌, ◌∷◌, ◌++◌, [], true, false, max, length, IfOk, IfErr, OnOk, OnErr, IfSome, IsTrue, option_map};
+ghost use Rattle.rsx_types.specs.Stream.{Stream, signal_then};
+ghost use Rattle.rsx_types.specs.declared.signal.Ending.TheVariants.{Open};
+ghost use Rattle.rsx_sources.specs.Machine.{front_of};
+ghost use Rattle.rsx_hub.specs.Member.{MemberState, rest, is_reading, takes_items, takes, took, IsNextAt, offered, given, left, IsGiven};
+ghost use Rattle.rsx_hub.specs.declared.TheConstants.{LARGEST, MOST_ITEMS};
+
+use crate::{MOST_ITEMS, ending};
+use circular_buffer::HeapCircularBuffer;
+use rsx_sources::Front;
+use rsx_types::{Ending, NoMemory, Signal};
+use std::alloc::Global;
+use std::marker::Model;
+
+/// One reader of a hub, with a queue of the items that it took in and hasn't given out.
+///
+/// Contracts see a record: the `queue`, the `ending` behind it (`Open` as long as the hub's wasn't taken in), whether that
+/// is `gone` (given out, or the member left), how far into the hub's value it `reached`, and its `capacity` and `places`.
+#[derive(Drop)]
+pub struct Member<T> {
+    queue: HeapCircularBuffer<T>,
+    ending: Ending,
+    gone: bool,
+    reached: u64,
+    capacity: u64,
+}
+
+impl<T> Model for Member<T> {
+    ghost use Rattle.rsx_hub.specs.Member.{MemberState, IsMember};
+
+    ghost Value = { MemberState T };
+
+    ghost view = { λ m. record { queue = m.queue.items; ending = m.ending; gone = m.gone; reached = m.reached; capacity = m.capacity; places = m.queue.capacity } };
+
+    ghost invariant = { λ m. IsMember (record { queue = m.queue.items; ending = m.ending; gone = m.gone; reached = m.reached; capacity = m.capacity; places = m.queue.capacity }) };
+}
+
+impl<T: Drop> Member<T> {
+    /// A member that has joined where the hub took in so many items, without those that a replay keeps.
+    ///
+    /// # Errors
+    /// [`NoMemory`] where the growth for its queue was refused.
+    pub(crate) fn empty(
+        alloc: Global,
+        capacity: u64,
+        replayed: u64,
+        reached: u64,
+    ) -> Result<Member<T>, NoMemory>
+        requires { reached ≤ MOST_ITEMS }
+        ensures { IfOk result (λ m. m ≡ record { queue = []; ending = Open; gone = false; reached = reached; capacity = capacity; places = max capacity replayed }) }
+    {
+        let queue = HeapCircularBuffer::with_capacity(alloc, capacity.max(replayed) as usize)?;
+        Ok(Member {
+            queue,
+            ending: Ending::Open,
+            gone: false,
+            reached,
+            capacity,
+        })
+    }
+
+    /// Puts an item of a replay behind the others. There is storage for it.
+    pub(crate) fn replay(&mut self, item: T)
+        requires fits { length self.old.queue < self.old.places }
+        requires stays { self.old.gone ≡ false }
+        ensures { self.new ≡ record self.old { queue = self.old.queue ++ item ∷ [] } }
+    {
+        let _ = self.queue.try_push_back(item);
+    }
+
+    /// Puts the hub's ending behind the items.
+    pub(crate) fn end(&mut self, ending: Ending)
+        ensures { self.new ≡ record self.old { ending = ending } }
+    {
+        self.ending = ending;
+    }
+
+    fn is_reading(&self) -> bool
+        ensures { result ≡ is_reading self.now.gone self.now.ending }
+    {
+        !self.gone && ending::is_open(self.ending)
+    }
+
+    /// Whether it takes in an item: it has not left, the hub's ending was not taken in, and fewer items wait than the hub's
+    /// capacity. A member that has taken in 2^63 - 1 items takes in no more.
+    pub fn can_take_in(&self) -> bool
+        ensures { result ≡ takes_items self.now }
+    {
+        self.is_reading() && (self.queue.len() as u64) < self.capacity && self.reached < MOST_ITEMS
+    }
+
+    /// Takes in a signal of the hub: an item where [`Member::can_take_in`], an ending where it has not left and none was
+    /// taken in yet. It takes no memory.
+    ///
+    /// # Errors
+    /// The signal comes back where it is not taken in. Nothing has changed.
+    pub fn take_in(&mut self, signal: Signal<T>) -> Result<(), Signal<T>>
+        ensures enabled { OnOk result (takes self.old signal ≡ true) }
+        ensures ok { OnOk result (self.new ≡ took self.old signal) }
+        // Over each value in which this signal comes next, what it still gives out is the same as before.
+        ensures value { OnOk result ((w : Stream T) → IsNextAt self.old.reached w signal → rest self.new w ≡ rest self.old w) }
+        ensures refused { OnErr result (takes self.old signal ≡ false) }
+        ensures err { IfErr result (λ s. s ≡ signal) }
+        ensures same { OnErr result (self.new ≡ self.old) }
+    {
+        match signal {
+            Signal::Next(item) => {
+                if !self.can_take_in() {
+                    return Err(Signal::Next(item));
+                }
+                let _ = self.queue.try_push_back(item);
+                self.reached += 1;
+            }
+            Signal::Complete => {
+                if !self.is_reading() {
+                    return Err(Signal::Complete);
+                }
+                self.ending = Ending::Done;
+            }
+            Signal::Error(cause) => {
+                if !self.is_reading() {
+                    return Err(Signal::Error(cause));
+                }
+                self.ending = Ending::Failed(cause);
+            }
+        }
+        Ok(())
+    }
+
+    /// Which signal it offers: an item, or the hub's ending behind the items.
+    pub fn front(&self) -> Option<Front>
+        ensures { result ≡ option_map front_of (offered self.now) }
+    {
+        if !self.queue.is_empty() {
+            return Some(Front::Item);
+        }
+        if self.gone {
+            return None;
+        }
+        ending::front(self.ending)
+    }
+
+    /// Takes the signal out that it offers, if it offers one. Once that is the ending, the member is no longer live.
+    pub fn advance(&mut self) -> Option<Signal<T>>
+        ensures signal { result ≡ offered self.old }
+        ensures state { self.new ≡ given self.old result }
+        // Over each value, the signal and then what it still gives out is what it gave out before.
+        ensures value { IfSome result (λ s. (w : Stream T) → rest self.old w ≡ signal_then s (rest self.new w)) }
+        ensures given { IfSome result (λ s. IsGiven self.old s self.new) }
+    {
+        match self.queue.pop_front() {
+            Some(item) => Some(Signal::Next(item)),
+            None => self.take_ending(),
+        }
+    }
+
+    fn take_ending(&mut self) -> Option<Signal<T>>
+        requires { self.old.queue ≡ [] }
+        ensures signal { result ≡ offered self.old }
+        ensures state { self.new ≡ given self.old result }
+    {
+        if self.gone {
+            return None;
+        }
+        let signal = ending::signal(self.ending);
+        self.gone = signal.is_some();
+        signal
+    }
+
+    /// Puts the signal back that was taken out last. Then the member is as it was before that. It takes no memory.
+    pub fn put_back(&mut self, signal: Signal<T>)
+        ensures state { (before : MemberState T) → IsGiven before signal self.old → self.new ≡ before }
+        ensures value { (before : MemberState T) → IsGiven before signal self.old → (w : Stream T) → rest self.new w ≡ signal_then signal (rest self.old w) }
+    {
+        match signal {
+            Signal::Next(item) => {
+                if !self.gone {
+                    let _ = self.queue.try_push_front(item);
+                }
+            }
+            Signal::Complete => {
+                self.gone = false;
+                self.ending = Ending::Done;
+            }
+            Signal::Error(cause) => {
+                self.gone = false;
+                self.ending = Ending::Failed(cause);
+            }
+        }
+    }
+
+    /// Lets the member leave (rule 3.12): what waits is dropped, and from now on it takes nothing in and holds no other
+    /// member back.
+    pub fn leave(&mut self)
+        ensures { self.new ≡ left self.old }
+    {
+        self.queue.clear();
+        self.gone = true;
+    }
+
+    /// Whether it has neither left nor given out the hub's ending.
+    pub fn is_live(&self) -> bool
+        ensures { IsTrue result ↔ (self.now.gone ≡ false) }
+    {
+        !self.gone
+    }
+
+    /// How far into the hub's value it got: how many of its items it took in or missed, counted from the hub's first.
+    pub fn reached(&self) -> u64
+        ensures reached { result ≡ self.now.reached }
+        ensures within { result ≤ MOST_ITEMS }
+    {
+        self.reached
+    }
+
+    /// How many items wait.
+    pub fn len(&self) -> usize
+        ensures { result ≡ length self.now.queue }
+    {
+        self.queue.len()
+    }
+
+    /// Whether no item waits. The hub's ending may.
+    pub fn is_empty(&self) -> bool
+        ensures { IsTrue result ↔ (self.now.queue ≡ []) }
+    {
+        self.queue.is_empty()
+    }
+}
