@@ -1,7 +1,5 @@
 -- The first item of a list, the next one of a list, and the last ones.
-use Rattle.std.proofs.Common.{◌≡◌, ℕ, zero, suc, ◌+◌, ◌-◌, ◌≤◌, ◌<◌, List, [], ◌∷◌, ◌++◌, length, drop, Option, Some, None, slice_get, refl, sym, ap, ◌∙◌, arith, inl, inr, length-append, length-drop, append_assoc}
-use Rattle.std.proofs.lemmas.List.{drop-append-le, drop-drop, drop_at}
-use Rattle.circular_buffer.specs.Buffer.{keep_last}
+use Rattle.std.proofs.Common.{◌≡◌, ℕ, zero, suc, ◌+◌, List, [], ◌∷◌, drop, Some, None, slice_get, refl, ap, ◌∙◌, arith}
 
 module _ {X : Type 0} where
   pub nothing_first : (xs : List X) → None ≡ slice_get xs 0 → xs ≡ []

@@ -1,5 +1,5 @@
 -- What a member still gives out, before and after a call.
-use Rattle.std.proofs.Common.{◌≡◌, ℕ, ◌+◌, Bool, true, false, ◌&&◌, List, [], ◌∷◌, ◌++◌, length, drop, Option, Some, None, slice_get, refl, sym, ap, ◌∙◌, arith, append_assoc}
+use Rattle.std.proofs.Common.{◌≡◌, ℕ, ◌+◌, Bool, true, false, ◌&&◌, List, [], ◌∷◌, ◌++◌, length, drop, Some, slice_get, refl, sym, ap, ◌∙◌, arith, append_assoc}
 use Rattle.std.proofs.lemmas.List.{drop_all}
 use Rattle.rsx_types.specs.declared.signal.Cause.{Cause}
 use Rattle.rsx_types.specs.declared.signal.Ending.{Ending}
@@ -12,7 +12,7 @@ use Rattle.rsx_hub.proofs.Lists.{next_item}
 
 -- ---- a signal is taken in
 
-stream_of : {T : Type 0} (xs ys : List T) (e f : Ending) → xs ≡ ys → e ≡ f → let v : Stream T = record { items = xs; ending = e } in let w : Stream T = record { items = ys; ending = f } in v ≡ w
+pub stream_of : {T : Type 0} (xs ys : List T) (e f : Ending) → xs ≡ ys → e ≡ f → let v : Stream T = record { items = xs; ending = e } in let w : Stream T = record { items = ys; ending = f } in v ≡ w
 stream_of xs ys e f p q = λ i. record { items = p i; ending = q i }
 
 -- over the value from here on: an item goes from there to the queue

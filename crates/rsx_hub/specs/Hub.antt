@@ -1,5 +1,5 @@
 -- What a contract sees of a hub, and what its calls make of it.
-use Rattle.std.specs.Prelude.{◌≡◌, ℕ, ◌+◌, ◌-◌, ◌<◌, ◌≤◌, Bool, true, false, ◌&&◌, nat_le, List, [], ◌∷◌, ◌++◌, length, drop, Option, Some, None}
+use Rattle.std.specs.Prelude.{◌≡◌, ℕ, ◌+◌, ◌-◌, ◌<◌, ◌≤◌, Bool, true, false, ◌&&◌, nat_le, nat_lt, List, [], ◌∷◌, ◌++◌, length, drop, Option, Some, None}
 use Rattle.circular_buffer.specs.Buffer.{keep_last}
 use Rattle.rsx_types.specs.declared.names.HubKind.{HubKind}
 use Rattle.rsx_types.specs.declared.names.HubKind.TheVariants.{Multicast, Replay}
@@ -8,6 +8,7 @@ use Rattle.rsx_types.specs.declared.signal.Ending.TheVariants.{Open, Done, Faile
 use Rattle.rsx_types.specs.declared.signal.Signal.{Signal}
 use Rattle.rsx_types.specs.declared.signal.Signal.TheVariants.{Next, Complete, Error}
 use Rattle.rsx_types.specs.Stream.{Stream}
+use Rattle.rsx_sources.specs.Slot.{is_nil}
 use Rattle.rsx_hub.specs.declared.TheConstants.{LARGEST, MOST_ITEMS, MOST_MEMBERS}
 use Rattle.rsx_hub.specs.declared.refusal.Rejected.{Rejected}
 use Rattle.rsx_hub.specs.declared.refusal.Rejected.TheVariants.{Ended as EndedItem, TooMany as TooManyItems, Full}
@@ -70,11 +71,9 @@ IsNotMade HubNoMemory k c = are_numbers k c ≡ true
 abbrev pub accepted_items : {T : Type 0} → HubState T → ℕ
 accepted_items h = h.count + length h.inbox
 
--- it accepts an item
-pub record Accepts {T : Type 0} (h : HubState T) : Type 0 where
-  pub goes_on : is_open h.ending ≡ true
-  pub few : accepted_items h < MOST_ITEMS
-  pub room : length h.inbox < h.capacity
+-- whether it accepts an item
+abbrev pub accepts_items : {T : Type 0} → HubState T → Bool
+accepts_items h = is_open h.ending && (nat_lt (accepted_items h) MOST_ITEMS && nat_lt (length h.inbox) h.capacity)
 
 -- the item stands behind the others
 abbrev pub emitted : {T : Type 0} → HubState T → T → HubState T
@@ -113,18 +112,16 @@ items_of (Next x) = 1
 items_of Complete = 0
 items_of (Error c) = 0
 
--- it takes this signal in from a feed
-pub record TakesIn {T : Type 0} (h : HubState T) (s : Signal T) : Type 0 where
-  pub goes_on : is_open h.ending ≡ true
-  pub empty : h.inbox ≡ []
-  pub few : h.count + items_of s ≤ MOST_ITEMS
+-- whether it takes this signal in from a feed
+abbrev pub takes_signal : {T : Type 0} → HubState T → Signal T → Bool
+takes_signal h s = is_open h.ending && (is_nil h.inbox && nat_le (h.count + items_of s) MOST_ITEMS)
 
 -- why it doesn't
 abbrev pub IsNotTakenIn : {T : Type 0} → HubState T → Signal T → TakeInRefusal → Type 0
 IsNotTakenIn h s HubEnded = is_open h.ending ≡ false
 IsNotTakenIn h s Waiting = (is_open h.ending ≡ true) × (0 < length h.inbox)
 IsNotTakenIn h s TooManySignals = (is_open h.ending ≡ true) × (h.inbox ≡ []) × (MOST_ITEMS < h.count + items_of s)
-IsNotTakenIn h s TakeInNoMemory = TakesIn h s × (items_of s ≡ 1)
+IsNotTakenIn h s TakeInNoMemory = (takes_signal h s ≡ true) × (items_of s ≡ 1)
 
 -- ---- its value
 

@@ -1,4 +1,5 @@
 -- Definitions that contracts cite.
 pub mod Hub
 pub mod Member
+pub mod Reading
 pub mod Waiting

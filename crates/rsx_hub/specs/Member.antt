@@ -1,5 +1,5 @@
 -- What a contract sees of a member, what its calls make of it, and what it still gives out.
-use Rattle.std.specs.Prelude.{◌≡◌, ℕ, ◌+◌, ◌<◌, ◌≤◌, max, Bool, true, false, ◌&&◌, nat_lt, List, [], ◌∷◌, ◌++◌, length, drop, Option, Some, None, slice_get}
+use Rattle.std.specs.Prelude.{◌≡◌, ℕ, ◌+◌, ◌≤◌, max, Bool, true, false, ◌&&◌, nat_lt, List, [], ◌∷◌, ◌++◌, length, drop, Option, Some, None, slice_get}
 use Rattle.rsx_types.specs.declared.signal.Ending.{Ending}
 use Rattle.rsx_types.specs.declared.signal.Ending.TheVariants.{Open, Done, Failed}
 use Rattle.rsx_types.specs.declared.signal.Signal.{Signal}

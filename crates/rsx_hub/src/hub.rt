@@ -7,7 +7,7 @@ ghost use Rattle.rsx_types.specs.declared.signal.Ending.TheVariants.{Done, Faile
 ghost use Rattle.rsx_types.specs.declared.signal.Signal.TheVariants.{Next};
 ghost use Rattle.rsx_sources.specs.Machine.{front_of};
 ghost use Rattle.rsx_hub.specs.Hub as spec;
-ghost use Rattle.rsx_hub.specs.Hub.{replayed, fresh_hub, IsNotMade, Accepts, emitted, IsRejected, ended_with, waiting, taken_in, accepted, TakesIn, IsNotTakenIn, HasTakenIn, BeginsWith, IsNotAdmitted, with_members};
+ghost use Rattle.rsx_hub.specs.Hub.{replayed, fresh_hub, IsNotMade, accepts_items, emitted, IsRejected, ended_with, waiting, taken_in, accepted, takes_signal, IsNotTakenIn, HasTakenIn, BeginsWith, IsNotAdmitted, with_members};
 ghost use Rattle.rsx_hub.specs.Member.{fresh_member, rest, without};
 ghost use Rattle.rsx_hub.specs.Waiting.{is_open};
 ghost use Rattle.rsx_hub.specs.declared.TheConstants.{MOST_ITEMS, MOST_MEMBERS};
@@ -79,6 +79,7 @@ impl<T: Drop> Hub<T> {
     /// - [`HubRefusal::NoMemory`] where a growth was refused.
     pub fn new(alloc: Global, kind: HubKind, capacity: u64) -> Result<Hub<T>, HubRefusal>
         ensures made { IfOk result (λ h. h ≡ fresh_hub kind capacity) }
+        ensures nothing { IfOk result (λ h. HasTakenIn h []) }
         ensures numbers { OnOk result (spec.are_numbers kind capacity ≡ true) }
         ensures err { IfErr result (λ e. IsNotMade e kind capacity) }
     {
@@ -107,7 +108,7 @@ impl<T: Drop> Hub<T> {
     /// - [`Rejected::TooMany`] where it has accepted 2^63 - 1 items.
     /// - [`Rejected::Full`] where the inbox holds as many items as the hub's capacity, or more.
     pub fn emit(&mut self, item: T) -> Result<(), Rejected<T>>
-        ensures enabled { OnOk result (Accepts self.old) }
+        ensures enabled { OnOk result (accepts_items self.old ≡ true) }
         ensures ok { OnOk result (self.new ≡ emitted self.old item) }
         ensures err { IfErr result (λ e. IsRejected self.old item e) }
         ensures same { OnErr result (self.new ≡ self.old) }
@@ -115,10 +116,10 @@ impl<T: Drop> Hub<T> {
         if !ending::is_open(self.ending) {
             return Err(Rejected::Ended(item));
         }
-        if self.count + self.inbox.len() as u64 >= MOST_ITEMS {
+        if self.count + self.len() >= MOST_ITEMS {
             return Err(Rejected::TooMany(item));
         }
-        if self.inbox.len() as u64 >= self.capacity {
+        if self.len() >= self.capacity {
             return Err(Rejected::Full(item));
         }
         // There is storage for twice the capacity, so the item is not handed back.
@@ -210,7 +211,7 @@ impl<T: Drop> Hub<T> {
         ensures allocates { (O.allocates ops.now).copied ≡ false → IsOk result }
         ensures multicast { replayed self.old.kind ≡ 0 → IsOk result }
     {
-        match self.inbox.front() {
+        match self.front_item() {
             Some(item) => {
                 let copy = self.kept_copy(alloc, ops, item)?;
                 let taken = self.inbox.pop_front();
@@ -279,7 +280,7 @@ impl<T: Drop> Hub<T> {
         ops: &O,
         signal: &Signal<T>,
     ) -> Result<(), TakeInRefusal>
-        ensures enabled { OnOk result (TakesIn self.old signal.now) }
+        ensures enabled { OnOk result (takes_signal self.old signal.now ≡ true) }
         ensures ok { OnOk result (self.new ≡ taken_in self.old signal.now) }
         ensures err { IfErr result (λ e. IsNotTakenIn self.old signal.now e) }
         ensures same { OnErr result (self.new ≡ self.old) }

@@ -17,10 +17,12 @@
 
 pub mod ending;
 pub mod hub;
+pub mod law;
 pub mod member;
 pub mod refusal;
 
 pub use hub::Hub;
+pub use law::reads_on;
 pub use member::Member;
 pub use refusal::{AdmitRefusal, HasEnded, HubRefusal, Rejected, TakeInRefusal};
 

@@ -2,4 +2,4 @@ use Rattle.rsx_hub.proofs.Lists.{nothing_first}
 use Rattle.rsx_hub.proofs.hub.Hub.accept.Goals as goal
 
 pub take_ending-requires : goal.take_ending-requires
-take_ending-requires g c = rw (← c.self.view_is) (nothing_first c.self.inside.inbox.items c.in-None.ensures)
+take_ending-requires g c = nothing_first c.args.self.now.inbox c.in-None.ensures

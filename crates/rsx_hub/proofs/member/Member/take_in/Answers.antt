@@ -1,5 +1,5 @@
 use Rattle.std.proofs.Common.{◌≡◌, true, rules}
-use Rattle.rsx_hub.specs.Member.{takes, took, rest}
+use Rattle.rsx_hub.specs.Member.{takes, took}
 use Rattle.rsx_hub.proofs.Rests.{took_rest}
 use Rattle.rsx_hub.proofs.member.Member.take_in.Goals as goal
 

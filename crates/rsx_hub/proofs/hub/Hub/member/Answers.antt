@@ -1,1 +1,0 @@
-use Rattle.rsx_hub.proofs.hub.Hub.member.Goals as goal
