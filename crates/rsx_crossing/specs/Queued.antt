@@ -1,5 +1,6 @@
 -- A node with the queue of the edge from it to another region.
 use Rattle.std.specs.Prelude.{◌≡◌, ℕ, ◌+◌, ◌<◌, Bool, true, false, ◌&&◌, ◌||◌, nat_lt, min, List, [], ◌∷◌, length, Option, Some, None, option_map}
+use Rattle.rsx_types.specs.declared.limits.TheConstants.{CAPACITY}
 use Rattle.rsx_types.specs.declared.note.Note.{Note}
 use Rattle.rsx_types.specs.declared.signal.Signal.{Signal}
 use Rattle.rsx_types.specs.declared.signal.Signal.TheVariants.{Next, Complete, Error}
@@ -64,7 +65,7 @@ may_go (Some (FailureFront c)) asked sent = true
 
 -- the node offers a signal that may go, and the queue has room for it
 abbrev pub can_move : {T : Type 0} → Option Front → List T → Tail → ℕ → ℕ → Bool
-can_move f q t asked taken = is_open t && (nat_lt (length q) 64 && may_go f asked (node_sent q asked taken))
+can_move f q t asked taken = is_open t && (nat_lt (length q) CAPACITY && may_go f asked (node_sent q asked taken))
 
 -- the Send over the edge, into its queue
 abbrev pub can_transfer : {M T : Type 0} → Machine M T → Queued M T → ℕ → ℕ → Bool
@@ -110,7 +111,7 @@ queued_wanted b n i asked taken = b.wanted n.node i asked (node_sent n.queue ask
 
 -- the oldest signal leaves the queue; an item leaves room for itself
 abbrev pub queued_popped : {M T : Type 0} → Queued M T → Signal T → Queued M T → Type 0
-queued_popped old (Next x) new = (old.node ≡ new.node) × (old.queue ≡ x ∷ new.queue) × (old.tail ≡ new.tail) × (length new.queue < 64)
+queued_popped old (Next x) new = (old.node ≡ new.node) × (old.queue ≡ x ∷ new.queue) × (old.tail ≡ new.tail) × (length new.queue < CAPACITY)
 queued_popped old Complete new = (old.node ≡ new.node) × (old.queue ≡ new.queue) × (old.queue ≡ []) × (old.tail ≡ Completion) × (new.tail ≡ Taken)
 queued_popped old (Error c) new = (old.node ≡ new.node) × (old.queue ≡ new.queue) × (old.queue ≡ []) × (old.tail ≡ Failure c) × (new.tail ≡ Taken)
 

@@ -4,14 +4,11 @@ ghost use Rattle.std.specs.Prelude.{◌≡◌, List, ◌∷◌, ◌++◌, [], le
 ghost use Rattle.rsx_sources.specs.Slot.{is_nil};
 
 use circular_buffer::HeapCircularBuffer;
-use rsx_types::{NoMemory, Ops};
+use rsx_types::{CAPACITY, NoMemory, Ops};
 use std::alloc::Global;
 use std::marker::Model;
 
-/// How many signals the queue of an edge between two regions holds.
-pub const CAPACITY: usize = 64;
-
-/// At most 64 items, first in, first out. Contracts see a list.
+/// At most [`CAPACITY`] items, first in, first out. Contracts see a list.
 ///
 /// The memory for them is taken when the queue is made, and no later call takes any.
 #[derive(Drop)]
@@ -21,16 +18,17 @@ pub struct ItemQueue<T> {
 
 impl<T> Model for ItemQueue<T> {
     ghost use Rattle.std.specs.Prelude.{◌≡◌, ◌≤◌, List, length};
+    ghost use Rattle.rsx_types.specs.declared.limits.TheConstants.{CAPACITY};
 
     ghost Value = { List T };
 
     ghost view = { λ q. q.ring.items };
 
-    ghost invariant = { λ q. (q.ring.capacity ≡ 64) × (length q.ring.items ≤ 64) };
+    ghost invariant = { λ q. (q.ring.capacity ≡ CAPACITY) × (length q.ring.items ≤ CAPACITY) };
 }
 
 impl<T: Drop> ItemQueue<T> {
-    /// An empty queue with memory for 64 items.
+    /// An empty queue with memory for [`CAPACITY`] items.
     ///
     /// # Errors
     /// [`NoMemory`] where that memory was refused.
@@ -41,10 +39,10 @@ impl<T: Drop> ItemQueue<T> {
         Ok(ItemQueue { ring })
     }
 
-    /// How many items wait, 0 to 64.
+    /// How many items wait, 0 to [`CAPACITY`].
     pub fn len(&self) -> usize
         ensures len { result ≡ length self.now }
-        ensures within { result ≤ 64 }
+        ensures within { result ≤ CAPACITY }
     {
         self.ring.len()
     }
@@ -58,7 +56,7 @@ impl<T: Drop> ItemQueue<T> {
 
     /// Puts an item at the back. The queue has room for it, which [`ItemQueue::len`] tells.
     pub fn push(&mut self, item: T)
-        requires { length self.old < 64 }
+        requires { length self.old < CAPACITY }
         ensures { self.new ≡ self.old ++ item ∷ [] }
     {
         // There is room, so the item is not handed back.
@@ -69,14 +67,14 @@ impl<T: Drop> ItemQueue<T> {
     pub fn pop(&mut self) -> Option<T>
         ensures some { IfSome result (λ x. self.old ≡ x ∷ self.new) }
         ensures none { IfNone result ((self.old ≡ []) × (self.new ≡ [])) }
-        ensures room { IfSome result (λ x. length self.new < 64) }
+        ensures room { IfSome result (λ x. length self.new < CAPACITY) }
     {
         self.ring.pop_front()
     }
 
     /// Puts an item in front of the others. The queue has room for it.
     pub fn put_back(&mut self, item: T)
-        requires { length self.old < 64 }
+        requires { length self.old < CAPACITY }
         ensures { self.new ≡ item ∷ self.old }
     {
         let _ = self.ring.try_push_front(item);

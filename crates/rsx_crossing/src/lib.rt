@@ -11,8 +11,9 @@ pub mod queued;
 pub mod sender;
 pub mod tail;
 
-pub use item_queue::{CAPACITY, ItemQueue};
+pub use item_queue::ItemQueue;
 pub use law::edge;
 pub use queued::Queued;
+pub use rsx_types::CAPACITY;
 pub use sender::Sender;
 pub use tail::Tail;

@@ -2,14 +2,14 @@
 
 ghost use Rattle.std.specs.Prelude.{◌≡◌};
 
-use crate::item_queue::{CAPACITY, Copied, ItemQueue};
+use crate::item_queue::{Copied, ItemQueue};
 use crate::tail::Tail;
 use rsx_sources::{Front, Machine, NotMade, NotTaken, Passed};
-use rsx_types::{Ending, NoMemory, Note, Ops, Signal, StreamValue};
+use rsx_types::{CAPACITY, Ending, NoMemory, Note, Ops, Signal, StreamValue};
 use std::alloc::Global;
 
-/// A node with the queue of the edge from it to another region: at most 64 signals that went over the edge and that its
-/// receiver hasn't taken yet.
+/// A node with the queue of the edge from it to another region: at most [`CAPACITY`] signals that went over the edge and
+/// that its receiver hasn't taken yet.
 ///
 /// It is a node itself: what it offers is the oldest signal of its queue, and what it takes in goes to the node inside. So
 /// the Send of a tree over the edge is the *Take* of the queue, and what that edge counts as sent is what was taken. The
@@ -64,7 +64,7 @@ impl<M: Machine<Item = T>, T: Drop> Queued<M, T> {
     }
 
     /// Whether the signal that the node inside offers can go into the queue, where `asked` is asked over the edge and
-    /// `taken` items were taken from the queue: the queue holds fewer than 64 signals and no ending, and the signal is an
+    /// `taken` items were taken from the queue: the queue holds fewer than [`CAPACITY`] signals and no ending, and the signal is an
     /// ending or an item that was asked for.
     pub fn can_transfer(&self, asked: u64, taken: u64) -> bool
         ensures { result ≡ can_transfer M.Machine self.now asked taken }

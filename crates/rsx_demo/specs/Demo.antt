@@ -6,6 +6,7 @@ use Rattle.std.specs.Int.{int_max, int_rem_euclid, cast_unsigned, cast_signed, w
 use Rattle.rsx_types.specs.Meaning.{Meaning, Allocates}
 use Rattle.rsx_types.specs.declared.fault.Fault.{Fault}
 use Rattle.rsx_types.specs.declared.fault.Fault.TheVariants.{Code}
+use Rattle.rsx_types.specs.declared.limits.TheConstants.{MOST_ITEMS}
 use Rattle.rsx_demo.specs.declared.val.Val.{Val}
 use Rattle.rsx_demo.specs.declared.val.Val.TheVariants as is
 use Rattle.rsx_demo.specs.Data.{data_len}
@@ -72,7 +73,7 @@ keyed_by f x =
 
 -- the numbers from 1 to z
 abbrev pub up_to : ℤ → Result (List Val) ℕ
-up_to (pos n) = if nat_lt 1024 n then Err 3 else Ok (map (λ k. is.Int (pos (k + 1))) (range_with_len 0 n))
+up_to (pos n) = if nat_lt MOST_ITEMS n then Err 3 else Ok (map (λ k. is.Int (pos (k + 1))) (range_with_len 0 n))
 up_to (negsuc n) = Ok []
 
 -- 1 is the numbers from 1 on, 2 is the number twice

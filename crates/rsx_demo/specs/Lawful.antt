@@ -6,6 +6,7 @@ use Rattle.std.proofs.lemmas.List.FromFn.{length-map-range_with_len}
 use Rattle.std.proofs.lemmas.Bool.Decides.{nat_tests}
 use Rattle.std.specs.List.{range_with_len}
 use Rattle.rsx_types.specs.Meaning.{IsLawful, IsSmallFault, IsSmallList}
+use Rattle.rsx_types.specs.declared.limits.TheConstants.{MOST_ITEMS}
 use Rattle.rsx_demo.specs.declared.val.Val.{Val}
 use Rattle.rsx_demo.specs.declared.val.Val.TheVariants as is
 use Rattle.rsx_demo.specs.Data.{data_len}
@@ -61,12 +62,12 @@ keyed_small f x =
     either_small (f == 1) _ _ (of_number_small _ (λ z. tt) x)
     (either_small (f == 2) _ _ (of_number_small _ (λ z. tt) x) (omega arith))
 
-counted_small : (n : ℕ) (b : Bool) → (b ≡ false → n ≤ 1024) → IsSmallList (if b then Err 3 else Ok (map (λ k. is.Int (pos (k + 1))) (range_with_len 0 n)))
+counted_small : (n : ℕ) (b : Bool) → (b ≡ false → n ≤ MOST_ITEMS) → IsSmallList (if b then Err 3 else Ok (map (λ k. is.Int (pos (k + 1))) (range_with_len 0 n)))
 counted_small n true h = omega arith
 counted_small n false h = omega (arith, h refl, length-map-range_with_len (λ k. is.Int (pos (k + 1))) 0 n)
 
 up_to_small : (z : ℤ) → IsSmallList (up_to z)
-up_to_small (pos n) = counted_small n (nat_lt 1024 n) (λ h. grind (arith, nat_tests))
+up_to_small (pos n) = counted_small n (nat_lt MOST_ITEMS n) (λ h. grind (arith, nat_tests))
 up_to_small (negsuc n) = omega arith
 
 expanded_small : (f : ℕ) (x : Val) → IsSmallList (expanded_by f x)

@@ -9,7 +9,7 @@ ghost use Rattle.rsx_demo.specs.Demo.{exactly, of_number, both_numbers, number_i
 ghost use Rattle.rsx_demo.specs.Lawful.{demo_lawful};
 
 use crate::val::{Val, Vals, copy_items, copy_val};
-use rsx_types::{Fault, NoMemory, Ops};
+use rsx_types::{Fault, MOST_ITEMS, NoMemory, Ops};
 use std::alloc::Global;
 
 /// The fault of a result that leaves the type `i64`.
@@ -20,9 +20,6 @@ pub const WRONG_KIND: u32 = 2;
 pub const TOO_LONG: u32 = 3;
 /// The fault of a function that isn't listed.
 pub const UNLISTED: u32 = 4;
-
-/// The most items of an expansion.
-const MOST_ITEMS: i64 = 1024;
 
 /// The demonstration's functions, each by its number:
 ///
@@ -59,12 +56,14 @@ fn in_range(n: Option<i64>) -> Result<Val, Fault>
     }
 }
 
+/// `map` 1: one more. Fault 1 at the greatest number, and fault 2 at a list.
 fn inc(x: &Val) -> Result<Val, Fault>
     ensures { result ≡ exactly (of_number (λ z. number_item (z +ℤ pos 1)) x.now) }
 {
     in_range(number(x)?.checked_add(1))
 }
 
+/// `map` 2: twice the number. Fault 1 where that leaves the type, and fault 2 at a list.
 fn double(x: &Val) -> Result<Val, Fault>
     ensures { result ≡ exactly (of_number (λ z. number_item (z +ℤ z)) x.now) }
 {
@@ -72,12 +71,14 @@ fn double(x: &Val) -> Result<Val, Fault>
     in_range(n.checked_add(n))
 }
 
+/// `map` 3: the number with the other sign. Fault 1 at the least number, and fault 2 at a list.
 fn negate(x: &Val) -> Result<Val, Fault>
     ensures { result ≡ exactly (of_number (λ z. number_item (neg_ℤ z)) x.now) }
 {
     in_range(number(x)?.checked_neg())
 }
 
+/// `map` 4: the length of a list. Fault 2 at a number, and fault 1 where the length leaves the type.
 fn size(x: &Val) -> Result<Val, Fault>
     ensures { result ≡ exactly (size_of x.now) }
 {
@@ -87,36 +88,42 @@ fn size(x: &Val) -> Result<Val, Fault>
     }
 }
 
+/// `test` 1: whether the number is even. Fault 2 at a list.
 fn even(x: &Val) -> Result<bool, Fault>
     ensures { result ≡ exactly (of_number (λ z. Ok (unsigned_abs z % 2 == 0)) x.now) }
 {
     Ok(number(x)?.unsigned_abs() % 2 == 0)
 }
 
+/// `test` 2: whether the number is above 0. Fault 2 at a list.
 fn positive(x: &Val) -> Result<bool, Fault>
     ensures { result ≡ exactly (of_number (λ z. Ok (int_lt (pos 0) z)) x.now) }
 {
     Ok(number(x)? > 0)
 }
 
+/// `fold` 1: the sum. Fault 1 where that leaves the type, and fault 2 at a list.
 fn add(acc: &Val, x: &Val) -> Result<Val, Fault>
     ensures { result ≡ exactly (both_numbers (λ n z. number_item (n +ℤ z)) acc.now x.now) }
 {
     in_range(number(acc)?.checked_add(number(x)?))
 }
 
+/// `fold` 2: the greater of the two numbers. Fault 2 at a list.
 fn greater(acc: &Val, x: &Val) -> Result<Val, Fault>
     ensures { result ≡ exactly (both_numbers (λ n z. Ok (Val.Int (int_max n z))) acc.now x.now) }
 {
     Ok(Val::Int(number(acc)?.max(number(x)?)))
 }
 
+/// `key` 1: the remainder by 3, which is 0, 1 or 2. Fault 2 at a list.
 fn remainder(x: &Val) -> Result<u64, Fault>
     ensures { result ≡ exactly (of_number (λ z. Ok (unsigned_abs (int_rem_euclid z (pos 3)))) x.now) }
 {
     Ok(number(x)?.rem_euclid(3).unsigned_abs())
 }
 
+/// `key` 2: the 64 bits of the number, so that different numbers have different keys. Fault 2 at a list.
 fn bits(x: &Val) -> Result<u64, Fault>
     ensures { result ≡ exactly (of_number (λ z. Ok (cast_unsigned w64 z)) x.now) }
 {
@@ -132,7 +139,7 @@ fn listed(alloc: Global, xs: &[Val]) -> Result<Val, NoMemory>
 
 /// The numbers from 1 to `n`.
 fn counting(alloc: Global, n: u64) -> Result<Vec<Val>, NoMemory>
-    requires { n ≤ 1024 }
+    requires { n ≤ MOST_ITEMS }
     ensures { IfOk result (λ ys. ys.items ≡ map (λ k. Val.Int (pos (k + 1))) (range_with_len 0 n)) }
 {
     let mut out = Vec::new(alloc);
@@ -142,16 +149,19 @@ fn counting(alloc: Global, n: u64) -> Result<Vec<Val>, NoMemory>
     Ok(out)
 }
 
+/// `expand` 1: the numbers from 1 to the number; none where it is below 1. Fault 3 where it is above [`MOST_ITEMS`], and
+/// fault 2 at a list.
 fn up_to_number(alloc: Global, x: &Val) -> Result<Vec<Val>, Fault>
     ensures { AnswersList result (of_number up_to x.now) }
 {
     let n = number(x)?;
-    if n > MOST_ITEMS {
+    if n > MOST_ITEMS as i64 {
         return Err(Fault::Code(TOO_LONG));
     }
     counting(alloc, n.max(0).unsigned_abs()).map_err(|_| Fault::Memory)
 }
 
+/// `expand` 2: the number two times. Fault 2 at a list.
 fn twice(alloc: Global, x: &Val) -> Result<Vec<Val>, Fault>
     ensures { AnswersList result (of_number (λ z. Ok (Val.Int z ∷ Val.Int z ∷ [])) x.now) }
 {

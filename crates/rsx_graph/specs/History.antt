@@ -11,6 +11,7 @@ use Rattle.rsx_types.specs.declared.names.SubId.{SubId}
 use Rattle.rsx_types.specs.declared.names.Tree.{Tree}
 use Rattle.rsx_types.specs.declared.names.Tree.TheVariants.{Sub, Feed}
 use Rattle.rsx_types.specs.declared.signal.Signal.{Signal}
+use Rattle.rsx_graph.specs.declared.graph.TheConstants.{MOST_SUBSCRIPTIONS}
 use Rattle.rsx_graph.specs.declared.step.Step.{Step}
 use Rattle.rsx_graph.specs.declared.step.Step.TheVariants.{Subscribe, Request, Cancel, Make}
 use Rattle.rsx_graph.specs.declared.step.Answer.{Answer}
@@ -74,8 +75,8 @@ state_at (p ∷ ps) (suc i) = state_at ps i
 -- why a subscription is refused: the expression first, then the limit, and memory last
 abbrev pub IsSubscribeRefusal : {T : Type 0} → ℕ → Expr T → Refusal → Type 0
 IsSubscribeRefusal count e (BadExpr k) = refusal 0 e ≡ Some k
-IsSubscribeRefusal count e TooMany = (refusal 0 e ≡ None) × (256 ≤ count)
-IsSubscribeRefusal count e NoMemory = (refusal 0 e ≡ None) × (count < 256)
+IsSubscribeRefusal count e TooMany = (refusal 0 e ≡ None) × (MOST_SUBSCRIPTIONS ≤ count)
+IsSubscribeRefusal count e NoMemory = (refusal 0 e ≡ None) × (count < MOST_SUBSCRIPTIONS)
 IsSubscribeRefusal count e UnknownHub = ⊥
 IsSubscribeRefusal count e UnknownSub = ⊥
 IsSubscribeRefusal count e NotEnabled = ⊥
@@ -91,7 +92,7 @@ IsMakeRefusal count enabled (Sub i) _ = ⊥
 
 -- an answer that belongs to a step after this history: its names are those of the history, and a refusal comes in its case
 abbrev pub Belongs : {T : Type 0} → History T → Step T → Answer T → Type 0
-Belongs h (Subscribe e) (Subscribed i) = (i.0 ≡ length h.pasts) × (refusal 0 e ≡ None) × (length h.pasts < 256)
+Belongs h (Subscribe e) (Subscribed i) = (i.0 ≡ length h.pasts) × (refusal 0 e ≡ None) × (length h.pasts < MOST_SUBSCRIPTIONS)
 Belongs h (Subscribe e) (NotDone r) = IsSubscribeRefusal (length h.pasts) e r
 Belongs h (Request i n) (Requested o) = (s : SubscriptionState) × (state_at h.pasts i.0 ≡ Some s) × (o ≡ request_answer s n)
 Belongs h (Request i n) (NotDone r) = (r ≡ UnknownSub) × (length h.pasts ≤ i.0)

@@ -10,6 +10,7 @@ ghost use Rattle.rsx_graph.specs.Stands.{StandsFor, IsRequestedAt, IsCancelledAt
 ghost use Rattle.rsx_graph.specs.Begun.{IsSubscribed};
 ghost use Rattle.rsx_graph.specs.Served.{AllServed};
 ghost use Rattle.rsx_graph.specs.Pumped.{AllPumped, HasEnded, HasRestedAt};
+ghost use Rattle.rsx_graph.specs.declared.graph.TheConstants.{MOST_SUBSCRIPTIONS};
 
 use crate::refusal::Refusal;
 use crate::step::{Answer, Pumped, Step};
@@ -20,6 +21,9 @@ use rsx_subscriber::{Deliveries, Subscription, SubscriptionState};
 use rsx_types::{Ending, Move, NoMemory, NodeId, Note, Ops, Signal, StreamValue, SubId, Tree};
 use std::alloc::Global;
 
+/// The most subscriptions of a graph.
+pub const MOST_SUBSCRIPTIONS: usize = 256;
+
 /// Subscriptions to expressions, driven by edits and moves.
 #[derive(Drop)]
 pub struct Graph<O: Ops> {
@@ -27,13 +31,10 @@ pub struct Graph<O: Ops> {
     ops: O,
     /// The subscriptions, in the order of their making.
     subscriptions: Vec<Subscription<O::Item>>,
-    pub ghost few: { length subscriptions.items ≤ 256 },
+    pub ghost few: { length subscriptions.items ≤ MOST_SUBSCRIPTIONS },
 }
 
 impl<O: Ops> Graph<O> {
-    /// How many subscriptions a graph may have.
-    pub const SUBSCRIPTIONS: usize = 256;
-
     /// A graph with no subscription. It takes no memory so far, and is never refused.
     pub fn new(alloc: Global, ops: O) -> Result<Graph<O>, Refusal>
         ensures made { IsOk result }
@@ -51,13 +52,13 @@ impl<O: Ops> Graph<O> {
     /// open, and nothing was asked of it yet.
     ///
     /// # Errors
-    /// G6 exactly where the expression goes past a limit, else G5 exactly where there are 256 subscriptions, else G8 where a
+    /// G6 exactly where the expression goes past a limit, else G5 exactly where there are [`MOST_SUBSCRIPTIONS`], else G8 where a
     /// growth was refused; nothing changed.
     pub fn subscribe(&mut self, alloc: Global, expr: &Expr<O::Item>) -> Result<SubId, Refusal>
         ensures ops { self.new.ops ≡ self.old.ops }
         ensures stands { OnOk result ((h : History O.Item) → StandsFor (O.meaning self.old.ops) self.old.subscriptions.items h → StandsFor (O.meaning self.old.ops) self.new.subscriptions.items (with_subscriber expr.now h)) }
         ensures effect { OnOk result (IsSubscribed expr.now self.old.subscriptions.items self.new.subscriptions.items) }
-        ensures id { IfOk result (λ id. (id.0 ≡ length self.old.subscriptions.items) × (refusal 0 expr.now ≡ None) × (length self.old.subscriptions.items < 256)) }
+        ensures id { IfOk result (λ id. (id.0 ≡ length self.old.subscriptions.items) × (refusal 0 expr.now ≡ None) × (length self.old.subscriptions.items < MOST_SUBSCRIPTIONS)) }
         ensures err { IfErr result (λ r. IsSubscribeRefusal (length self.old.subscriptions.items) expr.now r) }
         ensures same { OnErr result (self.new.subscriptions.items ≡ self.old.subscriptions.items) }
     {
@@ -65,7 +66,7 @@ impl<O: Ops> Graph<O> {
             return Err(Refusal::BadExpr(kind));
         }
         let count = self.subscriptions.len();
-        if count >= 256 {
+        if count >= MOST_SUBSCRIPTIONS {
             return Err(Refusal::TooMany);
         }
         let subscription = match Subscription::new(alloc, &self.ops, expr) {

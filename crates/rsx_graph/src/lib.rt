@@ -17,7 +17,7 @@ pub mod refusal;
 pub mod replays;
 pub mod step;
 
-pub use graph::Graph;
+pub use graph::{Graph, MOST_SUBSCRIPTIONS};
 pub use law::headline;
 pub use refusal::Refusal;
 pub use replays::replay;

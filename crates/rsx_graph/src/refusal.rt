@@ -17,7 +17,7 @@ pub enum Refusal {
     /// G2: no such subscription.
     #[error("unknown subscription")]
     UnknownSub,
-    /// G5: the graph has 256 subscriptions.
+    /// G5: the graph has [`MOST_SUBSCRIPTIONS`](crate::MOST_SUBSCRIPTIONS), 256.
     #[error("too many")]
     TooMany,
     /// G6: the expression goes past a limit.

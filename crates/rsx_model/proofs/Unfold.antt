@@ -2,6 +2,8 @@
 use Rattle.std.proofs.Common.{◌≡◌, ℕ, ℤ, ◌+◌, ◌≤◌, List, [], ◌∷◌, length, map, nat_le, Option, Some, None, option_map, slice_get, Vec, Global, Box, refl, sym, ap, subst, ◌∙◌, arith}
 use Rattle.rsx_types.specs.Plain.{plain, listed, range_items}
 use Rattle.rsx_types.specs.declared.stage.Stage.{Stage}
+use Rattle.rsx_types.specs.declared.limits.TheConstants.{MOST_ITEMS}
+use Rattle.rsx_model.specs.declared.check.TheConstants.{MOST_DEPTH, MOST_NODES}
 use Rattle.rsx_model.specs.declared.check.BadExpr.{BadExpr}
 use Rattle.rsx_model.specs.declared.check.BadExpr.TheVariants.{Depth, Nodes, Number, Length}
 use Rattle.rsx_model.specs.declared.expr.Expr.{Expr}
@@ -115,7 +117,7 @@ leaves_Range T a n = rw (leaves_out, outs-Range) refl
 pub leaves_Plain : {T : Type 0} (g : Stage T) (b : Below T) → leaves (Plain g b) ≡ leaves b.value
 leaves_Plain g b = rw (leaves_out, outs-Plain) (omega arith)
 
-pub first_fault_Items : {T : Type 0} (hubs : ℕ) (v : Listed T) → first_fault hubs (Items v) ≡ unless (nat_le (length v.items) 1024) Length
+pub first_fault_Items : {T : Type 0} (hubs : ℕ) (v : Listed T) → first_fault hubs (Items v) ≡ unless (nat_le (length v.items) MOST_ITEMS) Length
 first_fault_Items hubs v = rw (fault_out, outs-Items) (or_else-nothing _)
 
 pub first_fault_Range : (T : Type 0) (hubs : ℕ) (a : ℤ) (n : ℕ) → first_fault {T = T} hubs (Range a n) ≡ unless (range_fits a n) Number
@@ -190,16 +192,16 @@ or_none : (o rest : Option BadExpr) → or_else o rest ≡ None → (o ≡ None)
 or_none None rest h = (refl, h)
 or_none (Some k) rest h = cc
 
-few_nodes : (n : ℕ) → unless (nat_le n 256) Nodes ≡ None → n ≤ 256
+few_nodes : (n : ℕ) → unless (nat_le n MOST_NODES) Nodes ≡ None → n ≤ MOST_NODES
 few_nodes n e = grind arith
 
-few_levels : (n : ℕ) → unless (nat_le n 32) Depth ≡ None → n ≤ 32
+few_levels : (n : ℕ) → unless (nat_le n MOST_DEPTH) Depth ≡ None → n ≤ MOST_DEPTH
 few_levels n e = grind arith
 
 pub record IsSound {T : Type 0} (hubs : ℕ) (e : Expr T) : Type 0 where
-  pub deep : depth e ≤ 32
-  pub small : nodes e ≤ 256
-  pub few_leaves : leaves e ≤ 256
+  pub deep : depth e ≤ MOST_DEPTH
+  pub small : nodes e ≤ MOST_NODES
+  pub few_leaves : leaves e ≤ MOST_NODES
   pub fault : first_fault hubs e ≡ None
 
 pub sound : {T : Type 0} (hubs : ℕ) (e : Expr T) → refusal hubs e ≡ None → IsSound hubs e

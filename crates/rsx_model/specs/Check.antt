@@ -1,11 +1,13 @@
 -- Which expressions are refused, and why.
-use Rattle.std.specs.Prelude.{ℕ, ℤ, pos, ◌+ℤ◌, Bool, true, false, ◌&&◌, ◌||◌, int_le, nat_eq, nat_le, List, [], ◌∷◌, length, Option, Some, None}
+use Rattle.std.specs.Prelude.{ℕ, ℤ, pos, ◌+ℤ◌, ◌^◌, Bool, true, false, ◌&&◌, ◌||◌, int_le, nat_eq, nat_le, List, [], ◌∷◌, length, Option, Some, None}
 use Rattle.rsx_types.specs.declared.stage.Stage.{Stage}
 use Rattle.rsx_types.specs.declared.stage.Stage.TheVariants.{Map, Filter, Take, Scan, Buffer, Distinct}
 use Rattle.rsx_model.specs.declared.expr.Expr.{Expr}
 use Rattle.rsx_model.specs.declared.expr.Expr.TheOpen.{Expr-F, Items, Range, Plain}
 use Rattle.rsx_model.specs.declared.expr.Expr.TheFolds.{fold-Expr}
+use Rattle.rsx_types.specs.declared.limits.TheConstants.{MOST_ITEMS}
 use Rattle.rsx_model.specs.declared.check.BadExpr.{BadExpr}
+use Rattle.rsx_model.specs.declared.check.TheConstants.{MOST_DEPTH, MOST_NODES, MOST_COUNT}
 use Rattle.rsx_model.specs.declared.check.BadExpr.TheVariants.{Depth, Nodes, Number, Length}
 use Rattle.rsx_model.specs.Shape.{children, nodes, depth}
 
@@ -33,12 +35,12 @@ unless false k = Some k
 
 -- at most 1,000,000 numbers, and the last is at most 2^63-1
 abbrev pub range_fits : ℤ → ℕ → Bool
-range_fits a n = nat_le n 1000000 && (nat_eq n 0 || int_le (a +ℤ pos n) (pos 9223372036854775808))
+range_fits a n = nat_le n MOST_COUNT && (nat_eq n 0 || int_le (a +ℤ pos n) (pos (2 ^ 63)))
 
 -- a `take` of at most 1,000,000 items, and a `buffer` of lists of 1 to 1,024 items
 abbrev pub stage_fits : {T : Type 0} → Stage T → Bool
-stage_fits (Take n) = nat_le n 1000000
-stage_fits (Buffer n) = nat_le 1 n && nat_le n 1024
+stage_fits (Take n) = nat_le n MOST_COUNT
+stage_fits (Buffer n) = nat_le 1 n && nat_le n MOST_ITEMS
 stage_fits (Map f) = true
 stage_fits (Filter f) = true
 stage_fits (Scan f s) = true
@@ -46,7 +48,7 @@ stage_fits (Distinct f) = true
 
 -- what is wrong with one node where there are so many hubs, leaving out its children
 abbrev pub own_fault : {T A : Type 0} → ℕ → Expr-F T A → Option BadExpr
-own_fault hubs (Items v) = unless (nat_le (length v.items) 1024) Length
+own_fault hubs (Items v) = unless (nat_le (length v.items) MOST_ITEMS) Length
 own_fault hubs (Range a n) = unless (range_fits a n) Number
 own_fault hubs (Plain g b) = unless (stage_fits g) Number
 
@@ -57,4 +59,4 @@ first_fault {T} hubs = fold-Expr T (Option BadExpr) (λ e. or_else (own_fault hu
 -- why an expression is refused where there are so many hubs, if it is
 abbrev pub refusal : {T : Type 0} → ℕ → Expr T → Option BadExpr
 refusal hubs e =
-    or_else (unless (nat_le (depth e) 32) Depth) (or_else (unless (nat_le (nodes e) 256) Nodes) (first_fault hubs e))
+    or_else (unless (nat_le (depth e) MOST_DEPTH) Depth) (or_else (unless (nat_le (nodes e) MOST_NODES) Nodes) (first_fault hubs e))

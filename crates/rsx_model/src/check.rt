@@ -1,13 +1,22 @@
 //! Which expressions are refused, and why.
 
-ghost use Rattle.std.specs.Prelude.{◌≡◌, min, nat_le, MatchResult, Some, None};
+ghost use Rattle.std.specs.Prelude.{◌≡◌, ◌+◌, min, nat_le, MatchResult, Some, None};
 ghost use Rattle.rsx_model.specs.Shape.{nodes, leaves, depth};
 ghost use Rattle.rsx_model.specs.Check.{refusal, first_fault, own_fault, unless, range_fits, stage_fits, kind_number};
 ghost use Rattle.rsx_model.specs.declared.expr.Expr.TheViews.{out-Expr};
 
 use crate::expr::Expr;
-use rsx_types::Stage;
+use rsx_types::{MOST_ITEMS, Stage};
 use thiserror::Error;
+
+/// The most nodes that an expression is deep. A source alone is 1 deep.
+pub const MOST_DEPTH: u64 = 32;
+
+/// The most nodes of an expression.
+pub const MOST_NODES: u64 = 256;
+
+/// The most numbers of a range, and the most items of a `take`.
+pub const MOST_COUNT: u64 = 1_000_000;
 
 /// Why an expression is refused. The first two speak of the whole expression, in this order; the others of the first
 /// faulty node in pre-order.
@@ -57,10 +66,10 @@ pub fn check_expr<T>(expr: &Expr<T>, hubs: u32) -> Result<(), BadExpr>
 pub(crate) fn refusal_of<T>(expr: &Expr<T>, hubs: u64) -> Option<BadExpr>
     ensures { result ≡ refusal hubs expr.now }
 {
-    if !is_within_depth(expr, 32) {
+    if !is_within_depth(expr, MOST_DEPTH) {
         return Some(BadExpr::Depth);
     }
-    if nodes_of(expr) > 256 {
+    if nodes_of(expr) > MOST_NODES {
         return Some(BadExpr::Nodes);
     }
     first_fault_of(expr, hubs)
@@ -79,19 +88,19 @@ fn is_within_depth<T>(expr: &Expr<T>, most: u64) -> bool
     }
 }
 
-/// How many nodes there are, or 257 if there are more.
+/// How many nodes there are, or 257 if there are more than [`MOST_NODES`].
 pub fn nodes_of<T>(expr: &Expr<T>) -> u64
-    ensures { result ≡ min (nodes expr.now) 257 }
+    ensures { result ≡ min (nodes expr.now) (MOST_NODES + 1) }
 {
     match expr {
         Expr::Items(_) | Expr::Range(_, _) => 1,
-        Expr::Plain(_, below) => (1 + nodes_of(below)).min(257),
+        Expr::Plain(_, below) => (1 + nodes_of(below)).min(MOST_NODES + 1),
     }
 }
 
-/// How many leaves are hubs, or 257 if there are more.
+/// How many leaves are hubs, or 257 if there are more than [`MOST_NODES`].
 pub fn leaves_of<T>(expr: &Expr<T>) -> u64
-    ensures { result ≡ min (leaves expr.now) 257 }
+    ensures { result ≡ min (leaves expr.now) (MOST_NODES + 1) }
 {
     match expr {
         Expr::Items(_) | Expr::Range(_, _) => 0,
@@ -118,23 +127,25 @@ fn own_fault_of<T>(expr: &Expr<T>, hubs: u64) -> Option<BadExpr>
     ensures { result ≡ own_fault hubs (out-Expr T expr.now) }
 {
     match expr {
-        Expr::Items(items) => unless_ok(items.len() <= 1024, BadExpr::Length),
+        Expr::Items(items) => unless_ok(items.len() as u64 <= MOST_ITEMS, BadExpr::Length),
         Expr::Range(first, count) => unless_ok(is_range(*first, *count), BadExpr::Number),
         Expr::Plain(stage, _) => unless_ok(is_stage(stage), BadExpr::Number),
     }
 }
 
+/// The refusal, unless the limit is kept.
 fn unless_ok(ok: bool, refusal: BadExpr) -> Option<BadExpr>
     ensures { result ≡ unless ok refusal }
 {
     if ok { None } else { Some(refusal) }
 }
 
+/// Whether a range has at most [`MOST_COUNT`] numbers, and its last one is at most 2^63-1.
 fn is_range(first: i64, count: u64) -> bool
     ensures { result ≡ range_fits first count }
 {
-    count <= 1_000_000
-        && (count == 0 || i128::from(first) + i128::from(count) <= 9_223_372_036_854_775_808)
+    count <= MOST_COUNT
+        && (count == 0 || i128::from(first) + i128::from(count) <= i128::from(i64::MAX) + 1)
 }
 
 /// Whether the number of an operator is within its limit.
@@ -142,8 +153,8 @@ fn is_stage<T>(stage: &Stage<T>) -> bool
     ensures { result ≡ stage_fits stage.now }
 {
     match stage {
-        Stage::Take(items) => *items <= 1_000_000,
-        Stage::Buffer(size) => 1 <= *size && *size <= 1024,
+        Stage::Take(items) => *items <= MOST_COUNT,
+        Stage::Buffer(size) => 1 <= *size && *size <= MOST_ITEMS,
         Stage::Map(_) | Stage::Filter(_) | Stage::Scan(_, _) | Stage::Distinct(_) => true,
     }
 }

@@ -1,6 +1,6 @@
 //! The slow evaluator.
 
-ghost use Rattle.std.specs.Prelude.{◌≡◌, ◌⊎◌, ◌≤◌, ◌+◌, ◌+ℤ◌, ◌≤ℤ◌, pos, length, Option, Some, None, option_map, codes};
+ghost use Rattle.std.specs.Prelude.{◌≡◌, ◌⊎◌, ◌≤◌, ◌+◌, ◌^◌, ◌+ℤ◌, ◌≤ℤ◌, pos, length, Option, Some, None, option_map, codes};
 ghost use Rattle.rsx_types.specs.Stream.{Stream};
 ghost use Rattle.rsx_types.specs.Plain.{plain, listed, range_items};
 ghost use Rattle.rsx_model.specs.declared.evaluate.Trouble.TheVariants.{OutOfMemory};
@@ -9,7 +9,7 @@ ghost use Rattle.rsx_model.specs.Check.{first_fault};
 ghost use Rattle.rsx_model.specs.Eval.{environment, meant, quiet};
 ghost use Rattle.rsx_model.specs.Answer.{Gives, IsScratch, name_codes};
 
-use crate::check::{BadExpr, leaves_of, nodes_of, refusal_of};
+use crate::check::{BadExpr, MOST_COUNT, MOST_NODES, leaves_of, nodes_of, refusal_of};
 use crate::expr::Expr;
 use rsx_types::{Ending, NoMemory, Note, Ops, Stage, StreamValue};
 use rsx_values::{apply, copies_of, range_list};
@@ -102,7 +102,7 @@ fn value_of<O: Ops>(
     leaf: usize,
 ) -> Result<StreamValue<O::Item>, Trouble>
     requires sound { first_fault (length hubs.now) expr.now ≡ None }
-    requires small { nodes expr.now ≤ 256 }
+    requires small { nodes expr.now ≤ MOST_NODES }
     requires noted { at + nodes expr.now ≤ length notes.now }
     requires joined { leaf + leaves expr.now ≤ length joins.now }
     ensures { Gives result ((meant (environment (O.meaning ops.now) hubs.now joins.now notes.now) expr.now).value at leaf) }
@@ -132,6 +132,7 @@ fn if_quiet<T: Drop>(
     }
 }
 
+/// The value of `items`: copies of the list, and the completion.
 fn items_of<O: Ops>(
     alloc: Global,
     ops: &O,
@@ -142,19 +143,21 @@ fn items_of<O: Ops>(
     Ok(StreamValue::new(copies_of(alloc, ops, items)?, Ending::Done))
 }
 
+/// The value of `range`: the numbers from `first` on, and the completion.
 fn range_of<O: Ops>(
     alloc: Global,
     ops: &O,
     first: i64,
     count: u64,
 ) -> Result<StreamValue<O::Item>, Trouble>
-    requires few { count ≤ 1000000 }
-    requires fits { (count ≡ 0) ⊎ ((first +ℤ pos count) ≤ℤ pos 9223372036854775808) }
+    requires few { count ≤ MOST_COUNT }
+    requires fits { (count ≡ 0) ⊎ ((first +ℤ pos count) ≤ℤ pos (2 ^ 63)) }
     ensures { Gives result (Some (listed (range_items (O.meaning ops.now) first count))) }
 {
     Ok(StreamValue::new(range_list(alloc, ops, first, count)?, Ending::Done))
 }
 
+/// The value of an operator over the value of its input; what is wrong with the input is wrong here.
 fn plain_of<O: Ops>(
     alloc: Global,
     ops: &O,

@@ -13,7 +13,7 @@ mod evaluate;
 mod expr;
 mod law;
 
-pub use check::{BadExpr, check_expr, leaves_of, nodes_of};
+pub use check::{BadExpr, MOST_COUNT, MOST_DEPTH, MOST_NODES, check_expr, leaves_of, nodes_of};
 pub use evaluate::{ScratchRefusal, scratch};
 pub use expr::Expr;
 pub use law::{buffer_cuts, distinct_keeps_first, never_a_bad_request, scan_folds};

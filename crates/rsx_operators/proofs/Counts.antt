@@ -2,6 +2,7 @@
 use Rattle.std.proofs.Common.{◌≡◌, ℕ, zero, suc, ◌+◌, ◌-◌, ◌*◌, ◌<◌, ◌≤◌, min, Bool, true, false, nat_eq, nat_le, if◌then◌else◌, List, [], ◌∷◌, ◌++◌, length, length-append, refl, sym, ap, ◌∙◌, subst, arith, Result, Ok, Err}
 use Rattle.std.proofs.lemmas.Bool.Decides.{nat_tests}
 use Rattle.std.specs.Set.{is_member}
+use Rattle.rsx_demand.specs.declared.TheConstants.{UNBOUNDED}
 use Rattle.rsx_types.specs.Meaning.{Meaning}
 use Rattle.rsx_types.specs.Plain.{taken_items, accumulated_then, last_list, new_key_then, buffered_items}
 use Rattle.rsx_types.specs.Stream.{Stream, ended_by, item_then, answer_then, kept_then, signals_then}
@@ -11,7 +12,7 @@ use Rattle.rsx_types.specs.declared.signal.Ending.TheVariants.{Open, Done, Faile
 use Rattle.rsx_types.specs.declared.signal.Signal.{Signal}
 use Rattle.rsx_types.specs.declared.signal.Signal.TheVariants.{Next, Complete, Error}
 use Rattle.rsx_operators.specs.Moves.{Moves, has_ending}
-use Rattle.rsx_operators.specs.State.{plain_from, after_signal, after_item, after_ending, is_over, balanced, Counts, dropped_after, gathered_after, distinct_after, most_asked}
+use Rattle.rsx_operators.specs.State.{plain_from, after_signal, after_item, after_ending, is_over, balanced, Counts, dropped_after, gathered_after, distinct_after}
 use Rattle.rsx_operators.specs.declared.state.PlainState.{PlainState}
 use Rattle.rsx_operators.specs.declared.state.PlainState.TheVariants.{Map as MapFrom, Filter as FilterFrom, Take as TakeFrom, Scan as ScanFrom, Buffer as BufferFrom, Distinct as DistinctFrom}
 
@@ -40,16 +41,16 @@ mapped_one : {T : Type 0} (r : Result T ℕ) (n : ℕ) → Gives (answer_then r 
 mapped_one (Ok y) n k = let i = k.items in omega (arith, i)
 mapped_one (Err c) n k = let e = k.ending in cc
 
-filtered_one : {T : Type 0} (x : T) (r : Result Bool ℕ) (n taken put d : ℕ) → Gives (kept_then x r (ended_by Open)) (ended_by Open) n → (d < most_asked → taken ≡ put + d) → dropped_after d r < most_asked → taken + 1 ≡ put + n + dropped_after d r
+filtered_one : {T : Type 0} (x : T) (r : Result Bool ℕ) (n taken put d : ℕ) → Gives (kept_then x r (ended_by Open)) (ended_by Open) n → (d < UNBOUNDED → taken ≡ put + d) → dropped_after d r < UNBOUNDED → taken + 1 ≡ put + n + dropped_after d r
 filtered_one x (Ok true) n taken put d k b l = let i = k.items in let c = b l in omega (arith, i, c)
 filtered_one x (Ok false) n taken put d k b l =
     let i = k.items in
-    let small : d + 1 < most_asked = below d l in
+    let small : d + 1 < UNBOUNDED = below d l in
     let c : taken ≡ put + d = b (omega (arith, small)) in
-    let least : min most_asked (d + 1) ≡ d + 1 = omega (arith, small) in
+    let least : min UNBOUNDED (d + 1) ≡ d + 1 = omega (arith, small) in
     omega (arith, i, c, least)
   where
-    below : (d : ℕ) → min most_asked (d + 1) < most_asked → d + 1 < most_asked
+    below : (d : ℕ) → min UNBOUNDED (d + 1) < UNBOUNDED → d + 1 < UNBOUNDED
     below d l = omega (arith, l)
 filtered_one x (Err c) n taken put d k b l = let e = k.ending in cc
 
@@ -92,19 +93,19 @@ full_list list false n count xs x taken put full k t l more =
 
 -- a key that is new, or known
 key_one : {T : Type 0} (f : ℕ) (x : T) (r : Result ℕ ℕ) (ks : List ℕ) (n count taken put : ℕ) → Gives (new_key_then x r ks (λ known. ended_by Open)) (ended_by Open) count →
-    (n < most_asked → taken ≡ put + n) → balanced (distinct_after {T = T} f ks n r) (taken + 1) (put + count)
+    (n < UNBOUNDED → taken ≡ put + n) → balanced (distinct_after {T = T} f ks n r) (taken + 1) (put + count)
 key_one f x (Err c) ks n count taken put k b = let e = k.ending in cc
 key_one {T} f x (Ok key) ks n count taken put k b = by_key (is_member nat_eq ks key) k
   where
     known_or : Bool → PlainState T
-    known_or m = if m then DistinctFrom f ks (min most_asked (n + 1)) else DistinctFrom f (ks ++ key ∷ []) n
+    known_or m = if m then DistinctFrom f ks (min UNBOUNDED (n + 1)) else DistinctFrom f (ks ++ key ∷ []) n
 
     by_key : (m : Bool) → Gives (if m then ended_by Open else item_then x (ended_by Open)) (ended_by Open) count → balanced (known_or m) (taken + 1) (put + count)
     by_key true g = λ l.
         let i = g.items in
-        let small : n + 1 < most_asked = omega (arith, l) in
+        let small : n + 1 < UNBOUNDED = omega (arith, l) in
         let c : taken ≡ put + n = b (omega (arith, small)) in
-        let least : min most_asked (n + 1) ≡ n + 1 = omega (arith, small) in
+        let least : min UNBOUNDED (n + 1) ≡ n + 1 = omega (arith, small) in
         omega (arith, i, c, least)
     by_key false g = λ l. let i = g.items in let c = b l in omega (arith, i, c)
 
@@ -113,7 +114,7 @@ distinct_open m f ks n (Err c) = refl
 distinct_open {T} m f ks n (Ok key) = either (is_member nat_eq ks key)
   where
     known_or : Bool → PlainState T
-    known_or b = if b then DistinctFrom f ks (min most_asked (n + 1)) else DistinctFrom f (ks ++ key ∷ []) n
+    known_or b = if b then DistinctFrom f ks (min UNBOUNDED (n + 1)) else DistinctFrom f (ks ++ key ∷ []) n
 
     either : (b : Bool) → plain_from m (known_or b) (ended_by Open) ≡ ended_by Open
     either true = refl

@@ -1,6 +1,7 @@
 -- The plain operators from a state.
 use Rattle.std.specs.Prelude.{◌≡◌, ◌<◌, ℕ, ◌+◌, ◌-◌, ◌*◌, min, Bool, true, false, ◌||◌, nat_eq, nat_le, if◌then◌else◌, List, [], ◌∷◌, ◌++◌, length, Result, Ok, Err}
 use Rattle.std.specs.Set.{is_member}
+use Rattle.rsx_demand.specs.declared.TheConstants.{UNBOUNDED}
 use Rattle.rsx_types.specs.declared.signal.Signal.{Signal}
 use Rattle.rsx_types.specs.declared.signal.Signal.TheVariants.{Next, Complete, Error}
 use Rattle.rsx_types.specs.declared.stage.Stage.{Stage}
@@ -30,14 +31,10 @@ plain_start (Scan f s) = ScanFrom f s
 plain_start (Buffer n) = BufferFrom n []
 plain_start (Distinct f) = DistinctFrom f [] 0
 
--- the most that can be asked of a node in all
-abbrev pub most_asked : ℕ
-most_asked = 9223372036854775807
-
 -- an item whose test is false is one more that was dropped
 abbrev pub dropped_after : ℕ → Result Bool ℕ → ℕ
 dropped_after n (Ok true) = n
-dropped_after n (Ok false) = min most_asked (n + 1)
+dropped_after n (Ok false) = min UNBOUNDED (n + 1)
 dropped_after n (Err c) = n
 
 -- the accumulation after an answer; a fault leaves it
@@ -52,7 +49,7 @@ gathered_after n xs x = if nat_le n (length xs + 1) then [] else xs ++ x ∷ []
 -- the state of a `distinct` after a key
 abbrev pub distinct_after : {T : Type 0} → ℕ → List ℕ → ℕ → Result ℕ ℕ → PlainState T
 distinct_after f ks n (Ok k) =
-    if is_member nat_eq ks k then DistinctFrom f ks (min most_asked (n + 1)) else DistinctFrom f (ks ++ k ∷ []) n
+    if is_member nat_eq ks k then DistinctFrom f ks (min UNBOUNDED (n + 1)) else DistinctFrom f (ks ++ k ∷ []) n
 distinct_after f ks n (Err c) = DistinctFrom f ks n
 
 -- the state after an item
@@ -83,11 +80,11 @@ after_signal m state (Error c) = after_ending state
 -- its limit says nothing more
 abbrev pub balanced : {T : Type 0} → PlainState T → ℕ → ℕ → Type 0
 balanced (MapFrom f) taken put = put ≡ taken
-balanced (FilterFrom f n) taken put = n < most_asked → taken ≡ put + n
+balanced (FilterFrom f n) taken put = n < UNBOUNDED → taken ≡ put + n
 balanced (TakeFrom n left) taken put = (put ≡ taken) × (put + left ≡ n)
 balanced (ScanFrom f a) taken put = put ≡ taken + 1
 balanced (BufferFrom n xs) taken put = (taken ≡ put * n + length xs) × (length xs < n)
-balanced (DistinctFrom f ks n) taken put = n < most_asked → taken ≡ put + n
+balanced (DistinctFrom f ks n) taken put = n < UNBOUNDED → taken ≡ put + n
 
 -- an item leaves the counts balanced, unless an ending came out; an ending brings one
 abbrev pub Counts : {T : Type 0} → PlainState T → Signal T → List (Signal T) → PlainState T → Type 0
@@ -121,11 +118,11 @@ allocates_from a (DistinctFrom f ks n) = true
 -- what is to be asked of the input in all, where so much is asked of the operator and so much came out of it
 abbrev pub wanted_from : {T : Type 0} → PlainState T → ℕ → ℕ → ℕ
 wanted_from (MapFrom f) asked sent = asked
-wanted_from (FilterFrom f n) asked sent = min most_asked (asked + n)
+wanted_from (FilterFrom f n) asked sent = min UNBOUNDED (asked + n)
 wanted_from (TakeFrom n left) asked sent = min asked n
 wanted_from (ScanFrom f a) asked sent = asked - 1
-wanted_from (BufferFrom n xs) asked sent = min most_asked (asked * n)
-wanted_from (DistinctFrom f ks n) asked sent = min most_asked (asked + n)
+wanted_from (BufferFrom n xs) asked sent = min UNBOUNDED (asked * n)
+wanted_from (DistinctFrom f ks n) asked sent = min UNBOUNDED (asked + n)
 
 -- what came of a signal: it went in, and out came out of the old state, which left the new one, with its ending where that
 -- is over; or it came back for want of memory, and nothing has changed

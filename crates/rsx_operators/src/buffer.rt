@@ -4,12 +4,12 @@ ghost use Rattle.std.specs.Prelude.{◌≡◌, ◌*◌, min, Some, List, [], IfO
 ghost use Rattle.rsx_types.specs.declared.signal.Signal.{Signal};
 ghost use Rattle.rsx_types.specs.declared.signal.Signal.TheVariants.{Next, Complete};
 ghost use Rattle.rsx_operators.specs.Prepared.{IsPreparation, list_at_end as at_end, list_due as due};
-ghost use Rattle.rsx_operators.specs.State.{IsReaction, most_asked};
+ghost use Rattle.rsx_operators.specs.State.{IsReaction};
 ghost use Rattle.rsx_operators.specs.declared.state.PlainState.TheVariants.{Buffer as BufferFrom};
 
 use crate::prepared::{Emission, Pending, Prepared, without_item};
-use crate::state::MOST_ASKED;
 use rsx_collections::Buffered;
+use rsx_demand::UNBOUNDED;
 use rsx_sources::OutSlot;
 use rsx_types::{Ending, NoMemory, Ops, Signal};
 use std::alloc::Global;
@@ -96,9 +96,9 @@ impl<T: Drop> BufferReaction<T> for OutSlot<T> {
 /// A list needs as many items as it has.
 #[inline]
 pub(crate) fn want(asked: u64, size: u64) -> u64
-    ensures { result ≡ min most_asked (asked * size) }
+    ensures { result ≡ min UNBOUNDED (asked * size) }
 {
-    asked.saturating_mul(size).min(MOST_ASKED)
+    asked.saturating_mul(size).min(UNBOUNDED)
 }
 
 /// What a `buffer` in a chain answers to an item, and to this ending behind it: the list, where it is full or the items are

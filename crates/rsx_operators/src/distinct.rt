@@ -4,12 +4,12 @@ ghost use Rattle.std.specs.Prelude.{◌≡◌, ◌+◌, min, Some, List, [], IfE
 ghost use Rattle.rsx_types.specs.declared.signal.Signal.{Signal};
 ghost use Rattle.rsx_types.specs.declared.signal.Signal.TheVariants.{Next};
 ghost use Rattle.rsx_operators.specs.Prepared.{IsPreparation};
-ghost use Rattle.rsx_operators.specs.State.{IsReaction, most_asked};
+ghost use Rattle.rsx_operators.specs.State.{IsReaction};
 ghost use Rattle.rsx_operators.specs.declared.state.PlainState.TheVariants.{Distinct as DistinctFrom};
 
 use crate::prepared::{Prepared, failed, forwarded, kept};
-use crate::state::MOST_ASKED;
 use rsx_collections::Keys;
+use rsx_demand::UNBOUNDED;
 use rsx_sources::OutSlot;
 use rsx_types::{Cause, Ending, Fault, NoMemory, Ops, Signal};
 
@@ -45,7 +45,7 @@ impl<T: Drop> DistinctReaction<T> for OutSlot<T> {
         match ops.key(function, &item) {
             Ok(key) => match keys.note(key) {
                 Ok(false) => self.put(Signal::Next(item)),
-                Ok(true) => *repeated = repeated.saturating_add(1).min(MOST_ASKED),
+                Ok(true) => *repeated = repeated.saturating_add(1).min(UNBOUNDED),
                 Err(NoMemory) => return Err(Signal::Next(item)),
             },
             Err(Fault::Code(code)) => self.put(Signal::Error(Cause::Function(code))),
@@ -58,9 +58,9 @@ impl<T: Drop> DistinctReaction<T> for OutSlot<T> {
 /// An item whose key was known is asked for again.
 #[inline]
 pub(crate) fn want(asked: u64, repeated: u64) -> u64
-    ensures { result ≡ min most_asked (asked + repeated) }
+    ensures { result ≡ min UNBOUNDED (asked + repeated) }
 {
-    asked.saturating_add(repeated).min(MOST_ASKED)
+    asked.saturating_add(repeated).min(UNBOUNDED)
 }
 
 /// What a `distinct` in a chain answers to an item, and to this ending behind it. A chain asks for nothing, so an item whose

@@ -4,11 +4,11 @@ ghost use Rattle.std.specs.Prelude.{◌≡◌, ◌+◌, min, Some, List, [], IfE
 ghost use Rattle.rsx_types.specs.declared.signal.Signal.{Signal};
 ghost use Rattle.rsx_types.specs.declared.signal.Signal.TheVariants.{Next};
 ghost use Rattle.rsx_operators.specs.Prepared.{IsPreparation};
-ghost use Rattle.rsx_operators.specs.State.{IsReaction, most_asked};
+ghost use Rattle.rsx_operators.specs.State.{IsReaction};
 ghost use Rattle.rsx_operators.specs.declared.state.PlainState.TheVariants.{Filter as FilterFrom};
 
 use crate::prepared::{Prepared, failed, forwarded, kept};
-use crate::state::MOST_ASKED;
+use rsx_demand::UNBOUNDED;
 use rsx_sources::OutSlot;
 use rsx_types::{Cause, Ending, Fault, Ops, Signal};
 
@@ -41,7 +41,7 @@ impl<T: Drop> FilterReaction<T> for OutSlot<T> {
     ) -> Result<(), Signal<T>> {
         match ops.test(function, &item) {
             Ok(true) => self.put(Signal::Next(item)),
-            Ok(false) => *dropped = dropped.saturating_add(1).min(MOST_ASKED),
+            Ok(false) => *dropped = dropped.saturating_add(1).min(UNBOUNDED),
             Err(Fault::Code(code)) => self.put(Signal::Error(Cause::Function(code))),
             Err(Fault::Memory) => return Err(Signal::Next(item)),
         }
@@ -52,9 +52,9 @@ impl<T: Drop> FilterReaction<T> for OutSlot<T> {
 /// An item that was dropped is asked for again.
 #[inline]
 pub(crate) fn want(asked: u64, dropped: u64) -> u64
-    ensures { result ≡ min most_asked (asked + dropped) }
+    ensures { result ≡ min UNBOUNDED (asked + dropped) }
 {
-    asked.saturating_add(dropped).min(MOST_ASKED)
+    asked.saturating_add(dropped).min(UNBOUNDED)
 }
 
 /// What a `filter` in a chain answers to an item, and to this ending behind it. A chain asks for nothing, so what is dropped

@@ -27,4 +27,4 @@ mod take;
 
 pub use operator::Operator;
 pub use prepared::{Emission, Pending, Prepared};
-pub use state::{MOST_ASKED, PlainState};
+pub use state::PlainState;

@@ -20,9 +20,6 @@ use rsx_sources::OutSlot;
 use rsx_types::{Ending, NoMemory, Ops, Signal, Stage, StreamValue};
 use std::alloc::Global;
 
-/// The most that can be asked of an operator in all: 2^63 - 1.
-pub const MOST_ASKED: u64 = 0x7fff_ffff_ffff_ffff;
-
 /// A plain operator that has taken some of its input.
 #[derive(Drop)]
 pub enum PlainState<T> {

@@ -2,6 +2,8 @@
 use Rattle.std.proofs.Common.{◌≡◌, ◌⊎◌, inl, inr, ℕ, zero, suc, ◌+◌, ◌-◌, ◌<◌, ◌≤◌, min, Bool, true, false, ◌&&◌, nat_eq, nat_lt, ◌^◌, if◌then◌else◌, List, [], ◌∷◌, ◌++◌, length, length-append, take, map, option_map, Option, Some, None, Result, Ok, Err, refl, ap, sym, ◌∙◌, subst, arith, append_assoc, add-zero}
 use Rattle.std.proofs.lemmas.Bool.Decides.{nat_tests}
 use Rattle.std.proofs.lemmas.List.{append-nil, take_all}
+use Rattle.rsx_model.specs.declared.check.TheConstants.{MOST_NODES}
+use Rattle.rsx_types.specs.declared.limits.TheConstants.{CAPACITY}
 use Rattle.rsx_demand.specs.Demand.{saturating_total}
 use Rattle.rsx_model.specs.declared.expr.Expr.{Expr}
 use Rattle.rsx_types.specs.Meaning.{Meaning}
@@ -422,13 +424,13 @@ awake_root m part queue h = (Send (Sub (record { 0 = 0 })) (record { 0 = 0 }), o
 
 -- ---- idle means delivered
 
-few_below : {T : Type 0} (part : Part T) → length (all_edges part) ≤ 256 → size part.tree.inputs < 256
+few_below : {T : Type 0} (part : Part T) → length (all_edges part) ≤ MOST_NODES → size part.tree.inputs < MOST_NODES
 few_below part few = let len = length_edges part.tree.inputs in omega (arith, len, few)
 
-idle_tree : {T : Type 0} (m : Meaning T) (part : Part T) (queue : List (Signal T)) → IsQuiet m part queue → length (all_edges part) ≤ 256 → IsIdle m part.tree part.root.demand.asked part.root.demand.sent
+idle_tree : {T : Type 0} (m : Meaning T) (part : Part T) (queue : List (Signal T)) → IsQuiet m part queue → length (all_edges part) ≤ MOST_NODES → IsIdle m part.tree part.root.demand.asked part.root.demand.sent
 idle_tree {T} m part queue q few at lt = elim (less_or_more at (size part.tree.inputs)) [
   | inl w ↦
-      let small : size part.tree.inputs < 256 = few_below part few in
+      let small : size part.tree.inputs < MOST_NODES = few_below part few in
       let a = q (Ask (Sub (record { 0 = 0 })) (record { 0 = at + 1 })) (omega (arith, w, small)) in
       let s = q (Send (Sub (record { 0 = 0 })) (record { 0 = at + 1 })) (omega (arith, w, small)) in (
         sym (ap (λ k. can_ask part.tree k part.root.demand.asked part.root.demand.sent) (suc_minus at)) ∙ (sym (above_zero at false (can_ask part.tree ((at + 1) - 1) part.root.demand.asked part.root.demand.sent)) ∙ a),
@@ -443,7 +445,7 @@ idle_tree {T} m part queue q few at lt = elim (less_or_more at (size part.tree.i
 ]
 
 -- over a live root edge with room behind it all that was asked for went
-sent_all_asked : {T : Type 0} (m : Meaning T) (part : Part T) (queue : List (Signal T)) → IsQuiet m part queue → part.root.state ≡ Live → length queue < 64 → IsBalanced part.tree part.root.demand.sent → length (all_edges part) ≤ 256 → IsWithin part.tree → part.root.demand.sent < part.root.demand.asked → ⊥
+sent_all_asked : {T : Type 0} (m : Meaning T) (part : Part T) (queue : List (Signal T)) → IsQuiet m part queue → part.root.state ≡ Live → length queue < CAPACITY → IsBalanced part.tree part.root.demand.sent → length (all_edges part) ≤ MOST_NODES → IsWithin part.tree → part.root.demand.sent < part.root.demand.asked → ⊥
 sent_all_asked m part queue q live room b few w less =
     let s = idle_offers any_machine m (any_ending_waits m) (any_hungry m) part.tree part.root.demand.asked part.root.demand.sent (idle_tree m part queue q few) ((λ j l. refl), refl) b less (let k = few_below part few in omega (arith, k)) w in
     let r : has_room queue ≡ true = grind (arith, nat_tests, room) in
@@ -475,7 +477,7 @@ pub value_now : {T : Type 0} (m : Meaning T) (published : List (Stream T)) (part
     option_map (signals_then output) (comes_out m (values_then published []) (map unchosen (notes_of part.tree)) part.tree 0) ≡ Some v
 value_now m published part e joins output v h x = h.value [] (map unchosen (notes_of part.tree)) (unchosen_notes (notes_of part.tree)) ∙ now_published m published e joins (notes_of part.tree) v x
 
-served_live : {T : Type 0} (m : Meaning T) (published : List (Stream T)) (part : Part T) (queue : List (Signal T)) (e : Expr T) (joins : List ℕ) (output : List (Signal T)) → IsQuiet m part queue → part.root.state ≡ Live → length queue < 64 → length (all_edges part) ≤ 256 → IsWithin part.tree → PartStands m published part e joins output → (v : Stream T) → evaluated m published joins e (notes_of part.tree) ≡ Some v → IsServed part output v
+served_live : {T : Type 0} (m : Meaning T) (published : List (Stream T)) (part : Part T) (queue : List (Signal T)) (e : Expr T) (joins : List ℕ) (output : List (Signal T)) → IsQuiet m part queue → part.root.state ≡ Live → length queue < CAPACITY → length (all_edges part) ≤ MOST_NODES → IsWithin part.tree → PartStands m published part e joins output → (v : Stream T) → evaluated m published joins e (notes_of part.tree) ≡ Some v → IsServed part output v
 served_live m published part queue e joins output q live room few w h v x =
     let full : part.root.demand.asked ≤ part.root.demand.sent = not_less part.root.demand.sent part.root.demand.asked (sent_all_asked m part queue q live room (h.balance live) few w) in
     let within = part.root.demand.covered in

@@ -1,10 +1,12 @@
 -- A part: a tree with the edge from its root. What it stands for, which of its moves are enabled, and what they change.
 use Rattle.std.specs.Prelude.{◌≡◌, ◌⊎◌, ℕ, zero, suc, ◌+◌, ◌-◌, ◌<◌, ◌≤◌, ◌^◌, min, Bool, true, false, ◌&&◌, nat_lt, nat_eq, if◌then◌else◌, List, [], ◌∷◌, ◌++◌, length, take, Option, Some, None, option_map, Result, Ok, Err}
 use Rattle.rsx_model.specs.Eval.{environment, eval}
+use Rattle.rsx_model.specs.declared.check.TheConstants.{MOST_NODES}
 use Rattle.rsx_model.specs.declared.expr.Expr.{Expr}
 use Rattle.rsx_types.specs.Meaning.{Meaning, Allocates}
 use Rattle.rsx_types.specs.Notes.{notes_then}
 use Rattle.rsx_types.specs.Stream.{Stream, signals_then}
+use Rattle.rsx_types.specs.declared.limits.TheConstants.{CAPACITY}
 use Rattle.rsx_types.specs.declared.names.Move.{Move}
 use Rattle.rsx_types.specs.declared.names.Move.TheVariants.{Ask, Send, Take}
 use Rattle.rsx_types.specs.declared.names.Tree.{Tree}
@@ -52,7 +54,7 @@ all_edges part = edge_view part.root ∷ edges part.tree
 
 -- a queue has room for a signal
 abbrev pub has_room : {A : Type 0} → List A → Bool
-has_room queue = nat_lt (length queue) 64
+has_room queue = nat_lt (length queue) CAPACITY
 
 -- Ask: the root edge rises by requests alone
 abbrev pub ask_enabled : {T : Type 0} → Part T → ℕ → Bool
@@ -211,9 +213,9 @@ pub record IsServed {T : Type 0} (part : Part T) (output : List (Signal T)) (v :
   pub ending : length v.items < part.root.demand.asked → (v.ending ≡ Open → ⊥) → part.root.state ≡ Ended
 
 -- a part whose root edge isn't closed and whose receiver has room did so, as long as no edge has carried 2^63-1 items; its
--- expression has at most 256 nodes, as each has that isn't refused
+-- expression has at most `MOST_NODES` nodes, as each has that isn't refused
 abbrev pub IsDelivered : {T : Type 0} → Meaning T → Part T → List (Signal T) → Type 0
 IsDelivered {T} m part queue =
     (published : List (Stream T)) (e : Expr T) (joins : List ℕ) (output : List (Signal T)) → PartStands m published part e joins output →
-    (part.root.state ≡ Closed → ⊥) → length queue < 64 → length (all_edges part) ≤ 256 → IsWithin part.tree →
+    (part.root.state ≡ Closed → ⊥) → length queue < CAPACITY → length (all_edges part) ≤ MOST_NODES → IsWithin part.tree →
     (v : Stream T) → evaluated m published joins e (notes_of part.tree) ≡ Some v → IsServed part output v

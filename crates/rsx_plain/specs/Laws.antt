@@ -4,6 +4,7 @@ use Rattle.std.proofs.Common.{inl, inr, sym, ap, subst, arith}
 use Rattle.std.proofs.Math.Nat.{mul-le-mul_right}
 use Rattle.std.proofs.lemmas.Bool.Decides.{nat_tests}
 use Rattle.std.specs.List.{list_any}
+use Rattle.rsx_demand.specs.declared.TheConstants.{UNBOUNDED}
 use Rattle.rsx_types.specs.Meaning.{Meaning}
 use Rattle.rsx_types.specs.declared.note.Note.{Note}
 use Rattle.rsx_types.specs.declared.signal.Signal.{Signal}
@@ -15,7 +16,7 @@ use Rattle.rsx_sources.specs.Steps.{AllocatesAlike}
 use Rattle.rsx_sources.specs.Slot.{is_nil}
 use Rattle.rsx_operators.specs.Moves.{is_ending}
 use Rattle.rsx_plain.specs.Node.{plain_allocates, plain_comes_out, plain_ended, plain_popped, plain_takes, plain_wanted, plain_waiting, plain_counted}
-use Rattle.rsx_operators.specs.State.{allocates_from, plain_from, balanced, is_over, most_asked, wanted_from}
+use Rattle.rsx_operators.specs.State.{allocates_from, plain_from, balanced, is_over, wanted_from}
 use Rattle.rsx_plain.specs.declared.node.PlainNode.{PlainNode}
 use Rattle.rsx_operators.specs.declared.state.PlainState.{PlainState}
 use Rattle.rsx_operators.specs.declared.state.PlainState.TheVariants.{Map as MapFrom, Filter as FilterFrom, Take as TakeFrom, Scan as ScanFrom, Buffer as BufferFrom, Distinct as DistinctFrom}
@@ -60,14 +61,14 @@ less_or_not a b = by_test (nat_lt a b) refl
     by_test true e = inl (grind (arith, nat_tests))
     by_test false e = inr (grind (arith, nat_tests))
 
-dropped_more : (taken put asked d : ℕ) → (d < most_asked → taken ≡ put + d) → put < asked → taken < most_asked → taken < min most_asked (asked + d)
-dropped_more taken put asked d b l w = elim (less_or_not d most_asked) [
+dropped_more : (taken put asked d : ℕ) → (d < UNBOUNDED → taken ≡ put + d) → put < asked → taken < UNBOUNDED → taken < min UNBOUNDED (asked + d)
+dropped_more taken put asked d b l w = elim (less_or_not d UNBOUNDED) [
   | inl few ↦ let c = b few in omega (arith, c, l, w)
   | inr many ↦ omega (arith, many, l, w)
 ]
 
 -- where more is asked of an operator than it put out, it wants more than it took in
-wants_more : {T : Type 0} (state : PlainState T) (taken put asked sent : ℕ) → balanced state taken put → is_over state ≡ false → put < asked → taken < most_asked → taken < wanted_from state asked sent
+wants_more : {T : Type 0} (state : PlainState T) (taken put asked sent : ℕ) → balanced state taken put → is_over state ≡ false → put < asked → taken < UNBOUNDED → taken < wanted_from state asked sent
 wants_more (MapFrom f) taken put asked sent b o l w = omega (arith, b, l)
 wants_more (FilterFrom f d) taken put asked sent b o l w = dropped_more taken put asked d b l w
 wants_more (TakeFrom n zero) taken put asked sent b o l w = cc

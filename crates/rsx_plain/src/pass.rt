@@ -10,7 +10,8 @@ ghost use Rattle.rsx_operators.specs.declared.state.PlainState.{PlainState as St
 ghost use Rattle.rsx_operators.specs.declared.state.PlainState.TheVariants.{Map as MapFrom, Filter as FilterFrom, Take as TakeFrom, Scan as ScanFrom, Buffer as BufferFrom, Distinct as DistinctFrom};
 
 use rsx_collections::{Buffered, Keys};
-use rsx_operators::{MOST_ASKED, PlainState};
+use rsx_demand::UNBOUNDED;
+use rsx_operators::PlainState;
 use rsx_sources::Passed;
 use rsx_types::{NoMemory, Ops};
 use std::alloc::Global;
@@ -129,7 +130,7 @@ impl<T: Drop> Through for T {
         match ops.test(function, &self) {
             Ok(true) => Passed::Item(self),
             Ok(false) => {
-                *dropped = dropped.saturating_add(1).min(MOST_ASKED);
+                *dropped = dropped.saturating_add(1).min(UNBOUNDED);
                 Passed::Kept
             }
             Err(_) => Passed::Declined(self),
@@ -214,7 +215,7 @@ impl<T: Drop> Through for T {
             Ok(key) => match keys.note(key) {
                 Ok(false) => Passed::Item(self),
                 Ok(true) => {
-                    *repeated = repeated.saturating_add(1).min(MOST_ASKED);
+                    *repeated = repeated.saturating_add(1).min(UNBOUNDED);
                     Passed::Kept
                 }
                 Err(NoMemory) => Passed::Declined(self),

@@ -5,4 +5,5 @@
 
 pub mod queue;
 
-pub use queue::{CAPACITY, SignalQueue};
+pub use queue::SignalQueue;
+pub use rsx_types::CAPACITY;

@@ -3,14 +3,11 @@
 ghost use Rattle.std.specs.Prelude.{◌≡◌, ◌∷◌, ◌++◌, [], length, IfOk, IfSome, IfNone, ◌<◌, slice_index_or};
 
 use rsx_prefetch::Prefetch;
-use rsx_types::{NoMemory, Signal};
+use rsx_types::{CAPACITY, NoMemory, Signal};
 use std::alloc::Global;
 use std::marker::Model;
 
-/// How many signals a root edge holds.
-pub const CAPACITY: usize = 64;
-
-/// The signals on a root edge, at most 64, first in, first out. Contracts see a list.
+/// The signals on a root edge, at most [`CAPACITY`], first in, first out. Contracts see a list.
 ///
 /// The memory for them is taken when the queue is made, and no later call takes any.
 #[derive(Drop)]
@@ -20,17 +17,18 @@ pub struct SignalQueue<T> {
 
 impl<T> Model for SignalQueue<T> {
     ghost use Rattle.std.specs.Prelude.{◌≡◌, List};
+    ghost use Rattle.rsx_types.specs.declared.limits.TheConstants.{CAPACITY};
     ghost use Rattle.rsx_types.specs.declared.signal.Signal.{Signal};
 
     ghost Value = { List (Signal T) };
 
     ghost view = { λ q. q.signals.items };
 
-    ghost invariant = { λ q. q.signals.capacity ≡ 64 };
+    ghost invariant = { λ q. q.signals.capacity ≡ CAPACITY };
 }
 
 impl<T: Drop> SignalQueue<T> {
-    /// An empty queue with memory for 64 signals.
+    /// An empty queue with memory for [`CAPACITY`] signals.
     ///
     /// # Errors
     /// [`NoMemory`] where that memory was refused.
@@ -41,7 +39,7 @@ impl<T: Drop> SignalQueue<T> {
         Ok(SignalQueue { signals })
     }
 
-    /// How many signals wait, 0 to 64.
+    /// How many signals wait, 0 to [`CAPACITY`].
     pub fn len(&self) -> usize
         ensures { result ≡ length self.now }
     {
@@ -58,7 +56,7 @@ impl<T: Drop> SignalQueue<T> {
 
     /// Puts a signal at the back. The queue has room for it, which [`SignalQueue::len`] tells.
     pub fn push(&mut self, signal: Signal<T>)
-        requires { length self.old < 64 }
+        requires { length self.old < CAPACITY }
         ensures { self.new ≡ self.old ++ signal ∷ [] }
     {
         self.signals.put(signal);

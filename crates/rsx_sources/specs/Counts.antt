@@ -1,5 +1,6 @@
 -- How many items a node took at each input and how many it sent, and why a node that owes an item isn't stuck.
 use Rattle.std.specs.Prelude.{◌≡◌, ◌⊎◌, ⊤, ℕ, zero, suc, ◌+◌, ◌<◌, ◌^◌, Bool, true, false, List, [], ◌∷◌, slice_get, Option, Some, None}
+use Rattle.rsx_demand.specs.declared.TheConstants.{UNBOUNDED}
 use Rattle.rsx_types.specs.declared.signal.Signal.{Signal}
 use Rattle.rsx_types.specs.declared.signal.Signal.TheVariants.{Next, Complete, Error}
 use Rattle.rsx_sources.specs.declared.machine.Front.{Front}
@@ -46,7 +47,7 @@ pub record CountsStep {S : Type 0} (counted : S → List ℕ → ℕ → Type 0)
 -- no count has reached what can be asked for in all
 abbrev pub AreWithin : List ℕ → Type 0
 AreWithin [] = ⊤
-AreWithin (n ∷ ns) = (n < 9223372036854775807) × AreWithin ns
+AreWithin (n ∷ ns) = (n < UNBOUNDED) × AreWithin ns
 
 -- the node wants more of input i than the `c` items that it took there, and takes whatever comes
 pub record IsHungryAt {S : Type 0} (takes : S → ℕ → Front → Bool) (done : S → ℕ → Bool) (wanted : S → ℕ → ℕ → ℕ → ℕ) (n : S) (taken : List ℕ) (asked sent : ℕ) : Type 0 where

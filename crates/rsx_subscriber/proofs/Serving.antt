@@ -3,11 +3,13 @@ use Rattle.std.proofs.Common.{◌^◌, ◌≡◌, ◌<◌, ◌≤◌, Bool, true
 use Rattle.std.proofs.lemmas.List.{append-nil}
 use Rattle.rsx_types.specs.Meaning.{Meaning}
 use Rattle.rsx_types.specs.Stream.{Stream}
+use Rattle.rsx_types.specs.declared.limits.TheConstants.{CAPACITY}
 use Rattle.rsx_types.specs.declared.names.Move.{Move}
 use Rattle.rsx_types.specs.declared.names.Move.TheVariants.{Ask, Send, Take}
 use Rattle.rsx_types.specs.declared.signal.Signal.{Signal}
 use Rattle.rsx_pipe.specs.Tree.{IsWithin}
 use Rattle.rsx_model.proofs.Unfold.{sound}
+use Rattle.rsx_model.specs.declared.check.TheConstants.{MOST_NODES}
 use Rattle.rsx_pipe.specs.Part as Part
 use Rattle.rsx_pipe.specs.Part.{all_edges}
 use Rattle.rsx_pipe.specs.Tree.{notes_of}
@@ -45,9 +47,9 @@ served_live : {T : Type 0} (m : Meaning T) (published : List (Stream T)) (sub : 
 served_live {T} m published sub past q h live w v e =
     let none = nothing_queued m published sub past q h in
     let all : past.received ≡ h.output = sym (append-nil past.received) ∙ (ap (λ l. past.received ++ l) (sym none) ∙ h.held live) in
-    let room : length sub.queue < 64 = rw none (omega arith) in
+    let room : length sub.queue < CAPACITY = rw none (omega arith) in
     let small = (sound (length published) past.expression h.admitted).small in
-    let few : length (all_edges sub.part) ≤ 256 = let k = h.shape in omega (arith, k, small) in
+    let few : length (all_edges sub.part) ≤ MOST_NODES = let k = h.shape in omega (arith, k, small) in
     let d = delivered m sub.part sub.queue (quiet_part m sub q) published past.expression past.joins h.output h.part (h.unclosed live) room few w v e in
     record {
       items = rw (all, ← h.asked) d.items;

@@ -1,6 +1,7 @@
 -- The value of an expression under what its part recorded: it is there, and notes and joins fit it.
 use Rattle.std.proofs.Common.{◌≡◌, ℕ, ℤ, zero, suc, ◌+◌, ◌-◌, Bool, true, false, nat_eq, nat_le, if◌then◌else◌, ◌&&◌, Vec, Global, Box, List, [], ◌∷◌, ◌++◌, length, length-append, map, Some, None, option_map, refl, ap, sym, ◌∙◌, arith}
 use Rattle.std.proofs.lemmas.List.{length-map}
+use Rattle.rsx_model.specs.declared.check.TheConstants.{MOST_DEPTH, MOST_NODES}
 use Rattle.rsx_model.proofs.Unfold.{by_variant, leaves_Items, leaves_Range, leaves_Plain, nodes_Items, nodes_Range, nodes_Plain, first_fault_Items, first_fault_Range, first_fault_Plain}
 use Rattle.rsx_model.specs.Check.{refusal, first_fault, or_else, unless, stage_fits}
 use Rattle.rsx_model.specs.Shape.{nodes, depth, leaves}
@@ -88,7 +89,7 @@ same_fault {T} hubs other =
     first_fault_Plain hubs g b ∙ (ap (or_else (unless (stage_fits g) Number)) k ∙ sym (first_fault_Plain other g b)))
 
 pub refusal_none : {T : Type 0} (hubs other : ℕ) (e : Expr T) → refusal hubs e ≡ None → refusal other e ≡ None
-refusal_none hubs other e h = ap (λ f. or_else (unless (nat_le (depth e) 32) Depth) (or_else (unless (nat_le (nodes e) 256) Nodes) f)) (same_fault other hubs e) ∙ h
+refusal_none hubs other e h = ap (λ f. or_else (unless (nat_le (depth e) MOST_DEPTH) Depth) (or_else (unless (nat_le (nodes e) MOST_NODES) Nodes) f)) (same_fault other hubs e) ∙ h
 
 pub leaves_none : {T : Type 0} (e : Expr T) → leaves e ≡ 0
 leaves_none {T} = by_variant (λ e. leaves e ≡ 0) (λ v. leaves_Items v) (λ a n. leaves_Range T a n) (λ g b k. leaves_Plain g b ∙ k)

@@ -24,7 +24,7 @@ pub struct Subscription<T> {
     /// The tree of its expression with its edges. Of the root edge asked is what the subscriber requested, and sent what was
     /// put into the queue.
     part: Part<T>,
-    /// The signals on the root edge, at most 64.
+    /// The signals on the root edge, at most `rsx_types::CAPACITY`.
     queue: SignalQueue<T>,
     /// Where the subscription stands in the table. It is opened before anything else happens (rule 1.9).
     state: State,

@@ -1,5 +1,6 @@
 -- What the judged rules say of a trace, for one subscriber s. Positions count from 0.
-use Rattle.std.specs.Prelude.{◌≡◌, ℕ, ◌+◌, ◌-◌, ◌^◌, ◌<◌, ◌≤◌, Bool, List, [], ◌∷◌, length, take, Some, slice_get, IsTrue, min, sum_by, count_by, ◌==◌, if◌then◌else◌}
+use Rattle.std.specs.Prelude.{◌≡◌, ℕ, ◌+◌, ◌<◌, ◌≤◌, Bool, List, [], ◌∷◌, length, take, Some, slice_get, IsTrue, min, sum_by, count_by, ◌==◌, if◌then◌else◌}
+use Rattle.rsx_demand.specs.declared.TheConstants.{UNBOUNDED}
 use Rattle.rsx_trace.specs.declared.event.Stamped.{Stamped}
 use Rattle.rsx_tck.specs.declared.rule.Rule.{Rule}
 use Rattle.rsx_tck.specs.declared.rule.Rule.TheVariants as rule
@@ -47,7 +48,7 @@ items_in s t = count_by (of s is_next) t
 
 -- the sum of the positive Requests that stand there, at most 2^63-1
 abbrev pub requests_in : ℕ → List Stamped → ℕ
-requests_in s t = min (2 ^ 63 - 1) (sum_by (λ e. if subscriber_of e.event == s then requested e.event else 0) t)
+requests_in s t = min UNBOUNDED (sum_by (λ e. if subscriber_of e.event == s then requested e.event else 0) t)
 
 -- what stands before the first Cancel
 abbrev pub before_cancel : ℕ → List Stamped → List Stamped

@@ -1,5 +1,6 @@
 -- The counts along the edges of a tree: how much each node took in belongs to how much it sent.
 use Rattle.std.specs.Prelude.{◌≡◌, ◌⊎◌, ⊤, ℕ, ◌+◌, ◌<◌, Bool, true, false, List, [], ◌∷◌}
+use Rattle.rsx_demand.specs.declared.TheConstants.{UNBOUNDED}
 use Rattle.rsx_types.specs.declared.signal.Signal.{Signal}
 use Rattle.rsx_types.specs.declared.signal.Signal.TheVariants.{Next, Complete, Error}
 use Rattle.rsx_sources.specs.declared.machine.Machine.{Ghosts as Machine}
@@ -37,7 +38,7 @@ IsBalancedAfter b (Error c) t sent = ⊤
 -- no edge of the row has carried as many items as can be asked for
 abbrev pub IsRowWithin : {M : Type 0} → Inputs M → Type 0
 IsRowWithin End = ⊤
-IsRowWithin (More' e n p below q beside) = (e.demand.sent < 9223372036854775807) × IsRowWithin below × IsRowWithin beside
+IsRowWithin (More' e n p below q beside) = (e.demand.sent < UNBOUNDED) × IsRowWithin below × IsRowWithin beside
 
 -- nor has an edge below the root
 abbrev pub IsWithin : {M : Type 0} → Node M → Type 0

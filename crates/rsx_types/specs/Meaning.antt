@@ -2,6 +2,7 @@
 use Rattle.std.specs.Prelude.{◌≡◌, ℕ, ℤ, ◌≤◌, Bool, false, List, length, Result, Ok, Err, ⊤, Vec, vec_items}
 use Rattle.rsx_types.specs.declared.fault.Fault.{Fault}
 use Rattle.rsx_types.specs.declared.fault.Fault.TheVariants.{Code, Memory}
+use Rattle.rsx_types.specs.declared.limits.TheConstants.{MOST_ITEMS}
 
 -- the answer of each function, or the number of its fault
 pub record Meaning (Item : Type 0) : Type 0 where
@@ -27,7 +28,7 @@ IsSmallFault (Ok _) = ⊤
 IsSmallFault (Err c) = c ≤ 4294967294
 
 abbrev pub IsSmallList : {A : Type 0} → Result (List A) ℕ → Type 0
-IsSmallList (Ok ys) = length ys ≤ 1024
+IsSmallList (Ok ys) = length ys ≤ MOST_ITEMS
 IsSmallList (Err c) = c ≤ 4294967294
 
 pub record IsLawful (Item : Type 0) (m : Meaning Item) : Type 0 where

@@ -7,6 +7,7 @@
 //! (recorded choices, and more choices after them).
 
 pub mod fault;
+pub mod limits;
 pub mod names;
 pub mod note;
 pub mod ops;
@@ -15,6 +16,7 @@ pub mod stage;
 pub mod value;
 
 pub use fault::{Fault, NoMemory};
+pub use limits::{CAPACITY, MOST_ITEMS};
 pub use names::{HubId, HubKind, Move, NodeId, SubId, Tree};
 pub use note::{Choices, Note};
 pub use ops::Ops;

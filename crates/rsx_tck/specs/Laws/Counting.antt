@@ -1,10 +1,11 @@
 -- The sentences that compare the items with the requests at each position.
-use Rattle.std.proofs.Common.{◌≡◌, ◌≢◌, ℕ, zero, suc, ◌+◌, ◌-◌, ◌^◌, ◌<◌, ◌≤◌, ◌⊎◌, inl, inr, Bool, true, false, ◌&&◌, ◌||◌, ◌==◌, cond, List, [], ◌∷◌, ◌++◌, length, take, refl, sym, ap, ◌∙◌, subst, arith, min, add-one, length-append, zero-add, add-zero}
+use Rattle.std.proofs.Common.{◌≡◌, ◌≢◌, ℕ, zero, suc, ◌+◌, ◌<◌, ◌≤◌, ◌⊎◌, inl, inr, Bool, true, false, ◌&&◌, ◌||◌, ◌==◌, cond, List, [], ◌∷◌, ◌++◌, length, take, refl, sym, ap, ◌∙◌, subst, arith, min, add-one, length-append, zero-add, add-zero}
 use Rattle.std.proofs.Math.Nat.{lt-suc_self}
 use Rattle.std.specs.Prelude.{sum_by, if◌then◌else◌, MatchBool}
 use Rattle.std.proofs.lemmas.Bool.{eq-eqb, ne_eqb, and_parts, cases_Bool, cases_lt, eqb-true, eqb-false}
 use Rattle.std.proofs.lemmas.List.{take-append-le}
 use Rattle.std.proofs.lemmas.List.Sums.{sum_by-append}
+use Rattle.rsx_demand.specs.declared.TheConstants.{UNBOUNDED}
 use Rattle.rsx_trace.specs.declared.event.Event.{Event}
 use Rattle.rsx_trace.specs.declared.event.Event.TheVariants.{Subscribe, OnSubscribe, Next, Complete, Error, Exit, Request, Cancel, CancelNew}
 use Rattle.rsx_trace.specs.declared.event.Stamped.{Stamped}
@@ -51,20 +52,20 @@ capped_sum : (c a k : ℕ) → min c (a + k) ≡ min c (min c a + k)
 capped_sum c a k = omega arith
 
 pub requests_in-more : (s : ℕ) (t : List Stamped) (e : Stamped) →
-    requests_in s (t ++ e ∷ []) ≡ min (2 ^ 63 - 1) (requests_in s t + (if subscriber_of e.event == s then requested e.event else 0))
+    requests_in s (t ++ e ∷ []) ≡ min UNBOUNDED (requests_in s t + (if subscriber_of e.event == s then requested e.event else 0))
 requests_in-more s t e =
     let more = sum_by-append (λ x. if subscriber_of x.event == s then requested x.event else 0) t (e ∷ []) ∙
     ap (λ n. sum_by (λ x. if subscriber_of x.event == s then requested x.event else 0) t + n)
     (zero-add (if subscriber_of e.event == s then requested e.event else 0)) in
-    ap (λ n. min (2 ^ 63 - 1) n) more ∙
-    capped_sum (2 ^ 63 - 1) (sum_by (λ x. if subscriber_of x.event == s then requested x.event else 0) t)
+    ap (λ n. min UNBOUNDED n) more ∙
+    capped_sum UNBOUNDED (sum_by (λ x. if subscriber_of x.event == s then requested x.event else 0) t)
     (if subscriber_of e.event == s then requested e.event else 0)
 
 -- what an event of s adds, and what one of another subscriber does
 pub requests_in-same : (s : ℕ) (t : List Stamped) (e : Stamped) → subscriber_of e.event ≡ s →
-    requests_in s (t ++ e ∷ []) ≡ min (2 ^ 63 - 1) (requests_in s t + requested e.event)
+    requests_in s (t ++ e ∷ []) ≡ min UNBOUNDED (requests_in s t + requested e.event)
 requests_in-same s t e same = requests_in-more s t e ∙
-    ap (λ b. min (2 ^ 63 - 1) (requests_in s t + (if b then requested e.event else 0))) (eq-eqb (subscriber_of e.event) s same)
+    ap (λ b. min UNBOUNDED (requests_in s t + (if b then requested e.event else 0))) (eq-eqb (subscriber_of e.event) s same)
 
 capped_again : (c a : ℕ) → min c (min c a + 0) ≡ min c a
 capped_again c a = omega arith
@@ -72,8 +73,8 @@ capped_again c a = omega arith
 pub requests_in-other : (s : ℕ) (t : List Stamped) (e : Stamped) → subscriber_of e.event ≢ s →
     requests_in s (t ++ e ∷ []) ≡ requests_in s t
 requests_in-other s t e ne = requests_in-more s t e ∙
-    ap (λ b. min (2 ^ 63 - 1) (requests_in s t + (if b then requested e.event else 0))) (ne_eqb (subscriber_of e.event) s ne) ∙
-    capped_again (2 ^ 63 - 1) (sum_by (λ x. if subscriber_of x.event == s then requested x.event else 0) t)
+    ap (λ b. min UNBOUNDED (requests_in s t + (if b then requested e.event else 0))) (ne_eqb (subscriber_of e.event) s ne) ∙
+    capped_again UNBOUNDED (sum_by (λ x. if subscriber_of x.event == s then requested x.event else 0) t)
 
 pub items_in-same : (s : ℕ) (t : List Stamped) (e : Stamped) → subscriber_of e.event ≡ s →
     items_in s (t ++ e ∷ []) ≡ items_in s t + cond (is_next e.event) 1 0
@@ -127,8 +128,8 @@ last_of_each P (x ∷ t) first each =
     let lt : length t < length (x ∷ t) = lt-suc_self (length t) in
     subst P (ap (λ n. take n (x ∷ t)) (add-one (length t)) ∙ take_whole (x ∷ t)) (each (length t) lt)
 
-covered_on : (next : Bool) (sent asked sent' asked' added : ℕ) → sent ≤ asked → asked ≤ 9223372036854775807 →
-    asked' ≡ min 9223372036854775807 (asked + added) → sent' ≡ sent + cond next 1 0 → (next && (asked == sent)) ≡ false →
+covered_on : (next : Bool) (sent asked sent' asked' added : ℕ) → sent ≤ asked → asked ≤ UNBOUNDED →
+    asked' ≡ min UNBOUNDED (asked + added) → sent' ≡ sent + cond next 1 0 → (next && (asked == sent)) ≡ false →
     sent' ≤ asked'
 covered_on true sent asked sent' asked' added covered bounded asks sends room =
     let apart = eqb-false asked sent room in omega arith
@@ -136,10 +137,10 @@ covered_on false sent asked sent' asked' added covered bounded asks sends room =
 
 pub count-step : (s : ℕ) (requests : List Stamped → ℕ) (past : List Stamped) (e : Stamped) (sent asked sent' asked' added : ℕ) (effect : Effect) →
     subscriber_of e.event ≡ s →
-    requests (past ++ e ∷ []) ≡ min (2 ^ 63 - 1) (requests past + added) →
+    requests (past ++ e ∷ []) ≡ min UNBOUNDED (requests past + added) →
     (is_next e.event ≡ true → added ≡ 0) →
-    requests past ≤ 9223372036854775807 →
-    asked' ≡ min (2 ^ 63 - 1) (asked + added) →
+    requests past ≤ UNBOUNDED →
+    asked' ≡ min UNBOUNDED (asked + added) →
     (is_breach effect ≡ false → sent' ≡ sent + cond (is_next e.event) 1 0) →
     is_breach effect ≡ (is_next e.event && (asked == sent)) →
     sent ≡ items_in s past → asked ≡ requests past →
@@ -161,7 +162,7 @@ count-step s requests past e sent asked sent' asked' added effect same adds next
     let sent_is : sent' ≡ items_in s (past ++ e ∷ []) =
     sends h ∙ ap (λ n. n + cond (is_next e.event) 1 0) is_sent ∙ sym items in
     let asked_is : asked' ≡ requests (past ++ e ∷ []) =
-    asks ∙ ap (λ n. min (2 ^ 63 - 1) (n + added)) is_asked ∙ sym adds in
+    asks ∙ ap (λ n. min UNBOUNDED (n + added)) is_asked ∙ sym adds in
     let on : sent' ≤ asked' =
     covered_on (is_next e.event) sent asked sent' asked' added (omega arith) (omega arith) asks (sends h) (sym breach ∙ h) in (
       (sent_is, asked_is),
@@ -187,7 +188,7 @@ requested-other s t e ne each =
 -- the step of the pass for 1.1
 pub requested-step : (s : ℕ) (e : Stamped) (sent asked sent' asked' : ℕ) (effect : Effect) →
     subscriber_of e.event ≡ s →
-    asked' ≡ min (2 ^ 63 - 1) (asked + requested e.event) →
+    asked' ≡ min UNBOUNDED (asked + requested e.event) →
     (is_breach effect ≡ false → sent' ≡ sent + cond (is_next e.event) 1 0) →
     is_breach effect ≡ (is_next e.event && (asked == sent)) →
     Judges (AtEachPosition (λ t. items_in s t ≤ requests_in s t))
@@ -234,31 +235,31 @@ abbrev pub requests_before_cancel : ℕ → List Stamped → ℕ
 requests_before_cancel s t = requests_in s (before_cancel s t)
 
 open_requests : (s : ℕ) (t : List Stamped) (e : Stamped) → subscriber_of e.event ≡ s → ¬ Stands (of s is_cancel) t →
-    requests_before_cancel s (t ++ e ∷ []) ≡ min (2 ^ 63 - 1) (requests_before_cancel s t + requested e.event)
+    requests_before_cancel s (t ++ e ∷ []) ≡ min UNBOUNDED (requests_before_cancel s t + requested e.event)
 open_requests s t e same none =
     ap (requests_in s) (before_cancel-last s t e none) ∙
     elim (cases_Bool (of s is_cancel e)) [
       | inl is ↦ ap (λ b. requests_in s (if b then t else t ++ e ∷ [])) is ∙
-          sym (capped_again (2 ^ 63 - 1) _) ∙
-          ap (λ n. min (2 ^ 63 - 1) (requests_in s t + n)) (sym (cancel_adds_nothing e.event (sym (of-same s is_cancel e same) ∙ is))) ∙
-          ap (λ v. min (2 ^ 63 - 1) (requests_in s v + requested e.event)) (sym (before_cancel-whole s t none))
+          sym (capped_again UNBOUNDED _) ∙
+          ap (λ n. min UNBOUNDED (requests_in s t + n)) (sym (cancel_adds_nothing e.event (sym (of-same s is_cancel e same) ∙ is))) ∙
+          ap (λ v. min UNBOUNDED (requests_in s v + requested e.event)) (sym (before_cancel-whole s t none))
       | inr isnt ↦ ap (λ b. requests_in s (if b then t else t ++ e ∷ [])) isnt ∙ requests_in-same s t e same ∙
-          ap (λ v. min (2 ^ 63 - 1) (requests_in s v + requested e.event)) (sym (before_cancel-whole s t none))
+          ap (λ v. min UNBOUNDED (requests_in s v + requested e.event)) (sym (before_cancel-whole s t none))
     ]
 
 closed_requests : (s : ℕ) (t : List Stamped) (e : Stamped) → Stands (of s is_cancel) t →
-    requests_before_cancel s (t ++ e ∷ []) ≡ min (2 ^ 63 - 1) (requests_before_cancel s t + 0)
-closed_requests s t e some = ap (requests_in s) (before_cancel-cancelled s t (e ∷ []) some) ∙ sym (capped_again (2 ^ 63 - 1) _)
+    requests_before_cancel s (t ++ e ∷ []) ≡ min UNBOUNDED (requests_before_cancel s t + 0)
+closed_requests s t e some = ap (requests_in s) (before_cancel-cancelled s t (e ∷ []) some) ∙ sym (capped_again UNBOUNDED _)
 
 requests_before_cancel-more : (s : ℕ) (t : List Stamped) (e : Stamped) (cancelled : Bool) → subscriber_of e.event ≡ s →
     Tells cancelled (of s is_cancel) t →
-    requests_before_cancel s (t ++ e ∷ []) ≡ min (2 ^ 63 - 1) (requests_before_cancel s t + (if cancelled then 0 else requested e.event))
+    requests_before_cancel s (t ++ e ∷ []) ≡ min UNBOUNDED (requests_before_cancel s t + (if cancelled then 0 else requested e.event))
 requests_before_cancel-more s t e true same tells = closed_requests s t e (tells.0 refl)
 requests_before_cancel-more s t e false same tells = open_requests s t e same (λ stands. absurd (let h = tells.1 stands in cc))
 
 pub before_cancel-step : (s : ℕ) (e : Stamped) (sent asked sent' asked' : ℕ) (cancelled cancelled' : Bool) (effect : Effect) →
     subscriber_of e.event ≡ s →
-    asked' ≡ min (2 ^ 63 - 1) (asked + (if cancelled then 0 else requested e.event)) →
+    asked' ≡ min UNBOUNDED (asked + (if cancelled then 0 else requested e.event)) →
     (is_breach effect ≡ false → sent' ≡ sent + cond (is_next e.event) 1 0) →
     cancelled' ≡ (cancelled || is_cancel e.event) →
     is_breach effect ≡ (is_next e.event && (asked == sent)) →
