@@ -1,10 +1,12 @@
 -- The laws of `scan`, `buffer` and `distinct` in the words of lists, and of the endings of expressions.
-use Rattle.std.proofs.Common.{◌≡◌, ◌≢◌, ◌∙◌, ℕ, zero, suc, ◌+◌, ◌<◌, ◌≤◌, Bool, true, false, ◌||◌, nat_eq, nat_le, List, [], ◌∷◌, ◌++◌, length, take, map, length-append, append_assoc, append-nil, Option, Some, None, option_map, slice_get, Result, Ok, Err, Vec, Global, Box, refl, sym, ap, subst, arith}
+use Rattle.std.proofs.Common.{◌≡◌, ◌≢◌, inl, inr, ◌∙◌, ℕ, zero, suc, ◌+◌, ◌<◌, ◌≤◌, Bool, true, false, ◌||◌, nat_eq, nat_le, List, [], ◌∷◌, ◌++◌, length, take, map, length-append, append_assoc, append-nil, Option, Some, None, option_map, option_and_then, slice_get, Result, Ok, Err, refl, sym, ap, subst, arith}
 use Rattle.std.specs.Prelude.{fold, if◌then◌else◌, MatchResult}
-use Rattle.std.specs.List.{All, list_any}
+use Rattle.std.specs.List.{All}
 use Rattle.std.specs.Result.{result_ok}
 use Rattle.std.specs.Set.{is_member}
 use Rattle.std.proofs.lemmas.Bool.Decides.{nat_tests}
+use Rattle.std.proofs.lemmas.List.Elements.{All-get_or}
+use Rattle.std.proofs.lemmas.Option.{slice_get_cases}
 use Rattle.std.proofs.lemmas.List.Folds.{list_any-append}
 use Rattle.rsx_types.specs.declared.note.Note.{Note}
 use Rattle.rsx_types.specs.declared.note.Note.TheVariants.{Nothing, Picks, Ended}
@@ -17,12 +19,10 @@ use Rattle.rsx_types.specs.Meaning.{Meaning}
 use Rattle.rsx_types.specs.Plain.{mapped_items, filtered_items, taken_items, accumulated_then, scanned_items, last_list, buffered_items, new_key_then, distinct_items, plain, listed, range_items}
 use Rattle.rsx_types.specs.Stream.{Stream, ended_by, item_then, answer_then, kept_then, cut_by}
 use Rattle.rsx_model.specs.declared.expr.Expr.{Expr}
-use Rattle.rsx_model.specs.declared.expr.Expr.TheVariants.{Items, Range}
-use Rattle.rsx_model.specs.declared.expr.Expr.TheViews.{Plain}
-use Rattle.rsx_model.specs.Eval.{Environment, meant, quiet}
+use Rattle.rsx_model.specs.Eval.{Environment, meant, quiet, behind, joined_value}
 use Rattle.rsx_model.specs.Laws.{folded_in, folded, ScanFolds, joined, IsCut, given_lists, BufferCuts, DistinctKeepsFirst, NoBadRequest}
 use Rattle.rsx_values.proofs.Steps.{buffered_full, buffered_more}
-use Rattle.rsx_model.proofs.Unfold.{value_Items, value_Range, value_Plain, by_variant}
+use Rattle.rsx_model.proofs.Unfold.{value_Items, value_Range, value_Hub, value_Plain, by_variant}
 
 -- ---- scan
 
@@ -297,11 +297,24 @@ below_fine : {T : Type 0} (m : Meaning T) (g : Stage T) (o : Option (Stream T)) 
 below_fine m g None h = tt
 below_fine m g (Some v) h = plain_fine m g v h
 
-value_fine : {T : Type 0} (w : Environment T) (e : Expr T) (at leaf : ℕ) → AllFine ((meant w e).value at leaf)
-value_fine {T} w = by_variant (λ e. (at leaf : ℕ) → AllFine ((meant w e).value at leaf))
+-- a value of a list of fine ones, and what stands of it behind a join
+one_fine : {T : Type 0} (hubs : List (Stream T)) (hub : ℕ) → All (λ (v : Stream T). Fine v.ending) hubs → AllFine (slice_get hubs hub)
+one_fine {T} hubs hub h = elim ((slice_get_cases hubs hub).1) [
+  | inl s ↦ subst AllFine (sym s.2) (subst (λ (v : Stream T). Fine v.ending) s.3 (All-get_or (λ (v : Stream T). Fine v.ending) hubs hub s.0 s.1 h))
+  | inr p ↦ subst AllFine (sym p.1) tt
+]
+
+behind_fine : {T : Type 0} (o : Option (Stream T)) (join : Option ℕ) → AllFine o → AllFine (option_and_then (λ j. option_map (behind j) o) join)
+behind_fine o None h = tt
+behind_fine None (Some j) h = tt
+behind_fine (Some v) (Some j) h = h
+
+value_fine : {T : Type 0} (w : Environment T) → All (λ (v : Stream T). Fine v.ending) w.hubs → (e : Expr T) (at leaf : ℕ) → AllFine ((meant w e).value at leaf)
+value_fine {T} w fine = by_variant (λ e. (at leaf : ℕ) → AllFine ((meant w e).value at leaf))
     (λ v at leaf. rw value_Items (quiet_fine (slice_get w.notes at) (Some (listed v.items)) (λ p. cc)))
     (λ a n at leaf. rw value_Range (quiet_fine (slice_get w.notes at) (Some (listed (range_items w.meaning a n))) (λ p. cc)))
+    (λ h at leaf. rw value_Hub (quiet_fine (slice_get w.notes at) (joined_value w h.0 leaf) (behind_fine (slice_get w.hubs h.0) (slice_get w.joins leaf) (one_fine w.hubs h.0 fine))))
     (λ g b below at leaf. rw value_Plain (quiet_fine (slice_get w.notes at) (option_map (plain w.meaning g) ((meant w b.value).value (at + 1) leaf)) (below_fine w.meaning g ((meant w b.value).value (at + 1) leaf) (below (at + 1) leaf))))
 
 pub never_a_bad_request_law : {T : Type 0} (w : Environment T) (e : Expr T) → NoBadRequest w e
-never_a_bad_request_law w e = λ s is. subst AllFine is (value_fine w e 0 0)
+never_a_bad_request_law w e = λ fine s is. subst AllFine is (value_fine w fine e 0 0)

@@ -1,37 +1,43 @@
 -- One level of the definitions by recursion on an expression: at a node, and at each variant. And the induction.
-use Rattle.std.proofs.Common.{◌≡◌, ℕ, ℤ, ◌+◌, ◌≤◌, List, [], ◌∷◌, length, map, nat_le, Option, Some, None, option_map, slice_get, Vec, Global, Box, refl, sym, ap, subst, ◌∙◌, arith}
+use Rattle.std.proofs.Common.{◌≡◌, ℕ, ℤ, ◌+◌, ◌<◌, ◌≤◌, List, [], ◌∷◌, length, get_or, map, nat_le, nat_lt, Option, Some, None, option_map, slice_get, Vec, Global, Box, refl, sym, ap, subst, ◌∙◌, arith}
+use Rattle.std.proofs.lemmas.Option.{slice_get-get_or}
 use Rattle.rsx_types.specs.Plain.{plain, listed, range_items}
+use Rattle.rsx_types.specs.Stream.{Stream}
 use Rattle.rsx_types.specs.declared.stage.Stage.{Stage}
 use Rattle.rsx_types.specs.declared.limits.TheConstants.{MOST_ITEMS}
 use Rattle.rsx_model.specs.declared.check.TheConstants.{MOST_DEPTH, MOST_NODES}
 use Rattle.rsx_model.specs.declared.check.BadExpr.{BadExpr}
-use Rattle.rsx_model.specs.declared.check.BadExpr.TheVariants.{Depth, Nodes, Number, Length}
+use Rattle.rsx_model.specs.declared.check.BadExpr.TheVariants.{Depth, Nodes, Number, Hub as NoSuchHub, Length}
+use Rattle.rsx_types.specs.declared.names.HubId.{HubId}
 use Rattle.rsx_model.specs.declared.expr.Expr.{Expr}
 use Rattle.rsx_model.specs.declared.expr.Expr.TheOpen.{Expr-F}
 use Rattle.rsx_model.specs.declared.expr.Expr.TheOpen as layer
 use Rattle.rsx_model.specs.declared.expr.Expr.TheFolds.{map-Expr, fold_out-Expr, ind-Expr}
-use Rattle.rsx_model.specs.declared.expr.Expr.TheVariants.{Items, Range}
-use Rattle.rsx_model.specs.declared.expr.Expr.TheViews.{Plain, outs-Items, outs-Range, outs-Plain, rolls-Items, rolls-Range, rolls-Plain, roll-out-Expr, out-Expr, roll-Expr, out-roll-Expr}
+use Rattle.rsx_model.specs.declared.expr.Expr.TheVariants.{Items, Range, Hub}
+use Rattle.rsx_model.specs.declared.expr.Expr.TheViews.{Plain, outs-Items, outs-Range, outs-Hub, outs-Plain, rolls-Items, rolls-Range, rolls-Hub, rolls-Plain, roll-out-Expr, out-Expr, roll-Expr, out-roll-Expr}
 use Rattle.rsx_model.specs.Shape.{children, leaf_here, sum_of, max_of, nodes, depth, leaves}
 use Rattle.rsx_model.specs.Check.{own_fault, or_else, first_of, first_fault, unless, range_fits, stage_fits, refusal}
-use Rattle.rsx_model.specs.Eval.{Environment, Meant, quiet, node_value, node_meant, meant}
+use Rattle.rsx_model.specs.Eval.{Environment, Meant, quiet, behind, joined_value, node_value, node_meant, meant}
 
 -- ---- a node and its children
 
 own_fault-map : {T A B : Type 0} (hubs : ℕ) (h : A → B) (x : Expr-F T A) → own_fault hubs (map-Expr T A B h x) ≡ own_fault hubs x
 own_fault-map hubs h (layer.Items v) = refl
 own_fault-map hubs h (layer.Range a n) = refl
+own_fault-map hubs h (layer.Hub k) = refl
 own_fault-map hubs h (layer.Plain g b) = refl
 
 leaf_here-map : {T A B : Type 0} (h : A → B) (x : Expr-F T A) → leaf_here (map-Expr T A B h x) ≡ leaf_here x
 leaf_here-map h (layer.Items v) = refl
 leaf_here-map h (layer.Range a n) = refl
+leaf_here-map h (layer.Hub k) = refl
 leaf_here-map h (layer.Plain g b) = refl
 
 -- the children's answers
 children-map : {T A B : Type 0} (h : A → B) (x : Expr-F T A) → children (map-Expr T A B h x) ≡ map h (children x)
 children-map h (layer.Items v) = refl
 children-map h (layer.Range a n) = refl
+children-map h (layer.Hub k) = refl
 children-map h (layer.Plain g b) = refl
 
 pub nodes_out : {T : Type 0} (e : Expr T) → nodes e ≡ 1 + sum_of (map nodes (children (out-Expr T e)))
@@ -96,6 +102,9 @@ nodes_Items v = rw (nodes_out, outs-Items) refl
 pub nodes_Range : (T : Type 0) (a : ℤ) (n : ℕ) → nodes {T = T} (Range a n) ≡ 1
 nodes_Range T a n = rw (nodes_out, outs-Range) refl
 
+pub nodes_Hub : (T : Type 0) (h : HubId) → nodes {T = T} (Hub h) ≡ 1
+nodes_Hub T h = rw (nodes_out, outs-Hub) refl
+
 pub nodes_Plain : {T : Type 0} (g : Stage T) (b : Below T) → nodes (Plain g b) ≡ 1 + nodes b.value
 nodes_Plain g b = rw (nodes_out, outs-Plain) (omega arith)
 
@@ -104,6 +113,9 @@ depth_Items v = rw (depth_out, outs-Items) refl
 
 pub depth_Range : (T : Type 0) (a : ℤ) (n : ℕ) → depth {T = T} (Range a n) ≡ 1
 depth_Range T a n = rw (depth_out, outs-Range) refl
+
+pub depth_Hub : (T : Type 0) (h : HubId) → depth {T = T} (Hub h) ≡ 1
+depth_Hub T h = rw (depth_out, outs-Hub) refl
 
 pub depth_Plain : {T : Type 0} (g : Stage T) (b : Below T) → depth (Plain g b) ≡ 1 + depth b.value
 depth_Plain g b = rw (depth_out, outs-Plain) (omega arith)
@@ -114,6 +126,9 @@ leaves_Items v = rw (leaves_out, outs-Items) refl
 pub leaves_Range : (T : Type 0) (a : ℤ) (n : ℕ) → leaves {T = T} (Range a n) ≡ 0
 leaves_Range T a n = rw (leaves_out, outs-Range) refl
 
+pub leaves_Hub : (T : Type 0) (h : HubId) → leaves {T = T} (Hub h) ≡ 1
+leaves_Hub T h = rw (leaves_out, outs-Hub) refl
+
 pub leaves_Plain : {T : Type 0} (g : Stage T) (b : Below T) → leaves (Plain g b) ≡ leaves b.value
 leaves_Plain g b = rw (leaves_out, outs-Plain) (omega arith)
 
@@ -122,6 +137,9 @@ first_fault_Items hubs v = rw (fault_out, outs-Items) (or_else-nothing _)
 
 pub first_fault_Range : (T : Type 0) (hubs : ℕ) (a : ℤ) (n : ℕ) → first_fault {T = T} hubs (Range a n) ≡ unless (range_fits a n) Number
 first_fault_Range T hubs a n = rw (fault_out, outs-Range) (or_else-nothing _)
+
+pub first_fault_Hub : (T : Type 0) (hubs : ℕ) (h : HubId) → first_fault {T = T} hubs (Hub h) ≡ unless (nat_lt h.0 hubs) NoSuchHub
+first_fault_Hub T hubs h = rw (fault_out, outs-Hub) (or_else-nothing _)
 
 pub first_fault_Plain : {T : Type 0} (hubs : ℕ) (g : Stage T) (b : Below T) → first_fault hubs (Plain g b) ≡ or_else (unless (stage_fits g) Number) (first_fault hubs b.value)
 first_fault_Plain hubs g b = rw (fault_out, outs-Plain) (ap (or_else (unless (stage_fits g) Number)) (or_else-nothing _))
@@ -132,17 +150,21 @@ value_Items w v at leaf = rw (value_out, outs-Items) refl
 pub value_Range : {T : Type 0} (w : Environment T) (a : ℤ) (n : ℕ) (at leaf : ℕ) → (meant w (Range a n)).value at leaf ≡ quiet (slice_get w.notes at) (Some (listed (range_items w.meaning a n)))
 value_Range w a n at leaf = rw (value_out, outs-Range) refl
 
+pub value_Hub : {T : Type 0} (w : Environment T) (h : HubId) (at leaf : ℕ) → (meant w (Hub h)).value at leaf ≡ quiet (slice_get w.notes at) (joined_value w h.0 leaf)
+value_Hub w h at leaf = rw (value_out, outs-Hub) refl
+
 pub value_Plain : {T : Type 0} (w : Environment T) (g : Stage T) (b : Below T) (at leaf : ℕ) → (meant w (Plain g b)).value at leaf ≡ quiet (slice_get w.notes at) (option_map (plain w.meaning g) ((meant w b.value).value (at + 1) leaf))
 value_Plain w g b at leaf = rw (value_out, outs-Plain) refl
 
-node_case : {T : Type 0} (P : Expr T → Type 0) → ((v : Listed T) → P (Items v)) → ((a : ℤ) (n : ℕ) → P (Range a n)) → ((g : Stage T) (b : Below T) → P b.value → P (Plain g b)) → (x : Expr-F T (Expr T)) → Each P (children x) → P (roll-Expr T x)
-node_case P items range below (layer.Items v) kids = subst P (sym (rolls-Items v)) (items v)
-node_case P items range below (layer.Range a n) kids = subst P (sym (rolls-Range a n)) (range a n)
-node_case P items range below (layer.Plain g b) kids = subst P (sym (rolls-Plain g b)) (below g b kids.0)
+node_case : {T : Type 0} (P : Expr T → Type 0) → ((v : Listed T) → P (Items v)) → ((a : ℤ) (n : ℕ) → P (Range a n)) → ((h : HubId) → P (Hub h)) → ((g : Stage T) (b : Below T) → P b.value → P (Plain g b)) → (x : Expr-F T (Expr T)) → Each P (children x) → P (roll-Expr T x)
+node_case P items range hub below (layer.Items v) kids = subst P (sym (rolls-Items v)) (items v)
+node_case P items range hub below (layer.Range a n) kids = subst P (sym (rolls-Range a n)) (range a n)
+node_case P items range hub below (layer.Hub h) kids = subst P (sym (rolls-Hub h)) (hub h)
+node_case P items range hub below (layer.Plain g b) kids = subst P (sym (rolls-Plain g b)) (below g b kids.0)
 
--- what holds of items, of ranges, and of an operator where it holds below, holds of every expression
-pub by_variant : {T : Type 0} (P : Expr T → Type 0) → ((v : Listed T) → P (Items v)) → ((a : ℤ) (n : ℕ) → P (Range a n)) → ((g : Stage T) (b : Below T) → P b.value → P (Plain g b)) → (e : Expr T) → P e
-by_variant {T} P items range below = by_children P (λ e kids. subst P (roll-out-Expr T e) (node_case P items range below (out-Expr T e) kids))
+-- what holds of items, of ranges, of hub leaves, and of an operator where it holds below, holds of every expression
+pub by_variant : {T : Type 0} (P : Expr T → Type 0) → ((v : Listed T) → P (Items v)) → ((a : ℤ) (n : ℕ) → P (Range a n)) → ((h : HubId) → P (Hub h)) → ((g : Stage T) (b : Below T) → P b.value → P (Plain g b)) → (e : Expr T) → P e
+by_variant {T} P items range hub below = by_children P (λ e kids. subst P (roll-out-Expr T e) (node_case P items range hub below (out-Expr T e) kids))
 
 -- ---- the size of what an expression means
 
@@ -161,6 +183,7 @@ map_twice f g (x ∷ xs) = ap (λ ys. f (g x) ∷ ys) (map_twice f g xs)
 leaf_here-le : {T A : Type 0} (x : Expr-F T A) → leaf_here x ≤ 1
 leaf_here-le (layer.Items v) = omega arith
 leaf_here-le (layer.Range a n) = omega arith
+leaf_here-le (layer.Hub h) = omega arith
 leaf_here-le (layer.Plain g b) = omega arith
 
 pub leaves_le_nodes : {T : Type 0} (e : Expr T) → leaves e ≤ nodes e
@@ -215,3 +238,25 @@ sound hubs e h =
       few_leaves = omega (arith, small, leaves_le_nodes e);
       fault = both.1;
     }
+
+-- ---- a hub leaf
+
+is_below : (n hubs : ℕ) → unless (nat_lt n hubs) NoSuchHub ≡ None → n < hubs
+is_below n hubs e = grind arith
+
+-- where it isn't refused, there is such a hub
+pub hub_there : (T : Type 0) (hubs : ℕ) (h : HubId) → first_fault {T = T} hubs (Hub h) ≡ None → h.0 < hubs
+hub_there T hubs h e = is_below h.0 hubs (sym (first_fault_Hub T hubs h) ∙ e)
+
+-- and over no hubs each one is refused
+pub no_hub_there : (T : Type 0) (h : HubId) → first_fault {T = T} 0 (Hub h) ≡ None → ⊥
+no_hub_there T h e = omega (arith, hub_there T 0 h e)
+
+pub joined_there : {T : Type 0} (w : Environment T) (hub leaf : ℕ) (v : Stream T) → slice_get w.hubs hub ≡ Some v → leaf < length w.joins → joined_value w hub leaf ≡ Some (behind (get_or w.joins leaf 0) v)
+joined_there w hub leaf v is within = rw (slice_get-get_or w.joins leaf 0 within, is) refl
+
+-- ---- what an operator stands over
+
+-- isn't refused where the operator isn't
+pub fault_below : {T : Type 0} (hubs : ℕ) (g : Stage T) (b : Below T) → first_fault hubs (Plain g b) ≡ None → first_fault hubs b.value ≡ None
+fault_below hubs g b h = (or_none (unless (stage_fits g) Number) (first_fault hubs b.value) (sym (first_fault_Plain hubs g b) ∙ h)).1

@@ -1,14 +1,14 @@
 -- Which expressions are refused, and why.
-use Rattle.std.specs.Prelude.{ℕ, ℤ, pos, ◌+ℤ◌, ◌^◌, Bool, true, false, ◌&&◌, ◌||◌, int_le, nat_eq, nat_le, List, [], ◌∷◌, length, Option, Some, None}
+use Rattle.std.specs.Prelude.{ℕ, ℤ, pos, ◌+ℤ◌, ◌^◌, Bool, true, false, ◌&&◌, ◌||◌, int_le, nat_eq, nat_le, nat_lt, List, [], ◌∷◌, length, Option, Some, None}
 use Rattle.rsx_types.specs.declared.stage.Stage.{Stage}
 use Rattle.rsx_types.specs.declared.stage.Stage.TheVariants.{Map, Filter, Take, Scan, Buffer, Distinct}
 use Rattle.rsx_model.specs.declared.expr.Expr.{Expr}
-use Rattle.rsx_model.specs.declared.expr.Expr.TheOpen.{Expr-F, Items, Range, Plain}
+use Rattle.rsx_model.specs.declared.expr.Expr.TheOpen.{Expr-F, Items, Range, Hub, Plain}
 use Rattle.rsx_model.specs.declared.expr.Expr.TheFolds.{fold-Expr}
 use Rattle.rsx_types.specs.declared.limits.TheConstants.{MOST_ITEMS}
 use Rattle.rsx_model.specs.declared.check.BadExpr.{BadExpr}
 use Rattle.rsx_model.specs.declared.check.TheConstants.{MOST_DEPTH, MOST_NODES, MOST_COUNT}
-use Rattle.rsx_model.specs.declared.check.BadExpr.TheVariants.{Depth, Nodes, Number, Length}
+use Rattle.rsx_model.specs.declared.check.BadExpr.TheVariants.{Depth, Nodes, Number, Hub as NoSuchHub, Length}
 use Rattle.rsx_model.specs.Shape.{children, nodes, depth}
 
 -- the number of a kind of refusal
@@ -16,6 +16,7 @@ abbrev pub kind_number : BadExpr → ℕ
 kind_number Depth = 1
 kind_number Nodes = 2
 kind_number Number = 4
+kind_number NoSuchHub = 6
 kind_number Length = 7
 
 -- the first refusal of two
@@ -50,6 +51,7 @@ stage_fits (Distinct f) = true
 abbrev pub own_fault : {T A : Type 0} → ℕ → Expr-F T A → Option BadExpr
 own_fault hubs (Items v) = unless (nat_le (length v.items) MOST_ITEMS) Length
 own_fault hubs (Range a n) = unless (range_fits a n) Number
+own_fault hubs (Hub h) = unless (nat_lt h.0 hubs) NoSuchHub
 own_fault hubs (Plain g b) = unless (stage_fits g) Number
 
 -- what is wrong with the first faulty node in pre-order

@@ -1,12 +1,12 @@
 -- The value of an expression, from scratch.
-use Rattle.std.specs.Prelude.{ℕ, ◌+◌, List, [], ◌∷◌, map, Option, Some, None, option_map, option_and_then, slice_get}
+use Rattle.std.specs.Prelude.{ℕ, ◌+◌, List, [], ◌∷◌, map, drop, Option, Some, None, option_map, option_and_then, slice_get}
 pub use Rattle.rsx_types.specs.Stream.{Stream}
 pub use Rattle.rsx_types.specs.Meaning.{Meaning}
 pub use Rattle.rsx_types.specs.Plain.{plain, listed, range_items}
 use Rattle.rsx_types.specs.declared.note.Note.{Note}
 use Rattle.rsx_types.specs.declared.note.Note.TheVariants.{Nothing, Picks, Ended}
 use Rattle.rsx_model.specs.declared.expr.Expr.{Expr}
-use Rattle.rsx_model.specs.declared.expr.Expr.TheOpen.{Expr-F, Items, Range, Plain}
+use Rattle.rsx_model.specs.declared.expr.Expr.TheOpen.{Expr-F, Items, Range, Hub, Plain}
 use Rattle.rsx_model.specs.declared.expr.Expr.TheFolds.{fold-Expr}
 use Rattle.rsx_model.specs.Shape.{children, sum_of, leaf_here}
 
@@ -40,10 +40,19 @@ quiet (Some Nothing) o = o
 quiet (Some (Picks cs)) o = None
 quiet (Some (Ended i)) o = None
 
+-- a hub's value without its first items: what stands behind a join
+abbrev pub behind : {T : Type 0} → ℕ → Stream T → Stream T
+behind join v = record { items = drop join v.items; ending = v.ending }
+
+-- the value of a hub leaf: none where there is no such hub or no such join
+abbrev pub joined_value : {T : Type 0} → Environment T → ℕ → ℕ → Option (Stream T)
+joined_value w hub leaf = option_and_then (λ join. option_map (behind join) (slice_get w.hubs hub)) (slice_get w.joins leaf)
+
 -- the value of one node where it stands, from what its children mean
 abbrev pub node_value : {T : Type 0} → Environment T → Expr-F T (Meant T) → ℕ → ℕ → Option (Stream T)
 node_value w (Items v) at leaf = quiet (slice_get w.notes at) (Some (listed v.items))
 node_value w (Range a n) at leaf = quiet (slice_get w.notes at) (Some (listed (range_items w.meaning a n)))
+node_value w (Hub h) at leaf = quiet (slice_get w.notes at) (joined_value w h.0 leaf)
 node_value w (Plain g b) at leaf =
     quiet (slice_get w.notes at) (option_map (plain w.meaning g) (b.value.value (at + 1) leaf))
 

@@ -1,5 +1,6 @@
--- What `scan`, `buffer` and `distinct` give, in the words of lists; and that no expression's value fails with a bad request.
-use Rattle.std.specs.Prelude.{◌≡◌, ◌≢◌, ℕ, ◌<◌, ◌≤◌, List, [], ◌∷◌, ◌++◌, length, take, map, fold, nat_eq, if◌then◌else◌, slice_get, Option, Some, None, Result, Ok, Err, MatchResult}
+-- What `scan`, `buffer` and `distinct` give, in the words of lists; and that no expression's value fails with a bad
+-- request where no hub's value does.
+use Rattle.std.specs.Prelude.{◌≡◌, ◌≢◌, ℕ, ◌<◌, ◌≤◌, List, [], ◌∷◌, ◌++◌, length, take, map, fold, nat_eq, if◌then◌else◌, slice_get, Some, None, Result, Ok, Err, MatchResult}
 use Rattle.std.specs.List.{All}
 use Rattle.std.specs.Result.{result_ok}
 use Rattle.std.specs.Set.{is_member}
@@ -68,6 +69,6 @@ pub record DistinctKeepsFirst {T : Type 0} (m : Meaning T) (f : ℕ) (xs : List 
 
 -- ---- expressions
 
--- the value of an expression doesn't end with the failure of a bad request
+-- the value of an expression doesn't end with the failure of a bad request, where no hub's value does
 abbrev pub NoBadRequest : {T : Type 0} → Environment T → Expr T → Type 0
-NoBadRequest {T} w e = (s : Stream T) → eval w e ≡ Some s → s.ending ≢ Failed NonPositiveRequest
+NoBadRequest {T} w e = All (λ (v : Stream T). v.ending ≢ Failed NonPositiveRequest) w.hubs → (s : Stream T) → eval w e ≡ Some s → s.ending ≢ Failed NonPositiveRequest

@@ -1,13 +1,14 @@
 -- The size of an expression.
 use Rattle.std.specs.Prelude.{ℕ, ◌+◌, max, List, [], ◌∷◌}
 use Rattle.rsx_model.specs.declared.expr.Expr.{Expr}
-use Rattle.rsx_model.specs.declared.expr.Expr.TheOpen.{Expr-F, Items, Range, Plain}
+use Rattle.rsx_model.specs.declared.expr.Expr.TheOpen.{Expr-F, Items, Range, Hub, Plain}
 use Rattle.rsx_model.specs.declared.expr.Expr.TheFolds.{fold-Expr}
 
 -- what is known of a node's children, left to right
 abbrev pub children : {T A : Type 0} → Expr-F T A → List A
 children (Items v) = []
 children (Range a n) = []
+children (Hub h) = []
 children (Plain g b) = b.value ∷ []
 
 -- the sum of the numbers
@@ -32,6 +33,7 @@ depth {T} = fold-Expr T ℕ (λ e. 1 + max_of (children e))
 abbrev pub leaf_here : {T A : Type 0} → Expr-F T A → ℕ
 leaf_here (Items v) = 0
 leaf_here (Range a n) = 0
+leaf_here (Hub h) = 1
 leaf_here (Plain g b) = 0
 
 -- how many hub leaves

@@ -32,13 +32,16 @@ pub enum BadExpr {
     /// of more than 1,000,000 items; a `buffer` whose lists aren't of 1 to 1,024 items.
     #[error("a number is out of its limit")]
     Number,
+    /// A leaf names a hub that isn't there: its number isn't below the number of hubs.
+    #[error("no such hub")]
+    Hub,
     /// A list has more than 1,024 items.
     #[error("a list has more than 1024 items")]
     Length,
 }
 
 impl BadExpr {
-    /// The number of this kind: 1 for the depth, 2 for the nodes, 4 for a number, 7 for a list's length.
+    /// The number of this kind: 1 for the depth, 2 for the nodes, 4 for a number, 6 for a hub, 7 for a list's length.
     pub fn number(self) -> u8
         ensures { result ≡ kind_number self }
     {
@@ -46,6 +49,7 @@ impl BadExpr {
             BadExpr::Depth => 1,
             BadExpr::Nodes => 2,
             BadExpr::Number => 4,
+            BadExpr::Hub => 6,
             BadExpr::Length => 7,
         }
     }
@@ -83,7 +87,7 @@ fn is_within_depth<T>(expr: &Expr<T>, most: u64) -> bool
         return false;
     }
     match expr {
-        Expr::Items(_) | Expr::Range(_, _) => true,
+        Expr::Items(_) | Expr::Range(_, _) | Expr::Hub(_) => true,
         Expr::Plain(_, below) => is_within_depth(below, most - 1),
     }
 }
@@ -93,7 +97,7 @@ pub fn nodes_of<T>(expr: &Expr<T>) -> u64
     ensures { result ≡ min (nodes expr.now) (MOST_NODES + 1) }
 {
     match expr {
-        Expr::Items(_) | Expr::Range(_, _) => 1,
+        Expr::Items(_) | Expr::Range(_, _) | Expr::Hub(_) => 1,
         Expr::Plain(_, below) => (1 + nodes_of(below)).min(MOST_NODES + 1),
     }
 }
@@ -104,6 +108,7 @@ pub fn leaves_of<T>(expr: &Expr<T>) -> u64
 {
     match expr {
         Expr::Items(_) | Expr::Range(_, _) => 0,
+        Expr::Hub(_) => 1,
         Expr::Plain(_, below) => leaves_of(below),
     }
 }
@@ -117,7 +122,7 @@ fn first_fault_of<T>(expr: &Expr<T>, hubs: u64) -> Option<BadExpr>
         return own;
     }
     match expr {
-        Expr::Items(_) | Expr::Range(_, _) => None,
+        Expr::Items(_) | Expr::Range(_, _) | Expr::Hub(_) => None,
         Expr::Plain(_, below) => first_fault_of(below, hubs),
     }
 }
@@ -129,6 +134,7 @@ fn own_fault_of<T>(expr: &Expr<T>, hubs: u64) -> Option<BadExpr>
     match expr {
         Expr::Items(items) => unless_ok(items.len() as u64 <= MOST_ITEMS, BadExpr::Length),
         Expr::Range(first, count) => unless_ok(is_range(*first, *count), BadExpr::Number),
+        Expr::Hub(hub) => unless_ok(u64::from(hub.0) < hubs, BadExpr::Hub),
         Expr::Plain(stage, _) => unless_ok(is_stage(stage), BadExpr::Number),
     }
 }

@@ -6,7 +6,7 @@ ghost use Rattle.rsx_types.specs.Plain.{plain, listed, range_items};
 ghost use Rattle.rsx_model.specs.declared.evaluate.Trouble.TheVariants.{OutOfMemory};
 ghost use Rattle.rsx_model.specs.Shape.{nodes, leaves};
 ghost use Rattle.rsx_model.specs.Check.{first_fault};
-ghost use Rattle.rsx_model.specs.Eval.{environment, meant, quiet};
+ghost use Rattle.rsx_model.specs.Eval.{environment, meant, quiet, behind};
 ghost use Rattle.rsx_model.specs.Answer.{Gives, IsScratch, name_codes};
 
 use crate::check::{BadExpr, MOST_COUNT, MOST_NODES, leaves_of, nodes_of, refusal_of};
@@ -61,8 +61,10 @@ impl From<NoMemory> for Trouble {
 /// The value of an expression from scratch: over the hubs' values, in the order of their ids, with the joins of its hub
 /// leaves, from left to right, and the notes of its nodes, in pre-order.
 ///
-/// A bad expression is found first, then notes or joins that don't fit, and want of memory last. No expression names a
-/// hub yet: any hubs do, and the list of joins is empty.
+/// The value of a hub leaf is its hub's value without its first items, as many as the leaf's join says, and with its
+/// ending; where the hub's value has fewer items, the ending alone.
+///
+/// A bad expression is found first, then notes or joins that don't fit, and want of memory last.
 pub fn scratch<O: Ops>(
     alloc: Global,
     ops: &O,
@@ -111,6 +113,10 @@ fn value_of<O: Ops>(
     match expr {
         Expr::Items(items) => if_quiet(note, items_of(alloc, ops, items)),
         Expr::Range(first, count) => if_quiet(note, range_of(alloc, ops, *first, *count)),
+        Expr::Hub(hub) => {
+            let value = &hubs[hub.0 as usize];
+            if_quiet(note, behind_of(alloc, ops, value, joins[leaf]))
+        }
         Expr::Plain(stage, below) => {
             let input = value_of(alloc, ops, below, hubs, joins, notes, at + 1, leaf);
             if_quiet(note, plain_of(alloc, ops, stage, input))
@@ -155,6 +161,20 @@ fn range_of<O: Ops>(
     ensures { Gives result (Some (listed (range_items (O.meaning ops.now) first count))) }
 {
     Ok(StreamValue::new(range_list(alloc, ops, first, count)?, Ending::Done))
+}
+
+/// A hub's value without its first items, as many as `join`; without all where it has fewer.
+fn behind_of<O: Ops>(
+    alloc: Global,
+    ops: &O,
+    hub: &StreamValue<O::Item>,
+    join: u64,
+) -> Result<StreamValue<O::Item>, Trouble>
+    ensures { Gives result (Some (behind join hub.now)) }
+{
+    let first = join.min(hub.items().len() as u64) as usize;
+    let items = copies_of(alloc, ops, &hub.items()[first..])?;
+    Ok(StreamValue::new(items, hub.ending()))
 }
 
 /// The value of an operator over the value of its input; what is wrong with the input is wrong here.

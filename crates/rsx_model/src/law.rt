@@ -29,7 +29,7 @@ pub fn distinct_keeps_first<T>()
 {}
 
 /// The value of an expression never fails as a subscription does after a bad request, with
-/// `Cause::NonPositiveRequest`.
+/// `Cause::NonPositiveRequest`, where no hub's value does.
 pub fn never_a_bad_request<T>()
     ensures { (w : Environment T) (e : Expr T) → NoBadRequest w e }
 {}

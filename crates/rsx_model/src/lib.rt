@@ -1,12 +1,12 @@
 #![tactic(auto)]
 //! Expressions, and the slow evaluator whose contract is their meaning.
 //!
-//! An expression is a tree of operators over lists and ranges. Its nodes are counted from 0 in pre-order, and what
+//! An expression is a tree of operators over lists, ranges and hubs. Its nodes are counted from 0 in pre-order, and what
 //! a node recorded stands in a list of notes at its number. The definitions that contracts cite stand in `specs/`:
 //! `Shape` (nodes, depth, leaves), `Check` (which expressions are refused, and why), `Eval` (the value of an expression),
 //! `Answer` (what the evaluator answers) and `Laws` (what `scan`, `buffer` and `distinct` give, in the words of lists; and
-//! that no expression fails with a bad request). `proofs/Unfold` has each definition one level down, and the induction by
-//! the children.
+//! that no expression fails with a bad request where no hub does). `proofs/Unfold` has each definition one level down,
+//! and the induction by the children.
 
 mod check;
 mod evaluate;

@@ -3,7 +3,7 @@ use Rattle.std.specs.Prelude.{◌≡◌, ℕ, Bool, List, [], ◌∷◌}
 use Rattle.rsx_model.specs.Eval.{environment, meant}
 use Rattle.rsx_model.specs.declared.expr.Expr.{Expr}
 use Rattle.rsx_model.specs.declared.expr.Expr.TheFolds.{fold-Expr}
-use Rattle.rsx_model.specs.declared.expr.Expr.TheOpen.{Expr-F, Items, Range, Plain}
+use Rattle.rsx_model.specs.declared.expr.Expr.TheOpen.{Expr-F, Items, Range, Hub, Plain}
 use Rattle.rsx_types.specs.Meaning.{Meaning}
 use Rattle.rsx_types.specs.Notes.{note_then}
 use Rattle.rsx_types.specs.Stream.{Stream}
@@ -39,6 +39,7 @@ starts_ended g = has_ending (start_slot g)
 abbrev pub fresh_below : {T : Type 0} → Expr-F T (List EdgeView) → List EdgeView
 fresh_below (Items v) = []
 fresh_below (Range a n) = []
+fresh_below (Hub h) = []
 fresh_below (Plain g b) = closed_if (starts_ended g) (fresh_edge ∷ b.value)
 
 -- the edges below the root of a tree that has just begun: where a node has put out its ending, all below it are closed

@@ -12,7 +12,7 @@ use rsx_tree::{Inputs, Node};
 use rsx_types::{NoMemory, Ops};
 use std::alloc::Global;
 
-/// The tree of an expression that `check_expr` accepts. For want of memory the answer is [`NoMemory`].
+/// The tree of an expression that `check_expr` accepts where there are no hubs. For want of memory the answer is [`NoMemory`].
 pub fn build<O: Ops>(
     alloc: Global,
     ops: &O,
@@ -30,6 +30,8 @@ pub fn build<O: Ops>(
             let node = RangeNode::new(*first, *count);
             Ok(Node::new(AnyNode::Range(node), Inputs::End))
         }
+        // Over no hubs `check_expr` accepts no leaf that reads one.
+        Expr::Hub(_) => unreachable!(),
         Expr::Plain(stage, input) => {
             let below = build(alloc, ops, input)?;
             let node = PlainNode::new(alloc, ops, stage)?;

@@ -48,9 +48,9 @@ stands_fresh {T} m published e sub ok b k q f =
       asked = ap (λ v. v.asked) root;
       requested = f.asked;
       delivered = f.delivered;
-      admitted = refusal_none 0 (length published) e ok;
+      admitted = refusal_none (length published) e ok;
       shape = ap length k ∙ fresh_count e;
-      joined = sym (leaves_none e);
+      joined = sym (leaves_none e ok);
       closed = λ dead. absurd (dead live);
     }
   where

@@ -2,14 +2,14 @@
 use Rattle.std.proofs.Common.{◌≡◌, ℕ, ℤ, zero, suc, ◌+◌, ◌-◌, Bool, true, false, nat_eq, nat_le, if◌then◌else◌, ◌&&◌, Vec, Global, Box, List, [], ◌∷◌, ◌++◌, length, length-append, map, Some, None, option_map, refl, ap, sym, ◌∙◌, arith}
 use Rattle.std.proofs.lemmas.List.{length-map}
 use Rattle.rsx_model.specs.declared.check.TheConstants.{MOST_DEPTH, MOST_NODES}
-use Rattle.rsx_model.proofs.Unfold.{by_variant, leaves_Items, leaves_Range, leaves_Plain, nodes_Items, nodes_Range, nodes_Plain, first_fault_Items, first_fault_Range, first_fault_Plain}
+use Rattle.rsx_model.proofs.Unfold.{by_variant, leaves_Items, leaves_Range, leaves_Plain, nodes_Items, nodes_Range, nodes_Hub, nodes_Plain, first_fault_Items, first_fault_Range, first_fault_Plain, fault_below, no_hub_there, sound}
 use Rattle.rsx_model.specs.Check.{refusal, first_fault, or_else, unless, stage_fits}
 use Rattle.rsx_model.specs.Shape.{nodes, depth, leaves}
 use Rattle.rsx_model.specs.declared.check.BadExpr.TheVariants.{Depth, Nodes, Number}
 use Rattle.rsx_model.specs.declared.expr.Expr.{Expr}
 use Rattle.rsx_model.specs.declared.expr.Expr.TheFolds.{fold_out-Expr}
-use Rattle.rsx_model.specs.declared.expr.Expr.TheVariants.{Items as ItemsOf, Range as RangeOf}
-use Rattle.rsx_model.specs.declared.expr.Expr.TheViews.{Plain as PlainOf, outs-Items, outs-Range, outs-Plain}
+use Rattle.rsx_model.specs.declared.expr.Expr.TheVariants.{Items as ItemsOf, Range as RangeOf, Hub as HubOf}
+use Rattle.rsx_model.specs.declared.expr.Expr.TheViews.{Plain as PlainOf, outs-Items, outs-Range, outs-Hub, outs-Plain}
 use Rattle.rsx_pipe.proofs.Parts.{values_then-none}
 use Rattle.rsx_pipe.proofs.Trees.{notes_then-unchosen, unchosen_notes, unchosen_tree}
 use Rattle.rsx_node.specs.Built.{fresh_edge, fresh_edges, starts_ended}
@@ -30,6 +30,7 @@ use Rattle.rsx_sources.specs.declared.machine.Front.{Front}
 use Rattle.rsx_types.specs.Meaning.{Meaning}
 use Rattle.rsx_types.specs.Notes.{notes_then, unchosen}
 use Rattle.rsx_types.specs.Stream.{Stream, signals, signals_then}
+use Rattle.rsx_types.specs.declared.names.HubId.{HubId}
 use Rattle.rsx_types.specs.declared.names.Move.{Move}
 use Rattle.rsx_types.specs.declared.names.Move.TheVariants.{Ask, Send, Take}
 use Rattle.rsx_types.specs.declared.note.Note.{Note}
@@ -81,18 +82,23 @@ signals_ended (Next x ∷ a) b v o n = ap (λ l. Next x ∷ l) (signals_ended a 
 signals_ended (Complete ∷ a) b v o n = ap (λ l. Complete ∷ l) o
 signals_ended (Error c ∷ a) b v o n = ap (λ l. Error c ∷ l) o
 
--- ---- the expression isn't refused, however many hubs there are
+-- ---- an expression that isn't refused over no hubs names none, and isn't refused over others
 
-same_fault : {T : Type 0} (hubs other : ℕ) (e : Expr T) → first_fault hubs e ≡ first_fault other e
-same_fault {T} hubs other =
-    by_variant (λ e. first_fault hubs e ≡ first_fault other e) (λ v. first_fault_Items hubs v ∙ sym (first_fault_Items other v)) (λ a n. first_fault_Range T hubs a n ∙ sym (first_fault_Range T other a n)) (λ g b k.
-    first_fault_Plain hubs g b ∙ (ap (or_else (unless (stage_fits g) Number)) k ∙ sym (first_fault_Plain other g b)))
+same_fault : {T : Type 0} (hubs : ℕ) (e : Expr T) → first_fault 0 e ≡ None → first_fault hubs e ≡ None
+same_fault {T} hubs =
+    by_variant (λ e. first_fault 0 e ≡ None → first_fault hubs e ≡ None) (λ v h. first_fault_Items hubs v ∙ (sym (first_fault_Items 0 v) ∙ h)) (λ a n h. first_fault_Range T hubs a n ∙ (sym (first_fault_Range T 0 a n) ∙ h)) (λ k h. absurd (no_hub_there T k h)) (λ g b k h.
+    first_fault_Plain hubs g b ∙ (ap (or_else (unless (stage_fits g) Number)) (k (fault_below 0 g b h) ∙ sym (fault_below 0 g b h)) ∙ (sym (first_fault_Plain 0 g b) ∙ h)))
 
-pub refusal_none : {T : Type 0} (hubs other : ℕ) (e : Expr T) → refusal hubs e ≡ None → refusal other e ≡ None
-refusal_none hubs other e h = ap (λ f. or_else (unless (nat_le (depth e) MOST_DEPTH) Depth) (or_else (unless (nat_le (nodes e) MOST_NODES) Nodes) f)) (same_fault other hubs e) ∙ h
+pub refusal_none : {T : Type 0} (hubs : ℕ) (e : Expr T) → refusal 0 e ≡ None → refusal hubs e ≡ None
+refusal_none hubs e h =
+    let fault = (sound 0 e h).fault in
+    ap (λ f. or_else (unless (nat_le (depth e) MOST_DEPTH) Depth) (or_else (unless (nat_le (nodes e) MOST_NODES) Nodes) f)) (same_fault hubs e fault ∙ sym fault) ∙ h
 
-pub leaves_none : {T : Type 0} (e : Expr T) → leaves e ≡ 0
-leaves_none {T} = by_variant (λ e. leaves e ≡ 0) (λ v. leaves_Items v) (λ a n. leaves_Range T a n) (λ g b k. leaves_Plain g b ∙ k)
+leaves_below : {T : Type 0} (e : Expr T) → first_fault 0 e ≡ None → leaves e ≡ 0
+leaves_below {T} = by_variant (λ e. first_fault 0 e ≡ None → leaves e ≡ 0) (λ v h. leaves_Items v) (λ a n h. leaves_Range T a n) (λ k h. absurd (no_hub_there T k h)) (λ g b k h. leaves_Plain g b ∙ k (fault_below 0 g b h))
+
+pub leaves_none : {T : Type 0} (e : Expr T) → refusal 0 e ≡ None → leaves e ≡ 0
+leaves_none e h = leaves_below e (sound 0 e h).fault
 
 -- ---- one edge for each node
 
@@ -106,12 +112,15 @@ fresh_Items {T} v = rw (fold_out-Expr, outs-Items) refl
 fresh_Range : (T : Type 0) (a : ℤ) (n : ℕ) → fresh_edges {T = T} (RangeOf a n) ≡ []
 fresh_Range T a n = rw (fold_out-Expr, outs-Range) refl
 
+fresh_Hub : (T : Type 0) (h : HubId) → fresh_edges {T = T} (HubOf h) ≡ []
+fresh_Hub T h = rw (fold_out-Expr, outs-Hub) refl
+
 fresh_Plain : {T : Type 0} (g : Stage T) (b : Box (Expr T) Global) → fresh_edges (PlainOf g b) ≡ closed_if (starts_ended g) (fresh_edge ∷ fresh_edges b.value)
 fresh_Plain {T} g b = rw (fold_out-Expr, outs-Plain) refl
 
 pub fresh_count : {T : Type 0} (e : Expr T) → suc (length (fresh_edges e)) ≡ nodes e
 fresh_count {T} =
-    by_variant (λ e. suc (length (fresh_edges e)) ≡ nodes e) (λ v. ap (λ es. suc (length es)) (fresh_Items v) ∙ sym (nodes_Items v)) (λ a n. ap (λ es. suc (length es)) (fresh_Range T a n) ∙ sym (nodes_Range T a n)) (λ g b k.
+    by_variant (λ e. suc (length (fresh_edges e)) ≡ nodes e) (λ v. ap (λ es. suc (length es)) (fresh_Items v) ∙ sym (nodes_Items v)) (λ a n. ap (λ es. suc (length es)) (fresh_Range T a n) ∙ sym (nodes_Range T a n)) (λ h. ap (λ es. suc (length es)) (fresh_Hub T h) ∙ sym (nodes_Hub T h)) (λ g b k.
     ap (λ es. suc (length es)) (fresh_Plain g b) ∙ (ap suc (closed_if_length (starts_ended g) (fresh_edge ∷ fresh_edges b.value)) ∙ (ap suc k ∙ omega (arith, nodes_Plain g b))))
 
 -- a tree recorded a note for each of its edges and one for its root
