@@ -1,5 +1,6 @@
 use Rattle.std.proofs.Common.{◌≡◌, ◌+◌, ◌∙◌, arith, true, false}
 use Rattle.rsx_types.specs.declared.fault.NoMemory.{NoMemory}
+use Rattle.rsx_subscriber.specs.Delivered.{IsFull}
 use Rattle.rsx_subscriber.proofs.Moves.{pumped_more, pumped_none, rest_ended, awake_part, rest_quiet}
 use Rattle.rsx_subscriber.proofs.subscription.Subscription.settle.Goals as goal
 
@@ -77,7 +78,7 @@ returns-clause-pumped g c =
 pub returns-in-Err-clause-memory : goal.returns-in-Err-clause-memory
 returns-in-Err-clause-memory g c = λ free.
     let done = c.loop-round.invariant.1 in
-    absurd (never (c.in-Err.ensures.memory (done.2.alike (g.O.Ops.allocates c.args.ops.now) ∙ free)))
+    absurd {A = IsFull c.loop-round.out} (never (c.in-Err.ensures.memory (done.2.alike (g.O.Ops.allocates c.args.ops.now) ∙ free)))
   where
     never : false ≡ true → ⊥
     never e = cc
