@@ -117,3 +117,7 @@ queued_popped old (Error c) new = (old.node ≡ new.node) × (old.queue ≡ new.
 
 abbrev pub queued_allocates : {M T : Type 0} → Machine M T → Allocates → Queued M T → Bool
 queued_allocates b a n = b.signal_allocates a n.node
+
+-- a row takes a signal out of the node, or is one of the node; a pick is one of the node
+abbrev pub queued_step_allocates : {M T : Type 0} → Machine M T → Allocates → Queued M T → Bool
+queued_step_allocates b a n = b.pop_allocates a n.node || b.step_allocates a n.node

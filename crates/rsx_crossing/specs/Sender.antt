@@ -14,7 +14,7 @@ use Rattle.rsx_sources.specs.declared.machine.Machine.{Ghosts as Machine}
 use Rattle.rsx_crossing.specs.declared.sender.Sender.{Sender}
 use Rattle.rsx_crossing.specs.declared.sender.Sender.TheVariants.{Direct, Crossing}
 use Rattle.rsx_crossing.specs.Laws.{Shows, Drops, Ends, Settles, Waits, Hungers, queued_shows, queued_popped_alike, queued_drops, queued_ends, queued_settles, queued_ending_waits, queued_hungry}
-use Rattle.rsx_crossing.specs.Queued.{queued_comes_out, queued_waiting, queued_shown, queued_takes, queued_picks, queued_rows, queued_ended, queued_done, queued_counted, queued_wanted, queued_popped, queued_allocates}
+use Rattle.rsx_crossing.specs.Queued.{queued_comes_out, queued_waiting, queued_shown, queued_takes, queued_picks, queued_rows, queued_ended, queued_done, queued_counted, queued_wanted, queued_popped, queued_allocates, queued_step_allocates}
 
 -- ---- its meaning is that of the node, or of the node with its queue
 
@@ -79,6 +79,10 @@ abbrev pub sender_signal_allocates : {M T : Type 0} → Machine M T → Allocate
 sender_signal_allocates b a (Direct n) = b.signal_allocates a n
 sender_signal_allocates b a (Crossing n) = queued_allocates b a n
 
+abbrev pub sender_step_allocates : {M T : Type 0} → Machine M T → Allocates → Sender M T → Bool
+sender_step_allocates b a (Direct n) = b.step_allocates a n
+sender_step_allocates b a (Crossing n) = queued_step_allocates b a n
+
 -- ---- and so it keeps their laws
 
 pub sender_shows : {M T : Type 0} (b : Machine M T) (m : Meaning T) → Shows b m → (n : Sender M T) → sender_shown b n ≡ option_map front_of (sender_waiting b m n)
@@ -86,9 +90,9 @@ sender_shows b m shows (Direct n) = shows n
 sender_shows b m shows (Crossing n) = queued_shows m n
 
 abbrev pub IsAlike : {M T : Type 0} → Machine M T → Type 0
-IsAlike {M} {T} b = (old : M) (s : Signal T) (new : M) → b.popped old s new → AllocatesAlike b.pop_allocates b.signal_allocates old new
+IsAlike {M} {T} b = (old : M) (s : Signal T) (new : M) → b.popped old s new → AllocatesAlike b.pop_allocates b.signal_allocates b.step_allocates old new
 
-pub sender_alike : {M T : Type 0} (b : Machine M T) → IsAlike b → (old : Sender M T) (s : Signal T) (new : Sender M T) → sender_popped b old s new → AllocatesAlike (sender_pop_allocates b) (sender_signal_allocates b) old new
+pub sender_alike : {M T : Type 0} (b : Machine M T) → IsAlike b → (old : Sender M T) (s : Signal T) (new : Sender M T) → sender_popped b old s new → AllocatesAlike (sender_pop_allocates b) (sender_signal_allocates b) (sender_step_allocates b) old new
 sender_alike b alike (Direct x) s (Direct y) h = alike x s y h
 sender_alike b alike (Crossing x) s (Crossing y) h = queued_popped_alike b x s y h
 sender_alike b alike (Direct x) s (Crossing y) h = absurd h

@@ -1,5 +1,5 @@
 -- How the subscriptions of a graph stand together.
-use Rattle.std.proofs.Common.{◌^◌, ◌≡◌, ℕ, zero, suc, ◌+◌, ◌-◌, ◌<◌, ◌≤◌, List, [], ◌∷◌, ◌++◌, length, get_or, slice_get, refl, ap, sym, ◌∙◌, subst, arith, append_assoc, length-append, take, map, Option, Some, Result, Ok, Bool, true, false, nat_eq, if◌then◌else◌, inl, inr}
+use Rattle.std.proofs.Common.{◌^◌, ◌≡◌, ℕ, zero, suc, ◌+◌, ◌-◌, ◌<◌, ◌≤◌, List, [], ◌∷◌, ◌++◌, length, get_or, slice_get, refl, ap, sym, ◌∙◌, subst, arith, append_assoc, length-append, take, map, Option, Some, Result, Ok, Bool, true, false, ◌||◌, nat_eq, if◌then◌else◌, inl, inr}
 use Rattle.std.proofs.Math.ListN.{set}
 use Rattle.std.proofs.lemmas.Bool.Decides.{nat_tests}
 use Rattle.std.proofs.lemmas.List.{take_more, take_all, append-nil}
@@ -19,6 +19,7 @@ use Rattle.rsx_pipe.specs.Tree.{notes_of}
 use Rattle.rsx_pipe.specs.declared.part.Pumped.{Pumped as Rest}
 use Rattle.rsx_pipe.specs.declared.part.Pumped.TheVariants.{Idle as Rests, Budget as Wakes}
 use Rattle.rsx_pipe.proofs.Signals.{some_same}
+use Rattle.rsx_tree.proofs.Alike.{or_left, or_right}
 use Rattle.rsx_subscriber.specs.Past.{Past, given}
 use Rattle.rsx_subscriber.specs.Pumped.{IsPumped, IsMoved, Leads, IsQuiet, IsAwake, HasRested, given_all, to}
 use Rattle.rsx_subscriber.specs.Stands.{Stands, move_enabled_in, evaluated, owed_from, owes_in, standing_of}
@@ -34,7 +35,7 @@ use Rattle.rsx_graph.specs.declared.step.Answer.{Answer}
 use Rattle.rsx_graph.specs.History.{History, Belongs, AllBelong, IsSubscribeRefusal, IsMakeRefusal, changed, extended, all_extended, delivered, HasAsked, state_at, tree_of}
 use Rattle.rsx_graph.specs.Done.{IsDone, AllDone}
 use Rattle.rsx_graph.specs.Pumped.{AllPumped, IsMoveMade, AreQuiet, HasRestedAt, IsAllQuiet, IsAnyAwake}
-use Rattle.rsx_graph.specs.Stands.{AllStand, StandsFor, allocates_at, IsMade, enabled_in_tree, enabled_at, OwedAt}
+use Rattle.rsx_graph.specs.Stands.{AllStand, StandsFor, pump_allocates, allocates_at, IsMade, enabled_in_tree, enabled_at, OwedAt}
 
 pub AllStand-push : {T : Type 0} (m : Meaning T) (published : List (Stream T)) (subs : List (Subscription T)) (pasts : List (Past T)) (s : Subscription T) (p : Past T) → Stands m published s p → AllStand m published subs pasts → AllStand m published (subs ++ s ∷ []) (pasts ++ p ∷ [])
 AllStand-push m published [] [] s p k h = (k, tt)
@@ -104,6 +105,18 @@ pub allocates_there : {T : Type 0} (a : Allocates) (subs : List (Subscription T)
 allocates_there a [] i old mv lt e = absurd (omega arith)
 allocates_there a (s ∷ subs) zero old mv lt e = ap (λ t. Part.make_allocates a t.part mv) e
 allocates_there a (s ∷ subs) (suc i) old mv lt e = past_first (Part.make_allocates a s.part mv) (allocates_at a subs (suc i - 1) mv) i ∙ (ap (λ k. allocates_at a subs k mv) (suc_less i) ∙ allocates_there a subs i old mv (omega arith) e)
+
+-- what may allocate, where one subscription changed and what may allocate there stayed
+alike_there : {T : Type 0} (a : Allocates) (subs : List (Subscription T)) (i : ℕ) (old new : Subscription T) → i < length subs → get_or subs i old ≡ old → Part.pump_allocates a new.part ≡ Part.pump_allocates a old.part → pump_allocates a (set subs i new) ≡ pump_allocates a subs
+alike_there a [] i old new lt e h = absurd (omega arith)
+alike_there a (s ∷ subs) zero old new lt e h = ap (λ c. c || pump_allocates a subs) (h ∙ ap (λ t. Part.pump_allocates a t.part) (sym e))
+alike_there a (s ∷ subs) (suc i) old new lt e h = ap (λ c. Part.pump_allocates a s.part || c) (alike_there a subs i old new (omega arith) e h)
+
+-- where nothing may, nothing may in one subscription
+pub free_there : {T : Type 0} (a : Allocates) (subs : List (Subscription T)) (i : ℕ) (old : Subscription T) → i < length subs → get_or subs i old ≡ old → pump_allocates a subs ≡ false → Part.pump_allocates a old.part ≡ false
+free_there a [] i old lt e h = absurd (omega arith)
+free_there a (s ∷ subs) zero old lt e h = ap (λ t. Part.pump_allocates a t.part) (sym e) ∙ or_left (Part.pump_allocates a s.part) (pump_allocates a subs) h
+free_there a (s ∷ subs) (suc i) old lt e h = free_there a subs i old (omega arith) e (or_right (Part.pump_allocates a s.part) (pump_allocates a subs) h)
 
 pub asked_there : {T : Type 0} (m : Meaning T) (published : List (Stream T)) (subs : List (Subscription T)) (pasts : List (Past T)) (i : ℕ) (sub : Subscription T) → i < length subs → get_or subs i sub ≡ sub → AllStand m published subs pasts → HasAsked pasts i sub.demand.asked
 asked_there m published [] pasts i sub lt e h = absurd (omega arith)
@@ -180,6 +193,7 @@ pumped_there {T} m id n subs old new before after lt e k = record {
   stands = λ h s.
       let P : History T → Type 0 = λ g. StandsFor m (set subs id.0 new) g in
       subst P (sym (delivered_to h.published h.pasts id k.signals)) (AllStand-set m h.published (given_all k.signals) subs h.pasts id.0 old new lt e (λ p t. k.stands h.published p t) s);
+  alike = λ a. alike_there a subs id.0 old new lt e (k.alike a);
 }
 
 pub delivered_append : {T : Type 0} (h : History T) (a b : List (SubId × Signal T)) → delivered h (a ++ b) ≡ delivered (delivered h a) b
@@ -192,10 +206,11 @@ pumped_on {T} m n k s1 s2 s3 o1 o2 o3 a b = record {
   output = b.output ∙ (ap (λ o. o ++ b.signals) a.output ∙ append_assoc o1 a.signals b.signals);
   moves = leads_on (IsMoveMade m) n k s1 s2 s3 a.signals b.signals a.moves b.moves;
   stands = λ h s. let P : History T → Type 0 = λ g. StandsFor m s3 g in subst P (sym (delivered_append h a.signals b.signals)) (b.stands (delivered h a.signals) (a.stands h s));
+  alike = λ p. b.alike p ∙ a.alike p;
 }
 
 pub pumped_none : {T : Type 0} (m : Meaning T) (s : List (Subscription T)) (o : List (SubId × Signal T)) → AllPumped m 0 s o s o
-pumped_none m s o = record { signals = []; output = sym (append-nil o); moves = (refl, refl); stands = λ h k. k }
+pumped_none m s o = record { signals = []; output = sym (append-nil o); moves = (refl, refl); stands = λ h k. k; alike = λ a. refl }
 
 -- ---- no enabled move, and some
 

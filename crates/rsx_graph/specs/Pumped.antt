@@ -1,6 +1,6 @@
 -- What driving a graph until it is idle does.
 use Rattle.std.specs.Prelude.{◌^◌, ◌≡◌, ℕ, ◌+◌, ◌≤◌, ◌<◌, true, false, List, ◌++◌, length, Option, Some, Result, Ok, Err, slice_get}
-use Rattle.rsx_types.specs.Meaning.{Meaning}
+use Rattle.rsx_types.specs.Meaning.{Meaning, Allocates}
 use Rattle.rsx_types.specs.declared.names.Move.{Move}
 use Rattle.rsx_types.specs.declared.names.SubId.{SubId}
 use Rattle.rsx_types.specs.declared.signal.Signal.{Signal}
@@ -15,7 +15,7 @@ use Rattle.rsx_graph.specs.declared.refusal.Refusal.TheVariants.{NoMemory}
 use Rattle.rsx_graph.specs.declared.step.Pumped.{Pumped}
 use Rattle.rsx_graph.specs.declared.step.Pumped.TheVariants.{Idle, Budget}
 use Rattle.rsx_graph.specs.History.{History, delivered, tree_of}
-use Rattle.rsx_graph.specs.Stands.{StandsFor, IsMade, enabled_in_tree}
+use Rattle.rsx_graph.specs.Stands.{StandsFor, IsMade, enabled_in_tree, pump_allocates}
 
 -- an enabled move of a graph was made, and had its effect: what `make` promises
 pub record IsMoveMade {T : Type 0} (m : Meaning T) (old : List (Subscription T)) (o : Option (SubId × Signal T)) (new : List (Subscription T)) : Type 0 where
@@ -30,6 +30,8 @@ pub record AllPumped {T : Type 0} (m : Meaning T) (count : ℕ) (old : List (Sub
   pub output : after ≡ before ++ signals
   pub moves : Leads (IsMoveMade m) count old signals new
   pub stands : (h : History T) → StandsFor m old h → StandsFor m new (delivered h signals)
+  -- whether a move may allocate stays
+  pub alike : (a : Allocates) → pump_allocates a new ≡ pump_allocates a old
 
 -- no move of a graph is enabled, of all that the number of a node can name
 abbrev pub IsAllQuiet : {T : Type 0} → Meaning T → List (Subscription T) → Type 0

@@ -1,5 +1,5 @@
 -- What a graph stands for, its enabled moves, and what a move changes.
-use Rattle.std.specs.Prelude.{◌≡◌, ℕ, Bool, false, nat_eq, if◌then◌else◌, List, [], ◌∷◌, Option, Some, ◌-◌, slice_get, ℤ, zero, suc, slice_set}
+use Rattle.std.specs.Prelude.{◌≡◌, ℕ, Bool, false, ◌||◌, nat_eq, if◌then◌else◌, List, [], ◌∷◌, Option, Some, ◌-◌, slice_get, ℤ, zero, suc, slice_set}
 use Rattle.rsx_types.specs.Meaning.{Meaning, Allocates}
 use Rattle.rsx_types.specs.Stream.{Stream}
 use Rattle.rsx_types.specs.declared.note.Note.{Note}
@@ -37,6 +37,11 @@ enabled_at m (s ∷ ss) i mv = if nat_eq i 0 then move_enabled_in m s mv else en
 abbrev pub enabled_in_tree : {T : Type 0} → Meaning T → List (Subscription T) → Tree → Move → Bool
 enabled_in_tree m subs (Sub i) mv = enabled_at m subs i.0 mv
 enabled_in_tree m subs (Feed h) mv = false
+
+-- whether some move of a graph may allocate, where these of the caller's functions may
+abbrev pub pump_allocates : {T : Type 0} → Allocates → List (Subscription T) → Bool
+pump_allocates a [] = false
+pump_allocates a (s ∷ ss) = Part.pump_allocates a s.part || pump_allocates a ss
 
 -- whether a move in the subscription with this number may allocate, where these of the caller's functions may
 abbrev pub allocates_at : {T : Type 0} → Allocates → List (Subscription T) → ℕ → Move → Bool

@@ -2,11 +2,12 @@
 
 ghost use Rattle.std.specs.Prelude.{◌≡◌, ◌≢◌, ℕ, ◌+◌, ◌<◌, ◌≤◌, ◌++◌, ◌∷◌, [], length, OnOk, OnErr, IfOk, IfErr, IsOk, None, Some, true, false};
 ghost use Rattle.rsx_model.specs.Check.{refusal};
+ghost use Rattle.rsx_subscriber.specs.Delivered.{IsFull};
 ghost use Rattle.rsx_subscriber.specs.Past.{given, cancelled, requested};
 ghost use Rattle.rsx_subscriber.specs.Stands.{IsInside, IsMadeAnswer};
 ghost use Rattle.rsx_graph.specs.History.{History, no_history, with_subscriber, with_past, with_made, extended, all_extended, IsSubscribeRefusal, IsMakeRefusal, Belongs, AllBelong, HasAsked, state_at, IsLookRefusal, IsTreeRefusal, IsKnownTree, tree_of};
 ghost use Rattle.rsx_graph.specs.Done.{IsDone, AllDone};
-ghost use Rattle.rsx_graph.specs.Stands.{StandsFor, IsRequestedAt, IsCancelledAt, IsOwed, HasNotes, HasNotesAt, IsMade, IsMadeAt, allocates_at, allocates_in_tree, enabled_in_tree, enabled_at};
+ghost use Rattle.rsx_graph.specs.Stands.{StandsFor, IsRequestedAt, IsCancelledAt, IsOwed, HasNotes, HasNotesAt, IsMade, IsMadeAt, allocates_at, allocates_in_tree, pump_allocates, enabled_in_tree, enabled_at};
 ghost use Rattle.rsx_graph.specs.Begun.{IsSubscribed};
 ghost use Rattle.rsx_graph.specs.Served.{AllServed};
 ghost use Rattle.rsx_graph.specs.Pumped.{AllPumped, HasEnded, HasRestedAt};
@@ -209,7 +210,9 @@ impl<O: Ops> Graph<O> {
     /// both hold it answers Idle. What is delivered is put into `out`, behind what stands there.
     ///
     /// # Errors
-    /// G8 where a growth was refused; the moves made before stand, and their deliveries are in `out`.
+    /// G8 where a growth was refused; the moves made before stand, and their deliveries are in `out`. It comes only where
+    /// `out` has no room for one signal more, or where some node of a subscription's tree may allocate: a `buffer` or a
+    /// `distinct`, or a node that calls a function of the caller's whose [`Ops`] says that it may (`allocates`).
     pub fn pump(
         &mut self,
         alloc: Global,
@@ -221,6 +224,9 @@ impl<O: Ops> Graph<O> {
 
         // Idle means delivered.
         ensures served { IfOk result (λ p. p ≡ Pumped.Idle → (h : History O.Item) → StandsFor (O.meaning self.old.ops) self.new.subscriptions.items h → AllServed (O.meaning self.old.ops) h.published self.new.subscriptions.items h.pasts) }
+
+        // Where no move may allocate, there is want of memory only for the list of deliveries.
+        ensures memory { pump_allocates (O.allocates self.old.ops) self.old.subscriptions.items ≡ false → OnErr result (IsFull out.new) }
     {
         let mut left = budget;
         let count = self.subscriptions.len() as u32;
@@ -246,6 +252,7 @@ impl<O: Ops> Graph<O> {
         ensures ops { self.new.ops ≡ self.old.ops }
         ensures count { length self.new.subscriptions.items ≡ length self.old.subscriptions.items }
         ensures pumped { (n : ℕ) × HasRestedAt (O.meaning self.old.ops) budget n self.old.subscriptions.items sub.0 self.new.subscriptions.items result × AllPumped (O.meaning self.old.ops) n self.old.subscriptions.items out.old.signals self.new.subscriptions.items out.new.signals }
+        ensures memory { pump_allocates (O.allocates self.old.ops) self.old.subscriptions.items ≡ false → OnErr result (IsFull out.new) }
     {
         let ops = self.ops;
         let subscription = &mut self.subscriptions[sub.0 as usize];

@@ -93,4 +93,5 @@ any_machine = record {
   popped = any_popped;
   pop_allocates = any_pop_allocates;
   signal_allocates = any_signal_allocates;
+  step_allocates = λ a n. false;
 }

@@ -23,12 +23,12 @@ any_shows m (Range n) = range_shows m n
 any_shows m (Plain n) = refl
 
 -- what may allocate stays as a signal is taken out
-pub any_popped_alike : {T : Type 0} (old : AnyNode T) (s : Signal T) (new : AnyNode T) → any_popped old s new → AllocatesAlike any_pop_allocates any_signal_allocates old new
-any_popped_alike (Items n) s (Items k) h a = (refl, refl)
+pub any_popped_alike : {T : Type 0} (old : AnyNode T) (s : Signal T) (new : AnyNode T) → any_popped old s new → AllocatesAlike any_pop_allocates any_signal_allocates (λ a n. false) old new
+any_popped_alike (Items n) s (Items k) h a = (refl, refl, refl)
 any_popped_alike (Items n) s (Range k) h a = absurd h
 any_popped_alike (Items n) s (Plain k) h a = absurd h
 any_popped_alike (Range n) s (Items k) h a = absurd h
-any_popped_alike (Range n) s (Range k) h a = (refl, refl)
+any_popped_alike (Range n) s (Range k) h a = (refl, refl, refl)
 any_popped_alike (Range n) s (Plain k) h a = absurd h
 any_popped_alike (Plain n) s (Items k) h a = absurd h
 any_popped_alike (Plain n) s (Range k) h a = absurd h

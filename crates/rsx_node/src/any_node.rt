@@ -62,6 +62,8 @@ impl<T: Drop> Machine for AnyNode<T> {
 
     ghost signal_allocates = { any_signal_allocates };
 
+    ghost step_allocates = { λ a n. false };
+
     #[inline]
     fn front(&self) -> Option<Front> {
         match self {
@@ -81,7 +83,7 @@ impl<T: Drop> Machine for AnyNode<T> {
         ensures counts { IfOk result (λ s. CountsOut any_counted any_ended (λ n i. false) self.old s self.new) }
         ensures err { OnErr result (self.new ≡ self.old) }
         ensures memory { any_pop_allocates (O.allocates ops.now) self.old ≡ false → IsOk result }
-        ensures alike { AllocatesAlike any_pop_allocates any_signal_allocates self.old self.new }
+        ensures alike { AllocatesAlike any_pop_allocates any_signal_allocates (λ a n. false) self.old self.new }
     {
         match self {
             AnyNode::Items(node) => node.pop_front(alloc, ops),
@@ -131,7 +133,7 @@ impl<T: Drop> Machine for AnyNode<T> {
         ensures counts { OnOk result (CountsIn any_counted any_ended (λ n i. false) self.old input signal self.new) }
         ensures err { IfErr result (IsNotTaken (any_takes self.old input (front_of signal)) signal) }
         ensures memory { any_signal_allocates (O.allocates ops.now) self.old ≡ false → IfErr result (λ e. e ≡ NotTaken.Busy signal) }
-        ensures alike { AllocatesAlike any_pop_allocates any_signal_allocates self.old self.new }
+        ensures alike { AllocatesAlike any_pop_allocates any_signal_allocates (λ a n. false) self.old self.new }
         ensures same { OnErr result (self.new ≡ self.old) }
     {
         match self {

@@ -6,7 +6,7 @@ use Rattle.rsx_model.specs.declared.check.TheConstants.{MOST_NODES}
 use Rattle.rsx_types.specs.declared.limits.TheConstants.{CAPACITY}
 use Rattle.rsx_demand.specs.Demand.{saturating_total}
 use Rattle.rsx_model.specs.declared.expr.Expr.{Expr}
-use Rattle.rsx_types.specs.Meaning.{Meaning}
+use Rattle.rsx_types.specs.Meaning.{Meaning, Allocates}
 use Rattle.rsx_types.specs.Notes.{unchosen, notes_then}
 use Rattle.rsx_types.specs.Stream.{Stream, signals_then}
 use Rattle.rsx_types.specs.declared.note.Note.{Note}
@@ -22,8 +22,8 @@ use Rattle.rsx_sources.specs.declared.machine.Front.{Front}
 use Rattle.rsx_node.specs.Built.{IsBuilt, fresh_edge, fresh_edges}
 use Rattle.rsx_tree.specs.Edges.{changed_at, asked_up_to, edge_view, EdgeView, passed, is_live, closed_view, closed_state, can_pass}
 use Rattle.rsx_pipe.specs.Output.{items_in, IsUnended, IsOrderly, values_then}
-use Rattle.rsx_pipe.specs.Part.{PartStands, IsPutOut, IsRootSent, IsMade, IsMoved, IsMovedBy, IsPumped, IsQuiet, IsAwake, IsDelivered, IsServed, IsSpent, HasEnded, IsAsk, IsSend, IsEffect, GoesOut, all_edges, sent_at, ask_enabled, send_enabled, move_enabled, has_room, number_of, evaluated}
-use Rattle.rsx_pipe.specs.Tree.{AnyTree, comes_out, notes_of, offers, edges, edges_after, can_ask, can_send, can_go, want_at, want_in, front_at, front_in, ended_at, IsAllClosed, IsKept, IsLetGo, IsAdvanced, IsAskedAt, IsSentAt, IsChosen, IsDriven, IsIdle, IsBalanced, IsBalancedAfter, IsWithin}
+use Rattle.rsx_pipe.specs.Part.{PartStands, IsPutOut, IsRootSent, IsMade, IsMoved, IsMovedBy, IsPumped, IsQuiet, IsAwake, IsDelivered, IsServed, IsSpent, HasEnded, IsAsk, IsSend, IsEffect, GoesOut, all_edges, sent_at, ask_enabled, send_enabled, move_enabled, has_room, number_of, evaluated, pump_allocates}
+use Rattle.rsx_pipe.specs.Tree.{AnyTree, comes_out, notes_of, offers, edges, edges_after, can_ask, can_send, can_go, want_at, want_in, front_at, front_in, ended_at, IsAllClosed, IsKept, IsLetGo, IsAdvanced, IsAskedAt, IsSentAt, IsChosen, IsDriven, IsIdle, IsBalanced, IsBalancedAfter, IsWithin, pop_allocates}
 use Rattle.rsx_tree.specs.declared.edge.Edge.{Edge}
 use Rattle.rsx_tree.specs.declared.edge.EdgeState.{EdgeState}
 use Rattle.rsx_tree.specs.declared.edge.EdgeState.TheVariants.{Live, Closed, Ended}
@@ -32,6 +32,8 @@ use Rattle.rsx_pipe.specs.declared.part.Pumped.{Pumped}
 use Rattle.rsx_pipe.specs.declared.part.Pumped.TheVariants.{Idle, Budget}
 use Rattle.rsx_node.specs.Any.{any_machine}
 use Rattle.rsx_tree.specs.Stepped.{station}
+use Rattle.rsx_tree.specs.Allocates.{node_allocates}
+use Rattle.rsx_tree.proofs.Alike.{driven_alike, or_left}
 use Rattle.rsx_tree.proofs.Drives.{chosen_run}
 use Rattle.rsx_tree.proofs.Effects.{length_edges}
 use Rattle.rsx_tree.proofs.Noted.{kept_chosen}
@@ -208,7 +210,7 @@ moved_on {T} m (suc n) k a b c q q' q'' ds es x y =
     subst R more (x.0, x.1, x.2, x.3 ++ es, x.4, moved_on m n k x.0 b c x.2 q' q'' x.3 es x.5 y, ap (λ l. l ++ es) x.6 ∙ append_assoc x.1 x.3 es)
 
 pub pumped_none : {T : Type 0} (m : Meaning T) (part : Part T) (queue : List (Signal T)) → IsPumped m 0 part queue part queue
-pumped_none m part queue = record { out = []; queued = sym (append-nil queue); moves = (refl, refl, refl); stands = put_out_none m part; asked = refl; unclosed = λ h. h }
+pumped_none m part queue = record { out = []; queued = sym (append-nil queue); moves = (refl, refl, refl); stands = put_out_none m part; asked = refl; unclosed = λ h. h; alike = λ a. refl }
 
 pub pumped_on : {T : Type 0} (m : Meaning T) (n k : ℕ) (a b c : Part T) (q q' q'' : List (Signal T)) → IsPumped m n a q b q' → IsPumped m k b q' c q'' → IsPumped m (n + k) a q c q''
 pumped_on m n k a b c q q' q'' x y = record {
@@ -218,6 +220,7 @@ pumped_on m n k a b c q q' q'' x y = record {
   stands = put_out_on m a b c x.out y.out x.stands y.stands;
   asked = y.asked ∙ x.asked;
   unclosed = λ h. y.unclosed (x.unclosed h);
+  alike = λ p. y.alike p ∙ x.alike p;
 }
 
 -- ---- one move
@@ -279,6 +282,7 @@ pumped_root m old new queue queue' k = record {
   stands = put_out_sent m old new queue queue' k;
   asked = root_asked m old new queue queue' k;
   unclosed = λ _. root_unclosed m old new queue queue' k;
+  alike = k.gone.alike;
 }
 
 pub moved_below : {T : Type 0} (m : Meaning T) (old : Part T) (tree : AnyTree T) (queue : List (Signal T)) → IsAdvanced m old.tree old.root.demand.asked old.root.demand.sent tree → IsMoved m old queue [] (record { tree = tree; root = old.root }) queue
@@ -402,7 +406,14 @@ pumped_driven m n old tree queue d balance = record {
   stands = driven_put_out m n old.root old.tree tree d balance;
   asked = refl;
   unclosed = λ h. h;
+  alike = driven_alike any_machine m true n old.tree old.root.demand.asked old.root.demand.sent tree d;
 }
+
+-- ---- no want of memory
+
+-- the root's signal is taken out without
+pub root_free : {T : Type 0} (a : Allocates) (part : Part T) → pump_allocates a part ≡ false → pop_allocates a part.tree ≡ false
+root_free a part free = or_left (pop_allocates a part.tree) _ (or_left (node_allocates any_machine a part.tree.machine) _ free)
 
 -- ---- where no move is enabled
 

@@ -17,7 +17,7 @@ use Rattle.rsx_sources.specs.Machine.{front_of}
 use Rattle.rsx_sources.specs.declared.machine.Front.{Front}
 use Rattle.rsx_tree.specs.Edges.{edge_view, EdgeView, can_pass, IsPassed, passed, changed_at, asked_up_to}
 use Rattle.rsx_pipe.specs.Output.{items_in, IsUnended, IsOrderly, values_then}
-use Rattle.rsx_pipe.specs.Tree.{comes_out, notes_of, offers, can_ask, can_send, can_go, IsAllClosed, IsLetGo, edges, edges_after, want_at, front_at, ended_at, pop_allocates, send_allocates, IsBalanced, IsWithin}
+use Rattle.rsx_pipe.specs.Tree.{comes_out, notes_of, offers, can_ask, can_send, can_go, IsAllClosed, IsLetGo, edges, edges_after, want_at, front_at, ended_at, pop_allocates, send_allocates, tree_allocates, IsAlike, IsBalanced, IsWithin}
 use Rattle.rsx_tree.specs.declared.edge.EdgeState.TheVariants.{Live, Closed, Ended}
 use Rattle.rsx_pipe.specs.declared.part.Part.{Part}
 use Rattle.rsx_pipe.specs.declared.part.Pumped.{Pumped}
@@ -77,6 +77,11 @@ abbrev pub make_allocates : {T : Type 0} → Allocates → Part T → Move → B
 make_allocates a part (Ask t n) = false
 make_allocates a part (Send t n) = if nat_eq n.0 0 then pop_allocates a part.tree else send_allocates a part.tree (n.0 - 1)
 make_allocates a part (Take t n) = false
+
+-- whether some move of the part may: what a node does for it may allocate. Of the caller's functions, `Allocates` says which
+-- may.
+abbrev pub pump_allocates : {T : Type 0} → Allocates → Part T → Bool
+pump_allocates a part = tree_allocates a part.tree
 
 -- the tree in which a move is made
 abbrev pub tree_of : Move → Tree
@@ -183,6 +188,8 @@ pub record IsPumped {T : Type 0} (m : Meaning T) (count : ℕ) (old : Part T) (q
   -- what was asked, and that its root edge is open, stays
   pub asked : new.root.demand.asked ≡ old.root.demand.asked
   pub unclosed : (old.root.state ≡ Closed → ⊥) → new.root.state ≡ Closed → ⊥
+  -- and so does whether a move may allocate
+  pub alike : IsAlike old.tree new.tree
 
 -- no move of a part that has a number is enabled
 abbrev pub IsQuiet : {T : Type 0} → Meaning T → Part T → List (Signal T) → Type 0

@@ -8,6 +8,7 @@ use Rattle.rsx_sources.specs.Machine.{front_of}
 use Rattle.rsx_sources.specs.declared.machine.Front.{Front}
 use Rattle.rsx_node.specs.Any.{any_machine, any_pop_allocates}
 use Rattle.rsx_node.specs.declared.any_node.AnyNode.{AnyNode}
+use Rattle.rsx_tree.specs.Allocates as Calls
 use Rattle.rsx_tree.specs.Balance as Counts
 use Rattle.rsx_tree.specs.Chosen as Choices
 use Rattle.rsx_tree.specs.Driven as Runs
@@ -52,6 +53,14 @@ pop_allocates a t = any_pop_allocates a t.machine
 
 abbrev pub send_allocates : {T : Type 0} → Allocates → AnyTree T → ℕ → Bool
 send_allocates a t at = Whole.send_allocates any_machine a t at
+
+-- whether some call of a node of the tree may
+abbrev pub tree_allocates : {T : Type 0} → Allocates → AnyTree T → Bool
+tree_allocates a t = Calls.tree_allocates any_machine a t
+
+-- where no call of a tree's nodes may, none may later, whatever the caller's functions
+abbrev pub IsAlike : {T : Type 0} → AnyTree T → AnyTree T → Type 0
+IsAlike old new = Calls.IsAlike any_machine old new
 
 -- what the receiver of the edge `at` wants, where there is one
 abbrev pub want_in : {T : Type 0} → Option (Place (AnyNode T)) → ℕ

@@ -34,7 +34,7 @@ pub struct Part<T> {
 }
 
 impl<T: Drop> Part<T> {
-    ghost use Rattle.std.specs.Prelude.{◌≡◌, ◌<◌, ◌+◌, ◌^◌, ℕ, List, [], ◌∷◌, Option, Some, None, true, false, OnOk, OnErr, IfOk, IfErr, IfSome, IfNone, map};
+    ghost use Rattle.std.specs.Prelude.{◌≡◌, ◌<◌, ◌+◌, ◌^◌, ℕ, List, [], ◌∷◌, Option, Some, None, true, false, OnOk, OnErr, IfOk, IfErr, IsOk, IfSome, IfNone, map};
     ghost use Rattle.rsx_demand.specs.Demand.{saturating_total};
     ghost use Rattle.rsx_model.specs.Check.{first_fault};
     ghost use Rattle.rsx_types.specs.Meaning.{Meaning};
@@ -46,7 +46,7 @@ impl<T: Drop> Part<T> {
     ghost use Rattle.rsx_pipe.specs.Tree.{comes_out, notes_of, can_send, pop_allocates, send_allocates, IsAllClosed};
     ghost use Rattle.rsx_tree.specs.Driven.{Spent};
     ghost use Rattle.rsx_pipe.specs.Fetched.{IsFetched};
-    ghost use Rattle.rsx_pipe.specs.Part.{PartStands, IsPutOut, IsMade, IsPumped, IsQuiet, IsAwake, IsSpent, IsRootSent, HasEnded, IsDelivered, make_allocates, number_of, all_edges, move_enabled, tree_of, ask_enabled, send_enabled, IsAsk, IsSend};
+    ghost use Rattle.rsx_pipe.specs.Part.{pump_allocates, PartStands, IsPutOut, IsMade, IsPumped, IsQuiet, IsAwake, IsSpent, IsRootSent, HasEnded, IsDelivered, make_allocates, number_of, all_edges, move_enabled, tree_of, ask_enabled, send_enabled, IsAsk, IsSend};
 
     /// The part of an expression that `check_expr` accepts, before anything was asked of it.
     ///
@@ -304,7 +304,9 @@ impl<T: Drop> Part<T> {
     /// root edge isn't enabled.
     ///
     /// # Errors
-    /// [`NoMemory`] where a growth was refused; the moves made before stand.
+    /// [`NoMemory`] where a growth was refused; the moves made before stand. It comes only where some node of the tree may
+    /// allocate: a `buffer` or a `distinct`, or a node that calls a function of the caller's whose [`Ops`] says that it may
+    /// (`allocates`).
     pub fn pump<O: Ops<Item = T>>(
         &mut self,
         alloc: Global,
@@ -316,6 +318,9 @@ impl<T: Drop> Part<T> {
 
         // Idle means delivered.
         ensures served { IfOk result (λ p. (left : ℕ) → p ≡ Pumped.Idle left → IsDelivered (O.meaning ops.now) self.new out.new) }
+
+        // Where no move may allocate, there is no want of memory.
+        ensures memory { pump_allocates (O.allocates ops.now) self.old ≡ false → IsOk result }
     {
         let mut left = budget;
         for round in 0..budget {
@@ -346,6 +351,7 @@ impl<T: Drop> Part<T> {
         requires { 0 < budget }
         ensures pumped { (n : ℕ) × Spent budget n result × IsPumped (O.meaning ops.now) n self.old out.old self.new out.new }
         ensures idle { IfOk result (λ left. left ≡ budget → IsQuiet (O.meaning ops.now) self.new out.new) }
+        ensures memory { pump_allocates (O.allocates ops.now) self.old ≡ false → IsOk result }
     {
         match self.send_root(alloc, ops, out) {
             Ok(()) => Ok(budget - 1),

@@ -22,8 +22,8 @@ use Rattle.rsx_operators.specs.declared.state.PlainState.{PlainState}
 use Rattle.rsx_operators.specs.declared.state.PlainState.TheVariants.{Map as MapFrom, Filter as FilterFrom, Take as TakeFrom, Scan as ScanFrom, Buffer as BufferFrom, Distinct as DistinctFrom}
 
 -- what leaves the slot leaves what may allocate as it is
-pub plain_popped_alike : {T : Type 0} (old : PlainNode T) (s : Signal T) (new : PlainNode T) → plain_popped old s new → AllocatesAlike (λ a n. false) plain_allocates old new
-plain_popped_alike old s new h a = (refl, ap (allocates_from a) (sym h.1))
+pub plain_popped_alike : {T : Type 0} (old : PlainNode T) (s : Signal T) (new : PlainNode T) → plain_popped old s new → AllocatesAlike (λ a n. false) plain_allocates (λ a n. false) old new
+plain_popped_alike old s new h a = (refl, ap (allocates_from a) (sym h.1), refl)
 
 -- where an ending stands in the slot, what the operator would give does not come out
 pub ended_slot : {T : Type 0} (slot : List (Signal T)) (v w : Stream T) → true ≡ list_any is_ending slot → signals_then slot v ≡ signals_then slot w

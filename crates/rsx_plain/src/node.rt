@@ -97,6 +97,8 @@ impl<T: Drop> Machine for PlainNode<T> {
 
     ghost signal_allocates = { plain_allocates };
 
+    ghost step_allocates = { λ a n. false };
+
     #[inline]
     fn front(&self) -> Option<Front> {
         match self.slot.front() {

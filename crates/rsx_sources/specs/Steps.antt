@@ -16,8 +16,8 @@ IsPopped comes_out popped w old None new = (w ≡ None) × (new ≡ old)
 IsPopped comes_out popped w old (Some s) new = (w ≡ Some s) × popped old s new × LetsGo comes_out old s new
 
 -- the same calls may allocate
-abbrev pub AllocatesAlike : {S : Type 0} → (Allocates → S → Bool) → (Allocates → S → Bool) → S → S → Type 0
-AllocatesAlike pops signals old new = (a : Allocates) → (pops a new ≡ pops a old) × (signals a new ≡ signals a old)
+abbrev pub AllocatesAlike : {S : Type 0} → (Allocates → S → Bool) → (Allocates → S → Bool) → (Allocates → S → Bool) → S → S → Type 0
+AllocatesAlike pops signals steps old new = (a : Allocates) → (pops a new ≡ pops a old) × (signals a new ≡ signals a old) × (steps a new ≡ steps a old)
 
 -- the signal came back, and the node was busy exactly where it says so
 abbrev pub IsNotTaken : {T : Type 0} → Bool → Signal T → NotTaken T → Type 0

@@ -95,6 +95,8 @@ impl<T: Drop> Machine for ItemsNode<T> {
 
     ghost signal_allocates = { λ a n. false };
 
+    ghost step_allocates = { λ a n. false };
+
     fn front(&self) -> Option<Front> {
         if self.reversed.is_empty() {
             Some(Front::Completion)
@@ -218,7 +220,7 @@ impl<T: Drop> Machine for ItemsNode<T> {
 
     ghost shows = { λ m n. refl };
 
-    ghost popped_alike = { λ old s new h a. (refl, refl) };
+    ghost popped_alike = { λ old s new h a. (refl, refl, refl) };
 
     ghost drops = { λ m n inc other further e. Prim.search rules };
 

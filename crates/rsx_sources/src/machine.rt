@@ -106,6 +106,9 @@ pub trait Machine {
     /// Whether taking a signal in may allocate, where these of the caller's functions may.
     ghost signal_allocates: { Allocates → Self → Bool };
 
+    /// Whether a pick or a row may allocate, where these of the caller's functions may.
+    ghost step_allocates: { Allocates → Self → Bool };
+
     ghost use Rattle.std.specs.Prelude.{◌≡◌, ◌<◌, ◌^◌, OnOk, OnErr, IfOk, IfErr, IfSome, IfNone, IsOk, Some, None, true, false, option_map};
     ghost use Rattle.rsx_types.specs.Notes.{note_then, unchosen};
     ghost use Rattle.rsx_sources.specs.Counts.{CountsIn, CountsOut, CountsStep, CanStep, IsHungry, AreWithin, ends_input};
@@ -130,7 +133,7 @@ pub trait Machine {
         ensures counts { IfOk result (λ s. CountsOut counted ended done self.old s self.new) }
         ensures err { OnErr result (self.new ≡ self.old) }
         ensures memory { pop_allocates (O.allocates ops.now) self.old ≡ false → IsOk result }
-        ensures alike { AllocatesAlike pop_allocates signal_allocates self.old self.new };
+        ensures alike { AllocatesAlike pop_allocates signal_allocates step_allocates self.old self.new };
 
     /// Puts the signal back that was popped last. Then the node is as it was before that.
     fn put_back(&mut self, signal: Signal<Self::Item>)
@@ -159,14 +162,14 @@ pub trait Machine {
         ensures counts { OnOk result (CountsIn counted ended done self.old input signal self.new) }
         ensures err { IfErr result (IsNotTaken (takes self.old input (front_of signal)) signal) }
         ensures memory { signal_allocates (O.allocates ops.now) self.old ≡ false → IfErr result (λ e. e ≡ NotTaken.Busy signal) }
-        ensures alike { AllocatesAlike pop_allocates signal_allocates self.old self.new }
+        ensures alike { AllocatesAlike pop_allocates signal_allocates step_allocates self.old self.new }
         ensures same { OnErr result (self.new ≡ self.old) };
 
     /// Takes the offered item out, as `pop_front` does. Where it answers nothing the node is unchanged, and `pop_front`
     /// tells the rest: that nothing is offered, an ending, or want of memory.
     fn pop_item<O: Ops<Item = Self::Item>>(&mut self, alloc: Global, ops: &O) -> Option<Self::Item>
         ensures some { IfSome result (λ x. IsItemOut (comes_out (O.meaning ops.now)) (waiting (O.meaning ops.now)) popped recorded counted ended done self.old x self.new) }
-        ensures alike { AllocatesAlike pop_allocates signal_allocates self.old self.new }
+        ensures alike { AllocatesAlike pop_allocates signal_allocates step_allocates self.old self.new }
         ensures none { IfNone result (self.new ≡ self.old) };
 
     /// Takes an item of an input in, as `on_signal` does, and takes the item out that the node puts out for it, as
@@ -181,7 +184,7 @@ pub trait Machine {
         item: Self::Item,
     ) -> Passed<Self::Item>
         ensures passed { IsPassed (comes_out (O.meaning ops.now)) (waiting (O.meaning ops.now)) takes popped recorded counted ended done self.old input item result self.new }
-        ensures alike { AllocatesAlike pop_allocates signal_allocates self.old self.new };
+        ensures alike { AllocatesAlike pop_allocates signal_allocates step_allocates self.old self.new };
 
     /// Whether an input can be picked, where `asked` is asked of the node and it sent `sent` items.
     fn can_pick(&self, input: u64, asked: u64, sent: u64) -> bool
@@ -192,7 +195,7 @@ pub trait Machine {
         ensures some { IfSome result (λ i. picks self.now i asked sent ≡ true) }
         ensures none { IfNone result ((i : ℕ) → i < 2 ^ 64 → picks self.now i asked sent ≡ false) };
 
-    /// Picks an input: takes its next signal, and records the choice.
+    /// Picks an input: takes its next signal, and records the choice. Want of memory comes only where `step_allocates`.
     fn on_pick<O: Ops<Item = Self::Item>>(
         &mut self,
         alloc: Global,
@@ -207,14 +210,15 @@ pub trait Machine {
         ensures composes { OnOk result ((further : Note) → note_then (note_then (recorded self.old) (recording self.old input)) further ≡ note_then (recorded self.old) (note_then (recording self.old input) further)) }
         ensures counts { OnOk result (CountsStep counted ended done self.old self.new) }
         ensures err { IfErr result (IsNotMade (picks self.old input asked sent)) }
-        ensures alike { AllocatesAlike pop_allocates signal_allocates self.old self.new }
+        ensures memory { step_allocates (O.allocates ops.now) self.old ≡ false → IfErr result (λ e. e ≡ NotMade.NotEnabled) }
+        ensures alike { AllocatesAlike pop_allocates signal_allocates step_allocates self.old self.new }
         ensures same { OnErr result (self.new ≡ self.old) };
 
     /// Whether a row can be made, where `asked` is asked of the node and it sent `sent` items.
     fn can_row(&self, asked: u64, sent: u64) -> bool
         ensures { result ≡ rows self.now asked sent };
 
-    /// Makes a row of the next item of each input.
+    /// Makes a row of the next item of each input. Want of memory comes only where `step_allocates`.
     fn on_row<O: Ops<Item = Self::Item>>(
         &mut self,
         alloc: Global,
@@ -227,7 +231,8 @@ pub trait Machine {
         ensures recorded { recorded self.new ≡ recorded self.old }
         ensures counts { OnOk result (CountsStep counted ended done self.old self.new) }
         ensures err { IfErr result (IsNotMade (rows self.old asked sent)) }
-        ensures alike { AllocatesAlike pop_allocates signal_allocates self.old self.new }
+        ensures memory { step_allocates (O.allocates ops.now) self.old ≡ false → IfErr result (λ e. e ≡ NotMade.NotEnabled) }
+        ensures alike { AllocatesAlike pop_allocates signal_allocates step_allocates self.old self.new }
         ensures same { OnErr result (self.new ≡ self.old) };
 
     /// What is to be asked of an input in all, where `asked` is asked of the node and it sent `sent` items.
@@ -254,7 +259,7 @@ pub trait Machine {
 
     /// Taking the offered signal out, and putting it back, leaves what may allocate as it is. No call changes that, so of a
     /// node none of whose calls may allocate at the start, none ever may.
-    ghost popped_alike: { (old : Self) (s : Signal Self.Item) (new : Self) → popped old s new → AllocatesAlike pop_allocates signal_allocates old new };
+    ghost popped_alike: { (old : Self) (s : Signal Self.Item) (new : Self) → popped old s new → AllocatesAlike pop_allocates signal_allocates step_allocates old new };
 
     /// What comes in no longer matters to a node that has ended.
     ghost drops: { (m : Meaning Self.Item) (n : Self) (inc other : Incoming Self.Item) (further : Note) → ended n ≡ true → comes_out m n inc further ≡ comes_out m n other further };

@@ -102,6 +102,8 @@ impl<T: Drop> Machine for RangeNode<T> {
 
     ghost signal_allocates = { λ a n. false };
 
+    ghost step_allocates = { λ a n. false };
+
     fn front(&self) -> Option<Front> {
         if self.at < self.count {
             Some(Front::Item)
@@ -235,7 +237,7 @@ impl<T: Drop> Machine for RangeNode<T> {
 
     ghost shows = { range_shows };
 
-    ghost popped_alike = { λ old s new h a. (refl, refl) };
+    ghost popped_alike = { λ old s new h a. (refl, refl, refl) };
 
     ghost drops = { λ m n inc other further e. Prim.search rules };
 

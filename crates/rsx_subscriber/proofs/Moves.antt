@@ -368,7 +368,7 @@ leads_on {S} {D} step (suc n) k a b c ds es x y =
     subst R more (x.0, x.1, x.2 ++ es, x.3, leads_on step n k x.0 b c x.2 es x.4 y, ap (λ l. l ++ es) x.5 ∙ append_assoc (option_to_list x.1) x.2 es)
 
 pub pumped_none : {T : Type 0} (m : Meaning T) (id : SubId) (sub : Subscription T) (o : List (SubId × Signal T)) → IsPumped m id 0 sub o sub o
-pumped_none m id sub o = record { signals = []; output = sym (append-nil o); moves = (refl, refl); stands = λ p q h. h }
+pumped_none m id sub o = record { signals = []; output = sym (append-nil o); moves = (refl, refl); stands = λ p q h. h; alike = λ a. refl }
 
 pub pumped_from : {T : Type 0} (m : Meaning T) (id : SubId) (n : ℕ) (old mid new : Subscription T) (o o' after : List (SubId × Signal T)) → mid ≡ old → o' ≡ o → IsPumped m id n mid o' new after → IsPumped m id n old o new after
 pumped_from {T} m id n old mid new o o' after e f h =
@@ -379,12 +379,17 @@ pumped_from {T} m id n old mid new o o' after e f h =
 pub pumped_same_sub : {T : Type 0} (m : Meaning T) (id : SubId) (old new : Subscription T) (o : List (SubId × Signal T)) → new ≡ old → IsPumped m id 0 old o new o
 pumped_same_sub {T} m id old new o e = let P : Subscription T → Type 0 = λ s. IsPumped m id 0 old o s o in subst P (sym e) (pumped_none m id old o)
 
+-- nothing changed
+pub pumped_still : {T : Type 0} (m : Meaning T) (id : SubId) (old new : Subscription T) (o o' : List (SubId × Signal T)) → new ≡ old → o' ≡ o → IsPumped m id 0 old o new o'
+pumped_still {T} m id old new o o' e f = let P : List (SubId × Signal T) → Type 0 = λ l. IsPumped m id 0 old o new l in subst P (sym f) (pumped_same_sub m id old new o e)
+
 pub pumped_one : {T : Type 0} (m : Meaning T) (id : SubId) (old new : Subscription T) (o o' : List (SubId × Signal T)) (s : Signal T) → o' ≡ o ++ (id, s) ∷ [] → take_enabled old 0 ≡ true → IsTake old s new → ((published : List (Stream T)) (past : Past T) → Stands m published old past → Stands m published new (given s past)) → IsPumped m id 1 old o new o'
 pumped_one m id old new o o' s e can took k = record {
   signals = s ∷ [];
   output = e;
   moves = (new, Some (id, s), [], record { move = Take (Sub id) (record { 0 = 0 }); tree = refl; enabled = can; effect = took; answer = (s, refl) }, (refl, refl), refl);
   stands = k;
+  alike = λ a. ap (Part.pump_allocates a) took.part;
 }
 
 pub given_all-append : {T : Type 0} (a b : List (Signal T)) (p : Past T) → given_all (a ++ b) p ≡ given_all b (given_all a p)
@@ -405,6 +410,7 @@ pumped_more {T} m id n k s1 s2 s3 o1 o2 o3 a b =
       stands = λ published past h.
           let P : Past T → Type 0 = λ p. Stands m published s3 p in
           subst P (sym (given_all-append a.signals b.signals past)) (b.stands published (given_all a.signals past) (a.stands published past h));
+      alike = λ p. b.alike p ∙ a.alike p;
     }
 
 -- ---- the moves of a part
@@ -455,6 +461,7 @@ pumped_part {T} m id n sub w part' queue' o k = record {
   output = sym (append-nil o);
   moves = subst L (same_part sub w) (part_leads m id n sub w sub.part part' sub.queue queue' k.out k.moves);
   stands = λ published past h. by_count n k published past h;
+  alike = k.alike;
 }
   where
     L : Subscription T → Type 0

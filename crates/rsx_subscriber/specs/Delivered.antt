@@ -1,5 +1,5 @@
 -- The signals that a graph delivered.
-use Rattle.std.specs.Prelude.{ℕ, List}
+use Rattle.std.specs.Prelude.{ℕ, ◌≤◌, List, length}
 use Rattle.rsx_types.specs.declared.names.SubId.{SubId}
 use Rattle.rsx_types.specs.declared.signal.Signal.{Signal}
 
@@ -7,3 +7,7 @@ use Rattle.rsx_types.specs.declared.signal.Signal.{Signal}
 pub record Delivered (T : Type 0) : Type 0 where
   pub signals : List (SubId × Signal T)
   pub room : ℕ
+
+-- there is no memory for one signal more
+abbrev pub IsFull : {T : Type 0} → Delivered T → Type 0
+IsFull d = d.room ≤ length d.signals

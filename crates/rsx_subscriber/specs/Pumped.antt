@@ -9,6 +9,7 @@ use Rattle.rsx_types.specs.declared.names.Tree.TheVariants.{Sub}
 use Rattle.rsx_types.specs.declared.signal.Signal.{Signal}
 pub use Rattle.rsx_tree.specs.Driven.{Spent}
 use Rattle.rsx_pipe.specs.Part.{tree_of}
+use Rattle.rsx_pipe.specs.Tree.{IsAlike}
 use Rattle.rsx_pipe.specs.declared.part.Pumped.{Pumped as Rest}
 use Rattle.rsx_pipe.specs.declared.part.Pumped.TheVariants.{Idle as Rests, Budget as Wakes}
 use Rattle.rsx_subscriber.specs.declared.subscription.Subscription.{Subscription}
@@ -48,6 +49,8 @@ pub record IsPumped {T : Type 0} (m : Meaning T) (id : SubId) (count : ℕ) (old
   pub output : after ≡ before ++ to id signals
   pub moves : Leads (IsMoved m id) count old (to id signals) new
   pub stands : (published : List (Stream T)) (past : Past T) → Stands m published old past → Stands m published new (given_all signals past)
+  -- whether a move of its part may allocate stays
+  pub alike : IsAlike old.part.tree new.part.tree
 
 -- how many moves were made, where the answer is whether one was
 abbrev pub moves_of : {E : Type 0} → Result Bool E → ℕ

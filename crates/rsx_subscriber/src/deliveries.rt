@@ -1,6 +1,7 @@
 //! The signals that a graph delivered.
 
-ghost use Rattle.std.specs.Prelude.{◌≡◌, ◌∷◌, ◌++◌, [], ◌<◌, ◌≤◌, length, OnOk, OnErr};
+ghost use Rattle.std.specs.Prelude.{◌≡◌, ◌∷◌, ◌++◌, [], ◌<◌, length, OnOk, OnErr};
+ghost use Rattle.rsx_subscriber.specs.Delivered.{IsFull};
 
 use rsx_types::{NoMemory, Signal, SubId};
 use std::alloc::Global;
@@ -65,11 +66,12 @@ impl<T: Drop> Deliveries<T> {
     /// Makes room for one signal more. Where there is room already it takes no memory.
     ///
     /// # Errors
-    /// [`NoMemory`] where a growth was refused: there was no room. The signals stay.
+    /// [`NoMemory`] where a growth was refused: there was no room. The list is as it was.
     pub fn reserve(&mut self) -> Result<(), NoMemory>
         ensures signals { self.new.signals ≡ self.old.signals }
         ensures room { OnOk result (length self.new.signals < self.new.room) }
-        ensures full { OnErr result (self.old.room ≤ length self.old.signals) }
+        ensures full { OnErr result (IsFull self.old) }
+        ensures same { OnErr result (self.new ≡ self.old) }
     {
         self.signals.reserve(1)?;
         Ok(())

@@ -37,7 +37,7 @@ pub struct Subscription<T> {
 }
 
 impl<T: Drop> Subscription<T> {
-    ghost use Rattle.std.specs.Prelude.{◌≡◌, ◌<◌, ◌+◌, ℕ, [], List, OnOk, OnErr, IfOk, IfErr, IfSome, OnSome, IfNone, Some, None, true, false, map, option_map};
+    ghost use Rattle.std.specs.Prelude.{◌≡◌, ◌<◌, ◌+◌, ℕ, [], List, OnOk, OnErr, IfOk, IfErr, IsOk, IfSome, OnSome, IfNone, Some, None, true, false, map, option_map};
     ghost use Rattle.rsx_types.specs.Meaning.{Meaning};
     ghost use Rattle.rsx_types.specs.Notes.{unchosen};
     ghost use Rattle.rsx_types.specs.Stream.{Stream};
@@ -46,11 +46,12 @@ impl<T: Drop> Subscription<T> {
     ghost use Rattle.rsx_types.specs.declared.names.SubId.{SubId};
     ghost use Rattle.rsx_types.specs.declared.signal.Signal.{Signal};
     ghost use Rattle.rsx_tree.specs.Edges.{closed_view};
-    ghost use Rattle.rsx_pipe.specs.Part.{all_edges, HasEnded, IsPutOut, make_allocates, move_enabled};
+    ghost use Rattle.rsx_pipe.specs.Part.{all_edges, HasEnded, IsPutOut, make_allocates, move_enabled, pump_allocates};
     ghost use Rattle.rsx_pipe.specs.Tree.{notes_of, IsAllClosed};
     ghost use Rattle.rsx_subscriber.specs.Past.{Past, subscribed, cancelled, requested, given, request_answer};
     ghost use Rattle.rsx_subscriber.specs.Stands.{Stands, standing_of, owed_from, take_enabled, IsWorked, IsTake};
     ghost use Rattle.rsx_subscriber.specs.Begun.{IsFresh};
+    ghost use Rattle.rsx_subscriber.specs.Delivered.{IsFull};
     ghost use Rattle.rsx_subscriber.specs.Edited.{IsRequested, IsCancelled};
     ghost use Rattle.rsx_subscriber.specs.Pumped.{IsPumped, HasRested, IsRest, IsQuiet, IsAwake, Spent, moves_of};
 
@@ -218,6 +219,7 @@ impl<T: Drop> Subscription<T> {
         ensures pumped { (m : Meaning T) → IsPumped m id (moves_of result) self.old out.old.signals self.new out.new.signals }
         ensures none { IfOk result (λ b. b ≡ false → (self.new ≡ self.old) × (out.new.signals ≡ out.old.signals) × (take_enabled self.old 0 ≡ false)) }
         ensures part { self.new.part ≡ self.old.part }
+        ensures full { OnErr result (IsFull out.new) }
     {
         if self.queue.len() == 0 {
             return Ok(false);
@@ -238,6 +240,7 @@ impl<T: Drop> Subscription<T> {
         ensures pumped { (m : Meaning T) → (n : ℕ) × Spent budget n result × IsPumped m id n self.old out.old.signals self.new out.new.signals }
         ensures none { IfOk result (λ left. left ≡ budget → self.new ≡ self.old) }
         ensures rest { IfOk result (λ left. 0 < left → take_enabled self.new 0 ≡ false) }
+        ensures full { OnErr result (IsFull out.new) }
     {
         for made in 0..budget {
             match self.advance_queue(id, out) {
@@ -258,6 +261,7 @@ impl<T: Drop> Subscription<T> {
         budget: u32,
     ) -> Result<Pumped, NoMemory>
         ensures pumped { (n : ℕ) × HasEnded (O.meaning ops.now) budget n self.new.part self.new.queue result × ((o : List (SubId × Signal T)) → IsPumped (O.meaning ops.now) id n self.old o self.new o) }
+        ensures memory { pump_allocates (O.allocates ops.now) self.old.part ≡ false → IsOk result }
     {
         match self.part.pump(alloc, ops, budget, &mut self.queue) {
             Ok(ended) => Ok(ended),
@@ -279,6 +283,7 @@ impl<T: Drop> Subscription<T> {
         requires { self.old.queue ≡ [] }
         ensures pumped { (n : ℕ) × (n + left.new ≡ left.old) × IsPumped (O.meaning ops.now) id n self.old out.old.signals self.new out.new.signals }
         ensures delivered { IfOk result (λ b. b ≡ true → (self.new.queue ≡ []) × (left.new < left.old)) }
+        ensures full { OnErr result (IsFull out.new) }
     {
         // The step is made on copies, so that one that delivers nothing changes nothing.
         let mut state_behind = self.state;
@@ -319,6 +324,7 @@ impl<T: Drop> Subscription<T> {
         out: &mut Deliveries<T>,
     ) -> Result<u32, NoMemory>
         ensures pumped { (n : ℕ) × Spent budget n result × IsPumped (O.meaning ops.now) id n self.old out.old.signals self.new out.new.signals }
+        ensures full { OnErr result (IsFull out.new) }
     {
         if self.queue.len() > 0 {
             return Ok(budget);
@@ -336,6 +342,10 @@ impl<T: Drop> Subscription<T> {
 
     /// Makes enabled moves until none is enabled (Idle) or `budget` moves were made (Budget); where both hold it answers
     /// Idle. A signal that is delivered is put into `out`.
+    ///
+    /// # Errors
+    /// [`NoMemory`] where a growth was refused; the moves made before stand, and their deliveries are in `out`. It comes only
+    /// where some node of the tree may allocate, as [`Part::pump`] says, or where `out` has no room for one signal more.
     pub fn pump<O: Ops<Item = T>>(
         &mut self,
         alloc: Global,
@@ -345,6 +355,7 @@ impl<T: Drop> Subscription<T> {
         out: &mut Deliveries<T>,
     ) -> Result<Pumped, NoMemory>
         ensures pumped { (n : ℕ) × HasRested (O.meaning ops.now) budget n self.new result × IsPumped (O.meaning ops.now) id n self.old out.old.signals self.new out.new.signals }
+        ensures memory { pump_allocates (O.allocates ops.now) self.old.part ≡ false → OnErr result (IsFull out.new) }
     {
         let behind = match self.deliver(id, budget, out) {
             Ok(left) => left,
@@ -373,6 +384,7 @@ impl<T: Drop> Subscription<T> {
         out: &mut Deliveries<T>,
     ) -> Result<Pumped, NoMemory>
         ensures pumped { (n : ℕ) × HasRested (O.meaning ops.now) budget n self.new result × IsPumped (O.meaning ops.now) id n self.old out.old.signals self.new out.new.signals }
+        ensures memory { pump_allocates (O.allocates ops.now) self.old.part ≡ false → OnErr result (IsFull out.new) }
     {
         let mut left = budget;
         for round in 0..budget {

@@ -1,5 +1,5 @@
 -- Runs of moves: how they are put together.
-use Rattle.std.proofs.Common.{◌^◌, ◌||◌, ◌≡◌, ◌⊎◌, inl, inr, ℕ, zero, suc, ◌+◌, ◌-◌, ◌<◌, ◌≤◌, Bool, true, false, ◌&&◌, nat_eq, nat_le, if◌then◌else◌, refl, ap, sym, ◌∙◌, subst, arith, Option, Some, None, Box, Global}
+use Rattle.std.proofs.Common.{◌^◌, ◌||◌, ◌≡◌, ◌⊎◌, inl, inr, ℕ, zero, suc, ◌+◌, ◌-◌, ◌<◌, ◌≤◌, Bool, true, false, ◌&&◌, nat_eq, nat_le, if◌then◌else◌, refl, ap, sym, ◌∙◌, subst, arith, Option}
 use Rattle.std.proofs.lemmas.Bool.Decides.{nat_tests}
 use Rattle.std.specs.Box.{with_value}
 use Rattle.rsx_types.specs.Meaning.{Meaning}
@@ -8,12 +8,12 @@ use Rattle.rsx_tree.specs.declared.edge.Edge.{Edge}
 use Rattle.rsx_tree.specs.declared.inputs.Inputs.{Inputs, End, More'}
 use Rattle.rsx_tree.specs.declared.inputs.Inputs.TheViews.{More}
 use Rattle.rsx_tree.specs.declared.node.Node.{Node}
-use Rattle.rsx_tree.specs.Edges.{EdgeView, edge_view, can_ask_for}
-use Rattle.rsx_tree.specs.Inputs.{size, is_own, place, Place, closed_row_if, can_send_over, can_ask_in, can_send_in}
+use Rattle.rsx_tree.specs.Edges.{EdgeView}
+use Rattle.rsx_tree.specs.Inputs.{size, is_own, place, Place, closed_row_if, can_ask_in, can_send_in}
 use Rattle.rsx_tree.specs.Changed.{Change, IsChanged, IsAskedOver, IsSentOver, Hold}
 use Rattle.rsx_tree.specs.Stepped.{IsStepped, IsStepOf, IsStepOver, Step, Station, IsPickedHere, IsRowMadeHere, IsStill, station}
 use Rattle.rsx_tree.specs.Tree.{IsKept}
-use Rattle.rsx_tree.specs.Driven.{IsMade, IsAskMade, IsSendMade, IsStepMade, IsRowRun, IsRowEnded, IsRowDriven, IsRowIdle, IsRestAt, IsRestOver, IsDriven, IsAdvanced, IsIdle}
+use Rattle.rsx_tree.specs.Driven.{IsMade, IsRowRun, IsRowEnded, IsRowDriven, IsRowIdle, IsRestAt, IsRestOver, IsDriven, IsAdvanced, IsIdle}
 use Rattle.rsx_types.specs.Notes.{note_then}
 use Rattle.rsx_tree.specs.declared.edge.EdgeState.TheVariants.{Live}
 use Rattle.rsx_tree.specs.Chosen.{IsChosen}
@@ -21,9 +21,10 @@ use Rattle.rsx_tree.proofs.Noted.{pick_notes, row_notes, step_noted, picked_note
 use Rattle.rsx_tree.proofs.Trees.{node, kept_asked, can_asked, asked_effect, kept_sent, can_sent, sent_effect}
 use Rattle.rsx_tree.specs.Balance.{IsBalanced}
 use Rattle.rsx_tree.proofs.Balances.{tree_ask_balanced, tree_send_balanced}
+use Rattle.rsx_tree.proofs.Alike.{closed_alike, made_alike}
 use Rattle.rsx_tree.proofs.Rows.{size_sent}
 use Rattle.rsx_tree.proofs.Effects.{row_asked}
-use Rattle.rsx_tree.proofs.Changes.{Rest, chosen_first, chosen_second, not_zero, is_within, is_beyond, changed_here}
+use Rattle.rsx_tree.proofs.Changes.{Rest, chosen_first, chosen_second, not_zero, is_within, is_beyond}
 
 -- so much of a budget is left in a run of moves of a row that has led to this receiver and this row
 pub record IsUnderWay {M T : Type 0} (b : Machine M T) (m : Meaning T) (steps : Bool) (i asked sent budget : ℕ) (r : M) (t : Inputs M) (left : ℕ) (r' : M) (t' : Inputs M) : Type 0 where
@@ -478,6 +479,7 @@ advanced {M} b m steps r r' asked sent at ends t mid h = elim h [
         kept = λ _. kept;
         chosen = kept_chosen b m (node r t) (node r mid) kept;
         balance = λ s k. tree_ask_balanced b r asked sent t at mid s made k;
+        alike = λ a. made_alike b m steps r 0 asked sent t at false r mid (inl (record { made = made; stays = refl })) a;
       }))
   | inr y ↦ elim y [
     | inl x ↦
@@ -488,6 +490,7 @@ advanced {M} b m steps r r' asked sent at ends t mid h = elim h [
           kept = λ _. kept;
           chosen = kept_chosen b m (node r t) (node r' (closed_row_if ends mid)) kept;
           balance = λ s k. tree_send_balanced b m r r' 0 0 t at mid (closed_row_if ends mid) s (x.made 0 0) (ap (λ c. closed_row_if c mid) x.ends_is) k;
+          alike = λ a. closed_alike b a r' ends mid ∙ made_alike b m steps r 0 asked sent t at ends r' mid (inr (inl x)) a;
         }
     | inr z ↦
         let C : Bool → Type 0 = λ c. IsAdvanced b m steps (node r t) asked sent (node r' (closed_row_if c mid)) in
@@ -499,6 +502,7 @@ advanced {M} b m steps r r' asked sent at ends t mid h = elim h [
           kept = λ f. absurd (never steps z.0 f);
           chosen = both.0;
           balance = both.1;
+          alike = λ a. made_alike b m steps r 0 asked sent t at false r mid (inr (inr (z.0, record { made = z.1.made; receiver = refl; stays = refl }))) a;
         }))
   ]
 ]
@@ -557,6 +561,7 @@ any_moves {M} b m (suc k) x y asked sent h = (
     kept = λ f. absurd (never (sym f));
     chosen = h.1.chosen;
     balance = h.1.balance;
+    alike = h.1.alike;
   },
   any_moves b m k h.0 y asked sent h.2,
 )

@@ -13,10 +13,12 @@ use Rattle.rsx_tree.specs.declared.inputs.Inputs.{Inputs}
 use Rattle.rsx_tree.specs.declared.inputs.Inputs.TheViews.{More}
 use Rattle.rsx_tree.specs.Edges.{edge_view, can_pass, passed}
 use Rattle.rsx_tree.specs.Inputs.{size, can_go}
+use Rattle.rsx_tree.specs.Allocates.{IsNodeAlike}
 use Rattle.rsx_tree.specs.Changed.{IsSentOver}
 use Rattle.rsx_tree.specs.Driven.{IsRowRun}
 use Rattle.rsx_tree.specs.Fetched.{IsOut, IsHanded, IsRowFetched, IsLed, IsFetched}
 use Rattle.rsx_tree.specs.Tree.{IsLetGo}
+use Rattle.rsx_tree.proofs.Alike.{driven_alike}
 use Rattle.rsx_tree.proofs.Changes.{Rest}
 use Rattle.rsx_tree.proofs.Drives.{IsUnderWay, under_way_below, under_way_sent, tree_run, kept_run, balance_run, size_run}
 use Rattle.rsx_tree.proofs.Trees.{node, popped_tree}
@@ -24,19 +26,21 @@ use Rattle.rsx_tree.proofs.Trees.{node, popped_tree}
 -- ---- one edge
 
 -- an item that a sender let go and its receiver took in went over the edge between them
-pub sent_over : {M T : Type 0} (b : Machine M T) (m : Meaning T) (r : M) (i : ℕ) (e : Edge) (n r' : M) (e' : Edge) (n' : M) (x : T) → IsOut b m n x n' → IsTakenIn (b.comes_out m) b.takes b.recorded b.counted b.ended b.done r i (Next x) r' →
+pub sent_over : {M T : Type 0} (b : Machine M T) (m : Meaning T) (r : M) (i : ℕ) (e : Edge) (n r' : M) (e' : Edge) (n' : M) (x : T) → IsOut b m n x n' → IsTakenIn (b.comes_out m) b.takes b.recorded b.counted b.ended b.done r i (Next x) r' → IsNodeAlike b r r' →
     can_pass (edge_view e) AnItem ≡ true → edge_view e' ≡ passed (edge_view e) AnItem → (asked sent : ℕ) → IsSentOver b m r i asked sent e n r' e' n'
-sent_over b m r i e n r' e' n' x out taken can carried asked sent = record {
+sent_over b m r i e n r' e' n' x out taken alike can carried asked sent = record {
   signal = Next x;
-  can = ap (λ o. can_go (b.takes r i) (edge_view e) (option_map front_of o)) out.waited ∙ (ap (λ c. c && can_pass (edge_view e) AnItem) taken.enabled ∙ can);
-  offered = out.waited;
-  gone = out.value;
+  can = ap (λ o. can_go (b.takes r i) (edge_view e) (option_map front_of o)) out.0.waited ∙ (ap (λ c. c && can_pass (edge_view e) AnItem) taken.enabled ∙ can);
+  offered = out.0.waited;
+  gone = out.0.value;
   taken = taken.value;
   edge = carried;
   receiver = taken.notes;
-  sender = out.notes;
+  sender = out.0.notes;
   counts_in = taken.counts;
-  counts_out = out.counts;
+  counts_out = out.0.counts;
+  alike_in = alike;
+  alike_out = out.1;
 }
 
 -- ---- the loop over the edge of the first input
@@ -124,10 +128,10 @@ handed_back {M} b m asked sent budget left left' r0 t0 r r' e e' n n' below besi
 led : {M T : Type 0} (b : Machine M T) (m : Meaning T) (k asked sent budget left : ℕ) (r r' : M) (t t' : Inputs M) → k + left ≡ budget → IsRowRun b m false k 0 asked sent r t r' t' → IsLed b m budget (node r t) asked sent left (node r' t')
 led b m k asked sent budget left r r' t t' spent h =
     let run = tree_run b m false k asked sent r r' t t' h in
-    record { count = k; spent = spent; run = run; kept = kept_run b m k (node r t) (node r' t') asked sent run; balance = balance_run b m false k (node r t) (node r' t') asked sent run }
+    record { count = k; spent = spent; run = run; kept = kept_run b m k (node r t) (node r' t') asked sent run; balance = balance_run b m false k (node r t) (node r' t') asked sent run; alike = driven_alike b m false k (node r t) asked sent (node r' t') run }
 
 item_out : {M T : Type 0} (b : Machine M T) (m : Meaning T) (n n' : M) (t : Inputs M) (x : T) → IsOut b m n x n' → IsLetGo b m (node n t) (Next x) (node n' t)
-item_out b m n n' t x h = popped_tree b m n n' t (Some (Next x)) (h.waited, h.popped_out, h.value) h.notes h.counts
+item_out b m n n' t x h = popped_tree b m n n' t (Some (Next x)) (h.0.waited, h.0.popped_out, h.0.value) h.0.notes h.0.counts h.1
 
 -- the root offered an item already
 pub fetched_at_once : {M T : Type 0} (b : Machine M T) (m : Meaning T) (asked sent budget : ℕ) (r r' : M) (t : Inputs M) (x : T) → IsOut b m r x r' → IsFetched b m budget (node r t) asked sent (Some x) budget (node r' t)

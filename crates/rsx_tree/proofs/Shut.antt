@@ -1,17 +1,16 @@
 -- No move goes over an edge that isn't live.
-use Rattle.std.proofs.Common.{◌≡◌, ◌⊎◌, inl, inr, ℕ, ◌+◌, ◌-◌, Bool, true, false, ◌&&◌, nat_eq, nat_le, if◌then◌else◌, List, [], ◌∷◌, ◌++◌, refl, ap, sym, ◌∙◌, Option, Some, None, option_map}
+use Rattle.std.proofs.Common.{◌≡◌, ◌⊎◌, inl, inr, ℕ, ◌+◌, ◌-◌, Bool, true, false, ◌&&◌, nat_eq, nat_le, if◌then◌else◌, List, [], ◌∷◌, ◌++◌, refl, ap, ◌∙◌, Option, Some, None, option_map}
 use Rattle.rsx_types.specs.Meaning.{Meaning}
 use Rattle.rsx_sources.specs.Machine.{front_of}
 use Rattle.rsx_sources.specs.declared.machine.Front.{Front}
 use Rattle.rsx_sources.specs.declared.machine.Front.TheVariants.{Item, Completion, Failure}
 use Rattle.rsx_sources.specs.declared.machine.Machine.{Ghosts as Machine}
-use Rattle.rsx_tree.specs.declared.edge.Edge.{Edge}
 use Rattle.rsx_tree.specs.declared.edge.EdgeState.{EdgeState}
 use Rattle.rsx_tree.specs.declared.edge.EdgeState.TheVariants.{Live, Ended as EdgeEnded, Closed}
 use Rattle.rsx_tree.specs.declared.inputs.Inputs.{Inputs, End, More'}
 use Rattle.rsx_tree.specs.declared.node.Node.{Node}
-use Rattle.rsx_tree.specs.Edges.{EdgeView, edge_view, is_live, can_pass, can_ask_for}
-use Rattle.rsx_tree.specs.Inputs.{Place, place, size, edges, tests, can_go, can_ask_at, can_send_at, can_ask_in, can_send_in}
+use Rattle.rsx_tree.specs.Edges.{EdgeView, is_live, can_pass}
+use Rattle.rsx_tree.specs.Inputs.{Place, place, size, edges, can_go, can_ask_in, can_send_in}
 use Rattle.rsx_tree.specs.Tree.{NoneLive, IsAllClosed, can_ask, can_send}
 use Rattle.rsx_types.specs.Notes.{note_then}
 use Rattle.rsx_tree.specs.Stepped.{Station, station, IsStepped, IsPickedHere, IsRowMadeHere}

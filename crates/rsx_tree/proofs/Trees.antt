@@ -1,8 +1,6 @@
 -- A tree from its root and the row of its inputs.
 use Rattle.std.proofs.Common.{◌≡◌, ℕ, ◌+◌, Bool, true, false, ◌&&◌, List, [], ◌∷◌, ◌++◌, map, refl, ap, sym, ◌∙◌, subst, Option, Some, None, option_map, slice_get}
 use Rattle.rsx_types.specs.Meaning.{Meaning}
-use Rattle.rsx_types.specs.Stream.{Stream}
-use Rattle.rsx_types.specs.declared.note.Note.{Note}
 use Rattle.rsx_types.specs.declared.signal.Signal.{Signal}
 use Rattle.rsx_sources.specs.Counts.{CountsOut}
 use Rattle.rsx_sources.specs.Steps.{IsPopped as IsPoppedHere}
@@ -15,10 +13,12 @@ use Rattle.rsx_tree.specs.declared.inputs.Inputs.{Inputs}
 use Rattle.rsx_tree.specs.declared.inputs.Inputs.TheViews.{More}
 use Rattle.rsx_tree.proofs.Changes.{Rest}
 use Rattle.rsx_tree.specs.declared.node.Node.{Node}
+use Rattle.rsx_tree.specs.Allocates.{IsNodeAlike}
 use Rattle.rsx_tree.specs.Edges.{EdgeView, can_ask_for, closed_if, closed_view, closed_state}
-use Rattle.rsx_tree.specs.Inputs.{Place, place, comes_in, through, out_of, notes_of, edges as edges_in, is_own, closed_row, closed_row_if, can_ask_at, can_ask_in, can_send_at, can_send_in, can_send_over, sent_edges, tests}
+use Rattle.rsx_tree.specs.Inputs.{Place, place, comes_in, through, out_of, notes_of, edges as edges_in, is_own, closed_row, closed_row_if, can_ask_in, can_send_in, can_send_over, sent_edges}
 use Rattle.rsx_tree.specs.Changed.{IsChanged, IsAskedOver, IsSentOver}
-use Rattle.rsx_tree.specs.Tree.{comes_out, notes, IsKept, IsPopped, IsSentAt, IsAskedAt, IsJoined, NoneLive, ended_in}
+use Rattle.rsx_tree.specs.Tree.{IsKept, IsPopped, IsSentAt, IsAskedAt, IsJoined, NoneLive, ended_in}
+use Rattle.rsx_tree.proofs.Alike.{node_alike, over_alike}
 use Rattle.rsx_tree.proofs.Balances.{tree_pop_balanced}
 use Rattle.rsx_tree.proofs.Rows.{out_lets_go, then_same, passed_on, notes_sent, recorded_sent, notes_closed, notes_closed_if, comes_in_closed, comes_in_closed_if}
 use Rattle.rsx_tree.proofs.Effects.{Found, found, row_asked, row_sent, edges_closed_if, ended_closed_if, own_ended, same_close}
@@ -108,12 +108,13 @@ joined t beside e below others a s l b o = record {
 }
 
 -- what the root let go came out of the tree
-pub popped_tree : {M T : Type 0} (b : Machine M T) (m : Meaning T) (n n' : M) (t : Inputs M) (o : Option (Signal T)) → IsPoppedHere (b.comes_out m) b.popped (b.waiting m n) n o n' → b.recorded n' ≡ b.recorded n → CountsOut b.counted b.ended b.done n o n' → IsPopped b m (node n t) o (node n' t)
-popped_tree b m n n' t None h recorded counts = (h.0, ap (λ k. node k t) h.1)
-popped_tree b m n n' t (Some s) h recorded counts = record {
+pub popped_tree : {M T : Type 0} (b : Machine M T) (m : Meaning T) (n n' : M) (t : Inputs M) (o : Option (Signal T)) → IsPoppedHere (b.comes_out m) b.popped (b.waiting m n) n o n' → b.recorded n' ≡ b.recorded n → CountsOut b.counted b.ended b.done n o n' → IsNodeAlike b n n' → IsPopped b m (node n t) o (node n' t)
+popped_tree b m n n' t None h recorded counts alike = (h.0, ap (λ k. node k t) h.1)
+popped_tree b m n n' t (Some s) h recorded counts alike = record {
   offered = h.0;
   popped = (h.1, refl);
   value = λ hubs further at. out_lets_go b m hubs n n' s h.2 (comes_in b m hubs further t (at + 1)) (slice_get further at);
   notes = ap (λ k. k ∷ notes_of b t) recorded;
   balance = λ sent k. tree_pop_balanced b n n' t s sent counts k;
+  alike = λ a. over_alike b a n n' t t (node_alike b n n' alike a) refl;
 }

@@ -1,5 +1,5 @@
 -- How a move changes a row of inputs: one edge and the nodes at its ends, and nothing else.
-use Rattle.std.specs.Prelude.{◌≡◌, ◌⊎◌, Box, ℕ, ◌+◌, ◌-◌, ◌<◌, ◌≤◌, Bool, true, false, ◌&&◌, List, ◌++◌, length, Option, Some, None, option_map}
+use Rattle.std.specs.Prelude.{◌≡◌, ◌⊎◌, Box, ℕ, ◌+◌, ◌-◌, ◌<◌, ◌≤◌, Bool, true, ◌&&◌, List, ◌++◌, length, Some, option_map}
 use Rattle.std.specs.declared.alloc.Global.{Global}
 use Rattle.rsx_types.specs.Meaning.{Meaning}
 use Rattle.rsx_types.specs.Stream.{Stream}
@@ -9,6 +9,7 @@ use Rattle.rsx_sources.specs.Counts.{CountsIn, CountsOut}
 use Rattle.rsx_sources.specs.Machine.{LetsGo, TakesIn, front_of}
 use Rattle.rsx_sources.specs.declared.machine.Machine.{Ghosts as Machine}
 use Rattle.rsx_tree.specs.declared.edge.Edge.{Edge}
+use Rattle.rsx_tree.specs.Allocates.{IsNodeAlike}
 use Rattle.rsx_tree.specs.declared.inputs.Inputs.{Inputs, End, More'}
 use Rattle.rsx_tree.specs.Edges.{edge_view, asked_up_to, passed, can_ask_for}
 use Rattle.rsx_tree.specs.Inputs.{size, is_own, closed_row_if, can_send_over, comes_in, through}
@@ -40,6 +41,8 @@ pub record IsSentOver {M T : Type 0} (b : Machine M T) (m : Meaning T) (r : M) (
   pub sender : b.recorded n' ≡ b.recorded n
   pub counts_in : CountsIn b.counted b.ended b.done r i signal r'
   pub counts_out : CountsOut b.counted b.ended b.done n (Some signal) n'
+  pub alike_in : IsNodeAlike b r r'
+  pub alike_out : IsNodeAlike b n n'
 
 -- the first edge of the row changed
 pub record IsHere {M : Type 0} (P : Change M) (r : M) (i asked sent : ℕ) (e : Edge) (n : M) (p : Hold) (below : Inputs M) (q : Hold) (beside : Inputs M) (at : ℕ) (r' : M) (new : Inputs M) : Type 0 where

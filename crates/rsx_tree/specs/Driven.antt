@@ -1,5 +1,5 @@
 -- Runs of moves, one after the other.
-use Rattle.std.specs.Prelude.{◌≡◌, ◌⊎◌, ℕ, zero, suc, ◌+◌, ◌<◌, ◌≤◌, ◌^◌, Bool, true, false, ◌&&◌, Option, Some, Result, Ok, Err}
+use Rattle.std.specs.Prelude.{◌≡◌, ◌⊎◌, ℕ, zero, suc, ◌+◌, ◌<◌, ◌≤◌, ◌^◌, Bool, true, false, ◌&&◌, Some, Result, Ok, Err}
 use Rattle.rsx_types.specs.Meaning.{Meaning}
 use Rattle.rsx_sources.specs.declared.machine.Machine.{Ghosts as Machine}
 use Rattle.rsx_tree.specs.declared.edge.Edge.{Edge}
@@ -8,6 +8,7 @@ use Rattle.rsx_tree.specs.declared.inputs.Pass.{Pass}
 use Rattle.rsx_tree.specs.declared.node.Node.{Node}
 use Rattle.rsx_tree.specs.Edges.{edge_view, can_ask_for}
 use Rattle.rsx_tree.specs.Inputs.{place, is_own, can_ask_in, can_send_in, can_send_over}
+use Rattle.rsx_tree.specs.Allocates.{IsAlike}
 use Rattle.rsx_tree.specs.Balance.{IsBalanced}
 use Rattle.rsx_tree.specs.Changed.{IsChanged, IsAskedOver, IsSentOver}
 use Rattle.rsx_tree.specs.Chosen.{IsChosen}
@@ -96,6 +97,7 @@ pub record IsAdvanced {M T : Type 0} (b : Machine M T) (m : Meaning T) (steps : 
   pub kept : steps ≡ false → IsKept b m old new
   pub chosen : IsChosen b m old new
   pub balance : (s : ℕ) → IsBalanced b old s → IsBalanced b new s
+  pub alike : IsAlike b old new
 
 -- so many enabled moves lead from the first tree to the second
 abbrev pub IsDriven : {M T : Type 0} → Machine M T → Meaning T → Bool → ℕ → Node M → ℕ → ℕ → Node M → Type 0

@@ -9,14 +9,15 @@ use Rattle.rsx_tree.specs.declared.fetch.Handed.{Handed}
 use Rattle.rsx_tree.specs.declared.fetch.Handed.TheVariants.{Item, Kept, Back}
 use Rattle.rsx_tree.specs.declared.inputs.Inputs.{Inputs}
 use Rattle.rsx_tree.specs.declared.node.Node.{Node}
+use Rattle.rsx_tree.specs.Allocates.{IsAlike, IsNodeAlike}
 use Rattle.rsx_tree.specs.Balance.{IsBalanced}
 use Rattle.rsx_tree.specs.Changed.{IsSentOver}
 use Rattle.rsx_tree.specs.Driven.{IsDriven, IsRowRun}
 use Rattle.rsx_tree.specs.Tree.{IsKept, IsLetGo}
 
--- the item that waited in a node went out of it
+-- the item that waited in a node went out of it, and the same of its calls may allocate
 abbrev pub IsOut : {M T : Type 0} → Machine M T → Meaning T → M → T → M → Type 0
-IsOut b m n x n' = IsItemOut (b.comes_out m) (b.waiting m) b.popped b.recorded b.counted b.ended b.done n x n'
+IsOut b m n x n' = IsItemOut (b.comes_out m) (b.waiting m) b.popped b.recorded b.counted b.ended b.done n x n' × IsNodeAlike b n n'
 
 -- what came of an item that was taken out of the sender `n` of a receiver's first input: it went over the edge, one move of
 -- the budget, and what the receiver put out first went out of it again, or it put out nothing; or the item went back
@@ -41,6 +42,7 @@ pub record IsLed {M T : Type 0} (b : Machine M T) (m : Meaning T) (budget : ℕ)
   pub run : IsDriven b m false count old asked sent new
   pub kept : IsKept b m old new
   pub balance : (s : ℕ) → IsBalanced b old s → IsBalanced b new s
+  pub alike : IsAlike b old new
 
 -- they lead to a tree whose root offers the item, which then went out of it; with no item they are all that was done
 abbrev pub IsFetched : {M T : Type 0} → Machine M T → Meaning T → ℕ → Node M → ℕ → ℕ → Option T → ℕ → Node M → Type 0

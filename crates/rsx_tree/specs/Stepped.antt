@@ -1,11 +1,12 @@
 -- A step of one node: a pick, or a row.
-use Rattle.std.specs.Prelude.{◌≡◌, ◌⊎◌, ℕ, zero, suc, ◌+◌, ◌-◌, ◌<◌, ◌≤◌, ◌^◌, Bool, true, false, ◌&&◌, nat_eq, nat_le, if◌then◌else◌, Option, Some, None}
-use Rattle.rsx_types.specs.Meaning.{Meaning}
+use Rattle.std.specs.Prelude.{◌≡◌, ◌⊎◌, ℕ, zero, suc, ◌-◌, ◌<◌, ◌≤◌, ◌^◌, Bool, true, false, ◌&&◌, nat_eq, nat_le, if◌then◌else◌, Option, Some, None}
+use Rattle.rsx_types.specs.Meaning.{Meaning, Allocates}
 use Rattle.rsx_types.specs.Notes.{note_then}
 use Rattle.rsx_types.specs.declared.note.Note.{Note}
 use Rattle.rsx_sources.specs.Counts.{CountsStep}
 use Rattle.rsx_sources.specs.Machine.{Keeps, Records}
 use Rattle.rsx_sources.specs.declared.machine.Machine.{Ghosts as Machine}
+use Rattle.rsx_tree.specs.Allocates.{IsNodeAlike}
 use Rattle.rsx_tree.specs.declared.edge.Edge.{Edge}
 use Rattle.rsx_tree.specs.declared.edge.EdgeState.{EdgeState}
 use Rattle.rsx_tree.specs.declared.inputs.Inputs.{Inputs, End, More'}
@@ -40,6 +41,10 @@ can_pick_in b i o = tests (λ s. is_live s.state && b.picks s.machine i s.asked 
 abbrev pub can_row_in : {M T : Type 0} → Machine M T → Option (Station M) → Bool
 can_row_in b o = tests (λ s. is_live s.state && b.rows s.machine s.asked s.sent) o
 
+-- whether a step of it may allocate
+abbrev pub step_allocates_in : {M T : Type 0} → Machine M T → Allocates → Option (Station M) → Bool
+step_allocates_in b a o = tests (λ s. b.step_allocates a s.machine) o
+
 -- no step of it is enabled
 abbrev pub IsStill : {M T : Type 0} → Machine M T → Option (Station M) → Type 0
 IsStill b o = ((input : ℕ) → input < 2 ^ 64 → can_pick_in b input o ≡ false) × (can_row_in b o ≡ false)
@@ -55,6 +60,7 @@ pub record IsPickedHere {M T : Type 0} (b : Machine M T) (m : Meaning T) (i : �
   pub recorded : b.recorded n' ≡ note_then (b.recorded n) (b.recording n i)
   pub composes : (k : Note) → note_then (note_then (b.recorded n) (b.recording n i)) k ≡ note_then (b.recorded n) (note_then (b.recording n i) k)
   pub counts : CountsStep b.counted b.ended b.done n n'
+  pub alike : IsNodeAlike b n n'
 
 -- a row
 pub record IsRowMadeHere {M T : Type 0} (b : Machine M T) (m : Meaning T) (n : M) (asked sent : ℕ) (n' : M) : Type 0 where
@@ -62,6 +68,7 @@ pub record IsRowMadeHere {M T : Type 0} (b : Machine M T) (m : Meaning T) (n : M
   pub value : Keeps (b.comes_out m) n n'
   pub recorded : b.recorded n' ≡ b.recorded n
   pub counts : CountsStep b.counted b.ended b.done n n'
+  pub alike : IsNodeAlike b n n'
 
 -- a pick of some input, or a row
 abbrev pub IsStepOf : {M T : Type 0} → Machine M T → Meaning T → Step M

@@ -1,5 +1,5 @@
 -- One tree of nodes: what still comes out of it, what it recorded, and its moves.
-use Rattle.std.specs.Prelude.{◌≡◌, ℕ, ◌+◌, Bool, true, false, ◌&&◌, nat_eq, nat_le, if◌then◌else◌, ◌-◌, List, [], ◌∷◌, map, Option, Some, None, option_map, option_and_then, slice_get}
+use Rattle.std.specs.Prelude.{◌≡◌, ℕ, ◌+◌, Bool, false, ◌&&◌, nat_eq, nat_le, if◌then◌else◌, ◌-◌, List, [], ◌∷◌, Option, Some, None, option_map, slice_get}
 use Rattle.rsx_types.specs.Meaning.{Meaning, Allocates}
 use Rattle.rsx_types.specs.Notes.{unchosen}
 use Rattle.rsx_types.specs.Stream.{Stream, signal_then}
@@ -9,10 +9,10 @@ use Rattle.rsx_sources.specs.Machine.{front_of}
 use Rattle.rsx_sources.specs.declared.machine.Front.{Front}
 use Rattle.rsx_sources.specs.declared.machine.Machine.{Ghosts as Machine}
 use Rattle.rsx_tree.specs.declared.edge.Edge.{Edge}
-use Rattle.rsx_tree.specs.declared.edge.EdgeState.{EdgeState}
 use Rattle.rsx_tree.specs.declared.edge.EdgeState.TheVariants.{Live}
 use Rattle.rsx_tree.specs.declared.inputs.Inputs.{Inputs, End, More'}
 use Rattle.rsx_tree.specs.declared.node.Node.{Node}
+use Rattle.rsx_tree.specs.Allocates.{IsAlike}
 use Rattle.rsx_tree.specs.Balance.{IsBalanced, IsBalancedAfter}
 use Rattle.rsx_tree.specs.Changed.{Hold}
 use Rattle.rsx_tree.specs.Edges.{EdgeView, asked_up_to, changed_at, closed_if}
@@ -64,6 +64,7 @@ pub record IsLetGo {M T : Type 0} (b : Machine M T) (m : Meaning T) (old : Node 
   pub value : (hubs : List (Stream T)) (further : List Note) (at : ℕ) → comes_out b m hubs further old at ≡ option_map (signal_then s) (comes_out b m hubs further new at)
   pub notes : notes b new ≡ notes b old
   pub balance : (sent : ℕ) → IsBalanced b old sent → IsBalancedAfter b s new sent
+  pub alike : IsAlike b old new
 
 -- what was popped is what the root offered; where it offered nothing, the tree is as it was
 abbrev pub IsPopped : {M T : Type 0} → Machine M T → Meaning T → Node M → Option (Signal T) → Node M → Type 0

@@ -1,6 +1,7 @@
 //! The inputs of a node, with all below them.
 
-ghost use Rattle.std.specs.Prelude.{◌≡◌, ℕ, OnOk, OnErr, IfOk, IsOk, IfErr, true, false};
+ghost use Rattle.std.specs.Prelude.{◌≡◌, ◌||◌, ℕ, OnOk, OnErr, IfOk, IsOk, IfErr, true, false};
+ghost use Rattle.rsx_tree.specs.Allocates.{node_allocates};
 ghost use Rattle.rsx_sources.specs.Steps.{IsNotMade};
 ghost use Rattle.rsx_tree.specs.declared.inputs.Inputs.{More'};
 ghost use Rattle.rsx_tree.specs.Edges.{edge_view, can_ask_for};
@@ -50,7 +51,8 @@ impl<M: Machine> Inputs<M> {
     ghost use Rattle.rsx_tree.specs.Inputs.{size, is_own, place, can_ask_in, can_send_in, send_allocates_in, closed_row, closed_row_if, notes_of, IsResidual};
     ghost use Rattle.rsx_tree.specs.Changed.{IsChanged, IsAskedOver, IsSentOver};
     ghost use Rattle.rsx_tree.specs.Driven.{IsRowDriven, IsRowIdle, SpentPass, is_over_in};
-    ghost use Rattle.rsx_tree.specs.Stepped.{IsStepped, IsPickedHere, IsRowMadeHere, can_pick_in, can_row_in, station};
+    ghost use Rattle.rsx_tree.specs.Stepped.{IsStepped, IsPickedHere, IsRowMadeHere, can_pick_in, can_row_in, station, step_allocates_in};
+    ghost use Rattle.rsx_tree.specs.Allocates.{over_allocates};
 
     /// How many nodes there are, but at most `most`.
     pub(crate) fn count_up_to(&self, most: u32) -> u32
@@ -231,6 +233,7 @@ impl<M: Machine> Inputs<M> {
     ) -> Result<(), NotMade>
         ensures made { OnOk result (IsStepped (IsPickedHere M.Machine (O.meaning ops.now) input) M.ended self.old at self.new) }
         ensures err { IfErr result (IsNotMade (can_pick_in M.Machine input (station self.old at))) }
+        ensures memory { step_allocates_in M.Machine (O.allocates ops.now) (station self.old at) ≡ false → IfErr result (λ e. e ≡ NotMade.NotEnabled) }
         ensures same { OnErr result (self.new ≡ self.old) }
     {
         match self {
@@ -266,6 +269,7 @@ impl<M: Machine> Inputs<M> {
     ) -> Result<(), NotMade>
         ensures made { OnOk result (IsStepped (IsRowMadeHere M.Machine (O.meaning ops.now)) M.ended self.old at self.new) }
         ensures err { IfErr result (IsNotMade (can_row_in M.Machine (station self.old at))) }
+        ensures memory { step_allocates_in M.Machine (O.allocates ops.now) (station self.old at) ≡ false → IfErr result (λ e. e ≡ NotMade.NotEnabled) }
         ensures same { OnErr result (self.new ≡ self.old) }
     {
         match self {
@@ -296,7 +300,8 @@ impl<M: Machine> Inputs<M> {
     /// how many of the budget are left. It stops where `receiver` ended by one of them: then its owner closes the row.
     ///
     /// # Errors
-    /// [`NoMemory`] where a growth was refused; the moves made before stand.
+    /// [`NoMemory`] where a growth was refused; the moves made before stand. It comes only where some call of `receiver` or of a
+    /// node of the row may allocate.
     pub fn drive<O: Ops<Item = M::Item>>(
         &mut self,
         alloc: Global,
@@ -309,6 +314,7 @@ impl<M: Machine> Inputs<M> {
     ) -> Result<Pass, NoMemory>
         ensures driven { (n : ℕ) × SpentPass budget n result × IsRowDriven M.Machine (O.meaning ops.now) true n (is_over_in result) input asked sent receiver.old self.old receiver.new self.new }
         ensures idle { IfOk result (λ p. p.left ≡ budget → 0 < budget → IsRowIdle M.Machine (O.meaning ops.now) receiver.new input asked sent self.new) }
+        ensures memory { over_allocates M.Machine (O.allocates ops.now) receiver.old self.old ≡ false → IsOk result }
     {
         match self {
             Inputs::End => Ok(Pass {
@@ -392,6 +398,7 @@ fn advance_over<M: Machine, O: Ops<Item = M::Item>>(
     ensures same { IfOk result (λ a. a ≡ Advance.Neither → (receiver.new ≡ receiver.old) × (edge.new ≡ edge.old) × (sender.new ≡ sender.old) × (below.new ≡ below.old)) }
     ensures err { OnErr result ((receiver.new ≡ receiver.old) × (edge.new ≡ edge.old) × (sender.new ≡ sender.old) × (below.new ≡ below.old)) }
     ensures size { size below.new ≡ size below.old }
+    ensures memory { (node_allocates M.Machine (O.allocates ops.now) receiver.old || node_allocates M.Machine (O.allocates ops.now) sender.old) ≡ false → IsOk result }
 {
     match send_over(alloc, ops, receiver, input, edge, sender) {
         Ok(()) => {

@@ -27,9 +27,10 @@ impl<M: Machine> Node<M> {
     ghost use Rattle.rsx_sources.specs.Machine.{front_of};
     ghost use Rattle.rsx_sources.specs.Steps.{IsNotMade};
     ghost use Rattle.std.specs.Prelude.{◌<◌, ◌+◌, ◌^◌, Some, IfSome, IfNone};
+    ghost use Rattle.rsx_tree.specs.Allocates.{IsAlike, tree_allocates};
     ghost use Rattle.rsx_tree.specs.Driven.{IsDriven, IsIdle, Spent};
     ghost use Rattle.rsx_tree.specs.Edges.{closed_view, edge_view};
-    ghost use Rattle.rsx_tree.specs.Stepped.{IsSteppedAt, IsPickedHere, IsRowMadeHere, IsStill, can_pick_in, can_row_in, station, station_of};
+    ghost use Rattle.rsx_tree.specs.Stepped.{IsSteppedAt, IsPickedHere, IsRowMadeHere, IsStill, can_pick_in, can_row_in, station, station_of, step_allocates_in};
     ghost use Rattle.rsx_tree.specs.Balance.{IsBalanced};
     ghost use Rattle.rsx_tree.specs.Chosen.{IsChosen, IsPickedAt, IsRowAt};
     ghost use Rattle.rsx_tree.specs.Inputs.{closed_row};
@@ -54,6 +55,7 @@ impl<M: Machine> Node<M> {
         ensures ok { IfOk result (λ s. IsPopped M.Machine (O.meaning ops.now) self.old s self.new) }
         ensures err { OnErr result (self.new ≡ self.old) }
         ensures memory { M.pop_allocates (O.allocates ops.now) self.old.machine ≡ false → IsOk result }
+        ensures alike { IsAlike M.Machine self.old self.new }
     {
         match self.machine.pop_front(alloc, ops) {
             Ok(signal) => Ok(signal),
@@ -75,6 +77,7 @@ impl<M: Machine> Node<M> {
         ensures notes { notes M.Machine self.new ≡ notes M.Machine self.old }
         ensures closed { IsAllClosed self.new }
         ensures edges { edges self.new ≡ map closed_view (edges self.old) }
+        ensures alike { IsAlike M.Machine self.old self.new }
     {
         self.inputs.close();
     }
@@ -87,6 +90,7 @@ impl<M: Machine> Node<M> {
         ensures ok { OnOk result (can_ask M.Machine self.old at asked sent ≡ true) }
         ensures effect { OnOk result (IsAskedAt M.Machine self.old at asked sent self.new) }
         ensures balance { (s : ℕ) → IsBalanced M.Machine self.old s → IsBalanced M.Machine self.new s }
+        ensures alike { IsAlike M.Machine self.old self.new }
         ensures err { IfErr result (λ e. (e ≡ NotMade.NotEnabled) × (can_ask M.Machine self.old at asked sent ≡ false)) }
         ensures same { OnErr result (self.new ≡ self.old) }
     {
@@ -109,6 +113,7 @@ impl<M: Machine> Node<M> {
         ensures balance { OnOk result ((s : ℕ) → IsBalanced M.Machine self.old s → IsBalanced M.Machine self.new s) }
         ensures err { IfErr result (IsNotMade (can_send M.Machine (O.meaning ops.now) self.old at)) }
         ensures memory { send_allocates M.Machine (O.allocates ops.now) self.old at ≡ false → IfErr result (λ e. e ≡ NotMade.NotEnabled) }
+        ensures alike { IsAlike M.Machine self.old self.new }
         ensures same { OnErr result (self.new ≡ self.old) }
     {
         match self.inputs.send(alloc, ops, &mut self.machine, 0, at) {
@@ -125,7 +130,8 @@ impl<M: Machine> Node<M> {
     ///
     /// # Errors
     /// [`NotMade::NotEnabled`] exactly where the node's edge isn't live or the node can't pick this input, and
-    /// [`NotMade::NoMemory`] where a growth was refused. Then nothing changed.
+    /// [`NotMade::NoMemory`] where a growth was refused, which comes only where a pick or a row of this node may allocate.
+    /// Then nothing changed.
     pub fn pick<O: Ops<Item = M::Item>>(
         &mut self,
         alloc: Global,
@@ -140,6 +146,8 @@ impl<M: Machine> Node<M> {
         ensures chosen { OnOk result (IsChosen M.Machine (O.meaning ops.now) self.old self.new) }
         ensures balance { OnOk result ((s : ℕ) → IsBalanced M.Machine self.old s → IsBalanced M.Machine self.new s) }
         ensures err { IfErr result (IsNotMade (can_pick_in M.Machine input (station_of self.old (edge_view root.now) at))) }
+        ensures memory { step_allocates_in M.Machine (O.allocates ops.now) (station_of self.old (edge_view root.now) at) ≡ false → IfErr result (λ e. e ≡ NotMade.NotEnabled) }
+        ensures alike { IsAlike M.Machine self.old self.new }
         ensures same { OnErr result (self.new ≡ self.old) }
     {
         if at > 0 {
@@ -159,7 +167,8 @@ impl<M: Machine> Node<M> {
     ///
     /// # Errors
     /// [`NotMade::NotEnabled`] exactly where the node's edge isn't live or the node can't make a row, and
-    /// [`NotMade::NoMemory`] where a growth was refused. Then nothing changed.
+    /// [`NotMade::NoMemory`] where a growth was refused, which comes only where a pick or a row of this node may allocate.
+    /// Then nothing changed.
     pub fn make_row<O: Ops<Item = M::Item>>(
         &mut self,
         alloc: Global,
@@ -173,6 +182,8 @@ impl<M: Machine> Node<M> {
         ensures chosen { OnOk result (IsChosen M.Machine (O.meaning ops.now) self.old self.new) }
         ensures balance { OnOk result ((s : ℕ) → IsBalanced M.Machine self.old s → IsBalanced M.Machine self.new s) }
         ensures err { IfErr result (IsNotMade (can_row_in M.Machine (station_of self.old (edge_view root.now) at))) }
+        ensures memory { step_allocates_in M.Machine (O.allocates ops.now) (station_of self.old (edge_view root.now) at) ≡ false → IfErr result (λ e. e ≡ NotMade.NotEnabled) }
+        ensures alike { IsAlike M.Machine self.old self.new }
         ensures same { OnErr result (self.new ≡ self.old) }
     {
         if at > 0 {
@@ -215,7 +226,8 @@ impl<M: Machine> Node<M> {
     /// up; answers how many of the budget are left. `asked` and `sent` are those of the root's own edge.
     ///
     /// # Errors
-    /// [`NoMemory`] where a growth was refused; the moves made before stand.
+    /// [`NoMemory`] where a growth was refused; the moves made before stand. It comes only where some call of a node of the
+    /// tree may allocate; of those that a function of the caller's makes, its [`Ops`] says which may (`allocates`).
     pub fn drive<O: Ops<Item = M::Item>>(
         &mut self,
         alloc: Global,
@@ -228,6 +240,8 @@ impl<M: Machine> Node<M> {
         ensures chosen { IsChosen M.Machine (O.meaning ops.now) self.old self.new }
         ensures balance { (s : ℕ) → IsBalanced M.Machine self.old s → IsBalanced M.Machine self.new s }
         ensures idle { IfOk result (λ left. 0 < left → IsIdle M.Machine (O.meaning ops.now) self.new asked sent) }
+        ensures memory { tree_allocates M.Machine (O.allocates ops.now) self.old ≡ false → IsOk result }
+        ensures alike { IsAlike M.Machine self.old self.new }
     {
         let mut left = budget;
         let mut is_done = budget == 0;

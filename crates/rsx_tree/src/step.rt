@@ -1,6 +1,6 @@
 //! The steps of one node: a pick, and a row.
 
-ghost use Rattle.std.specs.Prelude.{◌≡◌, OnOk, OnErr, IfOk, IfErr, Some, true, false};
+ghost use Rattle.std.specs.Prelude.{◌≡◌, OnOk, OnErr, IfOk, IfErr, IsOk, Some, true, false};
 ghost use Rattle.rsx_sources.specs.Steps.{IsNotMade};
 ghost use Rattle.rsx_tree.specs.Inputs.{size};
 ghost use Rattle.rsx_tree.specs.Stepped.{IsPickedHere, IsRowMadeHere, IsStepOf, IsStepOver, IsStill, can_pick_in, can_row_in, over};
@@ -22,6 +22,7 @@ pub(crate) fn pick_over<M: Machine, O: Ops<Item = M::Item>>(
 ) -> Result<(), NotMade>
     ensures made { OnOk result (IsStepOver (IsPickedHere M.Machine (O.meaning ops.now) input) M.ended edge.now node.old below.old node.new below.new) }
     ensures err { IfErr result (IsNotMade (can_pick_in M.Machine input (Some (over edge.now node.old)))) }
+    ensures memory { M.step_allocates (O.allocates ops.now) node.old ≡ false → IfErr result (λ e. e ≡ NotMade.NotEnabled) }
     ensures same { OnErr result ((node.new ≡ node.old) × (below.new ≡ below.old)) }
     ensures size { size below.new ≡ size below.old }
 {
@@ -47,6 +48,7 @@ pub(crate) fn row_over<M: Machine, O: Ops<Item = M::Item>>(
 ) -> Result<(), NotMade>
     ensures made { OnOk result (IsStepOver (IsRowMadeHere M.Machine (O.meaning ops.now)) M.ended edge.now node.old below.old node.new below.new) }
     ensures err { IfErr result (IsNotMade (can_row_in M.Machine (Some (over edge.now node.old)))) }
+    ensures memory { M.step_allocates (O.allocates ops.now) node.old ≡ false → IfErr result (λ e. e ≡ NotMade.NotEnabled) }
     ensures same { OnErr result ((node.new ≡ node.old) × (below.new ≡ below.old)) }
     ensures size { size below.new ≡ size below.old }
 {
@@ -75,6 +77,7 @@ pub(crate) fn step_over<M: Machine, O: Ops<Item = M::Item>>(
     ensures still { IfOk result (λ made. made ≡ false → IsStill M.Machine (Some (over edge.now node.old))) }
     ensures same { IfOk result (λ made. made ≡ false → (node.new ≡ node.old) × (below.new ≡ below.old)) }
     ensures err { OnErr result ((node.new ≡ node.old) × (below.new ≡ below.old)) }
+    ensures memory { M.step_allocates (O.allocates ops.now) node.old ≡ false → IsOk result }
     ensures size { size below.new ≡ size below.old }
 {
     if !edge.is_live() {

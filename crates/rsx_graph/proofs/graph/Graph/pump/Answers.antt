@@ -1,5 +1,6 @@
 use Rattle.std.proofs.Common.{◌+◌, ◌≤◌, ◌∙◌, ap, arith, length, Ok, Err}
 use Rattle.rsx_pipe.specs.declared.part.Pumped.TheVariants.{Idle as Rests, Budget as Wakes}
+use Rattle.rsx_graph.specs.Stands.{pump_allocates}
 use Rattle.rsx_graph.proofs.Graphs.{pumped_on, pumped_same, rested_same, all_quiet}
 use Rattle.rsx_graph.proofs.Serving.{all_served}
 use Rattle.rsx_graph.proofs.graph.Graph.pump.Goals as goal
@@ -74,3 +75,9 @@ returns-clause-served g c = λ _ h s.
     let all : length c.loop-at.self.subscriptions.items ≤ c.loop-at.at =
     let l = c.len-count.ensures in let n = i.count in let t = c.loop-at-test.false in omega (arith, l, n, t) in
     all_served m h.published c.loop-at.self.subscriptions.items h.pasts (all_quiet m c.loop-at.self.subscriptions.items c.loop-at.at all i.quiet) s
+
+pub returns-in-Err-clause-memory : goal.returns-in-Err-clause-memory
+returns-in-Err-clause-memory g c = λ free.
+    let i = c.loop-at.invariant in
+    let same = ap (λ o. pump_allocates (g.O.Ops.allocates o) c.loop-at.self.subscriptions.items) i.ops in
+    c.in-Err.ensures.memory (same ∙ (i.pumped.2.alike (g.O.Ops.allocates c.args.self.now.ops) ∙ free))

@@ -1,7 +1,7 @@
 use Rattle.std.proofs.Common.{refl, sym}
 use Rattle.std.proofs.lemmas.List.{length-set}
 use Rattle.rsx_types.specs.declared.fault.NoMemory.{NoMemory}
-use Rattle.rsx_graph.proofs.Graphs.{pumped_there, rested_there}
+use Rattle.rsx_graph.proofs.Graphs.{free_there, pumped_there, rested_there}
 use Rattle.rsx_graph.proofs.graph.Graph.pump_one.Goals as goal
 
 pub returns-in-Ok-clause-pumped : goal.returns-in-Ok-clause-pumped
@@ -24,3 +24,7 @@ returns-in-Ok-clause-count g c = length-set c.args.self.now.subscriptions.items 
 
 pub returns-in-Err-clause-count : goal.returns-in-Err-clause-count
 returns-in-Err-clause-count g c = length-set c.args.self.now.subscriptions.items c.args.sub.0 c.pump.new.self
+
+pub returns-in-Err-clause-memory : goal.returns-in-Err-clause-memory
+returns-in-Err-clause-memory g c = λ free.
+    c.in-Err.ensures.memory (free_there (g.O.Ops.allocates c.args.self.now.ops) c.args.self.now.subscriptions.items c.args.sub.0 c.index_mut-subscription.result.now c.requires (sym c.index_mut-subscription.ensures.value) free)

@@ -1,4 +1,4 @@
-use Rattle.std.proofs.Common.{arith, ◌≡◌, ◌<◌, ◌≤◌, ◌+◌, refl}
+use Rattle.std.proofs.Common.{arith, ◌≡◌, ◌<◌, ◌≤◌, ◌+◌, ◌∙◌, refl}
 use Rattle.rsx_types.specs.declared.fault.NoMemory.{NoMemory}
 use Rattle.rsx_pipe.proofs.Parts.{pumped_on, spent_ended, spent_served, delivered}
 use Rattle.rsx_pipe.proofs.part.Part.pump.Goals as goal
@@ -52,3 +52,8 @@ pub returns-clause-served : goal.returns-clause-served
 returns-clause-served g c =
     let m = g.O.Ops.meaning c.args.ops.now in
     spent_served m c.loop-round.self c.loop-round.out c.spent-2.result (c.spent-2.ensures m)
+
+pub returns-in-Err-clause-memory : goal.returns-in-Err-clause-memory
+returns-in-Err-clause-memory g c = λ free.
+    let done = c.loop-round.invariant.1 in
+    c.in-Err.ensures.memory (done.2.alike (g.O.Ops.allocates c.args.ops.now) ∙ free)

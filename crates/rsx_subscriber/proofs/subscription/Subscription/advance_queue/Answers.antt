@@ -1,8 +1,11 @@
 use Rattle.std.proofs.Common.{ap, ◌∙◌, ◌++◌, ◌∷◌, []}
-use Rattle.rsx_subscriber.proofs.Moves.{pumped_one}
+use Rattle.rsx_subscriber.proofs.Moves.{pumped_one, pumped_still}
 use Rattle.rsx_subscriber.proofs.subscription.Subscription.advance_queue.Goals as goal
 
 pub returns-in-Some-clause-pumped : goal.returns-in-Some-clause-pumped
 returns-in-Some-clause-pumped g c = λ m.
     pumped_one m c.args.id c.args.self.now c.take.new.self c.args.out.now.signals c.push.new.self.signals c.in-Some.signal
     (c.push.ensures ∙ ap (λ l. l ++ (c.args.id, c.in-Some.signal) ∷ []) c.in_ok-reserve.ensures.signals) c.in-Some.ensures.enabled c.in-Some.ensures.effect (λ published past h. c.in-Some.ensures.some m published past h)
+
+pub returns-in-None-clause-pumped : goal.returns-in-None-clause-pumped
+returns-in-None-clause-pumped g c = λ m. pumped_still m c.args.id c.args.self.now c.take.new.self c.args.out.now.signals c.reserve.new.self.signals c.in-None.ensures.none.0 c.in_ok-reserve.ensures.signals

@@ -1,28 +1,29 @@
-use Rattle.std.proofs.Common.{◌≡◌, ◌+◌, arith}
+use Rattle.std.proofs.Common.{◌≡◌, ◌+◌, ◌∙◌, arith, true, false}
 use Rattle.rsx_types.specs.declared.fault.NoMemory.{NoMemory}
-use Rattle.rsx_subscriber.proofs.Moves.{pumped_more, rest_ended, awake_part, rest_quiet}
+use Rattle.rsx_subscriber.specs.Delivered.{IsFull}
+use Rattle.rsx_subscriber.proofs.Moves.{pumped_more, pumped_none, rest_ended, awake_part, rest_quiet}
 use Rattle.rsx_subscriber.proofs.subscription.Subscription.settle.Goals as goal
 
-pub returns-in-Ok-Budget : goal.returns-in-Ok-Budget
-returns-in-Ok-Budget g c =
+pub returns-in-Ok-Budget-clause-pumped : goal.returns-in-Ok-Budget-clause-pumped
+returns-in-Ok-Budget-clause-pumped g c =
     let m = g.O.Ops.meaning c.args.ops.now in
     let done = c.loop-round.invariant.1 in
     let p = rw c.in-Ok-Budget.field-0-is at c.in-Ok-Budget.ensures.pumped in
     let e = done.1 in
     let k = p.1.0 in
-    record { pumped = (done.0 + p.0, (omega (arith, e, k), awake_part m c.pump_part.new.self p.1.1), pumped_more m c.args.id done.0 p.0 c.args.self.now c.loop-round.self c.pump_part.new.self c.args.out.now.signals c.loop-round.out.signals c.loop-round.out.signals done.2 (p.2 c.loop-round.out.signals)) }
+    (done.0 + p.0, (omega (arith, e, k), awake_part m c.pump_part.new.self p.1.1), pumped_more m c.args.id done.0 p.0 c.args.self.now c.loop-round.self c.pump_part.new.self c.args.out.now.signals c.loop-round.out.signals c.loop-round.out.signals done.2 (p.2 c.loop-round.out.signals))
 
-pub returns-in-Err : goal.returns-in-Err
-returns-in-Err g c =
+pub returns-in-Err-clause-pumped : goal.returns-in-Err-clause-pumped
+returns-in-Err-clause-pumped g c =
     let m = g.O.Ops.meaning c.args.ops.now in
     let done = c.loop-round.invariant.1 in
     let p = c.in-Err.ensures.pumped in
     let e = done.1 in
     let k = p.1 in
-    record { pumped = (done.0 + p.0, omega (arith, e, k), pumped_more m c.args.id done.0 p.0 c.args.self.now c.loop-round.self c.pump_part.new.self c.args.out.now.signals c.loop-round.out.signals c.loop-round.out.signals done.2 (p.2 c.loop-round.out.signals)) }
+    (done.0 + p.0, omega (arith, e, k), pumped_more m c.args.id done.0 p.0 c.args.self.now c.loop-round.self c.pump_part.new.self c.args.out.now.signals c.loop-round.out.signals c.loop-round.out.signals done.2 (p.2 c.loop-round.out.signals))
 
-pub returns-in-Err-deliver : goal.returns-in-Err-deliver
-returns-in-Err-deliver g c =
+pub returns-in-Err-deliver-clause-pumped : goal.returns-in-Err-deliver-clause-pumped
+returns-in-Err-deliver-clause-pumped g c =
     let m = g.O.Ops.meaning c.args.ops.now in
     let done = c.loop-round.invariant.1 in
     let p = rw c.in-Ok-Idle.field-0-is at c.in-Ok-Idle.ensures.pumped in
@@ -31,10 +32,10 @@ returns-in-Err-deliver g c =
     let k = p.1.0 in
     let j = d.1 in
     let first = pumped_more m c.args.id done.0 p.0 c.args.self.now c.loop-round.self c.pump_part.new.self c.args.out.now.signals c.loop-round.out.signals c.loop-round.out.signals done.2 (p.2 c.loop-round.out.signals) in
-    record { pumped = ((done.0 + p.0) + d.0, omega (arith, e, k, j), pumped_more m c.args.id (done.0 + p.0) d.0 c.args.self.now c.pump_part.new.self c.deliver.new.self c.args.out.now.signals c.loop-round.out.signals c.deliver.new.out.signals first d.2) }
+    ((done.0 + p.0) + d.0, omega (arith, e, k, j), pumped_more m c.args.id (done.0 + p.0) d.0 c.args.self.now c.pump_part.new.self c.deliver.new.self c.args.out.now.signals c.loop-round.out.signals c.deliver.new.out.signals first d.2)
 
-pub returns-then-left-before : goal.returns-then-left-before
-returns-then-left-before g c =
+pub returns-then-left-before-clause-pumped : goal.returns-then-left-before-clause-pumped
+returns-then-left-before-clause-pumped g c =
     let m = g.O.Ops.meaning c.args.ops.now in
     let done = c.loop-round.invariant.1 in
     let p = rw c.in-Ok-Idle.field-0-is at c.in-Ok-Idle.ensures.pumped in
@@ -44,14 +45,11 @@ returns-then-left-before g c =
     let j = d.1 in
     let all : ((done.0 + p.0) + d.0) + c.in-Ok.left ≡ c.args.budget = omega (arith, e, k, j) in
     let same = c.in-Ok.ensures.none c.if-left-before.true in
-    let first = pumped_more m c.args.id done.0 p.0 c.args.self.now c.loop-round.self c.pump_part.new.self c.args.out.now.signals c.loop-round.out.signals c.loop-round.out.signals done.2 (p.2 c.loop-round.out.signals) in
-    record {
-      pumped = (
-        (done.0 + p.0) + d.0,
-        rest_ended NoMemory m c.args.budget ((done.0 + p.0) + d.0) c.in-Ok.left c.deliver.new.self c.rest.result all (c.rest.ensures m (λ some. rest_quiet m c.pump_part.new.self c.deliver.new.self same (c.in-Ok.ensures.rest some) p.1.1)),
-        pumped_more m c.args.id (done.0 + p.0) d.0 c.args.self.now c.pump_part.new.self c.deliver.new.self c.args.out.now.signals c.loop-round.out.signals c.deliver.new.out.signals first d.2,
-      );
-    }
+    let first = pumped_more m c.args.id done.0 p.0 c.args.self.now c.loop-round.self c.pump_part.new.self c.args.out.now.signals c.loop-round.out.signals c.loop-round.out.signals done.2 (p.2 c.loop-round.out.signals) in (
+      (done.0 + p.0) + d.0,
+      rest_ended NoMemory m c.args.budget ((done.0 + p.0) + d.0) c.in-Ok.left c.deliver.new.self c.rest.result all (c.rest.ensures m (λ some. rest_quiet m c.pump_part.new.self c.deliver.new.self same (c.in-Ok.ensures.rest some) p.1.1)),
+      pumped_more m c.args.id (done.0 + p.0) d.0 c.args.self.now c.pump_part.new.self c.deliver.new.self c.args.out.now.signals c.loop-round.out.signals c.deliver.new.out.signals first d.2,
+    )
 
 pub loop-round-preserved : goal.loop-round-preserved
 loop-round-preserved g c =
@@ -69,10 +67,24 @@ loop-round-preserved g c =
       ((done.0 + p.0) + d.0, omega (arith, e, k, j), pumped_more m c.args.id (done.0 + p.0) d.0 c.args.self.now c.pump_part.new.self c.deliver.new.self c.args.out.now.signals c.loop-round.out.signals c.deliver.new.out.signals first d.2),
     )
 
-pub returns : goal.returns
-returns g c =
+pub returns-clause-pumped : goal.returns-clause-pumped
+returns-clause-pumped g c =
     let m = g.O.Ops.meaning c.args.ops.now in
     let within = c.loop-round.invariant.0 in
     let done = c.loop-round.invariant.1 in
     let t = c.loop-round-test.false in
-    record { pumped = (done.0, rest_ended NoMemory m c.args.budget done.0 c.loop-round.left c.loop-round.self c.rest-2.result done.1 (c.rest-2.ensures m (λ some. absurd (omega (arith, within, t, some)))), done.2) }
+    (done.0, rest_ended NoMemory m c.args.budget done.0 c.loop-round.left c.loop-round.self c.rest-2.result done.1 (c.rest-2.ensures m (λ some. absurd (omega (arith, within, t, some)))), done.2)
+
+pub returns-in-Err-clause-memory : goal.returns-in-Err-clause-memory
+returns-in-Err-clause-memory g c = λ free.
+    let done = c.loop-round.invariant.1 in
+    absurd {A = IsFull c.loop-round.out} (never (c.in-Err.ensures.memory (done.2.alike (g.O.Ops.allocates c.args.ops.now) ∙ free)))
+  where
+    never : false ≡ true → ⊥
+    never e = cc
+
+pub returns-in-Err-deliver-clause-memory : goal.returns-in-Err-deliver-clause-memory
+returns-in-Err-deliver-clause-memory g c = λ _. c.in-Err-deliver.ensures.full
+
+pub loop-round-init : goal.loop-round-init
+loop-round-init g c = (omega arith, (0, omega arith, pumped_none (g.O.Ops.meaning c.args.ops.now) c.args.id c.args.self.now c.args.out.now.signals))

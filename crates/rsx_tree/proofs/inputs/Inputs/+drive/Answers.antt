@@ -1,7 +1,9 @@
-use Rattle.std.proofs.Common.{◌≡◌, ◌+◌, ◌-◌, ◌<◌, ◌≤◌, ℕ, ap, sym, ◌∙◌, subst, arith, false, true, rules, refl}
+use Rattle.std.proofs.Common.{◌≡◌, ◌+◌, ◌-◌, ◌∙◌, arith, false, true, refl}
 use Rattle.std.specs.Box.{with_value}
 use Rattle.rsx_tree.specs.declared.inputs.Inputs.TheViews.{More}
-use Rattle.rsx_tree.proofs.Drives.{size_run, under_way_made, ended_made, under_way_below, over_beside, done_below, shut_by, still_some, idle_beside, idle_last}
+use Rattle.rsx_tree.specs.Allocates.{row_allocates}
+use Rattle.rsx_tree.proofs.Alike.{first_free, below_free, beside_free, run_alike}
+use Rattle.rsx_tree.proofs.Drives.{size_run, under_way_made, ended_made, under_way_below, over_beside, done_below, shut_by, still_some}
 use Rattle.rsx_tree.proofs.inputs.Inputs.+drive.Goals as goal
 
 pub returns-in-Ok-Ended-clause-driven : goal.returns-in-Ok-Ended-clause-driven
@@ -60,3 +62,29 @@ returns-in-Err-drive-2-clause-driven g t c =
     let u = over_beside g.M.Machine (g.O.Ops.meaning c.args.ops.now) true c.args.input c.in-Some.next c.args.asked c.args.sent c.args.budget c.moves.left (c.moves.left - k.0) k.0 false c.args.receiver.now c.args.self.now c.moves.receiver c.drive-in-Some.new.receiver c.moves.edge c.moves.machine c.moves.below c.in-More.beside c.deref_mut-in-Some.result.now c.drive-in-Some.new.self
     c.moves.invariant.0 c.in-Some.ensures.1 c.deref_mut-in-Some.ensures.value rest k.2 in
     (u.0, let q = u.1 in omega (arith, q), u.2)
+
+pub returns-in-Err-clause-memory : goal.returns-in-Err-clause-memory
+returns-in-Err-clause-memory g t c = λ free.
+    let a = g.O.Ops.allocates c.args.ops.now in
+    let u = c.moves.invariant.0 in
+    c.in-Err.ensures.memory
+    (first_free g.M.Machine a c.moves.receiver c.moves.machine (row_allocates g.M.Machine a c.moves.below.value) (row_allocates g.M.Machine a c.in-More.beside.value) (run_alike g.M.Machine (g.O.Ops.meaning c.args.ops.now) true u.count c.args.input c.args.asked c.args.sent c.args.receiver.now c.args.self.now c.moves.receiver (More c.moves.edge c.moves.machine c.moves.below c.in-More.beside) u.run a ∙ free))
+
+pub returns-in-Err-drive-clause-memory : goal.returns-in-Err-drive-clause-memory
+returns-in-Err-drive-clause-memory g t c = λ free.
+    let a = g.O.Ops.allocates c.args.ops.now in
+    let u = c.moves.invariant.0 in
+    let same = c.in-Ok-Neither.ensures.same c.in-Ok-Neither.field-0-is in
+    c.in-Err-drive.ensures.memory
+    (below_free g.M.Machine a c.moves.receiver c.moves.machine c.advance_over.new.sender c.moves.below.value c.deref_mut-in-Ok-Neither.result.now (row_allocates g.M.Machine a c.in-More.beside.value)
+    (run_alike g.M.Machine (g.O.Ops.meaning c.args.ops.now) true u.count c.args.input c.args.asked c.args.sent c.args.receiver.now c.args.self.now c.moves.receiver (More c.moves.edge c.moves.machine c.moves.below c.in-More.beside) u.run a ∙ free)
+    same.2 (c.deref_mut-in-Ok-Neither.ensures.value ∙ (same.3 ∙ c.deref_mut.ensures.value)))
+
+pub returns-in-Err-drive-2-clause-memory : goal.returns-in-Err-drive-2-clause-memory
+returns-in-Err-drive-2-clause-memory g t c = λ free.
+    let a = g.O.Ops.allocates c.args.ops.now in
+    let u = c.moves.invariant.0 in
+    c.in-Err-drive-2.ensures.memory
+    (beside_free g.M.Machine a c.moves.receiver c.moves.machine (row_allocates g.M.Machine a c.moves.below.value) c.in-More.beside.value c.deref_mut-in-Some.result.now
+    (run_alike g.M.Machine (g.O.Ops.meaning c.args.ops.now) true u.count c.args.input c.args.asked c.args.sent c.args.receiver.now c.args.self.now c.moves.receiver (More c.moves.edge c.moves.machine c.moves.below c.in-More.beside) u.run a ∙ free)
+    c.deref_mut-in-Some.ensures.value)

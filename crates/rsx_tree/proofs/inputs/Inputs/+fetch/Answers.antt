@@ -16,7 +16,7 @@ taken g t c beside is =
     let u = c.items.invariant.0 beside is in
     elim c.match-pop_item.branch [
       | in-Some w ↦ taken_as g.M.Machine m c.args.asked c.args.sent c.args.left.now c.items.left c.match-pop_item.left c.args.receiver.now c.args.self.now c.items.receiver c.items.edge c.pop_item.new.self c.match-pop_item.sender c.items.below c.match-pop_item.below beside w.in-Some.item c.match-pop_item.item w.left-is w.sender-is w.below-is w.item-is
-          (taken_at_once g.M.Machine m c.args.asked c.args.sent c.args.left.now c.items.left c.args.receiver.now c.args.self.now c.items.receiver c.items.edge c.items.sender c.pop_item.new.self c.items.below beside w.in-Some.item u w.in-Some.ensures.some)
+          (taken_at_once g.M.Machine m c.args.asked c.args.sent c.args.left.now c.items.left c.args.receiver.now c.args.self.now c.items.receiver c.items.edge c.items.sender c.pop_item.new.self c.items.below beside w.in-Some.item u (w.in-Some.ensures.some, c.pop_item.ensures.alike))
       | in-None+in-Some-fetch w ↦ taken_as g.M.Machine m c.args.asked c.args.sent c.args.left.now w.fetch.new.left c.match-pop_item.left c.args.receiver.now c.args.self.now c.items.receiver c.items.edge w.fetch.new.receiver c.match-pop_item.sender (with_value c.items.below w.fetch.new.self) c.match-pop_item.below beside w.in-Some-fetch.item c.match-pop_item.item w.left-is w.sender-is w.below-is w.item-is
           (below_item g.M.Machine m c.args.asked c.args.sent c.args.left.now c.items.left w.fetch.new.left c.args.receiver.now c.args.self.now c.items.receiver c.items.edge c.items.sender c.pop_item.new.self w.fetch.new.receiver c.items.below beside w.deref_mut.result.now w.fetch.new.self w.in-Some-fetch.item
           u w.in-None.ensures.none w.deref_mut.ensures.value w.in-Some-fetch.ensures)

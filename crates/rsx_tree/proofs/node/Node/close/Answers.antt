@@ -1,5 +1,8 @@
 use Rattle.std.proofs.Common.{ap, sym, ◌∙◌, ◌∷◌, subst}
+use Rattle.std.proofs.Common.{refl}
+use Rattle.rsx_tree.specs.Allocates.{row_allocates}
 use Rattle.rsx_tree.specs.Inputs.{edges}
+use Rattle.rsx_tree.proofs.Alike.{over_alike, row_closed}
 use Rattle.rsx_tree.specs.Tree.{NoneLive}
 use Rattle.rsx_tree.specs.Inputs.{notes_of}
 use Rattle.rsx_tree.proofs.Rows.{edges_closed, notes_closed}
@@ -17,3 +20,6 @@ returns-clause-edges g c = ap edges c.close.ensures ∙ edges_closed c.args.self
 
 pub returns-clause-notes : goal.returns-clause-notes
 returns-clause-notes g c = ap (λ t. g.M.Machine.recorded c.args.self.now.machine ∷ notes_of g.M.Machine t) c.close.ensures ∙ ap (λ l. g.M.Machine.recorded c.args.self.now.machine ∷ l) (notes_closed g.M.Machine c.args.self.now.inputs)
+
+pub returns-clause-alike : goal.returns-clause-alike
+returns-clause-alike g c = λ a. over_alike g.M.Machine a c.args.self.now.machine c.args.self.now.machine c.args.self.now.inputs c.close.new.self refl (ap (row_allocates g.M.Machine a) c.close.ensures ∙ row_closed g.M.Machine a c.args.self.now.inputs)

@@ -1,4 +1,5 @@
-use Rattle.std.proofs.Common.{◌≡◌, ◌+◌, ◌-◌, ◌<◌, ◌≤◌, ℕ, ap, sym, ◌∙◌, subst, arith, false, true, refl}
+use Rattle.std.proofs.Common.{◌≡◌, ◌+◌, ◌-◌, ◌∙◌, arith, false, true, refl}
+use Rattle.rsx_tree.proofs.Alike.{driven_alike}
 use Rattle.rsx_tree.proofs.Drives.{tree_begun, tree_under_way, idle_after, none_left, shut_by, still_some, pass_same}
 use Rattle.rsx_tree.proofs.node.Node.drive.Goals as goal
 
@@ -47,3 +48,22 @@ returns-in-Err-clause-balance g c =
     let u = tree_under_way g.M.Machine (g.O.Ops.meaning c.args.ops.now) true c.args.self.now c.args.asked c.args.sent c.args.budget c.rounds.left (c.rounds.left - k.0) k.0 false c.rounds.self.machine c.drive.new.receiver c.rounds.self.inputs c.drive.new.self c.drive.new.self
     c.rounds.invariant.0 rest k.2 refl in
     u.balance
+
+pub returns-in-Err-clause-memory : goal.returns-in-Err-clause-memory
+returns-in-Err-clause-memory g c = λ free.
+    let a = g.O.Ops.allocates c.args.ops.now in
+    let u = c.rounds.invariant.0 in
+    c.in-Err.ensures.memory (driven_alike g.M.Machine (g.O.Ops.meaning c.args.ops.now) true u.count c.args.self.now c.args.asked c.args.sent c.rounds.self u.run a ∙ free)
+
+pub returns-in-Err-clause-alike : goal.returns-in-Err-clause-alike
+returns-in-Err-clause-alike g c =
+    let k = c.in-Err.ensures.driven in
+    let rest : k.0 + (c.rounds.left - k.0) ≡ c.rounds.left = let q = k.1 in omega (arith, q) in
+    let u = tree_under_way g.M.Machine (g.O.Ops.meaning c.args.ops.now) true c.args.self.now c.args.asked c.args.sent c.args.budget c.rounds.left (c.rounds.left - k.0) k.0 false c.rounds.self.machine c.drive.new.receiver c.rounds.self.inputs c.drive.new.self c.drive.new.self
+    c.rounds.invariant.0 rest k.2 refl in
+    driven_alike g.M.Machine (g.O.Ops.meaning c.args.ops.now) true u.count c.args.self.now c.args.asked c.args.sent _ u.run
+
+pub returns-clause-alike : goal.returns-clause-alike
+returns-clause-alike g c =
+    let u = c.rounds.invariant.0 in
+    driven_alike g.M.Machine (g.O.Ops.meaning c.args.ops.now) true u.count c.args.self.now c.args.asked c.args.sent c.rounds.self u.run

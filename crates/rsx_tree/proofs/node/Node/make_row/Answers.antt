@@ -1,9 +1,8 @@
-use Rattle.std.proofs.Common.{refl, sym, ◌∙◌, ap, true, ◌&&◌}
 use Rattle.rsx_tree.specs.Edges.{edge_view}
-use Rattle.rsx_tree.specs.Inputs.{closed_row_if}
 use Rattle.rsx_tree.specs.Stepped.{IsRowMadeHere, IsSteppedAt}
+use Rattle.rsx_tree.proofs.Alike.{row_made, tree_stepped_alike}
 use Rattle.rsx_tree.proofs.Noted.{node, row_noted, row_effect, row_enabled}
-use Rattle.rsx_tree.proofs.Steps.{stepped_root, stepped_tree, station_tree, station_root}
+use Rattle.rsx_tree.proofs.Steps.{stepped_root, stepped_tree}
 use Rattle.rsx_tree.proofs.node.Node.make_row.Goals as goal
 
 pub returns-in-Ok-clause-made : goal.returns-in-Ok-clause-made
@@ -55,3 +54,13 @@ pub returns-in-Ok-row_over-clause-balance : goal.returns-in-Ok-row_over-clause-b
 returns-in-Ok-row_over-clause-balance g c =
     let made : IsSteppedAt (IsRowMadeHere g.M.Machine (g.O.Ops.meaning c.args.ops.now)) g.M.Machine.ended c.args.self.now (edge_view c.args.root.now) c.args.at (node c.row_over.new.node c.row_over.new.below) = stepped_root (IsRowMadeHere g.M.Machine (g.O.Ops.meaning c.args.ops.now)) g.M.Machine.ended c.args.self.now.machine c.row_over.new.node c.args.self.now.inputs c.row_over.new.below c.args.root.now c.args.at c.if-at-gt0.false c.in-Ok-row_over.ensures.made in
     (row_noted g.M.Machine (g.O.Ops.meaning c.args.ops.now) c.args.self.now (edge_view c.args.root.now) c.args.at (node c.row_over.new.node c.row_over.new.below) made).balance
+
+pub returns-in-Ok-clause-alike : goal.returns-in-Ok-clause-alike
+returns-in-Ok-clause-alike g c =
+    let made : IsSteppedAt (IsRowMadeHere g.M.Machine (g.O.Ops.meaning c.args.ops.now)) g.M.Machine.ended c.args.self.now (edge_view c.args.root.now) c.args.at (node c.args.self.now.machine c.make_row.new.self) = stepped_tree (IsRowMadeHere g.M.Machine (g.O.Ops.meaning c.args.ops.now)) g.M.Machine.ended c.args.self.now.machine c.args.self.now.inputs c.make_row.new.self (edge_view c.args.root.now) c.args.at c.if-at-gt0.true c.in-Ok.ensures.made in
+    tree_stepped_alike g.M.Machine (IsRowMadeHere g.M.Machine (g.O.Ops.meaning c.args.ops.now)) (row_made g.M.Machine (g.O.Ops.meaning c.args.ops.now)) g.M.Machine.ended c.args.self.now (edge_view c.args.root.now) c.args.at (node c.args.self.now.machine c.make_row.new.self) made
+
+pub returns-in-Ok-row_over-clause-alike : goal.returns-in-Ok-row_over-clause-alike
+returns-in-Ok-row_over-clause-alike g c =
+    let made : IsSteppedAt (IsRowMadeHere g.M.Machine (g.O.Ops.meaning c.args.ops.now)) g.M.Machine.ended c.args.self.now (edge_view c.args.root.now) c.args.at (node c.row_over.new.node c.row_over.new.below) = stepped_root (IsRowMadeHere g.M.Machine (g.O.Ops.meaning c.args.ops.now)) g.M.Machine.ended c.args.self.now.machine c.row_over.new.node c.args.self.now.inputs c.row_over.new.below c.args.root.now c.args.at c.if-at-gt0.false c.in-Ok-row_over.ensures.made in
+    tree_stepped_alike g.M.Machine (IsRowMadeHere g.M.Machine (g.O.Ops.meaning c.args.ops.now)) (row_made g.M.Machine (g.O.Ops.meaning c.args.ops.now)) g.M.Machine.ended c.args.self.now (edge_view c.args.root.now) c.args.at (node c.row_over.new.node c.row_over.new.below) made

@@ -1,9 +1,8 @@
-use Rattle.std.proofs.Common.{refl, sym, ◌∙◌, ap, true, ◌&&◌}
 use Rattle.rsx_tree.specs.Edges.{edge_view}
-use Rattle.rsx_tree.specs.Inputs.{closed_row_if}
 use Rattle.rsx_tree.specs.Stepped.{IsPickedHere, IsSteppedAt}
+use Rattle.rsx_tree.proofs.Alike.{picked, tree_stepped_alike}
 use Rattle.rsx_tree.proofs.Noted.{node, picked_noted, picked_effect, picked_enabled}
-use Rattle.rsx_tree.proofs.Steps.{stepped_root, stepped_tree, station_tree, station_root}
+use Rattle.rsx_tree.proofs.Steps.{stepped_root, stepped_tree}
 use Rattle.rsx_tree.proofs.node.Node.pick.Goals as goal
 
 pub returns-in-Ok-clause-made : goal.returns-in-Ok-clause-made
@@ -55,3 +54,13 @@ pub returns-in-Ok-pick_over-clause-balance : goal.returns-in-Ok-pick_over-clause
 returns-in-Ok-pick_over-clause-balance g c =
     let made : IsSteppedAt (IsPickedHere g.M.Machine (g.O.Ops.meaning c.args.ops.now) c.args.input) g.M.Machine.ended c.args.self.now (edge_view c.args.root.now) c.args.at (node c.pick_over.new.node c.pick_over.new.below) = stepped_root (IsPickedHere g.M.Machine (g.O.Ops.meaning c.args.ops.now) c.args.input) g.M.Machine.ended c.args.self.now.machine c.pick_over.new.node c.args.self.now.inputs c.pick_over.new.below c.args.root.now c.args.at c.if-at-gt0.false c.in-Ok-pick_over.ensures.made in
     (picked_noted g.M.Machine (g.O.Ops.meaning c.args.ops.now) c.args.input c.args.self.now (edge_view c.args.root.now) c.args.at (node c.pick_over.new.node c.pick_over.new.below) made).balance
+
+pub returns-in-Ok-clause-alike : goal.returns-in-Ok-clause-alike
+returns-in-Ok-clause-alike g c =
+    let made : IsSteppedAt (IsPickedHere g.M.Machine (g.O.Ops.meaning c.args.ops.now) c.args.input) g.M.Machine.ended c.args.self.now (edge_view c.args.root.now) c.args.at (node c.args.self.now.machine c.pick.new.self) = stepped_tree (IsPickedHere g.M.Machine (g.O.Ops.meaning c.args.ops.now) c.args.input) g.M.Machine.ended c.args.self.now.machine c.args.self.now.inputs c.pick.new.self (edge_view c.args.root.now) c.args.at c.if-at-gt0.true c.in-Ok.ensures.made in
+    tree_stepped_alike g.M.Machine (IsPickedHere g.M.Machine (g.O.Ops.meaning c.args.ops.now) c.args.input) (picked g.M.Machine (g.O.Ops.meaning c.args.ops.now) c.args.input) g.M.Machine.ended c.args.self.now (edge_view c.args.root.now) c.args.at (node c.args.self.now.machine c.pick.new.self) made
+
+pub returns-in-Ok-pick_over-clause-alike : goal.returns-in-Ok-pick_over-clause-alike
+returns-in-Ok-pick_over-clause-alike g c =
+    let made : IsSteppedAt (IsPickedHere g.M.Machine (g.O.Ops.meaning c.args.ops.now) c.args.input) g.M.Machine.ended c.args.self.now (edge_view c.args.root.now) c.args.at (node c.pick_over.new.node c.pick_over.new.below) = stepped_root (IsPickedHere g.M.Machine (g.O.Ops.meaning c.args.ops.now) c.args.input) g.M.Machine.ended c.args.self.now.machine c.pick_over.new.node c.args.self.now.inputs c.pick_over.new.below c.args.root.now c.args.at c.if-at-gt0.false c.in-Ok-pick_over.ensures.made in
+    tree_stepped_alike g.M.Machine (IsPickedHere g.M.Machine (g.O.Ops.meaning c.args.ops.now) c.args.input) (picked g.M.Machine (g.O.Ops.meaning c.args.ops.now) c.args.input) g.M.Machine.ended c.args.self.now (edge_view c.args.root.now) c.args.at (node c.pick_over.new.node c.pick_over.new.below) made

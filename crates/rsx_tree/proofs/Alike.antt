@@ -1,0 +1,169 @@
+-- No move changes which calls of a tree's nodes may allocate.
+use Rattle.std.proofs.Common.{◌≡◌, inl, inr, ℕ, zero, suc, ◌+◌, ◌-◌, Bool, true, false, ◌||◌, ◌&&◌, refl, ap, sym, ◌∙◌}
+use Rattle.rsx_types.specs.Meaning.{Meaning, Allocates}
+use Rattle.rsx_sources.specs.declared.machine.Machine.{Ghosts as Machine}
+use Rattle.rsx_tree.specs.declared.edge.Edge.{Edge}
+use Rattle.rsx_tree.specs.declared.inputs.Inputs.{Inputs, End, More'}
+use Rattle.rsx_tree.specs.declared.node.Node.{Node}
+use Rattle.rsx_tree.specs.Allocates.{node_allocates, row_allocates, over_allocates, tree_allocates, IsNodeAlike, IsAlike}
+use Rattle.rsx_tree.specs.Changed.{Change, IsChanged, IsAskedOver, IsSentOver}
+use Rattle.rsx_tree.specs.Driven.{IsMade, IsRowRun, IsDriven}
+use Rattle.rsx_tree.specs.Edges.{EdgeView}
+use Rattle.rsx_tree.specs.Inputs.{size, is_own, closed_row, closed_row_if, send_over_allocates}
+use Rattle.rsx_tree.specs.Stepped.{Step, IsStepped, IsSteppedAt, IsPickedHere, IsRowMadeHere}
+
+-- ---- a node
+
+pub or_left : (x y : Bool) → (x || y) ≡ false → x ≡ false
+or_left false y h = refl
+or_left true y h = h
+
+pub or_right : (x y : Bool) → (x || y) ≡ false → y ≡ false
+or_right false y h = h
+or_right true y h = cc
+
+pub or_none : (x y : Bool) → x ≡ false → y ≡ false → (x || y) ≡ false
+or_none false y p q = q
+or_none true y p q = p
+
+pub alike_same : {M T : Type 0} (b : Machine M T) (n n' : M) → n' ≡ n → IsNodeAlike b n n'
+alike_same b n n' h a = (ap (b.pop_allocates a) h, ap (b.signal_allocates a) h, ap (b.step_allocates a) h)
+
+pub node_alike : {M T : Type 0} (b : Machine M T) (n n' : M) → IsNodeAlike b n n' → (a : Allocates) → node_allocates b a n' ≡ node_allocates b a n
+node_alike b n n' h a =
+    let k = h a in
+    ap (λ c. c || (b.signal_allocates a n' || b.step_allocates a n')) k.0
+    ∙ (ap (λ c. b.pop_allocates a n || (c || b.step_allocates a n')) k.1
+    ∙ ap (λ c. b.pop_allocates a n || (b.signal_allocates a n || c)) k.2)
+
+-- from a node to another and on to a third
+pub alike_before : {M T : Type 0} (b : Machine M T) (n k n' : M) → IsNodeAlike b n n' → IsNodeAlike b k n' → IsNodeAlike b n k
+alike_before b n k n' whole last a = let w = whole a in let l = last a in (sym l.0 ∙ w.0, sym l.1 ∙ w.1, sym l.2 ∙ w.2)
+
+-- ---- a row
+
+pub row_closed : {M T : Type 0} (b : Machine M T) (a : Allocates) (t : Inputs M) → row_allocates b a (closed_row t) ≡ row_allocates b a t
+row_closed b a End = refl
+row_closed b a (More' e n p below q beside) = rw (row_closed b a below, row_closed b a beside) refl
+
+pub row_closed_if : {M T : Type 0} (b : Machine M T) (a : Allocates) (c : Bool) (t : Inputs M) → row_allocates b a (closed_row_if c t) ≡ row_allocates b a t
+row_closed_if b a true t = row_closed b a t
+row_closed_if b a false t = refl
+
+-- what a move does to the nodes at the ends of an edge
+abbrev IsAlikeChange : {M T : Type 0} → Machine M T → Change M → Type 0
+IsAlikeChange {M} b P = (r : M) (i asked sent : ℕ) (e : Edge) (n r' : M) (e' : Edge) (n' : M) → P r i asked sent e n r' e' n' → IsNodeAlike b r r' × IsNodeAlike b n n'
+
+pub asked_over : {M T : Type 0} (b : Machine M T) → IsAlikeChange b (IsAskedOver b)
+asked_over b r i asked sent e n r' e' n' h = (alike_same b r r' h.receiver, alike_same b n n' h.sender)
+
+pub sent_over : {M T : Type 0} (b : Machine M T) (m : Meaning T) → IsAlikeChange b (IsSentOver b m)
+sent_over b m r i asked sent e n r' e' n' h = (h.alike_in, h.alike_out)
+
+pub changed_alike : {M T : Type 0} (b : Machine M T) (P : Change M) → IsAlikeChange b P → (ends : M → Bool) (r : M) (i asked sent : ℕ) (t : Inputs M) (at : ℕ) (r' : M) (t' : Inputs M) → IsChanged P ends r i asked sent t at r' t' →
+    (a : Allocates) → (node_allocates b a r' ≡ node_allocates b a r) × (row_allocates b a t' ≡ row_allocates b a t)
+changed_alike b P alike ends r i asked sent End at r' t' h a = absurd h
+changed_alike b P alike ends r i asked sent (More' e n p below q beside) at r' t' h a = elim h [
+  | inl x ↦
+      let k = alike r i asked sent e n r' x.e' x.n' x.made in
+      (node_alike b r r' k.0 a, ap (row_allocates b a) x.new_is ∙ ap (λ c. c || (row_allocates b a below || row_allocates b a beside)) (node_alike b n x.n' k.1 a))
+  | inr y ↦ elim y [
+    | inl x ↦
+        let k = changed_alike b P alike ends n 0 e.demand.asked e.demand.sent below (at - 1) x.n' x.mid x.made a in
+        let shut = closed_row_if (ends x.n' && is_own below (at - 1)) x.mid in (
+          ap (node_allocates b a) x.receiver,
+          ap (row_allocates b a) x.new_is
+              ∙ (ap (λ c. c || (row_allocates b a shut || row_allocates b a beside)) k.0
+              ∙ ap (λ c. node_allocates b a n || (c || row_allocates b a beside)) (row_closed_if b a (ends x.n' && is_own below (at - 1)) x.mid ∙ k.1)),
+        )
+    | inr x ↦
+        let k = changed_alike b P alike ends r (i + 1) asked sent beside (at - 1 - size below) r' x.beside' x.made a in
+        (k.0, ap (row_allocates b a) x.new_is ∙ ap (λ c. node_allocates b a n || (row_allocates b a below || c)) k.1)
+  ]
+]
+
+-- what a step does to its node
+abbrev IsAlikeStep : {M T : Type 0} → Machine M T → Step M → Type 0
+IsAlikeStep {M} b P = (n : M) (asked sent : ℕ) (n' : M) → P n asked sent n' → IsNodeAlike b n n'
+
+pub picked : {M T : Type 0} (b : Machine M T) (m : Meaning T) (i : ℕ) → IsAlikeStep b (IsPickedHere b m i)
+picked b m i n asked sent n' h = h.alike
+
+pub row_made : {M T : Type 0} (b : Machine M T) (m : Meaning T) → IsAlikeStep b (IsRowMadeHere b m)
+row_made b m n asked sent n' h = h.alike
+
+pub stepped_alike : {M T : Type 0} (b : Machine M T) (P : Step M) → IsAlikeStep b P → (ends : M → Bool) (t : Inputs M) (at : ℕ) (t' : Inputs M) → IsStepped P ends t at t' → (a : Allocates) → row_allocates b a t' ≡ row_allocates b a t
+stepped_alike b P alike ends End at t' h a = absurd h
+stepped_alike b P alike ends (More' e n p below q beside) at t' h a = elim h [
+  | inl x ↦ ap (row_allocates b a) x.new_is
+      ∙ (ap (λ c. node_allocates b a x.n' || (c || row_allocates b a beside)) (row_closed_if b a (ends x.n' && true) below)
+      ∙ ap (λ c. c || (row_allocates b a below || row_allocates b a beside)) (node_alike b n x.n' (alike n e.demand.asked e.demand.sent x.n' x.made) a))
+  | inr y ↦ elim y [
+    | inl x ↦ ap (row_allocates b a) x.new_is ∙ ap (λ c. node_allocates b a n || (c || row_allocates b a beside)) (stepped_alike b P alike ends below (at - 1) x.below' x.made a)
+    | inr x ↦ ap (row_allocates b a) x.new_is ∙ ap (λ c. node_allocates b a n || (row_allocates b a below || c)) (stepped_alike b P alike ends beside (at - 1 - size below) x.beside' x.made a)
+  ]
+]
+
+-- ---- a row under its receiver
+
+pub closed_alike : {M T : Type 0} (b : Machine M T) (a : Allocates) (r : M) (c : Bool) (t : Inputs M) → over_allocates b a r (closed_row_if c t) ≡ over_allocates b a r t
+closed_alike b a r c t = ap (λ k. node_allocates b a r || k) (row_closed_if b a c t)
+
+pub over_alike : {M T : Type 0} (b : Machine M T) (a : Allocates) (r r' : M) (t t' : Inputs M) → node_allocates b a r' ≡ node_allocates b a r → row_allocates b a t' ≡ row_allocates b a t → over_allocates b a r' t' ≡ over_allocates b a r t
+over_alike b a r r' t t' h k = ap (λ c. c || row_allocates b a t') h ∙ ap (λ c. node_allocates b a r || c) k
+
+pub made_alike : {M T : Type 0} (b : Machine M T) (m : Meaning T) (steps : Bool) (r : M) (i asked sent : ℕ) (t : Inputs M) (at : ℕ) (ends : Bool) (r' : M) (t' : Inputs M) → IsMade b m steps r i asked sent t at ends r' t' →
+    (a : Allocates) → over_allocates b a r' t' ≡ over_allocates b a r t
+made_alike b m steps r i asked sent t at ends r' t' h a = elim h [
+  | inl x ↦ (let k = changed_alike b (IsAskedOver b) (asked_over b) (λ n. false) r i asked sent t at r' t' x.made a in over_alike b a r r' t t' k.0 k.1)
+  | inr y ↦ elim y [
+    | inl x ↦ (let k = changed_alike b (IsSentOver b m) (sent_over b m) b.ended r i asked sent t at r' t' (x.made asked sent) a in over_alike b a r r' t t' k.0 k.1)
+    | inr z ↦ over_alike b a r r' t t' (ap (node_allocates b a) z.1.receiver) (elim z.1.made [
+      | inl k ↦ stepped_alike b (IsPickedHere b m k.0) (picked b m k.0) b.ended t at t' k.1 a
+      | inr k ↦ stepped_alike b (IsRowMadeHere b m) (row_made b m) b.ended t at t' k a
+    ])
+  ]
+]
+
+pub run_alike : {M T : Type 0} (b : Machine M T) (m : Meaning T) (steps : Bool) (k i asked sent : ℕ) (r : M) (t : Inputs M) (r' : M) (t' : Inputs M) → IsRowRun b m steps k i asked sent r t r' t' → (a : Allocates) → over_allocates b a r' t' ≡ over_allocates b a r t
+run_alike b m steps zero i asked sent r t r' t' h a = over_alike b a r r' t t' (ap (node_allocates b a) h.0) (ap (row_allocates b a) h.1)
+run_alike b m steps (suc k) i asked sent r t r' t' h a = run_alike b m steps k i asked sent h.1 h.2 r' t' h.4 a ∙ made_alike b m steps r i asked sent t h.0 false h.1 h.2 h.3 a
+
+-- ---- a tree
+
+pub tree_stepped_alike : {M T : Type 0} (b : Machine M T) (P : Step M) → IsAlikeStep b P → (ends : M → Bool) (old : Node M) (e : EdgeView) (at : ℕ) (new : Node M) → IsSteppedAt P ends old e at new → IsAlike b old new
+tree_stepped_alike b P alike ends old e zero new h a =
+    over_alike b a old.machine new.machine old.inputs new.inputs (node_alike b old.machine new.machine (alike old.machine e.asked e.sent new.machine h.made) a) (ap (row_allocates b a) h.inputs ∙ row_closed_if b a (ends new.machine && true) old.inputs)
+tree_stepped_alike b P alike ends old e (suc at) new h a =
+    over_alike b a old.machine new.machine old.inputs new.inputs (ap (node_allocates b a) h.machine) (stepped_alike b P alike ends old.inputs at new.inputs h.made a)
+
+pub driven_alike : {M T : Type 0} (b : Machine M T) (m : Meaning T) (steps : Bool) (k : ℕ) (old : Node M) (asked sent : ℕ) (new : Node M) → IsDriven b m steps k old asked sent new → IsAlike b old new
+driven_alike b m steps zero old asked sent new h a = ap (tree_allocates b a) h
+driven_alike b m steps (suc k) old asked sent new h a = driven_alike b m steps k h.0 asked sent new h.2 a ∙ h.1.alike a
+
+-- ---- no want of memory
+
+-- the calls of a Send
+pub send_free : {M T : Type 0} (b : Machine M T) (a : Allocates) (r n : M) → (node_allocates b a r || node_allocates b a n) ≡ false → send_over_allocates b a r n ≡ false
+send_free b a r n h =
+    or_none (b.pop_allocates a n) (b.signal_allocates a r) (or_left (b.pop_allocates a n) _ (or_right (node_allocates b a r) _ h))
+    (or_left (b.signal_allocates a r) _ (or_right (b.pop_allocates a r) _ (or_left (node_allocates b a r) _ h)))
+
+-- those of a step of the sender
+pub step_free : {M T : Type 0} (b : Machine M T) (a : Allocates) (r n n' : M) → (node_allocates b a r || node_allocates b a n) ≡ false → n' ≡ n → b.step_allocates a n' ≡ false
+step_free b a r n n' h same = ap (b.step_allocates a) same ∙ or_right (b.signal_allocates a n) _ (or_right (b.pop_allocates a n) _ (or_right (node_allocates b a r) _ h))
+
+-- those over the first edge, of the row below it, and of the row beside it
+pub first_free : {M T : Type 0} (b : Machine M T) (a : Allocates) (r n : M) (x y : Bool) → (node_allocates b a r || (node_allocates b a n || (x || y))) ≡ false → (node_allocates b a r || node_allocates b a n) ≡ false
+first_free b a r n x y h = or_none (node_allocates b a r) (node_allocates b a n) (or_left (node_allocates b a r) _ h) (or_left (node_allocates b a n) _ (or_right (node_allocates b a r) _ h))
+
+pub below_free : {M T : Type 0} (b : Machine M T) (a : Allocates) (r n n' : M) (below was : Inputs M) (y : Bool) → (node_allocates b a r || (node_allocates b a n || (row_allocates b a below || y))) ≡ false → n' ≡ n → was ≡ below → over_allocates b a n' was ≡ false
+below_free b a r n n' below was y h same at =
+    let k = or_right (node_allocates b a r) _ h in
+    ap (λ c. over_allocates b a c was) same
+    ∙ (ap (over_allocates b a n) at ∙ or_none (node_allocates b a n) (row_allocates b a below) (or_left (node_allocates b a n) _ k) (or_left (row_allocates b a below) y (or_right (node_allocates b a n) _ k)))
+
+pub beside_free : {M T : Type 0} (b : Machine M T) (a : Allocates) (r n : M) (x : Bool) (beside was : Inputs M) → (node_allocates b a r || (node_allocates b a n || (x || row_allocates b a beside))) ≡ false → was ≡ beside → over_allocates b a r was ≡ false
+beside_free b a r n x beside was h at =
+    ap (over_allocates b a r) at
+    ∙ or_none (node_allocates b a r) (row_allocates b a beside) (or_left (node_allocates b a r) _ h) (or_right x (row_allocates b a beside) (or_right (node_allocates b a n) _ (or_right (node_allocates b a r) _ h)))

@@ -1,0 +1,32 @@
+-- Which calls of a tree's nodes may allocate, where these of the caller's functions may.
+use Rattle.std.specs.Prelude.{◌≡◌, Bool, false, ◌||◌}
+use Rattle.rsx_types.specs.Meaning.{Allocates}
+use Rattle.rsx_sources.specs.Steps.{AllocatesAlike}
+use Rattle.rsx_sources.specs.declared.machine.Machine.{Ghosts as Machine}
+use Rattle.rsx_tree.specs.declared.inputs.Inputs.{Inputs, End, More'}
+use Rattle.rsx_tree.specs.declared.node.Node.{Node}
+
+-- whether some call of a node may: taking a signal in, taking one out, a pick or a row
+abbrev pub node_allocates : {M T : Type 0} → Machine M T → Allocates → M → Bool
+node_allocates b a n = b.pop_allocates a n || (b.signal_allocates a n || b.step_allocates a n)
+
+-- whether some call of a node of a row, or below it, may
+abbrev pub row_allocates : {M T : Type 0} → Machine M T → Allocates → Inputs M → Bool
+row_allocates b a End = false
+row_allocates b a (More' e n p below q beside) = node_allocates b a n || (row_allocates b a below || row_allocates b a beside)
+
+-- whether some call of a node over this row, or of a node in it, may
+abbrev pub over_allocates : {M T : Type 0} → Machine M T → Allocates → M → Inputs M → Bool
+over_allocates b a r t = node_allocates b a r || row_allocates b a t
+
+-- whether some call of a node of a tree may
+abbrev pub tree_allocates : {M T : Type 0} → Machine M T → Allocates → Node M → Bool
+tree_allocates b a t = over_allocates b a t.machine t.inputs
+
+-- the same calls of a node may
+abbrev pub IsNodeAlike : {M T : Type 0} → Machine M T → M → M → Type 0
+IsNodeAlike b old new = AllocatesAlike b.pop_allocates b.signal_allocates b.step_allocates old new
+
+-- where no call of a tree's nodes may, none may later, whatever the caller's functions
+abbrev pub IsAlike : {M T : Type 0} → Machine M T → Node M → Node M → Type 0
+IsAlike b old new = (a : Allocates) → tree_allocates b a new ≡ tree_allocates b a old
