@@ -1,6 +1,5 @@
 -- A closed row has as many nodes.
-use Rattle.std.proofs.Common.{◌≡◌, ℕ, ◌+◌, Bool, true, false, refl}
-use Rattle.rsx_tree.specs.declared.edge.Edge.{Edge}
+use Rattle.std.proofs.Common.{◌≡◌, Bool, true, false, refl}
 use Rattle.rsx_tree.specs.declared.inputs.Inputs.{Inputs, End, More'}
 use Rattle.rsx_tree.specs.Inputs.{size, closed_row, closed_row_if}
 

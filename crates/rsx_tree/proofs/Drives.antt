@@ -1,5 +1,5 @@
 -- Runs of moves: how they are put together.
-use Rattle.std.proofs.Common.{◌^◌, ◌||◌, ◌≡◌, ◌⊎◌, inl, inr, ℕ, zero, suc, ◌+◌, ◌-◌, ◌<◌, ◌≤◌, Bool, true, false, ◌&&◌, nat_eq, nat_le, if◌then◌else◌, refl, ap, sym, ◌∙◌, subst, arith, Option, Some, None, Box, Global}
+use Rattle.std.proofs.Common.{◌^◌, ◌||◌, ◌≡◌, ◌⊎◌, inl, inr, ℕ, zero, suc, ◌+◌, ◌-◌, ◌<◌, ◌≤◌, Bool, true, false, ◌&&◌, nat_eq, nat_le, if◌then◌else◌, refl, ap, sym, ◌∙◌, subst, arith, Option}
 use Rattle.std.proofs.lemmas.Bool.Decides.{nat_tests}
 use Rattle.std.specs.Box.{with_value}
 use Rattle.rsx_types.specs.Meaning.{Meaning}
@@ -8,12 +8,12 @@ use Rattle.rsx_tree.specs.declared.edge.Edge.{Edge}
 use Rattle.rsx_tree.specs.declared.inputs.Inputs.{Inputs, End, More'}
 use Rattle.rsx_tree.specs.declared.inputs.Inputs.TheViews.{More}
 use Rattle.rsx_tree.specs.declared.node.Node.{Node}
-use Rattle.rsx_tree.specs.Edges.{EdgeView, edge_view, can_ask_for}
-use Rattle.rsx_tree.specs.Inputs.{size, is_own, place, Place, closed_row_if, can_send_over, can_ask_in, can_send_in}
+use Rattle.rsx_tree.specs.Edges.{EdgeView}
+use Rattle.rsx_tree.specs.Inputs.{size, is_own, place, Place, closed_row_if, can_ask_in, can_send_in}
 use Rattle.rsx_tree.specs.Changed.{Change, IsChanged, IsAskedOver, IsSentOver, Hold}
 use Rattle.rsx_tree.specs.Stepped.{IsStepped, IsStepOf, IsStepOver, Step, Station, IsPickedHere, IsRowMadeHere, IsStill, station}
 use Rattle.rsx_tree.specs.Tree.{IsKept}
-use Rattle.rsx_tree.specs.Driven.{IsMade, IsAskMade, IsSendMade, IsStepMade, IsRowRun, IsRowEnded, IsRowDriven, IsRowIdle, IsRestAt, IsRestOver, IsDriven, IsAdvanced, IsIdle}
+use Rattle.rsx_tree.specs.Driven.{IsMade, IsRowRun, IsRowEnded, IsRowDriven, IsRowIdle, IsRestAt, IsRestOver, IsDriven, IsAdvanced, IsIdle}
 use Rattle.rsx_types.specs.Notes.{note_then}
 use Rattle.rsx_tree.specs.declared.edge.EdgeState.TheVariants.{Live}
 use Rattle.rsx_tree.specs.Chosen.{IsChosen}
@@ -23,7 +23,7 @@ use Rattle.rsx_tree.specs.Balance.{IsBalanced}
 use Rattle.rsx_tree.proofs.Balances.{tree_ask_balanced, tree_send_balanced}
 use Rattle.rsx_tree.proofs.Rows.{size_sent}
 use Rattle.rsx_tree.proofs.Effects.{row_asked}
-use Rattle.rsx_tree.proofs.Changes.{Rest, chosen_first, chosen_second, not_zero, is_within, is_beyond, changed_here}
+use Rattle.rsx_tree.proofs.Changes.{Rest, chosen_first, chosen_second, not_zero, is_within, is_beyond}
 
 -- so much of a budget is left in a run of moves of a row that has led to this receiver and this row
 pub record IsUnderWay {M T : Type 0} (b : Machine M T) (m : Meaning T) (steps : Bool) (i asked sent budget : ℕ) (r : M) (t : Inputs M) (left : ℕ) (r' : M) (t' : Inputs M) : Type 0 where

@@ -1,22 +1,20 @@
 -- What a change of one edge says of the edges, and that the move was enabled.
-use Rattle.std.proofs.Common.{◌≡◌, ◌⊎◌, inl, inr, ℕ, zero, suc, ◌+◌, ◌-◌, ◌<◌, ◌≤◌, Bool, true, false, ◌&&◌, nat_eq, nat_le, if◌then◌else◌, List, [], ◌∷◌, ◌++◌, length, map, refl, ap, sym, ◌∙◌, subst, arith, append_assoc, length-append, Option, Some, None, option_map, option_and_then, slice_get}
-use Rattle.std.proofs.lemmas.Bool.Decides.{nat_tests}
+use Rattle.std.proofs.Common.{◌≡◌, inl, inr, ℕ, zero, suc, ◌+◌, ◌-◌, ◌<◌, ◌≤◌, Bool, true, false, ◌&&◌, nat_eq, nat_le, List, [], ◌∷◌, ◌++◌, length, refl, ap, sym, ◌∙◌, subst, arith, length-append, Option, Some, option_map, slice_get}
 use Rattle.rsx_types.specs.Meaning.{Meaning}
-use Rattle.rsx_types.specs.Stream.{Stream, signal_then}
+use Rattle.rsx_types.specs.Stream.{Stream}
 use Rattle.rsx_types.specs.declared.note.Note.{Note}
-use Rattle.rsx_types.specs.declared.signal.Signal.{Signal}
-use Rattle.rsx_sources.specs.Machine.{Keeps, LetsGo, front_of, incoming_of}
+use Rattle.rsx_sources.specs.Machine.{front_of}
 use Rattle.rsx_sources.specs.declared.machine.Front.{Front}
 use Rattle.rsx_sources.specs.declared.machine.Machine.{Ghosts as Machine}
 use Rattle.rsx_tree.specs.declared.edge.Edge.{Edge}
 use Rattle.rsx_tree.specs.declared.inputs.Inputs.{Inputs, End, More'}
-use Rattle.rsx_tree.specs.Edges.{edge_view, EdgeView, asked_up_to, changed_at, closed_edge, closed_if, closed_view, passed}
-use Rattle.rsx_tree.specs.Inputs.{Place, place, size, edges, notes_of, comes_in, through, out_of, beside_of, is_own, closed_row, closed_row_if, wanted_at, sent_edges}
+use Rattle.rsx_tree.specs.Edges.{edge_view, EdgeView, asked_up_to, changed_at, closed_if}
+use Rattle.rsx_tree.specs.Inputs.{Place, place, size, edges, notes_of, comes_in, out_of, beside_of, is_own, closed_row, closed_row_if, wanted_at, sent_edges}
 use Rattle.rsx_tree.specs.Tree.{ended_in}
-use Rattle.rsx_tree.specs.Changed.{Change, IsChanged, IsAskedOver, IsSentOver, IsHere, IsBelow, IsBeside}
+use Rattle.rsx_tree.specs.Changed.{Change, IsChanged, IsAskedOver, IsSentOver}
 use Rattle.rsx_tree.proofs.Changes.{chosen_first, chosen_second, not_zero, is_within, is_beyond}
 use Rattle.rsx_tree.proofs.Closes.{size_closed, size_closed_if}
-use Rattle.rsx_tree.proofs.Rows.{then_same, size_sent, edges_closed}
+use Rattle.rsx_tree.proofs.Rows.{size_sent, edges_closed}
 
 -- ---- the place that changed
 

@@ -1,9 +1,9 @@
 -- What an idle tree with balanced counts offers.
-use Rattle.std.proofs.Common.{◌≡◌, ◌⊎◌, inl, inr, ℕ, zero, suc, ◌+◌, ◌-◌, ◌<◌, ◌≤◌, ◌^◌, Bool, true, false, ◌&&◌, nat_lt, nat_eq, nat_le, if◌then◌else◌, List, [], ◌∷◌, refl, ap, sym, ◌∙◌, subst, arith, Option, Some, None, option_map, slice_get}
+use Rattle.std.proofs.Common.{◌≡◌, ◌⊎◌, inl, inr, ℕ, zero, suc, ◌+◌, ◌-◌, ◌<◌, ◌≤◌, ◌^◌, Bool, true, false, ◌&&◌, nat_lt, nat_eq, nat_le, List, refl, ap, sym, ◌∙◌, subst, arith, Option, Some, None, option_map, slice_get}
 use Rattle.std.proofs.lemmas.Bool.Decides.{nat_tests}
 use Rattle.rsx_types.specs.Meaning.{Meaning}
 use Rattle.rsx_types.specs.declared.signal.Signal.{Signal}
-use Rattle.rsx_sources.specs.Counts.{AreWithin, CanStep, IsHungry, IsHungryAt}
+use Rattle.rsx_sources.specs.Counts.{AreWithin, CanStep, IsHungry}
 use Rattle.rsx_sources.specs.Machine.{front_of}
 use Rattle.rsx_sources.specs.declared.machine.Front.{Front}
 use Rattle.rsx_sources.specs.declared.machine.Front.TheVariants.{Item, Completion, Failure}
@@ -12,8 +12,8 @@ use Rattle.rsx_tree.specs.declared.edge.Edge.{Edge}
 use Rattle.rsx_tree.specs.declared.inputs.Inputs.{Inputs, End, More'}
 use Rattle.rsx_tree.specs.declared.node.Node.{Node}
 use Rattle.rsx_tree.specs.Edges.{edge_view, EdgeView, is_live, can_pass}
-use Rattle.rsx_tree.specs.Inputs.{size, place, Place, can_go, can_send_over, can_ask_in, can_send_in}
-use Rattle.rsx_tree.specs.Balance.{sent_over, IsOwnerBalanced, IsRowBalanced, IsBalanced, IsRowWithin, IsWithin}
+use Rattle.rsx_tree.specs.Inputs.{size, place, can_go, can_send_over}
+use Rattle.rsx_tree.specs.Balance.{sent_over, IsRowBalanced, IsBalanced, IsRowWithin, IsWithin}
 use Rattle.rsx_tree.specs.Changed.{Hold}
 use Rattle.rsx_tree.specs.Driven.{IsRestAt, IsRowIdle, IsIdle}
 use Rattle.rsx_tree.specs.Stepped.{IsStill, over, station}

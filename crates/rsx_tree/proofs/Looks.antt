@@ -1,5 +1,5 @@
 -- The first enabled move of a row.
-use Rattle.std.proofs.Common.{◌^◌, ◌≡◌, ◌⊎◌, inl, inr, ℕ, zero, suc, ◌+◌, ◌-◌, ◌<◌, ◌≤◌, min, Bool, true, false, nat_eq, nat_le, if◌then◌else◌, refl, ap, sym, ◌∙◌, subst, arith, Option, Some, None}
+use Rattle.std.proofs.Common.{◌^◌, ◌≡◌, ℕ, zero, suc, ◌+◌, ◌-◌, ◌<◌, min, Bool, true, false, nat_eq, nat_le, refl, ap, sym, ◌∙◌, subst, arith, Option, Some, None}
 use Rattle.std.proofs.lemmas.Bool.Decides.{nat_tests}
 use Rattle.std.specs.Prelude.{IfSome, IfNone}
 use Rattle.rsx_types.specs.Meaning.{Meaning}
@@ -10,7 +10,7 @@ use Rattle.rsx_tree.specs.declared.inputs.Inputs.TheViews.{More}
 use Rattle.rsx_tree.specs.declared.look.NodeMove.{NodeMove}
 use Rattle.rsx_tree.specs.declared.look.NodeMove.TheVariants.{Ask, Send, Pick, Row}
 use Rattle.rsx_tree.specs.Driven.{IsRestAt, IsRestOver}
-use Rattle.rsx_tree.specs.Stepped.{Station, station, IsStill, can_pick_in, can_row_in}
+use Rattle.rsx_tree.specs.Stepped.{station, IsStill, can_pick_in, can_row_in}
 use Rattle.rsx_tree.specs.Inputs.{size, place, can_ask_in, can_send_in}
 use Rattle.rsx_tree.specs.Look.{IsEnabledOver, IsEnabledIn, IsEnabledAt}
 use Rattle.rsx_tree.specs.Tree.{can_ask, can_send}

@@ -12,10 +12,10 @@ use Rattle.rsx_tree.specs.declared.inputs.Inputs.{Inputs, End, More'}
 use Rattle.rsx_tree.specs.declared.node.Node.{Node}
 use Rattle.rsx_tree.specs.Balance.{IsBalanced}
 use Rattle.rsx_tree.specs.Changed.{Hold}
-use Rattle.rsx_tree.specs.Chosen.{noted_at, recorded_at, stepped_edges, edges_after, ended_there, IsChosen, IsPickedAt, IsRowAt}
+use Rattle.rsx_tree.specs.Chosen.{noted_at, stepped_edges, edges_after, ended_there, IsChosen, IsPickedAt, IsRowAt}
 use Rattle.rsx_tree.specs.Edges.{EdgeView, edge_view, is_live, closed_if}
 use Rattle.rsx_tree.specs.Inputs.{size, edges, notes_of, comes_in, out_of, beside_of, closed_row_if}
-use Rattle.rsx_tree.specs.Stepped.{Step, IsStepped, IsSteppedAt, IsPickedHere, IsRowMadeHere, IsStepOf, Station, station, station_of, can_pick_in, can_row_in}
+use Rattle.rsx_tree.specs.Stepped.{Step, IsStepped, IsSteppedAt, IsPickedHere, IsRowMadeHere, Station, station, station_of, can_pick_in, can_row_in}
 use Rattle.rsx_tree.specs.Tree.{notes, IsKept}
 use Rattle.rsx_tree.proofs.Balances.{step_balanced, root_balanced}
 use Rattle.rsx_tree.proofs.Changes.{chosen_first, chosen_second, not_zero, is_within, is_beyond}

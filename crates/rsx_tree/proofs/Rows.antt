@@ -1,17 +1,16 @@
 -- What a change of one edge leaves as it is: what still comes in, what was recorded, and how many nodes there are.
-use Rattle.std.proofs.Common.{◌≡◌, ◌⊎◌, inl, inr, ℕ, zero, suc, ◌+◌, ◌-◌, ◌<◌, ◌≤◌, Bool, true, false, ◌&&◌, nat_eq, nat_le, if◌then◌else◌, List, [], ◌∷◌, ◌++◌, length, map, refl, ap, sym, ◌∙◌, subst, arith, append_assoc, length-append, Option, Some, None, option_map, option_and_then, slice_get}
+use Rattle.std.proofs.Common.{◌≡◌, inl, inr, ℕ, ◌+◌, ◌-◌, Bool, true, false, ◌&&◌, List, [], ◌∷◌, ◌++◌, length, map, refl, ap, sym, ◌∙◌, append_assoc, length-append, Option, Some, None, option_map, option_and_then, slice_get}
 use Rattle.rsx_types.specs.Meaning.{Meaning}
 use Rattle.rsx_types.specs.Stream.{Stream, signal_then}
 use Rattle.rsx_types.specs.declared.note.Note.{Note}
 use Rattle.rsx_types.specs.declared.signal.Signal.{Signal}
-use Rattle.rsx_sources.specs.Machine.{Incoming, Keeps, LetsGo, TakesIn, incoming_of, in_front, in_front_at}
+use Rattle.rsx_sources.specs.Machine.{LetsGo, TakesIn, incoming_of, in_front, in_front_at}
 use Rattle.rsx_sources.specs.declared.machine.Machine.{Ghosts as Machine}
-use Rattle.rsx_tree.specs.declared.edge.Edge.{Edge}
 use Rattle.rsx_tree.specs.declared.inputs.Inputs.{Inputs, End, More'}
-use Rattle.rsx_tree.specs.Edges.{edge_view, EdgeView, closed_edge, closed_view}
+use Rattle.rsx_tree.specs.Edges.{closed_view}
 use Rattle.rsx_tree.specs.Inputs.{size, edges, notes_of, comes_in, through, out_of, beside_of, is_own, closed_row, closed_row_if}
 use Rattle.rsx_tree.proofs.Closes.{size_closed, size_closed_if}
-use Rattle.rsx_tree.specs.Changed.{Change, IsChanged, IsAskedOver, IsSentOver, IsHere, IsBelow, IsBeside, IsPassedOn}
+use Rattle.rsx_tree.specs.Changed.{IsChanged, IsSentOver, IsPassedOn}
 
 pub then_same : {A B : Type 0} (f g : A → Option B) → ((a : A) → f a ≡ g a) → (o : Option A) → option_and_then f o ≡ option_and_then g o
 then_same f g e None = refl

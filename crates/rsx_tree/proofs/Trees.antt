@@ -1,8 +1,6 @@
 -- A tree from its root and the row of its inputs.
 use Rattle.std.proofs.Common.{◌≡◌, ℕ, ◌+◌, Bool, true, false, ◌&&◌, List, [], ◌∷◌, ◌++◌, map, refl, ap, sym, ◌∙◌, subst, Option, Some, None, option_map, slice_get}
 use Rattle.rsx_types.specs.Meaning.{Meaning}
-use Rattle.rsx_types.specs.Stream.{Stream}
-use Rattle.rsx_types.specs.declared.note.Note.{Note}
 use Rattle.rsx_types.specs.declared.signal.Signal.{Signal}
 use Rattle.rsx_sources.specs.Counts.{CountsOut}
 use Rattle.rsx_sources.specs.Steps.{IsPopped as IsPoppedHere}
@@ -16,9 +14,9 @@ use Rattle.rsx_tree.specs.declared.inputs.Inputs.TheViews.{More}
 use Rattle.rsx_tree.proofs.Changes.{Rest}
 use Rattle.rsx_tree.specs.declared.node.Node.{Node}
 use Rattle.rsx_tree.specs.Edges.{EdgeView, can_ask_for, closed_if, closed_view, closed_state}
-use Rattle.rsx_tree.specs.Inputs.{Place, place, comes_in, through, out_of, notes_of, edges as edges_in, is_own, closed_row, closed_row_if, can_ask_at, can_ask_in, can_send_at, can_send_in, can_send_over, sent_edges, tests}
+use Rattle.rsx_tree.specs.Inputs.{Place, place, comes_in, through, out_of, notes_of, edges as edges_in, is_own, closed_row, closed_row_if, can_ask_in, can_send_in, can_send_over, sent_edges}
 use Rattle.rsx_tree.specs.Changed.{IsChanged, IsAskedOver, IsSentOver}
-use Rattle.rsx_tree.specs.Tree.{comes_out, notes, IsKept, IsPopped, IsSentAt, IsAskedAt, IsJoined, NoneLive, ended_in}
+use Rattle.rsx_tree.specs.Tree.{IsKept, IsPopped, IsSentAt, IsAskedAt, IsJoined, NoneLive, ended_in}
 use Rattle.rsx_tree.proofs.Balances.{tree_pop_balanced}
 use Rattle.rsx_tree.proofs.Rows.{out_lets_go, then_same, passed_on, notes_sent, recorded_sent, notes_closed, notes_closed_if, comes_in_closed, comes_in_closed_if}
 use Rattle.rsx_tree.proofs.Effects.{Found, found, row_asked, row_sent, edges_closed_if, ended_closed_if, own_ended, same_close}

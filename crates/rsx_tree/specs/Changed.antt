@@ -1,5 +1,5 @@
 -- How a move changes a row of inputs: one edge and the nodes at its ends, and nothing else.
-use Rattle.std.specs.Prelude.{◌≡◌, ◌⊎◌, Box, ℕ, ◌+◌, ◌-◌, ◌<◌, ◌≤◌, Bool, true, false, ◌&&◌, List, ◌++◌, length, Option, Some, None, option_map}
+use Rattle.std.specs.Prelude.{◌≡◌, ◌⊎◌, Box, ℕ, ◌+◌, ◌-◌, ◌<◌, ◌≤◌, Bool, true, ◌&&◌, List, ◌++◌, length, Some, option_map}
 use Rattle.std.specs.declared.alloc.Global.{Global}
 use Rattle.rsx_types.specs.Meaning.{Meaning}
 use Rattle.rsx_types.specs.Stream.{Stream}

@@ -1,7 +1,7 @@
-use Rattle.std.proofs.Common.{◌≡◌, ◌+◌, ◌-◌, ◌<◌, ◌≤◌, ℕ, ap, sym, ◌∙◌, subst, arith, false, true, rules, refl}
+use Rattle.std.proofs.Common.{◌≡◌, ◌+◌, ◌-◌, ◌∙◌, arith, false, true, refl}
 use Rattle.std.specs.Box.{with_value}
 use Rattle.rsx_tree.specs.declared.inputs.Inputs.TheViews.{More}
-use Rattle.rsx_tree.proofs.Drives.{size_run, under_way_made, ended_made, under_way_below, over_beside, done_below, shut_by, still_some, idle_beside, idle_last}
+use Rattle.rsx_tree.proofs.Drives.{size_run, under_way_made, ended_made, under_way_below, over_beside, done_below, shut_by, still_some}
 use Rattle.rsx_tree.proofs.inputs.Inputs.+drive.Goals as goal
 
 pub returns-in-Ok-Ended-clause-driven : goal.returns-in-Ok-Ended-clause-driven

@@ -1,7 +1,5 @@
-use Rattle.std.specs.Prelude.{◌≡◌, ◌+◌, ◌≤◌, ◌<◌, true, false, if◌then◌else◌}
-use Rattle.rsx_tree.specs.Inputs.{size, can_send_over}
-use Rattle.rsx_tree.specs.Edges.{edge_view, can_ask_for}
-use Rattle.rsx_tree.specs.Driven.{IsRowIdle}
+use Rattle.std.specs.Prelude.{◌≡◌, ◌+◌, ◌<◌, true, false, if◌then◌else◌}
+use Rattle.rsx_tree.specs.Inputs.{size}
 use Rattle.rsx_tree.specs.declared.inputs.Inputs.TheViews.{More}
 use Rattle.rsx_tree.proofs.Drives.{IsUnderWay, IsDone}
 use Rattle.rsx_tree.proofs.inputs.Inputs.+drive.Given as goal

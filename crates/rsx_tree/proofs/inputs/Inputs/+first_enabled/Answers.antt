@@ -1,4 +1,4 @@
-use Rattle.std.proofs.Common.{◌≡◌, ◌-◌, ◌+◌, ◌<◌, ◌^◌, ℕ, ap, sym, ◌∙◌, refl, arith, true, false}
+use Rattle.std.proofs.Common.{◌-◌, ap, ◌∙◌}
 use Rattle.rsx_tree.specs.Inputs.{size}
 use Rattle.rsx_tree.proofs.Looks.{first_here, first_below, first_beside, none_row, none_beside, none_last, counted, all_counted}
 use Rattle.rsx_tree.proofs.inputs.Inputs.+first_enabled.Goals as goal

@@ -1,5 +1,5 @@
 use Rattle.std.proofs.Common.{arith}
-use Rattle.rsx_tree.specs.Stepped.{IsPickedHere, IsRowMadeHere}
+use Rattle.rsx_tree.specs.Stepped.{IsRowMadeHere}
 use Rattle.rsx_tree.proofs.Steps.{stepped_here, stepped_beside, stepped_below}
 use Rattle.rsx_tree.proofs.inputs.Inputs.+make_row.Goals as goal
 

@@ -1,7 +1,5 @@
-use Rattle.std.proofs.Common.{◌≡◌, ◌∙◌, refl, ap, sym, subst, arith, Bool, false, true, ◌&&◌, rules}
-use Rattle.rsx_sources.specs.Steps.{IsNotMade}
+use Rattle.std.proofs.Common.{arith, rules}
 use Rattle.rsx_tree.specs.Changed.{IsSentOver}
-use Rattle.rsx_tree.specs.Inputs.{can_send_in, is_own, closed_row_if}
 use Rattle.rsx_tree.proofs.Changes.{changed_here, changed_beside, changed_below, place_beside, place_below}
 use Rattle.rsx_tree.proofs.inputs.Inputs.+send.Goals as goal
 

@@ -1,4 +1,4 @@
-use Rattle.std.proofs.Common.{◌≡◌, ◌+◌, ◌-◌, ◌<◌, ◌≤◌, ℕ, ap, sym, ◌∙◌, subst, arith, false, true, refl}
+use Rattle.std.proofs.Common.{◌≡◌, ◌+◌, ◌-◌, arith, false, true, refl}
 use Rattle.rsx_tree.proofs.Drives.{tree_begun, tree_under_way, idle_after, none_left, shut_by, still_some, pass_same}
 use Rattle.rsx_tree.proofs.node.Node.drive.Goals as goal
 

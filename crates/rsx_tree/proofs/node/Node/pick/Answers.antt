@@ -1,9 +1,7 @@
-use Rattle.std.proofs.Common.{refl, sym, ◌∙◌, ap, true, ◌&&◌}
 use Rattle.rsx_tree.specs.Edges.{edge_view}
-use Rattle.rsx_tree.specs.Inputs.{closed_row_if}
 use Rattle.rsx_tree.specs.Stepped.{IsPickedHere, IsSteppedAt}
 use Rattle.rsx_tree.proofs.Noted.{node, picked_noted, picked_effect, picked_enabled}
-use Rattle.rsx_tree.proofs.Steps.{stepped_root, stepped_tree, station_tree, station_root}
+use Rattle.rsx_tree.proofs.Steps.{stepped_root, stepped_tree}
 use Rattle.rsx_tree.proofs.node.Node.pick.Goals as goal
 
 pub returns-in-Ok-clause-made : goal.returns-in-Ok-clause-made

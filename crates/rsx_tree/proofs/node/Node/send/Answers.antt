@@ -1,6 +1,5 @@
 use Rattle.rsx_tree.proofs.Balances.{tree_send_balanced}
-use Rattle.std.proofs.Common.{◌≡◌, ◌&&◌, ap, sym, ◌∙◌, rules}
-use Rattle.rsx_tree.specs.Inputs.{closed_row_if, is_own}
+use Rattle.std.proofs.Common.{◌&&◌, rules}
 use Rattle.rsx_tree.proofs.Trees.{kept_sent, can_sent, sent_effect}
 use Rattle.rsx_tree.proofs.node.Node.send.Goals as goal
 
