@@ -1,5 +1,5 @@
 -- The tree of a part: what `rsx_tree` says of a tree of nodes of any kind, at the kinds that there are.
-use Rattle.std.specs.Prelude.{◌≡◌, ◌&&◌, ℕ, Bool, true, false, List, Option, Some, None, option_map, option_and_then}
+use Rattle.std.specs.Prelude.{◌&&◌, ℕ, Bool, true, false, List, Option, Some, None, option_map}
 use Rattle.rsx_types.specs.Meaning.{Meaning, Allocates}
 use Rattle.rsx_types.specs.Stream.{Stream}
 use Rattle.rsx_types.specs.declared.note.Note.{Note}
