@@ -74,15 +74,20 @@ fn started<O: Ops>(alloc: Global, ops: O, case: &str, count: u64) -> Result<(Gra
     }
 }
 
-/// Pumps until the graph is idle.
-fn pump<O: Ops>(alloc: Global, graph: &mut Graph<O>, budget: u32, sum: &mut Sum)
-where
+/// Pumps until the graph is idle. The list of deliveries is used again by each call.
+fn pump<O: Ops>(
+    alloc: Global,
+    graph: &mut Graph<O>,
+    budget: u32,
+    out: &mut Deliveries<O::Item>,
+    sum: &mut Sum,
+) where
     O::Item: Weight,
 {
     for _ in 0..u64::MAX {
-        let mut out = Deliveries::new(alloc);
-        let pumped = graph.pump(alloc, budget, &mut out);
-        sum.add(&out);
+        let pumped = graph.pump(alloc, budget, out);
+        sum.add(out);
+        out.clear();
         match pumped {
             Ok(Pumped::Budget) => {}
             _ => break,
@@ -101,9 +106,10 @@ where
         "single" => (count, 1),
         _ => (1, i64::MAX),
     };
+    let mut out = Deliveries::new(alloc);
     for _ in 0..requests {
         let _ = graph.request(sub, n);
-        pump(alloc, &mut graph, budget, &mut sum);
+        pump(alloc, &mut graph, budget, &mut out, &mut sum);
     }
     Ok(sum)
 }

@@ -381,6 +381,12 @@ impl<T: Drop> Part<T> {
         if self.can_send_root(out) {
             return false;
         }
+        let asked = self.root.demand.asked;
+        let sent = self.root.demand.sent;
+        // This look is the shorter one, and finds most idle trees so.
+        if self.tree.is_idle(asked, sent) {
+            return true;
+        }
         match self
             .tree
             .first_enabled(1, self.root.demand.asked, self.root.demand.sent)
