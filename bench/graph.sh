@@ -1,7 +1,8 @@
 #!/usr/bin/env bash
 # Measures graphs through the library, without a script: for each case and for 64-bit integers and the demonstration's
 # items, the instructions an item (between 10,000 and 110,000 items, where valgrind is installed) and the nanoseconds an
-# item (the least of many runs), and at the end the peak memory of runs of 10,000 to 1,000,000 items.
+# item (the least of many runs), and at the end the peak memory of runs of 10,000 to 10,000,000 items.
+# Beside the first paths, where rustc is installed, the instructions an item of bench/nodes.rs: the same in plain Rust.
 # First build crates/rsx_graph_bench (rt run makes crates/rsx_graph_bench/out/rsx_graph_bench); the cases are described at
 # the head of its src/main.rt.
 #
@@ -12,7 +13,8 @@ program=${PROGRAM:-crates/rsx_graph_bench/out/rsx_graph_bench}
 rounds=${1:-40}
 budget=65536
 log=$(mktemp)
-trap 'rm -f "$log"' EXIT
+folder=$(mktemp -d)
+trap 'rm -rf "$log" "$folder"' EXIT
 
 # The instructions of one run over so many items.
 instructions() {
@@ -55,8 +57,20 @@ if [[ -x $app ]] && command -v valgrind >/dev/null; then
     done | awk 'NR == 1 { few = $1 } NR == 2 { printf "rsx run, filter: %d instructions an item\n", ($1 - few) / 100000 }'
 fi
 
+# The same paths in plain Rust.
+if command -v rustc >/dev/null && command -v valgrind >/dev/null; then
+    rustc -O -o "$folder/nodes" bench/nodes.rs
+    for case in range map filter half single; do
+        for count in 10000 110000; do
+            valgrind --tool=callgrind --callgrind-out-file=/dev/null "$folder/nodes" "$case" "$count" 1 >/dev/null 2>"$log"
+            awk '/Collected/ { print $4 }' "$log"
+        done | awk -v name="$case" 'NR == 1 { few = $1 } NR == 2 { printf "by hand, %s: %d instructions", name, ($1 - few) / 100000 }'
+        "$folder/nodes" "$case" 100000 "$rounds" 2>&1 >/dev/null | awk '{ printf ", %.1f ns\n", $1 / 100000 }'
+    done
+fi
+
 printf '%10s %16s\n' items 'peak memory, KiB'
-for count in 10000 100000 1000000; do
+for count in 10000 100000 1000000 10000000; do
     /usr/bin/env python3 - "$program" "$count" "$budget" <<'PY'
 import resource, subprocess, sys
 program, count, budget = sys.argv[1:]

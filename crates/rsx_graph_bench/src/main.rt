@@ -1,7 +1,8 @@
 //! Times graphs through the library, without a script.
 //!
 //! `rsx_graph_bench ITEMS CASE COUNT BUDGET ROUNDS` pumps an expression over the numbers from 1 to COUNT to its end, with
-//! so much of a budget in each call, and does so ROUNDS times. ITEMS is `numbers` (64-bit integers) or `values` (the items
+//! so much of a budget in each call, and does so ROUNDS times. Of more than a million numbers each million has a subscription
+//! of its own. ITEMS is `numbers` (64-bit integers) or `values` (the items
 //! of the demonstration). CASE is `range`; `map` (doubles); `filter` (the even ones of the doubled); `half` (the doubled of
 //! the even ones); `single` (as `filter`, each item asked for and pumped by itself); `buffer` (lists of 10); `scan` (as
 //! many as there are of the totals); `keys3` and `keys` (distinct, with three keys and with a key for each number).
@@ -22,6 +23,9 @@ use rsx_types::{Ops, Signal, SubId};
 use std::alloc::Global;
 use std::env;
 use std::time::Instant;
+
+/// The longest range of an expression.
+const LONGEST: u64 = 1_000_000;
 
 /// What an item adds to the sum.
 trait Weight {
@@ -62,27 +66,36 @@ impl Sum {
     }
 }
 
-/// A graph with one subscription to a case.
-fn started<O: Ops>(alloc: Global, ops: O, case: &str, count: u64) -> Result<(Graph<O>, SubId)> {
-    let expr = expression(alloc, &ops, case, count)?;
-    let Ok(mut graph) = Graph::new(alloc, ops) else {
-        bail!("no memory")
-    };
+/// Subscribes to a case.
+fn subscribed<O: Ops>(
+    alloc: Global,
+    ops: &O,
+    graph: &mut Graph<O>,
+    case: &str,
+    count: u64,
+) -> Result<SubId> {
+    let expr = expression(alloc, ops, case, count)?;
     match graph.subscribe(alloc, &expr) {
-        Ok(sub) => Ok((graph, sub)),
+        Ok(sub) => Ok(sub),
         Err(_) => bail!("refused"),
     }
 }
 
-/// Pumps until the graph is idle.
-fn pump<O: Ops>(alloc: Global, graph: &mut Graph<O>, budget: u32, sum: &mut Sum)
+/// Pumps until the graph is idle. The list of deliveries is used again by each call.
+fn pump<O: Ops>(
+    alloc: Global,
+    graph: &mut Graph<O>,
+    budget: u32,
+    out: &mut Deliveries<O::Item>,
+    sum: &mut Sum,
+)
 where
     O::Item: Weight,
 {
     for _ in 0..u64::MAX {
-        let mut out = Deliveries::new(alloc);
-        let pumped = graph.pump(alloc, budget, &mut out);
-        sum.add(&out);
+        let pumped = graph.pump(alloc, budget, out);
+        sum.add(out);
+        out.clear();
         match pumped {
             Ok(Pumped::Budget) => {}
             _ => break,
@@ -90,20 +103,29 @@ where
     }
 }
 
-/// One run of a case.
+/// One run of a case: a subscription for each million of the numbers, one after the other.
 fn run<O: Ops>(alloc: Global, ops: O, case: &str, count: u64, budget: u32) -> Result<Sum>
 where
     O::Item: Weight,
 {
-    let (mut graph, sub) = started(alloc, ops, case, count)?;
-    let mut sum = Sum { items: 0, sum: 0 };
-    let (requests, n) = match case {
-        "single" => (count, 1),
-        _ => (1, i64::MAX),
+    let Ok(mut graph) = Graph::new(alloc, ops) else {
+        bail!("no memory")
     };
-    for _ in 0..requests {
-        let _ = graph.request(sub, n);
-        pump(alloc, &mut graph, budget, &mut sum);
+    let mut out = Deliveries::new(alloc);
+    let mut sum = Sum { items: 0, sum: 0 };
+    let mut left = count;
+    for _ in 0..count.div_ceil(LONGEST) {
+        let size = left.min(LONGEST);
+        left -= size;
+        let sub = subscribed(alloc, &ops, &mut graph, case, size)?;
+        let (requests, n) = match case {
+            "single" => (size, 1),
+            _ => (1, i64::MAX),
+        };
+        for _ in 0..requests {
+            let _ = graph.request(sub, n);
+            pump(alloc, &mut graph, budget, &mut out, &mut sum);
+        }
     }
     Ok(sum)
 }

@@ -8,6 +8,7 @@ use rsx_model::{Expr, ScratchRefusal, scratch};
 use rsx_script::{Answer, Command, Mode, Rest, Shown};
 use rsx_types::{Ending, NoMemory, Signal, StreamValue, SubId, Tree};
 use std::alloc::{AllocFailed, Global};
+use std::mem;
 
 /// The most moves of one call of `Graph::pump`, so that what it delivers is taken in before it grows large.
 const SLICE: u32 = 65_536;
@@ -61,6 +62,8 @@ pub struct Session {
     graph: Graph<Demo>,
     /// The subscriptions, in the order of their ids.
     records: Vec<Record>,
+    /// The list that deliveries are put into. It is empty between calls, and its memory is used again.
+    spare: Vec<(SubId, Signal<Val>)>,
 }
 
 impl Session {
@@ -75,6 +78,7 @@ impl Session {
                 mode,
                 graph,
                 records: Vec::new(alloc),
+                spare: Vec::new(alloc),
             }),
             Err(_) => Err(NoMemory),
         }
@@ -163,11 +167,14 @@ impl Session {
 
     /// Makes at most so many moves, and takes in what they delivered.
     fn pump_slice(&mut self, alloc: Global, budget: u32) -> Result<Pumped, Trouble> {
-        let mut deliveries = Deliveries::new(alloc);
+        let spare = mem::replace(&mut self.spare, Vec::new(alloc));
+        let mut deliveries = Deliveries::from_vec(spare);
         let pumped = self.graph.pump(alloc, budget, &mut deliveries)?;
-        for (sub, signal) in deliveries.into_vec() {
+        let mut signals = deliveries.into_vec();
+        for (sub, signal) in signals.drain(..) {
             self.take_in(sub, signal)?;
         }
+        self.spare = signals;
         Ok(pumped)
     }
 

@@ -1,6 +1,6 @@
 //! The signals that a graph delivered.
 
-ghost use Rattle.std.specs.Prelude.{◌≡◌, ◌∷◌, ◌++◌, [], ◌<◌, length, OnOk, OnErr};
+ghost use Rattle.std.specs.Prelude.{◌≡◌, ◌∷◌, ◌++◌, [], ◌<◌, length, OnOk, OnErr, ◌≤◌, vec_capacity};
 ghost use Rattle.rsx_subscriber.specs.Delivered.{IsFull};
 
 use rsx_types::{NoMemory, Signal, SubId};
@@ -33,6 +33,15 @@ impl<T: Drop> Deliveries<T> {
         }
     }
 
+    /// The signals of a list, in their order. Its memory is used and none is taken, so that a list that
+    /// [`Deliveries::into_vec`] gave and that was emptied is used again, with no growth.
+    pub fn from_vec(signals: Vec<(SubId, Signal<T>)>) -> Deliveries<T>
+        ensures signals { result.signals ≡ signals.items }
+        ensures room { result.room ≡ vec_capacity signals }
+    {
+        Deliveries { signals }
+    }
+
     /// How many signals there are.
     pub fn len(&self) -> usize
         ensures { result ≡ length self.now.signals }
@@ -47,9 +56,10 @@ impl<T: Drop> Deliveries<T> {
         self.signals.as_slice()
     }
 
-    /// The list of the signals. It takes no memory.
+    /// The list of the signals, with the memory for them. It takes no memory.
     pub fn into_vec(self) -> Vec<(SubId, Signal<T>)>
-        ensures { result.items ≡ self.signals }
+        ensures signals { result.items ≡ self.signals }
+        ensures room { vec_capacity result ≡ self.room }
     {
         let Deliveries { signals } = self;
         signals

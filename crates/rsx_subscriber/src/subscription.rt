@@ -241,11 +241,33 @@ impl<T: Drop> Subscription<T> {
 
     /// Hands the signals of the queue to the subscriber, at most `budget` of them, and answers how many of the budget are
     /// left.
+    #[inline(always)]
     fn deliver(&mut self, id: SubId, budget: u32, out: &mut Deliveries<T>) -> Result<u32, NoMemory>
         ensures pumped { (m : Meaning T) → (n : ℕ) × Spent budget n result × IsPumped m id n self.old out.old.signals self.new out.new.signals }
         ensures none { IfOk result (λ left. left ≡ budget → self.new ≡ self.old) }
         ensures rest { IfOk result (λ left. 0 < left → take_enabled self.new 0 ≡ false) }
         ensures full { OnErr result (IsFull out.new) }
+    {
+        // Mostly nothing is queued.
+        if self.queue.len() == 0 {
+            return Ok(budget);
+        }
+        match self.deliver_queued(id, budget, out) {
+            Ok(left) => Ok(left),
+            Err(NoMemory) => Err(NoMemory),
+        }
+    }
+
+    /// Hands the signals of the queue to the subscriber one after the other.
+    fn deliver_queued(
+        &mut self,
+        id: SubId,
+        budget: u32,
+        out: &mut Deliveries<T>,
+    ) -> Result<u32, NoMemory>
+        ensures pumped { (m : Meaning T) → (n : ℕ) × Spent budget n result × IsPumped m id n self.old out.old.signals self.new out.new.signals }
+        ensures none { IfOk result (λ left. left ≡ budget → self.new ≡ self.old) }
+        ensures rest { IfOk result (λ left. 0 < left → take_enabled self.new 0 ≡ false) }
     {
         for made in 0..budget {
             match self.advance_queue(id, out) {

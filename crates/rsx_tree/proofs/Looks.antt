@@ -9,14 +9,14 @@ use Rattle.rsx_tree.specs.declared.inputs.Inputs.{Inputs}
 use Rattle.rsx_tree.specs.declared.inputs.Inputs.TheViews.{More}
 use Rattle.rsx_tree.specs.declared.look.NodeMove.{NodeMove}
 use Rattle.rsx_tree.specs.declared.look.NodeMove.TheVariants.{Ask, Send, Pick, Row}
-use Rattle.rsx_tree.specs.Driven.{IsRestAt, IsRestOver}
-use Rattle.rsx_tree.specs.Stepped.{station, IsStill, can_pick_in, can_row_in}
+use Rattle.rsx_tree.specs.Driven.{IsRestAt, IsRestOver, IsRowIdle}
+use Rattle.rsx_tree.specs.Stepped.{station, IsStill, can_pick_in, can_row_in, Station}
 use Rattle.rsx_tree.specs.Inputs.{size, place, can_ask_in, can_send_in}
 use Rattle.rsx_tree.specs.Look.{IsEnabledOver, IsEnabledIn, IsEnabledAt}
 use Rattle.rsx_tree.specs.Tree.{can_ask, can_send}
 use Rattle.rsx_tree.specs.declared.node.Node.{Node}
 use Rattle.rsx_tree.proofs.Changes.{Rest, chosen_first, chosen_second, not_zero, is_within, is_beyond}
-use Rattle.rsx_tree.proofs.Drives.{back, back_over, row_tree, rest_where, send_anywhere}
+use Rattle.rsx_tree.proofs.Drives.{back, back_over, idle_whole, row_tree, rest_where, send_anywhere}
 
 pub at_below : {M : Type 0} (r : M) (i asked sent : ℕ) (e : Edge) (n : M) (below beside : Rest M) (at : ℕ) → at < size below.value → place r i asked sent (More e n below beside) (at + 1) ≡ place n 0 e.demand.asked e.demand.sent below.value at
 at_below r i asked sent e n below beside at w =
@@ -152,6 +152,19 @@ all_counted s inside at k is e all lt = omega (arith, is, e, all, lt)
 pub none_last : {M T : Type 0} (b : Machine M T) (m : Meaning T) (r : M) (i asked sent first : ℕ) (t : Inputs M) (e : Edge) (n : M) (below beside : Rest M) → t ≡ More e n below beside → 4294967295 - first ≡ 0 → IsRestOver b m r i asked sent e n → NoneUpTo b m r i asked sent t first
 none_last {M} b m r i asked sent first t e n below beside is full rest =
     none_row b m r i asked sent first t e n below beside below.value is refl rest (λ k lt. absurd (omega (arith, full, lt))) (λ k lt. absurd (omega (arith, full, lt)))
+
+-- ---- no move at all
+
+-- those below the first edge
+pub idle_below : {M T : Type 0} (b : Machine M T) (m : Meaning T) (n : M) (asked sent : ℕ) (below : Rest M) (was : Inputs M) → was ≡ below.value → IsRowIdle b m n 0 asked sent was → IsRowIdle b m n 0 asked sent below.value
+idle_below {M} b m n asked sent below was at h = let B : Inputs M → Type 0 = λ x. IsRowIdle b m n 0 asked sent x in subst B at h
+
+pub idle_row : {M T : Type 0} (b : Machine M T) (m : Meaning T) (r : M) (i next asked sent : ℕ) (t : Inputs M) (e : Edge) (n : M) (below beside : Rest M) (was : Inputs M) → t ≡ More e n below beside → was ≡ beside.value → next ≡ i + 1 → IsRestOver b m r i asked sent e n →
+    IsRowIdle b m n 0 e.demand.asked e.demand.sent below.value → IsRowIdle b m r next asked sent was → IsRowIdle b m r i asked sent t
+idle_row {M} b m r i next asked sent t e n below beside was is at up rest h h' =
+    let W : Inputs M → Type 0 = λ x. IsRowIdle b m r next asked sent x in
+    let N : ℕ → Type 0 = λ j. IsRowIdle b m r j asked sent beside.value in
+    row_tree (λ x. IsRowIdle b m r i asked sent x) t e n below beside is (idle_whole b m r i asked sent e n below beside (record { rest = rest; idle = h }) (subst N up (subst W at h')))
 
 -- ---- a tree
 

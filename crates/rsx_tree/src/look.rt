@@ -1,6 +1,6 @@
 //! Which moves of a row are enabled.
 
-ghost use Rattle.std.specs.Prelude.{◌≡◌, IfSome, IfNone, Some};
+ghost use Rattle.std.specs.Prelude.{◌≡◌, IfSome, IfNone, Some, true};
 ghost use Rattle.rsx_types.specs.Meaning.{Meaning};
 ghost use Rattle.rsx_tree.specs.Driven.{IsRestOver};
 ghost use Rattle.rsx_tree.specs.Edges.{edge_view};
@@ -27,9 +27,9 @@ pub enum NodeMove {
 }
 
 impl<M: Machine> Inputs<M> {
-    ghost use Rattle.std.specs.Prelude.{◌≡◌, ◌+◌, ◌<◌, ◌≤◌, ◌^◌, ℕ, IfSome, IfNone};
+    ghost use Rattle.std.specs.Prelude.{◌≡◌, ◌+◌, ◌<◌, ◌≤◌, ◌^◌, ℕ, IfSome, IfNone, true};
     ghost use Rattle.rsx_types.specs.Meaning.{Meaning};
-    ghost use Rattle.rsx_tree.specs.Driven.{IsRestAt};
+    ghost use Rattle.rsx_tree.specs.Driven.{IsRestAt, IsRowIdle};
     ghost use Rattle.rsx_tree.specs.Inputs.{place, can_ask_in, can_send_in};
     ghost use Rattle.rsx_tree.specs.Look.{IsEnabledIn};
     ghost use Rattle.rsx_tree.specs.Stepped.{can_pick_in, can_row_in, station};
@@ -113,6 +113,44 @@ impl<M: Machine> Inputs<M> {
         }
     }
 
+    /// Whether there are no inputs.
+    #[inline]
+    fn is_end(&self) -> bool
+        ensures { result ≡ true → self.now ≡ Inputs.End }
+    {
+        match self {
+            Inputs::End => true,
+            Inputs::More(_, _, _, _) => false,
+        }
+    }
+
+    /// Whether no move of the row is enabled, where its first edge is input `input` of `receiver`. It may be false too where
+    /// the row has more inputs than a number can name.
+    pub(crate) fn is_idle(&self, receiver: &M, input: u64, asked: u64, sent: u64) -> bool
+        ensures { (m : Meaning M.Item) → result ≡ true → IsRowIdle M.Machine m receiver.now input asked sent self.now }
+    {
+        match self {
+            Inputs::End => true,
+            Inputs::More(edge, machine, below, beside) => {
+                if !rests_over(receiver, input, asked, sent, edge, machine) {
+                    return false;
+                }
+                if !below.is_end()
+                    && !below.is_idle(machine, 0, edge.demand.asked, edge.demand.sent)
+                {
+                    return false;
+                }
+                if beside.is_end() {
+                    return true;
+                }
+                match input.checked_add(1) {
+                    Some(next) => beside.is_idle(receiver, next, asked, sent),
+                    None => false,
+                }
+            }
+        }
+    }
+
     /// The first enabled move of the row in pre-order, where its first node has the number `at`.
     pub fn first_enabled(
         &self,
@@ -154,7 +192,8 @@ impl<M: Machine> Inputs<M> {
 impl<M: Machine> Node<M> {
     ghost use Rattle.std.specs.Prelude.{◌≡◌};
     ghost use Rattle.rsx_types.specs.Meaning.{Meaning};
-    ghost use Rattle.std.specs.Prelude.{IfSome, IfNone, Some};
+    ghost use Rattle.std.specs.Prelude.{IfSome, IfNone, Some, true};
+    ghost use Rattle.rsx_tree.specs.Driven.{IsIdle};
     ghost use Rattle.rsx_tree.specs.Edges.{edge_view};
     ghost use Rattle.rsx_tree.specs.Look.{IsStepEnabled};
     ghost use Rattle.rsx_tree.specs.Stepped.{IsStill, can_pick_in, can_row_in, over, station_of};
@@ -165,6 +204,16 @@ impl<M: Machine> Node<M> {
         ensures { result ≡ can_ask M.Machine self.now at asked sent }
     {
         self.inputs.can_ask(&self.machine, 0, asked, sent, at)
+    }
+
+    /// Whether no move over an edge below the root, nor of a node there, is enabled; `asked` and `sent` are those of the root's
+    /// own edge. It looks at each edge once, and names none. It may be false too where a node has more inputs than a number
+    /// can name; then [`Node::first_enabled`] tells.
+    #[inline]
+    pub fn is_idle(&self, asked: u64, sent: u64) -> bool
+        ensures { (m : Meaning M.Item) → result ≡ true → IsIdle M.Machine m self.now asked sent }
+    {
+        self.inputs.is_idle(&self.machine, 0, asked, sent)
     }
 
     /// Whether a Send over the edge `at` below the root is enabled.
@@ -207,12 +256,37 @@ impl<M: Machine> Node<M> {
 }
 
 /// Whether the sender offers a signal that can go over the edge, and the receiver can take it.
+#[inline]
 fn can_send_signal<M: Machine>(receiver: &M, input: u64, edge: &Edge, sender: &M) -> bool
     ensures { (m : Meaning M.Item) → result ≡ can_send_over M.Machine m receiver.now input (edge_view edge.now) sender.now }
 {
     match sender.front() {
         Some(front) => receiver.can_take(input, front) && edge.can_carry(front),
         None => false,
+    }
+}
+
+/// Whether no move over an edge, nor of its sender, is enabled.
+#[inline(always)]
+fn rests_over<M: Machine>(
+    receiver: &M,
+    input: u64,
+    asked: u64,
+    sent: u64,
+    edge: &Edge,
+    sender: &M,
+) -> bool
+    ensures { (m : Meaning M.Item) → result ≡ true → IsRestOver M.Machine m receiver.now input asked sent edge.now sender.now }
+{
+    if edge.can_ask(receiver.want(input, asked, sent)) {
+        return false;
+    }
+    if can_send_signal(receiver, input, edge, sender) {
+        return false;
+    }
+    match first_step(edge, sender, 0) {
+        Some(_) => false,
+        None => true,
     }
 }
 
@@ -240,6 +314,7 @@ fn first_over<M: Machine>(
 }
 
 /// The first pick or row of a node, which has the number `at`, that is enabled.
+#[inline]
 fn first_step<M: Machine>(edge: &Edge, node: &M, at: u32) -> Option<NodeMove>
     ensures some { IfSome result (λ e. IsStepEnabled M.Machine (over edge.now node.now) at e) }
     ensures none { IfNone result (IsStill M.Machine (Some (over edge.now node.now))) }
