@@ -11,6 +11,10 @@ use std::alloc::Global;
 use std::marker::Model;
 
 /// Keys without repetition, in the order in which each came first. Contracts see the list of them.
+///
+/// The hash of a key has a fixed seed, the same in every run, so whoever picks the keys can make them fall together. Then
+/// [`Keys::note`] takes time in proportion to the keys that are there; what it answers stays right. Nor is their number
+/// bounded. Who notes keys of strangers permutes them by a secret first, as the function `key` of an `impl Ops` may.
 #[derive(Drop)]
 pub struct Keys {
     set: IndexSet<u64>,
@@ -34,7 +38,11 @@ impl Keys {
         }
     }
 
-    /// Puts a key last, unless it is there, and answers whether it was there. For want of memory nothing has changed.
+    /// Puts a key last, unless it is there, and answers whether it was there.
+    ///
+    /// # Errors
+    ///
+    /// [`NoMemory`] where a growth was refused; then nothing has changed.
     pub fn note(&mut self, key: u64) -> Result<bool, NoMemory>
         ensures known { IfOk result (λ known. known ≡ is_member nat_eq self.old key) }
         ensures keys { OnOk result (self.new ≡ insert_key nat_eq self.old key) }
@@ -54,7 +62,11 @@ impl Keys {
         self.set.pop()
     }
 
-    /// The same keys once more, in the same order. For want of memory the answer is [`NoMemory`].
+    /// The same keys once more, in the same order.
+    ///
+    /// # Errors
+    ///
+    /// [`NoMemory`] where the memory for them was refused.
     pub fn copy(&self) -> Result<Keys, NoMemory>
         ensures { IfOk result (λ keys. keys ≡ self.now) }
     {

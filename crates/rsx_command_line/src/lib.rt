@@ -1,6 +1,12 @@
 #![tactic(auto)]
-//! The command line of the program `rsx`: what `clap` makes of the words. It is tested.
+//! The command line of the program `rsx`: what `clap` makes of the words.
+//!
+//! Proved of it is which mode a command line that is taken gives. Which command lines are taken is tested.
 
+ghost use Rattle.std.specs.Prelude.{◌≡◌, IfOk, Some, option_and_then, slice_get, string_bytes};
+ghost use Rattle.rsx_script.specs.Modes.{mode_of_name};
+
+use clap::error::ErrorKind;
 use clap::{Command, Error};
 use rsx_script::{Mode, mode_named};
 use std::alloc::Global;
@@ -9,12 +15,24 @@ use std::alloc::Global;
 const INPUT: &str =
     "Commands are read from standard input, one a line, and each is answered by one line on standard output. docs/SCRIPT.md describes them.";
 
-/// What the command line asks for. Its first word is the program's own.
+/// What the command line asks for: the mode that its second word names. Its first word is the program's own.
 ///
 /// # Errors
 ///
 /// What `clap` says of a command line that is wrong, or that asks for help.
-pub fn mode_of(alloc: Global, words: &[String]) -> Result<Mode, Error> {
+pub fn mode_of(alloc: Global, words: &[String]) -> Result<Mode, Error>
+    ensures { IfOk result (λ mode. option_and_then (λ word. mode_of_name (string_bytes word)) (slice_get words.now 1) ≡ Some mode) }
+{
+    program_of(alloc)?.try_get_matches_from(words)?;
+    // `clap` lets no other word stand there than the names of the two subcommands.
+    match words.get(1).and_then(|word| mode_named(word.as_str())) {
+        Some(mode) => Ok(mode),
+        None => Err(program_of(alloc)?.error(ErrorKind::MissingSubcommand, "no subcommand")?),
+    }
+}
+
+/// What `clap` is told of the program.
+fn program_of<'a>(alloc: Global) -> Result<Command<'a>, Error> {
     let run = Command::new(alloc, "run").about("Answers each command of a script");
     let scratch = Command::new(alloc, "scratch").about(
         "The same, but shows values evaluated from scratch",
@@ -27,10 +45,5 @@ pub fn mode_of(alloc: Global, words: &[String]) -> Result<Mode, Error> {
         .subcommand_required(true)
         .subcommand(run)?
         .subcommand(scratch)?;
-    let matches = program.try_get_matches_from(words)?;
-    // `clap` lets no other name pass than those of the two subcommands.
-    match matches.subcommand_name() {
-        Some(name) => Ok(mode_named(name).unwrap_or(Mode::Run)),
-        None => Ok(Mode::Run),
-    }
+    Ok(program)
 }

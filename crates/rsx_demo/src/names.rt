@@ -31,6 +31,7 @@ pub fn function_number(role: Role, name: &str) -> Option<u16>
     }
 }
 
+/// The number of a function of `map`.
 fn map_number(name: &str) -> Option<u16>
     ensures { result ≡ map_number_of name.now }
 {
@@ -43,6 +44,7 @@ fn map_number(name: &str) -> Option<u16>
     }
 }
 
+/// The number of a function of `filter`.
 fn test_number(name: &str) -> Option<u16>
     ensures { result ≡ test_number_of name.now }
 {
@@ -53,6 +55,7 @@ fn test_number(name: &str) -> Option<u16>
     }
 }
 
+/// The number of a function of `scan`.
 fn fold_number(name: &str) -> Option<u16>
     ensures { result ≡ fold_number_of name.now }
 {
@@ -63,6 +66,7 @@ fn fold_number(name: &str) -> Option<u16>
     }
 }
 
+/// The number of a function of `distinct`.
 fn key_number(name: &str) -> Option<u16>
     ensures { result ≡ key_number_of name.now }
 {
@@ -73,6 +77,7 @@ fn key_number(name: &str) -> Option<u16>
     }
 }
 
+/// The number of a function that expands an item.
 fn expand_number(name: &str) -> Option<u16>
     ensures { result ≡ expand_number_of name.now }
 {

@@ -101,6 +101,7 @@ pub fn copy_val(alloc: Global, x: &Val) -> Result<Val, NoMemory>
     }
 }
 
+/// A copy of a list.
 #[cycle(copy)]
 fn copy_vals(alloc: Global, x: &Vals) -> Result<Vals, NoMemory>
     ensures { IfOk result (λ y. y ≡ x.now) }
@@ -140,6 +141,7 @@ pub fn is_same_val(x: &Val, y: &Val) -> bool
     }
 }
 
+/// Whether two lists have the same items, one by one.
 #[cycle(same)]
 fn is_same_list(xs: &Vals, ys: &Vals) -> bool
     ensures yes { result ≡ true → xs.now ≡ ys.now }

@@ -1,5 +1,8 @@
 //! Runs a script: reads lines, answers each, and writes the answers.
 
+ghost use Rattle.std.specs.Prelude.{◌<◌, IfErr};
+ghost use Rattle.rsx_script.specs.Fault.{IsRunFault};
+
 use rsx_script::{AppFault, LineRefusal, MOST_BYTES, Mode, parse_line};
 use rsx_session::Session;
 use std::alloc::Global;
@@ -22,14 +25,16 @@ const GATHERED_BYTES: usize = 65_536;
 ///
 /// # Errors
 ///
-/// `Line` with the first line that can't be read; `Io` where a read or a write failed, or a read more than 16,777,216
-/// would be needed; `Memory` where a growth was refused.
+/// `Line` with the first line that can't be read, counted from 1, and why it can't, which is never want of memory; `Io`
+/// where a read or a write failed, or a read more than 16,777,216 would be needed; `Memory` where a growth was refused.
 pub fn drive<R: Read, W: Write>(
     alloc: Global,
     mode: Mode,
     reader: &mut R,
     writer: &mut W,
-) -> Result<(), AppFault> {
+) -> Result<(), AppFault>
+    ensures { IfErr result IsRunFault }
+{
     let mut script = Script::new(alloc, mode)?;
     match script.answer_all(alloc, reader, writer) {
         Err(AppFault::Io) => Err(AppFault::Io),
@@ -48,12 +53,15 @@ struct Script {
     line: Vec<u8>,
     /// The number of the line, from 1.
     number: u64,
+    ghost from_one: { 0 < number },
     /// The answers that weren't written yet.
     out: String,
 }
 
 impl Script {
-    fn new(alloc: Global, mode: Mode) -> Result<Script, AppFault> {
+    fn new(alloc: Global, mode: Mode) -> Result<Script, AppFault>
+        ensures { IfErr result IsRunFault }
+    {
         Ok(Script {
             session: Session::new(alloc, mode)?,
             line: Vec::new(alloc),
@@ -68,7 +76,9 @@ impl Script {
         alloc: Global,
         reader: &mut R,
         writer: &mut W,
-    ) -> Result<(), AppFault> {
+    ) -> Result<(), AppFault>
+        ensures { IfErr result IsRunFault }
+    {
         let mut bytes = [0; READ_BYTES];
         for _ in 0..MOST_READS {
             self.write_out(writer)?;
@@ -88,7 +98,9 @@ impl Script {
         alloc: Global,
         bytes: &[u8],
         writer: &mut W,
-    ) -> Result<(), AppFault> {
+    ) -> Result<(), AppFault>
+        ensures { IfErr result IsRunFault }
+    {
         for byte in bytes {
             if *byte == b'\n' {
                 self.end_line(alloc)?;
@@ -105,7 +117,9 @@ impl Script {
     }
 
     /// Answers the line, and begins the next.
-    fn end_line(&mut self, alloc: Global) -> Result<(), AppFault> {
+    fn end_line(&mut self, alloc: Global) -> Result<(), AppFault>
+        ensures { IfErr result IsRunFault }
+    {
         match parse_line(alloc, &self.line) {
             Ok(None) => {}
             Ok(Some(command)) => self.session.answer(alloc, command, &mut self.out)?,
@@ -118,7 +132,9 @@ impl Script {
     }
 
     /// Writes the answers that weren't written yet.
-    fn write_out<W: Write>(&mut self, writer: &mut W) -> Result<(), AppFault> {
+    fn write_out<W: Write>(&mut self, writer: &mut W) -> Result<(), AppFault>
+        ensures { IfErr result IsRunFault }
+    {
         if self.out.is_empty() {
             return Ok(());
         }

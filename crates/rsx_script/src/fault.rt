@@ -1,24 +1,23 @@
 //! What ends a run before its input does.
 
-ghost use Rattle.std.specs.Prelude.{◌≡◌};
-ghost use Rattle.rsx_script.specs.Fault.{status_of};
+ghost use Rattle.std.specs.Prelude.{◌≡◌, IfOk, string_bytes};
+ghost use Rattle.rsx_script.specs.Fault.{fault_text, status_of};
+ghost use Rattle.rsx_script.specs.declared.fault.AppFault.TheVariants.{Memory};
 
 use crate::words::LineRefusal;
 use rsx_types::NoMemory;
 use std::alloc::{AllocError, Global};
-use thiserror::Error;
+use std::error::Error;
+use std::fmt;
 
 /// Why a run ended before its input did.
-#[derive(Clone, Copy, Debug, PartialEq, Eq, Error)]
+#[derive(Clone, Copy, Debug, PartialEq, Eq)]
 pub enum AppFault {
     /// The line with this number, counted from 1, can't be read.
-    #[error("rsx: line {0}: {1}")]
     Line(u64, LineRefusal),
     /// A read or a write failed, or the input took more than 16,777,216 reads.
-    #[error("rsx: read or write fault")]
     Io,
     /// A growth was refused.
-    #[error("rsx: out of memory")]
     Memory,
 }
 
@@ -39,18 +38,41 @@ impl AppFault {
     /// # Errors
     ///
     /// `NoMemory` where a growth was refused.
-    pub fn text(self, alloc: Global) -> Result<String, NoMemory> {
+    pub fn text(self, alloc: Global) -> Result<String, NoMemory>
+        ensures { IfOk result (λ text. string_bytes text ≡ fault_text self) }
+    {
         Ok(format!(in alloc; "{self}")?)
     }
 }
 
+/// The line for standard error, as `rsx: line 3: syntax at column 11`.
+impl fmt::Display for AppFault {
+    ghost use Rattle.std.specs.Prelude.{Some};
+
+    ghost output = { λ fault. Some (fault_text fault) };
+
+    fn fmt<W: fmt::Write>(&self, f: &mut fmt::Formatter<W>) -> fmt::Result {
+        match *self {
+            AppFault::Line(number, refusal) => write!(f, "rsx: line {number}: {refusal}"),
+            AppFault::Io => f.write_str("rsx: read or write fault"),
+            AppFault::Memory => f.write_str("rsx: out of memory"),
+        }
+    }
+}
+
+impl Error for AppFault {}
+
 impl From<AllocError> for AppFault {
+    ghost from_gives = { λ _ fault. fault ≡ Memory };
+
     fn from(_e: AllocError) -> AppFault {
         AppFault::Memory
     }
 }
 
 impl From<NoMemory> for AppFault {
+    ghost from_gives = { λ _ fault. fault ≡ Memory };
+
     fn from(_e: NoMemory) -> AppFault {
         AppFault::Memory
     }

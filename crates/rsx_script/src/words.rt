@@ -7,26 +7,41 @@ ghost use Rattle.std.specs.Prelude.{◌≡◌, ◌≢◌, ◌+◌, ◌-◌, ◌^
 ghost use Rattle.std.specs.List.{position, position_or_len};
 ghost use Rattle.rsx_script.specs.Words.{is_written, is_separator, is_strange, from_word, column_of, IsWord, HasStrange};
 
-use std::str;
+use std::error::Error;
 use std::str::FromStr;
-use thiserror::Error;
+use std::{fmt, str};
 
 /// Why a line can't be read.
-#[derive(Clone, Copy, Debug, PartialEq, Eq, Error)]
+#[derive(Clone, Copy, Debug, PartialEq, Eq)]
 pub enum LineRefusal {
     /// X1: the word at this column can't stand there, or a word is missing at it.
-    #[error("syntax at column {0}")]
     Syntax(u64),
     /// X2: the word at this column names nothing of the kind that is wanted there.
-    #[error("unknown name at column {0}")]
     UnknownName(u64),
     /// X3: the line has more than 4,096 bytes.
-    #[error("longer than 4096 bytes")]
     TooLong,
     /// X4: a growth was refused.
-    #[error("out of memory")]
     NoMemory,
 }
+
+/// As `syntax at column 11`.
+impl fmt::Display for LineRefusal {
+    ghost use Rattle.std.specs.Prelude.{Some};
+    ghost use Rattle.rsx_script.specs.Fault.{refusal_text};
+
+    ghost output = { λ refusal. Some (refusal_text refusal) };
+
+    fn fmt<W: fmt::Write>(&self, f: &mut fmt::Formatter<W>) -> fmt::Result {
+        match *self {
+            LineRefusal::Syntax(column) => write!(f, "syntax at column {column}"),
+            LineRefusal::UnknownName(column) => write!(f, "unknown name at column {column}"),
+            LineRefusal::TooLong => f.write_str("longer than 4096 bytes"),
+            LineRefusal::NoMemory => f.write_str("out of memory"),
+        }
+    }
+}
+
+impl Error for LineRefusal {}
 
 /// One word of a line.
 #[derive(Clone, Copy)]
@@ -134,6 +149,7 @@ impl<'a> Words<'a> {
         self.end.saturating_sub(self.rest.len() as u64)
     }
 
+    /// Goes on to the next byte that is not a space.
     fn skip_spaces(&mut self)
         ensures rest { self.new.rest.now ≡ from_word self.old.rest.now }
         ensures end { self.new.end ≡ self.old.end }

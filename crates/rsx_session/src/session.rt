@@ -108,6 +108,7 @@ impl Session {
         Ok(())
     }
 
+    /// Does what a command asks for.
     fn run(&mut self, alloc: Global, command: Command) -> Result<Answer<'_>, Trouble> {
         match command {
             Command::Subscribe(expr) => self.subscribe(alloc, expr),
@@ -121,6 +122,7 @@ impl Session {
         }
     }
 
+    /// What is known of a subscription; the refusal of an unknown one where there is none.
     fn record(&self, sub: SubId) -> Result<&Record, Trouble> {
         match self.records.get(sub.0 as usize) {
             Some(record) => Ok(record),
@@ -128,6 +130,7 @@ impl Session {
         }
     }
 
+    /// Subscribes, and keeps the expression for `show` and `check`.
     fn subscribe(&mut self, alloc: Global, expr: Expr<Val>) -> Result<Answer<'_>, Trouble> {
         let sub = self.graph.subscribe(alloc, &expr)?;
         self.records.push(Record {
@@ -192,6 +195,7 @@ impl Session {
         Ok(())
     }
 
+    /// What the mode shows of a subscription.
     fn show(&self, alloc: Global, sub: SubId) -> Result<Answer<'_>, Trouble> {
         match self.mode {
             Mode::Run => self.show_received(alloc, sub),
@@ -202,6 +206,7 @@ impl Session {
         }
     }
 
+    /// What a subscriber received, and the rest.
     fn show_received(&self, alloc: Global, sub: SubId) -> Result<Answer<'_>, Trouble> {
         let record = self.record(sub)?;
         let rest = match self.graph.standing(sub)? {
