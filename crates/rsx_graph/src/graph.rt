@@ -53,8 +53,8 @@ impl<O: Ops> Graph<O> {
     /// open, and nothing was asked of it yet.
     ///
     /// # Errors
-    /// G6 exactly where the expression goes past a limit, else G5 exactly where there are [`MOST_SUBSCRIPTIONS`], else G8 where a
-    /// growth was refused; nothing changed.
+    /// G6 exactly where the expression goes past a limit or names a hub, else G5 exactly where there are
+    /// [`MOST_SUBSCRIPTIONS`], else G8 where a growth was refused; nothing changed.
     pub fn subscribe(&mut self, alloc: Global, expr: &Expr<O::Item>) -> Result<SubId, Refusal>
         ensures ops { self.new.ops ≡ self.old.ops }
         ensures stands { OnOk result ((h : History O.Item) → StandsFor (O.meaning self.old.ops) self.old.subscriptions.items h → StandsFor (O.meaning self.old.ops) self.new.subscriptions.items (with_subscriber expr.now h)) }

@@ -20,7 +20,7 @@ pub enum Refusal {
     /// G5: the graph has [`MOST_SUBSCRIPTIONS`](crate::MOST_SUBSCRIPTIONS), 256.
     #[error("too many")]
     TooMany,
-    /// G6: the expression goes past a limit.
+    /// G6: the expression goes past a limit, or names a hub: no graph has hubs yet.
     #[error("bad expression: {0}")]
     BadExpr(BadExpr),
     /// G7: the move is not enabled.

@@ -6,7 +6,7 @@ use crate::command::Command;
 use crate::words::{LineRefusal, Word, Words, number_of};
 use rsx_demo::{Role, Val, function_number};
 use rsx_model::Expr;
-use rsx_types::{Stage, SubId};
+use rsx_types::{HubId, Stage, SubId};
 use std::alloc::Global;
 
 /// The most bytes of a line, without its newline.
@@ -72,6 +72,7 @@ fn expression(alloc: Global, words: &mut Words<'_>) -> Result<Expr<Val>, LineRef
     match name {
         "items" => Ok(Expr::Items(items(alloc, words)?)),
         "range" => range(words),
+        "hub" => hub(words),
         _ => {
             let stage = stage(column, name, words)?;
             plain(alloc, stage, words)
@@ -118,6 +119,13 @@ fn range(words: &mut Words<'_>) -> Result<Expr<Val>, LineRefusal> {
     let count = words.number()?;
     words.close()?;
     Ok(Expr::Range(first, count))
+}
+
+/// The number of a hub.
+fn hub(words: &mut Words<'_>) -> Result<Expr<Val>, LineRefusal> {
+    let hub = HubId(words.number()?);
+    words.close()?;
+    Ok(Expr::Hub(hub))
 }
 
 /// The numbers up to the parenthesis that closes the list.

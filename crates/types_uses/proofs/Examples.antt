@@ -1,19 +1,21 @@
 -- Worked examples: the definitions at small expressions.
 use Rattle.std.proofs.Common.{◌≡◌, ℕ, pos, List, [], ◌∷◌, Some, None, Vec, Global, Box, refl}
 use Rattle.rsx_types.specs.Plain.{plain, listed, range_items}
+use Rattle.rsx_types.specs.Stream.{Stream}
 use Rattle.rsx_types.specs.declared.signal.Cause.TheVariants.{User, Function}
 use Rattle.rsx_types.specs.declared.signal.Ending.TheVariants.{Open, Failed}
+use Rattle.rsx_types.specs.declared.names.HubId.{HubId}
 use Rattle.rsx_types.specs.declared.stage.Stage.TheVariants.{Map, Filter, Take, Scan, Buffer, Distinct}
 use Rattle.rsx_types.specs.declared.note.Note.{Note}
 use Rattle.rsx_types.specs.declared.note.Note.TheVariants.{Nothing, Picks}
 use Rattle.rsx_model.specs.declared.expr.Expr.{Expr}
-use Rattle.rsx_model.specs.declared.expr.Expr.TheVariants.{Items, Range}
+use Rattle.rsx_model.specs.declared.expr.Expr.TheVariants.{Items, Range, Hub}
 use Rattle.rsx_model.specs.declared.expr.Expr.TheViews.{Plain}
 use Rattle.rsx_model.specs.Eval.{Environment, environment, eval}
 use Rattle.rsx_demo.specs.declared.val.Val.{Val}
 use Rattle.rsx_demo.specs.declared.val.Val.TheVariants as is
 use Rattle.rsx_demo.specs.Demo.{demo_meaning, list_item}
-use Rattle.rsx_model.proofs.Unfold.{value_Items, value_Range, value_Plain}
+use Rattle.rsx_model.proofs.Unfold.{value_Items, value_Range, value_Hub, value_Plain}
 
 -- the item of a number
 abbrev n : ℕ → Val
@@ -78,3 +80,27 @@ choice_in_place_of_nothing b is = rw (value_Plain, is, value_Range) refl
 -- `items`
 list_of_items : (v : Vec Val Global) → eval (noted (Nothing ∷ [])) (Items v) ≡ Some (listed v.items)
 list_of_items v = rw value_Items refl
+
+-- ---- hub leaves
+
+-- two hubs: one that took in three items and is open, and one that took in one item and failed
+abbrev open_and_failed : List (Stream Val)
+open_and_failed = record { items = n 1 ∷ n 2 ∷ n 3 ∷ []; ending = Open } ∷ record { items = n 7 ∷ []; ending = Failed (User 9) } ∷ []
+
+abbrev joined : List ℕ → Environment Val
+joined js = environment demo_meaning open_and_failed js (Nothing ∷ [])
+
+-- what the hub took in from the join on
+behind_the_join : (h : HubId) → h.0 ≡ 0 → eval (joined (1 ∷ [])) (Hub h) ≡ Some (record { items = n 2 ∷ n 3 ∷ []; ending = Open })
+behind_the_join h is = rw (value_Hub, is) refl
+
+-- a join past the last item leaves the ending
+past_the_end : (h : HubId) → h.0 ≡ 1 → eval (joined (2 ∷ [])) (Hub h) ≡ Some (record { items = []; ending = Failed (User 9) })
+past_the_end h is = rw (value_Hub, is) refl
+
+-- no value without a join, nor of a hub that isn't there
+no_join : (h : HubId) → eval (joined []) (Hub h) ≡ None
+no_join h = rw value_Hub refl
+
+no_such_hub : (h : HubId) → h.0 ≡ 2 → eval (joined (0 ∷ [])) (Hub h) ≡ None
+no_such_hub h is = rw (value_Hub, is) refl
