@@ -2,21 +2,29 @@
 
 use rsx_demo::{Demo, Val};
 use rsx_model::{Expr, check_expr};
-use rsx_pipe::{Part, Pumped, SignalQueue};
-use rsx_types::{Ending, Move, NoMemory, NodeId, Signal, Stage, SubId, Tree};
+use rsx_pipe::{NodeMove, Part, Pumped, SignalQueue};
+use rsx_types::{Ending, NoMemory, Signal, Stage};
 use std::alloc::Global;
 use std::process::Abort;
 
 /// The function `double` of `map`.
 const DOUBLE: u16 = 2;
 
-const TREE: Tree = Tree::Sub(SubId(0));
+const ASK_BELOW: NodeMove = NodeMove::Ask(1);
 
-const ASK_BELOW: Move = Move::Ask(TREE, NodeId(1));
+const SEND_BELOW: NodeMove = NodeMove::Send(1);
 
-const SEND_BELOW: Move = Move::Send(TREE, NodeId(1));
+const SEND_ROOT: NodeMove = NodeMove::Send(0);
 
-const SEND_ROOT: Move = Move::Send(TREE, NodeId(0));
+/// Moves that no node of these trees makes: the root's Ask, which requests make, and a pick and a row of the root and of the
+/// node below it.
+const NEVER: [NodeMove; 5] = [
+    NodeMove::Ask(0),
+    NodeMove::Pick(0, 0),
+    NodeMove::Pick(1, 0),
+    NodeMove::Row(0),
+    NodeMove::Row(1),
+];
 
 // The tests need no facts of what they call, so these functions have no clause. What has early returns only borrows: each
 // of them would let go of a part that it owns.
@@ -54,8 +62,8 @@ fn request(part: &mut Part<Val>, count: u64) {
 }
 
 /// Whether a move is enabled, and is the first that is.
-fn is_first(part: &Part<Val>, step: Move, out: &SignalQueue<Val>) -> bool {
-    part.enabled(step, out) && part.first_enabled(TREE, out) == Some(step)
+fn is_first(part: &Part<Val>, step: NodeMove, out: &SignalQueue<Val>) -> bool {
+    part.enabled(step, out) && part.first_enabled(out) == Some(step)
 }
 
 /// Whether no move is enabled.
@@ -64,7 +72,12 @@ fn is_idle(part: &Part<Val>, out: &SignalQueue<Val>) -> bool {
 }
 
 /// Whether a move is made.
-fn is_made(alloc: Global, part: &mut Part<Val>, step: Move, out: &mut SignalQueue<Val>) -> bool {
+fn is_made(
+    alloc: Global,
+    part: &mut Part<Val>,
+    step: NodeMove,
+    out: &mut SignalQueue<Val>,
+) -> bool {
     part.make(alloc, &Demo, step, out).is_ok()
 }
 
@@ -124,6 +137,10 @@ fn sends_one_item(
     assert!(rt; is_idle(part, out));
     request(part, 2);
     assert!(rt; !is_made(alloc, part, SEND_ROOT, out));
+    for step in NEVER {
+        assert!(rt; !part.enabled(step, out));
+        assert!(rt; !is_made(alloc, part, step, out));
+    }
     for step in [ASK_BELOW, SEND_BELOW, SEND_ROOT, SEND_BELOW] {
         assert!(rt; is_first(part, step, out));
         assert!(rt; is_made(alloc, part, step, out));

@@ -14,7 +14,6 @@ use Rattle.rsx_types.specs.declared.names.Tree.{Tree}
 use Rattle.rsx_types.specs.declared.names.Tree.TheVariants.{Sub, Feed}
 use Rattle.rsx_types.specs.declared.signal.Ending.TheVariants.{Open as NotEnded}
 use Rattle.rsx_types.specs.declared.signal.Signal.{Signal}
-use Rattle.rsx_pipe.specs.Part as Part
 use Rattle.rsx_pipe.specs.Tree.{notes_of}
 use Rattle.rsx_pipe.specs.declared.part.Pumped.{Pumped as Rest}
 use Rattle.rsx_pipe.specs.declared.part.Pumped.TheVariants.{Idle as Rests, Budget as Wakes}
@@ -22,7 +21,7 @@ use Rattle.rsx_pipe.proofs.Signals.{some_same}
 use Rattle.rsx_tree.proofs.Alike.{or_left, or_right}
 use Rattle.rsx_subscriber.specs.Past.{Past, given}
 use Rattle.rsx_subscriber.specs.Pumped.{IsPumped, IsMoved, Leads, IsQuiet, IsAwake, HasRested, given_all, to}
-use Rattle.rsx_subscriber.specs.Stands.{Stands, move_enabled_in, evaluated, owed_from, owes_in, standing_of}
+use Rattle.rsx_subscriber.specs.Stands.{make_allocates, Stands, move_enabled_in, evaluated, owed_from, owes_in, standing_of}
 use Rattle.rsx_subscriber.specs.declared.state.SubscriptionState.{SubscriptionState}
 use Rattle.rsx_subscriber.specs.declared.state.SubscriptionState.TheVariants.{Open, Ended, Cancelled, Refused}
 use Rattle.rsx_subscriber.specs.declared.subscription.Subscription.{Subscription}
@@ -101,10 +100,10 @@ enabled_there m (s ∷ subs) (suc i) old mv lt e =
     past_first (move_enabled_in m s mv) (enabled_at m subs (suc i - 1) mv) i
     ∙ (ap (λ k. enabled_at m subs k mv) (suc_less i) ∙ enabled_there m subs i old mv (omega arith) e)
 
-pub allocates_there : {T : Type 0} (a : Allocates) (subs : List (Subscription T)) (i : ℕ) (old : Subscription T) (mv : Move) → i < length subs → get_or subs i old ≡ old → allocates_at a subs i mv ≡ Part.make_allocates a old.part mv
+pub allocates_there : {T : Type 0} (a : Allocates) (subs : List (Subscription T)) (i : ℕ) (old : Subscription T) (mv : Move) → i < length subs → get_or subs i old ≡ old → allocates_at a subs i mv ≡ make_allocates a old mv
 allocates_there a [] i old mv lt e = absurd (omega arith)
-allocates_there a (s ∷ subs) zero old mv lt e = ap (λ t. Part.make_allocates a t.part mv) e
-allocates_there a (s ∷ subs) (suc i) old mv lt e = past_first (Part.make_allocates a s.part mv) (allocates_at a subs (suc i - 1) mv) i ∙ (ap (λ k. allocates_at a subs k mv) (suc_less i) ∙ allocates_there a subs i old mv (omega arith) e)
+allocates_there a (s ∷ subs) zero old mv lt e = ap (λ t. make_allocates a t mv) e
+allocates_there a (s ∷ subs) (suc i) old mv lt e = past_first (make_allocates a s mv) (allocates_at a subs (suc i - 1) mv) i ∙ (ap (λ k. allocates_at a subs k mv) (suc_less i) ∙ allocates_there a subs i old mv (omega arith) e)
 
 -- what may allocate, where one subscription changed and what may allocate there stayed
 alike_there : {T : Type 0} (a : Allocates) (subs : List (Subscription T)) (i : ℕ) (old new : Subscription T) → i < length subs → get_or subs i old ≡ old → Part.pump_allocates a new.part ≡ Part.pump_allocates a old.part → pump_allocates a (set subs i new) ≡ pump_allocates a subs

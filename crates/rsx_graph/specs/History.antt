@@ -2,7 +2,7 @@
 use Rattle.std.specs.Prelude.{◌≡◌, ℕ, ◌≤◌, ◌<◌, zero, suc, Bool, true, false, List, [], ◌∷◌, ◌++◌, length, Option, Some, None}
 use Rattle.rsx_model.specs.Check.{refusal}
 use Rattle.rsx_model.specs.declared.expr.Expr.{Expr}
-pub use Rattle.rsx_pipe.specs.Part.{tree_of}
+pub use Rattle.rsx_subscriber.specs.Moves.{tree_of}
 pub use Rattle.rsx_subscriber.specs.Stands.{IsMadeAnswer}
 pub use Rattle.rsx_subscriber.specs.Past.{Past, subscribed, given, cancelled, requested, request_answer, IsLive}
 use Rattle.rsx_subscriber.specs.declared.state.SubscriptionState.{SubscriptionState}

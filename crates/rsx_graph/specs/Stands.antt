@@ -8,12 +8,11 @@ use Rattle.rsx_types.specs.declared.names.Tree.{Tree}
 use Rattle.rsx_types.specs.declared.names.Tree.TheVariants.{Sub, Feed}
 use Rattle.rsx_types.specs.declared.names.Move.{Move}
 use Rattle.rsx_types.specs.declared.signal.Signal.{Signal}
-use Rattle.rsx_pipe.specs.Part as Part
 use Rattle.rsx_pipe.specs.Tree.{notes_of}
 use Rattle.rsx_subscriber.specs.declared.subscription.Subscription.{Subscription}
 use Rattle.rsx_subscriber.specs.Edited.{IsRequested, IsCancelled}
 use Rattle.rsx_subscriber.specs.Past.{Past, request_answer}
-use Rattle.rsx_subscriber.specs.Stands.{Stands, standing_of, move_enabled_in, owes_in, IsEffect}
+use Rattle.rsx_subscriber.specs.Stands.{Stands, standing_of, make_allocates, move_enabled_in, owes_in, IsEffect}
 use Rattle.rsx_graph.specs.History.{History}
 
 -- each subscription stands for its own past
@@ -46,7 +45,7 @@ pump_allocates a (s ∷ ss) = Part.pump_allocates a s.part || pump_allocates a s
 -- whether a move in the subscription with this number may allocate, where these of the caller's functions may
 abbrev pub allocates_at : {T : Type 0} → Allocates → List (Subscription T) → ℕ → Move → Bool
 allocates_at a [] i mv = false
-allocates_at a (s ∷ ss) i mv = if nat_eq i 0 then Part.make_allocates a s.part mv else allocates_at a ss (i - 1) mv
+allocates_at a (s ∷ ss) i mv = if nat_eq i 0 then make_allocates a s mv else allocates_at a ss (i - 1) mv
 
 abbrev pub allocates_in_tree : {T : Type 0} → Allocates → List (Subscription T) → Tree → Move → Bool
 allocates_in_tree a subs (Sub i) mv = allocates_at a subs i.0 mv

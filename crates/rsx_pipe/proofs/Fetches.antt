@@ -1,5 +1,5 @@
 -- How an item is pulled through a part.
-use Rattle.std.proofs.Common.{◌≡◌, ℕ, ◌+◌, ◌-◌, ◌<◌, true, List, [], ◌∷◌, ◌++◌, Option, Some, None, option_map, refl, ap, arith}
+use Rattle.std.proofs.Common.{◌≡◌, ℕ, ◌+◌, true, [], ◌∷◌, ◌++◌, Some, None, option_map, refl, ap, arith}
 use Rattle.rsx_types.specs.Meaning.{Meaning}
 use Rattle.rsx_types.specs.declared.signal.Signal.TheVariants.{Next}
 use Rattle.rsx_sources.specs.Machine.{front_of}

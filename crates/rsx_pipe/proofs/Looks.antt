@@ -1,67 +1,77 @@
 -- The first enabled move of a part, from that of its tree.
-use Rattle.std.proofs.Common.{◌≡◌, ◌⊎◌, inl, inr, ℕ, ◌+◌, ◌-◌, ◌<◌, ◌^◌, Bool, true, false, ◌&&◌, nat_eq, List, option_map, refl, ap, sym, ◌∙◌, subst, arith, Option, Some, None, IfSome, IfNone}
+use Rattle.std.proofs.Common.{◌≡◌, ℕ, zero, suc, ◌+◌, ◌-◌, ◌<◌, ◌^◌, true, false, ◌&&◌, List, option_map, refl, ap, sym, ◌∙◌, subst, arith, Option, Some, None, IfSome, IfNone}
 use Rattle.rsx_types.specs.Meaning.{Meaning}
-use Rattle.rsx_types.specs.declared.names.Move.{Move}
-use Rattle.rsx_types.specs.declared.names.Move.TheVariants.{Ask, Send, Take}
 use Rattle.rsx_types.specs.declared.signal.Signal.{Signal}
 use Rattle.rsx_sources.specs.Machine.{front_of}
 use Rattle.rsx_node.specs.Any.{any_machine}
 use Rattle.rsx_tree.specs.Edges.{edge_view}
-use Rattle.rsx_tree.specs.Look.{IsEnabledAt}
+use Rattle.rsx_tree.specs.Look.{IsEnabledAt, IsStepEnabled}
 use Rattle.rsx_tree.specs.declared.look.NodeMove.{NodeMove}
-use Rattle.rsx_tree.specs.declared.look.NodeMove.TheVariants.{Ask as TreeAsk, Send as TreeSend, Pick, Row}
-use Rattle.rsx_tree.specs.Stepped.{IsStill, station}
-use Rattle.rsx_types.specs.declared.names.Tree.TheVariants.{Sub}
-use Rattle.rsx_pipe.specs.Part.{ask_enabled, send_enabled, move_enabled, has_room, number_of, IsAwake}
-use Rattle.rsx_pipe.proofs.Trees.{no_pick, no_row}
-use Rattle.rsx_pipe.specs.Tree.{can_ask, can_send, can_go, offers}
+use Rattle.rsx_tree.specs.declared.look.NodeMove.TheVariants.{Ask, Send, Pick, Row}
+use Rattle.rsx_tree.specs.Stepped.{IsStill as NoStep, over, station, station_of}
+use Rattle.rsx_pipe.specs.Part.{ask_enabled, send_enabled, pick_enabled, row_enabled, move_enabled, has_room, IsNumbered}
+use Rattle.rsx_pipe.specs.Tree.{can_ask, can_send, can_go, offers, IsStill}
 use Rattle.rsx_pipe.specs.declared.part.Part.{Part}
 use Rattle.rsx_pipe.proofs.Numbers.{above_zero, suc_minus, at_zero}
 
-pub enabled_ask : {T : Type 0} (m : Meaning T) (part : Part T) (e : NodeMove) (n : ℕ) → e ≡ TreeAsk n → IsEnabledAt any_machine m part.tree part.root.demand.asked part.root.demand.sent 1 e → ask_enabled part n ≡ true
-enabled_ask {T} m part e n is h0 =
-    let E : NodeMove → Type 0 = λ x. IsEnabledAt any_machine m part.tree part.root.demand.asked part.root.demand.sent 1 x in
-    let h : IsEnabledAt any_machine m part.tree part.root.demand.asked part.root.demand.sent 1 (TreeAsk n) = subst E is h0 in
+-- a move that can be named is enabled
+abbrev pub IsEnabled : {T : Type 0} → Meaning T → Part T → List (Signal T) → NodeMove → Type 0
+IsEnabled m part queue e = IsNumbered e × (move_enabled m part queue e ≡ true)
+
+-- what a look below the root answers
+enabled_below : {T : Type 0} (m : Meaning T) (part : Part T) (queue : List (Signal T)) (e : NodeMove) → IsEnabledAt any_machine m part.tree part.root.demand.asked part.root.demand.sent 1 e → IsEnabled m part queue e
+enabled_below {T} m part queue (Ask n) h =
     let num = h.2 in
     let same : h.0 + 1 ≡ n = omega (arith, num) in
     let P : ℕ → Type 0 = λ i. ask_enabled part i ≡ true in
-    subst P same (above_zero h.0 _ _ ∙ ap (λ k. can_ask part.tree k part.root.demand.asked part.root.demand.sent) (suc_minus h.0) ∙ h.4)
-
-pub enabled_send : {T : Type 0} (m : Meaning T) (part : Part T) (queue : List (Signal T)) (e : NodeMove) (n : ℕ) → e ≡ TreeSend n → IsEnabledAt any_machine m part.tree part.root.demand.asked part.root.demand.sent 1 e → send_enabled m part queue n ≡ true
-enabled_send {T} m part queue e n is h0 =
-    let E : NodeMove → Type 0 = λ x. IsEnabledAt any_machine m part.tree part.root.demand.asked part.root.demand.sent 1 x in
-    let h : IsEnabledAt any_machine m part.tree part.root.demand.asked part.root.demand.sent 1 (TreeSend n) = subst E is h0 in
+    (h.3, subst P same (above_zero h.0 _ _ ∙ ap (λ k. can_ask part.tree k part.root.demand.asked part.root.demand.sent) (suc_minus h.0) ∙ h.4))
+enabled_below {T} m part queue (Send n) h =
     let num = h.2 in
     let same : h.0 + 1 ≡ n = omega (arith, num) in
     let P : ℕ → Type 0 = λ i. send_enabled m part queue i ≡ true in
-    subst P same (above_zero h.0 _ _ ∙ ap (λ k. can_send m part.tree k) (suc_minus h.0) ∙ h.4)
+    (h.3, subst P same (above_zero h.0 _ _ ∙ ap (λ k. can_send m part.tree k) (suc_minus h.0) ∙ h.4))
+enabled_below m part queue (Pick n input) h =
+    let num = h.2 in
+    let same : suc h.0 ≡ n = omega (arith, num) in
+    let P : ℕ → Type 0 = λ i. pick_enabled part i input ≡ true in
+    ((h.3, h.4), subst P same h.5)
+enabled_below m part queue (Row n) h =
+    let num = h.2 in
+    let same : suc h.0 ≡ n = omega (arith, num) in
+    let P : ℕ → Type 0 = λ i. row_enabled part i ≡ true in
+    (h.3, subst P same h.4)
 
-pub none_enabled : {T : Type 0} (m : Meaning T) (part : Part T) (queue : List (Signal T)) → send_enabled m part queue 0 ≡ false →
-    ((k : ℕ) → 1 + k < 2 ^ 32 → (can_ask part.tree k part.root.demand.asked part.root.demand.sent ≡ false) × (can_send m part.tree k ≡ false) × IsStill any_machine (station part.tree.inputs k)) → (step : Move) → number_of step < 2 ^ 32 → move_enabled m part queue step ≡ false
-none_enabled m part queue r h (Ask t n) l =
-    let less : 1 + (n.0 - 1) < 2 ^ 32 = omega (arith, l) in
-    at_zero n.0 false (can_ask part.tree (n.0 - 1) part.root.demand.asked part.root.demand.sent) false refl (h (n.0 - 1) less).0
-none_enabled m part queue r h (Send t n) l =
-    let less : 1 + (n.0 - 1) < 2 ^ 32 = omega (arith, l) in
-    at_zero n.0 (has_room queue && can_go (edge_view part.root) (option_map front_of (offers m part.tree))) (can_send m part.tree (n.0 - 1)) false r (h (n.0 - 1) less).1
-none_enabled m part queue r h (Take t n) l = refl
+-- what a look at the root's own steps answers
+pub enabled_root : {T : Type 0} (m : Meaning T) (part : Part T) (queue : List (Signal T)) (e : NodeMove) → IsStepEnabled any_machine (over part.root part.tree.machine) 0 e → IsEnabled m part queue e
+enabled_root m part queue (Ask n) h = absurd h
+enabled_root m part queue (Send n) h = absurd h
+enabled_root m part queue (Pick n input) h =
+    let P : ℕ → Type 0 = λ i. pick_enabled part i input ≡ true in
+    let num = h.0 in
+    ((omega (arith, num), h.1), subst P (sym num) h.2)
+enabled_root m part queue (Row n) h =
+    let P : ℕ → Type 0 = λ i. row_enabled part i ≡ true in
+    let num = h.0 in
+    (omega (arith, num), subst P (sym num) h.1)
 
--- what a look answers makes the part awake
-pub awake_node : {T : Type 0} (m : Meaning T) (part : Part T) (queue : List (Signal T)) (e : NodeMove) → IsEnabledAt any_machine m part.tree part.root.demand.asked part.root.demand.sent 1 e → IsAwake m part queue
-awake_node m part queue (TreeAsk n) h = (Ask (Sub (record { 0 = 0 })) (record { 0 = n }), h.3, enabled_ask m part (TreeAsk n) n refl h)
-awake_node m part queue (TreeSend n) h = (Send (Sub (record { 0 = 0 })) (record { 0 = n }), h.3, enabled_send m part queue (TreeSend n) n refl h)
-awake_node m part queue (Pick n input) h = absurd (no_pick input (station part.tree.inputs h.0) h.5)
-awake_node m part queue (Row n) h = absurd (no_row (station part.tree.inputs h.0) h.4)
+none_enabled : {T : Type 0} (m : Meaning T) (part : Part T) (queue : List (Signal T)) → send_enabled m part queue 0 ≡ false → IsStill (station_of part.tree (edge_view part.root) 0) →
+    ((k : ℕ) → 1 + k < 2 ^ 32 → (can_ask part.tree k part.root.demand.asked part.root.demand.sent ≡ false) × (can_send m part.tree k ≡ false) × NoStep any_machine (station part.tree.inputs k)) → (step : NodeMove) → IsNumbered step → move_enabled m part queue step ≡ false
+none_enabled m part queue r still h (Ask n) l =
+    let less : 1 + (n - 1) < 2 ^ 32 = omega (arith, l) in
+    at_zero n false (can_ask part.tree (n - 1) part.root.demand.asked part.root.demand.sent) false refl (h (n - 1) less).0
+none_enabled m part queue r still h (Send n) l =
+    let less : 1 + (n - 1) < 2 ^ 32 = omega (arith, l) in
+    at_zero n (has_room queue && can_go (edge_view part.root) (option_map front_of (offers m part.tree))) (can_send m part.tree (n - 1)) false r (h (n - 1) less).1
+none_enabled m part queue r still h (Pick zero input) l = still.0 input l.1
+none_enabled m part queue r still h (Pick (suc at) input) l = (h at (let small = l.0 in omega (arith, small))).2.0 input l.1
+none_enabled m part queue r still h (Row zero) l = still.1
+none_enabled m part queue r still h (Row (suc at)) l = (h at (omega (arith, l))).2.1
 
--- it isn't a pick or a row
-pub none_pick : {T : Type 0} (m : Meaning T) (part : Part T) (e : NodeMove) (n input : ℕ) → e ≡ Pick n input → IsEnabledAt any_machine m part.tree part.root.demand.asked part.root.demand.sent 1 e → ⊥
-none_pick {T} m part e n input is h =
-    let E : NodeMove → Type 0 = λ x. IsEnabledAt any_machine m part.tree part.root.demand.asked part.root.demand.sent 1 x in
-    let k : IsEnabledAt any_machine m part.tree part.root.demand.asked part.root.demand.sent 1 (Pick n input) = subst E is h in
-    no_pick input (station part.tree.inputs k.0) k.5
+pub some_below : {T : Type 0} (m : Meaning T) (part : Part T) (queue : List (Signal T)) (o : Option NodeMove) → IfSome o (λ e. IsEnabledAt any_machine m part.tree part.root.demand.asked part.root.demand.sent 1 e) → IfSome o (λ e. IsEnabled m part queue e)
+some_below m part queue None h = h
+some_below m part queue (Some e) h = enabled_below m part queue e h
 
-pub none_row : {T : Type 0} (m : Meaning T) (part : Part T) (e : NodeMove) (n : ℕ) → e ≡ Row n → IsEnabledAt any_machine m part.tree part.root.demand.asked part.root.demand.sent 1 e → ⊥
-none_row {T} m part e n is h =
-    let E : NodeMove → Type 0 = λ x. IsEnabledAt any_machine m part.tree part.root.demand.asked part.root.demand.sent 1 x in
-    let k : IsEnabledAt any_machine m part.tree part.root.demand.asked part.root.demand.sent 1 (Row n) = subst E is h in
-    no_row (station part.tree.inputs k.0) k.4
+pub none_below : {T : Type 0} (m : Meaning T) (part : Part T) (queue : List (Signal T)) (o : Option NodeMove) → send_enabled m part queue 0 ≡ false → IsStill (station_of part.tree (edge_view part.root) 0) →
+    IfNone o ((k : ℕ) → 1 + k < 2 ^ 32 → (can_ask part.tree k part.root.demand.asked part.root.demand.sent ≡ false) × (can_send m part.tree k ≡ false) × NoStep any_machine (station part.tree.inputs k)) → IfNone o ((step : NodeMove) → IsNumbered step → move_enabled m part queue step ≡ false)
+none_below m part queue None r still h = none_enabled m part queue r still h
+none_below m part queue (Some e) r still h = h

@@ -1,18 +1,12 @@
 -- How each move keeps what a part stands for.
-use Rattle.std.proofs.Common.{◌≡◌, ◌⊎◌, inl, inr, ℕ, zero, suc, ◌+◌, ◌-◌, ◌<◌, ◌≤◌, min, Bool, true, false, ◌&&◌, nat_eq, nat_lt, ◌^◌, if◌then◌else◌, List, [], ◌∷◌, ◌++◌, length, length-append, take, map, option_map, Option, Some, None, Result, Ok, Err, refl, ap, sym, ◌∙◌, subst, arith, append_assoc, add-zero}
+use Rattle.std.proofs.Common.{◌≡◌, ◌⊎◌, inl, inr, ℕ, zero, suc, ◌+◌, ◌-◌, ◌<◌, ◌≤◌, min, Bool, true, false, ◌&&◌, nat_eq, nat_lt, if◌then◌else◌, List, [], ◌∷◌, ◌++◌, length, length-append, take, map, option_map, Option, Some, None, Ok, refl, ap, sym, ◌∙◌, subst, arith, append_assoc, add-zero}
 use Rattle.std.proofs.lemmas.Bool.Decides.{nat_tests}
 use Rattle.std.proofs.lemmas.List.{append-nil, take_all}
-use Rattle.rsx_demand.specs.Demand.{saturating_total}
 use Rattle.rsx_model.specs.declared.expr.Expr.{Expr}
 use Rattle.rsx_types.specs.Meaning.{Meaning, Allocates}
 use Rattle.rsx_types.specs.Notes.{unchosen, notes_then}
 use Rattle.rsx_types.specs.Stream.{Stream, signals_then}
 use Rattle.rsx_types.specs.declared.note.Note.{Note}
-use Rattle.rsx_types.specs.declared.names.Move.{Move}
-use Rattle.rsx_types.specs.declared.names.Move.TheVariants.{Ask, Send, Take}
-use Rattle.rsx_types.specs.declared.names.NodeId.{NodeId}
-use Rattle.rsx_types.specs.declared.names.Tree.{Tree as TreeName}
-use Rattle.rsx_types.specs.declared.names.Tree.TheVariants.{Sub}
 use Rattle.rsx_types.specs.declared.signal.Signal.{Signal}
 use Rattle.rsx_types.specs.declared.signal.Signal.TheVariants.{Next, Complete, Error}
 use Rattle.rsx_sources.specs.Machine.{front_of}
@@ -20,8 +14,10 @@ use Rattle.rsx_sources.specs.declared.machine.Front.{Front}
 use Rattle.rsx_node.specs.Built.{IsBuilt, fresh_edge, fresh_edges}
 use Rattle.rsx_tree.specs.Edges.{changed_at, asked_up_to, edge_view, EdgeView, passed, is_live, closed_view, closed_state, can_pass}
 use Rattle.rsx_pipe.specs.Output.{items_in, IsUnended, IsOrderly, values_then}
-use Rattle.rsx_pipe.specs.Part.{PartStands, IsPutOut, IsRootSent, IsMade, IsMoved, IsMovedBy, IsPumped, IsQuiet, IsAwake, IsDelivered, IsServed, IsSpent, HasEnded, IsAsk, IsSend, IsEffect, GoesOut, all_edges, sent_at, ask_enabled, send_enabled, move_enabled, has_room, number_of, evaluated, pump_allocates}
-use Rattle.rsx_pipe.specs.Tree.{AnyTree, comes_out, notes_of, offers, edges, edges_after, can_ask, can_send, can_go, want_at, want_in, front_at, front_in, ended_at, IsAllClosed, IsKept, IsLetGo, IsAdvanced, IsAskedAt, IsSentAt, IsChosen, IsDriven, IsIdle, IsBalanced, IsBalancedAfter, IsWithin, pop_allocates}
+use Rattle.rsx_pipe.specs.Part.{PartStands, IsPutOut, IsRootSent, IsMade, IsMoved, IsMovedBy, IsPumped, IsQuiet, IsAwake, IsDelivered, IsServed, IsSpent, HasEnded, IsAsk, IsSend, IsEffect, GoesOut, all_edges, sent_at, ask_enabled, send_enabled, move_enabled, has_room, make_allocates, evaluated, pump_allocates, IsPick, IsRow}
+use Rattle.rsx_pipe.specs.Tree.{AnyTree, comes_out, notes_of, offers, edges, edges_after, can_ask, can_send, can_go, want_at, want_in, front_at, front_in, ended_at, IsAllClosed, IsKept, IsAlike, step_allocates, IsLetGo, IsAdvanced, IsAskedAt, IsSentAt, IsChosen, IsDriven, IsIdle, IsBalanced, IsBalancedAfter, IsWithin, pop_allocates, IsStill}
+use Rattle.rsx_tree.specs.declared.look.NodeMove.{NodeMove}
+use Rattle.rsx_tree.specs.declared.look.NodeMove.TheVariants.{Ask, Send, Pick, Row}
 use Rattle.rsx_tree.specs.declared.edge.Edge.{Edge}
 use Rattle.rsx_tree.specs.declared.edge.EdgeState.{EdgeState}
 use Rattle.rsx_tree.specs.declared.edge.EdgeState.TheVariants.{Live, Closed, Ended}
@@ -29,20 +25,25 @@ use Rattle.rsx_pipe.specs.declared.part.Part.{Part}
 use Rattle.rsx_pipe.specs.declared.part.Pumped.{Pumped}
 use Rattle.rsx_pipe.specs.declared.part.Pumped.TheVariants.{Idle, Budget}
 use Rattle.rsx_node.specs.Any.{any_machine}
-use Rattle.rsx_tree.specs.Stepped.{station}
+use Rattle.rsx_tree.specs.Stepped.{station, IsSteppedAt, IsPickedHere, IsRowMadeHere, over, station_of}
 use Rattle.rsx_tree.specs.Allocates.{node_allocates}
-use Rattle.rsx_tree.proofs.Alike.{driven_alike, or_left}
+use Rattle.rsx_sources.specs.Steps.{IsNotMade}
+use Rattle.rsx_sources.specs.declared.machine.NotMade.{NotMade}
+use Rattle.rsx_sources.specs.declared.machine.NotMade.TheVariants.{NotEnabled}
+use Rattle.rsx_tree.specs.Look.{IsStepEnabled}
+use Rattle.rsx_tree.proofs.Alike.{or_right, driven_alike, or_left}
 use Rattle.rsx_tree.proofs.Drives.{chosen_run}
 use Rattle.rsx_tree.proofs.Effects.{length_edges}
-use Rattle.rsx_tree.proofs.Noted.{kept_chosen}
+use Rattle.rsx_tree.proofs.Noted.{kept_chosen, picked_effect, picked_enabled, row_effect, row_enabled as row_made_enabled}
 use Rattle.rsx_node.specs.Laws.{any_ending_waits, any_hungry}
 use Rattle.rsx_tree.specs.Inputs.{size, wanted_at, can_ask_in, can_send_in, edges as edges_in}
+use Rattle.rsx_tree.specs.Stepped.{can_pick_in, can_row_in}
 use Rattle.rsx_tree.proofs.Changes.{chosen_second}
-use Rattle.rsx_tree.proofs.Idles.{idle_offers, can_pass_live, place_none, less_or_more}
+use Rattle.rsx_tree.proofs.Idles.{idle_offers, can_pass_live, live_still, place_none, station_none, less_or_more}
 use Rattle.rsx_pipe.proofs.Numbers.{above_zero, suc_minus}
 use Rattle.rsx_pipe.proofs.Signals.{IsOrderly-more, IsUnended-more, IsUnended-last, items_in-append, map_then-last, prefix_of_orderly, cut_value}
-use Rattle.rsx_tree.proofs.Shut.{pass_live, and_right}
-use Rattle.rsx_pipe.proofs.Trees.{advanced_not_closed, ask_not_closed, send_not_closed, go_live, notes_then-unchosen, notes_then-unrecorded, unchosen_notes, still_node, no_step}
+use Rattle.rsx_tree.proofs.Shut.{pass_live, and_right, pick_alive, row_alive}
+use Rattle.rsx_pipe.proofs.Trees.{advanced_not_closed, ask_not_closed, send_not_closed, go_live, notes_then-unchosen, notes_then-unrecorded, unchosen_notes}
 use Rattle.rsx_pipe.proofs.Numbers.{front_there, above_root, asked_all, at_zero}
 
 never : (b : Bool) → b ≡ true → b ≡ false → ⊥
@@ -58,8 +59,11 @@ same_output {T} m published part e joins output h =
 pub put_out_none : {T : Type 0} (m : Meaning T) (part : Part T) → IsPutOut m part [] part
 put_out_none m part published e joins output h = same_output m published part e joins output h
 
+closed_dead : (s : EdgeState) → s ≡ Closed → s ≡ Live → ⊥
+closed_dead s c l = cc
+
 -- moves inside the tree, by which nodes choose
-pub put_out_chosen : {T : Type 0} (m : Meaning T) (old new : Part T) → IsChosen m old.tree new.tree → ((sent : ℕ) → IsBalanced old.tree sent → IsBalanced new.tree sent) → new.root ≡ old.root → (IsAllClosed old.tree → ⊥) → IsPutOut m old [] new
+pub put_out_chosen : {T : Type 0} (m : Meaning T) (old new : Part T) → IsChosen m old.tree new.tree → ((sent : ℕ) → IsBalanced old.tree sent → IsBalanced new.tree sent) → new.root ≡ old.root → (IsAllClosed old.tree → (old.root.state ≡ Live → ⊥) → ⊥) → IsPutOut m old [] new
 put_out_chosen m old new k balance root alive published e joins output h =
     same_output m published new e joins output (record {
       value = λ more further len.
@@ -70,10 +74,10 @@ put_out_chosen m old new k balance root alive published e joins output h =
       ended = rw root h.ended;
       counted = rw root h.counted;
       balance = rw root (λ l. balance old.root.demand.sent (h.balance l));
-      closed = λ c. absurd (alive (h.closed (ap (λ r. r.state) (sym root) ∙ c)));
+      closed = λ c. let was : old.root.state ≡ Closed = ap (λ r. r.state) (sym root) ∙ c in absurd (alive (h.closed was) (closed_dead old.root.state was));
     })
 
-pub put_out_kept : {T : Type 0} (m : Meaning T) (old new : Part T) → IsKept m old.tree new.tree → ((sent : ℕ) → IsBalanced old.tree sent → IsBalanced new.tree sent) → new.root ≡ old.root → (IsAllClosed old.tree → ⊥) → IsPutOut m old [] new
+pub put_out_kept : {T : Type 0} (m : Meaning T) (old new : Part T) → IsKept m old.tree new.tree → ((sent : ℕ) → IsBalanced old.tree sent → IsBalanced new.tree sent) → new.root ≡ old.root → (IsAllClosed old.tree → (old.root.state ≡ Live → ⊥) → ⊥) → IsPutOut m old [] new
 put_out_kept m old new k balance root alive = put_out_chosen m old new (kept_chosen any_machine m old.tree new.tree k) balance root alive
 
 passed_sent : {T : Type 0} (e : EdgeView) (s : Signal T) → (passed e (front_of s)).sent ≡ e.sent + length (items_in (s ∷ []))
@@ -256,7 +260,7 @@ root_can m old new queue queue' k = rw (k.room, k.offered) k.can
 
 pub moved_root : {T : Type 0} (m : Meaning T) (old new : Part T) (queue queue' : List (Signal T)) → (k : IsRootSent m old queue new queue') → IsMoved m old queue (k.signal ∷ []) new queue'
 moved_root m old new queue queue' k = record {
-  move = Send (Sub (record { 0 = 0 })) (record { 0 = 0 });
+  move = Send 0;
   enabled = root_can m old new queue queue' k;
   effect = sent_root m old new queue queue' k;
   queued = k.queued;
@@ -292,26 +296,43 @@ moved_below {T} m old tree queue a =
     let S : ℕ → Type 0 = λ k. IsSentAt m old.tree k tree in
     elim a.made [
       | inl k ↦ record {
-        move = Ask (Sub (record { 0 = 0 })) (record { 0 = a.at + 1 });
+        move = Ask (a.at + 1);
         enabled = above_zero a.at false (can_ask old.tree ((a.at + 1) - 1) asked sent) ∙ ap (λ i. can_ask old.tree i asked sent) (suc_minus a.at) ∙ k.0;
         effect = (refl, asked_below_root old tree (a.at + 1) above (subst A (sym (suc_minus a.at)) k.1));
         queued = sym (append-nil queue);
       }
       | inr y ↦ elim y [
         | inl k ↦ record {
-          move = Send (Sub (record { 0 = 0 })) (record { 0 = a.at + 1 });
+          move = Send (a.at + 1);
           enabled = above_zero a.at (has_room queue && can_go (edge_view old.root) (option_map front_of (offers m old.tree))) (can_send m old.tree ((a.at + 1) - 1)) ∙ ap (λ i. can_send m old.tree i) (suc_minus a.at) ∙ k.0;
           effect = sent_below_root m old tree (a.at + 1) above (subst S (sym (suc_minus a.at)) k.1);
           queued = sym (append-nil queue);
         }
-        | inr k ↦ absurd (no_step m old.tree.inputs a.at tree.inputs k.1.made)
+        | inr k ↦ elim k.1.made [
+          | inl p ↦
+              let made : IsSteppedAt (IsPickedHere any_machine m p.0) any_machine.ended old.tree (edge_view old.root) (suc a.at) tree = record { machine = k.1.receiver; made = p.1 } in
+              record {
+                move = Pick (suc a.at) p.0;
+                enabled = picked_enabled any_machine m p.0 old.tree (edge_view old.root) (suc a.at) tree made;
+                effect = (refl, record { tree = picked_effect any_machine m p.0 old.tree (edge_view old.root) (suc a.at) tree made; root = refl });
+                queued = sym (append-nil queue);
+              }
+          | inr p ↦
+              let made : IsSteppedAt (IsRowMadeHere any_machine m) any_machine.ended old.tree (edge_view old.root) (suc a.at) tree = record { machine = k.1.receiver; made = p } in
+              record {
+                move = Row (suc a.at);
+                enabled = row_made_enabled any_machine m old.tree (edge_view old.root) (suc a.at) tree made;
+                effect = (refl, record { tree = row_effect any_machine m old.tree (edge_view old.root) (suc a.at) tree made; root = refl });
+                queued = sym (append-nil queue);
+              }
+        ]
       ]
     ]
 
 -- what a call that makes a move gives
-pub made_root : {T : Type 0} (m : Meaning T) (move : Move) (tree : TreeName) (n : NodeId) (old new : Part T) (queue queue' : List (Signal T)) → move ≡ Send tree n → n.0 ≡ 0 → IsRootSent m old queue new queue' → IsMade m move old queue new queue'
-made_root {T} m move tree n old new queue queue' e z k =
-    let P : Move → Type 0 = λ mv. IsMade m mv old queue new queue' in
+pub made_root : {T : Type 0} (m : Meaning T) (move : NodeMove) (n : ℕ) (old new : Part T) (queue queue' : List (Signal T)) → move ≡ Send n → n ≡ 0 → IsRootSent m old queue new queue' → IsMade m move old queue new queue'
+made_root {T} m move n old new queue queue' e z k =
+    let P : NodeMove → Type 0 = λ mv. IsMade m mv old queue new queue' in
     let Q : ℕ → Type 0 = λ i. IsSend m old i (k.signal ∷ []) new in
     subst P (sym e) (record {
       out = k.signal ∷ [];
@@ -320,29 +341,53 @@ made_root {T} m move tree n old new queue queue' e z k =
       stands = put_out_sent m old new queue queue' k;
       asked = root_asked m old new queue queue' k;
       unclosed = λ _. root_unclosed m old new queue queue' k;
+      alike = k.gone.alike;
     })
 
-pub made_inside : {T : Type 0} (m : Meaning T) (move : Move) (old new : Part T) (queue : List (Signal T)) → IsEffect m move old [] new → IsPutOut m old [] new → new.root ≡ old.root → IsMade m move old queue new queue
-made_inside m move old new queue effect stands root = record {
+pub made_inside : {T : Type 0} (m : Meaning T) (move : NodeMove) (old new : Part T) (queue : List (Signal T)) → IsEffect m move old [] new → IsPutOut m old [] new → new.root ≡ old.root → IsAlike old.tree new.tree → IsMade m move old queue new queue
+made_inside m move old new queue effect stands root alike = record {
   out = [];
   effect = effect;
   queued = sym (append-nil queue);
   stands = stands;
   asked = ap (λ r. r.demand.asked) root;
   unclosed = λ h c. h (ap (λ r. r.state) (sym root) ∙ c);
+  alike = alike;
 }
 
-pub made_ask : {T : Type 0} (m : Meaning T) (move : Move) (tree : TreeName) (n : NodeId) (old new : Part T) (queue : List (Signal T)) → move ≡ Ask tree n → IsAsk old n.0 new → IsPutOut m old [] new → new.root ≡ old.root → IsMade m move old queue new queue
-made_ask {T} m move tree n old new queue e effect stands root =
-    let P : Move → Type 0 = λ mv. IsEffect m mv old [] new in
-    made_inside m move old new queue (subst P (sym e) (refl, effect)) stands root
+pub made_ask : {T : Type 0} (m : Meaning T) (move : NodeMove) (n : ℕ) (old new : Part T) (queue : List (Signal T)) → move ≡ Ask n → IsAsk old n new → IsPutOut m old [] new → new.root ≡ old.root → IsAlike old.tree new.tree → IsMade m move old queue new queue
+made_ask {T} m move n old new queue e effect stands root alike =
+    let P : NodeMove → Type 0 = λ mv. IsEffect m mv old [] new in
+    made_inside m move old new queue (subst P (sym e) (refl, effect)) stands root alike
 
-pub made_below : {T : Type 0} (m : Meaning T) (move : Move) (tree : TreeName) (n : NodeId) (old new : Part T) (queue : List (Signal T)) → move ≡ Send tree n → 0 < n.0 → IsSend m old ((n.0 - 1) + 1) [] new → IsPutOut m old [] new → new.root ≡ old.root → IsMade m move old queue new queue
-made_below {T} m move tree n old new queue e z effect stands root =
-    let P : Move → Type 0 = λ mv. IsEffect m mv old [] new in
+pub made_below : {T : Type 0} (m : Meaning T) (move : NodeMove) (n : ℕ) (old new : Part T) (queue : List (Signal T)) → move ≡ Send n → 0 < n → IsSend m old ((n - 1) + 1) [] new → IsPutOut m old [] new → new.root ≡ old.root → IsAlike old.tree new.tree → IsMade m move old queue new queue
+made_below {T} m move n old new queue e z effect stands root alike =
+    let P : NodeMove → Type 0 = λ mv. IsEffect m mv old [] new in
     let Q : ℕ → Type 0 = λ i. IsSend m old i [] new in
-    let same : (n.0 - 1) + 1 ≡ n.0 = omega (arith, z) in
-    made_inside m move old new queue (subst P (sym e) (subst Q same effect)) stands root
+    let same : (n - 1) + 1 ≡ n = omega (arith, z) in
+    made_inside m move old new queue (subst P (sym e) (subst Q same effect)) stands root alike
+
+pub made_pick : {T : Type 0} (m : Meaning T) (move : NodeMove) (n input : ℕ) (old new : Part T) (queue : List (Signal T)) → move ≡ Pick n input → IsPick old n input new → IsPutOut m old [] new → IsAlike old.tree new.tree → IsMade m move old queue new queue
+made_pick {T} m move n input old new queue e effect stands alike =
+    let P : NodeMove → Type 0 = λ mv. IsEffect m mv old [] new in
+    made_inside m move old new queue (subst P (sym e) (refl, effect)) stands effect.root alike
+
+pub made_row : {T : Type 0} (m : Meaning T) (move : NodeMove) (n : ℕ) (old new : Part T) (queue : List (Signal T)) → move ≡ Row n → IsRow old n new → IsPutOut m old [] new → IsAlike old.tree new.tree → IsMade m move old queue new queue
+made_row {T} m move n old new queue e effect stands alike =
+    let P : NodeMove → Type 0 = λ mv. IsEffect m mv old [] new in
+    made_inside m move old new queue (subst P (sym e) (refl, effect)) stands effect.root alike
+
+-- a move that a call made is a run of one move
+pub pumped_made : {T : Type 0} (m : Meaning T) (move : NodeMove) (old new : Part T) (queue queue' : List (Signal T)) → move_enabled m old queue move ≡ true → IsMade m move old queue new queue' → IsPumped m 1 old queue new queue'
+pumped_made m move old new queue queue' can k = record {
+  out = k.out;
+  queued = k.queued;
+  moves = (new, k.out, queue', [], record { move = move; enabled = can; effect = k.effect; queued = k.queued }, (refl, refl, refl), sym (append-nil k.out));
+  stands = k.stands;
+  asked = k.asked;
+  unclosed = k.unclosed;
+  alike = k.alike;
+}
 
 -- ---- a part that has just begun
 
@@ -373,16 +418,17 @@ moved_alive {T} m old new queue queue' out k closed shut = by_move k.move k.enab
     below : (at : ℕ) (x y : Bool) → (if nat_eq at 0 then x else y) ≡ true → (x ≡ true) ⊎ (y ≡ true)
     below at x y e = by_test (nat_eq at 0) x y e
 
-    by_move : (move : Move) → move_enabled m old queue move ≡ true → ⊥
-    by_move (Ask t n) e = elim (below n.0 false (can_ask old.tree (n.0 - 1) old.root.demand.asked old.root.demand.sent) e) [
+    by_move : (move : NodeMove) → move_enabled m old queue move ≡ true → ⊥
+    by_move (Ask n) e = elim (below n false (can_ask old.tree (n - 1) old.root.demand.asked old.root.demand.sent) e) [
       | inl f ↦ cc
-      | inr a ↦ ask_not_closed old.tree (n.0 - 1) old.root.demand.asked old.root.demand.sent a closed
+      | inr a ↦ ask_not_closed old.tree (n - 1) old.root.demand.asked old.root.demand.sent a closed
     ]
-    by_move (Send t n) e = elim (below n.0 (has_room queue && can_go (edge_view old.root) (option_map front_of (offers m old.tree))) (can_send m old.tree (n.0 - 1)) e) [
+    by_move (Send n) e = elim (below n (has_room queue && can_go (edge_view old.root) (option_map front_of (offers m old.tree))) (can_send m old.tree (n - 1)) e) [
       | inl r ↦ shut (go_live (edge_view old.root) (option_map front_of (offers m old.tree)) (and_right (has_room queue) _ r))
-      | inr s ↦ send_not_closed m old.tree (n.0 - 1) s closed
+      | inr s ↦ send_not_closed m old.tree (n - 1) s closed
     ]
-    by_move (Take t n) e = cc
+    by_move (Pick n input) e = pick_alive any_machine old.tree (edge_view old.root) n input e closed shut
+    by_move (Row n) e = row_alive any_machine old.tree (edge_view old.root) n e closed shut
 
 -- ---- many moves of the tree
 
@@ -394,7 +440,7 @@ driven_moves m (suc n) root old new queue d =
 driven_put_out : {T : Type 0} (m : Meaning T) (n : ℕ) (root : Edge) (old new : AnyTree T) → IsDriven m n old root.demand.asked root.demand.sent new → ((s : ℕ) → IsBalanced old s → IsBalanced new s) → IsPutOut m (record { tree = old; root = root }) [] (record { tree = new; root = root })
 driven_put_out {T} m zero root old new d balance = let P : AnyTree T → Type 0 = λ t. IsPutOut m (record { tree = old; root = root }) [] (record { tree = t; root = root }) in subst P (sym d) (put_out_none m (record { tree = old; root = root }))
 driven_put_out m (suc n) root old new d balance =
-    put_out_chosen m (record { tree = old; root = root }) (record { tree = new; root = root }) (chosen_run any_machine m true (suc n) old new root.demand.asked root.demand.sent d) balance refl (advanced_not_closed m old d.0 root.demand.asked root.demand.sent d.1)
+    put_out_chosen m (record { tree = old; root = root }) (record { tree = new; root = root }) (chosen_run any_machine m true (suc n) old new root.demand.asked root.demand.sent d) balance refl (λ closed _. advanced_not_closed m old d.0 root.demand.asked root.demand.sent d.1 closed)
 
 pub pumped_driven : {T : Type 0} (m : Meaning T) (n : ℕ) (old : Part T) (tree : AnyTree T) (queue : List (Signal T)) → IsDriven m n old.tree old.root.demand.asked old.root.demand.sent tree → ((s : ℕ) → IsBalanced old.tree s → IsBalanced tree s) → IsPumped m n old queue (record { tree = tree; root = old.root }) queue
 pumped_driven m n old tree queue d balance = record {
@@ -413,23 +459,34 @@ pumped_driven m n old tree queue d balance = record {
 pub root_free : {T : Type 0} (a : Allocates) (part : Part T) → pump_allocates a part ≡ false → pop_allocates a part.tree ≡ false
 root_free a part free = or_left (pop_allocates a part.tree) _ (or_left (node_allocates any_machine a part.tree.machine) _ free)
 
+-- a step of the root is made without
+pub root_step_free : {T : Type 0} (a : Allocates) (part : Part T) (step : NodeMove) → IsStepEnabled any_machine (over part.root part.tree.machine) 0 step → pump_allocates a part ≡ false → make_allocates a part step ≡ false
+root_step_free a part (Ask n) h free = absurd h
+root_step_free a part (Send n) h free = absurd h
+root_step_free a part (Pick n input) h free = ap (λ k. step_allocates a part.tree (edge_view part.root) k) h.0 ∙ or_right (any_machine.signal_allocates a part.tree.machine) _ (or_right (any_machine.pop_allocates a part.tree.machine) _ (or_left (node_allocates any_machine a part.tree.machine) _ free))
+root_step_free a part (Row n) h free = ap (λ k. step_allocates a part.tree (edge_view part.root) k) h.0 ∙ or_right (any_machine.signal_allocates a part.tree.machine) _ (or_right (any_machine.pop_allocates a part.tree.machine) _ (or_left (node_allocates any_machine a part.tree.machine) _ free))
+
+-- an enabled move isn't refused but for want of memory
+pub not_refused : (can : Bool) (e : NotMade) → can ≡ true → IsNotMade can e → e ≡ NotEnabled → ⊥
+not_refused can e enabled h is = let other : IsNotMade can NotEnabled = subst (IsNotMade can) is h in never can enabled other
+
 -- ---- where no move is enabled
 
-pub quiet_when : {T : Type 0} (m : Meaning T) (part : Part T) (queue : List (Signal T)) → send_enabled m part queue 0 ≡ false → IsIdle m part.tree part.root.demand.asked part.root.demand.sent → IsQuiet m part queue
-quiet_when m part queue r t (Ask tree n) l = at_zero n.0 false (can_ask part.tree (n.0 - 1) part.root.demand.asked part.root.demand.sent) false refl (t (n.0 - 1) (omega (arith, l))).0
-quiet_when m part queue r t (Send tree n) l = at_zero n.0 (has_room queue && can_go (edge_view part.root) (option_map front_of (offers m part.tree))) (can_send m part.tree (n.0 - 1)) false r (t (n.0 - 1) (omega (arith, l))).1
-quiet_when m part queue r t (Take tree n) l = refl
+pub quiet_when : {T : Type 0} (m : Meaning T) (part : Part T) (queue : List (Signal T)) → send_enabled m part queue 0 ≡ false → IsIdle m part.tree part.root.demand.asked part.root.demand.sent → IsStill (station_of part.tree (edge_view part.root) 0) → IsQuiet m part queue
+quiet_when m part queue r t still (Ask n) l = at_zero n false (can_ask part.tree (n - 1) part.root.demand.asked part.root.demand.sent) false refl (t (n - 1) (omega (arith, l))).0
+quiet_when m part queue r t still (Send n) l = at_zero n (has_room queue && can_go (edge_view part.root) (option_map front_of (offers m part.tree))) (can_send m part.tree (n - 1)) false r (t (n - 1) (omega (arith, l))).1
+quiet_when m part queue r t still (Pick zero input) l = still.0 input l.1
+quiet_when m part queue r t still (Pick (suc at) input) l = (t at (let small = l.0 in omega (arith, small))).2.0 input l.1
+quiet_when m part queue r t still (Row zero) l = still.1
+quiet_when m part queue r t still (Row (suc at)) l = (t at (omega (arith, l))).2.1
 
--- the tree made no move, and the root can't send
-pub quiet_driven : {T : Type 0} (m : Meaning T) (n left budget : ℕ) (part : Part T) (tree : AnyTree T) (queue : List (Signal T)) → n + left ≡ budget → left ≡ budget → IsDriven m n part.tree part.root.demand.asked part.root.demand.sent tree → send_enabled m part queue 0 ≡ false →
-    IsIdle m tree part.root.demand.asked part.root.demand.sent → IsQuiet m (record { tree = tree; root = part.root }) queue
-quiet_driven {T} m zero left budget part tree queue spent all d shut idle =
+-- the tree made no move, and the root can't send, pick or make a row
+pub quiet_driven : {T : Type 0} (m : Meaning T) (n left budget : ℕ) (part : Part T) (tree : AnyTree T) (queue : List (Signal T)) → n + left ≡ budget → budget ≤ left → IsDriven m n part.tree part.root.demand.asked part.root.demand.sent tree → send_enabled m part queue 0 ≡ false →
+    IsIdle m tree part.root.demand.asked part.root.demand.sent → IsStill (station_of tree (edge_view part.root) 0) → IsQuiet m (record { tree = tree; root = part.root }) queue
+quiet_driven {T} m zero left budget part tree queue spent all d shut idle still =
     let S : AnyTree T → Type 0 = λ t. send_enabled m (record { tree = t; root = part.root }) queue 0 ≡ false in
-    quiet_when m (record { tree = tree; root = part.root }) queue (subst S (sym d) shut) idle
-quiet_driven m (suc n) left budget part tree queue spent all d shut idle = absurd (omega (arith, spent, all))
-
-pub awake_root : {T : Type 0} (m : Meaning T) (part : Part T) (queue : List (Signal T)) → send_enabled m part queue 0 ≡ true → IsAwake m part queue
-awake_root m part queue h = (Send (Sub (record { 0 = 0 })) (record { 0 = 0 }), omega arith, h)
+    quiet_when m (record { tree = tree; root = part.root }) queue (subst S (sym d) shut) idle still
+quiet_driven m (suc n) left budget part tree queue spent all d shut idle still = absurd (omega (arith, spent, all))
 
 -- ---- idle means delivered
 
@@ -440,26 +497,32 @@ idle_tree : {T : Type 0} (m : Meaning T) (part : Part T) (queue : List (Signal T
 idle_tree {T} m part queue q few at lt = elim (less_or_more at (size part.tree.inputs)) [
   | inl w ↦
       let small : size part.tree.inputs < 256 = few_below part few in
-      let a = q (Ask (Sub (record { 0 = 0 })) (record { 0 = at + 1 })) (omega (arith, w, small)) in
-      let s = q (Send (Sub (record { 0 = 0 })) (record { 0 = at + 1 })) (omega (arith, w, small)) in (
+      let a = q (Ask (at + 1)) (omega (arith, w, small)) in
+      let s = q (Send (at + 1)) (omega (arith, w, small)) in (
         sym (ap (λ k. can_ask part.tree k part.root.demand.asked part.root.demand.sent) (suc_minus at)) ∙ (sym (above_zero at false (can_ask part.tree ((at + 1) - 1) part.root.demand.asked part.root.demand.sent)) ∙ a),
         sym (ap (λ k. can_send m part.tree k) (suc_minus at)) ∙ (sym (above_zero at (has_room queue && can_go (edge_view part.root) (option_map front_of (offers m part.tree))) (can_send m part.tree ((at + 1) - 1))) ∙ s),
-        still_node (station part.tree.inputs at),
+        ((λ input l. q (Pick (suc at) input) (omega (arith, w, small), l)), q (Row (suc at)) (omega (arith, w, small))),
       )
-  | inr w ↦ (
-    ap (can_ask_in any_machine) (place_none part.tree.machine 0 part.root.demand.asked part.root.demand.sent part.tree.inputs at w),
-    ap (can_send_in any_machine m) (place_none part.tree.machine 0 0 0 part.tree.inputs at w),
-    still_node (station part.tree.inputs at),
-  )
+  | inr w ↦
+      let none = station_none part.tree.inputs at w in (
+        ap (can_ask_in any_machine) (place_none part.tree.machine 0 part.root.demand.asked part.root.demand.sent part.tree.inputs at w),
+        ap (can_send_in any_machine m) (place_none part.tree.machine 0 0 0 part.tree.inputs at w),
+        ((λ input l. ap (can_pick_in any_machine input) none), ap (can_row_in any_machine) none),
+      )
 ]
+
+-- no step of the root of a quiet part is enabled
+still_root : {T : Type 0} (m : Meaning T) (part : Part T) (queue : List (Signal T)) → IsQuiet m part queue → IsStill (station_of part.tree (edge_view part.root) 0)
+still_root m part queue q = ((λ input l. q (Pick 0 input) (omega arith, l)), q (Row 0) (omega arith))
 
 -- over a live root edge with room behind it all that was asked for went
 sent_all_asked : {T : Type 0} (m : Meaning T) (part : Part T) (queue : List (Signal T)) → IsQuiet m part queue → part.root.state ≡ Live → length queue < 64 → IsBalanced part.tree part.root.demand.sent → length (all_edges part) ≤ 256 → IsWithin part.tree → part.root.demand.sent < part.root.demand.asked → ⊥
 sent_all_asked m part queue q live room b few w less =
-    let s = idle_offers any_machine m (any_ending_waits m) (any_hungry m) part.tree part.root.demand.asked part.root.demand.sent (idle_tree m part queue q few) ((λ j l. refl), refl) b less (let k = few_below part few in omega (arith, k)) w in
+    let can = ap is_live live in
+    let s = idle_offers any_machine m (any_ending_waits m) (any_hungry m) part.tree part.root.demand.asked part.root.demand.sent (idle_tree m part queue q few) (live_still any_machine part.root part.tree.machine can (still_root m part queue q)) b less (let k = few_below part few in omega (arith, k)) w in
     let r : has_room queue ≡ true = grind (arith, nat_tests, room) in
-    let goes : send_enabled m part queue 0 ≡ true = rw (r, s.1) (can_pass_live (edge_view part.root) (front_of s.0) (ap is_live live) less) in
-    never (send_enabled m part queue 0) goes (q (Send (Sub (record { 0 = 0 })) (record { 0 = 0 })) (omega arith))
+    let goes : send_enabled m part queue 0 ≡ true = rw (r, s.1) (can_pass_live (edge_view part.root) (front_of s.0) can less) in
+    never (send_enabled m part queue 0) goes (q (Send 0) (omega arith))
 
 take_front : {A : Type 0} (xs rest : List A) (n : ℕ) → n ≡ length xs → take n (xs ++ rest) ≡ xs
 take_front [] rest n e = rw e refl

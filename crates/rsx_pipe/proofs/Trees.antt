@@ -1,5 +1,5 @@
 -- The tree of a part: choices, and closed trees.
-use Rattle.std.proofs.Common.{◌≡◌, ◌⊎◌, inl, inr, ℕ, suc, ◌+◌, Bool, true, false, ◌&&◌, List, [], ◌∷◌, ◌++◌, length, length-append, map, slice_get, refl, ap, sym, ◌∙◌, subst, arith, append_assoc, Option, Some, None}
+use Rattle.std.proofs.Common.{◌≡◌, inl, inr, ℕ, suc, ◌+◌, true, List, [], ◌∷◌, ◌++◌, length, length-append, map, slice_get, refl, ap, sym, ◌∙◌, subst, arith, append_assoc, Option, Some, None}
 use Rattle.std.proofs.lemmas.List.{append-nil}
 use Rattle.rsx_types.specs.Meaning.{Meaning}
 use Rattle.rsx_types.specs.Notes.{note_then, notes_then, unchosen}
@@ -13,9 +13,7 @@ use Rattle.rsx_node.specs.declared.any_node.AnyNode.TheVariants.{Items, Range, P
 use Rattle.rsx_types.specs.Stream.{Stream}
 use Rattle.rsx_tree.specs.declared.edge.EdgeState.TheVariants.{Live}
 use Rattle.rsx_tree.specs.declared.inputs.Inputs.{Inputs, End, More'}
-use Rattle.rsx_tree.specs.Edges.{EdgeView, can_pass, is_live}
-use Rattle.rsx_tree.specs.Stepped.{Station, IsStepped, IsPickedHere, IsRowMadeHere, IsStill, can_pick_in, can_row_in}
-use Rattle.rsx_tree.proofs.Noted.{step_noted, pick_notes, row_notes}
+use Rattle.rsx_tree.specs.Edges.{EdgeView}
 use Rattle.rsx_tree.specs.Inputs.{size, comes_in, out_of, beside_of, notes_of as notes_in, IsUnchosen as IsUnchosenIn}
 use Rattle.rsx_tree.specs.Tree.{IsUnchosen}
 use Rattle.rsx_tree.proofs.Shut.{pass_live}
@@ -38,42 +36,6 @@ pub advanced_not_closed : {T : Type 0} (m : Meaning T) (old new : AnyTree T) (as
 advanced_not_closed m old new asked sent a h = elim a.made [
   | inl k ↦ ask_not_closed old a.at asked sent k.0 h
   | inr y ↦ elim y [ inl k ↦ send_not_closed m old a.at k.0 h | inr k ↦ Shut.step_not_closed any_machine m old a.at new.inputs k.1.made h ]
-]
-
--- ---- picks and rows, which no kind of node makes yet
-
-no_pick_at : {T : Type 0} (input : ℕ) (o : Option (Station (AnyNode T))) → can_pick_in any_machine input o ≡ false
-no_pick_at input None = refl
-no_pick_at input (Some s) = never (is_live s.state)
-  where
-    never : (l : Bool) → l && false ≡ false
-    never true = refl
-    never false = refl
-
-no_row_at : {T : Type 0} (o : Option (Station (AnyNode T))) → can_row_in any_machine o ≡ false
-no_row_at None = refl
-no_row_at (Some s) = never (is_live s.state)
-  where
-    never : (l : Bool) → l && false ≡ false
-    never true = refl
-    never false = refl
-
-both : (c : Bool) → c ≡ true → c ≡ false → ⊥
-both c x y = cc
-
-pub no_pick : {T : Type 0} (input : ℕ) (o : Option (Station (AnyNode T))) → can_pick_in any_machine input o ≡ true → ⊥
-no_pick input o h = both (can_pick_in any_machine input o) h (no_pick_at input o)
-
-pub no_row : {T : Type 0} (o : Option (Station (AnyNode T))) → can_row_in any_machine o ≡ true → ⊥
-no_row o h = both (can_row_in any_machine o) h (no_row_at o)
-
-pub still_node : {T : Type 0} (o : Option (Station (AnyNode T))) → IsStill any_machine o
-still_node o = ((λ input l. no_pick_at input o), no_row_at o)
-
-pub no_step : {T : Type 0} (m : Meaning T) (t : Inputs (AnyNode T)) (at : ℕ) (t' : Inputs (AnyNode T)) → ((input : ℕ) × IsStepped (IsPickedHere any_machine m input) any_machine.ended t at t') ⊎ IsStepped (IsRowMadeHere any_machine m) any_machine.ended t at t' → ⊥
-no_step m t at t' h = elim h [
-  | inl k ↦ both false (step_noted any_machine m (IsPickedHere any_machine m k.0) (λ n l. note_then (any_machine.recording n k.0) l) (λ n l. note_then l (any_machine.recording n k.0)) (pick_notes any_machine m k.0) t at t' k.1).made.can refl
-  | inr k ↦ both false (step_noted any_machine m (IsRowMadeHere any_machine m) (λ n l. l) (λ n l. l) (row_notes any_machine m) t at t' k).made.can refl
 ]
 
 -- ---- hubs, which no kind of node reads yet

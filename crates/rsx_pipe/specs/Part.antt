@@ -1,21 +1,20 @@
 -- A part: a tree with the edge from its root. What it stands for, which of its moves are enabled, and what they change.
-use Rattle.std.specs.Prelude.{◌≡◌, ◌⊎◌, ℕ, zero, suc, ◌+◌, ◌-◌, ◌<◌, ◌≤◌, ◌^◌, min, Bool, true, false, ◌&&◌, nat_lt, nat_eq, if◌then◌else◌, List, [], ◌∷◌, ◌++◌, length, take, Option, Some, None, option_map, Result, Ok, Err}
+use Rattle.std.specs.Prelude.{◌≡◌, ℕ, zero, suc, ◌+◌, ◌-◌, ◌<◌, ◌≤◌, ◌^◌, min, Bool, true, false, ◌&&◌, nat_lt, nat_eq, if◌then◌else◌, List, [], ◌∷◌, ◌++◌, length, take, Option, Some, option_map, Result, Ok, Err}
 use Rattle.rsx_model.specs.Eval.{environment, eval}
 use Rattle.rsx_model.specs.declared.expr.Expr.{Expr}
 use Rattle.rsx_types.specs.Meaning.{Meaning, Allocates}
 use Rattle.rsx_types.specs.Notes.{notes_then}
 use Rattle.rsx_types.specs.Stream.{Stream, signals_then}
-use Rattle.rsx_types.specs.declared.names.Move.{Move}
-use Rattle.rsx_types.specs.declared.names.Move.TheVariants.{Ask, Send, Take}
-use Rattle.rsx_types.specs.declared.names.Tree.{Tree}
 use Rattle.rsx_types.specs.declared.note.Note.{Note}
 use Rattle.rsx_types.specs.declared.signal.Ending.TheVariants.{Open}
 use Rattle.rsx_types.specs.declared.signal.Signal.{Signal}
 use Rattle.rsx_sources.specs.Machine.{front_of}
 use Rattle.rsx_sources.specs.declared.machine.Front.{Front}
+use Rattle.rsx_tree.specs.declared.look.NodeMove.{NodeMove}
+use Rattle.rsx_tree.specs.declared.look.NodeMove.TheVariants.{Ask, Send, Pick, Row}
 use Rattle.rsx_tree.specs.Edges.{edge_view, EdgeView, can_pass, IsPassed, passed, changed_at, asked_up_to}
 use Rattle.rsx_pipe.specs.Output.{items_in, IsUnended, IsOrderly, values_then}
-use Rattle.rsx_pipe.specs.Tree.{comes_out, notes_of, offers, can_ask, can_send, can_go, IsAllClosed, IsLetGo, edges, edges_after, want_at, front_at, ended_at, pop_allocates, send_allocates, tree_allocates, IsAlike, IsBalanced, IsWithin}
+use Rattle.rsx_pipe.specs.Tree.{comes_out, notes_of, offers, can_ask, can_send, can_go, IsAllClosed, IsLetGo, edges, edges_after, want_at, front_at, ended_at, pop_allocates, send_allocates, step_allocates, tree_allocates, IsAlike, IsBalanced, IsWithin, can_pick, can_row, IsPickedAt, IsRowAt}
 use Rattle.rsx_tree.specs.declared.edge.EdgeState.TheVariants.{Live, Closed, Ended}
 use Rattle.rsx_pipe.specs.declared.part.Part.{Part}
 use Rattle.rsx_pipe.specs.declared.part.Pumped.{Pumped}
@@ -64,34 +63,37 @@ send_enabled m part queue at =
     if nat_eq at 0 then has_room queue && can_go (edge_view part.root) (option_map front_of (offers m part.tree))
     else can_send m part.tree (at - 1)
 
--- no edge inside a part has a queue yet, so no Take is a part's own
-abbrev pub move_enabled : {T : Type 0} → Meaning T → Part T → List (Signal T) → Move → Bool
-move_enabled m part queue (Ask t n) = ask_enabled part n.0
-move_enabled m part queue (Send t n) = send_enabled m part queue n.0
-move_enabled m part queue (Take t n) = false
+-- Pick and Row: of the root, whose edge is the root edge, or of a node below it
+abbrev pub pick_enabled : {T : Type 0} → Part T → ℕ → ℕ → Bool
+pick_enabled part at input = can_pick part.tree (edge_view part.root) at input
+
+abbrev pub row_enabled : {T : Type 0} → Part T → ℕ → Bool
+row_enabled part at = can_row part.tree (edge_view part.root) at
+
+abbrev pub move_enabled : {T : Type 0} → Meaning T → Part T → List (Signal T) → NodeMove → Bool
+move_enabled m part queue (Ask n) = ask_enabled part n
+move_enabled m part queue (Send n) = send_enabled m part queue n
+move_enabled m part queue (Pick n input) = pick_enabled part n input
+move_enabled m part queue (Row n) = row_enabled part n
 
 -- whether a move may allocate, where these of the caller's functions may
-abbrev pub make_allocates : {T : Type 0} → Allocates → Part T → Move → Bool
-make_allocates a part (Ask t n) = false
-make_allocates a part (Send t n) = if nat_eq n.0 0 then pop_allocates a part.tree else send_allocates a part.tree (n.0 - 1)
-make_allocates a part (Take t n) = false
+abbrev pub make_allocates : {T : Type 0} → Allocates → Part T → NodeMove → Bool
+make_allocates a part (Ask n) = false
+make_allocates a part (Send n) = if nat_eq n 0 then pop_allocates a part.tree else send_allocates a part.tree (n - 1)
+make_allocates a part (Pick n input) = step_allocates a part.tree (edge_view part.root) n
+make_allocates a part (Row n) = step_allocates a part.tree (edge_view part.root) n
 
 -- whether some move of the part may: what a node does for it may allocate. Of the caller's functions, `Allocates` says which
 -- may.
 abbrev pub pump_allocates : {T : Type 0} → Allocates → Part T → Bool
 pump_allocates a part = tree_allocates a part.tree
 
--- the tree in which a move is made
-abbrev pub tree_of : Move → Tree
-tree_of (Ask t n) = t
-tree_of (Send t n) = t
-tree_of (Take t n) = t
-
--- the number of the node that a move names
-abbrev pub number_of : Move → ℕ
-number_of (Ask t n) = n.0
-number_of (Send t n) = n.0
-number_of (Take t n) = n.0
+-- the numbers that a move names are numbers of a node, and of an input
+abbrev pub IsNumbered : NodeMove → Type 0
+IsNumbered (Ask n) = n < 2 ^ 32
+IsNumbered (Send n) = n < 2 ^ 32
+IsNumbered (Pick n input) = (n < 2 ^ 32) × (input < 2 ^ 64)
+IsNumbered (Row n) = n < 2 ^ 32
 
 -- ---- what a move changes
 
@@ -129,11 +131,22 @@ pub record IsSend {T : Type 0} (m : Meaning T) (old : Part T) (at : ℕ) (out : 
   pub edges : all_edges new ≡ sent_at (receiver_ended new at) front old at
   pub goes : GoesOut m old (nat_eq at 0) out
 
+-- a Pick: the choice stands behind what the node recorded, and where the node ended by it, all below it is closed
+pub record IsPick {T : Type 0} (old : Part T) (at input : ℕ) (new : Part T) : Type 0 where
+  pub tree : IsPickedAt old.tree (edge_view old.root) at input new.tree
+  pub root : new.root ≡ old.root
+
+-- a Row: where the node ended by it, all below it is closed
+pub record IsRow {T : Type 0} (old : Part T) (at : ℕ) (new : Part T) : Type 0 where
+  pub tree : IsRowAt old.tree (edge_view old.root) at new.tree
+  pub root : new.root ≡ old.root
+
 -- a move's effect, where these signals went over the root edge
-abbrev pub IsEffect : {T : Type 0} → Meaning T → Move → Part T → List (Signal T) → Part T → Type 0
-IsEffect m (Ask t n) old out new = (out ≡ []) × IsAsk old n.0 new
-IsEffect m (Send t n) old out new = IsSend m old n.0 out new
-IsEffect m (Take t n) old out new = ⊥
+abbrev pub IsEffect : {T : Type 0} → Meaning T → NodeMove → Part T → List (Signal T) → Part T → Type 0
+IsEffect m (Ask n) old out new = (out ≡ []) × IsAsk old n new
+IsEffect m (Send n) old out new = IsSend m old n out new
+IsEffect m (Pick n input) old out new = (out ≡ []) × IsPick old n input new
+IsEffect m (Row n) old out new = (out ≡ []) × IsRow old n new
 
 -- ---- one move, and many
 
@@ -144,7 +157,7 @@ IsPutOut {T} m old out new =
 
 -- an enabled move was made, and had its effect; what went over the root edge is behind what the queue held
 pub record IsMoved {T : Type 0} (m : Meaning T) (old : Part T) (queue : List (Signal T)) (out : List (Signal T)) (new : Part T) (queue' : List (Signal T)) : Type 0 where
-  pub move : Move
+  pub move : NodeMove
   pub enabled : move_enabled m old queue move ≡ true
   pub effect : IsEffect m move old out new
   pub queued : queue' ≡ queue ++ out
@@ -161,7 +174,7 @@ pub record IsRootSent {T : Type 0} (m : Meaning T) (old : Part T) (queue : List 
   pub queued : queue' ≡ queue ++ signal ∷ []
 
 -- what a call that made a move promises
-pub record IsMade {T : Type 0} (m : Meaning T) (move : Move) (old : Part T) (queue : List (Signal T)) (new : Part T) (queue' : List (Signal T)) : Type 0 where
+pub record IsMade {T : Type 0} (m : Meaning T) (move : NodeMove) (old : Part T) (queue : List (Signal T)) (new : Part T) (queue' : List (Signal T)) : Type 0 where
   pub out : List (Signal T)
   pub effect : IsEffect m move old out new
   pub queued : queue' ≡ queue ++ out
@@ -169,6 +182,8 @@ pub record IsMade {T : Type 0} (m : Meaning T) (move : Move) (old : Part T) (que
   -- what was asked over the root edge stays, and it isn't closed by a move
   pub asked : new.root.demand.asked ≡ old.root.demand.asked
   pub unclosed : (old.root.state ≡ Closed → ⊥) → new.root.state ≡ Closed → ⊥
+  -- and so does whether a move may allocate
+  pub alike : IsAlike old.tree new.tree
 
 -- so many enabled moves were made one after the other, and all that went over the root edge is `out`
 abbrev pub IsMovedBy : {T : Type 0} → Meaning T → ℕ → Part T → List (Signal T) → List (Signal T) → Part T → List (Signal T) → Type 0
@@ -189,13 +204,13 @@ pub record IsPumped {T : Type 0} (m : Meaning T) (count : ℕ) (old : Part T) (q
   -- and so does whether a move may allocate
   pub alike : IsAlike old.tree new.tree
 
--- no move of a part that has a number is enabled
+-- no move of a part that has its numbers is enabled
 abbrev pub IsQuiet : {T : Type 0} → Meaning T → Part T → List (Signal T) → Type 0
-IsQuiet m part queue = (move : Move) → number_of move < 2 ^ 32 → move_enabled m part queue move ≡ false
+IsQuiet m part queue = (move : NodeMove) → IsNumbered move → move_enabled m part queue move ≡ false
 
--- some move of a part that has a number is enabled
+-- some move of a part that has its numbers is enabled
 abbrev pub IsAwake : {T : Type 0} → Meaning T → Part T → List (Signal T) → Type 0
-IsAwake m part queue = (move : Move) × (number_of move < 2 ^ 32) × (move_enabled m part queue move ≡ true)
+IsAwake m part queue = (move : NodeMove) × IsNumbered move × (move_enabled m part queue move ≡ true)
 
 -- how driving a part ends after so many moves: Idle, with what is left of the budget, where no move is enabled; Budget where
 -- one is and the whole budget was spent

@@ -1,5 +1,5 @@
 -- The tree of a part: what `rsx_tree` says of a tree of nodes of any kind, at the kinds that there are.
-use Rattle.std.specs.Prelude.{◌≡◌, ◌&&◌, ℕ, Bool, true, false, List, Option, Some, None, option_map, option_and_then}
+use Rattle.std.specs.Prelude.{◌&&◌, ℕ, Bool, true, false, List, Option, Some, None, option_map}
 use Rattle.rsx_types.specs.Meaning.{Meaning, Allocates}
 use Rattle.rsx_types.specs.Stream.{Stream}
 use Rattle.rsx_types.specs.declared.note.Note.{Note}
@@ -14,6 +14,8 @@ use Rattle.rsx_tree.specs.Chosen as Choices
 use Rattle.rsx_tree.specs.Driven as Runs
 use Rattle.rsx_tree.specs.Edges.{EdgeView, can_pass, closed_if}
 use Rattle.rsx_tree.specs.Inputs.{Place, wanted_at, is_own, sent_edges}
+use Rattle.rsx_tree.specs.Stepped.{Station, can_pick_in, can_row_in, station_of, step_allocates_in}
+use Rattle.rsx_tree.specs.Stepped as Steps
 use Rattle.rsx_tree.specs.Tree as Whole
 pub use Rattle.rsx_tree.specs.Tree.{edges, IsAllClosed}
 use Rattle.rsx_tree.specs.declared.node.Node.{Node}
@@ -47,12 +49,27 @@ can_ask t at asked sent = Whole.can_ask any_machine t at asked sent
 abbrev pub can_send : {T : Type 0} → Meaning T → AnyTree T → ℕ → Bool
 can_send m t at = Whole.can_send any_machine m t at
 
+-- a pick of the node `at`, and a row of it, are enabled, where the root has the number 0 and this edge
+abbrev pub can_pick : {T : Type 0} → AnyTree T → EdgeView → ℕ → ℕ → Bool
+can_pick t root at input = can_pick_in any_machine input (station_of t root at)
+
+abbrev pub can_row : {T : Type 0} → AnyTree T → EdgeView → ℕ → Bool
+can_row t root at = can_row_in any_machine (station_of t root at)
+
+-- no step of a node is enabled
+abbrev pub IsStill : {T : Type 0} → Option (Station (AnyNode T)) → Type 0
+IsStill o = Steps.IsStill any_machine o
+
 -- whether taking out what the root offers may allocate, and whether a Send below it may
 abbrev pub pop_allocates : {T : Type 0} → Allocates → AnyTree T → Bool
 pop_allocates a t = any_pop_allocates a t.machine
 
 abbrev pub send_allocates : {T : Type 0} → Allocates → AnyTree T → ℕ → Bool
 send_allocates a t at = Whole.send_allocates any_machine a t at
+
+-- whether a step of the node `at` of a tree, whose root has this edge, may
+abbrev pub step_allocates : {T : Type 0} → Allocates → AnyTree T → EdgeView → ℕ → Bool
+step_allocates a t root at = step_allocates_in any_machine a (station_of t root at)
 
 -- whether some call of a node of the tree may
 abbrev pub tree_allocates : {T : Type 0} → Allocates → AnyTree T → Bool
@@ -102,6 +119,12 @@ IsAskedAt old at asked sent new = Whole.IsAskedAt any_machine old at asked sent 
 
 abbrev pub IsSentAt : {T : Type 0} → Meaning T → AnyTree T → ℕ → AnyTree T → Type 0
 IsSentAt m old at new = Whole.IsSentAt any_machine m old at new
+
+abbrev pub IsPickedAt : {T : Type 0} → AnyTree T → EdgeView → ℕ → ℕ → AnyTree T → Type 0
+IsPickedAt old root at input new = Choices.IsPickedAt any_machine old root at input new
+
+abbrev pub IsRowAt : {T : Type 0} → AnyTree T → EdgeView → ℕ → AnyTree T → Type 0
+IsRowAt old root at new = Choices.IsRowAt any_machine old root at new
 
 abbrev pub IsAdvanced : {T : Type 0} → Meaning T → AnyTree T → ℕ → ℕ → AnyTree T → Type 0
 IsAdvanced m old asked sent new = Runs.IsAdvanced any_machine m true old asked sent new

@@ -8,7 +8,7 @@ use rsx_node::build::build;
 use rsx_queue::{CAPACITY, SignalQueue};
 use rsx_sources::{Front, NotMade};
 use rsx_tree::{Edge, EdgeState, Node, NodeMove};
-use rsx_types::{Move, NoMemory, NodeId, Note, Ops, Signal, StreamValue, Tree};
+use rsx_types::{NoMemory, Note, Ops, Signal, StreamValue};
 use std::alloc::Global;
 
 /// How a [`Part::pump`] ended.
@@ -43,10 +43,11 @@ impl<T: Drop> Part<T> {
     ghost use Rattle.rsx_sources.specs.Steps.{IsNotMade};
     ghost use Rattle.rsx_node.specs.Built.{fresh_edge, fresh_edges};
     ghost use Rattle.rsx_tree.specs.Edges.{closed_view, edge_view};
-    ghost use Rattle.rsx_pipe.specs.Tree.{comes_out, notes_of, can_send, pop_allocates, send_allocates, IsAllClosed};
+    ghost use Rattle.rsx_tree.specs.Stepped.{station_of};
+    ghost use Rattle.rsx_pipe.specs.Tree.{comes_out, notes_of, can_send, pop_allocates, send_allocates, step_allocates, IsAlike, IsAllClosed, IsStill};
     ghost use Rattle.rsx_tree.specs.Driven.{Spent};
     ghost use Rattle.rsx_pipe.specs.Fetched.{IsFetched};
-    ghost use Rattle.rsx_pipe.specs.Part.{pump_allocates, PartStands, IsPutOut, IsMade, IsPumped, IsQuiet, IsAwake, IsSpent, IsRootSent, HasEnded, IsDelivered, make_allocates, number_of, all_edges, move_enabled, tree_of, ask_enabled, send_enabled, IsAsk, IsSend};
+    ghost use Rattle.rsx_pipe.specs.Part.{pump_allocates, PartStands, IsPutOut, IsMade, IsPumped, IsQuiet, IsAwake, IsSpent, IsRootSent, HasEnded, IsDelivered, make_allocates, all_edges, move_enabled, ask_enabled, send_enabled, IsAsk, IsSend, pick_enabled, row_enabled, IsPick, IsRow, IsNumbered};
 
     /// The part of an expression that `check_expr` accepts, before anything was asked of it.
     ///
@@ -92,15 +93,16 @@ impl<T: Drop> Part<T> {
         self.tree.close();
     }
 
-    /// Whether a move is enabled, where the root's signals go into the queue `out`. The tree that the move names is the
-    /// caller's to know.
-    pub fn enabled(&self, step: Move, out: &SignalQueue<T>) -> bool
+    /// Whether a move is enabled, where the root's signals go into the queue `out`. The root's Ask never is: what is asked of
+    /// the root rises by [`Part::request`].
+    pub fn enabled(&self, step: NodeMove, out: &SignalQueue<T>) -> bool
         ensures { (m : Meaning T) → result ≡ move_enabled m self.now out.now step }
     {
         match step {
-            Move::Ask(_, node) => self.can_ask(node.0),
-            Move::Send(_, node) => self.can_send(node.0, out),
-            Move::Take(_, _) => false,
+            NodeMove::Ask(node) => self.can_ask(node),
+            NodeMove::Send(node) => self.can_send(node, out),
+            NodeMove::Pick(node, input) => self.tree.can_pick(&self.root, node, input),
+            NodeMove::Row(node) => self.tree.can_row(&self.root, node),
         }
     }
 
@@ -138,39 +140,33 @@ impl<T: Drop> Part<T> {
         }
     }
 
-    /// The first enabled move, from the root down, as a move of this tree. None where no move is enabled.
-    pub fn first_enabled(&self, tree: Tree, out: &SignalQueue<T>) -> Option<Move>
-        ensures some { (m : Meaning T) → IfSome result (λ step. (tree_of step ≡ tree) × (move_enabled m self.now out.now step ≡ true)) }
-        ensures none { (m : Meaning T) → IfNone result ((step : Move) → (number_of step < 2 ^ 32) → move_enabled m self.now out.now step ≡ false) }
+    /// The first enabled move, from the root down. None where no move is enabled.
+    pub fn first_enabled(&self, out: &SignalQueue<T>) -> Option<NodeMove>
+        ensures some { (m : Meaning T) → IfSome result (λ step. IsNumbered step × (move_enabled m self.now out.now step ≡ true)) }
+        ensures none { (m : Meaning T) → IfNone result ((step : NodeMove) → IsNumbered step → move_enabled m self.now out.now step ≡ false) }
     {
         if self.can_send_root(out) {
-            return Some(Move::Send(tree, NodeId(0)));
+            return Some(NodeMove::Send(0));
         }
-        match self
-            .tree
+        match self.tree.first_step(&self.root) {
+            Some(step) => return Some(step),
+            None => {}
+        }
+        self.tree
             .first_enabled(1, self.root.demand.asked, self.root.demand.sent)
-        {
-            Some(NodeMove::Ask(node)) => Some(Move::Ask(tree, NodeId(node))),
-            Some(NodeMove::Send(node)) => Some(Move::Send(tree, NodeId(node))),
-            // No kind of node that exists picks or makes rows.
-            Some(NodeMove::Pick(node, input)) => None,
-            Some(NodeMove::Row(node)) => None,
-            None => None,
-        }
     }
 
-    /// Makes a move; what goes over the root edge goes into the queue `out`. The tree that the move names is the caller's to
-    /// know.
+    /// Makes a move; what goes over the root edge goes into the queue `out`.
     ///
     /// # Errors
-    /// [`NotMade::NotEnabled`] exactly where the move isn't enabled, and [`NotMade::NoMemory`] where a growth was refused:
-    /// only a Send may allocate, to a `buffer` or a `distinct`, or where a function of the caller's that it calls may. Then
-    /// nothing changed.
+    /// [`NotMade::NotEnabled`] exactly where the move isn't enabled, and [`NotMade::NoMemory`] where a growth was refused: an
+    /// Ask doesn't allocate, and a Send only to a `buffer` or a `distinct`, or where a function of the caller's that it calls
+    /// may. Then nothing changed.
     pub fn make<O: Ops<Item = T>>(
         &mut self,
         alloc: Global,
         ops: &O,
-        step: Move,
+        step: NodeMove,
         out: &mut SignalQueue<T>,
     ) -> Result<(), NotMade>
         ensures made { OnOk result (IsMade (O.meaning ops.now) step self.old out.old self.new out.new) }
@@ -180,13 +176,13 @@ impl<T: Drop> Part<T> {
         ensures same { OnErr result ((self.new ≡ self.old) × (out.new ≡ out.old)) }
     {
         match step {
-            Move::Ask(_, node) => match self.ask(node.0) {
+            NodeMove::Ask(node) => match self.ask(node) {
                 Ok(()) => Ok(()),
                 Err(why) => Err(why),
             },
-            Move::Send(_, node) => {
-                if node.0 > 0 {
-                    return match self.send_below(alloc, ops, node.0 - 1) {
+            NodeMove::Send(node) => {
+                if node > 0 {
+                    return match self.send_below(alloc, ops, node - 1) {
                         Ok(()) => Ok(()),
                         Err(why) => Err(why),
                     };
@@ -196,13 +192,21 @@ impl<T: Drop> Part<T> {
                     Err(why) => Err(why),
                 }
             }
-            Move::Take(_, _) => Err(NotMade::NotEnabled),
+            NodeMove::Pick(node, input) => match self.pick(alloc, ops, node, input) {
+                Ok(()) => Ok(()),
+                Err(why) => Err(why),
+            },
+            NodeMove::Row(node) => match self.make_row(alloc, ops, node) {
+                Ok(()) => Ok(()),
+                Err(why) => Err(why),
+            },
         }
     }
 
     /// Makes the Ask of the node `at`.
     fn ask(&mut self, at: u32) -> Result<(), NotMade>
         ensures stands { (m : Meaning T) → OnOk result (IsPutOut m self.old [] self.new) }
+        ensures alike { IsAlike self.old.tree self.new.tree }
         ensures effect { OnOk result (IsAsk self.old at self.new) }
         ensures root { self.new.root ≡ self.old.root }
         ensures enabled { OnOk result (ask_enabled self.old at ≡ true) }
@@ -230,6 +234,7 @@ impl<T: Drop> Part<T> {
     ) -> Result<(), NotMade>
         ensures stands { OnOk result (IsPutOut (O.meaning ops.now) self.old [] self.new) }
         ensures effect { OnOk result (IsSend (O.meaning ops.now) self.old (at + 1) [] self.new) }
+        ensures alike { IsAlike self.old.tree self.new.tree }
         ensures root { self.new.root ≡ self.old.root }
         ensures enabled { OnOk result (can_send (O.meaning ops.now) self.old.tree at ≡ true) }
         ensures err { IfErr result (IsNotMade (can_send (O.meaning ops.now) self.old.tree at)) }
@@ -237,6 +242,44 @@ impl<T: Drop> Part<T> {
         ensures same { OnErr result (self.new ≡ self.old) }
     {
         match self.tree.send(alloc, ops, at) {
+            Ok(()) => Ok(()),
+            Err(why) => Err(why),
+        }
+    }
+
+    /// Picks an input at the node `at`.
+    fn pick<O: Ops<Item = T>>(
+        &mut self,
+        alloc: Global,
+        ops: &O,
+        at: u32,
+        input: u64,
+    ) -> Result<(), NotMade>
+        ensures stands { OnOk result (IsPutOut (O.meaning ops.now) self.old [] self.new) }
+        ensures effect { OnOk result (IsPick self.old at input self.new) }
+        ensures enabled { OnOk result (pick_enabled self.old at input ≡ true) }
+        ensures err { IfErr result (IsNotMade (pick_enabled self.old at input)) }
+        ensures memory { step_allocates (O.allocates ops.now) self.old.tree (edge_view self.old.root) at ≡ false → IfErr result (λ e. e ≡ NotMade.NotEnabled) }
+        ensures alike { IsAlike self.old.tree self.new.tree }
+        ensures same { OnErr result (self.new ≡ self.old) }
+    {
+        match self.tree.pick(alloc, ops, &self.root, at, input) {
+            Ok(()) => Ok(()),
+            Err(why) => Err(why),
+        }
+    }
+
+    /// Makes a row at the node `at`.
+    fn make_row<O: Ops<Item = T>>(&mut self, alloc: Global, ops: &O, at: u32) -> Result<(), NotMade>
+        ensures stands { OnOk result (IsPutOut (O.meaning ops.now) self.old [] self.new) }
+        ensures effect { OnOk result (IsRow self.old at self.new) }
+        ensures enabled { OnOk result (row_enabled self.old at ≡ true) }
+        ensures err { IfErr result (IsNotMade (row_enabled self.old at)) }
+        ensures memory { step_allocates (O.allocates ops.now) self.old.tree (edge_view self.old.root) at ≡ false → IfErr result (λ e. e ≡ NotMade.NotEnabled) }
+        ensures alike { IsAlike self.old.tree self.new.tree }
+        ensures same { OnErr result (self.new ≡ self.old) }
+    {
+        match self.tree.make_row(alloc, ops, &self.root, at) {
             Ok(()) => Ok(()),
             Err(why) => Err(why),
         }
@@ -339,8 +382,9 @@ impl<T: Drop> Part<T> {
         Ok(self.spent(out))
     }
 
-    /// Sends over the root edge, or where that isn't enabled makes the moves of the tree; answers how many of the budget are
-    /// left. As many as before are left only where no move is enabled.
+    /// Sends over the root edge, or where that isn't enabled makes the moves of the tree; where none of these is enabled
+    /// either, makes a pick or a row of the root. Answers how many of the budget are left. As many as before are left only
+    /// where no move is enabled.
     fn round<O: Ops<Item = T>>(
         &mut self,
         alloc: Global,
@@ -363,9 +407,40 @@ impl<T: Drop> Part<T> {
                 self.root.demand.sent,
                 budget,
             ) {
-                Ok(left) => Ok(left),
+                Ok(left) => {
+                    if left < budget {
+                        return Ok(left);
+                    }
+                    match self.step_root(alloc, ops, out) {
+                        Ok(true) => Ok(budget - 1),
+                        Ok(false) => Ok(budget),
+                        Err(NoMemory) => Err(NoMemory),
+                    }
+                }
                 Err(NoMemory) => Err(NoMemory),
             },
+        }
+    }
+
+    /// Makes a pick or a row of the root, where one is enabled, and answers whether it did.
+    fn step_root<O: Ops<Item = T>>(
+        &mut self,
+        alloc: Global,
+        ops: &O,
+        out: &mut SignalQueue<T>,
+    ) -> Result<bool, NoMemory>
+        ensures pumped { IfOk result (λ b. b ≡ true → IsPumped (O.meaning ops.now) 1 self.old out.old self.new out.new) }
+        ensures still { IfOk result (λ b. b ≡ false → IsStill (station_of self.old.tree (edge_view self.old.root) 0)) }
+        ensures none { IfOk result (λ b. b ≡ false → (self.new ≡ self.old) × (out.new ≡ out.old)) }
+        ensures memory { pump_allocates (O.allocates ops.now) self.old ≡ false → IsOk result }
+        ensures same { OnErr result ((self.new ≡ self.old) × (out.new ≡ out.old)) }
+    {
+        let Some(step) = self.tree.first_step(&self.root) else {
+            return Ok(false);
+        };
+        match self.make(alloc, ops, step, out) {
+            Ok(()) => Ok(true),
+            Err(_) => Err(NoMemory),
         }
     }
 
@@ -384,13 +459,7 @@ impl<T: Drop> Part<T> {
         ensures yes { (m : Meaning T) → result ≡ true → IsQuiet m self.now out.now }
         ensures no { (m : Meaning T) → result ≡ false → IsAwake m self.now out.now }
     {
-        if self.can_send_root(out) {
-            return false;
-        }
-        match self
-            .tree
-            .first_enabled(1, self.root.demand.asked, self.root.demand.sent)
-        {
+        match self.first_enabled(out) {
             Some(step) => false,
             None => true,
         }

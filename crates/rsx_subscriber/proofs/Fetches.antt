@@ -1,5 +1,5 @@
 -- How an item is pulled through a part and handed to its subscriber.
-use Rattle.std.proofs.Common.{◌≡◌, ℕ, ◌+◌, ◌-◌, ◌<◌, true, List, [], ◌∷◌, ◌++◌, Option, Some, None, refl, ap, sym, ◌∙◌, subst, arith, Result, Ok, Err}
+use Rattle.std.proofs.Common.{◌≡◌, ℕ, ◌+◌, true, List, [], ◌∷◌, ◌++◌, Some, None, refl, ap, sym, ◌∙◌, subst, arith, Result, Ok, Err}
 use Rattle.rsx_types.specs.Meaning.{Meaning}
 use Rattle.rsx_types.specs.declared.names.SubId.{SubId}
 use Rattle.rsx_types.specs.declared.signal.Signal.{Signal}
@@ -12,7 +12,7 @@ use Rattle.rsx_pipe.specs.declared.part.Pumped.TheVariants.{Idle as Rests, Budge
 use Rattle.rsx_subscription.specs.Table.{answer, cell_of, state_after, asked_after, sent_after}
 use Rattle.rsx_subscription.specs.declared.Input.TheVariants.{Next as Item}
 use Rattle.rsx_subscription.specs.declared.State.TheVariants.{Fresh}
-use Rattle.rsx_subscriber.specs.Pumped.{IsPumped, HasRested, IsQuiet}
+use Rattle.rsx_subscriber.specs.Pumped.{IsPumped, HasRested}
 use Rattle.rsx_subscriber.specs.Standing.{is_delivery}
 use Rattle.rsx_subscriber.specs.Stands.{IsTake, take_enabled}
 use Rattle.rsx_subscriber.specs.declared.subscription.Subscription.{Subscription}

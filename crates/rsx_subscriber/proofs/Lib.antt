@@ -5,4 +5,5 @@ pub mod Moves
 pub mod Sentence
 pub mod Serving
 pub mod Standings
+pub mod Steps
 pub mod Values

@@ -1,5 +1,5 @@
 -- How each edit and each move keeps what a subscription stands for.
-use Rattle.std.proofs.Common.{◌^◌, ◌≡◌, ℕ, zero, suc, ◌+◌, ◌<◌, Bool, true, false, ◌&&◌, nat_eq, nat_lt, List, [], ◌∷◌, ◌++◌, length, map, refl, ap, sym, ◌∙◌, subst, arith, append_assoc, length-append, ◌⊎◌, inl, inr, ℤ, pos, negsuc, int_lt, unsigned_abs, slice_index_or, Option, Some, None, Ok}
+use Rattle.std.proofs.Common.{◌≡◌, ℕ, zero, suc, ◌+◌, ◌<◌, Bool, true, false, ◌&&◌, nat_eq, nat_lt, List, [], ◌∷◌, ◌++◌, length, map, refl, ap, sym, ◌∙◌, subst, arith, append_assoc, length-append, ◌⊎◌, inl, inr, ℤ, pos, negsuc, int_lt, unsigned_abs, slice_index_or, Option, Some, None, Ok}
 use mathlib.Core.HLevel.{⊥_prop, Π_prop}
 use Rattle.std.proofs.lemmas.Bool.Decides.{nat_tests}
 use Rattle.std.proofs.lemmas.List.{append-nil}
@@ -10,7 +10,6 @@ use Rattle.rsx_types.specs.Stream.{Stream}
 use Rattle.rsx_types.specs.declared.names.Move.{Move}
 use Rattle.rsx_types.specs.declared.names.Move.TheVariants.{Ask, Send, Take}
 use Rattle.rsx_types.specs.declared.names.SubId.{SubId}
-use Rattle.rsx_types.specs.declared.names.Tree.{Tree}
 use Rattle.rsx_types.specs.declared.names.Tree.TheVariants.{Sub}
 use Rattle.rsx_types.specs.declared.signal.Signal.{Signal}
 use Rattle.rsx_types.specs.declared.signal.Signal.TheVariants.{Next, Complete, Error}
@@ -19,6 +18,8 @@ use Rattle.rsx_pipe.specs.Part.{PartStands, IsPutOut, all_edges}
 use Rattle.rsx_pipe.specs.Part as Part
 use Rattle.rsx_pipe.specs.Tree.{IsAllClosed, edges}
 use Rattle.rsx_tree.specs.declared.edge.EdgeState.TheVariants.{Live, Closed}
+use Rattle.rsx_tree.specs.declared.look.NodeMove.{NodeMove}
+use Rattle.rsx_tree.specs.declared.look.NodeMove.TheVariants.{Ask as NodeAsk, Send as NodeSend, Pick, Row}
 use Rattle.rsx_pipe.specs.declared.part.Part.{Part as AnyPart}
 use Rattle.rsx_pipe.specs.declared.part.Pumped.{Pumped as Rest}
 use Rattle.rsx_pipe.specs.declared.part.Pumped.TheVariants.{Idle as Rests, Budget as Wakes}
@@ -27,6 +28,7 @@ use Rattle.rsx_pipe.proofs.Signals.{IsOrderly-more, IsUnended-more, IsUnended-la
 use Rattle.rsx_subscription.specs.Table.{answer, cell_of, state_after as next_state, asked_after, sent_after}
 use Rattle.rsx_subscription.specs.declared.State.TheVariants.{Fresh, Open as OpenState, Cancelled as CancelledState, Failed as FailedState}
 use Rattle.rsx_subscriber.specs.Standing.{standing, live_in, input_of, is_delivery, delivers}
+use Rattle.rsx_subscriber.proofs.Steps.{never_pick, never_row}
 use Rattle.rsx_subscriber.proofs.Values.{closed_count, effect_count, moved_count}
 use Rattle.rsx_subscriber.proofs.Standings.{standing_open, open_standing, open_delivers, Delivers, Adds, signal_delivered, delivery_made}
 use Rattle.rsx_subscriber.specs.declared.subscription.Subscription.{Subscription}
@@ -34,7 +36,8 @@ use Rattle.rsx_subscriber.specs.declared.state.SubscriptionState.{SubscriptionSt
 use Rattle.rsx_subscriber.specs.declared.state.SubscriptionState.TheVariants.{Open, Ended, Cancelled, Refused}
 use Rattle.rsx_subscriber.specs.Past.{Past, items_in, IsUnended, IsOrderly, IsPrefixOf, IsLive, cancelled, cancelled_state, state_after, refused, requested, requested_in, given, asked_more}
 use Rattle.rsx_subscriber.specs.Pumped.{IsPumped, IsMoved, IsQuiet, IsAwake, IsRest, HasRested, Leads, given_all, to}
-use Rattle.rsx_subscriber.specs.Stands.{Stands, take_enabled, IsInside, IsKeptBeside, IsWorked, IsEffect, IsTake, move_enabled_in, standing_of}
+use Rattle.rsx_subscriber.specs.Stands.{Stands, take_enabled, IsInside, IsKeptBeside, IsWorked, IsEffect, IsTake, move_enabled_in, standing_of, enabled_inside}
+use Rattle.rsx_subscriber.specs.Moves.{node_move}
 
 pub IsLive-open : (s : SubscriptionState) → s ≡ Open → IsLive s
 IsLive-open s e = rw e tt
@@ -415,32 +418,27 @@ pumped_more {T} m id n k s1 s2 s3 o1 o2 o3 a b =
 
 -- ---- the moves of a part
 
--- a move under the name of another tree
-renamed : Move → Tree → Move
-renamed (Ask t n) tree = Ask tree n
-renamed (Send t n) tree = Send tree n
-renamed (Take t n) tree = Take tree n
-
 -- an enabled move of a part is one of the subscription
 moved_part : {T : Type 0} (m : Meaning T) (id : SubId) (old new : Subscription T) (out : List (Signal T)) → IsKeptBeside old new → Part.IsMoved m old.part old.queue out new.part new.queue → IsMoved m id old None new
 moved_part {T} m id old new out r k = by_move k.move k.enabled k.effect
   where
-    by_move : (move : Move) → Part.move_enabled m old.part old.queue move ≡ true → Part.IsEffect m move old.part out new.part → IsMoved m id old None new
-    by_move (Ask t n) can e = record {
-      move = Ask (Sub id) n;
+    by_move : (move : NodeMove) → Part.move_enabled m old.part old.queue move ≡ true → Part.IsEffect m move old.part out new.part → IsMoved m id old None new
+    by_move (NodeAsk n) can e = record {
+      move = Ask (Sub id) (record { 0 = n });
       tree = refl;
       enabled = can;
       effect = record { edges = e.1; queue = k.queued ∙ (ap (λ l. old.queue ++ l) e.0 ∙ append-nil old.queue); kept = r };
       answer = refl;
     }
-    by_move (Send t n) can e = record {
-      move = Send (Sub id) n;
+    by_move (NodeSend n) can e = record {
+      move = Send (Sub id) (record { 0 = n });
       tree = refl;
       enabled = can;
       effect = record { out = out; edges = e; queue = k.queued; kept = r };
       answer = refl;
     }
-    by_move (Take t n) can e = absurd e
+    by_move (Pick n input) can e = absurd (never_pick old.part n input can)
+    by_move (Row n) can e = absurd (never_row old.part n can)
 
 -- the subscription with another part and queue
 abbrev pub with_part : {T : Type 0} → (sub : Subscription T) → (sub.state ≡ Fresh → ⊥) → AnyPart T → List (Signal T) → Subscription T
@@ -483,13 +481,21 @@ pumped_part {T} m id n sub w part' queue' o k = record {
         }) h
 
 -- one Ask or Send
-pub worked_part : {T : Type 0} (m : Meaning T) (move : Move) (old new : Subscription T) → IsKeptBeside old new → Part.IsMade m move old.part old.queue new.part new.queue → IsWorked m move old new
-worked_part m (Ask t n) old new r k = record { edges = k.effect.1; queue = k.queued ∙ (ap (λ l. old.queue ++ l) k.effect.0 ∙ append-nil old.queue); kept = r }
-worked_part m (Send t n) old new r k = record { out = k.out; edges = k.effect; queue = k.queued; kept = r }
-worked_part m (Take t n) old new r k = absurd k.effect
+pub worked_part : {T : Type 0} (m : Meaning T) (move : Move) (step : NodeMove) (old new : Subscription T) → Some step ≡ node_move move → IsKeptBeside old new → Part.IsMade m step old.part old.queue new.part new.queue → IsWorked m move old new
+worked_part {T} m (Ask t n) step old new is r h =
+    let P : NodeMove → Type 0 = λ e. Part.IsMade m e old.part old.queue new.part new.queue in
+    let same : step ≡ NodeAsk n.0 = cc in
+    let k = subst P same h in
+    record { edges = k.effect.1; queue = k.queued ∙ (ap (λ l. old.queue ++ l) k.effect.0 ∙ append-nil old.queue); kept = r }
+worked_part {T} m (Send t n) step old new is r h =
+    let P : NodeMove → Type 0 = λ e. Part.IsMade m e old.part old.queue new.part new.queue in
+    let same : step ≡ NodeSend n.0 = cc in
+    let k = subst P same h in
+    record { out = k.out; edges = k.effect; queue = k.queued; kept = r }
+worked_part m (Take t n) step old new is r h = cc
 
-pub stands_made : {T : Type 0} (m : Meaning T) (move : Move) (published : List (Stream T)) (old new : Subscription T) (past : Past T) → IsKeptBeside old new → Part.move_enabled m old.part old.queue move ≡ true → Part.IsMade m move old.part old.queue new.part new.queue → Stands m published old past → Stands m published new past
-stands_made m move published old new past r can k h =
+pub stands_made : {T : Type 0} (m : Meaning T) (step : NodeMove) (published : List (Stream T)) (old new : Subscription T) (past : Past T) → IsKeptBeside old new → Part.move_enabled m old.part old.queue step ≡ true → Part.IsMade m step old.part old.queue new.part new.queue → Stands m published old past → Stands m published new past
+stands_made m step published old new past r can k h =
     stands_worked m published old new past (record {
       kept = r;
       out = k.out;
@@ -497,15 +503,15 @@ stands_made m move published old new past r can k h =
       put = k.stands;
       asked = k.asked;
       unclosed = k.unclosed;
-      alive = moved_alive m old.part new.part old.queue new.queue k.out (record { move = move; enabled = can; effect = k.effect; queued = k.queued });
-      count = effect_count m move old.part new.part k.out k.effect;
+      alive = moved_alive m old.part new.part old.queue new.queue k.out (record { move = step; enabled = can; effect = k.effect; queued = k.queued });
+      count = effect_count m step old.part new.part k.out k.effect;
     }) h
 
 -- ---- where no move is enabled
 
 -- a subscription whose part is quiet, with nothing to take, is quiet
 pub quiet_when : {T : Type 0} (m : Meaning T) (sub : Subscription T) → take_enabled sub 0 ≡ false → Part.IsQuiet m sub.part sub.queue → IsQuiet m sub
-quiet_when m sub e q at l = (q (Ask (Sub (record { 0 = 0 })) (record { 0 = at })) l, q (Send (Sub (record { 0 = 0 })) (record { 0 = at })) l, and_false (nat_eq at 0) _ e)
+quiet_when m sub e q at l = (q (NodeAsk at) l, q (NodeSend at) l, and_false (nat_eq at 0) _ e)
   where
     and_false : (a b : Bool) → b ≡ false → a && b ≡ false
     and_false true b e = e
@@ -514,10 +520,11 @@ quiet_when m sub e q at l = (q (Ask (Sub (record { 0 = 0 })) (record { 0 = at })
 pub awake_part : {T : Type 0} (m : Meaning T) (sub : Subscription T) → Part.IsAwake m sub.part sub.queue → IsAwake m sub
 awake_part {T} m sub h = by_move h.0 h.1 h.2
   where
-    by_move : (move : Move) → Part.number_of move < 2 ^ 32 → Part.move_enabled m sub.part sub.queue move ≡ true → IsAwake m sub
-    by_move (Ask t n) l e = (n.0, l, inl e)
-    by_move (Send t n) l e = (n.0, l, inr (inl e))
-    by_move (Take t n) l e = cc
+    by_move : (move : NodeMove) → Part.IsNumbered move → Part.move_enabled m sub.part sub.queue move ≡ true → IsAwake m sub
+    by_move (NodeAsk n) l e = (n, l, inl e)
+    by_move (NodeSend n) l e = (n, l, inr (inl e))
+    by_move (Pick n input) l e = absurd (never_pick sub.part n input e)
+    by_move (Row n) l e = absurd (never_row sub.part n e)
 
 pub awake_take : {T : Type 0} (m : Meaning T) (sub : Subscription T) → take_enabled sub 0 ≡ true → IsAwake m sub
 awake_take m sub e = (0, omega arith, inr (inr e))
@@ -576,7 +583,7 @@ rest_quiet {T} m old new same e q =
 -- ---- moves inside a tree
 
 -- a move inside a tree is enabled where it is one of the part
-pub inside_enabled : {T : Type 0} (m : Meaning T) (sub : Subscription T) (mv : Move) → IsInside mv → Part.move_enabled m sub.part sub.queue mv ≡ move_enabled_in m sub mv
+pub inside_enabled : {T : Type 0} (m : Meaning T) (sub : Subscription T) (mv : Move) → IsInside mv → enabled_inside m sub (node_move mv) ≡ move_enabled_in m sub mv
 inside_enabled m sub (Ask t n) h = refl
 inside_enabled m sub (Send t n) h = refl
 inside_enabled m sub (Take t n) h = absurd h

@@ -6,6 +6,7 @@ use Rattle.rsx_types.specs.Stream.{Stream}
 use Rattle.rsx_types.specs.declared.names.Move.{Move}
 use Rattle.rsx_types.specs.declared.names.Move.TheVariants.{Ask, Send, Take}
 use Rattle.rsx_types.specs.declared.signal.Signal.{Signal}
+use Rattle.rsx_tree.specs.declared.look.NodeMove.TheVariants.{Ask as NodeAsk, Send as NodeSend, Pick, Row}
 use Rattle.rsx_pipe.specs.Tree.{IsWithin}
 use Rattle.rsx_model.proofs.Unfold.{sound}
 use Rattle.rsx_pipe.specs.Part as Part
@@ -19,7 +20,9 @@ use Rattle.rsx_subscriber.specs.Holds.{IsServed}
 use Rattle.rsx_subscriber.specs.Past.{Past, IsLive, IsUnended}
 use Rattle.rsx_subscriber.specs.Pumped.{IsQuiet}
 use Rattle.rsx_subscriber.specs.Stands.{Stands, evaluated, move_enabled_in, take_enabled, standing_of}
+use Rattle.rsx_subscriber.specs.Moves.{number_of}
 use Rattle.rsx_subscriber.proofs.Moves.{take_queued}
+use Rattle.rsx_subscriber.proofs.Steps.{no_pick, no_row}
 
 never : (b : Bool) → b ≡ true → b ≡ false → ⊥
 never b x y = cc
@@ -36,9 +39,10 @@ nothing_queued {T} m published sub past q h = by_queue sub.queue refl
         absurd (never (take_enabled sub 0) (take_queued m published sub past h some) (q 0 (omega arith)).2)
 
 quiet_part : {T : Type 0} (m : Meaning T) (sub : Subscription T) → IsQuiet m sub → Part.IsQuiet m sub.part sub.queue
-quiet_part m sub q (Ask t n) l = (q n.0 l).0
-quiet_part m sub q (Send t n) l = (q n.0 l).1
-quiet_part m sub q (Take t n) l = refl
+quiet_part m sub q (NodeAsk n) l = (q n l).0
+quiet_part m sub q (NodeSend n) l = (q n l).1
+quiet_part m sub q (Pick n input) l = no_pick sub.part n input
+quiet_part m sub q (Row n) l = no_row sub.part n
 
 -- a live subscriber got all that its part put out, and that is what was asked for
 served_live : {T : Type 0} (m : Meaning T) (published : List (Stream T)) (sub : Subscription T) (past : Past T) → IsQuiet m sub → Stands m published sub past → IsLive (standing_of sub) → IsWithin sub.part.tree → (v : Stream T) → evaluated m published past (notes_of sub.part.tree) ≡ Some v → IsServed m published sub past v
@@ -66,7 +70,7 @@ served {T} m published sub past q h live w v e =
     served_live m published sub past q h (subst L (sym h.state) live) w v e
 
 -- no move that is named is enabled
-pub quiet_move : {T : Type 0} (m : Meaning T) (sub : Subscription T) (mv : Move) → Part.number_of mv < 2 ^ 32 → IsQuiet m sub → move_enabled_in m sub mv ≡ false
+pub quiet_move : {T : Type 0} (m : Meaning T) (sub : Subscription T) (mv : Move) → number_of mv < 2 ^ 32 → IsQuiet m sub → move_enabled_in m sub mv ≡ false
 quiet_move m sub (Ask t n) l h = (h n.0 l).0
 quiet_move m sub (Send t n) l h = (h n.0 l).1
 quiet_move m sub (Take t n) l h = (h n.0 l).2

@@ -29,8 +29,9 @@ use Rattle.rsx_sources.specs.declared.machine.Front.{Front}
 use Rattle.rsx_types.specs.Meaning.{Meaning}
 use Rattle.rsx_types.specs.Notes.{notes_then, unchosen}
 use Rattle.rsx_types.specs.Stream.{Stream, signals, signals_then}
-use Rattle.rsx_types.specs.declared.names.Move.{Move}
-use Rattle.rsx_types.specs.declared.names.Move.TheVariants.{Ask, Send, Take}
+use Rattle.rsx_tree.specs.Chosen as Chosen
+use Rattle.rsx_tree.specs.declared.look.NodeMove.{NodeMove}
+use Rattle.rsx_tree.specs.declared.look.NodeMove.TheVariants.{Ask, Send, Pick, Row}
 use Rattle.rsx_types.specs.declared.note.Note.{Note}
 use Rattle.rsx_types.specs.declared.stage.Stage.{Stage}
 use Rattle.rsx_types.specs.declared.signal.Signal.{Signal}
@@ -170,13 +171,40 @@ sent_length {T} ended f part at = by_root (nat_eq at 0)
     by_root true = refl
     by_root false = ap suc (closed_if_length (ended && is_own part.tree.inputs (at - 1)) (sent_edges ended f part.tree.inputs (at - 1)) ∙ row_sent ended f part.tree.inputs (at - 1))
 
+-- so does a step of a node
+row_stepped : {M : Type 0} (ended : Bool) (t : Inputs M) (at : ℕ) → length (Chosen.stepped_edges ended t at) ≡ length (edges_in t)
+row_stepped ended End at = refl
+row_stepped {M} ended (More' e n p below q beside) at = by_place (row_stepped ended below (at - 1)) (row_stepped ended beside (at - 1 - size below)) (nat_eq at 0) (nat_le at (size below))
+  where
+    es : List EdgeView
+    es = edges_in below
+
+    fs : List EdgeView
+    fs = edges_in beside
+
+    inner : List EdgeView
+    inner = Chosen.stepped_edges ended below (at - 1)
+
+    past : List EdgeView
+    past = Chosen.stepped_edges ended beside (at - 1 - size below)
+
+    by_place : length inner ≡ length es → length past ≡ length fs → (c d : Bool) → length (if c then edge_view e ∷ (closed_if ended es ++ fs) else (if d then edge_view e ∷ (inner ++ fs) else edge_view e ∷ (es ++ past))) ≡ suc (length (es ++ fs))
+    by_place i j true d = ap suc (length-append (closed_if ended es) fs ∙ (ap (λ k. k + length fs) (closed_if_length ended es) ∙ sym (length-append es fs)))
+    by_place i j false true = ap suc (length-append inner fs ∙ (ap (λ k. k + length fs) i ∙ sym (length-append es fs)))
+    by_place i j false false = ap suc (length-append es past ∙ (ap (λ k. length es + k) j ∙ sym (length-append es fs)))
+
+tree_stepped : {T : Type 0} (ended : Bool) (t : AnyTree T) (at : ℕ) → length (Chosen.edges_after ended t at) ≡ length (edges t)
+tree_stepped ended t zero = closed_if_length ended (edges t)
+tree_stepped ended t (suc at) = row_stepped ended t.inputs at
+
 pub closed_count : {T : Type 0} (old new : AnyPart T) → all_edges new ≡ map closed_view (all_edges old) → length (all_edges new) ≡ length (all_edges old)
 closed_count old new e = ap length e ∙ length-map (all_edges old) closed_view
 
-pub effect_count : {T : Type 0} (m : Meaning T) (move : Move) (old new : AnyPart T) (out : List (Signal T)) → Part.IsEffect m move old out new → length (all_edges new) ≡ length (all_edges old)
-effect_count m (Ask t n) old new out k = ap length k.1 ∙ changed_length (asked_up_to (Part.wanted old n.0)) n.0 (all_edges old)
-effect_count m (Send t n) old new out k = ap length k.edges ∙ sent_length (Part.receiver_ended new n.0) k.front old n.0
-effect_count m (Take t n) old new out k = absurd k
+pub effect_count : {T : Type 0} (m : Meaning T) (move : NodeMove) (old new : AnyPart T) (out : List (Signal T)) → Part.IsEffect m move old out new → length (all_edges new) ≡ length (all_edges old)
+effect_count m (Ask n) old new out k = ap length k.1 ∙ changed_length (asked_up_to (Part.wanted old n)) n (all_edges old)
+effect_count m (Send n) old new out k = ap length k.edges ∙ sent_length (Part.receiver_ended new n) k.front old n
+effect_count m (Pick n input) old new out k = ap suc (ap length k.1.tree.edges ∙ tree_stepped _ old.tree n)
+effect_count m (Row n) old new out k = ap suc (ap length k.1.tree.edges ∙ tree_stepped _ old.tree n)
 
 pub moved_count : {T : Type 0} (m : Meaning T) (n : ℕ) (old new : AnyPart T) (queue out queue' : List (Signal T)) → Part.IsMovedBy m n old queue out new queue' → length (all_edges new) ≡ length (all_edges old)
 moved_count m zero old new queue out queue' k = ap (λ p. length (all_edges p)) k.1

@@ -8,12 +8,12 @@ use Rattle.rsx_types.specs.declared.names.SubId.{SubId}
 use Rattle.rsx_types.specs.declared.names.Tree.TheVariants.{Sub}
 use Rattle.rsx_types.specs.declared.signal.Signal.{Signal}
 pub use Rattle.rsx_tree.specs.Driven.{Spent}
-use Rattle.rsx_pipe.specs.Part.{tree_of}
 use Rattle.rsx_pipe.specs.Tree.{IsAlike}
 use Rattle.rsx_pipe.specs.declared.part.Pumped.{Pumped as Rest}
 use Rattle.rsx_pipe.specs.declared.part.Pumped.TheVariants.{Idle as Rests, Budget as Wakes}
 use Rattle.rsx_subscriber.specs.declared.subscription.Subscription.{Subscription}
 use Rattle.rsx_subscriber.specs.Past.{Past, given}
+use Rattle.rsx_subscriber.specs.Moves.{tree_of}
 use Rattle.rsx_subscriber.specs.Stands.{Stands, IsEffect, IsMadeAnswer, ask_enabled, send_enabled, take_enabled, move_enabled_in}
 
 -- the past of a subscriber that received these signals

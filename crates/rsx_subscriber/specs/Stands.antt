@@ -1,6 +1,6 @@
 -- What a subscription stands for, its enabled moves, and what a move changes.
-use Rattle.std.specs.Prelude.{◌≡◌, ℕ, Bool, ◌&&◌, nat_eq, List, [], ◌∷◌, ◌++◌, length, Option, Some, None, option_map}
-use Rattle.rsx_types.specs.Meaning.{Meaning}
+use Rattle.std.specs.Prelude.{◌≡◌, ℕ, Bool, false, ◌&&◌, nat_eq, List, [], ◌∷◌, ◌++◌, length, Option, Some, None, option_map}
+use Rattle.rsx_types.specs.Meaning.{Meaning, Allocates}
 use Rattle.rsx_types.specs.Stream.{Stream, signals_then, ended_by}
 use Rattle.rsx_types.specs.declared.note.Note.{Note}
 use Rattle.rsx_types.specs.declared.names.SubId.{SubId}
@@ -16,11 +16,13 @@ use Rattle.rsx_pipe.specs.Part.{PartStands, all_edges}
 use Rattle.rsx_pipe.specs.Part as Part
 use Rattle.rsx_pipe.specs.Tree.{comes_out, notes_of, IsAllClosed}
 use Rattle.rsx_tree.specs.declared.edge.EdgeState.TheVariants.{Live, Closed}
+use Rattle.rsx_tree.specs.declared.look.NodeMove.{NodeMove}
 use Rattle.rsx_subscriber.specs.declared.state.SubscriptionState.{SubscriptionState}
 use Rattle.rsx_subscriber.specs.declared.state.SubscriptionState.TheVariants.{Open, Ended, Cancelled, Refused}
 use Rattle.rsx_subscriber.specs.declared.subscription.Subscription.{Subscription}
 use Rattle.rsx_subscription.specs.Table.{cell_of, state_after, asked_after, sent_after}
 use Rattle.rsx_subscriber.specs.Standing.{standing, live_in, delivers, input_of}
+use Rattle.rsx_subscriber.specs.Moves.{node_move}
 use Rattle.rsx_subscriber.specs.Past.{Past, IsLive, items_in, IsUnended, IsOrderly, IsPrefixOf}
 
 -- the expression of a subscriber, evaluated from scratch over the hubs' values, under its joins and these notes
@@ -81,6 +83,19 @@ abbrev pub move_enabled_in : {T : Type 0} → Meaning T → Subscription T → M
 move_enabled_in m sub (Ask t n) = ask_enabled sub n.0
 move_enabled_in m sub (Send t n) = send_enabled m sub n.0
 move_enabled_in m sub (Take t n) = take_enabled sub n.0
+
+-- an Ask or a Send is enabled; a Take isn't one of them
+abbrev pub enabled_inside : {T : Type 0} → Meaning T → Subscription T → Option NodeMove → Bool
+enabled_inside m sub None = false
+enabled_inside m sub (Some e) = Part.move_enabled m sub.part sub.queue e
+
+-- whether it may allocate, where these of the caller's functions may
+abbrev pub allocates_inside : {T : Type 0} → Allocates → Subscription T → Option NodeMove → Bool
+allocates_inside a sub None = false
+allocates_inside a sub (Some e) = Part.make_allocates a sub.part e
+
+abbrev pub make_allocates : {T : Type 0} → Allocates → Subscription T → Move → Bool
+make_allocates a sub mv = allocates_inside a sub (node_move mv)
 
 -- ---- what the looks answer
 

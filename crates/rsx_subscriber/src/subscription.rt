@@ -5,12 +5,13 @@ ghost use Rattle.rsx_types.specs.Stream.{signals_then};
 ghost use Rattle.rsx_subscription.specs.declared.State.TheVariants.{Fresh};
 ghost use Rattle.rsx_subscription.specs.Table.{answer, asked_after, cell_of, sent_after, state_after};
 ghost use Rattle.rsx_subscriber.specs.Standing.{input_of, is_delivery};
+ghost use Rattle.rsx_subscriber.specs.Moves.{node_move};
 
 use crate::deliveries::Deliveries;
 use crate::state::SubscriptionState;
 use rsx_demand::Demand;
 use rsx_model::Expr;
-use rsx_pipe::{EdgeState, Part, Pumped, SignalQueue};
+use rsx_pipe::{EdgeState, NodeMove, Part, Pumped, SignalQueue};
 use rsx_sources::NotMade;
 use rsx_subscription::{Effect, Input, State, step};
 use rsx_types::{Cause, Ending, Move, NoMemory, Note, Ops, Signal, StreamValue, SubId};
@@ -46,10 +47,11 @@ impl<T: Drop> Subscription<T> {
     ghost use Rattle.rsx_types.specs.declared.names.SubId.{SubId};
     ghost use Rattle.rsx_types.specs.declared.signal.Signal.{Signal};
     ghost use Rattle.rsx_tree.specs.Edges.{closed_view};
-    ghost use Rattle.rsx_pipe.specs.Part.{all_edges, HasEnded, IsPutOut, make_allocates, move_enabled, pump_allocates};
+    ghost use Rattle.rsx_pipe.specs.Part.{all_edges, HasEnded, IsPutOut, pump_allocates};
     ghost use Rattle.rsx_pipe.specs.Tree.{notes_of, IsAllClosed};
     ghost use Rattle.rsx_subscriber.specs.Past.{Past, subscribed, cancelled, requested, given, request_answer};
-    ghost use Rattle.rsx_subscriber.specs.Stands.{Stands, standing_of, owed_from, take_enabled, IsWorked, IsTake};
+    ghost use Rattle.rsx_subscriber.specs.Stands.{Stands, standing_of, owed_from, take_enabled, enabled_inside, make_allocates, IsWorked, IsTake};
+    ghost use Rattle.rsx_subscriber.specs.Moves.{node_move};
     ghost use Rattle.rsx_subscriber.specs.Begun.{IsFresh};
     ghost use Rattle.rsx_subscriber.specs.Delivered.{IsFull};
     ghost use Rattle.rsx_subscriber.specs.Edited.{IsRequested, IsCancelled};
@@ -202,13 +204,16 @@ impl<T: Drop> Subscription<T> {
         step: Move,
     ) -> Result<(), NotMade>
         ensures stands { OnOk result ((published : List (Stream T)) (past : Past T) → Stands (O.meaning ops.now) published self.old past → Stands (O.meaning ops.now) published self.new past) }
-        ensures enabled { OnOk result (move_enabled (O.meaning ops.now) self.old.part self.old.queue step ≡ true) }
+        ensures enabled { OnOk result (enabled_inside (O.meaning ops.now) self.old (node_move step) ≡ true) }
         ensures effect { OnOk result (IsWorked (O.meaning ops.now) step self.old self.new) }
-        ensures err { IfErr result (IsNotMade (move_enabled (O.meaning ops.now) self.old.part self.old.queue step)) }
-        ensures memory { make_allocates (O.allocates ops.now) self.old.part step ≡ false → IfErr result (λ e. e ≡ NotMade.NotEnabled) }
+        ensures err { IfErr result (IsNotMade (enabled_inside (O.meaning ops.now) self.old (node_move step))) }
+        ensures memory { make_allocates (O.allocates ops.now) self.old step ≡ false → IfErr result (λ e. e ≡ NotMade.NotEnabled) }
         ensures same { OnErr result (self.new ≡ self.old) }
     {
-        match self.part.make(alloc, ops, step, &mut self.queue) {
+        let Some(inside) = node_move(step) else {
+            return Err(NotMade::NotEnabled);
+        };
+        match self.part.make(alloc, ops, inside, &mut self.queue) {
             Ok(()) => Ok(()),
             Err(why) => Err(why),
         }
@@ -451,6 +456,18 @@ impl<T: Drop> Subscription<T> {
     {
         let rest = self.part.residual(alloc, ops)?;
         behind(alloc, ops, &self.queue, rest)
+    }
+}
+
+/// The move inside the tree that a move names, which the graph has looked up. A Take isn't one: it is from the queue behind
+/// the tree.
+fn node_move(step: Move) -> Option<NodeMove>
+    ensures { result ≡ node_move step }
+{
+    match step {
+        Move::Ask(_, node) => Some(NodeMove::Ask(node.0)),
+        Move::Send(_, node) => Some(NodeMove::Send(node.0)),
+        Move::Take(_, _) => None,
     }
 }
 

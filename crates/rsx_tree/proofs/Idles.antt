@@ -93,7 +93,7 @@ abbrev pub IsNodeStill : {M T : Type 0} → Machine M T → M → ℕ → ℕ �
 IsNodeStill b n asked sent = ((j : ℕ) → j < 2 ^ 64 → b.picks n j asked sent ≡ false) × (b.rows n asked sent ≡ false)
 
 -- nor could it where its edge is live
-live_still : {M T : Type 0} (b : Machine M T) (e : Edge) (n : M) → is_live e.state ≡ true → IsStill b (Some (over e n)) → IsNodeStill b n e.demand.asked e.demand.sent
+pub live_still : {M T : Type 0} (b : Machine M T) (e : Edge) (n : M) → is_live e.state ≡ true → IsStill b (Some (over e n)) → IsNodeStill b n e.demand.asked e.demand.sent
 live_still b e n live h = (λ j l. by_live (is_live e.state) (b.picks n j e.demand.asked e.demand.sent) live (h.0 j l), by_live (is_live e.state) (b.rows n e.demand.asked e.demand.sent) live h.1)
   where
     by_live : (l x : Bool) → l ≡ true → l && x ≡ false → x ≡ false

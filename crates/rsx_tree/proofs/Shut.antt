@@ -1,5 +1,5 @@
 -- No move goes over an edge that isn't live.
-use Rattle.std.proofs.Common.{◌≡◌, ◌⊎◌, inl, inr, ℕ, ◌+◌, ◌-◌, Bool, true, false, ◌&&◌, nat_eq, nat_le, if◌then◌else◌, List, [], ◌∷◌, ◌++◌, refl, ap, ◌∙◌, Option, Some, None, option_map}
+use Rattle.std.proofs.Common.{◌≡◌, ◌⊎◌, inl, inr, ℕ, ◌+◌, ◌-◌, Bool, true, false, ◌&&◌, nat_eq, nat_le, if◌then◌else◌, List, [], ◌∷◌, ◌++◌, refl, ap, ◌∙◌, Option, Some, None, option_map, zero, suc}
 use Rattle.rsx_types.specs.Meaning.{Meaning}
 use Rattle.rsx_sources.specs.Machine.{front_of}
 use Rattle.rsx_sources.specs.declared.machine.Front.{Front}
@@ -10,10 +10,10 @@ use Rattle.rsx_tree.specs.declared.edge.EdgeState.TheVariants.{Live, Ended as Ed
 use Rattle.rsx_tree.specs.declared.inputs.Inputs.{Inputs, End, More'}
 use Rattle.rsx_tree.specs.declared.node.Node.{Node}
 use Rattle.rsx_tree.specs.Edges.{EdgeView, is_live, can_pass}
-use Rattle.rsx_tree.specs.Inputs.{Place, place, size, edges, can_go, can_ask_in, can_send_in}
+use Rattle.rsx_tree.specs.Inputs.{Place, place, size, edges, can_go, can_ask_in, can_send_in, tests}
 use Rattle.rsx_tree.specs.Tree.{NoneLive, IsAllClosed, can_ask, can_send}
 use Rattle.rsx_types.specs.Notes.{note_then}
-use Rattle.rsx_tree.specs.Stepped.{Station, station, IsStepped, IsPickedHere, IsRowMadeHere}
+use Rattle.rsx_tree.specs.Stepped.{Station, station, station_of, can_pick_in, can_row_in, IsStepped, IsPickedHere, IsRowMadeHere}
 use Rattle.rsx_tree.proofs.Noted.{step_noted, pick_notes, row_notes}
 
 none_left : (es fs : List EdgeView) → NoneLive (es ++ fs) → NoneLive es
@@ -90,20 +90,35 @@ abbrev Dead : {M : Type 0} → Option (Station M) → Type 0
 Dead None = Unit {0}
 Dead (Some x) = x.state ≡ Live → ⊥
 
-closed_station : {M : Type 0} (t : Inputs M) (at : ℕ) (s : Station M) → NoneLive (edges t) → station t at ≡ Some s → s.state ≡ Live → ⊥
-closed_station {M} t at s h is live = found (station t at) (closed t at h) is
-  where
-    closed : (t : Inputs M) (at : ℕ) → NoneLive (edges t) → Dead (station t at)
-    closed End at h = tt
-    closed (More' e n p below q beside) at h =
-        if_both Dead (nat_eq at 0) _ _ h.0
-        (if_both Dead (nat_le at (size below)) (station below (at - 1)) (station beside (at - 1 - size below))
-        (closed below (at - 1) (none_left (edges below) (edges beside) h.1))
-        (closed beside (at - 1 - size below) (none_right (edges below) (edges beside) h.1)))
+closed_row : {M : Type 0} (t : Inputs M) (at : ℕ) → NoneLive (edges t) → Dead (station t at)
+closed_row End at h = tt
+closed_row (More' e n p below q beside) at h =
+    if_both Dead (nat_eq at 0) _ _ h.0
+    (if_both Dead (nat_le at (size below)) (station below (at - 1)) (station beside (at - 1 - size below))
+    (closed_row below (at - 1) (none_left (edges below) (edges beside) h.1))
+    (closed_row beside (at - 1 - size below) (none_right (edges below) (edges beside) h.1)))
 
+closed_station : {M : Type 0} (t : Inputs M) (at : ℕ) (s : Station M) → NoneLive (edges t) → station t at ≡ Some s → s.state ≡ Live → ⊥
+closed_station {M} t at s h is live = found (station t at) (closed_row t at h) is
+  where
     found : (o : Option (Station M)) → Dead o → o ≡ Some s → ⊥
     found None d e = cc
     found (Some x) d e = let same : x ≡ s = cc in d (ap (λ k. k.state) same ∙ live)
+
+tested_live : {M : Type 0} (f : Station M → Bool) (o : Option (Station M)) → tests (λ s. is_live s.state && f s) o ≡ true → Dead o → ⊥
+tested_live f None h d = cc
+tested_live f (Some s) h d = d (live_true s.state (and_left (is_live s.state) (f s) h))
+
+own_or_below : {M : Type 0} (f : Station M → Bool) (t : Node M) (e : EdgeView) (at : ℕ) → tests (λ s. is_live s.state && f s) (station_of t e at) ≡ true → IsAllClosed t → (e.state ≡ Live → ⊥) → ⊥
+own_or_below f t e zero h closed dead = tested_live f (station_of t e zero) h dead
+own_or_below f t e (suc at) h closed dead = tested_live f (station t.inputs at) h (closed_row t.inputs at closed)
+
+-- where a node can pick or make a row, the root's own edge is live, or one below it
+pub pick_alive : {M T : Type 0} (b : Machine M T) (t : Node M) (e : EdgeView) (at input : ℕ) → can_pick_in b input (station_of t e at) ≡ true → IsAllClosed t → (e.state ≡ Live → ⊥) → ⊥
+pick_alive b t e at input h closed dead = own_or_below (λ s. b.picks s.machine input s.asked s.sent) t e at h closed dead
+
+pub row_alive : {M T : Type 0} (b : Machine M T) (t : Node M) (e : EdgeView) (at : ℕ) → can_row_in b (station_of t e at) ≡ true → IsAllClosed t → (e.state ≡ Live → ⊥) → ⊥
+row_alive b t e at h closed dead = own_or_below (λ s. b.rows s.machine s.asked s.sent) t e at h closed dead
 
 pub step_not_closed : {M T : Type 0} (b : Machine M T) (m : Meaning T) (t : Node M) (at : ℕ) (t' : Inputs M) → ((input : ℕ) × IsStepped (IsPickedHere b m input) b.ended t.inputs at t') ⊎ IsStepped (IsRowMadeHere b m) b.ended t.inputs at t' → IsAllClosed t → ⊥
 step_not_closed b m t at t' h closed = elim h [

@@ -1,39 +1,21 @@
-use Rattle.std.proofs.Common.{sym, ◌∙◌, refl}
-use Rattle.rsx_pipe.proofs.Looks.{enabled_ask, enabled_send, none_enabled, none_pick, none_row}
+use Rattle.std.proofs.Common.{sym, ◌∙◌, arith}
+use Rattle.rsx_pipe.proofs.Looks.{enabled_root, none_below, some_below}
 use Rattle.rsx_pipe.proofs.part.Part.first_enabled.Goals as goal
 
-pub returns-in-Some-Ask-clause-some : goal.returns-in-Some-Ask-clause-some
-returns-in-Some-Ask-clause-some g c = λ m. (refl, enabled_ask m c.args.self.now c.in-Some-Ask.field-0 c.in-Some-Ask.node c.in-Some-Ask.field-0-is (c.in-Some-Ask.ensures.some m))
-
-pub returns-in-Some-Send-clause-some : goal.returns-in-Some-Send-clause-some
-returns-in-Some-Send-clause-some g c = λ m. (refl, enabled_send m c.args.self.now c.args.out.now c.in-Some-Send.field-0 c.in-Some-Send.node c.in-Some-Send.field-0-is (c.in-Some-Send.ensures.some m))
-
-pub returns-in-None-clause-none : goal.returns-in-None-clause-none
-returns-in-None-clause-none g c = λ m. none_enabled m c.args.self.now c.args.out.now (sym (c.can_send_root.ensures m) ∙ c.if-can_send_root.false) (c.in-None.ensures.none m)
-
-pub returns-in-Some-Pick-clause-none : goal.returns-in-Some-Pick-clause-none
-returns-in-Some-Pick-clause-none g c = λ m. absurd (none_pick m c.args.self.now c.in-Some-Pick.field-0 c.in-Some-Pick.node c.in-Some-Pick.input c.in-Some-Pick.field-0-is (c.in-Some-Pick.ensures.some m))
-
-pub returns-in-Some-Row-clause-none : goal.returns-in-Some-Row-clause-none
-returns-in-Some-Row-clause-none g c = λ m. absurd (none_row m c.args.self.now c.in-Some-Row.field-0 c.in-Some-Row.node c.in-Some-Row.field-0-is (c.in-Some-Row.ensures.some m))
-
 pub returns-then-can_send_root-clause-some : goal.returns-then-can_send_root-clause-some
-returns-then-can_send_root-clause-some g c = λ m. (refl, sym (c.if-can_send_root.ensures m))
+returns-then-can_send_root-clause-some g c = λ m. (omega arith, sym (c.if-can_send_root.ensures m))
 
 pub returns-then-can_send_root-clause-none : goal.returns-then-can_send_root-clause-none
 returns-then-can_send_root-clause-none g c = λ m. tt
 
-pub returns-in-Some-Ask-clause-none : goal.returns-in-Some-Ask-clause-none
-returns-in-Some-Ask-clause-none g c = λ m. tt
+pub returns-in-Some-clause-some : goal.returns-in-Some-clause-some
+returns-in-Some-clause-some g c = λ m. enabled_root m c.args.self.now c.args.out.now c.in-Some.step c.in-Some.ensures.some
 
-pub returns-in-Some-Send-clause-none : goal.returns-in-Some-Send-clause-none
-returns-in-Some-Send-clause-none g c = λ m. tt
+pub returns-in-Some-clause-none : goal.returns-in-Some-clause-none
+returns-in-Some-clause-none g c = λ m. tt
 
-pub returns-in-Some-Pick-clause-some : goal.returns-in-Some-Pick-clause-some
-returns-in-Some-Pick-clause-some g c = λ m. tt
+pub returns-clause-some : goal.returns-clause-some
+returns-clause-some g c = λ m. some_below m c.args.self.now c.args.out.now c.first_enabled.result (c.first_enabled.ensures.some m)
 
-pub returns-in-Some-Row-clause-some : goal.returns-in-Some-Row-clause-some
-returns-in-Some-Row-clause-some g c = λ m. tt
-
-pub returns-in-None-clause-some : goal.returns-in-None-clause-some
-returns-in-None-clause-some g c = λ m. tt
+pub returns-clause-none : goal.returns-clause-none
+returns-clause-none g c = λ m. none_below m c.args.self.now c.args.out.now c.first_enabled.result (sym (c.can_send_root.ensures m) ∙ c.if-can_send_root.false) c.in-None.ensures.none (c.first_enabled.ensures.none m)

@@ -9,7 +9,7 @@ pub returns-in-Ok-clause-stands : goal.returns-in-Ok-clause-stands
 returns-in-Ok-clause-stands g c =
     let m = g.O.Ops.meaning c.args.ops.now in
     put_out_kept m c.args.self.now (record { tree = c.send.new.self; root = c.args.self.now.root }) c.in-Ok.ensures.kept c.in-Ok.ensures.balance refl
-    (send_not_closed m c.args.self.now.tree c.args.at c.in-Ok.ensures.ok)
+    (λ closed _. send_not_closed m c.args.self.now.tree c.args.at c.in-Ok.ensures.ok closed)
 
 pub returns-in-Ok-clause-effect : goal.returns-in-Ok-clause-effect
 returns-in-Ok-clause-effect g c =

@@ -1,10 +1,10 @@
-use Rattle.std.proofs.Common.{refl}
+use Rattle.std.proofs.Common.{refl, sym, ◌∙◌}
 use Rattle.rsx_subscriber.proofs.Moves.{stands_made, worked_part}
 use Rattle.rsx_subscriber.proofs.subscription.Subscription.make.Goals as goal
 
 pub returns-in-Ok-clause-stands : goal.returns-in-Ok-clause-stands
 returns-in-Ok-clause-stands g c = λ published past h.
-    stands_made (g.O.Ops.meaning c.args.ops.now) c.args.step published c.args.self.now _ past (record { state = refl; live = refl; demand = refl }) c.in-Ok.ensures.enabled c.in-Ok.ensures.made h
+    stands_made (g.O.Ops.meaning c.args.ops.now) c.in-Some.inside published c.args.self.now _ past (record { state = refl; live = refl; demand = refl }) c.in-Ok.ensures.enabled c.in-Ok.ensures.made h
 
 pub returns-in-Ok-clause-effect : goal.returns-in-Ok-clause-effect
-returns-in-Ok-clause-effect g c = worked_part (g.O.Ops.meaning c.args.ops.now) c.args.step c.args.self.now _ (record { state = refl; live = refl; demand = refl }) c.in-Ok.ensures.made
+returns-in-Ok-clause-effect g c = worked_part (g.O.Ops.meaning c.args.ops.now) c.args.step c.in-Some.inside c.args.self.now _ (sym c.in-Some.is ∙ c.node_move.ensures) (record { state = refl; live = refl; demand = refl }) c.in-Ok.ensures.made
