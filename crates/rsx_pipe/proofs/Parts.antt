@@ -17,9 +17,8 @@ use Rattle.rsx_sources.specs.declared.machine.Front.{Front}
 use Rattle.rsx_node.specs.Built.{IsBuilt, fresh_edge, fresh_edges}
 use Rattle.rsx_tree.specs.Edges.{changed_at, asked_up_to, edge_view, EdgeView, passed, is_live, closed_view, closed_state, can_pass}
 use Rattle.rsx_pipe.specs.Output.{items_in, IsUnended, IsOrderly, values_then}
-use Rattle.rsx_pipe.specs.Part.{PartStands, IsPutOut, IsRootSent, IsMade, IsMoved, IsMovedBy, IsPumped, IsQuiet, IsAwake, IsDelivered, IsServed, IsSpent, HasEnded, IsAsk, IsSend, IsEffect, GoesOut, all_edges, sent_at, ask_enabled, send_enabled, move_enabled, has_room, evaluated, pump_allocates, IsPick, IsRow, make_allocates}
-use Rattle.rsx_pipe.specs.Tree.{AnyTree, comes_out, notes_of, offers, edges, edges_after, can_ask, can_send, can_go, want_at, want_in, front_at, front_in, ended_at, IsAllClosed, IsKept, IsLetGo, IsAdvanced, IsAskedAt, IsSentAt, IsChosen, IsDriven, IsIdle, IsBalanced, IsBalancedAfter, IsWithin, pop_allocates, IsStill, step_allocates, IsAlike}
-use Rattle.rsx_tree.specs.Look.{IsStepEnabled}
+use Rattle.rsx_pipe.specs.Part.{PartStands, IsPutOut, IsRootSent, IsMade, IsMoved, IsMovedBy, IsPumped, IsQuiet, IsAwake, IsDelivered, IsServed, IsSpent, HasEnded, IsAsk, IsSend, IsEffect, GoesOut, all_edges, sent_at, ask_enabled, send_enabled, move_enabled, has_room, make_allocates, evaluated, pump_allocates, IsPick, IsRow}
+use Rattle.rsx_pipe.specs.Tree.{AnyTree, comes_out, notes_of, offers, edges, edges_after, can_ask, can_send, can_go, want_at, want_in, front_at, front_in, ended_at, IsAllClosed, IsKept, IsAlike, step_allocates, IsLetGo, IsAdvanced, IsAskedAt, IsSentAt, IsChosen, IsDriven, IsIdle, IsBalanced, IsBalancedAfter, IsWithin, pop_allocates, IsStill}
 use Rattle.rsx_tree.specs.declared.look.NodeMove.{NodeMove}
 use Rattle.rsx_tree.specs.declared.look.NodeMove.TheVariants.{Ask, Send, Pick, Row}
 use Rattle.rsx_tree.specs.declared.edge.Edge.{Edge}
@@ -29,9 +28,13 @@ use Rattle.rsx_pipe.specs.declared.part.Part.{Part}
 use Rattle.rsx_pipe.specs.declared.part.Pumped.{Pumped}
 use Rattle.rsx_pipe.specs.declared.part.Pumped.TheVariants.{Idle, Budget}
 use Rattle.rsx_node.specs.Any.{any_machine}
-use Rattle.rsx_tree.specs.Stepped.{IsSteppedAt, IsPickedHere, IsRowMadeHere, over, station, station_of}
+use Rattle.rsx_tree.specs.Stepped.{station, IsSteppedAt, IsPickedHere, IsRowMadeHere, over, station_of}
 use Rattle.rsx_tree.specs.Allocates.{node_allocates}
-use Rattle.rsx_tree.proofs.Alike.{driven_alike, or_left, or_right}
+use Rattle.rsx_sources.specs.Steps.{IsNotMade}
+use Rattle.rsx_sources.specs.declared.machine.NotMade.{NotMade}
+use Rattle.rsx_sources.specs.declared.machine.NotMade.TheVariants.{NotEnabled}
+use Rattle.rsx_tree.specs.Look.{IsStepEnabled}
+use Rattle.rsx_tree.proofs.Alike.{or_right, driven_alike, or_left}
 use Rattle.rsx_tree.proofs.Drives.{chosen_run}
 use Rattle.rsx_tree.proofs.Effects.{length_edges}
 use Rattle.rsx_tree.proofs.Noted.{kept_chosen, picked_effect, picked_enabled, row_effect, row_enabled as row_made_enabled}
@@ -459,16 +462,16 @@ pumped_driven m n old tree queue d balance = record {
 pub root_free : {T : Type 0} (a : Allocates) (part : Part T) → pump_allocates a part ≡ false → pop_allocates a part.tree ≡ false
 root_free a part free = or_left (pop_allocates a part.tree) _ (or_left (node_allocates any_machine a part.tree.machine) _ free)
 
-own_step_free : {T : Type 0} (a : Allocates) (part : Part T) → pump_allocates a part ≡ false → any_machine.step_allocates a part.tree.machine ≡ false
-own_step_free a part free =
-    or_right (any_machine.signal_allocates a part.tree.machine) _ (or_right (any_machine.pop_allocates a part.tree.machine) _ (or_left (node_allocates any_machine a part.tree.machine) _ free))
+-- a step of the root is made without
+pub root_step_free : {T : Type 0} (a : Allocates) (part : Part T) (step : NodeMove) → IsStepEnabled any_machine (over part.root part.tree.machine) 0 step → pump_allocates a part ≡ false → make_allocates a part step ≡ false
+root_step_free a part (Ask n) h free = absurd h
+root_step_free a part (Send n) h free = absurd h
+root_step_free a part (Pick n input) h free = ap (λ k. step_allocates a part.tree (edge_view part.root) k) h.0 ∙ or_right (any_machine.signal_allocates a part.tree.machine) _ (or_right (any_machine.pop_allocates a part.tree.machine) _ (or_left (node_allocates any_machine a part.tree.machine) _ free))
+root_step_free a part (Row n) h free = ap (λ k. step_allocates a part.tree (edge_view part.root) k) h.0 ∙ or_right (any_machine.signal_allocates a part.tree.machine) _ (or_right (any_machine.pop_allocates a part.tree.machine) _ (or_left (node_allocates any_machine a part.tree.machine) _ free))
 
--- and so is a step of it made
-pub step_root_free : {T : Type 0} (a : Allocates) (part : Part T) (step : NodeMove) → IsStepEnabled any_machine (over part.root part.tree.machine) 0 step → pump_allocates a part ≡ false → make_allocates a part step ≡ false
-step_root_free a part (Ask n) h free = absurd h
-step_root_free a part (Send n) h free = absurd h
-step_root_free a part (Pick n input) h free = ap (step_allocates a part.tree (edge_view part.root)) h.0 ∙ own_step_free a part free
-step_root_free a part (Row n) h free = ap (step_allocates a part.tree (edge_view part.root)) h.0 ∙ own_step_free a part free
+-- an enabled move isn't refused but for want of memory
+pub not_refused : (can : Bool) (e : NotMade) → can ≡ true → IsNotMade can e → e ≡ NotEnabled → ⊥
+not_refused can e enabled h is = let other : IsNotMade can NotEnabled = subst (IsNotMade can) is h in never can enabled other
 
 -- ---- where no move is enabled
 

@@ -67,9 +67,9 @@ pop_allocates a t = any_pop_allocates a t.machine
 abbrev pub send_allocates : {T : Type 0} → Allocates → AnyTree T → ℕ → Bool
 send_allocates a t at = Whole.send_allocates any_machine a t at
 
--- whether a pick or a row of the node `at` may, where the root has the number 0 and this edge
+-- whether a step of the node `at` of a tree, whose root has this edge, may
 abbrev pub step_allocates : {T : Type 0} → Allocates → AnyTree T → EdgeView → ℕ → Bool
-step_allocates a t e at = step_allocates_in any_machine a (station_of t e at)
+step_allocates a t root at = step_allocates_in any_machine a (station_of t root at)
 
 -- whether some call of a node of the tree may
 abbrev pub tree_allocates : {T : Type 0} → Allocates → AnyTree T → Bool

@@ -206,6 +206,7 @@ impl<T: Drop> Part<T> {
     /// Makes the Ask of the node `at`.
     fn ask(&mut self, at: u32) -> Result<(), NotMade>
         ensures stands { (m : Meaning T) → OnOk result (IsPutOut m self.old [] self.new) }
+        ensures alike { IsAlike self.old.tree self.new.tree }
         ensures effect { OnOk result (IsAsk self.old at self.new) }
         ensures root { self.new.root ≡ self.old.root }
         ensures enabled { OnOk result (ask_enabled self.old at ≡ true) }
@@ -234,6 +235,7 @@ impl<T: Drop> Part<T> {
     ) -> Result<(), NotMade>
         ensures stands { OnOk result (IsPutOut (O.meaning ops.now) self.old [] self.new) }
         ensures effect { OnOk result (IsSend (O.meaning ops.now) self.old (at + 1) [] self.new) }
+        ensures alike { IsAlike self.old.tree self.new.tree }
         ensures root { self.new.root ≡ self.old.root }
         ensures enabled { OnOk result (can_send (O.meaning ops.now) self.old.tree at ≡ true) }
         ensures alike { IsAlike self.old.tree self.new.tree }

@@ -8,7 +8,6 @@ use Rattle.rsx_types.specs.declared.names.SubId.{SubId}
 use Rattle.rsx_types.specs.declared.names.Tree.TheVariants.{Sub}
 use Rattle.rsx_types.specs.declared.signal.Signal.{Signal}
 pub use Rattle.rsx_tree.specs.Driven.{Spent}
-use Rattle.rsx_pipe.specs.Part.{tree_of}
 use Rattle.rsx_pipe.specs.Tree.{IsAlike}
 use Rattle.rsx_pipe.specs.declared.part.Pumped.{Pumped as Rest}
 use Rattle.rsx_pipe.specs.declared.part.Pumped.TheVariants.{Idle as Rests, Budget as Wakes}

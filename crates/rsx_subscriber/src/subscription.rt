@@ -47,7 +47,7 @@ impl<T: Drop> Subscription<T> {
     ghost use Rattle.rsx_types.specs.declared.names.SubId.{SubId};
     ghost use Rattle.rsx_types.specs.declared.signal.Signal.{Signal};
     ghost use Rattle.rsx_tree.specs.Edges.{closed_view};
-    ghost use Rattle.rsx_pipe.specs.Part.{all_edges, HasEnded, IsPutOut, make_allocates, move_enabled, pump_allocates};
+    ghost use Rattle.rsx_pipe.specs.Part.{all_edges, HasEnded, IsPutOut, pump_allocates};
     ghost use Rattle.rsx_pipe.specs.Tree.{notes_of, IsAllClosed};
     ghost use Rattle.rsx_subscriber.specs.Past.{Past, subscribed, cancelled, requested, given, request_answer};
     ghost use Rattle.rsx_subscriber.specs.Stands.{Stands, standing_of, owed_from, take_enabled, enabled_inside, make_allocates, IsWorked, IsTake};

@@ -4,8 +4,6 @@ use Rattle.rsx_sources.specs.declared.machine.NotMade.{NotMade}
 use Rattle.rsx_sources.specs.declared.machine.NotMade.TheVariants.{NotEnabled, NoMemory}
 use Rattle.rsx_pipe.specs.Part.{pump_allocates}
 use Rattle.rsx_pipe.proofs.Parts.{root_free, pumped_root, pumped_driven, quiet_driven, pumped_on}
-use Rattle.rsx_node.specs.Any.{any_machine}
-use Rattle.rsx_tree.proofs.Alike.{driven_alike}
 use Rattle.rsx_pipe.proofs.part.Part.round.Goals as goal
 
 pub returns-in-Ok-clause-pumped : goal.returns-in-Ok-clause-pumped
@@ -83,5 +81,4 @@ pub returns-in-Err-step_root-clause-memory : goal.returns-in-Err-step_root-claus
 returns-in-Err-step_root-clause-memory g c = λ free.
     let a = g.O.Ops.allocates c.args.ops.now in
     let same = c.in-Err-NotEnabled.ensures.same in
-    let d = c.in-Ok-drive.ensures.driven in
-    c.in-Err-step_root.ensures.memory (driven_alike any_machine (g.O.Ops.meaning c.args.ops.now) true d.0 c.send_root.new.self.tree c.send_root.new.self.root.demand.asked c.send_root.new.self.root.demand.sent c.drive.new.self d.2 a ∙ (ap (pump_allocates a) same.0 ∙ free))
+    c.in-Err-step_root.ensures.memory (c.in-Ok-drive.ensures.alike a ∙ (ap (pump_allocates a) same.0 ∙ free))
