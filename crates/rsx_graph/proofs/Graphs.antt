@@ -1,5 +1,5 @@
 -- How the subscriptions of a graph stand together.
-use Rattle.std.proofs.Common.{◌^◌, ◌≡◌, ℕ, zero, suc, ◌+◌, ◌-◌, ◌<◌, ◌≤◌, List, [], ◌∷◌, ◌++◌, length, get_or, slice_get, refl, ap, sym, ◌∙◌, subst, arith, append_assoc, length-append, take, map, Option, Some, Result, Ok, Bool, true, false, ◌||◌, nat_eq, if◌then◌else◌, inl, inr}
+use Rattle.std.proofs.Common.{◌≡◌, ℕ, zero, suc, ◌+◌, ◌-◌, ◌<◌, ◌≤◌, List, [], ◌∷◌, ◌++◌, length, get_or, slice_get, refl, ap, sym, ◌∙◌, subst, arith, append_assoc, length-append, take, map, Option, Some, Result, Ok, Bool, true, false, ◌||◌, nat_eq, if◌then◌else◌, inl, inr}
 use Rattle.std.proofs.Math.ListN.{set}
 use Rattle.std.proofs.lemmas.Bool.Decides.{nat_tests}
 use Rattle.std.proofs.lemmas.List.{take_more, take_all, append-nil}
@@ -14,6 +14,7 @@ use Rattle.rsx_types.specs.declared.names.Tree.{Tree}
 use Rattle.rsx_types.specs.declared.names.Tree.TheVariants.{Sub, Feed}
 use Rattle.rsx_types.specs.declared.signal.Ending.TheVariants.{Open as NotEnded}
 use Rattle.rsx_types.specs.declared.signal.Signal.{Signal}
+use Rattle.rsx_pipe.specs.Part as Part
 use Rattle.rsx_pipe.specs.Tree.{notes_of}
 use Rattle.rsx_pipe.specs.declared.part.Pumped.{Pumped as Rest}
 use Rattle.rsx_pipe.specs.declared.part.Pumped.TheVariants.{Idle as Rests, Budget as Wakes}

@@ -8,6 +8,7 @@ use Rattle.rsx_types.specs.declared.names.Tree.{Tree}
 use Rattle.rsx_types.specs.declared.names.Tree.TheVariants.{Sub, Feed}
 use Rattle.rsx_types.specs.declared.names.Move.{Move}
 use Rattle.rsx_types.specs.declared.signal.Signal.{Signal}
+use Rattle.rsx_pipe.specs.Part as Part
 use Rattle.rsx_pipe.specs.Tree.{notes_of}
 use Rattle.rsx_subscriber.specs.declared.subscription.Subscription.{Subscription}
 use Rattle.rsx_subscriber.specs.Edited.{IsRequested, IsCancelled}

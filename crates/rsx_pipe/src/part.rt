@@ -161,7 +161,7 @@ impl<T: Drop> Part<T> {
     /// # Errors
     /// [`NotMade::NotEnabled`] exactly where the move isn't enabled, and [`NotMade::NoMemory`] where a growth was refused: an
     /// Ask doesn't allocate, and a Send only to a `buffer` or a `distinct`, or where a function of the caller's that it calls
-    /// may. Then nothing changed.
+    /// may, and a pick or a row only where a step of its node may. Then nothing changed.
     pub fn make<O: Ops<Item = T>>(
         &mut self,
         alloc: Global,

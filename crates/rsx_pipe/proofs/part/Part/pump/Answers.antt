@@ -1,4 +1,4 @@
-use Rattle.std.proofs.Common.{arith, ◌≡◌, ◌<◌, ◌≤◌, ◌+◌, ◌∙◌, refl}
+use Rattle.std.proofs.Common.{arith, ◌≡◌, ◌≤◌, ◌+◌, ◌∙◌}
 use Rattle.rsx_types.specs.declared.fault.NoMemory.{NoMemory}
 use Rattle.rsx_pipe.proofs.Parts.{pumped_on, spent_ended, spent_served, delivered}
 use Rattle.rsx_pipe.proofs.part.Part.pump.Goals as goal

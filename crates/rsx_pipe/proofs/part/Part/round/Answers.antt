@@ -1,5 +1,4 @@
-use Rattle.std.proofs.Common.{refl, rules, arith, subst, sym, ap, ◌∙◌, ◌≡◌, ◌+◌, ◌-◌, ◌<◌, ◌≤◌}
-use Rattle.rsx_types.specs.declared.signal.Signal.{Signal}
+use Rattle.std.proofs.Common.{rules, arith, ap, ◌∙◌, ◌≡◌, ◌+◌, ◌-◌, ◌<◌, ◌≤◌}
 use Rattle.rsx_sources.specs.declared.machine.NotMade.{NotMade}
 use Rattle.rsx_sources.specs.declared.machine.NotMade.TheVariants.{NotEnabled, NoMemory}
 use Rattle.rsx_pipe.specs.Part.{pump_allocates}

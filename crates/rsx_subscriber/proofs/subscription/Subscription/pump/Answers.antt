@@ -1,4 +1,4 @@
-use Rattle.std.proofs.Common.{◌≡◌, ◌+◌, arith, Ok}
+use Rattle.std.proofs.Common.{◌∙◌, ◌≡◌, ◌+◌, arith, Ok}
 use Rattle.rsx_types.specs.declared.fault.NoMemory.{NoMemory}
 use Rattle.rsx_subscriber.proofs.Fetches.{rested_after}
 use Rattle.rsx_subscriber.proofs.Moves.{pumped_more}
