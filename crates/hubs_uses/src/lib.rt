@@ -1,0 +1,11 @@
+//! Tests of hubs and their members, by rows worked out by hand.
+#![tactic(auto)]
+
+#[cfg(test)]
+mod hubs;
+#[cfg(test)]
+mod limits;
+#[cfg(test)]
+mod members;
+#[cfg(test)]
+mod numbers;
