@@ -36,10 +36,7 @@ fn taken_out(
 ) -> Result<Received, NoMemory> {
     let NewChain { chain, first } = ChainState::new(alloc, &PLENTY, stages)?;
     let mut chain = chain;
-    let mut received = Received {
-        ending: first.ending(),
-        items: first.into_items(),
-    };
+    let mut received = Received::of(first);
     for item in items {
         if received.ending == Ending::Open {
             give(alloc, &mut chain, &mut received, Signal::Next(*item))?;
@@ -63,10 +60,7 @@ fn computed(
     let NewChain { chain, first } = ChainState::new(alloc, &PLENTY, stages)?;
     let value = StreamValue::new(Vec::from_slice(alloc, items)?, ending);
     let rest = chain.rest(alloc, &PLENTY, value)?;
-    let mut received = Received {
-        ending: first.ending(),
-        items: first.into_items(),
-    };
+    let mut received = Received::of(first);
     if received.ending == Ending::Open {
         for item in rest.items() {
             received.note(Signal::Next(*item))?;

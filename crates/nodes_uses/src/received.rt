@@ -2,7 +2,7 @@
 
 use crate::numbers::PLENTY;
 use rsx_sources::{Machine, NotMade, OutSlot};
-use rsx_types::{Ending, NoMemory, Note, Signal};
+use rsx_types::{Ending, NoMemory, Note, Signal, StreamValue};
 use std::alloc::Global;
 
 /// What came out so far: items, and then an ending, or `Open`.
@@ -15,6 +15,14 @@ pub(crate) struct Received {
 }
 
 impl Received {
+    /// The items and the ending of a value.
+    pub(crate) fn of(value: StreamValue<i64>) -> Received {
+        Received {
+            ending: value.ending(),
+            items: value.into_items(),
+        }
+    }
+
     /// Puts a signal behind the others. Where memory is refused, it tries once more.
     pub(crate) fn note(&mut self, signal: Signal<i64>) -> Result<(), NoMemory> {
         match signal {

@@ -110,7 +110,7 @@ impl<T: Kept<K>, K> Gate<T, K> {
         if word == 0 { Ok(value) } else { Err(value) }
     }
 
-    // The step of `Pass::leave`: whether the gate is free now.
+    /// The step of `Pass::leave`: whether the gate is free now.
     fn try_leave(&self, seat: &mut Seat<T, K>) -> bool
         requires { (x : T) × Holds self.now seat.old x × T.fits (key_of self.now) x }
         ensures { MatchBool result (IsGone self.now seat.old seat.new) (IsMissed seat.old seat.new) }

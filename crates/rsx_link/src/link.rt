@@ -124,7 +124,7 @@ impl<T> Link<T> {
     ghost use Rattle.rsx_link.specs.Steps.{asked_of};
     ghost use Rattle.rsx_link.specs.declared.view.Role.TheVariants.{Upstream, Downstream, Canceller};
 
-    // One store, so that a load finds either the old total or the new one.
+    /// One store, so that a load finds either the old total or the new one.
     pub(crate) fn store_asked(&self, seat: &mut Seat, total: u64)
         requires seat { IsSeatFor Downstream self.now seat.old }
         requires rises { asked_of seat.old.me.0.steps ≤ total }
@@ -133,7 +133,7 @@ impl<T> Link<T> {
         self.table.shared.store::<Asking>(seat, ASKED, total);
     }
 
-    // One load.
+    /// One load.
     pub(crate) fn load_asked(&self, seat: &mut Seat) -> u64
         requires { IsSeatFor Upstream self.now seat.old }
         ensures { Stepped saw_asked result seat.old seat.new }
@@ -141,7 +141,7 @@ impl<T> Link<T> {
         self.table.shared.load::<SeeingAsked>(seat, ASKED)
     }
 
-    // One load.
+    /// One load.
     pub(crate) fn load_flags(&self, seat: &mut Seat) -> u64
         requires { IsSeatFor Upstream self.now seat.old }
         ensures { Stepped saw_flags result seat.old seat.new }
@@ -149,7 +149,7 @@ impl<T> Link<T> {
         self.table.shared.load::<SeeingFlags>(seat, FLAGS)
     }
 
-    // One `fetch_or`, which leaves flag 2 as it is: a bad request may come at the same time.
+    /// One `fetch_or`, which leaves flag 2 as it is: a bad request may come at the same time.
     pub(crate) fn set_cancelled(&self, seat: &mut Seat) -> u64
         requires { MayCancel self.now seat.old }
         ensures { Stepped cancelled result seat.old seat.new }
@@ -159,7 +159,7 @@ impl<T> Link<T> {
             .fetch_or::<Cancelling>(seat, FLAGS, CANCELLED)
     }
 
-    // One `fetch_or`, whose answer decides who of a bad request and a cancel came first.
+    /// One `fetch_or`, whose answer decides who of a bad request and a cancel came first.
     pub(crate) fn set_refused(&self, seat: &mut Seat) -> u64
         requires { IsSeatFor Downstream self.now seat.old }
         ensures { Stepped refused result seat.old seat.new }
@@ -167,6 +167,7 @@ impl<T> Link<T> {
         self.table.shared.fetch_or::<Refusing>(seat, FLAGS, REFUSED)
     }
 
+    /// Takes half of the parts of a seat that may cancel, for a new one.
     pub(crate) fn split_canceller(&self, seat: &mut Seat) -> Seat
         requires { IsSeatFor Canceller self.now seat.old }
         ensures old { IsSeatWith (with_parts seat.old.me.0 (halved seat.old.me.0.parts)) seat.old seat.new }
@@ -175,6 +176,7 @@ impl<T> Link<T> {
         self.table.shared.split_seat::<CutCanceller>(seat)
     }
 
+    /// Puts a seat that may cancel back into the one that it was taken from, or into another of the same link.
     pub(crate) fn join_canceller(&self, seat: &mut Seat, other: Seat)
         requires seat { IsSeatFor Canceller self.now seat.old }
         requires other { (other.table_id ≡ self.now.table.shared.table_id) × (other.me.0.role ≡ Canceller) × (other.me.1 ≡ []) }

@@ -23,6 +23,7 @@ pub enum BadRequest {
     Settled,
 }
 
+/// What is known of bad requests after an event, and whether the event breaks the rule.
 fn after_bad_request(state: BadRequest, event: Event) -> (BadRequest, Effect)
     ensures state { result.0 ≡ next_answer (is_bad_request event) (is_cancel_or_ending event) (is_ending event) state }
     ensures effect { is_breach result.1 ≡ (is_unanswered state && (is_ending event && not (is_bad_request_error event))) }

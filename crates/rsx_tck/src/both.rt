@@ -14,6 +14,7 @@ pub struct Both<A, B> {
     second: B,
 }
 
+/// A breach, where one of the two is a breach.
 fn either(first: Effect, second: Effect) -> Effect
     ensures { is_breach result ≡ (is_breach first || is_breach second) }
 {

@@ -19,6 +19,7 @@ pub struct NoMoreThanRequested {
     demand: Demand,
 }
 
+/// The demand after an event, and whether the event breaks the rule: an item beyond the demand.
 fn after_demand(demand: Demand, event: Event) -> (Demand, Effect)
     ensures asked { result.0.asked ≡ saturating_total demand.asked (requested event) }
     ensures sent { is_breach result.1 ≡ false → result.0.sent ≡ demand.sent + cond (is_next event) 1 0 }
@@ -63,6 +64,7 @@ pub struct NoMoreAfterCancel {
     cancelled: bool,
 }
 
+/// The demand and the cancel after an event, where requests after the cancel don't count, and whether it breaks the rule.
 fn after_cancel(state: NoMoreAfterCancel, event: Event) -> (NoMoreAfterCancel, Effect)
     ensures asked { result.0.demand.asked ≡ saturating_total state.demand.asked (if state.cancelled then 0 else requested event) }
     ensures sent { is_breach result.1 ≡ false → result.0.demand.sent ≡ state.demand.sent + cond (is_next event) 1 0 }

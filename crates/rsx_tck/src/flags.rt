@@ -49,6 +49,7 @@ pub struct NoneAfter<P, Q> {
     kinds: PhantomData<(P, Q)>,
 }
 
+/// Whether one of the first kind has stood, after an event that is of these kinds, and whether the event breaks the rule.
 fn none_after(stood: bool, kinds: (bool, bool)) -> (bool, Effect)
     ensures state { result.0 ≡ (stood || kinds.0) }
     ensures effect { is_breach result.1 ≡ (stood && kinds.1) }
@@ -95,6 +96,7 @@ pub struct EachAfter<P, Q> {
     kinds: PhantomData<(P, Q)>,
 }
 
+/// Whether one of the first kind has stood, after an event that is of these kinds, and whether the event breaks the rule.
 fn each_after(stood: bool, kinds: (bool, bool)) -> (bool, Effect)
     ensures state { result.0 ≡ (stood || kinds.0) }
     ensures effect { is_breach result.1 ≡ (not stood && kinds.1) }

@@ -18,6 +18,7 @@ use crate::rule::{Rule, Verdict};
 use crate::running::{NoCallInEnding, OneSignalAtATime, SecondRefused};
 use rsx_trace::Stamped;
 
+/// The least subscriber from `from` on, of those so far and one more.
 fn lesser_from(from: u64, subscriber: u32, least: Option<u32>) -> Option<u32>
     ensures { result ≡ least_from from subscriber least }
 {

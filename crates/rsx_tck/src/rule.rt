@@ -121,8 +121,8 @@ impl Rule {
     ghost use Rattle.std.specs.Prelude.{codes};
     ghost use Rattle.rsx_tck.specs.Rule.{all_rules, class_of, text_of};
 
-    /// The rules in the order of a report.
-    pub const ALL: [Rule; 43] = [
+    /// What [`Rule::all`] answers.
+    pub(crate) const ALL: [Rule; 43] = [
         Rule::Rule1_1,
         Rule::Rule1_2,
         Rule::Rule1_3,
@@ -168,7 +168,7 @@ impl Rule {
         Rule::Rule4_2,
     ];
 
-    /// The rules in the order of a report.
+    /// The 43 rules in the order of a report, which is that of their numbers in the standard.
     pub fn all() -> [Rule; 43]
         ensures { result ≡ all_rules }
     {

@@ -21,6 +21,7 @@ pub struct OneSignalAtATime {
     running: Option<u8>,
 }
 
+/// The worker that is inside a signal after an event, and whether the event breaks the rule: a second signal at the same time.
 fn after_signal(running: Option<u8>, stamped: Stamped) -> (Option<u8>, Effect)
     ensures state { result.0 ≡ next_signal (is_signal stamped.event) (is_exit stamped.event) stamped.worker running }
     ensures effect { is_breach result.1 ≡ (is_some running && is_signal stamped.event) }
@@ -64,6 +65,7 @@ pub struct NoCallInEnding {
     ending: Workers,
 }
 
+/// Whether the worker is inside an ending after an event, and whether the event breaks the rule: a call from inside.
 fn within_ending(ending: bool, event: Event) -> (bool, Effect)
     ensures state { result.0 ≡ (is_ending event || (ending && not (is_exit event))) }
     ensures effect { is_breach result.1 ≡ (ending && is_request_or_cancel event) }
@@ -119,6 +121,7 @@ struct OnWorker {
     unrefused: bool,
 }
 
+/// What is known on the worker after an event, and whether the event breaks the rule: an unwanted `onSubscribe` that was left.
 fn within_on_subscribe(state: OnWorker, event: Event) -> (OnWorker, Effect)
     ensures opened { result.0.opened ≡ (state.opened || is_on_subscribe event) }
     ensures settled { result.0.settled ≡ (state.settled || is_cancel_or_ending event) }
