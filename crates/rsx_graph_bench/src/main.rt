@@ -1,11 +1,12 @@
 //! Times graphs through the library, without a script.
 //!
 //! `rsx_graph_bench ITEMS CASE COUNT BUDGET ROUNDS` pumps an expression over the numbers from 1 to COUNT to its end, with
-//! so much of a budget in each call, and does so ROUNDS times. Of more than a million numbers each million has a subscription
-//! of its own. ITEMS is `numbers` (64-bit integers) or `values` (the items
-//! of the demonstration). CASE is `range`; `map` (doubles); `filter` (the even ones of the doubled); `half` (the doubled of
-//! the even ones); `single` (as `filter`, each item asked for and pumped by itself); `buffer` (lists of 10); `scan` (as
-//! many as there are of the totals); `keys3` and `keys` (distinct, with three keys and with a key for each number).
+//! so much of a budget in each call, and does so ROUNDS times. Where COUNT is more than a million, it pumps an expression
+//! over the numbers from 1 on for each million of them, one after the other. ITEMS is `numbers` (64-bit integers) or
+//! `values` (the items of the demonstration). CASE is `range`; `map` (doubles); `filter` (the even ones of the doubled);
+//! `half` (the doubled of the even ones); `single` (as `filter`, each item asked for and pumped by itself); `buffer` (lists
+//! of 10); `scan` (as many as there are of the totals); `keys3` and `keys` (distinct, with three keys and with a key for
+//! each number).
 //!
 //! How many items came and their sum go to standard output, which is the same in every run, and the least time to
 //! standard error.
