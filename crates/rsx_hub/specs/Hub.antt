@@ -9,7 +9,7 @@ use Rattle.rsx_types.specs.declared.signal.Signal.{Signal}
 use Rattle.rsx_types.specs.declared.signal.Signal.TheVariants.{Next, Complete, Error}
 use Rattle.rsx_types.specs.Stream.{Stream}
 use Rattle.rsx_sources.specs.Slot.{is_nil}
-use Rattle.rsx_hub.specs.declared.TheConstants.{LARGEST, MOST_ITEMS, MOST_MEMBERS}
+use Rattle.rsx_hub.specs.declared.TheConstants.{LARGEST, MOST_ACCEPTED, MOST_MEMBERS}
 use Rattle.rsx_hub.specs.declared.refusal.Rejected.{Rejected}
 use Rattle.rsx_hub.specs.declared.refusal.Rejected.TheVariants.{Ended as EndedItem, TooMany as TooManyItems, Full}
 use Rattle.rsx_hub.specs.declared.refusal.HubRefusal.{HubRefusal}
@@ -73,7 +73,7 @@ accepted_items h = h.count + length h.inbox
 
 -- whether it accepts an item
 abbrev pub accepts_items : {T : Type 0} → HubState T → Bool
-accepts_items h = is_open h.ending && (nat_lt (accepted_items h) MOST_ITEMS && nat_lt (length h.inbox) h.capacity)
+accepts_items h = is_open h.ending && (nat_lt (accepted_items h) MOST_ACCEPTED && nat_lt (length h.inbox) h.capacity)
 
 -- the item stands behind the others
 abbrev pub emitted : {T : Type 0} → HubState T → T → HubState T
@@ -82,8 +82,8 @@ emitted h x = record h { inbox = h.inbox ++ x ∷ [] }
 -- the item comes back, for the first of these reasons
 abbrev pub IsRejected : {T : Type 0} → HubState T → T → Rejected T → Type 0
 IsRejected h x (EndedItem y) = (y ≡ x) × (is_open h.ending ≡ false)
-IsRejected h x (TooManyItems y) = (y ≡ x) × (is_open h.ending ≡ true) × (MOST_ITEMS ≤ accepted_items h)
-IsRejected h x (Full y) = (y ≡ x) × (is_open h.ending ≡ true) × (accepted_items h < MOST_ITEMS) × (h.capacity ≤ length h.inbox)
+IsRejected h x (TooManyItems y) = (y ≡ x) × (is_open h.ending ≡ true) × (MOST_ACCEPTED ≤ accepted_items h)
+IsRejected h x (Full y) = (y ≡ x) × (is_open h.ending ≡ true) × (accepted_items h < MOST_ACCEPTED) × (h.capacity ≤ length h.inbox)
 
 -- its emitter ended
 abbrev pub ended_with : {T : Type 0} → HubState T → Ending → HubState T
@@ -114,13 +114,13 @@ items_of (Error c) = 0
 
 -- whether it takes this signal in from a feed
 abbrev pub takes_signal : {T : Type 0} → HubState T → Signal T → Bool
-takes_signal h s = is_open h.ending && (is_nil h.inbox && nat_le (h.count + items_of s) MOST_ITEMS)
+takes_signal h s = is_open h.ending && (is_nil h.inbox && nat_le (h.count + items_of s) MOST_ACCEPTED)
 
 -- why it doesn't
 abbrev pub IsNotTakenIn : {T : Type 0} → HubState T → Signal T → TakeInRefusal → Type 0
 IsNotTakenIn h s HubEnded = is_open h.ending ≡ false
 IsNotTakenIn h s Waiting = (is_open h.ending ≡ true) × (0 < length h.inbox)
-IsNotTakenIn h s TooManySignals = (is_open h.ending ≡ true) × (h.inbox ≡ []) × (MOST_ITEMS < h.count + items_of s)
+IsNotTakenIn h s TooManySignals = (is_open h.ending ≡ true) × (h.inbox ≡ []) × (MOST_ACCEPTED < h.count + items_of s)
 IsNotTakenIn h s TakeInNoMemory = (takes_signal h s ≡ true) × (items_of s ≡ 1)
 
 -- ---- its value
@@ -155,7 +155,7 @@ pub record IsHub {T : Type 0} (h : HubState T) : Type 0 where
   pub positive : 1 ≤ h.capacity
   pub within : h.capacity ≤ LARGEST
   pub replays : replayed h.kind ≤ LARGEST
-  pub few_items : accepted_items h ≤ MOST_ITEMS
+  pub few_items : accepted_items h ≤ MOST_ACCEPTED
   pub few_members : h.members ≤ MOST_MEMBERS
   pub few_kept : length h.kept ≤ replayed h.kind
   pub all_taken : h.has_ended ≡ true → (h.inbox ≡ []) × (is_open h.ending ≡ false)

@@ -5,7 +5,7 @@ use Rattle.rsx_types.specs.declared.signal.Ending.TheVariants.{Open, Done, Faile
 use Rattle.rsx_types.specs.declared.signal.Signal.{Signal}
 use Rattle.rsx_types.specs.declared.signal.Signal.TheVariants.{Next, Complete, Error}
 use Rattle.rsx_types.specs.Stream.{Stream, ended_by, items_then}
-use Rattle.rsx_hub.specs.declared.TheConstants.{MOST_ITEMS}
+use Rattle.rsx_hub.specs.declared.TheConstants.{MOST_ACCEPTED}
 use Rattle.rsx_hub.specs.Hub.{HubState, replayed}
 use Rattle.rsx_hub.specs.Waiting.{is_open, first_waiting}
 
@@ -63,7 +63,7 @@ is_reading false e = is_open e
 
 -- whether it takes in an item
 abbrev pub takes_items : {T : Type 0} → MemberState T → Bool
-takes_items m = is_reading m.gone m.ending && (nat_lt (length m.queue) m.capacity && nat_lt m.reached MOST_ITEMS)
+takes_items m = is_reading m.gone m.ending && (nat_lt (length m.queue) m.capacity && nat_lt m.reached MOST_ACCEPTED)
 
 -- whether it takes in this signal: an ending needs no room
 abbrev pub takes : {T : Type 0} → MemberState T → Signal T → Bool
@@ -102,7 +102,7 @@ left m = record m { queue = []; gone = true }
 pub record IsMember {T : Type 0} (m : MemberState T) : Type 0 where
   pub fits : length m.queue ≤ m.places
   pub stored : m.capacity ≤ m.places
-  pub few : m.reached ≤ MOST_ITEMS
+  pub few : m.reached ≤ MOST_ACCEPTED
   pub nothing_waits : m.gone ≡ true → m.queue ≡ []
 
 -- the second is the first without the signal that it offered

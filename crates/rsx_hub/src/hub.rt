@@ -10,11 +10,11 @@ ghost use Rattle.rsx_hub.specs.Hub as spec;
 ghost use Rattle.rsx_hub.specs.Hub.{replayed, fresh_hub, IsNotMade, accepts_items, emitted, IsRejected, ended_with, waiting, taken_in, accepted, takes_signal, IsNotTakenIn, HasTakenIn, BeginsWith, IsNotAdmitted, with_members};
 ghost use Rattle.rsx_hub.specs.Member.{fresh_member, rest, without};
 ghost use Rattle.rsx_hub.specs.Waiting.{is_open};
-ghost use Rattle.rsx_hub.specs.declared.TheConstants.{MOST_ITEMS, MOST_MEMBERS};
+ghost use Rattle.rsx_hub.specs.declared.TheConstants.{MOST_ACCEPTED, MOST_MEMBERS};
 
 use crate::member::Member;
 use crate::refusal::{AdmitRefusal, HasEnded, HubRefusal, Rejected, TakeInRefusal};
-use crate::{LARGEST, MOST_ITEMS, MOST_MEMBERS, ending};
+use crate::{LARGEST, MOST_ACCEPTED, MOST_MEMBERS, ending};
 use circular_buffer::HeapCircularBuffer;
 use rsx_sources::Front;
 use rsx_types::{Cause, Ending, HubKind, NoMemory, Ops, Signal};
@@ -116,7 +116,7 @@ impl<T: Drop> Hub<T> {
         if !ending::is_open(self.ending) {
             return Err(Rejected::Ended(item));
         }
-        if self.count + self.len() >= MOST_ITEMS {
+        if self.count + self.len() >= MOST_ACCEPTED {
             return Err(Rejected::TooMany(item));
         }
         if self.len() >= self.capacity {
@@ -242,7 +242,7 @@ impl<T: Drop> Hub<T> {
 
     /// Counts an item, and keeps its copy.
     fn keep(&mut self, copy: Option<T>)
-        requires { self.old.count + length self.old.inbox < MOST_ITEMS }
+        requires { self.old.count + length self.old.inbox < MOST_ACCEPTED }
         ensures { (item : T) → copy ≡ (if nat_eq (replayed self.old.kind) 0 then None else Some item) → self.new ≡ taken_in self.old (Next item) }
     {
         self.count += 1;
@@ -313,14 +313,14 @@ impl<T: Drop> Hub<T> {
         item: &T,
     ) -> Result<(), TakeInRefusal>
         requires { self.old.inbox ≡ [] }
-        ensures enabled { OnOk result (self.old.count < MOST_ITEMS) }
+        ensures enabled { OnOk result (self.old.count < MOST_ACCEPTED) }
         ensures ok { OnOk result (self.new ≡ taken_in self.old (Next item.now)) }
-        ensures err { IfErr result (λ e. (e ≡ TakeInRefusal.TooMany × MOST_ITEMS ≤ self.old.count) ⊎ (e ≡ TakeInRefusal.NoMemory × self.old.count < MOST_ITEMS)) }
+        ensures err { IfErr result (λ e. (e ≡ TakeInRefusal.TooMany × MOST_ACCEPTED ≤ self.old.count) ⊎ (e ≡ TakeInRefusal.NoMemory × self.old.count < MOST_ACCEPTED)) }
         ensures same { OnErr result (self.new ≡ self.old) }
         ensures allocates { (O.allocates ops.now).copied ≡ false → IfErr result (λ e. e ≢ TakeInRefusal.NoMemory) }
         ensures multicast { replayed self.old.kind ≡ 0 → IfErr result (λ e. e ≢ TakeInRefusal.NoMemory) }
     {
-        if self.count >= MOST_ITEMS {
+        if self.count >= MOST_ACCEPTED {
             return Err(TakeInRefusal::TooMany);
         }
         let copy = self.kept_copy(alloc, ops, item)?;

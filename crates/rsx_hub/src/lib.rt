@@ -30,7 +30,7 @@ pub use refusal::{AdmitRefusal, HasEnded, HubRefusal, Rejected, TakeInRefusal};
 pub const LARGEST: u64 = 1_024;
 
 /// How many items a hub accepts in its life, 2^63 - 1.
-pub const MOST_ITEMS: u64 = 9_223_372_036_854_775_807;
+pub const MOST_ACCEPTED: u64 = 9_223_372_036_854_775_807;
 
 /// How many members a hub has in its life.
 pub const MOST_MEMBERS: u64 = 64;

@@ -5,9 +5,9 @@ ghost use Rattle.rsx_types.specs.Stream.{Stream, signal_then};
 ghost use Rattle.rsx_types.specs.declared.signal.Ending.TheVariants.{Open};
 ghost use Rattle.rsx_sources.specs.Machine.{front_of};
 ghost use Rattle.rsx_hub.specs.Member.{MemberState, rest, is_reading, takes_items, takes, took, IsNextAt, offered, given, left, IsGiven};
-ghost use Rattle.rsx_hub.specs.declared.TheConstants.{LARGEST, MOST_ITEMS};
+ghost use Rattle.rsx_hub.specs.declared.TheConstants.{LARGEST, MOST_ACCEPTED};
 
-use crate::{MOST_ITEMS, ending};
+use crate::{MOST_ACCEPTED, ending};
 use circular_buffer::HeapCircularBuffer;
 use rsx_sources::Front;
 use rsx_types::{Ending, NoMemory, Signal};
@@ -48,7 +48,7 @@ impl<T: Drop> Member<T> {
         replayed: u64,
         reached: u64,
     ) -> Result<Member<T>, NoMemory>
-        requires { reached ≤ MOST_ITEMS }
+        requires { reached ≤ MOST_ACCEPTED }
         ensures { IfOk result (λ m. m ≡ record { queue = []; ending = Open; gone = false; reached = reached; capacity = capacity; places = max capacity replayed }) }
     {
         let queue = HeapCircularBuffer::with_capacity(alloc, capacity.max(replayed) as usize)?;
@@ -88,7 +88,7 @@ impl<T: Drop> Member<T> {
     pub fn can_take_in(&self) -> bool
         ensures { result ≡ takes_items self.now }
     {
-        self.is_reading() && (self.queue.len() as u64) < self.capacity && self.reached < MOST_ITEMS
+        self.is_reading() && (self.queue.len() as u64) < self.capacity && self.reached < MOST_ACCEPTED
     }
 
     /// Takes in a signal of the hub: an item where [`Member::can_take_in`], an ending where it has not left and none was
@@ -210,7 +210,7 @@ impl<T: Drop> Member<T> {
     /// How far into the hub's value it got: how many of its items it took in or missed, counted from the hub's first.
     pub fn reached(&self) -> u64
         ensures reached { result ≡ self.now.reached }
-        ensures within { result ≤ MOST_ITEMS }
+        ensures within { result ≤ MOST_ACCEPTED }
     {
         self.reached
     }

@@ -210,7 +210,6 @@ impl<T: Drop> Part<T> {
         ensures effect { OnOk result (IsAsk self.old at self.new) }
         ensures root { self.new.root ≡ self.old.root }
         ensures enabled { OnOk result (ask_enabled self.old at ≡ true) }
-        ensures alike { IsAlike self.old.tree self.new.tree }
         ensures err { IfErr result (λ e. (e ≡ NotMade.NotEnabled) × (ask_enabled self.old at ≡ false)) }
         ensures same { OnErr result (self.new ≡ self.old) }
     {
@@ -238,7 +237,6 @@ impl<T: Drop> Part<T> {
         ensures alike { IsAlike self.old.tree self.new.tree }
         ensures root { self.new.root ≡ self.old.root }
         ensures enabled { OnOk result (can_send (O.meaning ops.now) self.old.tree at ≡ true) }
-        ensures alike { IsAlike self.old.tree self.new.tree }
         ensures err { IfErr result (IsNotMade (can_send (O.meaning ops.now) self.old.tree at)) }
         ensures memory { send_allocates (O.allocates ops.now) self.old.tree at ≡ false → IfErr result (λ e. e ≡ NotMade.NotEnabled) }
         ensures same { OnErr result (self.new ≡ self.old) }
@@ -463,16 +461,16 @@ impl<T: Drop> Part<T> {
         if self.can_send_root(out) {
             return false;
         }
-        if !self
+        if self
             .tree
             .is_idle(self.root.demand.asked, self.root.demand.sent)
         {
-            return false;
+            return match self.tree.first_step(&self.root) {
+                Some(_) => false,
+                None => true,
+            };
         }
-        match self.tree.first_step(&self.root) {
-            Some(step) => false,
-            None => true,
-        }
+        false
     }
 
     /// Whether no move is enabled.

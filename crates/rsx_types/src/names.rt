@@ -26,7 +26,7 @@ pub enum Tree {
 pub enum HubKind {
     /// Nothing of what the hub took in before.
     Multicast,
-    /// The last items that the hub took in before, at most this many: 0 to 1,024.
+    /// The last items that the hub took in before, at most this many: 1 to 1,024.
     Replay(u64),
 }
 
