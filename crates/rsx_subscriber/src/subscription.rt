@@ -268,6 +268,7 @@ impl<T: Drop> Subscription<T> {
         ensures pumped { (m : Meaning T) → (n : ℕ) × Spent budget n result × IsPumped m id n self.old out.old.signals self.new out.new.signals }
         ensures none { IfOk result (λ left. left ≡ budget → self.new ≡ self.old) }
         ensures rest { IfOk result (λ left. 0 < left → take_enabled self.new 0 ≡ false) }
+        ensures full { OnErr result (IsFull out.new) }
     {
         for made in 0..budget {
             match self.advance_queue(id, out) {
