@@ -88,7 +88,9 @@ impl<T: Drop> Member<T> {
     pub fn can_take_in(&self) -> bool
         ensures { result ≡ takes_items self.now }
     {
-        self.is_reading() && (self.queue.len() as u64) < self.capacity && self.reached < MOST_ACCEPTED
+        self.is_reading()
+            && (self.queue.len() as u64) < self.capacity
+            && self.reached < MOST_ACCEPTED
     }
 
     /// Takes in a signal of the hub: an item where [`Member::can_take_in`], an ending where it has not left and none was
