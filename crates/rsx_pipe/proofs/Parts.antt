@@ -4,7 +4,6 @@ use Rattle.std.proofs.lemmas.Bool.Decides.{nat_tests}
 use Rattle.std.proofs.lemmas.List.{append-nil, take_all}
 use Rattle.rsx_model.specs.declared.check.TheConstants.{MOST_NODES}
 use Rattle.rsx_types.specs.declared.limits.TheConstants.{CAPACITY}
-use Rattle.rsx_demand.specs.Demand.{saturating_total}
 use Rattle.rsx_model.specs.declared.expr.Expr.{Expr}
 use Rattle.rsx_types.specs.Meaning.{Meaning, Allocates}
 use Rattle.rsx_types.specs.Notes.{unchosen, notes_then}

@@ -31,8 +31,7 @@ use Rattle.rsx_types.specs.Meaning.{Meaning}
 use Rattle.rsx_types.specs.Notes.{notes_then, unchosen}
 use Rattle.rsx_types.specs.Stream.{Stream, signals, signals_then}
 use Rattle.rsx_types.specs.declared.names.HubId.{HubId}
-use Rattle.rsx_types.specs.declared.names.Move.{Move}
-use Rattle.rsx_types.specs.declared.names.Move.TheVariants.{Ask, Send, Take}
+use Rattle.rsx_types.specs.declared.names.Move.TheVariants.{Ask, Send}
 use Rattle.rsx_tree.specs.Chosen as Chosen
 use Rattle.rsx_tree.specs.declared.look.NodeMove.{NodeMove}
 use Rattle.rsx_tree.specs.declared.look.NodeMove.TheVariants.{Ask, Send, Pick, Row}

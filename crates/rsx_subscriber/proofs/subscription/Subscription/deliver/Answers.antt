@@ -1,4 +1,4 @@
-use Rattle.std.proofs.Common.{◌+◌, arith}
+use Rattle.std.proofs.Common.{arith}
 use Rattle.rsx_subscriber.proofs.Moves.{pumped_none}
 use Rattle.rsx_subscriber.proofs.subscription.Subscription.deliver.Goals as goal
 
