@@ -22,11 +22,11 @@ const K: Event = Event::Cancel(0);
 
 const W: Event = Event::CancelNew(0);
 
-const R0: Event = Event::Request(0, 0);
+const Q0: Event = Event::Request(0, 0);
 
-const R1: Event = Event::Request(0, 1);
+const Q1: Event = Event::Request(0, 1);
 
-const R2: Event = Event::Request(0, 2);
+const Q2: Event = Event::Request(0, 2);
 
 /// These events on worker 0.
 fn trace_of(alloc: Global, events: &[Event]) -> Result<Vec<Stamped>, AllocError> {
@@ -42,17 +42,17 @@ fn trace_of(alloc: Global, events: &[Event]) -> Result<Vec<Stamped>, AllocError>
 
 /// Peers that break one rule each: their events, the rule, and the position where it is broken.
 const BROKEN: [(&[Event], Rule, u64); 12] = [
-    (&[S, O, X, R1, N, X, N, X], Rule::Rule1_1, 6),
-    (&[S, O, X, R2, N, N, X, X], Rule::Rule1_3, 5),
+    (&[S, O, X, Q1, N, X, N, X], Rule::Rule1_1, 6),
+    (&[S, O, X, Q2, N, N, X, X], Rule::Rule1_3, 5),
     (&[S, O, X, C, X, C, X], Rule::Rule1_7, 5),
-    (&[S, R1, N, X], Rule::Rule1_9, 2),
+    (&[S, Q1, N, X], Rule::Rule1_9, 2),
     (&[S, O, X, S], Rule::Rule1_10, 3),
     (&[S, O, X, N, X], Rule::Rule2_1, 3),
-    (&[S, O, X, C, R1, X], Rule::Rule2_3, 4),
+    (&[S, O, X, C, Q1, X], Rule::Rule2_3, 4),
     (&[S, O, X, O, X], Rule::Rule2_5, 4),
     (&[S, O, X, O, W, X], Rule::Rule2_12, 3),
-    (&[S, O, X, R1, K, R1, N, X, N, X], Rule::Rule3_6, 8),
-    (&[S, O, X, R0, C, X], Rule::Rule3_9, 4),
+    (&[S, O, X, Q1, K, Q1, N, X, N, X], Rule::Rule3_6, 8),
+    (&[S, O, X, Q0, C, X], Rule::Rule3_9, 4),
     (&[S, O, X, E, X], Rule::Rule3_17, 3),
 ];
 
@@ -80,7 +80,7 @@ fn reports(rt: HostRuntime) -> Result<(), Fail> {
         };
         assert_eq!(rt; verdict, want, "{rule}");
     }
-    let trace = trace_of(rt.alloc(), &[S, O, X, R2, N, X, R1, N, X, N, X, C, X])?;
+    let trace = trace_of(rt.alloc(), &[S, O, X, Q2, N, X, Q1, N, X, N, X, C, X])?;
     for (rule, verdict) in report(&trace) {
         assert!(rt; !matches!(verdict, Verdict::Broken(_)), "{rule} {verdict}");
     }
