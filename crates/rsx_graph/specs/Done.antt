@@ -1,13 +1,11 @@
 -- What each step of a graph did, by its answer.
-use Rattle.std.specs.Prelude.{◌≡◌, ◌≢◌, ◌≤◌, ◌<◌, true, false, List, [], ◌∷◌, length, None}
-use Rattle.rsx_model.specs.Check.{refusal}
+use Rattle.std.specs.Prelude.{◌≡◌, ◌≢◌, ◌≤◌, true, false, List, [], ◌∷◌, length}
 use Rattle.rsx_types.specs.Meaning.{Meaning, Allocates}
 use Rattle.rsx_subscriber.specs.Stands.{IsMadeAnswer}
 use Rattle.rsx_subscriber.specs.declared.subscription.Subscription.{Subscription}
 use Rattle.rsx_graph.specs.Begun.{IsSubscribed}
-use Rattle.rsx_graph.specs.History.{IsSubscribeRefusal, IsMakeRefusal, tree_of}
+use Rattle.rsx_graph.specs.History.{IsSubscribeId, IsSubscribeRefusal, IsMakeRefusal, tree_of}
 use Rattle.rsx_graph.specs.Stands.{IsMade, IsRequestedAt, IsCancelledAt, enabled_in_tree, allocates_in_tree}
-use Rattle.rsx_graph.specs.declared.graph.TheConstants.{MOST_SUBSCRIPTIONS}
 use Rattle.rsx_graph.specs.declared.refusal.Refusal.TheVariants.{UnknownSub, NoMemory}
 use Rattle.rsx_graph.specs.declared.step.Answer.{Answer}
 use Rattle.rsx_graph.specs.declared.step.Answer.TheVariants.{Subscribed, Requested, Cancelled as CancelTaken, Made, Refused as NotDone}
@@ -17,7 +15,7 @@ use Rattle.rsx_graph.specs.declared.step.Step.TheVariants.{Subscribe, Request, C
 -- what a step did: the subscriptions after it from those before it, by the answer. A refused step left all as it was, and
 -- each refusal comes in its case
 abbrev pub IsDone : {T : Type 0} → Meaning T → Allocates → List (Subscription T) → Step T → Answer T → List (Subscription T) → Type 0
-IsDone m a old (Subscribe e) (Subscribed i) new = (i.0 ≡ length old) × (refusal 0 e ≡ None) × (length old < MOST_SUBSCRIPTIONS) × IsSubscribed e old new
+IsDone m a old (Subscribe e) (Subscribed i) new = IsSubscribeId (length old) e i × IsSubscribed e old new
 IsDone m a old (Subscribe e) (NotDone r) new = IsSubscribeRefusal (length old) e r × (new ≡ old)
 IsDone m a old (Request i n) (Requested o) new = IsRequestedAt i.0 n old new o
 IsDone m a old (Request i n) (NotDone r) new = (r ≡ UnknownSub) × (length old ≤ i.0) × (new ≡ old)

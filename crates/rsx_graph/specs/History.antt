@@ -72,6 +72,10 @@ state_at [] i = None
 state_at (p ∷ ps) zero = Some p.state
 state_at (p ∷ ps) (suc i) = state_at ps i
 
+-- the number of a new subscription is how many there were, and nothing refused it: neither the expression nor the limit
+abbrev pub IsSubscribeId : {T : Type 0} → ℕ → Expr T → SubId → Type 0
+IsSubscribeId count e i = (i.0 ≡ count) × (refusal 0 e ≡ None) × (count < MOST_SUBSCRIPTIONS)
+
 -- why a subscription is refused: the expression first, then the limit, and memory last
 abbrev pub IsSubscribeRefusal : {T : Type 0} → ℕ → Expr T → Refusal → Type 0
 IsSubscribeRefusal count e (BadExpr k) = refusal 0 e ≡ Some k
@@ -92,7 +96,7 @@ IsMakeRefusal count enabled (Sub i) _ = ⊥
 
 -- an answer that belongs to a step after this history: its names are those of the history, and a refusal comes in its case
 abbrev pub Belongs : {T : Type 0} → History T → Step T → Answer T → Type 0
-Belongs h (Subscribe e) (Subscribed i) = (i.0 ≡ length h.pasts) × (refusal 0 e ≡ None) × (length h.pasts < MOST_SUBSCRIPTIONS)
+Belongs h (Subscribe e) (Subscribed i) = IsSubscribeId (length h.pasts) e i
 Belongs h (Subscribe e) (NotDone r) = IsSubscribeRefusal (length h.pasts) e r
 Belongs h (Request i n) (Requested o) = (s : SubscriptionState) × (state_at h.pasts i.0 ≡ Some s) × (o ≡ request_answer s n)
 Belongs h (Request i n) (NotDone r) = (r ≡ UnknownSub) × (length h.pasts ≤ i.0)

@@ -1,16 +1,13 @@
 //! A graph of subscriptions.
 
 ghost use Rattle.std.specs.Prelude.{◌≡◌, ◌≢◌, ℕ, ◌+◌, ◌<◌, ◌≤◌, ◌++◌, ◌∷◌, [], length, OnOk, OnErr, IfOk, IfErr, IsOk, None, Some, true, false};
-ghost use Rattle.rsx_model.specs.Check.{refusal};
 ghost use Rattle.rsx_subscriber.specs.Delivered.{IsFull};
 ghost use Rattle.rsx_subscriber.specs.Past.{given, cancelled, requested};
 ghost use Rattle.rsx_subscriber.specs.Stands.{IsInside, IsMadeAnswer};
-ghost use Rattle.rsx_graph.specs.History.{History, no_history, with_subscriber, with_past, with_made, extended, all_extended, IsSubscribeRefusal, IsMakeRefusal, Belongs, AllBelong, HasAsked, state_at, IsLookRefusal, IsTreeRefusal, IsKnownTree, tree_of};
-ghost use Rattle.rsx_graph.specs.Done.{IsDone, AllDone};
-ghost use Rattle.rsx_graph.specs.Stands.{StandsFor, IsRequestedAt, IsCancelledAt, IsOwed, HasNotes, HasNotesAt, IsMade, IsMadeAt, allocates_at, allocates_in_tree, pump_allocates, enabled_in_tree, enabled_at};
+ghost use Rattle.rsx_graph.specs.History.{no_history, with_subscriber, with_past, with_made, extended, all_extended, IsSubscribeId, IsSubscribeRefusal, Belongs, AllBelong, HasAsked, state_at, IsLookRefusal, IsTreeRefusal, IsKnownTree, tree_of};
+ghost use Rattle.rsx_graph.specs.Stands.{StandsFor, IsRequestedAt, IsCancelledAt, IsOwed, HasNotes, HasNotesAt, pump_allocates};
 ghost use Rattle.rsx_graph.specs.Begun.{IsSubscribed};
-ghost use Rattle.rsx_graph.specs.Served.{AllServed};
-ghost use Rattle.rsx_graph.specs.Pumped.{AllPumped, HasEnded, HasRestedAt};
+ghost use Rattle.rsx_graph.specs.Served.{IsAllServed};
 ghost use Rattle.rsx_graph.specs.declared.graph.TheConstants.{MOST_SUBSCRIPTIONS};
 
 use crate::refusal::Refusal;
@@ -36,6 +33,8 @@ pub struct Graph<O: Ops> {
 }
 
 impl<O: Ops> Graph<O> {
+    ghost use Rattle.rsx_graph.specs.InGraph.{IfStandsFor, StandsAfter, enabled_in, allocates_in, IsMadeIn, IsRefusedIn, IsPumpedIn, IsPumpedAt, IsDoneIn, AllDoneIn};
+
     /// A graph with no subscription. It takes no memory so far, and is never refused.
     pub fn new(alloc: Global, ops: O) -> Result<Graph<O>, Refusal>
         ensures made { IsOk result }
@@ -57,9 +56,9 @@ impl<O: Ops> Graph<O> {
     /// [`MOST_SUBSCRIPTIONS`], else G8 where a growth was refused; nothing changed.
     pub fn subscribe(&mut self, alloc: Global, expr: &Expr<O::Item>) -> Result<SubId, Refusal>
         ensures ops { self.new.ops ≡ self.old.ops }
-        ensures stands { OnOk result ((h : History O.Item) → StandsFor (O.meaning self.old.ops) self.old.subscriptions.items h → StandsFor (O.meaning self.old.ops) self.new.subscriptions.items (with_subscriber expr.now h)) }
+        ensures stands { OnOk result (StandsAfter (with_subscriber expr.now) self.old self.new) }
         ensures effect { OnOk result (IsSubscribed expr.now self.old.subscriptions.items self.new.subscriptions.items) }
-        ensures id { IfOk result (λ id. (id.0 ≡ length self.old.subscriptions.items) × (refusal 0 expr.now ≡ None) × (length self.old.subscriptions.items < MOST_SUBSCRIPTIONS)) }
+        ensures id { IfOk result (λ id. IsSubscribeId (length self.old.subscriptions.items) expr.now id) }
         ensures err { IfErr result (λ r. IsSubscribeRefusal (length self.old.subscriptions.items) expr.now r) }
         ensures same { OnErr result (self.new.subscriptions.items ≡ self.old.subscriptions.items) }
     {
@@ -87,7 +86,7 @@ impl<O: Ops> Graph<O> {
     /// G2 exactly where there is no such subscription; nothing changed.
     pub fn cancel(&mut self, sub: SubId) -> Result<(), Refusal>
         ensures ops { self.new.ops ≡ self.old.ops }
-        ensures stands { OnOk result ((h : History O.Item) → StandsFor (O.meaning self.old.ops) self.old.subscriptions.items h → StandsFor (O.meaning self.old.ops) self.new.subscriptions.items (with_past cancelled sub h)) }
+        ensures stands { OnOk result (StandsAfter (with_past cancelled sub) self.old self.new) }
         ensures effect { OnOk result (IsCancelledAt sub.0 self.old.subscriptions.items self.new.subscriptions.items) }
         ensures known { OnOk result (sub.0 < length self.old.subscriptions.items) }
         ensures err { IfErr result (λ r. (r ≡ Refusal.UnknownSub) × (length self.old.subscriptions.items ≤ sub.0)) }
@@ -109,7 +108,7 @@ impl<O: Ops> Graph<O> {
     /// G2 exactly where there is no such subscription; nothing changed.
     pub fn request(&mut self, sub: SubId, n: i64) -> Result<Option<Signal<O::Item>>, Refusal>
         ensures ops { self.new.ops ≡ self.old.ops }
-        ensures stands { OnOk result ((h : History O.Item) → StandsFor (O.meaning self.old.ops) self.old.subscriptions.items h → StandsFor (O.meaning self.old.ops) self.new.subscriptions.items (with_past (requested n) sub h)) }
+        ensures stands { OnOk result (StandsAfter (with_past (requested n) sub) self.old self.new) }
         ensures effect { IfOk result (λ o. IsRequestedAt sub.0 n self.old.subscriptions.items self.new.subscriptions.items o) }
         ensures err { IfErr result (λ r. (r ≡ Refusal.UnknownSub) × (length self.old.subscriptions.items ≤ sub.0)) }
         ensures same { OnErr result (self.new.subscriptions.items ≡ self.old.subscriptions.items) }
@@ -134,14 +133,14 @@ impl<O: Ops> Graph<O> {
         step: Move,
     ) -> Result<Option<(SubId, Signal<O::Item>)>, Refusal>
         ensures ops { self.new.ops ≡ self.old.ops }
-        ensures stands { IfOk result (λ o. (h : History O.Item) → StandsFor (O.meaning self.old.ops) self.old.subscriptions.items h → StandsFor (O.meaning self.old.ops) self.new.subscriptions.items (with_made o h)) }
+        ensures stands { IfOk result (λ o. StandsAfter (with_made o) self.old self.new) }
         ensures answer { IfOk result (λ o. IsMadeAnswer step o) }
-        ensures enabled { OnOk result (enabled_in_tree (O.meaning self.old.ops) self.old.subscriptions.items (tree_of step) step ≡ true) }
-        ensures effect { IfOk result (λ o. IsMade (O.meaning self.old.ops) step (tree_of step) self.old.subscriptions.items self.new.subscriptions.items o) }
-        ensures err { IfErr result (λ r. IsMakeRefusal (length self.old.subscriptions.items) (enabled_in_tree (O.meaning self.old.ops) self.old.subscriptions.items (tree_of step) step) (tree_of step) r) }
+        ensures enabled { OnOk result (enabled_in self.old (tree_of step) step ≡ true) }
+        ensures effect { IfOk result (λ o. IsMadeIn (tree_of step) step self.old self.new o) }
+        ensures err { IfErr result (λ r. IsRefusedIn (tree_of step) step self.old r) }
 
         // An enabled move that takes no memory is made.
-        ensures memory { allocates_in_tree (O.allocates self.old.ops) self.old.subscriptions.items (tree_of step) step ≡ false → IfErr result (λ r. r ≢ Refusal.NoMemory) }
+        ensures memory { allocates_in self.old (tree_of step) step ≡ false → IfErr result (λ r. r ≢ Refusal.NoMemory) }
         ensures same { OnErr result (self.new.subscriptions.items ≡ self.old.subscriptions.items) }
     {
         match step {
@@ -165,11 +164,11 @@ impl<O: Ops> Graph<O> {
     fn make_inside(&mut self, alloc: Global, sub: SubId, step: Move) -> Result<(), Refusal>
         requires { IsInside step }
         ensures ops { self.new.ops ≡ self.old.ops }
-        ensures stands { OnOk result ((h : History O.Item) → StandsFor (O.meaning self.old.ops) self.old.subscriptions.items h → StandsFor (O.meaning self.old.ops) self.new.subscriptions.items h) }
-        ensures enabled { OnOk result (enabled_at (O.meaning self.old.ops) self.old.subscriptions.items sub.0 step ≡ true) }
-        ensures effect { OnOk result (IsMadeAt (O.meaning self.old.ops) step sub.0 self.old.subscriptions.items self.new.subscriptions.items None) }
-        ensures err { IfErr result (λ r. IsMakeRefusal (length self.old.subscriptions.items) (enabled_at (O.meaning self.old.ops) self.old.subscriptions.items sub.0 step) (Tree.Sub sub) r) }
-        ensures memory { allocates_at (O.allocates self.old.ops) self.old.subscriptions.items sub.0 step ≡ false → IfErr result (λ r. r ≢ Refusal.NoMemory) }
+        ensures stands { OnOk result (StandsAfter (λ h. h) self.old self.new) }
+        ensures enabled { OnOk result (enabled_in self.old (Tree.Sub sub) step ≡ true) }
+        ensures effect { OnOk result (IsMadeIn (Tree.Sub sub) step self.old self.new None) }
+        ensures err { IfErr result (λ r. IsRefusedIn (Tree.Sub sub) step self.old r) }
+        ensures memory { allocates_in self.old (Tree.Sub sub) step ≡ false → IfErr result (λ r. r ≢ Refusal.NoMemory) }
         ensures same { OnErr result (self.new.subscriptions.items ≡ self.old.subscriptions.items) }
     {
         let at = sub.0 as usize;
@@ -188,10 +187,10 @@ impl<O: Ops> Graph<O> {
     /// Makes the Take from the queue of a subscription.
     fn make_take(&mut self, sub: SubId, node: NodeId) -> Result<Signal<O::Item>, Refusal>
         ensures ops { self.new.ops ≡ self.old.ops }
-        ensures stands { IfOk result (λ s. (h : History O.Item) → StandsFor (O.meaning self.old.ops) self.old.subscriptions.items h → StandsFor (O.meaning self.old.ops) self.new.subscriptions.items (with_past (given s) sub h)) }
-        ensures enabled { OnOk result (enabled_at (O.meaning self.old.ops) self.old.subscriptions.items sub.0 (Move.Take (Tree.Sub sub) node) ≡ true) }
-        ensures effect { IfOk result (λ s. IsMadeAt (O.meaning self.old.ops) (Move.Take (Tree.Sub sub) node) sub.0 self.old.subscriptions.items self.new.subscriptions.items (Some (sub, s))) }
-        ensures err { IfErr result (λ r. IsMakeRefusal (length self.old.subscriptions.items) (enabled_at (O.meaning self.old.ops) self.old.subscriptions.items sub.0 (Move.Take (Tree.Sub sub) node)) (Tree.Sub sub) r) }
+        ensures stands { IfOk result (λ s. StandsAfter (with_past (given s) sub) self.old self.new) }
+        ensures enabled { OnOk result (enabled_in self.old (Tree.Sub sub) (Move.Take (Tree.Sub sub) node) ≡ true) }
+        ensures effect { IfOk result (λ s. IsMadeIn (Tree.Sub sub) (Move.Take (Tree.Sub sub) node) self.old self.new (Some (sub, s))) }
+        ensures err { IfErr result (λ r. IsRefusedIn (Tree.Sub sub) (Move.Take (Tree.Sub sub) node) self.old r) }
         ensures memory { IfErr result (λ r. r ≢ Refusal.NoMemory) }
         ensures same { OnErr result (self.new.subscriptions.items ≡ self.old.subscriptions.items) }
     {
@@ -220,10 +219,10 @@ impl<O: Ops> Graph<O> {
         out: &mut Deliveries<O::Item>,
     ) -> Result<Pumped, Refusal>
         ensures ops { self.new.ops ≡ self.old.ops }
-        ensures pumped { (n : ℕ) × HasEnded (O.meaning self.old.ops) budget n self.new.subscriptions.items result × AllPumped (O.meaning self.old.ops) n self.old.subscriptions.items out.old.signals self.new.subscriptions.items out.new.signals }
+        ensures pumped { IsPumpedIn budget self.old out.old result self.new out.new }
 
         // Idle means delivered.
-        ensures served { IfOk result (λ p. p ≡ Pumped.Idle → (h : History O.Item) → StandsFor (O.meaning self.old.ops) self.new.subscriptions.items h → AllServed (O.meaning self.old.ops) h.published self.new.subscriptions.items h.pasts) }
+        ensures served { IfOk result (λ p. p ≡ Pumped.Idle → IsAllServed (O.meaning self.old.ops) self.new.subscriptions.items) }
 
         // Where no move may allocate, there is want of memory only for the list of deliveries.
         ensures memory { pump_allocates (O.allocates self.old.ops) self.old.subscriptions.items ≡ false → OnErr result (IsFull out.new) }
@@ -251,7 +250,7 @@ impl<O: Ops> Graph<O> {
         requires { sub.0 < length self.old.subscriptions.items }
         ensures ops { self.new.ops ≡ self.old.ops }
         ensures count { length self.new.subscriptions.items ≡ length self.old.subscriptions.items }
-        ensures pumped { (n : ℕ) × HasRestedAt (O.meaning self.old.ops) budget n self.old.subscriptions.items sub.0 self.new.subscriptions.items result × AllPumped (O.meaning self.old.ops) n self.old.subscriptions.items out.old.signals self.new.subscriptions.items out.new.signals }
+        ensures pumped { IsPumpedAt sub.0 budget self.old out.old result self.new out.new }
         ensures memory { pump_allocates (O.allocates self.old.ops) self.old.subscriptions.items ≡ false → OnErr result (IsFull out.new) }
     {
         let ops = self.ops;
@@ -268,7 +267,7 @@ impl<O: Ops> Graph<O> {
     /// # Errors
     /// G2 exactly where there is no such subscription, and G8 where a growth was refused.
     pub fn owed(&self, alloc: Global, sub: SubId) -> Result<StreamValue<O::Item>, Refusal>
-        ensures owes { IfOk result (λ v. (h : History O.Item) → StandsFor (O.meaning self.now.ops) self.now.subscriptions.items h → IsOwed (O.meaning self.now.ops) self.now.subscriptions.items h sub v) }
+        ensures owes { IfOk result (λ v. IfStandsFor self.now (λ h. IsOwed (O.meaning self.now.ops) self.now.subscriptions.items h sub v)) }
         ensures err { IfErr result (λ r. IsLookRefusal (length self.now.subscriptions.items) sub r) }
     {
         let at = sub.0 as usize;
@@ -344,7 +343,7 @@ impl<O: Ops> Graph<O> {
     /// # Errors
     /// G2 exactly where there is no such subscription.
     pub fn asked(&self, sub: SubId) -> Result<u64, Refusal>
-        ensures asked { IfOk result (λ n. (h : History O.Item) → StandsFor (O.meaning self.now.ops) self.now.subscriptions.items h → HasAsked h.pasts sub.0 n) }
+        ensures asked { IfOk result (λ n. IfStandsFor self.now (λ h. HasAsked h.pasts sub.0 n)) }
         ensures err { IfErr result (λ r. (r ≡ Refusal.UnknownSub) × (length self.now.subscriptions.items ≤ sub.0)) }
     {
         let at = sub.0 as usize;
@@ -361,7 +360,7 @@ impl<O: Ops> Graph<O> {
     /// # Errors
     /// G2 exactly where there is no such subscription.
     pub fn standing(&self, sub: SubId) -> Result<SubscriptionState, Refusal>
-        ensures standing { IfOk result (λ s. (h : History O.Item) → StandsFor (O.meaning self.now.ops) self.now.subscriptions.items h → state_at h.pasts sub.0 ≡ Some s) }
+        ensures standing { IfOk result (λ s. IfStandsFor self.now (λ h. state_at h.pasts sub.0 ≡ Some s)) }
         ensures err { IfErr result (λ r. (r ≡ Refusal.UnknownSub) × (length self.now.subscriptions.items ≤ sub.0)) }
     {
         let at = sub.0 as usize;
@@ -376,11 +375,11 @@ impl<O: Ops> Graph<O> {
     /// it was.
     pub fn step(&mut self, alloc: Global, step: &Step<O::Item>) -> Answer<O::Item>
         ensures ops { self.new.ops ≡ self.old.ops }
-        ensures stands { (h : History O.Item) → StandsFor (O.meaning self.old.ops) self.old.subscriptions.items h → StandsFor (O.meaning self.old.ops) self.new.subscriptions.items (extended h step.now result) }
-        ensures belongs { (h : History O.Item) → StandsFor (O.meaning self.old.ops) self.old.subscriptions.items h → Belongs h step.now result }
+        ensures stands { StandsAfter (λ h. extended h step.now result) self.old self.new }
+        ensures belongs { IfStandsFor self.old (λ h. Belongs h step.now result) }
 
         // What was done, by the answer.
-        ensures done { IsDone (O.meaning self.old.ops) (O.allocates self.old.ops) self.old.subscriptions.items step.now result self.new.subscriptions.items }
+        ensures done { IsDoneIn step.now result self.old self.new }
     {
         match step {
             Step::Subscribe(expr) => match self.subscribe(alloc, expr) {
@@ -413,11 +412,11 @@ impl<O: Ops> Graph<O> {
         steps: Vec<Step<O::Item>>,
     ) -> Result<Vec<Answer<O::Item>>, Vec<Step<O::Item>>>
         ensures ops { self.new.ops ≡ self.old.ops }
-        ensures stands { IfOk result (λ answers. (h : History O.Item) → StandsFor (O.meaning self.old.ops) self.old.subscriptions.items h → StandsFor (O.meaning self.old.ops) self.new.subscriptions.items (all_extended h steps.items answers.items)) }
-        ensures belongs { IfOk result (λ answers. (h : History O.Item) → StandsFor (O.meaning self.old.ops) self.old.subscriptions.items h → AllBelong h steps.items answers.items) }
+        ensures stands { IfOk result (λ answers. StandsAfter (λ h. all_extended h steps.items answers.items) self.old self.new) }
+        ensures belongs { IfOk result (λ answers. IfStandsFor self.old (λ h. AllBelong h steps.items answers.items)) }
 
         // What was done, step by step.
-        ensures done { IfOk result (λ answers. AllDone (O.meaning self.old.ops) (O.allocates self.old.ops) self.old.subscriptions.items steps.items answers.items self.new.subscriptions.items) }
+        ensures done { IfOk result (λ answers. AllDoneIn steps.items answers.items self.old self.new) }
         ensures err { IfErr result (λ back. (back.items ≡ steps.items) × (self.new.subscriptions.items ≡ self.old.subscriptions.items)) }
     {
         let mut answers = match Vec::with_capacity(alloc, steps.len()) {

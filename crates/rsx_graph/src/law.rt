@@ -28,5 +28,6 @@ pub fn headline<O: Ops>()
 ///
 /// `Graph::pump` answers Idle only where no move is enabled. The function does nothing; its contract is the sentence.
 pub fn idle_means_delivered<O: Ops>()
-    ensures { (m : Meaning O.Item) (subs : List (AnySubscription O.Item)) (h : History O.Item) → StandsFor m subs h → IsAllQuiet m subs → AllServed m h.published subs h.pasts }
+    ensures { (m : Meaning O.Item) (subs : List (AnySubscription O.Item)) (h : History O.Item) →
+        StandsFor m subs h → IsAllQuiet m subs → AllServed m h.published subs h.pasts }
 {}

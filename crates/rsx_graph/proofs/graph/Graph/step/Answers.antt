@@ -40,7 +40,7 @@ returns-in-Err-make-clause-belongs g c = λ h s.
     rw c.in-Make.is (_, make_refusal (length c.args.self.now.subscriptions.items) (length h.pasts) _ _ c.in-Err-make.why same c.in-Err-make.ensures.err)
 
 pub returns-in-Ok-clause-done : goal.returns-in-Ok-clause-done
-returns-in-Ok-clause-done g c = let i = c.in-Ok.ensures.id in rw c.in-Subscribe.is (i.0, i.1, i.2, c.in-Ok.ensures.effect)
+returns-in-Ok-clause-done g c = rw c.in-Subscribe.is (c.in-Ok.ensures.id, c.in-Ok.ensures.effect)
 
 pub returns-in-Err-clause-done : goal.returns-in-Err-clause-done
 returns-in-Err-clause-done g c = rw c.in-Subscribe.is (c.in-Err.ensures.err, c.in-Err.ensures.same)
