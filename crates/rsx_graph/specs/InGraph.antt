@@ -47,15 +47,15 @@ IsRefusedIn tree mv graph r = IsMakeRefusal (length graph.subscriptions.items) (
 
 -- ---- runs of moves
 
--- so many enabled moves were made as `pump` promises: no more than the budget, until none is enabled or the budget is spent
-abbrev pub IsPumpedIn : {O T : Type 0} {b : Ops O T} → ℕ → Graph O T b → Delivered T → Result Pumped Refusal → Graph O T b → Delivered T → Type 0
-IsPumpedIn {O} {T} {b} budget old before result new after =
+-- what `pump` promises: the graph made some number of enabled moves, after which driving it ended so
+abbrev pub HasPumped : {O T : Type 0} {b : Ops O T} → ℕ → Graph O T b → Delivered T → Result Pumped Refusal → Graph O T b → Delivered T → Type 0
+HasPumped {O} {T} {b} budget old before result new after =
     (n : ℕ) × HasEnded (b.meaning old.ops) budget n new.subscriptions.items result
     × AllPumped (b.meaning old.ops) n old.subscriptions.items before.signals new.subscriptions.items after.signals
 
--- the same, until none of the subscription with this number is enabled
-abbrev pub IsPumpedAt : {O T : Type 0} {b : Ops O T} → ℕ → ℕ → Graph O T b → Delivered T → Result Rest Refusal → Graph O T b → Delivered T → Type 0
-IsPumpedAt {O} {T} {b} i budget old before result new after =
+-- the same of the subscription with this number
+abbrev pub HasPumpedAt : {O T : Type 0} {b : Ops O T} → ℕ → ℕ → Graph O T b → Delivered T → Result Rest Refusal → Graph O T b → Delivered T → Type 0
+HasPumpedAt {O} {T} {b} i budget old before result new after =
     (n : ℕ) × HasRestedAt (b.meaning old.ops) budget n old.subscriptions.items i new.subscriptions.items result
     × AllPumped (b.meaning old.ops) n old.subscriptions.items before.signals new.subscriptions.items after.signals
 

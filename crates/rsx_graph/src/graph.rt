@@ -1,6 +1,6 @@
 //! A graph of subscriptions.
 
-ghost use Rattle.std.specs.Prelude.{◌≡◌, ◌≢◌, ℕ, ◌+◌, ◌<◌, ◌≤◌, ◌++◌, ◌∷◌, [], length, OnOk, OnErr, IfOk, IfErr, IsOk, None, Some, true, false};
+ghost use Rattle.std.specs.Prelude.{◌≡◌, ◌≢◌, ◌<◌, ◌≤◌, ◌++◌, ◌∷◌, [], length, OnOk, OnErr, IfOk, IfErr, IsOk, None, Some, true, false};
 ghost use Rattle.rsx_subscriber.specs.Delivered.{IsFull};
 ghost use Rattle.rsx_subscriber.specs.Past.{given, cancelled, requested};
 ghost use Rattle.rsx_subscriber.specs.Stands.{IsInside, IsMadeAnswer};
@@ -33,7 +33,7 @@ pub struct Graph<O: Ops> {
 }
 
 impl<O: Ops> Graph<O> {
-    ghost use Rattle.rsx_graph.specs.InGraph.{IfStandsFor, StandsAfter, enabled_in, allocates_in, IsMadeIn, IsRefusedIn, IsPumpedIn, IsPumpedAt, IsDoneIn, AllDoneIn};
+    ghost use Rattle.rsx_graph.specs.InGraph.{IfStandsFor, StandsAfter, enabled_in, allocates_in, IsMadeIn, IsRefusedIn, HasPumped, HasPumpedAt, IsDoneIn, AllDoneIn};
 
     /// A graph with no subscription. It takes no memory so far, and is never refused.
     pub fn new(alloc: Global, ops: O) -> Result<Graph<O>, Refusal>
@@ -219,7 +219,7 @@ impl<O: Ops> Graph<O> {
         out: &mut Deliveries<O::Item>,
     ) -> Result<Pumped, Refusal>
         ensures ops { self.new.ops ≡ self.old.ops }
-        ensures pumped { IsPumpedIn budget self.old out.old result self.new out.new }
+        ensures pumped { HasPumped budget self.old out.old result self.new out.new }
 
         // Idle means delivered.
         ensures served { IfOk result (λ p. p ≡ Pumped.Idle → IsAllServed (O.meaning self.old.ops) self.new.subscriptions.items) }
@@ -250,7 +250,7 @@ impl<O: Ops> Graph<O> {
         requires { sub.0 < length self.old.subscriptions.items }
         ensures ops { self.new.ops ≡ self.old.ops }
         ensures count { length self.new.subscriptions.items ≡ length self.old.subscriptions.items }
-        ensures pumped { IsPumpedAt sub.0 budget self.old out.old result self.new out.new }
+        ensures pumped { HasPumpedAt sub.0 budget self.old out.old result self.new out.new }
         ensures memory { pump_allocates (O.allocates self.old.ops) self.old.subscriptions.items ≡ false → OnErr result (IsFull out.new) }
     {
         let ops = self.ops;

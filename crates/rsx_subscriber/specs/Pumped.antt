@@ -2,19 +2,20 @@
 use Rattle.std.specs.Prelude.{◌<◌, ◌^◌, ◌≡◌, ◌⊎◌, ℕ, zero, suc, ◌+◌, ◌≤◌, Bool, true, false, List, [], ◌∷◌, ◌++◌, map, Option, Result, Ok, Err}
 use Rattle.std.specs.Option.{option_to_list}
 use Rattle.rsx_types.specs.Meaning.{Meaning}
-use Rattle.rsx_types.specs.Stream.{Stream}
 use Rattle.rsx_types.specs.declared.names.Move.{Move}
 use Rattle.rsx_types.specs.declared.names.SubId.{SubId}
 use Rattle.rsx_types.specs.declared.names.Tree.TheVariants.{Sub}
 use Rattle.rsx_types.specs.declared.signal.Signal.{Signal}
 pub use Rattle.rsx_tree.specs.Driven.{Spent}
+use Rattle.rsx_pipe.specs.Part.{HasEnded}
 use Rattle.rsx_pipe.specs.Tree.{IsAlike}
 use Rattle.rsx_pipe.specs.declared.part.Pumped.{Pumped as Rest}
 use Rattle.rsx_pipe.specs.declared.part.Pumped.TheVariants.{Idle as Rests, Budget as Wakes}
 use Rattle.rsx_subscriber.specs.declared.subscription.Subscription.{Subscription}
+use Rattle.rsx_subscriber.specs.Delivered.{Delivered}
 use Rattle.rsx_subscriber.specs.Past.{Past, given}
 use Rattle.rsx_subscriber.specs.Moves.{tree_of}
-use Rattle.rsx_subscriber.specs.Stands.{Stands, IsEffect, IsMadeAnswer, ask_enabled, send_enabled, take_enabled, move_enabled_in}
+use Rattle.rsx_subscriber.specs.Stands.{StandsAfter, IsEffect, IsMadeAnswer, ask_enabled, send_enabled, take_enabled, move_enabled_in}
 
 -- the past of a subscriber that received these signals
 abbrev pub given_all : {T : Type 0} → List (Signal T) → Past T → Past T
@@ -48,9 +49,17 @@ pub record IsPumped {T : Type 0} (m : Meaning T) (id : SubId) (count : ℕ) (old
   pub signals : List (Signal T)
   pub output : after ≡ before ++ to id signals
   pub moves : Leads (IsMoved m id) count old (to id signals) new
-  pub stands : (published : List (Stream T)) (past : Past T) → Stands m published old past → Stands m published new (given_all signals past)
+  pub stands : StandsAfter m (given_all signals) old new
   -- whether a move of its part may allocate stays
   pub alike : IsAlike old.part.tree new.part.tree
+
+-- a subscription made some number of enabled moves of which this holds, and their deliveries were put behind those before
+abbrev pub SomePumped : {T : Type 0} → Meaning T → SubId → (ℕ → Type 0) → Subscription T → Delivered T → Subscription T → Delivered T → Type 0
+SomePumped m id holds old before new after = (n : ℕ) × holds n × IsPumped m id n old before.signals new after.signals
+
+-- nothing was delivered and nothing changed, and a Take wasn't enabled
+abbrev pub NothingTaken : {T : Type 0} → Subscription T → Delivered T → Subscription T → Delivered T → Type 0
+NothingTaken old before new after = (new ≡ old) × (after.signals ≡ before.signals) × (take_enabled old 0 ≡ false)
 
 -- how many moves were made, where the answer is whether one was
 abbrev pub moves_of : {E : Type 0} → Result Bool E → ℕ
@@ -72,6 +81,15 @@ abbrev pub HasRested : {T E : Type 0} → Meaning T → ℕ → ℕ → Subscrip
 HasRested m budget n sub (Ok (Rests left)) = (n + left ≡ budget) × IsQuiet m sub
 HasRested m budget n sub (Ok Wakes) = (n ≡ budget) × IsAwake m sub
 HasRested m budget n sub (Err e) = n ≤ budget
+
+-- what `pump` promises: a subscription made some number of enabled moves, after which driving it ended so
+abbrev pub HasPumped : {T E : Type 0} → Meaning T → SubId → ℕ → Subscription T → Delivered T → Result Rest E → Subscription T → Delivered T → Type 0
+HasPumped m id budget old before result new after = SomePumped m id (λ n. HasRested m budget n new result) old before new after
+
+-- the same of its part: driving that ended so, and nothing was delivered
+abbrev pub HasPumpedPart : {T E : Type 0} → Meaning T → SubId → ℕ → Subscription T → Result Rest E → Subscription T → Type 0
+HasPumpedPart {T} m id budget old result new =
+    (n : ℕ) × HasEnded m budget n new.part new.queue result × ((out : List (SubId × Signal T)) → IsPumped m id n old out new out)
 
 -- how it ends where so much of the budget is left
 abbrev pub IsRest : {T : Type 0} → Meaning T → Subscription T → ℕ → Rest → Type 0

@@ -1,6 +1,7 @@
 -- What a subscription stands for, its enabled moves, and what a move changes.
-use Rattle.std.specs.Prelude.{◌≡◌, ℕ, Bool, false, ◌&&◌, nat_eq, List, [], ◌∷◌, ◌++◌, length, Option, Some, None, option_map}
+use Rattle.std.specs.Prelude.{◌≡◌, ℕ, Bool, false, ◌&&◌, nat_eq, List, [], ◌∷◌, ◌++◌, length, map, Option, Some, None, option_map}
 use Rattle.rsx_types.specs.Meaning.{Meaning, Allocates}
+use Rattle.rsx_types.specs.Notes.{unchosen}
 use Rattle.rsx_types.specs.Stream.{Stream, signals_then, ended_by}
 use Rattle.rsx_types.specs.declared.note.Note.{Note}
 use Rattle.rsx_types.specs.declared.names.SubId.{SubId}
@@ -33,6 +34,10 @@ evaluated m hubs past notes = Part.evaluated m hubs past.joins past.expression n
 abbrev pub owed_from : {T : Type 0} → Meaning T → List (Stream T) → List Note → Subscription T → Option (Stream T)
 owed_from m hubs further sub = option_map (signals_then sub.queue) (comes_out m hubs further sub.part.tree 0)
 
+-- the same, where nothing more is chosen
+abbrev pub owed_unchosen : {T : Type 0} → Meaning T → List (Stream T) → Subscription T → Option (Stream T)
+owed_unchosen m hubs sub = owed_from m hubs (map unchosen (notes_of sub.part.tree)) sub
+
 -- how a subscription stands
 abbrev pub standing_of : {T : Type 0} → Subscription T → SubscriptionState
 standing_of sub = standing sub.state sub.live
@@ -64,6 +69,11 @@ pub record Stands {T : Type 0} (m : Meaning T) (published : List (Stream T)) (su
   pub joined : length past.joins ≡ leaves past.expression
   -- not live: the tree is closed, and nothing is queued
   pub closed : (IsLive (standing_of sub) → ⊥) → IsAllClosed sub.part.tree × (sub.part.root.state ≡ Live → ⊥) × (sub.queue ≡ [])
+
+-- of each past for which a subscription stood before, it stands now for that past with this change
+abbrev pub StandsAfter : {T : Type 0} → Meaning T → (Past T → Past T) → Subscription T → Subscription T → Type 0
+StandsAfter {T} m change old new =
+    (published : List (Stream T)) (past : Past T) → Stands m published old past → Stands m published new (change past)
 
 -- ---- enabled moves
 

@@ -38,24 +38,21 @@ pub struct Subscription<T> {
 }
 
 impl<T: Drop> Subscription<T> {
-    ghost use Rattle.std.specs.Prelude.{◌≡◌, ◌<◌, ◌+◌, ℕ, [], List, OnOk, OnErr, IfOk, IfErr, IsOk, IfSome, OnSome, IfNone, Some, None, true, false, map, option_map};
+    ghost use Rattle.std.specs.Prelude.{◌≡◌, ◌<◌, ◌+◌, [], List, OnOk, OnErr, IfOk, IfErr, IsOk, IfSome, OnSome, IfNone, Some, None, true, false, map, option_map};
     ghost use Rattle.rsx_types.specs.Meaning.{Meaning};
-    ghost use Rattle.rsx_types.specs.Notes.{unchosen};
     ghost use Rattle.rsx_types.specs.Stream.{Stream};
     ghost use Rattle.rsx_sources.specs.Steps.{IsNotMade};
     ghost use Rattle.rsx_model.specs.Check.{refusal};
-    ghost use Rattle.rsx_types.specs.declared.names.SubId.{SubId};
-    ghost use Rattle.rsx_types.specs.declared.signal.Signal.{Signal};
     ghost use Rattle.rsx_tree.specs.Edges.{closed_view};
-    ghost use Rattle.rsx_pipe.specs.Part.{all_edges, HasEnded, IsPutOut, pump_allocates};
+    ghost use Rattle.rsx_pipe.specs.Part.{all_edges, IsPutOut, pump_allocates};
     ghost use Rattle.rsx_pipe.specs.Tree.{notes_of, IsAllClosed};
-    ghost use Rattle.rsx_subscriber.specs.Past.{Past, subscribed, cancelled, requested, given, request_answer};
-    ghost use Rattle.rsx_subscriber.specs.Stands.{Stands, standing_of, owed_from, take_enabled, enabled_inside, make_allocates, IsWorked, IsTake};
+    ghost use Rattle.rsx_subscriber.specs.Past.{subscribed, cancelled, requested, given, request_answer};
+    ghost use Rattle.rsx_subscriber.specs.Stands.{Stands, StandsAfter, standing_of, owed_unchosen, take_enabled, enabled_inside, make_allocates, IsWorked, IsTake};
     ghost use Rattle.rsx_subscriber.specs.Moves.{node_move};
     ghost use Rattle.rsx_subscriber.specs.Begun.{IsFresh};
     ghost use Rattle.rsx_subscriber.specs.Delivered.{IsFull};
     ghost use Rattle.rsx_subscriber.specs.Edited.{IsRequested, IsCancelled};
-    ghost use Rattle.rsx_subscriber.specs.Pumped.{IsPumped, HasRested, IsRest, IsQuiet, IsAwake, Spent, moves_of};
+    ghost use Rattle.rsx_subscriber.specs.Pumped.{IsPumped, SomePumped, HasPumped, HasPumpedPart, NothingTaken, IsRest, IsQuiet, IsAwake, Spent, moves_of};
 
     /// A subscription that has just begun: nothing was asked, and nothing was sent.
     ///
@@ -67,7 +64,7 @@ impl<T: Drop> Subscription<T> {
         expr: &Expr<T>,
     ) -> Result<Subscription<T>, NoMemory>
         requires { refusal 0 expr.now ≡ None }
-        ensures stands { IfOk result (λ s. (published : List (Stream T)) → Stands (O.meaning ops.now) published s (subscribed expr.now [])) }
+        ensures stands { IfOk result (λ s. (hubs : List (Stream T)) → Stands (O.meaning ops.now) hubs s (subscribed expr.now [])) }
         ensures fresh { IfOk result (λ s. IsFresh expr.now s) }
     {
         let queue = SignalQueue::new(alloc)?;
@@ -123,7 +120,7 @@ impl<T: Drop> Subscription<T> {
     /// It takes no memory.
     pub fn cancel(&mut self)
         ensures effect { IsCancelled (standing_of self.old) self.old self.new }
-        ensures stands { (m : Meaning T) (published : List (Stream T)) (past : Past T) → Stands m published self.old past → Stands m published self.new (cancelled past) }
+        ensures stands { (m : Meaning T) → StandsAfter m cancelled self.old self.new }
     {
         match step(&mut self.state, &mut self.demand, Input::Cancel) {
             Ok(Effect::Close) => self.close(),
@@ -135,7 +132,7 @@ impl<T: Drop> Subscription<T> {
     /// which closes the subscription as a cancel does. It takes no memory.
     pub fn request(&mut self, n: i64) -> Option<Signal<T>>
         ensures effect { IsRequested (standing_of self.old) n self.old self.new }
-        ensures stands { (m : Meaning T) (published : List (Stream T)) (past : Past T) → Stands m published self.old past → Stands m published self.new (requested n past) }
+        ensures stands { (m : Meaning T) → StandsAfter m (requested n) self.old self.new }
         ensures answer { result ≡ request_answer (standing_of self.old) n }
     {
         let Ok(effect) = step(&mut self.state, &mut self.demand, Input::Request(n)) else {
@@ -158,7 +155,7 @@ impl<T: Drop> Subscription<T> {
     /// delivers it. An item with no demand left stays queued (rule 1.1). None exactly where the Take isn't enabled; then
     /// nothing changed. It takes no memory.
     pub fn take(&mut self, at: u32) -> Option<Signal<T>>
-        ensures some { IfSome result (λ s. (m : Meaning T) (published : List (Stream T)) (past : Past T) → Stands m published self.old past → Stands m published self.new (given s past)) }
+        ensures some { IfSome result (λ s. (m : Meaning T) → StandsAfter m (given s) self.old self.new) }
         ensures enabled { OnSome result (take_enabled self.old at ≡ true) }
         ensures effect { IfSome result (λ s. IsTake self.old s self.new) }
         ensures none { IfNone result ((self.new ≡ self.old) × (take_enabled self.old at ≡ false)) }
@@ -203,7 +200,7 @@ impl<T: Drop> Subscription<T> {
         ops: &O,
         step: Move,
     ) -> Result<(), NotMade>
-        ensures stands { OnOk result ((published : List (Stream T)) (past : Past T) → Stands (O.meaning ops.now) published self.old past → Stands (O.meaning ops.now) published self.new past) }
+        ensures stands { OnOk result (StandsAfter (O.meaning ops.now) (λ past. past) self.old self.new) }
         ensures enabled { OnOk result (enabled_inside (O.meaning ops.now) self.old (node_move step) ≡ true) }
         ensures effect { OnOk result (IsWorked (O.meaning ops.now) step self.old self.new) }
         ensures err { IfErr result (IsNotMade (enabled_inside (O.meaning ops.now) self.old (node_move step))) }
@@ -222,7 +219,7 @@ impl<T: Drop> Subscription<T> {
     /// Hands the front signal of the queue to the subscriber, where the table delivers one.
     fn advance_queue(&mut self, id: SubId, out: &mut Deliveries<T>) -> Result<bool, NoMemory>
         ensures pumped { (m : Meaning T) → IsPumped m id (moves_of result) self.old out.old.signals self.new out.new.signals }
-        ensures none { IfOk result (λ b. b ≡ false → (self.new ≡ self.old) × (out.new.signals ≡ out.old.signals) × (take_enabled self.old 0 ≡ false)) }
+        ensures none { IfOk result (λ b. b ≡ false → NothingTaken self.old out.old self.new out.new) }
         ensures part { self.new.part ≡ self.old.part }
         ensures full { OnErr result (IsFull out.new) }
     {
@@ -243,7 +240,7 @@ impl<T: Drop> Subscription<T> {
     /// left.
     #[inline(always)]
     fn deliver(&mut self, id: SubId, budget: u32, out: &mut Deliveries<T>) -> Result<u32, NoMemory>
-        ensures pumped { (m : Meaning T) → (n : ℕ) × Spent budget n result × IsPumped m id n self.old out.old.signals self.new out.new.signals }
+        ensures pumped { (m : Meaning T) → SomePumped m id (λ n. Spent budget n result) self.old out.old self.new out.new }
         ensures none { IfOk result (λ left. left ≡ budget → self.new ≡ self.old) }
         ensures rest { IfOk result (λ left. 0 < left → take_enabled self.new 0 ≡ false) }
         ensures full { OnErr result (IsFull out.new) }
@@ -265,7 +262,7 @@ impl<T: Drop> Subscription<T> {
         budget: u32,
         out: &mut Deliveries<T>,
     ) -> Result<u32, NoMemory>
-        ensures pumped { (m : Meaning T) → (n : ℕ) × Spent budget n result × IsPumped m id n self.old out.old.signals self.new out.new.signals }
+        ensures pumped { (m : Meaning T) → SomePumped m id (λ n. Spent budget n result) self.old out.old self.new out.new }
         ensures none { IfOk result (λ left. left ≡ budget → self.new ≡ self.old) }
         ensures rest { IfOk result (λ left. 0 < left → take_enabled self.new 0 ≡ false) }
         ensures full { OnErr result (IsFull out.new) }
@@ -288,7 +285,7 @@ impl<T: Drop> Subscription<T> {
         id: SubId,
         budget: u32,
     ) -> Result<Pumped, NoMemory>
-        ensures pumped { (n : ℕ) × HasEnded (O.meaning ops.now) budget n self.new.part self.new.queue result × ((o : List (SubId × Signal T)) → IsPumped (O.meaning ops.now) id n self.old o self.new o) }
+        ensures pumped { HasPumpedPart (O.meaning ops.now) id budget self.old result self.new }
         ensures memory { pump_allocates (O.allocates ops.now) self.old.part ≡ false → IsOk result }
     {
         match self.part.pump(alloc, ops, budget, &mut self.queue) {
@@ -309,7 +306,7 @@ impl<T: Drop> Subscription<T> {
         out: &mut Deliveries<T>,
     ) -> Result<bool, NoMemory>
         requires { self.old.queue ≡ [] }
-        ensures pumped { (n : ℕ) × (n + left.new ≡ left.old) × IsPumped (O.meaning ops.now) id n self.old out.old.signals self.new out.new.signals }
+        ensures pumped { SomePumped (O.meaning ops.now) id (λ n. n + left.new ≡ left.old) self.old out.old self.new out.new }
         ensures delivered { IfOk result (λ b. b ≡ true → (self.new.queue ≡ []) × (left.new < left.old)) }
         ensures full { OnErr result (IsFull out.new) }
     {
@@ -351,7 +348,7 @@ impl<T: Drop> Subscription<T> {
         budget: u32,
         out: &mut Deliveries<T>,
     ) -> Result<u32, NoMemory>
-        ensures pumped { (n : ℕ) × Spent budget n result × IsPumped (O.meaning ops.now) id n self.old out.old.signals self.new out.new.signals }
+        ensures pumped { SomePumped (O.meaning ops.now) id (λ n. Spent budget n result) self.old out.old self.new out.new }
         ensures full { OnErr result (IsFull out.new) }
     {
         if self.queue.len() > 0 {
@@ -382,7 +379,7 @@ impl<T: Drop> Subscription<T> {
         budget: u32,
         out: &mut Deliveries<T>,
     ) -> Result<Pumped, NoMemory>
-        ensures pumped { (n : ℕ) × HasRested (O.meaning ops.now) budget n self.new result × IsPumped (O.meaning ops.now) id n self.old out.old.signals self.new out.new.signals }
+        ensures pumped { HasPumped (O.meaning ops.now) id budget self.old out.old result self.new out.new }
         ensures memory { pump_allocates (O.allocates ops.now) self.old.part ≡ false → OnErr result (IsFull out.new) }
     {
         let behind = match self.deliver(id, budget, out) {
@@ -411,7 +408,7 @@ impl<T: Drop> Subscription<T> {
         budget: u32,
         out: &mut Deliveries<T>,
     ) -> Result<Pumped, NoMemory>
-        ensures pumped { (n : ℕ) × HasRested (O.meaning ops.now) budget n self.new result × IsPumped (O.meaning ops.now) id n self.old out.old.signals self.new out.new.signals }
+        ensures pumped { HasPumped (O.meaning ops.now) id budget self.old out.old result self.new out.new }
         ensures memory { pump_allocates (O.allocates ops.now) self.old.part ≡ false → OnErr result (IsFull out.new) }
     {
         let mut left = budget;
@@ -475,7 +472,7 @@ impl<T: Drop> Subscription<T> {
     /// # Errors
     /// [`NoMemory`] where a growth was refused.
     pub fn owed<O: Ops<Item = T>>(&self, alloc: Global, ops: &O) -> Result<StreamValue<T>, NoMemory>
-        ensures { IfOk result (λ v. (hubs : List (Stream T)) → owed_from (O.meaning ops.now) hubs (map unchosen (notes_of self.now.part.tree)) self.now ≡ Some v) }
+        ensures { IfOk result (λ v. (hubs : List (Stream T)) → owed_unchosen (O.meaning ops.now) hubs self.now ≡ Some v) }
     {
         let rest = self.part.residual(alloc, ops)?;
         behind(alloc, ops, &self.queue, rest)
