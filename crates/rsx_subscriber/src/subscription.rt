@@ -44,6 +44,7 @@ impl<T: Drop> Subscription<T> {
     ghost use Rattle.rsx_sources.specs.Steps.{IsNotMade};
     ghost use Rattle.rsx_model.specs.Check.{refusal};
     ghost use Rattle.rsx_tree.specs.Edges.{closed_view};
+    ghost use Rattle.rsx_tree.specs.Refusals.{OnlyNotEnabled};
     ghost use Rattle.rsx_pipe.specs.Part.{all_edges, IsPutOut, pump_allocates};
     ghost use Rattle.rsx_pipe.specs.Tree.{notes_of, IsAllClosed};
     ghost use Rattle.rsx_subscriber.specs.Past.{subscribed, cancelled, requested, given, request_answer};
@@ -204,7 +205,7 @@ impl<T: Drop> Subscription<T> {
         ensures enabled { OnOk result (enabled_inside (O.meaning ops.now) self.old (node_move step) ≡ true) }
         ensures effect { OnOk result (IsWorked (O.meaning ops.now) step self.old self.new) }
         ensures err { IfErr result (IsNotMade (enabled_inside (O.meaning ops.now) self.old (node_move step))) }
-        ensures memory { make_allocates (O.allocates ops.now) self.old step ≡ false → IfErr result (λ e. e ≡ NotMade.NotEnabled) }
+        ensures memory { make_allocates (O.allocates ops.now) self.old step ≡ false → OnlyNotEnabled result }
         ensures same { OnErr result (self.new ≡ self.old) }
     {
         let Some(inside) = node_move(step) else {

@@ -10,6 +10,10 @@ use Rattle.rsx_tree.specs.declared.node.Node.{Node}
 abbrev pub node_allocates : {M T : Type 0} → Machine M T → Allocates → M → Bool
 node_allocates b a n = b.pop_allocates a n || (b.signal_allocates a n || b.step_allocates a n)
 
+-- whether some call of one of these two nodes may
+abbrev pub either_allocates : {M T : Type 0} → Machine M T → Allocates → M → M → Bool
+either_allocates b a r n = node_allocates b a r || node_allocates b a n
+
 -- whether some call of a node of a row, or below it, may
 abbrev pub row_allocates : {M T : Type 0} → Machine M T → Allocates → Inputs M → Bool
 row_allocates b a End = false

@@ -1,5 +1,5 @@
 -- How a move changes a row of inputs: one edge and the nodes at its ends, and nothing else.
-use Rattle.std.specs.Prelude.{◌≡◌, ◌⊎◌, Box, ℕ, ◌+◌, ◌-◌, ◌<◌, ◌≤◌, Bool, true, ◌&&◌, List, ◌++◌, length, Some, option_map}
+use Rattle.std.specs.Prelude.{◌≡◌, ◌⊎◌, Box, ℕ, ◌+◌, ◌-◌, ◌<◌, ◌≤◌, Bool, true, false, ◌&&◌, List, ◌++◌, length, Some, option_map}
 use Rattle.std.specs.declared.alloc.Global.{Global}
 use Rattle.rsx_types.specs.Meaning.{Meaning}
 use Rattle.rsx_types.specs.Stream.{Stream}
@@ -7,12 +7,14 @@ use Rattle.rsx_types.specs.declared.note.Note.{Note}
 use Rattle.rsx_types.specs.declared.signal.Signal.{Signal}
 use Rattle.rsx_sources.specs.Counts.{CountsIn, CountsOut}
 use Rattle.rsx_sources.specs.Machine.{LetsGo, TakesIn, front_of}
+use Rattle.rsx_sources.specs.Steps.{IsNotMade}
 use Rattle.rsx_sources.specs.declared.machine.Machine.{Ghosts as Machine}
+use Rattle.rsx_sources.specs.declared.machine.NotMade.{NotMade}
 use Rattle.rsx_tree.specs.declared.edge.Edge.{Edge}
 use Rattle.rsx_tree.specs.Allocates.{IsNodeAlike}
 use Rattle.rsx_tree.specs.declared.inputs.Inputs.{Inputs, End, More'}
 use Rattle.rsx_tree.specs.Edges.{edge_view, asked_up_to, passed, can_ask_for}
-use Rattle.rsx_tree.specs.Inputs.{size, is_own, closed_row_if, can_send_over, comes_in, through}
+use Rattle.rsx_tree.specs.Inputs.{size, is_own, place, closed_row_if, can_send_in, can_send_over, comes_in, through}
 
 -- a place in memory, without what it holds
 abbrev pub Hold : Type 0
@@ -43,6 +45,14 @@ pub record IsSentOver {M T : Type 0} (b : Machine M T) (m : Meaning T) (r : M) (
   pub counts_out : CountsOut b.counted b.ended b.done n (Some signal) n'
   pub alike_in : IsNodeAlike b r r'
   pub alike_out : IsNodeAlike b n n'
+
+-- an Ask of the receiver over an edge, whatever the sender is
+abbrev pub IsAskedBy : {M T : Type 0} → Machine M T → M → ℕ → ℕ → ℕ → Edge → Edge → Type 0
+IsAskedBy {M} b r i asked sent e e' = (n : M) → IsAskedOver b r i asked sent e n r e' n
+
+-- a Send over an edge, whatever is asked of the receiver and was sent by it
+abbrev pub IsCarried : {M T : Type 0} → Machine M T → Meaning T → M → ℕ → Edge → M → M → Edge → M → Type 0
+IsCarried b m r i e n r' e' n' = (asked sent : ℕ) → IsSentOver b m r i asked sent e n r' e' n'
 
 -- the first edge of the row changed
 pub record IsHere {M : Type 0} (P : Change M) (r : M) (i asked sent : ℕ) (e : Edge) (n : M) (p : Hold) (below : Inputs M) (q : Hold) (beside : Inputs M) (at : ℕ) (r' : M) (new : Inputs M) : Type 0 where
@@ -77,6 +87,18 @@ IsChanged P ends r i asked sent (More' e n p below q beside) at r' new =
     IsHere P r i asked sent e n p below q beside at r' new
     ⊎ (IsBelow ends (λ n' mid. IsChanged P ends n 0 e.demand.asked e.demand.sent below (at - 1) n' mid) r e p below q beside at r' new
     ⊎ IsBeside (λ beside'. IsChanged P ends r (i + 1) asked sent beside (at - 1 - size below) r' beside') e n p below q at new)
+
+-- an Ask over the edge `at` of a row
+abbrev pub IsAskedIn : {M T : Type 0} → Machine M T → M → ℕ → ℕ → ℕ → Inputs M → ℕ → M → Inputs M → Type 0
+IsAskedIn b r i asked sent t at r' t' = IsChanged (IsAskedOver b) (λ n. false) r i asked sent t at r' t'
+
+-- a Send over it, whatever is asked of the row's receiver and was sent by it
+abbrev pub IsSentIn : {M T : Type 0} → Machine M T → Meaning T → M → ℕ → Inputs M → ℕ → M → Inputs M → Type 0
+IsSentIn b m r i t at r' t' = (asked sent : ℕ) → IsChanged (IsSentOver b m) b.ended r i asked sent t at r' t'
+
+-- a Send over it is refused exactly where it isn't enabled, but for want of memory
+abbrev pub IsNotSentIn : {M T : Type 0} → Machine M T → Meaning T → M → ℕ → Inputs M → ℕ → NotMade → Type 0
+IsNotSentIn b m r i t at e = (asked sent : ℕ) → IsNotMade (can_send_in b m (place r i asked sent t at)) e
 
 -- ---- what a change keeps
 

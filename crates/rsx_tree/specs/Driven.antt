@@ -3,14 +3,14 @@ use Rattle.std.specs.Prelude.{◌≡◌, ◌⊎◌, ℕ, zero, suc, ◌+◌, ◌
 use Rattle.rsx_types.specs.Meaning.{Meaning}
 use Rattle.rsx_sources.specs.declared.machine.Machine.{Ghosts as Machine}
 use Rattle.rsx_tree.specs.declared.edge.Edge.{Edge}
-use Rattle.rsx_tree.specs.declared.inputs.Inputs.{Inputs}
+use Rattle.rsx_tree.specs.declared.inputs.Inputs.{Inputs, More'}
 use Rattle.rsx_tree.specs.declared.inputs.Pass.{Pass}
 use Rattle.rsx_tree.specs.declared.node.Node.{Node}
 use Rattle.rsx_tree.specs.Edges.{edge_view, can_ask_for}
 use Rattle.rsx_tree.specs.Inputs.{place, is_own, can_ask_in, can_send_in, can_send_over}
 use Rattle.rsx_tree.specs.Allocates.{IsAlike}
 use Rattle.rsx_tree.specs.Balance.{IsBalanced}
-use Rattle.rsx_tree.specs.Changed.{IsChanged, IsAskedOver, IsSentOver}
+use Rattle.rsx_tree.specs.Changed.{Hold, IsAskedIn, IsSentIn}
 use Rattle.rsx_tree.specs.Chosen.{IsChosen}
 use Rattle.rsx_tree.specs.Stepped.{IsStepped, IsPickedHere, IsRowMadeHere, IsStill, over, station}
 use Rattle.rsx_tree.specs.Tree.{IsKept, IsAskedAt, IsSentAt, can_ask, can_send}
@@ -18,11 +18,11 @@ use Rattle.rsx_tree.specs.Tree.{IsKept, IsAskedAt, IsSentAt, can_ask, can_send}
 -- ---- a move of a row, whose first edge is input `i` of `r`; `ends` says that `r` ended by it, so that its owner closes the row
 
 pub record IsAskMade {M T : Type 0} (b : Machine M T) (r : M) (i asked sent : ℕ) (t : Inputs M) (at : ℕ) (ends : Bool) (r' : M) (t' : Inputs M) : Type 0 where
-  pub made : IsChanged (IsAskedOver b) (λ n. false) r i asked sent t at r' t'
+  pub made : IsAskedIn b r i asked sent t at r' t'
   pub stays : ends ≡ false
 
 pub record IsSendMade {M T : Type 0} (b : Machine M T) (m : Meaning T) (r : M) (i : ℕ) (t : Inputs M) (at : ℕ) (ends : Bool) (r' : M) (t' : Inputs M) : Type 0 where
-  pub made : (asked sent : ℕ) → IsChanged (IsSentOver b m) b.ended r i asked sent t at r' t'
+  pub made : IsSentIn b m r i t at r' t'
   pub ends_is : ends ≡ (b.ended r' && is_own t at)
 
 -- a pick or a row of the node `at` of the row
@@ -35,6 +35,11 @@ pub record IsStepMade {M T : Type 0} (b : Machine M T) (m : Meaning T) (r : M) (
 abbrev pub IsMade : {M T : Type 0} → Machine M T → Meaning T → Bool → M → ℕ → ℕ → ℕ → Inputs M → ℕ → Bool → M → Inputs M → Type 0
 IsMade b m steps r i asked sent t at ends r' t' =
     IsAskMade b r i asked sent t at ends r' t' ⊎ (IsSendMade b m r i t at ends r' t' ⊎ ((steps ≡ true) × IsStepMade b m r t at ends r' t'))
+
+-- the same over the row's first edge, or of its sender, where `below` are the sender's inputs, whatever is beside it
+abbrev pub IsMadeOver : {M T : Type 0} → Machine M T → Meaning T → M → ℕ → ℕ → ℕ → Edge → M → Inputs M → Bool → M → Edge → M → Inputs M → Type 0
+IsMadeOver {M} b m r i asked sent e n below ends r' e' n' below' =
+    (p q : Hold) (beside : Inputs M) → IsMade b m true r i asked sent (More' e n p below q beside) 0 ends r' (More' e' n' p below' q beside)
 
 -- so many moves of the row, by none of which its receiver ended
 abbrev pub IsRowRun : {M T : Type 0} → Machine M T → Meaning T → Bool → ℕ → ℕ → ℕ → ℕ → M → Inputs M → M → Inputs M → Type 0
@@ -65,6 +70,11 @@ SpentPass budget n (Err e) = n ≤ budget
 abbrev pub is_over_in : {E : Type 0} → Result Pass E → Bool
 is_over_in (Ok p) = p.is_over
 is_over_in (Err e) = false
+
+-- a pass over a row made so many moves as the budget fell by, and its answer says whether the row's receiver ended
+abbrev pub IsPass : {M T E : Type 0} → Machine M T → Meaning T → ℕ → ℕ → ℕ → ℕ → M → Inputs M → Result Pass E → M → Inputs M → Type 0
+IsPass b m budget i asked sent r t result r' t' =
+    (n : ℕ) × SpentPass budget n result × IsRowDriven b m true n (is_over_in result) i asked sent r t r' t'
 
 -- over this edge neither an Ask nor a Send is enabled, nor a step of its sender
 pub record IsRestOver {M T : Type 0} (b : Machine M T) (m : Meaning T) (r : M) (i asked sent : ℕ) (e : Edge) (n : M) : Type 0 where
@@ -104,6 +114,10 @@ abbrev pub IsDriven : {M T : Type 0} → Machine M T → Meaning T → Bool → 
 IsDriven b m steps zero old asked sent new = new ≡ old
 IsDriven {M} b m steps (suc n) old asked sent new = (mid : Node M) × IsAdvanced b m steps old asked sent mid × IsDriven b m steps n mid asked sent new
 
+-- over the edge `at` below the root neither an Ask nor a Send is enabled, nor a step of its node
+abbrev pub IsIdleAt : {M T : Type 0} → Machine M T → Meaning T → Node M → ℕ → ℕ → ℕ → Type 0
+IsIdleAt b m t asked sent at = (can_ask b t at asked sent ≡ false) × (can_send b m t at ≡ false) × IsStill b (station t.inputs at)
+
 -- no move over an edge below the root, or of a node there, is enabled, of those that have a number
 abbrev pub IsIdle : {M T : Type 0} → Machine M T → Meaning T → Node M → ℕ → ℕ → Type 0
-IsIdle b m t asked sent = (at : ℕ) → at < 2 ^ 64 → (can_ask b t at asked sent ≡ false) × (can_send b m t at ≡ false) × IsStill b (station t.inputs at)
+IsIdle b m t asked sent = (at : ℕ) → at < 2 ^ 64 → IsIdleAt b m t asked sent at

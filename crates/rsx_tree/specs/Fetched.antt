@@ -11,7 +11,7 @@ use Rattle.rsx_tree.specs.declared.inputs.Inputs.{Inputs}
 use Rattle.rsx_tree.specs.declared.node.Node.{Node}
 use Rattle.rsx_tree.specs.Allocates.{IsAlike, IsNodeAlike}
 use Rattle.rsx_tree.specs.Balance.{IsBalanced}
-use Rattle.rsx_tree.specs.Changed.{IsSentOver}
+use Rattle.rsx_tree.specs.Changed.{IsCarried}
 use Rattle.rsx_tree.specs.Driven.{IsDriven, IsRowRun}
 use Rattle.rsx_tree.specs.Tree.{IsKept, IsLetGo}
 
@@ -23,9 +23,9 @@ IsOut b m n x n' = IsItemOut (b.comes_out m) (b.waiting m) b.popped b.recorded b
 -- the budget, and what the receiver put out first went out of it again, or it put out nothing; or the item went back
 abbrev pub IsHanded : {M T : Type 0} → Machine M T → Meaning T → ℕ → M → Edge → M → Handed T → ℕ → M → Edge → M → Type 0
 IsHanded {M} b m budget r e n (Item x) left r' e' n' =
-    (mid : M) × (left + 1 ≡ budget) × ((asked sent : ℕ) → IsSentOver b m r 0 asked sent e n mid e' n') × (b.ended mid ≡ false) × IsOut b m mid x r'
+    (mid : M) × (left + 1 ≡ budget) × IsCarried b m r 0 e n mid e' n' × (b.ended mid ≡ false) × IsOut b m mid x r'
 IsHanded b m budget r e n Kept left r' e' n' =
-    (left + 1 ≡ budget) × ((asked sent : ℕ) → IsSentOver b m r 0 asked sent e n r' e' n') × (b.ended r' ≡ false)
+    (left + 1 ≡ budget) × IsCarried b m r 0 e n r' e' n' × (b.ended r' ≡ false)
 IsHanded b m budget r e n Back left r' e' n' = (left ≡ budget) × (r' ≡ r) × (e' ≡ e) × (n' ≡ n)
 
 -- enabled moves of a row, so many as the budget fell by, lead to a receiver that offers the item, which then went out of it;

@@ -80,6 +80,13 @@ pub record IsStepOver {M : Type 0} (P : Step M) (ends : M → Bool) (e : Edge) (
   pub made : P n e.demand.asked e.demand.sent n'
   pub shut : below' ≡ closed_row_if (ends n' && true) below
 
+-- a pick of this input, and a row, as such a step
+abbrev pub IsPickOver : {M T : Type 0} → Machine M T → Meaning T → ℕ → Edge → M → Inputs M → M → Inputs M → Type 0
+IsPickOver b m i e n below n' below' = IsStepOver (IsPickedHere b m i) b.ended e n below n' below'
+
+abbrev pub IsRowOver : {M T : Type 0} → Machine M T → Meaning T → Edge → M → Inputs M → M → Inputs M → Type 0
+IsRowOver b m e n below n' below' = IsStepOver (IsRowMadeHere b m) b.ended e n below n' below'
+
 pub record IsStepHere {M : Type 0} (P : Step M) (ends : M → Bool) (e : Edge) (n : M) (p : Hold) (below : Inputs M) (q : Hold) (beside : Inputs M) (at : ℕ) (new : Inputs M) : Type 0 where
   pub n' : M
   pub at_is : at ≡ 0
@@ -115,6 +122,10 @@ abbrev pub station_of : {M : Type 0} → Node M → EdgeView → ℕ → Option 
 station_of t e zero = Some (record { machine = t.machine; state = e.state; asked = e.asked; sent = e.sent })
 station_of t e (suc at) = station t.inputs at
 
+-- whether a step of it may allocate
+abbrev pub step_allocates : {M T : Type 0} → Machine M T → Allocates → Node M → EdgeView → ℕ → Bool
+step_allocates b a t e at = step_allocates_in b a (station_of t e at)
+
 -- the root changed, and where it ended by it, all below it is closed
 pub record IsRootStepped {M : Type 0} (P : Step M) (ends : M → Bool) (old : Node M) (e : EdgeView) (new : Node M) : Type 0 where
   pub live : is_live e.state ≡ true
@@ -130,3 +141,10 @@ pub record IsSteppedBelow {M : Type 0} (P : Step M) (ends : M → Bool) (old : N
 abbrev pub IsSteppedAt : {M : Type 0} → Step M → (M → Bool) → Node M → EdgeView → ℕ → Node M → Type 0
 IsSteppedAt P ends old e zero new = IsRootStepped P ends old e new
 IsSteppedAt P ends old e (suc at) new = IsSteppedBelow P ends old at new
+
+-- a pick of this input by the node `at`, and a row of it
+abbrev pub IsPickMadeAt : {M T : Type 0} → Machine M T → Meaning T → ℕ → Node M → EdgeView → ℕ → Node M → Type 0
+IsPickMadeAt b m i old e at new = IsSteppedAt (IsPickedHere b m i) b.ended old e at new
+
+abbrev pub IsRowMadeAt : {M T : Type 0} → Machine M T → Meaning T → Node M → EdgeView → ℕ → Node M → Type 0
+IsRowMadeAt b m old e at new = IsSteppedAt (IsRowMadeHere b m) b.ended old e at new

@@ -56,7 +56,8 @@ impl<M: Machine> Inputs<M> {
         sent: u64,
         left: &mut u32,
     ) -> Option<M::Item>
-        ensures { IsRowFetched M.Machine (O.meaning ops.now) left.old asked sent receiver.old self.old result left.new receiver.new self.new }
+        ensures { IsRowFetched M.Machine (O.meaning ops.now) left.old asked sent receiver.old self.old
+            result left.new receiver.new self.new }
     {
         if !self.is_one() {
             return None;
@@ -143,7 +144,9 @@ fn hand_over<M: Machine, O: Ops<Item = M::Item>>(
     left: &mut u32,
 ) -> Handed<M::Item>
     requires { can_pass (edge_view edge.old) Front.Item ≡ true }
-    ensures { (offering : M) → IsOut M.Machine (O.meaning ops.now) offering item sender.old → IsHanded M.Machine (O.meaning ops.now) left.old receiver.old edge.old offering result left.new receiver.new edge.new sender.new }
+    ensures { (offering : M) → IsOut M.Machine (O.meaning ops.now) offering item sender.old →
+        IsHanded M.Machine (O.meaning ops.now) left.old receiver.old edge.old offering
+        result left.new receiver.new edge.new sender.new }
 {
     if *left == 0 {
         sender.put_back(Signal::Next(item));

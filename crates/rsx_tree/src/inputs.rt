@@ -1,13 +1,13 @@
 //! The inputs of a node, with all below them.
 
-ghost use Rattle.std.specs.Prelude.{◌≡◌, ◌||◌, ℕ, OnOk, OnErr, IfOk, IsOk, IfErr, true, false};
-ghost use Rattle.rsx_tree.specs.Allocates.{node_allocates};
+ghost use Rattle.std.specs.Prelude.{◌≡◌, OnOk, OnErr, IfOk, IsOk, IfErr, true, false};
+ghost use Rattle.rsx_tree.specs.Allocates.{either_allocates};
 ghost use Rattle.rsx_sources.specs.Steps.{IsNotMade};
-ghost use Rattle.rsx_tree.specs.declared.inputs.Inputs.{More'};
 ghost use Rattle.rsx_tree.specs.Edges.{edge_view, can_ask_for};
 ghost use Rattle.rsx_tree.specs.Inputs.{can_send_over, send_over_allocates, size};
-ghost use Rattle.rsx_tree.specs.Changed.{Hold, IsAskedOver, IsSentOver};
-ghost use Rattle.rsx_tree.specs.Driven.{IsMade, IsRestOver};
+ghost use Rattle.rsx_tree.specs.Changed.{IsAskedBy, IsCarried};
+ghost use Rattle.rsx_tree.specs.Driven.{IsMadeOver, IsRestOver};
+ghost use Rattle.rsx_tree.specs.Refusals.{IsNotEnabled, OnlyNotEnabled};
 
 use crate::edge::Edge;
 use crate::step::{pick_over, row_over, step_over};
@@ -48,9 +48,10 @@ impl<M: Machine> Inputs<M> {
     ghost use Rattle.std.specs.Prelude.{◌≡◌, ◌+◌, ◌<◌, ◌≤◌, ◌^◌, ◌&&◌, ◌++◌, ℕ, min, true, false, OnOk, OnErr, IfOk, IfErr};
     ghost use Rattle.rsx_types.specs.Meaning.{Meaning};
     ghost use Rattle.rsx_sources.specs.Steps.{IsNotMade};
-    ghost use Rattle.rsx_tree.specs.Inputs.{size, is_own, place, can_ask_in, can_send_in, send_allocates_in, closed_row, closed_row_if, notes_of, IsResidual};
-    ghost use Rattle.rsx_tree.specs.Changed.{IsChanged, IsAskedOver, IsSentOver};
-    ghost use Rattle.rsx_tree.specs.Driven.{IsRowDriven, IsRowIdle, SpentPass, is_over_in};
+    ghost use Rattle.rsx_tree.specs.Inputs.{size, is_own, place, can_ask_in, send_allocates_in, closed_row, closed_row_if, notes_of, IsResidual};
+    ghost use Rattle.rsx_tree.specs.Changed.{IsAskedIn, IsSentIn, IsNotSentIn};
+    ghost use Rattle.rsx_tree.specs.Driven.{IsPass, IsRowIdle};
+    ghost use Rattle.rsx_tree.specs.Refusals.{IsNotEnabled, OnlyNotEnabled};
     ghost use Rattle.rsx_tree.specs.Stepped.{IsStepped, IsPickedHere, IsRowMadeHere, can_pick_in, can_row_in, station, step_allocates_in};
     ghost use Rattle.rsx_tree.specs.Allocates.{over_allocates};
 
@@ -107,8 +108,8 @@ impl<M: Machine> Inputs<M> {
         at: u32,
     ) -> Result<(), NotMade>
         requires { input + at < 2 ^ 64 }
-        ensures made { OnOk result (IsChanged (IsAskedOver M.Machine) (λ n. false) receiver.now input asked sent self.old at receiver.now self.new) }
-        ensures err { IfErr result (λ e. (e ≡ NotMade.NotEnabled) × (can_ask_in M.Machine (place receiver.now input asked sent self.old at) ≡ false)) }
+        ensures made { OnOk result (IsAskedIn M.Machine receiver.now input asked sent self.old at receiver.now self.new) }
+        ensures err { IfErr result (IsNotEnabled (can_ask_in M.Machine (place receiver.now input asked sent self.old at))) }
         ensures same { OnErr result (self.new ≡ self.old) }
     {
         match self {
@@ -146,10 +147,12 @@ impl<M: Machine> Inputs<M> {
         at: u32,
     ) -> Result<bool, NotMade>
         requires { input + at < 2 ^ 64 }
-        ensures made { OnOk result ((asked sent : ℕ) → IsChanged (IsSentOver M.Machine (O.meaning ops.now)) M.ended receiver.old input asked sent self.old at receiver.new self.new) }
+        ensures made { OnOk result (IsSentIn M.Machine (O.meaning ops.now) receiver.old input self.old at receiver.new self.new) }
         ensures own { IfOk result (λ o. o ≡ is_own self.old at) }
-        ensures err { IfErr result (λ e. (asked sent : ℕ) → IsNotMade (can_send_in M.Machine (O.meaning ops.now) (place receiver.old input asked sent self.old at)) e) }
-        ensures memory { (asked sent : ℕ) → send_allocates_in M.Machine (O.allocates ops.now) (place receiver.old input asked sent self.old at) ≡ false → IfErr result (λ e. e ≡ NotMade.NotEnabled) }
+        ensures err { IfErr result (IsNotSentIn M.Machine (O.meaning ops.now) receiver.old input self.old at) }
+        ensures memory { (asked sent : ℕ) →
+            send_allocates_in M.Machine (O.allocates ops.now) (place receiver.old input asked sent self.old at) ≡ false →
+            OnlyNotEnabled result }
         ensures same { OnErr result ((self.new ≡ self.old) × (receiver.new ≡ receiver.old)) }
     {
         match self {
@@ -233,7 +236,7 @@ impl<M: Machine> Inputs<M> {
     ) -> Result<(), NotMade>
         ensures made { OnOk result (IsStepped (IsPickedHere M.Machine (O.meaning ops.now) input) M.ended self.old at self.new) }
         ensures err { IfErr result (IsNotMade (can_pick_in M.Machine input (station self.old at))) }
-        ensures memory { step_allocates_in M.Machine (O.allocates ops.now) (station self.old at) ≡ false → IfErr result (λ e. e ≡ NotMade.NotEnabled) }
+        ensures memory { step_allocates_in M.Machine (O.allocates ops.now) (station self.old at) ≡ false → OnlyNotEnabled result }
         ensures same { OnErr result (self.new ≡ self.old) }
     {
         match self {
@@ -269,7 +272,7 @@ impl<M: Machine> Inputs<M> {
     ) -> Result<(), NotMade>
         ensures made { OnOk result (IsStepped (IsRowMadeHere M.Machine (O.meaning ops.now)) M.ended self.old at self.new) }
         ensures err { IfErr result (IsNotMade (can_row_in M.Machine (station self.old at))) }
-        ensures memory { step_allocates_in M.Machine (O.allocates ops.now) (station self.old at) ≡ false → IfErr result (λ e. e ≡ NotMade.NotEnabled) }
+        ensures memory { step_allocates_in M.Machine (O.allocates ops.now) (station self.old at) ≡ false → OnlyNotEnabled result }
         ensures same { OnErr result (self.new ≡ self.old) }
     {
         match self {
@@ -312,8 +315,9 @@ impl<M: Machine> Inputs<M> {
         sent: u64,
         budget: u32,
     ) -> Result<Pass, NoMemory>
-        ensures driven { (n : ℕ) × SpentPass budget n result × IsRowDriven M.Machine (O.meaning ops.now) true n (is_over_in result) input asked sent receiver.old self.old receiver.new self.new }
-        ensures idle { IfOk result (λ p. p.left ≡ budget → 0 < budget → IsRowIdle M.Machine (O.meaning ops.now) receiver.new input asked sent self.new) }
+        ensures driven { IsPass M.Machine (O.meaning ops.now) budget input asked sent receiver.old self.old result receiver.new self.new }
+        ensures idle { IfOk result (λ p. p.left ≡ budget → 0 < budget →
+            IsRowIdle M.Machine (O.meaning ops.now) receiver.new input asked sent self.new) }
         ensures memory { over_allocates M.Machine (O.allocates ops.now) receiver.old self.old ≡ false → IsOk result }
     {
         match self {
@@ -392,13 +396,20 @@ fn advance_over<M: Machine, O: Ops<Item = M::Item>>(
     sender: &mut M,
     below: &mut Inputs<M>,
 ) -> Result<Advance, NoMemory>
-    ensures made { IfOk result (λ a. a ≡ Advance.Made → (p q : Hold) (beside : Inputs M) → IsMade M.Machine (O.meaning ops.now) true receiver.old input asked sent (More' edge.old sender.old p below.old q beside) 0 false receiver.new (More' edge.new sender.new p below.new q beside)) }
-    ensures ended { IfOk result (λ a. a ≡ Advance.Ended → (p q : Hold) (beside : Inputs M) → IsMade M.Machine (O.meaning ops.now) true receiver.old input asked sent (More' edge.old sender.old p below.old q beside) 0 true receiver.new (More' edge.new sender.new p below.new q beside)) }
-    ensures neither { IfOk result (λ a. a ≡ Advance.Neither → IsRestOver M.Machine (O.meaning ops.now) receiver.old input asked sent edge.old sender.old) }
-    ensures same { IfOk result (λ a. a ≡ Advance.Neither → (receiver.new ≡ receiver.old) × (edge.new ≡ edge.old) × (sender.new ≡ sender.old) × (below.new ≡ below.old)) }
-    ensures err { OnErr result ((receiver.new ≡ receiver.old) × (edge.new ≡ edge.old) × (sender.new ≡ sender.old) × (below.new ≡ below.old)) }
+    ensures made { IfOk result (λ a. a ≡ Advance.Made →
+        IsMadeOver M.Machine (O.meaning ops.now) receiver.old input asked sent edge.old sender.old below.old false
+        receiver.new edge.new sender.new below.new) }
+    ensures ended { IfOk result (λ a. a ≡ Advance.Ended →
+        IsMadeOver M.Machine (O.meaning ops.now) receiver.old input asked sent edge.old sender.old below.old true
+        receiver.new edge.new sender.new below.new) }
+    ensures neither { IfOk result (λ a. a ≡ Advance.Neither →
+        IsRestOver M.Machine (O.meaning ops.now) receiver.old input asked sent edge.old sender.old) }
+    ensures same { IfOk result (λ a. a ≡ Advance.Neither →
+        (receiver.new ≡ receiver.old) × (edge.new ≡ edge.old) × (sender.new ≡ sender.old) × (below.new ≡ below.old)) }
+    ensures err { OnErr result (
+        (receiver.new ≡ receiver.old) × (edge.new ≡ edge.old) × (sender.new ≡ sender.old) × (below.new ≡ below.old)) }
     ensures size { size below.new ≡ size below.old }
-    ensures memory { (node_allocates M.Machine (O.allocates ops.now) receiver.old || node_allocates M.Machine (O.allocates ops.now) sender.old) ≡ false → IsOk result }
+    ensures memory { either_allocates M.Machine (O.allocates ops.now) receiver.old sender.old ≡ false → IsOk result }
 {
     match send_over(alloc, ops, receiver, input, edge, sender) {
         Ok(()) => {
@@ -430,8 +441,8 @@ pub(crate) fn ask_over<M: Machine>(
     sent: u64,
     edge: &mut Edge,
 ) -> Result<(), NotMade>
-    ensures made { OnOk result ((sender : M) → IsAskedOver M.Machine receiver.now input asked sent edge.old sender receiver.now edge.new sender) }
-    ensures err { IfErr result (λ e. (e ≡ NotMade.NotEnabled) × (can_ask_for (edge_view edge.old) (M.wanted receiver.now input asked sent) ≡ false)) }
+    ensures made { OnOk result (IsAskedBy M.Machine receiver.now input asked sent edge.old edge.new) }
+    ensures err { IfErr result (IsNotEnabled (can_ask_for (edge_view edge.old) (M.wanted receiver.now input asked sent))) }
     ensures same { OnErr result (edge.new ≡ edge.old) }
 {
     let want = receiver.want(input, asked, sent);
@@ -452,9 +463,11 @@ fn send_over<M: Machine, O: Ops<Item = M::Item>>(
     edge: &mut Edge,
     sender: &mut M,
 ) -> Result<(), NotMade>
-    ensures made { OnOk result ((asked sent : ℕ) → IsSentOver M.Machine (O.meaning ops.now) receiver.old input asked sent edge.old sender.old receiver.new edge.new sender.new) }
-    ensures err { IfErr result (IsNotMade (can_send_over M.Machine (O.meaning ops.now) receiver.old input (edge_view edge.old) sender.old)) }
-    ensures memory { send_over_allocates M.Machine (O.allocates ops.now) receiver.old sender.old ≡ false → IfErr result (λ e. e ≡ NotMade.NotEnabled) }
+    ensures made { OnOk result (
+        IsCarried M.Machine (O.meaning ops.now) receiver.old input edge.old sender.old receiver.new edge.new sender.new) }
+    ensures err { IfErr result (IsNotMade (
+        can_send_over M.Machine (O.meaning ops.now) receiver.old input (edge_view edge.old) sender.old)) }
+    ensures memory { send_over_allocates M.Machine (O.allocates ops.now) receiver.old sender.old ≡ false → OnlyNotEnabled result }
     ensures same { OnErr result ((receiver.new ≡ receiver.old) × (edge.new ≡ edge.old) × (sender.new ≡ sender.old)) }
 {
     let Some(front) = sender.front() else {

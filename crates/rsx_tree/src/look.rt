@@ -57,7 +57,8 @@ impl<M: Machine> Inputs<M> {
     /// Whether a Send over the edge `at` is enabled.
     pub fn can_send(&self, receiver: &M, input: u64, at: u32) -> bool
         requires { input + at < 2 ^ 64 }
-        ensures { (m : Meaning M.Item) (asked sent : ℕ) → result ≡ can_send_in M.Machine m (place receiver.now input asked sent self.now at) }
+        ensures { (m : Meaning M.Item) (asked sent : ℕ) →
+            result ≡ can_send_in M.Machine m (place receiver.now input asked sent self.now at) }
     {
         match self {
             Inputs::End => false,
@@ -162,7 +163,8 @@ impl<M: Machine> Inputs<M> {
     ) -> Option<NodeMove>
         requires { input ≤ at }
         ensures some { (m : Meaning M.Item) → IfSome result (λ e. IsEnabledIn M.Machine m receiver.now input asked sent self.now at e) }
-        ensures none { (m : Meaning M.Item) → IfNone result ((k : ℕ) → at + k < 2 ^ 32 → IsRestAt M.Machine m receiver.now input asked sent self.now k) }
+        ensures none { (m : Meaning M.Item) → IfNone result ((k : ℕ) → at + k < 2 ^ 32 →
+            IsRestAt M.Machine m receiver.now input asked sent self.now k) }
     {
         match self {
             Inputs::End => None,
@@ -300,7 +302,7 @@ fn first_over<M: Machine>(
     sender: &M,
     at: u32,
 ) -> Option<NodeMove>
-    ensures some { (m : Meaning M.Item) → IfSome result (λ e. IsEnabledOver M.Machine m receiver.now input asked sent edge.now sender.now at e) }
+    ensures some { (m : Meaning M.Item) → IfSome result (IsEnabledOver M.Machine m receiver.now input asked sent edge.now sender.now at) }
     ensures none { (m : Meaning M.Item) → IfNone result (IsRestOver M.Machine m receiver.now input asked sent edge.now sender.now) }
 {
     let want = receiver.want(input, asked, sent);

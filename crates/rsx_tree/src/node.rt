@@ -20,22 +20,21 @@ pub struct Node<M> {
 }
 
 impl<M: Machine> Node<M> {
-    ghost use Rattle.std.specs.Prelude.{◌≡◌, OnOk, OnErr, IfOk, IfErr, IsOk, true, false, option_map, map, List, ℕ};
+    ghost use Rattle.std.specs.Prelude.{◌≡◌, OnOk, OnErr, IfOk, IfErr, IsOk, true, false, option_map, map, ℕ};
     ghost use Rattle.rsx_types.specs.Meaning.{Meaning};
-    ghost use Rattle.rsx_types.specs.Stream.{Stream};
-    ghost use Rattle.rsx_types.specs.declared.note.Note.{Note as NoteSpec};
     ghost use Rattle.rsx_sources.specs.Machine.{front_of};
     ghost use Rattle.rsx_sources.specs.Steps.{IsNotMade};
-    ghost use Rattle.std.specs.Prelude.{◌<◌, ◌+◌, ◌^◌, Some, IfSome, IfNone};
+    ghost use Rattle.std.specs.Prelude.{◌<◌, ◌+◌, ◌^◌, IfSome, IfNone};
     ghost use Rattle.rsx_tree.specs.Allocates.{IsAlike, tree_allocates};
-    ghost use Rattle.rsx_tree.specs.Driven.{IsDriven, IsIdle, Spent};
+    ghost use Rattle.rsx_tree.specs.Driven.{IsDriven, IsIdle, IsIdleAt, Spent};
     ghost use Rattle.rsx_tree.specs.Edges.{closed_view, edge_view};
-    ghost use Rattle.rsx_tree.specs.Stepped.{IsSteppedAt, IsPickedHere, IsRowMadeHere, IsStill, can_pick_in, can_row_in, station, station_of, step_allocates_in};
+    ghost use Rattle.rsx_tree.specs.Stepped.{IsPickMadeAt, IsRowMadeAt, can_pick_in, can_row_in, station_of, step_allocates};
     ghost use Rattle.rsx_tree.specs.Balance.{IsBalanced};
     ghost use Rattle.rsx_tree.specs.Chosen.{IsChosen, IsPickedAt, IsRowAt};
     ghost use Rattle.rsx_tree.specs.Inputs.{closed_row};
     ghost use Rattle.rsx_tree.specs.Look.{IsEnabledAt};
-    ghost use Rattle.rsx_tree.specs.Tree.{comes_out, notes, edges, offers, popped, IsPopped, IsKept, IsAllClosed, can_ask, can_send, send_allocates, IsAskedAt, IsSentAt, IsUnchosen};
+    ghost use Rattle.rsx_tree.specs.Tree.{notes, edges, offers, popped, IsPopped, IsKept, IsAllClosed, can_ask, can_send, send_allocates, IsAskedAt, IsSentAt, IsResidual};
+    ghost use Rattle.rsx_tree.specs.Refusals.{IsNotEnabled, OnlyNotEnabled};
 
     /// Which signal the root offers, if it does.
     #[inline]
@@ -91,7 +90,7 @@ impl<M: Machine> Node<M> {
         ensures effect { OnOk result (IsAskedAt M.Machine self.old at asked sent self.new) }
         ensures balance { (s : ℕ) → IsBalanced M.Machine self.old s → IsBalanced M.Machine self.new s }
         ensures alike { IsAlike M.Machine self.old self.new }
-        ensures err { IfErr result (λ e. (e ≡ NotMade.NotEnabled) × (can_ask M.Machine self.old at asked sent ≡ false)) }
+        ensures err { IfErr result (IsNotEnabled (can_ask M.Machine self.old at asked sent)) }
         ensures same { OnErr result (self.new ≡ self.old) }
     {
         match self.inputs.ask(&self.machine, 0, asked, sent, at) {
@@ -112,7 +111,7 @@ impl<M: Machine> Node<M> {
         ensures effect { OnOk result (IsSentAt M.Machine (O.meaning ops.now) self.old at self.new) }
         ensures balance { OnOk result ((s : ℕ) → IsBalanced M.Machine self.old s → IsBalanced M.Machine self.new s) }
         ensures err { IfErr result (IsNotMade (can_send M.Machine (O.meaning ops.now) self.old at)) }
-        ensures memory { send_allocates M.Machine (O.allocates ops.now) self.old at ≡ false → IfErr result (λ e. e ≡ NotMade.NotEnabled) }
+        ensures memory { send_allocates M.Machine (O.allocates ops.now) self.old at ≡ false → OnlyNotEnabled result }
         ensures alike { IsAlike M.Machine self.old self.new }
         ensures same { OnErr result (self.new ≡ self.old) }
     {
@@ -140,13 +139,13 @@ impl<M: Machine> Node<M> {
         at: u32,
         input: u64,
     ) -> Result<(), NotMade>
-        ensures made { OnOk result (IsSteppedAt (IsPickedHere M.Machine (O.meaning ops.now) input) M.ended self.old (edge_view root.now) at self.new) }
+        ensures made { OnOk result (IsPickMadeAt M.Machine (O.meaning ops.now) input self.old (edge_view root.now) at self.new) }
         ensures enabled { OnOk result (can_pick_in M.Machine input (station_of self.old (edge_view root.now) at) ≡ true) }
         ensures effect { OnOk result (IsPickedAt M.Machine self.old (edge_view root.now) at input self.new) }
         ensures chosen { OnOk result (IsChosen M.Machine (O.meaning ops.now) self.old self.new) }
         ensures balance { OnOk result ((s : ℕ) → IsBalanced M.Machine self.old s → IsBalanced M.Machine self.new s) }
         ensures err { IfErr result (IsNotMade (can_pick_in M.Machine input (station_of self.old (edge_view root.now) at))) }
-        ensures memory { step_allocates_in M.Machine (O.allocates ops.now) (station_of self.old (edge_view root.now) at) ≡ false → IfErr result (λ e. e ≡ NotMade.NotEnabled) }
+        ensures memory { step_allocates M.Machine (O.allocates ops.now) self.old (edge_view root.now) at ≡ false → OnlyNotEnabled result }
         ensures alike { IsAlike M.Machine self.old self.new }
         ensures same { OnErr result (self.new ≡ self.old) }
     {
@@ -176,13 +175,13 @@ impl<M: Machine> Node<M> {
         root: &Edge,
         at: u32,
     ) -> Result<(), NotMade>
-        ensures made { OnOk result (IsSteppedAt (IsRowMadeHere M.Machine (O.meaning ops.now)) M.ended self.old (edge_view root.now) at self.new) }
+        ensures made { OnOk result (IsRowMadeAt M.Machine (O.meaning ops.now) self.old (edge_view root.now) at self.new) }
         ensures enabled { OnOk result (can_row_in M.Machine (station_of self.old (edge_view root.now) at) ≡ true) }
         ensures effect { OnOk result (IsRowAt M.Machine self.old (edge_view root.now) at self.new) }
         ensures chosen { OnOk result (IsChosen M.Machine (O.meaning ops.now) self.old self.new) }
         ensures balance { OnOk result ((s : ℕ) → IsBalanced M.Machine self.old s → IsBalanced M.Machine self.new s) }
         ensures err { IfErr result (IsNotMade (can_row_in M.Machine (station_of self.old (edge_view root.now) at))) }
-        ensures memory { step_allocates_in M.Machine (O.allocates ops.now) (station_of self.old (edge_view root.now) at) ≡ false → IfErr result (λ e. e ≡ NotMade.NotEnabled) }
+        ensures memory { step_allocates M.Machine (O.allocates ops.now) self.old (edge_view root.now) at ≡ false → OnlyNotEnabled result }
         ensures alike { IsAlike M.Machine self.old self.new }
         ensures same { OnErr result (self.new ≡ self.old) }
     {
@@ -215,7 +214,7 @@ impl<M: Machine> Node<M> {
         ops: &O,
         hubs: &[StreamValue<M::Item>],
     ) -> Result<StreamValue<M::Item>, NoMemory>
-        ensures { IfOk result (λ v. (further : List NoteSpec) (at : ℕ) → IsUnchosen M.Machine further self.now at → comes_out M.Machine (O.meaning ops.now) hubs.now further self.now at ≡ Some v) }
+        ensures { IfOk result (λ v. IsResidual M.Machine (O.meaning ops.now) hubs.now self.now v) }
     {
         let mut incoming = Vec::new(alloc);
         self.inputs.residual(alloc, ops, hubs, &mut incoming)?;
@@ -265,7 +264,7 @@ impl<M: Machine> Node<M> {
     /// `sent` are those of the root's own edge. None where no move is enabled, of all that a number can name.
     pub fn first_enabled(&self, first: u32, asked: u64, sent: u64) -> Option<NodeMove>
         ensures some { (m : Meaning M.Item) → IfSome result (λ e. IsEnabledAt M.Machine m self.now asked sent first e) }
-        ensures none { (m : Meaning M.Item) → IfNone result ((k : ℕ) → first + k < 2 ^ 32 → (can_ask M.Machine self.now k asked sent ≡ false) × (can_send M.Machine m self.now k ≡ false) × IsStill M.Machine (station self.now.inputs k)) }
+        ensures none { (m : Meaning M.Item) → IfNone result ((k : ℕ) → first + k < 2 ^ 32 → IsIdleAt M.Machine m self.now asked sent k) }
     {
         self.inputs
             .first_enabled(&self.machine, 0, asked, sent, first)

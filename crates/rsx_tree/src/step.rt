@@ -3,7 +3,8 @@
 ghost use Rattle.std.specs.Prelude.{◌≡◌, OnOk, OnErr, IfOk, IfErr, IsOk, Some, true, false};
 ghost use Rattle.rsx_sources.specs.Steps.{IsNotMade};
 ghost use Rattle.rsx_tree.specs.Inputs.{size};
-ghost use Rattle.rsx_tree.specs.Stepped.{IsPickedHere, IsRowMadeHere, IsStepOf, IsStepOver, IsStill, can_pick_in, can_row_in, over};
+ghost use Rattle.rsx_tree.specs.Refusals.{OnlyNotEnabled};
+ghost use Rattle.rsx_tree.specs.Stepped.{IsPickOver, IsRowOver, IsStepOf, IsStepOver, IsStill, can_pick_in, can_row_in, over};
 
 use crate::edge::Edge;
 use crate::inputs::Inputs;
@@ -20,9 +21,9 @@ pub(crate) fn pick_over<M: Machine, O: Ops<Item = M::Item>>(
     below: &mut Inputs<M>,
     input: u64,
 ) -> Result<(), NotMade>
-    ensures made { OnOk result (IsStepOver (IsPickedHere M.Machine (O.meaning ops.now) input) M.ended edge.now node.old below.old node.new below.new) }
+    ensures made { OnOk result (IsPickOver M.Machine (O.meaning ops.now) input edge.now node.old below.old node.new below.new) }
     ensures err { IfErr result (IsNotMade (can_pick_in M.Machine input (Some (over edge.now node.old)))) }
-    ensures memory { M.step_allocates (O.allocates ops.now) node.old ≡ false → IfErr result (λ e. e ≡ NotMade.NotEnabled) }
+    ensures memory { M.step_allocates (O.allocates ops.now) node.old ≡ false → OnlyNotEnabled result }
     ensures same { OnErr result ((node.new ≡ node.old) × (below.new ≡ below.old)) }
     ensures size { size below.new ≡ size below.old }
 {
@@ -46,9 +47,9 @@ pub(crate) fn row_over<M: Machine, O: Ops<Item = M::Item>>(
     node: &mut M,
     below: &mut Inputs<M>,
 ) -> Result<(), NotMade>
-    ensures made { OnOk result (IsStepOver (IsRowMadeHere M.Machine (O.meaning ops.now)) M.ended edge.now node.old below.old node.new below.new) }
+    ensures made { OnOk result (IsRowOver M.Machine (O.meaning ops.now) edge.now node.old below.old node.new below.new) }
     ensures err { IfErr result (IsNotMade (can_row_in M.Machine (Some (over edge.now node.old)))) }
-    ensures memory { M.step_allocates (O.allocates ops.now) node.old ≡ false → IfErr result (λ e. e ≡ NotMade.NotEnabled) }
+    ensures memory { M.step_allocates (O.allocates ops.now) node.old ≡ false → OnlyNotEnabled result }
     ensures same { OnErr result ((node.new ≡ node.old) × (below.new ≡ below.old)) }
     ensures size { size below.new ≡ size below.old }
 {
@@ -73,7 +74,8 @@ pub(crate) fn step_over<M: Machine, O: Ops<Item = M::Item>>(
     node: &mut M,
     below: &mut Inputs<M>,
 ) -> Result<bool, NoMemory>
-    ensures made { IfOk result (λ made. made ≡ true → IsStepOver (IsStepOf M.Machine (O.meaning ops.now)) M.ended edge.now node.old below.old node.new below.new) }
+    ensures made { IfOk result (λ made. made ≡ true →
+        IsStepOver (IsStepOf M.Machine (O.meaning ops.now)) M.ended edge.now node.old below.old node.new below.new) }
     ensures still { IfOk result (λ made. made ≡ false → IsStill M.Machine (Some (over edge.now node.old))) }
     ensures same { IfOk result (λ made. made ≡ false → (node.new ≡ node.old) × (below.new ≡ below.old)) }
     ensures err { OnErr result ((node.new ≡ node.old) × (below.new ≡ below.old)) }
