@@ -6,7 +6,9 @@ use Rattle.rsx_types.specs.declared.signal.Signal.{Signal}
 use Rattle.rsx_types.specs.declared.signal.Signal.TheVariants.{Next, Complete, Error}
 use Rattle.rsx_types.specs.Meaning.{Meaning, Allocates}
 use Rattle.rsx_types.specs.Stream.{Stream}
+use Rattle.rsx_sources.specs.Counts.{CountsIn, CountsStep}
 use Rattle.rsx_sources.specs.Machine.{Incoming}
+use Rattle.rsx_sources.specs.Steps.{AllocatesAlike}
 use Rattle.rsx_sources.specs.declared.machine.Front.{Front}
 use Rattle.rsx_sources.specs.declared.machine.Front.TheVariants.{Item, Completion as CompletionFront, Failure as FailureFront}
 use Rattle.rsx_sources.specs.declared.machine.Machine.{Ghosts as Machine}
@@ -121,3 +123,17 @@ queued_allocates b a n = b.signal_allocates a n.node
 -- a row takes a signal out of the node, or is one of the node; a pick is one of the node
 abbrev pub queued_step_allocates : {M T : Type 0} → Machine M T → Allocates → Queued M T → Bool
 queued_step_allocates b a n = b.pop_allocates a n.node || b.step_allocates a n.node
+
+-- ---- the words of a node's calls
+
+-- a signal of input i was taken in, by the counts of a node with its queue
+abbrev pub QueuedCountsIn : {M T : Type 0} → Machine M T → Queued M T → ℕ → Signal T → Queued M T → Type 0
+QueuedCountsIn b old i s new = CountsIn (queued_counted b) (queued_ended b) (queued_done b) old i s new
+
+-- a step of it, by these counts
+abbrev pub QueuedCountsStep : {M T : Type 0} → Machine M T → Queued M T → Queued M T → Type 0
+QueuedCountsStep b old new = CountsStep (queued_counted b) (queued_ended b) (queued_done b) old new
+
+-- the same of its calls may allocate; taking a signal out never does
+abbrev pub QueuedAlike : {M T : Type 0} → Machine M T → Queued M T → Queued M T → Type 0
+QueuedAlike b old new = AllocatesAlike (λ a n. false) (queued_allocates b) (queued_step_allocates b) old new

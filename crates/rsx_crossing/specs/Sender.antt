@@ -1,12 +1,12 @@
 -- A node whose edge crosses to another region or doesn't.
-use Rattle.std.specs.Prelude.{◌≡◌, ◌⊎◌, ⊤, ℕ, ◌<◌, ◌^◌, Bool, true, false, List, Option, Some, None, option_map, refl}
+use Rattle.std.specs.Prelude.{◌≡◌, ℕ, ◌<◌, Bool, true, false, List, Option, Some, None, option_map}
 use Rattle.std.proofs.Common.{inl, inr}
 use Rattle.rsx_types.specs.declared.note.Note.{Note}
 use Rattle.rsx_types.specs.declared.signal.Signal.{Signal}
 use Rattle.rsx_types.specs.Meaning.{Meaning, Allocates}
 use Rattle.rsx_types.specs.Notes.{unchosen}
 use Rattle.rsx_types.specs.Stream.{Stream}
-use Rattle.rsx_sources.specs.Counts.{AreWithin, CanStep, IsHungry, IsHungryAt, ends_input}
+use Rattle.rsx_sources.specs.Counts.{AreWithin, CountsIn, CanStep, IsHungry, ends_input}
 use Rattle.rsx_sources.specs.Machine.{Incoming, front_of}
 use Rattle.rsx_sources.specs.Steps.{AllocatesAlike}
 use Rattle.rsx_sources.specs.declared.machine.Front.{Front}
@@ -83,6 +83,16 @@ abbrev pub sender_step_allocates : {M T : Type 0} → Machine M T → Allocates 
 sender_step_allocates b a (Direct n) = b.step_allocates a n
 sender_step_allocates b a (Crossing n) = queued_step_allocates b a n
 
+-- ---- the words of a node's calls
+
+-- a signal of input i was taken in, by its counts
+abbrev pub SenderCountsIn : {M T : Type 0} → Machine M T → Sender M T → ℕ → Signal T → Sender M T → Type 0
+SenderCountsIn b old i s new = CountsIn (sender_counted b) (sender_ended b) (sender_done b) old i s new
+
+-- the same of its calls may allocate
+abbrev pub SenderAlike : {M T : Type 0} → Machine M T → Sender M T → Sender M T → Type 0
+SenderAlike b old new = AllocatesAlike (sender_pop_allocates b) (sender_signal_allocates b) (sender_step_allocates b) old new
+
 -- ---- and so it keeps their laws
 
 pub sender_shows : {M T : Type 0} (b : Machine M T) (m : Meaning T) → Shows b m → (n : Sender M T) → sender_shown b n ≡ option_map front_of (sender_waiting b m n)
@@ -92,7 +102,7 @@ sender_shows b m shows (Crossing n) = queued_shows m n
 abbrev pub IsAlike : {M T : Type 0} → Machine M T → Type 0
 IsAlike {M} {T} b = (old : M) (s : Signal T) (new : M) → b.popped old s new → AllocatesAlike b.pop_allocates b.signal_allocates b.step_allocates old new
 
-pub sender_alike : {M T : Type 0} (b : Machine M T) → IsAlike b → (old : Sender M T) (s : Signal T) (new : Sender M T) → sender_popped b old s new → AllocatesAlike (sender_pop_allocates b) (sender_signal_allocates b) (sender_step_allocates b) old new
+pub sender_alike : {M T : Type 0} (b : Machine M T) → IsAlike b → (old : Sender M T) (s : Signal T) (new : Sender M T) → sender_popped b old s new → SenderAlike b old new
 sender_alike b alike (Direct x) s (Direct y) h = alike x s y h
 sender_alike b alike (Crossing x) s (Crossing y) h = queued_popped_alike b x s y h
 sender_alike b alike (Direct x) s (Crossing y) h = absurd h

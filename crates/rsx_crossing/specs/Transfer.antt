@@ -28,6 +28,10 @@ pub record IsTransferred {M T : Type 0} (b : Machine M T) (m : Meaning T) (old n
   pub was_open : old.tail ≡ Open
   pub pushed : IsPushed old.queue signal new.queue new.tail
 
+-- nothing went over the edge, and nothing was taken from its queue
+abbrev pub IsQueueKept : {M T : Type 0} → Queued M T → Queued M T → Type 0
+IsQueueKept old new = (new.queue ≡ old.queue) × (new.tail ≡ old.tail)
+
 -- ---- the same, as callers see the edge
 
 -- how many items a signal is

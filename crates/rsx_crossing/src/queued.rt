@@ -84,12 +84,11 @@ impl<M: Machine<Item = T>, T: Drop> Machine for Queued<M, T> {
     type Item = T;
 
     ghost use Rattle.rsx_crossing.specs.Laws.{queued_shows, queued_popped_alike, queued_drops, queued_ends, queued_settles, queued_ending_waits, queued_hungry};
-    ghost use Rattle.rsx_crossing.specs.Queued.{queued_comes_out, queued_waiting, queued_shown, queued_takes, queued_picks, queued_rows, queued_ended, queued_done, queued_counted, queued_wanted, queued_popped, queued_allocates, queued_step_allocates, can_transfer};
+    ghost use Rattle.rsx_crossing.specs.Queued.{queued_comes_out, queued_waiting, queued_shown, queued_takes, queued_picks, queued_rows, queued_ended, queued_done, queued_counted, queued_wanted, queued_popped, queued_allocates, queued_step_allocates, can_transfer, QueuedCountsIn, QueuedCountsStep, QueuedAlike};
     ghost use Rattle.rsx_crossing.specs.declared.queued.Queued.{Queued};
-    ghost use Rattle.rsx_sources.specs.Counts.{CountsIn, CountsStep};
     ghost use Rattle.rsx_sources.specs.Machine.{TakesIn, Keeps, front_of};
-    ghost use Rattle.rsx_sources.specs.Steps.{AllocatesAlike, IsNotTaken, IsNotMade};
-    ghost use Rattle.rsx_crossing.specs.Transfer.{IsTransferred};
+    ghost use Rattle.rsx_sources.specs.Steps.{IsNotTaken, IsNotMade};
+    ghost use Rattle.rsx_crossing.specs.Transfer.{IsQueueKept, IsTransferred};
     ghost use Rattle.std.specs.Prelude.{◌≡◌, true, false, IsOk, OnOk, OnErr, IfErr};
 
     ghost comes_out = { queued_comes_out M.Machine };
@@ -180,10 +179,10 @@ impl<M: Machine<Item = T>, T: Drop> Machine for Queued<M, T> {
         ensures ok { OnOk result (TakesIn (queued_comes_out M.Machine (O.meaning ops.now)) self.old input signal self.new) }
         ensures enabled { OnOk result (queued_takes M.Machine self.old input (front_of signal) ≡ true) }
         ensures recorded { M.recorded self.new.node ≡ M.recorded self.old.node }
-        ensures counts { OnOk result (CountsIn (queued_counted M.Machine) (queued_ended M.Machine) (queued_done M.Machine) self.old input signal self.new) }
+        ensures counts { OnOk result (QueuedCountsIn M.Machine self.old input signal self.new) }
         ensures err { IfErr result (IsNotTaken (queued_takes M.Machine self.old input (front_of signal)) signal) }
         ensures memory { M.signal_allocates (O.allocates ops.now) self.old.node ≡ false → IfErr result (λ e. e ≡ NotTaken.Busy signal) }
-        ensures alike { AllocatesAlike (λ a n. false) (queued_allocates M.Machine) (queued_step_allocates M.Machine) self.old self.new }
+        ensures alike { QueuedAlike M.Machine self.old self.new }
         ensures same { OnErr result (self.new ≡ self.old) }
     {
         if !self.tail.is_open() {
@@ -249,16 +248,19 @@ impl<M: Machine<Item = T>, T: Drop> Machine for Queued<M, T> {
         ensures ok { OnOk result (Keeps (queued_comes_out M.Machine (O.meaning ops.now)) self.old self.new) }
         ensures enabled { OnOk result (queued_rows M.Machine self.old asked sent ≡ true) }
         ensures recorded { M.recorded self.new.node ≡ M.recorded self.old.node }
-        ensures counts { OnOk result (CountsStep (queued_counted M.Machine) (queued_ended M.Machine) (queued_done M.Machine) self.old self.new) }
+        ensures counts { OnOk result (QueuedCountsStep M.Machine self.old self.new) }
         ensures err { IfErr result (IsNotMade (queued_rows M.Machine self.old asked sent)) }
-        ensures memory { queued_step_allocates M.Machine (O.allocates ops.now) self.old ≡ false → IfErr result (λ e. e ≡ NotMade.NotEnabled) }
-        ensures alike { AllocatesAlike (λ a n. false) (queued_allocates M.Machine) (queued_step_allocates M.Machine) self.old self.new }
+        ensures memory { queued_step_allocates M.Machine (O.allocates ops.now) self.old ≡ false →
+            IfErr result (λ e. e ≡ NotMade.NotEnabled) }
+        ensures alike { QueuedAlike M.Machine self.old self.new }
         ensures same { OnErr result (self.new ≡ self.old) }
 
         // Where a signal can go over the edge, this is the Send over it, and else a row of the node, of which the queue is none.
-        ensures transferred { can_transfer M.Machine self.old asked sent ≡ true → OnOk result (IsTransferred M.Machine (O.meaning ops.now) self.old self.new) }
-        ensures beside { can_transfer M.Machine self.old asked sent ≡ false → (self.new.queue ≡ self.old.queue) × (self.new.tail ≡ self.old.tail) }
-        ensures sent { can_transfer M.Machine self.old asked sent ≡ true → M.pop_allocates (O.allocates ops.now) self.old.node ≡ false → IsOk result }
+        ensures transferred { can_transfer M.Machine self.old asked sent ≡ true →
+            OnOk result (IsTransferred M.Machine (O.meaning ops.now) self.old self.new) }
+        ensures beside { can_transfer M.Machine self.old asked sent ≡ false → IsQueueKept self.old self.new }
+        ensures sent { can_transfer M.Machine self.old asked sent ≡ true →
+            M.pop_allocates (O.allocates ops.now) self.old.node ≡ false → IsOk result }
     {
         if !self.can_transfer(asked, sent) {
             if !self.tail.is_open() {

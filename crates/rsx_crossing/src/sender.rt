@@ -19,11 +19,10 @@ pub enum Sender<M, T> {
 impl<M: Machine<Item = T>, T: Drop> Machine for Sender<M, T> {
     type Item = T;
 
-    ghost use Rattle.rsx_crossing.specs.Sender.{sender_comes_out, sender_waiting, sender_shown, sender_takes, sender_picks, sender_rows, sender_recording, sender_recorded, sender_ended, sender_done, sender_counted, sender_wanted, sender_popped, sender_pop_allocates, sender_signal_allocates, sender_step_allocates, sender_shows, sender_alike, sender_drops, sender_ends, sender_settles, sender_ending_waits, sender_hungry};
+    ghost use Rattle.rsx_crossing.specs.Sender.{sender_comes_out, sender_waiting, sender_shown, sender_takes, sender_picks, sender_rows, sender_recording, sender_recorded, sender_ended, sender_done, sender_counted, sender_wanted, sender_popped, sender_pop_allocates, sender_signal_allocates, sender_step_allocates, sender_shows, sender_alike, sender_drops, sender_ends, sender_settles, sender_ending_waits, sender_hungry, SenderCountsIn, SenderAlike};
     ghost use Rattle.rsx_crossing.specs.declared.sender.Sender.{Sender};
-    ghost use Rattle.rsx_sources.specs.Counts.{CountsIn};
     ghost use Rattle.rsx_sources.specs.Machine.{TakesIn, front_of};
-    ghost use Rattle.rsx_sources.specs.Steps.{AllocatesAlike, IsNotTaken};
+    ghost use Rattle.rsx_sources.specs.Steps.{IsNotTaken};
     ghost use Rattle.std.specs.Prelude.{◌≡◌, true, false, OnOk, OnErr, IfErr};
 
     ghost comes_out = { sender_comes_out M.Machine };
@@ -112,10 +111,11 @@ impl<M: Machine<Item = T>, T: Drop> Machine for Sender<M, T> {
         ensures ok { OnOk result (TakesIn (sender_comes_out M.Machine (O.meaning ops.now)) self.old input signal self.new) }
         ensures enabled { OnOk result (sender_takes M.Machine self.old input (front_of signal) ≡ true) }
         ensures recorded { sender_recorded M.Machine self.new ≡ sender_recorded M.Machine self.old }
-        ensures counts { OnOk result (CountsIn (sender_counted M.Machine) (sender_ended M.Machine) (sender_done M.Machine) self.old input signal self.new) }
+        ensures counts { OnOk result (SenderCountsIn M.Machine self.old input signal self.new) }
         ensures err { IfErr result (IsNotTaken (sender_takes M.Machine self.old input (front_of signal)) signal) }
-        ensures memory { sender_signal_allocates M.Machine (O.allocates ops.now) self.old ≡ false → IfErr result (λ e. e ≡ NotTaken.Busy signal) }
-        ensures alike { AllocatesAlike (sender_pop_allocates M.Machine) (sender_signal_allocates M.Machine) (sender_step_allocates M.Machine) self.old self.new }
+        ensures memory { sender_signal_allocates M.Machine (O.allocates ops.now) self.old ≡ false →
+            IfErr result (λ e. e ≡ NotTaken.Busy signal) }
+        ensures alike { SenderAlike M.Machine self.old self.new }
         ensures same { OnErr result (self.new ≡ self.old) }
     {
         match self {
