@@ -1,15 +1,13 @@
 -- A node whose edge doesn't cross lets an item through as the node does.
-use Rattle.std.proofs.Common.{◌≡◌, ap, ℕ, Bool, List, Option}
+use Rattle.std.proofs.Common.{ap, ℕ}
 use Rattle.rsx_types.specs.declared.signal.Signal.{Signal}
 use Rattle.rsx_types.specs.declared.signal.Signal.TheVariants.{Next}
 use Rattle.rsx_types.specs.Meaning.{Meaning}
-use Rattle.rsx_sources.specs.Counts.{CountsIn}
 use Rattle.rsx_sources.specs.Passed.{IsTakenIn, IsItemOut, IsPassed}
 use Rattle.rsx_sources.specs.declared.machine.Machine.{Ghosts as Machine}
 use Rattle.rsx_sources.specs.declared.machine.Passed.{Passed}
 use Rattle.rsx_sources.specs.declared.machine.Passed.TheVariants.{Item, Kept, Declined}
-use Rattle.rsx_crossing.specs.declared.sender.Sender.{Sender}
-use Rattle.rsx_crossing.specs.declared.sender.Sender.TheVariants.{Direct, Crossing}
+use Rattle.rsx_crossing.specs.declared.sender.Sender.TheVariants.{Direct}
 use Rattle.rsx_crossing.specs.Sender.{sender_comes_out, sender_waiting, sender_takes, sender_recorded, sender_ended, sender_done, sender_counted, sender_popped}
 
 in_direct : {M T : Type 0} (b : Machine M T) (m : Meaning T) (old new : M) (i : ℕ) (s : Signal T) → IsTakenIn (b.comes_out m) b.takes b.recorded b.counted b.ended b.done old i s new →
