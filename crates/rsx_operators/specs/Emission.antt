@@ -1,6 +1,7 @@
 -- At most one item, and then at most one ending: what stands in front of what still comes.
 use Rattle.std.specs.Prelude.{Option, Some, None}
 use Rattle.rsx_types.specs.Stream.{Stream, item_then}
+use Rattle.rsx_types.specs.declared.signal.Ending.{Ending}
 use Rattle.rsx_operators.specs.Moves.{ended_or}
 use Rattle.rsx_operators.specs.declared.prepared.Emission.{Emission}
 
@@ -12,3 +13,7 @@ item_or (Some x) v = item_then x v
 -- an emission, and then what comes
 abbrev pub emission_then : {T : Type 0} → Emission T → Stream T → Stream T
 emission_then p v = item_or p.item (ended_or p.ending v)
+
+-- an item, and this ending behind it
+abbrev pub item_ended : {T : Type 0} → T → Ending → Emission T
+item_ended x e = record { item = Some x; ending = e }

@@ -5,7 +5,7 @@ use Rattle.rsx_types.specs.declared.signal.Ending.{Ending}
 use Rattle.rsx_types.specs.declared.signal.Ending.TheVariants.{Open, Done, Failed}
 use Rattle.rsx_types.specs.declared.signal.Signal.{Signal}
 use Rattle.rsx_types.specs.declared.signal.Signal.TheVariants.{Next, Complete, Error}
-use Rattle.rsx_types.specs.Stream.{Stream, ended_by, signal_then, signals_then}
+use Rattle.rsx_types.specs.Stream.{Stream, ended_by, items_then, signal_then, signals_then}
 
 -- whatever still comes: the signal goes into old, out comes out, and new is left
 abbrev pub Moves : {T S : Type 0} → (S → Stream T → Stream T) → S → Signal T → List (Signal T) → S → Type 0
@@ -39,3 +39,8 @@ abbrev pub ended_or : {T : Type 0} → Ending → Stream T → Stream T
 ended_or Open v = v
 ended_or Done v = ended_by Done
 ended_or (Failed c) v = ended_by (Failed c)
+
+-- the items of some signals were put behind those before, and their ending is e: the signals stand behind the items before
+-- as e behind those after
+abbrev pub IsPutBehind : {T : Type 0} → List T → List (Signal T) → List T → Ending → Type 0
+IsPutBehind {T} before signals after e = (v : Stream T) → items_then before (signals_then signals v) ≡ items_then after (ended_or e v)

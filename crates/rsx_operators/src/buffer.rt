@@ -1,8 +1,9 @@
 //! `buffer`: lists of the items.
 
-ghost use Rattle.std.specs.Prelude.{◌≡◌, ◌*◌, min, Some, List, [], IfOk, IfErr};
+ghost use Rattle.std.specs.Prelude.{◌≡◌, ◌*◌, min, List, [], IfOk, IfErr};
 ghost use Rattle.rsx_types.specs.declared.signal.Signal.{Signal};
 ghost use Rattle.rsx_types.specs.declared.signal.Signal.TheVariants.{Next, Complete};
+ghost use Rattle.rsx_operators.specs.Emission.{item_ended};
 ghost use Rattle.rsx_operators.specs.Prepared.{IsPreparation, list_at_end as at_end, list_due as due};
 ghost use Rattle.rsx_operators.specs.State.{IsReaction};
 ghost use Rattle.rsx_operators.specs.declared.state.PlainState.TheVariants.{Buffer as BufferFrom};
@@ -29,7 +30,8 @@ pub(crate) trait BufferReaction<T: Drop> {
         item: T,
     ) -> Result<(), Signal<T>>
         requires { slot self.old ≡ [] }
-        ensures { IsReaction (O.meaning ops.now) (O.allocates ops.now) (BufferFrom size gathered.old) (Next item) result (slot self.new) (BufferFrom size gathered.new) };
+        ensures { IsReaction (O.meaning ops.now) (O.allocates ops.now) (BufferFrom size gathered.old) (Next item)
+            result (slot self.new) (BufferFrom size gathered.new) };
 
     /// Puts the list of the gathered items into the empty slot, if there are any, and then the completion. For want of memory the
     /// completion comes back, and nothing has changed.
@@ -41,7 +43,8 @@ pub(crate) trait BufferReaction<T: Drop> {
         gathered: &mut Buffered<T>,
     ) -> Result<(), Signal<T>>
         requires { slot self.old ≡ [] }
-        ensures { IsReaction (O.meaning ops.now) (O.allocates ops.now) (BufferFrom size gathered.old) Complete result (slot self.new) (BufferFrom size gathered.new) };
+        ensures { IsReaction (O.meaning ops.now) (O.allocates ops.now) (BufferFrom size gathered.old) Complete
+            result (slot self.new) (BufferFrom size gathered.new) };
 }
 
 impl<T: Drop> BufferReaction<T> for OutSlot<T> {
@@ -112,7 +115,8 @@ pub(crate) fn prepare<T: Drop, O: Ops<Item = T>>(
     item: T,
     ending: Ending,
 ) -> Result<Prepared<T>, T>
-    ensures answer { IsPreparation (O.meaning ops.now) (O.allocates ops.now) (BufferFrom size gathered.old) (record { item = Some item; ending = ending }) result (BufferFrom size gathered.new) }
+    ensures answer { IsPreparation (O.meaning ops.now) (O.allocates ops.now) (BufferFrom size gathered.old)
+        (item_ended item ending) result (BufferFrom size gathered.new) }
     ensures err { IfErr result (λ x. x ≡ item) }
 {
     if let Err(item) = gathered.push(item) {

@@ -1,8 +1,9 @@
 //! `distinct`: the first item of each key.
 
-ghost use Rattle.std.specs.Prelude.{◌≡◌, ◌+◌, min, Some, List, [], IfErr};
+ghost use Rattle.std.specs.Prelude.{◌≡◌, ◌+◌, min, List, [], IfErr};
 ghost use Rattle.rsx_types.specs.declared.signal.Signal.{Signal};
 ghost use Rattle.rsx_types.specs.declared.signal.Signal.TheVariants.{Next};
+ghost use Rattle.rsx_operators.specs.Emission.{item_ended};
 ghost use Rattle.rsx_operators.specs.Prepared.{IsPreparation};
 ghost use Rattle.rsx_operators.specs.State.{IsReaction};
 ghost use Rattle.rsx_operators.specs.declared.state.PlainState.TheVariants.{Distinct as DistinctFrom};
@@ -28,7 +29,8 @@ pub(crate) trait DistinctReaction<T: Drop> {
         item: T,
     ) -> Result<(), Signal<T>>
         requires { slot self.old ≡ [] }
-        ensures { IsReaction (O.meaning ops.now) (O.allocates ops.now) (DistinctFrom function keys.old repeated.old) (Next item) result (slot self.new) (DistinctFrom function keys.new repeated.new) };
+        ensures { IsReaction (O.meaning ops.now) (O.allocates ops.now) (DistinctFrom function keys.old repeated.old) (Next item)
+            result (slot self.new) (DistinctFrom function keys.new repeated.new) };
 }
 
 impl<T: Drop> DistinctReaction<T> for OutSlot<T> {
@@ -74,7 +76,8 @@ pub(crate) fn prepare<T: Drop, O: Ops<Item = T>>(
     item: T,
     ending: Ending,
 ) -> Result<Prepared<T>, T>
-    ensures answer { IsPreparation (O.meaning ops.now) (O.allocates ops.now) (DistinctFrom function keys.old repeated) (record { item = Some item; ending = ending }) result (DistinctFrom function keys.new repeated) }
+    ensures answer { IsPreparation (O.meaning ops.now) (O.allocates ops.now) (DistinctFrom function keys.old repeated)
+        (item_ended item ending) result (DistinctFrom function keys.new repeated) }
     ensures err { IfErr result (λ x. x ≡ item) }
 {
     match ops.key(function, &item) {

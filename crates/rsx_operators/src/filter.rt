@@ -1,8 +1,9 @@
 //! `filter`: the items whose test is true.
 
-ghost use Rattle.std.specs.Prelude.{◌≡◌, ◌+◌, min, Some, List, [], IfErr};
+ghost use Rattle.std.specs.Prelude.{◌≡◌, ◌+◌, min, List, [], IfErr};
 ghost use Rattle.rsx_types.specs.declared.signal.Signal.{Signal};
 ghost use Rattle.rsx_types.specs.declared.signal.Signal.TheVariants.{Next};
+ghost use Rattle.rsx_operators.specs.Emission.{item_ended};
 ghost use Rattle.rsx_operators.specs.Prepared.{IsPreparation};
 ghost use Rattle.rsx_operators.specs.State.{IsReaction};
 ghost use Rattle.rsx_operators.specs.declared.state.PlainState.TheVariants.{Filter as FilterFrom};
@@ -26,7 +27,8 @@ pub(crate) trait FilterReaction<T: Drop> {
         item: T,
     ) -> Result<(), Signal<T>>
         requires { slot self.old ≡ [] }
-        ensures { IsReaction (O.meaning ops.now) (O.allocates ops.now) (FilterFrom function dropped.old) (Next item) result (slot self.new) (FilterFrom function dropped.new) };
+        ensures { IsReaction (O.meaning ops.now) (O.allocates ops.now) (FilterFrom function dropped.old) (Next item)
+            result (slot self.new) (FilterFrom function dropped.new) };
 }
 
 impl<T: Drop> FilterReaction<T> for OutSlot<T> {
@@ -66,7 +68,8 @@ pub(crate) fn prepare<T: Drop, O: Ops<Item = T>>(
     item: T,
     ending: Ending,
 ) -> Result<Prepared<T>, T>
-    ensures answer { IsPreparation (O.meaning ops.now) (O.allocates ops.now) (FilterFrom function dropped) (record { item = Some item; ending = ending }) result (FilterFrom function dropped) }
+    ensures answer { IsPreparation (O.meaning ops.now) (O.allocates ops.now) (FilterFrom function dropped)
+        (item_ended item ending) result (FilterFrom function dropped) }
     ensures err { IfErr result (λ x. x ≡ item) }
 {
     match ops.test(function, &item) {

@@ -1,8 +1,9 @@
 //! `map`: the answers of a function.
 
-ghost use Rattle.std.specs.Prelude.{◌≡◌, Some, List, [], IfErr};
+ghost use Rattle.std.specs.Prelude.{◌≡◌, List, [], IfErr};
 ghost use Rattle.rsx_types.specs.declared.signal.Signal.{Signal};
 ghost use Rattle.rsx_types.specs.declared.signal.Signal.TheVariants.{Next};
+ghost use Rattle.rsx_operators.specs.Emission.{item_ended};
 ghost use Rattle.rsx_operators.specs.Prepared.{IsPreparation};
 ghost use Rattle.rsx_operators.specs.State.{IsReaction};
 ghost use Rattle.rsx_operators.specs.declared.state.PlainState.TheVariants.{Map as MapFrom};
@@ -25,7 +26,8 @@ pub(crate) trait MapReaction<T: Drop> {
         item: T,
     ) -> Result<(), Signal<T>>
         requires { slot self.old ≡ [] }
-        ensures { IsReaction (O.meaning ops.now) (O.allocates ops.now) (MapFrom function) (Next item) result (slot self.new) (MapFrom function) };
+        ensures { IsReaction (O.meaning ops.now) (O.allocates ops.now) (MapFrom function) (Next item)
+            result (slot self.new) (MapFrom function) };
 }
 
 impl<T: Drop> MapReaction<T> for OutSlot<T> {
@@ -55,7 +57,8 @@ pub(crate) fn prepare<T: Drop, O: Ops<Item = T>>(
     item: T,
     ending: Ending,
 ) -> Result<Prepared<T>, T>
-    ensures answer { IsPreparation (O.meaning ops.now) (O.allocates ops.now) (MapFrom function) (record { item = Some item; ending = ending }) result (MapFrom function) }
+    ensures answer { IsPreparation (O.meaning ops.now) (O.allocates ops.now) (MapFrom function)
+        (item_ended item ending) result (MapFrom function) }
     ensures err { IfErr result (λ x. x ≡ item) }
 {
     match ops.map(alloc, function, &item) {

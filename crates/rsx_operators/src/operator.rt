@@ -56,5 +56,6 @@ pub trait Operator<T: Drop> {
         items: &[T],
         ending: Ending,
     ) -> Result<StreamValue<T>, NoMemory>
-        ensures { IfOk result (λ v. v ≡ items_then out.items (from (O.meaning ops.now) self.now (record { items = items.now; ending = ending }))) };
+        ensures { IfOk result (λ v. v ≡ items_then out.items (
+            from (O.meaning ops.now) self.now (record { items = items.now; ending = ending }))) };
 }

@@ -1,6 +1,7 @@
 //! Answers that can still go back, for chains: prepare, and then commit or roll back.
 
-ghost use Rattle.std.specs.Prelude.{◌≡◌, Some, None, false, IfOk, IfErr, IsOk, OnErr};
+ghost use Rattle.std.specs.Prelude.{◌≡◌, None, false, IfOk, IfErr, IsOk, OnErr};
+ghost use Rattle.rsx_operators.specs.Emission.{item_ended};
 ghost use Rattle.rsx_operators.specs.Prepared.{IsPrepared, IsPreparation, committed, rolled_back, taken_back};
 ghost use Rattle.rsx_operators.specs.State.{allocates_from};
 
@@ -98,7 +99,7 @@ fn to_item<T: Drop, O: Ops<Item = T>>(
     item: T,
     ending: Ending,
 ) -> Result<Prepared<T>, T>
-    ensures answer { IsPreparation (O.meaning ops.now) (O.allocates ops.now) state.old (record { item = Some item; ending = ending }) result state.new }
+    ensures answer { IsPreparation (O.meaning ops.now) (O.allocates ops.now) state.old (item_ended item ending) result state.new }
     ensures err { IfErr result (λ x. x ≡ item) }
 {
     match state {

@@ -39,7 +39,8 @@ pub struct Prepared<T> {
 
 /// What an operator answers where it kept the item and failed by a fault of a function.
 pub(crate) fn failed<T: Drop>(item: T, code: u32) -> Prepared<T>
-    ensures { result ≡ record { pending = Pending.Kept item; answer = record { item = None; ending = Ending.Failed (Cause.Function code) } } }
+    ensures { result ≡
+        record { pending = Pending.Kept item; answer = record { item = None; ending = Ending.Failed (Cause.Function code) } } }
 {
     kept(item, None, Ending::Failed(Cause::Function(code)))
 }

@@ -2,9 +2,10 @@
 
 ghost use Rattle.std.specs.Prelude.{◌≡◌, true, false, List, IfOk};
 ghost use Rattle.std.specs.Option.{option_to_list};
-ghost use Rattle.rsx_types.specs.Stream.{Stream, items_then, signal_then, signals_then, ending_signals};
-ghost use Rattle.rsx_operators.specs.Moves.{ended_or, has_ended, has_ending};
-ghost use Rattle.rsx_operators.specs.State.{plain_from, is_over};
+ghost use Rattle.rsx_types.specs.Stream.{ending_signals};
+ghost use Rattle.rsx_operators.specs.Moves.{IsPutBehind, has_ended, has_ending};
+ghost use Rattle.rsx_operators.specs.Collected.{IsCollected, IsAllCollected};
+ghost use Rattle.rsx_operators.specs.State.{is_over};
 
 use crate::operator::Operator;
 use crate::state::PlainState;
@@ -26,7 +27,7 @@ pub(crate) trait Collected<T: Drop> {
         state: &mut PlainState<T>,
         signal: Signal<T>,
     ) -> Result<Ending, NoMemory>
-        ensures moves { IfOk result (λ e. (v : Stream T) → items_then (so_far self.old) (plain_from (O.meaning ops.now) state.old (signal_then signal v)) ≡ items_then (so_far self.new) (ended_or e (plain_from (O.meaning ops.now) state.new v))) }
+        ensures moves { IfOk result (IsCollected (O.meaning ops.now) (so_far self.old) state.old signal (so_far self.new) state.new) }
         ensures over { IfOk result (λ e. is_over state.new ≡ true → has_ended e ≡ true) };
 
     /// Has the operator take these items and this ending, and puts the items that come out behind the others. The answer is
@@ -40,7 +41,7 @@ pub(crate) trait Collected<T: Drop> {
         ending: Ending,
     ) -> Result<Ending, NoMemory>
         requires { is_over state.old ≡ false }
-        ensures { IfOk result (λ e. items_then (so_far self.old) (plain_from (O.meaning ops.now) state.old (record { items = items.now; ending = ending })) ≡ record { items = so_far self.new; ending = e }) };
+        ensures { IfOk result (IsAllCollected (O.meaning ops.now) (so_far self.old) state.old items.now ending (so_far self.new)) };
 }
 
 impl<T: Drop> Collected<T> for Vec<T> {
@@ -53,7 +54,7 @@ impl<T: Drop> Collected<T> for Vec<T> {
         state: &mut PlainState<T>,
         signal: Signal<T>,
     ) -> Result<Ending, NoMemory>
-        ensures moves { IfOk result (λ e. (v : Stream T) → items_then self.old.items (plain_from (O.meaning ops.now) state.old (signal_then signal v)) ≡ items_then self.new.items (ended_or e (plain_from (O.meaning ops.now) state.new v))) }
+        ensures moves { IfOk result (IsCollected (O.meaning ops.now) self.old.items state.old signal self.new.items state.new) }
         ensures over { IfOk result (λ e. is_over state.new ≡ true → has_ended e ≡ true) }
     {
         let mut slot = OutSlot::new();
@@ -75,7 +76,7 @@ impl<T: Drop> Collected<T> for Vec<T> {
         ending: Ending,
     ) -> Result<Ending, NoMemory>
         requires { is_over state.old ≡ false }
-        ensures { IfOk result (λ e. items_then self.old.items (plain_from (O.meaning ops.now) state.old (record { items = items.now; ending = ending })) ≡ record { items = self.new.items; ending = e }) }
+        ensures { IfOk result (IsAllCollected (O.meaning ops.now) self.old.items state.old items.now ending self.new.items) }
     {
         for item in items {
             let signal = Signal::Next(ops.copy(alloc, item)?);
@@ -96,7 +97,7 @@ impl<T: Drop> Collected<T> for Vec<T> {
 
 /// Puts the items of a slot behind the others, and answers its ending, `Open` where it has none.
 fn drain<T: Drop>(slot: OutSlot<T>, out: &mut Vec<T>) -> Result<Ending, NoMemory>
-    ensures moves { IfOk result (λ e. (v : Stream T) → items_then out.old.items (signals_then slot v) ≡ items_then out.new.items (ended_or e v)) }
+    ensures moves { IfOk result (IsPutBehind out.old.items slot out.new.items) }
     ensures ended { IfOk result (λ e. has_ending slot ≡ true → has_ended e ≡ true) }
 {
     let mut slot = slot;
@@ -108,7 +109,7 @@ fn drain<T: Drop>(slot: OutSlot<T>, out: &mut Vec<T>) -> Result<Ending, NoMemory
 
 /// Puts the item of a signal, if it has one, behind the others, and answers its ending, `Open` where it is none.
 fn put_behind<T: Drop>(signal: Option<Signal<T>>, out: &mut Vec<T>) -> Result<Ending, NoMemory>
-    ensures moves { IfOk result (λ e. (v : Stream T) → items_then out.old.items (signals_then (option_to_list signal) v) ≡ items_then out.new.items (ended_or e v)) }
+    ensures moves { IfOk result (IsPutBehind out.old.items (option_to_list signal) out.new.items) }
     ensures ended { IfOk result (λ e. has_ending (option_to_list signal) ≡ true → has_ended e ≡ true) }
 {
     match signal {

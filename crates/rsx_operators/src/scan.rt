@@ -1,8 +1,9 @@
 //! `scan`: the accumulations.
 
-ghost use Rattle.std.specs.Prelude.{◌≡◌, ◌-◌, Some, List, [], IfErr};
+ghost use Rattle.std.specs.Prelude.{◌≡◌, ◌-◌, List, [], IfErr};
 ghost use Rattle.rsx_types.specs.declared.signal.Signal.{Signal};
 ghost use Rattle.rsx_types.specs.declared.signal.Signal.TheVariants.{Next};
+ghost use Rattle.rsx_operators.specs.Emission.{item_ended};
 ghost use Rattle.rsx_operators.specs.Prepared.{IsPreparation};
 ghost use Rattle.rsx_operators.specs.State.{IsReaction};
 ghost use Rattle.rsx_operators.specs.declared.state.PlainState.TheVariants.{Scan as ScanFrom};
@@ -27,7 +28,8 @@ pub(crate) trait ScanReaction<T: Drop> {
         item: T,
     ) -> Result<(), Signal<T>>
         requires { slot self.old ≡ [] }
-        ensures { IsReaction (O.meaning ops.now) (O.allocates ops.now) (ScanFrom function last.old) (Next item) result (slot self.new) (ScanFrom function last.new) };
+        ensures { IsReaction (O.meaning ops.now) (O.allocates ops.now) (ScanFrom function last.old) (Next item)
+            result (slot self.new) (ScanFrom function last.new) };
 }
 
 impl<T: Drop> ScanReaction<T> for OutSlot<T> {
@@ -73,7 +75,8 @@ pub(crate) fn prepare<T: Drop, O: Ops<Item = T>>(
     item: T,
     ending: Ending,
 ) -> Result<Prepared<T>, T>
-    ensures answer { IsPreparation (O.meaning ops.now) (O.allocates ops.now) (ScanFrom function last.now) (record { item = Some item; ending = ending }) result (ScanFrom function last.now) }
+    ensures answer { IsPreparation (O.meaning ops.now) (O.allocates ops.now) (ScanFrom function last.now)
+        (item_ended item ending) result (ScanFrom function last.now) }
     ensures err { IfErr result (λ x. x ≡ item) }
 {
     match ops.fold(alloc, function, last, &item) {

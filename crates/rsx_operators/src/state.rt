@@ -199,7 +199,8 @@ impl<T: Drop> Operator<T> for PlainState<T> {
         items: &[T],
         ending: Ending,
     ) -> Result<StreamValue<T>, NoMemory>
-        ensures { IfOk result (λ v. v ≡ items_then out.items (plain_from (O.meaning ops.now) self.now (record { items = items.now; ending = ending }))) }
+        ensures { IfOk result (λ v. v ≡ items_then out.items (
+            plain_from (O.meaning ops.now) self.now (record { items = items.now; ending = ending }))) }
     {
         if self.is_over() {
             return Ok(StreamValue::new(out, Ending::Done));

@@ -1,9 +1,10 @@
 //! `take`: the first items, and then the completion.
 
-ghost use Rattle.std.specs.Prelude.{◌≡◌, ◌≢◌, ◌-◌, true, min, Some, [], ◌∷◌};
+ghost use Rattle.std.specs.Prelude.{◌≡◌, ◌≢◌, ◌-◌, true, min, [], ◌∷◌};
 ghost use Rattle.rsx_types.specs.Plain.{taken_items};
 ghost use Rattle.rsx_types.specs.Stream.{Stream, signals_then};
 ghost use Rattle.rsx_operators.specs.Moves.{EndsLast, has_ending};
+ghost use Rattle.rsx_operators.specs.Emission.{item_ended};
 ghost use Rattle.rsx_operators.specs.Prepared.{IsPrepared};
 ghost use Rattle.rsx_operators.specs.declared.state.PlainState.TheVariants.{Take as TakeFrom};
 
@@ -15,7 +16,8 @@ use rsx_types::{Ending, Ops, Signal};
 pub(crate) fn react<T: Drop>(left: &mut u64, item: T, out: &mut OutSlot<T>)
     requires some { left.old ≢ 0 }
     requires none { out.old ≡ [] }
-    ensures ok { (rest : Stream T) → taken_items left.old (item ∷ rest.items) rest.ending ≡ signals_then out.new (taken_items left.new rest.items rest.ending) }
+    ensures ok { (rest : Stream T) →
+        taken_items left.old (item ∷ rest.items) rest.ending ≡ signals_then out.new (taken_items left.new rest.items rest.ending) }
     ensures cut { EndsLast out.new }
     ensures over { left.new ≡ 0 → has_ending out.new ≡ true }
     ensures left { left.new ≡ left.old - 1 }
@@ -45,7 +47,7 @@ pub(crate) fn prepare<T: Drop, O: Ops<Item = T>>(
     item: T,
     ending: Ending,
 ) -> Prepared<T>
-    ensures { IsPrepared (O.meaning ops.now) (TakeFrom count left) (record { item = Some item; ending = ending }) (TakeFrom count left) result }
+    ensures { IsPrepared (O.meaning ops.now) (TakeFrom count left) (item_ended item ending) (TakeFrom count left) result }
 {
     match left {
         0 => kept(item, None, Ending::Done),
