@@ -1,8 +1,13 @@
 -- A chain of plain operators from its state.
-use Rattle.std.specs.Prelude.{Bool, false, ◌||◌}
+use Rattle.std.specs.Prelude.{◌≡◌, Bool, false, ◌||◌, List}
 use Rattle.rsx_types.specs.Meaning.{Meaning, Allocates}
+use Rattle.rsx_types.specs.Plain.{plain, chained}
 use Rattle.rsx_types.specs.Stream.{Stream}
-use Rattle.rsx_operators.specs.State.{plain_from, is_over, allocates_from}
+use Rattle.rsx_types.specs.declared.stage.Stage.{Stage}
+use Rattle.rsx_operators.specs.Emission.{emission_then}
+use Rattle.rsx_operators.specs.State.{plain_from, plain_start, is_over, allocates_from}
+use Rattle.rsx_operators.specs.declared.prepared.Emission.{Emission}
+use Rattle.rsx_chain.specs.Emissions.{followed_by}
 use Rattle.rsx_chain.specs.declared.chain.ChainState.{ChainState, End, Stage'}
 
 -- what comes out of the first operator goes into the chain behind it
@@ -19,3 +24,23 @@ chain_over (Stage' s p behind) = is_over s || chain_over behind
 abbrev pub chain_allocates : {T : Type 0} → Allocates → ChainState T → Bool
 chain_allocates a End = false
 chain_allocates a (Stage' s p behind) = allocates_from a s || chain_allocates a behind
+
+-- ---- what came out first, and then what comes out of the chain
+
+-- that is what the operators make of a whole value
+abbrev pub IsChained : {T : Type 0} → Meaning T → List (Stage T) → Stream T → ChainState T → Type 0
+IsChained {T} m stages first new = (v : Stream T) → chained m stages v ≡ followed_by first (chain_from m new v)
+
+-- so it is with one operator more, in front of the old chain: what it makes of a whole value went into that
+abbrev pub IsChainedFirst : {T : Type 0} → Meaning T → Stage T → Stream T → ChainState T → Stream T → ChainState T → Type 0
+IsChainedFirst {T} m stage before old first new =
+    (v : Stream T) → followed_by before (chain_from m old (plain m stage v)) ≡ followed_by first (chain_from m new v)
+
+-- what comes out of an operator at the start went into the old chain, and the new one takes what comes out of it from then on
+abbrev pub TakesStart : {T : Type 0} → Meaning T → Stage T → Stream T → ChainState T → Stream T → ChainState T → Type 0
+TakesStart {T} m stage before old first new =
+    (v : Stream T) → followed_by before (chain_from m old (plain m stage v)) ≡ followed_by first (chain_from m new (plain_from m (plain_start stage) v))
+
+-- whatever still comes: the emission goes into the old chain, `out` comes out, and the new one is left
+abbrev pub MovesEmission : {T : Type 0} → Meaning T → ChainState T → Emission T → Emission T → ChainState T → Type 0
+MovesEmission {T} m old emission out new = (v : Stream T) → chain_from m old (emission_then emission v) ≡ emission_then out (chain_from m new v)

@@ -2,12 +2,11 @@
 
 ghost use Rattle.std.specs.Prelude.{◌≡◌, true, false, ◌||◌, [], IfOk, IfErr, IsOk, OnOk, OnErr, IsTrue};
 ghost use Rattle.rsx_types.specs.Meaning.{Meaning};
-ghost use Rattle.rsx_types.specs.Plain.{plain, chained};
+ghost use Rattle.rsx_types.specs.Plain.{plain};
 ghost use Rattle.rsx_types.specs.Stream.{Stream};
 ghost use Rattle.rsx_operators.specs.Moves.{Moves, EndsLast, is_ending, has_ending, has_ended};
 ghost use Rattle.rsx_operators.specs.State.{plain_from, plain_start, is_over};
 ghost use Rattle.rsx_chain.specs.Chain.{chain_from, chain_over, chain_allocates};
-ghost use Rattle.rsx_chain.specs.Emissions.{followed_by};
 ghost use Rattle.rsx_operators.specs.Emission.{emission_then};
 
 use crate::emission::{from_signal, into_signal, put_behind, put_into};
@@ -39,11 +38,8 @@ pub struct NewChain<T> {
 
 impl<T: Drop> NewChain<T> {
     ghost use Rattle.std.specs.Prelude.{◌≡◌, true, IfOk};
-    ghost use Rattle.rsx_types.specs.Plain.{plain};
-    ghost use Rattle.rsx_types.specs.Stream.{Stream};
     ghost use Rattle.rsx_operators.specs.Moves.{has_ended};
-    ghost use Rattle.rsx_chain.specs.Chain.{chain_from, chain_over};
-    ghost use Rattle.rsx_chain.specs.Emissions.{followed_by};
+    ghost use Rattle.rsx_chain.specs.Chain.{IsChainedFirst, chain_over};
 
     /// The chain behind an operator that has taken nothing yet, with what comes out of both at the start.
     fn behind<O: Ops<Item = T>>(
@@ -52,7 +48,7 @@ impl<T: Drop> NewChain<T> {
         ops: &O,
         stage: &Stage<T>,
     ) -> Result<NewChain<T>, NoMemory>
-        ensures fresh { IfOk result (λ b. (v : Stream T) → followed_by self.first (chain_from (O.meaning ops.now) self.chain (plain (O.meaning ops.now) stage.now v)) ≡ followed_by b.first (chain_from (O.meaning ops.now) b.chain v)) }
+        ensures fresh { IfOk result (λ b. IsChainedFirst (O.meaning ops.now) stage.now self.first self.chain b.first b.chain) }
         ensures over { IfOk result (λ b. chain_over b.chain ≡ true → has_ended b.first.ending ≡ true) }
     {
         let NewChain { chain, first } = self;
@@ -66,13 +62,10 @@ impl<T: Drop> NewChain<T> {
 impl<T: Drop> ChainState<T> {
     ghost use Rattle.std.specs.Prelude.{◌≡◌, true, false, ◌||◌, [], IfOk, IfErr, IsOk, OnOk, OnErr, IsTrue};
     ghost use Rattle.rsx_types.specs.Meaning.{Meaning};
-    ghost use Rattle.rsx_types.specs.Plain.{plain, chained};
     ghost use Rattle.rsx_types.specs.Stream.{Stream};
     ghost use Rattle.rsx_operators.specs.Moves.{Moves, EndsLast, is_ending, has_ending, has_ended};
     ghost use Rattle.rsx_operators.specs.State.{plain_from, plain_start, is_over};
-    ghost use Rattle.rsx_chain.specs.Chain.{chain_from, chain_over, chain_allocates};
-    ghost use Rattle.rsx_chain.specs.Emissions.{followed_by};
-    ghost use Rattle.rsx_operators.specs.Emission.{emission_then};
+    ghost use Rattle.rsx_chain.specs.Chain.{IsChained, MovesEmission, TakesStart, chain_from, chain_over, chain_allocates};
 
     /// The chain of these operators, the first one innermost, before it has taken anything, with what comes out of it at the
     /// start: the seed of each `scan` goes through the operators behind it, and `take 0` completes at once. Where the chain is
@@ -85,7 +78,7 @@ impl<T: Drop> ChainState<T> {
         ops: &O,
         stages: &[Stage<T>],
     ) -> Result<NewChain<T>, NoMemory>
-        ensures fresh { IfOk result (λ b. (v : Stream T) → chained (O.meaning ops.now) stages.now v ≡ followed_by b.first (chain_from (O.meaning ops.now) b.chain v)) }
+        ensures fresh { IfOk result (λ b. IsChained (O.meaning ops.now) stages.now b.first b.chain) }
         ensures over { IfOk result (λ b. chain_over b.chain ≡ true → has_ended b.first.ending ≡ true) }
     {
         match stages.split_first() {
@@ -109,7 +102,7 @@ impl<T: Drop> ChainState<T> {
         stage: &Stage<T>,
         first: StreamValue<T>,
     ) -> Result<StreamValue<T>, NoMemory>
-        ensures fresh { IfOk result (λ r. (v : Stream T) → followed_by first (chain_from (O.meaning ops.now) self.old (plain (O.meaning ops.now) stage.now v)) ≡ followed_by r (chain_from (O.meaning ops.now) self.new (plain_from (O.meaning ops.now) (plain_start stage.now) v))) }
+        ensures fresh { IfOk result (λ r. TakesStart (O.meaning ops.now) stage.now first self.old r self.new) }
         ensures front { IfOk result (λ r. is_over (plain_start stage.now) ≡ true → has_ended r.ending ≡ true) }
         ensures over { IfOk result (λ r. chain_over self.new ≡ true → has_ended r.ending ≡ true) }
     {
@@ -127,7 +120,8 @@ impl<T: Drop> ChainState<T> {
         ops: &O,
         stage: &Stage<T>,
     ) -> Result<ChainState<T>, NoMemory>
-        ensures from { IfOk result (λ c. (m : Meaning T) (v : Stream T) → chain_from m c v ≡ chain_from m self (plain_from m (plain_start stage.now) v)) }
+        ensures from { IfOk result (λ c. (m : Meaning T) (v : Stream T) →
+            chain_from m c v ≡ chain_from m self (plain_from m (plain_start stage.now) v)) }
         ensures over { IfOk result (λ c. chain_over c ≡ (is_over (plain_start stage.now) || chain_over self)) }
     {
         let behind = Box::new(alloc, self)?;
@@ -176,7 +170,7 @@ impl<T: Drop> ChainState<T> {
         ops: &O,
         emission: Emission<T>,
     ) -> Result<Emission<T>, Emission<T>>
-        ensures ok { IfOk result (λ out. (v : Stream T) → chain_from (O.meaning ops.now) self.old (emission_then emission v) ≡ emission_then out (chain_from (O.meaning ops.now) self.new v)) }
+        ensures ok { IfOk result (λ out. MovesEmission (O.meaning ops.now) self.old emission out self.new) }
         ensures ended { IfOk result (λ out. has_ended emission.ending ≡ true → has_ended out.ending ≡ true) }
         ensures over { IfOk result (λ out. chain_over self.new ≡ true → has_ended out.ending ≡ true) }
         ensures err { IfErr result (λ p. p ≡ emission) }
@@ -242,7 +236,8 @@ fn start<T: Drop, O: Ops<Item = T>>(
     ops: &O,
     stage: &Stage<T>,
 ) -> Result<Emission<T>, NoMemory>
-    ensures fresh { IfOk result (λ p. (m : Meaning T) (v : Stream T) → plain m stage.now v ≡ emission_then p (plain_from m (plain_start stage.now) v)) }
+    ensures fresh { IfOk result (λ p. (m : Meaning T) (v : Stream T) →
+        plain m stage.now v ≡ emission_then p (plain_from m (plain_start stage.now) v)) }
     ensures over { IfOk result (λ p. is_over (plain_start stage.now) ≡ true → has_ended p.ending ≡ true) }
 {
     let mut emission = Emission {
