@@ -1,5 +1,5 @@
 -- What a contract sees of a hub, and what its calls make of it.
-use Rattle.std.specs.Prelude.{◌≡◌, ℕ, ◌+◌, ◌-◌, ◌<◌, ◌≤◌, Bool, true, false, ◌&&◌, nat_le, nat_lt, List, [], ◌∷◌, ◌++◌, length, drop, Option, Some, None}
+use Rattle.std.specs.Prelude.{◌≡◌, ◌⊎◌, ℕ, ◌+◌, ◌-◌, ◌<◌, ◌≤◌, Bool, true, false, ◌&&◌, if◌then◌else◌, nat_eq, nat_le, nat_lt, List, [], ◌∷◌, ◌++◌, length, drop, Option, Some, None}
 use Rattle.circular_buffer.specs.Buffer.{keep_last}
 use Rattle.rsx_types.specs.declared.names.HubKind.{HubKind}
 use Rattle.rsx_types.specs.declared.names.HubKind.TheVariants.{Multicast, Replay}
@@ -42,6 +42,10 @@ pub record HubState (T : Type 0) : Type 0 where
 abbrev pub replayed : HubKind → ℕ
 replayed Multicast = 0
 replayed (Replay n) = n
+
+-- the copy that is kept of an item, where any is
+abbrev pub kept_copy : {T : Type 0} → HubKind → T → Option T
+kept_copy k x = if nat_eq (replayed k) 0 then None else Some x
 
 -- how many items a member misses that joins where the hub took in so many
 abbrev pub join : HubKind → ℕ → ℕ
@@ -122,6 +126,10 @@ IsNotTakenIn h s HubEnded = is_open h.ending ≡ false
 IsNotTakenIn h s Waiting = (is_open h.ending ≡ true) × (0 < length h.inbox)
 IsNotTakenIn h s TooManySignals = (is_open h.ending ≡ true) × (h.inbox ≡ []) × (MOST_ACCEPTED < h.count + items_of s)
 IsNotTakenIn h s TakeInNoMemory = (takes_signal h s ≡ true) × (items_of s ≡ 1)
+
+-- why it takes in no item where its inbox is empty
+abbrev pub IsNotCounted : {T : Type 0} → HubState T → TakeInRefusal → Type 0
+IsNotCounted h e = (e ≡ TooManySignals × MOST_ACCEPTED ≤ h.count) ⊎ (e ≡ TakeInNoMemory × h.count < MOST_ACCEPTED)
 
 -- ---- its value
 

@@ -4,9 +4,9 @@ use Rattle.rsx_types.specs.declared.signal.Ending.{Ending}
 use Rattle.rsx_types.specs.declared.signal.Ending.TheVariants.{Open, Done, Failed}
 use Rattle.rsx_types.specs.declared.signal.Signal.{Signal}
 use Rattle.rsx_types.specs.declared.signal.Signal.TheVariants.{Next, Complete, Error}
-use Rattle.rsx_types.specs.Stream.{Stream, ended_by, items_then}
+use Rattle.rsx_types.specs.Stream.{Stream, ended_by, items_then, signal_then}
 use Rattle.rsx_hub.specs.declared.TheConstants.{MOST_ACCEPTED}
-use Rattle.rsx_hub.specs.Hub.{HubState, replayed}
+use Rattle.rsx_hub.specs.Hub.{HubState, replayed, join, HasTakenIn, BeginsWith}
 use Rattle.rsx_hub.specs.Waiting.{is_open, first_waiting}
 
 pub record MemberState (T : Type 0) : Type 0 where
@@ -45,7 +45,20 @@ behind false e v = ending_or e v
 abbrev pub rest : {T : Type 0} → MemberState T → Stream T → Stream T
 rest m w = items_then m.queue (behind m.gone m.ending (without m.reached w))
 
+-- it still gives out the hub's whole value without its first items, as many as the hub's join says
+abbrev pub ReadsFromJoin : {T : Type 0} → HubState T → MemberState T → Type 0
+ReadsFromJoin {T} h m = (taken : List T) → HasTakenIn h taken → (w : Stream T) → BeginsWith h taken w → rest m w ≡ without (join h.kind h.count) w
+
+-- the signal was given out: it comes first, and then what the second still gives out
+abbrev pub GivesFirst : {T : Type 0} → MemberState T → Signal T → MemberState T → Type 0
+GivesFirst {T} old s new = (w : Stream T) → rest old w ≡ signal_then s (rest new w)
+
 -- ---- its calls
+
+-- a member that has taken in nothing, of a hub that took in so many items
+abbrev pub empty_member : {T : Type 0} → ℕ → ℕ → ℕ → MemberState T
+empty_member capacity replayed reached =
+    record { queue = []; ending = Open; gone = false; reached = reached; capacity = capacity; places = max capacity replayed }
 
 -- the ending that a new member has
 abbrev pub ending_taken : Bool → Ending → Ending

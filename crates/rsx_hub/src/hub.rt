@@ -1,14 +1,13 @@
 //! The hub: an inbox, and what it keeps for new members.
 
-ghost use Rattle.std.specs.Prelude.{◌≡◌, ◌≢◌, ◌+◌, ◌<◌, ◌≤◌, ◌↔◌, ◌⊎◌, List, [], true, false, nat_eq, if◌then◌else◌, length, IfOk, IfErr, OnOk, OnErr, IsOk, IsTrue, option_map, option_copied, slice_get};
-ghost use Rattle.rsx_types.specs.Stream.{Stream};
+ghost use Rattle.std.specs.Prelude.{◌≡◌, ◌≢◌, ◌+◌, ◌<◌, ◌≤◌, ◌↔◌, [], true, false, length, IfOk, IfErr, OnOk, OnErr, IsOk, IsTrue, option_map, option_copied, slice_get};
 ghost use Rattle.rsx_types.specs.declared.signal.Cause.TheVariants.{User};
 ghost use Rattle.rsx_types.specs.declared.signal.Ending.TheVariants.{Done, Failed};
 ghost use Rattle.rsx_types.specs.declared.signal.Signal.TheVariants.{Next};
 ghost use Rattle.rsx_sources.specs.Machine.{front_of};
 ghost use Rattle.rsx_hub.specs.Hub as spec;
-ghost use Rattle.rsx_hub.specs.Hub.{replayed, fresh_hub, IsNotMade, accepts_items, emitted, IsRejected, ended_with, waiting, taken_in, accepted, takes_signal, IsNotTakenIn, HasTakenIn, BeginsWith, IsNotAdmitted, with_members};
-ghost use Rattle.rsx_hub.specs.Member.{fresh_member, rest, without};
+ghost use Rattle.rsx_hub.specs.Hub.{replayed, fresh_hub, IsNotMade, accepts_items, emitted, IsRejected, ended_with, waiting, taken_in, accepted, takes_signal, IsNotTakenIn, HasTakenIn, IsNotCounted, kept_copy, IsNotAdmitted, with_members};
+ghost use Rattle.rsx_hub.specs.Member.{fresh_member, ReadsFromJoin};
 ghost use Rattle.rsx_hub.specs.Waiting.{is_open};
 ghost use Rattle.rsx_hub.specs.declared.TheConstants.{MOST_ACCEPTED, MOST_MEMBERS};
 
@@ -229,7 +228,7 @@ impl<T: Drop> Hub<T> {
         ops: &O,
         item: &T,
     ) -> Result<Option<T>, NoMemory>
-        ensures copy { IfOk result (λ c. c ≡ (if nat_eq (replayed self.now.kind) 0 then None else Some item.now)) }
+        ensures copy { IfOk result (λ c. c ≡ kept_copy self.now.kind item.now) }
         ensures allocates { (O.allocates ops.now).copied ≡ false → IsOk result }
         ensures multicast { replayed self.now.kind ≡ 0 → IsOk result }
     {
@@ -243,7 +242,7 @@ impl<T: Drop> Hub<T> {
     /// Counts an item, and keeps its copy.
     fn keep(&mut self, copy: Option<T>)
         requires { self.old.count + length self.old.inbox < MOST_ACCEPTED }
-        ensures { (item : T) → copy ≡ (if nat_eq (replayed self.old.kind) 0 then None else Some item) → self.new ≡ taken_in self.old (Next item) }
+        ensures { (item : T) → copy ≡ kept_copy self.old.kind item → self.new ≡ taken_in self.old (Next item) }
     {
         self.count += 1;
         if let Some(item) = copy {
@@ -315,7 +314,7 @@ impl<T: Drop> Hub<T> {
         requires { self.old.inbox ≡ [] }
         ensures enabled { OnOk result (self.old.count < MOST_ACCEPTED) }
         ensures ok { OnOk result (self.new ≡ taken_in self.old (Next item.now)) }
-        ensures err { IfErr result (λ e. (e ≡ TakeInRefusal.TooMany × MOST_ACCEPTED ≤ self.old.count) ⊎ (e ≡ TakeInRefusal.NoMemory × self.old.count < MOST_ACCEPTED)) }
+        ensures err { IfErr result (λ e. IsNotCounted self.old e) }
         ensures same { OnErr result (self.new ≡ self.old) }
         ensures allocates { (O.allocates ops.now).copied ≡ false → IfErr result (λ e. e ≢ TakeInRefusal.NoMemory) }
         ensures multicast { replayed self.old.kind ≡ 0 → IfErr result (λ e. e ≢ TakeInRefusal.NoMemory) }
@@ -381,7 +380,7 @@ impl<T: Drop> Hub<T> {
     pub fn member<O: Ops<Item = T>>(&self, alloc: Global, ops: &O) -> Result<Member<T>, NoMemory>
         ensures made { IfOk result (λ m. m ≡ fresh_member self.now) }
         // It stands for the hub's whole value without its first items, as many as the join says.
-        ensures value { IfOk result (λ m. (taken : List T) → HasTakenIn self.now taken → (w : Stream T) → BeginsWith self.now taken w → rest m w ≡ without (spec.join self.now.kind self.now.count) w) }
+        ensures value { IfOk result (λ m. ReadsFromJoin self.now m) }
     {
         let mut member = Member::empty(alloc, self.capacity, replayed(self.kind), self.count)?;
         for item in &self.kept {
@@ -416,7 +415,7 @@ impl<T: Drop> Hub<T> {
         ensures place { OnOk result (self.old.members < MOST_MEMBERS) }
         ensures made { IfOk result (λ m. m ≡ fresh_member self.old) }
         ensures state { OnOk result (self.new ≡ with_members self.old 1) }
-        ensures value { IfOk result (λ m. (taken : List T) → HasTakenIn self.old taken → (w : Stream T) → BeginsWith self.old taken w → rest m w ≡ without (spec.join self.old.kind self.old.count) w) }
+        ensures value { IfOk result (λ m. ReadsFromJoin self.old m) }
         ensures err { IfErr result (λ e. IsNotAdmitted self.old e) }
         ensures same { OnErr result (self.new ≡ self.old) }
     {

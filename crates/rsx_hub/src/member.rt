@@ -1,10 +1,9 @@
 //! One reader of a hub.
 
-ghost use Rattle.std.specs.Prelude.{◌≡◌, ℕ, ◌+◌, ◌<◌, ◌≤◌, ◌↔◌, ◌∷◌, ◌++◌, [], true, false, max, length, IfOk, IfErr, OnOk, OnErr, IfSome, IsTrue, option_map};
-ghost use Rattle.rsx_types.specs.Stream.{Stream, signal_then};
-ghost use Rattle.rsx_types.specs.declared.signal.Ending.TheVariants.{Open};
+ghost use Rattle.std.specs.Prelude.{◌≡◌, ◌+◌, ◌<◌, ◌≤◌, ◌↔◌, ◌∷◌, ◌++◌, [], true, false, length, IfOk, IfErr, OnOk, OnErr, IfSome, IsTrue, option_map};
+ghost use Rattle.rsx_types.specs.Stream.{Stream};
 ghost use Rattle.rsx_sources.specs.Machine.{front_of};
-ghost use Rattle.rsx_hub.specs.Member.{MemberState, rest, is_reading, takes_items, takes, took, IsNextAt, offered, given, left, IsGiven};
+ghost use Rattle.rsx_hub.specs.Member.{MemberState, empty_member, GivesFirst, rest, is_reading, takes_items, takes, took, IsNextAt, offered, given, left, IsGiven};
 ghost use Rattle.rsx_hub.specs.declared.TheConstants.{LARGEST, MOST_ACCEPTED};
 
 use crate::{MOST_ACCEPTED, ending};
@@ -49,7 +48,7 @@ impl<T: Drop> Member<T> {
         reached: u64,
     ) -> Result<Member<T>, NoMemory>
         requires { reached ≤ MOST_ACCEPTED }
-        ensures { IfOk result (λ m. m ≡ record { queue = []; ending = Open; gone = false; reached = reached; capacity = capacity; places = max capacity replayed }) }
+        ensures { IfOk result (λ m. m ≡ empty_member capacity replayed reached) }
     {
         let queue = HeapCircularBuffer::with_capacity(alloc, capacity.max(replayed) as usize)?;
         Ok(Member {
@@ -149,7 +148,7 @@ impl<T: Drop> Member<T> {
         ensures signal { result ≡ offered self.old }
         ensures state { self.new ≡ given self.old result }
         // Over each value, the signal and then what it still gives out is what it gave out before.
-        ensures value { IfSome result (λ s. (w : Stream T) → rest self.old w ≡ signal_then s (rest self.new w)) }
+        ensures value { IfSome result (λ s. GivesFirst self.old s self.new) }
         ensures given { IfSome result (λ s. IsGiven self.old s self.new) }
     {
         match self.queue.pop_front() {
@@ -174,7 +173,7 @@ impl<T: Drop> Member<T> {
     /// Puts the signal back that was taken out last. Then the member is as it was before that. It takes no memory.
     pub fn put_back(&mut self, signal: Signal<T>)
         ensures state { (before : MemberState T) → IsGiven before signal self.old → self.new ≡ before }
-        ensures value { (before : MemberState T) → IsGiven before signal self.old → (w : Stream T) → rest self.new w ≡ signal_then signal (rest self.old w) }
+        ensures value { (before : MemberState T) → IsGiven before signal self.old → GivesFirst self.new signal self.old }
     {
         match signal {
             Signal::Next(item) => {
