@@ -31,7 +31,7 @@ chain_allocates a (Stage' s p behind) = allocates_from a s || chain_allocates a 
 abbrev pub IsChained : {T : Type 0} → Meaning T → List (Stage T) → Stream T → ChainState T → Type 0
 IsChained {T} m stages first new = (v : Stream T) → chained m stages v ≡ followed_by first (chain_from m new v)
 
--- so it is with one operator more, in front of the old chain: what it makes of a whole value went into that
+-- with an operator in front that has taken nothing: what it makes of a whole value goes into the old chain
 abbrev pub IsChainedFirst : {T : Type 0} → Meaning T → Stage T → Stream T → ChainState T → Stream T → ChainState T → Type 0
 IsChainedFirst {T} m stage before old first new =
     (v : Stream T) → followed_by before (chain_from m old (plain m stage v)) ≡ followed_by first (chain_from m new v)

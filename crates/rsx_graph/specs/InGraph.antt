@@ -1,4 +1,4 @@
--- The words of contracts on a whole graph: those of its subscriptions, by what the functions mean that it holds.
+-- The words of contracts on a whole graph: those of its subscriptions, under what the functions that it holds mean.
 use Rattle.std.specs.Prelude.{ℕ, Bool, List, length, Option, Result}
 use Rattle.rsx_pipe.specs.declared.part.Pumped.{Pumped as Rest}
 use Rattle.rsx_subscriber.specs.Delivered.{Delivered}
@@ -47,7 +47,7 @@ IsRefusedIn tree mv graph r = IsMakeRefusal (length graph.subscriptions.items) (
 
 -- ---- runs of moves
 
--- what `pump` promises: the graph made some number of enabled moves, after which driving it ended so
+-- what `pump` promises: for some number, so many enabled moves were made, and the answer fits that number and the budget
 abbrev pub HasPumped : {O T : Type 0} {b : Ops O T} → ℕ → Graph O T b → Delivered T → Result Pumped Refusal → Graph O T b → Delivered T → Type 0
 HasPumped {O} {T} {b} budget old before result new after =
     (n : ℕ) × HasEnded (b.meaning old.ops) budget n new.subscriptions.items result

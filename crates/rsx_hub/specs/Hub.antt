@@ -43,7 +43,7 @@ abbrev pub replayed : HubKind → ℕ
 replayed Multicast = 0
 replayed (Replay n) = n
 
--- the copy that is kept of an item, where any is
+-- the copy of an item that a hub of this kind keeps: none where it replays none
 abbrev pub kept_copy : {T : Type 0} → HubKind → T → Option T
 kept_copy k x = if nat_eq (replayed k) 0 then None else Some x
 
@@ -127,7 +127,7 @@ IsNotTakenIn h s Waiting = (is_open h.ending ≡ true) × (0 < length h.inbox)
 IsNotTakenIn h s TooManySignals = (is_open h.ending ≡ true) × (h.inbox ≡ []) × (MOST_ACCEPTED < h.count + items_of s)
 IsNotTakenIn h s TakeInNoMemory = (takes_signal h s ≡ true) × (items_of s ≡ 1)
 
--- why it takes in no item where its inbox is empty
+-- why an item of a feed isn't taken in: the limit first, and memory last
 abbrev pub IsNotCounted : {T : Type 0} → HubState T → TakeInRefusal → Type 0
 IsNotCounted h e = (e ≡ TooManySignals × MOST_ACCEPTED ≤ h.count) ⊎ (e ≡ TakeInNoMemory × h.count < MOST_ACCEPTED)
 

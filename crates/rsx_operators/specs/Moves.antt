@@ -40,7 +40,6 @@ ended_or Open v = v
 ended_or Done v = ended_by Done
 ended_or (Failed c) v = ended_by (Failed c)
 
--- the items of some signals were put behind those before, and their ending is e: the signals stand behind the items before
--- as e behind those after
+-- the items of these signals were put behind the others, and their ending is e: in all the same comes, whatever comes then
 abbrev pub IsPutBehind : {T : Type 0} → List T → List (Signal T) → List T → Ending → Type 0
 IsPutBehind {T} before signals after e = (v : Stream T) → items_then before (signals_then signals v) ≡ items_then after (ended_or e v)

@@ -82,11 +82,11 @@ HasRested m budget n sub (Ok (Rests left)) = (n + left ≡ budget) × IsQuiet m 
 HasRested m budget n sub (Ok Wakes) = (n ≡ budget) × IsAwake m sub
 HasRested m budget n sub (Err e) = n ≤ budget
 
--- what `pump` promises: a subscription made some number of enabled moves, after which driving it ended so
+-- what `pump` promises: for some number, so many enabled moves were made, and the answer fits that number and the budget
 abbrev pub HasPumped : {T E : Type 0} → Meaning T → SubId → ℕ → Subscription T → Delivered T → Result Rest E → Subscription T → Delivered T → Type 0
 HasPumped m id budget old before result new after = SomePumped m id (λ n. HasRested m budget n new result) old before new after
 
--- the same of its part: driving that ended so, and nothing was delivered
+-- the same of moves of its part alone, by which nothing is delivered
 abbrev pub HasPumpedPart : {T E : Type 0} → Meaning T → SubId → ℕ → Subscription T → Result Rest E → Subscription T → Type 0
 HasPumpedPart {T} m id budget old result new =
     (n : ℕ) × HasEnded m budget n new.part new.queue result × ((out : List (SubId × Signal T)) → IsPumped m id n old out new out)
