@@ -7,6 +7,7 @@ use Rattle.rsx_types.specs.declared.signal.Signal.TheVariants.{Next, Complete, E
 use Rattle.rsx_types.specs.Meaning.{Meaning, Allocates}
 use Rattle.rsx_types.specs.Stream.{Stream}
 use Rattle.rsx_sources.specs.Machine.{Incoming}
+use Rattle.rsx_sources.specs.Reading.{Reading}
 use Rattle.rsx_sources.specs.declared.machine.Front.{Front}
 use Rattle.rsx_sources.specs.declared.machine.Front.TheVariants.{Item, Completion as CompletionFront, Failure as FailureFront}
 use Rattle.rsx_sources.specs.declared.machine.Machine.{Ghosts as Machine}
@@ -114,6 +115,19 @@ abbrev pub queued_popped : {M T : Type 0} → Queued M T → Signal T → Queued
 queued_popped old (Next x) new = (old.node ≡ new.node) × (old.queue ≡ x ∷ new.queue) × (old.tail ≡ new.tail) × (length new.queue < CAPACITY)
 queued_popped old Complete new = (old.node ≡ new.node) × (old.queue ≡ new.queue) × (old.queue ≡ []) × (old.tail ≡ Completion) × (new.tail ≡ Taken)
 queued_popped old (Error c) new = (old.node ≡ new.node) × (old.queue ≡ new.queue) × (old.queue ≡ []) × (old.tail ≡ Failure c) × (new.tail ≡ Taken)
+
+-- it reads what the node reads, until its ending is in the queue
+abbrev pub reads_in : Tail → Option Reading → Option Reading
+reads_in Open r = r
+reads_in Completion r = None
+reads_in (Failure c) r = None
+reads_in Taken r = None
+
+abbrev pub queued_reads : {M T : Type 0} → Machine M T → Queued M T → Option Reading
+queued_reads b n = reads_in n.tail (b.reads n.node)
+
+abbrev pub queued_rooms : {M T : Type 0} → Machine M T → Queued M T → Bool
+queued_rooms b n = b.rooms n.node
 
 abbrev pub queued_allocates : {M T : Type 0} → Machine M T → Allocates → Queued M T → Bool
 queued_allocates b a n = b.signal_allocates a n.node

@@ -1,7 +1,10 @@
 -- What a subscription stands for, its enabled moves, and what a move changes.
-use Rattle.std.specs.Prelude.{◌≡◌, ℕ, Bool, false, ◌&&◌, nat_eq, List, [], ◌∷◌, ◌++◌, length, Option, Some, None, option_map}
+use Rattle.std.specs.Prelude.{◌≡◌, ℕ, Bool, false, ◌&&◌, nat_eq, List, [], ◌∷◌, ◌++◌, length, map, Option, Some, None, option_map}
 use Rattle.rsx_types.specs.Meaning.{Meaning, Allocates}
+use Rattle.rsx_types.specs.Notes.{unchosen}
 use Rattle.rsx_types.specs.Stream.{Stream, signals_then, ended_by}
+use Rattle.rsx_node.specs.Any.{any_machine}
+use Rattle.rsx_tree.specs.Residual.{IsTreeBehind}
 use Rattle.rsx_types.specs.declared.note.Note.{Note}
 use Rattle.rsx_types.specs.declared.names.SubId.{SubId}
 use Rattle.rsx_types.specs.declared.names.Tree.TheVariants.{Sub, Feed}
@@ -64,6 +67,13 @@ pub record Stands {T : Type 0} (m : Meaning T) (published : List (Stream T)) (su
   pub joined : length past.joins ≡ leaves past.expression
   -- not live: the tree is closed, and nothing is queued
   pub closed : (IsLive (standing_of sub) → ⊥) → IsAllClosed sub.part.tree × (sub.part.root.state ≡ Live → ⊥) × (sub.queue ≡ [])
+
+-- this is still owed to an open subscription, where just these inboxes stand behind what its nodes took in of the hubs, and
+-- nothing more is chosen
+abbrev pub IsStillOwed : {T : Type 0} → Meaning T → List (Stream T) → Subscription T → Stream T → Type 0
+IsStillOwed {T} m inboxes sub v =
+    (published : List (Stream T)) (past : Past T) → Stands m published sub past → standing_of sub ≡ Open → IsTreeBehind any_machine inboxes published sub.part.tree →
+    owed_from m published (map unchosen (notes_of sub.part.tree)) sub ≡ Some v
 
 -- ---- enabled moves
 
