@@ -93,7 +93,7 @@ fn pumped(
 
 /// How many items still come out, and the ending behind them.
 fn left(alloc: Global, part: &Part<Val>) -> Result<(usize, Ending), NoMemory> {
-    let value = part.residual(alloc, &Demo)?;
+    let value = part.residual(alloc, &Demo, &[])?;
     Ok((value.items().len(), value.ending()))
 }
 

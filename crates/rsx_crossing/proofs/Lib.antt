@@ -1,3 +1,4 @@
 -- Lemmas about a queue behind a node.
 pub mod Edges
+pub mod Nothing
 pub mod Senders

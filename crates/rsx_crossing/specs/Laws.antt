@@ -1,5 +1,5 @@
 -- A node with its queue keeps the laws of a node, where the node inside does.
-use Rattle.std.specs.Prelude.{◌≡◌, ℕ, ◌+◌, ◌<◌, Bool, true, false, ◌&&◌, ◌||◌, nat_lt, min, List, [], ◌∷◌, length, Option, Some, None, option_map, refl}
+use Rattle.std.specs.Prelude.{◌≡◌, ℕ, ◌+◌, ◌<◌, Bool, true, false, ◌&&◌, ◌||◌, nat_lt, min, List, [], ◌∷◌, ◌++◌, length, Option, Some, None, option_map, refl}
 use Rattle.std.proofs.Common.{inl, inr, sym, ap, ◌∙◌, subst, arith}
 use Rattle.std.proofs.lemmas.Bool.Decides.{nat_tests}
 use Rattle.rsx_types.specs.declared.note.Note.{Note}
@@ -9,7 +9,8 @@ use Rattle.rsx_types.specs.Meaning.{Meaning}
 use Rattle.rsx_types.specs.Notes.{unchosen}
 use Rattle.rsx_types.specs.Stream.{Stream}
 use Rattle.rsx_sources.specs.Counts.{AreWithin, CanStep, IsHungry, ends_input}
-use Rattle.rsx_sources.specs.Machine.{Incoming, front_of}
+use Rattle.rsx_sources.specs.Machine.{Incoming, front_of, incoming_of}
+use Rattle.rsx_sources.specs.Steps.{StaysAlike}
 use Rattle.rsx_sources.specs.declared.machine.Front.{Front}
 use Rattle.rsx_sources.specs.declared.machine.Front.TheVariants.{Item, Completion as CompletionFront, Failure as FailureFront}
 use Rattle.rsx_sources.specs.declared.machine.Machine.{Ghosts as Machine}
@@ -17,7 +18,7 @@ use Rattle.rsx_crossing.specs.declared.queued.Queued.{Queued}
 use Rattle.rsx_crossing.specs.declared.tail.Tail.{Tail}
 use Rattle.rsx_crossing.specs.declared.tail.Tail.TheVariants.{Open, Completion, Failure, Taken}
 use Rattle.rsx_crossing.specs.Held.{is_open, held_then, first_held, first_shown, comes_in_at}
-use Rattle.rsx_crossing.specs.Queued.{out, queued_comes_out, queued_waiting, queued_shown, queued_takes, queued_picks, queued_rows, queued_ended, queued_done, queued_counted, queued_wanted, queued_popped, QueuedAlike, node_sent, may_go, can_move, pick_of, row_of, is_ended, ended_in}
+use Rattle.rsx_crossing.specs.Queued.{out, queued_comes_out, queued_waiting, queued_shown, queued_takes, queued_picks, queued_rows, queued_ended, queued_done, queued_counted, queued_wanted, queued_popped, QueuedAlike, node_sent, may_go, can_move, pick_of, row_of, is_ended, ended_in, queued_reads, reads_in, queued_allocates, queued_step_allocates}
 
 -- ---- the laws of the node inside
 
@@ -37,7 +38,7 @@ abbrev pub Waits : {M T : Type 0} → Machine M T → Meaning T → Type 0
 Waits {M} b m = (n : M) (asked sent : ℕ) → b.ended n ≡ true → b.waiting m n ≡ None → sent < asked → CanStep b.picks b.rows n asked sent
 
 abbrev pub Hungers : {M T : Type 0} → Machine M T → Meaning T → Type 0
-Hungers {M} b m = (n : M) (took : List ℕ) (asked sent : ℕ) → b.ended n ≡ false → b.counted n took sent → b.waiting m n ≡ None → sent < asked → AreWithin took → IsHungry b.takes b.picks b.rows b.done b.wanted n took asked sent
+Hungers {M} b m = (n : M) (took : List ℕ) (asked sent : ℕ) → b.ended n ≡ false → b.counted n took sent → b.waiting m n ≡ None → sent < asked → AreWithin took → IsHungry b.takes b.picks b.rows b.done b.wanted b.reads n took asked sent
 
 -- ---- what waits
 
@@ -72,15 +73,45 @@ ends_in b m n q Taken s inc other further w e = refl
 pub queued_ends : {M T : Type 0} (b : Machine M T) (m : Meaning T) (n : Queued M T) (s : Signal T) (inc other : Incoming T) (further : Note) → queued_waiting m n ≡ Some s → ends_input s ≡ true → queued_comes_out b m n inc further ≡ queued_comes_out b m n other further
 queued_ends b m n s inc other further w e = ends_in b m n.node n.queue n.tail s inc other further w e
 
--- ---- the same calls may allocate
+-- ---- what it reads stays, and the same calls may allocate
 
 node_stays : {M T : Type 0} (old : Queued M T) (s : Signal T) (new : Queued M T) → queued_popped old s new → old.node ≡ new.node
 node_stays old (Next x) new h = h.0
 node_stays old Complete new h = h.0
 node_stays old (Error c) new h = h.0
 
+reads_stay : {M T : Type 0} (b : Machine M T) (old : Queued M T) (s : Signal T) (new : Queued M T) → queued_popped old s new → queued_reads b new ≡ queued_reads b old
+reads_stay b old (Next x) new h = ap (λ t. reads_in t (b.reads new.node)) (sym h.2) ∙ ap (λ n. reads_in old.tail (b.reads n)) (sym h.0)
+reads_stay b old Complete new h = ap (λ t. reads_in t (b.reads new.node)) h.4 ∙ ap (λ t. reads_in t (b.reads old.node)) (sym h.3)
+reads_stay b old (Error c) new h = ap (λ t. reads_in t (b.reads new.node)) h.4 ∙ ap (λ t. reads_in t (b.reads old.node)) (sym h.3)
+
 pub queued_popped_alike : {M T : Type 0} (b : Machine M T) (old : Queued M T) (s : Signal T) (new : Queued M T) → queued_popped old s new → QueuedAlike b old new
-queued_popped_alike b old s new h = λ a. let same = sym (node_stays old s new h) in (refl, ap (b.signal_allocates a) same, ap (λ n. b.pop_allocates a n || b.step_allocates a n) same)
+queued_popped_alike b old s new h =
+    let same = sym (node_stays old s new h) in
+    (reads_stay b old s new h, λ a. (refl, ap (b.signal_allocates a) same, ap (λ n. b.pop_allocates a n || b.step_allocates a n) same))
+
+abbrev pub DoneDrops : {M T : Type 0} → Machine M T → Meaning T → Type 0
+DoneDrops {M} {T} b m = (n : M) (hubs before after : List (Stream T)) (v w : Stream T) (further : Note) → b.done n (length before) ≡ true → b.comes_out m n (incoming_of hubs (before ++ v ∷ after)) further ≡ b.comes_out m n (incoming_of hubs (before ++ w ∷ after)) further
+
+done_drops_in : {M T : Type 0} (b : Machine M T) (m : Meaning T) → DoneDrops b m → (n : M) (q : List T) (t : Tail) (hubs before after : List (Stream T)) (v w : Stream T) (further : Note) → is_ended t || b.done n (length before) ≡ true → out b m n q t (incoming_of hubs (before ++ v ∷ after)) further ≡ out b m n q t (incoming_of hubs (before ++ w ∷ after)) further
+done_drops_in b m drops n q Open hubs before after v w further d = ap (option_map (held_then q Open)) (drops n hubs before after v w further d)
+done_drops_in b m drops n q Completion hubs before after v w further d = refl
+done_drops_in b m drops n q (Failure c) hubs before after v w further d = refl
+done_drops_in b m drops n q Taken hubs before after v w further d = refl
+
+pub queued_done_drops : {M T : Type 0} (b : Machine M T) (m : Meaning T) → DoneDrops b m → (n : Queued M T) (hubs before after : List (Stream T)) (v w : Stream T) (further : Note) → queued_done b n (length before) ≡ true → queued_comes_out b m n (incoming_of hubs (before ++ v ∷ after)) further ≡ queued_comes_out b m n (incoming_of hubs (before ++ w ∷ after)) further
+queued_done_drops b m drops n hubs before after v w further d = done_drops_in b m drops n.node n.queue n.tail hubs before after v w further d
+
+-- what it reads, once it offers its ending: nothing
+ends_reading_in : {M T : Type 0} (b : Machine M T) (n : M) (q : List T) (t : Tail) (s : Signal T) → first_held q t ≡ Some s → ends_input s ≡ true → reads_in t (b.reads n) ≡ None
+ends_reading_in b n [] Open s w e = cc
+ends_reading_in b n (x ∷ xs) Open s w e = cc
+ends_reading_in b n q Completion s w e = refl
+ends_reading_in b n q (Failure c) s w e = refl
+ends_reading_in b n q Taken s w e = refl
+
+pub queued_ends_reading : {M T : Type 0} (b : Machine M T) (m : Meaning T) (n : Queued M T) (s : Signal T) → queued_waiting m n ≡ Some s → ends_input s ≡ true → queued_reads b n ≡ None
+queued_ends_reading b m n s w e = ends_reading_in b n.node n.queue n.tail s w e
 
 -- ---- something comes out
 
@@ -174,7 +205,7 @@ count_stays {M} {T} b n q took taken e c =
     subst (λ k. b.counted n took k) same c
 
 pub queued_hungry : {M T : Type 0} (b : Machine M T) (m : Meaning T) → Shows b m → Hungers b m → (n : Queued M T) (took : List ℕ) (asked taken : ℕ) → queued_ended b n ≡ false → queued_counted b n took taken → queued_waiting m n ≡ None → taken < asked → AreWithin took →
-    IsHungry (queued_takes b) (queued_picks b) (queued_rows b) (queued_done b) (queued_wanted b) n took asked taken
+    IsHungry (queued_takes b) (queued_picks b) (queued_rows b) (queued_done b) (queued_wanted b) (queued_reads b) n took asked taken
 queued_hungry {M} {T} b m shows hungers n took asked taken going counted none more within = by_waiting (b.waiting m n.node) refl
   where
     empty : n.queue ≡ []
@@ -183,19 +214,22 @@ queued_hungry {M} {T} b m shows hungers n took asked taken going counted none mo
     still : n.tail ≡ Open
     still = counted.0
 
-    by_waiting : (o : Option (Signal T)) → b.waiting m n.node ≡ o → IsHungry (queued_takes b) (queued_picks b) (queued_rows b) (queued_done b) (queued_wanted b) n took asked taken
+    by_waiting : (o : Option (Signal T)) → b.waiting m n.node ≡ o → IsHungry (queued_takes b) (queued_picks b) (queued_rows b) (queued_done b) (queued_wanted b) (queued_reads b) n took asked taken
     by_waiting (Some s) w = inr (inl (offered_moves b m shows n.node n.queue n.tail asked taken s still empty w more))
     by_waiting None w = elim (hungers n.node took asked taken (sym (ap (λ k. ended_in k (b.ended n.node)) still) ∙ going) (count_stays b n.node n.queue took taken empty counted.1) w more within) [
       | inl k ↦ inl (k.0, k.1, pick_stays b n.node n.queue n.tail k.0 asked taken still empty more k.2)
       | inr y ↦ elim y [
         | inl k ↦ inr (inl (row_stays b n.node n.queue n.tail asked taken still empty more k))
-        | inr k ↦ inr (inr (record {
-          i = k.i;
-          c = k.c;
-          at = k.at;
-          open_still = ap (λ t. is_ended t || b.done n.node k.i) still ∙ k.open_still;
-          takes_any = λ f. ap (λ t. is_open t && b.takes n.node k.i f) still ∙ k.takes_any f;
-          wants = subst (λ s. k.c < b.wanted n.node k.i asked s) (sym (ap (λ q. node_sent q asked taken) empty ∙ nothing_queued asked taken more)) k.wants;
-        }))
+        | inr z ↦ elim z [
+          | inr r ↦ inr (inr (inr (r.0, ap (λ t. reads_in t (b.reads n.node)) still ∙ r.1)))
+          | inl k ↦ inr (inr (inl (record {
+            i = k.i;
+            c = k.c;
+            at = k.at;
+            open_still = ap (λ t. is_ended t || b.done n.node k.i) still ∙ k.open_still;
+            takes_any = λ f. ap (λ t. is_open t && b.takes n.node k.i f) still ∙ k.takes_any f;
+            wants = subst (λ s. k.c < b.wanted n.node k.i asked s) (sym (ap (λ q. node_sent q asked taken) empty ∙ nothing_queued asked taken more)) k.wants;
+          })))
+        ]
       ]
     ]

@@ -8,7 +8,8 @@ use Rattle.rsx_types.specs.Meaning.{Meaning, Allocates}
 use Rattle.rsx_types.specs.Stream.{Stream}
 use Rattle.rsx_sources.specs.Counts.{CountsIn, CountsStep}
 use Rattle.rsx_sources.specs.Machine.{Incoming}
-use Rattle.rsx_sources.specs.Steps.{AllocatesAlike}
+use Rattle.rsx_sources.specs.Steps.{StaysAlike}
+use Rattle.rsx_sources.specs.Reading.{Reading, takes_published}
 use Rattle.rsx_sources.specs.declared.machine.Front.{Front}
 use Rattle.rsx_sources.specs.declared.machine.Front.TheVariants.{Item, Completion as CompletionFront, Failure as FailureFront}
 use Rattle.rsx_sources.specs.declared.machine.Machine.{Ghosts as Machine}
@@ -117,6 +118,23 @@ queued_popped old (Next x) new = (old.node ≡ new.node) × (old.queue ≡ x ∷
 queued_popped old Complete new = (old.node ≡ new.node) × (old.queue ≡ new.queue) × (old.queue ≡ []) × (old.tail ≡ Completion) × (new.tail ≡ Taken)
 queued_popped old (Error c) new = (old.node ≡ new.node) × (old.queue ≡ new.queue) × (old.queue ≡ []) × (old.tail ≡ Failure c) × (new.tail ≡ Taken)
 
+-- it reads what the node reads, until its ending is in the queue
+abbrev pub reads_in : Tail → Option Reading → Option Reading
+reads_in Open r = r
+reads_in Completion r = None
+reads_in (Failure c) r = None
+reads_in Taken r = None
+
+abbrev pub queued_reads : {M T : Type 0} → Machine M T → Queued M T → Option Reading
+queued_reads b n = reads_in n.tail (b.reads n.node)
+
+abbrev pub queued_rooms : {M T : Type 0} → Machine M T → Queued M T → Bool
+queued_rooms b n = b.rooms n.node
+
+-- whether it takes in this signal of that hub
+abbrev pub queued_takes_published : {M T : Type 0} → Machine M T → Queued M T → Signal T → Bool
+queued_takes_published b n s = takes_published (queued_reads b n) (queued_rooms b n) s
+
 abbrev pub queued_allocates : {M T : Type 0} → Machine M T → Allocates → Queued M T → Bool
 queued_allocates b a n = b.signal_allocates a n.node
 
@@ -134,6 +152,6 @@ QueuedCountsIn b old i s new = CountsIn (queued_counted b) (queued_ended b) (que
 abbrev pub QueuedCountsStep : {M T : Type 0} → Machine M T → Queued M T → Queued M T → Type 0
 QueuedCountsStep b old new = CountsStep (queued_counted b) (queued_ended b) (queued_done b) old new
 
--- the same of its calls may allocate; taking a signal out never does
+-- it got as far in the hub that it reads, and the same of its calls may allocate; taking a signal out never does
 abbrev pub QueuedAlike : {M T : Type 0} → Machine M T → Queued M T → Queued M T → Type 0
-QueuedAlike b old new = AllocatesAlike (λ a n. false) (queued_allocates b) (queued_step_allocates b) old new
+QueuedAlike b old new = StaysAlike (queued_reads b) (λ a n. false) (queued_allocates b) (queued_step_allocates b) old new

@@ -1,20 +1,21 @@
 -- A node whose edge crosses to another region or doesn't.
-use Rattle.std.specs.Prelude.{◌≡◌, ℕ, ◌<◌, Bool, true, false, List, Option, Some, None, option_map}
+use Rattle.std.specs.Prelude.{◌≡◌, ℕ, ◌<◌, Bool, true, false, List, Option, Some, None, option_map, ◌⊎◌, ⊤, ◌^◌, ◌∷◌, ◌++◌, length, refl}
 use Rattle.std.proofs.Common.{inl, inr}
 use Rattle.rsx_types.specs.declared.note.Note.{Note}
 use Rattle.rsx_types.specs.declared.signal.Signal.{Signal}
 use Rattle.rsx_types.specs.Meaning.{Meaning, Allocates}
 use Rattle.rsx_types.specs.Notes.{unchosen}
 use Rattle.rsx_types.specs.Stream.{Stream}
-use Rattle.rsx_sources.specs.Counts.{AreWithin, CountsIn, CanStep, IsHungry, ends_input}
-use Rattle.rsx_sources.specs.Machine.{Incoming, front_of}
-use Rattle.rsx_sources.specs.Steps.{AllocatesAlike}
+use Rattle.rsx_sources.specs.Counts.{AreWithin, CountsIn, CountsStep, CanStep, IsHungry, ends_input, IsHungryAt}
+use Rattle.rsx_sources.specs.Machine.{Incoming, front_of, incoming_of}
+use Rattle.rsx_sources.specs.Steps.{AllocatesAlike, StaysAlike}
+use Rattle.rsx_sources.specs.Reading.{Reading, takes_published}
 use Rattle.rsx_sources.specs.declared.machine.Front.{Front}
 use Rattle.rsx_sources.specs.declared.machine.Machine.{Ghosts as Machine}
 use Rattle.rsx_crossing.specs.declared.sender.Sender.{Sender}
 use Rattle.rsx_crossing.specs.declared.sender.Sender.TheVariants.{Direct, Crossing}
-use Rattle.rsx_crossing.specs.Laws.{Shows, Drops, Ends, Settles, Waits, Hungers, queued_shows, queued_popped_alike, queued_drops, queued_ends, queued_settles, queued_ending_waits, queued_hungry}
-use Rattle.rsx_crossing.specs.Queued.{queued_comes_out, queued_waiting, queued_shown, queued_takes, queued_picks, queued_rows, queued_ended, queued_done, queued_counted, queued_wanted, queued_popped, queued_allocates, queued_step_allocates}
+use Rattle.rsx_crossing.specs.Laws.{Shows, Drops, Ends, Settles, Waits, Hungers, DoneDrops, queued_shows, queued_popped_alike, queued_drops, queued_ends, queued_ends_reading, queued_done_drops, queued_settles, queued_ending_waits, queued_hungry}
+use Rattle.rsx_crossing.specs.Queued.{queued_comes_out, queued_waiting, queued_shown, queued_takes, queued_picks, queued_rows, queued_ended, queued_done, queued_counted, queued_wanted, queued_popped, queued_reads, queued_rooms, queued_allocates, queued_step_allocates}
 
 -- ---- its meaning is that of the node, or of the node with its queue
 
@@ -71,6 +72,14 @@ sender_popped b (Direct x) s (Direct y) = b.popped x s y
 sender_popped b (Crossing x) s (Crossing y) = queued_popped x s y
 sender_popped b x s y = ⊥
 
+abbrev pub sender_reads : {M T : Type 0} → Machine M T → Sender M T → Option Reading
+sender_reads b (Direct n) = b.reads n
+sender_reads b (Crossing n) = queued_reads b n
+
+abbrev pub sender_rooms : {M T : Type 0} → Machine M T → Sender M T → Bool
+sender_rooms b (Direct n) = b.rooms n
+sender_rooms b (Crossing n) = queued_rooms b n
+
 abbrev pub sender_pop_allocates : {M T : Type 0} → Machine M T → Allocates → Sender M T → Bool
 sender_pop_allocates b a (Direct n) = b.pop_allocates a n
 sender_pop_allocates b a (Crossing n) = false
@@ -89,9 +98,21 @@ sender_step_allocates b a (Crossing n) = queued_step_allocates b a n
 abbrev pub SenderCountsIn : {M T : Type 0} → Machine M T → Sender M T → ℕ → Signal T → Sender M T → Type 0
 SenderCountsIn b old i s new = CountsIn (sender_counted b) (sender_ended b) (sender_done b) old i s new
 
+-- whether it takes in this signal of the hub that it reads
+abbrev pub sender_takes_published : {M T : Type 0} → Machine M T → Sender M T → Signal T → Bool
+sender_takes_published b n s = takes_published (sender_reads b n) (sender_rooms b n) s
+
+-- a step of the node itself
+abbrev pub SenderCountsStep : {M T : Type 0} → Machine M T → Sender M T → Sender M T → Type 0
+SenderCountsStep b old new = CountsStep (sender_counted b) (sender_ended b) (sender_done b) old new
+
 -- the same of its calls may allocate
+abbrev pub SenderAllocatesAlike : {M T : Type 0} → Machine M T → Sender M T → Sender M T → Type 0
+SenderAllocatesAlike b old new = AllocatesAlike (sender_pop_allocates b) (sender_signal_allocates b) (sender_step_allocates b) old new
+
+-- it got as far in the hub that it reads, and the same of its calls may allocate
 abbrev pub SenderAlike : {M T : Type 0} → Machine M T → Sender M T → Sender M T → Type 0
-SenderAlike b old new = AllocatesAlike (sender_pop_allocates b) (sender_signal_allocates b) (sender_step_allocates b) old new
+SenderAlike b old new = StaysAlike (sender_reads b) (sender_pop_allocates b) (sender_signal_allocates b) (sender_step_allocates b) old new
 
 -- ---- and so it keeps their laws
 
@@ -100,7 +121,7 @@ sender_shows b m shows (Direct n) = shows n
 sender_shows b m shows (Crossing n) = queued_shows m n
 
 abbrev pub IsAlike : {M T : Type 0} → Machine M T → Type 0
-IsAlike {M} {T} b = (old : M) (s : Signal T) (new : M) → b.popped old s new → AllocatesAlike b.pop_allocates b.signal_allocates b.step_allocates old new
+IsAlike {M} {T} b = (old : M) (s : Signal T) (new : M) → b.popped old s new → StaysAlike b.reads b.pop_allocates b.signal_allocates b.step_allocates old new
 
 pub sender_alike : {M T : Type 0} (b : Machine M T) → IsAlike b → (old : Sender M T) (s : Signal T) (new : Sender M T) → sender_popped b old s new → SenderAlike b old new
 sender_alike b alike (Direct x) s (Direct y) h = alike x s y h
@@ -116,6 +137,17 @@ pub sender_ends : {M T : Type 0} (b : Machine M T) (m : Meaning T) → Ends b m 
 sender_ends b m ends (Direct n) s inc other k w e = ends n s inc other k w e
 sender_ends b m ends (Crossing n) s inc other k w e = queued_ends b m n s inc other k w e
 
+pub sender_done_drops : {M T : Type 0} (b : Machine M T) (m : Meaning T) → DoneDrops b m → (n : Sender M T) (hubs before after : List (Stream T)) (v w : Stream T) (k : Note) → sender_done b n (length before) ≡ true → sender_comes_out b m n (incoming_of hubs (before ++ v ∷ after)) k ≡ sender_comes_out b m n (incoming_of hubs (before ++ w ∷ after)) k
+sender_done_drops b m drops (Direct n) hubs before after v w k d = drops n hubs before after v w k d
+sender_done_drops b m drops (Crossing n) hubs before after v w k d = queued_done_drops b m drops n hubs before after v w k d
+
+abbrev pub EndsReading : {M T : Type 0} → Machine M T → Meaning T → Type 0
+EndsReading {M} {T} b m = (n : M) (s : Signal T) → b.waiting m n ≡ Some s → ends_input s ≡ true → b.reads n ≡ None
+
+pub sender_ends_reading : {M T : Type 0} (b : Machine M T) (m : Meaning T) → EndsReading b m → (n : Sender M T) (s : Signal T) → sender_waiting b m n ≡ Some s → ends_input s ≡ true → sender_reads b n ≡ None
+sender_ends_reading b m ends (Direct n) s w e = ends n s w e
+sender_ends_reading b m ends (Crossing n) s w e = queued_ends_reading b m n s w e
+
 pub sender_settles : {M T : Type 0} (b : Machine M T) (m : Meaning T) → Settles b m → (n : Sender M T) (inc : Incoming T) → (v : Stream T) × (sender_comes_out b m n inc (unchosen (sender_recorded b n)) ≡ Some v)
 sender_settles b m settles (Direct n) inc = settles n inc
 sender_settles b m settles (Crossing n) inc = queued_settles b m settles n inc
@@ -125,18 +157,24 @@ sender_ending_waits b m shows waits (Direct n) asked sent e none more = waits n 
 sender_ending_waits b m shows waits (Crossing n) asked sent e none more = queued_ending_waits b m shows waits n asked sent e none more
 
 pub sender_hungry : {M T : Type 0} (b : Machine M T) (m : Meaning T) → Shows b m → Hungers b m → (n : Sender M T) (took : List ℕ) (asked sent : ℕ) → sender_ended b n ≡ false → sender_counted b n took sent → sender_waiting b m n ≡ None → sent < asked → AreWithin took →
-    IsHungry (sender_takes b) (sender_picks b) (sender_rows b) (sender_done b) (sender_wanted b) n took asked sent
+    IsHungry (sender_takes b) (sender_picks b) (sender_rows b) (sender_done b) (sender_wanted b) (sender_reads b) n took asked sent
 sender_hungry b m shows hungers (Direct n) took asked sent going counted none more within = elim (hungers n took asked sent going counted none more within) [
   | inl k ↦ inl k
   | inr y ↦ elim y [
     | inl k ↦ inr (inl k)
-    | inr k ↦ inr (inr (record { i = k.i; c = k.c; at = k.at; open_still = k.open_still; takes_any = k.takes_any; wants = k.wants }))
+    | inr z ↦ elim z [
+      | inl k ↦ inr (inr (inl (record { i = k.i; c = k.c; at = k.at; open_still = k.open_still; takes_any = k.takes_any; wants = k.wants })))
+      | inr r ↦ inr (inr (inr r))
+    ]
   ]
 ]
 sender_hungry b m shows hungers (Crossing n) took asked sent going counted none more within = elim (queued_hungry b m shows hungers n took asked sent going counted none more within) [
   | inl k ↦ inl k
   | inr y ↦ elim y [
     | inl k ↦ inr (inl k)
-    | inr k ↦ inr (inr (record { i = k.i; c = k.c; at = k.at; open_still = k.open_still; takes_any = k.takes_any; wants = k.wants }))
+    | inr z ↦ elim z [
+      | inl k ↦ inr (inr (inl (record { i = k.i; c = k.c; at = k.at; open_still = k.open_still; takes_any = k.takes_any; wants = k.wants })))
+      | inr r ↦ inr (inr (inr r))
+    ]
   ]
 ]

@@ -83,12 +83,13 @@ impl<M: Machine<Item = T>, T: Drop> Queued<M, T> {
 impl<M: Machine<Item = T>, T: Drop> Machine for Queued<M, T> {
     type Item = T;
 
-    ghost use Rattle.rsx_crossing.specs.Laws.{queued_shows, queued_popped_alike, queued_drops, queued_ends, queued_settles, queued_ending_waits, queued_hungry};
-    ghost use Rattle.rsx_crossing.specs.Queued.{queued_comes_out, queued_waiting, queued_shown, queued_takes, queued_picks, queued_rows, queued_ended, queued_done, queued_counted, queued_wanted, queued_popped, queued_allocates, queued_step_allocates, can_transfer, QueuedCountsIn, QueuedCountsStep, QueuedAlike};
+    ghost use Rattle.rsx_crossing.specs.Laws.{queued_shows, queued_popped_alike, queued_drops, queued_ends, queued_settles, queued_ending_waits, queued_hungry, queued_ends_reading, queued_done_drops};
+    ghost use Rattle.rsx_crossing.specs.Queued.{queued_comes_out, queued_waiting, queued_shown, queued_takes, queued_picks, queued_rows, queued_ended, queued_done, queued_counted, queued_wanted, queued_popped, queued_takes_published, queued_allocates, queued_step_allocates, can_transfer, QueuedCountsIn, QueuedCountsStep, QueuedAlike, queued_reads, queued_rooms};
     ghost use Rattle.rsx_crossing.specs.declared.queued.Queued.{Queued};
     ghost use Rattle.rsx_sources.specs.Machine.{TakesIn, Keeps, front_of};
-    ghost use Rattle.rsx_sources.specs.Steps.{IsNotTaken, IsNotMade};
+    ghost use Rattle.rsx_sources.specs.Steps.{IsNotTaken, IsNotMade, AllocatesAlike, StaysAlike};
     ghost use Rattle.rsx_crossing.specs.Transfer.{IsQueueKept, IsTransferred};
+    ghost use Rattle.rsx_sources.specs.Reading.{IsReadOn, takes_published};
     ghost use Rattle.std.specs.Prelude.{◌≡◌, true, false, IsOk, OnOk, OnErr, IfErr};
 
     ghost comes_out = { queued_comes_out M.Machine };
@@ -116,6 +117,10 @@ impl<M: Machine<Item = T>, T: Drop> Machine for Queued<M, T> {
     ghost wanted = { queued_wanted M.Machine };
 
     ghost popped = { queued_popped };
+
+    ghost reads = { queued_reads M.Machine };
+
+    ghost rooms = { queued_rooms M.Machine };
 
     ghost pop_allocates = { λ a n. false };
 
@@ -200,6 +205,33 @@ impl<M: Machine<Item = T>, T: Drop> Machine for Queued<M, T> {
 
     fn pass<O: Ops<Item = T>>(&mut self, alloc: Global, ops: &O, input: u64, item: T) -> Passed<T> {
         Passed::Declined(item)
+    }
+
+    fn hub(&self) -> Option<u64> {
+        if !self.tail.is_open() {
+            return None;
+        }
+        self.node.hub()
+    }
+
+    fn has_room(&self) -> bool {
+        self.node.has_room()
+    }
+
+    fn on_published(&mut self, signal: Signal<T>) -> Result<(), Signal<T>>
+        ensures ok { OnOk result (IsReadOn (queued_comes_out M.Machine) (queued_reads M.Machine) self.old signal self.new) }
+        ensures enabled { OnOk result (queued_takes_published M.Machine self.old signal ≡ true) }
+        ensures recorded { M.recorded self.new.node ≡ M.recorded self.old.node }
+        ensures counts { OnOk result (QueuedCountsStep M.Machine self.old self.new) }
+        ensures refused { OnErr result (queued_takes_published M.Machine self.old signal ≡ false) }
+        ensures err { IfErr result (λ s. s ≡ signal) }
+        ensures alike { AllocatesAlike (λ a n. false) (queued_allocates M.Machine) (queued_step_allocates M.Machine) self.old self.new }
+        ensures same { OnErr result (self.new ≡ self.old) }
+    {
+        if !self.tail.is_open() {
+            return Err(signal);
+        }
+        self.node.on_published(signal)
     }
 
     fn can_pick(&self, input: u64, asked: u64, sent: u64) -> bool {
@@ -302,16 +334,20 @@ impl<M: Machine<Item = T>, T: Drop> Machine for Queued<M, T> {
         &self,
         alloc: Global,
         ops: &O,
-        hubs: &[StreamValue<T>],
+        inboxes: &[StreamValue<T>],
         incoming: &[StreamValue<T>],
     ) -> Result<StreamValue<T>, NoMemory> {
         let mut items = self.queue.copied(alloc, ops)?;
-        let (hubs, incoming) = if self.tail.is_open() {
-            (hubs, incoming)
-        } else {
-            (&hubs[..0], &incoming[..0])
-        };
-        let rest = self.node.residual(alloc, ops, hubs, incoming)?;
+        if self.tail.is_open() {
+            let rest = self.node.residual(alloc, ops, inboxes, incoming)?;
+            let ending = rest.ending();
+            let mut behind = rest.into_items();
+            items.append(&mut behind)?;
+            return Ok(StreamValue::new(items, ending));
+        }
+        // Once its ending is in the queue, nothing comes into the node any more.
+        let none: [StreamValue<T>; 0] = [];
+        let rest = self.node.residual(alloc, ops, &none, &none)?;
         match self.tail {
             Tail::Completion => Ok(StreamValue::new(items, Ending::Done)),
             Tail::Failure(cause) => Ok(StreamValue::new(items, Ending::Failed(cause))),
@@ -331,6 +367,10 @@ impl<M: Machine<Item = T>, T: Drop> Machine for Queued<M, T> {
     ghost drops = { λ m n inc other further e. queued_drops M.Machine.own m (M.drops m) n inc other further e };
 
     ghost ends = { λ m n s inc other further w e. queued_ends M.Machine.own m n s inc other further w e };
+
+    ghost done_drops = { λ m n hubs before after v w further d. queued_done_drops M.Machine.own m (M.done_drops m) n hubs before after v w further d };
+
+    ghost ends_reading = { λ m n s w e. queued_ends_reading M.Machine.own m n s w e };
 
     ghost settles = { λ m n inc. queued_settles M.Machine.own m (M.settles m) n inc };
 

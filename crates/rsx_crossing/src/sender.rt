@@ -19,10 +19,12 @@ pub enum Sender<M, T> {
 impl<M: Machine<Item = T>, T: Drop> Machine for Sender<M, T> {
     type Item = T;
 
-    ghost use Rattle.rsx_crossing.specs.Sender.{sender_comes_out, sender_waiting, sender_shown, sender_takes, sender_picks, sender_rows, sender_recording, sender_recorded, sender_ended, sender_done, sender_counted, sender_wanted, sender_popped, sender_pop_allocates, sender_signal_allocates, sender_step_allocates, sender_shows, sender_alike, sender_drops, sender_ends, sender_settles, sender_ending_waits, sender_hungry, SenderCountsIn, SenderAlike};
+    ghost use Rattle.rsx_crossing.specs.Sender.{sender_comes_out, sender_waiting, sender_shown, sender_takes, sender_picks, sender_rows, sender_recording, sender_recorded, sender_ended, sender_done, sender_counted, sender_wanted, sender_popped, sender_pop_allocates, sender_signal_allocates, sender_step_allocates, sender_shows, sender_alike, sender_drops, sender_ends, sender_settles, sender_ending_waits, sender_hungry, SenderCountsIn, SenderCountsStep, SenderAlike, SenderAllocatesAlike, sender_reads, sender_rooms, sender_takes_published, sender_ends_reading, sender_done_drops};
     ghost use Rattle.rsx_crossing.specs.declared.sender.Sender.{Sender};
     ghost use Rattle.rsx_sources.specs.Machine.{TakesIn, front_of};
-    ghost use Rattle.rsx_sources.specs.Steps.{IsNotTaken};
+    ghost use Rattle.rsx_sources.specs.Steps.{IsNotTaken, AllocatesAlike, StaysAlike};
+    ghost use Rattle.rsx_sources.specs.Counts.{CountsIn, CountsStep};
+    ghost use Rattle.rsx_sources.specs.Reading.{IsReadOn, takes_published};
     ghost use Rattle.std.specs.Prelude.{◌≡◌, true, false, OnOk, OnErr, IfErr};
 
     ghost comes_out = { sender_comes_out M.Machine };
@@ -50,6 +52,10 @@ impl<M: Machine<Item = T>, T: Drop> Machine for Sender<M, T> {
     ghost wanted = { sender_wanted M.Machine };
 
     ghost popped = { sender_popped M.Machine };
+
+    ghost reads = { sender_reads M.Machine };
+
+    ghost rooms = { sender_rooms M.Machine };
 
     ghost pop_allocates = { sender_pop_allocates M.Machine };
 
@@ -139,6 +145,36 @@ impl<M: Machine<Item = T>, T: Drop> Machine for Sender<M, T> {
         }
     }
 
+    fn hub(&self) -> Option<u64> {
+        match self {
+            Sender::Direct(node) => node.hub(),
+            Sender::Crossing(node) => node.hub(),
+        }
+    }
+
+    fn has_room(&self) -> bool {
+        match self {
+            Sender::Direct(node) => node.has_room(),
+            Sender::Crossing(node) => node.has_room(),
+        }
+    }
+
+    fn on_published(&mut self, signal: Signal<T>) -> Result<(), Signal<T>>
+        ensures ok { OnOk result (IsReadOn (sender_comes_out M.Machine) (sender_reads M.Machine) self.old signal self.new) }
+        ensures enabled { OnOk result (sender_takes_published M.Machine self.old signal ≡ true) }
+        ensures recorded { sender_recorded M.Machine self.new ≡ sender_recorded M.Machine self.old }
+        ensures counts { OnOk result (SenderCountsStep M.Machine self.old self.new) }
+        ensures refused { OnErr result (sender_takes_published M.Machine self.old signal ≡ false) }
+        ensures err { IfErr result (λ s. s ≡ signal) }
+        ensures alike { SenderAllocatesAlike M.Machine self.old self.new }
+        ensures same { OnErr result (self.new ≡ self.old) }
+    {
+        match self {
+            Sender::Direct(node) => node.on_published(signal),
+            Sender::Crossing(node) => node.on_published(signal),
+        }
+    }
+
     fn can_pick(&self, input: u64, asked: u64, sent: u64) -> bool {
         match self {
             Sender::Direct(node) => node.can_pick(input, asked, sent),
@@ -206,12 +242,12 @@ impl<M: Machine<Item = T>, T: Drop> Machine for Sender<M, T> {
         &self,
         alloc: Global,
         ops: &O,
-        hubs: &[StreamValue<T>],
+        inboxes: &[StreamValue<T>],
         incoming: &[StreamValue<T>],
     ) -> Result<StreamValue<T>, NoMemory> {
         match self {
-            Sender::Direct(node) => node.residual(alloc, ops, hubs, incoming),
-            Sender::Crossing(node) => node.residual(alloc, ops, hubs, incoming),
+            Sender::Direct(node) => node.residual(alloc, ops, inboxes, incoming),
+            Sender::Crossing(node) => node.residual(alloc, ops, inboxes, incoming),
         }
     }
 
@@ -222,6 +258,10 @@ impl<M: Machine<Item = T>, T: Drop> Machine for Sender<M, T> {
     ghost drops = { λ m n inc other further e. sender_drops M.Machine.own m (M.drops m) n inc other further e };
 
     ghost ends = { λ m n s inc other further w e. sender_ends M.Machine.own m (M.ends m) n s inc other further w e };
+
+    ghost done_drops = { λ m n hubs before after v w further d. sender_done_drops M.Machine.own m (M.done_drops m) n hubs before after v w further d };
+
+    ghost ends_reading = { λ m n s w e. sender_ends_reading M.Machine.own m (M.ends_reading m) n s w e };
 
     ghost settles = { λ m n inc. sender_settles M.Machine.own m (M.settles m) n inc };
 

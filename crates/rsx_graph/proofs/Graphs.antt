@@ -193,7 +193,7 @@ pumped_there {T} m id n subs old new before after lt e k = record {
   stands = λ h s.
       let P : History T → Type 0 = λ g. StandsFor m (set subs id.0 new) g in
       subst P (sym (delivered_to h.published h.pasts id k.signals)) (AllStand-set m h.published (given_all k.signals) subs h.pasts id.0 old new lt e (λ p t. k.stands h.published p t) s);
-  alike = λ a. alike_there a subs id.0 old new lt e (k.alike a);
+  alike = λ a. alike_there a subs id.0 old new lt e (k.alike.0 a);
 }
 
 pub delivered_append : {T : Type 0} (h : History T) (a b : List (SubId × Signal T)) → delivered h (a ++ b) ≡ delivered (delivered h a) b
@@ -274,14 +274,14 @@ rested_same {T} m m' budget n i olds news r e h = let P : Meaning T → Type 0 =
 
 -- ---- what is owed
 
-pub owed_open : {T : Type 0} (m : Meaning T) (published : List (Stream T)) (subs : List (Subscription T)) (pasts : List (Past T)) (i : ℕ) (sub : Subscription T) (v : Stream T) → i < length subs → get_or subs i sub ≡ sub → standing_of sub ≡ Open → ((hubs : List (Stream T)) → owed_from m hubs (map unchosen (notes_of sub.part.tree)) sub ≡ Some v) → AllStand m published subs pasts → OwedAt m published subs pasts i v
+pub owed_open : {T : Type 0} (m : Meaning T) (published : List (Stream T)) (subs : List (Subscription T)) (pasts : List (Past T)) (i : ℕ) (sub : Subscription T) (v : Stream T) → i < length subs → get_or subs i sub ≡ sub → standing_of sub ≡ Open → ((past : Past T) → Stands m published sub past → owed_from m published (map unchosen (notes_of sub.part.tree)) sub ≡ Some v) → AllStand m published subs pasts → OwedAt m published subs pasts i v
 owed_open m published [] pasts i sub v lt e o w h = absurd (omega arith)
 owed_open m published (s ∷ subs) [] i sub v lt e o w h = absurd h
 owed_open {T} m published (s ∷ subs) (p ∷ pasts) zero sub v lt e o w h =
     let P : Subscription T → Type 0 = λ t. Stands m published t p in
     let Q : Subscription T → Type 0 = λ t. evaluated m published p (notes_of t.part.tree) ≡ Some (signals_then p.received v) in
     let k : Stands m published sub p = subst P e h.0 in
-    let w' : evaluated m published p (notes_of s.part.tree) ≡ Some (signals_then p.received v) = subst Q (sym e) (owes m published sub p v o w k) in
+    let w' : evaluated m published p (notes_of s.part.tree) ≡ Some (signals_then p.received v) = subst Q (sym e) (owes m published sub p v o (w p k) k) in
     let R : SubscriptionState → Type 0 = λ t. owes_in m published s p v t in
     subst R (sym o ∙ k.state) w'
 owed_open m published (s ∷ subs) (p ∷ pasts) (suc i) sub v lt e o w h = owed_open m published subs pasts i sub v (omega arith) e o w h.1

@@ -279,7 +279,9 @@ impl<O: Ops> Graph<O> {
             SubscriptionState::Open => {}
             _ => return Ok(StreamValue::new(Vec::new(alloc), Ending::Open)),
         }
-        match subscription.owed(alloc, &self.ops) {
+        // There are no hubs yet.
+        let inboxes: [StreamValue<O::Item>; 0] = [];
+        match subscription.owed(alloc, &self.ops, &inboxes) {
             Ok(value) => Ok(value),
             Err(NoMemory) => Err(Refusal::NoMemory),
         }

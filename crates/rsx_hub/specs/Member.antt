@@ -5,6 +5,7 @@ use Rattle.rsx_types.specs.declared.signal.Ending.TheVariants.{Open, Done, Faile
 use Rattle.rsx_types.specs.declared.signal.Signal.{Signal}
 use Rattle.rsx_types.specs.declared.signal.Signal.TheVariants.{Next, Complete, Error}
 use Rattle.rsx_types.specs.Stream.{Stream, ended_by, items_then, signal_then}
+pub use Rattle.rsx_sources.specs.Reading.{IsNextAt}
 use Rattle.rsx_hub.specs.declared.TheConstants.{MOST_ACCEPTED}
 use Rattle.rsx_hub.specs.Hub.{HubState, replayed, join, HasTakenIn, BeginsWith}
 use Rattle.rsx_hub.specs.Waiting.{is_open, first_waiting}
@@ -40,10 +41,14 @@ abbrev pub behind : {T : Type 0} → Bool → Ending → Stream T → Stream T
 behind true e v = ended_by Open
 behind false e v = ending_or e v
 
+-- what a member still gives out, where v stands behind what it took in: the items of its queue, and then v
+abbrev pub rest_before : {T : Type 0} → MemberState T → Stream T → Stream T
+rest_before m v = items_then m.queue (behind m.gone m.ending v)
+
 -- what a member still gives out, where the hub's whole value is w: the items of its queue, and then w from the item on
 -- that it has reached
 abbrev pub rest : {T : Type 0} → MemberState T → Stream T → Stream T
-rest m w = items_then m.queue (behind m.gone m.ending (without m.reached w))
+rest m w = rest_before m (without m.reached w)
 
 -- it still gives out the hub's whole value without its first items, as many as the hub's join says
 abbrev pub ReadsFromJoin : {T : Type 0} → HubState T → MemberState T → Type 0
@@ -89,12 +94,6 @@ abbrev pub took : {T : Type 0} → MemberState T → Signal T → MemberState T
 took m (Next x) = record m { queue = m.queue ++ x ∷ []; reached = m.reached + 1 }
 took m Complete = record m { ending = Done }
 took m (Error c) = record m { ending = Failed c }
-
--- this signal of the value w comes next for a member that reached so many items
-abbrev pub IsNextAt : {T : Type 0} → ℕ → Stream T → Signal T → Type 0
-IsNextAt n w (Next x) = slice_get w.items n ≡ Some x
-IsNextAt n w Complete = (length w.items ≡ n) × (w.ending ≡ Done)
-IsNextAt n w (Error c) = (length w.items ≡ n) × (w.ending ≡ Failed c)
 
 -- the signal that is offered
 abbrev pub offered : {T : Type 0} → MemberState T → Option (Signal T)

@@ -1,15 +1,16 @@
 //! One reader of a hub.
 
-ghost use Rattle.std.specs.Prelude.{◌≡◌, ◌+◌, ◌<◌, ◌≤◌, ◌↔◌, ◌∷◌, ◌++◌, [], true, false, length, IfOk, IfErr, OnOk, OnErr, IfSome, IsTrue, option_map};
-ghost use Rattle.rsx_types.specs.Stream.{Stream};
+ghost use Rattle.std.specs.Prelude.{◌≡◌, ◌+◌, ◌<◌, ◌≤◌, ◌↔◌, ◌∷◌, ◌++◌, [], true, false, length, IfOk, IfErr, OnOk, OnErr, IfSome, IsTrue, option_map, List, ℕ, max};
+ghost use Rattle.rsx_types.specs.Stream.{Stream, signal_then};
 ghost use Rattle.rsx_sources.specs.Machine.{front_of};
-ghost use Rattle.rsx_hub.specs.Member.{MemberState, empty_member, GivesFirst, rest, is_reading, takes_items, takes, took, IsNextAt, offered, given, left, IsGiven};
+ghost use Rattle.rsx_hub.specs.Member.{MemberState, empty_member, GivesFirst, rest, is_reading, takes_items, takes, took, IsNextAt, offered, given, left, IsGiven, rest_before};
+ghost use Rattle.rsx_types.specs.declared.signal.Ending.TheVariants.{Open};
 ghost use Rattle.rsx_hub.specs.declared.TheConstants.{LARGEST, MOST_ACCEPTED};
 
 use crate::{MOST_ACCEPTED, ending};
 use circular_buffer::HeapCircularBuffer;
 use rsx_sources::Front;
-use rsx_types::{Ending, NoMemory, Signal};
+use rsx_types::{Ending, NoMemory, Ops, Signal, StreamValue};
 use std::alloc::Global;
 use std::marker::Model;
 
@@ -76,7 +77,8 @@ impl<T: Drop> Member<T> {
         self.ending = ending;
     }
 
-    fn is_reading(&self) -> bool
+    /// Whether it takes in signals of its hub: it has not left, and the hub's ending was not taken in.
+    pub fn is_reading(&self) -> bool
         ensures { result ≡ is_reading self.now.gone self.now.ending }
     {
         !self.gone && ending::is_open(self.ending)
@@ -174,6 +176,7 @@ impl<T: Drop> Member<T> {
     pub fn put_back(&mut self, signal: Signal<T>)
         ensures state { (before : MemberState T) → IsGiven before signal self.old → self.new ≡ before }
         ensures value { (before : MemberState T) → IsGiven before signal self.old → GivesFirst self.new signal self.old }
+        ensures live { self.old.gone ≡ false → self.new.gone ≡ false }
     {
         match signal {
             Signal::Next(item) => {
@@ -228,5 +231,79 @@ impl<T: Drop> Member<T> {
         ensures { IsTrue result ↔ (self.now.queue ≡ []) }
     {
         self.queue.is_empty()
+    }
+}
+
+/// What a reader of a hub still gives out.
+pub trait Remaining<T: Drop> {
+    ghost queued: { Self → List T };
+
+    ghost remaining: { Self → Stream T → Stream T };
+
+    ghost use Rattle.std.specs.Prelude.{◌≡◌, ◌++◌, IfOk, OnOk};
+
+    /// Puts copies of the items of its queue behind `all`.
+    fn copy_queue<O: Ops<Item = T>>(
+        &self,
+        alloc: Global,
+        ops: &O,
+        all: &mut Vec<T>,
+    ) -> Result<(), NoMemory>
+        ensures { OnOk result (all.new.items ≡ all.old.items ++ queued self.now) };
+
+    /// What it still gives out, where these items with this ending stand behind what it took in of its hub: copies of the items
+    /// of its queue, and then of those, or the hub's ending where that was taken in. A member that has left, or gave out the
+    /// hub's ending, gives out nothing, Open.
+    ///
+    /// # Errors
+    /// [`NoMemory`] where a growth was refused.
+    fn rest<O: Ops<Item = T>>(
+        &self,
+        alloc: Global,
+        ops: &O,
+        items: &[T],
+        ending: Ending,
+    ) -> Result<StreamValue<T>, NoMemory>
+        ensures { IfOk result (λ v. v ≡ remaining self.now (record { items = items.now; ending = ending })) };
+}
+
+impl<T: Drop> Remaining<T> for Member<T> {
+    ghost queued = { λ m. m.queue };
+
+    ghost remaining = { rest_before };
+
+    fn copy_queue<O: Ops<Item = T>>(
+        &self,
+        alloc: Global,
+        ops: &O,
+        all: &mut Vec<T>,
+    ) -> Result<(), NoMemory> {
+        for item in &self.queue {
+            let copy = ops.copy(alloc, item)?;
+            all.push(copy)?;
+        }
+        Ok(())
+    }
+
+    fn rest<O: Ops<Item = T>>(
+        &self,
+        alloc: Global,
+        ops: &O,
+        items: &[T],
+        ending: Ending,
+    ) -> Result<StreamValue<T>, NoMemory> {
+        let mut all = Vec::new(alloc);
+        self.copy_queue(alloc, ops, &mut all)?;
+        if self.gone {
+            return Ok(StreamValue::new(all, Ending::Open));
+        }
+        if !ending::is_open(self.ending) {
+            return Ok(StreamValue::new(all, self.ending));
+        }
+        for item in items {
+            let copy = ops.copy(alloc, item)?;
+            all.push(copy)?;
+        }
+        Ok(StreamValue::new(all, ending))
     }
 }

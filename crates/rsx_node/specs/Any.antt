@@ -1,11 +1,12 @@
 -- A node of any kind: its meaning is that of its kind.
-use Rattle.std.specs.Prelude.{⊤, ℕ, Bool, false, List, Option}
+use Rattle.std.specs.Prelude.{⊤, ℕ, Bool, false, List, Option, None}
 use Rattle.rsx_types.specs.declared.note.Note.{Note}
 use Rattle.rsx_types.specs.declared.note.Note.TheVariants.{Nothing}
 use Rattle.rsx_types.specs.declared.signal.Signal.{Signal}
 use Rattle.rsx_types.specs.Meaning.{Meaning, Allocates}
 use Rattle.rsx_types.specs.Stream.{Stream}
 use Rattle.rsx_sources.specs.Machine.{Incoming}
+use Rattle.rsx_sources.specs.Reading.{Reading}
 use Rattle.rsx_sources.specs.declared.machine.Front.{Front}
 use Rattle.rsx_sources.specs.declared.machine.Machine.{Ghosts as Machine}
 use Rattle.rsx_sources.specs.Items.{items_comes_out, items_waiting, items_shown, items_popped}
@@ -63,6 +64,18 @@ any_popped (Range a) s (Range b) = range_popped a s b
 any_popped (Plain a) s (Plain b) = plain_popped a s b
 any_popped a s b = ⊥
 
+-- how far it got in the hub that it reads; no kind of node reads one
+abbrev pub any_reads : {T : Type 0} → AnyNode T → Option Reading
+any_reads (Items n) = None
+any_reads (Range n) = None
+any_reads (Plain n) = None
+
+-- whether it has room for an item of that hub
+abbrev pub any_rooms : {T : Type 0} → AnyNode T → Bool
+any_rooms (Items n) = false
+any_rooms (Range n) = false
+any_rooms (Plain n) = false
+
 -- whether taking the offered signal out may allocate
 abbrev pub any_pop_allocates : {T : Type 0} → Allocates → AnyNode T → Bool
 any_pop_allocates a (Items n) = false
@@ -91,6 +104,8 @@ any_machine = record {
   counted = any_counted;
   wanted = any_wanted;
   popped = any_popped;
+  reads = any_reads;
+  rooms = any_rooms;
   pop_allocates = any_pop_allocates;
   signal_allocates = any_signal_allocates;
   step_allocates = λ a n. false;

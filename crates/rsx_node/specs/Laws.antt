@@ -1,5 +1,5 @@
 -- A node of any kind keeps the laws of its kind.
-use Rattle.std.specs.Prelude.{◌≡◌, ◌<◌, ℕ, Bool, true, false, List, Option, Some, None, option_map, refl}
+use Rattle.std.specs.Prelude.{◌≡◌, ◌<◌, ℕ, Bool, true, false, List, ◌∷◌, ◌++◌, Option, Some, None, option_map, refl}
 use Rattle.std.proofs.Common.{inl, inr}
 use Rattle.rsx_types.specs.declared.note.Note.{Note}
 use Rattle.rsx_types.specs.declared.note.Note.TheVariants.{Nothing}
@@ -8,11 +8,11 @@ use Rattle.rsx_types.specs.Meaning.{Meaning}
 use Rattle.rsx_types.specs.Notes.{unchosen}
 use Rattle.rsx_types.specs.Stream.{Stream}
 use Rattle.rsx_sources.specs.Counts.{AreWithin, CanStep, IsHungry, IsHungryAt, ends_input}
-use Rattle.rsx_sources.specs.Machine.{Incoming, front_of}
-use Rattle.rsx_sources.specs.Steps.{AllocatesAlike}
+use Rattle.rsx_sources.specs.Machine.{Incoming, incoming_of, front_of}
+use Rattle.rsx_sources.specs.Steps.{StaysAlike}
 use Rattle.rsx_plain.specs.Laws.{plain_popped_alike, plain_drops, plain_ends, plain_ending_waits, plain_hungry}
 use Rattle.rsx_sources.specs.Range.{range_shows}
-use Rattle.rsx_node.specs.Any.{any_comes_out, any_waiting, any_shown, any_takes, any_ended, any_counted, any_wanted, any_popped, any_pop_allocates, any_signal_allocates}
+use Rattle.rsx_node.specs.Any.{any_comes_out, any_waiting, any_shown, any_takes, any_ended, any_counted, any_wanted, any_popped, any_reads, any_pop_allocates, any_signal_allocates}
 use Rattle.rsx_node.specs.declared.any_node.AnyNode.{AnyNode}
 use Rattle.rsx_node.specs.declared.any_node.AnyNode.TheVariants.{Items, Range, Plain}
 
@@ -22,17 +22,17 @@ any_shows m (Items n) = refl
 any_shows m (Range n) = range_shows m n
 any_shows m (Plain n) = refl
 
--- what may allocate stays as a signal is taken out
-pub any_popped_alike : {T : Type 0} (old : AnyNode T) (s : Signal T) (new : AnyNode T) → any_popped old s new → AllocatesAlike any_pop_allocates any_signal_allocates (λ a n. false) old new
-any_popped_alike (Items n) s (Items k) h a = (refl, refl, refl)
-any_popped_alike (Items n) s (Range k) h a = absurd h
-any_popped_alike (Items n) s (Plain k) h a = absurd h
-any_popped_alike (Range n) s (Items k) h a = absurd h
-any_popped_alike (Range n) s (Range k) h a = (refl, refl, refl)
-any_popped_alike (Range n) s (Plain k) h a = absurd h
-any_popped_alike (Plain n) s (Items k) h a = absurd h
-any_popped_alike (Plain n) s (Range k) h a = absurd h
-any_popped_alike (Plain n) s (Plain k) h a = plain_popped_alike n s k h a
+-- what may allocate stays as a signal is taken out, and so does how far it got in its hub
+pub any_popped_alike : {T : Type 0} (old : AnyNode T) (s : Signal T) (new : AnyNode T) → any_popped old s new → StaysAlike any_reads any_pop_allocates any_signal_allocates (λ a n. false) old new
+any_popped_alike (Items n) s (Items k) h = (refl, λ a. (refl, refl, refl))
+any_popped_alike (Items n) s (Range k) h = absurd h
+any_popped_alike (Items n) s (Plain k) h = absurd h
+any_popped_alike (Range n) s (Items k) h = absurd h
+any_popped_alike (Range n) s (Range k) h = (refl, λ a. (refl, refl, refl))
+any_popped_alike (Range n) s (Plain k) h = absurd h
+any_popped_alike (Plain n) s (Items k) h = absurd h
+any_popped_alike (Plain n) s (Range k) h = absurd h
+any_popped_alike (Plain n) s (Plain k) h = plain_popped_alike n s k h
 
 -- what comes in no longer matters once it has ended
 pub any_drops : {T : Type 0} (m : Meaning T) (n : AnyNode T) (inc other : Incoming T) (further : Note) → any_ended n ≡ true → any_comes_out m n inc further ≡ any_comes_out m n other further
@@ -45,6 +45,16 @@ pub any_ends : {T : Type 0} (m : Meaning T) (n : AnyNode T) (s : Signal T) (inc 
 any_ends m (Items n) s inc other further w e = refl
 any_ends m (Range n) s inc other further w e = refl
 any_ends m (Plain n) s inc other further w e = plain_ends m n s inc other further w e
+
+-- a node that offers its ending reads no hub
+pub any_ends_reading : {T : Type 0} (m : Meaning T) (n : AnyNode T) (s : Signal T) → any_waiting m n ≡ Some s → ends_input s ≡ true → any_reads n ≡ None
+any_ends_reading m (Items n) s w e = refl
+any_ends_reading m (Range n) s w e = refl
+any_ends_reading m (Plain n) s w e = refl
+
+-- no node goes on with an input whose completion it took
+pub any_done_drops : {T : Type 0} (m : Meaning T) (n : AnyNode T) (hubs before after : List (Stream T)) (v w : Stream T) (further : Note) → false ≡ true → any_comes_out m n (incoming_of hubs (before ++ v ∷ after)) further ≡ any_comes_out m n (incoming_of hubs (before ++ w ∷ after)) further
+any_done_drops m n hubs before after v w further d = cc
 
 -- something comes out where nothing more is chosen
 pub any_settles : {T : Type 0} (m : Meaning T) (n : AnyNode T) (inc : Incoming T) → (v : Stream T) × (any_comes_out m n inc (unchosen Nothing) ≡ Some v)
@@ -60,13 +70,16 @@ any_ending_waits m (Plain n) asked sent e none more = plain_ending_waits m n ask
 
 -- it isn't stuck
 pub any_hungry : {T : Type 0} (m : Meaning T) (n : AnyNode T) (taken : List ℕ) (asked sent : ℕ) → any_ended n ≡ false → any_counted n taken sent → any_waiting m n ≡ None → sent < asked → AreWithin taken →
-    IsHungry any_takes (λ k i a s. false) (λ k a s. false) (λ k i. false) any_wanted n taken asked sent
+    IsHungry any_takes (λ k i a s. false) (λ k a s. false) (λ k i. false) any_wanted any_reads n taken asked sent
 any_hungry m (Items n) taken asked sent still counted waits more within = cc
 any_hungry m (Range n) taken asked sent still counted waits more within = cc
 any_hungry m (Plain n) taken asked sent still counted waits more within = elim (plain_hungry m n taken asked sent still counted waits more within) [
   | inl k ↦ inl k
   | inr y ↦ elim y [
     | inl k ↦ inr (inl k)
-    | inr k ↦ inr (inr (record { i = k.i; c = k.c; at = k.at; open_still = k.open_still; takes_any = k.takes_any; wants = k.wants }))
+    | inr z ↦ elim z [
+      | inl k ↦ inr (inr (inl (record { i = k.i; c = k.c; at = k.at; open_still = k.open_still; takes_any = k.takes_any; wants = k.wants })))
+      | inr r ↦ inr (inr (inr r))
+    ]
   ]
 ]

@@ -22,14 +22,13 @@ impl<T: Drop> Machine for AnyNode<T> {
     type Item = T;
 
     ghost use Rattle.std.specs.Prelude.{◌≡◌, true, false, IfOk, IfErr, IsOk, OnOk, OnErr, Some};
-    ghost use Rattle.rsx_types.specs.Notes.{note_then};
-    ghost use Rattle.rsx_types.specs.declared.note.Note.{Note as NoteSpec};
     ghost use Rattle.rsx_types.specs.declared.note.Note.TheVariants.{Nothing};
-    ghost use Rattle.rsx_sources.specs.Counts.{CountsIn, CountsOut};
-    ghost use Rattle.rsx_sources.specs.Machine.{TakesIn, front_of, incoming_of};
-    ghost use Rattle.rsx_sources.specs.Steps.{IsPopped, IsNotTaken, AllocatesAlike};
-    ghost use Rattle.rsx_node.specs.Any.{any_comes_out, any_waiting, any_shown, any_takes, any_ended, any_counted, any_wanted, any_popped, any_pop_allocates, any_signal_allocates};
-    ghost use Rattle.rsx_node.specs.Laws.{any_shows, any_drops, any_ends, any_settles, any_ending_waits, any_hungry, any_popped_alike};
+    ghost use Rattle.rsx_sources.specs.Counts.{CountsIn, CountsOut, CountsStep};
+    ghost use Rattle.rsx_sources.specs.Machine.{TakesIn, front_of};
+    ghost use Rattle.rsx_sources.specs.Reading.{IsReadOn, IsResidualOf, takes_published};
+    ghost use Rattle.rsx_sources.specs.Steps.{IsPopped, IsNotTaken, AllocatesAlike, StaysAlike};
+    ghost use Rattle.rsx_node.specs.Any.{any_comes_out, any_waiting, any_shown, any_takes, any_ended, any_counted, any_wanted, any_popped, any_reads, any_rooms, any_pop_allocates, any_signal_allocates};
+    ghost use Rattle.rsx_node.specs.Laws.{any_shows, any_drops, any_ends, any_ends_reading, any_done_drops, any_settles, any_ending_waits, any_hungry, any_popped_alike};
     ghost use Rattle.rsx_node.specs.declared.any_node.AnyNode.{AnyNode};
 
     ghost comes_out = { any_comes_out };
@@ -58,6 +57,10 @@ impl<T: Drop> Machine for AnyNode<T> {
 
     ghost popped = { any_popped };
 
+    ghost reads = { any_reads };
+
+    ghost rooms = { any_rooms };
+
     ghost pop_allocates = { any_pop_allocates };
 
     ghost signal_allocates = { any_signal_allocates };
@@ -83,7 +86,7 @@ impl<T: Drop> Machine for AnyNode<T> {
         ensures counts { IfOk result (λ s. CountsOut any_counted any_ended (λ n i. false) self.old s self.new) }
         ensures err { OnErr result (self.new ≡ self.old) }
         ensures memory { any_pop_allocates (O.allocates ops.now) self.old ≡ false → IsOk result }
-        ensures alike { AllocatesAlike any_pop_allocates any_signal_allocates (λ a n. false) self.old self.new }
+        ensures alike { StaysAlike any_reads any_pop_allocates any_signal_allocates (λ a n. false) self.old self.new }
     {
         match self {
             AnyNode::Items(node) => node.pop_front(alloc, ops),
@@ -133,7 +136,7 @@ impl<T: Drop> Machine for AnyNode<T> {
         ensures counts { OnOk result (CountsIn any_counted any_ended (λ n i. false) self.old input signal self.new) }
         ensures err { IfErr result (IsNotTaken (any_takes self.old input (front_of signal)) signal) }
         ensures memory { any_signal_allocates (O.allocates ops.now) self.old ≡ false → IfErr result (λ e. e ≡ NotTaken.Busy signal) }
-        ensures alike { AllocatesAlike any_pop_allocates any_signal_allocates (λ a n. false) self.old self.new }
+        ensures alike { StaysAlike any_reads any_pop_allocates any_signal_allocates (λ a n. false) self.old self.new }
         ensures same { OnErr result (self.new ≡ self.old) }
     {
         match self {
@@ -156,6 +159,38 @@ impl<T: Drop> Machine for AnyNode<T> {
         match self {
             AnyNode::Items(_) | AnyNode::Range(_) => Passed::Declined(item),
             AnyNode::Plain(node) => node.pass(alloc, ops, input, item),
+        }
+    }
+
+    fn hub(&self) -> Option<u64> {
+        match self {
+            AnyNode::Items(node) => node.hub(),
+            AnyNode::Range(node) => node.hub(),
+            AnyNode::Plain(node) => node.hub(),
+        }
+    }
+
+    fn has_room(&self) -> bool {
+        match self {
+            AnyNode::Items(node) => node.has_room(),
+            AnyNode::Range(node) => node.has_room(),
+            AnyNode::Plain(node) => node.has_room(),
+        }
+    }
+
+    fn on_published(&mut self, signal: Signal<T>) -> Result<(), Signal<T>>
+        ensures ok { OnOk result (IsReadOn any_comes_out any_reads self.old signal self.new) }
+        ensures enabled { OnOk result (takes_published (any_reads self.old) (any_rooms self.old) signal ≡ true) }
+        ensures counts { OnOk result (CountsStep any_counted any_ended (λ n i. false) self.old self.new) }
+        ensures refused { OnErr result (takes_published (any_reads self.old) (any_rooms self.old) signal ≡ false) }
+        ensures err { IfErr result (λ s. s ≡ signal) }
+        ensures alike { AllocatesAlike any_pop_allocates any_signal_allocates (λ a n. false) self.old self.new }
+        ensures same { OnErr result (self.new ≡ self.old) }
+    {
+        match self {
+            AnyNode::Items(node) => node.on_published(signal),
+            AnyNode::Range(node) => node.on_published(signal),
+            AnyNode::Plain(node) => node.on_published(signal),
         }
     }
 
@@ -209,15 +244,15 @@ impl<T: Drop> Machine for AnyNode<T> {
         &self,
         alloc: Global,
         ops: &O,
-        hubs: &[StreamValue<T>],
+        inboxes: &[StreamValue<T>],
         incoming: &[StreamValue<T>],
     ) -> Result<StreamValue<T>, NoMemory>
-        ensures { IfOk result (λ v. (further : NoteSpec) → note_then Nothing further ≡ Nothing → any_comes_out (O.meaning ops.now) self.now (incoming_of hubs.now incoming.now) further ≡ Some v) }
+        ensures { IfOk result (λ v. IsResidualOf (any_comes_out (O.meaning ops.now)) (λ n. Nothing) any_reads self.now inboxes.now incoming.now v) }
     {
         match self {
-            AnyNode::Items(node) => node.residual(alloc, ops, hubs, incoming),
-            AnyNode::Range(node) => node.residual(alloc, ops, hubs, incoming),
-            AnyNode::Plain(node) => node.residual(alloc, ops, hubs, incoming),
+            AnyNode::Items(node) => node.residual(alloc, ops, inboxes, incoming),
+            AnyNode::Range(node) => node.residual(alloc, ops, inboxes, incoming),
+            AnyNode::Plain(node) => node.residual(alloc, ops, inboxes, incoming),
         }
     }
 
@@ -228,6 +263,10 @@ impl<T: Drop> Machine for AnyNode<T> {
     ghost drops = { any_drops };
 
     ghost ends = { any_ends };
+
+    ghost done_drops = { any_done_drops };
+
+    ghost ends_reading = { any_ends_reading };
 
     ghost settles = { any_settles };
 

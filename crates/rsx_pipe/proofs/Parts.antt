@@ -45,7 +45,7 @@ use Rattle.rsx_tree.proofs.Idles.{idle_offers, can_pass_live, live_still, place_
 use Rattle.rsx_pipe.proofs.Numbers.{above_zero, suc_minus}
 use Rattle.rsx_pipe.proofs.Signals.{IsOrderly-more, IsUnended-more, IsUnended-last, items_in-append, map_then-last, prefix_of_orderly, cut_value}
 use Rattle.rsx_tree.proofs.Shut.{pass_live, and_right, pick_alive, row_alive}
-use Rattle.rsx_pipe.proofs.Trees.{advanced_not_closed, ask_not_closed, send_not_closed, go_live, notes_then-unchosen, notes_then-unrecorded, unchosen_notes}
+use Rattle.rsx_pipe.proofs.Trees.{advanced_not_closed, ask_not_closed, send_not_closed, go_live, notes_then-unchosen, notes_then-unrecorded, unchosen_notes, none_reads}
 use Rattle.rsx_pipe.proofs.Numbers.{front_there, above_root, asked_all, at_zero}
 
 never : (b : Bool) → b ≡ true → b ≡ false → ⊥
@@ -214,7 +214,7 @@ moved_on {T} m (suc n) k a b c q q' q'' ds es x y =
     subst R more (x.0, x.1, x.2, x.3 ++ es, x.4, moved_on m n k x.0 b c x.2 q' q'' x.3 es x.5 y, ap (λ l. l ++ es) x.6 ∙ append_assoc x.1 x.3 es)
 
 pub pumped_none : {T : Type 0} (m : Meaning T) (part : Part T) (queue : List (Signal T)) → IsPumped m 0 part queue part queue
-pumped_none m part queue = record { out = []; queued = sym (append-nil queue); moves = (refl, refl, refl); stands = put_out_none m part; asked = refl; unclosed = λ h. h; alike = λ a. refl }
+pumped_none m part queue = record { out = []; queued = sym (append-nil queue); moves = (refl, refl, refl); stands = put_out_none m part; asked = refl; unclosed = λ h. h; alike = (λ a. refl, λ counts h. h) }
 
 pub pumped_on : {T : Type 0} (m : Meaning T) (n k : ℕ) (a b c : Part T) (q q' q'' : List (Signal T)) → IsPumped m n a q b q' → IsPumped m k b q' c q'' → IsPumped m (n + k) a q c q''
 pumped_on m n k a b c q q' q'' x y = record {
@@ -224,7 +224,7 @@ pumped_on m n k a b c q q' q'' x y = record {
   stands = put_out_on m a b c x.out y.out x.stands y.stands;
   asked = y.asked ∙ x.asked;
   unclosed = λ h. y.unclosed (x.unclosed h);
-  alike = λ p. y.alike p ∙ x.alike p;
+  alike = (λ p. y.alike.0 p ∙ x.alike.0 p, λ counts h. y.alike.1 counts (x.alike.1 counts h));
 }
 
 -- ---- one move
@@ -521,7 +521,7 @@ still_root m part queue q = ((λ input l. q (Pick 0 input) (omega arith, l)), q 
 sent_all_asked : {T : Type 0} (m : Meaning T) (part : Part T) (queue : List (Signal T)) → IsQuiet m part queue → part.root.state ≡ Live → length queue < CAPACITY → IsBalanced part.tree part.root.demand.sent → length (all_edges part) ≤ MOST_NODES → IsWithin part.tree → part.root.demand.sent < part.root.demand.asked → ⊥
 sent_all_asked m part queue q live room b few w less =
     let can = ap is_live live in
-    let s = idle_offers any_machine m (any_ending_waits m) (any_hungry m) part.tree part.root.demand.asked part.root.demand.sent (idle_tree m part queue q few) (live_still any_machine part.root part.tree.machine can (still_root m part queue q)) b less (let k = few_below part few in omega (arith, k)) w in
+    let s = idle_offers any_machine m (any_ending_waits m) (any_hungry m) part.tree part.root.demand.asked part.root.demand.sent (idle_tree m part queue q few) (live_still any_machine part.root part.tree.machine can (still_root m part queue q)) b less (let k = few_below part few in omega (arith, k)) w (none_reads part.tree) in
     let r : has_room queue ≡ true = grind (arith, nat_tests, room) in
     let goes : send_enabled m part queue 0 ≡ true = rw (r, s.1) (can_pass_live (edge_view part.root) (front_of s.0) can less) in
     never (send_enabled m part queue 0) goes (q (Send 0) (omega arith))

@@ -6,7 +6,8 @@ use Rattle.rsx_types.specs.Notes.{note_then, notes_then, unchosen}
 use Rattle.rsx_types.specs.declared.note.Note.{Note}
 use Rattle.rsx_types.specs.declared.note.Note.TheVariants.{Nothing, Picks, Ended}
 use Rattle.rsx_sources.specs.declared.machine.Front.{Front}
-use Rattle.rsx_node.specs.Any.{any_machine}
+use Rattle.rsx_sources.specs.Reading.{Reading, IsBehind}
+use Rattle.rsx_node.specs.Any.{any_machine, any_reads}
 use Rattle.rsx_node.specs.Built.{AllUnrecorded}
 use Rattle.rsx_node.specs.declared.any_node.AnyNode.{AnyNode}
 use Rattle.rsx_node.specs.declared.any_node.AnyNode.TheVariants.{Items, Range, Plain}
@@ -15,6 +16,8 @@ use Rattle.rsx_tree.specs.declared.edge.EdgeState.TheVariants.{Live}
 use Rattle.rsx_tree.specs.declared.inputs.Inputs.{Inputs, End, More'}
 use Rattle.rsx_tree.specs.Edges.{EdgeView}
 use Rattle.rsx_tree.specs.Inputs.{size, comes_in, out_of, beside_of, notes_of as notes_in, IsUnchosen as IsUnchosenIn}
+use Rattle.rsx_tree.specs.Reads.{IsReadAt, IsRowReadAt, IsTreeReadAt}
+use Rattle.rsx_tree.specs.Residual.{IsRowBehind, IsTreeBehind}
 use Rattle.rsx_tree.specs.Tree.{IsUnchosen}
 use Rattle.rsx_tree.proofs.Shut.{pass_live}
 use Rattle.rsx_tree.proofs.Shut as Shut
@@ -40,25 +43,29 @@ advanced_not_closed m old new asked sent a h = elim a.made [
 
 -- ---- hubs, which no kind of node reads yet
 
-unread_out : {T : Type 0} (m : Meaning T) (hubs others : List (Stream T)) (n : AnyNode T) (o : Option (List (Stream T))) (k : Option Note) → out_of any_machine m hubs n o k ≡ out_of any_machine m others n o k
-unread_out m hubs others n o None = refl
-unread_out m hubs others n None (Some k) = refl
-unread_out m hubs others (Items n) (Some vs) (Some k) = refl
-unread_out m hubs others (Range n) (Some vs) (Some k) = refl
-unread_out m hubs others (Plain n) (Some []) (Some k) = refl
-unread_out m hubs others (Plain n) (Some (v ∷ vs)) (Some k) = refl
+reads_none : {T : Type 0} (n : AnyNode T) → IsReadAt [] (any_reads n)
+reads_none (Items n) = tt
+reads_none (Range n) = tt
+reads_none (Plain n) = tt
 
-unread_row : {T : Type 0} (m : Meaning T) (hubs others : List (Stream T)) (further : List Note) (t : Inputs (AnyNode T)) (at : ℕ) → comes_in any_machine m hubs further t at ≡ comes_in any_machine m others further t at
-unread_row m hubs others further End at = refl
-unread_row m hubs others further (More' e n p below q beside) at =
-    let k = slice_get further at in
-    ap (λ o. beside_of (out_of any_machine m hubs n o k) (comes_in any_machine m hubs further beside (at + 1 + size below))) (unread_row m hubs others further below (at + 1))
-    ∙ (ap (λ o. beside_of o (comes_in any_machine m hubs further beside (at + 1 + size below))) (unread_out m hubs others n (comes_in any_machine m others further below (at + 1)) k)
-    ∙ ap (λ o. beside_of (out_of any_machine m others n (comes_in any_machine m others further below (at + 1)) k) o) (unread_row m hubs others further beside (at + 1 + size below)))
+none_read : {T : Type 0} (t : Inputs (AnyNode T)) → IsRowReadAt any_machine [] t
+none_read End = tt
+none_read (More' e n p below q beside) = (inr (reads_none n, none_read below), none_read beside)
 
-pub unread_tree : {T : Type 0} (m : Meaning T) (hubs others : List (Stream T)) (further : List Note) (t : AnyTree T) (at : ℕ) → comes_out m hubs further t at ≡ comes_out m others further t at
-unread_tree m hubs others further t at =
-    ap (λ o. out_of any_machine m hubs t.machine o (slice_get further at)) (unread_row m hubs others further t.inputs (at + 1)) ∙ unread_out m hubs others t.machine (comes_in any_machine m others further t.inputs (at + 1)) (slice_get further at)
+pub none_reads : {T : Type 0} (t : AnyTree T) → IsTreeReadAt any_machine [] t
+none_reads t = (reads_none t.machine, none_read t.inputs)
+
+unread : {T : Type 0} (inboxes hubs : List (Stream T)) (o : Option Reading) → IsReadAt [] o → IsBehind o inboxes hubs
+unread inboxes hubs None h = tt
+unread inboxes hubs (Some r) h = cc
+
+row_unread : {T : Type 0} (inboxes hubs : List (Stream T)) (t : Inputs (AnyNode T)) → IsRowReadAt any_machine [] t → IsRowBehind any_machine inboxes hubs t
+row_unread inboxes hubs End h = tt
+row_unread inboxes hubs (More' e n p below q beside) h = (elim h.0 [ inl dead ↦ inl dead | inr k ↦ inr (unread inboxes hubs (any_reads n) k.0, row_unread inboxes hubs below k.1) ], row_unread inboxes hubs beside h.1)
+
+-- where no node reads a hub, nothing that stands in an inbox matters
+pub tree_unread : {T : Type 0} (inboxes hubs : List (Stream T)) (t : AnyTree T) → IsTreeReadAt any_machine [] t → IsTreeBehind any_machine inboxes hubs t
+tree_unread inboxes hubs t h = (unread inboxes hubs (any_reads t.machine) h.0, row_unread inboxes hubs t.inputs h.1)
 
 -- ---- choices
 

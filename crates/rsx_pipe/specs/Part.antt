@@ -1,10 +1,10 @@
 -- A part: a tree with the edge from its root. What it stands for, which of its moves are enabled, and what they change.
-use Rattle.std.specs.Prelude.{◌≡◌, ℕ, zero, suc, ◌+◌, ◌-◌, ◌<◌, ◌≤◌, ◌^◌, min, Bool, true, false, ◌&&◌, nat_lt, nat_eq, if◌then◌else◌, List, [], ◌∷◌, ◌++◌, length, take, Option, Some, option_map, Result, Ok, Err}
+use Rattle.std.specs.Prelude.{◌≡◌, ℕ, zero, suc, ◌+◌, ◌-◌, ◌<◌, ◌≤◌, ◌^◌, min, Bool, true, false, ◌&&◌, nat_lt, nat_eq, if◌then◌else◌, List, [], ◌∷◌, ◌++◌, length, take, map, Option, Some, option_map, Result, Ok, Err}
 use Rattle.rsx_model.specs.Eval.{environment, eval}
 use Rattle.rsx_model.specs.declared.check.TheConstants.{MOST_NODES}
 use Rattle.rsx_model.specs.declared.expr.Expr.{Expr}
 use Rattle.rsx_types.specs.Meaning.{Meaning, Allocates}
-use Rattle.rsx_types.specs.Notes.{notes_then}
+use Rattle.rsx_types.specs.Notes.{notes_then, unchosen}
 use Rattle.rsx_types.specs.Stream.{Stream, signals_then}
 use Rattle.rsx_types.specs.declared.limits.TheConstants.{CAPACITY}
 use Rattle.rsx_types.specs.declared.note.Note.{Note}
@@ -15,6 +15,8 @@ use Rattle.rsx_sources.specs.declared.machine.Front.{Front}
 use Rattle.rsx_tree.specs.declared.look.NodeMove.{NodeMove}
 use Rattle.rsx_tree.specs.declared.look.NodeMove.TheVariants.{Ask, Send, Pick, Row}
 use Rattle.rsx_tree.specs.Edges.{edge_view, EdgeView, can_pass, IsPassed, passed, changed_at, asked_up_to}
+use Rattle.rsx_tree.specs.Residual.{IsTreeBehind}
+use Rattle.rsx_node.specs.Any.{any_machine}
 use Rattle.rsx_pipe.specs.Output.{items_in, IsUnended, IsOrderly, values_then}
 use Rattle.rsx_pipe.specs.Tree.{comes_out, notes_of, offers, can_ask, can_send, can_go, IsAllClosed, IsLetGo, edges, edges_after, want_at, front_at, ended_at, pop_allocates, send_allocates, step_allocates, tree_allocates, IsAlike, IsBalanced, IsWithin, can_pick, can_row, IsPickedAt, IsRowAt}
 use Rattle.rsx_tree.specs.declared.edge.EdgeState.TheVariants.{Live, Closed, Ended}
@@ -225,6 +227,15 @@ HasEnded m budget n part queue (Err e) = n ≤ budget
 abbrev pub IsSpent : {T : Type 0} → Meaning T → Part T → List (Signal T) → Pumped → Type 0
 IsSpent m part queue (Idle left) = (left ≡ 0) × IsQuiet m part queue
 IsSpent m part queue Budget = IsAwake m part queue
+
+-- ---- what is still owed
+
+-- this still comes out of a part, where just these inboxes stand behind what its nodes took in of the hubs, and nothing more is
+-- chosen
+abbrev pub IsPartResidual : {T : Type 0} → Meaning T → List (Stream T) → Part T → Stream T → Type 0
+IsPartResidual {T} m inboxes part v =
+    (hubs : List (Stream T)) → IsBalanced part.tree part.root.demand.sent → IsTreeBehind any_machine inboxes hubs part.tree →
+    comes_out m hubs (map unchosen (notes_of part.tree)) part.tree 0 ≡ Some v
 
 -- ---- idle means delivered
 

@@ -47,7 +47,7 @@ impl<T: Drop> Part<T> {
     ghost use Rattle.rsx_pipe.specs.Tree.{comes_out, notes_of, can_send, pop_allocates, send_allocates, step_allocates, IsAlike, IsAllClosed, IsStill};
     ghost use Rattle.rsx_tree.specs.Driven.{Spent};
     ghost use Rattle.rsx_pipe.specs.Fetched.{IsFetched};
-    ghost use Rattle.rsx_pipe.specs.Part.{pump_allocates, PartStands, IsPutOut, IsMade, IsPumped, IsQuiet, IsAwake, IsSpent, IsRootSent, HasEnded, IsDelivered, make_allocates, all_edges, move_enabled, ask_enabled, send_enabled, IsAsk, IsSend, pick_enabled, row_enabled, IsPick, IsRow, IsNumbered};
+    ghost use Rattle.rsx_pipe.specs.Part.{pump_allocates, PartStands, IsPutOut, IsMade, IsPumped, IsQuiet, IsAwake, IsSpent, IsRootSent, HasEnded, IsDelivered, IsPartResidual, make_allocates, all_edges, move_enabled, ask_enabled, send_enabled, IsAsk, IsSend, pick_enabled, row_enabled, IsPick, IsRow, IsNumbered};
 
     /// The part of an expression that `check_expr` accepts, before anything was asked of it.
     ///
@@ -495,15 +495,16 @@ impl<T: Drop> Part<T> {
         self.tree.notes(alloc)
     }
 
-    /// The stream value that still comes out, where nothing more is published and nothing more is chosen.
+    /// The stream value that still comes out, where just what stands in the inboxes is still published at the hubs, and nothing
+    /// more is chosen.
     pub fn residual<O: Ops<Item = T>>(
         &self,
         alloc: Global,
         ops: &O,
+        inboxes: &[StreamValue<T>],
     ) -> Result<StreamValue<T>, NoMemory>
-        ensures { IfOk result (λ v. (hubs : List (Stream T)) → comes_out (O.meaning ops.now) hubs (map unchosen (notes_of self.now.tree)) self.now.tree 0 ≡ Some v) }
+        ensures { IfOk result (λ v. IsPartResidual (O.meaning ops.now) inboxes.now self.now v) }
     {
-        let none: [StreamValue<T>; 0] = [];
-        self.tree.residual(alloc, ops, &none)
+        self.tree.residual(alloc, ops, inboxes)
     }
 }

@@ -11,6 +11,7 @@ use Rattle.rsx_types.specs.declared.signal.Signal.TheVariants.{Next}
 use Rattle.rsx_types.specs.Meaning.{Meaning}
 use Rattle.rsx_types.specs.Stream.{Stream, ended_by, items_then, signal_then, signals_then}
 use Rattle.rsx_sources.specs.Machine.{Incoming, incoming_of}
+use Rattle.rsx_sources.specs.Reading.{IsResidualOf}
 use Rattle.rsx_operators.specs.State.{plain_from}
 use Rattle.rsx_operators.proofs.Drained.{drop_all}
 use Rattle.rsx_plain.specs.Node.{plain_comes_out}
@@ -48,14 +49,15 @@ ends_here m n inc items at s e r i h cut p q further f =
     rw (f, all, append-nil, ← p, ← q) refl
 
 -- the rest comes out behind the slot
-pub rest_behind : {T E : Type 0} (m : Meaning T) (n : PlainNode T) (inc : Incoming T) (items : List T) (at : ℕ) (first : Stream T) (r : Result (Stream T) E) → IsAfter items at n.slot → length n.slot ≤ at → inc.first ≡ first → IfOk r (λ v. v ≡ items_then items (plain_from m n.state first)) → IfOk r (λ v. (further : Note) → further ≡ Nothing → plain_comes_out m n inc further ≡ Some v)
-rest_behind {T} m n inc items at first r i h e o =
-    IfOk-weaker r (λ v. v ≡ items_then items (plain_from m n.state first)) (λ v. (further : Note) → further ≡ Nothing → plain_comes_out m n inc further ≡ Some v) step o
+pub rest_behind : {T E : Type 0} (m : Meaning T) (n : PlainNode T) (inboxes vs : List (Stream T)) (items : List T) (at : ℕ) (first : Stream T) (r : Result (Stream T) E) → IsAfter items at n.slot → length n.slot ≤ at → ((hubs : List (Stream T)) → (incoming_of hubs vs).first ≡ first) → IfOk r (λ v. v ≡ items_then items (plain_from m n.state first)) →
+    IfOk r (λ v. IsResidualOf (plain_comes_out m) (λ k. Nothing) (λ k. None) n inboxes vs v)
+rest_behind {T} m n inboxes vs items at first r i h e o =
+    IfOk-weaker r (λ v. v ≡ items_then items (plain_from m n.state first)) (λ v. IsResidualOf (plain_comes_out m) (λ k. Nothing) (λ k. None) n inboxes vs v) step o
   where
-    step : (v : Stream T) → v ≡ items_then items (plain_from m n.state first) → (further : Note) → further ≡ Nothing → plain_comes_out m n inc further ≡ Some v
-    step v g further f =
+    step : (v : Stream T) → v ≡ items_then items (plain_from m n.state first) → IsResidualOf (plain_comes_out m) (λ k. Nothing) (λ k. None) n inboxes vs v
+    step v g hubs further behind f =
         let all = sym (i (plain_from m n.state first)) ∙ ap (λ l. items_then items (signals_then l (plain_from m n.state first))) (drop_all at n.slot h) in
-        rw (f, e, all, g) refl
+        rw (f, e hubs, all, g) refl
 
 pub first_is : {T : Type 0} (hubs vs : List (Stream T)) (v : Stream T) → Some v ≡ slice_get vs 0 → (incoming_of hubs vs).first ≡ v
 first_is hubs [] v h = cc

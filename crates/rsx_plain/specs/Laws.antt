@@ -1,5 +1,5 @@
 -- The laws of a node: what comes in doesn't matter once it has ended, and why it isn't stuck.
-use Rattle.std.specs.Prelude.{◌≡◌, ◌⊎◌, ℕ, zero, suc, ◌+◌, ◌*◌, ◌<◌, ◌≤◌, min, Bool, true, false, nat_lt, List, [], ◌∷◌, length, slice_get, Some, None, refl}
+use Rattle.std.specs.Prelude.{◌≡◌, ◌⊎◌, ℕ, zero, suc, ◌+◌, ◌*◌, ◌<◌, ◌≤◌, min, Bool, true, false, nat_lt, List, [], ◌∷◌, ◌++◌, length, slice_get, Some, None, refl}
 use Rattle.std.proofs.Common.{inl, inr, sym, ap, subst, arith}
 use Rattle.std.proofs.Math.Nat.{mul-le-mul_right}
 use Rattle.std.proofs.lemmas.Bool.Decides.{nat_tests}
@@ -11,8 +11,8 @@ use Rattle.rsx_types.specs.declared.signal.Signal.{Signal}
 use Rattle.rsx_types.specs.declared.signal.Signal.TheVariants.{Next, Complete, Error}
 use Rattle.rsx_types.specs.Stream.{Stream, item_then, signals_then}
 use Rattle.rsx_sources.specs.Counts.{CanStep, IsHungry, AreWithin, ends_input}
-use Rattle.rsx_sources.specs.Machine.{Incoming, quiet}
-use Rattle.rsx_sources.specs.Steps.{AllocatesAlike}
+use Rattle.rsx_sources.specs.Machine.{Incoming, incoming_of, quiet}
+use Rattle.rsx_sources.specs.Steps.{StaysAlike}
 use Rattle.rsx_sources.specs.Slot.{is_nil}
 use Rattle.rsx_operators.specs.Moves.{is_ending}
 use Rattle.rsx_plain.specs.Node.{plain_allocates, plain_comes_out, plain_ended, plain_popped, plain_takes, plain_wanted, plain_waiting, plain_counted}
@@ -21,9 +21,9 @@ use Rattle.rsx_plain.specs.declared.node.PlainNode.{PlainNode}
 use Rattle.rsx_operators.specs.declared.state.PlainState.{PlainState}
 use Rattle.rsx_operators.specs.declared.state.PlainState.TheVariants.{Map as MapFrom, Filter as FilterFrom, Take as TakeFrom, Scan as ScanFrom, Buffer as BufferFrom, Distinct as DistinctFrom}
 
--- what leaves the slot leaves what may allocate as it is
-pub plain_popped_alike : {T : Type 0} (old : PlainNode T) (s : Signal T) (new : PlainNode T) → plain_popped old s new → AllocatesAlike (λ a n. false) plain_allocates (λ a n. false) old new
-plain_popped_alike old s new h a = (refl, ap (allocates_from a) (sym h.1), refl)
+-- what leaves the slot leaves what may allocate as it is, and it reads no hub
+pub plain_popped_alike : {T : Type 0} (old : PlainNode T) (s : Signal T) (new : PlainNode T) → plain_popped old s new → StaysAlike (λ n. None) (λ a n. false) plain_allocates (λ a n. false) old new
+plain_popped_alike old s new h = (refl, λ a. (refl, ap (allocates_from a) (sym h.1), refl))
 
 -- where an ending stands in the slot, what the operator would give does not come out
 pub ended_slot : {T : Type 0} (slot : List (Signal T)) (v w : Stream T) → true ≡ list_any is_ending slot → signals_then slot v ≡ signals_then slot w
@@ -53,6 +53,10 @@ some_waits (s ∷ ss) e none = cc
 -- the slot of a node that has ended isn't empty
 pub plain_ending_waits : {T : Type 0} (m : Meaning T) (n : PlainNode T) (asked sent : ℕ) → plain_ended n ≡ true → plain_waiting m n ≡ None → sent < asked → CanStep (λ k i a s. false) (λ k a s. false) n asked sent
 plain_ending_waits m n asked sent e none more = absurd (some_waits n.slot e none)
+
+-- a node has no input whose completion it took and that it goes on with
+pub plain_done_drops : {T : Type 0} (m : Meaning T) (n : PlainNode T) (hubs before after : List (Stream T)) (v w : Stream T) (further : Note) → false ≡ true → plain_comes_out m n (incoming_of hubs (before ++ v ∷ after)) further ≡ plain_comes_out m n (incoming_of hubs (before ++ w ∷ after)) further
+plain_done_drops m n hubs before after v w further d = cc
 
 less_or_not : (a b : ℕ) → (a < b) ⊎ (b ≤ a)
 less_or_not a b = by_test (nat_lt a b) refl
@@ -88,17 +92,17 @@ none_waits [] e = refl
 none_waits (x ∷ xs) e = cc
 
 pub plain_hungry : {T : Type 0} (m : Meaning T) (n : PlainNode T) (taken : List ℕ) (asked sent : ℕ) → plain_ended n ≡ false → plain_counted n taken sent → plain_waiting m n ≡ None → sent < asked → AreWithin taken →
-    IsHungry (λ k i f. plain_takes k i) (λ k i a s. false) (λ k a s. false) (λ k i. false) plain_wanted n taken asked sent
+    IsHungry (λ k i f. plain_takes k i) (λ k i a s. false) (λ k a s. false) (λ k i. false) plain_wanted (λ k. None) n taken asked sent
 plain_hungry {T} m n taken asked sent still c waits more within =
     let empty : n.slot ≡ [] = none_waits n.slot waits in
     let none : length n.slot ≡ 0 = ap length empty in
     let less : sent + length n.slot < asked = omega (arith, none, more) in
     let low : AreWithin (c.0 ∷ []) = subst AreWithin c.1 within in
-    inr (inr (record {
+    inr (inr (inl (record {
       i = 0;
       c = c.0;
       at = ap (λ l. slice_get l 0) c.1;
       open_still = refl;
       takes_any = λ f. ap is_nil empty;
       wants = wants_more n.state c.0 (sent + length n.slot) asked sent c.3 c.2 less low.0;
-    }))
+    })))

@@ -24,6 +24,7 @@ impl<T: Drop> PlainNode<T> {
     ghost use Rattle.rsx_types.specs.declared.note.Note.{Note};
     ghost use Rattle.rsx_sources.specs.Machine.{Incoming, quiet};
     ghost use Rattle.rsx_operators.specs.State.{plain_start};
+    ghost use Rattle.rsx_plain.specs.Laws.{plain_done_drops};
     ghost use Rattle.rsx_plain.specs.Node.{plain_comes_out, start_slot, plain_ended};
 
     /// The node of an operator before it has taken anything. Its slot begins with the seed of `scan`, or the completion of
@@ -54,15 +55,17 @@ impl<T: Drop> PlainNode<T> {
 impl<T: Drop> Machine for PlainNode<T> {
     type Item = T;
 
-    ghost use Rattle.std.specs.Prelude.{◌≡◌, true, false, refl, IfOk, IfErr, IsOk, IsTrue, OnOk, OnErr};
+    ghost use Rattle.std.specs.Prelude.{◌≡◌, true, false, refl, None, IfOk, IfErr, IsOk, IsTrue, OnOk, OnErr};
     ghost use Rattle.rsx_plain.specs.Laws.{plain_drops, plain_ends, plain_ending_waits, plain_hungry, plain_popped_alike};
     ghost use Rattle.rsx_types.specs.Meaning.{Meaning, Allocates};
     ghost use Rattle.rsx_types.specs.Notes.{note_then};
     ghost use Rattle.rsx_types.specs.declared.note.Note.{Note};
     ghost use Rattle.rsx_types.specs.declared.note.Note.TheVariants.{Nothing};
     ghost use Rattle.rsx_sources.specs.Counts.{CountsIn, CountsOut};
-    ghost use Rattle.rsx_sources.specs.Machine.{Incoming, TakesIn, incoming_of};
+    ghost use Rattle.rsx_sources.specs.Machine.{Incoming, TakesIn};
+    ghost use Rattle.rsx_sources.specs.Reading.{IsReadOn, IsResidualOf};
     ghost use Rattle.rsx_sources.specs.Steps.{IsPopped, IsNotTaken};
+    ghost use Rattle.rsx_plain.specs.Laws.{plain_done_drops};
     ghost use Rattle.rsx_plain.specs.Node.{plain_comes_out, plain_waiting, plain_shown, plain_takes, plain_wanted, plain_popped, plain_ended, plain_allocates, plain_counted};
     ghost use Rattle.rsx_operators.specs.State.{is_over, after_signal, Counts};
     ghost use Rattle.rsx_plain.specs.declared.node.PlainNode.{PlainNode};
@@ -92,6 +95,10 @@ impl<T: Drop> Machine for PlainNode<T> {
     ghost wanted = { plain_wanted };
 
     ghost popped = { plain_popped };
+
+    ghost reads = { λ n. None };
+
+    ghost rooms = { λ n. false };
 
     ghost pop_allocates = { λ a n. false };
 
@@ -199,6 +206,23 @@ impl<T: Drop> Machine for PlainNode<T> {
         self.state.pass(alloc, ops, item)
     }
 
+    fn hub(&self) -> Option<u64> {
+        None
+    }
+
+    fn has_room(&self) -> bool {
+        false
+    }
+
+    fn on_published(&mut self, signal: Signal<T>) -> Result<(), Signal<T>>
+        ensures ok { OnOk result (IsReadOn plain_comes_out (λ n. None) self.old signal self.new) }
+        ensures enabled { OnOk result (false ≡ true) }
+        ensures err { IfErr result (λ s. s ≡ signal) }
+        ensures same { OnErr result (self.new ≡ self.old) }
+    {
+        Err(signal)
+    }
+
     fn can_pick(&self, input: u64, asked: u64, sent: u64) -> bool {
         false
     }
@@ -245,10 +269,10 @@ impl<T: Drop> Machine for PlainNode<T> {
         &self,
         alloc: Global,
         ops: &O,
-        hubs: &[StreamValue<T>],
+        inboxes: &[StreamValue<T>],
         incoming: &[StreamValue<T>],
     ) -> Result<StreamValue<T>, NoMemory>
-        ensures { IfOk result (λ v. (further : Note) → note_then Nothing further ≡ Nothing → plain_comes_out (O.meaning ops.now) self.now (incoming_of hubs.now incoming.now) further ≡ Some v) }
+        ensures { IfOk result (λ v. IsResidualOf (plain_comes_out (O.meaning ops.now)) (λ n. Nothing) (λ n. None) self.now inboxes.now incoming.now v) }
     {
         let mut out = Vec::new(alloc);
         for at in 0..self.slot.len() {
@@ -279,6 +303,10 @@ impl<T: Drop> Machine for PlainNode<T> {
     ghost drops = { plain_drops };
 
     ghost ends = { plain_ends };
+
+    ghost done_drops = { λ m n hubs before after v w further d. plain_done_drops m n hubs before after v w further d };
+
+    ghost ends_reading = { λ m n s w e. refl };
 
     ghost settles = { λ m n inc. (_, refl) };
 

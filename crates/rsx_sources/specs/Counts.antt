@@ -3,6 +3,7 @@ use Rattle.std.specs.Prelude.{◌≡◌, ◌⊎◌, ⊤, ℕ, zero, suc, ◌+◌
 use Rattle.rsx_demand.specs.declared.TheConstants.{UNBOUNDED}
 use Rattle.rsx_types.specs.declared.signal.Signal.{Signal}
 use Rattle.rsx_types.specs.declared.signal.Signal.TheVariants.{Next, Complete, Error}
+use Rattle.rsx_sources.specs.Reading.{Reading}
 use Rattle.rsx_sources.specs.declared.machine.Front.{Front}
 
 -- one more at input i
@@ -62,7 +63,12 @@ pub record IsHungryAt {S : Type 0} (takes : S → ℕ → Front → Bool) (done 
 abbrev pub CanStep : {S : Type 0} → (S → ℕ → ℕ → ℕ → Bool) → (S → ℕ → ℕ → Bool) → S → ℕ → ℕ → Type 0
 CanStep picks rows n asked sent = ((i : ℕ) × (i < 2 ^ 64) × (picks n i asked sent ≡ true)) ⊎ (rows n asked sent ≡ true)
 
--- an input can be picked, or a row can be made, or the node wants more at an input
-abbrev pub IsHungry : {S : Type 0} → (S → ℕ → Front → Bool) → (S → ℕ → ℕ → ℕ → Bool) → (S → ℕ → ℕ → Bool) → (S → ℕ → Bool) → (S → ℕ → ℕ → ℕ → ℕ) → S → List ℕ → ℕ → ℕ → Type 0
-IsHungry takes picks rows done wanted n taken asked sent =
-    ((i : ℕ) × (i < 2 ^ 64) × (picks n i asked sent ≡ true)) ⊎ ((rows n asked sent ≡ true) ⊎ IsHungryAt takes done wanted n taken asked sent)
+-- the node waits for the hub that it reads
+abbrev pub IsReading : {S : Type 0} → (S → Option Reading) → S → Type 0
+IsReading reads n = (r : Reading) × (reads n ≡ Some r)
+
+-- an input can be picked, or a row can be made, or the node wants more at an input, or it waits for its hub
+abbrev pub IsHungry : {S : Type 0} → (S → ℕ → Front → Bool) → (S → ℕ → ℕ → ℕ → Bool) → (S → ℕ → ℕ → Bool) → (S → ℕ → Bool) → (S → ℕ → ℕ → ℕ → ℕ) → (S → Option Reading) → S → List ℕ → ℕ → ℕ → Type 0
+IsHungry takes picks rows done wanted reads n taken asked sent =
+    ((i : ℕ) × (i < 2 ^ 64) × (picks n i asked sent ≡ true))
+    ⊎ ((rows n asked sent ≡ true) ⊎ (IsHungryAt takes done wanted n taken asked sent ⊎ IsReading reads n))

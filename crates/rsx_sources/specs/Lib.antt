@@ -4,5 +4,6 @@ pub mod Items
 pub mod Machine
 pub mod Passed
 pub mod Range
+pub mod Reading
 pub mod Slot
 pub mod Steps

@@ -5,6 +5,7 @@ use Rattle.rsx_types.specs.declared.signal.Signal.{Signal}
 use Rattle.rsx_types.specs.Meaning.{Allocates}
 use Rattle.rsx_types.specs.Stream.{Stream}
 use Rattle.rsx_sources.specs.Machine.{Incoming, LetsGo}
+use Rattle.rsx_sources.specs.Reading.{Reading}
 use Rattle.rsx_sources.specs.declared.machine.NotTaken.{NotTaken}
 use Rattle.rsx_sources.specs.declared.machine.NotTaken.TheVariants.{Busy, NoMemory}
 use Rattle.rsx_sources.specs.declared.machine.NotMade.{NotMade}
@@ -18,6 +19,10 @@ IsPopped comes_out popped w old (Some s) new = (w ≡ Some s) × popped old s ne
 -- the same calls may allocate
 abbrev pub AllocatesAlike : {S : Type 0} → (Allocates → S → Bool) → (Allocates → S → Bool) → (Allocates → S → Bool) → S → S → Type 0
 AllocatesAlike pops signals steps old new = (a : Allocates) → (pops a new ≡ pops a old) × (signals a new ≡ signals a old) × (steps a new ≡ steps a old)
+
+-- what it has taken in of the hub that it reads stays, and the same calls may allocate
+abbrev pub StaysAlike : {S : Type 0} → (S → Option Reading) → (Allocates → S → Bool) → (Allocates → S → Bool) → (Allocates → S → Bool) → S → S → Type 0
+StaysAlike reads pops signals steps old new = (reads new ≡ reads old) × AllocatesAlike pops signals steps old new
 
 -- the signal came back, and the node was busy exactly where it says so
 abbrev pub IsNotTaken : {T : Type 0} → Bool → Signal T → NotTaken T → Type 0

@@ -56,11 +56,12 @@ impl<T: Drop> ItemsNode<T> {
 impl<T: Drop> Machine for ItemsNode<T> {
     type Item = T;
 
-    ghost use Rattle.std.specs.Prelude.{◌≡◌, ⊤, refl, Some, true, false, IfOk, IfErr, OnOk, OnErr};
+    ghost use Rattle.std.specs.Prelude.{◌≡◌, ⊤, refl, Some, None, true, false, IfOk, IfErr, OnOk, OnErr};
     ghost use Rattle.rsx_types.specs.Notes.{note_then};
     ghost use Rattle.rsx_types.specs.declared.note.Note.{Note};
     ghost use Rattle.rsx_types.specs.declared.note.Note.TheVariants.{Nothing};
     ghost use Rattle.rsx_sources.specs.Machine.{TakesIn, incoming_of};
+    ghost use Rattle.rsx_sources.specs.Reading.{IsReadOn, IsResidualOf};
     ghost use Rattle.rsx_sources.specs.Steps.{IsNotTaken};
     ghost use Rattle.rsx_sources.specs.Items.{ItemsLeft, items_comes_out, items_waiting, items_shown, items_popped};
     ghost use Rattle.std.proofs.Common.{rules};
@@ -90,6 +91,10 @@ impl<T: Drop> Machine for ItemsNode<T> {
     ghost wanted = { λ n i a s. 0 };
 
     ghost popped = { items_popped };
+
+    ghost reads = { λ n. None };
+
+    ghost rooms = { λ n. false };
 
     ghost pop_allocates = { λ a n. false };
 
@@ -159,6 +164,23 @@ impl<T: Drop> Machine for ItemsNode<T> {
         Passed::Declined(item)
     }
 
+    fn hub(&self) -> Option<u64> {
+        None
+    }
+
+    fn has_room(&self) -> bool {
+        false
+    }
+
+    fn on_published(&mut self, signal: Signal<T>) -> Result<(), Signal<T>>
+        ensures ok { OnOk result (IsReadOn items_comes_out (λ n. None) self.old signal self.new) }
+        ensures enabled { OnOk result (false ≡ true) }
+        ensures err { IfErr result (λ s. s ≡ signal) }
+        ensures same { OnErr result (self.new ≡ self.old) }
+    {
+        Err(signal)
+    }
+
     fn can_pick(&self, input: u64, asked: u64, sent: u64) -> bool {
         false
     }
@@ -204,10 +226,10 @@ impl<T: Drop> Machine for ItemsNode<T> {
         &self,
         alloc: Global,
         ops: &O,
-        hubs: &[StreamValue<T>],
+        inboxes: &[StreamValue<T>],
         incoming: &[StreamValue<T>],
     ) -> Result<StreamValue<T>, NoMemory>
-        ensures { IfOk result (λ v. (further : Note) → note_then Nothing further ≡ Nothing → items_comes_out (O.meaning ops.now) self.now (incoming_of hubs.now incoming.now) further ≡ Some v) }
+        ensures { IfOk result (λ v. IsResidualOf (items_comes_out (O.meaning ops.now)) (λ n. Nothing) (λ n. None) self.now inboxes.now incoming.now v) }
     {
         let reversed = self.reversed.as_slice();
         let mut left = Vec::with_capacity(alloc, reversed.len())?;
@@ -220,11 +242,15 @@ impl<T: Drop> Machine for ItemsNode<T> {
 
     ghost shows = { λ m n. refl };
 
-    ghost popped_alike = { λ old s new h a. (refl, refl, refl) };
+    ghost popped_alike = { λ old s new h. (refl, λ a. (refl, refl, refl)) };
 
     ghost drops = { λ m n inc other further e. Prim.search rules };
 
     ghost ends = { λ m n s inc other further w e. Prim.search rules };
+
+    ghost done_drops = { λ m n hubs before after v w further d. Prim.search rules };
+
+    ghost ends_reading = { λ m n s w e. refl };
 
     ghost settles = { λ m n inc. (_, refl) };
 

@@ -6,6 +6,7 @@ ghost use Rattle.rsx_types.specs.Stream.{Stream};
 ghost use Rattle.rsx_types.specs.declared.note.Note.{Note};
 ghost use Rattle.rsx_types.specs.declared.signal.Signal.{Signal};
 ghost use Rattle.rsx_sources.specs.Machine.{Incoming};
+ghost use Rattle.rsx_sources.specs.Reading.{Reading};
 ghost use Rattle.rsx_sources.specs.declared.machine.Front.{Front as FrontSpec};
 
 use rsx_types::{Cause, NoMemory, Note, Ops, Signal, StreamValue};
@@ -100,6 +101,12 @@ pub trait Machine {
     /// The second is the first without the signal that it offered.
     ghost popped: { Self → Signal Self.Item → Self → Type 0 };
 
+    /// How far the node got in the hub that it reads, as long as it takes that hub's signals in.
+    ghost reads: { Self → Option Reading };
+
+    /// Whether it has room for an item of that hub.
+    ghost rooms: { Self → Bool };
+
     /// Whether taking the offered signal out may allocate, where these of the caller's functions may.
     ghost pop_allocates: { Allocates → Self → Bool };
 
@@ -109,12 +116,13 @@ pub trait Machine {
     /// Whether a pick or a row may allocate, where these of the caller's functions may.
     ghost step_allocates: { Allocates → Self → Bool };
 
-    ghost use Rattle.std.specs.Prelude.{◌≡◌, ◌<◌, ◌^◌, OnOk, OnErr, IfOk, IfErr, IfSome, IfNone, IsOk, Some, None, true, false, option_map};
+    ghost use Rattle.std.specs.Prelude.{◌≡◌, ◌<◌, ◌^◌, ◌∷◌, ◌++◌, length, OnOk, OnErr, IfOk, IfErr, IfSome, IfNone, IsOk, Some, None, true, false, option_map};
     ghost use Rattle.rsx_types.specs.Notes.{note_then, unchosen};
     ghost use Rattle.rsx_sources.specs.Counts.{CountsIn, CountsOut, CountsStep, CanStep, IsHungry, AreWithin, ends_input};
     ghost use Rattle.rsx_sources.specs.Machine.{Keeps, TakesIn, Records, front_of, incoming_of};
     ghost use Rattle.rsx_sources.specs.Passed.{IsItemOut, IsPassed};
-    ghost use Rattle.rsx_sources.specs.Steps.{AllocatesAlike, IsPopped, IsNotTaken, IsNotMade};
+    ghost use Rattle.rsx_sources.specs.Reading.{IsReadOn, IsResidualOf, takes_published, hub_of};
+    ghost use Rattle.rsx_sources.specs.Steps.{AllocatesAlike, StaysAlike, IsPopped, IsNotTaken, IsNotMade};
 
     /// Which signal is offered, if one is: the first signal that still comes out.
     fn front(&self) -> Option<Front>
@@ -133,7 +141,7 @@ pub trait Machine {
         ensures counts { IfOk result (λ s. CountsOut counted ended done self.old s self.new) }
         ensures err { OnErr result (self.new ≡ self.old) }
         ensures memory { pop_allocates (O.allocates ops.now) self.old ≡ false → IsOk result }
-        ensures alike { AllocatesAlike pop_allocates signal_allocates step_allocates self.old self.new };
+        ensures alike { StaysAlike reads pop_allocates signal_allocates step_allocates self.old self.new };
 
     /// Puts the signal back that was popped last. Then the node is as it was before that.
     fn put_back(&mut self, signal: Signal<Self::Item>)
@@ -162,14 +170,14 @@ pub trait Machine {
         ensures counts { OnOk result (CountsIn counted ended done self.old input signal self.new) }
         ensures err { IfErr result (IsNotTaken (takes self.old input (front_of signal)) signal) }
         ensures memory { signal_allocates (O.allocates ops.now) self.old ≡ false → IfErr result (λ e. e ≡ NotTaken.Busy signal) }
-        ensures alike { AllocatesAlike pop_allocates signal_allocates step_allocates self.old self.new }
+        ensures alike { StaysAlike reads pop_allocates signal_allocates step_allocates self.old self.new }
         ensures same { OnErr result (self.new ≡ self.old) };
 
     /// Takes the offered item out, as `pop_front` does. Where it answers nothing the node is unchanged, and `pop_front`
     /// tells the rest: that nothing is offered, an ending, or want of memory.
     fn pop_item<O: Ops<Item = Self::Item>>(&mut self, alloc: Global, ops: &O) -> Option<Self::Item>
         ensures some { IfSome result (λ x. IsItemOut (comes_out (O.meaning ops.now)) (waiting (O.meaning ops.now)) popped recorded counted ended done self.old x self.new) }
-        ensures alike { AllocatesAlike pop_allocates signal_allocates step_allocates self.old self.new }
+        ensures alike { StaysAlike reads pop_allocates signal_allocates step_allocates self.old self.new }
         ensures none { IfNone result (self.new ≡ self.old) };
 
     /// Takes an item of an input in, as `on_signal` does, and takes the item out that the node puts out for it, as
@@ -184,7 +192,27 @@ pub trait Machine {
         item: Self::Item,
     ) -> Passed<Self::Item>
         ensures passed { IsPassed (comes_out (O.meaning ops.now)) (waiting (O.meaning ops.now)) takes popped recorded counted ended done self.old input item result self.new }
-        ensures alike { AllocatesAlike pop_allocates signal_allocates step_allocates self.old self.new };
+        ensures alike { StaysAlike reads pop_allocates signal_allocates step_allocates self.old self.new };
+
+    /// The number of the hub that the node reads, as long as it takes that hub's signals in.
+    fn hub(&self) -> Option<u64>
+        ensures { result ≡ option_map hub_of (reads self.now) };
+
+    /// Whether the node has room for an item of the hub that it reads. An ending needs none.
+    fn has_room(&self) -> bool
+        ensures { result ≡ rooms self.now };
+
+    /// Takes in the next signal of the hub that the node reads. It takes no memory. The signal comes back where the node reads
+    /// no hub, and where it has no room for an item; then the node is unchanged.
+    fn on_published(&mut self, signal: Signal<Self::Item>) -> Result<(), Signal<Self::Item>>
+        ensures ok { OnOk result (IsReadOn comes_out reads self.old signal self.new) }
+        ensures enabled { OnOk result (takes_published (reads self.old) (rooms self.old) signal ≡ true) }
+        ensures recorded { recorded self.new ≡ recorded self.old }
+        ensures counts { OnOk result (CountsStep counted ended done self.old self.new) }
+        ensures refused { OnErr result (takes_published (reads self.old) (rooms self.old) signal ≡ false) }
+        ensures err { IfErr result (λ s. s ≡ signal) }
+        ensures alike { AllocatesAlike pop_allocates signal_allocates step_allocates self.old self.new }
+        ensures same { OnErr result (self.new ≡ self.old) };
 
     /// Whether an input can be picked, where `asked` is asked of the node and it sent `sent` items.
     fn can_pick(&self, input: u64, asked: u64, sent: u64) -> bool
@@ -211,7 +239,7 @@ pub trait Machine {
         ensures counts { OnOk result (CountsStep counted ended done self.old self.new) }
         ensures err { IfErr result (IsNotMade (picks self.old input asked sent)) }
         ensures memory { step_allocates (O.allocates ops.now) self.old ≡ false → IfErr result (λ e. e ≡ NotMade.NotEnabled) }
-        ensures alike { AllocatesAlike pop_allocates signal_allocates step_allocates self.old self.new }
+        ensures alike { StaysAlike reads pop_allocates signal_allocates step_allocates self.old self.new }
         ensures same { OnErr result (self.new ≡ self.old) };
 
     /// Whether a row can be made, where `asked` is asked of the node and it sent `sent` items.
@@ -232,7 +260,7 @@ pub trait Machine {
         ensures counts { OnOk result (CountsStep counted ended done self.old self.new) }
         ensures err { IfErr result (IsNotMade (rows self.old asked sent)) }
         ensures memory { step_allocates (O.allocates ops.now) self.old ≡ false → IfErr result (λ e. e ≡ NotMade.NotEnabled) }
-        ensures alike { AllocatesAlike pop_allocates signal_allocates step_allocates self.old self.new }
+        ensures alike { StaysAlike reads pop_allocates signal_allocates step_allocates self.old self.new }
         ensures same { OnErr result (self.new ≡ self.old) };
 
     /// What is to be asked of an input in all, where `asked` is asked of the node and it sent `sent` items.
@@ -243,29 +271,35 @@ pub trait Machine {
     fn note(&self, alloc: Global) -> Result<Note, NoMemory>
         ensures { IfOk result (λ n. n ≡ recorded self.now) };
 
-    /// The stream value that still comes out, where just these values come in, these are still published at the hubs, and
-    /// nothing more is chosen.
+    /// The stream value that still comes out, where just these values come in, just what stands in their inboxes is still
+    /// published at the hubs, and nothing more is chosen.
     fn residual<O: Ops<Item = Self::Item>>(
         &self,
         alloc: Global,
         ops: &O,
-        hubs: &[StreamValue<Self::Item>],
+        inboxes: &[StreamValue<Self::Item>],
         incoming: &[StreamValue<Self::Item>],
     ) -> Result<StreamValue<Self::Item>, NoMemory>
-        ensures { IfOk result (λ v. (further : Note) → note_then (recorded self.now) further ≡ recorded self.now → comes_out (O.meaning ops.now) self.now (incoming_of hubs.now incoming.now) further ≡ Some v) };
+        ensures { IfOk result (λ v. IsResidualOf (comes_out (O.meaning ops.now)) recorded reads self.now inboxes.now incoming.now v) };
 
     /// What is shown is the signal that waits, whatever the caller's functions mean.
     ghost shows: { (m : Meaning Self.Item) (n : Self) → shown n ≡ option_map front_of (waiting m n) };
 
-    /// Taking the offered signal out, and putting it back, leaves what may allocate as it is. No call changes that, so of a
-    /// node none of whose calls may allocate at the start, none ever may.
-    ghost popped_alike: { (old : Self) (s : Signal Self.Item) (new : Self) → popped old s new → AllocatesAlike pop_allocates signal_allocates step_allocates old new };
+    /// Taking the offered signal out, and putting it back, leaves what may allocate as it is, and how far the node got in its
+    /// hub. No call changes what may allocate, so of a node none of whose calls may at the start, none ever may.
+    ghost popped_alike: { (old : Self) (s : Signal Self.Item) (new : Self) → popped old s new → StaysAlike reads pop_allocates signal_allocates step_allocates old new };
 
     /// What comes in no longer matters to a node that has ended.
     ghost drops: { (m : Meaning Self.Item) (n : Self) (inc other : Incoming Self.Item) (further : Note) → ended n ≡ true → comes_out m n inc further ≡ comes_out m n other further };
 
     /// Nor does it matter to a node that offers its ending.
     ghost ends: { (m : Meaning Self.Item) (n : Self) (s : Signal Self.Item) (inc other : Incoming Self.Item) (further : Note) → waiting m n ≡ Some s → ends_input s ≡ true → comes_out m n inc further ≡ comes_out m n other further };
+
+    /// What comes in at an input whose completion was taken no longer matters.
+    ghost done_drops: { (m : Meaning Self.Item) (n : Self) (hubs before after : List (Stream Self.Item)) (v w : Stream Self.Item) (further : Note) → done n (length before) ≡ true → comes_out m n (incoming_of hubs (before ++ v ∷ after)) further ≡ comes_out m n (incoming_of hubs (before ++ w ∷ after)) further };
+
+    /// A node that offers its ending reads no hub.
+    ghost ends_reading: { (m : Meaning Self.Item) (n : Self) (s : Signal Self.Item) → waiting m n ≡ Some s → ends_input s ≡ true → reads n ≡ None };
 
     /// Where nothing more is chosen, something comes out.
     ghost settles: { (m : Meaning Self.Item) (n : Self) (inc : Incoming Self.Item) → (v : Stream Self.Item) × (comes_out m n inc (unchosen (recorded n)) ≡ Some v) };
@@ -274,6 +308,7 @@ pub trait Machine {
     /// item in front of that, is still in it.
     ghost ending_waits: { (m : Meaning Self.Item) (n : Self) (asked sent : ℕ) → ended n ≡ true → waiting m n ≡ None → sent < asked → CanStep picks rows n asked sent };
 
-    /// A node that offers nothing, and of which more is asked than it sent, can make a step or wants more at an input.
-    ghost hungry: { (m : Meaning Self.Item) (n : Self) (taken : List ℕ) (asked sent : ℕ) → ended n ≡ false → counted n taken sent → waiting m n ≡ None → sent < asked → AreWithin taken → IsHungry takes picks rows done wanted n taken asked sent };
+    /// A node that offers nothing, and of which more is asked than it sent, can make a step, or wants more at an input, or
+    /// waits for the hub that it reads.
+    ghost hungry: { (m : Meaning Self.Item) (n : Self) (taken : List ℕ) (asked sent : ℕ) → ended n ≡ false → counted n taken sent → waiting m n ≡ None → sent < asked → AreWithin taken → IsHungry takes picks rows done wanted reads n taken asked sent };
 }

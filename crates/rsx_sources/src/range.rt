@@ -62,11 +62,12 @@ fn number_at(first: i64, at: u64) -> i64
 impl<T: Drop> Machine for RangeNode<T> {
     type Item = T;
 
-    ghost use Rattle.std.specs.Prelude.{◌≡◌, ⊤, refl, Some, true, false, IfOk, IfErr, OnOk, OnErr};
+    ghost use Rattle.std.specs.Prelude.{◌≡◌, ⊤, refl, Some, None, true, false, IfOk, IfErr, OnOk, OnErr};
     ghost use Rattle.rsx_types.specs.Notes.{note_then};
     ghost use Rattle.rsx_types.specs.declared.note.Note.{Note};
     ghost use Rattle.rsx_types.specs.declared.note.Note.TheVariants.{Nothing};
     ghost use Rattle.rsx_sources.specs.Machine.{TakesIn, incoming_of};
+    ghost use Rattle.rsx_sources.specs.Reading.{IsReadOn, IsResidualOf};
     ghost use Rattle.rsx_sources.specs.Steps.{IsNotTaken};
     ghost use Rattle.rsx_sources.specs.Range.{range_comes_out, range_waiting, range_shown, range_shows, range_popped, range_pop_allocates};
     ghost use Rattle.rsx_sources.specs.declared.range.RangeNode.{RangeNode};
@@ -97,6 +98,10 @@ impl<T: Drop> Machine for RangeNode<T> {
     ghost wanted = { λ n i a s. 0 };
 
     ghost popped = { range_popped };
+
+    ghost reads = { λ n. None };
+
+    ghost rooms = { λ n. false };
 
     ghost pop_allocates = { range_pop_allocates };
 
@@ -177,6 +182,23 @@ impl<T: Drop> Machine for RangeNode<T> {
         Passed::Declined(item)
     }
 
+    fn hub(&self) -> Option<u64> {
+        None
+    }
+
+    fn has_room(&self) -> bool {
+        false
+    }
+
+    fn on_published(&mut self, signal: Signal<T>) -> Result<(), Signal<T>>
+        ensures ok { OnOk result (IsReadOn range_comes_out (λ n. None) self.old signal self.new) }
+        ensures enabled { OnOk result (false ≡ true) }
+        ensures err { IfErr result (λ s. s ≡ signal) }
+        ensures same { OnErr result (self.new ≡ self.old) }
+    {
+        Err(signal)
+    }
+
     fn can_pick(&self, input: u64, asked: u64, sent: u64) -> bool {
         false
     }
@@ -222,10 +244,10 @@ impl<T: Drop> Machine for RangeNode<T> {
         &self,
         alloc: Global,
         ops: &O,
-        hubs: &[StreamValue<T>],
+        inboxes: &[StreamValue<T>],
         incoming: &[StreamValue<T>],
     ) -> Result<StreamValue<T>, NoMemory>
-        ensures { IfOk result (λ v. (further : Note) → note_then Nothing further ≡ Nothing → range_comes_out (O.meaning ops.now) self.now (incoming_of hubs.now incoming.now) further ≡ Some v) }
+        ensures { IfOk result (λ v. IsResidualOf (range_comes_out (O.meaning ops.now)) (λ n. Nothing) (λ n. None) self.now inboxes.now incoming.now v) }
     {
         let mut left = Vec::with_capacity(alloc, (self.count - self.at) as usize)?;
         for at in self.at..self.count {
@@ -237,11 +259,15 @@ impl<T: Drop> Machine for RangeNode<T> {
 
     ghost shows = { range_shows };
 
-    ghost popped_alike = { λ old s new h a. (refl, refl, refl) };
+    ghost popped_alike = { λ old s new h. (refl, λ a. (refl, refl, refl)) };
 
     ghost drops = { λ m n inc other further e. Prim.search rules };
 
     ghost ends = { λ m n s inc other further w e. Prim.search rules };
+
+    ghost done_drops = { λ m n hubs before after v w further d. Prim.search rules };
+
+    ghost ends_reading = { λ m n s w e. refl };
 
     ghost settles = { λ m n inc. (_, refl) };
 

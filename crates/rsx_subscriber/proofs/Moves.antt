@@ -13,7 +13,9 @@ use Rattle.rsx_types.specs.declared.names.SubId.{SubId}
 use Rattle.rsx_types.specs.declared.names.Tree.TheVariants.{Sub}
 use Rattle.rsx_types.specs.declared.signal.Signal.{Signal}
 use Rattle.rsx_types.specs.declared.signal.Signal.TheVariants.{Next, Complete, Error}
+use Rattle.rsx_node.specs.Any.{any_machine}
 use Rattle.rsx_tree.specs.Edges.{closed_view}
+use Rattle.rsx_tree.specs.Reads.{IsTreeReadAt}
 use Rattle.rsx_pipe.specs.Part.{PartStands, IsPutOut, all_edges}
 use Rattle.rsx_pipe.specs.Part as Part
 use Rattle.rsx_pipe.specs.Tree.{IsAllClosed, edges}
@@ -371,7 +373,7 @@ leads_on {S} {D} step (suc n) k a b c ds es x y =
     subst R more (x.0, x.1, x.2 ++ es, x.3, leads_on step n k x.0 b c x.2 es x.4 y, ap (λ l. l ++ es) x.5 ∙ append_assoc (option_to_list x.1) x.2 es)
 
 pub pumped_none : {T : Type 0} (m : Meaning T) (id : SubId) (sub : Subscription T) (o : List (SubId × Signal T)) → IsPumped m id 0 sub o sub o
-pumped_none m id sub o = record { signals = []; output = sym (append-nil o); moves = (refl, refl); stands = λ p q h. h; alike = λ a. refl }
+pumped_none m id sub o = record { signals = []; output = sym (append-nil o); moves = (refl, refl); stands = λ p q h. h; alike = (λ a. refl, λ counts h. h) }
 
 pub pumped_from : {T : Type 0} (m : Meaning T) (id : SubId) (n : ℕ) (old mid new : Subscription T) (o o' after : List (SubId × Signal T)) → mid ≡ old → o' ≡ o → IsPumped m id n mid o' new after → IsPumped m id n old o new after
 pumped_from {T} m id n old mid new o o' after e f h =
@@ -392,7 +394,7 @@ pumped_one m id old new o o' s e can took k = record {
   output = e;
   moves = (new, Some (id, s), [], record { move = Take (Sub id) (record { 0 = 0 }); tree = refl; enabled = can; effect = took; answer = (s, refl) }, (refl, refl), refl);
   stands = k;
-  alike = λ a. ap (Part.pump_allocates a) took.part;
+  alike = (λ a. ap (Part.pump_allocates a) took.part, λ counts h. subst (λ p. IsTreeReadAt any_machine counts p.tree) (sym took.part) h);
 }
 
 pub given_all-append : {T : Type 0} (a b : List (Signal T)) (p : Past T) → given_all (a ++ b) p ≡ given_all b (given_all a p)
@@ -413,7 +415,7 @@ pumped_more {T} m id n k s1 s2 s3 o1 o2 o3 a b =
       stands = λ published past h.
           let P : Past T → Type 0 = λ p. Stands m published s3 p in
           subst P (sym (given_all-append a.signals b.signals past)) (b.stands published (given_all a.signals past) (a.stands published past h));
-      alike = λ p. b.alike p ∙ a.alike p;
+      alike = (λ p. b.alike.0 p ∙ a.alike.0 p, λ counts h. b.alike.1 counts (a.alike.1 counts h));
     }
 
 -- ---- the moves of a part

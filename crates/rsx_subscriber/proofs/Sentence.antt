@@ -1,18 +1,26 @@
 -- A subscription that stands for its past keeps the headline.
-use Rattle.std.proofs.Common.{◌≡◌, List, [], ◌++◌, length, sym, ap, ◌∙◌, subst, arith, append_assoc, map, Option, Some, option_map}
+use Rattle.std.proofs.Common.{◌≡◌, refl, List, [], ◌∷◌, ◌++◌, length, sym, ap, ◌∙◌, subst, arith, append_assoc, map, Option, Some, option_map}
 use Rattle.rsx_types.specs.Meaning.{Meaning}
 use Rattle.rsx_types.specs.Notes.{notes_then, unchosen}
-use Rattle.rsx_types.specs.Stream.{Stream, signals, signals_then, ended_by}
+use Rattle.rsx_types.specs.Stream.{Stream, signals, signals_then, item_then, ended_by}
+use Rattle.rsx_types.specs.declared.signal.Signal.{Signal}
+use Rattle.rsx_types.specs.declared.signal.Signal.TheVariants.{Next, Complete, Error}
+use Rattle.rsx_node.specs.Any.{any_machine}
+use Rattle.rsx_node.specs.Laws.{any_settles}
+use Rattle.rsx_tree.specs.declared.edge.EdgeState.{EdgeState}
+use Rattle.rsx_tree.specs.declared.edge.EdgeState.TheVariants.{Live as EdgeLive, Closed as EdgeClosed, Ended as EdgeEnded}
+use Rattle.rsx_tree.proofs.Residuals.{tree_some}
+use Rattle.rsx_pipe.specs.Part.{IsPartResidual}
 use Rattle.rsx_types.specs.declared.note.Note.{Note}
 use Rattle.rsx_types.specs.declared.signal.Ending.{Ending}
 use Rattle.rsx_pipe.specs.Tree.{comes_out, notes_of}
 use Rattle.rsx_pipe.proofs.Parts.{values_then-none}
 use Rattle.rsx_pipe.proofs.Signals.{map_then-append, prefix_of_orderly}
-use Rattle.rsx_pipe.proofs.Trees.{notes_then-unchosen, unchosen_notes}
+use Rattle.rsx_pipe.proofs.Trees.{notes_then-unchosen, unchosen_notes, unchosen_tree}
 use Rattle.rsx_subscriber.proofs.Values.{notes_count, signals_ended, value_there}
 use Rattle.rsx_subscriber.specs.Holds.{Holds}
-use Rattle.rsx_subscriber.specs.Past.{Past, IsLive, IsPrefixOf, items_in}
-use Rattle.rsx_subscriber.specs.Stands.{Stands, evaluated, owed_from, standing_of, values_then}
+use Rattle.rsx_subscriber.specs.Past.{Past, IsLive, IsPrefixOf, IsUnended, items_in}
+use Rattle.rsx_subscriber.specs.Stands.{Stands, evaluated, owed_from, standing_of, values_then, IsStillOwed}
 use Rattle.rsx_subscriber.specs.declared.state.SubscriptionState.{SubscriptionState}
 use Rattle.rsx_subscriber.specs.declared.state.SubscriptionState.TheVariants.{Open, Ended}
 use Rattle.rsx_subscriber.specs.declared.subscription.Subscription.{Subscription}
@@ -57,11 +65,40 @@ holds {T} m published sub past h =
 
 -- ---- what is owed
 
-pub owes : {T : Type 0} (m : Meaning T) (published : List (Stream T)) (sub : Subscription T) (past : Past T) (v : Stream T) → standing_of sub ≡ Open → ((hubs : List (Stream T)) → owed_from m hubs (map unchosen (notes_of sub.part.tree)) sub ≡ Some v) → Stands m published sub past → evaluated m published past (notes_of sub.part.tree) ≡ Some (signals_then past.received v)
+-- behind an ending nothing comes
+cut_there : {T : Type 0} (queue : List (Signal T)) (u v : Stream T) → (IsUnended queue → ⊥) → signals_then queue u ≡ signals_then queue v
+cut_there [] u v h = absurd (h tt)
+cut_there (Next x ∷ ss) u v h = ap (item_then x) (cut_there ss u v h)
+cut_there (Complete ∷ ss) u v h = refl
+cut_there (Error c ∷ ss) u v h = refl
+
+unended_both : {T : Type 0} (xs ys : List (Signal T)) → IsUnended xs → IsUnended ys → IsUnended (xs ++ ys)
+unended_both [] ys h k = k
+unended_both (Next x ∷ xs) ys h k = unended_both xs ys h k
+unended_both (Complete ∷ xs) ys h k = absurd h
+unended_both (Error c ∷ xs) ys h k = absurd h
+
+pub still_owed : {T : Type 0} (m : Meaning T) (inboxes : List (Stream T)) (sub : Subscription T) (rest v : Stream T) → IsPartResidual m inboxes sub.part rest → v ≡ signals_then sub.queue rest → IsStillOwed m inboxes sub v
+still_owed {T} m inboxes sub rest v is e published past h o behind = by_edge sub.part.root.state refl
+  where
+    live : IsLive (standing_of sub)
+    live = rw o tt
+
+    some : (u : Stream T) × (comes_out m published (map unchosen (notes_of sub.part.tree)) sub.part.tree 0 ≡ Some u)
+    some = tree_some any_machine m (any_settles m) published (map unchosen (notes_of sub.part.tree)) sub.part.tree 0 (unchosen_tree sub.part.tree)
+
+    by_edge : (s : EdgeState) → sub.part.root.state ≡ s → owed_from m published (map unchosen (notes_of sub.part.tree)) sub ≡ Some v
+    by_edge EdgeLive s = ap (option_map (signals_then sub.queue)) (is published (h.part.balance s) behind) ∙ ap Some (sym e)
+    by_edge EdgeClosed s = absurd (h.unclosed live s)
+    by_edge EdgeEnded s =
+        ap (option_map (signals_then sub.queue)) some.1
+        ∙ ap Some (cut_there sub.queue some.0 rest (λ k. h.part.ended s (subst IsUnended (h.held live) (unended_both past.received sub.queue (h.waits o) k))) ∙ sym e)
+
+pub owes : {T : Type 0} (m : Meaning T) (published : List (Stream T)) (sub : Subscription T) (past : Past T) (v : Stream T) → standing_of sub ≡ Open → owed_from m published (map unchosen (notes_of sub.part.tree)) sub ≡ Some v → Stands m published sub past → evaluated m published past (notes_of sub.part.tree) ≡ Some (signals_then past.received v)
 owes {T} m published sub past v o e h =
     let live : IsLive (standing_of sub) = rw o tt in
     let whole = live_value m published sub past h live [] (map unchosen (notes_of sub.part.tree)) (unchosen_notes (notes_of sub.part.tree)) in
-    let there : option_map (signals_then past.received) (owed_from m (values_then published []) (map unchosen (notes_of sub.part.tree)) sub) ≡ Some (signals_then past.received v) = ap (option_map (signals_then past.received)) (e (values_then published [])) in
+    let there : option_map (signals_then past.received) (owed_from m (values_then published []) (map unchosen (notes_of sub.part.tree)) sub) ≡ Some (signals_then past.received v) = ap (λ p. option_map (signals_then past.received) (owed_from m p (map unchosen (notes_of sub.part.tree)) sub)) (values_then-none published) ∙ ap (option_map (signals_then past.received)) e in
     ap (λ p. evaluated m p past (notes_of sub.part.tree)) (sym (values_then-none published))
     ∙ (ap (λ ns. evaluated m (values_then published []) past ns) (sym (notes_then-unchosen (notes_of sub.part.tree))) ∙ (sym whole ∙ there))
 

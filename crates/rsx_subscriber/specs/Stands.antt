@@ -3,6 +3,8 @@ use Rattle.std.specs.Prelude.{◌≡◌, ℕ, Bool, false, ◌&&◌, nat_eq, Lis
 use Rattle.rsx_types.specs.Meaning.{Meaning, Allocates}
 use Rattle.rsx_types.specs.Notes.{unchosen}
 use Rattle.rsx_types.specs.Stream.{Stream, signals_then, ended_by}
+use Rattle.rsx_node.specs.Any.{any_machine}
+use Rattle.rsx_tree.specs.Residual.{IsTreeBehind}
 use Rattle.rsx_types.specs.declared.note.Note.{Note}
 use Rattle.rsx_types.specs.declared.names.SubId.{SubId}
 use Rattle.rsx_types.specs.declared.names.Tree.TheVariants.{Sub, Feed}
@@ -74,6 +76,13 @@ pub record Stands {T : Type 0} (m : Meaning T) (published : List (Stream T)) (su
 abbrev pub StandsAfter : {T : Type 0} → Meaning T → (Past T → Past T) → Subscription T → Subscription T → Type 0
 StandsAfter {T} m change old new =
     (published : List (Stream T)) (past : Past T) → Stands m published old past → Stands m published new (change past)
+
+-- this is still owed to an open subscription, where just these inboxes stand behind what its nodes took in of the hubs, and
+-- nothing more is chosen
+abbrev pub IsStillOwed : {T : Type 0} → Meaning T → List (Stream T) → Subscription T → Stream T → Type 0
+IsStillOwed {T} m inboxes sub v =
+    (published : List (Stream T)) (past : Past T) → Stands m published sub past → standing_of sub ≡ Open → IsTreeBehind any_machine inboxes published sub.part.tree →
+    owed_unchosen m published sub ≡ Some v
 
 -- ---- enabled moves
 

@@ -47,8 +47,8 @@ impl<T: Drop> Subscription<T> {
     ghost use Rattle.rsx_tree.specs.Refusals.{OnlyNotEnabled};
     ghost use Rattle.rsx_pipe.specs.Part.{all_edges, IsPutOut, pump_allocates};
     ghost use Rattle.rsx_pipe.specs.Tree.{notes_of, IsAllClosed};
-    ghost use Rattle.rsx_subscriber.specs.Past.{subscribed, cancelled, requested, given, request_answer};
-    ghost use Rattle.rsx_subscriber.specs.Stands.{Stands, StandsAfter, standing_of, owed_unchosen, take_enabled, enabled_inside, make_allocates, IsWorked, IsTake};
+    ghost use Rattle.rsx_subscriber.specs.Past.{subscribed, cancelled, requested, given, request_answer, Past};
+    ghost use Rattle.rsx_subscriber.specs.Stands.{Stands, StandsAfter, standing_of, take_enabled, enabled_inside, make_allocates, IsWorked, IsTake, IsStillOwed};
     ghost use Rattle.rsx_subscriber.specs.Moves.{node_move};
     ghost use Rattle.rsx_subscriber.specs.Begun.{IsFresh};
     ghost use Rattle.rsx_subscriber.specs.Delivered.{IsFull};
@@ -468,14 +468,20 @@ impl<T: Drop> Subscription<T> {
         self.part.notes(alloc)
     }
 
-    /// What is still owed: what is queued, and then what comes out of the tree.
+    /// What is still owed, while the subscription is open: what is queued, and then what comes out of the tree, where just what
+    /// stands in the inboxes is still published at the hubs.
     ///
     /// # Errors
     /// [`NoMemory`] where a growth was refused.
-    pub fn owed<O: Ops<Item = T>>(&self, alloc: Global, ops: &O) -> Result<StreamValue<T>, NoMemory>
-        ensures { IfOk result (λ v. (hubs : List (Stream T)) → owed_unchosen (O.meaning ops.now) hubs self.now ≡ Some v) }
+    pub fn owed<O: Ops<Item = T>>(
+        &self,
+        alloc: Global,
+        ops: &O,
+        inboxes: &[StreamValue<T>],
+    ) -> Result<StreamValue<T>, NoMemory>
+        ensures { IfOk result (λ v. IsStillOwed (O.meaning ops.now) inboxes.now self.now v) }
     {
-        let rest = self.part.residual(alloc, ops)?;
+        let rest = self.part.residual(alloc, ops, inboxes)?;
         behind(alloc, ops, &self.queue, rest)
     }
 }

@@ -1,6 +1,9 @@
 -- No move changes which calls of a tree's nodes may allocate.
-use Rattle.std.proofs.Common.{◌≡◌, inl, inr, ℕ, zero, suc, ◌+◌, ◌-◌, Bool, true, false, ◌||◌, ◌&&◌, refl, ap, sym, ◌∙◌}
+use Rattle.std.proofs.Common.{◌≡◌, inl, inr, ℕ, zero, suc, ◌+◌, ◌-◌, Bool, true, false, ◌||◌, ◌&&◌, refl, ap, sym, ◌∙◌, subst}
 use Rattle.rsx_types.specs.Meaning.{Meaning, Allocates}
+use Rattle.rsx_sources.specs.Machine.{front_of}
+use Rattle.rsx_sources.specs.declared.machine.Front.{Front}
+use Rattle.rsx_sources.specs.declared.machine.Front.TheVariants.{Item, Completion, Failure}
 use Rattle.rsx_sources.specs.declared.machine.Machine.{Ghosts as Machine}
 use Rattle.rsx_tree.specs.declared.edge.Edge.{Edge}
 use Rattle.rsx_tree.specs.declared.inputs.Inputs.{Inputs, End, More'}
@@ -8,8 +11,9 @@ use Rattle.rsx_tree.specs.declared.node.Node.{Node}
 use Rattle.rsx_tree.specs.Allocates.{node_allocates, row_allocates, over_allocates, tree_allocates, IsNodeAlike, IsAlike}
 use Rattle.rsx_tree.specs.Changed.{Change, IsChanged, IsAskedOver, IsSentOver}
 use Rattle.rsx_tree.specs.Driven.{IsMade, IsRowRun, IsDriven}
-use Rattle.rsx_tree.specs.Edges.{EdgeView}
+use Rattle.rsx_tree.specs.Edges.{edge_view, EdgeView, is_live, passed}
 use Rattle.rsx_tree.specs.Inputs.{size, is_own, closed_row, closed_row_if, send_over_allocates}
+use Rattle.rsx_tree.proofs.Readings.{ReadsOn, IsReadChange, IsReadStep, made_reads, tree_reads, tree_stepped_reads, closed_if_reads}
 use Rattle.rsx_tree.specs.Stepped.{Step, IsStepped, IsSteppedAt, IsPickedHere, IsRowMadeHere}
 
 -- ---- a node
@@ -27,18 +31,18 @@ or_none false y p q = q
 or_none true y p q = p
 
 pub alike_same : {M T : Type 0} (b : Machine M T) (n n' : M) → n' ≡ n → IsNodeAlike b n n'
-alike_same b n n' h a = (ap (b.pop_allocates a) h, ap (b.signal_allocates a) h, ap (b.step_allocates a) h)
+alike_same b n n' h = (ap b.reads h, λ a. (ap (b.pop_allocates a) h, ap (b.signal_allocates a) h, ap (b.step_allocates a) h))
 
 pub node_alike : {M T : Type 0} (b : Machine M T) (n n' : M) → IsNodeAlike b n n' → (a : Allocates) → node_allocates b a n' ≡ node_allocates b a n
 node_alike b n n' h a =
-    let k = h a in
+    let k = h.1 a in
     ap (λ c. c || (b.signal_allocates a n' || b.step_allocates a n')) k.0
     ∙ (ap (λ c. b.pop_allocates a n || (c || b.step_allocates a n')) k.1
     ∙ ap (λ c. b.pop_allocates a n || (b.signal_allocates a n || c)) k.2)
 
 -- from a node to another and on to a third
 pub alike_before : {M T : Type 0} (b : Machine M T) (n k n' : M) → IsNodeAlike b n n' → IsNodeAlike b k n' → IsNodeAlike b n k
-alike_before b n k n' whole last a = let w = whole a in let l = last a in (sym l.0 ∙ w.0, sym l.1 ∙ w.1, sym l.2 ∙ w.2)
+alike_before b n k n' whole last = (sym last.0 ∙ whole.0, λ a. let w = whole.1 a in let l = last.1 a in (sym l.0 ∙ w.0, sym l.1 ∙ w.1, sym l.2 ∙ w.2))
 
 -- ---- a row
 
@@ -50,15 +54,20 @@ pub row_closed_if : {M T : Type 0} (b : Machine M T) (a : Allocates) (c : Bool) 
 row_closed_if b a true t = row_closed b a t
 row_closed_if b a false t = refl
 
--- what a move does to the nodes at the ends of an edge
-abbrev IsAlikeChange : {M T : Type 0} → Machine M T → Change M → Type 0
-IsAlikeChange {M} b P = (r : M) (i asked sent : ℕ) (e : Edge) (n r' : M) (e' : Edge) (n' : M) → P r i asked sent e n r' e' n' → IsNodeAlike b r r' × IsNodeAlike b n n'
+-- what a move does to the nodes at the ends of an edge, and to the edge: one that isn't live stays so
+abbrev pub IsAlikeChange : {M T : Type 0} → Machine M T → Change M → Type 0
+IsAlikeChange {M} b P = (r : M) (i asked sent : ℕ) (e : Edge) (n r' : M) (e' : Edge) (n' : M) → P r i asked sent e n r' e' n' → IsNodeAlike b r r' × IsNodeAlike b n n' × (is_live e.state ≡ false → is_live e'.state ≡ false)
+
+passed_dead : (e : EdgeView) (f : Front) → is_live e.state ≡ false → is_live (passed e f).state ≡ false
+passed_dead e Item h = h
+passed_dead e Completion h = refl
+passed_dead e (Failure c) h = refl
 
 pub asked_over : {M T : Type 0} (b : Machine M T) → IsAlikeChange b (IsAskedOver b)
-asked_over b r i asked sent e n r' e' n' h = (alike_same b r r' h.receiver, alike_same b n n' h.sender)
+asked_over b r i asked sent e n r' e' n' h = (alike_same b r r' h.receiver, alike_same b n n' h.sender, λ dead. ap (λ v. is_live v.state) h.edge ∙ dead)
 
 pub sent_over : {M T : Type 0} (b : Machine M T) (m : Meaning T) → IsAlikeChange b (IsSentOver b m)
-sent_over b m r i asked sent e n r' e' n' h = (h.alike_in, h.alike_out)
+sent_over b m r i asked sent e n r' e' n' h = (h.alike_in, h.alike_out, λ dead. ap (λ v. is_live v.state) h.edge ∙ passed_dead (edge_view e) (front_of h.signal) dead)
 
 pub changed_alike : {M T : Type 0} (b : Machine M T) (P : Change M) → IsAlikeChange b P → (ends : M → Bool) (r : M) (i asked sent : ℕ) (t : Inputs M) (at : ℕ) (r' : M) (t' : Inputs M) → IsChanged P ends r i asked sent t at r' t' →
     (a : Allocates) → (node_allocates b a r' ≡ node_allocates b a r) × (row_allocates b a t' ≡ row_allocates b a t)
@@ -83,7 +92,7 @@ changed_alike b P alike ends r i asked sent (More' e n p below q beside) at r' t
 ]
 
 -- what a step does to its node
-abbrev IsAlikeStep : {M T : Type 0} → Machine M T → Step M → Type 0
+abbrev pub IsAlikeStep : {M T : Type 0} → Machine M T → Step M → Type 0
 IsAlikeStep {M} b P = (n : M) (asked sent : ℕ) (n' : M) → P n asked sent n' → IsNodeAlike b n n'
 
 pub picked : {M T : Type 0} (b : Machine M T) (m : Meaning T) (i : ℕ) → IsAlikeStep b (IsPickedHere b m i)
@@ -129,17 +138,43 @@ pub run_alike : {M T : Type 0} (b : Machine M T) (m : Meaning T) (steps : Bool) 
 run_alike b m steps zero i asked sent r t r' t' h a = over_alike b a r r' t t' (ap (node_allocates b a) h.0) (ap (row_allocates b a) h.1)
 run_alike b m steps (suc k) i asked sent r t r' t' h a = run_alike b m steps k i asked sent h.1 h.2 r' t' h.4 a ∙ made_alike b m steps r i asked sent t h.0 false h.1 h.2 h.3 a
 
+-- a move leaves how far each node got
+pub reads_change : {M T : Type 0} (b : Machine M T) (P : Change M) → IsAlikeChange b P → IsReadChange b P
+reads_change b P alike r i asked sent e n r' e' n' h = let k = alike r i asked sent e n r' e' n' h in (k.0.0, k.1.0, k.2)
+
+pub reads_step : {M T : Type 0} (b : Machine M T) (P : Step M) → IsAlikeStep b P → IsReadStep b P
+reads_step b P alike n asked sent n' h = (alike n asked sent n' h).0
+
+pub reads_closed_if : {M T : Type 0} (b : Machine M T) (r r' : M) (t mid : Inputs M) (c : Bool) → ReadsOn b r r' t mid → ReadsOn b r r' t (closed_row_if c mid)
+reads_closed_if b r r' t mid c h = (h.0, λ counts g. closed_if_reads b counts c mid (h.1 counts g))
+
+pub reads_made : {M T : Type 0} (b : Machine M T) (m : Meaning T) (steps : Bool) (r : M) (i asked sent : ℕ) (t : Inputs M) (at : ℕ) (ends : Bool) (r' : M) (t' : Inputs M) → IsMade b m steps r i asked sent t at ends r' t' → ReadsOn b r r' t t'
+reads_made b m steps r i asked sent t at ends r' t' h =
+    made_reads b m steps r i asked sent t at ends r' t' (reads_change b (IsAskedOver b) (asked_over b)) (reads_change b (IsSentOver b m) (sent_over b m)) (λ j. reads_step b (IsPickedHere b m j) (picked b m j)) (reads_step b (IsRowMadeHere b m) (row_made b m)) h
+
 -- ---- a tree
 
-pub tree_stepped_alike : {M T : Type 0} (b : Machine M T) (P : Step M) → IsAlikeStep b P → (ends : M → Bool) (old : Node M) (e : EdgeView) (at : ℕ) (new : Node M) → IsSteppedAt P ends old e at new → IsAlike b old new
-tree_stepped_alike b P alike ends old e zero new h a =
+abbrev node : {M : Type 0} → M → Inputs M → Node M
+node r t = record { machine = r; inputs = t }
+
+-- the same calls of the nodes may allocate, and they got as far
+pub tree_alike : {M T : Type 0} (b : Machine M T) (r r' : M) (t t' : Inputs M) → ((a : Allocates) → over_allocates b a r' t' ≡ over_allocates b a r t) → ReadsOn b r r' t t' → IsAlike b (node r t) (node r' t')
+tree_alike b r r' t t' calls reads = (calls, tree_reads b r r' t t' reads)
+
+tree_stepped_allocates : {M T : Type 0} (b : Machine M T) (P : Step M) → IsAlikeStep b P → (ends : M → Bool) (old : Node M) (e : EdgeView) (at : ℕ) (new : Node M) → IsSteppedAt P ends old e at new → (a : Allocates) → tree_allocates b a new ≡ tree_allocates b a old
+tree_stepped_allocates b P alike ends old e zero new h a =
     over_alike b a old.machine new.machine old.inputs new.inputs (node_alike b old.machine new.machine (alike old.machine e.asked e.sent new.machine h.made) a) (ap (row_allocates b a) h.inputs ∙ row_closed_if b a (ends new.machine && true) old.inputs)
-tree_stepped_alike b P alike ends old e (suc at) new h a =
+tree_stepped_allocates b P alike ends old e (suc at) new h a =
     over_alike b a old.machine new.machine old.inputs new.inputs (ap (node_allocates b a) h.machine) (stepped_alike b P alike ends old.inputs at new.inputs h.made a)
 
+pub tree_stepped_alike : {M T : Type 0} (b : Machine M T) (P : Step M) → IsAlikeStep b P → (ends : M → Bool) (old : Node M) (e : EdgeView) (at : ℕ) (new : Node M) → IsSteppedAt P ends old e at new → IsAlike b old new
+tree_stepped_alike b P alike ends old e at new h = (tree_stepped_allocates b P alike ends old e at new h, tree_stepped_reads b P (λ n asked sent n' p. (alike n asked sent n' p).0) ends old e at new h)
+
 pub driven_alike : {M T : Type 0} (b : Machine M T) (m : Meaning T) (steps : Bool) (k : ℕ) (old : Node M) (asked sent : ℕ) (new : Node M) → IsDriven b m steps k old asked sent new → IsAlike b old new
-driven_alike b m steps zero old asked sent new h a = ap (tree_allocates b a) h
-driven_alike b m steps (suc k) old asked sent new h a = driven_alike b m steps k h.0 asked sent new h.2 a ∙ h.1.alike a
+driven_alike {M} b m steps zero old asked sent new h = let K : Node M → Type 0 = λ t. IsAlike b old t in subst K (sym h) (λ a. refl, λ counts r. r)
+driven_alike b m steps (suc k) old asked sent new h =
+    let rest = driven_alike b m steps k h.0 asked sent new h.2 in
+    (λ a. rest.0 a ∙ h.1.alike.0 a, λ counts r. rest.1 counts (h.1.alike.1 counts r))
 
 -- ---- no want of memory
 

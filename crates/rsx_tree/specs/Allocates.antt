@@ -1,10 +1,12 @@
--- Which calls of a tree's nodes may allocate, where these of the caller's functions may.
-use Rattle.std.specs.Prelude.{◌≡◌, Bool, false, ◌||◌}
+-- What no move of a tree changes: which calls of its nodes may allocate, where these of the caller's functions may, and how far
+-- the nodes got in the hubs that they read.
+use Rattle.std.specs.Prelude.{◌≡◌, ℕ, Bool, false, ◌||◌, List}
 use Rattle.rsx_types.specs.Meaning.{Allocates}
-use Rattle.rsx_sources.specs.Steps.{AllocatesAlike}
+use Rattle.rsx_sources.specs.Steps.{StaysAlike}
 use Rattle.rsx_sources.specs.declared.machine.Machine.{Ghosts as Machine}
 use Rattle.rsx_tree.specs.declared.inputs.Inputs.{Inputs, End, More'}
 use Rattle.rsx_tree.specs.declared.node.Node.{Node}
+use Rattle.rsx_tree.specs.Reads.{IsTreeReadAt}
 
 -- whether some call of a node may: taking a signal in, taking one out, a pick or a row
 abbrev pub node_allocates : {M T : Type 0} → Machine M T → Allocates → M → Bool
@@ -27,10 +29,13 @@ over_allocates b a r t = node_allocates b a r || row_allocates b a t
 abbrev pub tree_allocates : {M T : Type 0} → Machine M T → Allocates → Node M → Bool
 tree_allocates b a t = over_allocates b a t.machine t.inputs
 
--- the same calls of a node may
+-- the same calls of a node may, and it got as far in the hub that it reads
 abbrev pub IsNodeAlike : {M T : Type 0} → Machine M T → M → M → Type 0
-IsNodeAlike b old new = AllocatesAlike b.pop_allocates b.signal_allocates b.step_allocates old new
+IsNodeAlike b old new = StaysAlike b.reads b.pop_allocates b.signal_allocates b.step_allocates old new
 
--- where no call of a tree's nodes may, none may later, whatever the caller's functions
+-- where no call of a tree's nodes may, none may later, whatever the caller's functions; and the nodes that read a hub got as
+-- far in it, or read it no more
 abbrev pub IsAlike : {M T : Type 0} → Machine M T → Node M → Node M → Type 0
-IsAlike b old new = (a : Allocates) → tree_allocates b a new ≡ tree_allocates b a old
+IsAlike b old new =
+    ((a : Allocates) → tree_allocates b a new ≡ tree_allocates b a old)
+    × ((counts : List ℕ) → IsTreeReadAt b counts old → IsTreeReadAt b counts new)

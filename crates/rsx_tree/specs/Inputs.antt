@@ -65,12 +65,6 @@ IsUnchosen b further End at = Unit {0}
 IsUnchosen b further (More' e n p below q beside) at =
     (slice_get further at ≡ Some (unchosen (b.recorded n))) × IsUnchosen b further below (at + 1) × IsUnchosen b further beside (at + 1 + size below)
 
--- what still comes in at each input was put behind what was there, where nothing more is chosen
-pub record IsResidual {M T : Type 0} (b : Machine M T) (m : Meaning T) (hubs : List (Stream T)) (t : Inputs M) (old new : List (Stream T)) : Type 0 where
-  pub values : List (Stream T)
-  pub behind : new ≡ old ++ values
-  pub comes : (further : List Note) (at : ℕ) → IsUnchosen b further t at → comes_in b m hubs further t at ≡ Some values
-
 -- ---- the edge with a number
 
 -- an edge with the nodes at its ends: the receiver, at which of its inputs it is, and what is asked of the receiver and

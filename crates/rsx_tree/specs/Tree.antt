@@ -52,10 +52,6 @@ IsAllClosed t = NoneLive (edges t)
 abbrev pub IsUnchosen : {M T : Type 0} → Machine M T → List Note → Node M → ℕ → Type 0
 IsUnchosen b further t at = (slice_get further at ≡ Some (unchosen (b.recorded t.machine))) × IsUnchosenIn b further t.inputs (at + 1)
 
--- this is what still comes out, where nothing more is chosen
-abbrev pub IsResidual : {M T : Type 0} → Machine M T → Meaning T → List (Stream T) → Node M → Stream T → Type 0
-IsResidual b m hubs t v = (further : List Note) (at : ℕ) → IsUnchosen b further t at → comes_out b m hubs further t at ≡ Some v
-
 -- what still comes out and what was recorded stay
 pub record IsKept {M T : Type 0} (b : Machine M T) (m : Meaning T) (old new : Node M) : Type 0 where
   pub value : (hubs : List (Stream T)) (further : List Note) (at : ℕ) → comes_out b m hubs further new at ≡ comes_out b m hubs further old at

@@ -12,7 +12,7 @@ ghost use Rattle.rsx_tree.specs.Refusals.{IsNotEnabled, OnlyNotEnabled};
 use crate::edge::Edge;
 use crate::step::{pick_over, row_over, step_over};
 use rsx_sources::{Front, Machine, NotMade, NotTaken};
-use rsx_types::{NoMemory, Note, Ops, StreamValue};
+use rsx_types::{Ending, NoMemory, Note, Ops, StreamValue};
 use std::alloc::Global;
 
 /// The inputs of a node from one of them on, each with its edge and with all below it.
@@ -48,10 +48,11 @@ impl<M: Machine> Inputs<M> {
     ghost use Rattle.std.specs.Prelude.{◌≡◌, ◌+◌, ◌<◌, ◌≤◌, ◌^◌, ◌&&◌, ◌++◌, ℕ, min, true, false, OnOk, OnErr, IfOk, IfErr};
     ghost use Rattle.rsx_types.specs.Meaning.{Meaning};
     ghost use Rattle.rsx_sources.specs.Steps.{IsNotMade};
-    ghost use Rattle.rsx_tree.specs.Inputs.{size, is_own, place, can_ask_in, send_allocates_in, closed_row, closed_row_if, notes_of, IsResidual};
-    ghost use Rattle.rsx_tree.specs.Changed.{IsAskedIn, IsSentIn, IsNotSentIn};
-    ghost use Rattle.rsx_tree.specs.Driven.{IsPass, IsRowIdle};
+    ghost use Rattle.rsx_tree.specs.Inputs.{size, is_own, place, can_ask_in, send_allocates_in, closed_row, closed_row_if, notes_of};
+    ghost use Rattle.rsx_tree.specs.Changed.{IsAskedIn, IsSentIn, IsNotSentIn, IsChanged, IsAskedOver, IsSentOver};
+    ghost use Rattle.rsx_tree.specs.Driven.{IsPass, IsRowIdle, IsRowDriven, SpentPass, is_over_in};
     ghost use Rattle.rsx_tree.specs.Refusals.{IsNotEnabled, OnlyNotEnabled};
+    ghost use Rattle.rsx_tree.specs.Residual.{IsResidual};
     ghost use Rattle.rsx_tree.specs.Stepped.{IsStepped, IsPickedHere, IsRowMadeHere, can_pick_in, can_row_in, station, step_allocates_in};
     ghost use Rattle.rsx_tree.specs.Allocates.{over_allocates};
 
@@ -198,27 +199,35 @@ impl<M: Machine> Inputs<M> {
         }
     }
 
-    /// Puts what still comes in at each input behind `values`, where `hubs` is still published and nothing more is chosen.
+    /// Puts what still comes in at each input behind `values`, where just what stands in the inboxes is still published at the
+    /// hubs, and nothing more is chosen. Over an edge that isn't live nothing comes, and it puts down nothing, Open.
     pub fn residual<O: Ops<Item = M::Item>>(
         &self,
         alloc: Global,
         ops: &O,
-        hubs: &[StreamValue<M::Item>],
+        inboxes: &[StreamValue<M::Item>],
         values: &mut Vec<StreamValue<M::Item>>,
     ) -> Result<(), NoMemory>
-        ensures { OnOk result (IsResidual M.Machine (O.meaning ops.now) hubs.now self.now values.old.items values.new.items) }
+        ensures { OnOk result (IsResidual M.Machine (O.meaning ops.now) inboxes.now self.now values.old.items values.new.items) }
     {
         match self {
             Inputs::End => Ok(()),
-            Inputs::More(_, machine, below, beside) => {
+            Inputs::More(edge, machine, below, beside) => {
+                if !edge.is_live() {
+                    values.push(StreamValue::new(Vec::new(alloc), Ending::Open))?;
+                    return match beside.residual(alloc, ops, inboxes, values) {
+                        Ok(()) => Ok(()),
+                        Err(NoMemory) => Err(NoMemory),
+                    };
+                }
                 let mut incoming = Vec::new(alloc);
-                match below.residual(alloc, ops, hubs, &mut incoming) {
+                match below.residual(alloc, ops, inboxes, &mut incoming) {
                     Ok(()) => {}
                     Err(NoMemory) => return Err(NoMemory),
                 }
-                let value = machine.residual(alloc, ops, hubs, incoming.as_slice())?;
+                let value = machine.residual(alloc, ops, inboxes, incoming.as_slice())?;
                 values.push(value)?;
-                match beside.residual(alloc, ops, hubs, values) {
+                match beside.residual(alloc, ops, inboxes, values) {
                     Ok(()) => Ok(()),
                     Err(NoMemory) => Err(NoMemory),
                 }

@@ -33,8 +33,9 @@ impl<M: Machine> Node<M> {
     ghost use Rattle.rsx_tree.specs.Chosen.{IsChosen, IsPickedAt, IsRowAt};
     ghost use Rattle.rsx_tree.specs.Inputs.{closed_row};
     ghost use Rattle.rsx_tree.specs.Look.{IsEnabledAt};
-    ghost use Rattle.rsx_tree.specs.Tree.{notes, edges, offers, popped, IsPopped, IsKept, IsAllClosed, can_ask, can_send, send_allocates, IsAskedAt, IsSentAt, IsResidual};
+    ghost use Rattle.rsx_tree.specs.Tree.{notes, edges, offers, popped, IsPopped, IsKept, IsAllClosed, can_ask, can_send, send_allocates, IsAskedAt, IsSentAt};
     ghost use Rattle.rsx_tree.specs.Refusals.{IsNotEnabled, OnlyNotEnabled};
+    ghost use Rattle.rsx_tree.specs.Residual.{IsTreeResidual};
 
     /// Which signal the root offers, if it does.
     #[inline]
@@ -207,18 +208,20 @@ impl<M: Machine> Node<M> {
         Ok(notes)
     }
 
-    /// The stream value that still comes out of the tree, where `hubs` is still published and nothing more is chosen.
+    /// The stream value that still comes out of the tree, where just what stands in the inboxes is still published at the hubs,
+    /// and nothing more is chosen.
     pub fn residual<O: Ops<Item = M::Item>>(
         &self,
         alloc: Global,
         ops: &O,
-        hubs: &[StreamValue<M::Item>],
+        inboxes: &[StreamValue<M::Item>],
     ) -> Result<StreamValue<M::Item>, NoMemory>
-        ensures { IfOk result (λ v. IsResidual M.Machine (O.meaning ops.now) hubs.now self.now v) }
+        ensures { IfOk result (λ v. IsTreeResidual M.Machine (O.meaning ops.now) inboxes.now self.now v) }
     {
         let mut incoming = Vec::new(alloc);
-        self.inputs.residual(alloc, ops, hubs, &mut incoming)?;
-        self.machine.residual(alloc, ops, hubs, incoming.as_slice())
+        self.inputs.residual(alloc, ops, inboxes, &mut incoming)?;
+        self.machine
+            .residual(alloc, ops, inboxes, incoming.as_slice())
     }
 
     /// Makes enabled moves over the edges below the root, and of the nodes there, until none is enabled or the budget is used

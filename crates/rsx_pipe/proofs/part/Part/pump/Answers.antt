@@ -56,4 +56,4 @@ returns-clause-served g c =
 pub returns-in-Err-clause-memory : goal.returns-in-Err-clause-memory
 returns-in-Err-clause-memory g c = λ free.
     let done = c.loop-round.invariant.1 in
-    c.in-Err.ensures.memory (done.2.alike (g.O.Ops.allocates c.args.ops.now) ∙ free)
+    c.in-Err.ensures.memory (done.2.alike.0 (g.O.Ops.allocates c.args.ops.now) ∙ free)

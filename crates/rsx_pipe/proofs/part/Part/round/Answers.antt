@@ -80,4 +80,4 @@ pub returns-in-Err-step_root-clause-memory : goal.returns-in-Err-step_root-claus
 returns-in-Err-step_root-clause-memory g c = λ free.
     let a = g.O.Ops.allocates c.args.ops.now in
     let same = c.in-Err-NotEnabled.ensures.same in
-    c.in-Err-step_root.ensures.memory (c.in-Ok-drive.ensures.alike a ∙ (ap (pump_allocates a) same.0 ∙ free))
+    c.in-Err-step_root.ensures.memory (c.in-Ok-drive.ensures.alike.0 a ∙ (ap (pump_allocates a) same.0 ∙ free))

@@ -6,14 +6,14 @@ use Rattle.rsx_plain.proofs.node.PlainNodeMachine.residual.Goals as goal
 use Rattle.rsx_plain.proofs.node.PlainNodeMachine.residual.Goals.{in-Some-Next+in_ok-copy-in-Some-Next+in_ok-push-in-Some-Next, in-None}
 
 pub returns-in-Some-Complete : goal.returns-in-Some-Complete
-returns-in-Some-Complete g c =
-    ends_here (g.O.Ops.meaning c.args.ops.now) c.args.self.now (incoming_of c.args.hubs.now c.args.incoming.now) c.loop-at.out.items c.loop-at.at c.in-Some-Complete.field-0.now _ c.new.result c.loop-at.invariant
-    c.in-Some-Complete.ensures.signal (λ v. ap (λ t. signal_then t v) c.in-Some-Complete.field-0-is) c.new.ensures.items c.new.ensures.ending
+returns-in-Some-Complete g c hubs further behind =
+    ends_here (g.O.Ops.meaning c.args.ops.now) c.args.self.now (incoming_of hubs c.args.incoming.now) c.loop-at.out.items c.loop-at.at c.in-Some-Complete.field-0.now _ c.new.result c.loop-at.invariant
+    c.in-Some-Complete.ensures.signal (λ v. ap (λ t. signal_then t v) c.in-Some-Complete.field-0-is) c.new.ensures.items c.new.ensures.ending further
 
 pub returns-in-Some-Error : goal.returns-in-Some-Error
-returns-in-Some-Error g c =
-    ends_here (g.O.Ops.meaning c.args.ops.now) c.args.self.now (incoming_of c.args.hubs.now c.args.incoming.now) c.loop-at.out.items c.loop-at.at c.in-Some-Error.field-0.now _ c.new-in-Some-Error.result c.loop-at.invariant
-    c.in-Some-Error.ensures.signal (λ v. ap (λ t. signal_then t v) c.in-Some-Error.field-0-is) c.new-in-Some-Error.ensures.items c.new-in-Some-Error.ensures.ending
+returns-in-Some-Error g c hubs further behind =
+    ends_here (g.O.Ops.meaning c.args.ops.now) c.args.self.now (incoming_of hubs c.args.incoming.now) c.loop-at.out.items c.loop-at.at c.in-Some-Error.field-0.now _ c.new-in-Some-Error.result c.loop-at.invariant
+    c.in-Some-Error.ensures.signal (λ v. ap (λ t. signal_then t v) c.in-Some-Error.field-0-is) c.new-in-Some-Error.ensures.items c.new-in-Some-Error.ensures.ending further
 
 pub loop-at-preserved : goal.loop-at-preserved
 loop-at-preserved g c =
@@ -28,10 +28,10 @@ loop-at-preserved g c =
 
 pub returns-in-Some : goal.returns-in-Some
 returns-in-Some g c =
-    rest_behind (g.O.Ops.meaning c.args.ops.now) c.args.self.now (incoming_of c.args.hubs.now c.args.incoming.now) c.loop-at.out.items c.loop-at.at _ c.rest.result c.loop-at.invariant
-    (omega arith) (first_is c.args.hubs.now c.args.incoming.now c.in-Some.value.now c.in-Some.ensures.value ∙ rw (c.items.ensures, c.ending.ensures) refl) c.rest.ensures
+    rest_behind (g.O.Ops.meaning c.args.ops.now) c.args.self.now c.args.inboxes.now c.args.incoming.now c.loop-at.out.items c.loop-at.at _ c.rest.result c.loop-at.invariant
+    (omega arith) (λ hubs. first_is hubs c.args.incoming.now c.in-Some.value.now c.in-Some.ensures.value ∙ rw (c.items.ensures, c.ending.ensures) refl) c.rest.ensures
 
 pub returns-in-None-first : goal.returns-in-None-first
 returns-in-None-first g c =
-    rest_behind (g.O.Ops.meaning c.args.ops.now) c.args.self.now (incoming_of c.args.hubs.now c.args.incoming.now) c.loop-at.out.items c.loop-at.at _ c.rest-in-None-first.result c.loop-at.invariant
-    (omega arith) (first_none c.args.hubs.now c.args.incoming.now c.in-None-first.ensures.value) c.rest-in-None-first.ensures
+    rest_behind (g.O.Ops.meaning c.args.ops.now) c.args.self.now c.args.inboxes.now c.args.incoming.now c.loop-at.out.items c.loop-at.at _ c.rest-in-None-first.result c.loop-at.invariant
+    (omega arith) (λ hubs. first_none hubs c.args.incoming.now c.in-None-first.ensures.value) c.rest-in-None-first.ensures

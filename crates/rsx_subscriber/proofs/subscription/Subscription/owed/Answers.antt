@@ -1,9 +1,6 @@
-use Rattle.std.proofs.Common.{ap, sym, ◌∙◌, Some, option_map}
 use Rattle.std.proofs.lemmas.Result.{IfOk-weaker}
-use Rattle.rsx_types.specs.Stream.{signals_then}
+use Rattle.rsx_subscriber.proofs.Sentence.{still_owed}
 use Rattle.rsx_subscriber.proofs.subscription.Subscription.owed.Goals as goal
 
 pub returns : goal.returns
-returns g c = IfOk-weaker c.behind.result _ _ (λ v e hubs.
-    ap (λ o. option_map (signals_then c.args.self.now.queue) o) (c.in_ok-rest.ensures hubs) ∙ ap (λ w. Some w) (sym e))
-    c.behind.ensures
+returns g c = IfOk-weaker c.behind.result _ _ (λ v e. still_owed (g.O.Ops.meaning c.args.ops.now) c.args.inboxes.now c.args.self.now c.in_ok-rest.rest v c.in_ok-rest.ensures e) c.behind.ensures

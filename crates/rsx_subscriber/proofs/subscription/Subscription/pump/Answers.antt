@@ -66,4 +66,4 @@ returns-in-Err-settle-clause-memory g c = λ free.
     let a = g.O.Ops.allocates c.args.ops.now in
     let d = c.in-Ok.ensures.pumped (g.O.Ops.meaning c.args.ops.now) in
     let f = c.in-Ok-fetch.ensures.pumped in
-    c.in-Err-settle.ensures.memory (f.2.alike a ∙ (d.2.alike a ∙ free))
+    c.in-Err-settle.ensures.memory (f.2.alike.0 a ∙ (d.2.alike.0 a ∙ free))

@@ -78,7 +78,7 @@ returns-clause-pumped g c =
 pub returns-in-Err-clause-memory : goal.returns-in-Err-clause-memory
 returns-in-Err-clause-memory g c = λ free.
     let done = c.loop-round.invariant.1 in
-    absurd {A = IsFull c.loop-round.out} (never (c.in-Err.ensures.memory (done.2.alike (g.O.Ops.allocates c.args.ops.now) ∙ free)))
+    absurd {A = IsFull c.loop-round.out} (never (c.in-Err.ensures.memory (done.2.alike.0 (g.O.Ops.allocates c.args.ops.now) ∙ free)))
   where
     never : false ≡ true → ⊥
     never e = cc

@@ -3,6 +3,8 @@ use Rattle.std.proofs.Common.{refl}
 use Rattle.rsx_tree.specs.Allocates.{row_allocates}
 use Rattle.rsx_tree.specs.Inputs.{edges}
 use Rattle.rsx_tree.proofs.Alike.{over_alike, row_closed}
+use Rattle.rsx_tree.specs.Reads.{IsRowReadAt}
+use Rattle.rsx_tree.proofs.Readings.{closed_reads}
 use Rattle.rsx_tree.specs.Tree.{NoneLive}
 use Rattle.rsx_tree.specs.Inputs.{notes_of}
 use Rattle.rsx_tree.proofs.Rows.{edges_closed, notes_closed}
@@ -22,4 +24,7 @@ pub returns-clause-notes : goal.returns-clause-notes
 returns-clause-notes g c = ap (λ t. g.M.Machine.recorded c.args.self.now.machine ∷ notes_of g.M.Machine t) c.close.ensures ∙ ap (λ l. g.M.Machine.recorded c.args.self.now.machine ∷ l) (notes_closed g.M.Machine c.args.self.now.inputs)
 
 pub returns-clause-alike : goal.returns-clause-alike
-returns-clause-alike g c = λ a. over_alike g.M.Machine a c.args.self.now.machine c.args.self.now.machine c.args.self.now.inputs c.close.new.self refl (ap (row_allocates g.M.Machine a) c.close.ensures ∙ row_closed g.M.Machine a c.args.self.now.inputs)
+returns-clause-alike g c = (
+  λ a. over_alike g.M.Machine a c.args.self.now.machine c.args.self.now.machine c.args.self.now.inputs c.close.new.self refl (ap (row_allocates g.M.Machine a) c.close.ensures ∙ row_closed g.M.Machine a c.args.self.now.inputs),
+  λ counts h. (h.0, subst (λ t. IsRowReadAt g.M.Machine counts t) (sym c.close.ensures) (closed_reads g.M.Machine counts c.args.self.now.inputs)),
+)

@@ -53,7 +53,7 @@ pub returns-in-Err-clause-memory : goal.returns-in-Err-clause-memory
 returns-in-Err-clause-memory g c = λ free.
     let a = g.O.Ops.allocates c.args.ops.now in
     let u = c.rounds.invariant.0 in
-    c.in-Err.ensures.memory (driven_alike g.M.Machine (g.O.Ops.meaning c.args.ops.now) true u.count c.args.self.now c.args.asked c.args.sent c.rounds.self u.run a ∙ free)
+    c.in-Err.ensures.memory ((driven_alike g.M.Machine (g.O.Ops.meaning c.args.ops.now) true u.count c.args.self.now c.args.asked c.args.sent c.rounds.self u.run).0 a ∙ free)
 
 pub returns-in-Err-clause-alike : goal.returns-in-Err-clause-alike
 returns-in-Err-clause-alike g c =

@@ -1,0 +1,2 @@
+-- Lemmas about a node that reads a hub.
+pub mod Leaves
