@@ -9,6 +9,7 @@ pub mod fetch;
 pub mod inputs;
 pub mod look;
 pub mod node;
+mod published;
 mod step;
 
 pub use edge::{Edge, EdgeState};

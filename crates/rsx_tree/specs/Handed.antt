@@ -1,0 +1,112 @@
+-- Handing a signal of a hub to the nodes of a tree that read it.
+use Rattle.std.specs.Prelude.{◌≡◌, ℕ, zero, suc, ◌+◌, Bool, true, false, ◌&&◌, if◌then◌else◌, List, [], ◌∷◌, Some, slice_get}
+use Rattle.rsx_types.specs.Meaning.{Meaning, Allocates}
+use Rattle.rsx_types.specs.Stream.{Stream}
+use Rattle.rsx_types.specs.declared.note.Note.{Note}
+use Rattle.rsx_types.specs.declared.signal.Signal.{Signal}
+use Rattle.rsx_types.specs.declared.signal.Signal.TheVariants.{Next, Complete, Error}
+use Rattle.rsx_sources.specs.Counts.{CountsStep, ends_input, one_more}
+use Rattle.rsx_sources.specs.Reading.{IsNextAt, IsReadOn, published_at, reads_hub}
+use Rattle.rsx_sources.specs.Steps.{AllocatesAlike}
+use Rattle.rsx_sources.specs.declared.machine.Machine.{Ghosts as Machine}
+use Rattle.rsx_tree.specs.declared.inputs.Inputs.{Inputs, End, More'}
+use Rattle.rsx_tree.specs.declared.node.Node.{Node}
+use Rattle.rsx_tree.specs.Allocates.{tree_allocates}
+use Rattle.rsx_tree.specs.Balance.{IsBalanced}
+use Rattle.rsx_tree.specs.Edges.{EdgeView, is_live}
+use Rattle.rsx_tree.specs.Reads.{IsTreeReadAt}
+use Rattle.rsx_tree.specs.Tree.{comes_out, edges, notes}
+
+-- ---- who reads a hub
+
+-- how many of one node read the hub
+abbrev pub reader_at : {M T : Type 0} → Machine M T → ℕ → M → ℕ
+reader_at b h n = if reads_hub h (b.reads n) then 1 else 0
+
+-- how many nodes of a row, and below it, read the hub; what is behind an edge that isn't live reads none
+abbrev pub readers_in : {M T : Type 0} → Machine M T → ℕ → Inputs M → ℕ
+readers_in b h End = 0
+readers_in b h (More' e n p below q beside) = (if is_live e.state then reader_at b h n + readers_in b h below else 0) + readers_in b h beside
+
+-- how many nodes of a tree do whose root's own edge is live
+abbrev pub readers : {M T : Type 0} → Machine M T → ℕ → Node M → ℕ
+readers b h t = reader_at b h t.machine + readers_in b h t.inputs
+
+-- ---- room
+
+-- whether a node has room for an item of the hub, or doesn't read it
+abbrev pub room_at : {M T : Type 0} → Machine M T → ℕ → M → Bool
+room_at b h n = if reads_hub h (b.reads n) then b.rooms n else true
+
+abbrev pub has_room_in : {M T : Type 0} → Machine M T → ℕ → Inputs M → Bool
+has_room_in b h End = true
+has_room_in b h (More' e n p below q beside) = (if is_live e.state then room_at b h n && has_room_in b h below else true) && has_room_in b h beside
+
+-- whether all nodes of a tree have that read the hub
+abbrev pub has_room : {M T : Type 0} → Machine M T → ℕ → Node M → Bool
+has_room b h t = room_at b h t.machine && has_room_in b h t.inputs
+
+-- there is room for this signal; an ending needs none
+abbrev pub is_room_for : {T : Type 0} → Signal T → Bool → Bool
+is_room_for (Next x) room = room
+is_room_for Complete room = true
+is_room_for (Error c) room = true
+
+-- ---- a signal is handed on
+
+-- the same signal so many times
+abbrev pub times : {A : Type 0} → ℕ → A → List A
+times zero a = []
+times (suc n) a = a ∷ times n a
+
+-- a node took in the signal
+pub record IsTakenBy {M T : Type 0} (b : Machine M T) (s : Signal T) (n n' : M) : Type 0 where
+  pub on : IsReadOn b.comes_out b.reads n s n'
+  pub recorded : b.recorded n' ≡ b.recorded n
+  pub counts : CountsStep b.counted b.ended b.done n n'
+  pub calls : AllocatesAlike b.pop_allocates b.signal_allocates b.step_allocates n n'
+
+abbrev pub IsTakenWhere : {M T : Type 0} → Machine M T → Signal T → Bool → M → M → Type 0
+IsTakenWhere b s true n n' = IsTakenBy b s n n'
+IsTakenWhere b s false n n' = n' ≡ n
+
+-- a node that reads the hub took it in, and another is as it was
+abbrev pub IsNodeHanded : {M T : Type 0} → Machine M T → ℕ → Signal T → M → M → Type 0
+IsNodeHanded b h s n n' = IsTakenWhere b s (reads_hub h (b.reads n)) n n'
+
+-- one or the other
+abbrev pub OneOf : Bool → Type 0 → Type 0 → Type 0
+OneOf true a c = a
+OneOf false a c = c
+
+-- so did each node of a row, and below it, behind live edges; all else is as it was
+abbrev pub IsRowHanded : {M T : Type 0} → Machine M T → ℕ → Signal T → Inputs M → Inputs M → Type 0
+IsRowHanded b h s End new = new ≡ End
+IsRowHanded {M} b h s (More' e n p below q beside) new =
+    (n' : M) × (below' : Inputs M) × (beside' : Inputs M) × (new ≡ More' e n' p below' q beside')
+    × OneOf (is_live e.state) (IsNodeHanded b h s n n' × IsRowHanded b h s below below') ((n' ≡ n) × (below' ≡ below)) × IsRowHanded b h s beside beside'
+
+-- ---- what that means for a tree
+
+-- where these many items of each hub were taken in, this signal of the hub comes next in its value
+abbrev pub IsNextOf : {T : Type 0} → List ℕ → List (Stream T) → ℕ → Signal T → Type 0
+IsNextOf counts hubs h s = (c : ℕ) → slice_get counts h ≡ Some c → IsNextAt c (published_at hubs h) s
+
+-- how many items of each hub were taken in after that
+abbrev pub counts_after : {T : Type 0} → ℕ → Signal T → List ℕ → List ℕ
+counts_after h (Next x) counts = one_more h counts
+counts_after h Complete counts = counts
+counts_after h (Error c) counts = counts
+
+-- each node that reads the hub took the signal in, and nothing else changed
+pub record IsHanded {M T : Type 0} (b : Machine M T) (h : ℕ) (s : Signal T) (old new : Node M) : Type 0 where
+  -- the same comes out, over all values in which that signal comes next
+  pub value : (m : Meaning T) (counts : List ℕ) (hubs : List (Stream T)) (further : List Note) (at : ℕ) → IsTreeReadAt b counts old → IsNextOf counts hubs h s →
+      comes_out b m hubs further new at ≡ comes_out b m hubs further old at
+  -- the nodes that read the hub got one item further; after an ending none reads it
+  pub reads : (counts : List ℕ) → IsTreeReadAt b counts old → IsTreeReadAt b (counts_after h s counts) new
+  pub ended : ends_input s ≡ true → readers b h new ≡ 0
+  pub notes : notes b new ≡ notes b old
+  pub edges : edges new ≡ edges old
+  pub balance : (sent : ℕ) → IsBalanced b old sent → IsBalanced b new sent
+  pub calls : (a : Allocates) → tree_allocates b a new ≡ tree_allocates b a old
