@@ -226,7 +226,8 @@ impl<T: Drop> Machine for HubLeaf<T> {
         inboxes: &[StreamValue<T>],
         incoming: &[StreamValue<T>],
     ) -> Result<StreamValue<T>, NoMemory>
-        ensures { IfOk result (λ v. IsResidualOf (leaf_comes_out (O.meaning ops.now)) (λ n. Nothing) leaf_reads self.now inboxes.now incoming.now v) }
+        ensures { IfOk result (λ v.
+            IsResidualOf (leaf_comes_out (O.meaning ops.now)) (λ n. Nothing) leaf_reads self.now inboxes.now incoming.now v) }
     {
         match inboxes.get(self.hub as usize) {
             Some(value) => self.member.rest(alloc, ops, value.items(), value.ending()),

@@ -82,7 +82,8 @@ impl<T: Drop> Machine for AnyNode<T> {
         alloc: Global,
         ops: &O,
     ) -> Result<Option<Signal<T>>, NoMemory>
-        ensures ok { IfOk result (λ s. IsPopped (any_comes_out (O.meaning ops.now)) any_popped (any_waiting (O.meaning ops.now) self.old) self.old s self.new) }
+        ensures ok { IfOk result (λ s.
+            IsPopped (any_comes_out (O.meaning ops.now)) any_popped (any_waiting (O.meaning ops.now) self.old) self.old s self.new) }
         ensures counts { IfOk result (λ s. CountsOut any_counted any_ended (λ n i. false) self.old s self.new) }
         ensures err { OnErr result (self.new ≡ self.old) }
         ensures memory { any_pop_allocates (O.allocates ops.now) self.old ≡ false → IsOk result }
@@ -247,7 +248,8 @@ impl<T: Drop> Machine for AnyNode<T> {
         inboxes: &[StreamValue<T>],
         incoming: &[StreamValue<T>],
     ) -> Result<StreamValue<T>, NoMemory>
-        ensures { IfOk result (λ v. IsResidualOf (any_comes_out (O.meaning ops.now)) (λ n. Nothing) any_reads self.now inboxes.now incoming.now v) }
+        ensures { IfOk result (λ v.
+            IsResidualOf (any_comes_out (O.meaning ops.now)) (λ n. Nothing) any_reads self.now inboxes.now incoming.now v) }
     {
         match self {
             AnyNode::Items(node) => node.residual(alloc, ops, inboxes, incoming),

@@ -47,6 +47,7 @@ impl<T: Drop> Part<T> {
     ghost use Rattle.rsx_pipe.specs.Tree.{comes_out, notes_of, can_send, pop_allocates, send_allocates, step_allocates, IsAlike, IsAllClosed, IsStill};
     ghost use Rattle.rsx_tree.specs.Driven.{Spent};
     ghost use Rattle.rsx_pipe.specs.Fetched.{IsFetched};
+    ghost use Rattle.rsx_tree.specs.Refusals.{IsNotEnabled, OnlyNotEnabled};
     ghost use Rattle.rsx_pipe.specs.Part.{pump_allocates, PartStands, IsPutOut, IsMade, IsPumped, IsQuiet, IsAwake, IsSpent, IsRootSent, HasEnded, IsDelivered, IsPartResidual, make_allocates, all_edges, move_enabled, ask_enabled, send_enabled, IsAsk, IsSend, pick_enabled, row_enabled, IsPick, IsRow, IsNumbered};
 
     /// The part of an expression that `check_expr` accepts, before anything was asked of it.
@@ -143,7 +144,7 @@ impl<T: Drop> Part<T> {
     /// The first enabled move, from the root down. None where no move is enabled.
     pub fn first_enabled(&self, out: &SignalQueue<T>) -> Option<NodeMove>
         ensures some { (m : Meaning T) → IfSome result (λ step. IsNumbered step × (move_enabled m self.now out.now step ≡ true)) }
-        ensures none { (m : Meaning T) → IfNone result ((step : NodeMove) → IsNumbered step → move_enabled m self.now out.now step ≡ false) }
+        ensures none { (m : Meaning T) → IfNone result (IsQuiet m self.now out.now) }
     {
         if self.can_send_root(out) {
             return Some(NodeMove::Send(0));
@@ -172,7 +173,7 @@ impl<T: Drop> Part<T> {
         ensures made { OnOk result (IsMade (O.meaning ops.now) step self.old out.old self.new out.new) }
         ensures enabled { OnOk result (move_enabled (O.meaning ops.now) self.old out.old step ≡ true) }
         ensures err { IfErr result (IsNotMade (move_enabled (O.meaning ops.now) self.old out.old step)) }
-        ensures memory { make_allocates (O.allocates ops.now) self.old step ≡ false → IfErr result (λ e. e ≡ NotMade.NotEnabled) }
+        ensures memory { make_allocates (O.allocates ops.now) self.old step ≡ false → OnlyNotEnabled result }
         ensures same { OnErr result ((self.new ≡ self.old) × (out.new ≡ out.old)) }
     {
         match step {
@@ -210,7 +211,7 @@ impl<T: Drop> Part<T> {
         ensures effect { OnOk result (IsAsk self.old at self.new) }
         ensures root { self.new.root ≡ self.old.root }
         ensures enabled { OnOk result (ask_enabled self.old at ≡ true) }
-        ensures err { IfErr result (λ e. (e ≡ NotMade.NotEnabled) × (ask_enabled self.old at ≡ false)) }
+        ensures err { IfErr result (IsNotEnabled (ask_enabled self.old at)) }
         ensures same { OnErr result (self.new ≡ self.old) }
     {
         if at == 0 {
@@ -238,7 +239,7 @@ impl<T: Drop> Part<T> {
         ensures root { self.new.root ≡ self.old.root }
         ensures enabled { OnOk result (can_send (O.meaning ops.now) self.old.tree at ≡ true) }
         ensures err { IfErr result (IsNotMade (can_send (O.meaning ops.now) self.old.tree at)) }
-        ensures memory { send_allocates (O.allocates ops.now) self.old.tree at ≡ false → IfErr result (λ e. e ≡ NotMade.NotEnabled) }
+        ensures memory { send_allocates (O.allocates ops.now) self.old.tree at ≡ false → OnlyNotEnabled result }
         ensures same { OnErr result (self.new ≡ self.old) }
     {
         match self.tree.send(alloc, ops, at) {
@@ -260,7 +261,7 @@ impl<T: Drop> Part<T> {
         ensures enabled { OnOk result (pick_enabled self.old at input ≡ true) }
         ensures alike { IsAlike self.old.tree self.new.tree }
         ensures err { IfErr result (IsNotMade (pick_enabled self.old at input)) }
-        ensures memory { step_allocates (O.allocates ops.now) self.old.tree (edge_view self.old.root) at ≡ false → IfErr result (λ e. e ≡ NotMade.NotEnabled) }
+        ensures memory { step_allocates (O.allocates ops.now) self.old.tree (edge_view self.old.root) at ≡ false → OnlyNotEnabled result }
         ensures same { OnErr result (self.new ≡ self.old) }
     {
         match self.tree.pick(alloc, ops, &self.root, at, input) {
@@ -276,7 +277,7 @@ impl<T: Drop> Part<T> {
         ensures enabled { OnOk result (row_enabled self.old at ≡ true) }
         ensures alike { IsAlike self.old.tree self.new.tree }
         ensures err { IfErr result (IsNotMade (row_enabled self.old at)) }
-        ensures memory { step_allocates (O.allocates ops.now) self.old.tree (edge_view self.old.root) at ≡ false → IfErr result (λ e. e ≡ NotMade.NotEnabled) }
+        ensures memory { step_allocates (O.allocates ops.now) self.old.tree (edge_view self.old.root) at ≡ false → OnlyNotEnabled result }
         ensures same { OnErr result (self.new ≡ self.old) }
     {
         match self.tree.make_row(alloc, ops, &self.root, at) {
@@ -294,7 +295,7 @@ impl<T: Drop> Part<T> {
     ) -> Result<(), NotMade>
         ensures sent { OnOk result (IsRootSent (O.meaning ops.now) self.old out.old self.new out.new) }
         ensures err { IfErr result (IsNotMade (send_enabled (O.meaning ops.now) self.old out.old 0)) }
-        ensures memory { pop_allocates (O.allocates ops.now) self.old.tree ≡ false → IfErr result (λ e. e ≡ NotMade.NotEnabled) }
+        ensures memory { pop_allocates (O.allocates ops.now) self.old.tree ≡ false → OnlyNotEnabled result }
         ensures same { OnErr result ((self.new ≡ self.old) × (out.new ≡ out.old)) }
     {
         let Some(front) = self.tree.front() else {
@@ -357,7 +358,9 @@ impl<T: Drop> Part<T> {
         budget: u32,
         out: &mut SignalQueue<T>,
     ) -> Result<Pumped, NoMemory>
-        ensures pumped { (n : ℕ) × HasEnded (O.meaning ops.now) budget n self.new out.new result × IsPumped (O.meaning ops.now) n self.old out.old self.new out.new }
+        ensures pumped {
+            (n : ℕ) × HasEnded (O.meaning ops.now) budget n self.new out.new result
+            × IsPumped (O.meaning ops.now) n self.old out.old self.new out.new }
 
         // Idle means delivered.
         ensures served { IfOk result (λ p. (left : ℕ) → p ≡ Pumped.Idle left → IsDelivered (O.meaning ops.now) self.new out.new) }

@@ -6,6 +6,7 @@ use Rattle.rsx_types.specs.declared.signal.Signal.TheVariants.{Next, Complete}
 use Rattle.rsx_types.specs.declared.stage.Stage.{Stage}
 use Rattle.rsx_types.specs.declared.stage.Stage.TheVariants.{Map, Filter, Take, Scan, Buffer, Distinct}
 use Rattle.rsx_types.specs.Meaning.{Meaning, Allocates}
+use Rattle.rsx_types.specs.Plain.{plain}
 use Rattle.rsx_types.specs.Stream.{Stream, signals_then}
 use Rattle.rsx_sources.specs.Machine.{Incoming, quiet, front_of}
 use Rattle.rsx_sources.specs.declared.machine.Front.{Front}
@@ -27,6 +28,14 @@ start_slot (Distinct f) = []
 -- what stands in the slot, and then the operator of what comes in
 abbrev pub plain_comes_out : {T : Type 0} → Meaning T → PlainNode T → Incoming T → Note → Option (Stream T)
 plain_comes_out m n inc further = quiet further (signals_then n.slot (plain_from m n.state inc.first))
+
+-- what comes out is the operator of what comes in
+abbrev pub GivesOperator : {T : Type 0} → PlainNode T → Stage T → Type 0
+GivesOperator {T} n stage = (m : Meaning T) (inc : Incoming T) (further : Note) → plain_comes_out m n inc further ≡ quiet further (plain m stage inc.first)
+
+-- what comes in doesn't matter to what comes out
+abbrev pub NeedsNothing : {T : Type 0} → PlainNode T → Type 0
+NeedsNothing {T} n = (m : Meaning T) (inc other : Incoming T) (further : Note) → plain_comes_out m n inc further ≡ plain_comes_out m n other further
 
 -- the oldest signal of the slot waits
 abbrev pub plain_waiting : {T : Type 0} → Meaning T → PlainNode T → Option (Signal T)

@@ -19,13 +19,8 @@ pub struct PlainNode<T> {
 
 impl<T: Drop> PlainNode<T> {
     ghost use Rattle.std.specs.Prelude.{◌≡◌, IfOk, IsTrue};
-    ghost use Rattle.rsx_types.specs.Meaning.{Meaning};
-    ghost use Rattle.rsx_types.specs.Plain.{plain};
-    ghost use Rattle.rsx_types.specs.declared.note.Note.{Note};
-    ghost use Rattle.rsx_sources.specs.Machine.{Incoming, quiet};
     ghost use Rattle.rsx_operators.specs.State.{plain_start};
-    ghost use Rattle.rsx_plain.specs.Laws.{plain_done_drops};
-    ghost use Rattle.rsx_plain.specs.Node.{plain_comes_out, start_slot, plain_ended};
+    ghost use Rattle.rsx_plain.specs.Node.{GivesOperator, start_slot, plain_ended};
 
     /// The node of an operator before it has taken anything. Its slot begins with the seed of `scan`, or the completion of
     /// `take 0`. It takes memory for copies of a seed alone; for want of it the answer is [`NoMemory`].
@@ -36,7 +31,7 @@ impl<T: Drop> PlainNode<T> {
     ) -> Result<PlainNode<T>, NoMemory>
         ensures state { IfOk result (λ n. n.state ≡ plain_start stage.now) }
         ensures slot { IfOk result (λ n. n.slot ≡ start_slot stage.now) }
-        ensures fresh { IfOk result (λ n. (m : Meaning T) (inc : Incoming T) (further : Note) → plain_comes_out m n inc further ≡ quiet further (plain m stage.now inc.first)) }
+        ensures fresh { IfOk result (λ n. GivesOperator n stage.now) }
     {
         let state = PlainState::new(alloc, ops, stage)?;
         let mut slot = OutSlot::new();
@@ -66,7 +61,7 @@ impl<T: Drop> Machine for PlainNode<T> {
     ghost use Rattle.rsx_sources.specs.Reading.{IsReadOn, IsResidualOf};
     ghost use Rattle.rsx_sources.specs.Steps.{IsPopped, IsNotTaken};
     ghost use Rattle.rsx_plain.specs.Laws.{plain_done_drops};
-    ghost use Rattle.rsx_plain.specs.Node.{plain_comes_out, plain_waiting, plain_shown, plain_takes, plain_wanted, plain_popped, plain_ended, plain_allocates, plain_counted};
+    ghost use Rattle.rsx_plain.specs.Node.{plain_comes_out, plain_waiting, plain_shown, plain_takes, plain_wanted, plain_popped, plain_ended, plain_allocates, plain_counted, NeedsNothing};
     ghost use Rattle.rsx_operators.specs.State.{is_over, after_signal, Counts};
     ghost use Rattle.rsx_plain.specs.declared.node.PlainNode.{PlainNode};
 
@@ -122,7 +117,8 @@ impl<T: Drop> Machine for PlainNode<T> {
         alloc: Global,
         ops: &O,
     ) -> Result<Option<Signal<T>>, NoMemory>
-        ensures ok { IfOk result (λ s. IsPopped (plain_comes_out (O.meaning ops.now)) plain_popped (plain_waiting (O.meaning ops.now) self.old) self.old s self.new) }
+        ensures ok { IfOk result (λ s.
+            IsPopped (plain_comes_out (O.meaning ops.now)) plain_popped (plain_waiting (O.meaning ops.now) self.old) self.old s self.new) }
         ensures counted { IfOk result (λ s. CountsOut plain_counted plain_ended (λ n i. false) self.old s self.new) }
         ensures err { OnErr result (self.new ≡ self.old) }
         ensures state { self.new.state ≡ self.old.state }
@@ -146,7 +142,7 @@ impl<T: Drop> Machine for PlainNode<T> {
     #[inline]
     fn has_ended(&self) -> bool
         ensures ended { result ≡ plain_ended self.now }
-        ensures closed { IsTrue result → (m : Meaning T) (inc other : Incoming T) (further : Note) → plain_comes_out m self.now inc further ≡ plain_comes_out m self.now other further }
+        ensures closed { IsTrue result → NeedsNothing self.now }
     {
         match self.slot.front() {
             None => false,
@@ -272,7 +268,8 @@ impl<T: Drop> Machine for PlainNode<T> {
         inboxes: &[StreamValue<T>],
         incoming: &[StreamValue<T>],
     ) -> Result<StreamValue<T>, NoMemory>
-        ensures { IfOk result (λ v. IsResidualOf (plain_comes_out (O.meaning ops.now)) (λ n. Nothing) (λ n. None) self.now inboxes.now incoming.now v) }
+        ensures { IfOk result (λ v.
+            IsResidualOf (plain_comes_out (O.meaning ops.now)) (λ n. Nothing) (λ n. None) self.now inboxes.now incoming.now v) }
     {
         let mut out = Vec::new(alloc);
         for at in 0..self.slot.len() {

@@ -18,6 +18,10 @@ pub record ItemsLeft (T : Type 0) : Type 0 where
 abbrev pub items_comes_out : {T : Type 0} → Meaning T → ItemsLeft T → Incoming T → Note → Option (Stream T)
 items_comes_out m n inc further = quiet further (listed n.left)
 
+-- these items come out, and then the completion
+abbrev pub GivesItems : {T : Type 0} → ItemsLeft T → List T → Type 0
+GivesItems {T} n items = (m : Meaning T) (inc : Incoming T) (further : Note) → items_comes_out m n inc further ≡ quiet further (listed items)
+
 -- the next item waits, or else the completion
 abbrev pub items_waiting : {T : Type 0} → Meaning T → ItemsLeft T → Option (Signal T)
 items_waiting m n = Some (first_of n.left)

@@ -45,6 +45,10 @@ quiet Nothing v = Some v
 quiet (Picks cs) v = None
 quiet (Ended o) v = None
 
+-- what is recorded after two notes is recorded after the first and what stands behind it
+abbrev pub IsComposed : Note → Note → Type 0
+IsComposed n k = (further : Note) → note_then (note_then n k) further ≡ note_then n (note_then k further)
+
 -- what came out of `old` comes out of `new`
 abbrev pub Keeps : {T S : Type 0} → (S → Incoming T → Note → Option (Stream T)) → S → S → Type 0
 Keeps {T} comes_out old new = (inc : Incoming T) (further : Note) → comes_out new inc further ≡ comes_out old inc further

@@ -6,7 +6,7 @@ use Rattle.rsx_types.specs.declared.note.Note.{Note}
 use Rattle.rsx_types.specs.declared.signal.Signal.{Signal}
 use Rattle.rsx_types.specs.declared.signal.Signal.TheVariants.{Next, Complete, Error}
 use Rattle.rsx_types.specs.Meaning.{Meaning, Allocates}
-use Rattle.rsx_types.specs.Plain.{listed}
+use Rattle.rsx_types.specs.Plain.{listed, range_items}
 use Rattle.rsx_types.specs.Stream.{Stream}
 use Rattle.rsx_sources.specs.Machine.{Incoming, quiet, first_of, front_of}
 use Rattle.rsx_sources.specs.declared.machine.Front.{Front}
@@ -23,6 +23,10 @@ range_left m n = range_from m n.first n.at n.count
 -- they still come out, and then the completion
 abbrev pub range_comes_out : {T : Type 0} → Meaning T → RangeNode T → Incoming T → Note → Option (Stream T)
 range_comes_out m n inc further = quiet further (listed (range_left m n))
+
+-- the numbers of this range come out, and then the completion
+abbrev pub GivesRange : {T : Type 0} → RangeNode T → ℤ → ℕ → Type 0
+GivesRange {T} n first count = (m : Meaning T) (inc : Incoming T) (further : Note) → range_comes_out m n inc further ≡ quiet further (listed (range_items m first count))
 
 -- the item of the next number waits, or else the completion
 abbrev pub range_waiting : {T : Type 0} → Meaning T → RangeNode T → Option (Signal T)

@@ -29,11 +29,7 @@ impl<T> Model for ItemsNode<T> {
 
 impl<T: Drop> ItemsNode<T> {
     ghost use Rattle.std.specs.Prelude.{◌≡◌, IfOk, length};
-    ghost use Rattle.rsx_types.specs.Meaning.{Meaning};
-    ghost use Rattle.rsx_types.specs.Plain.{listed};
-    ghost use Rattle.rsx_types.specs.declared.note.Note.{Note};
-    ghost use Rattle.rsx_sources.specs.Machine.{Incoming, quiet};
-    ghost use Rattle.rsx_sources.specs.Items.{items_comes_out};
+    ghost use Rattle.rsx_sources.specs.Items.{GivesItems};
 
     /// The source of a copy of the items.
     pub fn new<O: Ops<Item = T>>(
@@ -42,7 +38,7 @@ impl<T: Drop> ItemsNode<T> {
         items: &[T],
     ) -> Result<ItemsNode<T>, NoMemory>
         ensures made { IfOk result (λ n. n ≡ record { left = items.now; room = length items.now }) }
-        ensures fresh { IfOk result (λ n. (m : Meaning T) (inc : Incoming T) (further : Note) → items_comes_out m n inc further ≡ quiet further (listed items.now)) }
+        ensures fresh { IfOk result (λ n. GivesItems n items.now) }
     {
         let mut reversed = Vec::with_capacity(alloc, items.len())?;
         for at in (0..items.len()).rev() {
@@ -229,7 +225,8 @@ impl<T: Drop> Machine for ItemsNode<T> {
         inboxes: &[StreamValue<T>],
         incoming: &[StreamValue<T>],
     ) -> Result<StreamValue<T>, NoMemory>
-        ensures { IfOk result (λ v. IsResidualOf (items_comes_out (O.meaning ops.now)) (λ n. Nothing) (λ n. None) self.now inboxes.now incoming.now v) }
+        ensures { IfOk result (λ v.
+            IsResidualOf (items_comes_out (O.meaning ops.now)) (λ n. Nothing) (λ n. None) self.now inboxes.now incoming.now v) }
     {
         let reversed = self.reversed.as_slice();
         let mut left = Vec::with_capacity(alloc, reversed.len())?;

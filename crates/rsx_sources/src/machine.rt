@@ -119,7 +119,7 @@ pub trait Machine {
     ghost use Rattle.std.specs.Prelude.{◌≡◌, ◌<◌, ◌^◌, ◌∷◌, ◌++◌, length, OnOk, OnErr, IfOk, IfErr, IfSome, IfNone, IsOk, Some, None, true, false, option_map};
     ghost use Rattle.rsx_types.specs.Notes.{note_then, unchosen};
     ghost use Rattle.rsx_sources.specs.Counts.{CountsIn, CountsOut, CountsStep, CanStep, IsHungry, AreWithin, ends_input};
-    ghost use Rattle.rsx_sources.specs.Machine.{Keeps, TakesIn, Records, front_of, incoming_of};
+    ghost use Rattle.rsx_sources.specs.Machine.{IsComposed, Keeps, TakesIn, Records, front_of, incoming_of};
     ghost use Rattle.rsx_sources.specs.Passed.{IsItemOut, IsPassed};
     ghost use Rattle.rsx_sources.specs.Reading.{IsReadOn, IsResidualOf, takes_published, hub_of};
     ghost use Rattle.rsx_sources.specs.Steps.{AllocatesAlike, StaysAlike, IsPopped, IsNotTaken, IsNotMade};
@@ -136,7 +136,8 @@ pub trait Machine {
         alloc: Global,
         ops: &O,
     ) -> Result<Option<Signal<Self::Item>>, NoMemory>
-        ensures ok { IfOk result (λ s. IsPopped (comes_out (O.meaning ops.now)) popped (waiting (O.meaning ops.now) self.old) self.old s self.new) }
+        ensures ok { IfOk result (λ s.
+            IsPopped (comes_out (O.meaning ops.now)) popped (waiting (O.meaning ops.now) self.old) self.old s self.new) }
         ensures recorded { recorded self.new ≡ recorded self.old }
         ensures counts { IfOk result (λ s. CountsOut counted ended done self.old s self.new) }
         ensures err { OnErr result (self.new ≡ self.old) }
@@ -176,7 +177,9 @@ pub trait Machine {
     /// Takes the offered item out, as `pop_front` does. Where it answers nothing the node is unchanged, and `pop_front`
     /// tells the rest: that nothing is offered, an ending, or want of memory.
     fn pop_item<O: Ops<Item = Self::Item>>(&mut self, alloc: Global, ops: &O) -> Option<Self::Item>
-        ensures some { IfSome result (λ x. IsItemOut (comes_out (O.meaning ops.now)) (waiting (O.meaning ops.now)) popped recorded counted ended done self.old x self.new) }
+        ensures some { IfSome result (λ x.
+            IsItemOut (comes_out (O.meaning ops.now)) (waiting (O.meaning ops.now))
+                popped recorded counted ended done self.old x self.new) }
         ensures alike { StaysAlike reads pop_allocates signal_allocates step_allocates self.old self.new }
         ensures none { IfNone result (self.new ≡ self.old) };
 
@@ -191,7 +194,9 @@ pub trait Machine {
         input: u64,
         item: Self::Item,
     ) -> Passed<Self::Item>
-        ensures passed { IsPassed (comes_out (O.meaning ops.now)) (waiting (O.meaning ops.now)) takes popped recorded counted ended done self.old input item result self.new }
+        ensures passed {
+            IsPassed (comes_out (O.meaning ops.now)) (waiting (O.meaning ops.now))
+                takes popped recorded counted ended done self.old input item result self.new }
         ensures alike { StaysAlike reads pop_allocates signal_allocates step_allocates self.old self.new };
 
     /// The number of the hub that the node reads, as long as it takes that hub's signals in.
@@ -235,7 +240,7 @@ pub trait Machine {
         ensures ok { OnOk result (Records (comes_out (O.meaning ops.now)) self.old (recording self.old input) self.new) }
         ensures enabled { OnOk result (picks self.old input asked sent ≡ true) }
         ensures recorded { OnOk result (recorded self.new ≡ note_then (recorded self.old) (recording self.old input)) }
-        ensures composes { OnOk result ((further : Note) → note_then (note_then (recorded self.old) (recording self.old input)) further ≡ note_then (recorded self.old) (note_then (recording self.old input) further)) }
+        ensures composes { OnOk result (IsComposed (recorded self.old) (recording self.old input)) }
         ensures counts { OnOk result (CountsStep counted ended done self.old self.new) }
         ensures err { IfErr result (IsNotMade (picks self.old input asked sent)) }
         ensures memory { step_allocates (O.allocates ops.now) self.old ≡ false → IfErr result (λ e. e ≡ NotMade.NotEnabled) }

@@ -26,11 +26,7 @@ pub struct RangeNode<T> {
 
 impl<T: Drop> RangeNode<T> {
     ghost use Rattle.std.specs.Prelude.{◌≡◌, pos, ◌+ℤ◌, ◌≤ℤ◌, ◌<◌, ◌≤◌, ◌^◌};
-    ghost use Rattle.rsx_types.specs.Meaning.{Meaning};
-    ghost use Rattle.rsx_types.specs.Plain.{listed, range_items};
-    ghost use Rattle.rsx_types.specs.declared.note.Note.{Note};
-    ghost use Rattle.rsx_sources.specs.Machine.{Incoming, quiet};
-    ghost use Rattle.rsx_sources.specs.Range.{range_comes_out};
+    ghost use Rattle.rsx_sources.specs.Range.{GivesRange};
 
     /// The source of `count` numbers from `first` on. The last of them is at most the greatest `i64`.
     pub fn new(first: i64, count: u64) -> RangeNode<T>
@@ -39,7 +35,7 @@ impl<T: Drop> RangeNode<T> {
         ensures first { result.first ≡ first }
         ensures count { result.count ≡ count }
         ensures at { result.at ≡ 0 }
-        ensures fresh { (m : Meaning T) (inc : Incoming T) (further : Note) → range_comes_out m result inc further ≡ quiet further (listed (range_items m first count)) }
+        ensures fresh { GivesRange result first count }
     {
         RangeNode {
             first,
@@ -247,7 +243,8 @@ impl<T: Drop> Machine for RangeNode<T> {
         inboxes: &[StreamValue<T>],
         incoming: &[StreamValue<T>],
     ) -> Result<StreamValue<T>, NoMemory>
-        ensures { IfOk result (λ v. IsResidualOf (range_comes_out (O.meaning ops.now)) (λ n. Nothing) (λ n. None) self.now inboxes.now incoming.now v) }
+        ensures { IfOk result (λ v.
+            IsResidualOf (range_comes_out (O.meaning ops.now)) (λ n. Nothing) (λ n. None) self.now inboxes.now incoming.now v) }
     {
         let mut left = Vec::with_capacity(alloc, (self.count - self.at) as usize)?;
         for at in self.at..self.count {

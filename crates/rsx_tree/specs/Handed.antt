@@ -59,6 +59,11 @@ abbrev pub times : {A : Type 0} → ℕ → A → List A
 times zero a = []
 times (suc n) a = a ∷ times n a
 
+-- where a list had a signal once for each of so many readers, and there was room for it, each got it; the rest of the list stays
+abbrev pub IsHandedOut : {T : Type 0} → ℕ → Bool → List (Signal T) → List (Signal T) → (Signal T → Type 0) → Type 0
+IsHandedOut {T} count room old new done =
+    (s : Signal T) (k : ℕ) → old ≡ times (k + count) s → is_room_for s room ≡ true → done s × (new ≡ times k s)
+
 -- a node took in the signal
 pub record IsTakenBy {M T : Type 0} (b : Machine M T) (s : Signal T) (n n' : M) : Type 0 where
   pub on : IsReadOn b.comes_out b.reads n s n'

@@ -1,8 +1,7 @@
 //! Handing the signals of a hub to the nodes that read it.
 
-ghost use Rattle.std.specs.Prelude.{◌≡◌, ◌+◌, ℕ, true, min};
-ghost use Rattle.rsx_types.specs.declared.signal.Signal.{Signal as SignalSpec};
-ghost use Rattle.rsx_tree.specs.Handed.{reader_at, room_at, is_room_for, times, IsNodeHanded};
+ghost use Rattle.std.specs.Prelude.{◌≡◌, min};
+ghost use Rattle.rsx_tree.specs.Handed.{reader_at, room_at, IsHandedOut, IsNodeHanded};
 
 use crate::inputs::Inputs;
 use crate::node::Node;
@@ -10,9 +9,8 @@ use rsx_sources::Machine;
 use rsx_types::Signal;
 
 impl<M: Machine> Inputs<M> {
-    ghost use Rattle.std.specs.Prelude.{◌≡◌, ◌+◌, ℕ, min, true};
-    ghost use Rattle.rsx_types.specs.declared.signal.Signal.{Signal as SignalSpec};
-    ghost use Rattle.rsx_tree.specs.Handed.{readers_in, has_room_in, is_room_for, times, IsRowHanded};
+    ghost use Rattle.std.specs.Prelude.{◌≡◌, min};
+    ghost use Rattle.rsx_tree.specs.Handed.{readers_in, has_room_in, IsHandedOut, IsRowHanded};
 
     /// How many nodes of the row, and below it, read the hub with this number, but at most `most`. What is behind an edge that
     /// isn't live reads none.
@@ -55,7 +53,9 @@ impl<M: Machine> Inputs<M> {
     /// Hands a signal of the hub to each node of the row, and below it, that reads the hub, out of a list that has it once for
     /// each.
     pub(crate) fn hand(&mut self, hub: u64, signals: &mut Vec<Signal<M::Item>>)
-        ensures { (s : SignalSpec M.Item) (k : ℕ) → signals.old.items ≡ times (k + readers_in M.Machine hub self.old) s → is_room_for s (has_room_in M.Machine hub self.old) ≡ true → IsRowHanded M.Machine hub s self.old self.new × (signals.new.items ≡ times k s) }
+        ensures {
+            IsHandedOut (readers_in M.Machine hub self.old) (has_room_in M.Machine hub self.old) signals.old.items signals.new.items
+                (λ s. IsRowHanded M.Machine hub s self.old self.new) }
     {
         match self {
             Inputs::End => {}
@@ -94,7 +94,9 @@ fn has_room_for<M: Machine>(machine: &M, hub: u64) -> bool
 
 /// Hands the last signal of a list to the node, where it reads the hub.
 fn hand_to<M: Machine>(machine: &mut M, hub: u64, signals: &mut Vec<Signal<M::Item>>)
-    ensures { (s : SignalSpec M.Item) (k : ℕ) → signals.old.items ≡ times (k + reader_at M.Machine hub machine.old) s → is_room_for s (room_at M.Machine hub machine.old) ≡ true → IsNodeHanded M.Machine hub s machine.old machine.new × (signals.new.items ≡ times k s) }
+    ensures {
+        IsHandedOut (reader_at M.Machine hub machine.old) (room_at M.Machine hub machine.old) signals.old.items signals.new.items
+            (λ s. IsNodeHanded M.Machine hub s machine.old machine.new) }
 {
     let Some(number) = machine.hub() else {
         return;
@@ -109,9 +111,8 @@ fn hand_to<M: Machine>(machine: &mut M, hub: u64, signals: &mut Vec<Signal<M::It
 }
 
 impl<M: Machine> Node<M> {
-    ghost use Rattle.std.specs.Prelude.{◌≡◌, ◌+◌, ℕ, min, true};
-    ghost use Rattle.rsx_types.specs.declared.signal.Signal.{Signal as SignalSpec};
-    ghost use Rattle.rsx_tree.specs.Handed.{readers, has_room, is_room_for, times, IsHanded};
+    ghost use Rattle.std.specs.Prelude.{◌≡◌, min};
+    ghost use Rattle.rsx_tree.specs.Handed.{readers, has_room, IsHandedOut, IsHanded};
 
     /// How many nodes of the tree read the hub with this number, but at most `most`, where the root's own edge is live. What is
     /// behind an edge that isn't live reads none.
@@ -133,7 +134,9 @@ impl<M: Machine> Node<M> {
     /// Hands a signal of the hub to each node of the tree that reads it, out of a list that has it once for each; what else
     /// stands in the list stays. For an item there is room at all of them ([`Node::has_room`]).
     pub fn hand(&mut self, hub: u64, signals: &mut Vec<Signal<M::Item>>)
-        ensures { (s : SignalSpec M.Item) (k : ℕ) → signals.old.items ≡ times (k + readers M.Machine hub self.old) s → is_room_for s (has_room M.Machine hub self.old) ≡ true → IsHanded M.Machine hub s self.old self.new × (signals.new.items ≡ times k s) }
+        ensures {
+            IsHandedOut (readers M.Machine hub self.old) (has_room M.Machine hub self.old) signals.old.items signals.new.items
+                (λ s. IsHanded M.Machine hub s self.old self.new) }
     {
         hand_to(&mut self.machine, hub, signals);
         self.inputs.hand(hub, signals);
