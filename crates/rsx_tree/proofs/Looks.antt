@@ -10,7 +10,7 @@ use Rattle.rsx_tree.specs.declared.inputs.Inputs.TheViews.{More}
 use Rattle.rsx_tree.specs.declared.look.NodeMove.{NodeMove}
 use Rattle.rsx_tree.specs.declared.look.NodeMove.TheVariants.{Ask, Send, Pick, Row}
 use Rattle.rsx_tree.specs.Driven.{IsRestAt, IsRestOver, IsRowIdle}
-use Rattle.rsx_tree.specs.Stepped.{station, IsStill, can_pick_in, can_row_in, Station}
+use Rattle.rsx_tree.specs.Stepped.{station, IsStill, can_pick_in, can_row_in}
 use Rattle.rsx_tree.specs.Inputs.{size, place, can_ask_in, can_send_in}
 use Rattle.rsx_tree.specs.Look.{IsEnabledOver, IsEnabledIn, IsEnabledAt}
 use Rattle.rsx_tree.specs.Tree.{can_ask, can_send}
