@@ -59,7 +59,8 @@ impl<T: Drop> ScanReaction<T> for OutSlot<T> {
 }
 
 /// The seed of a `scan` needs no item.
-#[inline]
+// Were it inlined, its subtraction would be made for each operator.
+#[inline(never)]
 pub(crate) fn want(asked: u64) -> u64
     ensures { result ≡ asked - 1 }
 {

@@ -3,7 +3,7 @@
 //! An operator declines what it would answer with more than an item: a fault of the caller's function, and the last item of
 //! a `take`. It answers those by [`react`](rsx_operators::Operator::react).
 
-ghost use Rattle.std.specs.Prelude.{◌+◌, ◌≤◌, ℕ, length};
+ghost use Rattle.std.specs.Prelude.{◌+◌, ◌≤◌, ℕ, length, IfOk, IfErr};
 ghost use Rattle.rsx_types.specs.Meaning.{Meaning};
 ghost use Rattle.rsx_plain.specs.Passes.{GoesThrough};
 ghost use Rattle.rsx_operators.specs.declared.state.PlainState.{PlainState as StateSpec};
@@ -91,16 +91,17 @@ trait Through: Drop {
     ) -> Passed<Self>
         ensures { GoesThrough (O.meaning ops.now) (BufferFrom size gathered.old) self result (BufferFrom size gathered.new) };
 
-    /// The list that becomes full with the item.
+    /// The list that becomes full with the item. For want of memory the item comes back.
     fn through_full_buffer<O: Ops<Item = Self>>(
         self,
         alloc: Global,
         ops: &O,
         size: u64,
         gathered: &mut Buffered<Self>,
-    ) -> Passed<Self>
+    ) -> Result<Self, Self>
         requires { size ≤ length gathered.old + 1 }
-        ensures { GoesThrough (O.meaning ops.now) (BufferFrom size gathered.old) self result (BufferFrom size gathered.new) };
+        ensures ok { IfOk result (λ list. GoesThrough (O.meaning ops.now) (BufferFrom size gathered.old) self (Passed.Item list) (BufferFrom size gathered.new)) }
+        ensures err { IfErr result (λ item. GoesThrough (O.meaning ops.now) (BufferFrom size gathered.old) self (Passed.Declined item) (BufferFrom size gathered.new)) };
 
     /// The item where its key is new; where its key was seen it is counted.
     fn through_distinct<O: Ops<Item = Self>>(
@@ -174,7 +175,10 @@ impl<T: Drop> Through for T {
         gathered: &mut Buffered<T>,
     ) -> Passed<T> {
         if (gathered.items().len() as u64) >= size.saturating_sub(1) {
-            return self.through_full_buffer(alloc, ops, size, gathered);
+            return match self.through_full_buffer(alloc, ops, size, gathered) {
+                Ok(list) => Passed::Item(list),
+                Err(item) => Passed::Declined(item),
+            };
         }
         match gathered.push(self) {
             Ok(()) => Passed::Kept,
@@ -182,7 +186,8 @@ impl<T: Drop> Through for T {
         }
     }
 
-    // A list seldom becomes full, so this isn't inlined.
+    // A list seldom becomes full, so this isn't inlined. It answers a `Result`: a call that answers `Passed` as it is makes the
+    // compiler join the answers of all operators, and test again which of the three came.
     #[inline(never)]
     fn through_full_buffer<O: Ops<Item = T>>(
         self,
@@ -190,19 +195,14 @@ impl<T: Drop> Through for T {
         ops: &O,
         size: u64,
         gathered: &mut Buffered<T>,
-    ) -> Passed<T> {
-        if let Err(item) = gathered.push(self) {
-            return Passed::Declined(item);
-        }
+    ) -> Result<T, T> {
+        gathered.push(self)?;
         match ops.list(alloc, gathered.items()) {
             Ok(list) => {
                 gathered.clear();
-                Passed::Item(list)
+                Ok(list)
             }
-            Err(NoMemory) => match gathered.pop() {
-                Some(item) => Passed::Declined(item),
-                None => Passed::Kept,
-            },
+            Err(NoMemory) => Err(gathered.pop().unwrap()),
         }
     }
 

@@ -4,7 +4,7 @@ ghost use Rattle.std.specs.Prelude.{◌≡◌, ◌<◌, ◌≤◌, true, false, 
 ghost use Rattle.rsx_tree.specs.Edges.{IsAsked, IsPassed, can_ask_for, can_pass, closed_edge, closed_view, edge_view, is_live};
 ghost use Rattle.rsx_demand.specs.declared.TheConstants.{UNBOUNDED};
 
-use rsx_demand::Demand;
+use rsx_demand::{Demand, UNBOUNDED};
 use rsx_sources::Front;
 
 /// Whether signals still go over an edge.
@@ -61,8 +61,7 @@ impl Edge {
         requires { self.old.demand.asked < want }
         ensures { IsAsked want (edge_view self.old) (edge_view self.new) }
     {
-        let more = want - self.demand.asked;
-        self.demand.ask(more);
+        self.demand.asked = want.min(UNBOUNDED);
     }
 
     /// Whether such a signal can go over the edge: the edge is live, and an item was asked for (rule 1.1).

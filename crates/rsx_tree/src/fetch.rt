@@ -65,8 +65,11 @@ impl<M: Machine> Inputs<M> {
         match self {
             Inputs::End => None,
             Inputs::More(edge, sender, below, _) => {
-                'items: while *left > 0 {
+                'items: loop {
                     if !edge.can_carry(Front::Item) {
+                        if *left == 0 {
+                            return None;
+                        }
                         match ask_over(receiver, 0, asked, sent, edge) {
                             Ok(()) => *left -= 1,
                             Err(_) => return None,
@@ -97,7 +100,6 @@ impl<M: Machine> Inputs<M> {
                         }
                     }
                 }
-                None
             }
         }
     }

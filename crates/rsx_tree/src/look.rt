@@ -136,13 +136,12 @@ impl<M: Machine> Inputs<M> {
                 if !rests_over(receiver, input, asked, sent, edge, machine) {
                     return false;
                 }
-                if !below.is_end()
-                    && !below.is_idle(machine, 0, edge.demand.asked, edge.demand.sent)
-                {
-                    return false;
-                }
+                // Most nodes have one input. The look at what is below it is the last then, so it goes on in a loop.
                 if beside.is_end() {
-                    return true;
+                    return below.is_idle(machine, 0, edge.demand.asked, edge.demand.sent);
+                }
+                if !below.is_idle(machine, 0, edge.demand.asked, edge.demand.sent) {
+                    return false;
                 }
                 match input.checked_add(1) {
                     Some(next) => beside.is_idle(receiver, next, asked, sent),
@@ -263,7 +262,7 @@ fn can_send_signal<M: Machine>(receiver: &M, input: u64, edge: &Edge, sender: &M
     ensures { (m : Meaning M.Item) → result ≡ can_send_over M.Machine m receiver.now input (edge_view edge.now) sender.now }
 {
     match sender.front() {
-        Some(front) => receiver.can_take(input, front) && edge.can_carry(front),
+        Some(front) => edge.can_carry(front) && receiver.can_take(input, front),
         None => false,
     }
 }

@@ -1,4 +1,4 @@
-use Rattle.std.proofs.Common.{◌≡◌, ℕ, false}
+use Rattle.std.proofs.Common.{◌≡◌, ℕ, false, arith}
 use Rattle.std.specs.Box.{with_value}
 use Rattle.rsx_tree.specs.declared.inputs.Inputs.TheViews.{More}
 use Rattle.rsx_tree.proofs.Changes.{Rest}
@@ -23,12 +23,13 @@ taken g t c beside is =
     ]
 
 pub items-preserved-in-Ok : goal.items-preserved-in-Ok
-items-preserved-in-Ok g t c = (
-  λ beside is.
-      under_way_asked g.M.Machine (g.O.Ops.meaning c.args.ops.now) false 0 c.args.asked c.args.sent c.args.left.now c.items.left c.args.receiver.now c.args.self.now c.items.receiver c.items.receiver c.items.edge c.ask_over.new.edge c.items.sender c.items.sender c.items.below beside
-      (c.items.invariant.0 beside is) c.items-test.true (c.in-Ok.ensures.made c.items.sender),
-  c.items.invariant.1,
-)
+items-preserved-in-Ok g t c =
+    let some = c.if-left-eq0.false in (
+      λ beside is.
+          under_way_asked g.M.Machine (g.O.Ops.meaning c.args.ops.now) false 0 c.args.asked c.args.sent c.args.left.now c.items.left c.args.receiver.now c.args.self.now c.items.receiver c.items.receiver c.items.edge c.ask_over.new.edge c.items.sender c.items.sender c.items.below beside
+          (c.items.invariant.0 beside is) (omega (arith, some)) (c.in-Ok.ensures.made c.items.sender),
+      c.items.invariant.1,
+    )
 
 pub returns-in-Err : goal.returns-in-Err
 returns-in-Err g t c =
@@ -70,6 +71,6 @@ returns-in-Back g t c =
     (handed_back g.M.Machine m c.args.asked c.args.sent c.args.left.now c.match-pop_item.left c.hand_over.new.left c.args.receiver.now c.args.self.now c.items.receiver c.hand_over.new.receiver c.items.edge c.hand_over.new.edge out.0 c.hand_over.new.sender c.match-pop_item.below c.in-More.field-3
     out.1 (c.in-Back.ensures out.0 out.2))
 
-pub returns-after-items : goal.returns-after-items
-returns-after-items g t c =
+pub returns-then-left-eq0 : goal.returns-then-left-eq0
+returns-then-left-eq0 g t c =
     fetched_none g.M.Machine (g.O.Ops.meaning c.args.ops.now) c.args.asked c.args.sent c.args.left.now c.args.receiver.now c.args.self.now c.items.left c.items.receiver _ (c.items.invariant.0 c.in-More.field-3 c.in-More.is)
