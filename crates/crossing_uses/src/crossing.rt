@@ -45,24 +45,44 @@ fn number(signal: &Option<Signal<Val>>) -> i64 {
     }
 }
 
-/// What the root's queue gave in eight rounds of all moves, where so many items were asked for.
+/// Makes each move once: the Send of the source, the Take of the operator, and the operator's own Send.
+fn make_all(alloc: Global, tree: &mut Node<Sender>, asked: u64, taken: u64) {
+    let _ = tree.ask(0, asked, taken);
+    let _ = tree.inputs.make_row(alloc, &Demo, 0);
+    let _ = tree.send(alloc, &Demo, 0);
+    let _ = tree.machine.on_row(alloc, &Demo, asked, taken);
+}
+
+/// The number of the signal that a node with a queue gives.
+fn popped(alloc: Global, sender: &mut Sender) -> Result<i64, NoMemory> {
+    let signal = sender.pop_front(alloc, &Demo)?;
+    Ok(number(&signal))
+}
+
+/// Eight rounds of all moves, where so many items are asked for, and what the root's queue gave.
+fn rounds(
+    alloc: Global,
+    tree: &mut Node<Sender>,
+    asked: u64,
+    numbers: &mut Vec<i64>,
+) -> Result<(), NoMemory> {
+    for _ in 0..8 {
+        make_all(alloc, tree, asked, numbers.len() as u64);
+        let number = popped(alloc, &mut tree.machine)?;
+        if number >= 0 {
+            numbers.push(number)?;
+        }
+    }
+    Ok(())
+}
+
+/// What the root's queue gave in eight rounds.
 fn given(alloc: Global, count: u64, asked: u64) -> Result<Vec<i64>, NoMemory>
     requires { count ≤ 1000 }
 {
     let mut tree = doubled(alloc, count)?;
     let mut numbers = Vec::new(alloc);
-    for _ in 0..8 {
-        let taken = numbers.len() as u64;
-        let _ = tree.ask(0, asked, taken);
-        // The Send of the source, the Take of the operator, and the operator's own Send.
-        let _ = tree.inputs.make_row(alloc, &Demo, 0);
-        let _ = tree.send(alloc, &Demo, 0);
-        let _ = tree.machine.on_row(alloc, &Demo, asked, taken);
-        let signal = tree.machine.pop_front(alloc, &Demo)?;
-        if signal.is_some() {
-            numbers.push(number(&signal))?;
-        }
-    }
+    rounds(alloc, &mut tree, asked, &mut numbers)?;
     Ok(numbers)
 }
 
@@ -85,18 +105,29 @@ fn begun(alloc: Global) -> Result<Sender, NoMemory> {
     Ok(sender)
 }
 
+/// Puts back the signal that it gives, if it gives one.
+fn return_one(alloc: Global, sender: &mut Sender) -> Result<(), NoMemory> {
+    if let Some(signal) = sender.pop_front(alloc, &Demo)? {
+        sender.put_back(signal);
+    }
+    Ok(())
+}
+
+/// Five signals of it, each put back once before.
+fn returned(alloc: Global, sender: &mut Sender, numbers: &mut Vec<i64>) -> Result<(), NoMemory> {
+    for _ in 0..5 {
+        let _ = sender.on_row(alloc, &Demo, 9, 0);
+        return_one(alloc, sender)?;
+        numbers.push(popped(alloc, sender)?)?;
+    }
+    Ok(())
+}
+
 /// What it gives, where each signal is put back once.
 fn put_back(alloc: Global) -> Result<Vec<i64>, NoMemory> {
     let mut sender = begun(alloc)?;
     let mut numbers = Vec::new(alloc);
-    for _ in 0..5 {
-        let _ = sender.on_row(alloc, &Demo, 9, 0);
-        if let Some(signal) = sender.pop_front(alloc, &Demo)? {
-            sender.put_back(signal);
-        }
-        let signal = sender.pop_front(alloc, &Demo)?;
-        numbers.push(number(&signal))?;
-    }
+    returned(alloc, &mut sender, &mut numbers)?;
     Ok(numbers)
 }
 

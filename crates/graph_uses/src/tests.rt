@@ -3,7 +3,7 @@
 use rsx_demo::{Demo, Val};
 use rsx_graph::{Answer, Deliveries, Graph, Pumped, Refusal, Step, replay};
 use rsx_model::Expr;
-use rsx_types::{Ending, HubId, Move, NodeId, Signal, Stage, SubId, Tree};
+use rsx_types::{Ending, HubId, Move, NoMemory, NodeId, Signal, Stage, SubId, Tree};
 use std::alloc::Global;
 use std::test::Fail;
 
@@ -29,17 +29,23 @@ fn made(
 }
 
 /// `map double (range 2 3)`, which puts out 4, 6 and 8.
-fn doubled(alloc: Global) -> Result<Expr<Val>, Fail> {
+fn doubled(alloc: Global) -> Result<Expr<Val>, NoMemory> {
     let range = Box::new(alloc, Expr::Range(2, 3))?;
     Ok(Expr::Plain(Stage::Map(2), range))
+}
+
+/// Subscribes an expression, and asks for two items of it.
+fn begin(alloc: Global, graph: &mut Graph<Demo>, expr: &Expr<Val>) -> Result<(), Refusal> {
+    graph.subscribe(alloc, expr)?;
+    graph.request(SUB, 2)?;
+    Ok(())
 }
 
 /// A graph with one subscription, which asked for two items.
 fn subscribed(alloc: Global) -> Result<Graph<Demo>, Fail> {
     let mut graph = Graph::new(alloc, Demo)?;
     let expr = doubled(alloc)?;
-    graph.subscribe(alloc, &expr)?;
-    graph.request(SUB, 2)?;
+    begin(alloc, &mut graph, &expr)?;
     Ok(graph)
 }
 

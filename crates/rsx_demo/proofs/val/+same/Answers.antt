@@ -1,4 +1,4 @@
-use Rattle.std.proofs.Common.{◌≡◌, ◌∙◌, sym, ap, refl, length, Vec, Global}
+use Rattle.std.proofs.Common.{rules, ◌≡◌, ◌∙◌, sym, ap, refl, length, Vec, Global}
 use Rattle.rsx_demo.specs.declared.val.Val.{Val}
 use Rattle.rsx_demo.proofs.Lists.{items_of_one, differ_at}
 use Rattle.rsx_demo.proofs.val.+same.Goals as goal
@@ -18,3 +18,6 @@ is_same_list-returns-then-not-is_same_val-clause-no t c _ same =
     let other = c.as_slice-ys_items.ensures.value ∙ ap (λ (v : Vec Val Global). v.items) c.deref-2.ensures in
     let slices : c.as_slice-xs_items.result.now ≡ c.as_slice-ys_items.result.now = one ∙ lists ∙ sym other in
     differ_at _ _ c.loop-i.i _ _ c.loop-i-test.true c.index-xs_items-i.is c.index-ys_items-i.is (λ e. c.if-not-is_same_val.ensures.no refl e) slices
+
+pub is_same_val-returns-in-Int-Int-clause-yes : goal.is_same_val-returns-in-Int-Int-clause-yes
+is_same_val-returns-in-Int-Int-clause-yes t c = search rules

@@ -1,4 +1,4 @@
-use Rattle.std.proofs.Common.{refl, sym}
+use Rattle.std.proofs.Common.{refl, rules, sym}
 use Rattle.std.proofs.lemmas.List.{length-set}
 use Rattle.rsx_types.specs.declared.fault.NoMemory.{NoMemory}
 use Rattle.rsx_graph.proofs.Graphs.{free_there, pumped_there, rested_there}
@@ -28,3 +28,6 @@ returns-in-Err-clause-count g c = length-set c.args.self.now.subscriptions.items
 pub returns-in-Err-clause-memory : goal.returns-in-Err-clause-memory
 returns-in-Err-clause-memory g c = λ free.
     c.in-Err.ensures.memory (free_there (g.O.Ops.allocates c.args.self.now.ops) c.args.self.now.subscriptions.items c.args.sub.0 c.index_mut-subscription.result.now c.requires (sym c.index_mut-subscription.ensures.value) free)
+
+pub returns-in-Ok-clause-memory : goal.returns-in-Ok-clause-memory
+returns-in-Ok-clause-memory g c = search rules

@@ -1,4 +1,4 @@
-use Rattle.std.proofs.Common.{[]}
+use Rattle.std.proofs.Common.{rules, []}
 use Rattle.rsx_subscriber.specs.Past.{subscribed}
 use Rattle.rsx_graph.proofs.Graphs.{AllStand-push}
 use Rattle.rsx_graph.proofs.graph.Graph.subscribe.Goals as goal
@@ -10,3 +10,6 @@ returns-in-Ok-add-clause-stands g c = λ h s.
 
 pub returns-in-Ok-add-clause-effect : goal.returns-in-Ok-add-clause-effect
 returns-in-Ok-add-clause-effect g c = (c.in-Ok.subscription, c.in-Ok-add.ensures.ok, c.in-Ok.ensures.fresh)
+
+pub returns-in-Ok-add-clause-id : goal.returns-in-Ok-add-clause-id
+returns-in-Ok-add-clause-id g c = search rules

@@ -8,3 +8,9 @@ returns-clause-value g c = λ w next.
     let taken : takes c.args.self.now c.args.signal ≡ true = search rules in
     let after : c.match-signal.self ≡ took c.args.self.now c.args.signal = search rules in
     rw after (took_rest c.args.self.now c.args.signal taken w next)
+
+pub returns-then-not-can_take_in-clause-enabled : goal.returns-then-not-can_take_in-clause-enabled
+returns-then-not-can_take_in-clause-enabled g c = search rules
+
+pub returns-then-not-can_take_in-clause-ok : goal.returns-then-not-can_take_in-clause-ok
+returns-then-not-can_take_in-clause-ok g c = search rules

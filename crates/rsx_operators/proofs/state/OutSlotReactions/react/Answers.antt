@@ -27,3 +27,6 @@ returns-in-Buffer-Error-rules g c = search rules
 
 pub returns-in-Distinct-Next-rules : goal.returns-in-Distinct-Next-rules
 returns-in-Distinct-Next-rules g c = search rules
+
+pub react-requires-clause-some : goal.react-requires-clause-some
+react-requires-clause-some g c = search rules

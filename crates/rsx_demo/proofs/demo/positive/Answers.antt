@@ -1,0 +1,5 @@
+use Rattle.std.proofs.Common.{rules}
+use Rattle.rsx_demo.proofs.demo.positive.Goals as goal
+
+pub returns : goal.returns
+returns c = search rules

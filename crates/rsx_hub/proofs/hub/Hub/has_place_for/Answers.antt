@@ -1,0 +1,5 @@
+use Rattle.std.proofs.Common.{rules}
+use Rattle.rsx_hub.proofs.hub.Hub.has_place_for.Goals as goal
+
+pub returns : goal.returns
+returns g c = search rules
