@@ -4,6 +4,8 @@
 #[cfg(test)]
 mod hubs;
 #[cfg(test)]
+mod leaves;
+#[cfg(test)]
 mod limits;
 #[cfg(test)]
 mod members;

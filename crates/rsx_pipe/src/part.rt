@@ -358,8 +358,7 @@ impl<T: Drop> Part<T> {
         budget: u32,
         out: &mut SignalQueue<T>,
     ) -> Result<Pumped, NoMemory>
-        ensures pumped {
-            (n : ℕ) × HasEnded (O.meaning ops.now) budget n self.new out.new result
+        ensures pumped { (n : ℕ) × HasEnded (O.meaning ops.now) budget n self.new out.new result
             × IsPumped (O.meaning ops.now) n self.old out.old self.new out.new }
 
         // Idle means delivered.

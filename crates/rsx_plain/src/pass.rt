@@ -111,9 +111,8 @@ trait Through: Drop {
         keys: &mut Keys,
         repeated: &mut u64,
     ) -> Passed<Self>
-        ensures {
-            GoesThrough (O.meaning ops.now) (DistinctFrom function keys.old repeated.old) self result
-                (DistinctFrom function keys.new repeated.new) };
+        ensures { GoesThrough (O.meaning ops.now) (DistinctFrom function keys.old repeated.old) self result
+            (DistinctFrom function keys.new repeated.new) };
 }
 
 impl<T: Drop> Through for T {

@@ -179,7 +179,7 @@ pub trait Machine {
     fn pop_item<O: Ops<Item = Self::Item>>(&mut self, alloc: Global, ops: &O) -> Option<Self::Item>
         ensures some { IfSome result (λ x.
             IsItemOut (comes_out (O.meaning ops.now)) (waiting (O.meaning ops.now))
-                popped recorded counted ended done self.old x self.new) }
+            popped recorded counted ended done self.old x self.new) }
         ensures alike { StaysAlike reads pop_allocates signal_allocates step_allocates self.old self.new }
         ensures none { IfNone result (self.new ≡ self.old) };
 
@@ -194,9 +194,8 @@ pub trait Machine {
         input: u64,
         item: Self::Item,
     ) -> Passed<Self::Item>
-        ensures passed {
-            IsPassed (comes_out (O.meaning ops.now)) (waiting (O.meaning ops.now))
-                takes popped recorded counted ended done self.old input item result self.new }
+        ensures passed { IsPassed (comes_out (O.meaning ops.now)) (waiting (O.meaning ops.now))
+            takes popped recorded counted ended done self.old input item result self.new }
         ensures alike { StaysAlike reads pop_allocates signal_allocates step_allocates self.old self.new };
 
     /// The number of the hub that the node reads, as long as it takes that hub's signals in.

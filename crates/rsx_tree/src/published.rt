@@ -53,9 +53,8 @@ impl<M: Machine> Inputs<M> {
     /// Hands a signal of the hub to each node of the row, and below it, that reads the hub, out of a list that has it once for
     /// each.
     pub(crate) fn hand(&mut self, hub: u64, signals: &mut Vec<Signal<M::Item>>)
-        ensures {
-            IsHandedOut (readers_in M.Machine hub self.old) (has_room_in M.Machine hub self.old) signals.old.items signals.new.items
-                (λ s. IsRowHanded M.Machine hub s self.old self.new) }
+        ensures { IsHandedOut (readers_in M.Machine hub self.old) (has_room_in M.Machine hub self.old) signals.old.items signals.new.items
+            (λ s. IsRowHanded M.Machine hub s self.old self.new) }
     {
         match self {
             Inputs::End => {}
@@ -94,9 +93,8 @@ fn has_room_for<M: Machine>(machine: &M, hub: u64) -> bool
 
 /// Hands the last signal of a list to the node, where it reads the hub.
 fn hand_to<M: Machine>(machine: &mut M, hub: u64, signals: &mut Vec<Signal<M::Item>>)
-    ensures {
-        IsHandedOut (reader_at M.Machine hub machine.old) (room_at M.Machine hub machine.old) signals.old.items signals.new.items
-            (λ s. IsNodeHanded M.Machine hub s machine.old machine.new) }
+    ensures { IsHandedOut (reader_at M.Machine hub machine.old) (room_at M.Machine hub machine.old) signals.old.items signals.new.items
+        (λ s. IsNodeHanded M.Machine hub s machine.old machine.new) }
 {
     let Some(number) = machine.hub() else {
         return;
@@ -134,9 +132,8 @@ impl<M: Machine> Node<M> {
     /// Hands a signal of the hub to each node of the tree that reads it, out of a list that has it once for each; what else
     /// stands in the list stays. For an item there is room at all of them ([`Node::has_room`]).
     pub fn hand(&mut self, hub: u64, signals: &mut Vec<Signal<M::Item>>)
-        ensures {
-            IsHandedOut (readers M.Machine hub self.old) (has_room M.Machine hub self.old) signals.old.items signals.new.items
-                (λ s. IsHanded M.Machine hub s self.old self.new) }
+        ensures { IsHandedOut (readers M.Machine hub self.old) (has_room M.Machine hub self.old) signals.old.items signals.new.items
+            (λ s. IsHanded M.Machine hub s self.old self.new) }
     {
         hand_to(&mut self.machine, hub, signals);
         self.inputs.hand(hub, signals);
