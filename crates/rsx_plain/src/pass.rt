@@ -100,8 +100,10 @@ trait Through: Drop {
         gathered: &mut Buffered<Self>,
     ) -> Result<Self, Self>
         requires { size ≤ length gathered.old + 1 }
-        ensures ok { IfOk result (λ list. GoesThrough (O.meaning ops.now) (BufferFrom size gathered.old) self (Passed.Item list) (BufferFrom size gathered.new)) }
-        ensures err { IfErr result (λ item. GoesThrough (O.meaning ops.now) (BufferFrom size gathered.old) self (Passed.Declined item) (BufferFrom size gathered.new)) };
+        ensures ok { IfOk result (λ list.
+            GoesThrough (O.meaning ops.now) (BufferFrom size gathered.old) self (Passed.Item list) (BufferFrom size gathered.new)) }
+        ensures err { IfErr result (λ item.
+            GoesThrough (O.meaning ops.now) (BufferFrom size gathered.old) self (Passed.Declined item) (BufferFrom size gathered.new)) };
 
     /// The item where its key is new; where its key was seen it is counted.
     fn through_distinct<O: Ops<Item = Self>>(
