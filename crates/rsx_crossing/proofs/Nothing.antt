@@ -1,6 +1,6 @@
 -- Nothing stands behind a node into which nothing comes.
 use Rattle.std.proofs.Common.{◌≡◌, ℕ, zero, suc, List, [], ◌∷◌, drop, Option, Some, None, refl}
-use Rattle.std.proofs.Common.{Bool, false, ap, sym, ◌∙◌, option_map}
+use Rattle.std.proofs.Common.{false, ap, sym, ◌∙◌, option_map}
 use Rattle.rsx_types.specs.Meaning.{Meaning}
 use Rattle.rsx_types.specs.Notes.{note_then}
 use Rattle.rsx_types.specs.Stream.{Stream}

@@ -10,7 +10,6 @@ use Rattle.rsx_types.specs.Notes.{unchosen}
 use Rattle.rsx_types.specs.Stream.{Stream}
 use Rattle.rsx_sources.specs.Counts.{AreWithin, CanStep, IsHungry, ends_input}
 use Rattle.rsx_sources.specs.Machine.{Incoming, front_of, incoming_of}
-use Rattle.rsx_sources.specs.Steps.{StaysAlike}
 use Rattle.rsx_sources.specs.declared.machine.Front.{Front}
 use Rattle.rsx_sources.specs.declared.machine.Front.TheVariants.{Item, Completion as CompletionFront, Failure as FailureFront}
 use Rattle.rsx_sources.specs.declared.machine.Machine.{Ghosts as Machine}
@@ -18,7 +17,7 @@ use Rattle.rsx_crossing.specs.declared.queued.Queued.{Queued}
 use Rattle.rsx_crossing.specs.declared.tail.Tail.{Tail}
 use Rattle.rsx_crossing.specs.declared.tail.Tail.TheVariants.{Open, Completion, Failure, Taken}
 use Rattle.rsx_crossing.specs.Held.{is_open, held_then, first_held, first_shown, comes_in_at}
-use Rattle.rsx_crossing.specs.Queued.{out, queued_comes_out, queued_waiting, queued_shown, queued_takes, queued_picks, queued_rows, queued_ended, queued_done, queued_counted, queued_wanted, queued_popped, QueuedAlike, node_sent, may_go, can_move, pick_of, row_of, is_ended, ended_in, queued_reads, reads_in, queued_allocates, queued_step_allocates}
+use Rattle.rsx_crossing.specs.Queued.{out, queued_comes_out, queued_waiting, queued_shown, queued_takes, queued_picks, queued_rows, queued_ended, queued_done, queued_counted, queued_wanted, queued_popped, QueuedAlike, node_sent, may_go, can_move, pick_of, row_of, is_ended, ended_in, queued_reads, reads_in}
 
 -- ---- the laws of the node inside
 

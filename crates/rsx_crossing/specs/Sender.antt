@@ -1,12 +1,12 @@
 -- A node whose edge crosses to another region or doesn't.
-use Rattle.std.specs.Prelude.{◌≡◌, ℕ, ◌<◌, Bool, true, false, List, Option, Some, None, option_map, ◌⊎◌, ⊤, ◌^◌, ◌∷◌, ◌++◌, length, refl}
+use Rattle.std.specs.Prelude.{◌≡◌, ℕ, ◌<◌, Bool, true, false, List, Option, Some, None, option_map, ◌∷◌, ◌++◌, length}
 use Rattle.std.proofs.Common.{inl, inr}
 use Rattle.rsx_types.specs.declared.note.Note.{Note}
 use Rattle.rsx_types.specs.declared.signal.Signal.{Signal}
 use Rattle.rsx_types.specs.Meaning.{Meaning, Allocates}
 use Rattle.rsx_types.specs.Notes.{unchosen}
 use Rattle.rsx_types.specs.Stream.{Stream}
-use Rattle.rsx_sources.specs.Counts.{AreWithin, CountsIn, CountsStep, CanStep, IsHungry, ends_input, IsHungryAt}
+use Rattle.rsx_sources.specs.Counts.{AreWithin, CountsIn, CountsStep, CanStep, IsHungry, ends_input}
 use Rattle.rsx_sources.specs.Machine.{Incoming, front_of, incoming_of}
 use Rattle.rsx_sources.specs.Steps.{AllocatesAlike, StaysAlike}
 use Rattle.rsx_sources.specs.Reading.{Reading, takes_published}

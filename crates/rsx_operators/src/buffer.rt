@@ -2,7 +2,7 @@
 
 ghost use Rattle.std.specs.Prelude.{◌≡◌, ◌*◌, min, List, [], IfOk, IfErr};
 ghost use Rattle.rsx_types.specs.declared.signal.Signal.{Signal};
-ghost use Rattle.rsx_types.specs.declared.signal.Signal.TheVariants.{Next, Complete};
+ghost use Rattle.rsx_types.specs.declared.signal.Signal.TheVariants.{Next, Complete, Error};
 ghost use Rattle.rsx_operators.specs.Emission.{item_ended};
 ghost use Rattle.rsx_operators.specs.Prepared.{IsPreparation, list_at_end as at_end, list_due as due};
 ghost use Rattle.rsx_operators.specs.State.{IsReaction};
@@ -12,7 +12,7 @@ use crate::prepared::{Emission, Pending, Prepared, without_item};
 use rsx_collections::Buffered;
 use rsx_demand::UNBOUNDED;
 use rsx_sources::OutSlot;
-use rsx_types::{Ending, NoMemory, Ops, Signal};
+use rsx_types::{Cause, Ending, NoMemory, Ops, Signal};
 use std::alloc::Global;
 
 /// What a `buffer` puts out.
@@ -44,6 +44,19 @@ pub(crate) trait BufferReaction<T: Drop> {
     ) -> Result<(), Signal<T>>
         requires { slot self.old ≡ [] }
         ensures { IsReaction (O.meaning ops.now) (O.allocates ops.now) (BufferFrom size gathered.old) Complete
+            result (slot self.new) (BufferFrom size gathered.new) };
+
+    /// Lets the gathered items go, and puts the failure into the empty slot.
+    fn fail<O: Ops<Item = T>>(
+        &mut self,
+        alloc: Global,
+        ops: &O,
+        size: u64,
+        gathered: &mut Buffered<T>,
+        cause: Cause,
+    ) -> Result<(), Signal<T>>
+        requires { slot self.old ≡ [] }
+        ensures { IsReaction (O.meaning ops.now) (O.allocates ops.now) (BufferFrom size gathered.old) (Error cause)
             result (slot self.new) (BufferFrom size gathered.new) };
 }
 
@@ -92,6 +105,19 @@ impl<T: Drop> BufferReaction<T> for OutSlot<T> {
         }
         gathered.clear();
         self.put(Signal::Complete);
+        Ok(())
+    }
+
+    fn fail<O: Ops<Item = T>>(
+        &mut self,
+        alloc: Global,
+        ops: &O,
+        size: u64,
+        gathered: &mut Buffered<T>,
+        cause: Cause,
+    ) -> Result<(), Signal<T>> {
+        self.put(Signal::Error(cause));
+        gathered.clear();
         Ok(())
     }
 }

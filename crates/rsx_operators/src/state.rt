@@ -258,8 +258,8 @@ impl<T: Drop> Reactions<T> for OutSlot<T> {
                 (), self.gather(alloc, ops, *size, gathered, item);
             PlainState::Buffer { size, gathered }, Signal::Complete =>
                 (), self.complete_list(alloc, ops, *size, gathered);
-            PlainState::Buffer { size: _, gathered }, Signal::Error(cause) =>
-                (), { gathered.clear(); self.put(Signal::Error(cause)); Ok(()) };
+            PlainState::Buffer { size, gathered }, Signal::Error(cause) =>
+                (), self.fail(alloc, ops, *size, gathered, cause);
             PlainState::Distinct { function, keys, repeated }, Signal::Next(item) =>
                 (), self.distinct(ops, *function, keys, repeated, item);
             _, ending => (), { self.put(ending); Ok(()) };

@@ -98,6 +98,34 @@ impl<T: Drop> Prefetch<T> {
         Some(item)
     }
 
+    /// Takes the front item out and doesn't count it. It can be put back ([`Prefetch::put_front`]), or be counted after all
+    /// ([`Prefetch::count_taken`]). An empty queue stays as it is.
+    pub fn lift(&mut self) -> Option<T>
+        ensures front { IfSome result (λ item. self.old.items ≡ item ∷ self.new.items) }
+        ensures empty { IfNone result (self.old.items ≡ []) }
+        ensures state { self.new ≡ queue (drop 1 self.old.items) self.old.capacity self.old.taken }
+        ensures room { IfSome result (λ item. length self.new.items < self.new.capacity) }
+    {
+        self.ring.pop_front()
+    }
+
+    /// Puts an item in front of the others. The queue has room for it ([`Prefetch::has_room`]).
+    pub fn put_front(&mut self, item: T)
+        requires { length self.old.items < self.old.capacity }
+        ensures { self.new ≡ queue (item ∷ self.old.items) self.old.capacity self.old.taken }
+    {
+        // There is room, so the item is not handed back.
+        let _ = self.ring.try_push_front(item);
+    }
+
+    /// Counts one more item as taken. The count stops at 2^63 - 1.
+    pub fn count_taken(&mut self)
+        ensures { self.new ≡ queue self.old.items self.old.capacity (saturating_total self.old.taken 1) }
+    {
+        let taken = saturating_total(self.taken, 1);
+        self.taken = taken;
+    }
+
     /// The front item, the next that [`Prefetch::take`] gives.
     pub fn front(&self) -> Option<&T>
         ensures { option_copied result ≡ slice_get self.now.items 0 }

@@ -1,30 +1,17 @@
 -- What a signal of a hub that was handed to a tree changes, and what it doesn't.
-use Rattle.std.proofs.Common.{◌≡◌, ◌⊎◌, inl, inr, ℕ, zero, suc, ◌+◌, ◌-◌, Bool, true, false, ◌&&◌, ◌||◌, nat_eq, if◌then◌else◌, List, [], ◌∷◌, ◌++◌, length, Option, Some, None, Result, Ok, Err, option_map, option_and_then, slice_get, refl, ap, sym, ◌∙◌, subst, arith}
+use Rattle.std.proofs.Common.{◌≡◌, ℕ, zero, suc, ◌+◌, Bool, true, false, ◌&&◌, if◌then◌else◌, List, [], ◌∷◌, ◌++◌, Option, Some, None, Result, Ok, Err, refl, ap, sym, ◌∙◌, subst, arith}
 use Rattle.std.specs.Prelude.{OnOk, OnErr}
-use Rattle.std.proofs.lemmas.Bool.Decides.{nat_tests}
-use Rattle.rsx_types.specs.Meaning.{Meaning, Allocates}
-use Rattle.rsx_types.specs.Stream.{Stream}
-use Rattle.rsx_types.specs.declared.note.Note.{Note}
 use Rattle.rsx_types.specs.declared.signal.Signal.{Signal}
 use Rattle.rsx_types.specs.declared.signal.Signal.TheVariants.{Next, Complete, Error}
-use Rattle.rsx_sources.specs.Counts.{CountsStep, ends_input, one_more}
-use Rattle.rsx_sources.specs.Machine.{Incoming, incoming_of}
-use Rattle.rsx_sources.specs.Reading.{Reading, IsNextAt, IsNextIn, IsReadOn, published_at, reads_hub, reading_after, takes_published}
+use Rattle.rsx_sources.specs.Counts.{CountsStep}
+use Rattle.rsx_sources.specs.Reading.{Reading, IsReadOn, reads_hub, takes_published}
 use Rattle.rsx_sources.specs.Steps.{AllocatesAlike}
 use Rattle.rsx_sources.specs.declared.machine.Machine.{Ghosts as Machine}
 use Rattle.rsx_tree.specs.declared.edge.Edge.{Edge}
-use Rattle.rsx_tree.specs.declared.edge.EdgeState.TheVariants.{Live}
-use Rattle.rsx_tree.specs.declared.inputs.Inputs.{Inputs, End, More'}
+use Rattle.rsx_tree.specs.declared.inputs.Inputs.{Inputs}
 use Rattle.rsx_tree.specs.declared.inputs.Inputs.TheViews.{More}
-use Rattle.rsx_tree.specs.declared.node.Node.{Node}
-use Rattle.rsx_tree.specs.Allocates.{node_allocates, row_allocates, over_allocates, tree_allocates}
-use Rattle.rsx_tree.specs.Balance.{sent_over, IsOwnerBalanced, IsRowBalanced, IsBalanced}
-use Rattle.rsx_tree.specs.Changed.{Hold}
-use Rattle.rsx_tree.specs.Edges.{edge_view, is_live}
-use Rattle.rsx_tree.specs.Handed.{reader_at, readers_in, readers, room_at, has_room_in, has_room, is_room_for, times, IsTakenBy, IsTakenWhere, IsNodeHanded, OneOf, IsRowHanded, IsNextOf, counts_after, IsHanded}
-use Rattle.rsx_tree.specs.Inputs.{size, comes_in, out_of, beside_of, through, notes_of, edges as edges_in}
-use Rattle.rsx_tree.specs.Reads.{IsReadAt, IsRowReadAt, IsTreeReadAt}
-use Rattle.rsx_tree.specs.Tree.{comes_out, notes, edges}
+use Rattle.rsx_tree.specs.Edges.{is_live}
+use Rattle.rsx_tree.specs.Handed.{reader_at, readers_in, room_at, has_room_in, is_room_for, times, IsTakenBy, IsTakenWhere, IsNodeHanded, OneOf, IsRowHanded}
 use Rattle.std.specs.Box.{with_value}
 use Rattle.rsx_tree.proofs.Changes.{Rest}
 

@@ -1,5 +1,5 @@
 -- What still comes in, where nothing more is chosen.
-use Rattle.std.proofs.Common.{◌≡◌, ◌⊎◌, inl, inr, ℕ, ◌+◌, Bool, true, false, List, [], ◌∷◌, ◌++◌, length, Option, Some, None, option_map, slice_get, refl, ap, sym, ◌∙◌, subst, append_assoc, length-append}
+use Rattle.std.proofs.Common.{◌≡◌, ◌⊎◌, inl, inr, ℕ, ◌+◌, Bool, true, false, List, [], ◌∷◌, ◌++◌, length, Some, None, option_map, slice_get, refl, ap, sym, ◌∙◌, subst, append_assoc, length-append}
 use Rattle.std.proofs.lemmas.List.{append-nil}
 use Rattle.rsx_types.specs.Meaning.{Meaning}
 use Rattle.rsx_types.specs.Notes.{note_then, unchosen}
@@ -10,15 +10,13 @@ use Rattle.rsx_sources.specs.Machine.{Incoming, incoming_of}
 use Rattle.rsx_sources.specs.Reading.{IsBehind, IsResidualOf}
 use Rattle.rsx_sources.specs.declared.machine.Machine.{Ghosts as Machine}
 use Rattle.rsx_tree.specs.declared.edge.Edge.{Edge}
-use Rattle.rsx_tree.specs.declared.edge.EdgeState.{EdgeState}
-use Rattle.rsx_tree.specs.declared.edge.EdgeState.TheVariants.{Live}
 use Rattle.rsx_tree.specs.declared.inputs.Inputs.{Inputs, End, More, More'}
 use Rattle.rsx_tree.proofs.Changes.{Rest}
 use Rattle.rsx_tree.specs.declared.node.Node.{Node}
-use Rattle.rsx_tree.specs.Balance.{sent_over, IsOwnerBalanced, IsRowBalanced, IsBalanced}
+use Rattle.rsx_tree.specs.Balance.{sent_over, IsOwnerBalanced, IsRowBalanced}
 use Rattle.rsx_tree.specs.Changed.{Hold}
 use Rattle.rsx_tree.specs.Edges.{is_live}
-use Rattle.rsx_tree.specs.Inputs.{size, comes_in, out_of, beside_of, through, IsUnchosen}
+use Rattle.rsx_tree.specs.Inputs.{size, comes_in, out_of, beside_of, IsUnchosen}
 use Rattle.rsx_tree.specs.Tree.{comes_out, IsUnchosen as IsTreeUnchosen}
 use Rattle.rsx_tree.specs.Residual.{IsRowBehind, AgreeFrom, IsResidual, IsTreeResidual}
 

@@ -1,5 +1,5 @@
 -- A tree whose nodes took in a signal of the hub that they read.
-use Rattle.std.proofs.Common.{◌≡◌, ◌⊎◌, inl, inr, ℕ, zero, suc, ◌+◌, Bool, true, false, ◌||◌, nat_eq, if◌then◌else◌, List, [], ◌∷◌, ◌++◌, Option, Some, None, option_map, slice_get, refl, ap, sym, ◌∙◌, subst, arith}
+use Rattle.std.proofs.Common.{◌≡◌, ◌⊎◌, inl, inr, ℕ, zero, suc, ◌+◌, Bool, true, false, ◌||◌, nat_eq, if◌then◌else◌, List, [], ◌∷◌, ◌++◌, Option, Some, None, slice_get, refl, ap, sym, ◌∙◌, subst, arith}
 use Rattle.std.proofs.lemmas.Bool.Decides.{nat_tests}
 use Rattle.rsx_types.specs.Meaning.{Meaning, Allocates}
 use Rattle.rsx_types.specs.Stream.{Stream}
@@ -11,14 +11,11 @@ use Rattle.rsx_sources.specs.Machine.{incoming_of}
 use Rattle.rsx_sources.specs.Reading.{Reading, IsNextAt, IsNextIn, published_at, reads_hub, reading_after}
 use Rattle.rsx_sources.specs.Steps.{AllocatesAlike}
 use Rattle.rsx_sources.specs.declared.machine.Machine.{Ghosts as Machine}
-use Rattle.rsx_tree.specs.declared.edge.Edge.{Edge}
-use Rattle.rsx_tree.specs.declared.edge.EdgeState.TheVariants.{Live}
 use Rattle.rsx_tree.specs.declared.inputs.Inputs.{Inputs, End, More'}
-use Rattle.rsx_tree.specs.declared.node.Node.{Node}
-use Rattle.rsx_tree.specs.Allocates.{node_allocates, row_allocates, over_allocates}
+use Rattle.rsx_tree.specs.Allocates.{node_allocates, row_allocates}
 use Rattle.rsx_tree.specs.Balance.{sent_over, IsOwnerBalanced, IsRowBalanced}
 use Rattle.rsx_tree.specs.Edges.{edge_view, is_live}
-use Rattle.rsx_tree.specs.Handed.{reader_at, readers_in, IsTakenBy, IsTakenWhere, IsNodeHanded, OneOf, IsRowHanded, IsNextOf, counts_after, IsHanded}
+use Rattle.rsx_tree.specs.Handed.{reader_at, readers_in, IsTakenWhere, IsNodeHanded, OneOf, IsRowHanded, IsNextOf, counts_after, IsHanded}
 use Rattle.rsx_tree.specs.Inputs.{size, comes_in, out_of, beside_of, notes_of, edges as edges_in}
 use Rattle.rsx_tree.specs.Reads.{IsReadAt, IsRowReadAt}
 

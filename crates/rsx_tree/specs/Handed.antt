@@ -13,7 +13,7 @@ use Rattle.rsx_tree.specs.declared.inputs.Inputs.{Inputs, End, More'}
 use Rattle.rsx_tree.specs.declared.node.Node.{Node}
 use Rattle.rsx_tree.specs.Allocates.{tree_allocates}
 use Rattle.rsx_tree.specs.Balance.{IsBalanced}
-use Rattle.rsx_tree.specs.Edges.{EdgeView, is_live}
+use Rattle.rsx_tree.specs.Edges.{is_live}
 use Rattle.rsx_tree.specs.Reads.{IsTreeReadAt}
 use Rattle.rsx_tree.specs.Tree.{comes_out, edges, notes}
 

@@ -1,4 +1,4 @@
-use Rattle.std.proofs.Common.{arith}
+use Rattle.std.proofs.Common.{arith, rules}
 use Rattle.rsx_types.specs.declared.signal.Signal.TheVariants.{Next}
 use Rattle.rsx_tree.proofs.Alike.{alike_before}
 use Rattle.rsx_tree.proofs.Fetches.{sent_over}
@@ -17,3 +17,6 @@ returns-in-Item g c = λ offering out.
       p.1.goes_on,
       (p.2, last),
     )
+
+pub returns-then-left-eq0 : goal.returns-then-left-eq0
+returns-then-left-eq0 g c = search rules

@@ -1,4 +1,4 @@
-use Rattle.std.proofs.Common.{◌≡◌, sym, ◌∙◌, true, false}
+use Rattle.std.proofs.Common.{◌≡◌, sym, ◌∙◌, true, false, rules}
 use Rattle.rsx_sources.specs.declared.machine.NotMade.{NotMade}
 use Rattle.rsx_sources.specs.declared.machine.NotMade.TheVariants.{NotEnabled, NoMemory}
 use Rattle.rsx_tree.proofs.Alike.{send_free, step_free}
@@ -36,3 +36,9 @@ returns-in-Err-NoMemory-clause-memory g c = λ free. absurd (never c.in-Err-NoMe
 pub returns-in-Err-step_over-clause-memory : goal.returns-in-Err-step_over-clause-memory
 returns-in-Err-step_over-clause-memory g c = λ free.
     c.in-Err-step_over.ensures.memory (step_free g.M.Machine (g.O.Ops.allocates c.args.ops.now) c.args.receiver.now c.args.sender.now c.send_over.new.sender free c.in-Err-NotEnabled.ensures.same.2)
+
+pub returns-in-Ok-true-clause-neither : goal.returns-in-Ok-true-clause-neither
+returns-in-Ok-true-clause-neither g c = search rules
+
+pub returns-in-Ok-true-clause-same : goal.returns-in-Ok-true-clause-same
+returns-in-Ok-true-clause-same g c = search rules

@@ -1,4 +1,4 @@
-use Rattle.std.proofs.Common.{◌≡◌, ◌++◌, ◌∷◌, [], ap, sym, ◌∙◌, true, nat_eq, Option, Some, None, ℕ, option_map, rules, arith}
+use Rattle.std.proofs.Common.{◌≡◌, sym, ◌∙◌, true, Option, Some, None, ℕ, option_map, rules, arith}
 use Rattle.std.proofs.lemmas.Bool.Decides.{nat_tests}
 use Rattle.rsx_sources.specs.Reading.{Reading, reads_hub, hub_of}
 use Rattle.rsx_tree.proofs.Handing.{handed_to}
@@ -13,3 +13,6 @@ returns-in-Some-pop g c s k =
     found : (o : Option Reading) (n h : ℕ) → option_map hub_of o ≡ Some n → n ≡ h → reads_hub h o ≡ true
     found None n h e f = cc
     found (Some r) n h e f = let q : r.hub ≡ n = cc in grind (arith, nat_tests, q, f)
+
+pub returns-then-number-hub : goal.returns-then-number-hub
+returns-then-number-hub g c = search rules

@@ -1,5 +1,4 @@
-use Rattle.std.proofs.Common.{◌≡◌, false, [], refl, rules}
-use Rattle.rsx_crossing.specs.Held.{is_open, held_then}
+use Rattle.std.proofs.Common.{[], refl, rules}
 use Rattle.rsx_crossing.proofs.Nothing.{closed_out}
 use Rattle.rsx_crossing.proofs.queued.QueuedMachine.residual.Goals as goal
 

@@ -1,4 +1,5 @@
-use Rattle.std.proofs.Common.{rules}
+use Rattle.std.proofs.Common.{arith, rules}
+use Rattle.rsx_operators.proofs.Prepares.{popped_list, popped_item}
 use Rattle.rsx_operators.proofs.state.PlainState.roll_back.Goals as goal
 
 pub returns-in-Nothing-clause-state : goal.returns-in-Nothing-clause-state
@@ -27,3 +28,6 @@ returns-in_default g c = search rules
 
 pub returns : goal.returns
 returns g c = search rules
+
+pub returns-in-Distinct-clause-state : goal.returns-in-Distinct-clause-state
+returns-in-Distinct-clause-state g c = grind (arith, popped_list, popped_item)

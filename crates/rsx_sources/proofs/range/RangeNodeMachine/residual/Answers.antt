@@ -11,3 +11,6 @@ loop-at-preserved g c =
       room = search rules;
       counted = search rules;
     }
+
+pub returns : goal.returns
+returns g c = search rules

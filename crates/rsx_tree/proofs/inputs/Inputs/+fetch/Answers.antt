@@ -1,4 +1,4 @@
-use Rattle.std.proofs.Common.{◌≡◌, ℕ, false, arith}
+use Rattle.std.proofs.Common.{◌≡◌, ℕ, false, arith, rules}
 use Rattle.std.specs.Box.{with_value}
 use Rattle.rsx_tree.specs.declared.inputs.Inputs.TheViews.{More}
 use Rattle.rsx_tree.proofs.Changes.{Rest}
@@ -74,3 +74,9 @@ returns-in-Back g t c =
 pub returns-then-left-eq0 : goal.returns-then-left-eq0
 returns-then-left-eq0 g t c =
     fetched_none g.M.Machine (g.O.Ops.meaning c.args.ops.now) c.args.asked c.args.sent c.args.left.now c.args.receiver.now c.args.self.now c.items.left c.items.receiver _ (c.items.invariant.0 c.in-More.field-3 c.in-More.is)
+
+pub hand_over-requires-after_bounds : goal.hand_over-requires-after_bounds
+hand_over-requires-after_bounds g t c κs within = search rules
+
+pub items-smaller-in-Ok : goal.items-smaller-in-Ok
+items-smaller-in-Ok g t c = search rules

@@ -1,4 +1,4 @@
-use Rattle.std.proofs.Common.{arith}
+use Rattle.std.proofs.Common.{arith, rules}
 use Rattle.rsx_tree.specs.Stepped.{IsPickedHere}
 use Rattle.rsx_tree.proofs.Steps.{stepped_here, stepped_beside, stepped_below}
 use Rattle.rsx_tree.proofs.inputs.Inputs.+pick.Goals as goal
@@ -17,3 +17,15 @@ pub returns-in-Ok-pick-2-clause-made : goal.returns-in-Ok-pick-2-clause-made
 returns-in-Ok-pick-2-clause-made g t c =
     stepped_below (IsPickedHere g.M.Machine (g.O.Ops.meaning c.args.ops.now) c.args.input) g.M.Machine.ended c.args.self.now c.in-More.edge c.in-More.machine c.in-More.below c.in-More.beside c.deref.result.now c.deref_mut-in-More.result.now c.pick-in-More.new.self c.args.at c.count_up_to-inside.result
     c.in-More.is c.deref.ensures c.deref_mut-in-More.ensures.value c.count_up_to-inside.ensures (omega arith) c.if-at-inside.false c.in-Ok-pick-2.ensures.made
+
+pub returns-in-Err-pick-clause-same : goal.returns-in-Err-pick-clause-same
+returns-in-Err-pick-clause-same g t c = search rules
+
+pub returns-in-Err-pick-2-clause-err : goal.returns-in-Err-pick-2-clause-err
+returns-in-Err-pick-2-clause-err g t c = search rules
+
+pub returns-in-Err-pick-2-clause-memory : goal.returns-in-Err-pick-2-clause-memory
+returns-in-Err-pick-2-clause-memory g t c = search rules
+
+pub returns-in-Err-pick-2-clause-same : goal.returns-in-Err-pick-2-clause-same
+returns-in-Err-pick-2-clause-same g t c = search rules

@@ -1,4 +1,4 @@
-use Rattle.std.proofs.Common.{◌≡◌, false, true, [], refl, sym, ◌∙◌, rules}
+use Rattle.std.proofs.Common.{◌≡◌, false, true, rules}
 use Rattle.rsx_tree.specs.Edges.{is_live}
 use Rattle.rsx_tree.proofs.Residuals.{residual_end, residual_past, residual_over}
 use Rattle.rsx_tree.proofs.inputs.Inputs.+residual.Goals as goal

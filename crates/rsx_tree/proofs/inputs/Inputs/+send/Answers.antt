@@ -27,3 +27,12 @@ pub returns-in-Ok-send-2-clause-made : goal.returns-in-Ok-send-2-clause-made
 returns-in-Ok-send-2-clause-made g t c = λ asked sent.
     changed_below (IsSentOver g.M.Machine (g.O.Ops.meaning c.args.ops.now)) g.M.Machine.ended c.args.receiver.now c.args.input asked sent c.args.self.now c.in-More.edge c.in-More.machine c.send-in-More.new.receiver c.in-More.below c.in-More.beside c.deref.result.now c.deref_mut-in-More.result.now c.send-in-More.new.self c.close_if.new.self c.args.at c.count_up_to-inside.result
     c.in-More.is c.deref.ensures c.deref_mut-in-More.ensures.value c.count_up_to-inside.ensures (omega arith) c.if-at-inside.false (c.in-Ok-send-2.ensures.made c.in-More.edge.demand.asked c.in-More.edge.demand.sent) (search rules)
+
+pub send-requires-after_bounds : goal.send-requires-after_bounds
+send-requires-after_bounds g t c = search rules
+
+pub returns-in-Ok-send-clause-own : goal.returns-in-Ok-send-clause-own
+returns-in-Ok-send-clause-own g t c = search rules
+
+pub returns-in-Err-send-clause-memory : goal.returns-in-Err-send-clause-memory
+returns-in-Err-send-clause-memory g t c = search rules

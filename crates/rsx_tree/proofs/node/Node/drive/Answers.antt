@@ -1,4 +1,4 @@
-use Rattle.std.proofs.Common.{◌≡◌, ◌+◌, ◌-◌, ◌∙◌, arith, false, true, refl}
+use Rattle.std.proofs.Common.{◌≡◌, ◌+◌, ◌-◌, ◌∙◌, arith, false, true, refl, rules}
 use Rattle.rsx_tree.proofs.Alike.{driven_alike}
 use Rattle.rsx_tree.proofs.Drives.{tree_begun, tree_under_way, idle_after, none_left, shut_by, still_some, pass_same}
 use Rattle.rsx_tree.proofs.node.Node.drive.Goals as goal
@@ -67,3 +67,6 @@ pub returns-clause-alike : goal.returns-clause-alike
 returns-clause-alike g c =
     let u = c.rounds.invariant.0 in
     driven_alike g.M.Machine (g.O.Ops.meaning c.args.ops.now) true u.count c.args.self.now c.args.asked c.args.sent c.rounds.self u.run
+
+pub returns-clause-memory : goal.returns-clause-memory
+returns-clause-memory g c = search rules

@@ -1,3 +1,4 @@
+use Rattle.std.proofs.Common.{rules}
 use Rattle.rsx_tree.specs.Edges.{edge_view}
 use Rattle.rsx_tree.specs.Stepped.{IsRowMadeHere, IsSteppedAt}
 use Rattle.rsx_tree.proofs.Alike.{row_made, tree_stepped_alike}
@@ -64,3 +65,6 @@ pub returns-in-Ok-row_over-clause-alike : goal.returns-in-Ok-row_over-clause-ali
 returns-in-Ok-row_over-clause-alike g c =
     let made : IsSteppedAt (IsRowMadeHere g.M.Machine (g.O.Ops.meaning c.args.ops.now)) g.M.Machine.ended c.args.self.now (edge_view c.args.root.now) c.args.at (node c.row_over.new.node c.row_over.new.below) = stepped_root (IsRowMadeHere g.M.Machine (g.O.Ops.meaning c.args.ops.now)) g.M.Machine.ended c.args.self.now.machine c.row_over.new.node c.args.self.now.inputs c.row_over.new.below c.args.root.now c.args.at c.if-at-gt0.false c.in-Ok-row_over.ensures.made in
     tree_stepped_alike g.M.Machine (IsRowMadeHere g.M.Machine (g.O.Ops.meaning c.args.ops.now)) (row_made g.M.Machine (g.O.Ops.meaning c.args.ops.now)) g.M.Machine.ended c.args.self.now (edge_view c.args.root.now) c.args.at (node c.row_over.new.node c.row_over.new.below) made
+
+pub returns-in-Err-row_over-clause-err : goal.returns-in-Err-row_over-clause-err
+returns-in-Err-row_over-clause-err g c = search rules

@@ -1,3 +1,4 @@
+use Rattle.std.proofs.Common.{rules}
 use Rattle.rsx_tree.specs.Edges.{edge_view}
 use Rattle.rsx_tree.specs.Stepped.{IsPickedHere, IsSteppedAt}
 use Rattle.rsx_tree.proofs.Alike.{picked, tree_stepped_alike}
@@ -64,3 +65,6 @@ pub returns-in-Ok-pick_over-clause-alike : goal.returns-in-Ok-pick_over-clause-a
 returns-in-Ok-pick_over-clause-alike g c =
     let made : IsSteppedAt (IsPickedHere g.M.Machine (g.O.Ops.meaning c.args.ops.now) c.args.input) g.M.Machine.ended c.args.self.now (edge_view c.args.root.now) c.args.at (node c.pick_over.new.node c.pick_over.new.below) = stepped_root (IsPickedHere g.M.Machine (g.O.Ops.meaning c.args.ops.now) c.args.input) g.M.Machine.ended c.args.self.now.machine c.pick_over.new.node c.args.self.now.inputs c.pick_over.new.below c.args.root.now c.args.at c.if-at-gt0.false c.in-Ok-pick_over.ensures.made in
     tree_stepped_alike g.M.Machine (IsPickedHere g.M.Machine (g.O.Ops.meaning c.args.ops.now) c.args.input) (picked g.M.Machine (g.O.Ops.meaning c.args.ops.now) c.args.input) g.M.Machine.ended c.args.self.now (edge_view c.args.root.now) c.args.at (node c.pick_over.new.node c.pick_over.new.below) made
+
+pub returns-in-Err-pick_over-clause-err : goal.returns-in-Err-pick_over-clause-err
+returns-in-Err-pick_over-clause-err g c = search rules
