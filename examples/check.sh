@@ -1,7 +1,7 @@
 #!/usr/bin/env bash
 # Runs each example and compares what it writes and how it ends with what is stored: its answers in NAME.answers, by
 # `rsx scratch` in NAME.scratch where that file is there, and in NAME.fault the line on standard error of an example that
-# ends with status 1. Then it looks at what the launcher hands through.
+# ends with status 1. A trace NAME.trace has its report, by `rsx tck`, in NAME.report. Then it looks at what the launcher hands through.
 set -uo pipefail
 
 here=$(cd "$(dirname "$(readlink -f "${BASH_SOURCE[0]}")")" && pwd)
@@ -53,6 +53,16 @@ ends_without_memory() (
         diff "$room/said" <(echo 'rsx: out of memory')
 )
 
+# Whether the program ends with a write fault where its output is closed, and where it is a full device.
+closed_output() {
+    "$rsx" tck <"$here/completes_twice.trace" >&- 2>"$room/said"
+    (($? == 3)) && diff "$room/said" <(echo 'rsx: read or write fault')
+}
+full_device() {
+    "$rsx" tck <"$here/completes_twice.trace" >/dev/full 2>"$room/said"
+    (($? == 3)) && diff "$room/said" <(echo 'rsx: read or write fault')
+}
+
 # Proves and builds the program where that is needed, so that what follows only runs it.
 "$rsx" run </dev/null || exit
 
@@ -65,9 +75,19 @@ for script in "$here"/*.rsx; do
         expect "$name by scratch among the rows" is_row "$script" scratch "${script%.rsx}.scratch"
     fi
 done
+for trace in "$here"/*.trace; do
+    name=$(basename "$trace" .trace)
+    expect "$name" answers "$trace" tck "${trace%.trace}.report"
+    expect "$name among the rows" is_row "$trace" tck "${trace%.trace}.report"
+done
 expect 'a command line without a mode' ends_with 2 </dev/null
 expect 'a command line that asks for help' ends_with 2 --help </dev/null
 expect 'an argument that is no text' ends_with 2 run $'\xff' </dev/null
+expect 'help of a mode' ends_with 2 tck --help </dev/null
+expect 'a trace that is cut off' ends_with 1 tck <<<$'trace 1\nsubscribe 0'
+expect 'a trace of bytes that are no text' ends_with 1 tck <<<$'trace 1\nnext \xff\nend'
+expect 'a closed output' closed_output
+expect 'a full device' full_device
 expect 'want of memory' ends_without_memory
 ln -s "$rsx" "$room/linked"
 expect 'the launcher by a symlink, from another folder' \

@@ -1,8 +1,10 @@
 #![tactic(auto)]
-//! Runs a script: reads lines, has a session answer each, and writes the answers.
+//! Runs the program in one of its modes over a reader and a writer: it answers the commands of a script, or judges traces.
 //!
-//! Proved of it is that it ends, and that it is safe; what it reads and writes is tested.
+//! Proved of it is that it ends, that it is safe, and which line it is stopped at; of the mode `tck` all that it writes.
+//! What a script is answered with is tested.
 
-pub mod script;
+mod modes;
+mod script;
 
-pub use script::drive;
+pub use modes::drive;

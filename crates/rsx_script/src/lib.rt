@@ -4,7 +4,7 @@
 //! - [`parse`]: a line's command, with its words, numbers, names and expressions; [`command`]: what commands there are.
 //! - [`LineRefusal`]: why a line can't be read.
 //! - [`print`]: what each command answers, as text.
-//! - [`mode`]: how a script is run; [`fault`]: what ends it before its input does.
+//! - [`mode`]: what the program does with its input; [`fault`]: what ends that before the input does.
 //!
 //! Proved are the words: which bytes each is and where it begins, and of which text a number is read. What a line of words
 //! means, the columns of refusals and the text of answers are tested.

@@ -1,24 +1,27 @@
-//! How a script is run.
+//! What the program does with its input.
 
 ghost use Rattle.std.specs.Prelude.{◌≡◌};
 ghost use Rattle.rsx_script.specs.Modes.{mode_of_name};
 
-/// What `show` answers in a script.
+/// What the program does with its input: it answers the commands of a script, or judges traces.
 #[derive(Clone, Copy, Debug, PartialEq, Eq)]
 pub enum Mode {
-    /// What was received, and then the rest.
+    /// Answers commands; `show` is what was received, and then the rest.
     Run,
-    /// The value of the slow evaluator.
+    /// Answers commands; `show` is the value of the slow evaluator.
     Scratch,
+    /// Judges traces.
+    Tck,
 }
 
-/// The mode with this name, `run` or `scratch`.
+/// The mode with this name, `run`, `scratch` or `tck`.
 pub fn mode_named(name: &str) -> Option<Mode>
     ensures { result ≡ mode_of_name name.now }
 {
     match name {
         "run" => Some(Mode::Run),
         "scratch" => Some(Mode::Scratch),
+        "tck" => Some(Mode::Tck),
         _ => None,
     }
 }

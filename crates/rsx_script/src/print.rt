@@ -1,7 +1,10 @@
 //! The text of answers.
 
+ghost use Rattle.std.specs.Prelude.{◌≡◌, ◌++◌, ℕ, List, string_bytes, OnErr, OnOk};
+
 use rsx_demo::Val;
-use rsx_types::{Cause, Ending, StreamValue, SubId};
+use rsx_types::{Cause, Ending, NoMemory, StreamValue, SubId};
+use std::alloc::Global;
 use std::fmt;
 
 /// What a command answers.
@@ -51,6 +54,22 @@ pub enum Rest {
     Cancelled,
     /// Nothing: a bad request closed the subscription.
     Closed,
+}
+
+impl Answer<'_> {
+    /// Adds the answer to the text, with a newline.
+    ///
+    /// # Errors
+    ///
+    /// `NoMemory` where a growth was refused; the text is then as it was.
+    pub fn add_to(&self, alloc: Global, out: &mut String) -> Result<(), NoMemory>
+        ensures same { OnErr result (string_bytes out.new ≡ string_bytes out.old) }
+        ensures grows { OnOk result ((text : List ℕ) × (string_bytes out.new ≡ string_bytes out.old ++ text)) }
+    {
+        let text = format!(in alloc; "{self}\n")?;
+        out.push_str(text.as_str())?;
+        Ok(())
+    }
 }
 
 impl fmt::Display for Answer<'_> {

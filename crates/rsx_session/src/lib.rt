@@ -5,4 +5,4 @@
 
 pub mod session;
 
-pub use session::Session;
+pub use session::{Session, View};

@@ -5,7 +5,7 @@ ghost use Rattle.std.specs.Prelude.{◌≡◌, ◌≤◌, ◌++◌, ℕ, List, t
 use rsx_demo::{Demo, Val, is_same_val};
 use rsx_graph::{Deliveries, Graph, Pumped, Refusal, SubscriptionState};
 use rsx_model::{Expr, ScratchRefusal, scratch};
-use rsx_script::{Answer, Command, Mode, Rest, Shown};
+use rsx_script::{Answer, Command, Rest, Shown};
 use rsx_types::{Ending, NoMemory, Signal, StreamValue, SubId, Tree};
 use std::alloc::{AllocFailed, Global};
 use std::mem;
@@ -55,10 +55,19 @@ impl<T: Drop> From<AllocFailed<T>> for Trouble {
     }
 }
 
+/// What `show` answers.
+#[derive(Clone, Copy, Debug, PartialEq, Eq)]
+pub enum View {
+    /// What was received, and then the rest.
+    Received,
+    /// The value of the slow evaluator.
+    FromScratch,
+}
+
 /// A graph with what each of its subscribers received.
 #[derive(Drop)]
 pub struct Session {
-    mode: Mode,
+    view: View,
     graph: Graph<Demo>,
     /// The subscriptions, in the order of their ids.
     records: Vec<Record>,
@@ -67,15 +76,15 @@ pub struct Session {
 }
 
 impl Session {
-    /// An empty graph, whose subscriptions are shown as the mode says.
+    /// An empty graph, of whose subscriptions `show` answers this.
     ///
     /// # Errors
     ///
     /// `NoMemory` where a growth was refused.
-    pub fn new(alloc: Global, mode: Mode) -> Result<Session, NoMemory> {
+    pub fn new(alloc: Global, view: View) -> Result<Session, NoMemory> {
         match Graph::new(alloc, Demo) {
             Ok(graph) => Ok(Session {
-                mode,
+                view,
                 graph,
                 records: Vec::new(alloc),
                 spare: Vec::new(alloc),
@@ -103,9 +112,7 @@ impl Session {
             Err(Trouble::Refused(name)) => Answer::Refused(name),
             Err(Trouble::Memory) => return Err(NoMemory),
         };
-        let text = format!(in alloc; "{answer}\n")?;
-        out.push_str(text.as_str())?;
-        Ok(())
+        answer.add_to(alloc, out)
     }
 
     /// Does what a command asks for.
@@ -195,11 +202,11 @@ impl Session {
         Ok(())
     }
 
-    /// What the mode shows of a subscription.
+    /// What `show` answers of a subscription.
     fn show(&self, alloc: Global, sub: SubId) -> Result<Answer<'_>, Trouble> {
-        match self.mode {
-            Mode::Run => self.show_received(alloc, sub),
-            Mode::Scratch => {
+        match self.view {
+            View::Received => self.show_received(alloc, sub),
+            View::FromScratch => {
                 let record = self.record(sub)?;
                 Ok(Answer::Value(self.value(alloc, sub, &record.expr)?))
             }

@@ -4,3 +4,4 @@ pub mod Sentences
 pub mod Passes
 pub mod Laws
 pub mod Verdicts
+pub mod Report

@@ -12,3 +12,4 @@ pub mod Continuing
 pub mod Parts
 pub mod WrongWords
 pub mod WrongLines
+pub mod Openings

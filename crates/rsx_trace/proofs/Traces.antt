@@ -48,18 +48,18 @@ trace_again text events h = trace_steps text (first_text h.0) (h.1 ++ codes "end
 -- ---- what is printed
 
 -- no newline among the bytes
-abbrev IsClean : List ℕ → Type 0
+abbrev pub IsClean : List ℕ → Type 0
 IsClean bytes = position_or_len newline bytes ≡ length bytes
 
-clean_step : (t : Bool) (n m : ℕ) → cond (not t) (1 + n) 0 ≡ suc m → (t ≡ false) × (n ≡ m)
+pub clean_step : (t : Bool) (n m : ℕ) → cond (not t) (1 + n) 0 ≡ suc m → (t ≡ false) × (n ≡ m)
 clean_step true n m e = absurd (omega arith)
 clean_step false n m e = (refl, omega arith)
 
-clean_again : (t : Bool) (n : ℕ) → t ≡ false → cond (not t) (1 + n) 0 ≡ suc n
+pub clean_again : (t : Bool) (n : ℕ) → t ≡ false → cond (not t) (1 + n) 0 ≡ suc n
 clean_again true n e = absurd cc
 clean_again false n e = omega arith
 
-IsClean-append : (a b : List ℕ) → IsClean a → IsClean b → IsClean (a ++ b)
+pub IsClean-append : (a b : List ℕ) → IsClean a → IsClean b → IsClean (a ++ b)
 IsClean-append [] b h k = k
 IsClean-append (c ∷ a) b h k =
     let parts = clean_step (newline c) (position_or_len newline a) (length a) h in
@@ -82,7 +82,7 @@ IsClean-decimal : (n : ℕ) → n < 2 ^ 64 → IsClean (decimal n)
 IsClean-decimal n lt = IsClean-digits (decimal n) (decimal_is_IsNumeral n lt).0.1
 
 -- the first line of a text whose front has no newline
-line_and_rest : (line rest : List ℕ) → IsClean line → lines (line ++ 10 ∷ rest) ≡ line ∷ lines rest
+pub line_and_rest : (line rest : List ℕ) → IsClean line → lines (line ++ 10 ∷ rest) ≡ line ∷ lines rest
 line_and_rest line rest h =
     let n = position_or_len newline (line ++ 10 ∷ rest) in
     let is : n ≡ length line = clean_before line rest h in

@@ -372,7 +372,7 @@ behind_place s line others (n, column) is r =
     let place : IsWrongPlace AreSomeTrace (first_text s ∷ others) (r.number + 1, column) = push_place AreSomeTrace (Rest s) (first_text s) others r.number column (trace_more s) r.place in
     subst (λ (x : List ℕ). IsWrongPlace AreSomeTrace (x ∷ others) (n, column)) (sym is) (subst (λ (k : ℕ). IsWrongPlace AreSomeTrace (first_text s ∷ others) (k, column)) one_more place)
 
-lines_place : (ls : List (List ℕ)) (p : ℕ × ℕ) → trace_of_lines ls ≡ Err p → IsWrongPlace AreSomeTrace ls p
+pub lines_place : (ls : List (List ℕ)) (p : ℕ × ℕ) → trace_of_lines ls ≡ Err p → IsWrongPlace AreSomeTrace ls p
 lines_place [] p e = subst (λ (q : ℕ × ℕ). IsWrongPlace AreSomeTrace [] q) (place_is {A = List Stamped} (1, 1) p e) empty_place
 lines_place (line ∷ others) p e =
     elim (bind_wrong (at_line 1 line (first_at line)) (λ s. events_of 2 s others) p e) [

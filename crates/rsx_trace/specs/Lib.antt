@@ -7,3 +7,4 @@ pub mod FirstWrong
 pub mod Reading
 pub mod Gives
 pub mod RefusalText
+pub mod Opening

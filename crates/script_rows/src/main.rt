@@ -1,9 +1,9 @@
 #![tactic(auto)]
-//! Runs scripts, those of `examples/` first, and writes their answers. What it writes is stored beside it, and is a table of
-//! the script language.
+//! Runs scripts and traces, those of `examples/` first, and writes their answers. What it writes is stored beside it, and is
+//! a table of the script language and of reports.
 //!
-//! A line `run` or `scratch` begins a script for the mode of that name, which goes on up to the next such line. The
-//! script is written, then a line `answers`, its answers, and the line of the fault that ended it.
+//! A line `run`, `scratch` or `tck` begins an input for the mode of that name, which goes on up to the next such line. The
+//! input is written, then a line `answers`, its answers, and the line of the fault that ended it.
 
 use rsx_drive::drive;
 use rsx_script::{Mode, mode_named};
@@ -18,6 +18,7 @@ fn write_row(rt: &(impl Print + AllocGlobal), mode: Mode, script: &str) -> io::R
     let heading = match mode {
         Mode::Run => "run\n",
         Mode::Scratch => "scratch\n",
+        Mode::Tck => "tck\n",
     };
     let mut out = io::writer(rt);
     out.write_all(heading.as_bytes())?;

@@ -1,5 +1,7 @@
 #![tactic(auto)]
-//! Tests of scripts: how lines are read, what is answered, and what ends a run.
+//! Tests of scripts and of traces: how lines are read, what is answered, and what ends a run.
 
 #[cfg(test)]
 mod tests;
+#[cfg(test)]
+mod traces;

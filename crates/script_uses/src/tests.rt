@@ -23,10 +23,10 @@ fn is_answered(alloc: Global, script: &[u8], answers: &[u8], end: Result<(), App
 
 /// A reader that gives some bytes at a time, and fails at a read.
 #[derive(Drop)]
-struct Slow<'a> {
-    rest: &'a [u8],
-    size: usize,
-    reads_left: u64,
+pub struct Slow<'a> {
+    pub rest: &'a [u8],
+    pub size: usize,
+    pub reads_left: u64,
 }
 
 impl Read for Slow<'_> {
@@ -64,8 +64,8 @@ impl Read for Newlines {
 
 /// A writer that takes some bytes at a time, and fails at a call. It knows how many bytes came before a flush, at most.
 #[derive(Drop)]
-struct Full {
-    taken: Vec<u8>,
+pub struct Full {
+    pub taken: Vec<u8>,
     size: usize,
     calls_left: u64,
     unflushed: usize,
@@ -73,7 +73,7 @@ struct Full {
 }
 
 impl Full {
-    fn new(alloc: Global, size: usize, calls_left: u64) -> Full {
+    pub fn new(alloc: Global, size: usize, calls_left: u64) -> Full {
         Full {
             taken: Vec::new(alloc),
             size,
@@ -318,9 +318,11 @@ fn texts(rt: HostRuntime) -> Result<(), Fail> {
 }
 
 /// Command lines, with their modes or what `clap` finds wrong.
-const COMMAND_LINES: [(&str, Result<Mode, ErrorKind>); 7] = [
+const COMMAND_LINES: [(&str, Result<Mode, ErrorKind>); 9] = [
     ("rsx run", Ok(Mode::Run)),
     ("rsx scratch", Ok(Mode::Scratch)),
+    ("rsx tck", Ok(Mode::Tck)),
+    ("rsx tck --help", Err(ErrorKind::DisplayHelp)),
     ("rsx", Err(ErrorKind::MissingSubcommand)),
     ("rsx --help", Err(ErrorKind::DisplayHelp)),
     ("rsx run --help", Err(ErrorKind::DisplayHelp)),

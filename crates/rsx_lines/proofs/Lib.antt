@@ -1,0 +1,4 @@
+-- Lemmas.
+pub mod Bytes
+pub mod Writing
+pub mod Reading

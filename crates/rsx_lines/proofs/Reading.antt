@@ -1,0 +1,62 @@
+-- What a reader has left after several reads, and what is said of the whole input then.
+use Rattle.std.proofs.Common.{◌≡◌, ℕ, List, [], ◌++◌, take, Option, Some, None, refl, sym, ap, subst, ◌∙◌, append_assoc}
+use Rattle.std.specs.Prelude.{IfSome}
+use Rattle.std.specs.Io.KnownBytes.{Appends, Consumes, IsAtEnd}
+use Rattle.std.proofs.lemmas.List.{append-nil}
+use Rattle.rsx_script.specs.declared.fault.AppFault.{AppFault}
+use Rattle.rsx_script.specs.declared.fault.AppFault.TheVariants.{Line, Io, Memory}
+use Rattle.rsx_lines.specs.Answered.{Writes, WritesBefore}
+use Rattle.rsx_lines.proofs.Writing.{appends_more, before_io}
+
+pub consumes_none : (o : Option (List ℕ)) → Consumes o o []
+consumes_none None = tt
+consumes_none (Some xs) = refl
+
+pub consumes_more : (a b c : Option (List ℕ)) (s t : List ℕ) → Consumes a b s → Consumes b c t → Consumes a c (s ++ t)
+consumes_more None b c s t h k = tt
+consumes_more (Some xs) None c s t h k = absurd h
+consumes_more (Some xs) (Some ys) None s t h k = absurd k
+consumes_more (Some xs) (Some ys) (Some zs) s t h k = h ∙ ap (λ (x : List ℕ). s ++ x) k ∙ sym (append_assoc s t zs)
+
+-- the reader is at its end, so all that it had was got
+pub if_ended : (old now new : Option (List ℕ)) (got : List ℕ) (n : ℕ) (buffer : List ℕ) (P : List ℕ → Type 0) → Consumes old now got → Consumes now new (take n buffer) → n ≡ 0 → IsAtEnd new → P got → IfSome old P
+if_ended None now new got n buffer P h k none e p = tt
+if_ended (Some xs) None new got n buffer P h k none e p = absurd h
+if_ended (Some xs) (Some ys) None got n buffer P h k none e p = absurd k
+if_ended (Some xs) (Some ys) (Some zs) got n buffer P h k none e p =
+    let nothing : take n buffer ≡ [] = ap (λ (m : ℕ). take m buffer) none in
+    let all : xs ≡ got = h ∙ ap (λ (x : List ℕ). got ++ x) (k ∙ ap (λ (x : List ℕ). x ++ zs) nothing ∙ e) ∙ append-nil got in
+    subst P (sym all) p
+
+-- whatever the reader has left
+pub if_more : (old now : Option (List ℕ)) (got : List ℕ) (P : List ℕ → Type 0) → Consumes old now got → ((more : List ℕ) → P (got ++ more)) → IfSome old P
+if_more None now got P h p = tt
+if_more (Some xs) None got P h p = absurd h
+if_more (Some xs) (Some ys) got P h p = subst P (sym h) (p ys)
+
+pub if_any : (old : Option (List ℕ)) (P : List ℕ → Type 0) → ((left : List ℕ) → P left) → IfSome old P
+if_any None P p = tt
+if_any (Some xs) P p = p xs
+
+-- what is written after some text
+pub before_more : (a b c : Option (List ℕ)) (fault : AppFault) (s : List ℕ) (P Q : List ℕ → Type 0) → Appends a b s → ((t : List ℕ) → P t → Q (s ++ t)) → WritesBefore b c fault P → WritesBefore a c fault Q
+before_more a b c (Line number refusal) s P Q h f w = (s ++ w.0, appends_more a b c s w.0 h w.1, f w.0 w.2)
+before_more a b c Io s P Q h f w = tt
+before_more a b c Memory s P Q h f w = (s ++ w.0, appends_more a b c s w.0 h w.1, f w.0 w.2)
+
+pub if_some_to : (old : Option (List ℕ)) (P Q : List ℕ → Type 0) → ((x : List ℕ) → P x → Q x) → IfSome old P → IfSome old Q
+if_some_to None P Q to h = tt
+if_some_to (Some x) P Q to h = to x h
+
+-- what waited was written at last
+pub writes_more : (a b c : Option (List ℕ)) (out : List ℕ) (P : List ℕ → Type 0) → Appends b c out → Writes a b (λ text. P (text ++ out)) → Writes a c P
+writes_more a b c out P k w = (w.0 ++ out, appends_more a b c w.0 out w.1 k, w.2)
+
+pub before_written : (a b c : Option (List ℕ)) (fault : AppFault) (out : List ℕ) (P : List ℕ → Type 0) → Appends b c out → WritesBefore a b fault (λ text. P (text ++ out)) → WritesBefore a c fault P
+before_written a b c (Line number refusal) out P k w = writes_more a b c out P k w
+before_written a b c Io out P k w = tt
+before_written a b c Memory out P k w = writes_more a b c out P k w
+
+pub if_io : (old a b : Option (List ℕ)) (fault : AppFault) (P : List ℕ → List ℕ → Type 0) → fault ≡ Io → IfSome old (λ input. WritesBefore a b fault (P input))
+if_io None a b fault P is = tt
+if_io (Some x) a b fault P is = before_io a b fault (P x) is
