@@ -4,7 +4,7 @@ ghost use Rattle.std.specs.Prelude.{◌≤◌};
 
 use rsx_crossing::{CAPACITY, Queued};
 use rsx_demo::{Demo, Val};
-use rsx_node::AnyNode;
+use rsx_node::{AnyNode, SourceNode};
 use rsx_plain::PlainNode;
 use rsx_sources::{Front, Machine, RangeNode};
 use rsx_tree::{Inputs, Node};
@@ -24,7 +24,7 @@ type Sender = Queued<AnyNode<Val>, Val>;
 fn numbers(alloc: Global, count: u64) -> Result<Sender, NoMemory>
     requires { count ≤ 1000 }
 {
-    Queued::new(alloc, AnyNode::Range(RangeNode::new(1, count)))
+    Queued::new(alloc, AnyNode::Source(SourceNode::Range(RangeNode::new(1, count))))
 }
 
 /// The tree that doubles them. Both of its edges cross.

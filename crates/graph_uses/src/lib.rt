@@ -1,6 +1,8 @@
 #![tactic(auto)]
-//! Tests of graphs over the demonstration's functions: each call once on its happy path, and a refused move.
+//! Tests of graphs over the demonstration's functions: each call once on its happy path, a refused move, and the hubs.
 
+#[cfg(test)]
+mod hubs;
 #[cfg(test)]
 mod reuse;
 #[cfg(test)]

@@ -1,4 +1,4 @@
-//! Tests of hubs and their members, by rows worked out by hand.
+//! Tests of hubs, their members and the subscriptions that read them, by rows worked out by hand.
 #![tactic(auto)]
 
 #[cfg(test)]
@@ -11,3 +11,5 @@ mod limits;
 mod members;
 #[cfg(test)]
 mod numbers;
+#[cfg(test)]
+mod published;

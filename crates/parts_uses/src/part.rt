@@ -45,7 +45,7 @@ fn doubling(alloc: Global) -> Result<Expr<Val>, NoMemory> {
 /// The part of an expression, which keeps the limits.
 fn part_of(rt: &impl Abort, alloc: Global, expr: &Expr<Val>) -> Result<Part<Val>, NoMemory> {
     assert!(rt; check_expr(expr, 0).is_ok());
-    Part::new(alloc, &Demo, expr)
+    Part::new(alloc, &Demo, expr, &[])
 }
 
 /// The part that doubles the numbers 1 to 5, and an empty queue.

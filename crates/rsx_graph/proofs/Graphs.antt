@@ -1,5 +1,5 @@
 -- How the subscriptions of a graph stand together.
-use Rattle.std.proofs.Common.{◌≡◌, ℕ, zero, suc, ◌+◌, ◌-◌, ◌<◌, ◌≤◌, List, [], ◌∷◌, ◌++◌, length, get_or, slice_get, refl, ap, sym, ◌∙◌, subst, arith, append_assoc, length-append, take, map, Option, Some, Result, Ok, Bool, true, false, ◌||◌, nat_eq, if◌then◌else◌, inl, inr}
+use Rattle.std.proofs.Common.{◌≡◌, ℕ, ℤ, pos, negsuc, zero, suc, ◌+◌, ◌-◌, ◌<◌, ◌≤◌, List, [], ◌∷◌, ◌++◌, length, get_or, slice_get, refl, ap, sym, ◌∙◌, subst, arith, append_assoc, length-append, take, map, Option, Some, None, Result, Ok, Bool, true, false, ◌||◌, nat_eq, if◌then◌else◌, inl, inr}
 use Rattle.std.proofs.Math.ListN.{set}
 use Rattle.std.proofs.lemmas.Bool.Decides.{nat_tests}
 use Rattle.std.proofs.lemmas.List.{take_more, take_all, append-nil}
@@ -20,9 +20,10 @@ use Rattle.rsx_pipe.specs.declared.part.Pumped.{Pumped as Rest}
 use Rattle.rsx_pipe.specs.declared.part.Pumped.TheVariants.{Idle as Rests, Budget as Wakes}
 use Rattle.rsx_pipe.proofs.Signals.{some_same}
 use Rattle.rsx_tree.proofs.Alike.{or_left, or_right}
-use Rattle.rsx_subscriber.specs.Past.{Past, given}
+use Rattle.rsx_hub.specs.Hub.{HubState}
+use Rattle.rsx_subscriber.specs.Past.{Past, given, requested, requested_in}
 use Rattle.rsx_subscriber.specs.Pumped.{IsPumped, IsMoved, Leads, IsQuiet, IsAwake, HasRested, given_all, to}
-use Rattle.rsx_subscriber.specs.Stands.{make_allocates, Stands, move_enabled_in, evaluated, owed_from, owes_in, standing_of}
+use Rattle.rsx_subscriber.specs.Stands.{make_allocates, Stands, move_enabled_in, evaluated, owed_from, owes_in, standing_of, values_then}
 use Rattle.rsx_subscriber.specs.declared.state.SubscriptionState.{SubscriptionState}
 use Rattle.rsx_subscriber.specs.declared.state.SubscriptionState.TheVariants.{Open, Ended, Cancelled, Refused}
 use Rattle.rsx_subscriber.specs.declared.subscription.Subscription.{Subscription}
@@ -32,10 +33,10 @@ use Rattle.rsx_subscriber.proofs.Serving.{quiet_move}
 use Rattle.rsx_graph.specs.declared.refusal.Refusal.{Refusal}
 use Rattle.rsx_graph.specs.declared.step.Step.{Step}
 use Rattle.rsx_graph.specs.declared.step.Answer.{Answer}
-use Rattle.rsx_graph.specs.History.{History, Belongs, AllBelong, IsSubscribeRefusal, IsMakeRefusal, changed, extended, all_extended, delivered, HasAsked, state_at, tree_of}
+use Rattle.rsx_graph.specs.History.{History, published, Belongs, AllBelong, IsSubscribeRefusal, IsMakeRefusal, changed, extended, all_extended, delivered, pasts_after, HasAsked, state_at, tree_of}
 use Rattle.rsx_graph.specs.Done.{IsDone, AllDone}
 use Rattle.rsx_graph.specs.Pumped.{AllPumped, IsMoveMade, AreQuiet, HasRestedAt, IsAllQuiet, IsAnyAwake}
-use Rattle.rsx_graph.specs.Stands.{AllStand, StandsFor, pump_allocates, allocates_at, IsMade, enabled_in_tree, enabled_at, OwedAt}
+use Rattle.rsx_graph.specs.Stands.{AllStand, GraphState, HubsStand, IsAsideSame, StandsFor, all_taken, pump_allocates, allocates_at, IsMade, enabled_in_tree, enabled_at, OwedAt}
 
 pub AllStand-push : {T : Type 0} (m : Meaning T) (published : List (Stream T)) (subs : List (Subscription T)) (pasts : List (Past T)) (s : Subscription T) (p : Past T) → Stands m published s p → AllStand m published subs pasts → AllStand m published (subs ++ s ∷ []) (pasts ++ p ∷ [])
 AllStand-push m published [] [] s p k h = (k, tt)
@@ -135,10 +136,10 @@ state_there m published (s ∷ subs) (p ∷ pasts) (suc i) sub e h = state_there
 
 -- ---- deliveries
 
-pub delivered_to : {T : Type 0} (published : List (Stream T)) (pasts : List (Past T)) (i : SubId) (ss : List (Signal T)) → delivered (record { published = published; pasts = pasts }) (to i ss) ≡ record { published = published; pasts = changed (given_all ss) pasts i.0 }
-delivered_to published pasts i [] = ap (λ ps. record { published = published; pasts = ps }) (sym (changed_same pasts i.0))
-delivered_to {T} published pasts i (s ∷ ss) =
-    delivered_to published (changed (given s) pasts i.0) i ss ∙ ap (λ ps. record { published = published; pasts = ps }) (changed_twice (given s) (given_all ss) pasts i.0)
+pub pasts_to : {T : Type 0} (pasts : List (Past T)) (i : SubId) (ss : List (Signal T)) → pasts_after (to i ss) pasts ≡ changed (given_all ss) pasts i.0
+pasts_to pasts i [] = sym (changed_same pasts i.0)
+pasts_to {T} pasts i (s ∷ ss) =
+    pasts_to (changed (given s) pasts i.0) i ss ∙ changed_twice (given s) (given_all ss) pasts i.0
   where
     changed_twice : {A : Type 0} (f g : A → A) (xs : List A) (i : ℕ) → changed g (changed f xs i) i ≡ changed (λ x. g (f x)) xs i
     changed_twice f g [] i = refl
@@ -190,27 +191,27 @@ pumped_there {T} m id n subs old new before after lt e k = record {
   signals = to id k.signals;
   output = k.output;
   moves = leads_there m id n subs old new (to id k.signals) lt e k.moves;
-  stands = λ h s.
-      let P : History T → Type 0 = λ g. StandsFor m (set subs id.0 new) g in
-      subst P (sym (delivered_to h.published h.pasts id k.signals)) (AllStand-set m h.published (given_all k.signals) subs h.pasts id.0 old new lt e (λ p t. k.stands h.published p t) s);
+  stands = λ published pasts s.
+      let P : List (Past T) → Type 0 = λ ps. AllStand m published (set subs id.0 new) ps in
+      subst P (sym (pasts_to pasts id k.signals)) (AllStand-set m published (given_all k.signals) subs pasts id.0 old new lt e (λ p t. k.stands published p t) s);
   alike = λ a. alike_there a subs id.0 old new lt e (k.alike.0 a);
 }
 
-pub delivered_append : {T : Type 0} (h : History T) (a b : List (SubId × Signal T)) → delivered h (a ++ b) ≡ delivered (delivered h a) b
-delivered_append h [] b = refl
-delivered_append h (d ∷ a) b = delivered_append _ a b
+pub pasts_append : {T : Type 0} (ps : List (Past T)) (a b : List (SubId × Signal T)) → pasts_after (a ++ b) ps ≡ pasts_after b (pasts_after a ps)
+pasts_append ps [] b = refl
+pasts_append ps (d ∷ a) b = pasts_append _ a b
 
 pub pumped_on : {T : Type 0} (m : Meaning T) (n k : ℕ) (s1 s2 s3 : List (Subscription T)) (o1 o2 o3 : List (SubId × Signal T)) → AllPumped m n s1 o1 s2 o2 → AllPumped m k s2 o2 s3 o3 → AllPumped m (n + k) s1 o1 s3 o3
 pumped_on {T} m n k s1 s2 s3 o1 o2 o3 a b = record {
   signals = a.signals ++ b.signals;
   output = b.output ∙ (ap (λ o. o ++ b.signals) a.output ∙ append_assoc o1 a.signals b.signals);
   moves = leads_on (IsMoveMade m) n k s1 s2 s3 a.signals b.signals a.moves b.moves;
-  stands = λ h s. let P : History T → Type 0 = λ g. StandsFor m s3 g in subst P (sym (delivered_append h a.signals b.signals)) (b.stands (delivered h a.signals) (a.stands h s));
+  stands = λ published ps s. let P : List (Past T) → Type 0 = λ l. AllStand m published s3 l in subst P (sym (pasts_append ps a.signals b.signals)) (b.stands published (pasts_after a.signals ps) (a.stands published ps s));
   alike = λ p. b.alike p ∙ a.alike p;
 }
 
 pub pumped_none : {T : Type 0} (m : Meaning T) (s : List (Subscription T)) (o : List (SubId × Signal T)) → AllPumped m 0 s o s o
-pumped_none m s o = record { signals = []; output = sym (append-nil o); moves = (refl, refl); stands = λ h k. k; alike = λ a. refl }
+pumped_none m s o = record { signals = []; output = sym (append-nil o); moves = (refl, refl); stands = λ published ps k. k; alike = λ a. refl }
 
 -- ---- no enabled move, and some
 
@@ -274,24 +275,28 @@ rested_same {T} m m' budget n i olds news r e h = let P : Meaning T → Type 0 =
 
 -- ---- what is owed
 
-pub owed_open : {T : Type 0} (m : Meaning T) (published : List (Stream T)) (subs : List (Subscription T)) (pasts : List (Past T)) (i : ℕ) (sub : Subscription T) (v : Stream T) → i < length subs → get_or subs i sub ≡ sub → standing_of sub ≡ Open → ((past : Past T) → Stands m published sub past → owed_from m published (map unchosen (notes_of sub.part.tree)) sub ≡ Some v) → AllStand m published subs pasts → OwedAt m published subs pasts i v
-owed_open m published [] pasts i sub v lt e o w h = absurd (omega arith)
-owed_open m published (s ∷ subs) [] i sub v lt e o w h = absurd h
-owed_open {T} m published (s ∷ subs) (p ∷ pasts) zero sub v lt e o w h =
-    let P : Subscription T → Type 0 = λ t. Stands m published t p in
-    let Q : Subscription T → Type 0 = λ t. evaluated m published p (notes_of t.part.tree) ≡ Some (signals_then p.received v) in
-    let k : Stands m published sub p = subst P e h.0 in
-    let w' : evaluated m published p (notes_of s.part.tree) ≡ Some (signals_then p.received v) = subst Q (sym e) (owes m published sub p v o (w p k) k) in
-    let R : SubscriptionState → Type 0 = λ t. owes_in m published s p v t in
+pub owed_open : {T : Type 0} (m : Meaning T) (taken waiting : List (Stream T)) (subs : List (Subscription T)) (pasts : List (Past T)) (i : ℕ) (sub : Subscription T) (v : Stream T) → i < length subs → get_or subs i sub ≡ sub → standing_of sub ≡ Open →
+    ((past : Past T) → Stands m taken sub past → owed_from m (values_then taken waiting) (map unchosen (notes_of sub.part.tree)) sub ≡ Some v) → AllStand m taken subs pasts → OwedAt m (values_then taken waiting) subs pasts i v
+owed_open m taken waiting [] pasts i sub v lt e o w h = absurd (omega arith)
+owed_open m taken waiting (s ∷ subs) [] i sub v lt e o w h = absurd h
+owed_open {T} m taken waiting (s ∷ subs) (p ∷ pasts) zero sub v lt e o w h =
+    let P : Subscription T → Type 0 = λ t. Stands m taken t p in
+    let Q : Subscription T → Type 0 = λ t. evaluated m (values_then taken waiting) p (notes_of t.part.tree) ≡ Some (signals_then p.received v) in
+    let k : Stands m taken sub p = subst P e h.0 in
+    let w' : evaluated m (values_then taken waiting) p (notes_of s.part.tree) ≡ Some (signals_then p.received v) = subst Q (sym e) (owes m taken waiting sub p v o (w p k) k) in
+    let R : SubscriptionState → Type 0 = λ t. owes_in m (values_then taken waiting) s p v t in
     subst R (sym o ∙ k.state) w'
-owed_open m published (s ∷ subs) (p ∷ pasts) (suc i) sub v lt e o w h = owed_open m published subs pasts i sub v (omega arith) e o w h.1
+owed_open m taken waiting (s ∷ subs) (p ∷ pasts) (suc i) sub v lt e o w h = owed_open m taken waiting subs pasts i sub v (omega arith) e o w h.1
 
-pub owed_none : {T : Type 0} (m : Meaning T) (published : List (Stream T)) (subs : List (Subscription T)) (pasts : List (Past T)) (i : ℕ) (sub : Subscription T) (v : Stream T) → i < length subs → get_or subs i sub ≡ sub → (standing_of sub ≡ Open → ⊥) → v ≡ ended_by NotEnded → AllStand m published subs pasts → OwedAt m published subs pasts i v
-owed_none m published [] pasts i sub v lt e o w h = absurd (omega arith)
-owed_none m published (s ∷ subs) [] i sub v lt e o w h = absurd h
-owed_none {T} m published (s ∷ subs) (p ∷ pasts) zero sub v lt e o w h =
-    let P : Subscription T → Type 0 = λ t. Stands m published t p in
-    let k : Stands m published sub p = subst P e h.0 in
+pub owed_whole : {T : Type 0} (m : Meaning T) (taken waiting : List (Stream T)) (subs : List (Subscription T)) (h : History T) (i : ℕ) (v : Stream T) → values_then taken waiting ≡ published h → OwedAt m (values_then taken waiting) subs h.pasts i v → OwedAt m (published h) subs h.pasts i v
+owed_whole {T} m taken waiting subs h i v whole w = let P : List (Stream T) → Type 0 = λ l. OwedAt m l subs h.pasts i v in subst P whole w
+
+pub owed_none : {T : Type 0} (m : Meaning T) (published taken : List (Stream T)) (subs : List (Subscription T)) (pasts : List (Past T)) (i : ℕ) (sub : Subscription T) (v : Stream T) → i < length subs → get_or subs i sub ≡ sub → (standing_of sub ≡ Open → ⊥) → v ≡ ended_by NotEnded → AllStand m taken subs pasts → OwedAt m published subs pasts i v
+owed_none m published taken [] pasts i sub v lt e o w h = absurd (omega arith)
+owed_none m published taken (s ∷ subs) [] i sub v lt e o w h = absurd h
+owed_none {T} m published taken (s ∷ subs) (p ∷ pasts) zero sub v lt e o w h =
+    let P : Subscription T → Type 0 = λ t. Stands m taken t p in
+    let k : Stands m taken sub p = subst P e h.0 in
     by_state p.state (λ q. o (k.state ∙ q))
   where
     by_state : (t : SubscriptionState) → (t ≡ Open → ⊥) → owes_in m published s p v t
@@ -299,7 +304,7 @@ owed_none {T} m published (s ∷ subs) (p ∷ pasts) zero sub v lt e o w h =
     by_state Ended n = w
     by_state Cancelled n = w
     by_state Refused n = w
-owed_none m published (s ∷ subs) (p ∷ pasts) (suc i) sub v lt e o w h = owed_none m published subs pasts i sub v (omega arith) e o w h.1
+owed_none m published taken (s ∷ subs) (p ∷ pasts) (suc i) sub v lt e o w h = owed_none m published taken subs pasts i sub v (omega arith) e o w h.1
 
 -- ---- a list of steps
 
@@ -309,20 +314,20 @@ AllBelong-more h (t ∷ steps) (u ∷ answers) s a k b = (k.0, AllBelong-more (e
 AllBelong-more h [] (u ∷ answers) s a k b = absurd k
 AllBelong-more h (t ∷ steps) [] s a k b = absurd k
 
-pub AllDone-more : {T : Type 0} (m : Meaning T) (a : Allocates) (old mid new : List (Subscription T)) (steps : List (Step T)) (answers : List (Answer T)) (s : Step T) (r : Answer T) → AllDone m a old steps answers mid → IsDone m a mid s r new → AllDone m a old (steps ++ s ∷ []) (answers ++ r ∷ []) new
-AllDone-more {T} m a old mid new [] [] s r k d = let P : List (Subscription T) → Type 0 = λ l. IsDone m a l s r new in (new, subst P k d, refl)
+pub AllDone-more : {T : Type 0} (m : Meaning T) (a : Allocates) (old mid new : GraphState T) (steps : List (Step T)) (answers : List (Answer T)) (s : Step T) (r : Answer T) → AllDone m a old steps answers mid → IsDone m a mid s r new → AllDone m a old (steps ++ s ∷ []) (answers ++ r ∷ []) new
+AllDone-more {T} m a old mid new [] [] s r k d = let P : GraphState T → Type 0 = λ l. IsDone m a l s r new in (new, subst P k d, refl)
 AllDone-more m a old mid new (t ∷ steps) (u ∷ answers) s r k d = (k.0, k.1, AllDone-more m a k.0 mid new steps answers s r k.2 d)
 AllDone-more m a old mid new [] (u ∷ answers) s r k d = absurd k
 AllDone-more m a old mid new (t ∷ steps) [] s r k d = absurd k
 
 -- what a list of steps with its answers has done so far
-pub record HasRun {T : Type 0} (m : Meaning T) (a : Allocates) (old new : List (Subscription T)) (steps : List (Step T)) (answers : List (Answer T)) : Type 0 where
+pub record HasRun {T : Type 0} (m : Meaning T) (a : Allocates) (old new : GraphState T) (steps : List (Step T)) (answers : List (Answer T)) : Type 0 where
   pub count : length steps ≡ length answers
   pub stands : (h : History T) → StandsFor m old h → StandsFor m new (all_extended h steps answers)
   pub belongs : (h : History T) → StandsFor m old h → AllBelong h steps answers
   pub done : AllDone m a old steps answers new
 
-pub run_more : {T : Type 0} (m m' : Meaning T) (a a' : Allocates) (steps : List (Step T)) (i : ℕ) (s : Step T) (first before after : List (Subscription T)) (answers answers' : List (Answer T)) (r : Answer T) →
+pub run_more : {T : Type 0} (m m' : Meaning T) (a a' : Allocates) (steps : List (Step T)) (i : ℕ) (s : Step T) (first before after : GraphState T) (answers answers' : List (Answer T)) (r : Answer T) →
     m' ≡ m → a' ≡ a → i < length steps → s ≡ get_or steps i s → answers' ≡ answers ++ r ∷ [] →
     HasRun m a first before (take i steps) answers →
     ((h : History T) → StandsFor m' before h → StandsFor m' after (extended h s r)) →
@@ -347,12 +352,12 @@ run_more {T} m m' a a' steps i s first before after answers answers' r same alik
     } in
     subst P (sym taken) (subst Q (sym pushed) grown)
 
-pub has_run_all : {T : Type 0} (m : Meaning T) (a : Allocates) (steps items : List (Step T)) (i : ℕ) (first after : List (Subscription T)) (answers : List (Answer T)) → items ≡ steps → length items ≤ i → HasRun m a first after (take i items) answers → HasRun m a first after steps answers
+pub has_run_all : {T : Type 0} (m : Meaning T) (a : Allocates) (steps items : List (Step T)) (i : ℕ) (first after : GraphState T) (answers : List (Answer T)) → items ≡ steps → length items ≤ i → HasRun m a first after (take i items) answers → HasRun m a first after steps answers
 has_run_all {T} m a steps items i first after answers e l r =
     let P : List (Step T) → Type 0 = λ s. HasRun m a first after s answers in
     subst P (take_all i items l ∙ e) r
 
-pub has_run_none : {T : Type 0} (m : Meaning T) (a : Allocates) (subs : List (Subscription T)) (steps : List (Step T)) (answers : List (Answer T)) → answers ≡ [] → HasRun m a subs subs (take 0 steps) answers
+pub has_run_none : {T : Type 0} (m : Meaning T) (a : Allocates) (subs : GraphState T) (steps : List (Step T)) (answers : List (Answer T)) → answers ≡ [] → HasRun m a subs subs (take 0 steps) answers
 has_run_none {T} m a subs steps answers e =
     let P : List (Answer T) → Type 0 = λ l. HasRun m a subs subs [] l in
     subst P (sym e) (record { count = refl; stands = λ h k. k; belongs = λ h k. tt; done = refl })
@@ -362,8 +367,48 @@ pumped_same {T} m m' n s1 s2 o1 o2 e h = let P : Meaning T → Type 0 = λ k. Al
 
 -- ---- answers that belong to their steps
 
-pub subscribe_refusal : {T : Type 0} (a b : ℕ) (e : Expr T) (r : Refusal) → a ≡ b → IsSubscribeRefusal a e r → IsSubscribeRefusal b e r
-subscribe_refusal {T} a b e r s h = let P : ℕ → Type 0 = λ n. IsSubscribeRefusal n e r in subst P s h
+pub subscribe_refusal : {T : Type 0} (n k a b : ℕ) (e : Expr T) (r : Refusal) → n ≡ k → a ≡ b → IsSubscribeRefusal n a e r → IsSubscribeRefusal k b e r
+subscribe_refusal {T} n k a b e r t s h =
+    let P : ℕ → Type 0 = λ i. IsSubscribeRefusal i b e r in
+    let Q : ℕ → Type 0 = λ i. IsSubscribeRefusal n i e r in
+    subst P t (subst Q s h)
+
+-- ---- the joins of all subscriptions
+
+pub joins_kept : {T : Type 0} (f : Past T → Past T) → ((p : Past T) → (f p).joins ≡ p.joins) → (ps : List (Past T)) (i : ℕ) → map (λ p. p.joins) (changed f ps i) ≡ map (λ p. p.joins) ps
+joins_kept f k [] i = refl
+joins_kept f k (p ∷ ps) zero = ap (λ j. j ∷ map (λ q. q.joins) ps) (k p)
+joins_kept f k (p ∷ ps) (suc i) = ap (λ l. p.joins ∷ l) (joins_kept f k ps i)
+
+pub requested_joins : {T : Type 0} (n : ℤ) (p : Past T) → (requested n p).joins ≡ p.joins
+requested_joins n p = by_state p.state n
+  where
+    by_state : (s : SubscriptionState) (n : ℤ) → (requested_in s n p).joins ≡ p.joins
+    by_state Open (pos zero) = refl
+    by_state Open (pos (suc n)) = refl
+    by_state Open (negsuc n) = refl
+    by_state Ended n = refl
+    by_state Cancelled n = refl
+    by_state Refused n = refl
+
+joins_after : {T : Type 0} (ds : List (SubId × Signal T)) (ps : List (Past T)) → map (λ p. p.joins) (pasts_after ds ps) ≡ map (λ p. p.joins) ps
+joins_after [] ps = refl
+joins_after (d ∷ ds) ps = joins_after ds (changed (given d.1) ps d.0.0) ∙ joins_kept (given d.1) (λ p. refl) ps d.0.0
+
+-- moves of subscriptions alone
+pub pumped_stands : {T : Type 0} (m : Meaning T) (n : ℕ) (old new : GraphState T) (before after : List (SubId × Signal T)) → (k : AllPumped m n old.subs before new.subs after) → IsAsideSame old new → (h : History T) → StandsFor m old h → StandsFor m new (delivered h k.signals)
+pumped_stands {T} m n old new before after k aside h s =
+    let H : List (HubState T) → Type 0 = λ l. HubsStand l h.hubs in
+    let A : List (HubState T) → Type 0 = λ l. AllStand m (all_taken l h.hubs) new.subs (pasts_after k.signals h.pasts) in
+    record {
+      hub = subst H (sym aside.0) s.hub;
+      all = subst A (sym aside.0) (k.stands (all_taken old.hubs h.hubs) h.pasts s.all);
+      joined = aside.1 ∙ (s.joined ∙ sym (joins_after k.signals h.pasts));
+    }
+
+-- a refused step left all as it was
+pub state_same : {T : Type 0} (old new : GraphState T) → IsAsideSame old new → new.subs ≡ old.subs → new ≡ old
+state_same old new aside subs i = record { hubs = aside.0 i; subs = subs i; joins = aside.1 i }
 
 pub make_refusal : (a b : ℕ) (enabled : Bool) (t : Tree) (r : Refusal) → a ≡ b → IsMakeRefusal a enabled t r → IsMakeRefusal b enabled t r
 make_refusal a b enabled t r s h = let P : ℕ → Type 0 = λ n. IsMakeRefusal n enabled t r in subst P s h

@@ -1,3 +1,6 @@
 pub mod Graphs
+pub mod Inboxes
+pub mod Joins
+pub mod Publishes
 pub mod Sentence
 pub mod Serving

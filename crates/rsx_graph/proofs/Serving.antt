@@ -1,5 +1,5 @@
 -- Where no move of a graph is enabled, what was asked for was delivered.
-use Rattle.std.proofs.Common.{◌≡◌, ℕ, zero, suc, ◌-◌, List, [], ◌∷◌, Some, slice_get, refl, sym, ap, ◌∙◌}
+use Rattle.std.proofs.Common.{◌≡◌, ℕ, zero, suc, ◌-◌, List, [], ◌∷◌, Some, slice_get, refl, sym, ap, ◌∙◌, subst}
 use Rattle.rsx_types.specs.Meaning.{Meaning}
 use Rattle.rsx_types.specs.Stream.{Stream}
 use Rattle.rsx_types.specs.declared.names.Move.{Move}
@@ -13,7 +13,10 @@ use Rattle.rsx_subscriber.specs.Pumped.{IsQuiet}
 use Rattle.rsx_subscriber.specs.Stands.{move_enabled_in}
 use Rattle.rsx_graph.specs.Pumped.{IsAllQuiet}
 use Rattle.rsx_graph.specs.Served.{AllServed}
-use Rattle.rsx_graph.specs.Stands.{AllStand, enabled_at}
+use Rattle.rsx_pipe.specs.Output.{values_then}
+use Rattle.rsx_graph.specs.History.{History, published}
+use Rattle.rsx_graph.specs.Stands.{AllStand, GraphState, StandsFor, all_taken, enabled_at, inboxes}
+use Rattle.rsx_graph.proofs.Inboxes.{all_whole}
 use Rattle.rsx_graph.proofs.Graphs.{past_first, suc_less}
 
 enabled_got : {T : Type 0} (m : Meaning T) (subs : List (Subscription T)) (i : ℕ) (sub : Subscription T) (mv : Move) → slice_get subs i ≡ Some sub → enabled_at m subs i mv ≡ move_enabled_in m sub mv
@@ -28,11 +31,13 @@ quiet_got m subs i sub q e at l =
     let t : Move = Take (Sub (record { 0 = i })) (record { 0 = at }) in
     (sym (enabled_got m subs i sub a e) ∙ q a l, sym (enabled_got m subs i sub s e) ∙ q s l, sym (enabled_got m subs i sub t e) ∙ q t l)
 
-each_served : {T : Type 0} (m : Meaning T) (published : List (Stream T)) (subs : List (Subscription T)) (pasts : List (Past T)) → ((i : ℕ) (s : Subscription T) → slice_get subs i ≡ Some s → IsQuiet m s) → AllStand m published subs pasts → AllServed m published subs pasts
-each_served m published [] [] q h = tt
-each_served m published (s ∷ ss) (p ∷ ps) q h = (served m published s p (q 0 s refl) h.0, each_served m published ss ps (λ i t e. q (suc i) t e) h.1)
-each_served m published [] (p ∷ ps) q h = absurd h
-each_served m published (s ∷ ss) [] q h = absurd h
+each_served : {T : Type 0} (m : Meaning T) (taken waiting : List (Stream T)) (subs : List (Subscription T)) (pasts : List (Past T)) → ((i : ℕ) (s : Subscription T) → slice_get subs i ≡ Some s → IsQuiet m s) → AllStand m taken subs pasts → AllServed m (values_then taken waiting) subs pasts
+each_served m taken waiting [] [] q h = tt
+each_served m taken waiting (s ∷ ss) (p ∷ ps) q h = ((λ live alone within v e. served m taken s p (q 0 s refl) h.0 live alone within waiting v e), each_served m taken waiting ss ps (λ i t e. q (suc i) t e) h.1)
+each_served m taken waiting [] (p ∷ ps) q h = absurd h
+each_served m taken waiting (s ∷ ss) [] q h = absurd h
 
-pub all_served : {T : Type 0} (m : Meaning T) (published : List (Stream T)) (subs : List (Subscription T)) (pasts : List (Past T)) → IsAllQuiet m subs → AllStand m published subs pasts → AllServed m published subs pasts
-all_served m published subs pasts q h = each_served m published subs pasts (λ i s e. quiet_got m subs i s q e) h
+pub all_served : {T : Type 0} (m : Meaning T) (h : History T) (graph : GraphState T) → IsAllQuiet m graph.subs → StandsFor m graph h → AllServed m (published h) graph.subs h.pasts
+all_served {T} m h graph q s =
+    let P : List (Stream T) → Type 0 = λ l. AllServed m l graph.subs h.pasts in
+    subst P (all_whole graph.hubs h.hubs s.hub) (each_served m (all_taken graph.hubs h.hubs) (inboxes graph.hubs) graph.subs h.pasts (λ i t e. quiet_got m graph.subs i t q e) s.all)

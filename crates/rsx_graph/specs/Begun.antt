@@ -1,5 +1,16 @@
 -- A graph with one subscription more.
-use Rattle.std.specs.Prelude.{◌≡◌, List, [], ◌∷◌, ◌++◌}
+use Rattle.std.specs.Prelude.{◌≡◌, ⊤, ◌⊎◌, ℕ, ◌+◌, ◌≤◌, Bool, true, false, ◌&&◌, nat_eq, nat_le, if◌then◌else◌, List, [], ◌∷◌, ◌++◌}
+use Rattle.rsx_types.specs.Meaning.{Meaning}
+use Rattle.rsx_types.specs.Stream.{Stream}
+use Rattle.rsx_hub.specs.declared.TheConstants.{MOST_MEMBERS}
+use Rattle.rsx_model.specs.declared.expr.Expr.TheFolds.{fold-Expr}
+use Rattle.rsx_model.specs.declared.expr.Expr.TheOpen.{Expr-F, Items, Range, Hub, Plain}
+use Rattle.rsx_node.specs.Built.{new_joins}
+use Rattle.rsx_pipe.specs.Published.{AreTaken}
+use Rattle.rsx_subscriber.specs.Past.{subscribed}
+use Rattle.rsx_subscriber.specs.Stands.{Stands}
+use Rattle.rsx_graph.specs.declared.graph.TheConstants.{MOST_SUBSCRIPTIONS}
+use Rattle.rsx_hub.specs.Hub.{HubState, with_members}
 use Rattle.rsx_model.specs.declared.expr.Expr.{Expr}
 use Rattle.rsx_subscriber.specs.declared.subscription.Subscription.{Subscription}
 use Rattle.rsx_subscriber.specs.Begun.{IsFresh}
@@ -7,3 +18,38 @@ use Rattle.rsx_subscriber.specs.Begun.{IsFresh}
 -- a subscription to an expression began, behind the others, which stay
 abbrev pub IsSubscribed : {T : Type 0} → Expr T → List (Subscription T) → List (Subscription T) → Type 0
 IsSubscribed {T} e old new = (sub : Subscription T) × (new ≡ old ++ sub ∷ []) × IsFresh e sub
+
+-- how many leaves of an expression read the hub with this number
+abbrev pub leaves_here : {T : Type 0} → ℕ → Expr-F T ℕ → ℕ
+leaves_here n (Items v) = 0
+leaves_here n (Range a k) = 0
+leaves_here n (Hub h) = if nat_eq h.0 n then 1 else 0
+leaves_here n (Plain g b) = b.value
+
+abbrev pub leaves_on : {T : Type 0} → ℕ → Expr T → ℕ
+leaves_on {T} n = fold-Expr T ℕ (leaves_here n)
+
+-- whether each of these hubs has place for its leaves; the first of them has the number n
+abbrev pub have_places : {T : Type 0} → ℕ → Expr T → List (HubState T) → Bool
+have_places n e [] = true
+have_places n e (h ∷ hs) = nat_le (h.members + leaves_on n e) MOST_MEMBERS && have_places (n + 1) e hs
+
+-- there are as many subscriptions as there may be, or some hub has no place for the leaves
+abbrev pub AreTooMany : {T : Type 0} → Expr T → List (HubState T) → ℕ → Type 0
+AreTooMany e hubs count = (MOST_SUBSCRIPTIONS ≤ count) ⊎ (have_places 0 e hubs ≡ false)
+
+-- this subscription to an expression has just begun, with these joins
+pub record IsPrepared {T : Type 0} (m : Meaning T) (e : Expr T) (hubs : List (HubState T)) (sub : Subscription T) (missed : List ℕ) : Type 0 where
+  pub stands : (published : List (Stream T)) → AreTaken hubs published → Stands m published sub (subscribed e (new_joins hubs e))
+  pub fresh : IsFresh e sub
+  pub joins : missed ≡ new_joins hubs e
+
+-- the leaves of the expression joined each hub, and are counted there
+abbrev pub HaveJoinedFrom : {T : Type 0} → ℕ → Expr T → List (HubState T) → List (HubState T) → Type 0
+HaveJoinedFrom n e [] [] = ⊤
+HaveJoinedFrom n e (h ∷ hs) (k ∷ ks) = (k ≡ with_members h (leaves_on n e)) × HaveJoinedFrom (n + 1) e hs ks
+HaveJoinedFrom n e [] (k ∷ ks) = ⊥
+HaveJoinedFrom n e (h ∷ hs) [] = ⊥
+
+abbrev pub HaveJoined : {T : Type 0} → Expr T → List (HubState T) → List (HubState T) → Type 0
+HaveJoined e old new = HaveJoinedFrom 0 e old new

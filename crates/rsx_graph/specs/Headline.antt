@@ -5,7 +5,7 @@ use Rattle.rsx_types.specs.Stream.{Stream}
 use Rattle.rsx_subscriber.specs.declared.subscription.Subscription.{Subscription}
 use Rattle.rsx_subscriber.specs.Holds.{Holds}
 use Rattle.rsx_subscriber.specs.Past.{Past}
-use Rattle.rsx_graph.specs.History.{History}
+use Rattle.rsx_graph.specs.History.{History, published}
 
 -- the sentence for each subscriber
 abbrev pub AllHold : {T : Type 0} → Meaning T → List (Stream T) → List (Subscription T) → List (Past T) → Type 0
@@ -16,4 +16,4 @@ AllHold m published (s ∷ ss) [] = ⊥
 
 -- the sentence for a whole graph after a history
 abbrev pub Headline : {T : Type 0} → Meaning T → List (Subscription T) → History T → Type 0
-Headline m subs h = AllHold m h.published subs h.pasts
+Headline m subs h = AllHold m (published h) subs h.pasts

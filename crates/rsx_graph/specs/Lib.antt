@@ -3,6 +3,7 @@ pub mod Begun
 pub mod Done
 pub mod Headline
 pub mod History
+pub mod Hubs
 pub mod InGraph
 pub mod Names
 pub mod Pumped

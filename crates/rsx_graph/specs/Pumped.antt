@@ -14,8 +14,10 @@ use Rattle.rsx_graph.specs.declared.refusal.Refusal.{Refusal}
 use Rattle.rsx_graph.specs.declared.refusal.Refusal.TheVariants.{NoMemory}
 use Rattle.rsx_graph.specs.declared.step.Pumped.{Pumped}
 use Rattle.rsx_graph.specs.declared.step.Pumped.TheVariants.{Idle, Budget}
-use Rattle.rsx_graph.specs.History.{History, delivered, tree_of}
-use Rattle.rsx_graph.specs.Stands.{StandsFor, IsMade, enabled_in_tree, pump_allocates}
+use Rattle.rsx_types.specs.Stream.{Stream}
+use Rattle.rsx_subscriber.specs.Past.{Past}
+use Rattle.rsx_graph.specs.History.{pasts_after, tree_of}
+use Rattle.rsx_graph.specs.Stands.{AllStand, IsMade, enabled_in_tree, pump_allocates}
 
 -- an enabled move of a graph was made, and had its effect: what `make` promises
 pub record IsMoveMade {T : Type 0} (m : Meaning T) (old : List (Subscription T)) (o : Option (SubId × Signal T)) (new : List (Subscription T)) : Type 0 where
@@ -29,7 +31,7 @@ pub record AllPumped {T : Type 0} (m : Meaning T) (count : ℕ) (old : List (Sub
   pub signals : List (SubId × Signal T)
   pub output : after ≡ before ++ signals
   pub moves : Leads (IsMoveMade m) count old signals new
-  pub stands : (h : History T) → StandsFor m old h → StandsFor m new (delivered h signals)
+  pub stands : (published : List (Stream T)) (pasts : List (Past T)) → AllStand m published old pasts → AllStand m published new (pasts_after signals pasts)
   -- whether a move may allocate stays
   pub alike : (a : Allocates) → pump_allocates a new ≡ pump_allocates a old
 

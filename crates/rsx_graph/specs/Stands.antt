@@ -1,5 +1,5 @@
 -- What a graph stands for, its enabled moves, and what a move changes.
-use Rattle.std.specs.Prelude.{◌≡◌, ℕ, Bool, false, ◌||◌, nat_eq, if◌then◌else◌, List, [], ◌∷◌, Option, Some, ◌-◌, slice_get, ℤ, zero, suc, slice_set}
+use Rattle.std.specs.Prelude.{◌≡◌, ⊤, ℕ, Bool, true, false, ◌||◌, nat_eq, if◌then◌else◌, List, [], ◌∷◌, Option, Some, ◌-◌, map, take, slice_get, ℤ, zero, suc, slice_set}
 use Rattle.rsx_types.specs.Meaning.{Meaning, Allocates}
 use Rattle.rsx_types.specs.Stream.{Stream}
 use Rattle.rsx_types.specs.declared.note.Note.{Note}
@@ -8,13 +8,16 @@ use Rattle.rsx_types.specs.declared.names.Tree.{Tree}
 use Rattle.rsx_types.specs.declared.names.Tree.TheVariants.{Sub, Feed}
 use Rattle.rsx_types.specs.declared.names.Move.{Move}
 use Rattle.rsx_types.specs.declared.signal.Signal.{Signal}
+use Rattle.rsx_hub.specs.Hub.{HubState, HasTakenIn, hub_value}
+use Rattle.rsx_hub.specs.Member.{ending_taken}
+use Rattle.rsx_hub.specs.Waiting.{is_open}
 use Rattle.rsx_pipe.specs.Part as Part
 use Rattle.rsx_pipe.specs.Tree.{notes_of}
 use Rattle.rsx_subscriber.specs.declared.subscription.Subscription.{Subscription}
 use Rattle.rsx_subscriber.specs.Edited.{IsRequested, IsCancelled}
 use Rattle.rsx_subscriber.specs.Past.{Past, request_answer}
 use Rattle.rsx_subscriber.specs.Stands.{Stands, standing_of, make_allocates, move_enabled_in, owes_in, IsEffect}
-use Rattle.rsx_graph.specs.History.{History}
+use Rattle.rsx_graph.specs.History.{History, HubPast, published}
 
 -- each subscription stands for its own past
 abbrev pub AllStand : {T : Type 0} → Meaning T → List (Stream T) → List (Subscription T) → List (Past T) → Type 0
@@ -23,9 +26,60 @@ AllStand m published (s ∷ ss) (p ∷ ps) = Stands m published s p × AllStand 
 AllStand m published [] (p ∷ ps) = ⊥
 AllStand m published (s ∷ ss) [] = ⊥
 
--- a graph of these subscriptions stands for a history
-abbrev pub StandsFor : {T : Type 0} → Meaning T → List (Subscription T) → History T → Type 0
-StandsFor m subs h = AllStand m h.published subs h.pasts
+-- ---- hubs
+
+-- a hub stands for what has happened there: of what was published it took the first items in, so many as the count says, and
+-- the others stand in its inbox
+pub record HubStands {T : Type 0} (s : HubState T) (p : HubPast T) : Type 0 where
+  pub kind : s.kind ≡ p.kind
+  pub count : s.count ≡ p.count
+  pub items : List T
+  pub taken : HasTakenIn s items
+  pub value : p.value ≡ hub_value s items
+  pub ended : s.has_ended ≡ true → (s.inbox ≡ []) × (is_open s.ending ≡ false)
+
+abbrev pub HubsStand : {T : Type 0} → List (HubState T) → List (HubPast T) → Type 0
+HubsStand [] [] = ⊤
+HubsStand (s ∷ ss) (p ∷ ps) = HubStands s p × HubsStand ss ps
+HubsStand [] (p ∷ ps) = ⊥
+HubsStand (s ∷ ss) [] = ⊥
+
+-- what a hub took in, and handed to its readers
+abbrev pub taken_of : {T : Type 0} → HubState T → HubPast T → Stream T
+taken_of s p = record { items = take p.count p.value.items; ending = ending_taken s.has_ended s.ending }
+
+-- what each hub did
+abbrev pub all_taken : {T : Type 0} → List (HubState T) → List (HubPast T) → List (Stream T)
+all_taken [] ps = []
+all_taken (s ∷ ss) [] = []
+all_taken (s ∷ ss) (p ∷ ps) = taken_of s p ∷ all_taken ss ps
+
+-- what waits in its inbox
+abbrev pub waiting_of : {T : Type 0} → HubState T → Stream T
+waiting_of s = record { items = s.inbox; ending = s.ending }
+
+-- in the inbox of each
+abbrev pub inboxes : {T : Type 0} → List (HubState T) → List (Stream T)
+inboxes hubs = map waiting_of hubs
+
+-- ---- a whole graph
+
+-- its hubs, its subscriptions, and the joins of each subscription's leaves
+pub record GraphState (T : Type 0) : Type 0 where
+  pub hubs : List (HubState T)
+  pub subs : List (Subscription T)
+  pub joins : List (List ℕ)
+
+-- a graph that has just begun
+abbrev pub nothing : {T : Type 0} → GraphState T
+nothing = record { hubs = []; subs = []; joins = [] }
+
+-- a graph stands for a history
+pub record StandsFor {T : Type 0} (m : Meaning T) (g : GraphState T) (h : History T) : Type 0 where
+  pub hub : HubsStand g.hubs h.hubs
+  -- each subscription stands for its past, where the hubs published what they took in
+  pub all : AllStand m (all_taken g.hubs h.hubs) g.subs h.pasts
+  pub joined : g.joins ≡ map (λ p. p.joins) h.pasts
 
 -- ---- enabled moves
 
@@ -62,7 +116,7 @@ OwedAt m published [] ps i v = ⊥
 OwedAt m published (s ∷ ss) [] i v = ⊥
 
 abbrev pub IsOwed : {T : Type 0} → Meaning T → List (Subscription T) → History T → SubId → Stream T → Type 0
-IsOwed m subs h i v = OwedAt m h.published subs h.pasts i.0 v
+IsOwed m subs h i v = OwedAt m (published h) subs h.pasts i.0 v
 
 -- these are the notes of a tree
 abbrev pub HasNotesAt : {T : Type 0} → List (Subscription T) → SubId → List Note → Type 0
@@ -73,6 +127,14 @@ HasNotes subs (Sub i) ns = HasNotesAt subs i ns
 HasNotes subs (Feed h) ns = ⊥
 
 -- ---- what an edit changes
+
+-- the hubs stay, and the joins of all subscriptions
+abbrev pub IsAsideSame : {T : Type 0} → GraphState T → GraphState T → Type 0
+IsAsideSame old new = (new.hubs ≡ old.hubs) × (new.joins ≡ old.joins)
+
+-- the subscriptions stay, and their joins
+abbrev pub IsRestSame : {T : Type 0} → GraphState T → GraphState T → Type 0
+IsRestSame old new = (new.subs ≡ old.subs) × (new.joins ≡ old.joins)
 
 -- the subscription with this number took a request of n, and no other one changed
 pub record IsRequestedAt {T : Type 0} (i : ℕ) (n : ℤ) (subs news : List (Subscription T)) (o : Option (Signal T)) : Type 0 where

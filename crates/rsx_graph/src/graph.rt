@@ -4,14 +4,16 @@ ghost use Rattle.std.specs.Prelude.{◌≡◌, ◌≢◌, ◌<◌, ◌≤◌, �
 ghost use Rattle.rsx_subscriber.specs.Delivered.{IsFull};
 ghost use Rattle.rsx_subscriber.specs.Past.{given, cancelled, requested};
 ghost use Rattle.rsx_subscriber.specs.Stands.{IsInside, IsMadeAnswer};
-ghost use Rattle.rsx_graph.specs.History.{no_history, with_subscriber, with_past, with_made, extended, all_extended, IsSubscribeId, IsSubscribeRefusal, Belongs, AllBelong, HasAsked, state_at, IsLookRefusal, IsTreeRefusal, IsKnownTree, tree_of};
-ghost use Rattle.rsx_graph.specs.Stands.{StandsFor, IsRequestedAt, IsCancelledAt, IsOwed, HasNotes, HasNotesAt, pump_allocates};
-ghost use Rattle.rsx_graph.specs.Begun.{IsSubscribed};
+ghost use Rattle.rsx_graph.specs.History.{no_history, with_subscriber, with_past, with_made, extended, all_extended, IsSubscribeId, IsSubscribeRefusal, Belongs, AllBelong, HasAsked, HasTreeJoins, state_at, IsLookRefusal, IsTreeRefusal, tree_of};
+ghost use Rattle.rsx_graph.specs.Stands.{StandsFor, IsAsideSame, nothing, IsRequestedAt, IsCancelledAt, IsOwed, HasNotes, HasNotesAt, pump_allocates};
+ghost use Rattle.rsx_graph.specs.Begun.{IsSubscribed, HaveJoined, AreTooMany};
 ghost use Rattle.rsx_graph.specs.Served.{IsAllServed};
-ghost use Rattle.rsx_graph.specs.declared.graph.TheConstants.{MOST_SUBSCRIPTIONS};
+ghost use Rattle.rsx_graph.specs.declared.graph.TheConstants.{MOST_SUBSCRIPTIONS, MOST_HUBS};
 
+use crate::joining::{copied, count_in, have_places, inboxes_of};
 use crate::refusal::Refusal;
 use crate::step::{Answer, Pumped, Step};
+use rsx_hub::Hub;
 use rsx_model::{Expr, check_expr};
 use rsx_pipe::Pumped as Driven;
 use rsx_sources::NotMade;
@@ -22,61 +24,77 @@ use std::alloc::Global;
 /// The most subscriptions of a graph.
 pub const MOST_SUBSCRIPTIONS: usize = 256;
 
-/// Subscriptions to expressions, driven by edits and moves.
+/// The most hubs of a graph.
+pub const MOST_HUBS: usize = 64;
+
+/// Hubs, and subscriptions to expressions, driven by edits and moves.
 #[derive(Drop)]
 pub struct Graph<O: Ops> {
     /// The functions of the caller.
-    ops: O,
+    pub(crate) ops: O,
+    /// The hubs, in the order of their making.
+    pub(crate) hubs: Vec<Hub<O::Item>>,
     /// The subscriptions, in the order of their making.
-    subscriptions: Vec<Subscription<O::Item>>,
+    pub(crate) subscriptions: Vec<Subscription<O::Item>>,
+    /// The joins of each subscription's leaves that read a hub, from left to right.
+    pub(crate) joins: Vec<Vec<u64>>,
     pub ghost few: { length subscriptions.items ≤ MOST_SUBSCRIPTIONS },
+    pub ghost few_hubs: { length hubs.items ≤ MOST_HUBS },
 }
 
 impl<O: Ops> Graph<O> {
-    ghost use Rattle.rsx_graph.specs.InGraph.{IfStandsFor, StandsAfter, enabled_in, allocates_in, IsMadeIn, IsRefusedIn, HasPumped, HasPumpedAt, IsDoneIn, AllDoneIn};
+    ghost use Rattle.rsx_graph.specs.InGraph.{state_of, IfStandsFor, StandsAfter, enabled_in, allocates_in, IsMadeIn, IsRefusedIn, HasPumped, HasPumpedAt, IsDoneIn, AllDoneIn};
 
-    /// A graph with no subscription. It takes no memory so far, and is never refused.
+    /// A graph with no hub and no subscription. It takes no memory so far, and is never refused.
     pub fn new(alloc: Global, ops: O) -> Result<Graph<O>, Refusal>
         ensures made { IsOk result }
         ensures ops { IfOk result (λ g. g.ops ≡ ops) }
-        ensures empty { IfOk result (λ g. g.subscriptions.items ≡ []) }
-        ensures stands { IfOk result (λ g. StandsFor (O.meaning ops) g.subscriptions.items no_history) }
+        ensures empty { IfOk result (λ g. state_of g ≡ nothing) }
+        ensures stands { IfOk result (λ g. StandsFor (O.meaning ops) (state_of g) no_history) }
     {
         Ok(Graph {
             ops,
+            hubs: Vec::new(alloc),
             subscriptions: Vec::new(alloc),
+            joins: Vec::new(alloc),
         })
     }
 
     /// Subscribes to an expression. The subscription stands behind the others, so its number is how many there were. It is
-    /// open, and nothing was asked of it yet.
+    /// open, and nothing was asked of it yet. Each of its leaves that reads a hub has joined that hub: it misses the items that
+    /// the hub took in before, but for those that a replay keeps.
     ///
     /// # Errors
-    /// G6 exactly where the expression goes past a limit or names a hub, else G5 exactly where there are
-    /// [`MOST_SUBSCRIPTIONS`], else G8 where a growth was refused; nothing changed.
+    /// G6 exactly where the expression goes past a limit or names a hub that isn't there, else G5 exactly where there are
+    /// [`MOST_SUBSCRIPTIONS`] or a hub has no place for its leaves, else G8 where a growth was refused. Nothing changed, and
+    /// nobody has joined.
     pub fn subscribe(&mut self, alloc: Global, expr: &Expr<O::Item>) -> Result<SubId, Refusal>
         ensures ops { self.new.ops ≡ self.old.ops }
         ensures stands { OnOk result (StandsAfter (with_subscriber expr.now) self.old self.new) }
         ensures effect { OnOk result (IsSubscribed expr.now self.old.subscriptions.items self.new.subscriptions.items) }
-        ensures id { IfOk result (λ id. IsSubscribeId (length self.old.subscriptions.items) expr.now id) }
-        ensures err { IfErr result (λ r. IsSubscribeRefusal (length self.old.subscriptions.items) expr.now r) }
-        ensures same { OnErr result (self.new.subscriptions.items ≡ self.old.subscriptions.items) }
+        ensures joined { OnOk result (HaveJoined expr.now self.old.hubs.items self.new.hubs.items) }
+        ensures id { IfOk result (λ id. IsSubscribeId (length self.old.hubs.items) (length self.old.subscriptions.items) expr.now id) }
+        ensures err { IfErr result (λ r. IsSubscribeRefusal (length self.old.hubs.items) (length self.old.subscriptions.items) expr.now r) }
+        ensures places { IfErr result (λ r. r ≡ Refusal.TooMany → AreTooMany expr.now self.old.hubs.items (length self.old.subscriptions.items)) }
+        ensures same { OnErr result (state_of self.new ≡ state_of self.old) }
     {
-        if let Err(kind) = check_expr(expr, 0) {
+        if let Err(kind) = check_expr(expr, self.hubs.len() as u32) {
             return Err(Refusal::BadExpr(kind));
         }
         let count = self.subscriptions.len();
-        if count >= MOST_SUBSCRIPTIONS {
+        if count >= MOST_SUBSCRIPTIONS || !have_places(expr, &self.hubs) {
             return Err(Refusal::TooMany);
         }
-        let subscription = match Subscription::new(alloc, &self.ops, expr) {
-            Ok(subscription) => subscription,
+        let made = match self.prepare(alloc, expr) {
+            Ok(made) => made,
             Err(NoMemory) => return Err(Refusal::NoMemory),
         };
-        match add(&mut self.subscriptions, subscription) {
-            Ok(()) => Ok(SubId(count as u32)),
-            Err(NoMemory) => Err(Refusal::NoMemory),
+        match self.add(made) {
+            Ok(()) => {}
+            Err(NoMemory) => return Err(Refusal::NoMemory),
         }
+        count_in(expr, &mut self.hubs);
+        Ok(SubId(count as u32))
     }
 
     /// Cancels a subscription (rules 3.5 to 3.7): the edges of its part are closed, and nothing is queued for it. Where it
@@ -86,6 +104,7 @@ impl<O: Ops> Graph<O> {
     /// G2 exactly where there is no such subscription; nothing changed.
     pub fn cancel(&mut self, sub: SubId) -> Result<(), Refusal>
         ensures ops { self.new.ops ≡ self.old.ops }
+        ensures aside { IsAsideSame (state_of self.old) (state_of self.new) }
         ensures stands { OnOk result (StandsAfter (with_past cancelled sub) self.old self.new) }
         ensures effect { OnOk result (IsCancelledAt sub.0 self.old.subscriptions.items self.new.subscriptions.items) }
         ensures known { OnOk result (sub.0 < length self.old.subscriptions.items) }
@@ -108,6 +127,7 @@ impl<O: Ops> Graph<O> {
     /// G2 exactly where there is no such subscription; nothing changed.
     pub fn request(&mut self, sub: SubId, n: i64) -> Result<Option<Signal<O::Item>>, Refusal>
         ensures ops { self.new.ops ≡ self.old.ops }
+        ensures aside { IsAsideSame (state_of self.old) (state_of self.new) }
         ensures stands { OnOk result (StandsAfter (with_past (requested n) sub) self.old self.new) }
         ensures effect { IfOk result (λ o. IsRequestedAt sub.0 n self.old.subscriptions.items self.new.subscriptions.items o) }
         ensures err { IfErr result (λ r. (r ≡ Refusal.UnknownSub) × (length self.old.subscriptions.items ≤ sub.0)) }
@@ -133,6 +153,7 @@ impl<O: Ops> Graph<O> {
         step: Move,
     ) -> Result<Option<(SubId, Signal<O::Item>)>, Refusal>
         ensures ops { self.new.ops ≡ self.old.ops }
+        ensures aside { IsAsideSame (state_of self.old) (state_of self.new) }
         ensures stands { IfOk result (λ o. StandsAfter (with_made o) self.old self.new) }
         ensures answer { IfOk result (λ o. IsMadeAnswer step o) }
         ensures enabled { OnOk result (enabled_in self.old (tree_of step) step ≡ true) }
@@ -164,6 +185,7 @@ impl<O: Ops> Graph<O> {
     fn make_inside(&mut self, alloc: Global, sub: SubId, step: Move) -> Result<(), Refusal>
         requires { IsInside step }
         ensures ops { self.new.ops ≡ self.old.ops }
+        ensures aside { IsAsideSame (state_of self.old) (state_of self.new) }
         ensures stands { OnOk result (StandsAfter (λ h. h) self.old self.new) }
         ensures enabled { OnOk result (enabled_in self.old (Tree.Sub sub) step ≡ true) }
         ensures effect { OnOk result (IsMadeIn (Tree.Sub sub) step self.old self.new None) }
@@ -187,6 +209,7 @@ impl<O: Ops> Graph<O> {
     /// Makes the Take from the queue of a subscription.
     fn make_take(&mut self, sub: SubId, node: NodeId) -> Result<Signal<O::Item>, Refusal>
         ensures ops { self.new.ops ≡ self.old.ops }
+        ensures aside { IsAsideSame (state_of self.old) (state_of self.new) }
         ensures stands { IfOk result (λ s. StandsAfter (with_past (given s) sub) self.old self.new) }
         ensures enabled { OnOk result (enabled_in self.old (Tree.Sub sub) (Move.Take (Tree.Sub sub) node) ≡ true) }
         ensures effect { IfOk result (λ s. IsMadeIn (Tree.Sub sub) (Move.Take (Tree.Sub sub) node) self.old self.new (Some (sub, s))) }
@@ -219,10 +242,11 @@ impl<O: Ops> Graph<O> {
         out: &mut Deliveries<O::Item>,
     ) -> Result<Pumped, Refusal>
         ensures ops { self.new.ops ≡ self.old.ops }
+        ensures aside { IsAsideSame (state_of self.old) (state_of self.new) }
         ensures pumped { HasPumped budget self.old out.old result self.new out.new }
 
         // Idle means delivered.
-        ensures served { IfOk result (λ p. p ≡ Pumped.Idle → IsAllServed (O.meaning self.old.ops) self.new.subscriptions.items) }
+        ensures served { IfOk result (λ p. p ≡ Pumped.Idle → IsAllServed (O.meaning self.old.ops) (state_of self.new)) }
 
         // Where no move may allocate, there is want of memory only for the list of deliveries.
         ensures memory { pump_allocates (O.allocates self.old.ops) self.old.subscriptions.items ≡ false → OnErr result (IsFull out.new) }
@@ -249,6 +273,7 @@ impl<O: Ops> Graph<O> {
     ) -> Result<Driven, Refusal>
         requires { sub.0 < length self.old.subscriptions.items }
         ensures ops { self.new.ops ≡ self.old.ops }
+        ensures aside { IsAsideSame (state_of self.old) (state_of self.new) }
         ensures count { length self.new.subscriptions.items ≡ length self.old.subscriptions.items }
         ensures pumped { HasPumpedAt sub.0 budget self.old out.old result self.new out.new }
         ensures memory { pump_allocates (O.allocates self.old.ops) self.old.subscriptions.items ≡ false → OnErr result (IsFull out.new) }
@@ -261,8 +286,8 @@ impl<O: Ops> Graph<O> {
         }
     }
 
-    /// What the graph still owes a subscriber: what is on its root edge, and then what comes out of its tree where nothing
-    /// more is published and nothing more is chosen. For a subscriber that got its ending or isn't live it is nothing, Open.
+    /// What the graph still owes a subscriber: what is on its root edge, and then what comes out of its tree where just what
+    /// stands in the hubs' inboxes is still published and nothing more is chosen. For a subscriber that got its ending or isn't live it is nothing, Open.
     ///
     /// # Errors
     /// G2 exactly where there is no such subscription, and G8 where a growth was refused.
@@ -279,8 +304,10 @@ impl<O: Ops> Graph<O> {
             SubscriptionState::Open => {}
             _ => return Ok(StreamValue::new(Vec::new(alloc), Ending::Open)),
         }
-        // There are no hubs yet.
-        let inboxes: [StreamValue<O::Item>; 0] = [];
+        let inboxes = match inboxes_of(alloc, &self.ops, &self.hubs) {
+            Ok(inboxes) => inboxes,
+            Err(NoMemory) => return Err(Refusal::NoMemory),
+        };
         match subscription.owed(alloc, &self.ops, &inboxes) {
             Ok(value) => Ok(value),
             Err(NoMemory) => Err(Refusal::NoMemory),
@@ -319,24 +346,23 @@ impl<O: Ops> Graph<O> {
         }
     }
 
-    /// The joins of a tree's hub leaves, from left to right; no tree has one yet. An empty list takes no memory.
+    /// The joins of a tree's leaves that read a hub, from left to right: how many items of its hub each of them misses.
     ///
     /// # Errors
-    /// G1 for the tree of a hub, and G2 where there is no such subscription.
+    /// G1 for the tree of a hub, G2 where there is no such subscription, and G8 where a growth was refused.
     pub fn joins(&self, alloc: Global, tree: Tree) -> Result<Vec<u64>, Refusal>
-        ensures known { OnOk result (IsKnownTree (length self.now.subscriptions.items) tree) }
-        ensures joins { IfOk result (λ v. v.items ≡ []) }
-        ensures err { IfErr result (λ r. IsTreeRefusal (length self.now.subscriptions.items) tree r) }
-        ensures memory { IfErr result (λ r. r ≢ Refusal.NoMemory) }
+        ensures joins { IfOk result (λ v. IfStandsFor self.now (λ h. HasTreeJoins h.pasts tree v.items)) }
+        ensures err { IfErr result (λ r. IsTreeRefusal (length self.now.joins.items) tree r) }
     {
         match tree {
             Tree::Feed(_) => Err(Refusal::UnknownHub),
-            Tree::Sub(sub) => {
-                if sub.0 as usize >= self.subscriptions.len() {
-                    return Err(Refusal::UnknownSub);
-                }
-                Ok(Vec::new(alloc))
-            }
+            Tree::Sub(sub) => match self.joins.get(sub.0 as usize) {
+                Some(joins) => match copied(alloc, joins) {
+                    Ok(joins) => Ok(joins),
+                    Err(NoMemory) => Err(Refusal::NoMemory),
+                },
+                None => Err(Refusal::UnknownSub),
+            },
         }
     }
 
@@ -374,7 +400,7 @@ impl<O: Ops> Graph<O> {
     }
 
     /// Makes one step, and answers what its call answers. A refused step comes in the cases of that call, and leaves all as
-    /// it was.
+    /// it was. Of an item that is emitted a copy is made.
     pub fn step(&mut self, alloc: Global, step: &Step<O::Item>) -> Answer<O::Item>
         ensures ops { self.new.ops ≡ self.old.ops }
         ensures stands { StandsAfter (λ h. extended h step.now result) self.old self.new }
@@ -400,6 +426,26 @@ impl<O: Ops> Graph<O> {
                 Ok(delivered) => Answer::Made(delivered),
                 Err(why) => Answer::Refused(why),
             },
+            Step::Hub(kind, capacity) => match self.hub(alloc, *kind, *capacity) {
+                Ok(id) => Answer::Opened(id),
+                Err(why) => Answer::Refused(why),
+            },
+            Step::Emit(hub, item) => match self.emit_copy(alloc, *hub, item) {
+                Ok(()) => Answer::Published,
+                Err(why) => Answer::Refused(why),
+            },
+            Step::Complete(hub) => match self.complete(*hub) {
+                Ok(()) => Answer::Published,
+                Err(why) => Answer::Refused(why),
+            },
+            Step::Fail(hub, number) => match self.fail(*hub, *number) {
+                Ok(()) => Answer::Published,
+                Err(why) => Answer::Refused(why),
+            },
+            Step::Accept(hub) => match self.accept(alloc, *hub) {
+                Ok(()) => Answer::Accepted,
+                Err(why) => Answer::Refused(why),
+            },
         }
     }
 
@@ -419,7 +465,7 @@ impl<O: Ops> Graph<O> {
 
         // What was done, step by step.
         ensures done { IfOk result (λ answers. AllDoneIn steps.items answers.items self.old self.new) }
-        ensures err { IfErr result (λ back. (back.items ≡ steps.items) × (self.new.subscriptions.items ≡ self.old.subscriptions.items)) }
+        ensures err { IfErr result (λ back. (back.items ≡ steps.items) × (state_of self.new ≡ state_of self.old)) }
     {
         let mut answers = match Vec::with_capacity(alloc, steps.len()) {
             Ok(answers) => answers,
@@ -430,19 +476,5 @@ impl<O: Ops> Graph<O> {
             answers.push_reserved(answer);
         }
         Ok(answers)
-    }
-}
-
-/// Puts a subscription behind the others.
-fn add<T: Drop>(
-    subscriptions: &mut Vec<Subscription<T>>,
-    subscription: Subscription<T>,
-) -> Result<(), NoMemory>
-    ensures ok { OnOk result (subscriptions.new.items ≡ subscriptions.old.items ++ subscription ∷ []) }
-    ensures err { OnErr result (subscriptions.new.items ≡ subscriptions.old.items) }
-{
-    match subscriptions.push(subscription) {
-        Ok(()) => Ok(()),
-        Err(_) => Err(NoMemory),
     }
 }

@@ -1,17 +1,15 @@
 //! The headline, and that idle means delivered, for whoever reads nothing else.
 
-ghost use Rattle.std.specs.Prelude.{List};
 ghost use Rattle.rsx_types.specs.Meaning.{Meaning};
-ghost use Rattle.rsx_subscriber.specs.declared.subscription.Subscription.{Subscription as AnySubscription};
-ghost use Rattle.rsx_graph.specs.History.{History};
-ghost use Rattle.rsx_graph.specs.Stands.{StandsFor};
+ghost use Rattle.rsx_graph.specs.History.{History, published};
+ghost use Rattle.rsx_graph.specs.Stands.{GraphState, StandsFor};
 ghost use Rattle.rsx_graph.specs.Headline.{Headline};
 ghost use Rattle.rsx_graph.specs.Pumped.{IsAllQuiet};
 ghost use Rattle.rsx_graph.specs.Served.{AllServed};
 
 use rsx_types::Ops;
 
-/// The headline: wherever the subscriptions of a graph stand for a history, what each live subscriber received, followed
+/// The headline: wherever a graph stands for a history, what each live subscriber received, followed
 /// by what it is still owed, is its expression evaluated from scratch; it received no more than it asked for and nothing
 /// after an ending; and a subscriber that isn't live holds a prefix.
 ///
@@ -19,15 +17,15 @@ use rsx_types::Ops;
 /// leads from the history so far to the one that its steps and answers extend it to. So the sentence holds after any list
 /// of edits and moves, in any order. The function does nothing; its contract is the sentence.
 pub fn headline<O: Ops>()
-    ensures { (m : Meaning O.Item) (subs : List (AnySubscription O.Item)) (h : History O.Item) → StandsFor m subs h → Headline m subs h }
+    ensures { (m : Meaning O.Item) (graph : GraphState O.Item) (h : History O.Item) → StandsFor m graph h → Headline m graph.subs h }
 {}
 
-/// Idle means delivered: wherever the subscriptions of a graph stand for a history and no move is enabled, each live
-/// subscriber got the first items of its expression's value, as many as it asked for or as there are; and the ending too,
+/// Idle means delivered: wherever a graph stands for a history and no move is enabled, each live subscriber whose expression
+/// reads no hub got the first items of its expression's value, as many as it asked for or as there are; and the ending too,
 /// where it asked for more than there are and the value has one. It holds as long as no edge has carried 2^63-1 items.
 ///
 /// `Graph::pump` answers Idle only where no move is enabled. The function does nothing; its contract is the sentence.
 pub fn idle_means_delivered<O: Ops>()
-    ensures { (m : Meaning O.Item) (subs : List (AnySubscription O.Item)) (h : History O.Item) →
-        StandsFor m subs h → IsAllQuiet m subs → AllServed m h.published subs h.pasts }
+    ensures { (m : Meaning O.Item) (graph : GraphState O.Item) (h : History O.Item) →
+        StandsFor m graph h → IsAllQuiet m graph.subs → AllServed m (published h) graph.subs h.pasts }
 {}

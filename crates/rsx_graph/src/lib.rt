@@ -2,6 +2,7 @@
 //! Graphs of subscriptions to expressions, driven by edits (subscribe, request, cancel) and moves (Ask, Send, Take).
 //!
 //! - [`graph`]: [`Graph`], with every edit, move and look; `run` makes a list of steps.
+//! - [`hubs`]: its hubs: `hub`, `emit`, `complete`, `fail`, and `accept`, by which a hub hands a signal to its readers.
 //! - [`law`]: `headline`, what is proved of all of them, as the contract of one function.
 //! - [`replays`]: `replay`, a list of steps from nothing, whose contract is the headline with no premise.
 //! - [`step`], [`refusal`]: the types that the calls speak of.
@@ -12,12 +13,15 @@
 //! Those of one subscription are in `rsx_subscriber`, and those of parts, trees and edges below it.
 
 pub mod graph;
+pub mod hubs;
+mod joining;
 pub mod law;
 pub mod refusal;
 pub mod replays;
 pub mod step;
 
-pub use graph::{Graph, MOST_SUBSCRIPTIONS};
+pub use graph::{Graph, MOST_HUBS, MOST_SUBSCRIPTIONS};
+pub use hubs::NotEmitted;
 pub use law::headline;
 pub use refusal::Refusal;
 pub use replays::replay;

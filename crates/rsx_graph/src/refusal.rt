@@ -17,10 +17,18 @@ pub enum Refusal {
     /// G2: no such subscription.
     #[error("unknown subscription")]
     UnknownSub,
-    /// G5: the graph has [`MOST_SUBSCRIPTIONS`](crate::MOST_SUBSCRIPTIONS), 256.
+    /// G3: the hub has ended.
+    #[error("ended")]
+    Ended,
+    /// G4: the hub's inbox holds as many items as its capacity, or more.
+    #[error("full")]
+    Full,
+    /// G5: the graph has [`MOST_SUBSCRIPTIONS`](crate::MOST_SUBSCRIPTIONS), 256, or [`MOST_HUBS`](crate::MOST_HUBS), 64; or a
+    /// hub has had 64 members, or has accepted 2^63 - 1 items.
     #[error("too many")]
     TooMany,
-    /// G6: the expression goes past a limit, or names a hub: no graph has hubs yet.
+    /// G6: the expression goes past a limit, or names a hub that isn't there; or a hub's capacity or its number of a replay is
+    /// not 1 to 1,024.
     #[error("bad expression: {0}")]
     BadExpr(BadExpr),
     /// G7: the move is not enabled.
@@ -39,6 +47,8 @@ impl Refusal {
         match self {
             Refusal::UnknownHub => "G1",
             Refusal::UnknownSub => "G2",
+            Refusal::Ended => "G3",
+            Refusal::Full => "G4",
             Refusal::TooMany => "G5",
             Refusal::BadExpr(_) => "G6",
             Refusal::NotEnabled => "G7",

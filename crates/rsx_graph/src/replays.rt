@@ -3,6 +3,7 @@
 ghost use Rattle.std.specs.Prelude.{◌≡◌, IfOk, IfErr};
 ghost use Rattle.rsx_graph.specs.History.{all_extended, no_history};
 ghost use Rattle.rsx_graph.specs.Replayed.{IsReplayed};
+ghost use Rattle.rsx_graph.specs.InGraph.{state_of};
 ghost use Rattle.rsx_graph.specs.Stands.{StandsFor};
 
 use crate::graph::Graph;
@@ -10,7 +11,7 @@ use crate::step::{Answer, Step};
 use rsx_types::Ops;
 use std::alloc::Global;
 
-/// Makes the steps, in their order, on a graph with no subscription: the graph after them, and the answer of each.
+/// Makes the steps, in their order, on a graph with no hub and no subscription: the graph after them, and the answer of each.
 ///
 /// The contract is the headline for what this call gives back, and speaks of no state that a caller would have to know: each
 /// step did what its answer says, each answer belongs to its step, and what each live subscriber received by these answers,
@@ -24,10 +25,10 @@ pub fn replay<O: Ops>(
     steps: Vec<Step<O::Item>>,
 ) -> Result<(Graph<O>, Vec<Answer<O::Item>>), Vec<Step<O::Item>>>
     ensures ops { IfOk result (λ r. r.0.ops ≡ ops) }
-    ensures replayed { IfOk result (λ r. IsReplayed (O.meaning ops) (O.allocates ops) steps.items r.1.items r.0.subscriptions.items) }
+    ensures replayed { IfOk result (λ r. IsReplayed (O.meaning ops) (O.allocates ops) steps.items r.1.items (state_of r.0)) }
 
     // Further calls of the graph go on from here.
-    ensures stands { IfOk result (λ r. StandsFor (O.meaning ops) r.0.subscriptions.items (all_extended no_history steps.items r.1.items)) }
+    ensures stands { IfOk result (λ r. StandsFor (O.meaning ops) (state_of r.0) (all_extended no_history steps.items r.1.items)) }
     ensures err { IfErr result (λ back. back.items ≡ steps.items) }
 {
     let Ok(mut graph) = Graph::new(alloc, ops) else {

@@ -2,11 +2,21 @@
 
 use crate::refusal::Refusal;
 use rsx_model::Expr;
-use rsx_types::{Move, Signal, SubId};
+use rsx_types::{HubId, HubKind, Move, Signal, SubId};
 
 /// One edit or one move.
 #[derive(Drop)]
 pub enum Step<T> {
+    /// A hub of this kind and capacity is made.
+    Hub(HubKind, u64),
+    /// An item is published at a hub.
+    Emit(HubId, T),
+    /// A hub completes.
+    Complete(HubId),
+    /// A hub fails with this number.
+    Fail(HubId, u32),
+    /// A hub takes its next signal in.
+    Accept(HubId),
     /// Subscribes to an expression.
     Subscribe(Expr<T>),
     /// A subscriber requests this many items more.
@@ -20,6 +30,12 @@ pub enum Step<T> {
 /// What the call of a step answered.
 #[derive(Drop)]
 pub enum Answer<T> {
+    /// A hub was made.
+    Opened(HubId),
+    /// The item, the completion or the failure was published.
+    Published,
+    /// The hub took its next signal in.
+    Accepted,
     /// A subscription was made.
     Subscribed(SubId),
     /// The request was taken; the signal is the error of a bad one.

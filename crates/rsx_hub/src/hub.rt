@@ -16,7 +16,7 @@ use crate::refusal::{AdmitRefusal, HasEnded, HubRefusal, Rejected, TakeInRefusal
 use crate::{LARGEST, MOST_ACCEPTED, MOST_MEMBERS, ending};
 use circular_buffer::HeapCircularBuffer;
 use rsx_sources::Front;
-use rsx_types::{Cause, Ending, HubKind, NoMemory, Ops, Signal};
+use rsx_types::{Cause, Ending, HubKind, NoMemory, Ops, Signal, StreamValue};
 use std::alloc::Global;
 use std::marker::Model;
 
@@ -192,6 +192,25 @@ impl<T: Drop> Hub<T> {
         ensures { result ≡ length self.now.inbox }
     {
         self.inbox.len() as u64
+    }
+
+    /// What waits in the inbox: copies of its items, and behind them how the hub's emitter ended, if it did.
+    ///
+    /// # Errors
+    /// [`NoMemory`] where a growth was refused.
+    pub fn inbox<O: Ops<Item = T>>(
+        &self,
+        alloc: Global,
+        ops: &O,
+    ) -> Result<StreamValue<T>, NoMemory>
+        ensures { IfOk result (λ v. v ≡ record { items = self.now.inbox; ending = self.now.ending }) }
+    {
+        let mut items = Vec::new(alloc);
+        for item in &self.inbox {
+            let copy = ops.copy(alloc, item)?;
+            items.push(copy)?;
+        }
+        Ok(StreamValue::new(items, self.ending))
     }
 
     /// Takes the signal in that waits in front of the inbox, if one does, and answers it: the caller hands it to the

@@ -15,8 +15,8 @@ pub enum Expr<T> {
     Items(Vec<T>),
     /// So many numbers, from the first on, and then the completion: at most 1,000,000, the last at most 2^63-1.
     Range(i64, u64),
-    /// What this hub publishes, from the leaf's join on: a hub of the graph that the expression is subscribed to. A graph
-    /// has no hubs yet and refuses this leaf; `scratch` reads the hubs' values that it is handed.
+    /// What this hub publishes, from the leaf's join on: a hub of the graph that the expression is subscribed to, made before
+    /// it. `scratch` reads the hubs' values that it is handed.
     Hub(HubId),
     /// One plain operator over what is below it.
     Plain(Stage<T>, Box<Expr<T>>),

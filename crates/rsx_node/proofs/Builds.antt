@@ -1,5 +1,5 @@
 -- A tree that was built over the trees of its inputs.
-use Rattle.std.proofs.Common.{◌≡◌, ◌⊎◌, inl, inr, ℕ, zero, suc, ◌+◌, ◌*◌, ◌<◌, Bool, true, false, nat_eq, List, [], ◌∷◌, ◌++◌, length, refl, ap, sym, ◌∙◌, subst, arith, Option, Some, None, option_map, slice_get, Box, Global}
+use Rattle.std.proofs.Common.{◌≡◌, ◌⊎◌, inl, inr, ℕ, zero, suc, ◌+◌, ◌*◌, ◌<◌, Bool, true, false, nat_eq, List, [], ◌∷◌, ◌++◌, length, refl, ap, sym, ◌∙◌, subst, arith, Option, Some, None, option_map, option_and_then, slice_get, Box, Global}
 use Rattle.std.proofs.lemmas.Bool.Decides.{nat_tests}
 use Rattle.std.proofs.lemmas.List.{append-nil}
 use Rattle.rsx_types.specs.Meaning.{Meaning}
@@ -7,18 +7,26 @@ use Rattle.rsx_types.specs.Plain.{plain}
 use Rattle.rsx_types.specs.Stream.{Stream}
 use Rattle.rsx_types.specs.declared.note.Note.{Note}
 use Rattle.rsx_types.specs.declared.note.Note.TheVariants.{Nothing, Picks, Ended}
+use Rattle.rsx_types.specs.declared.names.HubId.{HubId}
+use Rattle.rsx_types.specs.declared.signal.Ending.{Ending}
+use Rattle.rsx_types.specs.declared.signal.Ending.TheVariants.{Open, Done, Failed}
 use Rattle.rsx_types.specs.declared.signal.Signal.{Signal}
 use Rattle.rsx_types.specs.declared.stage.Stage.{Stage}
 use Rattle.rsx_types.specs.declared.stage.Stage.TheVariants.{Map, Filter, Take, Scan, Buffer, Distinct}
 use Rattle.rsx_sources.specs.Machine.{Incoming, incoming_of, quiet as quiet_at}
-use Rattle.rsx_model.specs.Eval.{environment, quiet, meant}
+use Rattle.rsx_sources.specs.Reading.{Reading, published_at}
+use Rattle.rsx_hub.specs.Hub.{HubState, HasTakenIn, BeginsWith, join}
+use Rattle.rsx_hub.specs.Member.{MemberState, ReadsFromJoin, fresh_member, rest, without}
+use Rattle.rsx_hub_leaf.specs.Leaf.{LeafState, member_of, leaf_reads, reading_of}
+use Rattle.rsx_model.specs.Eval.{environment, quiet, meant, joined_value, behind as missing}
 use Rattle.rsx_model.specs.Check.{first_fault, stage_fits, or_else, unless}
 use Rattle.rsx_model.specs.declared.check.BadExpr.{BadExpr}
 use Rattle.rsx_model.specs.declared.check.BadExpr.TheVariants.{Number}
 use Rattle.rsx_model.specs.declared.expr.Expr.{Expr}
 use Rattle.rsx_model.specs.declared.expr.Expr.TheFolds.{fold_out-Expr}
-use Rattle.rsx_model.specs.declared.expr.Expr.TheViews.{Plain as PlainOf, outs-Plain}
-use Rattle.rsx_model.proofs.Unfold.{value_Plain, first_fault_Plain}
+use Rattle.rsx_model.specs.declared.expr.Expr.TheViews.{Plain as PlainOf, outs-Hub, outs-Plain}
+use Rattle.rsx_model.specs.declared.expr.Expr.TheVariants.{Hub as HubOf}
+use Rattle.rsx_model.proofs.Unfold.{value_Hub, value_Plain, first_fault_Plain}
 use Rattle.rsx_operators.specs.Moves.{has_ending}
 use Rattle.rsx_plain.specs.Node.{plain_comes_out, plain_ended, start_slot}
 use Rattle.rsx_operators.specs.State.{plain_start, is_over, balanced}
@@ -32,13 +40,17 @@ use Rattle.rsx_tree.specs.Balance.{IsBalanced, IsOwnerBalanced, IsRowBalanced, s
 use Rattle.rsx_tree.specs.Changed.{Hold}
 use Rattle.rsx_tree.specs.Edges.{closed_if, edge_view}
 use Rattle.rsx_tree.specs.Inputs.{comes_in, out_of, beside_of, closed_row_if, notes_of, edges as edges_in}
+use Rattle.rsx_tree.specs.Reads.{IsReadAt, IsTreeReadAt}
 use Rattle.rsx_tree.specs.Tree.{comes_out, notes, IsJoined}
 use Rattle.rsx_tree.proofs.Rows.{comes_in_closed_if, notes_closed_if}
 use Rattle.rsx_tree.proofs.Effects.{edges_closed_if}
+use Rattle.rsx_tree.proofs.Readings.{closed_if_reads}
 use Rattle.rsx_node.specs.declared.any_node.AnyNode.{AnyNode}
-use Rattle.rsx_node.specs.declared.any_node.AnyNode.TheVariants.{Plain}
+use Rattle.rsx_node.specs.declared.any_node.AnyNode.TheVariants.{Source, Plain}
+use Rattle.rsx_node.specs.declared.source_node.SourceNode.{SourceNode}
+use Rattle.rsx_node.specs.declared.source_node.SourceNode.TheVariants.{Hub}
 use Rattle.rsx_node.specs.Any.{any_machine}
-use Rattle.rsx_node.specs.Built.{IsBuilt, AllUnrecorded, fresh_edge, fresh_edges, starts_ended}
+use Rattle.rsx_node.specs.Built.{IsBuilt, AllUnrecorded, AreBegun, StandAt, counts_of, fresh_edge, fresh_edges, join_at, joins_now, new_joins, starts_ended}
 
 -- what comes out of a fresh node is its operator of what comes in
 fresh_out : {T : Type 0} (m : Meaning T) (hubs : List (Stream T)) (n : AnyNode T) (f : List (Stream T) → Stream T) → ((vs : List (Stream T)) (k : Note) → any_machine.comes_out m n (incoming_of hubs vs) k ≡ quiet_at k (f vs)) →
@@ -56,22 +68,106 @@ fresh_out m hubs n f h (Some vs) (Some (Ended i)) = h vs (Ended i)
 abbrev node_of : {T : Type 0} → AnyNode T → Inputs (AnyNode T) → Node (AnyNode T)
 node_of n r = record { machine = n; inputs = r }
 
--- a source whose items are those of the expression
-pub built_source : {T : Type 0} (m : Meaning T) (e : Expr T) (n : AnyNode T) (v : Stream T) (t : Node (AnyNode T)) → t.machine ≡ n → t.inputs ≡ End → ((inc : Incoming T) (k : Note) → any_machine.comes_out m n inc k ≡ quiet_at k v) →
-    ((hubs : List (Stream T)) (joins : List ℕ) (further : List Note) (at leaf : ℕ) → (meant (environment m hubs joins further) e).value at leaf ≡ quiet (slice_get further at) (Some v)) → fresh_edges e ≡ [] → any_machine.ended n ≡ false → any_machine.counted n [] 0 → IsBuilt m e t
-built_source {T} m e n v t n_is r_is fresh value none still counted = record {
-  value = λ more hubs joins further at leaf.
-      ap (λ x. out_of any_machine m more x (comes_in any_machine m more further t.inputs (at + 1)) (slice_get further at)) n_is
-      ∙ (ap (λ r. out_of any_machine m more n (comes_in any_machine m more further r (at + 1)) (slice_get further at)) r_is
-      ∙ (fresh_out m more n (λ vs. v) (λ vs k. fresh (incoming_of more vs) k) (Some []) (slice_get further at)
-      ∙ sym (value hubs joins further at leaf)));
+-- a source alone, whose value is that of the expression
+pub built_source : {T : Type 0} (m : Meaning T) (hubs : List (HubState T)) (e : Expr T) (n : SourceNode T) (t : Node (AnyNode T)) → t.machine ≡ Source n → t.inputs ≡ End →
+    ((whole : List (Stream T)) (joins : List ℕ) (leaf : ℕ) → AreBegun hubs whole → StandAt joins leaf (new_joins hubs e) → (v : Stream T) × ((inc : Incoming T) (k : Note) → inc.hubs ≡ whole → any_machine.comes_out m (Source n) inc k ≡ quiet_at k v)
+        × ((further : List Note) (at : ℕ) → (meant (environment m whole joins further) e).value at leaf ≡ quiet (slice_get further at) (Some v))) →
+    IsReadAt (counts_of hubs) (any_machine.reads (Source n)) → (new_joins hubs e ≡ [] → IsReadAt [] (any_machine.reads (Source n))) → fresh_edges e ≡ [] → IsBuilt m hubs e t
+built_source {T} m hubs e n t n_is r_is values read unread none = record {
+  value = λ whole joins further at leaf begun stand.
+      let v = values whole joins leaf begun stand in
+      ap (λ x. out_of any_machine m whole x (comes_in any_machine m whole further t.inputs (at + 1)) (slice_get further at)) n_is
+      ∙ (ap (λ r. out_of any_machine m whole (Source n) (comes_in any_machine m whole further r (at + 1)) (slice_get further at)) r_is
+      ∙ (fresh_out m whole (Source n) (λ vs. v.0) (λ vs k. v.1 (incoming_of whole vs) k (same_hubs whole vs)) (Some []) (slice_get further at)
+      ∙ sym (v.2 further at)));
+  reads =
+      let R : AnyNode T → Inputs (AnyNode T) → Type 0 = λ x r. IsTreeReadAt any_machine (counts_of hubs) (node_of x r) in
+      let N : AnyNode T → Type 0 = λ x. R x t.inputs in
+      let I : Inputs (AnyNode T) → Type 0 = λ r. R (Source n) r in
+      subst N (sym n_is) (subst I (sym r_is) (read, tt));
+  alone = λ bare.
+      let R : AnyNode T → Inputs (AnyNode T) → Type 0 = λ x r. IsTreeReadAt any_machine [] (node_of x r) in
+      let N : AnyNode T → Type 0 = λ x. R x t.inputs in
+      let I : Inputs (AnyNode T) → Type 0 = λ r. R (Source n) r in
+      subst N (sym n_is) (subst I (sym r_is) (unread bare, tt));
   notes = let P : Inputs (AnyNode T) → Type 0 = λ r. AllUnrecorded (Nothing ∷ notes_of any_machine r) in subst P (sym r_is) ((λ k. refl), tt);
   edges = ap edges_in r_is ∙ sym none;
   balance =
       let R : Inputs (AnyNode T) → Type 0 = λ r. IsOwnerBalanced any_machine t.machine (sent_over r) 0 (IsRowBalanced any_machine t.machine 0 r) in
       let N : AnyNode T → Type 0 = λ x. IsOwnerBalanced any_machine x [] 0 (Unit {0}) in
-      subst R (sym r_is) (subst N (sym n_is) (inr (still, counted, tt)));
+      subst R (sym r_is) (subst N (sym n_is) (inr (refl, tt, tt)));
 }
+  where
+    same_hubs : (whole vs : List (Stream T)) → (incoming_of whole vs).hubs ≡ whole
+    same_hubs whole [] = refl
+    same_hubs whole (v ∷ vs) = refl
+
+-- ---- a leaf that reads a hub
+
+hub_at : {T : Type 0} (hubs : List (HubState T)) (whole : List (Stream T)) (i : ℕ) (h : HubState T) → slice_get hubs i ≡ Some h → AreBegun hubs whole →
+    (w : Stream T) × (taken : List T) × (slice_get whole i ≡ Some w) × (published_at whole i ≡ w) × HasTakenIn h taken × BeginsWith h taken w
+hub_at [] ws i h e b = cc
+hub_at (g ∷ gs) [] i h e b = absurd b
+hub_at {T} (g ∷ gs) (w ∷ ws) zero h e b =
+    let same : g ≡ h = cc in
+    let P : HubState T → Type 0 = λ k. HasTakenIn k b.0.0 × BeginsWith k b.0.0 w in
+    let both = subst P same (b.0.1, b.0.2) in
+    (w, b.0.0, refl, refl, both.0, both.1)
+hub_at (g ∷ gs) (w ∷ ws) (suc i) h e b = hub_at gs ws i h e b.1
+
+join_there : {T : Type 0} (hubs : List (HubState T)) (i : ℕ) (h : HubState T) → slice_get hubs i ≡ Some h → join_at (joins_now hubs) i ≡ join h.kind h.count
+join_there [] i h e = cc
+join_there (g ∷ gs) zero h e = let same : g ≡ h = cc in ap (λ k. join k.kind k.count) same
+join_there (g ∷ gs) (suc i) h e = join_there gs i h e
+
+count_there : {T : Type 0} (hubs : List (HubState T)) (i : ℕ) (h : HubState T) → slice_get hubs i ≡ Some h → slice_get (counts_of hubs) i ≡ Some h.count
+count_there [] i h e = cc
+count_there (g ∷ gs) zero h e = let same : g ≡ h = cc in ap (λ k. Some k.count) same
+count_there (g ∷ gs) (suc i) h e = count_there gs i h e
+
+read_at : (counts : List ℕ) (e : Ending) (r : Reading) → slice_get counts r.hub ≡ Some r.reached → IsReadAt counts (reading_of e r)
+read_at counts Open r h = h
+read_at counts Done r h = tt
+read_at counts (Failed c) r h = tt
+
+new_joins_Hub : (T : Type 0) (hubs : List (HubState T)) (h : HubId) → new_joins hubs (HubOf h) ≡ join_at (joins_now hubs) h.0 ∷ []
+new_joins_Hub T hubs h = rw (fold_out-Expr, outs-Hub) refl
+
+new_joins_Plain : {T : Type 0} (hubs : List (HubState T)) (g : Stage T) (b : Box (Expr T) Global) → new_joins hubs (PlainOf g b) ≡ new_joins hubs b.value
+new_joins_Plain {T} hubs g b = rw (fold_out-Expr, outs-Plain) refl
+
+some_join : {A : Type 0} {a : A} {as' : List A} → a ∷ as' ≡ [] → ⊥
+some_join e = cc
+
+fresh_Hub : (T : Type 0) (h : HubId) → fresh_edges {T = T} (HubOf h) ≡ []
+fresh_Hub T h = rw (fold_out-Expr, outs-Hub) refl
+
+pub built_hub : {T : Type 0} (m : Meaning T) (hubs : List (HubState T)) (e : Expr T) (id : HubId) (h : HubState T) (mem : MemberState T) (n : LeafState T) (t : Node (AnyNode T)) → e ≡ HubOf id → slice_get hubs id.0 ≡ Some h → mem ≡ fresh_member h → ReadsFromJoin h mem →
+    n.hub ≡ id.0 → member_of n ≡ mem → t.machine ≡ Source (Hub n) → t.inputs ≡ End → IsBuilt m hubs e t
+built_hub {T} m hubs e id h mem n t is there fresh from hub_is mem_is n_is r_is =
+    let P : Expr T → Type 0 = λ x. IsBuilt m hubs x t in
+    subst P (sym is) (built_source m hubs (HubOf id) (Hub n) t n_is r_is values read (λ bare. absurd (some_join (sym (new_joins_Hub T hubs id) ∙ bare))) (fresh_Hub T id))
+  where
+    values : (whole : List (Stream T)) (joins : List ℕ) (leaf : ℕ) → AreBegun hubs whole → StandAt joins leaf (new_joins hubs (HubOf id)) → (v : Stream T) × ((inc : Incoming T) (k : Note) → inc.hubs ≡ whole → any_machine.comes_out m (Source (Hub n)) inc k ≡ quiet_at k v)
+        × ((further : List Note) (at : ℕ) → (meant (environment m whole joins further) (HubOf id)).value at leaf ≡ quiet (slice_get further at) (Some v))
+    values whole joins leaf begun stand =
+        let w = hub_at hubs whole id.0 h there begun in
+        let S : List ℕ → Type 0 = λ l. StandAt joins leaf l in
+        let joined : slice_get joins leaf ≡ Some (join h.kind h.count) = (subst S (new_joins_Hub T hubs id) stand).0 ∙ ap Some (join_there hubs id.0 h there) in
+        let J : ℕ → Option (Stream T) = λ j. option_map (missing j) (slice_get whole id.0) in
+        let value : joined_value (environment m whole joins []) id.0 leaf ≡ Some (without (join h.kind h.count) w.0) = ap (option_and_then J) joined ∙ ap (option_map (missing (join h.kind h.count))) w.2 in
+        let comes : rest (member_of n) (published_at whole n.hub) ≡ without (join h.kind h.count) w.0
+        = ap (λ k. rest k (published_at whole n.hub)) mem_is ∙ (ap (λ i. rest mem (published_at whole i)) hub_is ∙ (ap (rest mem) w.3 ∙ from w.1 w.4 w.0 w.5)) in (
+          without (join h.kind h.count) w.0,
+          (λ inc k same. ap (λ l. quiet_at k (rest (member_of n) (published_at l n.hub))) same ∙ ap (quiet_at k) comes),
+          (λ further at. value_Hub (environment m whole joins further) id at leaf ∙ ap (quiet (slice_get further at)) value),
+        )
+
+    read : IsReadAt (counts_of hubs) (leaf_reads n)
+    read =
+        let reached : n.reached ≡ h.count = ap (λ k. k.reached) (mem_is ∙ fresh) in
+        read_at (counts_of hubs) n.ending (record { hub = n.hub; reached = n.reached })
+        (ap (slice_get (counts_of hubs)) hub_is ∙ (count_there hubs id.0 h there ∙ ap Some (sym reached)))
 
 -- ---- a plain operator
 
@@ -131,17 +227,17 @@ fresh_edge_is e a s l =
     ap (λ x. record { asked = x; sent = e.demand.sent; state = e.state }) a
     ∙ (ap (λ x. record { asked = 0; sent = x; state = e.state }) s ∙ ap (λ x. record { asked = 0; sent = 0; state = x }) l)
 
-pub built_plain : {T : Type 0} (m : Meaning T) (e : Expr T) (g : Stage T) (box : Box (Expr T) Global) (input : Expr T) (below : Node (AnyNode T)) (n : PlainNode T) (row : Inputs (AnyNode T)) (t : Node (AnyNode T)) →
-    e ≡ PlainOf g box → input ≡ box.value → first_fault 0 e ≡ None → IsBuilt m input below → ((inc : Incoming T) (further : Note) → plain_comes_out m n inc further ≡ quiet_at further (plain m g inc.first)) → n.state ≡ plain_start g → n.slot ≡ start_slot g →
-    IsJoined below End row → t.machine ≡ Plain n → t.inputs ≡ closed_row_if (plain_ended n) row → IsBuilt m e t
-built_plain {T} m e g box input below n row t is in_box fine w0 fresh st sl j n_is r_is =
-    let P : Expr T → Type 0 = λ x. IsBuilt m x t in
-    let I : Expr T → Type 0 = λ x. IsBuilt m x below in
-    let w : IsBuilt m box.value below = subst I in_box w0 in
+pub built_plain : {T : Type 0} (m : Meaning T) (hubs : List (HubState T)) (e : Expr T) (g : Stage T) (box : Box (Expr T) Global) (input : Expr T) (below : Node (AnyNode T)) (n : PlainNode T) (row : Inputs (AnyNode T)) (t : Node (AnyNode T)) →
+    e ≡ PlainOf g box → input ≡ box.value → first_fault (length hubs) e ≡ None → IsBuilt m hubs input below → ((inc : Incoming T) (further : Note) → plain_comes_out m n inc further ≡ quiet_at further (plain m g inc.first)) → n.state ≡ plain_start g → n.slot ≡ start_slot g →
+    IsJoined below End row → t.machine ≡ Plain n → t.inputs ≡ closed_row_if (plain_ended n) row → IsBuilt m hubs e t
+built_plain {T} m hubs e g box input below n row t is in_box fine w0 fresh st sl j n_is r_is =
+    let P : Expr T → Type 0 = λ x. IsBuilt m hubs x t in
+    let I : Expr T → Type 0 = λ x. IsBuilt m hubs x below in
+    let w : IsBuilt m hubs box.value below = subst I in_box w0 in
     let c = plain_ended n in
     let whole : Inputs (AnyNode T) = More' j.e below.machine j.p below.inputs j.q End in
     let tree_is : t.inputs ≡ closed_row_if c whole = r_is ∙ ap (closed_row_if c) j.row_is in
-    let fits : stage_fits g ≡ true = fits_of (stage_fits g) (first_fault 0 box.value) (sym (first_fault_Plain 0 g box) ∙ (ap (first_fault 0) (sym is) ∙ fine)) in
+    let fits : stage_fits g ≡ true = fits_of (stage_fits g) (first_fault (length hubs) box.value) (sym (first_fault_Plain (length hubs) g box) ∙ (ap (first_fault (length hubs)) (sym is) ∙ fine)) in
     let ended_is : c ≡ starts_ended g = ap has_ending sl in
     let new : edge_view j.e ≡ fresh_edge = fresh_edge_is j.e j.asked j.sent j.live in
     let N : List Note → Type 0 = λ ns. AllUnrecorded (Nothing ∷ ns) in
@@ -151,12 +247,23 @@ built_plain {T} m e g box input below n row t is in_box fine w0 fresh st sl j n_
     let BN : AnyNode T → Type 0 = λ x. B x t.inputs in
     let BR : Inputs (AnyNode T) → Type 0 = λ r. B (Plain n) r in
     subst P (sym is) (record {
-      value = λ more hubs joins further at leaf.
+      value = λ more joins further at leaf begun stand.
+          let S : List ℕ → Type 0 = λ l. StandAt joins leaf l in
           ap (λ x. out_of any_machine m more x (comes_in any_machine m more further t.inputs (at + 1)) (slice_get further at)) n_is
           ∙ (ap (λ o. out_of any_machine m more (Plain n) o (slice_get further at)) (ap (λ r. comes_in any_machine m more further r (at + 1)) tree_is ∙ comes_in_closed_if any_machine m more further c whole (at + 1))
           ∙ (fresh_out m more (Plain n) (λ vs. plain m g (incoming_of more vs).first) (λ vs d. fresh (incoming_of more vs) d) (beside_of (comes_out any_machine m more further below (at + 1)) (Some [])) (slice_get further at)
-          ∙ (ap (quiet (slice_get further at)) (first_of_one more (plain m g) (comes_out any_machine m more further below (at + 1)) ∙ ap (option_map (plain m g)) (w.value more hubs joins further (at + 1) leaf))
-          ∙ sym (value_Plain (environment m hubs joins further) g box at leaf))));
+          ∙ (ap (quiet (slice_get further at)) (first_of_one more (plain m g) (comes_out any_machine m more further below (at + 1)) ∙ ap (option_map (plain m g)) (w.value more joins further (at + 1) leaf begun (subst S (new_joins_Plain hubs g box) stand)))
+          ∙ sym (value_Plain (environment m more joins further) g box at leaf))));
+      reads =
+          let R : AnyNode T → Inputs (AnyNode T) → Type 0 = λ x r. IsTreeReadAt any_machine (counts_of hubs) (node_of x r) in
+          let N : AnyNode T → Type 0 = λ x. R x t.inputs in
+          let I : Inputs (AnyNode T) → Type 0 = λ r. R (Plain n) r in
+          subst N (sym n_is) (subst I (sym tree_is) (tt, closed_if_reads any_machine (counts_of hubs) c whole (inr w.reads, tt)));
+      alone = λ bare.
+          let R : AnyNode T → Inputs (AnyNode T) → Type 0 = λ x r. IsTreeReadAt any_machine [] (node_of x r) in
+          let N : AnyNode T → Type 0 = λ x. R x t.inputs in
+          let I : Inputs (AnyNode T) → Type 0 = λ r. R (Plain n) r in
+          subst N (sym n_is) (subst I (sym tree_is) (tt, closed_if_reads any_machine [] c whole (inr (w.alone (sym (new_joins_Plain hubs g box) ∙ bare)), tt)));
       notes = subst N (sym notes_are) ((λ x. refl), w.notes);
       edges = ap edges_in tree_is ∙ (edges_closed_if c whole ∙ (ap (closed_if c) below_is ∙ (ap (λ d. closed_if d (fresh_edge ∷ fresh_edges box.value)) ended_is ∙ sym (fresh_Plain g box))));
       balance = subst BN (sym n_is) (subst BR (sym tree_is) (fresh_balanced g n below j.e j.p j.q st sl fits j.sent j.live w.balance));

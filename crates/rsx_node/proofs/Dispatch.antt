@@ -7,21 +7,86 @@ use Rattle.rsx_types.specs.declared.signal.Signal.{Signal}
 use Rattle.rsx_types.specs.declared.signal.Signal.TheVariants.{Next, Complete, Error}
 use Rattle.rsx_sources.specs.Counts.{CountsIn, CountsOut}
 use Rattle.rsx_sources.specs.Passed.{IsItemOut, IsPassed, IsTakenIn}
+use Rattle.rsx_sources.specs.Reading.{IsReadOn}
 use Rattle.rsx_sources.specs.Steps.{IsPopped}
 use Rattle.rsx_sources.specs.Items.{ItemsLeft, items_comes_out, items_popped, items_waiting}
 use Rattle.rsx_sources.specs.declared.machine.Passed.{Passed}
 use Rattle.rsx_sources.specs.declared.machine.Passed.TheVariants.{Item, Kept, Declined}
 use Rattle.rsx_sources.specs.Range.{range_comes_out, range_popped, range_waiting}
 use Rattle.rsx_sources.specs.declared.range.RangeNode.{RangeNode}
+use Rattle.rsx_hub_leaf.specs.Leaf.{LeafState, leaf_comes_out, leaf_popped, leaf_reads, leaf_waiting}
 use Rattle.rsx_plain.specs.Node.{plain_comes_out, plain_popped, plain_counted, plain_ended, plain_takes, plain_waiting}
 use Rattle.rsx_plain.specs.declared.node.PlainNode.{PlainNode}
 use Rattle.rsx_node.specs.declared.any_node.AnyNode.{AnyNode}
-use Rattle.rsx_node.specs.declared.any_node.AnyNode.TheVariants.{Items, Range, Plain}
+use Rattle.rsx_node.specs.declared.any_node.AnyNode.TheVariants.{Source, Plain}
+use Rattle.rsx_node.specs.declared.source_node.SourceNode.{SourceNode}
+use Rattle.rsx_node.specs.declared.source_node.SourceNode.TheVariants.{Items, Range, Hub}
 use Rattle.rsx_node.specs.Any.{any_comes_out, any_popped, any_waiting, any_counted, any_ended, any_takes}
+use Rattle.rsx_node.specs.Source.{source_comes_out, source_popped, source_reads, source_waiting}
 
-pub popped_range : {T : Type 0} (m : Meaning T) (old new : RangeNode T) (o : Option (Signal T)) → IsPopped (range_comes_out m) range_popped (range_waiting m old) old o new → IsPopped (any_comes_out m) any_popped (range_waiting m old) (Range old) o (Range new)
+-- ---- a source
+
+pub popped_range : {T : Type 0} (m : Meaning T) (old new : RangeNode T) (o : Option (Signal T)) → IsPopped (range_comes_out m) range_popped (range_waiting m old) old o new → IsPopped (source_comes_out m) source_popped (range_waiting m old) (Range old) o (Range new)
 popped_range m old new None h = (h.0, ap Range h.1)
 popped_range m old new (Some s) h = h
+
+pub popped_items : {T : Type 0} (m : Meaning T) (old new : ItemsLeft T) (o : Option (Signal T)) → IsPopped (items_comes_out m) items_popped (items_waiting m old) old o new → IsPopped (source_comes_out m) source_popped (items_waiting m old) (Items old) o (Items new)
+popped_items m old new None h = (h.0, ap Items h.1)
+popped_items m old new (Some s) h = h
+
+pub popped_hub : {T : Type 0} (m : Meaning T) (old new : LeafState T) (o : Option (Signal T)) → IsPopped (leaf_comes_out m) leaf_popped (leaf_waiting m old) old o new → IsPopped (source_comes_out m) source_popped (leaf_waiting m old) (Hub old) o (Hub new)
+popped_hub m old new None h = (h.0, ap Hub h.1)
+popped_hub m old new (Some s) h = h
+
+abbrev pub IsOutSource : {T : Type 0} → Meaning T → SourceNode T → T → SourceNode T → Type 0
+IsOutSource m old x new = IsItemOut (source_comes_out m) (source_waiting m) source_popped (λ n. Nothing) (λ n taken sent. ⊤) (λ n. false) (λ n i. false) old x new
+
+out_items : {T : Type 0} (m : Meaning T) (old new : ItemsLeft T) (x : T) → IsItemOut (items_comes_out m) (items_waiting m) items_popped (λ n. Nothing) (λ n taken sent. ⊤) (λ n. false) (λ n i. false) old x new → IsOutSource m (Items old) x (Items new)
+out_items m old new x h = record { waited = h.waited; popped_out = h.popped_out; value = h.value; notes = h.notes; counts = h.counts }
+
+out_range : {T : Type 0} (m : Meaning T) (old new : RangeNode T) (x : T) → IsItemOut (range_comes_out m) (range_waiting m) range_popped (λ n. Nothing) (λ n taken sent. ⊤) (λ n. false) (λ n i. false) old x new → IsOutSource m (Range old) x (Range new)
+out_range m old new x h = record { waited = h.waited; popped_out = h.popped_out; value = h.value; notes = h.notes; counts = h.counts }
+
+out_hub : {T : Type 0} (m : Meaning T) (old new : LeafState T) (x : T) → IsItemOut (leaf_comes_out m) (leaf_waiting m) leaf_popped (λ n. Nothing) (λ n taken sent. ⊤) (λ n. false) (λ n i. false) old x new → IsOutSource m (Hub old) x (Hub new)
+out_hub m old new x h = record { waited = h.waited; popped_out = h.popped_out; value = h.value; notes = h.notes; counts = h.counts }
+
+pub item_out_items : {T : Type 0} (m : Meaning T) (old new : ItemsLeft T) (o : Option T) → IfSome o (λ x. IsItemOut (items_comes_out m) (items_waiting m) items_popped (λ n. Nothing) (λ n taken sent. ⊤) (λ n. false) (λ n i. false) old x new) → IfSome o (λ x. IsOutSource m (Items old) x (Items new))
+item_out_items m old new None h = h
+item_out_items m old new (Some x) h = out_items m old new x h
+
+pub item_out_range : {T : Type 0} (m : Meaning T) (old new : RangeNode T) (o : Option T) → IfSome o (λ x. IsItemOut (range_comes_out m) (range_waiting m) range_popped (λ n. Nothing) (λ n taken sent. ⊤) (λ n. false) (λ n i. false) old x new) → IfSome o (λ x. IsOutSource m (Range old) x (Range new))
+item_out_range m old new None h = h
+item_out_range m old new (Some x) h = out_range m old new x h
+
+pub item_out_hub : {T : Type 0} (m : Meaning T) (old new : LeafState T) (o : Option T) → IfSome o (λ x. IsItemOut (leaf_comes_out m) (leaf_waiting m) leaf_popped (λ n. Nothing) (λ n taken sent. ⊤) (λ n. false) (λ n i. false) old x new) → IfSome o (λ x. IsOutSource m (Hub old) x (Hub new))
+item_out_hub m old new None h = h
+item_out_hub m old new (Some x) h = out_hub m old new x h
+
+-- a signal that comes back
+pub returned_items : {T : Type 0} (before : SourceNode T) (s : Signal T) (n n' : ItemsLeft T) → source_popped before s (Items n) → ((b : ItemsLeft T) → items_popped b s n → n' ≡ b) → Items n' ≡ before
+returned_items (Items a) s n n' h k = ap Items (k a h)
+returned_items (Range a) s n n' h k = absurd h
+returned_items (Hub a) s n n' h k = absurd h
+
+pub returned_range : {T : Type 0} (before : SourceNode T) (s : Signal T) (n n' : RangeNode T) → source_popped before s (Range n) → ((b : RangeNode T) → range_popped b s n → n' ≡ b) → Range n' ≡ before
+returned_range (Items a) s n n' h k = absurd h
+returned_range (Range a) s n n' h k = ap Range (k a h)
+returned_range (Hub a) s n n' h k = absurd h
+
+pub returned_hub : {T : Type 0} (before : SourceNode T) (s : Signal T) (n n' : LeafState T) → source_popped before s (Hub n) → ((b : LeafState T) → leaf_popped b s n → n' ≡ b) → Hub n' ≡ before
+returned_hub (Items a) s n n' h k = absurd h
+returned_hub (Range a) s n n' h k = absurd h
+returned_hub (Hub a) s n n' h k = ap Hub (k a h)
+
+-- a signal of its hub is taken in
+pub read_on_hub : {T : Type 0} (old : LeafState T) (s : Signal T) (new : LeafState T) → IsReadOn leaf_comes_out leaf_reads old s new → IsReadOn source_comes_out source_reads (Hub old) s (Hub new)
+read_on_hub old s new h = record { reading = h.reading; read = h.read; reads_on = h.reads_on; value = h.value }
+
+-- ---- a node
+
+pub popped_source : {T : Type 0} (m : Meaning T) (old new : SourceNode T) (o : Option (Signal T)) → IsPopped (source_comes_out m) source_popped (source_waiting m old) old o new → IsPopped (any_comes_out m) any_popped (source_waiting m old) (Source old) o (Source new)
+popped_source m old new None h = (h.0, ap Source h.1)
+popped_source m old new (Some s) h = h
 
 pub counted_plain : {T : Type 0} (old new : PlainNode T) (o : Option (Signal T)) → CountsOut plain_counted plain_ended (λ n i. false) old o new → CountsOut any_counted any_ended (λ n i. false) (Plain old) o (Plain new)
 counted_plain old new None h = tt
@@ -33,31 +98,27 @@ pub taken_plain : {T : Type 0} (old new : PlainNode T) (i : ℕ) (s : Signal T) 
 taken_plain old new i s h = record { stays_ended = h.stays_ended; counts = h.counts; stays_done = h.stays_done; is_done = h.is_done }
 
 pub returned_plain : {T : Type 0} (before : AnyNode T) (s : Signal T) (n n' : PlainNode T) → any_popped before s (Plain n) → ((b : PlainNode T) → plain_popped b s n → n' ≡ b) → Plain n' ≡ before
-returned_plain (Items a) s n n' h k = absurd h
-returned_plain (Range a) s n n' h k = absurd h
+returned_plain (Source a) s n n' h k = absurd h
 returned_plain (Plain a) s n n' h k = ap Plain (k a h)
+
+pub returned_source : {T : Type 0} (before : AnyNode T) (s : Signal T) (n n' : SourceNode T) → any_popped before s (Source n) → ((b : SourceNode T) → source_popped b s n → n' ≡ b) → Source n' ≡ before
+returned_source (Source a) s n n' h k = ap Source (k a h)
+returned_source (Plain a) s n n' h k = absurd h
 
 -- ---- an item that goes through in one go
 
 abbrev pub IsOutAny : {T : Type 0} → Meaning T → AnyNode T → T → AnyNode T → Type 0
 IsOutAny m old x new = IsItemOut (any_comes_out m) (any_waiting m) any_popped (λ n. Nothing) any_counted any_ended (λ n i. false) old x new
 
-out_items : {T : Type 0} (m : Meaning T) (old new : ItemsLeft T) (x : T) → IsItemOut (items_comes_out m) (items_waiting m) items_popped (λ n. Nothing) (λ n taken sent. ⊤) (λ n. false) (λ n i. false) old x new → IsOutAny m (Items old) x (Items new)
-out_items m old new x h = record { waited = h.waited; popped_out = h.popped_out; value = h.value; notes = h.notes; counts = h.counts }
-
-out_range : {T : Type 0} (m : Meaning T) (old new : RangeNode T) (x : T) → IsItemOut (range_comes_out m) (range_waiting m) range_popped (λ n. Nothing) (λ n taken sent. ⊤) (λ n. false) (λ n i. false) old x new → IsOutAny m (Range old) x (Range new)
-out_range m old new x h = record { waited = h.waited; popped_out = h.popped_out; value = h.value; notes = h.notes; counts = h.counts }
+out_source : {T : Type 0} (m : Meaning T) (old new : SourceNode T) (x : T) → IsItemOut (source_comes_out m) (source_waiting m) source_popped (λ n. Nothing) (λ n taken sent. ⊤) (λ n. false) (λ n i. false) old x new → IsOutAny m (Source old) x (Source new)
+out_source m old new x h = record { waited = h.waited; popped_out = h.popped_out; value = h.value; notes = h.notes; counts = h.counts }
 
 out_plain : {T : Type 0} (m : Meaning T) (old new : PlainNode T) (x : T) → IsItemOut (plain_comes_out m) (plain_waiting m) plain_popped (λ n. Nothing) plain_counted plain_ended (λ n i. false) old x new → IsOutAny m (Plain old) x (Plain new)
 out_plain m old new x h = record { waited = h.waited; popped_out = h.popped_out; value = h.value; notes = h.notes; counts = h.counts }
 
-pub item_out_items : {T : Type 0} (m : Meaning T) (old new : ItemsLeft T) (o : Option T) → IfSome o (λ x. IsItemOut (items_comes_out m) (items_waiting m) items_popped (λ n. Nothing) (λ n taken sent. ⊤) (λ n. false) (λ n i. false) old x new) → IfSome o (λ x. IsOutAny m (Items old) x (Items new))
-item_out_items m old new None h = h
-item_out_items m old new (Some x) h = out_items m old new x h
-
-pub item_out_range : {T : Type 0} (m : Meaning T) (old new : RangeNode T) (o : Option T) → IfSome o (λ x. IsItemOut (range_comes_out m) (range_waiting m) range_popped (λ n. Nothing) (λ n taken sent. ⊤) (λ n. false) (λ n i. false) old x new) → IfSome o (λ x. IsOutAny m (Range old) x (Range new))
-item_out_range m old new None h = h
-item_out_range m old new (Some x) h = out_range m old new x h
+pub item_out_source : {T : Type 0} (m : Meaning T) (old new : SourceNode T) (o : Option T) → IfSome o (λ x. IsItemOut (source_comes_out m) (source_waiting m) source_popped (λ n. Nothing) (λ n taken sent. ⊤) (λ n. false) (λ n i. false) old x new) → IfSome o (λ x. IsOutAny m (Source old) x (Source new))
+item_out_source m old new None h = h
+item_out_source m old new (Some x) h = out_source m old new x h
 
 pub item_out_plain : {T : Type 0} (m : Meaning T) (old new : PlainNode T) (o : Option T) → IfSome o (λ x. IsItemOut (plain_comes_out m) (plain_waiting m) plain_popped (λ n. Nothing) plain_counted plain_ended (λ n i. false) old x new) → IfSome o (λ x. IsOutAny m (Plain old) x (Plain new))
 item_out_plain m old new None h = h

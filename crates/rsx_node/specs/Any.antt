@@ -9,83 +9,70 @@ use Rattle.rsx_sources.specs.Machine.{Incoming}
 use Rattle.rsx_sources.specs.Reading.{Reading}
 use Rattle.rsx_sources.specs.declared.machine.Front.{Front}
 use Rattle.rsx_sources.specs.declared.machine.Machine.{Ghosts as Machine}
-use Rattle.rsx_sources.specs.Items.{items_comes_out, items_waiting, items_shown, items_popped}
-use Rattle.rsx_sources.specs.Range.{range_comes_out, range_waiting, range_shown, range_popped, range_pop_allocates}
 use Rattle.rsx_plain.specs.Node.{plain_comes_out, plain_waiting, plain_shown, plain_popped, plain_takes, plain_wanted, plain_ended, plain_allocates, plain_counted}
+use Rattle.rsx_node.specs.Source.{source_comes_out, source_waiting, source_shown, source_popped, source_reads, source_rooms, source_pop_allocates}
 use Rattle.rsx_node.specs.declared.any_node.AnyNode.{AnyNode}
-use Rattle.rsx_node.specs.declared.any_node.AnyNode.TheVariants.{Items, Range, Plain}
+use Rattle.rsx_node.specs.declared.any_node.AnyNode.TheVariants.{Source, Plain}
 
 -- what still comes out
 abbrev pub any_comes_out : {T : Type 0} → Meaning T → AnyNode T → Incoming T → Note → Option (Stream T)
-any_comes_out m (Items n) inc k = items_comes_out m n inc k
-any_comes_out m (Range n) inc k = range_comes_out m n inc k
+any_comes_out m (Source n) inc k = source_comes_out m n inc k
 any_comes_out m (Plain n) inc k = plain_comes_out m n inc k
 
 -- the signal that waits
 abbrev pub any_waiting : {T : Type 0} → Meaning T → AnyNode T → Option (Signal T)
-any_waiting m (Items n) = items_waiting m n
-any_waiting m (Range n) = range_waiting m n
+any_waiting m (Source n) = source_waiting m n
 any_waiting m (Plain n) = plain_waiting m n
 
 -- which signal that is
 abbrev pub any_shown : {T : Type 0} → AnyNode T → Option Front
-any_shown (Items n) = items_shown n
-any_shown (Range n) = range_shown n
+any_shown (Source n) = source_shown n
 any_shown (Plain n) = plain_shown n
 
 -- whether such a signal of an input can be taken; a source has no input
 abbrev pub any_takes : {T : Type 0} → AnyNode T → ℕ → Front → Bool
-any_takes (Items n) i f = false
-any_takes (Range n) i f = false
+any_takes (Source n) i f = false
 any_takes (Plain n) i f = plain_takes n i
 
 -- whether its ending was put out
 abbrev pub any_ended : {T : Type 0} → AnyNode T → Bool
-any_ended (Items n) = false
-any_ended (Range n) = false
+any_ended (Source n) = false
 any_ended (Plain n) = plain_ended n
 
 -- how many items came in and how many were sent; a source takes none in
 abbrev pub any_counted : {T : Type 0} → AnyNode T → List ℕ → ℕ → Type 0
-any_counted (Items n) taken sent = ⊤
-any_counted (Range n) taken sent = ⊤
+any_counted (Source n) taken sent = ⊤
 any_counted (Plain n) taken sent = plain_counted n taken sent
 
 -- what is to be asked of an input
 abbrev pub any_wanted : {T : Type 0} → AnyNode T → ℕ → ℕ → ℕ → ℕ
-any_wanted (Items n) i a s = 0
-any_wanted (Range n) i a s = 0
+any_wanted (Source n) i a s = 0
 any_wanted (Plain n) i a s = plain_wanted n i a s
 
 -- the second is the first without the signal that it offered
 abbrev pub any_popped : {T : Type 0} → AnyNode T → Signal T → AnyNode T → Type 0
-any_popped (Items a) s (Items b) = items_popped a s b
-any_popped (Range a) s (Range b) = range_popped a s b
+any_popped (Source a) s (Source b) = source_popped a s b
 any_popped (Plain a) s (Plain b) = plain_popped a s b
 any_popped a s b = ⊥
 
--- how far it got in the hub that it reads; no kind of node reads one
+-- how far it got in the hub that it reads
 abbrev pub any_reads : {T : Type 0} → AnyNode T → Option Reading
-any_reads (Items n) = None
-any_reads (Range n) = None
+any_reads (Source n) = source_reads n
 any_reads (Plain n) = None
 
 -- whether it has room for an item of that hub
 abbrev pub any_rooms : {T : Type 0} → AnyNode T → Bool
-any_rooms (Items n) = false
-any_rooms (Range n) = false
+any_rooms (Source n) = source_rooms n
 any_rooms (Plain n) = false
 
 -- whether taking the offered signal out may allocate
 abbrev pub any_pop_allocates : {T : Type 0} → Allocates → AnyNode T → Bool
-any_pop_allocates a (Items n) = false
-any_pop_allocates a (Range n) = range_pop_allocates a n
+any_pop_allocates a (Source n) = source_pop_allocates a n
 any_pop_allocates a (Plain n) = false
 
 -- whether taking a signal in may allocate
 abbrev pub any_signal_allocates : {T : Type 0} → Allocates → AnyNode T → Bool
-any_signal_allocates a (Items n) = false
-any_signal_allocates a (Range n) = false
+any_signal_allocates a (Source n) = false
 any_signal_allocates a (Plain n) = plain_allocates a n
 
 -- the meaning of all kinds together

@@ -2,3 +2,5 @@
 pub mod Any
 pub mod Built
 pub mod Laws
+pub mod Source
+pub mod SourceLaws

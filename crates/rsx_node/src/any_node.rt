@@ -2,18 +2,17 @@
 
 ghost use Rattle.std.specs.Prelude.{◌≡◌};
 
+use crate::source_node::SourceNode;
 use rsx_plain::PlainNode;
-use rsx_sources::{Front, ItemsNode, Machine, NotMade, NotTaken, Passed, RangeNode};
+use rsx_sources::{Front, Machine, NotMade, NotTaken, Passed};
 use rsx_types::{NoMemory, Note, Ops, Signal, StreamValue};
 use std::alloc::Global;
 
 /// A node of any kind.
 #[derive(Drop)]
 pub enum AnyNode<T> {
-    /// The source `items`.
-    Items(ItemsNode<T>),
-    /// The source `range`.
-    Range(RangeNode<T>),
+    /// A source.
+    Source(SourceNode<T>),
     /// A plain operator.
     Plain(PlainNode<T>),
 }
@@ -70,8 +69,7 @@ impl<T: Drop> Machine for AnyNode<T> {
     #[inline]
     fn front(&self) -> Option<Front> {
         match self {
-            AnyNode::Items(node) => node.front(),
-            AnyNode::Range(node) => node.front(),
+            AnyNode::Source(node) => node.front(),
             AnyNode::Plain(node) => node.front(),
         }
     }
@@ -90,8 +88,7 @@ impl<T: Drop> Machine for AnyNode<T> {
         ensures alike { StaysAlike any_reads any_pop_allocates any_signal_allocates (λ a n. false) self.old self.new }
     {
         match self {
-            AnyNode::Items(node) => node.pop_front(alloc, ops),
-            AnyNode::Range(node) => node.pop_front(alloc, ops),
+            AnyNode::Source(node) => node.pop_front(alloc, ops),
             AnyNode::Plain(node) => node.pop_front(alloc, ops),
         }
     }
@@ -100,8 +97,7 @@ impl<T: Drop> Machine for AnyNode<T> {
         ensures { (before : AnyNode T) → any_popped before signal self.old → self.new ≡ before }
     {
         match self {
-            AnyNode::Items(node) => node.put_back(signal),
-            AnyNode::Range(node) => node.put_back(signal),
+            AnyNode::Source(node) => node.put_back(signal),
             AnyNode::Plain(node) => node.put_back(signal),
         }
     }
@@ -109,8 +105,7 @@ impl<T: Drop> Machine for AnyNode<T> {
     #[inline]
     fn has_ended(&self) -> bool {
         match self {
-            AnyNode::Items(node) => node.has_ended(),
-            AnyNode::Range(node) => node.has_ended(),
+            AnyNode::Source(node) => node.has_ended(),
             AnyNode::Plain(node) => node.has_ended(),
         }
     }
@@ -118,8 +113,7 @@ impl<T: Drop> Machine for AnyNode<T> {
     #[inline]
     fn can_take(&self, input: u64, front: Front) -> bool {
         match self {
-            AnyNode::Items(node) => node.can_take(input, front),
-            AnyNode::Range(node) => node.can_take(input, front),
+            AnyNode::Source(node) => node.can_take(input, front),
             AnyNode::Plain(node) => node.can_take(input, front),
         }
     }
@@ -141,7 +135,7 @@ impl<T: Drop> Machine for AnyNode<T> {
         ensures same { OnErr result (self.new ≡ self.old) }
     {
         match self {
-            AnyNode::Items(_) | AnyNode::Range(_) => Err(NotTaken::Busy(signal)),
+            AnyNode::Source(_) => Err(NotTaken::Busy(signal)),
             AnyNode::Plain(node) => node.on_signal(alloc, ops, input, signal),
         }
     }
@@ -149,8 +143,7 @@ impl<T: Drop> Machine for AnyNode<T> {
     #[inline]
     fn pop_item<O: Ops<Item = T>>(&mut self, alloc: Global, ops: &O) -> Option<T> {
         match self {
-            AnyNode::Items(node) => node.pop_item(alloc, ops),
-            AnyNode::Range(node) => node.pop_item(alloc, ops),
+            AnyNode::Source(node) => node.pop_item(alloc, ops),
             AnyNode::Plain(node) => node.pop_item(alloc, ops),
         }
     }
@@ -158,23 +151,21 @@ impl<T: Drop> Machine for AnyNode<T> {
     #[inline]
     fn pass<O: Ops<Item = T>>(&mut self, alloc: Global, ops: &O, input: u64, item: T) -> Passed<T> {
         match self {
-            AnyNode::Items(_) | AnyNode::Range(_) => Passed::Declined(item),
+            AnyNode::Source(_) => Passed::Declined(item),
             AnyNode::Plain(node) => node.pass(alloc, ops, input, item),
         }
     }
 
     fn hub(&self) -> Option<u64> {
         match self {
-            AnyNode::Items(node) => node.hub(),
-            AnyNode::Range(node) => node.hub(),
+            AnyNode::Source(node) => node.hub(),
             AnyNode::Plain(node) => node.hub(),
         }
     }
 
     fn has_room(&self) -> bool {
         match self {
-            AnyNode::Items(node) => node.has_room(),
-            AnyNode::Range(node) => node.has_room(),
+            AnyNode::Source(node) => node.has_room(),
             AnyNode::Plain(node) => node.has_room(),
         }
     }
@@ -189,8 +180,7 @@ impl<T: Drop> Machine for AnyNode<T> {
         ensures same { OnErr result (self.new ≡ self.old) }
     {
         match self {
-            AnyNode::Items(node) => node.on_published(signal),
-            AnyNode::Range(node) => node.on_published(signal),
+            AnyNode::Source(node) => node.on_published(signal),
             AnyNode::Plain(node) => node.on_published(signal),
         }
     }
@@ -231,8 +221,7 @@ impl<T: Drop> Machine for AnyNode<T> {
     #[inline]
     fn want(&self, input: u64, asked: u64, sent: u64) -> u64 {
         match self {
-            AnyNode::Items(node) => node.want(input, asked, sent),
-            AnyNode::Range(node) => node.want(input, asked, sent),
+            AnyNode::Source(node) => node.want(input, asked, sent),
             AnyNode::Plain(node) => node.want(input, asked, sent),
         }
     }
@@ -252,8 +241,7 @@ impl<T: Drop> Machine for AnyNode<T> {
             IsResidualOf (any_comes_out (O.meaning ops.now)) (λ n. Nothing) any_reads self.now inboxes.now incoming.now v) }
     {
         match self {
-            AnyNode::Items(node) => node.residual(alloc, ops, inboxes, incoming),
-            AnyNode::Range(node) => node.residual(alloc, ops, inboxes, incoming),
+            AnyNode::Source(node) => node.residual(alloc, ops, inboxes, incoming),
             AnyNode::Plain(node) => node.residual(alloc, ops, inboxes, incoming),
         }
     }

@@ -2,12 +2,15 @@
 //! The nodes of all kinds as one, and the tree of an expression.
 //!
 //! - [`any_node`]: [`AnyNode`], a node of any kind. Each of its calls is that of its kind.
+//! - [`source_node`]: [`SourceNode`], a source of any kind: a list of items, a range, or a node that reads a hub.
 //! - [`build`]: the tree of an expression.
 //!
-//! The definitions stand in `specs/`: `Any` (what a node of any kind means), `Laws` (the laws that it keeps) and `Built` (a
-//! tree that has just begun).
+//! The definitions stand in `specs/`: `Any` (what a node of any kind means), `Laws` (the laws that it keeps), `Source` and
+//! `SourceLaws` (the same of a source), and `Built` (a tree that has just begun).
 
 pub mod any_node;
 pub mod build;
+pub mod source_node;
 
 pub use any_node::AnyNode;
+pub use source_node::SourceNode;

@@ -1,5 +1,6 @@
 -- Lemmas about parts.
 pub mod Fetches
+pub mod Handing
 pub mod Looks
 pub mod Numbers
 pub mod Parts

@@ -7,15 +7,22 @@ use Rattle.rsx_types.specs.declared.limits.TheConstants.{CAPACITY}
 use Rattle.rsx_model.specs.declared.expr.Expr.{Expr}
 use Rattle.rsx_types.specs.Meaning.{Meaning, Allocates}
 use Rattle.rsx_types.specs.Notes.{unchosen, notes_then}
-use Rattle.rsx_types.specs.Stream.{Stream, signals_then}
+use Rattle.rsx_types.specs.Stream.{Stream, ended_by, signals_then}
+use Rattle.rsx_types.specs.declared.signal.Ending.{Ending}
+use Rattle.rsx_types.specs.declared.signal.Ending.TheVariants.{Open, Done, Failed}
 use Rattle.rsx_types.specs.declared.note.Note.{Note}
 use Rattle.rsx_types.specs.declared.signal.Signal.{Signal}
 use Rattle.rsx_types.specs.declared.signal.Signal.TheVariants.{Next, Complete, Error}
 use Rattle.rsx_sources.specs.Machine.{front_of}
 use Rattle.rsx_sources.specs.declared.machine.Front.{Front}
-use Rattle.rsx_node.specs.Built.{IsBuilt}
+use Rattle.rsx_hub.specs.Hub.{HubState, HasTakenIn, BeginsWith}
+use Rattle.rsx_hub.specs.Member.{ending_taken}
+use Rattle.rsx_hub.specs.Waiting.{is_open}
+use Rattle.rsx_node.specs.Built.{IsBuilt, AreBegun, StandAt, counts_of, new_joins}
+use Rattle.rsx_tree.specs.Reads.{IsTreeReadAt}
+use Rattle.rsx_pipe.specs.Published.{AreTaken, IsTaken}
 use Rattle.rsx_tree.specs.Edges.{changed_at, asked_up_to, edge_view, EdgeView, passed, is_live, closed_view, closed_state}
-use Rattle.rsx_pipe.specs.Output.{items_in, IsUnended, values_then}
+use Rattle.rsx_pipe.specs.Output.{counts_in, items_in, IsUnended, more_after, published_then, values_then}
 use Rattle.rsx_pipe.specs.Part.{PartStands, IsPutOut, IsRootSent, IsMade, IsMoved, IsMovedBy, IsPumped, IsQuiet, IsDelivered, IsServed, IsSpent, HasEnded, IsAsk, IsSend, IsEffect, GoesOut, all_edges, sent_at, send_enabled, move_enabled, has_room, make_allocates, evaluated, pump_allocates, IsPick, IsRow}
 use Rattle.rsx_pipe.specs.Tree.{AnyTree, comes_out, notes_of, offers, edges, edges_after, can_ask, can_send, can_go, want_at, want_in, front_at, front_in, ended_at, IsAllClosed, IsKept, IsAlike, step_allocates, IsAdvanced, IsAskedAt, IsSentAt, IsChosen, IsDriven, IsIdle, IsBalanced, IsBalancedAfter, IsWithin, pop_allocates, IsStill}
 use Rattle.rsx_tree.specs.declared.look.NodeMove.{NodeMove}
@@ -45,7 +52,7 @@ use Rattle.rsx_tree.proofs.Idles.{idle_offers, can_pass_live, live_still, place_
 use Rattle.rsx_pipe.proofs.Numbers.{above_zero, suc_minus}
 use Rattle.rsx_pipe.proofs.Signals.{IsOrderly-more, IsUnended-more, IsUnended-last, items_in-append, map_then-last, prefix_of_orderly, cut_value}
 use Rattle.rsx_tree.proofs.Shut.{pass_live, and_right, pick_alive, row_alive}
-use Rattle.rsx_pipe.proofs.Trees.{advanced_not_closed, ask_not_closed, send_not_closed, go_live, notes_then-unchosen, notes_then-unrecorded, unchosen_notes, none_reads}
+use Rattle.rsx_pipe.proofs.Trees.{advanced_not_closed, ask_not_closed, send_not_closed, go_live, notes_then-unchosen, notes_then-unrecorded, unchosen_notes, get_behind}
 use Rattle.rsx_pipe.proofs.Numbers.{front_there, above_root, asked_all, at_zero}
 
 never : (b : Bool) → b ≡ true → b ≡ false → ⊥
@@ -65,8 +72,8 @@ closed_dead : (s : EdgeState) → s ≡ Closed → s ≡ Live → ⊥
 closed_dead s c l = cc
 
 -- moves inside the tree, by which nodes choose
-pub put_out_chosen : {T : Type 0} (m : Meaning T) (old new : Part T) → IsChosen m old.tree new.tree → ((sent : ℕ) → IsBalanced old.tree sent → IsBalanced new.tree sent) → new.root ≡ old.root → (IsAllClosed old.tree → (old.root.state ≡ Live → ⊥) → ⊥) → IsPutOut m old [] new
-put_out_chosen m old new k balance root alive published e joins output h =
+pub put_out_chosen : {T : Type 0} (m : Meaning T) (old new : Part T) → IsChosen m old.tree new.tree → ((sent : ℕ) → IsBalanced old.tree sent → IsBalanced new.tree sent) → new.root ≡ old.root → IsAlike old.tree new.tree → (IsAllClosed old.tree → (old.root.state ≡ Live → ⊥) → ⊥) → IsPutOut m old [] new
+put_out_chosen m old new k balance root alike alive published e joins output h =
     same_output m published new e joins output (record {
       value = λ more further len.
           ap (λ o. option_map (signals_then output) o) (k.value (values_then published more) further)
@@ -76,11 +83,13 @@ put_out_chosen m old new k balance root alive published e joins output h =
       ended = rw root h.ended;
       counted = rw root h.counted;
       balance = rw root (λ l. balance old.root.demand.sent (h.balance l));
+      reads = rw root (λ l. alike.1 (counts_in published) (h.reads l));
+      alone = rw root (λ l none. alike.1 [] (h.alone l none));
       closed = λ c. let was : old.root.state ≡ Closed = ap (λ r. r.state) (sym root) ∙ c in absurd (alive (h.closed was) (closed_dead old.root.state was));
     })
 
-pub put_out_kept : {T : Type 0} (m : Meaning T) (old new : Part T) → IsKept m old.tree new.tree → ((sent : ℕ) → IsBalanced old.tree sent → IsBalanced new.tree sent) → new.root ≡ old.root → (IsAllClosed old.tree → (old.root.state ≡ Live → ⊥) → ⊥) → IsPutOut m old [] new
-put_out_kept m old new k balance root alive = put_out_chosen m old new (kept_chosen any_machine m old.tree new.tree k) balance root alive
+pub put_out_kept : {T : Type 0} (m : Meaning T) (old new : Part T) → IsKept m old.tree new.tree → ((sent : ℕ) → IsBalanced old.tree sent → IsBalanced new.tree sent) → new.root ≡ old.root → IsAlike old.tree new.tree → (IsAllClosed old.tree → (old.root.state ≡ Live → ⊥) → ⊥) → IsPutOut m old [] new
+put_out_kept m old new k balance root alike alive = put_out_chosen m old new (kept_chosen any_machine m old.tree new.tree k) balance root alike alive
 
 passed_sent : {T : Type 0} (e : EdgeView) (s : Signal T) → (passed e (front_of s)).sent ≡ e.sent + length (items_in (s ∷ []))
 passed_sent e (Next x) = refl
@@ -141,6 +150,8 @@ put_out_sent {T} m old new queue queue' k published e joins output h =
           let C : ℕ → Type 0 = λ c. IsBalanced new.tree c in
           let one : new.root.demand.sent ≡ old.root.demand.sent + 1 = sent ∙ ap (λ t. old.root.demand.sent + length (items_in (t ∷ []))) x.1 in
           subst C (sym one) (subst B x.1 (k.gone.balance old.root.demand.sent (h.balance r.was_live)));
+      reads = λ l. k.gone.alike.1 (counts_in published) (h.reads r.was_live);
+      alone = λ l none. k.gone.alike.1 [] (h.alone r.was_live none);
       closed = λ c. absurd (passed_open (edge_view old.root) k.signal r.was_live (sym (ap (λ v. v.state) r.view) ∙ c));
     }
 
@@ -152,6 +163,7 @@ put_out_asked {T} m old new tree state sent published e joins output h =
     let B : AnyTree T → Type 0 = λ t. IsBalanced t old.root.demand.sent in
     let S : ℕ → Type 0 = λ k. IsBalanced new.tree k in
     let C : AnyTree T → Type 0 = λ t. IsAllClosed t in
+    let R : List ℕ → AnyTree T → Type 0 = λ counts t. IsTreeReadAt any_machine counts t in
     same_output m published new e joins output (record {
       value = subst V (sym tree) h.value;
       orderly = h.orderly;
@@ -159,6 +171,8 @@ put_out_asked {T} m old new tree state sent published e joins output h =
       ended = λ x. h.ended (sym state ∙ x);
       counted = h.counted ∙ sym sent;
       balance = λ l. subst S (sym sent) (subst B (sym tree) (h.balance (sym state ∙ l)));
+      reads = λ l. subst (R (counts_in published)) (sym tree) (h.reads (sym state ∙ l));
+      alone = λ l none. subst (R []) (sym tree) (h.alone (sym state ∙ l) none);
       closed = λ x. subst C (sym tree) (h.closed (sym state ∙ x));
     })
 
@@ -174,6 +188,8 @@ put_out_closed m old new k closed root published e joins output h =
       ended = λ x. h.ended (was_ended (edge_view old.root) (sym (ap (λ v. v.state) root) ∙ x));
       counted = h.counted ∙ sym (ap (λ v. v.sent) root);
       balance = λ l. absurd (never_live (edge_view old.root) (sym (ap (λ v. v.state) root) ∙ l));
+      reads = λ l. absurd (never_live (edge_view old.root) (sym (ap (λ v. v.state) root) ∙ l));
+      alone = λ l. absurd (never_live (edge_view old.root) (sym (ap (λ v. v.state) root) ∙ l));
       closed = λ _. closed;
     })
   where
@@ -393,15 +409,80 @@ pumped_made m move old new queue queue' can k = record {
 
 -- ---- a part that has just begun
 
-pub fresh_part : {T : Type 0} (m : Meaning T) (published : List (Stream T)) (e : Expr T) (part : Part T) → IsBuilt m e part.tree → part.root.state ≡ Live → part.root.demand.sent ≡ 0 → PartStands m published part e [] []
-fresh_part m published e part b l s = record {
+stands_at : (before all : List ℕ) → StandAt (before ++ all) (length before) all
+stands_at before [] = tt
+stands_at before (n ∷ ns) =
+    let all : (before ++ n ∷ []) ++ ns ≡ before ++ (n ∷ ns) = append_assoc before (n ∷ []) ns in
+    let at : length (before ++ n ∷ []) ≡ length before + 1 = length-append before (n ∷ []) in
+    let P : List ℕ → Type 0 = λ l. StandAt l (length before + 1) ns in
+    let Q : ℕ → Type 0 = λ k. StandAt ((before ++ n ∷ []) ++ ns) k ns in
+    (get_behind before ns n, subst P all (subst Q at (stands_at (before ++ n ∷ []) ns)))
+
+-- a value that begins with what a hub took in
+begun_one : {T : Type 0} (h : HubState T) (v m : Stream T) → IsTaken h v → (taken : List T) × HasTakenIn h taken × BeginsWith h taken (published_then v m)
+begun_one h v m k = (v.items, k.taken, by_ending v.ending refl)
+  where
+    open_still : (b : Bool) (e : Ending) → ending_taken b e ≡ Open → b ≡ true → (b ≡ true → is_open e ≡ false) → ⊥
+    open_still true Open o t n = let f = n refl in cc
+    open_still true Done o t n = cc
+    open_still true (Failed c) o t n = cc
+    open_still false e o t n = cc
+
+    ended_same : (b : Bool) (e : Ending) → b ≡ true → ending_taken b e ≡ e
+    ended_same true e t = refl
+    ended_same false e t = cc
+
+    by_ending : (e : Ending) → v.ending ≡ e → BeginsWith h v.items (published_then v m)
+    by_ending Open o = record {
+      more = m.items;
+      items = ap (λ e. (more_after e v m).items) o;
+      ended = λ t. absurd (open_still h.has_ended h.ending (sym k.ending ∙ o) t k.closed);
+    }
+    by_ending Done o = record {
+      more = [];
+      items = ap (λ e. (more_after e v m).items) o ∙ sym (append-nil v.items);
+      ended = λ t. (refl, ap (λ e. (more_after e v m).ending) o ∙ (k.ending ∙ ended_same h.has_ended h.ending t));
+    }
+    by_ending (Failed c) o = record {
+      more = [];
+      items = ap (λ e. (more_after e v m).items) o ∙ sym (append-nil v.items);
+      ended = λ t. (refl, ap (λ e. (more_after e v m).ending) o ∙ (k.ending ∙ ended_same h.has_ended h.ending t));
+    }
+
+none_after : {T : Type 0} (v : Stream T) → published_then v (ended_by Open) ≡ v
+none_after v = by_ending v.ending refl
+  where
+    by_ending : (e : Ending) → v.ending ≡ e → more_after v.ending v (ended_by Open) ≡ v
+    by_ending Open o = ap (λ e. more_after e v (ended_by Open)) o ∙ (λ i. record { items = append-nil v.items i; ending = sym o i })
+    by_ending Done o = ap (λ e. more_after e v (ended_by Open)) o
+    by_ending (Failed c) o = ap (λ e. more_after e v (ended_by Open)) o
+
+pub begun_all : {T : Type 0} (hubs : List (HubState T)) (published more : List (Stream T)) → AreTaken hubs published → AreBegun hubs (values_then published more)
+begun_all [] vs more k = tt
+begun_all (h ∷ hs) [] more k = absurd k
+begun_all {T} (h ∷ hs) (v ∷ vs) [] k =
+    let P : Stream T → Type 0 = λ w. (taken : List T) × HasTakenIn h taken × BeginsWith h taken w in
+    (subst P (none_after v) (begun_one h v (ended_by Open) k.0), begun_all hs vs [] k.1)
+begun_all (h ∷ hs) (v ∷ vs) (m ∷ ms) k = (begun_one h v m k.0, begun_all hs vs ms k.1)
+
+taken_counts : {T : Type 0} (hubs : List (HubState T)) (published : List (Stream T)) → AreTaken hubs published → counts_of hubs ≡ counts_in published
+taken_counts [] [] k = refl
+taken_counts [] (v ∷ vs) k = absurd k
+taken_counts (h ∷ hs) [] k = absurd k
+taken_counts (h ∷ hs) (v ∷ vs) k = ap (λ n. n ∷ counts_of hs) k.0.taken.counted ∙ ap (λ l. length v.items ∷ l) (taken_counts hs vs k.1)
+
+pub fresh_part : {T : Type 0} (m : Meaning T) (hubs : List (HubState T)) (published : List (Stream T)) (e : Expr T) (part : Part T) → AreTaken hubs published → IsBuilt m hubs e part.tree → part.root.state ≡ Live → part.root.demand.sent ≡ 0 → PartStands m published part e (new_joins hubs e) []
+fresh_part m hubs published e part taken b l s = record {
   value = λ more further len.
-      rw (notes_then-unrecorded (notes_of part.tree) further b.notes len) (map_same (comes_out m (values_then published more) further part.tree 0) ∙ b.value (values_then published more) (values_then published more) [] further 0 0);
+      rw (notes_then-unrecorded (notes_of part.tree) further b.notes len)
+      (map_same (comes_out m (values_then published more) further part.tree 0) ∙ b.value (values_then published more) (new_joins hubs e) further 0 0 (begun_all hubs published more taken) (stands_at [] (new_joins hubs e)));
   orderly = tt;
   unended = λ _. tt;
   ended = λ x. let k = l in cc;
   counted = sym s;
   balance = λ _. rw s b.balance;
+  reads = λ _. let C : List ℕ → Type 0 = λ counts. IsTreeReadAt any_machine counts part.tree in subst C (taken_counts hubs published taken) b.reads;
+  alone = λ _ none. b.alone none;
   closed = λ x. let k = l in cc;
 }
   where
@@ -442,7 +523,7 @@ driven_moves m (suc n) root old new queue d =
 driven_put_out : {T : Type 0} (m : Meaning T) (n : ℕ) (root : Edge) (old new : AnyTree T) → IsDriven m n old root.demand.asked root.demand.sent new → ((s : ℕ) → IsBalanced old s → IsBalanced new s) → IsPutOut m (record { tree = old; root = root }) [] (record { tree = new; root = root })
 driven_put_out {T} m zero root old new d balance = let P : AnyTree T → Type 0 = λ t. IsPutOut m (record { tree = old; root = root }) [] (record { tree = t; root = root }) in subst P (sym d) (put_out_none m (record { tree = old; root = root }))
 driven_put_out m (suc n) root old new d balance =
-    put_out_chosen m (record { tree = old; root = root }) (record { tree = new; root = root }) (chosen_run any_machine m true (suc n) old new root.demand.asked root.demand.sent d) balance refl (λ closed _. advanced_not_closed m old d.0 root.demand.asked root.demand.sent d.1 closed)
+    put_out_chosen m (record { tree = old; root = root }) (record { tree = new; root = root }) (chosen_run any_machine m true (suc n) old new root.demand.asked root.demand.sent d) balance refl (driven_alike any_machine m true (suc n) old root.demand.asked root.demand.sent new d) (λ closed _. advanced_not_closed m old d.0 root.demand.asked root.demand.sent d.1 closed)
 
 pub pumped_driven : {T : Type 0} (m : Meaning T) (n : ℕ) (old : Part T) (tree : AnyTree T) (queue : List (Signal T)) → IsDriven m n old.tree old.root.demand.asked old.root.demand.sent tree → ((s : ℕ) → IsBalanced old.tree s → IsBalanced tree s) → IsPumped m n old queue (record { tree = tree; root = old.root }) queue
 pumped_driven m n old tree queue d balance = record {
@@ -518,10 +599,10 @@ still_root : {T : Type 0} (m : Meaning T) (part : Part T) (queue : List (Signal 
 still_root m part queue q = ((λ input l. q (Pick 0 input) (omega arith, l)), q (Row 0) (omega arith))
 
 -- over a live root edge with room behind it all that was asked for went
-sent_all_asked : {T : Type 0} (m : Meaning T) (part : Part T) (queue : List (Signal T)) → IsQuiet m part queue → part.root.state ≡ Live → length queue < CAPACITY → IsBalanced part.tree part.root.demand.sent → length (all_edges part) ≤ MOST_NODES → IsWithin part.tree → part.root.demand.sent < part.root.demand.asked → ⊥
-sent_all_asked m part queue q live room b few w less =
+sent_all_asked : {T : Type 0} (m : Meaning T) (part : Part T) (queue : List (Signal T)) → IsQuiet m part queue → part.root.state ≡ Live → length queue < CAPACITY → IsBalanced part.tree part.root.demand.sent → IsTreeReadAt any_machine [] part.tree → length (all_edges part) ≤ MOST_NODES → IsWithin part.tree → part.root.demand.sent < part.root.demand.asked → ⊥
+sent_all_asked m part queue q live room b alone few w less =
     let can = ap is_live live in
-    let s = idle_offers any_machine m (any_ending_waits m) (any_hungry m) part.tree part.root.demand.asked part.root.demand.sent (idle_tree m part queue q few) (live_still any_machine part.root part.tree.machine can (still_root m part queue q)) b less (let k = few_below part few in omega (arith, k)) w (none_reads part.tree) in
+    let s = idle_offers any_machine m (any_ending_waits m) (any_hungry m) part.tree part.root.demand.asked part.root.demand.sent (idle_tree m part queue q few) (live_still any_machine part.root part.tree.machine can (still_root m part queue q)) b less (let k = few_below part few in omega (arith, k)) w alone in
     let r : has_room queue ≡ true = grind (arith, nat_tests, room) in
     let goes : send_enabled m part queue 0 ≡ true = rw (r, s.1) (can_pass_live (edge_view part.root) (front_of s.0) can less) in
     never (send_enabled m part queue 0) goes (q (Send 0) (omega arith))
@@ -533,11 +614,26 @@ take_front (x ∷ xs) rest (suc n) e = ap (λ l. x ∷ l) (take_front xs rest n 
 
 pub values_then-none : {T : Type 0} (published : List (Stream T)) → values_then published [] ≡ published
 values_then-none [] = refl
-values_then-none (v ∷ vs) = refl
+values_then-none (v ∷ vs) = ap (λ l. v ∷ l) (values_then-none vs)
 
-now_published : {T : Type 0} (m : Meaning T) (published : List (Stream T)) (e : Expr T) (joins : List ℕ) (ns : List Note) (v : Stream T) → evaluated m published joins e ns ≡ Some v → evaluated m (values_then published []) joins e (notes_then ns (map unchosen ns)) ≡ Some v
-now_published m published e joins ns v h =
-    ap (λ p. evaluated m p joins e (notes_then ns (map unchosen ns))) (values_then-none published) ∙ (ap (λ k. evaluated m published joins e k) (notes_then-unchosen ns) ∙ h)
+more_again : {T : Type 0} (d e : Ending) (xs ys : List T) (k : Stream T) →
+    published_then (more_after d (record { items = xs; ending = d }) (record { items = ys; ending = e })) k ≡ more_after d (record { items = xs; ending = d }) (more_after e (record { items = ys; ending = e }) k)
+more_again Open Open xs ys k = λ n. record { items = append_assoc xs ys k.items n; ending = k.ending }
+more_again Open Done xs ys k = refl
+more_again Open (Failed c) xs ys k = refl
+more_again Done e xs ys k = refl
+more_again (Failed c) e xs ys k = refl
+
+then_again : {T : Type 0} (v i k : Stream T) → published_then (published_then v i) k ≡ published_then v (published_then i k)
+then_again v i k = more_again v.ending i.ending v.items i.items k
+
+-- what is published behind what was published behind what was published
+pub values_then-again : {T : Type 0} (vs is ks : List (Stream T)) → values_then (values_then vs is) ks ≡ values_then vs (values_then is ks)
+values_then-again [] is ks = refl
+values_then-again (v ∷ vs) [] [] = ap (λ l. v ∷ l) (values_then-again vs [] [])
+values_then-again (v ∷ vs) [] (k ∷ ks) = ap (λ l. published_then v k ∷ l) (values_then-again vs [] ks)
+values_then-again (v ∷ vs) (i ∷ is) [] = ap (λ l. published_then v i ∷ l) (values_then-again vs is [])
+values_then-again (v ∷ vs) (i ∷ is) (k ∷ ks) = ap (λ w. w ∷ values_then (values_then vs is) ks) (then_again v i k) ∙ ap (λ l. published_then v (published_then i k) ∷ l) (values_then-again vs is ks)
 
 not_less : (a b : ℕ) → (a < b → ⊥) → b ≤ a
 not_less a b n = by_test (nat_lt a b) refl
@@ -546,18 +642,19 @@ not_less a b n = by_test (nat_lt a b) refl
     by_test true x = absurd (n (grind (arith, nat_tests)))
     by_test false x = grind (arith, nat_tests)
 
--- what went out, followed by what still comes out, is the value that stands now
-pub value_now : {T : Type 0} (m : Meaning T) (published : List (Stream T)) (part : Part T) (e : Expr T) (joins : List ℕ) (output : List (Signal T)) (v : Stream T) → PartStands m published part e joins output → evaluated m published joins e (notes_of part.tree) ≡ Some v →
-    option_map (signals_then output) (comes_out m (values_then published []) (map unchosen (notes_of part.tree)) part.tree 0) ≡ Some v
-value_now m published part e joins output v h x = h.value [] (map unchosen (notes_of part.tree)) (unchosen_notes (notes_of part.tree)) ∙ now_published m published e joins (notes_of part.tree) v x
+-- what went out, followed by what still comes out, is the value where this is published besides
+pub value_now : {T : Type 0} (m : Meaning T) (published more : List (Stream T)) (part : Part T) (e : Expr T) (joins : List ℕ) (output : List (Signal T)) (v : Stream T) → PartStands m published part e joins output → evaluated m (values_then published more) joins e (notes_of part.tree) ≡ Some v →
+    option_map (signals_then output) (comes_out m (values_then published more) (map unchosen (notes_of part.tree)) part.tree 0) ≡ Some v
+value_now m published more part e joins output v h x =
+    h.value more (map unchosen (notes_of part.tree)) (unchosen_notes (notes_of part.tree)) ∙ (ap (λ k. evaluated m (values_then published more) joins e k) (notes_then-unchosen (notes_of part.tree)) ∙ x)
 
-served_live : {T : Type 0} (m : Meaning T) (published : List (Stream T)) (part : Part T) (queue : List (Signal T)) (e : Expr T) (joins : List ℕ) (output : List (Signal T)) → IsQuiet m part queue → part.root.state ≡ Live → length queue < CAPACITY → length (all_edges part) ≤ MOST_NODES → IsWithin part.tree → PartStands m published part e joins output → (v : Stream T) → evaluated m published joins e (notes_of part.tree) ≡ Some v → IsServed part output v
-served_live m published part queue e joins output q live room few w h v x =
-    let full : part.root.demand.asked ≤ part.root.demand.sent = not_less part.root.demand.sent part.root.demand.asked (sent_all_asked m part queue q live room (h.balance live) few w) in
+served_live : {T : Type 0} (m : Meaning T) (published : List (Stream T)) (part : Part T) (queue : List (Signal T)) (e : Expr T) (joins : List ℕ) (output : List (Signal T)) → IsQuiet m part queue → part.root.state ≡ Live → length queue < CAPACITY → length (all_edges part) ≤ MOST_NODES → IsWithin part.tree → PartStands m published part e joins output → joins ≡ [] → (more : List (Stream T)) (v : Stream T) → evaluated m (values_then published more) joins e (notes_of part.tree) ≡ Some v → IsServed part output v
+served_live m published part queue e joins output q live room few w h none more v x =
+    let full : part.root.demand.asked ≤ part.root.demand.sent = not_less part.root.demand.sent part.root.demand.asked (sent_all_asked m part queue q live room (h.balance live) (h.alone live none) few w) in
     let within = part.root.demand.covered in
     let counted = h.counted in
     let count : length (items_in output) ≡ part.root.demand.asked = omega (arith, full, within, counted) in
-    let p = prefix_of_orderly output (comes_out m (values_then published []) (map unchosen (notes_of part.tree)) part.tree 0) v h.orderly (value_now m published part e joins output v h x) in
+    let p = prefix_of_orderly output (comes_out m (values_then published more) (map unchosen (notes_of part.tree)) part.tree 0) v h.orderly (value_now m published more part e joins output v h x) in
     let longer : length v.items ≡ length (items_in output) + length p.0 = ap length (sym p.1) ∙ length-append (items_in output) p.0 in
     let least : min part.root.demand.asked (length v.items) ≡ length (items_in output) = omega (arith, count, longer) in
     record {
@@ -565,9 +662,9 @@ served_live m published part queue e joins output q live room few w h v x =
       ending = λ less _. absurd (omega (arith, less, count, longer));
     }
 
-served_ended : {T : Type 0} (m : Meaning T) (published : List (Stream T)) (part : Part T) (e : Expr T) (joins : List ℕ) (output : List (Signal T)) → part.root.state ≡ Ended → PartStands m published part e joins output → (v : Stream T) → evaluated m published joins e (notes_of part.tree) ≡ Some v → IsServed part output v
-served_ended m published part e joins output s h v x =
-    let all : items_in output ≡ v.items = cut_value output (comes_out m (values_then published []) (map unchosen (notes_of part.tree)) part.tree 0) v h.orderly (h.ended s) (value_now m published part e joins output v h x) in
+served_ended : {T : Type 0} (m : Meaning T) (published : List (Stream T)) (part : Part T) (e : Expr T) (joins : List ℕ) (output : List (Signal T)) → part.root.state ≡ Ended → PartStands m published part e joins output → (more : List (Stream T)) (v : Stream T) → evaluated m (values_then published more) joins e (notes_of part.tree) ≡ Some v → IsServed part output v
+served_ended m published part e joins output s h more v x =
+    let all : items_in output ≡ v.items = cut_value output (comes_out m (values_then published more) (map unchosen (notes_of part.tree)) part.tree 0) v h.orderly (h.ended s) (value_now m published more part e joins output v h x) in
     let within = part.root.demand.covered in
     let counted = h.counted in
     let count : length (items_in output) ≡ length v.items = ap length all in
@@ -578,11 +675,11 @@ served_ended m published part e joins output s h v x =
     }
 
 pub delivered : {T : Type 0} (m : Meaning T) (part : Part T) (queue : List (Signal T)) → IsQuiet m part queue → IsDelivered m part queue
-delivered {T} m part queue q published e joins output h unclosed room few w v x = by_state part.root.state refl
+delivered {T} m part queue q published e joins output h none unclosed room few w more v x = by_state part.root.state refl
   where
     by_state : (s : EdgeState) → part.root.state ≡ s → IsServed part output v
-    by_state Live s = served_live m published part queue e joins output q s room few w h v x
-    by_state Ended s = served_ended m published part e joins output s h v x
+    by_state Live s = served_live m published part queue e joins output q s room few w h none more v x
+    by_state Ended s = served_ended m published part e joins output s h more v x
     by_state Closed s = absurd (unclosed s)
 
 -- ---- how driving ends

@@ -10,7 +10,6 @@ use Rattle.rsx_sources.specs.Reading.{Reading, IsBehind}
 use Rattle.rsx_node.specs.Any.{any_machine, any_reads}
 use Rattle.rsx_node.specs.Built.{AllUnrecorded}
 use Rattle.rsx_node.specs.declared.any_node.AnyNode.{AnyNode}
-use Rattle.rsx_node.specs.declared.any_node.AnyNode.TheVariants.{Items, Range, Plain}
 use Rattle.rsx_types.specs.Stream.{Stream}
 use Rattle.rsx_tree.specs.declared.edge.EdgeState.TheVariants.{Live}
 use Rattle.rsx_tree.specs.declared.inputs.Inputs.{Inputs, End, More'}
@@ -41,19 +40,7 @@ advanced_not_closed m old new asked sent a h = elim a.made [
   | inr y ↦ elim y [ inl k ↦ send_not_closed m old a.at k.0 h | inr k ↦ Shut.step_not_closed any_machine m old a.at new.inputs k.1.made h ]
 ]
 
--- ---- hubs, which no kind of node reads yet
-
-reads_none : {T : Type 0} (n : AnyNode T) → IsReadAt [] (any_reads n)
-reads_none (Items n) = tt
-reads_none (Range n) = tt
-reads_none (Plain n) = tt
-
-none_read : {T : Type 0} (t : Inputs (AnyNode T)) → IsRowReadAt any_machine [] t
-none_read End = tt
-none_read (More' e n p below q beside) = (inr (reads_none n, none_read below), none_read beside)
-
-pub none_reads : {T : Type 0} (t : AnyTree T) → IsTreeReadAt any_machine [] t
-none_reads t = (reads_none t.machine, none_read t.inputs)
+-- ---- hubs
 
 unread : {T : Type 0} (inboxes hubs : List (Stream T)) (o : Option Reading) → IsReadAt [] o → IsBehind o inboxes hubs
 unread inboxes hubs None h = tt

@@ -2,4 +2,5 @@
 pub mod Fetched
 pub mod Output
 pub mod Part
+pub mod Published
 pub mod Tree

@@ -17,7 +17,8 @@ use Rattle.rsx_tree.specs.declared.look.NodeMove.TheVariants.{Ask, Send, Pick, R
 use Rattle.rsx_tree.specs.Edges.{edge_view, EdgeView, can_pass, IsPassed, passed, changed_at, asked_up_to}
 use Rattle.rsx_tree.specs.Residual.{IsTreeBehind}
 use Rattle.rsx_node.specs.Any.{any_machine}
-use Rattle.rsx_pipe.specs.Output.{items_in, IsUnended, IsOrderly, values_then}
+use Rattle.rsx_tree.specs.Reads.{IsTreeReadAt}
+use Rattle.rsx_pipe.specs.Output.{counts_in, items_in, IsUnended, IsOrderly, values_then}
 use Rattle.rsx_pipe.specs.Tree.{comes_out, notes_of, offers, can_ask, can_send, can_go, IsAllClosed, IsLetGo, edges, edges_after, want_at, front_at, ended_at, pop_allocates, send_allocates, step_allocates, tree_allocates, IsAlike, IsBalanced, IsWithin, can_pick, can_row, IsPickedAt, IsRowAt}
 use Rattle.rsx_tree.specs.declared.edge.EdgeState.TheVariants.{Live, Closed, Ended}
 use Rattle.rsx_pipe.specs.declared.part.Part.{Part}
@@ -30,7 +31,8 @@ use Rattle.rsx_pipe.specs.declared.part.Pumped.TheVariants.{Idle, Budget}
 abbrev pub evaluated : {T : Type 0} → Meaning T → List (Stream T) → List ℕ → Expr T → List Note → Option (Stream T)
 evaluated m hubs joins e notes = eval (environment m hubs joins notes) e
 
--- a part stands for an expression, where the signals `output` went over its root edge
+-- a part stands for an expression, where `published` is what the hubs took in and handed to their readers, and the signals
+-- `output` went over the part's root edge
 pub record PartStands {T : Type 0} (m : Meaning T) (published : List (Stream T)) (part : Part T) (e : Expr T) (joins : List ℕ) (output : List (Signal T)) : Type 0 where
   -- what went out, followed by what still comes out, is the expression evaluated from scratch, whatever is still published
   -- and whatever is still chosen
@@ -44,6 +46,9 @@ pub record PartStands {T : Type 0} (m : Meaning T) (published : List (Stream T))
   pub counted : length (items_in output) ≡ part.root.demand.sent
   -- while the root edge is live, the counts along all edges belong together
   pub balance : part.root.state ≡ Live → IsBalanced part.tree part.root.demand.sent
+  -- and each node that reads a hub got all that was published; with no join, no node reads one
+  pub reads : part.root.state ≡ Live → IsTreeReadAt any_machine (counts_in published) part.tree
+  pub alone : part.root.state ≡ Live → joins ≡ [] → IsTreeReadAt any_machine [] part.tree
   -- all below a closed root edge is closed
   pub closed : part.root.state ≡ Closed → IsAllClosed part.tree
 
@@ -245,10 +250,10 @@ pub record IsServed {T : Type 0} (part : Part T) (output : List (Signal T)) (v :
   pub items : items_in output ≡ take (min part.root.demand.asked (length v.items)) v.items
   pub ending : length v.items < part.root.demand.asked → (v.ending ≡ Open → ⊥) → part.root.state ≡ Ended
 
--- a part whose root edge isn't closed and whose receiver has room did so, as long as no edge has carried 2^63-1 items; its
--- expression has at most `MOST_NODES` nodes, as each has that isn't refused
+-- a part whose expression reads no hub, whose root edge isn't closed and whose receiver has room did so, as long as no edge has
+-- carried 2^63-1 items; its expression has at most `MOST_NODES` nodes, as each has that isn't refused
 abbrev pub IsDelivered : {T : Type 0} → Meaning T → Part T → List (Signal T) → Type 0
 IsDelivered {T} m part queue =
-    (published : List (Stream T)) (e : Expr T) (joins : List ℕ) (output : List (Signal T)) → PartStands m published part e joins output →
+    (published : List (Stream T)) (e : Expr T) (joins : List ℕ) (output : List (Signal T)) → PartStands m published part e joins output → joins ≡ [] →
     (part.root.state ≡ Closed → ⊥) → length queue < CAPACITY → length (all_edges part) ≤ MOST_NODES → IsWithin part.tree →
-    (v : Stream T) → evaluated m published joins e (notes_of part.tree) ≡ Some v → IsServed part output v
+    (more : List (Stream T)) (v : Stream T) → evaluated m (values_then published more) joins e (notes_of part.tree) ≡ Some v → IsServed part output v

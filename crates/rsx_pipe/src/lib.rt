@@ -2,12 +2,14 @@
 //! Parts: trees of nodes, each with the edge from its root.
 //!
 //! - [`part`]: [`Part`], one tree with the edge from its root: every move of it, as a [`NodeMove`], and `pump`.
+//! - [`published`]: what a hub published is handed to the nodes of a part that read it.
 //!
 //! The definitions stand in `specs/`, apart from the code: `Part` (what a part stands for, which of its moves are enabled,
-//! what they change, and what is delivered where it is idle), `Tree` (what `rsx_tree` says of the tree of a part) and `Output`
-//! (what has gone out).
+//! what they change, and what is delivered where it is idle), `Tree` (what `rsx_tree` says of the tree of a part), `Output`
+//! (what has gone out, and what was published) and `Published` (what the hubs took in and handed on).
 
 pub mod part;
+pub mod published;
 
 pub use part::{Part, Pumped};
 pub use rsx_queue::SignalQueue;

@@ -2,6 +2,7 @@
 
 ghost use Rattle.std.specs.Prelude.{◌≡◌, IfSome, true};
 
+use rsx_hub::Hub;
 use rsx_model::Expr;
 use rsx_node::AnyNode;
 use rsx_node::build::build;
@@ -28,20 +29,21 @@ pub enum Pumped {
 #[derive(Drop)]
 pub struct Part<T> {
     /// The tree.
-    tree: Node<AnyNode<T>>,
+    pub(crate) tree: Node<AnyNode<T>>,
     /// The edge from the tree's root to its receiver.
-    root: Edge,
+    pub(crate) root: Edge,
 }
 
 impl<T: Drop> Part<T> {
-    ghost use Rattle.std.specs.Prelude.{◌≡◌, ◌<◌, ◌+◌, ◌^◌, ℕ, List, [], ◌∷◌, Option, Some, None, true, false, OnOk, OnErr, IfOk, IfErr, IsOk, IfSome, IfNone, map};
+    ghost use Rattle.std.specs.Prelude.{◌≡◌, ◌<◌, ◌+◌, ◌^◌, ℕ, List, [], ◌∷◌, Option, Some, None, true, false, OnOk, OnErr, IfOk, IfErr, IsOk, IfSome, IfNone, length, map};
     ghost use Rattle.rsx_demand.specs.Demand.{saturating_total};
     ghost use Rattle.rsx_model.specs.Check.{first_fault};
     ghost use Rattle.rsx_types.specs.Meaning.{Meaning};
     ghost use Rattle.rsx_types.specs.Notes.{unchosen};
     ghost use Rattle.rsx_types.specs.Stream.{Stream};
     ghost use Rattle.rsx_sources.specs.Steps.{IsNotMade};
-    ghost use Rattle.rsx_node.specs.Built.{fresh_edge, fresh_edges};
+    ghost use Rattle.rsx_node.specs.Built.{fresh_edge, fresh_edges, new_joins};
+    ghost use Rattle.rsx_pipe.specs.Published.{AreTaken};
     ghost use Rattle.rsx_tree.specs.Edges.{closed_view, edge_view};
     ghost use Rattle.rsx_tree.specs.Stepped.{station_of};
     ghost use Rattle.rsx_pipe.specs.Tree.{comes_out, notes_of, can_send, pop_allocates, send_allocates, step_allocates, IsAlike, IsAllClosed, IsStill};
@@ -50,7 +52,8 @@ impl<T: Drop> Part<T> {
     ghost use Rattle.rsx_tree.specs.Refusals.{IsNotEnabled, OnlyNotEnabled};
     ghost use Rattle.rsx_pipe.specs.Part.{pump_allocates, PartStands, IsPutOut, IsMade, IsPumped, IsQuiet, IsAwake, IsSpent, IsRootSent, HasEnded, IsDelivered, IsPartResidual, make_allocates, all_edges, move_enabled, ask_enabled, send_enabled, IsAsk, IsSend, pick_enabled, row_enabled, IsPick, IsRow, IsNumbered};
 
-    /// The part of an expression that `check_expr` accepts, before anything was asked of it.
+    /// The part of an expression that `check_expr` accepts over these hubs, before anything was asked of it. Each leaf that
+    /// reads a hub gets a member of it; the members have joined once they are counted in.
     ///
     /// # Errors
     /// [`NoMemory`] where a growth was refused.
@@ -58,12 +61,14 @@ impl<T: Drop> Part<T> {
         alloc: Global,
         ops: &O,
         expr: &Expr<T>,
+        hubs: &[Hub<T>],
     ) -> Result<Part<T>, NoMemory>
-        requires { first_fault 0 expr.now ≡ None }
-        ensures stands { IfOk result (λ p. (published : List (Stream T)) → PartStands (O.meaning ops.now) published p expr.now [] []) }
+        requires { first_fault (length hubs.now) expr.now ≡ None }
+        ensures stands { IfOk result (λ p. (published : List (Stream T)) → AreTaken hubs.now published →
+            PartStands (O.meaning ops.now) published p expr.now (new_joins hubs.now expr.now) []) }
         ensures edges { IfOk result (λ p. all_edges p ≡ fresh_edge ∷ fresh_edges expr.now) }
     {
-        let tree = build(alloc, ops, expr)?;
+        let tree = build(alloc, ops, expr, hubs)?;
         Ok(Part {
             tree,
             root: Edge::new(),

@@ -1,14 +1,16 @@
 -- A subscription that has just begun stands for its past.
-use Rattle.std.proofs.Common.{◌≡◌, List, [], ◌∷◌, length, true, None, sym, ap, ◌∙◌}
+use Rattle.std.proofs.Common.{◌≡◌, ℕ, List, [], ◌∷◌, length, true, None, sym, ap, ◌∙◌, subst}
 use Rattle.rsx_demand.specs.declared.Demand.{Demand}
 use Rattle.rsx_model.specs.Check.{refusal}
 use Rattle.rsx_model.specs.declared.expr.Expr.{Expr}
-use Rattle.rsx_node.specs.Built.{fresh_edge, fresh_edges}
+use Rattle.rsx_hub.specs.Hub.{HubState}
+use Rattle.rsx_node.specs.Built.{fresh_edge, fresh_edges, new_joins}
+use Rattle.rsx_pipe.specs.Published.{AreTaken}
 use Rattle.rsx_tree.specs.Edges.{edge_view}
 use Rattle.rsx_pipe.specs.Part.{PartStands, all_edges}
 use Rattle.rsx_tree.specs.declared.edge.EdgeState.TheVariants.{Live, Closed}
 use Rattle.rsx_subscriber.proofs.Moves.{live_test}
-use Rattle.rsx_subscriber.proofs.Values.{refusal_none, fresh_count, leaves_none}
+use Rattle.rsx_subscriber.proofs.Values.{fresh_count, new_joins_count, taken_length}
 use Rattle.rsx_subscriber.specs.Begun.{IsFresh}
 use Rattle.rsx_subscriber.specs.Past.{subscribed, IsLive}
 use Rattle.rsx_subscriber.specs.Standing.{standing}
@@ -29,8 +31,8 @@ pub record IsBegun {T : Type 0} (sub : Subscription T) : Type 0 where
 pub begun : {T : Type 0} (sub : Subscription T) (d : Demand) → d.asked ≡ 0 → d.sent ≡ 0 → sub.state ≡ OpenState → sub.live ≡ true → sub.demand.asked ≡ d.asked → sub.demand.sent ≡ d.sent → IsBegun sub
 begun sub d a s o l r t = record { state = o; live = l; asked = r ∙ a; delivered = t ∙ s }
 
-pub stands_fresh : {T : Type 0} (m : Meaning T) (published : List (Stream T)) (e : Expr T) (sub : Subscription T) → refusal 0 e ≡ None → PartStands m published sub.part e [] [] → all_edges sub.part ≡ fresh_edge ∷ fresh_edges e → sub.queue ≡ [] → IsBegun sub → Stands m published sub (subscribed e [])
-stands_fresh {T} m published e sub ok b k q f =
+pub stands_fresh : {T : Type 0} (m : Meaning T) (hubs : List (HubState T)) (published : List (Stream T)) (e : Expr T) (sub : Subscription T) → refusal (length hubs) e ≡ None → AreTaken hubs published → PartStands m published sub.part e (new_joins hubs e) [] → all_edges sub.part ≡ fresh_edge ∷ fresh_edges e → sub.queue ≡ [] → IsBegun sub → Stands m published sub (subscribed e (new_joins hubs e))
+stands_fresh {T} m hubs published e sub ok taken b k q f =
     let o : standing_of sub ≡ Open = ap (λ t. standing t sub.live) f.state in
     let live : IsLive (standing_of sub) = rw o tt in
     let root : edge_view sub.part.root ≡ fresh_edge = cc in
@@ -48,9 +50,9 @@ stands_fresh {T} m published e sub ok b k q f =
       asked = ap (λ v. v.asked) root;
       requested = f.asked;
       delivered = f.delivered;
-      admitted = refusal_none (length published) e ok;
+      admitted = let P : ℕ → Type 0 = λ n. refusal n e ≡ None in subst P (taken_length hubs published taken) ok;
       shape = ap length k ∙ fresh_count e;
-      joined = sym (leaves_none e ok);
+      joined = new_joins_count hubs e;
       closed = λ dead. absurd (dead live);
     }
   where

@@ -1,5 +1,5 @@
 -- A subscription that stands for its past keeps the headline.
-use Rattle.std.proofs.Common.{◌≡◌, refl, List, [], ◌∷◌, ◌++◌, length, sym, ap, ◌∙◌, subst, arith, append_assoc, map, Option, Some, option_map}
+use Rattle.std.proofs.Common.{◌≡◌, refl, ℕ, suc, List, [], ◌∷◌, ◌++◌, length, sym, ap, ◌∙◌, subst, arith, append_assoc, map, Option, Some, None, option_map}
 use Rattle.rsx_types.specs.Meaning.{Meaning}
 use Rattle.rsx_types.specs.Notes.{notes_then, unchosen}
 use Rattle.rsx_types.specs.Stream.{Stream, signals, signals_then, item_then, ended_by}
@@ -14,7 +14,8 @@ use Rattle.rsx_pipe.specs.Part.{IsPartResidual}
 use Rattle.rsx_types.specs.declared.note.Note.{Note}
 use Rattle.rsx_types.specs.declared.signal.Ending.{Ending}
 use Rattle.rsx_pipe.specs.Tree.{comes_out, notes_of}
-use Rattle.rsx_pipe.proofs.Parts.{values_then-none}
+use Rattle.rsx_model.specs.Check.{refusal}
+use Rattle.rsx_pipe.proofs.Parts.{values_then-again}
 use Rattle.rsx_pipe.proofs.Signals.{map_then-append, prefix_of_orderly}
 use Rattle.rsx_pipe.proofs.Trees.{notes_then-unchosen, unchosen_notes, unchosen_tree}
 use Rattle.rsx_subscriber.proofs.Values.{notes_count, signals_ended, value_there}
@@ -35,32 +36,40 @@ live_value {T} m published sub past h live more further len =
 prefix_on : {A : Type 0} (xs ys zs : List A) → IsPrefixOf xs ys → IsPrefixOf ys zs → IsPrefixOf xs zs
 prefix_on xs ys zs a b = (a.0 ++ b.0, sym (append_assoc xs a.0 b.0) ∙ (ap (λ l. l ++ b.0) a.1 ∙ b.1))
 
--- the same where nothing more is published and nothing more is chosen
-owed_now : {T : Type 0} (m : Meaning T) (published : List (Stream T)) (sub : Subscription T) (past : Past T) → Stands m published sub past → IsLive (standing_of sub) →
-    option_map (signals_then past.received) (owed_from m published (map unchosen (notes_of sub.part.tree)) sub) ≡ evaluated m published past (notes_of sub.part.tree)
-owed_now {T} m published sub past h live =
+-- the same where this is published besides and nothing more is chosen
+owed_now : {T : Type 0} (m : Meaning T) (published more : List (Stream T)) (sub : Subscription T) (past : Past T) → Stands m published sub past → IsLive (standing_of sub) →
+    option_map (signals_then past.received) (owed_from m (values_then published more) (map unchosen (notes_of sub.part.tree)) sub) ≡ evaluated m (values_then published more) past (notes_of sub.part.tree)
+owed_now {T} m published more sub past h live =
     let ns : List Note = notes_of sub.part.tree in
-    ap (λ p. option_map (signals_then past.received) (owed_from m p (map unchosen ns) sub)) (sym (values_then-none published))
-    ∙ (live_value m published sub past h live [] (map unchosen ns) (unchosen_notes ns)
-    ∙ (ap (λ p. evaluated m p past (notes_then ns (map unchosen ns))) (values_then-none published) ∙ ap (λ k. evaluated m published past k) (notes_then-unchosen ns)))
+    live_value m published sub past h live more (map unchosen ns) (unchosen_notes ns) ∙ ap (λ k. evaluated m (values_then published more) past k) (notes_then-unchosen ns)
 
-pub holds : {T : Type 0} (m : Meaning T) (published : List (Stream T)) (sub : Subscription T) (past : Past T) → Stands m published sub past → Holds m published sub past
-holds {T} m published sub past h =
+pub values_then-length : {T : Type 0} (vs is : List (Stream T)) → length is ≡ length vs → length (values_then vs is) ≡ length vs
+values_then-length [] is e = e
+values_then-length (v ∷ vs) [] e = absurd (omega (arith, e))
+values_then-length (v ∷ vs) (i ∷ is) e = ap suc (values_then-length vs is (omega (arith, e)))
+
+-- where the hubs took in `taken` of what was published, and `waiting` of it stands in their inboxes
+pub holds : {T : Type 0} (m : Meaning T) (taken waiting : List (Stream T)) (sub : Subscription T) (past : Past T) → Stands m taken sub past → length waiting ≡ length taken → Holds m (values_then taken waiting) sub past
+holds {T} m taken waiting sub past h same =
     let L : SubscriptionState → Type 0 = λ s. IsLive s in
-    let there = value_there m published sub.part past.expression past.joins h.output h.part in
+    let R : ℕ → Type 0 = λ n. refusal n past.expression ≡ None in
+    let there = value_there m taken waiting sub.part past.expression past.joins h.output h.part in
     record {
-      live = λ l. live_value m published sub past h (subst L (sym h.state) l);
+      live = λ l more further len.
+          let V : List (Stream T) → Type 0 = λ w. option_map (signals_then past.received) (owed_from m w further sub) ≡ evaluated m w past (notes_then (notes_of sub.part.tree) further) in
+          subst V (sym (values_then-again taken waiting more)) (live_value m taken sub past h (subst L (sym h.state) l) (values_then waiting more) further len);
       value = signals_then h.output there.left;
-      scratch = (h.admitted, (notes_count sub.part.tree ∙ h.shape, h.joined), there.value);
-      owed = λ l. owed_now m published sub past h (subst L (sym h.state) l) ∙ there.value;
+      scratch = (subst R (sym (values_then-length taken waiting same)) h.admitted, (notes_count sub.part.tree ∙ h.shape, h.joined), there.value);
+      owed = λ l. owed_now m taken waiting sub past h (subst L (sym h.state) l) ∙ there.value;
       whole = λ e.
           let ended : standing_of sub ≡ Ended = h.state ∙ e in
           signals_ended past.received sub.queue there.left h.orderly (h.got ended) ∙ ap (λ o. signals (signals_then o there.left)) (h.held (rw ended tt));
       asked = omega (arith, h.delivered, h.requested, sub.demand.covered);
       ended = h.orderly;
       prefix = λ dead more further len v e.
+          let W : List (Stream T) → Type 0 = λ w. evaluated m w past (notes_then (notes_of sub.part.tree) further) ≡ Some v in
           prefix_on (items_in past.received) (items_in h.output) v.items (h.begun (λ l. dead (subst L h.state l)))
-          (prefix_of_orderly h.output (comes_out m (values_then published more) further sub.part.tree 0) v h.part.orderly (h.part.value more further len ∙ e));
+          (prefix_of_orderly h.output (comes_out m (values_then taken (values_then waiting more)) further sub.part.tree 0) v h.part.orderly (h.part.value (values_then waiting more) further len ∙ subst W (values_then-again taken waiting more) e));
     }
 
 -- ---- what is owed
@@ -79,28 +88,26 @@ unended_both (Complete ∷ xs) ys h k = absurd h
 unended_both (Error c ∷ xs) ys h k = absurd h
 
 pub still_owed : {T : Type 0} (m : Meaning T) (inboxes : List (Stream T)) (sub : Subscription T) (rest v : Stream T) → IsPartResidual m inboxes sub.part rest → v ≡ signals_then sub.queue rest → IsStillOwed m inboxes sub v
-still_owed {T} m inboxes sub rest v is e published past h o behind = by_edge sub.part.root.state refl
+still_owed {T} m inboxes sub rest v is e published whole past h o behind = by_edge sub.part.root.state refl
   where
     live : IsLive (standing_of sub)
     live = rw o tt
 
-    some : (u : Stream T) × (comes_out m published (map unchosen (notes_of sub.part.tree)) sub.part.tree 0 ≡ Some u)
-    some = tree_some any_machine m (any_settles m) published (map unchosen (notes_of sub.part.tree)) sub.part.tree 0 (unchosen_tree sub.part.tree)
+    some : (u : Stream T) × (comes_out m whole (map unchosen (notes_of sub.part.tree)) sub.part.tree 0 ≡ Some u)
+    some = tree_some any_machine m (any_settles m) whole (map unchosen (notes_of sub.part.tree)) sub.part.tree 0 (unchosen_tree sub.part.tree)
 
-    by_edge : (s : EdgeState) → sub.part.root.state ≡ s → owed_from m published (map unchosen (notes_of sub.part.tree)) sub ≡ Some v
-    by_edge EdgeLive s = ap (option_map (signals_then sub.queue)) (is published (h.part.balance s) behind) ∙ ap Some (sym e)
+    by_edge : (s : EdgeState) → sub.part.root.state ≡ s → owed_from m whole (map unchosen (notes_of sub.part.tree)) sub ≡ Some v
+    by_edge EdgeLive s = ap (option_map (signals_then sub.queue)) (is whole (h.part.balance s) (behind s)) ∙ ap Some (sym e)
     by_edge EdgeClosed s = absurd (h.unclosed live s)
     by_edge EdgeEnded s =
         ap (option_map (signals_then sub.queue)) some.1
         ∙ ap Some (cut_there sub.queue some.0 rest (λ k. h.part.ended s (subst IsUnended (h.held live) (unended_both past.received sub.queue (h.waits o) k))) ∙ sym e)
 
-pub owes : {T : Type 0} (m : Meaning T) (published : List (Stream T)) (sub : Subscription T) (past : Past T) (v : Stream T) → standing_of sub ≡ Open → owed_from m published (map unchosen (notes_of sub.part.tree)) sub ≡ Some v → Stands m published sub past → evaluated m published past (notes_of sub.part.tree) ≡ Some (signals_then past.received v)
-owes {T} m published sub past v o e h =
+pub owes : {T : Type 0} (m : Meaning T) (taken waiting : List (Stream T)) (sub : Subscription T) (past : Past T) (v : Stream T) → standing_of sub ≡ Open → owed_from m (values_then taken waiting) (map unchosen (notes_of sub.part.tree)) sub ≡ Some v → Stands m taken sub past →
+    evaluated m (values_then taken waiting) past (notes_of sub.part.tree) ≡ Some (signals_then past.received v)
+owes {T} m taken waiting sub past v o e h =
     let live : IsLive (standing_of sub) = rw o tt in
-    let whole = live_value m published sub past h live [] (map unchosen (notes_of sub.part.tree)) (unchosen_notes (notes_of sub.part.tree)) in
-    let there : option_map (signals_then past.received) (owed_from m (values_then published []) (map unchosen (notes_of sub.part.tree)) sub) ≡ Some (signals_then past.received v) = ap (λ p. option_map (signals_then past.received) (owed_from m p (map unchosen (notes_of sub.part.tree)) sub)) (values_then-none published) ∙ ap (option_map (signals_then past.received)) e in
-    ap (λ p. evaluated m p past (notes_of sub.part.tree)) (sym (values_then-none published))
-    ∙ (ap (λ ns. evaluated m (values_then published []) past ns) (sym (notes_then-unchosen (notes_of sub.part.tree))) ∙ (sym whole ∙ there))
+    sym (owed_now m taken waiting sub past h live) ∙ ap (option_map (signals_then past.received)) e
 
 pub ended_value : {T : Type 0} (v : Stream T) (e : Ending) → v.items ≡ [] → v.ending ≡ e → v ≡ ended_by e
 ended_value v e a b = ap (λ xs. record { items = xs; ending = v.ending }) a ∙ ap (λ x. record { items = []; ending = x }) b

@@ -21,7 +21,7 @@ use Rattle.rsx_subscriber.specs.declared.subscription.Subscription.{Subscription
 use Rattle.rsx_subscriber.specs.Holds.{IsServed}
 use Rattle.rsx_subscriber.specs.Past.{Past, IsLive, IsUnended}
 use Rattle.rsx_subscriber.specs.Pumped.{IsQuiet}
-use Rattle.rsx_subscriber.specs.Stands.{Stands, evaluated, move_enabled_in, take_enabled, standing_of}
+use Rattle.rsx_subscriber.specs.Stands.{Stands, evaluated, move_enabled_in, take_enabled, standing_of, values_then}
 use Rattle.rsx_subscriber.specs.Moves.{number_of}
 use Rattle.rsx_subscriber.proofs.Moves.{take_queued}
 use Rattle.rsx_subscriber.proofs.Steps.{no_pick, no_row}
@@ -47,14 +47,14 @@ quiet_part m sub q (Pick n input) l = no_pick sub.part n input
 quiet_part m sub q (Row n) l = no_row sub.part n
 
 -- a live subscriber got all that its part put out, and that is what was asked for
-served_live : {T : Type 0} (m : Meaning T) (published : List (Stream T)) (sub : Subscription T) (past : Past T) → IsQuiet m sub → Stands m published sub past → IsLive (standing_of sub) → IsWithin sub.part.tree → (v : Stream T) → evaluated m published past (notes_of sub.part.tree) ≡ Some v → IsServed m published sub past v
-served_live {T} m published sub past q h live w v e =
+served_live : {T : Type 0} (m : Meaning T) (published : List (Stream T)) (sub : Subscription T) (past : Past T) → IsQuiet m sub → Stands m published sub past → IsLive (standing_of sub) → past.joins ≡ [] → IsWithin sub.part.tree → (more : List (Stream T)) (v : Stream T) → evaluated m (values_then published more) past (notes_of sub.part.tree) ≡ Some v → IsServed sub past v
+served_live {T} m published sub past q h live alone w more v e =
     let none = nothing_queued m published sub past q h in
     let all : past.received ≡ h.output = sym (append-nil past.received) ∙ (ap (λ l. past.received ++ l) (sym none) ∙ h.held live) in
     let room : length sub.queue < CAPACITY = rw none (omega arith) in
     let small = (sound (length published) past.expression h.admitted).small in
     let few : length (all_edges sub.part) ≤ MOST_NODES = let k = h.shape in omega (arith, k, small) in
-    let d = delivered m sub.part sub.queue (quiet_part m sub q) published past.expression past.joins h.output h.part (h.unclosed live) room few w v e in
+    let d = delivered m sub.part sub.queue (quiet_part m sub q) published past.expression past.joins h.output h.part alone (h.unclosed live) room few w more v e in
     record {
       items = rw (all, ← h.asked) d.items;
       ending = λ less some. sym h.state ∙ by_state (standing_of sub) refl (λ u. h.part.ended (d.ending (rw h.asked less) some) (rw all at u));
@@ -66,10 +66,10 @@ served_live {T} m published sub past q h live w v e =
     by_state Cancelled o n = absurd (rw o at live)
     by_state Refused o n = absurd (rw o at live)
 
-pub served : {T : Type 0} (m : Meaning T) (published : List (Stream T)) (sub : Subscription T) (past : Past T) → IsQuiet m sub → Stands m published sub past → IsLive past.state → IsWithin sub.part.tree → (v : Stream T) → evaluated m published past (notes_of sub.part.tree) ≡ Some v → IsServed m published sub past v
-served {T} m published sub past q h live w v e =
+pub served : {T : Type 0} (m : Meaning T) (published : List (Stream T)) (sub : Subscription T) (past : Past T) → IsQuiet m sub → Stands m published sub past → IsLive past.state → past.joins ≡ [] → IsWithin sub.part.tree → (more : List (Stream T)) (v : Stream T) → evaluated m (values_then published more) past (notes_of sub.part.tree) ≡ Some v → IsServed sub past v
+served {T} m published sub past q h live alone w more v e =
     let L : SubscriptionState → Type 0 = λ s. IsLive s in
-    served_live m published sub past q h (subst L (sym h.state) live) w v e
+    served_live m published sub past q h (subst L (sym h.state) live) alone w more v e
 
 -- no move that is named is enabled
 pub quiet_move : {T : Type 0} (m : Meaning T) (sub : Subscription T) (mv : Move) → number_of mv < 2 ^ 32 → IsQuiet m sub → move_enabled_in m sub mv ≡ false

@@ -1,20 +1,22 @@
 -- The value of an expression under what its part recorded: it is there, and notes and joins fit it.
-use Rattle.std.proofs.Common.{◌≡◌, ℕ, ℤ, zero, suc, ◌+◌, ◌-◌, Bool, true, false, nat_eq, nat_le, if◌then◌else◌, ◌&&◌, Vec, Global, Box, List, [], ◌∷◌, ◌++◌, length, length-append, map, Some, None, option_map, refl, ap, sym, ◌∙◌, arith}
+use Rattle.std.proofs.Common.{◌≡◌, ℕ, ℤ, zero, suc, ◌+◌, ◌-◌, ◌<◌, ◌≤◌, Bool, true, false, nat_eq, nat_le, nat_lt, if◌then◌else◌, ◌&&◌, Vec, Global, Box, List, [], ◌∷◌, ◌++◌, length, length-append, map, Some, None, option_map, refl, ap, sym, ◌∙◌, arith}
+use Rattle.std.proofs.lemmas.Bool.Decides.{nat_tests}
 use Rattle.std.proofs.lemmas.List.{length-map}
 use Rattle.rsx_model.specs.declared.check.TheConstants.{MOST_DEPTH, MOST_NODES}
-use Rattle.rsx_model.proofs.Unfold.{by_variant, leaves_Items, leaves_Range, leaves_Plain, nodes_Items, nodes_Range, nodes_Hub, nodes_Plain, first_fault_Items, first_fault_Range, first_fault_Plain, fault_below, no_hub_there, sound}
+use Rattle.rsx_model.proofs.Unfold.{by_variant, leaves_Items, leaves_Range, leaves_Hub, leaves_Plain, nodes_Items, nodes_Range, nodes_Hub, nodes_Plain, first_fault_Items, first_fault_Range, first_fault_Hub, first_fault_Plain, fault_below, hub_there, sound}
 use Rattle.rsx_model.specs.Check.{refusal, first_fault, or_else, unless, stage_fits}
 use Rattle.rsx_model.specs.Shape.{nodes, depth, leaves}
-use Rattle.rsx_model.specs.declared.check.BadExpr.TheVariants.{Depth, Nodes, Number}
+use Rattle.rsx_model.specs.declared.check.BadExpr.TheVariants.{Depth, Nodes, Number, Hub as NoSuchHub}
 use Rattle.rsx_model.specs.declared.expr.Expr.{Expr}
 use Rattle.rsx_model.specs.declared.expr.Expr.TheFolds.{fold_out-Expr}
 use Rattle.rsx_model.specs.declared.expr.Expr.TheVariants.{Items as ItemsOf, Range as RangeOf, Hub as HubOf}
 use Rattle.rsx_model.specs.declared.expr.Expr.TheViews.{Plain as PlainOf, outs-Items, outs-Range, outs-Hub, outs-Plain}
-use Rattle.rsx_pipe.proofs.Parts.{values_then-none}
 use Rattle.rsx_pipe.proofs.Trees.{notes_then-unchosen, unchosen_notes, unchosen_tree}
-use Rattle.rsx_node.specs.Built.{fresh_edge, fresh_edges, starts_ended}
+use Rattle.rsx_hub.specs.Hub.{HubState}
+use Rattle.rsx_node.specs.Built.{fresh_edge, fresh_edges, join_at, joins_now, new_joins, starts_ended}
 use Rattle.rsx_tree.specs.Edges.{edge_view, EdgeView, asked_up_to, changed_at, closed_if, closed_view, passed}
 use Rattle.rsx_pipe.specs.Output.{values_then}
+use Rattle.rsx_pipe.specs.Published.{AreTaken}
 use Rattle.rsx_pipe.specs.Part as Part
 use Rattle.rsx_pipe.specs.Part.{all_edges, PartStands}
 use Rattle.rsx_pipe.specs.Tree.{AnyTree, comes_out, edges, edges_after, notes_of}
@@ -65,16 +67,14 @@ pub record HasValue {T : Type 0} (m : Meaning T) (published : List (Stream T)) (
   pub comes : comes_out m published (map unchosen (notes_of part.tree)) part.tree 0 ≡ Some left
   pub value : Part.evaluated m published joins e (notes_of part.tree) ≡ Some (signals_then output left)
 
-pub value_there : {T : Type 0} (m : Meaning T) (published : List (Stream T)) (part : AnyPart T) (e : Expr T) (joins : List ℕ) (output : List (Signal T)) → PartStands m published part e joins output → HasValue m published part e joins output
-value_there {T} m published part e joins output h =
+pub value_there : {T : Type 0} (m : Meaning T) (published more : List (Stream T)) (part : AnyPart T) (e : Expr T) (joins : List ℕ) (output : List (Signal T)) → PartStands m published part e joins output → HasValue m (values_then published more) part e joins output
+value_there {T} m published more part e joins output h =
     let ns : List Note = notes_of part.tree in
-    let there = comes_out_there m published (map unchosen ns) part.tree 0 (unchosen_tree part.tree) in
-    let same : Part.evaluated m (values_then published []) joins e (notes_then ns (map unchosen ns)) ≡ Part.evaluated m published joins e ns =
-    ap (λ p. Part.evaluated m p joins e (notes_then ns (map unchosen ns))) (values_then-none published) ∙ ap (λ k. Part.evaluated m published joins e k) (notes_then-unchosen ns) in
+    let there = comes_out_there m (values_then published more) (map unchosen ns) part.tree 0 (unchosen_tree part.tree) in
     record {
       left = there.0;
       comes = there.1;
-      value = sym same ∙ (sym (h.value [] (map unchosen ns) (unchosen_notes ns)) ∙ (ap (λ p. option_map (signals_then output) (comes_out m p (map unchosen ns) part.tree 0)) (values_then-none published) ∙ ap (option_map (signals_then output)) there.1));
+      value = ap (λ k. Part.evaluated m (values_then published more) joins e k) (sym (notes_then-unchosen ns)) ∙ (sym (h.value more (map unchosen ns) (unchosen_notes ns)) ∙ ap (option_map (signals_then output)) there.1);
     }
 
 -- signals with their ending are all of the value that they begin
@@ -84,23 +84,50 @@ signals_ended (Next x ∷ a) b v o n = ap (λ l. Next x ∷ l) (signals_ended a 
 signals_ended (Complete ∷ a) b v o n = ap (λ l. Complete ∷ l) o
 signals_ended (Error c ∷ a) b v o n = ap (λ l. Error c ∷ l) o
 
--- ---- an expression that isn't refused over no hubs names none, and isn't refused over others
+-- ---- an expression that isn't refused over some hubs isn't refused over more, and each of its leaves has a join
 
-same_fault : {T : Type 0} (hubs : ℕ) (e : Expr T) → first_fault 0 e ≡ None → first_fault hubs e ≡ None
-same_fault {T} hubs =
-    by_variant (λ e. first_fault 0 e ≡ None → first_fault hubs e ≡ None) (λ v h. first_fault_Items hubs v ∙ (sym (first_fault_Items 0 v) ∙ h)) (λ a n h. first_fault_Range T hubs a n ∙ (sym (first_fault_Range T 0 a n) ∙ h)) (λ k h. absurd (no_hub_there T k h)) (λ g b k h.
-    first_fault_Plain hubs g b ∙ (ap (or_else (unless (stage_fits g) Number)) (k (fault_below 0 g b h) ∙ sym (fault_below 0 g b h)) ∙ (sym (first_fault_Plain 0 g b) ∙ h)))
+below_more : (h n k : ℕ) → h < n → n ≤ k → unless (nat_lt h k) NoSuchHub ≡ None
+below_more h n k l m = by_test (nat_lt h k) (less h k (omega (arith, l, m)))
+  where
+    less : (a b : ℕ) → a < b → nat_lt a b ≡ true
+    less a b e = grind (arith, nat_tests)
 
-pub refusal_none : {T : Type 0} (hubs : ℕ) (e : Expr T) → refusal 0 e ≡ None → refusal hubs e ≡ None
-refusal_none hubs e h =
-    let fault = (sound 0 e h).fault in
-    ap (λ f. or_else (unless (nat_le (depth e) MOST_DEPTH) Depth) (or_else (unless (nat_le (nodes e) MOST_NODES) Nodes) f)) (same_fault hubs e fault ∙ sym fault) ∙ h
+    by_test : (b : Bool) → b ≡ true → unless b NoSuchHub ≡ None
+    by_test true e = refl
+    by_test false e = cc
 
-leaves_below : {T : Type 0} (e : Expr T) → first_fault 0 e ≡ None → leaves e ≡ 0
-leaves_below {T} = by_variant (λ e. first_fault 0 e ≡ None → leaves e ≡ 0) (λ v h. leaves_Items v) (λ a n h. leaves_Range T a n) (λ k h. absurd (no_hub_there T k h)) (λ g b k h. leaves_Plain g b ∙ k (fault_below 0 g b h))
+same_fault : {T : Type 0} (n k : ℕ) → n ≤ k → (e : Expr T) → first_fault n e ≡ None → first_fault k e ≡ None
+same_fault {T} n k more =
+    by_variant (λ e. first_fault n e ≡ None → first_fault k e ≡ None) (λ v h. first_fault_Items k v ∙ (sym (first_fault_Items n v) ∙ h)) (λ a i h. first_fault_Range T k a i ∙ (sym (first_fault_Range T n a i) ∙ h)) (λ i h. first_fault_Hub T k i ∙ below_more i.0 n k (hub_there T n i h) more) (λ g b i h.
+    first_fault_Plain k g b ∙ (ap (or_else (unless (stage_fits g) Number)) (i (fault_below n g b h) ∙ sym (fault_below n g b h)) ∙ (sym (first_fault_Plain n g b) ∙ h)))
 
-pub leaves_none : {T : Type 0} (e : Expr T) → refusal 0 e ≡ None → leaves e ≡ 0
-leaves_none e h = leaves_below e (sound 0 e h).fault
+pub refusal_more : {T : Type 0} (n k : ℕ) (e : Expr T) → n ≤ k → refusal n e ≡ None → refusal k e ≡ None
+refusal_more n k e more h =
+    let fault = (sound n e h).fault in
+    ap (λ f. or_else (unless (nat_le (depth e) MOST_DEPTH) Depth) (or_else (unless (nat_le (nodes e) MOST_NODES) Nodes) f)) (same_fault n k more e fault ∙ sym fault) ∙ h
+
+new_joins_Items : {T : Type 0} (hubs : List (HubState T)) (v : Vec T Global) → new_joins hubs (ItemsOf v) ≡ []
+new_joins_Items {T} hubs v = rw (fold_out-Expr, outs-Items) refl
+
+new_joins_Range : {T : Type 0} (hubs : List (HubState T)) (a : ℤ) (n : ℕ) → new_joins hubs (RangeOf a n) ≡ []
+new_joins_Range {T} hubs a n = rw (fold_out-Expr, outs-Range) refl
+
+new_joins_Hub : {T : Type 0} (hubs : List (HubState T)) (h : HubId) → new_joins hubs (HubOf h) ≡ join_at (joins_now hubs) h.0 ∷ []
+new_joins_Hub {T} hubs h = rw (fold_out-Expr, outs-Hub) refl
+
+new_joins_Plain : {T : Type 0} (hubs : List (HubState T)) (g : Stage T) (b : Box (Expr T) Global) → new_joins hubs (PlainOf g b) ≡ new_joins hubs b.value
+new_joins_Plain {T} hubs g b = rw (fold_out-Expr, outs-Plain) refl
+
+pub new_joins_count : {T : Type 0} (hubs : List (HubState T)) (e : Expr T) → length (new_joins hubs e) ≡ leaves e
+new_joins_count {T} hubs =
+    by_variant (λ e. length (new_joins hubs e) ≡ leaves e) (λ v. ap length (new_joins_Items hubs v) ∙ sym (leaves_Items v)) (λ a n. ap length (new_joins_Range hubs a n) ∙ sym (leaves_Range T a n)) (λ h. ap length (new_joins_Hub hubs h) ∙ sym (leaves_Hub T h)) (λ g b k.
+    ap length (new_joins_Plain hubs g b) ∙ (k ∙ sym (leaves_Plain g b)))
+
+pub taken_length : {T : Type 0} (hubs : List (HubState T)) (published : List (Stream T)) → AreTaken hubs published → length hubs ≡ length published
+taken_length [] [] k = refl
+taken_length [] (v ∷ vs) k = absurd k
+taken_length (h ∷ hs) [] k = absurd k
+taken_length (h ∷ hs) (v ∷ vs) k = ap suc (taken_length hs vs k.1)
 
 -- ---- one edge for each node
 

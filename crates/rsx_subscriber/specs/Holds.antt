@@ -36,6 +36,6 @@ pub record Holds {T : Type 0} (m : Meaning T) (published : List (Stream T)) (sub
 
 -- a subscriber got the first items of its expression's value, as many as it asked for or as there are, and the ending too
 -- where it asked for more than there are and the value has one
-pub record IsServed {T : Type 0} (m : Meaning T) (published : List (Stream T)) (sub : Subscription T) (past : Past T) (v : Stream T) : Type 0 where
+pub record IsServed {T : Type 0} (sub : Subscription T) (past : Past T) (v : Stream T) : Type 0 where
   pub items : items_in past.received ≡ take (min past.asked (length v.items)) v.items
   pub ending : length v.items < past.asked → (v.ending ≡ NotEnded → ⊥) → past.state ≡ Ended

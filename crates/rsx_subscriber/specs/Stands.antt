@@ -44,7 +44,8 @@ owed_unchosen m hubs sub = owed_from m hubs (map unchosen (notes_of sub.part.tre
 abbrev pub standing_of : {T : Type 0} → Subscription T → SubscriptionState
 standing_of sub = standing sub.state sub.live
 
--- a subscription stands for its past, where its part has put out `output`
+-- a subscription stands for its past, where `published` is what the hubs took in and handed to their readers, and its part has
+-- put out `output`
 pub record Stands {T : Type 0} (m : Meaning T) (published : List (Stream T)) (sub : Subscription T) (past : Past T) : Type 0 where
   pub state : standing_of sub ≡ past.state
   pub live : sub.live ≡ live_in (standing_of sub)
@@ -77,12 +78,12 @@ abbrev pub StandsAfter : {T : Type 0} → Meaning T → (Past T → Past T) → 
 StandsAfter {T} m change old new =
     (published : List (Stream T)) (past : Past T) → Stands m published old past → Stands m published new (change past)
 
--- this is still owed to an open subscription, where just these inboxes stand behind what its nodes took in of the hubs, and
--- nothing more is chosen
+-- this is still owed to an open subscription, where `whole` are the hubs' whole values, of which just these inboxes stand behind
+-- what its nodes took in, and nothing more is chosen
 abbrev pub IsStillOwed : {T : Type 0} → Meaning T → List (Stream T) → Subscription T → Stream T → Type 0
 IsStillOwed {T} m inboxes sub v =
-    (published : List (Stream T)) (past : Past T) → Stands m published sub past → standing_of sub ≡ Open → IsTreeBehind any_machine inboxes published sub.part.tree →
-    owed_unchosen m published sub ≡ Some v
+    (published whole : List (Stream T)) (past : Past T) → Stands m published sub past → standing_of sub ≡ Open → (sub.part.root.state ≡ Live → IsTreeBehind any_machine inboxes whole sub.part.tree) →
+    owed_unchosen m whole sub ≡ Some v
 
 -- ---- enabled moves
 

@@ -10,6 +10,7 @@ ghost use Rattle.rsx_subscriber.specs.Moves.{node_move};
 use crate::deliveries::Deliveries;
 use crate::state::SubscriptionState;
 use rsx_demand::Demand;
+use rsx_hub::Hub;
 use rsx_model::Expr;
 use rsx_pipe::{EdgeState, NodeMove, Part, Pumped, SignalQueue};
 use rsx_sources::NotMade;
@@ -24,7 +25,7 @@ use std::alloc::Global;
 pub struct Subscription<T> {
     /// The tree of its expression with its edges. Of the root edge asked is what the subscriber requested, and sent what was
     /// put into the queue.
-    part: Part<T>,
+    pub(crate) part: Part<T>,
     /// The signals on the root edge, at most `rsx_types::CAPACITY`.
     queue: SignalQueue<T>,
     /// Where the subscription stands in the table. It is opened before anything else happens (rule 1.9).
@@ -38,12 +39,14 @@ pub struct Subscription<T> {
 }
 
 impl<T: Drop> Subscription<T> {
-    ghost use Rattle.std.specs.Prelude.{◌≡◌, ◌<◌, ◌+◌, [], List, OnOk, OnErr, IfOk, IfErr, IsOk, IfSome, OnSome, IfNone, Some, None, true, false, map, option_map};
+    ghost use Rattle.std.specs.Prelude.{◌≡◌, ◌<◌, ◌+◌, [], List, OnOk, OnErr, IfOk, IfErr, IsOk, IfSome, OnSome, IfNone, Some, None, true, false, length, map, option_map};
     ghost use Rattle.rsx_types.specs.Meaning.{Meaning};
     ghost use Rattle.rsx_types.specs.Stream.{Stream};
     ghost use Rattle.rsx_sources.specs.Steps.{IsNotMade};
     ghost use Rattle.rsx_model.specs.Check.{refusal};
+    ghost use Rattle.rsx_node.specs.Built.{new_joins};
     ghost use Rattle.rsx_tree.specs.Edges.{closed_view};
+    ghost use Rattle.rsx_pipe.specs.Published.{AreTaken};
     ghost use Rattle.rsx_tree.specs.Refusals.{OnlyNotEnabled};
     ghost use Rattle.rsx_pipe.specs.Part.{all_edges, IsPutOut, pump_allocates};
     ghost use Rattle.rsx_pipe.specs.Tree.{notes_of, IsAllClosed};
@@ -55,7 +58,8 @@ impl<T: Drop> Subscription<T> {
     ghost use Rattle.rsx_subscriber.specs.Edited.{IsRequested, IsCancelled};
     ghost use Rattle.rsx_subscriber.specs.Pumped.{IsPumped, SomePumped, HasPumped, HasPumpedPart, NothingTaken, IsRest, IsQuiet, IsAwake, Spent, moves_of};
 
-    /// A subscription that has just begun: nothing was asked, and nothing was sent.
+    /// A subscription that has just begun: nothing was asked, and nothing was sent. Each leaf that reads a hub gets a member of
+    /// it; the members have joined once they are counted in.
     ///
     /// # Errors
     /// [`NoMemory`] where a growth was refused.
@@ -63,13 +67,15 @@ impl<T: Drop> Subscription<T> {
         alloc: Global,
         ops: &O,
         expr: &Expr<T>,
+        hubs: &[Hub<T>],
     ) -> Result<Subscription<T>, NoMemory>
-        requires { refusal 0 expr.now ≡ None }
-        ensures stands { IfOk result (λ s. (hubs : List (Stream T)) → Stands (O.meaning ops.now) hubs s (subscribed expr.now [])) }
+        requires { refusal (length hubs.now) expr.now ≡ None }
+        ensures stands { IfOk result (λ s. (published : List (Stream T)) → AreTaken hubs.now published →
+            Stands (O.meaning ops.now) published s (subscribed expr.now (new_joins hubs.now expr.now))) }
         ensures fresh { IfOk result (λ s. IsFresh expr.now s) }
     {
         let queue = SignalQueue::new(alloc)?;
-        let part = Part::new(alloc, ops, expr)?;
+        let part = Part::new(alloc, ops, expr, hubs)?;
         let mut state = State::Fresh;
         let mut demand = Demand::new();
         // `onSubscribe` comes before everything else (rule 1.9).

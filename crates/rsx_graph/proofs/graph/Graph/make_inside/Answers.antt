@@ -1,6 +1,7 @@
 use Rattle.std.proofs.Common.{refl}
 use Rattle.std.proofs.Common.{◌<◌, ◌∙◌, length, sym, arith}
 use Rattle.rsx_graph.proofs.Graphs.{AllStand-moved, allocates_there, enabled_there, set_same, found}
+use Rattle.rsx_graph.specs.Stands.{all_taken}
 use Rattle.rsx_subscriber.proofs.Moves.{inside_enabled, inside_effect}
 use Rattle.rsx_graph.proofs.graph.Graph.make_inside.Goals as goal
 
@@ -10,7 +11,7 @@ returns-in-Ok-clause-stands g c = λ h s.
     let l = c.len.ensures in
     let subs = c.args.self.now.subscriptions.items in
     let within : c.args.sub.0 < length c.args.self.now.subscriptions.items = omega (arith, l, c.if-at-len.false) in
-    AllStand-moved m h.published c.args.self.now.subscriptions.items h.pasts c.args.sub.0 c.index_mut-subscription.result.now c.make.new.self within (sym c.index_mut-subscription.ensures.value) (λ p k. c.in-Ok.ensures.stands h.published p k) s
+    record { hub = s.hub; all = AllStand-moved m (all_taken c.args.self.now.hubs.items h.hubs) c.args.self.now.subscriptions.items h.pasts c.args.sub.0 c.index_mut-subscription.result.now c.make.new.self within (sym c.index_mut-subscription.ensures.value) (λ p k. c.in-Ok.ensures.stands (all_taken c.args.self.now.hubs.items h.hubs) p k) s.all; joined = s.joined }
 
 pub returns-in-Ok-clause-enabled : goal.returns-in-Ok-clause-enabled
 returns-in-Ok-clause-enabled g c =

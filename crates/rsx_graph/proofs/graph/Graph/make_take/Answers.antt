@@ -1,7 +1,8 @@
 use Rattle.std.proofs.Common.{refl}
 use Rattle.std.proofs.Common.{◌<◌, ◌∙◌, length, sym, arith}
 use Rattle.rsx_subscriber.specs.Past.{given}
-use Rattle.rsx_graph.proofs.Graphs.{AllStand-set, enabled_there, set_same, found}
+use Rattle.rsx_graph.proofs.Graphs.{AllStand-set, enabled_there, joins_kept, set_same, found}
+use Rattle.rsx_graph.specs.Stands.{all_taken}
 use Rattle.rsx_graph.proofs.graph.Graph.make_take.Goals as goal
 
 pub returns-in-Some-clause-stands : goal.returns-in-Some-clause-stands
@@ -9,7 +10,7 @@ returns-in-Some-clause-stands g c = λ h s.
     let m = g.O.Ops.meaning c.args.self.now.ops in
     let l = c.len.ensures in
     let within : c.args.sub.0 < length c.args.self.now.subscriptions.items = omega (arith, l, c.if-at-len.false) in
-    AllStand-set m h.published (given c.in-Some.signal) c.args.self.now.subscriptions.items h.pasts c.args.sub.0 c.index_mut-subscription.result.now c.take.new.self within (sym c.index_mut-subscription.ensures.value) (λ p k. c.in-Some.ensures.some m h.published p k) s
+    record { hub = s.hub; all = AllStand-set m (all_taken c.args.self.now.hubs.items h.hubs) (given c.in-Some.signal) c.args.self.now.subscriptions.items h.pasts c.args.sub.0 c.index_mut-subscription.result.now c.take.new.self within (sym c.index_mut-subscription.ensures.value) (λ p k. c.in-Some.ensures.some m (all_taken c.args.self.now.hubs.items h.hubs) p k) s.all; joined = s.joined ∙ sym (joins_kept (given c.in-Some.signal) (λ p. refl) h.pasts c.args.sub.0) }
 
 pub returns-in-Some-clause-enabled : goal.returns-in-Some-clause-enabled
 returns-in-Some-clause-enabled g c =

@@ -1,8 +1,9 @@
 use Rattle.std.proofs.Common.{◌+◌, ◌≤◌, ◌∙◌, ap, arith, length, Ok, Err}
 use Rattle.rsx_pipe.specs.declared.part.Pumped.TheVariants.{Idle as Rests, Budget as Wakes}
 use Rattle.rsx_graph.specs.Stands.{pump_allocates}
-use Rattle.rsx_graph.proofs.Graphs.{pumped_on, pumped_same, rested_same, all_quiet}
+use Rattle.rsx_graph.proofs.Graphs.{pumped_on, pumped_same, pumped_stands, rested_same, all_quiet}
 use Rattle.rsx_graph.proofs.Serving.{all_served}
+use Rattle.rsx_graph.specs.InGraph.{state_of}
 use Rattle.rsx_graph.proofs.graph.Graph.pump.Goals as goal
 
 pub returns-in-Ok-Budget-clause-pumped : goal.returns-in-Ok-Budget-clause-pumped
@@ -12,11 +13,14 @@ returns-in-Ok-Budget-clause-pumped g c =
     let p = rw c.in-Ok-Budget.field-0-is at c.in-Ok-Budget.ensures.pumped in
     let r = rested_same m (g.O.Ops.meaning c.loop-at.self.ops) c.loop-at.left p.0 c.loop-at.at c.loop-at.self.subscriptions.items c.pump_one.new.self.subscriptions.items (Ok Wakes) (ap g.O.Ops.meaning i.ops) p.1 in
     let before = i.pumped.1 in
-    let more = r.0 in (
+    let more = r.0 in
+    let aside = c.pump_one.ensures.aside in
+    let all = pumped_on m i.pumped.0 p.0 c.args.self.now.subscriptions.items c.loop-at.self.subscriptions.items c.pump_one.new.self.subscriptions.items c.args.out.now.signals c.loop-at.out.signals c.pump_one.new.out.signals i.pumped.2
+    (pumped_same m (g.O.Ops.meaning c.loop-at.self.ops) p.0 c.loop-at.self.subscriptions.items c.pump_one.new.self.subscriptions.items c.loop-at.out.signals c.pump_one.new.out.signals (ap g.O.Ops.meaning i.ops) p.2) in (
       i.pumped.0 + p.0,
       (omega (arith, before, more), r.1),
-      pumped_on m i.pumped.0 p.0 c.args.self.now.subscriptions.items c.loop-at.self.subscriptions.items c.pump_one.new.self.subscriptions.items c.args.out.now.signals c.loop-at.out.signals c.pump_one.new.out.signals i.pumped.2
-          (pumped_same m (g.O.Ops.meaning c.loop-at.self.ops) p.0 c.loop-at.self.subscriptions.items c.pump_one.new.self.subscriptions.items c.loop-at.out.signals c.pump_one.new.out.signals (ap g.O.Ops.meaning i.ops) p.2),
+      all,
+      λ h s. pumped_stands m (i.pumped.0 + p.0) (state_of c.args.self.now) (state_of c.pump_one.new.self) c.args.out.now.signals c.pump_one.new.out.signals all (aside.0 ∙ i.aside.0, aside.1 ∙ i.aside.1) h s,
     )
 
 pub returns-in-Err-clause-pumped : goal.returns-in-Err-clause-pumped
@@ -26,11 +30,14 @@ returns-in-Err-clause-pumped g c =
     let p = c.in-Err.ensures.pumped in
     let r = rested_same m (g.O.Ops.meaning c.loop-at.self.ops) c.loop-at.left p.0 c.loop-at.at c.loop-at.self.subscriptions.items c.pump_one.new.self.subscriptions.items (Err c.in-Err.why) (ap g.O.Ops.meaning i.ops) p.1 in
     let before = i.pumped.1 in
-    let more = r.0 in (
+    let more = r.0 in
+    let aside = c.pump_one.ensures.aside in
+    let all = pumped_on m i.pumped.0 p.0 c.args.self.now.subscriptions.items c.loop-at.self.subscriptions.items c.pump_one.new.self.subscriptions.items c.args.out.now.signals c.loop-at.out.signals c.pump_one.new.out.signals i.pumped.2
+    (pumped_same m (g.O.Ops.meaning c.loop-at.self.ops) p.0 c.loop-at.self.subscriptions.items c.pump_one.new.self.subscriptions.items c.loop-at.out.signals c.pump_one.new.out.signals (ap g.O.Ops.meaning i.ops) p.2) in (
       i.pumped.0 + p.0,
       (omega (arith, before, more), r.1),
-      pumped_on m i.pumped.0 p.0 c.args.self.now.subscriptions.items c.loop-at.self.subscriptions.items c.pump_one.new.self.subscriptions.items c.args.out.now.signals c.loop-at.out.signals c.pump_one.new.out.signals i.pumped.2
-          (pumped_same m (g.O.Ops.meaning c.loop-at.self.ops) p.0 c.loop-at.self.subscriptions.items c.pump_one.new.self.subscriptions.items c.loop-at.out.signals c.pump_one.new.out.signals (ap g.O.Ops.meaning i.ops) p.2),
+      all,
+      λ h s. pumped_stands m (i.pumped.0 + p.0) (state_of c.args.self.now) (state_of c.pump_one.new.self) c.args.out.now.signals c.pump_one.new.out.signals all (aside.0 ∙ i.aside.0, aside.1 ∙ i.aside.1) h s,
     )
 
 pub loop-at-preserved : goal.loop-at-preserved
@@ -43,6 +50,7 @@ loop-at-preserved g c =
     let more = r.0 in
     record {
       ops = c.pump_one.ensures.ops ∙ i.ops;
+      aside = (c.pump_one.ensures.aside.0 ∙ i.aside.0, c.pump_one.ensures.aside.1 ∙ i.aside.1);
       count = c.pump_one.ensures.count ∙ i.count;
       pumped = (
         i.pumped.0 + p.0,
@@ -66,6 +74,7 @@ returns-clause-pumped g c =
             all_quiet m c.loop-at.self.subscriptions.items c.loop-at.at all i.quiet,
       ),
       i.pumped.2,
+      λ h s. pumped_stands m i.pumped.0 (state_of c.args.self.now) (state_of c.loop-at.self) c.args.out.now.signals c.loop-at.out.signals i.pumped.2 i.aside h s,
     )
 
 pub returns-clause-served : goal.returns-clause-served
@@ -74,10 +83,19 @@ returns-clause-served g c = λ _ h s.
     let m = g.O.Ops.meaning c.args.self.now.ops in
     let all : length c.loop-at.self.subscriptions.items ≤ c.loop-at.at =
     let l = c.len-count.ensures in let n = i.count in let t = c.loop-at-test.false in omega (arith, l, n, t) in
-    all_served m h.published c.loop-at.self.subscriptions.items h.pasts (all_quiet m c.loop-at.self.subscriptions.items c.loop-at.at all i.quiet) s
+    all_served m h (state_of c.loop-at.self) (all_quiet m c.loop-at.self.subscriptions.items c.loop-at.at all i.quiet) s
 
 pub returns-in-Err-clause-memory : goal.returns-in-Err-clause-memory
 returns-in-Err-clause-memory g c = λ free.
     let i = c.loop-at.invariant in
     let same = ap (λ o. pump_allocates (g.O.Ops.allocates o) c.loop-at.self.subscriptions.items) i.ops in
     c.in-Err.ensures.memory (same ∙ (i.pumped.2.alike (g.O.Ops.allocates c.args.self.now.ops) ∙ free))
+
+pub returns-in-Ok-Budget-clause-aside : goal.returns-in-Ok-Budget-clause-aside
+returns-in-Ok-Budget-clause-aside g c = let i = c.loop-at.invariant in (c.pump_one.ensures.aside.0 ∙ i.aside.0, c.pump_one.ensures.aside.1 ∙ i.aside.1)
+
+pub returns-in-Err-clause-aside : goal.returns-in-Err-clause-aside
+returns-in-Err-clause-aside g c = let i = c.loop-at.invariant in (c.pump_one.ensures.aside.0 ∙ i.aside.0, c.pump_one.ensures.aside.1 ∙ i.aside.1)
+
+pub returns-clause-aside : goal.returns-clause-aside
+returns-clause-aside g c = c.loop-at.invariant.aside

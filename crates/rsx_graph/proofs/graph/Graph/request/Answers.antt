@@ -1,7 +1,8 @@
-use Rattle.std.proofs.Common.{◌<◌, length, refl, sym, arith, w64}
+use Rattle.std.proofs.Common.{◌∙◌, ◌<◌, length, refl, sym, arith, w64}
 use Rattle.std.proofs.lemmas.Int.{to_z-of_z}
 use Rattle.rsx_subscriber.specs.Past.{requested}
-use Rattle.rsx_graph.proofs.Graphs.{AllStand-set, found}
+use Rattle.rsx_graph.proofs.Graphs.{AllStand-set, found, joins_kept, requested_joins}
+use Rattle.rsx_graph.specs.Stands.{all_taken}
 use Rattle.rsx_graph.proofs.graph.Graph.request.Goals as goal
 
 pub returns-clause-stands : goal.returns-clause-stands
@@ -10,7 +11,7 @@ returns-clause-stands g c = λ h s.
     let l = c.len.ensures in
     let subs = c.args.self.now.subscriptions.items in
     let within : c.args.sub.0 < length c.args.self.now.subscriptions.items = omega (arith, l, c.if-at-len.false) in
-    AllStand-set m h.published (requested c.args.n) c.args.self.now.subscriptions.items h.pasts c.args.sub.0 c.index_mut-subscription.result.now c.request.new.self within (sym c.index_mut-subscription.ensures.value) (λ p k. let q = c.request.ensures.stands m h.published p k in rw (to_z-of_z w64 c.args.n c.ranges.n) at q) s
+    record { hub = s.hub; all = AllStand-set m (all_taken c.args.self.now.hubs.items h.hubs) (requested c.args.n) c.args.self.now.subscriptions.items h.pasts c.args.sub.0 c.index_mut-subscription.result.now c.request.new.self within (sym c.index_mut-subscription.ensures.value) (λ p k. let q = c.request.ensures.stands m (all_taken c.args.self.now.hubs.items h.hubs) p k in rw (to_z-of_z w64 c.args.n c.ranges.n) at q) s.all; joined = s.joined ∙ sym (joins_kept (requested c.args.n) (requested_joins c.args.n) h.pasts c.args.sub.0) }
 
 pub returns-clause-effect : goal.returns-clause-effect
 returns-clause-effect g c =

@@ -1,4 +1,5 @@
 use Rattle.std.proofs.Common.{◌≡◌, length, take, vec_capacity}
+use Rattle.rsx_graph.specs.InGraph.{state_of}
 use Rattle.rsx_graph.proofs.Graphs.{HasRun}
 use Rattle.rsx_graph.proofs.graph.Graph.run.Given as goal
 
@@ -7,5 +8,5 @@ invariant-loop-step g l = record {
   ops : l.self.ops ≡ l.fn.self.ops;
   count : length l.answers.items ≡ l.step-index;
   room : vec_capacity l.answers ≡ length l.step-items;
-  run : HasRun (g.O.Ops.meaning l.fn.self.ops) (g.O.Ops.allocates l.fn.self.ops) l.fn.self.subscriptions.items l.self.subscriptions.items (take l.step-index l.step-items) l.answers.items;
+  run : HasRun (g.O.Ops.meaning l.fn.self.ops) (g.O.Ops.allocates l.fn.self.ops) (state_of l.fn.self) (state_of l.self) (take l.step-index l.step-items) l.answers.items;
 }

@@ -1,13 +1,9 @@
-use Rattle.rsx_node.proofs.Dispatch.{item_out_items, item_out_range, item_out_plain}
+use Rattle.rsx_node.proofs.Dispatch.{item_out_source, item_out_plain}
 use Rattle.rsx_node.proofs.any_node.AnyNodeMachine.pop_item.Goals as goal
 
-pub returns-in-Items-clause-some : goal.returns-in-Items-clause-some
-returns-in-Items-clause-some g c =
-    rw c.in-Items.is (item_out_items (g.O.Ops.meaning c.args.ops.now) c.in-Items.node c.pop_item.new.self c.pop_item.result c.pop_item.ensures.some)
-
-pub returns-in-Range-clause-some : goal.returns-in-Range-clause-some
-returns-in-Range-clause-some g c =
-    rw c.in-Range.is (item_out_range (g.O.Ops.meaning c.args.ops.now) c.in-Range.node c.pop_item-in-Range.new.self c.pop_item-in-Range.result c.pop_item-in-Range.ensures.some)
+pub returns-in-Source-clause-some : goal.returns-in-Source-clause-some
+returns-in-Source-clause-some g c =
+    rw c.in-Source.is (item_out_source (g.O.Ops.meaning c.args.ops.now) c.in-Source.node c.pop_item.new.self c.pop_item.result c.pop_item.ensures.some)
 
 pub returns-in-Plain-clause-some : goal.returns-in-Plain-clause-some
 returns-in-Plain-clause-some g c =

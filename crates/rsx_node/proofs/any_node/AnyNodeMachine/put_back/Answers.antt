@@ -1,8 +1,13 @@
 use Rattle.std.proofs.Common.{subst}
 use Rattle.rsx_node.specs.Any.{any_popped}
 use Rattle.rsx_node.specs.declared.any_node.AnyNode.{AnyNode}
-use Rattle.rsx_node.proofs.Dispatch.{returned_plain}
+use Rattle.rsx_node.proofs.Dispatch.{returned_plain, returned_source}
 use Rattle.rsx_node.proofs.any_node.AnyNodeMachine.put_back.Goals as goal
+
+pub returns-in-Source : goal.returns-in-Source
+returns-in-Source g c = λ before h.
+    let P : AnyNode _ → Type 0 = λ t. any_popped before c.args.signal t in
+    returned_source before c.args.signal c.in-Source.node c.put_back.new.self (subst P c.in-Source.is h) c.put_back.ensures
 
 pub returns-in-Plain : goal.returns-in-Plain
 returns-in-Plain g c = λ before h.

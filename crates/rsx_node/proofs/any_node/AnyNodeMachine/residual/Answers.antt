@@ -1,8 +1,5 @@
 use Rattle.std.proofs.Common.{◌≡◌}
 use Rattle.rsx_node.proofs.any_node.AnyNodeMachine.residual.Goals as goal
 
-pub returns-in-Items : goal.returns-in-Items
-returns-in-Items g c = rw c.in-Items.is c.residual.ensures
-
-pub returns-in-Range : goal.returns-in-Range
-returns-in-Range g c = rw c.in-Range.is c.residual-in-Range.ensures
+pub returns-in-Source : goal.returns-in-Source
+returns-in-Source g c = rw c.in-Source.is c.residual.ensures

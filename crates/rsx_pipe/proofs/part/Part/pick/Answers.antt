@@ -7,7 +7,7 @@ use Rattle.rsx_pipe.proofs.part.Part.pick.Goals as goal
 
 pub returns-in-Ok-clause-stands : goal.returns-in-Ok-clause-stands
 returns-in-Ok-clause-stands g c =
-    put_out_chosen (g.O.Ops.meaning c.args.ops.now) c.args.self.now (record { tree = c.pick.new.self; root = c.args.self.now.root }) c.in-Ok.ensures.chosen c.in-Ok.ensures.balance refl
+    put_out_chosen (g.O.Ops.meaning c.args.ops.now) c.args.self.now (record { tree = c.pick.new.self; root = c.args.self.now.root }) c.in-Ok.ensures.chosen c.in-Ok.ensures.balance refl c.pick.ensures.alike
     (λ closed dead. pick_alive any_machine c.args.self.now.tree (edge_view c.args.self.now.root) c.args.at c.args.input c.in-Ok.ensures.enabled closed dead)
 
 pub returns-in-Ok-clause-effect : goal.returns-in-Ok-clause-effect

@@ -8,7 +8,7 @@ use Rattle.rsx_pipe.proofs.part.Part.send_below.Goals as goal
 pub returns-in-Ok-clause-stands : goal.returns-in-Ok-clause-stands
 returns-in-Ok-clause-stands g c =
     let m = g.O.Ops.meaning c.args.ops.now in
-    put_out_kept m c.args.self.now (record { tree = c.send.new.self; root = c.args.self.now.root }) c.in-Ok.ensures.kept c.in-Ok.ensures.balance refl
+    put_out_kept m c.args.self.now (record { tree = c.send.new.self; root = c.args.self.now.root }) c.in-Ok.ensures.kept c.in-Ok.ensures.balance refl c.send.ensures.alike
     (λ closed _. send_not_closed m c.args.self.now.tree c.args.at c.in-Ok.ensures.ok closed)
 
 pub returns-in-Ok-clause-effect : goal.returns-in-Ok-clause-effect

@@ -1,0 +1,50 @@
+-- What the hubs published, and a part to whose nodes a signal of a hub is handed.
+use Rattle.std.specs.Prelude.{◌≡◌, ⊤, ℕ, Bool, true, false, if◌then◌else◌, List, [], ◌∷◌}
+use Rattle.rsx_types.specs.Meaning.{Meaning, Allocates}
+use Rattle.rsx_types.specs.Stream.{Stream}
+use Rattle.rsx_types.specs.declared.signal.Signal.{Signal}
+use Rattle.rsx_hub.specs.Hub.{HubState, HasTakenIn}
+use Rattle.rsx_hub.specs.Member.{ending_taken}
+use Rattle.rsx_hub.specs.Waiting.{is_open}
+use Rattle.rsx_model.specs.declared.expr.Expr.{Expr}
+use Rattle.rsx_node.specs.Any.{any_machine}
+use Rattle.rsx_sources.specs.Counts.{ends_input}
+use Rattle.rsx_tree.specs.Edges.{is_live}
+use Rattle.rsx_tree.specs.Handed as Tree
+use Rattle.rsx_pipe.specs.Output.{IsOpenAt, with_signal_at}
+use Rattle.rsx_pipe.specs.Part.{PartStands, all_edges, pump_allocates}
+use Rattle.rsx_pipe.specs.Tree.{notes_of}
+use Rattle.rsx_pipe.specs.declared.part.Part.{Part}
+
+-- this is what a hub took in: its items, and its ending once that was taken in too
+pub record IsTaken {T : Type 0} (h : HubState T) (v : Stream T) : Type 0 where
+  pub taken : HasTakenIn h v.items
+  pub ending : v.ending ≡ ending_taken h.has_ended h.ending
+  pub closed : h.has_ended ≡ true → is_open h.ending ≡ false
+
+-- so of each hub
+abbrev pub AreTaken : {T : Type 0} → List (HubState T) → List (Stream T) → Type 0
+AreTaken [] [] = ⊤
+AreTaken (h ∷ hs) (v ∷ vs) = IsTaken h v × AreTaken hs vs
+AreTaken [] (v ∷ vs) = ⊥
+AreTaken (h ∷ hs) [] = ⊥
+
+-- how many nodes of a part read a hub; with a root edge that isn't live, none
+abbrev pub readers : {T : Type 0} → ℕ → Part T → ℕ
+readers h part = if is_live part.root.state then Tree.readers any_machine h part.tree else 0
+
+-- whether all of them have room for an item
+abbrev pub has_room_for : {T : Type 0} → ℕ → Part T → Bool
+has_room_for h part = if is_live part.root.state then Tree.has_room any_machine h part.tree else true
+
+-- each node that reads the hub took the signal in, and nothing else changed
+pub record IsHanded {T : Type 0} (h : ℕ) (s : Signal T) (old new : Part T) : Type 0 where
+  -- the part stands for the same, where the hub published that signal besides
+  pub stands : (m : Meaning T) (published : List (Stream T)) (e : Expr T) (joins : List ℕ) (output : List (Signal T)) → IsOpenAt h published →
+      PartStands m published old e joins output → PartStands m (with_signal_at h s published) new e joins output
+  -- after an ending none of its nodes reads the hub
+  pub ended : ends_input s ≡ true → readers h new ≡ 0
+  pub edges : all_edges new ≡ all_edges old
+  pub root : new.root ≡ old.root
+  pub notes : notes_of new.tree ≡ notes_of old.tree
+  pub calls : (a : Allocates) → pump_allocates a new ≡ pump_allocates a old

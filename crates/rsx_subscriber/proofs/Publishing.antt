@@ -1,0 +1,60 @@
+-- What a subscription stands for, where more is published.
+use Rattle.std.proofs.Common.{◌≡◌, ℕ, zero, suc, List, [], ◌∷◌, ◌++◌, length, None, refl, ap, sym, ◌∙◌, subst}
+use Rattle.rsx_types.specs.Meaning.{Meaning}
+use Rattle.rsx_types.specs.Stream.{Stream}
+use Rattle.rsx_types.specs.declared.signal.Signal.{Signal}
+use Rattle.rsx_model.specs.Check.{refusal}
+use Rattle.rsx_tree.specs.Edges.{edge_view}
+use Rattle.rsx_pipe.specs.Output.{IsOpenAt, with_signal_at}
+use Rattle.rsx_pipe.specs.Part.{all_edges}
+use Rattle.rsx_pipe.specs.Published as Part
+use Rattle.rsx_pipe.specs.Tree.{IsAllClosed, edges}
+use Rattle.rsx_tree.specs.Tree.{NoneLive}
+use Rattle.rsx_tree.specs.Edges.{EdgeView}
+use Rattle.rsx_pipe.specs.declared.part.Part.{Part as AnyPart}
+use Rattle.rsx_subscription.specs.declared.State.TheVariants.{Fresh}
+use Rattle.rsx_subscriber.specs.declared.subscription.Subscription.{Subscription}
+use Rattle.rsx_subscriber.specs.Past.{Past}
+use Rattle.rsx_subscriber.specs.Published.{IsHanded}
+use Rattle.rsx_subscriber.specs.Stands.{Stands}
+
+signal_length : {T : Type 0} (h : ℕ) (s : Signal T) (vs : List (Stream T)) → length (with_signal_at h s vs) ≡ length vs
+signal_length h s [] = refl
+signal_length zero s (v ∷ vs) = refl
+signal_length (suc h) s (v ∷ vs) = ap suc (signal_length h s vs)
+
+-- all edges of a tree are those of the other
+tail_same : {A : Type 0} (a b : A) (xs ys : List A) → a ∷ xs ≡ b ∷ ys → xs ≡ ys
+tail_same a b xs ys e = cc
+
+pub handed_sub : {T : Type 0} (h : ℕ) (s : Signal T) (old : Subscription T) (part : AnyPart T) (opened : old.state ≡ Fresh → ⊥) → Part.IsHanded h s old.part part →
+    IsHanded h s old (record { part = part; queue = old.queue; state = old.state; demand = old.demand; live = old.live; opened = opened })
+handed_sub {T} h s old part opened k = record {
+      part = k;
+      queue = refl;
+      kept = record { state = refl; live = refl; demand = refl };
+      stands = λ m published past o x.
+          let R : ℕ → Type 0 = λ n. refusal n past.expression ≡ None in
+          let C : List EdgeView → Type 0 = λ es. NoneLive es in
+          record {
+            state = x.state;
+            live = x.live;
+            output = x.output;
+            part = k.stands m published past.expression past.joins x.output o x.part;
+            held = x.held;
+            begun = x.begun;
+            orderly = x.orderly;
+            waits = x.waits;
+            got = x.got;
+            asked = ap (λ r. r.demand.asked) k.root ∙ x.asked;
+            requested = x.requested;
+            delivered = x.delivered;
+            unclosed = λ l c. x.unclosed l (ap (λ r. r.state) (sym k.root) ∙ c);
+            admitted = subst R (sym (signal_length h s published)) x.admitted;
+            shape = ap length k.edges ∙ x.shape;
+            joined = x.joined;
+            closed = λ dead.
+                let was = x.closed dead in
+                (subst C (sym (tail_same _ _ (edges part.tree) (edges old.part.tree) k.edges)) was.0, (λ l. was.1 (ap (λ r. r.state) (sym k.root) ∙ l)), was.2);
+          };
+}

@@ -1,0 +1,18 @@
+-- A subscription to whose nodes a signal of a hub is handed.
+use Rattle.std.specs.Prelude.{◌≡◌, ℕ, List}
+use Rattle.rsx_types.specs.Meaning.{Meaning}
+use Rattle.rsx_types.specs.Stream.{Stream}
+use Rattle.rsx_types.specs.declared.signal.Signal.{Signal}
+use Rattle.rsx_pipe.specs.Output.{IsOpenAt, with_signal_at}
+use Rattle.rsx_pipe.specs.Published as Part
+use Rattle.rsx_subscriber.specs.declared.subscription.Subscription.{Subscription}
+use Rattle.rsx_subscriber.specs.Past.{Past}
+use Rattle.rsx_subscriber.specs.Stands.{Stands, IsKeptBeside}
+
+-- each node of its part that reads the hub took the signal in, and nothing else changed
+pub record IsHanded {T : Type 0} (h : ℕ) (s : Signal T) (old new : Subscription T) : Type 0 where
+  pub part : Part.IsHanded h s old.part new.part
+  pub queue : new.queue ≡ old.queue
+  pub kept : IsKeptBeside old new
+  -- the subscription stands for the same past, where the hub published that signal besides
+  pub stands : (m : Meaning T) (published : List (Stream T)) (past : Past T) → IsOpenAt h published → Stands m published old past → Stands m (with_signal_at h s published) new past
