@@ -1,0 +1,3 @@
+pub mod OneChoice
+pub mod Places
+pub mod Records

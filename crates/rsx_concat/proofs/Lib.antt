@@ -1,0 +1,3 @@
+pub mod Concats
+pub mod Copied
+pub mod Turns

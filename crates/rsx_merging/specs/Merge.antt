@@ -1,0 +1,107 @@
+-- The merge as a node: the queues of its inputs, what it has put out, and the choices made.
+use Rattle.std.specs.Prelude.{◌≡◌, ℕ, zero, suc, ◌≤◌, ◌^◌, Bool, true, false, ◌&&◌, nat_lt, List, [], ◌∷◌, length, slice_get, Option, Some, None, option_map}
+use Rattle.rsx_types.specs.declared.note.Note.{Note}
+use Rattle.rsx_types.specs.declared.note.Note.TheVariants.{Nothing, Picks, Ended}
+use Rattle.rsx_types.specs.declared.signal.Signal.{Signal}
+use Rattle.rsx_types.specs.declared.signal.Signal.TheVariants.{Complete}
+use Rattle.rsx_types.specs.Meaning.{Meaning}
+use Rattle.rsx_types.specs.Stream.{Stream}
+use Rattle.rsx_sources.specs.Machine.{Incoming, front_of}
+use Rattle.rsx_sources.specs.declared.machine.Front.{Front}
+use Rattle.rsx_sources.specs.declared.machine.Front.TheVariants.{Item, Completion, Failure}
+use Rattle.rsx_crossing.specs.Queued.{is_ended}
+use Rattle.rsx_queued.specs.declared.input.QueuedInput.{QueuedInput}
+use Rattle.rsx_queued.specs.declared.output.Output.{Output}
+use Rattle.rsx_queued.specs.declared.output.Output.TheVariants.{Empty, Waiting}
+use Rattle.rsx_queued.specs.Input.{takes, next_signal, input_credits}
+use Rattle.rsx_queued.specs.Output.{out_signal, is_empty, is_over, has_ending, IsOut, output_then}
+use Rattle.rsx_choices.specs.Merge.{merge_inputs}
+use Rattle.rsx_choices.specs.Record.{written}
+use Rattle.rsx_merging.specs.Inputs.{inputs_left, are_gone, AreCounted}
+use Rattle.rsx_merging.specs.declared.node.MergeNode.{MergeNode}
+
+-- a node that records picks has a value only where picks are chosen
+abbrev pub picked : {A : Type 0} → Note → (List ℕ → Option A) → Option A
+picked Nothing f = None
+picked (Picks cs) f = f cs
+picked (Ended o) f = None
+
+-- what was put out, and then the merge of the inputs under the further choices; behind an ending nothing can be chosen
+abbrev pub merge_of : {T : Type 0} → Output T → List (QueuedInput T) → Incoming T → Note → Option (Stream T)
+merge_of out qs inc further = picked further (λ cs. output_then out (merge_inputs cs (inputs_left 0 qs (inc.first ∷ inc.others))) (merge_inputs cs []))
+
+abbrev pub merge_comes_out : {T : Type 0} → Meaning T → MergeNode T → Incoming T → Note → Option (Stream T)
+merge_comes_out m n inc further = merge_of n.output n.inputs.items inc further
+
+abbrev pub merge_waiting : {T : Type 0} → Meaning T → MergeNode T → Option (Signal T)
+merge_waiting m n = out_signal n.output
+
+abbrev pub merge_shown : {T : Type 0} → MergeNode T → Option Front
+merge_shown n = option_map front_of (out_signal n.output)
+
+-- whether an input takes such a signal
+abbrev pub input_takes : {T : Type 0} → Option (QueuedInput T) → Front → Bool
+input_takes None f = false
+input_takes (Some q) f = takes q f
+
+abbrev pub merge_takes : {T : Type 0} → MergeNode T → ℕ → Front → Bool
+merge_takes n i f = input_takes (slice_get n.inputs.items i) f
+
+-- the next signal of an input
+abbrev pub input_signal : {T : Type 0} → Option (QueuedInput T) → Option (Signal T)
+input_signal None = None
+input_signal (Some q) = next_signal q
+
+-- an item can be picked only where one more may be sent
+abbrev pub may_pick : Option Front → ℕ → ℕ → Bool
+may_pick None asked sent = false
+may_pick (Some Item) asked sent = nat_lt sent asked
+may_pick (Some Completion) asked sent = true
+may_pick (Some (Failure c)) asked sent = true
+
+abbrev pub merge_picks : {T : Type 0} → MergeNode T → ℕ → ℕ → ℕ → Bool
+merge_picks n i asked sent = is_empty n.output && may_pick (option_map front_of (input_signal (slice_get n.inputs.items i))) asked sent
+
+abbrev pub merge_recording : {T : Type 0} → MergeNode T → ℕ → Note
+merge_recording n i = Picks (i ∷ [])
+
+abbrev pub merge_recorded : {T : Type 0} → MergeNode T → Note
+merge_recorded n = Picks (written n.choices)
+
+-- the ending waits
+abbrev pub merge_ended : {T : Type 0} → MergeNode T → Bool
+merge_ended n = has_ending n.output
+
+-- whether an input's ending came in
+abbrev pub input_done : {T : Type 0} → Option (QueuedInput T) → Bool
+input_done None = true
+input_done (Some q) = is_ended q.tail
+
+abbrev pub merge_done : {T : Type 0} → MergeNode T → ℕ → Bool
+merge_done n i = input_done (slice_get n.inputs.items i)
+
+-- the node goes on, and its inputs took in so many items each
+pub record IsGoing {T : Type 0} (out : Output T) (qs : List (QueuedInput T)) (taken : List ℕ) : Type 0 where
+  pub not_over : is_over out ≡ false
+  pub some_left : are_gone qs ≡ false
+  pub few : length qs ≤ 2 ^ 64
+  pub counts : AreCounted qs taken
+
+abbrev pub merge_counted : {T : Type 0} → MergeNode T → List ℕ → ℕ → Type 0
+merge_counted n taken sent = IsGoing n.output n.inputs.items taken
+
+-- the total to be asked of an input
+abbrev pub credits_of : {T : Type 0} → Option (QueuedInput T) → ℕ
+credits_of None = 0
+credits_of (Some q) = input_credits q
+
+abbrev pub merge_wanted : {T : Type 0} → MergeNode T → ℕ → ℕ → ℕ → ℕ
+merge_wanted n i asked sent = credits_of (slice_get n.inputs.items i)
+
+abbrev pub merge_popped : {T : Type 0} → MergeNode T → Signal T → MergeNode T → Type 0
+merge_popped old s new = IsOut old.output s new.output × (old.inputs ≡ new.inputs) × (old.choices ≡ new.choices)
+
+-- a merge of no inputs completes at once
+abbrev pub first_output : {T : Type 0} → ℕ → Output T
+first_output zero = Waiting Complete
+first_output (suc n) = Empty

@@ -1,0 +1,5 @@
+-- Definitions that contracts cite.
+pub mod Input
+pub mod Laws
+pub mod Output
+pub mod Values
