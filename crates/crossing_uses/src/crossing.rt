@@ -24,7 +24,10 @@ type Sender = Queued<AnyNode<Val>, Val>;
 fn numbers(alloc: Global, count: u64) -> Result<Sender, NoMemory>
     requires { count ≤ 1000 }
 {
-    Queued::new(alloc, AnyNode::Source(SourceNode::Range(RangeNode::new(1, count))))
+    Queued::new(
+        alloc,
+        AnyNode::Source(SourceNode::Range(RangeNode::new(1, count))),
+    )
 }
 
 /// The tree that doubles them. Both of its edges cross.

@@ -71,7 +71,7 @@ node_of n r = record { machine = n; inputs = r }
 -- a source alone, whose value is that of the expression
 pub built_source : {T : Type 0} (m : Meaning T) (hubs : List (HubState T)) (e : Expr T) (n : SourceNode T) (t : Node (AnyNode T)) → t.machine ≡ Source n → t.inputs ≡ End →
     ((whole : List (Stream T)) (joins : List ℕ) (leaf : ℕ) → AreBegun hubs whole → StandAt joins leaf (new_joins hubs e) → (v : Stream T) × ((inc : Incoming T) (k : Note) → inc.hubs ≡ whole → any_machine.comes_out m (Source n) inc k ≡ quiet_at k v)
-        × ((further : List Note) (at : ℕ) → (meant (environment m whole joins further) e).value at leaf ≡ quiet (slice_get further at) (Some v))) →
+    × ((further : List Note) (at : ℕ) → (meant (environment m whole joins further) e).value at leaf ≡ quiet (slice_get further at) (Some v))) →
     IsReadAt (counts_of hubs) (any_machine.reads (Source n)) → (new_joins hubs e ≡ [] → IsReadAt [] (any_machine.reads (Source n))) → fresh_edges e ≡ [] → IsBuilt m hubs e t
 built_source {T} m hubs e n t n_is r_is values read unread none = record {
   value = λ whole joins further at leaf begun stand.

@@ -30,31 +30,31 @@ tail_same a b xs ys e = cc
 pub handed_sub : {T : Type 0} (h : ℕ) (s : Signal T) (old : Subscription T) (part : AnyPart T) (opened : old.state ≡ Fresh → ⊥) → Part.IsHanded h s old.part part →
     IsHanded h s old (record { part = part; queue = old.queue; state = old.state; demand = old.demand; live = old.live; opened = opened })
 handed_sub {T} h s old part opened k = record {
-      part = k;
-      queue = refl;
-      kept = record { state = refl; live = refl; demand = refl };
-      stands = λ m published past o x.
-          let R : ℕ → Type 0 = λ n. refusal n past.expression ≡ None in
-          let C : List EdgeView → Type 0 = λ es. NoneLive es in
-          record {
-            state = x.state;
-            live = x.live;
-            output = x.output;
-            part = k.stands m published past.expression past.joins x.output o x.part;
-            held = x.held;
-            begun = x.begun;
-            orderly = x.orderly;
-            waits = x.waits;
-            got = x.got;
-            asked = ap (λ r. r.demand.asked) k.root ∙ x.asked;
-            requested = x.requested;
-            delivered = x.delivered;
-            unclosed = λ l c. x.unclosed l (ap (λ r. r.state) (sym k.root) ∙ c);
-            admitted = subst R (sym (signal_length h s published)) x.admitted;
-            shape = ap length k.edges ∙ x.shape;
-            joined = x.joined;
-            closed = λ dead.
-                let was = x.closed dead in
-                (subst C (sym (tail_same _ _ (edges part.tree) (edges old.part.tree) k.edges)) was.0, (λ l. was.1 (ap (λ r. r.state) (sym k.root) ∙ l)), was.2);
-          };
+  part = k;
+  queue = refl;
+  kept = record { state = refl; live = refl; demand = refl };
+  stands = λ m published past o x.
+      let R : ℕ → Type 0 = λ n. refusal n past.expression ≡ None in
+      let C : List EdgeView → Type 0 = λ es. NoneLive es in
+      record {
+        state = x.state;
+        live = x.live;
+        output = x.output;
+        part = k.stands m published past.expression past.joins x.output o x.part;
+        held = x.held;
+        begun = x.begun;
+        orderly = x.orderly;
+        waits = x.waits;
+        got = x.got;
+        asked = ap (λ r. r.demand.asked) k.root ∙ x.asked;
+        requested = x.requested;
+        delivered = x.delivered;
+        unclosed = λ l c. x.unclosed l (ap (λ r. r.state) (sym k.root) ∙ c);
+        admitted = subst R (sym (signal_length h s published)) x.admitted;
+        shape = ap length k.edges ∙ x.shape;
+        joined = x.joined;
+        closed = λ dead.
+            let was = x.closed dead in
+            (subst C (sym (tail_same _ _ (edges part.tree) (edges old.part.tree) k.edges)) was.0, (λ l. was.1 (ap (λ r. r.state) (sym k.root) ∙ l)), was.2);
+      };
 }
