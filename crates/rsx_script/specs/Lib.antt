@@ -2,3 +2,4 @@
 pub mod Words
 pub mod Fault
 pub mod Modes
+pub mod Answers

@@ -2,11 +2,19 @@
 
 use rsx_demo::Val;
 use rsx_model::Expr;
-use rsx_types::SubId;
+use rsx_types::{HubId, HubKind, SubId};
 
 /// The command of a line.
 #[derive(Drop)]
 pub enum Command {
+    /// `hub multicast C` or `hub replay N C`
+    Hub(HubKind, u64),
+    /// `emit H V`
+    Emit(HubId, i64),
+    /// `complete H`
+    Complete(HubId),
+    /// `fail H U`
+    Fail(HubId, u32),
     /// `subscribe EXPR`
     Subscribe(Expr<Val>),
     /// `request S V`
@@ -21,6 +29,8 @@ pub enum Command {
     Asked(SubId),
     /// `count S`
     Count(SubId),
+    /// `joins S`
+    Joins(SubId),
     /// `check S`
     Check(SubId),
 }

@@ -6,8 +6,8 @@
 //! - [`print`]: what each command answers, as text.
 //! - [`mode`]: what the program does with its input; [`fault`]: what ends that before the input does.
 //!
-//! Proved are the words: which bytes each is and where it begins, and of which text a number is read. What a line of words
-//! means, the columns of refusals and the text of answers are tested.
+//! Proved are the words: which bytes each is and where it begins, and of which text a number is read; and the text of an answer
+//! that shows no items. What a line of words means, the columns of refusals and the text of items are tested.
 
 pub mod command;
 pub mod fault;

@@ -6,7 +6,7 @@ use crate::command::Command;
 use crate::words::{LineRefusal, Word, Words, number_of};
 use rsx_demo::{Role, Val, function_number};
 use rsx_model::Expr;
-use rsx_types::{HubId, Stage, SubId};
+use rsx_types::{HubId, HubKind, Stage, SubId};
 use std::alloc::Global;
 
 /// The most bytes of a line, without its newline.
@@ -53,9 +53,45 @@ fn command_of(
         "show" => Ok(Command::Show(subscription(words)?)),
         "asked" => Ok(Command::Asked(subscription(words)?)),
         "count" => Ok(Command::Count(subscription(words)?)),
+        "joins" => Ok(Command::Joins(subscription(words)?)),
         "check" => Ok(Command::Check(subscription(words)?)),
+        _ => hub_command_of(column, name, words),
+    }
+}
+
+/// The command with this name, which makes a hub or publishes to one. The name stands at this column.
+fn hub_command_of(column: u64, name: &str, words: &mut Words<'_>) -> Result<Command, LineRefusal> {
+    match name {
+        "hub" => {
+            let kind = hub_kind(words)?;
+            Ok(Command::Hub(kind, words.number()?))
+        }
+        "emit" => {
+            let hub = hub(words)?;
+            Ok(Command::Emit(hub, words.number()?))
+        }
+        "complete" => Ok(Command::Complete(hub(words)?)),
+        "fail" => {
+            let hub = hub(words)?;
+            Ok(Command::Fail(hub, words.number()?))
+        }
         _ => Err(LineRefusal::UnknownName(column)),
     }
+}
+
+/// The kind of a hub: `multicast`, or `replay` and how many items it keeps.
+fn hub_kind(words: &mut Words<'_>) -> Result<HubKind, LineRefusal> {
+    let (column, name) = words.name()?;
+    match name {
+        "multicast" => Ok(HubKind::Multicast),
+        "replay" => Ok(HubKind::Replay(words.number()?)),
+        _ => Err(LineRefusal::UnknownName(column)),
+    }
+}
+
+/// The number of a hub.
+fn hub(words: &mut Words<'_>) -> Result<HubId, LineRefusal> {
+    Ok(HubId(words.number()?))
 }
 
 /// The number of a subscription.
@@ -72,7 +108,7 @@ fn expression(alloc: Global, words: &mut Words<'_>) -> Result<Expr<Val>, LineRef
     match name {
         "items" => Ok(Expr::Items(items(alloc, words)?)),
         "range" => range(words),
-        "hub" => hub(words),
+        "hub" => reading(words),
         _ => {
             let stage = stage(column, name, words)?;
             plain(alloc, stage, words)
@@ -121,9 +157,9 @@ fn range(words: &mut Words<'_>) -> Result<Expr<Val>, LineRefusal> {
     Ok(Expr::Range(first, count))
 }
 
-/// The number of a hub.
-fn hub(words: &mut Words<'_>) -> Result<Expr<Val>, LineRefusal> {
-    let hub = HubId(words.number()?);
+/// The hub that a leaf reads.
+fn reading(words: &mut Words<'_>) -> Result<Expr<Val>, LineRefusal> {
+    let hub = hub(words)?;
     words.close()?;
     Ok(Expr::Hub(hub))
 }

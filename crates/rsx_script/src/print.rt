@@ -1,15 +1,19 @@
 //! The text of answers.
 
-ghost use Rattle.std.specs.Prelude.{◌≡◌, ◌++◌, ℕ, List, string_bytes, OnErr, OnOk};
+ghost use Rattle.std.specs.Prelude.{◌≡◌, ◌++◌, ◌∷◌, [], ℕ, List, string_bytes, OnErr, OnOk};
+ghost use Rattle.std.specs.Fmt.{WritesOnOk};
+ghost use Rattle.rsx_script.specs.Answers.{IsTextOf, numbers_text};
 
 use rsx_demo::Val;
-use rsx_types::{Cause, Ending, NoMemory, StreamValue, SubId};
+use rsx_types::{Cause, Ending, HubId, NoMemory, StreamValue, SubId};
 use std::alloc::Global;
 use std::fmt;
 
 /// What a command answers.
 #[derive(Drop)]
 pub enum Answer<'a> {
+    /// A hub was made.
+    Hub(HubId),
     /// A subscription was made.
     Sub(SubId),
     /// It was done.
@@ -26,6 +30,8 @@ pub enum Answer<'a> {
     Asked(u64),
     /// How many items a subscriber received.
     Count(u64),
+    /// How many items of its hub each leaf of a subscription's expression misses, from left to right.
+    Joins(Vec<u64>),
     /// What was received and what is owed is the value of the expression.
     Equal,
     /// It is not.
@@ -64,17 +70,23 @@ impl Answer<'_> {
     /// `NoMemory` where a growth was refused; the text is then as it was.
     pub fn add_to(&self, alloc: Global, out: &mut String) -> Result<(), NoMemory>
         ensures same { OnErr result (string_bytes out.new ≡ string_bytes out.old) }
-        ensures grows { OnOk result ((text : List ℕ) × (string_bytes out.new ≡ string_bytes out.old ++ text)) }
+        ensures grows { OnOk result ((text : List ℕ) × IsTextOf self.now text × (string_bytes out.new ≡ string_bytes out.old ++ (text ++ 10 ∷ []))) }
     {
-        let text = format!(in alloc; "{self}\n")?;
+        let mut text = format!(in alloc; "{self}")?;
+        text.push_str("\n")?;
         out.push_str(text.as_str())?;
         Ok(())
     }
 }
 
 impl fmt::Display for Answer<'_> {
+    ghost use Rattle.rsx_script.specs.Answers.{answer_text};
+
+    ghost output = { answer_text };
+
     fn fmt<W: fmt::Write>(&self, f: &mut fmt::Formatter<W>) -> fmt::Result {
         match self {
+            Answer::Hub(hub) => write!(f, "hub {}", hub.0),
             Answer::Sub(sub) => write!(f, "sub {}", sub.0),
             Answer::Done => f.write_str("ok"),
             Answer::Idle => f.write_str("idle"),
@@ -86,6 +98,10 @@ impl fmt::Display for Answer<'_> {
             }
             Answer::Asked(asked) => write!(f, "asked {asked}"),
             Answer::Count(count) => write!(f, "count {count}"),
+            Answer::Joins(joins) => {
+                f.write_str("joins")?;
+                write_numbers(f, joins)
+            }
             Answer::Equal => f.write_str("equal"),
             Answer::Different => f.write_str("different"),
             Answer::Refused(name) => write!(f, "refused {name}"),
@@ -106,6 +122,16 @@ impl fmt::Display for Shown<'_> {
             Rest::Closed => f.write_str(" | closed"),
         }
     }
+}
+
+/// Each number behind a space.
+fn write_numbers<W: fmt::Write>(f: &mut fmt::Formatter<W>, numbers: &[u64]) -> fmt::Result
+    ensures { WritesOnOk W.write_str_gives f.old result (numbers_text numbers.now) f.new }
+{
+    for number in numbers {
+        write!(f, " {number}")?;
+    }
+    Ok(())
 }
 
 /// Each item behind a space, and then the ending.

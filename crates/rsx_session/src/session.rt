@@ -1,13 +1,15 @@
 //! A graph with what each of its subscribers received: the state of a run.
 
-ghost use Rattle.std.specs.Prelude.{◌≡◌, ◌≤◌, ◌++◌, ℕ, List, true, length, string_bytes, OnErr, OnOk};
+ghost use Rattle.std.specs.Prelude.{◌≡◌, ◌≤◌, [], true, length, string_bytes, OnErr, OnOk, IsOk, IfOk, IfErr};
+ghost use Rattle.rsx_session.specs.Answers.{IsAnswered, IsTrouble, is_of, is_hub, is_sub, is_done, is_pumped, is_received, is_shown, is_compared};
 
+use crate::published::{end, keep_item, let_item_go};
 use rsx_demo::{Demo, Val, is_same_val};
 use rsx_graph::{Deliveries, Graph, Pumped, Refusal, SubscriptionState};
 use rsx_model::{Expr, ScratchRefusal, scratch};
 use rsx_script::{Answer, Command, Rest, Shown};
-use rsx_types::{Ending, NoMemory, Signal, StreamValue, SubId, Tree};
-use std::alloc::{AllocFailed, Global};
+use rsx_types::{Cause, Ending, HubId, HubKind, NoMemory, Signal, StreamValue, SubId, Tree};
+use std::alloc::{AllocError, AllocFailed, Global};
 use std::mem;
 
 /// The most moves of one call of `Graph::pump`, so that what it delivers is taken in before it grows large.
@@ -32,6 +34,8 @@ enum Trouble {
 }
 
 impl From<Refusal> for Trouble {
+    ghost from_gives = { λ _ t. IsTrouble t };
+
     fn from(refusal: Refusal) -> Trouble {
         match refusal {
             Refusal::NoMemory => Trouble::Memory,
@@ -41,6 +45,8 @@ impl From<Refusal> for Trouble {
 }
 
 impl From<ScratchRefusal> for Trouble {
+    ghost from_gives = { λ _ t. IsTrouble t };
+
     fn from(refusal: ScratchRefusal) -> Trouble {
         match refusal {
             ScratchRefusal::NoMemory => Trouble::Memory,
@@ -50,7 +56,25 @@ impl From<ScratchRefusal> for Trouble {
 }
 
 impl<T: Drop> From<AllocFailed<T>> for Trouble {
+    ghost from_gives = { λ _ t. IsTrouble t };
+
     fn from(_e: AllocFailed<T>) -> Trouble {
+        Trouble::Memory
+    }
+}
+
+impl From<AllocError> for Trouble {
+    ghost from_gives = { λ _ t. IsTrouble t };
+
+    fn from(_e: AllocError) -> Trouble {
+        Trouble::Memory
+    }
+}
+
+impl From<NoMemory> for Trouble {
+    ghost from_gives = { λ _ t. IsTrouble t };
+
+    fn from(_e: NoMemory) -> Trouble {
         Trouble::Memory
     }
 }
@@ -64,11 +88,13 @@ pub enum View {
     FromScratch,
 }
 
-/// A graph with what each of its subscribers received.
+/// A graph with what was published at each of its hubs, and what each of its subscribers received.
 #[derive(Drop)]
 pub struct Session {
     view: View,
     graph: Graph<Demo>,
+    /// What was published and not refused, at the hubs in the order of their ids.
+    published: Vec<StreamValue<Val>>,
     /// The subscriptions, in the order of their ids.
     records: Vec<Record>,
     /// The list that deliveries are put into. It is empty between calls, and its memory is used again.
@@ -76,16 +102,17 @@ pub struct Session {
 }
 
 impl Session {
-    /// An empty graph, of whose subscriptions `show` answers this.
-    ///
-    /// # Errors
-    ///
-    /// `NoMemory` where a growth was refused.
-    pub fn new(alloc: Global, view: View) -> Result<Session, NoMemory> {
+    /// An empty graph, of whose subscriptions `show` answers this. It takes no memory so far, and is never refused.
+    pub fn new(alloc: Global, view: View) -> Result<Session, NoMemory>
+        ensures made { IsOk result }
+        ensures view { IfOk result (λ s. s.view ≡ view) }
+        ensures empty { IfOk result (λ s. (s.published.items ≡ []) × (s.records.items ≡ [])) }
+    {
         match Graph::new(alloc, Demo) {
             Ok(graph) => Ok(Session {
                 view,
                 graph,
+                published: Vec::new(alloc),
                 records: Vec::new(alloc),
                 spare: Vec::new(alloc),
             }),
@@ -105,7 +132,7 @@ impl Session {
         out: &mut String,
     ) -> Result<(), NoMemory>
         ensures same { OnErr result (string_bytes out.new ≡ string_bytes out.old) }
-        ensures grows { OnOk result ((text : List ℕ) × (string_bytes out.new ≡ string_bytes out.old ++ text)) }
+        ensures grows { OnOk result (IsAnswered self.old.view command (string_bytes out.old) (string_bytes out.new)) }
     {
         let answer = match self.run(alloc, command) {
             Ok(answer) => answer,
@@ -116,8 +143,15 @@ impl Session {
     }
 
     /// Does what a command asks for.
-    fn run(&mut self, alloc: Global, command: Command) -> Result<Answer<'_>, Trouble> {
+    fn run(&mut self, alloc: Global, command: Command) -> Result<Answer<'_>, Trouble>
+        ensures answer { IfOk result (λ a. is_of self.old.view command a ≡ true) }
+        ensures err { IfErr result IsTrouble }
+    {
         match command {
+            Command::Hub(kind, capacity) => self.hub(alloc, kind, capacity),
+            Command::Emit(hub, number) => self.emit(alloc, hub, number),
+            Command::Complete(hub) => self.complete(alloc, hub),
+            Command::Fail(hub, number) => self.fail(alloc, hub, number),
             Command::Subscribe(expr) => self.subscribe(alloc, expr),
             Command::Request(sub, count) => self.request(sub, count),
             Command::Cancel(sub) => self.cancel(sub),
@@ -125,31 +159,100 @@ impl Session {
             Command::Show(sub) => self.show(alloc, sub),
             Command::Asked(sub) => Ok(Answer::Asked(self.graph.asked(sub)?)),
             Command::Count(sub) => Ok(Answer::Count(self.record(sub)?.received.len() as u64)),
+            Command::Joins(sub) => Ok(Answer::Joins(self.graph.joins(alloc, Tree::Sub(sub))?)),
             Command::Check(sub) => self.check(alloc, sub),
         }
     }
 
     /// What is known of a subscription; the refusal of an unknown one where there is none.
-    fn record(&self, sub: SubId) -> Result<&Record, Trouble> {
+    fn record(&self, sub: SubId) -> Result<&Record, Trouble>
+        ensures { IfErr result IsTrouble }
+    {
         match self.records.get(sub.0 as usize) {
             Some(record) => Ok(record),
             None => Err(Trouble::from(Refusal::UnknownSub)),
         }
     }
 
+    /// Makes a hub, at which nothing was published so far.
+    fn hub(&mut self, alloc: Global, kind: HubKind, capacity: u64) -> Result<Answer<'_>, Trouble>
+        ensures answer { IfOk result (λ a. is_hub a ≡ true) }
+        ensures err { IfErr result IsTrouble }
+    {
+        self.published.reserve(1)?;
+        let hub = self.graph.hub(alloc, kind, capacity)?;
+        let nothing = StreamValue::new(Vec::new(alloc), Ending::Open);
+        self.published.push_reserved(nothing);
+        Ok(Answer::Hub(hub))
+    }
+
+    /// Publishes an item. It is kept first, since that alone may want memory, and let go where the hub refuses it.
+    fn emit(&mut self, alloc: Global, hub: HubId, number: i64) -> Result<Answer<'_>, Trouble>
+        ensures answer { IfOk result (λ a. is_done a ≡ true) }
+        ensures err { IfErr result IsTrouble }
+    {
+        let value = self.published_at(hub)?;
+        keep_item(alloc, value, Val::Int(number))?;
+        match self.graph.emit(hub, Val::Int(number)) {
+            Ok(()) => Ok(Answer::Done),
+            Err(back) => {
+                let_item_go(alloc, self.published_at(hub)?);
+                Err(Trouble::from(back.refusal))
+            }
+        }
+    }
+
+    /// Completes a hub.
+    fn complete(&mut self, alloc: Global, hub: HubId) -> Result<Answer<'_>, Trouble>
+        ensures answer { IfOk result (λ a. is_done a ≡ true) }
+        ensures err { IfErr result IsTrouble }
+    {
+        self.graph.complete(hub)?;
+        end(alloc, self.published_at(hub)?, Ending::Done);
+        Ok(Answer::Done)
+    }
+
+    /// Fails a hub with this number.
+    fn fail(&mut self, alloc: Global, hub: HubId, number: u32) -> Result<Answer<'_>, Trouble>
+        ensures answer { IfOk result (λ a. is_done a ≡ true) }
+        ensures err { IfErr result IsTrouble }
+    {
+        self.graph.fail(hub, number)?;
+        let failed = Ending::Failed(Cause::User(number));
+        end(alloc, self.published_at(hub)?, failed);
+        Ok(Answer::Done)
+    }
+
+    /// What was published at a hub; the refusal of an unknown one where there is none.
+    fn published_at(&mut self, hub: HubId) -> Result<&mut StreamValue<Val>, Trouble>
+        ensures { IfErr result IsTrouble }
+    {
+        match self.published.get_mut(hub.0 as usize) {
+            Some(value) => Ok(value),
+            None => Err(Trouble::from(Refusal::UnknownHub)),
+        }
+    }
+
     /// Subscribes, and keeps the expression for `show` and `check`.
-    fn subscribe(&mut self, alloc: Global, expr: Expr<Val>) -> Result<Answer<'_>, Trouble> {
+    fn subscribe(&mut self, alloc: Global, expr: Expr<Val>) -> Result<Answer<'_>, Trouble>
+        ensures answer { IfOk result (λ a. is_sub a ≡ true) }
+        ensures err { IfErr result IsTrouble }
+    {
+        self.records.reserve(1)?;
         let sub = self.graph.subscribe(alloc, &expr)?;
-        self.records.push(Record {
+        self.records.push_reserved(Record {
             expr,
             received: Vec::new(alloc),
             ending: Ending::Open,
-        })?;
+        });
         Ok(Answer::Sub(sub))
     }
 
     /// The error of a bad request is delivered at once (rule 3.9).
-    fn request(&mut self, sub: SubId, count: i64) -> Result<Answer<'_>, Trouble> {
+    fn request(&mut self, sub: SubId, count: i64) -> Result<Answer<'_>, Trouble>
+        ensures answer { IfOk result (λ a. is_done a ≡ true) }
+        ensures err { IfErr result IsTrouble }
+    {
         if let Some(signal) = self.graph.request(sub, count)? {
             self.take_in(sub, signal)?;
         }
@@ -157,13 +260,19 @@ impl Session {
     }
 
     /// A subscription that ended or was closed stays as it is (rule 3.7).
-    fn cancel(&mut self, sub: SubId) -> Result<Answer<'_>, Trouble> {
+    fn cancel(&mut self, sub: SubId) -> Result<Answer<'_>, Trouble>
+        ensures answer { IfOk result (λ a. is_done a ≡ true) }
+        ensures err { IfErr result IsTrouble }
+    {
         self.graph.cancel(sub)?;
         Ok(Answer::Done)
     }
 
     /// Makes at most so many moves, a slice of them at a time.
-    fn pump(&mut self, alloc: Global, budget: u32) -> Result<Answer<'_>, Trouble> {
+    fn pump(&mut self, alloc: Global, budget: u32) -> Result<Answer<'_>, Trouble>
+        ensures answer { IfOk result (λ a. is_pumped a ≡ true) }
+        ensures err { IfErr result IsTrouble }
+    {
         for _ in 0..budget / SLICE {
             if let Pumped::Idle = self.pump_slice(alloc, SLICE)? {
                 return Ok(Answer::Idle);
@@ -176,7 +285,9 @@ impl Session {
     }
 
     /// Makes at most so many moves, and takes in what they delivered.
-    fn pump_slice(&mut self, alloc: Global, budget: u32) -> Result<Pumped, Trouble> {
+    fn pump_slice(&mut self, alloc: Global, budget: u32) -> Result<Pumped, Trouble>
+        ensures { IfErr result IsTrouble }
+    {
         let spare = mem::replace(&mut self.spare, Vec::new(alloc));
         let mut deliveries = Deliveries::from_vec(spare);
         let pumped = self.graph.pump(alloc, budget, &mut deliveries)?;
@@ -190,7 +301,9 @@ impl Session {
 
     /// Takes in a signal to a subscriber.
     #[inline]
-    fn take_in(&mut self, sub: SubId, signal: Signal<Val>) -> Result<(), Trouble> {
+    fn take_in(&mut self, sub: SubId, signal: Signal<Val>) -> Result<(), Trouble>
+        ensures { IfErr result IsTrouble }
+    {
         let Some(record) = self.records.get_mut(sub.0 as usize) else {
             return Ok(());
         };
@@ -203,7 +316,10 @@ impl Session {
     }
 
     /// What `show` answers of a subscription.
-    fn show(&self, alloc: Global, sub: SubId) -> Result<Answer<'_>, Trouble> {
+    fn show(&self, alloc: Global, sub: SubId) -> Result<Answer<'_>, Trouble>
+        ensures answer { IfOk result (λ a. is_shown self.now.view a ≡ true) }
+        ensures err { IfErr result IsTrouble }
+    {
         match self.view {
             View::Received => self.show_received(alloc, sub),
             View::FromScratch => {
@@ -214,7 +330,10 @@ impl Session {
     }
 
     /// What a subscriber received, and the rest.
-    fn show_received(&self, alloc: Global, sub: SubId) -> Result<Answer<'_>, Trouble> {
+    fn show_received(&self, alloc: Global, sub: SubId) -> Result<Answer<'_>, Trouble>
+        ensures answer { IfOk result (λ a. is_received a ≡ true) }
+        ensures err { IfErr result IsTrouble }
+    {
         let record = self.record(sub)?;
         let rest = match self.graph.standing(sub)? {
             SubscriptionState::Cancelled => Rest::Cancelled,
@@ -234,14 +353,19 @@ impl Session {
         alloc: Global,
         sub: SubId,
         expr: &Expr<Val>,
-    ) -> Result<StreamValue<Val>, Trouble> {
+    ) -> Result<StreamValue<Val>, Trouble>
+        ensures { IfErr result IsTrouble }
+    {
         let notes = self.graph.notes(alloc, Tree::Sub(sub))?;
         let joins = self.graph.joins(alloc, Tree::Sub(sub))?;
-        Ok(scratch(alloc, &Demo, expr, &[], &joins, &notes)?)
+        Ok(scratch(alloc, &Demo, expr, &self.published, &joins, &notes)?)
     }
 
     /// Compares with the value of the expression, evaluated from scratch.
-    fn check(&self, alloc: Global, sub: SubId) -> Result<Answer<'_>, Trouble> {
+    fn check(&self, alloc: Global, sub: SubId) -> Result<Answer<'_>, Trouble>
+        ensures answer { IfOk result (λ a. is_compared a ≡ true) }
+        ensures err { IfErr result IsTrouble }
+    {
         let record = self.record(sub)?;
         let value = self.value(alloc, sub, &record.expr)?;
         let is_right = match self.graph.standing(sub)? {
