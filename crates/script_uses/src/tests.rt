@@ -187,6 +187,43 @@ fn deep_expressions(rt: HostRuntime) -> Result<(), Fail> {
     Ok(())
 }
 
+/// A line that a script has 65 times behind a first hub, with the word and the first number of its answers.
+const FILLED: [(&str, &str, u32); 2] = [
+    ("hub multicast 1\n", "hub", 1),
+    ("subscribe (hub 0)\n", "sub", 0),
+];
+
+/// The answers to a first hub and to 65 further lines: this word with each number up to 63, and then refusals.
+fn filled_answers(alloc: Global, word: &str, first: u32) -> Result<String, Fail> {
+    let mut answers = String::from_str(alloc, "hub 0\n")?;
+    for count in 0..65u32 {
+        let number = first.saturating_add(count);
+        if number < 64 {
+            writeln!(answers, "{word} {number}")?;
+        } else {
+            writeln!(answers, "refused G5")?;
+        }
+    }
+    Ok(answers)
+}
+
+/// A graph has at most 64 hubs, and a hub at most 64 readers.
+#[test]
+fn many_hubs(rt: HostRuntime) -> Result<(), Fail> {
+    for (line, word, first) in &FILLED {
+        let mut script = String::from_str(rt.alloc(), "hub multicast 1\n")?;
+        for _ in 0..65 {
+            script.push_str(line)?;
+        }
+        let answers = filled_answers(rt.alloc(), word, *first)?;
+        assert!(rt;
+            is_answered(rt.alloc(), script.as_bytes(), answers.as_bytes(), Ok(())),
+            "{word}"
+        );
+    }
+    Ok(())
+}
+
 /// The answers to the lines of the script that were read whole, a byte at each read.
 fn answered(reads: u64) -> &'static [u8] {
     match reads {
