@@ -3,7 +3,7 @@
 use rsx_demo::{Demo, Val};
 use rsx_graph::{Deliveries, Graph, MOST_HUBS, Pumped, Refusal};
 use rsx_model::{BadExpr, Expr};
-use rsx_types::{Cause, Ending, HubId, HubKind, Signal, StreamValue, SubId, Tree};
+use rsx_types::{Cause, Ending, HubId, HubKind, Move, Signal, StreamValue, SubId, Tree};
 use std::alloc::Global;
 use std::test::Fail;
 
@@ -43,7 +43,15 @@ fn emit(graph: &mut Graph<Demo>, number: i64) -> Result<(), Refusal> {
 /// Publishes a number that the hub takes in at once.
 fn publish(alloc: Global, graph: &mut Graph<Demo>, number: i64) -> Result<(), Refusal> {
     emit(graph, number)?;
-    graph.accept(alloc, HUB)
+    accept(alloc, graph)
+}
+
+/// The hub takes the next signal in.
+fn accept(alloc: Global, graph: &mut Graph<Demo>) -> Result<(), Refusal> {
+    match graph.make(alloc, Move::Accept(HUB))? {
+        None => Ok(()),
+        Some(_) => Err(Refusal::NoMemory),
+    }
 }
 
 /// Pumps until nothing is enabled, and answers what was delivered.
@@ -86,14 +94,13 @@ fn the_slowest_reader_holds_the_others_back(rt: HostRuntime) -> Result<(), Fail>
     publish(alloc, &mut graph, 1)?;
     assert!(rt; is_only(&pumped(alloc, &mut graph)?, FIRST, 1));
     emit(&mut graph, 2)?;
-    assert_eq!(rt; graph.accept(alloc, HUB), Err(Refusal::NotEnabled));
+    assert_eq!(rt; accept(alloc, &mut graph), Err(Refusal::NotEnabled));
     assert_eq!(rt; pumped(alloc, &mut graph)?.len(), 0);
     assert!(rt; is_open_with(&graph.owed(alloc, FIRST)?, 2));
     let owed = graph.owed(alloc, SECOND)?;
     assert!(rt; matches!(owed.items(), [Val::Int(1), Val::Int(2)]));
     assert_eq!(rt; owed.ending(), Ending::Open);
     graph.cancel(SECOND)?;
-    graph.accept(alloc, HUB)?;
     assert!(rt; is_only(&pumped(alloc, &mut graph)?, FIRST, 2));
     Ok(())
 }
@@ -133,7 +140,7 @@ fn calls_of_a_hub_are_refused_in_their_cases(rt: HostRuntime) -> Result<(), Fail
     assert_eq!(rt; emit(&mut graph, 1), Err(Refusal::UnknownHub));
     assert_eq!(rt; graph.complete(HUB), Err(Refusal::UnknownHub));
     assert_eq!(rt; graph.fail(HUB, 7), Err(Refusal::UnknownHub));
-    assert_eq!(rt; graph.accept(alloc, HUB), Err(Refusal::UnknownHub));
+    assert_eq!(rt; accept(alloc, &mut graph), Err(Refusal::UnknownHub));
     let nowhere = graph.subscribe(alloc, &Expr::Hub(HUB));
     assert!(rt; matches!(nowhere, Err(Refusal::BadExpr(BadExpr::Hub))));
     for capacity in [0, 1025] {
@@ -149,7 +156,7 @@ fn calls_of_a_hub_are_refused_in_their_cases(rt: HostRuntime) -> Result<(), Fail
             Err(Refusal::TooMany)
         )
     );
-    assert_eq!(rt; graph.accept(alloc, HUB), Err(Refusal::NotEnabled));
+    assert_eq!(rt; accept(alloc, &mut graph), Err(Refusal::NotEnabled));
     emit(&mut graph, 1)?;
     assert_eq!(rt; emit(&mut graph, 2), Err(Refusal::Full));
     graph.complete(HUB)?;
@@ -175,8 +182,6 @@ fn an_ending_comes_behind_the_items(rt: HostRuntime) -> Result<(), Fail> {
         let owed = graph.owed(alloc, FIRST)?;
         assert!(rt; matches!(owed.items(), [Val::Int(1)]));
         assert_eq!(rt; owed.ending(), ending);
-        graph.accept(alloc, HUB)?;
-        graph.accept(alloc, HUB)?;
         let out = pumped(alloc, &mut graph)?;
         let came = match out.as_slice() {
             [(_, Signal::Next(Val::Int(1))), (_, Signal::Complete)] => Ending::Done,

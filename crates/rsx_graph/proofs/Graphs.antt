@@ -1,5 +1,5 @@
 -- How the subscriptions of a graph stand together.
-use Rattle.std.proofs.Common.{◌≡◌, ℕ, ℤ, pos, negsuc, zero, suc, ◌+◌, ◌-◌, ◌<◌, ◌≤◌, List, [], ◌∷◌, ◌++◌, length, get_or, slice_get, refl, ap, sym, ◌∙◌, subst, arith, append_assoc, length-append, take, map, Option, Some, None, Result, Ok, Bool, true, false, ◌||◌, nat_eq, if◌then◌else◌, inl, inr}
+use Rattle.std.proofs.Common.{◌≡◌, ℕ, ℤ, pos, negsuc, zero, suc, ◌+◌, ◌-◌, ◌^◌, ◌<◌, ◌≤◌, List, [], ◌∷◌, ◌++◌, length, get_or, slice_get, refl, ap, sym, ◌∙◌, subst, arith, append_assoc, length-append, take, map, Option, Some, None, Result, Ok, Bool, true, false, ◌||◌, nat_eq, if◌then◌else◌, inl, inr}
 use Rattle.std.proofs.Math.ListN.{set}
 use Rattle.std.proofs.lemmas.Bool.Decides.{nat_tests}
 use Rattle.std.proofs.lemmas.List.{take_more, take_all, append-nil}
@@ -21,6 +21,7 @@ use Rattle.rsx_pipe.specs.declared.part.Pumped.TheVariants.{Idle as Rests, Budge
 use Rattle.rsx_pipe.proofs.Signals.{some_same}
 use Rattle.rsx_tree.proofs.Alike.{or_left, or_right}
 use Rattle.rsx_hub.specs.Hub.{HubState}
+use Rattle.rsx_subscriber.specs.Moves.{number_of}
 use Rattle.rsx_subscriber.specs.Past.{Past, given, requested, requested_in}
 use Rattle.rsx_subscriber.specs.Pumped.{IsPumped, IsMoved, Leads, IsQuiet, IsAwake, HasRested, given_all, to}
 use Rattle.rsx_subscriber.specs.Stands.{make_allocates, Stands, move_enabled_in, evaluated, owed_from, owes_in, standing_of, values_then}
@@ -35,7 +36,7 @@ use Rattle.rsx_graph.specs.declared.step.Step.{Step}
 use Rattle.rsx_graph.specs.declared.step.Answer.{Answer}
 use Rattle.rsx_graph.specs.History.{History, published, Belongs, AllBelong, IsSubscribeRefusal, IsMakeRefusal, changed, extended, all_extended, delivered, pasts_after, HasAsked, state_at, tree_of}
 use Rattle.rsx_graph.specs.Done.{IsDone, AllDone}
-use Rattle.rsx_graph.specs.Pumped.{AllPumped, IsMoveMade, AreQuiet, HasRestedAt, IsAllQuiet, IsAnyAwake}
+use Rattle.rsx_graph.specs.Pumped.{AllPumped, IsSubMoveMade, AreQuiet, HasRestedAt, IsSubAwake}
 use Rattle.rsx_graph.specs.Stands.{AllStand, GraphState, HubsStand, IsAsideSame, StandsFor, all_taken, pump_allocates, allocates_at, IsMade, enabled_in_tree, enabled_at, OwedAt}
 
 pub AllStand-push : {T : Type 0} (m : Meaning T) (published : List (Stream T)) (subs : List (Subscription T)) (pasts : List (Past T)) (s : Subscription T) (p : Past T) → Stands m published s p → AllStand m published subs pasts → AllStand m published (subs ++ s ∷ []) (pasts ++ p ∷ [])
@@ -162,7 +163,7 @@ set_there (x ∷ xs) zero a lt = refl
 set_there (x ∷ xs) (suc i) a lt = set_there xs i a (omega arith)
 
 -- a move of one subscription is a move of the graph
-move_there : {T : Type 0} (m : Meaning T) (id : SubId) (subs : List (Subscription T)) (old new : Subscription T) (o : Option (SubId × Signal T)) → id.0 < length subs → get_or subs id.0 old ≡ old → IsMoved m id old o new → IsMoveMade m subs o (set subs id.0 new)
+move_there : {T : Type 0} (m : Meaning T) (id : SubId) (subs : List (Subscription T)) (old new : Subscription T) (o : Option (SubId × Signal T)) → id.0 < length subs → get_or subs id.0 old ≡ old → IsMoved m id old o new → IsSubMoveMade m subs o (set subs id.0 new)
 move_there {T} m id subs old new o lt e v =
     let P : Tree → Type 0 = λ t. IsMade m v.move t subs (set subs id.0 new) o in
     record {
@@ -172,11 +173,11 @@ move_there {T} m id subs old new o lt e v =
       answer = v.answer;
     }
 
-leads_there : {T : Type 0} (m : Meaning T) (id : SubId) (n : ℕ) (subs : List (Subscription T)) (old new : Subscription T) (ds : List (SubId × Signal T)) → id.0 < length subs → get_or subs id.0 old ≡ old → Leads (IsMoved m id) n old ds new → Leads (IsMoveMade m) n subs ds (set subs id.0 new)
+leads_there : {T : Type 0} (m : Meaning T) (id : SubId) (n : ℕ) (subs : List (Subscription T)) (old new : Subscription T) (ds : List (SubId × Signal T)) → id.0 < length subs → get_or subs id.0 old ≡ old → Leads (IsMoved m id) n old ds new → Leads (IsSubMoveMade m) n subs ds (set subs id.0 new)
 leads_there m id zero subs old new ds lt e x = (x.0, set_same subs id.0 old new lt e x.1)
 leads_there {T} m id (suc n) subs old new ds lt e x =
     let mid : Subscription T = x.0 in
-    let P : List (Subscription T) → Type 0 = λ l. Leads (IsMoveMade m) n (set subs id.0 mid) x.2 l in
+    let P : List (Subscription T) → Type 0 = λ l. Leads (IsSubMoveMade m) n (set subs id.0 mid) x.2 l in
     let within : id.0 < length (set subs id.0 mid) = rw (set_count subs id.0 mid) lt in (
       set subs id.0 mid,
       x.1,
@@ -205,7 +206,7 @@ pub pumped_on : {T : Type 0} (m : Meaning T) (n k : ℕ) (s1 s2 s3 : List (Subsc
 pumped_on {T} m n k s1 s2 s3 o1 o2 o3 a b = record {
   signals = a.signals ++ b.signals;
   output = b.output ∙ (ap (λ o. o ++ b.signals) a.output ∙ append_assoc o1 a.signals b.signals);
-  moves = leads_on (IsMoveMade m) n k s1 s2 s3 a.signals b.signals a.moves b.moves;
+  moves = leads_on (IsSubMoveMade m) n k s1 s2 s3 a.signals b.signals a.moves b.moves;
   stands = λ published ps s. let P : List (Past T) → Type 0 = λ l. AllStand m published s3 l in subst P (sym (pasts_append ps a.signals b.signals)) (b.stands published (pasts_after a.signals ps) (a.stands published ps s));
   alike = λ p. b.alike p ∙ a.alike p;
 }
@@ -227,7 +228,11 @@ quiet_there m (x ∷ subs) (suc i) new q h (suc j) l s e = quiet_there m subs i 
 pub none_quiet : {T : Type 0} (m : Meaning T) (subs : List (Subscription T)) → AreQuiet m subs 0
 none_quiet m subs j l s e = absurd (omega arith)
 
-pub all_quiet : {T : Type 0} (m : Meaning T) (subs : List (Subscription T)) (n : ℕ) → length subs ≤ n → AreQuiet m subs n → IsAllQuiet m subs
+-- the first so many are all of them
+pub quiet_up_to : {T : Type 0} (m : Meaning T) (subs : List (Subscription T)) (n : ℕ) → length subs ≤ n → AreQuiet m subs n → AreQuiet m subs (length subs)
+quiet_up_to m subs n l q i lt s e = q i (omega (arith, l, lt)) s e
+
+pub all_quiet : {T : Type 0} (m : Meaning T) (subs : List (Subscription T)) (n : ℕ) → length subs ≤ n → AreQuiet m subs n → (mv : Move) → number_of mv < 2 ^ 32 → enabled_in_tree m subs (tree_of mv) mv ≡ false
 all_quiet {T} m subs n lt h mv small = in_tree (tree_of mv)
   where
     within : (ss : List (Subscription T)) (j : ℕ) (s : Subscription T) → slice_get ss j ≡ Some s → j < length ss
@@ -244,7 +249,7 @@ all_quiet {T} m subs n lt h mv small = in_tree (tree_of mv)
     in_tree (Sub i) = none_at subs i.0 (λ j s e. let k = within subs j s e in h j (omega (arith, k, lt)) s e)
     in_tree (Feed f) = refl
 
-pub any_awake : {T : Type 0} (m : Meaning T) (subs : List (Subscription T)) (i : ℕ) (sub : Subscription T) → i < length subs → get_or subs i sub ≡ sub → IsAwake m sub → IsAnyAwake m subs
+pub any_awake : {T : Type 0} (m : Meaning T) (subs : List (Subscription T)) (i : ℕ) (sub : Subscription T) → i < length subs → get_or subs i sub ≡ sub → IsAwake m sub → IsSubAwake m subs
 any_awake m subs i sub lt e h = elim h.2 [
   | inl a ↦ (Ask (Sub (record { 0 = i })) (record { 0 = h.0 }), enabled_there m subs i sub _ lt e ∙ a)
   | inr b ↦ elim b [
@@ -410,5 +415,8 @@ pumped_stands {T} m n old new before after k aside h s =
 pub state_same : {T : Type 0} (old new : GraphState T) → IsAsideSame old new → new.subs ≡ old.subs → new ≡ old
 state_same old new aside subs i = record { hubs = aside.0 i; subs = subs i; joins = aside.1 i }
 
-pub make_refusal : (a b : ℕ) (enabled : Bool) (t : Tree) (r : Refusal) → a ≡ b → IsMakeRefusal a enabled t r → IsMakeRefusal b enabled t r
-make_refusal a b enabled t r s h = let P : ℕ → Type 0 = λ n. IsMakeRefusal n enabled t r in subst P s h
+pub make_refusal : (hubs hubs' a b : ℕ) (enabled : Bool) (mv : Move) (r : Refusal) → hubs ≡ hubs' → a ≡ b → IsMakeRefusal hubs a enabled mv r → IsMakeRefusal hubs' b enabled mv r
+make_refusal hubs hubs' a b enabled mv r t s h =
+    let P : ℕ → Type 0 = λ n. IsMakeRefusal hubs' n enabled mv r in
+    let Q : ℕ → Type 0 = λ n. IsMakeRefusal n a enabled mv r in
+    subst P s (subst Q t h)

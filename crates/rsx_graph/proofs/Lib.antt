@@ -1,3 +1,4 @@
+pub mod Driving
 pub mod Graphs
 pub mod Inboxes
 pub mod Joins

@@ -36,9 +36,9 @@ use Rattle.rsx_subscriber.specs.declared.subscription.Subscription.{Subscription
 use Rattle.rsx_subscriber.proofs.Values.{refusal_more}
 use Rattle.rsx_graph.specs.declared.refusal.Refusal.{Refusal}
 use Rattle.rsx_graph.specs.declared.refusal.Refusal.TheVariants.{UnknownHub, UnknownSub, Ended, Full, TooMany, BadExpr, NotEnabled, NoMemory}
-use Rattle.rsx_graph.specs.History.{History, HubPast, IsHubRefusal, IsPublishRefusal, accepted_at, changed, published_at, with_accepted, with_hub, with_published}
+use Rattle.rsx_graph.specs.History.{History, HubPast, IsAcceptRefusal, IsHubRefusal, IsPublishRefusal, accepted_at, changed, published_at, with_accepted, with_hub, with_published}
 use Rattle.rsx_types.specs.declared.names.HubId.{HubId}
-use Rattle.rsx_graph.specs.Hubs.{IsAcceptedAt, IsAcceptRefusal, IsCopyRefusal, IsEndRefusal, accepts_at, accepts_in}
+use Rattle.rsx_graph.specs.Hubs.{IsAcceptedAt, IsCopyRefusal, IsEndRefusal, accepts_at, accepts_in}
 use Rattle.rsx_graph.specs.Stands.{AllStand, GraphState, HubStands, HubsStand, StandsFor, all_taken, taken_of}
 use Rattle.rsx_graph.proofs.Graphs.{set_same}
 use Rattle.rsx_graph.proofs.Inboxes.{taken_items}

@@ -24,12 +24,12 @@ enabled_got m [] i sub mv e = cc
 enabled_got m (s ∷ subs) zero sub mv e = ap (λ t. move_enabled_in m t mv) (some_same s sub e)
 enabled_got m (s ∷ subs) (suc i) sub mv e = past_first (move_enabled_in m s mv) (enabled_at m subs (suc i - 1) mv) i ∙ (ap (λ k. enabled_at m subs k mv) (suc_less i) ∙ enabled_got m subs i sub mv e)
 
-quiet_got : {T : Type 0} (m : Meaning T) (subs : List (Subscription T)) (i : ℕ) (sub : Subscription T) → IsAllQuiet m subs → slice_get subs i ≡ Some sub → IsQuiet m sub
-quiet_got m subs i sub q e at l =
+quiet_got : {T : Type 0} (m : Meaning T) (g : GraphState T) (i : ℕ) (sub : Subscription T) → IsAllQuiet m g → slice_get g.subs i ≡ Some sub → IsQuiet m sub
+quiet_got m g i sub q e at l =
     let a : Move = Ask (Sub (record { 0 = i })) (record { 0 = at }) in
     let s : Move = Send (Sub (record { 0 = i })) (record { 0 = at }) in
     let t : Move = Take (Sub (record { 0 = i })) (record { 0 = at }) in
-    (sym (enabled_got m subs i sub a e) ∙ q a l, sym (enabled_got m subs i sub s e) ∙ q s l, sym (enabled_got m subs i sub t e) ∙ q t l)
+    (sym (enabled_got m g.subs i sub a e) ∙ q a l, sym (enabled_got m g.subs i sub s e) ∙ q s l, sym (enabled_got m g.subs i sub t e) ∙ q t l)
 
 each_served : {T : Type 0} (m : Meaning T) (taken waiting : List (Stream T)) (subs : List (Subscription T)) (pasts : List (Past T)) → ((i : ℕ) (s : Subscription T) → slice_get subs i ≡ Some s → IsQuiet m s) → AllStand m taken subs pasts → AllServed m (values_then taken waiting) subs pasts
 each_served m taken waiting [] [] q h = tt
@@ -37,7 +37,7 @@ each_served m taken waiting (s ∷ ss) (p ∷ ps) q h = ((λ live alone within v
 each_served m taken waiting [] (p ∷ ps) q h = absurd h
 each_served m taken waiting (s ∷ ss) [] q h = absurd h
 
-pub all_served : {T : Type 0} (m : Meaning T) (h : History T) (graph : GraphState T) → IsAllQuiet m graph.subs → StandsFor m graph h → AllServed m (published h) graph.subs h.pasts
+pub all_served : {T : Type 0} (m : Meaning T) (h : History T) (graph : GraphState T) → IsAllQuiet m graph → StandsFor m graph h → AllServed m (published h) graph.subs h.pasts
 all_served {T} m h graph q s =
     let P : List (Stream T) → Type 0 = λ l. AllServed m l graph.subs h.pasts in
-    subst P (all_whole graph.hubs h.hubs s.hub) (each_served m (all_taken graph.hubs h.hubs) (inboxes graph.hubs) graph.subs h.pasts (λ i t e. quiet_got m graph.subs i t q e) s.all)
+    subst P (all_whole graph.hubs h.hubs s.hub) (each_served m (all_taken graph.hubs h.hubs) (inboxes graph.hubs) graph.subs h.pasts (λ i t e. quiet_got m graph i t q e) s.all)

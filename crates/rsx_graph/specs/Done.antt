@@ -7,14 +7,15 @@ use Rattle.rsx_graph.specs.Begun.{HaveJoined, IsSubscribed}
 use Rattle.rsx_types.specs.declared.signal.Cause.TheVariants.{User}
 use Rattle.rsx_types.specs.declared.signal.Ending.TheVariants.{Done, Failed}
 use Rattle.rsx_hub.specs.Hub.{fresh_hub}
-use Rattle.rsx_graph.specs.Hubs.{IsAcceptedAt, IsAcceptRefusal, IsCopyRefusal, IsEmittedAt, IsEndedAt, IsEndRefusal, accepts_at}
-use Rattle.rsx_graph.specs.History.{IsHubRefusal, IsSubscribeId, IsSubscribeRefusal, IsMakeRefusal, tree_of}
-use Rattle.rsx_graph.specs.Stands.{GraphState, IsAsideSame, IsRestSame, IsMade, IsRequestedAt, IsCancelledAt, enabled_in_tree, allocates_in_tree}
+use Rattle.rsx_graph.specs.Hubs.{IsCopyRefusal, IsEmittedAt, IsEndedAt, IsEndRefusal}
+use Rattle.rsx_graph.specs.History.{IsHubRefusal, IsSubscribeId, IsSubscribeRefusal, IsMakeRefusal}
+use Rattle.rsx_graph.specs.Stands.{GraphState, IsAsideSame, IsRestSame, IsRequestedAt, IsCancelledAt}
+use Rattle.rsx_graph.specs.Moves.{IsMoved, is_enabled, may_allocate}
 use Rattle.rsx_graph.specs.declared.refusal.Refusal.TheVariants.{UnknownSub, NoMemory}
 use Rattle.rsx_graph.specs.declared.step.Answer.{Answer}
-use Rattle.rsx_graph.specs.declared.step.Answer.TheVariants.{Opened, Published, Accepted, Subscribed, Requested, Cancelled as CancelTaken, Made, Refused as NotDone}
+use Rattle.rsx_graph.specs.declared.step.Answer.TheVariants.{Opened, Published, Subscribed, Requested, Cancelled as CancelTaken, Made, Refused as NotDone}
 use Rattle.rsx_graph.specs.declared.step.Step.{Step}
-use Rattle.rsx_graph.specs.declared.step.Step.TheVariants.{Hub, Emit, Complete, Fail, Accept, Subscribe, Request, Cancel, Make}
+use Rattle.rsx_graph.specs.declared.step.Step.TheVariants.{Hub, Emit, Complete, Fail, Subscribe, Request, Cancel, Make}
 
 -- what a step did: the subscriptions after it from those before it, by the answer. A refused step left all as it was, and
 -- each refusal comes in its case
@@ -26,11 +27,9 @@ IsDone m a old (Request i n) (Requested o) new = IsRequestedAt i.0 n old.subs ne
 IsDone m a old (Request i n) (NotDone r) new = (r ≡ UnknownSub) × (length old.subs ≤ i.0) × (new ≡ old)
 IsDone m a old (Cancel i) CancelTaken new = IsCancelledAt i.0 old.subs new.subs × IsAsideSame old new
 IsDone m a old (Cancel i) (NotDone r) new = (r ≡ UnknownSub) × (length old.subs ≤ i.0) × (new ≡ old)
-IsDone m a old (Make mv) (Made o) new =
-    (enabled_in_tree m old.subs (tree_of mv) mv ≡ true) × IsMade m mv (tree_of mv) old.subs new.subs o × IsMadeAnswer mv o × IsAsideSame old new
+IsDone m a old (Make mv) (Made o) new = (is_enabled m old mv ≡ true) × IsMoved m mv old new o × IsMadeAnswer mv o
 IsDone m a old (Make mv) (NotDone r) new =
-    IsMakeRefusal (length old.subs) (enabled_in_tree m old.subs (tree_of mv) mv) (tree_of mv) r
-    × (allocates_in_tree a old.subs (tree_of mv) mv ≡ false → r ≢ NoMemory) × (new ≡ old)
+    IsMakeRefusal (length old.hubs) (length old.subs) (is_enabled m old mv) mv r × (may_allocate a old mv ≡ false → r ≢ NoMemory) × (new ≡ old)
 IsDone m a old (Hub k c) (Opened i) new = (i.0 ≡ length old.hubs) × (new.hubs ≡ old.hubs ++ fresh_hub k c ∷ []) × IsRestSame old new
 IsDone m a old (Hub k c) (NotDone r) new = IsHubRefusal k c (length old.hubs) r × (new ≡ old)
 IsDone m a old (Emit i x) Published new = IsEmittedAt i.0 x old.hubs new.hubs × IsRestSame old new
@@ -39,8 +38,6 @@ IsDone m a old (Complete i) Published new = IsEndedAt i.0 Done old.hubs new.hubs
 IsDone m a old (Complete i) (NotDone r) new = IsEndRefusal old.hubs (length old.hubs) i.0 r × (new ≡ old)
 IsDone m a old (Fail i n) Published new = IsEndedAt i.0 (Failed (User n)) old.hubs new.hubs × IsRestSame old new
 IsDone m a old (Fail i n) (NotDone r) new = IsEndRefusal old.hubs (length old.hubs) i.0 r × (new ≡ old)
-IsDone m a old (Accept i) Accepted new = IsAcceptedAt i.0 old new
-IsDone m a old (Accept i) (NotDone r) new = IsAcceptRefusal (length old.hubs) (accepts_at old i.0) i.0 r × (new ≡ old)
 IsDone m a old s answer new = ⊥
 
 -- the steps were made one after the other, each of them with its answer

@@ -12,6 +12,8 @@ use Rattle.rsx_pipe.specs.Output.{with_signal}
 use Rattle.rsx_types.specs.Stream.{Stream, ended_by}
 use Rattle.rsx_types.specs.declared.names.HubId.{HubId}
 use Rattle.rsx_types.specs.declared.names.HubKind.{HubKind}
+use Rattle.rsx_types.specs.declared.names.Move.{Move}
+use Rattle.rsx_types.specs.declared.names.Move.TheVariants.{Ask, Send, Take, Accept}
 use Rattle.rsx_types.specs.declared.signal.Ending.TheVariants.{Open}
 use Rattle.rsx_types.specs.declared.names.SubId.{SubId}
 use Rattle.rsx_types.specs.declared.names.Tree.{Tree}
@@ -22,9 +24,9 @@ use Rattle.rsx_types.specs.declared.signal.Signal.TheVariants.{Next, Complete as
 use Rattle.rsx_model.specs.declared.check.BadExpr.TheVariants.{Number}
 use Rattle.rsx_graph.specs.declared.graph.TheConstants.{MOST_HUBS, MOST_SUBSCRIPTIONS}
 use Rattle.rsx_graph.specs.declared.step.Step.{Step}
-use Rattle.rsx_graph.specs.declared.step.Step.TheVariants.{Hub, Emit, Complete, Fail, Accept, Subscribe, Request, Cancel, Make}
+use Rattle.rsx_graph.specs.declared.step.Step.TheVariants.{Hub, Emit, Complete, Fail, Subscribe, Request, Cancel, Make}
 use Rattle.rsx_graph.specs.declared.step.Answer.{Answer}
-use Rattle.rsx_graph.specs.declared.step.Answer.TheVariants.{Opened, Published, Accepted, Subscribed, Requested, Cancelled as CancelTaken, Made, Refused as NotDone}
+use Rattle.rsx_graph.specs.declared.step.Answer.TheVariants.{Opened, Published, Subscribed, Requested, Cancelled as CancelTaken, Made, Refused as NotDone}
 use Rattle.rsx_graph.specs.declared.refusal.Refusal.{Refusal}
 use Rattle.rsx_graph.specs.declared.refusal.Refusal.TheVariants.{UnknownHub, UnknownSub, Ended, Full, TooMany, BadExpr, NotEnabled, NoMemory}
 
@@ -81,22 +83,28 @@ accepted_at p = record { kind = p.kind; value = p.value; count = if nat_lt p.cou
 abbrev pub with_accepted : {T : Type 0} → HubId → History T → History T
 with_accepted i h = record { hubs = changed accepted_at h.hubs i.0; pasts = h.pasts }
 
+-- this was delivered, if anything was
+abbrev pub with_delivery : {T : Type 0} → Option (SubId × Signal T) → History T → History T
+with_delivery None h = h
+with_delivery (Some d) h = with_past (given d.1) d.0 h
+
 -- a move was made, and delivered this
-abbrev pub with_made : {T : Type 0} → Option (SubId × Signal T) → History T → History T
-with_made None h = h
-with_made (Some d) h = with_past (given d.1) d.0 h
+abbrev pub with_made : {T : Type 0} → Move → Option (SubId × Signal T) → History T → History T
+with_made (Ask t n) o h = with_delivery o h
+with_made (Send t n) o h = with_delivery o h
+with_made (Take t n) o h = with_delivery o h
+with_made (Accept i) o h = with_accepted i h
 
 -- the history after one step with its answer
 abbrev pub extended : {T : Type 0} → History T → Step T → Answer T → History T
 extended h (Subscribe e) (Subscribed i) = with_subscriber e h
 extended h (Request i n) (Requested o) = with_past (requested n) i h
 extended h (Cancel i) CancelTaken = with_past cancelled i h
-extended h (Make mv) (Made o) = with_made o h
+extended h (Make mv) (Made o) = with_made mv o h
 extended h (Hub k c) (Opened i) = with_hub k h
 extended h (Emit i x) Published = with_published (Next x) i h
 extended h (Complete i) Published = with_published Completion i h
 extended h (Fail i n) Published = with_published (Error (User n)) i h
-extended h (Accept i) Accepted = with_accepted i h
 extended h s a = h
 
 -- the history after a list of steps with their answers
@@ -138,14 +146,29 @@ IsSubscribeRefusal hubs count e NotEnabled = ⊥
 IsSubscribeRefusal hubs count e Ended = ⊥
 IsSubscribeRefusal hubs count e Full = ⊥
 
--- why a move is refused: an unknown name first, then a move that isn't enabled, and memory last
-abbrev pub IsMakeRefusal : ℕ → Bool → Tree → Refusal → Type 0
-IsMakeRefusal count enabled (Feed h) UnknownHub = Unit {0}
-IsMakeRefusal count enabled (Feed h) _ = ⊥
-IsMakeRefusal count enabled (Sub i) UnknownSub = count ≤ i.0
-IsMakeRefusal count enabled (Sub i) NotEnabled = (i.0 < count) × (enabled ≡ false)
-IsMakeRefusal count enabled (Sub i) NoMemory = (i.0 < count) × (enabled ≡ true)
-IsMakeRefusal count enabled (Sub i) _ = ⊥
+-- why a move in a tree is refused: an unknown name first, then a move that isn't enabled, and memory last
+abbrev pub IsTreeMoveRefusal : ℕ → Bool → Tree → Refusal → Type 0
+IsTreeMoveRefusal count enabled (Feed h) UnknownHub = Unit {0}
+IsTreeMoveRefusal count enabled (Feed h) _ = ⊥
+IsTreeMoveRefusal count enabled (Sub i) UnknownSub = count ≤ i.0
+IsTreeMoveRefusal count enabled (Sub i) NotEnabled = (i.0 < count) × (enabled ≡ false)
+IsTreeMoveRefusal count enabled (Sub i) NoMemory = (i.0 < count) × (enabled ≡ true)
+IsTreeMoveRefusal count enabled (Sub i) _ = ⊥
+
+-- why a hub takes nothing in: an unknown hub first, then one that has nothing to take in or no room at its readers, and memory
+-- last
+abbrev pub IsAcceptRefusal : ℕ → Bool → ℕ → Refusal → Type 0
+IsAcceptRefusal count can i UnknownHub = count ≤ i
+IsAcceptRefusal count can i NotEnabled = (i < count) × (can ≡ false)
+IsAcceptRefusal count can i NoMemory = (i < count) × (can ≡ true)
+IsAcceptRefusal count can i r = ⊥
+
+-- why a move is refused, where there are so many hubs and so many subscriptions
+abbrev pub IsMakeRefusal : ℕ → ℕ → Bool → Move → Refusal → Type 0
+IsMakeRefusal hubs count enabled (Ask t n) r = IsTreeMoveRefusal count enabled t r
+IsMakeRefusal hubs count enabled (Send t n) r = IsTreeMoveRefusal count enabled t r
+IsMakeRefusal hubs count enabled (Take t n) r = IsTreeMoveRefusal count enabled t r
+IsMakeRefusal hubs count enabled (Accept i) r = IsAcceptRefusal hubs enabled i.0 r
 
 -- why a hub is not made, where there are so many: its numbers first, then the limit, and memory last
 abbrev pub IsHubRefusal : HubKind → ℕ → ℕ → Refusal → Type 0
@@ -163,6 +186,13 @@ abbrev pub IsPublishRefusal : ℕ → ℕ → Refusal → Type 0
 IsPublishRefusal count i UnknownHub = count ≤ i
 IsPublishRefusal count i r = i < count
 
+-- the hub of an Accept is there
+abbrev pub IsOfKnownHub : ℕ → Move → Type 0
+IsOfKnownHub count (Ask t n) = Unit {0}
+IsOfKnownHub count (Send t n) = Unit {0}
+IsOfKnownHub count (Take t n) = Unit {0}
+IsOfKnownHub count (Accept i) = i.0 < count
+
 -- an answer that belongs to a step after this history: its names are those of the history, and a refusal comes in its case
 abbrev pub Belongs : {T : Type 0} → History T → Step T → Answer T → Type 0
 Belongs h (Subscribe e) (Subscribed i) = IsSubscribeId (length h.hubs) (length h.pasts) e i
@@ -171,8 +201,8 @@ Belongs h (Request i n) (Requested o) = (s : SubscriptionState) × (state_at h.p
 Belongs h (Request i n) (NotDone r) = (r ≡ UnknownSub) × (length h.pasts ≤ i.0)
 Belongs h (Cancel i) CancelTaken = i.0 < length h.pasts
 Belongs h (Cancel i) (NotDone r) = (r ≡ UnknownSub) × (length h.pasts ≤ i.0)
-Belongs h (Make mv) (Made o) = IsMadeAnswer mv o
-Belongs h (Make mv) (NotDone r) = (enabled : Bool) × IsMakeRefusal (length h.pasts) enabled (tree_of mv) r
+Belongs h (Make mv) (Made o) = IsMadeAnswer mv o × IsOfKnownHub (length h.hubs) mv
+Belongs h (Make mv) (NotDone r) = (enabled : Bool) × IsMakeRefusal (length h.hubs) (length h.pasts) enabled mv r
 Belongs h (Hub k c) (Opened i) = (i.0 ≡ length h.hubs) × (are_numbers k c ≡ true)
 Belongs h (Hub k c) (NotDone r) = IsHubRefusal k c (length h.hubs) r
 Belongs h (Emit i x) Published = i.0 < length h.hubs
@@ -181,8 +211,6 @@ Belongs h (Complete i) Published = i.0 < length h.hubs
 Belongs h (Complete i) (NotDone r) = IsPublishRefusal (length h.hubs) i.0 r
 Belongs h (Fail i n) Published = i.0 < length h.hubs
 Belongs h (Fail i n) (NotDone r) = IsPublishRefusal (length h.hubs) i.0 r
-Belongs h (Accept i) Accepted = i.0 < length h.hubs
-Belongs h (Accept i) (NotDone r) = IsPublishRefusal (length h.hubs) i.0 r
 Belongs h s a = ⊥
 
 -- each answer belongs to its step

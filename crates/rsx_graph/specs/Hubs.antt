@@ -1,7 +1,7 @@
 -- What the calls of a graph's hubs change, and why they are refused.
-use Rattle.std.specs.Prelude.{◌≡◌, ℕ, ◌≤◌, ◌<◌, Bool, true, false, List, length, Option, Some, None, slice_get, slice_set}
+use Rattle.std.specs.Prelude.{◌≡◌, ℕ, ◌≤◌, ◌<◌, Bool, true, false, ◌||◌, List, [], ◌∷◌, length, Option, Some, None, is_some, slice_get, slice_set}
 use Rattle.rsx_types.specs.declared.signal.Ending.{Ending}
-use Rattle.rsx_hub.specs.Hub.{HubState, accepted_items, accepts_items, emitted, ended_with}
+use Rattle.rsx_hub.specs.Hub.{HubState, accepted_items, accepts_items, emitted, ended_with, waiting}
 use Rattle.rsx_hub.specs.Waiting.{is_open}
 use Rattle.rsx_hub.specs.declared.TheConstants.{MOST_ACCEPTED}
 use Rattle.rsx_publishing.specs.Publishing.{IsAccepted as IsAcceptedBy, can_accept}
@@ -76,9 +76,7 @@ accepts_in g (Some hub) i = can_accept i hub g.subs
 abbrev pub accepts_at : {T : Type 0} → GraphState T → ℕ → Bool
 accepts_at g i = accepts_in g (slice_get g.hubs i) i
 
--- why it doesn't: an unknown hub first, then one that has nothing to take in or no room at its readers, and memory last
-abbrev pub IsAcceptRefusal : ℕ → Bool → ℕ → Refusal → Type 0
-IsAcceptRefusal count can i UnknownHub = count ≤ i
-IsAcceptRefusal count can i NotEnabled = (i < count) × (can ≡ false)
-IsAcceptRefusal count can i NoMemory = (i < count) × (can ≡ true)
-IsAcceptRefusal count can i r = ⊥
+-- a signal waits in the inbox of one of these hubs
+abbrev pub signals_wait : {T : Type 0} → List (HubState T) → Bool
+signals_wait [] = false
+signals_wait (h ∷ hs) = is_some (waiting h) || signals_wait hs

@@ -5,6 +5,7 @@ pub mod Headline
 pub mod History
 pub mod Hubs
 pub mod InGraph
+pub mod Moves
 pub mod Names
 pub mod Pumped
 pub mod Replayed

@@ -43,7 +43,7 @@ pub struct Graph<O: Ops> {
 }
 
 impl<O: Ops> Graph<O> {
-    ghost use Rattle.rsx_graph.specs.InGraph.{state_of, IfStandsFor, StandsAfter, enabled_in, allocates_in, IsMadeIn, IsRefusedIn, HasPumped, HasPumpedAt, IsDoneIn, AllDoneIn};
+    ghost use Rattle.rsx_graph.specs.InGraph.{state_of, IfStandsFor, StandsAfter, enabled_in, allocates_in, IsMadeIn, IsRefusedIn, enabled_inside, allocates_inside, IsMadeInside, IsRefusedInside, drives_allocate_in, HasPumped, HasDriven, HasPumpedAt, IsDoneIn, AllDoneIn};
 
     /// A graph with no hub and no subscription. It takes no memory so far, and is never refused.
     pub fn new(alloc: Global, ops: O) -> Result<Graph<O>, Refusal>
@@ -141,28 +141,30 @@ impl<O: Ops> Graph<O> {
         Ok(subscription.request(n))
     }
 
-    /// Makes one move. A Take from the root edge of a subscription answers the signal that it delivered.
+    /// Makes one move. A Take from the root edge of a subscription answers the signal that it delivered. An Accept takes the signal
+    /// in that waits in front of a hub's inbox, and each node that reads the hub gets it: an item only where all of them have
+    /// room, so the slowest reader holds the others back (rule 1.1), and nobody loses an item.
     ///
     /// # Errors
-    /// G1 and G2 for a tree that isn't there, else G7 exactly where the move isn't enabled, and G8 where a growth was refused.
-    /// An Ask and a Take allocate nothing, and a Send only where its receiver is a `buffer` or a `distinct`, or where a
-    /// function of the caller's that it calls may.
+    /// G1 for a hub that isn't there and for the tree of a hub, G2 for a subscription that isn't there, else G7 exactly where the
+    /// move isn't enabled, and G8 where a growth was refused; nothing changed. An Ask and a Take allocate nothing, a Send only
+    /// where its receiver is a `buffer` or a `distinct`, or where a function of the caller's that it calls may, and an Accept may
+    /// where a node reads its hub.
     pub fn make(
         &mut self,
         alloc: Global,
         step: Move,
     ) -> Result<Option<(SubId, Signal<O::Item>)>, Refusal>
         ensures ops { self.new.ops ≡ self.old.ops }
-        ensures aside { IsAsideSame (state_of self.old) (state_of self.new) }
-        ensures stands { IfOk result (λ o. StandsAfter (with_made o) self.old self.new) }
+        ensures stands { IfOk result (λ o. StandsAfter (with_made step o) self.old self.new) }
         ensures answer { IfOk result (λ o. IsMadeAnswer step o) }
-        ensures enabled { OnOk result (enabled_in self.old (tree_of step) step ≡ true) }
-        ensures effect { IfOk result (λ o. IsMadeIn (tree_of step) step self.old self.new o) }
-        ensures err { IfErr result (λ r. IsRefusedIn (tree_of step) step self.old r) }
+        ensures enabled { OnOk result (enabled_in self.old step ≡ true) }
+        ensures effect { IfOk result (λ o. IsMadeIn step self.old self.new o) }
+        ensures err { IfErr result (λ r. IsRefusedIn step self.old r) }
 
         // An enabled move that takes no memory is made.
-        ensures memory { allocates_in self.old (tree_of step) step ≡ false → IfErr result (λ r. r ≢ Refusal.NoMemory) }
-        ensures same { OnErr result (self.new.subscriptions.items ≡ self.old.subscriptions.items) }
+        ensures memory { allocates_in self.old step ≡ false → IfErr result (λ r. r ≢ Refusal.NoMemory) }
+        ensures same { OnErr result (state_of self.new ≡ state_of self.old) }
     {
         match step {
             Move::Ask(Tree::Sub(sub), _) | Move::Send(Tree::Sub(sub), _) => {
@@ -173,6 +175,10 @@ impl<O: Ops> Graph<O> {
             }
             Move::Take(Tree::Sub(sub), node) => match self.make_take(sub, node) {
                 Ok(signal) => Ok(Some((sub, signal))),
+                Err(why) => Err(why),
+            },
+            Move::Accept(hub) => match self.accept(alloc, hub) {
+                Ok(()) => Ok(None),
                 Err(why) => Err(why),
             },
             Move::Ask(Tree::Feed(_), _)
@@ -187,10 +193,10 @@ impl<O: Ops> Graph<O> {
         ensures ops { self.new.ops ≡ self.old.ops }
         ensures aside { IsAsideSame (state_of self.old) (state_of self.new) }
         ensures stands { OnOk result (StandsAfter (λ h. h) self.old self.new) }
-        ensures enabled { OnOk result (enabled_in self.old (Tree.Sub sub) step ≡ true) }
-        ensures effect { OnOk result (IsMadeIn (Tree.Sub sub) step self.old self.new None) }
-        ensures err { IfErr result (λ r. IsRefusedIn (Tree.Sub sub) step self.old r) }
-        ensures memory { allocates_in self.old (Tree.Sub sub) step ≡ false → IfErr result (λ r. r ≢ Refusal.NoMemory) }
+        ensures enabled { OnOk result (enabled_inside self.old (Tree.Sub sub) step ≡ true) }
+        ensures effect { OnOk result (IsMadeInside (Tree.Sub sub) step self.old self.new None) }
+        ensures err { IfErr result (λ r. IsRefusedInside (Tree.Sub sub) step self.old r) }
+        ensures memory { allocates_inside self.old (Tree.Sub sub) step ≡ false → IfErr result (λ r. r ≢ Refusal.NoMemory) }
         ensures same { OnErr result (self.new.subscriptions.items ≡ self.old.subscriptions.items) }
     {
         let at = sub.0 as usize;
@@ -211,9 +217,9 @@ impl<O: Ops> Graph<O> {
         ensures ops { self.new.ops ≡ self.old.ops }
         ensures aside { IsAsideSame (state_of self.old) (state_of self.new) }
         ensures stands { IfOk result (λ s. StandsAfter (with_past (given s) sub) self.old self.new) }
-        ensures enabled { OnOk result (enabled_in self.old (Tree.Sub sub) (Move.Take (Tree.Sub sub) node) ≡ true) }
-        ensures effect { IfOk result (λ s. IsMadeIn (Tree.Sub sub) (Move.Take (Tree.Sub sub) node) self.old self.new (Some (sub, s))) }
-        ensures err { IfErr result (λ r. IsRefusedIn (Tree.Sub sub) (Move.Take (Tree.Sub sub) node) self.old r) }
+        ensures enabled { OnOk result (enabled_inside self.old (Tree.Sub sub) (Move.Take (Tree.Sub sub) node) ≡ true) }
+        ensures effect { IfOk result (λ s. IsMadeInside (Tree.Sub sub) (Move.Take (Tree.Sub sub) node) self.old self.new (Some (sub, s))) }
+        ensures err { IfErr result (λ r. IsRefusedInside (Tree.Sub sub) (Move.Take (Tree.Sub sub) node) self.old r) }
         ensures memory { IfErr result (λ r. r ≢ Refusal.NoMemory) }
         ensures same { OnErr result (self.new.subscriptions.items ≡ self.old.subscriptions.items) }
     {
@@ -229,12 +235,14 @@ impl<O: Ops> Graph<O> {
     }
 
     /// Makes enabled moves, in an order of its own, until none is enabled (Idle) or `budget` moves were made (Budget); where
-    /// both hold it answers Idle. What is delivered is put into `out`, behind what stands there.
+    /// both hold it answers Idle. A hub that takes a signal in makes a move too. What is delivered is put into `out`, behind what
+    /// stands there.
     ///
     /// # Errors
     /// G8 where a growth was refused; the moves made before stand, and their deliveries are in `out`. It comes only where
-    /// `out` has no room for one signal more, or where some node of a subscription's tree may allocate: a `buffer` or a
-    /// `distinct`, or a node that calls a function of the caller's whose [`Ops`] says that it may (`allocates`).
+    /// `out` has no room for one signal more, where a signal waits in the inbox of a hub, or where some node of a
+    /// subscription's tree may allocate: a `buffer` or a `distinct`, or a node that calls a function of the caller's whose
+    /// [`Ops`] says that it may (`allocates`).
     pub fn pump(
         &mut self,
         alloc: Global,
@@ -242,13 +250,42 @@ impl<O: Ops> Graph<O> {
         out: &mut Deliveries<O::Item>,
     ) -> Result<Pumped, Refusal>
         ensures ops { self.new.ops ≡ self.old.ops }
-        ensures aside { IsAsideSame (state_of self.old) (state_of self.new) }
         ensures pumped { HasPumped budget self.old out.old result self.new out.new }
 
         // Idle means delivered.
         ensures served { IfOk result (λ p. p ≡ Pumped.Idle → IsAllServed (O.meaning self.old.ops) (state_of self.new)) }
 
         // Where no move may allocate, there is want of memory only for the list of deliveries.
+        ensures memory { drives_allocate_in self.old ≡ false → OnErr result (IsFull out.new) }
+    {
+        let mut left = budget;
+        'rounds: loop {
+            let rested = match self.drive(alloc, left, out) {
+                Ok(Driven::Idle(rested)) => rested,
+                Ok(Driven::Budget) => return Ok(Pumped::Budget),
+                Err(why) => return Err(why),
+            };
+            left = match self.accept_all(alloc, rested) {
+                Ok(Driven::Idle(behind)) => behind,
+                Ok(Driven::Budget) => return Ok(Pumped::Budget),
+                Err(why) => return Err(why),
+            };
+            if left == rested {
+                return Ok(Pumped::Idle);
+            }
+        }
+    }
+
+    /// Drives all subscriptions, one after the other, until no move of theirs is enabled.
+    fn drive(
+        &mut self,
+        alloc: Global,
+        budget: u32,
+        out: &mut Deliveries<O::Item>,
+    ) -> Result<Driven, Refusal>
+        ensures ops { self.new.ops ≡ self.old.ops }
+        ensures aside { IsAsideSame (state_of self.old) (state_of self.new) }
+        ensures driven { HasDriven budget self.old out.old result self.new out.new }
         ensures memory { pump_allocates (O.allocates self.old.ops) self.old.subscriptions.items ≡ false → OnErr result (IsFull out.new) }
     {
         let mut left = budget;
@@ -256,11 +293,11 @@ impl<O: Ops> Graph<O> {
         for at in 0..count {
             left = match self.pump_one(alloc, SubId(at), left, out) {
                 Ok(Driven::Idle(left)) => left,
-                Ok(Driven::Budget) => return Ok(Pumped::Budget),
+                Ok(Driven::Budget) => return Ok(Driven::Budget),
                 Err(why) => return Err(why),
             };
         }
-        Ok(Pumped::Idle)
+        Ok(Driven::Idle(left))
     }
 
     /// Drives one subscription.
@@ -440,10 +477,6 @@ impl<O: Ops> Graph<O> {
             },
             Step::Fail(hub, number) => match self.fail(*hub, *number) {
                 Ok(()) => Answer::Published,
-                Err(why) => Answer::Refused(why),
-            },
-            Step::Accept(hub) => match self.accept(alloc, *hub) {
-                Ok(()) => Answer::Accepted,
                 Err(why) => Answer::Refused(why),
             },
         }

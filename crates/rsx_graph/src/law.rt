@@ -27,5 +27,5 @@ pub fn headline<O: Ops>()
 /// `Graph::pump` answers Idle only where no move is enabled. The function does nothing; its contract is the sentence.
 pub fn idle_means_delivered<O: Ops>()
     ensures { (m : Meaning O.Item) (graph : GraphState O.Item) (h : History O.Item) →
-        StandsFor m graph h → IsAllQuiet m graph.subs → AllServed m (published h) graph.subs h.pasts }
+        StandsFor m graph h → IsAllQuiet m graph → AllServed m (published h) graph.subs h.pasts }
 {}

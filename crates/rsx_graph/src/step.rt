@@ -15,8 +15,6 @@ pub enum Step<T> {
     Complete(HubId),
     /// A hub fails with this number.
     Fail(HubId, u32),
-    /// A hub takes its next signal in.
-    Accept(HubId),
     /// Subscribes to an expression.
     Subscribe(Expr<T>),
     /// A subscriber requests this many items more.
@@ -34,8 +32,6 @@ pub enum Answer<T> {
     Opened(HubId),
     /// The item, the completion or the failure was published.
     Published,
-    /// The hub took its next signal in.
-    Accepted,
     /// A subscription was made.
     Subscribed(SubId),
     /// The request was taken; the signal is the error of a bad one.

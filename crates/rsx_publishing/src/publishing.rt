@@ -51,8 +51,9 @@ pub fn accept<O: Ops>(
     }
 }
 
-/// Whether a signal waits in front of the hub's inbox, and for an item there is room.
-fn can_accept<T: Drop>(number: u64, hub: &Hub<T>, subscriptions: &[Subscription<T>]) -> bool
+/// Whether the hub with this number can take a signal in: one waits in front of its inbox, and for an item each node of these
+/// subscriptions that reads the hub has room. It takes no memory.
+pub fn can_accept<T: Drop>(number: u64, hub: &Hub<T>, subscriptions: &[Subscription<T>]) -> bool
     ensures { result ≡ spec.can_accept number hub.now subscriptions.now }
 {
     match hub.front() {

@@ -8,7 +8,7 @@ use Rattle.rsx_demand.specs.Demand.{saturating_total}
 use Rattle.rsx_types.specs.Meaning.{Meaning}
 use Rattle.rsx_types.specs.Stream.{Stream}
 use Rattle.rsx_types.specs.declared.names.Move.{Move}
-use Rattle.rsx_types.specs.declared.names.Move.TheVariants.{Ask, Send, Take}
+use Rattle.rsx_types.specs.declared.names.Move.TheVariants.{Ask, Send, Take, Accept}
 use Rattle.rsx_types.specs.declared.names.SubId.{SubId}
 use Rattle.rsx_types.specs.declared.names.Tree.TheVariants.{Sub}
 use Rattle.rsx_types.specs.declared.signal.Signal.{Signal}
@@ -495,6 +495,7 @@ worked_part {T} m (Send t n) step old new is r h =
     let k = subst P same h in
     record { out = k.out; edges = k.effect; queue = k.queued; kept = r }
 worked_part m (Take t n) step old new is r h = cc
+worked_part m (Accept i) step old new is r h = cc
 
 pub stands_made : {T : Type 0} (m : Meaning T) (step : NodeMove) (published : List (Stream T)) (old new : Subscription T) (past : Past T) → IsKeptBeside old new → Part.move_enabled m old.part old.queue step ≡ true → Part.IsMade m step old.part old.queue new.part new.queue → Stands m published old past → Stands m published new past
 stands_made m step published old new past r can k h =
@@ -589,8 +590,10 @@ pub inside_enabled : {T : Type 0} (m : Meaning T) (sub : Subscription T) (mv : M
 inside_enabled m sub (Ask t n) h = refl
 inside_enabled m sub (Send t n) h = refl
 inside_enabled m sub (Take t n) h = absurd h
+inside_enabled m sub (Accept i) h = absurd h
 
 pub inside_effect : {T : Type 0} (m : Meaning T) (mv : Move) (old new : Subscription T) → IsWorked m mv old new → IsEffect m mv old new None
 inside_effect m (Ask t n) old new h = h
 inside_effect m (Send t n) old new h = h
 inside_effect m (Take t n) old new h = absurd h
+inside_effect m (Accept i) old new h = absurd h

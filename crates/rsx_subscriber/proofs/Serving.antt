@@ -5,7 +5,7 @@ use Rattle.rsx_types.specs.Meaning.{Meaning}
 use Rattle.rsx_types.specs.Stream.{Stream}
 use Rattle.rsx_types.specs.declared.limits.TheConstants.{CAPACITY}
 use Rattle.rsx_types.specs.declared.names.Move.{Move}
-use Rattle.rsx_types.specs.declared.names.Move.TheVariants.{Ask, Send, Take}
+use Rattle.rsx_types.specs.declared.names.Move.TheVariants.{Ask, Send, Take, Accept}
 use Rattle.rsx_types.specs.declared.signal.Signal.{Signal}
 use Rattle.rsx_tree.specs.declared.look.NodeMove.TheVariants.{Ask as NodeAsk, Send as NodeSend, Pick, Row}
 use Rattle.rsx_pipe.specs.Tree.{IsWithin}
@@ -76,3 +76,4 @@ pub quiet_move : {T : Type 0} (m : Meaning T) (sub : Subscription T) (mv : Move)
 quiet_move m sub (Ask t n) l h = (h n.0 l).0
 quiet_move m sub (Send t n) l h = (h n.0 l).1
 quiet_move m sub (Take t n) l h = (h n.0 l).2
+quiet_move m sub (Accept i) l h = refl

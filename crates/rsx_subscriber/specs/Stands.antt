@@ -9,7 +9,7 @@ use Rattle.rsx_types.specs.declared.note.Note.{Note}
 use Rattle.rsx_types.specs.declared.names.SubId.{SubId}
 use Rattle.rsx_types.specs.declared.names.Tree.TheVariants.{Sub, Feed}
 use Rattle.rsx_types.specs.declared.names.Move.{Move}
-use Rattle.rsx_types.specs.declared.names.Move.TheVariants.{Ask, Send, Take}
+use Rattle.rsx_types.specs.declared.names.Move.TheVariants.{Ask, Send, Take, Accept}
 use Rattle.rsx_types.specs.declared.signal.Ending.TheVariants.{Open as NotEnded}
 use Rattle.rsx_types.specs.declared.signal.Signal.{Signal}
 pub use Rattle.rsx_pipe.specs.Output.{values_then}
@@ -103,6 +103,7 @@ abbrev pub move_enabled_in : {T : Type 0} → Meaning T → Subscription T → M
 move_enabled_in m sub (Ask t n) = ask_enabled sub n.0
 move_enabled_in m sub (Send t n) = send_enabled m sub n.0
 move_enabled_in m sub (Take t n) = take_enabled sub n.0
+move_enabled_in m sub (Accept h) = false
 
 -- an Ask or a Send is enabled; a Take isn't one of them
 abbrev pub enabled_inside : {T : Type 0} → Meaning T → Subscription T → Option NodeMove → Bool
@@ -154,12 +155,14 @@ abbrev pub IsInside : Move → Type 0
 IsInside (Ask t n) = Unit {0}
 IsInside (Send t n) = Unit {0}
 IsInside (Take t n) = ⊥
+IsInside (Accept h) = ⊥
 
 -- the effect of an Ask or a Send
 abbrev pub IsWorked : {T : Type 0} → Meaning T → Move → Subscription T → Subscription T → Type 0
 IsWorked m (Ask t n) old new = IsAsk old n.0 new
 IsWorked m (Send t n) old new = IsSend m old n.0 new
 IsWorked m (Take t n) old new = ⊥
+IsWorked m (Accept h) old new = ⊥
 
 -- a Take: the front signal left the queue, no edge changed, and the subscription stands as the table says; an item is
 -- counted as delivered
@@ -177,6 +180,7 @@ IsEffect m (Ask t n) old new o = IsAsk old n.0 new
 IsEffect m (Send t n) old new o = IsSend m old n.0 new
 IsEffect m (Take t n) old new None = ⊥
 IsEffect m (Take t n) old new (Some d) = IsTake old d.1 new
+IsEffect m (Accept h) old new o = ⊥
 
 -- what a move that was made answers: a Take from a root edge hands its signal on
 abbrev pub IsMadeAnswer : {T : Type 0} → Move → Option (SubId × Signal T) → Type 0
@@ -184,3 +188,4 @@ IsMadeAnswer (Ask t n) o = o ≡ None
 IsMadeAnswer (Send t n) o = o ≡ None
 IsMadeAnswer {T} (Take (Sub i) n) o = (s : Signal T) × (o ≡ Some (i, s))
 IsMadeAnswer (Take (Feed h) n) o = ⊥
+IsMadeAnswer (Accept h) o = o ≡ None

@@ -493,14 +493,14 @@ impl<T: Drop> Subscription<T> {
 }
 
 /// The move inside the tree that a move names, which the graph has looked up. A Take isn't one: it is from the queue behind
-/// the tree.
+/// the tree; and neither is an Accept, which is a hub's.
 fn node_move(step: Move) -> Option<NodeMove>
     ensures { result ≡ node_move step }
 {
     match step {
         Move::Ask(_, node) => Some(NodeMove::Ask(node.0)),
         Move::Send(_, node) => Some(NodeMove::Send(node.0)),
-        Move::Take(_, _) => None,
+        Move::Take(_, _) | Move::Accept(_) => None,
     }
 }
 

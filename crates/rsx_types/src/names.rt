@@ -40,4 +40,6 @@ pub enum Move {
     /// The first signal in the queue of the node's output edge goes to the receiver; at the root of a subscription it is
     /// delivered to the subscriber.
     Take(Tree, NodeId),
+    /// The hub takes the signal in that waits in front of its inbox, and each node that reads the hub gets it.
+    Accept(HubId),
 }

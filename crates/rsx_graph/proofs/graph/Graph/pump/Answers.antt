@@ -1,101 +1,201 @@
-use Rattle.std.proofs.Common.{◌+◌, ◌≤◌, ◌∙◌, ap, arith, length, Ok, Err}
+use Rattle.std.proofs.Common.{◌≡◌, ◌+◌, ◌∙◌, List, Ok, Err, ap, arith, length, refl, subst, sym}
 use Rattle.rsx_pipe.specs.declared.part.Pumped.TheVariants.{Idle as Rests, Budget as Wakes}
-use Rattle.rsx_graph.specs.Stands.{pump_allocates}
-use Rattle.rsx_graph.proofs.Graphs.{pumped_on, pumped_same, pumped_stands, rested_same, all_quiet}
-use Rattle.rsx_graph.proofs.Serving.{all_served}
+use Rattle.rsx_tree.proofs.Alike.{or_left, or_right}
+use Rattle.rsx_subscriber.specs.declared.subscription.Subscription.{Subscription}
+use Rattle.rsx_graph.specs.Hubs.{signals_wait}
 use Rattle.rsx_graph.specs.InGraph.{state_of}
+use Rattle.rsx_graph.specs.Pumped.{AreQuiet}
+use Rattle.rsx_graph.specs.Stands.{pump_allocates}
+use Rattle.rsx_graph.proofs.Driving.{driven_same, graph_awake, graph_quiet, made_same, none_made, so_far_driven, so_far_none, so_far_taken, taken_same}
+use Rattle.rsx_graph.proofs.Graphs.{pumped_same}
+use Rattle.rsx_graph.proofs.Serving.{all_served}
 use Rattle.rsx_graph.proofs.graph.Graph.pump.Goals as goal
+
+pub rounds-init : goal.rounds-init
+rounds-init g c = record {
+  ops = refl;
+  so_far = (0, omega arith, so_far_none (g.O.Ops.meaning c.args.self.now.ops) (state_of c.args.self.now) c.args.out.now.signals);
+  free = λ f. let a = pump_allocates (g.O.Ops.allocates c.args.self.now.ops) c.args.self.now.subscriptions.items in let w = signals_wait c.args.self.now.hubs.items in (or_left a w f, or_right a w f);
+}
+
+pub returns-in-Ok-Budget-clause-ops : goal.returns-in-Ok-Budget-clause-ops
+returns-in-Ok-Budget-clause-ops g c = c.drive.ensures.ops ∙ c.rounds.invariant.ops
+
+pub returns-in-Err-clause-ops : goal.returns-in-Err-clause-ops
+returns-in-Err-clause-ops g c = c.drive.ensures.ops ∙ c.rounds.invariant.ops
 
 pub returns-in-Ok-Budget-clause-pumped : goal.returns-in-Ok-Budget-clause-pumped
 returns-in-Ok-Budget-clause-pumped g c =
-    let i = c.loop-at.invariant in
+    let i = c.rounds.invariant in
     let m = g.O.Ops.meaning c.args.self.now.ops in
-    let p = rw c.in-Ok-Budget.field-0-is at c.in-Ok-Budget.ensures.pumped in
-    let r = rested_same m (g.O.Ops.meaning c.loop-at.self.ops) c.loop-at.left p.0 c.loop-at.at c.loop-at.self.subscriptions.items c.pump_one.new.self.subscriptions.items (Ok Wakes) (ap g.O.Ops.meaning i.ops) p.1 in
-    let before = i.pumped.1 in
-    let more = r.0 in
-    let aside = c.pump_one.ensures.aside in
-    let all = pumped_on m i.pumped.0 p.0 c.args.self.now.subscriptions.items c.loop-at.self.subscriptions.items c.pump_one.new.self.subscriptions.items c.args.out.now.signals c.loop-at.out.signals c.pump_one.new.out.signals i.pumped.2
-    (pumped_same m (g.O.Ops.meaning c.loop-at.self.ops) p.0 c.loop-at.self.subscriptions.items c.pump_one.new.self.subscriptions.items c.loop-at.out.signals c.pump_one.new.out.signals (ap g.O.Ops.meaning i.ops) p.2) in (
-      i.pumped.0 + p.0,
-      (omega (arith, before, more), r.1),
-      all,
-      λ h s. pumped_stands m (i.pumped.0 + p.0) (state_of c.args.self.now) (state_of c.pump_one.new.self) c.args.out.now.signals c.pump_one.new.out.signals all (aside.0 ∙ i.aside.0, aside.1 ∙ i.aside.1) h s,
-    )
+    let m' = g.O.Ops.meaning c.rounds.self.ops in
+    let old = state_of c.args.self.now in
+    let between = state_of c.rounds.self in
+    let mid = state_of c.drive.new.self in
+    let p = rw c.in-Ok-Budget.field-0-is at c.in-Ok-Budget.ensures.driven in
+    let n = i.so_far.1 in
+    let r = driven_same m m' c.rounds.left p.0 c.drive.new.self.subscriptions.items (Ok Wakes) (ap g.O.Ops.meaning i.ops) p.1 in
+    let k = r.0 in
+    let d = so_far_driven m old between mid c.args.out.now.signals c.rounds.out.signals c.drive.new.out.signals i.so_far.0 p.0 i.so_far.2
+    (pumped_same m m' p.0 c.rounds.self.subscriptions.items c.drive.new.self.subscriptions.items c.rounds.out.signals c.drive.new.out.signals (ap g.O.Ops.meaning i.ops) p.2) c.drive.ensures.aside in
+    let count = d.count in
+    (d.moves, (omega (arith, n, k, count), graph_awake m mid r.1), d.made, d.output)
 
 pub returns-in-Err-clause-pumped : goal.returns-in-Err-clause-pumped
 returns-in-Err-clause-pumped g c =
-    let i = c.loop-at.invariant in
+    let i = c.rounds.invariant in
     let m = g.O.Ops.meaning c.args.self.now.ops in
-    let p = c.in-Err.ensures.pumped in
-    let r = rested_same m (g.O.Ops.meaning c.loop-at.self.ops) c.loop-at.left p.0 c.loop-at.at c.loop-at.self.subscriptions.items c.pump_one.new.self.subscriptions.items (Err c.in-Err.why) (ap g.O.Ops.meaning i.ops) p.1 in
-    let before = i.pumped.1 in
-    let more = r.0 in
-    let aside = c.pump_one.ensures.aside in
-    let all = pumped_on m i.pumped.0 p.0 c.args.self.now.subscriptions.items c.loop-at.self.subscriptions.items c.pump_one.new.self.subscriptions.items c.args.out.now.signals c.loop-at.out.signals c.pump_one.new.out.signals i.pumped.2
-    (pumped_same m (g.O.Ops.meaning c.loop-at.self.ops) p.0 c.loop-at.self.subscriptions.items c.pump_one.new.self.subscriptions.items c.loop-at.out.signals c.pump_one.new.out.signals (ap g.O.Ops.meaning i.ops) p.2) in (
-      i.pumped.0 + p.0,
-      (omega (arith, before, more), r.1),
-      all,
-      λ h s. pumped_stands m (i.pumped.0 + p.0) (state_of c.args.self.now) (state_of c.pump_one.new.self) c.args.out.now.signals c.pump_one.new.out.signals all (aside.0 ∙ i.aside.0, aside.1 ∙ i.aside.1) h s,
-    )
-
-pub loop-at-preserved : goal.loop-at-preserved
-loop-at-preserved g c =
-    let i = c.loop-at.invariant in
-    let m = g.O.Ops.meaning c.args.self.now.ops in
-    let p = rw c.in-Ok-Idle.field-0-is at c.in-Ok-Idle.ensures.pumped in
-    let r = rested_same m (g.O.Ops.meaning c.loop-at.self.ops) c.loop-at.left p.0 c.loop-at.at c.loop-at.self.subscriptions.items c.pump_one.new.self.subscriptions.items (Ok (Rests c.in-Ok-Idle.left)) (ap g.O.Ops.meaning i.ops) p.1 in
-    let before = i.pumped.1 in
-    let more = r.0 in
-    record {
-      ops = c.pump_one.ensures.ops ∙ i.ops;
-      aside = (c.pump_one.ensures.aside.0 ∙ i.aside.0, c.pump_one.ensures.aside.1 ∙ i.aside.1);
-      count = c.pump_one.ensures.count ∙ i.count;
-      pumped = (
-        i.pumped.0 + p.0,
-        omega (arith, before, more),
-        pumped_on m i.pumped.0 p.0 c.args.self.now.subscriptions.items c.loop-at.self.subscriptions.items c.pump_one.new.self.subscriptions.items c.args.out.now.signals c.loop-at.out.signals c.pump_one.new.out.signals i.pumped.2
-            (pumped_same m (g.O.Ops.meaning c.loop-at.self.ops) p.0 c.loop-at.self.subscriptions.items c.pump_one.new.self.subscriptions.items c.loop-at.out.signals c.pump_one.new.out.signals (ap g.O.Ops.meaning i.ops) p.2),
-      );
-      quiet = r.1 i.quiet;
-    }
-
-pub returns-clause-pumped : goal.returns-clause-pumped
-returns-clause-pumped g c =
-    let i = c.loop-at.invariant in
-    let m = g.O.Ops.meaning c.args.self.now.ops in
-    let spent = i.pumped.1 in (
-      i.pumped.0,
-      (
-        omega (arith, spent),
-        let all : length c.loop-at.self.subscriptions.items ≤ c.loop-at.at =
-            let l = c.len-count.ensures in let n = i.count in let t = c.loop-at-test.false in omega (arith, l, n, t) in
-            all_quiet m c.loop-at.self.subscriptions.items c.loop-at.at all i.quiet,
-      ),
-      i.pumped.2,
-      λ h s. pumped_stands m i.pumped.0 (state_of c.args.self.now) (state_of c.loop-at.self) c.args.out.now.signals c.loop-at.out.signals i.pumped.2 i.aside h s,
-    )
-
-pub returns-clause-served : goal.returns-clause-served
-returns-clause-served g c = λ _ h s.
-    let i = c.loop-at.invariant in
-    let m = g.O.Ops.meaning c.args.self.now.ops in
-    let all : length c.loop-at.self.subscriptions.items ≤ c.loop-at.at =
-    let l = c.len-count.ensures in let n = i.count in let t = c.loop-at-test.false in omega (arith, l, n, t) in
-    all_served m h (state_of c.loop-at.self) (all_quiet m c.loop-at.self.subscriptions.items c.loop-at.at all i.quiet) s
+    let m' = g.O.Ops.meaning c.rounds.self.ops in
+    let old = state_of c.args.self.now in
+    let between = state_of c.rounds.self in
+    let mid = state_of c.drive.new.self in
+    let p = c.in-Err.ensures.driven in
+    let n = i.so_far.1 in
+    let r = driven_same m m' c.rounds.left p.0 c.drive.new.self.subscriptions.items (Err c.in-Err.why) (ap g.O.Ops.meaning i.ops) p.1 in
+    let k = r.0 in
+    let d = so_far_driven m old between mid c.args.out.now.signals c.rounds.out.signals c.drive.new.out.signals i.so_far.0 p.0 i.so_far.2
+    (pumped_same m m' p.0 c.rounds.self.subscriptions.items c.drive.new.self.subscriptions.items c.rounds.out.signals c.drive.new.out.signals (ap g.O.Ops.meaning i.ops) p.2) c.drive.ensures.aside in
+    let count = d.count in
+    (d.moves, (omega (arith, n, k, count), r.1), d.made, d.output)
 
 pub returns-in-Err-clause-memory : goal.returns-in-Err-clause-memory
-returns-in-Err-clause-memory g c = λ free.
-    let i = c.loop-at.invariant in
-    let same = ap (λ o. pump_allocates (g.O.Ops.allocates o) c.loop-at.self.subscriptions.items) i.ops in
-    c.in-Err.ensures.memory (same ∙ (i.pumped.2.alike (g.O.Ops.allocates c.args.self.now.ops) ∙ free))
+returns-in-Err-clause-memory g c =
+    λ free.
+    let i = c.rounds.invariant in
+    c.in-Err.ensures.memory (ap (λ o. pump_allocates (g.O.Ops.allocates o) c.rounds.self.subscriptions.items) i.ops ∙ (i.free free).0)
 
-pub returns-in-Ok-Budget-clause-aside : goal.returns-in-Ok-Budget-clause-aside
-returns-in-Ok-Budget-clause-aside g c = let i = c.loop-at.invariant in (c.pump_one.ensures.aside.0 ∙ i.aside.0, c.pump_one.ensures.aside.1 ∙ i.aside.1)
+pub returns-in-Ok-Budget-accept_all-clause-ops : goal.returns-in-Ok-Budget-accept_all-clause-ops
+returns-in-Ok-Budget-accept_all-clause-ops g c = c.accept_all.ensures.ops ∙ (c.drive.ensures.ops ∙ c.rounds.invariant.ops)
 
-pub returns-in-Err-clause-aside : goal.returns-in-Err-clause-aside
-returns-in-Err-clause-aside g c = let i = c.loop-at.invariant in (c.pump_one.ensures.aside.0 ∙ i.aside.0, c.pump_one.ensures.aside.1 ∙ i.aside.1)
+pub returns-in-Err-accept_all-clause-ops : goal.returns-in-Err-accept_all-clause-ops
+returns-in-Err-accept_all-clause-ops g c = c.accept_all.ensures.ops ∙ (c.drive.ensures.ops ∙ c.rounds.invariant.ops)
 
-pub returns-clause-aside : goal.returns-clause-aside
-returns-clause-aside g c = c.loop-at.invariant.aside
+pub returns-then-left-rested-clause-ops : goal.returns-then-left-rested-clause-ops
+returns-then-left-rested-clause-ops g c = c.accept_all.ensures.ops ∙ (c.drive.ensures.ops ∙ c.rounds.invariant.ops)
+
+pub returns-in-Ok-Budget-accept_all-clause-pumped : goal.returns-in-Ok-Budget-accept_all-clause-pumped
+returns-in-Ok-Budget-accept_all-clause-pumped g c =
+    let i = c.rounds.invariant in
+    let m = g.O.Ops.meaning c.args.self.now.ops in
+    let m' = g.O.Ops.meaning c.rounds.self.ops in
+    let old = state_of c.args.self.now in
+    let between = state_of c.rounds.self in
+    let mid = state_of c.drive.new.self in
+    let p = rw c.in-Ok-Idle.field-0-is at c.in-Ok-Idle.ensures.driven in
+    let n = i.so_far.1 in
+    let r = driven_same m m' c.rounds.left p.0 c.drive.new.self.subscriptions.items (Ok (Rests c.in-Ok-Idle.rested)) (ap g.O.Ops.meaning i.ops) p.1 in
+    let k = r.0 in
+    let d = so_far_driven m old between mid c.args.out.now.signals c.rounds.out.signals c.drive.new.out.signals i.so_far.0 p.0 i.so_far.2
+    (pumped_same m m' p.0 c.rounds.self.subscriptions.items c.drive.new.self.subscriptions.items c.rounds.out.signals c.drive.new.out.signals (ap g.O.Ops.meaning i.ops) p.2) c.drive.ensures.aside in
+    let m'' = g.O.Ops.meaning c.drive.new.self.ops in
+    let new = state_of c.accept_all.new.self in
+    let same = ap g.O.Ops.meaning (c.drive.ensures.ops ∙ i.ops) in
+    let q = rw c.in-Ok-Budget-accept_all.field-0-is at c.in-Ok-Budget-accept_all.ensures.accepted in
+    let t = taken_same m m'' c.in-Ok-Idle.rested (length q.0) new (Ok Wakes) same q.1 in
+    let j = t.0 in
+    let e = so_far_taken m old mid new c.args.out.now.signals c.drive.new.out.signals (i.so_far.0 + p.0) q.0 d (made_same m m'' mid new q.0 same q.2) q.3 in
+    let count = e.count in
+    (e.moves, (omega (arith, n, k, j, count), t.1), e.made, e.output)
+
+pub returns-in-Err-accept_all-clause-pumped : goal.returns-in-Err-accept_all-clause-pumped
+returns-in-Err-accept_all-clause-pumped g c =
+    let i = c.rounds.invariant in
+    let m = g.O.Ops.meaning c.args.self.now.ops in
+    let m' = g.O.Ops.meaning c.rounds.self.ops in
+    let old = state_of c.args.self.now in
+    let between = state_of c.rounds.self in
+    let mid = state_of c.drive.new.self in
+    let p = rw c.in-Ok-Idle.field-0-is at c.in-Ok-Idle.ensures.driven in
+    let n = i.so_far.1 in
+    let r = driven_same m m' c.rounds.left p.0 c.drive.new.self.subscriptions.items (Ok (Rests c.in-Ok-Idle.rested)) (ap g.O.Ops.meaning i.ops) p.1 in
+    let k = r.0 in
+    let d = so_far_driven m old between mid c.args.out.now.signals c.rounds.out.signals c.drive.new.out.signals i.so_far.0 p.0 i.so_far.2
+    (pumped_same m m' p.0 c.rounds.self.subscriptions.items c.drive.new.self.subscriptions.items c.rounds.out.signals c.drive.new.out.signals (ap g.O.Ops.meaning i.ops) p.2) c.drive.ensures.aside in
+    let m'' = g.O.Ops.meaning c.drive.new.self.ops in
+    let new = state_of c.accept_all.new.self in
+    let same = ap g.O.Ops.meaning (c.drive.ensures.ops ∙ i.ops) in
+    let q = c.in-Err-accept_all.ensures.accepted in
+    let t = taken_same m m'' c.in-Ok-Idle.rested (length q.0) new (Err c.in-Err-accept_all.why) same q.1 in
+    let j = t.0 in
+    let e = so_far_taken m old mid new c.args.out.now.signals c.drive.new.out.signals (i.so_far.0 + p.0) q.0 d (made_same m m'' mid new q.0 same q.2) q.3 in
+    let count = e.count in
+    (e.moves, (omega (arith, n, k, j, count), t.1), e.made, e.output)
+
+pub returns-in-Err-accept_all-clause-memory : goal.returns-in-Err-accept_all-clause-memory
+returns-in-Err-accept_all-clause-memory g c =
+    λ free.
+    let i = c.rounds.invariant in
+    let waits = ap signals_wait c.drive.ensures.aside.0 ∙ (i.free free).1 in
+    let none = (c.in-Err-accept_all.ensures.none waits).1 in
+    cc
+
+pub returns-then-left-rested-clause-pumped : goal.returns-then-left-rested-clause-pumped
+returns-then-left-rested-clause-pumped g c =
+    let i = c.rounds.invariant in
+    let m = g.O.Ops.meaning c.args.self.now.ops in
+    let m' = g.O.Ops.meaning c.rounds.self.ops in
+    let old = state_of c.args.self.now in
+    let between = state_of c.rounds.self in
+    let mid = state_of c.drive.new.self in
+    let p = rw c.in-Ok-Idle.field-0-is at c.in-Ok-Idle.ensures.driven in
+    let n = i.so_far.1 in
+    let r = driven_same m m' c.rounds.left p.0 c.drive.new.self.subscriptions.items (Ok (Rests c.in-Ok-Idle.rested)) (ap g.O.Ops.meaning i.ops) p.1 in
+    let k = r.0 in
+    let d = so_far_driven m old between mid c.args.out.now.signals c.rounds.out.signals c.drive.new.out.signals i.so_far.0 p.0 i.so_far.2
+    (pumped_same m m' p.0 c.rounds.self.subscriptions.items c.drive.new.self.subscriptions.items c.rounds.out.signals c.drive.new.out.signals (ap g.O.Ops.meaning i.ops) p.2) c.drive.ensures.aside in
+    let m'' = g.O.Ops.meaning c.drive.new.self.ops in
+    let new = state_of c.accept_all.new.self in
+    let same = ap g.O.Ops.meaning (c.drive.ensures.ops ∙ i.ops) in
+    let q = rw c.in-Ok-Idle-accept_all.field-0-is at c.in-Ok-Idle-accept_all.ensures.accepted in
+    let t = taken_same m m'' c.in-Ok-Idle.rested (length q.0) new (Ok (Rests c.in-Ok-Idle-accept_all.behind)) same q.1 in
+    let j = t.0 in
+    let e = so_far_taken m old mid new c.args.out.now.signals c.drive.new.out.signals (i.so_far.0 + p.0) q.0 d (made_same m m'' mid new q.0 same q.2) q.3 in
+    let count = e.count in
+    let last = c.if-left-rested.true in
+    let still = none_made m'' mid new q.0 (omega (arith, j, last)) q.2 in
+    let Q : List (Subscription g.row.O-Item.Denot) → Type 0 = λ l. AreQuiet m l (length l) in
+    (e.moves, (omega (arith, n, k, j, count), graph_quiet m new (subst Q (ap (λ s. s.subs) (sym still)) r.1) (t.1 (omega (arith, last)))), e.made, e.output)
+
+pub returns-then-left-rested-clause-served : goal.returns-then-left-rested-clause-served
+returns-then-left-rested-clause-served g c =
+    λ _ h s. all_served (g.O.Ops.meaning c.args.self.now.ops) h (state_of c.accept_all.new.self) (returns-then-left-rested-clause-pumped g c).1.1 s
+
+pub rounds-smaller : goal.rounds-smaller
+rounds-smaller g c =
+    let p = rw c.in-Ok-Idle.field-0-is at c.in-Ok-Idle.ensures.driven in
+    let q = rw c.in-Ok-Idle-accept_all.field-0-is at c.in-Ok-Idle-accept_all.ensures.accepted in
+    let k = p.1.0 in
+    let j = q.1.0 in
+    let more = c.if-left-rested.false in
+    omega (arith, k, j, more)
+
+pub rounds-preserved : goal.rounds-preserved
+rounds-preserved g c =
+    let i = c.rounds.invariant in
+    let m = g.O.Ops.meaning c.args.self.now.ops in
+    let m' = g.O.Ops.meaning c.rounds.self.ops in
+    let old = state_of c.args.self.now in
+    let between = state_of c.rounds.self in
+    let mid = state_of c.drive.new.self in
+    let p = rw c.in-Ok-Idle.field-0-is at c.in-Ok-Idle.ensures.driven in
+    let n = i.so_far.1 in
+    let r = driven_same m m' c.rounds.left p.0 c.drive.new.self.subscriptions.items (Ok (Rests c.in-Ok-Idle.rested)) (ap g.O.Ops.meaning i.ops) p.1 in
+    let k = r.0 in
+    let d = so_far_driven m old between mid c.args.out.now.signals c.rounds.out.signals c.drive.new.out.signals i.so_far.0 p.0 i.so_far.2
+    (pumped_same m m' p.0 c.rounds.self.subscriptions.items c.drive.new.self.subscriptions.items c.rounds.out.signals c.drive.new.out.signals (ap g.O.Ops.meaning i.ops) p.2) c.drive.ensures.aside in
+    let m'' = g.O.Ops.meaning c.drive.new.self.ops in
+    let new = state_of c.accept_all.new.self in
+    let same = ap g.O.Ops.meaning (c.drive.ensures.ops ∙ i.ops) in
+    let q = rw c.in-Ok-Idle-accept_all.field-0-is at c.in-Ok-Idle-accept_all.ensures.accepted in
+    let t = taken_same m m'' c.in-Ok-Idle.rested (length q.0) new (Ok (Rests c.in-Ok-Idle-accept_all.behind)) same q.1 in
+    let j = t.0 in
+    let e = so_far_taken m old mid new c.args.out.now.signals c.drive.new.out.signals (i.so_far.0 + p.0) q.0 d (made_same m m'' mid new q.0 same q.2) q.3 in
+    record {
+      ops = c.accept_all.ensures.ops ∙ (c.drive.ensures.ops ∙ i.ops);
+      so_far = (i.so_far.0 + p.0 + length q.0, omega (arith, n, k, j), e);
+      free = λ f.
+          let waits = ap signals_wait c.drive.ensures.aside.0 ∙ (i.free f).1 in
+          let still = (c.accept_all.ensures.none waits).0 in
+          let a = g.O.Ops.allocates c.args.self.now.ops in
+          (ap (λ s. pump_allocates a s.subs) still ∙ (p.2.alike a ∙ (i.free f).0), ap (λ s. signals_wait s.hubs) still ∙ waits);
+    }

@@ -2,8 +2,10 @@ use Rattle.std.proofs.Common.{rules, length, ◌∙◌, arith, w64}
 use Rattle.std.proofs.lemmas.Int.{to_z-of_z}
 use Rattle.rsx_graph.proofs.Graphs.{count_same, state_same, state_there, subscribe_refusal, make_refusal}
 use Rattle.rsx_graph.proofs.Inboxes.{hub_count}
-use Rattle.rsx_graph.proofs.Publishes.{accept_known, copy_known, end_known, hub_known, hub_refused}
+use Rattle.rsx_graph.proofs.Publishes.{copy_known, end_known, hub_known, hub_refused}
+use Rattle.rsx_graph.specs.InGraph.{state_of}
 use Rattle.rsx_graph.specs.Stands.{all_taken}
+use Rattle.rsx_graph.proofs.Driving.{known_hub}
 use Rattle.rsx_subscriber.specs.Stands.{standing_of}
 use Rattle.rsx_graph.proofs.graph.Graph.step.Goals as goal
 
@@ -38,10 +40,16 @@ returns-in-Err-cancel-clause-belongs g c = λ h s.
     let same = count_same (g.O.Ops.meaning c.args.self.now.ops) (all_taken c.args.self.now.hubs.items h.hubs) c.args.self.now.subscriptions.items h.pasts s.all in
     rw c.in-Cancel.is (c.in-Err-cancel.ensures.err.0, omega (arith, same, c.in-Err-cancel.ensures.err.1))
 
+pub returns-in-Ok-make-clause-belongs : goal.returns-in-Ok-make-clause-belongs
+returns-in-Ok-make-clause-belongs g c = λ h s.
+    let hubs = hub_count c.args.self.now.hubs.items h.hubs s.hub in
+    rw c.in-Make.is (c.in-Ok-make.ensures.answer, known_hub (g.O.Ops.meaning c.args.self.now.ops) (state_of c.args.self.now) _ (length h.hubs) hubs c.in-Ok-make.ensures.enabled)
+
 pub returns-in-Err-make-clause-belongs : goal.returns-in-Err-make-clause-belongs
 returns-in-Err-make-clause-belongs g c = λ h s.
     let same = count_same (g.O.Ops.meaning c.args.self.now.ops) (all_taken c.args.self.now.hubs.items h.hubs) c.args.self.now.subscriptions.items h.pasts s.all in
-    rw c.in-Make.is (_, make_refusal (length c.args.self.now.subscriptions.items) (length h.pasts) _ _ c.in-Err-make.why same c.in-Err-make.ensures.err)
+    let hubs = hub_count c.args.self.now.hubs.items h.hubs s.hub in
+    rw c.in-Make.is (_, make_refusal (length c.args.self.now.hubs.items) (length h.hubs) (length c.args.self.now.subscriptions.items) (length h.pasts) _ _ c.in-Err-make.why hubs same c.in-Err-make.ensures.err)
 
 pub returns-in-Ok-clause-done : goal.returns-in-Ok-clause-done
 returns-in-Ok-clause-done g c = rw c.in-Subscribe.is (c.in-Ok.ensures.id, c.in-Ok.ensures.effect, c.in-Ok.ensures.joined)
@@ -62,10 +70,10 @@ pub returns-in-Err-cancel-clause-done : goal.returns-in-Err-cancel-clause-done
 returns-in-Err-cancel-clause-done g c = let r = c.in-Err-cancel.ensures.err in rw c.in-Cancel.is (r.0, r.1, state_same _ _ c.cancel.ensures.aside c.in-Err-cancel.ensures.same)
 
 pub returns-in-Ok-make-clause-done : goal.returns-in-Ok-make-clause-done
-returns-in-Ok-make-clause-done g c = rw c.in-Make.is (c.in-Ok-make.ensures.enabled, c.in-Ok-make.ensures.effect, c.in-Ok-make.ensures.answer, c.make.ensures.aside)
+returns-in-Ok-make-clause-done g c = rw c.in-Make.is (c.in-Ok-make.ensures.enabled, c.in-Ok-make.ensures.effect, c.in-Ok-make.ensures.answer)
 
 pub returns-in-Err-make-clause-done : goal.returns-in-Err-make-clause-done
-returns-in-Err-make-clause-done g c = rw c.in-Make.is (c.in-Err-make.ensures.err, c.in-Err-make.ensures.memory, state_same _ _ c.make.ensures.aside c.in-Err-make.ensures.same)
+returns-in-Err-make-clause-done g c = rw c.in-Make.is (c.in-Err-make.ensures.err, c.in-Err-make.ensures.memory, c.in-Err-make.ensures.same)
 
 pub returns-in-Ok-hub-clause-belongs : goal.returns-in-Ok-hub-clause-belongs
 returns-in-Ok-hub-clause-belongs g c = λ h s.
@@ -106,13 +114,3 @@ pub returns-in-Err-fail-clause-belongs : goal.returns-in-Err-fail-clause-belongs
 returns-in-Err-fail-clause-belongs g c = λ h s.
     let count = hub_count c.args.self.now.hubs.items h.hubs s.hub in
     rw c.in-Fail.is (end_known c.args.self.now.hubs.items (length h.hubs) c.in-Fail.hub.0 c.in-Err-fail.why count c.in-Err-fail.ensures.err)
-
-pub returns-in-Ok-accept-clause-belongs : goal.returns-in-Ok-accept-clause-belongs
-returns-in-Ok-accept-clause-belongs g c = λ h s.
-    let count = hub_count c.args.self.now.hubs.items h.hubs s.hub in
-    let e = c.in-Ok-accept.ensures.effect in rw c.in-Accept.is (hub_known c.args.self.now.hubs.items (length h.hubs) c.in-Accept.hub.0 e.hub count e.there)
-
-pub returns-in-Err-accept-clause-belongs : goal.returns-in-Err-accept-clause-belongs
-returns-in-Err-accept-clause-belongs g c = λ h s.
-    let count = hub_count c.args.self.now.hubs.items h.hubs s.hub in
-    rw c.in-Accept.is (accept_known _ (length c.args.self.now.hubs.items) (length h.hubs) c.in-Accept.hub.0 c.in-Err-accept.why count c.in-Err-accept.ensures.err)
