@@ -6,7 +6,8 @@
 //! `values` (the items of the demonstration). CASE is `range`; `map` (doubles); `filter` (the even ones of the doubled);
 //! `half` (the doubled of the even ones); `single` (as `filter`, each item asked for and pumped by itself); `buffer` (lists
 //! of 10); `scan` (as many as there are of the totals); `keys3` and `keys` (distinct, with three keys and with a key for
-//! each number).
+//! each number); `fan1`, `fan8` and `fan64` (the numbers published to a hub, 64 before each pump, with so many readers that
+//! have asked for all).
 //!
 //! How many items came and their sum go to standard output, which is the same in every run, and the least time to
 //! standard error.
@@ -20,13 +21,17 @@ use crate::numbers::Numbers;
 use anyhow::{Result, bail};
 use rsx_demo::{Demo, Val};
 use rsx_graph::{Deliveries, Graph, Pumped};
-use rsx_types::{Ops, Signal, SubId};
+use rsx_model::Expr;
+use rsx_types::{HubKind, Ops, Signal, SubId};
 use std::alloc::Global;
 use std::env;
 use std::time::Instant;
 
 /// The longest range of an expression.
 const LONGEST: u64 = 1_000_000;
+
+/// How many items are published before each pump.
+const BATCH: u64 = 64;
 
 /// What an item adds to the sum.
 trait Weight {
@@ -104,11 +109,52 @@ where
     }
 }
 
+/// How many readers share a hub in this case, if it is one of a hub.
+fn readers_of(case: &str) -> Option<u32> {
+    match case {
+        "fan1" => Some(1),
+        "fan8" => Some(8),
+        "fan64" => Some(64),
+        _ => None,
+    }
+}
+
+/// One run of a hub with so many readers, to which the numbers are published.
+fn publish<O: Ops>(alloc: Global, ops: O, readers: u32, count: u64, budget: u32) -> Result<Sum>
+where
+    O::Item: Weight,
+{
+    let mut graph = Graph::new(alloc, ops)?;
+    let hub = graph.hub(alloc, HubKind::Multicast, BATCH)?;
+    for _ in 0..readers {
+        let sub = graph.subscribe(alloc, &Expr::Hub(hub))?;
+        graph.request(sub, i64::MAX)?;
+    }
+    let mut out = Deliveries::new(alloc);
+    let mut sum = Sum { items: 0, sum: 0 };
+    for number in 0..count {
+        let Ok(item) = ops.from_i64(alloc, i64::try_from(number).unwrap_or(i64::MAX)) else {
+            bail!("no memory")
+        };
+        if graph.emit(hub, item).is_err() {
+            bail!("refused")
+        }
+        if number % BATCH == BATCH - 1 {
+            pump(alloc, &mut graph, budget, &mut out, &mut sum);
+        }
+    }
+    pump(alloc, &mut graph, budget, &mut out, &mut sum);
+    Ok(sum)
+}
+
 /// One run of a case: a subscription for each million of the numbers, one after the other.
 fn run<O: Ops>(alloc: Global, ops: O, case: &str, count: u64, budget: u32) -> Result<Sum>
 where
     O::Item: Weight,
 {
+    if let Some(readers) = readers_of(case) {
+        return publish(alloc, ops, readers, count, budget);
+    }
     let Ok(mut graph) = Graph::new(alloc, ops) else {
         bail!("no memory")
     };
