@@ -23,28 +23,12 @@ pub(crate) enum Handed<T> {
 }
 
 impl<M: Machine> Inputs<M> {
-    ghost use Rattle.std.specs.Prelude.{◌≡◌, length, nat_eq};
-    ghost use Rattle.rsx_tree.specs.Balance.{sent_over};
     ghost use Rattle.rsx_tree.specs.Fetched.{IsRowFetched};
 
-    /// Whether there is one input, and no other.
-    #[inline]
-    fn is_one(&self) -> bool
-        ensures { result ≡ nat_eq (length (sent_over self.now)) 1 }
-    {
-        match self {
-            Inputs::End => false,
-            Inputs::More(_, _, _, beside) => match &**beside {
-                Inputs::End => true,
-                Inputs::More(_, _, _, _) => false,
-            },
-        }
-    }
-
-    /// Makes enabled moves of the row until `receiver` offers an item, which is taken out of it; `asked` is asked of the
-    /// receiver, and `sent` it sent. Each move takes one of the budget that is `left`. It answers nothing where the budget is
-    /// used up, where the receiver has several inputs, or where it comes upon an ending, a fault or want of memory: then the
-    /// moves made stand, and [`Inputs::drive`] goes on from there.
+    /// Makes enabled moves over the first edge of the row, and below it, until `receiver` offers an item, which is taken out of
+    /// it; `asked` is asked of the receiver, and `sent` it sent. Each move takes one of the budget that is `left`. It answers
+    /// nothing where the budget is used up, where the receiver declines an item of its first input, or where it comes upon an
+    /// ending, a fault or want of memory: then the moves made stand, and [`Inputs::drive`] goes on from there.
     ///
     /// The receiver offers no item when it is called.
     pub(crate) fn fetch<O: Ops<Item = M::Item>>(
@@ -59,9 +43,6 @@ impl<M: Machine> Inputs<M> {
         ensures { IsRowFetched M.Machine (O.meaning ops.now) left.old asked sent receiver.old self.old
             result left.new receiver.new self.new }
     {
-        if !self.is_one() {
-            return None;
-        }
         match self {
             Inputs::End => None,
             Inputs::More(edge, sender, below, _) => {
@@ -111,8 +92,9 @@ impl<M: Machine> Node<M> {
     /// Makes enabled moves until the root offers an item, and takes that out; `asked` and `sent` are those of the root's own
     /// edge. Each move takes one of the budget that is `left`.
     ///
-    /// It answers nothing where the budget is used up, and where the way to an item isn't straight: at a node of several
-    /// inputs, an ending, a fault, or want of memory. Then the moves made stand, and [`Node::drive`] goes on from there.
+    /// It answers nothing where the budget is used up, and where the way to an item over the first inputs isn't straight: at a
+    /// node that declines an item, an ending, a fault, or want of memory. Then the moves made stand, and [`Node::drive`] goes
+    /// on from there.
     #[inline]
     pub fn fetch<O: Ops<Item = M::Item>>(
         &mut self,
@@ -151,7 +133,7 @@ fn hand_over<M: Machine, O: Ops<Item = M::Item>>(
         result left.new receiver.new edge.new sender.new }
 {
     if *left == 0 {
-        sender.put_back(Signal::Next(item));
+        put_item_back(sender, item);
         return Handed::Back;
     }
     match receiver.pass(alloc, ops, 0, item) {
@@ -166,8 +148,16 @@ fn hand_over<M: Machine, O: Ops<Item = M::Item>>(
             Handed::Kept
         }
         Passed::Declined(back) => {
-            sender.put_back(Signal::Next(back));
+            put_item_back(sender, back);
             Handed::Back
         }
     }
+}
+
+/// Puts an item back that was taken out of its sender. It seldom happens, so it isn't inlined.
+#[inline(never)]
+fn put_item_back<M: Machine>(sender: &mut M, item: M::Item)
+    ensures { (before : M) → M.popped before (Signal.Next item) sender.old → sender.new ≡ before }
+{
+    sender.put_back(Signal::Next(item));
 }
