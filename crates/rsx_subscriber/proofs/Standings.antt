@@ -6,7 +6,7 @@ use Rattle.rsx_demand.specs.declared.Demand.{Demand}
 use Rattle.rsx_subscription.specs.Table.{cell, cell_of, Column, good_request, bad_request, answer, state_after as next_state, asked_after, sent_after}
 use Rattle.rsx_subscription.specs.declared.State.{State}
 use Rattle.rsx_subscription.specs.declared.State.TheVariants.{Fresh, Open, Cancelled, Done, Failed}
-use Rattle.rsx_subscription.specs.declared.Input.TheVariants.{Request, Cancel}
+use Rattle.rsx_subscription.specs.declared.Input.TheVariants.{Request, Cancel, Next as Item}
 use Rattle.rsx_subscription.specs.declared.Effect.{Effect}
 use Rattle.rsx_subscription.specs.declared.Effect.TheVariants.{Opened, Deliver, Add, Bad, Close, Drop, Nothing}
 use Rattle.rsx_subscription.specs.declared.Refusal.{Refusal}
@@ -188,6 +188,18 @@ delivery_made (Ok Close) e = cc
 delivery_made (Ok Drop) e = cc
 delivery_made (Ok Nothing) e = cc
 delivery_made (Err r) e = cc
+
+-- the delivery of an item counts it as sent, and changes nothing else
+pub item_delivered : (s : State) (d : Demand) → is_delivery (answer (cell_of s Item) d) ≡ true → (next_state (cell_of s Item) s ≡ s) × (asked_after (cell_of s Item) d ≡ d.asked) × (sent_after (cell_of s Item) d ≡ d.sent + 1)
+item_delivered Open d e = (refl, refl, ap (λ b. if b then d.sent + 1 else d.sent) (within (nat_lt d.sent d.asked) refl e))
+  where
+    within : (b : Bool) → nat_lt d.sent d.asked ≡ b → is_delivery (if b then Ok Deliver else Err Overrun) ≡ true → nat_lt d.sent d.asked ≡ true
+    within true i e = i
+    within false i e = cc
+item_delivered Fresh d e = cc
+item_delivered Cancelled d e = cc
+item_delivered Done d e = cc
+item_delivered Failed d e = cc
 
 pub not_delivery : (r : Result Effect Refusal) → (r ≡ Ok Deliver → ⊥) → is_delivery r ≡ false
 not_delivery (Ok Opened) n = refl

@@ -1,6 +1,6 @@
 //! One subscription: its part of the graph, the queue behind that, and where it stands in the subscription table.
 
-ghost use Rattle.std.specs.Prelude.{◌≡◌, IfOk};
+ghost use Rattle.std.specs.Prelude.{◌≡◌, ◌<◌, IfOk, true};
 ghost use Rattle.rsx_types.specs.Stream.{signals_then};
 ghost use Rattle.rsx_subscription.specs.declared.State.TheVariants.{Fresh};
 ghost use Rattle.rsx_subscription.specs.Table.{answer, asked_after, cell_of, sent_after, state_after};
@@ -317,10 +317,7 @@ impl<T: Drop> Subscription<T> {
         ensures delivered { IfOk result (λ b. b ≡ true → (self.new.queue ≡ []) × (left.new < left.old)) }
         ensures full { OnErr result (IsFull out.new) }
     {
-        // The step is made on copies, so that one that delivers nothing changes nothing.
-        let mut state_behind = self.state;
-        let mut demand_behind = self.demand;
-        if !delivers_item(&mut state_behind, &mut demand_behind) {
+        if !delivers_item(self.state, self.demand) {
             return Ok(false);
         }
         let item = match self.part.fetch(alloc, ops, left) {
@@ -339,8 +336,7 @@ impl<T: Drop> Subscription<T> {
             }
         }
         *left -= 1;
-        self.state = state_behind;
-        self.demand = demand_behind;
+        self.demand.spend();
         out.push(id, Signal::Next(item));
         Ok(true)
     }
@@ -527,15 +523,16 @@ fn behind<O: Ops>(
     Ok(StreamValue::new(items, ending))
 }
 
-/// Makes the step of an item by the table, and answers whether the table delivers it.
+/// Whether the table delivers an item now. Its step then counts the item as sent, and changes nothing else.
 #[inline]
-fn delivers_item(state: &mut State, demand: &mut Demand) -> bool
-    ensures delivered { result ≡ is_delivery (answer (cell_of state.old Input.Next) demand.old) }
-    ensures state { state.new ≡ state_after (cell_of state.old Input.Next) state.old }
-    ensures asked { demand.new.asked ≡ asked_after (cell_of state.old Input.Next) demand.old }
-    ensures sent { demand.new.sent ≡ sent_after (cell_of state.old Input.Next) demand.old }
+fn delivers_item(state: State, demand: Demand) -> bool
+    ensures delivered { result ≡ is_delivery (answer (cell_of state Input.Next) demand) }
+    ensures covered { result ≡ true → demand.sent < demand.asked }
 {
-    match step(state, demand, Input::Next) {
+    // The step is made on copies.
+    let mut state = state;
+    let mut demand = demand;
+    match step(&mut state, &mut demand, Input::Next) {
         Ok(effect) => matches!(effect, Effect::Deliver),
         Err(_) => false,
     }
