@@ -148,7 +148,7 @@ impl<T: Drop> Machine for AnyNode<T> {
         }
     }
 
-    #[inline]
+    #[inline(always)]
     fn pass<O: Ops<Item = T>>(&mut self, alloc: Global, ops: &O, input: u64, item: T) -> Passed<T> {
         match self {
             AnyNode::Source(_) => Passed::Declined(item),

@@ -194,7 +194,7 @@ impl<T: Drop> Machine for PlainNode<T> {
         self.slot.pop_item()
     }
 
-    #[inline]
+    #[inline(always)]
     fn pass<O: Ops<Item = T>>(&mut self, alloc: Global, ops: &O, input: u64, item: T) -> Passed<T> {
         if !self.can_take(input, Front::Item) {
             return Passed::Declined(item);

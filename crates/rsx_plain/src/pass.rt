@@ -31,7 +31,7 @@ pub(crate) trait Passing<T: Drop> {
 impl<T: Drop> Passing<T> for PlainState<T> {
     ghost state = { λ s. s };
 
-    #[inline]
+    #[inline(always)]
     fn pass<O: Ops<Item = T>>(&mut self, alloc: Global, ops: &O, item: T) -> Passed<T> {
         match self {
             PlainState::Map { function } => item.through_map(alloc, ops, *function),

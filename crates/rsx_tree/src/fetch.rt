@@ -31,6 +31,8 @@ impl<M: Machine> Inputs<M> {
     /// ending, a fault or want of memory: then the moves made stand, and [`Inputs::drive`] goes on from there.
     ///
     /// The receiver offers no item when it is called.
+    #[cycle(fetch)]
+    #[inline(always)]
     pub(crate) fn fetch<O: Ops<Item = M::Item>>(
         &mut self,
         alloc: Global,
@@ -61,7 +63,7 @@ impl<M: Machine> Inputs<M> {
                         let item = match sender.pop_item(alloc, ops) {
                             Some(item) => item,
                             None => {
-                                match below.fetch(
+                                match below.fetch_below(
                                     alloc,
                                     ops,
                                     sender,
@@ -83,6 +85,25 @@ impl<M: Machine> Inputs<M> {
                 }
             }
         }
+    }
+
+    /// As [`Inputs::fetch`], for what is below a node. Only this function calls itself, so the compiler can put the body of
+    /// `fetch` for the topmost node where it is called.
+    #[cycle(fetch)]
+    #[inline(never)]
+    fn fetch_below<O: Ops<Item = M::Item>>(
+        &mut self,
+        alloc: Global,
+        ops: &O,
+        receiver: &mut M,
+        asked: u64,
+        sent: u64,
+        left: &mut u32,
+    ) -> Option<M::Item>
+        ensures { IsRowFetched M.Machine (O.meaning ops.now) left.old asked sent receiver.old self.old
+            result left.new receiver.new self.new }
+    {
+        self.fetch(alloc, ops, receiver, asked, sent, left)
     }
 }
 

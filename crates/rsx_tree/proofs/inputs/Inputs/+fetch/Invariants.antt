@@ -1,19 +1,23 @@
-use Rattle.std.specs.Prelude.{false, ◌≡◌, ◌<◌}
+use Rattle.std.specs.Prelude.{false, ◌≡◌, ◌+◌, ◌*◌, ◌<◌}
 use Rattle.rsx_tree.specs.Inputs.{size}
 use Rattle.rsx_tree.specs.declared.inputs.Inputs.TheViews.{More}
 use Rattle.rsx_tree.proofs.Changes.{Rest}
 use Rattle.rsx_tree.proofs.Drives.{IsUnderWay}
 use Rattle.rsx_tree.proofs.inputs.Inputs.+fetch.Given as goal
 
+-- one function calls the other on the same row
 abbrev pub decreases-fetch : goal.decreases-fetch
-decreases-fetch g l = size l.self.now
+decreases-fetch g l = size l.self.now * 2
 
-abbrev pub decreases-items : goal.decreases-items
-decreases-items g l = l.left
+abbrev pub decreases-fetch_below : goal.decreases-fetch_below
+decreases-fetch_below g l = size l.self.now * 2 + 1
+
+abbrev pub decreases-fetch-items : goal.decreases-fetch-items
+decreases-fetch-items g l = l.left
 
 -- the inputs beside the first stay, whatever they are
-abbrev pub invariant-items : goal.invariant-items
-invariant-items g l =
+abbrev pub invariant-fetch-items : goal.invariant-fetch-items
+invariant-fetch-items g l =
     ((beside : Rest _) → l.fn.self ≡ More l.initial.edge l.initial.sender l.initial.below beside →
     IsUnderWay g.M.Machine (g.O.Ops.meaning l.ops) false 0 l.asked l.sent l.fn.left l.fn.receiver l.fn.self l.left l.receiver (More l.edge l.sender l.below beside))
     × (size l.below.value < size l.fn.self)
