@@ -1,7 +1,7 @@
 //! The node of combineLatest.
 
 use crate::pairs::{PLENTY, SCARCE, value};
-use rsx_combining::CombineLatestNode;
+use rsx_latest::CombineLatestNode;
 use rsx_sources::{Front, Machine, NotMade};
 use rsx_types::{Cause, Ending, Note, Signal};
 use std::test::Fail;

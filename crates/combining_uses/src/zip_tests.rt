@@ -1,9 +1,9 @@
 //! The node of zip.
 
 use crate::pairs::{PLENTY, SCARCE, value};
-use rsx_combining::ZipNode;
 use rsx_sources::{Front, Machine, NotMade, NotTaken};
 use rsx_types::{Cause, Ending, Note, Signal};
+use rsx_zipping::ZipNode;
 use std::test::Fail;
 
 // The first input has 1 2 and the completion, the second 5 and a failure: one row, and then the failure.

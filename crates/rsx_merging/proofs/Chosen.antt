@@ -25,26 +25,12 @@ use Rattle.rsx_choices.specs.Pick.{InputLeft, next_of}
 use Rattle.rsx_choices.specs.Merge.{merge_inputs, unless_failure, signal_first}
 use Rattle.rsx_merging.specs.declared.node.MergeNode.{MergeNode}
 use Rattle.rsx_queued.specs.Values.{head_of, tail_of}
-use Rattle.rsx_merging.specs.Inputs.{here, inputs_left, are_gone, AreCounted}
-use Rattle.rsx_merging.specs.Merge.{merge_of, merge_counted, merge_ended, merge_done, input_signal, input_done, may_pick}
-use Rattle.rsx_merging.proofs.Places.{done_stays, not_gone_at, length_set}
+use Rattle.rsx_queued.specs.Inputs.{next_signal_at, done_at, inputs_left, are_gone, AreCounted}
+use Rattle.rsx_queued.proofs.Changed.{done_stays, not_gone_at, length_set}
+use Rattle.rsx_queued.proofs.Picks.{unequal, next_first, next_beside, none_left}
+use Rattle.rsx_merging.specs.Merge.{merge_of, merge_counted, merge_ended, merge_done, may_pick}
 
 -- ---- the choice finds its input
-
-equal_itself : (k : ℕ) → nat_eq k k ≡ true
-equal_itself k = grind (arith, nat_tests)
-
-unequal : (c k i : ℕ) → c ≡ k + suc i → nat_eq c k ≡ false
-unequal c k i e = grind (arith, nat_tests)
-
-next_first : {T : Type 0} (k : ℕ) (o p : Option (Stream T)) (is : List (InputLeft T)) (s : Signal T) → IsFirst s o p → next_of k (here k o is) ≡ Some (s, here k p is)
-next_first k o p is (Next x) f = rw (f.1, f.2, equal_itself k) refl
-next_first k o p is Complete f = rw (f.0, f.1, equal_itself k) refl
-next_first k o p is (Error c) f = rw (f.0, f.1, equal_itself k) refl
-
-next_beside : {T : Type 0} (c k : ℕ) (o : Option (Stream T)) (is js : List (InputLeft T)) (s : Signal T) → nat_eq c k ≡ false → next_of c is ≡ Some (s, js) → next_of c (here k o is) ≡ Some (s, here k o js)
-next_beside c k None is js s u e = e
-next_beside c k (Some v) is js s u e = rw (u, e) refl
 
 next_at : {T : Type 0} (c k : ℕ) (qs : List (QueuedInput T)) (i : ℕ) (q : QueuedInput T) (s : Signal T) (vs : List (Stream T)) (d : QueuedInput T) → c ≡ k + i → i < length qs → Gives (slice_index_or qs i d) s q →
     next_of c (inputs_left k qs vs) ≡ Some (s, inputs_left k (slice_set qs i q) vs)
@@ -83,12 +69,6 @@ completion_picked out qs i old new p inc Nothing = refl
 completion_picked out qs i old new p inc (Ended o) = refl
 completion_picked out qs i old new p inc (Picks cs) = rw p.empty (sym (step_at out qs i Complete old new p (inc.first ∷ inc.others) cs))
 
-gone_still : {T : Type 0} (t : Tail) (xs : List T) (v : Stream T) → is_taken t ≡ true → unless_taken t (Some (held_then xs t v)) ≡ None
-gone_still Open xs v e = cc
-gone_still Completion xs v e = cc
-gone_still (Failure c) xs v e = cc
-gone_still Taken xs v e = refl
-
 and_left : (a b : Bool) → a && b ≡ true → a ≡ true
 and_left true b e = refl
 and_left false b e = e
@@ -96,12 +76,6 @@ and_left false b e = e
 and_right : (a b : Bool) → a && b ≡ true → b ≡ true
 and_right true b e = e
 and_right false b e = cc
-
-none_left : {T : Type 0} (k : ℕ) (qs : List (QueuedInput T)) (vs : List (Stream T)) → are_gone qs ≡ true → inputs_left k qs vs ≡ []
-none_left k [] vs e = refl
-none_left k (q ∷ qs) vs e =
-    ap (λ o. here k o (inputs_left (suc k) qs (tail_of vs))) (gone_still q.tail q.queue.items (head_of vs) (and_left (is_gone q) (are_gone qs) e))
-    ∙ none_left (suc k) qs (tail_of vs) (and_right (is_gone q) (are_gone qs) e)
 
 pub last_picked : {T : Type 0} (out out' : Output T) (qs : List (QueuedInput T)) (i : ℕ) (old new : QueuedInput T) → IsPick out qs i Complete old new → out' ≡ Waiting Complete → are_gone (slice_set qs i new) ≡ true →
     (inc : Incoming T) (further : Note) → merge_of out' (slice_set qs i new) inc further ≡ merge_of out qs inc (note_then (Picks (i ∷ [])) further)
@@ -119,7 +93,7 @@ failure_picked out out' qs qs' i c old new p put inc (Picks cs) = rw (put, p.emp
 -- ---- what the code knows
 
 -- an input that can be picked is there
-pub there : {T : Type 0} (qs : List (QueuedInput T)) (i asked sent : ℕ) → may_pick (option_map front_of (input_signal (slice_get qs i))) asked sent ≡ true → i < length qs
+pub there : {T : Type 0} (qs : List (QueuedInput T)) (i asked sent : ℕ) → may_pick (option_map front_of (next_signal_at (slice_get qs i))) asked sent ≡ true → i < length qs
 there [] i asked sent e = cc
 there (q ∷ qs) zero asked sent e = omega arith
 there (q ∷ qs) (suc i) asked sent e = let lt = there qs i asked sent e in omega arith
@@ -131,13 +105,13 @@ empty_is Over e = cc
 
 -- the code's facts make a pick
 pub is_pick : {T : Type 0} (out : Output T) (qs : List (QueuedInput T)) (i asked sent : ℕ) (o : Option (Signal T)) (t s : Signal T) (old new : QueuedInput T) →
-    is_empty out && may_pick (option_map front_of (input_signal (slice_get qs i))) asked sent ≡ true → old ≡ slice_index_or qs i old → o ≡ next_signal old → new ≡ without old o → IfSome o (λ u. Gives old u new) → o ≡ Some t → t ≡ s → IsPick out qs i s old new
+    is_empty out && may_pick (option_map front_of (next_signal_at (slice_get qs i))) asked sent ≡ true → old ≡ slice_index_or qs i old → o ≡ next_signal old → new ≡ without old o → IfSome o (λ u. Gives old u new) → o ≡ Some t → t ≡ s → IsPick out qs i s old new
 is_pick {T} out qs i asked sent o t s old new picks was signal state value is at =
     let whole : o ≡ Some s = is ∙ ap Some at in
     let P : Option (Signal T) → Type 0 = λ z. IfSome z (λ u. Gives old u new) in
     record {
-      empty = empty_is out (and_left (is_empty out) (may_pick (option_map front_of (input_signal (slice_get qs i))) asked sent) picks);
-      there = there qs i asked sent (and_right (is_empty out) (may_pick (option_map front_of (input_signal (slice_get qs i))) asked sent) picks);
+      empty = empty_is out (and_left (is_empty out) (may_pick (option_map front_of (next_signal_at (slice_get qs i))) asked sent) picks);
+      there = there qs i asked sent (and_right (is_empty out) (may_pick (option_map front_of (next_signal_at (slice_get qs i))) asked sent) picks);
       was = was;
       signal = sym whole ∙ signal;
       gives = subst P whole value;
@@ -145,19 +119,13 @@ is_pick {T} out qs i asked sent o t s old new picks was signal state value is at
     }
 
 -- an input that can be picked gives a signal
-pub gives_some : {T : Type 0} (out : Output T) (qs : List (QueuedInput T)) (i asked sent : ℕ) (old : QueuedInput T) → is_empty out && may_pick (option_map front_of (input_signal (slice_get qs i))) asked sent ≡ true → old ≡ slice_index_or qs i old → next_signal old ≡ None → ⊥
-gives_some {T} out qs i asked sent old picks was none = by_place qs i was (and_right (is_empty out) (may_pick (option_map front_of (input_signal (slice_get qs i))) asked sent) picks)
+pub gives_some : {T : Type 0} (out : Output T) (qs : List (QueuedInput T)) (i asked sent : ℕ) (old : QueuedInput T) → is_empty out && may_pick (option_map front_of (next_signal_at (slice_get qs i))) asked sent ≡ true → old ≡ slice_index_or qs i old → next_signal old ≡ None → ⊥
+gives_some {T} out qs i asked sent old picks was none = by_place qs i was (and_right (is_empty out) (may_pick (option_map front_of (next_signal_at (slice_get qs i))) asked sent) picks)
   where
-    by_place : (qs : List (QueuedInput T)) (i : ℕ) → old ≡ slice_index_or qs i old → may_pick (option_map front_of (input_signal (slice_get qs i))) asked sent ≡ true → ⊥
+    by_place : (qs : List (QueuedInput T)) (i : ℕ) → old ≡ slice_index_or qs i old → may_pick (option_map front_of (next_signal_at (slice_get qs i))) asked sent ≡ true → ⊥
     by_place [] i was e = cc
     by_place (q ∷ qs) zero was e = cc (sym none ∙ ap next_signal was)
     by_place (q ∷ qs) (suc i) was e = by_place qs i was e
-
--- a choice, and what stands behind it
-pub composed : (cs : List ℕ) (i : ℕ) → IsComposed (Picks cs) (Picks (i ∷ []))
-composed cs i Nothing = refl
-composed cs i (Picks ds) = ap Picks (append_assoc cs (i ∷ []) ds)
-composed cs i (Ended o) = refl
 
 -- ---- the counts
 
@@ -185,7 +153,7 @@ both b x y = cc
 not_ended : {T : Type 0} (out : Output T) → out ≡ Empty → has_ending out ≡ true → ⊥
 not_ended out e h = both (has_ending out) h (ap has_ending e)
 
-done_kept : {T : Type 0} (qs : List (QueuedInput T)) (i j : ℕ) (s : Signal T) (q p : QueuedInput T) → q ≡ slice_index_or qs i q → p ≡ without q (Some s) → input_done (slice_get qs j) ≡ true → input_done (slice_get (slice_set qs i p) j) ≡ true
+done_kept : {T : Type 0} (qs : List (QueuedInput T)) (i j : ℕ) (s : Signal T) (q p : QueuedInput T) → q ≡ slice_index_or qs i q → p ≡ without q (Some s) → done_at (slice_get qs j) ≡ true → done_at (slice_get (slice_set qs i p) j) ≡ true
 done_kept qs i j s q p at is d = done_stays qs i j q p at (λ e. ap (λ z. is_ended z.tail) is ∙ ended_without q s e) d
 
 -- the node goes on

@@ -3,9 +3,9 @@ use Rattle.std.proofs.Common.{◌≡◌, ℕ, zero, suc, ◌<◌, ◌≤◌, ◌
 use Rattle.std.proofs.Math.ListN.{replicate}
 use Rattle.std.proofs.lemmas.List.{length-replicate}
 use Rattle.rsx_types.specs.declared.note.Note.{Note}
-use Rattle.rsx_types.specs.Stream.{Stream, signals}
+use Rattle.rsx_types.specs.Stream.{Stream}
 use Rattle.rsx_sources.specs.Machine.{Incoming}
-use Rattle.rsx_queued.proofs.Counts.{counted_fresh}
+use Rattle.rsx_queued.proofs.Changed.{fresh_left, fresh_counted}
 use Rattle.rsx_queued.specs.declared.input.QueuedInput.{QueuedInput}
 use Rattle.rsx_queued.specs.declared.output.Output.{Output}
 use Rattle.rsx_queued.specs.declared.output.Output.TheVariants.{Empty}
@@ -14,14 +14,10 @@ use Rattle.rsx_queued.specs.Output.{is_over, output_then}
 use Rattle.rsx_choices.proofs.OneChoice.{done_stays}
 use Rattle.rsx_choices.specs.Pick.{numbered}
 use Rattle.rsx_choices.specs.Merge.{merge, merge_inputs}
-use Rattle.rsx_queued.specs.Values.{head_of, tail_of, first_values}
-use Rattle.rsx_merging.specs.Inputs.{inputs_left, are_gone, AreCounted}
-use Rattle.rsx_merging.specs.Laws.{picked_same}
-use Rattle.rsx_merging.specs.Merge.{picked, merge_of, first_output, IsGoing}
-
-fresh_left : {T : Type 0} (k n p : ℕ) (vs : List (Stream T)) → inputs_left k (replicate n (fresh_input p)) vs ≡ numbered k (first_values n vs)
-fresh_left k zero p vs = refl
-fresh_left k (suc n) p vs = ap (λ is. (k, signals (head_of vs)) ∷ is) (fresh_left (suc k) n p (tail_of vs))
+use Rattle.rsx_queued.specs.Values.{first_values}
+use Rattle.rsx_queued.specs.Inputs.{inputs_left, are_gone, picked}
+use Rattle.rsx_queued.specs.Laws.{picked_same}
+use Rattle.rsx_merging.specs.Merge.{merge_of, first_output, IsGoing}
 
 first_then : {T : Type 0} (n : ℕ) (vs : List (Stream T)) (cs : List ℕ) → output_then (first_output n) (merge cs (first_values n vs)) (merge_inputs cs []) ≡ merge cs (first_values n vs)
 first_then zero vs cs = done_stays cs
@@ -33,10 +29,6 @@ fresh_merge {T} out qs n p first all inc further =
     let vs = inc.first ∷ inc.others in
     rw (first, all) (picked_same further (λ cs. output_then (first_output n) (merge_inputs cs (inputs_left 0 (replicate n (fresh_input p)) vs)) (merge_inputs cs [])) (λ cs. merge cs (first_values n vs))
     (λ cs. ap (λ is. output_then (first_output n) (merge_inputs cs is) (merge_inputs cs [])) (fresh_left 0 n p vs) ∙ first_then n vs cs))
-
-fresh_counts : (T : Type 0) (n p : ℕ) → 1 ≤ p → AreCounted (replicate n (fresh_input {T = T} p)) (replicate n 0)
-fresh_counts T zero p h = tt
-fresh_counts T (suc n) p h = (counted_fresh T p h, fresh_counts T n p h)
 
 some_fresh : (T : Type 0) (n p : ℕ) → 1 ≤ n → are_gone (replicate n (fresh_input {T = T} p)) ≡ false
 some_fresh T zero p h = absurd (omega arith)
@@ -51,7 +43,7 @@ fresh_going {T} out qs n p first all some lt h = rw (first, all) (record {
   not_over = not_over T n;
   some_left = some_fresh T n p some;
   few = rw length-replicate (omega arith);
-  counts = fresh_counts T n p h;
+  counts = fresh_counted T n p h;
 })
 
 -- a merge of some inputs puts out nothing at first

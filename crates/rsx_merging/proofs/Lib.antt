@@ -1,5 +1,4 @@
 pub mod Chosen
 pub mod Fresh
-pub mod Owed
-pub mod Places
+pub mod Rest
 pub mod Takes

@@ -1,4 +1,3 @@
 -- Definitions that contracts cite.
-pub mod Inputs
 pub mod Laws
 pub mod Merge

@@ -1,7 +1,7 @@
 -- The merge as a node: the queues of its inputs, what it has put out, and the choices made.
 use Rattle.std.specs.Prelude.{◌≡◌, ℕ, zero, suc, ◌≤◌, ◌^◌, Bool, true, false, ◌&&◌, nat_lt, List, [], ◌∷◌, length, slice_get, Option, Some, None, option_map}
 use Rattle.rsx_types.specs.declared.note.Note.{Note}
-use Rattle.rsx_types.specs.declared.note.Note.TheVariants.{Nothing, Picks, Ended}
+use Rattle.rsx_types.specs.declared.note.Note.TheVariants.{Picks}
 use Rattle.rsx_types.specs.declared.signal.Signal.{Signal}
 use Rattle.rsx_types.specs.declared.signal.Signal.TheVariants.{Complete}
 use Rattle.rsx_types.specs.Meaning.{Meaning}
@@ -9,22 +9,14 @@ use Rattle.rsx_types.specs.Stream.{Stream}
 use Rattle.rsx_sources.specs.Machine.{Incoming, front_of}
 use Rattle.rsx_sources.specs.declared.machine.Front.{Front}
 use Rattle.rsx_sources.specs.declared.machine.Front.TheVariants.{Item, Completion, Failure}
-use Rattle.rsx_crossing.specs.Queued.{is_ended}
 use Rattle.rsx_queued.specs.declared.input.QueuedInput.{QueuedInput}
 use Rattle.rsx_queued.specs.declared.output.Output.{Output}
 use Rattle.rsx_queued.specs.declared.output.Output.TheVariants.{Empty, Waiting}
-use Rattle.rsx_queued.specs.Input.{takes, next_signal, input_credits}
+use Rattle.rsx_queued.specs.Inputs.{takes_at, next_signal_at, credits_at, done_at, are_gone, AreCounted, inputs_left, picked}
 use Rattle.rsx_queued.specs.Output.{out_signal, is_empty, is_over, has_ending, IsOut, output_then}
 use Rattle.rsx_choices.specs.Merge.{merge_inputs}
 use Rattle.rsx_choices.specs.Record.{written}
-use Rattle.rsx_merging.specs.Inputs.{inputs_left, are_gone, AreCounted}
 use Rattle.rsx_merging.specs.declared.node.MergeNode.{MergeNode}
-
--- a node that records picks has a value only where picks are chosen
-abbrev pub picked : {A : Type 0} → Note → (List ℕ → Option A) → Option A
-picked Nothing f = None
-picked (Picks cs) f = f cs
-picked (Ended o) f = None
 
 -- what was put out, and then the merge of the inputs under the further choices; behind an ending nothing can be chosen
 abbrev pub merge_of : {T : Type 0} → Output T → List (QueuedInput T) → Incoming T → Note → Option (Stream T)
@@ -39,18 +31,8 @@ merge_waiting m n = out_signal n.output
 abbrev pub merge_shown : {T : Type 0} → MergeNode T → Option Front
 merge_shown n = option_map front_of (out_signal n.output)
 
--- whether an input takes such a signal
-abbrev pub input_takes : {T : Type 0} → Option (QueuedInput T) → Front → Bool
-input_takes None f = false
-input_takes (Some q) f = takes q f
-
 abbrev pub merge_takes : {T : Type 0} → MergeNode T → ℕ → Front → Bool
-merge_takes n i f = input_takes (slice_get n.inputs.items i) f
-
--- the next signal of an input
-abbrev pub input_signal : {T : Type 0} → Option (QueuedInput T) → Option (Signal T)
-input_signal None = None
-input_signal (Some q) = next_signal q
+merge_takes n i f = takes_at (slice_get n.inputs.items i) f
 
 -- an item can be picked only where one more may be sent
 abbrev pub may_pick : Option Front → ℕ → ℕ → Bool
@@ -60,7 +42,7 @@ may_pick (Some Completion) asked sent = true
 may_pick (Some (Failure c)) asked sent = true
 
 abbrev pub merge_picks : {T : Type 0} → MergeNode T → ℕ → ℕ → ℕ → Bool
-merge_picks n i asked sent = is_empty n.output && may_pick (option_map front_of (input_signal (slice_get n.inputs.items i))) asked sent
+merge_picks n i asked sent = is_empty n.output && may_pick (option_map front_of (next_signal_at (slice_get n.inputs.items i))) asked sent
 
 abbrev pub merge_recording : {T : Type 0} → MergeNode T → ℕ → Note
 merge_recording n i = Picks (i ∷ [])
@@ -72,13 +54,8 @@ merge_recorded n = Picks (written n.choices)
 abbrev pub merge_ended : {T : Type 0} → MergeNode T → Bool
 merge_ended n = has_ending n.output
 
--- whether an input's ending came in
-abbrev pub input_done : {T : Type 0} → Option (QueuedInput T) → Bool
-input_done None = true
-input_done (Some q) = is_ended q.tail
-
 abbrev pub merge_done : {T : Type 0} → MergeNode T → ℕ → Bool
-merge_done n i = input_done (slice_get n.inputs.items i)
+merge_done n i = done_at (slice_get n.inputs.items i)
 
 -- the node goes on, and its inputs took in so many items each
 pub record IsGoing {T : Type 0} (out : Output T) (qs : List (QueuedInput T)) (taken : List ℕ) : Type 0 where
@@ -90,13 +67,8 @@ pub record IsGoing {T : Type 0} (out : Output T) (qs : List (QueuedInput T)) (ta
 abbrev pub merge_counted : {T : Type 0} → MergeNode T → List ℕ → ℕ → Type 0
 merge_counted n taken sent = IsGoing n.output n.inputs.items taken
 
--- the total to be asked of an input
-abbrev pub credits_of : {T : Type 0} → Option (QueuedInput T) → ℕ
-credits_of None = 0
-credits_of (Some q) = input_credits q
-
 abbrev pub merge_wanted : {T : Type 0} → MergeNode T → ℕ → ℕ → ℕ → ℕ
-merge_wanted n i asked sent = credits_of (slice_get n.inputs.items i)
+merge_wanted n i asked sent = credits_at (slice_get n.inputs.items i)
 
 abbrev pub merge_popped : {T : Type 0} → MergeNode T → Signal T → MergeNode T → Type 0
 merge_popped old s new = IsOut old.output s new.output × (old.inputs ≡ new.inputs) × (old.choices ≡ new.choices)

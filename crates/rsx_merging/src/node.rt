@@ -1,14 +1,14 @@
 //! The merge of several inputs.
 
 ghost use Rattle.std.specs.Prelude.{◌≡◌};
-ghost use Rattle.rsx_merging.specs.Inputs.{are_gone};
 ghost use Rattle.rsx_merging.specs.Merge.{first_output};
 
-use crate::left::{InputsLeft, item_first};
-use rsx_choices::{Record, Run};
-use rsx_queued::{Output, QueuedInput, front_of};
+use rsx_choices::{Record, Run, merge_inputs};
+use rsx_queued::{
+    InFront, Output, QueuedInput, ToPick, are_gone, credits_at, front_at, front_of, takes_at,
+};
 use rsx_sources::{Front, Machine, NotMade, NotTaken, Passed};
-use rsx_types::{Ending, NoMemory, Note, Ops, Signal, StreamValue};
+use rsx_types::{NoMemory, Note, Ops, Signal, StreamValue};
 use std::alloc::Global;
 
 /// The items of its inputs, in the order in which they are picked. It completes when the completions of all inputs were picked,
@@ -24,16 +24,6 @@ pub struct MergeNode<T> {
     pub output: Output<T>,
     /// The choices made.
     pub choices: Record,
-}
-
-/// Whether the endings of all inputs were picked.
-fn are_gone<T: Drop>(inputs: &[QueuedInput<T>]) -> bool
-    ensures { result ≡ are_gone inputs.now }
-{
-    match inputs.split_first() {
-        None => true,
-        Some((first, others)) => first.is_gone() && are_gone(others),
-    }
 }
 
 /// What a merge of so many inputs puts out first: that of none completes at once.
@@ -57,7 +47,8 @@ impl<T: Drop> MergeNode<T> {
     ghost use Rattle.rsx_choices.specs.Merge.{merge};
     ghost use Rattle.rsx_queued.specs.Input.{fresh_input};
     ghost use Rattle.rsx_queued.specs.Values.{first_values};
-    ghost use Rattle.rsx_merging.specs.Merge.{merge_comes_out, merge_counted, picked};
+    ghost use Rattle.rsx_queued.specs.Inputs.{picked};
+    ghost use Rattle.rsx_merging.specs.Merge.{merge_comes_out, merge_counted};
 
     /// The merge of so many inputs, each with a queue of this capacity, 1 to [`LARGEST`](rsx_prefetch::LARGEST). That of no inputs
     /// completes at once.
@@ -174,10 +165,7 @@ impl<T: Drop> Machine for MergeNode<T> {
     }
 
     fn can_take(&self, input: u64, front: Front) -> bool {
-        match self.inputs.get(input as usize) {
-            Some(queued) => queued.can_take(front),
-            None => false,
-        }
+        takes_at(self.inputs.as_slice(), input, front)
     }
 
     fn on_signal<O: Ops<Item = T>>(
@@ -233,12 +221,9 @@ impl<T: Drop> Machine for MergeNode<T> {
         if !self.output.is_empty() {
             return false;
         }
-        match self.inputs.get(input as usize) {
-            Some(queued) => match queued.front() {
-                Some(Front::Item) => sent < asked,
-                Some(Front::Completion) | Some(Front::Failure(_)) => true,
-                None => false,
-            },
+        match front_at(self.inputs.as_slice(), input) {
+            Some(Front::Item) => sent < asked,
+            Some(Front::Completion) | Some(Front::Failure(_)) => true,
             None => false,
         }
     }
@@ -314,10 +299,7 @@ impl<T: Drop> Machine for MergeNode<T> {
     }
 
     fn want(&self, input: u64, asked: u64, sent: u64) -> u64 {
-        match self.inputs.get(input as usize) {
-            Some(queued) => queued.credits(),
-            None => 0,
-        }
+        credits_at(self.inputs.as_slice(), input)
     }
 
     fn note(&self, alloc: Global) -> Result<Note, NoMemory> {
@@ -335,20 +317,11 @@ impl<T: Drop> Machine for MergeNode<T> {
         ensures { IfOk result (λ v.
             IsResidualOf (merge_comes_out (O.meaning ops.now)) merge_recorded (λ n. None) self.now inboxes.now incoming.now v) }
     {
-        match &self.output {
-            Output::Empty => self.merged_left(alloc, ops, incoming),
-            Output::Waiting(Signal::Next(item)) => {
-                let first = ops.copy(alloc, item)?;
-                let value = self.merged_left(alloc, ops, incoming)?;
-                item_first(first, value)
-            }
-            Output::Waiting(Signal::Complete) => {
-                Ok(StreamValue::new(Vec::new(alloc), Ending::Done))
-            }
-            Output::Waiting(Signal::Error(cause)) => {
-                Ok(StreamValue::new(Vec::new(alloc), Ending::Failed(*cause)))
-            }
-            Output::Over => Ok(StreamValue::new(Vec::new(alloc), Ending::Done)),
+        let mut left = Vec::new(alloc);
+        left.push_inputs(alloc, ops, 0, self.inputs.as_slice(), incoming)?;
+        match merge_inputs(alloc, left, &[])? {
+            Some(rest) => self.output.in_front(alloc, ops, rest),
+            None => unreachable!(),
         }
     }
 

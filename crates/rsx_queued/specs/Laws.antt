@@ -1,12 +1,22 @@
 -- What the laws of nodes with such an output rest on.
-use Rattle.std.specs.Prelude.{◌≡◌, true, false, List, [], ◌∷◌, ◌++◌, Option, Some, None, refl}
+use Rattle.std.specs.Prelude.{◌≡◌, ℕ, suc, true, false, List, [], ◌∷◌, ◌++◌, length, slice_get, Option, Some, None, refl}
+use Rattle.std.proofs.Common.{ap}
+use Rattle.rsx_types.specs.declared.note.Note.{Note}
+use Rattle.rsx_types.specs.declared.note.Note.TheVariants.{Nothing, Picks, Ended}
 use Rattle.rsx_types.specs.declared.signal.Signal.{Signal}
 use Rattle.rsx_types.specs.declared.signal.Signal.TheVariants.{Next, Complete, Error}
 use Rattle.rsx_types.specs.Stream.{Stream}
 use Rattle.rsx_sources.specs.Counts.{ends_input}
 use Rattle.rsx_sources.specs.Machine.{incoming_of}
+use Rattle.rsx_crossing.specs.declared.tail.Tail.{Tail}
+use Rattle.rsx_crossing.specs.declared.tail.Tail.TheVariants.{Open, Completion, Failure, Taken}
+use Rattle.rsx_crossing.specs.Held.{held_then}
+use Rattle.rsx_crossing.specs.Queued.{is_ended}
+use Rattle.rsx_queued.specs.declared.input.QueuedInput.{QueuedInput}
 use Rattle.rsx_queued.specs.declared.output.Output.{Output}
 use Rattle.rsx_queued.specs.declared.output.Output.TheVariants.{Empty, Waiting, Over}
+use Rattle.rsx_queued.specs.Input.{unless_taken, still}
+use Rattle.rsx_queued.specs.Inputs.{here, inputs_left, done_at, picked}
 use Rattle.rsx_queued.specs.Output.{out_signal, is_empty, is_over, has_ending, output_then}
 
 -- an ending that waits cuts off what comes
@@ -51,3 +61,25 @@ settled Over v over = (_, refl)
 pub same_row : {T : Type 0} (hubs before after : List (Stream T)) (v : Stream T) → (incoming_of hubs (before ++ v ∷ after)).first ∷ (incoming_of hubs (before ++ v ∷ after)).others ≡ before ++ v ∷ after
 same_row hubs [] after v = refl
 same_row hubs (b ∷ before) after v = refl
+
+-- ---- an input whose ending came in
+
+-- what comes in there doesn't matter
+pub still_ended : {T : Type 0} (t : Tail) (xs : List T) (v w : Stream T) → is_ended t ≡ true → unless_taken t (Some (held_then xs t v)) ≡ unless_taken t (Some (held_then xs t w))
+still_ended Open xs v w e = cc
+still_ended Completion xs v w e = refl
+still_ended (Failure c) xs v w e = refl
+still_ended Taken xs v w e = refl
+
+pub done_left : {T : Type 0} (k : ℕ) (qs : List (QueuedInput T)) (before after : List (Stream T)) (v w : Stream T) → done_at (slice_get qs (length before)) ≡ true →
+    inputs_left k qs (before ++ v ∷ after) ≡ inputs_left k qs (before ++ w ∷ after)
+done_left k [] before after v w d = refl
+done_left k (q ∷ qs) [] after v w d = ap (λ o. here k o (inputs_left (suc k) qs after)) (still_ended q.tail q.queue.items v w d)
+done_left k (q ∷ qs) (b ∷ before) after v w d = ap (here k (still q b)) (done_left (suc k) qs before after v w d)
+
+-- ---- recorded picks
+
+pub picked_same : {A : Type 0} (further : Note) (f g : List ℕ → Option A) → ((cs : List ℕ) → f cs ≡ g cs) → picked further f ≡ picked further g
+picked_same Nothing f g h = refl
+picked_same (Picks cs) f g h = h cs
+picked_same (Ended o) f g h = refl

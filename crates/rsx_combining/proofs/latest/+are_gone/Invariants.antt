@@ -1,5 +1,0 @@
-use Rattle.std.proofs.Common.{length}
-use Rattle.rsx_combining.proofs.latest.+are_gone.Given as goal
-
-abbrev pub decreases-are_gone : goal.decreases-are_gone
-decreases-are_gone g l = length l.inputs.now

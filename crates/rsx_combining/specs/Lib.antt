@@ -1,6 +1,0 @@
--- Definitions that contracts cite.
-pub mod Inputs
-pub mod Latest
-pub mod LatestLaws
-pub mod Laws
-pub mod Zip

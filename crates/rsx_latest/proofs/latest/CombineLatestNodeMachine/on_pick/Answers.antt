@@ -1,0 +1,41 @@
+use Rattle.std.proofs.Common.{◌≡◌, length, sym, ap, ◌∙◌, slice_index_or}
+use Rattle.std.proofs.lemmas.List.{with_items_is}
+use Rattle.std.specs.Vec.{with_item, with_items}
+use Rattle.rsx_queued.specs.Input.{next_signal}
+use Rattle.rsx_latest.specs.Latest.{LatestState, row_given}
+use Rattle.rsx_latest.proofs.Comes.{IsPicked, pick_value, pick_steps, set_same}
+use Rattle.rsx_latest.proofs.latest.CombineLatestNodeMachine.on_pick.Goals as goal
+
+noted : (g : _) → goal.After-take_picked g → LatestState g.row.T.Denot
+noted g c =
+    record {
+      inputs = (with_item c.self.inside.inputs c.args.input c.row_of_next.new.input).items;
+      latest = (with_items c.self.inside.latest c.row_of_next.new.latest).items;
+      output = c.self.inside.output;
+      choices = c.push.new.self;
+    }
+
+picked : (g : _) (c : goal.After-take_picked g) → IsPicked (g.O.Ops.meaning c.args.ops.now) c.args.self.now (noted g c) c.take_picked.new.self c.args.input c.args.asked c.args.sent c.in-Ok.made
+unfolding noted
+picked g c =
+    let row_of = (g.O.Ops.meaning c.args.ops.now).row_of in
+    let a = c.index_mut.result.now in
+    let same = c.self.view_is in
+    let kept = c.in-Ok.ensures.latest ∙ c.as_mut_slice.ensures.value in
+    let long : length c.row_of_next.new.latest ≡ c.self.inside.latest.len = ap length kept ∙ sym c.self.inside.latest.ok.0 in
+    record {
+      enabled = sym c.can_pick.ensures ∙ c.if-not-can_pick.false;
+      but = (set_same c.self.inside.inputs.items c.args.input a c.row_of_next.new.input c.index_mut.ensures.value c.in-Ok.ensures.input ∙ ap (λ n. n.inputs) same, with_items_is c.self.inside.latest c.row_of_next.new.latest long ∙ kept ∙ ap (λ n. n.latest) same, ap (λ n. n.output) same);
+      a = a;
+      was = c.index_mut.ensures.value ∙ ap (λ n. slice_index_or n.inputs c.args.input a) same;
+      row = c.in-Ok.ensures.row ∙ ap (λ l. row_given row_of l c.args.input (next_signal a)) (c.as_mut_slice.ensures.value ∙ ap (λ n. n.latest) same);
+      after = c.take_picked.ensures;
+    }
+
+pub returns-clause-ok : goal.returns-clause-ok
+unfolding noted
+returns-clause-ok g c = pick_value (g.O.Ops.meaning c.args.ops.now) c.args.self.now (noted g c) c.take_picked.new.self c.args.input c.args.asked c.args.sent c.in-Ok.made (picked g c)
+
+pub returns-clause-counts : goal.returns-clause-counts
+unfolding noted
+returns-clause-counts g c = pick_steps (g.O.Ops.meaning c.args.ops.now) c.args.self.now (noted g c) c.take_picked.new.self c.args.input c.args.asked c.args.sent c.in-Ok.made (picked g c)

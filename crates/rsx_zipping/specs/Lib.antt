@@ -1,0 +1,4 @@
+-- Definitions that contracts cite.
+pub mod Inputs
+pub mod Laws
+pub mod Zip
