@@ -1,4 +1,4 @@
-use Rattle.std.proofs.Common.{None, sym, ap, ◌∙◌}
+use Rattle.std.proofs.Common.{None, sym, ap, ◌∙◌, rules}
 use Rattle.rsx_latest.specs.Latest.{LatestState, made_out, completed}
 use Rattle.rsx_latest.proofs.Takes.{IsTaken, taken_as, item_taken, completion_taken, failure_taken}
 use Rattle.rsx_latest.proofs.latest.CombineLatestNode.take_picked.Goals as goal
@@ -38,3 +38,39 @@ returns g c =
     let start : LatestState g.row.T.Denot = record { inputs = c.self.inside.inputs.items; latest = c.self.inside.latest.items; output = c.self.inside.output; choices = c.self.inside.choices } in
     let p : IsTaken start c.args.self.now c.args.at c.take.result c.index_mut.result.now c.take.new.self = record { same = c.self.view_is; there = c.requires.there; was = c.index_mut.ensures.value; signal = c.take.ensures.signal; state = c.take.ensures.state } in
     taken_as start c.args.self.now c.args.at c.args.made c.take.result None c.index_mut.result.now c.take.new.self p c.in-None.is
+
+pub index_mut-requires : goal.index_mut-requires
+index_mut-requires g c = search rules
+
+pub index_mut-requires-in-Some-Next : goal.index_mut-requires-in-Some-Next
+index_mut-requires-in-Some-Next g c = search rules
+
+pub put-requires : goal.put-requires
+put-requires g c = search rules
+
+pub invariant_of-self : goal.invariant_of-self
+invariant_of-self g c = search rules
+
+pub invariant_of-self-in_default : goal.invariant_of-self-in_default
+invariant_of-self-in_default g c = search rules
+
+pub invariant_of-self-in-Some-Complete : goal.invariant_of-self-in-Some-Complete
+invariant_of-self-in-Some-Complete g c = search rules
+
+pub put-requires-then-completes : goal.put-requires-then-completes
+put-requires-then-completes g c = search rules
+
+pub invariant_of-self-then-completes : goal.invariant_of-self-then-completes
+invariant_of-self-then-completes g c = search rules
+
+pub invariant_of-self-else-completes : goal.invariant_of-self-else-completes
+invariant_of-self-else-completes g c = search rules
+
+pub put-requires-in-Some-Error : goal.put-requires-in-Some-Error
+put-requires-in-Some-Error g c = search rules
+
+pub invariant_of-self-in-Some-Error : goal.invariant_of-self-in-Some-Error
+invariant_of-self-in-Some-Error g c = search rules
+
+pub invariant_of-self-in-None : goal.invariant_of-self-in-None
+invariant_of-self-in-None g c = search rules

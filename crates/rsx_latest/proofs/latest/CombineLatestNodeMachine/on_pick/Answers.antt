@@ -1,4 +1,5 @@
-use Rattle.std.proofs.Common.{◌≡◌, length, sym, ap, ◌∙◌, slice_index_or}
+use Rattle.std.proofs.lemmas.Grind.{common_steps}
+use Rattle.std.proofs.Common.{◌≡◌, length, sym, ap, ◌∙◌, slice_index_or, rules, arith}
 use Rattle.std.proofs.lemmas.List.{with_items_is}
 use Rattle.std.specs.Vec.{with_item, with_items}
 use Rattle.rsx_queued.specs.Input.{next_signal}
@@ -39,3 +40,51 @@ returns-clause-ok g c = pick_value (g.O.Ops.meaning c.args.ops.now) c.args.self.
 pub returns-clause-counts : goal.returns-clause-counts
 unfolding noted
 returns-clause-counts g c = pick_steps (g.O.Ops.meaning c.args.ops.now) c.args.self.now (noted g c) c.take_picked.new.self c.args.input c.args.asked c.args.sent c.in-Ok.made (picked g c)
+
+pub same-self : goal.same-self
+same-self g c = search rules
+
+pub returns-then-not-can_pick-clause-err : goal.returns-then-not-can_pick-clause-err
+returns-then-not-can_pick-clause-err g c = search rules
+
+pub returns-then-not-can_pick-clause-same : goal.returns-then-not-can_pick-clause-same
+returns-then-not-can_pick-clause-same g c = search rules
+
+pub row_of_next-requires-clause-empty : goal.row_of_next-requires-clause-empty
+row_of_next-requires-clause-empty g c = search rules
+
+pub row_of_next-requires-clause-fits : goal.row_of_next-requires-clause-fits
+row_of_next-requires-clause-fits g c = search rules
+
+pub invariant_of-self : goal.invariant_of-self
+invariant_of-self g c = grind (arith, common_steps)
+
+pub returns-in-Err-clause-err : goal.returns-in-Err-clause-err
+returns-in-Err-clause-err g c = search rules
+
+pub returns-in-Err-clause-same : goal.returns-in-Err-clause-same
+returns-in-Err-clause-same g c = grind (arith, common_steps)
+
+pub invariant_of-self-in-Err-push : goal.invariant_of-self-in-Err-push
+invariant_of-self-in-Err-push g c = grind (arith, common_steps)
+
+pub returns-in-Err-push-clause-err : goal.returns-in-Err-push-clause-err
+returns-in-Err-push-clause-err g c = search rules
+
+pub returns-in-Err-push-clause-same : goal.returns-in-Err-push-clause-same
+returns-in-Err-push-clause-same g c = grind (arith, common_steps)
+
+pub invariant_of-self-2 : goal.invariant_of-self-2
+invariant_of-self-2 g c = grind (arith, common_steps)
+
+pub take_picked-requires-clause-free : goal.take_picked-requires-clause-free
+take_picked-requires-clause-free g c = search rules
+
+pub returns-clause-enabled : goal.returns-clause-enabled
+returns-clause-enabled g c = search rules
+
+pub returns-clause-recorded : goal.returns-clause-recorded
+returns-clause-recorded g c = search rules
+
+pub returns-clause-composes : goal.returns-clause-composes
+returns-clause-composes g c = grind (arith, common_steps)

@@ -1,4 +1,4 @@
-use Rattle.std.proofs.Common.{◌≡◌, ◌++◌, [], length, Some, None, sym, ap, ◌∙◌}
+use Rattle.std.proofs.Common.{◌≡◌, ◌++◌, [], length, Some, None, sym, ap, ◌∙◌, rules}
 use Rattle.std.proofs.lemmas.Result.{IfOk-weaker}
 use Rattle.rsx_types.specs.declared.signal.Ending.TheVariants.{Done}
 use Rattle.rsx_types.specs.Stream.{ended_by}
@@ -29,3 +29,18 @@ unreachable-requires g c =
     let w = some_walk m.row_of c.push_copies.new.self.items (length is) (rest_of is) in
     let clash : None ≡ Some w.0 = sym c.in-None.is ∙ c.in_ok-rest.ensures ∙ w.1 in
     cc
+
+pub push_inputs-requires : goal.push_inputs-requires
+push_inputs-requires g c = search rules
+
+pub returns-in_err-push_inputs : goal.returns-in_err-push_inputs
+returns-in_err-push_inputs g c = search rules
+
+pub returns-in_err-push_copies : goal.returns-in_err-push_copies
+returns-in_err-push_copies g c = search rules
+
+pub returns-in_err-rest : goal.returns-in_err-rest
+returns-in_err-rest g c = search rules
+
+pub unreachable-unreachable : goal.unreachable-unreachable
+unreachable-unreachable g c = search rules
