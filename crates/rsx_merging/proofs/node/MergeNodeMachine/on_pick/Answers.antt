@@ -1,4 +1,5 @@
-use Rattle.std.proofs.Common.{◌≡◌, true, refl, sym, ◌∙◌, rules}
+use Rattle.std.proofs.lemmas.Grind.{common_steps}
+use Rattle.std.proofs.Common.{◌≡◌, true, refl, sym, ◌∙◌, rules, arith}
 use Rattle.rsx_types.specs.declared.signal.Signal.TheVariants.{Next, Complete, Error}
 use Rattle.rsx_merging.specs.Merge.{merge_picks}
 use Rattle.rsx_merging.proofs.Chosen.{is_pick, item_picked, completion_picked, last_picked, failure_picked, gives_some, item_counts, completion_counts, last_counts, failure_counts}
@@ -65,3 +66,69 @@ unreachable-requires g c =
     let n = c.args.self.now in
     let picks : merge_picks n c.args.input c.args.asked c.args.sent ≡ true = search rules in
     gives_some n.output n.inputs.items c.args.input c.args.asked c.args.sent c.index_mut.result.now picks c.index_mut.ensures.value (sym c.take.ensures.signal ∙ c.in-None.is)
+
+pub returns-then-not-can_pick-clause-err : goal.returns-then-not-can_pick-clause-err
+returns-then-not-can_pick-clause-err g c = search rules
+
+pub returns-then-not-can_pick-clause-same : goal.returns-then-not-can_pick-clause-same
+returns-then-not-can_pick-clause-same g c = search rules
+
+pub returns-then-not-can_pick-clause-joined : goal.returns-then-not-can_pick-clause-joined
+returns-then-not-can_pick-clause-joined g c = search rules
+
+pub returns-in-Err-clause-err : goal.returns-in-Err-clause-err
+returns-in-Err-clause-err g c = search rules
+
+pub returns-in-Err-clause-same : goal.returns-in-Err-clause-same
+returns-in-Err-clause-same g c = search rules
+
+pub returns-in-Err-clause-joined : goal.returns-in-Err-clause-joined
+returns-in-Err-clause-joined g c = search rules
+
+pub put-requires : goal.put-requires
+put-requires g c = search rules
+
+pub put-requires-then-are_gone : goal.put-requires-then-are_gone
+put-requires-then-are_gone g c = search rules
+
+pub returns-then-are_gone-clause-enabled : goal.returns-then-are_gone-clause-enabled
+returns-then-are_gone-clause-enabled g c = search rules
+
+pub returns-then-are_gone-clause-recorded : goal.returns-then-are_gone-clause-recorded
+returns-then-are_gone-clause-recorded g c = search rules
+
+pub returns-then-are_gone-clause-composes : goal.returns-then-are_gone-clause-composes
+returns-then-are_gone-clause-composes g c = grind (arith, common_steps)
+
+pub put-requires-in-Some-Error : goal.put-requires-in-Some-Error
+put-requires-in-Some-Error g c = search rules
+
+pub unreachable-unreachable : goal.unreachable-unreachable
+unreachable-unreachable g c = search rules
+
+pub returns-in-Some-Next-clause-enabled : goal.returns-in-Some-Next-clause-enabled
+returns-in-Some-Next-clause-enabled g c = search rules
+
+pub returns-in-Some-Next-clause-recorded : goal.returns-in-Some-Next-clause-recorded
+returns-in-Some-Next-clause-recorded g c = search rules
+
+pub returns-in-Some-Next-clause-composes : goal.returns-in-Some-Next-clause-composes
+returns-in-Some-Next-clause-composes g c = grind (arith, common_steps)
+
+pub returns-else-are_gone-clause-enabled : goal.returns-else-are_gone-clause-enabled
+returns-else-are_gone-clause-enabled g c = search rules
+
+pub returns-else-are_gone-clause-recorded : goal.returns-else-are_gone-clause-recorded
+returns-else-are_gone-clause-recorded g c = search rules
+
+pub returns-else-are_gone-clause-composes : goal.returns-else-are_gone-clause-composes
+returns-else-are_gone-clause-composes g c = grind (arith, common_steps)
+
+pub returns-in-Some-Error-clause-enabled : goal.returns-in-Some-Error-clause-enabled
+returns-in-Some-Error-clause-enabled g c = search rules
+
+pub returns-in-Some-Error-clause-recorded : goal.returns-in-Some-Error-clause-recorded
+returns-in-Some-Error-clause-recorded g c = search rules
+
+pub returns-in-Some-Error-clause-composes : goal.returns-in-Some-Error-clause-composes
+returns-in-Some-Error-clause-composes g c = grind (arith, common_steps)

@@ -1,4 +1,4 @@
-use Rattle.std.proofs.Common.{◌≡◌, ◌++◌, [], Some, sym, ap, ◌∙◌}
+use Rattle.std.proofs.Common.{◌≡◌, ◌++◌, [], Some, sym, ap, ◌∙◌, rules}
 use Rattle.std.proofs.lemmas.Result.{IfOk-weaker}
 use Rattle.rsx_types.specs.declared.signal.Ending.TheVariants.{Done}
 use Rattle.rsx_types.specs.Stream.{ended_by}
@@ -16,3 +16,18 @@ returns g c =
     let rest : merge_inputs [] (inputs_left 0 n.inputs.items c.args.incoming.now) ≡ Some c.in-Some.rest = ap (merge_inputs []) (sym left) ∙ sym c.in_ok-rest.ensures ∙ c.in-Some.is in
     IfOk-weaker c.in_front.result (λ v. output_then n.output (Some c.in-Some.rest) (Some (ended_by Done)) ≡ Some v) _
     (λ v gives. rest_out n.output n.inputs.items _ c.args.incoming.now c.in-Some.rest v rest gives) c.in_front.ensures
+
+pub push_inputs-requires : goal.push_inputs-requires
+push_inputs-requires g c = search rules
+
+pub returns-in_err-push_inputs : goal.returns-in_err-push_inputs
+returns-in_err-push_inputs g c = search rules
+
+pub returns-in_err-rest : goal.returns-in_err-rest
+returns-in_err-rest g c = search rules
+
+pub unreachable-requires : goal.unreachable-requires
+unreachable-requires g c = search rules
+
+pub unreachable-unreachable : goal.unreachable-unreachable
+unreachable-unreachable g c = search rules
