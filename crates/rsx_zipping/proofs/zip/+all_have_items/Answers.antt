@@ -6,7 +6,7 @@ pub all_have_items-requires : goal.all_have_items-requires
 all_have_items-requires g t c κs within = search rules
 
 pub returns-in-None : goal.returns-in-None
-returns-in-None g t c = grind (arith, common_steps)
+returns-in-None g t c = grind (arith, common_steps) steps 1000000
 
 pub returns-in-Some-Item : goal.returns-in-Some-Item
 returns-in-Some-Item g t c = search rules

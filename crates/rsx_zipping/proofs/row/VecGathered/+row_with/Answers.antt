@@ -57,10 +57,10 @@ pub slice_back_joined-inputs-in-Some-pop : goal.slice_back_joined-inputs-in-Some
 slice_back_joined-inputs-in-Some-pop g t c = search rules
 
 pub returns-in-None-clause-row : goal.returns-in-None-clause-row
-returns-in-None-clause-row g t c = grind (arith, common_steps)
+returns-in-None-clause-row g t c = grind (arith, common_steps) steps 1000000
 
 pub returns-in-None-clause-taken : goal.returns-in-None-clause-taken
-returns-in-None-clause-taken g t c = grind (arith, common_steps)
+returns-in-None-clause-taken g t c = grind (arith, common_steps) steps 1000000
 
 pub returns-in-None-clause-same : goal.returns-in-None-clause-same
 returns-in-None-clause-same g t c = search rules
@@ -75,7 +75,7 @@ pub returns-in-None-clause-memory : goal.returns-in-None-clause-memory
 returns-in-None-clause-memory g t c = search rules
 
 pub returns-in-Ok-clause-row : goal.returns-in-Ok-clause-row
-returns-in-Ok-clause-row g t c = grind (arith, common_steps)
+returns-in-Ok-clause-row g t c = grind (arith, common_steps) steps 1000000
 
 pub returns-in-Ok-clause-taken : goal.returns-in-Ok-clause-taken
 returns-in-Ok-clause-taken g t c = search rules
@@ -87,10 +87,10 @@ pub returns-in-Ok-clause-memory : goal.returns-in-Ok-clause-memory
 returns-in-Ok-clause-memory g t c = search rules
 
 pub returns-in-Some-pop-clause-same : goal.returns-in-Some-pop-clause-same
-returns-in-Some-pop-clause-same g t c = grind (arith, common_steps)
+returns-in-Some-pop-clause-same g t c = grind (arith, common_steps) steps 1000000
 
 pub returns-in-Some-pop-clause-kept : goal.returns-in-Some-pop-clause-kept
-returns-in-Some-pop-clause-kept g t c = grind (arith, common_steps)
+returns-in-Some-pop-clause-kept g t c = grind (arith, common_steps) steps 1000000
 
 pub returns-in-Some-pop-clause-room : goal.returns-in-Some-pop-clause-room
 returns-in-Some-pop-clause-room g t c = search rules

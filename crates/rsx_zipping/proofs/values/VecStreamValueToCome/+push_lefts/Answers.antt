@@ -18,10 +18,10 @@ pub push_lefts-requires-in-Some-split_first : goal.push_lefts-requires-in-Some-s
 push_lefts-requires-in-Some-split_first g t c κs within = search rules
 
 pub returns-in-None : goal.returns-in-None
-returns-in-None g t c = grind (arith, common_steps)
+returns-in-None g t c = grind (arith, common_steps) steps 1000000
 
 pub returns-in_ok-push_left-in-None-split_first : goal.returns-in_ok-push_left-in-None-split_first
-returns-in_ok-push_left-in-None-split_first g t c = grind (arith, common_steps)
+returns-in_ok-push_left-in-None-split_first g t c = grind (arith, common_steps) steps 1000000
 
 pub returns-in_ok-push_left-in-Some-split_first : goal.returns-in_ok-push_left-in-Some-split_first
-returns-in_ok-push_left-in-Some-split_first g t c = grind (arith, common_steps)
+returns-in_ok-push_left-in-Some-split_first g t c = grind (arith, common_steps) steps 1000000

@@ -1,4 +1,5 @@
-use Rattle.std.proofs.Common.{◌≡◌, ◌++◌, List, length, sym, ap, ◌∙◌}
+use Rattle.std.proofs.lemmas.Grind.{common_steps}
+use Rattle.std.proofs.Common.{◌≡◌, ◌++◌, List, length, sym, ap, ◌∙◌, rules, arith}
 use Rattle.std.proofs.lemmas.List.{with_items_is}
 use Rattle.std.specs.Vec.{with_items}
 use Rattle.rsx_queued.specs.declared.input.QueuedInput.{QueuedInput}
@@ -39,3 +40,51 @@ pub returns-in-Ok-clause-counts : goal.returns-in-Ok-clause-counts
 unfolding start after
 returns-in-Ok-clause-counts g c =
     row_steps (g.O.Ops.meaning c.args.ops.now) (start g c) c.args.self.now c.args.asked c.args.sent (after g c) c.put.new.self c.in-Ok.row (made g c)
+
+pub same-self : goal.same-self
+same-self g c = search rules
+
+pub returns-then-not-can_row-clause-recorded : goal.returns-then-not-can_row-clause-recorded
+returns-then-not-can_row-clause-recorded g c = search rules
+
+pub returns-then-not-can_row-clause-err : goal.returns-then-not-can_row-clause-err
+returns-then-not-can_row-clause-err g c = search rules
+
+pub returns-then-not-can_row-clause-memory : goal.returns-then-not-can_row-clause-memory
+returns-then-not-can_row-clause-memory g c = search rules
+
+pub returns-then-not-can_row-clause-same : goal.returns-then-not-can_row-clause-same
+returns-then-not-can_row-clause-same g c = search rules
+
+pub row_with-requires-clause-items : goal.row_with-requires-clause-items
+row_with-requires-clause-items g c = search rules
+
+pub row_with-requires-clause-fits : goal.row_with-requires-clause-fits
+row_with-requires-clause-fits g c = search rules
+
+pub put-requires : goal.put-requires
+put-requires g c = search rules
+
+pub invariant_of-self : goal.invariant_of-self
+invariant_of-self g c = grind (arith, common_steps) steps 1000000
+
+pub invariant_of-self-in-Err : goal.invariant_of-self-in-Err
+invariant_of-self-in-Err g c = grind (arith, common_steps) steps 1000000
+
+pub returns-in-Ok-clause-enabled : goal.returns-in-Ok-clause-enabled
+returns-in-Ok-clause-enabled g c = search rules
+
+pub returns-in-Ok-clause-recorded : goal.returns-in-Ok-clause-recorded
+returns-in-Ok-clause-recorded g c = search rules
+
+pub returns-in-Err-clause-recorded : goal.returns-in-Err-clause-recorded
+returns-in-Err-clause-recorded g c = search rules
+
+pub returns-in-Err-clause-err : goal.returns-in-Err-clause-err
+returns-in-Err-clause-err g c = search rules
+
+pub returns-in-Err-clause-memory : goal.returns-in-Err-clause-memory
+returns-in-Err-clause-memory g c = search rules
+
+pub returns-in-Err-clause-same : goal.returns-in-Err-clause-same
+returns-in-Err-clause-same g c = grind (arith, common_steps) steps 1000000

@@ -1,4 +1,4 @@
-use Rattle.std.proofs.Common.{◌≡◌, ◌++◌, Some, None, ap, ◌∙◌}
+use Rattle.std.proofs.Common.{◌≡◌, ◌++◌, Some, None, ap, ◌∙◌, rules}
 use Rattle.std.proofs.lemmas.Result.{IfOk-weaker}
 use Rattle.rsx_types.specs.declared.signal.Ending.TheVariants.{Done}
 use Rattle.rsx_types.specs.Stream.{ended_by}
@@ -18,3 +18,15 @@ returns g c =
     let rest = c.in_ok-rest.ensures ∙ ap (zip m.row_of None) values in
     IfOk-weaker c.in_front.result (λ v. output_then c.self.inside.output (Some c.in-Some.rest) (Some (ended_by Done)) ≡ Some v) _
     (λ v gives. residual_of m start c.args.self.now c.args.inboxes.now c.args.incoming.now c.in_ok-rest.field-0 c.in-Some.rest v c.self.view_is rest c.in-Some.is gives) c.in_front.ensures
+
+pub returns-in_err-push_lefts : goal.returns-in_err-push_lefts
+returns-in_err-push_lefts g c = search rules
+
+pub returns-in_err-rest : goal.returns-in_err-rest
+returns-in_err-rest g c = search rules
+
+pub unreachable-requires : goal.unreachable-requires
+unreachable-requires g c = search rules
+
+pub unreachable-unreachable : goal.unreachable-unreachable
+unreachable-unreachable g c = search rules
