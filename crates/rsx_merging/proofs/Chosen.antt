@@ -1,6 +1,5 @@
 -- An input is picked: the value under the choice, and the counts.
-use Rattle.std.proofs.Common.{◌≡◌, ℕ, zero, suc, ◌+◌, ◌<◌, ◌&&◌, Bool, true, false, nat_eq, List, [], ◌∷◌, length, slice_index_or, slice_set, slice_get, Option, Some, None, option_map, IfSome, refl, ap, sym, ◌∙◌, subst, arith, append_assoc}
-use Rattle.std.proofs.lemmas.Bool.Decides.{nat_tests}
+use Rattle.std.proofs.Common.{◌≡◌, ℕ, zero, suc, ◌+◌, ◌<◌, ◌&&◌, Bool, true, false, List, [], ◌∷◌, length, slice_index_or, slice_set, slice_get, Option, Some, None, option_map, IfSome, refl, ap, sym, ◌∙◌, subst, arith}
 use Rattle.rsx_types.specs.declared.note.Note.{Note}
 use Rattle.rsx_types.specs.declared.note.Note.TheVariants.{Nothing, Picks, Ended}
 use Rattle.rsx_types.specs.declared.signal.Cause.{Cause}
@@ -9,19 +8,19 @@ use Rattle.rsx_types.specs.declared.signal.Signal.TheVariants.{Next, Complete, E
 use Rattle.rsx_types.specs.Notes.{note_then}
 use Rattle.rsx_types.specs.Stream.{Stream}
 use Rattle.rsx_sources.specs.Counts.{CountsStep}
-use Rattle.rsx_sources.specs.Machine.{Incoming, IsComposed, front_of}
+use Rattle.rsx_sources.specs.Machine.{Incoming, front_of}
 use Rattle.rsx_crossing.specs.declared.tail.Tail.{Tail}
 use Rattle.rsx_crossing.specs.declared.tail.Tail.TheVariants.{Open, Completion, Failure, Taken}
-use Rattle.rsx_crossing.specs.Held.{held_then, first_held}
+use Rattle.rsx_crossing.specs.Held.{first_held}
 use Rattle.rsx_crossing.specs.Queued.{is_ended}
 use Rattle.rsx_queued.proofs.Counts.{counted_without}
 use Rattle.rsx_queued.specs.declared.input.QueuedInput.{QueuedInput}
 use Rattle.rsx_queued.specs.declared.output.Output.{Output}
 use Rattle.rsx_queued.specs.declared.output.Output.TheVariants.{Empty, Waiting, Over}
-use Rattle.rsx_queued.specs.Input.{unless_taken, still, is_taken, is_gone, next_signal, without, Gives, IsFirst, IsCounted}
+use Rattle.rsx_queued.specs.Input.{unless_taken, still, is_taken, is_gone, next_signal, without, Gives, IsCounted}
 use Rattle.rsx_queued.specs.Output.{is_over, is_empty, has_ending}
 use Rattle.rsx_choices.proofs.OneChoice.{merge_step, done_stays as completion_stays}
-use Rattle.rsx_choices.specs.Pick.{InputLeft, next_of}
+use Rattle.rsx_choices.specs.Pick.{next_of}
 use Rattle.rsx_choices.specs.Merge.{merge_inputs, unless_failure, signal_first}
 use Rattle.rsx_merging.specs.declared.node.MergeNode.{MergeNode}
 use Rattle.rsx_queued.specs.Values.{head_of, tail_of}

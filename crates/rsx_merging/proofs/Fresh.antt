@@ -12,7 +12,6 @@ use Rattle.rsx_queued.specs.declared.output.Output.TheVariants.{Empty}
 use Rattle.rsx_queued.specs.Input.{fresh_input}
 use Rattle.rsx_queued.specs.Output.{is_over, output_then}
 use Rattle.rsx_choices.proofs.OneChoice.{done_stays}
-use Rattle.rsx_choices.specs.Pick.{numbered}
 use Rattle.rsx_choices.specs.Merge.{merge, merge_inputs}
 use Rattle.rsx_queued.specs.Values.{first_values}
 use Rattle.rsx_queued.specs.Inputs.{inputs_left, are_gone, picked}

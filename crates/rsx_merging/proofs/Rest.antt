@@ -1,5 +1,5 @@
 -- What still comes out of a merge where nothing more is chosen.
-use Rattle.std.proofs.Common.{◌≡◌, List, [], Option, Some, ap, ◌∙◌}
+use Rattle.std.proofs.Common.{◌≡◌, List, [], Some, ap, ◌∙◌}
 use Rattle.std.specs.Prelude.{⊤, ℕ}
 use Rattle.rsx_types.specs.declared.note.Note.{Note}
 use Rattle.rsx_types.specs.declared.note.Note.TheVariants.{Picks}

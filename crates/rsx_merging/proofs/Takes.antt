@@ -1,16 +1,16 @@
 -- A signal comes in at one of the inputs: the value, and the counts.
-use Rattle.std.proofs.Common.{◌≡◌, ℕ, true, List, slice_index_or, slice_set, [], Option, ap, sym, ◌∙◌}
+use Rattle.std.proofs.Common.{◌≡◌, ℕ, List, slice_set, [], Option, ap, ◌∙◌}
 use Rattle.rsx_types.specs.declared.note.Note.{Note}
 use Rattle.rsx_types.specs.declared.signal.Signal.{Signal}
 use Rattle.rsx_types.specs.Stream.{Stream, signal_then}
 use Rattle.rsx_sources.specs.Counts.{CountsIn}
-use Rattle.rsx_sources.specs.Machine.{Incoming, in_front, front_of}
+use Rattle.rsx_sources.specs.Machine.{Incoming, in_front}
 use Rattle.rsx_queued.specs.declared.input.QueuedInput.{QueuedInput}
 use Rattle.rsx_queued.specs.declared.output.Output.{Output}
-use Rattle.rsx_queued.specs.Input.{still, with_signal}
-use Rattle.rsx_queued.specs.Inputs.{takes_at, picked}
+use Rattle.rsx_queued.specs.Input.{still}
+use Rattle.rsx_queued.specs.Inputs.{picked}
 use Rattle.rsx_queued.specs.Output.{has_ending, output_then}
-use Rattle.rsx_queued.proofs.Changed.{length_set, IsPut, is_put, put_left, put_counted, put_not_gone, put_done, put_ends}
+use Rattle.rsx_queued.proofs.Changed.{length_set, IsPut, put_left, put_counted, put_not_gone, put_done, put_ends}
 use Rattle.rsx_choices.specs.Pick.{InputLeft}
 use Rattle.rsx_choices.specs.Merge.{merge_inputs}
 use Rattle.rsx_merging.specs.declared.node.MergeNode.{MergeNode}

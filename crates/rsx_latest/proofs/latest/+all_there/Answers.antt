@@ -6,7 +6,7 @@ pub all_there-requires : goal.all_there-requires
 all_there-requires g t c κs within = search rules
 
 pub returns-in-None : goal.returns-in-None
-returns-in-None g t c = grind (arith, common_steps)
+returns-in-None g t c = grind (arith, common_steps) steps 1000000
 
 pub returns-then-is_some : goal.returns-then-is_some
 returns-then-is_some g t c = search rules

@@ -12,7 +12,7 @@ pub gives_row-requires : goal.gives_row-requires
 gives_row-requires g t c κs within = search rules
 
 pub returns-in-None : goal.returns-in-None
-returns-in-None g t c = grind (arith, common_steps)
+returns-in-None g t c = grind (arith, common_steps) steps 1000000
 
 pub returns-then-is_some : goal.returns-then-is_some
 returns-then-is_some g t c = search rules

@@ -18,10 +18,10 @@ pub push_copies-requires-in-None-first : goal.push_copies-requires-in-None-first
 push_copies-requires-in-None-first g t c κs within = search rules
 
 pub returns-in-None : goal.returns-in-None
-returns-in-None g t c = grind (arith, common_steps)
+returns-in-None g t c = grind (arith, common_steps) steps 1000000
 
 pub returns-in_ok-push-in-Some-first : goal.returns-in_ok-push-in-Some-first
-returns-in_ok-push-in-Some-first g t c = grind (arith, common_steps)
+returns-in_ok-push-in-Some-first g t c = grind (arith, common_steps) steps 1000000
 
 pub returns-in_ok-push-in-None-first : goal.returns-in_ok-push-in-None-first
-returns-in_ok-push-in-None-first g t c = grind (arith, common_steps)
+returns-in_ok-push-in-None-first g t c = grind (arith, common_steps) steps 1000000

@@ -42,7 +42,7 @@ pub slice_back_joined-latest-in-Some-take : goal.slice_back_joined-latest-in-Som
 slice_back_joined-latest-in-Some-take g t c = search rules
 
 pub returns-in_ok-row-in-None-clause-row : goal.returns-in_ok-row-in-None-clause-row
-returns-in_ok-row-in-None-clause-row g t c = grind (arith, common_steps)
+returns-in_ok-row-in-None-clause-row g t c = grind (arith, common_steps) steps 1000000
 
 pub returns-in_ok-row-in-None-clause-latest : goal.returns-in_ok-row-in-None-clause-latest
 returns-in_ok-row-in-None-clause-latest g t c = search rules
@@ -72,7 +72,7 @@ pub returns-in-Some-take-clause-latest : goal.returns-in-Some-take-clause-latest
 returns-in-Some-take-clause-latest g t c = grind (arith, common_steps)
 
 pub returns-in-Some-take-clause-kept : goal.returns-in-Some-take-clause-kept
-returns-in-Some-take-clause-kept g t c = grind (arith, common_steps)
+returns-in-Some-take-clause-kept g t c = grind (arith, common_steps) steps 1000000
 
 pub returns-in-Some-take-clause-room : goal.returns-in-Some-take-clause-room
 returns-in-Some-take-clause-room g t c = search rules

@@ -57,25 +57,25 @@ pub row_of_next-requires-clause-fits : goal.row_of_next-requires-clause-fits
 row_of_next-requires-clause-fits g c = search rules
 
 pub invariant_of-self : goal.invariant_of-self
-invariant_of-self g c = grind (arith, common_steps)
+invariant_of-self g c = grind (arith, common_steps) steps 1000000
 
 pub returns-in-Err-clause-err : goal.returns-in-Err-clause-err
 returns-in-Err-clause-err g c = search rules
 
 pub returns-in-Err-clause-same : goal.returns-in-Err-clause-same
-returns-in-Err-clause-same g c = grind (arith, common_steps)
+returns-in-Err-clause-same g c = grind (arith, common_steps) steps 1000000
 
 pub invariant_of-self-in-Err-push : goal.invariant_of-self-in-Err-push
-invariant_of-self-in-Err-push g c = grind (arith, common_steps)
+invariant_of-self-in-Err-push g c = grind (arith, common_steps) steps 1000000
 
 pub returns-in-Err-push-clause-err : goal.returns-in-Err-push-clause-err
 returns-in-Err-push-clause-err g c = search rules
 
 pub returns-in-Err-push-clause-same : goal.returns-in-Err-push-clause-same
-returns-in-Err-push-clause-same g c = grind (arith, common_steps)
+returns-in-Err-push-clause-same g c = grind (arith, common_steps) steps 1000000
 
 pub invariant_of-self-2 : goal.invariant_of-self-2
-invariant_of-self-2 g c = grind (arith, common_steps)
+invariant_of-self-2 g c = grind (arith, common_steps) steps 1000000
 
 pub take_picked-requires-clause-free : goal.take_picked-requires-clause-free
 take_picked-requires-clause-free g c = search rules
@@ -87,4 +87,4 @@ pub returns-clause-recorded : goal.returns-clause-recorded
 returns-clause-recorded g c = search rules
 
 pub returns-clause-composes : goal.returns-clause-composes
-returns-clause-composes g c = grind (arith, common_steps)
+returns-clause-composes g c = grind (arith, common_steps) steps 1000000

@@ -98,7 +98,7 @@ pub returns-then-are_gone-clause-recorded : goal.returns-then-are_gone-clause-re
 returns-then-are_gone-clause-recorded g c = search rules
 
 pub returns-then-are_gone-clause-composes : goal.returns-then-are_gone-clause-composes
-returns-then-are_gone-clause-composes g c = grind (arith, common_steps)
+returns-then-are_gone-clause-composes g c = grind (arith, common_steps) steps 1000000
 
 pub put-requires-in-Some-Error : goal.put-requires-in-Some-Error
 put-requires-in-Some-Error g c = search rules
@@ -113,7 +113,7 @@ pub returns-in-Some-Next-clause-recorded : goal.returns-in-Some-Next-clause-reco
 returns-in-Some-Next-clause-recorded g c = search rules
 
 pub returns-in-Some-Next-clause-composes : goal.returns-in-Some-Next-clause-composes
-returns-in-Some-Next-clause-composes g c = grind (arith, common_steps)
+returns-in-Some-Next-clause-composes g c = grind (arith, common_steps) steps 1000000
 
 pub returns-else-are_gone-clause-enabled : goal.returns-else-are_gone-clause-enabled
 returns-else-are_gone-clause-enabled g c = search rules
@@ -122,7 +122,7 @@ pub returns-else-are_gone-clause-recorded : goal.returns-else-are_gone-clause-re
 returns-else-are_gone-clause-recorded g c = search rules
 
 pub returns-else-are_gone-clause-composes : goal.returns-else-are_gone-clause-composes
-returns-else-are_gone-clause-composes g c = grind (arith, common_steps)
+returns-else-are_gone-clause-composes g c = grind (arith, common_steps) steps 1000000
 
 pub returns-in-Some-Error-clause-enabled : goal.returns-in-Some-Error-clause-enabled
 returns-in-Some-Error-clause-enabled g c = search rules
@@ -131,4 +131,4 @@ pub returns-in-Some-Error-clause-recorded : goal.returns-in-Some-Error-clause-re
 returns-in-Some-Error-clause-recorded g c = search rules
 
 pub returns-in-Some-Error-clause-composes : goal.returns-in-Some-Error-clause-composes
-returns-in-Some-Error-clause-composes g c = grind (arith, common_steps)
+returns-in-Some-Error-clause-composes g c = grind (arith, common_steps) steps 1000000

@@ -1,5 +1,4 @@
-use Rattle.std.proofs.lemmas.Grind.{common_steps}
-use Rattle.std.proofs.Common.{◌≡◌, true, refl, rules, arith}
+use Rattle.std.proofs.Common.{◌≡◌, true, refl, rules}
 use Rattle.rsx_sources.specs.Machine.{front_of}
 use Rattle.rsx_queued.proofs.Changed.{is_put}
 use Rattle.rsx_merging.specs.Merge.{merge_takes}

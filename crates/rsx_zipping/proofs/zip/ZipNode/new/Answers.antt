@@ -53,7 +53,7 @@ pub returns-in_err-push-clause-counted : goal.returns-in_err-push-clause-counted
 returns-in_err-push-clause-counted g c = search rules
 
 pub loop-preserved : goal.loop-preserved
-loop-preserved g c = grind (arith, common_steps) steps 1000000
+loop-preserved g c = grind (arith, common_steps)
 
 pub returns-in_err-row-clause-inputs : goal.returns-in_err-row-clause-inputs
 returns-in_err-row-clause-inputs g c = search rules
