@@ -148,8 +148,8 @@ impl<O: Ops> Graph<O> {
     /// # Errors
     /// G1 for a hub that isn't there and for the tree of a hub, G2 for a subscription that isn't there, else G7 exactly where the
     /// move isn't enabled, and G8 where a growth was refused; nothing changed. An Ask and a Take allocate nothing, a Send only
-    /// where its receiver is a `buffer` or a `distinct`, or where a function of the caller's that it calls may, and an Accept may
-    /// where a node reads its hub.
+    /// where its receiver is a `buffer` or a `distinct`, or where a function of the caller's that it calls may, and an Accept
+    /// always may.
     pub fn make(
         &mut self,
         alloc: Global,
