@@ -1,19 +1,18 @@
 -- Moves of a whole graph, one after the other.
-use Rattle.std.proofs.Common.{◌≡◌, ℕ, zero, suc, ◌+◌, ◌<◌, ◌≤◌, ◌^◌, Bool, true, false, ◌||◌, ◌⊎◌, inl, inr, List, [], ◌∷◌, ◌++◌, length, length-append, slice_get, is_some, refl, ap, sym, ◌∙◌, subst, arith, append_assoc, Option, Some, None, Result, Ok, Err}
-use Rattle.std.proofs.Math.ListN.{set}
+use Rattle.std.proofs.Common.{◌≡◌, ℕ, zero, suc, ◌+◌, ◌<◌, ◌≤◌, Bool, true, false, ◌⊎◌, inl, inr, List, [], ◌∷◌, ◌++◌, length, length-append, slice_get, is_some, refl, ap, sym, ◌∙◌, subst, arith, append_assoc, Option, Some, None, Result}
 use Rattle.std.proofs.lemmas.List.{append-nil}
 use Rattle.std.specs.Option.{option_to_list}
 use Rattle.rsx_tree.proofs.Alike.{or_left, or_right}
-use Rattle.rsx_types.specs.Meaning.{Meaning, Allocates}
+use Rattle.rsx_types.specs.Meaning.{Meaning}
 use Rattle.rsx_types.specs.declared.names.HubId.{HubId}
 use Rattle.rsx_types.specs.declared.names.Move.{Move}
-use Rattle.rsx_types.specs.declared.names.Move.TheVariants.{Ask, Send, Take, Accept}
+use Rattle.rsx_types.specs.declared.names.Move.TheVariants.{Ask, Send, Take, Pick, Row, Accept}
 use Rattle.rsx_types.specs.declared.names.SubId.{SubId}
 use Rattle.rsx_types.specs.declared.signal.Signal.{Signal}
 use Rattle.rsx_hub.specs.Hub.{HubState, waiting}
 use Rattle.rsx_pipe.specs.declared.part.Pumped.{Pumped as Rest}
 use Rattle.rsx_publishing.specs.Publishing.{have_room, is_ready}
-use Rattle.rsx_subscriber.specs.Moves.{number_of, tree_of}
+use Rattle.rsx_subscriber.specs.Moves.{tree_of}
 use Rattle.rsx_subscriber.specs.Pumped.{Leads}
 use Rattle.rsx_subscriber.specs.Stands.{IsMadeAnswer}
 use Rattle.rsx_subscriber.specs.declared.subscription.Subscription.{Subscription}
@@ -85,6 +84,8 @@ pub known_hub : {T : Type 0} (m : Meaning T) (g : GraphState T) (mv : Move) (k :
 known_hub m g (Ask t n) k e can = tt
 known_hub m g (Send t n) k e can = tt
 known_hub m g (Take t n) k e can = tt
+known_hub m g (Pick t n i) k e can = tt
+known_hub m g (Row t n) k e can = tt
 known_hub {T} m g (Accept h) k e can = by_hub (slice_get g.hubs h.0) refl
   where
     by_hub : (o : Option (HubState T)) → slice_get g.hubs h.0 ≡ o → h.0 < k
@@ -118,6 +119,8 @@ move_in_graph : {T : Type 0} (m : Meaning T) (g : GraphState T) (mv : Move) (old
 move_in_graph m g (Ask t n) old new o can effect answer = record { enabled = can; effect = (effect, (refl, refl)); answer = answer }
 move_in_graph m g (Send t n) old new o can effect answer = record { enabled = can; effect = (effect, (refl, refl)); answer = answer }
 move_in_graph m g (Take t n) old new o can effect answer = record { enabled = can; effect = (effect, (refl, refl)); answer = answer }
+move_in_graph m g (Pick t n i) old new o can effect answer = record { enabled = can; effect = (effect, (refl, refl)); answer = answer }
+move_in_graph m g (Row t n) old new o can effect answer = record { enabled = can; effect = (effect, (refl, refl)); answer = answer }
 move_in_graph m g (Accept h) old new o can effect answer = absurd effect
 
 -- what has happened by it
@@ -125,6 +128,8 @@ move_delivers : {T : Type 0} (m : Meaning T) (mv : Move) (old new : List (Subscr
 move_delivers m (Ask t n) old new o h effect = refl
 move_delivers m (Send t n) old new o h effect = refl
 move_delivers m (Take t n) old new o h effect = refl
+move_delivers m (Pick t n i) old new o h effect = refl
+move_delivers m (Row t n) old new o h effect = refl
 move_delivers m (Accept i) old new o h effect = absurd effect
 
 delivered_then : {T : Type 0} (o : Option (SubId × Signal T)) (ds : List (SubId × Signal T)) (h : History T) → delivered (with_delivery o h) ds ≡ delivered h (option_to_list o ++ ds)
@@ -180,6 +185,8 @@ pub graph_quiet : {T : Type 0} (m : Meaning T) (g : GraphState T) → AreQuiet m
 graph_quiet m g quiet none (Ask t n) small = all_quiet m g.subs (length g.subs) (omega arith) quiet (Ask t n) small
 graph_quiet m g quiet none (Send t n) small = all_quiet m g.subs (length g.subs) (omega arith) quiet (Send t n) small
 graph_quiet m g quiet none (Take t n) small = all_quiet m g.subs (length g.subs) (omega arith) quiet (Take t n) small
+graph_quiet m g quiet none (Pick t n i) small = all_quiet m g.subs (length g.subs) (omega arith) quiet (Pick t n i) small
+graph_quiet m g quiet none (Row t n) small = all_quiet m g.subs (length g.subs) (omega arith) quiet (Row t n) small
 graph_quiet m g quiet none (Accept h) small = none h.0
 
 pub graph_awake : {T : Type 0} (m : Meaning T) (g : GraphState T) → IsSubAwake m g.subs → IsAnyAwake m g
@@ -189,6 +196,8 @@ graph_awake {T} m g a = by_move a.0 a.1
     by_move (Ask t n) e = (Ask t n, e)
     by_move (Send t n) e = (Send t n, e)
     by_move (Take t n) e = (Take t n, e)
+    by_move (Pick t n i) e = (Pick t n i, e)
+    by_move (Row t n) e = (Row t n, e)
     by_move (Accept h) e = cc
 
 -- the same functions mean the same

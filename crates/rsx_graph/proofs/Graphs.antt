@@ -1,5 +1,5 @@
 -- How the subscriptions of a graph stand together.
-use Rattle.std.proofs.Common.{◌≡◌, ℕ, ℤ, pos, negsuc, zero, suc, ◌+◌, ◌-◌, ◌^◌, ◌<◌, ◌≤◌, List, [], ◌∷◌, ◌++◌, length, get_or, slice_get, refl, ap, sym, ◌∙◌, subst, arith, append_assoc, length-append, take, map, Option, Some, None, Result, Ok, Bool, true, false, ◌||◌, nat_eq, if◌then◌else◌, inl, inr}
+use Rattle.std.proofs.Common.{◌≡◌, ℕ, ℤ, pos, negsuc, zero, suc, ◌+◌, ◌-◌, ◌<◌, ◌≤◌, List, [], ◌∷◌, ◌++◌, length, get_or, slice_get, refl, ap, sym, ◌∙◌, subst, arith, append_assoc, length-append, take, map, Option, Some, Result, Ok, Bool, true, false, ◌||◌, nat_eq, if◌then◌else◌, inl, inr}
 use Rattle.std.proofs.Math.ListN.{set}
 use Rattle.std.proofs.lemmas.Bool.Decides.{nat_tests}
 use Rattle.std.proofs.lemmas.List.{take_more, take_all, append-nil}
@@ -8,20 +8,22 @@ use Rattle.rsx_types.specs.Meaning.{Meaning, Allocates}
 use Rattle.rsx_types.specs.Notes.{unchosen}
 use Rattle.rsx_types.specs.Stream.{Stream, signals_then, ended_by}
 use Rattle.rsx_types.specs.declared.names.Move.{Move}
-use Rattle.rsx_types.specs.declared.names.Move.TheVariants.{Ask, Send, Take}
+use Rattle.rsx_types.specs.declared.names.Move.TheVariants.{Ask, Send, Take, Pick, Row}
 use Rattle.rsx_types.specs.declared.names.SubId.{SubId}
 use Rattle.rsx_types.specs.declared.names.Tree.{Tree}
 use Rattle.rsx_types.specs.declared.names.Tree.TheVariants.{Sub, Feed}
 use Rattle.rsx_types.specs.declared.signal.Ending.TheVariants.{Open as NotEnded}
 use Rattle.rsx_types.specs.declared.signal.Signal.{Signal}
 use Rattle.rsx_pipe.specs.Part as Part
+use Rattle.rsx_tree.specs.declared.look.NodeMove.{NodeMove}
+use Rattle.rsx_tree.specs.declared.look.NodeMove.TheVariants.{Ask as NodeAsk, Send as NodeSend, Pick as NodePick, Row as NodeRow}
 use Rattle.rsx_pipe.specs.Tree.{notes_of}
 use Rattle.rsx_pipe.specs.declared.part.Pumped.{Pumped as Rest}
 use Rattle.rsx_pipe.specs.declared.part.Pumped.TheVariants.{Idle as Rests, Budget as Wakes}
 use Rattle.rsx_pipe.proofs.Signals.{some_same}
 use Rattle.rsx_tree.proofs.Alike.{or_left, or_right}
 use Rattle.rsx_hub.specs.Hub.{HubState}
-use Rattle.rsx_subscriber.specs.Moves.{number_of}
+use Rattle.rsx_subscriber.specs.Moves.{IsNumbered}
 use Rattle.rsx_subscriber.specs.Past.{Past, given, requested, requested_in}
 use Rattle.rsx_subscriber.specs.Pumped.{IsPumped, IsMoved, Leads, IsQuiet, IsAwake, HasRested, given_all, to}
 use Rattle.rsx_subscriber.specs.Stands.{make_allocates, Stands, move_enabled_in, evaluated, owed_from, owes_in, standing_of, values_then}
@@ -232,7 +234,7 @@ none_quiet m subs j l s e = absurd (omega arith)
 pub quiet_up_to : {T : Type 0} (m : Meaning T) (subs : List (Subscription T)) (n : ℕ) → length subs ≤ n → AreQuiet m subs n → AreQuiet m subs (length subs)
 quiet_up_to m subs n l q i lt s e = q i (omega (arith, l, lt)) s e
 
-pub all_quiet : {T : Type 0} (m : Meaning T) (subs : List (Subscription T)) (n : ℕ) → length subs ≤ n → AreQuiet m subs n → (mv : Move) → number_of mv < 2 ^ 32 → enabled_in_tree m subs (tree_of mv) mv ≡ false
+pub all_quiet : {T : Type 0} (m : Meaning T) (subs : List (Subscription T)) (n : ℕ) → length subs ≤ n → AreQuiet m subs n → (mv : Move) → IsNumbered mv → enabled_in_tree m subs (tree_of mv) mv ≡ false
 all_quiet {T} m subs n lt h mv small = in_tree (tree_of mv)
   where
     within : (ss : List (Subscription T)) (j : ℕ) (s : Subscription T) → slice_get ss j ≡ Some s → j < length ss
@@ -250,13 +252,16 @@ all_quiet {T} m subs n lt h mv small = in_tree (tree_of mv)
     in_tree (Feed f) = refl
 
 pub any_awake : {T : Type 0} (m : Meaning T) (subs : List (Subscription T)) (i : ℕ) (sub : Subscription T) → i < length subs → get_or subs i sub ≡ sub → IsAwake m sub → IsSubAwake m subs
-any_awake m subs i sub lt e h = elim h.2 [
-  | inl a ↦ (Ask (Sub (record { 0 = i })) (record { 0 = h.0 }), enabled_there m subs i sub _ lt e ∙ a)
-  | inr b ↦ elim b [
-    | inl s ↦ (Send (Sub (record { 0 = i })) (record { 0 = h.0 }), enabled_there m subs i sub _ lt e ∙ s)
-    | inr t ↦ (Take (Sub (record { 0 = i })) (record { 0 = h.0 }), enabled_there m subs i sub _ lt e ∙ t)
-  ]
+any_awake {T} m subs i sub lt e h = elim h [
+  | inl a ↦ by_move a.0 a.2
+  | inr t ↦ (Take (Sub (record { 0 = i })) (record { 0 = 0 }), enabled_there m subs i sub _ lt e ∙ t)
 ]
+  where
+    by_move : (step : NodeMove) → Part.move_enabled m sub.part sub.queue step ≡ true → IsSubAwake m subs
+    by_move (NodeAsk n) a = (Ask (Sub (record { 0 = i })) (record { 0 = n }), enabled_there m subs i sub _ lt e ∙ a)
+    by_move (NodeSend n) a = (Send (Sub (record { 0 = i })) (record { 0 = n }), enabled_there m subs i sub _ lt e ∙ a)
+    by_move (NodePick n input) a = (Pick (Sub (record { 0 = i })) (record { 0 = n }) input, enabled_there m subs i sub _ lt e ∙ a)
+    by_move (NodeRow n) a = (Row (Sub (record { 0 = i })) (record { 0 = n }), enabled_there m subs i sub _ lt e ∙ a)
 
 -- ---- how driving one subscription ends
 

@@ -1,11 +1,9 @@
 -- What the hubs of a graph took in, and what stands in their inboxes, is all that was published.
-use Rattle.std.proofs.Common.{◌≡◌, inl, inr, ℕ, zero, suc, ◌+◌, Bool, true, false, List, [], ◌∷◌, ◌++◌, length, length-append, take, drop, map, slice_get, refl, ap, sym, ◌∙◌, subst, arith, Option, Some, None}
+use Rattle.std.proofs.Common.{◌≡◌, inl, inr, ℕ, zero, suc, Bool, true, false, List, [], ◌∷◌, ◌++◌, length, take, drop, map, slice_get, refl, ap, sym, ◌∙◌, subst, arith, Option, Some, None}
 use Rattle.std.proofs.lemmas.List.{append-nil, drop_at}
-use Rattle.rsx_types.specs.Meaning.{Meaning}
-use Rattle.rsx_types.specs.Stream.{Stream}
 use Rattle.rsx_types.specs.declared.signal.Ending.{Ending}
 use Rattle.rsx_types.specs.declared.signal.Ending.TheVariants.{Open, Done, Failed}
-use Rattle.rsx_hub.specs.Hub.{HubState, HasTakenIn, hub_value, join}
+use Rattle.rsx_hub.specs.Hub.{HubState, HasTakenIn, join}
 use Rattle.rsx_hub.specs.Member.{ending_taken, without}
 use Rattle.rsx_hub.specs.Waiting.{is_open}
 use Rattle.rsx_sources.specs.Reading.{Reading, IsBehind, published_at}
@@ -15,8 +13,8 @@ use Rattle.rsx_tree.specs.Reads.{IsReadAt, IsRowReadAt, IsTreeReadAt}
 use Rattle.rsx_tree.specs.Residual.{IsRowBehind, IsTreeBehind}
 use Rattle.rsx_tree.specs.declared.inputs.Inputs.{Inputs, End, More'}
 use Rattle.rsx_tree.specs.declared.node.Node.{Node}
-use Rattle.rsx_pipe.specs.Output.{counts_in, more_after, published_then, values_then}
-use Rattle.rsx_pipe.specs.Published.{AreTaken, IsTaken}
+use Rattle.rsx_pipe.specs.Output.{counts_in, published_then, values_then}
+use Rattle.rsx_pipe.specs.Published.{AreTaken}
 use Rattle.rsx_graph.specs.History.{HubPast}
 use Rattle.rsx_graph.specs.Stands.{HubStands, HubsStand, all_taken, inboxes, taken_of, waiting_of}
 

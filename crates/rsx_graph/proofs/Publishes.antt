@@ -1,23 +1,20 @@
 -- What is published at a hub of a graph, and what the hub takes in.
 use Rattle.std.proofs.Math.ListN.{set}
 use Rattle.std.proofs.lemmas.Bool.Decides.{nat_tests}
-use Rattle.std.proofs.lemmas.List.{append-nil}
-use Rattle.std.proofs.Common.{◌≡◌, inl, inr, ℕ, zero, suc, ◌+◌, ◌-◌, ◌<◌, ◌≤◌, Bool, true, false, ◌&&◌, nat_lt, if◌then◌else◌, List, [], ◌∷◌, ◌++◌, length, length-append, take, drop, map, option_map, slice_get, get_or, refl, ap, sym, ◌∙◌, subst, arith, add-zero, append_assoc, Option, Some, None}
+use Rattle.std.proofs.Common.{◌≡◌, inl, inr, ℕ, zero, suc, ◌+◌, ◌-◌, ◌<◌, ◌≤◌, Bool, true, false, ◌&&◌, nat_lt, if◌then◌else◌, List, [], ◌∷◌, ◌++◌, length, length-append, drop, option_map, slice_get, get_or, refl, ap, sym, ◌∙◌, subst, arith, append_assoc, Option, Some, None}
 use Rattle.rsx_types.specs.Meaning.{Meaning}
 use Rattle.rsx_types.specs.Notes.{notes_then}
 use Rattle.rsx_types.specs.Stream.{Stream, ended_by, signals_then}
 use Rattle.rsx_types.specs.declared.names.HubKind.{HubKind}
-use Rattle.rsx_types.specs.declared.note.Note.{Note}
 use Rattle.rsx_types.specs.declared.signal.Cause.{Cause}
 use Rattle.rsx_types.specs.declared.signal.Ending.{Ending}
 use Rattle.rsx_types.specs.declared.signal.Ending.TheVariants.{Open, Done, Failed}
 use Rattle.rsx_types.specs.declared.signal.Signal.{Signal}
 use Rattle.rsx_types.specs.declared.signal.Signal.TheVariants.{Next, Complete, Error}
 use Rattle.circular_buffer.specs.Buffer.{keep_last}
-use Rattle.rsx_hub.specs.Hub.{HubState, HasTakenIn, accepted, accepts_items, emitted, ended_with, fresh_hub, hub_value, replayed, waiting}
+use Rattle.rsx_hub.specs.Hub.{HubState, HasTakenIn, accepted, accepts_items, emitted, ended_with, fresh_hub, replayed, waiting}
 use Rattle.rsx_hub.specs.Member.{ending_taken}
-use Rattle.rsx_hub.specs.Waiting.{ending_signal, first_waiting, is_open}
-use Rattle.rsx_model.specs.Check.{refusal}
+use Rattle.rsx_hub.specs.Waiting.{first_waiting, is_open}
 use Rattle.rsx_node.specs.Any.{any_machine}
 use Rattle.rsx_sources.specs.Reading.{Reading}
 use Rattle.rsx_sources.specs.declared.machine.Machine.{Ghosts as Machine}
@@ -25,7 +22,7 @@ use Rattle.rsx_tree.specs.Reads.{IsReadAt, IsRowReadAt, IsTreeReadAt}
 use Rattle.rsx_tree.specs.declared.inputs.Inputs.{Inputs, End, More'}
 use Rattle.rsx_tree.specs.declared.node.Node.{Node}
 use Rattle.rsx_pipe.specs.Output.{IsOpenAt, counts_in, published_then, values_then, with_signal, with_signal_at}
-use Rattle.rsx_pipe.specs.Part.{PartStands, evaluated}
+use Rattle.rsx_pipe.specs.Part.{evaluated}
 use Rattle.rsx_pipe.specs.Published.{IsTaken}
 use Rattle.rsx_pipe.specs.Tree.{comes_out, notes_of}
 use Rattle.rsx_pipe.proofs.Handing.{none_value}
@@ -36,7 +33,7 @@ use Rattle.rsx_subscriber.specs.declared.subscription.Subscription.{Subscription
 use Rattle.rsx_subscriber.proofs.Values.{refusal_more}
 use Rattle.rsx_graph.specs.declared.refusal.Refusal.{Refusal}
 use Rattle.rsx_graph.specs.declared.refusal.Refusal.TheVariants.{UnknownHub, UnknownSub, Ended, Full, TooMany, BadExpr, NotEnabled, NoMemory}
-use Rattle.rsx_graph.specs.History.{History, HubPast, IsAcceptRefusal, IsHubRefusal, IsPublishRefusal, accepted_at, changed, published_at, with_accepted, with_hub, with_published}
+use Rattle.rsx_graph.specs.History.{History, HubPast, IsAcceptRefusal, IsHubRefusal, IsPublishRefusal, accepted_at, changed, published_at, with_accepted, with_hub}
 use Rattle.rsx_types.specs.declared.names.HubId.{HubId}
 use Rattle.rsx_graph.specs.Hubs.{IsAcceptedAt, IsCopyRefusal, IsEndRefusal, accepts_at, accepts_in}
 use Rattle.rsx_graph.specs.Stands.{AllStand, GraphState, HubStands, HubsStand, StandsFor, all_taken, taken_of}

@@ -1,10 +1,13 @@
 -- Where no move of a graph is enabled, what was asked for was delivered.
-use Rattle.std.proofs.Common.{◌≡◌, ℕ, zero, suc, ◌-◌, List, [], ◌∷◌, Some, slice_get, refl, sym, ap, ◌∙◌, subst}
+use Rattle.std.proofs.Common.{◌≡◌, ℕ, zero, suc, ◌-◌, List, [], ◌∷◌, Some, slice_get, refl, sym, ap, ◌∙◌, subst, arith}
 use Rattle.rsx_types.specs.Meaning.{Meaning}
 use Rattle.rsx_types.specs.Stream.{Stream}
 use Rattle.rsx_types.specs.declared.names.Move.{Move}
-use Rattle.rsx_types.specs.declared.names.Move.TheVariants.{Ask, Send, Take}
+use Rattle.rsx_types.specs.declared.names.Move.TheVariants.{Ask, Send, Take, Pick, Row}
+use Rattle.rsx_types.specs.declared.names.Tree.{Tree}
 use Rattle.rsx_types.specs.declared.names.Tree.TheVariants.{Sub}
+use Rattle.rsx_tree.specs.declared.look.NodeMove.TheVariants.{Ask as NodeAsk, Send as NodeSend, Pick as NodePick, Row as NodeRow}
+use Rattle.rsx_pipe.specs.Part as Part
 use Rattle.rsx_pipe.proofs.Signals.{some_same}
 use Rattle.rsx_subscriber.proofs.Serving.{served}
 use Rattle.rsx_subscriber.specs.declared.subscription.Subscription.{Subscription}
@@ -25,11 +28,16 @@ enabled_got m (s ∷ subs) zero sub mv e = ap (λ t. move_enabled_in m t mv) (so
 enabled_got m (s ∷ subs) (suc i) sub mv e = past_first (move_enabled_in m s mv) (enabled_at m subs (suc i - 1) mv) i ∙ (ap (λ k. enabled_at m subs k mv) (suc_less i) ∙ enabled_got m subs i sub mv e)
 
 quiet_got : {T : Type 0} (m : Meaning T) (g : GraphState T) (i : ℕ) (sub : Subscription T) → IsAllQuiet m g → slice_get g.subs i ≡ Some sub → IsQuiet m sub
-quiet_got m g i sub q e at l =
-    let a : Move = Ask (Sub (record { 0 = i })) (record { 0 = at }) in
-    let s : Move = Send (Sub (record { 0 = i })) (record { 0 = at }) in
-    let t : Move = Take (Sub (record { 0 = i })) (record { 0 = at }) in
-    (sym (enabled_got m g.subs i sub a e) ∙ q a l, sym (enabled_got m g.subs i sub s e) ∙ q s l, sym (enabled_got m g.subs i sub t e) ∙ q t l)
+quiet_got {T} m g i sub q e = (in_part, sym (enabled_got m g.subs i sub (Take tree (record { 0 = 0 })) e) ∙ q (Take tree (record { 0 = 0 })) (omega arith))
+  where
+    tree : Tree
+    tree = Sub (record { 0 = i })
+
+    in_part : Part.IsQuiet m sub.part sub.queue
+    in_part (NodeAsk n) l = sym (enabled_got m g.subs i sub (Ask tree (record { 0 = n })) e) ∙ q (Ask tree (record { 0 = n })) l
+    in_part (NodeSend n) l = sym (enabled_got m g.subs i sub (Send tree (record { 0 = n })) e) ∙ q (Send tree (record { 0 = n })) l
+    in_part (NodePick n k) l = sym (enabled_got m g.subs i sub (Pick tree (record { 0 = n }) k) e) ∙ q (Pick tree (record { 0 = n }) k) l
+    in_part (NodeRow n) l = sym (enabled_got m g.subs i sub (Row tree (record { 0 = n })) e) ∙ q (Row tree (record { 0 = n })) l
 
 each_served : {T : Type 0} (m : Meaning T) (taken waiting : List (Stream T)) (subs : List (Subscription T)) (pasts : List (Past T)) → ((i : ℕ) (s : Subscription T) → slice_get subs i ≡ Some s → IsQuiet m s) → AllStand m taken subs pasts → AllServed m (values_then taken waiting) subs pasts
 each_served m taken waiting [] [] q h = tt

@@ -2,7 +2,6 @@
 use Rattle.std.specs.Prelude.{◌≡◌, ◌≢◌, ◌≤◌, true, false, List, [], ◌∷◌, ◌++◌, length}
 use Rattle.rsx_types.specs.Meaning.{Meaning, Allocates}
 use Rattle.rsx_subscriber.specs.Stands.{IsMadeAnswer}
-use Rattle.rsx_subscriber.specs.declared.subscription.Subscription.{Subscription}
 use Rattle.rsx_graph.specs.Begun.{HaveJoined, IsSubscribed}
 use Rattle.rsx_types.specs.declared.signal.Cause.TheVariants.{User}
 use Rattle.rsx_types.specs.declared.signal.Ending.TheVariants.{Done, Failed}

@@ -13,7 +13,7 @@ use Rattle.rsx_types.specs.Stream.{Stream, ended_by}
 use Rattle.rsx_types.specs.declared.names.HubId.{HubId}
 use Rattle.rsx_types.specs.declared.names.HubKind.{HubKind}
 use Rattle.rsx_types.specs.declared.names.Move.{Move}
-use Rattle.rsx_types.specs.declared.names.Move.TheVariants.{Ask, Send, Take, Accept}
+use Rattle.rsx_types.specs.declared.names.Move.TheVariants.{Ask, Send, Take, Pick, Row, Accept}
 use Rattle.rsx_types.specs.declared.signal.Ending.TheVariants.{Open}
 use Rattle.rsx_types.specs.declared.names.SubId.{SubId}
 use Rattle.rsx_types.specs.declared.names.Tree.{Tree}
@@ -93,6 +93,8 @@ abbrev pub with_made : {T : Type 0} → Move → Option (SubId × Signal T) → 
 with_made (Ask t n) o h = with_delivery o h
 with_made (Send t n) o h = with_delivery o h
 with_made (Take t n) o h = with_delivery o h
+with_made (Pick t n i) o h = with_delivery o h
+with_made (Row t n) o h = with_delivery o h
 with_made (Accept i) o h = with_accepted i h
 
 -- the history after one step with its answer
@@ -168,6 +170,8 @@ abbrev pub IsMakeRefusal : ℕ → ℕ → Bool → Move → Refusal → Type 0
 IsMakeRefusal hubs count enabled (Ask t n) r = IsTreeMoveRefusal count enabled t r
 IsMakeRefusal hubs count enabled (Send t n) r = IsTreeMoveRefusal count enabled t r
 IsMakeRefusal hubs count enabled (Take t n) r = IsTreeMoveRefusal count enabled t r
+IsMakeRefusal hubs count enabled (Pick t n i) r = IsTreeMoveRefusal count enabled t r
+IsMakeRefusal hubs count enabled (Row t n) r = IsTreeMoveRefusal count enabled t r
 IsMakeRefusal hubs count enabled (Accept i) r = IsAcceptRefusal hubs enabled i.0 r
 
 -- why a hub is not made, where there are so many: its numbers first, then the limit, and memory last
@@ -191,6 +195,8 @@ abbrev pub IsOfKnownHub : ℕ → Move → Type 0
 IsOfKnownHub count (Ask t n) = Unit {0}
 IsOfKnownHub count (Send t n) = Unit {0}
 IsOfKnownHub count (Take t n) = Unit {0}
+IsOfKnownHub count (Pick t n i) = Unit {0}
+IsOfKnownHub count (Row t n) = Unit {0}
 IsOfKnownHub count (Accept i) = i.0 < count
 
 -- an answer that belongs to a step after this history: its names are those of the history, and a refusal comes in its case

@@ -2,7 +2,7 @@
 use Rattle.std.specs.Prelude.{Bool, true, ◌||◌, Option}
 use Rattle.rsx_types.specs.Meaning.{Meaning, Allocates}
 use Rattle.rsx_types.specs.declared.names.Move.{Move}
-use Rattle.rsx_types.specs.declared.names.Move.TheVariants.{Ask, Send, Take, Accept}
+use Rattle.rsx_types.specs.declared.names.Move.TheVariants.{Ask, Send, Take, Pick, Row, Accept}
 use Rattle.rsx_types.specs.declared.names.SubId.{SubId}
 use Rattle.rsx_types.specs.declared.names.Tree.{Tree}
 use Rattle.rsx_types.specs.declared.signal.Signal.{Signal}
@@ -14,6 +14,8 @@ abbrev pub is_enabled : {T : Type 0} → Meaning T → GraphState T → Move →
 is_enabled m g (Ask t n) = enabled_in_tree m g.subs t (Ask t n)
 is_enabled m g (Send t n) = enabled_in_tree m g.subs t (Send t n)
 is_enabled m g (Take t n) = enabled_in_tree m g.subs t (Take t n)
+is_enabled m g (Pick t n i) = enabled_in_tree m g.subs t (Pick t n i)
+is_enabled m g (Row t n) = enabled_in_tree m g.subs t (Row t n)
 is_enabled m g (Accept h) = accepts_at g h.0
 
 -- whether it may allocate, where these of the caller's functions may: an Accept may always, since it makes copies for the
@@ -22,6 +24,8 @@ abbrev pub may_allocate : {T : Type 0} → Allocates → GraphState T → Move �
 may_allocate a g (Ask t n) = allocates_in_tree a g.subs t (Ask t n)
 may_allocate a g (Send t n) = allocates_in_tree a g.subs t (Send t n)
 may_allocate a g (Take t n) = allocates_in_tree a g.subs t (Take t n)
+may_allocate a g (Pick t n i) = allocates_in_tree a g.subs t (Pick t n i)
+may_allocate a g (Row t n) = allocates_in_tree a g.subs t (Row t n)
 may_allocate a g (Accept h) = true
 
 -- what a move in a tree changes; no hub changes by it
@@ -33,6 +37,8 @@ abbrev pub IsMoved : {T : Type 0} → Meaning T → Move → GraphState T → Gr
 IsMoved m (Ask t n) old new o = IsMovedInTree m (Ask t n) t old new o
 IsMoved m (Send t n) old new o = IsMovedInTree m (Send t n) t old new o
 IsMoved m (Take t n) old new o = IsMovedInTree m (Take t n) t old new o
+IsMoved m (Pick t n i) old new o = IsMovedInTree m (Pick t n i) t old new o
+IsMoved m (Row t n) old new o = IsMovedInTree m (Row t n) t old new o
 IsMoved m (Accept h) old new o = IsAcceptedAt h.0 old new
 
 -- whether driving a graph may allocate: some move in a tree may, or a signal waits in a hub's inbox

@@ -1,5 +1,5 @@
 -- What driving a graph until it is idle does.
-use Rattle.std.specs.Prelude.{◌^◌, ◌≡◌, ℕ, ◌+◌, ◌≤◌, ◌<◌, true, false, List, [], ◌∷◌, ◌++◌, length, Option, Some, Result, Ok, Err, slice_get}
+use Rattle.std.specs.Prelude.{◌≡◌, ℕ, ◌+◌, ◌≤◌, ◌<◌, true, false, List, [], ◌∷◌, ◌++◌, length, Option, Some, Result, Ok, Err, slice_get}
 use Rattle.std.specs.Option.{option_to_list}
 use Rattle.rsx_types.specs.Meaning.{Meaning, Allocates}
 use Rattle.rsx_types.specs.declared.names.Move.{Move}
@@ -8,7 +8,7 @@ use Rattle.rsx_types.specs.declared.signal.Signal.{Signal}
 use Rattle.rsx_pipe.specs.declared.part.Pumped.{Pumped as Rest}
 use Rattle.rsx_pipe.specs.declared.part.Pumped.TheVariants.{Idle as Rests, Budget as Wakes}
 use Rattle.rsx_subscriber.specs.declared.subscription.Subscription.{Subscription}
-use Rattle.rsx_subscriber.specs.Moves.{number_of}
+use Rattle.rsx_subscriber.specs.Moves.{IsNumbered}
 use Rattle.rsx_subscriber.specs.Pumped.{Leads, IsQuiet}
 use Rattle.rsx_subscriber.specs.Stands.{IsMadeAnswer}
 use Rattle.rsx_graph.specs.declared.refusal.Refusal.{Refusal}
@@ -56,9 +56,9 @@ pub record AreMade {T : Type 0} (m : Meaning T) (old : GraphState T) (moves : Li
 
 -- ---- how it ends
 
--- no move of a graph is enabled, of all that the number of a node or of a hub can name
+-- no move of a graph is enabled, of all that the numbers of nodes, inputs and hubs can name
 abbrev pub IsAllQuiet : {T : Type 0} → Meaning T → GraphState T → Type 0
-IsAllQuiet m g = (move : Move) → number_of move < 2 ^ 32 → is_enabled m g move ≡ false
+IsAllQuiet m g = (move : Move) → IsNumbered move → is_enabled m g move ≡ false
 
 -- some move of a graph is enabled
 abbrev pub IsAnyAwake : {T : Type 0} → Meaning T → GraphState T → Type 0

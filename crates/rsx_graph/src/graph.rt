@@ -148,8 +148,8 @@ impl<O: Ops> Graph<O> {
     /// # Errors
     /// G1 for a hub that isn't there and for the tree of a hub, G2 for a subscription that isn't there, else G7 exactly where the
     /// move isn't enabled, and G8 where a growth was refused; nothing changed. An Ask and a Take allocate nothing, a Send only
-    /// where its receiver is a `buffer` or a `distinct`, or where a function of the caller's that it calls may, and an Accept
-    /// always may.
+    /// where its receiver is a `buffer` or a `distinct`, or where a function of the caller's that it calls may, a Pick and a Row
+    /// where the node says so (of a `merge` and a `combineLatest` always), and an Accept always may.
     pub fn make(
         &mut self,
         alloc: Global,
@@ -167,12 +167,13 @@ impl<O: Ops> Graph<O> {
         ensures same { OnErr result (state_of self.new ≡ state_of self.old) }
     {
         match step {
-            Move::Ask(Tree::Sub(sub), _) | Move::Send(Tree::Sub(sub), _) => {
-                match self.make_inside(alloc, sub, step) {
-                    Ok(()) => Ok(None),
-                    Err(why) => Err(why),
-                }
-            }
+            Move::Ask(Tree::Sub(sub), _)
+            | Move::Send(Tree::Sub(sub), _)
+            | Move::Pick(Tree::Sub(sub), _, _)
+            | Move::Row(Tree::Sub(sub), _) => match self.make_inside(alloc, sub, step) {
+                Ok(()) => Ok(None),
+                Err(why) => Err(why),
+            },
             Move::Take(Tree::Sub(sub), node) => match self.make_take(sub, node) {
                 Ok(signal) => Ok(Some((sub, signal))),
                 Err(why) => Err(why),
@@ -183,11 +184,13 @@ impl<O: Ops> Graph<O> {
             },
             Move::Ask(Tree::Feed(_), _)
             | Move::Send(Tree::Feed(_), _)
-            | Move::Take(Tree::Feed(_), _) => Err(Refusal::UnknownHub),
+            | Move::Take(Tree::Feed(_), _)
+            | Move::Pick(Tree::Feed(_), _, _)
+            | Move::Row(Tree::Feed(_), _) => Err(Refusal::UnknownHub),
         }
     }
 
-    /// Makes an Ask or a Send in the tree of a subscription.
+    /// Makes an Ask, a Send, a Pick or a Row in the tree of a subscription.
     fn make_inside(&mut self, alloc: Global, sub: SubId, step: Move) -> Result<(), Refusal>
         requires { IsInside step }
         ensures ops { self.new.ops ≡ self.old.ops }

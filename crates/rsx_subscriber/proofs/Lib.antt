@@ -6,5 +6,4 @@ pub mod Publishing
 pub mod Sentence
 pub mod Serving
 pub mod Standings
-pub mod Steps
 pub mod Values

@@ -1,5 +1,5 @@
 -- How each edit and each move keeps what a subscription stands for.
-use Rattle.std.proofs.Common.{◌≡◌, ℕ, zero, suc, ◌+◌, ◌<◌, Bool, true, false, ◌&&◌, nat_eq, nat_lt, List, [], ◌∷◌, ◌++◌, length, map, refl, ap, sym, ◌∙◌, subst, arith, append_assoc, length-append, ◌⊎◌, inl, inr, ℤ, pos, negsuc, int_lt, unsigned_abs, slice_index_or, Option, Some, None, Ok}
+use Rattle.std.proofs.Common.{◌≡◌, ℕ, zero, suc, ◌+◌, ◌<◌, Bool, true, false, nat_lt, List, [], ◌∷◌, ◌++◌, length, map, refl, ap, sym, ◌∙◌, subst, arith, append_assoc, length-append, ◌⊎◌, inl, inr, ℤ, pos, negsuc, int_lt, unsigned_abs, slice_index_or, Option, Some, None, Ok}
 use mathlib.Core.HLevel.{⊥_prop, Π_prop}
 use Rattle.std.proofs.lemmas.Bool.Decides.{nat_tests}
 use Rattle.std.proofs.lemmas.List.{append-nil}
@@ -8,7 +8,7 @@ use Rattle.rsx_demand.specs.Demand.{saturating_total}
 use Rattle.rsx_types.specs.Meaning.{Meaning}
 use Rattle.rsx_types.specs.Stream.{Stream}
 use Rattle.rsx_types.specs.declared.names.Move.{Move}
-use Rattle.rsx_types.specs.declared.names.Move.TheVariants.{Ask, Send, Take, Accept}
+use Rattle.rsx_types.specs.declared.names.Move.TheVariants.{Ask, Send, Take, Pick, Row, Accept}
 use Rattle.rsx_types.specs.declared.names.SubId.{SubId}
 use Rattle.rsx_types.specs.declared.names.Tree.TheVariants.{Sub}
 use Rattle.rsx_types.specs.declared.signal.Signal.{Signal}
@@ -21,7 +21,7 @@ use Rattle.rsx_pipe.specs.Part as Part
 use Rattle.rsx_pipe.specs.Tree.{IsAllClosed, edges}
 use Rattle.rsx_tree.specs.declared.edge.EdgeState.TheVariants.{Live, Closed}
 use Rattle.rsx_tree.specs.declared.look.NodeMove.{NodeMove}
-use Rattle.rsx_tree.specs.declared.look.NodeMove.TheVariants.{Ask as NodeAsk, Send as NodeSend, Pick, Row}
+use Rattle.rsx_tree.specs.declared.look.NodeMove.TheVariants.{Ask as NodeAsk, Send as NodeSend, Pick as NodePick, Row as NodeRow}
 use Rattle.rsx_pipe.specs.declared.part.Part.{Part as AnyPart}
 use Rattle.rsx_pipe.specs.declared.part.Pumped.{Pumped as Rest}
 use Rattle.rsx_pipe.specs.declared.part.Pumped.TheVariants.{Idle as Rests, Budget as Wakes}
@@ -30,7 +30,6 @@ use Rattle.rsx_pipe.proofs.Signals.{IsOrderly-more, IsUnended-more, IsUnended-la
 use Rattle.rsx_subscription.specs.Table.{answer, cell_of, state_after as next_state, asked_after, sent_after}
 use Rattle.rsx_subscription.specs.declared.State.TheVariants.{Fresh, Open as OpenState, Cancelled as CancelledState, Failed as FailedState}
 use Rattle.rsx_subscriber.specs.Standing.{standing, live_in, input_of, is_delivery, delivers}
-use Rattle.rsx_subscriber.proofs.Steps.{never_pick, never_row}
 use Rattle.rsx_subscriber.proofs.Values.{closed_count, effect_count, moved_count}
 use Rattle.rsx_subscriber.proofs.Standings.{standing_open, open_standing, open_delivers, Delivers, Adds, signal_delivered, delivery_made}
 use Rattle.rsx_subscriber.specs.declared.subscription.Subscription.{Subscription}
@@ -439,8 +438,20 @@ moved_part {T} m id old new out r k = by_move k.move k.enabled k.effect
       effect = record { out = out; edges = e; queue = k.queued; kept = r };
       answer = refl;
     }
-    by_move (Pick n input) can e = absurd (never_pick old.part n input can)
-    by_move (Row n) can e = absurd (never_row old.part n can)
+    by_move (NodePick n input) can e = record {
+      move = Pick (Sub id) (record { 0 = n }) input;
+      tree = refl;
+      enabled = can;
+      effect = record { part = e.1; queue = k.queued ∙ (ap (λ l. old.queue ++ l) e.0 ∙ append-nil old.queue); kept = r };
+      answer = refl;
+    }
+    by_move (NodeRow n) can e = record {
+      move = Row (Sub id) (record { 0 = n });
+      tree = refl;
+      enabled = can;
+      effect = record { part = e.1; queue = k.queued ∙ (ap (λ l. old.queue ++ l) e.0 ∙ append-nil old.queue); kept = r };
+      answer = refl;
+    }
 
 -- the subscription with another part and queue
 abbrev pub with_part : {T : Type 0} → (sub : Subscription T) → (sub.state ≡ Fresh → ⊥) → AnyPart T → List (Signal T) → Subscription T
@@ -482,7 +493,7 @@ pumped_part {T} m id n sub w part' queue' o k = record {
           count = moved_count m (suc n) sub.part part' sub.queue k.out queue' k.moves;
         }) h
 
--- one Ask or Send
+-- one move of the part
 pub worked_part : {T : Type 0} (m : Meaning T) (move : Move) (step : NodeMove) (old new : Subscription T) → Some step ≡ node_move move → IsKeptBeside old new → Part.IsMade m step old.part old.queue new.part new.queue → IsWorked m move old new
 worked_part {T} m (Ask t n) step old new is r h =
     let P : NodeMove → Type 0 = λ e. Part.IsMade m e old.part old.queue new.part new.queue in
@@ -495,6 +506,16 @@ worked_part {T} m (Send t n) step old new is r h =
     let k = subst P same h in
     record { out = k.out; edges = k.effect; queue = k.queued; kept = r }
 worked_part m (Take t n) step old new is r h = cc
+worked_part {T} m (Pick t n i) step old new is r h =
+    let P : NodeMove → Type 0 = λ e. Part.IsMade m e old.part old.queue new.part new.queue in
+    let same : step ≡ NodePick n.0 i = cc in
+    let k = subst P same h in
+    record { part = k.effect.1; queue = k.queued ∙ (ap (λ l. old.queue ++ l) k.effect.0 ∙ append-nil old.queue); kept = r }
+worked_part {T} m (Row t n) step old new is r h =
+    let P : NodeMove → Type 0 = λ e. Part.IsMade m e old.part old.queue new.part new.queue in
+    let same : step ≡ NodeRow n.0 = cc in
+    let k = subst P same h in
+    record { part = k.effect.1; queue = k.queued ∙ (ap (λ l. old.queue ++ l) k.effect.0 ∙ append-nil old.queue); kept = r }
 worked_part m (Accept i) step old new is r h = cc
 
 pub stands_made : {T : Type 0} (m : Meaning T) (step : NodeMove) (published : List (Stream T)) (old new : Subscription T) (past : Past T) → IsKeptBeside old new → Part.move_enabled m old.part old.queue step ≡ true → Part.IsMade m step old.part old.queue new.part new.queue → Stands m published old past → Stands m published new past
@@ -514,23 +535,13 @@ stands_made m step published old new past r can k h =
 
 -- a subscription whose part is quiet, with nothing to take, is quiet
 pub quiet_when : {T : Type 0} (m : Meaning T) (sub : Subscription T) → take_enabled sub 0 ≡ false → Part.IsQuiet m sub.part sub.queue → IsQuiet m sub
-quiet_when m sub e q at l = (q (NodeAsk at) l, q (NodeSend at) l, and_false (nat_eq at 0) _ e)
-  where
-    and_false : (a b : Bool) → b ≡ false → a && b ≡ false
-    and_false true b e = e
-    and_false false b e = refl
+quiet_when m sub e q = (q, e)
 
 pub awake_part : {T : Type 0} (m : Meaning T) (sub : Subscription T) → Part.IsAwake m sub.part sub.queue → IsAwake m sub
-awake_part {T} m sub h = by_move h.0 h.1 h.2
-  where
-    by_move : (move : NodeMove) → Part.IsNumbered move → Part.move_enabled m sub.part sub.queue move ≡ true → IsAwake m sub
-    by_move (NodeAsk n) l e = (n, l, inl e)
-    by_move (NodeSend n) l e = (n, l, inr (inl e))
-    by_move (Pick n input) l e = absurd (never_pick sub.part n input e)
-    by_move (Row n) l e = absurd (never_row sub.part n e)
+awake_part m sub h = inl h
 
 pub awake_take : {T : Type 0} (m : Meaning T) (sub : Subscription T) → take_enabled sub 0 ≡ true → IsAwake m sub
-awake_take m sub e = (0, omega arith, inr (inr e))
+awake_take m sub e = inr e
 
 -- what is queued can be taken just where something is queued
 pub take_queued : {T : Type 0} (m : Meaning T) (published : List (Stream T)) (sub : Subscription T) (past : Past T) → Stands m published sub past → 0 < length sub.queue → take_enabled sub 0 ≡ true
@@ -565,13 +576,10 @@ rest_ended E m budget n left sub Wakes e r = let z = r.0 in (omega (arith, e, z)
 pub none_left : {T : Type 0} (m : Meaning T) (sub : Subscription T) (left : ℕ) → (0 < left → IsQuiet m sub) → IsAwake m sub → left ≡ 0
 none_left m sub zero q a = refl
 none_left m sub (suc left) q a =
-    let h = q (omega arith) a.0 a.1 in
-    absurd (elim a.2 [
-      | inl x ↦ never _ x h.0
-      | inr b ↦ elim b [
-        | inl x ↦ never _ x h.1
-        | inr x ↦ never _ x h.2
-      ]
+    let h = q (omega arith) in
+    absurd (elim a [
+      | inl x ↦ never _ x.2 (h.0 x.0 x.1)
+      | inr x ↦ never _ x h.1
     ])
   where
     never : (b : Bool) → b ≡ true → b ≡ false → ⊥
@@ -590,10 +598,14 @@ pub inside_enabled : {T : Type 0} (m : Meaning T) (sub : Subscription T) (mv : M
 inside_enabled m sub (Ask t n) h = refl
 inside_enabled m sub (Send t n) h = refl
 inside_enabled m sub (Take t n) h = absurd h
+inside_enabled m sub (Pick t n i) h = refl
+inside_enabled m sub (Row t n) h = refl
 inside_enabled m sub (Accept i) h = absurd h
 
 pub inside_effect : {T : Type 0} (m : Meaning T) (mv : Move) (old new : Subscription T) → IsWorked m mv old new → IsEffect m mv old new None
 inside_effect m (Ask t n) old new h = h
 inside_effect m (Send t n) old new h = h
 inside_effect m (Take t n) old new h = absurd h
+inside_effect m (Pick t n i) old new h = h
+inside_effect m (Row t n) old new h = h
 inside_effect m (Accept i) old new h = absurd h

@@ -1,22 +1,17 @@
 -- What a subscription stands for, where more is published.
-use Rattle.std.proofs.Common.{◌≡◌, ℕ, zero, suc, List, [], ◌∷◌, ◌++◌, length, None, refl, ap, sym, ◌∙◌, subst}
-use Rattle.rsx_types.specs.Meaning.{Meaning}
+use Rattle.std.proofs.Common.{◌≡◌, ℕ, zero, suc, List, [], ◌∷◌, length, None, refl, ap, sym, ◌∙◌, subst}
 use Rattle.rsx_types.specs.Stream.{Stream}
 use Rattle.rsx_types.specs.declared.signal.Signal.{Signal}
 use Rattle.rsx_model.specs.Check.{refusal}
-use Rattle.rsx_tree.specs.Edges.{edge_view}
-use Rattle.rsx_pipe.specs.Output.{IsOpenAt, with_signal_at}
-use Rattle.rsx_pipe.specs.Part.{all_edges}
+use Rattle.rsx_pipe.specs.Output.{with_signal_at}
 use Rattle.rsx_pipe.specs.Published as Part
-use Rattle.rsx_pipe.specs.Tree.{IsAllClosed, edges}
+use Rattle.rsx_pipe.specs.Tree.{edges}
 use Rattle.rsx_tree.specs.Tree.{NoneLive}
 use Rattle.rsx_tree.specs.Edges.{EdgeView}
 use Rattle.rsx_pipe.specs.declared.part.Part.{Part as AnyPart}
 use Rattle.rsx_subscription.specs.declared.State.TheVariants.{Fresh}
 use Rattle.rsx_subscriber.specs.declared.subscription.Subscription.{Subscription}
-use Rattle.rsx_subscriber.specs.Past.{Past}
 use Rattle.rsx_subscriber.specs.Published.{IsHanded}
-use Rattle.rsx_subscriber.specs.Stands.{Stands}
 
 signal_length : {T : Type 0} (h : ℕ) (s : Signal T) (vs : List (Stream T)) → length (with_signal_at h s vs) ≡ length vs
 signal_length h s [] = refl

@@ -1,17 +1,16 @@
 -- Where no move of a subscription is enabled, what was asked for was delivered.
-use Rattle.std.proofs.Common.{◌^◌, ◌≡◌, ◌<◌, ◌≤◌, Bool, true, false, List, [], ◌∷◌, ◌++◌, length, Some, refl, sym, ap, ◌∙◌, subst, arith}
+use Rattle.std.proofs.Common.{◌≡◌, ◌<◌, ◌≤◌, Bool, true, false, ◌&&◌, nat_eq, List, [], ◌∷◌, ◌++◌, length, Some, refl, sym, ap, ◌∙◌, subst, arith}
 use Rattle.std.proofs.lemmas.List.{append-nil}
 use Rattle.rsx_types.specs.Meaning.{Meaning}
 use Rattle.rsx_types.specs.Stream.{Stream}
 use Rattle.rsx_types.specs.declared.limits.TheConstants.{CAPACITY}
 use Rattle.rsx_types.specs.declared.names.Move.{Move}
-use Rattle.rsx_types.specs.declared.names.Move.TheVariants.{Ask, Send, Take, Accept}
+use Rattle.rsx_types.specs.declared.names.Move.TheVariants.{Ask, Send, Take, Pick, Row, Accept}
 use Rattle.rsx_types.specs.declared.signal.Signal.{Signal}
-use Rattle.rsx_tree.specs.declared.look.NodeMove.TheVariants.{Ask as NodeAsk, Send as NodeSend, Pick, Row}
+use Rattle.rsx_tree.specs.declared.look.NodeMove.TheVariants.{Ask as NodeAsk, Send as NodeSend, Pick as NodePick, Row as NodeRow}
 use Rattle.rsx_pipe.specs.Tree.{IsWithin}
 use Rattle.rsx_model.proofs.Unfold.{sound}
 use Rattle.rsx_model.specs.declared.check.TheConstants.{MOST_NODES}
-use Rattle.rsx_pipe.specs.Part as Part
 use Rattle.rsx_pipe.specs.Part.{all_edges}
 use Rattle.rsx_pipe.specs.Tree.{notes_of}
 use Rattle.rsx_pipe.proofs.Parts.{delivered}
@@ -22,9 +21,8 @@ use Rattle.rsx_subscriber.specs.Holds.{IsServed}
 use Rattle.rsx_subscriber.specs.Past.{Past, IsLive, IsUnended}
 use Rattle.rsx_subscriber.specs.Pumped.{IsQuiet}
 use Rattle.rsx_subscriber.specs.Stands.{Stands, evaluated, move_enabled_in, take_enabled, standing_of, values_then}
-use Rattle.rsx_subscriber.specs.Moves.{number_of}
+use Rattle.rsx_subscriber.specs.Moves.{IsNumbered}
 use Rattle.rsx_subscriber.proofs.Moves.{take_queued}
-use Rattle.rsx_subscriber.proofs.Steps.{no_pick, no_row}
 
 never : (b : Bool) → b ≡ true → b ≡ false → ⊥
 never b x y = cc
@@ -38,13 +36,7 @@ nothing_queued {T} m published sub past q h = by_queue sub.queue refl
     by_queue [] e = e
     by_queue (t ∷ l) e =
         let some : 0 < length sub.queue = rw e (omega arith) in
-        absurd (never (take_enabled sub 0) (take_queued m published sub past h some) (q 0 (omega arith)).2)
-
-quiet_part : {T : Type 0} (m : Meaning T) (sub : Subscription T) → IsQuiet m sub → Part.IsQuiet m sub.part sub.queue
-quiet_part m sub q (NodeAsk n) l = (q n l).0
-quiet_part m sub q (NodeSend n) l = (q n l).1
-quiet_part m sub q (Pick n input) l = no_pick sub.part n input
-quiet_part m sub q (Row n) l = no_row sub.part n
+        absurd (never (take_enabled sub 0) (take_queued m published sub past h some) q.1)
 
 -- a live subscriber got all that its part put out, and that is what was asked for
 served_live : {T : Type 0} (m : Meaning T) (published : List (Stream T)) (sub : Subscription T) (past : Past T) → IsQuiet m sub → Stands m published sub past → IsLive (standing_of sub) → past.joins ≡ [] → IsWithin sub.part.tree → (more : List (Stream T)) (v : Stream T) → evaluated m (values_then published more) past (notes_of sub.part.tree) ≡ Some v → IsServed sub past v
@@ -54,7 +46,7 @@ served_live {T} m published sub past q h live alone w more v e =
     let room : length sub.queue < CAPACITY = rw none (omega arith) in
     let small = (sound (length published) past.expression h.admitted).small in
     let few : length (all_edges sub.part) ≤ MOST_NODES = let k = h.shape in omega (arith, k, small) in
-    let d = delivered m sub.part sub.queue (quiet_part m sub q) published past.expression past.joins h.output h.part alone (h.unclosed live) room few w more v e in
+    let d = delivered m sub.part sub.queue q.0 published past.expression past.joins h.output h.part alone (h.unclosed live) room few w more v e in
     record {
       items = rw (all, ← h.asked) d.items;
       ending = λ less some. sym h.state ∙ by_state (standing_of sub) refl (λ u. h.part.ended (d.ending (rw h.asked less) some) (rw all at u));
@@ -71,9 +63,15 @@ served {T} m published sub past q h live alone w more v e =
     let L : SubscriptionState → Type 0 = λ s. IsLive s in
     served_live m published sub past q h (subst L (sym h.state) live) alone w more v e
 
+and_false : (a b : Bool) → b ≡ false → a && b ≡ false
+and_false true b e = e
+and_false false b e = refl
+
 -- no move that is named is enabled
-pub quiet_move : {T : Type 0} (m : Meaning T) (sub : Subscription T) (mv : Move) → number_of mv < 2 ^ 32 → IsQuiet m sub → move_enabled_in m sub mv ≡ false
-quiet_move m sub (Ask t n) l h = (h n.0 l).0
-quiet_move m sub (Send t n) l h = (h n.0 l).1
-quiet_move m sub (Take t n) l h = (h n.0 l).2
+pub quiet_move : {T : Type 0} (m : Meaning T) (sub : Subscription T) (mv : Move) → IsNumbered mv → IsQuiet m sub → move_enabled_in m sub mv ≡ false
+quiet_move m sub (Ask t n) l h = h.0 (NodeAsk n.0) l
+quiet_move m sub (Send t n) l h = h.0 (NodeSend n.0) l
+quiet_move m sub (Take t n) l h = and_false (nat_eq n.0 0) _ h.1
+quiet_move m sub (Pick t n i) l h = h.0 (NodePick n.0 i) l
+quiet_move m sub (Row t n) l h = h.0 (NodeRow n.0) l
 quiet_move m sub (Accept i) l h = refl

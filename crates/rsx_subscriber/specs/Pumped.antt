@@ -1,5 +1,5 @@
 -- What driving a subscription until it is idle does.
-use Rattle.std.specs.Prelude.{◌<◌, ◌^◌, ◌≡◌, ◌⊎◌, ℕ, zero, suc, ◌+◌, ◌≤◌, Bool, true, false, List, [], ◌∷◌, ◌++◌, map, Option, Result, Ok, Err}
+use Rattle.std.specs.Prelude.{◌≡◌, ◌⊎◌, ℕ, zero, suc, ◌+◌, ◌≤◌, Bool, true, false, List, [], ◌∷◌, ◌++◌, map, Option, Result, Ok, Err}
 use Rattle.std.specs.Option.{option_to_list}
 use Rattle.rsx_types.specs.Meaning.{Meaning}
 use Rattle.rsx_types.specs.declared.names.Move.{Move}
@@ -8,6 +8,7 @@ use Rattle.rsx_types.specs.declared.names.Tree.TheVariants.{Sub}
 use Rattle.rsx_types.specs.declared.signal.Signal.{Signal}
 pub use Rattle.rsx_tree.specs.Driven.{Spent}
 use Rattle.rsx_pipe.specs.Part.{HasEnded}
+use Rattle.rsx_pipe.specs.Part as Part
 use Rattle.rsx_pipe.specs.Tree.{IsAlike}
 use Rattle.rsx_pipe.specs.declared.part.Pumped.{Pumped as Rest}
 use Rattle.rsx_pipe.specs.declared.part.Pumped.TheVariants.{Idle as Rests, Budget as Wakes}
@@ -15,7 +16,7 @@ use Rattle.rsx_subscriber.specs.declared.subscription.Subscription.{Subscription
 use Rattle.rsx_subscriber.specs.Delivered.{Delivered}
 use Rattle.rsx_subscriber.specs.Past.{Past, given}
 use Rattle.rsx_subscriber.specs.Moves.{tree_of}
-use Rattle.rsx_subscriber.specs.Stands.{StandsAfter, IsEffect, IsMadeAnswer, ask_enabled, send_enabled, take_enabled, move_enabled_in}
+use Rattle.rsx_subscriber.specs.Stands.{StandsAfter, IsEffect, IsMadeAnswer, take_enabled, move_enabled_in}
 
 -- the past of a subscriber that received these signals
 abbrev pub given_all : {T : Type 0} → List (Signal T) → Past T → Past T
@@ -67,13 +68,13 @@ moves_of (Ok true) = 1
 moves_of (Ok false) = 0
 moves_of (Err e) = 0
 
--- no move of a subscription that has a number is enabled
+-- no move of a subscription is enabled, of all that the numbers of nodes and inputs can name: none of its part, and no Take
 abbrev pub IsQuiet : {T : Type 0} → Meaning T → Subscription T → Type 0
-IsQuiet m sub = (at : ℕ) → at < 2 ^ 32 → (ask_enabled sub at ≡ false) × (send_enabled m sub at ≡ false) × (take_enabled sub at ≡ false)
+IsQuiet m sub = Part.IsQuiet m sub.part sub.queue × (take_enabled sub 0 ≡ false)
 
--- some move of a subscription that has a number is enabled
+-- some move of a subscription is enabled: one of its part, or a Take
 abbrev pub IsAwake : {T : Type 0} → Meaning T → Subscription T → Type 0
-IsAwake m sub = (at : ℕ) × (at < 2 ^ 32) × ((ask_enabled sub at ≡ true) ⊎ ((send_enabled m sub at ≡ true) ⊎ (take_enabled sub at ≡ true)))
+IsAwake m sub = Part.IsAwake m sub.part sub.queue ⊎ (take_enabled sub 0 ≡ true)
 
 -- how driving a subscription ends after so many moves: Idle, with what is left of the budget, where no move is enabled;
 -- Budget where one is and the whole budget was spent

@@ -9,7 +9,7 @@ use Rattle.rsx_types.specs.declared.note.Note.{Note}
 use Rattle.rsx_types.specs.declared.names.SubId.{SubId}
 use Rattle.rsx_types.specs.declared.names.Tree.TheVariants.{Sub, Feed}
 use Rattle.rsx_types.specs.declared.names.Move.{Move}
-use Rattle.rsx_types.specs.declared.names.Move.TheVariants.{Ask, Send, Take, Accept}
+use Rattle.rsx_types.specs.declared.names.Move.TheVariants.{Ask, Send, Take, Pick, Row, Accept}
 use Rattle.rsx_types.specs.declared.signal.Ending.TheVariants.{Open as NotEnded}
 use Rattle.rsx_types.specs.declared.signal.Signal.{Signal}
 pub use Rattle.rsx_pipe.specs.Output.{values_then}
@@ -103,9 +103,11 @@ abbrev pub move_enabled_in : {T : Type 0} → Meaning T → Subscription T → M
 move_enabled_in m sub (Ask t n) = ask_enabled sub n.0
 move_enabled_in m sub (Send t n) = send_enabled m sub n.0
 move_enabled_in m sub (Take t n) = take_enabled sub n.0
+move_enabled_in m sub (Pick t n i) = Part.pick_enabled sub.part n.0 i
+move_enabled_in m sub (Row t n) = Part.row_enabled sub.part n.0
 move_enabled_in m sub (Accept h) = false
 
--- an Ask or a Send is enabled; a Take isn't one of them
+-- a move of the part is enabled; a Take isn't one of them
 abbrev pub enabled_inside : {T : Type 0} → Meaning T → Subscription T → Option NodeMove → Bool
 enabled_inside m sub None = false
 enabled_inside m sub (Some e) = Part.move_enabled m sub.part sub.queue e
@@ -150,18 +152,34 @@ pub record IsSend {T : Type 0} (m : Meaning T) (old : Subscription T) (at : ℕ)
   pub queue : new.queue ≡ old.queue ++ out
   pub kept : IsKeptBeside old new
 
+-- a Pick: the choice stands behind what the node recorded; where the node ended by it, all below it is closed
+pub record IsPicked {T : Type 0} (old : Subscription T) (at input : ℕ) (new : Subscription T) : Type 0 where
+  pub part : Part.IsPick old.part at input new.part
+  pub queue : new.queue ≡ old.queue
+  pub kept : IsKeptBeside old new
+
+-- a Row: where the node ended by it, all below it is closed
+pub record IsRowMade {T : Type 0} (old : Subscription T) (at : ℕ) (new : Subscription T) : Type 0 where
+  pub part : Part.IsRow old.part at new.part
+  pub queue : new.queue ≡ old.queue
+  pub kept : IsKeptBeside old new
+
 -- a move inside a tree
 abbrev pub IsInside : Move → Type 0
 IsInside (Ask t n) = Unit {0}
 IsInside (Send t n) = Unit {0}
 IsInside (Take t n) = ⊥
+IsInside (Pick t n i) = Unit {0}
+IsInside (Row t n) = Unit {0}
 IsInside (Accept h) = ⊥
 
--- the effect of an Ask or a Send
+-- the effect of a move inside a tree
 abbrev pub IsWorked : {T : Type 0} → Meaning T → Move → Subscription T → Subscription T → Type 0
 IsWorked m (Ask t n) old new = IsAsk old n.0 new
 IsWorked m (Send t n) old new = IsSend m old n.0 new
 IsWorked m (Take t n) old new = ⊥
+IsWorked m (Pick t n i) old new = IsPicked old n.0 i new
+IsWorked m (Row t n) old new = IsRowMade old n.0 new
 IsWorked m (Accept h) old new = ⊥
 
 -- a Take: the front signal left the queue, no edge changed, and the subscription stands as the table says; an item is
@@ -180,6 +198,8 @@ IsEffect m (Ask t n) old new o = IsAsk old n.0 new
 IsEffect m (Send t n) old new o = IsSend m old n.0 new
 IsEffect m (Take t n) old new None = ⊥
 IsEffect m (Take t n) old new (Some d) = IsTake old d.1 new
+IsEffect m (Pick t n i) old new o = IsPicked old n.0 i new
+IsEffect m (Row t n) old new o = IsRowMade old n.0 new
 IsEffect m (Accept h) old new o = ⊥
 
 -- what a move that was made answers: a Take from a root edge hands its signal on
@@ -188,4 +208,6 @@ IsMadeAnswer (Ask t n) o = o ≡ None
 IsMadeAnswer (Send t n) o = o ≡ None
 IsMadeAnswer {T} (Take (Sub i) n) o = (s : Signal T) × (o ≡ Some (i, s))
 IsMadeAnswer (Take (Feed h) n) o = ⊥
+IsMadeAnswer (Pick t n i) o = o ≡ None
+IsMadeAnswer (Row t n) o = o ≡ None
 IsMadeAnswer (Accept h) o = o ≡ None

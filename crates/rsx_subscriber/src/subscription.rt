@@ -196,11 +196,11 @@ impl<T: Drop> Subscription<T> {
         delivers(&mut state, &mut demand, self.queue.at(0))
     }
 
-    /// Makes the move Ask or Send of a node.
+    /// Makes the move Ask, Send, Pick or Row of a node.
     ///
     /// # Errors
     /// [`NotMade::NotEnabled`] exactly where the move isn't enabled, and [`NotMade::NoMemory`] where a growth was refused, of a
-    /// Send that may allocate; nothing changed.
+    /// Send, Pick or Row that may allocate; nothing changed.
     pub fn make<O: Ops<Item = T>>(
         &mut self,
         alloc: Global,
@@ -496,6 +496,8 @@ fn node_move(step: Move) -> Option<NodeMove>
     match step {
         Move::Ask(_, node) => Some(NodeMove::Ask(node.0)),
         Move::Send(_, node) => Some(NodeMove::Send(node.0)),
+        Move::Pick(_, node, input) => Some(NodeMove::Pick(node.0, input)),
+        Move::Row(_, node) => Some(NodeMove::Row(node.0)),
         Move::Take(_, _) | Move::Accept(_) => None,
     }
 }

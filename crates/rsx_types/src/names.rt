@@ -40,6 +40,11 @@ pub enum Move {
     /// The first signal in the queue of the node's output edge goes to the receiver; at the root of a subscription it is
     /// delivered to the subscriber.
     Take(Tree, NodeId),
+    /// The node takes the next signal of its input with this number, counted from 0, and records the choice. Of a `zip` it is the
+    /// ending of that input.
+    Pick(Tree, NodeId, u64),
+    /// The node, a `zip`, takes the next item of each input and makes a row of them.
+    Row(Tree, NodeId),
     /// The hub takes the signal in that waits in front of its inbox, and each node that reads the hub gets it.
     Accept(HubId),
 }

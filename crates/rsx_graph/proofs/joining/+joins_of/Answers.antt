@@ -1,4 +1,4 @@
-use Rattle.std.proofs.Common.{◌≡◌, ◌∙◌, ◌∷◌, ◌++◌, [], ap, sym}
+use Rattle.std.proofs.Common.{◌∙◌, ◌∷◌, ◌++◌, [], ap, sym}
 use Rattle.rsx_node.specs.Built.{new_joins}
 use Rattle.rsx_graph.proofs.Joins.{new_joins_Hub}
 use Rattle.rsx_graph.proofs.joining.+joins_of.Goals as goal

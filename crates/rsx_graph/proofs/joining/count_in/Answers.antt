@@ -1,8 +1,7 @@
-use Rattle.std.proofs.Common.{◌≡◌, ◌<◌, ◌≤◌, ◌+◌, ◌∙◌, ℕ, suc, length, get_or, ap, sym, subst, arith, refl}
+use Rattle.std.proofs.Common.{◌≡◌, ◌<◌, ◌≤◌, ◌+◌, ◌∙◌, ℕ, length, get_or, ap, sym, subst, arith}
 use Rattle.std.proofs.Math.ListN.{set}
-use Rattle.rsx_hub.specs.Hub.{HubState, with_members}
+use Rattle.rsx_hub.specs.Hub.{with_members}
 use Rattle.rsx_hub.specs.declared.TheConstants.{MOST_MEMBERS}
-use Rattle.rsx_graph.specs.Begun.{leaves_on}
 use Rattle.rsx_graph.proofs.Joins.{joined_up, more_first, place_first, up_all, up_length, up_next}
 use Rattle.rsx_graph.proofs.joining.count_in.Goals as goal
 

@@ -1,4 +1,4 @@
-use Rattle.std.proofs.Common.{◌≡◌, List, [], ap, refl, subst}
+use Rattle.std.proofs.Common.{◌≡◌, List, ap, refl, subst}
 use Rattle.rsx_types.specs.Meaning.{Meaning, Allocates}
 use Rattle.rsx_graph.specs.Done.{AllDone}
 use Rattle.rsx_graph.specs.History.{History, AllBelong, all_extended, no_history}

@@ -1,4 +1,4 @@
-use Rattle.std.proofs.Common.{◌≡◌, ◌∙◌, ap, sym, length, refl, slice_get, map, Some}
+use Rattle.std.proofs.Common.{◌≡◌, ◌∙◌, ap, sym, length, refl, slice_get, Some}
 use Rattle.std.proofs.lemmas.Option.{slice_get_read}
 use Rattle.rsx_graph.proofs.Joins.{got_map, joins_there}
 use Rattle.rsx_graph.proofs.graph.Graph.joins.Goals as goal

@@ -1,4 +1,4 @@
-use Rattle.std.proofs.Common.{◌≡◌, ◌+◌, ◌∙◌, List, Ok, Err, ap, arith, length, refl, subst, sym}
+use Rattle.std.proofs.Common.{◌+◌, ◌∙◌, List, Ok, Err, ap, arith, length, refl, subst, sym}
 use Rattle.rsx_pipe.specs.declared.part.Pumped.TheVariants.{Idle as Rests, Budget as Wakes}
 use Rattle.rsx_tree.proofs.Alike.{or_left, or_right}
 use Rattle.rsx_subscriber.specs.declared.subscription.Subscription.{Subscription}

@@ -1,4 +1,4 @@
-use Rattle.std.proofs.Common.{◌≡◌, ap, sym, ◌∙◌, ◌++◌, ◌∷◌, [], refl, subst, ℕ, rules}
+use Rattle.std.proofs.Common.{◌≡◌, ap, sym, ◌∙◌, ◌++◌, ◌∷◌, [], refl, subst, rules}
 use Rattle.rsx_subscriber.specs.Pumped.{IsPumped, moves_of}
 use Rattle.rsx_subscriber.proofs.Moves.{pumped_one, pumped_still}
 use Rattle.rsx_subscriber.proofs.subscription.Subscription.advance_queue.Goals as goal
