@@ -2,7 +2,7 @@
 
 use rsx_demo::Val;
 use rsx_model::Expr;
-use rsx_types::{HubId, HubKind, SubId};
+use rsx_types::{HubId, HubKind, NodeId, SubId};
 
 /// The command of a line.
 #[derive(Drop)]
@@ -23,6 +23,8 @@ pub enum Command {
     Cancel(SubId),
     /// `pump B`
     Pump(u32),
+    /// `pick S NODE INPUT`
+    Pick(SubId, NodeId, u64),
     /// `show S`
     Show(SubId),
     /// `asked S`
@@ -31,6 +33,8 @@ pub enum Command {
     Count(SubId),
     /// `joins S`
     Joins(SubId),
+    /// `choices S`
+    Choices(SubId),
     /// `check S`
     Check(SubId),
 }

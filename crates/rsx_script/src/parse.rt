@@ -6,7 +6,7 @@ use crate::command::Command;
 use crate::words::{LineRefusal, Word, Words, number_of};
 use rsx_demo::{Role, Val, function_number};
 use rsx_model::Expr;
-use rsx_types::{HubId, HubKind, Stage, SubId};
+use rsx_types::{HubId, HubKind, NodeId, Stage, SubId};
 use std::alloc::Global;
 
 /// The most bytes of a line, without its newline.
@@ -50,10 +50,12 @@ fn command_of(
         }
         "cancel" => Ok(Command::Cancel(subscription(words)?)),
         "pump" => Ok(Command::Pump(words.number()?)),
+        "pick" => pick(words),
         "show" => Ok(Command::Show(subscription(words)?)),
         "asked" => Ok(Command::Asked(subscription(words)?)),
         "count" => Ok(Command::Count(subscription(words)?)),
         "joins" => Ok(Command::Joins(subscription(words)?)),
+        "choices" => Ok(Command::Choices(subscription(words)?)),
         "check" => Ok(Command::Check(subscription(words)?)),
         _ => hub_command_of(column, name, words),
     }
@@ -77,6 +79,13 @@ fn hub_command_of(column: u64, name: &str, words: &mut Words<'_>) -> Result<Comm
         }
         _ => Err(LineRefusal::UnknownName(column)),
     }
+}
+
+/// A pick: the subscription, the node and its input.
+fn pick(words: &mut Words<'_>) -> Result<Command, LineRefusal> {
+    let sub = subscription(words)?;
+    let node = NodeId(words.number()?);
+    Ok(Command::Pick(sub, node, words.number()?))
 }
 
 /// The kind of a hub: `multicast`, or `replay` and how many items it keeps.

@@ -2,10 +2,10 @@
 
 ghost use Rattle.std.specs.Prelude.{◌≡◌, ◌++◌, ◌∷◌, [], ℕ, List, string_bytes, OnErr, OnOk};
 ghost use Rattle.std.specs.Fmt.{WritesOnOk};
-ghost use Rattle.rsx_script.specs.Answers.{IsTextOf, numbers_text};
+ghost use Rattle.rsx_script.specs.Answers.{IsTextOf, numbers_text, picks_text, note_text, notes_text};
 
 use rsx_demo::Val;
-use rsx_types::{Cause, Ending, HubId, NoMemory, StreamValue, SubId};
+use rsx_types::{Cause, Ending, HubId, NoMemory, Note, StreamValue, SubId};
 use std::alloc::Global;
 use std::fmt;
 
@@ -32,6 +32,8 @@ pub enum Answer<'a> {
     Count(u64),
     /// How many items of its hub each leaf of a subscription's expression misses, from left to right.
     Joins(Vec<u64>),
+    /// What each node of a subscription's expression recorded, in pre-order.
+    Choices(Vec<Note>),
     /// What was received and what is owed is the value of the expression.
     Equal,
     /// It is not.
@@ -102,6 +104,10 @@ impl fmt::Display for Answer<'_> {
                 f.write_str("joins")?;
                 write_numbers(f, joins)
             }
+            Answer::Choices(notes) => {
+                f.write_str("choices")?;
+                write_notes(f, notes)
+            }
             Answer::Equal => f.write_str("equal"),
             Answer::Different => f.write_str("different"),
             Answer::Refused(name) => write!(f, "refused {name}"),
@@ -130,6 +136,45 @@ fn write_numbers<W: fmt::Write>(f: &mut fmt::Formatter<W>, numbers: &[u64]) -> f
 {
     for number in numbers {
         write!(f, " {number}")?;
+    }
+    Ok(())
+}
+
+/// What each node that records recorded, behind a space, its number and a colon.
+fn write_notes<W: fmt::Write>(f: &mut fmt::Formatter<W>, notes: &[Note]) -> fmt::Result
+    ensures { WritesOnOk W.write_str_gives f.old result (notes_text 0 notes.now) f.new }
+{
+    for (node, note) in notes.iter().enumerate() {
+        write_note(f, node, note)?;
+    }
+    Ok(())
+}
+
+/// The same of one node.
+fn write_note<W: fmt::Write>(f: &mut fmt::Formatter<W>, node: usize, note: &Note) -> fmt::Result
+    ensures { WritesOnOk W.write_str_gives f.old result (note_text node note.now) f.new }
+{
+    match note {
+        Note::Nothing => Ok(()),
+        Note::Picks(choices) => {
+            write!(f, " {node}:")?;
+            write_picks(f, choices.as_slice())
+        }
+        Note::Ended(None) => write!(f, " {node}:"),
+        Note::Ended(Some(input)) => write!(f, " {node}:{input}"),
+    }
+}
+
+/// Choices with a comma between them.
+fn write_picks<W: fmt::Write>(f: &mut fmt::Formatter<W>, choices: &[u64]) -> fmt::Result
+    ensures { WritesOnOk W.write_str_gives f.old result (picks_text choices.now) f.new }
+{
+    let Some((first, others)) = choices.split_first() else {
+        return Ok(());
+    };
+    write!(f, "{first}")?;
+    for other in others {
+        write!(f, ",{other}")?;
     }
     Ok(())
 }

@@ -5,7 +5,7 @@ use Rattle.rsx_script.specs.Answers.{IsTextOf}
 use Rattle.rsx_script.specs.declared.command.Command.{Command}
 use Rattle.rsx_script.specs.declared.command.Command.TheVariants as command
 use Rattle.rsx_script.specs.declared.print.Answer.{Answer}
-use Rattle.rsx_script.specs.declared.print.Answer.TheVariants.{Hub, Sub, Done, Idle, Budget, Shown, Value, Asked, Count, Joins, Equal, Different, Refused}
+use Rattle.rsx_script.specs.declared.print.Answer.TheVariants.{Hub, Sub, Done, Idle, Budget, Shown, Value, Asked, Count, Joins, Choices, Equal, Different, Refused}
 use Rattle.rsx_session.specs.declared.session.View.{View}
 use Rattle.rsx_session.specs.declared.session.View.TheVariants.{Received, FromScratch}
 use Rattle.rsx_session.specs.declared.session.Trouble.{Trouble}
@@ -56,6 +56,10 @@ abbrev pub is_joins : Answer → Bool
 is_joins (Joins _) = true
 is_joins _ = false
 
+abbrev pub is_choices : Answer → Bool
+is_choices (Choices _) = true
+is_choices _ = false
+
 abbrev pub is_compared : Answer → Bool
 is_compared Equal = true
 is_compared Different = true
@@ -71,10 +75,12 @@ is_of view (command.Subscribe expr) a = is_sub a
 is_of view (command.Request sub count) a = is_done a
 is_of view (command.Cancel sub) a = is_done a
 is_of view (command.Pump budget) a = is_pumped a
+is_of view (command.Pick sub node input) a = is_done a
 is_of view (command.Show sub) a = is_shown view a
 is_of view (command.Asked sub) a = is_asked a
 is_of view (command.Count sub) a = is_count a
 is_of view (command.Joins sub) a = is_joins a
+is_of view (command.Choices sub) a = is_choices a
 is_of view (command.Check sub) a = is_compared a
 
 -- the name of a refusal that a command can have: not that of want of memory, G8

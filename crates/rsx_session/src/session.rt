@@ -8,7 +8,9 @@ use rsx_demo::{Demo, Val, is_same_val};
 use rsx_graph::{Deliveries, Graph, Pumped, Refusal, SubscriptionState};
 use rsx_model::{Expr, ScratchRefusal, scratch};
 use rsx_script::{Answer, Command, Rest, Shown};
-use rsx_types::{Cause, Ending, HubId, HubKind, NoMemory, Signal, StreamValue, SubId, Tree};
+use rsx_types::{
+    Cause, Ending, HubId, HubKind, Move, NoMemory, NodeId, Signal, StreamValue, SubId, Tree,
+};
 use std::alloc::{AllocError, AllocFailed, Global};
 use std::mem;
 
@@ -156,10 +158,12 @@ impl Session {
             Command::Request(sub, count) => self.request(sub, count),
             Command::Cancel(sub) => self.cancel(sub),
             Command::Pump(budget) => self.pump(alloc, budget),
+            Command::Pick(sub, node, input) => self.pick(alloc, sub, node, input),
             Command::Show(sub) => self.show(alloc, sub),
             Command::Asked(sub) => Ok(Answer::Asked(self.graph.asked(sub)?)),
             Command::Count(sub) => Ok(Answer::Count(self.record(sub)?.received.len() as u64)),
             Command::Joins(sub) => Ok(Answer::Joins(self.graph.joins(alloc, Tree::Sub(sub))?)),
+            Command::Choices(sub) => Ok(Answer::Choices(self.graph.notes(alloc, Tree::Sub(sub))?)),
             Command::Check(sub) => self.check(alloc, sub),
         }
     }
@@ -265,6 +269,22 @@ impl Session {
         ensures err { IfErr result IsTrouble }
     {
         self.graph.cancel(sub)?;
+        Ok(Answer::Done)
+    }
+
+    /// Makes one pick, which delivers nothing.
+    fn pick(
+        &mut self,
+        alloc: Global,
+        sub: SubId,
+        node: NodeId,
+        input: u64,
+    ) -> Result<Answer<'_>, Trouble>
+        ensures answer { IfOk result (λ a. is_done a ≡ true) }
+        ensures err { IfErr result IsTrouble }
+    {
+        self.graph
+            .make(alloc, Move::Pick(Tree::Sub(sub), node, input))?;
         Ok(Answer::Done)
     }
 
