@@ -3,7 +3,7 @@
 use rsx_demo::{Demo, Val};
 use rsx_model::{Expr, check_expr};
 use rsx_pipe::{NodeMove, Part, Pumped, SignalQueue};
-use rsx_types::{Ending, NoMemory, Signal, Stage};
+use rsx_types::{Ending, NoMemory, Signal, Stage, StreamValue};
 use std::alloc::Global;
 use std::process::Abort;
 
@@ -16,9 +16,10 @@ const SEND_BELOW: NodeMove = NodeMove::Send(1);
 
 const SEND_ROOT: NodeMove = NodeMove::Send(0);
 
-/// Moves that no node of these trees makes: the root's Ask, which requests make, and a pick and a row of the root and of the
-/// node below it.
-const NEVER: [NodeMove; 5] = [
+/// Moves that aren't enabled at first: the root's Send, as nothing has come up to it; the root's Ask, which requests make; and
+/// a pick and a row of the root and of the node below it, which no node of these trees makes.
+const NEVER: [NodeMove; 6] = [
+    SEND_ROOT,
     NodeMove::Ask(0),
     NodeMove::Pick(0, 0),
     NodeMove::Pick(1, 0),
@@ -26,8 +27,27 @@ const NEVER: [NodeMove; 5] = [
     NodeMove::Row(1),
 ];
 
+/// The moves for the first item, in turn, and the one that is enabled then.
+const STEPS: [NodeMove; 4] = [ASK_BELOW, SEND_BELOW, SEND_ROOT, SEND_BELOW];
+
+/// What the parts of these tests put out.
+const DOUBLED: [i64; 5] = [2, 4, 6, 8, 10];
+
+/// A pump: how many items more are asked for before it, its budget, how it ends, and how many signals wait then.
+pub(crate) type PumpRow = (u64, u32, Pumped, usize);
+
+/// For two items: Ask below, and then Send below and Send over the root edge for each. For the other three and the
+/// completion: Ask below, and two Sends for each.
+const PUMPS: [PumpRow; 4] = [
+    (0, 9, Pumped::Idle(9), 0),
+    (2, 3, Pumped::Budget, 1),
+    (0, 9, Pumped::Idle(7), 2),
+    (9, 9, Pumped::Idle(0), 6),
+];
+
 // The tests need no facts of what they call, so these functions have no clause. What has early returns only borrows: each
-// of them would let go of a part that it owns.
+// of them would let go of a part that it owns, one field after the other. So a test holds its part in a list, which is let
+// go of by one call.
 
 /// A part with the queue that its root sends into.
 #[derive(Drop)]
@@ -42,33 +62,25 @@ fn doubling(alloc: Global) -> Result<Expr<Val>, NoMemory> {
     Ok(Expr::Plain(Stage::Map(DOUBLE), range))
 }
 
-/// The part of an expression, which keeps the limits.
-fn part_of(rt: &impl Abort, alloc: Global, expr: &Expr<Val>) -> Result<Part<Val>, NoMemory> {
-    assert!(rt; check_expr(expr, 0).is_ok());
-    Part::new(alloc, &Demo, expr, &[])
-}
-
-/// The part that doubles the numbers 1 to 5, and an empty queue.
-fn doubling_part(rt: &impl Abort, alloc: Global) -> Result<QueuedPart, NoMemory> {
-    let out = SignalQueue::new(alloc)?;
+/// The part of that expression, which keeps the limits.
+fn doubling_part(rt: &impl Abort, alloc: Global) -> Result<Part<Val>, NoMemory> {
     let expr = doubling(alloc)?;
-    let part = part_of(rt, alloc, &expr)?;
-    Ok(QueuedPart { part, out })
+    assert!(rt; check_expr(&expr, 0).is_ok());
+    Part::new(alloc, &Demo, &expr, &[])
 }
 
-/// Asks for so many items more.
-fn request(part: &mut Part<Val>, count: u64) {
-    part.request(count);
+/// One such part, and an empty queue.
+fn doubling_parts(rt: &impl Abort, alloc: Global) -> Result<Vec<QueuedPart>, NoMemory> {
+    let mut parts = Vec::new(alloc);
+    let out = SignalQueue::new(alloc)?;
+    let part = doubling_part(rt, alloc)?;
+    parts.push(QueuedPart { part, out })?;
+    Ok(parts)
 }
 
 /// Whether a move is enabled, and is the first that is.
 fn is_first(part: &Part<Val>, step: NodeMove, out: &SignalQueue<Val>) -> bool {
     part.enabled(step, out) && part.first_enabled(out) == Some(step)
-}
-
-/// Whether no move is enabled.
-fn is_idle(part: &Part<Val>, out: &SignalQueue<Val>) -> bool {
-    part.is_idle(out)
 }
 
 /// Whether a move is made.
@@ -81,26 +93,85 @@ fn is_made(
     part.make(alloc, &Demo, step, out).is_ok()
 }
 
-/// Makes enabled moves, at most so many.
-fn pumped(
+/// Whether none of these moves is enabled, or made.
+fn makes_none(
     alloc: Global,
     part: &mut Part<Val>,
-    budget: u32,
     out: &mut SignalQueue<Val>,
-) -> Result<Pumped, NoMemory> {
-    part.pump(alloc, &Demo, budget, out)
+    steps: &[NodeMove],
+) -> bool {
+    for step in steps {
+        if part.enabled(*step, out) || is_made(alloc, part, *step, out) {
+            return false;
+        }
+    }
+    true
+}
+
+/// Whether each of these moves is the first that is enabled, and is made.
+fn makes_all(
+    alloc: Global,
+    part: &mut Part<Val>,
+    out: &mut SignalQueue<Val>,
+    steps: &[NodeMove],
+) -> bool {
+    for step in steps {
+        if !is_first(part, *step, out) || !is_made(alloc, part, *step, out) {
+            return false;
+        }
+    }
+    true
 }
 
 /// How many items still come out, and the ending behind them.
-fn left(alloc: Global, part: &Part<Val>) -> Result<(usize, Ending), NoMemory> {
-    let value = part.residual(alloc, &Demo, &[])?;
+pub(crate) fn left(
+    alloc: Global,
+    part: &Part<Val>,
+    inboxes: &[StreamValue<Val>],
+) -> Result<(usize, Ending), NoMemory> {
+    let value = part.residual(alloc, &Demo, inboxes)?;
     Ok((value.items().len(), value.ending()))
 }
 
-/// For how many nodes there is a note.
-fn noted(alloc: Global, part: &Part<Val>) -> Result<usize, NoMemory> {
-    let notes = part.notes(alloc)?;
-    Ok(notes.len())
+/// Whether the moves for one item are made, and leave the other four still to come.
+fn sends_one_item(
+    alloc: Global,
+    part: &mut Part<Val>,
+    out: &mut SignalQueue<Val>,
+) -> Result<bool, NoMemory> {
+    if !part.is_idle(out) {
+        return Ok(false);
+    }
+    part.request(2);
+    let made = makes_none(alloc, part, out, &NEVER) && makes_all(alloc, part, out, &STEPS);
+    Ok(made && out.len() == 1 && left(alloc, part, &[])? == (4, Ending::Done))
+}
+
+/// Whether a pump keeps its row.
+pub(crate) fn is_pumped(
+    alloc: Global,
+    part: &mut Part<Val>,
+    out: &mut SignalQueue<Val>,
+    row: PumpRow,
+) -> Result<bool, NoMemory> {
+    let (count, budget, ended, waiting) = row;
+    part.request(count);
+    let got = part.pump(alloc, &Demo, budget, out)?;
+    Ok(got == ended && out.len() == waiting)
+}
+
+/// Whether each pump keeps its row.
+fn pumps(
+    alloc: Global,
+    part: &mut Part<Val>,
+    out: &mut SignalQueue<Val>,
+) -> Result<bool, NoMemory> {
+    for row in &PUMPS {
+        if !is_pumped(alloc, part, out, *row)? {
+            return Ok(false);
+        }
+    }
+    Ok(true)
 }
 
 /// The number of an item.
@@ -127,105 +198,64 @@ fn is_completion_popped(out: &mut SignalQueue<Val>) -> bool {
     }
 }
 
-/// Makes the moves for one item, and finds the other four still to come.
-fn sends_one_item(
-    rt: &impl Abort,
-    alloc: Global,
-    part: &mut Part<Val>,
-    out: &mut SignalQueue<Val>,
-) -> Result<(), NoMemory> {
-    assert!(rt; is_idle(part, out));
-    request(part, 2);
-    assert!(rt; !is_made(alloc, part, SEND_ROOT, out));
-    for step in NEVER {
-        assert!(rt; !part.enabled(step, out));
-        assert!(rt; !is_made(alloc, part, step, out));
+/// Whether the doubled numbers and the completion are all that the queue gives out.
+fn gives_all(out: &mut SignalQueue<Val>) -> bool {
+    for wanted in &DOUBLED {
+        if number_popped(out) != Some(*wanted) {
+            return false;
+        }
     }
-    for step in [ASK_BELOW, SEND_BELOW, SEND_ROOT, SEND_BELOW] {
-        assert!(rt; is_first(part, step, out));
-        assert!(rt; is_made(alloc, part, step, out));
+    is_completion_popped(out) && out.len() == 0 && out.pop().is_none()
+}
+
+/// Whether the queue has just the number 2, until it is cleared.
+fn clears(out: &mut SignalQueue<Val>) -> bool {
+    if out.len() != 1 || number(out.at(0)) != Some(2) {
+        return false;
     }
-    assert!(rt; out.len() == 1);
-    assert!(rt; left(alloc, part)? == (4, Ending::Done));
-    Ok(())
-}
-
-/// Whether a pump keeps a row: how many items more are asked for, the budget, how the pump ends, and how many signals wait
-/// then.
-fn is_pumped(
-    alloc: Global,
-    part: &mut Part<Val>,
-    out: &mut SignalQueue<Val>,
-    row: (u64, u32, Pumped, usize),
-) -> Result<bool, NoMemory> {
-    let (count, budget, ended, waiting) = row;
-    request(part, count);
-    let got = pumped(alloc, part, budget, out)?;
-    Ok(got == ended && out.len() == waiting)
-}
-
-/// For two items: Ask below, and then Send below and Send over the root edge for each. For the other three and the
-/// completion: Ask below, and two Sends for each.
-fn pumps(
-    rt: &impl Abort,
-    alloc: Global,
-    part: &mut Part<Val>,
-    out: &mut SignalQueue<Val>,
-) -> Result<(), NoMemory> {
-    assert!(rt; is_pumped(alloc, part, out, (0, 9, Pumped::Idle(9), 0))?);
-    assert!(rt; is_pumped(alloc, part, out, (2, 3, Pumped::Budget, 1))?);
-    assert!(rt; is_pumped(alloc, part, out, (0, 9, Pumped::Idle(7), 2))?);
-    assert!(rt; is_pumped(alloc, part, out, (9, 9, Pumped::Idle(0), 6))?);
-    Ok(())
-}
-
-/// Takes the doubled numbers and the completion out of the queue.
-fn takes_all(rt: &impl Abort, out: &mut SignalQueue<Val>) {
-    for wanted in [2, 4, 6, 8, 10] {
-        assert!(rt; number_popped(out) == Some(wanted));
-    }
-    assert!(rt; is_completion_popped(out));
-    assert!(rt; number_popped(out) == None);
-}
-
-/// Closes the part behind its first item, which stays in the queue until that is cleared.
-fn closes(
-    rt: &impl Abort,
-    alloc: Global,
-    part: &mut Part<Val>,
-    out: &mut SignalQueue<Val>,
-) -> Result<(), NoMemory> {
-    request(part, 2);
-    assert!(rt; pumped(alloc, part, 3, out)? == Pumped::Budget);
-    part.close();
-    assert!(rt; is_idle(part, out));
-    assert!(rt; noted(alloc, part)? == 2);
-    assert!(rt; out.len() > 0);
-    assert!(rt; number(out.at(0)) == Some(2));
     out.clear();
-    assert!(rt; out.len() == 0);
-    Ok(())
+    out.len() == 0
+}
+
+/// Whether the part closes behind its first item, which stays in the queue.
+fn closes(
+    alloc: Global,
+    part: &mut Part<Val>,
+    out: &mut SignalQueue<Val>,
+) -> Result<bool, NoMemory> {
+    let sent = is_pumped(alloc, part, out, (2, 3, Pumped::Budget, 1))?;
+    part.close();
+    let notes = part.notes(alloc)?;
+    Ok(sent && notes.len() == 2 && part.is_idle(out) && clears(out))
 }
 
 #[test]
 fn a_part_makes_the_moves_that_are_enabled(rt: HostRuntime) -> Result<(), NoMemory> {
     let alloc = rt.alloc();
-    let mut one = doubling_part(&rt, alloc)?;
-    sends_one_item(&rt, alloc, &mut one.part, &mut one.out)
+    let mut parts = doubling_parts(&rt, alloc)?;
+    for one in &mut parts {
+        assert!(rt; sends_one_item(alloc, &mut one.part, &mut one.out)?);
+    }
+    Ok(())
 }
 
 #[test]
 fn a_part_pumps_to_its_budget_and_to_idle(rt: HostRuntime) -> Result<(), NoMemory> {
     let alloc = rt.alloc();
-    let mut one = doubling_part(&rt, alloc)?;
-    pumps(&rt, alloc, &mut one.part, &mut one.out)?;
-    takes_all(&rt, &mut one.out);
+    let mut parts = doubling_parts(&rt, alloc)?;
+    for one in &mut parts {
+        assert!(rt; pumps(alloc, &mut one.part, &mut one.out)?);
+        assert!(rt; gives_all(&mut one.out));
+    }
     Ok(())
 }
 
 #[test]
 fn a_closed_part_has_no_move(rt: HostRuntime) -> Result<(), NoMemory> {
     let alloc = rt.alloc();
-    let mut one = doubling_part(&rt, alloc)?;
-    closes(&rt, alloc, &mut one.part, &mut one.out)
+    let mut parts = doubling_parts(&rt, alloc)?;
+    for one in &mut parts {
+        assert!(rt; closes(alloc, &mut one.part, &mut one.out)?);
+    }
+    Ok(())
 }
