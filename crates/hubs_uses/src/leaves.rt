@@ -6,7 +6,6 @@ use rsx_sources::Front;
 use rsx_tree::{Inputs, Node};
 use rsx_types::{Ending, HubKind, NoMemory, Signal, StreamValue};
 use std::alloc::Global;
-use std::test::Fail;
 
 /// A tree that reads the hub 2, of capacity 1.
 fn reading(alloc: Global) -> Result<Node<HubLeaf<i64>>, NoMemory> {
@@ -30,54 +29,71 @@ fn taken(
     Ok(1 - signals.len().min(1))
 }
 
-#[test]
-fn takes_in_what_its_hub_publishes(rt: HostRuntime) -> Result<(), Fail> {
-    let alloc = rt.alloc();
+/// Whether the tree takes in what its hub publishes while it has room, and nothing of another hub, and gives it out.
+fn reads_its_hub(alloc: Global, tree: &mut Node<HubLeaf<i64>>) -> Result<bool, NoMemory> {
+    let reads = tree.readers_up_to(2, 9) == 1 && tree.readers_up_to(1, 9) == 0 && tree.has_room(2);
+    let other = taken(alloc, tree, 1, Signal::Next(7))? == 0;
+    let own = taken(alloc, tree, 2, Signal::Next(7))? == 1;
+    let full = tree.front() == Some(Front::Item) && !tree.has_room(2) && tree.has_room(1);
+    let given = tree.pop(alloc, &PLENTY)? == Some(Signal::Next(7));
+    Ok(reads && other && own && full && given && tree.has_room(2))
+}
+
+fn leaf_reads_its_hub(alloc: Global) -> Result<bool, NoMemory> {
     let mut tree = reading(alloc)?;
-    assert_eq!(rt;
-        (
-            tree.readers_up_to(2, 9),
-            tree.readers_up_to(1, 9),
-            tree.has_room(2)
-        ),
-        (1, 0, true)
-    );
-    assert_eq!(rt; taken(alloc, &mut tree, 1, Signal::Next(7))?, 0);
-    assert_eq!(rt; taken(alloc, &mut tree, 2, Signal::Next(7))?, 1);
-    assert_eq!(rt;
-        (tree.front(), tree.has_room(2), tree.has_room(1)),
-        (Some(Front::Item), false, true)
-    );
-    assert_eq!(rt; tree.pop(alloc, &PLENTY), Ok(Some(Signal::Next(7))));
-    assert!(rt; tree.has_room(2));
-    Ok(())
+    reads_its_hub(alloc, &mut tree)
 }
 
 #[test]
-fn reads_no_more_after_the_ending(rt: HostRuntime) -> Result<(), Fail> {
-    let alloc = rt.alloc();
-    let mut tree = reading(alloc)?;
-    assert_eq!(rt; taken(alloc, &mut tree, 2, Signal::Complete)?, 1);
-    assert_eq!(rt; tree.readers_up_to(2, 9), 0);
-    assert_eq!(rt; taken(alloc, &mut tree, 2, Signal::Next(7))?, 0);
-    assert_eq!(rt; tree.pop(alloc, &PLENTY), Ok(Some(Signal::Complete)));
+fn takes_in_what_its_hub_publishes(rt: HostRuntime) -> Result<(), NoMemory> {
+    assert!(rt; leaf_reads_its_hub(rt.alloc())?);
     Ok(())
 }
 
-#[test]
-fn owes_its_queue_and_then_the_inbox(rt: HostRuntime) -> Result<(), Fail> {
-    let alloc = rt.alloc();
+/// Whether the tree takes in a completion, and nothing after it, and gives it out.
+fn ends(alloc: Global, tree: &mut Node<HubLeaf<i64>>) -> Result<bool, NoMemory> {
+    let end = taken(alloc, tree, 2, Signal::Complete)? == 1 && tree.readers_up_to(2, 9) == 0;
+    let after = taken(alloc, tree, 2, Signal::Next(7))? == 0;
+    Ok(end && after && tree.pop(alloc, &PLENTY)? == Some(Signal::Complete))
+}
+
+fn leaf_ends(alloc: Global) -> Result<bool, NoMemory> {
     let mut tree = reading(alloc)?;
-    assert_eq!(rt; taken(alloc, &mut tree, 2, Signal::Next(7))?, 1);
+    ends(alloc, &mut tree)
+}
+
+#[test]
+fn reads_no_more_after_the_ending(rt: HostRuntime) -> Result<(), NoMemory> {
+    assert!(rt; leaf_ends(rt.alloc())?);
+    Ok(())
+}
+
+/// What stands in the inboxes of three hubs: the number of each.
+fn numbered_inboxes(alloc: Global) -> Result<Vec<StreamValue<i64>>, NoMemory> {
     let mut inboxes = Vec::new(alloc);
     for hub in 0..3 {
         let mut items = Vec::new(alloc);
         items.push(hub)?;
         inboxes.push(StreamValue::new(items, Ending::Done))?;
     }
+    Ok(inboxes)
+}
+
+/// Whether the tree owes an item that it took in, and then its hub's inbox.
+fn owes(alloc: Global, tree: &mut Node<HubLeaf<i64>>) -> Result<bool, NoMemory> {
+    let taken = taken(alloc, tree, 2, Signal::Next(7))? == 1;
+    let inboxes = numbered_inboxes(alloc)?;
     let value = tree.residual(alloc, &PLENTY, inboxes.as_slice())?;
-    let owed: [i64; 2] = [7, 2];
-    assert!(rt; value.items() == owed.as_slice());
-    assert_eq!(rt; value.ending(), Ending::Done);
+    Ok(taken && matches!(value.items(), [7, 2]) && value.ending() == Ending::Done)
+}
+
+fn leaf_owes(alloc: Global) -> Result<bool, NoMemory> {
+    let mut tree = reading(alloc)?;
+    owes(alloc, &mut tree)
+}
+
+#[test]
+fn owes_its_queue_and_then_the_inbox(rt: HostRuntime) -> Result<(), NoMemory> {
+    assert!(rt; leaf_owes(rt.alloc())?);
     Ok(())
 }

@@ -3,7 +3,7 @@
 ghost use Rattle.std.specs.Prelude.{IfOk};
 
 use rsx_hub::{AdmitRefusal, Hub, HubRefusal, Member};
-use rsx_types::{Fault, HubKind, NoMemory, Ops};
+use rsx_types::{Fault, HubKind, NoMemory, Ops, Signal};
 use std::alloc::Global;
 
 /// Items are copied, and nothing else can be done with them.
@@ -115,4 +115,25 @@ pub(crate) fn hand_over(
         Some(signal) => Ok(member.take_in(signal).is_ok()),
         None => Ok(false),
     }
+}
+
+/// Emits 1 to `last`, and takes each of them in. Whether that is what the hub publishes.
+pub(crate) fn accept_up_to(alloc: Global, hub: &mut Hub<i64>, last: i64) -> Result<bool, NoMemory> {
+    let mut all = true;
+    for item in 1..=last {
+        all = all && hub.emit(item).is_ok();
+        let signal = hub.accept(alloc, &PLENTY)?;
+        all = all && signal == Some(Signal::Next(item));
+    }
+    Ok(all)
+}
+
+/// Whether the member gives out these numbers, one after the other.
+pub(crate) fn gives_out(member: &mut Member<i64>, first: i64, end: i64) -> bool {
+    for item in first..end {
+        if member.advance() != Some(Signal::Next(item)) {
+            return false;
+        }
+    }
+    true
 }
