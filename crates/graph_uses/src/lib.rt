@@ -4,6 +4,8 @@
 #[cfg(test)]
 mod hubs;
 #[cfg(test)]
+mod numbers;
+#[cfg(test)]
 mod reuse;
 #[cfg(test)]
 mod tests;

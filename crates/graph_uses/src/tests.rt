@@ -1,32 +1,24 @@
 //! Graphs over the demonstration's functions, with ample memory.
 
+use crate::numbers::{is_item, owes};
 use rsx_demo::{Demo, Val};
 use rsx_graph::{Answer, Deliveries, Graph, Pumped, Refusal, Step, replay};
 use rsx_model::Expr;
-use rsx_types::{Ending, HubId, Move, NoMemory, NodeId, Signal, Stage, SubId, Tree};
+use rsx_types::{Ending, HubId, Move, NoMemory, NodeId, Stage, SubId, Tree};
 use std::alloc::Global;
-use std::test::Fail;
 
 const SUB: SubId = SubId(0);
 
 const TREE: Tree = Tree::Sub(SUB);
 
-const ASK_BELOW: Move = Move::Ask(TREE, NodeId(1));
-
-const SEND_BELOW: Move = Move::Send(TREE, NodeId(1));
-
-const SEND_ROOT: Move = Move::Send(TREE, NodeId(0));
+/// The moves that bring the first item up to the root's queue.
+const STEPS: [Move; 3] = [
+    Move::Ask(TREE, NodeId(1)),
+    Move::Send(TREE, NodeId(1)),
+    Move::Send(TREE, NodeId(0)),
+];
 
 const TAKE: Move = Move::Take(TREE, NodeId(0));
-
-/// Makes a move. A test needs no facts of it, so this has no clause.
-fn made(
-    alloc: Global,
-    graph: &mut Graph<Demo>,
-    step: Move,
-) -> Result<Option<(SubId, Signal<Val>)>, Refusal> {
-    graph.make(alloc, step)
-}
 
 /// `map double (range 2 3)`, which puts out 4, 6 and 8.
 fn doubled(alloc: Global) -> Result<Expr<Val>, NoMemory> {
@@ -34,94 +26,126 @@ fn doubled(alloc: Global) -> Result<Expr<Val>, NoMemory> {
     Ok(Expr::Plain(Stage::Map(2), range))
 }
 
-/// Subscribes an expression, and asks for two items of it.
-fn begin(alloc: Global, graph: &mut Graph<Demo>, expr: &Expr<Val>) -> Result<(), Refusal> {
-    graph.subscribe(alloc, expr)?;
+/// Subscribes that expression, and asks for two items of it.
+fn begin(alloc: Global, graph: &mut Graph<Demo>) -> Result<(), Refusal> {
+    let expr = match doubled(alloc) {
+        Ok(expr) => expr,
+        Err(NoMemory) => return Err(Refusal::NoMemory),
+    };
+    graph.subscribe(alloc, &expr)?;
     graph.request(SUB, 2)?;
     Ok(())
 }
 
-/// A graph with one subscription, which asked for two items.
-fn subscribed(alloc: Global) -> Result<Graph<Demo>, Fail> {
+/// Makes these moves, which deliver nothing.
+fn makes(alloc: Global, graph: &mut Graph<Demo>, steps: &[Move]) -> Result<bool, Refusal> {
+    for step in steps {
+        if graph.make(alloc, *step)?.is_some() {
+            return Ok(false);
+        }
+    }
+    Ok(true)
+}
+
+/// Whether a Take is refused.
+fn is_take_refused(alloc: Global, graph: &mut Graph<Demo>) -> bool {
+    matches!(graph.make(alloc, TAKE), Err(Refusal::NotEnabled))
+}
+
+/// Whether a Take delivers this number.
+fn takes(alloc: Global, graph: &mut Graph<Demo>, wanted: i64) -> Result<bool, Refusal> {
+    match graph.make(alloc, TAKE)? {
+        Some(delivery) => Ok(is_item(&delivery, SUB, wanted)),
+        None => Ok(false),
+    }
+}
+
+/// Whether a Take is refused before the first item has come up, and after it was taken.
+fn takes_one(alloc: Global, graph: &mut Graph<Demo>) -> Result<bool, Refusal> {
+    begin(alloc, graph)?;
+    let before = is_take_refused(alloc, graph)
+        && owes(alloc, graph, SUB, &[4, 6, 8], Ending::Done)?;
+    let taken = makes(alloc, graph, &STEPS)? && takes(alloc, graph, 4)?;
+    let after = is_take_refused(alloc, graph) && owes(alloc, graph, SUB, &[6, 8], Ending::Done)?;
+    Ok(before && taken && after)
+}
+
+fn graph_takes_one(alloc: Global) -> Result<bool, Refusal> {
     let mut graph = Graph::new(alloc, Demo)?;
-    let expr = doubled(alloc)?;
-    begin(alloc, &mut graph, &expr)?;
-    Ok(graph)
-}
-
-/// Whether an item is this number.
-fn is_number(item: &Val, wanted: i64) -> bool {
-    matches!(item, Val::Int(n) if *n == wanted)
-}
-
-/// Whether a delivery is this number, for subscription 0.
-fn is_item(delivery: &(SubId, Signal<Val>), wanted: i64) -> bool {
-    match delivery {
-        (SubId(0), Signal::Next(Val::Int(n))) => *n == wanted,
-        _ => false,
-    }
-}
-
-/// Whether the graph owes so many items, of which the first is this number, and then the completion.
-fn owes(alloc: Global, graph: &Graph<Demo>, count: usize, first: i64) -> Result<bool, Refusal> {
-    let owed = graph.owed(alloc, SUB)?;
-    let begins = owed.items().len() == count && count > 0 && is_number(&owed.items()[0], first);
-    Ok(begins && owed.ending() == Ending::Done)
+    takes_one(alloc, &mut graph)
 }
 
 #[test]
-fn a_take_from_an_empty_queue_is_refused(rt: HostRuntime) -> Result<(), Fail> {
-    let alloc = rt.alloc();
-    let mut graph = subscribed(alloc)?;
-    assert!(rt; matches!(made(alloc, &mut graph, TAKE), Err(Refusal::NotEnabled)));
-    assert!(rt; owes(alloc, &graph, 3, 4)?);
-    for step in [ASK_BELOW, SEND_BELOW, SEND_ROOT] {
-        assert!(rt; made(alloc, &mut graph, step)?.is_none());
-    }
-    match made(alloc, &mut graph, TAKE)? {
-        Some(delivery) => assert!(rt; is_item(&delivery, 4)),
-        None => assert!(rt; false, "a Take hands its signal on"),
-    }
-    assert!(rt; matches!(made(alloc, &mut graph, TAKE), Err(Refusal::NotEnabled)));
-    assert!(rt; owes(alloc, &graph, 2, 6)?);
+fn a_take_from_an_empty_queue_is_refused(rt: HostRuntime) -> Result<(), Refusal> {
+    assert!(rt; graph_takes_one(rt.alloc())?);
     Ok(())
 }
 
-#[test]
-fn a_pump_delivers_what_was_asked_for(rt: HostRuntime) -> Result<(), Fail> {
-    let alloc = rt.alloc();
-    let mut graph = subscribed(alloc)?;
+/// Whether a pump delivers the two items that were asked for.
+fn delivers_asked(alloc: Global, graph: &mut Graph<Demo>) -> Result<bool, Refusal> {
     let mut out = Deliveries::new(alloc);
-    assert_eq!(rt; graph.pump(alloc, 100, &mut out)?, Pumped::Idle);
-    assert_eq!(rt; out.len(), 2);
-    assert!(rt; is_item(&out.as_slice()[1], 6));
-    assert_eq!(rt; graph.asked(SUB)?, 2);
-    assert_eq!(rt; graph.notes(alloc, TREE)?.len(), 2);
-    assert_eq!(rt; graph.joins(alloc, TREE)?.len(), 0);
+    let idle = graph.pump(alloc, 100, &mut out)? == Pumped::Idle;
+    let asked = graph.asked(SUB)? == 2;
+    Ok(idle && asked && out.len() == 2 && out.into_vec().len() == 2)
+}
+
+/// Whether there is a note for each node, and no leaf has joined a hub.
+fn noted(alloc: Global, graph: &Graph<Demo>) -> Result<bool, Refusal> {
+    Ok(graph.notes(alloc, TREE)?.len() == 2 && graph.joins(alloc, TREE)?.len() == 0)
+}
+
+/// Whether nothing is owed after a cancel.
+fn cancels(alloc: Global, graph: &mut Graph<Demo>) -> Result<bool, Refusal> {
     graph.cancel(SUB)?;
-    assert_eq!(rt; graph.owed(alloc, SUB)?.items().len(), 0);
-    assert_eq!(rt; out.into_vec().len(), 2);
-    Ok(())
+    Ok(graph.owed(alloc, SUB)?.items().len() == 0)
+}
+
+fn pumps(alloc: Global, graph: &mut Graph<Demo>) -> Result<bool, Refusal> {
+    begin(alloc, graph)?;
+    Ok(delivers_asked(alloc, graph)? && noted(alloc, graph)? && cancels(alloc, graph)?)
+}
+
+fn graph_pumps(alloc: Global) -> Result<bool, Refusal> {
+    let mut graph = Graph::new(alloc, Demo)?;
+    pumps(alloc, &mut graph)
 }
 
 #[test]
-fn a_list_of_steps_is_answered(rt: HostRuntime) -> Result<(), Fail> {
-    let alloc = rt.alloc();
+fn a_pump_delivers_what_was_asked_for(rt: HostRuntime) -> Result<(), Refusal> {
+    assert!(rt; graph_pumps(rt.alloc())?);
+    Ok(())
+}
+
+/// A subscription, three moves and requests of it, one of which no graph without hubs has, and its cancel.
+fn listed(alloc: Global) -> Result<Vec<Step<Val>>, NoMemory> {
     let mut steps = Vec::new(alloc);
     steps.push(Step::Subscribe(doubled(alloc)?))?;
     steps.push(Step::Make(TAKE))?;
     steps.push(Step::Request(SUB, 2))?;
     steps.push(Step::Make(Move::Ask(Tree::Feed(HubId(0)), NodeId(0))))?;
     steps.push(Step::Cancel(SUB))?;
-    let answers = match replay(alloc, Demo, steps) {
-        Ok((_graph, answers)) => answers,
-        Err(_steps) => Vec::new(alloc),
-    };
-    assert_eq!(rt; answers.len(), 5);
-    assert!(rt; matches!(answers[0], Answer::Subscribed(SubId(0))));
-    assert!(rt; matches!(answers[1], Answer::Refused(Refusal::NotEnabled)));
-    assert!(rt; matches!(answers[2], Answer::Requested(None)));
-    assert!(rt; matches!(answers[3], Answer::Refused(Refusal::UnknownHub)));
-    assert!(rt; matches!(answers[4], Answer::Cancelled));
+    Ok(steps)
+}
+
+/// Whether these are the answers of those steps.
+fn are_answers(answers: &[Answer<Val>]) -> bool {
+    matches!(
+        answers,
+        [
+            Answer::Subscribed(SubId(0)),
+            Answer::Refused(Refusal::NotEnabled),
+            Answer::Requested(None),
+            Answer::Refused(Refusal::UnknownHub),
+            Answer::Cancelled
+        ]
+    )
+}
+
+#[test]
+fn a_list_of_steps_is_answered(rt: HostRuntime) -> Result<(), NoMemory> {
+    match replay(rt.alloc(), Demo, listed(rt.alloc())?) {
+        Ok((_graph, answers)) => assert!(rt; are_answers(answers.as_slice())),
+        Err(_steps) => assert!(rt; false, "the steps came back"),
+    }
     Ok(())
 }
