@@ -1,11 +1,10 @@
 #![tactic(auto)]
-//! Tests of graphs over the demonstration's functions: each call once on its happy path, a refused move, and the hubs.
+//! Tests of graphs and of what they stand on: hubs and parts. They stand in one crate, since what a crate of tests costs
+//! before its first test is that of many tests.
 
+#[cfg(test)]
+mod graphs;
 #[cfg(test)]
 mod hubs;
 #[cfg(test)]
-mod numbers;
-#[cfg(test)]
-mod reuse;
-#[cfg(test)]
-mod tests;
+mod parts;

@@ -1,6 +1,6 @@
 //! A tree of one node that reads a hub: each of its calls on hubs once.
 
-use crate::numbers::{PLENTY, hub_of};
+use crate::hubs::numbers::{PLENTY, hub_of};
 use rsx_hub_leaf::HubLeaf;
 use rsx_sources::Front;
 use rsx_tree::{Inputs, Node};

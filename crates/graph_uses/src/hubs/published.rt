@@ -1,6 +1,6 @@
 //! What a hub takes in is handed to all subscriptions that read it.
 
-use crate::numbers::{Numbers, PLENTY, SCARCE, hub_of};
+use crate::hubs::numbers::{Numbers, PLENTY, SCARCE, hub_of};
 use rsx_hub::Hub;
 use rsx_model::{Expr, check_expr};
 use rsx_publishing::accept;

@@ -1,6 +1,6 @@
 //! A part whose node reads a hub.
 
-use crate::part::{is_pumped, left};
+use crate::parts::part::{is_pumped, left};
 use rsx_demo::{Demo, Val};
 use rsx_hub::Hub;
 use rsx_model::{Expr, check_expr};

@@ -1,6 +1,6 @@
 //! Each call of a member once, at a multicast hub of capacity 2.
 
-use crate::numbers::{admitted, emit_up_to, hand_over, hub_of};
+use crate::hubs::numbers::{admitted, emit_up_to, hand_over, hub_of};
 use rsx_hub::{Hub, Member};
 use rsx_sources::Front;
 use rsx_types::{HubKind, NoMemory, Signal};

@@ -1,6 +1,6 @@
 //! Graphs over the demonstration's functions, with ample memory.
 
-use crate::numbers::{is_item, owes};
+use crate::graphs::numbers::{is_item, owes};
 use rsx_demo::{Demo, Val};
 use rsx_graph::{Answer, Deliveries, Graph, Pumped, Refusal, Step, replay};
 use rsx_model::Expr;

@@ -1,6 +1,6 @@
 //! The largest hub, and the most members.
 
-use crate::numbers::{PLENTY, admitted, emit_up_to, gives_out, hub_of};
+use crate::hubs::numbers::{PLENTY, admitted, emit_up_to, gives_out, hub_of};
 use rsx_hub::{AdmitRefusal, Hub, Member};
 use rsx_types::{HubKind, NoMemory, Signal};
 use std::alloc::Global;

@@ -1,6 +1,6 @@
 //! Each call of a hub once.
 
-use crate::numbers::{PLENTY, SCARCE, accept_up_to, admitted, emit_up_to, gives_out, hub_of};
+use crate::hubs::numbers::{PLENTY, SCARCE, accept_up_to, admitted, emit_up_to, gives_out, hub_of};
 use rsx_hub::{AdmitRefusal, HasEnded, Hub, HubRefusal, Member, Rejected, TakeInRefusal};
 use rsx_sources::Front;
 use rsx_types::{Cause, HubKind, NoMemory, Signal};
