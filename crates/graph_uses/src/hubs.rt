@@ -1,7 +1,6 @@
 //! Hubs, their members and the subscriptions that read them, by rows worked out by hand.
 
 mod calls;
-mod leaves;
 mod limits;
 mod members;
 mod numbers;

@@ -1,6 +1,6 @@
 //! A part whose node reads a hub.
 
-use crate::parts::part::{is_pumped, left};
+use crate::parts::part::{is_pumped, left, number_popped};
 use rsx_demo::{Demo, Val};
 use rsx_hub::Hub;
 use rsx_model::{Expr, check_expr};
@@ -66,12 +66,13 @@ fn owed(alloc: Global, hub: &Hub<Val>, part: &Part<Val>) -> Result<(usize, Endin
     left(alloc, part, &inboxes)
 }
 
-/// Whether two signals wait in the inbox, which the part is owed, and it gets both and has room for no other.
+/// Whether two signals wait in the inbox, which the part is owed, and it gets both and has room for no other of this hub.
 fn fills(alloc: Global, hub: &mut Hub<Val>, part: &mut Part<Val>) -> Result<bool, NoMemory> {
     let waits = part.has_room_for(0) && owed(alloc, hub, part)? == (2, Ending::Open);
     let first = is_handed(alloc, hub, part)?;
     let second = is_handed(alloc, hub, part)?;
-    Ok(waits && first && second && !part.has_room_for(0))
+    let full = !part.has_room_for(0) && part.has_room_for(1);
+    Ok(waits && first && second && full)
 }
 
 /// Whether the part sends none before it was asked, and both where it is asked for more.
@@ -84,11 +85,19 @@ fn sends_both(
     Ok(none && is_pumped(alloc, part, out, (9, 9, Pumped::Idle(7), 2))?)
 }
 
-/// Whether the part is owed a completion that was published, gets it, and reads the hub no more.
+/// Whether the queue gives out the two items in their order.
+fn gives_both(out: &mut SignalQueue<Val>) -> bool {
+    number_popped(out) == Some(1) && number_popped(out) == Some(2)
+}
+
+/// Whether the part, which reads this hub and no other, is owed a completion that was published, gets it, and reads the hub no
+/// more.
 fn ends(alloc: Global, hub: &mut Hub<Val>, part: &mut Part<Val>) -> Result<bool, NoMemory> {
-    let reads = part.readers_up_to(0, 9) == 1 && hub.complete().is_ok();
+    let reads = part.readers_up_to(0, 9) == 1 && part.readers_up_to(1, 9) == 0;
+    let completed = hub.complete().is_ok();
     let done = owed(alloc, hub, part)? == (0, Ending::Done);
-    Ok(is_handed(alloc, hub, part)? && reads && done && part.readers_up_to(0, 9) == 0)
+    let handed = is_handed(alloc, hub, part)?;
+    Ok(reads && completed && done && handed && part.readers_up_to(0, 9) == 0)
 }
 
 /// What waits in the inbox is owed from the beginning, is handed on while there is room, and is sent once it was asked for.
@@ -99,6 +108,7 @@ fn items_of_a_hub(rt: HostRuntime) -> Result<(), NoMemory> {
     for one in &mut readers {
         assert!(rt; fills(alloc, &mut one.hubs[0], &mut one.part)?);
         assert!(rt; sends_both(alloc, &mut one.part, &mut one.out)?);
+        assert!(rt; gives_both(&mut one.out));
     }
     Ok(())
 }

@@ -183,7 +183,7 @@ fn number(signal: &Signal<Val>) -> Option<i64> {
 }
 
 /// The number of the front signal, which is taken.
-fn number_popped(out: &mut SignalQueue<Val>) -> Option<i64> {
+pub(crate) fn number_popped(out: &mut SignalQueue<Val>) -> Option<i64> {
     match out.pop() {
         Some(signal) => number(&signal),
         None => None,
