@@ -18,7 +18,7 @@ pub returns-clause-closed : goal.returns-clause-closed
 returns-clause-closed g c = subst NoneLive (sym (ap edges c.close.ensures ∙ edges_closed c.args.self.now.inputs)) (none_live (edges c.args.self.now.inputs))
 
 pub returns-clause-edges : goal.returns-clause-edges
-returns-clause-edges g c = ap edges c.close.ensures ∙ edges_closed c.args.self.now.inputs
+returns-clause-edges g c = cc (edges_closed c.args.self.now.inputs)
 
 pub returns-clause-notes : goal.returns-clause-notes
 returns-clause-notes g c = ap (λ t. g.M.Machine.recorded c.args.self.now.machine ∷ notes_of g.M.Machine t) c.close.ensures ∙ ap (λ l. g.M.Machine.recorded c.args.self.now.machine ∷ l) (notes_closed g.M.Machine c.args.self.now.inputs)
