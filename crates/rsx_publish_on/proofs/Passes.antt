@@ -1,0 +1,83 @@
+-- An item that goes through an empty queue in one go.
+use Rattle.std.proofs.Common.{◌≡◌, ℕ, ◌+◌, ◌≤◌, ◌==◌, Bool, true, false, ◌&&◌, List, [], ◌∷◌, length, option_map, refl, sym, ap, ◌∙◌, subst, arith}
+use Rattle.std.proofs.lemmas.Bool.Decides.{nat_tests}
+use Rattle.rsx_types.specs.declared.note.Note.{Note}
+use Rattle.rsx_types.specs.declared.note.Note.TheVariants.{Nothing, Picks, Ended}
+use Rattle.rsx_types.specs.declared.signal.Signal.TheVariants.{Next}
+use Rattle.rsx_types.specs.Meaning.{Meaning}
+use Rattle.rsx_types.specs.Stream.{Stream, item_then, signal_then}
+use Rattle.rsx_sources.specs.Counts.{taken_after}
+use Rattle.rsx_sources.specs.Machine.{quiet}
+use Rattle.rsx_sources.specs.Passed.{IsPassed}
+use Rattle.rsx_sources.specs.declared.machine.Front.TheVariants.{Item}
+use Rattle.rsx_sources.specs.declared.machine.Passed.TheVariants.{Item as ItemOut}
+use Rattle.rsx_prefetch.specs.Queue.{queue}
+use Rattle.rsx_crossing.specs.declared.tail.Tail.{Tail}
+use Rattle.rsx_crossing.specs.declared.tail.Tail.TheVariants.{Open, Completion, Failure, Taken}
+use Rattle.rsx_crossing.specs.Held.{is_open}
+use Rattle.rsx_queued.specs.Input.{takes}
+use Rattle.rsx_publish_on.specs.declared.node.PublishOnNode.{PublishOnNode}
+use Rattle.rsx_publish_on.specs.PublishOn.{publish_comes_out, publish_waiting, publish_takes, publish_popped, publish_counted, publish_ended}
+
+-- the node with these items and this ending in its queue
+abbrev node_of : {T : Type 0} → Tail → List T → ℕ → ℕ → PublishOnNode T
+node_of t xs p k = record { input = record { queue = queue xs p k; tail = t } }
+
+-- the item x of input i goes through a node, which is then as it was
+abbrev GoesThrough : {T : Type 0} → Meaning T → PublishOnNode T → ℕ → T → Type 0
+GoesThrough m n i x = IsPassed (publish_comes_out m) (publish_waiting m) publish_takes publish_popped (λ k. Nothing) publish_counted publish_ended (λ k j. false) n i x (ItemOut x) n
+
+item_first : {T : Type 0} (x : T) (further : Note) (v : Stream T) → quiet further (item_then x v) ≡ option_map (signal_then (Next x)) (quiet further v)
+item_first x Nothing v = refl
+item_first x (Picks cs) v = refl
+item_first x (Ended o) v = refl
+
+one_more : (k : ℕ) → (k + 0) + 1 ≡ k + 1
+one_more k = omega arith
+
+one_sent : (k : ℕ) → k + 1 ≡ (k + 1) + 0
+one_sent k = omega arith
+
+through_open : {T : Type 0} (m : Meaning T) (t : Tail) (xs : List T) (p k : ℕ) (x : T) → xs ≡ [] → takes (node_of t xs p k).input Item ≡ true → GoesThrough m (node_of t xs p k) 0 x
+through_open m Open [] p k x e room = (
+  node_of Open (x ∷ []) p k,
+  record {
+    enabled = room;
+    value = λ inc further. refl;
+    notes = refl;
+    counts = record {
+      stays_ended = λ e. cc;
+      counts = λ still taken sent c. (refl, c.1, ap (taken_after 0 (Next x)) c.2 ∙ ap (λ l. l ∷ []) (one_more sent));
+      stays_done = λ j h. h;
+      is_done = λ still e. cc;
+    };
+    goes_on = refl;
+  },
+  record {
+    waited = refl;
+    popped_out = (refl, room);
+    value = λ inc further. item_first x further inc.first;
+    notes = refl;
+    counts = (refl, λ taken sent c. (refl, c.1, c.2 ∙ ap (λ l. l ∷ []) (one_sent sent)), λ j h. h);
+  })
+through_open m Open (y ∷ xs) p k x e room = cc
+through_open m Completion xs p k x e room = cc
+through_open m (Failure c) xs p k x e room = cc
+through_open m Taken xs p k x e room = cc
+
+left_of : (a b : Bool) → a && b ≡ true → a ≡ true
+left_of true b e = refl
+left_of false b e = cc
+
+right_of : (a b : Bool) → a && b ≡ true → b ≡ true
+right_of true b e = e
+right_of false b e = cc
+
+is_zero : (i : ℕ) → (i == 0) ≡ true → i ≡ 0
+is_zero i e = grind (arith, nat_tests)
+
+pub goes_through : {T : Type 0} (m : Meaning T) (n : PublishOnNode T) (i : ℕ) (x : T) → n.input.queue.items ≡ [] → publish_takes n i Item ≡ true → GoesThrough m n i x
+goes_through m n i x empty can =
+    let first : i ≡ 0 = is_zero i (left_of (i == 0) (takes n.input Item) can) in
+    let P : ℕ → Type 0 = λ j. GoesThrough m n j x in
+    subst P (sym first) (through_open m n.input.tail n.input.queue.items n.input.queue.capacity n.input.queue.taken x empty (right_of (i == 0) (takes n.input Item) can))
