@@ -1,5 +1,6 @@
 #![tactic(auto)]
-//! Tests of the merge node, of the concat node and of what they stand on, over the demonstration's functions. This crate has nothing else.
+//! Tests of the nodes of merge, concat and `publishOn` and of what they stand on, over the demonstration's functions. This crate has
+//! nothing else.
 
 #[cfg(test)]
 mod choices;
@@ -7,5 +8,7 @@ mod choices;
 mod concat;
 #[cfg(test)]
 mod merging;
+#[cfg(test)]
+mod publish_on;
 #[cfg(test)]
 mod queued;
