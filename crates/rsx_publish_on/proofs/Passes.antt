@@ -1,5 +1,5 @@
 -- An item that goes through an empty queue in one go.
-use Rattle.std.proofs.Common.{◌≡◌, ℕ, ◌+◌, ◌≤◌, ◌==◌, Bool, true, false, ◌&&◌, List, [], ◌∷◌, length, option_map, refl, sym, ap, ◌∙◌, subst, arith}
+use Rattle.std.proofs.Common.{◌≡◌, ℕ, ◌+◌, ◌==◌, Bool, true, false, ◌&&◌, List, [], ◌∷◌, option_map, refl, sym, ap, ◌∙◌, subst, arith}
 use Rattle.std.proofs.lemmas.Bool.Decides.{nat_tests}
 use Rattle.rsx_types.specs.declared.note.Note.{Note}
 use Rattle.rsx_types.specs.declared.note.Note.TheVariants.{Nothing, Picks, Ended}
@@ -14,7 +14,6 @@ use Rattle.rsx_sources.specs.declared.machine.Passed.TheVariants.{Item as ItemOu
 use Rattle.rsx_prefetch.specs.Queue.{queue}
 use Rattle.rsx_crossing.specs.declared.tail.Tail.{Tail}
 use Rattle.rsx_crossing.specs.declared.tail.Tail.TheVariants.{Open, Completion, Failure, Taken}
-use Rattle.rsx_crossing.specs.Held.{is_open}
 use Rattle.rsx_queued.specs.Input.{takes}
 use Rattle.rsx_publish_on.specs.declared.node.PublishOnNode.{PublishOnNode}
 use Rattle.rsx_publish_on.specs.PublishOn.{publish_comes_out, publish_waiting, publish_takes, publish_popped, publish_counted, publish_ended}
@@ -59,7 +58,8 @@ through_open m Open [] p k x e room = (
     value = λ inc further. item_first x further inc.first;
     notes = refl;
     counts = (refl, λ taken sent c. (refl, c.1, c.2 ∙ ap (λ l. l ∷ []) (one_sent sent)), λ j h. h);
-  })
+  },
+)
 through_open m Open (y ∷ xs) p k x e room = cc
 through_open m Completion xs p k x e room = cc
 through_open m (Failure c) xs p k x e room = cc

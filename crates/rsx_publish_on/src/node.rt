@@ -276,9 +276,7 @@ impl<T: Drop> Machine for PublishOnNode<T> {
             IsResidualOf (publish_comes_out (O.meaning ops.now)) (λ n. Nothing) (λ n. None) self.now inboxes.now incoming.now v) }
     {
         let rest = match incoming.first() {
-            Some(value) => self
-                .input
-                .rest(alloc, ops, value.items(), value.ending())?,
+            Some(value) => self.input.rest(alloc, ops, value.items(), value.ending())?,
             None => self.input.rest(alloc, ops, &[], Ending::Open)?,
         };
         match rest {
