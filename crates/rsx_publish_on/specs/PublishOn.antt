@@ -29,6 +29,13 @@ publish_comes_out m n inc further = quiet further (or_done (still n.input inc.fi
 abbrev pub publish_waiting : {T : Type 0} → Meaning T → PublishOnNode T → Option (Signal T)
 publish_waiting m n = next_signal n.input
 
+-- the item that is offered, if it is one
+abbrev pub item_of : {T : Type 0} → Option (Signal T) → Option T
+item_of None = None
+item_of (Some (Next x)) = Some x
+item_of (Some Complete) = None
+item_of (Some (Error c)) = None
+
 abbrev pub publish_shown : {T : Type 0} → PublishOnNode T → Option Front
 publish_shown n = option_map front_of (next_signal n.input)
 

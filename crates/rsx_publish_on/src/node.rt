@@ -62,7 +62,7 @@ impl<T: Drop> PublishOnNode<T> {
 impl<T: Drop> Machine for PublishOnNode<T> {
     type Item = T;
 
-    ghost use Rattle.std.specs.Prelude.{◌≡◌, true, false, refl, None, IfOk, IfErr, IfSome, IfNone, IsOk, OnOk, OnErr};
+    ghost use Rattle.std.specs.Prelude.{◌≡◌, true, false, refl, [], None, IfOk, IfErr, IfSome, IfNone, IsOk, OnOk, OnErr};
     ghost use Rattle.rsx_types.specs.declared.note.Note.TheVariants.{Nothing};
     ghost use Rattle.rsx_sources.specs.Counts.{CountsIn, CountsOut, CountsStep};
     ghost use Rattle.rsx_sources.specs.Machine.{TakesIn, front_of};
@@ -70,7 +70,8 @@ impl<T: Drop> Machine for PublishOnNode<T> {
     ghost use Rattle.rsx_sources.specs.Reading.{IsReadOn, IsResidualOf};
     ghost use Rattle.rsx_sources.specs.Steps.{IsPopped, IsNotTaken};
     ghost use Rattle.rsx_publish_on.specs.Laws.{publish_drops, publish_ends, publish_done_drops, publish_settles, publish_ending_waits, publish_hungry};
-    ghost use Rattle.rsx_publish_on.specs.PublishOn.{publish_comes_out, publish_waiting, publish_shown, publish_takes, publish_ended, publish_counted, publish_wanted, publish_popped};
+    ghost use Rattle.rsx_queued.specs.Input.{next_signal};
+    ghost use Rattle.rsx_publish_on.specs.PublishOn.{item_of, publish_comes_out, publish_waiting, publish_shown, publish_takes, publish_ended, publish_counted, publish_wanted, publish_popped};
     ghost use Rattle.rsx_publish_on.specs.declared.node.PublishOnNode.{PublishOnNode};
 
     ghost comes_out = { publish_comes_out };
@@ -184,6 +185,9 @@ impl<T: Drop> Machine for PublishOnNode<T> {
             IsItemOut (publish_comes_out (O.meaning ops.now)) (publish_waiting (O.meaning ops.now))
             publish_popped (λ n. Nothing) publish_counted publish_ended (λ n i. false) self.old x self.new) }
         ensures none { IfNone result (self.new ≡ self.old) }
+
+        // Wherever an item is offered, it comes.
+        ensures offered { result ≡ item_of (next_signal self.old.input) }
     {
         if self.input.is_gone() {
             return None;
@@ -196,6 +200,7 @@ impl<T: Drop> Machine for PublishOnNode<T> {
         ensures passed { IsPassed (publish_comes_out (O.meaning ops.now)) (publish_waiting (O.meaning ops.now))
             publish_takes publish_popped (λ n. Nothing) publish_counted publish_ended (λ n i. false) self.old input item result self.new }
         ensures same { self.new ≡ self.old }
+        ensures through { self.old.input.queue.items ≡ [] → publish_takes self.old input Front.Item ≡ true → result ≡ Passed.Item item }
     {
         if self.input.queue.is_empty() && self.can_take(input, Front::Item) {
             return Passed::Item(item);
