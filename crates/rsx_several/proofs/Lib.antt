@@ -1,0 +1,3 @@
+-- Lemmas about nodes of several inputs.
+pub mod Dispatch
+pub mod Fresh

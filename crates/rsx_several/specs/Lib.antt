@@ -1,0 +1,4 @@
+-- Definitions that contracts cite.
+pub mod Kind
+pub mod Laws
+pub mod Several
