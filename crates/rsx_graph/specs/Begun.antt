@@ -4,7 +4,8 @@ use Rattle.rsx_types.specs.Meaning.{Meaning}
 use Rattle.rsx_types.specs.Stream.{Stream}
 use Rattle.rsx_hub.specs.declared.TheConstants.{MOST_MEMBERS}
 use Rattle.rsx_model.specs.declared.expr.Expr.TheFolds.{fold-Expr}
-use Rattle.rsx_model.specs.declared.expr.Expr.TheOpen.{Expr-F, Items, Range, Hub, Plain}
+use Rattle.rsx_model.specs.declared.expr.Expr.TheOpen.{Expr-F, Items, Range, Hub, Plain, Concat, Merge, Zip, Latest}
+use Rattle.rsx_model.specs.Shape.{children, sum_of}
 use Rattle.rsx_node.specs.Built.{new_joins}
 use Rattle.rsx_pipe.specs.Published.{AreTaken}
 use Rattle.rsx_subscriber.specs.Past.{subscribed}
@@ -19,15 +20,20 @@ use Rattle.rsx_subscriber.specs.Begun.{IsFresh}
 abbrev pub IsSubscribed : {T : Type 0} → Expr T → List (Subscription T) → List (Subscription T) → Type 0
 IsSubscribed {T} e old new = (sub : Subscription T) × (new ≡ old ++ sub ∷ []) × IsFresh e sub
 
--- how many leaves of an expression read the hub with this number
-abbrev pub leaves_here : {T : Type 0} → ℕ → Expr-F T ℕ → ℕ
-leaves_here n (Items v) = 0
-leaves_here n (Range a k) = 0
-leaves_here n (Hub h) = if nat_eq h.0 n then 1 else 0
-leaves_here n (Plain g b) = b.value
+-- 1 if the node reads the hub with this number
+abbrev pub reads_here : {T A : Type 0} → ℕ → Expr-F T A → ℕ
+reads_here n (Items v) = 0
+reads_here n (Range a k) = 0
+reads_here n (Hub h) = if nat_eq h.0 n then 1 else 0
+reads_here n (Plain g b) = 0
+reads_here n (Concat v) = 0
+reads_here n (Merge p v) = 0
+reads_here n (Zip p v) = 0
+reads_here n (Latest p v) = 0
 
+-- how many leaves of an expression read the hub with this number
 abbrev pub leaves_on : {T : Type 0} → ℕ → Expr T → ℕ
-leaves_on {T} n = fold-Expr T ℕ (leaves_here n)
+leaves_on {T} n = fold-Expr T ℕ (λ e. reads_here n e + sum_of (children e))
 
 -- whether each of these hubs has place for its leaves; the first of them has the number n
 abbrev pub have_places : {T : Type 0} → ℕ → Expr T → List (HubState T) → Bool

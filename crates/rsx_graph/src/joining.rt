@@ -1,7 +1,9 @@
 //! How the leaves of an expression join the hubs of a graph.
 
-ghost use Rattle.std.specs.Prelude.{◌≡◌, ◌<◌, ◌≤◌, ◌+◌, ◌^◌, true, length, IfOk};
-ghost use Rattle.rsx_node.specs.Built.{join_at, joins_now, new_joins};
+ghost use Rattle.std.specs.Prelude.{◌≡◌, ◌<◌, ◌≤◌, ◌+◌, ◌++◌, ◌^◌, true, length, map, IfOk, OnOk};
+ghost use Rattle.rsx_model.specs.Shape.{nodes, sum_of};
+ghost use Rattle.rsx_model.specs.declared.check.TheConstants.{MOST_NODES};
+ghost use Rattle.rsx_node.specs.Built.{in_a_row, join_at, joins_now, new_joins};
 ghost use Rattle.rsx_graph.specs.Begun.{HaveJoined, have_places, leaves_on};
 ghost use Rattle.rsx_graph.specs.Stands.{inboxes};
 ghost use Rattle.rsx_graph.specs.declared.graph.TheConstants.{MOST_HUBS};
@@ -75,19 +77,49 @@ fn join_at<T: Drop>(hubs: &[Hub<T>], number: u32) -> u64
 fn joins_of<T: Drop>(alloc: Global, expr: &Expr<T>, hubs: &[Hub<T>]) -> Result<Vec<u64>, NoMemory>
     ensures { IfOk result (λ v. v.items ≡ new_joins hubs.now expr.now) }
 {
+    let mut joins = Vec::new(alloc);
+    add_joins(expr, hubs, &mut joins)?;
+    Ok(joins)
+}
+
+/// Puts them behind these.
+#[cycle(joins)]
+fn add_joins<T: Drop>(expr: &Expr<T>, hubs: &[Hub<T>], joins: &mut Vec<u64>) -> Result<(), NoMemory>
+    ensures { OnOk result (joins.new.items ≡ joins.old.items ++ new_joins hubs.now expr.now) }
+{
     match expr {
-        Expr::Items(_) | Expr::Range(_, _) => Ok(Vec::new(alloc)),
+        Expr::Items(_) | Expr::Range(_, _) => Ok(()),
         Expr::Hub(number) => {
-            let mut joins = Vec::new(alloc);
             joins.push(join_at(hubs, number.0))?;
-            Ok(joins)
+            Ok(())
         }
-        Expr::Plain(_, input) => joins_of(alloc, input, hubs),
+        Expr::Plain(_, input) => add_joins(input, hubs, joins),
+        Expr::Concat(inputs) => add_joins_of(inputs, hubs, joins),
+        Expr::Merge(_, inputs) => add_joins_of(inputs, hubs, joins),
+        Expr::Zip(_, inputs) => add_joins_of(inputs, hubs, joins),
+        Expr::Latest(_, inputs) => add_joins_of(inputs, hubs, joins),
     }
 }
 
+/// The same of several inputs.
+#[cycle(joins)]
+fn add_joins_of<T: Drop>(
+    inputs: &[Expr<T>],
+    hubs: &[Hub<T>],
+    joins: &mut Vec<u64>,
+) -> Result<(), NoMemory>
+    ensures { OnOk result (joins.new.items ≡ joins.old.items ++ in_a_row (map (new_joins hubs.now) inputs.now)) }
+{
+    for input in inputs {
+        add_joins(input, hubs, joins)?;
+    }
+    Ok(())
+}
+
 /// How many leaves of an expression read the hub with this number.
+#[cycle(leaves)]
 fn leaves_on<T>(expr: &Expr<T>, hub: u32) -> u64
+    requires { nodes expr.now ≤ MOST_NODES }
     ensures { result ≡ leaves_on hub expr.now }
 {
     match expr {
@@ -97,12 +129,30 @@ fn leaves_on<T>(expr: &Expr<T>, hub: u32) -> u64
             false => 0,
         },
         Expr::Plain(_, input) => leaves_on(input, hub),
+        Expr::Concat(inputs) => leaves_on_all(inputs, hub),
+        Expr::Merge(_, inputs) => leaves_on_all(inputs, hub),
+        Expr::Zip(_, inputs) => leaves_on_all(inputs, hub),
+        Expr::Latest(_, inputs) => leaves_on_all(inputs, hub),
     }
+}
+
+/// The same of several inputs.
+#[cycle(leaves)]
+fn leaves_on_all<T>(inputs: &[Expr<T>], hub: u32) -> u64
+    requires { sum_of (map nodes inputs.now) ≤ MOST_NODES }
+    ensures { result ≡ sum_of (map (leaves_on hub) inputs.now) }
+{
+    let mut count = 0;
+    for input in inputs {
+        count += leaves_on(input, hub);
+    }
+    count
 }
 
 /// Whether each hub has place for the expression's leaves that read it.
 pub(crate) fn have_places<T: Drop>(expr: &Expr<T>, hubs: &[Hub<T>]) -> bool
-    requires { length hubs.now ≤ MOST_HUBS }
+    requires few { length hubs.now ≤ MOST_HUBS }
+    requires small { nodes expr.now ≤ MOST_NODES }
     ensures { result ≡ have_places 0 expr.now hubs.now }
 {
     have_places_from(0, expr, hubs)
@@ -110,7 +160,8 @@ pub(crate) fn have_places<T: Drop>(expr: &Expr<T>, hubs: &[Hub<T>]) -> bool
 
 /// The same of the hubs from this number on.
 fn have_places_from<T: Drop>(number: u32, expr: &Expr<T>, hubs: &[Hub<T>]) -> bool
-    requires { number + length hubs.now < 2 ^ 32 }
+    requires few { number + length hubs.now < 2 ^ 32 }
+    requires small { nodes expr.now ≤ MOST_NODES }
     ensures { result ≡ have_places number expr.now hubs.now }
 {
     match hubs.split_first() {
@@ -125,6 +176,7 @@ fn have_places_from<T: Drop>(number: u32, expr: &Expr<T>, hubs: &[Hub<T>]) -> bo
 pub(crate) fn count_in<T: Drop>(expr: &Expr<T>, hubs: &mut Vec<Hub<T>>)
     requires places { have_places 0 expr.now hubs.old.items ≡ true }
     requires few { length hubs.old.items ≤ MOST_HUBS }
+    requires small { nodes expr.now ≤ MOST_NODES }
     ensures joined { HaveJoined expr.now hubs.old.items hubs.new.items }
     ensures count { length hubs.new.items ≡ length hubs.old.items }
 {

@@ -29,6 +29,17 @@ fn total<O: Ops>(alloc: Global, ops: &O, input: Expr<O::Item>) -> Result<Expr<O:
     }
 }
 
+/// How many items of each input are asked for in advance.
+const PREFETCH: u64 = 64;
+
+/// Two ranges, from 1 to a half of `count`.
+fn halves<T: Drop>(alloc: Global, count: u64) -> Result<Vec<Expr<T>>> {
+    let mut inputs = Vec::new(alloc);
+    inputs.push(Expr::Range(1, count / 2))?;
+    inputs.push(Expr::Range(1, count / 2))?;
+    Ok(inputs)
+}
+
 /// The expression of a case over the numbers from 1 to `count`.
 pub fn expression<O: Ops>(alloc: Global, ops: &O, case: &str, count: u64) -> Result<Expr<O::Item>> {
     let range = Expr::Range(1, count);
@@ -49,6 +60,10 @@ pub fn expression<O: Ops>(alloc: Global, ops: &O, case: &str, count: u64) -> Res
         "scan" => over(alloc, Stage::Take(count), total(alloc, ops, range)?),
         "keys3" => over(alloc, Stage::Distinct(THREE_KEYS), range),
         "keys" => over(alloc, Stage::Distinct(ALL_KEYS), range),
+        "concat" => Ok(Expr::Concat(halves(alloc, count)?)),
+        "merge" => Ok(Expr::Merge(PREFETCH, halves(alloc, count)?)),
+        "zip" => Ok(Expr::Zip(PREFETCH, halves(alloc, count)?)),
+        "latest" => Ok(Expr::Latest(PREFETCH, halves(alloc, count)?)),
         _ => bail!("no such case"),
     }
 }

@@ -18,11 +18,21 @@ use Rattle.rsx_types.specs.declared.stage.Stage.TheVariants.{Map, Filter, Take, 
 use Rattle.rsx_types.specs.Meaning.{Meaning}
 use Rattle.rsx_types.specs.Plain.{mapped_items, filtered_items, taken_items, accumulated_then, scanned_items, last_list, buffered_items, new_key_then, distinct_items, plain, listed, range_items}
 use Rattle.rsx_types.specs.Stream.{Stream, ended_by, item_then, answer_then, kept_then, cut_by}
+use Rattle.rsx_choices.specs.Concat.{concat}
+use Rattle.rsx_choices.specs.Merge.{merge}
+use Rattle.rsx_joining.specs.Latest.{combine_latest}
+use Rattle.rsx_joining.specs.Zip.{zip}
 use Rattle.rsx_model.specs.declared.expr.Expr.{Expr}
-use Rattle.rsx_model.specs.Eval.{Environment, meant, quiet, behind, joined_value}
+use Rattle.rsx_model.specs.declared.expr.Expr.TheOpen.{Expr-F}
+use Rattle.rsx_model.specs.declared.expr.Expr.TheOpen as layer
+use Rattle.rsx_model.specs.declared.expr.Expr.TheFolds.{map-Expr}
+use Rattle.rsx_model.specs.declared.expr.Expr.TheViews.{out-Expr}
+use Rattle.rsx_model.specs.Shape.{children}
+use Rattle.rsx_model.specs.Eval.{Environment, Meant, meant, in_order, node_value, quiet, chosen, ended_by_record, behind, joined_value}
 use Rattle.rsx_model.specs.Laws.{folded_in, folded, ScanFolds, joined, IsCut, given_lists, BufferCuts, DistinctKeepsFirst, NoBadRequest}
 use Rattle.rsx_values.proofs.Steps.{buffered_full, buffered_more}
-use Rattle.rsx_model.proofs.Unfold.{value_Items, value_Range, value_Hub, value_Plain, by_variant}
+use Rattle.rsx_model.proofs.Unfold.{Each, by_children, children-map, value_out}
+use Rattle.rsx_model.proofs.Endings.{Fine, AllFine, FineMeant, in_order_fine, concat_values_fine, merge_values_fine, zip_values_fine, latest_values_fine}
 
 -- ---- scan
 
@@ -212,9 +222,6 @@ distinct_keeps_first_law m f xs keys x h = record {
 
 -- ---- endings
 
-abbrev Fine : Ending → Type 0
-Fine e = e ≢ Failed NonPositiveRequest
-
 map_fine : {T : Type 0} (f : T → Result T ℕ) (xs : List T) (e : Ending) → Fine e → Fine (mapped_items f xs e).ending
 map_fine f [] e h = h
 map_fine {T} f (x ∷ xs) e h = after (map_fine f xs e h) (f x)
@@ -282,11 +289,6 @@ plain_fine m (Scan f s) v h = scan_fine (m.folded f) s v.items v.ending h
 plain_fine m (Buffer n) v h = buffer_fine m.list_of n [] v.items v.ending h
 plain_fine m (Distinct f) v h = distinct_fine (m.keyed f) [] v.items v.ending h
 
--- an expression's value, if there is one
-abbrev AllFine : {T : Type 0} → Option (Stream T) → Type 0
-AllFine None = Unit {0}
-AllFine (Some s) = Fine s.ending
-
 quiet_fine : {T : Type 0} (n : Option Note) (o : Option (Stream T)) → AllFine o → AllFine (quiet n o)
 quiet_fine None o h = tt
 quiet_fine (Some Nothing) o h = h
@@ -309,12 +311,45 @@ behind_fine o None h = tt
 behind_fine None (Some j) h = tt
 behind_fine (Some v) (Some j) h = h
 
-value_fine : {T : Type 0} (w : Environment T) → All (λ (v : Stream T). Fine v.ending) w.hubs → (e : Expr T) (at leaf : ℕ) → AllFine ((meant w e).value at leaf)
-value_fine {T} w fine = by_variant (λ e. (at leaf : ℕ) → AllFine ((meant w e).value at leaf))
-    (λ v at leaf. rw value_Items (quiet_fine (slice_get w.notes at) (Some (listed v.items)) (λ p. cc)))
-    (λ a n at leaf. rw value_Range (quiet_fine (slice_get w.notes at) (Some (listed (range_items w.meaning a n))) (λ p. cc)))
-    (λ h at leaf. rw value_Hub (quiet_fine (slice_get w.notes at) (joined_value w h.0 leaf) (behind_fine (slice_get w.hubs h.0) (slice_get w.joins leaf) (one_fine w.hubs h.0 fine))))
-    (λ g b below at leaf. rw value_Plain (quiet_fine (slice_get w.notes at) (option_map (plain w.meaning g) ((meant w b.value).value (at + 1) leaf)) (below_fine w.meaning g ((meant w b.value).value (at + 1) leaf) (below (at + 1) leaf))))
+chosen_fine : {T : Type 0} (n : Option Note) (f : List ℕ → Option (Stream T)) → ((cs : List ℕ) → AllFine (f cs)) → AllFine (chosen n f)
+chosen_fine None f h = tt
+chosen_fine (Some Nothing) f h = tt
+chosen_fine (Some (Picks cs)) f h = h cs
+chosen_fine (Some (Ended i)) f h = tt
+
+record_fine : {T : Type 0} (n : Option Note) (f : Option ℕ → Option (Stream T)) → ((i : Option ℕ) → AllFine (f i)) → AllFine (ended_by_record n f)
+record_fine None f h = tt
+record_fine (Some Nothing) f h = tt
+record_fine (Some (Picks cs)) f h = tt
+record_fine (Some (Ended i)) f h = h i
+
+node_fine : {T : Type 0} (w : Environment T) → All (λ (v : Stream T). Fine v.ending) w.hubs → (x : Expr-F T (Meant T)) → Each FineMeant (children x) → (at leaf : ℕ) → AllFine (node_value w x at leaf)
+node_fine w fine (layer.Items v) kids at leaf = quiet_fine (slice_get w.notes at) (Some (listed v.items)) (λ p. cc)
+node_fine w fine (layer.Range a n) kids at leaf = quiet_fine (slice_get w.notes at) (Some (listed (range_items w.meaning a n))) (λ p. cc)
+node_fine w fine (layer.Hub h) kids at leaf = quiet_fine (slice_get w.notes at) (joined_value w h.0 leaf) (behind_fine (slice_get w.hubs h.0) (slice_get w.joins leaf) (one_fine w.hubs h.0 fine))
+node_fine w fine (layer.Plain g b) kids at leaf = quiet_fine (slice_get w.notes at) (option_map (plain w.meaning g) (b.value.value (at + 1) leaf)) (below_fine w.meaning g (b.value.value (at + 1) leaf) (kids.0 (at + 1) leaf))
+node_fine w fine (layer.Concat v) kids at leaf =
+    let values = in_order v.items (at + 1) leaf in
+    quiet_fine (slice_get w.notes at) (option_map concat values) (concat_values_fine values (in_order_fine v.items kids (at + 1) leaf))
+node_fine w fine (layer.Merge p v) kids at leaf =
+    let values = in_order v.items (at + 1) leaf in
+    chosen_fine (slice_get w.notes at) (λ cs. option_and_then (merge cs) values) (λ cs. merge_values_fine cs values (in_order_fine v.items kids (at + 1) leaf))
+node_fine w fine (layer.Zip p v) kids at leaf =
+    let values = in_order v.items (at + 1) leaf in
+    record_fine (slice_get w.notes at) (λ i. option_and_then (zip w.meaning.row_of i) values) (λ i. zip_values_fine w.meaning.row_of i values (in_order_fine v.items kids (at + 1) leaf))
+node_fine w fine (layer.Latest p v) kids at leaf =
+    let values = in_order v.items (at + 1) leaf in
+    chosen_fine (slice_get w.notes at) (λ cs. option_and_then (combine_latest w.meaning.row_of cs) values) (λ cs. latest_values_fine w.meaning.row_of cs values (in_order_fine v.items kids (at + 1) leaf))
+
+-- what holds of what each child means holds of the list of the meanings
+each_meant : {T : Type 0} (w : Environment T) (es : List (Expr T)) → Each (λ e. FineMeant (meant w e)) es → Each FineMeant (map (meant w) es)
+each_meant w [] h = tt
+each_meant w (e ∷ es) h = (h.0, each_meant w es h.1)
+
+value_fine : {T : Type 0} (w : Environment T) → All (λ (v : Stream T). Fine v.ending) w.hubs → (e : Expr T) → FineMeant (meant w e)
+value_fine {T} w fine = by_children (λ e. FineMeant (meant w e)) (λ e kids at leaf.
+    let x = out-Expr T e in
+    subst AllFine (sym (value_out w e at leaf)) (node_fine w fine (map-Expr T (Expr T) (Meant T) (meant w) x) (subst (Each FineMeant) (sym (children-map (meant w) x)) (each_meant w (children x) kids)) at leaf))
 
 pub never_a_bad_request_law : {T : Type 0} (w : Environment T) (e : Expr T) → NoBadRequest w e
 never_a_bad_request_law w e = λ fine s is. subst AllFine is (value_fine w fine e 0 0)

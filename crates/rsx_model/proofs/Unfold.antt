@@ -1,5 +1,6 @@
 -- One level of the definitions by recursion on an expression: at a node, and at each variant. And the induction.
-use Rattle.std.proofs.Common.{◌≡◌, ℕ, ℤ, ◌+◌, ◌<◌, ◌≤◌, List, [], ◌∷◌, length, get_or, map, nat_le, nat_lt, Option, Some, None, option_map, slice_get, Vec, Global, Box, refl, sym, ap, subst, ◌∙◌, arith}
+use Rattle.std.proofs.Common.{◌≡◌, ℕ, ℤ, ◌+◌, ◌<◌, ◌≤◌, List, [], ◌∷◌, length, get_or, map, nat_le, nat_lt, Option, Some, None, option_map, option_and_then, slice_get, Vec, Global, Box, refl, sym, ap, subst, ◌∙◌, arith}
+use Rattle.std.proofs.lemmas.List.{length-map}
 use Rattle.std.proofs.lemmas.Option.{slice_get-get_or}
 use Rattle.rsx_types.specs.Plain.{plain, listed, range_items}
 use Rattle.rsx_types.specs.Stream.{Stream}
@@ -7,17 +8,21 @@ use Rattle.rsx_types.specs.declared.stage.Stage.{Stage}
 use Rattle.rsx_types.specs.declared.limits.TheConstants.{MOST_ITEMS}
 use Rattle.rsx_model.specs.declared.check.TheConstants.{MOST_DEPTH, MOST_NODES}
 use Rattle.rsx_model.specs.declared.check.BadExpr.{BadExpr}
-use Rattle.rsx_model.specs.declared.check.BadExpr.TheVariants.{Depth, Nodes, Number, Hub as NoSuchHub, Length}
+use Rattle.rsx_model.specs.declared.check.BadExpr.TheVariants.{Depth, Nodes, Inputs, Number, Hub as NoSuchHub, Length}
+use Rattle.rsx_choices.specs.Concat.{concat}
+use Rattle.rsx_choices.specs.Merge.{merge}
+use Rattle.rsx_joining.specs.Latest.{combine_latest}
+use Rattle.rsx_joining.specs.Zip.{zip}
 use Rattle.rsx_types.specs.declared.names.HubId.{HubId}
 use Rattle.rsx_model.specs.declared.expr.Expr.{Expr}
 use Rattle.rsx_model.specs.declared.expr.Expr.TheOpen.{Expr-F}
 use Rattle.rsx_model.specs.declared.expr.Expr.TheOpen as layer
 use Rattle.rsx_model.specs.declared.expr.Expr.TheFolds.{map-Expr, fold_out-Expr, ind-Expr}
 use Rattle.rsx_model.specs.declared.expr.Expr.TheVariants.{Items, Range, Hub}
-use Rattle.rsx_model.specs.declared.expr.Expr.TheViews.{Plain, outs-Items, outs-Range, outs-Hub, outs-Plain, rolls-Items, rolls-Range, rolls-Hub, rolls-Plain, roll-out-Expr, out-Expr, roll-Expr, out-roll-Expr}
+use Rattle.rsx_model.specs.declared.expr.Expr.TheViews.{Plain, Concat, Merge, Zip, Latest, outs-Items, outs-Range, outs-Hub, outs-Plain, outs-Concat, outs-Merge, outs-Zip, outs-Latest, rolls-Items, rolls-Range, rolls-Hub, rolls-Plain, rolls-Concat, rolls-Merge, rolls-Zip, rolls-Latest, roll-out-Expr, out-Expr, roll-Expr, out-roll-Expr}
 use Rattle.rsx_model.specs.Shape.{children, leaf_here, sum_of, max_of, nodes, depth, leaves}
-use Rattle.rsx_model.specs.Check.{own_fault, or_else, first_of, first_fault, unless, range_fits, stage_fits, refusal}
-use Rattle.rsx_model.specs.Eval.{Environment, Meant, quiet, behind, joined_value, node_value, node_meant, meant}
+use Rattle.rsx_model.specs.Check.{own_fault, queued_fault, or_else, first_of, first_fault, unless, range_fits, stage_fits, inputs_fit, refusal}
+use Rattle.rsx_model.specs.Eval.{Environment, Meant, quiet, chosen, ended_by_record, behind, joined_value, in_order, node_value, node_meant, meant}
 
 -- ---- a node and its children
 
@@ -26,19 +31,31 @@ own_fault-map hubs h (layer.Items v) = refl
 own_fault-map hubs h (layer.Range a n) = refl
 own_fault-map hubs h (layer.Hub k) = refl
 own_fault-map hubs h (layer.Plain g b) = refl
+own_fault-map hubs h (layer.Concat v) = ap (λ n. unless (inputs_fit n) Inputs) (length-map v.items h)
+own_fault-map hubs h (layer.Merge p v) = ap (queued_fault p) (length-map v.items h)
+own_fault-map hubs h (layer.Zip p v) = ap (queued_fault p) (length-map v.items h)
+own_fault-map hubs h (layer.Latest p v) = ap (queued_fault p) (length-map v.items h)
 
 leaf_here-map : {T A B : Type 0} (h : A → B) (x : Expr-F T A) → leaf_here (map-Expr T A B h x) ≡ leaf_here x
 leaf_here-map h (layer.Items v) = refl
 leaf_here-map h (layer.Range a n) = refl
 leaf_here-map h (layer.Hub k) = refl
 leaf_here-map h (layer.Plain g b) = refl
+leaf_here-map h (layer.Concat v) = refl
+leaf_here-map h (layer.Merge p v) = refl
+leaf_here-map h (layer.Zip p v) = refl
+leaf_here-map h (layer.Latest p v) = refl
 
 -- the children's answers
-children-map : {T A B : Type 0} (h : A → B) (x : Expr-F T A) → children (map-Expr T A B h x) ≡ map h (children x)
+pub children-map : {T A B : Type 0} (h : A → B) (x : Expr-F T A) → children (map-Expr T A B h x) ≡ map h (children x)
 children-map h (layer.Items v) = refl
 children-map h (layer.Range a n) = refl
 children-map h (layer.Hub k) = refl
 children-map h (layer.Plain g b) = refl
+children-map h (layer.Concat v) = refl
+children-map h (layer.Merge p v) = refl
+children-map h (layer.Zip p v) = refl
+children-map h (layer.Latest p v) = refl
 
 pub nodes_out : {T : Type 0} (e : Expr T) → nodes e ≡ 1 + sum_of (map nodes (children (out-Expr T e)))
 nodes_out {T} e = fold_out-Expr T ℕ (λ x. 1 + sum_of (children x)) e ∙ ap (λ xs. 1 + sum_of xs) (children-map nodes (out-Expr T e))
@@ -96,6 +113,22 @@ Listed T = Vec T Global
 abbrev Below : Type 0 → Type 0
 Below T = Box (Expr T) Global
 
+abbrev Several : Type 0 → Type 0
+Several T = Vec (Expr T) Global
+
+-- the inputs of a node are its children
+pub children_Concat : {T : Type 0} (v : Several T) → children (out-Expr T (Concat v)) ≡ v.items
+children_Concat v = rw outs-Concat refl
+
+pub children_Merge : {T : Type 0} (p : ℕ) (v : Several T) → children (out-Expr T (Merge p v)) ≡ v.items
+children_Merge p v = rw outs-Merge refl
+
+pub children_Zip : {T : Type 0} (p : ℕ) (v : Several T) → children (out-Expr T (Zip p v)) ≡ v.items
+children_Zip p v = rw outs-Zip refl
+
+pub children_Latest : {T : Type 0} (p : ℕ) (v : Several T) → children (out-Expr T (Latest p v)) ≡ v.items
+children_Latest p v = rw outs-Latest refl
+
 pub nodes_Items : {T : Type 0} (v : Listed T) → nodes (Items v) ≡ 1
 nodes_Items v = rw (nodes_out, outs-Items) refl
 
@@ -107,6 +140,18 @@ nodes_Hub T h = rw (nodes_out, outs-Hub) refl
 
 pub nodes_Plain : {T : Type 0} (g : Stage T) (b : Below T) → nodes (Plain g b) ≡ 1 + nodes b.value
 nodes_Plain g b = rw (nodes_out, outs-Plain) (omega arith)
+
+pub nodes_Concat : {T : Type 0} (v : Several T) → nodes (Concat v) ≡ 1 + sum_of (map nodes v.items)
+nodes_Concat v = rw (nodes_out, outs-Concat) refl
+
+pub nodes_Merge : {T : Type 0} (p : ℕ) (v : Several T) → nodes (Merge p v) ≡ 1 + sum_of (map nodes v.items)
+nodes_Merge p v = rw (nodes_out, outs-Merge) refl
+
+pub nodes_Zip : {T : Type 0} (p : ℕ) (v : Several T) → nodes (Zip p v) ≡ 1 + sum_of (map nodes v.items)
+nodes_Zip p v = rw (nodes_out, outs-Zip) refl
+
+pub nodes_Latest : {T : Type 0} (p : ℕ) (v : Several T) → nodes (Latest p v) ≡ 1 + sum_of (map nodes v.items)
+nodes_Latest p v = rw (nodes_out, outs-Latest) refl
 
 pub depth_Items : {T : Type 0} (v : Listed T) → depth (Items v) ≡ 1
 depth_Items v = rw (depth_out, outs-Items) refl
@@ -120,6 +165,18 @@ depth_Hub T h = rw (depth_out, outs-Hub) refl
 pub depth_Plain : {T : Type 0} (g : Stage T) (b : Below T) → depth (Plain g b) ≡ 1 + depth b.value
 depth_Plain g b = rw (depth_out, outs-Plain) (omega arith)
 
+pub depth_Concat : {T : Type 0} (v : Several T) → depth (Concat v) ≡ 1 + max_of (map depth v.items)
+depth_Concat v = rw (depth_out, outs-Concat) refl
+
+pub depth_Merge : {T : Type 0} (p : ℕ) (v : Several T) → depth (Merge p v) ≡ 1 + max_of (map depth v.items)
+depth_Merge p v = rw (depth_out, outs-Merge) refl
+
+pub depth_Zip : {T : Type 0} (p : ℕ) (v : Several T) → depth (Zip p v) ≡ 1 + max_of (map depth v.items)
+depth_Zip p v = rw (depth_out, outs-Zip) refl
+
+pub depth_Latest : {T : Type 0} (p : ℕ) (v : Several T) → depth (Latest p v) ≡ 1 + max_of (map depth v.items)
+depth_Latest p v = rw (depth_out, outs-Latest) refl
+
 pub leaves_Items : {T : Type 0} (v : Listed T) → leaves (Items v) ≡ 0
 leaves_Items v = rw (leaves_out, outs-Items) refl
 
@@ -131,6 +188,18 @@ leaves_Hub T h = rw (leaves_out, outs-Hub) refl
 
 pub leaves_Plain : {T : Type 0} (g : Stage T) (b : Below T) → leaves (Plain g b) ≡ leaves b.value
 leaves_Plain g b = rw (leaves_out, outs-Plain) (omega arith)
+
+pub leaves_Concat : {T : Type 0} (v : Several T) → leaves (Concat v) ≡ sum_of (map leaves v.items)
+leaves_Concat v = rw (leaves_out, outs-Concat) (omega arith)
+
+pub leaves_Merge : {T : Type 0} (p : ℕ) (v : Several T) → leaves (Merge p v) ≡ sum_of (map leaves v.items)
+leaves_Merge p v = rw (leaves_out, outs-Merge) (omega arith)
+
+pub leaves_Zip : {T : Type 0} (p : ℕ) (v : Several T) → leaves (Zip p v) ≡ sum_of (map leaves v.items)
+leaves_Zip p v = rw (leaves_out, outs-Zip) (omega arith)
+
+pub leaves_Latest : {T : Type 0} (p : ℕ) (v : Several T) → leaves (Latest p v) ≡ sum_of (map leaves v.items)
+leaves_Latest p v = rw (leaves_out, outs-Latest) (omega arith)
 
 pub first_fault_Items : {T : Type 0} (hubs : ℕ) (v : Listed T) → first_fault hubs (Items v) ≡ unless (nat_le (length v.items) MOST_ITEMS) Length
 first_fault_Items hubs v = rw (fault_out, outs-Items) (or_else-nothing _)
@@ -144,6 +213,18 @@ first_fault_Hub T hubs h = rw (fault_out, outs-Hub) (or_else-nothing _)
 pub first_fault_Plain : {T : Type 0} (hubs : ℕ) (g : Stage T) (b : Below T) → first_fault hubs (Plain g b) ≡ or_else (unless (stage_fits g) Number) (first_fault hubs b.value)
 first_fault_Plain hubs g b = rw (fault_out, outs-Plain) (ap (or_else (unless (stage_fits g) Number)) (or_else-nothing _))
 
+pub first_fault_Concat : {T : Type 0} (hubs : ℕ) (v : Several T) → first_fault hubs (Concat v) ≡ or_else (unless (inputs_fit (length v.items)) Inputs) (first_of (map (first_fault hubs) v.items))
+first_fault_Concat hubs v = rw (fault_out, outs-Concat) refl
+
+pub first_fault_Merge : {T : Type 0} (hubs p : ℕ) (v : Several T) → first_fault hubs (Merge p v) ≡ or_else (queued_fault p (length v.items)) (first_of (map (first_fault hubs) v.items))
+first_fault_Merge hubs p v = rw (fault_out, outs-Merge) refl
+
+pub first_fault_Zip : {T : Type 0} (hubs p : ℕ) (v : Several T) → first_fault hubs (Zip p v) ≡ or_else (queued_fault p (length v.items)) (first_of (map (first_fault hubs) v.items))
+first_fault_Zip hubs p v = rw (fault_out, outs-Zip) refl
+
+pub first_fault_Latest : {T : Type 0} (hubs p : ℕ) (v : Several T) → first_fault hubs (Latest p v) ≡ or_else (queued_fault p (length v.items)) (first_of (map (first_fault hubs) v.items))
+first_fault_Latest hubs p v = rw (fault_out, outs-Latest) refl
+
 pub value_Items : {T : Type 0} (w : Environment T) (v : Listed T) (at leaf : ℕ) → (meant w (Items v)).value at leaf ≡ quiet (slice_get w.notes at) (Some (listed v.items))
 value_Items w v at leaf = rw (value_out, outs-Items) refl
 
@@ -156,15 +237,42 @@ value_Hub w h at leaf = rw (value_out, outs-Hub) refl
 pub value_Plain : {T : Type 0} (w : Environment T) (g : Stage T) (b : Below T) (at leaf : ℕ) → (meant w (Plain g b)).value at leaf ≡ quiet (slice_get w.notes at) (option_map (plain w.meaning g) ((meant w b.value).value (at + 1) leaf))
 value_Plain w g b at leaf = rw (value_out, outs-Plain) refl
 
-node_case : {T : Type 0} (P : Expr T → Type 0) → ((v : Listed T) → P (Items v)) → ((a : ℤ) (n : ℕ) → P (Range a n)) → ((h : HubId) → P (Hub h)) → ((g : Stage T) (b : Below T) → P b.value → P (Plain g b)) → (x : Expr-F T (Expr T)) → Each P (children x) → P (roll-Expr T x)
-node_case P items range hub below (layer.Items v) kids = subst P (sym (rolls-Items v)) (items v)
-node_case P items range hub below (layer.Range a n) kids = subst P (sym (rolls-Range a n)) (range a n)
-node_case P items range hub below (layer.Hub h) kids = subst P (sym (rolls-Hub h)) (hub h)
-node_case P items range hub below (layer.Plain g b) kids = subst P (sym (rolls-Plain g b)) (below g b kids.0)
+pub value_Concat : {T : Type 0} (w : Environment T) (v : Several T) (at leaf : ℕ) → (meant w (Concat v)).value at leaf ≡ quiet (slice_get w.notes at) (option_map concat (in_order (map (meant w) v.items) (at + 1) leaf))
+value_Concat w v at leaf = rw (value_out, outs-Concat) refl
 
--- what holds of items, of ranges, of hub leaves, and of an operator where it holds below, holds of every expression
-pub by_variant : {T : Type 0} (P : Expr T → Type 0) → ((v : Listed T) → P (Items v)) → ((a : ℤ) (n : ℕ) → P (Range a n)) → ((h : HubId) → P (Hub h)) → ((g : Stage T) (b : Below T) → P b.value → P (Plain g b)) → (e : Expr T) → P e
-by_variant {T} P items range hub below = by_children P (λ e kids. subst P (roll-out-Expr T e) (node_case P items range hub below (out-Expr T e) kids))
+pub value_Merge : {T : Type 0} (w : Environment T) (p : ℕ) (v : Several T) (at leaf : ℕ) → (meant w (Merge p v)).value at leaf ≡ chosen (slice_get w.notes at) (λ cs. option_and_then (merge cs) (in_order (map (meant w) v.items) (at + 1) leaf))
+value_Merge w p v at leaf = rw (value_out, outs-Merge) refl
+
+pub value_Zip : {T : Type 0} (w : Environment T) (p : ℕ) (v : Several T) (at leaf : ℕ) → (meant w (Zip p v)).value at leaf ≡ ended_by_record (slice_get w.notes at) (λ i. option_and_then (zip w.meaning.row_of i) (in_order (map (meant w) v.items) (at + 1) leaf))
+value_Zip w p v at leaf = rw (value_out, outs-Zip) refl
+
+pub value_Latest : {T : Type 0} (w : Environment T) (p : ℕ) (v : Several T) (at leaf : ℕ) → (meant w (Latest p v)).value at leaf ≡ chosen (slice_get w.notes at) (λ cs. option_and_then (combine_latest w.meaning.row_of cs) (in_order (map (meant w) v.items) (at + 1) leaf))
+value_Latest w p v at leaf = rw (value_out, outs-Latest) refl
+
+-- what has to be shown of each variant, where P holds of its children
+pub record ForEach {T : Type 0} (P : Expr T → Type 0) : Type 0 where
+  pub items : (v : Listed T) → P (Items v)
+  pub range : (a : ℤ) (n : ℕ) → P (Range a n)
+  pub hub : (h : HubId) → P (Hub h)
+  pub below : (g : Stage T) (b : Below T) → P b.value → P (Plain g b)
+  pub concat : (v : Several T) → Each P v.items → P (Concat v)
+  pub merge : (p : ℕ) (v : Several T) → Each P v.items → P (Merge p v)
+  pub zip : (p : ℕ) (v : Several T) → Each P v.items → P (Zip p v)
+  pub latest : (p : ℕ) (v : Several T) → Each P v.items → P (Latest p v)
+
+node_case : {T : Type 0} (P : Expr T → Type 0) → ForEach P → (x : Expr-F T (Expr T)) → Each P (children x) → P (roll-Expr T x)
+node_case P all (layer.Items v) kids = subst P (sym (rolls-Items v)) (all.items v)
+node_case P all (layer.Range a n) kids = subst P (sym (rolls-Range a n)) (all.range a n)
+node_case P all (layer.Hub h) kids = subst P (sym (rolls-Hub h)) (all.hub h)
+node_case P all (layer.Plain g b) kids = subst P (sym (rolls-Plain g b)) (all.below g b kids.0)
+node_case P all (layer.Concat v) kids = subst P (sym (rolls-Concat v)) (all.concat v kids)
+node_case P all (layer.Merge p v) kids = subst P (sym (rolls-Merge p v)) (all.merge p v kids)
+node_case P all (layer.Zip p v) kids = subst P (sym (rolls-Zip p v)) (all.zip p v kids)
+node_case P all (layer.Latest p v) kids = subst P (sym (rolls-Latest p v)) (all.latest p v kids)
+
+-- what holds of each variant, where it holds of the children, holds of every expression
+pub by_variant : {T : Type 0} (P : Expr T → Type 0) → ForEach P → (e : Expr T) → P e
+by_variant {T} P all = by_children P (λ e kids. subst P (roll-out-Expr T e) (node_case P all (out-Expr T e) kids))
 
 -- ---- the size of what an expression means
 
@@ -185,6 +293,10 @@ leaf_here-le (layer.Items v) = omega arith
 leaf_here-le (layer.Range a n) = omega arith
 leaf_here-le (layer.Hub h) = omega arith
 leaf_here-le (layer.Plain g b) = omega arith
+leaf_here-le (layer.Concat v) = omega arith
+leaf_here-le (layer.Merge p v) = omega arith
+leaf_here-le (layer.Zip p v) = omega arith
+leaf_here-le (layer.Latest p v) = omega arith
 
 pub leaves_le_nodes : {T : Type 0} (e : Expr T) → leaves e ≤ nodes e
 leaves_le_nodes {T} = by_children (λ e. leaves e ≤ nodes e) (λ e kids.
@@ -211,7 +323,7 @@ meant_leaves {T} w = by_children (λ e. (meant w e).leaves ≡ leaves e) (λ e k
 
 -- ---- an expression that is not refused
 
-or_none : (o rest : Option BadExpr) → or_else o rest ≡ None → (o ≡ None) × (rest ≡ None)
+pub or_none : (o rest : Option BadExpr) → or_else o rest ≡ None → (o ≡ None) × (rest ≡ None)
 or_none None rest h = (refl, h)
 or_none (Some k) rest h = cc
 
@@ -260,3 +372,28 @@ joined_there w hub leaf v is within = rw (slice_get-get_or w.joins leaf 0 within
 -- isn't refused where the operator isn't
 pub fault_below : {T : Type 0} (hubs : ℕ) (g : Stage T) (b : Below T) → first_fault hubs (Plain g b) ≡ None → first_fault hubs b.value ≡ None
 fault_below hubs g b h = (or_none (unless (stage_fits g) Number) (first_fault hubs b.value) (sym (first_fault_Plain hubs g b) ∙ h)).1
+
+-- ---- what a node of several inputs stands over
+
+-- none of the inputs is refused where none of the list is
+pub none_at_fault : {T : Type 0} (hubs : ℕ) (es : List (Expr T)) → first_of (map (first_fault hubs) es) ≡ None → Each (λ e. first_fault hubs e ≡ None) es
+none_at_fault hubs [] h = tt
+none_at_fault hubs (e ∷ es) h =
+    let both = or_none (first_fault hubs e) (first_of (map (first_fault hubs) es)) h in
+    (both.0, none_at_fault hubs es both.1)
+
+-- nothing is wrong with the children of an expression that isn't refused
+pub fault_children : {T : Type 0} (hubs : ℕ) (e : Expr T) → first_fault hubs e ≡ None → first_of (map (first_fault hubs) (children (out-Expr T e))) ≡ None
+fault_children {T} hubs e h = (or_none (own_fault hubs (out-Expr T e)) (first_of (map (first_fault hubs) (children (out-Expr T e)))) (sym (fault_out hubs e) ∙ h)).1
+
+pub fault_Concat : {T : Type 0} (hubs : ℕ) (v : Several T) → first_fault hubs (Concat v) ≡ None → (unless (inputs_fit (length v.items)) Inputs ≡ None) × (first_of (map (first_fault hubs) v.items) ≡ None)
+fault_Concat hubs v h = or_none _ _ (sym (first_fault_Concat hubs v) ∙ h)
+
+pub fault_Merge : {T : Type 0} (hubs p : ℕ) (v : Several T) → first_fault hubs (Merge p v) ≡ None → (queued_fault p (length v.items) ≡ None) × (first_of (map (first_fault hubs) v.items) ≡ None)
+fault_Merge hubs p v h = or_none _ _ (sym (first_fault_Merge hubs p v) ∙ h)
+
+pub fault_Zip : {T : Type 0} (hubs p : ℕ) (v : Several T) → first_fault hubs (Zip p v) ≡ None → (queued_fault p (length v.items) ≡ None) × (first_of (map (first_fault hubs) v.items) ≡ None)
+fault_Zip hubs p v h = or_none _ _ (sym (first_fault_Zip hubs p v) ∙ h)
+
+pub fault_Latest : {T : Type 0} (hubs p : ℕ) (v : Several T) → first_fault hubs (Latest p v) ≡ None → (queued_fault p (length v.items) ≡ None) × (first_of (map (first_fault hubs) v.items) ≡ None)
+fault_Latest hubs p v h = or_none _ _ (sym (first_fault_Latest hubs p v) ∙ h)

@@ -3,18 +3,19 @@ use Rattle.std.specs.Prelude.{ℕ, ℤ, pos, ◌+ℤ◌, ◌^◌, Bool, true, fa
 use Rattle.rsx_types.specs.declared.stage.Stage.{Stage}
 use Rattle.rsx_types.specs.declared.stage.Stage.TheVariants.{Map, Filter, Take, Scan, Buffer, Distinct}
 use Rattle.rsx_model.specs.declared.expr.Expr.{Expr}
-use Rattle.rsx_model.specs.declared.expr.Expr.TheOpen.{Expr-F, Items, Range, Hub, Plain}
+use Rattle.rsx_model.specs.declared.expr.Expr.TheOpen.{Expr-F, Items, Range, Hub, Plain, Concat, Merge, Zip, Latest}
 use Rattle.rsx_model.specs.declared.expr.Expr.TheFolds.{fold-Expr}
 use Rattle.rsx_types.specs.declared.limits.TheConstants.{MOST_ITEMS}
 use Rattle.rsx_model.specs.declared.check.BadExpr.{BadExpr}
-use Rattle.rsx_model.specs.declared.check.TheConstants.{MOST_DEPTH, MOST_NODES, MOST_COUNT}
-use Rattle.rsx_model.specs.declared.check.BadExpr.TheVariants.{Depth, Nodes, Number, Hub as NoSuchHub, Length}
+use Rattle.rsx_model.specs.declared.check.TheConstants.{MOST_DEPTH, MOST_NODES, MOST_COUNT, MOST_INPUTS, MOST_PREFETCH}
+use Rattle.rsx_model.specs.declared.check.BadExpr.TheVariants.{Depth, Nodes, Inputs, Number, Hub as NoSuchHub, Length}
 use Rattle.rsx_model.specs.Shape.{children, nodes, depth}
 
 -- the number of a kind of refusal
 abbrev pub kind_number : BadExpr → ℕ
 kind_number Depth = 1
 kind_number Nodes = 2
+kind_number Inputs = 3
 kind_number Number = 4
 kind_number NoSuchHub = 6
 kind_number Length = 7
@@ -47,12 +48,28 @@ stage_fits (Filter f) = true
 stage_fits (Scan f s) = true
 stage_fits (Distinct f) = true
 
+-- 1 to 16 inputs
+abbrev pub inputs_fit : ℕ → Bool
+inputs_fit n = nat_le 1 n && nat_le n MOST_INPUTS
+
+-- a prefetch of 1 to 1,024 items
+abbrev pub prefetch_fits : ℕ → Bool
+prefetch_fits p = nat_le 1 p && nat_le p MOST_PREFETCH
+
+-- what is wrong with a node of so many inputs and this prefetch
+abbrev pub queued_fault : ℕ → ℕ → Option BadExpr
+queued_fault p n = or_else (unless (inputs_fit n) Inputs) (unless (prefetch_fits p) Number)
+
 -- what is wrong with one node where there are so many hubs, leaving out its children
 abbrev pub own_fault : {T A : Type 0} → ℕ → Expr-F T A → Option BadExpr
 own_fault hubs (Items v) = unless (nat_le (length v.items) MOST_ITEMS) Length
 own_fault hubs (Range a n) = unless (range_fits a n) Number
 own_fault hubs (Hub h) = unless (nat_lt h.0 hubs) NoSuchHub
 own_fault hubs (Plain g b) = unless (stage_fits g) Number
+own_fault hubs (Concat v) = unless (inputs_fit (length v.items)) Inputs
+own_fault hubs (Merge p v) = queued_fault p (length v.items)
+own_fault hubs (Zip p v) = queued_fault p (length v.items)
+own_fault hubs (Latest p v) = queued_fault p (length v.items)
 
 -- what is wrong with the first faulty node in pre-order
 abbrev pub first_fault : {T : Type 0} → ℕ → Expr T → Option BadExpr

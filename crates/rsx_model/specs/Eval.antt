@@ -3,10 +3,14 @@ use Rattle.std.specs.Prelude.{ℕ, ◌+◌, List, [], ◌∷◌, map, drop, Opti
 pub use Rattle.rsx_types.specs.Stream.{Stream}
 pub use Rattle.rsx_types.specs.Meaning.{Meaning}
 pub use Rattle.rsx_types.specs.Plain.{plain, listed, range_items}
+use Rattle.rsx_choices.specs.Concat.{concat}
+use Rattle.rsx_choices.specs.Merge.{merge}
+use Rattle.rsx_joining.specs.Latest.{combine_latest}
+use Rattle.rsx_joining.specs.Zip.{zip}
 use Rattle.rsx_types.specs.declared.note.Note.{Note}
 use Rattle.rsx_types.specs.declared.note.Note.TheVariants.{Nothing, Picks, Ended}
 use Rattle.rsx_model.specs.declared.expr.Expr.{Expr}
-use Rattle.rsx_model.specs.declared.expr.Expr.TheOpen.{Expr-F, Items, Range, Hub, Plain}
+use Rattle.rsx_model.specs.declared.expr.Expr.TheOpen.{Expr-F, Items, Range, Hub, Plain, Concat, Merge, Zip, Latest}
 use Rattle.rsx_model.specs.declared.expr.Expr.TheFolds.{fold-Expr}
 use Rattle.rsx_model.specs.Shape.{children, sum_of, leaf_here}
 
@@ -40,6 +44,20 @@ quiet (Some Nothing) o = o
 quiet (Some (Picks cs)) o = None
 quiet (Some (Ended i)) o = None
 
+-- the value of a node that picks among its inputs, by the choices that were recorded: none where something else was recorded
+abbrev pub chosen : {A : Type 0} → Option Note → (List ℕ → Option A) → Option A
+chosen None f = None
+chosen (Some Nothing) f = None
+chosen (Some (Picks cs)) f = f cs
+chosen (Some (Ended i)) f = None
+
+-- the value of a zip, by the input whose ending was recorded, if one was: none where something else was recorded
+abbrev pub ended_by_record : {A : Type 0} → Option Note → (Option ℕ → Option A) → Option A
+ended_by_record None f = None
+ended_by_record (Some Nothing) f = None
+ended_by_record (Some (Picks cs)) f = None
+ended_by_record (Some (Ended i)) f = f i
+
 -- a hub's value without its first items: what stands behind a join
 abbrev pub behind : {T : Type 0} → ℕ → Stream T → Stream T
 behind join v = record { items = drop join v.items; ending = v.ending }
@@ -55,6 +73,13 @@ node_value w (Range a n) at leaf = quiet (slice_get w.notes at) (Some (listed (r
 node_value w (Hub h) at leaf = quiet (slice_get w.notes at) (joined_value w h.0 leaf)
 node_value w (Plain g b) at leaf =
     quiet (slice_get w.notes at) (option_map (plain w.meaning g) (b.value.value (at + 1) leaf))
+node_value w (Concat v) at leaf = quiet (slice_get w.notes at) (option_map concat (in_order v.items (at + 1) leaf))
+node_value w (Merge p v) at leaf =
+    chosen (slice_get w.notes at) (λ cs. option_and_then (merge cs) (in_order v.items (at + 1) leaf))
+node_value w (Zip p v) at leaf =
+    ended_by_record (slice_get w.notes at) (λ i. option_and_then (zip w.meaning.row_of i) (in_order v.items (at + 1) leaf))
+node_value w (Latest p v) at leaf =
+    chosen (slice_get w.notes at) (λ cs. option_and_then (combine_latest w.meaning.row_of cs) (in_order v.items (at + 1) leaf))
 
 -- what one node means, from what its children mean
 abbrev pub node_meant : {T : Type 0} → Environment T → Expr-F T (Meant T) → Meant T

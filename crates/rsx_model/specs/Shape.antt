@@ -1,7 +1,7 @@
 -- The size of an expression.
 use Rattle.std.specs.Prelude.{ℕ, ◌+◌, max, List, [], ◌∷◌}
 use Rattle.rsx_model.specs.declared.expr.Expr.{Expr}
-use Rattle.rsx_model.specs.declared.expr.Expr.TheOpen.{Expr-F, Items, Range, Hub, Plain}
+use Rattle.rsx_model.specs.declared.expr.Expr.TheOpen.{Expr-F, Items, Range, Hub, Plain, Concat, Merge, Zip, Latest}
 use Rattle.rsx_model.specs.declared.expr.Expr.TheFolds.{fold-Expr}
 
 -- what is known of a node's children, left to right
@@ -10,6 +10,10 @@ children (Items v) = []
 children (Range a n) = []
 children (Hub h) = []
 children (Plain g b) = b.value ∷ []
+children (Concat v) = v.items
+children (Merge p v) = v.items
+children (Zip p v) = v.items
+children (Latest p v) = v.items
 
 -- the sum of the numbers
 abbrev pub sum_of : List ℕ → ℕ
@@ -35,6 +39,10 @@ leaf_here (Items v) = 0
 leaf_here (Range a n) = 0
 leaf_here (Hub h) = 1
 leaf_here (Plain g b) = 0
+leaf_here (Concat v) = 0
+leaf_here (Merge p v) = 0
+leaf_here (Zip p v) = 0
+leaf_here (Latest p v) = 0
 
 -- how many hub leaves
 abbrev pub leaves : {T : Type 0} → Expr T → ℕ

@@ -1,8 +1,8 @@
 //! Which expressions are refused, and why.
 
-ghost use Rattle.std.specs.Prelude.{◌≡◌, ◌+◌, min, nat_le, MatchResult, Some, None};
-ghost use Rattle.rsx_model.specs.Shape.{nodes, leaves, depth};
-ghost use Rattle.rsx_model.specs.Check.{refusal, first_fault, own_fault, unless, range_fits, stage_fits, kind_number};
+ghost use Rattle.std.specs.Prelude.{◌≡◌, ◌+◌, min, map, nat_le, MatchResult, Some, None};
+ghost use Rattle.rsx_model.specs.Shape.{nodes, leaves, depth, sum_of, max_of};
+ghost use Rattle.rsx_model.specs.Check.{refusal, first_fault, first_of, own_fault, queued_fault, inputs_fit, unless, range_fits, stage_fits, kind_number};
 ghost use Rattle.rsx_model.specs.declared.expr.Expr.TheViews.{out-Expr};
 
 use crate::expr::Expr;
@@ -18,6 +18,12 @@ pub const MOST_NODES: u64 = 256;
 /// The most numbers of a range, and the most items of a `take`.
 pub const MOST_COUNT: u64 = 1_000_000;
 
+/// The most inputs of one node. It has at least one, unless it is a source.
+pub const MOST_INPUTS: u64 = 16;
+
+/// The most items of one input that are asked for in advance.
+pub const MOST_PREFETCH: u64 = 1_024;
+
 /// Why an expression is refused. The first two speak of the whole expression, in this order; the others of the first
 /// faulty node in pre-order.
 #[derive(Clone, Copy, Debug, PartialEq, Eq, Error)]
@@ -28,8 +34,11 @@ pub enum BadExpr {
     /// It has more than 256 nodes.
     #[error("the expression has more than 256 nodes")]
     Nodes,
+    /// A node of several inputs has none, or more than 16.
+    #[error("a node has no inputs, or more than 16")]
+    Inputs,
     /// A number is out of its limit: a range of more than 1,000,000 numbers, or whose last one is above 2^63-1; a `take`
-    /// of more than 1,000,000 items; a `buffer` whose lists aren't of 1 to 1,024 items.
+    /// of more than 1,000,000 items; a `buffer` whose lists aren't of 1 to 1,024 items; a prefetch that isn't 1 to 1,024.
     #[error("a number is out of its limit")]
     Number,
     /// A leaf names a hub that isn't there: its number isn't below the number of hubs.
@@ -41,13 +50,14 @@ pub enum BadExpr {
 }
 
 impl BadExpr {
-    /// The number of this kind: 1 for the depth, 2 for the nodes, 4 for a number, 6 for a hub, 7 for a list's length.
+    /// The number of this kind: 1 for the depth, 2 for the nodes, 3 for the inputs, 4 for a number, 6 for a hub, 7 for a list's length.
     pub fn number(self) -> u8
         ensures { result ≡ kind_number self }
     {
         match self {
             BadExpr::Depth => 1,
             BadExpr::Nodes => 2,
+            BadExpr::Inputs => 3,
             BadExpr::Number => 4,
             BadExpr::Hub => 6,
             BadExpr::Length => 7,
@@ -80,6 +90,7 @@ pub(crate) fn refusal_of<T>(expr: &Expr<T>, hubs: u64) -> Option<BadExpr>
 }
 
 /// Whether the depth is at most this. It goes no deeper than that.
+#[cycle(depth)]
 fn is_within_depth<T>(expr: &Expr<T>, most: u64) -> bool
     ensures { result ≡ nat_le (depth expr.now) most }
 {
@@ -89,20 +100,55 @@ fn is_within_depth<T>(expr: &Expr<T>, most: u64) -> bool
     match expr {
         Expr::Items(_) | Expr::Range(_, _) | Expr::Hub(_) => true,
         Expr::Plain(_, below) => is_within_depth(below, most - 1),
+        Expr::Concat(inputs) => are_within_depth(inputs, most - 1),
+        Expr::Merge(_, inputs) => are_within_depth(inputs, most - 1),
+        Expr::Zip(_, inputs) => are_within_depth(inputs, most - 1),
+        Expr::Latest(_, inputs) => are_within_depth(inputs, most - 1),
     }
 }
 
+/// Whether the depth of each input is at most this. It goes no deeper than that.
+#[cycle(depth)]
+fn are_within_depth<T>(inputs: &[Expr<T>], most: u64) -> bool
+    ensures { result ≡ nat_le (max_of (map depth inputs.now)) most }
+{
+    for input in inputs {
+        if !is_within_depth(input, most) {
+            return false;
+        }
+    }
+    true
+}
+
 /// How many nodes there are, or 257 if there are more than [`MOST_NODES`].
+#[cycle(nodes)]
 pub fn nodes_of<T>(expr: &Expr<T>) -> u64
     ensures { result ≡ min (nodes expr.now) (MOST_NODES + 1) }
 {
     match expr {
         Expr::Items(_) | Expr::Range(_, _) | Expr::Hub(_) => 1,
         Expr::Plain(_, below) => (1 + nodes_of(below)).min(MOST_NODES + 1),
+        Expr::Concat(inputs) => (1 + nodes_of_all(inputs)).min(MOST_NODES + 1),
+        Expr::Merge(_, inputs) => (1 + nodes_of_all(inputs)).min(MOST_NODES + 1),
+        Expr::Zip(_, inputs) => (1 + nodes_of_all(inputs)).min(MOST_NODES + 1),
+        Expr::Latest(_, inputs) => (1 + nodes_of_all(inputs)).min(MOST_NODES + 1),
     }
 }
 
+/// How many nodes the inputs have together, or 257 if there are more than [`MOST_NODES`].
+#[cycle(nodes)]
+fn nodes_of_all<T>(inputs: &[Expr<T>]) -> u64
+    ensures { result ≡ min (sum_of (map nodes inputs.now)) (MOST_NODES + 1) }
+{
+    let mut count = 0;
+    for input in inputs {
+        count = (count + nodes_of(input)).min(MOST_NODES + 1);
+    }
+    count
+}
+
 /// How many leaves are hubs, or 257 if there are more than [`MOST_NODES`].
+#[cycle(leaves)]
 pub fn leaves_of<T>(expr: &Expr<T>) -> u64
     ensures { result ≡ min (leaves expr.now) (MOST_NODES + 1) }
 {
@@ -110,10 +156,27 @@ pub fn leaves_of<T>(expr: &Expr<T>) -> u64
         Expr::Items(_) | Expr::Range(_, _) => 0,
         Expr::Hub(_) => 1,
         Expr::Plain(_, below) => leaves_of(below),
+        Expr::Concat(inputs) => leaves_of_all(inputs),
+        Expr::Merge(_, inputs) => leaves_of_all(inputs),
+        Expr::Zip(_, inputs) => leaves_of_all(inputs),
+        Expr::Latest(_, inputs) => leaves_of_all(inputs),
     }
 }
 
+/// How many leaves of the inputs are hubs, or 257 if there are more than [`MOST_NODES`].
+#[cycle(leaves)]
+fn leaves_of_all<T>(inputs: &[Expr<T>]) -> u64
+    ensures { result ≡ min (sum_of (map leaves inputs.now)) (MOST_NODES + 1) }
+{
+    let mut count = 0;
+    for input in inputs {
+        count = (count + leaves_of(input)).min(MOST_NODES + 1);
+    }
+    count
+}
+
 /// The fault of the first faulty node in pre-order.
+#[cycle(fault)]
 fn first_fault_of<T>(expr: &Expr<T>, hubs: u64) -> Option<BadExpr>
     ensures { result ≡ first_fault hubs expr.now }
 {
@@ -124,7 +187,25 @@ fn first_fault_of<T>(expr: &Expr<T>, hubs: u64) -> Option<BadExpr>
     match expr {
         Expr::Items(_) | Expr::Range(_, _) | Expr::Hub(_) => None,
         Expr::Plain(_, below) => first_fault_of(below, hubs),
+        Expr::Concat(inputs) => first_fault_of_all(inputs, hubs),
+        Expr::Merge(_, inputs) => first_fault_of_all(inputs, hubs),
+        Expr::Zip(_, inputs) => first_fault_of_all(inputs, hubs),
+        Expr::Latest(_, inputs) => first_fault_of_all(inputs, hubs),
     }
+}
+
+/// The fault of the first faulty node of the inputs, one behind the other.
+#[cycle(fault)]
+fn first_fault_of_all<T>(inputs: &[Expr<T>], hubs: u64) -> Option<BadExpr>
+    ensures { result ≡ first_of (map (first_fault hubs) inputs.now) }
+{
+    for input in inputs {
+        let fault = first_fault_of(input, hubs);
+        if fault.is_some() {
+            return fault;
+        }
+    }
+    None
 }
 
 /// What is wrong with one node, leaving out its children.
@@ -136,7 +217,28 @@ fn own_fault_of<T>(expr: &Expr<T>, hubs: u64) -> Option<BadExpr>
         Expr::Range(first, count) => unless_ok(is_range(*first, *count), BadExpr::Number),
         Expr::Hub(hub) => unless_ok(u64::from(hub.0) < hubs, BadExpr::Hub),
         Expr::Plain(stage, _) => unless_ok(is_stage(stage), BadExpr::Number),
+        Expr::Concat(inputs) => unless_ok(is_input_count(inputs.len()), BadExpr::Inputs),
+        Expr::Merge(prefetch, inputs) => queued_fault_of(*prefetch, inputs.len()),
+        Expr::Zip(prefetch, inputs) => queued_fault_of(*prefetch, inputs.len()),
+        Expr::Latest(prefetch, inputs) => queued_fault_of(*prefetch, inputs.len()),
     }
+}
+
+/// What is wrong with a node of so many inputs, whose items are asked for in advance.
+fn queued_fault_of(prefetch: u64, inputs: usize) -> Option<BadExpr>
+    ensures { result ≡ queued_fault prefetch inputs }
+{
+    if !is_input_count(inputs) {
+        return Some(BadExpr::Inputs);
+    }
+    unless_ok(1 <= prefetch && prefetch <= MOST_PREFETCH, BadExpr::Number)
+}
+
+/// Whether a node may have so many inputs.
+fn is_input_count(inputs: usize) -> bool
+    ensures { result ≡ inputs_fit inputs }
+{
+    1 <= inputs && inputs as u64 <= MOST_INPUTS
 }
 
 /// The refusal, unless the limit is kept.

@@ -1,19 +1,21 @@
 //! The slow evaluator.
 
-ghost use Rattle.std.specs.Prelude.{◌≡◌, ◌⊎◌, ◌≤◌, ◌+◌, ◌^◌, ◌+ℤ◌, ◌≤ℤ◌, pos, length, Option, Some, None, option_map, codes};
+ghost use Rattle.std.specs.Prelude.{◌≡◌, ◌⊎◌, ◌≤◌, ◌+◌, ◌^◌, ◌+ℤ◌, ◌≤ℤ◌, pos, length, map, Option, Some, None, option_map, codes};
 ghost use Rattle.rsx_types.specs.Stream.{Stream};
 ghost use Rattle.rsx_types.specs.Plain.{plain, listed, range_items};
 ghost use Rattle.rsx_model.specs.declared.evaluate.Trouble.TheVariants.{OutOfMemory};
-ghost use Rattle.rsx_model.specs.Shape.{nodes, leaves};
-ghost use Rattle.rsx_model.specs.Check.{first_fault};
-ghost use Rattle.rsx_model.specs.Eval.{environment, meant, quiet, behind};
-ghost use Rattle.rsx_model.specs.Answer.{Gives, IsScratch, name_codes};
+ghost use Rattle.rsx_model.specs.Shape.{nodes, leaves, sum_of};
+ghost use Rattle.rsx_model.specs.Check.{first_fault, first_of};
+ghost use Rattle.rsx_model.specs.Eval.{environment, meant, in_order, quiet, behind};
+ghost use Rattle.rsx_model.specs.Answer.{Gives, GivesAll, IsScratch, name_codes};
 
 use crate::check::{BadExpr, MOST_COUNT, MOST_NODES, leaves_of, nodes_of, refusal_of};
 use crate::expr::Expr;
+use crate::kinds::are_noted;
+use crate::several::{concat_of, latest_of, merge_of, zip_of};
 use rsx_types::{Ending, NoMemory, Note, Ops, Stage, StreamValue};
 use rsx_values::{apply, copies_of, range_list};
-use std::alloc::Global;
+use std::alloc::{AllocFailed, Global};
 use thiserror::Error;
 
 /// Why an expression has no value.
@@ -22,7 +24,8 @@ pub enum ScratchRefusal {
     /// M1: `check_expr` refuses the expression, with this kind.
     #[error("bad expression: {0}")]
     BadExpr(BadExpr),
-    /// M2: the notes or the joins don't fit the expression: a wrong number of them, or a note of the wrong kind.
+    /// M2: the notes or the joins don't fit the expression: a wrong number of them, a note of the wrong kind, an invalid choice
+    /// or an invalid recorded ending.
     #[error("the notes or the joins do not fit the expression")]
     BadNotes,
     /// M3: a growth was refused.
@@ -58,13 +61,22 @@ impl From<NoMemory> for Trouble {
     }
 }
 
+impl<T: Drop> From<AllocFailed<T>> for Trouble {
+    ghost from_gives = { λ _ e. e ≡ OutOfMemory };
+
+    fn from(_e: AllocFailed<T>) -> Trouble {
+        Trouble::OutOfMemory
+    }
+}
+
 /// The value of an expression from scratch: over the hubs' values, in the order of their ids, with the joins of its hub
 /// leaves, from left to right, and the notes of its nodes, in pre-order.
 ///
 /// The value of a hub leaf is its hub's value without its first items, as many as the leaf's join says, and with its
 /// ending; where the hub's value has fewer items, the ending alone.
 ///
-/// A bad expression is found first, then notes or joins that don't fit, and want of memory last.
+/// A bad expression is found first, then a wrong number of notes or joins or a note of the wrong kind, and want of memory last. An
+/// invalid choice or recorded ending is found where the choices are followed, so that want of memory may come before it.
 pub fn scratch<O: Ops>(
     alloc: Global,
     ops: &O,
@@ -85,6 +97,9 @@ pub fn scratch<O: Ops>(
     if leaves_of(expr) != joins.len() as u64 {
         return Err(ScratchRefusal::BadNotes);
     }
+    if !are_noted(expr, notes) {
+        return Err(ScratchRefusal::BadNotes);
+    }
     match value_of(alloc, ops, expr, hubs, joins, notes, 0, 0) {
         Ok(value) => Ok(value),
         Err(Trouble::BadNotes) => Err(ScratchRefusal::BadNotes),
@@ -93,6 +108,7 @@ pub fn scratch<O: Ops>(
 }
 
 /// The value of the subtree whose root has the number `at` and whose first hub leaf the number `leaf`.
+#[cycle(value)]
 fn value_of<O: Ops>(
     alloc: Global,
     ops: &O,
@@ -121,7 +137,53 @@ fn value_of<O: Ops>(
             let input = value_of(alloc, ops, below, hubs, joins, notes, at + 1, leaf);
             if_quiet(note, plain_of(alloc, ops, stage, input))
         }
+        Expr::Concat(inputs) => {
+            let values = values_of(alloc, ops, inputs, hubs, joins, notes, at + 1, leaf);
+            if_quiet(note, concat_of(alloc, values))
+        }
+        Expr::Merge(_, inputs) => {
+            let values = values_of(alloc, ops, inputs, hubs, joins, notes, at + 1, leaf);
+            merge_of(alloc, note, values)
+        }
+        Expr::Zip(_, inputs) => {
+            let values = values_of(alloc, ops, inputs, hubs, joins, notes, at + 1, leaf);
+            zip_of(alloc, ops, note, values)
+        }
+        Expr::Latest(_, inputs) => {
+            let values = values_of(alloc, ops, inputs, hubs, joins, notes, at + 1, leaf);
+            latest_of(alloc, ops, note, values)
+        }
     }
+}
+
+/// The values of subtrees that stand side by side, the first of which has the number `at` and the first hub leaf `leaf`.
+#[cycle(value)]
+fn values_of<O: Ops>(
+    alloc: Global,
+    ops: &O,
+    inputs: &[Expr<O::Item>],
+    hubs: &[StreamValue<O::Item>],
+    joins: &[u64],
+    notes: &[Note],
+    at: usize,
+    leaf: usize,
+) -> Result<Vec<StreamValue<O::Item>>, Trouble>
+    requires sound { first_of (map (first_fault (length hubs.now)) inputs.now) ≡ None }
+    requires small { sum_of (map nodes inputs.now) ≤ MOST_NODES }
+    requires noted { at + sum_of (map nodes inputs.now) ≤ length notes.now }
+    requires joined { leaf + sum_of (map leaves inputs.now) ≤ length joins.now }
+    ensures { GivesAll result (in_order (map (meant (environment (O.meaning ops.now) hubs.now joins.now notes.now)) inputs.now) at leaf) }
+{
+    let mut values = Vec::new(alloc);
+    let mut next = at;
+    let mut next_leaf = leaf;
+    for input in inputs {
+        let value = value_of(alloc, ops, input, hubs, joins, notes, next, next_leaf)?;
+        values.push(value)?;
+        next += nodes_of(input) as usize;
+        next_leaf += leaves_of(input) as usize;
+    }
+    Ok(values)
 }
 
 /// The answer of a node that records nothing; any record is out of place.

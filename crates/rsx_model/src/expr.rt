@@ -20,4 +20,15 @@ pub enum Expr<T> {
     Hub(HubId),
     /// One plain operator over what is below it.
     Plain(Stage<T>, Box<Expr<T>>),
+    /// The inputs one behind the other: each begins once those before it have completed. Like each of the kinds that follow,
+    /// it has 1 to 16 inputs.
+    Concat(Vec<Expr<T>>),
+    /// The items of all inputs, in an order that is chosen while they come and recorded. The number is the prefetch, how many
+    /// items of each input are asked for in advance: 1 to 1,024.
+    Merge(u64, Vec<Expr<T>>),
+    /// Rows of one item of each input, as long as all have one. The number is the prefetch, as for `Merge`.
+    Zip(u64, Vec<Expr<T>>),
+    /// A row of the latest items of the inputs at each item, once every input has had one; the order of the items is chosen and
+    /// recorded (`combineLatest`). The number is the prefetch, as for `Merge`.
+    Latest(u64, Vec<Expr<T>>),
 }

@@ -1,9 +1,10 @@
 -- A tree that was built over the trees of its inputs.
-use Rattle.std.proofs.Common.{◌≡◌, ◌⊎◌, inl, inr, ℕ, zero, suc, ◌+◌, ◌*◌, ◌<◌, Bool, true, false, nat_eq, List, [], ◌∷◌, ◌++◌, length, refl, ap, sym, ◌∙◌, subst, arith, Option, Some, None, option_map, option_and_then, slice_get, Box, Global}
+use Rattle.std.proofs.Common.{◌≡◌, ◌⊎◌, inl, inr, ℕ, zero, suc, ◌+◌, ◌*◌, ◌<◌, Bool, true, false, nat_eq, List, [], ◌∷◌, ◌++◌, length, refl, ap, sym, ◌∙◌, subst, arith, Option, Some, None, option_map, option_and_then, slice_get, Result, Ok, Err, Box, Vec, Global}
+use Rattle.std.specs.Prelude.{IfOk}
 use Rattle.std.proofs.lemmas.Bool.Decides.{nat_tests}
 use Rattle.std.proofs.lemmas.List.{append-nil}
 use Rattle.rsx_types.specs.Meaning.{Meaning}
-use Rattle.rsx_types.specs.Plain.{plain}
+use Rattle.rsx_types.specs.Plain.{listed, plain}
 use Rattle.rsx_types.specs.Stream.{Stream}
 use Rattle.rsx_types.specs.declared.note.Note.{Note}
 use Rattle.rsx_types.specs.declared.note.Note.TheVariants.{Nothing, Picks, Ended}
@@ -14,6 +15,7 @@ use Rattle.rsx_types.specs.declared.signal.Signal.{Signal}
 use Rattle.rsx_types.specs.declared.stage.Stage.{Stage}
 use Rattle.rsx_types.specs.declared.stage.Stage.TheVariants.{Map, Filter, Take, Scan, Buffer, Distinct}
 use Rattle.rsx_sources.specs.Machine.{Incoming, incoming_of, quiet as quiet_at}
+use Rattle.rsx_sources.specs.Items.{GivesItems, ItemsLeft}
 use Rattle.rsx_sources.specs.Reading.{Reading, published_at}
 use Rattle.rsx_hub.specs.Hub.{HubState, HasTakenIn, BeginsWith, join}
 use Rattle.rsx_hub.specs.Member.{MemberState, ReadsFromJoin, fresh_member, rest, without}
@@ -24,9 +26,9 @@ use Rattle.rsx_model.specs.declared.check.BadExpr.{BadExpr}
 use Rattle.rsx_model.specs.declared.check.BadExpr.TheVariants.{Number}
 use Rattle.rsx_model.specs.declared.expr.Expr.{Expr}
 use Rattle.rsx_model.specs.declared.expr.Expr.TheFolds.{fold_out-Expr}
-use Rattle.rsx_model.specs.declared.expr.Expr.TheViews.{Plain as PlainOf, outs-Hub, outs-Plain}
-use Rattle.rsx_model.specs.declared.expr.Expr.TheVariants.{Hub as HubOf}
-use Rattle.rsx_model.proofs.Unfold.{value_Hub, value_Plain, first_fault_Plain}
+use Rattle.rsx_model.specs.declared.expr.Expr.TheViews.{Plain as PlainOf, outs-Items, outs-Hub, outs-Plain}
+use Rattle.rsx_model.specs.declared.expr.Expr.TheVariants.{Items as ItemsOf, Hub as HubOf}
+use Rattle.rsx_model.proofs.Unfold.{value_Items, value_Hub, value_Plain, first_fault_Plain, hub_there}
 use Rattle.rsx_operators.specs.Moves.{has_ending}
 use Rattle.rsx_plain.specs.Node.{plain_comes_out, plain_ended, start_slot}
 use Rattle.rsx_operators.specs.State.{plain_start, is_over, balanced}
@@ -48,9 +50,9 @@ use Rattle.rsx_tree.proofs.Readings.{closed_if_reads}
 use Rattle.rsx_node.specs.declared.any_node.AnyNode.{AnyNode}
 use Rattle.rsx_node.specs.declared.any_node.AnyNode.TheVariants.{Source, Plain}
 use Rattle.rsx_node.specs.declared.source_node.SourceNode.{SourceNode}
-use Rattle.rsx_node.specs.declared.source_node.SourceNode.TheVariants.{Hub}
+use Rattle.rsx_node.specs.declared.source_node.SourceNode.TheVariants.{Items, Hub}
 use Rattle.rsx_node.specs.Any.{any_machine}
-use Rattle.rsx_node.specs.Built.{IsBuilt, AllUnrecorded, AreBegun, StandAt, counts_of, fresh_edge, fresh_edges, join_at, joins_now, new_joins, starts_ended}
+use Rattle.rsx_node.specs.Built.{IsBuilt, IsPlainOver, AllUnrecorded, AreBegun, StandAt, counts_of, fresh_edge, fresh_edges, join_at, joins_now, new_joins, starts_ended}
 
 -- what comes out of a fresh node is its operator of what comes in
 fresh_out : {T : Type 0} (m : Meaning T) (hubs : List (Stream T)) (n : AnyNode T) (f : List (Stream T) → Stream T) → ((vs : List (Stream T)) (k : Note) → any_machine.comes_out m n (incoming_of hubs vs) k ≡ quiet_at k (f vs)) →
@@ -90,7 +92,10 @@ built_source {T} m hubs e n t n_is r_is values read unread none = record {
       let N : AnyNode T → Type 0 = λ x. R x t.inputs in
       let I : Inputs (AnyNode T) → Type 0 = λ r. R (Source n) r in
       subst N (sym n_is) (subst I (sym r_is) (unread bare, tt));
-  notes = let P : Inputs (AnyNode T) → Type 0 = λ r. AllUnrecorded (Nothing ∷ notes_of any_machine r) in subst P (sym r_is) ((λ k. refl), tt);
+  notes =
+      let N : AnyNode T → Type 0 = λ x. AllUnrecorded (any_machine.recorded x ∷ notes_of any_machine t.inputs) in
+      let P : Inputs (AnyNode T) → Type 0 = λ r. AllUnrecorded (Nothing ∷ notes_of any_machine r) in
+      subst N (sym n_is) (subst P (sym r_is) ((λ k. refl), tt));
   edges = ap edges_in r_is ∙ sym none;
   balance =
       let R : Inputs (AnyNode T) → Type 0 = λ r. IsOwnerBalanced any_machine t.machine (sent_over r) 0 (IsRowBalanced any_machine t.machine 0 r) in
@@ -101,6 +106,18 @@ built_source {T} m hubs e n t n_is r_is values read unread none = record {
     same_hubs : (whole vs : List (Stream T)) → (incoming_of whole vs).hubs ≡ whole
     same_hubs whole [] = refl
     same_hubs whole (v ∷ vs) = refl
+
+-- ---- items
+
+fresh_Items : {T : Type 0} (v : Vec T Global) → fresh_edges (ItemsOf v) ≡ []
+fresh_Items {T} v = rw (fold_out-Expr, outs-Items) refl
+
+pub built_items : {T : Type 0} (m : Meaning T) (hubs : List (HubState T)) (e : Expr T) (v : Vec T Global) (items : List T) (n : ItemsLeft T) (t : Node (AnyNode T)) → e ≡ ItemsOf v → items ≡ v.items → GivesItems n items → t.machine ≡ Source (Items n) → t.inputs ≡ End → IsBuilt m hubs e t
+built_items {T} m hubs e v items n t is all fresh n_is r_is =
+    let P : Expr T → Type 0 = λ x. IsBuilt m hubs x t in
+    subst P (sym is) (built_source m hubs (ItemsOf v) (Items n) t n_is r_is
+    (λ whole joins leaf begun stand. (listed v.items, (λ inc k same. fresh m inc k ∙ ap (λ l. quiet_at k (listed l)) all), (λ further at. value_Items (environment m whole joins further) v at leaf)))
+    tt (λ bare. tt) (fresh_Items v))
 
 -- ---- a leaf that reads a hub
 
@@ -134,7 +151,7 @@ new_joins_Hub : (T : Type 0) (hubs : List (HubState T)) (h : HubId) → new_join
 new_joins_Hub T hubs h = rw (fold_out-Expr, outs-Hub) refl
 
 new_joins_Plain : {T : Type 0} (hubs : List (HubState T)) (g : Stage T) (b : Box (Expr T) Global) → new_joins hubs (PlainOf g b) ≡ new_joins hubs b.value
-new_joins_Plain {T} hubs g b = rw (fold_out-Expr, outs-Plain) refl
+new_joins_Plain {T} hubs g b = rw (fold_out-Expr, outs-Plain) (append-nil (new_joins hubs b.value))
 
 some_join : {A : Type 0} {a : A} {as' : List A} → a ∷ as' ≡ [] → ⊥
 some_join e = cc
@@ -220,14 +237,14 @@ fresh_balanced {T} g n below e p q st sl fits sent live w = elim (fresh_counts g
 ]
 
 fresh_Plain : {T : Type 0} (g : Stage T) (b : Box (Expr T) Global) → fresh_edges (PlainOf g b) ≡ closed_if (starts_ended g) (fresh_edge ∷ fresh_edges b.value)
-fresh_Plain {T} g b = rw (fold_out-Expr, outs-Plain) refl
+fresh_Plain {T} g b = rw (fold_out-Expr, outs-Plain) (ap (λ l. closed_if (starts_ended g) (fresh_edge ∷ l)) (append-nil (fresh_edges b.value)))
 
-fresh_edge_is : (e : Edge) → e.demand.asked ≡ 0 → e.demand.sent ≡ 0 → e.state ≡ Live → edge_view e ≡ fresh_edge
+pub fresh_edge_is : (e : Edge) → e.demand.asked ≡ 0 → e.demand.sent ≡ 0 → e.state ≡ Live → edge_view e ≡ fresh_edge
 fresh_edge_is e a s l =
     ap (λ x. record { asked = x; sent = e.demand.sent; state = e.state }) a
     ∙ (ap (λ x. record { asked = 0; sent = x; state = e.state }) s ∙ ap (λ x. record { asked = 0; sent = 0; state = x }) l)
 
-pub built_plain : {T : Type 0} (m : Meaning T) (hubs : List (HubState T)) (e : Expr T) (g : Stage T) (box : Box (Expr T) Global) (input : Expr T) (below : Node (AnyNode T)) (n : PlainNode T) (row : Inputs (AnyNode T)) (t : Node (AnyNode T)) →
+built_plain : {T : Type 0} (m : Meaning T) (hubs : List (HubState T)) (e : Expr T) (g : Stage T) (box : Box (Expr T) Global) (input : Expr T) (below : Node (AnyNode T)) (n : PlainNode T) (row : Inputs (AnyNode T)) (t : Node (AnyNode T)) →
     e ≡ PlainOf g box → input ≡ box.value → first_fault (length hubs) e ≡ None → IsBuilt m hubs input below → ((inc : Incoming T) (further : Note) → plain_comes_out m n inc further ≡ quiet_at further (plain m g inc.first)) → n.state ≡ plain_start g → n.slot ≡ start_slot g →
     IsJoined below End row → t.machine ≡ Plain n → t.inputs ≡ closed_row_if (plain_ended n) row → IsBuilt m hubs e t
 built_plain {T} m hubs e g box input below n row t is in_box fine w0 fresh st sl j n_is r_is =
@@ -241,7 +258,8 @@ built_plain {T} m hubs e g box input below n row t is in_box fine w0 fresh st sl
     let ended_is : c ≡ starts_ended g = ap has_ending sl in
     let new : edge_view j.e ≡ fresh_edge = fresh_edge_is j.e j.asked j.sent j.live in
     let N : List Note → Type 0 = λ ns. AllUnrecorded (Nothing ∷ ns) in
-    let notes_are : notes_of any_machine t.inputs ≡ notes any_machine below = ap (notes_of any_machine) tree_is ∙ (notes_closed_if any_machine c whole ∙ ap (λ l. Nothing ∷ l) (append-nil (notes_of any_machine below.inputs))) in
+    let NM : AnyNode T → Type 0 = λ x. AllUnrecorded (any_machine.recorded x ∷ notes_of any_machine t.inputs) in
+    let notes_are : notes_of any_machine t.inputs ≡ notes any_machine below = ap (notes_of any_machine) tree_is ∙ (notes_closed_if any_machine c whole ∙ ap (λ l. any_machine.recorded below.machine ∷ l) (append-nil (notes_of any_machine below.inputs))) in
     let below_is : edges_in whole ≡ fresh_edge ∷ fresh_edges box.value = ap (λ v. v ∷ (edges_in below.inputs ++ [])) new ∙ ap (λ l. fresh_edge ∷ l) (append-nil (edges_in below.inputs) ∙ w.edges) in
     let B : AnyNode T → Inputs (AnyNode T) → Type 0 = λ x r. IsBalanced any_machine (node_of x r) 0 in
     let BN : AnyNode T → Type 0 = λ x. B x t.inputs in
@@ -264,7 +282,25 @@ built_plain {T} m hubs e g box input below n row t is in_box fine w0 fresh st sl
           let N : AnyNode T → Type 0 = λ x. R x t.inputs in
           let I : Inputs (AnyNode T) → Type 0 = λ r. R (Plain n) r in
           subst N (sym n_is) (subst I (sym tree_is) (tt, closed_if_reads any_machine [] c whole (inr (w.alone (sym (new_joins_Plain hubs g box) ∙ bare)), tt)));
-      notes = subst N (sym notes_are) ((λ x. refl), w.notes);
+      notes = subst NM (sym n_is) (subst N (sym notes_are) ((λ x. refl), w.notes));
       edges = ap edges_in tree_is ∙ (edges_closed_if c whole ∙ (ap (closed_if c) below_is ∙ (ap (λ d. closed_if d (fresh_edge ∷ fresh_edges box.value)) ended_is ∙ sym (fresh_Plain g box))));
       balance = subst BN (sym n_is) (subst BR (sym tree_is) (fresh_balanced g n below j.e j.p j.q st sl fits j.sent j.live w.balance));
     })
+
+-- the same of a tree that was made unless memory ran out
+pub plain_if : {T E : Type 0} (m : Meaning T) (hubs : List (HubState T)) (e : Expr T) (g : Stage T) (box : Box (Expr T) Global) (input : Expr T) (below : Node (AnyNode T)) (r : Result (Node (AnyNode T)) E) →
+    e ≡ PlainOf g box → input ≡ box.value → first_fault (length hubs) e ≡ None → IsBuilt m hubs input below → IfOk r (λ t. IsPlainOver g below t) → IfOk r (λ t. IsBuilt m hubs e t)
+plain_if m hubs e g box input below (Ok t) is in_box fine w o = built_plain m hubs e g box input below o.node o.row t is in_box fine w (o.fresh m) o.state o.slot o.joined o.machine o.inputs
+plain_if m hubs e g box input below (Err x) is in_box fine w o = tt
+
+pub items_if : {T E : Type 0} (m : Meaning T) (hubs : List (HubState T)) (e : Expr T) (v : Vec T Global) (r : Result (Node (AnyNode T)) E) → e ≡ ItemsOf v → IfOk r (λ t. (hs : List (HubState T)) → IsBuilt m hs (ItemsOf v) t) → IfOk r (λ t. IsBuilt m hubs e t)
+items_if {T} m hubs e v (Ok t) is o = let P : Expr T → Type 0 = λ x. IsBuilt m hubs x t in subst P (sym is) (o hubs)
+items_if m hubs e v (Err x) is o = tt
+
+pub leaf_if : {T E : Type 0} (m : Meaning T) (hubs : List (HubState T)) (e : Expr T) (id : HubId) (r : Result (Node (AnyNode T)) E) → e ≡ HubOf id → IfOk r (λ t. IsBuilt m hubs (HubOf id) t) → IfOk r (λ t. IsBuilt m hubs e t)
+leaf_if {T} m hubs e id (Ok t) is o = let P : Expr T → Type 0 = λ x. IsBuilt m hubs x t in subst P (sym is) o
+leaf_if m hubs e id (Err x) is o = tt
+
+-- there is the hub that a leaf reads where nothing is wrong with the expression
+pub hub_read : {T : Type 0} (hubs : ℕ) (e : Expr T) (id : HubId) → e ≡ HubOf id → first_fault hubs e ≡ None → id.0 < hubs
+hub_read {T} hubs e id is h = hub_there T hubs id (ap (first_fault hubs) (sym is) ∙ h)

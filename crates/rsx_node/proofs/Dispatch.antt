@@ -5,7 +5,7 @@ use Rattle.rsx_types.specs.Meaning.{Meaning}
 use Rattle.rsx_types.specs.declared.note.Note.TheVariants.{Nothing}
 use Rattle.rsx_types.specs.declared.signal.Signal.{Signal}
 use Rattle.rsx_types.specs.declared.signal.Signal.TheVariants.{Next, Complete, Error}
-use Rattle.rsx_sources.specs.Counts.{CountsIn, CountsOut}
+use Rattle.rsx_sources.specs.Counts.{CountsIn, CountsOut, CountsStep}
 use Rattle.rsx_sources.specs.Passed.{IsItemOut, IsPassed, IsTakenIn}
 use Rattle.rsx_sources.specs.Reading.{IsReadOn}
 use Rattle.rsx_sources.specs.Steps.{IsPopped}
@@ -17,11 +17,13 @@ use Rattle.rsx_sources.specs.declared.range.RangeNode.{RangeNode}
 use Rattle.rsx_hub_leaf.specs.Leaf.{LeafState, leaf_comes_out, leaf_popped, leaf_reads, leaf_waiting}
 use Rattle.rsx_plain.specs.Node.{plain_comes_out, plain_popped, plain_counted, plain_ended, plain_takes, plain_waiting}
 use Rattle.rsx_plain.specs.declared.node.PlainNode.{PlainNode}
+use Rattle.rsx_several.specs.Several.{several_comes_out, several_waiting, several_popped, several_recorded, several_counted, several_ended, several_done}
+use Rattle.rsx_several.specs.declared.several_node.SeveralNode.{SeveralNode}
 use Rattle.rsx_node.specs.declared.any_node.AnyNode.{AnyNode}
-use Rattle.rsx_node.specs.declared.any_node.AnyNode.TheVariants.{Source, Plain}
+use Rattle.rsx_node.specs.declared.any_node.AnyNode.TheVariants.{Source, Plain, Several}
 use Rattle.rsx_node.specs.declared.source_node.SourceNode.{SourceNode}
 use Rattle.rsx_node.specs.declared.source_node.SourceNode.TheVariants.{Items, Range, Hub}
-use Rattle.rsx_node.specs.Any.{any_comes_out, any_popped, any_waiting, any_counted, any_ended, any_takes}
+use Rattle.rsx_node.specs.Any.{any_comes_out, any_popped, any_waiting, any_recorded, any_counted, any_ended, any_done, any_takes}
 use Rattle.rsx_node.specs.Source.{source_comes_out, source_popped, source_reads, source_waiting}
 
 -- ---- a source
@@ -88,27 +90,50 @@ pub popped_source : {T : Type 0} (m : Meaning T) (old new : SourceNode T) (o : O
 popped_source m old new None h = (h.0, ap Source h.1)
 popped_source m old new (Some s) h = h
 
-pub counted_plain : {T : Type 0} (old new : PlainNode T) (o : Option (Signal T)) → CountsOut plain_counted plain_ended (λ n i. false) old o new → CountsOut any_counted any_ended (λ n i. false) (Plain old) o (Plain new)
+pub popped_several : {T : Type 0} (m : Meaning T) (old new : SeveralNode T) (o : Option (Signal T)) → IsPopped (several_comes_out m) several_popped (several_waiting m old) old o new → IsPopped (any_comes_out m) any_popped (several_waiting m old) (Several old) o (Several new)
+popped_several m old new None h = (h.0, ap Several h.1)
+popped_several m old new (Some s) h = h
+
+pub counted_plain : {T : Type 0} (old new : PlainNode T) (o : Option (Signal T)) → CountsOut plain_counted plain_ended (λ n i. false) old o new → CountsOut any_counted any_ended any_done (Plain old) o (Plain new)
 counted_plain old new None h = tt
 counted_plain old new (Some (Next x)) h = h
 counted_plain old new (Some Complete) h = tt
 counted_plain old new (Some (Error c)) h = tt
 
-pub taken_plain : {T : Type 0} (old new : PlainNode T) (i : ℕ) (s : Signal T) → CountsIn plain_counted plain_ended (λ n j. false) old i s new → CountsIn any_counted any_ended (λ n j. false) (Plain old) i s (Plain new)
+pub counted_several : {T : Type 0} (old new : SeveralNode T) (o : Option (Signal T)) → CountsOut several_counted several_ended several_done old o new → CountsOut any_counted any_ended any_done (Several old) o (Several new)
+counted_several old new None h = tt
+counted_several old new (Some (Next x)) h = h
+counted_several old new (Some Complete) h = tt
+counted_several old new (Some (Error c)) h = tt
+
+pub taken_plain : {T : Type 0} (old new : PlainNode T) (i : ℕ) (s : Signal T) → CountsIn plain_counted plain_ended (λ n j. false) old i s new → CountsIn any_counted any_ended any_done (Plain old) i s (Plain new)
 taken_plain old new i s h = record { stays_ended = h.stays_ended; counts = h.counts; stays_done = h.stays_done; is_done = h.is_done }
+
+pub taken_several : {T : Type 0} (old new : SeveralNode T) (i : ℕ) (s : Signal T) → CountsIn several_counted several_ended several_done old i s new → CountsIn any_counted any_ended any_done (Several old) i s (Several new)
+taken_several old new i s h = record { stays_ended = h.stays_ended; counts = h.counts; stays_done = h.stays_done; is_done = h.is_done }
+
+pub stepped_several : {T : Type 0} (old new : SeveralNode T) → CountsStep several_counted several_ended several_done old new → CountsStep any_counted any_ended any_done (Several old) (Several new)
+stepped_several old new h = record { stays_ended = h.stays_ended; counts = h.counts; stays_done = h.stays_done }
 
 pub returned_plain : {T : Type 0} (before : AnyNode T) (s : Signal T) (n n' : PlainNode T) → any_popped before s (Plain n) → ((b : PlainNode T) → plain_popped b s n → n' ≡ b) → Plain n' ≡ before
 returned_plain (Source a) s n n' h k = absurd h
 returned_plain (Plain a) s n n' h k = ap Plain (k a h)
+returned_plain (Several a) s n n' h k = absurd h
 
 pub returned_source : {T : Type 0} (before : AnyNode T) (s : Signal T) (n n' : SourceNode T) → any_popped before s (Source n) → ((b : SourceNode T) → source_popped b s n → n' ≡ b) → Source n' ≡ before
 returned_source (Source a) s n n' h k = ap Source (k a h)
 returned_source (Plain a) s n n' h k = absurd h
+returned_source (Several a) s n n' h k = absurd h
+
+pub returned_several : {T : Type 0} (before : AnyNode T) (s : Signal T) (n n' : SeveralNode T) → any_popped before s (Several n) → ((b : SeveralNode T) → several_popped b s n → n' ≡ b) → Several n' ≡ before
+returned_several (Source a) s n n' h k = absurd h
+returned_several (Plain a) s n n' h k = absurd h
+returned_several (Several a) s n n' h k = ap Several (k a h)
 
 -- ---- an item that goes through in one go
 
 abbrev pub IsOutAny : {T : Type 0} → Meaning T → AnyNode T → T → AnyNode T → Type 0
-IsOutAny m old x new = IsItemOut (any_comes_out m) (any_waiting m) any_popped (λ n. Nothing) any_counted any_ended (λ n i. false) old x new
+IsOutAny m old x new = IsItemOut (any_comes_out m) (any_waiting m) any_popped any_recorded any_counted any_ended any_done old x new
 
 out_source : {T : Type 0} (m : Meaning T) (old new : SourceNode T) (x : T) → IsItemOut (source_comes_out m) (source_waiting m) source_popped (λ n. Nothing) (λ n taken sent. ⊤) (λ n. false) (λ n i. false) old x new → IsOutAny m (Source old) x (Source new)
 out_source m old new x h = record { waited = h.waited; popped_out = h.popped_out; value = h.value; notes = h.notes; counts = h.counts }
@@ -124,12 +149,16 @@ pub item_out_plain : {T : Type 0} (m : Meaning T) (old new : PlainNode T) (o : O
 item_out_plain m old new None h = h
 item_out_plain m old new (Some x) h = out_plain m old new x h
 
+pub item_out_several : {T : Type 0} (m : Meaning T) (old new : SeveralNode T) (o : Option T) → IfSome o (λ x. IsItemOut (several_comes_out m) (several_waiting m) several_popped several_recorded several_counted several_ended several_done old x new) → IfSome o (λ x. IsOutAny m (Several old) x (Several new))
+item_out_several m old new None h = h
+item_out_several m old new (Some x) h = record { waited = h.waited; popped_out = h.popped_out; value = h.value; notes = h.notes; counts = h.counts }
+
 in_plain : {T : Type 0} (m : Meaning T) (old new : PlainNode T) (i : ℕ) (s : Signal T) → IsTakenIn (plain_comes_out m) (λ n j f. plain_takes n j) (λ n. Nothing) plain_counted plain_ended (λ n j. false) old i s new →
-    IsTakenIn (any_comes_out m) any_takes (λ n. Nothing) any_counted any_ended (λ n j. false) (Plain old) i s (Plain new)
+    IsTakenIn (any_comes_out m) any_takes any_recorded any_counted any_ended any_done (Plain old) i s (Plain new)
 in_plain m old new i s h = record { enabled = h.enabled; value = h.value; notes = h.notes; counts = taken_plain old new i s h.counts; goes_on = h.goes_on }
 
 pub passed_plain : {T : Type 0} (m : Meaning T) (old new : PlainNode T) (i : ℕ) (x : T) (r : Passed T) → IsPassed (plain_comes_out m) (plain_waiting m) (λ n j f. plain_takes n j) plain_popped (λ n. Nothing) plain_counted plain_ended (λ n j. false) old i x r new →
-    IsPassed (any_comes_out m) (any_waiting m) any_takes any_popped (λ n. Nothing) any_counted any_ended (λ n j. false) (Plain old) i x r (Plain new)
+    IsPassed (any_comes_out m) (any_waiting m) any_takes any_popped any_recorded any_counted any_ended any_done (Plain old) i x r (Plain new)
 passed_plain m old new i x (Item y) h = (Plain h.0, in_plain m old h.0 i (Next x) h.1, out_plain m h.0 new y h.2)
 passed_plain m old new i x Kept h = in_plain m old new i (Next x) h
 passed_plain m old new i x (Declined y) h = (h.0, ap Plain h.1)

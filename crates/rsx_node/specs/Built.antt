@@ -1,25 +1,35 @@
 -- A tree that was made for an expression.
-use Rattle.std.specs.Prelude.{◌≡◌, ⊤, ℕ, zero, suc, ◌+◌, Bool, List, [], ◌∷◌, map, Some, slice_get}
+use Rattle.std.specs.Prelude.{◌≡◌, ⊤, ℕ, zero, suc, ◌+◌, Bool, false, List, [], ◌∷◌, ◌++◌, length, map, Some, option_and_then, slice_get}
+use Rattle.std.proofs.Math.ListN.{replicate}
 use Rattle.rsx_hub.specs.Hub.{HubState, HasTakenIn, BeginsWith, join}
-use Rattle.rsx_model.specs.Eval.{environment, meant}
+use Rattle.rsx_model.specs.Eval.{environment, meant, in_order}
+use Rattle.rsx_model.specs.Shape.{children}
 use Rattle.rsx_model.specs.declared.expr.Expr.{Expr}
 use Rattle.rsx_model.specs.declared.expr.Expr.TheFolds.{fold-Expr}
-use Rattle.rsx_model.specs.declared.expr.Expr.TheOpen.{Expr-F, Items, Range, Hub, Plain}
+use Rattle.rsx_model.specs.declared.expr.Expr.TheOpen.{Expr-F, Items, Range, Hub, Concat, Merge, Zip, Latest}
+use Rattle.rsx_model.specs.declared.expr.Expr.TheOpen as layer
 use Rattle.rsx_types.specs.Meaning.{Meaning}
 use Rattle.rsx_types.specs.Notes.{note_then}
 use Rattle.rsx_types.specs.Stream.{Stream}
 use Rattle.rsx_types.specs.declared.note.Note.{Note}
 use Rattle.rsx_types.specs.declared.stage.Stage.{Stage}
 use Rattle.rsx_operators.specs.Moves.{has_ending}
-use Rattle.rsx_plain.specs.Node.{start_slot}
+use Rattle.rsx_operators.specs.State.{plain_start}
+use Rattle.rsx_plain.specs.Node.{GivesOperator, plain_ended, start_slot}
+use Rattle.rsx_plain.specs.declared.node.PlainNode.{PlainNode}
 use Rattle.rsx_tree.specs.declared.edge.EdgeState.TheVariants.{Live}
+use Rattle.rsx_tree.specs.declared.inputs.Inputs.{Inputs, End}
 use Rattle.rsx_tree.specs.declared.node.Node.{Node}
-use Rattle.rsx_tree.specs.Balance.{IsBalanced}
+use Rattle.rsx_several.specs.Kind.{joined}
+use Rattle.rsx_several.specs.declared.kind.SeveralKind.{SeveralKind}
+use Rattle.rsx_tree.specs.Balance.{IsBalanced, IsRowBalanced, sent_over}
 use Rattle.rsx_tree.specs.Edges.{EdgeView, closed_if}
-use Rattle.rsx_tree.specs.Reads.{IsTreeReadAt}
-use Rattle.rsx_tree.specs.Tree.{comes_out, notes, edges}
+use Rattle.rsx_tree.specs.Inputs.{closed_row_if, comes_in, notes_of, edges as edges_in}
+use Rattle.rsx_tree.specs.Reads.{IsRowReadAt, IsTreeReadAt}
+use Rattle.rsx_tree.specs.Tree.{IsJoined, comes_out, notes, edges}
 use Rattle.rsx_node.specs.Any.{any_machine}
 use Rattle.rsx_node.specs.declared.any_node.AnyNode.{AnyNode}
+use Rattle.rsx_node.specs.declared.any_node.AnyNode.TheVariants.{Plain}
 
 -- a node that recorded nothing yet: whatever it records is its note
 abbrev pub IsUnrecorded : Note → Type 0
@@ -37,12 +47,25 @@ fresh_edge = record { asked = 0; sent = 0; state = Live }
 abbrev pub starts_ended : {T : Type 0} → Stage T → Bool
 starts_ended g = has_ending (start_slot g)
 
--- the edges of a node of an expression, from those of its input
+-- whether a node of an expression has put out its ending before it took anything
+abbrev pub begins_ended : {T A : Type 0} → Expr-F T A → Bool
+begins_ended (Items v) = false
+begins_ended (Range a n) = false
+begins_ended (Hub h) = false
+begins_ended (layer.Plain g b) = starts_ended g
+begins_ended (Concat v) = false
+begins_ended (Merge p v) = false
+begins_ended (Zip p v) = false
+begins_ended (Latest p v) = false
+
+-- an edge for each input, with those below it
+abbrev pub fresh_beside : List (List EdgeView) → List EdgeView
+fresh_beside [] = []
+fresh_beside (es ∷ ess) = fresh_edge ∷ (es ++ fresh_beside ess)
+
+-- the edges of a node of an expression, from those of its inputs
 abbrev pub fresh_below : {T : Type 0} → Expr-F T (List EdgeView) → List EdgeView
-fresh_below (Items v) = []
-fresh_below (Range a n) = []
-fresh_below (Hub h) = []
-fresh_below (Plain g b) = closed_if (starts_ended g) (fresh_edge ∷ b.value)
+fresh_below e = closed_if (begins_ended e) (fresh_beside (children e))
 
 -- the edges below the root of a tree that has just begun: where a node has put out its ending, all below it are closed
 abbrev pub fresh_edges : {T : Type 0} → Expr T → List EdgeView
@@ -70,15 +93,25 @@ join_at [] n = 0
 join_at (j ∷ js) zero = j
 join_at (j ∷ js) (suc n) = join_at js n
 
--- the joins of an expression's leaves, from left to right
-abbrev pub joins_here : {T : Type 0} → List ℕ → Expr-F T (List ℕ) → List ℕ
-joins_here js (Items v) = []
-joins_here js (Range a n) = []
-joins_here js (Hub h) = join_at js h.0 ∷ []
-joins_here js (Plain g b) = b.value
+-- the join of a node that reads a hub
+abbrev pub join_here : {T A : Type 0} → List ℕ → Expr-F T A → List ℕ
+join_here js (Items v) = []
+join_here js (Range a n) = []
+join_here js (Hub h) = join_at js h.0 ∷ []
+join_here js (layer.Plain g b) = []
+join_here js (Concat v) = []
+join_here js (Merge p v) = []
+join_here js (Zip p v) = []
+join_here js (Latest p v) = []
 
+-- lists one behind the other
+abbrev pub in_a_row : {A : Type 0} → List (List A) → List A
+in_a_row [] = []
+in_a_row (l ∷ ls) = l ++ in_a_row ls
+
+-- the joins of an expression's leaves, from left to right
 abbrev pub leaf_joins : {T : Type 0} → List ℕ → Expr T → List ℕ
-leaf_joins {T} js = fold-Expr T (List ℕ) (joins_here js)
+leaf_joins {T} js = fold-Expr T (List ℕ) (λ e. join_here js e ++ in_a_row (children e))
 
 -- where they join these hubs now
 abbrev pub new_joins : {T : Type 0} → List (HubState T) → Expr T → List ℕ
@@ -99,4 +132,45 @@ pub record IsBuilt {T : Type 0} (m : Meaning T) (hubs : List (HubState T)) (e : 
   pub alone : new_joins hubs e ≡ [] → IsTreeReadAt any_machine [] t
   pub notes : AllUnrecorded (notes any_machine t)
   pub edges : edges t ≡ fresh_edges e
+  pub balance : IsBalanced any_machine t 0
+
+-- the tree of a fresh plain operator over another one
+pub record IsPlainOver {T : Type 0} (g : Stage T) (below t : Node (AnyNode T)) : Type 0 where
+  pub node : PlainNode T
+  pub row : Inputs (AnyNode T)
+  pub fresh : GivesOperator node g
+  pub state : node.state ≡ plain_start g
+  pub slot : node.slot ≡ start_slot g
+  pub joined : IsJoined below End row
+  pub machine : t.machine ≡ Plain node
+  pub inputs : t.inputs ≡ closed_row_if (plain_ended node) row
+
+-- ---- the inputs of a node
+
+-- where the leaves of these expressions join the hubs now, from left to right
+abbrev pub new_joins_of : {T : Type 0} → List (HubState T) → List (Expr T) → List ℕ
+new_joins_of hubs es = in_a_row (map (new_joins hubs) es)
+
+-- a row of trees that was made for these expressions: what comes in is what they mean, side by side. Nothing went over an edge
+-- yet, and whatever node takes the row, the counts are balanced
+pub record AreBuilt {T : Type 0} (m : Meaning T) (hubs : List (HubState T)) (es : List (Expr T)) (row : Inputs (AnyNode T)) : Type 0 where
+  pub values : (whole : List (Stream T)) (joins : List ℕ) (further : List Note) (at leaf : ℕ) → AreBegun hubs whole → StandAt joins leaf (new_joins_of hubs es) →
+      comes_in any_machine m whole further row at ≡ in_order (map (meant (environment m whole joins further)) es) at leaf
+  pub reads : IsRowReadAt any_machine (counts_of hubs) row
+  pub alone : new_joins_of hubs es ≡ [] → IsRowReadAt any_machine [] row
+  pub notes : AllUnrecorded (notes_of any_machine row)
+  pub edges : edges_in row ≡ fresh_beside (map fresh_edges es)
+  pub sent : sent_over row ≡ replicate (length es) 0
+  pub balance : (n : AnyNode T) (i : ℕ) → IsRowBalanced any_machine n i row
+
+-- the tree of a node of this kind over those of these expressions: what comes out is the operator of what they mean, side by
+-- side, under what the node recorded; the rest is as for the tree of one expression
+pub record IsBuiltOver {T : Type 0} (m : Meaning T) (hubs : List (HubState T)) (kind : SeveralKind) (es : List (Expr T)) (t : Node (AnyNode T)) : Type 0 where
+  pub value : (whole : List (Stream T)) (joins : List ℕ) (further : List Note) (at leaf : ℕ) → AreBegun hubs whole → StandAt joins leaf (new_joins_of hubs es) →
+      comes_out any_machine m whole further t at
+      ≡ option_and_then (λ k. option_and_then (joined m kind k) (in_order (map (meant (environment m whole joins further)) es) (at + 1) leaf)) (slice_get further at)
+  pub reads : IsTreeReadAt any_machine (counts_of hubs) t
+  pub alone : new_joins_of hubs es ≡ [] → IsTreeReadAt any_machine [] t
+  pub notes : AllUnrecorded (notes any_machine t)
+  pub edges : edges t ≡ fresh_beside (map fresh_edges es)
   pub balance : IsBalanced any_machine t 0

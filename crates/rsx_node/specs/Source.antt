@@ -1,5 +1,5 @@
 -- A source of any kind: its meaning is that of its kind.
-use Rattle.std.specs.Prelude.{ℕ, Bool, false, Option, None}
+use Rattle.std.specs.Prelude.{Bool, false, Option, None}
 use Rattle.rsx_types.specs.declared.note.Note.{Note}
 use Rattle.rsx_types.specs.declared.signal.Signal.{Signal}
 use Rattle.rsx_types.specs.Meaning.{Meaning, Allocates}

@@ -1,5 +1,5 @@
 -- A source of any kind keeps the laws of its kind.
-use Rattle.std.specs.Prelude.{◌≡◌, ⊤, ◌<◌, ℕ, true, false, List, Option, Some, None, option_map, refl}
+use Rattle.std.specs.Prelude.{◌≡◌, ⊤, ◌<◌, ℕ, true, false, List, Some, None, option_map, refl}
 use Rattle.std.proofs.Common.{inl, inr, arith}
 use Rattle.rsx_types.specs.declared.note.Note.{Note}
 use Rattle.rsx_types.specs.declared.note.Note.TheVariants.{Nothing}

@@ -4,6 +4,7 @@ ghost use Rattle.std.specs.Prelude.{◌≡◌};
 
 use crate::source_node::SourceNode;
 use rsx_plain::PlainNode;
+use rsx_several::SeveralNode;
 use rsx_sources::{Front, Machine, NotMade, NotTaken, Passed};
 use rsx_types::{NoMemory, Note, Ops, Signal, StreamValue};
 use std::alloc::Global;
@@ -15,18 +16,20 @@ pub enum AnyNode<T> {
     Source(SourceNode<T>),
     /// A plain operator.
     Plain(PlainNode<T>),
+    /// A node of several inputs.
+    Several(SeveralNode<T>),
 }
 
 impl<T: Drop> Machine for AnyNode<T> {
     type Item = T;
 
     ghost use Rattle.std.specs.Prelude.{◌≡◌, true, false, IfOk, IfErr, IsOk, OnOk, OnErr, Some};
-    ghost use Rattle.rsx_types.specs.declared.note.Note.TheVariants.{Nothing};
+    ghost use Rattle.rsx_types.specs.Notes.{note_then};
     ghost use Rattle.rsx_sources.specs.Counts.{CountsIn, CountsOut, CountsStep};
     ghost use Rattle.rsx_sources.specs.Machine.{TakesIn, front_of};
     ghost use Rattle.rsx_sources.specs.Reading.{IsReadOn, IsResidualOf, takes_published};
     ghost use Rattle.rsx_sources.specs.Steps.{IsPopped, IsNotTaken, AllocatesAlike, StaysAlike};
-    ghost use Rattle.rsx_node.specs.Any.{any_comes_out, any_waiting, any_shown, any_takes, any_ended, any_counted, any_wanted, any_popped, any_reads, any_rooms, any_pop_allocates, any_signal_allocates};
+    ghost use Rattle.rsx_node.specs.Any.{any_comes_out, any_waiting, any_shown, any_takes, any_picks, any_rows, any_recording, any_recorded, any_ended, any_done, any_counted, any_wanted, any_popped, any_reads, any_rooms, any_pop_allocates, any_signal_allocates, any_step_allocates};
     ghost use Rattle.rsx_node.specs.Laws.{any_shows, any_drops, any_ends, any_ends_reading, any_done_drops, any_settles, any_ending_waits, any_hungry, any_popped_alike};
     ghost use Rattle.rsx_node.specs.declared.any_node.AnyNode.{AnyNode};
 
@@ -38,17 +41,17 @@ impl<T: Drop> Machine for AnyNode<T> {
 
     ghost takes = { any_takes };
 
-    ghost picks = { λ n i a s. false };
+    ghost picks = { any_picks };
 
-    ghost rows = { λ n a s. false };
+    ghost rows = { any_rows };
 
-    ghost recording = { λ n i. Nothing };
+    ghost recording = { any_recording };
 
-    ghost recorded = { λ n. Nothing };
+    ghost recorded = { any_recorded };
 
     ghost ended = { any_ended };
 
-    ghost done = { λ n i. false };
+    ghost done = { any_done };
 
     ghost counted = { any_counted };
 
@@ -64,13 +67,14 @@ impl<T: Drop> Machine for AnyNode<T> {
 
     ghost signal_allocates = { any_signal_allocates };
 
-    ghost step_allocates = { λ a n. false };
+    ghost step_allocates = { any_step_allocates };
 
     #[inline]
     fn front(&self) -> Option<Front> {
         match self {
             AnyNode::Source(node) => node.front(),
             AnyNode::Plain(node) => node.front(),
+            AnyNode::Several(node) => node.front(),
         }
     }
 
@@ -82,14 +86,16 @@ impl<T: Drop> Machine for AnyNode<T> {
     ) -> Result<Option<Signal<T>>, NoMemory>
         ensures ok { IfOk result (λ s.
             IsPopped (any_comes_out (O.meaning ops.now)) any_popped (any_waiting (O.meaning ops.now) self.old) self.old s self.new) }
-        ensures counts { IfOk result (λ s. CountsOut any_counted any_ended (λ n i. false) self.old s self.new) }
+        ensures recorded { any_recorded self.new ≡ any_recorded self.old }
+        ensures counts { IfOk result (λ s. CountsOut any_counted any_ended any_done self.old s self.new) }
         ensures err { OnErr result (self.new ≡ self.old) }
         ensures memory { any_pop_allocates (O.allocates ops.now) self.old ≡ false → IsOk result }
-        ensures alike { StaysAlike any_reads any_pop_allocates any_signal_allocates (λ a n. false) self.old self.new }
+        ensures alike { StaysAlike any_reads any_pop_allocates any_signal_allocates any_step_allocates self.old self.new }
     {
         match self {
             AnyNode::Source(node) => node.pop_front(alloc, ops),
             AnyNode::Plain(node) => node.pop_front(alloc, ops),
+            AnyNode::Several(node) => node.pop_front(alloc, ops),
         }
     }
 
@@ -99,6 +105,7 @@ impl<T: Drop> Machine for AnyNode<T> {
         match self {
             AnyNode::Source(node) => node.put_back(signal),
             AnyNode::Plain(node) => node.put_back(signal),
+            AnyNode::Several(node) => node.put_back(signal),
         }
     }
 
@@ -107,6 +114,7 @@ impl<T: Drop> Machine for AnyNode<T> {
         match self {
             AnyNode::Source(node) => node.has_ended(),
             AnyNode::Plain(node) => node.has_ended(),
+            AnyNode::Several(node) => node.has_ended(),
         }
     }
 
@@ -115,6 +123,7 @@ impl<T: Drop> Machine for AnyNode<T> {
         match self {
             AnyNode::Source(node) => node.can_take(input, front),
             AnyNode::Plain(node) => node.can_take(input, front),
+            AnyNode::Several(node) => node.can_take(input, front),
         }
     }
 
@@ -128,15 +137,17 @@ impl<T: Drop> Machine for AnyNode<T> {
     ) -> Result<(), NotTaken<T>>
         ensures ok { OnOk result (TakesIn (any_comes_out (O.meaning ops.now)) self.old input signal self.new) }
         ensures enabled { OnOk result (any_takes self.old input (front_of signal) ≡ true) }
-        ensures counts { OnOk result (CountsIn any_counted any_ended (λ n i. false) self.old input signal self.new) }
+        ensures recorded { any_recorded self.new ≡ any_recorded self.old }
+        ensures counts { OnOk result (CountsIn any_counted any_ended any_done self.old input signal self.new) }
         ensures err { IfErr result (IsNotTaken (any_takes self.old input (front_of signal)) signal) }
         ensures memory { any_signal_allocates (O.allocates ops.now) self.old ≡ false → IfErr result (λ e. e ≡ NotTaken.Busy signal) }
-        ensures alike { StaysAlike any_reads any_pop_allocates any_signal_allocates (λ a n. false) self.old self.new }
+        ensures alike { StaysAlike any_reads any_pop_allocates any_signal_allocates any_step_allocates self.old self.new }
         ensures same { OnErr result (self.new ≡ self.old) }
     {
         match self {
             AnyNode::Source(_) => Err(NotTaken::Busy(signal)),
             AnyNode::Plain(node) => node.on_signal(alloc, ops, input, signal),
+            AnyNode::Several(node) => node.on_signal(alloc, ops, input, signal),
         }
     }
 
@@ -145,13 +156,14 @@ impl<T: Drop> Machine for AnyNode<T> {
         match self {
             AnyNode::Source(node) => node.pop_item(alloc, ops),
             AnyNode::Plain(node) => node.pop_item(alloc, ops),
+            AnyNode::Several(node) => node.pop_item(alloc, ops),
         }
     }
 
     #[inline(always)]
     fn pass<O: Ops<Item = T>>(&mut self, alloc: Global, ops: &O, input: u64, item: T) -> Passed<T> {
         match self {
-            AnyNode::Source(_) => Passed::Declined(item),
+            AnyNode::Source(_) | AnyNode::Several(_) => Passed::Declined(item),
             AnyNode::Plain(node) => node.pass(alloc, ops, input, item),
         }
     }
@@ -160,6 +172,7 @@ impl<T: Drop> Machine for AnyNode<T> {
         match self {
             AnyNode::Source(node) => node.hub(),
             AnyNode::Plain(node) => node.hub(),
+            AnyNode::Several(node) => node.hub(),
         }
     }
 
@@ -167,30 +180,41 @@ impl<T: Drop> Machine for AnyNode<T> {
         match self {
             AnyNode::Source(node) => node.has_room(),
             AnyNode::Plain(node) => node.has_room(),
+            AnyNode::Several(node) => node.has_room(),
         }
     }
 
     fn on_published(&mut self, signal: Signal<T>) -> Result<(), Signal<T>>
         ensures ok { OnOk result (IsReadOn any_comes_out any_reads self.old signal self.new) }
         ensures enabled { OnOk result (takes_published (any_reads self.old) (any_rooms self.old) signal ≡ true) }
-        ensures counts { OnOk result (CountsStep any_counted any_ended (λ n i. false) self.old self.new) }
+        ensures recorded { any_recorded self.new ≡ any_recorded self.old }
+        ensures counts { OnOk result (CountsStep any_counted any_ended any_done self.old self.new) }
         ensures refused { OnErr result (takes_published (any_reads self.old) (any_rooms self.old) signal ≡ false) }
         ensures err { IfErr result (λ s. s ≡ signal) }
-        ensures alike { AllocatesAlike any_pop_allocates any_signal_allocates (λ a n. false) self.old self.new }
+        ensures alike { AllocatesAlike any_pop_allocates any_signal_allocates any_step_allocates self.old self.new }
         ensures same { OnErr result (self.new ≡ self.old) }
     {
         match self {
             AnyNode::Source(node) => node.on_published(signal),
             AnyNode::Plain(node) => node.on_published(signal),
+            AnyNode::Several(node) => node.on_published(signal),
         }
     }
 
+    #[inline]
     fn can_pick(&self, input: u64, asked: u64, sent: u64) -> bool {
-        false
+        match self {
+            AnyNode::Source(_) | AnyNode::Plain(_) => false,
+            AnyNode::Several(node) => node.can_pick(input, asked, sent),
+        }
     }
 
+    #[inline]
     fn next_pick(&self, asked: u64, sent: u64) -> Option<u64> {
-        None
+        match self {
+            AnyNode::Source(_) | AnyNode::Plain(_) => None,
+            AnyNode::Several(node) => node.next_pick(asked, sent),
+        }
     }
 
     fn on_pick<O: Ops<Item = T>>(
@@ -201,11 +225,18 @@ impl<T: Drop> Machine for AnyNode<T> {
         asked: u64,
         sent: u64,
     ) -> Result<(), NotMade> {
-        Err(NotMade::NotEnabled)
+        match self {
+            AnyNode::Source(_) | AnyNode::Plain(_) => Err(NotMade::NotEnabled),
+            AnyNode::Several(node) => node.on_pick(alloc, ops, input, asked, sent),
+        }
     }
 
+    #[inline]
     fn can_row(&self, asked: u64, sent: u64) -> bool {
-        false
+        match self {
+            AnyNode::Source(_) | AnyNode::Plain(_) => false,
+            AnyNode::Several(node) => node.can_row(asked, sent),
+        }
     }
 
     fn on_row<O: Ops<Item = T>>(
@@ -215,7 +246,10 @@ impl<T: Drop> Machine for AnyNode<T> {
         asked: u64,
         sent: u64,
     ) -> Result<(), NotMade> {
-        Err(NotMade::NotEnabled)
+        match self {
+            AnyNode::Source(_) | AnyNode::Plain(_) => Err(NotMade::NotEnabled),
+            AnyNode::Several(node) => node.on_row(alloc, ops, asked, sent),
+        }
     }
 
     #[inline]
@@ -223,11 +257,15 @@ impl<T: Drop> Machine for AnyNode<T> {
         match self {
             AnyNode::Source(node) => node.want(input, asked, sent),
             AnyNode::Plain(node) => node.want(input, asked, sent),
+            AnyNode::Several(node) => node.want(input, asked, sent),
         }
     }
 
     fn note(&self, alloc: Global) -> Result<Note, NoMemory> {
-        Ok(Note::Nothing)
+        match self {
+            AnyNode::Source(_) | AnyNode::Plain(_) => Ok(Note::Nothing),
+            AnyNode::Several(node) => node.note(alloc),
+        }
     }
 
     fn residual<O: Ops<Item = T>>(
@@ -238,11 +276,12 @@ impl<T: Drop> Machine for AnyNode<T> {
         incoming: &[StreamValue<T>],
     ) -> Result<StreamValue<T>, NoMemory>
         ensures { IfOk result (λ v.
-            IsResidualOf (any_comes_out (O.meaning ops.now)) (λ n. Nothing) any_reads self.now inboxes.now incoming.now v) }
+            IsResidualOf (any_comes_out (O.meaning ops.now)) any_recorded any_reads self.now inboxes.now incoming.now v) }
     {
         match self {
             AnyNode::Source(node) => node.residual(alloc, ops, inboxes, incoming),
             AnyNode::Plain(node) => node.residual(alloc, ops, inboxes, incoming),
+            AnyNode::Several(node) => node.residual(alloc, ops, inboxes, incoming),
         }
     }
 

@@ -85,27 +85,29 @@ length_notes (More' e n p below q beside) =
 unchosen_row : {T : Type 0} (t : Inputs (AnyNode T)) (before behind : List Note) → IsUnchosenIn any_machine (before ++ (map unchosen (notes_in any_machine t) ++ behind)) t (length before)
 unchosen_row End before behind = tt
 unchosen_row {T} (More' e n p below q beside) before behind =
+    let k : Note = unchosen (any_machine.recorded n) in
     let b : List Note = map unchosen (notes_in any_machine below) in
     let c : List Note = map unchosen (notes_in any_machine beside) in
     let all : map unchosen (notes_in any_machine below ++ notes_in any_machine beside) ≡ b ++ c = map-append unchosen (notes_in any_machine below) (notes_in any_machine beside) in
-    let first : List Note = before ++ Nothing ∷ [] in
-    let longer : length first ≡ length before + 1 = length-append before (Nothing ∷ []) in
-    let through : length (first ++ b) ≡ length before + 1 + size below = length-append first b ∙ (ap (λ k. k + length b) longer ∙ ap (λ k. length before + 1 + k) (unchosen_notes (notes_in any_machine below) ∙ length_notes below)) in
-    let whole : before ++ (Nothing ∷ (map unchosen (notes_in any_machine below ++ notes_in any_machine beside) ++ behind)) ≡ first ++ (b ++ (c ++ behind)) =
-    ap (λ l. before ++ (Nothing ∷ (l ++ behind))) all ∙ (ap (λ l. before ++ (Nothing ∷ l)) (append_assoc b c behind) ∙ sym (append_assoc before (Nothing ∷ []) (b ++ (c ++ behind)))) in
+    let first : List Note = before ++ k ∷ [] in
+    let longer : length first ≡ length before + 1 = length-append before (k ∷ []) in
+    let through : length (first ++ b) ≡ length before + 1 + size below = length-append first b ∙ (ap (λ i. i + length b) longer ∙ ap (λ i. length before + 1 + i) (unchosen_notes (notes_in any_machine below) ∙ length_notes below)) in
+    let whole : before ++ (k ∷ (map unchosen (notes_in any_machine below ++ notes_in any_machine beside) ++ behind)) ≡ first ++ (b ++ (c ++ behind)) =
+    ap (λ l. before ++ (k ∷ (l ++ behind))) all ∙ (ap (λ l. before ++ (k ∷ l)) (append_assoc b c behind) ∙ sym (append_assoc before (k ∷ []) (b ++ (c ++ behind)))) in
     let P : List Note → Type 0 = λ l. IsUnchosenIn any_machine l below (length before + 1) in
     let Q : List Note → Type 0 = λ l. IsUnchosenIn any_machine l beside (length before + 1 + size below) in
-    let A : ℕ → Type 0 = λ k. IsUnchosenIn any_machine (first ++ (b ++ (c ++ behind))) below k in
-    let B : ℕ → Type 0 = λ k. IsUnchosenIn any_machine ((first ++ b) ++ (c ++ behind)) beside k in
+    let A : ℕ → Type 0 = λ i. IsUnchosenIn any_machine (first ++ (b ++ (c ++ behind))) below i in
+    let B : ℕ → Type 0 = λ i. IsUnchosenIn any_machine ((first ++ b) ++ (c ++ behind)) beside i in
     let under : IsUnchosenIn any_machine (first ++ (b ++ (c ++ behind))) below (length before + 1) = subst A longer (unchosen_row below first (c ++ behind)) in
     let side : IsUnchosenIn any_machine ((first ++ b) ++ (c ++ behind)) beside (length before + 1 + size below) = subst B through (unchosen_row beside (first ++ b) behind) in
-    (get_behind before (map unchosen (notes_in any_machine below ++ notes_in any_machine beside) ++ behind) Nothing, subst P (sym whole) under, subst Q (sym whole) (subst Q (append_assoc first b (c ++ behind)) side))
+    (get_behind before (map unchosen (notes_in any_machine below ++ notes_in any_machine beside) ++ behind) k, subst P (sym whole) under, subst Q (sym whole) (subst Q (append_assoc first b (c ++ behind)) side))
 
 pub unchosen_tree : {T : Type 0} (t : AnyTree T) → IsUnchosen any_machine (map unchosen (notes_of t)) t 0
 unchosen_tree {T} t =
+    let k : Note = unchosen (any_machine.recorded t.machine) in
     let ns : List Note = map unchosen (notes_in any_machine t.inputs) in
-    let P : List Note → Type 0 = λ l. IsUnchosenIn any_machine (Nothing ∷ l) t.inputs 1 in
-    (refl, subst P (append-nil ns) (unchosen_row t.inputs (Nothing ∷ []) []))
+    let P : List Note → Type 0 = λ l. IsUnchosenIn any_machine (k ∷ l) t.inputs 1 in
+    (refl, subst P (append-nil ns) (unchosen_row t.inputs (k ∷ []) []))
 
 pub note_then-unchosen : (n : Note) → note_then n (unchosen n) ≡ n
 note_then-unchosen Nothing = refl

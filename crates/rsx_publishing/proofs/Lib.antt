@@ -1,3 +1,4 @@
 pub mod Accepting
 pub mod Handing
+pub mod Ready
 pub mod Taken

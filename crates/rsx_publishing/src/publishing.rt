@@ -59,7 +59,8 @@ pub fn can_accept<T: Drop>(number: u64, hub: &Hub<T>, subscriptions: &[Subscript
     match hub.front() {
         None => false,
         Some(Front::Item) => have_room(number, subscriptions),
-        Some(Front::Completion) | Some(Front::Failure(_)) => true,
+        Some(Front::Completion) => true,
+        Some(Front::Failure(_)) => true,
     }
 }
 

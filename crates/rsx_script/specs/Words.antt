@@ -1,5 +1,5 @@
 -- The words of a line, as its bytes.
-use Rattle.std.specs.Prelude.{◌≡◌, ℕ, ◌-◌, Bool, true, ◌||◌, ◌==◌, not, List, [], ◌∷◌, length, drop, is_some, None}
+use Rattle.std.specs.Prelude.{◌≡◌, ℕ, ◌-◌, Bool, true, false, ◌||◌, ◌==◌, not, List, [], ◌∷◌, length, drop, is_some, None}
 use Rattle.std.specs.List.{before_first, position, position_or_len}
 use Rattle.std.specs.Char.{is_ascii_graphic}
 use Rattle.rsx_script.specs.declared.words.Word.{Word}
@@ -35,3 +35,8 @@ IsWord bytes End rest = (bytes ≡ []) × (rest ≡ [])
 -- the word with which these bytes begin has a byte that no word has
 abbrev pub HasStrange : List ℕ → Type 0
 HasStrange bytes = is_some (position is_strange (before_first is_separator bytes)) ≡ true
+
+-- whether the first of these bytes is `(`
+abbrev pub begins_open : List ℕ → Bool
+begins_open [] = false
+begins_open (b ∷ bs) = b == 40

@@ -99,7 +99,9 @@ fn hub_kind(words: &mut Words<'_>) -> Result<HubKind, LineRefusal> {
 }
 
 /// The number of a hub.
-fn hub(words: &mut Words<'_>) -> Result<HubId, LineRefusal> {
+fn hub(words: &mut Words<'_>) -> Result<HubId, LineRefusal>
+    ensures { length words.new.rest.now ≤ length words.old.rest.now }
+{
     Ok(HubId(words.number()?))
 }
 
@@ -111,18 +113,50 @@ fn subscription(words: &mut Words<'_>) -> Result<SubId, LineRefusal> {
 /// An expression in its parentheses. Each one inside begins with a further parenthesis, so a line's length bounds how
 /// deep this goes.
 #[cycle(expression)]
-fn expression(alloc: Global, words: &mut Words<'_>) -> Result<Expr<Val>, LineRefusal> {
+fn expression(alloc: Global, words: &mut Words<'_>) -> Result<Expr<Val>, LineRefusal>
+    ensures { length words.new.rest.now ≤ length words.old.rest.now }
+{
     words.open()?;
     let (column, name) = words.name()?;
     match name {
         "items" => Ok(Expr::Items(items(alloc, words)?)),
         "range" => range(words),
         "hub" => reading(words),
+        "concat" => Ok(Expr::Concat(inputs(alloc, words)?)),
+        "merge" => {
+            let prefetch = words.number()?;
+            Ok(Expr::Merge(prefetch, inputs(alloc, words)?))
+        }
+        "zip" => {
+            let prefetch = words.number()?;
+            Ok(Expr::Zip(prefetch, inputs(alloc, words)?))
+        }
+        "combineLatest" => {
+            let prefetch = words.number()?;
+            Ok(Expr::Latest(prefetch, inputs(alloc, words)?))
+        }
         _ => {
             let stage = stage(column, name, words)?;
             plain(alloc, stage, words)
         }
     }
+}
+
+/// One expression or more, up to the parenthesis that closes the list. An expression takes at least a byte of the line.
+#[cycle(expression)]
+fn inputs(alloc: Global, words: &mut Words<'_>) -> Result<Vec<Expr<Val>>, LineRefusal>
+    ensures { length words.new.rest.now ≤ length words.old.rest.now }
+{
+    let mut inputs = Vec::new(alloc);
+    for _ in 0..MOST_BYTES {
+        let input = expression(alloc, words)?;
+        inputs.push(input).map_err(|_| LineRefusal::NoMemory)?;
+        if !words.is_open() {
+            break;
+        }
+    }
+    words.close()?;
+    Ok(inputs)
 }
 
 /// The plain operator with this name, which stands at this column, with its functions and numbers.
@@ -145,11 +179,9 @@ fn stage(column: u64, name: &str, words: &mut Words<'_>) -> Result<Stage<Val>, L
 
 /// A plain operator over the expression that follows.
 #[cycle(expression)]
-fn plain(
-    alloc: Global,
-    stage: Stage<Val>,
-    words: &mut Words<'_>,
-) -> Result<Expr<Val>, LineRefusal> {
+fn plain(alloc: Global, stage: Stage<Val>, words: &mut Words<'_>) -> Result<Expr<Val>, LineRefusal>
+    ensures { length words.new.rest.now ≤ length words.old.rest.now }
+{
     let input = expression(alloc, words)?;
     words.close()?;
     match Box::new(alloc, input) {
@@ -159,7 +191,9 @@ fn plain(
 }
 
 /// The first number and the count of a range.
-fn range(words: &mut Words<'_>) -> Result<Expr<Val>, LineRefusal> {
+fn range(words: &mut Words<'_>) -> Result<Expr<Val>, LineRefusal>
+    ensures { length words.new.rest.now ≤ length words.old.rest.now }
+{
     let first = words.number()?;
     let count = words.number()?;
     words.close()?;
@@ -167,14 +201,18 @@ fn range(words: &mut Words<'_>) -> Result<Expr<Val>, LineRefusal> {
 }
 
 /// The hub that a leaf reads.
-fn reading(words: &mut Words<'_>) -> Result<Expr<Val>, LineRefusal> {
+fn reading(words: &mut Words<'_>) -> Result<Expr<Val>, LineRefusal>
+    ensures { length words.new.rest.now ≤ length words.old.rest.now }
+{
     let hub = hub(words)?;
     words.close()?;
     Ok(Expr::Hub(hub))
 }
 
 /// The numbers up to the parenthesis that closes the list.
-fn items(alloc: Global, words: &mut Words<'_>) -> Result<Vec<Val>, LineRefusal> {
+fn items(alloc: Global, words: &mut Words<'_>) -> Result<Vec<Val>, LineRefusal>
+    ensures { length words.new.rest.now ≤ length words.old.rest.now }
+{
     let mut items = Vec::new(alloc);
     for _ in 0..MOST_BYTES {
         match words.next()? {

@@ -5,7 +5,7 @@
 
 ghost use Rattle.std.specs.Prelude.{◌≡◌, ◌≢◌, ◌+◌, ◌-◌, ◌^◌, ◌≤◌, ◌<◌, [], ◌∷◌, length, slice_index, IfSome, IfOk, IfErr, IsSomeAnd, OnOk, None};
 ghost use Rattle.std.specs.List.{position, position_or_len};
-ghost use Rattle.rsx_script.specs.Words.{is_written, is_separator, is_strange, from_word, column_of, IsWord, HasStrange};
+ghost use Rattle.rsx_script.specs.Words.{is_written, is_separator, is_strange, begins_open, from_word, column_of, IsWord, HasStrange};
 
 use std::error::Error;
 use std::str::FromStr;
@@ -205,6 +205,17 @@ impl<'a> Words<'a> {
             }
             None => Err(LineRefusal::Syntax(self.column())),
         }
+    }
+
+    /// Whether the next word is `(`. It stays the next.
+    pub fn is_open(&mut self) -> bool
+        ensures is { result ≡ begins_open (from_word self.old.rest.now) }
+        ensures rest { self.new.rest.now ≡ from_word self.old.rest.now }
+        ensures end { self.new.end ≡ self.old.end }
+        ensures most { length self.new.rest.now ≤ length self.old.rest.now }
+    {
+        self.skip_spaces();
+        matches!(self.rest, [b'(', ..])
     }
 
     /// The next word, which is `(`.

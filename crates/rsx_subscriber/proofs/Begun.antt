@@ -10,7 +10,8 @@ use Rattle.rsx_tree.specs.Edges.{edge_view}
 use Rattle.rsx_pipe.specs.Part.{PartStands, all_edges}
 use Rattle.rsx_tree.specs.declared.edge.EdgeState.TheVariants.{Live, Closed}
 use Rattle.rsx_subscriber.proofs.Moves.{live_test}
-use Rattle.rsx_subscriber.proofs.Values.{fresh_count, new_joins_count, taken_length}
+use Rattle.rsx_node.proofs.Rows.{length_fresh}
+use Rattle.rsx_subscriber.proofs.Values.{new_joins_count, taken_length}
 use Rattle.rsx_subscriber.specs.Begun.{IsFresh}
 use Rattle.rsx_subscriber.specs.Past.{subscribed, IsLive}
 use Rattle.rsx_subscriber.specs.Standing.{standing}
@@ -51,7 +52,7 @@ stands_fresh {T} m hubs published e sub ok taken b k q f =
       requested = f.asked;
       delivered = f.delivered;
       admitted = let P : ℕ → Type 0 = λ n. refusal n e ≡ None in subst P (taken_length hubs published taken) ok;
-      shape = ap length k ∙ fresh_count e;
+      shape = ap length k ∙ length_fresh e;
       joined = new_joins_count hubs e;
       closed = λ dead. absurd (dead live);
     }

@@ -3,17 +3,18 @@ use Rattle.std.proofs.Common.{◌≡◌, ℕ, ℤ, zero, suc, ◌+◌, ◌-◌, 
 use Rattle.std.proofs.lemmas.Bool.Decides.{nat_tests}
 use Rattle.std.proofs.lemmas.List.{length-map}
 use Rattle.rsx_model.specs.declared.check.TheConstants.{MOST_DEPTH, MOST_NODES}
-use Rattle.rsx_model.proofs.Unfold.{by_variant, leaves_Items, leaves_Range, leaves_Hub, leaves_Plain, nodes_Items, nodes_Range, nodes_Hub, nodes_Plain, first_fault_Items, first_fault_Range, first_fault_Hub, first_fault_Plain, fault_below, hub_there, sound}
-use Rattle.rsx_model.specs.Check.{refusal, first_fault, or_else, unless, stage_fits}
-use Rattle.rsx_model.specs.Shape.{nodes, depth, leaves}
-use Rattle.rsx_model.specs.declared.check.BadExpr.TheVariants.{Depth, Nodes, Number, Hub as NoSuchHub}
+use Rattle.rsx_model.proofs.Unfold.{Each, by_children, fault_out, or_none, sound}
+use Rattle.rsx_model.specs.Check.{refusal, first_fault, first_of, own_fault, or_else, unless}
+use Rattle.rsx_model.specs.Shape.{children, nodes, depth, leaves}
+use Rattle.rsx_model.specs.declared.check.BadExpr.TheVariants.{Depth, Nodes, Hub as NoSuchHub}
 use Rattle.rsx_model.specs.declared.expr.Expr.{Expr}
-use Rattle.rsx_model.specs.declared.expr.Expr.TheFolds.{fold_out-Expr}
-use Rattle.rsx_model.specs.declared.expr.Expr.TheVariants.{Items as ItemsOf, Range as RangeOf, Hub as HubOf}
-use Rattle.rsx_model.specs.declared.expr.Expr.TheViews.{Plain as PlainOf, outs-Items, outs-Range, outs-Hub, outs-Plain}
+use Rattle.rsx_model.specs.declared.expr.Expr.TheOpen.{Expr-F}
+use Rattle.rsx_model.specs.declared.expr.Expr.TheOpen as layer
+use Rattle.rsx_model.specs.declared.expr.Expr.TheViews.{out-Expr}
 use Rattle.rsx_pipe.proofs.Trees.{notes_then-unchosen, unchosen_notes, unchosen_tree}
 use Rattle.rsx_hub.specs.Hub.{HubState}
-use Rattle.rsx_node.specs.Built.{fresh_edge, fresh_edges, join_at, joins_now, new_joins, starts_ended}
+use Rattle.rsx_node.specs.Built.{joins_now, new_joins}
+use Rattle.rsx_node.proofs.Rows.{length_joins}
 use Rattle.rsx_tree.specs.Edges.{edge_view, EdgeView, asked_up_to, changed_at, closed_if, closed_view, passed}
 use Rattle.rsx_pipe.specs.Output.{values_then}
 use Rattle.rsx_pipe.specs.Published.{AreTaken}
@@ -96,32 +97,39 @@ below_more h n k l m = by_test (nat_lt h k) (less h k (omega (arith, l, m)))
     by_test true e = refl
     by_test false e = cc
 
+-- a node with no fault of its own has none over more hubs
+own_more : {T A : Type 0} (n k : ℕ) → n ≤ k → (x : Expr-F T A) → own_fault n x ≡ None → own_fault k x ≡ None
+own_more n k more (layer.Items v) h = h
+own_more n k more (layer.Range a i) h = h
+own_more n k more (layer.Hub i) h = below_more i.0 n k (known i.0 n h) more
+  where
+    known : (i n : ℕ) → unless (nat_lt i n) NoSuchHub ≡ None → i < n
+    known i n e = grind arith
+own_more n k more (layer.Plain g b) h = h
+own_more n k more (layer.Concat v) h = h
+own_more n k more (layer.Merge p v) h = h
+own_more n k more (layer.Zip p v) h = h
+own_more n k more (layer.Latest p v) h = h
+
+all_faultless : {T : Type 0} (n k : ℕ) (es : List (Expr T)) → Each (λ e. first_fault n e ≡ None → first_fault k e ≡ None) es → first_of (map (first_fault n) es) ≡ None → first_of (map (first_fault k) es) ≡ None
+all_faultless n k [] each h = refl
+all_faultless n k (e ∷ es) each h =
+    let both = or_none (first_fault n e) (first_of (map (first_fault n) es)) h in
+    ap (λ o. or_else o (first_of (map (first_fault k) es))) (each.0 both.0) ∙ all_faultless n k es each.1 both.1
+
 same_fault : {T : Type 0} (n k : ℕ) → n ≤ k → (e : Expr T) → first_fault n e ≡ None → first_fault k e ≡ None
-same_fault {T} n k more =
-    by_variant (λ e. first_fault n e ≡ None → first_fault k e ≡ None) (λ v h. first_fault_Items k v ∙ (sym (first_fault_Items n v) ∙ h)) (λ a i h. first_fault_Range T k a i ∙ (sym (first_fault_Range T n a i) ∙ h)) (λ i h. first_fault_Hub T k i ∙ below_more i.0 n k (hub_there T n i h) more) (λ g b i h.
-    first_fault_Plain k g b ∙ (ap (or_else (unless (stage_fits g) Number)) (i (fault_below n g b h) ∙ sym (fault_below n g b h)) ∙ (sym (first_fault_Plain n g b) ∙ h)))
+same_fault {T} n k more = by_children (λ e. first_fault n e ≡ None → first_fault k e ≡ None) (λ e each h.
+    let cs = children (out-Expr T e) in
+    let both = or_none (own_fault n (out-Expr T e)) (first_of (map (first_fault n) cs)) (sym (fault_out n e) ∙ h) in
+    fault_out k e ∙ (ap (λ o. or_else o (first_of (map (first_fault k) cs))) (own_more n k more (out-Expr T e) both.0) ∙ all_faultless n k cs each both.1))
 
 pub refusal_more : {T : Type 0} (n k : ℕ) (e : Expr T) → n ≤ k → refusal n e ≡ None → refusal k e ≡ None
 refusal_more n k e more h =
     let fault = (sound n e h).fault in
     ap (λ f. or_else (unless (nat_le (depth e) MOST_DEPTH) Depth) (or_else (unless (nat_le (nodes e) MOST_NODES) Nodes) f)) (same_fault n k more e fault ∙ sym fault) ∙ h
 
-new_joins_Items : {T : Type 0} (hubs : List (HubState T)) (v : Vec T Global) → new_joins hubs (ItemsOf v) ≡ []
-new_joins_Items {T} hubs v = rw (fold_out-Expr, outs-Items) refl
-
-new_joins_Range : {T : Type 0} (hubs : List (HubState T)) (a : ℤ) (n : ℕ) → new_joins hubs (RangeOf a n) ≡ []
-new_joins_Range {T} hubs a n = rw (fold_out-Expr, outs-Range) refl
-
-new_joins_Hub : {T : Type 0} (hubs : List (HubState T)) (h : HubId) → new_joins hubs (HubOf h) ≡ join_at (joins_now hubs) h.0 ∷ []
-new_joins_Hub {T} hubs h = rw (fold_out-Expr, outs-Hub) refl
-
-new_joins_Plain : {T : Type 0} (hubs : List (HubState T)) (g : Stage T) (b : Box (Expr T) Global) → new_joins hubs (PlainOf g b) ≡ new_joins hubs b.value
-new_joins_Plain {T} hubs g b = rw (fold_out-Expr, outs-Plain) refl
-
 pub new_joins_count : {T : Type 0} (hubs : List (HubState T)) (e : Expr T) → length (new_joins hubs e) ≡ leaves e
-new_joins_count {T} hubs =
-    by_variant (λ e. length (new_joins hubs e) ≡ leaves e) (λ v. ap length (new_joins_Items hubs v) ∙ sym (leaves_Items v)) (λ a n. ap length (new_joins_Range hubs a n) ∙ sym (leaves_Range T a n)) (λ h. ap length (new_joins_Hub hubs h) ∙ sym (leaves_Hub T h)) (λ g b k.
-    ap length (new_joins_Plain hubs g b) ∙ (k ∙ sym (leaves_Plain g b)))
+new_joins_count hubs e = length_joins (joins_now hubs) e
 
 pub taken_length : {T : Type 0} (hubs : List (HubState T)) (published : List (Stream T)) → AreTaken hubs published → length hubs ≡ length published
 taken_length [] [] k = refl
@@ -134,23 +142,6 @@ taken_length (h ∷ hs) (v ∷ vs) k = ap suc (taken_length hs vs k.1)
 closed_if_length : (b : Bool) (es : List EdgeView) → length (closed_if b es) ≡ length es
 closed_if_length true es = length-map es closed_view
 closed_if_length false es = refl
-
-fresh_Items : {T : Type 0} (v : Vec T Global) → fresh_edges (ItemsOf v) ≡ []
-fresh_Items {T} v = rw (fold_out-Expr, outs-Items) refl
-
-fresh_Range : (T : Type 0) (a : ℤ) (n : ℕ) → fresh_edges {T = T} (RangeOf a n) ≡ []
-fresh_Range T a n = rw (fold_out-Expr, outs-Range) refl
-
-fresh_Hub : (T : Type 0) (h : HubId) → fresh_edges {T = T} (HubOf h) ≡ []
-fresh_Hub T h = rw (fold_out-Expr, outs-Hub) refl
-
-fresh_Plain : {T : Type 0} (g : Stage T) (b : Box (Expr T) Global) → fresh_edges (PlainOf g b) ≡ closed_if (starts_ended g) (fresh_edge ∷ fresh_edges b.value)
-fresh_Plain {T} g b = rw (fold_out-Expr, outs-Plain) refl
-
-pub fresh_count : {T : Type 0} (e : Expr T) → suc (length (fresh_edges e)) ≡ nodes e
-fresh_count {T} =
-    by_variant (λ e. suc (length (fresh_edges e)) ≡ nodes e) (λ v. ap (λ es. suc (length es)) (fresh_Items v) ∙ sym (nodes_Items v)) (λ a n. ap (λ es. suc (length es)) (fresh_Range T a n) ∙ sym (nodes_Range T a n)) (λ h. ap (λ es. suc (length es)) (fresh_Hub T h) ∙ sym (nodes_Hub T h)) (λ g b k.
-    ap (λ es. suc (length es)) (fresh_Plain g b) ∙ (ap suc (closed_if_length (starts_ended g) (fresh_edge ∷ fresh_edges b.value)) ∙ (ap suc k ∙ omega (arith, nodes_Plain g b))))
 
 -- a tree recorded a note for each of its edges and one for its root
 row_notes : {T : Type 0} (t : Inputs (AnyNode T)) → length (notes_in any_machine t) ≡ length (edges_in t)

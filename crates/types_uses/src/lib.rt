@@ -8,4 +8,6 @@ mod demonstration;
 #[cfg(test)]
 mod evaluator;
 #[cfg(test)]
+mod several;
+#[cfg(test)]
 mod words;

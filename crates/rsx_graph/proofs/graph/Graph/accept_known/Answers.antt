@@ -1,6 +1,7 @@
-use Rattle.std.proofs.Common.{◌∙◌, Bool, ap, length, refl, subst, sym, true}
+use Rattle.std.proofs.Common.{◌≡◌, ◌∙◌, Bool, ap, arith, length, refl, subst, sym, true}
+use Rattle.std.specs.Vec.{with_items}
 use Rattle.rsx_sources.specs.Steps.{IsNotMade}
-use Rattle.std.proofs.lemmas.List.{with_items_is}
+use Rattle.std.proofs.lemmas.List.{length-set, with_items_is}
 use Rattle.rsx_graph.specs.InGraph.{state_of}
 use Rattle.rsx_graph.proofs.Graphs.{found}
 use Rattle.rsx_graph.proofs.Publishes.{accept_effect, accept_same, accepted_stands, accepts_there, handed_length}
@@ -46,3 +47,17 @@ returns-in-Err-clause-same g c =
     let as_long = ap length e.1 ∙ c.deref_mut.ensures.len in
     rw (with_items_is c.args.self.now.subscriptions c.accept.new.subscriptions as_long)
     (accept_same i (state_of c.args.self.now) c.index_mut.result.now c.accept.new.hub c.deref_mut.result.now c.accept.new.subscriptions lt here e.0 c.deref_mut.ensures.value e.1)
+
+pub invariant_of-self-clause-few : goal.invariant_of-self-clause-few
+invariant_of-self-clause-few g c =
+    let before = c.args.self.now.subscriptions in
+    let after = with_items before c.accept.new.subscriptions in
+    let long : length after.items ≡ length before.items = sym after.ok.0 ∙ before.ok.0 in
+    let few = c.args.self.now.few in
+    omega (arith, long, few)
+
+pub invariant_of-self-clause-few_hubs : goal.invariant_of-self-clause-few_hubs
+invariant_of-self-clause-few_hubs g c =
+    let long = length-set c.args.self.now.hubs.items c.args.hub.0 c.accept.new.hub in
+    let few = c.args.self.now.few_hubs in
+    omega (arith, long, few)

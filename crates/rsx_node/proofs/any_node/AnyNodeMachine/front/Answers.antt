@@ -5,3 +5,6 @@ returns-in-Source g c = record { shown = rw c.in-Source.is c.front.ensures.shown
 
 pub returns-in-Plain : goal.returns-in-Plain
 returns-in-Plain g c = record { shown = rw c.in-Plain.is c.front-in-Plain.ensures.shown; first = λ m. rw c.in-Plain.is (c.front-in-Plain.ensures.first m) }
+
+pub returns-in-Several : goal.returns-in-Several
+returns-in-Several g c = record { shown = rw c.in-Several.is c.front-in-Several.ensures.shown; first = λ m. rw c.in-Several.is (c.front-in-Several.ensures.first m) }

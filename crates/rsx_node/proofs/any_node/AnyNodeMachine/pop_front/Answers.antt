@@ -1,7 +1,15 @@
 use Rattle.std.proofs.lemmas.Result.{IfOk-weaker}
-use Rattle.rsx_node.proofs.Dispatch.{popped_source}
+use Rattle.rsx_node.proofs.Dispatch.{popped_source, popped_several, counted_several}
 use Rattle.rsx_node.proofs.any_node.AnyNodeMachine.pop_front.Goals as goal
 
 pub returns-in-Source-clause-ok : goal.returns-in-Source-clause-ok
 returns-in-Source-clause-ok g c =
     rw c.in-Source.is (IfOk-weaker c.pop_front.result _ _ (λ s. popped_source (g.O.Ops.meaning c.args.ops.now) c.in-Source.node c.pop_front.new.self s) c.pop_front.ensures.ok)
+
+pub returns-in-Several-clause-ok : goal.returns-in-Several-clause-ok
+returns-in-Several-clause-ok g c =
+    rw c.in-Several.is (IfOk-weaker c.pop_front-in-Several.result _ _ (λ s. popped_several (g.O.Ops.meaning c.args.ops.now) c.in-Several.node c.pop_front-in-Several.new.self s) c.pop_front-in-Several.ensures.ok)
+
+pub returns-in-Several-clause-counts : goal.returns-in-Several-clause-counts
+returns-in-Several-clause-counts g c =
+    rw c.in-Several.is (IfOk-weaker c.pop_front-in-Several.result _ _ (λ s. counted_several c.in-Several.node c.pop_front-in-Several.new.self s) c.pop_front-in-Several.ensures.counts)

@@ -1,4 +1,4 @@
-use Rattle.rsx_node.proofs.Dispatch.{item_out_source, item_out_plain}
+use Rattle.rsx_node.proofs.Dispatch.{item_out_source, item_out_plain, item_out_several}
 use Rattle.rsx_node.proofs.any_node.AnyNodeMachine.pop_item.Goals as goal
 
 pub returns-in-Source-clause-some : goal.returns-in-Source-clause-some
@@ -8,3 +8,7 @@ returns-in-Source-clause-some g c =
 pub returns-in-Plain-clause-some : goal.returns-in-Plain-clause-some
 returns-in-Plain-clause-some g c =
     rw c.in-Plain.is (item_out_plain (g.O.Ops.meaning c.args.ops.now) c.in-Plain.node c.pop_item-in-Plain.new.self c.pop_item-in-Plain.result c.pop_item-in-Plain.ensures.some)
+
+pub returns-in-Several-clause-some : goal.returns-in-Several-clause-some
+returns-in-Several-clause-some g c =
+    rw c.in-Several.is (item_out_several (g.O.Ops.meaning c.args.ops.now) c.in-Several.node c.pop_item-in-Several.new.self c.pop_item-in-Several.result c.pop_item-in-Several.ensures.some)

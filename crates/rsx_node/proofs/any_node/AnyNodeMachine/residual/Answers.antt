@@ -1,5 +1,7 @@
-use Rattle.std.proofs.Common.{◌≡◌}
 use Rattle.rsx_node.proofs.any_node.AnyNodeMachine.residual.Goals as goal
 
 pub returns-in-Source : goal.returns-in-Source
 returns-in-Source g c = rw c.in-Source.is c.residual.ensures
+
+pub returns-in-Several : goal.returns-in-Several
+returns-in-Several g c = rw c.in-Several.is c.residual-in-Several.ensures

@@ -1,4 +1,3 @@
-use Rattle.std.proofs.Common.{◌≡◌}
 use Rattle.rsx_node.proofs.source_node.SourceNodeMachine.residual.Goals as goal
 
 pub returns-in-Items : goal.returns-in-Items

@@ -1,0 +1,17 @@
+use Rattle.std.proofs.Common.{ap}
+use Rattle.std.proofs.lemmas.Result.{on_ok_weaker, on_err_weaker}
+use Rattle.rsx_node.specs.declared.any_node.AnyNode.TheVariants.{Several}
+use Rattle.rsx_node.proofs.Dispatch.{taken_several}
+use Rattle.rsx_node.proofs.any_node.AnyNodeMachine.on_signal.Goals as goal
+
+pub returns-in-Several : goal.returns-in-Several
+returns-in-Several g c = rw c.in-Several.is (record {
+  ok = c.on_signal-in-Several.ensures.ok;
+  enabled = c.on_signal-in-Several.ensures.enabled;
+  recorded = c.on_signal-in-Several.ensures.recorded;
+  counts = on_ok_weaker c.on_signal-in-Several.result (taken_several c.in-Several.node c.on_signal-in-Several.new.self c.args.input c.args.signal) c.on_signal-in-Several.ensures.counts;
+  err = c.on_signal-in-Several.ensures.err;
+  memory = λ e. c.on_signal-in-Several.ensures.memory;
+  alike = c.on_signal-in-Several.ensures.alike;
+  same = on_err_weaker c.on_signal-in-Several.result (λ e. ap Several e) c.on_signal-in-Several.ensures.same;
+})

@@ -1,0 +1,83 @@
+use Rattle.std.proofs.Common.{length, rules}
+use Rattle.rsx_node.proofs.Builds.{hub_read, items_if, leaf_if, plain_if}
+use Rattle.rsx_node.proofs.Rows.{built_more, split}
+use Rattle.rsx_node.proofs.Several.{built_concat, built_latest, built_merge, built_over, built_zip, limits_Concat, limits_Latest, limits_Merge, limits_Zip}
+use Rattle.rsx_node.proofs.build.+trees.Goals as goal
+
+pub build-returns-in-Items : goal.build-returns-in-Items
+build-returns-in-Items g t c = items_if (g.O.Ops.meaning c.args.ops.now) c.args.hubs.now c.args.expr.now c.in-Items.items c.build_items.result c.in-Items.is c.build_items.ensures
+
+pub build-build_leaf-requires : goal.build-build_leaf-requires
+build-build_leaf-requires g t c =
+    let there = hub_read (length c.args.hubs.now) c.args.expr.now c.in-Hub.number c.in-Hub.is c.requires in
+    (search rules, (search rules, (search rules, there)))
+
+pub build-returns-in-Hub : goal.build-returns-in-Hub
+build-returns-in-Hub g t c = leaf_if (g.O.Ops.meaning c.args.ops.now) c.args.hubs.now c.args.expr.now c.in-Hub.number c.build_leaf.result c.in-Hub.is c.build_leaf.ensures
+
+pub build-returns-in_ok-below-in-Plain : goal.build-returns-in_ok-below-in-Plain
+build-returns-in_ok-below-in-Plain g t c =
+    plain_if (g.O.Ops.meaning c.args.ops.now) c.args.hubs.now c.args.expr.now c.in-Plain.stage c.in-Plain.input c.deref.result.now c.in_ok-below-in-Plain.below c.build_plain.result
+    c.in-Plain.is c.deref.ensures c.requires c.in_ok-below-in-Plain.ensures c.build_plain.ensures
+
+pub build-returns-in-Concat : goal.build-returns-in-Concat
+build-returns-in-Concat g t c =
+    built_concat (g.O.Ops.meaning c.args.ops.now) c.args.hubs.now c.args.expr.now c.in-Concat.inputs c.deref-in-Concat.result.now c.build_over.result c.in-Concat.is c.deref-in-Concat.ensures.value c.build_over.ensures
+
+pub build-build_over-requires : goal.build-build_over-requires
+build-build_over-requires g t c κs within =
+    let l = limits_Concat (length c.args.hubs.now) c.args.expr.now c.in-Concat.inputs c.deref-in-Concat.result.now c.in-Concat.is c.deref-in-Concat.ensures.value c.requires in
+    (search (rules, l.smaller), (search rules, (search rules, (search rules, (search rules, (search rules, (l.within, (l.few.some, (l.few.most, l.faultless)))))))))
+
+pub build-returns-in-Merge : goal.build-returns-in-Merge
+build-returns-in-Merge g t c =
+    built_merge (g.O.Ops.meaning c.args.ops.now) c.args.hubs.now c.args.expr.now c.in-Merge.prefetch c.in-Merge.inputs c.deref-in-Merge.result.now c.build_over-in-Merge.result c.in-Merge.is c.deref-in-Merge.ensures.value c.build_over-in-Merge.ensures
+
+pub build-build_over-requires-in-Merge : goal.build-build_over-requires-in-Merge
+build-build_over-requires-in-Merge g t c κs within =
+    let l = limits_Merge (length c.args.hubs.now) c.args.expr.now c.in-Merge.prefetch c.in-Merge.inputs c.deref-in-Merge.result.now c.in-Merge.is c.deref-in-Merge.ensures.value c.requires in
+    (search (rules, l.smaller), (search rules, (search rules, (search rules, (search rules, (search rules, (l.within, (l.few.some, (l.few.most, l.faultless)))))))))
+
+pub build-returns-in-Zip : goal.build-returns-in-Zip
+build-returns-in-Zip g t c =
+    built_zip (g.O.Ops.meaning c.args.ops.now) c.args.hubs.now c.args.expr.now c.in-Zip.prefetch c.in-Zip.inputs c.deref-in-Zip.result.now c.build_over-in-Zip.result c.in-Zip.is c.deref-in-Zip.ensures.value c.build_over-in-Zip.ensures
+
+pub build-build_over-requires-in-Zip : goal.build-build_over-requires-in-Zip
+build-build_over-requires-in-Zip g t c κs within =
+    let l = limits_Zip (length c.args.hubs.now) c.args.expr.now c.in-Zip.prefetch c.in-Zip.inputs c.deref-in-Zip.result.now c.in-Zip.is c.deref-in-Zip.ensures.value c.requires in
+    (search (rules, l.smaller), (search rules, (search rules, (search rules, (search rules, (search rules, (l.within, (l.few.some, (l.few.most, l.faultless)))))))))
+
+pub build-returns-in-Latest : goal.build-returns-in-Latest
+build-returns-in-Latest g t c =
+    built_latest (g.O.Ops.meaning c.args.ops.now) c.args.hubs.now c.args.expr.now c.in-Latest.prefetch c.in-Latest.inputs c.deref-in-Latest.result.now c.build_over-in-Latest.result c.in-Latest.is c.deref-in-Latest.ensures.value c.build_over-in-Latest.ensures
+
+pub build-build_over-requires-in-Latest : goal.build-build_over-requires-in-Latest
+build-build_over-requires-in-Latest g t c κs within =
+    let l = limits_Latest (length c.args.hubs.now) c.args.expr.now c.in-Latest.prefetch c.in-Latest.inputs c.deref-in-Latest.result.now c.in-Latest.is c.deref-in-Latest.ensures.value c.requires in
+    (search (rules, l.smaller), (search rules, (search rules, (search rules, (search rules, (search rules, (l.within, (l.few.some, (l.few.most, l.faultless)))))))))
+
+pub build_over-returns : goal.build_over-returns
+build_over-returns g t c =
+    let m = g.O.Ops.meaning c.args.ops.now in
+    built_over m c.args.hubs.now c.args.kind c.args.inputs.now c.in_ok-row.row c.in_ok-node.node c.new-2.result
+    c.requires.some c.in_ok-row.ensures c.in_ok-node.ensures.fresh c.in_ok-node.ensures.recorded (c.in_ok-node.ensures.ended c.requires.some) (c.in_ok-node.ensures.counted c.requires.some) c.new-2.ensures.machine c.new-2.ensures.inputs
+
+pub build_inputs-returns-in_ok-row-in-Some : goal.build_inputs-returns-in_ok-row-in-Some
+build_inputs-returns-in_ok-row-in-Some g t c =
+    let m = g.O.Ops.meaning c.args.ops.now in
+    let k = c.in-Some.ensures.cases in
+    built_more m c.args.hubs.now c.args.exprs.now c.in-Some.first.now c.in-Some.others.now c.in_ok-below-in-Some.below c.in_ok-beside-in-Some.beside c.in_ok-row-in-Some.row
+    k.0 c.in_ok-below-in-Some.ensures c.in_ok-beside-in-Some.ensures c.in_ok-row-in-Some.ensures
+
+pub build_over-build_inputs-requires : goal.build_over-build_inputs-requires
+build_over-build_inputs-requires g t c κs within = (search rules, (search rules, (search rules, (search rules, (search rules, (search rules, c.requires.faultless))))))
+
+pub build_inputs-build_inputs-requires : goal.build_inputs-build_inputs-requires
+build_inputs-build_inputs-requires g t c κs within =
+    let l = split (length c.args.hubs.now) c.args.exprs.now c.in-Some.first.now c.in-Some.others.now c.in-Some.ensures.cases.0 c.requires in
+    (search (rules, l.fewer), (search rules, (search rules, (search rules, (search rules, (search rules, l.behind))))))
+
+pub build_inputs-build-requires : goal.build_inputs-build-requires
+build_inputs-build-requires g t c κs within =
+    let l = split (length c.args.hubs.now) c.args.exprs.now c.in-Some.first.now c.in-Some.others.now c.in-Some.ensures.cases.0 c.requires in
+    (search (rules, l.smaller), (search rules, (search rules, (search rules, (search rules, (search rules, l.here))))))
