@@ -1,21 +1,15 @@
 -- How far a loop over the inputs of a node got.
-use Rattle.std.proofs.Common.{◌≡◌, ◌≢◌, ◌∙◌, ℕ, suc, ◌+◌, ◌-◌, ◌<◌, ◌≤◌, List, [], ◌∷◌, ◌++◌, length, get_or, map, drop, nat_le, Bool, true, false, min, max, Result, Ok, Err, Option, Some, None, option_map, option_and_then, refl, sym, ap, subst, append_assoc, append-nil, arith}
+use Rattle.std.proofs.Common.{◌≡◌, ◌≢◌, ◌∙◌, ℕ, suc, ◌+◌, ◌-◌, ◌<◌, ◌≤◌, List, [], ◌∷◌, length, get_or, map, drop, nat_le, true, false, max, Option, Some, None, refl, sym, ap, arith}
 use Rattle.std.proofs.Math.Seq.{drop-cons}
 use Rattle.std.proofs.lemmas.List.{drop_all}
-use Rattle.rsx_types.specs.Stream.{Stream}
 use Rattle.rsx_model.specs.declared.expr.Expr.{Expr}
 use Rattle.std.proofs.lemmas.Bool.Decides.{nat_tests}
 use Rattle.rsx_model.specs.declared.check.BadExpr.{BadExpr}
-use Rattle.rsx_model.specs.declared.check.TheConstants.{MOST_NODES}
-use Rattle.rsx_model.specs.declared.evaluate.Trouble.{Trouble}
-use Rattle.rsx_model.specs.declared.evaluate.Trouble.TheVariants.{BadNotes, OutOfMemory}
-use Rattle.rsx_model.specs.Answer.{Gives, GivesAll}
 use Rattle.std.specs.Prelude.{is_some}
 use Rattle.rsx_model.specs.declared.expr.Expr.TheViews.{out-Expr}
-use Rattle.rsx_model.specs.Shape.{children, leaf_here, sum_of, nodes, leaves}
+use Rattle.rsx_model.specs.Shape.{children, leaf_here, sum_of, max_of, nodes, depth, leaves}
 use Rattle.rsx_model.specs.Check.{or_else, first_of, own_fault, first_fault}
-use Rattle.rsx_model.specs.Eval.{Environment, Meant, in_order, meant}
-use Rattle.rsx_model.proofs.Unfold.{fault_out, fault_children, nodes_out, leaves_out, meant_nodes, meant_leaves, or_none}
+use Rattle.rsx_model.proofs.Unfold.{fault_out, nodes_out, depth_out, leaves_out, or_else-nothing}
 
 -- the element that a loop comes to stands in front of those behind it
 pub front : {A : Type 0} (xs : List A) (i : ℕ) (x : A) → i < length xs → x ≡ get_or xs i x → drop i xs ≡ x ∷ drop (i + 1) xs
@@ -23,95 +17,13 @@ front xs i x within is =
     let next : suc i ≡ i + 1 = omega arith in
     drop-cons xs i x within ∙ ap (λ y. y ∷ drop (suc i) xs) (sym is) ∙ ap (λ n. x ∷ drop n xs) next
 
--- the values of so many inputs are there, and the next input has these numbers
-pub record IsSoFar {T : Type 0} (w : Environment T) (es : List (Expr T)) (at leaf : ℕ) (i : ℕ) (vs : List (Stream T)) (next next_leaf : ℕ) : Type 0 where
-  pub value : in_order (map (meant w) es) at leaf ≡ option_map (λ ss. vs ++ ss) (in_order (map (meant w) (drop i es)) next next_leaf)
-  pub sound : first_of (map (first_fault (length w.hubs)) (drop i es)) ≡ None
-  pub nodes_left : next + sum_of (map nodes (drop i es)) ≡ at + sum_of (map nodes es)
-  pub few : sum_of (map nodes (drop i es)) ≤ sum_of (map nodes es)
-  pub leaves_left : next_leaf + sum_of (map leaves (drop i es)) ≡ leaf + sum_of (map leaves es)
-
-map_nothing : {A : Type 0} (o : Option (List A)) → o ≡ option_map (λ ss. [] ++ ss) o
-map_nothing None = refl
-map_nothing (Some xs) = refl
-
-pub so_far_none : {T : Type 0} (w : Environment T) (es : List (Expr T)) (at leaf : ℕ) → first_of (map (first_fault (length w.hubs)) es) ≡ None → IsSoFar w es at leaf 0 [] at leaf
-so_far_none w es at leaf sound = record {
-  value = map_nothing (in_order (map (meant w) es) at leaf);
-  sound = sound;
-  nodes_left = refl;
-  few = omega arith;
-  leaves_left = refl;
-}
-
--- the input that the loop comes to
-pub record IsNext {T : Type 0} (w : Environment T) (es : List (Expr T)) (i : ℕ) (e : Expr T) (at leaf : ℕ) : Type 0 where
-  pub sound : first_fault (length w.hubs) e ≡ None
-  pub few : nodes e ≤ sum_of (map nodes (drop i es))
-  pub few_leaves : leaves e ≤ sum_of (map leaves (drop i es))
+-- the sum over those behind
 
 pub sum_front : {A : Type 0} (f : A → ℕ) (xs : List A) (i : ℕ) (x : A) → drop i xs ≡ x ∷ drop (i + 1) xs → sum_of (map f (drop i xs)) ≡ f x + sum_of (map f (drop (i + 1) xs))
 sum_front f xs i x is = ap (λ ys. sum_of (map f ys)) is
 
 pub sum_none : {A : Type 0} (f : A → ℕ) (xs : List A) (i : ℕ) → length xs ≤ i → sum_of (map f (drop i xs)) ≡ 0
 sum_none f xs i past = ap (λ ys. sum_of (map f ys)) (drop_all i xs past)
-
-pub next_input : {T : Type 0} (w : Environment T) (es : List (Expr T)) (at leaf i : ℕ) (vs : List (Stream T)) (next next_leaf : ℕ) (e : Expr T) → IsSoFar w es at leaf i vs next next_leaf → i < length es → e ≡ get_or es i e → IsNext w es i e next next_leaf
-next_input w es at leaf i vs next next_leaf e s within is =
-    let cons = front es i e within is in
-    let both = or_none (first_fault (length w.hubs) e) (first_of (map (first_fault (length w.hubs)) (drop (i + 1) es))) (sym (ap (λ ys. first_of (map (first_fault (length w.hubs)) ys)) cons) ∙ s.sound) in
-    record {
-      sound = both.0;
-      few = omega (arith, sum_front nodes es i e cons);
-      few_leaves = omega (arith, sum_front leaves es i e cons);
-    }
-
--- what the rest gives, with the value of the input in front
-one_front : {A : Type 0} (vs : List A) (v : A) (o : Option (List A)) → option_map (λ ss. vs ++ ss) (option_map (λ ss. v ∷ ss) o) ≡ option_map (λ ss. (vs ++ v ∷ []) ++ ss) o
-one_front vs v None = refl
-one_front vs v (Some ss) = ap Some (sym (append_assoc vs (v ∷ []) ss))
-
-abbrev first_then : {T : Type 0} → Environment T → List (Expr T) → Expr T → ℕ → ℕ → Option (Stream T) → Option (List (Stream T))
-first_then w es e next next_leaf o =
-    option_and_then (λ s. option_map (λ ss. s ∷ ss) (in_order (map (meant w) es) (next + (meant w e).nodes) (next_leaf + (meant w e).leaves))) o
-
-pub so_far_more : {T : Type 0} (w : Environment T) (es : List (Expr T)) (at leaf i : ℕ) (vs : List (Stream T)) (next next_leaf : ℕ) (e : Expr T) (v : Stream T) → IsSoFar w es at leaf i vs next next_leaf → i < length es → e ≡ get_or es i e
-    → (meant w e).value next next_leaf ≡ Some v → IsSoFar w es at leaf (i + 1) (vs ++ v ∷ []) (next + nodes e) (next_leaf + leaves e)
-so_far_more {T} w es at leaf i vs next next_leaf e v s within is gives =
-    let cons = front es i e within is in
-    let both = or_none (first_fault (length w.hubs) e) (first_of (map (first_fault (length w.hubs)) (drop (i + 1) es))) (sym (ap (λ ys. first_of (map (first_fault (length w.hubs)) ys)) cons) ∙ s.sound) in
-    let rest = drop (i + 1) es in
-    record {
-      value =
-          s.value
-          ∙ ap (λ ys. option_map (λ ss. vs ++ ss) (in_order (map (meant w) ys) next next_leaf)) cons
-          ∙ ap (λ o. option_map (λ ss. vs ++ ss) (first_then w rest e next next_leaf o)) gives
-          ∙ one_front vs v (in_order (map (meant w) rest) (next + (meant w e).nodes) (next_leaf + (meant w e).leaves))
-          ∙ ap (λ n. option_map (λ ss. (vs ++ v ∷ []) ++ ss) (in_order (map (meant w) rest) (next + n) (next_leaf + (meant w e).leaves))) (meant_nodes w e)
-          ∙ ap (λ n. option_map (λ ss. (vs ++ v ∷ []) ++ ss) (in_order (map (meant w) rest) (next + nodes e) (next_leaf + n))) (meant_leaves w e);
-      sound = both.1;
-      nodes_left = omega (arith, s.nodes_left, sum_front nodes es i e cons);
-      few = omega (arith, s.few, sum_front nodes es i e cons);
-      leaves_left = omega (arith, s.leaves_left, sum_front leaves es i e cons);
-    }
-
-pub so_far_stops : {T : Type 0} (w : Environment T) (es : List (Expr T)) (at leaf i : ℕ) (vs : List (Stream T)) (next next_leaf : ℕ) (e : Expr T) → IsSoFar w es at leaf i vs next next_leaf → i < length es → e ≡ get_or es i e
-    → (meant w e).value next next_leaf ≡ None → in_order (map (meant w) es) at leaf ≡ None
-so_far_stops {T} w es at leaf i vs next next_leaf e s within is none =
-    let cons = front es i e within is in
-    s.value
-    ∙ ap (λ ys. option_map (λ ss. vs ++ ss) (in_order (map (meant w) ys) next next_leaf)) cons
-    ∙ ap (λ o. option_map (λ ss. vs ++ ss) (first_then w (drop (i + 1) es) e next next_leaf o)) none
-
-pub so_far_all : {T : Type 0} (w : Environment T) (es : List (Expr T)) (at leaf i : ℕ) (vs : List (Stream T)) (next next_leaf : ℕ) → IsSoFar w es at leaf i vs next next_leaf → length es ≤ i → in_order (map (meant w) es) at leaf ≡ Some vs
-so_far_all w es at leaf i vs next next_leaf s past =
-    let none = drop_all i es past in
-    s.value ∙ ap (λ ys. option_map (λ ss. vs ++ ss) (in_order (map (meant w) ys) next next_leaf)) none ∙ ap Some (append-nil vs)
-
--- what is wrong with one input is wrong with all
-pub stopped : {T : Type 0} (trouble : Trouble) (o : Option (Stream T)) (os : Option (List (Stream T))) → Gives (Err trouble) o → (o ≡ None → os ≡ None) → GivesAll (Err trouble) os
-stopped BadNotes o os h none = none h
-stopped OutOfMemory o os h none = tt
 
 -- ---- how deep the inputs are
 
@@ -127,6 +39,27 @@ none_deep most = grind (arith, nat_tests)
 pub deep_enough : (d e most : ℕ) → nat_le d most ≡ true → nat_le e most ≡ nat_le (max d e) most
 deep_enough d e most h = grind (arith, nat_tests)
 
+-- the depth of a node, where these are its children
+pub below_depth : {T : Type 0} (e : Expr T) (es : List (Expr T)) (most : ℕ) → es ≡ children (out-Expr T e) → most ≢ 0 → nat_le (max_of (map depth es)) (most - 1) ≡ nat_le (depth e) most
+below_depth e es most kids more =
+    one_deeper (max_of (map depth es)) most more
+    ∙ ap (λ d. nat_le d most) (sym (depth_out e ∙ ap (λ ys. 1 + max_of (map depth ys)) (sym kids)))
+
+only_depth : (d : ℕ) → d ≡ max d 0
+only_depth d = omega arith
+
+-- and where this is its only child
+pub one_depth : {T : Type 0} (e x : Expr T) (most : ℕ) → x ∷ [] ≡ children (out-Expr T e) → most ≢ 0 → nat_le (depth x) (most - 1) ≡ nat_le (depth e) most
+one_depth e x most kids more = ap (λ d. nat_le d (most - 1)) (only_depth (depth x)) ∙ below_depth e (x ∷ []) most kids more
+
+-- ---- how many nodes and leaves there are
+
+pub below_nodes : {T : Type 0} (e : Expr T) (es : List (Expr T)) → es ≡ children (out-Expr T e) → nodes e ≡ 1 + sum_of (map nodes es)
+below_nodes e es kids = nodes_out e ∙ ap (λ ys. 1 + sum_of (map nodes ys)) (sym kids)
+
+pub below_leaves : {T : Type 0} (e : Expr T) (es : List (Expr T)) → es ≡ children (out-Expr T e) → leaves e ≡ leaf_here (out-Expr T e) + sum_of (map leaves es)
+below_leaves {T} e es kids = leaves_out e ∙ ap (λ ys. leaf_here (out-Expr T e) + sum_of (map leaves ys)) (sym kids)
+
 -- ---- what is wrong with the inputs
 
 pub below_own : (own rest : Option BadExpr) → false ≡ is_some own → rest ≡ or_else own rest
@@ -141,22 +74,6 @@ fault_inputs {T} hubs e es own fine is kids =
     ∙ ap (λ ys. or_else (own_fault hubs (out-Expr T e)) (first_of (map (first_fault hubs) ys))) (sym kids)
     ∙ sym (fault_out hubs e)
 
--- ---- what a node of several inputs hands its inputs
-
--- the inputs aren't refused, and there are notes and joins for them
-pub record AreReady {T : Type 0} (hubs notes joins : ℕ) (es : List (Expr T)) (at leaf : ℕ) : Type 0 where
-  pub sound : first_of (map (first_fault hubs) es) ≡ None
-  pub small : sum_of (map nodes es) ≤ MOST_NODES
-  pub noted : at + sum_of (map nodes es) ≤ notes
-  pub joined : leaf + sum_of (map leaves es) ≤ joins
-
-pub ready : {T : Type 0} (hubs notes joins : ℕ) (e : Expr T) (es : List (Expr T)) (at leaf : ℕ) → children (out-Expr T e) ≡ es → first_fault hubs e ≡ None → nodes e ≤ MOST_NODES → at + nodes e ≤ notes → leaf + leaves e ≤ joins → AreReady hubs notes joins es (at + 1) leaf
-ready {T} hubs notes joins e es at leaf kids fine small noted joined =
-    let many : nodes e ≡ 1 + sum_of (map nodes es) = nodes_out e ∙ ap (λ ys. 1 + sum_of (map nodes ys)) kids in
-    let some : leaves e ≡ leaf_here (out-Expr T e) + sum_of (map leaves es) = leaves_out e ∙ ap (λ ys. leaf_here (out-Expr T e) + sum_of (map leaves ys)) kids in
-    record {
-      sound = sym (ap (λ ys. first_of (map (first_fault hubs) ys)) kids) ∙ fault_children hubs e fine;
-      small = omega arith;
-      noted = omega arith;
-      joined = omega arith;
-    }
+-- and of its only input
+pub fault_one : {T : Type 0} (hubs : ℕ) (e x : Expr T) (own : Option BadExpr) → false ≡ is_some own → own ≡ own_fault hubs (out-Expr T e) → children (out-Expr T e) ≡ x ∷ [] → first_fault hubs x ≡ first_fault hubs e
+fault_one hubs e x own fine is kids = sym (or_else-nothing (first_fault hubs x)) ∙ fault_inputs hubs e (x ∷ []) own fine is kids

@@ -3,11 +3,11 @@ use Rattle.std.specs.Prelude.{ℕ, ℤ, pos, ◌+ℤ◌, ◌^◌, Bool, true, fa
 use Rattle.rsx_types.specs.declared.stage.Stage.{Stage}
 use Rattle.rsx_types.specs.declared.stage.Stage.TheVariants.{Map, Filter, Take, Scan, Buffer, Distinct}
 use Rattle.rsx_model.specs.declared.expr.Expr.{Expr}
-use Rattle.rsx_model.specs.declared.expr.Expr.TheOpen.{Expr-F, Items, Range, Hub, Plain, Concat, Merge, Zip, Latest}
+use Rattle.rsx_model.specs.declared.expr.Expr.TheOpen.{Expr-F, Items, Range, Hub, Plain, Concat, Merge, Zip, Latest, On}
 use Rattle.rsx_model.specs.declared.expr.Expr.TheFolds.{fold-Expr}
 use Rattle.rsx_types.specs.declared.limits.TheConstants.{MOST_ITEMS}
 use Rattle.rsx_model.specs.declared.check.BadExpr.{BadExpr}
-use Rattle.rsx_model.specs.declared.check.TheConstants.{MOST_DEPTH, MOST_NODES, MOST_COUNT, MOST_INPUTS, MOST_PREFETCH}
+use Rattle.rsx_model.specs.declared.check.TheConstants.{MOST_DEPTH, MOST_NODES, MOST_COUNT, MOST_INPUTS, MOST_PREFETCH, MOST_WORKER}
 use Rattle.rsx_model.specs.declared.check.BadExpr.TheVariants.{Depth, Nodes, Inputs, Number, Hub as NoSuchHub, Length}
 use Rattle.rsx_model.specs.Shape.{children, nodes, depth}
 
@@ -56,6 +56,10 @@ inputs_fit n = nat_le 1 n && nat_le n MOST_INPUTS
 abbrev pub prefetch_fits : ℕ → Bool
 prefetch_fits p = nat_le 1 p && nat_le p MOST_PREFETCH
 
+-- a worker of 0 to 15, and a prefetch of 1 to 1,024 items
+abbrev pub worker_fits : ℕ → ℕ → Bool
+worker_fits k p = nat_le k MOST_WORKER && prefetch_fits p
+
 -- what is wrong with a node of so many inputs and this prefetch
 abbrev pub queued_fault : ℕ → ℕ → Option BadExpr
 queued_fault p n = or_else (unless (inputs_fit n) Inputs) (unless (prefetch_fits p) Number)
@@ -70,6 +74,7 @@ own_fault hubs (Concat v) = unless (inputs_fit (length v.items)) Inputs
 own_fault hubs (Merge p v) = queued_fault p (length v.items)
 own_fault hubs (Zip p v) = queued_fault p (length v.items)
 own_fault hubs (Latest p v) = queued_fault p (length v.items)
+own_fault hubs (On k p b) = unless (worker_fits k p) Number
 
 -- what is wrong with the first faulty node in pre-order
 abbrev pub first_fault : {T : Type 0} → ℕ → Expr T → Option BadExpr

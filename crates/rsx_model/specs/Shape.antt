@@ -1,8 +1,10 @@
 -- The size of an expression.
 use Rattle.std.specs.Prelude.{ℕ, ◌+◌, max, List, [], ◌∷◌}
 use Rattle.rsx_model.specs.declared.expr.Expr.{Expr}
-use Rattle.rsx_model.specs.declared.expr.Expr.TheOpen.{Expr-F, Items, Range, Hub, Plain, Concat, Merge, Zip, Latest}
+use Rattle.rsx_model.specs.declared.expr.Expr.TheOpen.{Expr-F, Items, Range, Hub, Plain, Concat, Merge, Zip, Latest, On}
 use Rattle.rsx_model.specs.declared.expr.Expr.TheFolds.{fold-Expr}
+use Rattle.rsx_model.specs.declared.expr.Below.{Below}
+use Rattle.rsx_model.specs.declared.expr.Below.TheVariants.{One, Inputs}
 
 -- what is known of a node's children, left to right
 abbrev pub children : {T A : Type 0} → Expr-F T A → List A
@@ -14,6 +16,12 @@ children (Concat v) = v.items
 children (Merge p v) = v.items
 children (Zip p v) = v.items
 children (Latest p v) = v.items
+children (On k p b) = b.value ∷ []
+
+-- the children that an answer of `below_of` names
+abbrev pub listed_below : {T : Type 0} → Below T → List (Expr T)
+listed_below (One e) = e.now ∷ []
+listed_below (Inputs es) = es.now
 
 -- the sum of the numbers
 abbrev pub sum_of : List ℕ → ℕ
@@ -43,6 +51,7 @@ leaf_here (Concat v) = 0
 leaf_here (Merge p v) = 0
 leaf_here (Zip p v) = 0
 leaf_here (Latest p v) = 0
+leaf_here (On k p b) = 0
 
 -- how many hub leaves
 abbrev pub leaves : {T : Type 0} → Expr T → ℕ

@@ -1,11 +1,11 @@
 //! Which expressions are refused, and why.
 
 ghost use Rattle.std.specs.Prelude.{◌≡◌, ◌+◌, min, map, nat_le, MatchResult, Some, None};
-ghost use Rattle.rsx_model.specs.Shape.{nodes, leaves, depth, sum_of, max_of};
-ghost use Rattle.rsx_model.specs.Check.{refusal, first_fault, first_of, own_fault, queued_fault, inputs_fit, unless, range_fits, stage_fits, kind_number};
+ghost use Rattle.rsx_model.specs.Shape.{nodes, leaves, leaf_here, depth, sum_of, max_of};
+ghost use Rattle.rsx_model.specs.Check.{refusal, first_fault, first_of, own_fault, queued_fault, inputs_fit, worker_fits, unless, range_fits, stage_fits, kind_number};
 ghost use Rattle.rsx_model.specs.declared.expr.Expr.TheViews.{out-Expr};
 
-use crate::expr::Expr;
+use crate::expr::{Below, Expr, below_of};
 use rsx_types::{MOST_ITEMS, Stage};
 use thiserror::Error;
 
@@ -24,6 +24,9 @@ pub const MOST_INPUTS: u64 = 16;
 /// The most items of one input that are asked for in advance.
 pub const MOST_PREFETCH: u64 = 1_024;
 
+/// The largest number of a worker. The least is 0.
+pub const MOST_WORKER: u8 = 15;
+
 /// Why an expression is refused. The first two speak of the whole expression, in this order; the others of the first
 /// faulty node in pre-order.
 #[derive(Clone, Copy, Debug, PartialEq, Eq, Error)]
@@ -38,7 +41,8 @@ pub enum BadExpr {
     #[error("a node has no inputs, or more than 16")]
     Inputs,
     /// A number is out of its limit: a range of more than 1,000,000 numbers, or whose last one is above 2^63-1; a `take`
-    /// of more than 1,000,000 items; a `buffer` whose lists aren't of 1 to 1,024 items; a prefetch that isn't 1 to 1,024.
+    /// of more than 1,000,000 items; a `buffer` whose lists aren't of 1 to 1,024 items; a prefetch that isn't 1 to 1,024; a
+    /// worker's number above 15.
     #[error("a number is out of its limit")]
     Number,
     /// A leaf names a hub that isn't there: its number isn't below the number of hubs.
@@ -76,8 +80,9 @@ pub fn check_expr<T>(expr: &Expr<T>, hubs: u32) -> Result<(), BadExpr>
     }
 }
 
-/// Why an expression is refused, if it is.
-pub(crate) fn refusal_of<T>(expr: &Expr<T>, hubs: u64) -> Option<BadExpr>
+/// Why an expression is refused in a graph of so many hubs, if it is: the kind of the first limit that is broken, as
+/// [`check_expr`] has it. It takes no memory.
+pub fn refusal_of<T>(expr: &Expr<T>, hubs: u64) -> Option<BadExpr>
     ensures { result ≡ refusal hubs expr.now }
 {
     if !is_within_depth(expr, MOST_DEPTH) {
@@ -97,13 +102,9 @@ fn is_within_depth<T>(expr: &Expr<T>, most: u64) -> bool
     if most == 0 {
         return false;
     }
-    match expr {
-        Expr::Items(_) | Expr::Range(_, _) | Expr::Hub(_) => true,
-        Expr::Plain(_, below) => is_within_depth(below, most - 1),
-        Expr::Concat(inputs) => are_within_depth(inputs, most - 1),
-        Expr::Merge(_, inputs) => are_within_depth(inputs, most - 1),
-        Expr::Zip(_, inputs) => are_within_depth(inputs, most - 1),
-        Expr::Latest(_, inputs) => are_within_depth(inputs, most - 1),
+    match below_of(expr) {
+        Below::One(input) => is_within_depth(input, most - 1),
+        Below::Inputs(inputs) => are_within_depth(inputs, most - 1),
     }
 }
 
@@ -125,14 +126,11 @@ fn are_within_depth<T>(inputs: &[Expr<T>], most: u64) -> bool
 pub fn nodes_of<T>(expr: &Expr<T>) -> u64
     ensures { result ≡ min (nodes expr.now) (MOST_NODES + 1) }
 {
-    match expr {
-        Expr::Items(_) | Expr::Range(_, _) | Expr::Hub(_) => 1,
-        Expr::Plain(_, below) => (1 + nodes_of(below)).min(MOST_NODES + 1),
-        Expr::Concat(inputs) => (1 + nodes_of_all(inputs)).min(MOST_NODES + 1),
-        Expr::Merge(_, inputs) => (1 + nodes_of_all(inputs)).min(MOST_NODES + 1),
-        Expr::Zip(_, inputs) => (1 + nodes_of_all(inputs)).min(MOST_NODES + 1),
-        Expr::Latest(_, inputs) => (1 + nodes_of_all(inputs)).min(MOST_NODES + 1),
-    }
+    let below = match below_of(expr) {
+        Below::One(input) => nodes_of(input),
+        Below::Inputs(inputs) => nodes_of_all(inputs),
+    };
+    (1 + below).min(MOST_NODES + 1)
 }
 
 /// How many nodes the inputs have together, or 257 if there are more than [`MOST_NODES`].
@@ -152,15 +150,11 @@ fn nodes_of_all<T>(inputs: &[Expr<T>]) -> u64
 pub fn leaves_of<T>(expr: &Expr<T>) -> u64
     ensures { result ≡ min (leaves expr.now) (MOST_NODES + 1) }
 {
-    match expr {
-        Expr::Items(_) | Expr::Range(_, _) => 0,
-        Expr::Hub(_) => 1,
-        Expr::Plain(_, below) => leaves_of(below),
-        Expr::Concat(inputs) => leaves_of_all(inputs),
-        Expr::Merge(_, inputs) => leaves_of_all(inputs),
-        Expr::Zip(_, inputs) => leaves_of_all(inputs),
-        Expr::Latest(_, inputs) => leaves_of_all(inputs),
-    }
+    let below = match below_of(expr) {
+        Below::One(input) => leaves_of(input),
+        Below::Inputs(inputs) => leaves_of_all(inputs),
+    };
+    (own_leaf(expr) + below).min(MOST_NODES + 1)
 }
 
 /// How many leaves of the inputs are hubs, or 257 if there are more than [`MOST_NODES`].
@@ -175,6 +169,19 @@ fn leaves_of_all<T>(inputs: &[Expr<T>]) -> u64
     count
 }
 
+/// 1 if the root is a hub leaf, and else 0.
+fn own_leaf<T>(expr: &Expr<T>) -> u64
+    ensures { result ≡ leaf_here (out-Expr T expr.now) }
+{
+    match expr {
+        Expr::Items(_) | Expr::Range(_, _) => 0,
+        Expr::Hub(_) => 1,
+        Expr::Plain(_, _) | Expr::Concat(_) => 0,
+        Expr::Merge(_, _) | Expr::Zip(_, _) | Expr::Latest(_, _) => 0,
+        Expr::On(_, _, _) => 0,
+    }
+}
+
 /// The fault of the first faulty node in pre-order.
 #[cycle(fault)]
 fn first_fault_of<T>(expr: &Expr<T>, hubs: u64) -> Option<BadExpr>
@@ -184,13 +191,9 @@ fn first_fault_of<T>(expr: &Expr<T>, hubs: u64) -> Option<BadExpr>
     if own.is_some() {
         return own;
     }
-    match expr {
-        Expr::Items(_) | Expr::Range(_, _) | Expr::Hub(_) => None,
-        Expr::Plain(_, below) => first_fault_of(below, hubs),
-        Expr::Concat(inputs) => first_fault_of_all(inputs, hubs),
-        Expr::Merge(_, inputs) => first_fault_of_all(inputs, hubs),
-        Expr::Zip(_, inputs) => first_fault_of_all(inputs, hubs),
-        Expr::Latest(_, inputs) => first_fault_of_all(inputs, hubs),
+    match below_of(expr) {
+        Below::One(input) => first_fault_of(input, hubs),
+        Below::Inputs(inputs) => first_fault_of_all(inputs, hubs),
     }
 }
 
@@ -221,6 +224,7 @@ fn own_fault_of<T>(expr: &Expr<T>, hubs: u64) -> Option<BadExpr>
         Expr::Merge(prefetch, inputs) => queued_fault_of(*prefetch, inputs.len()),
         Expr::Zip(prefetch, inputs) => queued_fault_of(*prefetch, inputs.len()),
         Expr::Latest(prefetch, inputs) => queued_fault_of(*prefetch, inputs.len()),
+        Expr::On(worker, prefetch, _) => unless_ok(is_worker(*worker, *prefetch), BadExpr::Number),
     }
 }
 
@@ -232,6 +236,13 @@ fn queued_fault_of(prefetch: u64, inputs: usize) -> Option<BadExpr>
         return Some(BadExpr::Inputs);
     }
     unless_ok(1 <= prefetch && prefetch <= MOST_PREFETCH, BadExpr::Number)
+}
+
+/// Whether there may be a worker of this number, and this is a prefetch.
+fn is_worker(worker: u8, prefetch: u64) -> bool
+    ensures { result ≡ worker_fits worker prefetch }
+{
+    worker <= MOST_WORKER && 1 <= prefetch && prefetch <= MOST_PREFETCH
 }
 
 /// Whether a node may have so many inputs.

@@ -1,5 +1,9 @@
 //! Expressions.
 
+ghost use Rattle.std.specs.Prelude.{◌≡◌};
+ghost use Rattle.rsx_model.specs.Shape.{children, listed_below};
+ghost use Rattle.rsx_model.specs.declared.expr.Expr.TheViews.{out-Expr};
+
 use rsx_types::{HubId, Stage};
 
 /// An expression: a tree of operators.
@@ -31,4 +35,33 @@ pub enum Expr<T> {
     /// A row of the latest items of the inputs at each item, once every input has had one; the order of the items is chosen and
     /// recorded (`combineLatest`). The number is the prefetch, as for `Merge`.
     Latest(u64, Vec<Expr<T>>),
+    /// What is below it, unchanged, from a queue (`publishOn`). The first number is that of the worker that is to serve what
+    /// stands over it, 0 to 15; it changes no value. The second is the prefetch, the room of the queue, as for `Merge`.
+    On(u8, u64, Box<Expr<T>>),
+}
+
+/// What a node stands over.
+#[derive(Clone, Copy)]
+pub enum Below<'e, T> {
+    /// The one expression that an operator stands over.
+    One(&'e Expr<T>),
+    /// The inputs of a node of several inputs, in their order; none where the node is a leaf.
+    Inputs(&'e [Expr<T>]),
+}
+
+/// What the root of an expression stands over: all its children, left to right.
+pub fn below_of<T>(expr: &Expr<T>) -> Below<'_, T>
+    ensures { listed_below result ≡ children (out-Expr T expr.now) }
+{
+    match expr {
+        Expr::Items(_) => Below::Inputs(&[]),
+        Expr::Range(_, _) => Below::Inputs(&[]),
+        Expr::Hub(_) => Below::Inputs(&[]),
+        Expr::Plain(_, below) => Below::One(below),
+        Expr::Concat(inputs) => Below::Inputs(inputs),
+        Expr::Merge(_, inputs) => Below::Inputs(inputs),
+        Expr::Zip(_, inputs) => Below::Inputs(inputs),
+        Expr::Latest(_, inputs) => Below::Inputs(inputs),
+        Expr::On(_, _, below) => Below::One(below),
+    }
 }

@@ -1,7 +1,8 @@
 //! The slow evaluator over the demonstration's items: the worked values, and each refusal.
 
 use rsx_demo::{Demo, Val};
-use rsx_model::{BadExpr, Expr, ScratchRefusal, check_expr, leaves_of, nodes_of, scratch};
+use rsx_evaluation::{ScratchRefusal, scratch};
+use rsx_model::{BadExpr, Expr, check_expr, leaves_of, nodes_of};
 use rsx_types::{Cause, Choices, Ending, HubId, NoMemory, Note, Stage, StreamValue};
 use std::alloc::Global;
 use std::test::Fail;

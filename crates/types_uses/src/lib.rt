@@ -8,6 +8,8 @@ mod demonstration;
 #[cfg(test)]
 mod evaluator;
 #[cfg(test)]
+mod publish_on;
+#[cfg(test)]
 mod several;
 #[cfg(test)]
 mod words;

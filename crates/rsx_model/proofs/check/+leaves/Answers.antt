@@ -1,20 +1,18 @@
-use Rattle.std.proofs.Common.{arith}
-use Rattle.rsx_model.specs.Shape.{leaves}
-use Rattle.rsx_model.proofs.Inputs.{front, sum_front, sum_none}
-use Rattle.rsx_model.proofs.Unfold.{leaves_Concat, leaves_Merge, leaves_Zip, leaves_Latest}
+use Rattle.std.proofs.Common.{◌∷◌, [], ◌∙◌, sym, ap, arith}
+use Rattle.rsx_model.specs.Shape.{leaves, listed_below}
+use Rattle.rsx_model.proofs.Inputs.{front, sum_front, sum_none, below_leaves}
 use Rattle.rsx_model.proofs.check.+leaves.Goals as goal
+use Rattle.rsx_model.proofs.check.+leaves.Goals.{leaves_of-in-One, leaves_of-in-Inputs}
 
-pub leaves_of-returns-in-Concat : goal.leaves_of-returns-in-Concat
-leaves_of-returns-in-Concat g t c = rw (c.in-Concat.is, leaves_Concat, ← c.deref-in-Concat.ensures.value) (omega arith)
-
-pub leaves_of-returns-in-Merge : goal.leaves_of-returns-in-Merge
-leaves_of-returns-in-Merge g t c = rw (c.in-Merge.is, leaves_Merge, ← c.deref-in-Merge.ensures.value) (omega arith)
-
-pub leaves_of-returns-in-Zip : goal.leaves_of-returns-in-Zip
-leaves_of-returns-in-Zip g t c = rw (c.in-Zip.is, leaves_Zip, ← c.deref-in-Zip.ensures.value) (omega arith)
-
-pub leaves_of-returns-in-Latest : goal.leaves_of-returns-in-Latest
-leaves_of-returns-in-Latest g t c = rw (c.in-Latest.is, leaves_Latest, ← c.deref-in-Latest.ensures.value) (omega arith)
+pub leaves_of-returns : goal.leaves_of-returns
+leaves_of-returns g t c = elim c.match-below_of.branch [
+  | leaves_of-in-One w ↦
+      let many = below_leaves c.args.expr.now (w.in-One.input.now ∷ []) (sym (ap listed_below w.in-One.is) ∙ c.below_of.ensures) in
+      omega (arith, many, c.own_leaf.ensures, c.min.ensures, w.below-is, w.leaves_of-below.ensures)
+  | leaves_of-in-Inputs w ↦
+      let many = below_leaves c.args.expr.now w.in-Inputs.inputs.now (sym (ap listed_below w.in-Inputs.is) ∙ c.below_of.ensures) in
+      omega (arith, many, c.own_leaf.ensures, c.min.ensures, w.below-is, w.leaves_of_all-below.ensures)
+]
 
 pub leaves_of_all-loop-input-init : goal.leaves_of_all-loop-input-init
 leaves_of_all-loop-input-init g t c = (omega arith, omega arith)

@@ -1,20 +1,18 @@
-use Rattle.std.proofs.Common.{arith}
-use Rattle.rsx_model.specs.Shape.{nodes}
-use Rattle.rsx_model.proofs.Inputs.{front, sum_front, sum_none}
-use Rattle.rsx_model.proofs.Unfold.{nodes_Concat, nodes_Merge, nodes_Zip, nodes_Latest}
+use Rattle.std.proofs.Common.{◌∷◌, [], ◌∙◌, sym, ap, arith}
+use Rattle.rsx_model.specs.Shape.{nodes, listed_below}
+use Rattle.rsx_model.proofs.Inputs.{front, sum_front, sum_none, below_nodes}
 use Rattle.rsx_model.proofs.check.+nodes.Goals as goal
+use Rattle.rsx_model.proofs.check.+nodes.Goals.{nodes_of-in-One, nodes_of-in-Inputs}
 
-pub nodes_of-returns-in-Concat : goal.nodes_of-returns-in-Concat
-nodes_of-returns-in-Concat g t c = rw (c.in-Concat.is, nodes_Concat, ← c.deref-in-Concat.ensures.value) (omega arith)
-
-pub nodes_of-returns-in-Merge : goal.nodes_of-returns-in-Merge
-nodes_of-returns-in-Merge g t c = rw (c.in-Merge.is, nodes_Merge, ← c.deref-in-Merge.ensures.value) (omega arith)
-
-pub nodes_of-returns-in-Zip : goal.nodes_of-returns-in-Zip
-nodes_of-returns-in-Zip g t c = rw (c.in-Zip.is, nodes_Zip, ← c.deref-in-Zip.ensures.value) (omega arith)
-
-pub nodes_of-returns-in-Latest : goal.nodes_of-returns-in-Latest
-nodes_of-returns-in-Latest g t c = rw (c.in-Latest.is, nodes_Latest, ← c.deref-in-Latest.ensures.value) (omega arith)
+pub nodes_of-returns : goal.nodes_of-returns
+nodes_of-returns g t c = elim c.match-below_of.branch [
+  | nodes_of-in-One w ↦
+      let many = below_nodes c.args.expr.now (w.in-One.input.now ∷ []) (sym (ap listed_below w.in-One.is) ∙ c.below_of.ensures) in
+      omega (arith, many, c.min.ensures, w.below-is, w.nodes_of-below.ensures)
+  | nodes_of-in-Inputs w ↦
+      let many = below_nodes c.args.expr.now w.in-Inputs.inputs.now (sym (ap listed_below w.in-Inputs.is) ∙ c.below_of.ensures) in
+      omega (arith, many, c.min.ensures, w.below-is, w.nodes_of_all-below.ensures)
+]
 
 pub nodes_of_all-loop-input-init : goal.nodes_of_all-loop-input-init
 nodes_of_all-loop-input-init g t c = (omega arith, omega arith)

@@ -1,0 +1,4 @@
+pub mod Endings
+pub mod Laws
+pub mod Noted
+pub mod Values
