@@ -2,3 +2,4 @@
 pub mod Lengths
 pub mod Lists
 pub mod Tells
+pub mod Texts

@@ -6,3 +6,4 @@ pub mod Items
 pub mod Lawful
 pub mod Names
 pub mod Same
+pub mod Texts

@@ -1,5 +1,5 @@
 -- Whether two items are the same: a test, and that it is true of equal items alone.
-use Rattle.std.specs.Prelude.{◌≡◌, ℤ, Bool, true, false, ◌&&◌, Decides, refl}
+use Rattle.std.specs.Prelude.{◌≡◌, Bool, true, false, ◌&&◌, Decides, refl}
 use Rattle.std.specs.Ordering.{int_eq}
 use Rattle.std.specs.Cmp.{IsEquivalence, decided, signed_Decides, first_so, second_so}
 use Rattle.std.proofs.Common.{sym, ap, ◌∙◌}

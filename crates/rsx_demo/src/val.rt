@@ -212,7 +212,13 @@ impl fmt::Debug for Vals {
     }
 }
 
+/// A number in decimal digits, or the items of a list in brackets, with a space between them.
 impl fmt::Display for Val {
+    ghost use Rattle.std.specs.Prelude.{Some};
+    ghost use Rattle.rsx_demo.specs.Texts.{item_text};
+
+    ghost output = { λ item. Some (item_text item) };
+
     #[cycle(shown)]
     fn fmt<W: fmt::Write>(&self, f: &mut fmt::Formatter<W>) -> fmt::Result {
         match self {
@@ -222,14 +228,21 @@ impl fmt::Display for Val {
     }
 }
 
+/// The items, with a space between them.
 impl fmt::Display for Vals {
+    ghost use Rattle.std.specs.Prelude.{Some};
+    ghost use Rattle.rsx_demo.specs.Texts.{data_text};
+
+    ghost output = { λ items. Some (data_text items) };
+
     #[cycle(shown)]
     fn fmt<W: fmt::Write>(&self, f: &mut fmt::Formatter<W>) -> fmt::Result {
-        for (i, item) in self.items.as_slice().iter().enumerate() {
-            if i > 0 {
-                f.write_str(" ")?;
-            }
-            write!(f, "{item}")?;
+        let Some((first, others)) = self.items.as_slice().split_first() else {
+            return Ok(());
+        };
+        write!(f, "{first}")?;
+        for other in others {
+            write!(f, " {other}")?;
         }
         Ok(())
     }
