@@ -2,7 +2,7 @@
 use Rattle.std.proofs.Common.{◌≡◌, ℕ, ◌<◌, List, [], ◌∷◌, ◌++◌, length, Option, Some, None, refl, sym, ap, subst, ◌∙◌, append_assoc, arith, inl, inr}
 use Rattle.std.specs.List.{flat_map}
 use Rattle.std.proofs.lemmas.List.{append-nil}
-use Rattle.rsx_script.specs.declared.words.LineRefusal.TheVariants.{Syntax}
+use Rattle.rsx_words.specs.declared.words.LineRefusal.TheVariants.{Syntax}
 use Rattle.rsx_trace.specs.declared.event.Stamped.{Stamped}
 use Rattle.rsx_trace.specs.declared.reader.BadLine.{BadLine}
 use Rattle.rsx_trace.specs.declared.reader.BadLine.TheVariants.{At}

@@ -1,9 +1,9 @@
 -- Inputs of traces, and what they are answered with.
 use Rattle.std.specs.Prelude.{◌≡◌, ℕ, ◌<◌, ◌⊎◌, List, [], ◌∷◌, ◌++◌, length, Option, Some, None, ⊤}
 use Rattle.std.specs.List.{flat_map, position}
-use Rattle.rsx_script.specs.declared.words.LineRefusal.{LineRefusal}
-use Rattle.rsx_script.specs.declared.words.LineRefusal.TheVariants.{Syntax, UnknownName, TooLong, NoMemory}
-use Rattle.rsx_script.specs.Words.{is_written}
+use Rattle.rsx_words.specs.declared.words.LineRefusal.{LineRefusal}
+use Rattle.rsx_words.specs.declared.words.LineRefusal.TheVariants.{Syntax, UnknownName, TooLong, NoMemory}
+use Rattle.rsx_words.specs.Words.{is_written}
 use Rattle.rsx_trace.specs.declared.event.Stamped.{Stamped}
 use Rattle.rsx_trace.specs.declared.reader.BadLine.{BadLine}
 use Rattle.rsx_trace.specs.declared.reader.BadLine.TheVariants.{At}

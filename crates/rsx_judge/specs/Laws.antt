@@ -1,7 +1,7 @@
 -- The laws of what answers the lines of an input of traces.
 use Rattle.std.specs.Prelude.{ℕ, ◌<◌, List, [], ◌∷◌, length}
-use Rattle.rsx_script.specs.declared.words.LineRefusal.{LineRefusal}
-use Rattle.rsx_script.specs.declared.words.LineRefusal.TheVariants.{TooLong, NoMemory}
+use Rattle.rsx_words.specs.declared.words.LineRefusal.{LineRefusal}
+use Rattle.rsx_words.specs.declared.words.LineRefusal.TheVariants.{TooLong, NoMemory}
 use Rattle.rsx_judge.specs.declared.judge.TraceJudge.{TraceJudge}
 use Rattle.rsx_judge.specs.Judged.{IsBadNext, IsRefusedAfter, StandsFor}
 

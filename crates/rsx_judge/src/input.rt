@@ -4,7 +4,7 @@ ghost use Rattle.std.specs.Prelude.{◌≡◌, ◌≤◌, ℕ, List, [], ◌∷�
 ghost use Rattle.std.specs.String.{string_bytes};
 ghost use Rattle.std.specs.List.{position};
 ghost use Rattle.rsx_script.specs.Fault.{IsRunFault};
-ghost use Rattle.rsx_script.specs.Words.{is_written};
+ghost use Rattle.rsx_words.specs.Words.{is_written};
 ghost use Rattle.rsx_trace.specs.Texts.{lines};
 ghost use Rattle.rsx_tck.specs.Report.{IsReportText};
 ghost use Rattle.rsx_lines.specs.Answered.{Grows, IsStopped, Writes, WritesBefore};

@@ -2,7 +2,7 @@
 use Rattle.std.proofs.Common.{◌≡◌, ℕ, suc, ◌+◌, ◌≤◌, ◌<◌, false, List, [], ◌∷◌, ◌++◌, length, refl, sym, ap, subst, ◌∙◌, append_assoc, arith}
 use Rattle.std.specs.List.{position_or_len, before_first, after_first}
 use Rattle.std.proofs.lemmas.List.{append-nil, length-append, length-take}
-use Rattle.rsx_script.specs.declared.words.LineRefusal.TheVariants.{TooLong, NoMemory}
+use Rattle.rsx_words.specs.declared.words.LineRefusal.TheVariants.{TooLong, NoMemory}
 use Rattle.rsx_trace.specs.Texts.{lines}
 use Rattle.rsx_trace.proofs.Lines.{newline, no_line, only_line, some_line}
 use Rattle.rsx_trace.proofs.Traces.{IsClean, IsClean-append, clean_step, clean_again, line_and_rest}

@@ -3,8 +3,8 @@ use Rattle.std.specs.Prelude.{◌≡◌, ℕ, ◌+◌, List, ◌++◌, length, O
 use Rattle.std.specs.Io.KnownBytes.{Appends}
 use Rattle.rsx_script.specs.declared.fault.AppFault.{AppFault}
 use Rattle.rsx_script.specs.declared.fault.AppFault.TheVariants.{Line, Io, Memory}
-use Rattle.rsx_script.specs.declared.words.LineRefusal.{LineRefusal}
-use Rattle.rsx_script.specs.declared.words.LineRefusal.TheVariants.{NoMemory}
+use Rattle.rsx_words.specs.declared.words.LineRefusal.{LineRefusal}
+use Rattle.rsx_words.specs.declared.words.LineRefusal.TheVariants.{NoMemory}
 
 -- a text grew by some more, of which P holds
 abbrev pub Grows : List ℕ → List ℕ → (List ℕ → Type 0) → Type 0

@@ -4,8 +4,8 @@ use Rattle.std.specs.List.{position_or_len}
 use Rattle.std.specs.String.{string_bytes}
 use Rattle.rsx_script.specs.declared.fault.AppFault.{AppFault}
 use Rattle.rsx_script.specs.declared.fault.AppFault.TheVariants.{Line, Memory}
-use Rattle.rsx_script.specs.declared.words.LineRefusal.{LineRefusal}
-use Rattle.rsx_script.specs.declared.words.LineRefusal.TheVariants.{Syntax, UnknownName, TooLong, NoMemory}
+use Rattle.rsx_words.specs.declared.words.LineRefusal.{LineRefusal}
+use Rattle.rsx_words.specs.declared.words.LineRefusal.TheVariants.{Syntax, UnknownName, TooLong, NoMemory}
 use Rattle.rsx_trace.specs.Texts.{lines}
 use Rattle.rsx_lines.specs.declared.state.Run.{Run}
 

@@ -2,8 +2,8 @@
 
 ghost use Rattle.std.specs.Prelude.{◌≡◌, ◌≤◌, ◌<◌, ℕ, List, [], ◌∷◌, ◌++◌, length, OnOk, OnErr, IfErr};
 ghost use Rattle.std.specs.String.{string_bytes};
-ghost use Rattle.rsx_script.specs.declared.words.LineRefusal.{LineRefusal};
-ghost use Rattle.rsx_script.specs.declared.words.LineRefusal.TheVariants.{TooLong, NoMemory};
+ghost use Rattle.rsx_words.specs.declared.words.LineRefusal.{LineRefusal};
+ghost use Rattle.rsx_words.specs.declared.words.LineRefusal.TheVariants.{TooLong, NoMemory};
 ghost use Rattle.rsx_lines.specs.Answered.{Grows};
 
 use rsx_script::LineRefusal;

@@ -1,3 +1,2 @@
 -- Lemmas of this crate.
 pub mod Notes
-pub mod Places

@@ -1,9 +1,17 @@
 -- The text of answers.
-use Rattle.std.specs.Prelude.{◌≡◌, ℕ, ◌+◌, List, [], ◌∷◌, ◌++◌, Option, Some, None, IfSome, codes}
+use Rattle.std.specs.Prelude.{◌≡◌, ℕ, ◌+◌, List, [], ◌∷◌, ◌++◌, Some, None, codes}
 use Rattle.std.specs.List.{flat_map}
 use Rattle.std.specs.Fmt.{decimal}
 use Rattle.rsx_types.specs.declared.note.Note.{Note}
 use Rattle.rsx_types.specs.declared.note.Note.TheVariants.{Nothing, Picks, Ended}
+use Rattle.rsx_types.specs.declared.signal.Cause.TheVariants.{User, Function, NonPositiveRequest}
+use Rattle.rsx_types.specs.declared.signal.Ending.{Ending}
+use Rattle.rsx_types.specs.declared.signal.Ending.TheVariants.{Open, Done as EndedDone, Failed}
+use Rattle.rsx_demo.specs.declared.val.Val.{Val}
+use Rattle.rsx_demo.specs.Texts.{item_text}
+use Rattle.rsx_script.specs.declared.print.Rest.{Rest}
+use Rattle.rsx_script.specs.declared.print.Rest.TheVariants.{Owed, Cancelled, Closed}
+use Rattle.rsx_script.specs.declared.print.Shown.{Shown as Received}
 use Rattle.rsx_script.specs.declared.print.Answer.{Answer}
 use Rattle.rsx_script.specs.declared.print.Answer.TheVariants.{Hub, Sub, Done, Idle, Budget, Shown, Value, Asked, Count, Joins, Choices, Equal, Different, Refused}
 
@@ -28,23 +36,49 @@ abbrev pub notes_text : ℕ → List Note → List ℕ
 notes_text node [] = []
 notes_text node (n ∷ ns) = note_text node n ++ notes_text (node + 1) ns
 
--- the text of an answer that shows no items; nothing is said of the others
-abbrev pub answer_text : Answer → Option (List ℕ)
-answer_text (Hub hub) = Some (codes "hub " ++ decimal hub.0)
-answer_text (Sub sub) = Some (codes "sub " ++ decimal sub.0)
-answer_text Done = Some (codes "ok")
-answer_text Idle = Some (codes "idle")
-answer_text Budget = Some (codes "budget")
-answer_text (Shown shown) = None
-answer_text (Value value) = None
-answer_text (Asked asked) = Some (codes "asked " ++ decimal asked)
-answer_text (Count count) = Some (codes "count " ++ decimal count)
-answer_text (Joins joins) = Some (codes "joins" ++ numbers_text joins.items)
-answer_text (Choices notes) = Some (codes "choices" ++ notes_text 0 notes.items)
-answer_text Equal = Some (codes "equal")
-answer_text Different = Some (codes "different")
-answer_text (Refused name) = Some (codes "refused " ++ name.now)
+-- an ending behind a space; where there is none yet, nothing
+abbrev pub ending_text : Ending → List ℕ
+ending_text Open = []
+ending_text EndedDone = codes " complete"
+ending_text (Failed (User n)) = codes " error user " ++ decimal n
+ending_text (Failed (Function n)) = codes " error function " ++ decimal n
+ending_text (Failed NonPositiveRequest) = codes " error bad-request"
 
--- what an answer may be printed as
+-- each item behind a space
+abbrev pub items_text : List Val → List ℕ
+items_text items = flat_map (λ item. codes " " ++ item_text item) items
+
+-- the items, and then the ending
+abbrev pub signals_text : List Val → Ending → List ℕ
+signals_text items ending = items_text items ++ ending_text ending
+
+-- what follows what a subscriber received
+abbrev pub rest_text : Rest → List ℕ
+rest_text (Owed value) = codes " | owed" ++ signals_text value.items value.ending
+rest_text Cancelled = codes " | cancelled"
+rest_text Closed = codes " | closed"
+
+-- what a subscriber received, and the rest
+abbrev pub shown_text : Received → List ℕ
+shown_text shown = codes "received" ++ (signals_text shown.received.now shown.ending ++ rest_text shown.rest)
+
+-- the text of an answer
+abbrev pub answer_text : Answer → List ℕ
+answer_text (Hub hub) = codes "hub " ++ decimal hub.0
+answer_text (Sub sub) = codes "sub " ++ decimal sub.0
+answer_text Done = codes "ok"
+answer_text Idle = codes "idle"
+answer_text Budget = codes "budget"
+answer_text (Shown shown) = shown_text shown
+answer_text (Value value) = codes "scratch" ++ signals_text value.items value.ending
+answer_text (Asked asked) = codes "asked " ++ decimal asked
+answer_text (Count count) = codes "count " ++ decimal count
+answer_text (Joins joins) = codes "joins" ++ numbers_text joins.items
+answer_text (Choices notes) = codes "choices" ++ notes_text 0 notes.items
+answer_text Equal = codes "equal"
+answer_text Different = codes "different"
+answer_text (Refused name) = codes "refused " ++ name.now
+
+-- what an answer is printed as
 abbrev pub IsTextOf : Answer → List ℕ → Type 0
-IsTextOf answer text = IfSome (answer_text answer) (λ t. text ≡ t)
+IsTextOf answer text = text ≡ answer_text answer

@@ -3,21 +3,14 @@ use Rattle.std.specs.Prelude.{ℕ, ◌≢◌, ◌<◌, ⊤, List, ◌++◌, code
 use Rattle.std.specs.Fmt.{decimal}
 use Rattle.rsx_script.specs.declared.fault.AppFault.{AppFault}
 use Rattle.rsx_script.specs.declared.fault.AppFault.TheVariants.{Line, Io, Memory}
-use Rattle.rsx_script.specs.declared.words.LineRefusal.{LineRefusal}
-use Rattle.rsx_script.specs.declared.words.LineRefusal.TheVariants.{Syntax, UnknownName, TooLong, NoMemory}
+use Rattle.rsx_words.specs.declared.words.LineRefusal.TheVariants.{NoMemory}
+use Rattle.rsx_words.specs.Texts.{refusal_text}
 
 -- 1 for a line that can't be read, 3 for a read or a write that failed, 4 for want of memory
 abbrev pub status_of : AppFault → ℕ
 status_of (Line number refusal) = 1
 status_of Io = 3
 status_of Memory = 4
-
--- why a line can't be read, with the column of the word
-abbrev pub refusal_text : LineRefusal → List ℕ
-refusal_text (Syntax column) = codes "syntax at column " ++ decimal column
-refusal_text (UnknownName column) = codes "unknown name at column " ++ decimal column
-refusal_text TooLong = codes "longer than 4096 bytes"
-refusal_text NoMemory = codes "out of memory"
 
 -- the line for standard error
 abbrev pub fault_text : AppFault → List ℕ

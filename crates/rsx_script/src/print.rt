@@ -2,7 +2,7 @@
 
 ghost use Rattle.std.specs.Prelude.{◌≡◌, ◌++◌, ◌∷◌, [], ℕ, List, string_bytes, OnErr, OnOk};
 ghost use Rattle.std.specs.Fmt.{WritesOnOk};
-ghost use Rattle.rsx_script.specs.Answers.{IsTextOf, numbers_text, picks_text, note_text, notes_text};
+ghost use Rattle.rsx_script.specs.Answers.{IsTextOf, numbers_text, picks_text, note_text, notes_text, ending_text, items_text, signals_text, rest_text};
 
 use rsx_demo::Val;
 use rsx_types::{Cause, Ending, HubId, NoMemory, Note, StreamValue, SubId};
@@ -82,9 +82,10 @@ impl Answer<'_> {
 }
 
 impl fmt::Display for Answer<'_> {
+    ghost use Rattle.std.specs.Prelude.{Some};
     ghost use Rattle.rsx_script.specs.Answers.{answer_text};
 
-    ghost output = { answer_text };
+    ghost output = { λ answer. Some (answer_text answer) };
 
     fn fmt<W: fmt::Write>(&self, f: &mut fmt::Formatter<W>) -> fmt::Result {
         match self {
@@ -116,17 +117,29 @@ impl fmt::Display for Answer<'_> {
 }
 
 impl fmt::Display for Shown<'_> {
+    ghost use Rattle.std.specs.Prelude.{Some};
+    ghost use Rattle.rsx_script.specs.Answers.{shown_text};
+
+    ghost output = { λ shown. Some (shown_text shown) };
+
     fn fmt<W: fmt::Write>(&self, f: &mut fmt::Formatter<W>) -> fmt::Result {
         f.write_str("received")?;
         write_signals(f, self.received, self.ending)?;
-        match &self.rest {
-            Rest::Owed(value) => {
-                f.write_str(" | owed")?;
-                write_signals(f, value.items(), value.ending())
-            }
-            Rest::Cancelled => f.write_str(" | cancelled"),
-            Rest::Closed => f.write_str(" | closed"),
+        write_rest(f, &self.rest)
+    }
+}
+
+/// What follows what a subscriber received.
+fn write_rest<W: fmt::Write>(f: &mut fmt::Formatter<W>, rest: &Rest) -> fmt::Result
+    ensures { WritesOnOk W.write_str_gives f.old result (rest_text rest.now) f.new }
+{
+    match rest {
+        Rest::Owed(value) => {
+            f.write_str(" | owed")?;
+            write_signals(f, value.items(), value.ending())
         }
+        Rest::Cancelled => f.write_str(" | cancelled"),
+        Rest::Closed => f.write_str(" | closed"),
     }
 }
 
@@ -184,10 +197,27 @@ fn write_signals<W: fmt::Write>(
     f: &mut fmt::Formatter<W>,
     items: &[Val],
     ending: Ending,
-) -> fmt::Result {
+) -> fmt::Result
+    ensures { WritesOnOk W.write_str_gives f.old result (signals_text items.now ending) f.new }
+{
+    write_items(f, items)?;
+    write_ending(f, ending)
+}
+
+/// Each item behind a space.
+fn write_items<W: fmt::Write>(f: &mut fmt::Formatter<W>, items: &[Val]) -> fmt::Result
+    ensures { WritesOnOk W.write_str_gives f.old result (items_text items.now) f.new }
+{
     for item in items {
         write!(f, " {item}")?;
     }
+    Ok(())
+}
+
+/// The ending behind a space, where there is one.
+fn write_ending<W: fmt::Write>(f: &mut fmt::Formatter<W>, ending: Ending) -> fmt::Result
+    ensures { WritesOnOk W.write_str_gives f.old result (ending_text ending) f.new }
+{
     match ending {
         Ending::Open => Ok(()),
         Ending::Done => f.write_str(" complete"),

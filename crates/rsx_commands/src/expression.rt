@@ -1,0 +1,197 @@
+//! Reads an expression.
+
+ghost use Rattle.std.specs.Prelude.{◌≡◌, ◌<◌, ◌≤◌, ℕ, IfOk, IfSome, OnOk, map};
+ghost use Rattle.rsx_words.specs.Reading.{Gives, GivesInMemory, left, bytes_left};
+ghost use Rattle.rsx_commands.specs.Orders.{tree_of, trees_of};
+ghost use Rattle.rsx_commands.specs.Expressions.{function_at, stage_at, item_at, items_at, range_at, hub_at, inputs_at, on_at, plain_at, operator_at, expression_at};
+
+use crate::parse::hub;
+use rsx_demo::{Role, Val, function_number};
+use rsx_model::Expr;
+use rsx_types::Stage;
+use rsx_words::{LineRefusal, Word, Words, number_i64};
+use std::alloc::Global;
+
+/// An expression in its parentheses. Each one inside begins with a further parenthesis, so a line's length bounds how
+/// deep this goes.
+#[cycle(expression)]
+#[tactic(auto, unfolding(crate::specs::Expressions::expression_at))]
+pub(crate) fn expression(alloc: Global, words: &mut Words<'_>) -> Result<Expr<Val>, LineRefusal>
+    ensures word { (n : ℕ) → bytes_left words.old < n → GivesInMemory (λ e. (tree_of e, left words.new)) result (expression_at n (left words.old)) }
+    ensures less { OnOk result (bytes_left words.new < bytes_left words.old) }
+    ensures most { bytes_left words.new ≤ bytes_left words.old }
+{
+    words.open()?;
+    let (column, name) = words.name()?;
+    operator(alloc, column, name, words)
+}
+
+/// What stands behind the name of an operator, which stands at this column, up to the parenthesis that closes it.
+#[cycle(expression)]
+#[tactic(auto, unfolding(crate::specs::Expressions::operator_at))]
+fn operator(
+    alloc: Global,
+    column: u64,
+    name: &str,
+    words: &mut Words<'_>,
+) -> Result<Expr<Val>, LineRefusal>
+    ensures word { (n : ℕ) → bytes_left words.old < n → GivesInMemory (λ e. (tree_of e, left words.new)) result (operator_at (expression_at n) n column name.now (left words.old)) }
+    ensures most { bytes_left words.new ≤ bytes_left words.old }
+{
+    match name {
+        "items" => Ok(Expr::Items(items(alloc, words)?)),
+        "range" => range(words),
+        "hub" => reading(words),
+        "concat" => Ok(Expr::Concat(inputs(alloc, words)?)),
+        "merge" => {
+            let prefetch = words.u64()?;
+            Ok(Expr::Merge(prefetch, inputs(alloc, words)?))
+        }
+        "zip" => {
+            let prefetch = words.u64()?;
+            Ok(Expr::Zip(prefetch, inputs(alloc, words)?))
+        }
+        "combineLatest" => {
+            let prefetch = words.u64()?;
+            Ok(Expr::Latest(prefetch, inputs(alloc, words)?))
+        }
+        "publishOn" => publish_on(alloc, words),
+        _ => plain(alloc, column, name, words),
+    }
+}
+
+/// One expression or more, up to the parenthesis that closes the list. An expression takes at least a byte of the line.
+#[cycle(expression)]
+fn inputs(alloc: Global, words: &mut Words<'_>) -> Result<Vec<Expr<Val>>, LineRefusal>
+    ensures word { (n : ℕ) → bytes_left words.old < n → GivesInMemory (λ es. (trees_of (map tree_of es.items), left words.new)) result (inputs_at (expression_at n) n (left words.old)) }
+    ensures most { bytes_left words.new ≤ bytes_left words.old }
+{
+    let mut inputs = Vec::new(alloc);
+    loop {
+        let input = expression(alloc, words)?;
+        inputs.push(input)?;
+        if !words.is_open() {
+            words.close()?;
+            return Ok(inputs);
+        }
+    }
+}
+
+/// The worker and the prefetch of a `publishOn`, and the expression that follows.
+#[cycle(expression)]
+#[tactic(auto, unfolding(crate::specs::Expressions::on_at))]
+fn publish_on(alloc: Global, words: &mut Words<'_>) -> Result<Expr<Val>, LineRefusal>
+    ensures word { (n : ℕ) → bytes_left words.old < n → GivesInMemory (λ e. (tree_of e, left words.new)) result (on_at (expression_at n) (left words.old)) }
+    ensures most { bytes_left words.new ≤ bytes_left words.old }
+{
+    let worker = words.u8()?;
+    let prefetch = words.u64()?;
+    let input = expression(alloc, words)?;
+    words.close()?;
+    Ok(Expr::On(worker, prefetch, Box::new(alloc, input)?))
+}
+
+/// The plain operator with this name, which stands at this column, over the expression that follows.
+#[cycle(expression)]
+#[tactic(auto, unfolding(crate::specs::Expressions::plain_at))]
+fn plain(
+    alloc: Global,
+    column: u64,
+    name: &str,
+    words: &mut Words<'_>,
+) -> Result<Expr<Val>, LineRefusal>
+    ensures word { (n : ℕ) → bytes_left words.old < n → GivesInMemory (λ e. (tree_of e, left words.new)) result (plain_at (expression_at n) column name.now (left words.old)) }
+    ensures most { bytes_left words.new ≤ bytes_left words.old }
+{
+    let stage = stage(column, name, words)?;
+    let input = expression(alloc, words)?;
+    words.close()?;
+    Ok(Expr::Plain(stage, Box::new(alloc, input)?))
+}
+
+/// The plain operator with this name, which stands at this column, with its functions and numbers.
+#[tactic(auto, unfolding(crate::specs::Expressions::stage_at))]
+fn stage(column: u64, name: &str, words: &mut Words<'_>) -> Result<Stage<Val>, LineRefusal>
+    ensures word { Gives (λ x. (x, left words.new)) result (stage_at column name.now (left words.old)) }
+    ensures most { bytes_left words.new ≤ bytes_left words.old }
+{
+    match name {
+        "map" => Ok(Stage::Map(function(words, Role::Map)?)),
+        "filter" => Ok(Stage::Filter(function(words, Role::Test)?)),
+        "take" => Ok(Stage::Take(words.u64()?)),
+        "scan" => {
+            let fold = function(words, Role::Fold)?;
+            Ok(Stage::Scan(fold, Val::Int(words.i64()?)))
+        }
+        "buffer" => Ok(Stage::Buffer(words.u64()?)),
+        "distinct" => Ok(Stage::Distinct(function(words, Role::Key)?)),
+        _ => Err(LineRefusal::UnknownName(column)),
+    }
+}
+
+/// The first number and the count of a range.
+#[tactic(auto, unfolding(crate::specs::Expressions::range_at))]
+fn range(words: &mut Words<'_>) -> Result<Expr<Val>, LineRefusal>
+    ensures word { Gives (λ e. (tree_of e, left words.new)) result (range_at (left words.old)) }
+    ensures most { bytes_left words.new ≤ bytes_left words.old }
+{
+    let first = words.i64()?;
+    let count = words.u64()?;
+    words.close()?;
+    Ok(Expr::Range(first, count))
+}
+
+/// The hub that a leaf reads.
+#[tactic(auto, unfolding(crate::specs::Expressions::hub_at))]
+fn reading(words: &mut Words<'_>) -> Result<Expr<Val>, LineRefusal>
+    ensures word { Gives (λ e. (tree_of e, left words.new)) result (hub_at (left words.old)) }
+    ensures most { bytes_left words.new ≤ bytes_left words.old }
+{
+    let hub = hub(words)?;
+    words.close()?;
+    Ok(Expr::Hub(hub))
+}
+
+/// The numbers up to the parenthesis that closes the list.
+fn items(alloc: Global, words: &mut Words<'_>) -> Result<Vec<Val>, LineRefusal>
+    ensures word { GivesInMemory (λ v. (v.items, left words.new)) result (items_at (left words.old)) }
+    ensures most { bytes_left words.new ≤ bytes_left words.old }
+{
+    let mut items = Vec::new(alloc);
+    loop {
+        match item(words)? {
+            None => return Ok(items),
+            Some(number) => {
+                items.push(Val::Int(number))?;
+            }
+        }
+    }
+}
+
+/// The next number of a list, or none at the parenthesis that closes it.
+#[tactic(auto, unfolding(crate::specs::Expressions::item_at))]
+fn item(words: &mut Words<'_>) -> Result<Option<i64>, LineRefusal>
+    ensures word { Gives (λ n. (n, left words.new)) result (item_at (left words.old)) }
+    ensures less { IfOk result (λ o. IfSome o (λ _. bytes_left words.new < bytes_left words.old)) }
+    ensures most { bytes_left words.new ≤ bytes_left words.old }
+{
+    match words.next()? {
+        (_, Word::Close) => Ok(None),
+        (column, Word::Text(word)) => match number_i64(word) {
+            Some(number) => Ok(Some(number)),
+            None => Err(LineRefusal::Syntax(column)),
+        },
+        (column, Word::Open) => Err(LineRefusal::Syntax(column)),
+        (column, Word::End) => Err(LineRefusal::Syntax(column)),
+    }
+}
+
+/// The number of the function that is named next.
+#[tactic(auto, unfolding(crate::specs::Expressions::function_at))]
+fn function(words: &mut Words<'_>, role: Role) -> Result<u16, LineRefusal>
+    ensures word { Gives (λ f. (f, left words.new)) result (function_at role (left words.old)) }
+    ensures most { bytes_left words.new ≤ bytes_left words.old }
+{
+    let (column, name) = words.name()?;
+    function_number(role, name).ok_or(LineRefusal::UnknownName(column))
+}

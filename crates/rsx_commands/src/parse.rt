@@ -1,0 +1,151 @@
+//! Reads a line: its command, with numbers, names and expressions.
+
+ghost use Rattle.std.specs.Prelude.{◌≡◌, ◌<◌, ◌≤◌, ℕ, length, option_map};
+ghost use Rattle.rsx_words.specs.Numbers.{u32_of};
+ghost use Rattle.rsx_words.specs.Reading.{Gives, GivesInMemory, left, bytes_left, number_at};
+ghost use Rattle.rsx_commands.specs.Orders.{order_of};
+ghost use Rattle.rsx_commands.specs.Commands.{pick_at, hub_kind_at, hub_command_at, plain_command_at, command_at, line_at, meaning_of_line};
+
+use crate::command::Command;
+use crate::expression::expression;
+use rsx_types::{HubId, HubKind, NodeId, SubId};
+use rsx_words::{LineRefusal, Word, Words};
+use std::alloc::Global;
+
+/// The most bytes of a line, without its newline.
+pub const MOST_BYTES: usize = 4096;
+
+/// The command of a line, or none where the line is empty or spaces alone. Words are judged from left to right.
+///
+/// # Errors
+///
+/// `TooLong` before all others; else at the first wrong word `UnknownName` where a name is wanted and any other word
+/// than a parenthesis stands, and `Syntax` elsewhere; `NoMemory` where a growth was refused.
+#[tactic(auto, unfolding(crate::specs::Commands::meaning_of_line))]
+pub fn parse_line(alloc: Global, line: &[u8]) -> Result<Option<Command>, LineRefusal>
+    ensures meaning { GivesInMemory (λ command. option_map order_of command) result (meaning_of_line line.now) }
+    ensures long { 4096 < length line.now → result ≡ Err LineRefusal.TooLong }
+{
+    if line.len() > MOST_BYTES {
+        return Err(LineRefusal::TooLong);
+    }
+    let mut words = Words::new(line);
+    command_in(alloc, &mut words)
+}
+
+/// The command that these words ask for, if there are any.
+#[tactic(auto, unfolding(crate::specs::Commands::line_at))]
+fn command_in(alloc: Global, words: &mut Words<'_>) -> Result<Option<Command>, LineRefusal>
+    ensures { (n : ℕ) → bytes_left words.old < n → GivesInMemory (λ command. option_map order_of command) result (line_at n (left words.old)) }
+{
+    match words.next()? {
+        (_, Word::End) => Ok(None),
+        (column, Word::Text(name)) => {
+            let command = command_of(alloc, column, name, words)?;
+            words.end()?;
+            Ok(Some(command))
+        }
+        (column, Word::Open) => Err(LineRefusal::Syntax(column)),
+        (column, Word::Close) => Err(LineRefusal::Syntax(column)),
+    }
+}
+
+/// The command with this name, which stands at this column.
+#[tactic(auto, unfolding(crate::specs::Commands::command_at))]
+fn command_of(
+    alloc: Global,
+    column: u64,
+    name: &str,
+    words: &mut Words<'_>,
+) -> Result<Command, LineRefusal>
+    ensures { (n : ℕ) → bytes_left words.old < n → GivesInMemory (λ x. (order_of x, left words.new)) result (command_at n column name.now (left words.old)) }
+{
+    match name {
+        "subscribe" => Ok(Command::Subscribe(expression(alloc, words)?)),
+        _ => plain_command_of(column, name, words),
+    }
+}
+
+/// The command with this name, which stands at this column and is followed by numbers alone.
+#[tactic(auto, unfolding(crate::specs::Commands::plain_command_at))]
+fn plain_command_of(column: u64, name: &str, words: &mut Words<'_>) -> Result<Command, LineRefusal>
+    ensures { Gives (λ x. (order_of x, left words.new)) result (plain_command_at column name.now (left words.old)) }
+{
+    match name {
+        "request" => {
+            let sub = subscription(words)?;
+            Ok(Command::Request(sub, words.i64()?))
+        }
+        "cancel" => Ok(Command::Cancel(subscription(words)?)),
+        "pump" => Ok(Command::Pump(words.u32()?)),
+        "pick" => pick(words),
+        "show" => Ok(Command::Show(subscription(words)?)),
+        "asked" => Ok(Command::Asked(subscription(words)?)),
+        "count" => Ok(Command::Count(subscription(words)?)),
+        "joins" => Ok(Command::Joins(subscription(words)?)),
+        "choices" => Ok(Command::Choices(subscription(words)?)),
+        "check" => Ok(Command::Check(subscription(words)?)),
+        _ => hub_command_of(column, name, words),
+    }
+}
+
+/// The command with this name, which makes a hub or publishes to one. The name stands at this column.
+#[tactic(auto, unfolding(crate::specs::Commands::hub_command_at))]
+fn hub_command_of(column: u64, name: &str, words: &mut Words<'_>) -> Result<Command, LineRefusal>
+    ensures { Gives (λ x. (order_of x, left words.new)) result (hub_command_at column name.now (left words.old)) }
+{
+    match name {
+        "hub" => {
+            let kind = hub_kind(words)?;
+            Ok(Command::Hub(kind, words.u64()?))
+        }
+        "emit" => {
+            let hub = hub(words)?;
+            Ok(Command::Emit(hub, words.i64()?))
+        }
+        "complete" => Ok(Command::Complete(hub(words)?)),
+        "fail" => {
+            let hub = hub(words)?;
+            Ok(Command::Fail(hub, words.u32()?))
+        }
+        _ => Err(LineRefusal::UnknownName(column)),
+    }
+}
+
+/// A pick: the subscription, the node and its input.
+#[tactic(auto, unfolding(crate::specs::Commands::pick_at))]
+fn pick(words: &mut Words<'_>) -> Result<Command, LineRefusal>
+    ensures { Gives (λ x. (order_of x, left words.new)) result (pick_at (left words.old)) }
+{
+    let sub = subscription(words)?;
+    let node = NodeId(words.u32()?);
+    Ok(Command::Pick(sub, node, words.u64()?))
+}
+
+/// The kind of a hub: `multicast`, or `replay` and how many items it keeps.
+#[tactic(auto, unfolding(crate::specs::Commands::hub_kind_at))]
+fn hub_kind(words: &mut Words<'_>) -> Result<HubKind, LineRefusal>
+    ensures { Gives (λ x. (x, left words.new)) result (hub_kind_at (left words.old)) }
+{
+    let (column, name) = words.name()?;
+    match name {
+        "multicast" => Ok(HubKind::Multicast),
+        "replay" => Ok(HubKind::Replay(words.u64()?)),
+        _ => Err(LineRefusal::UnknownName(column)),
+    }
+}
+
+/// The number of a hub.
+pub(crate) fn hub(words: &mut Words<'_>) -> Result<HubId, LineRefusal>
+    ensures word { Gives (λ h. (h.0, left words.new)) result (number_at u32_of (left words.old)) }
+    ensures most { bytes_left words.new ≤ bytes_left words.old }
+{
+    Ok(HubId(words.u32()?))
+}
+
+/// The number of a subscription.
+fn subscription(words: &mut Words<'_>) -> Result<SubId, LineRefusal>
+    ensures { Gives (λ s. (s.0, left words.new)) result (number_at u32_of (left words.old)) }
+{
+    Ok(SubId(words.u32()?))
+}

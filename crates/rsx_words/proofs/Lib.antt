@@ -1,0 +1,4 @@
+-- Lemmas of this crate.
+pub mod Digits
+pub mod Places
+pub mod Runs
