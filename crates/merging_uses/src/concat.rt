@@ -76,10 +76,16 @@ fn owed(alloc: Global) -> Result<(usize, Ending), NoMemory> {
     Ok((value.items().len(), value.ending()))
 }
 
-/// Whether a fresh concat has no hub, no pick and no row, records nothing and lets nothing pass in one go.
+/// Whether a fresh concat records nothing and lets an item pass of its first input alone, and whether it has a hub, a pick, a row or
+/// anything to send.
 fn looks(alloc: Global) -> Result<(bool, bool), NoMemory> {
     let mut node = three(alloc)?;
-    let passes = matches!(node.pass(alloc, &Demo, 0, Val::Int(1)), Passed::Declined(_));
+    let declines = matches!(node.pass(alloc, &Demo, 1, Val::Int(1)), Passed::Declined(_));
+    // An item of the input whose turn it is goes through without a move of its own.
+    let passes = matches!(
+        node.pass(alloc, &Demo, 0, Val::Int(1)),
+        Passed::Item(Val::Int(1))
+    );
     let records = matches!(node.note(alloc)?, Note::Nothing);
     let reads = node.hub().is_some()
         || node.has_room()
@@ -90,7 +96,7 @@ fn looks(alloc: Global) -> Result<(bool, bool), NoMemory> {
         || node.next_pick(9, 0).is_some()
         || node.on_pick(alloc, &Demo, 0, 9, 0).is_ok();
     let waits = node.has_ended() || node.pop_item(alloc, &Demo).is_some();
-    Ok((passes && records, reads || steps || waits))
+    Ok((declines && passes && records, reads || steps || waits))
 }
 
 #[test]

@@ -126,7 +126,7 @@ fn noted(alloc: Global) -> Result<Vec<u64>, NoMemory> {
 /// pick.
 fn looks(alloc: Global) -> Result<(u64, u64, bool, bool), NoMemory> {
     let mut node = MergeNode::new(alloc, 2, 4)?;
-    let passes = matches!(node.pass(alloc, &Demo, 0, Val::Int(1)), Passed::Declined(_));
+    let passes = matches!(node.pass(alloc, &Demo, 2, Val::Int(1)), Passed::Declined(_));
     let reads = node.hub().is_some()
         || node.has_room()
         || node.on_published(Signal::Complete).is_ok();
@@ -136,12 +136,11 @@ fn looks(alloc: Global) -> Result<(u64, u64, bool, bool), NoMemory> {
         || node.has_ended()
         || node.front().is_some();
     let takes = node.can_take(1, Front::Item) && !node.can_take(2, Front::Completion);
-    Ok((
-        node.want(1, 9, 0),
-        node.want(2, 9, 0),
-        passes && takes,
-        reads || steps,
-    ))
+    let (full, absent) = (node.want(1, 9, 0), node.want(2, 9, 0));
+    // An item goes in without a move of its own, and waits to be picked.
+    let keeps = matches!(node.pass(alloc, &Demo, 0, Val::Int(1)), Passed::Kept)
+        && node.can_pick(0, 9, 0);
+    Ok((full, absent, passes && takes && keeps, reads || steps))
 }
 
 /// Whether a failure is picked before an item that waits at the other input, and what can be picked after it.

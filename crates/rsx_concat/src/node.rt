@@ -242,7 +242,12 @@ impl<T: Drop> Machine for ConcatNode<T> {
     }
 
     fn pass<O: Ops<Item = T>>(&mut self, alloc: Global, ops: &O, input: u64, item: T) -> Passed<T> {
-        Passed::Declined(item)
+        if !self.can_take(input, Front::Item) {
+            return Passed::Declined(item);
+        }
+        let counted = saturating_total(self.current, 1);
+        self.current = counted;
+        Passed::Item(item)
     }
 
     fn hub(&self) -> Option<u64> {

@@ -195,7 +195,11 @@ impl<T: Drop> Machine for MergeNode<T> {
     }
 
     fn pass<O: Ops<Item = T>>(&mut self, alloc: Global, ops: &O, input: u64, item: T) -> Passed<T> {
-        Passed::Declined(item)
+        if self.has_ended() || !self.can_take(input, Front::Item) {
+            return Passed::Declined(item);
+        }
+        self.inputs[input as usize].put(Signal::Next(item));
+        Passed::Kept
     }
 
     fn hub(&self) -> Option<u64> {

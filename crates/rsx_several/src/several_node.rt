@@ -200,8 +200,14 @@ impl<T: Drop> Machine for SeveralNode<T> {
         }
     }
 
+    #[inline]
     fn pass<O: Ops<Item = T>>(&mut self, alloc: Global, ops: &O, input: u64, item: T) -> Passed<T> {
-        Passed::Declined(item)
+        match self {
+            SeveralNode::Concat(node) => node.pass(alloc, ops, input, item),
+            SeveralNode::Merge(node) => node.pass(alloc, ops, input, item),
+            SeveralNode::Zip(node) => node.pass(alloc, ops, input, item),
+            SeveralNode::Latest(node) => node.pass(alloc, ops, input, item),
+        }
     }
 
     fn hub(&self) -> Option<u64> {
@@ -265,6 +271,7 @@ impl<T: Drop> Machine for SeveralNode<T> {
         }
     }
 
+    #[inline]
     fn on_row<O: Ops<Item = T>>(
         &mut self,
         alloc: Global,
