@@ -17,10 +17,12 @@ use Rattle.rsx_sources.specs.declared.range.RangeNode.{RangeNode}
 use Rattle.rsx_hub_leaf.specs.Leaf.{LeafState, leaf_comes_out, leaf_popped, leaf_reads, leaf_waiting}
 use Rattle.rsx_plain.specs.Node.{plain_comes_out, plain_popped, plain_counted, plain_ended, plain_takes, plain_waiting}
 use Rattle.rsx_plain.specs.declared.node.PlainNode.{PlainNode}
-use Rattle.rsx_several.specs.Several.{several_comes_out, several_waiting, several_popped, several_recorded, several_counted, several_ended, several_done}
+use Rattle.rsx_several.specs.Several.{several_comes_out, several_waiting, several_takes, several_popped, several_recorded, several_counted, several_ended, several_done}
 use Rattle.rsx_several.specs.declared.several_node.SeveralNode.{SeveralNode}
+use Rattle.rsx_publish_on.specs.PublishOn.{publish_comes_out, publish_waiting, publish_takes, publish_popped, publish_counted, publish_ended}
+use Rattle.rsx_publish_on.specs.declared.node.PublishOnNode.{PublishOnNode}
 use Rattle.rsx_node.specs.declared.any_node.AnyNode.{AnyNode}
-use Rattle.rsx_node.specs.declared.any_node.AnyNode.TheVariants.{Source, Plain, Several}
+use Rattle.rsx_node.specs.declared.any_node.AnyNode.TheVariants.{Source, Plain, Several, PublishOn}
 use Rattle.rsx_node.specs.declared.source_node.SourceNode.{SourceNode}
 use Rattle.rsx_node.specs.declared.source_node.SourceNode.TheVariants.{Items, Range, Hub}
 use Rattle.rsx_node.specs.Any.{any_comes_out, any_popped, any_waiting, any_recorded, any_counted, any_ended, any_done, any_takes}
@@ -94,6 +96,10 @@ pub popped_several : {T : Type 0} (m : Meaning T) (old new : SeveralNode T) (o :
 popped_several m old new None h = (h.0, ap Several h.1)
 popped_several m old new (Some s) h = h
 
+pub popped_publish_on : {T : Type 0} (m : Meaning T) (old new : PublishOnNode T) (o : Option (Signal T)) → IsPopped (publish_comes_out m) publish_popped (publish_waiting m old) old o new → IsPopped (any_comes_out m) any_popped (publish_waiting m old) (PublishOn old) o (PublishOn new)
+popped_publish_on m old new None h = (h.0, ap PublishOn h.1)
+popped_publish_on m old new (Some s) h = h
+
 pub counted_plain : {T : Type 0} (old new : PlainNode T) (o : Option (Signal T)) → CountsOut plain_counted plain_ended (λ n i. false) old o new → CountsOut any_counted any_ended any_done (Plain old) o (Plain new)
 counted_plain old new None h = tt
 counted_plain old new (Some (Next x)) h = h
@@ -106,11 +112,20 @@ counted_several old new (Some (Next x)) h = h
 counted_several old new (Some Complete) h = tt
 counted_several old new (Some (Error c)) h = tt
 
+pub counted_publish_on : {T : Type 0} (old new : PublishOnNode T) (o : Option (Signal T)) → CountsOut publish_counted publish_ended (λ n i. false) old o new → CountsOut any_counted any_ended any_done (PublishOn old) o (PublishOn new)
+counted_publish_on old new None h = tt
+counted_publish_on old new (Some (Next x)) h = h
+counted_publish_on old new (Some Complete) h = tt
+counted_publish_on old new (Some (Error c)) h = tt
+
 pub taken_plain : {T : Type 0} (old new : PlainNode T) (i : ℕ) (s : Signal T) → CountsIn plain_counted plain_ended (λ n j. false) old i s new → CountsIn any_counted any_ended any_done (Plain old) i s (Plain new)
 taken_plain old new i s h = record { stays_ended = h.stays_ended; counts = h.counts; stays_done = h.stays_done; is_done = h.is_done }
 
 pub taken_several : {T : Type 0} (old new : SeveralNode T) (i : ℕ) (s : Signal T) → CountsIn several_counted several_ended several_done old i s new → CountsIn any_counted any_ended any_done (Several old) i s (Several new)
 taken_several old new i s h = record { stays_ended = h.stays_ended; counts = h.counts; stays_done = h.stays_done; is_done = h.is_done }
+
+pub taken_publish_on : {T : Type 0} (old new : PublishOnNode T) (i : ℕ) (s : Signal T) → CountsIn publish_counted publish_ended (λ n j. false) old i s new → CountsIn any_counted any_ended any_done (PublishOn old) i s (PublishOn new)
+taken_publish_on old new i s h = record { stays_ended = h.stays_ended; counts = h.counts; stays_done = h.stays_done; is_done = h.is_done }
 
 pub stepped_several : {T : Type 0} (old new : SeveralNode T) → CountsStep several_counted several_ended several_done old new → CountsStep any_counted any_ended any_done (Several old) (Several new)
 stepped_several old new h = record { stays_ended = h.stays_ended; counts = h.counts; stays_done = h.stays_done }
@@ -119,16 +134,25 @@ pub returned_plain : {T : Type 0} (before : AnyNode T) (s : Signal T) (n n' : Pl
 returned_plain (Source a) s n n' h k = absurd h
 returned_plain (Plain a) s n n' h k = ap Plain (k a h)
 returned_plain (Several a) s n n' h k = absurd h
+returned_plain (PublishOn a) s n n' h k = absurd h
 
 pub returned_source : {T : Type 0} (before : AnyNode T) (s : Signal T) (n n' : SourceNode T) → any_popped before s (Source n) → ((b : SourceNode T) → source_popped b s n → n' ≡ b) → Source n' ≡ before
 returned_source (Source a) s n n' h k = ap Source (k a h)
 returned_source (Plain a) s n n' h k = absurd h
 returned_source (Several a) s n n' h k = absurd h
+returned_source (PublishOn a) s n n' h k = absurd h
 
 pub returned_several : {T : Type 0} (before : AnyNode T) (s : Signal T) (n n' : SeveralNode T) → any_popped before s (Several n) → ((b : SeveralNode T) → several_popped b s n → n' ≡ b) → Several n' ≡ before
 returned_several (Source a) s n n' h k = absurd h
 returned_several (Plain a) s n n' h k = absurd h
 returned_several (Several a) s n n' h k = ap Several (k a h)
+returned_several (PublishOn a) s n n' h k = absurd h
+
+pub returned_publish_on : {T : Type 0} (before : AnyNode T) (s : Signal T) (n n' : PublishOnNode T) → any_popped before s (PublishOn n) → ((b : PublishOnNode T) → publish_popped b s n → n' ≡ b) → PublishOn n' ≡ before
+returned_publish_on (Source a) s n n' h k = absurd h
+returned_publish_on (Plain a) s n n' h k = absurd h
+returned_publish_on (Several a) s n n' h k = absurd h
+returned_publish_on (PublishOn a) s n n' h k = ap PublishOn (k a h)
 
 -- ---- an item that goes through in one go
 
@@ -162,3 +186,27 @@ pub passed_plain : {T : Type 0} (m : Meaning T) (old new : PlainNode T) (i : ℕ
 passed_plain m old new i x (Item y) h = (Plain h.0, in_plain m old h.0 i (Next x) h.1, out_plain m h.0 new y h.2)
 passed_plain m old new i x Kept h = in_plain m old new i (Next x) h
 passed_plain m old new i x (Declined y) h = (h.0, ap Plain h.1)
+
+in_several : {T : Type 0} (m : Meaning T) (old new : SeveralNode T) (i : ℕ) (s : Signal T) → IsTakenIn (several_comes_out m) several_takes several_recorded several_counted several_ended several_done old i s new →
+    IsTakenIn (any_comes_out m) any_takes any_recorded any_counted any_ended any_done (Several old) i s (Several new)
+in_several m old new i s h = record { enabled = h.enabled; value = h.value; notes = h.notes; counts = taken_several old new i s h.counts; goes_on = h.goes_on }
+
+pub passed_several : {T : Type 0} (m : Meaning T) (old new : SeveralNode T) (i : ℕ) (x : T) (r : Passed T) → IsPassed (several_comes_out m) (several_waiting m) several_takes several_popped several_recorded several_counted several_ended several_done old i x r new →
+    IsPassed (any_comes_out m) (any_waiting m) any_takes any_popped any_recorded any_counted any_ended any_done (Several old) i x r (Several new)
+passed_several m old new i x (Item y) h = (Several h.0, in_several m old h.0 i (Next x) h.1, item_out_several m h.0 new (Some y) h.2)
+passed_several m old new i x Kept h = in_several m old new i (Next x) h
+passed_several m old new i x (Declined y) h = (h.0, ap Several h.1)
+
+pub item_out_publish_on : {T : Type 0} (m : Meaning T) (old new : PublishOnNode T) (o : Option T) → IfSome o (λ x. IsItemOut (publish_comes_out m) (publish_waiting m) publish_popped (λ n. Nothing) publish_counted publish_ended (λ n i. false) old x new) → IfSome o (λ x. IsOutAny m (PublishOn old) x (PublishOn new))
+item_out_publish_on m old new None h = h
+item_out_publish_on m old new (Some x) h = record { waited = h.waited; popped_out = h.popped_out; value = h.value; notes = h.notes; counts = h.counts }
+
+in_publish_on : {T : Type 0} (m : Meaning T) (old new : PublishOnNode T) (i : ℕ) (s : Signal T) → IsTakenIn (publish_comes_out m) publish_takes (λ n. Nothing) publish_counted publish_ended (λ n j. false) old i s new →
+    IsTakenIn (any_comes_out m) any_takes any_recorded any_counted any_ended any_done (PublishOn old) i s (PublishOn new)
+in_publish_on m old new i s h = record { enabled = h.enabled; value = h.value; notes = h.notes; counts = taken_publish_on old new i s h.counts; goes_on = h.goes_on }
+
+pub passed_publish_on : {T : Type 0} (m : Meaning T) (old new : PublishOnNode T) (i : ℕ) (x : T) (r : Passed T) → IsPassed (publish_comes_out m) (publish_waiting m) publish_takes publish_popped (λ n. Nothing) publish_counted publish_ended (λ n j. false) old i x r new →
+    IsPassed (any_comes_out m) (any_waiting m) any_takes any_popped any_recorded any_counted any_ended any_done (PublishOn old) i x r (PublishOn new)
+passed_publish_on m old new i x (Item y) h = (PublishOn h.0, in_publish_on m old h.0 i (Next x) h.1, item_out_publish_on m h.0 new (Some y) h.2)
+passed_publish_on m old new i x Kept h = in_publish_on m old new i (Next x) h
+passed_publish_on m old new i x (Declined y) h = (h.0, ap PublishOn h.1)

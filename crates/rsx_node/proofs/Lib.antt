@@ -1,5 +1,2 @@
--- Lemmas about nodes of any kind and trees that were built.
-pub mod Builds
+-- Lemmas about nodes of any kind.
 pub mod Dispatch
-pub mod Rows
-pub mod Several

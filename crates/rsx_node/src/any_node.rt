@@ -4,6 +4,7 @@ ghost use Rattle.std.specs.Prelude.{◌≡◌};
 
 use crate::source_node::SourceNode;
 use rsx_plain::PlainNode;
+use rsx_publish_on::PublishOnNode;
 use rsx_several::SeveralNode;
 use rsx_sources::{Front, Machine, NotMade, NotTaken, Passed};
 use rsx_types::{NoMemory, Note, Ops, Signal, StreamValue};
@@ -18,6 +19,8 @@ pub enum AnyNode<T> {
     Plain(PlainNode<T>),
     /// A node of several inputs.
     Several(SeveralNode<T>),
+    /// `publishOn`: its one input, from a queue.
+    PublishOn(PublishOnNode<T>),
 }
 
 impl<T: Drop> Machine for AnyNode<T> {
@@ -75,6 +78,7 @@ impl<T: Drop> Machine for AnyNode<T> {
             AnyNode::Source(node) => node.front(),
             AnyNode::Plain(node) => node.front(),
             AnyNode::Several(node) => node.front(),
+            AnyNode::PublishOn(node) => node.front(),
         }
     }
 
@@ -96,6 +100,7 @@ impl<T: Drop> Machine for AnyNode<T> {
             AnyNode::Source(node) => node.pop_front(alloc, ops),
             AnyNode::Plain(node) => node.pop_front(alloc, ops),
             AnyNode::Several(node) => node.pop_front(alloc, ops),
+            AnyNode::PublishOn(node) => node.pop_front(alloc, ops),
         }
     }
 
@@ -106,6 +111,7 @@ impl<T: Drop> Machine for AnyNode<T> {
             AnyNode::Source(node) => node.put_back(signal),
             AnyNode::Plain(node) => node.put_back(signal),
             AnyNode::Several(node) => node.put_back(signal),
+            AnyNode::PublishOn(node) => node.put_back(signal),
         }
     }
 
@@ -115,6 +121,7 @@ impl<T: Drop> Machine for AnyNode<T> {
             AnyNode::Source(node) => node.has_ended(),
             AnyNode::Plain(node) => node.has_ended(),
             AnyNode::Several(node) => node.has_ended(),
+            AnyNode::PublishOn(node) => node.has_ended(),
         }
     }
 
@@ -124,6 +131,7 @@ impl<T: Drop> Machine for AnyNode<T> {
             AnyNode::Source(node) => node.can_take(input, front),
             AnyNode::Plain(node) => node.can_take(input, front),
             AnyNode::Several(node) => node.can_take(input, front),
+            AnyNode::PublishOn(node) => node.can_take(input, front),
         }
     }
 
@@ -148,23 +156,27 @@ impl<T: Drop> Machine for AnyNode<T> {
             AnyNode::Source(_) => Err(NotTaken::Busy(signal)),
             AnyNode::Plain(node) => node.on_signal(alloc, ops, input, signal),
             AnyNode::Several(node) => node.on_signal(alloc, ops, input, signal),
+            AnyNode::PublishOn(node) => node.on_signal(alloc, ops, input, signal),
         }
     }
 
-    #[inline]
+    #[inline(always)]
     fn pop_item<O: Ops<Item = T>>(&mut self, alloc: Global, ops: &O) -> Option<T> {
         match self {
             AnyNode::Source(node) => node.pop_item(alloc, ops),
             AnyNode::Plain(node) => node.pop_item(alloc, ops),
             AnyNode::Several(node) => node.pop_item(alloc, ops),
+            AnyNode::PublishOn(node) => node.pop_item(alloc, ops),
         }
     }
 
     #[inline(always)]
     fn pass<O: Ops<Item = T>>(&mut self, alloc: Global, ops: &O, input: u64, item: T) -> Passed<T> {
         match self {
-            AnyNode::Source(_) | AnyNode::Several(_) => Passed::Declined(item),
+            AnyNode::Source(_) => Passed::Declined(item),
             AnyNode::Plain(node) => node.pass(alloc, ops, input, item),
+            AnyNode::Several(node) => node.pass(alloc, ops, input, item),
+            AnyNode::PublishOn(node) => node.pass(alloc, ops, input, item),
         }
     }
 
@@ -173,6 +185,7 @@ impl<T: Drop> Machine for AnyNode<T> {
             AnyNode::Source(node) => node.hub(),
             AnyNode::Plain(node) => node.hub(),
             AnyNode::Several(node) => node.hub(),
+            AnyNode::PublishOn(node) => node.hub(),
         }
     }
 
@@ -181,6 +194,7 @@ impl<T: Drop> Machine for AnyNode<T> {
             AnyNode::Source(node) => node.has_room(),
             AnyNode::Plain(node) => node.has_room(),
             AnyNode::Several(node) => node.has_room(),
+            AnyNode::PublishOn(node) => node.has_room(),
         }
     }
 
@@ -198,21 +212,22 @@ impl<T: Drop> Machine for AnyNode<T> {
             AnyNode::Source(node) => node.on_published(signal),
             AnyNode::Plain(node) => node.on_published(signal),
             AnyNode::Several(node) => node.on_published(signal),
+            AnyNode::PublishOn(node) => node.on_published(signal),
         }
     }
 
     #[inline]
     fn can_pick(&self, input: u64, asked: u64, sent: u64) -> bool {
         match self {
-            AnyNode::Source(_) | AnyNode::Plain(_) => false,
+            AnyNode::Source(_) | AnyNode::Plain(_) | AnyNode::PublishOn(_) => false,
             AnyNode::Several(node) => node.can_pick(input, asked, sent),
         }
     }
 
-    #[inline]
+    #[inline(always)]
     fn next_pick(&self, asked: u64, sent: u64) -> Option<u64> {
         match self {
-            AnyNode::Source(_) | AnyNode::Plain(_) => None,
+            AnyNode::Source(_) | AnyNode::Plain(_) | AnyNode::PublishOn(_) => None,
             AnyNode::Several(node) => node.next_pick(asked, sent),
         }
     }
@@ -226,19 +241,22 @@ impl<T: Drop> Machine for AnyNode<T> {
         sent: u64,
     ) -> Result<(), NotMade> {
         match self {
-            AnyNode::Source(_) | AnyNode::Plain(_) => Err(NotMade::NotEnabled),
+            AnyNode::Source(_) | AnyNode::Plain(_) | AnyNode::PublishOn(_) => Err(
+                NotMade::NotEnabled,
+            ),
             AnyNode::Several(node) => node.on_pick(alloc, ops, input, asked, sent),
         }
     }
 
-    #[inline]
+    #[inline(always)]
     fn can_row(&self, asked: u64, sent: u64) -> bool {
         match self {
-            AnyNode::Source(_) | AnyNode::Plain(_) => false,
+            AnyNode::Source(_) | AnyNode::Plain(_) | AnyNode::PublishOn(_) => false,
             AnyNode::Several(node) => node.can_row(asked, sent),
         }
     }
 
+    #[inline]
     fn on_row<O: Ops<Item = T>>(
         &mut self,
         alloc: Global,
@@ -247,7 +265,9 @@ impl<T: Drop> Machine for AnyNode<T> {
         sent: u64,
     ) -> Result<(), NotMade> {
         match self {
-            AnyNode::Source(_) | AnyNode::Plain(_) => Err(NotMade::NotEnabled),
+            AnyNode::Source(_) | AnyNode::Plain(_) | AnyNode::PublishOn(_) => Err(
+                NotMade::NotEnabled,
+            ),
             AnyNode::Several(node) => node.on_row(alloc, ops, asked, sent),
         }
     }
@@ -258,12 +278,13 @@ impl<T: Drop> Machine for AnyNode<T> {
             AnyNode::Source(node) => node.want(input, asked, sent),
             AnyNode::Plain(node) => node.want(input, asked, sent),
             AnyNode::Several(node) => node.want(input, asked, sent),
+            AnyNode::PublishOn(node) => node.want(input, asked, sent),
         }
     }
 
     fn note(&self, alloc: Global) -> Result<Note, NoMemory> {
         match self {
-            AnyNode::Source(_) | AnyNode::Plain(_) => Ok(Note::Nothing),
+            AnyNode::Source(_) | AnyNode::Plain(_) | AnyNode::PublishOn(_) => Ok(Note::Nothing),
             AnyNode::Several(node) => node.note(alloc),
         }
     }
@@ -282,6 +303,7 @@ impl<T: Drop> Machine for AnyNode<T> {
             AnyNode::Source(node) => node.residual(alloc, ops, inboxes, incoming),
             AnyNode::Plain(node) => node.residual(alloc, ops, inboxes, incoming),
             AnyNode::Several(node) => node.residual(alloc, ops, inboxes, incoming),
+            AnyNode::PublishOn(node) => node.residual(alloc, ops, inboxes, incoming),
         }
     }
 

@@ -550,25 +550,6 @@ pub balance_run : {M T : Type 0} (b : Machine M T) (m : Meaning T) (steps : Bool
 balance_run {M} b m steps zero x y asked sent h s w = let Q : Node M → Type 0 = λ t. IsBalanced b t s in subst Q (sym h) w
 balance_run b m steps (suc k) x y asked sent h s w = balance_run b m steps k h.0 y asked sent h.2 s (h.1.balance s w)
 
--- a run with no picks and rows is one of all moves
-pub any_moves : {M T : Type 0} (b : Machine M T) (m : Meaning T) (k : ℕ) (x y : Node M) (asked sent : ℕ) → IsDriven b m false k x asked sent y → IsDriven b m true k x asked sent y
-any_moves b m zero x y asked sent h = h
-any_moves {M} b m (suc k) x y asked sent h = (
-  h.0,
-  record {
-    at = h.1.at;
-    made = elim h.1.made [ inl a ↦ inl a | inr o ↦ elim o [ inl a ↦ inr (inl a) | inr a ↦ absurd (never a.0) ] ];
-    kept = λ f. absurd (never (sym f));
-    chosen = h.1.chosen;
-    balance = h.1.balance;
-    alike = h.1.alike;
-  },
-  any_moves b m k h.0 y asked sent h.2,
-)
-  where
-    never : false ≡ true → ⊥
-    never e = cc
-
 pub tree_begun : {M T : Type 0} (b : Machine M T) (m : Meaning T) (steps : Bool) (x : Node M) (asked sent budget : ℕ) → IsTreeUnderWay b m steps x asked sent budget budget x
 tree_begun b m steps x asked sent budget = record { count = 0; spent = omega arith; run = refl; chosen = none_chosen b m x; balance = λ s k. k }
 

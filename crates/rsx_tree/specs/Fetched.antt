@@ -1,5 +1,5 @@
 -- An item that is pulled through a tree in one go: the moves that lead to a tree whose root offers it, and then the item out.
-use Rattle.std.specs.Prelude.{◌≡◌, ℕ, ◌+◌, false, Option, Some, None}
+use Rattle.std.specs.Prelude.{◌≡◌, ℕ, ◌+◌, ◌<◌, true, false, Option, Some, None}
 use Rattle.rsx_types.specs.Meaning.{Meaning}
 use Rattle.rsx_types.specs.declared.signal.Signal.TheVariants.{Next}
 use Rattle.rsx_sources.specs.Passed.{IsItemOut}
@@ -7,40 +7,56 @@ use Rattle.rsx_sources.specs.declared.machine.Machine.{Ghosts as Machine}
 use Rattle.rsx_tree.specs.declared.edge.Edge.{Edge}
 use Rattle.rsx_tree.specs.declared.fetch.Handed.{Handed}
 use Rattle.rsx_tree.specs.declared.fetch.Handed.TheVariants.{Item, Kept, Back}
-use Rattle.rsx_tree.specs.declared.inputs.Inputs.{Inputs}
+use Rattle.rsx_tree.specs.declared.fetch.Pulled.{Pulled}
+use Rattle.rsx_tree.specs.declared.fetch.Pulled.TheVariants.{Item as AnItem, Moved, Nothing}
+use Rattle.rsx_tree.specs.declared.inputs.Inputs.{Inputs, More'}
 use Rattle.rsx_tree.specs.declared.node.Node.{Node}
 use Rattle.rsx_tree.specs.Allocates.{IsAlike, IsNodeAlike}
 use Rattle.rsx_tree.specs.Balance.{IsBalanced}
-use Rattle.rsx_tree.specs.Changed.{IsCarried}
+use Rattle.rsx_tree.specs.Changed.{Hold, IsCarried}
+use Rattle.rsx_tree.specs.Chosen.{IsChosen}
 use Rattle.rsx_tree.specs.Driven.{IsDriven, IsRowRun}
-use Rattle.rsx_tree.specs.Tree.{IsKept, IsLetGo}
+use Rattle.rsx_tree.specs.Tree.{IsLetGo}
 
 -- the item that waited in a node went out of it, and the same of its calls may allocate
 abbrev pub IsOut : {M T : Type 0} → Machine M T → Meaning T → M → T → M → Type 0
 IsOut b m n x n' = IsItemOut (b.comes_out m) (b.waiting m) b.popped b.recorded b.counted b.ended b.done n x n' × IsNodeAlike b n n'
 
--- what came of an item that was taken out of the sender `n` of a receiver's first input: it went over the edge, one move of
--- the budget, and what the receiver put out first went out of it again, or it put out nothing; or the item went back
-abbrev pub IsHanded : {M T : Type 0} → Machine M T → Meaning T → ℕ → M → Edge → M → Handed T → ℕ → M → Edge → M → Type 0
-IsHanded {M} b m budget r e n (Item x) left r' e' n' =
-    (mid : M) × (left + 1 ≡ budget) × IsCarried b m r 0 e n mid e' n' × (b.ended mid ≡ false) × IsOut b m mid x r'
-IsHanded b m budget r e n Kept left r' e' n' =
-    (left + 1 ≡ budget) × IsCarried b m r 0 e n r' e' n' × (b.ended r' ≡ false)
-IsHanded b m budget r e n Back left r' e' n' = (left ≡ budget) × (r' ≡ r) × (e' ≡ e) × (n' ≡ n)
+-- what came of an item that was taken out of the sender `n` of input i of a receiver: it went over the edge, one move of the
+-- budget, and what the receiver put out first went out of it again, or it put out nothing; or the item went back
+abbrev pub IsHanded : {M T : Type 0} → Machine M T → Meaning T → ℕ → ℕ → M → Edge → M → Handed T → ℕ → M → Edge → M → Type 0
+IsHanded {M} b m budget i r e n (Item x) left r' e' n' =
+    (mid : M) × (left + 1 ≡ budget) × IsCarried b m r i e n mid e' n' × (b.ended mid ≡ false) × IsOut b m mid x r'
+IsHanded b m budget i r e n Kept left r' e' n' =
+    (left + 1 ≡ budget) × IsCarried b m r i e n r' e' n' × (b.ended r' ≡ false)
+IsHanded b m budget i r e n Back left r' e' n' = (left ≡ budget) × (r' ≡ r) × (e' ≡ e) × (n' ≡ n)
+
+-- so many moves of the sender `n` over this edge and of its inputs, whatever its receiver is and what is beside it
+abbrev pub IsRunOver : {M T : Type 0} → Machine M T → Meaning T → ℕ → Edge → M → Inputs M → M → Inputs M → Type 0
+IsRunOver {M} b m count e n below n' below' =
+    (r : M) (i asked sent : ℕ) (p q : Hold) (beside : Inputs M) → IsRowRun b m true count i asked sent r (More' e n p below q beside) r (More' e n' p below' q beside)
+
+-- what came of the way to an item of a sender: moves, so many as the budget fell by, led to a sender that offers this item,
+-- which then went out of it; or some moves were made, and no more
+abbrev pub IsPulled : {M T : Type 0} → Machine M T → Meaning T → ℕ → Edge → M → Inputs M → Pulled T → ℕ → M → Inputs M → Type 0
+IsPulled {M} b m budget e n below (AnItem x) left n' below' =
+    (count : ℕ) × (mid : M) × (count + left ≡ budget) × IsRunOver b m count e n below mid below' × IsOut b m mid x n'
+IsPulled b m budget e n below Moved left n' below' = (count : ℕ) × (count + left ≡ budget) × (left < budget) × IsRunOver b m count e n below n' below'
+IsPulled b m budget e n below Nothing left n' below' = (count : ℕ) × (count + left ≡ budget) × IsRunOver b m count e n below n' below'
 
 -- enabled moves of a row, so many as the budget fell by, lead to a receiver that offers the item, which then went out of it;
--- with no item they are all that was done
-abbrev pub IsRowFetched : {M T : Type 0} → Machine M T → Meaning T → ℕ → ℕ → ℕ → M → Inputs M → Option T → ℕ → M → Inputs M → Type 0
-IsRowFetched {M} b m budget asked sent r t (Some x) left r' t' =
-    (n : ℕ) × (mid : M) × (n + left ≡ budget) × IsRowRun b m false n 0 asked sent r t mid t' × IsOut b m mid x r'
-IsRowFetched b m budget asked sent r t None left r' t' = (n : ℕ) × (n + left ≡ budget) × IsRowRun b m false n 0 asked sent r t r' t'
+-- with no item they are all that was done. The row's first edge is input i of the receiver.
+abbrev pub IsRowFetched : {M T : Type 0} → Machine M T → Meaning T → ℕ → ℕ → ℕ → ℕ → M → Inputs M → Option T → ℕ → M → Inputs M → Type 0
+IsRowFetched {M} b m budget i asked sent r t (Some x) left r' t' =
+    (n : ℕ) × (mid : M) × (n + left ≡ budget) × IsRowRun b m true n i asked sent r t mid t' × IsOut b m mid x r'
+IsRowFetched b m budget i asked sent r t None left r' t' = (n : ℕ) × (n + left ≡ budget) × IsRowRun b m true n i asked sent r t r' t'
 
 -- enabled moves, so many as the budget fell by, lead from one tree to another
 pub record IsLed {M T : Type 0} (b : Machine M T) (m : Meaning T) (budget : ℕ) (old : Node M) (asked sent left : ℕ) (new : Node M) : Type 0 where
   pub count : ℕ
   pub spent : count + left ≡ budget
-  pub run : IsDriven b m false count old asked sent new
-  pub kept : IsKept b m old new
+  pub run : IsDriven b m true count old asked sent new
+  pub chosen : IsChosen b m old new
   pub balance : (s : ℕ) → IsBalanced b old s → IsBalanced b new s
   pub alike : IsAlike b old new
 

@@ -7,8 +7,9 @@ ghost use Rattle.rsx_tree.specs.Fetched.{IsHanded, IsOut};
 use crate::edge::Edge;
 use crate::inputs::{Inputs, ask_over};
 use crate::node::Node;
+use crate::step::step_over;
 use rsx_sources::{Front, Machine, Passed};
-use rsx_types::{Ops, Signal};
+use rsx_types::{NoMemory, Ops, Signal};
 use std::alloc::Global;
 
 /// What came of an item that was handed over an edge.
@@ -22,13 +23,25 @@ pub(crate) enum Handed<T> {
     Back,
 }
 
-impl<M: Machine> Inputs<M> {
-    ghost use Rattle.rsx_tree.specs.Fetched.{IsRowFetched};
+/// What came of the way to an item of a sender.
+#[derive(Drop)]
+pub(crate) enum Pulled<T> {
+    /// This item, which it offered, went out of it.
+    Item(T),
+    /// Moves were made, and it may offer an item by now.
+    Moved,
+    /// Nothing more can be done now.
+    Nothing,
+}
 
-    /// Makes enabled moves over the first edge of the row, and below it, until `receiver` offers an item, which is taken out of
-    /// it; `asked` is asked of the receiver, and `sent` it sent. Each move takes one of the budget that is `left`. It answers
-    /// nothing where the budget is used up, where the receiver declines an item of its first input, or where it comes upon an
-    /// ending, a fault or want of memory: then the moves made stand, and [`Inputs::drive`] goes on from there.
+impl<M: Machine> Inputs<M> {
+    ghost use Rattle.rsx_tree.specs.Fetched.{IsPulled, IsRowFetched};
+
+    /// Makes enabled moves over the first edge of the row, of its sender, and below it, until `receiver` offers an item, which is
+    /// taken out of it. The edge is input `input` of the receiver, of which `asked` is asked and which sent `sent`. Each move
+    /// takes one of the budget that is `left`. It answers nothing where the budget is used up, where the receiver declines an
+    /// item or has enough of them, or where it comes upon an ending, a fault or want of memory: then the moves made stand, and
+    /// [`Inputs::drive`] goes on from there.
     ///
     /// The receiver offers no item when it is called.
     #[cycle(fetch)]
@@ -38,11 +51,12 @@ impl<M: Machine> Inputs<M> {
         alloc: Global,
         ops: &O,
         receiver: &mut M,
+        input: u64,
         asked: u64,
         sent: u64,
         left: &mut u32,
     ) -> Option<M::Item>
-        ensures { IsRowFetched M.Machine (O.meaning ops.now) left.old asked sent receiver.old self.old
+        ensures { IsRowFetched M.Machine (O.meaning ops.now) left.old input asked sent receiver.old self.old
             result left.new receiver.new self.new }
     {
         match self {
@@ -53,33 +67,23 @@ impl<M: Machine> Inputs<M> {
                         if *left == 0 {
                             return None;
                         }
-                        match ask_over(receiver, 0, asked, sent, edge) {
+                        match ask_over(receiver, input, asked, sent, edge) {
                             Ok(()) => *left -= 1,
                             Err(_) => return None,
                         }
                     } else {
-                        let below_asked = edge.demand.asked;
-                        let below_sent = edge.demand.sent;
-                        let item = match sender.pop_item(alloc, ops) {
-                            Some(item) => item,
-                            None => {
-                                match below.fetch_below(
-                                    alloc,
-                                    ops,
-                                    sender,
-                                    below_asked,
-                                    below_sent,
-                                    left,
+                        match below.pull(alloc, ops, edge, sender, left) {
+                            Pulled::Item(item) => {
+                                match hand_over(
+                                    alloc, ops, receiver, input, edge, sender, item, left,
                                 ) {
-                                    Some(item) => item,
-                                    None => return None,
+                                    Handed::Item(item) => return Some(item),
+                                    Handed::Kept => {}
+                                    Handed::Back => return None,
                                 }
                             }
-                        };
-                        match hand_over(alloc, ops, receiver, edge, sender, item, left) {
-                            Handed::Item(item) => return Some(item),
-                            Handed::Kept => {}
-                            Handed::Back => return None,
+                            Pulled::Moved => {}
+                            Pulled::Nothing => return None,
                         }
                     }
                 }
@@ -87,23 +91,101 @@ impl<M: Machine> Inputs<M> {
         }
     }
 
-    /// As [`Inputs::fetch`], for what is below a node. Only this function calls itself, so the compiler can put the body of
-    /// `fetch` for the topmost node where it is called.
+    /// Takes the item out that the sender over this row offers over its edge. Where it offers none, makes a pick or a row of
+    /// it, or where none is enabled makes moves of the row until the sender offers an item.
+    #[cycle(fetch)]
+    #[inline(always)]
+    fn pull<O: Ops<Item = M::Item>>(
+        &mut self,
+        alloc: Global,
+        ops: &O,
+        edge: &Edge,
+        sender: &mut M,
+        left: &mut u32,
+    ) -> Pulled<M::Item>
+        ensures { IsPulled M.Machine (O.meaning ops.now) left.old edge.now sender.old self.old result left.new sender.new self.new }
+    {
+        if let Some(item) = sender.pop_item(alloc, ops) {
+            return Pulled::Item(item);
+        }
+        let before = *left;
+        if before == 0 {
+            return Pulled::Nothing;
+        }
+        match step_over(alloc, ops, edge, sender, self) {
+            Ok(true) => {
+                *left -= 1;
+                return Pulled::Moved;
+            }
+            Ok(false) => {}
+            Err(NoMemory) => return Pulled::Nothing,
+        }
+        match self.fetch_row(
+            alloc,
+            ops,
+            sender,
+            0,
+            edge.demand.asked,
+            edge.demand.sent,
+            left,
+        ) {
+            Some(item) => Pulled::Item(item),
+            None => {
+                if *left == before {
+                    return Pulled::Nothing;
+                }
+                Pulled::Moved
+            }
+        }
+    }
+
+    /// As [`Inputs::fetch`], over the edges beside the first, one after the other, where the first edge is input `input` of
+    /// `receiver`.
     #[cycle(fetch)]
     #[inline(never)]
-    fn fetch_below<O: Ops<Item = M::Item>>(
+    pub(crate) fn fetch_beside<O: Ops<Item = M::Item>>(
         &mut self,
         alloc: Global,
         ops: &O,
         receiver: &mut M,
+        input: u64,
         asked: u64,
         sent: u64,
         left: &mut u32,
     ) -> Option<M::Item>
-        ensures { IsRowFetched M.Machine (O.meaning ops.now) left.old asked sent receiver.old self.old
+        ensures { IsRowFetched M.Machine (O.meaning ops.now) left.old input asked sent receiver.old self.old
             result left.new receiver.new self.new }
     {
-        self.fetch(alloc, ops, receiver, asked, sent, left)
+        match self {
+            Inputs::End => None,
+            Inputs::More(_, _, _, beside) => match input.checked_add(1) {
+                Some(next) => beside.fetch_row(alloc, ops, receiver, next, asked, sent, left),
+                None => None,
+            },
+        }
+    }
+
+    /// As [`Inputs::fetch`], over all edges of the row. The compiler puts the body of `fetch` for the topmost node where it is
+    /// called, and this function for what is below.
+    #[cycle(fetch)]
+    #[inline(never)]
+    fn fetch_row<O: Ops<Item = M::Item>>(
+        &mut self,
+        alloc: Global,
+        ops: &O,
+        receiver: &mut M,
+        input: u64,
+        asked: u64,
+        sent: u64,
+        left: &mut u32,
+    ) -> Option<M::Item>
+        ensures { IsRowFetched M.Machine (O.meaning ops.now) left.old input asked sent receiver.old self.old
+            result left.new receiver.new self.new }
+    {
+        match self.fetch(alloc, ops, receiver, input, asked, sent, left) {
+            Some(item) => Some(item),
+            None => self.fetch_beside(alloc, ops, receiver, input, asked, sent, left),
+        }
     }
 }
 
@@ -129,9 +211,15 @@ impl<M: Machine> Node<M> {
     {
         match self.machine.pop_item(alloc, ops) {
             Some(item) => Some(item),
-            None => self
+            None => match self
                 .inputs
-                .fetch(alloc, ops, &mut self.machine, asked, sent, left),
+                .fetch(alloc, ops, &mut self.machine, 0, asked, sent, left)
+            {
+                Some(item) => Some(item),
+                None => self
+                    .inputs
+                    .fetch_beside(alloc, ops, &mut self.machine, 0, asked, sent, left),
+            },
         }
     }
 }
@@ -143,6 +231,7 @@ fn hand_over<M: Machine, O: Ops<Item = M::Item>>(
     alloc: Global,
     ops: &O,
     receiver: &mut M,
+    input: u64,
     edge: &mut Edge,
     sender: &mut M,
     item: M::Item,
@@ -150,14 +239,14 @@ fn hand_over<M: Machine, O: Ops<Item = M::Item>>(
 ) -> Handed<M::Item>
     requires { can_pass (edge_view edge.old) Front.Item ≡ true }
     ensures { (offering : M) → IsOut M.Machine (O.meaning ops.now) offering item sender.old →
-        IsHanded M.Machine (O.meaning ops.now) left.old receiver.old edge.old offering
+        IsHanded M.Machine (O.meaning ops.now) left.old input receiver.old edge.old offering
         result left.new receiver.new edge.new sender.new }
 {
     if *left == 0 {
         put_item_back(sender, item);
         return Handed::Back;
     }
-    match receiver.pass(alloc, ops, 0, item) {
+    match receiver.pass(alloc, ops, input, item) {
         Passed::Item(item) => {
             edge.carry(Front::Item);
             *left -= 1;

@@ -44,11 +44,30 @@ enum Advance {
     Neither,
 }
 
+impl<M> Inputs<M> {
+    ghost use Rattle.std.specs.Prelude.{◌≡◌};
+    ghost use Rattle.rsx_tree.specs.Inputs.{closed_row};
+
+    /// Closes every edge (rule 3.12).
+    pub fn close(&mut self)
+        ensures { self.new ≡ closed_row self.old }
+    {
+        match self {
+            Inputs::End => {}
+            Inputs::More(edge, _, below, beside) => {
+                edge.close();
+                below.close();
+                beside.close();
+            }
+        }
+    }
+}
+
 impl<M: Machine> Inputs<M> {
     ghost use Rattle.std.specs.Prelude.{◌≡◌, ◌+◌, ◌<◌, ◌≤◌, ◌^◌, ◌&&◌, ◌++◌, ℕ, min, true, false, OnOk, OnErr, IfOk, IfErr};
     ghost use Rattle.rsx_types.specs.Meaning.{Meaning};
     ghost use Rattle.rsx_sources.specs.Steps.{IsNotMade};
-    ghost use Rattle.rsx_tree.specs.Inputs.{size, is_own, place, can_ask_in, send_allocates_in, closed_row, closed_row_if, notes_of};
+    ghost use Rattle.rsx_tree.specs.Inputs.{size, is_own, place, can_ask_in, send_allocates_in, closed_row_if, notes_of};
     ghost use Rattle.rsx_tree.specs.Changed.{IsAskedIn, IsSentIn, IsNotSentIn, IsChanged, IsAskedOver, IsSentOver};
     ghost use Rattle.rsx_tree.specs.Driven.{IsPass, IsRowIdle, IsRowDriven, SpentPass, is_over_in};
     ghost use Rattle.rsx_tree.specs.Refusals.{IsNotEnabled, OnlyNotEnabled};
@@ -69,20 +88,6 @@ impl<M: Machine> Inputs<M> {
                 let inside = below.count_up_to(most - 1);
                 let others = beside.count_up_to(most - 1 - inside);
                 inside + others + 1
-            }
-        }
-    }
-
-    /// Closes every edge (rule 3.12).
-    pub fn close(&mut self)
-        ensures { self.new ≡ closed_row self.old }
-    {
-        match self {
-            Inputs::End => {}
-            Inputs::More(edge, _, below, beside) => {
-                edge.close();
-                below.close();
-                beside.close();
             }
         }
     }

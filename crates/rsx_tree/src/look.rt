@@ -225,6 +225,7 @@ impl<M: Machine> Node<M> {
     }
 
     /// The first pick or row of the root that is enabled, where its edge is `root`; the root has the number 0.
+    #[inline]
     pub fn first_step(&self, root: &Edge) -> Option<NodeMove>
         ensures some { IfSome result (λ e. IsStepEnabled M.Machine (over root.now self.now.machine) 0 e) }
         ensures none { IfNone result (IsStill M.Machine (Some (over root.now self.now.machine))) }

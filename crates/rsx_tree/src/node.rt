@@ -275,9 +275,8 @@ impl<M: Machine> Node<M> {
 }
 
 impl<M: Machine + Drop> Node<M> {
-    ghost use Rattle.std.specs.Prelude.{◌≡◌, IfOk};
+    ghost use Rattle.std.specs.Prelude.{◌≡◌};
     ghost use Rattle.rsx_tree.specs.Inputs.{closed_row_if};
-    ghost use Rattle.rsx_tree.specs.Tree.{IsJoined};
 
     /// A node over its inputs. Where it has put out its ending already, all below it is closed.
     pub fn new(machine: M, inputs: Inputs<M>) -> Node<M>
@@ -291,6 +290,11 @@ impl<M: Machine + Drop> Node<M> {
             inputs: below,
         }
     }
+}
+
+impl<M: Drop> Node<M> {
+    ghost use Rattle.std.specs.Prelude.{IfOk};
+    ghost use Rattle.rsx_tree.specs.Tree.{IsJoined};
 
     /// The tree as an input, over a fresh edge, in front of those beside it.
     pub fn join(self, alloc: Global, beside: Inputs<M>) -> Result<Inputs<M>, NoMemory>

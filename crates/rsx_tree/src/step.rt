@@ -67,6 +67,7 @@ pub(crate) fn row_over<M: Machine, O: Ops<Item = M::Item>>(
 
 /// Makes a pick or a row of a node, where one is enabled, and answers whether it did. Where the node ended by it, all below
 /// it is closed.
+#[inline]
 pub(crate) fn step_over<M: Machine, O: Ops<Item = M::Item>>(
     alloc: Global,
     ops: &O,

@@ -13,7 +13,7 @@ returns-in-Item g c = λ offering out.
     let some = c.if-left-eq0.false in (
       p.0,
       omega (arith, some),
-      sent_over g.M.Machine m c.args.receiver.now 0 c.args.edge.now offering p.0 c.carry.new.self c.args.sender.now c.args.item out p.1 first c.requires c.carry.ensures,
+      sent_over g.M.Machine m c.args.receiver.now c.args.input c.args.edge.now offering p.0 c.carry.new.self c.args.sender.now c.args.item out p.1 first c.requires c.carry.ensures,
       p.1.goes_on,
       (p.2, last),
     )

@@ -8,3 +8,6 @@ returns-in-Plain g c = record { shown = rw c.in-Plain.is c.front-in-Plain.ensure
 
 pub returns-in-Several : goal.returns-in-Several
 returns-in-Several g c = record { shown = rw c.in-Several.is c.front-in-Several.ensures.shown; first = λ m. rw c.in-Several.is (c.front-in-Several.ensures.first m) }
+
+pub returns-in-PublishOn : goal.returns-in-PublishOn
+returns-in-PublishOn g c = record { shown = rw c.in-PublishOn.is c.front-in-PublishOn.ensures.shown; first = λ m. rw c.in-PublishOn.is (c.front-in-PublishOn.ensures.first m) }

@@ -1,7 +1,7 @@
-use Rattle.std.proofs.Common.{ap}
+use Rattle.std.proofs.Common.{ap, refl}
 use Rattle.std.proofs.lemmas.Result.{on_ok_weaker, on_err_weaker}
-use Rattle.rsx_node.specs.declared.any_node.AnyNode.TheVariants.{Several}
-use Rattle.rsx_node.proofs.Dispatch.{taken_several}
+use Rattle.rsx_node.specs.declared.any_node.AnyNode.TheVariants.{Several, PublishOn}
+use Rattle.rsx_node.proofs.Dispatch.{taken_several, taken_publish_on}
 use Rattle.rsx_node.proofs.any_node.AnyNodeMachine.on_signal.Goals as goal
 
 pub returns-in-Several : goal.returns-in-Several
@@ -14,4 +14,16 @@ returns-in-Several g c = rw c.in-Several.is (record {
   memory = λ e. c.on_signal-in-Several.ensures.memory;
   alike = c.on_signal-in-Several.ensures.alike;
   same = on_err_weaker c.on_signal-in-Several.result (λ e. ap Several e) c.on_signal-in-Several.ensures.same;
+})
+
+pub returns-in-PublishOn : goal.returns-in-PublishOn
+returns-in-PublishOn g c = rw c.in-PublishOn.is (record {
+  ok = c.on_signal-in-PublishOn.ensures.ok;
+  enabled = c.on_signal-in-PublishOn.ensures.enabled;
+  recorded = refl;
+  counts = on_ok_weaker c.on_signal-in-PublishOn.result (taken_publish_on c.in-PublishOn.node c.on_signal-in-PublishOn.new.self c.args.input c.args.signal) c.on_signal-in-PublishOn.ensures.counts;
+  err = c.on_signal-in-PublishOn.ensures.err;
+  memory = λ e. c.on_signal-in-PublishOn.ensures.memory;
+  alike = (refl, λ a. (refl, refl, refl));
+  same = on_err_weaker c.on_signal-in-PublishOn.result (λ e. ap PublishOn e) c.on_signal-in-PublishOn.ensures.same;
 })

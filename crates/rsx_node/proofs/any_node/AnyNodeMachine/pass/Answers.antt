@@ -1,6 +1,14 @@
-use Rattle.rsx_node.proofs.Dispatch.{passed_plain}
+use Rattle.rsx_node.proofs.Dispatch.{passed_plain, passed_several, passed_publish_on}
 use Rattle.rsx_node.proofs.any_node.AnyNodeMachine.pass.Goals as goal
 
 pub returns-in-Plain-clause-passed : goal.returns-in-Plain-clause-passed
 returns-in-Plain-clause-passed g c =
     rw c.in-Plain.is (passed_plain (g.O.Ops.meaning c.args.ops.now) c.in-Plain.node c.pass.new.self c.args.input c.args.item c.pass.result c.pass.ensures.passed)
+
+pub returns-in-Several-clause-passed : goal.returns-in-Several-clause-passed
+returns-in-Several-clause-passed g c =
+    rw c.in-Several.is (passed_several (g.O.Ops.meaning c.args.ops.now) c.in-Several.node c.pass-in-Several.new.self c.args.input c.args.item c.pass-in-Several.result c.pass-in-Several.ensures.passed)
+
+pub returns-in-PublishOn-clause-passed : goal.returns-in-PublishOn-clause-passed
+returns-in-PublishOn-clause-passed g c =
+    rw c.in-PublishOn.is (passed_publish_on (g.O.Ops.meaning c.args.ops.now) c.in-PublishOn.node c.pass-in-PublishOn.new.self c.args.input c.args.item c.pass-in-PublishOn.result c.pass-in-PublishOn.ensures.passed)

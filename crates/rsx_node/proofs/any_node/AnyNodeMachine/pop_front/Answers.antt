@@ -1,5 +1,5 @@
 use Rattle.std.proofs.lemmas.Result.{IfOk-weaker}
-use Rattle.rsx_node.proofs.Dispatch.{popped_source, popped_several, counted_several}
+use Rattle.rsx_node.proofs.Dispatch.{popped_source, popped_several, popped_publish_on, counted_several, counted_publish_on}
 use Rattle.rsx_node.proofs.any_node.AnyNodeMachine.pop_front.Goals as goal
 
 pub returns-in-Source-clause-ok : goal.returns-in-Source-clause-ok
@@ -13,3 +13,11 @@ returns-in-Several-clause-ok g c =
 pub returns-in-Several-clause-counts : goal.returns-in-Several-clause-counts
 returns-in-Several-clause-counts g c =
     rw c.in-Several.is (IfOk-weaker c.pop_front-in-Several.result _ _ (λ s. counted_several c.in-Several.node c.pop_front-in-Several.new.self s) c.pop_front-in-Several.ensures.counts)
+
+pub returns-in-PublishOn-clause-ok : goal.returns-in-PublishOn-clause-ok
+returns-in-PublishOn-clause-ok g c =
+    rw c.in-PublishOn.is (IfOk-weaker c.pop_front-in-PublishOn.result _ _ (λ s. popped_publish_on (g.O.Ops.meaning c.args.ops.now) c.in-PublishOn.node c.pop_front-in-PublishOn.new.self s) c.pop_front-in-PublishOn.ensures.ok)
+
+pub returns-in-PublishOn-clause-counts : goal.returns-in-PublishOn-clause-counts
+returns-in-PublishOn-clause-counts g c =
+    rw c.in-PublishOn.is (IfOk-weaker c.pop_front-in-PublishOn.result _ _ (λ s. counted_publish_on c.in-PublishOn.node c.pop_front-in-PublishOn.new.self s) c.pop_front-in-PublishOn.ensures.counts)

@@ -1,7 +1,7 @@
 use Rattle.std.proofs.Common.{subst}
 use Rattle.rsx_node.specs.Any.{any_popped}
 use Rattle.rsx_node.specs.declared.any_node.AnyNode.{AnyNode}
-use Rattle.rsx_node.proofs.Dispatch.{returned_plain, returned_several, returned_source}
+use Rattle.rsx_node.proofs.Dispatch.{returned_plain, returned_publish_on, returned_several, returned_source}
 use Rattle.rsx_node.proofs.any_node.AnyNodeMachine.put_back.Goals as goal
 
 pub returns-in-Source : goal.returns-in-Source
@@ -18,3 +18,8 @@ pub returns-in-Several : goal.returns-in-Several
 returns-in-Several g c = λ before h.
     let P : AnyNode _ → Type 0 = λ t. any_popped before c.args.signal t in
     returned_several before c.args.signal c.in-Several.node c.put_back-in-Several.new.self (subst P c.in-Several.is h) c.put_back-in-Several.ensures
+
+pub returns-in-PublishOn : goal.returns-in-PublishOn
+returns-in-PublishOn g c = λ before h.
+    let P : AnyNode _ → Type 0 = λ t. any_popped before c.args.signal t in
+    returned_publish_on before c.args.signal c.in-PublishOn.node c.put_back-in-PublishOn.new.self (subst P c.in-PublishOn.is h) c.put_back-in-PublishOn.ensures

@@ -5,3 +5,6 @@ returns-in-Source g c = rw c.in-Source.is c.residual.ensures
 
 pub returns-in-Several : goal.returns-in-Several
 returns-in-Several g c = rw c.in-Several.is c.residual-in-Several.ensures
+
+pub returns-in-PublishOn : goal.returns-in-PublishOn
+returns-in-PublishOn g c = rw c.in-PublishOn.is c.residual-in-PublishOn.ensures

@@ -1,32 +1,21 @@
-use Rattle.std.proofs.Common.{◌≡◌, ℕ, false, arith, rules}
+use Rattle.std.proofs.Common.{◌≡◌, ◌∙◌, ℕ, true, arith, rules}
 use Rattle.std.specs.Box.{with_value}
+use Rattle.rsx_tree.specs.Inputs.{size}
 use Rattle.rsx_tree.specs.declared.inputs.Inputs.TheViews.{More}
 use Rattle.rsx_tree.proofs.Changes.{Rest}
-use Rattle.rsx_tree.proofs.Drives.{IsUnderWay, under_way_asked}
-use Rattle.rsx_tree.proofs.Fetches.{IsTaken, below_item, below_none, below_smaller, fetched_none, handed_back, handed_item, handed_kept, taken_as, taken_at_once}
-use Rattle.rsx_tree.proofs.inputs.Inputs.+fetch.Given.{Over}
-use Rattle.rsx_tree.proofs.inputs.Inputs.+fetch.Goals.{fetch-After-hand_over, fetch-in-Some, fetch-in-None+in-Some-fetch_below}
+use Rattle.rsx_tree.proofs.Drives.{IsUnderWay, size_run, under_way_asked}
+use Rattle.rsx_tree.proofs.Fetches.{below_smaller, fetched_beside, fetched_none, fetched_then, handed_back, handed_item, handed_kept, pulled_item, pulled_moved, pulled_run, pulled_step, run_over}
 use Rattle.rsx_tree.proofs.inputs.Inputs.+fetch.Goals as goal
 
--- the item was offered already, or a run below the edge led to it
-taken : (g : Over) (t : ℕ) (c : fetch-After-hand_over g t) → (beside : _) → c.args.self.now ≡ More c.in-More.edge c.in-More.sender c.in-More.below beside →
-    IsTaken g.M.Machine (g.O.Ops.meaning c.args.ops.now) c.args.asked c.args.sent c.args.left.now c.args.receiver.now c.args.self.now c.match-pop_item.left c.items.receiver c.items.edge c.match-pop_item.item c.match-pop_item.sender c.match-pop_item.below beside
-taken g t c beside is =
-    let m = g.O.Ops.meaning c.args.ops.now in
-    let u = c.items.invariant.0 beside is in
-    elim c.match-pop_item.branch [
-      | fetch-in-Some w ↦ taken_as g.M.Machine m c.args.asked c.args.sent c.args.left.now c.items.left c.match-pop_item.left c.args.receiver.now c.args.self.now c.items.receiver c.items.edge c.pop_item.new.self c.match-pop_item.sender c.items.below c.match-pop_item.below beside w.in-Some.item c.match-pop_item.item w.left-is w.sender-is w.below-is w.item-is
-          (taken_at_once g.M.Machine m c.args.asked c.args.sent c.args.left.now c.items.left c.args.receiver.now c.args.self.now c.items.receiver c.items.edge c.items.sender c.pop_item.new.self c.items.below beside w.in-Some.item u (w.in-Some.ensures.some, c.pop_item.ensures.alike))
-      | fetch-in-None+in-Some-fetch_below w ↦ taken_as g.M.Machine m c.args.asked c.args.sent c.args.left.now w.fetch_below.new.left c.match-pop_item.left c.args.receiver.now c.args.self.now c.items.receiver c.items.edge w.fetch_below.new.receiver c.match-pop_item.sender (with_value c.items.below w.fetch_below.new.self) c.match-pop_item.below beside w.in-Some-fetch_below.item c.match-pop_item.item w.left-is w.sender-is w.below-is w.item-is
-          (below_item g.M.Machine m c.args.asked c.args.sent c.args.left.now c.items.left w.fetch_below.new.left c.args.receiver.now c.args.self.now c.items.receiver c.items.edge c.items.sender c.pop_item.new.self w.fetch_below.new.receiver c.items.below beside w.deref_mut.result.now w.fetch_below.new.self w.in-Some-fetch_below.item
-          u w.in-None.ensures.none w.deref_mut.ensures.value w.in-Some-fetch_below.ensures)
-    ]
+pub fetch-returns-then-left-eq0 : goal.fetch-returns-then-left-eq0
+fetch-returns-then-left-eq0 g t c =
+    fetched_none g.M.Machine (g.O.Ops.meaning c.args.ops.now) c.args.input c.args.asked c.args.sent c.args.left.now c.args.receiver.now c.args.self.now c.items.left c.items.receiver _ (c.items.invariant.0 c.in-More.field-3 c.in-More.is)
 
 pub fetch-items-preserved-in-Ok : goal.fetch-items-preserved-in-Ok
 fetch-items-preserved-in-Ok g t c =
     let some = c.if-left-eq0.false in (
       λ beside is.
-          under_way_asked g.M.Machine (g.O.Ops.meaning c.args.ops.now) false 0 c.args.asked c.args.sent c.args.left.now c.items.left c.args.receiver.now c.args.self.now c.items.receiver c.items.receiver c.items.edge c.ask_over.new.edge c.items.sender c.items.sender c.items.below beside
+          under_way_asked g.M.Machine (g.O.Ops.meaning c.args.ops.now) true c.args.input c.args.asked c.args.sent c.args.left.now c.items.left c.args.receiver.now c.args.self.now c.items.receiver c.items.receiver c.items.edge c.ask_over.new.edge c.items.sender c.items.sender c.items.below beside
           (c.items.invariant.0 beside is) (omega (arith, some)) (c.in-Ok.ensures.made c.items.sender),
       c.items.invariant.1,
     )
@@ -34,49 +23,92 @@ fetch-items-preserved-in-Ok g t c =
 pub fetch-returns-in-Err : goal.fetch-returns-in-Err
 fetch-returns-in-Err g t c =
     let u = c.items.invariant.0 _ c.in-More.is in
-    fetched_none g.M.Machine (g.O.Ops.meaning c.args.ops.now) c.args.asked c.args.sent c.args.left.now c.args.receiver.now c.args.self.now c.items.left c.items.receiver _ (rw c.in-Err.ensures.same u)
+    fetched_none g.M.Machine (g.O.Ops.meaning c.args.ops.now) c.args.input c.args.asked c.args.sent c.args.left.now c.args.receiver.now c.args.self.now c.items.left c.items.receiver _ (rw c.in-Err.ensures.same u)
 
-pub fetch-returns-in-None-fetch_below : goal.fetch-returns-in-None-fetch_below
-fetch-returns-in-None-fetch_below g t c =
+pub fetch-returns-in-Item-hand_over : goal.fetch-returns-in-Item-hand_over
+fetch-returns-in-Item-hand_over g t c =
     let m = g.O.Ops.meaning c.args.ops.now in
-    fetched_none g.M.Machine m c.args.asked c.args.sent c.args.left.now c.args.receiver.now c.args.self.now c.fetch_below.new.left c.items.receiver _
-    (below_none g.M.Machine m c.args.asked c.args.sent c.args.left.now c.items.left c.fetch_below.new.left c.args.receiver.now c.args.self.now c.items.receiver c.items.edge c.items.sender c.pop_item.new.self c.fetch_below.new.receiver c.items.below c.in-More.field-3 c.deref_mut.result.now c.fetch_below.new.self
-    (c.items.invariant.0 c.in-More.field-3 c.in-More.is) c.in-None.ensures.none c.deref_mut.ensures.value c.in-None-fetch_below.ensures)
+    let e = c.in-Item.ensures in
+    let u = run_over g.M.Machine m c.args.input c.args.asked c.args.sent c.args.left.now c.items.left c.pull.new.left e.0 c.args.receiver.now c.args.self.now c.items.receiver c.items.edge c.items.sender e.1 c.items.below c.in-More.field-3 c.deref_mut.result.now c.pull.new.self
+    (c.items.invariant.0 c.in-More.field-3 c.in-More.is) c.deref_mut.ensures.value e.2 e.3 in
+    handed_item g.M.Machine m c.args.input c.args.asked c.args.sent c.args.left.now c.pull.new.left c.hand_over.new.left c.args.receiver.now c.args.self.now c.items.receiver c.hand_over.new.receiver c.items.edge c.hand_over.new.edge e.1 c.hand_over.new.sender (with_value c.items.below c.pull.new.self) c.in-More.field-3 c.in-Item-hand_over.item
+    u (c.in-Item-hand_over.ensures e.1 e.4)
 
-pub fetch-returns-in-Item : goal.fetch-returns-in-Item
-fetch-returns-in-Item g t c =
+pub fetch-items-preserved-in-Kept : goal.fetch-items-preserved-in-Kept
+fetch-items-preserved-in-Kept g t c =
     let m = g.O.Ops.meaning c.args.ops.now in
-    let out = taken g t (goal.at.fetch-returns-in-Item g t c).After-hand_over c.in-More.field-3 c.in-More.is in
-    handed_item g.M.Machine m c.args.asked c.args.sent c.args.left.now c.match-pop_item.left c.hand_over.new.left c.args.receiver.now c.args.self.now c.items.receiver c.hand_over.new.receiver c.items.edge c.hand_over.new.edge out.0 c.hand_over.new.sender c.match-pop_item.below c.in-More.field-3 c.in-Item.item
-    out.1 (c.in-Item.ensures out.0 out.2)
-
-pub fetch-items-preserved : goal.fetch-items-preserved
-fetch-items-preserved g t c =
-    let m = g.O.Ops.meaning c.args.ops.now in
+    let e = c.in-Item.ensures in
     let on : (beside : Rest _) → c.args.self.now ≡ More c.in-More.edge c.in-More.sender c.in-More.below beside →
-    IsUnderWay g.M.Machine m false 0 c.args.asked c.args.sent c.args.left.now c.args.receiver.now c.args.self.now c.hand_over.new.left c.hand_over.new.receiver (More c.hand_over.new.edge c.hand_over.new.sender c.match-pop_item.below beside) =
+    IsUnderWay g.M.Machine m true c.args.input c.args.asked c.args.sent c.args.left.now c.args.receiver.now c.args.self.now c.hand_over.new.left c.hand_over.new.receiver (More c.hand_over.new.edge c.hand_over.new.sender (with_value c.items.below c.pull.new.self) beside) =
     λ beside is.
-    (let out = taken g t (goal.at.fetch-items-preserved g t c).After-hand_over beside is in
-    handed_kept g.M.Machine m c.args.asked c.args.sent c.args.left.now c.match-pop_item.left c.hand_over.new.left c.args.receiver.now c.args.self.now c.items.receiver c.hand_over.new.receiver c.items.edge c.hand_over.new.edge out.0 c.hand_over.new.sender c.match-pop_item.below beside
-    out.1 (c.in-Kept.ensures out.0 out.2)) in (
+    (let u = run_over g.M.Machine m c.args.input c.args.asked c.args.sent c.args.left.now c.items.left c.pull.new.left e.0 c.args.receiver.now c.args.self.now c.items.receiver c.items.edge c.items.sender e.1 c.items.below beside c.deref_mut.result.now c.pull.new.self
+    (c.items.invariant.0 beside is) c.deref_mut.ensures.value e.2 e.3 in
+    handed_kept g.M.Machine m c.args.input c.args.asked c.args.sent c.args.left.now c.pull.new.left c.hand_over.new.left c.args.receiver.now c.args.self.now c.items.receiver c.hand_over.new.receiver c.items.edge c.hand_over.new.edge e.1 c.hand_over.new.sender (with_value c.items.below c.pull.new.self) beside
+    u (c.in-Kept.ensures e.1 e.4)) in (
       on,
-      below_smaller g.M.Machine m 0 c.args.asked c.args.sent c.args.left.now c.args.receiver.now c.args.self.now c.hand_over.new.left c.hand_over.new.receiver c.hand_over.new.edge c.hand_over.new.sender c.match-pop_item.below c.in-More.field-3 (on c.in-More.field-3 c.in-More.is),
+      below_smaller g.M.Machine m c.args.input c.args.asked c.args.sent c.args.left.now c.args.receiver.now c.args.self.now c.hand_over.new.left c.hand_over.new.receiver c.hand_over.new.edge c.hand_over.new.sender (with_value c.items.below c.pull.new.self) c.in-More.field-3 (on c.in-More.field-3 c.in-More.is),
     )
 
 pub fetch-returns-in-Back : goal.fetch-returns-in-Back
 fetch-returns-in-Back g t c =
     let m = g.O.Ops.meaning c.args.ops.now in
-    let out = taken g t (goal.at.fetch-returns-in-Back g t c).After-hand_over c.in-More.field-3 c.in-More.is in
-    fetched_none g.M.Machine m c.args.asked c.args.sent c.args.left.now c.args.receiver.now c.args.self.now c.hand_over.new.left c.hand_over.new.receiver _
-    (handed_back g.M.Machine m c.args.asked c.args.sent c.args.left.now c.match-pop_item.left c.hand_over.new.left c.args.receiver.now c.args.self.now c.items.receiver c.hand_over.new.receiver c.items.edge c.hand_over.new.edge out.0 c.hand_over.new.sender c.match-pop_item.below c.in-More.field-3
-    out.1 (c.in-Back.ensures out.0 out.2))
+    let e = c.in-Item.ensures in
+    let u = run_over g.M.Machine m c.args.input c.args.asked c.args.sent c.args.left.now c.items.left c.pull.new.left e.0 c.args.receiver.now c.args.self.now c.items.receiver c.items.edge c.items.sender e.1 c.items.below c.in-More.field-3 c.deref_mut.result.now c.pull.new.self
+    (c.items.invariant.0 c.in-More.field-3 c.in-More.is) c.deref_mut.ensures.value e.2 e.3 in
+    fetched_none g.M.Machine m c.args.input c.args.asked c.args.sent c.args.left.now c.args.receiver.now c.args.self.now c.hand_over.new.left c.hand_over.new.receiver _
+    (handed_back g.M.Machine m c.args.input c.args.asked c.args.sent c.args.left.now c.pull.new.left c.hand_over.new.left c.args.receiver.now c.args.self.now c.items.receiver c.hand_over.new.receiver c.items.edge c.hand_over.new.edge e.1 c.hand_over.new.sender (with_value c.items.below c.pull.new.self) c.in-More.field-3
+    u (c.in-Back.ensures e.1 e.4))
 
-pub fetch-returns-then-left-eq0 : goal.fetch-returns-then-left-eq0
-fetch-returns-then-left-eq0 g t c =
-    fetched_none g.M.Machine (g.O.Ops.meaning c.args.ops.now) c.args.asked c.args.sent c.args.left.now c.args.receiver.now c.args.self.now c.items.left c.items.receiver _ (c.items.invariant.0 c.in-More.field-3 c.in-More.is)
+pub fetch-items-preserved : goal.fetch-items-preserved
+fetch-items-preserved g t c =
+    let m = g.O.Ops.meaning c.args.ops.now in
+    let e = c.in-Moved.ensures in
+    let on : (beside : Rest _) → c.args.self.now ≡ More c.in-More.edge c.in-More.sender c.in-More.below beside →
+    IsUnderWay g.M.Machine m true c.args.input c.args.asked c.args.sent c.args.left.now c.args.receiver.now c.args.self.now c.pull.new.left c.items.receiver (More c.items.edge c.pull.new.sender (with_value c.items.below c.pull.new.self) beside) =
+    λ beside is.
+    run_over g.M.Machine m c.args.input c.args.asked c.args.sent c.args.left.now c.items.left c.pull.new.left e.0 c.args.receiver.now c.args.self.now c.items.receiver c.items.edge c.items.sender c.pull.new.sender c.items.below beside c.deref_mut.result.now c.pull.new.self
+    (c.items.invariant.0 beside is) c.deref_mut.ensures.value e.1 e.3 in (
+      on,
+      below_smaller g.M.Machine m c.args.input c.args.asked c.args.sent c.args.left.now c.args.receiver.now c.args.self.now c.pull.new.left c.items.receiver c.items.edge c.pull.new.sender (with_value c.items.below c.pull.new.self) c.in-More.field-3 (on c.in-More.field-3 c.in-More.is),
+    )
 
-pub fetch-hand_over-requires-after_bounds : goal.fetch-hand_over-requires-after_bounds
-fetch-hand_over-requires-after_bounds g t c κs within = search rules
+pub fetch-returns-in-Nothing : goal.fetch-returns-in-Nothing
+fetch-returns-in-Nothing g t c =
+    let m = g.O.Ops.meaning c.args.ops.now in
+    let e = c.in-Nothing.ensures in
+    fetched_none g.M.Machine m c.args.input c.args.asked c.args.sent c.args.left.now c.args.receiver.now c.args.self.now c.pull.new.left c.items.receiver _
+    (run_over g.M.Machine m c.args.input c.args.asked c.args.sent c.args.left.now c.items.left c.pull.new.left e.0 c.args.receiver.now c.args.self.now c.items.receiver c.items.edge c.items.sender c.pull.new.sender c.items.below c.in-More.field-3 c.deref_mut.result.now c.pull.new.self
+    (c.items.invariant.0 c.in-More.field-3 c.in-More.is) c.deref_mut.ensures.value e.1 e.2)
 
-pub fetch-items-smaller-in-Ok : goal.fetch-items-smaller-in-Ok
-fetch-items-smaller-in-Ok g t c = search rules
+pub fetch_beside-returns-in-Some : goal.fetch_beside-returns-in-Some
+fetch_beside-returns-in-Some g t c =
+    rw c.in-More.is (fetched_beside g.M.Machine (g.O.Ops.meaning c.args.ops.now) c.args.input c.in-Some.next c.args.asked c.args.sent c.args.left.now c.fetch_row.new.left c.args.receiver.now c.fetch_row.new.receiver c.in-More.field-0 c.in-More.field-1 c.in-More.field-2 c.in-More.beside c.deref_mut.result.now c.fetch_row.new.self c.fetch_row.result
+    c.in-Some.ensures.1 c.deref_mut.ensures.value c.fetch_row.ensures)
+
+pub fetch_row-fetch_beside-requires : goal.fetch_row-fetch_beside-requires
+fetch_row-fetch_beside-requires g t c κs within =
+    let e = c.in-None.ensures in
+    let same : size c.fetch.new.self ≡ size c.args.self.now = size_run g.M.Machine (g.O.Ops.meaning c.args.ops.now) true e.0 c.args.input c.args.asked c.args.sent c.args.receiver.now c.fetch.new.receiver c.args.self.now c.fetch.new.self e.2 in
+    search (same, rules)
+
+pub fetch_row-returns-in-None : goal.fetch_row-returns-in-None
+fetch_row-returns-in-None g t c =
+    fetched_then g.M.Machine (g.O.Ops.meaning c.args.ops.now) c.args.input c.args.asked c.args.sent c.args.left.now c.fetch.new.left c.fetch_beside.new.left c.args.receiver.now c.fetch.new.receiver c.fetch_beside.new.receiver c.args.self.now c.fetch.new.self c.fetch_beside.new.self c.fetch_beside.result
+    c.in-None.ensures c.fetch_beside.ensures
+
+pub pull-returns-in-Ok-true : goal.pull-returns-in-Ok-true
+pull-returns-in-Ok-true g t c =
+    let some = c.if-before-eq0.false in
+    pulled_step g.M.Machine (g.O.Ops.meaning c.args.ops.now) c.args.left.now c.args.edge.now c.args.sender.now c.pop_item.new.self c.step_over.new.node c.args.self.now c.step_over.new.below (omega (arith, some)) (c.in_default.ensures.none) (c.in-Ok-true.ensures.made c.in-Ok-true.field-0-test)
+
+pub pull-returns-in-Some-fetch_row : goal.pull-returns-in-Some-fetch_row
+pull-returns-in-Some-fetch_row g t c =
+    let still = c.in-Ok-false.ensures.same c.in-Ok-false.field-0-test in
+    pulled_item g.M.Machine (g.O.Ops.meaning c.args.ops.now) c.args.left.now c.fetch_row.new.left c.args.edge.now c.args.sender.now c.step_over.new.node c.fetch_row.new.receiver c.args.self.now c.step_over.new.below c.fetch_row.new.self c.in-Some-fetch_row.item
+    (still.0 ∙ c.in_default.ensures.none) still.1 c.in-Some-fetch_row.ensures
+
+pub pull-returns-else-left-before : goal.pull-returns-else-left-before
+pull-returns-else-left-before g t c =
+    let still = c.in-Ok-false.ensures.same c.in-Ok-false.field-0-test in
+    pulled_moved g.M.Machine (g.O.Ops.meaning c.args.ops.now) c.args.left.now c.fetch_row.new.left c.args.edge.now c.args.sender.now c.fetch_row.new.receiver c.args.self.now c.fetch_row.new.self c.if-left-before.false
+    (pulled_run g.M.Machine (g.O.Ops.meaning c.args.ops.now) c.args.left.now c.fetch_row.new.left c.args.edge.now c.args.sender.now c.step_over.new.node c.fetch_row.new.receiver c.args.self.now c.step_over.new.below c.fetch_row.new.self (still.0 ∙ c.in_default.ensures.none) still.1 c.in-None.ensures)

@@ -1,7 +1,7 @@
 use Rattle.std.proofs.Common.{refl}
 use Rattle.rsx_model.specs.declared.expr.Expr.TheVariants.{Items}
-use Rattle.rsx_node.proofs.Builds.{built_items}
-use Rattle.rsx_node.proofs.build.build_items.Goals as goal
+use Rattle.rsx_build.proofs.Builds.{built_items}
+use Rattle.rsx_build.proofs.trees.build_items.Goals as goal
 
 pub returns : goal.returns
 returns g c = λ hubs.

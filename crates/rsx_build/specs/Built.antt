@@ -6,7 +6,7 @@ use Rattle.rsx_model.specs.Eval.{environment, meant, in_order}
 use Rattle.rsx_model.specs.Shape.{children}
 use Rattle.rsx_model.specs.declared.expr.Expr.{Expr}
 use Rattle.rsx_model.specs.declared.expr.Expr.TheFolds.{fold-Expr}
-use Rattle.rsx_model.specs.declared.expr.Expr.TheOpen.{Expr-F, Items, Range, Hub, Concat, Merge, Zip, Latest}
+use Rattle.rsx_model.specs.declared.expr.Expr.TheOpen.{Expr-F, Items, Range, Hub, Concat, Merge, Zip, Latest, On}
 use Rattle.rsx_model.specs.declared.expr.Expr.TheOpen as layer
 use Rattle.rsx_types.specs.Meaning.{Meaning}
 use Rattle.rsx_types.specs.Notes.{note_then}
@@ -29,7 +29,11 @@ use Rattle.rsx_tree.specs.Reads.{IsRowReadAt, IsTreeReadAt}
 use Rattle.rsx_tree.specs.Tree.{IsJoined, comes_out, notes, edges}
 use Rattle.rsx_node.specs.Any.{any_machine}
 use Rattle.rsx_node.specs.declared.any_node.AnyNode.{AnyNode}
-use Rattle.rsx_node.specs.declared.any_node.AnyNode.TheVariants.{Plain}
+use Rattle.rsx_node.specs.declared.any_node.AnyNode.TheVariants.{Plain, PublishOn}
+use Rattle.rsx_publish_on.specs.PublishOn.{publish_comes_out, publish_counted}
+use Rattle.rsx_queued.specs.Input.{fresh_input}
+use Rattle.rsx_sources.specs.Machine.{Incoming, quiet as quiet_at}
+use Rattle.rsx_publish_on.specs.declared.node.PublishOnNode.{PublishOnNode}
 
 -- a node that recorded nothing yet: whatever it records is its note
 abbrev pub IsUnrecorded : Note → Type 0
@@ -57,6 +61,7 @@ begins_ended (Concat v) = false
 begins_ended (Merge p v) = false
 begins_ended (Zip p v) = false
 begins_ended (Latest p v) = false
+begins_ended (On k p b) = false
 
 -- an edge for each input, with those below it
 abbrev pub fresh_beside : List (List EdgeView) → List EdgeView
@@ -103,6 +108,7 @@ join_here js (Concat v) = []
 join_here js (Merge p v) = []
 join_here js (Zip p v) = []
 join_here js (Latest p v) = []
+join_here js (On k p b) = []
 
 -- lists one behind the other
 abbrev pub in_a_row : {A : Type 0} → List (List A) → List A
@@ -144,6 +150,17 @@ pub record IsPlainOver {T : Type 0} (g : Stage T) (below t : Node (AnyNode T)) :
   pub joined : IsJoined below End row
   pub machine : t.machine ≡ Plain node
   pub inputs : t.inputs ≡ closed_row_if (plain_ended node) row
+
+-- the tree of a fresh `publishOn` over another one, whose queue has room for so many items
+pub record IsPublishOnOver {T : Type 0} (capacity : ℕ) (below t : Node (AnyNode T)) : Type 0 where
+  pub node : PublishOnNode T
+  pub row : Inputs (AnyNode T)
+  pub input : node.input ≡ fresh_input capacity
+  pub fresh : (m : Meaning T) (inc : Incoming T) (further : Note) → publish_comes_out m node inc further ≡ quiet_at further inc.first
+  pub counted : publish_counted node (0 ∷ []) 0
+  pub joined : IsJoined below End row
+  pub machine : t.machine ≡ PublishOn node
+  pub inputs : t.inputs ≡ row
 
 -- ---- the inputs of a node
 

@@ -52,10 +52,10 @@ use Rattle.rsx_node.specs.declared.any_node.AnyNode.TheVariants.{Source, Plain}
 use Rattle.rsx_node.specs.declared.source_node.SourceNode.{SourceNode}
 use Rattle.rsx_node.specs.declared.source_node.SourceNode.TheVariants.{Items, Hub}
 use Rattle.rsx_node.specs.Any.{any_machine}
-use Rattle.rsx_node.specs.Built.{IsBuilt, IsPlainOver, AllUnrecorded, AreBegun, StandAt, counts_of, fresh_edge, fresh_edges, join_at, joins_now, new_joins, starts_ended}
+use Rattle.rsx_build.specs.Built.{IsBuilt, IsPlainOver, AllUnrecorded, AreBegun, StandAt, counts_of, fresh_edge, fresh_edges, join_at, joins_now, new_joins, starts_ended}
 
 -- what comes out of a fresh node is its operator of what comes in
-fresh_out : {T : Type 0} (m : Meaning T) (hubs : List (Stream T)) (n : AnyNode T) (f : List (Stream T) → Stream T) → ((vs : List (Stream T)) (k : Note) → any_machine.comes_out m n (incoming_of hubs vs) k ≡ quiet_at k (f vs)) →
+pub fresh_out : {T : Type 0} (m : Meaning T) (hubs : List (Stream T)) (n : AnyNode T) (f : List (Stream T) → Stream T) → ((vs : List (Stream T)) (k : Note) → any_machine.comes_out m n (incoming_of hubs vs) k ≡ quiet_at k (f vs)) →
     (o : Option (List (Stream T))) (k : Option Note) → out_of any_machine m hubs n o k ≡ quiet k (option_map f o)
 fresh_out m hubs n f h o None = refl
 fresh_out m hubs n f h None (Some Nothing) = refl

@@ -30,13 +30,13 @@ use Rattle.rsx_several.specs.declared.kind.SeveralKind.TheVariants.{Concat, Merg
 use Rattle.rsx_several.specs.declared.several_node.SeveralNode.{SeveralNode}
 use Rattle.rsx_tree.specs.declared.inputs.Inputs.{Inputs}
 use Rattle.rsx_tree.specs.declared.node.Node.{Node}
-use Rattle.rsx_tree.specs.Inputs.{closed_row_if, out_of}
+use Rattle.rsx_tree.specs.Inputs.{out_of}
 use Rattle.rsx_tree.proofs.Rows.{then_same}
 use Rattle.rsx_node.specs.declared.any_node.AnyNode.{AnyNode}
 use Rattle.rsx_node.specs.declared.any_node.AnyNode.TheVariants.{Several}
 use Rattle.rsx_node.specs.Any.{any_machine}
-use Rattle.rsx_node.specs.Built.{IsBuilt, AreBuilt, IsBuiltOver, IsUnrecorded, StandAt, fresh_beside, fresh_edges, new_joins, new_joins_of}
-use Rattle.rsx_node.proofs.Rows.{fresh_edges_out, leaf_joins_out}
+use Rattle.rsx_build.specs.Built.{IsBuilt, AreBuilt, IsBuiltOver, IsUnrecorded, StandAt, fresh_beside, fresh_edges, new_joins, new_joins_of}
+use Rattle.rsx_build.proofs.Rows.{fresh_edges_out, leaf_joins_out}
 
 -- ---- what comes out of the node
 
@@ -99,13 +99,12 @@ node_of n r = record { machine = n; inputs = r }
 
 pub built_over : {T : Type 0} (m : Meaning T) (hubs : List (HubState T)) (kind : SeveralKind) (es : List (Expr T)) (row : Inputs (AnyNode T)) (n : SeveralNode T) (t : Node (AnyNode T)) →
     1 ≤ length es → AreBuilt m hubs es row → GivesKind n kind (length es) → several_recorded n ≡ recorded_first kind → several_ended n ≡ false → several_counted n (replicate (length es) 0) 0 →
-    t.machine ≡ Several n → t.inputs ≡ closed_row_if (several_ended n) row → IsBuiltOver m hubs kind es t
+    t.machine ≡ Several n → t.inputs ≡ row → IsBuiltOver m hubs kind es t
 built_over {T} m hubs kind es row n t some w fresh noted goes_on counted n_is r_is =
-    let tree_is : t.inputs ≡ row = r_is ∙ ap (λ c. closed_row_if c row) goes_on in
     let TN : Node (AnyNode T) → Type 0 = λ x. IsBuiltOver m hubs kind es x in
     let BN : AnyNode T → Type 0 = λ x. TN (node_of x t.inputs) in
     let BR : Inputs (AnyNode T) → Type 0 = λ r. TN (node_of (Several n) r) in
-    subst BN (sym n_is) (subst BR (sym tree_is) (record {
+    subst BN (sym n_is) (subst BR (sym r_is) (record {
       value = λ whole joins further at leaf begun stand.
           let w_env = environment m whole joins further in
           let values = in_order (map (meant w_env) es) (at + 1) leaf in

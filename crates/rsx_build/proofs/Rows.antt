@@ -22,8 +22,8 @@ use Rattle.rsx_tree.specs.Tree.{IsJoined}
 use Rattle.rsx_tree.proofs.Effects.{length_edges}
 use Rattle.rsx_node.specs.declared.any_node.AnyNode.{AnyNode}
 use Rattle.rsx_node.specs.Any.{any_machine}
-use Rattle.rsx_node.specs.Built.{IsBuilt, AreBuilt, AllUnrecorded, StandAt, begins_ended, fresh_below, fresh_beside, fresh_edge, fresh_edges, in_a_row, join_here, joins_now, leaf_joins, new_joins, new_joins_of}
-use Rattle.rsx_node.proofs.Builds.{fresh_edge_is}
+use Rattle.rsx_build.specs.Built.{IsBuilt, AreBuilt, AllUnrecorded, StandAt, begins_ended, fresh_below, fresh_beside, fresh_edge, fresh_edges, in_a_row, join_here, joins_now, leaf_joins, new_joins, new_joins_of}
+use Rattle.rsx_build.proofs.Builds.{fresh_edge_is}
 
 -- ---- the edges and the leaves of an expression
 
@@ -36,6 +36,7 @@ begins_ended-map h (layer.Concat v) = refl
 begins_ended-map h (layer.Merge p v) = refl
 begins_ended-map h (layer.Zip p v) = refl
 begins_ended-map h (layer.Latest p v) = refl
+begins_ended-map h (layer.On k p b) = refl
 
 join_here-map : {T A B : Type 0} (js : List ℕ) (h : A → B) (x : Expr-F T A) → join_here js (map-Expr T A B h x) ≡ join_here js x
 join_here-map js h (layer.Items v) = refl
@@ -46,6 +47,7 @@ join_here-map js h (layer.Concat v) = refl
 join_here-map js h (layer.Merge p v) = refl
 join_here-map js h (layer.Zip p v) = refl
 join_here-map js h (layer.Latest p v) = refl
+join_here-map js h (layer.On k p b) = refl
 
 -- one level of each
 pub fresh_edges_out : {T : Type 0} (e : Expr T) → fresh_edges e ≡ closed_if (begins_ended (out-Expr T e)) (fresh_beside (map fresh_edges (children (out-Expr T e))))
@@ -93,6 +95,7 @@ length_join js (layer.Concat v) = refl
 length_join js (layer.Merge p v) = refl
 length_join js (layer.Zip p v) = refl
 length_join js (layer.Latest p v) = refl
+length_join js (layer.On k p b) = refl
 
 length_row : {T : Type 0} (js : List ℕ) (es : List (Expr T)) → Each (λ e. length (leaf_joins js e) ≡ leaves e) es → length (in_a_row (map (leaf_joins js) es)) ≡ sum_of (map leaves es)
 length_row js [] h = refl

@@ -1,8 +1,10 @@
 use Rattle.std.proofs.Common.{length, rules}
-use Rattle.rsx_node.proofs.Builds.{hub_read, items_if, leaf_if, plain_if}
-use Rattle.rsx_node.proofs.Rows.{built_more, split}
-use Rattle.rsx_node.proofs.Several.{built_concat, built_latest, built_merge, built_over, built_zip, limits_Concat, limits_Latest, limits_Merge, limits_Zip}
-use Rattle.rsx_node.proofs.build.+trees.Goals as goal
+use Rattle.rsx_build.proofs.Builds.{hub_read, items_if, leaf_if, plain_if}
+use Rattle.rsx_build.proofs.Made.{in_front_built, several_over}
+use Rattle.rsx_build.proofs.PublishOn.{publish_on_if}
+use Rattle.rsx_build.proofs.Rows.{split}
+use Rattle.rsx_build.proofs.Several.{built_concat, built_latest, built_merge, built_zip, limits_Concat, limits_Latest, limits_Merge, limits_Zip}
+use Rattle.rsx_build.proofs.trees.+trees.Goals as goal
 
 pub build-returns-in-Items : goal.build-returns-in-Items
 build-returns-in-Items g t c = items_if (g.O.Ops.meaning c.args.ops.now) c.args.hubs.now c.args.expr.now c.in-Items.items c.build_items.result c.in-Items.is c.build_items.ensures
@@ -56,18 +58,22 @@ build-build_over-requires-in-Latest g t c κs within =
     let l = limits_Latest (length c.args.hubs.now) c.args.expr.now c.in-Latest.prefetch c.in-Latest.inputs c.deref-in-Latest.result.now c.in-Latest.is c.deref-in-Latest.ensures.value c.requires in
     (search (rules, l.smaller), (search rules, (search rules, (search rules, (search rules, (search rules, (l.within, (l.few.some, (l.few.most, l.faultless)))))))))
 
+pub build-returns-in_ok-below-in-On : goal.build-returns-in_ok-below-in-On
+build-returns-in_ok-below-in-On g t c =
+    publish_on_if (g.O.Ops.meaning c.args.ops.now) c.args.hubs.now c.args.expr.now c.in-On.field-0 c.in-On.prefetch c.in-On.input c.deref-in-On.result.now c.in_ok-below-in-On.below c.build_publish_on.result
+    c.in-On.is c.deref-in-On.ensures c.in_ok-below-in-On.ensures c.build_publish_on.ensures
+
 pub build_over-returns : goal.build_over-returns
 build_over-returns g t c =
     let m = g.O.Ops.meaning c.args.ops.now in
-    built_over m c.args.hubs.now c.args.kind c.args.inputs.now c.in_ok-row.row c.in_ok-node.node c.new-2.result
-    c.requires.some c.in_ok-row.ensures c.in_ok-node.ensures.fresh c.in_ok-node.ensures.recorded (c.in_ok-node.ensures.ended c.requires.some) (c.in_ok-node.ensures.counted c.requires.some) c.new-2.ensures.machine c.new-2.ensures.inputs
+    several_over m c.args.hubs.now c.args.kind c.args.inputs.now c.in_ok-row.row c.several.result c.over.result c.requires.some c.in_ok-row.ensures c.several.ensures c.over.ensures
 
-pub build_inputs-returns-in_ok-row-in-Some : goal.build_inputs-returns-in_ok-row-in-Some
-build_inputs-returns-in_ok-row-in-Some g t c =
+pub build_inputs-returns-in_ok-beside-in-Some : goal.build_inputs-returns-in_ok-beside-in-Some
+build_inputs-returns-in_ok-beside-in-Some g t c =
     let m = g.O.Ops.meaning c.args.ops.now in
     let k = c.in-Some.ensures.cases in
-    built_more m c.args.hubs.now c.args.exprs.now c.in-Some.first.now c.in-Some.others.now c.in_ok-below-in-Some.below c.in_ok-beside-in-Some.beside c.in_ok-row-in-Some.row
-    k.0 c.in_ok-below-in-Some.ensures c.in_ok-beside-in-Some.ensures c.in_ok-row-in-Some.ensures
+    in_front_built m c.args.hubs.now c.args.exprs.now c.in-Some.first.now c.in-Some.others.now c.build.result c.in_ok-beside-in-Some.beside c.in_front.result
+    k.0 c.build.ensures c.in_ok-beside-in-Some.ensures c.in_front.ensures
 
 pub build_over-build_inputs-requires : goal.build_over-build_inputs-requires
 build_over-build_inputs-requires g t c κs within = (search rules, (search rules, (search rules, (search rules, (search rules, (search rules, c.requires.faultless))))))

@@ -1,6 +1,6 @@
 use Rattle.std.proofs.Common.{◌+◌, ◌*◌, map}
 use Rattle.rsx_model.specs.Shape.{nodes, sum_of}
-use Rattle.rsx_node.proofs.build.+trees.Given as goal
+use Rattle.rsx_build.proofs.trees.+trees.Given as goal
 
 abbrev pub decreases-build : goal.decreases-build
 decreases-build g l = 3 * nodes l.expr.now

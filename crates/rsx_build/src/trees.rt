@@ -3,17 +3,18 @@
 ghost use Rattle.std.specs.Prelude.{◌≡◌, ◌≤◌, ◌<◌, IfOk, List, None, length, map};
 ghost use Rattle.rsx_hub.specs.Hub.{HubState};
 ghost use Rattle.rsx_model.specs.Check.{first_fault, first_of};
-ghost use Rattle.rsx_model.specs.declared.check.TheConstants.{MOST_INPUTS};
+ghost use Rattle.rsx_model.specs.declared.check.TheConstants.{MOST_INPUTS, MOST_PREFETCH};
 ghost use Rattle.rsx_model.specs.declared.expr.Expr.TheVariants.{Items as ItemsOf, Hub as HubOf};
-ghost use Rattle.rsx_node.specs.Built.{IsBuilt, AreBuilt, IsBuiltOver, IsPlainOver};
+ghost use Rattle.rsx_build.specs.Built.{IsBuilt, AreBuilt, IsBuiltOver, IsPlainOver, IsPublishOnOver, starts_ended};
+ghost use Rattle.rsx_build.specs.Made.{IsInFront, IsOver, IsPlain, IsPublishOn, IsSeveral};
 ghost use Rattle.rsx_several.specs.Kind.{IsWithin};
 
-use crate::any_node::AnyNode;
-use crate::source_node::SourceNode;
 use rsx_hub::Hub;
 use rsx_hub_leaf::HubLeaf;
 use rsx_model::Expr;
+use rsx_node::{AnyNode, SourceNode};
 use rsx_plain::PlainNode;
+use rsx_publish_on::PublishOnNode;
 use rsx_several::{SeveralKind, SeveralNode};
 use rsx_sources::{ItemsNode, RangeNode};
 use rsx_tree::{Inputs, Node};
@@ -53,6 +54,10 @@ pub fn build<O: Ops>(
         Expr::Latest(prefetch, inputs) => {
             build_over(alloc, ops, SeveralKind::Latest(*prefetch), inputs, hubs)
         }
+        Expr::On(_, prefetch, input) => {
+            let below = build(alloc, ops, input, hubs)?;
+            build_publish_on(alloc, *prefetch, below)
+        }
     }
 }
 
@@ -72,8 +77,7 @@ fn build_over<O: Ops>(
     ensures { IfOk result (λ tree. IsBuiltOver (O.meaning ops.now) hubs.now kind inputs.now tree) }
 {
     let row = build_inputs(alloc, ops, inputs, hubs)?;
-    let node = SeveralNode::new(alloc, kind, inputs.len() as u32)?;
-    Ok(Node::new(AnyNode::Several(node), row))
+    over(several(alloc, kind, inputs.len() as u32), row, false)
 }
 
 /// The trees of these expressions as the inputs of a node, in their order.
@@ -90,9 +94,7 @@ fn build_inputs<O: Ops>(
     match exprs.split_first() {
         Some((first, others)) => {
             let beside = build_inputs(alloc, ops, others, hubs)?;
-            let below = build(alloc, ops, first, hubs)?;
-            let row = below.join(alloc, beside)?;
-            Ok(row)
+            in_front(alloc, build(alloc, ops, first, hubs), beside)
         }
         None => Ok(Inputs::End),
     }
@@ -134,9 +136,97 @@ fn build_plain<O: Ops>(
 ) -> Result<Node<AnyNode<O::Item>>, NoMemory>
     ensures { IfOk result (λ tree. IsPlainOver stage.now below tree) }
 {
-    let node = PlainNode::new(alloc, ops, stage)?;
-    let inputs = below.join(alloc, Inputs::End)?;
-    Ok(Node::new(AnyNode::Plain(node), inputs))
+    let row = below.join(alloc, Inputs::End)?;
+    over(plain(alloc, ops, stage), row, is_over_at_once(stage))
+}
+
+/// A plain operator as a node of any kind.
+fn plain<O: Ops>(
+    alloc: Global,
+    ops: &O,
+    stage: &Stage<O::Item>,
+) -> Result<AnyNode<O::Item>, NoMemory>
+    ensures { IfOk result (λ n. IsPlain stage.now n) }
+{
+    Ok(AnyNode::Plain(PlainNode::new(alloc, ops, stage)?))
+}
+
+/// Whether a plain operator has put out its ending before it takes anything.
+fn is_over_at_once<T>(stage: &Stage<T>) -> bool
+    ensures { result ≡ starts_ended stage.now }
+{
+    match stage {
+        Stage::Map(_) => false,
+        Stage::Filter(_) => false,
+        Stage::Take(items) => *items == 0,
+        Stage::Scan(_, _) => false,
+        Stage::Buffer(_) => false,
+        Stage::Distinct(_) => false,
+    }
+}
+
+/// The tree of a `publishOn` with a queue of this prefetch over this one.
+fn build_publish_on<T: Drop>(
+    alloc: Global,
+    prefetch: u64,
+    below: Node<AnyNode<T>>,
+) -> Result<Node<AnyNode<T>>, NoMemory>
+    requires positive { 1 ≤ prefetch }
+    requires within { prefetch ≤ MOST_PREFETCH }
+    ensures { IfOk result (λ tree. IsPublishOnOver prefetch below tree) }
+{
+    let row = below.join(alloc, Inputs::End)?;
+    over(publish_on(alloc, prefetch), row, false)
+}
+
+/// A `publishOn` as a node of any kind.
+fn publish_on<T: Drop>(alloc: Global, prefetch: u64) -> Result<AnyNode<T>, NoMemory>
+    requires positive { 1 ≤ prefetch }
+    requires within { prefetch ≤ MOST_PREFETCH }
+    ensures { IfOk result (λ n. IsPublishOn prefetch n) }
+{
+    let node = PublishOnNode::new(alloc, prefetch as usize)?;
+    Ok(AnyNode::PublishOn(node))
+}
+
+/// A node of several inputs as a node of any kind.
+fn several<T: Drop>(alloc: Global, kind: SeveralKind, inputs: u32) -> Result<AnyNode<T>, NoMemory>
+    requires { IsWithin kind }
+    ensures { IfOk result (λ n. IsSeveral kind inputs n) }
+{
+    Ok(AnyNode::Several(SeveralNode::new(alloc, kind, inputs)?))
+}
+
+/// The tree of a node over a row of inputs. Where the node has put out its ending already, all below it is closed.
+fn over<M: Drop>(
+    node: Result<M, NoMemory>,
+    row: Inputs<M>,
+    has_ended: bool,
+) -> Result<Node<M>, NoMemory>
+    ensures { IfOk result (λ tree. IsOver node row has_ended tree) }
+{
+    let mut inputs = row;
+    if has_ended {
+        inputs.close();
+    }
+    match node {
+        Ok(machine) => Ok(Node { machine, inputs }),
+        Err(NoMemory) => Err(NoMemory),
+    }
+}
+
+/// A tree as an input in front of those beside it.
+fn in_front<M: Drop>(
+    alloc: Global,
+    below: Result<Node<M>, NoMemory>,
+    beside: Inputs<M>,
+) -> Result<Inputs<M>, NoMemory>
+    ensures { IfOk result (λ row. IsInFront below beside row) }
+{
+    match below {
+        Ok(tree) => tree.join(alloc, beside),
+        Err(NoMemory) => Err(NoMemory),
+    }
 }
 
 /// The tree of a source alone.
@@ -144,5 +234,8 @@ fn source<T: Drop>(node: SourceNode<T>) -> Node<AnyNode<T>>
     ensures machine { result.machine ≡ AnyNode.Source node }
     ensures inputs { result.inputs ≡ Inputs.End }
 {
-    Node::new(AnyNode::Source(node), Inputs::End)
+    Node {
+        machine: AnyNode::Source(node),
+        inputs: Inputs::End,
+    }
 }

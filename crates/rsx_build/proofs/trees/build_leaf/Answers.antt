@@ -1,8 +1,8 @@
 use Rattle.std.proofs.Common.{◌≡◌, length, refl, slice_get, Some}
 use Rattle.std.proofs.lemmas.Option.{slice_get_read}
 use Rattle.rsx_model.specs.declared.expr.Expr.TheVariants.{Hub}
-use Rattle.rsx_node.proofs.Builds.{built_hub}
-use Rattle.rsx_node.proofs.build.build_leaf.Goals as goal
+use Rattle.rsx_build.proofs.Builds.{built_hub}
+use Rattle.rsx_build.proofs.trees.build_leaf.Goals as goal
 
 pub returns : goal.returns
 returns g c =

@@ -1,0 +1,6 @@
+-- Lemmas about trees that were built.
+pub mod Builds
+pub mod Made
+pub mod PublishOn
+pub mod Rows
+pub mod Several

@@ -1,0 +1,60 @@
+-- What the parts of a tree are made of.
+use Rattle.std.specs.Prelude.{◌≡◌, ◌≤◌, ℕ, Bool, false, [], ◌∷◌, Result, Ok}
+use Rattle.std.proofs.Math.ListN.{replicate}
+use Rattle.rsx_types.specs.declared.stage.Stage.{Stage}
+use Rattle.rsx_types.specs.declared.fault.NoMemory.{NoMemory}
+use Rattle.rsx_operators.specs.State.{plain_start}
+use Rattle.rsx_plain.specs.Node.{GivesOperator, start_slot}
+use Rattle.rsx_plain.specs.declared.node.PlainNode.{PlainNode}
+use Rattle.rsx_several.specs.Kind.{GivesKind, recorded_first}
+use Rattle.rsx_several.specs.Several.{several_counted, several_ended, several_recorded}
+use Rattle.rsx_several.specs.declared.kind.SeveralKind.{SeveralKind}
+use Rattle.rsx_several.specs.declared.several_node.SeveralNode.{SeveralNode}
+use Rattle.rsx_queued.specs.Input.{fresh_input}
+use Rattle.rsx_sources.specs.Machine.{Incoming, quiet as quiet_at}
+use Rattle.rsx_types.specs.Meaning.{Meaning}
+use Rattle.rsx_types.specs.declared.note.Note.{Note}
+use Rattle.rsx_publish_on.specs.PublishOn.{publish_comes_out, publish_counted}
+use Rattle.rsx_publish_on.specs.declared.node.PublishOnNode.{PublishOnNode}
+use Rattle.rsx_tree.specs.Inputs.{closed_row_if}
+use Rattle.rsx_tree.specs.Tree.{IsJoined}
+use Rattle.rsx_tree.specs.declared.inputs.Inputs.{Inputs}
+use Rattle.rsx_tree.specs.declared.node.Node.{Node}
+use Rattle.rsx_node.specs.declared.any_node.AnyNode.{AnyNode}
+use Rattle.rsx_node.specs.declared.any_node.AnyNode.TheVariants.{Plain, Several, PublishOn}
+
+-- a fresh plain operator as a node of any kind
+pub record IsPlain {T : Type 0} (g : Stage T) (n : AnyNode T) : Type 0 where
+  pub node : PlainNode T
+  pub is : n ≡ Plain node
+  pub fresh : GivesOperator node g
+  pub state : node.state ≡ plain_start g
+  pub slot : node.slot ≡ start_slot g
+
+-- a fresh node of several inputs as a node of any kind
+pub record IsSeveral {T : Type 0} (kind : SeveralKind) (count : ℕ) (n : AnyNode T) : Type 0 where
+  pub node : SeveralNode T
+  pub is : n ≡ Several node
+  pub fresh : GivesKind node kind count
+  pub recorded : several_recorded node ≡ recorded_first kind
+  pub ended : 1 ≤ count → several_ended node ≡ false
+  pub counted : 1 ≤ count → several_counted node (replicate count 0) 0
+
+-- a fresh `publishOn` as a node of any kind
+pub record IsPublishOn {T : Type 0} (capacity : ℕ) (n : AnyNode T) : Type 0 where
+  pub node : PublishOnNode T
+  pub is : n ≡ PublishOn node
+  pub input : node.input ≡ fresh_input capacity
+  pub fresh : (m : Meaning T) (inc : Incoming T) (further : Note) → publish_comes_out m node inc further ≡ quiet_at further inc.first
+  pub counted : publish_counted node (0 ∷ []) 0
+
+-- the tree of the node that was made, over this row
+pub record IsOver {M : Type 0} (made : Result M NoMemory) (row : Inputs M) (has_ended : Bool) (t : Node M) : Type 0 where
+  pub is : made ≡ Ok t.machine
+  pub inputs : t.inputs ≡ closed_row_if has_ended row
+
+-- the tree that was made, as an input in front of those beside it
+pub record IsInFront {M : Type 0} (made : Result (Node M) NoMemory) (beside row : Inputs M) : Type 0 where
+  pub tree : Node M
+  pub is : made ≡ Ok tree
+  pub joined : IsJoined tree beside row
