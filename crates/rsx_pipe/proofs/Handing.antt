@@ -24,7 +24,7 @@ use Rattle.rsx_pipe.specs.Output.{counts_in, values_then, published_then, more_a
 use Rattle.rsx_pipe.specs.Part.{PartStands, all_edges, evaluated}
 use Rattle.rsx_pipe.specs.Published.{IsHanded, has_room_for, readers}
 use Rattle.rsx_pipe.specs.Tree.{AnyTree, comes_out, notes_of, IsAllClosed, IsBalanced}
-use Rattle.rsx_pipe.specs.declared.part.Part.{Part}
+use Rattle.rsx_pipe.specs.Part.{Part}
 
 -- ---- one signal more is published
 

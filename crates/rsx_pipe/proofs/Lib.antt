@@ -1,8 +1,6 @@
 -- Lemmas about parts.
-pub mod Fetches
+pub use Rattle.rsx_build.proofs.Rows
 pub mod Handing
-pub mod Looks
-pub mod Numbers
 pub mod Parts
 pub mod Signals
 pub mod Trees

@@ -1,5 +1,5 @@
--- How each move keeps what a part stands for.
-use Rattle.std.proofs.Common.{◌≡◌, ◌⊎◌, inl, inr, ℕ, zero, suc, ◌+◌, ◌-◌, ◌<◌, ◌≤◌, min, Bool, true, false, ◌&&◌, nat_eq, nat_lt, if◌then◌else◌, List, [], ◌∷◌, ◌++◌, length, length-append, take, map, option_map, Option, Some, None, Ok, refl, ap, sym, ◌∙◌, subst, arith, append_assoc, add-zero}
+-- Parts that have just begun, and what is delivered where a part is idle.
+use Rattle.std.proofs.Common.{◌≡◌, ◌⊎◌, inl, inr, ℕ, zero, suc, ◌+◌, ◌-◌, ◌<◌, ◌≤◌, min, Bool, true, false, ◌&&◌, nat_eq, nat_lt, if◌then◌else◌, List, [], ◌∷◌, ◌++◌, length, length-append, take, map, option_map, Option, Some, None, Result, Ok, Err, IfOk, refl, ap, sym, ◌∙◌, subst, arith, append_assoc, add-zero}
 use Rattle.std.proofs.lemmas.Bool.Decides.{nat_tests}
 use Rattle.std.proofs.lemmas.List.{append-nil, take_all}
 use Rattle.rsx_model.specs.declared.check.TheConstants.{MOST_NODES}
@@ -18,7 +18,7 @@ use Rattle.rsx_sources.specs.declared.machine.Front.{Front}
 use Rattle.rsx_hub.specs.Hub.{HubState, HasTakenIn, BeginsWith}
 use Rattle.rsx_hub.specs.Member.{ending_taken}
 use Rattle.rsx_hub.specs.Waiting.{is_open}
-use Rattle.rsx_node.specs.Built.{IsBuilt, AreBegun, StandAt, counts_of, new_joins}
+use Rattle.rsx_build.specs.Built.{IsBuilt, AreBegun, StandAt, counts_of, new_joins}
 use Rattle.rsx_tree.specs.Reads.{IsTreeReadAt}
 use Rattle.rsx_pipe.specs.Published.{AreTaken, IsTaken}
 use Rattle.rsx_tree.specs.Edges.{changed_at, asked_up_to, edge_view, EdgeView, passed, is_live, closed_view, closed_state}
@@ -30,9 +30,9 @@ use Rattle.rsx_tree.specs.declared.look.NodeMove.TheVariants.{Ask, Send, Pick, R
 use Rattle.rsx_tree.specs.declared.edge.Edge.{Edge}
 use Rattle.rsx_tree.specs.declared.edge.EdgeState.{EdgeState}
 use Rattle.rsx_tree.specs.declared.edge.EdgeState.TheVariants.{Live, Closed, Ended}
-use Rattle.rsx_pipe.specs.declared.part.Part.{Part}
-use Rattle.rsx_pipe.specs.declared.part.Pumped.{Pumped}
-use Rattle.rsx_pipe.specs.declared.part.Pumped.TheVariants.{Idle, Budget}
+use Rattle.rsx_pipe.specs.Part.{Part}
+use Rattle.rsx_rooted.specs.declared.rooted.Pumped.{Pumped}
+use Rattle.rsx_rooted.specs.declared.rooted.Pumped.TheVariants.{Idle, Budget}
 use Rattle.rsx_node.specs.Any.{any_machine}
 use Rattle.rsx_tree.specs.Stepped.{IsSteppedAt, IsPickedHere, IsRowMadeHere, over, station_of}
 use Rattle.rsx_tree.specs.Allocates.{node_allocates}
@@ -49,363 +49,15 @@ use Rattle.rsx_tree.specs.Inputs.{size, wanted_at, can_ask_in, can_send_in, edge
 use Rattle.rsx_tree.specs.Stepped.{can_pick_in, can_row_in}
 use Rattle.rsx_tree.proofs.Changes.{chosen_second}
 use Rattle.rsx_tree.proofs.Idles.{idle_offers, can_pass_live, live_still, place_none, station_none, less_or_more}
-use Rattle.rsx_pipe.proofs.Numbers.{above_zero, suc_minus}
 use Rattle.rsx_pipe.proofs.Signals.{IsOrderly-more, IsUnended-more, IsUnended-last, items_in-append, map_then-last, prefix_of_orderly, cut_value}
 use Rattle.rsx_tree.proofs.Shut.{pass_live, and_right, pick_alive, row_alive}
-use Rattle.rsx_pipe.proofs.Trees.{advanced_not_closed, ask_not_closed, send_not_closed, go_live, notes_then-unchosen, notes_then-unrecorded, unchosen_notes, get_behind}
-use Rattle.rsx_pipe.proofs.Numbers.{front_there, above_root, asked_all, at_zero}
+use Rattle.rsx_rooted.proofs.Numbers.{above_zero, suc_minus}
+use Rattle.rsx_rooted.proofs.Parts as OfAny
+use Rattle.rsx_rooted.proofs.Trees.{get_behind, unchosen_notes, notes_then-unchosen}
+use Rattle.rsx_pipe.proofs.Trees.{notes_then-unrecorded}
 
 never : (b : Bool) → b ≡ true → b ≡ false → ⊥
 never b x y = cc
-
--- ---- what goes out
-
-pub same_output : {T : Type 0} (m : Meaning T) (published : List (Stream T)) (part : Part T) (e : Expr T) (joins : List ℕ) (output : List (Signal T)) → PartStands m published part e joins output → PartStands m published part e joins (output ++ [])
-same_output {T} m published part e joins output h =
-    let P : List (Signal T) → Type 0 = λ l. PartStands m published part e joins l in
-    subst P (sym (append-nil output)) h
-
-pub put_out_none : {T : Type 0} (m : Meaning T) (part : Part T) → IsPutOut m part [] part
-put_out_none m part published e joins output h = same_output m published part e joins output h
-
-closed_dead : (s : EdgeState) → s ≡ Closed → s ≡ Live → ⊥
-closed_dead s c l = cc
-
--- moves inside the tree, by which nodes choose
-pub put_out_chosen : {T : Type 0} (m : Meaning T) (old new : Part T) → IsChosen m old.tree new.tree → ((sent : ℕ) → IsBalanced old.tree sent → IsBalanced new.tree sent) → new.root ≡ old.root → IsAlike old.tree new.tree → (IsAllClosed old.tree → (old.root.state ≡ Live → ⊥) → ⊥) → IsPutOut m old [] new
-put_out_chosen m old new k balance root alike alive published e joins output h =
-    same_output m published new e joins output (record {
-      value = λ more further len.
-          ap (λ o. option_map (signals_then output) o) (k.value (values_then published more) further)
-          ∙ (h.value more (k.choose further) (k.count further ∙ (len ∙ k.nodes)) ∙ ap (λ ns. evaluated m (values_then published more) joins e ns) (sym (k.notes further)));
-      orderly = h.orderly;
-      unended = rw root h.unended;
-      ended = rw root h.ended;
-      counted = rw root h.counted;
-      balance = rw root (λ l. balance old.root.demand.sent (h.balance l));
-      reads = rw root (λ l. alike.1 (counts_in published) (h.reads l));
-      alone = rw root (λ l none. alike.1 [] (h.alone l none));
-      closed = λ c. let was : old.root.state ≡ Closed = ap (λ r. r.state) (sym root) ∙ c in absurd (alive (h.closed was) (closed_dead old.root.state was));
-    })
-
-pub put_out_kept : {T : Type 0} (m : Meaning T) (old new : Part T) → IsKept m old.tree new.tree → ((sent : ℕ) → IsBalanced old.tree sent → IsBalanced new.tree sent) → new.root ≡ old.root → IsAlike old.tree new.tree → (IsAllClosed old.tree → (old.root.state ≡ Live → ⊥) → ⊥) → IsPutOut m old [] new
-put_out_kept m old new k balance root alike alive = put_out_chosen m old new (kept_chosen any_machine m old.tree new.tree k) balance root alike alive
-
-passed_sent : {T : Type 0} (e : EdgeView) (s : Signal T) → (passed e (front_of s)).sent ≡ e.sent + length (items_in (s ∷ []))
-passed_sent e (Next x) = refl
-passed_sent e Complete = sym (add-zero e.sent)
-passed_sent e (Error c) = sym (add-zero e.sent)
-
-passed_asked : {T : Type 0} (e : EdgeView) (s : Signal T) → (passed e (front_of s)).asked ≡ e.asked
-passed_asked e (Next x) = refl
-passed_asked e Complete = refl
-passed_asked e (Error c) = refl
-
-passed_live : {T : Type 0} (e : EdgeView) (s : Signal T) → (passed e (front_of s)).state ≡ Live → (x : T) × (s ≡ Next x)
-passed_live e (Next x) h = (x, refl)
-passed_live e Complete h = cc
-passed_live e (Error c) h = cc
-
-passed_open : {T : Type 0} (e : EdgeView) (s : Signal T) → e.state ≡ Live → (passed e (front_of s)).state ≡ Closed → ⊥
-passed_open e (Next x) l c = cc
-passed_open e Complete l c = cc
-passed_open e (Error k) l c = cc
-
-passed_last : {T : Type 0} (e : EdgeView) (s : Signal T) → e.state ≡ Live → (passed e (front_of s)).state ≡ Ended → (x : T) → s ≡ Next x → ⊥
-passed_last e (Next y) l c x i = cc
-passed_last e Complete l c x i = cc
-passed_last e (Error k) l c x i = cc
-
--- what a signal over the root edge leaves of that edge
-record IsRootAfter {T : Type 0} (old new : Part T) (s : Signal T) : Type 0 where
-  was_live : old.root.state ≡ Live
-  view : edge_view new.root ≡ passed (edge_view old.root) (front_of s)
-
-root_after : {T : Type 0} (m : Meaning T) (old new : Part T) (queue queue' : List (Signal T)) → (k : IsRootSent m old queue new queue') → IsRootAfter old new k.signal
-root_after m old new queue queue' k =
-    let offered : Some k.front ≡ Some (front_of k.signal) = sym k.offered ∙ ap (λ x. option_map front_of x) k.gone.offered in
-    let named : k.front ≡ front_of k.signal = cc in
-    let P : Front → Type 0 = λ g. edge_view new.root ≡ passed (edge_view old.root) g in
-    record { was_live = pass_live (edge_view old.root) k.front k.can; view = subst P named k.passed }
-
--- the root's signal goes over the root edge
-pub put_out_sent : {T : Type 0} (m : Meaning T) (old new : Part T) (queue queue' : List (Signal T)) → (k : IsRootSent m old queue new queue') → IsPutOut m old (k.signal ∷ []) new
-put_out_sent {T} m old new queue queue' k published e joins output h =
-    let r = root_after m old new queue queue' k in
-    let open_before : IsUnended output = h.unended r.was_live in
-    let sent : new.root.demand.sent ≡ old.root.demand.sent + length (items_in (k.signal ∷ [])) = ap (λ v. v.sent) r.view ∙ passed_sent (edge_view old.root) k.signal in
-    let live_item : new.root.state ≡ Live → (x : T) × (k.signal ≡ Next x) = λ l. passed_live (edge_view old.root) k.signal (sym (ap (λ v. v.state) r.view) ∙ l) in
-    record {
-      value = λ more further len.
-          map_then-last output k.signal (comes_out m (values_then published more) further new.tree 0)
-          ∙ (ap (λ o. option_map (signals_then output) o) (sym (k.gone.value (values_then published more) further 0))
-          ∙ (h.value more further (len ∙ ap length k.gone.notes) ∙ ap (λ ns. evaluated m (values_then published more) joins e (notes_then ns further)) (sym k.gone.notes)));
-      orderly = IsOrderly-more output k.signal open_before;
-      unended = λ l. let x = live_item l in rw x.1 (IsUnended-more output x.0 open_before);
-      ended = λ c u. let x = IsUnended-last output k.signal u in passed_last (edge_view old.root) k.signal r.was_live (sym (ap (λ v. v.state) r.view) ∙ c) x.0 x.1;
-      counted = ap length (items_in-append output (k.signal ∷ [])) ∙ (length-append (items_in output) (items_in (k.signal ∷ [])) ∙ (ap (λ n. n + length (items_in (k.signal ∷ []))) h.counted ∙ sym sent));
-      balance = λ l.
-          let x = live_item l in
-          let B : Signal T → Type 0 = λ t. IsBalancedAfter t new.tree old.root.demand.sent in
-          let C : ℕ → Type 0 = λ c. IsBalanced new.tree c in
-          let one : new.root.demand.sent ≡ old.root.demand.sent + 1 = sent ∙ ap (λ t. old.root.demand.sent + length (items_in (t ∷ []))) x.1 in
-          subst C (sym one) (subst B x.1 (k.gone.balance old.root.demand.sent (h.balance r.was_live)));
-      reads = λ l. k.gone.alike.1 (counts_in published) (h.reads r.was_live);
-      alone = λ l none. k.gone.alike.1 [] (h.alone r.was_live none);
-      closed = λ c. absurd (passed_open (edge_view old.root) k.signal r.was_live (sym (ap (λ v. v.state) r.view) ∙ c));
-    }
-
--- what was asked over the root edge rises
-pub put_out_asked : {T : Type 0} (m : Meaning T) (old new : Part T) → new.tree ≡ old.tree → new.root.state ≡ old.root.state → new.root.demand.sent ≡ old.root.demand.sent → IsPutOut m old [] new
-put_out_asked {T} m old new tree state sent published e joins output h =
-    let V : AnyTree T → Type 0 = λ t. (more : List (Stream T)) (further : List Note) → length further ≡ length (notes_of t) →
-    option_map (signals_then output) (comes_out m (values_then published more) further t 0) ≡ evaluated m (values_then published more) joins e (notes_then (notes_of t) further) in
-    let B : AnyTree T → Type 0 = λ t. IsBalanced t old.root.demand.sent in
-    let S : ℕ → Type 0 = λ k. IsBalanced new.tree k in
-    let C : AnyTree T → Type 0 = λ t. IsAllClosed t in
-    let R : List ℕ → AnyTree T → Type 0 = λ counts t. IsTreeReadAt any_machine counts t in
-    same_output m published new e joins output (record {
-      value = subst V (sym tree) h.value;
-      orderly = h.orderly;
-      unended = λ l. h.unended (sym state ∙ l);
-      ended = λ x. h.ended (sym state ∙ x);
-      counted = h.counted ∙ sym sent;
-      balance = λ l. subst S (sym sent) (subst B (sym tree) (h.balance (sym state ∙ l)));
-      reads = λ l. subst (R (counts_in published)) (sym tree) (h.reads (sym state ∙ l));
-      alone = λ l none. subst (R []) (sym tree) (h.alone (sym state ∙ l) none);
-      closed = λ x. subst C (sym tree) (h.closed (sym state ∙ x));
-    })
-
--- the part is closed
-pub put_out_closed : {T : Type 0} (m : Meaning T) (old new : Part T) → IsKept m old.tree new.tree → IsAllClosed new.tree → edge_view new.root ≡ closed_view (edge_view old.root) → IsPutOut m old [] new
-put_out_closed m old new k closed root published e joins output h =
-    same_output m published new e joins output (record {
-      value = λ more further len.
-          ap (λ o. option_map (signals_then output) o) (k.value (values_then published more) further 0)
-          ∙ (h.value more further (len ∙ ap length k.notes) ∙ ap (λ ns. evaluated m (values_then published more) joins e (notes_then ns further)) (sym k.notes));
-      orderly = h.orderly;
-      unended = λ l. absurd (never_live (edge_view old.root) (sym (ap (λ v. v.state) root) ∙ l));
-      ended = λ x. h.ended (was_ended (edge_view old.root) (sym (ap (λ v. v.state) root) ∙ x));
-      counted = h.counted ∙ sym (ap (λ v. v.sent) root);
-      balance = λ l. absurd (never_live (edge_view old.root) (sym (ap (λ v. v.state) root) ∙ l));
-      reads = λ l. absurd (never_live (edge_view old.root) (sym (ap (λ v. v.state) root) ∙ l));
-      alone = λ l. absurd (never_live (edge_view old.root) (sym (ap (λ v. v.state) root) ∙ l));
-      closed = λ _. closed;
-    })
-  where
-    never_live : (e : EdgeView) → (closed_view e).state ≡ Live → ⊥
-    never_live e l = by_state e.state l
-      where
-        by_state : (s : EdgeState) → closed_state s ≡ Live → ⊥
-        by_state Live l = cc
-        by_state Ended l = cc
-        by_state Closed l = cc
-
-    was_ended : (e : EdgeView) → (closed_view e).state ≡ Ended → e.state ≡ Ended
-    was_ended e l = by_state e.state l
-      where
-        by_state : (s : EdgeState) → closed_state s ≡ Ended → s ≡ Ended
-        by_state Live l = cc
-        by_state Ended l = refl
-        by_state Closed l = cc
-
-pub put_out_on : {T : Type 0} (m : Meaning T) (a b c : Part T) (first rest : List (Signal T)) → IsPutOut m a first b → IsPutOut m b rest c → IsPutOut m a (first ++ rest) c
-put_out_on {T} m a b c first rest x y published e joins output h =
-    let P : List (Signal T) → Type 0 = λ l. PartStands m published c e joins l in
-    subst P (append_assoc output first rest) (y published e joins (output ++ first) (x published e joins output h))
-
--- ---- many moves
-
-pub moved_on : {T : Type 0} (m : Meaning T) (n k : ℕ) (a b c : Part T) (q q' q'' : List (Signal T)) (ds es : List (Signal T)) → IsMovedBy m n a q ds b q' → IsMovedBy m k b q' es c q'' → IsMovedBy m (n + k) a q (ds ++ es) c q''
-moved_on {T} m zero k a b c q q' q'' ds es x y =
-    let P : Part T → Type 0 = λ s. IsMovedBy m k s q' es c q'' in
-    let Q : List (Signal T) → Type 0 = λ l. IsMovedBy m k a l es c q'' in
-    let D : List (Signal T) → Type 0 = λ l. IsMovedBy m k a q (l ++ es) c q'' in
-    let R : ℕ → Type 0 = λ i. IsMovedBy m i a q (ds ++ es) c q'' in
-    let none : k ≡ 0 + k = omega arith in
-    subst R none (subst D (sym x.0) (subst Q x.2 (subst P x.1 y)))
-moved_on {T} m (suc n) k a b c q q' q'' ds es x y =
-    let R : ℕ → Type 0 = λ i. IsMovedBy m i a q (ds ++ es) c q'' in
-    let more : suc (n + k) ≡ suc n + k = omega arith in
-    subst R more (x.0, x.1, x.2, x.3 ++ es, x.4, moved_on m n k x.0 b c x.2 q' q'' x.3 es x.5 y, ap (λ l. l ++ es) x.6 ∙ append_assoc x.1 x.3 es)
-
-pub pumped_none : {T : Type 0} (m : Meaning T) (part : Part T) (queue : List (Signal T)) → IsPumped m 0 part queue part queue
-pumped_none m part queue = record { out = []; queued = sym (append-nil queue); moves = (refl, refl, refl); stands = put_out_none m part; asked = refl; unclosed = λ h. h; alike = (λ a. refl, λ counts h. h) }
-
-pub pumped_on : {T : Type 0} (m : Meaning T) (n k : ℕ) (a b c : Part T) (q q' q'' : List (Signal T)) → IsPumped m n a q b q' → IsPumped m k b q' c q'' → IsPumped m (n + k) a q c q''
-pumped_on m n k a b c q q' q'' x y = record {
-  out = x.out ++ y.out;
-  queued = y.queued ∙ (ap (λ l. l ++ y.out) x.queued ∙ append_assoc q x.out y.out);
-  moves = moved_on m n k a b c q q' q'' x.out y.out x.moves y.moves;
-  stands = put_out_on m a b c x.out y.out x.stands y.stands;
-  asked = y.asked ∙ x.asked;
-  unclosed = λ h. y.unclosed (x.unclosed h);
-  alike = (λ p. y.alike.0 p ∙ x.alike.0 p, λ counts h. y.alike.1 counts (x.alike.1 counts h));
-}
-
--- ---- one move
-
-pub sent_below_root : {T : Type 0} (m : Meaning T) (old : Part T) (tree : AnyTree T) (at : ℕ) → 0 < at → IsSentAt m old.tree (at - 1) tree → IsSend m old at [] (record { tree = tree; root = old.root })
-sent_below_root {T} m old tree at z k =
-    let Q : Bool → Type 0 = λ b. GoesOut m old b [] in
-    let not : nat_eq at 0 ≡ false = above_root at z in
-    let ended : Bool = ended_at tree (at - 1) in
-    let same : (if nat_eq at 0 then false else ended) ≡ ended = chosen_second (nat_eq at 0) false ended not in
-    let there : sent_at ended k.front old at ≡ edge_view old.root ∷ edges_after ended k.front old.tree (at - 1) = chosen_second (nat_eq at 0) _ _ not in
-    record {
-      front = k.front;
-      carries = front_there at (option_map front_of (offers m old.tree)) (front_at m old.tree (at - 1)) k.front z (ap (front_in m) k.is ∙ k.offered);
-      edges = ap (λ l. edge_view old.root ∷ l) k.edges ∙ (sym there ∙ ap (λ v. sent_at v k.front old at) (sym same));
-      goes = subst Q (sym not) refl;
-    }
-
-pub asked_below_root : {T : Type 0} (old : Part T) (tree : AnyTree T) (at : ℕ) → 0 < at → IsAskedAt old.tree (at - 1) old.root.demand.asked old.root.demand.sent tree → IsAsk old at (record { tree = tree; root = old.root })
-asked_below_root old tree at z k =
-    let want : wanted_at any_machine k.there ≡ want_at old.tree (at - 1) old.root.demand.asked old.root.demand.sent = sym (ap want_in k.is) in
-    asked_all (edge_view old.root) (edges old.tree) (edges tree) at (want_at old.tree (at - 1) old.root.demand.asked old.root.demand.sent) old.root.demand.asked z
-    (k.edges ∙ ap (λ w. changed_at (asked_up_to w) (at - 1) (edges old.tree)) want)
-
-pub sent_root : {T : Type 0} (m : Meaning T) (old new : Part T) (queue queue' : List (Signal T)) → (k : IsRootSent m old queue new queue') → IsSend m old 0 (k.signal ∷ []) new
-sent_root m old new queue queue' k = record {
-  front = k.front;
-  carries = k.offered;
-  edges = ap (λ e. e ∷ edges new.tree) k.passed ∙ ap (λ t. passed (edge_view old.root) k.front ∷ edges_in t) (sym k.gone.popped.1);
-  goes = (k.signal, k.gone.offered, refl);
-}
-
-pub root_can : {T : Type 0} (m : Meaning T) (old new : Part T) (queue queue' : List (Signal T)) → (k : IsRootSent m old queue new queue') → send_enabled m old queue 0 ≡ true
-root_can m old new queue queue' k = rw (k.room, k.offered) k.can
-
-pub moved_root : {T : Type 0} (m : Meaning T) (old new : Part T) (queue queue' : List (Signal T)) → (k : IsRootSent m old queue new queue') → IsMoved m old queue (k.signal ∷ []) new queue'
-moved_root m old new queue queue' k = record {
-  move = Send 0;
-  enabled = root_can m old new queue queue' k;
-  effect = sent_root m old new queue queue' k;
-  queued = k.queued;
-}
-
-root_unclosed : {T : Type 0} (m : Meaning T) (old new : Part T) (queue queue' : List (Signal T)) → (k : IsRootSent m old queue new queue') → new.root.state ≡ Closed → ⊥
-root_unclosed m old new queue queue' k c =
-    let r = root_after m old new queue queue' k in
-    passed_open (edge_view old.root) k.signal r.was_live (sym (ap (λ v. v.state) r.view) ∙ c)
-
-root_asked : {T : Type 0} (m : Meaning T) (old new : Part T) (queue queue' : List (Signal T)) → (k : IsRootSent m old queue new queue') → new.root.demand.asked ≡ old.root.demand.asked
-root_asked m old new queue queue' k =
-    let r = root_after m old new queue queue' k in
-    ap (λ v. v.asked) r.view ∙ passed_asked (edge_view old.root) k.signal
-
-pub pumped_root : {T : Type 0} (m : Meaning T) (old new : Part T) (queue queue' : List (Signal T)) → IsRootSent m old queue new queue' → IsPumped m 1 old queue new queue'
-pumped_root m old new queue queue' k = record {
-  out = k.signal ∷ [];
-  queued = k.queued;
-  moves = (new, k.signal ∷ [], queue', [], moved_root m old new queue queue' k, (refl, refl, refl), refl);
-  stands = put_out_sent m old new queue queue' k;
-  asked = root_asked m old new queue queue' k;
-  unclosed = λ _. root_unclosed m old new queue queue' k;
-  alike = k.gone.alike;
-}
-
-pub moved_below : {T : Type 0} (m : Meaning T) (old : Part T) (tree : AnyTree T) (queue : List (Signal T)) → IsAdvanced m old.tree old.root.demand.asked old.root.demand.sent tree → IsMoved m old queue [] (record { tree = tree; root = old.root }) queue
-moved_below {T} m old tree queue a =
-    let asked : ℕ = old.root.demand.asked in
-    let sent : ℕ = old.root.demand.sent in
-    let above : 0 < a.at + 1 = omega arith in
-    let A : ℕ → Type 0 = λ k. IsAskedAt old.tree k asked sent tree in
-    let S : ℕ → Type 0 = λ k. IsSentAt m old.tree k tree in
-    elim a.made [
-      | inl k ↦ record {
-        move = Ask (a.at + 1);
-        enabled = above_zero a.at false (can_ask old.tree ((a.at + 1) - 1) asked sent) ∙ ap (λ i. can_ask old.tree i asked sent) (suc_minus a.at) ∙ k.0;
-        effect = (refl, asked_below_root old tree (a.at + 1) above (subst A (sym (suc_minus a.at)) k.1));
-        queued = sym (append-nil queue);
-      }
-      | inr y ↦ elim y [
-        | inl k ↦ record {
-          move = Send (a.at + 1);
-          enabled = above_zero a.at (has_room queue && can_go (edge_view old.root) (option_map front_of (offers m old.tree))) (can_send m old.tree ((a.at + 1) - 1)) ∙ ap (λ i. can_send m old.tree i) (suc_minus a.at) ∙ k.0;
-          effect = sent_below_root m old tree (a.at + 1) above (subst S (sym (suc_minus a.at)) k.1);
-          queued = sym (append-nil queue);
-        }
-        | inr k ↦ elim k.1.made [
-          | inl p ↦
-              let made : IsSteppedAt (IsPickedHere any_machine m p.0) any_machine.ended old.tree (edge_view old.root) (suc a.at) tree = record { machine = k.1.receiver; made = p.1 } in
-              record {
-                move = Pick (suc a.at) p.0;
-                enabled = picked_enabled any_machine m p.0 old.tree (edge_view old.root) (suc a.at) tree made;
-                effect = (refl, record { tree = picked_effect any_machine m p.0 old.tree (edge_view old.root) (suc a.at) tree made; root = refl });
-                queued = sym (append-nil queue);
-              }
-          | inr p ↦
-              let made : IsSteppedAt (IsRowMadeHere any_machine m) any_machine.ended old.tree (edge_view old.root) (suc a.at) tree = record { machine = k.1.receiver; made = p } in
-              record {
-                move = Row (suc a.at);
-                enabled = row_made_enabled any_machine m old.tree (edge_view old.root) (suc a.at) tree made;
-                effect = (refl, record { tree = row_effect any_machine m old.tree (edge_view old.root) (suc a.at) tree made; root = refl });
-                queued = sym (append-nil queue);
-              }
-        ]
-      ]
-    ]
-
--- what a call that makes a move gives
-pub made_root : {T : Type 0} (m : Meaning T) (move : NodeMove) (n : ℕ) (old new : Part T) (queue queue' : List (Signal T)) → move ≡ Send n → n ≡ 0 → IsRootSent m old queue new queue' → IsMade m move old queue new queue'
-made_root {T} m move n old new queue queue' e z k =
-    let P : NodeMove → Type 0 = λ mv. IsMade m mv old queue new queue' in
-    let Q : ℕ → Type 0 = λ i. IsSend m old i (k.signal ∷ []) new in
-    subst P (sym e) (record {
-      out = k.signal ∷ [];
-      effect = subst Q (sym z) (sent_root m old new queue queue' k);
-      queued = k.queued;
-      stands = put_out_sent m old new queue queue' k;
-      asked = root_asked m old new queue queue' k;
-      unclosed = λ _. root_unclosed m old new queue queue' k;
-      alike = k.gone.alike;
-    })
-
-pub made_inside : {T : Type 0} (m : Meaning T) (move : NodeMove) (old new : Part T) (queue : List (Signal T)) → IsEffect m move old [] new → IsPutOut m old [] new → new.root ≡ old.root → IsAlike old.tree new.tree → IsMade m move old queue new queue
-made_inside m move old new queue effect stands root alike = record {
-  out = [];
-  effect = effect;
-  queued = sym (append-nil queue);
-  stands = stands;
-  asked = ap (λ r. r.demand.asked) root;
-  unclosed = λ h c. h (ap (λ r. r.state) (sym root) ∙ c);
-  alike = alike;
-}
-
-pub made_ask : {T : Type 0} (m : Meaning T) (move : NodeMove) (n : ℕ) (old new : Part T) (queue : List (Signal T)) → move ≡ Ask n → IsAsk old n new → IsPutOut m old [] new → new.root ≡ old.root → IsAlike old.tree new.tree → IsMade m move old queue new queue
-made_ask {T} m move n old new queue e effect stands root alike =
-    let P : NodeMove → Type 0 = λ mv. IsEffect m mv old [] new in
-    made_inside m move old new queue (subst P (sym e) (refl, effect)) stands root alike
-
-pub made_below : {T : Type 0} (m : Meaning T) (move : NodeMove) (n : ℕ) (old new : Part T) (queue : List (Signal T)) → move ≡ Send n → 0 < n → IsSend m old ((n - 1) + 1) [] new → IsPutOut m old [] new → new.root ≡ old.root → IsAlike old.tree new.tree → IsMade m move old queue new queue
-made_below {T} m move n old new queue e z effect stands root alike =
-    let P : NodeMove → Type 0 = λ mv. IsEffect m mv old [] new in
-    let Q : ℕ → Type 0 = λ i. IsSend m old i [] new in
-    let same : (n - 1) + 1 ≡ n = omega (arith, z) in
-    made_inside m move old new queue (subst P (sym e) (subst Q same effect)) stands root alike
-
-pub made_pick : {T : Type 0} (m : Meaning T) (move : NodeMove) (n input : ℕ) (old new : Part T) (queue : List (Signal T)) → move ≡ Pick n input → IsPick old n input new → IsPutOut m old [] new → IsAlike old.tree new.tree → IsMade m move old queue new queue
-made_pick {T} m move n input old new queue e effect stands alike =
-    let P : NodeMove → Type 0 = λ mv. IsEffect m mv old [] new in
-    made_inside m move old new queue (subst P (sym e) (refl, effect)) stands effect.root alike
-
-pub made_row : {T : Type 0} (m : Meaning T) (move : NodeMove) (n : ℕ) (old new : Part T) (queue : List (Signal T)) → move ≡ Row n → IsRow old n new → IsPutOut m old [] new → IsAlike old.tree new.tree → IsMade m move old queue new queue
-made_row {T} m move n old new queue e effect stands alike =
-    let P : NodeMove → Type 0 = λ mv. IsEffect m mv old [] new in
-    made_inside m move old new queue (subst P (sym e) (refl, effect)) stands effect.root alike
-
--- a move that a call made is a run of one move
-pub pumped_made : {T : Type 0} (m : Meaning T) (move : NodeMove) (old new : Part T) (queue queue' : List (Signal T)) → move_enabled m old queue move ≡ true → IsMade m move old queue new queue' → IsPumped m 1 old queue new queue'
-pumped_made m move old new queue queue' can k = record {
-  out = k.out;
-  queued = k.queued;
-  moves = (new, k.out, queue', [], record { move = move; enabled = can; effect = k.effect; queued = k.queued }, (refl, refl, refl), sym (append-nil k.out));
-  stands = k.stands;
-  asked = k.asked;
-  unclosed = k.unclosed;
-  alike = k.alike;
-}
 
 -- ---- a part that has just begun
 
@@ -492,84 +144,7 @@ fresh_part m hubs published e part taken b l s = record {
 
 -- a closed part makes no move
 pub moved_alive : {T : Type 0} (m : Meaning T) (old new : Part T) (queue queue' out : List (Signal T)) → IsMoved m old queue out new queue' → IsAllClosed old.tree → (old.root.state ≡ Live → ⊥) → ⊥
-moved_alive {T} m old new queue queue' out k closed shut = by_move k.move k.enabled
-  where
-    by_test : (b x y : Bool) → (if b then x else y) ≡ true → (x ≡ true) ⊎ (y ≡ true)
-    by_test true x y e = inl e
-    by_test false x y e = inr e
-
-    below : (at : ℕ) (x y : Bool) → (if nat_eq at 0 then x else y) ≡ true → (x ≡ true) ⊎ (y ≡ true)
-    below at x y e = by_test (nat_eq at 0) x y e
-
-    by_move : (move : NodeMove) → move_enabled m old queue move ≡ true → ⊥
-    by_move (Ask n) e = elim (below n false (can_ask old.tree (n - 1) old.root.demand.asked old.root.demand.sent) e) [
-      | inl f ↦ cc
-      | inr a ↦ ask_not_closed old.tree (n - 1) old.root.demand.asked old.root.demand.sent a closed
-    ]
-    by_move (Send n) e = elim (below n (has_room queue && can_go (edge_view old.root) (option_map front_of (offers m old.tree))) (can_send m old.tree (n - 1)) e) [
-      | inl r ↦ shut (go_live (edge_view old.root) (option_map front_of (offers m old.tree)) (and_right (has_room queue) _ r))
-      | inr s ↦ send_not_closed m old.tree (n - 1) s closed
-    ]
-    by_move (Pick n input) e = pick_alive any_machine old.tree (edge_view old.root) n input e closed shut
-    by_move (Row n) e = row_alive any_machine old.tree (edge_view old.root) n e closed shut
-
--- ---- many moves of the tree
-
-pub driven_moves : {T : Type 0} (m : Meaning T) (n : ℕ) (root : Edge) (old new : AnyTree T) (queue : List (Signal T)) → IsDriven m n old root.demand.asked root.demand.sent new → IsMovedBy m n (record { tree = old; root = root }) queue [] (record { tree = new; root = root }) queue
-driven_moves m zero root old new queue d = (refl, ap (λ t. record { tree = t; root = root }) d, refl)
-driven_moves m (suc n) root old new queue d =
-    (record { tree = d.0; root = root }, [], queue, [], moved_below m (record { tree = old; root = root }) d.0 queue d.1, driven_moves m n root d.0 new queue d.2, refl)
-
-driven_put_out : {T : Type 0} (m : Meaning T) (n : ℕ) (root : Edge) (old new : AnyTree T) → IsDriven m n old root.demand.asked root.demand.sent new → ((s : ℕ) → IsBalanced old s → IsBalanced new s) → IsPutOut m (record { tree = old; root = root }) [] (record { tree = new; root = root })
-driven_put_out {T} m zero root old new d balance = let P : AnyTree T → Type 0 = λ t. IsPutOut m (record { tree = old; root = root }) [] (record { tree = t; root = root }) in subst P (sym d) (put_out_none m (record { tree = old; root = root }))
-driven_put_out m (suc n) root old new d balance =
-    put_out_chosen m (record { tree = old; root = root }) (record { tree = new; root = root }) (chosen_run any_machine m true (suc n) old new root.demand.asked root.demand.sent d) balance refl (driven_alike any_machine m true (suc n) old root.demand.asked root.demand.sent new d) (λ closed _. advanced_not_closed m old d.0 root.demand.asked root.demand.sent d.1 closed)
-
-pub pumped_driven : {T : Type 0} (m : Meaning T) (n : ℕ) (old : Part T) (tree : AnyTree T) (queue : List (Signal T)) → IsDriven m n old.tree old.root.demand.asked old.root.demand.sent tree → ((s : ℕ) → IsBalanced old.tree s → IsBalanced tree s) → IsPumped m n old queue (record { tree = tree; root = old.root }) queue
-pumped_driven m n old tree queue d balance = record {
-  out = [];
-  queued = sym (append-nil queue);
-  moves = driven_moves m n old.root old.tree tree queue d;
-  stands = driven_put_out m n old.root old.tree tree d balance;
-  asked = refl;
-  unclosed = λ h. h;
-  alike = driven_alike any_machine m true n old.tree old.root.demand.asked old.root.demand.sent tree d;
-}
-
--- ---- no want of memory
-
--- the root's signal is taken out without
-pub root_free : {T : Type 0} (a : Allocates) (part : Part T) → pump_allocates a part ≡ false → pop_allocates a part.tree ≡ false
-root_free a part free = or_left (pop_allocates a part.tree) _ (or_left (node_allocates any_machine a part.tree.machine) _ free)
-
--- a step of the root is made without
-pub root_step_free : {T : Type 0} (a : Allocates) (part : Part T) (step : NodeMove) → IsStepEnabled any_machine (over part.root part.tree.machine) 0 step → pump_allocates a part ≡ false → make_allocates a part step ≡ false
-root_step_free a part (Ask n) h free = absurd h
-root_step_free a part (Send n) h free = absurd h
-root_step_free a part (Pick n input) h free = ap (λ k. step_allocates a part.tree (edge_view part.root) k) h.0 ∙ or_right (any_machine.signal_allocates a part.tree.machine) _ (or_right (any_machine.pop_allocates a part.tree.machine) _ (or_left (node_allocates any_machine a part.tree.machine) _ free))
-root_step_free a part (Row n) h free = ap (λ k. step_allocates a part.tree (edge_view part.root) k) h.0 ∙ or_right (any_machine.signal_allocates a part.tree.machine) _ (or_right (any_machine.pop_allocates a part.tree.machine) _ (or_left (node_allocates any_machine a part.tree.machine) _ free))
-
--- an enabled move isn't refused but for want of memory
-pub not_refused : (can : Bool) (e : NotMade) → can ≡ true → IsNotMade can e → e ≡ NotEnabled → ⊥
-not_refused can e enabled h is = let other : IsNotMade can NotEnabled = subst (IsNotMade can) is h in never can enabled other
-
--- ---- where no move is enabled
-
-pub quiet_when : {T : Type 0} (m : Meaning T) (part : Part T) (queue : List (Signal T)) → send_enabled m part queue 0 ≡ false → IsIdle m part.tree part.root.demand.asked part.root.demand.sent → IsStill (station_of part.tree (edge_view part.root) 0) → IsQuiet m part queue
-quiet_when m part queue r t still (Ask n) l = at_zero n false (can_ask part.tree (n - 1) part.root.demand.asked part.root.demand.sent) false refl (t (n - 1) (omega (arith, l))).0
-quiet_when m part queue r t still (Send n) l = at_zero n (has_room queue && can_go (edge_view part.root) (option_map front_of (offers m part.tree))) (can_send m part.tree (n - 1)) false r (t (n - 1) (omega (arith, l))).1
-quiet_when m part queue r t still (Pick zero input) l = still.0 input l.1
-quiet_when m part queue r t still (Pick (suc at) input) l = (t at (let small = l.0 in omega (arith, small))).2.0 input l.1
-quiet_when m part queue r t still (Row zero) l = still.1
-quiet_when m part queue r t still (Row (suc at)) l = (t at (omega (arith, l))).2.1
-
--- the tree made no move, and the root can't send, pick or make a row
-pub quiet_driven : {T : Type 0} (m : Meaning T) (n left budget : ℕ) (part : Part T) (tree : AnyTree T) (queue : List (Signal T)) → n + left ≡ budget → budget ≤ left → IsDriven m n part.tree part.root.demand.asked part.root.demand.sent tree → send_enabled m part queue 0 ≡ false →
-    IsIdle m tree part.root.demand.asked part.root.demand.sent → IsStill (station_of tree (edge_view part.root) 0) → IsQuiet m (record { tree = tree; root = part.root }) queue
-quiet_driven {T} m zero left budget part tree queue spent all d shut idle still =
-    let S : AnyTree T → Type 0 = λ t. send_enabled m (record { tree = t; root = part.root }) queue 0 ≡ false in
-    quiet_when m (record { tree = tree; root = part.root }) queue (subst S (sym d) shut) idle still
-quiet_driven m (suc n) left budget part tree queue spent all d shut idle still = absurd (omega (arith, spent, all))
+moved_alive m old new queue queue' out k closed shut = OfAny.moved_alive any_machine m old new queue queue' out k closed shut
 
 -- ---- idle means delivered
 
@@ -684,10 +259,8 @@ delivered {T} m part queue q published e joins output h none unclosed room few w
 
 -- ---- how driving ends
 
-pub spent_ended : {T : Type 0} (E : Type 0) (m : Meaning T) (budget n : ℕ) (part : Part T) (queue : List (Signal T)) (p : Pumped) → n ≡ budget → IsSpent m part queue p → HasEnded {E = E} m budget n part queue (Ok p)
-spent_ended E m budget n part queue (Idle left) e s = let z = s.0 in (omega (arith, e, z), s.1)
-spent_ended E m budget n part queue Budget e s = (e, s)
-
-pub spent_served : {T : Type 0} (m : Meaning T) (part : Part T) (queue : List (Signal T)) (p : Pumped) → IsSpent m part queue p → (left : ℕ) → p ≡ Idle left → IsDelivered m part queue
-spent_served m part queue (Idle k) s left e = delivered m part queue s.1
-spent_served m part queue Budget s left e = cc
+-- where it ends Idle, all is delivered
+pub ended_served : {T : Type 0} (E : Type 0) (m : Meaning T) (budget n : ℕ) (part : Part T) (queue : List (Signal T)) (result : Result Pumped E) → HasEnded m budget n part queue result → IfOk result (λ p. (left : ℕ) → p ≡ Idle left → IsDelivered m part queue)
+ended_served E m budget n part queue (Ok (Idle k)) h = λ left e. delivered m part queue h.1
+ended_served E m budget n part queue (Ok Budget) h = λ left e. cc
+ended_served E m budget n part queue (Err e) h = tt

@@ -1,14 +1,11 @@
 -- An item that is pulled through a part in one go, and out over its root edge.
-use Rattle.std.specs.Prelude.{◌≡◌, ℕ, ◌+◌, true, List, [], ◌∷◌, ◌++◌, Option, Some, None}
+use Rattle.std.specs.Prelude.{ℕ, Option}
 use Rattle.rsx_types.specs.Meaning.{Meaning}
-use Rattle.rsx_types.specs.declared.signal.Signal.{Signal}
-use Rattle.rsx_types.specs.declared.signal.Signal.TheVariants.{Next}
-use Rattle.rsx_pipe.specs.Part.{IsPumped, has_room}
-use Rattle.rsx_pipe.specs.declared.part.Part.{Part}
+use Rattle.rsx_node.specs.Any.{any_machine}
+use Rattle.rsx_rooted.specs.Fetched as OfAny
+use Rattle.rsx_pipe.specs.Part.{Part}
 
 -- enabled moves of the part, so many as the budget fell by, put this item behind any queue with room, and nothing else; with
 -- no item they put nothing behind it
 abbrev pub IsFetched : {T : Type 0} → Meaning T → ℕ → Part T → Option T → ℕ → Part T → Type 0
-IsFetched {T} m budget old (Some x) left new =
-    (n : ℕ) × (n + left ≡ budget) × ((queue : List (Signal T)) → has_room queue ≡ true → IsPumped m n old queue new (queue ++ Next x ∷ []))
-IsFetched {T} m budget old None left new = (n : ℕ) × (n + left ≡ budget) × ((queue : List (Signal T)) → IsPumped m n old queue new queue)
+IsFetched m budget old item left new = OfAny.IsFetched any_machine m budget old item left new

@@ -1,4 +1,8 @@
 -- Definitions that contracts cite.
+pub use Rattle.rsx_build.specs.Built
+pub use Rattle.rsx_node.specs.Any
+pub mod Code
+pub mod Feeding
 pub mod Fetched
 pub mod Output
 pub mod Part

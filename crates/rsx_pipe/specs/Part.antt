@@ -1,246 +1,149 @@
--- A part: a tree with the edge from its root. What it stands for, which of its moves are enabled, and what they change.
-use Rattle.std.specs.Prelude.{◌≡◌, ℕ, zero, suc, ◌+◌, ◌-◌, ◌<◌, ◌≤◌, ◌^◌, min, Bool, true, false, ◌&&◌, nat_lt, nat_eq, if◌then◌else◌, List, [], ◌∷◌, ◌++◌, length, take, map, Option, Some, option_map, Result, Ok, Err}
-use Rattle.rsx_model.specs.Eval.{environment, eval}
+-- A part: a tree of nodes of any kind with the edge from its root. What `rsx_rooted` says of such a tree, at the kinds that there
+-- are, and what is delivered where a part is idle.
+use Rattle.std.specs.Prelude.{◌≡◌, ℕ, ◌<◌, ◌≤◌, min, Bool, List, [], length, take, Option, Some, Result}
 use Rattle.rsx_model.specs.declared.check.TheConstants.{MOST_NODES}
 use Rattle.rsx_model.specs.declared.expr.Expr.{Expr}
 use Rattle.rsx_types.specs.Meaning.{Meaning, Allocates}
-use Rattle.rsx_types.specs.Notes.{notes_then, unchosen}
-use Rattle.rsx_types.specs.Stream.{Stream, signals_then}
+use Rattle.rsx_types.specs.Stream.{Stream}
 use Rattle.rsx_types.specs.declared.limits.TheConstants.{CAPACITY}
-use Rattle.rsx_types.specs.declared.note.Note.{Note}
 use Rattle.rsx_types.specs.declared.signal.Ending.TheVariants.{Open}
 use Rattle.rsx_types.specs.declared.signal.Signal.{Signal}
-use Rattle.rsx_sources.specs.Machine.{front_of}
 use Rattle.rsx_sources.specs.declared.machine.Front.{Front}
 use Rattle.rsx_tree.specs.declared.look.NodeMove.{NodeMove}
-use Rattle.rsx_tree.specs.declared.look.NodeMove.TheVariants.{Ask, Send, Pick, Row}
-use Rattle.rsx_tree.specs.Edges.{edge_view, EdgeView, can_pass, IsPassed, passed, changed_at, asked_up_to}
-use Rattle.rsx_tree.specs.Residual.{IsTreeBehind}
+use Rattle.rsx_tree.specs.declared.edge.EdgeState.TheVariants.{Closed, Ended}
 use Rattle.rsx_node.specs.Any.{any_machine}
-use Rattle.rsx_tree.specs.Reads.{IsTreeReadAt}
-use Rattle.rsx_pipe.specs.Output.{counts_in, items_in, IsUnended, IsOrderly, values_then}
-use Rattle.rsx_pipe.specs.Tree.{comes_out, notes_of, offers, can_ask, can_send, can_go, IsAllClosed, IsLetGo, edges, edges_after, want_at, front_at, ended_at, pop_allocates, send_allocates, step_allocates, tree_allocates, IsAlike, IsBalanced, IsWithin, can_pick, can_row, IsPickedAt, IsRowAt}
-use Rattle.rsx_tree.specs.declared.edge.EdgeState.TheVariants.{Live, Closed, Ended}
-use Rattle.rsx_pipe.specs.declared.part.Part.{Part}
-use Rattle.rsx_pipe.specs.declared.part.Pumped.{Pumped}
-use Rattle.rsx_pipe.specs.declared.part.Pumped.TheVariants.{Idle, Budget}
+use Rattle.rsx_node.specs.declared.any_node.AnyNode.{AnyNode}
+use Rattle.rsx_rooted.specs.Rooted as OfAny
+pub use Rattle.rsx_rooted.specs.Rooted.{evaluated, all_edges, has_room, sent_at, IsNumbered}
+use Rattle.rsx_rooted.specs.declared.rooted.Rooted.{Rooted}
+use Rattle.rsx_rooted.specs.declared.rooted.Pumped.{Pumped}
+use Rattle.rsx_pipe.specs.Output.{items_in, values_then}
+use Rattle.rsx_pipe.specs.Tree.{notes_of, IsWithin}
 
--- ---- what a part stands for
-
--- the value of an expression over these hubs' values
-abbrev pub evaluated : {T : Type 0} → Meaning T → List (Stream T) → List ℕ → Expr T → List Note → Option (Stream T)
-evaluated m hubs joins e notes = eval (environment m hubs joins notes) e
+-- what contracts see of a part: its tree, and the edge from its root
+abbrev pub Part : Type 0 → Type 0
+Part T = Rooted (AnyNode T)
 
 -- a part stands for an expression, where `published` is what the hubs took in and handed to their readers, and the signals
 -- `output` went over the part's root edge
-pub record PartStands {T : Type 0} (m : Meaning T) (published : List (Stream T)) (part : Part T) (e : Expr T) (joins : List ℕ) (output : List (Signal T)) : Type 0 where
-  -- what went out, followed by what still comes out, is the expression evaluated from scratch, whatever is still published
-  -- and whatever is still chosen
-  pub value : (more : List (Stream T)) (further : List Note) → length further ≡ length (notes_of part.tree) →
-      option_map (signals_then output) (comes_out m (values_then published more) further part.tree 0) ≡ evaluated m (values_then published more) joins e (notes_then (notes_of part.tree) further)
-  -- nothing followed an ending, and the root edge is live until an ending went over it
-  pub orderly : IsOrderly output
-  pub unended : part.root.state ≡ Live → IsUnended output
-  pub ended : part.root.state ≡ Ended → IsUnended output → ⊥
-  -- the items are as many as the root edge has sent
-  pub counted : length (items_in output) ≡ part.root.demand.sent
-  -- while the root edge is live, the counts along all edges belong together
-  pub balance : part.root.state ≡ Live → IsBalanced part.tree part.root.demand.sent
-  -- and each node that reads a hub got all that was published; with no join, no node reads one
-  pub reads : part.root.state ≡ Live → IsTreeReadAt any_machine (counts_in published) part.tree
-  pub alone : part.root.state ≡ Live → joins ≡ [] → IsTreeReadAt any_machine [] part.tree
-  -- all below a closed root edge is closed
-  pub closed : part.root.state ≡ Closed → IsAllClosed part.tree
+abbrev pub PartStands : {T : Type 0} → Meaning T → List (Stream T) → Part T → Expr T → List ℕ → List (Signal T) → Type 0
+PartStands m published part e joins output = OfAny.Stands any_machine m published part e joins output
 
 -- ---- edges and enabled moves
 
--- all edges, the root edge first, and then in pre-order
-abbrev pub all_edges : {T : Type 0} → Part T → List EdgeView
-all_edges part = edge_view part.root ∷ edges part.tree
-
--- a queue has room for a signal
-abbrev pub has_room : {A : Type 0} → List A → Bool
-has_room queue = nat_lt (length queue) CAPACITY
-
 -- Ask: the root edge rises by requests alone
 abbrev pub ask_enabled : {T : Type 0} → Part T → ℕ → Bool
-ask_enabled part at = if nat_eq at 0 then false else can_ask part.tree (at - 1) part.root.demand.asked part.root.demand.sent
+ask_enabled part at = OfAny.ask_enabled any_machine part at
 
 -- Send: over the root edge into the queue behind it, or over an edge of the tree
 abbrev pub send_enabled : {T : Type 0} → Meaning T → Part T → List (Signal T) → ℕ → Bool
-send_enabled m part queue at =
-    if nat_eq at 0 then has_room queue && can_go (edge_view part.root) (option_map front_of (offers m part.tree))
-    else can_send m part.tree (at - 1)
+send_enabled m part queue at = OfAny.send_enabled any_machine m part queue at
 
 -- Pick and Row: of the root, whose edge is the root edge, or of a node below it
 abbrev pub pick_enabled : {T : Type 0} → Part T → ℕ → ℕ → Bool
-pick_enabled part at input = can_pick part.tree (edge_view part.root) at input
+pick_enabled part at input = OfAny.pick_enabled any_machine part at input
 
 abbrev pub row_enabled : {T : Type 0} → Part T → ℕ → Bool
-row_enabled part at = can_row part.tree (edge_view part.root) at
+row_enabled part at = OfAny.row_enabled any_machine part at
 
 abbrev pub move_enabled : {T : Type 0} → Meaning T → Part T → List (Signal T) → NodeMove → Bool
-move_enabled m part queue (Ask n) = ask_enabled part n
-move_enabled m part queue (Send n) = send_enabled m part queue n
-move_enabled m part queue (Pick n input) = pick_enabled part n input
-move_enabled m part queue (Row n) = row_enabled part n
+move_enabled m part queue move = OfAny.move_enabled any_machine m part queue move
 
 -- whether a move may allocate, where these of the caller's functions may
 abbrev pub make_allocates : {T : Type 0} → Allocates → Part T → NodeMove → Bool
-make_allocates a part (Ask n) = false
-make_allocates a part (Send n) = if nat_eq n 0 then pop_allocates a part.tree else send_allocates a part.tree (n - 1)
-make_allocates a part (Pick n input) = step_allocates a part.tree (edge_view part.root) n
-make_allocates a part (Row n) = step_allocates a part.tree (edge_view part.root) n
+make_allocates a part move = OfAny.make_allocates any_machine a part move
 
--- whether some move of the part may: what a node does for it may allocate. Of the caller's functions, `Allocates` says which
--- may.
+-- whether some move of the part may
 abbrev pub pump_allocates : {T : Type 0} → Allocates → Part T → Bool
-pump_allocates a part = tree_allocates a part.tree
-
--- the numbers that a move names are numbers of a node, and of an input
-abbrev pub IsNumbered : NodeMove → Type 0
-IsNumbered (Ask n) = n < 2 ^ 32
-IsNumbered (Send n) = n < 2 ^ 32
-IsNumbered (Pick n input) = (n < 2 ^ 32) × (input < 2 ^ 64)
-IsNumbered (Row n) = n < 2 ^ 32
+pump_allocates a part = OfAny.pump_allocates any_machine a part
 
 -- ---- what a move changes
 
 -- what the receiver of an edge wants of it in all; the root's receiver asks by requests
 abbrev pub wanted : {T : Type 0} → Part T → ℕ → ℕ
-wanted part at = if nat_eq at 0 then part.root.demand.asked else want_at part.tree (at - 1) part.root.demand.asked part.root.demand.sent
+wanted part at = OfAny.wanted any_machine part at
 
 -- which signal is offered over an edge
 abbrev pub offered : {T : Type 0} → Meaning T → Part T → ℕ → Option Front
-offered m part at = if nat_eq at 0 then option_map front_of (offers m part.tree) else front_at m part.tree (at - 1)
+offered m part at = OfAny.offered any_machine m part at
 
 -- whether the receiver of an edge has put out an ending; the root's receiver puts out nothing
 abbrev pub receiver_ended : {T : Type 0} → Part T → ℕ → Bool
-receiver_ended part at = if nat_eq at 0 then false else ended_at part.tree (at - 1)
+receiver_ended part at = OfAny.receiver_ended any_machine part at
 
 -- an Ask: what was asked of this edge is what its receiver wants, and no other edge changed
 abbrev pub IsAsk : {T : Type 0} → Part T → ℕ → Part T → Type 0
-IsAsk old at new = all_edges new ≡ changed_at (asked_up_to (wanted old at)) at (all_edges old)
+IsAsk old at new = OfAny.IsAsk any_machine old at new
 
 -- what went over the root edge: the offered signal, where the Send went over it, and else nothing
 abbrev pub GoesOut : {T : Type 0} → Meaning T → Part T → Bool → List (Signal T) → Type 0
-GoesOut {T} m old true out = (s : Signal T) × (offers m old.tree ≡ Some s) × (out ≡ s ∷ [])
-GoesOut m old false out = out ≡ []
-
--- all edges after a signal went over this edge; where the receiver ended by it, all its inputs and all below them are closed
-abbrev pub sent_at : {T : Type 0} → Bool → Front → Part T → ℕ → List EdgeView
-sent_at ended front part at =
-    if nat_eq at 0 then passed (edge_view part.root) front ∷ edges part.tree
-    else edge_view part.root ∷ edges_after ended front part.tree (at - 1)
+GoesOut m old root out = OfAny.GoesOut any_machine m old root out
 
 -- a Send: the offered signal went over this edge; where the receiver ended by it, all its inputs and all below them are closed
-pub record IsSend {T : Type 0} (m : Meaning T) (old : Part T) (at : ℕ) (out : List (Signal T)) (new : Part T) : Type 0 where
-  pub front : Front
-  pub carries : offered m old at ≡ Some front
-  pub edges : all_edges new ≡ sent_at (receiver_ended new at) front old at
-  pub goes : GoesOut m old (nat_eq at 0) out
+abbrev pub IsSend : {T : Type 0} → Meaning T → Part T → ℕ → List (Signal T) → Part T → Type 0
+IsSend m old at out new = OfAny.IsSend any_machine m old at out new
 
 -- a Pick: the choice stands behind what the node recorded, and where the node ended by it, all below it is closed
-pub record IsPick {T : Type 0} (old : Part T) (at input : ℕ) (new : Part T) : Type 0 where
-  pub tree : IsPickedAt old.tree (edge_view old.root) at input new.tree
-  pub root : new.root ≡ old.root
+abbrev pub IsPick : {T : Type 0} → Part T → ℕ → ℕ → Part T → Type 0
+IsPick old at input new = OfAny.IsPick any_machine old at input new
 
 -- a Row: where the node ended by it, all below it is closed
-pub record IsRow {T : Type 0} (old : Part T) (at : ℕ) (new : Part T) : Type 0 where
-  pub tree : IsRowAt old.tree (edge_view old.root) at new.tree
-  pub root : new.root ≡ old.root
+abbrev pub IsRow : {T : Type 0} → Part T → ℕ → Part T → Type 0
+IsRow old at new = OfAny.IsRow any_machine old at new
 
 -- a move's effect, where these signals went over the root edge
 abbrev pub IsEffect : {T : Type 0} → Meaning T → NodeMove → Part T → List (Signal T) → Part T → Type 0
-IsEffect m (Ask n) old out new = (out ≡ []) × IsAsk old n new
-IsEffect m (Send n) old out new = IsSend m old n out new
-IsEffect m (Pick n input) old out new = (out ≡ []) × IsPick old n input new
-IsEffect m (Row n) old out new = (out ≡ []) × IsRow old n new
+IsEffect m move old out new = OfAny.IsEffect any_machine m move old out new
 
 -- ---- one move, and many
 
 -- the part stands for what it stood for, where these signals went over the root edge besides
 abbrev pub IsPutOut : {T : Type 0} → Meaning T → Part T → List (Signal T) → Part T → Type 0
-IsPutOut {T} m old out new =
-    (published : List (Stream T)) (e : Expr T) (joins : List ℕ) (output : List (Signal T)) → PartStands m published old e joins output → PartStands m published new e joins (output ++ out)
+IsPutOut m old out new = OfAny.IsPutOut any_machine m old out new
 
 -- an enabled move was made, and had its effect; what went over the root edge is behind what the queue held
-pub record IsMoved {T : Type 0} (m : Meaning T) (old : Part T) (queue : List (Signal T)) (out : List (Signal T)) (new : Part T) (queue' : List (Signal T)) : Type 0 where
-  pub move : NodeMove
-  pub enabled : move_enabled m old queue move ≡ true
-  pub effect : IsEffect m move old out new
-  pub queued : queue' ≡ queue ++ out
+abbrev pub IsMoved : {T : Type 0} → Meaning T → Part T → List (Signal T) → List (Signal T) → Part T → List (Signal T) → Type 0
+IsMoved m old queue out new queue' = OfAny.IsMoved any_machine m old queue out new queue'
 
 -- the root's signal went over the root edge, to the back of the queue
-pub record IsRootSent {T : Type 0} (m : Meaning T) (old : Part T) (queue : List (Signal T)) (new : Part T) (queue' : List (Signal T)) : Type 0 where
-  pub signal : Signal T
-  pub front : Front
-  pub offered : option_map front_of (offers m old.tree) ≡ Some front
-  pub gone : IsLetGo m old.tree signal new.tree
-  pub room : has_room queue ≡ true
-  pub can : can_pass (edge_view old.root) front ≡ true
-  pub passed : IsPassed front (edge_view old.root) (edge_view new.root)
-  pub queued : queue' ≡ queue ++ signal ∷ []
+abbrev pub IsRootSent : {T : Type 0} → Meaning T → Part T → List (Signal T) → Part T → List (Signal T) → Type 0
+IsRootSent m old queue new queue' = OfAny.IsRootSent any_machine m old queue new queue'
 
--- what a call that made a move promises
-pub record IsMade {T : Type 0} (m : Meaning T) (move : NodeMove) (old : Part T) (queue : List (Signal T)) (new : Part T) (queue' : List (Signal T)) : Type 0 where
-  pub out : List (Signal T)
-  pub effect : IsEffect m move old out new
-  pub queued : queue' ≡ queue ++ out
-  pub stands : IsPutOut m old out new
-  -- what was asked over the root edge stays, and it isn't closed by a move
-  pub asked : new.root.demand.asked ≡ old.root.demand.asked
-  pub unclosed : (old.root.state ≡ Closed → ⊥) → new.root.state ≡ Closed → ⊥
-  -- and so does whether a move may allocate
-  pub alike : IsAlike old.tree new.tree
+-- this move was made, and had its effect
+abbrev pub IsMade : {T : Type 0} → Meaning T → NodeMove → Part T → List (Signal T) → Part T → List (Signal T) → Type 0
+IsMade m move old queue new queue' = OfAny.IsMade any_machine m move old queue new queue'
 
 -- so many enabled moves were made one after the other, and all that went over the root edge is `out`
 abbrev pub IsMovedBy : {T : Type 0} → Meaning T → ℕ → Part T → List (Signal T) → List (Signal T) → Part T → List (Signal T) → Type 0
-IsMovedBy m zero old queue out new queue' = (out ≡ []) × (new ≡ old) × (queue' ≡ queue)
-IsMovedBy {T} m (suc n) old queue out new queue' =
-    (mid : Part T) × (first : List (Signal T)) × (behind : List (Signal T)) × (rest : List (Signal T)) ×
-    IsMoved m old queue first mid behind × IsMovedBy m n mid behind rest new queue' × (out ≡ first ++ rest)
+IsMovedBy m n old queue out new queue' = OfAny.IsMovedBy any_machine m n old queue out new queue'
 
 -- so many moves were made, these signals went over the root edge, and the part stands for what it stood for
-pub record IsPumped {T : Type 0} (m : Meaning T) (count : ℕ) (old : Part T) (queue : List (Signal T)) (new : Part T) (queue' : List (Signal T)) : Type 0 where
-  pub out : List (Signal T)
-  pub queued : queue' ≡ queue ++ out
-  pub moves : IsMovedBy m count old queue out new queue'
-  pub stands : IsPutOut m old out new
-  -- what was asked, and that its root edge is open, stays
-  pub asked : new.root.demand.asked ≡ old.root.demand.asked
-  pub unclosed : (old.root.state ≡ Closed → ⊥) → new.root.state ≡ Closed → ⊥
-  -- and so does whether a move may allocate
-  pub alike : IsAlike old.tree new.tree
+abbrev pub IsPumped : {T : Type 0} → Meaning T → ℕ → Part T → List (Signal T) → Part T → List (Signal T) → Type 0
+IsPumped m n old queue new queue' = OfAny.IsPumped any_machine m n old queue new queue'
 
 -- no move of a part that has its numbers is enabled
 abbrev pub IsQuiet : {T : Type 0} → Meaning T → Part T → List (Signal T) → Type 0
-IsQuiet m part queue = (move : NodeMove) → IsNumbered move → move_enabled m part queue move ≡ false
+IsQuiet m part queue = OfAny.IsQuiet any_machine m part queue
 
 -- some move of a part that has its numbers is enabled
 abbrev pub IsAwake : {T : Type 0} → Meaning T → Part T → List (Signal T) → Type 0
-IsAwake m part queue = (move : NodeMove) × IsNumbered move × (move_enabled m part queue move ≡ true)
+IsAwake m part queue = OfAny.IsAwake any_machine m part queue
 
 -- how driving a part ends after so many moves: Idle, with what is left of the budget, where no move is enabled; Budget where
 -- one is and the whole budget was spent
 abbrev pub HasEnded : {T E : Type 0} → Meaning T → ℕ → ℕ → Part T → List (Signal T) → Result Pumped E → Type 0
-HasEnded m budget n part queue (Ok (Idle left)) = (n + left ≡ budget) × IsQuiet m part queue
-HasEnded m budget n part queue (Ok Budget) = (n ≡ budget) × IsAwake m part queue
-HasEnded m budget n part queue (Err e) = n ≤ budget
+HasEnded m budget n part queue result = OfAny.HasEnded any_machine m budget n part queue result
 
 -- how it ends where the whole budget was spent
 abbrev pub IsSpent : {T : Type 0} → Meaning T → Part T → List (Signal T) → Pumped → Type 0
-IsSpent m part queue (Idle left) = (left ≡ 0) × IsQuiet m part queue
-IsSpent m part queue Budget = IsAwake m part queue
+IsSpent m part queue p = OfAny.IsSpent any_machine m part queue p
 
 -- ---- what is still owed
 
 -- this still comes out of a part, where just these inboxes stand behind what its nodes took in of the hubs, and nothing more is
 -- chosen
 abbrev pub IsPartResidual : {T : Type 0} → Meaning T → List (Stream T) → Part T → Stream T → Type 0
-IsPartResidual {T} m inboxes part v =
-    (hubs : List (Stream T)) → IsBalanced part.tree part.root.demand.sent → IsTreeBehind any_machine inboxes hubs part.tree →
-    comes_out m hubs (map unchosen (notes_of part.tree)) part.tree 0 ≡ Some v
+IsPartResidual m inboxes part v = OfAny.IsResidualOf any_machine m inboxes part v
 
 -- ---- idle means delivered
 

@@ -14,7 +14,7 @@ use Rattle.rsx_tree.specs.Handed as Tree
 use Rattle.rsx_pipe.specs.Output.{IsOpenAt, with_signal_at}
 use Rattle.rsx_pipe.specs.Part.{PartStands, all_edges, pump_allocates}
 use Rattle.rsx_pipe.specs.Tree.{notes_of}
-use Rattle.rsx_pipe.specs.declared.part.Part.{Part}
+use Rattle.rsx_pipe.specs.Part.{Part}
 
 -- this is what a hub took in: its items, and its ending once that was taken in too
 pub record IsTaken {T : Type 0} (h : HubState T) (v : Stream T) : Type 0 where

@@ -13,8 +13,8 @@ impl<T: Drop> Part<T> {
     pub fn readers_up_to(&self, hub: u64, most: u32) -> u32
         ensures { result ≡ min (readers hub self.now) most }
     {
-        match self.root.is_live() {
-            true => self.tree.readers_up_to(hub, most),
+        match self.rooted.root.is_live() {
+            true => self.rooted.tree.readers_up_to(hub, most),
             false => 0,
         }
     }
@@ -23,8 +23,8 @@ impl<T: Drop> Part<T> {
     pub fn has_room_for(&self, hub: u64) -> bool
         ensures { result ≡ has_room_for hub self.now }
     {
-        match self.root.is_live() {
-            true => self.tree.has_room(hub),
+        match self.rooted.root.is_live() {
+            true => self.rooted.tree.has_room(hub),
             false => true,
         }
     }
@@ -35,8 +35,8 @@ impl<T: Drop> Part<T> {
         ensures { IsHandedOut (readers hub self.old) (has_room_for hub self.old) signals.old.items signals.new.items
             (λ s. IsHanded hub s self.old self.new) }
     {
-        if self.root.is_live() {
-            self.tree.hand(hub, signals);
+        if self.rooted.root.is_live() {
+            self.rooted.tree.hand(hub, signals);
         }
     }
 }

@@ -1,17 +1,7 @@
-use Rattle.std.proofs.Common.{sym, true, false, ◌≡◌}
 use Rattle.rsx_pipe.proofs.part.Part.is_idle.Goals as goal
 
-pub returns-in-Some-clause-no : goal.returns-in-Some-clause-no
-returns-in-Some-clause-no g c = λ m _. (c.in-Some.step, (c.in-Some.ensures.some m).0, (c.in-Some.ensures.some m).1)
+pub returns-clause-yes : goal.returns-clause-yes
+returns-clause-yes g c = rw (← c.self.view_is) c.is_idle.ensures.yes
 
-pub returns-in-None-clause-yes : goal.returns-in-None-clause-yes
-returns-in-None-clause-yes g c = λ m _. c.in-None.ensures.none m
-
-never : false ≡ true → ⊥
-never e = cc
-
-pub returns-in-Some-clause-yes : goal.returns-in-Some-clause-yes
-returns-in-Some-clause-yes g c = λ m e. absurd (never e)
-
-pub returns-in-None-clause-no : goal.returns-in-None-clause-no
-returns-in-None-clause-no g c = λ m e. absurd (never (sym e))
+pub returns-clause-no : goal.returns-clause-no
+returns-clause-no g c = rw (← c.self.view_is) c.is_idle.ensures.no

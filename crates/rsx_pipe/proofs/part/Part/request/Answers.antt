@@ -1,6 +1,7 @@
 use Rattle.std.proofs.Common.{refl}
-use Rattle.rsx_pipe.proofs.Parts.{put_out_asked}
+use Rattle.rsx_node.specs.Any.{any_machine}
+use Rattle.rsx_rooted.proofs.Parts.{put_out_asked}
 use Rattle.rsx_pipe.proofs.part.Part.request.Goals as goal
 
 pub returns-clause-stands : goal.returns-clause-stands
-returns-clause-stands g c = λ m. put_out_asked m c.args.self.now _ refl refl c.ask.ensures.sent
+returns-clause-stands g c = λ m. rw (← c.self.view_is) (put_out_asked any_machine m c.self.inside.rooted (record { tree = c.self.inside.rooted.tree; root = record { demand = c.ask.new.self; state = c.self.inside.rooted.root.state } }) refl refl c.ask.ensures.sent)

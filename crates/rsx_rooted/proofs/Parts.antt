@@ -1,0 +1,490 @@
+-- How each move keeps what a part stands for.
+use Rattle.std.proofs.Common.{◌≡◌, ◌⊎◌, inl, inr, ℕ, zero, suc, ◌+◌, ◌-◌, ◌<◌, ◌≤◌, min, Bool, true, false, ◌&&◌, nat_eq, nat_lt, if◌then◌else◌, List, [], ◌∷◌, ◌++◌, length, length-append, take, map, option_map, Option, Some, None, Ok, refl, ap, sym, ◌∙◌, subst, arith, append_assoc, add-zero}
+use Rattle.std.proofs.lemmas.Bool.Decides.{nat_tests}
+use Rattle.std.proofs.lemmas.List.{append-nil, take_all}
+use Rattle.rsx_model.specs.declared.check.TheConstants.{MOST_NODES}
+use Rattle.rsx_types.specs.declared.limits.TheConstants.{CAPACITY}
+use Rattle.rsx_model.specs.declared.expr.Expr.{Expr}
+use Rattle.rsx_types.specs.Meaning.{Meaning, Allocates}
+use Rattle.rsx_types.specs.Notes.{unchosen, notes_then}
+use Rattle.rsx_types.specs.Stream.{Stream, ended_by, signals_then}
+use Rattle.rsx_types.specs.declared.signal.Ending.{Ending}
+use Rattle.rsx_types.specs.declared.signal.Ending.TheVariants.{Open, Done, Failed}
+use Rattle.rsx_types.specs.declared.note.Note.{Note}
+use Rattle.rsx_types.specs.declared.signal.Signal.{Signal}
+use Rattle.rsx_types.specs.declared.signal.Signal.TheVariants.{Next, Complete, Error}
+use Rattle.rsx_sources.specs.Machine.{front_of}
+use Rattle.rsx_sources.specs.declared.machine.Front.{Front}
+use Rattle.rsx_tree.specs.Reads.{IsTreeReadAt}
+use Rattle.rsx_tree.specs.Edges.{changed_at, asked_up_to, edge_view, EdgeView, passed, is_live, closed_view, closed_state}
+use Rattle.rsx_rooted.specs.Output.{counts_in, items_in, IsUnended, more_after, published_then, values_then}
+use Rattle.rsx_rooted.specs.Rooted.{Stands, IsPutOut, IsRootSent, IsMade, IsMoved, IsMovedBy, IsPumped, IsQuiet, IsSpent, HasEnded, IsAsk, IsSend, IsEffect, GoesOut, all_edges, sent_at, send_enabled, move_enabled, has_room, make_allocates, evaluated, pump_allocates, IsPick, IsRow}
+use Rattle.rsx_rooted.specs.Tree.{comes_out, notes, offers, edges, edges_after, can_ask, can_send, can_go, want_at, want_in, front_at, front_in, ended_at, IsAllClosed, IsKept, IsAlike, step_allocates, IsAdvanced, IsAskedAt, IsSentAt, IsChosen, IsDriven, IsIdle, IsBalanced, IsBalancedAfter, IsWithin, pop_allocates, IsStill}
+use Rattle.rsx_tree.specs.declared.look.NodeMove.{NodeMove}
+use Rattle.rsx_tree.specs.declared.look.NodeMove.TheVariants.{Ask, Send, Pick, Row}
+use Rattle.rsx_tree.specs.declared.node.Node.{Node}
+use Rattle.rsx_tree.specs.declared.edge.Edge.{Edge}
+use Rattle.rsx_tree.specs.declared.edge.EdgeState.{EdgeState}
+use Rattle.rsx_tree.specs.declared.edge.EdgeState.TheVariants.{Live, Closed, Ended}
+use Rattle.rsx_rooted.specs.declared.rooted.Rooted.{Rooted}
+use Rattle.rsx_rooted.specs.declared.rooted.Pumped.{Pumped}
+use Rattle.rsx_rooted.specs.declared.rooted.Pumped.TheVariants.{Idle, Budget}
+use Rattle.rsx_sources.specs.declared.machine.Machine.{Ghosts as Machine}
+use Rattle.rsx_tree.specs.Stepped.{IsSteppedAt, IsPickedHere, IsRowMadeHere, over, station_of}
+use Rattle.rsx_tree.specs.Allocates.{node_allocates}
+use Rattle.rsx_sources.specs.Steps.{IsNotMade}
+use Rattle.rsx_sources.specs.declared.machine.NotMade.{NotMade}
+use Rattle.rsx_sources.specs.declared.machine.NotMade.TheVariants.{NotEnabled}
+use Rattle.rsx_tree.specs.Look.{IsStepEnabled}
+use Rattle.rsx_tree.proofs.Alike.{or_right, driven_alike, or_left}
+use Rattle.rsx_tree.proofs.Drives.{chosen_run}
+use Rattle.rsx_tree.proofs.Effects.{length_edges}
+use Rattle.rsx_tree.proofs.Noted.{kept_chosen, picked_effect, picked_enabled, row_effect, row_enabled as row_made_enabled}
+use Rattle.rsx_tree.specs.Inputs.{size, wanted_at, can_ask_in, can_send_in, edges as edges_in}
+use Rattle.rsx_tree.specs.Stepped.{can_pick_in, can_row_in}
+use Rattle.rsx_tree.proofs.Changes.{chosen_second}
+use Rattle.rsx_tree.proofs.Idles.{idle_offers, can_pass_live, live_still, place_none, station_none, less_or_more}
+use Rattle.rsx_rooted.proofs.Numbers.{above_zero, suc_minus}
+use Rattle.rsx_rooted.proofs.Signals.{IsOrderly-more, IsUnended-more, IsUnended-last, items_in-append, map_then-last, prefix_of_orderly, cut_value}
+use Rattle.rsx_tree.proofs.Shut.{pass_live, and_right, pick_alive, row_alive}
+use Rattle.rsx_rooted.proofs.Trees.{advanced_not_closed, ask_not_closed, send_not_closed, go_live, notes_then-unchosen, unchosen_notes, get_behind}
+use Rattle.rsx_rooted.proofs.Numbers.{front_there, above_root, asked_all, at_zero}
+
+never : (b : Bool) → b ≡ true → b ≡ false → ⊥
+never b x y = cc
+
+-- ---- what goes out
+
+pub same_output : {M T : Type 0} (b : Machine M T) (m : Meaning T) (published : List (Stream T)) (part : Rooted M) (e : Expr T) (joins : List ℕ) (output : List (Signal T)) → Stands b m published part e joins output → Stands b m published part e joins (output ++ [])
+same_output {T = T} b m published part e joins output h =
+    let P : List (Signal T) → Type 0 = λ l. Stands b m published part e joins l in
+    subst P (sym (append-nil output)) h
+
+pub put_out_none : {M T : Type 0} (b : Machine M T) (m : Meaning T) (part : Rooted M) → IsPutOut b m part [] part
+put_out_none b m part published e joins output h = same_output b m published part e joins output h
+
+closed_dead : (s : EdgeState) → s ≡ Closed → s ≡ Live → ⊥
+closed_dead s c l = cc
+
+-- moves inside the tree, by which nodes choose
+pub put_out_chosen : {M T : Type 0} (b : Machine M T) (m : Meaning T) (old new : Rooted M) → IsChosen b m old.tree new.tree → ((sent : ℕ) → IsBalanced b old.tree sent → IsBalanced b new.tree sent) → new.root ≡ old.root → IsAlike b old.tree new.tree → (IsAllClosed old.tree → (old.root.state ≡ Live → ⊥) → ⊥) → IsPutOut b m old [] new
+put_out_chosen b m old new k balance root alike alive published e joins output h =
+    same_output b m published new e joins output (record {
+      value = λ more further len.
+          ap (λ o. option_map (signals_then output) o) (k.value (values_then published more) further)
+          ∙ (h.value more (k.choose further) (k.count further ∙ (len ∙ k.nodes)) ∙ ap (λ ns. evaluated m (values_then published more) joins e ns) (sym (k.notes further)));
+      orderly = h.orderly;
+      unended = rw root h.unended;
+      ended = rw root h.ended;
+      counted = rw root h.counted;
+      balance = rw root (λ l. balance old.root.demand.sent (h.balance l));
+      reads = rw root (λ l. alike.1 (counts_in published) (h.reads l));
+      alone = rw root (λ l none. alike.1 [] (h.alone l none));
+      closed = λ c. let was : old.root.state ≡ Closed = ap (λ r. r.state) (sym root) ∙ c in absurd (alive (h.closed was) (closed_dead old.root.state was));
+    })
+
+pub put_out_kept : {M T : Type 0} (b : Machine M T) (m : Meaning T) (old new : Rooted M) → IsKept b m old.tree new.tree → ((sent : ℕ) → IsBalanced b old.tree sent → IsBalanced b new.tree sent) → new.root ≡ old.root → IsAlike b old.tree new.tree → (IsAllClosed old.tree → (old.root.state ≡ Live → ⊥) → ⊥) → IsPutOut b m old [] new
+put_out_kept b m old new k balance root alike alive = put_out_chosen b m old new (kept_chosen b m old.tree new.tree k) balance root alike alive
+
+passed_sent : {T : Type 0} (e : EdgeView) (s : Signal T) → (passed e (front_of s)).sent ≡ e.sent + length (items_in (s ∷ []))
+passed_sent e (Next x) = refl
+passed_sent e Complete = sym (add-zero e.sent)
+passed_sent e (Error c) = sym (add-zero e.sent)
+
+passed_asked : {T : Type 0} (e : EdgeView) (s : Signal T) → (passed e (front_of s)).asked ≡ e.asked
+passed_asked e (Next x) = refl
+passed_asked e Complete = refl
+passed_asked e (Error c) = refl
+
+passed_live : {T : Type 0} (e : EdgeView) (s : Signal T) → (passed e (front_of s)).state ≡ Live → (x : T) × (s ≡ Next x)
+passed_live e (Next x) h = (x, refl)
+passed_live e Complete h = cc
+passed_live e (Error c) h = cc
+
+passed_open : {T : Type 0} (e : EdgeView) (s : Signal T) → e.state ≡ Live → (passed e (front_of s)).state ≡ Closed → ⊥
+passed_open e (Next x) l c = cc
+passed_open e Complete l c = cc
+passed_open e (Error k) l c = cc
+
+passed_last : {T : Type 0} (e : EdgeView) (s : Signal T) → e.state ≡ Live → (passed e (front_of s)).state ≡ Ended → (x : T) → s ≡ Next x → ⊥
+passed_last e (Next y) l c x i = cc
+passed_last e Complete l c x i = cc
+passed_last e (Error k) l c x i = cc
+
+-- what a signal over the root edge leaves of that edge
+record IsRootAfter {M T : Type 0} (old new : Rooted M) (s : Signal T) : Type 0 where
+  was_live : old.root.state ≡ Live
+  view : edge_view new.root ≡ passed (edge_view old.root) (front_of s)
+
+root_after : {M T : Type 0} (b : Machine M T) (m : Meaning T) (old new : Rooted M) (queue queue' : List (Signal T)) → (k : IsRootSent b m old queue new queue') → IsRootAfter old new k.signal
+root_after b m old new queue queue' k =
+    let offered : Some k.front ≡ Some (front_of k.signal) = sym k.offered ∙ ap (λ x. option_map front_of x) k.gone.offered in
+    let named : k.front ≡ front_of k.signal = cc in
+    let P : Front → Type 0 = λ g. edge_view new.root ≡ passed (edge_view old.root) g in
+    record { was_live = pass_live (edge_view old.root) k.front k.can; view = subst P named k.passed }
+
+-- the root's signal goes over the root edge
+pub put_out_sent : {M T : Type 0} (b : Machine M T) (m : Meaning T) (old new : Rooted M) (queue queue' : List (Signal T)) → (k : IsRootSent b m old queue new queue') → IsPutOut b m old (k.signal ∷ []) new
+put_out_sent {M = M} {T = T} b m old new queue queue' k published e joins output h =
+    let r = root_after b m old new queue queue' k in
+    let open_before : IsUnended output = h.unended r.was_live in
+    let sent : new.root.demand.sent ≡ old.root.demand.sent + length (items_in (k.signal ∷ [])) = ap (λ v. v.sent) r.view ∙ passed_sent (edge_view old.root) k.signal in
+    let live_item : new.root.state ≡ Live → (x : T) × (k.signal ≡ Next x) = λ l. passed_live (edge_view old.root) k.signal (sym (ap (λ v. v.state) r.view) ∙ l) in
+    record {
+      value = λ more further len.
+          map_then-last output k.signal (comes_out b m (values_then published more) further new.tree 0)
+          ∙ (ap (λ o. option_map (signals_then output) o) (sym (k.gone.value (values_then published more) further 0))
+          ∙ (h.value more further (len ∙ ap length k.gone.notes) ∙ ap (λ ns. evaluated m (values_then published more) joins e (notes_then ns further)) (sym k.gone.notes)));
+      orderly = IsOrderly-more output k.signal open_before;
+      unended = λ l. let x = live_item l in rw x.1 (IsUnended-more output x.0 open_before);
+      ended = λ c u. let x = IsUnended-last output k.signal u in passed_last (edge_view old.root) k.signal r.was_live (sym (ap (λ v. v.state) r.view) ∙ c) x.0 x.1;
+      counted = ap length (items_in-append output (k.signal ∷ [])) ∙ (length-append (items_in output) (items_in (k.signal ∷ [])) ∙ (ap (λ n. n + length (items_in (k.signal ∷ []))) h.counted ∙ sym sent));
+      balance = λ l.
+          let x = live_item l in
+          let B : Signal T → Type 0 = λ t. IsBalancedAfter b t new.tree old.root.demand.sent in
+          let C : ℕ → Type 0 = λ c. IsBalanced b new.tree c in
+          let one : new.root.demand.sent ≡ old.root.demand.sent + 1 = sent ∙ ap (λ t. old.root.demand.sent + length (items_in (t ∷ []))) x.1 in
+          subst C (sym one) (subst B x.1 (k.gone.balance old.root.demand.sent (h.balance r.was_live)));
+      reads = λ l. k.gone.alike.1 (counts_in published) (h.reads r.was_live);
+      alone = λ l none. k.gone.alike.1 [] (h.alone r.was_live none);
+      closed = λ c. absurd (passed_open (edge_view old.root) k.signal r.was_live (sym (ap (λ v. v.state) r.view) ∙ c));
+    }
+
+-- what was asked over the root edge rises
+pub put_out_asked : {M T : Type 0} (b : Machine M T) (m : Meaning T) (old new : Rooted M) → new.tree ≡ old.tree → new.root.state ≡ old.root.state → new.root.demand.sent ≡ old.root.demand.sent → IsPutOut b m old [] new
+put_out_asked {M = M} {T = T} b m old new tree state sent published e joins output h =
+    let V : Node M → Type 0 = λ t. (more : List (Stream T)) (further : List Note) → length further ≡ length (notes b t) →
+    option_map (signals_then output) (comes_out b m (values_then published more) further t 0) ≡ evaluated m (values_then published more) joins e (notes_then (notes b t) further) in
+    let B : Node M → Type 0 = λ t. IsBalanced b t old.root.demand.sent in
+    let S : ℕ → Type 0 = λ k. IsBalanced b new.tree k in
+    let C : Node M → Type 0 = λ t. IsAllClosed t in
+    let R : List ℕ → Node M → Type 0 = λ counts t. IsTreeReadAt b counts t in
+    same_output b m published new e joins output (record {
+      value = subst V (sym tree) h.value;
+      orderly = h.orderly;
+      unended = λ l. h.unended (sym state ∙ l);
+      ended = λ x. h.ended (sym state ∙ x);
+      counted = h.counted ∙ sym sent;
+      balance = λ l. subst S (sym sent) (subst B (sym tree) (h.balance (sym state ∙ l)));
+      reads = λ l. subst (R (counts_in published)) (sym tree) (h.reads (sym state ∙ l));
+      alone = λ l none. subst (R []) (sym tree) (h.alone (sym state ∙ l) none);
+      closed = λ x. subst C (sym tree) (h.closed (sym state ∙ x));
+    })
+
+-- the part is closed
+pub put_out_closed : {M T : Type 0} (b : Machine M T) (m : Meaning T) (old new : Rooted M) → IsKept b m old.tree new.tree → IsAllClosed new.tree → edge_view new.root ≡ closed_view (edge_view old.root) → IsPutOut b m old [] new
+put_out_closed b m old new k closed root published e joins output h =
+    same_output b m published new e joins output (record {
+      value = λ more further len.
+          ap (λ o. option_map (signals_then output) o) (k.value (values_then published more) further 0)
+          ∙ (h.value more further (len ∙ ap length k.notes) ∙ ap (λ ns. evaluated m (values_then published more) joins e (notes_then ns further)) (sym k.notes));
+      orderly = h.orderly;
+      unended = λ l. absurd (never_live (edge_view old.root) (sym (ap (λ v. v.state) root) ∙ l));
+      ended = λ x. h.ended (was_ended (edge_view old.root) (sym (ap (λ v. v.state) root) ∙ x));
+      counted = h.counted ∙ sym (ap (λ v. v.sent) root);
+      balance = λ l. absurd (never_live (edge_view old.root) (sym (ap (λ v. v.state) root) ∙ l));
+      reads = λ l. absurd (never_live (edge_view old.root) (sym (ap (λ v. v.state) root) ∙ l));
+      alone = λ l. absurd (never_live (edge_view old.root) (sym (ap (λ v. v.state) root) ∙ l));
+      closed = λ _. closed;
+    })
+  where
+    never_live : (e : EdgeView) → (closed_view e).state ≡ Live → ⊥
+    never_live e l = by_state e.state l
+      where
+        by_state : (s : EdgeState) → closed_state s ≡ Live → ⊥
+        by_state Live l = cc
+        by_state Ended l = cc
+        by_state Closed l = cc
+
+    was_ended : (e : EdgeView) → (closed_view e).state ≡ Ended → e.state ≡ Ended
+    was_ended e l = by_state e.state l
+      where
+        by_state : (s : EdgeState) → closed_state s ≡ Ended → s ≡ Ended
+        by_state Live l = cc
+        by_state Ended l = refl
+        by_state Closed l = cc
+
+pub put_out_on : {M T : Type 0} (b : Machine M T) (m : Meaning T) (a mid c : Rooted M) (first rest : List (Signal T)) → IsPutOut b m a first mid → IsPutOut b m mid rest c → IsPutOut b m a (first ++ rest) c
+put_out_on {T = T} b m a mid c first rest x y published e joins output h =
+    let P : List (Signal T) → Type 0 = λ l. Stands b m published c e joins l in
+    subst P (append_assoc output first rest) (y published e joins (output ++ first) (x published e joins output h))
+
+-- ---- many moves
+
+pub moved_on : {M T : Type 0} (b : Machine M T) (m : Meaning T) (n k : ℕ) (a mid c : Rooted M) (q q' q'' : List (Signal T)) (ds es : List (Signal T)) → IsMovedBy b m n a q ds mid q' → IsMovedBy b m k mid q' es c q'' → IsMovedBy b m (n + k) a q (ds ++ es) c q''
+moved_on {M = M} {T = T} b m zero k a mid c q q' q'' ds es x y =
+    let P : Rooted M → Type 0 = λ s. IsMovedBy b m k s q' es c q'' in
+    let Q : List (Signal T) → Type 0 = λ l. IsMovedBy b m k a l es c q'' in
+    let D : List (Signal T) → Type 0 = λ l. IsMovedBy b m k a q (l ++ es) c q'' in
+    let R : ℕ → Type 0 = λ i. IsMovedBy b m i a q (ds ++ es) c q'' in
+    let none : k ≡ 0 + k = omega arith in
+    subst R none (subst D (sym x.0) (subst Q x.2 (subst P x.1 y)))
+moved_on {M = M} {T = T} b m (suc n) k a mid c q q' q'' ds es x y =
+    let R : ℕ → Type 0 = λ i. IsMovedBy b m i a q (ds ++ es) c q'' in
+    let more : suc (n + k) ≡ suc n + k = omega arith in
+    subst R more (x.0, x.1, x.2, x.3 ++ es, x.4, moved_on b m n k x.0 mid c x.2 q' q'' x.3 es x.5 y, ap (λ l. l ++ es) x.6 ∙ append_assoc x.1 x.3 es)
+
+pub pumped_none : {M T : Type 0} (b : Machine M T) (m : Meaning T) (part : Rooted M) (queue : List (Signal T)) → IsPumped b m 0 part queue part queue
+pumped_none b m part queue = record { out = []; queued = sym (append-nil queue); moves = (refl, refl, refl); stands = put_out_none b m part; asked = refl; unclosed = λ h. h; alike = (λ a. refl, λ counts h. h) }
+
+pub pumped_on : {M T : Type 0} (b : Machine M T) (m : Meaning T) (n k : ℕ) (a mid c : Rooted M) (q q' q'' : List (Signal T)) → IsPumped b m n a q mid q' → IsPumped b m k mid q' c q'' → IsPumped b m (n + k) a q c q''
+pumped_on b m n k a mid c q q' q'' x y = record {
+  out = x.out ++ y.out;
+  queued = y.queued ∙ (ap (λ l. l ++ y.out) x.queued ∙ append_assoc q x.out y.out);
+  moves = moved_on b m n k a mid c q q' q'' x.out y.out x.moves y.moves;
+  stands = put_out_on b m a mid c x.out y.out x.stands y.stands;
+  asked = y.asked ∙ x.asked;
+  unclosed = λ h. y.unclosed (x.unclosed h);
+  alike = (λ p. y.alike.0 p ∙ x.alike.0 p, λ counts h. y.alike.1 counts (x.alike.1 counts h));
+}
+
+-- ---- one move
+
+pub sent_below_root : {M T : Type 0} (b : Machine M T) (m : Meaning T) (old : Rooted M) (tree : Node M) (at : ℕ) → 0 < at → IsSentAt b m old.tree (at - 1) tree → IsSend b m old at [] (record { tree = tree; root = old.root })
+sent_below_root {M = M} {T = T} b m old tree at z k =
+    let Q : Bool → Type 0 = λ root. GoesOut b m old root [] in
+    let not : nat_eq at 0 ≡ false = above_root at z in
+    let ended : Bool = ended_at b tree (at - 1) in
+    let same : (if nat_eq at 0 then false else ended) ≡ ended = chosen_second (nat_eq at 0) false ended not in
+    let there : sent_at ended k.front old at ≡ edge_view old.root ∷ edges_after ended k.front old.tree (at - 1) = chosen_second (nat_eq at 0) _ _ not in
+    record {
+      front = k.front;
+      carries = front_there at (option_map front_of (offers b m old.tree)) (front_at b m old.tree (at - 1)) k.front z (ap (front_in b m) k.is ∙ k.offered);
+      edges = ap (λ l. edge_view old.root ∷ l) k.edges ∙ (sym there ∙ ap (λ v. sent_at v k.front old at) (sym same));
+      goes = subst Q (sym not) refl;
+    }
+
+pub asked_below_root : {M T : Type 0} (b : Machine M T) (old : Rooted M) (tree : Node M) (at : ℕ) → 0 < at → IsAskedAt b old.tree (at - 1) old.root.demand.asked old.root.demand.sent tree → IsAsk b old at (record { tree = tree; root = old.root })
+asked_below_root b old tree at z k =
+    let want : wanted_at b k.there ≡ want_at b old.tree (at - 1) old.root.demand.asked old.root.demand.sent = sym (ap (want_in b) k.is) in
+    asked_all (edge_view old.root) (edges old.tree) (edges tree) at (want_at b old.tree (at - 1) old.root.demand.asked old.root.demand.sent) old.root.demand.asked z
+    (k.edges ∙ ap (λ w. changed_at (asked_up_to w) (at - 1) (edges old.tree)) want)
+
+pub sent_root : {M T : Type 0} (b : Machine M T) (m : Meaning T) (old new : Rooted M) (queue queue' : List (Signal T)) → (k : IsRootSent b m old queue new queue') → IsSend b m old 0 (k.signal ∷ []) new
+sent_root b m old new queue queue' k = record {
+  front = k.front;
+  carries = k.offered;
+  edges = ap (λ e. e ∷ edges new.tree) k.passed ∙ ap (λ t. passed (edge_view old.root) k.front ∷ edges_in t) (sym k.gone.popped.1);
+  goes = (k.signal, k.gone.offered, refl);
+}
+
+pub root_can : {M T : Type 0} (b : Machine M T) (m : Meaning T) (old new : Rooted M) (queue queue' : List (Signal T)) → (k : IsRootSent b m old queue new queue') → send_enabled b m old queue 0 ≡ true
+root_can b m old new queue queue' k = rw (k.room, k.offered) k.can
+
+pub moved_root : {M T : Type 0} (b : Machine M T) (m : Meaning T) (old new : Rooted M) (queue queue' : List (Signal T)) → (k : IsRootSent b m old queue new queue') → IsMoved b m old queue (k.signal ∷ []) new queue'
+moved_root b m old new queue queue' k = record {
+  move = Send 0;
+  enabled = root_can b m old new queue queue' k;
+  effect = sent_root b m old new queue queue' k;
+  queued = k.queued;
+}
+
+root_unclosed : {M T : Type 0} (b : Machine M T) (m : Meaning T) (old new : Rooted M) (queue queue' : List (Signal T)) → (k : IsRootSent b m old queue new queue') → new.root.state ≡ Closed → ⊥
+root_unclosed b m old new queue queue' k c =
+    let r = root_after b m old new queue queue' k in
+    passed_open (edge_view old.root) k.signal r.was_live (sym (ap (λ v. v.state) r.view) ∙ c)
+
+root_asked : {M T : Type 0} (b : Machine M T) (m : Meaning T) (old new : Rooted M) (queue queue' : List (Signal T)) → (k : IsRootSent b m old queue new queue') → new.root.demand.asked ≡ old.root.demand.asked
+root_asked b m old new queue queue' k =
+    let r = root_after b m old new queue queue' k in
+    ap (λ v. v.asked) r.view ∙ passed_asked (edge_view old.root) k.signal
+
+pub pumped_root : {M T : Type 0} (b : Machine M T) (m : Meaning T) (old new : Rooted M) (queue queue' : List (Signal T)) → IsRootSent b m old queue new queue' → IsPumped b m 1 old queue new queue'
+pumped_root b m old new queue queue' k = record {
+  out = k.signal ∷ [];
+  queued = k.queued;
+  moves = (new, k.signal ∷ [], queue', [], moved_root b m old new queue queue' k, (refl, refl, refl), refl);
+  stands = put_out_sent b m old new queue queue' k;
+  asked = root_asked b m old new queue queue' k;
+  unclosed = λ _. root_unclosed b m old new queue queue' k;
+  alike = k.gone.alike;
+}
+
+pub moved_below : {M T : Type 0} (b : Machine M T) (m : Meaning T) (old : Rooted M) (tree : Node M) (queue : List (Signal T)) → IsAdvanced b m old.tree old.root.demand.asked old.root.demand.sent tree → IsMoved b m old queue [] (record { tree = tree; root = old.root }) queue
+moved_below {M = M} {T = T} b m old tree queue a =
+    let asked : ℕ = old.root.demand.asked in
+    let sent : ℕ = old.root.demand.sent in
+    let above : 0 < a.at + 1 = omega arith in
+    let A : ℕ → Type 0 = λ k. IsAskedAt b old.tree k asked sent tree in
+    let S : ℕ → Type 0 = λ k. IsSentAt b m old.tree k tree in
+    elim a.made [
+      | inl k ↦ record {
+        move = Ask (a.at + 1);
+        enabled = above_zero a.at false (can_ask b old.tree ((a.at + 1) - 1) asked sent) ∙ ap (λ i. can_ask b old.tree i asked sent) (suc_minus a.at) ∙ k.0;
+        effect = (refl, asked_below_root b old tree (a.at + 1) above (subst A (sym (suc_minus a.at)) k.1));
+        queued = sym (append-nil queue);
+      }
+      | inr y ↦ elim y [
+        | inl k ↦ record {
+          move = Send (a.at + 1);
+          enabled = above_zero a.at (has_room queue && can_go (edge_view old.root) (option_map front_of (offers b m old.tree))) (can_send b m old.tree ((a.at + 1) - 1)) ∙ ap (λ i. can_send b m old.tree i) (suc_minus a.at) ∙ k.0;
+          effect = sent_below_root b m old tree (a.at + 1) above (subst S (sym (suc_minus a.at)) k.1);
+          queued = sym (append-nil queue);
+        }
+        | inr k ↦ elim k.1.made [
+          | inl p ↦
+              let made : IsSteppedAt (IsPickedHere b m p.0) b.ended old.tree (edge_view old.root) (suc a.at) tree = record { machine = k.1.receiver; made = p.1 } in
+              record {
+                move = Pick (suc a.at) p.0;
+                enabled = picked_enabled b m p.0 old.tree (edge_view old.root) (suc a.at) tree made;
+                effect = (refl, record { tree = picked_effect b m p.0 old.tree (edge_view old.root) (suc a.at) tree made; root = refl });
+                queued = sym (append-nil queue);
+              }
+          | inr p ↦
+              let made : IsSteppedAt (IsRowMadeHere b m) b.ended old.tree (edge_view old.root) (suc a.at) tree = record { machine = k.1.receiver; made = p } in
+              record {
+                move = Row (suc a.at);
+                enabled = row_made_enabled b m old.tree (edge_view old.root) (suc a.at) tree made;
+                effect = (refl, record { tree = row_effect b m old.tree (edge_view old.root) (suc a.at) tree made; root = refl });
+                queued = sym (append-nil queue);
+              }
+        ]
+      ]
+    ]
+
+-- what a call that makes a move gives
+pub made_root : {M T : Type 0} (b : Machine M T) (m : Meaning T) (move : NodeMove) (n : ℕ) (old new : Rooted M) (queue queue' : List (Signal T)) → move ≡ Send n → n ≡ 0 → IsRootSent b m old queue new queue' → IsMade b m move old queue new queue'
+made_root {T = T} b m move n old new queue queue' e z k =
+    let P : NodeMove → Type 0 = λ mv. IsMade b m mv old queue new queue' in
+    let Q : ℕ → Type 0 = λ i. IsSend b m old i (k.signal ∷ []) new in
+    subst P (sym e) (record {
+      out = k.signal ∷ [];
+      effect = subst Q (sym z) (sent_root b m old new queue queue' k);
+      queued = k.queued;
+      stands = put_out_sent b m old new queue queue' k;
+      asked = root_asked b m old new queue queue' k;
+      unclosed = λ _. root_unclosed b m old new queue queue' k;
+      alike = k.gone.alike;
+    })
+
+pub made_inside : {M T : Type 0} (b : Machine M T) (m : Meaning T) (move : NodeMove) (old new : Rooted M) (queue : List (Signal T)) → IsEffect b m move old [] new → IsPutOut b m old [] new → new.root ≡ old.root → IsAlike b old.tree new.tree → IsMade b m move old queue new queue
+made_inside b m move old new queue effect stands root alike = record {
+  out = [];
+  effect = effect;
+  queued = sym (append-nil queue);
+  stands = stands;
+  asked = ap (λ r. r.demand.asked) root;
+  unclosed = λ h c. h (ap (λ r. r.state) (sym root) ∙ c);
+  alike = alike;
+}
+
+pub made_ask : {M T : Type 0} (b : Machine M T) (m : Meaning T) (move : NodeMove) (n : ℕ) (old new : Rooted M) (queue : List (Signal T)) → move ≡ Ask n → IsAsk b old n new → IsPutOut b m old [] new → new.root ≡ old.root → IsAlike b old.tree new.tree → IsMade b m move old queue new queue
+made_ask {T = T} b m move n old new queue e effect stands root alike =
+    let P : NodeMove → Type 0 = λ mv. IsEffect b m mv old [] new in
+    made_inside b m move old new queue (subst P (sym e) (refl, effect)) stands root alike
+
+pub made_below : {M T : Type 0} (b : Machine M T) (m : Meaning T) (move : NodeMove) (n : ℕ) (old new : Rooted M) (queue : List (Signal T)) → move ≡ Send n → 0 < n → IsSend b m old ((n - 1) + 1) [] new → IsPutOut b m old [] new → new.root ≡ old.root → IsAlike b old.tree new.tree → IsMade b m move old queue new queue
+made_below {T = T} b m move n old new queue e z effect stands root alike =
+    let P : NodeMove → Type 0 = λ mv. IsEffect b m mv old [] new in
+    let Q : ℕ → Type 0 = λ i. IsSend b m old i [] new in
+    let same : (n - 1) + 1 ≡ n = omega (arith, z) in
+    made_inside b m move old new queue (subst P (sym e) (subst Q same effect)) stands root alike
+
+pub made_pick : {M T : Type 0} (b : Machine M T) (m : Meaning T) (move : NodeMove) (n input : ℕ) (old new : Rooted M) (queue : List (Signal T)) → move ≡ Pick n input → IsPick b old n input new → IsPutOut b m old [] new → IsAlike b old.tree new.tree → IsMade b m move old queue new queue
+made_pick {T = T} b m move n input old new queue e effect stands alike =
+    let P : NodeMove → Type 0 = λ mv. IsEffect b m mv old [] new in
+    made_inside b m move old new queue (subst P (sym e) (refl, effect)) stands effect.root alike
+
+pub made_row : {M T : Type 0} (b : Machine M T) (m : Meaning T) (move : NodeMove) (n : ℕ) (old new : Rooted M) (queue : List (Signal T)) → move ≡ Row n → IsRow b old n new → IsPutOut b m old [] new → IsAlike b old.tree new.tree → IsMade b m move old queue new queue
+made_row {T = T} b m move n old new queue e effect stands alike =
+    let P : NodeMove → Type 0 = λ mv. IsEffect b m mv old [] new in
+    made_inside b m move old new queue (subst P (sym e) (refl, effect)) stands effect.root alike
+
+-- a move that a call made is a run of one move
+pub pumped_made : {M T : Type 0} (b : Machine M T) (m : Meaning T) (move : NodeMove) (old new : Rooted M) (queue queue' : List (Signal T)) → move_enabled b m old queue move ≡ true → IsMade b m move old queue new queue' → IsPumped b m 1 old queue new queue'
+pumped_made b m move old new queue queue' can k = record {
+  out = k.out;
+  queued = k.queued;
+  moves = (new, k.out, queue', [], record { move = move; enabled = can; effect = k.effect; queued = k.queued }, (refl, refl, refl), sym (append-nil k.out));
+  stands = k.stands;
+  asked = k.asked;
+  unclosed = k.unclosed;
+  alike = k.alike;
+}
+
+-- a closed part makes no move
+pub moved_alive : {M T : Type 0} (b : Machine M T) (m : Meaning T) (old new : Rooted M) (queue queue' out : List (Signal T)) → IsMoved b m old queue out new queue' → IsAllClosed old.tree → (old.root.state ≡ Live → ⊥) → ⊥
+moved_alive {M = M} {T = T} b m old new queue queue' out k closed shut = by_move k.move k.enabled
+  where
+    by_test : (b x y : Bool) → (if b then x else y) ≡ true → (x ≡ true) ⊎ (y ≡ true)
+    by_test true x y e = inl e
+    by_test false x y e = inr e
+
+    below : (at : ℕ) (x y : Bool) → (if nat_eq at 0 then x else y) ≡ true → (x ≡ true) ⊎ (y ≡ true)
+    below at x y e = by_test (nat_eq at 0) x y e
+
+    by_move : (move : NodeMove) → move_enabled b m old queue move ≡ true → ⊥
+    by_move (Ask n) e = elim (below n false (can_ask b old.tree (n - 1) old.root.demand.asked old.root.demand.sent) e) [
+      | inl f ↦ cc
+      | inr a ↦ ask_not_closed b old.tree (n - 1) old.root.demand.asked old.root.demand.sent a closed
+    ]
+    by_move (Send n) e = elim (below n (has_room queue && can_go (edge_view old.root) (option_map front_of (offers b m old.tree))) (can_send b m old.tree (n - 1)) e) [
+      | inl r ↦ shut (go_live (edge_view old.root) (option_map front_of (offers b m old.tree)) (and_right (has_room queue) _ r))
+      | inr s ↦ send_not_closed b m old.tree (n - 1) s closed
+    ]
+    by_move (Pick n input) e = pick_alive b old.tree (edge_view old.root) n input e closed shut
+    by_move (Row n) e = row_alive b old.tree (edge_view old.root) n e closed shut
+
+-- ---- many moves of the tree
+
+pub driven_moves : {M T : Type 0} (b : Machine M T) (m : Meaning T) (n : ℕ) (root : Edge) (old new : Node M) (queue : List (Signal T)) → IsDriven b m n old root.demand.asked root.demand.sent new → IsMovedBy b m n (record { tree = old; root = root }) queue [] (record { tree = new; root = root }) queue
+driven_moves b m zero root old new queue d = (refl, ap (λ t. record { tree = t; root = root }) d, refl)
+driven_moves b m (suc n) root old new queue d =
+    (record { tree = d.0; root = root }, [], queue, [], moved_below b m (record { tree = old; root = root }) d.0 queue d.1, driven_moves b m n root d.0 new queue d.2, refl)
+
+driven_put_out : {M T : Type 0} (b : Machine M T) (m : Meaning T) (n : ℕ) (root : Edge) (old new : Node M) → IsDriven b m n old root.demand.asked root.demand.sent new → ((s : ℕ) → IsBalanced b old s → IsBalanced b new s) → IsPutOut b m (record { tree = old; root = root }) [] (record { tree = new; root = root })
+driven_put_out {M = M} {T = T} b m zero root old new d balance = let P : Node M → Type 0 = λ t. IsPutOut b m (record { tree = old; root = root }) [] (record { tree = t; root = root }) in subst P (sym d) (put_out_none b m (record { tree = old; root = root }))
+driven_put_out b m (suc n) root old new d balance =
+    put_out_chosen b m (record { tree = old; root = root }) (record { tree = new; root = root }) (chosen_run b m true (suc n) old new root.demand.asked root.demand.sent d) balance refl (driven_alike b m true (suc n) old root.demand.asked root.demand.sent new d) (λ closed _. advanced_not_closed b m old d.0 root.demand.asked root.demand.sent d.1 closed)
+
+pub pumped_driven : {M T : Type 0} (b : Machine M T) (m : Meaning T) (n : ℕ) (old : Rooted M) (tree : Node M) (queue : List (Signal T)) → IsDriven b m n old.tree old.root.demand.asked old.root.demand.sent tree → ((s : ℕ) → IsBalanced b old.tree s → IsBalanced b tree s) → IsPumped b m n old queue (record { tree = tree; root = old.root }) queue
+pumped_driven b m n old tree queue d balance = record {
+  out = [];
+  queued = sym (append-nil queue);
+  moves = driven_moves b m n old.root old.tree tree queue d;
+  stands = driven_put_out b m n old.root old.tree tree d balance;
+  asked = refl;
+  unclosed = λ h. h;
+  alike = driven_alike b m true n old.tree old.root.demand.asked old.root.demand.sent tree d;
+}
+
+-- ---- no want of memory
+
+-- the root's signal is taken out without
+pub root_free : {M T : Type 0} (b : Machine M T) (a : Allocates) (part : Rooted M) → pump_allocates b a part ≡ false → pop_allocates b a part.tree ≡ false
+root_free b a part free = or_left (pop_allocates b a part.tree) _ (or_left (node_allocates b a part.tree.machine) _ free)
+
+-- a step of the root is made without
+pub root_step_free : {M T : Type 0} (b : Machine M T) (a : Allocates) (part : Rooted M) (step : NodeMove) → IsStepEnabled b (over part.root part.tree.machine) 0 step → pump_allocates b a part ≡ false → make_allocates b a part step ≡ false
+root_step_free b a part (Ask n) h free = absurd h
+root_step_free b a part (Send n) h free = absurd h
+root_step_free b a part (Pick n input) h free = ap (λ k. step_allocates b a part.tree (edge_view part.root) k) h.0 ∙ or_right (b.signal_allocates a part.tree.machine) _ (or_right (b.pop_allocates a part.tree.machine) _ (or_left (node_allocates b a part.tree.machine) _ free))
+root_step_free b a part (Row n) h free = ap (λ k. step_allocates b a part.tree (edge_view part.root) k) h.0 ∙ or_right (b.signal_allocates a part.tree.machine) _ (or_right (b.pop_allocates a part.tree.machine) _ (or_left (node_allocates b a part.tree.machine) _ free))
+
+-- an enabled move isn't refused but for want of memory
+pub not_refused : (can : Bool) (e : NotMade) → can ≡ true → IsNotMade can e → e ≡ NotEnabled → ⊥
+not_refused can e enabled h is = let other : IsNotMade can NotEnabled = subst (IsNotMade can) is h in never can enabled other
+
+-- ---- where no move is enabled
+
+pub quiet_when : {M T : Type 0} (b : Machine M T) (m : Meaning T) (part : Rooted M) (queue : List (Signal T)) → send_enabled b m part queue 0 ≡ false → IsIdle b m part.tree part.root.demand.asked part.root.demand.sent → IsStill b (station_of part.tree (edge_view part.root) 0) → IsQuiet b m part queue
+quiet_when b m part queue r t still (Ask n) l = at_zero n false (can_ask b part.tree (n - 1) part.root.demand.asked part.root.demand.sent) false refl (t (n - 1) (omega (arith, l))).0
+quiet_when b m part queue r t still (Send n) l = at_zero n (has_room queue && can_go (edge_view part.root) (option_map front_of (offers b m part.tree))) (can_send b m part.tree (n - 1)) false r (t (n - 1) (omega (arith, l))).1
+quiet_when b m part queue r t still (Pick zero input) l = still.0 input l.1
+quiet_when b m part queue r t still (Pick (suc at) input) l = (t at (let small = l.0 in omega (arith, small))).2.0 input l.1
+quiet_when b m part queue r t still (Row zero) l = still.1
+quiet_when b m part queue r t still (Row (suc at)) l = (t at (omega (arith, l))).2.1
+
+-- the tree made no move, and the root can't send, pick or make a row
+pub quiet_driven : {M T : Type 0} (b : Machine M T) (m : Meaning T) (n left budget : ℕ) (part : Rooted M) (tree : Node M) (queue : List (Signal T)) → n + left ≡ budget → budget ≤ left → IsDriven b m n part.tree part.root.demand.asked part.root.demand.sent tree → send_enabled b m part queue 0 ≡ false →
+    IsIdle b m tree part.root.demand.asked part.root.demand.sent → IsStill b (station_of tree (edge_view part.root) 0) → IsQuiet b m (record { tree = tree; root = part.root }) queue
+quiet_driven {M = M} {T = T} b m zero left budget part tree queue spent all d shut idle still =
+    let S : Node M → Type 0 = λ t. send_enabled b m (record { tree = t; root = part.root }) queue 0 ≡ false in
+    quiet_when b m (record { tree = tree; root = part.root }) queue (subst S (sym d) shut) idle still
+quiet_driven b m (suc n) left budget part tree queue spent all d shut idle still = absurd (omega (arith, spent, all))
+
+-- ---- how driving ends
+
+pub spent_ended : {M T : Type 0} (b : Machine M T) (E : Type 0) (m : Meaning T) (budget n : ℕ) (part : Rooted M) (queue : List (Signal T)) (p : Pumped) → n ≡ budget → IsSpent b m part queue p → HasEnded {E = E} b m budget n part queue (Ok p)
+spent_ended b E m budget n part queue (Idle left) e s = let z = s.0 in (omega (arith, e, z), s.1)
+spent_ended b E m budget n part queue Budget e s = (e, s)

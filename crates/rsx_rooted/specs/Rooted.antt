@@ -1,0 +1,243 @@
+-- A part: a tree with the edge from its root. What it stands for, which of its moves are enabled, and what they change.
+use Rattle.std.specs.Prelude.{◌≡◌, ℕ, zero, suc, ◌+◌, ◌-◌, ◌<◌, ◌≤◌, ◌^◌, min, Bool, true, false, ◌&&◌, nat_lt, nat_eq, if◌then◌else◌, List, [], ◌∷◌, ◌++◌, length, take, map, Option, Some, option_map, Result, Ok, Err}
+use Rattle.rsx_model.specs.Eval.{environment, eval}
+use Rattle.rsx_model.specs.declared.check.TheConstants.{MOST_NODES}
+use Rattle.rsx_model.specs.declared.expr.Expr.{Expr}
+use Rattle.rsx_types.specs.Meaning.{Meaning, Allocates}
+use Rattle.rsx_types.specs.Notes.{notes_then, unchosen}
+use Rattle.rsx_types.specs.Stream.{Stream, signals_then}
+use Rattle.rsx_types.specs.declared.limits.TheConstants.{CAPACITY}
+use Rattle.rsx_types.specs.declared.note.Note.{Note}
+use Rattle.rsx_types.specs.declared.signal.Ending.TheVariants.{Open}
+use Rattle.rsx_types.specs.declared.signal.Signal.{Signal}
+use Rattle.rsx_sources.specs.Machine.{front_of}
+use Rattle.rsx_sources.specs.declared.machine.Front.{Front}
+use Rattle.rsx_tree.specs.declared.look.NodeMove.{NodeMove}
+use Rattle.rsx_tree.specs.declared.look.NodeMove.TheVariants.{Ask, Send, Pick, Row}
+use Rattle.rsx_tree.specs.Edges.{edge_view, EdgeView, can_pass, IsPassed, passed, changed_at, asked_up_to}
+use Rattle.rsx_tree.specs.Residual.{IsTreeBehind}
+use Rattle.rsx_sources.specs.declared.machine.Machine.{Ghosts as Machine}
+use Rattle.rsx_tree.specs.Reads.{IsTreeReadAt}
+use Rattle.rsx_rooted.specs.Output.{counts_in, items_in, IsUnended, IsOrderly, values_then}
+use Rattle.rsx_rooted.specs.Tree.{comes_out, notes, offers, can_ask, can_send, can_go, IsAllClosed, IsLetGo, edges, edges_after, want_at, front_at, ended_at, pop_allocates, send_allocates, step_allocates, tree_allocates, IsAlike, IsBalanced, IsWithin, can_pick, can_row, IsPickedAt, IsRowAt}
+use Rattle.rsx_tree.specs.declared.edge.EdgeState.TheVariants.{Live, Closed, Ended}
+use Rattle.rsx_rooted.specs.declared.rooted.Rooted.{Rooted}
+use Rattle.rsx_rooted.specs.declared.rooted.Pumped.{Pumped}
+use Rattle.rsx_rooted.specs.declared.rooted.Pumped.TheVariants.{Idle, Budget}
+
+-- ---- what a part stands for
+
+-- the value of an expression over these hubs' values
+abbrev pub evaluated : {T : Type 0} → Meaning T → List (Stream T) → List ℕ → Expr T → List Note → Option (Stream T)
+evaluated m hubs joins e chosen = eval (environment m hubs joins chosen) e
+
+-- a part stands for an expression, where `published` is what the hubs took in and handed to their readers, and the signals
+-- `output` went over the part's root edge
+pub record Stands {M T : Type 0} (b : Machine M T) (m : Meaning T) (published : List (Stream T)) (part : Rooted M) (e : Expr T) (joins : List ℕ) (output : List (Signal T)) : Type 0 where
+  -- what went out, followed by what still comes out, is the expression evaluated from scratch, whatever is still published
+  -- and whatever is still chosen
+  pub value : (more : List (Stream T)) (further : List Note) → length further ≡ length (notes b part.tree) →
+      option_map (signals_then output) (comes_out b m (values_then published more) further part.tree 0) ≡ evaluated m (values_then published more) joins e (notes_then (notes b part.tree) further)
+  -- nothing followed an ending, and the root edge is live until an ending went over it
+  pub orderly : IsOrderly output
+  pub unended : part.root.state ≡ Live → IsUnended output
+  pub ended : part.root.state ≡ Ended → IsUnended output → ⊥
+  -- the items are as many as the root edge has sent
+  pub counted : length (items_in output) ≡ part.root.demand.sent
+  -- while the root edge is live, the counts along all edges belong together
+  pub balance : part.root.state ≡ Live → IsBalanced b part.tree part.root.demand.sent
+  -- and each node that reads a hub got all that was published; with no join, no node reads one
+  pub reads : part.root.state ≡ Live → IsTreeReadAt b (counts_in published) part.tree
+  pub alone : part.root.state ≡ Live → joins ≡ [] → IsTreeReadAt b [] part.tree
+  -- all below a closed root edge is closed
+  pub closed : part.root.state ≡ Closed → IsAllClosed part.tree
+
+-- ---- edges and enabled moves
+
+-- all edges, the root edge first, and then in pre-order
+abbrev pub all_edges : {M : Type 0} → Rooted M → List EdgeView
+all_edges part = edge_view part.root ∷ edges part.tree
+
+-- a queue has room for a signal
+abbrev pub has_room : {A : Type 0} → List A → Bool
+has_room queue = nat_lt (length queue) CAPACITY
+
+-- Ask: the root edge rises by requests alone
+abbrev pub ask_enabled : {M T : Type 0} → Machine M T → Rooted M → ℕ → Bool
+ask_enabled b part at = if nat_eq at 0 then false else can_ask b part.tree (at - 1) part.root.demand.asked part.root.demand.sent
+
+-- Send: over the root edge into the queue behind it, or over an edge of the tree
+abbrev pub send_enabled : {M T : Type 0} → Machine M T → Meaning T → Rooted M → List (Signal T) → ℕ → Bool
+send_enabled b m part queue at =
+    if nat_eq at 0 then has_room queue && can_go (edge_view part.root) (option_map front_of (offers b m part.tree))
+    else can_send b m part.tree (at - 1)
+
+-- Pick and Row: of the root, whose edge is the root edge, or of a node below it
+abbrev pub pick_enabled : {M T : Type 0} → Machine M T → Rooted M → ℕ → ℕ → Bool
+pick_enabled b part at input = can_pick b part.tree (edge_view part.root) at input
+
+abbrev pub row_enabled : {M T : Type 0} → Machine M T → Rooted M → ℕ → Bool
+row_enabled b part at = can_row b part.tree (edge_view part.root) at
+
+abbrev pub move_enabled : {M T : Type 0} → Machine M T → Meaning T → Rooted M → List (Signal T) → NodeMove → Bool
+move_enabled b m part queue (Ask n) = ask_enabled b part n
+move_enabled b m part queue (Send n) = send_enabled b m part queue n
+move_enabled b m part queue (Pick n input) = pick_enabled b part n input
+move_enabled b m part queue (Row n) = row_enabled b part n
+
+-- whether a move may allocate, where these of the caller's functions may
+abbrev pub make_allocates : {M T : Type 0} → Machine M T → Allocates → Rooted M → NodeMove → Bool
+make_allocates b a part (Ask n) = false
+make_allocates b a part (Send n) = if nat_eq n 0 then pop_allocates b a part.tree else send_allocates b a part.tree (n - 1)
+make_allocates b a part (Pick n input) = step_allocates b a part.tree (edge_view part.root) n
+make_allocates b a part (Row n) = step_allocates b a part.tree (edge_view part.root) n
+
+-- whether some move of the part may: what a node does for it may allocate. Of the caller's functions, `Allocates` says which
+-- may.
+abbrev pub pump_allocates : {M T : Type 0} → Machine M T → Allocates → Rooted M → Bool
+pump_allocates b a part = tree_allocates b a part.tree
+
+-- the numbers that a move names are numbers of a node, and of an input
+abbrev pub IsNumbered : NodeMove → Type 0
+IsNumbered (Ask n) = n < 2 ^ 32
+IsNumbered (Send n) = n < 2 ^ 32
+IsNumbered (Pick n input) = (n < 2 ^ 32) × (input < 2 ^ 64)
+IsNumbered (Row n) = n < 2 ^ 32
+
+-- ---- what a move changes
+
+-- what the receiver of an edge wants of it in all; the root's receiver asks by requests
+abbrev pub wanted : {M T : Type 0} → Machine M T → Rooted M → ℕ → ℕ
+wanted b part at = if nat_eq at 0 then part.root.demand.asked else want_at b part.tree (at - 1) part.root.demand.asked part.root.demand.sent
+
+-- which signal is offered over an edge
+abbrev pub offered : {M T : Type 0} → Machine M T → Meaning T → Rooted M → ℕ → Option Front
+offered b m part at = if nat_eq at 0 then option_map front_of (offers b m part.tree) else front_at b m part.tree (at - 1)
+
+-- whether the receiver of an edge has put out an ending; the root's receiver puts out nothing
+abbrev pub receiver_ended : {M T : Type 0} → Machine M T → Rooted M → ℕ → Bool
+receiver_ended b part at = if nat_eq at 0 then false else ended_at b part.tree (at - 1)
+
+-- an Ask: what was asked of this edge is what its receiver wants, and no other edge changed
+abbrev pub IsAsk : {M T : Type 0} → Machine M T → Rooted M → ℕ → Rooted M → Type 0
+IsAsk b old at new = all_edges new ≡ changed_at (asked_up_to (wanted b old at)) at (all_edges old)
+
+-- what went over the root edge: the offered signal, where the Send went over it, and else nothing
+abbrev pub GoesOut : {M T : Type 0} → Machine M T → Meaning T → Rooted M → Bool → List (Signal T) → Type 0
+GoesOut {T = T} b m old true out = (s : Signal T) × (offers b m old.tree ≡ Some s) × (out ≡ s ∷ [])
+GoesOut b m old false out = out ≡ []
+
+-- all edges after a signal went over this edge; where the receiver ended by it, all its inputs and all below them are closed
+abbrev pub sent_at : {M : Type 0} → Bool → Front → Rooted M → ℕ → List EdgeView
+sent_at ended front part at =
+    if nat_eq at 0 then passed (edge_view part.root) front ∷ edges part.tree
+    else edge_view part.root ∷ edges_after ended front part.tree (at - 1)
+
+-- a Send: the offered signal went over this edge; where the receiver ended by it, all its inputs and all below them are closed
+pub record IsSend {M T : Type 0} (b : Machine M T) (m : Meaning T) (old : Rooted M) (at : ℕ) (out : List (Signal T)) (new : Rooted M) : Type 0 where
+  pub front : Front
+  pub carries : offered b m old at ≡ Some front
+  pub edges : all_edges new ≡ sent_at (receiver_ended b new at) front old at
+  pub goes : GoesOut b m old (nat_eq at 0) out
+
+-- a Pick: the choice stands behind what the node recorded, and where the node ended by it, all below it is closed
+pub record IsPick {M T : Type 0} (b : Machine M T) (old : Rooted M) (at input : ℕ) (new : Rooted M) : Type 0 where
+  pub tree : IsPickedAt b old.tree (edge_view old.root) at input new.tree
+  pub root : new.root ≡ old.root
+
+-- a Row: where the node ended by it, all below it is closed
+pub record IsRow {M T : Type 0} (b : Machine M T) (old : Rooted M) (at : ℕ) (new : Rooted M) : Type 0 where
+  pub tree : IsRowAt b old.tree (edge_view old.root) at new.tree
+  pub root : new.root ≡ old.root
+
+-- a move's effect, where these signals went over the root edge
+abbrev pub IsEffect : {M T : Type 0} → Machine M T → Meaning T → NodeMove → Rooted M → List (Signal T) → Rooted M → Type 0
+IsEffect b m (Ask n) old out new = (out ≡ []) × IsAsk b old n new
+IsEffect b m (Send n) old out new = IsSend b m old n out new
+IsEffect b m (Pick n input) old out new = (out ≡ []) × IsPick b old n input new
+IsEffect b m (Row n) old out new = (out ≡ []) × IsRow b old n new
+
+-- ---- one move, and many
+
+-- the part stands for what it stood for, where these signals went over the root edge besides
+abbrev pub IsPutOut : {M T : Type 0} → Machine M T → Meaning T → Rooted M → List (Signal T) → Rooted M → Type 0
+IsPutOut {T = T} b m old out new =
+    (published : List (Stream T)) (e : Expr T) (joins : List ℕ) (output : List (Signal T)) → Stands b m published old e joins output → Stands b m published new e joins (output ++ out)
+
+-- an enabled move was made, and had its effect; what went over the root edge is behind what the queue held
+pub record IsMoved {M T : Type 0} (b : Machine M T) (m : Meaning T) (old : Rooted M) (queue : List (Signal T)) (out : List (Signal T)) (new : Rooted M) (queue' : List (Signal T)) : Type 0 where
+  pub move : NodeMove
+  pub enabled : move_enabled b m old queue move ≡ true
+  pub effect : IsEffect b m move old out new
+  pub queued : queue' ≡ queue ++ out
+
+-- the root's signal went over the root edge, to the back of the queue
+pub record IsRootSent {M T : Type 0} (b : Machine M T) (m : Meaning T) (old : Rooted M) (queue : List (Signal T)) (new : Rooted M) (queue' : List (Signal T)) : Type 0 where
+  pub signal : Signal T
+  pub front : Front
+  pub offered : option_map front_of (offers b m old.tree) ≡ Some front
+  pub gone : IsLetGo b m old.tree signal new.tree
+  pub room : has_room queue ≡ true
+  pub can : can_pass (edge_view old.root) front ≡ true
+  pub passed : IsPassed front (edge_view old.root) (edge_view new.root)
+  pub queued : queue' ≡ queue ++ signal ∷ []
+
+-- what a call that made a move promises
+pub record IsMade {M T : Type 0} (b : Machine M T) (m : Meaning T) (move : NodeMove) (old : Rooted M) (queue : List (Signal T)) (new : Rooted M) (queue' : List (Signal T)) : Type 0 where
+  pub out : List (Signal T)
+  pub effect : IsEffect b m move old out new
+  pub queued : queue' ≡ queue ++ out
+  pub stands : IsPutOut b m old out new
+  -- what was asked over the root edge stays, and it isn't closed by a move
+  pub asked : new.root.demand.asked ≡ old.root.demand.asked
+  pub unclosed : (old.root.state ≡ Closed → ⊥) → new.root.state ≡ Closed → ⊥
+  -- and so does whether a move may allocate
+  pub alike : IsAlike b old.tree new.tree
+
+-- so many enabled moves were made one after the other, and all that went over the root edge is `out`
+abbrev pub IsMovedBy : {M T : Type 0} → Machine M T → Meaning T → ℕ → Rooted M → List (Signal T) → List (Signal T) → Rooted M → List (Signal T) → Type 0
+IsMovedBy b m zero old queue out new queue' = (out ≡ []) × (new ≡ old) × (queue' ≡ queue)
+IsMovedBy {M = M} {T = T} b m (suc n) old queue out new queue' =
+    (mid : Rooted M) × (first : List (Signal T)) × (behind : List (Signal T)) × (rest : List (Signal T)) ×
+    IsMoved b m old queue first mid behind × IsMovedBy b m n mid behind rest new queue' × (out ≡ first ++ rest)
+
+-- so many moves were made, these signals went over the root edge, and the part stands for what it stood for
+pub record IsPumped {M T : Type 0} (b : Machine M T) (m : Meaning T) (count : ℕ) (old : Rooted M) (queue : List (Signal T)) (new : Rooted M) (queue' : List (Signal T)) : Type 0 where
+  pub out : List (Signal T)
+  pub queued : queue' ≡ queue ++ out
+  pub moves : IsMovedBy b m count old queue out new queue'
+  pub stands : IsPutOut b m old out new
+  -- what was asked, and that its root edge is open, stays
+  pub asked : new.root.demand.asked ≡ old.root.demand.asked
+  pub unclosed : (old.root.state ≡ Closed → ⊥) → new.root.state ≡ Closed → ⊥
+  -- and so does whether a move may allocate
+  pub alike : IsAlike b old.tree new.tree
+
+-- no move of a part that has its numbers is enabled
+abbrev pub IsQuiet : {M T : Type 0} → Machine M T → Meaning T → Rooted M → List (Signal T) → Type 0
+IsQuiet b m part queue = (move : NodeMove) → IsNumbered move → move_enabled b m part queue move ≡ false
+
+-- some move of a part that has its numbers is enabled
+abbrev pub IsAwake : {M T : Type 0} → Machine M T → Meaning T → Rooted M → List (Signal T) → Type 0
+IsAwake b m part queue = (move : NodeMove) × IsNumbered move × (move_enabled b m part queue move ≡ true)
+
+-- how driving a part ends after so many moves: Idle, with what is left of the budget, where no move is enabled; Budget where
+-- one is and the whole budget was spent
+abbrev pub HasEnded : {M T E : Type 0} → Machine M T → Meaning T → ℕ → ℕ → Rooted M → List (Signal T) → Result Pumped E → Type 0
+HasEnded b m budget n part queue (Ok (Idle left)) = (n + left ≡ budget) × IsQuiet b m part queue
+HasEnded b m budget n part queue (Ok Budget) = (n ≡ budget) × IsAwake b m part queue
+HasEnded b m budget n part queue (Err e) = n ≤ budget
+
+-- how it ends where the whole budget was spent
+abbrev pub IsSpent : {M T : Type 0} → Machine M T → Meaning T → Rooted M → List (Signal T) → Pumped → Type 0
+IsSpent b m part queue (Idle left) = (left ≡ 0) × IsQuiet b m part queue
+IsSpent b m part queue Budget = IsAwake b m part queue
+
+-- ---- what is still owed
+
+-- this still comes out of a part, where just these inboxes stand behind what its nodes took in of the hubs, and nothing more is
+-- chosen
+abbrev pub IsResidualOf : {M T : Type 0} → Machine M T → Meaning T → List (Stream T) → Rooted M → Stream T → Type 0
+IsResidualOf {T = T} b m inboxes part v =
+    (hubs : List (Stream T)) → IsBalanced b part.tree part.root.demand.sent → IsTreeBehind b inboxes hubs part.tree →
+    comes_out b m hubs (map unchosen (notes b part.tree)) part.tree 0 ≡ Some v

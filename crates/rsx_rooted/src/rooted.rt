@@ -1,0 +1,515 @@
+//! A tree with the edge from its root.
+
+ghost use Rattle.std.specs.Prelude.{◌≡◌, IfSome, true};
+
+use rsx_queue::{CAPACITY, SignalQueue};
+use rsx_sources::{Front, Machine, NotMade};
+use rsx_tree::{Edge, Node, NodeMove};
+use rsx_types::{NoMemory, Ops, Signal};
+use std::alloc::Global;
+
+/// How a [`Rooted::pump`] ended.
+#[derive(Clone, Copy, Debug, PartialEq, Eq)]
+pub enum Pumped {
+    /// No move is enabled. So much of the budget is left.
+    Idle(u32),
+    /// The budget is used up, and a move is enabled.
+    Budget,
+}
+
+/// One tree of nodes with its edges: the edge from its root, and those below it.
+///
+/// What the root sends goes into a queue that each call is handed: that of a subscription's root edge. All that went over
+/// the root edge, followed by what still comes out of the tree, is the expression that the tree was made for. The nodes
+/// are numbered in pre-order from 0, and an edge has the number of the node that sends over it.
+#[derive(Drop)]
+pub struct Rooted<M> {
+    /// The tree.
+    pub tree: Node<M>,
+    /// The edge from the tree's root to its receiver.
+    pub root: Edge,
+}
+
+impl<M: Machine> Rooted<M> {
+    ghost use Rattle.std.specs.Prelude.{◌≡◌, ◌<◌, ◌+◌, ◌^◌, ℕ, List, [], ◌∷◌, Option, Some, None, true, false, OnOk, OnErr, IfOk, IfErr, IsOk, IfSome, IfNone, length, map};
+    ghost use Rattle.rsx_types.specs.Meaning.{Meaning};
+    ghost use Rattle.rsx_types.specs.declared.signal.Signal.{Signal};
+    ghost use Rattle.rsx_sources.specs.Steps.{IsNotMade};
+    ghost use Rattle.rsx_tree.specs.Edges.{edge_view};
+    ghost use Rattle.rsx_tree.specs.Stepped.{station_of};
+    ghost use Rattle.rsx_tree.specs.Driven.{Spent};
+    ghost use Rattle.rsx_tree.specs.Refusals.{IsNotEnabled, OnlyNotEnabled};
+    ghost use Rattle.rsx_rooted.specs.Tree.{can_send, pop_allocates, send_allocates, step_allocates, IsAlike, IsStill};
+    ghost use Rattle.rsx_rooted.specs.Fetched.{IsFetched};
+    ghost use Rattle.rsx_rooted.specs.Rooted.{pump_allocates, IsPutOut, IsMade, IsPumped, IsQuiet, IsAwake, IsSpent, IsRootSent, HasEnded, make_allocates, move_enabled, ask_enabled, send_enabled, IsAsk, IsSend, pick_enabled, row_enabled, IsPick, IsRow, IsNumbered};
+
+    /// Whether a move is enabled, where the root's signals go into the queue `out`. The root's Ask never is: what is asked of
+    /// the root rises by requests.
+    pub fn enabled(&self, step: NodeMove, out: &SignalQueue<M::Item>) -> bool
+        ensures { (m : Meaning M.Item) → result ≡ move_enabled M.Machine m self.now out.now step }
+    {
+        match step {
+            NodeMove::Ask(node) => self.can_ask(node),
+            NodeMove::Send(node) => self.can_send(node, out),
+            NodeMove::Pick(node, input) => self.tree.can_pick(&self.root, node, input),
+            NodeMove::Row(node) => self.tree.can_row(&self.root, node),
+        }
+    }
+
+    /// Whether the Ask of the node `at` is enabled.
+    fn can_ask(&self, at: u32) -> bool
+        ensures { result ≡ ask_enabled M.Machine self.now at }
+    {
+        if at == 0 {
+            return false;
+        }
+        self.tree
+            .can_ask(at - 1, self.root.demand.asked, self.root.demand.sent)
+    }
+
+    /// Whether the Send of the node `at` is enabled.
+    fn can_send(&self, at: u32, out: &SignalQueue<M::Item>) -> bool
+        ensures { (m : Meaning M.Item) → result ≡ send_enabled M.Machine m self.now out.now at }
+    {
+        if at == 0 {
+            return self.can_send_root(out);
+        }
+        self.tree.can_send(at - 1)
+    }
+
+    /// Whether the Send of the root is enabled.
+    fn can_send_root(&self, out: &SignalQueue<M::Item>) -> bool
+        ensures { (m : Meaning M.Item) → result ≡ send_enabled M.Machine m self.now out.now 0 }
+    {
+        if out.len() >= CAPACITY {
+            return false;
+        }
+        match self.tree.front() {
+            Some(front) => self.root.can_carry(front),
+            None => false,
+        }
+    }
+
+    /// The first enabled move, from the root down. None where no move is enabled.
+    pub fn first_enabled(&self, out: &SignalQueue<M::Item>) -> Option<NodeMove>
+        ensures some { (m : Meaning M.Item) → IfSome result (λ step. IsNumbered step × (move_enabled M.Machine m self.now out.now step ≡ true)) }
+        ensures none { (m : Meaning M.Item) → IfNone result (IsQuiet M.Machine m self.now out.now) }
+    {
+        if self.can_send_root(out) {
+            return Some(NodeMove::Send(0));
+        }
+        match self.tree.first_step(&self.root) {
+            Some(step) => return Some(step),
+            None => {}
+        }
+        self.tree
+            .first_enabled(1, self.root.demand.asked, self.root.demand.sent)
+    }
+
+    /// Makes a move; what goes over the root edge goes into the queue `out`.
+    ///
+    /// # Errors
+    /// [`NotMade::NotEnabled`] exactly where the move isn't enabled, and [`NotMade::NoMemory`] where a growth was refused: an
+    /// Ask doesn't allocate, and a Send only to a `buffer` or a `distinct`, or where a function of the caller's that it calls
+    /// may, and a pick or a row only where a step of its node may. Then nothing changed.
+    pub fn make<O: Ops<Item = M::Item>>(
+        &mut self,
+        alloc: Global,
+        ops: &O,
+        step: NodeMove,
+        out: &mut SignalQueue<M::Item>,
+    ) -> Result<(), NotMade>
+        ensures made { OnOk result (IsMade M.Machine (O.meaning ops.now) step self.old out.old self.new out.new) }
+        ensures enabled { OnOk result (move_enabled M.Machine (O.meaning ops.now) self.old out.old step ≡ true) }
+        ensures err { IfErr result (IsNotMade (move_enabled M.Machine (O.meaning ops.now) self.old out.old step)) }
+        ensures memory { make_allocates M.Machine (O.allocates ops.now) self.old step ≡ false → OnlyNotEnabled result }
+        ensures same { OnErr result ((self.new ≡ self.old) × (out.new ≡ out.old)) }
+    {
+        match step {
+            NodeMove::Ask(node) => match self.ask(node) {
+                Ok(()) => Ok(()),
+                Err(why) => Err(why),
+            },
+            NodeMove::Send(node) => {
+                if node > 0 {
+                    return match self.send_below(alloc, ops, node - 1) {
+                        Ok(()) => Ok(()),
+                        Err(why) => Err(why),
+                    };
+                }
+                match self.send_root(alloc, ops, out) {
+                    Ok(()) => Ok(()),
+                    Err(why) => Err(why),
+                }
+            }
+            NodeMove::Pick(node, input) => match self.pick(alloc, ops, node, input) {
+                Ok(()) => Ok(()),
+                Err(why) => Err(why),
+            },
+            NodeMove::Row(node) => match self.make_row(alloc, ops, node) {
+                Ok(()) => Ok(()),
+                Err(why) => Err(why),
+            },
+        }
+    }
+
+    /// Makes the Ask of the node `at`.
+    fn ask(&mut self, at: u32) -> Result<(), NotMade>
+        ensures stands { (m : Meaning M.Item) → OnOk result (IsPutOut M.Machine m self.old [] self.new) }
+        ensures alike { IsAlike M.Machine self.old.tree self.new.tree }
+        ensures effect { OnOk result (IsAsk M.Machine self.old at self.new) }
+        ensures root { self.new.root ≡ self.old.root }
+        ensures enabled { OnOk result (ask_enabled M.Machine self.old at ≡ true) }
+        ensures err { IfErr result (IsNotEnabled (ask_enabled M.Machine self.old at)) }
+        ensures same { OnErr result (self.new ≡ self.old) }
+    {
+        if at == 0 {
+            return Err(NotMade::NotEnabled);
+        }
+        match self
+            .tree
+            .ask(at - 1, self.root.demand.asked, self.root.demand.sent)
+        {
+            Ok(()) => Ok(()),
+            Err(why) => Err(why),
+        }
+    }
+
+    /// Makes the Send over the edge `at` below the root.
+    fn send_below<O: Ops<Item = M::Item>>(
+        &mut self,
+        alloc: Global,
+        ops: &O,
+        at: u32,
+    ) -> Result<(), NotMade>
+        ensures stands { OnOk result (IsPutOut M.Machine (O.meaning ops.now) self.old [] self.new) }
+        ensures effect { OnOk result (IsSend M.Machine (O.meaning ops.now) self.old (at + 1) [] self.new) }
+        ensures alike { IsAlike M.Machine self.old.tree self.new.tree }
+        ensures root { self.new.root ≡ self.old.root }
+        ensures enabled { OnOk result (can_send M.Machine (O.meaning ops.now) self.old.tree at ≡ true) }
+        ensures err { IfErr result (IsNotMade (can_send M.Machine (O.meaning ops.now) self.old.tree at)) }
+        ensures memory { send_allocates M.Machine (O.allocates ops.now) self.old.tree at ≡ false → OnlyNotEnabled result }
+        ensures same { OnErr result (self.new ≡ self.old) }
+    {
+        match self.tree.send(alloc, ops, at) {
+            Ok(()) => Ok(()),
+            Err(why) => Err(why),
+        }
+    }
+
+    /// Picks an input at the node `at`.
+    fn pick<O: Ops<Item = M::Item>>(
+        &mut self,
+        alloc: Global,
+        ops: &O,
+        at: u32,
+        input: u64,
+    ) -> Result<(), NotMade>
+        ensures stands { OnOk result (IsPutOut M.Machine (O.meaning ops.now) self.old [] self.new) }
+        ensures effect { OnOk result (IsPick M.Machine self.old at input self.new) }
+        ensures enabled { OnOk result (pick_enabled M.Machine self.old at input ≡ true) }
+        ensures alike { IsAlike M.Machine self.old.tree self.new.tree }
+        ensures err { IfErr result (IsNotMade (pick_enabled M.Machine self.old at input)) }
+        ensures memory { step_allocates M.Machine (O.allocates ops.now) self.old.tree (edge_view self.old.root) at ≡ false → OnlyNotEnabled result }
+        ensures same { OnErr result (self.new ≡ self.old) }
+    {
+        match self.tree.pick(alloc, ops, &self.root, at, input) {
+            Ok(()) => Ok(()),
+            Err(why) => Err(why),
+        }
+    }
+
+    /// Makes a row at the node `at`.
+    fn make_row<O: Ops<Item = M::Item>>(
+        &mut self,
+        alloc: Global,
+        ops: &O,
+        at: u32,
+    ) -> Result<(), NotMade>
+        ensures stands { OnOk result (IsPutOut M.Machine (O.meaning ops.now) self.old [] self.new) }
+        ensures effect { OnOk result (IsRow M.Machine self.old at self.new) }
+        ensures enabled { OnOk result (row_enabled M.Machine self.old at ≡ true) }
+        ensures alike { IsAlike M.Machine self.old.tree self.new.tree }
+        ensures err { IfErr result (IsNotMade (row_enabled M.Machine self.old at)) }
+        ensures memory { step_allocates M.Machine (O.allocates ops.now) self.old.tree (edge_view self.old.root) at ≡ false → OnlyNotEnabled result }
+        ensures same { OnErr result (self.new ≡ self.old) }
+    {
+        match self.tree.make_row(alloc, ops, &self.root, at) {
+            Ok(()) => Ok(()),
+            Err(why) => Err(why),
+        }
+    }
+
+    /// Makes the Send over the root edge: moves the root's signal into the queue.
+    fn send_root<O: Ops<Item = M::Item>>(
+        &mut self,
+        alloc: Global,
+        ops: &O,
+        out: &mut SignalQueue<M::Item>,
+    ) -> Result<(), NotMade>
+        ensures sent { OnOk result (IsRootSent M.Machine (O.meaning ops.now) self.old out.old self.new out.new) }
+        ensures err { IfErr result (IsNotMade (send_enabled M.Machine (O.meaning ops.now) self.old out.old 0)) }
+        ensures memory { pop_allocates M.Machine (O.allocates ops.now) self.old.tree ≡ false → OnlyNotEnabled result }
+        ensures same { OnErr result ((self.new ≡ self.old) × (out.new ≡ out.old)) }
+    {
+        let Some(front) = self.tree.front() else {
+            return Err(NotMade::NotEnabled);
+        };
+        if out.len() >= CAPACITY || !self.root.can_carry(front) {
+            return Err(NotMade::NotEnabled);
+        }
+        let signal = match self.tree.pop(alloc, ops) {
+            Ok(Some(signal)) => signal,
+            Ok(None) => return Err(NotMade::NotEnabled),
+            Err(NoMemory) => return Err(NotMade::NoMemory),
+        };
+        out.push(signal);
+        self.root.carry(front);
+        Ok(())
+    }
+
+    /// Makes enabled moves of the tree, picks and rows of its root among them, until its root offers an item, sends that over the
+    /// root edge, and hands it out: the caller puts it into the queue behind the root edge, which has to have room, or takes it
+    /// from there at once. Each move takes one of the budget that is `left`.
+    ///
+    /// It answers nothing where the root edge carries no item now, where the budget is used up, and where the way to an item
+    /// isn't straight, as [`Node::fetch`] says. Then the moves made stand, nothing went over the root edge, and
+    /// [`Rooted::pump`] goes on from there.
+    #[inline]
+    pub fn fetch<O: Ops<Item = M::Item>>(
+        &mut self,
+        alloc: Global,
+        ops: &O,
+        left: &mut u32,
+    ) -> Option<M::Item>
+        ensures { IsFetched M.Machine (O.meaning ops.now) left.old self.old result left.new self.new }
+    {
+        'steps: while *left > 0 {
+            let before = *left;
+            if let Err(NoMemory) = self.count_step(alloc, ops, left) {
+                return None;
+            }
+            match self.fetch_item(alloc, ops, left) {
+                Some(item) => return Some(item),
+                None => {}
+            }
+            if *left == before {
+                return None;
+            }
+        }
+        None
+    }
+
+    /// Makes a pick or a row of the root, where one is enabled, and takes it from the budget that is `left`.
+    #[inline]
+    fn count_step<O: Ops<Item = M::Item>>(
+        &mut self,
+        alloc: Global,
+        ops: &O,
+        left: &mut u32,
+    ) -> Result<(), NoMemory>
+        requires { 0 < left.old }
+        ensures { IsFetched M.Machine (O.meaning ops.now) left.old self.old None left.new self.new }
+    {
+        match self.step(alloc, ops) {
+            Ok(true) => {
+                *left = *left - 1;
+                Ok(())
+            }
+            Ok(false) => Ok(()),
+            Err(NoMemory) => Err(NoMemory),
+        }
+    }
+
+    /// Makes a pick or a row of the root, where one is enabled, and answers whether it did.
+    #[inline]
+    fn step<O: Ops<Item = M::Item>>(&mut self, alloc: Global, ops: &O) -> Result<bool, NoMemory>
+        ensures made { IfOk result (λ b. b ≡ true → (queue : List (Signal M.Item)) → IsPumped M.Machine (O.meaning ops.now) 1 self.old queue self.new queue) }
+        ensures none { IfOk result (λ b. b ≡ false → self.new ≡ self.old) }
+        ensures same { OnErr result (self.new ≡ self.old) }
+    {
+        match self.tree.first_step(&self.root) {
+            Some(NodeMove::Pick(node, input)) => match self.pick(alloc, ops, node, input) {
+                Ok(()) => Ok(true),
+                Err(_) => Err(NoMemory),
+            },
+            Some(NodeMove::Row(node)) => match self.make_row(alloc, ops, node) {
+                Ok(()) => Ok(true),
+                Err(_) => Err(NoMemory),
+            },
+            _ => Ok(false),
+        }
+    }
+
+    /// As [`Rooted::fetch`], without picks and rows of the root.
+    #[inline]
+    fn fetch_item<O: Ops<Item = M::Item>>(
+        &mut self,
+        alloc: Global,
+        ops: &O,
+        left: &mut u32,
+    ) -> Option<M::Item>
+        ensures { IsFetched M.Machine (O.meaning ops.now) left.old self.old result left.new self.new }
+    {
+        if !self.root.can_carry(Front::Item) {
+            return None;
+        }
+        let asked = self.root.demand.asked;
+        let sent = self.root.demand.sent;
+        let item = match self.tree.fetch(alloc, ops, asked, sent, left) {
+            Some(item) => item,
+            None => return None,
+        };
+        if *left == 0 {
+            self.tree.put_back(Signal::Next(item));
+            return None;
+        }
+        *left -= 1;
+        self.root.carry(Front::Item);
+        Some(item)
+    }
+
+    /// Makes enabled moves, in an order of its own, until none is enabled (Idle) or `budget` moves were made (Budget); where
+    /// both hold it answers Idle. What goes over the root edge goes into the queue `out`; where that is full, a Send over the
+    /// root edge isn't enabled.
+    ///
+    /// # Errors
+    /// [`NoMemory`] where a growth was refused; the moves made before stand. It comes only where some node of the tree may
+    /// allocate: a `buffer` or a `distinct`, or a node that calls a function of the caller's whose [`Ops`] says that it may
+    /// (`allocates`).
+    pub fn pump<O: Ops<Item = M::Item>>(
+        &mut self,
+        alloc: Global,
+        ops: &O,
+        budget: u32,
+        out: &mut SignalQueue<M::Item>,
+    ) -> Result<Pumped, NoMemory>
+        ensures pumped { (n : ℕ) × HasEnded M.Machine (O.meaning ops.now) budget n self.new out.new result
+            × IsPumped M.Machine (O.meaning ops.now) n self.old out.old self.new out.new }
+
+        // Where no move may allocate, there is no want of memory.
+        ensures memory { pump_allocates M.Machine (O.allocates ops.now) self.old ≡ false → IsOk result }
+    {
+        let mut left = budget;
+        for round in 0..budget {
+            if left == 0 {
+                return Ok(self.spent(out));
+            }
+            let before = left;
+            left = match self.round(alloc, ops, before, out) {
+                Ok(left) => left,
+                Err(NoMemory) => return Err(NoMemory),
+            };
+            if left == before {
+                return Ok(Pumped::Idle(left));
+            }
+        }
+        Ok(self.spent(out))
+    }
+
+    /// Sends over the root edge, or where that isn't enabled makes the moves of the tree; where none of these is enabled
+    /// either, makes a pick or a row of the root. Answers how many of the budget are left. As many as before are left only
+    /// where no move is enabled.
+    fn round<O: Ops<Item = M::Item>>(
+        &mut self,
+        alloc: Global,
+        ops: &O,
+        budget: u32,
+        out: &mut SignalQueue<M::Item>,
+    ) -> Result<u32, NoMemory>
+        requires { 0 < budget }
+        ensures pumped { (n : ℕ) × Spent budget n result × IsPumped M.Machine (O.meaning ops.now) n self.old out.old self.new out.new }
+        ensures idle { IfOk result (λ left. left ≡ budget → IsQuiet M.Machine (O.meaning ops.now) self.new out.new) }
+        ensures memory { pump_allocates M.Machine (O.allocates ops.now) self.old ≡ false → IsOk result }
+    {
+        match self.send_root(alloc, ops, out) {
+            Ok(()) => Ok(budget - 1),
+            Err(NotMade::NoMemory) => Err(NoMemory),
+            Err(NotMade::NotEnabled) => match self.tree.drive(
+                alloc,
+                ops,
+                self.root.demand.asked,
+                self.root.demand.sent,
+                budget,
+            ) {
+                Ok(left) => {
+                    if left < budget {
+                        return Ok(left);
+                    }
+                    match self.step_root(alloc, ops, out) {
+                        Ok(true) => Ok(budget - 1),
+                        Ok(false) => Ok(budget),
+                        Err(NoMemory) => Err(NoMemory),
+                    }
+                }
+                Err(NoMemory) => Err(NoMemory),
+            },
+        }
+    }
+
+    /// Makes a pick or a row of the root, where one is enabled, and answers whether it did.
+    fn step_root<O: Ops<Item = M::Item>>(
+        &mut self,
+        alloc: Global,
+        ops: &O,
+        out: &mut SignalQueue<M::Item>,
+    ) -> Result<bool, NoMemory>
+        ensures pumped { IfOk result (λ b. b ≡ true → IsPumped M.Machine (O.meaning ops.now) 1 self.old out.old self.new out.new) }
+        ensures still { IfOk result (λ b. b ≡ false → IsStill M.Machine (station_of self.old.tree (edge_view self.old.root) 0)) }
+        ensures none { IfOk result (λ b. b ≡ false → (self.new ≡ self.old) × (out.new ≡ out.old)) }
+        ensures memory { pump_allocates M.Machine (O.allocates ops.now) self.old ≡ false → IsOk result }
+        ensures same { OnErr result ((self.new ≡ self.old) × (out.new ≡ out.old)) }
+    {
+        let Some(step) = self.tree.first_step(&self.root) else {
+            return Ok(false);
+        };
+        match self.make(alloc, ops, step, out) {
+            Ok(()) => Ok(true),
+            Err(_) => Err(NoMemory),
+        }
+    }
+
+    /// How driving the tree ends where the budget is used up.
+    fn spent(&self, out: &SignalQueue<M::Item>) -> Pumped
+        ensures { (m : Meaning M.Item) → IsSpent M.Machine m self.now out.now result }
+    {
+        match self.is_idle(out) {
+            true => Pumped::Idle(0),
+            false => Pumped::Budget,
+        }
+    }
+
+    /// Whether no move is enabled, by a look that names none. Where it answers no, some move may be or not.
+    fn is_at_rest(&self, out: &SignalQueue<M::Item>) -> bool
+        ensures { (m : Meaning M.Item) → result ≡ true → IsQuiet M.Machine m self.now out.now }
+    {
+        if self.can_send_root(out) {
+            return false;
+        }
+        if self
+            .tree
+            .is_idle(self.root.demand.asked, self.root.demand.sent)
+        {
+            return match self.tree.first_step(&self.root) {
+                Some(_) => false,
+                None => true,
+            };
+        }
+        false
+    }
+
+    /// Whether no move is enabled.
+    pub fn is_idle(&self, out: &SignalQueue<M::Item>) -> bool
+        ensures yes { (m : Meaning M.Item) → result ≡ true → IsQuiet M.Machine m self.now out.now }
+        ensures no { (m : Meaning M.Item) → result ≡ false → IsAwake M.Machine m self.now out.now }
+    {
+        // This look is the shorter one, and finds most idle trees so.
+        if self.is_at_rest(out) {
+            return true;
+        }
+        match self.first_enabled(out) {
+            Some(step) => false,
+            None => true,
+        }
+    }
+}
