@@ -324,6 +324,21 @@ impl<T: Drop> Hub<T> {
         }
     }
 
+    /// Whether the hub takes a signal like this in from its feed ([`Hub::take_in`]), memory aside: it has not ended, nothing
+    /// waits in its inbox, and for an item it has accepted fewer than 2^63 - 1 of them.
+    pub fn takes(&self, front: Front) -> bool
+        ensures { (s : Signal T) → front ≡ front_of s → result ≡ takes_signal self.now s }
+    {
+        if !ending::is_open(self.ending) || !self.inbox.is_empty() {
+            return false;
+        }
+        match front {
+            Front::Item => self.count < MOST_ACCEPTED,
+            Front::Completion => true,
+            Front::Failure(_) => true,
+        }
+    }
+
     fn take_in_item<O: Ops<Item = T>>(
         &mut self,
         alloc: Global,

@@ -1,13 +1,11 @@
--- A signal of a hub that is handed to one subscription after the other.
-use Rattle.std.proofs.Common.{◌≡◌, ℕ, zero, suc, ◌+◌, ◌-◌, ◌<◌, ◌≢◌, min, Bool, true, false, ◌&&◌, List, [], ◌∷◌, ◌++◌, length, take, drop, set, get_or, Option, Some, None, refl, ap, sym, ◌∙◌, subst, arith}
-use Rattle.std.proofs.lemmas.List.{at_drop_more, drop_more, drop-set-lt, take_more, take_more_set}
+-- A signal of a hub that is handed to one of a list after the other.
+use Rattle.std.proofs.Common.{◌≡◌, ℕ, zero, suc, ◌+◌, ◌-◌, ◌<◌, ◌≤◌, ◌≢◌, min, Bool, true, false, ◌&&◌, List, [], ◌∷◌, ◌++◌, length, take, drop, set, get_or, Option, Some, None, refl, ap, sym, ◌∙◌, subst, arith}
+use Rattle.std.proofs.lemmas.List.{at_drop_more, drop_more, drop-set-lt, take_all, take_more, take_more_set}
 use Rattle.rsx_types.specs.declared.signal.Signal.{Signal}
 use Rattle.rsx_tree.specs.Handed.{IsHandedOut, is_room_for, times}
 use Rattle.rsx_tree.proofs.Handing.{room_first, room_second}
-use Rattle.rsx_pipe.specs.Published as Part
-use Rattle.rsx_subscriber.specs.Published.{IsHanded}
-use Rattle.rsx_subscriber.specs.declared.subscription.Subscription.{Subscription}
-use Rattle.rsx_publishing.specs.Publishing.{readers, have_room, is_ready, AllHanded}
+use Rattle.rsx_publishing.specs.Lists.{AllChanged, every, total}
+use Rattle.rsx_publishing.specs.Publishing.{is_ready}
 
 -- ---- the same signal so many times
 
@@ -19,11 +17,11 @@ pub times_length : {A : Type 0} (n : ℕ) (a : A) → length (times n a) ≡ n
 times_length zero a = refl
 times_length (suc n) a = ap suc (times_length n a)
 
--- ---- one subscription more
+-- ---- one more of a list
 
-pub readers_more : {T : Type 0} (h : ℕ) (xs : List (Subscription T)) (x : Subscription T) → readers h (xs ++ x ∷ []) ≡ readers h xs + Part.readers h x.part
-readers_more h [] x = omega arith
-readers_more h (y ∷ ys) x = let k = readers_more h ys x in omega (arith, k)
+total_more : {X : Type 0} (f : X → ℕ) (xs : List X) (x : X) → total f (xs ++ x ∷ []) ≡ total f xs + f x
+total_more f [] x = omega arith
+total_more f (y ∷ ys) x = let k = total_more f ys x in omega (arith, k)
 
 and_all : (a b c : Bool) → a && (b && c) ≡ (a && b) && c
 and_all true b c = refl
@@ -33,41 +31,57 @@ and_true : (a : Bool) → a && true ≡ a
 and_true true = refl
 and_true false = refl
 
-pub room_more : {T : Type 0} (h : ℕ) (xs : List (Subscription T)) (x : Subscription T) → have_room h (xs ++ x ∷ []) ≡ have_room h xs && Part.has_room_for h x.part
-room_more h [] x = and_true (Part.has_room_for h x.part)
-room_more h (y ∷ ys) x = ap (λ b. Part.has_room_for h y.part && b) (room_more h ys x) ∙ and_all (Part.has_room_for h y.part) (have_room h ys) (Part.has_room_for h x.part)
+every_more : {X : Type 0} (f : X → Bool) (xs : List X) (x : X) → every f (xs ++ x ∷ []) ≡ every f xs && f x
+every_more f [] x = and_true (f x)
+every_more f (y ∷ ys) x = ap (λ b. f y && b) (every_more f ys x) ∙ and_all (f y) (every f ys) (f x)
 
-all_more : {T : Type 0} (h : ℕ) (s : Signal T) (xs ys : List (Subscription T)) (x y : Subscription T) → AllHanded h s xs ys → IsHanded h s x y → AllHanded h s (xs ++ x ∷ []) (ys ++ y ∷ [])
-all_more h s [] [] x y all one = (one, tt)
-all_more h s (u ∷ us) (v ∷ vs) x y all one = (all.0, all_more h s us vs x y all.1 one)
-all_more h s [] (v ∷ vs) x y all one = absurd all
-all_more h s (u ∷ us) [] x y all one = absurd all
+all_more : {X : Type 0} (P : X → X → Type 0) (xs ys : List X) (x y : X) → AllChanged P xs ys → P x y → AllChanged P (xs ++ x ∷ []) (ys ++ y ∷ [])
+all_more P [] [] x y all one = (one, tt)
+all_more P (u ∷ us) (v ∷ vs) x y all one = (all.0, all_more P us vs x y all.1 one)
+all_more P [] (v ∷ vs) x y all one = absurd all
+all_more P (u ∷ us) [] x y all one = absurd all
 
-handed_more : {T : Type 0} (h : ℕ) (xs ys : List (Subscription T)) (x y : Subscription T) (old mid new : List (Signal T)) →
-    IsHandedOut (readers h xs) (have_room h xs) old mid (λ s. AllHanded h s xs ys) → IsHandedOut (Part.readers h x.part) (Part.has_room_for h x.part) mid new (λ s. IsHanded h s x y) →
-    IsHandedOut (readers h (xs ++ x ∷ [])) (have_room h (xs ++ x ∷ [])) old new (λ s. AllHanded h s (xs ++ x ∷ []) (ys ++ y ∷ []))
-handed_more h xs ys x y old mid new before one = λ s k all room.
-    let rooms = ap (is_room_for s) (sym (room_more h xs x)) ∙ room in
-    let r = Part.readers h x.part in
-    let first = before s (k + r) (all ∙ ap (λ n. times n s) (ap (λ n. k + n) (readers_more h xs x) ∙ turned k (readers h xs) r)) (room_first s (have_room h xs) (Part.has_room_for h x.part) rooms) in
-    let second = one s k first.1 (room_second s (have_room h xs) (Part.has_room_for h x.part) rooms) in
-    (all_more h s xs ys x y first.0 second.0, second.1)
-  where
-    turned : (j a b : ℕ) → j + (a + b) ≡ j + b + a
-    turned j a b = omega arith
+turned : (j a b : ℕ) → j + (a + b) ≡ j + b + a
+turned j a b = omega arith
 
--- where it was handed to the first of the subscriptions, it is handed to the next
-pub handed_on : {T : Type 0} (h i : ℕ) (xs ys : List (Subscription T)) (d y : Subscription T) (old mid new : List (Signal T)) → length ys ≡ length xs → i < length xs → drop i ys ≡ drop i xs →
-    IsHandedOut (readers h (take i xs)) (have_room h (take i xs)) old mid (λ s. AllHanded h s (take i xs) (take i ys)) → IsHandedOut (Part.readers h (get_or ys i d).part) (Part.has_room_for h (get_or ys i d).part) mid new (λ s. IsHanded h s (get_or ys i d) y) →
-    IsHandedOut (readers h (take (i + 1) xs)) (have_room h (take (i + 1) xs)) old new (λ s. AllHanded h s (take (i + 1) xs) (take (i + 1) (set ys i y)))
-handed_on {T} h i xs ys d y old mid new count within rest before one =
+handed_more : {X T : Type 0} (f : X → ℕ) (g : X → Bool) (P : Signal T → X → X → Type 0) (xs ys : List X) (x y : X) (old mid new : List (Signal T)) →
+    IsHandedOut (total f xs) (every g xs) old mid (λ s. AllChanged (P s) xs ys) → IsHandedOut (f x) (g x) mid new (λ s. P s x y) →
+    IsHandedOut (total f (xs ++ x ∷ [])) (every g (xs ++ x ∷ [])) old new (λ s. AllChanged (P s) (xs ++ x ∷ []) (ys ++ y ∷ []))
+handed_more f g P xs ys x y old mid new before one = λ s k all room.
+    let rooms = ap (is_room_for s) (sym (every_more g xs x)) ∙ room in
+    let r = f x in
+    let first = before s (k + r) (all ∙ ap (λ n. times n s) (ap (λ n. k + n) (total_more f xs x) ∙ turned k (total f xs) r)) (room_first s (every g xs) (g x) rooms) in
+    let second = one s k first.1 (room_second s (every g xs) (g x) rooms) in
+    (all_more (P s) xs ys x y first.0 second.0, second.1)
+
+-- where it was handed to the first of them, it is handed to the next
+pub handed_on : {X T : Type 0} (f : X → ℕ) (g : X → Bool) (P : Signal T → X → X → Type 0) (i : ℕ) (xs ys : List X) (d y : X) (old mid new : List (Signal T)) → length ys ≡ length xs → i < length xs → drop i ys ≡ drop i xs →
+    IsHandedOut (total f (take i xs)) (every g (take i xs)) old mid (λ s. AllChanged (P s) (take i xs) (take i ys)) → IsHandedOut (f (get_or ys i d)) (g (get_or ys i d)) mid new (λ s. P s (get_or ys i d) y) →
+    IsHandedOut (total f (take (i + 1) xs)) (every g (take (i + 1) xs)) old new (λ s. AllChanged (P s) (take (i + 1) xs) (take (i + 1) (set ys i y)))
+handed_on {X} {T} f g P i xs ys d y old mid new count within rest before one =
     let within' : i < length ys = omega (arith, count, within) in
     let heads = sym (drop_more ys i d within') ∙ (rest ∙ drop_more xs i d within) in
     let here : get_or xs i d ≡ get_or ys i d = cc in
     let now : take (i + 1) xs ≡ take i xs ++ get_or ys i d ∷ [] = take_more xs i d within ∙ ap (λ z. take i xs ++ z ∷ []) here in
     let then : take (i + 1) (set ys i y) ≡ take i ys ++ y ∷ [] = take_more_set ys i y within' in
-    let F : List (Subscription T) → List (Subscription T) → Type 0 = λ us vs. IsHandedOut (readers h us) (have_room h us) old new (λ s. AllHanded h s us vs) in
-    subst (λ us. F us (take (i + 1) (set ys i y))) (sym now) (subst (F (take i xs ++ get_or ys i d ∷ [])) (sym then) (handed_more h (take i xs) (take i ys) (get_or ys i d) y old mid new before one))
+    let F : List X → List X → Type 0 = λ us vs. IsHandedOut (total f us) (every g us) old new (λ s. AllChanged (P s) us vs) in
+    subst (λ us. F us (take (i + 1) (set ys i y))) (sym now) (subst (F (take i xs ++ get_or ys i d ∷ [])) (sym then) (handed_more f g P (take i xs) (take i ys) (get_or ys i d) y old mid new before one))
+
+-- behind the last all of them got it
+pub handed_through : {X T : Type 0} (f : X → ℕ) (g : X → Bool) (P : Signal T → X → X → Type 0) (i : ℕ) (xs ys : List X) (old new : List (Signal T)) → length ys ≡ length xs → length xs ≤ i →
+    IsHandedOut (total f (take i xs)) (every g (take i xs)) old new (λ s. AllChanged (P s) (take i xs) (take i ys)) → IsHandedOut (total f xs) (every g xs) old new (λ s. AllChanged (P s) xs ys)
+handed_through {X} {T} f g P i xs ys old new count done h =
+    let x : take i xs ≡ xs = take_all i xs done in
+    let y : take i ys ≡ ys = take_all i ys (omega (arith, count, done)) in
+    let F : List X → List X → Type 0 = λ us vs. IsHandedOut (total f us) (every g us) old new (λ s. AllChanged (P s) us vs) in
+    subst (λ us. F us ys) x (subst (F (take i xs)) y h)
+
+-- first to those of one list, and then to those of another
+pub handed_then : {T : Type 0} (a b : ℕ) (c d : Bool) (P Q : Signal T → Type 0) (old mid new : List (Signal T)) → IsHandedOut a c old mid P → IsHandedOut b d mid new Q → IsHandedOut (a + b) (c && d) old new (λ s. P s × Q s)
+handed_then a b c d P Q old mid new first second = λ s k all room.
+    let one = first s (k + b) (all ∙ ap (λ n. times n s) (turned k a b)) (room_first s c d room) in
+    let two = second s k one.1 (room_second s c d room) in
+    ((one.0, two.0), two.1)
 
 -- behind the one that took it in all are as they were
 pub rest_on : {X : Type 0} (i : ℕ) (xs ys : List X) (x y : X) → length ys ≡ length xs → i < length xs → drop i ys ≡ drop i xs → drop (i + 1) (set ys i y) ≡ drop (i + 1) xs
@@ -104,11 +118,10 @@ times_on n xs ys a b pushed e same =
     let one : suc n ≡ n + 1 = omega arith in
     pushed ∙ (ap (λ zs. zs ++ b ∷ []) e ∙ (ap (λ y. times n a ++ y ∷ []) same ∙ (times_more n a ∙ ap (λ j. times j a) one)))
 
--- ---- the next of the subscriptions
+-- ---- the next of them
 
-pub readers_next : {T : Type 0} (h i : ℕ) (xs : List (Subscription T)) (x : Subscription T) → i < length xs → x ≡ get_or xs i x → readers h (drop i xs) ≡ Part.readers h x.part + readers h (drop (i + 1) xs)
-readers_next h i xs x within read = at_drop_more (readers h) xs i x within ∙ ap (λ y. Part.readers h y.part + readers h (drop (i + 1) xs)) (sym read)
+pub total_next : {X : Type 0} (f : X → ℕ) (i : ℕ) (xs : List X) (x : X) → i < length xs → x ≡ get_or xs i x → total f (drop i xs) ≡ f x + total f (drop (i + 1) xs)
+total_next f i xs x within read = at_drop_more (total f) xs i x within ∙ ap (λ y. f y + total f (drop (i + 1) xs)) (sym read)
 
-pub room_next : {T : Type 0} (h i : ℕ) (xs : List (Subscription T)) (x : Subscription T) (room : Bool) → i < length xs → x ≡ get_or xs i x → Part.has_room_for h x.part ≡ room → have_room h (drop i xs) ≡ room && have_room h (drop (i + 1) xs)
-room_next h i xs x room within read is =
-    at_drop_more (have_room h) xs i x within ∙ ap (λ b. b && have_room h (drop (i + 1) xs)) (ap (λ y. Part.has_room_for h y.part) (sym read) ∙ is)
+pub every_next : {X : Type 0} (f : X → Bool) (i : ℕ) (xs : List X) (x : X) (b : Bool) → i < length xs → x ≡ get_or xs i x → f x ≡ b → every f (drop i xs) ≡ b && every f (drop (i + 1) xs)
+every_next f i xs x b within read is = at_drop_more (every f) xs i x within ∙ ap (λ c. c && every f (drop (i + 1) xs)) (ap f (sym read) ∙ is)

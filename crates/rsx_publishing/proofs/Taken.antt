@@ -6,7 +6,7 @@ use Rattle.rsx_types.specs.declared.signal.Ending.{Ending}
 use Rattle.rsx_types.specs.declared.signal.Ending.TheVariants.{Open}
 use Rattle.rsx_types.specs.declared.signal.Signal.{Signal}
 use Rattle.rsx_types.specs.declared.signal.Signal.TheVariants.{Next, Complete, Error}
-use Rattle.rsx_hub.specs.Hub.{HubState, accepted, replayed, waiting}
+use Rattle.rsx_hub.specs.Hub.{HubState, accepted, replayed, taken_in, waiting}
 use Rattle.rsx_hub.specs.Member.{ending_taken}
 use Rattle.rsx_hub.specs.Waiting.{first_waiting}
 use Rattle.rsx_pipe.specs.Output.{with_signal}
@@ -30,8 +30,9 @@ not_ended q e false s w none = refl
 not_ended [] e true s w none = cc
 not_ended (x ∷ xs) e true s w none = let z = none refl in cc
 
-after : {T : Type 0} (h : HubState T) (s : Signal T) (v : Stream T) → IsTaken h v → IsTaken (accepted h (Some s)) (with_signal s v)
-after h (Next x) v k = record {
+-- one signal more was taken in
+pub taken_on : {T : Type 0} (h : HubState T) (s : Signal T) (v : Stream T) → IsTaken h v → IsTaken (taken_in h s) (with_signal s v)
+taken_on h (Next x) v k = record {
   taken = record {
     counted = ap (λ c. c + 1) k.taken.counted ∙ sym (length_push v.items x);
     kept = ap (λ l. keep_last (replayed h.kind) (l ++ x ∷ [])) k.taken.kept ∙ keep_more (replayed h.kind) v.items x;
@@ -39,8 +40,15 @@ after h (Next x) v k = record {
   ending = k.ending;
   closed = k.closed;
 }
-after h Complete v k = record { taken = record { counted = k.taken.counted; kept = k.taken.kept }; ending = refl; closed = λ z. refl }
-after h (Error c) v k = record { taken = record { counted = k.taken.counted; kept = k.taken.kept }; ending = refl; closed = λ z. refl }
+taken_on h Complete v k = record { taken = record { counted = k.taken.counted; kept = k.taken.kept }; ending = refl; closed = λ z. refl }
+taken_on h (Error c) v k = record { taken = record { counted = k.taken.counted; kept = k.taken.kept }; ending = refl; closed = λ z. refl }
+
+-- what waits in the inbox makes no difference
+without_first : {T : Type 0} (h : HubState T) (v : Stream T) → IsTaken h v → IsTaken (record h { inbox = drop 1 h.inbox }) v
+without_first h v k = record { taken = record { counted = k.taken.counted; kept = k.taken.kept }; ending = k.ending; closed = k.closed }
+
+after : {T : Type 0} (h : HubState T) (s : Signal T) (v : Stream T) → IsTaken h v → IsTaken (accepted h (Some s)) (with_signal s v)
+after h s v k = taken_on (record h { inbox = drop 1 h.inbox }) s v (without_first h v k)
 
 -- the hub had not ended, and took in the signal that waited behind what it took in before
 pub published_on : {T : Type 0} (h h' : HubState T) (s : Signal T) (v : Stream T) → waiting h ≡ Some s → h' ≡ accepted h (Some s) → IsTaken h v → (h.has_ended ≡ true → h.inbox ≡ []) → (v.ending ≡ Open) × IsTaken h' (with_signal s v)

@@ -1,5 +1,5 @@
--- Subscriptions to whose nodes a signal of a hub is handed.
-use Rattle.std.specs.Prelude.{◌≡◌, ⊤, ℕ, ◌+◌, Bool, true, false, ◌&&◌, List, [], ◌∷◌, Option, Some, None}
+-- Subscriptions and feeds to whose nodes a signal of a hub is handed.
+use Rattle.std.specs.Prelude.{◌≡◌, ℕ, ◌+◌, Bool, true, false, ◌&&◌, List, [], Option, Some, None}
 use Rattle.rsx_types.specs.Stream.{Stream}
 use Rattle.rsx_types.specs.declared.signal.Ending.TheVariants.{Open}
 use Rattle.rsx_types.specs.declared.signal.Signal.{Signal}
@@ -10,16 +10,29 @@ use Rattle.rsx_pipe.specs.Published as Part
 use Rattle.rsx_pipe.specs.Published.{IsTaken}
 use Rattle.rsx_subscriber.specs.Published.{IsHanded}
 use Rattle.rsx_subscriber.specs.declared.subscription.Subscription.{Subscription}
+use Rattle.rsx_publishing.specs.Feeds.{IsFeedHanded, has_room_at, reads_at}
+use Rattle.rsx_publishing.specs.Lists.{AllChanged, every, total}
+use Rattle.rsx_publishing.specs.declared.feed.Feed.{Feed}
 
 -- how many nodes of their parts read the hub with this number
 abbrev pub readers : {T : Type 0} → ℕ → List (Subscription T) → ℕ
-readers h [] = 0
-readers h (x ∷ xs) = Part.readers h x.part + readers h xs
+readers h xs = total (λ x. Part.readers h x.part) xs
+
+abbrev pub feed_readers : {T : Type 0} → ℕ → List (Feed T) → ℕ
+feed_readers h fs = total (reads_at h) fs
+
+abbrev pub all_readers : {T : Type 0} → ℕ → List (Feed T) → List (Subscription T) → ℕ
+all_readers h fs xs = feed_readers h fs + readers h xs
 
 -- whether all of them have room for an item
 abbrev pub have_room : {T : Type 0} → ℕ → List (Subscription T) → Bool
-have_room h [] = true
-have_room h (x ∷ xs) = Part.has_room_for h x.part && have_room h xs
+have_room h xs = every (λ x. Part.has_room_for h x.part) xs
+
+abbrev pub feeds_have_room : {T : Type 0} → ℕ → List (Feed T) → Bool
+feeds_have_room h fs = every (has_room_at h) fs
+
+abbrev pub all_have_room : {T : Type 0} → ℕ → List (Feed T) → List (Subscription T) → Bool
+all_have_room h fs xs = feeds_have_room h fs && have_room h xs
 
 -- a signal waits, and there is room for it
 abbrev pub is_ready : {T : Type 0} → Option (Signal T) → Bool → Bool
@@ -27,17 +40,22 @@ is_ready None room = false
 is_ready (Some s) room = is_room_for s room
 
 -- whether the hub with this number can take its next signal in: one waits, and for an item all nodes that read the hub have room
+abbrev pub can_accept_with_feeds : {T : Type 0} → ℕ → HubState T → List (Feed T) → List (Subscription T) → Bool
+can_accept_with_feeds h hub fs xs = is_ready (waiting hub) (all_have_room h fs xs)
+
+-- the same where there is no feed
 abbrev pub can_accept : {T : Type 0} → ℕ → HubState T → List (Subscription T) → Bool
 can_accept h hub xs = is_ready (waiting hub) (have_room h xs)
 
 -- each subscription's nodes that read the hub took the signal in, and nothing else changed
 abbrev pub AllHanded : {T : Type 0} → ℕ → Signal T → List (Subscription T) → List (Subscription T) → Type 0
-AllHanded h s [] [] = ⊤
-AllHanded h s (x ∷ xs) (y ∷ ys) = IsHanded h s x y × AllHanded h s xs ys
-AllHanded h s [] (y ∷ ys) = ⊥
-AllHanded h s (x ∷ xs) [] = ⊥
+AllHanded h s old new = AllChanged (IsHanded h s) old new
 
--- the signal that waited in front of the hub was taken in, and handed to all nodes that read it
+-- so did each feed's
+abbrev pub AllFeedsHanded : {T : Type 0} → ℕ → Signal T → List (Feed T) → List (Feed T) → Type 0
+AllFeedsHanded h s old new = AllChanged (IsFeedHanded h s) old new
+
+-- the signal that waited in front of the hub was taken in, and handed to all nodes of the subscriptions that read it
 pub record IsAccepted {T : Type 0} (h : ℕ) (hub hub' : HubState T) (old new : List (Subscription T)) : Type 0 where
   pub signal : Signal T
   pub waited : waiting hub ≡ Some signal
@@ -46,3 +64,7 @@ pub record IsAccepted {T : Type 0} (h : ℕ) (hub hub' : HubState T) (old new : 
   -- where a value is what the hub took in before, the hub had not ended, and that value with the signal is what it took in now
   pub published : (v : Stream T) → IsTaken hub v → (hub.has_ended ≡ true → hub.inbox ≡ []) →
       (v.ending ≡ Open) × IsTaken hub' (with_signal signal v)
+
+-- and to all nodes of the feeds that do
+abbrev pub IsAcceptedByAll : {T : Type 0} → ℕ → HubState T → HubState T → List (Feed T) → List (Feed T) → List (Subscription T) → List (Subscription T) → Type 0
+IsAcceptedByAll h hub hub' fs fs' old new = (k : IsAccepted h hub hub' old new) × AllFeedsHanded h k.signal fs fs'

@@ -4,13 +4,13 @@ use Rattle.rsx_demand.specs.declared.Demand.{Demand}
 use Rattle.rsx_model.specs.Check.{refusal}
 use Rattle.rsx_model.specs.declared.expr.Expr.{Expr}
 use Rattle.rsx_hub.specs.Hub.{HubState}
-use Rattle.rsx_node.specs.Built.{fresh_edge, fresh_edges, new_joins}
+use Rattle.rsx_pipe.specs.Built.{fresh_edge, fresh_edges, new_joins}
 use Rattle.rsx_pipe.specs.Published.{AreTaken}
 use Rattle.rsx_tree.specs.Edges.{edge_view}
 use Rattle.rsx_pipe.specs.Part.{PartStands, all_edges}
 use Rattle.rsx_tree.specs.declared.edge.EdgeState.TheVariants.{Live, Closed}
 use Rattle.rsx_subscriber.proofs.Moves.{live_test}
-use Rattle.rsx_node.proofs.Rows.{length_fresh}
+use Rattle.rsx_pipe.proofs.Rows.{length_fresh}
 use Rattle.rsx_subscriber.proofs.Values.{new_joins_count, taken_length}
 use Rattle.rsx_subscriber.specs.Begun.{IsFresh}
 use Rattle.rsx_subscriber.specs.Past.{subscribed, IsLive}

@@ -1,10 +1,8 @@
 -- What a request and a cancel change.
-use Rattle.std.proofs.Common.{◌≡◌, ◌≤◌, ℕ, zero, suc, ℤ, pos, negsuc, true, false, nat_lt, int_lt, unsigned_abs, refl, ap, sym, ◌∙◌, subst, arith}
-use Rattle.std.proofs.Math.Bridge.{le_prop}
+use Rattle.std.proofs.Common.{◌≡◌, ℕ, zero, suc, ℤ, pos, negsuc, true, false, nat_lt, int_lt, unsigned_abs, refl, ap, sym, ◌∙◌, subst, arith}
 use Rattle.std.proofs.lemmas.Bool.Decides.{nat_tests}
 use mathlib.Core.HLevel.{⊥_prop, Π_prop}
-use Rattle.rsx_demand.specs.declared.Demand.{Demand}
-use Rattle.rsx_demand.specs.declared.TheConstants.{UNBOUNDED}
+use Rattle.rsx_rooted.proofs.Sends.{same_demand}
 use Rattle.rsx_tree.specs.Edges.{EdgeView}
 use Rattle.rsx_subscription.specs.declared.State.{State}
 use Rattle.rsx_subscription.specs.declared.State.TheVariants.{Fresh, Open as OpenState, Cancelled as CancelledState, Failed as FailedState}
@@ -17,19 +15,6 @@ use Rattle.rsx_subscriber.proofs.Moves.{IsSame}
 use Rattle.rsx_subscriber.proofs.Standings.{standing_open}
 
 -- ---- one that is as it was
-
--- that a demand is covered and bounded are facts: how they are known makes no difference
-same_demand : (a b : Demand) → b.asked ≡ a.asked → b.sent ≡ a.sent → b ≡ a
-same_demand a b x y =
-    let P : ℕ → Type 0 = λ n. (s : ℕ) (c : s ≤ n) (l : n ≤ UNBOUNDED) → s ≡ a.sent → demand n s c l ≡ a in
-    let Q : ℕ → Type 0 = λ s. (c : s ≤ a.asked) (l : a.asked ≤ UNBOUNDED) → demand a.asked s c l ≡ a in
-    subst P (sym x) (λ s c l e. subst Q (sym e) known c l) b.sent b.covered b.bounded y
-  where
-    demand : (n s : ℕ) → s ≤ n → n ≤ UNBOUNDED → Demand
-    demand n s c l = record { asked = n; sent = s; covered = c; bounded = l }
-
-    known : (c : a.sent ≤ a.asked) (l : a.asked ≤ UNBOUNDED) → record { asked = a.asked; sent = a.sent; covered = c; bounded = l } ≡ a
-    known c l = ap (λ x. record { asked = a.asked; sent = a.sent; covered = x; bounded = l }) (le_prop c a.covered) ∙ ap (λ x. record { asked = a.asked; sent = a.sent; covered = a.covered; bounded = x }) (le_prop l a.bounded)
 
 pub same_sub : {T : Type 0} (old new : Subscription T) → IsSame old new → new ≡ old
 same_sub {T} old new k =

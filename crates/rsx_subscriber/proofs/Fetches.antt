@@ -6,9 +6,9 @@ use Rattle.rsx_types.specs.declared.signal.Signal.{Signal}
 use Rattle.rsx_types.specs.declared.signal.Signal.TheVariants.{Next}
 use Rattle.rsx_pipe.specs.Fetched.{IsFetched}
 use Rattle.rsx_pipe.specs.Part.{has_room}
-use Rattle.rsx_pipe.specs.declared.part.Part.{Part as AnyPart}
-use Rattle.rsx_pipe.specs.declared.part.Pumped.{Pumped as Rest}
-use Rattle.rsx_pipe.specs.declared.part.Pumped.TheVariants.{Idle as Rests, Budget as Wakes}
+use Rattle.rsx_pipe.specs.Part.{Part as AnyPart}
+use Rattle.rsx_rooted.specs.declared.rooted.Pumped.{Pumped as Rest}
+use Rattle.rsx_rooted.specs.declared.rooted.Pumped.TheVariants.{Idle as Rests, Budget as Wakes}
 use Rattle.rsx_subscription.specs.Table.{answer, cell_of, state_after, asked_after, sent_after}
 use Rattle.rsx_subscription.specs.declared.Input.TheVariants.{Next as Item}
 use Rattle.rsx_subscription.specs.declared.State.TheVariants.{Fresh}

@@ -22,9 +22,9 @@ use Rattle.rsx_pipe.specs.Tree.{IsAllClosed, edges}
 use Rattle.rsx_tree.specs.declared.edge.EdgeState.TheVariants.{Live, Closed}
 use Rattle.rsx_tree.specs.declared.look.NodeMove.{NodeMove}
 use Rattle.rsx_tree.specs.declared.look.NodeMove.TheVariants.{Ask as NodeAsk, Send as NodeSend, Pick as NodePick, Row as NodeRow}
-use Rattle.rsx_pipe.specs.declared.part.Part.{Part as AnyPart}
-use Rattle.rsx_pipe.specs.declared.part.Pumped.{Pumped as Rest}
-use Rattle.rsx_pipe.specs.declared.part.Pumped.TheVariants.{Idle as Rests, Budget as Wakes}
+use Rattle.rsx_pipe.specs.Part.{Part as AnyPart}
+use Rattle.rsx_rooted.specs.declared.rooted.Pumped.{Pumped as Rest}
+use Rattle.rsx_rooted.specs.declared.rooted.Pumped.TheVariants.{Idle as Rests, Budget as Wakes}
 use Rattle.rsx_pipe.proofs.Parts.{moved_alive}
 use Rattle.rsx_pipe.proofs.Signals.{IsOrderly-more, IsUnended-more, IsUnended-last, IsUnended-front, items_in-append, unended_before}
 use Rattle.rsx_subscription.specs.Table.{answer, cell_of, state_after as next_state, asked_after, sent_after}

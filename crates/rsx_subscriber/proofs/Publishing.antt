@@ -8,7 +8,7 @@ use Rattle.rsx_pipe.specs.Published as Part
 use Rattle.rsx_pipe.specs.Tree.{edges}
 use Rattle.rsx_tree.specs.Tree.{NoneLive}
 use Rattle.rsx_tree.specs.Edges.{EdgeView}
-use Rattle.rsx_pipe.specs.declared.part.Part.{Part as AnyPart}
+use Rattle.rsx_pipe.specs.Part.{Part as AnyPart}
 use Rattle.rsx_subscription.specs.declared.State.TheVariants.{Fresh}
 use Rattle.rsx_subscriber.specs.declared.subscription.Subscription.{Subscription}
 use Rattle.rsx_subscriber.specs.Published.{IsHanded}

@@ -1,5 +1,5 @@
 -- The value of an expression under what its part recorded: it is there, and notes and joins fit it.
-use Rattle.std.proofs.Common.{◌≡◌, ℕ, ℤ, zero, suc, ◌+◌, ◌-◌, ◌<◌, ◌≤◌, Bool, true, false, nat_eq, nat_le, nat_lt, if◌then◌else◌, ◌&&◌, Vec, Global, Box, List, [], ◌∷◌, ◌++◌, length, length-append, map, Some, None, option_map, refl, ap, sym, ◌∙◌, arith}
+use Rattle.std.proofs.Common.{◌≡◌, ℕ, zero, suc, ◌+◌, ◌-◌, ◌<◌, ◌≤◌, Bool, true, false, nat_eq, nat_le, nat_lt, if◌then◌else◌, ◌&&◌, List, [], ◌∷◌, ◌++◌, length, length-append, map, Some, None, option_map, refl, ap, sym, ◌∙◌, arith}
 use Rattle.std.proofs.lemmas.Bool.Decides.{nat_tests}
 use Rattle.std.proofs.lemmas.List.{length-map}
 use Rattle.rsx_model.specs.declared.check.TheConstants.{MOST_DEPTH, MOST_NODES}
@@ -13,8 +13,8 @@ use Rattle.rsx_model.specs.declared.expr.Expr.TheOpen as layer
 use Rattle.rsx_model.specs.declared.expr.Expr.TheViews.{out-Expr}
 use Rattle.rsx_pipe.proofs.Trees.{notes_then-unchosen, unchosen_notes, unchosen_tree}
 use Rattle.rsx_hub.specs.Hub.{HubState}
-use Rattle.rsx_node.specs.Built.{joins_now, new_joins}
-use Rattle.rsx_node.proofs.Rows.{length_joins}
+use Rattle.rsx_pipe.specs.Built.{joins_now, new_joins}
+use Rattle.rsx_pipe.proofs.Rows.{length_joins}
 use Rattle.rsx_tree.specs.Edges.{edge_view, EdgeView, asked_up_to, changed_at, closed_if, closed_view, passed}
 use Rattle.rsx_pipe.specs.Output.{values_then}
 use Rattle.rsx_pipe.specs.Published.{AreTaken}
@@ -27,19 +27,17 @@ use Rattle.rsx_tree.specs.declared.inputs.Inputs.{Inputs, End, More'}
 use Rattle.rsx_node.specs.Any.{any_machine}
 use Rattle.rsx_node.specs.Laws.{any_settles}
 use Rattle.rsx_node.specs.declared.any_node.AnyNode.{AnyNode}
-use Rattle.rsx_pipe.specs.declared.part.Part.{Part as AnyPart}
+use Rattle.rsx_pipe.specs.Part.{Part as AnyPart}
 use Rattle.rsx_sources.specs.Machine.{incoming_of}
 use Rattle.rsx_sources.specs.declared.machine.Front.{Front}
 use Rattle.rsx_types.specs.Meaning.{Meaning}
 use Rattle.rsx_types.specs.Notes.{unchosen}
 use Rattle.rsx_types.specs.Stream.{Stream, signals, signals_then}
-use Rattle.rsx_types.specs.declared.names.HubId.{HubId}
 use Rattle.rsx_types.specs.declared.names.Move.TheVariants.{Ask, Send}
 use Rattle.rsx_tree.specs.Chosen as Chosen
 use Rattle.rsx_tree.specs.declared.look.NodeMove.{NodeMove}
 use Rattle.rsx_tree.specs.declared.look.NodeMove.TheVariants.{Ask, Send, Pick, Row}
 use Rattle.rsx_types.specs.declared.note.Note.{Note}
-use Rattle.rsx_types.specs.declared.stage.Stage.{Stage}
 use Rattle.rsx_types.specs.declared.signal.Signal.{Signal}
 use Rattle.rsx_types.specs.declared.signal.Signal.TheVariants.{Next, Complete, Error}
 use Rattle.rsx_subscriber.specs.Past.{IsUnended, IsOrderly}
@@ -110,6 +108,7 @@ own_more n k more (layer.Concat v) h = h
 own_more n k more (layer.Merge p v) h = h
 own_more n k more (layer.Zip p v) h = h
 own_more n k more (layer.Latest p v) h = h
+own_more n k more (layer.On w p b) h = h
 
 all_faultless : {T : Type 0} (n k : ℕ) (es : List (Expr T)) → Each (λ e. first_fault n e ≡ None → first_fault k e ≡ None) es → first_of (map (first_fault n) es) ≡ None → first_of (map (first_fault k) es) ≡ None
 all_faultless n k [] each h = refl

@@ -3,7 +3,7 @@ use Rattle.std.specs.Prelude.{◌≡◌, true, [], ◌∷◌}
 use Rattle.rsx_model.specs.declared.expr.Expr.{Expr}
 use Rattle.rsx_subscription.specs.declared.State.TheVariants.{Open}
 use Rattle.rsx_subscriber.specs.declared.subscription.Subscription.{Subscription}
-use Rattle.rsx_node.specs.Built.{fresh_edge, fresh_edges}
+use Rattle.rsx_pipe.specs.Built.{fresh_edge, fresh_edges}
 use Rattle.rsx_pipe.specs.Part.{all_edges}
 
 -- nothing was asked and nothing sent or delivered, and what a node that has put out its ending closes is closed

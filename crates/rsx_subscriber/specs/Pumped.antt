@@ -10,8 +10,8 @@ pub use Rattle.rsx_tree.specs.Driven.{Spent}
 use Rattle.rsx_pipe.specs.Part.{HasEnded}
 use Rattle.rsx_pipe.specs.Part as Part
 use Rattle.rsx_pipe.specs.Tree.{IsAlike}
-use Rattle.rsx_pipe.specs.declared.part.Pumped.{Pumped as Rest}
-use Rattle.rsx_pipe.specs.declared.part.Pumped.TheVariants.{Idle as Rests, Budget as Wakes}
+use Rattle.rsx_rooted.specs.declared.rooted.Pumped.{Pumped as Rest}
+use Rattle.rsx_rooted.specs.declared.rooted.Pumped.TheVariants.{Idle as Rests, Budget as Wakes}
 use Rattle.rsx_subscriber.specs.declared.subscription.Subscription.{Subscription}
 use Rattle.rsx_subscriber.specs.Delivered.{Delivered}
 use Rattle.rsx_subscriber.specs.Past.{Past, given}

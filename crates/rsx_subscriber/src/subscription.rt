@@ -44,7 +44,7 @@ impl<T: Drop> Subscription<T> {
     ghost use Rattle.rsx_types.specs.Stream.{Stream};
     ghost use Rattle.rsx_sources.specs.Steps.{IsNotMade};
     ghost use Rattle.rsx_model.specs.Check.{refusal};
-    ghost use Rattle.rsx_node.specs.Built.{new_joins};
+    ghost use Rattle.rsx_pipe.specs.Built.{new_joins};
     ghost use Rattle.rsx_tree.specs.Edges.{closed_view};
     ghost use Rattle.rsx_pipe.specs.Published.{AreTaken};
     ghost use Rattle.rsx_tree.specs.Refusals.{OnlyNotEnabled};

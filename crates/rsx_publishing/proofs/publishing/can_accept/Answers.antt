@@ -7,11 +7,11 @@ use Rattle.rsx_publishing.proofs.publishing.can_accept.Goals as goal
 pub returns-in-None : goal.returns-in-None
 returns-in-None g c = none_ready (waiting c.args.hub.now) (have_room c.args.number c.args.subscriptions.now) (sym c.front.ensures ∙ c.in-None.is)
 
-pub returns-in-Some-Item : goal.returns-in-Some-Item
-returns-in-Some-Item g c = c.have_room.ensures ∙ item_ready (waiting c.args.hub.now) (have_room c.args.number c.args.subscriptions.now) (sym c.in-Some-Item.ensures ∙ ap Some c.in-Some-Item.field-0-is)
+pub returns-in-Item : goal.returns-in-Item
+returns-in-Item g c = c.have_room.ensures ∙ item_ready (waiting c.args.hub.now) (have_room c.args.number c.args.subscriptions.now) (sym c.front.ensures ∙ (c.in-Some.is ∙ ap Some c.in-Item.is))
 
-pub returns-in-Some-Completion : goal.returns-in-Some-Completion
-returns-in-Some-Completion g c = completion_ready (waiting c.args.hub.now) (have_room c.args.number c.args.subscriptions.now) (sym c.in-Some-Completion.ensures ∙ ap Some c.in-Some-Completion.field-0-is)
+pub returns-in-Completion : goal.returns-in-Completion
+returns-in-Completion g c = completion_ready (waiting c.args.hub.now) (have_room c.args.number c.args.subscriptions.now) (sym c.front.ensures ∙ (c.in-Some.is ∙ ap Some c.in-Completion.is))
 
-pub returns-in-Some-Failure : goal.returns-in-Some-Failure
-returns-in-Some-Failure g c = failure_ready (waiting c.args.hub.now) (have_room c.args.number c.args.subscriptions.now) _ (sym c.in-Some-Failure.ensures ∙ ap Some c.in-Some-Failure.field-0-is)
+pub returns-in-Failure : goal.returns-in-Failure
+returns-in-Failure g c = failure_ready (waiting c.args.hub.now) (have_room c.args.number c.args.subscriptions.now) c.in-Failure.field-0 (sym c.front.ensures ∙ (c.in-Some.is ∙ ap Some c.in-Failure.is))
