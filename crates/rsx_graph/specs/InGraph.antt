@@ -1,22 +1,20 @@
 -- The words of contracts on a whole graph: those of its subscriptions, under what the functions that it holds mean.
-use Rattle.std.specs.Prelude.{◌≡◌, ℕ, Bool, List, [], ◌++◌, length, map, Option, Result}
-use Rattle.rsx_pipe.specs.declared.part.Pumped.{Pumped as Rest}
+use Rattle.std.specs.Prelude.{ℕ, Bool, List, length, map, Option, Result}
 use Rattle.rsx_subscriber.specs.Delivered.{Delivered}
 use Rattle.rsx_types.specs.declared.names.Move.{Move}
 use Rattle.rsx_types.specs.declared.names.SubId.{SubId}
-use Rattle.rsx_types.specs.declared.names.Tree.{Tree}
 use Rattle.rsx_types.specs.declared.ops.Ops.{Ghosts as Ops}
 use Rattle.rsx_types.specs.declared.signal.Signal.{Signal}
-use Rattle.rsx_graph.specs.Done.{IsDone, AllDone}
-use Rattle.rsx_graph.specs.History.{History, IsMakeRefusal, IsTreeMoveRefusal}
-use Rattle.rsx_graph.specs.Pumped.{AllPumped, AreMade, HasEnded, HasRestedAt, HasTakenAt, HaveRested, HaveTaken, Made, delivered_by}
-use Rattle.rsx_graph.specs.Stands.{GraphState, StandsFor, IsMade, enabled_in_tree, allocates_in_tree}
-use Rattle.rsx_graph.specs.Moves.{IsMoved, drives_allocate, is_enabled, may_allocate}
+use Rattle.rsx_history.specs.Done.{IsDone, AllDone}
+use Rattle.rsx_history.specs.History.{History, IsMakeRefusal}
+use Rattle.rsx_driving.specs.Rows.{HasPumped as HasRowsPumped}
+use Rattle.rsx_history.specs.Stands.{GraphState, StandsFor}
+use Rattle.rsx_history.specs.Moves.{IsMoved, drives_allocate, is_enabled, may_allocate}
 use Rattle.rsx_graph.specs.declared.graph.Graph.{Graph}
-use Rattle.rsx_graph.specs.declared.refusal.Refusal.{Refusal}
-use Rattle.rsx_graph.specs.declared.step.Answer.{Answer}
-use Rattle.rsx_graph.specs.declared.step.Pumped.{Pumped}
-use Rattle.rsx_graph.specs.declared.step.Step.{Step}
+use Rattle.rsx_history.specs.declared.refusal.Refusal.{Refusal}
+use Rattle.rsx_history.specs.declared.step.Answer.{Answer}
+use Rattle.rsx_history.specs.declared.step.Pumped.{Pumped}
+use Rattle.rsx_history.specs.declared.step.Step.{Step}
 
 -- ---- what a graph stands for
 
@@ -50,22 +48,6 @@ IsMadeIn {O} {T} {b} mv old new o = IsMoved (b.meaning old.ops) mv (state_of old
 abbrev pub IsRefusedIn : {O T : Type 0} {b : Ops O T} → Move → Graph O T b → Refusal → Type 0
 IsRefusedIn mv graph r = IsMakeRefusal (length graph.hubs.items) (length graph.subscriptions.items) (enabled_in graph mv) mv r
 
--- the same of a move in a tree: whether it is enabled
-abbrev pub enabled_inside : {O T : Type 0} {b : Ops O T} → Graph O T b → Tree → Move → Bool
-enabled_inside {O} {T} {b} graph tree mv = enabled_in_tree (b.meaning graph.ops) graph.subscriptions.items tree mv
-
--- whether it may allocate
-abbrev pub allocates_inside : {O T : Type 0} {b : Ops O T} → Graph O T b → Tree → Move → Bool
-allocates_inside {O} {T} {b} graph tree mv = allocates_in_tree (b.allocates graph.ops) graph.subscriptions.items tree mv
-
--- what it changes
-abbrev pub IsMadeInside : {O T : Type 0} {b : Ops O T} → Tree → Move → Graph O T b → Graph O T b → Option (SubId × Signal T) → Type 0
-IsMadeInside {O} {T} {b} tree mv old new o = IsMade (b.meaning old.ops) mv tree old.subscriptions.items new.subscriptions.items o
-
--- why it is refused
-abbrev pub IsRefusedInside : {O T : Type 0} {b : Ops O T} → Tree → Move → Graph O T b → Refusal → Type 0
-IsRefusedInside tree mv graph r = IsTreeMoveRefusal (length graph.subscriptions.items) (enabled_inside graph tree mv) tree r
-
 -- ---- runs of moves
 
 -- whether driving a graph may allocate
@@ -76,33 +58,7 @@ drives_allocate_in {O} {T} {b} graph = drives_allocate (b.allocates graph.ops) (
 -- their number and the budget, what they delivered was put behind what stood there, and the graph stands for what has happened
 abbrev pub HasPumped : {O T : Type 0} {b : Ops O T} → ℕ → Graph O T b → Delivered T → Result Pumped Refusal → Graph O T b → Delivered T → Type 0
 HasPumped {O} {T} {b} budget old before result new after =
-    (moves : List (Made T)) × HasEnded (b.meaning old.ops) budget (length moves) (state_of new) result
-    × AreMade (b.meaning old.ops) (state_of old) moves (state_of new)
-    × (after.signals ≡ before.signals ++ delivered_by moves)
-
--- the moves of subscriptions alone
-abbrev pub HasDriven : {O T : Type 0} {b : Ops O T} → ℕ → Graph O T b → Delivered T → Result Rest Refusal → Graph O T b → Delivered T → Type 0
-HasDriven {O} {T} {b} budget old before result new after =
-    (n : ℕ) × HaveRested (b.meaning old.ops) budget n new.subscriptions.items result
-    × AllPumped (b.meaning old.ops) n old.subscriptions.items before.signals new.subscriptions.items after.signals
-
--- those of the subscription with this number
-abbrev pub HasPumpedAt : {O T : Type 0} {b : Ops O T} → ℕ → ℕ → Graph O T b → Delivered T → Result Rest Refusal → Graph O T b → Delivered T → Type 0
-HasPumpedAt {O} {T} {b} i budget old before result new after =
-    (n : ℕ) × HasRestedAt (b.meaning old.ops) budget n old.subscriptions.items i new.subscriptions.items result
-    × AllPumped (b.meaning old.ops) n old.subscriptions.items before.signals new.subscriptions.items after.signals
-
--- the moves of hubs alone, which deliver nothing
-abbrev pub HasAcceptedAll : {O T : Type 0} {b : Ops O T} → ℕ → Graph O T b → Result Rest Refusal → Graph O T b → Type 0
-HasAcceptedAll {O} {T} {b} budget old result new =
-    (moves : List (Made T)) × HaveTaken (b.meaning old.ops) budget (length moves) (state_of new) result
-    × AreMade (b.meaning old.ops) (state_of old) moves (state_of new) × (delivered_by moves ≡ [])
-
--- those of the hub with this number
-abbrev pub HasAcceptedAt : {O T : Type 0} {b : Ops O T} → ℕ → ℕ → Graph O T b → Result Rest Refusal → Graph O T b → Type 0
-HasAcceptedAt {O} {T} {b} i budget old result new =
-    (moves : List (Made T)) × HasTakenAt i budget (length moves) (state_of new) result
-    × AreMade (b.meaning old.ops) (state_of old) moves (state_of new) × (delivered_by moves ≡ [])
+    HasRowsPumped (b.meaning old.ops) budget (state_of old) before result (state_of new) after
 
 -- ---- steps
 

@@ -1,13 +1,13 @@
 -- Definitions that contracts cite.
-pub mod Begun
-pub mod Done
-pub mod Headline
-pub mod History
-pub mod Hubs
+pub use Rattle.rsx_history.specs.Begun
+pub use Rattle.rsx_history.specs.Done
+pub use Rattle.rsx_history.specs.Headline
+pub use Rattle.rsx_history.specs.History
+pub use Rattle.rsx_history.specs.Hubs
 pub mod InGraph
-pub mod Moves
-pub mod Names
-pub mod Pumped
-pub mod Replayed
-pub mod Served
-pub mod Stands
+pub use Rattle.rsx_history.specs.Moves
+pub use Rattle.rsx_history.specs.Names
+pub use Rattle.rsx_history.specs.Pumped
+pub use Rattle.rsx_history.specs.Replayed
+pub use Rattle.rsx_history.specs.Served
+pub use Rattle.rsx_history.specs.Stands

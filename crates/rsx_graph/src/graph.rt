@@ -2,30 +2,24 @@
 
 ghost use Rattle.std.specs.Prelude.{◌≡◌, ◌≢◌, ◌<◌, ◌≤◌, ◌++◌, ◌∷◌, [], length, OnOk, OnErr, IfOk, IfErr, IsOk, None, Some, true, false};
 ghost use Rattle.rsx_subscriber.specs.Delivered.{IsFull};
-ghost use Rattle.rsx_subscriber.specs.Past.{given, cancelled, requested};
-ghost use Rattle.rsx_subscriber.specs.Stands.{IsInside, IsMadeAnswer};
-ghost use Rattle.rsx_graph.specs.History.{no_history, with_subscriber, with_past, with_made, extended, all_extended, IsSubscribeId, IsSubscribeRefusal, Belongs, AllBelong, HasAsked, HasTreeJoins, state_at, IsLookRefusal, IsTreeRefusal, tree_of};
-ghost use Rattle.rsx_graph.specs.Stands.{StandsFor, IsAsideSame, nothing, IsRequestedAt, IsCancelledAt, IsOwed, HasNotes, HasNotesAt, pump_allocates};
-ghost use Rattle.rsx_graph.specs.Begun.{IsSubscribed, HaveJoined, AreTooMany};
-ghost use Rattle.rsx_graph.specs.Served.{IsAllServed};
-ghost use Rattle.rsx_graph.specs.declared.graph.TheConstants.{MOST_SUBSCRIPTIONS, MOST_HUBS};
+ghost use Rattle.rsx_subscriber.specs.Past.{cancelled, requested};
+ghost use Rattle.rsx_subscriber.specs.Stands.{IsMadeAnswer};
+ghost use Rattle.rsx_history.specs.History.{no_history, with_subscriber, with_past, with_made, extended, all_extended, IsSubscribeId, IsSubscribeRefusal, Belongs, AllBelong, HasAsked, HasTreeJoins, state_at, IsLookRefusal, IsTreeRefusal};
+ghost use Rattle.rsx_history.specs.Stands.{StandsFor, IsAsideSame, nothing, IsRequestedAt, IsCancelledAt, IsOwed, HasNotes, HasNotesAt};
+ghost use Rattle.rsx_history.specs.Begun.{IsSubscribed, HaveJoined, AreTooMany};
+ghost use Rattle.rsx_history.specs.Served.{IsAllServed};
+ghost use Rattle.rsx_history.specs.declared.TheConstants.{MOST_SUBSCRIPTIONS, MOST_HUBS};
 
-use crate::joining::{copied, count_in, have_places, inboxes_of};
-use crate::refusal::Refusal;
-use crate::step::{Answer, Pumped, Step};
+use crate::joining::copied;
+use rsx_driving::{make, pump};
+use rsx_history::{Answer, Pumped, Refusal, Step};
+pub use rsx_history::{MOST_HUBS, MOST_SUBSCRIPTIONS};
 use rsx_hub::Hub;
+use rsx_leaves::{count_in, have_places, inboxes_of};
 use rsx_model::{Expr, check_expr};
-use rsx_pipe::Pumped as Driven;
-use rsx_sources::NotMade;
 use rsx_subscriber::{Deliveries, Subscription, SubscriptionState};
-use rsx_types::{Ending, Move, NoMemory, NodeId, Note, Ops, Signal, StreamValue, SubId, Tree};
+use rsx_types::{Ending, Move, NoMemory, Note, Ops, Signal, StreamValue, SubId, Tree};
 use std::alloc::Global;
-
-/// The most subscriptions of a graph.
-pub const MOST_SUBSCRIPTIONS: usize = 256;
-
-/// The most hubs of a graph.
-pub const MOST_HUBS: usize = 64;
 
 /// Hubs, and subscriptions to expressions, driven by edits and moves.
 #[derive(Drop)]
@@ -43,7 +37,7 @@ pub struct Graph<O: Ops> {
 }
 
 impl<O: Ops> Graph<O> {
-    ghost use Rattle.rsx_graph.specs.InGraph.{state_of, IfStandsFor, StandsAfter, enabled_in, allocates_in, IsMadeIn, IsRefusedIn, enabled_inside, allocates_inside, IsMadeInside, IsRefusedInside, drives_allocate_in, HasPumped, HasDriven, HasPumpedAt, IsDoneIn, AllDoneIn};
+    ghost use Rattle.rsx_graph.specs.InGraph.{state_of, IfStandsFor, StandsAfter, enabled_in, allocates_in, IsMadeIn, IsRefusedIn, drives_allocate_in, HasPumped, IsDoneIn, AllDoneIn};
 
     /// A graph with no hub and no subscription. It takes no memory so far, and is never refused.
     pub fn new(alloc: Global, ops: O) -> Result<Graph<O>, Refusal>
@@ -85,14 +79,15 @@ impl<O: Ops> Graph<O> {
         if count >= MOST_SUBSCRIPTIONS || !have_places(expr, &self.hubs) {
             return Err(Refusal::TooMany);
         }
+        match self.reserve() {
+            Ok(()) => {}
+            Err(NoMemory) => return Err(Refusal::NoMemory),
+        }
         let made = match self.prepare(alloc, expr) {
             Ok(made) => made,
             Err(NoMemory) => return Err(Refusal::NoMemory),
         };
-        match self.add(made) {
-            Ok(()) => {}
-            Err(NoMemory) => return Err(Refusal::NoMemory),
-        }
+        self.add(made);
         count_in(expr, &mut self.hubs);
         Ok(SubId(count as u32))
     }
@@ -166,74 +161,10 @@ impl<O: Ops> Graph<O> {
         ensures memory { allocates_in self.old step ≡ false → IfErr result (λ r. r ≢ Refusal.NoMemory) }
         ensures same { OnErr result (state_of self.new ≡ state_of self.old) }
     {
-        match step {
-            Move::Ask(Tree::Sub(sub), _)
-            | Move::Send(Tree::Sub(sub), _)
-            | Move::Pick(Tree::Sub(sub), _, _)
-            | Move::Row(Tree::Sub(sub), _) => match self.make_inside(alloc, sub, step) {
-                Ok(()) => Ok(None),
-                Err(why) => Err(why),
-            },
-            Move::Take(Tree::Sub(sub), node) => match self.make_take(sub, node) {
-                Ok(signal) => Ok(Some((sub, signal))),
-                Err(why) => Err(why),
-            },
-            Move::Accept(hub) => match self.accept(alloc, hub) {
-                Ok(()) => Ok(None),
-                Err(why) => Err(why),
-            },
-            Move::Ask(Tree::Feed(_), _)
-            | Move::Send(Tree::Feed(_), _)
-            | Move::Take(Tree::Feed(_), _)
-            | Move::Pick(Tree::Feed(_), _, _)
-            | Move::Row(Tree::Feed(_), _) => Err(Refusal::UnknownHub),
-        }
-    }
-
-    /// Makes an Ask, a Send, a Pick or a Row in the tree of a subscription.
-    fn make_inside(&mut self, alloc: Global, sub: SubId, step: Move) -> Result<(), Refusal>
-        requires { IsInside step }
-        ensures ops { self.new.ops ≡ self.old.ops }
-        ensures aside { IsAsideSame (state_of self.old) (state_of self.new) }
-        ensures stands { OnOk result (StandsAfter (λ h. h) self.old self.new) }
-        ensures enabled { OnOk result (enabled_inside self.old (Tree.Sub sub) step ≡ true) }
-        ensures effect { OnOk result (IsMadeInside (Tree.Sub sub) step self.old self.new None) }
-        ensures err { IfErr result (λ r. IsRefusedInside (Tree.Sub sub) step self.old r) }
-        ensures memory { allocates_inside self.old (Tree.Sub sub) step ≡ false → IfErr result (λ r. r ≢ Refusal.NoMemory) }
-        ensures same { OnErr result (self.new.subscriptions.items ≡ self.old.subscriptions.items) }
-    {
-        let at = sub.0 as usize;
-        if at >= self.subscriptions.len() {
-            return Err(Refusal::UnknownSub);
-        }
         let ops = self.ops;
-        let subscription = &mut self.subscriptions[at];
-        match subscription.make(alloc, &ops, step) {
-            Ok(()) => Ok(()),
-            Err(NotMade::NotEnabled) => Err(Refusal::NotEnabled),
-            Err(NotMade::NoMemory) => Err(Refusal::NoMemory),
-        }
-    }
-
-    /// Makes the Take from the queue of a subscription.
-    fn make_take(&mut self, sub: SubId, node: NodeId) -> Result<Signal<O::Item>, Refusal>
-        ensures ops { self.new.ops ≡ self.old.ops }
-        ensures aside { IsAsideSame (state_of self.old) (state_of self.new) }
-        ensures stands { IfOk result (λ s. StandsAfter (with_past (given s) sub) self.old self.new) }
-        ensures enabled { OnOk result (enabled_inside self.old (Tree.Sub sub) (Move.Take (Tree.Sub sub) node) ≡ true) }
-        ensures effect { IfOk result (λ s. IsMadeInside (Tree.Sub sub) (Move.Take (Tree.Sub sub) node) self.old self.new (Some (sub, s))) }
-        ensures err { IfErr result (λ r. IsRefusedInside (Tree.Sub sub) (Move.Take (Tree.Sub sub) node) self.old r) }
-        ensures memory { IfErr result (λ r. r ≢ Refusal.NoMemory) }
-        ensures same { OnErr result (self.new.subscriptions.items ≡ self.old.subscriptions.items) }
-    {
-        let at = sub.0 as usize;
-        if at >= self.subscriptions.len() {
-            return Err(Refusal::UnknownSub);
-        }
-        let subscription = &mut self.subscriptions[at];
-        match subscription.take(node.0) {
-            Some(signal) => Ok(signal),
-            None => Err(Refusal::NotEnabled),
+        match make(alloc, &ops, &mut self.hubs, &mut self.subscriptions, step) {
+            Ok(delivered) => Ok(delivered),
+            Err(why) => Err(why),
         }
     }
 
@@ -261,68 +192,17 @@ impl<O: Ops> Graph<O> {
         // Where no move may allocate, there is want of memory only for the list of deliveries.
         ensures memory { drives_allocate_in self.old ≡ false → OnErr result (IsFull out.new) }
     {
-        let mut left = budget;
-        'rounds: loop {
-            let rested = match self.drive(alloc, left, out) {
-                Ok(Driven::Idle(rested)) => rested,
-                Ok(Driven::Budget) => return Ok(Pumped::Budget),
-                Err(why) => return Err(why),
-            };
-            left = match self.accept_all(alloc, rested) {
-                Ok(Driven::Idle(behind)) => behind,
-                Ok(Driven::Budget) => return Ok(Pumped::Budget),
-                Err(why) => return Err(why),
-            };
-            if left == rested {
-                return Ok(Pumped::Idle);
-            }
-        }
-    }
-
-    /// Drives all subscriptions, one after the other, until no move of theirs is enabled.
-    fn drive(
-        &mut self,
-        alloc: Global,
-        budget: u32,
-        out: &mut Deliveries<O::Item>,
-    ) -> Result<Driven, Refusal>
-        ensures ops { self.new.ops ≡ self.old.ops }
-        ensures aside { IsAsideSame (state_of self.old) (state_of self.new) }
-        ensures driven { HasDriven budget self.old out.old result self.new out.new }
-        ensures memory { pump_allocates (O.allocates self.old.ops) self.old.subscriptions.items ≡ false → OnErr result (IsFull out.new) }
-    {
-        let mut left = budget;
-        let count = self.subscriptions.len() as u32;
-        for at in 0..count {
-            left = match self.pump_one(alloc, SubId(at), left, out) {
-                Ok(Driven::Idle(left)) => left,
-                Ok(Driven::Budget) => return Ok(Driven::Budget),
-                Err(why) => return Err(why),
-            };
-        }
-        Ok(Driven::Idle(left))
-    }
-
-    /// Drives one subscription.
-    fn pump_one(
-        &mut self,
-        alloc: Global,
-        sub: SubId,
-        budget: u32,
-        out: &mut Deliveries<O::Item>,
-    ) -> Result<Driven, Refusal>
-        requires { sub.0 < length self.old.subscriptions.items }
-        ensures ops { self.new.ops ≡ self.old.ops }
-        ensures aside { IsAsideSame (state_of self.old) (state_of self.new) }
-        ensures count { length self.new.subscriptions.items ≡ length self.old.subscriptions.items }
-        ensures pumped { HasPumpedAt sub.0 budget self.old out.old result self.new out.new }
-        ensures memory { pump_allocates (O.allocates self.old.ops) self.old.subscriptions.items ≡ false → OnErr result (IsFull out.new) }
-    {
         let ops = self.ops;
-        let subscription = &mut self.subscriptions[sub.0 as usize];
-        match subscription.pump(alloc, &ops, sub, budget, out) {
+        match pump(
+            alloc,
+            &ops,
+            &mut self.hubs,
+            &mut self.subscriptions,
+            budget,
+            out,
+        ) {
             Ok(ended) => Ok(ended),
-            Err(NoMemory) => Err(Refusal::NoMemory),
+            Err(why) => Err(why),
         }
     }
 

@@ -4,12 +4,9 @@ ghost use Rattle.std.specs.Prelude.{◌≡◌};
 ghost use Rattle.rsx_hub.specs.Hub.{are_numbers};
 
 use crate::graph::{Graph, MOST_HUBS};
-use crate::refusal::Refusal;
+use rsx_history::Refusal;
 use rsx_hub::{HasEnded, Hub, HubRefusal, LARGEST, Rejected};
 use rsx_model::BadExpr;
-use rsx_pipe::Pumped as Driven;
-use rsx_publishing::{accept, can_accept};
-use rsx_sources::NotMade;
 use rsx_types::{HubId, HubKind, NoMemory, Ops};
 use std::alloc::Global;
 
@@ -37,11 +34,10 @@ impl<O: Ops> Graph<O> {
     ghost use Rattle.rsx_types.specs.declared.signal.Ending.TheVariants.{Done, Failed};
     ghost use Rattle.rsx_types.specs.declared.signal.Signal.TheVariants.{Next, Complete, Error};
     ghost use Rattle.rsx_hub.specs.Hub.{are_numbers, fresh_hub};
-    ghost use Rattle.rsx_sources.specs.Steps.{IsNotMade};
-    ghost use Rattle.rsx_graph.specs.History.{IsAcceptRefusal, IsHubRefusal, with_accepted, with_hub, with_published};
-    ghost use Rattle.rsx_graph.specs.Hubs.{IsEmittedAt, IsEndedAt, IsEmitRefusal, IsCopyRefusal, IsEndRefusal, IsAcceptedAt, accepts_at, signals_wait};
-    ghost use Rattle.rsx_graph.specs.InGraph.{HasAcceptedAll, HasAcceptedAt, state_of, StandsAfter};
-    ghost use Rattle.rsx_graph.specs.declared.graph.TheConstants.{MOST_HUBS};
+    ghost use Rattle.rsx_history.specs.History.{IsHubRefusal, with_hub, with_published};
+    ghost use Rattle.rsx_history.specs.Hubs.{IsEmittedAt, IsEndedAt, IsEmitRefusal, IsCopyRefusal, IsEndRefusal};
+    ghost use Rattle.rsx_graph.specs.InGraph.{StandsAfter};
+    ghost use Rattle.rsx_history.specs.declared.TheConstants.{MOST_HUBS};
 
     /// A hub, to which a program publishes by [`Graph::emit`], [`Graph::complete`] and [`Graph::fail`]. It stands behind the
     /// others, so its number is how many there were. Where `capacity` items wait in its inbox it accepts no more, and so many
@@ -192,97 +188,6 @@ impl<O: Ops> Graph<O> {
             Ok(()) => Ok(()),
             Err(HasEnded) => Err(Refusal::Ended),
         }
-    }
-
-    /// The hub takes the signal in that waits in front of its inbox, and each node that reads the hub gets it.
-    pub(crate) fn accept(&mut self, alloc: Global, hub: HubId) -> Result<(), Refusal>
-        ensures ops { self.new.ops ≡ self.old.ops }
-        ensures stands { OnOk result (StandsAfter (with_accepted hub) self.old self.new) }
-        ensures effect { OnOk result (IsAcceptedAt hub.0 (state_of self.old) (state_of self.new)) }
-        ensures enabled { OnOk result (accepts_at (state_of self.old) hub.0 ≡ true) }
-        ensures err { IfErr result (λ r. IsAcceptRefusal (length self.old.hubs.items) (accepts_at (state_of self.old) hub.0) hub.0 r) }
-        ensures same { OnErr result (state_of self.new ≡ state_of self.old) }
-    {
-        if hub.0 as usize >= self.hubs.len() {
-            return Err(Refusal::UnknownHub);
-        }
-        match self.accept_known(alloc, hub) {
-            Ok(()) => Ok(()),
-            Err(NotMade::NotEnabled) => Err(Refusal::NotEnabled),
-            Err(NotMade::NoMemory) => Err(Refusal::NoMemory),
-        }
-    }
-
-    /// The same at a hub that is there.
-    fn accept_known(&mut self, alloc: Global, hub: HubId) -> Result<(), NotMade>
-        requires { hub.0 < length self.old.hubs.items }
-        ensures ops { self.new.ops ≡ self.old.ops }
-        ensures stands { OnOk result (StandsAfter (with_accepted hub) self.old self.new) }
-        ensures effect { OnOk result (IsAcceptedAt hub.0 (state_of self.old) (state_of self.new)) }
-        ensures enabled { OnOk result (accepts_at (state_of self.old) hub.0 ≡ true) }
-        ensures err { IfErr result (IsNotMade (accepts_at (state_of self.old) hub.0)) }
-        ensures same { OnErr result (state_of self.new ≡ state_of self.old) }
-    {
-        let ops = self.ops;
-        let subscriptions = &mut self.subscriptions;
-        match accept(
-            alloc,
-            &ops,
-            &mut self.hubs[hub.0 as usize],
-            hub.0,
-            subscriptions,
-        ) {
-            Ok(()) => Ok(()),
-            Err(why) => Err(why),
-        }
-    }
-
-    /// Whether a hub can take its next signal in.
-    fn can_accept(&self, hub: HubId) -> bool
-        requires { hub.0 < length self.now.hubs.items }
-        ensures { result ≡ accepts_at (state_of self.now) hub.0 }
-    {
-        let number = u64::from(hub.0);
-        can_accept(number, &self.hubs[hub.0 as usize], &self.subscriptions)
-    }
-
-    /// A hub takes in what it can, in at most `budget` moves.
-    fn accept_at(&mut self, alloc: Global, hub: HubId, budget: u32) -> Result<Driven, Refusal>
-        requires { hub.0 < length self.old.hubs.items }
-        ensures ops { self.new.ops ≡ self.old.ops }
-        ensures count { length self.new.hubs.items ≡ length self.old.hubs.items }
-        ensures accepted { HasAcceptedAt hub.0 budget self.old result self.new }
-        ensures none { accepts_at (state_of self.old) hub.0 ≡ false → (state_of self.new ≡ state_of self.old) × IsOk result }
-    {
-        for made in 0..budget {
-            match self.accept_known(alloc, hub) {
-                Ok(()) => {}
-                Err(NotMade::NotEnabled) => return Ok(Driven::Idle(budget - made)),
-                Err(NotMade::NoMemory) => return Err(Refusal::NoMemory),
-            }
-        }
-        match self.can_accept(hub) {
-            true => Ok(Driven::Budget),
-            false => Ok(Driven::Idle(0)),
-        }
-    }
-
-    /// All hubs take in what they can, one after the other, in at most `budget` moves.
-    pub(crate) fn accept_all(&mut self, alloc: Global, budget: u32) -> Result<Driven, Refusal>
-        ensures ops { self.new.ops ≡ self.old.ops }
-        ensures accepted { HasAcceptedAll budget self.old result self.new }
-        ensures none { signals_wait self.old.hubs.items ≡ false → (state_of self.new ≡ state_of self.old) × IsOk result }
-    {
-        let mut left = budget;
-        let count = self.hubs.len() as u32;
-        for at in 0..count {
-            left = match self.accept_at(alloc, HubId(at), left) {
-                Ok(Driven::Idle(left)) => left,
-                Ok(Driven::Budget) => return Ok(Driven::Budget),
-                Err(why) => return Err(why),
-            };
-        }
-        Ok(Driven::Idle(left))
     }
 }
 

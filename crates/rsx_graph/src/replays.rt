@@ -1,13 +1,13 @@
 //! A list of steps from nothing.
 
 ghost use Rattle.std.specs.Prelude.{◌≡◌, IfOk, IfErr};
-ghost use Rattle.rsx_graph.specs.History.{all_extended, no_history};
-ghost use Rattle.rsx_graph.specs.Replayed.{IsReplayed};
+ghost use Rattle.rsx_history.specs.History.{all_extended, no_history};
+ghost use Rattle.rsx_history.specs.Replayed.{IsReplayed};
 ghost use Rattle.rsx_graph.specs.InGraph.{state_of};
-ghost use Rattle.rsx_graph.specs.Stands.{StandsFor};
+ghost use Rattle.rsx_history.specs.Stands.{StandsFor};
 
 use crate::graph::Graph;
-use crate::step::{Answer, Step};
+use rsx_history::{Answer, Step};
 use rsx_types::Ops;
 use std::alloc::Global;
 

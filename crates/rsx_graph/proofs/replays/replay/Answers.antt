@@ -1,13 +1,13 @@
 use Rattle.std.proofs.Common.{◌≡◌, List, ap, refl, subst}
 use Rattle.rsx_types.specs.Meaning.{Meaning, Allocates}
-use Rattle.rsx_graph.specs.Done.{AllDone}
-use Rattle.rsx_graph.specs.History.{History, AllBelong, all_extended, no_history}
-use Rattle.rsx_graph.specs.Replayed.{IsReplayed}
+use Rattle.rsx_history.specs.Done.{AllDone}
+use Rattle.rsx_history.specs.History.{History, AllBelong, all_extended, no_history}
+use Rattle.rsx_history.specs.Replayed.{IsReplayed}
 use Rattle.rsx_graph.specs.InGraph.{state_of}
-use Rattle.rsx_graph.specs.Stands.{GraphState, StandsFor, nothing}
-use Rattle.rsx_graph.specs.declared.step.Answer.{Answer}
-use Rattle.rsx_graph.specs.declared.step.Step.{Step}
-use Rattle.rsx_graph.proofs.Sentence.{whole_holds}
+use Rattle.rsx_history.specs.Stands.{GraphState, StandsFor, nothing}
+use Rattle.rsx_history.specs.declared.step.Answer.{Answer}
+use Rattle.rsx_history.specs.declared.step.Step.{Step}
+use Rattle.rsx_history.proofs.Sentence.{whole_holds}
 use Rattle.rsx_graph.proofs.replays.replay.Goals as goal
 
 -- a run from no subscription

@@ -1,7 +1,7 @@
 use Rattle.std.proofs.Common.{◌<◌, ℕ, length, subst, sym, arith}
-use Rattle.rsx_graph.specs.History.{HasAsked}
-use Rattle.rsx_graph.specs.Stands.{all_taken}
-use Rattle.rsx_graph.proofs.Graphs.{asked_there}
+use Rattle.rsx_history.specs.History.{HasAsked}
+use Rattle.rsx_history.specs.Stands.{all_taken}
+use Rattle.rsx_history.proofs.Graphs.{asked_there}
 use Rattle.rsx_graph.proofs.graph.Graph.asked.Goals as goal
 
 pub returns-clause-asked : goal.returns-clause-asked

@@ -1,7 +1,7 @@
 use Rattle.std.proofs.Common.{◌∙◌, ◌<◌, length, refl, sym, arith}
 use Rattle.rsx_subscriber.specs.Past.{cancelled}
-use Rattle.rsx_graph.proofs.Graphs.{AllStand-set, found, joins_kept}
-use Rattle.rsx_graph.specs.Stands.{all_taken}
+use Rattle.rsx_history.proofs.Graphs.{AllStand-set, found, joins_kept}
+use Rattle.rsx_history.specs.Stands.{all_taken}
 use Rattle.rsx_graph.proofs.graph.Graph.cancel.Goals as goal
 
 pub returns-clause-stands : goal.returns-clause-stands

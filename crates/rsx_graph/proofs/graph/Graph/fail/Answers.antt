@@ -2,11 +2,11 @@ use Rattle.std.proofs.Common.{◌≡◌, ◌<◌, length, refl, sym, subst, arit
 use Rattle.rsx_types.specs.declared.signal.Cause.TheVariants.{User}
 use Rattle.rsx_types.specs.declared.signal.Signal.TheVariants.{Error}
 use Rattle.rsx_hub.specs.Hub.{HubState}
-use Rattle.rsx_graph.specs.History.{published_at}
+use Rattle.rsx_history.specs.History.{published_at}
 use Rattle.rsx_graph.specs.InGraph.{state_of}
-use Rattle.rsx_graph.specs.Stands.{HubStands, taken_of}
-use Rattle.rsx_graph.proofs.Graphs.{found, set_same}
-use Rattle.rsx_graph.proofs.Publishes.{failed_still, hub_changed}
+use Rattle.rsx_history.specs.Stands.{HubStands, taken_of}
+use Rattle.rsx_history.proofs.Graphs.{found, set_same}
+use Rattle.rsx_history.proofs.Publishes.{failed_still, hub_changed}
 use Rattle.rsx_graph.proofs.graph.Graph.fail.Goals as goal
 
 pub returns-in-Ok-clause-stands : goal.returns-in-Ok-clause-stands

@@ -1,6 +1,6 @@
 use Rattle.std.proofs.Common.{◌∙◌, ◌++◌, ◌∷◌, [], ap, refl}
 use Rattle.rsx_graph.specs.InGraph.{state_of}
-use Rattle.rsx_graph.proofs.Publishes.{hub_made}
+use Rattle.rsx_history.proofs.Publishes.{hub_made}
 use Rattle.rsx_graph.proofs.graph.Graph.hub.Goals as goal
 
 pub returns-clause-stands : goal.returns-clause-stands

@@ -1,6 +1,6 @@
 use Rattle.std.proofs.Common.{◌≡◌, ◌∙◌, ap, sym, length, refl, slice_get, Some}
 use Rattle.std.proofs.lemmas.Option.{slice_get_read}
-use Rattle.rsx_graph.proofs.Joins.{got_map, joins_there}
+use Rattle.rsx_history.proofs.Joins.{got_map, joins_there}
 use Rattle.rsx_graph.proofs.graph.Graph.joins.Goals as goal
 
 pub returns-in-Ok-clause-joins : goal.returns-in-Ok-clause-joins

@@ -1,5 +1,5 @@
 use Rattle.std.proofs.Common.{◌<◌, length, sym, arith}
-use Rattle.rsx_graph.proofs.Graphs.{found}
+use Rattle.rsx_history.proofs.Graphs.{found}
 use Rattle.rsx_graph.proofs.graph.Graph.notes_of_sub.Goals as goal
 
 pub returns-in-Ok-clause-notes : goal.returns-in-Ok-clause-notes

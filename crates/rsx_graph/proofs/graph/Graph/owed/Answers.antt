@@ -2,11 +2,11 @@ use Rattle.std.proofs.Common.{◌≡◌, ◌<◌, length, List, sym, ap, subst, 
 use Rattle.rsx_types.specs.Stream.{Stream, ended_by}
 use Rattle.rsx_subscriber.specs.Stands.{IsStillOwed, values_then}
 use Rattle.rsx_types.specs.declared.signal.Ending.TheVariants.{Open}
-use Rattle.rsx_graph.proofs.Graphs.{owed_open, owed_none, owed_whole}
-use Rattle.rsx_graph.proofs.Inboxes.{all_whole, tree_behind}
-use Rattle.rsx_graph.specs.History.{published}
-use Rattle.rsx_graph.specs.Stands.{all_taken, inboxes}
-use Rattle.rsx_node.specs.Any.{any_machine}
+use Rattle.rsx_history.proofs.Graphs.{owed_open, owed_none, owed_whole}
+use Rattle.rsx_history.proofs.Inboxes.{all_whole, tree_behind}
+use Rattle.rsx_history.specs.History.{published}
+use Rattle.rsx_history.specs.Stands.{all_taken, inboxes}
+use Rattle.rsx_history.specs.Any.{any_machine}
 use Rattle.rsx_subscriber.proofs.Sentence.{ended_value}
 use Rattle.rsx_graph.proofs.graph.Graph.owed.Goals as goal
 

@@ -1,8 +1,8 @@
 use Rattle.std.proofs.Common.{◌∙◌, ◌<◌, length, refl, sym, arith, w64}
 use Rattle.std.proofs.lemmas.Int.{to_z-of_z}
 use Rattle.rsx_subscriber.specs.Past.{requested}
-use Rattle.rsx_graph.proofs.Graphs.{AllStand-set, found, joins_kept, requested_joins}
-use Rattle.rsx_graph.specs.Stands.{all_taken}
+use Rattle.rsx_history.proofs.Graphs.{AllStand-set, found, joins_kept, requested_joins}
+use Rattle.rsx_history.specs.Stands.{all_taken}
 use Rattle.rsx_graph.proofs.graph.Graph.request.Goals as goal
 
 pub returns-clause-stands : goal.returns-clause-stands

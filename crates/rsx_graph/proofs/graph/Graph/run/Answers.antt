@@ -1,6 +1,6 @@
 use Rattle.std.proofs.Common.{length, ap, refl, sym, ◌∙◌, arith, length-append}
 use Rattle.rsx_graph.specs.InGraph.{state_of}
-use Rattle.rsx_graph.proofs.Graphs.{run_more, has_run_all, has_run_none}
+use Rattle.rsx_history.proofs.Graphs.{run_more, has_run_all, has_run_none}
 use Rattle.rsx_graph.proofs.graph.Graph.run.Goals as goal
 
 pub loop-step-init : goal.loop-step-init

@@ -1,6 +1,6 @@
 use Rattle.std.proofs.Common.{◌≡◌, length, take, vec_capacity}
 use Rattle.rsx_graph.specs.InGraph.{state_of}
-use Rattle.rsx_graph.proofs.Graphs.{HasRun}
+use Rattle.rsx_history.proofs.Graphs.{HasRun}
 use Rattle.rsx_graph.proofs.graph.Graph.run.Given as goal
 
 abbrev pub invariant-loop-step : goal.invariant-loop-step

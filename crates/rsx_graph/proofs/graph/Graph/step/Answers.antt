@@ -1,11 +1,11 @@
 use Rattle.std.proofs.Common.{rules, length, ◌∙◌, arith, w64}
 use Rattle.std.proofs.lemmas.Int.{to_z-of_z}
-use Rattle.rsx_graph.proofs.Graphs.{count_same, state_same, state_there, subscribe_refusal, make_refusal}
-use Rattle.rsx_graph.proofs.Inboxes.{hub_count}
-use Rattle.rsx_graph.proofs.Publishes.{copy_known, end_known, hub_known, hub_refused}
+use Rattle.rsx_history.proofs.Graphs.{count_same, state_same, state_there, subscribe_refusal, make_refusal}
+use Rattle.rsx_history.proofs.Inboxes.{hub_count}
+use Rattle.rsx_history.proofs.Publishes.{copy_known, end_known, hub_known, hub_refused}
 use Rattle.rsx_graph.specs.InGraph.{state_of}
-use Rattle.rsx_graph.specs.Stands.{all_taken}
-use Rattle.rsx_graph.proofs.Driving.{known_hub}
+use Rattle.rsx_history.specs.Stands.{all_taken}
+use Rattle.rsx_history.proofs.Driving.{known_hub}
 use Rattle.rsx_subscriber.specs.Stands.{standing_of}
 use Rattle.rsx_graph.proofs.graph.Graph.step.Goals as goal
 

@@ -1,0 +1,2 @@
+-- Lemmas about moves of rows.
+pub mod Same

@@ -1,0 +1,18 @@
+use Rattle.std.proofs.Common.{◌≡◌, ◌+◌, ℕ, List, [], false, length}
+use Rattle.rsx_history.specs.Hubs.{signals_wait}
+use Rattle.rsx_history.specs.Moves.{drives_allocate}
+use Rattle.rsx_history.specs.Stands.{pump_allocates}
+use Rattle.rsx_history.proofs.Driving.{SoFar}
+use Rattle.rsx_driving.specs.Rows.{graph_of}
+use Rattle.rsx_driving.proofs.rounds.pump.Given as goal
+
+abbrev pub invariant-rounds : goal.invariant-rounds
+invariant-rounds g l = record {
+  hubs : length l.hubs.items ≡ length l.fn.hubs.items;
+  subscriptions : length l.subscriptions.items ≡ length l.fn.subscriptions.items;
+  so_far : (joins : List (List ℕ)) → (n : ℕ) × (n + l.left ≡ l.fn.budget) × SoFar (g.O.Ops.meaning l.ops) (graph_of l.fn.hubs.items l.fn.subscriptions.items joins) l.fn.out.signals n (graph_of l.hubs.items l.subscriptions.items joins) l.out.signals;
+  free : drives_allocate (g.O.Ops.allocates l.ops) (graph_of l.fn.hubs.items l.fn.subscriptions.items []) ≡ false → (pump_allocates (g.O.Ops.allocates l.ops) l.subscriptions.items ≡ false) × (signals_wait l.hubs.items ≡ false);
+}
+
+abbrev pub decreases-rounds : goal.decreases-rounds
+decreases-rounds g l = l.left

@@ -1,0 +1,63 @@
+//! Moves of subscriptions and hubs, round after round.
+
+ghost use Rattle.std.specs.Prelude.{◌≡◌, ◌<◌, ◌^◌, ℕ, List, [], length, false, OnErr, IfOk};
+ghost use Rattle.rsx_subscriber.specs.Delivered.{IsFull};
+ghost use Rattle.rsx_history.specs.Moves.{drives_allocate};
+ghost use Rattle.rsx_history.specs.Served.{IsAllServed};
+ghost use Rattle.rsx_driving.specs.Rows.{HasPumped, graph_of};
+
+use crate::inboxes::accept_all;
+use crate::subscriptions::drive;
+use rsx_history::{Pumped, Refusal};
+use rsx_hub::Hub;
+use rsx_pipe::Pumped as Driven;
+use rsx_subscriber::{Deliveries, Subscription};
+use rsx_types::Ops;
+use std::alloc::Global;
+
+/// Makes enabled moves, in an order of its own, until none is enabled (Idle) or `budget` moves were made (Budget); where
+/// both hold it answers Idle. A hub that takes a signal in makes a move too. What is delivered is put into `out`, behind what
+/// stands there.
+///
+/// # Errors
+/// [`Refusal::NoMemory`] where a growth was refused; the moves made before stand, and their deliveries are in `out`. It comes
+/// only where `out` has no room for one signal more, where a signal waits in the inbox of a hub, or where some node of a
+/// subscription's tree may allocate.
+pub fn pump<O: Ops>(
+    alloc: Global,
+    ops: &O,
+    hubs: &mut Vec<Hub<O::Item>>,
+    subscriptions: &mut Vec<Subscription<O::Item>>,
+    budget: u32,
+    out: &mut Deliveries<O::Item>,
+) -> Result<Pumped, Refusal>
+    requires few { length subscriptions.old.items < 2 ^ 32 }
+    requires few_hubs { length hubs.old.items < 2 ^ 32 }
+    ensures hubs { length hubs.new.items ≡ length hubs.old.items }
+    ensures subscriptions { length subscriptions.new.items ≡ length subscriptions.old.items }
+    ensures pumped { (joins : List (List ℕ)) →
+        HasPumped (O.meaning ops.now) budget (graph_of hubs.old.items subscriptions.old.items joins) out.old result (graph_of hubs.new.items subscriptions.new.items joins) out.new }
+
+    // Idle means delivered.
+    ensures served { (joins : List (List ℕ)) → IfOk result (λ p. p ≡ Pumped.Idle → IsAllServed (O.meaning ops.now) (graph_of hubs.new.items subscriptions.new.items joins)) }
+
+    // Where no move may allocate, there is want of memory only for the list of deliveries.
+    ensures memory { drives_allocate (O.allocates ops.now) (graph_of hubs.old.items subscriptions.old.items []) ≡ false → OnErr result (IsFull out.new) }
+{
+    let mut left = budget;
+    'rounds: loop {
+        let rested = match drive(alloc, ops, subscriptions, left, out) {
+            Ok(Driven::Idle(rested)) => rested,
+            Ok(Driven::Budget) => return Ok(Pumped::Budget),
+            Err(why) => return Err(why),
+        };
+        left = match accept_all(alloc, ops, hubs, subscriptions, rested) {
+            Ok(Driven::Idle(behind)) => behind,
+            Ok(Driven::Budget) => return Ok(Pumped::Budget),
+            Err(why) => return Err(why),
+        };
+        if left == rested {
+            return Ok(Pumped::Idle);
+        }
+    }
+}

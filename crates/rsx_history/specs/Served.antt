@@ -1,0 +1,24 @@
+-- What a graph's subscribers got where no move is enabled.
+use Rattle.std.specs.Prelude.{◌≡◌, List, [], ◌∷◌, Some}
+use Rattle.rsx_types.specs.Meaning.{Meaning}
+use Rattle.rsx_types.specs.Stream.{Stream}
+use Rattle.rsx_pipe.specs.Tree.{IsWithin}
+use Rattle.rsx_pipe.specs.Tree.{notes_of}
+use Rattle.rsx_subscriber.specs.declared.subscription.Subscription.{Subscription}
+use Rattle.rsx_subscriber.specs.Holds.{IsServed}
+use Rattle.rsx_subscriber.specs.Past.{Past, IsLive}
+use Rattle.rsx_subscriber.specs.Stands.{evaluated}
+use Rattle.rsx_history.specs.History.{History, published}
+use Rattle.rsx_history.specs.Stands.{GraphState, StandsFor}
+
+-- each live subscriber did whose expression reads no hub, as long as no edge of its tree has carried 2^63-1 items and each of its nodes has a number
+abbrev pub AllServed : {T : Type 0} → Meaning T → List (Stream T) → List (Subscription T) → List (Past T) → Type 0
+AllServed m published [] [] = Unit {0}
+AllServed {T} m published (s ∷ ss) (p ∷ ps) =
+    (IsLive p.state → p.joins ≡ [] → IsWithin s.part.tree → (v : Stream T) → evaluated m published p (notes_of s.part.tree) ≡ Some v → IsServed s p v) × AllServed m published ss ps
+AllServed m published [] (p ∷ ps) = ⊥
+AllServed m published (s ∷ ss) [] = ⊥
+
+-- whatever history the subscriptions stand for, by it each live subscriber did
+abbrev pub IsAllServed : {T : Type 0} → Meaning T → GraphState T → Type 0
+IsAllServed {T} m graph = (h : History T) → StandsFor m graph h → AllServed m (published h) graph.subs h.pasts

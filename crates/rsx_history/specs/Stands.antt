@@ -1,0 +1,163 @@
+-- What a graph stands for, its enabled moves, and what a move changes.
+use Rattle.std.specs.Prelude.{◌≡◌, ⊤, ℕ, Bool, true, false, ◌||◌, nat_eq, if◌then◌else◌, List, [], ◌∷◌, Option, Some, ◌-◌, map, take, slice_get, ℤ, zero, suc, slice_set}
+use Rattle.rsx_types.specs.Meaning.{Meaning, Allocates}
+use Rattle.rsx_types.specs.Stream.{Stream}
+use Rattle.rsx_types.specs.declared.note.Note.{Note}
+use Rattle.rsx_types.specs.declared.names.SubId.{SubId}
+use Rattle.rsx_types.specs.declared.names.Tree.{Tree}
+use Rattle.rsx_types.specs.declared.names.Tree.TheVariants.{Sub, Feed}
+use Rattle.rsx_types.specs.declared.names.Move.{Move}
+use Rattle.rsx_types.specs.declared.signal.Signal.{Signal}
+use Rattle.rsx_hub.specs.Hub.{HubState, HasTakenIn, hub_value}
+use Rattle.rsx_hub.specs.Member.{ending_taken}
+use Rattle.rsx_hub.specs.Waiting.{is_open}
+pub use Rattle.rsx_leaves.specs.Inboxes.{inboxes, waiting_of}
+use Rattle.rsx_pipe.specs.Part as Part
+use Rattle.rsx_pipe.specs.Tree.{notes_of}
+use Rattle.rsx_subscriber.specs.declared.subscription.Subscription.{Subscription}
+use Rattle.rsx_subscriber.specs.Edited.{IsRequested, IsCancelled}
+use Rattle.rsx_subscriber.specs.Past.{Past, request_answer}
+use Rattle.rsx_subscriber.specs.Stands.{Stands, standing_of, make_allocates, move_enabled_in, owes_in, IsEffect}
+use Rattle.rsx_history.specs.History.{History, HubPast, published}
+
+-- each subscription stands for its own past
+abbrev pub AllStand : {T : Type 0} → Meaning T → List (Stream T) → List (Subscription T) → List (Past T) → Type 0
+AllStand m published [] [] = Unit {0}
+AllStand m published (s ∷ ss) (p ∷ ps) = Stands m published s p × AllStand m published ss ps
+AllStand m published [] (p ∷ ps) = ⊥
+AllStand m published (s ∷ ss) [] = ⊥
+
+-- ---- hubs
+
+-- a hub stands for what has happened there: of what was published it took the first items in, so many as the count says, and
+-- the others stand in its inbox
+pub record HubStands {T : Type 0} (s : HubState T) (p : HubPast T) : Type 0 where
+  pub kind : s.kind ≡ p.kind
+  pub count : s.count ≡ p.count
+  pub items : List T
+  pub taken : HasTakenIn s items
+  pub value : p.value ≡ hub_value s items
+  pub ended : s.has_ended ≡ true → (s.inbox ≡ []) × (is_open s.ending ≡ false)
+
+abbrev pub HubsStand : {T : Type 0} → List (HubState T) → List (HubPast T) → Type 0
+HubsStand [] [] = ⊤
+HubsStand (s ∷ ss) (p ∷ ps) = HubStands s p × HubsStand ss ps
+HubsStand [] (p ∷ ps) = ⊥
+HubsStand (s ∷ ss) [] = ⊥
+
+-- what a hub took in, and handed to its readers
+abbrev pub taken_of : {T : Type 0} → HubState T → HubPast T → Stream T
+taken_of s p = record { items = take p.count p.value.items; ending = ending_taken s.has_ended s.ending }
+
+-- what each hub did
+abbrev pub all_taken : {T : Type 0} → List (HubState T) → List (HubPast T) → List (Stream T)
+all_taken [] ps = []
+all_taken (s ∷ ss) [] = []
+all_taken (s ∷ ss) (p ∷ ps) = taken_of s p ∷ all_taken ss ps
+
+-- ---- a whole graph
+
+-- its hubs, its subscriptions, and the joins of each subscription's leaves
+pub record GraphState (T : Type 0) : Type 0 where
+  pub hubs : List (HubState T)
+  pub subs : List (Subscription T)
+  pub joins : List (List ℕ)
+
+-- a graph that has just begun
+abbrev pub nothing : {T : Type 0} → GraphState T
+nothing = record { hubs = []; subs = []; joins = [] }
+
+-- a graph stands for a history
+pub record StandsFor {T : Type 0} (m : Meaning T) (g : GraphState T) (h : History T) : Type 0 where
+  pub hub : HubsStand g.hubs h.hubs
+  -- each subscription stands for its past, where the hubs published what they took in
+  pub all : AllStand m (all_taken g.hubs h.hubs) g.subs h.pasts
+  pub joined : g.joins ≡ map (λ p. p.joins) h.pasts
+
+-- ---- enabled moves
+
+-- at the subscription with this number, if there is one
+abbrev pub enabled_at : {T : Type 0} → Meaning T → List (Subscription T) → ℕ → Move → Bool
+enabled_at m [] i mv = false
+enabled_at m (s ∷ ss) i mv = if nat_eq i 0 then move_enabled_in m s mv else enabled_at m ss (i - 1) mv
+
+abbrev pub enabled_in_tree : {T : Type 0} → Meaning T → List (Subscription T) → Tree → Move → Bool
+enabled_in_tree m subs (Sub i) mv = enabled_at m subs i.0 mv
+enabled_in_tree m subs (Feed h) mv = false
+
+-- whether some move of a graph may allocate, where these of the caller's functions may
+abbrev pub pump_allocates : {T : Type 0} → Allocates → List (Subscription T) → Bool
+pump_allocates a [] = false
+pump_allocates a (s ∷ ss) = Part.pump_allocates a s.part || pump_allocates a ss
+
+-- whether a move in the subscription with this number may allocate, where these of the caller's functions may
+abbrev pub allocates_at : {T : Type 0} → Allocates → List (Subscription T) → ℕ → Move → Bool
+allocates_at a [] i mv = false
+allocates_at a (s ∷ ss) i mv = if nat_eq i 0 then make_allocates a s mv else allocates_at a ss (i - 1) mv
+
+abbrev pub allocates_in_tree : {T : Type 0} → Allocates → List (Subscription T) → Tree → Move → Bool
+allocates_in_tree a subs (Sub i) mv = allocates_at a subs i.0 mv
+allocates_in_tree a subs (Feed h) mv = false
+
+-- ---- what the looks answer
+
+-- this is what the subscriber with this number is owed
+abbrev pub OwedAt : {T : Type 0} → Meaning T → List (Stream T) → List (Subscription T) → List (Past T) → ℕ → Stream T → Type 0
+OwedAt m published (s ∷ ss) (p ∷ ps) zero v = owes_in m published s p v p.state
+OwedAt m published (s ∷ ss) (p ∷ ps) (suc i) v = OwedAt m published ss ps i v
+OwedAt m published [] ps i v = ⊥
+OwedAt m published (s ∷ ss) [] i v = ⊥
+
+abbrev pub IsOwed : {T : Type 0} → Meaning T → List (Subscription T) → History T → SubId → Stream T → Type 0
+IsOwed m subs h i v = OwedAt m (published h) subs h.pasts i.0 v
+
+-- these are the notes of a tree
+abbrev pub HasNotesAt : {T : Type 0} → List (Subscription T) → SubId → List Note → Type 0
+HasNotesAt {T} subs i ns = (s : Subscription T) × (slice_get subs i.0 ≡ Some s) × (ns ≡ notes_of s.part.tree)
+
+abbrev pub HasNotes : {T : Type 0} → List (Subscription T) → Tree → List Note → Type 0
+HasNotes subs (Sub i) ns = HasNotesAt subs i ns
+HasNotes subs (Feed h) ns = ⊥
+
+-- ---- what an edit changes
+
+-- the hubs stay, and the joins of all subscriptions
+abbrev pub IsAsideSame : {T : Type 0} → GraphState T → GraphState T → Type 0
+IsAsideSame old new = (new.hubs ≡ old.hubs) × (new.joins ≡ old.joins)
+
+-- the subscriptions stay, and their joins
+abbrev pub IsRestSame : {T : Type 0} → GraphState T → GraphState T → Type 0
+IsRestSame old new = (new.subs ≡ old.subs) × (new.joins ≡ old.joins)
+
+-- the subscription with this number took a request of n, and no other one changed
+pub record IsRequestedAt {T : Type 0} (i : ℕ) (n : ℤ) (subs news : List (Subscription T)) (o : Option (Signal T)) : Type 0 where
+  pub old : Subscription T
+  pub new : Subscription T
+  pub there : slice_get subs i ≡ Some old
+  -- the answer is the error of a bad request, or nothing
+  pub answer : o ≡ request_answer (standing_of old) n
+  pub effect : IsRequested (standing_of old) n old new
+  pub others : news ≡ slice_set subs i new
+
+-- the subscription with this number took a cancel, and no other one changed
+pub record IsCancelledAt {T : Type 0} (i : ℕ) (subs news : List (Subscription T)) : Type 0 where
+  pub old : Subscription T
+  pub new : Subscription T
+  pub there : slice_get subs i ≡ Some old
+  pub effect : IsCancelled (standing_of old) old new
+  pub others : news ≡ slice_set subs i new
+
+-- ---- what a move changes
+
+-- a move was made in the subscription with this number, and no other one changed
+pub record IsMadeAt {T : Type 0} (m : Meaning T) (mv : Move) (i : ℕ) (subs news : List (Subscription T)) (o : Option (SubId × Signal T)) : Type 0 where
+  pub old : Subscription T
+  pub new : Subscription T
+  pub there : slice_get subs i ≡ Some old
+  pub effect : IsEffect m mv old new o
+  pub others : news ≡ slice_set subs i new
+
+-- a move was made in its tree
+abbrev pub IsMade : {T : Type 0} → Meaning T → Move → Tree → List (Subscription T) → List (Subscription T) → Option (SubId × Signal T) → Type 0
+IsMade m mv (Sub i) subs news o = IsMadeAt m mv i.0 subs news o
+IsMade m mv (Feed h) subs news o = ⊥

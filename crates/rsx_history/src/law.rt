@@ -1,0 +1,31 @@
+//! The headline, and that idle means delivered, for whoever reads nothing else.
+
+ghost use Rattle.rsx_types.specs.Meaning.{Meaning};
+ghost use Rattle.rsx_history.specs.History.{History, published};
+ghost use Rattle.rsx_history.specs.Stands.{GraphState, StandsFor};
+ghost use Rattle.rsx_history.specs.Headline.{Headline};
+ghost use Rattle.rsx_history.specs.Pumped.{IsAllQuiet};
+ghost use Rattle.rsx_history.specs.Served.{AllServed};
+
+use rsx_types::Ops;
+
+/// The headline: wherever a graph stands for a history, what each live subscriber received, followed
+/// by what it is still owed, is its expression evaluated from scratch; it received no more than it asked for and nothing
+/// after an ending; and a subscriber that isn't live holds a prefix.
+///
+/// `Graph::new` stands for the history in which nothing has happened, and `Graph::run`, like each single call of a graph,
+/// leads from the history so far to the one that its steps and answers extend it to. So the sentence holds after any list
+/// of edits and moves, in any order. The function does nothing; its contract is the sentence.
+pub fn headline<O: Ops>()
+    ensures { (m : Meaning O.Item) (graph : GraphState O.Item) (h : History O.Item) → StandsFor m graph h → Headline m graph.subs h }
+{}
+
+/// Idle means delivered: wherever a graph stands for a history and no move is enabled, each live subscriber whose expression
+/// reads no hub got the first items of its expression's value, as many as it asked for or as there are; and the ending too,
+/// where it asked for more than there are and the value has one. It holds as long as no edge has carried 2^63-1 items.
+///
+/// `Graph::pump` answers Idle only where no move is enabled. The function does nothing; its contract is the sentence.
+pub fn idle_means_delivered<O: Ops>()
+    ensures { (m : Meaning O.Item) (graph : GraphState O.Item) (h : History O.Item) →
+        StandsFor m graph h → IsAllQuiet m graph → AllServed m (published h) graph.subs h.pasts }
+{}
