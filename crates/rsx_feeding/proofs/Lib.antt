@@ -1,0 +1,3 @@
+-- Lemmas about graphs with feeds.
+pub mod Named
+pub mod Values

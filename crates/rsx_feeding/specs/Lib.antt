@@ -1,0 +1,4 @@
+-- Definitions that contracts cite.
+pub mod Headline
+pub mod History
+pub mod Stands
