@@ -1,0 +1,5 @@
+-- Definitions that contracts cite.
+pub mod Flat
+pub mod Lanes
+pub mod Window
+pub mod Worked
