@@ -5,8 +5,9 @@ ghost use Rattle.rsx_session.specs.Answers.{IsAnswered, IsTrouble, is_of, is_hub
 
 use crate::published::{end, keep_item, let_item_go};
 use rsx_demo::{Demo, Val, is_same_val};
+use rsx_evaluation::{ScratchRefusal, scratch};
 use rsx_graph::{Deliveries, Graph, Pumped, Refusal, SubscriptionState};
-use rsx_model::{Expr, ScratchRefusal, scratch};
+use rsx_model::Expr;
 use rsx_script::{Answer, Command, Rest, Shown};
 use rsx_types::{
     Cause, Ending, HubId, HubKind, Move, NoMemory, NodeId, Signal, StreamValue, SubId, Tree,

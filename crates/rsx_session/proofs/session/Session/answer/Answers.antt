@@ -2,7 +2,7 @@ use Rattle.std.proofs.Common.{◌≡◌, ℕ, ◌++◌, ◌∷◌, [], List, Boo
 use Rattle.std.specs.Prelude.{OnOk}
 use Rattle.rsx_types.specs.declared.fault.NoMemory.{NoMemory}
 use Rattle.rsx_script.specs.Answers.{IsTextOf}
-use Rattle.rsx_script.specs.declared.command.Command.{Command}
+use Rattle.rsx_commands.specs.declared.command.Command.{Command}
 use Rattle.rsx_script.specs.declared.print.Answer.{Answer}
 use Rattle.rsx_session.specs.declared.session.View.{View}
 use Rattle.rsx_session.specs.Answers.{IsAnswered, is_of, is_refused}
