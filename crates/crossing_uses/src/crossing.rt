@@ -1,13 +1,11 @@
-//! A plain operator behind a source of another region: the moves of the edge between them, one by one.
+//! A node with the queue of its edge to another region: the moves of that edge, one by one.
 
 ghost use Rattle.std.specs.Prelude.{◌≤◌};
 
 use rsx_crossing::{CAPACITY, Queued};
 use rsx_demo::{Demo, Val};
-use rsx_node::{AnyNode, SourceNode};
 use rsx_plain::PlainNode;
 use rsx_sources::{Front, Machine, RangeNode};
-use rsx_tree::{Inputs, Node};
 use rsx_types::{Ending, NoMemory, Signal, Stage};
 use std::alloc::Global;
 use std::test::Fail;
@@ -15,8 +13,8 @@ use std::test::Fail;
 /// The function `double` of `map`.
 const DOUBLE: u16 = 2;
 
-/// A node with a queue behind it.
-type Sender = Queued<AnyNode<Val>, Val>;
+/// A source with a queue behind it.
+type Sender = Queued<RangeNode<Val>, Val>;
 
 // The tests need no facts of what they call, so these functions say nothing of their results.
 
@@ -24,19 +22,7 @@ type Sender = Queued<AnyNode<Val>, Val>;
 fn numbers(alloc: Global, count: u64) -> Result<Sender, NoMemory>
     requires { count ≤ 1000 }
 {
-    Queued::new(
-        alloc,
-        AnyNode::Source(SourceNode::Range(RangeNode::new(1, count))),
-    )
-}
-
-/// The tree that doubles them. Both of its edges cross.
-fn doubled(alloc: Global, count: u64) -> Result<Node<Sender>, NoMemory>
-    requires { count ≤ 1000 }
-{
-    let row = Node::new(numbers(alloc, count)?, Inputs::End).join(alloc, Inputs::End)?;
-    let map = PlainNode::new(alloc, &Demo, &Stage::Map(DOUBLE))?;
-    Ok(Node::new(Queued::new(alloc, AnyNode::Plain(map))?, row))
+    Queued::new(alloc, RangeNode::new(1, count))
 }
 
 /// The number of an item, the ending of a completion as 0, and no signal as -1.
@@ -48,45 +34,10 @@ fn number(signal: &Option<Signal<Val>>) -> i64 {
     }
 }
 
-/// Makes each move once: the Send of the source, the Take of the operator, and the operator's own Send.
-fn make_all(alloc: Global, tree: &mut Node<Sender>, asked: u64, taken: u64) {
-    let _ = tree.ask(0, asked, taken);
-    let _ = tree.inputs.make_row(alloc, &Demo, 0);
-    let _ = tree.send(alloc, &Demo, 0);
-    let _ = tree.machine.on_row(alloc, &Demo, asked, taken);
-}
-
 /// The number of the signal that a node with a queue gives.
 fn popped(alloc: Global, sender: &mut Sender) -> Result<i64, NoMemory> {
     let signal = sender.pop_front(alloc, &Demo)?;
     Ok(number(&signal))
-}
-
-/// Eight rounds of all moves, where so many items are asked for, and what the root's queue gave.
-fn rounds(
-    alloc: Global,
-    tree: &mut Node<Sender>,
-    asked: u64,
-    numbers: &mut Vec<i64>,
-) -> Result<(), NoMemory> {
-    for _ in 0..8 {
-        make_all(alloc, tree, asked, numbers.len() as u64);
-        let number = popped(alloc, &mut tree.machine)?;
-        if number >= 0 {
-            numbers.push(number)?;
-        }
-    }
-    Ok(())
-}
-
-/// What the root's queue gave in eight rounds.
-fn given(alloc: Global, count: u64, asked: u64) -> Result<Vec<i64>, NoMemory>
-    requires { count ≤ 1000 }
-{
-    let mut tree = doubled(alloc, count)?;
-    let mut numbers = Vec::new(alloc);
-    rounds(alloc, &mut tree, asked, &mut numbers)?;
-    Ok(numbers)
 }
 
 /// How many of 80 Sends of a source were made, and whether one more is enabled once an item was taken.
@@ -143,7 +94,7 @@ fn left(alloc: Global) -> Result<(usize, Ending), NoMemory> {
 /// Whether an operator takes items, before its ending is in its queue and behind that.
 fn takes(alloc: Global) -> Result<(bool, bool), NoMemory> {
     let map = PlainNode::new(alloc, &Demo, &Stage::Map(DOUBLE))?;
-    let mut sender = Queued::new(alloc, AnyNode::Plain(map))?;
+    let mut sender = Queued::new(alloc, map)?;
     let before = sender.can_take(0, Front::Item);
     let _ = sender.on_signal(alloc, &Demo, 0, Signal::Complete);
     let _ = sender.on_row(alloc, &Demo, 0, 0);
@@ -153,10 +104,6 @@ fn takes(alloc: Global) -> Result<(bool, bool), NoMemory> {
 #[test]
 fn items_cross_in_order_and_the_ending_behind_them(rt: HostRuntime) -> Result<(), Fail> {
     let alloc = rt.alloc();
-    let all = given(alloc, 3, 9)?;
-    assert_eq!(rt; all.as_slice(), [2, 4, 6, 0].as_slice());
-    let asked_for = given(alloc, 3, 2)?;
-    assert_eq!(rt; asked_for.as_slice(), [2, 4].as_slice());
     let again = put_back(alloc)?;
     assert_eq!(rt; again.as_slice(), [1, 2, 3, 0, -1].as_slice());
     Ok(())

@@ -3,7 +3,7 @@
 use rsx_demo::{Demo, Val};
 use rsx_evaluation::{ScratchRefusal, scratch};
 use rsx_model::{BadExpr, Expr, check_expr, leaves_of, nodes_of};
-use rsx_types::{Cause, Choices, Ending, HubId, NoMemory, Note, Stage, StreamValue};
+use rsx_types::{Choices, NoMemory, Note, Stage, StreamValue};
 use std::alloc::Global;
 use std::test::Fail;
 
@@ -40,18 +40,12 @@ fn unrecorded(alloc: Global, expr: &Expr<Val>) -> Result<Vec<Note>, NoMemory> {
     Ok(notes)
 }
 
-/// The value of an expression over these hubs, with these joins. Where a growth is refused, the evaluator is called once
-/// more.
-fn value(
-    alloc: Global,
-    expr: &Expr<Val>,
-    hubs: &[StreamValue<Val>],
-    joins: &[u64],
-) -> Result<StreamValue<Val>, Fail> {
+/// The value of an expression that reads no hub. Where a growth is refused, the evaluator is called once more.
+fn value(alloc: Global, expr: &Expr<Val>) -> Result<StreamValue<Val>, Fail> {
     let notes = unrecorded(alloc, expr)?;
-    match scratch(alloc, &Demo, expr, hubs, joins, notes.as_slice()) {
+    match scratch(alloc, &Demo, expr, &[], &[], notes.as_slice()) {
         Err(ScratchRefusal::NoMemory) => {
-            Ok(scratch(alloc, &Demo, expr, hubs, joins, notes.as_slice())?)
+            Ok(scratch(alloc, &Demo, expr, &[], &[], notes.as_slice())?)
         }
         answer => Ok(answer?),
     }
@@ -59,18 +53,7 @@ fn value(
 
 /// Whether the value of an expression is printed as this text: its items, and how it ends.
 fn has_value(alloc: Global, expr: &Expr<Val>, text: &str) -> Result<bool, Fail> {
-    has_value_over(alloc, expr, &[], &[], text)
-}
-
-/// The same over these hubs, with these joins.
-fn has_value_over(
-    alloc: Global,
-    expr: &Expr<Val>,
-    hubs: &[StreamValue<Val>],
-    joins: &[u64],
-    text: &str,
-) -> Result<bool, Fail> {
-    let value = value(alloc, expr, hubs, joins)?;
+    let value = value(alloc, expr)?;
     let shown = format!(in alloc; "{:?} {:?}", value.items(), value.ending())?;
     Ok(shown.as_str() == text)
 }
@@ -136,37 +119,6 @@ fn keeps_the_failure_of_an_input(rt: HostRuntime) -> Result<(), Fail> {
     Ok(())
 }
 
-/// The value of a hub that took in these numbers.
-fn taken_in(alloc: Global, numbers: &[i64], ending: Ending) -> Result<StreamValue<Val>, NoMemory> {
-    let mut items = Vec::new(alloc);
-    for number in numbers {
-        items.push(Val::Int(*number))?;
-    }
-    Ok(StreamValue::new(items, ending))
-}
-
-/// Two hubs: one that took in 1, 2 and 3 and is open, and one that took in 7 and failed with 9.
-fn two_hubs(alloc: Global) -> Result<[StreamValue<Val>; 2], NoMemory> {
-    let open = taken_in(alloc, &[1, 2, 3], Ending::Open)?;
-    let failed = taken_in(alloc, &[7], Ending::Failed(Cause::User(9)))?;
-    Ok([open, failed])
-}
-
-#[test]
-fn reads_a_hub_from_the_join_on(rt: HostRuntime) -> Result<(), Fail> {
-    let alloc = rt.alloc();
-    let hubs = two_hubs(alloc)?;
-    let first = plain(alloc, Stage::Map(DOUBLE), Expr::Hub(HubId(0)))?;
-    assert!(rt; has_value_over(alloc, &first, &hubs, &[0], "[2, 4, 6] Open")?);
-    assert!(rt; has_value_over(alloc, &first, &hubs, &[1], "[4, 6] Open")?);
-    assert!(rt; has_value_over(alloc, &first, &hubs, &[3], "[] Open")?);
-    let second = Expr::Hub(HubId(1));
-    assert!(rt; has_value_over(alloc, &second, &hubs, &[0], "[7] Failed(User(9))")?);
-    assert!(rt; has_value_over(alloc, &second, &hubs, &[1], "[] Failed(User(9))")?);
-    assert!(rt; has_value_over(alloc, &second, &hubs, &[u64::MAX], "[] Failed(User(9))")?);
-    Ok(())
-}
-
 /// `take 2` over 4 and this number.
 fn taken(alloc: Global, second: i64) -> Result<Expr<Val>, NoMemory> {
     let items = numbers(alloc, &[4, second])?;
@@ -210,17 +162,6 @@ fn deep(alloc: Global, levels: u32) -> Result<Expr<Val>, NoMemory> {
 }
 
 #[test]
-fn refuses_what_breaks_a_limit(rt: HostRuntime) -> Result<(), Fail> {
-    let alloc = rt.alloc();
-    assert!(rt; is_bad(&Expr::Range(i64::MAX, 2), BadExpr::Number));
-    let endless = plain(alloc, Stage::Take(1_000_001), Expr::Range(1, 3))?;
-    assert!(rt; is_bad(&endless, BadExpr::Number));
-    let long = numbers(alloc, &[5; 1025])?;
-    assert!(rt; is_bad(&long, BadExpr::Length));
-    Ok(())
-}
-
-#[test]
 fn refuses_what_is_too_deep(rt: HostRuntime) -> Result<(), Fail> {
     let alloc = rt.alloc();
     let deepest = deep(alloc, 31)?;
@@ -240,19 +181,7 @@ fn is_refused(
     notes: &[Note],
     text: &str,
 ) -> Result<bool, NoMemory> {
-    is_refused_over(alloc, expr, &[], joins, notes, text)
-}
-
-/// The same over these hubs.
-fn is_refused_over(
-    alloc: Global,
-    expr: &Expr<Val>,
-    hubs: &[StreamValue<Val>],
-    joins: &[u64],
-    notes: &[Note],
-    text: &str,
-) -> Result<bool, NoMemory> {
-    let Err(refusal) = scratch(alloc, &Demo, expr, hubs, joins, notes) else {
+    let Err(refusal) = scratch(alloc, &Demo, expr, &[], joins, notes) else {
         return Ok(false);
     };
     let shown = format!(in alloc; "{}: {refusal}", refusal.name())?;
@@ -273,39 +202,6 @@ fn names_each_refusal(rt: HostRuntime) -> Result<(), Fail> {
     Ok(())
 }
 
-#[test]
-fn refuses_a_hub_that_is_not_there(rt: HostRuntime) -> Result<(), Fail> {
-    let alloc = rt.alloc();
-    let hubs = two_hubs(alloc)?;
-    let last: Expr<Val> = Expr::Hub(HubId(1));
-    let next: Expr<Val> = Expr::Hub(HubId(2));
-    assert_eq!(rt; check_expr(&last, 2), Ok(()));
-    assert_eq!(rt; check_expr(&next, 2), Err(BadExpr::Hub));
-    assert!(rt; is_bad(&Expr::Hub(HubId(0)), BadExpr::Hub));
-    let unknown = "M1: bad expression: no such hub";
-    assert!(rt; is_refused_over(alloc, &next, &hubs, &[0], &[Note::Nothing], unknown)?);
-    assert!(rt; is_refused_over(alloc, &next, &hubs, &[], &[], unknown)?);
-    let over = plain(alloc, Stage::Take(1_000_001), next)?;
-    let number = "M1: bad expression: a number is out of its limit";
-    assert!(rt; is_refused_over(alloc, &over, &hubs, &[0], &[], number)?);
-    Ok(())
-}
-
-#[test]
-fn wants_a_join_for_each_hub_leaf(rt: HostRuntime) -> Result<(), Fail> {
-    let alloc = rt.alloc();
-    let hubs = two_hubs(alloc)?;
-    let expr = plain(alloc, Stage::Take(2), Expr::Hub(HubId(0)))?;
-    assert_eq!(rt; (nodes_of(&expr), leaves_of(&expr)), (2, 1));
-    let unfit = "M2: the notes or the joins do not fit the expression";
-    let notes = [Note::Nothing, Note::Nothing];
-    assert!(rt; is_refused_over(alloc, &expr, &hubs, &[], &notes, unfit)?);
-    assert!(rt; is_refused_over(alloc, &expr, &hubs, &[0, 0], &notes, unfit)?);
-    let chosen = [Note::Nothing, Note::Picks(Choices::new(Vec::new(alloc)))];
-    assert!(rt; is_refused_over(alloc, &expr, &hubs, &[0], &chosen, unfit)?);
-    Ok(())
-}
-
 /// Whether a kind of bad expression has this number and this text.
 fn is_kind(alloc: Global, kind: BadExpr, text: &str) -> Result<bool, NoMemory> {
     let shown = format!(in alloc; "{}: {kind}", kind.number())?;
@@ -317,8 +213,10 @@ fn prints_each_limit(rt: HostRuntime) -> Result<(), Fail> {
     let alloc = rt.alloc();
     let deep = "1: the expression is deeper than 32 nodes";
     let large = "2: the expression has more than 256 nodes";
+    let inputs = "3: a node has no inputs, or more than 16";
     assert!(rt; is_kind(alloc, BadExpr::Depth, deep)?);
     assert!(rt; is_kind(alloc, BadExpr::Nodes, large)?);
+    assert!(rt; is_kind(alloc, BadExpr::Inputs, inputs)?);
     assert!(rt; is_kind(alloc, BadExpr::Number, "4: a number is out of its limit")?);
     assert!(rt; is_kind(alloc, BadExpr::Hub, "6: no such hub")?);
     assert!(rt; is_kind(alloc, BadExpr::Length, "7: a list has more than 1024 items")?);

@@ -8,8 +8,4 @@ mod demonstration;
 #[cfg(test)]
 mod evaluator;
 #[cfg(test)]
-mod publish_on;
-#[cfg(test)]
-mod several;
-#[cfg(test)]
 mod words;
