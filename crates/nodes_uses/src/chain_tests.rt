@@ -89,13 +89,6 @@ const FAULT: Ending = Ending::Failed(Cause::Function(7));
 const FAILURE: Ending = Ending::Failed(Cause::User(3));
 
 #[test]
-fn an_empty_chain_hands_everything_on(rt: HostRuntime) -> Result<(), Fail> {
-    let alloc = rt.alloc();
-    assert!(rt; answers(alloc, &[], (&[4, 1], Ending::Open), (&[4, 1], Ending::Open))?);
-    Ok(())
-}
-
-#[test]
 fn seeds_go_through_the_operators_behind(rt: HostRuntime) -> Result<(), Fail> {
     let alloc = rt.alloc();
     let scans = [Stage::Scan(0, 2), Stage::Scan(0, 1)];
@@ -114,32 +107,6 @@ fn seeds_go_through_the_operators_behind(rt: HostRuntime) -> Result<(), Fail> {
 }
 
 #[test]
-fn a_take_completes_the_operators_behind_it(rt: HostRuntime) -> Result<(), Fail> {
-    let alloc = rt.alloc();
-    let none = [Stage::Take(0), Stage::Scan(0, 6)];
-    assert!(rt; answers(alloc, &none, (&[5, 3], Ending::Done), (&[6], Ending::Done))?);
-    let keys = [Stage::Take(2), Stage::Distinct(0)];
-    assert!(rt;
-        answers(
-            alloc,
-            &keys,
-            (&[1, 2, 9], Ending::Done),
-            (&[1], Ending::Done)
-        )?
-    );
-    let lists = [Stage::Take(3), Stage::Buffer(2)];
-    assert!(rt;
-        answers(
-            alloc,
-            &lists,
-            (&[4, 5, 6, 7], Ending::Done),
-            (&[2, 1], Ending::Done)
-        )?
-    );
-    Ok(())
-}
-
-#[test]
 fn a_buffer_gathers_what_a_filter_keeps(rt: HostRuntime) -> Result<(), Fail> {
     let alloc = rt.alloc();
     let stages = [Stage::Filter(0), Stage::Buffer(2)];
@@ -152,16 +119,6 @@ fn a_buffer_gathers_what_a_filter_keeps(rt: HostRuntime) -> Result<(), Fail> {
         )?
     );
     assert!(rt; answers(alloc, &stages, (&[1, 9, 2, 3, 7], FAILURE), (&[2], FAILURE))?);
-    Ok(())
-}
-
-#[test]
-fn a_fault_of_the_second_operator_ends_the_chain(rt: HostRuntime) -> Result<(), Fail> {
-    let alloc = rt.alloc();
-    let stages = [Stage::Filter(0), Stage::Map(1)];
-    assert!(rt; answers(alloc, &stages, (&[9, 2, 1], Ending::Done), (&[], FAULT))?);
-    let seeded = [Stage::Scan(0, 4), Stage::Filter(1)];
-    assert!(rt; answers(alloc, &seeded, (&[9, 2, 1], Ending::Done), (&[], FAULT))?);
     Ok(())
 }
 

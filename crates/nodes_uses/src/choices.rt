@@ -1,8 +1,8 @@
-//! Choices as runs, and the pick and the merge of whole values.
+//! Choices as runs, and the merge of whole values under choices.
 
-use rsx_choices::{Input, Record, Run, concat, merge, merge_inputs, pick};
+use rsx_choices::{Record, Run, merge};
 use rsx_demo::Val;
-use rsx_types::{Cause, Ending, NoMemory, Signal, StreamValue};
+use rsx_types::{Ending, NoMemory, StreamValue};
 use std::alloc::Global;
 use std::test::Fail;
 
@@ -51,49 +51,6 @@ fn merged(alloc: Global, choices: &[u64]) -> Result<Vec<i64>, NoMemory> {
     Ok(all)
 }
 
-/// Two inputs, of which the second fails behind its item.
-fn failing(alloc: Global) -> Result<Vec<Input<Val>>, NoMemory> {
-    let mut inputs = Vec::new(alloc);
-    inputs.push(Input::new(alloc, 4, value(alloc, &[1, 2], Ending::Open)?)?)?;
-    let failed = value(alloc, &[3], Ending::Failed(Cause::User(7)))?;
-    inputs.push(Input::new(alloc, 9, failed)?)?;
-    Ok(inputs)
-}
-
-/// The numbers of the inputs that were taken, one by one; 0 alone where the choices don't fit.
-fn sources(alloc: Global, choices: &[u64]) -> Result<Vec<u64>, NoMemory> {
-    let mut all = Vec::new(alloc);
-    match pick(alloc, failing(alloc)?, choices)? {
-        Some(taken) => {
-            for (number, _) in &taken {
-                all.push(*number)?;
-            }
-        }
-        None => all.push(0)?,
-    }
-    Ok(all)
-}
-
-/// How many items come out of these inputs, and the ending behind them.
-fn failed(alloc: Global, choices: &[u64]) -> Result<(usize, Ending), NoMemory> {
-    match merge_inputs(alloc, failing(alloc)?, choices)? {
-        Some(value) => Ok((value.items().len(), value.ending())),
-        None => Ok((0, Ending::Open)),
-    }
-}
-
-/// The numbers of a concat of two values, of which the first ends so, and whether it is done.
-fn joined(alloc: Global, ending: Ending) -> Result<(Vec<i64>, bool), NoMemory> {
-    let mut values = Vec::new(alloc);
-    values.push(value(alloc, &[1, 2], ending)?)?;
-    values.push(value(alloc, &[3], Ending::Done)?)?;
-    let whole = concat(alloc, values)?;
-    Ok((
-        numbers(alloc, whole.items())?,
-        whole.ending() == Ending::Done,
-    ))
-}
-
 /// A record of these choices.
 fn record(alloc: Global, choices: &[u64]) -> Result<Record, NoMemory> {
     let mut record = Record::new(alloc);
@@ -132,33 +89,5 @@ fn a_merge_follows_its_choices(rt: HostRuntime) -> Result<(), Fail> {
     assert_eq!(rt; third_signal.as_slice(), [-1].as_slice());
     let third_input = merged(alloc, &[2])?;
     assert_eq!(rt; third_input.as_slice(), [-1].as_slice());
-    Ok(())
-}
-
-#[test]
-fn a_pick_ends_at_the_first_failure(rt: HostRuntime) -> Result<(), Fail> {
-    let alloc = rt.alloc();
-    let item_first = sources(alloc, &[9])?;
-    assert_eq!(rt; item_first.as_slice(), [9, 4, 4, 9].as_slice());
-    let failure_chosen = sources(alloc, &[9, 9])?;
-    assert_eq!(rt; failure_chosen.as_slice(), [9, 9].as_slice());
-    let behind_it = sources(alloc, &[9, 9, 4])?;
-    assert_eq!(rt; behind_it.as_slice(), [0].as_slice());
-    assert_eq!(rt;
-        failed(alloc, &[4, 9, 9])?,
-        (2, Ending::Failed(Cause::User(7)))
-    );
-    Ok(())
-}
-
-#[test]
-fn a_concat_goes_on_behind_a_completion(rt: HostRuntime) -> Result<(), Fail> {
-    let alloc = rt.alloc();
-    let (all, done) = joined(alloc, Ending::Done)?;
-    assert_eq!(rt; all.as_slice(), [1, 2, 3].as_slice());
-    assert_eq!(rt; done, true);
-    let (first, open) = joined(alloc, Ending::Open)?;
-    assert_eq!(rt; first.as_slice(), [1, 2].as_slice());
-    assert_eq!(rt; open, false);
     Ok(())
 }

@@ -2,8 +2,8 @@
 
 use rsx_concat::ConcatNode;
 use rsx_demo::{Demo, Val};
-use rsx_sources::{Front, Machine, Passed};
-use rsx_types::{Cause, Ending, NoMemory, Note, Signal, StreamValue};
+use rsx_sources::Machine;
+use rsx_types::{Ending, NoMemory, Signal, StreamValue};
 use std::alloc::Global;
 use std::test::Fail;
 
@@ -55,15 +55,6 @@ fn given(alloc: Global) -> Result<(Vec<i64>, u64, u64), NoMemory> {
     Ok((numbers, before, then))
 }
 
-/// What it offers where the last input fails before its turn, and once the first has completed.
-fn failing(alloc: Global) -> Result<(Option<Front>, Option<Front>), NoMemory> {
-    let mut node = three(alloc)?;
-    let _ = node.on_signal(alloc, &Demo, 2, Signal::Error(Cause::User(7)));
-    let early = node.front();
-    let _ = node.on_signal(alloc, &Demo, 0, Signal::Complete);
-    Ok((early, node.front()))
-}
-
 /// What still comes out where an item waits and these items come in at the first input, which is complete then.
 fn owed(alloc: Global) -> Result<(usize, Ending), NoMemory> {
     let mut node = three(alloc)?;
@@ -76,29 +67,6 @@ fn owed(alloc: Global) -> Result<(usize, Ending), NoMemory> {
     Ok((value.items().len(), value.ending()))
 }
 
-/// Whether a fresh concat records nothing and lets an item pass of its first input alone, and whether it has a hub, a pick, a row or
-/// anything to send.
-fn looks(alloc: Global) -> Result<(bool, bool), NoMemory> {
-    let mut node = three(alloc)?;
-    let declines = matches!(node.pass(alloc, &Demo, 1, Val::Int(1)), Passed::Declined(_));
-    // An item of the input whose turn it is goes through without a move of its own.
-    let passes = matches!(
-        node.pass(alloc, &Demo, 0, Val::Int(1)),
-        Passed::Item(Val::Int(1))
-    );
-    let records = matches!(node.note(alloc)?, Note::Nothing);
-    let reads = node.hub().is_some()
-        || node.has_room()
-        || node.on_published(Signal::Complete).is_ok();
-    let steps = node.can_row(9, 0)
-        || node.on_row(alloc, &Demo, 9, 0).is_ok()
-        || node.can_pick(0, 9, 0)
-        || node.next_pick(9, 0).is_some()
-        || node.on_pick(alloc, &Demo, 0, 9, 0).is_ok();
-    let waits = node.has_ended() || node.pop_item(alloc, &Demo).is_some();
-    Ok((declines && passes && records, reads || steps || waits))
-}
-
 #[test]
 fn inputs_come_one_after_the_other(rt: HostRuntime) -> Result<(), Fail> {
     let alloc = rt.alloc();
@@ -107,16 +75,5 @@ fn inputs_come_one_after_the_other(rt: HostRuntime) -> Result<(), Fail> {
     assert_eq!(rt; (before, then), (0, 7));
     // The last input has no value, so it stays open.
     assert_eq!(rt; owed(alloc)?, (2, Ending::Open));
-    Ok(())
-}
-
-#[test]
-fn an_early_failure_is_kept_until_its_turn(rt: HostRuntime) -> Result<(), Fail> {
-    let alloc = rt.alloc();
-    assert_eq!(rt;
-        failing(alloc)?,
-        (None, Some(Front::Failure(Cause::User(7))))
-    );
-    assert_eq!(rt; looks(alloc)?, (true, false));
     Ok(())
 }

@@ -29,6 +29,4 @@ mod received;
 #[cfg(test)]
 mod source_tests;
 #[cfg(test)]
-mod value_tests;
-#[cfg(test)]
 mod zip_tests;

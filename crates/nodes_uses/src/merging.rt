@@ -5,8 +5,8 @@ ghost use Rattle.rsx_prefetch.specs.declared.TheConstants.{LARGEST};
 
 use rsx_demo::{Demo, Val};
 use rsx_merging::MergeNode;
-use rsx_sources::{Front, Machine, Passed};
-use rsx_types::{Cause, Ending, NoMemory, Note, Signal, StreamValue};
+use rsx_sources::Machine;
+use rsx_types::{Ending, NoMemory, Note, Signal, StreamValue};
 use std::alloc::Global;
 use std::test::Fail;
 
@@ -122,38 +122,6 @@ fn noted(alloc: Global) -> Result<Vec<u64>, NoMemory> {
     }
 }
 
-/// What a fresh merge says of itself: what it wants of an input and of none, what it takes, and that it has no hub, no row and no
-/// pick.
-fn looks(alloc: Global) -> Result<(u64, u64, bool, bool), NoMemory> {
-    let mut node = MergeNode::new(alloc, 2, 4)?;
-    let passes = matches!(node.pass(alloc, &Demo, 2, Val::Int(1)), Passed::Declined(_));
-    let reads = node.hub().is_some()
-        || node.has_room()
-        || node.on_published(Signal::Complete).is_ok();
-    let steps = node.can_row(9, 0)
-        || node.on_row(alloc, &Demo, 9, 0).is_ok()
-        || node.can_pick(0, 9, 0)
-        || node.has_ended()
-        || node.front().is_some();
-    let takes = node.can_take(1, Front::Item) && !node.can_take(2, Front::Completion);
-    let (full, absent) = (node.want(1, 9, 0), node.want(2, 9, 0));
-    // An item goes in without a move of its own, and waits to be picked.
-    let keeps = matches!(node.pass(alloc, &Demo, 0, Val::Int(1)), Passed::Kept)
-        && node.can_pick(0, 9, 0);
-    Ok((full, absent, passes && takes && keeps, reads || steps))
-}
-
-/// Whether a failure is picked before an item that waits at the other input, and what can be picked after it.
-fn failing(alloc: Global) -> Result<(Option<Front>, bool), NoMemory> {
-    let mut node = MergeNode::new(alloc, 2, 1)?;
-    let _ = hand(alloc, &mut node, 0, Signal::Next(Val::Int(1)));
-    let _ = hand(alloc, &mut node, 1, Signal::Error(Cause::User(7)));
-    let _ = node.on_pick(alloc, &Demo, 1, 0, 0);
-    let front = node.front();
-    let _ = node.pop_front(alloc, &Demo)?;
-    Ok((front, node.next_pick(9, 0).is_some()))
-}
-
 #[test]
 fn a_long_run_is_one(rt: HostRuntime) -> Result<(), Fail> {
     let alloc = rt.alloc();
@@ -170,16 +138,5 @@ fn what_comes_out_follows_the_choices(rt: HostRuntime) -> Result<(), Fail> {
     assert_eq!(rt; owed(alloc)?, (3, Ending::Done));
     let choices = noted(alloc)?;
     assert_eq!(rt; choices.as_slice(), [1, 0].as_slice());
-    Ok(())
-}
-
-#[test]
-fn a_fresh_merge_waits(rt: HostRuntime) -> Result<(), Fail> {
-    let alloc = rt.alloc();
-    assert_eq!(rt; looks(alloc)?, (4, 0, true, false));
-    assert_eq!(rt;
-        failing(alloc)?,
-        (Some(Front::Failure(Cause::User(7))), false)
-    );
     Ok(())
 }

@@ -3,10 +3,10 @@
 ghost use Rattle.std.specs.Prelude.{◌≡◌, []};
 
 use crate::numbers::{PLENTY, SCARCE};
-use crate::received::{Received, chooses_nothing, signal_of, take_all};
+use crate::received::{Received, signal_of, take_all};
 use rsx_operators::{Operator, PlainState};
 use rsx_plain::PlainNode;
-use rsx_sources::{Front, Machine, NotTaken, OutSlot};
+use rsx_sources::{Front, Machine, NotTaken};
 use rsx_types::{Cause, Ending, NoMemory, Signal, Stage, StreamValue};
 use std::alloc::Global;
 use std::test::Fail;
@@ -81,21 +81,6 @@ const FAULT: Ending = Ending::Failed(Cause::Function(7));
 
 /// A failure that comes in.
 const FAILURE: Ending = Ending::Failed(Cause::User(3));
-
-#[test]
-fn a_map_answers_each_item(rt: HostRuntime) -> Result<(), Fail> {
-    let alloc = rt.alloc();
-    assert!(rt;
-        answers(
-            alloc,
-            Stage::Map(0),
-            (&[4, 9], Ending::Done),
-            (&[-1, -1], Ending::Done)
-        )?
-    );
-    assert!(rt; answers(alloc, Stage::Map(1), (&[4, 9], Ending::Done), (&[], FAULT))?);
-    Ok(())
-}
 
 #[test]
 fn a_filter_keeps_what_its_test_keeps(rt: HostRuntime) -> Result<(), Fail> {
@@ -217,32 +202,5 @@ fn a_map_takes_an_item_without_memory(rt: HostRuntime) -> Result<(), Fail> {
     give_without_memory(alloc, &mut node, 4);
     assert_eq!(rt; node.front(), Some(Front::Item));
     assert!(rt; !node.has_ended());
-    Ok(())
-}
-
-#[test]
-fn a_filter_asks_again_and_chooses_nothing(rt: HostRuntime) -> Result<(), Fail> {
-    let alloc = rt.alloc();
-    let mut node = PlainNode::new(alloc, &PLENTY, &Stage::Filter(0))?;
-    give(alloc, &mut node, Signal::Next(4))?;
-    assert!(rt; chooses_nothing(alloc, &mut node)?);
-    assert!(rt; node.can_take(0, Front::Item));
-    assert_eq!(rt; node.want(0, 2, 0), 3);
-    Ok(())
-}
-
-#[test]
-fn a_state_answers_by_itself(rt: HostRuntime) -> Result<(), Fail> {
-    let alloc = rt.alloc();
-    let mut state = PlainState::new(alloc, &PLENTY, &Stage::Filter(0))?;
-    let mut slot = OutSlot::new();
-    assert!(rt;
-        state
-            .react(alloc, &PLENTY, Signal::Next(2), &mut slot)
-            .is_ok()
-    );
-    assert_eq!(rt; slot.len(), 1);
-    assert!(rt; !state.is_over());
-    assert_eq!(rt; state.want(4, 1), 4);
     Ok(())
 }

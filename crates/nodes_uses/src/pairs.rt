@@ -1,9 +1,7 @@
 //! The functions of a small caller over `i64`.
 
-ghost use Rattle.std.specs.Prelude.{IfOk};
-
-use rsx_types::{Ending, Fault, NoMemory, Ops, StreamValue};
-use std::alloc::{AllocError, Global};
+use rsx_types::{Fault, NoMemory, Ops};
+use std::alloc::Global;
 
 /// A row is its last item, or 0 where it has none. No other function is used.
 #[derive(Clone, Copy)]
@@ -76,14 +74,4 @@ impl Ops for Pairs {
     fn from_i64(&self, alloc: Global, v: i64) -> Result<i64, NoMemory> {
         Ok(v)
     }
-}
-
-/// The value with these items and this ending.
-pub(crate) fn value(
-    alloc: Global,
-    items: &[i64],
-    ending: Ending,
-) -> Result<StreamValue<i64>, AllocError> {
-    let list = Vec::from_slice(alloc, items)?;
-    Ok(StreamValue::new(list, ending))
 }

@@ -4,8 +4,8 @@ ghost use Rattle.std.specs.Prelude.{◌≤◌};
 
 use rsx_demo::{Demo, Val};
 use rsx_publish_on::PublishOnNode;
-use rsx_sources::{Front, Machine, Passed};
-use rsx_types::{Cause, Ending, NoMemory, Note, Signal, StreamValue};
+use rsx_sources::{Front, Machine};
+use rsx_types::{Cause, Ending, NoMemory, Signal, StreamValue};
 use std::alloc::Global;
 use std::test::Fail;
 
@@ -87,36 +87,6 @@ fn owed(alloc: Global) -> Result<(usize, Ending), NoMemory> {
     Ok((value.items().len(), value.ending()))
 }
 
-/// Whether an item goes through an empty node, and whether the next does behind one in the queue.
-fn passes(alloc: Global) -> Result<(bool, bool), NoMemory> {
-    let mut node = PublishOnNode::new(alloc, 4)?;
-    let empty = matches!(
-        node.pass(alloc, &Demo, 0, Val::Int(1)),
-        Passed::Item(Val::Int(1))
-    );
-    let _ = hand(alloc, &mut node, 2);
-    let behind = matches!(node.pass(alloc, &Demo, 0, Val::Int(3)), Passed::Item(_));
-    Ok((empty, behind))
-}
-
-/// Whether a fresh node takes any signal of its input, wants nothing of another and records nothing; and whether it has a hub, a
-/// pick or a row.
-fn looks(alloc: Global) -> Result<(bool, bool), NoMemory> {
-    let mut node: PublishOnNode<Val> = PublishOnNode::new(alloc, 4)?;
-    let takes = node.can_take(0, Front::Item) && node.can_take(0, Front::Completion);
-    let other = node.can_take(1, Front::Item) || node.want(1, 9, 0) > 0;
-    let records = matches!(node.note(alloc)?, Note::Nothing);
-    let reads = node.hub().is_some()
-        || node.has_room()
-        || node.on_published(Signal::Complete).is_ok();
-    let steps = node.can_row(9, 0)
-        || node.on_row(alloc, &Demo, 9, 0).is_ok()
-        || node.can_pick(0, 9, 0)
-        || node.next_pick(9, 0).is_some()
-        || node.on_pick(alloc, &Demo, 0, 9, 0).is_ok();
-    Ok((takes && records && !other, reads || steps))
-}
-
 #[test]
 fn a_failure_stays_behind_the_items(rt: HostRuntime) -> Result<(), Fail> {
     let alloc = rt.alloc();
@@ -134,13 +104,5 @@ fn more_is_wanted_once_a_batch_was_sent(rt: HostRuntime) -> Result<(), Fail> {
     assert_eq!(rt; wants(alloc, 1, 0)?, (1, 1, 2));
     assert_eq!(rt; wants(alloc, 4, 2)?, (4, 4, 7));
     assert_eq!(rt; wants(alloc, 1_024, 767)?, (1_024, 1_024, 1_792));
-    Ok(())
-}
-
-#[test]
-fn an_item_goes_through_an_empty_node(rt: HostRuntime) -> Result<(), Fail> {
-    let alloc = rt.alloc();
-    assert_eq!(rt; passes(alloc)?, (true, false));
-    assert_eq!(rt; looks(alloc)?, (true, false));
     Ok(())
 }

@@ -1,9 +1,9 @@
-//! The queue of an input, and the out slot of a node with several inputs.
+//! The queue of an input.
 
 ghost use Rattle.std.specs.Prelude.{◌≤◌};
 
 use rsx_demo::{Demo, Val};
-use rsx_queued::{Output, QueuedInput, Remaining};
+use rsx_queued::{QueuedInput, Remaining};
 use rsx_sources::Front;
 use rsx_types::{Ending, NoMemory, Signal};
 use std::alloc::Global;
@@ -65,26 +65,6 @@ fn left(alloc: Global) -> Result<(usize, Ending, bool), NoMemory> {
     }
 }
 
-/// What an output gives that an item and then the completion are put into, each of them put back once.
-fn given(alloc: Global) -> Result<(Vec<i64>, bool), NoMemory> {
-    let mut output = Output::Empty;
-    let mut numbers = Vec::new(alloc);
-    if output.is_empty() {
-        output.put(Signal::Next(Val::Int(5)));
-    }
-    if let Some(item) = output.pop_item() {
-        output.put_back(Signal::Next(item));
-    }
-    numbers.push(number(&output.pop()))?;
-    if output.is_empty() {
-        output.put(Signal::Complete);
-    }
-    let has_ended = output.has_ending() && output.front() == Some(Front::Completion);
-    numbers.push(number(&output.pop()))?;
-    numbers.push(number(&output.pop()))?;
-    Ok((numbers, has_ended))
-}
-
 #[test]
 fn an_ending_stands_beside_a_full_queue(rt: HostRuntime) -> Result<(), Fail> {
     let alloc = rt.alloc();
@@ -93,14 +73,5 @@ fn an_ending_stands_beside_a_full_queue(rt: HostRuntime) -> Result<(), Fail> {
     assert_eq!(rt; gone, true);
     assert_eq!(rt; left(alloc)?, (2, Ending::Done, true));
     assert_eq!(rt; filled(alloc)?.credits(), 2);
-    Ok(())
-}
-
-#[test]
-fn nothing_follows_an_ending(rt: HostRuntime) -> Result<(), Fail> {
-    let alloc = rt.alloc();
-    let (numbers, has_ended) = given(alloc)?;
-    assert_eq!(rt; numbers.as_slice(), [5, 0, -1].as_slice());
-    assert_eq!(rt; has_ended, true);
     Ok(())
 }

@@ -1,8 +1,8 @@
 //! The node of zip.
 
-use crate::pairs::{PLENTY, SCARCE, value};
-use rsx_sources::{Front, Machine, NotMade, NotTaken};
-use rsx_types::{Cause, Ending, Note, Signal};
+use crate::pairs::{PLENTY, SCARCE};
+use rsx_sources::{Machine, NotMade};
+use rsx_types::{Cause, Note, Signal};
 use rsx_zipping::ZipNode;
 use std::test::Fail;
 
@@ -37,18 +37,6 @@ fn it_fails_as_the_input_whose_items_are_used(rt: HostRuntime) -> Result<(), Fai
 }
 
 #[test]
-fn a_full_queue_takes_an_ending_and_no_item(rt: HostRuntime) -> Result<(), Fail> {
-    let alloc = rt.alloc();
-    let mut node: ZipNode<i64> = ZipNode::new(alloc, 2, 1)?;
-    assert!(rt; node.on_signal(alloc, &PLENTY, 1, Signal::Next(6)).is_ok());
-    assert!(rt; !node.can_take(1, Front::Item) && node.can_take(1, Front::Completion));
-    let back = node.on_signal(alloc, &PLENTY, 1, Signal::Next(7));
-    assert!(rt; matches!(back, Err(NotTaken::Busy(Signal::Next(7)))));
-    assert!(rt; !node.can_take(2, Front::Completion));
-    Ok(())
-}
-
-#[test]
 fn a_row_without_memory_leaves_the_items(rt: HostRuntime) -> Result<(), Fail> {
     let alloc = rt.alloc();
     let mut node: ZipNode<i64> = ZipNode::new(alloc, 2, 1)?;
@@ -60,24 +48,5 @@ fn a_row_without_memory_leaves_the_items(rt: HostRuntime) -> Result<(), Fail> {
     assert!(rt; node.want(1, 1, 0) == 2);
     let row = node.pop_front(alloc, &PLENTY)?;
     assert!(rt; matches!(row, Some(Signal::Next(6))));
-    Ok(())
-}
-
-#[test]
-fn the_rest_is_what_waits_and_the_zip_of_what_is_left(rt: HostRuntime) -> Result<(), Fail> {
-    let alloc = rt.alloc();
-    let mut node: ZipNode<i64> = ZipNode::new(alloc, 2, 2)?;
-    assert!(rt; node.on_signal(alloc, &PLENTY, 0, Signal::Next(1)).is_ok());
-    assert!(rt; node.on_signal(alloc, &PLENTY, 1, Signal::Next(6)).is_ok());
-    assert!(rt; node.on_signal(alloc, &PLENTY, 1, Signal::Next(7)).is_ok());
-    assert_eq!(rt; node.on_row(alloc, &PLENTY, 9, 0), Ok(()));
-    let first = value(alloc, &[2], Ending::Done)?;
-    let second = value(alloc, &[8], Ending::Open)?;
-    let rest = node.residual(alloc, &PLENTY, &[], &[first, second])?;
-    assert!(rt; rest.items() == [6, 7].as_slice() && rest.ending() == Ending::Done);
-    let row = node.pop_front(alloc, &PLENTY)?;
-    assert!(rt; matches!(row, Some(Signal::Next(6))));
-    node.put_back(Signal::Next(6));
-    assert_eq!(rt; node.front(), Some(Front::Item));
     Ok(())
 }

@@ -29,6 +29,9 @@ fn total<O: Ops>(alloc: Global, ops: &O, input: Expr<O::Item>) -> Result<Expr<O:
     }
 }
 
+/// The worker of a `publishOn`.
+const WORKER: u8 = 1;
+
 /// How many items of each input are asked for in advance.
 const PREFETCH: u64 = 64;
 
@@ -64,6 +67,7 @@ pub fn expression<O: Ops>(alloc: Global, ops: &O, case: &str, count: u64) -> Res
         "merge" => Ok(Expr::Merge(PREFETCH, halves(alloc, count)?)),
         "zip" => Ok(Expr::Zip(PREFETCH, halves(alloc, count)?)),
         "latest" => Ok(Expr::Latest(PREFETCH, halves(alloc, count)?)),
+        "publish" => Ok(Expr::On(WORKER, PREFETCH, Box::new(alloc, range)?)),
         _ => bail!("no such case"),
     }
 }

@@ -1,6 +1,6 @@
 //! Traces over readers and writers, and the faults that end their reading.
 
-use crate::tests::{Full, Slow};
+use crate::scripts::{Full, Slow};
 use rsx_drive::drive;
 use rsx_script::{AppFault, LineRefusal, Mode};
 use std::alloc::Global;

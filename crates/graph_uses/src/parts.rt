@@ -1,4 +1,0 @@
-//! Parts and the queue behind a root edge, over the demonstration's functions.
-
-mod hub;
-mod part;
