@@ -1,7 +1,10 @@
 //! A graph with what each of its subscribers received: the state of a run.
 
-ghost use Rattle.std.specs.Prelude.{◌≡◌, ◌≤◌, [], true, length, string_bytes, OnErr, OnOk, IsOk, IfOk, IfErr};
-ghost use Rattle.rsx_session.specs.Answers.{IsAnswered, IsTrouble, is_of, is_hub, is_sub, is_done, is_pumped, is_received, is_shown, is_compared};
+ghost use Rattle.std.specs.Prelude.{◌≡◌, ◌≤◌, [], true, length, slice_get, Some, string_bytes, OnErr, OnOk, IsOk, IfOk, IfErr};
+ghost use Rattle.rsx_history.specs.History.{History, no_history};
+ghost use Rattle.rsx_session.specs.Sessions.{IsLookTrouble, IsRestOf, IsScratchTrouble, IsTroubleOf, IsValueOf, Says, SessionStands, place_of};
+ghost use Rattle.rsx_session.specs.Places.{AreChoices, AreJoins, IsAsked, IsCounted, IsShown, IsValued, IsViewed};
+ghost use Rattle.rsx_session.specs.Answers.{IsAnswered, IsTrouble, is_asked, is_choices, is_count, is_joins, is_of, is_hub, is_sub, is_done, is_pumped, is_received, is_value, is_shown, is_compared};
 
 use crate::published::{end, keep_item, let_item_go};
 use rsx_demo::{Demo, Val, is_same_val};
@@ -37,7 +40,7 @@ enum Trouble {
 }
 
 impl From<Refusal> for Trouble {
-    ghost from_gives = { λ _ t. IsTrouble t };
+    ghost from_gives = { λ r t. IsTrouble t × IsTroubleOf r t };
 
     fn from(refusal: Refusal) -> Trouble {
         match refusal {
@@ -48,7 +51,7 @@ impl From<Refusal> for Trouble {
 }
 
 impl From<ScratchRefusal> for Trouble {
-    ghost from_gives = { λ _ t. IsTrouble t };
+    ghost from_gives = { λ r t. IsTrouble t × IsScratchTrouble r t };
 
     fn from(refusal: ScratchRefusal) -> Trouble {
         match refusal {
@@ -59,7 +62,9 @@ impl From<ScratchRefusal> for Trouble {
 }
 
 impl<T: Drop> From<AllocFailed<T>> for Trouble {
-    ghost from_gives = { λ _ t. IsTrouble t };
+    ghost use Rattle.rsx_session.specs.declared.session.Trouble.TheVariants.{Memory};
+
+    ghost from_gives = { λ _ t. t ≡ Memory };
 
     fn from(_e: AllocFailed<T>) -> Trouble {
         Trouble::Memory
@@ -67,7 +72,9 @@ impl<T: Drop> From<AllocFailed<T>> for Trouble {
 }
 
 impl From<AllocError> for Trouble {
-    ghost from_gives = { λ _ t. IsTrouble t };
+    ghost use Rattle.rsx_session.specs.declared.session.Trouble.TheVariants.{Memory};
+
+    ghost from_gives = { λ _ t. t ≡ Memory };
 
     fn from(_e: AllocError) -> Trouble {
         Trouble::Memory
@@ -75,7 +82,9 @@ impl From<AllocError> for Trouble {
 }
 
 impl From<NoMemory> for Trouble {
-    ghost from_gives = { λ _ t. IsTrouble t };
+    ghost use Rattle.rsx_session.specs.declared.session.Trouble.TheVariants.{Memory};
+
+    ghost from_gives = { λ _ t. t ≡ Memory };
 
     fn from(_e: NoMemory) -> Trouble {
         Trouble::Memory
@@ -110,6 +119,7 @@ impl Session {
         ensures made { IsOk result }
         ensures view { IfOk result (λ s. s.view ≡ view) }
         ensures empty { IfOk result (λ s. (s.published.items ≡ []) × (s.records.items ≡ [])) }
+        ensures stands { IfOk result (λ s. SessionStands s no_history) }
     {
         match Graph::new(alloc, Demo) {
             Ok(graph) => Ok(Session {
@@ -161,17 +171,19 @@ impl Session {
             Command::Pump(budget) => self.pump(alloc, budget),
             Command::Pick(sub, node, input) => self.pick(alloc, sub, node, input),
             Command::Show(sub) => self.show(alloc, sub),
-            Command::Asked(sub) => Ok(Answer::Asked(self.graph.asked(sub)?)),
-            Command::Count(sub) => Ok(Answer::Count(self.record(sub)?.received.len() as u64)),
-            Command::Joins(sub) => Ok(Answer::Joins(self.graph.joins(alloc, Tree::Sub(sub))?)),
-            Command::Choices(sub) => Ok(Answer::Choices(self.graph.notes(alloc, Tree::Sub(sub))?)),
+            Command::Asked(sub) => self.asked(sub),
+            Command::Count(sub) => self.count(sub),
+            Command::Joins(sub) => self.joins(alloc, sub),
+            Command::Choices(sub) => self.choices(alloc, sub),
             Command::Check(sub) => self.check(alloc, sub),
         }
     }
 
     /// What is known of a subscription; the refusal of an unknown one where there is none.
     fn record(&self, sub: SubId) -> Result<&Record, Trouble>
-        ensures { IfErr result IsTrouble }
+        ensures found { IfOk result (λ r. slice_get self.now.records.items sub.0 ≡ Some r.now) }
+        ensures none { IfErr result (λ t. IsTroubleOf Refusal.UnknownSub t × (length self.now.records.items ≤ sub.0)) }
+        ensures err { IfErr result IsTrouble }
     {
         match self.records.get(sub.0 as usize) {
             Some(record) => Ok(record),
@@ -336,36 +348,93 @@ impl Session {
         Ok(())
     }
 
+    /// How many items a subscriber asked for in all.
+    fn asked(&self, sub: SubId) -> Result<Answer<'_>, Trouble>
+        ensures answer { IfOk result (λ a. is_asked a ≡ true) }
+        ensures says { Says self.now result (λ place text. IsAsked place sub text) }
+        ensures err { IfErr result IsTrouble }
+    {
+        Ok(Answer::Asked(self.graph.asked(sub)?))
+    }
+
+    /// How many items a subscriber received.
+    fn count(&self, sub: SubId) -> Result<Answer<'_>, Trouble>
+        ensures answer { IfOk result (λ a. is_count a ≡ true) }
+        ensures says { Says self.now result (λ place text. IsCounted place sub text) }
+        ensures err { IfErr result IsTrouble }
+    {
+        let received = self.record(sub)?.received.as_slice();
+        Ok(Answer::Count(received.len() as u64))
+    }
+
+    /// How many items of its hub each leaf of a subscription misses.
+    fn joins(&self, alloc: Global, sub: SubId) -> Result<Answer<'_>, Trouble>
+        ensures answer { IfOk result (λ a. is_joins a ≡ true) }
+        ensures says { Says self.now result (λ place text. AreJoins place sub text) }
+        ensures err { IfErr result IsTrouble }
+    {
+        Ok(Answer::Joins(self.graph.joins(alloc, Tree::Sub(sub))?))
+    }
+
+    /// What each node of a subscription recorded.
+    fn choices(&self, alloc: Global, sub: SubId) -> Result<Answer<'_>, Trouble>
+        ensures answer { IfOk result (λ a. is_choices a ≡ true) }
+        ensures says { Says self.now result (λ place text. AreChoices place sub text) }
+        ensures err { IfErr result IsTrouble }
+    {
+        Ok(Answer::Choices(self.graph.notes(alloc, Tree::Sub(sub))?))
+    }
+
     /// What `show` answers of a subscription.
     fn show(&self, alloc: Global, sub: SubId) -> Result<Answer<'_>, Trouble>
         ensures answer { IfOk result (λ a. is_shown self.now.view a ≡ true) }
+        ensures says { Says self.now result (λ place text. IsViewed self.now.view place sub text) }
         ensures err { IfErr result IsTrouble }
     {
         match self.view {
             View::Received => self.show_received(alloc, sub),
-            View::FromScratch => {
-                let record = self.record(sub)?;
-                Ok(Answer::Value(self.value(alloc, sub, &record.expr)?))
-            }
+            View::FromScratch => self.show_value(alloc, sub),
         }
     }
 
     /// What a subscriber received, and the rest.
     fn show_received(&self, alloc: Global, sub: SubId) -> Result<Answer<'_>, Trouble>
         ensures answer { IfOk result (λ a. is_received a ≡ true) }
+        ensures says { Says self.now result (λ place text. IsShown place sub text) }
         ensures err { IfErr result IsTrouble }
     {
         let record = self.record(sub)?;
-        let rest = match self.graph.standing(sub)? {
-            SubscriptionState::Cancelled => Rest::Cancelled,
-            SubscriptionState::Refused => Rest::Closed,
-            _ => Rest::Owed(self.graph.owed(alloc, sub)?),
-        };
+        let rest = self.rest(alloc, sub)?;
         Ok(Answer::Shown(Shown {
             received: record.received.as_slice(),
             ending: record.ending,
             rest,
         }))
+    }
+
+    /// What follows what a subscriber received.
+    fn rest(&self, alloc: Global, sub: SubId) -> Result<Rest, Trouble>
+        ensures says { IfOk result (λ rest. (h : History Val) → SessionStands self.now h → IsRestOf (place_of self.now h) sub rest) }
+        ensures refused { IfErr result (λ t. IsLookTrouble (length self.now.graph.subscriptions.items) sub t) }
+        ensures err { IfErr result IsTrouble }
+    {
+        match self.graph.standing(sub)? {
+            SubscriptionState::Open | SubscriptionState::Ended => {
+                Ok(Rest::Owed(self.graph.owed(alloc, sub)?))
+            }
+            SubscriptionState::Cancelled => Ok(Rest::Cancelled),
+            SubscriptionState::Refused => Ok(Rest::Closed),
+        }
+    }
+
+    /// What the slow evaluator answers for a subscription.
+    fn show_value(&self, alloc: Global, sub: SubId) -> Result<Answer<'_>, Trouble>
+        ensures answer { IfOk result (λ a. is_value a ≡ true) }
+        ensures says { Says self.now result (λ place text. IsValued place sub text) }
+        ensures err { IfErr result IsTrouble }
+    {
+        let record = self.record(sub)?;
+        Ok(Answer::Value(self.value(alloc, sub, &record.expr)?))
     }
 
     /// The value of a subscription's expression, evaluated from scratch.
@@ -375,7 +444,8 @@ impl Session {
         sub: SubId,
         expr: &Expr<Val>,
     ) -> Result<StreamValue<Val>, Trouble>
-        ensures { IfErr result IsTrouble }
+        ensures says { (h : History Val) → SessionStands self.now h → IsValueOf (place_of self.now h) sub expr.now result }
+        ensures err { IfErr result IsTrouble }
     {
         let notes = self.graph.notes(alloc, Tree::Sub(sub))?;
         let joins = self.graph.joins(alloc, Tree::Sub(sub))?;

@@ -1,0 +1,2 @@
+-- Lemmas about sessions.
+pub mod Looks

@@ -1,0 +1,109 @@
+-- What a session knows of its graph, and how a command is answered.
+use Rattle.std.specs.Prelude.{◌≡◌, ⊤, ℕ, List, [], ◌∷◌, ◌++◌, length, map, slice_get, Some, Result, Ok, Err, codes}
+use Rattle.rsx_types.specs.Stream.{Stream}
+use Rattle.rsx_types.specs.declared.names.SubId.{SubId}
+use Rattle.rsx_demo.specs.Demo.{demo_meaning}
+use Rattle.rsx_demo.specs.declared.val.Val.{Val}
+use Rattle.rsx_model.specs.declared.expr.Expr.{Expr}
+use Rattle.rsx_evaluation.specs.Answer.{name_codes as scratch_name}
+use Rattle.rsx_evaluation.specs.declared.evaluate.ScratchRefusal.{ScratchRefusal}
+use Rattle.rsx_evaluation.specs.declared.evaluate.ScratchRefusal.TheVariants as scratch
+use Rattle.rsx_subscriber.specs.Past.{Past}
+use Rattle.rsx_history.specs.History.{History, IsLookRefusal, published}
+use Rattle.rsx_history.specs.Names.{name_codes}
+use Rattle.rsx_history.specs.declared.refusal.Refusal.{Refusal}
+use Rattle.rsx_history.specs.declared.refusal.Refusal.TheVariants.{NoMemory}
+use Rattle.rsx_history.specs.Pumped.{HasEnded, LeadTo, Made, after_moves}
+use Rattle.rsx_history.specs.declared.step.Pumped.{Pumped}
+use Rattle.rsx_history.specs.Stands.{StandsFor}
+use Rattle.rsx_graph.specs.InGraph.{state_of}
+use Rattle.rsx_commands.specs.declared.command.Command.{Command}
+use Rattle.rsx_script.specs.Answers.{answer_text, rest_text}
+use Rattle.rsx_script.specs.declared.print.Answer.{Answer}
+use Rattle.rsx_script.specs.declared.print.Rest.{Rest}
+use Rattle.rsx_session.specs.Kept.{known, seen}
+use Rattle.rsx_session.specs.Places.{IsAnswerTo, IsEvaluated, IsRest, Place}
+use Rattle.rsx_session.specs.declared.session.Session.{Session}
+use Rattle.rsx_session.specs.declared.session.Trouble.{Trouble}
+use Rattle.rsx_session.specs.declared.session.Trouble.TheVariants.{Refused, Memory}
+
+-- a session stands for a history: its graph does, and what it keeps beside the graph is a look of that history
+pub record SessionStands (session : Session) (h : History Val) : Type 0 where
+  pub graph : StandsFor demo_meaning (state_of session.graph) h
+  -- what was published at each hub
+  pub published : session.published.items ≡ published h
+  -- the expression of each subscriber, and what it received
+  pub records : map known session.records.items ≡ map seen h.pasts
+  -- nothing waits to be taken in
+  pub spare : session.spare.items ≡ []
+
+-- where its script stands
+abbrev pub place_of : Session → History Val → Place
+place_of session h = record { graph = state_of session.graph; history = h }
+
+-- a session that stood for a history stands for another one by this command, whose answer has this text
+pub record Leads (command : Command) (old : Session) (h : History Val) (text : List ℕ) (new : Session) : Type 0 where
+  pub history : History Val
+  pub stands : SessionStands new history
+  pub answers : IsAnswerTo old.view command (place_of old h) text (place_of new history)
+  pub view : new.view ≡ old.view
+
+-- for each history that the session stood for
+abbrev pub LeadsAll : Command → Session → List ℕ → Session → Type 0
+LeadsAll command old text new = (h : History Val) → SessionStands old h → Leads command old h text new
+
+-- this is what a refusal of the graph comes to: want of memory, or its name
+abbrev pub IsTroubleOf : Refusal → Trouble → Type 0
+IsTroubleOf r (Refused name) = (r ≡ NoMemory → ⊥) × (name.now ≡ name_codes r)
+IsTroubleOf r Memory = r ≡ NoMemory
+
+-- this is why a look at a subscription was refused, where there are so many
+abbrev pub IsLookTrouble : ℕ → SubId → Trouble → Type 0
+IsLookTrouble count sub t = (r : Refusal) × IsLookRefusal count sub r × IsTroubleOf r t
+
+-- the same of the slow evaluator
+abbrev pub IsScratchTrouble : ScratchRefusal → Trouble → Type 0
+IsScratchTrouble r (Refused name) = (r ≡ scratch.NoMemory → ⊥) × (name.now ≡ scratch_name r)
+IsScratchTrouble r Memory = r ≡ scratch.NoMemory
+
+-- the text of an answer, or of a refusal by its name, has this property; want of memory has no answer
+abbrev pub OnText : Result Answer Trouble → (List ℕ → Type 0) → Type 0
+OnText (Ok answer) P = P (answer_text answer)
+OnText (Err (Refused name)) P = P (codes "refused " ++ name.now)
+OnText (Err Memory) P = ⊤
+
+-- a look: whatever history the session stands for, the text says this of where its script stands
+abbrev pub Says : Session → Result Answer Trouble → (Place → List ℕ → Type 0) → Type 0
+Says session result P = OnText result (λ text. (h : History Val) → SessionStands session h → P (place_of session h) text)
+
+-- a text got a line more, with its newline
+abbrev pub GrowsByLine : List ℕ → List ℕ → (List ℕ → Type 0) → Type 0
+GrowsByLine before after P = (line : List ℕ) × (after ≡ before ++ (line ++ 10 ∷ [])) × P line
+
+-- this is the line of what was done
+abbrev pub IsLineOf : Result Answer Trouble → List ℕ → Type 0
+IsLineOf (Ok answer) line = line ≡ answer_text answer
+IsLineOf (Err (Refused name)) line = line ≡ codes "refused " ++ name.now
+IsLineOf (Err Memory) line = ⊥
+
+-- a run of at most so many moves was made, and what it delivered was taken in
+pub record PumpsTo (budget : ℕ) (old : Session) (h : History Val) (ended : Pumped) (new : Session) : Type 0 where
+  pub moves : List (Made Val)
+  pub lead : LeadTo demo_meaning (state_of old.graph) moves (state_of new.graph)
+  pub ends : HasEnded demo_meaning budget (length moves) (state_of new.graph) (Ok ended)
+  pub stands : SessionStands new (after_moves h moves)
+  pub view : new.view ≡ old.view
+
+-- what follows what a subscriber received, by how the subscription stands
+abbrev pub IsRestOf : Place → SubId → Rest → Type 0
+IsRestOf place sub rest = (past : Past Val) × (slice_get place.history.pasts sub.0 ≡ Some past) × IsRest place sub past.state (rest_text rest)
+
+-- what the slow evaluator answers for a subscription, as a value or as a trouble
+abbrev pub IsValueAt : Place → SubId → Past Val → Result (Stream Val) Trouble → Type 0
+IsValueAt place sub past (Ok v) = IsEvaluated place sub past (Ok v)
+IsValueAt place sub past (Err (Refused name)) = (e : ScratchRefusal) × IsEvaluated place sub past (Err e) × (e ≡ scratch.NoMemory → ⊥) × (name.now ≡ scratch_name e)
+IsValueAt place sub past (Err Memory) = ⊤
+
+-- the same, where this is the expression of the subscription
+abbrev pub IsValueOf : Place → SubId → Expr Val → Result (Stream Val) Trouble → Type 0
+IsValueOf place sub e result = (past : Past Val) → slice_get place.history.pasts sub.0 ≡ Some past → past.expression ≡ e → IsValueAt place sub past result
