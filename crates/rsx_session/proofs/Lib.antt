@@ -1,2 +1,3 @@
 -- Lemmas about sessions.
+pub mod Calls
 pub mod Looks

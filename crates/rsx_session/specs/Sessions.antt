@@ -41,16 +41,20 @@ pub record SessionStands (session : Session) (h : History Val) : Type 0 where
 abbrev pub place_of : Session → History Val → Place
 place_of session h = record { graph = state_of session.graph; history = h }
 
--- a session that stood for a history stands for another one by this command, whose answer has this text
-pub record Leads (command : Command) (old : Session) (h : History Val) (text : List ℕ) (new : Session) : Type 0 where
+-- a session that stood for a history stands for another one, where this holds of the two places of its script and a text
+pub record LeadsBy (R : Place → List ℕ → Place → Type 0) (old : Session) (h : History Val) (text : List ℕ) (new : Session) : Type 0 where
   pub history : History Val
   pub stands : SessionStands new history
-  pub answers : IsAnswerTo old.view command (place_of old h) text (place_of new history)
+  pub answers : R (place_of old h) text (place_of new history)
   pub view : new.view ≡ old.view
 
 -- for each history that the session stood for
+abbrev pub AllLead : (Place → List ℕ → Place → Type 0) → Session → List ℕ → Session → Type 0
+AllLead R old text new = (h : History Val) → SessionStands old h → LeadsBy R old h text new
+
+-- a session was led on by this command, whose answer has this text
 abbrev pub LeadsAll : Command → Session → List ℕ → Session → Type 0
-LeadsAll command old text new = (h : History Val) → SessionStands old h → Leads command old h text new
+LeadsAll command old text new = AllLead (IsAnswerTo old.view command) old text new
 
 -- this is what a refusal of the graph comes to: want of memory, or its name
 abbrev pub IsTroubleOf : Refusal → Trouble → Type 0

@@ -1,8 +1,9 @@
 //! A graph with what each of its subscribers received: the state of a run.
 
-ghost use Rattle.std.specs.Prelude.{◌≡◌, ◌≤◌, [], true, length, slice_get, Some, string_bytes, OnErr, OnOk, IsOk, IfOk, IfErr};
-ghost use Rattle.rsx_history.specs.History.{History, no_history};
-ghost use Rattle.rsx_session.specs.Sessions.{IsLookTrouble, IsRestOf, IsScratchTrouble, IsTroubleOf, IsValueOf, Says, SessionStands, place_of};
+ghost use Rattle.std.specs.Prelude.{◌≡◌, ◌≤◌, [], true, length, map, slice_get, Some, string_bytes, OnErr, OnOk, IsOk, IfOk, IfErr};
+ghost use Rattle.rsx_history.specs.History.{History, changed, no_history};
+ghost use Rattle.rsx_session.specs.Sessions.{LeadsAll, OnText, IsLookTrouble, IsRestOf, IsScratchTrouble, IsTroubleOf, IsValueOf, Says, SessionStands, place_of};
+ghost use Rattle.rsx_session.specs.Kept.{known, taken};
 ghost use Rattle.rsx_session.specs.Places.{AreChoices, AreJoins, IsAsked, IsCounted, IsShown, IsValued, IsViewed};
 ghost use Rattle.rsx_session.specs.Answers.{IsAnswered, IsTrouble, is_asked, is_choices, is_count, is_joins, is_of, is_hub, is_sub, is_done, is_pumped, is_received, is_value, is_shown, is_compared};
 
@@ -192,8 +193,14 @@ impl Session {
     }
 
     /// Makes a hub, at which nothing was published so far.
-    fn hub(&mut self, alloc: Global, kind: HubKind, capacity: u64) -> Result<Answer<'_>, Trouble>
+    fn hub(
+        &mut self,
+        alloc: Global,
+        kind: HubKind,
+        capacity: u64,
+    ) -> Result<Answer<'static>, Trouble>
         ensures answer { IfOk result (λ a. is_hub a ≡ true) }
+        ensures leads { OnText result (λ text. LeadsAll (Command.Hub kind capacity) self.old text self.new) }
         ensures err { IfErr result IsTrouble }
     {
         self.published.reserve(1)?;
@@ -204,55 +211,63 @@ impl Session {
     }
 
     /// Publishes an item. It is kept first, since that alone may want memory, and let go where the hub refuses it.
-    fn emit(&mut self, alloc: Global, hub: HubId, number: i64) -> Result<Answer<'_>, Trouble>
+    fn emit(&mut self, alloc: Global, hub: HubId, number: i64) -> Result<Answer<'static>, Trouble>
         ensures answer { IfOk result (λ a. is_done a ≡ true) }
+        ensures leads { OnText result (λ text. LeadsAll (Command.Emit hub number) self.old text self.new) }
         ensures err { IfErr result IsTrouble }
     {
-        let value = self.published_at(hub)?;
+        let at = hub.0 as usize;
+        if at >= self.published.len() {
+            return Err(Trouble::from(Refusal::UnknownHub));
+        }
+        let value = &mut self.published[at];
         keep_item(alloc, value, Val::Int(number))?;
         match self.graph.emit(hub, Val::Int(number)) {
             Ok(()) => Ok(Answer::Done),
             Err(back) => {
-                let_item_go(alloc, self.published_at(hub)?);
+                let kept = &mut self.published[at];
+                let_item_go(alloc, kept);
                 Err(Trouble::from(back.refusal))
             }
         }
     }
 
     /// Completes a hub.
-    fn complete(&mut self, alloc: Global, hub: HubId) -> Result<Answer<'_>, Trouble>
+    fn complete(&mut self, alloc: Global, hub: HubId) -> Result<Answer<'static>, Trouble>
         ensures answer { IfOk result (λ a. is_done a ≡ true) }
+        ensures leads { OnText result (λ text. LeadsAll (Command.Complete hub) self.old text self.new) }
         ensures err { IfErr result IsTrouble }
     {
+        let at = hub.0 as usize;
+        if at >= self.published.len() {
+            return Err(Trouble::from(Refusal::UnknownHub));
+        }
         self.graph.complete(hub)?;
-        end(alloc, self.published_at(hub)?, Ending::Done);
+        let value = &mut self.published[at];
+        end(alloc, value, Ending::Done);
         Ok(Answer::Done)
     }
 
     /// Fails a hub with this number.
-    fn fail(&mut self, alloc: Global, hub: HubId, number: u32) -> Result<Answer<'_>, Trouble>
+    fn fail(&mut self, alloc: Global, hub: HubId, number: u32) -> Result<Answer<'static>, Trouble>
         ensures answer { IfOk result (λ a. is_done a ≡ true) }
+        ensures leads { OnText result (λ text. LeadsAll (Command.Fail hub number) self.old text self.new) }
         ensures err { IfErr result IsTrouble }
     {
+        let at = hub.0 as usize;
+        if at >= self.published.len() {
+            return Err(Trouble::from(Refusal::UnknownHub));
+        }
         self.graph.fail(hub, number)?;
-        let failed = Ending::Failed(Cause::User(number));
-        end(alloc, self.published_at(hub)?, failed);
+        let value = &mut self.published[at];
+        end(alloc, value, Ending::Failed(Cause::User(number)));
         Ok(Answer::Done)
     }
 
-    /// What was published at a hub; the refusal of an unknown one where there is none.
-    fn published_at(&mut self, hub: HubId) -> Result<&mut StreamValue<Val>, Trouble>
-        ensures { IfErr result IsTrouble }
-    {
-        match self.published.get_mut(hub.0 as usize) {
-            Some(value) => Ok(value),
-            None => Err(Trouble::from(Refusal::UnknownHub)),
-        }
-    }
-
     /// Subscribes, and keeps the expression for `show` and `check`.
-    fn subscribe(&mut self, alloc: Global, expr: Expr<Val>) -> Result<Answer<'_>, Trouble>
+    fn subscribe(&mut self, alloc: Global, expr: Expr<Val>) -> Result<Answer<'static>, Trouble>
         ensures answer { IfOk result (λ a. is_sub a ≡ true) }
+        ensures leads { OnText result (λ text. LeadsAll (Command.Subscribe expr) self.old text self.new) }
         ensures err { IfErr result IsTrouble }
     {
         self.records.reserve(1)?;
@@ -266,19 +281,24 @@ impl Session {
     }
 
     /// The error of a bad request is delivered at once (rule 3.9).
-    fn request(&mut self, sub: SubId, count: i64) -> Result<Answer<'_>, Trouble>
+    fn request(&mut self, sub: SubId, count: i64) -> Result<Answer<'static>, Trouble>
         ensures answer { IfOk result (λ a. is_done a ≡ true) }
+        ensures leads { OnText result (λ text. LeadsAll (Command.Request sub count) self.old text self.new) }
         ensures err { IfErr result IsTrouble }
     {
-        if let Some(signal) = self.graph.request(sub, count)? {
-            self.take_in(sub, signal)?;
+        match self.graph.request(sub, count)? {
+            None => Ok(Answer::Done),
+            Some(signal) => {
+                take_in(&mut self.records, sub, signal)?;
+                Ok(Answer::Done)
+            }
         }
-        Ok(Answer::Done)
     }
 
     /// A subscription that ended or was closed stays as it is (rule 3.7).
-    fn cancel(&mut self, sub: SubId) -> Result<Answer<'_>, Trouble>
+    fn cancel(&mut self, sub: SubId) -> Result<Answer<'static>, Trouble>
         ensures answer { IfOk result (λ a. is_done a ≡ true) }
+        ensures leads { OnText result (λ text. LeadsAll (Command.Cancel sub) self.old text self.new) }
         ensures err { IfErr result IsTrouble }
     {
         self.graph.cancel(sub)?;
@@ -292,8 +312,9 @@ impl Session {
         sub: SubId,
         node: NodeId,
         input: u64,
-    ) -> Result<Answer<'_>, Trouble>
+    ) -> Result<Answer<'static>, Trouble>
         ensures answer { IfOk result (λ a. is_done a ≡ true) }
+        ensures leads { OnText result (λ text. LeadsAll (Command.Pick sub node input) self.old text self.new) }
         ensures err { IfErr result IsTrouble }
     {
         self.graph
@@ -302,7 +323,7 @@ impl Session {
     }
 
     /// Makes at most so many moves, a slice of them at a time.
-    fn pump(&mut self, alloc: Global, budget: u32) -> Result<Answer<'_>, Trouble>
+    fn pump(&mut self, alloc: Global, budget: u32) -> Result<Answer<'static>, Trouble>
         ensures answer { IfOk result (λ a. is_pumped a ≡ true) }
         ensures err { IfErr result IsTrouble }
     {
@@ -326,26 +347,10 @@ impl Session {
         let pumped = self.graph.pump(alloc, budget, &mut deliveries)?;
         let mut signals = deliveries.into_vec();
         for (sub, signal) in signals.drain(..) {
-            self.take_in(sub, signal)?;
+            take_in(&mut self.records, sub, signal)?;
         }
         self.spare = signals;
         Ok(pumped)
-    }
-
-    /// Takes in a signal to a subscriber.
-    #[inline]
-    fn take_in(&mut self, sub: SubId, signal: Signal<Val>) -> Result<(), Trouble>
-        ensures { IfErr result IsTrouble }
-    {
-        let Some(record) = self.records.get_mut(sub.0 as usize) else {
-            return Ok(());
-        };
-        match signal {
-            Signal::Next(item) => record.received.push(item)?,
-            Signal::Complete => record.ending = Ending::Done,
-            Signal::Error(cause) => record.ending = Ending::Failed(cause),
-        }
-        Ok(())
     }
 
     /// How many items a subscriber asked for in all.
@@ -473,7 +478,45 @@ impl Session {
     }
 }
 
+/// Takes in a signal to a subscriber; where there is none, nothing.
+#[inline]
+fn take_in(records: &mut Vec<Record>, sub: SubId, signal: Signal<Val>) -> Result<(), Trouble>
+    ensures taken { OnOk result (map known records.new.items ≡ changed (taken signal) (map known records.old.items) sub.0) }
+    ensures err { IfErr result (λ t. t ≡ Trouble.Memory) }
+{
+    let at = sub.0 as usize;
+    if at >= records.len() {
+        return Ok(());
+    }
+    let record = &mut records[at];
+    match record.take(signal) {
+        Ok(()) => Ok(()),
+        Err(NoMemory) => Err(Trouble::Memory),
+    }
+}
+
 impl Record {
+    /// Takes in a signal.
+    #[inline]
+    fn take(&mut self, signal: Signal<Val>) -> Result<(), NoMemory>
+        ensures { OnOk result (known self.new ≡ taken signal (known self.old)) }
+    {
+        match signal {
+            Signal::Next(item) => match self.received.push(item) {
+                Ok(()) => Ok(()),
+                Err(_) => Err(NoMemory),
+            },
+            Signal::Complete => {
+                self.ending = Ending::Done;
+                Ok(())
+            }
+            Signal::Error(cause) => {
+                self.ending = Ending::Failed(cause);
+                Ok(())
+            }
+        }
+    }
+
     /// Whether what was received, followed by what is owed, is this value.
     fn is_whole(&self, owed: &StreamValue<Val>, value: &StreamValue<Val>) -> bool {
         let ending = match self.ending {

@@ -1,0 +1,232 @@
+-- Lemmas about the calls of a session.
+use Rattle.std.proofs.Common.{◌≡◌, ◌≤◌, ◌<◌, true, false, ℕ, ℤ, pos, negsuc, zero, suc, List, [], ◌∷◌, ◌++◌, length, map, get_or, refl, ap, sym, subst, ◌∙◌, ◌-◌, arith, take, length-append, Option, Some, None, Result, Ok, Err, slice_get, codes}
+use Rattle.std.proofs.Math.ListN.{set}
+use Rattle.std.specs.Result.{IsErr, IsErrAnd}
+use Rattle.std.proofs.lemmas.List.{append-nil, get_or-set_same, length-map, set-get_or}
+use Rattle.rsx_types.specs.Stream.{Stream, ended_by}
+use Rattle.rsx_types.specs.declared.names.HubKind.{HubKind}
+use Rattle.rsx_types.specs.declared.names.SubId.{SubId}
+use Rattle.rsx_model.specs.declared.expr.Expr.{Expr}
+use Rattle.rsx_types.specs.declared.signal.Cause.TheVariants.{NonPositiveRequest}
+use Rattle.rsx_types.specs.declared.signal.Ending.{Ending}
+use Rattle.rsx_types.specs.declared.signal.Ending.TheVariants.{Open}
+use Rattle.rsx_types.specs.declared.signal.Signal.{Signal}
+use Rattle.rsx_types.specs.declared.signal.Signal.TheVariants.{Next, Complete, Error}
+use Rattle.rsx_demo.specs.Demo.{demo_meaning, demo_allocates}
+use Rattle.rsx_demo.specs.declared.val.Val.{Val}
+use Rattle.rsx_hub.specs.Hub.{HubState}
+use Rattle.rsx_pipe.specs.Output.{with_signal}
+use Rattle.rsx_subscriber.specs.Past.{Past, given, items_in, refused, request_answer, requested, requested_in, subscribed}
+use Rattle.rsx_subscriber.specs.declared.state.SubscriptionState.{SubscriptionState}
+use Rattle.rsx_subscriber.specs.declared.state.SubscriptionState.TheVariants as state
+use Rattle.rsx_history.specs.Done.{IsDone}
+use Rattle.rsx_history.specs.History.{History, HubPast, changed, extended, published, published_at, state_at, with_delivery, with_hub}
+use Rattle.rsx_subscriber.specs.Stands.{standing_of}
+use Rattle.rsx_subscriber.specs.declared.subscription.Subscription.{Subscription}
+use Rattle.rsx_history.proofs.Graphs.{state_there}
+use Rattle.rsx_history.specs.Hubs.{IsCopyRefusal, IsEmitRefusal}
+use Rattle.rsx_history.specs.declared.refusal.Refusal.TheVariants as refusal
+use Rattle.rsx_history.specs.Stands.{GraphState, HubsStand, IsRequestedAt, StandsFor, all_taken}
+use Rattle.rsx_history.specs.declared.refusal.Refusal.{Refusal}
+use Rattle.rsx_history.specs.declared.refusal.Refusal.TheVariants.{NoMemory}
+use Rattle.rsx_history.specs.declared.step.Step.{Step}
+use Rattle.rsx_history.specs.declared.step.Answer.{Answer as Answered}
+use Rattle.rsx_history.specs.declared.step.Answer.TheVariants as did
+use Rattle.rsx_history.proofs.Joins.{map_last}
+use Rattle.rsx_graph.specs.InGraph.{state_of}
+use Rattle.rsx_script.specs.declared.print.Answer.{Answer}
+use Rattle.rsx_session.specs.Answers.{IsTrouble}
+use Rattle.rsx_session.specs.Kept.{Known, ending_after, ending_by, ending_in, known, seen, taken}
+use Rattle.rsx_session.specs.Places.{IsStepMade, Place, step_text}
+use Rattle.rsx_session.specs.Sessions.{AllLead, IsTroubleOf, LeadsBy, OnText, SessionStands}
+use Rattle.rsx_session.specs.declared.session.Record.{Record}
+use Rattle.rsx_session.specs.declared.session.Session.{Session}
+use Rattle.rsx_session.specs.declared.session.Trouble.{Trouble}
+use Rattle.rsx_session.specs.declared.session.Trouble.TheVariants as trouble
+
+pub made : (s : Step Val) (answer : Answered Val) (old new : Session) (h : History Val) → SessionStands old h → StandsFor demo_meaning (state_of new.graph) (extended h s answer) → IsDone demo_meaning demo_allocates (state_of old.graph) s answer (state_of new.graph) → (answer ≡ did.Refused NoMemory → ⊥) →
+    new.published.items ≡ published (extended h s answer) → map known new.records.items ≡ map seen (extended h s answer).pasts → new.spare.items ≡ old.spare.items → new.view ≡ old.view → LeadsBy (IsStepMade s) old h (step_text answer) new
+made s answer old new h k stands done granted p r e v = record {
+  history = extended h s answer;
+  stands = record { graph = stands; published = p; records = r; spare = e ∙ k.spare };
+  answers = (answer, done, refl, granted, refl);
+  view = v;
+}
+
+-- a call that the graph refused changed nothing
+pub not_made : (s : Step Val) (old new : Session) (r : Refusal) (result : Result Answer Trouble) → ((h : History Val) → extended h s (did.Refused r) ≡ h) → ((h : History Val) → SessionStands old h → IsDone demo_meaning demo_allocates (state_of old.graph) s (did.Refused r) (state_of new.graph)) → state_of new.graph ≡ state_of old.graph →
+    new.published.items ≡ old.published.items → new.records.items ≡ old.records.items → new.spare.items ≡ old.spare.items → new.view ≡ old.view → IsErr result × IsErrAnd result (λ t. IsTrouble t × IsTroubleOf r t) → OnText result (λ text. AllLead (IsStepMade s) old text new)
+not_made s old new r (Ok a) none done same p q e v is = let bad : false ≡ true = is.0 in absurd cc
+not_made s old new r (Err trouble.Memory) none done same p q e v is = tt
+not_made s old new r (Err (trouble.Refused name)) none done same p q e v is = λ h k.
+    let G : GraphState Val → Type 0 = λ g. StandsFor demo_meaning g h in
+    record {
+      history = h;
+      stands = record { graph = subst G (sym same) k.graph; published = p ∙ k.published; records = ap (map known) q ∙ k.records; spare = e ∙ k.spare };
+      answers = (did.Refused r, done h k, sym (none h), (λ bad. is.1.1.0 (let one : r ≡ NoMemory = cc in one)), ap (λ n. codes "refused " ++ n) is.1.1.1);
+      view = v;
+    }
+
+-- want of memory has no answer
+pub no_memory : (result : Result Answer Trouble) (P : List ℕ → Type 0) → IsErr result × IsErrAnd result (λ t. t ≡ trouble.Memory) → OnText result P
+no_memory (Ok a) P e = let bad : false ≡ true = e.0 in absurd cc
+no_memory (Err trouble.Memory) P e = tt
+no_memory (Err (trouble.Refused name)) P e = let bad : trouble.Refused name ≡ trouble.Memory = e.1 in absurd cc
+
+-- ---- hubs
+
+hubs_alike : (hubs : List (HubState Val)) (h : History Val) → HubsStand hubs h.hubs → length hubs ≡ length h.hubs
+hubs_alike hubs h k = go hubs h.hubs k
+  where
+    go : (xs : List (HubState Val)) (ps : List (HubPast Val)) → HubsStand xs ps → length xs ≡ length ps
+    go [] [] e = refl
+    go (x ∷ xs) (p ∷ ps) e = ap suc (go xs ps e.1)
+    go [] (p ∷ ps) e = absurd e
+    go (x ∷ xs) [] e = absurd e
+
+-- there are as many hubs as values
+pub hubs_count : (s : Session) (h : History Val) → SessionStands s h → length s.published.items ≡ length s.graph.hubs.items
+hubs_count s h k = ap length k.published ∙ (length-map h.hubs (λ p. p.value) ∙ sym (hubs_alike s.graph.hubs.items h k.graph.hub))
+
+pub stream_is : (v : Stream Val) (xs : List Val) (e : Ending) → v.items ≡ xs → v.ending ≡ e → v ≡ record { items = xs; ending = e }
+stream_is v xs e p q = λ i. record { items = p i; ending = q i }
+
+pub published_set : (s : Signal Val) (hubs : List (HubPast Val)) (vs : List (Stream Val)) (i : ℕ) (v : Stream Val) → vs ≡ map (λ p. p.value) hubs → i < length vs → get_or vs i v ≡ v → set vs i (with_signal s v) ≡ map (λ p. p.value) (changed (published_at s) hubs i)
+published_set s hubs [] i v e lt at = absurd (omega arith)
+published_set s [] (x ∷ vs) i v e lt at = cc
+published_set s (p ∷ hubs) (x ∷ vs) zero v e lt at =
+    let one : x ≡ p.value = cc in
+    let others : vs ≡ map (λ q. q.value) hubs = cc in
+    let same : v ≡ p.value = sym at ∙ one in
+    ap (λ n. with_signal s n ∷ vs) same ∙ ap (λ l. with_signal s p.value ∷ l) others
+published_set s (p ∷ hubs) (x ∷ vs) (suc i) v e lt at =
+    let one : x ≡ p.value = cc in
+    let others : vs ≡ map (λ q. q.value) hubs = cc in
+    ap (λ n. n ∷ set vs i (with_signal s v)) one ∙ ap (λ l. p.value ∷ l) (published_set s hubs vs i v others (omega arith) at)
+
+pub hub_published : (kind : HubKind) (h : History Val) (old new : List (Stream Val)) (v : Stream Val) → new ≡ old ++ v ∷ [] → old ≡ published h → v.items ≡ [] → v.ending ≡ Open → new ≡ published (with_hub kind h)
+hub_published kind h old new v e k a b = e ∙ (ap (λ l. l ++ v ∷ []) k ∙ (ap (λ x. published h ++ x ∷ []) (stream_is v [] Open a b) ∙ sym (map_last (λ p. p.value) h.hubs (record { kind = kind; value = ended_by Open; count = 0 }))))
+
+pub state_is : (old new : GraphState Val) → new.hubs ≡ old.hubs → new.subs ≡ old.subs → new.joins ≡ old.joins → new ≡ old
+state_is old new a b c = λ i. record { hubs = a i; subs = b i; joins = c i }
+
+pub no_delivery : (o : Option (SubId × Signal Val)) (h : History Val) → o ≡ None → with_delivery o h ≡ h
+no_delivery o h e = ap (λ x. with_delivery x h) e
+
+pub subscribed_records : (e : Expr Val) (js : List ℕ) (ps : List (Past Val)) (old new : List Record) (r : Record) → new ≡ old ++ r ∷ [] → map known old ≡ map seen ps → r.expr ≡ e → r.received.items ≡ [] → r.ending ≡ Open → map known new ≡ map seen (ps ++ subscribed e js ∷ [])
+subscribed_records e js ps old new r n k a b c =
+    let one : known r ≡ seen (subscribed e js) = λ i. record { expression = a i; items = b i; ending = c i } in
+    ap (map known) n ∙ (map_last known old r ∙ (ap (λ l. l ++ known r ∷ []) k ∙ (ap (λ x. map seen ps ++ x ∷ []) one ∙ sym (map_last seen ps (subscribed e js)))))
+
+-- ---- what is kept of subscribers
+
+pub seen_same : (f : Past Val → Past Val) → ((p : Past Val) → seen (f p) ≡ seen p) → (ps : List (Past Val)) (i : ℕ) → map seen (changed f ps i) ≡ map seen ps
+seen_same f k [] i = refl
+seen_same f k (p ∷ ps) zero = ap (λ n. n ∷ map seen ps) (k p)
+seen_same f k (p ∷ ps) (suc i) = ap (λ l. seen p ∷ l) (seen_same f k ps i)
+
+items_more : (ss : List (Signal Val)) (s : Signal Val) → items_in (ss ++ s ∷ []) ≡ items_in ss ++ items_in (s ∷ [])
+items_more [] s = refl
+items_more (Next x ∷ ss) s = ap (λ l. x ∷ l) (items_more ss s)
+items_more (Complete ∷ ss) s = items_more ss s
+items_more (Error c ∷ ss) s = items_more ss s
+
+ending_more : (e : Ending) (ss : List (Signal Val)) (s : Signal Val) → ending_after e (ss ++ s ∷ []) ≡ ending_by (ending_after e ss) s
+ending_more e [] s = refl
+ending_more e (x ∷ ss) s = ending_more (ending_by e x) ss s
+
+-- a signal more was received
+pub seen_given : (s : Signal Val) (p : Past Val) → seen (given s p) ≡ taken s (seen p)
+seen_given (Next x) p = λ i. record { expression = p.expression; items = items_more p.received (Next x) i; ending = ending_more Open p.received (Next x) i }
+seen_given Complete p = λ i. record { expression = p.expression; items = (items_more p.received Complete ∙ append-nil (items_in p.received)) i; ending = ending_more Open p.received Complete i }
+seen_given (Error c) p = λ i. record { expression = p.expression; items = (items_more p.received (Error c) ∙ append-nil (items_in p.received)) i; ending = ending_more Open p.received (Error c) i }
+
+-- a signal, if there is one, was received by the subscriber with this number
+abbrev pub after_signal : Option (Signal Val) → List Known → ℕ → List Known
+after_signal None ks i = ks
+after_signal (Some s) ks i = changed (taken s) ks i
+
+seen_requested : (n : ℤ) (p : Past Val) → after_signal (request_answer p.state n) (seen p ∷ []) 0 ≡ seen (requested n p) ∷ []
+seen_requested n p = go p.state n
+  where
+    go : (st : SubscriptionState) (z : ℤ) → after_signal (request_answer st z) (seen p ∷ []) 0 ≡ seen (requested_in st z p) ∷ []
+    go state.Open (pos zero) = ap (λ k. k ∷ []) (sym (seen_given (Error NonPositiveRequest) p))
+    go state.Open (pos (suc k)) = refl
+    go state.Open (negsuc k) = ap (λ k. k ∷ []) (sym (seen_given (Error NonPositiveRequest) p))
+    go state.Ended z = refl
+    go state.Cancelled z = refl
+    go state.Refused z = refl
+
+first_after : (o : Option (Signal Val)) (k l : Known) (ks : List Known) → after_signal o (k ∷ []) 0 ≡ l ∷ [] → after_signal o (k ∷ ks) 0 ≡ l ∷ ks
+first_after None k l ks e = let one : k ≡ l = cc in ap (λ x. x ∷ ks) one
+first_after (Some s) k l ks e = let one : taken s k ≡ l = cc in ap (λ x. x ∷ ks) one
+
+other_after : (o : Option (Signal Val)) (k : Known) (ks : List Known) (i : ℕ) → after_signal o (k ∷ ks) (suc i) ≡ k ∷ after_signal o ks i
+other_after None k ks i = refl
+other_after (Some s) k ks i = refl
+
+pub requested_kept : (n : ℤ) (ps : List (Past Val)) (i : ℕ) (st : SubscriptionState) → state_at ps i ≡ Some st → after_signal (request_answer st n) (map seen ps) i ≡ map seen (changed (requested n) ps i)
+requested_kept n [] i st e = cc
+requested_kept n (p ∷ ps) zero st e =
+    let same : p.state ≡ st = cc in
+    let P : SubscriptionState → Type 0 = λ x. after_signal (request_answer x n) (seen p ∷ map seen ps) 0 ≡ seen (requested n p) ∷ map seen ps in
+    subst P same (first_after (request_answer p.state n) (seen p) (seen (requested n p)) (map seen ps) (seen_requested n p))
+requested_kept n (p ∷ ps) (suc i) st e = other_after (request_answer st n) (seen p) (map seen ps) i ∙ ap (λ l. seen p ∷ l) (requested_kept n ps i st e)
+
+-- the record with this number took a signal in
+pub known_set : (s : Signal Val) (rs : List Record) (i : ℕ) (old new : Record) → i < length rs → get_or rs i old ≡ old → known new ≡ taken s (known old) → map known (set rs i new) ≡ changed (taken s) (map known rs) i
+known_set s [] i old new lt at e = absurd (omega arith)
+known_set s (r ∷ rs) zero old new lt at e = ap (λ k. k ∷ map known rs) (e ∙ ap (λ k. taken s (known k)) (sym at))
+known_set s (r ∷ rs) (suc i) old new lt at e = ap (λ l. known r ∷ l) (known_set s rs i old new (omega arith) at e)
+
+pub none_there : (s : Signal Val) (ks : List Known) (i : ℕ) → length ks ≤ i → changed (taken s) ks i ≡ ks
+none_there s [] i lt = refl
+none_there s (k ∷ ks) zero lt = absurd (omega arith)
+none_there s (k ∷ ks) (suc i) lt = ap (λ l. k ∷ l) (none_there s ks i (omega arith))
+
+pub request_records : (s : Session) (h : History Val) → SessionStands s h → (i : ℕ) (n : ℤ) (o : Option (Signal Val)) (subs : List (Subscription Val)) (new : List Known) → IsRequestedAt i n s.graph.subscriptions.items subs o → new ≡ after_signal o (map known s.records.items) i → new ≡ map seen (changed (requested n) h.pasts i)
+request_records s h k i n o subs new eff e =
+    let st = standing_of eff.old in
+    let there = state_there demo_meaning (all_taken s.graph.hubs.items h.hubs) s.graph.subscriptions.items h.pasts i eff.old eff.there k.graph.all in
+    e ∙ (ap (λ l. after_signal o l i) k.records ∙ (ap (λ x. after_signal x (map seen h.pasts) i) eff.answer ∙ requested_kept n h.pasts i st there))
+
+pub passed_memory : (t : Trouble) (result : Result Answer Trouble) (P : List ℕ → Type 0) → t ≡ trouble.Memory → IsErr result × IsErrAnd result (λ u. u ≡ t) → OnText result P
+passed_memory t (Ok a) P e k = let bad : false ≡ true = k.0 in absurd cc
+passed_memory t (Err trouble.Memory) P e k = tt
+passed_memory t (Err (trouble.Refused name)) P e k = let one = k.1 in let bad : trouble.Refused name ≡ trouble.Memory = one ∙ e in absurd cc
+
+-- ---- an item that is let go again
+
+take_whole : (xs ys : List Val) → take (length xs) (xs ++ ys) ≡ xs
+take_whole [] ys = refl
+take_whole (x ∷ xs) ys = ap (λ l. x ∷ l) (take_whole xs ys)
+
+without_last : (xs : List Val) (x : Val) → take (length (xs ++ x ∷ []) - 1) (xs ++ x ∷ []) ≡ xs
+without_last xs x =
+    let l = length-append xs (x ∷ []) in
+    let n : length (xs ++ x ∷ []) - 1 ≡ length xs = omega (arith, l) in
+    ap (λ k. take k (xs ++ x ∷ [])) n ∙ take_whole xs (x ∷ [])
+
+set_twice : {A : Type 0} (xs : List A) (i : ℕ) (a b : A) → set (set xs i a) i b ≡ set xs i b
+set_twice [] i a b = refl
+set_twice (x ∷ xs) zero a b = refl
+set_twice (x ∷ xs) (suc i) a b = ap (λ l. x ∷ l) (set_twice xs i a b)
+
+pub let_go : (vs : List (Stream Val)) (i : ℕ) (v kept got after : Stream Val) (x : Val) → i < length vs → get_or vs i v ≡ v → kept ≡ record { items = v.items ++ x ∷ []; ending = v.ending } → got ≡ get_or (set vs i kept) i got →
+    after.items ≡ take (length got.items - 1) got.items → after.ending ≡ got.ending → set (set vs i kept) i after ≡ vs
+let_go vs i v kept got after x lt at e g a b =
+    let one : got ≡ record { items = v.items ++ x ∷ []; ending = v.ending } = g ∙ (get_or-set_same vs i kept got lt ∙ e) in
+    let items : after.items ≡ v.items = a ∙ (ap (λ s. take (length s.items - 1) s.items) one ∙ without_last v.items x) in
+    let ending : after.ending ≡ v.ending = b ∙ ap (λ s. s.ending) one in
+    let whole : after ≡ v = λ j. record { items = items j; ending = ending j } in
+    set_twice vs i kept after ∙ (ap (set vs i) (whole ∙ sym at) ∙ set-get_or vs i v)
+
+pub emit_refusal : (hubs : List (HubState Val)) (count i : ℕ) (r : Refusal) → IsEmitRefusal hubs count i r → IsCopyRefusal hubs count i r
+emit_refusal hubs count i refusal.UnknownHub k = k
+emit_refusal hubs count i refusal.UnknownSub k = absurd k
+emit_refusal hubs count i refusal.Ended k = k
+emit_refusal hubs count i refusal.Full k = k
+emit_refusal hubs count i refusal.TooMany k = k
+emit_refusal hubs count i (refusal.BadExpr b) k = absurd k
+emit_refusal hubs count i refusal.NotEnabled k = absurd k
+emit_refusal hubs count i refusal.NoMemory k = absurd k
