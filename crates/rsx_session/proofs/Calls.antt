@@ -1,5 +1,5 @@
 -- Lemmas about the calls of a session.
-use Rattle.std.proofs.Common.{◌≡◌, ◌≤◌, ◌<◌, true, false, ℕ, ℤ, pos, negsuc, zero, suc, List, [], ◌∷◌, ◌++◌, length, map, get_or, refl, ap, sym, subst, ◌∙◌, ◌-◌, arith, take, length-append, Option, Some, None, Result, Ok, Err, slice_get, codes}
+use Rattle.std.proofs.Common.{◌≡◌, ◌≤◌, ◌<◌, true, false, ℕ, ℤ, pos, negsuc, zero, suc, List, [], ◌∷◌, ◌++◌, length, map, get_or, refl, ap, sym, subst, ◌∙◌, ◌-◌, arith, take, length-append, Option, Some, None, Result, Ok, Err, codes}
 use Rattle.std.proofs.Math.ListN.{set}
 use Rattle.std.specs.Result.{IsErr, IsErrAnd}
 use Rattle.std.proofs.lemmas.List.{append-nil, get_or-set_same, length-map, set-get_or}
@@ -16,7 +16,7 @@ use Rattle.rsx_demo.specs.Demo.{demo_meaning, demo_allocates}
 use Rattle.rsx_demo.specs.declared.val.Val.{Val}
 use Rattle.rsx_hub.specs.Hub.{HubState}
 use Rattle.rsx_pipe.specs.Output.{with_signal}
-use Rattle.rsx_subscriber.specs.Past.{Past, given, items_in, refused, request_answer, requested, requested_in, subscribed}
+use Rattle.rsx_subscriber.specs.Past.{Past, given, items_in, request_answer, requested, requested_in, subscribed}
 use Rattle.rsx_subscriber.specs.declared.state.SubscriptionState.{SubscriptionState}
 use Rattle.rsx_subscriber.specs.declared.state.SubscriptionState.TheVariants as state
 use Rattle.rsx_history.specs.Done.{IsDone}
@@ -36,8 +36,8 @@ use Rattle.rsx_history.proofs.Joins.{map_last}
 use Rattle.rsx_graph.specs.InGraph.{state_of}
 use Rattle.rsx_script.specs.declared.print.Answer.{Answer}
 use Rattle.rsx_session.specs.Answers.{IsTrouble}
-use Rattle.rsx_session.specs.Kept.{Known, ending_after, ending_by, ending_in, known, seen, taken}
-use Rattle.rsx_session.specs.Places.{IsStepMade, Place, step_text}
+use Rattle.rsx_session.specs.Kept.{Known, ending_after, ending_by, known, seen, taken}
+use Rattle.rsx_session.specs.Places.{IsStepMade, step_text}
 use Rattle.rsx_session.specs.Sessions.{AllLead, IsTroubleOf, LeadsBy, OnText, SessionStands}
 use Rattle.rsx_session.specs.declared.session.Record.{Record}
 use Rattle.rsx_session.specs.declared.session.Session.{Session}

@@ -1,3 +1,4 @@
 -- Lemmas about sessions.
 pub mod Calls
+pub mod Lines
 pub mod Looks

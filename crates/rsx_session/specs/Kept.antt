@@ -1,5 +1,5 @@
 -- What a session keeps of each subscriber: a look of what has happened to it.
-use Rattle.std.specs.Prelude.{List, [], ◌∷◌, ◌++◌, ℕ, length, take, ◌-◌}
+use Rattle.std.specs.Prelude.{List, [], ◌∷◌, ◌++◌, length, take, ◌-◌}
 use Rattle.rsx_types.specs.Stream.{Stream}
 use Rattle.rsx_types.specs.declared.names.SubId.{SubId}
 use Rattle.rsx_types.specs.declared.signal.Ending.{Ending}

@@ -21,7 +21,7 @@ use Rattle.rsx_history.specs.Done.{IsDone}
 use Rattle.rsx_history.specs.History.{History, no_history, extended, published}
 use Rattle.rsx_history.specs.Names.{name_codes}
 use Rattle.rsx_history.specs.Pumped.{HasEnded, LeadTo, Made, after_moves}
-use Rattle.rsx_history.specs.Stands.{GraphState, HasNotes, IsOwed, nothing}
+use Rattle.rsx_history.specs.Stands.{GraphState, IsOwed, nothing}
 use Rattle.rsx_history.specs.declared.refusal.Refusal.TheVariants.{NoMemory}
 use Rattle.rsx_history.specs.declared.step.Answer.{Answer}
 use Rattle.rsx_history.specs.declared.step.Answer.TheVariants.{Opened, Published, Subscribed, Requested, Cancelled, Made as MoveMade, Refused}

@@ -2,7 +2,7 @@
 
 ghost use Rattle.std.specs.Prelude.{◌≡◌, ◌≤◌, [], true, length, map, slice_get, Some, string_bytes, OnErr, OnOk, IsOk, IfOk, IfErr};
 ghost use Rattle.rsx_history.specs.History.{History, changed, no_history};
-ghost use Rattle.rsx_session.specs.Sessions.{LeadsAll, OnText, IsLookTrouble, IsRestOf, IsScratchTrouble, IsTroubleOf, IsValueOf, Says, SessionStands, place_of};
+ghost use Rattle.rsx_session.specs.Sessions.{GrowsByLine, IsLineOf, IsTold, LeadsAll, OnText, IsLookTrouble, IsRestOf, IsScratchTrouble, IsTroubleOf, IsValueOf, Says, SessionStands, place_of};
 ghost use Rattle.rsx_session.specs.Kept.{known, taken};
 ghost use Rattle.rsx_session.specs.Places.{AreChoices, AreJoins, IsAsked, IsCounted, IsShown, IsValued, IsViewed};
 ghost use Rattle.rsx_session.specs.Answers.{IsAnswered, IsTrouble, is_asked, is_choices, is_count, is_joins, is_of, is_hub, is_sub, is_done, is_pumped, is_received, is_value, is_shown, is_compared};
@@ -147,36 +147,30 @@ impl Session {
     ) -> Result<(), NoMemory>
         ensures same { OnErr result (string_bytes out.new ≡ string_bytes out.old) }
         ensures grows { OnOk result (IsAnswered self.old.view command (string_bytes out.old) (string_bytes out.new)) }
-    {
-        let answer = match self.run(alloc, command) {
-            Ok(answer) => answer,
-            Err(Trouble::Refused(name)) => Answer::Refused(name),
-            Err(Trouble::Memory) => return Err(NoMemory),
-        };
-        answer.add_to(alloc, out)
-    }
 
-    /// Does what a command asks for.
-    fn run(&mut self, alloc: Global, command: Command) -> Result<Answer<'_>, Trouble>
-        ensures answer { IfOk result (λ a. is_of self.old.view command a ≡ true) }
-        ensures err { IfErr result IsTrouble }
+        // What the command did, and that the new line says it.
+        ensures leads { OnOk result (GrowsByLine (string_bytes out.old) (string_bytes out.new) (λ line. IsTold command → LeadsAll command self.old line self.new)) }
     {
         match command {
-            Command::Hub(kind, capacity) => self.hub(alloc, kind, capacity),
-            Command::Emit(hub, number) => self.emit(alloc, hub, number),
-            Command::Complete(hub) => self.complete(alloc, hub),
-            Command::Fail(hub, number) => self.fail(alloc, hub, number),
-            Command::Subscribe(expr) => self.subscribe(alloc, expr),
-            Command::Request(sub, count) => self.request(sub, count),
-            Command::Cancel(sub) => self.cancel(sub),
-            Command::Pump(budget) => self.pump(alloc, budget),
-            Command::Pick(sub, node, input) => self.pick(alloc, sub, node, input),
-            Command::Show(sub) => self.show(alloc, sub),
-            Command::Asked(sub) => self.asked(sub),
-            Command::Count(sub) => self.count(sub),
-            Command::Joins(sub) => self.joins(alloc, sub),
-            Command::Choices(sub) => self.choices(alloc, sub),
-            Command::Check(sub) => self.check(alloc, sub),
+            Command::Hub(kind, capacity) => write(alloc, self.hub(alloc, kind, capacity), out),
+            Command::Emit(hub, number) => write(alloc, self.emit(alloc, hub, number), out),
+            Command::Complete(hub) => write(alloc, self.complete(alloc, hub), out),
+            Command::Fail(hub, number) => write(alloc, self.fail(alloc, hub, number), out),
+            Command::Subscribe(expr) => write(alloc, self.subscribe(alloc, expr), out),
+            Command::Request(sub, count) => write(alloc, self.request(sub, count), out),
+            Command::Cancel(sub) => write(alloc, self.cancel(sub), out),
+            Command::Pump(budget) => write(alloc, self.pump(alloc, budget), out),
+            Command::Pick(sub, node, input) => write(
+                alloc,
+                self.pick(alloc, sub, node, input),
+                out,
+            ),
+            Command::Show(sub) => write(alloc, self.show(alloc, sub), out),
+            Command::Asked(sub) => write(alloc, self.asked(sub), out),
+            Command::Count(sub) => write(alloc, self.count(sub), out),
+            Command::Joins(sub) => write(alloc, self.joins(alloc, sub), out),
+            Command::Choices(sub) => write(alloc, self.choices(alloc, sub), out),
+            Command::Check(sub) => write(alloc, self.check(alloc, sub), out),
         }
     }
 
@@ -475,6 +469,24 @@ impl Session {
         } else {
             Answer::Different
         })
+    }
+}
+
+/// Adds what a command answers to the text, or the name of its refusal, with a newline.
+///
+/// # Errors
+///
+/// `NoMemory` where a growth was refused, also before; the text is then as it was.
+fn write(alloc: Global, done: Result<Answer<'_>, Trouble>, out: &mut String) -> Result<(), NoMemory>
+    ensures same { OnErr result (string_bytes out.new ≡ string_bytes out.old) }
+    ensures grows { OnOk result (GrowsByLine (string_bytes out.old) (string_bytes out.new) (IsLineOf done.entry)) }
+{
+    match done {
+        Ok(answer) => answer.add_to(alloc, out),
+        Err(trouble) => match trouble {
+            Trouble::Refused(name) => Answer::Refused(name).add_to(alloc, out),
+            Trouble::Memory => Err(NoMemory),
+        },
     }
 }
 

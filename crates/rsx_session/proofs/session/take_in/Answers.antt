@@ -1,10 +1,6 @@
-use Rattle.std.proofs.Common.{◌≡◌, ◌<◌, ◌≤◌, ◌∙◌, ℕ, map, length, arith, refl, sym, ap, subst, slice_get, Some, None}
+use Rattle.std.proofs.Common.{◌<◌, map, length, arith, sym}
 use Rattle.std.proofs.lemmas.List.{length-map}
 use Rattle.rsx_session.specs.Kept.{known}
-use Rattle.std.proofs.lemmas.Option.{slice_get_within}
-use Rattle.rsx_graph.specs.InGraph.{state_of}
-use Rattle.rsx_history.specs.declared.step.Answer.TheVariants as did
-use Rattle.rsx_history.specs.declared.step.Step.TheVariants as step
 use Rattle.rsx_session.proofs.Calls.{known_set, none_there}
 use Rattle.rsx_session.proofs.session.take_in.Goals as goal
 

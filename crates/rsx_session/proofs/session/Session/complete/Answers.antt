@@ -1,11 +1,9 @@
-use Rattle.std.proofs.Common.{◌≡◌, ◌<◌, ◌≤◌, ◌∙◌, ℕ, map, length, arith, refl, sym, ap, subst, slice_get, Err, Some, None}
+use Rattle.std.proofs.Common.{◌<◌, ◌∙◌, map, length, arith, refl, sym, ap, Err}
 use Rattle.std.proofs.Math.ListN.{set}
-use Rattle.std.proofs.lemmas.Option.{slice_get_within}
 use Rattle.rsx_graph.specs.InGraph.{state_of}
 use Rattle.rsx_history.specs.declared.step.Answer.TheVariants as did
 use Rattle.rsx_history.specs.declared.step.Step.TheVariants as step
-use Rattle.rsx_types.specs.declared.signal.Cause.TheVariants.{User}
-use Rattle.rsx_types.specs.declared.signal.Signal.TheVariants.{Complete, Error}
+use Rattle.rsx_types.specs.declared.signal.Signal.TheVariants.{Complete}
 use Rattle.rsx_history.specs.declared.refusal.Refusal.TheVariants as unknown
 use Rattle.rsx_session.proofs.Calls.{hubs_count, made, not_made, published_set, state_is}
 use Rattle.rsx_session.proofs.session.Session.complete.Goals as goal

@@ -4,9 +4,8 @@ use Rattle.rsx_demo.specs.Demo.{demo_meaning}
 use Rattle.rsx_history.specs.Stands.{StandsFor}
 use Rattle.rsx_history.specs.History.{with_published}
 use Rattle.rsx_history.specs.Hubs.{IsEmittedAt}
-use Rattle.std.proofs.Common.{◌≡◌, ◌<◌, ◌≤◌, ◌∙◌, ℕ, map, length, arith, refl, sym, ap, subst, slice_get, Err, Some, None}
+use Rattle.std.proofs.Common.{◌≡◌, ◌<◌, ◌∙◌, map, length, arith, refl, sym, ap, subst, Err}
 use Rattle.std.proofs.Math.ListN.{set}
-use Rattle.std.proofs.lemmas.Option.{slice_get_within}
 use Rattle.rsx_graph.specs.InGraph.{state_of}
 use Rattle.rsx_history.specs.declared.step.Answer.TheVariants as did
 use Rattle.rsx_history.specs.declared.step.Step.TheVariants as step

@@ -1,5 +1,4 @@
-use Rattle.std.proofs.Common.{◌≡◌, ◌<◌, ◌≤◌, ◌∙◌, ℕ, map, length, arith, refl, sym, ap, subst, slice_get, Some, None}
-use Rattle.std.proofs.lemmas.Option.{slice_get_within}
+use Rattle.std.proofs.Common.{◌∙◌, map, refl, ap}
 use Rattle.rsx_graph.specs.InGraph.{state_of}
 use Rattle.rsx_history.specs.declared.step.Answer.TheVariants as did
 use Rattle.rsx_history.specs.declared.step.Step.TheVariants as step

@@ -4,8 +4,7 @@ use Rattle.rsx_demo.specs.Demo.{demo_meaning}
 use Rattle.rsx_history.specs.Stands.{IsRequestedAt, StandsFor}
 use Rattle.rsx_history.specs.History.{with_past}
 use Rattle.rsx_subscriber.specs.Past.{requested}
-use Rattle.std.proofs.Common.{◌≡◌, ◌<◌, ◌≤◌, ◌∙◌, ℕ, map, length, arith, refl, sym, ap, subst, slice_get, Some, None}
-use Rattle.std.proofs.lemmas.Option.{slice_get_within}
+use Rattle.std.proofs.Common.{◌∙◌, map, refl, sym, ap, subst}
 use Rattle.rsx_graph.specs.InGraph.{state_of}
 use Rattle.rsx_history.specs.declared.step.Answer.TheVariants as did
 use Rattle.rsx_history.specs.declared.step.Step.TheVariants as step

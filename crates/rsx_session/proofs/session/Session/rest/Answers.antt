@@ -1,4 +1,4 @@
-use Rattle.std.proofs.Common.{◌≡◌, ◌∙◌, length, ap, Some}
+use Rattle.std.proofs.Common.{◌∙◌, length, ap, Some}
 use Rattle.rsx_session.proofs.Looks.{rest_cancelled, rest_closed, rest_owed, trouble_of_look, trouble_unknown}
 use Rattle.rsx_session.proofs.session.Session.rest.Goals as goal
 

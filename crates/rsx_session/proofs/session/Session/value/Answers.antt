@@ -1,4 +1,4 @@
-use Rattle.std.proofs.Common.{◌≡◌, length, Ok, Err}
+use Rattle.std.proofs.Common.{length, Ok, Err}
 use Rattle.rsx_session.proofs.Looks.{evaluated, joins_count, scratch_err, scratch_same, subs_count, value_err}
 use Rattle.rsx_session.specs.Sessions.{place_of}
 use Rattle.rsx_session.proofs.session.Session.value.Goals as goal

@@ -1,0 +1,53 @@
+-- Lemmas about the line of an answer.
+use Rattle.std.proofs.Common.{◌≡◌, ℕ, ◌++◌, ◌∷◌, [], List, Bool, true, false, ◌||◌, Result, Ok, Err, refl, subst, sym}
+use Rattle.std.specs.Prelude.{IfErr, IfOk, OnOk}
+use Rattle.rsx_types.specs.declared.fault.NoMemory.{NoMemory}
+use Rattle.rsx_script.specs.Answers.{IsTextOf, answer_text}
+use Rattle.rsx_commands.specs.declared.command.Command.{Command}
+use Rattle.rsx_script.specs.declared.print.Answer.{Answer}
+use Rattle.rsx_script.specs.declared.print.Answer.TheVariants as answer
+use Rattle.rsx_session.specs.Answers.{IsAnswered, IsTrouble, is_of, is_refused}
+use Rattle.rsx_session.specs.Places.{IsLook, Place}
+use Rattle.rsx_session.specs.Sessions.{AllLead, GrowsByLine, IsLineOf, IsTold, LeadsAll, OnText, Says}
+use Rattle.rsx_session.specs.declared.session.Session.{Session}
+use Rattle.rsx_session.specs.declared.session.Trouble.{Trouble}
+use Rattle.rsx_session.specs.declared.session.Trouble.TheVariants as trouble
+use Rattle.rsx_session.specs.declared.session.View.{View}
+
+or_left : (a b : Bool) → a ≡ true → (a || b) ≡ true
+or_left true b h = refl
+or_left false b h = absurd cc
+
+or_right : (a b : Bool) → b ≡ true → (a || b) ≡ true
+or_right true b h = refl
+or_right false b h = h
+
+-- what was printed is the line of what was done
+pub line_of : (done : Result Answer Trouble) (a : Answer) (before after : List ℕ) (r : Result (Unit {0}) NoMemory) → ((text : List ℕ) → text ≡ answer_text a → IsLineOf done text) → OnOk r ((text : List ℕ) × IsTextOf a text × (after ≡ before ++ (text ++ 10 ∷ []))) → OnOk r (GrowsByLine before after (IsLineOf done))
+line_of done a before after (Ok u) k g = (g.0, g.2, k g.0 g.1)
+line_of done a before after (Err e) k g = tt
+
+-- its kind belongs to the command
+pub answered : (done : Result Answer Trouble) (view : View) (command : Command) (before after : List ℕ) (r : Result (Unit {0}) NoMemory) → OnOk r (GrowsByLine before after (IsLineOf done)) → IfOk done (λ a. is_of view command a ≡ true) → IfErr done IsTrouble → OnOk r (IsAnswered view command before after)
+answered (Ok a) view command before after (Ok u) g ok err = record { answer = a; belongs = or_left (is_of view command a) (is_refused a) ok; text = g.0; prints = g.2; grows = g.1 }
+answered (Err (trouble.Refused name)) view command before after (Ok u) g ok err = record { answer = answer.Refused name; belongs = or_right (is_of view command (answer.Refused name)) (is_refused (answer.Refused name)) err; text = g.0; prints = g.2; grows = g.1 }
+answered (Err trouble.Memory) view command before after (Ok u) g ok err = absurd g.2
+answered done view command before after (Err e) g ok err = tt
+
+-- it says what was done
+pub told : (done : Result Answer Trouble) (command : Command) (old new : Session) (before after : List ℕ) (r : Result (Unit {0}) NoMemory) → OnOk r (GrowsByLine before after (IsLineOf done)) → OnText done (λ text. LeadsAll command old text new) → OnOk r (GrowsByLine before after (λ line. IsTold command → LeadsAll command old line new))
+told (Ok a) command old new before after (Ok u) g leads = let L : List ℕ → Type 0 = λ text. LeadsAll command old text new in (g.0, g.1, λ known. subst L (sym g.2) leads)
+told (Err (trouble.Refused name)) command old new before after (Ok u) g leads = let L : List ℕ → Type 0 = λ text. LeadsAll command old text new in (g.0, g.1, λ known. subst L (sym g.2) leads)
+told (Err trouble.Memory) command old new before after (Ok u) g leads = absurd g.2
+told done command old new before after (Err e) g leads = tt
+
+-- of a command of which nothing more is said
+pub not_told : (done : Result Answer Trouble) (command : Command) (old new : Session) (before after : List ℕ) (r : Result (Unit {0}) NoMemory) → OnOk r (GrowsByLine before after (IsLineOf done)) → (IsTold command → ⊥) → OnOk r (GrowsByLine before after (λ line. IsTold command → LeadsAll command old line new))
+not_told done command old new before after (Ok u) g none = (g.0, g.1, λ known. absurd (none known))
+not_told done command old new before after (Err e) g none = tt
+
+-- a look changes nothing
+pub looked : (s : Session) (done : Result Answer Trouble) (R : Place → List ℕ → Type 0) → Says s done R → OnText done (λ text. AllLead (λ before line after. IsLook before after (R before line)) s text s)
+looked s (Ok a) R says = λ h k. record { history = h; stands = k; answers = (refl, says h k); view = refl }
+looked s (Err (trouble.Refused name)) R says = λ h k. record { history = h; stands = k; answers = (refl, says h k); view = refl }
+looked s (Err trouble.Memory) R says = tt
