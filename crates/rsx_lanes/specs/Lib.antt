@@ -1,5 +1,6 @@
 -- Definitions that contracts cite.
 pub mod Flat
+pub mod Group
 pub mod Lanes
 pub mod Window
 pub mod Worked
