@@ -1,2 +1,3 @@
 -- Lemmas about lanes.
+pub mod Keying
 pub mod Mains

@@ -1,5 +1,5 @@
 -- groupBy: a lane for each key, of the items that have it.
-use Rattle.std.specs.Prelude.{ℕ, Bool, ◌||◌, nat_eq, nat_lt, if◌then◌else◌, List, [], ◌∷◌, ◌++◌, length, map, Option, Result, Ok, Err}
+use Rattle.std.specs.Prelude.{◌≡◌, ℕ, Bool, ◌||◌, nat_eq, nat_lt, if◌then◌else◌, List, [], ◌∷◌, ◌++◌, length, map, Option, Result, Ok, Err}
 use Rattle.std.specs.Set.{is_member}
 use Rattle.rsx_types.specs.declared.signal.Ending.{Ending}
 use Rattle.rsx_types.specs.declared.signal.Ending.TheVariants.{Open, Done, Failed}
@@ -18,15 +18,25 @@ see seen k = if is_member nat_eq seen k then seen else seen ++ k ∷ []
 abbrev pub has_place : List ℕ → ℕ → Bool
 has_place seen k = is_member nat_eq seen k || nat_lt (length seen) MOST_KEYS
 
--- an item with its key, and then what comes where its key was seen too; a fault cuts there, and so does a key too many
-abbrev pub keyed_then : {T : Type 0} → T → Result ℕ ℕ → List ℕ → (List ℕ → Stream (ℕ × T)) → Stream (ℕ × T)
-keyed_then x (Ok k) seen after = if has_place seen k then item_then (k, x) (after (see seen k)) else cut_by TOO_MANY_KEYS
-keyed_then x (Err c) seen after = cut_by c
+-- the key of an item, where these were seen; a key too many is a fault
+abbrev pub placed : List ℕ → Result ℕ ℕ → Result ℕ ℕ
+placed seen (Ok k) = if has_place seen k then Ok k else Err TOO_MANY_KEYS
+placed seen (Err c) = Err c
+
+-- an item with its key, and then what comes where its key was seen too; a fault cuts there
+abbrev pub keyed_then : {T : Type 0} → T → List ℕ → Result ℕ ℕ → (List ℕ → Stream (ℕ × T)) → Stream (ℕ × T)
+keyed_then x seen (Ok k) after = item_then (k, x) (after (see seen k))
+keyed_then x seen (Err c) after = cut_by c
 
 -- the items with their keys, where these keys were seen, up to the first fault
 abbrev pub keyed_items : {T : Type 0} → (T → Result ℕ ℕ) → List ℕ → List T → Ending → Stream (ℕ × T)
 keyed_items key seen [] e = ended_by e
-keyed_items key seen (x ∷ xs) e = keyed_then x (key x) seen (λ known. keyed_items key known xs e)
+keyed_items key seen (x ∷ xs) e = keyed_then x seen (placed seen (key x)) (λ known. keyed_items key known xs e)
+
+-- the keys that were seen, after one more item's key; a fault leaves them
+abbrev pub keys_after : List ℕ → Result ℕ ℕ → List ℕ
+keys_after seen (Ok k) = see seen k
+keys_after seen (Err c) = seen
 
 -- the keys in the order in which each came first, behind those that were seen before
 abbrev pub first_seen : {T : Type 0} → List ℕ → List (ℕ × T) → List ℕ
@@ -65,3 +75,7 @@ abbrev pub group_by : {T : Type 0} → Meaning T → ℕ → List (Stage T) → 
 group_by m f gs cs v =
     let keyed = keyed_items (m.keyed f) [] v.items v.ending in
     merged_lanes cs (group_lanes m gs keyed) keyed.ending
+
+-- these are the items with their keys, these are the keys, and this is the ending behind them
+abbrev pub IsKeyed : {T : Type 0} → Stream (ℕ × T) → List ℕ → List (ℕ × T) → Ending → Type 0
+IsKeyed v keys items e = (items ≡ v.items) × (keys ≡ first_seen [] v.items) × (e ≡ v.ending)

@@ -10,11 +10,13 @@
 //! `Worked` has cases worked by hand.
 
 pub mod flat;
+pub mod group;
 mod lanes;
 pub mod law;
 pub mod limits;
 pub mod windowing;
 
 pub use flat::flat_map;
+pub use group::group_by;
 pub use limits::{MAIN, MOST_KEYS, TOO_MANY_KEYS};
 pub use windowing::window;
