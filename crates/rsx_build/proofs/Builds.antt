@@ -18,7 +18,7 @@ use Rattle.rsx_sources.specs.Machine.{Incoming, incoming_of, quiet as quiet_at}
 use Rattle.rsx_sources.specs.Items.{GivesItems, ItemsLeft}
 use Rattle.rsx_sources.specs.Reading.{Reading, published_at}
 use Rattle.rsx_hub.specs.Hub.{HubState, HasTakenIn, BeginsWith, join}
-use Rattle.rsx_hub.specs.Member.{MemberState, ReadsFromJoin, fresh_member, rest, without}
+use Rattle.rsx_hub.specs.Member.{MemberState, ReadsFromJoin, ending_taken, fresh_member, rest, without}
 use Rattle.rsx_hub_leaf.specs.Leaf.{LeafState, member_of, leaf_reads, reading_of}
 use Rattle.rsx_model.specs.Eval.{environment, quiet, meant, joined_value, behind as missing}
 use Rattle.rsx_model.specs.Check.{first_fault, stage_fits, or_else, unless}
@@ -42,7 +42,7 @@ use Rattle.rsx_tree.specs.Balance.{IsBalanced, IsOwnerBalanced, IsRowBalanced, s
 use Rattle.rsx_tree.specs.Changed.{Hold}
 use Rattle.rsx_tree.specs.Edges.{closed_if, edge_view}
 use Rattle.rsx_tree.specs.Inputs.{comes_in, out_of, beside_of, closed_row_if, notes_of, edges as edges_in}
-use Rattle.rsx_tree.specs.Reads.{IsReadAt, IsTreeReadAt}
+use Rattle.rsx_tree.specs.Reads.{IsReadAt, IsTreeReadAt, count_before}
 use Rattle.rsx_tree.specs.Tree.{comes_out, notes, IsJoined}
 use Rattle.rsx_tree.proofs.Rows.{comes_in_closed_if, notes_closed_if}
 use Rattle.rsx_tree.proofs.Effects.{edges_closed_if}
@@ -137,12 +137,12 @@ join_there [] i h e = cc
 join_there (g ∷ gs) zero h e = let same : g ≡ h = cc in ap (λ k. join k.kind k.count) same
 join_there (g ∷ gs) (suc i) h e = join_there gs i h e
 
-count_there : {T : Type 0} (hubs : List (HubState T)) (i : ℕ) (h : HubState T) → slice_get hubs i ≡ Some h → slice_get (counts_of hubs) i ≡ Some h.count
+count_there : {T : Type 0} (hubs : List (HubState T)) (i : ℕ) (h : HubState T) → slice_get hubs i ≡ Some h → slice_get (counts_of hubs) i ≡ Some (count_before (ending_taken h.has_ended h.ending) h.count)
 count_there [] i h e = cc
-count_there (g ∷ gs) zero h e = let same : g ≡ h = cc in ap (λ k. Some k.count) same
+count_there (g ∷ gs) zero h e = let same : g ≡ h = cc in ap (λ k. Some (count_before (ending_taken k.has_ended k.ending) k.count)) same
 count_there (g ∷ gs) (suc i) h e = count_there gs i h e
 
-read_at : (counts : List ℕ) (e : Ending) (r : Reading) → slice_get counts r.hub ≡ Some r.reached → IsReadAt counts (reading_of e r)
+read_at : (counts : List (Option ℕ)) (e : Ending) (r : Reading) → slice_get counts r.hub ≡ Some (count_before e r.reached) → IsReadAt counts (reading_of e r)
 read_at counts Open r h = h
 read_at counts Done r h = tt
 read_at counts (Failed c) r h = tt
@@ -183,8 +183,9 @@ built_hub {T} m hubs e id h mem n t is there fresh from hub_is mem_is n_is r_is 
     read : IsReadAt (counts_of hubs) (leaf_reads n)
     read =
         let reached : n.reached ≡ h.count = ap (λ k. k.reached) (mem_is ∙ fresh) in
+        let ending : n.ending ≡ ending_taken h.has_ended h.ending = ap (λ k. k.ending) (mem_is ∙ fresh) in
         read_at (counts_of hubs) n.ending (record { hub = n.hub; reached = n.reached })
-        (ap (slice_get (counts_of hubs)) hub_is ∙ (count_there hubs id.0 h there ∙ ap Some (sym reached)))
+        (ap (slice_get (counts_of hubs)) hub_is ∙ (count_there hubs id.0 h there ∙ (ap (λ k. Some (count_before (ending_taken h.has_ended h.ending) k)) (sym reached) ∙ ap (λ e. Some (count_before e n.reached)) (sym ending))))
 
 -- ---- a plain operator
 

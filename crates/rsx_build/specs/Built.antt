@@ -1,7 +1,8 @@
 -- A tree that was made for an expression.
-use Rattle.std.specs.Prelude.{◌≡◌, ⊤, ℕ, zero, suc, ◌+◌, Bool, false, List, [], ◌∷◌, ◌++◌, length, map, Some, option_and_then, slice_get}
+use Rattle.std.specs.Prelude.{◌≡◌, ⊤, ℕ, zero, suc, ◌+◌, Bool, false, List, [], ◌∷◌, ◌++◌, length, map, Option, Some, option_and_then, slice_get}
 use Rattle.std.proofs.Math.ListN.{replicate}
 use Rattle.rsx_hub.specs.Hub.{HubState, HasTakenIn, BeginsWith, join}
+use Rattle.rsx_hub.specs.Member.{ending_taken}
 use Rattle.rsx_model.specs.Eval.{environment, meant, in_order}
 use Rattle.rsx_model.specs.Shape.{children}
 use Rattle.rsx_model.specs.declared.expr.Expr.{Expr}
@@ -25,7 +26,7 @@ use Rattle.rsx_several.specs.declared.kind.SeveralKind.{SeveralKind}
 use Rattle.rsx_tree.specs.Balance.{IsBalanced, IsRowBalanced, sent_over}
 use Rattle.rsx_tree.specs.Edges.{EdgeView, closed_if}
 use Rattle.rsx_tree.specs.Inputs.{closed_row_if, comes_in, notes_of, edges as edges_in}
-use Rattle.rsx_tree.specs.Reads.{IsRowReadAt, IsTreeReadAt}
+use Rattle.rsx_tree.specs.Reads.{IsRowReadAt, IsTreeReadAt, count_before}
 use Rattle.rsx_tree.specs.Tree.{IsJoined, comes_out, notes, edges}
 use Rattle.rsx_node.specs.Any.{any_machine}
 use Rattle.rsx_node.specs.declared.any_node.AnyNode.{AnyNode}
@@ -84,9 +85,9 @@ AreBegun [] ws = ⊤
 AreBegun (h ∷ hs) [] = ⊥
 AreBegun {T} (h ∷ hs) (w ∷ ws) = ((taken : List T) × HasTakenIn h taken × BeginsWith h taken w) × AreBegun hs ws
 
--- how many items each hub took in
-abbrev pub counts_of : {T : Type 0} → List (HubState T) → List ℕ
-counts_of hubs = map (λ h. h.count) hubs
+-- how many items each hub took in, as long as it has not taken in its ending
+abbrev pub counts_of : {T : Type 0} → List (HubState T) → List (Option ℕ)
+counts_of hubs = map (λ h. count_before (ending_taken h.has_ended h.ending) h.count) hubs
 
 -- how many items a leaf misses that joins now, for each hub
 abbrev pub joins_now : {T : Type 0} → List (HubState T) → List ℕ

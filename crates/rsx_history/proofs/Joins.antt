@@ -1,23 +1,16 @@
 -- How the leaves of an expression join the hubs of a graph.
-use Rattle.std.proofs.Math.ListN.{set}
-use Rattle.std.proofs.lemmas.Bool.Decides.{nat_tests}
-use Rattle.std.proofs.Common.{◌≡◌, ℕ, zero, suc, ◌+◌, ◌<◌, ◌≤◌, Bool, true, false, ◌&&◌, nat_le, add-zero, get_or, List, [], ◌∷◌, ◌++◌, length, map, slice_get, refl, ap, sym, ◌∙◌, subst, arith, Some}
+use Rattle.std.proofs.Common.{◌≡◌, ℕ, zero, suc, ◌+◌, List, [], ◌∷◌, ◌++◌, map, slice_get, refl, ap, sym, ◌∙◌, subst, Some}
 use Rattle.rsx_types.specs.Meaning.{Meaning}
 use Rattle.rsx_types.specs.Stream.{Stream}
-use Rattle.rsx_types.specs.declared.names.HubId.{HubId}
-use Rattle.rsx_hub.specs.Hub.{HubState, join, with_members}
+use Rattle.rsx_hub.specs.Hub.{HubState, with_members}
 use Rattle.rsx_model.specs.declared.expr.Expr.{Expr}
-use Rattle.rsx_model.specs.declared.expr.Expr.TheFolds.{fold_out-Expr}
-use Rattle.rsx_model.specs.declared.expr.Expr.TheVariants.{Hub as HubOf}
-use Rattle.rsx_model.specs.declared.expr.Expr.TheViews.{outs-Hub}
-use Rattle.rsx_pipe.specs.Built.{join_at, joins_now, leaf_joins, new_joins}
+use Rattle.rsx_pipe.specs.Built.{leaf_joins, new_joins}
 use Rattle.rsx_subscriber.specs.Past.{Past, subscribed}
 use Rattle.rsx_subscriber.specs.Stands.{Stands}
 use Rattle.rsx_subscriber.specs.declared.subscription.Subscription.{Subscription}
-use Rattle.rsx_hub.specs.declared.TheConstants.{MOST_MEMBERS}
-use Rattle.rsx_history.specs.Begun.{HaveJoinedFrom, IsPrepared, have_places, leaves_on}
+use Rattle.rsx_history.specs.Begun.{HaveJoinedFrom, IsPrepared, leaves_on}
 use Rattle.rsx_history.specs.History.{History, HubPast, HasJoins, joins_in, with_subscriber}
-use Rattle.rsx_history.specs.Stands.{AllStand, GraphState, HubStands, HubsStand, StandsFor, all_taken, inboxes, taken_of, waiting_of}
+use Rattle.rsx_history.specs.Stands.{AllStand, GraphState, HubStands, HubsStand, StandsFor, all_taken, taken_of}
 use Rattle.rsx_history.proofs.Graphs.{AllStand-push}
 use Rattle.rsx_history.proofs.Inboxes.{are_taken, same_joins}
 

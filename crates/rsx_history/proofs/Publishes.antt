@@ -18,7 +18,7 @@ use Rattle.rsx_hub.specs.Waiting.{first_waiting, is_open}
 use Rattle.rsx_pipe.specs.Any.{any_machine}
 use Rattle.rsx_sources.specs.Reading.{Reading}
 use Rattle.rsx_sources.specs.declared.machine.Machine.{Ghosts as Machine}
-use Rattle.rsx_tree.specs.Reads.{IsReadAt, IsRowReadAt, IsTreeReadAt}
+use Rattle.rsx_tree.specs.Reads.{IsReadAt, IsRowReadAt, IsTreeReadAt, count_before}
 use Rattle.rsx_tree.specs.declared.inputs.Inputs.{Inputs, End, More'}
 use Rattle.rsx_tree.specs.declared.node.Node.{Node}
 use Rattle.rsx_pipe.specs.Output.{IsOpenAt, counts_in, published_then, values_then, with_signal, with_signal_at}
@@ -142,24 +142,24 @@ padded [] (m ∷ ms) = refl
 padded (v ∷ vs) [] = ap (λ w. w ∷ values_then (vs ++ ended_by Open ∷ []) []) (sym (none_value v)) ∙ ap (λ l. published_then v (ended_by Open) ∷ l) (padded vs [])
 padded (v ∷ vs) (m ∷ ms) = ap (λ l. published_then v m ∷ l) (padded vs ms)
 
-one_count : {T : Type 0} (vs : List (Stream T)) → counts_in (vs ++ ended_by Open ∷ []) ≡ counts_in vs ++ 0 ∷ []
+one_count : {T : Type 0} (vs : List (Stream T)) → counts_in (vs ++ ended_by Open ∷ []) ≡ counts_in vs ++ Some 0 ∷ []
 one_count [] = refl
-one_count (v ∷ vs) = ap (λ l. length v.items ∷ l) (one_count vs)
+one_count (v ∷ vs) = ap (λ l. count_before v.ending (length v.items) ∷ l) (one_count vs)
 
-got_before : (ns : List ℕ) (i n k : ℕ) → slice_get ns i ≡ Some n → slice_get (ns ++ k ∷ []) i ≡ Some n
+got_before : (ns : List (Option ℕ)) (i : ℕ) (n k : Option ℕ) → slice_get ns i ≡ Some n → slice_get (ns ++ k ∷ []) i ≡ Some n
 got_before [] i n k e = cc
 got_before (m ∷ ns) zero n k e = e
 got_before (m ∷ ns) (suc i) n k e = got_before ns i n k e
 
-read_more : (ns : List ℕ) (k : ℕ) (o : Option Reading) → IsReadAt ns o → IsReadAt (ns ++ k ∷ []) o
+read_more : (ns : List (Option ℕ)) (k : Option ℕ) (o : Option Reading) → IsReadAt ns o → IsReadAt (ns ++ k ∷ []) o
 read_more ns k None h = tt
-read_more ns k (Some r) h = got_before ns r.hub r.reached k h
+read_more ns k (Some r) h = got_before ns r.hub (Some r.reached) k h
 
-row_more : {M T : Type 0} (b : Machine M T) (ns : List ℕ) (k : ℕ) (t : Inputs M) → IsRowReadAt b ns t → IsRowReadAt b (ns ++ k ∷ []) t
+row_more : {M T : Type 0} (b : Machine M T) (ns : List (Option ℕ)) (k : Option ℕ) (t : Inputs M) → IsRowReadAt b ns t → IsRowReadAt b (ns ++ k ∷ []) t
 row_more b ns k End h = tt
 row_more b ns k (More' e n p below q beside) h = (elim h.0 [ inl dead ↦ inl dead | inr r ↦ inr (read_more ns k (b.reads n) r.0, row_more b ns k below r.1) ], row_more b ns k beside h.1)
 
-tree_more : {M T : Type 0} (b : Machine M T) (ns : List ℕ) (k : ℕ) (t : Node M) → IsTreeReadAt b ns t → IsTreeReadAt b (ns ++ k ∷ []) t
+tree_more : {M T : Type 0} (b : Machine M T) (ns : List (Option ℕ)) (k : Option ℕ) (t : Node M) → IsTreeReadAt b ns t → IsTreeReadAt b (ns ++ k ∷ []) t
 tree_more b ns k t h = (read_more ns k (b.reads t.machine) h.0, row_more b ns k t.inputs h.1)
 
 stands_more : {T : Type 0} (m : Meaning T) (taken : List (Stream T)) (sub : Subscription T) (past : Past T) → Stands m taken sub past → Stands m (taken ++ ended_by Open ∷ []) sub past
@@ -176,7 +176,7 @@ stands_more {T} m taken sub past h = record {
     ended = h.part.ended;
     counted = h.part.counted;
     balance = h.part.balance;
-    reads = λ l. let R : List ℕ → Type 0 = λ c. IsTreeReadAt any_machine c sub.part.tree in subst R (sym (one_count taken)) (tree_more any_machine (counts_in taken) 0 sub.part.tree (h.part.reads l));
+    reads = λ l. let R : List (Option ℕ) → Type 0 = λ c. IsTreeReadAt any_machine c sub.part.tree in subst R (sym (one_count taken)) (tree_more any_machine (counts_in taken) (Some 0) sub.part.tree (h.part.reads l));
     alone = h.part.alone;
     closed = h.part.closed;
   };

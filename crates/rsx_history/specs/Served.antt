@@ -1,7 +1,8 @@
 -- What a graph's subscribers got where no move is enabled.
-use Rattle.std.specs.Prelude.{◌≡◌, List, [], ◌∷◌, Some}
+use Rattle.std.specs.Prelude.{◌≡◌, ◌⊎◌, List, [], ◌∷◌, Some}
 use Rattle.rsx_types.specs.Meaning.{Meaning}
 use Rattle.rsx_types.specs.Stream.{Stream}
+use Rattle.rsx_pipe.specs.Part.{HasReadAll}
 use Rattle.rsx_pipe.specs.Tree.{IsWithin}
 use Rattle.rsx_pipe.specs.Tree.{notes_of}
 use Rattle.rsx_subscriber.specs.declared.subscription.Subscription.{Subscription}
@@ -11,14 +12,25 @@ use Rattle.rsx_subscriber.specs.Stands.{evaluated}
 use Rattle.rsx_history.specs.History.{History, published}
 use Rattle.rsx_history.specs.Stands.{GraphState, StandsFor}
 
--- each live subscriber did whose expression reads no hub, as long as no edge of its tree has carried 2^63-1 items and each of its nodes has a number
+-- a subscriber's expression reads no hub, or each node of its tree that reads one and offers nothing has got all that was published
+-- there
+abbrev pub HasGotAll : {T : Type 0} → Meaning T → List (Stream T) → Subscription T → Past T → Type 0
+HasGotAll m published s p = (p.joins ≡ []) ⊎ HasReadAll m published s.part
+
+-- each live subscriber did of which that holds, as long as no edge of its tree has carried 2^63-1 items and each of its nodes has a
+-- number
 abbrev pub AllServed : {T : Type 0} → Meaning T → List (Stream T) → List (Subscription T) → List (Past T) → Type 0
 AllServed m published [] [] = Unit {0}
 AllServed {T} m published (s ∷ ss) (p ∷ ps) =
-    (IsLive p.state → p.joins ≡ [] → IsWithin s.part.tree → (v : Stream T) → evaluated m published p (notes_of s.part.tree) ≡ Some v → IsServed s p v) × AllServed m published ss ps
+    (IsLive p.state → HasGotAll m published s p → IsWithin s.part.tree → (v : Stream T) → evaluated m published p (notes_of s.part.tree) ≡ Some v → IsServed s p v) × AllServed m published ss ps
 AllServed m published [] (p ∷ ps) = ⊥
 AllServed m published (s ∷ ss) [] = ⊥
 
 -- whatever history the subscriptions stand for, by it each live subscriber did
 abbrev pub IsAllServed : {T : Type 0} → Meaning T → GraphState T → Type 0
 IsAllServed {T} m graph = (h : History T) → StandsFor m graph h → AllServed m (published h) graph.subs h.pasts
+
+-- each node that reads a hub and offers nothing has got all that was published there
+abbrev pub AllHaveRead : {T : Type 0} → Meaning T → List (Stream T) → List (Subscription T) → Type 0
+AllHaveRead m published [] = Unit {0}
+AllHaveRead m published (s ∷ ss) = HasReadAll m published s.part × AllHaveRead m published ss

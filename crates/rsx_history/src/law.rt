@@ -1,11 +1,13 @@
 //! The headline, and that idle means delivered, for whoever reads nothing else.
 
+ghost use Rattle.std.specs.Prelude.{◌≡◌, false};
 ghost use Rattle.rsx_types.specs.Meaning.{Meaning};
 ghost use Rattle.rsx_history.specs.History.{History, published};
 ghost use Rattle.rsx_history.specs.Stands.{GraphState, StandsFor};
 ghost use Rattle.rsx_history.specs.Headline.{Headline};
 ghost use Rattle.rsx_history.specs.Pumped.{IsAllQuiet};
-ghost use Rattle.rsx_history.specs.Served.{AllServed};
+ghost use Rattle.rsx_history.specs.Hubs.{signals_wait};
+ghost use Rattle.rsx_history.specs.Served.{AllHaveRead, AllServed};
 
 use rsx_types::Ops;
 
@@ -20,12 +22,21 @@ pub fn headline<O: Ops>()
     ensures { (m : Meaning O.Item) (graph : GraphState O.Item) (h : History O.Item) → StandsFor m graph h → Headline m graph.subs h }
 {}
 
-/// Idle means delivered: wherever a graph stands for a history and no move is enabled, each live subscriber whose expression
-/// reads no hub got the first items of its expression's value, as many as it asked for or as there are; and the ending too,
-/// where it asked for more than there are and the value has one. It holds as long as no edge has carried 2^63-1 items.
+/// Idle means delivered: wherever a graph stands for a history and no move is enabled, each live subscriber got the first items of
+/// its expression's value over all that was published, as many as it asked for or as there are; and the ending too, where it
+/// asked for more than there are and the value has one. So of an expression that reads no hub, and of one that reads hubs where
+/// each of its nodes that reads one and offers nothing has got all that was published there ([`read_all`]). It holds as long as
+/// no edge has carried 2^63-1 items.
 ///
 /// `Graph::pump` answers Idle only where no move is enabled. The function does nothing; its contract is the sentence.
 pub fn idle_means_delivered<O: Ops>()
     ensures { (m : Meaning O.Item) (graph : GraphState O.Item) (h : History O.Item) →
         StandsFor m graph h → IsAllQuiet m graph → AllServed m (published h) graph.subs h.pasts }
+{}
+
+/// Where no signal waits in the inbox of a hub, each node that reads a hub has got all that was published there, wherever a graph
+/// stands for a history. The function does nothing; its contract is the sentence.
+pub fn read_all<O: Ops>()
+    ensures { (m : Meaning O.Item) (graph : GraphState O.Item) (h : History O.Item) →
+        StandsFor m graph h → signals_wait graph.hubs ≡ false → AllHaveRead m (published h) graph.subs }
 {}

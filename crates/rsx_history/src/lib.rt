@@ -3,7 +3,7 @@
 //! them, and the lemmas about them.
 //!
 //! - [`step`], [`refusal`]: one edit or move with its answer, and why a call is refused.
-//! - [`law`]: `headline` and `idle_means_delivered`, each as the contract of one function.
+//! - [`law`]: `headline`, `idle_means_delivered` and `read_all`, each as the contract of one function.
 //!
 //! The definitions stand in `specs/`: `History` (what has happened so far, by the steps and their answers), `Stands` and `Hubs`
 //! (what a graph stands for, and the effect of a move), `Moves`, `Begun`, `Done` (what each step did), `Pumped`, `Served`,
@@ -13,7 +13,7 @@ pub mod law;
 pub mod refusal;
 pub mod step;
 
-pub use law::{headline, idle_means_delivered};
+pub use law::{headline, idle_means_delivered, read_all};
 pub use refusal::Refusal;
 pub use step::{Answer, Pumped, Step};
 

@@ -1,2 +1,11 @@
 -- Lemmas about nodes of any kind.
 pub mod Dispatch
+pub mod ConcatRests
+pub mod LatestRests
+pub mod MergeRests
+pub mod PlainRests
+pub mod PublishOnRests
+pub mod QueuesRests
+pub mod Rests
+pub mod SourcesRests
+pub mod ZipRests

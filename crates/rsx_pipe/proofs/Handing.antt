@@ -10,13 +10,13 @@ use Rattle.rsx_types.specs.declared.signal.Ending.TheVariants.{Open, Done, Faile
 use Rattle.rsx_types.specs.declared.signal.Signal.{Signal}
 use Rattle.rsx_types.specs.declared.signal.Signal.TheVariants.{Next, Complete, Error}
 use Rattle.rsx_model.specs.declared.expr.Expr.{Expr}
-use Rattle.rsx_sources.specs.Counts.{ends_input, one_more}
+use Rattle.rsx_sources.specs.Counts.{ends_input}
 use Rattle.rsx_sources.specs.Reading.{IsNextAt, published_at}
 use Rattle.rsx_node.specs.Any.{any_machine}
 use Rattle.rsx_tree.specs.Edges.{edge_view, is_live}
 use Rattle.rsx_tree.specs.Handed.{IsHanded as IsTreeHanded, IsHandedOut, IsNextOf, counts_after, is_room_for, times}
 use Rattle.rsx_tree.specs.Handed as Tree
-use Rattle.rsx_tree.specs.Reads.{IsTreeReadAt}
+use Rattle.rsx_tree.specs.Reads.{IsTreeReadAt, count_before}
 use Rattle.rsx_tree.specs.declared.edge.Edge.{Edge}
 use Rattle.rsx_tree.specs.declared.edge.EdgeState.{EdgeState}
 use Rattle.rsx_tree.specs.declared.edge.EdgeState.TheVariants.{Live, Ended, Closed}
@@ -63,21 +63,25 @@ handed_values (suc n) s (v ∷ vs) (m ∷ ms) o = ap (λ l. published_then v m �
 length_last : {A : Type 0} (xs : List A) (x : A) → length (xs ++ x ∷ []) ≡ length xs + 1
 length_last xs x = length-append xs (x ∷ [])
 
--- the items that each hub published are counted on
-handed_counts : {T : Type 0} (n : ℕ) (s : Signal T) (vs : List (Stream T)) → counts_in (with_signal_at n s vs) ≡ counts_after n s (counts_in vs)
-handed_counts n (Next x) [] = nothing n
+next_count : (e : Ending) (n : ℕ) → count_before e (n + 1) ≡ option_map suc (count_before e n)
+next_count Open n = ap Some (one_more n)
   where
-    nothing : (n : ℕ) → [] ≡ one_more n []
-    nothing zero = refl
-    nothing (suc n) = refl
+    one_more : (k : ℕ) → k + 1 ≡ suc k
+    one_more k = omega arith
+next_count Done n = refl
+next_count (Failed c) n = refl
+
+-- the items that each hub published are counted on, until it ends
+handed_counts : {T : Type 0} (n : ℕ) (s : Signal T) (vs : List (Stream T)) → counts_in (with_signal_at n s vs) ≡ counts_after n s (counts_in vs)
+handed_counts n (Next x) [] = refl
 handed_counts n Complete [] = refl
 handed_counts n (Error c) [] = refl
-handed_counts zero (Next x) (v ∷ vs) = ap (λ k. k ∷ counts_in vs) (length_last v.items x)
+handed_counts zero (Next x) (v ∷ vs) = ap (λ k. k ∷ counts_in vs) (ap (count_before v.ending) (length_last v.items x) ∙ next_count v.ending (length v.items))
 handed_counts zero Complete (v ∷ vs) = refl
 handed_counts zero (Error c) (v ∷ vs) = refl
-handed_counts (suc n) (Next x) (v ∷ vs) = ap (λ l. length v.items ∷ l) (handed_counts n (Next x) vs)
-handed_counts (suc n) Complete (v ∷ vs) = ap (λ l. length v.items ∷ l) (handed_counts n Complete vs)
-handed_counts (suc n) (Error c) (v ∷ vs) = ap (λ l. length v.items ∷ l) (handed_counts n (Error c) vs)
+handed_counts (suc n) (Next x) (v ∷ vs) = ap (λ l. count_before v.ending (length v.items) ∷ l) (handed_counts n (Next x) vs)
+handed_counts (suc n) Complete (v ∷ vs) = ap (λ l. count_before v.ending (length v.items) ∷ l) (handed_counts n Complete vs)
+handed_counts (suc n) (Error c) (v ∷ vs) = ap (λ l. count_before v.ending (length v.items) ∷ l) (handed_counts n (Error c) vs)
 
 behind_all : {A : Type 0} (xs : List A) (x : A) (more : List A) → slice_get (xs ++ x ∷ more) (length xs) ≡ Some x
 behind_all [] x more = refl
@@ -94,19 +98,24 @@ next_of {T} (Error c) v m o =
     let P : Ending → Type 0 = λ e. (length (more_after e v (ended_by (Failed c))).items ≡ length v.items) × ((more_after e v (ended_by (Failed c))).ending ≡ Failed c) in
     subst P (sym o) (ap length (append-nil v.items), refl)
 
+counted : (e : Ending) (n c : ℕ) → e ≡ Open → Some (count_before e n) ≡ Some (Some c) → n ≡ c
+counted Open n c o h = cc
+counted Done n c o h = cc
+counted (Failed k) n c o h = cc
+
 -- in all values of the hubs it comes next
 pub handed_next : {T : Type 0} (n : ℕ) (s : Signal T) (vs more : List (Stream T)) → IsOpenAt n vs → IsNextOf (counts_in vs) (values_then vs (in_front_of n s more)) n s
 handed_next n s [] more o c e = let k = o.1 in cc
 handed_next {T} zero s (v ∷ vs) [] o c e =
     let here : v ≡ o.0 = let k = o.1 in cc in
     let C : ℕ → Type 0 = λ k. IsNextAt k (published_then v (signal_then s (ended_by Open))) s in
-    let same : length v.items ≡ c = cc in
-    subst C same (next_of s v (ended_by Open) (ap (λ w. w.ending) here ∙ o.2))
+    let goes_on : v.ending ≡ Open = ap (λ w. w.ending) here ∙ o.2 in
+    subst C (counted v.ending (length v.items) c goes_on e) (next_of s v (ended_by Open) goes_on)
 handed_next {T} zero s (v ∷ vs) (m ∷ ms) o c e =
     let here : v ≡ o.0 = let k = o.1 in cc in
     let C : ℕ → Type 0 = λ k. IsNextAt k (published_then v (signal_then s m)) s in
-    let same : length v.items ≡ c = cc in
-    subst C same (next_of s v m (ap (λ w. w.ending) here ∙ o.2))
+    let goes_on : v.ending ≡ Open = ap (λ w. w.ending) here ∙ o.2 in
+    subst C (counted v.ending (length v.items) c goes_on e) (next_of s v m goes_on)
 handed_next (suc n) s (v ∷ vs) [] o c e = handed_next n s vs [] o c e
 handed_next (suc n) s (v ∷ vs) (m ∷ ms) o c e = handed_next n s vs ms o c e
 
@@ -137,8 +146,8 @@ handed_part {T} h s root old new live k = record {
     ended = p.ended;
     counted = p.counted;
     balance = λ l. k.balance root.demand.sent (p.balance l);
-    reads = λ l. let R : List ℕ → Type 0 = λ c. IsTreeReadAt any_machine c new in subst R (sym (handed_counts h s published)) (k.reads (counts_in published) (p.reads l));
-    alone = λ l none. let R : List ℕ → Type 0 = λ c. IsTreeReadAt any_machine c new in subst R (no_count h s) (k.reads [] (p.alone l none));
+    reads = λ l. let R : List (Option ℕ) → Type 0 = λ c. IsTreeReadAt any_machine c new in subst R (sym (handed_counts h s published)) (k.reads (counts_in published) (p.reads l));
+    alone = λ l none. let R : List (Option ℕ) → Type 0 = λ c. IsTreeReadAt any_machine c new in subst R (no_count h s) (k.reads [] (p.alone l none));
     closed = λ c. let not = live_state root.state live in cc;
   };
   ended = λ last. ap (λ b. if b then Tree.readers any_machine h new else 0) live ∙ k.ended last;

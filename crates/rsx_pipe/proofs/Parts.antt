@@ -7,7 +7,7 @@ use Rattle.rsx_types.specs.declared.limits.TheConstants.{CAPACITY}
 use Rattle.rsx_model.specs.declared.expr.Expr.{Expr}
 use Rattle.rsx_types.specs.Meaning.{Meaning, Allocates}
 use Rattle.rsx_types.specs.Notes.{unchosen, notes_then}
-use Rattle.rsx_types.specs.Stream.{Stream, ended_by, signals_then}
+use Rattle.rsx_types.specs.Stream.{Stream, ended_by, item_then, signals_then}
 use Rattle.rsx_types.specs.declared.signal.Ending.{Ending}
 use Rattle.rsx_types.specs.declared.signal.Ending.TheVariants.{Open, Done, Failed}
 use Rattle.rsx_types.specs.declared.note.Note.{Note}
@@ -19,11 +19,11 @@ use Rattle.rsx_hub.specs.Hub.{HubState, HasTakenIn, BeginsWith}
 use Rattle.rsx_hub.specs.Member.{ending_taken}
 use Rattle.rsx_hub.specs.Waiting.{is_open}
 use Rattle.rsx_build.specs.Built.{IsBuilt, AreBegun, StandAt, counts_of, new_joins}
-use Rattle.rsx_tree.specs.Reads.{IsTreeReadAt}
+use Rattle.rsx_tree.specs.Reads.{IsTreeReadAt, count_before}
 use Rattle.rsx_pipe.specs.Published.{AreTaken, IsTaken}
 use Rattle.rsx_tree.specs.Edges.{changed_at, asked_up_to, edge_view, EdgeView, passed, is_live, closed_view, closed_state}
 use Rattle.rsx_pipe.specs.Output.{counts_in, items_in, IsUnended, more_after, published_then, values_then}
-use Rattle.rsx_pipe.specs.Part.{PartStands, IsPutOut, IsRootSent, IsMade, IsMoved, IsMovedBy, IsPumped, IsQuiet, IsDelivered, IsServed, IsSpent, HasEnded, IsAsk, IsSend, IsEffect, GoesOut, all_edges, sent_at, send_enabled, move_enabled, has_room, make_allocates, evaluated, pump_allocates, IsPick, IsRow}
+use Rattle.rsx_pipe.specs.Part.{PartStands, IsPutOut, IsRootSent, IsMade, IsMoved, IsMovedBy, IsPumped, IsQuiet, HasReadAll, IsDelivered, IsServed, IsSpent, HasEnded, IsAsk, IsSend, IsEffect, GoesOut, all_edges, sent_at, send_enabled, move_enabled, has_room, make_allocates, evaluated, pump_allocates, IsPick, IsRow}
 use Rattle.rsx_pipe.specs.Tree.{AnyTree, comes_out, notes_of, offers, edges, edges_after, can_ask, can_send, can_go, want_at, want_in, front_at, front_in, ended_at, IsAllClosed, IsKept, IsAlike, step_allocates, IsAdvanced, IsAskedAt, IsSentAt, IsChosen, IsDriven, IsIdle, IsBalanced, IsBalancedAfter, IsWithin, pop_allocates, IsStill}
 use Rattle.rsx_tree.specs.declared.look.NodeMove.{NodeMove}
 use Rattle.rsx_tree.specs.declared.look.NodeMove.TheVariants.{Ask, Send, Pick, Row}
@@ -44,11 +44,14 @@ use Rattle.rsx_tree.proofs.Alike.{or_right, driven_alike, or_left}
 use Rattle.rsx_tree.proofs.Drives.{chosen_run}
 use Rattle.rsx_tree.proofs.Effects.{length_edges}
 use Rattle.rsx_tree.proofs.Noted.{kept_chosen, picked_effect, picked_enabled, row_effect, row_enabled as row_made_enabled}
-use Rattle.rsx_node.specs.Laws.{any_ending_waits, any_hungry}
+use Rattle.rsx_node.specs.Laws.{any_ending_waits, any_settles}
+use Rattle.rsx_node.proofs.Rests.{any_rests}
+use Rattle.rsx_tree.proofs.Rests.{tree_rests}
+use Rattle.rsx_pipe.proofs.Trees.{unchosen_tree}
 use Rattle.rsx_tree.specs.Inputs.{size, wanted_at, can_ask_in, can_send_in, edges as edges_in}
 use Rattle.rsx_tree.specs.Stepped.{can_pick_in, can_row_in}
 use Rattle.rsx_tree.proofs.Changes.{chosen_second}
-use Rattle.rsx_tree.proofs.Idles.{idle_offers, can_pass_live, live_still, place_none, station_none, less_or_more}
+use Rattle.rsx_tree.proofs.Idles.{can_pass_live, live_still, place_none, station_none, less_or_more}
 use Rattle.rsx_pipe.proofs.Signals.{IsOrderly-more, IsUnended-more, IsUnended-last, items_in-append, map_then-last, prefix_of_orderly, cut_value}
 use Rattle.rsx_tree.proofs.Shut.{pass_live, and_right, pick_alive, row_alive}
 use Rattle.rsx_rooted.proofs.Numbers.{above_zero, suc_minus}
@@ -121,7 +124,9 @@ taken_counts : {T : Type 0} (hubs : List (HubState T)) (published : List (Stream
 taken_counts [] [] k = refl
 taken_counts [] (v ∷ vs) k = absurd k
 taken_counts (h ∷ hs) [] k = absurd k
-taken_counts (h ∷ hs) (v ∷ vs) k = ap (λ n. n ∷ counts_of hs) k.0.taken.counted ∙ ap (λ l. length v.items ∷ l) (taken_counts hs vs k.1)
+taken_counts (h ∷ hs) (v ∷ vs) k =
+    ap (λ n. count_before (ending_taken h.has_ended h.ending) n ∷ counts_of hs) k.0.taken.counted
+    ∙ (ap (λ e. count_before e (length v.items) ∷ counts_of hs) (sym k.0.ending) ∙ ap (λ l. count_before v.ending (length v.items) ∷ l) (taken_counts hs vs k.1))
 
 pub fresh_part : {T : Type 0} (m : Meaning T) (hubs : List (HubState T)) (published : List (Stream T)) (e : Expr T) (part : Part T) → AreTaken hubs published → IsBuilt m hubs e part.tree → part.root.state ≡ Live → part.root.demand.sent ≡ 0 → PartStands m published part e (new_joins hubs e) []
 fresh_part m hubs published e part taken b l s = record {
@@ -133,7 +138,7 @@ fresh_part m hubs published e part taken b l s = record {
   ended = λ x. let k = l in cc;
   counted = sym s;
   balance = λ _. rw s b.balance;
-  reads = λ _. let C : List ℕ → Type 0 = λ counts. IsTreeReadAt any_machine counts part.tree in subst C (taken_counts hubs published taken) b.reads;
+  reads = λ _. let C : List (Option ℕ) → Type 0 = λ counts. IsTreeReadAt any_machine counts part.tree in subst C (taken_counts hubs published taken) b.reads;
   alone = λ _ none. b.alone none;
   closed = λ x. let k = l in cc;
 }
@@ -173,14 +178,24 @@ idle_tree {T} m part queue q few at lt = elim (less_or_more at (size part.tree.i
 still_root : {T : Type 0} (m : Meaning T) (part : Part T) (queue : List (Signal T)) → IsQuiet m part queue → IsStill (station_of part.tree (edge_view part.root) 0)
 still_root m part queue q = ((λ input l. q (Pick 0 input) (omega arith, l)), q (Row 0) (omega arith))
 
--- over a live root edge with room behind it all that was asked for went
-sent_all_asked : {T : Type 0} (m : Meaning T) (part : Part T) (queue : List (Signal T)) → IsQuiet m part queue → part.root.state ≡ Live → length queue < CAPACITY → IsBalanced part.tree part.root.demand.sent → IsTreeReadAt any_machine [] part.tree → length (all_edges part) ≤ MOST_NODES → IsWithin part.tree → part.root.demand.sent < part.root.demand.asked → ⊥
-sent_all_asked m part queue q live room b alone few w less =
-    let can = ap is_live live in
-    let s = idle_offers any_machine m (any_ending_waits m) (any_hungry m) part.tree part.root.demand.asked part.root.demand.sent (idle_tree m part queue q few) (live_still any_machine part.root part.tree.machine can (still_root m part queue q)) b less (let k = few_below part few in omega (arith, k)) w alone in
-    let r : has_room queue ≡ true = grind (arith, nat_tests, room) in
-    let goes : send_enabled m part queue 0 ≡ true = rw (r, s.1) (can_pass_live (edge_view part.root) (front_of s.0) can less) in
-    never (send_enabled m part queue 0) goes (q (Send 0) (omega arith))
+no_signal : {A : Type 0} (o : Option A) → ((a : A) → o ≡ Some a → ⊥) → o ≡ None
+no_signal None h = refl
+no_signal (Some a) h = absurd (h a refl)
+
+-- over a live root edge with room behind it, of which more is asked than went, nothing more comes
+nothing_more : {T : Type 0} (m : Meaning T) (hubs : List (Stream T)) (part : Part T) (queue : List (Signal T)) → IsQuiet m part queue → part.root.state ≡ Live → length queue < CAPACITY → IsBalanced part.tree part.root.demand.sent → length (all_edges part) ≤ MOST_NODES → IsWithin part.tree → HasReadAll m hubs part → part.root.demand.sent < part.root.demand.asked →
+    comes_out m hubs (map unchosen (notes_of part.tree)) part.tree 0 ≡ Some (ended_by Open)
+nothing_more {T} m hubs part queue q live room b few w read less =
+    tree_rests any_machine m (any_ending_waits m) (any_settles m) (any_rests m) hubs (map unchosen (notes_of part.tree)) part.tree part.root.demand.asked part.root.demand.sent (idle_tree m part queue q few) (live_still any_machine part.root part.tree.machine can (still_root m part queue q)) b less (let k = few_below part few in omega (arith, k)) w (read live) (unchosen_tree part.tree) (no_signal (offers m part.tree) silent)
+  where
+    can : is_live part.root.state ≡ true
+    can = ap is_live live
+
+    silent : (s : Signal T) → offers m part.tree ≡ Some s → ⊥
+    silent s offered =
+        let r : has_room queue ≡ true = grind (arith, nat_tests, room) in
+        let goes : send_enabled m part queue 0 ≡ true = rw (r, offered) (can_pass_live (edge_view part.root) (front_of s) can less) in
+        never (send_enabled m part queue 0) goes (q (Send 0) (omega arith))
 
 take_front : {A : Type 0} (xs rest : List A) (n : ℕ) → n ≡ length xs → take n (xs ++ rest) ≡ xs
 take_front [] rest n e = rw e refl
@@ -210,22 +225,24 @@ values_then-again (v ∷ vs) [] (k ∷ ks) = ap (λ l. published_then v k ∷ l)
 values_then-again (v ∷ vs) (i ∷ is) [] = ap (λ l. published_then v i ∷ l) (values_then-again vs is [])
 values_then-again (v ∷ vs) (i ∷ is) (k ∷ ks) = ap (λ w. w ∷ values_then (values_then vs is) ks) (then_again v i k) ∙ ap (λ l. published_then v (published_then i k) ∷ l) (values_then-again vs is ks)
 
-not_less : (a b : ℕ) → (a < b → ⊥) → b ≤ a
-not_less a b n = by_test (nat_lt a b) refl
-  where
-    by_test : (t : Bool) → nat_lt a b ≡ t → b ≤ a
-    by_test true x = absurd (n (grind (arith, nat_tests)))
-    by_test false x = grind (arith, nat_tests)
-
 -- what went out, followed by what still comes out, is the value where this is published besides
 pub value_now : {T : Type 0} (m : Meaning T) (published more : List (Stream T)) (part : Part T) (e : Expr T) (joins : List ℕ) (output : List (Signal T)) (v : Stream T) → PartStands m published part e joins output → evaluated m (values_then published more) joins e (notes_of part.tree) ≡ Some v →
     option_map (signals_then output) (comes_out m (values_then published more) (map unchosen (notes_of part.tree)) part.tree 0) ≡ Some v
 value_now m published more part e joins output v h x =
     h.value more (map unchosen (notes_of part.tree)) (unchosen_notes (notes_of part.tree)) ∙ (ap (λ k. evaluated m (values_then published more) joins e k) (notes_then-unchosen (notes_of part.tree)) ∙ x)
 
-served_live : {T : Type 0} (m : Meaning T) (published : List (Stream T)) (part : Part T) (queue : List (Signal T)) (e : Expr T) (joins : List ℕ) (output : List (Signal T)) → IsQuiet m part queue → part.root.state ≡ Live → length queue < CAPACITY → length (all_edges part) ≤ MOST_NODES → IsWithin part.tree → PartStands m published part e joins output → joins ≡ [] → (more : List (Stream T)) (v : Stream T) → evaluated m (values_then published more) joins e (notes_of part.tree) ≡ Some v → IsServed part output v
-served_live m published part queue e joins output q live room few w h none more v x =
-    let full : part.root.demand.asked ≤ part.root.demand.sent = not_less part.root.demand.sent part.root.demand.asked (sent_all_asked m part queue q live room (h.balance live) (h.alone live none) few w) in
+unended_then : {T : Type 0} (output : List (Signal T)) → IsUnended output → signals_then output (ended_by Open) ≡ record { items = items_in output; ending = Open }
+unended_then [] u = refl
+unended_then (Next x ∷ ss) u = ap (item_then x) (unended_then ss u)
+unended_then (Complete ∷ ss) u = absurd u
+unended_then (Error c ∷ ss) u = absurd u
+
+some_same : {A : Type 0} (a b : A) → Some a ≡ Some b → a ≡ b
+some_same a b e = cc
+
+-- all that was asked for went
+served_all : {T : Type 0} (m : Meaning T) (published : List (Stream T)) (part : Part T) (e : Expr T) (joins : List ℕ) (output : List (Signal T)) → part.root.demand.asked ≤ part.root.demand.sent → PartStands m published part e joins output → (more : List (Stream T)) (v : Stream T) → evaluated m (values_then published more) joins e (notes_of part.tree) ≡ Some v → IsServed part output v
+served_all m published part e joins output full h more v x =
     let within = part.root.demand.covered in
     let counted = h.counted in
     let count : length (items_in output) ≡ part.root.demand.asked = omega (arith, full, within, counted) in
@@ -236,6 +253,26 @@ served_live m published part queue e joins output q live room few w h none more 
       items = sym (ap (λ l. take (min part.root.demand.asked (length v.items)) l) (sym p.1) ∙ take_front (items_in output) p.0 (min part.root.demand.asked (length v.items)) least);
       ending = λ less _. absurd (omega (arith, less, count, longer));
     }
+
+-- more was asked for than there is
+served_whole : {T : Type 0} (m : Meaning T) (published : List (Stream T)) (part : Part T) (e : Expr T) (joins : List ℕ) (output : List (Signal T)) → part.root.state ≡ Live → PartStands m published part e joins output → (more : List (Stream T)) (v : Stream T) → comes_out m (values_then published more) (map unchosen (notes_of part.tree)) part.tree 0 ≡ Some (ended_by Open) → evaluated m (values_then published more) joins e (notes_of part.tree) ≡ Some v → IsServed part output v
+served_whole m published part e joins output live h more v none x =
+    let whole : v ≡ record { items = items_in output; ending = Open } =
+    some_same v (signals_then output (ended_by Open)) (sym (value_now m published more part e joins output v h x) ∙ ap (option_map (signals_then output)) none) ∙ unended_then output (h.unended live) in
+    let within = part.root.demand.covered in
+    let counted = h.counted in
+    let all : items_in output ≡ v.items = sym (ap (λ w. w.items) whole) in
+    let few : length v.items ≤ min part.root.demand.asked (length v.items) = let count = ap length all in omega (arith, within, counted, count) in
+    record {
+      items = all ∙ sym (take_all (min part.root.demand.asked (length v.items)) v.items few);
+      ending = λ less some. absurd (some (ap (λ w. w.ending) whole));
+    }
+
+served_live : {T : Type 0} (m : Meaning T) (published : List (Stream T)) (part : Part T) (queue : List (Signal T)) (e : Expr T) (joins : List ℕ) (output : List (Signal T)) → IsQuiet m part queue → part.root.state ≡ Live → length queue < CAPACITY → length (all_edges part) ≤ MOST_NODES → IsWithin part.tree → PartStands m published part e joins output → (more : List (Stream T)) (v : Stream T) → HasReadAll m (values_then published more) part → evaluated m (values_then published more) joins e (notes_of part.tree) ≡ Some v → IsServed part output v
+served_live m published part queue e joins output q live room few w h more v read x = elim (less_or_more part.root.demand.sent part.root.demand.asked) [
+  | inl less ↦ served_whole m published part e joins output live h more v (nothing_more m (values_then published more) part queue q live room (h.balance live) few w read less) x
+  | inr full ↦ served_all m published part e joins output full h more v x
+]
 
 served_ended : {T : Type 0} (m : Meaning T) (published : List (Stream T)) (part : Part T) (e : Expr T) (joins : List ℕ) (output : List (Signal T)) → part.root.state ≡ Ended → PartStands m published part e joins output → (more : List (Stream T)) (v : Stream T) → evaluated m (values_then published more) joins e (notes_of part.tree) ≡ Some v → IsServed part output v
 served_ended m published part e joins output s h more v x =
@@ -250,10 +287,10 @@ served_ended m published part e joins output s h more v x =
     }
 
 pub delivered : {T : Type 0} (m : Meaning T) (part : Part T) (queue : List (Signal T)) → IsQuiet m part queue → IsDelivered m part queue
-delivered {T} m part queue q published e joins output h none unclosed room few w more v x = by_state part.root.state refl
+delivered {T} m part queue q published e joins output h unclosed room few w more v read x = by_state part.root.state refl
   where
     by_state : (s : EdgeState) → part.root.state ≡ s → IsServed part output v
-    by_state Live s = served_live m published part queue e joins output q s room few w h none more v x
+    by_state Live s = served_live m published part queue e joins output q s room few w h more v read x
     by_state Ended s = served_ended m published part e joins output s h more v x
     by_state Closed s = absurd (unclosed s)
 

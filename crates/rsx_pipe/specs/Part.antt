@@ -10,7 +10,8 @@ use Rattle.rsx_types.specs.declared.signal.Ending.TheVariants.{Open}
 use Rattle.rsx_types.specs.declared.signal.Signal.{Signal}
 use Rattle.rsx_sources.specs.declared.machine.Front.{Front}
 use Rattle.rsx_tree.specs.declared.look.NodeMove.{NodeMove}
-use Rattle.rsx_tree.specs.declared.edge.EdgeState.TheVariants.{Closed, Ended}
+use Rattle.rsx_tree.specs.declared.edge.EdgeState.TheVariants.{Live, Closed, Ended}
+use Rattle.rsx_tree.specs.Rests.{TreeHasReadAll}
 use Rattle.rsx_node.specs.Any.{any_machine}
 use Rattle.rsx_node.specs.declared.any_node.AnyNode.{AnyNode}
 use Rattle.rsx_rooted.specs.Rooted as OfAny
@@ -153,10 +154,15 @@ pub record IsServed {T : Type 0} (part : Part T) (output : List (Signal T)) (v :
   pub items : items_in output ≡ take (min part.root.demand.asked (length v.items)) v.items
   pub ending : length v.items < part.root.demand.asked → (v.ending ≡ Open → ⊥) → part.root.state ≡ Ended
 
--- a part whose expression reads no hub, whose root edge isn't closed and whose receiver has room did so, as long as no edge has
--- carried 2^63-1 items; its expression has at most `MOST_NODES` nodes, as each has that isn't refused
+-- each node of a part that reads a hub and offers nothing has got all that was published there, where these are the values of the
+-- hubs; of a part whose root edge isn't live nothing is said
+abbrev pub HasReadAll : {T : Type 0} → Meaning T → List (Stream T) → Part T → Type 0
+HasReadAll m hubs part = part.root.state ≡ Live → TreeHasReadAll any_machine m hubs part.tree
+
+-- a part whose root edge isn't closed and whose receiver has room did so, over what is published in all, as long as its nodes have
+-- read that and no edge has carried 2^63-1 items; its expression has at most `MOST_NODES` nodes, as each has that isn't refused
 abbrev pub IsDelivered : {T : Type 0} → Meaning T → Part T → List (Signal T) → Type 0
 IsDelivered {T} m part queue =
-    (published : List (Stream T)) (e : Expr T) (joins : List ℕ) (output : List (Signal T)) → PartStands m published part e joins output → joins ≡ [] →
+    (published : List (Stream T)) (e : Expr T) (joins : List ℕ) (output : List (Signal T)) → PartStands m published part e joins output →
     (part.root.state ≡ Closed → ⊥) → length queue < CAPACITY → length (all_edges part) ≤ MOST_NODES → IsWithin part.tree →
-    (more : List (Stream T)) (v : Stream T) → evaluated m (values_then published more) joins e (notes_of part.tree) ≡ Some v → IsServed part output v
+    (more : List (Stream T)) (v : Stream T) → HasReadAll m (values_then published more) part → evaluated m (values_then published more) joins e (notes_of part.tree) ≡ Some v → IsServed part output v

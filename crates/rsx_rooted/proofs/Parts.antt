@@ -43,7 +43,7 @@ use Rattle.rsx_tree.proofs.Noted.{kept_chosen, picked_effect, picked_enabled, ro
 use Rattle.rsx_tree.specs.Inputs.{size, wanted_at, can_ask_in, can_send_in, edges as edges_in}
 use Rattle.rsx_tree.specs.Stepped.{can_pick_in, can_row_in}
 use Rattle.rsx_tree.proofs.Changes.{chosen_second}
-use Rattle.rsx_tree.proofs.Idles.{idle_offers, can_pass_live, live_still, place_none, station_none, less_or_more}
+use Rattle.rsx_tree.proofs.Idles.{can_pass_live, live_still, place_none, station_none, less_or_more}
 use Rattle.rsx_rooted.proofs.Numbers.{above_zero, suc_minus}
 use Rattle.rsx_rooted.proofs.Signals.{IsOrderly-more, IsUnended-more, IsUnended-last, items_in-append, map_then-last, prefix_of_orderly, cut_value}
 use Rattle.rsx_tree.proofs.Shut.{pass_live, and_right, pick_alive, row_alive}
@@ -158,7 +158,7 @@ put_out_asked {M = M} {T = T} b m old new tree state sent published e joins outp
     let B : Node M → Type 0 = λ t. IsBalanced b t old.root.demand.sent in
     let S : ℕ → Type 0 = λ k. IsBalanced b new.tree k in
     let C : Node M → Type 0 = λ t. IsAllClosed t in
-    let R : List ℕ → Node M → Type 0 = λ counts t. IsTreeReadAt b counts t in
+    let R : List (Option ℕ) → Node M → Type 0 = λ counts t. IsTreeReadAt b counts t in
     same_output b m published new e joins output (record {
       value = subst V (sym tree) h.value;
       orderly = h.orderly;

@@ -1,10 +1,11 @@
 -- What a part has put out: lists of signals; and what was published to it, which is what the hubs took in.
-use Rattle.std.specs.Prelude.{◌≡◌, ℕ, zero, suc, List, [], ◌∷◌, ◌++◌, length, map, Some, slice_get}
+use Rattle.std.specs.Prelude.{◌≡◌, ℕ, zero, suc, List, [], ◌∷◌, ◌++◌, length, map, Option, Some, slice_get}
 use Rattle.rsx_types.specs.Stream.{Stream, items_then}
 use Rattle.rsx_types.specs.declared.signal.Ending.{Ending}
 use Rattle.rsx_types.specs.declared.signal.Ending.TheVariants.{Open, Done, Failed}
 use Rattle.rsx_types.specs.declared.signal.Signal.{Signal}
 use Rattle.rsx_types.specs.declared.signal.Signal.TheVariants.{Next, Complete, Error}
+use Rattle.rsx_tree.specs.Reads.{count_before}
 
 -- the items among the signals
 abbrev pub items_in : {T : Type 0} → List (Signal T) → List T
@@ -46,9 +47,9 @@ values_then [] ms = ms
 values_then (v ∷ vs) [] = v ∷ values_then vs []
 values_then (v ∷ vs) (m ∷ ms) = published_then v m ∷ values_then vs ms
 
--- how many items each hub published
-abbrev pub counts_in : {T : Type 0} → List (Stream T) → List ℕ
-counts_in vs = map (λ v. length v.items) vs
+-- how many items each hub published, as long as it goes on
+abbrev pub counts_in : {T : Type 0} → List (Stream T) → List (Option ℕ)
+counts_in vs = map (λ v. count_before v.ending (length v.items)) vs
 
 -- one signal more was published
 abbrev pub with_signal : {T : Type 0} → Signal T → Stream T → Stream T

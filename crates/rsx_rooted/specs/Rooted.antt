@@ -46,7 +46,7 @@ pub record Stands {M T : Type 0} (b : Machine M T) (m : Meaning T) (published : 
   pub counted : length (items_in output) ≡ part.root.demand.sent
   -- while the root edge is live, the counts along all edges belong together
   pub balance : part.root.state ≡ Live → IsBalanced b part.tree part.root.demand.sent
-  -- and each node that reads a hub got all that was published; with no join, no node reads one
+  -- and each node that reads a hub got all that was published there, where that has not ended; with no join, no node reads one
   pub reads : part.root.state ≡ Live → IsTreeReadAt b (counts_in published) part.tree
   pub alone : part.root.state ≡ Live → joins ≡ [] → IsTreeReadAt b [] part.tree
   -- all below a closed root edge is closed

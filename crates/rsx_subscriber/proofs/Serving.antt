@@ -11,7 +11,7 @@ use Rattle.rsx_tree.specs.declared.look.NodeMove.TheVariants.{Ask as NodeAsk, Se
 use Rattle.rsx_pipe.specs.Tree.{IsWithin}
 use Rattle.rsx_model.proofs.Unfold.{sound}
 use Rattle.rsx_model.specs.declared.check.TheConstants.{MOST_NODES}
-use Rattle.rsx_pipe.specs.Part.{all_edges}
+use Rattle.rsx_pipe.specs.Part.{HasReadAll, all_edges}
 use Rattle.rsx_pipe.specs.Tree.{notes_of}
 use Rattle.rsx_pipe.proofs.Parts.{delivered}
 use Rattle.rsx_subscriber.specs.declared.state.SubscriptionState.{SubscriptionState}
@@ -39,14 +39,14 @@ nothing_queued {T} m published sub past q h = by_queue sub.queue refl
         absurd (never (take_enabled sub 0) (take_queued m published sub past h some) q.1)
 
 -- a live subscriber got all that its part put out, and that is what was asked for
-served_live : {T : Type 0} (m : Meaning T) (published : List (Stream T)) (sub : Subscription T) (past : Past T) → IsQuiet m sub → Stands m published sub past → IsLive (standing_of sub) → past.joins ≡ [] → IsWithin sub.part.tree → (more : List (Stream T)) (v : Stream T) → evaluated m (values_then published more) past (notes_of sub.part.tree) ≡ Some v → IsServed sub past v
-served_live {T} m published sub past q h live alone w more v e =
+served_live : {T : Type 0} (m : Meaning T) (published : List (Stream T)) (sub : Subscription T) (past : Past T) → IsQuiet m sub → Stands m published sub past → IsLive (standing_of sub) → IsWithin sub.part.tree → (more : List (Stream T)) (v : Stream T) → HasReadAll m (values_then published more) sub.part → evaluated m (values_then published more) past (notes_of sub.part.tree) ≡ Some v → IsServed sub past v
+served_live {T} m published sub past q h live w more v read e =
     let none = nothing_queued m published sub past q h in
     let all : past.received ≡ h.output = sym (append-nil past.received) ∙ (ap (λ l. past.received ++ l) (sym none) ∙ h.held live) in
     let room : length sub.queue < CAPACITY = rw none (omega arith) in
     let small = (sound (length published) past.expression h.admitted).small in
     let few : length (all_edges sub.part) ≤ MOST_NODES = let k = h.shape in omega (arith, k, small) in
-    let d = delivered m sub.part sub.queue q.0 published past.expression past.joins h.output h.part alone (h.unclosed live) room few w more v e in
+    let d = delivered m sub.part sub.queue q.0 published past.expression past.joins h.output h.part (h.unclosed live) room few w more v read e in
     record {
       items = rw (all, ← h.asked) d.items;
       ending = λ less some. sym h.state ∙ by_state (standing_of sub) refl (λ u. h.part.ended (d.ending (rw h.asked less) some) (rw all at u));
@@ -58,10 +58,10 @@ served_live {T} m published sub past q h live alone w more v e =
     by_state Cancelled o n = absurd (rw o at live)
     by_state Refused o n = absurd (rw o at live)
 
-pub served : {T : Type 0} (m : Meaning T) (published : List (Stream T)) (sub : Subscription T) (past : Past T) → IsQuiet m sub → Stands m published sub past → IsLive past.state → past.joins ≡ [] → IsWithin sub.part.tree → (more : List (Stream T)) (v : Stream T) → evaluated m (values_then published more) past (notes_of sub.part.tree) ≡ Some v → IsServed sub past v
-served {T} m published sub past q h live alone w more v e =
+pub served : {T : Type 0} (m : Meaning T) (published : List (Stream T)) (sub : Subscription T) (past : Past T) → IsQuiet m sub → Stands m published sub past → IsLive past.state → IsWithin sub.part.tree → (more : List (Stream T)) (v : Stream T) → HasReadAll m (values_then published more) sub.part → evaluated m (values_then published more) past (notes_of sub.part.tree) ≡ Some v → IsServed sub past v
+served {T} m published sub past q h live w more v read e =
     let L : SubscriptionState → Type 0 = λ s. IsLive s in
-    served_live m published sub past q h (subst L (sym h.state) live) alone w more v e
+    served_live m published sub past q h (subst L (sym h.state) live) w more v read e
 
 and_false : (a b : Bool) → b ≡ false → a && b ≡ false
 and_false true b e = e

@@ -1,5 +1,5 @@
 -- A move changes how far no node got in its hub.
-use Rattle.std.proofs.Common.{◌≡◌, inl, inr, ℕ, zero, suc, ◌+◌, ◌-◌, Bool, true, false, ◌&&◌, List, refl, ap, sym, subst}
+use Rattle.std.proofs.Common.{◌≡◌, inl, inr, ℕ, zero, suc, ◌+◌, ◌-◌, Bool, true, false, ◌&&◌, List, refl, ap, sym, subst, Option}
 use Rattle.rsx_types.specs.Meaning.{Meaning}
 use Rattle.rsx_sources.specs.declared.machine.Machine.{Ghosts as Machine}
 use Rattle.rsx_tree.specs.declared.edge.Edge.{Edge}
@@ -21,11 +21,11 @@ closed_dead Live = refl
 closed_dead Ended = refl
 closed_dead Closed = refl
 
-pub closed_reads : {M T : Type 0} (b : Machine M T) (counts : List ℕ) (t : Inputs M) → IsRowReadAt b counts (closed_row t)
+pub closed_reads : {M T : Type 0} (b : Machine M T) (counts : List (Option ℕ)) (t : Inputs M) → IsRowReadAt b counts (closed_row t)
 closed_reads b counts End = tt
 closed_reads b counts (More' e n p below q beside) = (inl (closed_dead e.state), closed_reads b counts beside)
 
-pub closed_if_reads : {M T : Type 0} (b : Machine M T) (counts : List ℕ) (c : Bool) (t : Inputs M) → IsRowReadAt b counts t → IsRowReadAt b counts (closed_row_if c t)
+pub closed_if_reads : {M T : Type 0} (b : Machine M T) (counts : List (Option ℕ)) (c : Bool) (t : Inputs M) → IsRowReadAt b counts t → IsRowReadAt b counts (closed_row_if c t)
 closed_if_reads b counts true t h = closed_reads b counts t
 closed_if_reads b counts false t h = h
 
@@ -33,7 +33,7 @@ closed_if_reads b counts false t h = h
 
 -- the receiver of a row got as far as before, and so did the nodes of the row
 abbrev pub ReadsOn : {M T : Type 0} → Machine M T → M → M → Inputs M → Inputs M → Type 0
-ReadsOn b r r' t t' = (b.reads r' ≡ b.reads r) × ((counts : List ℕ) → IsRowReadAt b counts t → IsRowReadAt b counts t')
+ReadsOn b r r' t t' = (b.reads r' ≡ b.reads r) × ((counts : List (Option ℕ)) → IsRowReadAt b counts t → IsRowReadAt b counts t')
 
 -- a move over an edge leaves how far the nodes at its ends got, and an edge that isn't live stays so
 abbrev pub IsReadChange : {M T : Type 0} → Machine M T → Change M → Type 0
@@ -75,7 +75,7 @@ changed_reads {M} b P reads ends r i asked sent (More' e n p below q beside) at 
 abbrev pub IsReadStep : {M T : Type 0} → Machine M T → Step M → Type 0
 IsReadStep {M} b P = (n : M) (asked sent : ℕ) (n' : M) → P n asked sent n' → b.reads n' ≡ b.reads n
 
-pub stepped_reads : {M T : Type 0} (b : Machine M T) (P : Step M) → IsReadStep b P → (ends : M → Bool) (t : Inputs M) (at : ℕ) (t' : Inputs M) → IsStepped P ends t at t' → (counts : List ℕ) → IsRowReadAt b counts t → IsRowReadAt b counts t'
+pub stepped_reads : {M T : Type 0} (b : Machine M T) (P : Step M) → IsReadStep b P → (ends : M → Bool) (t : Inputs M) (at : ℕ) (t' : Inputs M) → IsStepped P ends t at t' → (counts : List (Option ℕ)) → IsRowReadAt b counts t → IsRowReadAt b counts t'
 stepped_reads b P reads ends End at t' h counts g = absurd h
 stepped_reads {M} b P reads ends (More' e n p below q beside) at t' h counts g =
     let R : Inputs M → Type 0 = λ t. IsRowReadAt b counts t in
@@ -117,10 +117,10 @@ made_reads b m steps r i asked sent t at ends r' t' asks sends picks rows h = el
 
 -- ---- a tree
 
-pub tree_reads : {M T : Type 0} (b : Machine M T) (r r' : M) (t t' : Inputs M) → ReadsOn b r r' t t' → (counts : List ℕ) → IsReadAt counts (b.reads r) × IsRowReadAt b counts t → IsReadAt counts (b.reads r') × IsRowReadAt b counts t'
+pub tree_reads : {M T : Type 0} (b : Machine M T) (r r' : M) (t t' : Inputs M) → ReadsOn b r r' t t' → (counts : List (Option ℕ)) → IsReadAt counts (b.reads r) × IsRowReadAt b counts t → IsReadAt counts (b.reads r') × IsRowReadAt b counts t'
 tree_reads b r r' t t' k counts h = (subst (IsReadAt counts) (sym k.0) h.0, k.1 counts h.1)
 
-pub tree_stepped_reads : {M T : Type 0} (b : Machine M T) (P : Step M) → IsReadStep b P → (ends : M → Bool) (old : Node M) (e : EdgeView) (at : ℕ) (new : Node M) → IsSteppedAt P ends old e at new → (counts : List ℕ) → IsTreeReadAt b counts old → IsTreeReadAt b counts new
+pub tree_stepped_reads : {M T : Type 0} (b : Machine M T) (P : Step M) → IsReadStep b P → (ends : M → Bool) (old : Node M) (e : EdgeView) (at : ℕ) (new : Node M) → IsSteppedAt P ends old e at new → (counts : List (Option ℕ)) → IsTreeReadAt b counts old → IsTreeReadAt b counts new
 tree_stepped_reads {M} b P reads ends old e zero new h counts g =
     let R : Inputs M → Type 0 = λ t. IsRowReadAt b counts t in
     (subst (IsReadAt counts) (sym (reads old.machine e.asked e.sent new.machine h.made)) g.0, subst R (sym h.inputs) (closed_if_reads b counts (ends new.machine && true) old.inputs g.1))

@@ -1,12 +1,12 @@
 -- A tree whose nodes took in a signal of the hub that they read.
-use Rattle.std.proofs.Common.{◌≡◌, ◌⊎◌, inl, inr, ℕ, zero, suc, ◌+◌, Bool, true, false, ◌||◌, nat_eq, if◌then◌else◌, List, [], ◌∷◌, ◌++◌, Option, Some, None, slice_get, refl, ap, sym, ◌∙◌, subst, arith}
+use Rattle.std.proofs.Common.{◌≡◌, ◌⊎◌, inl, inr, ℕ, zero, suc, ◌+◌, Bool, true, false, ◌||◌, nat_eq, if◌then◌else◌, List, [], ◌∷◌, ◌++◌, Option, Some, None, option_map, slice_get, refl, ap, sym, ◌∙◌, subst, arith}
 use Rattle.std.proofs.lemmas.Bool.Decides.{nat_tests}
 use Rattle.rsx_types.specs.Meaning.{Meaning, Allocates}
 use Rattle.rsx_types.specs.Stream.{Stream}
 use Rattle.rsx_types.specs.declared.note.Note.{Note}
 use Rattle.rsx_types.specs.declared.signal.Signal.{Signal}
 use Rattle.rsx_types.specs.declared.signal.Signal.TheVariants.{Next, Complete, Error}
-use Rattle.rsx_sources.specs.Counts.{CountsStep, ends_input, one_more}
+use Rattle.rsx_sources.specs.Counts.{CountsStep, ends_input}
 use Rattle.rsx_sources.specs.Machine.{incoming_of}
 use Rattle.rsx_sources.specs.Reading.{Reading, IsNextAt, IsNextIn, published_at, reads_hub, reading_after}
 use Rattle.rsx_sources.specs.Steps.{AllocatesAlike}
@@ -15,7 +15,7 @@ use Rattle.rsx_tree.specs.declared.inputs.Inputs.{Inputs, End, More'}
 use Rattle.rsx_tree.specs.Allocates.{node_allocates, row_allocates}
 use Rattle.rsx_tree.specs.Balance.{sent_over, IsOwnerBalanced, IsRowBalanced}
 use Rattle.rsx_tree.specs.Edges.{edge_view, is_live}
-use Rattle.rsx_tree.specs.Handed.{reader_at, readers_in, IsTakenWhere, IsNodeHanded, OneOf, IsRowHanded, IsNextOf, counts_after, IsHanded}
+use Rattle.rsx_tree.specs.Handed.{reader_at, readers_in, IsTakenWhere, IsNodeHanded, OneOf, IsRowHanded, IsNextOf, item_counted, ended_counted, counts_after, IsHanded}
 use Rattle.rsx_tree.specs.Inputs.{size, comes_in, out_of, beside_of, notes_of, edges as edges_in}
 use Rattle.rsx_tree.specs.Reads.{IsReadAt, IsRowReadAt}
 
@@ -46,7 +46,7 @@ reads_it h None r e f = cc
 reads_it h (Some k) r e f = let q : k.hub ≡ r.hub = cc in grind (arith, nat_tests, e, q)
 
 -- how far it got
-read_there : (counts : List ℕ) (h : ℕ) (o : Option Reading) (r : Reading) → IsReadAt counts o → reads_hub h o ≡ true → o ≡ Some r → slice_get counts h ≡ Some r.reached
+read_there : (counts : List (Option ℕ)) (h : ℕ) (o : Option Reading) (r : Reading) → IsReadAt counts o → reads_hub h o ≡ true → o ≡ Some r → slice_get counts h ≡ Some (Some r.reached)
 read_there counts h o r at e f =
     let R : Option Reading → Type 0 = λ k. IsReadAt counts k in
     ap (slice_get counts) (sym (reads_it h o r e f)) ∙ subst R f at
@@ -55,7 +55,7 @@ hubs_of : {T : Type 0} (hubs vs : List (Stream T)) → (incoming_of hubs vs).hub
 hubs_of hubs [] = refl
 hubs_of hubs (v ∷ vs) = refl
 
-node_out : {M T : Type 0} (b : Machine M T) (h : ℕ) (s : Signal T) (c : Bool) (n n' : M) → reads_hub h (b.reads n) ≡ c → IsTakenWhere b s c n n' → (m : Meaning T) (counts : List ℕ) (hubs : List (Stream T)) → IsReadAt counts (b.reads n) → IsNextOf counts hubs h s →
+node_out : {M T : Type 0} (b : Machine M T) (h : ℕ) (s : Signal T) (c : Bool) (n n' : M) → reads_hub h (b.reads n) ≡ c → IsTakenWhere b s c n n' → (m : Meaning T) (counts : List (Option ℕ)) (hubs : List (Stream T)) → IsReadAt counts (b.reads n) → IsNextOf counts hubs h s →
     (o : Option (List (Stream T))) (k : Option Note) → out_of b m hubs n' o k ≡ out_of b m hubs n o k
 node_out b h s false n n' reads same m counts hubs at next o k = ap (λ x. out_of b m hubs x o k) same
 node_out b h s true n n' reads taken m counts hubs at next o None = refl
@@ -66,36 +66,46 @@ node_out {M} {T} b h s true n n' reads taken m counts hubs at next (Some vs) (So
     let H : List (Stream T) → Type 0 = λ l. IsNextIn r l s in
     taken.on.value m (incoming_of hubs vs) k (subst H (sym (hubs_of hubs vs)) (subst N (sym (reads_it h (b.reads n) r reads taken.on.read)) (next r.reached (read_there counts h (b.reads n) r at reads taken.on.read))))
 
-one_further : (h c : ℕ) (counts : List ℕ) → slice_get counts h ≡ Some c → slice_get (one_more h counts) h ≡ Some (c + 1)
+one_further : (h c : ℕ) (counts : List (Option ℕ)) → slice_get counts h ≡ Some (Some c) → slice_get (item_counted h counts) h ≡ Some (Some (c + 1))
 one_further h c [] e = cc
-one_further zero c (n ∷ ns) e = let q : n ≡ c = cc in ap (λ k. Some (k + 1)) q
+one_further zero c (n ∷ ns) e = let q : n ≡ Some c = cc in ap (λ k. Some (option_map suc k)) q ∙ ap (λ k. Some (Some k)) (next c)
+  where
+    next : (k : ℕ) → suc k ≡ k + 1
+    next k = omega arith
 one_further (suc h) c (n ∷ ns) e = one_further h c ns e
 
-others_stay : (h i : ℕ) (counts : List ℕ) → nat_eq i h ≡ false → slice_get (one_more h counts) i ≡ slice_get counts i
+down : (h i : ℕ) → nat_eq (suc i) (suc h) ≡ false → nat_eq i h ≡ false
+down h i e = grind (arith, nat_tests, e)
+
+not_itself : nat_eq 0 0 ≡ false → ⊥
+not_itself e = grind (arith, nat_tests, e)
+
+others_stay : (h i : ℕ) (counts : List (Option ℕ)) → nat_eq i h ≡ false → slice_get (item_counted h counts) i ≡ slice_get counts i
 others_stay h i [] e = refl
-others_stay zero zero (n ∷ ns) e = absurd (never e)
-  where
-    never : nat_eq 0 0 ≡ false → ⊥
-    never e = grind (arith, nat_tests, e)
+others_stay zero zero (n ∷ ns) e = absurd (not_itself e)
 others_stay zero (suc i) (n ∷ ns) e = refl
 others_stay (suc h) zero (n ∷ ns) e = refl
 others_stay (suc h) (suc i) (n ∷ ns) e = others_stay h i ns (down h i e)
-  where
-    down : (h i : ℕ) → nat_eq (suc i) (suc h) ≡ false → nat_eq i h ≡ false
-    down h i e = grind (arith, nat_tests, e)
 
-after_here : {T : Type 0} (counts : List ℕ) (h : ℕ) (s : Signal T) (r : Reading) → r.hub ≡ h → slice_get counts h ≡ Some r.reached → IsReadAt (counts_after h s counts) (reading_after s r)
-after_here counts h (Next x) r at e = ap (slice_get (one_more h counts)) at ∙ one_further h r.reached counts e
+others_go_on : (h i : ℕ) (counts : List (Option ℕ)) → nat_eq i h ≡ false → slice_get (ended_counted h counts) i ≡ slice_get counts i
+others_go_on h i [] e = refl
+others_go_on zero zero (n ∷ ns) e = absurd (not_itself e)
+others_go_on zero (suc i) (n ∷ ns) e = refl
+others_go_on (suc h) zero (n ∷ ns) e = refl
+others_go_on (suc h) (suc i) (n ∷ ns) e = others_go_on h i ns (down h i e)
+
+after_here : {T : Type 0} (counts : List (Option ℕ)) (h : ℕ) (s : Signal T) (r : Reading) → r.hub ≡ h → slice_get counts h ≡ Some (Some r.reached) → IsReadAt (counts_after h s counts) (reading_after s r)
+after_here counts h (Next x) r at e = ap (slice_get (item_counted h counts)) at ∙ one_further h r.reached counts e
 after_here counts h Complete r at e = tt
 after_here counts h (Error c) r at e = tt
 
-after_there : {T : Type 0} (counts : List ℕ) (h : ℕ) (s : Signal T) (o : Option Reading) → reads_hub h o ≡ false → IsReadAt counts o → IsReadAt (counts_after h s counts) o
+after_there : {T : Type 0} (counts : List (Option ℕ)) (h : ℕ) (s : Signal T) (o : Option Reading) → reads_hub h o ≡ false → IsReadAt counts o → IsReadAt (counts_after h s counts) o
 after_there counts h s None e at = tt
 after_there counts h (Next x) (Some r) e at = others_stay h r.hub counts e ∙ at
-after_there counts h Complete (Some r) e at = at
-after_there counts h (Error c) (Some r) e at = at
+after_there counts h Complete (Some r) e at = others_go_on h r.hub counts e ∙ at
+after_there counts h (Error c) (Some r) e at = others_go_on h r.hub counts e ∙ at
 
-node_reads : {M T : Type 0} (b : Machine M T) (h : ℕ) (s : Signal T) (c : Bool) (n n' : M) → reads_hub h (b.reads n) ≡ c → IsTakenWhere b s c n n' → (counts : List ℕ) → IsReadAt counts (b.reads n) → IsReadAt (counts_after h s counts) (b.reads n')
+node_reads : {M T : Type 0} (b : Machine M T) (h : ℕ) (s : Signal T) (c : Bool) (n n' : M) → reads_hub h (b.reads n) ≡ c → IsTakenWhere b s c n n' → (counts : List (Option ℕ)) → IsReadAt counts (b.reads n) → IsReadAt (counts_after h s counts) (b.reads n')
 node_reads {M} b h s false n n' reads same counts at = let R : M → Type 0 = λ k. IsReadAt (counts_after h s counts) (b.reads k) in subst R (sym same) (after_there counts h s (b.reads n) reads at)
 node_reads b h s true n n' reads taken counts at =
     let r = taken.on.reading in
@@ -153,7 +163,7 @@ both_ways : {c : Bool} → c ≡ true → c ≡ false → ⊥
 both_ways x y = cc
 
 -- the same comes in
-pub row_value : {M T : Type 0} (b : Machine M T) (h : ℕ) (s : Signal T) (t t' : Inputs M) → IsRowHanded b h s t t' → (m : Meaning T) (counts : List ℕ) (hubs : List (Stream T)) → IsRowReadAt b counts t → IsNextOf counts hubs h s → (further : List Note) (at : ℕ) → comes_in b m hubs further t' at ≡ comes_in b m hubs further t at
+pub row_value : {M T : Type 0} (b : Machine M T) (h : ℕ) (s : Signal T) (t t' : Inputs M) → IsRowHanded b h s t t' → (m : Meaning T) (counts : List (Option ℕ)) (hubs : List (Stream T)) → IsRowReadAt b counts t → IsNextOf counts hubs h s → (further : List Note) (at : ℕ) → comes_in b m hubs further t' at ≡ comes_in b m hubs further t at
 row_value b h s End t' k m counts hubs reads next further pos = ap (λ u. comes_in b m hubs further u pos) k
 row_value {M} {T} b h s (More' e n p below q beside) t' k m counts hubs reads next further pos =
     let side = row_value b h s beside k.2 k.5 m counts hubs reads.1 next further (pos + 1 + size below) in
@@ -177,7 +187,7 @@ row_value {M} {T} b h s (More' e n p below q beside) t' k m counts hubs reads ne
     ]
 
 -- how far its nodes got
-pub row_reads : {M T : Type 0} (b : Machine M T) (h : ℕ) (s : Signal T) (t t' : Inputs M) → IsRowHanded b h s t t' → (counts : List ℕ) → IsRowReadAt b counts t → IsRowReadAt b (counts_after h s counts) t'
+pub row_reads : {M T : Type 0} (b : Machine M T) (h : ℕ) (s : Signal T) (t t' : Inputs M) → IsRowHanded b h s t t' → (counts : List (Option ℕ)) → IsRowReadAt b counts t → IsRowReadAt b (counts_after h s counts) t'
 row_reads {M} b h s End t' k counts reads = let R : Inputs M → Type 0 = λ u. IsRowReadAt b (counts_after h s counts) u in subst R (sym k) tt
 row_reads {M} {T} b h s (More' e n p below q beside) t' k counts reads =
     let R : Inputs M → Type 0 = λ u. IsRowReadAt b (counts_after h s counts) u in

@@ -1,6 +1,6 @@
 -- What no move of a tree changes: which calls of its nodes may allocate, where these of the caller's functions may, and how far
 -- the nodes got in the hubs that they read.
-use Rattle.std.specs.Prelude.{◌≡◌, ℕ, Bool, false, ◌||◌, List}
+use Rattle.std.specs.Prelude.{◌≡◌, ℕ, Bool, false, ◌||◌, List, Option}
 use Rattle.rsx_types.specs.Meaning.{Allocates}
 use Rattle.rsx_sources.specs.Steps.{StaysAlike}
 use Rattle.rsx_sources.specs.declared.machine.Machine.{Ghosts as Machine}
@@ -38,4 +38,4 @@ IsNodeAlike b old new = StaysAlike b.reads b.pop_allocates b.signal_allocates b.
 abbrev pub IsAlike : {M T : Type 0} → Machine M T → Node M → Node M → Type 0
 IsAlike b old new =
     ((a : Allocates) → tree_allocates b a new ≡ tree_allocates b a old)
-    × ((counts : List ℕ) → IsTreeReadAt b counts old → IsTreeReadAt b counts new)
+    × ((counts : List (Option ℕ)) → IsTreeReadAt b counts old → IsTreeReadAt b counts new)

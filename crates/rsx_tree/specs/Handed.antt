@@ -1,11 +1,11 @@
 -- Handing a signal of a hub to the nodes of a tree that read it.
-use Rattle.std.specs.Prelude.{◌≡◌, ℕ, zero, suc, ◌+◌, Bool, true, false, ◌&&◌, if◌then◌else◌, List, [], ◌∷◌, Some, slice_get}
+use Rattle.std.specs.Prelude.{◌≡◌, ℕ, zero, suc, ◌+◌, Bool, true, false, ◌&&◌, if◌then◌else◌, List, [], ◌∷◌, Option, Some, None, option_map, slice_get}
 use Rattle.rsx_types.specs.Meaning.{Meaning, Allocates}
 use Rattle.rsx_types.specs.Stream.{Stream}
 use Rattle.rsx_types.specs.declared.note.Note.{Note}
 use Rattle.rsx_types.specs.declared.signal.Signal.{Signal}
 use Rattle.rsx_types.specs.declared.signal.Signal.TheVariants.{Next, Complete, Error}
-use Rattle.rsx_sources.specs.Counts.{CountsStep, ends_input, one_more}
+use Rattle.rsx_sources.specs.Counts.{CountsStep, ends_input}
 use Rattle.rsx_sources.specs.Reading.{IsNextAt, IsReadOn, published_at, reads_hub}
 use Rattle.rsx_sources.specs.Steps.{AllocatesAlike}
 use Rattle.rsx_sources.specs.declared.machine.Machine.{Ghosts as Machine}
@@ -94,22 +94,34 @@ IsRowHanded {M} b h s (More' e n p below q beside) new =
 -- ---- what that means for a tree
 
 -- where these many items of each hub were taken in, this signal of the hub comes next in its value
-abbrev pub IsNextOf : {T : Type 0} → List ℕ → List (Stream T) → ℕ → Signal T → Type 0
-IsNextOf counts hubs h s = (c : ℕ) → slice_get counts h ≡ Some c → IsNextAt c (published_at hubs h) s
+abbrev pub IsNextOf : {T : Type 0} → List (Option ℕ) → List (Stream T) → ℕ → Signal T → Type 0
+IsNextOf counts hubs h s = (c : ℕ) → slice_get counts h ≡ Some (Some c) → IsNextAt c (published_at hubs h) s
+
+-- one item more of the hub
+abbrev pub item_counted : ℕ → List (Option ℕ) → List (Option ℕ)
+item_counted h [] = []
+item_counted zero (c ∷ cs) = option_map suc c ∷ cs
+item_counted (suc h) (c ∷ cs) = c ∷ item_counted h cs
+
+-- the hub has ended
+abbrev pub ended_counted : ℕ → List (Option ℕ) → List (Option ℕ)
+ended_counted h [] = []
+ended_counted zero (c ∷ cs) = None ∷ cs
+ended_counted (suc h) (c ∷ cs) = c ∷ ended_counted h cs
 
 -- how many items of each hub were taken in after that
-abbrev pub counts_after : {T : Type 0} → ℕ → Signal T → List ℕ → List ℕ
-counts_after h (Next x) counts = one_more h counts
-counts_after h Complete counts = counts
-counts_after h (Error c) counts = counts
+abbrev pub counts_after : {T : Type 0} → ℕ → Signal T → List (Option ℕ) → List (Option ℕ)
+counts_after h (Next x) counts = item_counted h counts
+counts_after h Complete counts = ended_counted h counts
+counts_after h (Error c) counts = ended_counted h counts
 
 -- each node that reads the hub took the signal in, and nothing else changed
 pub record IsHanded {M T : Type 0} (b : Machine M T) (h : ℕ) (s : Signal T) (old new : Node M) : Type 0 where
   -- the same comes out, over all values in which that signal comes next
-  pub value : (m : Meaning T) (counts : List ℕ) (hubs : List (Stream T)) (further : List Note) (at : ℕ) → IsTreeReadAt b counts old → IsNextOf counts hubs h s →
+  pub value : (m : Meaning T) (counts : List (Option ℕ)) (hubs : List (Stream T)) (further : List Note) (at : ℕ) → IsTreeReadAt b counts old → IsNextOf counts hubs h s →
       comes_out b m hubs further new at ≡ comes_out b m hubs further old at
   -- the nodes that read the hub got one item further; after an ending none reads it
-  pub reads : (counts : List ℕ) → IsTreeReadAt b counts old → IsTreeReadAt b (counts_after h s counts) new
+  pub reads : (counts : List (Option ℕ)) → IsTreeReadAt b counts old → IsTreeReadAt b (counts_after h s counts) new
   pub ended : ends_input s ≡ true → readers b h new ≡ 0
   pub notes : notes b new ≡ notes b old
   pub edges : edges new ≡ edges old

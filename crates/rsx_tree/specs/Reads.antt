@@ -1,22 +1,31 @@
--- Which nodes of a tree read a hub, and how far they got in it.
+-- Which nodes of a tree read a hub, and how far they got in it. How far each hub got is a list: so many items, or nothing for a hub
+-- that has ended.
 use Rattle.std.specs.Prelude.{◌≡◌, ◌⊎◌, ⊤, ℕ, false, List, Option, Some, None, slice_get}
+use Rattle.rsx_types.specs.declared.signal.Ending.{Ending}
+use Rattle.rsx_types.specs.declared.signal.Ending.TheVariants.{Open, Done, Failed}
 use Rattle.rsx_sources.specs.Reading.{Reading}
 use Rattle.rsx_sources.specs.declared.machine.Machine.{Ghosts as Machine}
 use Rattle.rsx_tree.specs.declared.inputs.Inputs.{Inputs, End, More'}
 use Rattle.rsx_tree.specs.declared.node.Node.{Node}
 use Rattle.rsx_tree.specs.Edges.{is_live}
 
--- where it reads a hub, it got as far as this list says of that hub; of an empty list, it reads none
-abbrev pub IsReadAt : List ℕ → Option Reading → Type 0
+-- so many items, as long as no ending follows
+abbrev pub count_before : Ending → ℕ → Option ℕ
+count_before Open n = Some n
+count_before Done n = None
+count_before (Failed c) n = None
+
+-- where it reads a hub, it got as far as this list says of that hub, which has not ended; of an empty list, it reads none
+abbrev pub IsReadAt : List (Option ℕ) → Option Reading → Type 0
 IsReadAt counts None = ⊤
-IsReadAt counts (Some r) = slice_get counts r.hub ≡ Some r.reached
+IsReadAt counts (Some r) = slice_get counts r.hub ≡ Some (Some r.reached)
 
 -- so did each node of a row, and below it, whose edge is live; what is behind an edge that isn't takes nothing in
-abbrev pub IsRowReadAt : {M T : Type 0} → Machine M T → List ℕ → Inputs M → Type 0
+abbrev pub IsRowReadAt : {M T : Type 0} → Machine M T → List (Option ℕ) → Inputs M → Type 0
 IsRowReadAt b counts End = ⊤
 IsRowReadAt b counts (More' e n p below q beside) =
     ((is_live e.state ≡ false) ⊎ (IsReadAt counts (b.reads n) × IsRowReadAt b counts below)) × IsRowReadAt b counts beside
 
 -- and each node of a tree whose root's own edge is live
-abbrev pub IsTreeReadAt : {M T : Type 0} → Machine M T → List ℕ → Node M → Type 0
+abbrev pub IsTreeReadAt : {M T : Type 0} → Machine M T → List (Option ℕ) → Node M → Type 0
 IsTreeReadAt b counts t = IsReadAt counts (b.reads t.machine) × IsRowReadAt b counts t.inputs

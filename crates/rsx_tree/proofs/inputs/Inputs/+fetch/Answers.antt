@@ -1,4 +1,4 @@
-use Rattle.std.proofs.Common.{◌≡◌, ◌∙◌, ℕ, true, arith, rules}
+use Rattle.std.proofs.Common.{◌≡◌, ◌∙◌, true, arith, rules}
 use Rattle.std.specs.Box.{with_value}
 use Rattle.rsx_tree.specs.Inputs.{size}
 use Rattle.rsx_tree.specs.declared.inputs.Inputs.TheViews.{More}

@@ -1,0 +1,35 @@
+-- The law of rest holds of every kind of node.
+use Rattle.std.proofs.Common.{◌≡◌, ℕ, ◌<◌, false, List, ◌∷◌, Some, None}
+use Rattle.rsx_types.specs.declared.signal.Ending.TheVariants.{Open}
+use Rattle.rsx_types.specs.Meaning.{Meaning}
+use Rattle.rsx_types.specs.Notes.{unchosen}
+use Rattle.rsx_types.specs.Stream.{ended_by}
+use Rattle.rsx_sources.specs.Counts.{AreWithin}
+use Rattle.rsx_sources.specs.Machine.{Incoming}
+use Rattle.rsx_several.specs.Several.{several_comes_out, several_counted, several_done, several_ended, several_picks, several_recorded, several_rows, several_takes, several_waiting, several_wanted}
+use Rattle.rsx_several.specs.declared.several_node.SeveralNode.{SeveralNode}
+use Rattle.rsx_several.specs.declared.several_node.SeveralNode.TheVariants.{Concat, Merge, Zip, Latest}
+use Rattle.rsx_node.specs.Any.{any_machine}
+use Rattle.rsx_node.specs.declared.any_node.AnyNode.{AnyNode}
+use Rattle.rsx_node.specs.declared.any_node.AnyNode.TheVariants.{Source, Plain, Several, PublishOn}
+use Rattle.rsx_node.proofs.ConcatRests.{concat_rests}
+use Rattle.rsx_node.proofs.LatestRests.{latest_rests}
+use Rattle.rsx_node.proofs.MergeRests.{merge_rests}
+use Rattle.rsx_node.proofs.PlainRests.{plain_rests}
+use Rattle.rsx_node.proofs.PublishOnRests.{publish_rests}
+use Rattle.rsx_node.proofs.SourcesRests.{source_rests}
+use Rattle.rsx_node.proofs.ZipRests.{zip_rests}
+use Rattle.rsx_tree.specs.Rests.{IsStuck, NothingComes, Rests}
+
+several_rests : {T : Type 0} (m : Meaning T) (n : SeveralNode T) (taken : List ℕ) (asked sent : ℕ) (inc : Incoming T) → several_ended n ≡ false → several_counted n taken sent → several_waiting m n ≡ None → sent < asked → AreWithin taken →
+    IsStuck several_picks several_rows n asked sent → NothingComes several_takes several_done several_wanted n taken asked sent (inc.first ∷ inc.others) → several_comes_out m n inc (unchosen (several_recorded n)) ≡ Some (ended_by Open)
+several_rests m (Concat n) taken asked sent inc still counted waits more within stuck none = concat_rests m n taken asked sent inc still counted waits more within none
+several_rests m (Merge n) taken asked sent inc still counted waits more within stuck none = merge_rests m n taken asked sent inc counted waits more within stuck.0 none
+several_rests m (Zip n) taken asked sent inc still counted waits more within stuck none = zip_rests m n taken asked sent inc counted waits more within stuck.0 stuck.1 none
+several_rests m (Latest n) taken asked sent inc still counted waits more within stuck none = latest_rests m n taken asked sent inc counted waits more within stuck.0 none
+
+pub any_rests : {T : Type 0} (m : Meaning T) → Rests {M = AnyNode T} any_machine m
+any_rests m (Source n) taken asked sent inc still counted waits more within stuck none behind = source_rests m n inc waits behind
+any_rests m (Plain n) taken asked sent inc still counted waits more within stuck none behind = plain_rests m n taken asked sent inc still counted waits more within none
+any_rests m (Several n) taken asked sent inc still counted waits more within stuck none behind = several_rests m n taken asked sent inc still counted waits more within stuck none
+any_rests m (PublishOn n) taken asked sent inc still counted waits more within stuck none behind = publish_rests m n taken asked sent inc still counted waits more within none
