@@ -1,4 +1,5 @@
 -- Lemmas about sessions.
 pub mod Calls
+pub mod Compared
 pub mod Lines
 pub mod Looks

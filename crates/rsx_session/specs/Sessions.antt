@@ -1,5 +1,5 @@
 -- What a session knows of its graph, and how a command is answered.
-use Rattle.std.specs.Prelude.{◌≡◌, ⊤, ℕ, List, [], ◌∷◌, ◌++◌, length, map, slice_get, Some, Result, Ok, Err, codes}
+use Rattle.std.specs.Prelude.{◌≡◌, ⊤, ℕ, Bool, List, [], ◌∷◌, ◌++◌, length, map, slice_get, Some, Result, Ok, Err, codes}
 use Rattle.rsx_types.specs.Stream.{Stream}
 use Rattle.rsx_types.specs.declared.names.SubId.{SubId}
 use Rattle.rsx_demo.specs.Demo.{demo_meaning}
@@ -23,7 +23,8 @@ use Rattle.rsx_script.specs.Answers.{answer_text, rest_text}
 use Rattle.rsx_script.specs.declared.print.Answer.{Answer}
 use Rattle.rsx_script.specs.declared.print.Rest.{Rest}
 use Rattle.rsx_session.specs.Kept.{known, seen}
-use Rattle.rsx_session.specs.Places.{IsAnswerTo, IsEvaluated, IsRest, Place}
+use Rattle.rsx_session.specs.Places.{IsAnswerTo, IsEvaluated, IsRest, IsRight, Place}
+use Rattle.rsx_session.specs.declared.session.Record.{Record}
 use Rattle.rsx_session.specs.declared.session.Session.{Session}
 use Rattle.rsx_session.specs.declared.session.Trouble.{Trouble}
 use Rattle.rsx_session.specs.declared.session.Trouble.TheVariants.{Refused, Memory}
@@ -53,7 +54,7 @@ pub record LeadsBy (R : Place → List ℕ → Place → Type 0) (old : Session)
 abbrev pub AllLead : (Place → List ℕ → Place → Type 0) → Session → List ℕ → Session → Type 0
 AllLead R old text new = (h : History Val) → SessionStands old h → LeadsBy R old h text new
 
--- the commands of which a contract says what they do: all but `pump` and `check`
+-- the commands of which a contract says what they do: all but `pump`
 abbrev pub IsTold : Command → Type 0
 IsTold (command.Hub kind capacity) = ⊤
 IsTold (command.Emit hub number) = ⊤
@@ -69,7 +70,7 @@ IsTold (command.Asked sub) = ⊤
 IsTold (command.Count sub) = ⊤
 IsTold (command.Joins sub) = ⊤
 IsTold (command.Choices sub) = ⊤
-IsTold (command.Check sub) = ⊥
+IsTold (command.Check sub) = ⊤
 
 -- a session was led on by this command, whose answer has this text
 abbrev pub LeadsAll : Command → Session → List ℕ → Session → Type 0
@@ -120,6 +121,10 @@ pub record PumpsTo (budget : ℕ) (old : Session) (h : History Val) (ended : Pum
 -- what follows what a subscriber received, by how the subscription stands
 abbrev pub IsRestOf : Place → SubId → Rest → Type 0
 IsRestOf place sub rest = (past : Past Val) × (slice_get place.history.pasts sub.0 ≡ Some past) × IsRest place sub past.state (rest_text rest)
+
+-- whether what is kept of a subscriber, and what it is owed, is this value, by how the subscription stands
+abbrev pub IsRightOf : Place → SubId → Record → Stream Val → Bool → Type 0
+IsRightOf place sub r v right = (past : Past Val) → slice_get place.history.pasts sub.0 ≡ Some past → seen past ≡ known r → IsRight place sub past v past.state right
 
 -- what the slow evaluator answers for a subscription, as a value or as a trouble
 abbrev pub IsValueAt : Place → SubId → Past Val → Result (Stream Val) Trouble → Type 0

@@ -1,10 +1,11 @@
 //! A graph with what each of its subscribers received: the state of a run.
 
-ghost use Rattle.std.specs.Prelude.{◌≡◌, ◌≤◌, [], true, length, map, slice_get, Some, string_bytes, OnErr, OnOk, IsOk, IfOk, IfErr};
+ghost use Rattle.std.specs.Prelude.{◌≡◌, ◌≤◌, [], true, length, map, slice_get, Some, string_bytes, OnErr, OnOk, IsOk, IfOk, IfErr, Decides};
 ghost use Rattle.rsx_history.specs.History.{History, changed, no_history};
-ghost use Rattle.rsx_session.specs.Sessions.{GrowsByLine, IsLineOf, IsTold, LeadsAll, OnText, IsLookTrouble, IsRestOf, IsScratchTrouble, IsTroubleOf, IsValueOf, Says, SessionStands, place_of};
-ghost use Rattle.rsx_session.specs.Kept.{known, taken};
-ghost use Rattle.rsx_session.specs.Places.{AreChoices, AreJoins, IsAsked, IsCounted, IsShown, IsValued, IsViewed};
+ghost use Rattle.rsx_subscriber.specs.Past.{IsPrefixOf};
+ghost use Rattle.rsx_session.specs.Sessions.{GrowsByLine, IsLineOf, IsTold, LeadsAll, OnText, IsLookTrouble, IsRestOf, IsRightOf, IsScratchTrouble, IsTroubleOf, IsValueOf, Says, SessionStands, place_of};
+ghost use Rattle.rsx_session.specs.Kept.{followed_by, known, taken};
+ghost use Rattle.rsx_session.specs.Places.{AreChoices, AreJoins, IsAsked, IsChecked, IsCounted, IsShown, IsValued, IsViewed};
 ghost use Rattle.rsx_session.specs.Answers.{IsAnswered, IsTrouble, is_asked, is_choices, is_count, is_joins, is_of, is_hub, is_sub, is_done, is_pumped, is_received, is_value, is_shown, is_compared};
 
 use crate::published::{end, keep_item, let_item_go};
@@ -454,21 +455,40 @@ impl Session {
     /// Compares with the value of the expression, evaluated from scratch.
     fn check(&self, alloc: Global, sub: SubId) -> Result<Answer<'_>, Trouble>
         ensures answer { IfOk result (λ a. is_compared a ≡ true) }
+        ensures says { Says self.now result (λ place text. IsChecked place sub text) }
         ensures err { IfErr result IsTrouble }
     {
         let record = self.record(sub)?;
         let value = self.value(alloc, sub, &record.expr)?;
-        let is_right = match self.graph.standing(sub)? {
-            SubscriptionState::Cancelled | SubscriptionState::Refused => {
-                begins(value.items(), &record.received)
-            }
-            _ => record.is_whole(&self.graph.owed(alloc, sub)?, &value),
-        };
-        Ok(if is_right {
-            Answer::Equal
+        if self.is_right(alloc, sub, record, &value)? {
+            Ok(Answer::Equal)
         } else {
-            Answer::Different
-        })
+            Ok(Answer::Different)
+        }
+    }
+
+    /// Whether what a subscriber received, and what it is owed, is this value. Of one that cancelled or made a bad request,
+    /// to which nothing is owed: whether the items that it received begin it.
+    fn is_right(
+        &self,
+        alloc: Global,
+        sub: SubId,
+        kept: &Record,
+        value: &StreamValue<Val>,
+    ) -> Result<bool, Trouble>
+        ensures says { IfOk result (λ right. (h : History Val) → SessionStands self.now h → IsRightOf (place_of self.now h) sub kept.now value.now right) }
+        ensures refused { IfErr result (λ t. IsLookTrouble (length self.now.graph.subscriptions.items) sub t) }
+        ensures err { IfErr result IsTrouble }
+    {
+        match self.graph.standing(sub)? {
+            SubscriptionState::Open | SubscriptionState::Ended => {
+                let owed = self.graph.owed(alloc, sub)?;
+                Ok(kept.is_whole(&owed, value))
+            }
+            SubscriptionState::Cancelled | SubscriptionState::Refused => {
+                Ok(begins(value.items(), kept.received.as_slice()))
+            }
+        }
     }
 }
 
@@ -530,27 +550,40 @@ impl Record {
     }
 
     /// Whether what was received, followed by what is owed, is this value.
-    fn is_whole(&self, owed: &StreamValue<Val>, value: &StreamValue<Val>) -> bool {
+    fn is_whole(&self, owed: &StreamValue<Val>, value: &StreamValue<Val>) -> bool
+        ensures { Decides result (followed_by self.now.received.items self.now.ending owed.now ≡ value.now) }
+    {
         let ending = match self.ending {
             Ending::Open => owed.ending(),
             received => received,
         };
         let received = self.received.as_slice();
         let items = value.items();
-        begins(items, received)
-            && is_same_list(&items[received.len()..], owed.items())
-            && ending == value.ending()
+        if ending != value.ending() || !begins(items, received) {
+            return false;
+        }
+        is_same_list(&items[received.len()..], owed.items())
     }
 }
 
 /// Whether the first items are these.
 fn begins(items: &[Val], first: &[Val]) -> bool
-    ensures { result ≡ true → length first.now ≤ length items.now }
+    ensures { Decides result (IsPrefixOf first.now items.now) }
 {
     first.len() <= items.len() && is_same_list(&items[..first.len()], first)
 }
 
-/// Whether two lists have the same items.
-fn is_same_list(xs: &[Val], ys: &[Val]) -> bool {
-    xs.len() == ys.len() && xs.iter().zip(ys).all(|(x, y)| is_same_val(x, y))
+/// Whether two lists have the same items, one by one.
+fn is_same_list(xs: &[Val], ys: &[Val]) -> bool
+    ensures { Decides result (xs.now ≡ ys.now) }
+{
+    if xs.len() != ys.len() {
+        return false;
+    }
+    for (i, x) in xs.iter().enumerate() {
+        if !is_same_val(x, &ys[i]) {
+            return false;
+        }
+    }
+    true
 }
