@@ -2,3 +2,4 @@
 pub mod Calls
 pub mod Lines
 pub mod Looks
+pub mod Pumps
