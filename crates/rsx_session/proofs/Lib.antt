@@ -3,3 +3,4 @@ pub mod Calls
 pub mod Compared
 pub mod Lines
 pub mod Looks
+pub mod Pumps

@@ -54,7 +54,7 @@ pub record LeadsBy (R : Place → List ℕ → Place → Type 0) (old : Session)
 abbrev pub AllLead : (Place → List ℕ → Place → Type 0) → Session → List ℕ → Session → Type 0
 AllLead R old text new = (h : History Val) → SessionStands old h → LeadsBy R old h text new
 
--- the commands of which a contract says what they do: all but `pump`
+-- the commands of which a contract says what they do: all
 abbrev pub IsTold : Command → Type 0
 IsTold (command.Hub kind capacity) = ⊤
 IsTold (command.Emit hub number) = ⊤
@@ -63,7 +63,7 @@ IsTold (command.Fail hub number) = ⊤
 IsTold (command.Subscribe expr) = ⊤
 IsTold (command.Request sub count) = ⊤
 IsTold (command.Cancel sub) = ⊤
-IsTold (command.Pump budget) = ⊥
+IsTold (command.Pump budget) = ⊤
 IsTold (command.Pick sub node input) = ⊤
 IsTold (command.Show sub) = ⊤
 IsTold (command.Asked sub) = ⊤
@@ -110,13 +110,27 @@ IsLineOf (Ok answer) line = line ≡ answer_text answer
 IsLineOf (Err (Refused name)) line = line ≡ codes "refused " ++ name.now
 IsLineOf (Err Memory) line = ⊥
 
--- a run of at most so many moves was made, and what it delivered was taken in
-pub record PumpsTo (budget : ℕ) (old : Session) (h : History Val) (ended : Pumped) (new : Session) : Type 0 where
+-- so many enabled moves were made, and what they delivered was taken in
+pub record HasRun (count : ℕ) (old : Session) (h : History Val) (new : Session) : Type 0 where
   pub moves : List (Made Val)
+  pub counted : length moves ≡ count
   pub lead : LeadTo demo_meaning (state_of old.graph) moves (state_of new.graph)
-  pub ends : HasEnded demo_meaning budget (length moves) (state_of new.graph) (Ok ended)
   pub stands : SessionStands new (after_moves h moves)
   pub view : new.view ≡ old.view
+
+-- for each history that the session stood for
+abbrev pub AllRun : ℕ → Session → Session → Type 0
+AllRun count old new = (h : History Val) → SessionStands old h → HasRun count old h new
+
+-- a run of at most so many moves was made, and what they delivered was taken in
+pub record PumpsTo (budget : ℕ) (old : Session) (h : History Val) (ended : Pumped) (new : Session) : Type 0 where
+  pub count : ℕ
+  pub run : HasRun count old h new
+  pub ends : HasEnded demo_meaning budget count (state_of new.graph) (Ok ended)
+
+-- for each history that the session stood for
+abbrev pub AllPumpTo : ℕ → Session → Pumped → Session → Type 0
+AllPumpTo budget old ended new = (h : History Val) → SessionStands old h → PumpsTo budget old h ended new
 
 -- what follows what a subscriber received, by how the subscription stands
 abbrev pub IsRestOf : Place → SubId → Rest → Type 0

@@ -3,8 +3,8 @@
 ghost use Rattle.std.specs.Prelude.{◌≡◌, ◌≤◌, [], true, length, map, slice_get, Some, string_bytes, OnErr, OnOk, IsOk, IfOk, IfErr, Decides};
 ghost use Rattle.rsx_history.specs.History.{History, changed, no_history};
 ghost use Rattle.rsx_subscriber.specs.Past.{IsPrefixOf};
-ghost use Rattle.rsx_session.specs.Sessions.{GrowsByLine, IsLineOf, IsTold, LeadsAll, OnText, IsLookTrouble, IsRestOf, IsRightOf, IsScratchTrouble, IsTroubleOf, IsValueOf, Says, SessionStands, place_of};
-ghost use Rattle.rsx_session.specs.Kept.{followed_by, known, taken};
+ghost use Rattle.rsx_session.specs.Sessions.{AllPumpTo, GrowsByLine, IsLineOf, IsTold, LeadsAll, OnText, IsLookTrouble, IsRestOf, IsRightOf, IsScratchTrouble, IsTroubleOf, IsValueOf, Says, SessionStands, place_of};
+ghost use Rattle.rsx_session.specs.Kept.{all_taken, followed_by, known, taken};
 ghost use Rattle.rsx_session.specs.Places.{AreChoices, AreJoins, IsAsked, IsChecked, IsCounted, IsShown, IsValued, IsViewed};
 ghost use Rattle.rsx_session.specs.Answers.{IsAnswered, IsTrouble, is_asked, is_choices, is_count, is_joins, is_of, is_hub, is_sub, is_done, is_pumped, is_received, is_value, is_shown, is_compared};
 
@@ -320,6 +320,7 @@ impl Session {
     /// Makes at most so many moves, a slice of them at a time.
     fn pump(&mut self, alloc: Global, budget: u32) -> Result<Answer<'static>, Trouble>
         ensures answer { IfOk result (λ a. is_pumped a ≡ true) }
+        ensures leads { OnText result (λ text. LeadsAll (Command.Pump budget) self.old text self.new) }
         ensures err { IfErr result IsTrouble }
     {
         for _ in 0..budget / SLICE {
@@ -335,15 +336,14 @@ impl Session {
 
     /// Makes at most so many moves, and takes in what they delivered.
     fn pump_slice(&mut self, alloc: Global, budget: u32) -> Result<Pumped, Trouble>
-        ensures { IfErr result IsTrouble }
+        ensures pumped { IfOk result (λ ended. AllPumpTo budget self.old ended self.new) }
+        ensures err { IfErr result (λ t. t ≡ Trouble.Memory) }
     {
         let spare = mem::replace(&mut self.spare, Vec::new(alloc));
         let mut deliveries = Deliveries::from_vec(spare);
         let pumped = self.graph.pump(alloc, budget, &mut deliveries)?;
         let mut signals = deliveries.into_vec();
-        for (sub, signal) in signals.drain(..) {
-            take_in(&mut self.records, sub, signal)?;
-        }
+        take_in_all(&mut self.records, &mut signals)?;
         self.spare = signals;
         Ok(pumped)
     }
@@ -525,6 +525,21 @@ fn take_in(records: &mut Vec<Record>, sub: SubId, signal: Signal<Val>) -> Result
         Ok(()) => Ok(()),
         Err(NoMemory) => Err(Trouble::Memory),
     }
+}
+
+/// Takes in these signals, in their order, and empties their list, whose memory stays.
+fn take_in_all(
+    records: &mut Vec<Record>,
+    signals: &mut Vec<(SubId, Signal<Val>)>,
+) -> Result<(), Trouble>
+    ensures taken { OnOk result (map known records.new.items ≡ all_taken signals.old.items (map known records.old.items)) }
+    ensures emptied { OnOk result (signals.new.items ≡ []) }
+    ensures err { IfErr result (λ t. t ≡ Trouble.Memory) }
+{
+    for (sub, signal) in signals.drain(..) {
+        take_in(records, sub, signal)?;
+    }
+    Ok(())
 }
 
 impl Record {

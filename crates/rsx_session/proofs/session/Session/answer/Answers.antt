@@ -58,7 +58,7 @@ pub returns-in-Pump-clause-grows : goal.returns-in-Pump-clause-grows
 returns-in-Pump-clause-grows c = rw c.in-Pump.is (answered c.pump.result c.args.self.now.view (command.Pump c.in-Pump.budget) _ _ c.write-in-Pump.result c.write-in-Pump.ensures.grows c.pump.ensures.answer c.pump.ensures.err)
 
 pub returns-in-Pump-clause-leads : goal.returns-in-Pump-clause-leads
-returns-in-Pump-clause-leads c = rw c.in-Pump.is (not_told c.pump.result (command.Pump c.in-Pump.budget) c.args.self.now _ _ _ c.write-in-Pump.result c.write-in-Pump.ensures.grows (λ no. no))
+returns-in-Pump-clause-leads c = rw c.in-Pump.is (told c.pump.result (command.Pump c.in-Pump.budget) c.args.self.now c.pump.new.self _ _ c.write-in-Pump.result c.write-in-Pump.ensures.grows c.pump.ensures.leads)
 
 pub returns-in-Pick-clause-grows : goal.returns-in-Pick-clause-grows
 returns-in-Pick-clause-grows c = rw c.in-Pick.is (answered c.pick.result c.args.self.now.view (command.Pick c.in-Pick.sub c.in-Pick.node c.in-Pick.input) _ _ c.write-in-Pick.result c.write-in-Pick.ensures.grows c.pick.ensures.answer c.pick.ensures.err)
