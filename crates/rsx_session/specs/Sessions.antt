@@ -18,7 +18,6 @@ use Rattle.rsx_history.specs.declared.step.Pumped.{Pumped}
 use Rattle.rsx_history.specs.Stands.{StandsFor}
 use Rattle.rsx_graph.specs.InGraph.{state_of}
 use Rattle.rsx_commands.specs.declared.command.Command.{Command}
-use Rattle.rsx_commands.specs.declared.command.Command.TheVariants as command
 use Rattle.rsx_script.specs.Answers.{answer_text, rest_text}
 use Rattle.rsx_script.specs.declared.print.Answer.{Answer}
 use Rattle.rsx_script.specs.declared.print.Rest.{Rest}
@@ -53,24 +52,6 @@ pub record LeadsBy (R : Place → List ℕ → Place → Type 0) (old : Session)
 -- for each history that the session stood for
 abbrev pub AllLead : (Place → List ℕ → Place → Type 0) → Session → List ℕ → Session → Type 0
 AllLead R old text new = (h : History Val) → SessionStands old h → LeadsBy R old h text new
-
--- the commands of which a contract says what they do: all
-abbrev pub IsTold : Command → Type 0
-IsTold (command.Hub kind capacity) = ⊤
-IsTold (command.Emit hub number) = ⊤
-IsTold (command.Complete hub) = ⊤
-IsTold (command.Fail hub number) = ⊤
-IsTold (command.Subscribe expr) = ⊤
-IsTold (command.Request sub count) = ⊤
-IsTold (command.Cancel sub) = ⊤
-IsTold (command.Pump budget) = ⊤
-IsTold (command.Pick sub node input) = ⊤
-IsTold (command.Show sub) = ⊤
-IsTold (command.Asked sub) = ⊤
-IsTold (command.Count sub) = ⊤
-IsTold (command.Joins sub) = ⊤
-IsTold (command.Choices sub) = ⊤
-IsTold (command.Check sub) = ⊤
 
 -- a session was led on by this command, whose answer has this text
 abbrev pub LeadsAll : Command → Session → List ℕ → Session → Type 0

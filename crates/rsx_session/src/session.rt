@@ -3,7 +3,7 @@
 ghost use Rattle.std.specs.Prelude.{◌≡◌, ◌≤◌, [], true, length, map, slice_get, Some, string_bytes, OnErr, OnOk, IsOk, IfOk, IfErr, Decides};
 ghost use Rattle.rsx_history.specs.History.{History, changed, no_history};
 ghost use Rattle.rsx_subscriber.specs.Past.{IsPrefixOf};
-ghost use Rattle.rsx_session.specs.Sessions.{AllPumpTo, GrowsByLine, IsLineOf, IsTold, LeadsAll, OnText, IsLookTrouble, IsRestOf, IsRightOf, IsScratchTrouble, IsTroubleOf, IsValueOf, Says, SessionStands, place_of};
+ghost use Rattle.rsx_session.specs.Sessions.{AllPumpTo, GrowsByLine, IsLineOf, LeadsAll, OnText, IsLookTrouble, IsRestOf, IsRightOf, IsScratchTrouble, IsTroubleOf, IsValueOf, Says, SessionStands, place_of};
 ghost use Rattle.rsx_session.specs.Kept.{all_taken, followed_by, known, taken};
 ghost use Rattle.rsx_session.specs.Places.{AreChoices, AreJoins, IsAsked, IsChecked, IsCounted, IsShown, IsValued, IsViewed};
 ghost use Rattle.rsx_session.specs.Answers.{IsAnswered, IsTrouble, is_asked, is_choices, is_count, is_joins, is_of, is_hub, is_sub, is_done, is_pumped, is_received, is_value, is_shown, is_compared};
@@ -150,7 +150,7 @@ impl Session {
         ensures grows { OnOk result (IsAnswered self.old.view command (string_bytes out.old) (string_bytes out.new)) }
 
         // What the command did, and that the new line says it.
-        ensures leads { OnOk result (GrowsByLine (string_bytes out.old) (string_bytes out.new) (λ line. IsTold command → LeadsAll command self.old line self.new)) }
+        ensures leads { OnOk result (GrowsByLine (string_bytes out.old) (string_bytes out.new) (λ line. LeadsAll command self.old line self.new)) }
     {
         match command {
             Command::Hub(kind, capacity) => write(alloc, self.hub(alloc, kind, capacity), out),

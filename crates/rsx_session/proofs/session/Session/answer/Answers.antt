@@ -3,7 +3,7 @@ use Rattle.std.proofs.lemmas.Int.{to_z-of_z}
 use Rattle.rsx_session.specs.Sessions.{LeadsAll, OnText}
 use Rattle.rsx_commands.specs.declared.command.Command.TheVariants as command
 use Rattle.rsx_session.specs.Places.{AreChoices, AreJoins, IsAsked, IsChecked, IsCounted, IsViewed}
-use Rattle.rsx_session.proofs.Lines.{answered, looked, not_told, told}
+use Rattle.rsx_session.proofs.Lines.{answered, looked, told}
 use Rattle.rsx_session.proofs.session.Session.answer.Goals as goal
 
 pub returns-in-Hub-clause-grows : goal.returns-in-Hub-clause-grows
