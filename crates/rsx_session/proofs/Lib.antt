@@ -1,4 +1,6 @@
 -- Lemmas about sessions.
 pub mod Calls
+pub mod Compared
 pub mod Lines
 pub mod Looks
+pub mod Pumps

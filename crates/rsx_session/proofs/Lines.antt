@@ -8,7 +8,7 @@ use Rattle.rsx_script.specs.declared.print.Answer.{Answer}
 use Rattle.rsx_script.specs.declared.print.Answer.TheVariants as answer
 use Rattle.rsx_session.specs.Answers.{IsAnswered, IsTrouble, is_of, is_refused}
 use Rattle.rsx_session.specs.Places.{IsLook, Place}
-use Rattle.rsx_session.specs.Sessions.{AllLead, GrowsByLine, IsLineOf, IsTold, LeadsAll, OnText, Says}
+use Rattle.rsx_session.specs.Sessions.{AllLead, GrowsByLine, IsLineOf, LeadsAll, OnText, Says}
 use Rattle.rsx_session.specs.declared.session.Session.{Session}
 use Rattle.rsx_session.specs.declared.session.Trouble.{Trouble}
 use Rattle.rsx_session.specs.declared.session.Trouble.TheVariants as trouble
@@ -35,16 +35,11 @@ answered (Err trouble.Memory) view command before after (Ok u) g ok err = absurd
 answered done view command before after (Err e) g ok err = tt
 
 -- it says what was done
-pub told : (done : Result Answer Trouble) (command : Command) (old new : Session) (before after : List ℕ) (r : Result (Unit {0}) NoMemory) → OnOk r (GrowsByLine before after (IsLineOf done)) → OnText done (λ text. LeadsAll command old text new) → OnOk r (GrowsByLine before after (λ line. IsTold command → LeadsAll command old line new))
-told (Ok a) command old new before after (Ok u) g leads = let L : List ℕ → Type 0 = λ text. LeadsAll command old text new in (g.0, g.1, λ known. subst L (sym g.2) leads)
-told (Err (trouble.Refused name)) command old new before after (Ok u) g leads = let L : List ℕ → Type 0 = λ text. LeadsAll command old text new in (g.0, g.1, λ known. subst L (sym g.2) leads)
+pub told : (done : Result Answer Trouble) (command : Command) (old new : Session) (before after : List ℕ) (r : Result (Unit {0}) NoMemory) → OnOk r (GrowsByLine before after (IsLineOf done)) → OnText done (λ text. LeadsAll command old text new) → OnOk r (GrowsByLine before after (λ line. LeadsAll command old line new))
+told (Ok a) command old new before after (Ok u) g leads = let L : List ℕ → Type 0 = λ text. LeadsAll command old text new in (g.0, g.1, subst L (sym g.2) leads)
+told (Err (trouble.Refused name)) command old new before after (Ok u) g leads = let L : List ℕ → Type 0 = λ text. LeadsAll command old text new in (g.0, g.1, subst L (sym g.2) leads)
 told (Err trouble.Memory) command old new before after (Ok u) g leads = absurd g.2
 told done command old new before after (Err e) g leads = tt
-
--- of a command of which nothing more is said
-pub not_told : (done : Result Answer Trouble) (command : Command) (old new : Session) (before after : List ℕ) (r : Result (Unit {0}) NoMemory) → OnOk r (GrowsByLine before after (IsLineOf done)) → (IsTold command → ⊥) → OnOk r (GrowsByLine before after (λ line. IsTold command → LeadsAll command old line new))
-not_told done command old new before after (Ok u) g none = (g.0, g.1, λ known. absurd (none known))
-not_told done command old new before after (Err e) g none = tt
 
 -- a look changes nothing
 pub looked : (s : Session) (done : Result Answer Trouble) (R : Place → List ℕ → Type 0) → Says s done R → OnText done (λ text. AllLead (λ before line after. IsLook before after (R before line)) s text s)

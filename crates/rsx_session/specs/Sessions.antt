@@ -1,5 +1,5 @@
 -- What a session knows of its graph, and how a command is answered.
-use Rattle.std.specs.Prelude.{◌≡◌, ⊤, ℕ, List, [], ◌∷◌, ◌++◌, length, map, slice_get, Some, Result, Ok, Err, codes}
+use Rattle.std.specs.Prelude.{◌≡◌, ⊤, ℕ, Bool, List, [], ◌∷◌, ◌++◌, length, map, slice_get, Some, Result, Ok, Err, codes}
 use Rattle.rsx_types.specs.Stream.{Stream}
 use Rattle.rsx_types.specs.declared.names.SubId.{SubId}
 use Rattle.rsx_demo.specs.Demo.{demo_meaning}
@@ -18,12 +18,12 @@ use Rattle.rsx_history.specs.declared.step.Pumped.{Pumped}
 use Rattle.rsx_history.specs.Stands.{StandsFor}
 use Rattle.rsx_graph.specs.InGraph.{state_of}
 use Rattle.rsx_commands.specs.declared.command.Command.{Command}
-use Rattle.rsx_commands.specs.declared.command.Command.TheVariants as command
 use Rattle.rsx_script.specs.Answers.{answer_text, rest_text}
 use Rattle.rsx_script.specs.declared.print.Answer.{Answer}
 use Rattle.rsx_script.specs.declared.print.Rest.{Rest}
 use Rattle.rsx_session.specs.Kept.{known, seen}
-use Rattle.rsx_session.specs.Places.{IsAnswerTo, IsEvaluated, IsRest, Place}
+use Rattle.rsx_session.specs.Places.{IsAnswerTo, IsEvaluated, IsRest, IsRight, Place}
+use Rattle.rsx_session.specs.declared.session.Record.{Record}
 use Rattle.rsx_session.specs.declared.session.Session.{Session}
 use Rattle.rsx_session.specs.declared.session.Trouble.{Trouble}
 use Rattle.rsx_session.specs.declared.session.Trouble.TheVariants.{Refused, Memory}
@@ -52,24 +52,6 @@ pub record LeadsBy (R : Place → List ℕ → Place → Type 0) (old : Session)
 -- for each history that the session stood for
 abbrev pub AllLead : (Place → List ℕ → Place → Type 0) → Session → List ℕ → Session → Type 0
 AllLead R old text new = (h : History Val) → SessionStands old h → LeadsBy R old h text new
-
--- the commands of which a contract says what they do: all but `pump` and `check`
-abbrev pub IsTold : Command → Type 0
-IsTold (command.Hub kind capacity) = ⊤
-IsTold (command.Emit hub number) = ⊤
-IsTold (command.Complete hub) = ⊤
-IsTold (command.Fail hub number) = ⊤
-IsTold (command.Subscribe expr) = ⊤
-IsTold (command.Request sub count) = ⊤
-IsTold (command.Cancel sub) = ⊤
-IsTold (command.Pump budget) = ⊥
-IsTold (command.Pick sub node input) = ⊤
-IsTold (command.Show sub) = ⊤
-IsTold (command.Asked sub) = ⊤
-IsTold (command.Count sub) = ⊤
-IsTold (command.Joins sub) = ⊤
-IsTold (command.Choices sub) = ⊤
-IsTold (command.Check sub) = ⊥
 
 -- a session was led on by this command, whose answer has this text
 abbrev pub LeadsAll : Command → Session → List ℕ → Session → Type 0
@@ -109,17 +91,35 @@ IsLineOf (Ok answer) line = line ≡ answer_text answer
 IsLineOf (Err (Refused name)) line = line ≡ codes "refused " ++ name.now
 IsLineOf (Err Memory) line = ⊥
 
--- a run of at most so many moves was made, and what it delivered was taken in
-pub record PumpsTo (budget : ℕ) (old : Session) (h : History Val) (ended : Pumped) (new : Session) : Type 0 where
+-- so many enabled moves were made, and what they delivered was taken in
+pub record HasRun (count : ℕ) (old : Session) (h : History Val) (new : Session) : Type 0 where
   pub moves : List (Made Val)
+  pub counted : length moves ≡ count
   pub lead : LeadTo demo_meaning (state_of old.graph) moves (state_of new.graph)
-  pub ends : HasEnded demo_meaning budget (length moves) (state_of new.graph) (Ok ended)
   pub stands : SessionStands new (after_moves h moves)
   pub view : new.view ≡ old.view
+
+-- for each history that the session stood for
+abbrev pub AllRun : ℕ → Session → Session → Type 0
+AllRun count old new = (h : History Val) → SessionStands old h → HasRun count old h new
+
+-- a run of at most so many moves was made, and what they delivered was taken in
+pub record PumpsTo (budget : ℕ) (old : Session) (h : History Val) (ended : Pumped) (new : Session) : Type 0 where
+  pub count : ℕ
+  pub run : HasRun count old h new
+  pub ends : HasEnded demo_meaning budget count (state_of new.graph) (Ok ended)
+
+-- for each history that the session stood for
+abbrev pub AllPumpTo : ℕ → Session → Pumped → Session → Type 0
+AllPumpTo budget old ended new = (h : History Val) → SessionStands old h → PumpsTo budget old h ended new
 
 -- what follows what a subscriber received, by how the subscription stands
 abbrev pub IsRestOf : Place → SubId → Rest → Type 0
 IsRestOf place sub rest = (past : Past Val) × (slice_get place.history.pasts sub.0 ≡ Some past) × IsRest place sub past.state (rest_text rest)
+
+-- whether what is kept of a subscriber, and what it is owed, is this value, by how the subscription stands
+abbrev pub IsRightOf : Place → SubId → Record → Stream Val → Bool → Type 0
+IsRightOf place sub r v right = (past : Past Val) → slice_get place.history.pasts sub.0 ≡ Some past → seen past ≡ known r → IsRight place sub past v past.state right
 
 -- what the slow evaluator answers for a subscription, as a value or as a trouble
 abbrev pub IsValueAt : Place → SubId → Past Val → Result (Stream Val) Trouble → Type 0

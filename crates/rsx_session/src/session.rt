@@ -1,10 +1,11 @@
 //! A graph with what each of its subscribers received: the state of a run.
 
-ghost use Rattle.std.specs.Prelude.{◌≡◌, ◌≤◌, [], true, length, map, slice_get, Some, string_bytes, OnErr, OnOk, IsOk, IfOk, IfErr};
+ghost use Rattle.std.specs.Prelude.{◌≡◌, ◌≤◌, [], true, length, map, slice_get, Some, string_bytes, OnErr, OnOk, IsOk, IfOk, IfErr, Decides};
 ghost use Rattle.rsx_history.specs.History.{History, changed, no_history};
-ghost use Rattle.rsx_session.specs.Sessions.{GrowsByLine, IsLineOf, IsTold, LeadsAll, OnText, IsLookTrouble, IsRestOf, IsScratchTrouble, IsTroubleOf, IsValueOf, Says, SessionStands, place_of};
-ghost use Rattle.rsx_session.specs.Kept.{known, taken};
-ghost use Rattle.rsx_session.specs.Places.{AreChoices, AreJoins, IsAsked, IsCounted, IsShown, IsValued, IsViewed};
+ghost use Rattle.rsx_subscriber.specs.Past.{IsPrefixOf};
+ghost use Rattle.rsx_session.specs.Sessions.{AllPumpTo, GrowsByLine, IsLineOf, LeadsAll, OnText, IsLookTrouble, IsRestOf, IsRightOf, IsScratchTrouble, IsTroubleOf, IsValueOf, Says, SessionStands, place_of};
+ghost use Rattle.rsx_session.specs.Kept.{all_taken, followed_by, known, taken};
+ghost use Rattle.rsx_session.specs.Places.{AreChoices, AreJoins, IsAsked, IsChecked, IsCounted, IsShown, IsValued, IsViewed};
 ghost use Rattle.rsx_session.specs.Answers.{IsAnswered, IsTrouble, is_asked, is_choices, is_count, is_joins, is_of, is_hub, is_sub, is_done, is_pumped, is_received, is_value, is_shown, is_compared};
 
 use crate::published::{end, keep_item, let_item_go};
@@ -149,7 +150,7 @@ impl Session {
         ensures grows { OnOk result (IsAnswered self.old.view command (string_bytes out.old) (string_bytes out.new)) }
 
         // What the command did, and that the new line says it.
-        ensures leads { OnOk result (GrowsByLine (string_bytes out.old) (string_bytes out.new) (λ line. IsTold command → LeadsAll command self.old line self.new)) }
+        ensures leads { OnOk result (GrowsByLine (string_bytes out.old) (string_bytes out.new) (λ line. LeadsAll command self.old line self.new)) }
     {
         match command {
             Command::Hub(kind, capacity) => write(alloc, self.hub(alloc, kind, capacity), out),
@@ -319,6 +320,7 @@ impl Session {
     /// Makes at most so many moves, a slice of them at a time.
     fn pump(&mut self, alloc: Global, budget: u32) -> Result<Answer<'static>, Trouble>
         ensures answer { IfOk result (λ a. is_pumped a ≡ true) }
+        ensures leads { OnText result (λ text. LeadsAll (Command.Pump budget) self.old text self.new) }
         ensures err { IfErr result IsTrouble }
     {
         for _ in 0..budget / SLICE {
@@ -334,15 +336,14 @@ impl Session {
 
     /// Makes at most so many moves, and takes in what they delivered.
     fn pump_slice(&mut self, alloc: Global, budget: u32) -> Result<Pumped, Trouble>
-        ensures { IfErr result IsTrouble }
+        ensures pumped { IfOk result (λ ended. AllPumpTo budget self.old ended self.new) }
+        ensures err { IfErr result (λ t. t ≡ Trouble.Memory) }
     {
         let spare = mem::replace(&mut self.spare, Vec::new(alloc));
         let mut deliveries = Deliveries::from_vec(spare);
         let pumped = self.graph.pump(alloc, budget, &mut deliveries)?;
         let mut signals = deliveries.into_vec();
-        for (sub, signal) in signals.drain(..) {
-            take_in(&mut self.records, sub, signal)?;
-        }
+        take_in_all(&mut self.records, &mut signals)?;
         self.spare = signals;
         Ok(pumped)
     }
@@ -454,21 +455,40 @@ impl Session {
     /// Compares with the value of the expression, evaluated from scratch.
     fn check(&self, alloc: Global, sub: SubId) -> Result<Answer<'_>, Trouble>
         ensures answer { IfOk result (λ a. is_compared a ≡ true) }
+        ensures says { Says self.now result (λ place text. IsChecked place sub text) }
         ensures err { IfErr result IsTrouble }
     {
         let record = self.record(sub)?;
         let value = self.value(alloc, sub, &record.expr)?;
-        let is_right = match self.graph.standing(sub)? {
-            SubscriptionState::Cancelled | SubscriptionState::Refused => {
-                begins(value.items(), &record.received)
-            }
-            _ => record.is_whole(&self.graph.owed(alloc, sub)?, &value),
-        };
-        Ok(if is_right {
-            Answer::Equal
+        if self.is_right(alloc, sub, record, &value)? {
+            Ok(Answer::Equal)
         } else {
-            Answer::Different
-        })
+            Ok(Answer::Different)
+        }
+    }
+
+    /// Whether what a subscriber received, and what it is owed, is this value. Of one that cancelled or made a bad request,
+    /// to which nothing is owed: whether the items that it received begin it.
+    fn is_right(
+        &self,
+        alloc: Global,
+        sub: SubId,
+        kept: &Record,
+        value: &StreamValue<Val>,
+    ) -> Result<bool, Trouble>
+        ensures says { IfOk result (λ right. (h : History Val) → SessionStands self.now h → IsRightOf (place_of self.now h) sub kept.now value.now right) }
+        ensures refused { IfErr result (λ t. IsLookTrouble (length self.now.graph.subscriptions.items) sub t) }
+        ensures err { IfErr result IsTrouble }
+    {
+        match self.graph.standing(sub)? {
+            SubscriptionState::Open | SubscriptionState::Ended => {
+                let owed = self.graph.owed(alloc, sub)?;
+                Ok(kept.is_whole(&owed, value))
+            }
+            SubscriptionState::Cancelled | SubscriptionState::Refused => {
+                Ok(begins(value.items(), kept.received.as_slice()))
+            }
+        }
     }
 }
 
@@ -507,6 +527,21 @@ fn take_in(records: &mut Vec<Record>, sub: SubId, signal: Signal<Val>) -> Result
     }
 }
 
+/// Takes in these signals, in their order, and empties their list, whose memory stays.
+fn take_in_all(
+    records: &mut Vec<Record>,
+    signals: &mut Vec<(SubId, Signal<Val>)>,
+) -> Result<(), Trouble>
+    ensures taken { OnOk result (map known records.new.items ≡ all_taken signals.old.items (map known records.old.items)) }
+    ensures emptied { OnOk result (signals.new.items ≡ []) }
+    ensures err { IfErr result (λ t. t ≡ Trouble.Memory) }
+{
+    for (sub, signal) in signals.drain(..) {
+        take_in(records, sub, signal)?;
+    }
+    Ok(())
+}
+
 impl Record {
     /// Takes in a signal.
     #[inline]
@@ -530,27 +565,40 @@ impl Record {
     }
 
     /// Whether what was received, followed by what is owed, is this value.
-    fn is_whole(&self, owed: &StreamValue<Val>, value: &StreamValue<Val>) -> bool {
+    fn is_whole(&self, owed: &StreamValue<Val>, value: &StreamValue<Val>) -> bool
+        ensures { Decides result (followed_by self.now.received.items self.now.ending owed.now ≡ value.now) }
+    {
         let ending = match self.ending {
             Ending::Open => owed.ending(),
             received => received,
         };
         let received = self.received.as_slice();
         let items = value.items();
-        begins(items, received)
-            && is_same_list(&items[received.len()..], owed.items())
-            && ending == value.ending()
+        if ending != value.ending() || !begins(items, received) {
+            return false;
+        }
+        is_same_list(&items[received.len()..], owed.items())
     }
 }
 
 /// Whether the first items are these.
 fn begins(items: &[Val], first: &[Val]) -> bool
-    ensures { result ≡ true → length first.now ≤ length items.now }
+    ensures { Decides result (IsPrefixOf first.now items.now) }
 {
     first.len() <= items.len() && is_same_list(&items[..first.len()], first)
 }
 
-/// Whether two lists have the same items.
-fn is_same_list(xs: &[Val], ys: &[Val]) -> bool {
-    xs.len() == ys.len() && xs.iter().zip(ys).all(|(x, y)| is_same_val(x, y))
+/// Whether two lists have the same items, one by one.
+fn is_same_list(xs: &[Val], ys: &[Val]) -> bool
+    ensures { Decides result (xs.now ≡ ys.now) }
+{
+    if xs.len() != ys.len() {
+        return false;
+    }
+    for (i, x) in xs.iter().enumerate() {
+        if !is_same_val(x, &ys[i]) {
+            return false;
+        }
+    }
+    true
 }

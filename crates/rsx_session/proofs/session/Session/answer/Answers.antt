@@ -2,8 +2,8 @@ use Rattle.std.proofs.Common.{rules, ℤ, w64, subst}
 use Rattle.std.proofs.lemmas.Int.{to_z-of_z}
 use Rattle.rsx_session.specs.Sessions.{LeadsAll, OnText}
 use Rattle.rsx_commands.specs.declared.command.Command.TheVariants as command
-use Rattle.rsx_session.specs.Places.{AreChoices, AreJoins, IsAsked, IsCounted, IsViewed}
-use Rattle.rsx_session.proofs.Lines.{answered, looked, not_told, told}
+use Rattle.rsx_session.specs.Places.{AreChoices, AreJoins, IsAsked, IsChecked, IsCounted, IsViewed}
+use Rattle.rsx_session.proofs.Lines.{answered, looked, told}
 use Rattle.rsx_session.proofs.session.Session.answer.Goals as goal
 
 pub returns-in-Hub-clause-grows : goal.returns-in-Hub-clause-grows
@@ -58,7 +58,7 @@ pub returns-in-Pump-clause-grows : goal.returns-in-Pump-clause-grows
 returns-in-Pump-clause-grows c = rw c.in-Pump.is (answered c.pump.result c.args.self.now.view (command.Pump c.in-Pump.budget) _ _ c.write-in-Pump.result c.write-in-Pump.ensures.grows c.pump.ensures.answer c.pump.ensures.err)
 
 pub returns-in-Pump-clause-leads : goal.returns-in-Pump-clause-leads
-returns-in-Pump-clause-leads c = rw c.in-Pump.is (not_told c.pump.result (command.Pump c.in-Pump.budget) c.args.self.now _ _ _ c.write-in-Pump.result c.write-in-Pump.ensures.grows (λ no. no))
+returns-in-Pump-clause-leads c = rw c.in-Pump.is (told c.pump.result (command.Pump c.in-Pump.budget) c.args.self.now c.pump.new.self _ _ c.write-in-Pump.result c.write-in-Pump.ensures.grows c.pump.ensures.leads)
 
 pub returns-in-Pick-clause-grows : goal.returns-in-Pick-clause-grows
 returns-in-Pick-clause-grows c = rw c.in-Pick.is (answered c.pick.result c.args.self.now.view (command.Pick c.in-Pick.sub c.in-Pick.node c.in-Pick.input) _ _ c.write-in-Pick.result c.write-in-Pick.ensures.grows c.pick.ensures.answer c.pick.ensures.err)
@@ -100,4 +100,4 @@ pub returns-in-Check-clause-grows : goal.returns-in-Check-clause-grows
 returns-in-Check-clause-grows c = rw c.in-Check.is (answered c.check.result c.args.self.now.view (command.Check c.in-Check.sub) _ _ c.write-in-Check.result c.write-in-Check.ensures.grows c.check.ensures.answer c.check.ensures.err)
 
 pub returns-in-Check-clause-leads : goal.returns-in-Check-clause-leads
-returns-in-Check-clause-leads c = rw c.in-Check.is (not_told c.check.result (command.Check c.in-Check.sub) c.args.self.now _ _ _ c.write-in-Check.result c.write-in-Check.ensures.grows (λ no. no))
+returns-in-Check-clause-leads c = rw c.in-Check.is (told c.check.result (command.Check c.in-Check.sub) c.args.self.now _ _ _ c.write-in-Check.result c.write-in-Check.ensures.grows (looked c.args.self.now c.check.result (λ place text. IsChecked place c.in-Check.sub text) c.check.ensures.says))
