@@ -72,7 +72,7 @@ pub seen_after : (old new : GraphState Val) (h : History Val) (moves : List (Mad
 seen_after old new h [] lead = refl
 seen_after old new h (d ∷ ds) (mid, made, lead) =
     seen_after mid new (with_made d.0 d.1 h) ds lead
-      ∙ (ap (all_taken (delivered_by ds)) (made_seen d.0 d.1 h made.answer) ∙ sym (taken_on (option_to_list d.1) (delivered_by ds) (map seen h.pasts)))
+    ∙ (ap (all_taken (delivered_by ds)) (made_seen d.0 d.1 h made.answer) ∙ sym (taken_on (option_to_list d.1) (delivered_by ds) (map seen h.pasts)))
 
 -- ---- one run behind another
 
