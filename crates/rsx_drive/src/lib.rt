@@ -1,8 +1,9 @@
 #![tactic(auto)]
 //! Runs the program in one of its modes over a reader and a writer: it answers the commands of a script, or judges traces.
 //!
-//! Proved of it is that it ends, that it is safe, and which line it is stopped at; of the mode `tck` all that it writes.
-//! What a script is answered with is tested.
+//! Proved of it is that it ends, that it is safe, and all that it writes: of a script the answer to each line, by the command
+//! that the line asks for, where the lines before it left the graph; of traces the report of each; and, where it is stopped,
+//! at which line and why.
 
 mod modes;
 mod script;

@@ -1,7 +1,13 @@
 //! Answers the commands of a script.
 
-ghost use Rattle.std.specs.Prelude.{◌≡◌, ⊤, IfErr};
+ghost use Rattle.std.specs.Prelude.{◌≡◌, ℕ, List, [], ◌∷◌, ◌++◌, IfSome, OnOk, OnErr, IfErr};
+ghost use Rattle.std.specs.String.{string_bytes};
 ghost use Rattle.rsx_script.specs.Fault.{IsRunFault};
+ghost use Rattle.rsx_trace.specs.Texts.{lines};
+ghost use Rattle.rsx_lines.specs.Answered.{Grows, IsStopped, Writes, WritesBefore};
+ghost use Rattle.rsx_session.specs.declared.session.View.TheVariants.{Received, FromScratch};
+ghost use Rattle.rsx_drive.specs.Laws.{line_too_long, memory_wanted};
+ghost use Rattle.rsx_drive.specs.Scripts.{HasAnswered, IsBadLine, IsScript, IsScriptStopped};
 
 use rsx_lines::{Answers, answer_lines};
 use rsx_script::{AppFault, LineRefusal, parse_line};
@@ -10,51 +16,107 @@ use std::alloc::Global;
 use std::io::{Read, Write};
 
 /// Answers each line that the reader gives with one line to the writer, until the input ends. A line that is empty or
-/// spaces alone has no answer.
+/// spaces alone has no answer. `show` answers what the view says.
 ///
 /// # Errors
 ///
-/// As [`answer_lines`].
+/// As [`answer_lines`]: `Line` and `Memory` at the first line that can't be read, or for which memory was wanted. The lines
+/// before it have been answered then, and after a fault of `Io` nothing more is written.
 pub fn answer_script<R: Read, W: Write>(
     alloc: Global,
     view: View,
     reader: &mut R,
     writer: &mut W,
 ) -> Result<(), AppFault>
-    ensures { IfErr result IsRunFault }
+    // Each line was answered by its own command, where the lines before it left the graph, and nothing else was written.
+    ensures answered { OnOk result (IfSome (R.remaining reader.old) (λ input.
+        Writes (W.contents writer.old) (W.contents writer.new) (λ text. IsScript view (lines input) text))) }
+    // The lines before the fault were answered so, and nothing else was written.
+    ensures stopped { IfErr result (λ fault. IfSome (R.remaining reader.old) (λ input.
+        WritesBefore (W.contents writer.old) (W.contents writer.new) fault (λ text. IsStopped (IsScriptStopped view) (lines input) text fault))) }
+    ensures fault { IfErr result IsRunFault }
 {
     let session = Session::new(alloc, view)?;
-    answer_lines(alloc, Script { session }, reader, writer)
+    match view {
+        View::Received => answer_lines(alloc, ReceivedScript { session }, reader, writer),
+        View::FromScratch => answer_lines(alloc, ScratchScript { session }, reader, writer),
+    }
 }
 
-/// A script that is being answered.
+/// Does what a line asks for, and adds the answer to the text. A line without words has none.
+///
+/// # Errors
+///
+/// Why the line can't be read, or `NoMemory`; the text is then as it was.
+fn answer_line(
+    alloc: Global,
+    session: &mut Session,
+    line: &[u8],
+    out: &mut String,
+) -> Result<(), LineRefusal>
+    ensures answered { OnOk result ((view : View) (lines : List (List ℕ)) (text : List ℕ) → HasAnswered view session.old lines text →
+        Grows (string_bytes out.old) (string_bytes out.new) (λ more. HasAnswered view session.new (lines ++ line.now ∷ []) (text ++ more))) }
+    ensures bad { IfErr result (λ refusal. IsBadLine line.now refusal) }
+    ensures same { OnErr result (string_bytes out.new ≡ string_bytes out.old) }
+{
+    match parse_line(alloc, line) {
+        Ok(None) => Ok(()),
+        Ok(Some(command)) => match session.answer(alloc, command, out) {
+            Ok(()) => Ok(()),
+            Err(_) => Err(LineRefusal::NoMemory),
+        },
+        Err(refusal) => Err(refusal),
+    }
+}
+
+/// A script that is being answered, of whose subscribers `show` answers what they received.
 #[derive(Drop)]
-struct Script {
+struct ReceivedScript {
     session: Session,
 }
 
-impl Answers for Script {
-    ghost stands = { λ _ _ _. ⊤ };
+impl Answers for ReceivedScript {
+    ghost stands = { λ script lines text. HasAnswered Received script.session lines text };
 
-    ghost ends = { λ _ _. ⊤ };
+    ghost ends = { IsScript Received };
 
-    ghost refuses = { λ _ _ _ _. ⊤ };
+    ghost refuses = { IsScriptStopped Received };
 
     fn answer(&mut self, alloc: Global, line: &[u8], out: &mut String) -> Result<(), LineRefusal> {
-        let Some(command) = parse_line(alloc, line)? else {
-            return Ok(());
-        };
-        match self.session.answer(alloc, command, out) {
-            Ok(()) => Ok(()),
-            Err(_) => Err(LineRefusal::NoMemory),
-        }
+        answer_line(alloc, &mut self.session, line, out)
     }
 
     fn finish(&self) -> Result<(), LineRefusal> {
         Ok(())
     }
 
-    ghost too_long = { λ _ _ _ _ _ _ _. tt };
+    ghost too_long = { λ script. line_too_long Received script.session };
 
-    ghost wanting = { λ _ _ _ _ _. tt };
+    ghost wanting = { λ script. memory_wanted Received script.session };
+}
+
+/// A script that is being answered, of whose subscribers `show` answers the values of the slow evaluator.
+#[derive(Drop)]
+struct ScratchScript {
+    session: Session,
+}
+
+impl Answers for ScratchScript {
+    ghost stands = { λ script lines text. HasAnswered FromScratch script.session lines text };
+
+    ghost ends = { IsScript FromScratch };
+
+    ghost refuses = { IsScriptStopped FromScratch };
+
+    fn answer(&mut self, alloc: Global, line: &[u8], out: &mut String) -> Result<(), LineRefusal> {
+        answer_line(alloc, &mut self.session, line, out)
+    }
+
+    fn finish(&self) -> Result<(), LineRefusal> {
+        Ok(())
+    }
+
+    ghost too_long = { λ script. line_too_long FromScratch script.session };
+
+    ghost wanting = { λ script. memory_wanted FromScratch script.session };
 }

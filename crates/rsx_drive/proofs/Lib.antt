@@ -1,0 +1,3 @@
+-- Lemmas.
+pub mod Lines
+pub mod Starts
