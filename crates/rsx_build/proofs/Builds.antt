@@ -31,7 +31,7 @@ use Rattle.rsx_model.specs.declared.expr.Expr.TheVariants.{Items as ItemsOf, Hub
 use Rattle.rsx_model.proofs.Unfold.{value_Items, value_Hub, value_Plain, first_fault_Plain, hub_there}
 use Rattle.rsx_operators.specs.Moves.{has_ending}
 use Rattle.rsx_plain.specs.Node.{plain_comes_out, plain_ended, start_slot}
-use Rattle.rsx_operators.specs.State.{plain_start, is_over, balanced}
+use Rattle.rsx_operators.specs.State.{plain_start, is_over, balanced, wanted_from}
 use Rattle.rsx_plain.specs.declared.node.PlainNode.{PlainNode}
 use Rattle.rsx_operators.specs.declared.state.PlainState.{PlainState}
 use Rattle.rsx_tree.specs.declared.edge.Edge.{Edge}
@@ -52,7 +52,8 @@ use Rattle.rsx_node.specs.declared.any_node.AnyNode.TheVariants.{Source, Plain}
 use Rattle.rsx_node.specs.declared.source_node.SourceNode.{SourceNode}
 use Rattle.rsx_node.specs.declared.source_node.SourceNode.TheVariants.{Items, Hub}
 use Rattle.rsx_node.specs.Any.{any_machine}
-use Rattle.rsx_build.specs.Built.{IsBuilt, IsPlainOver, AllUnrecorded, AreBegun, StandAt, counts_of, fresh_edge, fresh_edges, join_at, joins_now, new_joins, starts_ended}
+use Rattle.rsx_build.specs.Built.{IsBuilt, IsPlainOver, AllUnrecorded, AreBegun, StandAt, counts_of, first_wants, fresh_edge, fresh_edges, fresh_wants, join_at, joins_now, new_joins, starts_ended}
+use Rattle.rsx_build.proofs.Wants.{first_wants_closed_if, plain_wants, wants_Hub, wants_Items, wants_Plain}
 
 -- what comes out of a fresh node is its operator of what comes in
 pub fresh_out : {T : Type 0} (m : Meaning T) (hubs : List (Stream T)) (n : AnyNode T) (f : List (Stream T) → Stream T) → ((vs : List (Stream T)) (k : Note) → any_machine.comes_out m n (incoming_of hubs vs) k ≡ quiet_at k (f vs)) →
@@ -74,8 +75,8 @@ node_of n r = record { machine = n; inputs = r }
 pub built_source : {T : Type 0} (m : Meaning T) (hubs : List (HubState T)) (e : Expr T) (n : SourceNode T) (t : Node (AnyNode T)) → t.machine ≡ Source n → t.inputs ≡ End →
     ((whole : List (Stream T)) (joins : List ℕ) (leaf : ℕ) → AreBegun hubs whole → StandAt joins leaf (new_joins hubs e) → (v : Stream T) × ((inc : Incoming T) (k : Note) → inc.hubs ≡ whole → any_machine.comes_out m (Source n) inc k ≡ quiet_at k v)
     × ((further : List Note) (at : ℕ) → (meant (environment m whole joins further) e).value at leaf ≡ quiet (slice_get further at) (Some v))) →
-    IsReadAt (counts_of hubs) (any_machine.reads (Source n)) → (new_joins hubs e ≡ [] → IsReadAt [] (any_machine.reads (Source n))) → fresh_edges e ≡ [] → IsBuilt m hubs e t
-built_source {T} m hubs e n t n_is r_is values read unread none = record {
+    IsReadAt (counts_of hubs) (any_machine.reads (Source n)) → (new_joins hubs e ≡ [] → IsReadAt [] (any_machine.reads (Source n))) → fresh_edges e ≡ [] → fresh_wants e ≡ [] → IsBuilt m hubs e t
+built_source {T} m hubs e n t n_is r_is values read unread none nothing = record {
   value = λ whole joins further at leaf begun stand.
       let v = values whole joins leaf begun stand in
       ap (λ x. out_of any_machine m whole x (comes_in any_machine m whole further t.inputs (at + 1)) (slice_get further at)) n_is
@@ -97,6 +98,7 @@ built_source {T} m hubs e n t n_is r_is values read unread none = record {
       let P : Inputs (AnyNode T) → Type 0 = λ r. AllUnrecorded (Nothing ∷ notes_of any_machine r) in
       subst N (sym n_is) (subst P (sym r_is) ((λ k. refl), tt));
   edges = ap edges_in r_is ∙ sym none;
+  wants = ap (first_wants any_machine t.machine 0) r_is ∙ sym nothing;
   balance =
       let R : Inputs (AnyNode T) → Type 0 = λ r. IsOwnerBalanced any_machine t.machine (sent_over r) 0 (IsRowBalanced any_machine t.machine 0 r) in
       let N : AnyNode T → Type 0 = λ x. IsOwnerBalanced any_machine x [] 0 (Unit {0}) in
@@ -117,7 +119,7 @@ built_items {T} m hubs e v items n t is all fresh n_is r_is =
     let P : Expr T → Type 0 = λ x. IsBuilt m hubs x t in
     subst P (sym is) (built_source m hubs (ItemsOf v) (Items n) t n_is r_is
     (λ whole joins leaf begun stand. (listed v.items, (λ inc k same. fresh m inc k ∙ ap (λ l. quiet_at k (listed l)) all), (λ further at. value_Items (environment m whole joins further) v at leaf)))
-    tt (λ bare. tt) (fresh_Items v))
+    tt (λ bare. tt) (fresh_Items v) (wants_Items v))
 
 -- ---- a leaf that reads a hub
 
@@ -163,7 +165,7 @@ pub built_hub : {T : Type 0} (m : Meaning T) (hubs : List (HubState T)) (e : Exp
     n.hub ≡ id.0 → member_of n ≡ mem → t.machine ≡ Source (Hub n) → t.inputs ≡ End → IsBuilt m hubs e t
 built_hub {T} m hubs e id h mem n t is there fresh from hub_is mem_is n_is r_is =
     let P : Expr T → Type 0 = λ x. IsBuilt m hubs x t in
-    subst P (sym is) (built_source m hubs (HubOf id) (Hub n) t n_is r_is values read (λ bare. absurd (some_join (sym (new_joins_Hub T hubs id) ∙ bare))) (fresh_Hub T id))
+    subst P (sym is) (built_source m hubs (HubOf id) (Hub n) t n_is r_is values read (λ bare. absurd (some_join (sym (new_joins_Hub T hubs id) ∙ bare))) (fresh_Hub T id) (wants_Hub T id))
   where
     values : (whole : List (Stream T)) (joins : List ℕ) (leaf : ℕ) → AreBegun hubs whole → StandAt joins leaf (new_joins hubs (HubOf id)) → (v : Stream T) × ((inc : Incoming T) (k : Note) → inc.hubs ≡ whole → any_machine.comes_out m (Source (Hub n)) inc k ≡ quiet_at k v)
         × ((further : List Note) (at : ℕ) → (meant (environment m whole joins further) (HubOf id)).value at leaf ≡ quiet (slice_get further at) (Some v))
@@ -285,6 +287,13 @@ built_plain {T} m hubs e g box input below n row t is in_box fine w0 fresh st sl
           subst N (sym n_is) (subst I (sym tree_is) (tt, closed_if_reads any_machine [] c whole (inr (w.alone (sym (new_joins_Plain hubs g box) ∙ bare)), tt)));
       notes = subst NM (sym n_is) (subst N (sym notes_are) ((λ x. refl), w.notes));
       edges = ap edges_in tree_is ∙ (edges_closed_if c whole ∙ (ap (closed_if c) below_is ∙ (ap (λ d. closed_if d (fresh_edge ∷ fresh_edges box.value)) ended_is ∙ sym (fresh_Plain g box))));
+      wants =
+          ap (first_wants any_machine t.machine 0) tree_is
+          ∙ (first_wants_closed_if any_machine c t.machine 0 whole
+          ∙ (ap (λ x. any_machine.wanted x 0 0 0 ∷ (first_wants any_machine below.machine 0 below.inputs ++ [])) n_is
+          ∙ (ap (λ s. wanted_from s 0 0 ∷ (first_wants any_machine below.machine 0 below.inputs ++ [])) st
+          ∙ (ap (λ k. k ∷ (first_wants any_machine below.machine 0 below.inputs ++ [])) (plain_wants g)
+          ∙ (ap (λ l. 0 ∷ l) (append-nil (first_wants any_machine below.machine 0 below.inputs) ∙ w.wants) ∙ sym (wants_Plain g box))))));
       balance = subst BN (sym n_is) (subst BR (sym tree_is) (fresh_balanced g n below j.e j.p j.q st sl fits j.sent j.live w.balance));
     })
 

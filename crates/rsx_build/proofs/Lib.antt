@@ -4,3 +4,4 @@ pub mod Made
 pub mod PublishOn
 pub mod Rows
 pub mod Several
+pub mod Wants

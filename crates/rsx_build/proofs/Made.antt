@@ -41,7 +41,7 @@ pub several_over : {T : Type 0} (m : Meaning T) (hubs : List (HubState T)) (kind
     1 ≤ length es → AreBuilt m hubs es row → IfOk r (λ n. IsSeveral kind (length es) n) → IfOk t (λ x. IsOver r row false x) → IfOk t (λ x. IsBuiltOver m hubs kind es x)
 several_over {T} m hubs kind es row r (Ok x) some w fresh o =
     let n = made (λ n. IsSeveral kind (length es) n) r x.machine o.is fresh in
-    built_over m hubs kind es row n.node x some w n.fresh n.recorded (n.ended some) (n.counted some) n.is o.inputs
+    built_over m hubs kind es row n.node x some w n.fresh n.recorded (n.ended some) (n.counted some) n.wanted n.is o.inputs
 several_over m hubs kind es row r (Err e) some w fresh o = tt
 
 pub in_front_built : {T : Type 0} (m : Meaning T) (hubs : List (HubState T)) (all : List (Expr T)) (x : Expr T) (xs : List (Expr T)) (r : Result (Node (AnyNode T)) NoMemory) (beside : Inputs (AnyNode T)) (t : Result (Inputs (AnyNode T)) NoMemory) →

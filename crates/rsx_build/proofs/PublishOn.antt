@@ -19,7 +19,7 @@ use Rattle.rsx_model.specs.declared.expr.Expr.{Expr}
 use Rattle.rsx_model.specs.declared.expr.Expr.TheFolds.{fold_out-Expr}
 use Rattle.rsx_model.specs.declared.expr.Expr.TheViews.{On, outs-On}
 use Rattle.rsx_model.proofs.Unfold.{fault_On, nodes_On, value_On}
-use Rattle.rsx_publish_on.specs.PublishOn.{publish_counted, publish_ended}
+use Rattle.rsx_publish_on.specs.PublishOn.{publish_counted, publish_ended, publish_wanted}
 use Rattle.rsx_publish_on.specs.declared.node.PublishOnNode.{PublishOnNode}
 use Rattle.rsx_tree.specs.declared.edge.Edge.{Edge}
 use Rattle.rsx_tree.specs.declared.edge.EdgeState.TheVariants.{Live}
@@ -33,9 +33,10 @@ use Rattle.rsx_tree.specs.Tree.{comes_out, notes, IsJoined}
 use Rattle.rsx_node.specs.declared.any_node.AnyNode.{AnyNode}
 use Rattle.rsx_node.specs.declared.any_node.AnyNode.TheVariants.{PublishOn}
 use Rattle.rsx_node.specs.Any.{any_machine}
-use Rattle.rsx_build.specs.Built.{IsBuilt, IsPublishOnOver, AllUnrecorded, StandAt, counts_of, fresh_edge, fresh_edges, new_joins}
+use Rattle.rsx_build.specs.Built.{IsBuilt, IsPublishOnOver, AllUnrecorded, StandAt, counts_of, first_wants, fresh_edge, fresh_edges, new_joins}
 use Rattle.rsx_build.specs.Made.{IsOver, IsPublishOn}
 use Rattle.rsx_build.proofs.Builds.{fresh_out, fresh_edge_is}
+use Rattle.rsx_build.proofs.Wants.{wants_On, whole_capacity}
 
 abbrev node_of : {T : Type 0} → AnyNode T → Inputs (AnyNode T) → Node (AnyNode T)
 node_of n r = record { machine = n; inputs = r }
@@ -98,6 +99,11 @@ built_publish_on {T} m hubs e k p box input below t is in_box w0 o =
           subst RN (sym n_is) (subst RI (sym tree_is) (tt, (inr (w.alone (sym (new_joins_On hubs k p box) ∙ bare)), tt)));
       notes = subst NM (sym n_is) (subst N (sym notes_are) ((λ x. refl), w.notes));
       edges = ap edges_in tree_is ∙ (below_is ∙ sym (fresh_On k p box));
+      wants =
+          ap (first_wants any_machine t.machine 0) tree_is
+          ∙ (ap (λ x. any_machine.wanted x 0 0 0 ∷ (first_wants any_machine below.machine 0 below.inputs ++ [])) n_is
+          ∙ (ap (λ c. c ∷ (first_wants any_machine below.machine 0 below.inputs ++ [])) o.wanted
+          ∙ (ap (λ l. p ∷ l) (append-nil (first_wants any_machine below.machine 0 below.inputs) ∙ w.wants) ∙ sym (wants_On k p box))));
       balance = subst BN (sym n_is) (subst BR (sym tree_is) (fresh_balanced n below j.e j.p j.q goes_on o.counted j.sent j.live w.balance));
     })
 
@@ -112,8 +118,8 @@ made : {A : Type 0} (P : A → Type 0) (r : Result A NoMemory) (a : A) → r ≡
 made P r a is h = subst (λ x. IfOk x P) is h
 
 pub publish_on_over : {T : Type 0} (p : ℕ) (below : Node (AnyNode T)) (row : Inputs (AnyNode T)) (r : Result (AnyNode T) NoMemory) (t : Result (Node (AnyNode T)) NoMemory) →
-    IsJoined below End row → IfOk r (λ n. IsPublishOn p n) → IfOk t (λ x. IsOver r row false x) → IfOk t (λ x. IsPublishOnOver p below x)
-publish_on_over {T} p below row r (Ok x) joined fresh o =
+    p ≤ MOST_PREFETCH → IsJoined below End row → IfOk r (λ n. IsPublishOn p n) → IfOk t (λ x. IsOver r row false x) → IfOk t (λ x. IsPublishOnOver p below x)
+publish_on_over {T} p below row r (Ok x) within joined fresh o =
     let n = made (λ n. IsPublishOn p n) r x.machine o.is fresh in
     record {
       node = n.node;
@@ -121,11 +127,12 @@ publish_on_over {T} p below row r (Ok x) joined fresh o =
       input = n.input;
       fresh = n.fresh;
       counted = n.counted;
+      wanted = ap (λ i. publish_wanted (record { input = i }) 0 0 0) n.input ∙ whole_capacity p within;
       joined = joined;
       machine = n.is;
       inputs = o.inputs;
     }
-publish_on_over p below row r (Err e) joined fresh o = tt
+publish_on_over p below row r (Err e) within joined fresh o = tt
 
 -- ---- its limits
 

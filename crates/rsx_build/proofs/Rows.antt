@@ -22,7 +22,7 @@ use Rattle.rsx_tree.specs.Tree.{IsJoined}
 use Rattle.rsx_tree.proofs.Effects.{length_edges}
 use Rattle.rsx_node.specs.declared.any_node.AnyNode.{AnyNode}
 use Rattle.rsx_node.specs.Any.{any_machine}
-use Rattle.rsx_build.specs.Built.{IsBuilt, AreBuilt, AllUnrecorded, StandAt, begins_ended, fresh_below, fresh_beside, fresh_edge, fresh_edges, in_a_row, join_here, joins_now, leaf_joins, new_joins, new_joins_of}
+use Rattle.rsx_build.specs.Built.{IsBuilt, AreBuilt, AllUnrecorded, StandAt, begins_ended, first_wants, fresh_below, fresh_beside, fresh_edge, fresh_edges, fresh_wants, in_a_row, join_here, joins_now, leaf_joins, new_joins, new_joins_of}
 use Rattle.rsx_build.proofs.Builds.{fresh_edge_is}
 
 -- ---- the edges and the leaves of an expression
@@ -153,6 +153,7 @@ built_none {T} m hubs es row none is =
       alone = λ bare. tt;
       notes = tt;
       edges = refl;
+      wants = λ n i p each. refl;
       sent = refl;
       balance = λ n i. tt;
     }))
@@ -162,6 +163,12 @@ built_none {T} m hubs es row none is =
 in_front_of : {T : Type 0} (o : Option (Stream T)) (p : Option (List (Stream T))) → beside_of o p ≡ option_and_then (λ s. option_map (λ ss. s ∷ ss) p) o
 in_front_of None p = refl
 in_front_of (Some s) p = refl
+
+behind_none : (i : ℕ) → i ≡ i + 0
+behind_none i = omega arith
+
+one_more : (i k : ℕ) → i + 1 + k ≡ i + (k + 1)
+one_more i k = omega arith
 
 pub built_more : {T : Type 0} (m : Meaning T) (hubs : List (HubState T)) (all : List (Expr T)) (x : Expr T) (xs : List (Expr T)) (below : Node (AnyNode T)) (beside row : Inputs (AnyNode T)) →
     all ≡ x ∷ xs → IsBuilt m hubs x below → AreBuilt m hubs xs beside → IsJoined below beside row → AreBuilt m hubs all row
@@ -189,6 +196,11 @@ built_more {T} m hubs all x xs below beside row all_is first rest j =
       edges =
           ap (λ v. v ∷ (edges_in below.inputs ++ edges_in beside)) (fresh_edge_is j.e j.asked j.sent j.live)
           ∙ (ap (λ l. fresh_edge ∷ (l ++ edges_in beside)) first.edges ∙ ap (λ l. fresh_edge ∷ (fresh_edges x ++ l)) rest.edges);
+      wants = λ n i p each.
+          let here : any_machine.wanted n i 0 0 ≡ p = ap (λ k. any_machine.wanted n k 0 0) (behind_none i) ∙ each 0 (omega arith) in
+          let others = rest.wants n (i + 1) p (λ k lt. ap (λ at. any_machine.wanted n at 0 0) (one_more i k) ∙ each (k + 1) (omega arith)) in
+          ap (λ k. k ∷ (first_wants any_machine below.machine 0 below.inputs ++ first_wants any_machine n (i + 1) beside)) here
+          ∙ (ap (λ l. p ∷ (l ++ first_wants any_machine n (i + 1) beside)) first.wants ∙ ap (λ l. p ∷ (fresh_wants x ++ l)) others);
       sent = ap (λ k. k ∷ sent_over beside) j.sent ∙ ap (λ l. 0 ∷ l) rest.sent;
       balance = λ n i.
           let W : ℕ → Type 0 = λ k. IsBalanced any_machine below k in

@@ -23,8 +23,8 @@ use Rattle.rsx_model.specs.Shape.{nodes, sum_of}
 use Rattle.rsx_model.proofs.Unfold.{fault_Concat, fault_Merge, fault_Zip, fault_Latest, nodes_Concat, nodes_Merge, nodes_Zip, nodes_Latest, or_none, value_Concat, value_Merge, value_Zip, value_Latest}
 use Rattle.rsx_prefetch.specs.declared.TheConstants.{LARGEST}
 use Rattle.std.proofs.lemmas.Bool.Decides.{nat_tests}
-use Rattle.rsx_several.specs.Kind.{GivesKind, IsWithin, joined, recorded_first}
-use Rattle.rsx_several.specs.Several.{several_counted, several_ended, several_recorded}
+use Rattle.rsx_several.specs.Kind.{GivesKind, IsWithin, first_wanted, joined, recorded_first}
+use Rattle.rsx_several.specs.Several.{several_counted, several_ended, several_recorded, several_wanted}
 use Rattle.rsx_several.specs.declared.kind.SeveralKind.{SeveralKind}
 use Rattle.rsx_several.specs.declared.kind.SeveralKind.TheVariants.{Concat, Merge, Zip, Latest}
 use Rattle.rsx_several.specs.declared.several_node.SeveralNode.{SeveralNode}
@@ -35,8 +35,9 @@ use Rattle.rsx_tree.proofs.Rows.{then_same}
 use Rattle.rsx_node.specs.declared.any_node.AnyNode.{AnyNode}
 use Rattle.rsx_node.specs.declared.any_node.AnyNode.TheVariants.{Several}
 use Rattle.rsx_node.specs.Any.{any_machine}
-use Rattle.rsx_build.specs.Built.{IsBuilt, AreBuilt, IsBuiltOver, IsUnrecorded, StandAt, fresh_beside, fresh_edges, new_joins, new_joins_of}
+use Rattle.rsx_build.specs.Built.{IsBuilt, AreBuilt, IsBuiltOver, IsUnrecorded, StandAt, fresh_beside, fresh_edges, fresh_wants, new_joins, new_joins_of, wants_beside}
 use Rattle.rsx_build.proofs.Rows.{fresh_edges_out, leaf_joins_out}
+use Rattle.rsx_build.proofs.Wants.{fresh_wants_out, several_wants}
 
 -- ---- what comes out of the node
 
@@ -99,8 +100,8 @@ node_of n r = record { machine = n; inputs = r }
 
 pub built_over : {T : Type 0} (m : Meaning T) (hubs : List (HubState T)) (kind : SeveralKind) (es : List (Expr T)) (row : Inputs (AnyNode T)) (n : SeveralNode T) (t : Node (AnyNode T)) →
     1 ≤ length es → AreBuilt m hubs es row → GivesKind n kind (length es) → several_recorded n ≡ recorded_first kind → several_ended n ≡ false → several_counted n (replicate (length es) 0) 0 →
-    t.machine ≡ Several n → t.inputs ≡ row → IsBuiltOver m hubs kind es t
-built_over {T} m hubs kind es row n t some w fresh noted goes_on counted n_is r_is =
+    ((i asked : ℕ) → i < length es → several_wanted n i asked 0 ≡ first_wanted kind i asked) → t.machine ≡ Several n → t.inputs ≡ row → IsBuiltOver m hubs kind es t
+built_over {T} m hubs kind es row n t some w fresh noted goes_on counted wanted n_is r_is =
     let TN : Node (AnyNode T) → Type 0 = λ x. IsBuiltOver m hubs kind es x in
     let BN : AnyNode T → Type 0 = λ x. TN (node_of x t.inputs) in
     let BR : Inputs (AnyNode T) → Type 0 = λ r. TN (node_of (Several n) r) in
@@ -114,6 +115,7 @@ built_over {T} m hubs kind es row n t some w fresh noted goes_on counted n_is r_
       alone = λ bare. (tt, w.alone bare);
       notes = let U : Note → Type 0 = λ k. IsUnrecorded k in (subst U (sym noted) (unrecorded_first kind), w.notes);
       edges = w.edges;
+      wants = w.wants (Several n) 0 (first_wanted kind 0 0) (several_wants n kind (length es) wanted);
       balance =
           let C : List ℕ → Type 0 = λ l. several_counted n l 0 in
           inr (goes_on, subst C (sym w.sent) counted, w.balance (Several n) 0);
@@ -160,12 +162,13 @@ latest_value m p (Some vs) (Some Nothing) = refl
 latest_value m p (Some vs) (Some (Picks cs)) = refl
 latest_value m p (Some vs) (Some (Ended i)) = refl
 
--- the tree over its inputs is that of an expression whose meaning, joins and edges are made of theirs
+-- the tree over its inputs is that of an expression whose meaning, joins, edges and wants are made of theirs
 record IsOver {T : Type 0} (m : Meaning T) (hubs : List (HubState T)) (kind : SeveralKind) (es : List (Expr T)) (e : Expr T) : Type 0 where
   value : (whole : List (Stream T)) (joins : List ℕ) (further : List Note) (at leaf : ℕ) →
       (meant (environment m whole joins further) e).value at leaf ≡ option_and_then (λ k. option_and_then (joined m kind k) (in_order (map (meant (environment m whole joins further)) es) (at + 1) leaf)) (slice_get further at)
   joins_are : new_joins hubs e ≡ new_joins_of hubs es
   edges_are : fresh_edges e ≡ fresh_beside (map fresh_edges es)
+  wants_are : fresh_wants e ≡ wants_beside (first_wanted kind 0 0) (map fresh_wants es)
 
 as_built : {T : Type 0} (m : Meaning T) (hubs : List (HubState T)) (kind : SeveralKind) (es : List (Expr T)) (e : Expr T) (t : Node (AnyNode T)) → IsOver m hubs kind es e → IsBuiltOver m hubs kind es t → IsBuilt m hubs e t
 as_built m hubs kind es e t o w = record {
@@ -176,6 +179,7 @@ as_built m hubs kind es e t o w = record {
   alone = λ bare. w.alone (sym o.joins_are ∙ bare);
   notes = w.notes;
   edges = w.edges ∙ sym o.edges_are;
+  wants = w.wants ∙ sym o.wants_are;
   balance = w.balance;
 }
 
@@ -194,6 +198,7 @@ over_concat m hubs v = record {
       value_Concat (environment m whole joins further) v at leaf ∙ sym (concat_value m (in_order (map (meant (environment m whole joins further)) v.items) (at + 1) leaf) (slice_get further at));
   joins_are = rw (leaf_joins_out, outs-Concat) refl;
   edges_are = rw (fresh_edges_out, outs-Concat) refl;
+  wants_are = rw (fresh_wants_out, outs-Concat) refl;
 }
 
 pub built_concat : {T E : Type 0} (m : Meaning T) (hubs : List (HubState T)) (e : Expr T) (v : Listed T) (items : List (Expr T)) (r : Result (Node (AnyNode T)) E) → e ≡ ConcatOf v → items ≡ v.items → IfOk r (λ t. IsBuiltOver m hubs Concat items t) → IfOk r (λ t. IsBuilt m hubs e t)
@@ -205,6 +210,7 @@ over_merge m hubs p v = record {
       value_Merge (environment m whole joins further) p v at leaf ∙ sym (merge_value m p (in_order (map (meant (environment m whole joins further)) v.items) (at + 1) leaf) (slice_get further at));
   joins_are = rw (leaf_joins_out, outs-Merge) refl;
   edges_are = rw (fresh_edges_out, outs-Merge) refl;
+  wants_are = rw (fresh_wants_out, outs-Merge) refl;
 }
 
 pub built_merge : {T E : Type 0} (m : Meaning T) (hubs : List (HubState T)) (e : Expr T) (p : ℕ) (v : Listed T) (items : List (Expr T)) (r : Result (Node (AnyNode T)) E) → e ≡ MergeOf p v → items ≡ v.items → IfOk r (λ t. IsBuiltOver m hubs (Merge p) items t) → IfOk r (λ t. IsBuilt m hubs e t)
@@ -216,6 +222,7 @@ over_zip m hubs p v = record {
       value_Zip (environment m whole joins further) p v at leaf ∙ sym (zip_value m p (in_order (map (meant (environment m whole joins further)) v.items) (at + 1) leaf) (slice_get further at));
   joins_are = rw (leaf_joins_out, outs-Zip) refl;
   edges_are = rw (fresh_edges_out, outs-Zip) refl;
+  wants_are = rw (fresh_wants_out, outs-Zip) refl;
 }
 
 pub built_zip : {T E : Type 0} (m : Meaning T) (hubs : List (HubState T)) (e : Expr T) (p : ℕ) (v : Listed T) (items : List (Expr T)) (r : Result (Node (AnyNode T)) E) → e ≡ ZipOf p v → items ≡ v.items → IfOk r (λ t. IsBuiltOver m hubs (Zip p) items t) → IfOk r (λ t. IsBuilt m hubs e t)
@@ -227,6 +234,7 @@ over_latest m hubs p v = record {
       value_Latest (environment m whole joins further) p v at leaf ∙ sym (latest_value m p (in_order (map (meant (environment m whole joins further)) v.items) (at + 1) leaf) (slice_get further at));
   joins_are = rw (leaf_joins_out, outs-Latest) refl;
   edges_are = rw (fresh_edges_out, outs-Latest) refl;
+  wants_are = rw (fresh_wants_out, outs-Latest) refl;
 }
 
 pub built_latest : {T E : Type 0} (m : Meaning T) (hubs : List (HubState T)) (e : Expr T) (p : ℕ) (v : Listed T) (items : List (Expr T)) (r : Result (Node (AnyNode T)) E) → e ≡ LatestOf p v → items ≡ v.items → IfOk r (λ t. IsBuiltOver m hubs (Latest p) items t) → IfOk r (λ t. IsBuilt m hubs e t)

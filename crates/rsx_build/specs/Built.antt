@@ -1,5 +1,5 @@
 -- A tree that was made for an expression.
-use Rattle.std.specs.Prelude.{◌≡◌, ⊤, ℕ, zero, suc, ◌+◌, Bool, false, List, [], ◌∷◌, ◌++◌, length, map, Option, Some, option_and_then, slice_get}
+use Rattle.std.specs.Prelude.{◌≡◌, ⊤, ℕ, zero, suc, ◌+◌, ◌<◌, Bool, false, List, [], ◌∷◌, ◌++◌, length, map, Option, Some, option_and_then, slice_get}
 use Rattle.std.proofs.Math.ListN.{replicate}
 use Rattle.rsx_hub.specs.Hub.{HubState, HasTakenIn, BeginsWith, join}
 use Rattle.rsx_hub.specs.Member.{ending_taken}
@@ -19,9 +19,9 @@ use Rattle.rsx_operators.specs.State.{plain_start}
 use Rattle.rsx_plain.specs.Node.{GivesOperator, plain_ended, start_slot}
 use Rattle.rsx_plain.specs.declared.node.PlainNode.{PlainNode}
 use Rattle.rsx_tree.specs.declared.edge.EdgeState.TheVariants.{Live}
-use Rattle.rsx_tree.specs.declared.inputs.Inputs.{Inputs, End}
+use Rattle.rsx_tree.specs.declared.inputs.Inputs.{Inputs, End, More'}
 use Rattle.rsx_tree.specs.declared.node.Node.{Node}
-use Rattle.rsx_several.specs.Kind.{joined}
+use Rattle.rsx_several.specs.Kind.{joined, first_wanted}
 use Rattle.rsx_several.specs.declared.kind.SeveralKind.{SeveralKind}
 use Rattle.rsx_tree.specs.Balance.{IsBalanced, IsRowBalanced, sent_over}
 use Rattle.rsx_tree.specs.Edges.{EdgeView, closed_if}
@@ -31,9 +31,10 @@ use Rattle.rsx_tree.specs.Tree.{IsJoined, comes_out, notes, edges}
 use Rattle.rsx_node.specs.Any.{any_machine}
 use Rattle.rsx_node.specs.declared.any_node.AnyNode.{AnyNode}
 use Rattle.rsx_node.specs.declared.any_node.AnyNode.TheVariants.{Plain, PublishOn}
-use Rattle.rsx_publish_on.specs.PublishOn.{publish_comes_out, publish_counted}
+use Rattle.rsx_publish_on.specs.PublishOn.{publish_comes_out, publish_counted, publish_wanted}
 use Rattle.rsx_queued.specs.Input.{fresh_input}
 use Rattle.rsx_sources.specs.Machine.{Incoming, quiet as quiet_at}
+use Rattle.rsx_sources.specs.declared.machine.Machine.{Ghosts as Machine}
 use Rattle.rsx_publish_on.specs.declared.node.PublishOnNode.{PublishOnNode}
 
 -- a node that recorded nothing yet: whatever it records is its note
@@ -76,6 +77,39 @@ fresh_below e = closed_if (begins_ended e) (fresh_beside (children e))
 -- the edges below the root of a tree that has just begun: where a node has put out its ending, all below it are closed
 abbrev pub fresh_edges : {T : Type 0} → Expr T → List EdgeView
 fresh_edges {T} = fold-Expr T (List EdgeView) fresh_below
+
+-- ---- what its nodes want first
+
+-- how many items each node of a row and below it wants of each of its inputs, where nothing is asked of any and nothing was sent: a
+-- number for each edge, in their order. The row begins with input `i` of the receiver `r`
+abbrev pub first_wants : {M T : Type 0} → Machine M T → M → ℕ → Inputs M → List ℕ
+first_wants b r i End = []
+first_wants b r i (More' e n p below q beside) = b.wanted r i 0 0 ∷ (first_wants b n 0 below ++ first_wants b r (i + 1) beside)
+
+-- how many items a node of an expression is to ask of each input before something is asked of it
+abbrev pub prefetch_of : {T A : Type 0} → Expr-F T A → ℕ
+prefetch_of (Items v) = 0
+prefetch_of (Range a n) = 0
+prefetch_of (Hub h) = 0
+prefetch_of (layer.Plain g b) = 0
+prefetch_of (Concat v) = 0
+prefetch_of (Merge p v) = p
+prefetch_of (Zip p v) = p
+prefetch_of (Latest p v) = p
+prefetch_of (On k p b) = p
+
+-- the same number for each input, with those below it
+abbrev pub wants_beside : ℕ → List (List ℕ) → List ℕ
+wants_beside p [] = []
+wants_beside p (ws ∷ wss) = p ∷ (ws ++ wants_beside p wss)
+
+-- how many items are to be asked over each edge of an expression's tree before something is asked of the tree
+abbrev pub fresh_wants : {T : Type 0} → Expr T → List ℕ
+fresh_wants {T} = fold-Expr T (List ℕ) (λ e. wants_beside (prefetch_of e) (children e))
+
+-- a node wants this number first of each of so many inputs, from input `i` on
+abbrev pub WantsOfEach : {M T : Type 0} → Machine M T → M → ℕ → ℕ → ℕ → Type 0
+WantsOfEach b n i count p = (k : ℕ) → k < count → b.wanted n (i + k) 0 0 ≡ p
 
 -- ---- the hubs that its leaves read
 
@@ -130,7 +164,8 @@ StandAt all at [] = ⊤
 StandAt all at (n ∷ ns) = (slice_get all at ≡ Some n) × StandAt all (at + 1) ns
 
 -- what comes out of the tree is what the expression means, over all whole values of the hubs that begin with what these took in,
--- where its leaves join them now; nothing is recorded, its edges are as at the start, and its counts are balanced
+-- where its leaves join them now; nothing is recorded, its edges are as at the start, each of its nodes has the expression's
+-- prefetch, and its counts are balanced
 pub record IsBuilt {T : Type 0} (m : Meaning T) (hubs : List (HubState T)) (e : Expr T) (t : Node (AnyNode T)) : Type 0 where
   pub value : (whole : List (Stream T)) (joins : List ℕ) (further : List Note) (at leaf : ℕ) → AreBegun hubs whole → StandAt joins leaf (new_joins hubs e) →
       comes_out any_machine m whole further t at ≡ (meant (environment m whole joins further) e).value at leaf
@@ -139,6 +174,7 @@ pub record IsBuilt {T : Type 0} (m : Meaning T) (hubs : List (HubState T)) (e : 
   pub alone : new_joins hubs e ≡ [] → IsTreeReadAt any_machine [] t
   pub notes : AllUnrecorded (notes any_machine t)
   pub edges : edges t ≡ fresh_edges e
+  pub wants : first_wants any_machine t.machine 0 t.inputs ≡ fresh_wants e
   pub balance : IsBalanced any_machine t 0
 
 -- the tree of a fresh plain operator over another one
@@ -159,6 +195,7 @@ pub record IsPublishOnOver {T : Type 0} (capacity : ℕ) (below t : Node (AnyNod
   pub input : node.input ≡ fresh_input capacity
   pub fresh : (m : Meaning T) (inc : Incoming T) (further : Note) → publish_comes_out m node inc further ≡ quiet_at further inc.first
   pub counted : publish_counted node (0 ∷ []) 0
+  pub wanted : publish_wanted node 0 0 0 ≡ capacity
   pub joined : IsJoined below End row
   pub machine : t.machine ≡ PublishOn node
   pub inputs : t.inputs ≡ row
@@ -170,7 +207,7 @@ abbrev pub new_joins_of : {T : Type 0} → List (HubState T) → List (Expr T) �
 new_joins_of hubs es = in_a_row (map (new_joins hubs) es)
 
 -- a row of trees that was made for these expressions: what comes in is what they mean, side by side. Nothing went over an edge
--- yet, and whatever node takes the row, the counts are balanced
+-- yet, and whatever node takes the row, what is wanted below it is as the expressions say, and the counts are balanced
 pub record AreBuilt {T : Type 0} (m : Meaning T) (hubs : List (HubState T)) (es : List (Expr T)) (row : Inputs (AnyNode T)) : Type 0 where
   pub values : (whole : List (Stream T)) (joins : List ℕ) (further : List Note) (at leaf : ℕ) → AreBegun hubs whole → StandAt joins leaf (new_joins_of hubs es) →
       comes_in any_machine m whole further row at ≡ in_order (map (meant (environment m whole joins further)) es) at leaf
@@ -178,6 +215,7 @@ pub record AreBuilt {T : Type 0} (m : Meaning T) (hubs : List (HubState T)) (es 
   pub alone : new_joins_of hubs es ≡ [] → IsRowReadAt any_machine [] row
   pub notes : AllUnrecorded (notes_of any_machine row)
   pub edges : edges_in row ≡ fresh_beside (map fresh_edges es)
+  pub wants : (n : AnyNode T) (i p : ℕ) → WantsOfEach any_machine n i (length es) p → first_wants any_machine n i row ≡ wants_beside p (map fresh_wants es)
   pub sent : sent_over row ≡ replicate (length es) 0
   pub balance : (n : AnyNode T) (i : ℕ) → IsRowBalanced any_machine n i row
 
@@ -191,4 +229,6 @@ pub record IsBuiltOver {T : Type 0} (m : Meaning T) (hubs : List (HubState T)) (
   pub alone : new_joins_of hubs es ≡ [] → IsTreeReadAt any_machine [] t
   pub notes : AllUnrecorded (notes any_machine t)
   pub edges : edges t ≡ fresh_beside (map fresh_edges es)
+  -- it wants of each input what it wants of its first
+  pub wants : first_wants any_machine t.machine 0 t.inputs ≡ wants_beside (first_wanted kind 0 0) (map fresh_wants es)
   pub balance : IsBalanced any_machine t 0

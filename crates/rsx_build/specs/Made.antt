@@ -1,13 +1,13 @@
 -- What the parts of a tree are made of.
-use Rattle.std.specs.Prelude.{◌≡◌, ◌≤◌, ℕ, Bool, false, [], ◌∷◌, Result, Ok}
+use Rattle.std.specs.Prelude.{◌≡◌, ◌≤◌, ◌<◌, ℕ, Bool, false, [], ◌∷◌, Result, Ok}
 use Rattle.std.proofs.Math.ListN.{replicate}
 use Rattle.rsx_types.specs.declared.stage.Stage.{Stage}
 use Rattle.rsx_types.specs.declared.fault.NoMemory.{NoMemory}
 use Rattle.rsx_operators.specs.State.{plain_start}
 use Rattle.rsx_plain.specs.Node.{GivesOperator, start_slot}
 use Rattle.rsx_plain.specs.declared.node.PlainNode.{PlainNode}
-use Rattle.rsx_several.specs.Kind.{GivesKind, recorded_first}
-use Rattle.rsx_several.specs.Several.{several_counted, several_ended, several_recorded}
+use Rattle.rsx_several.specs.Kind.{GivesKind, first_wanted, recorded_first}
+use Rattle.rsx_several.specs.Several.{several_counted, several_ended, several_recorded, several_wanted}
 use Rattle.rsx_several.specs.declared.kind.SeveralKind.{SeveralKind}
 use Rattle.rsx_several.specs.declared.several_node.SeveralNode.{SeveralNode}
 use Rattle.rsx_queued.specs.Input.{fresh_input}
@@ -39,6 +39,7 @@ pub record IsSeveral {T : Type 0} (kind : SeveralKind) (count : ℕ) (n : AnyNod
   pub recorded : several_recorded node ≡ recorded_first kind
   pub ended : 1 ≤ count → several_ended node ≡ false
   pub counted : 1 ≤ count → several_counted node (replicate count 0) 0
+  pub wanted : (i asked : ℕ) → i < count → several_wanted node i asked 0 ≡ first_wanted kind i asked
 
 -- a fresh `publishOn` as a node of any kind
 pub record IsPublishOn {T : Type 0} (capacity : ℕ) (n : AnyNode T) : Type 0 where

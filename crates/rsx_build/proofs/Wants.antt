@@ -1,0 +1,101 @@
+-- How many items the nodes of a tree that was built want first.
+use Rattle.std.proofs.Common.{◌≡◌, ℕ, zero, suc, ◌+◌, ◌-◌, ◌/◌, ◌<◌, ◌≤◌, Bool, true, false, List, [], ◌∷◌, map, refl, ap, ◌∙◌, arith, Box, Vec, Global}
+use Rattle.std.proofs.Math.Nat.{zero-div}
+use Rattle.std.proofs.lemmas.List.{append-nil}
+use Rattle.rsx_types.specs.declared.names.HubId.{HubId}
+use Rattle.rsx_types.specs.declared.stage.Stage.{Stage}
+use Rattle.rsx_types.specs.declared.stage.Stage.TheVariants.{Map, Filter, Take, Scan, Buffer, Distinct}
+use Rattle.rsx_sources.specs.declared.machine.Machine.{Ghosts as Machine}
+use Rattle.rsx_prefetch.specs.Credits.{credits}
+use Rattle.rsx_operators.specs.State.{plain_start, wanted_from}
+use Rattle.rsx_model.specs.Shape.{children}
+use Rattle.rsx_model.specs.declared.check.TheConstants.{MOST_PREFETCH}
+use Rattle.rsx_model.specs.declared.expr.Expr.{Expr}
+use Rattle.rsx_model.specs.declared.expr.Expr.TheFolds.{fold_out-Expr, map-Expr}
+use Rattle.rsx_model.specs.declared.expr.Expr.TheOpen.{Expr-F}
+use Rattle.rsx_model.specs.declared.expr.Expr.TheOpen as layer
+use Rattle.rsx_model.specs.declared.expr.Expr.TheViews.{Plain, On, out-Expr, outs-Items, outs-Hub, outs-Plain, outs-On}
+use Rattle.rsx_model.specs.declared.expr.Expr.TheVariants.{Items, Hub}
+use Rattle.rsx_model.proofs.Unfold.{children-map}
+use Rattle.rsx_several.specs.Kind.{first_wanted}
+use Rattle.rsx_several.specs.Several.{several_wanted}
+use Rattle.rsx_several.specs.declared.kind.SeveralKind.{SeveralKind}
+use Rattle.rsx_several.specs.declared.kind.SeveralKind.TheVariants.{Concat, Merge, Zip, Latest}
+use Rattle.rsx_several.specs.declared.several_node.SeveralNode.{SeveralNode}
+use Rattle.rsx_tree.specs.declared.inputs.Inputs.{Inputs, End, More'}
+use Rattle.rsx_tree.specs.Inputs.{closed_row, closed_row_if}
+use Rattle.rsx_node.specs.declared.any_node.AnyNode.TheVariants.{Several}
+use Rattle.rsx_node.specs.Any.{any_machine}
+use Rattle.rsx_build.specs.Built.{WantsOfEach, first_wants, fresh_wants, prefetch_of, wants_beside}
+
+-- ---- of a tree
+
+-- closed edges leave the nodes as they are
+first_wants_closed : {M T : Type 0} (b : Machine M T) (r : M) (i : ℕ) (t : Inputs M) → first_wants b r i (closed_row t) ≡ first_wants b r i t
+first_wants_closed b r i End = refl
+first_wants_closed b r i (More' e n p below q beside) = rw (first_wants_closed b n 0 below, first_wants_closed b r (i + 1) beside) refl
+
+pub first_wants_closed_if : {M T : Type 0} (b : Machine M T) (c : Bool) (r : M) (i : ℕ) (t : Inputs M) → first_wants b r i (closed_row_if c t) ≡ first_wants b r i t
+first_wants_closed_if b true r i t = first_wants_closed b r i t
+first_wants_closed_if b false r i t = refl
+
+-- ---- of a node
+
+-- a fresh plain operator wants nothing before something is asked of it
+pub plain_wants : {T : Type 0} (g : Stage T) → wanted_from (plain_start g) 0 0 ≡ 0
+plain_wants (Map f) = refl
+plain_wants (Filter f) = refl
+plain_wants (Take k) = grind arith
+plain_wants (Scan f s) = refl
+plain_wants (Buffer k) = grind arith
+plain_wants (Distinct f) = refl
+
+-- an empty queue asks for all that it can hold
+pub whole_capacity : (p : ℕ) → p ≤ MOST_PREFETCH → credits p 0 ≡ p
+whole_capacity p le = rw (zero-div (p - p / 4)) (omega arith)
+
+-- a fresh node of several inputs wants of each what it wants of its first
+first_wanted_each : (kind : SeveralKind) (i : ℕ) → first_wanted kind i 0 ≡ first_wanted kind 0 0
+first_wanted_each Concat zero = refl
+first_wanted_each Concat (suc i) = refl
+first_wanted_each (Merge p) i = refl
+first_wanted_each (Zip p) i = refl
+first_wanted_each (Latest p) i = refl
+
+pub several_wants : {T : Type 0} (n : SeveralNode T) (kind : SeveralKind) (count : ℕ) → ((i asked : ℕ) → i < count → several_wanted n i asked 0 ≡ first_wanted kind i asked) → WantsOfEach any_machine (Several n) 0 count (first_wanted kind 0 0)
+several_wants n kind count h k lt = ap (λ i. several_wanted n i 0 0) (from_first k) ∙ (h k 0 lt ∙ first_wanted_each kind k)
+  where
+    from_first : (k : ℕ) → 0 + k ≡ k
+    from_first k = omega arith
+
+-- ---- of an expression
+
+prefetch_of-map : {T A B : Type 0} (h : A → B) (x : Expr-F T A) → prefetch_of (map-Expr T A B h x) ≡ prefetch_of x
+prefetch_of-map h (layer.Items v) = refl
+prefetch_of-map h (layer.Range a n) = refl
+prefetch_of-map h (layer.Hub k) = refl
+prefetch_of-map h (layer.Plain g b) = refl
+prefetch_of-map h (layer.Concat v) = refl
+prefetch_of-map h (layer.Merge p v) = refl
+prefetch_of-map h (layer.Zip p v) = refl
+prefetch_of-map h (layer.Latest p v) = refl
+prefetch_of-map h (layer.On k p b) = refl
+
+-- one level
+pub fresh_wants_out : {T : Type 0} (e : Expr T) → fresh_wants e ≡ wants_beside (prefetch_of (out-Expr T e)) (map fresh_wants (children (out-Expr T e)))
+fresh_wants_out {T} e =
+    fold_out-Expr T (List ℕ) (λ x. wants_beside (prefetch_of x) (children x)) e
+    ∙ (ap (λ p. wants_beside p (children (map-Expr T (Expr T) (List ℕ) fresh_wants (out-Expr T e)))) (prefetch_of-map fresh_wants (out-Expr T e))
+    ∙ ap (wants_beside (prefetch_of (out-Expr T e))) (children-map fresh_wants (out-Expr T e)))
+
+pub wants_Items : {T : Type 0} (v : Vec T Global) → fresh_wants (Items v) ≡ []
+wants_Items {T} v = rw (fold_out-Expr, outs-Items) refl
+
+pub wants_Hub : (T : Type 0) (h : HubId) → fresh_wants {T = T} (Hub h) ≡ []
+wants_Hub T h = rw (fold_out-Expr, outs-Hub) refl
+
+pub wants_Plain : {T : Type 0} (g : Stage T) (b : Box (Expr T) Global) → fresh_wants (Plain g b) ≡ 0 ∷ fresh_wants b.value
+wants_Plain {T} g b = rw (fold_out-Expr, outs-Plain) (ap (λ l. 0 ∷ l) (append-nil (fresh_wants b.value)))
+
+pub wants_On : {T : Type 0} (k p : ℕ) (b : Box (Expr T) Global) → fresh_wants (On k p b) ≡ p ∷ fresh_wants b.value
+wants_On {T} k p b = rw (fold_out-Expr, outs-On) (ap (λ l. p ∷ l) (append-nil (fresh_wants b.value)))
