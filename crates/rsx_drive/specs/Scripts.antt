@@ -2,8 +2,8 @@
 use Rattle.std.specs.Prelude.{◌≡◌, ◌⊎◌, ℕ, List, [], ◌∷◌, ◌++◌, Some, None, Ok, Err}
 use Rattle.rsx_demo.specs.Demo.{demo_meaning}
 use Rattle.rsx_demo.specs.declared.val.Val.{Val}
-use Rattle.rsx_history.specs.History.{History}
-use Rattle.rsx_history.specs.Stands.{StandsFor}
+use Rattle.rsx_session.specs.History.{History}
+use Rattle.rsx_session.specs.Stands.{StandsFor}
 use Rattle.rsx_words.specs.declared.words.LineRefusal.{LineRefusal}
 use Rattle.rsx_words.specs.declared.words.LineRefusal.TheVariants.{NoMemory}
 use Rattle.rsx_commands.specs.Commands.{meaning_of_line}

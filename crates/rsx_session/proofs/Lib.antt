@@ -4,3 +4,4 @@ pub mod Compared
 pub mod Lines
 pub mod Looks
 pub mod Pumps
+pub mod Starts
