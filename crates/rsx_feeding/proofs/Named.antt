@@ -9,13 +9,13 @@ use Rattle.rsx_publishing.specs.declared.feed.Feed.{Feed}
 use Rattle.rsx_types.specs.declared.signal.Signal.{Signal}
 use Rattle.rsx_feeding.specs.Stands.{feed_of, place_of}
 
-same_number : (n h : ℕ) → nat_eq n h ≡ true → n ≡ h
+pub same_number : (n h : ℕ) → nat_eq n h ≡ true → n ≡ h
 same_number n h e = grind (arith, nat_tests, e)
 
-is_number : (n h : ℕ) → n ≡ h → nat_eq n h ≡ true
+pub is_number : (n h : ℕ) → n ≡ h → nat_eq n h ≡ true
 is_number n h e = grind (arith, nat_tests, e)
 
-other_number : (n h : ℕ) → (n ≡ h → ⊥) → nat_eq n h ≡ false
+pub other_number : (n h : ℕ) → (n ≡ h → ⊥) → nat_eq n h ≡ false
 other_number n h k = by_test (nat_eq n h) refl
   where
     by_test : (b : Bool) → nat_eq n h ≡ b → nat_eq n h ≡ false
