@@ -1,5 +1,5 @@
 -- What the calls of hubs and feeds did, as moves of the rows.
-use Rattle.std.proofs.Common.{◌≡◌, ℕ, zero, suc, ◌+◌, ◌<◌, ◌≤◌, Bool, true, false, ◌&&◌, if◌then◌else◌, List, [], ◌∷◌, length, slice_get, Option, Some, None, is_some, is_none, refl, ap, sym, ◌∙◌, subst, arith}
+use Rattle.std.proofs.Common.{◌≡◌, ℕ, zero, suc, ◌<◌, ◌≤◌, Bool, true, false, ◌&&◌, if◌then◌else◌, List, [], ◌∷◌, length, slice_get, Option, Some, None, is_some, is_none, refl, ap, sym, ◌∙◌, subst, arith}
 use Rattle.std.proofs.Math.ListN.{set}
 use Rattle.std.proofs.lemmas.List.{length-set}
 use Rattle.rsx_history.proofs.Publishes.{handed_length}
@@ -12,7 +12,7 @@ use Rattle.rsx_tree.specs.declared.look.NodeMove.{NodeMove}
 use Rattle.rsx_types.specs.Meaning.{Meaning, Allocates}
 use Rattle.rsx_feeding.specs.Moves.{IsAcceptedAt, IsFedAt, IsFeedMoved, IsMadeInFeed, IsMovedBy, accepts_at, accepts_in, allocates_inside, feed_allocates, feed_enabled, has_feed, is_out, rows_of, sends, sends_where, works}
 use Rattle.rsx_feeding.specs.Stands.{Rows, feed_of, place_of}
-use Rattle.rsx_feeding.proofs.Places.{IsPlaced, feed_placed, feeds_length, unfed_there}
+use Rattle.rsx_feeding.proofs.Places.{feed_placed, feeds_length, unfed_there}
 
 there : {A : Type 0} (xs : List A) (n : ℕ) → n < length xs → (x : A) × (slice_get xs n ≡ Some x)
 there [] n l = absurd (omega (arith, l))
@@ -23,6 +23,10 @@ none_there : {A : Type 0} (xs : List A) (n : ℕ) → length xs ≤ n → slice_
 none_there [] n l = refl
 none_there (x ∷ xs) zero l = absurd (omega (arith, l))
 none_there (x ∷ xs) (suc n) l = none_there xs n (omega (arith, l))
+
+-- the place that was found
+pub place_is : {T : Type 0} (h : ℕ) (feeds fs : List (Feed T)) (found o : Option ℕ) → fs ≡ feeds → found ≡ place_of fs h → found ≡ o → place_of feeds h ≡ o
+place_is h feeds fs found o same is e = ap (λ l. place_of l h) (sym same) ∙ (sym is ∙ e)
 
 -- ---- an Accept
 

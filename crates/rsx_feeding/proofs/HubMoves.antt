@@ -1,5 +1,5 @@
 -- A hub that took a signal in, from its emitter or from its feed.
-use Rattle.std.proofs.Common.{◌≡◌, ℕ, ◌+◌, ◌<◌, ◌≤◌, Bool, true, false, nat_lt, if◌then◌else◌, add-zero, List, [], ◌∷◌, ◌++◌, length, length-append, drop, Option, Some, refl, ap, sym, ◌∙◌, arith, append_assoc}
+use Rattle.std.proofs.Common.{◌≡◌, ℕ, ◌+◌, ◌<◌, ◌≤◌, Bool, true, false, nat_lt, if◌then◌else◌, add-zero, List, [], ◌∷◌, ◌++◌, length, length-append, drop, Some, refl, ap, sym, ◌∙◌, arith, append_assoc}
 use Rattle.std.proofs.lemmas.Bool.Decides.{nat_tests}
 use Rattle.rsx_hub.specs.Hub.{HubState, accepted, hub_value, items_of, taken_in, waiting}
 use Rattle.rsx_hub.specs.Waiting.{first_waiting}

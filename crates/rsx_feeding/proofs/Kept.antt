@@ -1,15 +1,13 @@
 -- A graph with feeds stands for what has happened, after each move.
-use Rattle.std.proofs.Common.{◌≡◌, ℕ, zero, suc, ◌+◌, ◌<◌, Bool, true, false, ◌&&◌, nat_eq, if◌then◌else◌, List, [], ◌∷◌, length, slice_get, Option, Some, None, is_some, refl, ap, sym, ◌∙◌, subst, arith}
+use Rattle.std.proofs.Common.{◌≡◌, ℕ, zero, suc, ◌+◌, Bool, true, false, ◌&&◌, nat_eq, if◌then◌else◌, List, [], ◌∷◌, length, slice_get, Option, Some, None, refl, ap, sym, ◌∙◌, subst, arith}
 use Rattle.std.proofs.Math.ListN.{set}
 use Rattle.std.specs.Prelude.{option_and_then}
 use Rattle.rsx_history.specs.History.{changed}
 use Rattle.rsx_history.specs.Stands.{AllStand}
 use Rattle.rsx_hub.specs.Hub.{HubState, items_of}
-use Rattle.rsx_model.specs.declared.expr.Expr.{Expr}
 use Rattle.rsx_pipe.proofs.Signals.{some_same}
 use Rattle.rsx_pipe.specs.Feeding.{inside_enabled, next_out}
 use Rattle.rsx_pipe.specs.Output.{IsOpenAt, with_signal, with_signal_at}
-use Rattle.rsx_pipe.specs.Part.{Part}
 use Rattle.rsx_pipe.specs.Published.{IsTaken}
 use Rattle.rsx_publishing.proofs.Feeds.{worked_none, worked_on}
 use Rattle.rsx_publishing.specs.Feeds.{FeedStands}
@@ -24,8 +22,8 @@ use Rattle.rsx_types.specs.Stream.{Stream}
 use Rattle.rsx_types.specs.declared.names.HubId.{HubId}
 use Rattle.rsx_types.specs.declared.signal.Signal.{Signal}
 use Rattle.rsx_feeding.specs.History.{History, HubPast, Source, accepted_at, counted, emitted, fed, sent_at, with_accepted, with_sent}
-use Rattle.rsx_feeding.specs.Moves.{IsAcceptedAt, IsFedAt, IsFeedMoved, IsMadeInFeed, IsMovedBy, IsWorkedAt, feed_enabled, has_feed, is_out, next_sent, sends, sent_by, with_feed_moved, works, works_where}
-use Rattle.rsx_feeding.specs.Stands.{HubStands, HubsStand, IsFedBy, Rows, SourceStands, StandsFor, feed_of, place_of}
+use Rattle.rsx_feeding.specs.Moves.{IsAcceptedAt, IsFedAt, IsFeedMoved, IsMadeInFeed, IsMovedBy, IsWorkedAt, feed_enabled, has_feed, is_out, next_sent, sends, with_feed_moved, works, works_where}
+use Rattle.rsx_feeding.specs.Stands.{HubStands, Rows, SourceStands, StandsFor, feed_of, place_of}
 use Rattle.rsx_feeding.proofs.HubMoves.{has_accepted, has_taken}
 use Rattle.rsx_feeding.proofs.Named.{feed_named, is_number, same_number}
 use Rattle.rsx_feeding.proofs.Places.{feed_after, other_feed, place_handed, place_set, placed_feed, unfed_handed}

@@ -93,6 +93,7 @@ fn send<O: Ops>(
     at: usize,
 ) -> Result<(), NotMade>
     requires there { hub.0 < length hubs.old.items }
+    requires within { at < length feeds.old.items }
     requires place { spec.place_of feeds.old.items hub.0 ≡ Some at }
     ensures hubs { length hubs.new.items ≡ length hubs.old.items }
     ensures feeds { length feeds.new.items ≡ length feeds.old.items }
@@ -117,7 +118,8 @@ fn work<O: Ops>(
     at: usize,
     step: NodeMove,
 ) -> Result<(), NotMade>
-    requires { spec.place_of feeds.old.items hub.0 ≡ Some at }
+    requires within { at < length feeds.old.items }
+    requires place { spec.place_of feeds.old.items hub.0 ≡ Some at }
     ensures count { length feeds.new.items ≡ length feeds.old.items }
     ensures effect { OnOk result (IsWorkedAt (O.meaning ops.now) step hub.0 feeds.old.items feeds.new.items) }
     ensures enabled { OnOk result (works (O.meaning ops.now) feeds.old.items hub.0 step ≡ true) }

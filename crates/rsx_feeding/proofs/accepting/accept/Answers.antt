@@ -1,19 +1,18 @@
-use Rattle.std.proofs.Common.{◌≡◌, ◌<◌, ◌∙◌, ap, arith, length, refl, sym}
-use Rattle.rsx_feeding.proofs.Calls.{fed_accepts_none}
+use Rattle.std.proofs.Common.{◌<◌, arith, length}
+use Rattle.rsx_feeding.proofs.Calls.{fed_accepts_none, place_is}
 use Rattle.rsx_feeding.proofs.Kept.{accepted_stands}
 use Rattle.rsx_feeding.proofs.Places.{unfed_there}
 use Rattle.rsx_feeding.specs.Moves.{rows_of}
-use Rattle.rsx_feeding.specs.Stands.{place_of}
 use Rattle.rsx_feeding.proofs.accepting.accept.Goals as goal
 
 pub returns-in-Some-clause-err : goal.returns-in-Some-clause-err
 returns-in-Some-clause-err g c =
     let l = c.len.ensures in
     let within : c.args.hub.0 < length c.args.hubs.now.items = omega (arith, l, c.if-hub-len.false) in
-    (within, fed_accepts_none c.args.hub.0 c.in-Some.field-0 c.args.hubs.now.items c.args.feeds.now.items c.args.subscriptions.now.items (ap (λ l. place_of l c.args.hub.0) (sym c.deref.ensures.value) ∙ (sym c.place_of.ensures ∙ c.in-Some.is)))
+    (within, fed_accepts_none c.args.hub.0 c.in-Some.field-0 c.args.hubs.now.items c.args.feeds.now.items c.args.subscriptions.now.items (place_is c.args.hub.0 c.args.feeds.now.items c.deref.result.now c.place_of.result _ c.deref.ensures.value c.place_of.ensures c.in-Some.is))
 
 pub accept_known-requires-clause-unfed : goal.accept_known-requires-clause-unfed
-accept_known-requires-clause-unfed g c κs within = unfed_there c.args.feeds.now.items c.args.hub.0 (ap (λ l. place_of l c.args.hub.0) (sym c.deref.ensures.value) ∙ (sym c.place_of.ensures ∙ c.in_default.is))
+accept_known-requires-clause-unfed g c κs within = unfed_there c.args.feeds.now.items c.args.hub.0 (place_is c.args.hub.0 c.args.feeds.now.items c.deref.result.now c.place_of.result _ c.deref.ensures.value c.place_of.ensures c.in_default.is)
 
 pub returns-in-Ok-clause-stands : goal.returns-in-Ok-clause-stands
 returns-in-Ok-clause-stands g c = λ m h s.

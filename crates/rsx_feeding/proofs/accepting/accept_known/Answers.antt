@@ -1,5 +1,5 @@
-use Rattle.std.proofs.Common.{◌≡◌, ◌∙◌, Bool, ap, length, refl, subst, sym, true}
-use Rattle.std.proofs.lemmas.List.{length-set, with_items_is}
+use Rattle.std.proofs.Common.{◌∙◌, Bool, ap, length, refl, subst, sym, true}
+use Rattle.std.proofs.lemmas.List.{with_items_is}
 use Rattle.rsx_history.proofs.Graphs.{found, set_same}
 use Rattle.rsx_history.proofs.Publishes.{handed_length}
 use Rattle.rsx_sources.specs.Steps.{IsNotMade}
