@@ -76,7 +76,14 @@ fn accept_known<O: Ops>(
     ensures err { IfErr result (IsNotMade (accepts_at (rows_of hubs.old.items feeds.old.items subscriptions.old.items) hub.0)) }
     ensures same { OnErr result ((hubs.new.items ≡ hubs.old.items) × (feeds.new.items ≡ feeds.old.items) × (subscriptions.new.items ≡ subscriptions.old.items)) }
 {
-    match accept_with_feeds(alloc, ops, &mut hubs[hub.0 as usize], hub.0, feeds, subscriptions) {
+    match accept_with_feeds(
+        alloc,
+        ops,
+        &mut hubs[hub.0 as usize],
+        hub.0,
+        feeds,
+        subscriptions,
+    ) {
         Ok(()) => Ok(()),
         Err(why) => Err(why),
     }

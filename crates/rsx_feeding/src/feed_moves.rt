@@ -40,7 +40,7 @@ pub fn make_in_feed<O: Ops>(
     ensures stands { OnOk result ((h : History O.Item) →
         StandsFor (O.meaning ops.now) (rows_of hubs.old.items feeds.old.items subscriptions.old.items) h →
         StandsFor (O.meaning ops.now) (rows_of hubs.new.items feeds.new.items subscriptions.new.items)
-            (with_feed_moved (O.meaning ops.now) (rows_of hubs.old.items feeds.old.items subscriptions.old.items) step hub.0 h)) }
+        (with_feed_moved (O.meaning ops.now) (rows_of hubs.old.items feeds.old.items subscriptions.old.items) step hub.0 h)) }
     ensures effect { OnOk result (IsFeedMoved (O.meaning ops.now) step hub.0 (rows_of hubs.old.items feeds.old.items subscriptions.old.items) (rows_of hubs.new.items feeds.new.items subscriptions.new.items)) }
     ensures enabled { OnOk result (feed_enabled (O.meaning ops.now) (rows_of hubs.old.items feeds.old.items subscriptions.old.items) hub.0 step ≡ true) }
     ensures err { IfErr result (IsFeedRefusal (has_feed (rows_of hubs.old.items feeds.old.items subscriptions.old.items) hub.0)
@@ -103,7 +103,14 @@ fn send<O: Ops>(
     ensures err { IfErr result (IsNotMade (sends (O.meaning ops.now) (rows_of hubs.old.items feeds.old.items subscriptions.old.items) hub.0)) }
     ensures same { OnErr result ((hubs.new.items ≡ hubs.old.items) × (feeds.new.items ≡ feeds.old.items) × (subscriptions.new.items ≡ subscriptions.old.items)) }
 {
-    match send_to_hub(alloc, ops, at, &mut hubs[hub.0 as usize], feeds, subscriptions) {
+    match send_to_hub(
+        alloc,
+        ops,
+        at,
+        &mut hubs[hub.0 as usize],
+        feeds,
+        subscriptions,
+    ) {
         Ok(()) => Ok(()),
         Err(why) => Err(why),
     }
