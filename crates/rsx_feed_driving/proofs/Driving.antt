@@ -1,28 +1,25 @@
 -- Moves of a graph with feeds, one after the other.
-use Rattle.std.proofs.Common.{◌≡◌, ℕ, zero, suc, ◌+◌, ◌<◌, ◌≤◌, Bool, true, false, ◌&&◌, ◌⊎◌, inl, inr, if◌then◌else◌, List, [], ◌∷◌, ◌++◌, length, length-append, slice_get, is_some, refl, ap, sym, ◌∙◌, subst, arith, append_assoc, Option, Some, None, Result}
+use Rattle.std.proofs.Common.{◌≡◌, ℕ, zero, suc, ◌+◌, ◌<◌, ◌≤◌, true, ◌&&◌, ◌⊎◌, inl, inr, if◌then◌else◌, List, [], ◌∷◌, ◌++◌, length, length-append, slice_get, is_some, refl, ap, sym, ◌∙◌, subst, arith, append_assoc, Option, Some, None}
 use Rattle.std.proofs.lemmas.List.{append-nil}
 use Rattle.std.specs.Option.{option_to_list}
 use Rattle.rsx_feeding.specs.History.{History, delivered, with_delivery, with_made}
-use Rattle.rsx_feeding.specs.Moves.{accepts_at, accepts_in, feed_enabled, has_feed, is_out, rows_of, sends, works}
+use Rattle.rsx_feeding.specs.Moves.{accepts_in, is_out, sends, works}
 use Rattle.rsx_feeding.specs.Stands.{Rows, StandsFor, feed_of}
 use Rattle.rsx_history.proofs.Graphs.{all_quiet}
 use Rattle.rsx_history.specs.Pumped.{AllPumped, AreQuiet, IsSubAwake, IsSubMoveMade}
 use Rattle.rsx_history.specs.Stands.{IsMade, enabled_in_tree as sub_enabled}
-use Rattle.rsx_subscriber.specs.Moves.{IsNumbered, node_move, tree_of}
+use Rattle.rsx_subscriber.specs.Moves.{tree_of}
 use Rattle.rsx_subscriber.specs.Pumped.{Leads}
 use Rattle.rsx_subscriber.specs.Stands.{IsMadeAnswer}
 use Rattle.rsx_subscriber.specs.declared.subscription.Subscription.{Subscription}
-use Rattle.rsx_tree.specs.declared.look.NodeMove.{NodeMove}
 use Rattle.rsx_tree.specs.declared.look.NodeMove.TheVariants.{Ask as NodeAsk, Send as NodeSend, Pick as NodePick, Row as NodeRow}
 use Rattle.rsx_types.specs.Meaning.{Meaning}
-use Rattle.rsx_types.specs.declared.names.HubId.{HubId}
 use Rattle.rsx_types.specs.declared.names.Move.{Move}
 use Rattle.rsx_types.specs.declared.names.Move.TheVariants.{Ask, Send, Take, Pick, Row, Accept}
 use Rattle.rsx_types.specs.declared.names.SubId.{SubId}
-use Rattle.rsx_types.specs.declared.names.Tree.{Tree}
 use Rattle.rsx_types.specs.declared.names.Tree.TheVariants.{Sub, Feed as FeedOf}
 use Rattle.rsx_types.specs.declared.signal.Signal.{Signal}
-use Rattle.rsx_feed_driving.specs.Moves.{IsMoved, enabled_in_tree, feed_move_enabled, is_enabled, sent}
+use Rattle.rsx_feed_driving.specs.Moves.{IsMoved, is_enabled, sent}
 use Rattle.rsx_feed_driving.specs.Pumped.{AreHubsQuiet, AreMade, IsAllQuiet, IsAnyAwake, IsHubQuiet, IsMoveMade, LeadTo, Made, after_moves, delivered_by}
 
 -- ---- one list of moves behind another
@@ -69,11 +66,11 @@ with_subs g subs = record { hubs = g.hubs; feeds = g.feeds; subs = subs }
 
 -- a move of a subscription is one of the graph
 sub_move : {T : Type 0} (m : Meaning T) (g : Rows T) (mv : Move) (old new : List (Subscription T)) (o : Option (SubId × Signal T)) → sub_enabled m old (tree_of mv) mv ≡ true → IsMade m mv (tree_of mv) old new o → IsMadeAnswer mv o → IsMoveMade m (with_subs g old) (record { move = mv; delivered = o; fed = None }) (with_subs g new)
-sub_move m g (Ask (Sub i) n) old new o can effect answer = record { enabled = can; effect = (effect, (refl, refl)); answer = answer; fed = refl }
-sub_move m g (Send (Sub i) n) old new o can effect answer = record { enabled = can; effect = (effect, (refl, refl)); answer = answer; fed = refl }
-sub_move m g (Take (Sub i) n) old new o can effect answer = record { enabled = can; effect = (effect, (refl, refl)); answer = answer; fed = refl }
-sub_move m g (Pick (Sub i) n k) old new o can effect answer = record { enabled = can; effect = (effect, (refl, refl)); answer = answer; fed = refl }
-sub_move m g (Row (Sub i) n) old new o can effect answer = record { enabled = can; effect = (effect, (refl, refl)); answer = answer; fed = refl }
+sub_move m g (Ask (Sub i) n) old new o can effect answer = record { enabled = can; effect = (effect, refl, refl); answer = answer; fed = refl }
+sub_move m g (Send (Sub i) n) old new o can effect answer = record { enabled = can; effect = (effect, refl, refl); answer = answer; fed = refl }
+sub_move m g (Take (Sub i) n) old new o can effect answer = record { enabled = can; effect = (effect, refl, refl); answer = answer; fed = refl }
+sub_move m g (Pick (Sub i) n k) old new o can effect answer = record { enabled = can; effect = (effect, refl, refl); answer = answer; fed = refl }
+sub_move m g (Row (Sub i) n) old new o can effect answer = record { enabled = can; effect = (effect, refl, refl); answer = answer; fed = refl }
 sub_move m g (Ask (FeedOf h) n) old new o can effect answer = absurd effect
 sub_move m g (Send (FeedOf h) n) old new o can effect answer = absurd effect
 sub_move m g (Take (FeedOf h) n) old new o can effect answer = absurd effect

@@ -126,6 +126,7 @@ fn first_of_feed<T: Drop>(
     at: usize,
 ) -> Option<Move>
     requires there { hub.0 < length hubs.now.items }
+    requires within { at < length feeds.now.items }
     requires place { spec.place_of feeds.now.items hub.0 ≡ Some at }
     ensures some { (m : Meaning T) → IfSome result (λ step. is_enabled m (rows_of hubs.now.items feeds.now.items subscriptions.now.items) step ≡ true) }
     ensures still { IfSome result (λ step. (o : Option (SubId × Signal T)) → IsMadeAnswer step o → o ≡ None) }

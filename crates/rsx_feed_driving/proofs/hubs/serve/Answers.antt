@@ -1,4 +1,4 @@
-use Rattle.std.proofs.Common.{◌≡◌, ◌++◌, ◌∙◌, [], Option, ap, arith, refl, sym}
+use Rattle.std.proofs.Common.{◌++◌, ◌∙◌, [], Option, ap, arith, refl, sym}
 use Rattle.std.specs.Option.{option_to_list}
 use Rattle.rsx_types.specs.declared.names.SubId.{SubId}
 use Rattle.rsx_types.specs.declared.signal.Signal.{Signal}
