@@ -111,7 +111,12 @@ fn first_of_emitter<T: Drop>(
     ensures still { IfSome result (λ step. (o : Option (SubId × Signal T)) → IsMadeAnswer step o → o ≡ None) }
     ensures none { (m : Meaning T) → IfNone result (IsHubQuiet m (rows_of hubs.now.items feeds.now.items subscriptions.now.items) hub.0) }
 {
-    match can_accept_with_feeds(u64::from(hub.0), &hubs[hub.0 as usize], feeds, subscriptions) {
+    match can_accept_with_feeds(
+        u64::from(hub.0),
+        &hubs[hub.0 as usize],
+        feeds,
+        subscriptions,
+    ) {
         true => Some(Move::Accept(hub)),
         false => None,
     }

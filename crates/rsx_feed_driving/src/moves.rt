@@ -40,7 +40,7 @@ pub fn make<O: Ops>(
     ensures stands { IfOk result (λ o. (h : History O.Item) →
         StandsFor (O.meaning ops.now) (rows_of hubs.old.items feeds.old.items subscriptions.old.items) h →
         StandsFor (O.meaning ops.now) (rows_of hubs.new.items feeds.new.items subscriptions.new.items)
-            (with_made step o (sent (O.meaning ops.now) (rows_of hubs.old.items feeds.old.items subscriptions.old.items) step) h)) }
+        (with_made step o (sent (O.meaning ops.now) (rows_of hubs.old.items feeds.old.items subscriptions.old.items) step) h)) }
     ensures answer { IfOk result (λ o. IsMadeAnswer step o) }
     ensures enabled { OnOk result (is_enabled (O.meaning ops.now) (rows_of hubs.old.items feeds.old.items subscriptions.old.items) step ≡ true) }
     ensures effect { IfOk result (λ o. IsMoved (O.meaning ops.now) step (rows_of hubs.old.items feeds.old.items subscriptions.old.items) (rows_of hubs.new.items feeds.new.items subscriptions.new.items) o) }
@@ -109,7 +109,7 @@ fn make_of_feed<O: Ops>(
     ensures stands { OnOk result ((h : History O.Item) →
         StandsFor (O.meaning ops.now) (rows_of hubs.old.items feeds.old.items subscriptions.old.items) h →
         StandsFor (O.meaning ops.now) (rows_of hubs.new.items feeds.new.items subscriptions.new.items)
-            (with_sent (sent_by_feed (O.meaning ops.now) (rows_of hubs.old.items feeds.old.items subscriptions.old.items) hub.0 inside) hub.0 h)) }
+        (with_sent (sent_by_feed (O.meaning ops.now) (rows_of hubs.old.items feeds.old.items subscriptions.old.items) hub.0 inside) hub.0 h)) }
     ensures enabled { OnOk result (feed_move_enabled (O.meaning ops.now) (rows_of hubs.old.items feeds.old.items subscriptions.old.items) hub.0 inside ≡ true) }
     ensures effect { OnOk result (IsMovedInFeed (O.meaning ops.now) inside hub.0 (rows_of hubs.old.items feeds.old.items subscriptions.old.items) (rows_of hubs.new.items feeds.new.items subscriptions.new.items)) }
     ensures err { IfErr result (IsFeedRefusal (has_feed (rows_of hubs.old.items feeds.old.items subscriptions.old.items) hub.0)
@@ -118,7 +118,15 @@ fn make_of_feed<O: Ops>(
     ensures same { OnErr result ((hubs.new.items ≡ hubs.old.items) × (feeds.new.items ≡ feeds.old.items) × (subscriptions.new.items ≡ subscriptions.old.items)) }
 {
     match inside {
-        Some(move_inside) => match make_in_feed(alloc, ops, hubs, feeds, subscriptions, hub, move_inside) {
+        Some(move_inside) => match make_in_feed(
+            alloc,
+            ops,
+            hubs,
+            feeds,
+            subscriptions,
+            hub,
+            move_inside,
+        ) {
             Ok(()) => Ok(()),
             Err(why) => Err(why),
         },
