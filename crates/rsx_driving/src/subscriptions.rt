@@ -11,8 +11,14 @@ use rsx_subscriber::{Deliveries, Subscription};
 use rsx_types::{NoMemory, Ops, SubId};
 use std::alloc::Global;
 
-/// Drives all subscriptions, one after the other, until no move of theirs is enabled.
-pub(crate) fn drive<O: Ops>(
+/// Drives all subscriptions, one after the other, until no move of theirs is enabled (Idle, with what is left of the budget) or
+/// `budget` moves were made (Budget); where both hold it answers Idle. What is delivered is put into `out`, behind what stands
+/// there.
+///
+/// # Errors
+/// [`Refusal::NoMemory`] where a growth was refused; the moves made before stand, and their deliveries are in `out`. It comes
+/// only where `out` has no room for one signal more, or where some node of a subscription's tree may allocate.
+pub fn drive<O: Ops>(
     alloc: Global,
     ops: &O,
     subscriptions: &mut Vec<Subscription<O::Item>>,

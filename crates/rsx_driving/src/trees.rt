@@ -19,7 +19,7 @@ use std::alloc::Global;
 /// # Errors
 /// G2 for a subscription that isn't there, else G7 exactly where the move isn't enabled, and G8 where a growth was refused, of a
 /// move that may allocate; nothing changed.
-pub(crate) fn make_in_tree<O: Ops>(
+pub fn make_in_tree<O: Ops>(
     alloc: Global,
     ops: &O,
     subscriptions: &mut Vec<Subscription<O::Item>>,
@@ -52,7 +52,7 @@ pub(crate) fn make_in_tree<O: Ops>(
 ///
 /// # Errors
 /// G2 for a subscription that isn't there, else G7 exactly where the move isn't enabled; nothing changed.
-pub(crate) fn take<T: Drop>(
+pub fn take<T: Drop>(
     subscriptions: &mut Vec<Subscription<T>>,
     sub: SubId,
     node: NodeId,

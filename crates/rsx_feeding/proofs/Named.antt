@@ -1,21 +1,17 @@
 -- The feeds of hubs, found by the numbers of their hubs.
-use Rattle.std.proofs.Common.{◌≡◌, ℕ, zero, suc, ◌+◌, ◌≤◌, Bool, true, false, nat_eq, if◌then◌else◌, List, [], ◌∷◌, length, drop, slice_get, Option, Some, None, option_map, refl, ap, sym, ◌∙◌, subst, arith}
-use Rattle.std.proofs.Math.ListN.{set}
+use Rattle.std.proofs.Common.{◌≡◌, ℕ, zero, suc, ◌+◌, ◌≤◌, Bool, true, false, nat_eq, if◌then◌else◌, List, [], ◌∷◌, length, drop, slice_get, Option, Some, None, option_map, refl, ap, sym, ◌∙◌, arith}
 use Rattle.std.proofs.lemmas.Bool.Decides.{nat_tests}
 use Rattle.rsx_pipe.proofs.Signals.{some_same}
-use Rattle.rsx_publishing.specs.Feeds.{IsFeedHanded}
-use Rattle.rsx_publishing.specs.Publishing.{AllFeedsHanded}
 use Rattle.rsx_publishing.specs.declared.feed.Feed.{Feed}
-use Rattle.rsx_types.specs.declared.signal.Signal.{Signal}
 use Rattle.rsx_feeding.specs.Stands.{feed_of, place_of}
 
-same_number : (n h : ℕ) → nat_eq n h ≡ true → n ≡ h
+pub same_number : (n h : ℕ) → nat_eq n h ≡ true → n ≡ h
 same_number n h e = grind (arith, nat_tests, e)
 
-is_number : (n h : ℕ) → n ≡ h → nat_eq n h ≡ true
+pub is_number : (n h : ℕ) → n ≡ h → nat_eq n h ≡ true
 is_number n h e = grind (arith, nat_tests, e)
 
-other_number : (n h : ℕ) → (n ≡ h → ⊥) → nat_eq n h ≡ false
+pub other_number : (n h : ℕ) → (n ≡ h → ⊥) → nat_eq n h ≡ false
 other_number n h k = by_test (nat_eq n h) refl
   where
     by_test : (b : Bool) → nat_eq n h ≡ b → nat_eq n h ≡ false

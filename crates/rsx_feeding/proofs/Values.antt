@@ -1,5 +1,5 @@
 -- The values of hubs: what they took in, and then what is still to come of them. With these the headline holds.
-use Rattle.std.proofs.Common.{◌≡◌, ℕ, zero, suc, ◌+◌, Bool, true, false, add-zero, List, [], ◌∷◌, ◌++◌, length, length-append, map, take, slice_get, Option, Some, None, refl, ap, sym, ◌∙◌, subst, arith, append_assoc}
+use Rattle.std.proofs.Common.{◌≡◌, ℕ, zero, suc, ◌+◌, Bool, true, false, add-zero, List, [], ◌∷◌, ◌++◌, length, length-append, map, take, slice_get, Some, refl, ap, sym, ◌∙◌, subst, arith, append_assoc}
 use Rattle.std.proofs.lemmas.List.{append-nil}
 use Rattle.rsx_history.specs.Headline.{AllHold}
 use Rattle.rsx_history.specs.Stands.{AllStand}

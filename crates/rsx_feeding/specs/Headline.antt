@@ -1,5 +1,5 @@
 -- The headline of a graph with feeds, over the definitions alone.
-use Rattle.std.specs.Prelude.{◌≡◌, ℕ, List, [], ◌∷◌, ◌++◌, length, Some}
+use Rattle.std.specs.Prelude.{◌≡◌, List, [], ◌∷◌, ◌++◌, length, Some}
 use Rattle.rsx_history.specs.Headline.{AllHold}
 use Rattle.rsx_pipe.specs.Part.{evaluated}
 use Rattle.rsx_pipe.specs.Tree.{notes_of}

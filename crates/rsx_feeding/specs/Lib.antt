@@ -1,4 +1,5 @@
 -- Definitions that contracts cite.
 pub mod Headline
 pub mod History
+pub mod Moves
 pub mod Stands

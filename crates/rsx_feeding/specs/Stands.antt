@@ -1,5 +1,5 @@
 -- What the hubs, feeds and subscriptions of a graph stand for.
-use Rattle.std.specs.Prelude.{◌≡◌, ℕ, suc, Bool, true, false, nat_eq, if◌then◌else◌, List, [], ◌∷◌, length, Option, Some, None, option_map, slice_get}
+use Rattle.std.specs.Prelude.{◌≡◌, ℕ, suc, true, false, nat_eq, if◌then◌else◌, List, [], ◌∷◌, length, Option, Some, None, option_map, slice_get}
 use Rattle.rsx_hub.specs.Hub.{HubState, hub_value}
 use Rattle.rsx_history.specs.Stands.{AllStand}
 use Rattle.rsx_model.specs.declared.expr.Expr.{Expr}

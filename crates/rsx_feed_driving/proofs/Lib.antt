@@ -1,0 +1,3 @@
+-- Lemmas about moves of rows with feeds.
+pub mod Driving
+pub mod Named

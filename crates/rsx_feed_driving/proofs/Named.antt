@@ -1,0 +1,114 @@
+-- The moves of a hub, by their names.
+use Rattle.std.proofs.Common.{◌≡◌, ℕ, ◌<◌, Bool, true, false, ◌&&◌, nat_eq, if◌then◌else◌, List, [], ◌∷◌, length, slice_get, Option, Some, None, is_some, is_none, zero, suc, refl, ap, sym, ◌∙◌, arith}
+use Rattle.rsx_feeding.specs.Moves.{accepts_at, accepts_in, feed_enabled, has_feed, is_out, sends, sends_where, works, works_where}
+use Rattle.rsx_feeding.specs.Stands.{Rows, feed_of}
+use Rattle.rsx_hub.specs.Hub.{HubState}
+use Rattle.rsx_pipe.specs.Feeding.{IsQuietInside, inside_enabled}
+use Rattle.rsx_publishing.specs.Publishing.{can_accept_with_feeds}
+use Rattle.rsx_publishing.specs.Sending.{can_feed, can_feed_at, can_feed_of}
+use Rattle.rsx_publishing.specs.declared.feed.Feed.{Feed}
+use Rattle.rsx_subscriber.specs.Moves.{node_move, tree_of}
+use Rattle.rsx_subscriber.specs.Stands.{IsMadeAnswer}
+use Rattle.rsx_subscriber.specs.declared.subscription.Subscription.{Subscription}
+use Rattle.rsx_tree.specs.declared.look.NodeMove.{NodeMove}
+use Rattle.rsx_tree.specs.declared.look.NodeMove.TheVariants.{Ask as NodeAsk, Send as NodeSend, Pick as NodePick, Row as NodeRow}
+use Rattle.rsx_types.specs.Meaning.{Meaning}
+use Rattle.rsx_types.specs.declared.names.HubId.{HubId}
+use Rattle.rsx_types.specs.declared.names.Move.{Move}
+use Rattle.rsx_types.specs.declared.names.Move.TheVariants.{Ask, Send, Take, Pick, Row, Accept}
+use Rattle.rsx_types.specs.declared.names.SubId.{SubId}
+use Rattle.rsx_types.specs.declared.names.Tree.TheVariants.{Feed as FeedOf}
+use Rattle.rsx_types.specs.declared.signal.Signal.{Signal}
+use Rattle.rsx_feed_driving.specs.Moves.{enabled_in_tree, feed_move_enabled, is_enabled}
+use Rattle.rsx_feed_driving.specs.Pumped.{IsHubQuiet}
+
+-- ---- a move of a feed, by its names
+
+pub enabled_named : {T : Type 0} (m : Meaning T) (g : Rows T) (h : HubId) (inside : NodeMove) (mv : Move) → tree_of mv ≡ FeedOf h → node_move mv ≡ Some inside → is_enabled m g mv ≡ feed_enabled m g h.0 inside
+enabled_named {T} m g h inside mv tree node = by_move mv tree node ∙ ap (λ o. feed_move_enabled m g h.0 o) node
+  where
+    by_move : (mv : Move) → tree_of mv ≡ FeedOf h → node_move mv ≡ Some inside → is_enabled m g mv ≡ feed_move_enabled m g h.0 (node_move mv)
+    by_move (Ask t n) e k = ap (λ t. enabled_in_tree m g t (Ask t n)) e
+    by_move (Send t n) e k = ap (λ t. enabled_in_tree m g t (Send t n)) e
+    by_move (Take t n) e k = cc
+    by_move (Pick t n i) e k = ap (λ t. enabled_in_tree m g t (Pick t n i)) e
+    by_move (Row t n) e k = ap (λ t. enabled_in_tree m g t (Row t n)) e
+    by_move (Accept i) e k = cc
+
+-- it delivers nothing
+pub nothing_delivered : {T : Type 0} (inside : NodeMove) (mv : Move) (o : Option (SubId × Signal T)) → node_move mv ≡ Some inside → IsMadeAnswer mv o → o ≡ None
+nothing_delivered inside (Ask t n) o e k = k
+nothing_delivered inside (Send t n) o e k = k
+nothing_delivered inside (Take t n) o e k = cc
+nothing_delivered inside (Pick t n i) o e k = k
+nothing_delivered inside (Row t n) o e k = k
+nothing_delivered inside (Accept i) o e k = k
+
+-- ---- a hub with an emitter
+
+-- what a call for it answered
+pub accepts_answered : {T : Type 0} (n k : ℕ) (hub : HubState T) (fs : List (Feed T)) (olds : List (Subscription T)) (b can : Bool) → k ≡ n → can ≡ can_accept_with_feeds k hub fs olds → can ≡ b → can_accept_with_feeds n hub fs olds ≡ b
+accepts_answered n k hub fs olds b can same is e = ap (λ j. can_accept_with_feeds j hub fs olds) (sym same) ∙ (sym is ∙ e)
+
+pub unfed_quiet : {T : Type 0} (m : Meaning T) (g : Rows T) (h : ℕ) → feed_of g.feeds h ≡ None → accepts_at g h ≡ false → IsHubQuiet m g h
+unfed_quiet m g h unfed rest = record { accept = rest; feed = λ step small. ap (λ b. b && (if is_out step then sends m g h else works m g.feeds h step)) (none (is_some (slice_get g.hubs h)) unfed) }
+  where
+    none : (b : Bool) → feed_of g.feeds h ≡ None → b && is_some (feed_of g.feeds h) ≡ false
+    none true e = ap is_some e
+    none false e = refl
+
+-- ---- a hub with a feed
+
+pub fed_enabled : {T : Type 0} (m : Meaning T) (g : Rows T) (h : ℕ) (hub : HubState T) (f : Feed T) (step : NodeMove) → slice_get g.hubs h ≡ Some hub → feed_of g.feeds h ≡ Some f → feed_enabled m g h step ≡ (if is_out step then can_feed m f hub g.feeds g.subs else inside_enabled m f.part step)
+fed_enabled {T} m g h hub f step there named =
+    ap (λ b. b && (if is_out step then sends m g h else works m g.feeds h step)) known
+    ∙ (ap (λ b. if is_out step then b else works m g.feeds h step) send ∙ ap (λ o. if is_out step then can_feed m f hub g.feeds g.subs else works_where m o step) named)
+  where
+    known : has_feed g h ≡ true
+    known = ap (λ o. is_some o && is_some (feed_of g.feeds h)) there ∙ ap is_some named
+
+    send : sends m g h ≡ can_feed m f hub g.feeds g.subs
+    send = ap (λ o. sends_where m g o (feed_of g.feeds h)) there ∙ ap (λ o. sends_where m g (Some hub) o) named
+
+pub feeds_there : {T : Type 0} (m : Meaning T) (at : ℕ) (hub : HubState T) (f : Feed T) (feeds fs : List (Feed T)) (subs olds : List (Subscription T)) (b can : Bool) → slice_get feeds at ≡ Some f → fs ≡ feeds → olds ≡ subs → can ≡ can_feed_at m at hub fs olds → can ≡ b → can_feed m f hub feeds subs ≡ b
+feeds_there m at hub f feeds fs subs olds b can there same all is e =
+    ap (λ o. can_feed_of m o hub feeds subs) (sym there) ∙ (ap (λ l. can_feed_at m at hub l subs) (sym same) ∙ (ap (λ l. can_feed_at m at hub fs l) (sym all) ∙ (sym is ∙ e)))
+
+pub fed_quiet : {T : Type 0} (m : Meaning T) (g : Rows T) (h : ℕ) (hub : HubState T) (f : Feed T) → slice_get g.hubs h ≡ Some hub → feed_of g.feeds h ≡ Some f → IsQuietInside m f.part → can_feed m f hub g.feeds g.subs ≡ false → IsHubQuiet m g h
+fed_quiet {T} m g h hub f there named quiet rest = record {
+  accept = ap (λ o. accepts_in g o h) there ∙ ap (λ o. is_none o && can_accept_with_feeds h hub g.feeds g.subs) named;
+  feed = λ step small. fed_enabled m g h hub f step there named ∙ none (is_out step) (inside_enabled m f.part step) (quiet step small);
+}
+  where
+    none : (b c : Bool) → c ≡ false → (if b then can_feed m f hub g.feeds g.subs else c) ≡ false
+    none true c e = rest
+    none false c e = e
+
+-- a move inside, which is no Send over the root edge
+pub inside_of_feed : {T : Type 0} (m : Meaning T) (g : Rows T) (h : ℕ) (f : Feed T) (step : NodeMove) → h < length g.hubs → feed_of g.feeds h ≡ Some f → inside_enabled m f.part step ≡ true → feed_enabled m g h step ≡ true
+inside_of_feed {T} m g h f step within named can = fed_enabled m g h hub.0 f step hub.1 named ∙ by_step step can
+  where
+    there : {A : Type 0} (xs : List A) (n : ℕ) → n < length xs → (x : A) × (slice_get xs n ≡ Some x)
+    there [] n l = absurd (omega (arith, l))
+    there (x ∷ xs) zero l = (x, refl)
+    there (x ∷ xs) (suc n) l = there xs n (omega (arith, l))
+
+    hub : (x : HubState T) × (slice_get g.hubs h ≡ Some x)
+    hub = there g.hubs h within
+
+    not_out : (n : ℕ) (x y : Bool) → (if nat_eq n 0 then false else x) ≡ true → (if nat_eq n 0 then y else (if nat_eq n 0 then false else x)) ≡ true
+    not_out n x y e = by_test (nat_eq n 0) e
+      where
+        by_test : (b : Bool) → (if b then false else x) ≡ true → (if b then y else (if b then false else x)) ≡ true
+        by_test true e = cc
+        by_test false e = e
+
+    by_step : (step : NodeMove) → inside_enabled m f.part step ≡ true → (if is_out step then can_feed m f hub.0 g.feeds g.subs else inside_enabled m f.part step) ≡ true
+    by_step (NodeAsk n) e = e
+    by_step (NodeSend n) e = not_out n _ _ e
+    by_step (NodePick n i) e = e
+    by_step (NodeRow n) e = e
+
+-- the Send over the root edge
+pub out_of_feed : {T : Type 0} (m : Meaning T) (g : Rows T) (h : ℕ) (hub : HubState T) (f : Feed T) → slice_get g.hubs h ≡ Some hub → feed_of g.feeds h ≡ Some f → can_feed m f hub g.feeds g.subs ≡ true → feed_enabled m g h (NodeSend 0) ≡ true
+out_of_feed m g h hub f there named can = fed_enabled m g h hub f (NodeSend 0) there named ∙ can

@@ -1,0 +1,39 @@
+use Rattle.std.proofs.Common.{◌∙◌, ap, arith, false, length, sym, true}
+use Rattle.rsx_history.proofs.Graphs.{found}
+use Rattle.rsx_feeding.proofs.Places.{placed_feed}
+use Rattle.rsx_feeding.specs.Moves.{rows_of}
+use Rattle.rsx_feed_driving.proofs.Named.{enabled_named, fed_quiet, feeds_there, inside_of_feed, nothing_delivered, out_of_feed}
+use Rattle.rsx_feed_driving.proofs.hubs.first_of_feed.Goals as goal
+
+pub can_feed-requires : goal.can_feed-requires
+can_feed-requires g c = let l = ap length c.deref.ensures.value in let k = c.requires.within in omega (arith, l, k)
+
+pub returns-in-true-clause-some : goal.returns-in-true-clause-some
+returns-in-true-clause-some g c = λ m.
+    let n = c.args.hub.0 in
+    let f = c.index.result.now in
+    let there = found c.args.hubs.now.items n c.index-2.result.now c.requires.there (sym c.index-2.ensures) in
+    let here = found c.args.feeds.now.items c.args.at f c.requires.within (sym c.index.ensures) in
+    out_of_feed m (rows_of c.args.hubs.now.items c.args.feeds.now.items c.args.subscriptions.now.items) n c.index-2.result.now f there (placed_feed c.args.feeds.now.items n c.args.at f c.requires.place here)
+    (feeds_there m c.args.at c.index-2.result.now f c.args.feeds.now.items c.deref.result.now c.args.subscriptions.now.items c.deref-2.result.now true c.can_feed.result here c.deref.ensures.value c.deref-2.ensures.value (c.can_feed.ensures m) c.in-true.is)
+
+pub returns-in-false-clause-none : goal.returns-in-false-clause-none
+returns-in-false-clause-none g c = λ m.
+    let n = c.args.hub.0 in
+    let f = c.index.result.now in
+    let there = found c.args.hubs.now.items n c.index-2.result.now c.requires.there (sym c.index-2.ensures) in
+    let here = found c.args.feeds.now.items c.args.at f c.requires.within (sym c.index.ensures) in
+    fed_quiet m (rows_of c.args.hubs.now.items c.args.feeds.now.items c.args.subscriptions.now.items) n c.index-2.result.now f there (placed_feed c.args.feeds.now.items n c.args.at f c.requires.place here) (c.in_default.ensures.none m)
+    (feeds_there m c.args.at c.index-2.result.now f c.args.feeds.now.items c.deref.result.now c.args.subscriptions.now.items c.deref-2.result.now false c.can_feed.result here c.deref.ensures.value c.deref-2.ensures.value (c.can_feed.ensures m) c.in-false.is)
+
+pub returns-in-Some-clause-some : goal.returns-in-Some-clause-some
+returns-in-Some-clause-some g c = λ m.
+    let n = c.args.hub.0 in
+    let f = c.index.result.now in
+    let rows = rows_of c.args.hubs.now.items c.args.feeds.now.items c.args.subscriptions.now.items in
+    let here = found c.args.feeds.now.items c.args.at f c.requires.within (sym c.index.ensures) in
+    enabled_named m rows c.args.hub c.in-Some.inside c.move_of.result c.move_of.ensures.tree c.move_of.ensures.inside
+    ∙ inside_of_feed m rows n f c.in-Some.inside c.requires.there (placed_feed c.args.feeds.now.items n c.args.at f c.requires.place here) (c.in-Some.ensures.some m).1
+
+pub returns-in-Some-clause-still : goal.returns-in-Some-clause-still
+returns-in-Some-clause-still g c = λ o k. nothing_delivered c.in-Some.inside c.move_of.result o c.move_of.ensures.inside k

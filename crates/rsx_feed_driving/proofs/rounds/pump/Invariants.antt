@@ -1,0 +1,15 @@
+use Rattle.std.proofs.Common.{◌≡◌, ◌+◌, ℕ, length}
+use Rattle.rsx_feeding.specs.Moves.{rows_of}
+use Rattle.rsx_feed_driving.proofs.Driving.{SoFar}
+use Rattle.rsx_feed_driving.proofs.rounds.pump.Given as goal
+
+abbrev pub invariant-rounds : goal.invariant-rounds
+invariant-rounds g l = record {
+  hubs : length l.hubs.items ≡ length l.fn.hubs.items;
+  feeds : length l.feeds.items ≡ length l.fn.feeds.items;
+  subscriptions : length l.subscriptions.items ≡ length l.fn.subscriptions.items;
+  so_far : (n : ℕ) × (n + l.left ≡ l.fn.budget) × SoFar (g.O.Ops.meaning l.ops) (rows_of l.fn.hubs.items l.fn.feeds.items l.fn.subscriptions.items) l.fn.out.signals n (rows_of l.hubs.items l.feeds.items l.subscriptions.items) l.out.signals;
+}
+
+abbrev pub decreases-rounds : goal.decreases-rounds
+decreases-rounds g l = l.left

@@ -1,0 +1,15 @@
+#![tactic(auto)]
+//! The moves of hubs, feeds and subscriptions that stand in rows and are named by their numbers.
+//!
+//! - [`moves`]: [`make`], one move of a subscription, of a hub or of a hub's feed.
+//! - [`rounds`]: [`pump`], moves of subscriptions, hubs and feeds until none is enabled.
+//!
+//! The definitions stand in `specs/`: `Moves` (when a move is enabled, what it changes, and why it is refused) and `Pumped` (many
+//! moves, one after the other).
+
+mod hubs;
+pub mod moves;
+pub mod rounds;
+
+pub use moves::make;
+pub use rounds::pump;

@@ -1,0 +1,151 @@
+//! One move of a subscription, of a hub or of a hub's feed.
+
+ghost use Rattle.std.specs.Prelude.{◌≡◌, ◌≢◌, List, length, true, false, OnOk, OnErr, IfOk, IfErr};
+ghost use Rattle.rsx_feeding.specs.History.{History, with_made, with_sent};
+ghost use Rattle.rsx_feeding.specs.Moves.{IsFeedRefusal, has_feed, rows_of};
+ghost use Rattle.rsx_feeding.specs.Stands.{StandsFor};
+ghost use Rattle.rsx_subscriber.specs.Moves as named;
+ghost use Rattle.rsx_subscriber.specs.declared.subscription.Subscription.{Subscription as SubscriptionOf};
+ghost use Rattle.rsx_subscriber.specs.Stands.{IsMadeAnswer};
+ghost use Rattle.rsx_feed_driving.specs.Moves.{IsMakeRefusal, IsMoved, IsMovedInFeed, feed_move_allocates, feed_move_enabled, is_enabled, may_allocate, sent, sent_by_feed};
+
+use rsx_driving::{make_in_tree, take};
+use rsx_feeding::{accept, make_in_feed, place_of};
+use rsx_history::Refusal;
+use rsx_hub::Hub;
+use rsx_pipe::NodeMove;
+use rsx_publishing::Feed;
+use rsx_subscriber::Subscription;
+use rsx_types::{HubId, Move, Ops, Signal, SubId, Tree};
+use std::alloc::Global;
+
+/// Makes one move. A Take from the root edge of a subscription answers the signal that it delivered. An Accept takes the signal
+/// in that waits in front of the inbox of a hub with an emitter; the Send over the root edge of a feed takes its next signal
+/// straight into its hub. Either way each node that reads the hub gets it.
+///
+/// # Errors
+/// G1 for a hub that isn't there and for the tree of a hub that has no feed, G2 for a subscription that isn't there, else G7
+/// exactly where the move isn't enabled, and G8 where a growth was refused, of a move that may allocate; nothing changed.
+pub fn make<O: Ops>(
+    alloc: Global,
+    ops: &O,
+    hubs: &mut Vec<Hub<O::Item>>,
+    feeds: &mut Vec<Feed<O::Item>>,
+    subscriptions: &mut Vec<Subscription<O::Item>>,
+    step: Move,
+) -> Result<Option<(SubId, Signal<O::Item>)>, Refusal>
+    ensures hubs { length hubs.new.items ≡ length hubs.old.items }
+    ensures feeds { length feeds.new.items ≡ length feeds.old.items }
+    ensures subscriptions { length subscriptions.new.items ≡ length subscriptions.old.items }
+    ensures stands { IfOk result (λ o. (h : History O.Item) →
+        StandsFor (O.meaning ops.now) (rows_of hubs.old.items feeds.old.items subscriptions.old.items) h →
+        StandsFor (O.meaning ops.now) (rows_of hubs.new.items feeds.new.items subscriptions.new.items)
+        (with_made step o (sent (O.meaning ops.now) (rows_of hubs.old.items feeds.old.items subscriptions.old.items) step) h)) }
+    ensures answer { IfOk result (λ o. IsMadeAnswer step o) }
+    ensures enabled { OnOk result (is_enabled (O.meaning ops.now) (rows_of hubs.old.items feeds.old.items subscriptions.old.items) step ≡ true) }
+    ensures effect { IfOk result (λ o. IsMoved (O.meaning ops.now) step (rows_of hubs.old.items feeds.old.items subscriptions.old.items) (rows_of hubs.new.items feeds.new.items subscriptions.new.items) o) }
+    ensures err { IfErr result (λ r. IsMakeRefusal (rows_of hubs.old.items feeds.old.items subscriptions.old.items)
+        (is_enabled (O.meaning ops.now) (rows_of hubs.old.items feeds.old.items subscriptions.old.items) step) step r) }
+
+    // An enabled move that takes no memory is made.
+    ensures memory { IfErr result (λ r. may_allocate (O.allocates ops.now) (rows_of hubs.old.items feeds.old.items subscriptions.old.items) step ≡ false → r ≢ Refusal.NoMemory) }
+    ensures same { OnErr result ((hubs.new.items ≡ hubs.old.items) × (feeds.new.items ≡ feeds.old.items) × (subscriptions.new.items ≡ subscriptions.old.items)) }
+{
+    match step {
+        Move::Ask(Tree::Sub(sub), _)
+        | Move::Send(Tree::Sub(sub), _)
+        | Move::Pick(Tree::Sub(sub), _, _)
+        | Move::Row(Tree::Sub(sub), _) => match make_in_tree(alloc, ops, subscriptions, sub, step) {
+            Ok(()) => Ok(None),
+            Err(why) => Err(why),
+        },
+        Move::Take(Tree::Sub(sub), node) => match take(subscriptions, sub, node) {
+            Ok(signal) => Ok(Some((sub, signal))),
+            Err(why) => Err(why),
+        },
+        Move::Accept(hub) => match accept(alloc, ops, hubs, feeds, subscriptions, hub) {
+            Ok(()) => Ok(None),
+            Err(why) => Err(why),
+        },
+        Move::Ask(Tree::Feed(hub), _)
+        | Move::Send(Tree::Feed(hub), _)
+        | Move::Take(Tree::Feed(hub), _)
+        | Move::Pick(Tree::Feed(hub), _, _)
+        | Move::Row(Tree::Feed(hub), _) => {
+            match make_of_feed(alloc, ops, hubs, feeds, subscriptions, hub, node_move(step)) {
+                Ok(()) => Ok(None),
+                Err(why) => Err(why),
+            }
+        }
+    }
+}
+
+/// The move inside a tree that a move names. A Take isn't one, and neither is an Accept.
+fn node_move(step: Move) -> Option<NodeMove>
+    ensures { result ≡ named.node_move step }
+{
+    match step {
+        Move::Ask(_, node) => Some(NodeMove::Ask(node.0)),
+        Move::Send(_, node) => Some(NodeMove::Send(node.0)),
+        Move::Pick(_, node, input) => Some(NodeMove::Pick(node.0, input)),
+        Move::Row(_, node) => Some(NodeMove::Row(node.0)),
+        Move::Take(_, _) | Move::Accept(_) => None,
+    }
+}
+
+/// Makes a move of the feed of a hub. None stands for a Take, which is never enabled there: a feed has no queue.
+fn make_of_feed<O: Ops>(
+    alloc: Global,
+    ops: &O,
+    hubs: &mut Vec<Hub<O::Item>>,
+    feeds: &mut Vec<Feed<O::Item>>,
+    subscriptions: &mut Vec<Subscription<O::Item>>,
+    hub: HubId,
+    inside: Option<NodeMove>,
+) -> Result<(), Refusal>
+    ensures hubs { length hubs.new.items ≡ length hubs.old.items }
+    ensures feeds { length feeds.new.items ≡ length feeds.old.items }
+    ensures subscriptions { length subscriptions.new.items ≡ length subscriptions.old.items }
+    ensures stands { OnOk result ((h : History O.Item) →
+        StandsFor (O.meaning ops.now) (rows_of hubs.old.items feeds.old.items subscriptions.old.items) h →
+        StandsFor (O.meaning ops.now) (rows_of hubs.new.items feeds.new.items subscriptions.new.items)
+        (with_sent (sent_by_feed (O.meaning ops.now) (rows_of hubs.old.items feeds.old.items subscriptions.old.items) hub.0 inside) hub.0 h)) }
+    ensures enabled { OnOk result (feed_move_enabled (O.meaning ops.now) (rows_of hubs.old.items feeds.old.items subscriptions.old.items) hub.0 inside ≡ true) }
+    ensures effect { OnOk result (IsMovedInFeed (O.meaning ops.now) inside hub.0 (rows_of hubs.old.items feeds.old.items subscriptions.old.items) (rows_of hubs.new.items feeds.new.items subscriptions.new.items)) }
+    ensures err { IfErr result (IsFeedRefusal (has_feed (rows_of hubs.old.items feeds.old.items subscriptions.old.items) hub.0)
+        (feed_move_enabled (O.meaning ops.now) (rows_of hubs.old.items feeds.old.items subscriptions.old.items) hub.0 inside)) }
+    ensures memory { feed_move_allocates (O.allocates ops.now) feeds.old.items hub.0 inside ≡ false → IfErr result (λ r. r ≢ Refusal.NoMemory) }
+    ensures same { OnErr result ((hubs.new.items ≡ hubs.old.items) × (feeds.new.items ≡ feeds.old.items) × (subscriptions.new.items ≡ subscriptions.old.items)) }
+{
+    match inside {
+        Some(move_inside) => match make_in_feed(
+            alloc,
+            ops,
+            hubs,
+            feeds,
+            subscriptions,
+            hub,
+            move_inside,
+        ) {
+            Ok(()) => Ok(()),
+            Err(why) => Err(why),
+        },
+        None => match is_fed(hubs, feeds, hub) {
+            true => Err(Refusal::NotEnabled),
+            false => Err(Refusal::UnknownHub),
+        },
+    }
+}
+
+/// Whether the hub with this number is there and has a feed.
+fn is_fed<T: Drop>(hubs: &Vec<Hub<T>>, feeds: &Vec<Feed<T>>, hub: HubId) -> bool
+    ensures { (subscriptions : List (SubscriptionOf T)) → result ≡ has_feed (rows_of hubs.now.items feeds.now.items subscriptions) hub.0 }
+{
+    if hub.0 as usize >= hubs.len() {
+        return false;
+    }
+    match place_of(feeds, hub.0) {
+        Some(_) => true,
+        None => false,
+    }
+}
