@@ -161,10 +161,13 @@ impl<T: Drop> ChainState<T> {
         }
     }
 
-    /// Takes an emission of the input, and answers the emission that comes out. The first operator answers, and its answer stands
-    /// once the chain behind it has taken it; where that refuses it, the first operator goes back. So for want of memory the
-    /// emission comes back, and nothing has changed.
-    fn take<O: Ops<Item = T>>(
+    /// Takes an emission of the input, and answers the emission that comes out. So an item and the ending behind it are taken at
+    /// once, or neither is. An ending is answered with an ending, and so is any emission by which the chain is over.
+    ///
+    /// The first operator answers, and its answer stands once the chain behind it has taken it; where that refuses it, the first
+    /// operator goes back. So for want of memory the emission comes back, and nothing has changed; that comes only where one of
+    /// the operators may allocate.
+    pub fn take<O: Ops<Item = T>>(
         &mut self,
         alloc: Global,
         ops: &O,
