@@ -23,11 +23,12 @@ impl<T> Model for PendingSignals<T> {
 }
 
 impl<T: Drop> PendingSignals<T> {
-    ghost use Rattle.std.specs.Prelude.{◌≡◌, ◌+◌, ◌<◌, ◌≤◌, [], ◌∷◌, ◌++◌, length, map, slice_get, IfOk};
+    ghost use Rattle.std.specs.Prelude.{◌≡◌, ℕ, ◌+◌, ◌<◌, ◌≤◌, [], ◌∷◌, ◌++◌, length, map, slice_get, IfOk};
     ghost use Rattle.std.specs.Option.{option_copied, option_to_list, OnSome};
     ghost use Rattle.rsx_types.specs.Stream.{signals_then};
     ghost use Rattle.rsx_types.specs.declared.signal.Signal.TheVariants.{Next};
     ghost use Rattle.rsx_sources.specs.Slot.{is_nil};
+    ghost use Rattle.rsx_pending.specs.Signals.{HasRoom};
 
     /// No signals, and memory for so many.
     ///
@@ -38,6 +39,30 @@ impl<T: Drop> PendingSignals<T> {
     {
         let reversed = Vec::with_capacity(alloc, room)?;
         Ok(PendingSignals { reversed })
+    }
+
+    /// An empty list with memory for so many, where there is memory for fewer here.
+    ///
+    /// # Errors
+    /// [`NoMemory`] where that memory was refused.
+    pub fn spare(&self, alloc: Global, room: usize) -> Result<Option<PendingSignals<T>>, NoMemory>
+        ensures { IfOk result (λ s. HasRoom s self.now room) }
+    {
+        if room <= self.room() {
+            return Ok(None);
+        }
+        let spare = PendingSignals::with_room(alloc, room)?;
+        Ok(Some(spare))
+    }
+
+    /// Puts the spare list, if there is one, in the place of this one, in which nothing waits.
+    pub fn take_over(&mut self, spare: Option<PendingSignals<T>>)
+        requires { self.old.left ≡ [] }
+        ensures { (n : ℕ) → HasRoom spare self.old n → (self.new.left ≡ []) × (n ≤ self.new.room) }
+    {
+        if let Some(pending) = spare {
+            *self = pending;
+        }
     }
 
     /// How many signals there is memory for.
