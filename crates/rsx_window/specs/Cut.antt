@@ -7,7 +7,7 @@ use Rattle.rsx_types.specs.declared.signal.Signal.TheVariants.{Next}
 use Rattle.rsx_types.specs.declared.stage.Stage.{Stage}
 use Rattle.rsx_types.specs.Meaning.{Meaning}
 use Rattle.rsx_types.specs.Plain.{chained, taken_items}
-use Rattle.rsx_types.specs.Stream.{Stream, ended_by, item_then, items_then}
+use Rattle.rsx_types.specs.Stream.{Stream, ended_by, item_then, items_then, signals_then}
 use Rattle.rsx_operators.specs.Emission.{emission_then}
 use Rattle.rsx_operators.specs.declared.prepared.Emission.{Emission}
 use Rattle.rsx_choices.specs.Concat.{value_then}
@@ -72,3 +72,11 @@ abbrev pub last_ending : Ending → Ending → Ending
 last_ending Open e = e
 last_ending Done e = e
 last_ending (Failed c) e = Failed c
+
+-- these signals come out of a window by such an ending of the input, and nothing follows them
+abbrev pub EndsWith : {T : Type 0} → Meaning T → CurrentWindow T → Ending → List (Signal T) → Type 0
+EndsWith {T} m old e out = (n : ℕ) (gs : List (Stage T)) (v : Stream T) → is_over old ≡ false → window_left m n gs old (ended_by e) ≡ signals_then out v
+
+-- this comes out of a window's chain by such an ending of the input; nothing more comes out but that ending
+abbrev pub ClosesWith : {T : Type 0} → Meaning T → CurrentWindow T → Ending → Emission T → Type 0
+ClosesWith m old e out = EndsWith m old e (put_out [] out.item (last_ending out.ending e))

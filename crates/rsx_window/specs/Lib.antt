@@ -1,4 +1,2 @@
 -- Definitions that contracts cite.
 pub mod Cut
-
-

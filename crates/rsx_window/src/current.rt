@@ -1,14 +1,18 @@
 //! The window that is started.
 
-ghost use Rattle.std.specs.Prelude.{◌≡◌, ◌+◌, ◌≤◌, true, [], length, IfOk, IfErr, OnErr, vec_len, vec_capacity};
+ghost use Rattle.std.specs.Prelude.{◌≡◌, ◌+◌, ◌<◌, ◌≤◌, true, [], ◌++◌, length, IfOk, IfErr, OnErr};
+ghost use Rattle.rsx_types.specs.Stream.{ending_signals};
+ghost use Rattle.rsx_chain.specs.Emissions.{item_signals};
+ghost use Rattle.rsx_pending.specs.Signals.{HasRoom};
 ghost use Rattle.rsx_operators.specs.Moves.{has_ended};
-ghost use Rattle.rsx_window.specs.Cut.{TakesItem, Begins, unless_done, window_after, put_out, last_ending};
+ghost use Rattle.rsx_window.specs.Cut.{TakesItem, Begins, put_out, unless_done, last_ending};
 
 use rsx_chain::{ChainState, NewChain};
 use rsx_operators::Emission;
 use rsx_pending::PendingSignals;
 use rsx_types::{Ending, NoMemory, Ops, Signal, Stage};
 use std::alloc::Global;
+use std::mem;
 
 /// Where a `window` is in its input.
 #[derive(Drop)]
@@ -27,10 +31,12 @@ pub enum CurrentWindow<T> {
 pub struct Begun<T> {
     /// The chain of the window.
     pub chain: ChainState<T>,
-    /// What came out of the chain at its start. There is memory for two more.
+    /// What came out of the chain at its start.
     pub items: Vec<T>,
     /// What came out of it by the item.
     pub out: Emission<T>,
+    /// A list for all that came out, where the one that is there has too little memory.
+    pub spare: Option<PendingSignals<T>>,
 }
 
 /// Has the chain of a started window take an item, and the completion behind it where the window takes no more.
@@ -64,17 +70,18 @@ fn take_item<T: Drop, O: Ops<Item = T>>(
     }
 }
 
-/// Starts a window with its first item, behind which it takes so many more.
+/// Starts a window with its first item, behind which it takes so many more. What comes out is to wait in this list.
 fn begin<T: Drop, O: Ops<Item = T>>(
     alloc: Global,
     ops: &O,
     stages: &[Stage<T>],
     more: u64,
     item: T,
+    pending: &PendingSignals<T>,
 ) -> Result<Begun<T>, T>
     ensures ok { IfOk result (λ b. Begins (O.meaning ops.now) stages.now more item b) }
     ensures last { IfOk result (λ b. more ≡ 0 → has_ended b.out.ending ≡ true) }
-    ensures room { IfOk result (λ b. vec_len b.items + 2 ≤ vec_capacity b.items) }
+    ensures room { IfOk result (λ b. HasRoom b.spare pending.now (length b.items.items + 2)) }
     ensures err { IfErr result (λ x. x ≡ item) }
 {
     match ChainState::new(alloc, ops, stages) {
@@ -84,19 +91,239 @@ fn begin<T: Drop, O: Ops<Item = T>>(
             if items.reserve(2).is_err() {
                 return Err(item);
             }
+            let spare = match pending.spare(alloc, items.capacity()) {
+                Ok(spare) => spare,
+                Err(_) => return Err(item),
+            };
             let mut chain = chain;
             match ending {
                 Ending::Open => match take_item(&mut chain, alloc, ops, more, item) {
-                    Ok(out) => Ok(Begun { chain, items, out }),
+                    Ok(out) => Ok(Begun {
+                        chain,
+                        items,
+                        out,
+                        spare,
+                    }),
                     Err(item) => Err(item),
                 },
                 ending => Ok(Begun {
                     chain,
                     items,
                     out: Emission { item: None, ending },
+                    spare,
                 }),
             }
         }
         Err(_) => Err(item),
+    }
+}
+
+/// Puts the signal of an ending, if it is one, into an empty list.
+fn put_ending<T: Drop>(pending: &mut PendingSignals<T>, ending: Ending)
+    requires nothing { pending.old.left ≡ [] }
+    requires room { 1 ≤ pending.old.room }
+    ensures left { pending.new.left ≡ ending_signals ending }
+    ensures room { pending.new.room ≡ pending.old.room }
+{
+    match ending {
+        Ending::Open => {}
+        Ending::Done => pending.put_front(Signal::Complete),
+        Ending::Failed(cause) => pending.put_front(Signal::Error(cause)),
+    }
+}
+
+/// Puts an item, if there is one, in front of the others.
+fn put_item<T: Drop>(pending: &mut PendingSignals<T>, item: Option<T>)
+    requires { length pending.old.left < pending.old.room }
+    ensures left { pending.new.left ≡ item_signals item ++ pending.old.left }
+    ensures room { pending.new.room ≡ pending.old.room }
+{
+    if let Some(item) = item {
+        pending.put_front(Signal::Next(item));
+    }
+}
+
+/// Puts these items, this one and the signal of this ending into an empty list.
+fn put_out<T: Drop>(pending: &mut PendingSignals<T>, items: Vec<T>, item: Option<T>, ending: Ending)
+    requires nothing { pending.old.left ≡ [] }
+    requires room { length items.items + 2 ≤ pending.old.room }
+    ensures { pending.new.left ≡ put_out items.items item ending }
+{
+    put_ending(pending, ending);
+    put_item(pending, item);
+    pending.put_items_front(items);
+}
+
+/// The ending of a window that other windows may follow: its completion completes nothing but itself.
+fn unless_done(ending: Ending) -> Ending
+    ensures { result ≡ unless_done ending }
+{
+    match ending {
+        Ending::Open | Ending::Done => Ending::Open,
+        Ending::Failed(cause) => Ending::Failed(cause),
+    }
+}
+
+/// The ending of the whole, where the last window has put out this one and the input ends so.
+fn last_ending(window: Ending, input: Ending) -> Ending
+    ensures { result ≡ last_ending window input }
+{
+    match window {
+        Ending::Open | Ending::Done => input,
+        Ending::Failed(cause) => Ending::Failed(cause),
+    }
+}
+
+impl<T: Drop> CurrentWindow<T> {
+    ghost use Rattle.std.specs.Prelude.{◌≡◌, ◌+◌, true, false, [], length, IfOk, IfErr, OnOk, OnErr};
+    ghost use Rattle.rsx_types.specs.declared.signal.Signal.TheVariants.{Next};
+    ghost use Rattle.rsx_types.specs.Stream.{ended_by};
+    ghost use Rattle.rsx_operators.specs.Moves.{Moves, has_ended, has_ending};
+    ghost use Rattle.rsx_window.specs.Cut.{is_over, window_left, window_after, ClosesWith, EndsWith};
+
+    /// Whether the ending was put out.
+    pub fn is_over(&self) -> bool
+        ensures { result ≡ is_over self.now }
+    {
+        matches!(self, CurrentWindow::Over)
+    }
+
+    /// Where a window is then, which takes so many more items and whose chain has put out this ending.
+    fn after(chain: ChainState<T>, more: u64, ending: Ending) -> CurrentWindow<T>
+        requires { more ≡ 0 → has_ended ending ≡ true }
+        ensures { result ≡ window_after chain more ending }
+    {
+        match ending {
+            Ending::Open => CurrentWindow::Running(chain, more - 1),
+            Ending::Done => CurrentWindow::Passing(more),
+            Ending::Failed(_) => CurrentWindow::Over,
+        }
+    }
+
+    /// Goes on from there.
+    fn set(&mut self, next: CurrentWindow<T>)
+        ensures { self.new ≡ next }
+    {
+        *self = next;
+    }
+
+    /// Takes an item, and puts what comes out into the list, in which nothing waits. For want of memory the item comes back, and
+    /// nothing has changed.
+    pub(crate) fn take_item<O: Ops<Item = T>>(
+        &mut self,
+        alloc: Global,
+        ops: &O,
+        size: u64,
+        stages: &[Stage<T>],
+        item: T,
+        pending: &mut PendingSignals<T>,
+    ) -> Result<(), T>
+        requires nothing { pending.old.left ≡ [] }
+        requires open { is_over self.old ≡ false }
+        ensures ok { OnOk result (Moves (window_left (O.meaning ops.now) size stages.now) self.old (Next item) pending.new.left self.new) }
+        ensures over { OnOk result (has_ending pending.new.left ≡ is_over self.new) }
+        ensures err { IfErr result (λ x. x ≡ item) }
+        ensures same { OnErr result (self.new ≡ self.old) }
+        ensures kept { OnErr result (pending.new ≡ pending.old) }
+    {
+        match mem::replace(self, CurrentWindow::Over) {
+            CurrentWindow::Passing(0) => {
+                let more = size.saturating_sub(1);
+                match begin(alloc, ops, stages, more, item, pending) {
+                    Ok(begun) => {
+                        let ending = begun.out.ending;
+                        pending.take_over(begun.spare);
+                        put_out(pending, begun.items, begun.out.item, unless_done(ending));
+                        self.set(CurrentWindow::after(begun.chain, more, ending));
+                        Ok(())
+                    }
+                    Err(item) => {
+                        self.set(CurrentWindow::Passing(0));
+                        Err(item)
+                    }
+                }
+            }
+            CurrentWindow::Passing(left) => {
+                self.set(CurrentWindow::Passing(left - 1));
+                Ok(())
+            }
+            CurrentWindow::Running(chain, more) => {
+                let mut chain = chain;
+                let spare = match pending.spare(alloc, 2) {
+                    Ok(spare) => spare,
+                    Err(_) => {
+                        self.set(CurrentWindow::Running(chain, more));
+                        return Err(item);
+                    }
+                };
+                match take_item(&mut chain, alloc, ops, more, item) {
+                    Ok(out) => {
+                        let ending = out.ending;
+                        pending.take_over(spare);
+                        put_out(pending, Vec::new(alloc), out.item, unless_done(ending));
+                        self.set(CurrentWindow::after(chain, more, ending));
+                        Ok(())
+                    }
+                    Err(item) => {
+                        self.set(CurrentWindow::Running(chain, more));
+                        Err(item)
+                    }
+                }
+            }
+            CurrentWindow::Over => unreachable!(),
+        }
+    }
+
+    /// Has the chain of the window that is started, if there is one, take the ending of the input, and answers what comes out.
+    /// For want of memory nothing has changed.
+    fn close<O: Ops<Item = T>>(
+        &mut self,
+        alloc: Global,
+        ops: &O,
+        ending: Ending,
+    ) -> Result<Emission<T>, NoMemory>
+        requires ends { has_ended ending ≡ true }
+        ensures ok { IfOk result (λ out. ClosesWith (O.meaning ops.now) self.old ending out) }
+        ensures same { OnErr result (self.new ≡ self.old) }
+    {
+        match self {
+            CurrentWindow::Running(chain, _) => {
+                let emission = Emission { item: None, ending };
+                match chain.take(alloc, ops, emission) {
+                    Ok(out) => Ok(out),
+                    Err(_) => Err(NoMemory),
+                }
+            }
+            _ => Ok(Emission {
+                item: None,
+                ending: Ending::Done,
+            }),
+        }
+    }
+
+    /// Takes the ending of the input, and puts what comes out into the list, in which nothing waits. For want of memory nothing
+    /// has changed.
+    pub(crate) fn end<O: Ops<Item = T>>(
+        &mut self,
+        alloc: Global,
+        ops: &O,
+        ending: Ending,
+        pending: &mut PendingSignals<T>,
+    ) -> Result<(), NoMemory>
+        requires nothing { pending.old.left ≡ [] }
+        requires ends { has_ended ending ≡ true }
+        ensures ok { OnOk result (EndsWith (O.meaning ops.now) self.old ending pending.new.left) }
+        ensures over { OnOk result (is_over self.new ≡ true) }
+        ensures out { OnOk result (has_ending pending.new.left ≡ true) }
+        ensures same { OnErr result (self.new ≡ self.old) }
+        ensures kept { OnErr result (pending.new ≡ pending.old) }
+    {
+        let spare = pending.spare(alloc, 2)?;
+        let out = self.close(alloc, ops, ending)?;
+        pending.take_over(spare);
+        let last = last_ending(out.ending, ending);
+        put_out(pending, Vec::new(alloc), out.item, last);
+        self.set(CurrentWindow::Over);
+        Ok(())
     }
 }
