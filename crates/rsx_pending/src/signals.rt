@@ -28,7 +28,7 @@ impl<T: Drop> PendingSignals<T> {
     ghost use Rattle.rsx_types.specs.Stream.{signals_then};
     ghost use Rattle.rsx_types.specs.declared.signal.Signal.TheVariants.{Next};
     ghost use Rattle.rsx_sources.specs.Slot.{is_nil};
-    ghost use Rattle.rsx_pending.specs.Signals.{HasRoom};
+    ghost use Rattle.rsx_pending.specs.Signals.{HasRoom, has_ending};
 
     /// No signals, and memory for so many.
     ///
@@ -91,6 +91,19 @@ impl<T: Drop> PendingSignals<T> {
         ensures { option_copied result ≡ slice_get self.now.left 0 }
     {
         self.reversed.last()
+    }
+
+    /// Whether an ending is among the signals.
+    pub fn has_ending(&self) -> bool
+        ensures { result ≡ has_ending self.now.left }
+    {
+        for at in (0..self.len()).rev() {
+            match &self.reversed[at] {
+                Signal::Next(_) => {}
+                Signal::Complete | Signal::Error(_) => return true,
+            }
+        }
+        false
     }
 
     /// Takes the oldest signal, if there is one. Then there is memory to put it back.
