@@ -23,11 +23,11 @@ impl<T> Model for PendingSignals<T> {
 }
 
 impl<T: Drop> PendingSignals<T> {
-    ghost use Rattle.std.specs.Prelude.{◌≡◌, ℕ, ◌+◌, ◌<◌, ◌≤◌, [], ◌∷◌, ◌++◌, length, map, slice_get, IfOk};
+    ghost use Rattle.std.specs.Prelude.{◌≡◌, ℕ, ◌+◌, ◌<◌, ◌≤◌, false, [], ◌∷◌, ◌++◌, length, map, slice_get, IfOk, IfSome, IfNone};
     ghost use Rattle.std.specs.Option.{option_copied, option_to_list, OnSome};
     ghost use Rattle.rsx_types.specs.Stream.{signals_then};
     ghost use Rattle.rsx_types.specs.declared.signal.Signal.TheVariants.{Next};
-    ghost use Rattle.rsx_sources.specs.Slot.{is_nil};
+    ghost use Rattle.rsx_sources.specs.Slot.{is_nil, is_item_first};
     ghost use Rattle.rsx_pending.specs.Signals.{HasRoom, has_ending};
 
     /// No signals, and memory for so many.
@@ -114,6 +114,25 @@ impl<T: Drop> PendingSignals<T> {
         ensures space { OnSome result (length self.new.left < self.new.room) }
     {
         self.reversed.pop()
+    }
+
+    /// Takes the oldest signal where that is an item, and answers the item. Then there is memory to put it back. Otherwise
+    /// nothing has changed.
+    pub fn pop_item(&mut self) -> Option<T>
+        ensures left { IfSome result (λ x. self.old.left ≡ Next x ∷ self.new.left) }
+        ensures room { self.new.room ≡ self.old.room }
+        ensures space { OnSome result (length self.new.left < self.new.room) }
+        ensures none { IfNone result (self.new ≡ self.old) }
+        ensures other { IfNone result (is_item_first self.old.left ≡ false) }
+    {
+        match self.reversed.pop() {
+            Some(Signal::Next(item)) => Some(item),
+            Some(ending) => {
+                self.reversed.push_reserved(ending);
+                None
+            }
+            None => None,
+        }
     }
 
     /// Puts a signal in front of the others.

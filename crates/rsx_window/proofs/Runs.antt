@@ -10,7 +10,8 @@ use Rattle.rsx_types.specs.Meaning.{Meaning}
 use Rattle.rsx_types.specs.Plain.{chained}
 use Rattle.rsx_types.specs.Stream.{Stream, ended_by, item_then, items_then, signal_then, signals_then, ending_signals}
 use Rattle.rsx_operators.specs.Emission.{item_or, emission_then}
-use Rattle.rsx_operators.specs.Moves.{Moves, has_ended, has_ending, ended_or}
+use Rattle.rsx_operators.specs.Moves.{Moves, has_ended, ended_or}
+use Rattle.rsx_pending.specs.Signals.{has_ending}
 use Rattle.rsx_operators.specs.declared.prepared.Emission.{Emission}
 use Rattle.rsx_choices.specs.Concat.{value_then}
 use Rattle.rsx_lanes.specs.Window.{window}

@@ -178,7 +178,8 @@ impl<T: Drop> CurrentWindow<T> {
     ghost use Rattle.std.specs.Prelude.{◌≡◌, ◌+◌, true, false, [], length, IfOk, IfErr, OnOk, OnErr};
     ghost use Rattle.rsx_types.specs.declared.signal.Signal.TheVariants.{Next};
     ghost use Rattle.rsx_types.specs.Stream.{ended_by};
-    ghost use Rattle.rsx_operators.specs.Moves.{Moves, has_ended, has_ending};
+    ghost use Rattle.rsx_operators.specs.Moves.{Moves, has_ended};
+    ghost use Rattle.rsx_pending.specs.Signals.{has_ending};
     ghost use Rattle.rsx_window.specs.Cut.{is_over, window_left, window_after, ClosesWith, EndsWith};
 
     /// Whether the ending was put out.

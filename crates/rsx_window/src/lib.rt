@@ -10,7 +10,8 @@
 //! node) and `Laws`. What `window` gives for a whole input is `window` of `rsx_lanes`; that is what a new node gives.
 
 pub mod current;
-//pub mod node;
+pub mod node;
+mod rest;
 
 pub use current::CurrentWindow;
-//pub use node::WindowNode;
+pub use node::WindowNode;
