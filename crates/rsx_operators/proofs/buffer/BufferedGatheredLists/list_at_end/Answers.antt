@@ -1,5 +1,5 @@
 use Rattle.std.proofs.Common.{rules}
-use Rattle.rsx_operators.proofs.buffer.list_at_end.Goals as goal
+use Rattle.rsx_operators.proofs.buffer.BufferedGatheredLists.list_at_end.Goals as goal
 
 pub returns-in_err-list-in-Done-false : goal.returns-in_err-list-in-Done-false
 returns-in_err-list-in-Done-false g c = search rules

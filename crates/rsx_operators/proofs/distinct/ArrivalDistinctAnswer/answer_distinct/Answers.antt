@@ -1,11 +1,14 @@
 use Rattle.std.proofs.Common.{rules}
-use Rattle.rsx_operators.proofs.scan.prepare.Goals as goal
+use Rattle.rsx_operators.proofs.distinct.ArrivalDistinctAnswer.answer_distinct.Goals as goal
 
-pub returns-in-Ok-copy-clause-answer : goal.returns-in-Ok-copy-clause-answer
-returns-in-Ok-copy-clause-answer g c = search rules
+pub returns-in-Ok-true-clause-answer : goal.returns-in-Ok-true-clause-answer
+returns-in-Ok-true-clause-answer g c = search rules
 
-pub returns-in-Ok-copy-clause-err : goal.returns-in-Ok-copy-clause-err
-returns-in-Ok-copy-clause-err g c = search rules
+pub returns-in-Ok-true-clause-err : goal.returns-in-Ok-true-clause-err
+returns-in-Ok-true-clause-err g c = search rules
+
+pub returns-in-Ok-false-clause-err : goal.returns-in-Ok-false-clause-err
+returns-in-Ok-false-clause-err g c = search rules
 
 pub returns-in-Err-clause-answer : goal.returns-in-Err-clause-answer
 returns-in-Err-clause-answer g c = search rules

@@ -1,5 +1,5 @@
 use Rattle.std.proofs.Common.{rules}
-use Rattle.rsx_operators.proofs.map.prepare.Goals as goal
+use Rattle.rsx_operators.proofs.map.ArrivalMapAnswer.answer_map.Goals as goal
 
 pub returns-in-Ok-clause-answer : goal.returns-in-Ok-clause-answer
 returns-in-Ok-clause-answer g c = search rules
