@@ -1,5 +1,5 @@
 use Rattle.std.proofs.Common.{rules}
-use Rattle.rsx_chain.proofs.chain.ChainState.react.Goals as goal
+use Rattle.rsx_chain.proofs.chain.ChainStateChaining.react.Goals as goal
 
 pub returns-in-Ok-clause-ok : goal.returns-in-Ok-clause-ok
 returns-in-Ok-clause-ok g c = search rules

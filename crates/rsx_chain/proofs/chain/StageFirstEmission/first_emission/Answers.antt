@@ -1,5 +1,5 @@
 use Rattle.std.proofs.Common.{rules}
-use Rattle.rsx_chain.proofs.chain.start.Goals as goal
+use Rattle.rsx_chain.proofs.chain.StageFirstEmission.first_emission.Goals as goal
 
 pub returns-in_err-copy-in-Scan-clause-fresh : goal.returns-in_err-copy-in-Scan-clause-fresh
 returns-in_err-copy-in-Scan-clause-fresh g c = search rules

@@ -1,5 +1,5 @@
 use Rattle.std.proofs.Common.{rules}
-use Rattle.rsx_chain.proofs.chain.ChainState.behind.Goals as goal
+use Rattle.rsx_chain.proofs.chain.ChainStateLinking.behind.Goals as goal
 
 pub returns-in_err-behind-clause-from : goal.returns-in_err-behind-clause-from
 returns-in_err-behind-clause-from g c = search rules

@@ -1,5 +1,5 @@
 use Rattle.std.proofs.Common.{rules}
-use Rattle.rsx_chain.proofs.chain.ChainState.+take.Goals as goal
+use Rattle.rsx_chain.proofs.chain.ChainStateChaining.+take.Goals as goal
 
 pub returns-in-End-clause-ok : goal.returns-in-End-clause-ok
 returns-in-End-clause-ok g t c = search rules

@@ -1,5 +1,5 @@
 use Rattle.std.proofs.Common.{rules}
-use Rattle.rsx_chain.proofs.chain.NewChain.behind.Goals as goal
+use Rattle.rsx_chain.proofs.chain.ChainStateLinking.linked.Goals as goal
 
 pub returns-in_err-first-clause-fresh : goal.returns-in_err-first-clause-fresh
 returns-in_err-first-clause-fresh g c = search rules

@@ -1,5 +1,5 @@
 use Rattle.std.proofs.Common.{rules}
-use Rattle.rsx_chain.proofs.chain.ChainState.take_start.Goals as goal
+use Rattle.rsx_chain.proofs.chain.ChainStateLinking.take_start.Goals as goal
 
 pub returns-in_err-seed-clause-fresh : goal.returns-in_err-seed-clause-fresh
 returns-in_err-seed-clause-fresh g c = search rules
