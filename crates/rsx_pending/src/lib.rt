@@ -7,4 +7,4 @@
 
 pub mod signals;
 
-pub use signals::PendingSignals;
+pub use signals::{InFront, PendingSignals};

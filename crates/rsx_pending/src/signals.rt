@@ -1,5 +1,9 @@
 //! Signals that wait to be taken, one by one.
 
+ghost use Rattle.std.specs.Prelude.{◌≡◌, List, IfOk};
+ghost use Rattle.rsx_types.specs.Stream.{signals_then};
+ghost use Rattle.rsx_types.specs.declared.signal.Signal.{Signal as SignalSpec};
+
 use rsx_types::{Ending, NoMemory, Ops, Signal, StreamValue};
 use std::alloc::Global;
 use std::marker::Model;
@@ -25,7 +29,6 @@ impl<T> Model for PendingSignals<T> {
 impl<T: Drop> PendingSignals<T> {
     ghost use Rattle.std.specs.Prelude.{◌≡◌, ℕ, ◌+◌, ◌<◌, ◌≤◌, false, [], ◌∷◌, ◌++◌, length, map, slice_get, IfOk, IfSome, IfNone};
     ghost use Rattle.std.specs.Option.{option_copied, option_to_list, OnSome};
-    ghost use Rattle.rsx_types.specs.Stream.{signals_then};
     ghost use Rattle.rsx_types.specs.declared.signal.Signal.TheVariants.{Next};
     ghost use Rattle.rsx_sources.specs.Slot.{is_nil, is_item_first};
     ghost use Rattle.rsx_pending.specs.Signals.{HasRoom, has_ending};
@@ -155,12 +158,29 @@ impl<T: Drop> PendingSignals<T> {
             self.put_front(Signal::Next(item));
         }
     }
+}
+
+/// What waits, copied in front of a value.
+pub trait InFront<T: Drop> {
+    ghost signals: { Self → List (SignalSpec T) };
 
     /// Copies of the items that wait, up to an ending, and behind them this value where there is no ending.
     ///
     /// # Errors
     /// [`NoMemory`] where a growth was refused.
-    pub fn in_front<O: Ops<Item = T>>(
+    fn in_front<O: Ops<Item = T>>(
+        &self,
+        alloc: Global,
+        ops: &O,
+        behind: StreamValue<T>,
+    ) -> Result<StreamValue<T>, NoMemory>
+        ensures { IfOk result (λ v. v ≡ signals_then (signals self.now) behind) };
+}
+
+impl<T: Drop> InFront<T> for PendingSignals<T> {
+    ghost signals = { λ p. p.left };
+
+    fn in_front<O: Ops<Item = T>>(
         &self,
         alloc: Global,
         ops: &O,

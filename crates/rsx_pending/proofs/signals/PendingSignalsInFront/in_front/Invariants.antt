@@ -1,6 +1,6 @@
 use Rattle.std.proofs.Common.{◌≡◌, ◌++◌, take, reverse}
 use Rattle.rsx_types.specs.Stream.{signals_then, items_then}
-use Rattle.rsx_pending.proofs.signals.PendingSignals.in_front.Given as goal
+use Rattle.rsx_pending.proofs.signals.PendingSignalsInFront.in_front.Given as goal
 
 abbrev pub invariant-loop-at : goal.invariant-loop-at
 invariant-loop-at g l =
