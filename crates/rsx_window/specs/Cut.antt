@@ -1,5 +1,5 @@
 -- What still comes out of a `window` that has taken some of its input.
-use Rattle.std.specs.Prelude.{◌≡◌, ℕ, suc, ◌-◌, Bool, true, false, List, [], ◌++◌, drop, map, Option}
+use Rattle.std.specs.Prelude.{◌≡◌, ℕ, suc, ◌-◌, Bool, true, false, List, [], ◌∷◌, ◌++◌, drop, map, Option}
 use Rattle.rsx_types.specs.declared.signal.Ending.{Ending}
 use Rattle.rsx_types.specs.declared.signal.Ending.TheVariants.{Open, Done, Failed}
 use Rattle.rsx_types.specs.declared.signal.Signal.{Signal}
@@ -33,6 +33,11 @@ abbrev pub window_left : {T : Type 0} → Meaning T → ℕ → List (Stage T) �
 window_left m n gs (Running c more) v = value_then (chain_from m c (window_rest (suc more) v)) (window m n gs (behind (suc more) v))
 window_left m n gs (Passing left) v = window m n gs (behind left v)
 window_left m n gs Over v = ended_by Open
+
+-- the value that comes in at the first input; where none is named, nothing comes
+abbrev pub first_value : {T : Type 0} → List (Stream T) → Stream T
+first_value [] = ended_by Open
+first_value (v ∷ vs) = v
 
 abbrev pub is_over : {T : Type 0} → CurrentWindow T → Bool
 is_over (Running c more) = false

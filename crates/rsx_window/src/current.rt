@@ -1,18 +1,21 @@
 //! The window that is started.
 
-ghost use Rattle.std.specs.Prelude.{◌≡◌, ◌+◌, ◌<◌, ◌≤◌, true, [], ◌++◌, length, IfOk, IfErr, OnErr};
+ghost use Rattle.std.specs.Prelude.{◌≡◌, ℕ, ◌+◌, ◌<◌, ◌≤◌, true, false, [], ◌++◌, length, IfOk, IfErr, OnOk, OnErr};
 ghost use Rattle.rsx_types.specs.Stream.{ending_signals};
 ghost use Rattle.rsx_chain.specs.Emissions.{item_signals};
-ghost use Rattle.rsx_pending.specs.Signals.{HasRoom};
-ghost use Rattle.rsx_operators.specs.Moves.{has_ended};
-ghost use Rattle.rsx_window.specs.Cut.{TakesItem, Begins, put_out, unless_done, last_ending};
+ghost use Rattle.rsx_pending.specs.Signals.{HasRoom, SignalsLeft, has_ending};
+ghost use Rattle.rsx_types.specs.declared.signal.Signal.TheVariants.{Next};
+ghost use Rattle.rsx_operators.specs.Moves.{Moves, has_ended};
+ghost use Rattle.rsx_window.specs.Cut.{TakesItem, Begins, put_out, unless_done, last_ending, is_over, window_left, window_after, ClosesWith, EndsWith};
+ghost use Rattle.rsx_chain.specs.declared.chain.ChainState.{ChainState as ChainStateSpec};
+ghost use Rattle.rsx_window.specs.declared.current.CurrentWindow.{CurrentWindow as CurrentWindowSpec};
+ghost use Rattle.rsx_window.specs.declared.current.CurrentWindow.TheVariants.{Running};
 
-use rsx_chain::{ChainState, NewChain};
+use rsx_chain::{ChainState, Chaining, NewChain};
 use rsx_operators::Emission;
 use rsx_pending::PendingSignals;
 use rsx_types::{Ending, NoMemory, Ops, Signal, Stage};
 use std::alloc::Global;
-use std::mem;
 
 /// Where a `window` is in its input.
 #[derive(Drop)]
@@ -39,82 +42,119 @@ pub struct Begun<T> {
     pub spare: Option<PendingSignals<T>>,
 }
 
-/// Has the chain of a started window take an item, and the completion behind it where the window takes no more.
-fn take_item<T: Drop, O: Ops<Item = T>>(
-    chain: &mut ChainState<T>,
-    alloc: Global,
-    ops: &O,
-    more: u64,
-    item: T,
-) -> Result<Emission<T>, T>
-    ensures ok { IfOk result (λ out. TakesItem (O.meaning ops.now) chain.old more item out chain.new) }
-    ensures last { IfOk result (λ out. more ≡ 0 → has_ended out.ending ≡ true) }
-    ensures err { IfErr result (λ x. x ≡ item) }
-    ensures same { OnErr result (chain.new ≡ chain.old) }
-{
-    let ending = if more == 0 {
-        Ending::Done
-    } else {
-        Ending::Open
-    };
-    let emission = Emission {
-        item: Some(item),
-        ending,
-    };
-    match chain.take(alloc, ops, emission) {
-        Ok(out) => Ok(out),
-        Err(back) => match back.item {
-            Some(item) => Err(item),
-            None => unreachable!(),
-        },
+/// What the chain of a started window does with an item.
+trait TakingItem<T: Drop> {
+    ghost chain: { Self → ChainStateSpec T };
+
+    /// Takes an item, and the completion behind it where the window takes no more.
+    fn take_item<O: Ops<Item = T>>(
+        &mut self,
+        alloc: Global,
+        ops: &O,
+        more: u64,
+        item: T,
+    ) -> Result<Emission<T>, T>
+        ensures ok { IfOk result (λ out. TakesItem (O.meaning ops.now) (chain self.old) more item out (chain self.new)) }
+        ensures last { IfOk result (λ out. more ≡ 0 → has_ended out.ending ≡ true) }
+        ensures err { IfErr result (λ x. x ≡ item) }
+        ensures same { OnErr result (self.new ≡ self.old) };
+}
+
+impl<T: Drop> TakingItem<T> for ChainState<T> {
+    ghost chain = { λ c. c };
+
+    fn take_item<O: Ops<Item = T>>(
+        &mut self,
+        alloc: Global,
+        ops: &O,
+        more: u64,
+        item: T,
+    ) -> Result<Emission<T>, T>
+        ensures ok { IfOk result (λ out. TakesItem (O.meaning ops.now) self.old more item out self.new) }
+        ensures last { IfOk result (λ out. more ≡ 0 → has_ended out.ending ≡ true) }
+        ensures err { IfErr result (λ x. x ≡ item) }
+        ensures same { OnErr result (self.new ≡ self.old) }
+    {
+        let ending = if more == 0 {
+            Ending::Done
+        } else {
+            Ending::Open
+        };
+        let emission = Emission {
+            item: Some(item),
+            ending,
+        };
+        match self.take(alloc, ops, emission) {
+            Ok(out) => Ok(out),
+            Err(back) => match back.item {
+                Some(item) => Err(item),
+                None => unreachable!(),
+            },
+        }
     }
 }
 
-/// Starts a window with its first item, behind which it takes so many more. What comes out is to wait in this list.
-fn begin<T: Drop, O: Ops<Item = T>>(
-    alloc: Global,
-    ops: &O,
-    stages: &[Stage<T>],
-    more: u64,
-    item: T,
-    pending: &PendingSignals<T>,
-) -> Result<Begun<T>, T>
-    ensures ok { IfOk result (λ b. Begins (O.meaning ops.now) stages.now more item b) }
-    ensures last { IfOk result (λ b. more ≡ 0 → has_ended b.out.ending ≡ true) }
-    ensures room { IfOk result (λ b. HasRoom b.spare pending.now (length b.items.items + 2)) }
-    ensures err { IfErr result (λ x. x ≡ item) }
-{
-    match ChainState::new(alloc, ops, stages) {
-        Ok(NewChain { chain, first }) => {
-            let ending = first.ending();
-            let mut items = first.into_items();
-            if items.reserve(2).is_err() {
-                return Err(item);
-            }
-            let spare = match pending.spare(alloc, items.capacity()) {
-                Ok(spare) => spare,
-                Err(_) => return Err(item),
-            };
-            let mut chain = chain;
-            match ending {
-                Ending::Open => match take_item(&mut chain, alloc, ops, more, item) {
-                    Ok(out) => Ok(Begun {
-                        chain,
-                        items,
-                        out,
-                        spare,
-                    }),
-                    Err(item) => Err(item),
-                },
-                ending => Ok(Begun {
-                    chain,
-                    items,
-                    out: Emission { item: None, ending },
-                    spare,
-                }),
-            }
+/// How a window is started whose signals are to wait in this list.
+trait BeginningWindow<T: Drop> {
+    ghost list: { Self → SignalsLeft T };
+
+    /// Starts a window with its first item, behind which it takes so many more.
+    fn begin<O: Ops<Item = T>>(
+        &self,
+        alloc: Global,
+        ops: &O,
+        stages: &[Stage<T>],
+        more: u64,
+        item: T,
+    ) -> Result<Begun<T>, T>
+        ensures ok { IfOk result (λ b. Begins (O.meaning ops.now) stages.now more item b) }
+        ensures last { IfOk result (λ b. more ≡ 0 → has_ended b.out.ending ≡ true) }
+        ensures room { IfOk result (λ b. HasRoom b.spare (list self.now) (length b.items.items + 2)) }
+        ensures err { IfErr result (λ x. x ≡ item) };
+}
+
+impl<T: Drop> BeginningWindow<T> for PendingSignals<T> {
+    ghost list = { λ p. p };
+
+    fn begin<O: Ops<Item = T>>(
+        &self,
+        alloc: Global,
+        ops: &O,
+        stages: &[Stage<T>],
+        more: u64,
+        item: T,
+    ) -> Result<Begun<T>, T>
+        ensures ok { IfOk result (λ b. Begins (O.meaning ops.now) stages.now more item b) }
+        ensures last { IfOk result (λ b. more ≡ 0 → has_ended b.out.ending ≡ true) }
+        ensures room { IfOk result (λ b. HasRoom b.spare self.now (length b.items.items + 2)) }
+        ensures err { IfErr result (λ x. x ≡ item) }
+    {
+        let (mut chain, first) = match ChainState::new(alloc, ops, stages) {
+            Ok(NewChain { chain, first }) => (chain, first),
+            Err(_) => return Err(item),
+        };
+        let ending = first.ending();
+        let mut items = first.into_items();
+        if items.reserve(2).is_err() {
+            return Err(item);
         }
-        Err(_) => Err(item),
+        let spare = match self.spare(alloc, items.capacity()) {
+            Ok(spare) => spare,
+            Err(_) => return Err(item),
+        };
+        let out = match ending {
+            Ending::Open => match chain.take_item(alloc, ops, more, item) {
+                Ok(out) => out,
+                Err(item) => return Err(item),
+            },
+            ending => Emission { item: None, ending },
+        };
+        Ok(Begun {
+            chain,
+            items,
+            out,
+            spare,
+        })
     }
 }
 
@@ -175,30 +215,11 @@ fn last_ending(window: Ending, input: Ending) -> Ending
 }
 
 impl<T: Drop> CurrentWindow<T> {
-    ghost use Rattle.std.specs.Prelude.{◌≡◌, ◌+◌, true, false, [], length, IfOk, IfErr, OnOk, OnErr};
-    ghost use Rattle.rsx_types.specs.declared.signal.Signal.TheVariants.{Next};
-    ghost use Rattle.rsx_types.specs.Stream.{ended_by};
-    ghost use Rattle.rsx_operators.specs.Moves.{Moves, has_ended};
-    ghost use Rattle.rsx_pending.specs.Signals.{has_ending};
-    ghost use Rattle.rsx_window.specs.Cut.{is_over, window_left, window_after, ClosesWith, EndsWith};
-
     /// Whether the ending was put out.
     pub fn is_over(&self) -> bool
         ensures { result ≡ is_over self.now }
     {
         matches!(self, CurrentWindow::Over)
-    }
-
-    /// Where a window is then, which takes so many more items and whose chain has put out this ending.
-    fn after(chain: ChainState<T>, more: u64, ending: Ending) -> CurrentWindow<T>
-        requires { more ≡ 0 → has_ended ending ≡ true }
-        ensures { result ≡ window_after chain more ending }
-    {
-        match ending {
-            Ending::Open => CurrentWindow::Running(chain, more - 1),
-            Ending::Done => CurrentWindow::Passing(more),
-            Ending::Failed(_) => CurrentWindow::Over,
-        }
     }
 
     /// Goes on from there.
@@ -208,9 +229,79 @@ impl<T: Drop> CurrentWindow<T> {
         *self = next;
     }
 
+    /// Goes on behind an item by which the chain of the started window has put out this ending.
+    fn step(&mut self, ending: Ending)
+        ensures { (chain : ChainStateSpec T) (more : ℕ) → self.old ≡ Running chain more → self.new ≡ window_after chain more ending }
+    {
+        let CurrentWindow::Running(_, more) = self else {
+            return;
+        };
+        let left = *more;
+        match ending {
+            Ending::Open => *more = left.saturating_sub(1),
+            Ending::Done => self.set(CurrentWindow::Passing(left)),
+            Ending::Failed(_) => self.set(CurrentWindow::Over),
+        }
+    }
+}
+
+/// What a window does with the signals of the input.
+pub(crate) trait Windowing<T: Drop> {
+    ghost current: { Self → CurrentWindowSpec T };
+
     /// Takes an item, and puts what comes out into the list, in which nothing waits. For want of memory the item comes back, and
     /// nothing has changed.
-    pub(crate) fn take_item<O: Ops<Item = T>>(
+    fn take_item<O: Ops<Item = T>>(
+        &mut self,
+        alloc: Global,
+        ops: &O,
+        size: u64,
+        stages: &[Stage<T>],
+        item: T,
+        pending: &mut PendingSignals<T>,
+    ) -> Result<(), T>
+        requires nothing { pending.old.left ≡ [] }
+        requires open { is_over (current self.old) ≡ false }
+        ensures ok { OnOk result (Moves (window_left (O.meaning ops.now) size stages.now) (current self.old) (Next item) pending.new.left (current self.new)) }
+        ensures over { OnOk result (has_ending pending.new.left ≡ is_over (current self.new)) }
+        ensures err { IfErr result (λ x. x ≡ item) }
+        ensures same { OnErr result (self.new ≡ self.old) }
+        ensures kept { OnErr result (pending.new ≡ pending.old) };
+
+    /// Has the chain of the window that is started, if there is one, take the ending of the input, and answers what comes out.
+    /// For want of memory nothing has changed.
+    fn close<O: Ops<Item = T>>(
+        &mut self,
+        alloc: Global,
+        ops: &O,
+        ending: Ending,
+    ) -> Result<Emission<T>, NoMemory>
+        requires ends { has_ended ending ≡ true }
+        ensures ok { IfOk result (λ out. ClosesWith (O.meaning ops.now) (current self.old) ending out) }
+        ensures same { OnErr result (self.new ≡ self.old) };
+
+    /// Takes the ending of the input, and puts what comes out into the list, in which nothing waits. For want of memory nothing
+    /// has changed.
+    fn end<O: Ops<Item = T>>(
+        &mut self,
+        alloc: Global,
+        ops: &O,
+        ending: Ending,
+        pending: &mut PendingSignals<T>,
+    ) -> Result<(), NoMemory>
+        requires nothing { pending.old.left ≡ [] }
+        requires ends { has_ended ending ≡ true }
+        ensures ok { OnOk result (EndsWith (O.meaning ops.now) (current self.old) ending pending.new.left) }
+        ensures over { OnOk result (is_over (current self.new) ≡ true) }
+        ensures out { OnOk result (has_ending pending.new.left ≡ true) }
+        ensures same { OnErr result (self.new ≡ self.old) }
+        ensures kept { OnErr result (pending.new ≡ pending.old) };
+}
+
+impl<T: Drop> Windowing<T> for CurrentWindow<T> {
+    ghost current = { λ c. c };
+
+    fn take_item<O: Ops<Item = T>>(
         &mut self,
         alloc: Global,
         ops: &O,
@@ -227,56 +318,43 @@ impl<T: Drop> CurrentWindow<T> {
         ensures same { OnErr result (self.new ≡ self.old) }
         ensures kept { OnErr result (pending.new ≡ pending.old) }
     {
-        match mem::replace(self, CurrentWindow::Over) {
+        match self {
             CurrentWindow::Passing(0) => {
                 let more = size.saturating_sub(1);
-                match begin(alloc, ops, stages, more, item, pending) {
-                    Ok(begun) => {
-                        let ending = begun.out.ending;
-                        pending.take_over(begun.spare);
-                        put_out(pending, begun.items, begun.out.item, unless_done(ending));
-                        self.set(CurrentWindow::after(begun.chain, more, ending));
-                        Ok(())
-                    }
-                    Err(item) => {
-                        self.set(CurrentWindow::Passing(0));
-                        Err(item)
-                    }
-                }
+                let begun = match pending.begin(alloc, ops, stages, more, item) {
+                    Ok(begun) => begun,
+                    Err(item) => return Err(item),
+                };
+                let ending = begun.out.ending;
+                pending.take_over(begun.spare);
+                put_out(pending, begun.items, begun.out.item, unless_done(ending));
+                self.set(CurrentWindow::Running(begun.chain, more));
+                self.step(ending);
+                Ok(())
             }
             CurrentWindow::Passing(left) => {
-                self.set(CurrentWindow::Passing(left - 1));
+                *left -= 1;
                 Ok(())
             }
             CurrentWindow::Running(chain, more) => {
-                let mut chain = chain;
                 let spare = match pending.spare(alloc, 2) {
                     Ok(spare) => spare,
-                    Err(_) => {
-                        self.set(CurrentWindow::Running(chain, more));
-                        return Err(item);
-                    }
+                    Err(_) => return Err(item),
                 };
-                match take_item(&mut chain, alloc, ops, more, item) {
-                    Ok(out) => {
-                        let ending = out.ending;
-                        pending.take_over(spare);
-                        put_out(pending, Vec::new(alloc), out.item, unless_done(ending));
-                        self.set(CurrentWindow::after(chain, more, ending));
-                        Ok(())
-                    }
-                    Err(item) => {
-                        self.set(CurrentWindow::Running(chain, more));
-                        Err(item)
-                    }
-                }
+                let out = match chain.take_item(alloc, ops, *more, item) {
+                    Ok(out) => out,
+                    Err(item) => return Err(item),
+                };
+                pending.take_over(spare);
+                let ending = out.ending;
+                put_out(pending, Vec::new(alloc), out.item, unless_done(ending));
+                self.step(ending);
+                Ok(())
             }
             CurrentWindow::Over => unreachable!(),
         }
     }
 
-    /// Has the chain of the window that is started, if there is one, take the ending of the input, and answers what comes out.
-    /// For want of memory nothing has changed.
     fn close<O: Ops<Item = T>>(
         &mut self,
         alloc: Global,
@@ -302,9 +380,7 @@ impl<T: Drop> CurrentWindow<T> {
         }
     }
 
-    /// Takes the ending of the input, and puts what comes out into the list, in which nothing waits. For want of memory nothing
-    /// has changed.
-    pub(crate) fn end<O: Ops<Item = T>>(
+    fn end<O: Ops<Item = T>>(
         &mut self,
         alloc: Global,
         ops: &O,

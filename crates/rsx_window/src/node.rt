@@ -2,9 +2,10 @@
 
 ghost use Rattle.std.specs.Prelude.{◌≡◌, IfOk};
 
-use crate::current::CurrentWindow;
+use crate::current::{CurrentWindow, Windowing};
+use crate::rest::{Collecting, first_ending, first_items};
 use rsx_demand::saturating_total;
-use rsx_pending::PendingSignals;
+use rsx_pending::{InFront, PendingSignals};
 use rsx_sources::{Front, Machine, NotMade, NotTaken, Passed};
 use rsx_types::{Ending, NoMemory, Note, Ops, Signal, Stage, StreamValue};
 use std::alloc::Global;
@@ -320,14 +321,20 @@ impl<T: Drop> Machine for WindowNode<T> {
         ensures { IfOk result (λ v.
             IsResidualOf (window_comes_out (O.meaning ops.now)) (λ n. Nothing) (λ n. None) self.now inboxes.now incoming.now v) }
     {
-        let (items, ending) = match incoming.first() {
-            Some(value) => (value.items(), value.ending()),
-            None => (&[] as &[T], Ending::Open),
-        };
-        let behind = self
-            .current
-            .left(alloc, ops, self.size, &self.stages, items, ending)?;
-        self.pending.in_front(alloc, ops, behind)
+        let items = first_items(incoming);
+        let ending = first_ending(incoming);
+        let mut out = Vec::new(alloc);
+        let last = out.left_behind(
+            alloc,
+            ops,
+            self.size,
+            &self.stages,
+            &self.current,
+            items,
+            ending,
+        )?;
+        self.pending
+            .in_front(alloc, ops, StreamValue::new(out, last))
     }
 
     ghost shows = { λ m n. refl };

@@ -1,6 +1,6 @@
 use Rattle.std.proofs.Common.{rules}
 use Rattle.rsx_window.proofs.Runs.{chain_closes}
-use Rattle.rsx_window.proofs.current.CurrentWindow.close.Goals as goal
+use Rattle.rsx_window.proofs.current.CurrentWindowWindowing.close.Goals as goal
 
 pub returns-in-Ok-clause-ok : goal.returns-in-Ok-clause-ok
 returns-in-Ok-clause-ok g c =
