@@ -1,8 +1,7 @@
 -- What still comes out, copied part by part.
-use Rattle.std.proofs.Common.{◌≡◌, ℕ, zero, suc, ◌+◌, ◌-◌, ◌<◌, ◌≤◌, List, [], ◌∷◌, ◌++◌, take, drop, length, Option, Some, Result, refl, ap, sym, ◌∙◌, arith, append_assoc, subst}
-use Rattle.std.specs.Prelude.{⊤, IfOk}
+use Rattle.std.proofs.Common.{◌≡◌, ℕ, zero, suc, ◌-◌, ◌<◌, ◌≤◌, List, [], ◌∷◌, ◌++◌, take, drop, length, Some, refl, ap, sym, ◌∙◌, arith, append_assoc, subst}
+use Rattle.std.specs.Prelude.{⊤}
 use Rattle.std.proofs.lemmas.List.{append-nil}
-use Rattle.std.proofs.lemmas.Result.{IfOk-weaker}
 use Rattle.rsx_types.specs.declared.note.Note.{Note}
 use Rattle.rsx_types.specs.declared.note.Note.TheVariants.{Nothing, Picks, Ended}
 use Rattle.rsx_types.specs.declared.signal.Ending.{Ending}
@@ -17,10 +16,9 @@ use Rattle.rsx_sources.specs.Machine.{incoming_of}
 use Rattle.rsx_choices.specs.Concat.{unless_open, value_then}
 use Rattle.rsx_chain.specs.Emissions.{followed_by}
 use Rattle.rsx_lanes.specs.Window.{window}
-use Rattle.rsx_window.specs.Cut.{window_rest, behind, window_left, first_value}
+use Rattle.rsx_window.specs.Cut.{window_rest, window_left, first_value}
 use Rattle.rsx_window.specs.Window.{windows_of}
 use Rattle.rsx_window.specs.declared.current.CurrentWindow.{CurrentWindow}
-use Rattle.rsx_window.specs.declared.current.CurrentWindow.TheVariants.{Passing}
 use Rattle.rsx_window.proofs.Cuts.{window_first}
 
 stream_is : {T : Type 0} (xs ys : List T) (e f : Ending) → xs ≡ ys → e ≡ f → ◌≡◌ {A = Stream T} (record { items = xs; ending = e }) (record { items = ys; ending = f })

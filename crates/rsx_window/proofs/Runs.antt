@@ -1,14 +1,13 @@
 -- What comes out of a started window by a signal of the input.
-use Rattle.std.proofs.Common.{◌≡◌, ℕ, zero, suc, ◌+◌, ◌-◌, Bool, true, false, List, [], ◌∷◌, ◌++◌, map, drop, Option, Some, None, refl, ap, sym, ◌∙◌, arith}
+use Rattle.std.proofs.Common.{◌≡◌, ℕ, zero, suc, ◌-◌, true, false, List, [], ◌∷◌, Option, Some, None, refl, ap, sym, ◌∙◌, arith}
 use Rattle.rsx_types.specs.declared.signal.Cause.{Cause}
 use Rattle.rsx_types.specs.declared.signal.Ending.{Ending}
 use Rattle.rsx_types.specs.declared.signal.Ending.TheVariants.{Open, Done, Failed}
 use Rattle.rsx_types.specs.declared.signal.Signal.{Signal}
-use Rattle.rsx_types.specs.declared.signal.Signal.TheVariants.{Next, Complete, Error}
+use Rattle.rsx_types.specs.declared.signal.Signal.TheVariants.{Next}
 use Rattle.rsx_types.specs.declared.stage.Stage.{Stage}
 use Rattle.rsx_types.specs.Meaning.{Meaning}
-use Rattle.rsx_types.specs.Plain.{chained}
-use Rattle.rsx_types.specs.Stream.{Stream, ended_by, item_then, items_then, signal_then, signals_then, ending_signals}
+use Rattle.rsx_types.specs.Stream.{Stream, ended_by, item_then, items_then, signals_then}
 use Rattle.rsx_operators.specs.Emission.{item_or, emission_then}
 use Rattle.rsx_operators.specs.Moves.{Moves, has_ended, ended_or}
 use Rattle.rsx_pending.specs.Signals.{has_ending}

@@ -1,6 +1,5 @@
-use Rattle.std.proofs.Common.{rules, ◌≡◌, ◌<◌, length, arith}
+use Rattle.std.proofs.Common.{rules, ◌<◌, length, arith}
 use Rattle.std.proofs.lemmas.Grind.{common_steps}
-use Rattle.rsx_window.specs.Cut.{window_rest}
 use Rattle.rsx_window.proofs.Rests.{next_window, last_window_out, copied_first}
 use Rattle.rsx_window.proofs.rest.VecCollecting.windows_behind.Goals as goal
 
