@@ -2,7 +2,7 @@
 
 use crate::numbers::{PLENTY, SCARCE};
 use crate::received::{Received, signal_of};
-use rsx_chain::{ChainState, NewChain};
+use rsx_chain::{ChainState, Chaining, NewChain};
 use rsx_sources::OutSlot;
 use rsx_types::{Cause, Ending, NoMemory, Signal, Stage, StreamValue};
 use std::alloc::Global;

@@ -1,6 +1,6 @@
 #![tactic(auto)]
 //! Tests of the nodes of a tree, call by call: the sources, the plain operators and the chains, the nodes of several inputs with the
-//! values that they join, and the edges between two regions. This crate has nothing else.
+//! values that they join, the node `window`, and the edges between two regions. This crate has nothing else.
 
 #[cfg(test)]
 mod chain_tests;
@@ -28,5 +28,7 @@ mod queued;
 mod received;
 #[cfg(test)]
 mod source_tests;
+#[cfg(test)]
+mod window;
 #[cfg(test)]
 mod zip_tests;

@@ -1,5 +1,5 @@
 -- A chain that is over.
-use Rattle.std.proofs.Common.{◌≡◌, Bool, true, false, ◌||◌, refl, sym, ap, ◌∙◌}
+use Rattle.std.proofs.Common.{◌≡◌, Bool, true, false, refl, sym, ap, ◌∙◌}
 use Rattle.rsx_types.specs.Meaning.{Meaning}
 use Rattle.rsx_types.specs.Stream.{Stream}
 use Rattle.rsx_operators.specs.State.{plain_from, is_over}

@@ -4,10 +4,11 @@
 //! [`ChainState`] is for an operator that gives each of its lanes a chain of its own. It has no out slot, no edge and no demand
 //! inside: a signal that goes in is answered at once, by at most two signals.
 //!
-//! - `ChainState::new` makes a chain. What the operators give for a whole stream value, one after the other, is what comes
+//! - [`Chaining::new`] makes a chain. What the operators give for a whole stream value, one after the other, is what comes
 //!   out at the start, and then what the chain gives for that value.
-//! - `ChainState::react` takes one signal. What came out of the chain before is the answer, and then what comes out of it now.
-//! - `ChainState::rest` computes what still comes out.
+//! - [`Chaining::react`] takes one signal, and [`Chaining::take`] an item and the ending behind it. What came out of the chain
+//!   before is the answer, and then what comes out of it now.
+//! - [`Chaining::rest`] computes what still comes out.
 //!
 //! For want of memory a signal comes back, and the whole chain is as it was, though the operators in front may have answered
 //! before the one that found no memory. So an operator answers in two steps, `prepare` and then `commit` or `roll_back` of
@@ -20,4 +21,4 @@
 pub mod chain;
 mod emission;
 
-pub use chain::{ChainState, NewChain};
+pub use chain::{ChainState, Chaining, NewChain};

@@ -6,9 +6,10 @@ ghost use Rattle.rsx_types.specs.declared.signal.Signal.TheVariants.{Next, Compl
 ghost use Rattle.rsx_operators.specs.Emission.{item_ended};
 ghost use Rattle.rsx_operators.specs.Prepared.{IsPreparation, list_at_end as at_end, list_due as due};
 ghost use Rattle.rsx_operators.specs.State.{IsReaction};
+ghost use Rattle.rsx_operators.specs.declared.prepared.Emission.{Emission as EmissionSpec};
 ghost use Rattle.rsx_operators.specs.declared.state.PlainState.TheVariants.{Buffer as BufferFrom};
 
-use crate::prepared::{Emission, Pending, Prepared, without_item};
+use crate::prepared::{Arrival, Emission, Pending, Prepared, without_item};
 use rsx_collections::Buffered;
 use rsx_demand::UNBOUNDED;
 use rsx_sources::OutSlot;
@@ -130,69 +131,111 @@ pub(crate) fn want(asked: u64, size: u64) -> u64
     asked.saturating_mul(size).min(UNBOUNDED)
 }
 
-/// What a `buffer` in a chain answers to an item, and to this ending behind it: the list, where it is full or the items are
-/// complete. The gathered items stay for now. For want of memory the item comes back, and nothing has changed.
-#[tactic(auto, using(crate::proofs::Prepares::gathers_by))]
-pub(crate) fn prepare<T: Drop, O: Ops<Item = T>>(
-    alloc: Global,
-    ops: &O,
-    size: u64,
-    gathered: &mut Buffered<T>,
-    item: T,
-    ending: Ending,
-) -> Result<Prepared<T>, T>
-    ensures answer { IsPreparation (O.meaning ops.now) (O.allocates ops.now) (BufferFrom size gathered.old)
-        (item_ended item ending) result (BufferFrom size gathered.new) }
-    ensures err { IfErr result (λ x. x ≡ item) }
-{
-    if let Err(item) = gathered.push(item) {
-        return Err(item);
-    }
-    match list_due(alloc, ops, size, gathered, ending) {
-        Ok(item) => Ok(Prepared {
-            pending: Pending::Gathered,
-            answer: Emission { item, ending },
-        }),
-        Err(NoMemory) => match gathered.pop() {
-            Some(item) => Err(item),
-            None => Ok(without_item(None, ending)),
-        },
-    }
+/// What a `buffer` in a chain answers.
+pub(crate) trait BufferAnswer<T: Drop> {
+    ghost came: { Self → EmissionSpec T };
+
+    ghost item: { Self → T };
+
+    /// What it answers to an item, and to the ending behind it: the list, where it is full or the items are complete. The gathered
+    /// items stay for now. For want of memory the item comes back, and nothing has changed.
+    fn answer_buffer<O: Ops<Item = T>>(
+        self,
+        alloc: Global,
+        ops: &O,
+        size: u64,
+        gathered: &mut Buffered<T>,
+    ) -> Result<Prepared<T>, T>
+        ensures answer { IsPreparation (O.meaning ops.now) (O.allocates ops.now) (BufferFrom size gathered.old)
+            (came self) result (BufferFrom size gathered.new) }
+        ensures err { IfErr result (λ x. x ≡ item self) };
 }
 
-/// The list of the gathered items, where it is full or the items are complete.
-fn list_due<T: Drop, O: Ops<Item = T>>(
-    alloc: Global,
-    ops: &O,
-    size: u64,
-    gathered: &Buffered<T>,
-    ending: Ending,
-) -> Result<Option<T>, NoMemory>
-    ensures { IfOk result (λ out. out ≡ due (O.meaning ops.now).list_of size gathered.now ending) }
-{
-    if gathered.items().len() as u64 >= size {
-        let list = ops.list(alloc, gathered.items())?;
-        return Ok(Some(list));
-    }
-    list_at_end(alloc, ops, gathered, ending)
-}
+impl<T: Drop> BufferAnswer<T> for Arrival<T> {
+    ghost came = { λ a. item_ended a.item a.ending };
 
-/// The list of the gathered items, where there are any and the items are complete.
-pub(crate) fn list_at_end<T: Drop, O: Ops<Item = T>>(
-    alloc: Global,
-    ops: &O,
-    gathered: &Buffered<T>,
-    ending: Ending,
-) -> Result<Option<T>, NoMemory>
-    ensures { IfOk result (λ out. out ≡ at_end (O.meaning ops.now).list_of gathered.now ending) }
-{
-    match (ending, gathered.items().is_empty()) {
-        (Ending::Done, false) => {
-            let list = ops.list(alloc, gathered.items())?;
-            Ok(Some(list))
+    ghost item = { λ a. a.item };
+
+    #[tactic(auto, using(crate::proofs::Prepares::gathers_by))]
+    fn answer_buffer<O: Ops<Item = T>>(
+        self,
+        alloc: Global,
+        ops: &O,
+        size: u64,
+        gathered: &mut Buffered<T>,
+    ) -> Result<Prepared<T>, T> {
+        let Arrival { item, ending } = self;
+        if let Err(item) = gathered.push(item) {
+            return Err(item);
         }
-        (Ending::Done, true) => Ok(None),
-        (Ending::Open, _) => Ok(None),
-        (Ending::Failed(_), _) => Ok(None),
+        match gathered.list_due(alloc, ops, size, ending) {
+            Ok(item) => Ok(Prepared {
+                pending: Pending::Gathered,
+                answer: Emission { item, ending },
+            }),
+            Err(NoMemory) => match gathered.pop() {
+                Some(item) => Err(item),
+                None => Ok(without_item(None, ending)),
+            },
+        }
+    }
+}
+
+/// The lists that a `buffer` in a chain answers.
+pub(crate) trait GatheredLists<T: Drop> {
+    ghost gathered: { Self → List T };
+
+    /// The list of the gathered items, where it is full or the items are complete.
+    fn list_due<O: Ops<Item = T>>(
+        &self,
+        alloc: Global,
+        ops: &O,
+        size: u64,
+        ending: Ending,
+    ) -> Result<Option<T>, NoMemory>
+        ensures { IfOk result (λ out. out ≡ due (O.meaning ops.now).list_of size (gathered self.now) ending) };
+
+    /// The list of the gathered items, where there are any and the items are complete.
+    fn list_at_end<O: Ops<Item = T>>(
+        &self,
+        alloc: Global,
+        ops: &O,
+        ending: Ending,
+    ) -> Result<Option<T>, NoMemory>
+        ensures { IfOk result (λ out. out ≡ at_end (O.meaning ops.now).list_of (gathered self.now) ending) };
+}
+
+impl<T: Drop> GatheredLists<T> for Buffered<T> {
+    ghost gathered = { λ b. b };
+
+    fn list_due<O: Ops<Item = T>>(
+        &self,
+        alloc: Global,
+        ops: &O,
+        size: u64,
+        ending: Ending,
+    ) -> Result<Option<T>, NoMemory> {
+        if self.items().len() as u64 >= size {
+            let list = ops.list(alloc, self.items())?;
+            return Ok(Some(list));
+        }
+        self.list_at_end(alloc, ops, ending)
+    }
+
+    fn list_at_end<O: Ops<Item = T>>(
+        &self,
+        alloc: Global,
+        ops: &O,
+        ending: Ending,
+    ) -> Result<Option<T>, NoMemory> {
+        match (ending, self.items().is_empty()) {
+            (Ending::Done, false) => {
+                let list = ops.list(alloc, self.items())?;
+                Ok(Some(list))
+            }
+            (Ending::Done, true) => Ok(None),
+            (Ending::Open, _) => Ok(None),
+            (Ending::Failed(_), _) => Ok(None),
+        }
     }
 }

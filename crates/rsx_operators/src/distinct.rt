@@ -6,9 +6,10 @@ ghost use Rattle.rsx_types.specs.declared.signal.Signal.TheVariants.{Next};
 ghost use Rattle.rsx_operators.specs.Emission.{item_ended};
 ghost use Rattle.rsx_operators.specs.Prepared.{IsPreparation};
 ghost use Rattle.rsx_operators.specs.State.{IsReaction};
+ghost use Rattle.rsx_operators.specs.declared.prepared.Emission.{Emission as EmissionSpec};
 ghost use Rattle.rsx_operators.specs.declared.state.PlainState.TheVariants.{Distinct as DistinctFrom};
 
-use crate::prepared::{Prepared, failed, forwarded, kept};
+use crate::prepared::{Arrival, Prepared, failed, forwarded, kept};
 use rsx_collections::Keys;
 use rsx_demand::UNBOUNDED;
 use rsx_sources::OutSlot;
@@ -65,28 +66,48 @@ pub(crate) fn want(asked: u64, repeated: u64) -> u64
     asked.saturating_add(repeated).min(UNBOUNDED)
 }
 
-/// What a `distinct` in a chain answers to an item, and to this ending behind it. A chain asks for nothing, so an item whose
-/// key is known isn't counted. For want of memory the item comes back, and nothing has changed.
-#[tactic(auto, using(crate::proofs::Prepares::without_last_after))]
-pub(crate) fn prepare<T: Drop, O: Ops<Item = T>>(
-    ops: &O,
-    function: u16,
-    keys: &mut Keys,
-    repeated: u64,
-    item: T,
-    ending: Ending,
-) -> Result<Prepared<T>, T>
-    ensures answer { IsPreparation (O.meaning ops.now) (O.allocates ops.now) (DistinctFrom function keys.old repeated)
-        (item_ended item ending) result (DistinctFrom function keys.new repeated) }
-    ensures err { IfErr result (λ x. x ≡ item) }
-{
-    match ops.key(function, &item) {
-        Ok(key) => match keys.note(key) {
-            Ok(false) => Ok(forwarded(item, ending)),
-            Ok(true) => Ok(kept(item, None, ending)),
-            Err(NoMemory) => Err(item),
-        },
-        Err(Fault::Code(code)) => Ok(failed(item, code)),
-        Err(Fault::Memory) => Err(item),
+/// What a `distinct` in a chain answers.
+pub(crate) trait DistinctAnswer<T: Drop> {
+    ghost came: { Self → EmissionSpec T };
+
+    ghost item: { Self → T };
+
+    /// What it answers to an item, and to the ending behind it. A chain asks for nothing, so an item whose key is known isn't
+    /// counted. For want of memory the item comes back, and nothing has changed.
+    fn answer_distinct<O: Ops<Item = T>>(
+        self,
+        ops: &O,
+        function: u16,
+        keys: &mut Keys,
+        repeated: u64,
+    ) -> Result<Prepared<T>, T>
+        ensures answer { IsPreparation (O.meaning ops.now) (O.allocates ops.now) (DistinctFrom function keys.old repeated)
+            (came self) result (DistinctFrom function keys.new repeated) }
+        ensures err { IfErr result (λ x. x ≡ item self) };
+}
+
+impl<T: Drop> DistinctAnswer<T> for Arrival<T> {
+    ghost came = { λ a. item_ended a.item a.ending };
+
+    ghost item = { λ a. a.item };
+
+    #[tactic(auto, using(crate::proofs::Prepares::without_last_after))]
+    fn answer_distinct<O: Ops<Item = T>>(
+        self,
+        ops: &O,
+        function: u16,
+        keys: &mut Keys,
+        repeated: u64,
+    ) -> Result<Prepared<T>, T> {
+        let Arrival { item, ending } = self;
+        match ops.key(function, &item) {
+            Ok(key) => match keys.note(key) {
+                Ok(false) => Ok(forwarded(item, ending)),
+                Ok(true) => Ok(kept(item, None, ending)),
+                Err(NoMemory) => Err(item),
+            },
+            Err(Fault::Code(code)) => Ok(failed(item, code)),
+            Err(Fault::Memory) => Err(item),
+        }
     }
 }

@@ -6,9 +6,10 @@ ghost use Rattle.rsx_types.specs.declared.signal.Signal.TheVariants.{Next};
 ghost use Rattle.rsx_operators.specs.Emission.{item_ended};
 ghost use Rattle.rsx_operators.specs.Prepared.{IsPreparation};
 ghost use Rattle.rsx_operators.specs.State.{IsReaction};
+ghost use Rattle.rsx_operators.specs.declared.prepared.Emission.{Emission as EmissionSpec};
 ghost use Rattle.rsx_operators.specs.declared.state.PlainState.TheVariants.{Filter as FilterFrom};
 
-use crate::prepared::{Prepared, failed, forwarded, kept};
+use crate::prepared::{Arrival, Prepared, failed, forwarded, kept};
 use rsx_demand::UNBOUNDED;
 use rsx_sources::OutSlot;
 use rsx_types::{Cause, Ending, Fault, Ops, Signal};
@@ -59,23 +60,42 @@ pub(crate) fn want(asked: u64, dropped: u64) -> u64
     asked.saturating_add(dropped).min(UNBOUNDED)
 }
 
-/// What a `filter` in a chain answers to an item, and to this ending behind it. A chain asks for nothing, so what is dropped
-/// isn't counted. For want of memory the item comes back.
-pub(crate) fn prepare<T: Drop, O: Ops<Item = T>>(
-    ops: &O,
-    function: u16,
-    dropped: u64,
-    item: T,
-    ending: Ending,
-) -> Result<Prepared<T>, T>
-    ensures answer { IsPreparation (O.meaning ops.now) (O.allocates ops.now) (FilterFrom function dropped)
-        (item_ended item ending) result (FilterFrom function dropped) }
-    ensures err { IfErr result (λ x. x ≡ item) }
-{
-    match ops.test(function, &item) {
-        Ok(true) => Ok(forwarded(item, ending)),
-        Ok(false) => Ok(kept(item, None, ending)),
-        Err(Fault::Code(code)) => Ok(failed(item, code)),
-        Err(Fault::Memory) => Err(item),
+/// What a `filter` in a chain answers.
+pub(crate) trait FilterAnswer<T: Drop> {
+    ghost came: { Self → EmissionSpec T };
+
+    ghost item: { Self → T };
+
+    /// What it answers to an item, and to the ending behind it. A chain asks for nothing, so what is dropped isn't counted. For
+    /// want of memory the item comes back.
+    fn answer_filter<O: Ops<Item = T>>(
+        self,
+        ops: &O,
+        function: u16,
+        dropped: u64,
+    ) -> Result<Prepared<T>, T>
+        ensures answer { IsPreparation (O.meaning ops.now) (O.allocates ops.now) (FilterFrom function dropped)
+            (came self) result (FilterFrom function dropped) }
+        ensures err { IfErr result (λ x. x ≡ item self) };
+}
+
+impl<T: Drop> FilterAnswer<T> for Arrival<T> {
+    ghost came = { λ a. item_ended a.item a.ending };
+
+    ghost item = { λ a. a.item };
+
+    fn answer_filter<O: Ops<Item = T>>(
+        self,
+        ops: &O,
+        function: u16,
+        dropped: u64,
+    ) -> Result<Prepared<T>, T> {
+        let Arrival { item, ending } = self;
+        match ops.test(function, &item) {
+            Ok(true) => Ok(forwarded(item, ending)),
+            Ok(false) => Ok(kept(item, None, ending)),
+            Err(Fault::Code(code)) => Ok(failed(item, code)),
+            Err(Fault::Memory) => Err(item),
+        }
     }
 }

@@ -6,9 +6,10 @@ ghost use Rattle.rsx_types.specs.declared.signal.Signal.TheVariants.{Next};
 ghost use Rattle.rsx_operators.specs.Emission.{item_ended};
 ghost use Rattle.rsx_operators.specs.Prepared.{IsPreparation};
 ghost use Rattle.rsx_operators.specs.State.{IsReaction};
+ghost use Rattle.rsx_operators.specs.declared.prepared.Emission.{Emission as EmissionSpec};
 ghost use Rattle.rsx_operators.specs.declared.state.PlainState.TheVariants.{Map as MapFrom};
 
-use crate::prepared::{Prepared, failed, kept};
+use crate::prepared::{Arrival, Prepared, failed, kept};
 use rsx_sources::OutSlot;
 use rsx_types::{Cause, Ending, Fault, Ops, Signal};
 use std::alloc::Global;
@@ -49,21 +50,40 @@ impl<T: Drop> MapReaction<T> for OutSlot<T> {
     }
 }
 
-/// What a `map` in a chain answers to an item, and to this ending behind it. For want of memory the item comes back.
-pub(crate) fn prepare<T: Drop, O: Ops<Item = T>>(
-    alloc: Global,
-    ops: &O,
-    function: u16,
-    item: T,
-    ending: Ending,
-) -> Result<Prepared<T>, T>
-    ensures answer { IsPreparation (O.meaning ops.now) (O.allocates ops.now) (MapFrom function)
-        (item_ended item ending) result (MapFrom function) }
-    ensures err { IfErr result (λ x. x ≡ item) }
-{
-    match ops.map(alloc, function, &item) {
-        Ok(answer) => Ok(kept(item, Some(answer), ending)),
-        Err(Fault::Code(code)) => Ok(failed(item, code)),
-        Err(Fault::Memory) => Err(item),
+/// What a `map` in a chain answers.
+pub(crate) trait MapAnswer<T: Drop> {
+    ghost came: { Self → EmissionSpec T };
+
+    ghost item: { Self → T };
+
+    /// What it answers to an item, and to the ending behind it. For want of memory the item comes back.
+    fn answer_map<O: Ops<Item = T>>(
+        self,
+        alloc: Global,
+        ops: &O,
+        function: u16,
+    ) -> Result<Prepared<T>, T>
+        ensures answer { IsPreparation (O.meaning ops.now) (O.allocates ops.now) (MapFrom function)
+            (came self) result (MapFrom function) }
+        ensures err { IfErr result (λ x. x ≡ item self) };
+}
+
+impl<T: Drop> MapAnswer<T> for Arrival<T> {
+    ghost came = { λ a. item_ended a.item a.ending };
+
+    ghost item = { λ a. a.item };
+
+    fn answer_map<O: Ops<Item = T>>(
+        self,
+        alloc: Global,
+        ops: &O,
+        function: u16,
+    ) -> Result<Prepared<T>, T> {
+        let Arrival { item, ending } = self;
+        match ops.map(alloc, function, &item) {
+            Ok(answer) => Ok(kept(item, Some(answer), ending)),
+            Err(Fault::Code(code)) => Ok(failed(item, code)),
+            Err(Fault::Memory) => Err(item),
+        }
     }
 }

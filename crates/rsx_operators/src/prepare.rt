@@ -4,18 +4,42 @@ ghost use Rattle.std.specs.Prelude.{◌≡◌, None, false, IfOk, IfErr, IsOk, O
 ghost use Rattle.rsx_operators.specs.Emission.{item_ended};
 ghost use Rattle.rsx_operators.specs.Prepared.{IsPrepared, IsPreparation, committed, rolled_back, taken_back};
 ghost use Rattle.rsx_operators.specs.State.{allocates_from};
+ghost use Rattle.rsx_operators.specs.declared.state.PlainState.{PlainState as PlainStateSpec};
 
-use crate::prepared::{Emission, Pending, Prepared, without_item};
+use crate::buffer::{BufferAnswer, GatheredLists};
+use crate::distinct::DistinctAnswer;
+use crate::filter::FilterAnswer;
+use crate::map::MapAnswer;
+use crate::prepared::{Arrival, Emission, Pending, Prepared, without_item};
+use crate::scan::ScanAnswer;
 use crate::state::PlainState;
-use crate::{buffer, distinct, filter, map, scan, take};
+use crate::take;
 use rsx_types::{Ending, NoMemory, Ops};
 use std::alloc::Global;
 
-impl<T: Drop> PlainState<T> {
+/// The answers of an operator in a chain, in two steps, like a transaction.
+pub trait Preparing<T: Drop> {
+    ghost state: { Self → PlainStateSpec T };
+
     /// What the operator answers to an emission. The answer stands once it is committed ([`PlainState::commit`]), and
     /// [`PlainState::roll_back`] undoes it; until then the operator takes nothing more. For want of memory the emission comes
     /// back, and nothing has changed; that comes only where the operator may allocate.
-    pub fn prepare<O: Ops<Item = T>>(
+    fn prepare<O: Ops<Item = T>>(
+        &mut self,
+        alloc: Global,
+        ops: &O,
+        emission: Emission<T>,
+    ) -> Result<Prepared<T>, Emission<T>>
+        ensures ok { IfOk result (λ a. IsPrepared (O.meaning ops.now) (state self.old) emission (state self.new) a) }
+        ensures err { IfErr result (λ p. p ≡ emission) }
+        ensures same { OnErr result (self.new ≡ self.old) }
+        ensures memory { allocates_from (O.allocates ops.now) (state self.old) ≡ false → IsOk result };
+}
+
+impl<T: Drop> Preparing<T> for PlainState<T> {
+    ghost state = { λ s. s };
+
+    fn prepare<O: Ops<Item = T>>(
         &mut self,
         alloc: Global,
         ops: &O,
@@ -28,20 +52,22 @@ impl<T: Drop> PlainState<T> {
     {
         let ending = emission.ending;
         match emission.item {
-            Some(item) => match to_item(alloc, ops, self, item, ending) {
+            Some(item) => match self.to_item(alloc, ops, item, ending) {
                 Ok(prepared) => Ok(prepared),
                 Err(item) => Err(Emission {
                     item: Some(item),
                     ending,
                 }),
             },
-            None => match to_ending(alloc, ops, self, ending) {
+            None => match self.to_ending(alloc, ops, ending) {
                 Ok(prepared) => Ok(prepared),
                 Err(NoMemory) => Err(Emission { item: None, ending }),
             },
         }
     }
+}
 
+impl<T: Drop> PlainState<T> {
     /// Lets an answer stand: the operator is as it is after it.
     pub fn commit(&mut self, pending: Pending<T>)
         ensures { self.new ≡ committed self.old pending }
@@ -90,56 +116,80 @@ impl<T: Drop> PlainState<T> {
     }
 }
 
-/// What an operator answers to an item, and to this ending behind it. For want of memory the item comes back, and nothing has
-/// changed.
-fn to_item<T: Drop, O: Ops<Item = T>>(
-    alloc: Global,
-    ops: &O,
-    state: &mut PlainState<T>,
-    item: T,
-    ending: Ending,
-) -> Result<Prepared<T>, T>
-    ensures answer { IsPreparation (O.meaning ops.now) (O.allocates ops.now) state.old (item_ended item ending) result state.new }
-    ensures err { IfErr result (λ x. x ≡ item) }
-{
-    match state {
-        PlainState::Map { function } => map::prepare(alloc, ops, *function, item, ending),
-        PlainState::Filter { function, dropped } => {
-            filter::prepare(ops, *function, *dropped, item, ending)
-        }
-        PlainState::Take { count, left } => Ok(take::prepare(ops, *count, *left, item, ending)),
-        PlainState::Scan { function, last } => {
-            scan::prepare(alloc, ops, *function, last, item, ending)
-        }
-        PlainState::Buffer { size, gathered } => {
-            buffer::prepare(alloc, ops, *size, gathered, item, ending)
-        }
-        PlainState::Distinct {
-            function,
-            keys,
-            repeated,
-        } => distinct::prepare(ops, *function, keys, *repeated, item, ending),
-    }
+/// The answers of an operator, with an item and without one.
+trait Answering<T: Drop> {
+    ghost state: { Self → PlainStateSpec T };
+
+    /// What the operator answers to an item, and to this ending behind it. For want of memory the item comes back, and nothing
+    /// has changed.
+    fn to_item<O: Ops<Item = T>>(
+        &mut self,
+        alloc: Global,
+        ops: &O,
+        item: T,
+        ending: Ending,
+    ) -> Result<Prepared<T>, T>
+        ensures answer { IsPreparation (O.meaning ops.now) (O.allocates ops.now) (state self.old) (item_ended item ending) result (state self.new) }
+        ensures err { IfErr result (λ x. x ≡ item) };
+
+    /// What the operator answers where no item comes in. It does not move.
+    fn to_ending<O: Ops<Item = T>>(
+        &self,
+        alloc: Global,
+        ops: &O,
+        ending: Ending,
+    ) -> Result<Prepared<T>, NoMemory>
+        ensures { IsPreparation (O.meaning ops.now) (O.allocates ops.now) (state self.now) (record { item = None; ending = ending }) result (state self.now) };
 }
 
-/// What an operator answers where no item comes in. It does not move.
-#[tactic(auto, using(crate::proofs::Prepares::taken_ended, crate::proofs::Prepares::buffered_ended))]
-fn to_ending<T: Drop, O: Ops<Item = T>>(
-    alloc: Global,
-    ops: &O,
-    state: &PlainState<T>,
-    ending: Ending,
-) -> Result<Prepared<T>, NoMemory>
-    ensures { IsPreparation (O.meaning ops.now) (O.allocates ops.now) state.now (record { item = None; ending = ending }) result state.now }
-{
-    match state {
-        PlainState::Take { count: _, left: 0 } => Ok(without_item(None, Ending::Done)),
-        PlainState::Buffer { size: _, gathered } => {
-            match buffer::list_at_end(alloc, ops, gathered, ending) {
-                Ok(list) => Ok(without_item(list, ending)),
-                Err(NoMemory) => Err(NoMemory),
+impl<T: Drop> Answering<T> for PlainState<T> {
+    ghost state = { λ s. s };
+
+    fn to_item<O: Ops<Item = T>>(
+        &mut self,
+        alloc: Global,
+        ops: &O,
+        item: T,
+        ending: Ending,
+    ) -> Result<Prepared<T>, T> {
+        match self {
+            PlainState::Take { count, left } => Ok(take::prepare(*count, *left, item, ending)),
+            PlainState::Map { function } => {
+                Arrival { item, ending }.answer_map(alloc, ops, *function)
             }
+            PlainState::Filter { function, dropped } => {
+                Arrival { item, ending }.answer_filter(ops, *function, *dropped)
+            }
+            PlainState::Scan { function, last } => {
+                Arrival { item, ending }.answer_scan(alloc, ops, *function, last)
+            }
+            PlainState::Buffer { size, gathered } => {
+                Arrival { item, ending }.answer_buffer(alloc, ops, *size, gathered)
+            }
+            PlainState::Distinct {
+                function,
+                keys,
+                repeated,
+            } => Arrival { item, ending }.answer_distinct(ops, *function, keys, *repeated),
         }
-        _ => Ok(without_item(None, ending)),
+    }
+
+    #[tactic(auto, using(crate::proofs::Prepares::taken_ended, crate::proofs::Prepares::buffered_ended))]
+    fn to_ending<O: Ops<Item = T>>(
+        &self,
+        alloc: Global,
+        ops: &O,
+        ending: Ending,
+    ) -> Result<Prepared<T>, NoMemory> {
+        match self {
+            PlainState::Take { count: _, left: 0 } => Ok(without_item(None, Ending::Done)),
+            PlainState::Buffer { size: _, gathered } => {
+                match gathered.list_at_end(alloc, ops, ending) {
+                    Ok(list) => Ok(without_item(list, ending)),
+                    Err(NoMemory) => Err(NoMemory),
+                }
+            }
+            _ => Ok(without_item(None, ending)),
+        }
     }
 }

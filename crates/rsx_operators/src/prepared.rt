@@ -13,6 +13,15 @@ pub struct Emission<T> {
     pub ending: Ending,
 }
 
+/// An item that comes in, and the ending behind it, or `Open` where there is none.
+#[derive(Drop)]
+pub(crate) struct Arrival<T> {
+    /// The item.
+    pub item: T,
+    /// The ending behind it.
+    pub ending: Ending,
+}
+
 /// What an operator keeps until the operators behind it have taken its answer.
 #[derive(Drop)]
 pub enum Pending<T> {

@@ -6,9 +6,10 @@ ghost use Rattle.rsx_types.specs.declared.signal.Signal.TheVariants.{Next};
 ghost use Rattle.rsx_operators.specs.Emission.{item_ended};
 ghost use Rattle.rsx_operators.specs.Prepared.{IsPreparation};
 ghost use Rattle.rsx_operators.specs.State.{IsReaction};
+ghost use Rattle.rsx_operators.specs.declared.prepared.Emission.{Emission as EmissionSpec};
 ghost use Rattle.rsx_operators.specs.declared.state.PlainState.TheVariants.{Scan as ScanFrom};
 
-use crate::prepared::{Emission, Pending, Prepared, failed};
+use crate::prepared::{Arrival, Emission, Pending, Prepared, failed};
 use rsx_sources::OutSlot;
 use rsx_types::{Cause, Ending, Fault, NoMemory, Ops, Signal};
 use std::alloc::Global;
@@ -67,31 +68,51 @@ pub(crate) fn want(asked: u64) -> u64
     asked.saturating_sub(1)
 }
 
-/// What a `scan` in a chain answers to an item, and to this ending behind it. For want of memory the item comes back.
-pub(crate) fn prepare<T: Drop, O: Ops<Item = T>>(
-    alloc: Global,
-    ops: &O,
-    function: u16,
-    last: &T,
-    item: T,
-    ending: Ending,
-) -> Result<Prepared<T>, T>
-    ensures answer { IsPreparation (O.meaning ops.now) (O.allocates ops.now) (ScanFrom function last.now)
-        (item_ended item ending) result (ScanFrom function last.now) }
-    ensures err { IfErr result (λ x. x ≡ item) }
-{
-    match ops.fold(alloc, function, last, &item) {
-        Ok(next) => match ops.copy(alloc, &next) {
-            Ok(copy) => Ok(Prepared {
-                pending: Pending::Accumulated(item, next),
-                answer: Emission {
-                    item: Some(copy),
-                    ending,
-                },
-            }),
-            Err(NoMemory) => Err(item),
-        },
-        Err(Fault::Code(code)) => Ok(failed(item, code)),
-        Err(Fault::Memory) => Err(item),
+/// What a `scan` in a chain answers.
+pub(crate) trait ScanAnswer<T: Drop> {
+    ghost came: { Self → EmissionSpec T };
+
+    ghost item: { Self → T };
+
+    /// What it answers to an item, and to the ending behind it. For want of memory the item comes back.
+    fn answer_scan<O: Ops<Item = T>>(
+        self,
+        alloc: Global,
+        ops: &O,
+        function: u16,
+        last: &T,
+    ) -> Result<Prepared<T>, T>
+        ensures answer { IsPreparation (O.meaning ops.now) (O.allocates ops.now) (ScanFrom function last.now)
+            (came self) result (ScanFrom function last.now) }
+        ensures err { IfErr result (λ x. x ≡ item self) };
+}
+
+impl<T: Drop> ScanAnswer<T> for Arrival<T> {
+    ghost came = { λ a. item_ended a.item a.ending };
+
+    ghost item = { λ a. a.item };
+
+    fn answer_scan<O: Ops<Item = T>>(
+        self,
+        alloc: Global,
+        ops: &O,
+        function: u16,
+        last: &T,
+    ) -> Result<Prepared<T>, T> {
+        let Arrival { item, ending } = self;
+        match ops.fold(alloc, function, last, &item) {
+            Ok(next) => match ops.copy(alloc, &next) {
+                Ok(copy) => Ok(Prepared {
+                    pending: Pending::Accumulated(item, next),
+                    answer: Emission {
+                        item: Some(copy),
+                        ending,
+                    },
+                }),
+                Err(NoMemory) => Err(item),
+            },
+            Err(Fault::Code(code)) => Ok(failed(item, code)),
+            Err(Fault::Memory) => Err(item),
+        }
     }
 }

@@ -3,6 +3,7 @@
 ghost use Rattle.std.specs.Prelude.{◌≡◌, true, false, List, [], IfOk, IfErr, IsOk, OnOk, OnErr};
 ghost use Rattle.rsx_types.specs.Stream.{items_then};
 ghost use Rattle.rsx_types.specs.declared.signal.Signal.{Signal};
+ghost use Rattle.rsx_types.specs.declared.stage.Stage.{Stage as StageSpec};
 ghost use Rattle.rsx_operators.specs.Moves.{Moves, EndsLast, has_ending};
 ghost use Rattle.rsx_operators.specs.State.{plain_from, plain_start, after_signal, is_over, allocates_from, wanted_from, IsReaction};
 
@@ -77,33 +78,7 @@ impl<T: Drop> PlainState<T> {
     ) -> Result<PlainState<T>, NoMemory>
         ensures { IfOk result (λ s. s ≡ plain_start stage.now) }
     {
-        let state = match stage {
-            Stage::Map(function) => PlainState::Map {
-                function: *function,
-            },
-            Stage::Filter(function) => PlainState::Filter {
-                function: *function,
-                dropped: 0,
-            },
-            Stage::Take(count) => PlainState::Take {
-                count: *count,
-                left: *count,
-            },
-            Stage::Scan(function, seed) => PlainState::Scan {
-                function: *function,
-                last: ops.copy(alloc, seed)?,
-            },
-            Stage::Buffer(size) => PlainState::Buffer {
-                size: *size,
-                gathered: Buffered::new(alloc),
-            },
-            Stage::Distinct(function) => PlainState::Distinct {
-                function: *function,
-                keys: Keys::new(alloc),
-                repeated: 0,
-            },
-        };
-        Ok(state)
+        stage.started(alloc, ops)
     }
 
     /// What is to be asked of the input in all, where `asked` is asked of the operator and `sent` items came out of it:
@@ -159,6 +134,52 @@ impl<T: Drop> PlainState<T> {
                 repeated: _,
             } => false,
         }
+    }
+}
+
+/// What starts an operator.
+pub trait Starting<T: Drop> {
+    ghost stage: { Self → StageSpec T };
+
+    /// The operator before it has taken anything. It takes memory for a copy of a seed alone; for want of it the answer is
+    /// [`NoMemory`].
+    fn started<O: Ops<Item = T>>(&self, alloc: Global, ops: &O) -> Result<PlainState<T>, NoMemory>
+        ensures { IfOk result (λ s. s ≡ plain_start (stage self.now)) };
+}
+
+impl<T: Drop> Starting<T> for Stage<T> {
+    ghost stage = { λ s. s };
+
+    fn started<O: Ops<Item = T>>(&self, alloc: Global, ops: &O) -> Result<PlainState<T>, NoMemory>
+        ensures { IfOk result (λ s. s ≡ plain_start self.now) }
+    {
+        let state = match self {
+            Stage::Map(function) => PlainState::Map {
+                function: *function,
+            },
+            Stage::Filter(function) => PlainState::Filter {
+                function: *function,
+                dropped: 0,
+            },
+            Stage::Take(count) => PlainState::Take {
+                count: *count,
+                left: *count,
+            },
+            Stage::Scan(function, seed) => PlainState::Scan {
+                function: *function,
+                last: ops.copy(alloc, seed)?,
+            },
+            Stage::Buffer(size) => PlainState::Buffer {
+                size: *size,
+                gathered: Buffered::new(alloc),
+            },
+            Stage::Distinct(function) => PlainState::Distinct {
+                function: *function,
+                keys: Keys::new(alloc),
+                repeated: 0,
+            },
+        };
+        Ok(state)
     }
 }
 

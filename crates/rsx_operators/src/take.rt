@@ -1,6 +1,7 @@
 //! `take`: the first items, and then the completion.
 
 ghost use Rattle.std.specs.Prelude.{◌≡◌, ◌≢◌, ◌-◌, true, min, [], ◌∷◌};
+ghost use Rattle.rsx_types.specs.Meaning.{Meaning};
 ghost use Rattle.rsx_types.specs.Plain.{taken_items};
 ghost use Rattle.rsx_types.specs.Stream.{Stream, signals_then};
 ghost use Rattle.rsx_operators.specs.Moves.{EndsLast, has_ending};
@@ -10,7 +11,7 @@ ghost use Rattle.rsx_operators.specs.declared.state.PlainState.TheVariants.{Take
 
 use crate::prepared::{Prepared, forwarded, kept};
 use rsx_sources::OutSlot;
-use rsx_types::{Ending, Ops, Signal};
+use rsx_types::{Ending, Signal};
 
 /// Puts an item of those that are left into the empty slot, and with the last one the completion.
 pub(crate) fn react<T: Drop>(left: &mut u64, item: T, out: &mut OutSlot<T>)
@@ -40,14 +41,8 @@ pub(crate) fn want(asked: u64, count: u64) -> u64
 
 /// What a `take` in a chain answers to an item, and to this ending behind it: the item where one is left, and with the last
 /// one the completion.
-pub(crate) fn prepare<T: Drop, O: Ops<Item = T>>(
-    ops: &O,
-    count: u64,
-    left: u64,
-    item: T,
-    ending: Ending,
-) -> Prepared<T>
-    ensures { IsPrepared (O.meaning ops.now) (TakeFrom count left) (item_ended item ending) (TakeFrom count left) result }
+pub(crate) fn prepare<T: Drop>(count: u64, left: u64, item: T, ending: Ending) -> Prepared<T>
+    ensures { (m : Meaning T) → IsPrepared m (TakeFrom count left) (item_ended item ending) (TakeFrom count left) result }
 {
     match left {
         0 => kept(item, None, Ending::Done),

@@ -1,5 +1,4 @@
-use Rattle.std.proofs.Common.{◌≡◌, true, sym, rules}
-use Rattle.rsx_chain.specs.Chain.{chain_over}
+use Rattle.std.proofs.Common.{rules}
 use Rattle.rsx_chain.proofs.Overs.{chain_closed}
 use Rattle.rsx_chain.proofs.chain.ChainState.+is_over.Goals as goal
 

@@ -1,0 +1,4 @@
+-- Definitions that contracts cite.
+pub mod Cut
+pub mod Window
+pub mod Laws
