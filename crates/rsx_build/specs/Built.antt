@@ -80,8 +80,8 @@ fresh_edges {T} = fold-Expr T (List EdgeView) fresh_below
 
 -- ---- what its nodes want first
 
--- how many items each node of a row and below it wants of each of its inputs, where nothing is asked of any and nothing was sent: a
--- number for each edge, in their order. The row begins with input `i` of the receiver `r`
+-- how many items are wanted over each edge of a row and below it, where nothing is asked of its receiver and nothing was sent by
+-- it: a number for each edge, in pre-order. The row begins with input `i` of the receiver `r`
 abbrev pub first_wants : {M T : Type 0} → Machine M T → M → ℕ → Inputs M → List ℕ
 first_wants b r i End = []
 first_wants b r i (More' e n p below q beside) = b.wanted r i 0 0 ∷ (first_wants b n 0 below ++ first_wants b r (i + 1) beside)
@@ -164,8 +164,8 @@ StandAt all at [] = ⊤
 StandAt all at (n ∷ ns) = (slice_get all at ≡ Some n) × StandAt all (at + 1) ns
 
 -- what comes out of the tree is what the expression means, over all whole values of the hubs that begin with what these took in,
--- where its leaves join them now; nothing is recorded, its edges are as at the start, each of its nodes has the expression's
--- prefetch, and its counts are balanced
+-- where its leaves join them now; nothing is recorded, its edges are as at the start, each of its nodes wants first what the
+-- expression's prefetch says, and its counts are balanced
 pub record IsBuilt {T : Type 0} (m : Meaning T) (hubs : List (HubState T)) (e : Expr T) (t : Node (AnyNode T)) : Type 0 where
   pub value : (whole : List (Stream T)) (joins : List ℕ) (further : List Note) (at leaf : ℕ) → AreBegun hubs whole → StandAt joins leaf (new_joins hubs e) →
       comes_out any_machine m whole further t at ≡ (meant (environment m whole joins further) e).value at leaf

@@ -22,7 +22,9 @@ use rsx_types::{HubId, NoMemory, Ops, Stage};
 use std::alloc::Global;
 
 /// The tree of an expression that `check_expr` accepts over these hubs. Each leaf that reads a hub gets a member of it; the
-/// members have joined once they are counted in ([`Hub::count_in`]). For want of memory the answer is [`NoMemory`].
+/// members have joined once they are counted in ([`Hub::count_in`]). Where nothing is asked of the tree yet, each node
+/// wants as many items of each input as its prefetch says, and none where it has no prefetch. For want of memory the answer is
+/// [`NoMemory`].
 #[cycle(trees)]
 pub fn build<O: Ops>(
     alloc: Global,
