@@ -31,3 +31,6 @@ wanted (line ∷ others) = inl refl
 
 pub memory_wanted : (view : View) (session : Session) (lines : List (List ℕ)) (text : List ℕ) (others : List (List ℕ)) → HasAnswered view session lines text → IsScriptStopped view lines text others NoMemory
 memory_wanted view session lines text others s = stopped view session lines text others NoMemory s (wanted others)
+
+pub memory_wanted_last : (view : View) (lines : List (List ℕ)) (text : List ℕ) → IsScript view lines text → IsScriptStopped view lines text [] NoMemory
+memory_wanted_last view lines text done = record { done = done; bad = refl }

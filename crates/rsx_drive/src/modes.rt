@@ -3,7 +3,7 @@
 ghost use Rattle.std.specs.Prelude.{IfSome, OnOk, IfErr};
 ghost use Rattle.rsx_script.specs.Fault.{IsRunFault};
 ghost use Rattle.rsx_trace.specs.Texts.{lines};
-ghost use Rattle.rsx_lines.specs.Answered.{IsStopped, Writes, WritesBefore};
+ghost use Rattle.rsx_lines.specs.Answered.{IsStopped, Writes};
 ghost use Rattle.rsx_drive.specs.Modes.{IsAnsweredIn, IsStoppedIn};
 
 use crate::script::answer_script;
@@ -26,7 +26,8 @@ use std::io::{Read, Write};
 ///
 /// `Line` with the first line that can't be read, counted from 1, and why it can't, which is never want of memory; `Io`
 /// where a read or a write failed, or a read more than 16,777,216 would be needed; `Memory` where a growth was refused. What
-/// comes before that line, or before the one for which memory was wanted, has been answered then, and nothing else was written.
+/// comes before that line, or before the one for which memory was wanted, has been answered then, and nothing else was
+/// written; after a fault of `Io` nothing more is written, and what was written begins these answers.
 pub fn drive<R: Read, W: Write>(
     alloc: Global,
     mode: Mode,
@@ -36,9 +37,10 @@ pub fn drive<R: Read, W: Write>(
     // The whole input was answered, each line or trace by its own answer, and nothing else was written.
     ensures answered { OnOk result (IfSome (R.remaining reader.old) (λ input.
         Writes (W.contents writer.old) (W.contents writer.new) (λ text. IsAnsweredIn mode (lines input) text))) }
-    // What comes before the fault was answered so, and nothing else was written.
+    // What comes before the fault was answered so, and nothing else was written; where a read or a write failed, the last of
+    // these answers may not have been written.
     ensures stopped { IfErr result (λ fault. IfSome (R.remaining reader.old) (λ input.
-        WritesBefore (W.contents writer.old) (W.contents writer.new) fault (λ text. IsStopped (IsStoppedIn mode) (lines input) text fault))) }
+        Writes (W.contents writer.old) (W.contents writer.new) (λ text. IsStopped (IsStoppedIn mode) (lines input) text fault))) }
     ensures fault { IfErr result IsRunFault }
 {
     match mode {

@@ -4,9 +4,9 @@ ghost use Rattle.std.specs.Prelude.{◌≡◌, ℕ, List, [], ◌∷◌, ◌++�
 ghost use Rattle.std.specs.String.{string_bytes};
 ghost use Rattle.rsx_script.specs.Fault.{IsRunFault};
 ghost use Rattle.rsx_trace.specs.Texts.{lines};
-ghost use Rattle.rsx_lines.specs.Answered.{Grows, IsStopped, Writes, WritesBefore};
+ghost use Rattle.rsx_lines.specs.Answered.{Grows, IsStopped, Writes};
 ghost use Rattle.rsx_session.specs.declared.session.View.TheVariants.{Received, FromScratch};
-ghost use Rattle.rsx_drive.specs.Laws.{line_too_long, memory_wanted};
+ghost use Rattle.rsx_drive.specs.Laws.{line_too_long, memory_wanted, memory_wanted_last};
 ghost use Rattle.rsx_drive.specs.Scripts.{HasAnswered, IsBadLine, IsScript, IsScriptStopped};
 
 use rsx_lines::{Answers, answer_lines};
@@ -21,7 +21,7 @@ use std::io::{Read, Write};
 /// # Errors
 ///
 /// As [`answer_lines`]: `Line` and `Memory` at the first line that can't be read, or for which memory was wanted. The lines
-/// before it have been answered then, and after a fault of `Io` nothing more is written.
+/// before it have been answered then; after a fault of `Io` nothing more is written, and what was written begins these answers.
 pub fn answer_script<R: Read, W: Write>(
     alloc: Global,
     view: View,
@@ -31,9 +31,10 @@ pub fn answer_script<R: Read, W: Write>(
     // Each line was answered by its own command, where the lines before it left the graph, and nothing else was written.
     ensures answered { OnOk result (IfSome (R.remaining reader.old) (λ input.
         Writes (W.contents writer.old) (W.contents writer.new) (λ text. IsScript view (lines input) text))) }
-    // The lines before the fault were answered so, and nothing else was written.
+    // The lines before the fault were answered so, and nothing else was written; where a read or a write failed, the last of
+    // these answers may not have been written.
     ensures stopped { IfErr result (λ fault. IfSome (R.remaining reader.old) (λ input.
-        WritesBefore (W.contents writer.old) (W.contents writer.new) fault (λ text. IsStopped (IsScriptStopped view) (lines input) text fault))) }
+        Writes (W.contents writer.old) (W.contents writer.new) (λ text. IsStopped (IsScriptStopped view) (lines input) text fault))) }
     ensures fault { IfErr result IsRunFault }
 {
     let session = Session::new(alloc, view)?;
@@ -93,6 +94,8 @@ impl Answers for ReceivedScript {
     ghost too_long = { λ script. line_too_long Received script.session };
 
     ghost wanting = { λ script. memory_wanted Received script.session };
+
+    ghost wanting_last = { memory_wanted_last Received };
 }
 
 /// A script that is being answered, of whose subscribers `show` answers the values of the slow evaluator.
@@ -119,4 +122,6 @@ impl Answers for ScratchScript {
     ghost too_long = { λ script. line_too_long FromScratch script.session };
 
     ghost wanting = { λ script. memory_wanted FromScratch script.session };
+
+    ghost wanting_last = { memory_wanted_last FromScratch };
 }

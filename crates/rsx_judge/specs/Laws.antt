@@ -1,9 +1,11 @@
 -- The laws of what answers the lines of an input of traces.
 use Rattle.std.specs.Prelude.{ℕ, ◌<◌, List, [], ◌∷◌, length}
+use Rattle.std.proofs.Common.{sym}
+use Rattle.std.proofs.lemmas.List.{append-nil}
 use Rattle.rsx_words.specs.declared.words.LineRefusal.{LineRefusal}
 use Rattle.rsx_words.specs.declared.words.LineRefusal.TheVariants.{TooLong, NoMemory}
 use Rattle.rsx_judge.specs.declared.judge.TraceJudge.{TraceJudge}
-use Rattle.rsx_judge.specs.Judged.{IsBadNext, IsRefusedAfter, StandsFor}
+use Rattle.rsx_judge.specs.Judged.{AreJudged, IsBadNext, IsRefusedAfter, StandsFor}
 
 pub refused : (judge : TraceJudge) (lines : List (List ℕ)) (text : List ℕ) (others : List (List ℕ)) (refusal : LineRefusal) → (s : StandsFor judge lines text) → IsBadNext s.opening others refusal → IsRefusedAfter lines text others refusal
 refused judge lines text others refusal s bad = record { done = s.done; opening = s.opening; split = s.split; judged = s.judged; bad = bad }
@@ -17,3 +19,6 @@ wanted opening (line ∷ others) = tt
 
 pub memory_wanted : (judge : TraceJudge) (lines : List (List ℕ)) (text : List ℕ) (others : List (List ℕ)) → StandsFor judge lines text → IsRefusedAfter lines text others NoMemory
 memory_wanted judge lines text others s = refused judge lines text others NoMemory s (wanted s.opening others)
+
+pub memory_wanted_last : (lines : List (List ℕ)) (text : List ℕ) → AreJudged lines text → IsRefusedAfter lines text [] NoMemory
+memory_wanted_last lines text judged = record { done = lines; opening = []; split = sym (append-nil lines); judged = judged; bad = tt }

@@ -7,9 +7,9 @@ ghost use Rattle.rsx_script.specs.Fault.{IsRunFault};
 ghost use Rattle.rsx_words.specs.Words.{is_written};
 ghost use Rattle.rsx_trace.specs.Texts.{lines};
 ghost use Rattle.rsx_tck.specs.Report.{IsReportText};
-ghost use Rattle.rsx_lines.specs.Answered.{Grows, IsStopped, Writes, WritesBefore};
+ghost use Rattle.rsx_lines.specs.Answered.{Grows, IsStopped, Writes};
 ghost use Rattle.rsx_judge.specs.Judged.{AreJudged, IsRefusedAfter, StandsFor, judging, refusal_of};
-ghost use Rattle.rsx_judge.specs.Laws.{line_too_long, memory_wanted};
+ghost use Rattle.rsx_judge.specs.Laws.{line_too_long, memory_wanted, memory_wanted_last};
 
 use crate::judge::TraceJudge;
 use rsx_lines::{Answers, answer_lines};
@@ -28,8 +28,8 @@ use std::io::{Read, Write};
 /// `Line` with the first line that can't be read, counted from 1 in the whole input: `Syntax` with the column of its
 /// first wrong word, where no trace goes on so, and with column 1 of the line after the last, where the input ends
 /// inside a trace; `TooLong` where it has more than 4,096 bytes. `Io` where a read or a write failed, or a read more than
-/// 16,777,216 would be needed; `Memory` where a growth was refused. The traces before have been answered then, and
-/// after a fault of `Io` nothing more is written.
+/// 16,777,216 would be needed; `Memory` where a growth was refused. The traces before have been answered then; after a fault
+/// of `Io` nothing more is written, and what was written begins these answers.
 pub fn judge_traces<R: Read, W: Write>(
     alloc: Global,
     reader: &mut R,
@@ -38,9 +38,10 @@ pub fn judge_traces<R: Read, W: Write>(
     // The whole input is traces and blank lines, and their reports were written, and nothing else.
     ensures judged { OnOk result (IfSome (R.remaining reader.old) (λ input.
         Writes (W.contents writer.old) (W.contents writer.new) (λ text. AreJudged (lines input) text))) }
-    // The reports of the traces before the fault were written, and nothing else.
+    // The reports of the traces before the fault were written, and nothing else; where a read or a write failed, the last of
+    // these reports may not have been written.
     ensures stopped { IfErr result (λ fault. IfSome (R.remaining reader.old) (λ input.
-        WritesBefore (W.contents writer.old) (W.contents writer.new) fault (λ text. IsStopped IsRefusedAfter (lines input) text fault))) }
+        Writes (W.contents writer.old) (W.contents writer.new) (λ text. IsStopped IsRefusedAfter (lines input) text fault))) }
     ensures fault { IfErr result IsRunFault }
 {
     match answer_lines(alloc, TraceJudge::new(), reader, writer) {
@@ -167,4 +168,6 @@ impl Answers for TraceJudge {
     ghost too_long = { line_too_long };
 
     ghost wanting = { memory_wanted };
+
+    ghost wanting_last = { memory_wanted_last };
 }

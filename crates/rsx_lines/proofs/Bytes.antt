@@ -1,13 +1,16 @@
 -- Where a run stands after a further byte, and at the end of the input.
-use Rattle.std.proofs.Common.{◌≡◌, ℕ, suc, ◌+◌, ◌≤◌, ◌<◌, false, List, [], ◌∷◌, ◌++◌, length, refl, sym, ap, subst, ◌∙◌, append_assoc, arith}
+use Rattle.std.proofs.Common.{◌≡◌, ℕ, suc, ◌+◌, ◌≤◌, ◌<◌, false, List, [], ◌∷◌, ◌++◌, length, Option, refl, sym, ap, subst, ◌∙◌, append_assoc, arith}
 use Rattle.std.specs.List.{position_or_len, before_first, after_first}
 use Rattle.std.proofs.lemmas.List.{append-nil, length-append, length-take}
+use Rattle.rsx_script.specs.declared.fault.AppFault.{AppFault}
+use Rattle.rsx_script.specs.declared.fault.AppFault.TheVariants.{Line, Io, Memory}
+use Rattle.rsx_words.specs.declared.words.LineRefusal.{LineRefusal}
 use Rattle.rsx_words.specs.declared.words.LineRefusal.TheVariants.{TooLong, NoMemory}
 use Rattle.rsx_trace.specs.Texts.{lines}
 use Rattle.rsx_trace.proofs.Lines.{newline, no_line, only_line, some_line}
 use Rattle.rsx_trace.proofs.Traces.{IsClean, IsClean-append, clean_step, clean_again, line_and_rest}
 use Rattle.rsx_trace.proofs.Places.{place-le}
-use Rattle.rsx_lines.specs.Answered.{Refuses, IsRefused}
+use Rattle.rsx_lines.specs.Answered.{Begins, IsCut, IsRefused, IsStopped, Refuses, Writes}
 use Rattle.rsx_lines.specs.Taken.{IsAt, Stands}
 
 -- ---- lines
@@ -103,6 +106,66 @@ want_of_memory stands refuses state line number out taken written more wanting a
     refused = wanting at.before (written ++ out) (lines (line ++ more)) at.answered;
   },
 )
+
+-- ---- a read or a write that failed
+
+-- of the answers so far only the first ones were written, and no more is
+pub cut_off : {S : Type 0} (stands : Stands S) (refuses : Refuses) (state : S) (line : List ℕ) (number : ℕ) (out taken written part none more : List ℕ)
+    → ((before : List (List ℕ)) (text : List ℕ) (others : List (List ℕ)) → stands state before text → refuses before text others NoMemory)
+    → IsAt stands state line number out taken written → none ≡ [] → Begins part out → IsCut refuses (lines (taken ++ more)) ((written ++ part) ++ none)
+cut_off stands refuses state line number out taken written part none more wanting at nothing b =
+    let want = want_of_memory stands refuses state line number out taken written more wanting at in
+    let end : written ++ part ≡ (written ++ part) ++ none = sym (append-nil (written ++ part)) ∙ ap (λ (xs : List ℕ). (written ++ part) ++ xs) (sym nothing) in
+    record {
+      whole = written ++ out;
+      begun = (b.0, ap (λ (xs : List ℕ). written ++ xs) b.1 ∙ sym (append_assoc written part b.0) ∙ ap (λ (xs : List ℕ). xs ++ b.0) end);
+      number = want.0;
+      refusal = NoMemory;
+      answers = want.1;
+    }
+
+pub writing_failed : {S : Type 0} (stands : Stands S) (refuses : Refuses) (state : S) (line : List ℕ) (number : ℕ) (out taken written none more : List ℕ) (a b : Option (List ℕ)) (fault : AppFault)
+    → ((before : List (List ℕ)) (text : List ℕ) (others : List (List ℕ)) → stands state before text → refuses before text others NoMemory)
+    → IsAt stands state line number out taken written → none ≡ [] → fault ≡ Io → Writes a b (λ text. Begins text out)
+    → Writes a b (λ text. IsStopped refuses (lines (taken ++ more)) ((written ++ text) ++ none) fault)
+writing_failed stands refuses state line number out taken written none more a b fault wanting at nothing is w =
+    let F : AppFault → Type 0 = λ f. IsStopped refuses (lines (taken ++ more)) ((written ++ w.0) ++ none) f in
+    (w.0, w.1, subst F (sym is) (cut_off stands refuses state line number out taken written w.0 none more wanting at nothing w.2))
+
+-- all of them were written, but for those that wait
+pub reading_failed : {S : Type 0} (stands : Stands S) (refuses : Refuses) (state : S) (line : List ℕ) (number : ℕ) (out taken written more : List ℕ)
+    → ((before : List (List ℕ)) (text : List ℕ) (others : List (List ℕ)) → stands state before text → refuses before text others NoMemory)
+    → IsAt stands state line number out taken written → IsCut refuses (lines (taken ++ more)) (written ++ out)
+reading_failed stands refuses state line number out taken written more wanting at =
+    let want = want_of_memory stands refuses state line number out taken written more wanting at in
+    record { whole = written ++ out; begun = ([], sym (append-nil (written ++ out))); number = want.0; refusal = NoMemory; answers = want.1 }
+
+cut_sooner : (refuses : Refuses) (all : List (List ℕ)) (text out part : List ℕ) → Begins part out → IsCut refuses all (text ++ out) → IsCut refuses all (text ++ part)
+cut_sooner refuses all text out part b cut = record {
+  whole = cut.whole;
+  begun = (
+    b.0 ++ cut.begun.0,
+    cut.begun.1 ∙ ap (λ (xs : List ℕ). (text ++ xs) ++ cut.begun.0) b.1 ∙ ap (λ (xs : List ℕ). xs ++ cut.begun.0) (sym (append_assoc text part b.0)) ∙ append_assoc (text ++ part) b.0 cut.begun.0,
+  );
+  number = cut.number;
+  refusal = cut.refusal;
+  answers = cut.answers;
+}
+
+not_cut : (refuses : Refuses) (all : List (List ℕ)) (text : List ℕ) (number : ℕ) (refusal : LineRefusal) → IsRefused refuses all text number refusal → IsCut refuses all text
+not_cut refuses all text number refusal is = record { whole = text; begun = ([], sym (append-nil text)); number = number; refusal = refusal; answers = is }
+
+-- whatever ended the run before
+pub cut_at_last : (refuses : Refuses) (all : List (List ℕ)) (text out part : List ℕ) (fault : AppFault) → Begins part out → IsStopped refuses all (text ++ out) fault → IsCut refuses all (text ++ part)
+cut_at_last refuses all text out part (Line number refusal) b is = cut_sooner refuses all text out part b (not_cut refuses all (text ++ out) number refusal is)
+cut_at_last refuses all text out part Io b is = cut_sooner refuses all text out part b is
+cut_at_last refuses all text out part Memory b is = cut_sooner refuses all text out part b (not_cut refuses all (text ++ out) is.0 NoMemory is.1)
+
+-- after the whole input
+pub cut_at_end : (refuses : Refuses) (all : List (List ℕ)) (text out part : List ℕ) → Begins part out → refuses all (text ++ out) [] NoMemory → IsCut refuses all (text ++ part)
+cut_at_end refuses all text out part b refused =
+    let there : IsRefused refuses all (text ++ out) (length all + 1) NoMemory = record { before = all; others = []; split = sym (append-nil all); counted = refl; refused = refused } in
+    cut_sooner refuses all text out part b (not_cut refuses all (text ++ out) (length all + 1) NoMemory there)
 
 -- nothing was taken yet
 pub at_start : {S : Type 0} (stands : Stands S) (state : S) (line : List ℕ) (number : ℕ) (out : List ℕ) → line ≡ [] → out ≡ [] → number ≡ 1 → stands state [] [] → IsAt stands state line number out [] []

@@ -1,4 +1,5 @@
 -- Lemmas.
 pub mod Bytes
+pub mod Ending
 pub mod Writing
 pub mod Reading

@@ -3,10 +3,8 @@ use Rattle.std.proofs.Common.{◌≡◌, ℕ, List, [], ◌++◌, take, Option, 
 use Rattle.std.specs.Prelude.{IfSome}
 use Rattle.std.specs.Io.KnownBytes.{Appends, Consumes, IsAtEnd}
 use Rattle.std.proofs.lemmas.List.{append-nil}
-use Rattle.rsx_script.specs.declared.fault.AppFault.{AppFault}
-use Rattle.rsx_script.specs.declared.fault.AppFault.TheVariants.{Line, Io, Memory}
-use Rattle.rsx_lines.specs.Answered.{Writes, WritesBefore}
-use Rattle.rsx_lines.proofs.Writing.{appends_more, before_io}
+use Rattle.rsx_lines.specs.Answered.{Writes}
+use Rattle.rsx_lines.proofs.Writing.{appends_more}
 
 pub consumes_none : (o : Option (List ℕ)) → Consumes o o []
 consumes_none None = tt
@@ -39,10 +37,8 @@ if_any None P p = tt
 if_any (Some xs) P p = p xs
 
 -- what is written after some text
-pub before_more : (a b c : Option (List ℕ)) (fault : AppFault) (s : List ℕ) (P Q : List ℕ → Type 0) → Appends a b s → ((t : List ℕ) → P t → Q (s ++ t)) → WritesBefore b c fault P → WritesBefore a c fault Q
-before_more a b c (Line number refusal) s P Q h f w = (s ++ w.0, appends_more a b c s w.0 h w.1, f w.0 w.2)
-before_more a b c Io s P Q h f w = tt
-before_more a b c Memory s P Q h f w = (s ++ w.0, appends_more a b c s w.0 h w.1, f w.0 w.2)
+pub writes_after : (a b c : Option (List ℕ)) (s : List ℕ) (P Q : List ℕ → Type 0) → Appends a b s → ((t : List ℕ) → P t → Q (s ++ t)) → Writes b c P → Writes a c Q
+writes_after a b c s P Q h f w = (s ++ w.0, appends_more a b c s w.0 h w.1, f w.0 w.2)
 
 pub if_some_to : (old : Option (List ℕ)) (P Q : List ℕ → Type 0) → ((x : List ℕ) → P x → Q x) → IfSome old P → IfSome old Q
 if_some_to None P Q to h = tt
@@ -51,12 +47,3 @@ if_some_to (Some x) P Q to h = to x h
 -- what waited was written at last
 pub writes_more : (a b c : Option (List ℕ)) (out : List ℕ) (P : List ℕ → Type 0) → Appends b c out → Writes a b (λ text. P (text ++ out)) → Writes a c P
 writes_more a b c out P k w = (w.0 ++ out, appends_more a b c w.0 out w.1 k, w.2)
-
-pub before_written : (a b c : Option (List ℕ)) (fault : AppFault) (out : List ℕ) (P : List ℕ → Type 0) → Appends b c out → WritesBefore a b fault (λ text. P (text ++ out)) → WritesBefore a c fault P
-before_written a b c (Line number refusal) out P k w = writes_more a b c out P k w
-before_written a b c Io out P k w = tt
-before_written a b c Memory out P k w = writes_more a b c out P k w
-
-pub if_io : (old a b : Option (List ℕ)) (fault : AppFault) (P : List ℕ → List ℕ → Type 0) → fault ≡ Io → IfSome old (λ input. WritesBefore a b fault (P input))
-if_io None a b fault P is = tt
-if_io (Some x) a b fault P is = before_io a b fault (P x) is

@@ -1,11 +1,9 @@
 -- What a writer holds after several writes.
-use Rattle.std.proofs.Common.{◌≡◌, ℕ, suc, ◌+◌, ◌<◌, List, [], ◌∷◌, ◌++◌, length, take, drop, get_or, Option, Some, None, refl, sym, ap, subst, ◌∙◌, append_assoc, arith}
-use Rattle.std.specs.Io.KnownBytes.{Appends}
-use Rattle.std.proofs.Math.Seq.{take-suc, split_at}
-use Rattle.std.proofs.lemmas.List.{append-nil}
-use Rattle.rsx_script.specs.declared.fault.AppFault.{AppFault}
-use Rattle.rsx_script.specs.declared.fault.AppFault.TheVariants.{Line, Io, Memory}
-use Rattle.rsx_lines.specs.Answered.{Writes, WritesBefore}
+use Rattle.std.proofs.Common.{◌≡◌, ℕ, suc, ◌+◌, ◌-◌, ◌<◌, List, [], ◌∷◌, ◌++◌, length, take, drop, get_or, Option, Some, None, sym, ap, subst, ◌∙◌, append_assoc, arith}
+use Rattle.std.specs.Io.KnownBytes.{Appends, Keeps}
+use Rattle.std.proofs.Math.Seq.{take-add, take-suc, split_at}
+use Rattle.std.proofs.lemmas.List.{append-nil, length-drop, take-append-drop, take_all}
+use Rattle.rsx_lines.specs.Answered.{Begins, Writes}
 use Rattle.rsx_lines.specs.Taken.{IsAt, Stands}
 
 pub appends_none : (o : Option (List ℕ)) → Appends o o []
@@ -28,16 +26,6 @@ written_out stands state line number out none taken written text e at = record {
   answered = subst (λ (xs : List ℕ). stands state at.before xs) (append_assoc written text out ∙ sym (append-nil (written ++ (text ++ out))) ∙ ap (λ (xs : List ℕ). (written ++ (text ++ out)) ++ xs) (sym e)) at.answered;
 }
 
--- before a fault of a line or want of memory
-pub before_fault : (old new : Option (List ℕ)) (fault : AppFault) (P : List ℕ → Type 0) → (fault ≡ Io → ⊥) → Writes old new P → WritesBefore old new fault P
-before_fault old new (Line number refusal) P other w = w
-before_fault old new Io P other w = absurd (other refl)
-before_fault old new Memory P other w = w
-
--- before a read or a write that failed
-pub before_io : (old new : Option (List ℕ)) (fault : AppFault) (P : List ℕ → Type 0) → fault ≡ Io → WritesBefore old new fault P
-before_io old new fault P is = subst (λ (f : AppFault). WritesBefore old new f P) (sym is) tt
-
 -- ---- bytes taken one by one
 
 pub one_more : (taken bytes : List ℕ) (i : ℕ) → i < length bytes → (taken ++ take i bytes) ++ get_or bytes i 0 ∷ [] ≡ taken ++ take (i + 1) bytes
@@ -51,3 +39,22 @@ whole_again taken bytes more i lt =
     ∙ ap (λ (xs : List ℕ). taken ++ xs) (sym (append_assoc (take i bytes) (get_or bytes i 0 ∷ drop (suc i) bytes) more))
     ∙ ap (λ (xs : List ℕ). taken ++ (xs ++ more)) (sym (split_at bytes i 0 lt))
     ∙ sym (append_assoc taken bytes more)
+
+-- ---- a text written in several writes
+
+pub keeps_written : (a b c : Option (List ℕ)) (s : List ℕ) → Appends a b s → Keeps b c → Appends a c s
+keeps_written None b c s h k = tt
+keeps_written (Some xs) None c s h k = absurd h
+keeps_written (Some xs) (Some ys) None s h k = absurd k
+keeps_written (Some xs) (Some ys) (Some zs) s h k = k ∙ h
+
+-- so many bytes were written
+pub begun : (a b : Option (List ℕ)) (bytes : List ℕ) (n : ℕ) → Appends a b (take n bytes) → Writes a b (λ text. Begins text bytes)
+begun a b bytes n h = (take n bytes, h, (drop n bytes, sym (take-append-drop n bytes)))
+
+-- so many more were written, of those behind them
+pub further : (a b c : Option (List ℕ)) (bytes : List ℕ) (n m : ℕ) → Appends a b (take n bytes) → Appends b c (take m (take (length bytes - n) (drop n bytes))) → Appends a c (take (n + m) bytes)
+further a b c bytes n m h k =
+    let rest : take (length bytes - n) (drop n bytes) ≡ drop n bytes = take_all (length bytes - n) (drop n bytes) (omega (arith, length-drop n bytes)) in
+    let all : take n bytes ++ take m (take (length bytes - n) (drop n bytes)) ≡ take (n + m) bytes = ap (λ (xs : List ℕ). take n bytes ++ take m xs) rest ∙ sym (take-add n m bytes) in
+    subst (λ (xs : List ℕ). Appends a c xs) all (appends_more a b c (take n bytes) (take m (take (length bytes - n) (drop n bytes))) h k)

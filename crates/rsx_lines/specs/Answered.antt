@@ -1,5 +1,5 @@
 -- What a run over an input comes to: what it wrote, and where it stopped.
-use Rattle.std.specs.Prelude.{◌≡◌, ℕ, ◌+◌, List, ◌++◌, length, Option, ⊤}
+use Rattle.std.specs.Prelude.{◌≡◌, ℕ, ◌+◌, List, ◌++◌, length, Option}
 use Rattle.std.specs.Io.KnownBytes.{Appends}
 use Rattle.rsx_script.specs.declared.fault.AppFault.{AppFault}
 use Rattle.rsx_script.specs.declared.fault.AppFault.TheVariants.{Line, Io, Memory}
@@ -22,18 +22,25 @@ pub record IsRefused (refuses : Refuses) (all : List (List ℕ)) (text : List �
   pub counted : number ≡ length before + 1
   pub refused : refuses before text others refusal
 
--- a run over these lines, which were answered by this text, ended with this fault; a read or a write may fail anywhere
+-- a text begins with this one
+abbrev pub Begins : List ℕ → List ℕ → Type 0
+Begins text whole = (rest : List ℕ) × (whole ≡ text ++ rest)
+
+-- what was written begins what the lines before some line are answered by: of these answers the last ones may be missing, and
+-- there is nothing else
+pub record IsCut (refuses : Refuses) (all : List (List ℕ)) (text : List ℕ) : Type 0 where
+  pub whole : List ℕ
+  pub begun : Begins text whole
+  pub number : ℕ
+  pub refusal : LineRefusal
+  pub answers : IsRefused refuses all whole number refusal
+
+-- a run over these lines wrote this text, and ended with this fault; a read or a write may fail anywhere
 abbrev pub IsStopped : Refuses → List (List ℕ) → List ℕ → AppFault → Type 0
 IsStopped refuses all text (Line number refusal) = IsRefused refuses all text number refusal
-IsStopped refuses all text Io = ⊤
+IsStopped refuses all text Io = IsCut refuses all text
 IsStopped refuses all text Memory = (number : ℕ) × IsRefused refuses all text number NoMemory
 
 -- what a writer holds grew by a text of which P holds
 abbrev pub Writes : Option (List ℕ) → Option (List ℕ) → (List ℕ → Type 0) → Type 0
 Writes old new P = (text : List ℕ) × Appends old new text × P text
-
--- the same of a run that ended with this fault: after a fault of the writer nothing is known of what it holds
-abbrev pub WritesBefore : Option (List ℕ) → Option (List ℕ) → AppFault → (List ℕ → Type 0) → Type 0
-WritesBefore old new (Line number refusal) P = Writes old new P
-WritesBefore old new Io P = ⊤
-WritesBefore old new Memory P = Writes old new P

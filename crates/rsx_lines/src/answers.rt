@@ -50,4 +50,7 @@ pub trait Answers {
     /// Memory may be wanted anywhere.
     ghost wanting: { (state : Self) (lines : List (List ℕ)) (text : List ℕ) (others : List (List ℕ)) →
         stands state lines text → refuses lines text others NoMemory };
+
+    /// So it may be behind the last line.
+    ghost wanting_last: { (lines : List (List ℕ)) (text : List ℕ) → ends lines text → refuses lines text [] NoMemory };
 }

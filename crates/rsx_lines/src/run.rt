@@ -6,14 +6,14 @@ ghost use Rattle.std.specs.Io.KnownBytes.{Appends};
 ghost use Rattle.rsx_script.specs.declared.fault.AppFault.TheVariants.{Io, Memory};
 ghost use Rattle.rsx_script.specs.Fault.{IsRunFault};
 ghost use Rattle.rsx_trace.specs.Texts.{lines};
-ghost use Rattle.rsx_lines.specs.Answered.{IsStopped, Writes, WritesBefore};
+ghost use Rattle.rsx_lines.specs.Answered.{Begins, IsStopped, Writes};
 ghost use Rattle.rsx_lines.specs.Taken.{HasTaken, fault_of};
 
 use crate::answers::Answers;
 use crate::state::Run;
 use rsx_script::{AppFault, LineRefusal, MOST_BYTES};
 use std::alloc::Global;
-use std::io::{Read, Write};
+use std::io::{ErrorKind, Read, Write};
 
 /// The most bytes of one read.
 const READ_BYTES: usize = 4096;
@@ -34,6 +34,7 @@ const GATHERED_BYTES: usize = 65_536;
 ///
 /// `Line` with the first line that can't be read, counted from 1, and why it can't, which is never want of memory; `Io`
 /// where a read or a write failed, or a read more than 16,777,216 would be needed; `Memory` where a growth was refused.
+/// After a fault of `Io` nothing more is written.
 pub fn answer_lines<A: Answers + Drop, R: Read, W: Write>(
     alloc: Global,
     answers: A,
@@ -44,9 +45,10 @@ pub fn answer_lines<A: Answers + Drop, R: Read, W: Write>(
     // The whole input was answered, and no more was written than that.
     ensures ended { OnOk result (IfSome (R.remaining reader.old) (λ input.
         Writes (W.contents writer.old) (W.contents writer.new) (λ text. A.ends (lines input) text))) }
-    // The lines before the fault were answered, and no more was written than that.
+    // The lines before the fault were answered, and no more was written than that; where a read or a write failed, the last
+    // of these answers may not have been written.
     ensures stopped { IfErr result (λ fault. IfSome (R.remaining reader.old) (λ input.
-        WritesBefore (W.contents writer.old) (W.contents writer.new) fault (λ text. IsStopped A.refuses (lines input) text fault))) }
+        Writes (W.contents writer.old) (W.contents writer.new) (λ text. IsStopped A.refuses (lines input) text fault))) }
     ensures fault { IfErr result IsRunFault }
 {
     let mut run = Run {
@@ -68,20 +70,49 @@ pub fn answer_lines<A: Answers + Drop, R: Read, W: Write>(
     }
 }
 
-/// Writes the answers that weren't written yet.
+/// Writes the answers that weren't written yet. Where that fails, those that are left are let go.
 fn write_out<W: Write>(out: &mut String, writer: &mut W) -> Result<(), AppFault>
     ensures written { OnOk result (Appends (W.contents writer.old) (W.contents writer.new) (string_bytes out.old)) }
-    ensures none_left { OnOk result (string_bytes out.new ≡ []) }
+    ensures begun { OnErr result (Writes (W.contents writer.old) (W.contents writer.new) (λ text. Begins text (string_bytes out.old))) }
+    ensures none_left { string_bytes out.new ≡ [] }
     ensures fault { IfErr result (λ fault. fault ≡ Io) }
 {
     if out.is_empty() {
         return Ok(());
     }
-    if writer.write_all(out.as_bytes()).is_err() || writer.flush().is_err() {
-        return Err(AppFault::Io);
-    }
+    let written = write_bytes(out.as_bytes(), writer);
     out.clear();
-    Ok(())
+    match written {
+        Ok(()) => Ok(()),
+        Err(fault) => Err(fault),
+    }
+}
+
+/// Writes these bytes; where a write fails, those before it.
+fn write_bytes<W: Write>(bytes: &[u8], writer: &mut W) -> Result<(), AppFault>
+    ensures written { OnOk result (Appends (W.contents writer.old) (W.contents writer.new) bytes.now) }
+    ensures begun { OnErr result (Writes (W.contents writer.old) (W.contents writer.new) (λ text. Begins text bytes.now)) }
+    ensures fault { IfErr result (λ fault. fault ≡ Io) }
+{
+    let mut done = 0;
+    for _ in 0..u64::MAX {
+        if done >= bytes.len() {
+            return match writer.flush() {
+                Ok(()) => Ok(()),
+                Err(_) => Err(AppFault::Io),
+            };
+        }
+        match writer.write(&bytes[done..]) {
+            Ok(0) => return Err(AppFault::Io),
+            Ok(count) => done += count,
+            Err(error) => {
+                if error.kind() != ErrorKind::Interrupted {
+                    return Err(AppFault::Io);
+                }
+            }
+        }
+    }
+    Err(AppFault::Io)
 }
 
 /// The fault of a line.
@@ -107,7 +138,7 @@ impl<A: Answers> Run<A> {
             IfSome (R.remaining reader.old) (λ left. Writes (W.contents writer.old) (W.contents writer.new)
             (λ text. A.ends (lines (taken ++ left)) ((written ++ text) ++ string_bytes self.new.out)))) }
         ensures stopped { IfErr result (λ fault. (taken written : List ℕ) → HasTaken A.stands self.old taken written →
-            IfSome (R.remaining reader.old) (λ left. WritesBefore (W.contents writer.old) (W.contents writer.new) fault
+            IfSome (R.remaining reader.old) (λ left. Writes (W.contents writer.old) (W.contents writer.new)
             (λ text. IsStopped A.refuses (lines (taken ++ left)) ((written ++ text) ++ string_bytes self.new.out) fault))) }
         ensures fault { IfErr result IsRunFault }
     {
@@ -146,7 +177,7 @@ impl<A: Answers> Run<A> {
             Writes (W.contents writer.old) (W.contents writer.new)
             (λ text. HasTaken A.stands self.new (taken ++ bytes.now) (written ++ text))) }
         ensures stopped { IfErr result (λ fault. (taken written more : List ℕ) → HasTaken A.stands self.old taken written →
-            WritesBefore (W.contents writer.old) (W.contents writer.new) fault
+            Writes (W.contents writer.old) (W.contents writer.new)
             (λ text. IsStopped A.refuses (lines ((taken ++ bytes.now) ++ more)) ((written ++ text) ++ string_bytes self.new.out) fault)) }
         ensures number { OnOk result (self.new.number ≤ self.old.number + length bytes.now) }
         ensures fault { IfErr result IsRunFault }
@@ -166,6 +197,9 @@ impl<A: Answers> Run<A> {
     fn write_gathered<W: Write>(&mut self, writer: &mut W) -> Result<(), AppFault>
         ensures written { OnOk result ((taken written : List ℕ) → HasTaken A.stands self.old taken written →
             Writes (W.contents writer.old) (W.contents writer.new) (λ text. HasTaken A.stands self.new taken (written ++ text))) }
+        ensures stopped { IfErr result (λ fault. (taken written more : List ℕ) → HasTaken A.stands self.old taken written →
+            Writes (W.contents writer.old) (W.contents writer.new)
+            (λ text. IsStopped A.refuses (lines (taken ++ more)) ((written ++ text) ++ string_bytes self.new.out) fault)) }
         ensures same { OnOk result (self.new.number ≡ self.old.number) }
         ensures fault { IfErr result (λ fault. fault ≡ Io) }
     {
@@ -179,6 +213,9 @@ impl<A: Answers> Run<A> {
     fn write<W: Write>(&mut self, writer: &mut W) -> Result<(), AppFault>
         ensures written { OnOk result ((taken written : List ℕ) → HasTaken A.stands self.old taken written →
             Writes (W.contents writer.old) (W.contents writer.new) (λ text. HasTaken A.stands self.new taken (written ++ text))) }
+        ensures stopped { IfErr result (λ fault. (taken written more : List ℕ) → HasTaken A.stands self.old taken written →
+            Writes (W.contents writer.old) (W.contents writer.new)
+            (λ text. IsStopped A.refuses (lines (taken ++ more)) ((written ++ text) ++ string_bytes self.new.out) fault)) }
         ensures same { OnOk result (self.new.number ≡ self.old.number) }
         ensures fault { IfErr result (λ fault. fault ≡ Io) }
     {

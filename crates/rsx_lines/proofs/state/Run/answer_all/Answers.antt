@@ -2,10 +2,11 @@ use Rattle.std.proofs.Common.{◌++◌, take, ap, subst, sym, append_assoc, arit
 use Rattle.std.specs.String.{string_bytes}
 use Rattle.std.proofs.lemmas.List.{length-take}
 use Rattle.rsx_trace.specs.Texts.{lines}
-use Rattle.rsx_lines.specs.Answered.{IsStopped, Writes, WritesBefore}
+use Rattle.rsx_lines.specs.Answered.{IsCut, IsStopped, Writes}
 use Rattle.rsx_lines.specs.Taken.{HasTaken}
-use Rattle.rsx_lines.proofs.Writing.{appends_more, before_fault}
-use Rattle.rsx_lines.proofs.Reading.{consumes_more, if_ended, if_more, before_more}
+use Rattle.rsx_lines.proofs.Bytes.{reading_failed}
+use Rattle.rsx_lines.proofs.Writing.{appends_more}
+use Rattle.rsx_lines.proofs.Reading.{consumes_more, if_ended, if_more, writes_after}
 use Rattle.rsx_lines.proofs.state.Run.answer_all.Goals as goal
 
 pub returns-in-Ok-end-clause-ended : goal.returns-in-Ok-end-clause-ended
@@ -31,10 +32,9 @@ returns-in-Err-end-clause-stopped g c = λ taken written at.
     let fault = c.in-Err-end.fault in
     let stopped = c.in-Err-end.ensures.stopped (taken ++ now.0) ((written ++ w.0) ++ wrote.0) wrote.2 in
     let text = w.0 ++ wrote.0 in
-    if_ended _ _ _ now.0 c.in-Ok-eq0.field-0 c.read.new.buf (λ left. WritesBefore _ _ fault (λ text. IsStopped g.A.Answers.refuses (lines (taken ++ left)) ((written ++ text) ++ out) fault))
+    if_ended _ _ _ now.0 c.in-Ok-eq0.field-0 c.read.new.buf (λ left. Writes _ _ (λ text. IsStopped g.A.Answers.refuses (lines (taken ++ left)) ((written ++ text) ++ out) fault))
     now.1 read.0 c.in-Ok-eq0.field-0-test (read.1 c.in-Ok-eq0.field-0-test (omega (arith, c.loop.invariant.room)))
-    (before_fault _ _ fault (λ text. IsStopped g.A.Answers.refuses (lines (taken ++ now.0)) ((written ++ text) ++ out) fault) c.in-Err-end.ensures.refused
-    (text, appends_more _ _ _ w.0 wrote.0 w.1 wrote.1, subst (λ xs. IsStopped g.A.Answers.refuses (lines (taken ++ now.0)) (xs ++ out) fault) (append_assoc written w.0 wrote.0) stopped))
+    (text, appends_more _ _ _ w.0 wrote.0 w.1 wrote.1, subst (λ xs. IsStopped g.A.Answers.refuses (lines (taken ++ now.0)) (xs ++ out) fault) (append_assoc written w.0 wrote.0) stopped)
 
 pub returns-in-Err-take_in-clause-stopped : goal.returns-in-Err-take_in-clause-stopped
 returns-in-Err-take_in-clause-stopped g c = λ taken written at.
@@ -46,12 +46,12 @@ returns-in-Err-take_in-clause-stopped g c = λ taken written at.
     let out = string_bytes c.take_in.new.self.out in
     let fault = c.in-Err-take_in.fault in
     let text = w.0 ++ wrote.0 in
-    if_more _ _ got (λ left. WritesBefore _ _ fault (λ text. IsStopped g.A.Answers.refuses (lines (taken ++ left)) ((written ++ text) ++ out) fault))
+    if_more _ _ got (λ left. Writes _ _ (λ text. IsStopped g.A.Answers.refuses (lines (taken ++ left)) ((written ++ text) ++ out) fault))
     (consumes_more _ _ _ now.0 bytes now.1 c.in-Ok.ensures.bytes.0)
     (λ more.
     let stopped = c.in-Err-take_in.ensures.stopped (taken ++ now.0) ((written ++ w.0) ++ wrote.0) more wrote.2 in
     let all = append_assoc (taken ++ now.0) bytes more ∙ append_assoc taken now.0 (bytes ++ more) ∙ ap (λ xs. taken ++ xs) (sym (append_assoc now.0 bytes more)) in
-    before_more _ _ _ fault text (λ t. IsStopped g.A.Answers.refuses (lines (((taken ++ now.0) ++ bytes) ++ more)) ((((written ++ w.0) ++ wrote.0) ++ t) ++ out) fault)
+    writes_after _ _ _ text (λ t. IsStopped g.A.Answers.refuses (lines (((taken ++ now.0) ++ bytes) ++ more)) ((((written ++ w.0) ++ wrote.0) ++ t) ++ out) fault)
     (λ t. IsStopped g.A.Answers.refuses (lines (taken ++ (got ++ more))) ((written ++ t) ++ out) fault)
     (appends_more _ _ _ w.0 wrote.0 w.1 wrote.1)
     (λ t s.
@@ -59,6 +59,55 @@ returns-in-Err-take_in-clause-stopped g c = λ taken written at.
     subst (λ xs. IsStopped g.A.Answers.refuses (lines xs) ((written ++ (text ++ t)) ++ out) fault) all
     (subst (λ xs. IsStopped g.A.Answers.refuses (lines (((taken ++ now.0) ++ bytes) ++ more)) (xs ++ out) fault) texts s))
     stopped)
+
+pub returns-in-Err-clause-stopped : goal.returns-in-Err-clause-stopped
+returns-in-Err-clause-stopped g c = λ taken written at.
+    let now = c.loop.invariant.taken taken written at in
+    let w = now.2 in
+    let out = string_bytes c.write.new.self.out in
+    let fault = c.in-Err.fault in
+    if_more _ _ now.0 (λ left. Writes _ _ (λ text. IsStopped g.A.Answers.refuses (lines (taken ++ left)) ((written ++ text) ++ out) fault)) now.1
+    (λ more.
+    writes_after _ _ _ w.0 (λ t. IsStopped g.A.Answers.refuses (lines ((taken ++ now.0) ++ more)) (((written ++ w.0) ++ t) ++ out) fault)
+    (λ t. IsStopped g.A.Answers.refuses (lines (taken ++ (now.0 ++ more))) ((written ++ t) ++ out) fault) w.1
+    (λ t s.
+    subst (λ xs. IsStopped g.A.Answers.refuses (lines xs) ((written ++ (w.0 ++ t)) ++ out) fault) (append_assoc taken now.0 more)
+    (subst (λ xs. IsStopped g.A.Answers.refuses (lines ((taken ++ now.0) ++ more)) (xs ++ out) fault) (append_assoc written w.0 t) s))
+    (c.in-Err.ensures.stopped (taken ++ now.0) (written ++ w.0) more w.2))
+
+pub returns-in-Err-read-clause-stopped : goal.returns-in-Err-read-clause-stopped
+returns-in-Err-read-clause-stopped g c = λ taken written at.
+    let now = c.loop.invariant.taken taken written at in
+    let w = now.2 in
+    let run = c.write.new.self in
+    let wrote = c.in_default.ensures.written (taken ++ now.0) (written ++ w.0) w.2 in
+    let out = string_bytes run.out in
+    let text = w.0 ++ wrote.0 in
+    let texts = append_assoc written w.0 wrote.0 in
+    if_more _ _ now.0 (λ left. Writes _ _ (λ text. IsCut g.A.Answers.refuses (lines (taken ++ left)) ((written ++ text) ++ out))) now.1
+    (λ more. (
+      text,
+      appends_more _ _ _ w.0 wrote.0 w.1 wrote.1,
+      subst (λ xs. IsCut g.A.Answers.refuses (lines xs) ((written ++ text) ++ out)) (append_assoc taken now.0 more)
+          (subst (λ xs. IsCut g.A.Answers.refuses (lines ((taken ++ now.0) ++ more)) (xs ++ out)) texts
+          (reading_failed g.A.Answers.stands g.A.Answers.refuses run.answers run.line.items run.number out (taken ++ now.0) ((written ++ w.0) ++ wrote.0) more
+          (λ before text others stands. g.met.A.Answers.wanting run.answers before text others stands) wrote.2)),
+    ))
+
+pub returns-clause-stopped : goal.returns-clause-stopped
+returns-clause-stopped g c = λ taken written at.
+    let now = c.loop.invariant.taken taken written at in
+    let w = now.2 in
+    let run = c.loop.self in
+    let out = string_bytes run.out in
+    if_more _ _ now.0 (λ left. Writes _ _ (λ text. IsCut g.A.Answers.refuses (lines (taken ++ left)) ((written ++ text) ++ out))) now.1
+    (λ more. (
+      w.0,
+      w.1,
+      subst (λ xs. IsCut g.A.Answers.refuses (lines xs) ((written ++ w.0) ++ out)) (append_assoc taken now.0 more)
+          (reading_failed g.A.Answers.stands g.A.Answers.refuses run.answers run.line.items run.number out (taken ++ now.0) (written ++ w.0) more
+          (λ before text others stands. g.met.A.Answers.wanting run.answers before text others stands) w.2),
+    ))
 
 pub loop-preserved : goal.loop-preserved
 loop-preserved g c = record {
