@@ -1,7 +1,10 @@
 -- Signals that wait, and memory for them.
-use Rattle.std.specs.Prelude.{◌≡◌, ◌≤◌, ℕ, Bool, List, [], Option, Some, None}
+use Rattle.std.specs.Prelude.{◌≡◌, ◌≤◌, ℕ, Bool, List, [], ◌∷◌, ◌++◌, map, Option, Some, None}
 use Rattle.std.specs.List.{list_any}
+use Rattle.rsx_types.specs.declared.signal.Ending.{Ending}
 use Rattle.rsx_types.specs.declared.signal.Signal.{Signal}
+use Rattle.rsx_types.specs.declared.signal.Signal.TheVariants.{Next}
+use Rattle.rsx_types.specs.Stream.{ending_signals}
 use Rattle.rsx_sources.specs.Counts.{ends_input}
 
 -- the signals that wait, the oldest first, and how many there is memory for
@@ -17,3 +20,12 @@ HasRoom (Some q) p n = (q.left ≡ []) × (n ≤ q.room)
 -- whether an ending is among the signals
 abbrev pub has_ending : {T : Type 0} → List (Signal T) → Bool
 has_ending ss = list_any ends_input ss
+
+-- the signal of an item, if there is one
+abbrev pub item_signals : {T : Type 0} → Option T → List (Signal T)
+item_signals None = []
+item_signals (Some x) = Next x ∷ []
+
+-- the signals of these items, and of this item and this ending behind them
+abbrev pub put_out : {T : Type 0} → List T → Option T → Ending → List (Signal T)
+put_out xs y e = map Next xs ++ (item_signals y ++ ending_signals e)

@@ -30,8 +30,9 @@ impl<T: Drop> PendingSignals<T> {
     ghost use Rattle.std.specs.Prelude.{◌≡◌, ℕ, ◌+◌, ◌<◌, ◌≤◌, false, [], ◌∷◌, ◌++◌, length, map, slice_get, IfOk, IfSome, IfNone};
     ghost use Rattle.std.specs.Option.{option_copied, option_to_list, OnSome};
     ghost use Rattle.rsx_types.specs.declared.signal.Signal.TheVariants.{Next};
+    ghost use Rattle.rsx_types.specs.Stream.{ending_signals};
     ghost use Rattle.rsx_sources.specs.Slot.{is_nil, is_item_first};
-    ghost use Rattle.rsx_pending.specs.Signals.{HasRoom, has_ending};
+    ghost use Rattle.rsx_pending.specs.Signals.{HasRoom, has_ending, item_signals, put_out};
 
     /// No signals, and memory for so many.
     ///
@@ -94,6 +95,43 @@ impl<T: Drop> PendingSignals<T> {
         ensures { option_copied result ≡ slice_get self.now.left 0 }
     {
         self.reversed.last()
+    }
+
+    /// Puts the signal of an ending, if it is one, into an empty list.
+    fn put_ending(&mut self, ending: Ending)
+        requires nothing { self.old.left ≡ [] }
+        requires room { 1 ≤ self.old.room }
+        ensures left { self.new.left ≡ ending_signals ending }
+        ensures room { self.new.room ≡ self.old.room }
+    {
+        match ending {
+            Ending::Open => {}
+            Ending::Done => self.put_front(Signal::Complete),
+            Ending::Failed(cause) => self.put_front(Signal::Error(cause)),
+        }
+    }
+
+    /// Puts an item, if there is one, in front of the others.
+    fn put_item(&mut self, item: Option<T>)
+        requires { length self.old.left < self.old.room }
+        ensures left { self.new.left ≡ item_signals item ++ self.old.left }
+        ensures room { self.new.room ≡ self.old.room }
+    {
+        if let Some(item) = item {
+            self.put_front(Signal::Next(item));
+        }
+    }
+
+    /// Puts these items, this one behind them, and the signal of this ending, if it is one, into an empty list.
+    pub fn put_all(&mut self, items: Vec<T>, item: Option<T>, ending: Ending)
+        requires nothing { self.old.left ≡ [] }
+        requires room { length items.items + 2 ≤ self.old.room }
+        ensures left { self.new.left ≡ put_out items.items item ending }
+        ensures room { self.new.room ≡ self.old.room }
+    {
+        self.put_ending(ending);
+        self.put_item(item);
+        self.put_items_front(items);
     }
 
     /// Whether an ending is among the signals.

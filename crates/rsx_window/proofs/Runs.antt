@@ -10,13 +10,13 @@ use Rattle.rsx_types.specs.Meaning.{Meaning}
 use Rattle.rsx_types.specs.Stream.{Stream, ended_by, item_then, items_then, signals_then}
 use Rattle.rsx_operators.specs.Emission.{item_or, emission_then}
 use Rattle.rsx_operators.specs.Moves.{Moves, has_ended, ended_or}
-use Rattle.rsx_pending.specs.Signals.{has_ending}
+use Rattle.rsx_pending.specs.Signals.{has_ending, put_out}
 use Rattle.rsx_operators.specs.declared.prepared.Emission.{Emission}
 use Rattle.rsx_choices.specs.Concat.{value_then}
 use Rattle.rsx_lanes.specs.Window.{window}
 use Rattle.rsx_chain.specs.Chain.{chain_from, MovesEmission}
 use Rattle.rsx_chain.specs.declared.chain.ChainState.{ChainState}
-use Rattle.rsx_window.specs.Cut.{window_rest, behind, window_left, is_over, TakesItem, Begins, unless_done, window_after, put_out, last_ending, ClosesWith}
+use Rattle.rsx_window.specs.Cut.{window_rest, behind, window_left, is_over, TakesItem, Begins, unless_done, window_after, last_ending, ClosesWith}
 use Rattle.rsx_window.specs.declared.current.CurrentWindow.{CurrentWindow}
 use Rattle.rsx_window.specs.declared.current.CurrentWindow.TheVariants.{Running, Passing, Over}
 use Rattle.rsx_window.specs.declared.current.Begun.{Begun}

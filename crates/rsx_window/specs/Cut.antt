@@ -13,7 +13,7 @@ use Rattle.rsx_operators.specs.declared.prepared.Emission.{Emission}
 use Rattle.rsx_choices.specs.Concat.{value_then}
 use Rattle.rsx_lanes.specs.Window.{window}
 use Rattle.rsx_chain.specs.Chain.{chain_from}
-use Rattle.rsx_chain.specs.Emissions.{emission_signals}
+use Rattle.rsx_pending.specs.Signals.{put_out}
 use Rattle.rsx_chain.specs.declared.chain.ChainState.{ChainState}
 use Rattle.rsx_window.specs.declared.current.CurrentWindow.{CurrentWindow}
 use Rattle.rsx_window.specs.declared.current.CurrentWindow.TheVariants.{Running, Passing, Over}
@@ -65,10 +65,6 @@ abbrev pub window_after : {T : Type 0} → ChainState T → ℕ → Ending → C
 window_after c more Open = Running c (more - 1)
 window_after c more Done = Passing more
 window_after c more (Failed f) = Over
-
--- the signals of these items, and of this emission behind them
-abbrev pub put_out : {T : Type 0} → List T → Option T → Ending → List (Signal T)
-put_out xs y e = map Next xs ++ emission_signals (record { item = y; ending = e })
 
 -- ---- an ending of the input
 

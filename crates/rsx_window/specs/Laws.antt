@@ -1,6 +1,6 @@
 -- The laws of a `window`: what comes in doesn't matter once it has ended, and why it isn't stuck.
-use Rattle.std.specs.Prelude.{◌≡◌, ℕ, ◌+◌, ◌<◌, min, Bool, true, false, ◌&&◌, not, nat_lt, nat_le, List, [], ◌∷◌, ◌++◌, length, slice_get, Some, None, refl}
-use Rattle.std.proofs.Common.{inl, inr, ap, sym, ◌∙◌, subst, arith}
+use Rattle.std.specs.Prelude.{◌≡◌, ℕ, ◌<◌, min, Bool, true, false, nat_lt, nat_le, List, [], ◌∷◌, ◌++◌, length, slice_get, Some, None, refl}
+use Rattle.std.proofs.Common.{inl, inr, ap, subst, arith}
 use Rattle.std.proofs.lemmas.Bool.Decides.{nat_tests}
 use Rattle.rsx_demand.specs.Demand.{saturating_total}
 use Rattle.rsx_demand.specs.declared.TheConstants.{UNBOUNDED}
@@ -12,7 +12,6 @@ use Rattle.rsx_types.specs.Meaning.{Meaning}
 use Rattle.rsx_types.specs.Stream.{Stream, item_then, signals_then}
 use Rattle.rsx_sources.specs.Counts.{AreWithin, CanStep, IsHungry, ends_input}
 use Rattle.rsx_sources.specs.Machine.{Incoming, incoming_of, quiet}
-use Rattle.rsx_sources.specs.Slot.{is_nil}
 use Rattle.rsx_pending.specs.Signals.{has_ending}
 use Rattle.rsx_window.specs.Cut.{window_left, is_over}
 use Rattle.rsx_window.specs.Window.{window_comes_out, window_waiting, window_takes, window_ended, window_done, window_wanted, slot_left, CountsItems}

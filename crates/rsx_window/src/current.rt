@@ -6,7 +6,7 @@ ghost use Rattle.rsx_chain.specs.Emissions.{item_signals};
 ghost use Rattle.rsx_pending.specs.Signals.{HasRoom, SignalsLeft, has_ending};
 ghost use Rattle.rsx_types.specs.declared.signal.Signal.TheVariants.{Next};
 ghost use Rattle.rsx_operators.specs.Moves.{Moves, has_ended};
-ghost use Rattle.rsx_window.specs.Cut.{TakesItem, Begins, put_out, unless_done, last_ending, is_over, window_left, window_after, ClosesWith, EndsWith};
+ghost use Rattle.rsx_window.specs.Cut.{TakesItem, Begins, unless_done, last_ending, is_over, window_left, window_after, ClosesWith, EndsWith};
 ghost use Rattle.rsx_chain.specs.declared.chain.ChainState.{ChainState as ChainStateSpec};
 ghost use Rattle.rsx_window.specs.declared.current.CurrentWindow.{CurrentWindow as CurrentWindowSpec};
 ghost use Rattle.rsx_window.specs.declared.current.CurrentWindow.TheVariants.{Running};
@@ -158,42 +158,6 @@ impl<T: Drop> BeginningWindow<T> for PendingSignals<T> {
     }
 }
 
-/// Puts the signal of an ending, if it is one, into an empty list.
-fn put_ending<T: Drop>(pending: &mut PendingSignals<T>, ending: Ending)
-    requires nothing { pending.old.left ≡ [] }
-    requires room { 1 ≤ pending.old.room }
-    ensures left { pending.new.left ≡ ending_signals ending }
-    ensures room { pending.new.room ≡ pending.old.room }
-{
-    match ending {
-        Ending::Open => {}
-        Ending::Done => pending.put_front(Signal::Complete),
-        Ending::Failed(cause) => pending.put_front(Signal::Error(cause)),
-    }
-}
-
-/// Puts an item, if there is one, in front of the others.
-fn put_item<T: Drop>(pending: &mut PendingSignals<T>, item: Option<T>)
-    requires { length pending.old.left < pending.old.room }
-    ensures left { pending.new.left ≡ item_signals item ++ pending.old.left }
-    ensures room { pending.new.room ≡ pending.old.room }
-{
-    if let Some(item) = item {
-        pending.put_front(Signal::Next(item));
-    }
-}
-
-/// Puts these items, this one and the signal of this ending into an empty list.
-fn put_out<T: Drop>(pending: &mut PendingSignals<T>, items: Vec<T>, item: Option<T>, ending: Ending)
-    requires nothing { pending.old.left ≡ [] }
-    requires room { length items.items + 2 ≤ pending.old.room }
-    ensures { pending.new.left ≡ put_out items.items item ending }
-{
-    put_ending(pending, ending);
-    put_item(pending, item);
-    pending.put_items_front(items);
-}
-
 /// The ending of a window that other windows may follow: its completion completes nothing but itself.
 fn unless_done(ending: Ending) -> Ending
     ensures { result ≡ unless_done ending }
@@ -327,7 +291,7 @@ impl<T: Drop> Windowing<T> for CurrentWindow<T> {
                 };
                 let ending = begun.out.ending;
                 pending.take_over(begun.spare);
-                put_out(pending, begun.items, begun.out.item, unless_done(ending));
+                pending.put_all(begun.items, begun.out.item, unless_done(ending));
                 self.set(CurrentWindow::Running(begun.chain, more));
                 self.step(ending);
                 Ok(())
@@ -347,7 +311,7 @@ impl<T: Drop> Windowing<T> for CurrentWindow<T> {
                 };
                 pending.take_over(spare);
                 let ending = out.ending;
-                put_out(pending, Vec::new(alloc), out.item, unless_done(ending));
+                pending.put_all(Vec::new(alloc), out.item, unless_done(ending));
                 self.step(ending);
                 Ok(())
             }
@@ -399,7 +363,7 @@ impl<T: Drop> Windowing<T> for CurrentWindow<T> {
         let out = self.close(alloc, ops, ending)?;
         pending.take_over(spare);
         let last = last_ending(out.ending, ending);
-        put_out(pending, Vec::new(alloc), out.item, last);
+        pending.put_all(Vec::new(alloc), out.item, last);
         self.set(CurrentWindow::Over);
         Ok(())
     }

@@ -4,13 +4,13 @@ use Rattle.rsx_window.proofs.current.CurrentWindowWindowing.take_item.Goals as g
 
 pub returns-in-Ok-clause-ok : goal.returns-in-Ok-clause-ok
 returns-in-Ok-clause-ok g c =
-    item_started (g.O.Ops.meaning c.args.ops.now) c.args.size c.args.stages.now c.args.self.now c.step.new.self c.saturating_sub-more.result c.args.item c.in-Ok.begun c.unless_done.result c.put_out.new.pending.left
-    (search rules) c.saturating_sub-more.ensures c.in-Ok.ensures.ok c.in-Ok.ensures.last c.unless_done.ensures c.put_out.ensures (c.step.ensures c.in-Ok.begun.chain c.saturating_sub-more.result c.set.ensures)
+    item_started (g.O.Ops.meaning c.args.ops.now) c.args.size c.args.stages.now c.args.self.now c.step.new.self c.saturating_sub-more.result c.args.item c.in-Ok.begun c.unless_done.result c.put_all.new.self.left
+    (search rules) c.saturating_sub-more.ensures c.in-Ok.ensures.ok c.in-Ok.ensures.last c.unless_done.ensures c.put_all.ensures.left (c.step.ensures c.in-Ok.begun.chain c.saturating_sub-more.result c.set.ensures)
 
 pub returns-in-Ok-clause-over : goal.returns-in-Ok-clause-over
 returns-in-Ok-clause-over g c =
-    over_after c.in-Ok.begun.items.items c.in-Ok.begun.out.item c.in-Ok.begun.chain c.saturating_sub-more.result c.in-Ok.begun.out.ending c.unless_done.result c.put_out.new.pending.left c.step.new.self
-    c.unless_done.ensures c.put_out.ensures (c.step.ensures c.in-Ok.begun.chain c.saturating_sub-more.result c.set.ensures)
+    over_after c.in-Ok.begun.items.items c.in-Ok.begun.out.item c.in-Ok.begun.chain c.saturating_sub-more.result c.in-Ok.begun.out.ending c.unless_done.result c.put_all.new.self.left c.step.new.self
+    c.unless_done.ensures c.put_all.ensures.left (c.step.ensures c.in-Ok.begun.chain c.saturating_sub-more.result c.set.ensures)
 
 pub returns-in-Passing-clause-ok : goal.returns-in-Passing-clause-ok
 returns-in-Passing-clause-ok g c =
@@ -19,10 +19,10 @@ returns-in-Passing-clause-ok g c =
 
 pub returns-in-Ok-take_item-clause-ok : goal.returns-in-Ok-take_item-clause-ok
 returns-in-Ok-take_item-clause-ok g c =
-    item_taken (g.O.Ops.meaning c.args.ops.now) c.args.size c.args.stages.now c.args.self.now c.step-in-Running.new.self c.in-Running.chain c.take_item.new.self c.in-Running.more c.args.item c.in-Ok-take_item.out c.new.result.items c.unless_done-in-Running.result c.put_out-in-Running.new.pending.left
-    (search rules) c.in-Ok-take_item.ensures.ok c.in-Ok-take_item.ensures.last c.new.ensures.items c.unless_done-in-Running.ensures c.put_out-in-Running.ensures (c.step-in-Running.ensures c.take_item.new.self c.in-Running.more refl)
+    item_taken (g.O.Ops.meaning c.args.ops.now) c.args.size c.args.stages.now c.args.self.now c.step-in-Running.new.self c.in-Running.chain c.take_item.new.self c.in-Running.more c.args.item c.in-Ok-take_item.out c.new.result.items c.unless_done-in-Running.result c.put_all-in-Running.new.self.left
+    (search rules) c.in-Ok-take_item.ensures.ok c.in-Ok-take_item.ensures.last c.new.ensures.items c.unless_done-in-Running.ensures c.put_all-in-Running.ensures.left (c.step-in-Running.ensures c.take_item.new.self c.in-Running.more refl)
 
 pub returns-in-Ok-take_item-clause-over : goal.returns-in-Ok-take_item-clause-over
 returns-in-Ok-take_item-clause-over g c =
-    over_after c.new.result.items c.in-Ok-take_item.out.item c.take_item.new.self c.in-Running.more c.in-Ok-take_item.out.ending c.unless_done-in-Running.result c.put_out-in-Running.new.pending.left c.step-in-Running.new.self
-    c.unless_done-in-Running.ensures c.put_out-in-Running.ensures (c.step-in-Running.ensures c.take_item.new.self c.in-Running.more refl)
+    over_after c.new.result.items c.in-Ok-take_item.out.item c.take_item.new.self c.in-Running.more c.in-Ok-take_item.out.ending c.unless_done-in-Running.result c.put_all-in-Running.new.self.left c.step-in-Running.new.self
+    c.unless_done-in-Running.ensures c.put_all-in-Running.ensures.left (c.step-in-Running.ensures c.take_item.new.self c.in-Running.more refl)

@@ -1,0 +1,3 @@
+-- Definitions that contracts cite.
+pub mod Lane
+pub mod Table

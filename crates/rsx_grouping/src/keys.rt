@@ -1,0 +1,75 @@
+//! The keys of the lanes.
+
+ghost use Rattle.std.specs.Prelude.{◌≡◌};
+
+use indexmap::IndexSet;
+use rsx_lanes::MOST_KEYS;
+use rsx_types::NoMemory;
+use std::alloc::Global;
+use std::marker::Model;
+
+/// The keys of the lanes, in the order in which each came first: a lane's number is the place of its key. There are at most
+/// [`MOST_KEYS`]. Contracts see the list of them.
+#[derive(Drop)]
+pub struct LaneKeys {
+    set: IndexSet<u64>,
+}
+
+impl Model for LaneKeys {
+    ghost use Rattle.std.specs.Prelude.{List, ℕ};
+
+    ghost Value = { List ℕ };
+
+    ghost view = { λ k. k.set.keys };
+}
+
+impl LaneKeys {
+    ghost use Rattle.std.specs.Prelude.{◌≡◌, ℕ, List, [], ◌∷◌, ◌++◌, nat_eq, slice_get, is_some, Some, IfSome, OnOk, OnErr};
+    ghost use Rattle.std.specs.Set.{is_member};
+    ghost use Rattle.rsx_lanes.specs.Group.{see, has_place};
+
+    /// No keys. It takes no memory.
+    pub fn new(alloc: Global) -> LaneKeys
+        ensures { result ≡ [] }
+    {
+        LaneKeys {
+            set: IndexSet::new(alloc),
+        }
+    }
+
+    /// The number of the lane that has this key, if one has it.
+    pub fn lane_of(&self, key: u64) -> Option<usize>
+        ensures lane { IfSome result (λ i. slice_get self.now i ≡ Some key) }
+        ensures found { is_some result ≡ is_member nat_eq self.now key }
+    {
+        self.set.get_index_of(&key)
+    }
+
+    /// Whether a lane has this key, or may have it as one more: the key after the last of [`MOST_KEYS`] is a fault.
+    pub fn has_place(&self, key: u64) -> bool
+        ensures { result ≡ has_place self.now key }
+    {
+        self.set.contains(&key) || self.set.len() < MOST_KEYS
+    }
+
+    /// Puts a key last, unless it is there.
+    ///
+    /// # Errors
+    /// [`NoMemory`] where a growth was refused; then nothing has changed.
+    pub fn add(&mut self, key: u64) -> Result<(), NoMemory>
+        ensures keys { OnOk result (self.new ≡ see self.old key) }
+        ensures same { OnErr result (self.new ≡ self.old) }
+    {
+        match self.set.insert(key) {
+            Ok(_) => Ok(()),
+            Err(_) => Err(NoMemory),
+        }
+    }
+
+    /// Lets the last key go. It keeps its memory.
+    pub fn remove_last(&mut self)
+        ensures { (ks : List ℕ) (k : ℕ) → self.old ≡ ks ++ k ∷ [] → self.new ≡ ks }
+    {
+        let _key = self.set.pop();
+    }
+}
