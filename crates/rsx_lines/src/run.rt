@@ -88,7 +88,7 @@ fn write_out<W: Write>(out: &mut String, writer: &mut W) -> Result<(), AppFault>
     }
 }
 
-/// Writes these bytes; where a write fails, those before it.
+/// Writes these bytes; where a write fails, those before it. `Write::write_all` would say nothing of what was written then.
 fn write_bytes<W: Write>(bytes: &[u8], writer: &mut W) -> Result<(), AppFault>
     ensures written { OnOk result (Appends (W.contents writer.old) (W.contents writer.new) bytes.now) }
     ensures begun { OnErr result (Writes (W.contents writer.old) (W.contents writer.new) (λ text. Begins text bytes.now)) }
