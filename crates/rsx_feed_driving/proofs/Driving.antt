@@ -1,17 +1,21 @@
 -- Moves of a graph with feeds, one after the other.
-use Rattle.std.proofs.Common.{◌≡◌, ℕ, zero, suc, ◌+◌, ◌<◌, ◌≤◌, true, ◌&&◌, ◌⊎◌, inl, inr, if◌then◌else◌, List, [], ◌∷◌, ◌++◌, length, length-append, slice_get, is_some, refl, ap, sym, ◌∙◌, subst, arith, append_assoc, Option, Some, None}
+use Rattle.std.proofs.Common.{◌≡◌, ℕ, zero, suc, ◌+◌, ◌<◌, ◌≤◌, true, ◌&&◌, ◌⊎◌, inl, inr, if◌then◌else◌, List, [], ◌∷◌, ◌++◌, length, length-append, slice_get, is_none, is_some, refl, ap, sym, ◌∙◌, subst, arith, append_assoc, Option, Some, None, Bool, false}
 use Rattle.std.proofs.lemmas.List.{append-nil}
 use Rattle.std.specs.Option.{option_to_list}
 use Rattle.rsx_feeding.specs.History.{History, delivered, with_delivery, with_made}
-use Rattle.rsx_feeding.specs.Moves.{accepts_in, is_out, sends, works}
+use Rattle.rsx_feeding.specs.Moves.{accepts_in, is_out, sends, works, accepts_at}
 use Rattle.rsx_feeding.specs.Stands.{Rows, StandsFor, feed_of}
 use Rattle.rsx_history.proofs.Graphs.{all_quiet}
+use Rattle.rsx_history.specs.Hubs.{signals_wait}
 use Rattle.rsx_history.specs.Pumped.{AllPumped, AreQuiet, IsSubAwake, IsSubMoveMade}
 use Rattle.rsx_history.specs.Stands.{IsMade, enabled_in_tree as sub_enabled}
+use Rattle.rsx_hub.specs.Hub.{HubState, waiting}
+use Rattle.rsx_publishing.specs.Publishing.{all_have_room, can_accept_with_feeds, is_ready}
 use Rattle.rsx_subscriber.specs.Moves.{tree_of}
 use Rattle.rsx_subscriber.specs.Pumped.{Leads}
 use Rattle.rsx_subscriber.specs.Stands.{IsMadeAnswer}
 use Rattle.rsx_subscriber.specs.declared.subscription.Subscription.{Subscription}
+use Rattle.rsx_tree.proofs.Alike.{or_left, or_right}
 use Rattle.rsx_tree.specs.declared.look.NodeMove.TheVariants.{Ask as NodeAsk, Send as NodeSend, Pick as NodePick, Row as NodeRow}
 use Rattle.rsx_types.specs.Meaning.{Meaning}
 use Rattle.rsx_types.specs.declared.names.Move.{Move}
@@ -20,6 +24,7 @@ use Rattle.rsx_types.specs.declared.names.SubId.{SubId}
 use Rattle.rsx_types.specs.declared.names.Tree.TheVariants.{Sub, Feed as FeedOf}
 use Rattle.rsx_types.specs.declared.signal.Signal.{Signal}
 use Rattle.rsx_feed_driving.specs.Moves.{IsMoved, is_enabled, sent}
+use Rattle.rsx_feed_driving.proofs.Named.{unfed_quiet}
 use Rattle.rsx_feed_driving.specs.Pumped.{AreHubsQuiet, AreMade, IsAllQuiet, IsAnyAwake, IsHubQuiet, IsMoveMade, LeadTo, Made, after_moves, delivered_by}
 
 -- ---- one list of moves behind another
@@ -242,3 +247,46 @@ all_hubs_quiet m g n all q i l = q i (omega (arith, all, l))
 
 pub rows_same : {T : Type 0} (a b : Rows T) → b.hubs ≡ a.hubs → b.feeds ≡ a.feeds → b.subs ≡ a.subs → b ≡ a
 rows_same a b h f s i = record { hubs = h i; feeds = f i; subs = s i }
+
+-- ---- where a hub had no enabled move
+
+-- where no move was made, nothing changed
+none_so_far : {T : Type 0} (m : Meaning T) (first now : Rows T) (before after : List (SubId × Signal T)) (n : ℕ) → SoFar m first before n now after → n ≡ 0 → now ≡ first
+none_so_far m first now before after n s e = none_made m first now s.moves (s.count ∙ e) s.made
+
+-- where the first of these moves was one of a hub that has none, none was made
+pub untouched : {T : Type 0} (m : Meaning T) (first now : Rows T) (before after : List (SubId × Signal T)) (n h : ℕ) → SoFar m first before n now after → (0 < n → IsHubQuiet m first h → ⊥) → IsHubQuiet m first h → now ≡ first
+untouched m first now before after zero h s k q = none_so_far m first now before after 0 s refl
+untouched m first now before after (suc n) h s k q = absurd (k (omega arith) q)
+
+-- a hub that has an enabled move after such moves had one before them
+pub could_first : {T : Type 0} (m : Meaning T) (first now : Rows T) (before after : List (SubId × Signal T)) (n h : ℕ) → SoFar m first before n now after → (0 < n → IsHubQuiet m first h → ⊥) → (IsHubQuiet m now h → ⊥) → IsHubQuiet m first h → ⊥
+could_first {T} m first now before after n h s k can q =
+    let P : Rows T → Type 0 = λ g. IsHubQuiet m g h in
+    can (subst P (sym (untouched m first now before after n h s k q)) q)
+
+-- where no hub has a feed and nothing waits in front of one, no hub has an enabled move
+pub nothing_waits : {T : Type 0} (m : Meaning T) (g : Rows T) → signals_wait g.hubs ≡ false → g.feeds ≡ [] → (n : ℕ) → AreHubsQuiet m g n
+nothing_waits {T} m g waits unfed n h less = unfed_quiet m g h none (by_hub (slice_get g.hubs h) refl)
+  where
+    none : feed_of g.feeds h ≡ None
+    none = ap (λ l. feed_of l h) unfed
+
+    none_at : (hubs : List (HubState T)) (j : ℕ) (x : HubState T) → signals_wait hubs ≡ false → slice_get hubs j ≡ Some x → is_some (waiting x) ≡ false
+    none_at [] j x w is = cc
+    none_at (y ∷ ys) zero x w is = let same : y ≡ x = cc in ap (λ z. is_some (waiting z)) (sym same) ∙ or_left (is_some (waiting y)) (signals_wait ys) w
+    none_at (y ∷ ys) (suc j) x w is = none_at ys j x (or_right (is_some (waiting y)) (signals_wait ys) w) is
+
+    not_ready : (o : Option (Signal T)) (room : Bool) → is_some o ≡ false → is_ready o room ≡ false
+    not_ready None room e = refl
+    not_ready (Some s) room e = cc
+
+    by_hub : (o : Option (HubState T)) → slice_get g.hubs h ≡ o → accepts_at g h ≡ false
+    by_hub None is = ap (λ o. accepts_in g o h) is
+    by_hub (Some x) is =
+        ap (λ o. accepts_in g o h) is
+        ∙ (ap (λ o. is_none o && can_accept_with_feeds h x g.feeds g.subs) none ∙ not_ready (waiting x) (all_have_room h g.feeds g.subs) (none_at g.hubs h x waits is))
+
+-- the same of a hub among those that have none, where nothing changed since
+pub still_quiet : {T : Type 0} (m : Meaning T) (first now : Rows T) (h n : ℕ) → h < n → now ≡ first → AreHubsQuiet m first n → IsHubQuiet m now h
+still_quiet {T} m first now h n less same q = let P : Rows T → Type 0 = λ g. IsHubQuiet m g h in subst P (sym same) (q h less)

@@ -1,3 +1,4 @@
 -- Lemmas about moves of rows with feeds.
 pub mod Driving
 pub mod Named
+pub mod Serving

@@ -3,6 +3,7 @@ use Rattle.std.proofs.Common.{◌≡◌, ℕ, ◌<◌, Bool, true, false, ◌&&�
 use Rattle.rsx_feeding.specs.Moves.{accepts_at, accepts_in, feed_enabled, has_feed, is_out, sends, sends_where, works, works_where}
 use Rattle.rsx_feeding.specs.Stands.{Rows, feed_of}
 use Rattle.rsx_hub.specs.Hub.{HubState}
+use Rattle.rsx_pipe.specs.Part as Part
 use Rattle.rsx_pipe.specs.Feeding.{IsQuietInside, inside_enabled}
 use Rattle.rsx_publishing.specs.Publishing.{can_accept_with_feeds}
 use Rattle.rsx_publishing.specs.Sending.{can_feed, can_feed_at, can_feed_of}
@@ -112,3 +113,11 @@ inside_of_feed {T} m g h f step within named can = fed_enabled m g h hub.0 f ste
 -- the Send over the root edge
 pub out_of_feed : {T : Type 0} (m : Meaning T) (g : Rows T) (h : ℕ) (hub : HubState T) (f : Feed T) → slice_get g.hubs h ≡ Some hub → feed_of g.feeds h ≡ Some f → can_feed m f hub g.feeds g.subs ≡ true → feed_enabled m g h (NodeSend 0) ≡ true
 out_of_feed m g h hub f there named can = fed_enabled m g h hub f (NodeSend 0) there named ∙ can
+
+-- ---- a hub that has an enabled move is not quiet
+
+pub not_quiet_accept : {T : Type 0} (m : Meaning T) (g : Rows T) (h : ℕ) → accepts_at g h ≡ true → IsHubQuiet m g h → ⊥
+not_quiet_accept m g h can q = let rest = q.accept in cc
+
+pub not_quiet_feed : {T : Type 0} (m : Meaning T) (g : Rows T) (h : ℕ) (step : NodeMove) → Part.IsNumbered step → feed_enabled m g h step ≡ true → IsHubQuiet m g h → ⊥
+not_quiet_feed m g h step small can q = let rest = q.feed step small in cc

@@ -1,3 +1,4 @@
 -- Definitions that contracts cite.
 pub mod Moves
 pub mod Pumped
+pub mod Served

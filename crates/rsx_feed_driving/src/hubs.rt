@@ -1,6 +1,6 @@
 //! Hubs take in what they can: what waits in their inboxes, and what their feeds give.
 
-ghost use Rattle.std.specs.Prelude.{◌≡◌, ◌<◌, ◌^◌, None, Option, Some, IfNone, IfSome, length, true};
+ghost use Rattle.std.specs.Prelude.{◌≡◌, ◌<◌, ◌^◌, None, Option, Some, IfNone, IfSome, IsOk, length, true};
 ghost use Rattle.rsx_feeding.specs.Moves.{rows_of};
 ghost use Rattle.rsx_feeding.specs.Stands as spec;
 ghost use Rattle.rsx_subscriber.specs.Moves as named;
@@ -9,7 +9,7 @@ ghost use Rattle.rsx_types.specs.Meaning.{Meaning};
 ghost use Rattle.rsx_types.specs.declared.names.SubId.{SubId};
 ghost use Rattle.rsx_types.specs.declared.signal.Signal.{Signal};
 ghost use Rattle.rsx_feed_driving.specs.Moves.{is_enabled};
-ghost use Rattle.rsx_feed_driving.specs.Pumped.{HasServed, HaveServed, IsHubQuiet};
+ghost use Rattle.rsx_feed_driving.specs.Pumped.{AreHubsQuiet, HasServed, HaveServed, IsHubQuiet};
 
 use crate::moves::make;
 use rsx_feeding::place_of;
@@ -35,6 +35,8 @@ pub(crate) fn serve_all<O: Ops>(
     ensures feeds { length feeds.new.items ≡ length feeds.old.items }
     ensures subscriptions { length subscriptions.new.items ≡ length subscriptions.old.items }
     ensures served { HaveServed (O.meaning ops.now) budget (rows_of hubs.old.items feeds.old.items subscriptions.old.items) result (rows_of hubs.new.items feeds.new.items subscriptions.new.items) }
+    ensures none { AreHubsQuiet (O.meaning ops.now) (rows_of hubs.old.items feeds.old.items subscriptions.old.items) (length hubs.old.items) →
+        (rows_of hubs.new.items feeds.new.items subscriptions.new.items ≡ rows_of hubs.old.items feeds.old.items subscriptions.old.items) × IsOk result }
 {
     let mut left = budget;
     let count = hubs.len() as u32;
@@ -63,6 +65,8 @@ fn serve<O: Ops>(
     ensures feeds { length feeds.new.items ≡ length feeds.old.items }
     ensures subscriptions { length subscriptions.new.items ≡ length subscriptions.old.items }
     ensures served { HasServed (O.meaning ops.now) hub.0 budget (rows_of hubs.old.items feeds.old.items subscriptions.old.items) result (rows_of hubs.new.items feeds.new.items subscriptions.new.items) }
+    ensures none { IsHubQuiet (O.meaning ops.now) (rows_of hubs.old.items feeds.old.items subscriptions.old.items) hub.0 →
+        (rows_of hubs.new.items feeds.new.items subscriptions.new.items ≡ rows_of hubs.old.items feeds.old.items subscriptions.old.items) × IsOk result }
 {
     for made in 0..budget {
         let Some(step) = first_move(hubs, feeds, subscriptions, hub) else {
@@ -89,6 +93,7 @@ fn first_move<T: Drop>(
 ) -> Option<Move>
     requires { hub.0 < length hubs.now.items }
     ensures some { (m : Meaning T) → IfSome result (λ step. is_enabled m (rows_of hubs.now.items feeds.now.items subscriptions.now.items) step ≡ true) }
+    ensures own { (m : Meaning T) → IfSome result (λ step. IsHubQuiet m (rows_of hubs.now.items feeds.now.items subscriptions.now.items) hub.0 → ⊥) }
     ensures still { IfSome result (λ step. (o : Option (SubId × Signal T)) → IsMadeAnswer step o → o ≡ None) }
     ensures none { (m : Meaning T) → IfNone result (IsHubQuiet m (rows_of hubs.now.items feeds.now.items subscriptions.now.items) hub.0) }
 {
@@ -108,6 +113,7 @@ fn first_of_emitter<T: Drop>(
     requires there { hub.0 < length hubs.now.items }
     requires unfed { spec.place_of feeds.now.items hub.0 ≡ None }
     ensures some { (m : Meaning T) → IfSome result (λ step. is_enabled m (rows_of hubs.now.items feeds.now.items subscriptions.now.items) step ≡ true) }
+    ensures own { (m : Meaning T) → IfSome result (λ step. IsHubQuiet m (rows_of hubs.now.items feeds.now.items subscriptions.now.items) hub.0 → ⊥) }
     ensures still { IfSome result (λ step. (o : Option (SubId × Signal T)) → IsMadeAnswer step o → o ≡ None) }
     ensures none { (m : Meaning T) → IfNone result (IsHubQuiet m (rows_of hubs.now.items feeds.now.items subscriptions.now.items) hub.0) }
 {
@@ -134,6 +140,7 @@ fn first_of_feed<T: Drop>(
     requires within { at < length feeds.now.items }
     requires place { spec.place_of feeds.now.items hub.0 ≡ Some at }
     ensures some { (m : Meaning T) → IfSome result (λ step. is_enabled m (rows_of hubs.now.items feeds.now.items subscriptions.now.items) step ≡ true) }
+    ensures own { (m : Meaning T) → IfSome result (λ step. IsHubQuiet m (rows_of hubs.now.items feeds.now.items subscriptions.now.items) hub.0 → ⊥) }
     ensures still { IfSome result (λ step. (o : Option (SubId × Signal T)) → IsMadeAnswer step o → o ≡ None) }
     ensures none { (m : Meaning T) → IfNone result (IsHubQuiet m (rows_of hubs.now.items feeds.now.items subscriptions.now.items) hub.0) }
 {

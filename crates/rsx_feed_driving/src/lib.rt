@@ -1,15 +1,18 @@
 #![tactic(auto)]
 //! The moves of hubs, feeds and subscriptions that stand in rows and are named by their numbers.
 //!
+//! - [`law`]: [`idle_means_delivered`], as the contract of one function.
 //! - [`moves`]: [`make`], one move of a subscription, of a hub or of a hub's feed.
 //! - [`rounds`]: [`pump`], moves of subscriptions, hubs and feeds until none is enabled.
 //!
-//! The definitions stand in `specs/`: `Moves` (when a move is enabled, what it changes, and why it is refused) and `Pumped` (many
-//! moves, one after the other).
+//! The definitions stand in `specs/`: `Moves` (when a move is enabled, what it changes, and why it is refused), `Pumped` (many
+//! moves, one after the other) and `Served` (what was got where no move is enabled).
 
 mod hubs;
+pub mod law;
 pub mod moves;
 pub mod rounds;
 
+pub use law::idle_means_delivered;
 pub use moves::make;
 pub use rounds::pump;

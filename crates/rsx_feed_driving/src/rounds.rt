@@ -1,7 +1,10 @@
 //! Moves of subscriptions, hubs and their feeds, round after round.
 
-ghost use Rattle.std.specs.Prelude.{◌≡◌, ◌<◌, ◌^◌, length};
+ghost use Rattle.std.specs.Prelude.{◌≡◌, ◌<◌, ◌^◌, [], false, length, OnErr};
+ghost use Rattle.rsx_driving.specs.Rows.{graph_of};
 ghost use Rattle.rsx_feeding.specs.Moves.{rows_of};
+ghost use Rattle.rsx_history.specs.Moves.{drives_allocate};
+ghost use Rattle.rsx_subscriber.specs.Delivered.{IsFull};
 ghost use Rattle.rsx_feed_driving.specs.Pumped.{HasPumped};
 
 use crate::hubs::serve_all;
@@ -19,7 +22,9 @@ use std::alloc::Global;
 /// delivered is put into `out`, behind what stands there.
 ///
 /// # Errors
-/// [`Refusal::NoMemory`] where a growth was refused; the moves made before stand, and their deliveries are in `out`.
+/// [`Refusal::NoMemory`] where a growth was refused; the moves made before stand, and their deliveries are in `out`. Where no hub
+/// has a feed, it comes only where `out` has no room for one signal more, where a signal waits in the inbox of a hub, or where some
+/// node of a subscription's tree may allocate.
 pub fn pump<O: Ops>(
     alloc: Global,
     ops: &O,
@@ -35,6 +40,9 @@ pub fn pump<O: Ops>(
     ensures feeds { length feeds.new.items ≡ length feeds.old.items }
     ensures subscriptions { length subscriptions.new.items ≡ length subscriptions.old.items }
     ensures pumped { HasPumped (O.meaning ops.now) budget (rows_of hubs.old.items feeds.old.items subscriptions.old.items) out.old result (rows_of hubs.new.items feeds.new.items subscriptions.new.items) out.new }
+
+    // Where no hub has a feed and no move may allocate, there is want of memory only for the list of deliveries.
+    ensures memory { drives_allocate (O.allocates ops.now) (graph_of hubs.old.items subscriptions.old.items []) ≡ false → feeds.old.items ≡ [] → OnErr result (IsFull out.new) }
 {
     let mut left = budget;
     'rounds: loop {

@@ -3,7 +3,7 @@ use Rattle.rsx_history.proofs.Graphs.{found}
 use Rattle.rsx_feeding.proofs.Calls.{accepts_there}
 use Rattle.rsx_feeding.proofs.Places.{unfed_there}
 use Rattle.rsx_feeding.specs.Moves.{rows_of}
-use Rattle.rsx_feed_driving.proofs.Named.{accepts_answered, unfed_quiet}
+use Rattle.rsx_feed_driving.proofs.Named.{accepts_answered, not_quiet_accept, unfed_quiet}
 use Rattle.rsx_feed_driving.proofs.hubs.first_of_emitter.Goals as goal
 
 pub returns-in-true-clause-some : goal.returns-in-true-clause-some
@@ -22,3 +22,7 @@ returns-in-false-clause-none g c = λ m.
     unfed_quiet m (rows_of c.args.hubs.now.items c.args.feeds.now.items c.args.subscriptions.now.items) n unfed
     (accepts_there n c.args.hubs.now.items c.index.result.now c.args.feeds.now.items c.deref.result.now c.args.subscriptions.now.items c.deref-2.result.now false there c.deref.ensures.value c.deref-2.ensures.value unfed
     (accepts_answered n c.from.result c.index.result.now c.deref.result.now c.deref-2.result.now false c.can_accept_with_feeds.result c.from.ensures c.can_accept_with_feeds.ensures c.in-false.is))
+
+pub returns-in-true-clause-own : goal.returns-in-true-clause-own
+returns-in-true-clause-own g c = λ m q.
+    not_quiet_accept m (rows_of c.args.hubs.now.items c.args.feeds.now.items c.args.subscriptions.now.items) c.args.hub.0 (returns-in-true-clause-some g c m) q

@@ -2,7 +2,8 @@ use Rattle.std.proofs.Common.{◌∙◌, ap, arith, false, length, sym, true}
 use Rattle.rsx_history.proofs.Graphs.{found}
 use Rattle.rsx_feeding.proofs.Places.{placed_feed}
 use Rattle.rsx_feeding.specs.Moves.{rows_of}
-use Rattle.rsx_feed_driving.proofs.Named.{enabled_named, fed_quiet, feeds_there, inside_of_feed, nothing_delivered, out_of_feed}
+use Rattle.rsx_tree.specs.declared.look.NodeMove.TheVariants.{Send}
+use Rattle.rsx_feed_driving.proofs.Named.{enabled_named, fed_quiet, feeds_there, inside_of_feed, not_quiet_feed, nothing_delivered, out_of_feed}
 use Rattle.rsx_feed_driving.proofs.hubs.first_of_feed.Goals as goal
 
 pub can_feed-requires : goal.can_feed-requires
@@ -37,3 +38,16 @@ returns-in-Some-clause-some g c = λ m.
 
 pub returns-in-Some-clause-still : goal.returns-in-Some-clause-still
 returns-in-Some-clause-still g c = λ o k. nothing_delivered c.in-Some.inside c.move_of.result o c.move_of.ensures.inside k
+
+pub returns-in-true-clause-own : goal.returns-in-true-clause-own
+returns-in-true-clause-own g c = λ m q.
+    not_quiet_feed m (rows_of c.args.hubs.now.items c.args.feeds.now.items c.args.subscriptions.now.items) c.args.hub.0 (Send 0) (omega arith) (returns-in-true-clause-some g c m) q
+
+pub returns-in-Some-clause-own : goal.returns-in-Some-clause-own
+returns-in-Some-clause-own g c = λ m q.
+    let n = c.args.hub.0 in
+    let f = c.index.result.now in
+    let rows = rows_of c.args.hubs.now.items c.args.feeds.now.items c.args.subscriptions.now.items in
+    let here = found c.args.feeds.now.items c.args.at f c.requires.within (sym c.index.ensures) in
+    let k = c.in-Some.ensures.some m in
+    not_quiet_feed m rows n c.in-Some.inside k.0 (inside_of_feed m rows n f c.in-Some.inside c.requires.there (placed_feed c.args.feeds.now.items n c.args.at f c.requires.place here) k.1) q

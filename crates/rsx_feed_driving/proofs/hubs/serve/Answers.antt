@@ -3,7 +3,7 @@ use Rattle.std.specs.Option.{option_to_list}
 use Rattle.rsx_types.specs.declared.names.SubId.{SubId}
 use Rattle.rsx_types.specs.declared.signal.Signal.{Signal}
 use Rattle.rsx_feeding.specs.Moves.{rows_of}
-use Rattle.rsx_feed_driving.proofs.Driving.{made_one, made_still, rows_same, so_far_none, so_far_taken}
+use Rattle.rsx_feed_driving.proofs.Driving.{could_first, made_one, made_still, rows_same, so_far_none, so_far_taken, untouched}
 use Rattle.rsx_feed_driving.proofs.hubs.serve.Goals as goal
 
 pub loop-made-init : goal.loop-made-init
@@ -12,6 +12,7 @@ loop-made-init g c = record {
   feeds = refl;
   subscriptions = refl;
   so_far = so_far_none (g.O.Ops.meaning c.args.ops.now) (rows_of c.args.hubs.now.items c.args.feeds.now.items c.args.subscriptions.now.items) [];
+  first = λ l _. absurd (omega (arith, l));
 }
 
 pub returns-in_default-clause-served : goal.returns-in_default-clause-served
@@ -47,6 +48,11 @@ loop-made-preserved g c = record {
       let o = c.in-Ok.field-0 in
       let F : Option (SubId × Signal g.row.O-Item.Denot) → _ = λ x. option_to_list x ++ [] in
       so_far_taken m first before after [] [] c.loop-made.made _ c.loop-made.invariant.so_far (made_one m c.in-Some.step o before after k.enabled k.effect k.answer k.stands) (ap F (c.in-Some.ensures.still o k.answer));
+  first = λ _ q.
+      let m = g.O.Ops.meaning c.args.ops.now in
+      let first = rows_of c.args.hubs.now.items c.args.feeds.now.items c.args.subscriptions.now.items in
+      let before = rows_of c.loop-made.hubs.items c.loop-made.feeds.items c.loop-made.subscriptions.items in
+      could_first m first before [] [] c.loop-made.made c.args.hub.0 c.loop-made.invariant.so_far c.loop-made.invariant.first (c.in-Some.ensures.own m) q;
 }
 
 pub returns-in-Some-first_move-clause-served : goal.returns-in-Some-first_move-clause-served
@@ -64,3 +70,31 @@ returns-in-None-clause-served g c =
     let l = c.loop-made-test.false in
     let e = c.loop-made.auto.made-end in
     (s.moves, (omega (arith, n, l, e), c.in-None.ensures.none (g.O.Ops.meaning c.args.ops.now)), s.made, sym s.output)
+
+pub returns-in_default-clause-none : goal.returns-in_default-clause-none
+returns-in_default-clause-none g c = λ q.
+    let m = g.O.Ops.meaning c.args.ops.now in
+    let first = rows_of c.args.hubs.now.items c.args.feeds.now.items c.args.subscriptions.now.items in
+    let before = rows_of c.loop-made.hubs.items c.loop-made.feeds.items c.loop-made.subscriptions.items in
+    (untouched m first before [] [] c.loop-made.made c.args.hub.0 c.loop-made.invariant.so_far c.loop-made.invariant.first q, refl)
+
+pub returns-in-Some-first_move-clause-none : goal.returns-in-Some-first_move-clause-none
+returns-in-Some-first_move-clause-none g c = λ q.
+    let m = g.O.Ops.meaning c.args.ops.now in
+    let first = rows_of c.args.hubs.now.items c.args.feeds.now.items c.args.subscriptions.now.items in
+    let before = rows_of c.loop-made.hubs.items c.loop-made.feeds.items c.loop-made.subscriptions.items in
+    (untouched m first before [] [] c.loop-made.made c.args.hub.0 c.loop-made.invariant.so_far c.loop-made.invariant.first q, refl)
+
+pub returns-in-None-clause-none : goal.returns-in-None-clause-none
+returns-in-None-clause-none g c = λ q.
+    let m = g.O.Ops.meaning c.args.ops.now in
+    let first = rows_of c.args.hubs.now.items c.args.feeds.now.items c.args.subscriptions.now.items in
+    let before = rows_of c.loop-made.hubs.items c.loop-made.feeds.items c.loop-made.subscriptions.items in
+    (untouched m first before [] [] c.loop-made.made c.args.hub.0 c.loop-made.invariant.so_far c.loop-made.invariant.first q, refl)
+
+pub returns-in-Err-clause-none : goal.returns-in-Err-clause-none
+returns-in-Err-clause-none g c = λ q.
+    let m = g.O.Ops.meaning c.args.ops.now in
+    let first = rows_of c.args.hubs.now.items c.args.feeds.now.items c.args.subscriptions.now.items in
+    let before = rows_of c.loop-made.hubs.items c.loop-made.feeds.items c.loop-made.subscriptions.items in
+    absurd (could_first m first before [] [] c.loop-made.made c.args.hub.0 c.loop-made.invariant.so_far c.loop-made.invariant.first (c.in-Some.ensures.own m) q)

@@ -1,5 +1,6 @@
-use Rattle.std.proofs.Common.{◌≡◌, [], length}
+use Rattle.std.proofs.Common.{◌≡◌, ◌<◌, [], length}
 use Rattle.rsx_feeding.specs.Moves.{rows_of}
+use Rattle.rsx_feed_driving.specs.Pumped.{IsHubQuiet}
 use Rattle.rsx_feed_driving.proofs.Driving.{SoFar}
 use Rattle.rsx_feed_driving.proofs.hubs.serve.Given as goal
 
@@ -9,4 +10,5 @@ invariant-loop-made g l = record {
   feeds : length l.feeds.items ≡ length l.fn.feeds.items;
   subscriptions : length l.subscriptions.items ≡ length l.fn.subscriptions.items;
   so_far : SoFar (g.O.Ops.meaning l.ops) (rows_of l.fn.hubs.items l.fn.feeds.items l.fn.subscriptions.items) [] l.made (rows_of l.hubs.items l.feeds.items l.subscriptions.items) [];
+  first : 0 < l.made → IsHubQuiet (g.O.Ops.meaning l.ops) (rows_of l.fn.hubs.items l.fn.feeds.items l.fn.subscriptions.items) l.fn.hub.0 → ⊥;
 }

@@ -11,4 +11,5 @@ invariant-loop-at g l = record {
   subscriptions : length l.subscriptions.items ≡ length l.fn.subscriptions.items;
   so_far : (n : ℕ) × (n + l.left ≡ l.fn.budget) × SoFar (g.O.Ops.meaning l.ops) (rows_of l.fn.hubs.items l.fn.feeds.items l.fn.subscriptions.items) [] n (rows_of l.hubs.items l.feeds.items l.subscriptions.items) [];
   none : l.left ≡ l.fn.budget → AreHubsQuiet (g.O.Ops.meaning l.ops) (rows_of l.hubs.items l.feeds.items l.subscriptions.items) l.at;
+  still : AreHubsQuiet (g.O.Ops.meaning l.ops) (rows_of l.fn.hubs.items l.fn.feeds.items l.fn.subscriptions.items) (length l.fn.hubs.items) → rows_of l.hubs.items l.feeds.items l.subscriptions.items ≡ rows_of l.fn.hubs.items l.fn.feeds.items l.fn.subscriptions.items;
 }

@@ -1,8 +1,11 @@
 use Rattle.std.proofs.Common.{◌+◌, ◌∙◌, List, ap, arith, length, refl, subst, sym}
+use Rattle.rsx_history.specs.Hubs.{signals_wait}
 use Rattle.rsx_history.specs.Pumped.{AreQuiet}
+use Rattle.rsx_history.specs.Stands.{pump_allocates}
+use Rattle.rsx_tree.proofs.Alike.{or_left, or_right}
 use Rattle.rsx_subscriber.specs.declared.subscription.Subscription.{Subscription}
 use Rattle.rsx_feeding.specs.Moves.{rows_of}
-use Rattle.rsx_feed_driving.proofs.Driving.{none_made, rows_awake, rows_quiet, so_far_driven, so_far_none, so_far_taken}
+use Rattle.rsx_feed_driving.proofs.Driving.{none_made, nothing_waits, rows_awake, rows_quiet, so_far_driven, so_far_none, so_far_taken}
 use Rattle.rsx_feed_driving.proofs.rounds.pump.Goals as goal
 
 pub rounds-init : goal.rounds-init
@@ -11,6 +14,7 @@ rounds-init g c = record {
   feeds = refl;
   subscriptions = refl;
   so_far = (0, omega arith, so_far_none (g.O.Ops.meaning c.args.ops.now) (rows_of c.args.hubs.now.items c.args.feeds.now.items c.args.subscriptions.now.items) c.args.out.now.signals);
+  free = λ f unfed. let a = pump_allocates (g.O.Ops.allocates c.args.ops.now) c.args.subscriptions.now.items in let w = signals_wait c.args.hubs.now.items in (or_left a w f, or_right a w f, unfed);
 }
 
 pub returns-in-Ok-Budget-clause-pumped : goal.returns-in-Ok-Budget-clause-pumped
@@ -126,4 +130,23 @@ rounds-preserved g c = record {
       let j = q.1.0 in
       let e = so_far_taken m first mid after c.args.out.now.signals c.drive.new.out.signals (s.0 + p.0) q.0 d q.2 q.3 in
       (s.0 + p.0 + length q.0, omega (arith, n, k, j), e);
+  free = λ f unfed.
+      let m = g.O.Ops.meaning c.args.ops.now in
+      let a = g.O.Ops.allocates c.args.ops.now in
+      let mid = rows_of c.rounds.hubs.items c.rounds.feeds.items c.drive.new.subscriptions.items in
+      let k = c.rounds.invariant.free f unfed in
+      let p = rw c.in-Ok-Idle.field-0-is at c.in-Ok-Idle.ensures.driven in
+      let still = (c.serve_all.ensures.none (nothing_waits m mid k.1 k.2 (length c.rounds.hubs.items))).0 in
+      (ap (λ g. pump_allocates a g.subs) still ∙ (p.2.alike a ∙ k.0), ap (λ g. signals_wait g.hubs) still ∙ k.1, ap (λ g. g.feeds) still ∙ k.2);
 }
+
+pub returns-in-Err-clause-memory : goal.returns-in-Err-clause-memory
+returns-in-Err-clause-memory g c = λ f unfed. c.in-Err.ensures.memory (c.rounds.invariant.free f unfed).0
+
+pub returns-in-Err-serve_all-clause-memory : goal.returns-in-Err-serve_all-clause-memory
+returns-in-Err-serve_all-clause-memory g c = λ f unfed.
+    let m = g.O.Ops.meaning c.args.ops.now in
+    let mid = rows_of c.rounds.hubs.items c.rounds.feeds.items c.drive.new.subscriptions.items in
+    let k = c.rounds.invariant.free f unfed in
+    let none = (c.in-Err-serve_all.ensures.none (nothing_waits m mid k.1 k.2 (length c.rounds.hubs.items))).1 in
+    cc

@@ -1,5 +1,9 @@
-use Rattle.std.proofs.Common.{◌≡◌, ◌+◌, ℕ, length}
+use Rattle.std.proofs.Common.{◌≡◌, ◌+◌, ℕ, [], false, length}
+use Rattle.rsx_driving.specs.Rows.{graph_of}
 use Rattle.rsx_feeding.specs.Moves.{rows_of}
+use Rattle.rsx_history.specs.Hubs.{signals_wait}
+use Rattle.rsx_history.specs.Moves.{drives_allocate}
+use Rattle.rsx_history.specs.Stands.{pump_allocates}
 use Rattle.rsx_feed_driving.proofs.Driving.{SoFar}
 use Rattle.rsx_feed_driving.proofs.rounds.pump.Given as goal
 
@@ -9,6 +13,7 @@ invariant-rounds g l = record {
   feeds : length l.feeds.items ≡ length l.fn.feeds.items;
   subscriptions : length l.subscriptions.items ≡ length l.fn.subscriptions.items;
   so_far : (n : ℕ) × (n + l.left ≡ l.fn.budget) × SoFar (g.O.Ops.meaning l.ops) (rows_of l.fn.hubs.items l.fn.feeds.items l.fn.subscriptions.items) l.fn.out.signals n (rows_of l.hubs.items l.feeds.items l.subscriptions.items) l.out.signals;
+  free : drives_allocate (g.O.Ops.allocates l.ops) (graph_of l.fn.hubs.items l.fn.subscriptions.items []) ≡ false → l.fn.feeds.items ≡ [] → (pump_allocates (g.O.Ops.allocates l.ops) l.subscriptions.items ≡ false) × (signals_wait l.hubs.items ≡ false) × (l.feeds.items ≡ []);
 }
 
 abbrev pub decreases-rounds : goal.decreases-rounds

@@ -1,0 +1,14 @@
+-- What the subscribers of a graph with feeds got where no move is enabled.
+use Rattle.std.specs.Prelude.{List, []}
+use Rattle.rsx_feeding.specs.Headline.{AreValues}
+use Rattle.rsx_feeding.specs.History.{History}
+use Rattle.rsx_feeding.specs.Stands.{Rows}
+use Rattle.rsx_history.specs.Served.{AllServed}
+use Rattle.rsx_types.specs.Meaning.{Meaning}
+use Rattle.rsx_types.specs.Stream.{Stream}
+
+-- over the values of the hubs, each live subscriber whose expression reads no hub got what it asked for
+pub record IsServed {T : Type 0} (m : Meaning T) (g : Rows T) (h : History T) : Type 0 where
+  pub published : List (Stream T)
+  pub values : AreValues m g.feeds [] h.hubs published
+  pub all : AllServed m published g.subs h.pasts

@@ -1,0 +1,18 @@
+//! That idle means delivered, of graphs with feeds.
+
+ghost use Rattle.rsx_feeding.specs.History.{History};
+ghost use Rattle.rsx_feeding.specs.Stands.{Rows, StandsFor};
+ghost use Rattle.rsx_types.specs.Meaning.{Meaning};
+ghost use Rattle.rsx_feed_driving.specs.Pumped.{IsAllQuiet};
+ghost use Rattle.rsx_feed_driving.specs.Served.{IsServed};
+
+use rsx_types::Ops;
+
+/// Idle means delivered: wherever the rows of a graph stand for a history and no move is enabled, each live subscriber whose
+/// expression reads no hub got the first items of its expression's value, as many as it asked for or as there are; and the ending
+/// too, where it asked for more than there are and the value has one. It holds as long as no edge has carried 2^63-1 items.
+///
+/// [`crate::pump`] answers Idle only where no move is enabled. The function does nothing; its contract is the sentence.
+pub fn idle_means_delivered<O: Ops>()
+    ensures { (m : Meaning O.Item) (g : Rows O.Item) (h : History O.Item) → StandsFor m g h → IsAllQuiet m g → IsServed m g h }
+{}
