@@ -68,7 +68,13 @@ fn wanted(alloc: Global) -> Result<(u64, u64, u64, usize, Ending), NoMemory> {
     let value = node.residual(alloc, &Demo, &[], incoming.as_slice())?;
     let _ = node.pop_front(alloc, &Demo)?;
     let _ = node.pop_item(alloc, &Demo);
-    Ok((first, waiting, node.want(0, 9, 2), value.items().len(), value.ending()))
+    Ok((
+        first,
+        waiting,
+        node.want(0, 9, 2),
+        value.items().len(),
+        value.ending(),
+    ))
 }
 
 #[test]
@@ -79,7 +85,11 @@ fn a_window_has_a_chain_of_its_own(rt: HostRuntime) -> Result<(), Fail> {
     let lists = given(alloc, Stage::Buffer(5), Signal::Complete)?;
     assert_eq!(rt; lists.as_slice(), [102, 101, -1].as_slice());
     // A list that was started is dropped at a failure.
-    let failed = given(alloc, Stage::Buffer(5), Signal::Error(rsx_types::Cause::User(7)))?;
+    let failed = given(
+        alloc,
+        Stage::Buffer(5),
+        Signal::Error(rsx_types::Cause::User(7)),
+    )?;
     assert_eq!(rt; failed.as_slice(), [102, -2].as_slice());
     Ok(())
 }
