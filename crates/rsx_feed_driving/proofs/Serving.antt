@@ -1,19 +1,28 @@
 -- Where no move of a graph with feeds is enabled, what was asked for was delivered.
-use Rattle.std.proofs.Common.{◌≡◌, ℕ, zero, suc, ◌-◌, List, [], ◌∷◌, Some, slice_get, refl, sym, ap, ◌∙◌, arith}
+use Rattle.std.proofs.Common.{◌≡◌, ◌⊎◌, inl, inr, ℕ, zero, suc, ◌-◌, Bool, true, false, List, [], ◌∷◌, Option, Some, None, slice_get, refl, sym, ap, ◌∙◌, arith}
 use Rattle.rsx_feeding.proofs.Values.{values_of}
 use Rattle.rsx_feeding.specs.History.{History}
 use Rattle.rsx_feeding.specs.Stands.{Rows, StandsFor}
 use Rattle.rsx_history.proofs.Graphs.{past_first, suc_less}
-use Rattle.rsx_history.specs.Served.{AllServed}
+use Rattle.rsx_history.specs.Served.{AllServed, HasGotAll}
 use Rattle.rsx_history.specs.Stands.{AllStand, enabled_at}
 use Rattle.rsx_pipe.proofs.Signals.{some_same}
 use Rattle.rsx_pipe.specs.Output.{values_then}
+use Rattle.rsx_pipe.specs.Any.{any_machine}
 use Rattle.rsx_pipe.specs.Part as Part
+use Rattle.rsx_pipe.specs.Part.{HasReadAll}
+use Rattle.rsx_sources.specs.Reading.{Reading}
+use Rattle.rsx_sources.specs.declared.machine.Machine.{Ghosts as Machine}
 use Rattle.rsx_subscriber.proofs.Serving.{served}
 use Rattle.rsx_subscriber.specs.Past.{Past}
 use Rattle.rsx_subscriber.specs.Pumped.{IsQuiet}
-use Rattle.rsx_subscriber.specs.Stands.{move_enabled_in}
+use Rattle.rsx_subscriber.specs.Stands.{Stands, move_enabled_in}
 use Rattle.rsx_subscriber.specs.declared.subscription.Subscription.{Subscription}
+use Rattle.rsx_tree.specs.Edges.{is_live}
+use Rattle.rsx_tree.specs.Reads.{IsReadAt, IsRowReadAt, IsTreeReadAt}
+use Rattle.rsx_tree.specs.Rests.{HaveReadAll, NothingBehind, TreeHasReadAll}
+use Rattle.rsx_tree.specs.declared.inputs.Inputs.{Inputs, End, More'}
+use Rattle.rsx_tree.specs.declared.node.Node.{Node}
 use Rattle.rsx_tree.specs.declared.look.NodeMove.TheVariants.{Ask as NodeAsk, Send as NodeSend, Pick as NodePick, Row as NodeRow}
 use Rattle.rsx_types.specs.Meaning.{Meaning}
 use Rattle.rsx_types.specs.Stream.{Stream}
@@ -41,9 +50,34 @@ quiet_got {T} m g i sub q e = (in_part, sym (enabled_got m g.subs i sub (Take tr
     in_part (NodePick n k) l = sym (enabled_got m g.subs i sub (Pick tree (record { 0 = n }) k) e) ∙ q (Pick tree (record { 0 = n }) k) l
     in_part (NodeRow n) l = sym (enabled_got m g.subs i sub (Row tree (record { 0 = n })) e) ∙ q (Row tree (record { 0 = n })) l
 
+-- ---- a tree that reads no hub
+
+unread : {T : Type 0} (hubs : List (Stream T)) (o : Option Reading) → IsReadAt [] o → NothingBehind o hubs
+unread hubs None h r e = cc
+unread hubs (Some k) h r e = cc
+
+row_unread : {M T : Type 0} (b : Machine M T) (m : Meaning T) (hubs : List (Stream T)) (t : Inputs M) → IsRowReadAt b [] t → HaveReadAll b m hubs t
+row_unread b m hubs End h = tt
+row_unread {M} b m hubs (More' e n p below q beside) h = (λ live. first live h.0 (λ w. row_unread b m hubs below w), row_unread b m hubs beside h.1)
+  where
+    both : (c : Bool) → c ≡ true → c ≡ false → ⊥
+    both c x y = cc
+
+    first : is_live e.state ≡ true → (is_live e.state ≡ false) ⊎ (IsReadAt [] (b.reads n) × IsRowReadAt b [] below) → (IsRowReadAt b [] below → HaveReadAll b m hubs below) → (b.waiting m n ≡ None → NothingBehind (b.reads n) hubs) × HaveReadAll b m hubs below
+    first live k deeper = elim k [ inl dead ↦ absurd (both (is_live e.state) live dead) | inr w ↦ (λ _. unread hubs (b.reads n) w.0, deeper w.1) ]
+
+tree_unread : {M T : Type 0} (b : Machine M T) (m : Meaning T) (hubs : List (Stream T)) (t : Node M) → IsTreeReadAt b [] t → TreeHasReadAll b m hubs t
+tree_unread b m hubs t h = (λ _. unread hubs (b.reads t.machine) h.0, row_unread b m hubs t.inputs h.1)
+
+got_all : {T : Type 0} (m : Meaning T) (taken hubs : List (Stream T)) (s : Subscription T) (p : Past T) → Stands m taken s p → HasGotAll m hubs s p → HasReadAll m hubs s.part
+got_all m taken hubs s p h (inl alone) = λ live. tree_unread any_machine m hubs s.part.tree (h.part.alone live alone)
+got_all m taken hubs s p h (inr read) = read
+
+-- ---- idle means delivered
+
 each_served : {T : Type 0} (m : Meaning T) (taken waiting : List (Stream T)) (subs : List (Subscription T)) (pasts : List (Past T)) → ((i : ℕ) (s : Subscription T) → slice_get subs i ≡ Some s → IsQuiet m s) → AllStand m taken subs pasts → AllServed m (values_then taken waiting) subs pasts
 each_served m taken waiting [] [] q h = tt
-each_served m taken waiting (s ∷ ss) (p ∷ ps) q h = ((λ live alone within v e. served m taken s p (q 0 s refl) h.0 live alone within waiting v e), each_served m taken waiting ss ps (λ i t e. q (suc i) t e) h.1)
+each_served m taken waiting (s ∷ ss) (p ∷ ps) q h = ((λ live got within v e. served m taken s p (q 0 s refl) h.0 live within waiting v (got_all m taken (values_then taken waiting) s p h.0 got) e), each_served m taken waiting ss ps (λ i t e. q (suc i) t e) h.1)
 each_served m taken waiting [] (p ∷ ps) q h = absurd h
 each_served m taken waiting (s ∷ ss) [] q h = absurd h
 

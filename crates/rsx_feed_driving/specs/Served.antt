@@ -7,7 +7,8 @@ use Rattle.rsx_history.specs.Served.{AllServed}
 use Rattle.rsx_types.specs.Meaning.{Meaning}
 use Rattle.rsx_types.specs.Stream.{Stream}
 
--- over the values of the hubs, each live subscriber whose expression reads no hub got what it asked for
+-- over the values of the hubs, each live subscriber got what it asked for whose expression reads no hub, or each of whose nodes that
+-- reads a hub and offers nothing has got all that was published there
 pub record IsServed {T : Type 0} (m : Meaning T) (g : Rows T) (h : History T) : Type 0 where
   pub published : List (Stream T)
   pub values : AreValues m g.feeds [] h.hubs published
