@@ -1,0 +1,3 @@
+-- Lemmas about runs.
+pub mod Leading
+pub mod Lines

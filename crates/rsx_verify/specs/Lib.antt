@@ -1,0 +1,5 @@
+-- Definitions that contracts cite.
+pub mod Events
+pub mod Refusals
+pub mod Reports
+pub mod Runs

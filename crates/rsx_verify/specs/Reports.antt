@@ -1,0 +1,54 @@
+-- What the runs of an expression say of the rules.
+use Rattle.std.specs.Prelude.{◌≡◌, ℕ, pos, negsuc, List, [], ◌∷◌, length, slice_get, Some, Bool, true, false, if◌then◌else◌}
+use Rattle.rsx_trace.specs.declared.event.Stamped.{Stamped}
+use Rattle.rsx_types.specs.Meaning.{Meaning}
+use Rattle.rsx_model.specs.declared.expr.Expr.{Expr}
+use Rattle.rsx_tck.specs.Rule.{all_rules}
+use Rattle.rsx_tck.specs.Verdicts.{Judged}
+use Rattle.rsx_tck.specs.declared.rule.Rule.{Rule}
+use Rattle.rsx_tck.specs.declared.rule.Verdict.{Verdict}
+use Rattle.rsx_tck.specs.declared.rule.Verdict.TheVariants.{Held, Broken, NotJudged}
+use Rattle.rsx_verify.specs.declared.act.Act.{Act}
+use Rattle.rsx_verify.specs.declared.act.Act.TheVariants.{Request, Cancel, Pump}
+use Rattle.rsx_verify.specs.Runs.{IsRecorded}
+
+-- the run of a publisher: an item, and then all that there are
+abbrev pub publisher_acts : List Act
+publisher_acts = Request (pos 1) ∷ Pump ∷ Request (pos 9223372036854775807) ∷ Pump ∷ []
+
+-- the run of a subscriber that cancels, and requests after it
+abbrev pub cancel_acts : List Act
+cancel_acts = Request (pos 1) ∷ Pump ∷ Cancel ∷ Request (pos 5) ∷ Pump ∷ []
+
+-- the run of a subscriber that requests badly, twice
+abbrev pub bad_request_acts : List Act
+bad_request_acts = Request (pos 0) ∷ Pump ∷ Request (negsuc 0) ∷ Pump ∷ []
+
+abbrev pub is_broken : Verdict → Bool
+is_broken Held = false
+is_broken (Broken i) = true
+is_broken (NotJudged c) = false
+
+-- the first run that breaks a rule, with its verdict; 0 where none does, with the verdict on the first
+abbrev pub first_broken : Verdict → Verdict → Verdict → ℕ × Verdict
+first_broken a b c = if is_broken a then (1, a) else (if is_broken b then (2, b) else (if is_broken c then (3, c) else (0, a)))
+
+-- the line of a rule, from what each of three traces says of it
+abbrev pub IsLine : List Stamped → List Stamped → List Stamped → Rule → ℕ × Verdict → Type 0
+IsLine t t' t'' r line =
+    (a : Verdict) × ((b : Verdict) × ((c : Verdict) × (Judged r t a × Judged r t' b × Judged r t'' c × (line ≡ first_broken a b c))))
+
+-- a line for each rule, in the order of the rules
+abbrev pub AreLines : (Rule → ℕ × Verdict → Type 0) → List (ℕ × Verdict) → Type 0
+AreLines P lines =
+    (length lines ≡ 43) × ((k : ℕ) (r : Rule) → slice_get all_rules k ≡ Some r → (line : ℕ × Verdict) × (slice_get lines k ≡ Some line) × P r line)
+
+-- the lines say what the three runs of the expression say of the rules
+pub record AreVerified {T : Type 0} (m : Meaning T) (e : Expr T) (lines : List (ℕ × Verdict)) : Type 0 where
+  pub publisher : List Stamped
+  pub cancel : List Stamped
+  pub bad_request : List Stamped
+  pub published : IsRecorded m e publisher_acts publisher
+  pub cancelled : IsRecorded m e cancel_acts cancel
+  pub requested : IsRecorded m e bad_request_acts bad_request
+  pub judged : AreLines (IsLine publisher cancel bad_request) lines

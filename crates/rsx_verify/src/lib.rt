@@ -1,0 +1,22 @@
+#![tactic(auto)]
+//! Verifies an expression: runs of a subscription to it, each on a fresh graph and recorded as a trace.
+//!
+//! - [`act`]: [`Act`], what a run does to its subscription.
+//! - [`recording`]: [`record`], the events of a run.
+//! - [`runs`]: the three runs by which an expression is verified, and [`verify`], what they say of the rules.
+//! - [`refusal`]: [`VerifyRefusal`], why an expression isn't run.
+
+pub mod act;
+mod note;
+pub mod recording;
+pub mod refusal;
+mod reports;
+pub mod runs;
+
+pub use act::Act;
+pub use recording::record;
+pub use refusal::VerifyRefusal;
+pub use runs::{bad_request_run, cancel_run, publisher_run, verify};
+
+/// The most moves of one pump of a run.
+pub const BUDGET: u32 = 10_000;

@@ -1,0 +1,31 @@
+//! The lines of a report on several runs.
+
+ghost use Rattle.std.specs.Prelude.{◌≡◌};
+ghost use Rattle.rsx_verify.specs.Reports.{AreLines, IsLine, first_broken};
+
+use rsx_tck::{Rule, Stamped, Verdict, judge};
+
+/// The first of three verdicts by which a rule is broken, with its number; 0 and the first where none is.
+fn first_broken(first: Verdict, second: Verdict, third: Verdict) -> (u32, Verdict)
+    ensures { result ≡ first_broken first second third }
+{
+    match (first, second, third) {
+        (Verdict::Broken(_), _, _) => (1, first),
+        (_, Verdict::Broken(_), _) => (2, second),
+        (_, _, Verdict::Broken(_)) => (3, third),
+        _ => (0, first),
+    }
+}
+
+/// What three traces say of the rules, in their order.
+pub fn judge_runs(first: &[Stamped], second: &[Stamped], third: &[Stamped]) -> [(u32, Verdict); 43]
+    ensures { AreLines (IsLine first.now second.now third.now) result }
+{
+    let rules = Rule::all();
+    let mut lines = [(0, Verdict::Held); 43];
+    for position in 0..43 {
+        let rule = rules[position];
+        lines[position] = first_broken(judge(rule, first), judge(rule, second), judge(rule, third));
+    }
+    lines
+}
