@@ -1,0 +1,3 @@
+-- Lemmas about edits of rows with feeds.
+pub mod Behind
+pub mod Subscribers
