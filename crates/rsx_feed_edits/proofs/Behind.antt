@@ -42,7 +42,7 @@ take_less zero xs x l = refl
 take_less (suc n) [] x l = absurd (omega (arith, l))
 take_less (suc n) (z ∷ xs) x l = ap (λ k. z ∷ k) (take_less n xs x (omega (arith, l)))
 
-one_more : {A : Type 0} (xs : List A) (x : A) → length (xs ++ x ∷ []) ≡ suc (length xs)
+pub one_more : {A : Type 0} (xs : List A) (x : A) → length (xs ++ x ∷ []) ≡ suc (length xs)
 one_more [] x = refl
 one_more (z ∷ xs) x = ap suc (one_more xs x)
 

@@ -62,7 +62,7 @@ pub fn hub<T: Drop>(
 }
 
 /// Whether a capacity and the number of a replay are in their limits.
-fn are_numbers(kind: HubKind, capacity: u64) -> bool
+pub(crate) fn are_numbers(kind: HubKind, capacity: u64) -> bool
     ensures { result ≡ are_numbers kind capacity }
 {
     let fits = 1 <= capacity && capacity <= LARGEST;
