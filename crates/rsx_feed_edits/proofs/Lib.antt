@@ -1,0 +1,5 @@
+-- Lemmas about edits of rows with feeds.
+pub mod Behind
+pub mod Fed
+pub mod Leaves
+pub mod Subscribers
