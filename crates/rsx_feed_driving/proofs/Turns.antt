@@ -1,5 +1,5 @@
 -- Rounds of moves: those of the subscriptions, and then those of the hubs.
-use Rattle.std.proofs.Common.{◌≡◌, ℕ, ◌+◌, List, [], ◌++◌, length, Ok, Err, refl, ap, sym, subst, arith}
+use Rattle.std.proofs.Common.{◌≡◌, ℕ, ◌+◌, List, length, Ok, Err, ap, sym, subst, arith}
 use Rattle.rsx_driving.specs.Rows.{HasDriven}
 use Rattle.rsx_feeding.specs.Stands.{Rows}
 use Rattle.rsx_history.specs.Pumped.{AreQuiet}
@@ -9,7 +9,7 @@ use Rattle.rsx_rooted.specs.declared.rooted.Pumped.TheVariants.{Idle as Rests, B
 use Rattle.rsx_subscriber.specs.Delivered.{Delivered}
 use Rattle.rsx_subscriber.specs.declared.subscription.Subscription.{Subscription}
 use Rattle.rsx_types.specs.Meaning.{Meaning}
-use Rattle.rsx_feed_driving.specs.Pumped.{AreHubsQuiet, HasPumped, HaveServed}
+use Rattle.rsx_feed_driving.specs.Pumped.{HasPumped, HaveServed}
 use Rattle.rsx_feed_driving.proofs.Driving.{SoFar, none_made, rows_awake, rows_quiet, so_far_driven, so_far_taken}
 
 -- so much of the budget is left after the moves that led here

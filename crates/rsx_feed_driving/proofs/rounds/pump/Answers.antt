@@ -1,4 +1,4 @@
-use Rattle.std.proofs.Common.{◌≡◌, ◌∙◌, ap, arith, length, refl}
+use Rattle.std.proofs.Common.{◌∙◌, ap, arith, length, refl}
 use Rattle.rsx_feeding.specs.Moves.{rows_of}
 use Rattle.rsx_history.specs.Hubs.{signals_wait}
 use Rattle.rsx_history.specs.Stands.{pump_allocates}
@@ -105,3 +105,48 @@ returns-in-Err-serve_all-clause-memory g c = λ f unfed.
     let k = c.rounds.invariant.free f unfed in
     let none = (c.in-Err-serve_all.ensures.none (nothing_waits m mid k.1 k.2 (length c.rounds.hubs.items))).1 in
     cc
+
+pub returns-in-Ok-Budget-clause-hubs : goal.returns-in-Ok-Budget-clause-hubs
+returns-in-Ok-Budget-clause-hubs g c = c.rounds.invariant.hubs
+
+pub returns-in-Ok-Budget-clause-feeds : goal.returns-in-Ok-Budget-clause-feeds
+returns-in-Ok-Budget-clause-feeds g c = c.rounds.invariant.feeds
+
+pub returns-in-Ok-Budget-clause-subscriptions : goal.returns-in-Ok-Budget-clause-subscriptions
+returns-in-Ok-Budget-clause-subscriptions g c = c.drive.ensures.count ∙ c.rounds.invariant.subscriptions
+
+pub returns-in-Err-clause-hubs : goal.returns-in-Err-clause-hubs
+returns-in-Err-clause-hubs g c = c.rounds.invariant.hubs
+
+pub returns-in-Err-clause-feeds : goal.returns-in-Err-clause-feeds
+returns-in-Err-clause-feeds g c = c.rounds.invariant.feeds
+
+pub returns-in-Err-clause-subscriptions : goal.returns-in-Err-clause-subscriptions
+returns-in-Err-clause-subscriptions g c = c.drive.ensures.count ∙ c.rounds.invariant.subscriptions
+
+pub returns-in-Ok-Budget-serve_all-clause-hubs : goal.returns-in-Ok-Budget-serve_all-clause-hubs
+returns-in-Ok-Budget-serve_all-clause-hubs g c = c.serve_all.ensures.hubs ∙ c.rounds.invariant.hubs
+
+pub returns-in-Ok-Budget-serve_all-clause-feeds : goal.returns-in-Ok-Budget-serve_all-clause-feeds
+returns-in-Ok-Budget-serve_all-clause-feeds g c = c.serve_all.ensures.feeds ∙ c.rounds.invariant.feeds
+
+pub returns-in-Ok-Budget-serve_all-clause-subscriptions : goal.returns-in-Ok-Budget-serve_all-clause-subscriptions
+returns-in-Ok-Budget-serve_all-clause-subscriptions g c = c.serve_all.ensures.subscriptions ∙ (c.drive.ensures.count ∙ c.rounds.invariant.subscriptions)
+
+pub returns-in-Err-serve_all-clause-hubs : goal.returns-in-Err-serve_all-clause-hubs
+returns-in-Err-serve_all-clause-hubs g c = c.serve_all.ensures.hubs ∙ c.rounds.invariant.hubs
+
+pub returns-in-Err-serve_all-clause-feeds : goal.returns-in-Err-serve_all-clause-feeds
+returns-in-Err-serve_all-clause-feeds g c = c.serve_all.ensures.feeds ∙ c.rounds.invariant.feeds
+
+pub returns-in-Err-serve_all-clause-subscriptions : goal.returns-in-Err-serve_all-clause-subscriptions
+returns-in-Err-serve_all-clause-subscriptions g c = c.serve_all.ensures.subscriptions ∙ (c.drive.ensures.count ∙ c.rounds.invariant.subscriptions)
+
+pub returns-then-left-rested-clause-hubs : goal.returns-then-left-rested-clause-hubs
+returns-then-left-rested-clause-hubs g c = c.serve_all.ensures.hubs ∙ c.rounds.invariant.hubs
+
+pub returns-then-left-rested-clause-feeds : goal.returns-then-left-rested-clause-feeds
+returns-then-left-rested-clause-feeds g c = c.serve_all.ensures.feeds ∙ c.rounds.invariant.feeds
+
+pub returns-then-left-rested-clause-subscriptions : goal.returns-then-left-rested-clause-subscriptions
+returns-then-left-rested-clause-subscriptions g c = c.serve_all.ensures.subscriptions ∙ (c.drive.ensures.count ∙ c.rounds.invariant.subscriptions)
