@@ -2,3 +2,4 @@
 pub mod Driving
 pub mod Named
 pub mod Serving
+pub mod Turns

@@ -94,3 +94,21 @@ returns-in-Err-clause-none g c = λ q.
 
 pub returns-clause-none : goal.returns-clause-none
 returns-clause-none g c = λ q. (c.loop-at.invariant.still q, refl)
+
+pub returns-in-Ok-Budget-clause-hubs : goal.returns-in-Ok-Budget-clause-hubs
+returns-in-Ok-Budget-clause-hubs g c = c.serve.ensures.hubs ∙ c.loop-at.invariant.hubs
+
+pub returns-in-Ok-Budget-clause-feeds : goal.returns-in-Ok-Budget-clause-feeds
+returns-in-Ok-Budget-clause-feeds g c = c.serve.ensures.feeds ∙ c.loop-at.invariant.feeds
+
+pub returns-in-Ok-Budget-clause-subscriptions : goal.returns-in-Ok-Budget-clause-subscriptions
+returns-in-Ok-Budget-clause-subscriptions g c = c.serve.ensures.subscriptions ∙ c.loop-at.invariant.subscriptions
+
+pub returns-in-Err-clause-hubs : goal.returns-in-Err-clause-hubs
+returns-in-Err-clause-hubs g c = c.serve.ensures.hubs ∙ c.loop-at.invariant.hubs
+
+pub returns-in-Err-clause-feeds : goal.returns-in-Err-clause-feeds
+returns-in-Err-clause-feeds g c = c.serve.ensures.feeds ∙ c.loop-at.invariant.feeds
+
+pub returns-in-Err-clause-subscriptions : goal.returns-in-Err-clause-subscriptions
+returns-in-Err-clause-subscriptions g c = c.serve.ensures.subscriptions ∙ c.loop-at.invariant.subscriptions

@@ -1,11 +1,10 @@
-use Rattle.std.proofs.Common.{◌+◌, ◌∙◌, List, ap, arith, length, refl, subst, sym}
+use Rattle.std.proofs.Common.{◌∙◌, ap, arith, length, refl}
+use Rattle.rsx_feeding.specs.Moves.{rows_of}
 use Rattle.rsx_history.specs.Hubs.{signals_wait}
-use Rattle.rsx_history.specs.Pumped.{AreQuiet}
 use Rattle.rsx_history.specs.Stands.{pump_allocates}
 use Rattle.rsx_tree.proofs.Alike.{or_left, or_right}
-use Rattle.rsx_subscriber.specs.declared.subscription.Subscription.{Subscription}
-use Rattle.rsx_feeding.specs.Moves.{rows_of}
-use Rattle.rsx_feed_driving.proofs.Driving.{none_made, nothing_waits, rows_awake, rows_quiet, so_far_driven, so_far_none, so_far_taken}
+use Rattle.rsx_feed_driving.proofs.Driving.{nothing_waits, so_far_none}
+use Rattle.rsx_feed_driving.proofs.Turns.{drives, drives_on, drives_refused, is_idle, rests, serves, serves_on, serves_refused, spends}
 use Rattle.rsx_feed_driving.proofs.rounds.pump.Goals as goal
 
 pub rounds-init : goal.rounds-init
@@ -22,27 +21,14 @@ returns-in-Ok-Budget-clause-pumped g c =
     let m = g.O.Ops.meaning c.args.ops.now in
     let first = rows_of c.args.hubs.now.items c.args.feeds.now.items c.args.subscriptions.now.items in
     let before = rows_of c.rounds.hubs.items c.rounds.feeds.items c.rounds.subscriptions.items in
-    let mid = rows_of c.rounds.hubs.items c.rounds.feeds.items c.drive.new.subscriptions.items in
-    let s = c.rounds.invariant.so_far in
-    let n = s.1 in
-    let p = rw c.in-Ok-Budget.field-0-is at c.in-Ok-Budget.ensures.driven in
-    let k = p.1.0 in
-    let d = so_far_driven m first before c.drive.new.subscriptions.items c.args.out.now.signals c.rounds.out.signals c.drive.new.out.signals s.0 p.0 s.2 p.2 in
-    let count = d.count in
-    (d.moves, (omega (arith, n, k, count), rows_awake m mid p.1.1), d.made, d.output)
+    drives_on m c.args.budget c.rounds.left first c.args.out.now before c.rounds.out c.drive.new.out c.drive.new.subscriptions.items c.rounds.invariant.so_far (rw c.in-Ok-Budget.field-0-is at c.in-Ok-Budget.ensures.driven)
 
 pub returns-in-Err-clause-pumped : goal.returns-in-Err-clause-pumped
 returns-in-Err-clause-pumped g c =
     let m = g.O.Ops.meaning c.args.ops.now in
     let first = rows_of c.args.hubs.now.items c.args.feeds.now.items c.args.subscriptions.now.items in
     let before = rows_of c.rounds.hubs.items c.rounds.feeds.items c.rounds.subscriptions.items in
-    let s = c.rounds.invariant.so_far in
-    let n = s.1 in
-    let p = c.in-Err.ensures.driven in
-    let k = p.1.0 in
-    let d = so_far_driven m first before c.drive.new.subscriptions.items c.args.out.now.signals c.rounds.out.signals c.drive.new.out.signals s.0 p.0 s.2 p.2 in
-    let count = d.count in
-    (d.moves, (omega (arith, n, k, count), p.1.1), d.made, d.output)
+    drives_refused m c.args.budget c.rounds.left first c.args.out.now before c.rounds.out c.drive.new.out c.drive.new.subscriptions.items c.in-Err.why c.rounds.invariant.so_far c.in-Err.ensures.driven
 
 pub returns-in-Ok-Budget-serve_all-clause-pumped : goal.returns-in-Ok-Budget-serve_all-clause-pumped
 returns-in-Ok-Budget-serve_all-clause-pumped g c =
@@ -51,16 +37,8 @@ returns-in-Ok-Budget-serve_all-clause-pumped g c =
     let before = rows_of c.rounds.hubs.items c.rounds.feeds.items c.rounds.subscriptions.items in
     let mid = rows_of c.rounds.hubs.items c.rounds.feeds.items c.drive.new.subscriptions.items in
     let after = rows_of c.serve_all.new.hubs.items c.serve_all.new.feeds.items c.serve_all.new.subscriptions.items in
-    let s = c.rounds.invariant.so_far in
-    let n = s.1 in
-    let p = rw c.in-Ok-Idle.field-0-is at c.in-Ok-Idle.ensures.driven in
-    let k = p.1.0 in
-    let d = so_far_driven m first before c.drive.new.subscriptions.items c.args.out.now.signals c.rounds.out.signals c.drive.new.out.signals s.0 p.0 s.2 p.2 in
-    let q = rw c.in-Ok-Budget-serve_all.field-0-is at c.in-Ok-Budget-serve_all.ensures.served in
-    let j = q.1.0 in
-    let e = so_far_taken m first mid after c.args.out.now.signals c.drive.new.out.signals (s.0 + p.0) q.0 d q.2 q.3 in
-    let count = e.count in
-    (e.moves, (omega (arith, n, k, j, count), q.1.1), e.made, e.output)
+    let d = drives m c.args.budget c.rounds.left c.in-Ok-Idle.rested first c.args.out.now before c.rounds.out c.drive.new.out c.drive.new.subscriptions.items c.rounds.invariant.so_far (rw c.in-Ok-Idle.field-0-is at c.in-Ok-Idle.ensures.driven) in
+    serves_on m c.args.budget c.in-Ok-Idle.rested first c.args.out.now mid after c.drive.new.out d (rw c.in-Ok-Budget-serve_all.field-0-is at c.in-Ok-Budget-serve_all.ensures.served)
 
 pub returns-in-Err-serve_all-clause-pumped : goal.returns-in-Err-serve_all-clause-pumped
 returns-in-Err-serve_all-clause-pumped g c =
@@ -69,16 +47,8 @@ returns-in-Err-serve_all-clause-pumped g c =
     let before = rows_of c.rounds.hubs.items c.rounds.feeds.items c.rounds.subscriptions.items in
     let mid = rows_of c.rounds.hubs.items c.rounds.feeds.items c.drive.new.subscriptions.items in
     let after = rows_of c.serve_all.new.hubs.items c.serve_all.new.feeds.items c.serve_all.new.subscriptions.items in
-    let s = c.rounds.invariant.so_far in
-    let n = s.1 in
-    let p = rw c.in-Ok-Idle.field-0-is at c.in-Ok-Idle.ensures.driven in
-    let k = p.1.0 in
-    let d = so_far_driven m first before c.drive.new.subscriptions.items c.args.out.now.signals c.rounds.out.signals c.drive.new.out.signals s.0 p.0 s.2 p.2 in
-    let q = c.in-Err-serve_all.ensures.served in
-    let j = q.1.0 in
-    let e = so_far_taken m first mid after c.args.out.now.signals c.drive.new.out.signals (s.0 + p.0) q.0 d q.2 q.3 in
-    let count = e.count in
-    (e.moves, (omega (arith, n, k, j, count), q.1.1), e.made, e.output)
+    let d = drives m c.args.budget c.rounds.left c.in-Ok-Idle.rested first c.args.out.now before c.rounds.out c.drive.new.out c.drive.new.subscriptions.items c.rounds.invariant.so_far (rw c.in-Ok-Idle.field-0-is at c.in-Ok-Idle.ensures.driven) in
+    serves_refused m c.args.budget c.in-Ok-Idle.rested first c.args.out.now mid after c.drive.new.out c.in-Err-serve_all.why d c.in-Err-serve_all.ensures.served
 
 pub returns-then-left-rested-clause-pumped : goal.returns-then-left-rested-clause-pumped
 returns-then-left-rested-clause-pumped g c =
@@ -87,26 +57,18 @@ returns-then-left-rested-clause-pumped g c =
     let before = rows_of c.rounds.hubs.items c.rounds.feeds.items c.rounds.subscriptions.items in
     let mid = rows_of c.rounds.hubs.items c.rounds.feeds.items c.drive.new.subscriptions.items in
     let after = rows_of c.serve_all.new.hubs.items c.serve_all.new.feeds.items c.serve_all.new.subscriptions.items in
-    let s = c.rounds.invariant.so_far in
-    let n = s.1 in
-    let p = rw c.in-Ok-Idle.field-0-is at c.in-Ok-Idle.ensures.driven in
-    let k = p.1.0 in
-    let d = so_far_driven m first before c.drive.new.subscriptions.items c.args.out.now.signals c.rounds.out.signals c.drive.new.out.signals s.0 p.0 s.2 p.2 in
-    let q = rw c.in-Ok-Idle-serve_all.field-0-is at c.in-Ok-Idle-serve_all.ensures.served in
-    let j = q.1.0 in
-    let e = so_far_taken m first mid after c.args.out.now.signals c.drive.new.out.signals (s.0 + p.0) q.0 d q.2 q.3 in
-    let count = e.count in
-    let last = c.if-left-rested.true in
-    let still = none_made m mid after q.0 (omega (arith, j, last)) q.2 in
-    let Q : List (Subscription g.row.O-Item.Denot) → Type 0 = λ l. AreQuiet m l (length l) in
-    (e.moves, (omega (arith, n, k, j, count), rows_quiet m after (subst Q (ap (λ k. k.subs) (sym still)) p.1.1) (q.1.1 (omega (arith, last)))), e.made, e.output)
+    let d = drives m c.args.budget c.rounds.left c.in-Ok-Idle.rested first c.args.out.now before c.rounds.out c.drive.new.out c.drive.new.subscriptions.items c.rounds.invariant.so_far (rw c.in-Ok-Idle.field-0-is at c.in-Ok-Idle.ensures.driven) in
+    is_idle m c.args.budget c.in-Ok-Idle.rested c.in-Ok-Idle-serve_all.behind first c.args.out.now mid after c.drive.new.out d (rw c.in-Ok-Idle-serve_all.field-0-is at c.in-Ok-Idle-serve_all.ensures.served) c.if-left-rested.true
 
 pub rounds-smaller : goal.rounds-smaller
 rounds-smaller g c =
-    let p = rw c.in-Ok-Idle.field-0-is at c.in-Ok-Idle.ensures.driven in
-    let q = rw c.in-Ok-Idle-serve_all.field-0-is at c.in-Ok-Idle-serve_all.ensures.served in
-    let k = p.1.0 in
-    let j = q.1.0 in
+    let m = g.O.Ops.meaning c.args.ops.now in
+    let mid = rows_of c.rounds.hubs.items c.rounds.feeds.items c.drive.new.subscriptions.items in
+    let after = rows_of c.serve_all.new.hubs.items c.serve_all.new.feeds.items c.serve_all.new.subscriptions.items in
+    let p = rests m c.rounds.left c.in-Ok-Idle.rested c.rounds.subscriptions.items c.drive.new.subscriptions.items c.rounds.out c.drive.new.out (rw c.in-Ok-Idle.field-0-is at c.in-Ok-Idle.ensures.driven) in
+    let q = spends m c.in-Ok-Idle.rested c.in-Ok-Idle-serve_all.behind mid after (rw c.in-Ok-Idle-serve_all.field-0-is at c.in-Ok-Idle-serve_all.ensures.served) in
+    let k = p.1 in
+    let j = q.1 in
     let more = c.if-left-rested.false in
     omega (arith, k, j, more)
 
@@ -121,15 +83,8 @@ rounds-preserved g c = record {
       let before = rows_of c.rounds.hubs.items c.rounds.feeds.items c.rounds.subscriptions.items in
       let mid = rows_of c.rounds.hubs.items c.rounds.feeds.items c.drive.new.subscriptions.items in
       let after = rows_of c.serve_all.new.hubs.items c.serve_all.new.feeds.items c.serve_all.new.subscriptions.items in
-      let s = c.rounds.invariant.so_far in
-      let n = s.1 in
-      let p = rw c.in-Ok-Idle.field-0-is at c.in-Ok-Idle.ensures.driven in
-      let k = p.1.0 in
-      let d = so_far_driven m first before c.drive.new.subscriptions.items c.args.out.now.signals c.rounds.out.signals c.drive.new.out.signals s.0 p.0 s.2 p.2 in
-      let q = rw c.in-Ok-Idle-serve_all.field-0-is at c.in-Ok-Idle-serve_all.ensures.served in
-      let j = q.1.0 in
-      let e = so_far_taken m first mid after c.args.out.now.signals c.drive.new.out.signals (s.0 + p.0) q.0 d q.2 q.3 in
-      (s.0 + p.0 + length q.0, omega (arith, n, k, j), e);
+      let d = drives m c.args.budget c.rounds.left c.in-Ok-Idle.rested first c.args.out.now before c.rounds.out c.drive.new.out c.drive.new.subscriptions.items c.rounds.invariant.so_far (rw c.in-Ok-Idle.field-0-is at c.in-Ok-Idle.ensures.driven) in
+      serves m c.args.budget c.in-Ok-Idle.rested c.in-Ok-Idle-serve_all.behind first c.args.out.now mid after c.drive.new.out d (rw c.in-Ok-Idle-serve_all.field-0-is at c.in-Ok-Idle-serve_all.ensures.served);
   free = λ f unfed.
       let m = g.O.Ops.meaning c.args.ops.now in
       let a = g.O.Ops.allocates c.args.ops.now in
@@ -150,3 +105,48 @@ returns-in-Err-serve_all-clause-memory g c = λ f unfed.
     let k = c.rounds.invariant.free f unfed in
     let none = (c.in-Err-serve_all.ensures.none (nothing_waits m mid k.1 k.2 (length c.rounds.hubs.items))).1 in
     cc
+
+pub returns-in-Ok-Budget-clause-hubs : goal.returns-in-Ok-Budget-clause-hubs
+returns-in-Ok-Budget-clause-hubs g c = c.rounds.invariant.hubs
+
+pub returns-in-Ok-Budget-clause-feeds : goal.returns-in-Ok-Budget-clause-feeds
+returns-in-Ok-Budget-clause-feeds g c = c.rounds.invariant.feeds
+
+pub returns-in-Ok-Budget-clause-subscriptions : goal.returns-in-Ok-Budget-clause-subscriptions
+returns-in-Ok-Budget-clause-subscriptions g c = c.drive.ensures.count ∙ c.rounds.invariant.subscriptions
+
+pub returns-in-Err-clause-hubs : goal.returns-in-Err-clause-hubs
+returns-in-Err-clause-hubs g c = c.rounds.invariant.hubs
+
+pub returns-in-Err-clause-feeds : goal.returns-in-Err-clause-feeds
+returns-in-Err-clause-feeds g c = c.rounds.invariant.feeds
+
+pub returns-in-Err-clause-subscriptions : goal.returns-in-Err-clause-subscriptions
+returns-in-Err-clause-subscriptions g c = c.drive.ensures.count ∙ c.rounds.invariant.subscriptions
+
+pub returns-in-Ok-Budget-serve_all-clause-hubs : goal.returns-in-Ok-Budget-serve_all-clause-hubs
+returns-in-Ok-Budget-serve_all-clause-hubs g c = c.serve_all.ensures.hubs ∙ c.rounds.invariant.hubs
+
+pub returns-in-Ok-Budget-serve_all-clause-feeds : goal.returns-in-Ok-Budget-serve_all-clause-feeds
+returns-in-Ok-Budget-serve_all-clause-feeds g c = c.serve_all.ensures.feeds ∙ c.rounds.invariant.feeds
+
+pub returns-in-Ok-Budget-serve_all-clause-subscriptions : goal.returns-in-Ok-Budget-serve_all-clause-subscriptions
+returns-in-Ok-Budget-serve_all-clause-subscriptions g c = c.serve_all.ensures.subscriptions ∙ (c.drive.ensures.count ∙ c.rounds.invariant.subscriptions)
+
+pub returns-in-Err-serve_all-clause-hubs : goal.returns-in-Err-serve_all-clause-hubs
+returns-in-Err-serve_all-clause-hubs g c = c.serve_all.ensures.hubs ∙ c.rounds.invariant.hubs
+
+pub returns-in-Err-serve_all-clause-feeds : goal.returns-in-Err-serve_all-clause-feeds
+returns-in-Err-serve_all-clause-feeds g c = c.serve_all.ensures.feeds ∙ c.rounds.invariant.feeds
+
+pub returns-in-Err-serve_all-clause-subscriptions : goal.returns-in-Err-serve_all-clause-subscriptions
+returns-in-Err-serve_all-clause-subscriptions g c = c.serve_all.ensures.subscriptions ∙ (c.drive.ensures.count ∙ c.rounds.invariant.subscriptions)
+
+pub returns-then-left-rested-clause-hubs : goal.returns-then-left-rested-clause-hubs
+returns-then-left-rested-clause-hubs g c = c.serve_all.ensures.hubs ∙ c.rounds.invariant.hubs
+
+pub returns-then-left-rested-clause-feeds : goal.returns-then-left-rested-clause-feeds
+returns-then-left-rested-clause-feeds g c = c.serve_all.ensures.feeds ∙ c.rounds.invariant.feeds
+
+pub returns-then-left-rested-clause-subscriptions : goal.returns-then-left-rested-clause-subscriptions
+returns-then-left-rested-clause-subscriptions g c = c.serve_all.ensures.subscriptions ∙ (c.drive.ensures.count ∙ c.rounds.invariant.subscriptions)
