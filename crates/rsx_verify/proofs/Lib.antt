@@ -1,3 +1,4 @@
 -- Lemmas about runs.
 pub mod Leading
 pub mod Lines
+pub mod Once

@@ -1,5 +1,6 @@
 -- Definitions that contracts cite.
 pub mod Events
+pub mod Kept
 pub mod Refusals
 pub mod Reports
 pub mod Runs

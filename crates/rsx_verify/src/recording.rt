@@ -4,6 +4,7 @@ ghost use Rattle.std.specs.Prelude.{◌≡◌, ◌++◌, List, None, IfOk, IfErr
 ghost use Rattle.rsx_model.specs.Check.{refusal};
 ghost use Rattle.rsx_trace.specs.declared.event.Stamped.{Stamped};
 ghost use Rattle.rsx_verify.specs.Events.{beginning};
+ghost use Rattle.rsx_verify.specs.Kept.{IsOnceBegun};
 ghost use Rattle.rsx_verify.specs.Refusals.{IsVerifyRefusal};
 ghost use Rattle.rsx_verify.specs.Runs.{IsActed, IsBegun, IsCancelOf, IsPumpOf, IsRecorded, IsRequestOf};
 
@@ -112,6 +113,9 @@ pub fn record<O: Ops>(
     acts: &[Act],
 ) -> Result<Vec<Stamped>, VerifyRefusal>
     ensures recorded { IfOk result (λ events. IsRecorded (O.meaning ops) expr.now acts.now events.items) }
+
+    // Whatever the acts are, the rules 1.10, 2.5 and 2.12 are kept.
+    ensures once { IfOk result (λ events. IsOnceBegun events.items) }
     ensures err { IfErr result (λ r. IsVerifyRefusal expr.now r) }
 {
     let mut recording = Recording::begin(alloc, ops, expr)?;

@@ -1,6 +1,7 @@
 //! The runs by which an expression is verified.
 
 ghost use Rattle.std.specs.Prelude.{IfOk, IfErr};
+ghost use Rattle.rsx_verify.specs.Kept.{IsOnceBegun};
 ghost use Rattle.rsx_verify.specs.Refusals.{IsVerifyRefusal};
 ghost use Rattle.rsx_verify.specs.Reports.{AreVerified, publisher_acts, cancel_acts, bad_request_acts};
 ghost use Rattle.rsx_verify.specs.Runs.{IsRecorded};
@@ -24,6 +25,7 @@ pub fn publisher_run<O: Ops>(
     expr: &Expr<O::Item>,
 ) -> Result<Vec<Stamped>, VerifyRefusal>
     ensures recorded { IfOk result (λ events. IsRecorded (O.meaning ops) expr.now publisher_acts events.items) }
+    ensures once { IfOk result (λ events. IsOnceBegun events.items) }
     ensures err { IfErr result (λ r. IsVerifyRefusal expr.now r) }
 {
     let acts = [
@@ -45,6 +47,7 @@ pub fn cancel_run<O: Ops>(
     expr: &Expr<O::Item>,
 ) -> Result<Vec<Stamped>, VerifyRefusal>
     ensures recorded { IfOk result (λ events. IsRecorded (O.meaning ops) expr.now cancel_acts events.items) }
+    ensures once { IfOk result (λ events. IsOnceBegun events.items) }
     ensures err { IfErr result (λ r. IsVerifyRefusal expr.now r) }
 {
     let acts = [
@@ -67,6 +70,7 @@ pub fn bad_request_run<O: Ops>(
     expr: &Expr<O::Item>,
 ) -> Result<Vec<Stamped>, VerifyRefusal>
     ensures recorded { IfOk result (λ events. IsRecorded (O.meaning ops) expr.now bad_request_acts events.items) }
+    ensures once { IfOk result (λ events. IsOnceBegun events.items) }
     ensures err { IfErr result (λ r. IsVerifyRefusal expr.now r) }
 {
     let acts = [Act::Request(0), Act::Pump, Act::Request(-1), Act::Pump];
