@@ -191,7 +191,7 @@ built_hub {T} m hubs e id h mem n t is there fresh from hub_is mem_is n_is r_is 
 
 -- ---- a plain operator
 
-first_of_one : {T : Type 0} (hubs : List (Stream T)) (f : Stream T → Stream T) (o : Option (Stream T)) → option_map (λ vs. f (incoming_of hubs vs).first) (beside_of o (Some [])) ≡ option_map f o
+pub first_of_one : {T : Type 0} (hubs : List (Stream T)) (f : Stream T → Stream T) (o : Option (Stream T)) → option_map (λ vs. f (incoming_of hubs vs).first) (beside_of o (Some [])) ≡ option_map f o
 first_of_one hubs f None = refl
 first_of_one hubs f (Some v) = refl
 

@@ -5,3 +5,4 @@ pub mod PublishOn
 pub mod Rows
 pub mod Several
 pub mod Wants
+pub mod Windows

@@ -1,5 +1,5 @@
 -- How many items the nodes of a tree that was built want first.
-use Rattle.std.proofs.Common.{◌≡◌, ℕ, zero, suc, ◌+◌, ◌-◌, ◌/◌, ◌<◌, ◌≤◌, Bool, true, false, List, [], ◌∷◌, map, refl, ap, ◌∙◌, arith, Box, Vec, Global}
+use Rattle.std.proofs.Common.{◌≡◌, ℕ, zero, suc, ◌+◌, ◌-◌, ◌/◌, ◌<◌, ◌≤◌, Bool, true, false, List, [], ◌∷◌, get_or, map, refl, ap, ◌∙◌, arith, Box, Vec, Global}
 use Rattle.std.proofs.Math.Nat.{zero-div}
 use Rattle.std.proofs.lemmas.List.{append-nil}
 use Rattle.rsx_types.specs.declared.names.HubId.{HubId}
@@ -14,7 +14,7 @@ use Rattle.rsx_model.specs.declared.expr.Expr.{Expr}
 use Rattle.rsx_model.specs.declared.expr.Expr.TheFolds.{fold_out-Expr, map-Expr}
 use Rattle.rsx_model.specs.declared.expr.Expr.TheOpen.{Expr-F}
 use Rattle.rsx_model.specs.declared.expr.Expr.TheOpen as layer
-use Rattle.rsx_model.specs.declared.expr.Expr.TheViews.{Plain, On, out-Expr, outs-Items, outs-Hub, outs-Plain, outs-On}
+use Rattle.rsx_model.specs.declared.expr.Expr.TheViews.{Plain, Window, On, out-Expr, outs-Items, outs-Hub, outs-Plain, outs-Window, outs-On}
 use Rattle.rsx_model.specs.declared.expr.Expr.TheVariants.{Items, Hub}
 use Rattle.rsx_model.proofs.Unfold.{children-map}
 use Rattle.rsx_several.specs.Kind.{first_wanted}
@@ -26,6 +26,8 @@ use Rattle.rsx_tree.specs.declared.inputs.Inputs.{Inputs, End, More'}
 use Rattle.rsx_tree.specs.Inputs.{closed_row, closed_row_if}
 use Rattle.rsx_node.specs.declared.any_node.AnyNode.TheVariants.{Several}
 use Rattle.rsx_node.specs.Any.{any_machine}
+use Rattle.rsx_window.specs.Window.{CountsItems, window_wanted}
+use Rattle.rsx_window.specs.declared.node.WindowNode.{WindowNode}
 use Rattle.rsx_build.specs.Built.{WantsOfEach, first_wants, fresh_wants, prefetch_of, wants_beside}
 
 -- ---- of a tree
@@ -49,6 +51,13 @@ plain_wants (Take k) = grind arith
 plain_wants (Scan f s) = refl
 plain_wants (Buffer k) = grind arith
 plain_wants (Distinct f) = refl
+
+-- nor does a fresh `window`
+pub window_wants : {T : Type 0} (n : WindowNode T) → CountsItems n (0 ∷ []) 0 → window_wanted n 0 0 0 ≡ 0
+window_wants n counted =
+    let none : 0 ≡ counted.items = ap (λ l. get_or l 0 0) counted.at in
+    let got = counted.got in
+    omega arith
 
 -- an empty queue asks for all that it can hold
 pub whole_capacity : (p : ℕ) → p ≤ MOST_PREFETCH → credits p 0 ≡ p
@@ -79,6 +88,7 @@ prefetch_of-map h (layer.Concat v) = refl
 prefetch_of-map h (layer.Merge p v) = refl
 prefetch_of-map h (layer.Zip p v) = refl
 prefetch_of-map h (layer.Latest p v) = refl
+prefetch_of-map h (layer.Window n gs b) = refl
 prefetch_of-map h (layer.On k p b) = refl
 
 -- one level
@@ -96,6 +106,9 @@ wants_Hub T h = rw (fold_out-Expr, outs-Hub) refl
 
 pub wants_Plain : {T : Type 0} (g : Stage T) (b : Box (Expr T) Global) → fresh_wants (Plain g b) ≡ 0 ∷ fresh_wants b.value
 wants_Plain {T} g b = rw (fold_out-Expr, outs-Plain) (ap (λ l. 0 ∷ l) (append-nil (fresh_wants b.value)))
+
+pub wants_Window : {T : Type 0} (n : ℕ) (gs : Vec (Stage T) Global) (b : Box (Expr T) Global) → fresh_wants (Window n gs b) ≡ 0 ∷ fresh_wants b.value
+wants_Window {T} n gs b = rw (fold_out-Expr, outs-Window) (ap (λ l. 0 ∷ l) (append-nil (fresh_wants b.value)))
 
 pub wants_On : {T : Type 0} (k p : ℕ) (b : Box (Expr T) Global) → fresh_wants (On k p b) ≡ p ∷ fresh_wants b.value
 wants_On {T} k p b = rw (fold_out-Expr, outs-On) (ap (λ l. p ∷ l) (append-nil (fresh_wants b.value)))

@@ -7,7 +7,7 @@ use Rattle.rsx_model.specs.Eval.{environment, meant, in_order}
 use Rattle.rsx_model.specs.Shape.{children}
 use Rattle.rsx_model.specs.declared.expr.Expr.{Expr}
 use Rattle.rsx_model.specs.declared.expr.Expr.TheFolds.{fold-Expr}
-use Rattle.rsx_model.specs.declared.expr.Expr.TheOpen.{Expr-F, Items, Range, Hub, Concat, Merge, Zip, Latest, On}
+use Rattle.rsx_model.specs.declared.expr.Expr.TheOpen.{Expr-F, Items, Range, Hub, Concat, Merge, Zip, Latest, Window, On}
 use Rattle.rsx_model.specs.declared.expr.Expr.TheOpen as layer
 use Rattle.rsx_types.specs.Meaning.{Meaning}
 use Rattle.rsx_types.specs.Notes.{note_then}
@@ -31,11 +31,14 @@ use Rattle.rsx_tree.specs.Tree.{IsJoined, comes_out, notes, edges}
 use Rattle.rsx_node.specs.Any.{any_machine}
 use Rattle.rsx_node.specs.declared.any_node.AnyNode.{AnyNode}
 use Rattle.rsx_node.specs.declared.any_node.AnyNode.TheVariants.{Plain, PublishOn}
+use Rattle.rsx_node.specs.declared.any_node.AnyNode.TheVariants as variants
 use Rattle.rsx_publish_on.specs.PublishOn.{publish_comes_out, publish_counted, publish_wanted}
 use Rattle.rsx_queued.specs.Input.{fresh_input}
 use Rattle.rsx_sources.specs.Machine.{Incoming, quiet as quiet_at}
 use Rattle.rsx_sources.specs.declared.machine.Machine.{Ghosts as Machine}
 use Rattle.rsx_publish_on.specs.declared.node.PublishOnNode.{PublishOnNode}
+use Rattle.rsx_window.specs.Window.{GivesWindows, CountsItems}
+use Rattle.rsx_window.specs.declared.node.WindowNode.{WindowNode}
 
 -- a node that recorded nothing yet: whatever it records is its note
 abbrev pub IsUnrecorded : Note → Type 0
@@ -63,6 +66,7 @@ begins_ended (Concat v) = false
 begins_ended (Merge p v) = false
 begins_ended (Zip p v) = false
 begins_ended (Latest p v) = false
+begins_ended (Window n gs b) = false
 begins_ended (On k p b) = false
 
 -- an edge for each input, with those below it
@@ -96,6 +100,7 @@ prefetch_of (Concat v) = 0
 prefetch_of (Merge p v) = p
 prefetch_of (Zip p v) = p
 prefetch_of (Latest p v) = p
+prefetch_of (Window n gs b) = 0
 prefetch_of (On k p b) = p
 
 -- the same number for each input, with those below it
@@ -143,6 +148,7 @@ join_here js (Concat v) = []
 join_here js (Merge p v) = []
 join_here js (Zip p v) = []
 join_here js (Latest p v) = []
+join_here js (Window n gs b) = []
 join_here js (On k p b) = []
 
 -- lists one behind the other
@@ -198,6 +204,17 @@ pub record IsPublishOnOver {T : Type 0} (capacity : ℕ) (below t : Node (AnyNod
   pub wanted : publish_wanted node 0 0 0 ≡ capacity
   pub joined : IsJoined below End row
   pub machine : t.machine ≡ PublishOn node
+  pub inputs : t.inputs ≡ row
+
+-- the tree of a fresh `window` of this size over another one, with a chain of these operators
+pub record IsWindowOver {T : Type 0} (size : ℕ) (gs : List (Stage T)) (below t : Node (AnyNode T)) : Type 0 where
+  pub node : WindowNode T
+  pub row : Inputs (AnyNode T)
+  pub fresh : GivesWindows node size gs
+  pub counted : CountsItems node (0 ∷ []) 0
+  pub nothing : node.pending.left ≡ []
+  pub joined : IsJoined below End row
+  pub machine : t.machine ≡ variants.Window node
   pub inputs : t.inputs ≡ row
 
 -- ---- the inputs of a node

@@ -1,5 +1,5 @@
 -- What the parts of a tree are made of.
-use Rattle.std.specs.Prelude.{◌≡◌, ◌≤◌, ◌<◌, ℕ, Bool, false, [], ◌∷◌, Result, Ok}
+use Rattle.std.specs.Prelude.{◌≡◌, ◌≤◌, ◌<◌, ℕ, Bool, false, List, [], ◌∷◌, Result, Ok}
 use Rattle.std.proofs.Math.ListN.{replicate}
 use Rattle.rsx_types.specs.declared.stage.Stage.{Stage}
 use Rattle.rsx_types.specs.declared.fault.NoMemory.{NoMemory}
@@ -16,12 +16,14 @@ use Rattle.rsx_types.specs.Meaning.{Meaning}
 use Rattle.rsx_types.specs.declared.note.Note.{Note}
 use Rattle.rsx_publish_on.specs.PublishOn.{publish_comes_out, publish_counted}
 use Rattle.rsx_publish_on.specs.declared.node.PublishOnNode.{PublishOnNode}
+use Rattle.rsx_window.specs.Window.{GivesWindows, CountsItems}
+use Rattle.rsx_window.specs.declared.node.WindowNode.{WindowNode}
 use Rattle.rsx_tree.specs.Inputs.{closed_row_if}
 use Rattle.rsx_tree.specs.Tree.{IsJoined}
 use Rattle.rsx_tree.specs.declared.inputs.Inputs.{Inputs}
 use Rattle.rsx_tree.specs.declared.node.Node.{Node}
 use Rattle.rsx_node.specs.declared.any_node.AnyNode.{AnyNode}
-use Rattle.rsx_node.specs.declared.any_node.AnyNode.TheVariants.{Plain, Several, PublishOn}
+use Rattle.rsx_node.specs.declared.any_node.AnyNode.TheVariants.{Plain, Several, PublishOn, Window}
 
 -- a fresh plain operator as a node of any kind
 pub record IsPlain {T : Type 0} (g : Stage T) (n : AnyNode T) : Type 0 where
@@ -48,6 +50,14 @@ pub record IsPublishOn {T : Type 0} (capacity : ℕ) (n : AnyNode T) : Type 0 wh
   pub input : node.input ≡ fresh_input capacity
   pub fresh : (m : Meaning T) (inc : Incoming T) (further : Note) → publish_comes_out m node inc further ≡ quiet_at further inc.first
   pub counted : publish_counted node (0 ∷ []) 0
+
+-- a fresh `window` as a node of any kind
+pub record IsWindow {T : Type 0} (size : ℕ) (gs : List (Stage T)) (n : AnyNode T) : Type 0 where
+  pub node : WindowNode T
+  pub is : n ≡ Window node
+  pub fresh : GivesWindows node size gs
+  pub counted : CountsItems node (0 ∷ []) 0
+  pub nothing : node.pending.left ≡ []
 
 -- the tree of the node that was made, over this row
 pub record IsOver {M : Type 0} (made : Result M NoMemory) (row : Inputs M) (has_ended : Bool) (t : Node M) : Type 0 where

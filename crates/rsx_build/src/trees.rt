@@ -5,8 +5,8 @@ ghost use Rattle.rsx_hub.specs.Hub.{HubState};
 ghost use Rattle.rsx_model.specs.Check.{first_fault, first_of};
 ghost use Rattle.rsx_model.specs.declared.check.TheConstants.{MOST_INPUTS, MOST_PREFETCH};
 ghost use Rattle.rsx_model.specs.declared.expr.Expr.TheVariants.{Items as ItemsOf, Hub as HubOf};
-ghost use Rattle.rsx_build.specs.Built.{IsBuilt, AreBuilt, IsBuiltOver, IsPlainOver, IsPublishOnOver, starts_ended};
-ghost use Rattle.rsx_build.specs.Made.{IsInFront, IsOver, IsPlain, IsPublishOn, IsSeveral};
+ghost use Rattle.rsx_build.specs.Built.{IsBuilt, AreBuilt, IsBuiltOver, IsPlainOver, IsPublishOnOver, IsWindowOver, starts_ended};
+ghost use Rattle.rsx_build.specs.Made.{IsInFront, IsOver, IsPlain, IsPublishOn, IsSeveral, IsWindow};
 ghost use Rattle.rsx_several.specs.Kind.{IsWithin};
 
 use rsx_hub::Hub;
@@ -19,6 +19,7 @@ use rsx_several::{SeveralKind, SeveralNode};
 use rsx_sources::{ItemsNode, RangeNode};
 use rsx_tree::{Inputs, Node};
 use rsx_types::{HubId, NoMemory, Ops, Stage};
+use rsx_window::WindowNode;
 use std::alloc::Global;
 
 /// The tree of an expression that `check_expr` accepts over these hubs. Each leaf that reads a hub gets a member of it; the
@@ -55,6 +56,10 @@ pub fn build<O: Ops>(
         }
         Expr::Latest(prefetch, inputs) => {
             build_over(alloc, ops, SeveralKind::Latest(*prefetch), inputs, hubs)
+        }
+        Expr::Window(size, stages, input) => {
+            let below = build(alloc, ops, input, hubs)?;
+            build_window(alloc, ops, *size, stages, below)
         }
         Expr::On(_, prefetch, input) => {
             let below = build(alloc, ops, input, hubs)?;
@@ -189,6 +194,32 @@ fn publish_on<T: Drop>(alloc: Global, prefetch: u64) -> Result<AnyNode<T>, NoMem
 {
     let node = PublishOnNode::new(alloc, prefetch as usize)?;
     Ok(AnyNode::PublishOn(node))
+}
+
+/// The tree of windows of this size over this one, each through a chain of these operators.
+fn build_window<O: Ops>(
+    alloc: Global,
+    ops: &O,
+    size: u64,
+    stages: &[Stage<O::Item>],
+    below: Node<AnyNode<O::Item>>,
+) -> Result<Node<AnyNode<O::Item>>, NoMemory>
+    ensures { IfOk result (λ tree. IsWindowOver size stages.now below tree) }
+{
+    let row = below.join(alloc, Inputs::End)?;
+    over(window(alloc, ops, size, stages), row, false)
+}
+
+/// A node of windows as a node of any kind.
+fn window<O: Ops>(
+    alloc: Global,
+    ops: &O,
+    size: u64,
+    stages: &[Stage<O::Item>],
+) -> Result<AnyNode<O::Item>, NoMemory>
+    ensures { IfOk result (λ n. IsWindow size stages.now n) }
+{
+    Ok(AnyNode::Window(WindowNode::new(alloc, ops, size, stages)?))
 }
 
 /// A node of several inputs as a node of any kind.

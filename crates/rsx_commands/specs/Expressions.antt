@@ -14,7 +14,7 @@ use Rattle.rsx_words.specs.declared.words.LineRefusal.TheVariants.{Syntax, Unkno
 use Rattle.rsx_words.specs.Words.{Placed, Written, opening, closing, text, strange, nothing}
 use Rattle.rsx_words.specs.Numbers.{u8_of, u32_of, u64_of, signed_of}
 use Rattle.rsx_words.specs.Reading.{Left, ◌>>=◌, next_at, opening_at, closing_at, name_at, number_at, is_opening_next}
-use Rattle.rsx_commands.specs.Orders.{Tree, Trees, items, range, hub, plain, concat, merge, zip, latest, on, none, first}
+use Rattle.rsx_commands.specs.Orders.{Tree, Trees, items, range, hub, plain, concat, merge, zip, latest, window, on, none, first}
 
 -- the name of a function of this use, which has a number
 unfoldable pub function_at : Role → Left → Result (ℕ × Left) LineRefusal
@@ -50,6 +50,43 @@ stage_at column name l =
     else (if bytes_eq name (codes "buffer") then with_size Buffer l
     else (if bytes_eq name (codes "distinct") then with_function for.Key Distinct l
     else Err (UnknownName column))))))
+
+-- ---- the operators of a chain, each in its parentheses
+
+-- one of them, behind its opening parenthesis
+unfoldable pub opened_stage_at : Left → Result (Stage Val × Left) LineRefusal
+opened_stage_at l = do
+  name ← name_at l
+  g ← stage_at name.0.0 name.0.1 name.1
+  rest ← closing_at g.1
+  Ok (g.0, rest)
+
+-- one of them, or none at the parenthesis that closes the chain
+abbrev pub a_stage : (ℕ × Written) × Left → Result (Option (Stage Val) × Left) LineRefusal
+a_stage ((column, opening), rest) = opened_stage_at rest >>= λ g. Ok (Some g.0, g.1)
+a_stage ((column, closing), rest) = Ok (None, rest)
+a_stage ((column, text word), rest) = Err (Syntax column)
+a_stage ((column, strange), rest) = Err (Syntax column)
+a_stage ((column, nothing), rest) = Err (Syntax column)
+
+unfoldable pub chain_stage_at : Left → Result (Option (Stage Val) × Left) LineRefusal
+chain_stage_at l = next_at l >>= a_stage
+
+-- one of them in front of the others, which are read so
+abbrev pub more_stages : (Left → Result (List (Stage Val) × Left) LineRefusal) → Option (Stage Val) × Left → Result (List (Stage Val) × Left) LineRefusal
+more_stages read (None, rest) = Ok ([], rest)
+more_stages read (Some g, rest) = read rest >>= λ gs. Ok (g ∷ gs.0, gs.1)
+
+-- Those up to the parenthesis that closes the chain. There are less of them than is said here; a line has less of them than bytes.
+unfoldable pub stages_at : ℕ → Left → Result (List (Stage Val) × Left) LineRefusal
+stages_at zero l = Err (Syntax l.end)
+stages_at (suc most) l = chain_stage_at l >>= more_stages (stages_at most)
+
+-- a chain in its parentheses
+unfoldable pub chain_at : ℕ → Left → Result (List (Stage Val) × Left) LineRefusal
+chain_at most l = opening_at l >>= stages_at most
+
+-- ---- items
 
 -- one number of a list of items, or none at the parenthesis that closes it
 abbrev pub an_item : (ℕ × Written) × Left → Result (Option ℤ × Left) LineRefusal
@@ -117,6 +154,15 @@ plain_at read column name l = do
   rest ← closing_at e.1
   Ok (plain g.0 e.0, rest)
 
+-- a size and a chain, and then its one input
+unfoldable pub window_at : (Left → Result (Tree × Left) LineRefusal) → ℕ → Left → Result (Tree × Left) LineRefusal
+window_at read most l = do
+  n ← number_at u64_of l
+  gs ← chain_at most n.1
+  e ← read gs.1
+  rest ← closing_at e.1
+  Ok (window n.0 gs.0 e.0, rest)
+
 -- a worker and a prefetch, and then its one input
 unfoldable pub on_at : (Left → Result (Tree × Left) LineRefusal) → Left → Result (Tree × Left) LineRefusal
 on_at read l = do
@@ -147,8 +193,9 @@ operator_at read most column name l =
     else (if bytes_eq name (codes "merge") then of_prefetch merge read most l
     else (if bytes_eq name (codes "zip") then of_prefetch zip read most l
     else (if bytes_eq name (codes "combineLatest") then of_prefetch latest read most l
+    else (if bytes_eq name (codes "window") then window_at read most l
     else (if bytes_eq name (codes "publishOn") then on_at read l
-    else plain_at read column name l)))))))
+    else plain_at read column name l))))))))
 
 -- An expression, where less operators stand one in the other than is said first; in a line there are less of them than bytes.
 unfoldable pub expression_at : ℕ → Left → Result (Tree × Left) LineRefusal

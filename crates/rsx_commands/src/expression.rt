@@ -3,7 +3,7 @@
 ghost use Rattle.std.specs.Prelude.{◌≡◌, ◌<◌, ◌≤◌, ℕ, IfOk, IfSome, OnOk, map};
 ghost use Rattle.rsx_words.specs.Reading.{Gives, GivesInMemory, left, bytes_left};
 ghost use Rattle.rsx_commands.specs.Orders.{tree_of, trees_of};
-ghost use Rattle.rsx_commands.specs.Expressions.{function_at, stage_at, item_at, items_at, range_at, hub_at, inputs_at, on_at, plain_at, operator_at, expression_at};
+ghost use Rattle.rsx_commands.specs.Expressions.{function_at, stage_at, opened_stage_at, chain_stage_at, stages_at, chain_at, item_at, items_at, range_at, hub_at, inputs_at, window_at, on_at, plain_at, operator_at, expression_at};
 
 use crate::parse::hub;
 use rsx_demo::{Role, Val, function_number};
@@ -55,6 +55,7 @@ fn operator(
             let prefetch = words.u64()?;
             Ok(Expr::Latest(prefetch, inputs(alloc, words)?))
         }
+        "window" => window(alloc, words),
         "publishOn" => publish_on(alloc, words),
         _ => plain(alloc, column, name, words),
     }
@@ -75,6 +76,20 @@ fn inputs(alloc: Global, words: &mut Words<'_>) -> Result<Vec<Expr<Val>>, LineRe
             return Ok(inputs);
         }
     }
+}
+
+/// The size and the chain of a `window`, and the expression that follows.
+#[cycle(expression)]
+#[tactic(auto, unfolding(crate::specs::Expressions::window_at))]
+fn window(alloc: Global, words: &mut Words<'_>) -> Result<Expr<Val>, LineRefusal>
+    ensures word { (n : ℕ) → bytes_left words.old < n → GivesInMemory (λ e. (tree_of e, left words.new)) result (window_at (expression_at n) n (left words.old)) }
+    ensures most { bytes_left words.new ≤ bytes_left words.old }
+{
+    let size = words.u64()?;
+    let stages = chain(alloc, words)?;
+    let input = expression(alloc, words)?;
+    words.close()?;
+    Ok(Expr::Window(size, stages, Box::new(alloc, input)?))
 }
 
 /// The worker and the prefetch of a `publishOn`, and the expression that follows.
@@ -127,6 +142,59 @@ fn stage(column: u64, name: &str, words: &mut Words<'_>) -> Result<Stage<Val>, L
         "distinct" => Ok(Stage::Distinct(function(words, Role::Key)?)),
         _ => Err(LineRefusal::UnknownName(column)),
     }
+}
+
+/// The operators of a chain, in parentheses.
+#[tactic(auto, unfolding(crate::specs::Expressions::chain_at))]
+fn chain(alloc: Global, words: &mut Words<'_>) -> Result<Vec<Stage<Val>>, LineRefusal>
+    ensures word { (n : ℕ) → bytes_left words.old < n → GivesInMemory (λ gs. (gs.items, left words.new)) result (chain_at n (left words.old)) }
+    ensures most { bytes_left words.new ≤ bytes_left words.old }
+{
+    words.open()?;
+    stages(alloc, words)
+}
+
+/// The operators up to the parenthesis that closes the chain. One takes at least a byte of the line.
+fn stages(alloc: Global, words: &mut Words<'_>) -> Result<Vec<Stage<Val>>, LineRefusal>
+    ensures word { (n : ℕ) → bytes_left words.old < n → GivesInMemory (λ gs. (gs.items, left words.new)) result (stages_at n (left words.old)) }
+    ensures most { bytes_left words.new ≤ bytes_left words.old }
+{
+    let mut stages = Vec::new(alloc);
+    loop {
+        match chain_stage(words)? {
+            None => return Ok(stages),
+            Some(stage) => {
+                stages.push(stage)?;
+            }
+        }
+    }
+}
+
+/// The next operator of a chain, or none at the parenthesis that closes it.
+#[tactic(auto, unfolding(crate::specs::Expressions::chain_stage_at))]
+fn chain_stage(words: &mut Words<'_>) -> Result<Option<Stage<Val>>, LineRefusal>
+    ensures word { Gives (λ g. (g, left words.new)) result (chain_stage_at (left words.old)) }
+    ensures less { IfOk result (λ o. IfSome o (λ _. bytes_left words.new < bytes_left words.old)) }
+    ensures most { bytes_left words.new ≤ bytes_left words.old }
+{
+    match words.next()? {
+        (_, Word::Close) => Ok(None),
+        (_, Word::Open) => Ok(Some(opened_stage(words)?)),
+        (column, Word::Text(_)) => Err(LineRefusal::Syntax(column)),
+        (column, Word::End) => Err(LineRefusal::Syntax(column)),
+    }
+}
+
+/// An operator of a chain behind its opening parenthesis, and the one that closes it.
+#[tactic(auto, unfolding(crate::specs::Expressions::opened_stage_at))]
+fn opened_stage(words: &mut Words<'_>) -> Result<Stage<Val>, LineRefusal>
+    ensures word { Gives (λ g. (g, left words.new)) result (opened_stage_at (left words.old)) }
+    ensures most { bytes_left words.new ≤ bytes_left words.old }
+{
+    let (column, name) = words.name()?;
+    let stage = stage(column, name, words)?;
+    words.close()?;
+    Ok(stage)
 }
 
 /// The first number and the count of a range.

@@ -16,10 +16,11 @@ use Rattle.rsx_types.specs.declared.signal.Ending.TheVariants.{Open, Done, Faile
 use Rattle.rsx_types.specs.declared.stage.Stage.{Stage}
 use Rattle.rsx_types.specs.declared.stage.Stage.TheVariants.{Map, Filter, Take, Scan, Buffer, Distinct}
 use Rattle.rsx_types.specs.Meaning.{Meaning}
-use Rattle.rsx_types.specs.Plain.{mapped_items, filtered_items, taken_items, accumulated_then, scanned_items, last_list, buffered_items, new_key_then, distinct_items, plain, listed, range_items}
+use Rattle.rsx_types.specs.Plain.{mapped_items, filtered_items, taken_items, accumulated_then, scanned_items, last_list, buffered_items, new_key_then, distinct_items, plain, chained, listed, range_items}
 use Rattle.rsx_types.specs.Stream.{Stream, ended_by, item_then, answer_then, kept_then, cut_by}
 use Rattle.rsx_choices.specs.Concat.{concat}
 use Rattle.rsx_choices.specs.Merge.{merge}
+use Rattle.rsx_lanes.specs.Window.{last_window, windows, windows_and_main, window}
 use Rattle.rsx_joining.specs.Latest.{combine_latest}
 use Rattle.rsx_joining.specs.Zip.{zip}
 use Rattle.rsx_model.specs.declared.expr.Expr.{Expr}
@@ -299,6 +300,37 @@ below_fine : {T : Type 0} (m : Meaning T) (g : Stage T) (o : Option (Stream T)) 
 below_fine m g None h = tt
 below_fine m g (Some v) h = plain_fine m g v h
 
+-- ---- window
+
+abbrev EachFine : {T : Type 0} → List (Stream T) → Type 0
+EachFine {T} vs = Each (λ (v : Stream T). Fine v.ending) vs
+
+chained_fine : {T : Type 0} (m : Meaning T) (gs : List (Stage T)) (v : Stream T) → Fine v.ending → Fine (chained m gs v).ending
+chained_fine m [] v h = h
+chained_fine m (g ∷ gs) v h = chained_fine m gs (plain m g v) (plain_fine m g v h)
+
+last_window_fine : {T : Type 0} (xs : List T) (e : Ending) → Fine e → EachFine (last_window xs e)
+last_window_fine [] e h = tt
+last_window_fine (x ∷ xs) e h = (h, tt)
+
+cut_or_on_fine : {T : Type 0} (b : Bool) (vs ws : List (Stream T)) → EachFine vs → EachFine ws → EachFine (if b then vs else ws)
+cut_or_on_fine true vs ws h k = h
+cut_or_on_fine false vs ws h k = k
+
+windows_fine : {T : Type 0} (n : ℕ) (started xs : List T) (e : Ending) → Fine e → EachFine (windows n started xs e)
+windows_fine n started [] e h = last_window_fine started e h
+windows_fine n started (x ∷ xs) e h =
+    cut_or_on_fine (nat_le n (length started + 1)) (listed (started ++ x ∷ []) ∷ windows n [] xs e) (windows n (started ++ x ∷ []) xs e) ((λ p. cc), windows_fine n [] xs e h) (windows_fine n (started ++ x ∷ []) xs e h)
+
+lanes_fine : {T : Type 0} (m : Meaning T) (gs : List (Stage T)) (ws : List (Stream T)) (e : Ending) → EachFine ws → Fine e → EachFine (windows_and_main (chained m gs) ws e)
+lanes_fine m gs [] e hs h = (h, tt)
+lanes_fine m gs (w ∷ ws) e hs h = (chained_fine m gs w hs.0, lanes_fine m gs ws e hs.1 h)
+
+window_fine : {T : Type 0} (m : Meaning T) (n : ℕ) (gs : List (Stage T)) (o : Option (Stream T)) → AllFine o → AllFine (option_map (window m n gs) o)
+window_fine m n gs None h = tt
+window_fine m n gs (Some v) h =
+    concat_values_fine (Some (windows_and_main (chained m gs) (windows n [] v.items v.ending) v.ending)) (lanes_fine m gs (windows n [] v.items v.ending) v.ending (windows_fine n [] v.items v.ending h) h)
+
 -- a value of a list of fine ones, and what stands of it behind a join
 one_fine : {T : Type 0} (hubs : List (Stream T)) (hub : ℕ) → All (λ (v : Stream T). Fine v.ending) hubs → AllFine (slice_get hubs hub)
 one_fine {T} hubs hub h = elim ((slice_get_cases hubs hub).1) [
@@ -328,6 +360,7 @@ node_fine w fine (layer.Items v) kids at leaf = quiet_fine (slice_get w.notes at
 node_fine w fine (layer.Range a n) kids at leaf = quiet_fine (slice_get w.notes at) (Some (listed (range_items w.meaning a n))) (λ p. cc)
 node_fine w fine (layer.Hub h) kids at leaf = quiet_fine (slice_get w.notes at) (joined_value w h.0 leaf) (behind_fine (slice_get w.hubs h.0) (slice_get w.joins leaf) (one_fine w.hubs h.0 fine))
 node_fine w fine (layer.Plain g b) kids at leaf = quiet_fine (slice_get w.notes at) (option_map (plain w.meaning g) (b.value.value (at + 1) leaf)) (below_fine w.meaning g (b.value.value (at + 1) leaf) (kids.0 (at + 1) leaf))
+node_fine w fine (layer.Window n gs b) kids at leaf = quiet_fine (slice_get w.notes at) (option_map (window w.meaning n gs.items) (b.value.value (at + 1) leaf)) (window_fine w.meaning n gs.items (b.value.value (at + 1) leaf) (kids.0 (at + 1) leaf))
 node_fine w fine (layer.On k p b) kids at leaf = quiet_fine (slice_get w.notes at) (b.value.value (at + 1) leaf) (kids.0 (at + 1) leaf)
 node_fine w fine (layer.Concat v) kids at leaf =
     let values = in_order v.items (at + 1) leaf in

@@ -28,6 +28,7 @@ is_of_kind-map h (layer.Concat v) n = refl
 is_of_kind-map h (layer.Merge p v) n = refl
 is_of_kind-map h (layer.Zip p v) n = refl
 is_of_kind-map h (layer.Latest p v) n = refl
+is_of_kind-map h (layer.Window k gs b) n = refl
 is_of_kind-map h (layer.On k p b) n = refl
 
 behind_kind-map : {T A B : Type 0} (h : A → B) (x : Expr-F T A) (ns : List Note) → behind_kind (is_of_kind (map-Expr T A B h x)) ns ≡ behind_kind (is_of_kind x) ns
@@ -93,6 +94,10 @@ node_shown w (layer.Concat v) at leaf s h =
     (q.0, q.1, q.2, (vs.0, vs.1))
 node_shown w (layer.Merge p v) at leaf s h = of_chosen (slice_get w.notes at) merge (in_order v.items (at + 1) leaf) s h
 node_shown w (layer.Zip p v) at leaf s h = of_record (slice_get w.notes at) (zip w.meaning.row_of) (in_order v.items (at + 1) leaf) s h
+node_shown w (layer.Window n gs b) at leaf s h =
+    let q = of_quiet (slice_get w.notes at) _ s h in
+    let v = of_map _ (b.value.value (at + 1) leaf) s q.3 in
+    (q.0, q.1, q.2, (v.0 ∷ [], one_value (b.value.value (at + 1) leaf) v.0 v.1))
 node_shown w (layer.On k p b) at leaf s h =
     let q = of_quiet (slice_get w.notes at) _ s h in
     (q.0, q.1, q.2, (s ∷ [], one_value (b.value.value (at + 1) leaf) s q.3))

@@ -55,6 +55,6 @@ fn records<T>(expr: &Expr<T>, note: &Note) -> bool
         }
         Expr::Merge(_, _) | Expr::Latest(_, _) => matches!(note, Note::Picks(_)),
         Expr::Zip(_, _) => matches!(note, Note::Ended(_)),
-        Expr::On(_, _, _) => matches!(note, Note::Nothing),
+        Expr::Window(_, _, _) | Expr::On(_, _, _) => matches!(note, Note::Nothing),
     }
 }

@@ -9,7 +9,7 @@ use Rattle.rsx_model.specs.declared.expr.Expr.TheOpen.{Expr-F}
 use Rattle.rsx_model.specs.declared.expr.Expr.TheOpen as layer
 use Rattle.rsx_model.specs.declared.expr.Expr.TheFolds.{map-Expr, fold_out-Expr}
 use Rattle.rsx_model.specs.declared.expr.Expr.TheVariants.{Items, Range, Hub, Concat, Merge, Zip, Latest}
-use Rattle.rsx_model.specs.declared.expr.Expr.TheViews.{Plain, On, outs-Items, outs-Range, outs-Hub, outs-Plain, outs-Concat, outs-Merge, outs-Zip, outs-Latest, outs-On, out-Expr}
+use Rattle.rsx_model.specs.declared.expr.Expr.TheViews.{Plain, Window, On, outs-Items, outs-Range, outs-Hub, outs-Plain, outs-Concat, outs-Merge, outs-Zip, outs-Latest, outs-Window, outs-On, out-Expr}
 use Rattle.rsx_model.specs.Shape.{children, nodes, sum_of}
 use Rattle.rsx_model.proofs.Unfold.{Each, by_children, children-map, nodes_out}
 use Rattle.rsx_leaves.specs.Leaves.{leaves_on, reads_here}
@@ -23,6 +23,7 @@ reads_here-map n h (layer.Concat v) = refl
 reads_here-map n h (layer.Merge p v) = refl
 reads_here-map n h (layer.Zip p v) = refl
 reads_here-map n h (layer.Latest p v) = refl
+reads_here-map n h (layer.Window k gs b) = refl
 reads_here-map n h (layer.On k p b) = refl
 
 leaves_out : {T : Type 0} (n : ℕ) (e : Expr T) → leaves_on n e ≡ reads_here n (out-Expr T e) + sum_of (map (leaves_on n) (children (out-Expr T e)))
@@ -59,6 +60,9 @@ leaves_Zip n p v = rw (leaves_out, outs-Zip) (omega arith)
 pub leaves_Latest : {T : Type 0} (n p : ℕ) (v : Several T) → leaves_on n (Latest p v) ≡ sum_of (map (leaves_on n) v.items)
 leaves_Latest n p v = rw (leaves_out, outs-Latest) (omega arith)
 
+pub leaves_Window : {T : Type 0} (n k : ℕ) (gs : Vec (Stage T) Global) (b : Box (Expr T) Global) → leaves_on n (Window k gs b) ≡ leaves_on n b.value
+leaves_Window n k gs b = rw (leaves_out, outs-Window) (omega arith)
+
 pub leaves_On : {T : Type 0} (n k p : ℕ) (b : Box (Expr T) Global) → leaves_on n (On k p b) ≡ leaves_on n b.value
 leaves_On n k p b = rw (leaves_out, outs-On) (omega arith)
 
@@ -81,6 +85,7 @@ reads_le n (layer.Concat v) = omega arith
 reads_le n (layer.Merge p v) = omega arith
 reads_le n (layer.Zip p v) = omega arith
 reads_le n (layer.Latest p v) = omega arith
+reads_le n (layer.Window k gs b) = omega arith
 reads_le n (layer.On k p b) = omega arith
 
 pub leaves_le : {T : Type 0} (n : ℕ) (e : Expr T) → leaves_on n e ≤ nodes e

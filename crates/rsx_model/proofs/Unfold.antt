@@ -11,6 +11,7 @@ use Rattle.rsx_model.specs.declared.check.BadExpr.{BadExpr}
 use Rattle.rsx_model.specs.declared.check.BadExpr.TheVariants.{Depth, Nodes, Inputs, Number, Hub as NoSuchHub, Length}
 use Rattle.rsx_choices.specs.Concat.{concat}
 use Rattle.rsx_choices.specs.Merge.{merge}
+use Rattle.rsx_lanes.specs.Window.{window}
 use Rattle.rsx_joining.specs.Latest.{combine_latest}
 use Rattle.rsx_joining.specs.Zip.{zip}
 use Rattle.rsx_types.specs.declared.names.HubId.{HubId}
@@ -19,9 +20,9 @@ use Rattle.rsx_model.specs.declared.expr.Expr.TheOpen.{Expr-F}
 use Rattle.rsx_model.specs.declared.expr.Expr.TheOpen as layer
 use Rattle.rsx_model.specs.declared.expr.Expr.TheFolds.{map-Expr, fold_out-Expr, ind-Expr}
 use Rattle.rsx_model.specs.declared.expr.Expr.TheVariants.{Items, Range, Hub}
-use Rattle.rsx_model.specs.declared.expr.Expr.TheViews.{Plain, Concat, Merge, Zip, Latest, On, outs-Items, outs-Range, outs-Hub, outs-Plain, outs-Concat, outs-Merge, outs-Zip, outs-Latest, outs-On, rolls-Items, rolls-Range, rolls-Hub, rolls-Plain, rolls-Concat, rolls-Merge, rolls-Zip, rolls-Latest, rolls-On, roll-out-Expr, out-Expr, roll-Expr, out-roll-Expr}
+use Rattle.rsx_model.specs.declared.expr.Expr.TheViews.{Plain, Concat, Merge, Zip, Latest, Window, On, outs-Items, outs-Range, outs-Hub, outs-Plain, outs-Concat, outs-Merge, outs-Zip, outs-Latest, outs-Window, outs-On, rolls-Items, rolls-Range, rolls-Hub, rolls-Plain, rolls-Concat, rolls-Merge, rolls-Zip, rolls-Latest, rolls-Window, rolls-On, roll-out-Expr, out-Expr, roll-Expr, out-roll-Expr}
 use Rattle.rsx_model.specs.Shape.{children, leaf_here, sum_of, max_of, nodes, depth, leaves}
-use Rattle.rsx_model.specs.Check.{own_fault, queued_fault, or_else, first_of, first_fault, unless, range_fits, stage_fits, inputs_fit, worker_fits, refusal}
+use Rattle.rsx_model.specs.Check.{own_fault, queued_fault, window_fault, or_else, first_of, first_fault, unless, range_fits, stage_fits, inputs_fit, worker_fits, refusal}
 use Rattle.rsx_model.specs.Eval.{Environment, Meant, quiet, chosen, ended_by_record, behind, joined_value, in_order, node_value, node_meant, meant}
 
 -- ---- a node and its children
@@ -35,6 +36,7 @@ own_fault-map hubs h (layer.Concat v) = ap (λ n. unless (inputs_fit n) Inputs) 
 own_fault-map hubs h (layer.Merge p v) = ap (queued_fault p) (length-map v.items h)
 own_fault-map hubs h (layer.Zip p v) = ap (queued_fault p) (length-map v.items h)
 own_fault-map hubs h (layer.Latest p v) = ap (queued_fault p) (length-map v.items h)
+own_fault-map hubs h (layer.Window n gs b) = refl
 own_fault-map hubs h (layer.On k p b) = refl
 
 leaf_here-map : {T A B : Type 0} (h : A → B) (x : Expr-F T A) → leaf_here (map-Expr T A B h x) ≡ leaf_here x
@@ -46,6 +48,7 @@ leaf_here-map h (layer.Concat v) = refl
 leaf_here-map h (layer.Merge p v) = refl
 leaf_here-map h (layer.Zip p v) = refl
 leaf_here-map h (layer.Latest p v) = refl
+leaf_here-map h (layer.Window n gs b) = refl
 leaf_here-map h (layer.On k p b) = refl
 
 -- the children's answers
@@ -58,6 +61,7 @@ children-map h (layer.Concat v) = refl
 children-map h (layer.Merge p v) = refl
 children-map h (layer.Zip p v) = refl
 children-map h (layer.Latest p v) = refl
+children-map h (layer.Window n gs b) = refl
 children-map h (layer.On k p b) = refl
 
 pub nodes_out : {T : Type 0} (e : Expr T) → nodes e ≡ 1 + sum_of (map nodes (children (out-Expr T e)))
@@ -116,6 +120,9 @@ Listed T = Vec T Global
 abbrev Below : Type 0 → Type 0
 Below T = Box (Expr T) Global
 
+abbrev Stages : Type 0 → Type 0
+Stages T = Vec (Stage T) Global
+
 abbrev Several : Type 0 → Type 0
 Several T = Vec (Expr T) Global
 
@@ -156,6 +163,9 @@ nodes_Zip p v = rw (nodes_out, outs-Zip) refl
 pub nodes_Latest : {T : Type 0} (p : ℕ) (v : Several T) → nodes (Latest p v) ≡ 1 + sum_of (map nodes v.items)
 nodes_Latest p v = rw (nodes_out, outs-Latest) refl
 
+pub nodes_Window : {T : Type 0} (n : ℕ) (gs : Stages T) (b : Below T) → nodes (Window n gs b) ≡ 1 + nodes b.value
+nodes_Window n gs b = rw (nodes_out, outs-Window) (omega arith)
+
 pub nodes_On : {T : Type 0} (k p : ℕ) (b : Below T) → nodes (On k p b) ≡ 1 + nodes b.value
 nodes_On k p b = rw (nodes_out, outs-On) (omega arith)
 
@@ -182,6 +192,9 @@ depth_Zip p v = rw (depth_out, outs-Zip) refl
 
 pub depth_Latest : {T : Type 0} (p : ℕ) (v : Several T) → depth (Latest p v) ≡ 1 + max_of (map depth v.items)
 depth_Latest p v = rw (depth_out, outs-Latest) refl
+
+pub depth_Window : {T : Type 0} (n : ℕ) (gs : Stages T) (b : Below T) → depth (Window n gs b) ≡ 1 + depth b.value
+depth_Window n gs b = rw (depth_out, outs-Window) (omega arith)
 
 pub depth_On : {T : Type 0} (k p : ℕ) (b : Below T) → depth (On k p b) ≡ 1 + depth b.value
 depth_On k p b = rw (depth_out, outs-On) (omega arith)
@@ -210,6 +223,9 @@ leaves_Zip p v = rw (leaves_out, outs-Zip) (omega arith)
 pub leaves_Latest : {T : Type 0} (p : ℕ) (v : Several T) → leaves (Latest p v) ≡ sum_of (map leaves v.items)
 leaves_Latest p v = rw (leaves_out, outs-Latest) (omega arith)
 
+pub leaves_Window : {T : Type 0} (n : ℕ) (gs : Stages T) (b : Below T) → leaves (Window n gs b) ≡ leaves b.value
+leaves_Window n gs b = rw (leaves_out, outs-Window) (omega arith)
+
 pub leaves_On : {T : Type 0} (k p : ℕ) (b : Below T) → leaves (On k p b) ≡ leaves b.value
 leaves_On k p b = rw (leaves_out, outs-On) (omega arith)
 
@@ -236,6 +252,9 @@ first_fault_Zip hubs p v = rw (fault_out, outs-Zip) refl
 
 pub first_fault_Latest : {T : Type 0} (hubs p : ℕ) (v : Several T) → first_fault hubs (Latest p v) ≡ or_else (queued_fault p (length v.items)) (first_of (map (first_fault hubs) v.items))
 first_fault_Latest hubs p v = rw (fault_out, outs-Latest) refl
+
+pub first_fault_Window : {T : Type 0} (hubs n : ℕ) (gs : Stages T) (b : Below T) → first_fault hubs (Window n gs b) ≡ or_else (window_fault n gs.items) (first_fault hubs b.value)
+first_fault_Window hubs n gs b = rw (fault_out, outs-Window) (ap (or_else (window_fault n gs.items)) (or_else-nothing _))
 
 pub first_fault_On : {T : Type 0} (hubs k p : ℕ) (b : Below T) → first_fault hubs (On k p b) ≡ or_else (unless (worker_fits k p) Number) (first_fault hubs b.value)
 first_fault_On hubs k p b = rw (fault_out, outs-On) (ap (or_else (unless (worker_fits k p) Number)) (or_else-nothing _))
@@ -264,6 +283,9 @@ value_Zip w p v at leaf = rw (value_out, outs-Zip) refl
 pub value_Latest : {T : Type 0} (w : Environment T) (p : ℕ) (v : Several T) (at leaf : ℕ) → (meant w (Latest p v)).value at leaf ≡ chosen (slice_get w.notes at) (λ cs. option_and_then (combine_latest w.meaning.row_of cs) (in_order (map (meant w) v.items) (at + 1) leaf))
 value_Latest w p v at leaf = rw (value_out, outs-Latest) refl
 
+pub value_Window : {T : Type 0} (w : Environment T) (n : ℕ) (gs : Stages T) (b : Below T) (at leaf : ℕ) → (meant w (Window n gs b)).value at leaf ≡ quiet (slice_get w.notes at) (option_map (window w.meaning n gs.items) ((meant w b.value).value (at + 1) leaf))
+value_Window w n gs b at leaf = rw (value_out, outs-Window) refl
+
 pub value_On : {T : Type 0} (w : Environment T) (k p : ℕ) (b : Below T) (at leaf : ℕ) → (meant w (On k p b)).value at leaf ≡ quiet (slice_get w.notes at) ((meant w b.value).value (at + 1) leaf)
 value_On w k p b at leaf = rw (value_out, outs-On) refl
 
@@ -277,6 +299,7 @@ pub record ForEach {T : Type 0} (P : Expr T → Type 0) : Type 0 where
   pub merge : (p : ℕ) (v : Several T) → Each P v.items → P (Merge p v)
   pub zip : (p : ℕ) (v : Several T) → Each P v.items → P (Zip p v)
   pub latest : (p : ℕ) (v : Several T) → Each P v.items → P (Latest p v)
+  pub window : (n : ℕ) (gs : Stages T) (b : Below T) → P b.value → P (Window n gs b)
   pub on : (k p : ℕ) (b : Below T) → P b.value → P (On k p b)
 
 node_case : {T : Type 0} (P : Expr T → Type 0) → ForEach P → (x : Expr-F T (Expr T)) → Each P (children x) → P (roll-Expr T x)
@@ -288,6 +311,7 @@ node_case P all (layer.Concat v) kids = subst P (sym (rolls-Concat v)) (all.conc
 node_case P all (layer.Merge p v) kids = subst P (sym (rolls-Merge p v)) (all.merge p v kids)
 node_case P all (layer.Zip p v) kids = subst P (sym (rolls-Zip p v)) (all.zip p v kids)
 node_case P all (layer.Latest p v) kids = subst P (sym (rolls-Latest p v)) (all.latest p v kids)
+node_case P all (layer.Window n gs b) kids = subst P (sym (rolls-Window n gs b)) (all.window n gs b kids.0)
 node_case P all (layer.On k p b) kids = subst P (sym (rolls-On k p b)) (all.on k p b kids.0)
 
 -- what holds of each variant, where it holds of the children, holds of every expression
@@ -317,6 +341,7 @@ leaf_here-le (layer.Concat v) = omega arith
 leaf_here-le (layer.Merge p v) = omega arith
 leaf_here-le (layer.Zip p v) = omega arith
 leaf_here-le (layer.Latest p v) = omega arith
+leaf_here-le (layer.Window n gs b) = omega arith
 leaf_here-le (layer.On k p b) = omega arith
 
 pub leaves_le_nodes : {T : Type 0} (e : Expr T) → leaves e ≤ nodes e
@@ -393,6 +418,10 @@ joined_there w hub leaf v is within = rw (slice_get-get_or w.joins leaf 0 within
 -- isn't refused where the operator isn't
 pub fault_below : {T : Type 0} (hubs : ℕ) (g : Stage T) (b : Below T) → first_fault hubs (Plain g b) ≡ None → first_fault hubs b.value ≡ None
 fault_below hubs g b h = (or_none (unless (stage_fits g) Number) (first_fault hubs b.value) (sym (first_fault_Plain hubs g b) ∙ h)).1
+
+-- the same of what stands under a `window`, with a size and a chain within their limits
+pub fault_Window : {T : Type 0} (hubs n : ℕ) (gs : Stages T) (b : Below T) → first_fault hubs (Window n gs b) ≡ None → (window_fault n gs.items ≡ None) × (first_fault hubs b.value ≡ None)
+fault_Window hubs n gs b h = or_none _ _ (sym (first_fault_Window hubs n gs b) ∙ h)
 
 -- the same of what stands under a `publishOn`, of a worker and a prefetch within their limits
 pub fault_On : {T : Type 0} (hubs k p : ℕ) (b : Below T) → first_fault hubs (On k p b) ≡ None → (unless (worker_fits k p) Number ≡ None) × (first_fault hubs b.value ≡ None)

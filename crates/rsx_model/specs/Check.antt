@@ -3,12 +3,12 @@ use Rattle.std.specs.Prelude.{ℕ, ℤ, pos, ◌+ℤ◌, ◌^◌, Bool, true, fa
 use Rattle.rsx_types.specs.declared.stage.Stage.{Stage}
 use Rattle.rsx_types.specs.declared.stage.Stage.TheVariants.{Map, Filter, Take, Scan, Buffer, Distinct}
 use Rattle.rsx_model.specs.declared.expr.Expr.{Expr}
-use Rattle.rsx_model.specs.declared.expr.Expr.TheOpen.{Expr-F, Items, Range, Hub, Plain, Concat, Merge, Zip, Latest, On}
+use Rattle.rsx_model.specs.declared.expr.Expr.TheOpen.{Expr-F, Items, Range, Hub, Plain, Concat, Merge, Zip, Latest, Window, On}
 use Rattle.rsx_model.specs.declared.expr.Expr.TheFolds.{fold-Expr}
 use Rattle.rsx_types.specs.declared.limits.TheConstants.{MOST_ITEMS}
 use Rattle.rsx_model.specs.declared.check.BadExpr.{BadExpr}
-use Rattle.rsx_model.specs.declared.check.TheConstants.{MOST_DEPTH, MOST_NODES, MOST_COUNT, MOST_INPUTS, MOST_PREFETCH, MOST_WORKER}
-use Rattle.rsx_model.specs.declared.check.BadExpr.TheVariants.{Depth, Nodes, Inputs, Number, Hub as NoSuchHub, Length}
+use Rattle.rsx_model.specs.declared.check.TheConstants.{MOST_DEPTH, MOST_NODES, MOST_COUNT, MOST_INPUTS, MOST_PREFETCH, MOST_STAGES, MOST_WINDOW, MOST_WORKER}
+use Rattle.rsx_model.specs.declared.check.BadExpr.TheVariants.{Depth, Nodes, Inputs, Number, Chain, Hub as NoSuchHub, Length}
 use Rattle.rsx_model.specs.Shape.{children, nodes, depth}
 
 -- the number of a kind of refusal
@@ -17,6 +17,7 @@ kind_number Depth = 1
 kind_number Nodes = 2
 kind_number Inputs = 3
 kind_number Number = 4
+kind_number Chain = 5
 kind_number NoSuchHub = 6
 kind_number Length = 7
 
@@ -48,6 +49,19 @@ stage_fits (Filter f) = true
 stage_fits (Scan f s) = true
 stage_fits (Distinct f) = true
 
+-- each operator within its limit
+abbrev pub stages_fit : {T : Type 0} → List (Stage T) → Bool
+stages_fit [] = true
+stages_fit (g ∷ gs) = stage_fits g && stages_fit gs
+
+-- a chain of at most 8 operators, each within its limit
+abbrev pub chain_fits : {T : Type 0} → List (Stage T) → Bool
+chain_fits gs = nat_le (length gs) MOST_STAGES && stages_fit gs
+
+-- windows of 1 to 1,024 items
+abbrev pub window_fits : ℕ → Bool
+window_fits n = nat_le 1 n && nat_le n MOST_WINDOW
+
 -- 1 to 16 inputs
 abbrev pub inputs_fit : ℕ → Bool
 inputs_fit n = nat_le 1 n && nat_le n MOST_INPUTS
@@ -64,6 +78,14 @@ worker_fits k p = nat_le k MOST_WORKER && prefetch_fits p
 abbrev pub queued_fault : ℕ → ℕ → Option BadExpr
 queued_fault p n = or_else (unless (inputs_fit n) Inputs) (unless (prefetch_fits p) Number)
 
+-- what is wrong with a chain of these operators
+abbrev pub chain_fault : {T : Type 0} → List (Stage T) → Option BadExpr
+chain_fault gs = unless (chain_fits gs) Chain
+
+-- what is wrong with a node of windows of this size, each through a chain of these operators
+abbrev pub window_fault : {T : Type 0} → ℕ → List (Stage T) → Option BadExpr
+window_fault n gs = or_else (unless (window_fits n) Number) (chain_fault gs)
+
 -- what is wrong with one node where there are so many hubs, leaving out its children
 abbrev pub own_fault : {T A : Type 0} → ℕ → Expr-F T A → Option BadExpr
 own_fault hubs (Items v) = unless (nat_le (length v.items) MOST_ITEMS) Length
@@ -74,6 +96,7 @@ own_fault hubs (Concat v) = unless (inputs_fit (length v.items)) Inputs
 own_fault hubs (Merge p v) = queued_fault p (length v.items)
 own_fault hubs (Zip p v) = queued_fault p (length v.items)
 own_fault hubs (Latest p v) = queued_fault p (length v.items)
+own_fault hubs (Window n gs b) = window_fault n gs.items
 own_fault hubs (On k p b) = unless (worker_fits k p) Number
 
 -- what is wrong with the first faulty node in pre-order

@@ -1,7 +1,7 @@
 -- The size of an expression.
 use Rattle.std.specs.Prelude.{ℕ, ◌+◌, max, List, [], ◌∷◌}
 use Rattle.rsx_model.specs.declared.expr.Expr.{Expr}
-use Rattle.rsx_model.specs.declared.expr.Expr.TheOpen.{Expr-F, Items, Range, Hub, Plain, Concat, Merge, Zip, Latest, On}
+use Rattle.rsx_model.specs.declared.expr.Expr.TheOpen.{Expr-F, Items, Range, Hub, Plain, Concat, Merge, Zip, Latest, Window, On}
 use Rattle.rsx_model.specs.declared.expr.Expr.TheFolds.{fold-Expr}
 use Rattle.rsx_model.specs.declared.expr.Below.{Below}
 use Rattle.rsx_model.specs.declared.expr.Below.TheVariants.{One, Inputs}
@@ -16,6 +16,7 @@ children (Concat v) = v.items
 children (Merge p v) = v.items
 children (Zip p v) = v.items
 children (Latest p v) = v.items
+children (Window n gs b) = b.value ∷ []
 children (On k p b) = b.value ∷ []
 
 -- the children that an answer of `below_of` names
@@ -51,6 +52,7 @@ leaf_here (Concat v) = 0
 leaf_here (Merge p v) = 0
 leaf_here (Zip p v) = 0
 leaf_here (Latest p v) = 0
+leaf_here (Window n gs b) = 0
 leaf_here (On k p b) = 0
 
 -- how many hub leaves

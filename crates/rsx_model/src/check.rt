@@ -2,7 +2,7 @@
 
 ghost use Rattle.std.specs.Prelude.{◌≡◌, ◌+◌, min, map, nat_le, MatchResult, Some, None};
 ghost use Rattle.rsx_model.specs.Shape.{nodes, leaves, leaf_here, depth, sum_of, max_of};
-ghost use Rattle.rsx_model.specs.Check.{refusal, first_fault, first_of, own_fault, queued_fault, inputs_fit, worker_fits, unless, range_fits, stage_fits, kind_number};
+ghost use Rattle.rsx_model.specs.Check.{refusal, first_fault, first_of, own_fault, queued_fault, window_fault, chain_fault, stages_fit, inputs_fit, worker_fits, window_fits, unless, range_fits, stage_fits, kind_number};
 ghost use Rattle.rsx_model.specs.declared.expr.Expr.TheViews.{out-Expr};
 
 use crate::expr::{Below, Expr, below_of};
@@ -24,6 +24,12 @@ pub const MOST_INPUTS: u64 = 16;
 /// The most items of one input that are asked for in advance.
 pub const MOST_PREFETCH: u64 = 1_024;
 
+/// The most items of one window.
+pub const MOST_WINDOW: u64 = 1_024;
+
+/// The most operators of a chain that a node has for each of its lanes, as `window` for each window.
+pub const MOST_STAGES: u64 = 8;
+
 /// The largest number of a worker. The least is 0.
 pub const MOST_WORKER: u8 = 15;
 
@@ -42,9 +48,12 @@ pub enum BadExpr {
     Inputs,
     /// A number is out of its limit: a range of more than 1,000,000 numbers, or whose last one is above 2^63-1; a `take`
     /// of more than 1,000,000 items; a `buffer` whose lists aren't of 1 to 1,024 items; a prefetch that isn't 1 to 1,024; a
-    /// worker's number above 15.
+    /// window whose size isn't 1 to 1,024; a worker's number above 15.
     #[error("a number is out of its limit")]
     Number,
+    /// A chain of a node has more than 8 operators, or one of them has a number out of its limit.
+    #[error("a chain has more than 8 operators, or one with a number out of its limit")]
+    Chain,
     /// A leaf names a hub that isn't there: its number isn't below the number of hubs.
     #[error("no such hub")]
     Hub,
@@ -54,7 +63,7 @@ pub enum BadExpr {
 }
 
 impl BadExpr {
-    /// The number of this kind: 1 for the depth, 2 for the nodes, 3 for the inputs, 4 for a number, 6 for a hub, 7 for a list's length.
+    /// The number of this kind: 1 for the depth, 2 for the nodes, 3 for the inputs, 4 for a number, 5 for a chain, 6 for a hub, 7 for a list's length.
     pub fn number(self) -> u8
         ensures { result ≡ kind_number self }
     {
@@ -63,6 +72,7 @@ impl BadExpr {
             BadExpr::Nodes => 2,
             BadExpr::Inputs => 3,
             BadExpr::Number => 4,
+            BadExpr::Chain => 5,
             BadExpr::Hub => 6,
             BadExpr::Length => 7,
         }
@@ -178,7 +188,7 @@ fn own_leaf<T>(expr: &Expr<T>) -> u64
         Expr::Hub(_) => 1,
         Expr::Plain(_, _) | Expr::Concat(_) => 0,
         Expr::Merge(_, _) | Expr::Zip(_, _) | Expr::Latest(_, _) => 0,
-        Expr::On(_, _, _) => 0,
+        Expr::Window(_, _, _) | Expr::On(_, _, _) => 0,
     }
 }
 
@@ -224,6 +234,7 @@ fn own_fault_of<T>(expr: &Expr<T>, hubs: u64) -> Option<BadExpr>
         Expr::Merge(prefetch, inputs) => queued_fault_of(*prefetch, inputs.len()),
         Expr::Zip(prefetch, inputs) => queued_fault_of(*prefetch, inputs.len()),
         Expr::Latest(prefetch, inputs) => queued_fault_of(*prefetch, inputs.len()),
+        Expr::Window(size, stages, _) => window_fault_of(*size, stages),
         Expr::On(worker, prefetch, _) => unless_ok(is_worker(*worker, *prefetch), BadExpr::Number),
     }
 }
@@ -236,6 +247,33 @@ fn queued_fault_of(prefetch: u64, inputs: usize) -> Option<BadExpr>
         return Some(BadExpr::Inputs);
     }
     unless_ok(1 <= prefetch && prefetch <= MOST_PREFETCH, BadExpr::Number)
+}
+
+/// What is wrong with a node of windows of this size, each through a chain of these operators.
+fn window_fault_of<T>(size: u64, stages: &[Stage<T>]) -> Option<BadExpr>
+    ensures { result ≡ window_fault size stages.now }
+{
+    if !is_window(size) {
+        return Some(BadExpr::Number);
+    }
+    chain_fault_of(stages)
+}
+
+/// What is wrong with a chain of these operators.
+fn chain_fault_of<T>(stages: &[Stage<T>]) -> Option<BadExpr>
+    ensures { result ≡ chain_fault stages.now }
+{
+    if stages.len() as u64 > MOST_STAGES {
+        return Some(BadExpr::Chain);
+    }
+    unless_ok(are_stages(stages), BadExpr::Chain)
+}
+
+/// Whether a window may have this size.
+fn is_window(size: u64) -> bool
+    ensures { result ≡ window_fits size }
+{
+    1 <= size && size <= MOST_WINDOW
 }
 
 /// Whether there may be a worker of this number, and this is a prefetch.
@@ -265,6 +303,18 @@ fn is_range(first: i64, count: u64) -> bool
 {
     count <= MOST_COUNT
         && (count == 0 || i128::from(first) + i128::from(count) <= i128::from(i64::MAX) + 1)
+}
+
+/// Whether the number of each operator is within its limit.
+fn are_stages<T>(stages: &[Stage<T>]) -> bool
+    ensures { result ≡ stages_fit stages.now }
+{
+    for stage in stages {
+        if !is_stage(stage) {
+            return false;
+        }
+    }
+    true
 }
 
 /// Whether the number of an operator is within its limit.

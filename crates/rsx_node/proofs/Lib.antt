@@ -8,4 +8,5 @@ pub mod PublishOnRests
 pub mod QueuesRests
 pub mod Rests
 pub mod SourcesRests
+pub mod WindowRests
 pub mod ZipRests

@@ -11,13 +11,14 @@ use Rattle.rsx_several.specs.declared.several_node.SeveralNode.{SeveralNode}
 use Rattle.rsx_several.specs.declared.several_node.SeveralNode.TheVariants.{Concat, Merge, Zip, Latest}
 use Rattle.rsx_node.specs.Any.{any_machine}
 use Rattle.rsx_node.specs.declared.any_node.AnyNode.{AnyNode}
-use Rattle.rsx_node.specs.declared.any_node.AnyNode.TheVariants.{Source, Plain, Several, PublishOn}
+use Rattle.rsx_node.specs.declared.any_node.AnyNode.TheVariants.{Source, Plain, Several, PublishOn, Window}
 use Rattle.rsx_node.proofs.ConcatRests.{concat_rests}
 use Rattle.rsx_node.proofs.LatestRests.{latest_rests}
 use Rattle.rsx_node.proofs.MergeRests.{merge_rests}
 use Rattle.rsx_node.proofs.PlainRests.{plain_rests}
 use Rattle.rsx_node.proofs.PublishOnRests.{publish_rests}
 use Rattle.rsx_node.proofs.SourcesRests.{source_rests}
+use Rattle.rsx_node.proofs.WindowRests.{window_rests}
 use Rattle.rsx_node.proofs.ZipRests.{zip_rests}
 use Rattle.rsx_tree.specs.Rests.{IsStuck, NothingComes, Rests}
 
@@ -33,3 +34,4 @@ any_rests m (Source n) taken asked sent inc still counted waits more within stuc
 any_rests m (Plain n) taken asked sent inc still counted waits more within stuck none behind = plain_rests m n taken asked sent inc still counted waits more within none
 any_rests m (Several n) taken asked sent inc still counted waits more within stuck none behind = several_rests m n taken asked sent inc still counted waits more within stuck none
 any_rests m (PublishOn n) taken asked sent inc still counted waits more within stuck none behind = publish_rests m n taken asked sent inc still counted waits more within none
+any_rests m (Window n) taken asked sent inc still counted waits more within stuck none behind = window_rests m n taken asked sent inc still counted waits more within none

@@ -8,6 +8,7 @@ use rsx_publish_on::PublishOnNode;
 use rsx_several::SeveralNode;
 use rsx_sources::{Front, Machine, NotMade, NotTaken, Passed};
 use rsx_types::{NoMemory, Note, Ops, Signal, StreamValue};
+use rsx_window::WindowNode;
 use std::alloc::Global;
 
 /// A node of any kind.
@@ -21,6 +22,8 @@ pub enum AnyNode<T> {
     Several(SeveralNode<T>),
     /// `publishOn`: its one input, from a queue.
     PublishOn(PublishOnNode<T>),
+    /// `window`: its one input in windows, each through a chain of its own.
+    Window(WindowNode<T>),
 }
 
 impl<T: Drop> Machine for AnyNode<T> {
@@ -79,6 +82,7 @@ impl<T: Drop> Machine for AnyNode<T> {
             AnyNode::Plain(node) => node.front(),
             AnyNode::Several(node) => node.front(),
             AnyNode::PublishOn(node) => node.front(),
+            AnyNode::Window(node) => node.front(),
         }
     }
 
@@ -101,6 +105,7 @@ impl<T: Drop> Machine for AnyNode<T> {
             AnyNode::Plain(node) => node.pop_front(alloc, ops),
             AnyNode::Several(node) => node.pop_front(alloc, ops),
             AnyNode::PublishOn(node) => node.pop_front(alloc, ops),
+            AnyNode::Window(node) => node.pop_front(alloc, ops),
         }
     }
 
@@ -112,6 +117,7 @@ impl<T: Drop> Machine for AnyNode<T> {
             AnyNode::Plain(node) => node.put_back(signal),
             AnyNode::Several(node) => node.put_back(signal),
             AnyNode::PublishOn(node) => node.put_back(signal),
+            AnyNode::Window(node) => node.put_back(signal),
         }
     }
 
@@ -122,6 +128,7 @@ impl<T: Drop> Machine for AnyNode<T> {
             AnyNode::Plain(node) => node.has_ended(),
             AnyNode::Several(node) => node.has_ended(),
             AnyNode::PublishOn(node) => node.has_ended(),
+            AnyNode::Window(node) => node.has_ended(),
         }
     }
 
@@ -132,6 +139,7 @@ impl<T: Drop> Machine for AnyNode<T> {
             AnyNode::Plain(node) => node.can_take(input, front),
             AnyNode::Several(node) => node.can_take(input, front),
             AnyNode::PublishOn(node) => node.can_take(input, front),
+            AnyNode::Window(node) => node.can_take(input, front),
         }
     }
 
@@ -157,6 +165,7 @@ impl<T: Drop> Machine for AnyNode<T> {
             AnyNode::Plain(node) => node.on_signal(alloc, ops, input, signal),
             AnyNode::Several(node) => node.on_signal(alloc, ops, input, signal),
             AnyNode::PublishOn(node) => node.on_signal(alloc, ops, input, signal),
+            AnyNode::Window(node) => node.on_signal(alloc, ops, input, signal),
         }
     }
 
@@ -167,6 +176,7 @@ impl<T: Drop> Machine for AnyNode<T> {
             AnyNode::Plain(node) => node.pop_item(alloc, ops),
             AnyNode::Several(node) => node.pop_item(alloc, ops),
             AnyNode::PublishOn(node) => node.pop_item(alloc, ops),
+            AnyNode::Window(node) => node.pop_item(alloc, ops),
         }
     }
 
@@ -177,6 +187,7 @@ impl<T: Drop> Machine for AnyNode<T> {
             AnyNode::Plain(node) => node.pass(alloc, ops, input, item),
             AnyNode::Several(node) => node.pass(alloc, ops, input, item),
             AnyNode::PublishOn(node) => node.pass(alloc, ops, input, item),
+            AnyNode::Window(node) => node.pass(alloc, ops, input, item),
         }
     }
 
@@ -186,6 +197,7 @@ impl<T: Drop> Machine for AnyNode<T> {
             AnyNode::Plain(node) => node.hub(),
             AnyNode::Several(node) => node.hub(),
             AnyNode::PublishOn(node) => node.hub(),
+            AnyNode::Window(node) => node.hub(),
         }
     }
 
@@ -195,6 +207,7 @@ impl<T: Drop> Machine for AnyNode<T> {
             AnyNode::Plain(node) => node.has_room(),
             AnyNode::Several(node) => node.has_room(),
             AnyNode::PublishOn(node) => node.has_room(),
+            AnyNode::Window(node) => node.has_room(),
         }
     }
 
@@ -213,13 +226,15 @@ impl<T: Drop> Machine for AnyNode<T> {
             AnyNode::Plain(node) => node.on_published(signal),
             AnyNode::Several(node) => node.on_published(signal),
             AnyNode::PublishOn(node) => node.on_published(signal),
+            AnyNode::Window(node) => node.on_published(signal),
         }
     }
 
     #[inline]
     fn can_pick(&self, input: u64, asked: u64, sent: u64) -> bool {
         match self {
-            AnyNode::Source(_) | AnyNode::Plain(_) | AnyNode::PublishOn(_) => false,
+            AnyNode::Source(_) | AnyNode::Plain(_) | AnyNode::PublishOn(_) | AnyNode::Window(_) =>
+                false,
             AnyNode::Several(node) => node.can_pick(input, asked, sent),
         }
     }
@@ -227,7 +242,8 @@ impl<T: Drop> Machine for AnyNode<T> {
     #[inline(always)]
     fn next_pick(&self, asked: u64, sent: u64) -> Option<u64> {
         match self {
-            AnyNode::Source(_) | AnyNode::Plain(_) | AnyNode::PublishOn(_) => None,
+            AnyNode::Source(_) | AnyNode::Plain(_) | AnyNode::PublishOn(_) | AnyNode::Window(_) =>
+                None,
             AnyNode::Several(node) => node.next_pick(asked, sent),
         }
     }
@@ -241,9 +257,8 @@ impl<T: Drop> Machine for AnyNode<T> {
         sent: u64,
     ) -> Result<(), NotMade> {
         match self {
-            AnyNode::Source(_) | AnyNode::Plain(_) | AnyNode::PublishOn(_) => Err(
-                NotMade::NotEnabled,
-            ),
+            AnyNode::Source(_) | AnyNode::Plain(_) | AnyNode::PublishOn(_) | AnyNode::Window(_) =>
+                Err(NotMade::NotEnabled),
             AnyNode::Several(node) => node.on_pick(alloc, ops, input, asked, sent),
         }
     }
@@ -251,7 +266,8 @@ impl<T: Drop> Machine for AnyNode<T> {
     #[inline(always)]
     fn can_row(&self, asked: u64, sent: u64) -> bool {
         match self {
-            AnyNode::Source(_) | AnyNode::Plain(_) | AnyNode::PublishOn(_) => false,
+            AnyNode::Source(_) | AnyNode::Plain(_) | AnyNode::PublishOn(_) | AnyNode::Window(_) =>
+                false,
             AnyNode::Several(node) => node.can_row(asked, sent),
         }
     }
@@ -265,9 +281,8 @@ impl<T: Drop> Machine for AnyNode<T> {
         sent: u64,
     ) -> Result<(), NotMade> {
         match self {
-            AnyNode::Source(_) | AnyNode::Plain(_) | AnyNode::PublishOn(_) => Err(
-                NotMade::NotEnabled,
-            ),
+            AnyNode::Source(_) | AnyNode::Plain(_) | AnyNode::PublishOn(_) | AnyNode::Window(_) =>
+                Err(NotMade::NotEnabled),
             AnyNode::Several(node) => node.on_row(alloc, ops, asked, sent),
         }
     }
@@ -279,12 +294,14 @@ impl<T: Drop> Machine for AnyNode<T> {
             AnyNode::Plain(node) => node.want(input, asked, sent),
             AnyNode::Several(node) => node.want(input, asked, sent),
             AnyNode::PublishOn(node) => node.want(input, asked, sent),
+            AnyNode::Window(node) => node.want(input, asked, sent),
         }
     }
 
     fn note(&self, alloc: Global) -> Result<Note, NoMemory> {
         match self {
-            AnyNode::Source(_) | AnyNode::Plain(_) | AnyNode::PublishOn(_) => Ok(Note::Nothing),
+            AnyNode::Source(_) | AnyNode::Plain(_) | AnyNode::PublishOn(_) | AnyNode::Window(_) =>
+                Ok(Note::Nothing),
             AnyNode::Several(node) => node.note(alloc),
         }
     }
@@ -304,6 +321,7 @@ impl<T: Drop> Machine for AnyNode<T> {
             AnyNode::Plain(node) => node.residual(alloc, ops, inboxes, incoming),
             AnyNode::Several(node) => node.residual(alloc, ops, inboxes, incoming),
             AnyNode::PublishOn(node) => node.residual(alloc, ops, inboxes, incoming),
+            AnyNode::Window(node) => node.residual(alloc, ops, inboxes, incoming),
         }
     }
 

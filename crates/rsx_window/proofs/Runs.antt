@@ -1,5 +1,5 @@
 -- What comes out of a started window by a signal of the input.
-use Rattle.std.proofs.Common.{◌≡◌, ℕ, zero, suc, ◌-◌, true, false, List, [], ◌∷◌, Option, Some, None, refl, ap, sym, ◌∙◌, arith}
+use Rattle.std.proofs.Common.{◌≡◌, ℕ, zero, suc, ◌-◌, Bool, true, false, List, [], ◌∷◌, Option, Some, None, refl, ap, sym, ◌∙◌, arith}
 use Rattle.rsx_types.specs.declared.signal.Cause.{Cause}
 use Rattle.rsx_types.specs.declared.signal.Ending.{Ending}
 use Rattle.rsx_types.specs.declared.signal.Ending.TheVariants.{Open, Done, Failed}
@@ -14,9 +14,9 @@ use Rattle.rsx_pending.specs.Signals.{has_ending, put_out}
 use Rattle.rsx_operators.specs.declared.prepared.Emission.{Emission}
 use Rattle.rsx_choices.specs.Concat.{value_then}
 use Rattle.rsx_lanes.specs.Window.{window}
-use Rattle.rsx_chain.specs.Chain.{chain_from, MovesEmission}
+use Rattle.rsx_chain.specs.Chain.{chain_from, chain_over, MovesEmission}
 use Rattle.rsx_chain.specs.declared.chain.ChainState.{ChainState}
-use Rattle.rsx_window.specs.Cut.{window_rest, behind, window_left, is_over, TakesItem, Begins, unless_done, window_after, last_ending, ClosesWith}
+use Rattle.rsx_window.specs.Cut.{window_rest, behind, window_left, is_over, GoesOn, TakesItem, Begins, unless_done, window_after, last_ending, ClosesWith}
 use Rattle.rsx_window.specs.declared.current.CurrentWindow.{CurrentWindow}
 use Rattle.rsx_window.specs.declared.current.CurrentWindow.TheVariants.{Running, Passing, Over}
 use Rattle.rsx_window.specs.declared.current.Begun.{Begun}
@@ -99,6 +99,20 @@ over_items (x ∷ xs) y c more e = over_items xs y c more e
 
 pub over_after : {T : Type 0} (xs : List T) (y : Option T) (c : ChainState T) (more : ℕ) (f e : Ending) (put : List (Signal T)) (next : CurrentWindow T) → e ≡ unless_done f → put ≡ put_out xs y e → next ≡ window_after c more f → has_ending put ≡ is_over next
 over_after xs y c more f e put next less p after = rw (p, less, after) (over_items xs y c more f)
+
+-- ---- whether the chain goes on
+
+not_over : (b : Bool) → (b ≡ true → false ≡ true) → b ≡ false
+not_over true h = sym (h refl)
+not_over false h = refl
+
+chain_goes_on : {T : Type 0} (c : ChainState T) (more : ℕ) (e : Ending) → (chain_over c ≡ true → has_ended e ≡ true) → GoesOn (window_after c more e)
+chain_goes_on c more Open h = not_over (chain_over c) h
+chain_goes_on c more Done h = tt
+chain_goes_on c more (Failed f) h = tt
+
+pub goes_on_after : {T : Type 0} (c : ChainState T) (more : ℕ) (e : Ending) (next : CurrentWindow T) → (chain_over c ≡ true → has_ended e ≡ true) → next ≡ window_after c more e → GoesOn next
+goes_on_after c more e next h after = rw after (chain_goes_on c more e h)
 
 -- ---- an ending of the input
 

@@ -1,5 +1,5 @@
 -- What still comes out of a `window` that has taken some of its input.
-use Rattle.std.specs.Prelude.{◌≡◌, ℕ, suc, ◌-◌, Bool, true, false, List, [], ◌∷◌, ◌++◌, drop, map, Option}
+use Rattle.std.specs.Prelude.{◌≡◌, ⊤, ℕ, suc, ◌-◌, Bool, true, false, List, [], ◌∷◌, ◌++◌, drop, map, Option}
 use Rattle.rsx_types.specs.declared.signal.Ending.{Ending}
 use Rattle.rsx_types.specs.declared.signal.Ending.TheVariants.{Open, Done, Failed}
 use Rattle.rsx_types.specs.declared.signal.Signal.{Signal}
@@ -12,7 +12,7 @@ use Rattle.rsx_operators.specs.Emission.{emission_then}
 use Rattle.rsx_operators.specs.declared.prepared.Emission.{Emission}
 use Rattle.rsx_choices.specs.Concat.{value_then}
 use Rattle.rsx_lanes.specs.Window.{window}
-use Rattle.rsx_chain.specs.Chain.{chain_from}
+use Rattle.rsx_chain.specs.Chain.{chain_from, chain_over}
 use Rattle.rsx_pending.specs.Signals.{put_out}
 use Rattle.rsx_chain.specs.declared.chain.ChainState.{ChainState}
 use Rattle.rsx_window.specs.declared.current.CurrentWindow.{CurrentWindow}
@@ -43,6 +43,12 @@ abbrev pub is_over : {T : Type 0} → CurrentWindow T → Bool
 is_over (Running c more) = false
 is_over (Passing left) = false
 is_over Over = true
+
+-- no operator in the chain of the window that is started is over
+abbrev pub GoesOn : {T : Type 0} → CurrentWindow T → Type 0
+GoesOn (Running c more) = chain_over c ≡ false
+GoesOn (Passing left) = ⊤
+GoesOn Over = ⊤
 
 -- ---- an item
 

@@ -12,7 +12,7 @@ use Rattle.rsx_sources.specs.Slot.{is_nil}
 use Rattle.rsx_sources.specs.declared.machine.Front.{Front}
 use Rattle.rsx_pending.specs.Signals.{has_ending}
 use Rattle.rsx_lanes.specs.Window.{window}
-use Rattle.rsx_window.specs.Cut.{window_left, is_over}
+use Rattle.rsx_window.specs.Cut.{window_left, is_over, GoesOn}
 use Rattle.rsx_window.specs.declared.current.CurrentWindow.{CurrentWindow}
 use Rattle.rsx_window.specs.declared.node.WindowNode.{WindowNode}
 
@@ -68,9 +68,10 @@ pub record IsPoppedWindow {T : Type 0} (old : WindowNode T) (s : Signal T) (new 
   pub halfway : old.halfway ≡ not new.halfway
   pub got : old.got ≡ new.got
 
--- as long as the ending was not put out: how many items the node got
+-- as long as the ending was not put out: how many items the node got; and the chain of the window that is started goes on
 pub record CountsItems {T : Type 0} (n : WindowNode T) (taken : List ℕ) (sent : ℕ) : Type 0 where
   pub open_still : is_over n.current ≡ false
+  pub goes_on : GoesOn n.current
   pub items : ℕ
   pub at : taken ≡ items ∷ []
   pub got : n.got ≡ min UNBOUNDED items

@@ -5,8 +5,9 @@ ghost use Rattle.rsx_types.specs.Stream.{ending_signals};
 ghost use Rattle.rsx_chain.specs.Emissions.{item_signals};
 ghost use Rattle.rsx_pending.specs.Signals.{HasRoom, SignalsLeft, has_ending};
 ghost use Rattle.rsx_types.specs.declared.signal.Signal.TheVariants.{Next};
+ghost use Rattle.rsx_chain.specs.Chain.{chain_over};
 ghost use Rattle.rsx_operators.specs.Moves.{Moves, has_ended};
-ghost use Rattle.rsx_window.specs.Cut.{TakesItem, Begins, unless_done, last_ending, is_over, window_left, window_after, ClosesWith, EndsWith};
+ghost use Rattle.rsx_window.specs.Cut.{TakesItem, Begins, unless_done, last_ending, is_over, GoesOn, window_left, window_after, ClosesWith, EndsWith};
 ghost use Rattle.rsx_chain.specs.declared.chain.ChainState.{ChainState as ChainStateSpec};
 ghost use Rattle.rsx_window.specs.declared.current.CurrentWindow.{CurrentWindow as CurrentWindowSpec};
 ghost use Rattle.rsx_window.specs.declared.current.CurrentWindow.TheVariants.{Running};
@@ -56,6 +57,7 @@ trait TakingItem<T: Drop> {
     ) -> Result<Emission<T>, T>
         ensures ok { IfOk result (λ out. TakesItem (O.meaning ops.now) (chain self.old) more item out (chain self.new)) }
         ensures last { IfOk result (λ out. more ≡ 0 → has_ended out.ending ≡ true) }
+        ensures over { IfOk result (λ out. chain_over (chain self.new) ≡ true → has_ended out.ending ≡ true) }
         ensures err { IfErr result (λ x. x ≡ item) }
         ensures same { OnErr result (self.new ≡ self.old) };
 }
@@ -72,6 +74,7 @@ impl<T: Drop> TakingItem<T> for ChainState<T> {
     ) -> Result<Emission<T>, T>
         ensures ok { IfOk result (λ out. TakesItem (O.meaning ops.now) self.old more item out self.new) }
         ensures last { IfOk result (λ out. more ≡ 0 → has_ended out.ending ≡ true) }
+        ensures over { IfOk result (λ out. chain_over self.new ≡ true → has_ended out.ending ≡ true) }
         ensures err { IfErr result (λ x. x ≡ item) }
         ensures same { OnErr result (self.new ≡ self.old) }
     {
@@ -109,6 +112,7 @@ trait BeginningWindow<T: Drop> {
     ) -> Result<Begun<T>, T>
         ensures ok { IfOk result (λ b. Begins (O.meaning ops.now) stages.now more item b) }
         ensures last { IfOk result (λ b. more ≡ 0 → has_ended b.out.ending ≡ true) }
+        ensures over { IfOk result (λ b. chain_over b.chain ≡ true → has_ended b.out.ending ≡ true) }
         ensures room { IfOk result (λ b. HasRoom b.spare (list self.now) (length b.items.items + 2)) }
         ensures err { IfErr result (λ x. x ≡ item) };
 }
@@ -126,6 +130,7 @@ impl<T: Drop> BeginningWindow<T> for PendingSignals<T> {
     ) -> Result<Begun<T>, T>
         ensures ok { IfOk result (λ b. Begins (O.meaning ops.now) stages.now more item b) }
         ensures last { IfOk result (λ b. more ≡ 0 → has_ended b.out.ending ≡ true) }
+        ensures over { IfOk result (λ b. chain_over b.chain ≡ true → has_ended b.out.ending ≡ true) }
         ensures room { IfOk result (λ b. HasRoom b.spare self.now (length b.items.items + 2)) }
         ensures err { IfErr result (λ x. x ≡ item) }
     {
@@ -228,6 +233,7 @@ pub(crate) trait Windowing<T: Drop> {
         requires open { is_over (current self.old) ≡ false }
         ensures ok { OnOk result (Moves (window_left (O.meaning ops.now) size stages.now) (current self.old) (Next item) pending.new.left (current self.new)) }
         ensures over { OnOk result (has_ending pending.new.left ≡ is_over (current self.new)) }
+        ensures goes_on { OnOk result (GoesOn (current self.new)) }
         ensures err { IfErr result (λ x. x ≡ item) }
         ensures same { OnErr result (self.new ≡ self.old) }
         ensures kept { OnErr result (pending.new ≡ pending.old) };
@@ -278,6 +284,7 @@ impl<T: Drop> Windowing<T> for CurrentWindow<T> {
         requires open { is_over self.old ≡ false }
         ensures ok { OnOk result (Moves (window_left (O.meaning ops.now) size stages.now) self.old (Next item) pending.new.left self.new) }
         ensures over { OnOk result (has_ending pending.new.left ≡ is_over self.new) }
+        ensures goes_on { OnOk result (GoesOn self.new) }
         ensures err { IfErr result (λ x. x ≡ item) }
         ensures same { OnErr result (self.new ≡ self.old) }
         ensures kept { OnErr result (pending.new ≡ pending.old) }

@@ -4,6 +4,7 @@ use Rattle.rsx_build.proofs.Made.{in_front_built, several_over}
 use Rattle.rsx_build.proofs.PublishOn.{publish_on_if}
 use Rattle.rsx_build.proofs.Rows.{split}
 use Rattle.rsx_build.proofs.Several.{built_concat, built_latest, built_merge, built_zip, limits_Concat, limits_Latest, limits_Merge, limits_Zip}
+use Rattle.rsx_build.proofs.Windows.{window_if}
 use Rattle.rsx_build.proofs.trees.+trees.Goals as goal
 
 pub build-returns-in-Items : goal.build-returns-in-Items
@@ -57,6 +58,11 @@ pub build-build_over-requires-in-Latest : goal.build-build_over-requires-in-Late
 build-build_over-requires-in-Latest g t c κs within =
     let l = limits_Latest (length c.args.hubs.now) c.args.expr.now c.in-Latest.prefetch c.in-Latest.inputs c.deref-in-Latest.result.now c.in-Latest.is c.deref-in-Latest.ensures.value c.requires in
     (search (rules, l.smaller), (search rules, (search rules, (search rules, (search rules, (search rules, (l.within, (l.few.some, (l.few.most, l.faultless)))))))))
+
+pub build-returns-in_ok-below-in-Window : goal.build-returns-in_ok-below-in-Window
+build-returns-in_ok-below-in-Window g t c =
+    window_if (g.O.Ops.meaning c.args.ops.now) c.args.hubs.now c.args.expr.now c.in-Window.size c.in-Window.stages c.deref-in-Window-2.result.now c.in-Window.input c.deref-in-Window.result.now c.in_ok-below-in-Window.below c.build_window.result
+    c.in-Window.is c.deref-in-Window-2.ensures.value c.deref-in-Window.ensures c.in_ok-below-in-Window.ensures c.build_window.ensures
 
 pub build-returns-in_ok-below-in-On : goal.build-returns-in_ok-below-in-On
 build-returns-in_ok-below-in-On g t c =

@@ -14,6 +14,9 @@ decreases-operator l = 3 * bytes_left l.words.now + 2
 abbrev pub decreases-plain : goal.decreases-plain
 decreases-plain l = 3 * bytes_left l.words.now + 1
 
+abbrev pub decreases-window : goal.decreases-window
+decreases-window l = 3 * bytes_left l.words.now + 1
+
 abbrev pub decreases-publish_on : goal.decreases-publish_on
 decreases-publish_on l = 3 * bytes_left l.words.now + 1
 

@@ -11,3 +11,6 @@ returns-in-Several g c = record { shown = rw c.in-Several.is c.front-in-Several.
 
 pub returns-in-PublishOn : goal.returns-in-PublishOn
 returns-in-PublishOn g c = record { shown = rw c.in-PublishOn.is c.front-in-PublishOn.ensures.shown; first = λ m. rw c.in-PublishOn.is (c.front-in-PublishOn.ensures.first m) }
+
+pub returns-in-Window : goal.returns-in-Window
+returns-in-Window g c = record { shown = rw c.in-Window.is c.front-in-Window.ensures.shown; first = λ m. rw c.in-Window.is (c.front-in-Window.ensures.first m) }

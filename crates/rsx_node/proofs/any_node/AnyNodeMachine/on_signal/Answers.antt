@@ -1,7 +1,7 @@
 use Rattle.std.proofs.Common.{ap, refl}
 use Rattle.std.proofs.lemmas.Result.{on_ok_weaker, on_err_weaker}
-use Rattle.rsx_node.specs.declared.any_node.AnyNode.TheVariants.{Several, PublishOn}
-use Rattle.rsx_node.proofs.Dispatch.{taken_several, taken_publish_on}
+use Rattle.rsx_node.specs.declared.any_node.AnyNode.TheVariants.{Several, PublishOn, Window}
+use Rattle.rsx_node.proofs.Dispatch.{taken_several, taken_publish_on, taken_window}
 use Rattle.rsx_node.proofs.any_node.AnyNodeMachine.on_signal.Goals as goal
 
 pub returns-in-Several : goal.returns-in-Several
@@ -26,4 +26,16 @@ returns-in-PublishOn g c = rw c.in-PublishOn.is (record {
   memory = λ e. c.on_signal-in-PublishOn.ensures.memory;
   alike = (refl, λ a. (refl, refl, refl));
   same = on_err_weaker c.on_signal-in-PublishOn.result (λ e. ap PublishOn e) c.on_signal-in-PublishOn.ensures.same;
+})
+
+pub returns-in-Window : goal.returns-in-Window
+returns-in-Window g c = rw c.in-Window.is (record {
+  ok = c.on_signal-in-Window.ensures.ok;
+  enabled = c.on_signal-in-Window.ensures.enabled;
+  recorded = refl;
+  counts = on_ok_weaker c.on_signal-in-Window.result (taken_window c.in-Window.node c.on_signal-in-Window.new.self c.args.input c.args.signal) c.on_signal-in-Window.ensures.counts;
+  err = c.on_signal-in-Window.ensures.err;
+  memory = λ e. cc;
+  alike = (refl, λ a. (refl, refl, refl));
+  same = on_err_weaker c.on_signal-in-Window.result (λ e. ap Window e) c.on_signal-in-Window.ensures.same;
 })

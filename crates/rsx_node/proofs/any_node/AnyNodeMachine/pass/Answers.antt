@@ -1,4 +1,4 @@
-use Rattle.rsx_node.proofs.Dispatch.{passed_plain, passed_several, passed_publish_on}
+use Rattle.rsx_node.proofs.Dispatch.{passed_plain, passed_several, passed_publish_on, passed_window}
 use Rattle.rsx_node.proofs.any_node.AnyNodeMachine.pass.Goals as goal
 
 pub returns-in-Plain-clause-passed : goal.returns-in-Plain-clause-passed
@@ -12,3 +12,7 @@ returns-in-Several-clause-passed g c =
 pub returns-in-PublishOn-clause-passed : goal.returns-in-PublishOn-clause-passed
 returns-in-PublishOn-clause-passed g c =
     rw c.in-PublishOn.is (passed_publish_on (g.O.Ops.meaning c.args.ops.now) c.in-PublishOn.node c.pass-in-PublishOn.new.self c.args.input c.args.item c.pass-in-PublishOn.result c.pass-in-PublishOn.ensures.passed)
+
+pub returns-in-Window-clause-passed : goal.returns-in-Window-clause-passed
+returns-in-Window-clause-passed g c =
+    rw c.in-Window.is (passed_window (g.O.Ops.meaning c.args.ops.now) c.in-Window.node c.pass-in-Window.new.self c.args.input c.args.item c.pass-in-Window.result c.pass-in-Window.ensures.passed)

@@ -1,5 +1,5 @@
 use Rattle.std.proofs.lemmas.Result.{IfOk-weaker}
-use Rattle.rsx_node.proofs.Dispatch.{popped_source, popped_several, popped_publish_on, counted_several, counted_publish_on}
+use Rattle.rsx_node.proofs.Dispatch.{popped_source, popped_several, popped_publish_on, popped_window, counted_several, counted_publish_on, counted_window}
 use Rattle.rsx_node.proofs.any_node.AnyNodeMachine.pop_front.Goals as goal
 
 pub returns-in-Source-clause-ok : goal.returns-in-Source-clause-ok
@@ -21,3 +21,11 @@ returns-in-PublishOn-clause-ok g c =
 pub returns-in-PublishOn-clause-counts : goal.returns-in-PublishOn-clause-counts
 returns-in-PublishOn-clause-counts g c =
     rw c.in-PublishOn.is (IfOk-weaker c.pop_front-in-PublishOn.result _ _ (λ s. counted_publish_on c.in-PublishOn.node c.pop_front-in-PublishOn.new.self s) c.pop_front-in-PublishOn.ensures.counts)
+
+pub returns-in-Window-clause-ok : goal.returns-in-Window-clause-ok
+returns-in-Window-clause-ok g c =
+    rw c.in-Window.is (IfOk-weaker c.pop_front-in-Window.result _ _ (λ s. popped_window (g.O.Ops.meaning c.args.ops.now) c.in-Window.node c.pop_front-in-Window.new.self s) c.pop_front-in-Window.ensures.ok)
+
+pub returns-in-Window-clause-counts : goal.returns-in-Window-clause-counts
+returns-in-Window-clause-counts g c =
+    rw c.in-Window.is (IfOk-weaker c.pop_front-in-Window.result _ _ (λ s. counted_window c.in-Window.node c.pop_front-in-Window.new.self s) c.pop_front-in-Window.ensures.counts)

@@ -1,7 +1,7 @@
 use Rattle.std.proofs.Common.{subst}
 use Rattle.rsx_node.specs.Any.{any_popped}
 use Rattle.rsx_node.specs.declared.any_node.AnyNode.{AnyNode}
-use Rattle.rsx_node.proofs.Dispatch.{returned_plain, returned_publish_on, returned_several, returned_source}
+use Rattle.rsx_node.proofs.Dispatch.{returned_plain, returned_publish_on, returned_several, returned_source, returned_window}
 use Rattle.rsx_node.proofs.any_node.AnyNodeMachine.put_back.Goals as goal
 
 pub returns-in-Source : goal.returns-in-Source
@@ -23,3 +23,8 @@ pub returns-in-PublishOn : goal.returns-in-PublishOn
 returns-in-PublishOn g c = λ before h.
     let P : AnyNode _ → Type 0 = λ t. any_popped before c.args.signal t in
     returned_publish_on before c.args.signal c.in-PublishOn.node c.put_back-in-PublishOn.new.self (subst P c.in-PublishOn.is h) c.put_back-in-PublishOn.ensures
+
+pub returns-in-Window : goal.returns-in-Window
+returns-in-Window g c = λ before h.
+    let P : AnyNode _ → Type 0 = λ t. any_popped before c.args.signal t in
+    returned_window before c.args.signal c.in-Window.node c.put_back-in-Window.new.self (subst P c.in-Window.is h) c.put_back-in-Window.ensures

@@ -8,3 +8,6 @@ returns-in-Several g c = rw c.in-Several.is c.residual-in-Several.ensures
 
 pub returns-in-PublishOn : goal.returns-in-PublishOn
 returns-in-PublishOn g c = rw c.in-PublishOn.is c.residual-in-PublishOn.ensures
+
+pub returns-in-Window : goal.returns-in-Window
+returns-in-Window g c = rw c.in-Window.is c.residual-in-Window.ensures
