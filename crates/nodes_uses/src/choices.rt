@@ -1,93 +1,64 @@
 //! Choices as runs, and the merge of whole values under choices.
 
 use rsx_choices::{Record, Run, merge};
-use rsx_demo::Val;
 use rsx_types::{Ending, NoMemory, StreamValue};
 use std::alloc::Global;
 use std::test::Fail;
 
 // The tests need no facts of what they call, so these functions say nothing of their results.
 
-/// The value of these numbers with this ending.
-fn value(alloc: Global, numbers: &[i64], ending: Ending) -> Result<StreamValue<Val>, NoMemory> {
-    let mut items = Vec::new(alloc);
-    for number in numbers {
-        items.push(Val::Int(*number))?;
-    }
-    Ok(StreamValue::new(items, ending))
-}
-
 /// The items 1 and 2, and the item 3, both complete.
-fn two(alloc: Global) -> Result<Vec<StreamValue<Val>>, NoMemory> {
+fn two(alloc: Global) -> Result<Vec<StreamValue<i64>>, NoMemory> {
     let mut values = Vec::new(alloc);
-    values.push(value(alloc, &[1, 2], Ending::Done)?)?;
-    values.push(value(alloc, &[3], Ending::Done)?)?;
+    for items in [[1, 2].as_slice(), [3].as_slice()] {
+        values.push(StreamValue::new(Vec::from_slice(alloc, items)?, Ending::Done))?;
+    }
     Ok(values)
 }
 
-/// The numbers among these items.
-fn numbers(alloc: Global, items: &[Val]) -> Result<Vec<i64>, NoMemory> {
-    let mut all = Vec::new(alloc);
-    for item in items {
-        if let Val::Int(number) = item {
-            all.push(*number)?;
-        }
+/// Whether a merge under these choices has these items and completes; or, where there are none, whether the choices don't fit.
+fn merges(alloc: Global, choices: &[u64], wanted: Option<&[i64]>) -> Result<bool, NoMemory> {
+    match (merge(alloc, two(alloc)?, choices)?, wanted) {
+        (Some(value), Some(items)) => Ok(value.items() == items && value.ending() == Ending::Done),
+        (None, None) => Ok(true),
+        _ => Ok(false),
     }
-    Ok(all)
 }
 
-/// The numbers of a merge under these choices, with 0 behind them where it is done; -1 alone where they don't fit.
-fn merged(alloc: Global, choices: &[u64]) -> Result<Vec<i64>, NoMemory> {
-    let mut all = Vec::new(alloc);
-    match merge(alloc, two(alloc)?, choices)? {
-        Some(value) => {
-            all = numbers(alloc, value.items())?;
-            if value.ending() == Ending::Done {
-                all.push(0)?;
-            }
-        }
-        None => all.push(-1)?,
+/// Choices, with what a merge under them gives. The second input has no third signal, and there is no third input.
+const MERGES: [(&[u64], Option<&[i64]>); 4] = [
+    (&[1, 0], Some(&[3, 1, 2])),
+    (&[], Some(&[1, 2, 3])),
+    (&[1, 1, 1], None),
+    (&[2], None),
+];
+
+#[test]
+fn a_merge_follows_its_choices(rt: HostRuntime) -> Result<(), Fail> {
+    for (choices, wanted) in &MERGES {
+        assert!(rt; merges(rt.alloc(), choices, *wanted)?, "{choices:?}");
     }
-    Ok(all)
+    Ok(())
 }
 
-/// A record of these choices.
-fn record(alloc: Global, choices: &[u64]) -> Result<Record, NoMemory> {
+/// Whether choices are recorded as these runs, and given back.
+fn is_recorded(alloc: Global, choices: &[u64], runs: &[Run]) -> Result<bool, NoMemory> {
     let mut record = Record::new(alloc);
     for choice in choices {
         record.push(*choice)?;
     }
-    Ok(record)
+    let back = record.choices(alloc)?;
+    let joins = record.joins_last(2) && !record.joins_last(0);
+    Ok(joins && record.runs() == runs && back.as_slice() == choices)
 }
 
 #[test]
 fn neighbours_are_one_run(rt: HostRuntime) -> Result<(), Fail> {
-    let alloc = rt.alloc();
-    let record = record(alloc, &[2, 2, 2, 0, 2])?;
     let runs = [
         Run { input: 2, count: 3 },
         Run { input: 0, count: 1 },
         Run { input: 2, count: 1 },
     ];
-    assert_eq!(rt; record.runs(), runs.as_slice());
-    assert_eq!(rt; record.joins_last(2), true);
-    assert_eq!(rt; record.joins_last(0), false);
-    let choices = record.choices(alloc)?;
-    assert_eq!(rt; choices.as_slice(), [2, 2, 2, 0, 2].as_slice());
-    Ok(())
-}
-
-#[test]
-fn a_merge_follows_its_choices(rt: HostRuntime) -> Result<(), Fail> {
-    let alloc = rt.alloc();
-    let chosen = merged(alloc, &[1, 0])?;
-    assert_eq!(rt; chosen.as_slice(), [3, 1, 2, 0].as_slice());
-    let unchosen = merged(alloc, &[])?;
-    assert_eq!(rt; unchosen.as_slice(), [1, 2, 3, 0].as_slice());
-    // The second input has no third signal, and there is no third input.
-    let third_signal = merged(alloc, &[1, 1, 1])?;
-    assert_eq!(rt; third_signal.as_slice(), [-1].as_slice());
-    let third_input = merged(alloc, &[2])?;
-    assert_eq!(rt; third_input.as_slice(), [-1].as_slice());
+    assert!(rt; is_recorded(rt.alloc(), &[2, 2, 2, 0, 2], &runs)?);
     Ok(())
 }

@@ -1,34 +1,21 @@
 #![tactic(auto)]
-//! Tests of the nodes of a tree, call by call: the sources, the plain operators and the chains, the nodes of several inputs with the
-//! values that they join, the node `window`, and the edges between two regions. This crate has nothing else.
+//! Tests of the nodes of a tree: the sources, the plain operators and the chains, the nodes of several inputs with the values that they
+//! join, the node `window`, an edge between two regions, and hubs. This crate has nothing else.
+//!
+//! What is done to a node, and what it answers, are tables, which one function goes over for all kinds of nodes: a call costs its proof
+//! at each place where it stands.
 
 #[cfg(test)]
-mod chain_tests;
+mod acts;
+#[cfg(test)]
+mod chains;
 #[cfg(test)]
 mod choices;
 #[cfg(test)]
-mod concat;
+mod hubs;
 #[cfg(test)]
-mod crossing;
-#[cfg(test)]
-mod latest_tests;
-#[cfg(test)]
-mod merging;
+mod nodes;
 #[cfg(test)]
 mod numbers;
 #[cfg(test)]
-mod operator_tests;
-#[cfg(test)]
-mod pairs;
-#[cfg(test)]
-mod publish_on;
-#[cfg(test)]
-mod queued;
-#[cfg(test)]
-mod received;
-#[cfg(test)]
-mod source_tests;
-#[cfg(test)]
-mod window;
-#[cfg(test)]
-mod zip_tests;
+mod rows;

@@ -1,34 +1,33 @@
 //! The functions of a small caller over `i64`.
 
-ghost use Rattle.std.specs.Prelude.{IfOk};
-
 use rsx_types::{Fault, NoMemory, Ops};
 use std::alloc::Global;
 
 /// Function 0 of `map` answers -1, and of `scan` the greater of the two; test 0 asks whether the number is at most 3, and
-/// key 0 is 0 for these and 1 for the others. A list is its length, at most 9. The other functions fault with 7.
+/// key 0 is 0 for these and 1 for the others. A list is its length, at most 9, and a row its last item, or 0 where it has none. The other
+/// functions fault with 7.
 #[derive(Clone, Copy)]
 pub(crate) struct Numbers {
-    /// Whether `scan` and `buffer` find no memory.
+    /// Whether `scan`, `buffer`, rows and copies find no memory.
     pub(crate) scarce: bool,
 }
 
 /// Memory for everything.
 pub(crate) const PLENTY: Numbers = Numbers { scarce: false };
 
-/// No memory for accumulations and lists.
+/// No memory for accumulations, lists, rows and copies.
 pub(crate) const SCARCE: Numbers = Numbers { scarce: true };
 
 impl Ops for Numbers {
     type Item = i64;
 
-    ghost use Rattle.std.specs.Prelude.{Ok, Err, pos, negsuc, min, length, int_le, ◌==◌, if◌then◌else◌};
+    ghost use Rattle.std.specs.Prelude.{Ok, Err, pos, negsuc, min, length, slice_index_or, ◌-◌, int_le, ◌==◌, if◌then◌else◌};
     ghost use Rattle.std.proofs.Common.{rules};
     ghost use Rattle.rsx_types.specs.Meaning.{none_allocates};
 
-    ghost meaning = { λ o. record { mapped = λ f x. if f == 0 then Ok (negsuc 0) else Err 7; tested = λ f x. if f == 0 then Ok (int_le x (pos 3)) else Err 7; folded = λ f a x. if f == 0 then Ok (if int_le a x then x else a) else Err 7; keyed = λ f x. if f == 0 then Ok (if int_le x (pos 3) then 0 else 1) else Err 7; expanded = λ f x. Err 7; row_of = λ xs. pos 0; list_of = λ xs. pos (min (length xs) 9); tagged = λ k x. x; number = λ v. v } };
+    ghost meaning = { λ o. record { mapped = λ f x. if f == 0 then Ok (negsuc 0) else Err 7; tested = λ f x. if f == 0 then Ok (int_le x (pos 3)) else Err 7; folded = λ f a x. if f == 0 then Ok (if int_le a x then x else a) else Err 7; keyed = λ f x. if f == 0 then Ok (if int_le x (pos 3) then 0 else 1) else Err 7; expanded = λ f x. Err 7; row_of = λ xs. slice_index_or xs (length xs - 1) (pos 0); list_of = λ xs. pos (min (length xs) 9); tagged = λ k x. x; number = λ v. v } };
 
-    ghost allocates = { λ o. record none_allocates { folded = o.scarce; list_of = o.scarce } };
+    ghost allocates = { λ o. record none_allocates { folded = o.scarce; copied = o.scarce; row_of = o.scarce; list_of = o.scarce } };
 
     ghost lawful = { λ o. record { map_fault = λ f x. Prim.search rules; test_fault = λ f x. Prim.search rules; fold_fault = λ f a x. Prim.search rules; key_fault = λ f x. Prim.search rules; expansion = λ f x. Prim.search rules } };
 
@@ -66,7 +65,13 @@ impl Ops for Numbers {
     }
 
     fn row(&self, alloc: Global, xs: &[i64]) -> Result<i64, NoMemory> {
-        Ok(0)
+        if self.scarce {
+            return Err(NoMemory);
+        }
+        if xs.is_empty() {
+            return Ok(0);
+        }
+        Ok(xs[xs.len() - 1])
     }
 
     fn list(&self, alloc: Global, xs: &[i64]) -> Result<i64, NoMemory> {
@@ -82,6 +87,9 @@ impl Ops for Numbers {
     }
 
     fn copy(&self, alloc: Global, x: &i64) -> Result<i64, NoMemory> {
+        if self.scarce {
+            return Err(NoMemory);
+        }
         Ok(*x)
     }
 

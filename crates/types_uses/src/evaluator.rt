@@ -31,18 +31,9 @@ fn numbers(alloc: Global, numbers: &[i64]) -> Result<Expr<Val>, NoMemory> {
     Ok(Expr::Items(items))
 }
 
-/// As many notes of nothing as an expression has nodes.
-fn unrecorded(alloc: Global, expr: &Expr<Val>) -> Result<Vec<Note>, NoMemory> {
-    let mut notes = Vec::new(alloc);
-    for _ in 0..nodes_of(expr) {
-        notes.push(Note::Nothing)?;
-    }
-    Ok(notes)
-}
-
 /// The value of an expression that reads no hub. Where a growth is refused, the evaluator is called once more.
 fn value(alloc: Global, expr: &Expr<Val>) -> Result<StreamValue<Val>, Fail> {
-    let notes = unrecorded(alloc, expr)?;
+    let notes = notes_of(alloc, false, nodes_of(expr))?;
     match scratch(alloc, &Demo, expr, &[], &[], notes.as_slice()) {
         Err(ScratchRefusal::NoMemory) => {
             Ok(scratch(alloc, &Demo, expr, &[], &[], notes.as_slice())?)
@@ -58,64 +49,109 @@ fn has_value(alloc: Global, expr: &Expr<Val>, text: &str) -> Result<bool, Fail> 
     Ok(shown.as_str() == text)
 }
 
-/// Whether the value of an operator over these numbers is printed as this text.
-fn gives(alloc: Global, stage: Stage<Val>, items: &[i64], text: &str) -> Result<bool, Fail> {
-    let expr = plain(alloc, stage, numbers(alloc, items)?)?;
-    has_value(alloc, &expr, text)
+/// An operator, with the number of its function, its size or its seed.
+#[derive(Clone, Copy)]
+enum Operator {
+    Map(u16),
+    Filter(u16),
+    Take(u64),
+    Scan(u16, i64),
+    Buffer(u64),
+    Distinct(u16),
 }
 
-/// Whether the value of an operator over what gives 1 and 2 and then fails is printed as this text.
-fn gives_behind(alloc: Global, stage: Stage<Val>, text: &str) -> Result<bool, Fail> {
-    let items = numbers(alloc, &[0, 1, i64::MAX])?;
-    let failing = plain(alloc, Stage::Map(INC), items)?;
-    let expr = plain(alloc, stage, failing)?;
-    has_value(alloc, &expr, text)
+impl Operator {
+    fn stage(self) -> Stage<Val> {
+        match self {
+            Operator::Map(f) => Stage::Map(f),
+            Operator::Filter(f) => Stage::Filter(f),
+            Operator::Take(count) => Stage::Take(count),
+            Operator::Scan(f, seed) => Stage::Scan(f, Val::Int(seed)),
+            Operator::Buffer(size) => Stage::Buffer(size),
+            Operator::Distinct(f) => Stage::Distinct(f),
+        }
+    }
+}
+
+/// Operators, the first one innermost, over these numbers, with the text of the value. What `inc` makes of the numbers of the last rows is
+/// 1 and 2, and then a failure.
+const VALUES: [(&[Operator], &[i64], &str); 16] = [
+    (&[Operator::Map(DOUBLE)], &[1, 2, 3], "[2, 4, 6] Done"),
+    (
+        &[Operator::Map(INC)],
+        &[1, i64::MAX, 3],
+        "[2] Failed(Function(1))",
+    ),
+    (&[Operator::Filter(POSITIVE)], &[-1, 0, 7], "[7] Done"),
+    (&[Operator::Take(0)], &[4, 1], "[] Done"),
+    (&[Operator::Take(2)], &[4, 1, 2], "[4, 1] Done"),
+    (
+        &[Operator::Buffer(2)],
+        &[4, 1, 2, 7, 3],
+        "[[4 1], [2 7], [3]] Done",
+    ),
+    (
+        &[Operator::Distinct(MOD_3)],
+        &[4, 1, 2, 7, 3],
+        "[4, 2, 3] Done",
+    ),
+    (&[Operator::Distinct(9)], &[4], "[] Failed(Function(4))"),
+    (
+        &[Operator::Scan(LARGER, 2)],
+        &[4, 1, 7],
+        "[2, 4, 4, 7] Done",
+    ),
+    (&[Operator::Scan(9, 100)], &[4], "[100] Failed(Function(4))"),
+    (
+        &[Operator::Map(INC), Operator::Scan(LARGER, 5)],
+        &[0, 1, i64::MAX],
+        "[5, 5, 5] Failed(Function(1))",
+    ),
+    (
+        &[Operator::Map(INC), Operator::Take(2)],
+        &[0, 1, i64::MAX],
+        "[1, 2] Done",
+    ),
+    (
+        &[Operator::Map(INC), Operator::Take(3)],
+        &[0, 1, i64::MAX],
+        "[1, 2] Failed(Function(1))",
+    ),
+    (
+        &[Operator::Map(INC), Operator::Buffer(2)],
+        &[0, 1, i64::MAX],
+        "[[1 2]] Failed(Function(1))",
+    ),
+    (
+        &[Operator::Map(INC), Operator::Buffer(3)],
+        &[0, 1, i64::MAX],
+        "[] Failed(Function(1))",
+    ),
+    (
+        &[Operator::Map(INC), Operator::Distinct(MOD_3)],
+        &[0, 1, i64::MAX],
+        "[1, 2] Failed(Function(1))",
+    ),
+];
+
+/// These operators, the first one innermost, over these numbers.
+fn over(alloc: Global, operators: &[Operator], items: &[i64]) -> Result<Expr<Val>, NoMemory> {
+    let mut expr = numbers(alloc, items)?;
+    for operator in operators {
+        expr = plain(alloc, operator.stage(), expr)?;
+    }
+    Ok(expr)
 }
 
 #[test]
 fn gives_the_worked_values(rt: HostRuntime) -> Result<(), Fail> {
     let alloc = rt.alloc();
-    let fault = "[2] Failed(Function(1))";
-    let lists = "[[4 1], [2 7], [3]] Done";
-    let firsts = "[4, 2, 3] Done";
-    assert!(rt; gives(alloc, Stage::Map(DOUBLE), &[1, 2, 3], "[2, 4, 6] Done")?);
-    assert!(rt; gives(alloc, Stage::Map(INC), &[1, i64::MAX, 3], fault)?);
-    assert!(rt; gives(alloc, Stage::Filter(POSITIVE), &[-1, 0, 7], "[7] Done")?);
-    assert!(rt; gives(alloc, Stage::Take(0), &[4, 1], "[] Done")?);
-    assert!(rt; gives(alloc, Stage::Take(2), &[4, 1, 2], "[4, 1] Done")?);
-    assert!(rt; gives(alloc, Stage::Buffer(2), &[4, 1, 2, 7, 3], lists)?);
-    assert!(rt; gives(alloc, Stage::Distinct(MOD_3), &[4, 1, 2, 7, 3], firsts)?);
-    assert!(rt; gives(alloc, Stage::Distinct(9), &[4], "[] Failed(Function(4))")?);
-    Ok(())
-}
-
-#[test]
-fn gives_the_accumulations(rt: HostRuntime) -> Result<(), Fail> {
-    let alloc = rt.alloc();
-    let larger = Stage::Scan(LARGER, Val::Int(2));
-    assert!(rt; gives(alloc, larger, &[4, 1, 7], "[2, 4, 4, 7] Done")?);
-    let unlisted = Stage::Scan(9, Val::Int(100));
-    assert!(rt; gives(alloc, unlisted, &[4], "[100] Failed(Function(4))")?);
-    Ok(())
-}
-
-#[test]
-fn gives_the_largest_numbers(rt: HostRuntime) -> Result<(), Fail> {
+    for (operators, items, text) in &VALUES {
+        let expr = over(alloc, operators, items)?;
+        assert!(rt; has_value(alloc, &expr, text)?, "{text}");
+    }
     let largest = "[9223372036854775806, 9223372036854775807] Done";
-    assert!(rt; has_value(rt.alloc(), &Expr::Range(i64::MAX - 1, 2), largest)?);
-    Ok(())
-}
-
-#[test]
-fn keeps_the_failure_of_an_input(rt: HostRuntime) -> Result<(), Fail> {
-    let alloc = rt.alloc();
-    let larger = Stage::Scan(LARGER, Val::Int(5));
-    assert!(rt; gives_behind(alloc, larger, "[5, 5, 5] Failed(Function(1))")?);
-    assert!(rt; gives_behind(alloc, Stage::Take(2), "[1, 2] Done")?);
-    assert!(rt; gives_behind(alloc, Stage::Take(3), "[1, 2] Failed(Function(1))")?);
-    assert!(rt; gives_behind(alloc, Stage::Buffer(2), "[[1 2]] Failed(Function(1))")?);
-    assert!(rt; gives_behind(alloc, Stage::Buffer(3), "[] Failed(Function(1))")?);
-    assert!(rt; gives_behind(alloc, Stage::Distinct(MOD_3), "[1, 2] Failed(Function(1))")?);
+    assert!(rt; has_value(alloc, &Expr::Range(i64::MAX - 1, 2), largest)?);
     Ok(())
 }
 
@@ -188,17 +224,42 @@ fn is_refused(
     Ok(shown.as_str() == text)
 }
 
+/// The length of a range, how many joins and how many empty notes of picks and of nothing are given for it, and why it has no value.
+const REFUSALS: [(u64, &[u64], bool, u64, &str); 4] = [
+    (5, &[], true, 0, UNFIT),
+    (5, &[], false, 0, UNFIT),
+    (5, &[0], false, 1, UNFIT),
+    (
+        1_000_001,
+        &[],
+        false,
+        0,
+        "M1: bad expression: a number is out of its limit",
+    ),
+];
+
+const UNFIT: &str = "M2: the notes or the joins do not fit the expression";
+
+/// A note of no picks, if that is asked for, and so many notes of nothing.
+fn notes_of(alloc: Global, has_picks: bool, count: u64) -> Result<Vec<Note>, NoMemory> {
+    let mut notes = Vec::new(alloc);
+    if has_picks {
+        notes.push(Note::Picks(Choices::new(Vec::new(alloc))))?;
+    }
+    for _ in 0..count {
+        notes.push(Note::Nothing)?;
+    }
+    Ok(notes)
+}
+
 #[test]
 fn names_each_refusal(rt: HostRuntime) -> Result<(), Fail> {
     let alloc = rt.alloc();
-    let range = Expr::Range(1, 5);
-    let chosen = [Note::Picks(Choices::new(Vec::new(alloc)))];
-    let unfit = "M2: the notes or the joins do not fit the expression";
-    let bad = "M1: bad expression: a number is out of its limit";
-    assert!(rt; is_refused(alloc, &range, &[], &chosen, unfit)?);
-    assert!(rt; is_refused(alloc, &range, &[], &[], unfit)?);
-    assert!(rt; is_refused(alloc, &range, &[0], &[Note::Nothing], unfit)?);
-    assert!(rt; is_refused(alloc, &Expr::Range(1, 1_000_001), &[], &[], bad)?);
+    for (length, joins, has_picks, count, text) in &REFUSALS {
+        let notes = notes_of(alloc, *has_picks, *count)?;
+        let range = Expr::Range(1, *length);
+        assert!(rt; is_refused(alloc, &range, joins, &notes, text)?, "{length}");
+    }
     Ok(())
 }
 
@@ -208,17 +269,20 @@ fn is_kind(alloc: Global, kind: BadExpr, text: &str) -> Result<bool, NoMemory> {
     Ok(shown.as_str() == text)
 }
 
+/// The kinds of bad expressions, with the number and the text of each.
+const LIMITS: [(BadExpr, &str); 6] = [
+    (BadExpr::Depth, "1: the expression is deeper than 32 nodes"),
+    (BadExpr::Nodes, "2: the expression has more than 256 nodes"),
+    (BadExpr::Inputs, "3: a node has no inputs, or more than 16"),
+    (BadExpr::Number, "4: a number is out of its limit"),
+    (BadExpr::Hub, "6: no such hub"),
+    (BadExpr::Length, "7: a list has more than 1024 items"),
+];
+
 #[test]
 fn prints_each_limit(rt: HostRuntime) -> Result<(), Fail> {
-    let alloc = rt.alloc();
-    let deep = "1: the expression is deeper than 32 nodes";
-    let large = "2: the expression has more than 256 nodes";
-    let inputs = "3: a node has no inputs, or more than 16";
-    assert!(rt; is_kind(alloc, BadExpr::Depth, deep)?);
-    assert!(rt; is_kind(alloc, BadExpr::Nodes, large)?);
-    assert!(rt; is_kind(alloc, BadExpr::Inputs, inputs)?);
-    assert!(rt; is_kind(alloc, BadExpr::Number, "4: a number is out of its limit")?);
-    assert!(rt; is_kind(alloc, BadExpr::Hub, "6: no such hub")?);
-    assert!(rt; is_kind(alloc, BadExpr::Length, "7: a list has more than 1024 items")?);
+    for (kind, text) in &LIMITS {
+        assert!(rt; is_kind(rt.alloc(), *kind, text)?, "{text}");
+    }
     Ok(())
 }
