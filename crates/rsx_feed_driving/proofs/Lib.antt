@@ -1,5 +1,6 @@
 -- Lemmas about moves of rows with feeds.
 pub mod Driving
+pub mod Keeping
 pub mod Named
 pub mod Serving
 pub mod Turns

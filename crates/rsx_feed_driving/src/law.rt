@@ -1,9 +1,10 @@
-//! That idle means delivered, of graphs with feeds.
+//! That idle means delivered, of graphs with feeds, and that moves keep of which hub each feed is.
 
+ghost use Rattle.std.specs.Prelude.{◌≡◌, List, map};
 ghost use Rattle.rsx_feeding.specs.History.{History};
 ghost use Rattle.rsx_feeding.specs.Stands.{Rows, StandsFor};
 ghost use Rattle.rsx_types.specs.Meaning.{Meaning};
-ghost use Rattle.rsx_feed_driving.specs.Pumped.{IsAllQuiet};
+ghost use Rattle.rsx_feed_driving.specs.Pumped.{IsAllQuiet, LeadTo, Made};
 ghost use Rattle.rsx_feed_driving.specs.Served.{IsServed};
 
 use rsx_types::Ops;
@@ -16,4 +17,13 @@ use rsx_types::Ops;
 /// [`crate::pump`] answers Idle only where no move is enabled. The function does nothing; its contract is the sentence.
 pub fn idle_means_delivered<O: Ops>()
     ensures { (m : Meaning O.Item) (g : Rows O.Item) (h : History O.Item) → StandsFor m g h → IsAllQuiet m g → IsServed m g h }
+{}
+
+/// Moves keep of which hub each feed is: however many are made one after the other, so many feeds stand there as before, each in its
+/// place and of the same hub.
+///
+/// The function does nothing; its contract is the sentence.
+pub fn feeds_keep_their_hubs<O: Ops>()
+    ensures { (m : Meaning O.Item) (old new : Rows O.Item) (moves : List (Made O.Item)) → LeadTo m old moves new →
+        map (λ f. f.hub) new.feeds ≡ map (λ f. f.hub) old.feeds }
 {}

@@ -1,7 +1,7 @@
 #![tactic(auto)]
 //! The moves of hubs, feeds and subscriptions that stand in rows and are named by their numbers.
 //!
-//! - [`law`]: [`idle_means_delivered`], as the contract of one function.
+//! - [`law`]: [`idle_means_delivered`] and [`feeds_keep_their_hubs`], each as the contract of one function.
 //! - [`moves`]: [`make`], one move of a subscription, of a hub or of a hub's feed.
 //! - [`rounds`]: [`pump`], moves of subscriptions, hubs and feeds until none is enabled.
 //!
@@ -13,6 +13,6 @@ pub mod law;
 pub mod moves;
 pub mod rounds;
 
-pub use law::idle_means_delivered;
+pub use law::{feeds_keep_their_hubs, idle_means_delivered};
 pub use moves::make;
 pub use rounds::pump;
