@@ -21,7 +21,7 @@ use Rattle.rsx_feed_edits.proofs.Subscribers.{subs_more}
 -- ---- one element more behind a list
 
 -- what stands there is one of the others, or the last
-last_or : {A : Type 0} (xs : List A) (x : A) (i : ℕ) (y : A) → slice_get (xs ++ x ∷ []) i ≡ Some y → (slice_get xs i ≡ Some y) ⊎ ((i ≡ length xs) × (x ≡ y))
+pub last_or : {A : Type 0} (xs : List A) (x : A) (i : ℕ) (y : A) → slice_get (xs ++ x ∷ []) i ≡ Some y → (slice_get xs i ≡ Some y) ⊎ ((i ≡ length xs) × (x ≡ y))
 last_or [] x zero y e = inr (refl, some_same x y e)
 last_or [] x (suc i) y e = cc
 last_or (z ∷ xs) x zero y e = inl e
@@ -32,7 +32,7 @@ within [] i y e = cc
 within (x ∷ xs) zero y e = omega arith
 within (x ∷ xs) (suc i) y e = let k = within xs i y e in omega (arith, k)
 
-still_there : {A : Type 0} (xs : List A) (x : A) (i : ℕ) (y : A) → slice_get xs i ≡ Some y → slice_get (xs ++ x ∷ []) i ≡ Some y
+pub still_there : {A : Type 0} (xs : List A) (x : A) (i : ℕ) (y : A) → slice_get xs i ≡ Some y → slice_get (xs ++ x ∷ []) i ≡ Some y
 still_there [] x i y e = cc
 still_there (z ∷ xs) x zero y e = e
 still_there (z ∷ xs) x (suc i) y e = still_there xs x i y e

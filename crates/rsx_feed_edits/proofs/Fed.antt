@@ -48,7 +48,7 @@ members_stand m fs taken i k v s p h = record {
   source = members_source m fs taken i k v s p.source h.source;
 }
 
-hub_joined : {T : Type 0} (m : Meaning T) (e : Expr T) (old : Rows T) (mids : List (HubState T)) (h : History T) → HaveJoinedFrom 0 e old.hubs mids → (s : StandsFor m old h) → HubsStand m (rows_of mids old.feeds old.subs) s.taken h.hubs
+pub hub_joined : {T : Type 0} (m : Meaning T) (e : Expr T) (old : Rows T) (mids : List (HubState T)) (h : History T) → HaveJoinedFrom 0 e old.hubs mids → (s : StandsFor m old h) → HubsStand m (rows_of mids old.feeds old.subs) s.taken h.hubs
 hub_joined {T} m e old mids h j s i v t p a b c =
     let was = member_there 0 e old.hubs mids j i t b in
     let P : HubState T → Type 0 = λ u. HubStands m old.feeds s.taken i v u p in
@@ -56,7 +56,7 @@ hub_joined {T} m e old mids h j s i v t p a b c =
 
 -- ---- what a new feed finds
 
-as_taken : {T : Type 0} (hubs : List (HubState T)) (vs : List (Stream T)) (ps : List (HubPast T)) → ((i : ℕ) (v : Stream T) (s : HubState T) (p : HubPast T) → slice_get vs i ≡ Some v → slice_get hubs i ≡ Some s → slice_get ps i ≡ Some p → IsTaken s v × (s.kind ≡ p.kind) × (s.count ≡ p.count)) →
+pub as_taken : {T : Type 0} (hubs : List (HubState T)) (vs : List (Stream T)) (ps : List (HubPast T)) → ((i : ℕ) (v : Stream T) (s : HubState T) (p : HubPast T) → slice_get vs i ≡ Some v → slice_get hubs i ≡ Some s → slice_get ps i ≡ Some p → IsTaken s v × (s.kind ≡ p.kind) × (s.count ≡ p.count)) →
     length hubs ≡ length ps → length vs ≡ length ps → AreTaken hubs vs × (joins_now hubs ≡ map (λ p. join p.kind p.count) ps)
 as_taken [] [] [] k a b = (tt, refl)
 as_taken [] vs (p ∷ ps) k a b = absurd (omega (arith, a))

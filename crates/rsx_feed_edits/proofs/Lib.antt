@@ -1,5 +1,7 @@
 -- Lemmas about edits of rows with feeds.
 pub mod Behind
 pub mod Fed
+pub mod Kept
 pub mod Leaves
+pub mod Subscribed
 pub mod Subscribers

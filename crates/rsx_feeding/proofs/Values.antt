@@ -50,7 +50,7 @@ then_inbox {T} true v u e k = by_ending u.ending refl
     by_ending Done is = ap (λ x. more_after x v u) (e ∙ is) ∙ whole
     by_ending (Failed c) is = ap (λ x. more_after x v u) (e ∙ is) ∙ whole
 
-emitted_value : {T : Type 0} (s : HubState T) (v w : Stream T) → IsTaken s v → (s.has_ended ≡ true → s.inbox ≡ []) → w ≡ hub_value s v.items → published_then v (waiting_of s) ≡ w
+pub emitted_value : {T : Type 0} (s : HubState T) (v w : Stream T) → IsTaken s v → (s.has_ended ≡ true → s.inbox ≡ []) → w ≡ hub_value s v.items → published_then v (waiting_of s) ≡ w
 emitted_value s v w k none is = then_inbox s.has_ended v (waiting_of s) k.ending (λ e. (none e, k.closed e)) ∙ sym is
 
 -- ---- a hub with a feed
@@ -60,7 +60,7 @@ items_first [] ss u = refl
 items_first (x ∷ xs) ss u = ap (λ v. record { items = x ∷ v.items; ending = v.ending }) (items_first xs ss u)
 
 -- the signals of what it took in, and then what is still to come
-then_signals : {T : Type 0} (v u : Stream T) → signals_then (signals v) u ≡ published_then v u
+pub then_signals : {T : Type 0} (v u : Stream T) → signals_then (signals v) u ≡ published_then v u
 then_signals {T} v u = by_ending v.ending refl
   where
     first : signals_then (signals v) u ≡ items_then v.items (signals_then (ending_signals v.ending) u)
@@ -71,13 +71,13 @@ then_signals {T} v u = by_ending v.ending refl
     by_ending Done is = first ∙ (ap (λ x. items_then v.items (signals_then (ending_signals x) u)) is ∙ (same_value (record { items = v.items ++ []; ending = Done }) v (append-nil v.items) (sym is) ∙ sym (ap (λ x. more_after x v u) is)))
     by_ending (Failed c) is = first ∙ (ap (λ x. items_then v.items (signals_then (ending_signals x) u)) is ∙ (same_value (record { items = v.items ++ []; ending = Failed c }) v (append-nil v.items) (sym is) ∙ sym (ap (λ x. more_after x v u) is)))
 
-take_front : {A : Type 0} (n : ℕ) (xs ys : List A) → n ≡ length xs → take n (xs ++ ys) ≡ xs
+pub take_front : {A : Type 0} (n : ℕ) (xs ys : List A) → n ≡ length xs → take n (xs ++ ys) ≡ xs
 take_front zero [] ys e = refl
 take_front (suc n) [] ys e = absurd (omega (arith, e))
 take_front zero (x ∷ xs) ys e = absurd (omega (arith, e))
 take_front (suc n) (x ∷ xs) ys e = ap (λ l. x ∷ l) (take_front n xs ys (omega (arith, e)))
 
-behind_front : {A : Type 0} (n : ℕ) (xs : List A) (y : A) (ys : List A) → n ≡ length xs → slice_get (xs ++ y ∷ ys) n ≡ Some y
+pub behind_front : {A : Type 0} (n : ℕ) (xs : List A) (y : A) (ys : List A) → n ≡ length xs → slice_get (xs ++ y ∷ ys) n ≡ Some y
 behind_front zero [] y ys e = refl
 behind_front (suc n) [] y ys e = absurd (omega (arith, e))
 behind_front zero (x ∷ xs) y ys e = absurd (omega (arith, e))
@@ -110,7 +110,7 @@ next_value {T} m feeds front waiting back i v s p many at k = by_source p.source
 
 -- ---- all hubs
 
-one_behind : {T : Type 0} (xs us : List (Stream T)) (v u : Stream T) → length us ≡ length xs → values_then (xs ++ v ∷ []) (us ++ u ∷ []) ≡ values_then xs us ++ published_then v u ∷ []
+pub one_behind : {T : Type 0} (xs us : List (Stream T)) (v u : Stream T) → length us ≡ length xs → values_then (xs ++ v ∷ []) (us ++ u ∷ []) ≡ values_then xs us ++ published_then v u ∷ []
 one_behind [] [] v u e = refl
 one_behind [] (w ∷ us) v u e = absurd (omega (arith, e))
 one_behind (x ∷ xs) [] v u e = absurd (omega (arith, e))
