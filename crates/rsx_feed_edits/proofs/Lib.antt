@@ -2,4 +2,6 @@
 pub mod Behind
 pub mod Fed
 pub mod Leaves
+pub mod Names
+pub mod Published
 pub mod Subscribers

@@ -1,2 +1,4 @@
 -- Definitions that contracts cite.
 pub mod Edits
+pub mod Publishes
+pub mod Requests

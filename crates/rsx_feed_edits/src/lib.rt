@@ -3,11 +3,18 @@
 //!
 //! - [`feed_hubs`]: [`feed_hub`], a new hub that is fed by an expression.
 //! - [`hubs`]: [`hub`], a new hub with an emitter.
+//! - [`publishing`]: [`emit`], [`complete`] and [`fail`], at a hub with an emitter.
+//! - [`requests`]: [`request`] and [`cancel`] of a subscription.
 //!
-//! The definitions stand in `specs/`: `Edits` (what has happened by each edit, and why it is refused).
+//! The definitions stand in `specs/`: `Edits` (what has happened by each edit, and why it is refused), `Publishes` (the same of what
+//! is published) and `Requests` (what a subscriber did).
 
 pub mod feed_hubs;
 pub mod hubs;
+pub mod publishing;
+pub mod requests;
 
 pub use feed_hubs::feed_hub;
 pub use hubs::hub;
+pub use publishing::{NotEmitted, complete, emit, emit_copy, fail};
+pub use requests::{cancel, request};
