@@ -3,5 +3,7 @@ pub mod Behind
 pub mod Fed
 pub mod Kept
 pub mod Leaves
+pub mod Names
+pub mod Published
 pub mod Subscribed
 pub mod Subscribers

@@ -1,4 +1,6 @@
 -- Definitions that contracts cite.
 pub mod Edits
 pub mod Joins
+pub mod Publishes
+pub mod Requests
 pub mod Subscribing
