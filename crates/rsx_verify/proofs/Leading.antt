@@ -12,7 +12,7 @@ use Rattle.rsx_trace.specs.declared.event.Event.TheVariants as event
 use Rattle.rsx_history.specs.Stands.{GraphState, IsAsideSame, IsRequestedAt, StandsFor, nothing}
 use Rattle.rsx_verify.specs.declared.act.Act.{Act}
 use Rattle.rsx_verify.specs.Events.{beginning, stamped, delivery}
-use Rattle.rsx_tck.specs.declared.rule.Verdict.{Verdict}
+use Rattle.rsx_verify.specs.declared.line.Line.{Line}
 use Rattle.rsx_verify.specs.Reports.{AreLines, AreVerified, IsLine, publisher_acts, cancel_acts, bad_request_acts}
 use Rattle.rsx_verify.specs.Runs.{IsRequestOf, subscriber, IsActed, IsBegun, IsRunTo, IsRecorded, Leads}
 
@@ -70,7 +70,7 @@ request_answered {T} m n old new o s t t' t'' first second is effect aside stand
     )
 
 -- the three runs, judged
-pub verified_from : {T : Type 0} (m : Meaning T) (e : Expr T) (p c b p' c' b' : List Stamped) (lines : List (ℕ × Verdict)) → IsRecorded m e publisher_acts p → IsRecorded m e cancel_acts c → IsRecorded m e bad_request_acts b →
+pub verified_from : {T : Type 0} (m : Meaning T) (e : Expr T) (p c b p' c' b' : List Stamped) (lines : List Line) → IsRecorded m e publisher_acts p → IsRecorded m e cancel_acts c → IsRecorded m e bad_request_acts b →
     p' ≡ p → c' ≡ c → b' ≡ b → AreLines (IsLine p' c' b') lines → AreVerified m e lines
 verified_from {T} m e p c b p' c' b' lines published cancelled requested ep ec eb judged =
     let P : List Stamped → Type 0 = λ t. IsRecorded m e publisher_acts t in

@@ -1,4 +1,11 @@
 -- Lemmas about runs.
+pub mod Acting
+pub mod Counted
+pub mod Kept
 pub mod Leading
 pub mod Lines
 pub mod Once
+pub mod Ordered
+pub mod Progress
+pub mod Signalled
+pub mod Subscribed

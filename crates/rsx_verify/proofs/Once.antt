@@ -1,13 +1,12 @@
 -- A run has one Subscribe and one OnSubscribe.
-use Rattle.std.proofs.Common.{◌≡◌, ℕ, ℤ, zero, suc, ◌<◌, ◌==◌, Bool, true, false, List, [], ◌∷◌, ◌++◌, take, refl, sym, subst, arith, Option, Some, None, IsTrue}
+use Rattle.std.proofs.Common.{◌≡◌, ℕ, ℤ, zero, suc, ◌==◌, Bool, false, List, [], ◌∷◌, ◌++◌, take, refl, sym, subst, arith, Option, Some, None}
 use Rattle.std.proofs.lemmas.Bool.{and_parts, and_right}
 use Rattle.rsx_trace.specs.declared.event.Event.{Event}
 use Rattle.rsx_trace.specs.declared.event.Event.TheVariants as event
 use Rattle.rsx_trace.specs.declared.event.Stamped.{Stamped}
-use Rattle.rsx_trace.specs.Events.{of, of_on, subscriber_of, is_subscribe, is_on_subscribe}
+use Rattle.rsx_trace.specs.Events.{of, subscriber_of, is_subscribe, is_on_subscribe}
 use Rattle.rsx_types.specs.Meaning.{Meaning}
 use Rattle.rsx_types.specs.declared.names.SubId.{SubId}
-use Rattle.rsx_types.specs.declared.signal.Cause.{Cause}
 use Rattle.rsx_types.specs.declared.signal.Signal.{Signal}
 use Rattle.rsx_types.specs.declared.signal.Signal.TheVariants.{Next, Complete, Error}
 use Rattle.rsx_model.specs.declared.expr.Expr.{Expr}
@@ -18,8 +17,15 @@ use Rattle.rsx_tck.specs.Laws.Positions.{at-none}
 use Rattle.rsx_verify.specs.declared.act.Act.{Act}
 use Rattle.rsx_verify.specs.declared.act.Act.TheVariants.{Request, Cancel, Pump}
 use Rattle.rsx_verify.specs.Events.{answered, beginning, deliveries, delivery, event_of, stamped}
-use Rattle.rsx_verify.specs.Kept.{IsOnceBegun}
+use Rattle.rsx_tck.specs.declared.rule.Rule.TheVariants as rule
+use Rattle.rsx_verify.specs.Kept.{IsKept}
 use Rattle.rsx_verify.specs.Runs.{IsActed, IsRecorded, Leads, subscriber}
+
+-- a subscriber subscribes once, and is handed one subscription
+pub record IsOnceBegun (t : List Stamped) : Type 0 where
+  pub subscribe : IsKept rule.Rule1_10 t
+  pub on_subscribe : IsKept rule.Rule2_12 t
+  pub refused : IsKept rule.Rule2_5 t
 
 -- no p stands in a list
 abbrev pub Nowhere : (Stamped → Bool) → List Stamped → Type 0

@@ -4,3 +4,4 @@ pub mod Kept
 pub mod Refusals
 pub mod Reports
 pub mod Runs
+pub mod Texts

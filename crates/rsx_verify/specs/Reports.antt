@@ -10,6 +10,7 @@ use Rattle.rsx_tck.specs.declared.rule.Verdict.{Verdict}
 use Rattle.rsx_tck.specs.declared.rule.Verdict.TheVariants.{Held, Broken, NotJudged}
 use Rattle.rsx_verify.specs.declared.act.Act.{Act}
 use Rattle.rsx_verify.specs.declared.act.Act.TheVariants.{Request, Cancel, Pump}
+use Rattle.rsx_verify.specs.declared.line.Line.{Line}
 use Rattle.rsx_verify.specs.Runs.{IsRecorded}
 
 -- the run of a publisher: an item, and then all that there are
@@ -33,18 +34,28 @@ is_broken (NotJudged c) = false
 abbrev pub first_broken : Verdict → Verdict → Verdict → ℕ × Verdict
 first_broken a b c = if is_broken a then (1, a) else (if is_broken b then (2, b) else (if is_broken c then (3, c) else (0, a)))
 
+abbrev pub line_of : Rule → ℕ × Verdict → Line
+line_of r v = record { rule = r; run = v.0; verdict = v.1 }
+
 -- the line of a rule, from what each of three traces says of it
-abbrev pub IsLine : List Stamped → List Stamped → List Stamped → Rule → ℕ × Verdict → Type 0
+abbrev pub IsLine : List Stamped → List Stamped → List Stamped → Rule → Line → Type 0
 IsLine t t' t'' r line =
-    (a : Verdict) × ((b : Verdict) × ((c : Verdict) × (Judged r t a × Judged r t' b × Judged r t'' c × (line ≡ first_broken a b c))))
+    (a : Verdict) × ((b : Verdict) × ((c : Verdict) × (Judged r t a × Judged r t' b × Judged r t'' c × (line ≡ line_of r (first_broken a b c)))))
 
 -- a line for each rule, in the order of the rules
-abbrev pub AreLines : (Rule → ℕ × Verdict → Type 0) → List (ℕ × Verdict) → Type 0
+abbrev pub AreLines : (Rule → Line → Type 0) → List Line → Type 0
 AreLines P lines =
-    (length lines ≡ 43) × ((k : ℕ) (r : Rule) → slice_get all_rules k ≡ Some r → (line : ℕ × Verdict) × (slice_get lines k ≡ Some line) × P r line)
+    (length lines ≡ 43) × ((k : ℕ) (r : Rule) → slice_get all_rules k ≡ Some r → (line : Line) × (slice_get lines k ≡ Some line) × P r line)
+
+-- no run breaks the line's rule
+abbrev pub IsUnbroken : Line → Type 0
+IsUnbroken line = (line.run ≡ 0) × (is_broken line.verdict ≡ false)
+
+abbrev pub AreUnbroken : List Line → Type 0
+AreUnbroken lines = (k : ℕ) (line : Line) → slice_get lines k ≡ Some line → IsUnbroken line
 
 -- the lines say what the three runs of the expression say of the rules
-pub record AreVerified {T : Type 0} (m : Meaning T) (e : Expr T) (lines : List (ℕ × Verdict)) : Type 0 where
+pub record AreVerified {T : Type 0} (m : Meaning T) (e : Expr T) (lines : List Line) : Type 0 where
   pub publisher : List Stamped
   pub cancel : List Stamped
   pub bad_request : List Stamped

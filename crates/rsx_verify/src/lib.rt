@@ -4,9 +4,11 @@
 //! - [`act`]: [`Act`], what a run does to its subscription.
 //! - [`recording`]: [`record`], the events of a run.
 //! - [`runs`]: the three runs by which an expression is verified, and [`verify`], what they say of the rules.
+//! - [`line`]: [`Line`], what the runs say of a rule, and [`print_lines`].
 //! - [`refusal`]: [`VerifyRefusal`], why an expression isn't run.
 
 pub mod act;
+pub mod line;
 mod note;
 pub mod recording;
 pub mod refusal;
@@ -14,6 +16,7 @@ mod reports;
 pub mod runs;
 
 pub use act::Act;
+pub use line::{Line, print_lines};
 pub use recording::record;
 pub use refusal::VerifyRefusal;
 pub use runs::{bad_request_run, cancel_run, publisher_run, verify};

@@ -4,7 +4,7 @@ ghost use Rattle.std.specs.Prelude.{◌≡◌, ◌++◌, List, None, IfOk, IfErr
 ghost use Rattle.rsx_model.specs.Check.{refusal};
 ghost use Rattle.rsx_trace.specs.declared.event.Stamped.{Stamped};
 ghost use Rattle.rsx_verify.specs.Events.{beginning};
-ghost use Rattle.rsx_verify.specs.Kept.{IsOnceBegun};
+ghost use Rattle.rsx_verify.specs.Kept.{AreKept};
 ghost use Rattle.rsx_verify.specs.Refusals.{IsVerifyRefusal};
 ghost use Rattle.rsx_verify.specs.Runs.{IsActed, IsBegun, IsCancelOf, IsPumpOf, IsRecorded, IsRequestOf};
 
@@ -102,7 +102,7 @@ impl<O: Ops> Recording<O> {
 
 /// The events of a run: a subscription to the expression on a fresh graph, and then these acts, in their order. A subscription
 /// is recorded as Subscribe, OnSubscribe and Exit, a signal that was delivered as itself and Exit, and an edit before its
-/// effect. All of it happens on worker 0, to the subscriber 0.
+/// effect. All of it happens on worker 0, to the subscriber 0. Whatever the acts are, the events break none of the 43 rules.
 ///
 /// # Errors
 /// M1 exactly where the expression goes past a limit or reads a hub, else M3 where a growth was refused.
@@ -114,8 +114,8 @@ pub fn record<O: Ops>(
 ) -> Result<Vec<Stamped>, VerifyRefusal>
     ensures recorded { IfOk result (λ events. IsRecorded (O.meaning ops) expr.now acts.now events.items) }
 
-    // Whatever the acts are, the rules 1.10, 2.5 and 2.12 are kept.
-    ensures once { IfOk result (λ events. IsOnceBegun events.items) }
+    // Whatever the acts are, each rule is kept.
+    ensures kept { IfOk result (λ events. AreKept events.items) }
     ensures err { IfErr result (λ r. IsVerifyRefusal expr.now r) }
 {
     let mut recording = Recording::begin(alloc, ops, expr)?;

@@ -3,6 +3,7 @@
 ghost use Rattle.std.specs.Prelude.{◌≡◌};
 ghost use Rattle.rsx_verify.specs.Reports.{AreLines, IsLine, first_broken};
 
+use crate::line::Line;
 use rsx_tck::{Rule, Stamped, Verdict, judge};
 
 /// The first of three verdicts by which a rule is broken, with its number; 0 and the first where none is.
@@ -18,14 +19,23 @@ fn first_broken(first: Verdict, second: Verdict, third: Verdict) -> (u32, Verdic
 }
 
 /// What three traces say of the rules, in their order.
-pub fn judge_runs(first: &[Stamped], second: &[Stamped], third: &[Stamped]) -> [(u32, Verdict); 43]
+pub fn judge_runs(first: &[Stamped], second: &[Stamped], third: &[Stamped]) -> [Line; 43]
     ensures { AreLines (IsLine first.now second.now third.now) result }
 {
     let rules = Rule::all();
-    let mut lines = [(0, Verdict::Held); 43];
+    let mut lines = [Line {
+        rule: Rule::Rule1_1,
+        run: 0,
+        verdict: Verdict::Held,
+    }; 43];
     for position in 0..43 {
         let rule = rules[position];
-        lines[position] = first_broken(judge(rule, first), judge(rule, second), judge(rule, third));
+        let (run, verdict) = first_broken(
+            judge(rule, first),
+            judge(rule, second),
+            judge(rule, third),
+        );
+        lines[position] = Line { rule, run, verdict };
     }
     lines
 }

@@ -1,17 +1,18 @@
 //! The runs by which an expression is verified.
 
 ghost use Rattle.std.specs.Prelude.{IfOk, IfErr};
-ghost use Rattle.rsx_verify.specs.Kept.{IsOnceBegun};
+ghost use Rattle.rsx_verify.specs.Kept.{AreKept};
 ghost use Rattle.rsx_verify.specs.Refusals.{IsVerifyRefusal};
-ghost use Rattle.rsx_verify.specs.Reports.{AreVerified, publisher_acts, cancel_acts, bad_request_acts};
+ghost use Rattle.rsx_verify.specs.Reports.{AreUnbroken, AreVerified, publisher_acts, cancel_acts, bad_request_acts};
 ghost use Rattle.rsx_verify.specs.Runs.{IsRecorded};
 
 use crate::act::Act;
+use crate::line::Line;
 use crate::recording::record;
 use crate::refusal::VerifyRefusal;
 use crate::reports::judge_runs;
 use rsx_model::Expr;
-use rsx_tck::{Stamped, Verdict};
+use rsx_tck::Stamped;
 use rsx_types::Ops;
 use std::alloc::Global;
 
@@ -25,7 +26,7 @@ pub fn publisher_run<O: Ops>(
     expr: &Expr<O::Item>,
 ) -> Result<Vec<Stamped>, VerifyRefusal>
     ensures recorded { IfOk result (λ events. IsRecorded (O.meaning ops) expr.now publisher_acts events.items) }
-    ensures once { IfOk result (λ events. IsOnceBegun events.items) }
+    ensures kept { IfOk result (λ events. AreKept events.items) }
     ensures err { IfErr result (λ r. IsVerifyRefusal expr.now r) }
 {
     let acts = [
@@ -47,7 +48,7 @@ pub fn cancel_run<O: Ops>(
     expr: &Expr<O::Item>,
 ) -> Result<Vec<Stamped>, VerifyRefusal>
     ensures recorded { IfOk result (λ events. IsRecorded (O.meaning ops) expr.now cancel_acts events.items) }
-    ensures once { IfOk result (λ events. IsOnceBegun events.items) }
+    ensures kept { IfOk result (λ events. AreKept events.items) }
     ensures err { IfErr result (λ r. IsVerifyRefusal expr.now r) }
 {
     let acts = [
@@ -70,7 +71,7 @@ pub fn bad_request_run<O: Ops>(
     expr: &Expr<O::Item>,
 ) -> Result<Vec<Stamped>, VerifyRefusal>
     ensures recorded { IfOk result (λ events. IsRecorded (O.meaning ops) expr.now bad_request_acts events.items) }
-    ensures once { IfOk result (λ events. IsOnceBegun events.items) }
+    ensures kept { IfOk result (λ events. AreKept events.items) }
     ensures err { IfErr result (λ r. IsVerifyRefusal expr.now r) }
 {
     let acts = [Act::Request(0), Act::Pump, Act::Request(-1), Act::Pump];
@@ -78,7 +79,8 @@ pub fn bad_request_run<O: Ops>(
 }
 
 /// What the three runs of an expression say of the rules: a line for each of the 43, in their order. A line has the number
-/// of the first run that breaks the rule and what that run says of it, or 0 and what the first run says of it.
+/// of the first run that breaks the rule and what that run says of it, or 0 and what the first run says of it. None of the
+/// lines is broken: each has the number 0, and the 13 rules that are judged are held.
 ///
 /// # Errors
 /// M1 exactly where the expression goes past a limit or reads a hub, else M3 where a growth was refused.
@@ -86,8 +88,9 @@ pub fn verify<O: Ops>(
     alloc: Global,
     ops: O,
     expr: &Expr<O::Item>,
-) -> Result<[(u32, Verdict); 43], VerifyRefusal>
+) -> Result<[Line; 43], VerifyRefusal>
     ensures verified { IfOk result (λ lines. AreVerified (O.meaning ops) expr.now lines) }
+    ensures unbroken { IfOk result (λ lines. AreUnbroken lines) }
     ensures err { IfErr result (λ r. IsVerifyRefusal expr.now r) }
 {
     let publisher = publisher_run(alloc, ops, expr)?;

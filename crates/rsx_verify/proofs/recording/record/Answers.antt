@@ -1,7 +1,7 @@
 use Rattle.std.proofs.Common.{ap, ◌∙◌, arith}
 use Rattle.rsx_graph.specs.InGraph.{state_of}
 use Rattle.rsx_verify.proofs.Leading.{run_more, run_all}
-use Rattle.rsx_verify.proofs.Once.{once_begun}
+use Rattle.rsx_verify.proofs.Kept.{recorded_kept}
 use Rattle.rsx_verify.proofs.recording.record.Goals as goal
 
 pub loop-act-preserved : goal.loop-act-preserved
@@ -17,5 +17,5 @@ loop-act-preserved g c =
 pub returns-clause-recorded : goal.returns-clause-recorded
 returns-clause-recorded g c = run_all (g.O.Ops.meaning c.args.ops) c.args.expr.now c.args.acts.now c.loop-act.act-index c.loop-act.recording.events.items (state_of c.loop-act.recording.graph) (omega (arith, c.loop-act-test.false)) c.loop-act.invariant.run
 
-pub returns-clause-once : goal.returns-clause-once
-returns-clause-once g c = once_begun (g.O.Ops.meaning c.args.ops) c.args.expr.now c.args.acts.now c.loop-act.recording.events.items (run_all (g.O.Ops.meaning c.args.ops) c.args.expr.now c.args.acts.now c.loop-act.act-index c.loop-act.recording.events.items (state_of c.loop-act.recording.graph) (omega (arith, c.loop-act-test.false)) c.loop-act.invariant.run)
+pub returns-clause-kept : goal.returns-clause-kept
+returns-clause-kept g c = recorded_kept (g.O.Ops.meaning c.args.ops) c.args.expr.now c.args.acts.now c.loop-act.recording.events.items (run_all (g.O.Ops.meaning c.args.ops) c.args.expr.now c.args.acts.now c.loop-act.act-index c.loop-act.recording.events.items (state_of c.loop-act.recording.graph) (omega (arith, c.loop-act-test.false)) c.loop-act.invariant.run)

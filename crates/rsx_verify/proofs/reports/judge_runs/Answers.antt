@@ -1,16 +1,16 @@
-use Rattle.std.proofs.Common.{◌∙◌, arith}
+use Rattle.std.proofs.Common.{◌∙◌, ap, arith}
 use Rattle.std.proofs.lemmas.List.{length-set}
 use Rattle.std.proofs.lemmas.Option.{slice_get_within}
 use Rattle.rsx_tck.specs.Rule.{all_rules}
-use Rattle.rsx_verify.specs.Reports.{IsLine}
+use Rattle.rsx_verify.specs.Reports.{IsLine, line_of}
 use Rattle.rsx_verify.proofs.Lines.{lines_more}
 use Rattle.rsx_verify.proofs.reports.judge_runs.Goals as goal
 
 pub loop-position-preserved : goal.loop-position-preserved
 loop-position-preserved c = record {
   all = length-set c.loop-position.lines c.loop-position.position _ ∙ c.loop-position.invariant.all;
-  so_far = lines_more (IsLine c.args.first.now c.args.second.now c.args.third.now) c.all-rules.result c.loop-position.lines c.loop-position.position _ c.first_broken.result c.all-rules.ensures
-      (omega (arith, c.loop-position.invariant.all, c.loop-position-test.true)) (c.judge.result, (c.judge-in-loop-position.result, (c.judge-in-loop-position-2.result, (c.judge.ensures, c.judge-in-loop-position.ensures, c.judge-in-loop-position-2.ensures, c.first_broken.ensures)))) c.loop-position.invariant.so_far;
+  so_far = lines_more (IsLine c.args.first.now c.args.second.now c.args.third.now) c.all-rules.result c.loop-position.lines c.loop-position.position _ _ c.all-rules.ensures
+      (omega (arith, c.loop-position.invariant.all, c.loop-position-test.true)) (c.judge.result, (c.judge-in-loop-position.result, (c.judge-in-loop-position-2.result, (c.judge.ensures, c.judge-in-loop-position.ensures, c.judge-in-loop-position-2.ensures, ap (line_of _) c.first_broken-run.ensures)))) c.loop-position.invariant.so_far;
 }
 
 pub returns : goal.returns
