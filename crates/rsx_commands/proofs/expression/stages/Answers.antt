@@ -1,9 +1,9 @@
-use Rattle.std.proofs.Common.{◌≡◌, ◌<◌, ◌+◌, ◌-◌, ◌++◌, ◌∷◌, [], ℕ, length, Ok, ap, ◌∙◌, arith, rules}
+use Rattle.std.proofs.Common.{◌≡◌, ◌<◌, ◌+◌, ◌-◌, ◌++◌, ◌∷◌, [], length, Ok, ap, ◌∙◌, arith, rules}
 use Rattle.std.proofs.lemmas.Result.{err_from_is_err_and}
 use Rattle.std.proofs.lemmas.List.{length-append}
 use Rattle.rsx_words.specs.Reading.{left, bytes_left}
 use Rattle.rsx_commands.specs.Expressions.{stages_at}
-use Rattle.rsx_commands.proofs.Stages.{stages_behind, stages_refused, stages_done, stages_more}
+use Rattle.rsx_commands.proofs.Stages.{stages_refused, stages_done, stages_more}
 use Rattle.rsx_commands.proofs.expression.stages.Goals as goal
 
 pub returns-in_err-chain_stage-clause-word : goal.returns-in_err-chain_stage-clause-word
