@@ -1,9 +1,14 @@
-use Rattle.std.proofs.Common.{◌∙◌, Bool, ap, length, refl, subst, sym, true}
+use Rattle.std.proofs.Common.{◌∙◌, ◌<◌, ℕ, Bool, ap, length, refl, subst, sym, true}
 use Rattle.std.proofs.lemmas.List.{with_items_is}
 use Rattle.rsx_history.proofs.Graphs.{found, set_same}
 use Rattle.rsx_sources.specs.Steps.{IsNotMade}
 use Rattle.rsx_feeding.proofs.Calls.{fed_effect, fed_length, fed_subs_length, sends_there}
 use Rattle.rsx_feeding.proofs.feed_moves.send.Goals as goal
+
+pub send_to_hub-requires-after_bounds : goal.send_to_hub-requires-after_bounds
+send_to_hub-requires-after_bounds g c κs within =
+    let P : ℕ → Type 0 = λ n. c.args.at < n in
+    subst P (sym (ap length c.deref_mut.ensures.value)) c.requires.within
 
 pub returns-in-Ok-clause-feeds : goal.returns-in-Ok-clause-feeds
 returns-in-Ok-clause-feeds g c =
