@@ -1,0 +1,2 @@
+-- Lemmas about lanes.
+pub mod Places
