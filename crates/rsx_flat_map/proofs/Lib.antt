@@ -1,2 +1,6 @@
 -- Lemmas about lanes.
+pub mod Coming
+pub mod Endings
+pub mod Picked
 pub mod Places
+pub mod Taken

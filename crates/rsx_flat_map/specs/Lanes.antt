@@ -1,6 +1,5 @@
 -- What the calls of a list of numbered lanes answer.
 use Rattle.std.specs.Prelude.{◌≡◌, ℕ, ◌^◌, ◌<◌, Bool, true, false, List, [], ◌∷◌, length, slice_index_or, ⊤, Option, Some, None, option_map}
-use Rattle.rsx_types.specs.declared.signal.Signal.{Signal}
 use Rattle.rsx_sources.specs.Machine.{front_of}
 use Rattle.rsx_sources.specs.declared.machine.Front.{Front}
 use Rattle.rsx_sources.specs.declared.machine.Front.TheVariants.{Item, Completion, Failure}

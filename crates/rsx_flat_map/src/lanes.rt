@@ -230,3 +230,63 @@ impl<T: Drop> Lanes<T> {
         None
     }
 }
+
+/// Lanes as the inputs of a pick.
+pub trait CopyingLanes<T: Drop> {
+    ghost lanes: { Self → List (InputLeft T) };
+
+    /// Puts copies of the lanes behind the inputs that are there.
+    ///
+    /// # Errors
+    /// [`NoMemory`] where a growth was refused, in `Ops::copy` too.
+    fn copy_lanes<O: Ops<Item = T>>(
+        &self,
+        alloc: Global,
+        ops: &O,
+        inputs: &mut Vec<Input<T>>,
+    ) -> Result<(), NoMemory>
+        ensures { OnOk result (inputs.new.items ≡ inputs.old.items ++ lanes self.now) };
+}
+
+/// A lane as an input of a pick.
+trait CopyingLane<T: Drop> {
+    ghost lane: { Self → InputLeft T };
+
+    /// A copy of the lane.
+    fn copied<O: Ops<Item = T>>(&self, alloc: Global, ops: &O) -> Result<Input<T>, NoMemory>
+        ensures { IfOk result (λ i. i ≡ lane self.now) };
+}
+
+impl<T: Drop> CopyingLane<T> for Lane<T> {
+    ghost lane = { λ l. l };
+
+    fn copied<O: Ops<Item = T>>(&self, alloc: Global, ops: &O) -> Result<Input<T>, NoMemory>
+        ensures { IfOk result (λ i. i ≡ self.now) }
+    {
+        let mut items = Vec::new(alloc);
+        for at in (0..self.reversed.len()).rev() {
+            let copy = ops.copy(alloc, &self.reversed[at])?;
+            items.push(copy)?;
+        }
+        Input::new(alloc, self.number, StreamValue::new(items, self.ending))
+    }
+}
+
+impl<T: Drop> CopyingLanes<T> for Lanes<T> {
+    ghost lanes = { λ l. l };
+
+    fn copy_lanes<O: Ops<Item = T>>(
+        &self,
+        alloc: Global,
+        ops: &O,
+        inputs: &mut Vec<Input<T>>,
+    ) -> Result<(), NoMemory>
+        ensures { OnOk result (inputs.new.items ≡ inputs.old.items ++ self.now) }
+    {
+        for at in 0..self.list.len() {
+            let input = self.list[at].copied(alloc, ops)?;
+            inputs.push(input)?;
+        }
+        Ok(())
+    }
+}

@@ -8,6 +8,10 @@
 //! The definitions stand in `specs/`: `Lanes` (what the calls of the list of lanes answer), `FlatMap` (the node) and `Laws`. What
 //! `flatMap` gives for a whole input under choices is `flat_map` of `rsx_lanes`; that is what a new node gives.
 
+pub mod expansion;
 pub mod lanes;
+pub mod node;
 
-pub use lanes::{Lane, Lanes, may_take};
+pub use expansion::{Expanding, Expansion};
+pub use lanes::{CopyingLanes, Lane, Lanes, may_take};
+pub use node::FlatMapNode;

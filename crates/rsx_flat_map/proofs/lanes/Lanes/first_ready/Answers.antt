@@ -1,4 +1,4 @@
-use Rattle.std.proofs.Common.{◌≡◌, ◌<◌, length, ap, sym, rules, arith}
+use Rattle.std.proofs.Common.{◌≡◌, length, ap, sym, arith}
 use Rattle.rsx_flat_map.proofs.Places.{none_ready}
 use Rattle.rsx_flat_map.proofs.lanes.Lanes.first_ready.Goals as goal
 

@@ -1,4 +1,4 @@
-use Rattle.std.proofs.Common.{rules, sym, ap, slice_index_or, ◌∙◌}
+use Rattle.std.proofs.Common.{sym, ap, slice_index_or, ◌∙◌}
 use Rattle.rsx_flat_map.proofs.Places.{front_there}
 use Rattle.rsx_flat_map.proofs.lanes.Lanes.front.Goals as goal
 

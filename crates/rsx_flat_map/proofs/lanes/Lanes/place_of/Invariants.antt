@@ -1,4 +1,4 @@
-use Rattle.std.proofs.Common.{◌≡◌, take, length, ◌-◌}
+use Rattle.std.proofs.Common.{take, length, ◌-◌}
 use Rattle.rsx_choices.proofs.Places.{NotAmong}
 use Rattle.rsx_flat_map.proofs.lanes.Lanes.place_of.Given as goal
 

@@ -1,4 +1,3 @@
-use Rattle.std.proofs.Common.{rules, sym}
 use Rattle.rsx_flat_map.proofs.Places.{some_lane, taken_there}
 use Rattle.rsx_flat_map.proofs.lanes.Lanes.take.Goals as goal
 
