@@ -90,7 +90,7 @@ pub and_right : (a b : Bool) → a && b ≡ true → b ≡ true
 and_right true b e = e
 and_right false b e = cc
 
-empty_is : {T : Type 0} (out : Output T) → is_empty out ≡ true → out ≡ Empty
+pub empty_is : {T : Type 0} (out : Output T) → is_empty out ≡ true → out ≡ Empty
 empty_is Empty e = refl
 empty_is (Waiting s) e = cc
 empty_is Over e = cc

@@ -59,7 +59,7 @@ flat_settles m n inc = settled n.output _ _
 pub flat_ending_waits : {T : Type 0} (m : Meaning T) (n : FlatMapNode T) (asked sent : ℕ) → flat_ended n ≡ true → flat_waiting m n ≡ None → sent < asked → CanStep flat_picks (λ k a s. false) n asked sent
 flat_ending_waits m n asked sent e none more = absurd (ending_there n.output e none)
 
-less : (sent asked : ℕ) → sent < asked → nat_lt sent asked ≡ true
+pub less : (sent asked : ℕ) → sent < asked → nat_lt sent asked ≡ true
 less sent asked h = grind (arith, nat_tests)
 
 itself : (k : ℕ) → nat_eq k k ≡ true
@@ -71,11 +71,11 @@ may_any Complete = refl
 may_any (Error c) = refl
 
 -- a lane that has its ending has a next signal
-first_ready : {T : Type 0} (k : ℕ) (ss : List (Signal T)) (is : List (InputLeft T)) → has_ending ss ≡ true → may_take (next_front k ((k, ss) ∷ is)) true ≡ true
+pub first_ready : {T : Type 0} (k : ℕ) (ss : List (Signal T)) (is : List (InputLeft T)) → has_ending ss ≡ true → may_take (next_front k ((k, ss) ∷ is)) true ≡ true
 first_ready k [] is h = cc
 first_ready k (s ∷ ss) is h = rw (itself k) (may_any s)
 
-unended : (next conc : ℕ) (taken : List ℕ) → 1 ≤ conc → taken ≡ next ∷ [] → AreWithin taken → next < saturating_total conc (next - 0)
+pub unended : (next conc : ℕ) (taken : List ℕ) → 1 ≤ conc → taken ≡ next ∷ [] → AreWithin taken → next < saturating_total conc (next - 0)
 unended next conc taken some is within =
     let low : AreWithin (next ∷ []) = subst AreWithin is within in
     let few : next < UNBOUNDED = low.0 in

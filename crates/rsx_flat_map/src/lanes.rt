@@ -15,7 +15,7 @@ use std::marker::Model;
 use std::mem;
 
 /// Whether a signal that is next may be taken, where an item may be taken only if `items` says so.
-pub fn may_take(front: Option<Front>, items: bool) -> bool
+pub(crate) fn may_take(front: Option<Front>, items: bool) -> bool
     ensures { result ≡ may_take front items }
 {
     match front {
@@ -27,7 +27,7 @@ pub fn may_take(front: Option<Front>, items: bool) -> bool
 
 /// A lane, or Main: its number, and the signals that it has left. Contracts see a pair of these.
 #[derive(Drop)]
-pub struct Lane<T> {
+pub(crate) struct Lane<T> {
     number: u64,
     // The items that are left, the last one first.
     reversed: Vec<T>,
@@ -51,7 +51,7 @@ impl<T: Drop> Lane<T> {
     ghost use Rattle.rsx_sources.specs.Machine.{front_of};
 
     /// The lane with this number and the signals of this value: its items, and then its ending. It takes no memory.
-    pub fn new(number: u64, value: StreamValue<T>) -> Lane<T>
+    pub(crate) fn new(number: u64, value: StreamValue<T>) -> Lane<T>
         ensures { result ≡ (number, signals value) }
     {
         let ending = value.ending();
@@ -65,14 +65,14 @@ impl<T: Drop> Lane<T> {
     }
 
     /// The number by which a choice names the lane.
-    pub fn number(&self) -> u64
+    pub(crate) fn number(&self) -> u64
         ensures { result ≡ self.now.0 }
     {
         self.number
     }
 
     /// Which signal is next, if one is left.
-    pub fn front(&self) -> Option<Front>
+    pub(crate) fn front(&self) -> Option<Front>
         ensures { result ≡ option_map front_of (slice_get self.now.1 0) }
     {
         match self.reversed.last() {
@@ -86,7 +86,7 @@ impl<T: Drop> Lane<T> {
     }
 
     /// Takes the next signal, if one is left.
-    pub fn take(&mut self) -> Option<Signal<T>>
+    pub(crate) fn take(&mut self) -> Option<Signal<T>>
         ensures signal { result ≡ slice_get self.old.1 0 }
         ensures left { self.old.1 ≡ option_to_list result ++ self.new.1 }
         ensures number { self.new.0 ≡ self.old.0 }
@@ -126,7 +126,7 @@ impl<T: Drop> Lanes<T> {
     ghost use Rattle.rsx_flat_map.specs.Lanes.{next_front, may_take, IsPlaceOf};
 
     /// No lanes. It takes no memory.
-    pub fn new(alloc: Global) -> Lanes<T>
+    pub(crate) fn new(alloc: Global) -> Lanes<T>
         ensures { result ≡ [] }
     {
         Lanes {
@@ -135,21 +135,21 @@ impl<T: Drop> Lanes<T> {
     }
 
     /// How many lanes are live.
-    pub fn len(&self) -> usize
+    pub(crate) fn len(&self) -> usize
         ensures { result ≡ length self.now }
     {
         self.list.len()
     }
 
     /// Whether no lane is live.
-    pub fn is_empty(&self) -> bool
+    pub(crate) fn is_empty(&self) -> bool
         ensures { result ≡ is_nil self.now }
     {
         self.list.is_empty()
     }
 
     /// Lets all lanes go.
-    pub fn clear(&mut self)
+    pub(crate) fn clear(&mut self)
         ensures { self.new ≡ [] }
     {
         self.list.clear();
@@ -159,7 +159,7 @@ impl<T: Drop> Lanes<T> {
     ///
     /// # Errors
     /// [`NoMemory`] where the growth was refused. Nothing has changed.
-    pub fn push(&mut self, lane: Lane<T>) -> Result<(), NoMemory>
+    pub(crate) fn push(&mut self, lane: Lane<T>) -> Result<(), NoMemory>
         ensures ok { OnOk result (self.new ≡ self.old ++ lane ∷ []) }
         ensures err { OnErr result (self.new ≡ self.old) }
     {
@@ -182,7 +182,7 @@ impl<T: Drop> Lanes<T> {
     }
 
     /// Which signal is next in the lane with this number, if there is one.
-    pub fn front(&self, number: u64) -> Option<Front>
+    pub(crate) fn front(&self, number: u64) -> Option<Front>
         ensures { result ≡ next_front number self.now }
     {
         match self.place_of(number) {
@@ -198,16 +198,13 @@ impl<T: Drop> Lanes<T> {
     {
         match self.list[at].front() {
             Some(Front::Item) => self.list[at].take(),
-            Some(_) => {
-                let mut lane = self.list.remove(at);
-                lane.take()
-            }
+            Some(_) => self.list.remove(at).take(),
             None => None,
         }
     }
 
     /// Takes the next signal of the lane with this number, if there is one. A lane whose ending was taken is gone.
-    pub fn take(&mut self, number: u64) -> Option<Signal<T>>
+    pub(crate) fn take(&mut self, number: u64) -> Option<Signal<T>>
         ensures { TakesNext number self.old result self.new }
     {
         match self.place_of(number) {
@@ -217,7 +214,7 @@ impl<T: Drop> Lanes<T> {
     }
 
     /// The first lane whose next signal may be taken, if there is one; an item may be where `items` says so.
-    pub fn first_ready(&self, items: bool) -> Option<u64>
+    pub(crate) fn first_ready(&self, items: bool) -> Option<u64>
         ensures some { IfSome result (λ i. may_take (next_front i self.now) items ≡ true) }
         ensures none { IfNone result ((i : ℕ) → may_take (next_front i self.now) items ≡ false) }
     {
@@ -232,7 +229,7 @@ impl<T: Drop> Lanes<T> {
 }
 
 /// Lanes as the inputs of a pick.
-pub trait CopyingLanes<T: Drop> {
+pub(crate) trait CopyingLanes<T: Drop> {
     ghost lanes: { Self → List (InputLeft T) };
 
     /// Puts copies of the lanes behind the inputs that are there.

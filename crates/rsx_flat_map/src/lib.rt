@@ -12,6 +12,6 @@ pub mod expansion;
 pub mod lanes;
 pub mod node;
 
-pub use expansion::{Expanding, Expansion};
-pub use lanes::{CopyingLanes, Lane, Lanes, may_take};
+pub use expansion::Expansion;
+pub use lanes::Lanes;
 pub use node::FlatMapNode;
