@@ -1,6 +1,6 @@
 #![tactic(auto)]
 //! Tests of the nodes of a tree, call by call: the sources, the plain operators and the chains, the nodes of several inputs with the
-//! values that they join, the node `window`, and the edges between two regions. This crate has nothing else.
+//! values that they join, the nodes `window` and `flatMap`, and the edges between two regions. This crate has nothing else.
 
 #[cfg(test)]
 mod chain_tests;
@@ -10,6 +10,8 @@ mod choices;
 mod concat;
 #[cfg(test)]
 mod crossing;
+#[cfg(test)]
+mod flat_map;
 #[cfg(test)]
 mod latest_tests;
 #[cfg(test)]
