@@ -1,3 +1,4 @@
 -- Lemmas about lanes.
 pub mod Keying
 pub mod Mains
+pub mod Nexts

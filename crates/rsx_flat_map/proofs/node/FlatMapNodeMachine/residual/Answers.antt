@@ -1,0 +1,18 @@
+use Rattle.std.proofs.Common.{◌≡◌, [], Some, sym, ap, ◌∙◌}
+use Rattle.std.proofs.lemmas.Result.{IfOk-weaker}
+use Rattle.rsx_types.specs.declared.signal.Ending.TheVariants.{Done}
+use Rattle.rsx_types.specs.Stream.{ended_by}
+use Rattle.rsx_queued.specs.Output.{output_then}
+use Rattle.rsx_choices.specs.Merge.{merge_inputs}
+use Rattle.rsx_flat_map.specs.Coming.{first_value}
+use Rattle.rsx_flat_map.specs.FlatMap.{left_of}
+use Rattle.rsx_flat_map.proofs.Picked.{rest_out}
+use Rattle.rsx_flat_map.proofs.node.FlatMapNodeMachine.residual.Goals as goal
+
+pub returns : goal.returns
+returns g c =
+    let n = c.args.self.now in
+    let m = g.O.Ops.meaning c.args.ops.now in
+    let rest : merge_inputs [] (left_of m n (first_value c.args.incoming.now)) ≡ Some c.in-Some.rest = ap (merge_inputs []) (sym c.in_ok-left.ensures) ∙ sym c.in_ok-rest.ensures ∙ c.in-Some.is in
+    IfOk-weaker c.in_front.result (λ v. output_then n.output (Some c.in-Some.rest) (Some (ended_by Done)) ≡ Some v) _
+    (λ v gives. rest_out m n _ c.args.incoming.now c.in-Some.rest v rest gives) c.in_front.ensures
