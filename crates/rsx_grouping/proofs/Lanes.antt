@@ -1,59 +1,141 @@
--- What comes out of a lane by a signal of the input.
-use Rattle.std.proofs.Common.{◌≡◌, true, List, [], ◌∷◌, Option, Some, None, refl, ap, ◌∙◌}
+-- What comes out of a lane by an item, and what a pick takes of it.
+use Rattle.std.proofs.Common.{◌≡◌, ℕ, true, false, List, [], ◌∷◌, ◌++◌, map, Option, Some, None, option_map, refl, ap, sym, ◌∙◌, subst}
+use Rattle.std.specs.Option.{option_to_list}
+use Rattle.std.specs.Prelude.{slice_get, is_some}
+use Rattle.std.proofs.lemmas.List.{append-nil}
+use Rattle.std.proofs.lemmas.Option.{same_Some}
 use Rattle.rsx_types.specs.declared.signal.Ending.{Ending}
 use Rattle.rsx_types.specs.declared.signal.Ending.TheVariants.{Open, Done, Failed}
+use Rattle.rsx_types.specs.declared.signal.Signal.{Signal}
 use Rattle.rsx_types.specs.declared.signal.Signal.TheVariants.{Next}
 use Rattle.rsx_types.specs.declared.stage.Stage.{Stage}
 use Rattle.rsx_types.specs.Meaning.{Meaning}
-use Rattle.rsx_types.specs.Stream.{Stream, item_then, items_then, signals_then}
+use Rattle.rsx_types.specs.Stream.{Stream, ended_by, item_then, items_then}
+use Rattle.rsx_sources.specs.Slot.{is_nil}
 use Rattle.rsx_operators.specs.Emission.{emission_then}
-use Rattle.rsx_operators.specs.Moves.{Moves, has_ended}
+use Rattle.rsx_operators.specs.Moves.{has_ended}
 use Rattle.rsx_operators.specs.declared.prepared.Emission.{Emission}
-use Rattle.rsx_chain.specs.Chain.{chain_from, MovesEmission}
+use Rattle.rsx_chain.specs.Chain.{chain_from}
 use Rattle.rsx_chain.specs.declared.chain.ChainState.{ChainState}
-use Rattle.rsx_pending.specs.Signals.{put_out}
-use Rattle.rsx_grouping.specs.Lane.{chain_left, unless_ended, lane_left, TakesItem, Begins, BeginsWith, Completes}
+use Rattle.rsx_lanes.specs.Group.{tagged_items}
+use Rattle.rsx_queued.specs.Input.{IsFirst}
+use Rattle.rsx_grouping.proofs.Ends.{chain_ends}
+use Rattle.rsx_grouping.specs.Lane.{state_left, lane_left, state_after, state_ended, ending_signal, is_gone, is_gone_state, is_quiet, TakesItem, Begins, TakesOne, BeginsWith, CompletesWith, IsPrepared, without_next}
 use Rattle.rsx_grouping.specs.declared.lane.Begun.{Begun}
 use Rattle.rsx_grouping.specs.declared.lane.Lane.{Lane}
+use Rattle.rsx_grouping.specs.declared.lane.LanePick.{LanePick}
+use Rattle.rsx_grouping.specs.declared.lane.LaneState.{LaneState}
+use Rattle.rsx_grouping.specs.declared.lane.LaneState.TheVariants.{Running, Completed, Failing, Gone}
+
+-- ---- an item
 
 -- what came out waits, and then comes what still comes out of the chain, unless that has ended
-runs : {T : Type 0} (m : Meaning T) (c : ChainState T) (xs : List T) (y : Option T) (e : Ending) (v : Stream T) →
-    items_then xs (emission_then (record { item = y; ending = e }) (chain_from m c v)) ≡ signals_then (put_out xs y e) (chain_left m (unless_ended c e) v)
-runs m c (x ∷ xs) y e v = ap (item_then x) (runs m c xs y e v)
-runs m c [] None Open v = refl
-runs m c [] (Some z) Open v = refl
-runs m c [] None Done v = refl
-runs m c [] (Some z) Done v = refl
-runs m c [] None (Failed f) v = refl
-runs m c [] (Some z) (Failed f) v = refl
+runs : {T : Type 0} (m : Meaning T) (k : ℕ) (c : ChainState T) (xs : List T) (y : Option T) (e : Ending) (v : Stream T) →
+    Some (tagged_items m k (items_then xs (emission_then (record { item = y; ending = e }) (chain_from m c v)))) ≡ option_map (λ w. items_then (map (m.tagged k) (xs ++ option_to_list y)) w) (state_left m k (state_after c e) v)
+runs m k c (x ∷ xs) y Open v = ap (option_map (item_then (m.tagged k x))) (runs m k c xs y Open v)
+runs m k c (x ∷ xs) y Done v = ap (option_map (item_then (m.tagged k x))) (runs m k c xs y Done v)
+runs m k c (x ∷ xs) y (Failed f) v = ap (option_map (item_then (m.tagged k x))) (runs m k c xs y (Failed f) v)
+runs m k c [] None Open v = refl
+runs m k c [] (Some z) Open v = refl
+runs m k c [] None Done v = refl
+runs m k c [] (Some z) Done v = refl
+runs m k c [] None (Failed f) v = refl
+runs m k c [] (Some z) (Failed f) v = refl
 
 -- a lane began
-pub lane_begins : {T : Type 0} (m : Meaning T) (gs : List (Stage T)) (x : T) (b : Begun T) (l : Lane T) → Begins m gs x b → l.pending.left ≡ put_out b.items.items b.out.item b.out.ending → l.chain ≡ unless_ended b.chain b.out.ending → BeginsWith m gs x l
-lane_begins m gs x b l begins left chain v = begins v ∙ rw (left, chain) (runs m b.chain b.items.items b.out.item b.out.ending v)
+pub lane_begins : {T : Type 0} (m : Meaning T) (gs : List (Stage T)) (x : T) (b : Begun T) (l : Lane T) → Begins m gs x b → l.waiting ≡ b.items.items ++ option_to_list b.out.item → l.state ≡ state_after b.chain b.out.ending → BeginsWith m gs x l
+lane_begins m gs x b l begins waits state k v = ap (λ w. Some (tagged_items m k w)) (begins v) ∙ rw (waits, state) (runs m k b.chain b.items.items b.out.item b.out.ending v)
+
+-- where nothing of a lane waits whose chain runs, no item does
+pub none_waits : {T : Type 0} (l : Lane T) (c : ChainState T) → l.state ≡ Running c → is_quiet l ≡ true → l.waiting ≡ []
+none_waits {T} l c is quiet = nothing l.waiting (rw is at quiet)
+  where
+    nothing : (xs : List T) → is_nil xs ≡ true → xs ≡ []
+    nothing [] h = refl
+    nothing (x ∷ xs) h = cc
 
 -- it took an item
-pub lane_takes : {T : Type 0} (m : Meaning T) (old new : Lane T) (c d : ChainState T) (x : T) (out : Emission T) → old.pending.left ≡ [] → old.chain ≡ Some c → TakesItem m c x out d → new.pending.left ≡ put_out [] out.item out.ending → new.chain ≡ unless_ended d out.ending →
-    Moves (lane_left m) old (Next x) [] new
-lane_takes m old new c d x out none is takes left chain v = rw (none, is, left, chain) (takes v ∙ runs m d [] out.item out.ending v)
+pub lane_takes : {T : Type 0} (m : Meaning T) (old new : Lane T) (c d : ChainState T) (x : T) (out : Emission T) → old.waiting ≡ [] → old.state ≡ Running c → TakesItem m c x out d → new.waiting ≡ option_to_list out.item → new.state ≡ state_after d out.ending →
+    TakesOne m old x new
+lane_takes m old new c d x out none is takes waits state k v = rw (none, is, waits, state) (ap (λ w. Some (tagged_items m k w)) (takes v) ∙ runs m k d [] out.item out.ending v)
 
--- an item came behind its ending
-pub lane_over : {T : Type 0} (m : Meaning T) (old : Lane T) (x : T) → old.pending.left ≡ [] → old.chain ≡ None → Moves (lane_left m) old (Next x) [] old
-lane_over m old x none is v = rw (none, is) refl
+not_gone : {T : Type 0} (c : ChainState T) (e : Ending) (s : LaneState T) → s ≡ state_after c e → is_gone_state s ≡ false
+not_gone c Open s h = ap is_gone_state h
+not_gone c Done s h = ap is_gone_state h
+not_gone c (Failed f) s h = ap is_gone_state h
 
-ended_none : {T : Type 0} (d : ChainState T) (e : Ending) → has_ended e ≡ true → unless_ended d e ≡ None
-ended_none d Open h = cc
-ended_none d Done h = refl
-ended_none d (Failed c) h = refl
+-- whether the ending was picked stays
+pub gone_kept : {T : Type 0} (old new : Lane T) (c d : ChainState T) (e : Ending) → old.state ≡ Running c → new.state ≡ state_after d e → is_gone new ≡ is_gone old
+gone_kept old new c d e is state = not_gone d e new.state state ∙ sym (ap is_gone_state is)
 
--- the completion came in, and its ending was put out
-pub lane_completes : {T : Type 0} (m : Meaning T) (old new : Lane T) (c d : ChainState T) (out : Emission T) → old.pending.left ≡ [] → old.chain ≡ Some c → MovesEmission m c (record { item = None; ending = Done }) out d → new.pending.left ≡ put_out [] out.item out.ending → new.chain ≡ unless_ended d out.ending → has_ended out.ending ≡ true →
-    Completes m old new
-lane_completes {T} m old new c d out none is moves left chain ends v =
-    let gone : unless_ended d out.ending ≡ None = ended_none d out.ending ends in
-    rw (none, is, left, chain, gone) (moves v ∙ (runs m d [] out.item out.ending v ∙ ap (λ z. signals_then (put_out [] out.item out.ending) (chain_left m z v)) gone))
+-- ---- a pick
 
-pub lane_is_over : {T : Type 0} (m : Meaning T) (old : Lane T) → old.pending.left ≡ [] → old.chain ≡ None → Completes m old old
-lane_is_over m old none is v = rw (none, is) refl
+-- the item that waits first
+item_first : {T : Type 0} (m : Meaning T) (k : ℕ) (s : LaneState T) (x : T) (xs : List T) (v : Stream T) → is_gone_state s ≡ false →
+    IsFirst (Next (m.tagged k x)) (option_map (λ w. items_then (map (m.tagged k) (x ∷ xs)) w) (state_left m k s v)) (option_map (λ w. items_then (map (m.tagged k) xs) w) (state_left m k s v))
+item_first m k (Running c) x xs v h = (_, refl, refl)
+item_first m k Completed x xs v h = (_, refl, refl)
+item_first m k (Failing f) x xs v h = (_, refl, refl)
+item_first m k Gone x xs v h = cc
 
-pub lane_ended : {T : Type 0} (d : ChainState T) (e : Ending) (o : Option (ChainState T)) → o ≡ unless_ended d e → has_ended e ≡ true → o ≡ None
-lane_ended d e o is h = is ∙ ended_none d e h
+-- the first of a value that has ended, and the rest of it
+first_of_value : {T : Type 0} (m : Meaning T) (k : ℕ) (x : T) (xs : List T) (e : Ending) → has_ended e ≡ true →
+    IsFirst (Next (m.tagged k x)) (Some (tagged_items m k (record { items = x ∷ xs; ending = e }))) (option_map (λ w. items_then (map (m.tagged k) xs) w) (state_left m k (state_ended e) (ended_by Done)))
+first_of_value m k x xs Open h = cc
+first_of_value m k x xs Done h = (tagged_items m k (record { items = xs; ending = Done }), refl, ap (λ zs. Some (record { items = zs; ending = Done })) (append-nil (map (m.tagged k) xs)))
+first_of_value m k x xs (Failed f) h = (tagged_items m k (record { items = xs; ending = Failed f }), refl, ap (λ zs. Some (record { items = zs; ending = Failed f })) (append-nil (map (m.tagged k) xs)))
+
+ending_of_value : {T : Type 0} (m : Meaning T) (k : ℕ) (e : Ending) → has_ended e ≡ true → IsFirst (ending_signal e) (Some (tagged_items m k (record { items = []; ending = e }))) None
+ending_of_value m k Open h = cc
+ending_of_value m k Done h = (refl, refl)
+ending_of_value m k (Failed f) h = (refl, refl)
+
+-- an input that is done
+done_value : {T : Type 0} (d : Stream T) → d.items ≡ [] → d.ending ≡ Done → d ≡ ended_by Done
+done_value d none done = ap (λ xs. record { items = xs; ending = d.ending }) none ∙ ap ended_by done
+
+ended_value : {T : Type 0} (m : Meaning T) (c : ChainState T) (v : Stream T) → v ≡ chain_from m c (ended_by Done) → has_ended v.ending ≡ true
+ended_value m c v is = ap (λ w. has_ended w.ending) is ∙ chain_ends m c (ended_by Done) refl
+
+-- an item comes out by the completion
+pub completes_with_item : {T : Type 0} (m : Meaning T) (k : ℕ) (c : ChainState T) (d v : Stream T) (x : T) (l : Lane T) (p : LanePick T) → d.items ≡ [] → d.ending ≡ Done → v ≡ chain_from m c d → v.items ≡ x ∷ l.waiting → l.state ≡ state_ended v.ending → p.signal ≡ Next (m.tagged k x) → p.lane ≡ Some l → CompletesWith m k c p
+completes_with_item {T} m k c d v x l p none done gives items state signal lane =
+    let is : v ≡ chain_from m c (ended_by Done) = gives ∙ ap (chain_from m c) (done_value d none done) in
+    let whole : record { items = x ∷ l.waiting; ending = v.ending } ≡ chain_from m c (ended_by Done) = ap (λ xs. record { items = xs; ending = v.ending }) (sym items) ∙ is in
+    let P : Stream T → Type 0 = λ w. IsFirst (Next (m.tagged k x)) (Some (tagged_items m k w)) (lane_left m k l (ended_by Done)) in
+    let Q : LaneState T → Type 0 = λ s. IsFirst (Next (m.tagged k x)) (Some (tagged_items m k (record { items = x ∷ l.waiting; ending = v.ending }))) (option_map (λ w. items_then (map (m.tagged k) l.waiting) w) (state_left m k s (ended_by Done))) in
+    let R : Signal T → Type 0 = λ s. IsFirst s (Some (tagged_items m k (chain_from m c (ended_by Done)))) (lane_left m k l (ended_by Done)) in
+    (l, lane, subst R (sym signal) (subst P whole (subst Q (sym state) (first_of_value m k x l.waiting v.ending (ended_value m c v is)))))
+
+none_there : {T : Type 0} (xs : List T) → None ≡ slice_get xs 0 → xs ≡ []
+none_there [] h = refl
+none_there (x ∷ xs) h = cc
+
+-- nothing but the ending comes out
+pub completes_at_once : {T : Type 0} (m : Meaning T) (k : ℕ) (c : ChainState T) (d v : Stream T) (l : Lane T) (p : LanePick T) → d.items ≡ [] → d.ending ≡ Done → v ≡ chain_from m c d → None ≡ slice_get v.items 0 → l.state ≡ Gone → p.signal ≡ ending_signal v.ending → p.lane ≡ Some l → CompletesWith m k c p
+completes_at_once {T} m k c d v l p empty done gives first state signal lane =
+    let items : v.items ≡ [] = none_there v.items first in
+    let is : v ≡ chain_from m c (ended_by Done) = gives ∙ ap (chain_from m c) (done_value d empty done) in
+    let whole : record { items = []; ending = v.ending } ≡ chain_from m c (ended_by Done) = ap (λ xs. record { items = xs; ending = v.ending }) (sym items) ∙ is in
+    let none : lane_left m k l (ended_by Done) ≡ None = ap (λ s. option_map (λ w. items_then (map (m.tagged k) l.waiting) w) (state_left m k s (ended_by Done))) state in
+    let P : Stream T → Type 0 = λ w. IsFirst (ending_signal v.ending) (Some (tagged_items m k w)) None in
+    let Q : Option (Stream T) → Type 0 = λ o. IsFirst (ending_signal v.ending) (Some (tagged_items m k (chain_from m c (ended_by Done)))) o in
+    let R : Signal T → Type 0 = λ s. IsFirst s (Some (tagged_items m k (chain_from m c (ended_by Done)))) (lane_left m k l (ended_by Done)) in
+    (l, lane, subst R (sym signal) (subst Q (sym none) (subst P whole (ending_of_value m k v.ending (ended_value m c v is)))))
+
+-- an item waits
+pub prepares_item : {T : Type 0} (m : Meaning T) (k : ℕ) (old : Lane T) (x : T) (p : LanePick T) → is_gone old ≡ false → Some x ≡ slice_get old.waiting 0 → p.signal ≡ Next (m.tagged k x) → p.lane ≡ None → IsPrepared m k old p
+prepares_item {T} m k old x p there waits signal lane v done =
+    let some : (xs : List T) × (old.waiting ≡ x ∷ xs) = first_there old.waiting waits in
+    let is : old.waiting ≡ x ∷ some.0 = some.1 in
+    rw (signal, lane, is) (item_first m k old.state x some.0 v there)
+  where
+    first_there : (ws : List T) → Some x ≡ slice_get ws 0 → (xs : List T) × (ws ≡ x ∷ xs)
+    first_there [] h = cc
+    first_there (w ∷ ws) h = (ws, ap (λ z. z ∷ ws) (sym (same_Some x w h)))
+
+-- nothing waited
+pub leaves : {T : Type 0} (s : LaneState T) (xs ys : List T) (o : Option T) → o ≡ slice_get xs 0 → xs ≡ option_to_list o ++ ys → is_some o ≡ false → record { state = Gone; waiting = ys } ≡ without_next s xs
+leaves s xs ys (Some x) first left none = cc
+leaves s [] ys None first left none = ap (λ zs. record { state = Gone; waiting = zs }) (sym left)
+leaves s (x ∷ xs) ys None first left none = cc

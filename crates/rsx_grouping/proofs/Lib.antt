@@ -1,2 +1,6 @@
+pub mod Ends
 pub mod Lanes
+pub mod Picks
+pub mod SeenKeys
 pub mod Tables
+pub mod Waits

@@ -1,64 +1,22 @@
 -- An item with its key comes in at the lanes.
-use Rattle.std.proofs.Common.{◌≡◌, ℕ, zero, suc, ◌+◌, Bool, true, false, ◌||◌, nat_eq, List, [], ◌∷◌, ◌++◌, map, slice_set, slice_get, Option, Some, refl, ap, sym, ◌∙◌, subst, arith, append_assoc}
-use Rattle.std.specs.Prelude.{length, nat_lt, position, IfSome}
-use Rattle.std.specs.List.{position_or_len}
+use Rattle.std.proofs.Common.{◌≡◌, ℕ, zero, suc, ◌+◌, ◌<◌, Bool, true, false, ◌&&◌, nat_eq, List, [], ◌∷◌, ◌++◌, map, length, slice_set, slice_get, slice_index_or, Option, Some, Result, Ok, Err, refl, ap, sym, ◌∙◌, subst, arith, length-append}
+use Rattle.std.specs.Prelude.{OnOk, OnErr}
 use Rattle.std.specs.Set.{is_member}
-use Rattle.std.proofs.lemmas.Bool.Decides.{nat_tests}
-use Rattle.std.proofs.lemmas.List.{append-nil}
 use Rattle.std.proofs.lemmas.Option.{same_Some}
-use Rattle.rsx_types.specs.declared.signal.Signal.TheVariants.{Next}
 use Rattle.rsx_types.specs.declared.stage.Stage.{Stage}
 use Rattle.rsx_types.specs.Meaning.{Meaning}
 use Rattle.rsx_types.specs.Plain.{chained}
 use Rattle.rsx_types.specs.Stream.{Stream, item_then}
-use Rattle.rsx_operators.specs.Moves.{Moves}
-use Rattle.rsx_lanes.specs.Group.{of_key, tagged_items, group_lane, group_lanes, first_seen}
-use Rattle.rsx_grouping.specs.Lane.{lane_left, BeginsWith}
-use Rattle.rsx_grouping.specs.Table.{AreDistinct, fresh_keys, lanes_there, lanes_left, TakesKeyed}
+use Rattle.rsx_choices.specs.Pick.{InputLeft, numbered}
+use Rattle.rsx_lanes.specs.Group.{of_key, tagged_items, group_lane, see}
+use Rattle.rsx_queued.specs.Inputs.{here}
+use Rattle.rsx_grouping.proofs.SeenKeys.{equal_itself, or_left, or_right, other_key, stays_seen, last_seen, key_there, distinct_more}
+use Rattle.rsx_grouping.specs.Keys.{AreDistinct}
+use Rattle.rsx_grouping.specs.Lane.{lane_left, TakesOne, BeginsWith, is_quiet, after_pick}
+use Rattle.rsx_grouping.specs.Rows.{keys_of, are_quiet}
+use Rattle.rsx_grouping.specs.Table.{fresh_keys, lanes_there, lanes_to_come, TakesKeyed, CommitsAt}
 use Rattle.rsx_grouping.specs.declared.lane.Lane.{Lane}
-
--- ---- keys
-
-equal_itself : (k : ℕ) → nat_eq k k ≡ true
-equal_itself k = grind (arith, nat_tests)
-
-equal_keys : (k j : ℕ) → nat_eq k j ≡ true → k ≡ j
-equal_keys k j h = grind (arith, nat_tests)
-
-or_true : (a b : Bool) → a ≡ true → (a || b) ≡ true
-or_true a b h = rw h refl
-
-or_left : (a b : Bool) → (a || b) ≡ false → a ≡ false
-or_left true b h = cc
-or_left false b h = refl
-
-or_right : (a b : Bool) → (a || b) ≡ false → b ≡ false
-or_right true b h = cc
-or_right false b h = h
-
-or_right_true : (a b : Bool) → b ≡ true → (a || b) ≡ true
-or_right_true true b h = refl
-or_right_true false b h = h
-
--- a key that was seen is another than one that wasn't
-other_key : (ks : List ℕ) (k j : ℕ) → is_member nat_eq ks k ≡ true → is_member nat_eq ks j ≡ false → nat_eq k j ≡ false
-other_key ks k j a b = by_test (nat_eq k j) refl
-  where
-    by_test : (t : Bool) → nat_eq k j ≡ t → nat_eq k j ≡ false
-    by_test false e = e
-    by_test true e = let same : k ≡ j = equal_keys k j e in let both : is_member nat_eq ks j ≡ true = rw same at a in cc
-
-stays_seen : (ks more : List ℕ) (k : ℕ) → is_member nat_eq ks k ≡ true → is_member nat_eq (ks ++ more) k ≡ true
-stays_seen [] more k h = cc
-stays_seen (j ∷ ks) more k h = by_test (nat_eq k j) refl (stays_seen ks more k)
-  where
-    by_test : (t : Bool) → nat_eq k j ≡ t → (is_member nat_eq ks k ≡ true → is_member nat_eq (ks ++ more) k ≡ true) → is_member nat_eq ((j ∷ ks) ++ more) k ≡ true
-    by_test true e rest = rw e refl
-    by_test false e rest = rw e (rest (rw e at h))
-
-last_seen : (ks : List ℕ) (k : ℕ) → is_member nat_eq (ks ++ k ∷ []) k ≡ true
-last_seen [] k = rw (equal_itself k) refl
-last_seen (j ∷ ks) k = or_right_true (nat_eq k j) (is_member nat_eq (ks ++ k ∷ []) k) (last_seen ks k)
+use Rattle.rsx_grouping.specs.declared.table.KeyedLane.{KeyedLane}
 
 -- ---- one lane
 
@@ -79,127 +37,228 @@ fresh_other {T} m gs seen k x v (p ∷ ps) h = by_test (is_member nat_eq seen p.
         map (group_lane m gs (item_then (k, x) v)) (fresh_keys (seen ++ p.0 ∷ []) ps) ≡ map (group_lane m gs v) (fresh_keys (seen ++ p.0 ∷ []) ps) → map (group_lane m gs (item_then (k, x) v)) (fresh_keys seen (p ∷ ps)) ≡ map (group_lane m gs v) (fresh_keys seen (p ∷ ps))
     by_test true e known new = rw e known
     by_test false e known new =
-        let here : of_key p.0 (item_then (k, x) v) ≡ of_key p.0 v = key_other k p.0 x v (other_key seen k p.0 h e) in
-        let first : group_lane m gs (item_then (k, x) v) p.0 ≡ group_lane m gs v p.0 = ap (λ w. tagged_items m p.0 (chained m gs w)) here in
+        let at : of_key p.0 (item_then (k, x) v) ≡ of_key p.0 v = key_other k p.0 x v (other_key seen k p.0 h e) in
+        let first : group_lane m gs (item_then (k, x) v) p.0 ≡ group_lane m gs v p.0 = ap (λ w. tagged_items m p.0 (chained m gs w)) at in
         rw e (ap (λ w. w ∷ map (group_lane m gs (item_then (k, x) v)) (fresh_keys (seen ++ p.0 ∷ []) ps)) first ∙ ap (λ ws. group_lane m gs v p.0 ∷ ws) new)
 
 -- ---- the lanes that are there
 
-there_other : {T : Type 0} (m : Meaning T) (ks : List ℕ) (ls : List (Lane T)) (k : ℕ) (x : T) (v : Stream (ℕ × T)) → is_member nat_eq ks k ≡ false → lanes_there m ks ls (item_then (k, x) v) ≡ lanes_there m ks ls v
-there_other m [] ls k x v h = refl
-there_other m (j ∷ ks) [] k x v h = refl
-there_other m (j ∷ ks) (l ∷ ls) k x v h =
-    let here : of_key j (item_then (k, x) v) ≡ of_key j v = key_other k j x v (or_left (nat_eq k j) (is_member nat_eq ks k) h) in
-    ap (λ w. tagged_items m j (lane_left m l w) ∷ lanes_there m ks ls (item_then (k, x) v)) here ∙ ap (λ ws. tagged_items m j (lane_left m l (of_key j v)) ∷ ws) (there_other m ks ls k x v (or_right (nat_eq k j) (is_member nat_eq ks k) h))
+there_other : {T : Type 0} (m : Meaning T) (n : ℕ) (rows : List (KeyedLane T)) (k : ℕ) (x : T) (v : Stream (ℕ × T)) (rest : List (InputLeft T)) → is_member nat_eq (keys_of rows) k ≡ false →
+    lanes_there m n rows (item_then (k, x) v) rest ≡ lanes_there m n rows v rest
+there_other m n [] k x v rest h = refl
+there_other m n (r ∷ rows) k x v rest h =
+    ap (λ w. here n (lane_left m r.key r.lane w) (lanes_there m (suc n) rows (item_then (k, x) v) rest)) (key_other k r.key x v (or_left (nat_eq k r.key) (is_member nat_eq (keys_of rows) k) h))
+    ∙ ap (here n (lane_left m r.key r.lane (of_key r.key v))) (there_other m (suc n) rows k x v rest (or_right (nat_eq k r.key) (is_member nat_eq (keys_of rows) k) h))
 
-key_there : (ks : List ℕ) (k i : ℕ) → slice_get ks i ≡ Some k → is_member nat_eq ks k ≡ true
-key_there [] k i h = cc
-key_there (j ∷ ks) k zero h = let same : j ≡ k = same_Some j k h in rw (same, equal_itself k) refl
-key_there (j ∷ ks) k (suc i) h = or_right_true (nat_eq k j) (is_member nat_eq ks k) (key_there ks k i h)
+there_first : {T : Type 0} (m : Meaning T) (n : ℕ) (r : KeyedLane T) (new : Lane T) (rows : List (KeyedLane T)) (x : T) (v : Stream (ℕ × T)) (rest : List (InputLeft T)) → is_member nat_eq (keys_of rows) r.key ≡ false → TakesOne m r.lane x new →
+    lanes_there m n (r ∷ rows) (item_then (r.key, x) v) rest ≡ lanes_there m n (record { key = r.key; lane = new } ∷ rows) v rest
+there_first m n r new rows x v rest out takes =
+    ap (λ w. here n (lane_left m r.key r.lane w) (lanes_there m (suc n) rows (item_then (r.key, x) v) rest)) (key_here r.key x v)
+    ∙ ap (λ o. here n o (lanes_there m (suc n) rows (item_then (r.key, x) v) rest)) (takes r.key (of_key r.key v))
+    ∙ ap (here n (lane_left m r.key new (of_key r.key v))) (there_other m (suc n) rows r.key x v rest out)
 
-there_first : {T : Type 0} (m : Meaning T) (k : ℕ) (ks : List ℕ) (l new : Lane T) (ls : List (Lane T)) (x : T) (v : Stream (ℕ × T)) → is_member nat_eq ks k ≡ false → Moves (lane_left m) l (Next x) [] new →
-    lanes_there m (k ∷ ks) (l ∷ ls) (item_then (k, x) v) ≡ lanes_there m (k ∷ ks) (new ∷ ls) v
-there_first m k ks l new ls x v out moves =
-    ap (λ w. tagged_items m k (lane_left m l w) ∷ lanes_there m ks ls (item_then (k, x) v)) (key_here k x v)
-    ∙ (ap (λ w. tagged_items m k w ∷ lanes_there m ks ls (item_then (k, x) v)) (moves (of_key k v))
-    ∙ ap (λ ws. tagged_items m k (lane_left m new (of_key k v)) ∷ ws) (there_other m ks ls k x v out))
+key_at_row : {T : Type 0} (rows : List (KeyedLane T)) (i : ℕ) (r : KeyedLane T) → slice_get rows i ≡ Some r → slice_get (keys_of rows) i ≡ Some r.key
+key_at_row [] i r h = cc
+key_at_row (q ∷ rows) zero r h = ap (λ z. Some z.key) (same_Some q r h)
+key_at_row (q ∷ rows) (suc i) r h = key_at_row rows i r h
 
-there_known : {T : Type 0} (m : Meaning T) (ks : List ℕ) (ls : List (Lane T)) (k i : ℕ) (x : T) (old new : Lane T) (v : Stream (ℕ × T)) → AreDistinct ks → slice_get ks i ≡ Some k → slice_get ls i ≡ Some old → Moves (lane_left m) old (Next x) [] new →
-    lanes_there m ks ls (item_then (k, x) v) ≡ lanes_there m ks (slice_set ls i new) v
-there_known m [] ls k i x old new v d p l moves = cc
-there_known m (j ∷ ks) [] k i x old new v d p l moves = cc
-there_known {T} m (j ∷ ks) (o ∷ ls) k zero x old new v d p l moves =
-    let same : o ≡ old = same_Some o old l in
-    let key : j ≡ k = same_Some j k p in
-    let P : Lane T → Type 0 = λ z. Moves (lane_left m) z (Next x) [] new in
-    let Q : ℕ → Type 0 = λ z. is_member nat_eq ks z ≡ false in
-    let R : ℕ → Type 0 = λ z. lanes_there m (z ∷ ks) (o ∷ ls) (item_then (k, x) v) ≡ lanes_there m (z ∷ ks) (new ∷ ls) v in
-    subst R (sym key) (there_first m k ks o new ls x v (subst Q key d.0) (subst P (sym same) moves))
-there_known m (j ∷ ks) (o ∷ ls) k (suc i) x old new v d p l moves =
-    let seen : is_member nat_eq ks k ≡ true = key_there ks k i p in
-    let here : of_key j (item_then (k, x) v) ≡ of_key j v = key_other k j x v (other_key ks k j seen d.0) in
-    ap (λ w. tagged_items m j (lane_left m o w) ∷ lanes_there m ks ls (item_then (k, x) v)) here ∙ ap (λ ws. tagged_items m j (lane_left m o (of_key j v)) ∷ ws) (there_known m ks ls k i x old new v d.1 p l moves)
+there_known : {T : Type 0} (m : Meaning T) (n : ℕ) (rows : List (KeyedLane T)) (i : ℕ) (r : KeyedLane T) (new : Lane T) (x : T) (v : Stream (ℕ × T)) (rest : List (InputLeft T)) → AreDistinct (keys_of rows) → slice_get rows i ≡ Some r → TakesOne m r.lane x new →
+    lanes_there m n rows (item_then (r.key, x) v) rest ≡ lanes_there m n (slice_set rows i (record { key = r.key; lane = new })) v rest
+there_known m n [] i r new x v rest d at takes = cc
+there_known {T} m n (q ∷ rows) zero r new x v rest d at takes =
+    let same : q ≡ r = same_Some q r at in
+    let P : KeyedLane T → Type 0 = λ z. is_member nat_eq (keys_of rows) z.key ≡ false in
+    let Q : KeyedLane T → Type 0 = λ z. lanes_there m n (z ∷ rows) (item_then (r.key, x) v) rest ≡ lanes_there m n (record { key = r.key; lane = new } ∷ rows) v rest in
+    subst Q (sym same) (there_first m n r new rows x v rest (subst P same d.0) takes)
+there_known m n (q ∷ rows) (suc i) r new x v rest d at takes =
+    let seen : is_member nat_eq (keys_of rows) r.key ≡ true = key_there (keys_of rows) r.key i (key_at_row rows i r at) in
+    ap (λ w. here n (lane_left m q.key q.lane w) (lanes_there m (suc n) rows (item_then (r.key, x) v) rest)) (key_other r.key q.key x v (other_key (keys_of rows) r.key q.key seen d.0))
+    ∙ ap (here n (lane_left m q.key q.lane (of_key q.key v))) (there_known m (suc n) rows i r new x v rest d.1 at takes)
 
-there_more : {T : Type 0} (m : Meaning T) (ks : List ℕ) (ls : List (Lane T)) (k : ℕ) (new : Lane T) (v : Stream (ℕ × T)) → length ks ≡ length ls →
-    lanes_there m (ks ++ k ∷ []) (ls ++ new ∷ []) v ≡ lanes_there m ks ls v ++ tagged_items m k (lane_left m new (of_key k v)) ∷ []
-there_more m [] [] k new v h = refl
-there_more m [] (l ∷ ls) k new v h = absurd (omega arith)
-there_more m (j ∷ ks) [] k new v h = absurd (omega arith)
-there_more m (j ∷ ks) (l ∷ ls) k new v h = ap (λ ws. tagged_items m j (lane_left m l (of_key j v)) ∷ ws) (there_more m ks ls k new v (omega arith))
+there_more : {T : Type 0} (m : Meaning T) (n : ℕ) (rows : List (KeyedLane T)) (r : KeyedLane T) (v : Stream (ℕ × T)) (rest : List (InputLeft T)) →
+    lanes_there m n (rows ++ r ∷ []) v rest ≡ lanes_there m n rows v (here (n + length rows) (lane_left m r.key r.lane (of_key r.key v)) rest)
+there_more m n [] r v rest = let e : n ≡ n + zero = omega arith in ap (λ j. here j (lane_left m r.key r.lane (of_key r.key v)) rest) e
+there_more m n (q ∷ rows) r v rest =
+    let e : suc n + length rows ≡ n + length (q ∷ rows) = omega arith in
+    ap (here n (lane_left m q.key q.lane (of_key q.key v))) (there_more m (suc n) rows r v rest ∙ ap (λ j. lanes_there m (suc n) rows v (here j (lane_left m r.key r.lane (of_key r.key v)) rest)) e)
 
 -- ---- all lanes
 
--- an item of a key that a lane has
-pub known_key : {T : Type 0} (m : Meaning T) (gs : List (Stage T)) (ks : List ℕ) (ls : List (Lane T)) (k i : ℕ) (x : T) (old new : Lane T) → AreDistinct ks → slice_get ks i ≡ Some k → slice_get ls i ≡ Some old → Moves (lane_left m) old (Next x) [] new →
-    TakesKeyed m gs ks ls k x ks (slice_set ls i new)
-known_key m gs ks ls k i x old new d p l moves v =
-    let seen : is_member nat_eq ks k ≡ true = key_there ks k i p in
-    let there : lanes_there m ks ls (item_then (k, x) v) ≡ lanes_there m ks (slice_set ls i new) v = there_known m ks ls k i x old new v d p l moves in
-    let fresh : map (group_lane m gs (item_then (k, x) v)) (fresh_keys ks v.items) ≡ map (group_lane m gs v) (fresh_keys ks v.items) = fresh_other m gs ks k x v v.items seen in
-    rw seen (ap (λ ws. ws ++ map (group_lane m gs (item_then (k, x) v)) (fresh_keys ks v.items)) there ∙ ap (λ ws. lanes_there m ks (slice_set ls i new) v ++ ws) fresh)
+pub keys_set : {T : Type 0} (rows : List (KeyedLane T)) (i : ℕ) (r : KeyedLane T) (new : Lane T) → slice_get rows i ≡ Some r → keys_of (slice_set rows i (record { key = r.key; lane = new })) ≡ keys_of rows
+keys_set [] i r new h = refl
+keys_set (q ∷ rows) zero r new h = ap (λ z. z.key ∷ keys_of rows) (sym (same_Some q r h))
+keys_set (q ∷ rows) (suc i) r new h = ap (λ ks. q.key ∷ ks) (keys_set rows i r new h)
 
-new_lane : {T : Type 0} (m : Meaning T) (gs : List (Stage T)) (k : ℕ) (x : T) (new : Lane T) (v : Stream (ℕ × T)) → BeginsWith m gs x new → group_lane m gs (item_then (k, x) v) k ≡ tagged_items m k (lane_left m new (of_key k v))
-new_lane m gs k x new v begins = ap (λ w. tagged_items m k (chained m gs w)) (key_here k x v) ∙ ap (tagged_items m k) (begins (of_key k v))
+length_keys : {T : Type 0} (rows : List (KeyedLane T)) → length (keys_of rows) ≡ length rows
+length_keys [] = refl
+length_keys (r ∷ rows) = ap suc (length_keys rows)
+
+-- an item of a key that a lane has
+known_key : {T : Type 0} (m : Meaning T) (gs : List (Stage T)) (rows : List (KeyedLane T)) (i : ℕ) (r : KeyedLane T) (new : Lane T) (x : T) → AreDistinct (keys_of rows) → is_member nat_eq (keys_of rows) r.key ≡ true → slice_get rows i ≡ Some r → TakesOne m r.lane x new →
+    TakesKeyed m gs rows r.key x (slice_set rows i (record { key = r.key; lane = new }))
+known_key {T} m gs rows i r new x d seen at takes w rest =
+    let fresh : map (group_lane m gs (item_then (r.key, x) w)) (fresh_keys (keys_of rows) w.items) ≡ map (group_lane m gs w) (fresh_keys (keys_of rows) w.items) = fresh_other m gs (keys_of rows) r.key x w w.items seen in
+    let none : fresh_keys (keys_of rows) ((r.key, x) ∷ w.items) ≡ fresh_keys (keys_of rows) w.items = rw seen refl in
+    let come : lanes_to_come m gs (keys_of rows) (item_then (r.key, x) w) rest ≡ lanes_to_come m gs (keys_of rows) w rest =
+    ap (λ ks. numbered (length (keys_of rows)) (map (group_lane m gs (item_then (r.key, x) w)) ks) ++ rest) none ∙ ap (λ vs. numbered (length (keys_of rows)) vs ++ rest) fresh in
+    ap (lanes_there m 0 rows (item_then (r.key, x) w)) come
+    ∙ there_known m 0 rows i r new x w (lanes_to_come m gs (keys_of rows) w rest) d at takes
+    ∙ ap (λ ks. lanes_there m 0 (slice_set rows i (record { key = r.key; lane = new })) w (lanes_to_come m gs ks w rest)) (sym (keys_set rows i r new at))
+
+keys_more : {T : Type 0} (rows : List (KeyedLane T)) (r : KeyedLane T) → keys_of (rows ++ r ∷ []) ≡ keys_of rows ++ r.key ∷ []
+keys_more [] r = refl
+keys_more (q ∷ rows) r = ap (λ ks. q.key ∷ ks) (keys_more rows r)
 
 -- an item of a new key
-pub new_key : {T : Type 0} (m : Meaning T) (gs : List (Stage T)) (ks : List ℕ) (ls : List (Lane T)) (k : ℕ) (x : T) (new : Lane T) → is_member nat_eq ks k ≡ false → length ks ≡ length ls → BeginsWith m gs x new →
-    TakesKeyed m gs ks ls k x (ks ++ k ∷ []) (ls ++ new ∷ [])
-new_key {T} m gs ks ls k x new out same begins v =
-    let others : List (Stream T) = map (group_lane m gs v) (fresh_keys (ks ++ k ∷ []) v.items) in
-    let fresh : map (group_lane m gs (item_then (k, x) v)) (fresh_keys (ks ++ k ∷ []) v.items) ≡ others = fresh_other m gs (ks ++ k ∷ []) k x v v.items (last_seen ks k) in
-    let there : lanes_there m ks ls (item_then (k, x) v) ≡ lanes_there m ks ls v = there_other m ks ls k x v out in
-    let lane = new_lane m gs k x new v begins in
-    rw out
-    (ap (λ ws. ws ++ group_lane m gs (item_then (k, x) v) k ∷ map (group_lane m gs (item_then (k, x) v)) (fresh_keys (ks ++ k ∷ []) v.items)) there
-    ∙ (ap (λ w. lanes_there m ks ls v ++ w ∷ map (group_lane m gs (item_then (k, x) v)) (fresh_keys (ks ++ k ∷ []) v.items)) lane
-    ∙ (ap (λ ws. lanes_there m ks ls v ++ tagged_items m k (lane_left m new (of_key k v)) ∷ ws) fresh
-    ∙ (sym (append_assoc (lanes_there m ks ls v) (tagged_items m k (lane_left m new (of_key k v)) ∷ []) others)
-    ∙ ap (λ ws. ws ++ others) (sym (there_more m ks ls k new v same))))))
+new_key : {T : Type 0} (m : Meaning T) (gs : List (Stage T)) (rows : List (KeyedLane T)) (k : ℕ) (x : T) (new : Lane T) → is_member nat_eq (keys_of rows) k ≡ false → BeginsWith m gs x new →
+    TakesKeyed m gs rows k x (rows ++ record { key = k; lane = new } ∷ [])
+new_key {T} m gs rows k x new out begins w rest =
+    let ks : List ℕ = keys_of rows in
+    let r : KeyedLane T = record { key = k; lane = new } in
+    let v : Stream (ℕ × T) = item_then (k, x) w in
+    let first : fresh_keys ks ((k, x) ∷ w.items) ≡ k ∷ fresh_keys (ks ++ k ∷ []) w.items = rw out refl in
+    let others : map (group_lane m gs v) (fresh_keys (ks ++ k ∷ []) w.items) ≡ map (group_lane m gs w) (fresh_keys (ks ++ k ∷ []) w.items) = fresh_other m gs (ks ++ k ∷ []) k x w w.items (last_seen ks k) in
+    let lane : Some (group_lane m gs v k) ≡ lane_left m k new (of_key k w) = ap (λ u. Some (tagged_items m k (chained m gs u))) (key_here k x w) ∙ begins k (of_key k w) in
+    let more : List (InputLeft T) = numbered (suc (length ks)) (map (group_lane m gs w) (fresh_keys (ks ++ k ∷ []) w.items)) ++ rest in
+    let come : lanes_to_come m gs ks v rest ≡ here (length ks) (lane_left m k new (of_key k w)) more =
+    ap (λ js. numbered (length ks) (map (group_lane m gs v) js) ++ rest) first
+    ∙ ap (λ vs. numbered (length ks) (group_lane m gs v k ∷ vs) ++ rest) others
+    ∙ ap (λ o. here (length ks) o more) lane in
+    let place : length ks ≡ 0 + length rows = length_keys rows ∙ omega arith in
+    let longer : suc (length ks) ≡ length (ks ++ k ∷ []) = sym (length-append ks (k ∷ []) ∙ omega arith) in
+    there_other m 0 rows k x w (lanes_to_come m gs ks v rest) out
+    ∙ ap (lanes_there m 0 rows w) (come
+    ∙ ap (λ n. here n (lane_left m k new (of_key k w)) more) place
+    ∙ ap (λ n. here (0 + length rows) (lane_left m k new (of_key k w)) (numbered n (map (group_lane m gs w) (fresh_keys (ks ++ k ∷ []) w.items)) ++ rest)) longer)
+    ∙ sym (there_more m 0 rows r w (lanes_to_come m gs (ks ++ k ∷ []) w rest))
+    ∙ ap (λ js. lanes_there m 0 (rows ++ r ∷ []) w (lanes_to_come m gs js w rest)) (sym (keys_more rows r))
 
--- ---- at the start
+-- ---- what the code knows
 
-first_then_fresh : {T : Type 0} (seen : List ℕ) (ps : List (ℕ × T)) → first_seen seen ps ≡ seen ++ fresh_keys seen ps
-first_then_fresh seen [] = sym (append-nil seen)
-first_then_fresh {T} seen (p ∷ ps) = by_test (is_member nat_eq seen p.0) refl (first_then_fresh seen ps) (first_then_fresh (seen ++ p.0 ∷ []) ps)
+row_at : {T : Type 0} (rows : List (KeyedLane T)) (i k : ℕ) (r : KeyedLane T) → slice_get (keys_of rows) i ≡ Some k → r ≡ slice_index_or rows i r → (slice_get rows i ≡ Some r) × (r.key ≡ k)
+row_at [] i k r h is = cc
+row_at (q ∷ rows) zero k r h is = (ap Some (sym is), ap (λ z. z.key) is ∙ same_Some q.key k h)
+row_at (q ∷ rows) (suc i) k r h is = row_at rows i k r h is
+
+place_within : {T : Type 0} (rows : List (KeyedLane T)) (i k : ℕ) → slice_get (keys_of rows) i ≡ Some k → i < length rows
+place_within [] i k h = cc
+place_within (q ∷ rows) zero k h = omega arith
+place_within (q ∷ rows) (suc i) k h = let lt = place_within rows i k h in omega arith
+
+-- the lane of the key took the item
+known_taken : {T : Type 0} (m : Meaning T) (gs : List (Stage T)) (rows : List (KeyedLane T)) (i k : ℕ) (r : KeyedLane T) (new : Lane T) (x : T) → AreDistinct (keys_of rows) → slice_get (keys_of rows) i ≡ Some k → r ≡ slice_index_or rows i r → TakesOne m r.lane x new →
+    TakesKeyed m gs rows k x (slice_set rows i (record { key = r.key; lane = new }))
+known_taken {T} m gs rows i k r new x d at is takes =
+    let found = row_at rows i k r at is in
+    let seen : is_member nat_eq (keys_of rows) r.key ≡ true = key_there (keys_of rows) r.key i (at ∙ ap Some (sym found.1)) in
+    let P : ℕ → Type 0 = λ z. TakesKeyed m gs rows z x (slice_set rows i (record { key = r.key; lane = new })) in
+    subst P found.1 (known_key m gs rows i r new x d seen found.0 takes)
+
+known_keys : {T : Type 0} (rows : List (KeyedLane T)) (i k : ℕ) (r : KeyedLane T) (new : Lane T) → slice_get (keys_of rows) i ≡ Some k → r ≡ slice_index_or rows i r → keys_of (slice_set rows i (record { key = r.key; lane = new })) ≡ keys_of rows
+known_keys rows i k r new at is = let found = row_at rows i k r at is in keys_set rows i r new found.0
+
+known_seen : {T : Type 0} (rows : List (KeyedLane T)) (i k : ℕ) (r : KeyedLane T) (new : Lane T) → slice_get (keys_of rows) i ≡ Some k → r ≡ slice_index_or rows i r → keys_of (slice_set rows i (record { key = r.key; lane = new })) ≡ see (keys_of rows) k
+known_seen rows i k r new at is =
+    let seen : is_member nat_eq (keys_of rows) k ≡ true = key_there (keys_of rows) k i at in
+    rw seen (known_keys rows i k r new at is)
+
+-- nothing waits in it
+quiet_at : {T : Type 0} (rows : List (KeyedLane T)) (i : ℕ) (r : KeyedLane T) → are_quiet rows ≡ true → i < length rows → r ≡ slice_index_or rows i r → is_quiet r.lane ≡ true
+quiet_at [] i r q lt is = absurd (omega arith)
+quiet_at (p ∷ rows) zero r q lt is = ap (λ z. is_quiet z.lane) is ∙ and_left (is_quiet p.lane) (are_quiet rows) q
   where
-    by_test : (t : Bool) → is_member nat_eq seen p.0 ≡ t → first_seen seen ps ≡ seen ++ fresh_keys seen ps → first_seen (seen ++ p.0 ∷ []) ps ≡ (seen ++ p.0 ∷ []) ++ fresh_keys (seen ++ p.0 ∷ []) ps → first_seen seen (p ∷ ps) ≡ seen ++ fresh_keys seen (p ∷ ps)
-    by_test true e known new = rw e known
-    by_test false e known new = rw e (new ∙ append_assoc seen (p.0 ∷ []) (fresh_keys (seen ++ p.0 ∷ []) ps))
-
-pub no_lanes : {T : Type 0} (m : Meaning T) (gs : List (Stage T)) (v : Stream (ℕ × T)) → lanes_left m gs [] [] v ≡ group_lanes m gs v
-no_lanes m gs v = ap (map (group_lane m gs v)) (sym (first_then_fresh [] v.items))
-
-not_same : (j k : ℕ) → nat_eq k j ≡ false → nat_eq j k ≡ false
-not_same j k h = grind (arith, nat_tests)
-
-not_there : (ks : List ℕ) (j k : ℕ) → is_member nat_eq ks j ≡ false → nat_eq k j ≡ false → is_member nat_eq (ks ++ k ∷ []) j ≡ false
-not_there [] j k h n = rw (not_same j k n) refl
-not_there (i ∷ ks) j k h n = rw (or_left (nat_eq j i) (is_member nat_eq ks j) h) (not_there ks j k (or_right (nat_eq j i) (is_member nat_eq ks j) h) n)
-
--- a key that wasn't seen stands last
-pub distinct_more : (ks : List ℕ) (k : ℕ) → AreDistinct ks → is_member nat_eq ks k ≡ false → AreDistinct (ks ++ k ∷ [])
-distinct_more [] k d out = (refl, tt)
-distinct_more (j ∷ ks) k d out = (not_there ks j k d.0 (or_left (nat_eq k j) (is_member nat_eq ks k) out), distinct_more ks k d.1 (or_right (nat_eq k j) (is_member nat_eq ks k) out))
-
--- ---- the place of a key
-
-first_place : (ks : List ℕ) (k : ℕ) → nat_lt (position_or_len (nat_eq k) ks) (length ks) ≡ true → slice_get ks (position_or_len (nat_eq k) ks) ≡ Some k
-first_place [] k h = cc
-first_place (j ∷ ks) k h = by_test (nat_eq k j) refl (first_place ks k)
+    and_left : (a b : Bool) → a && b ≡ true → a ≡ true
+    and_left true b e = refl
+    and_left false b e = e
+quiet_at (p ∷ rows) (suc i) r q lt is = quiet_at rows i r (and_right (is_quiet p.lane) (are_quiet rows) q) (omega arith) is
   where
-    less : (p n : ℕ) → nat_lt (1 + p) (suc n) ≡ true → nat_lt p n ≡ true
-    less p n h = grind (arith, nat_tests)
+    and_right : (a b : Bool) → a && b ≡ true → b ≡ true
+    and_right true b e = e
+    and_right false b e = cc
 
-    by_test : (t : Bool) → nat_eq k j ≡ t → (nat_lt (position_or_len (nat_eq k) ks) (length ks) ≡ true → slice_get ks (position_or_len (nat_eq k) ks) ≡ Some k) → slice_get (j ∷ ks) (position_or_len (nat_eq k) (j ∷ ks)) ≡ Some k
-    by_test true e rest = rw e (ap Some (sym (equal_keys k j e)))
-    by_test false e rest =
-        let more : 1 + position_or_len (nat_eq k) ks ≡ suc (position_or_len (nat_eq k) ks) = omega arith in
-        let there = rw e at h in
-        rw (e, more) (rest (less (position_or_len (nat_eq k) ks) (length ks) there))
+new_keys : {T : Type 0} (rows : List (KeyedLane T)) (k : ℕ) (new : Lane T) → is_member nat_eq (keys_of rows) k ≡ false → keys_of (rows ++ record { key = k; lane = new } ∷ []) ≡ see (keys_of rows) k
+new_keys rows k new out = rw out (keys_more rows (record { key = k; lane = new }))
 
-pub key_at : (ks : List ℕ) (k : ℕ) (r : Option ℕ) → r ≡ position (nat_eq k) ks → IfSome r (λ i. slice_get ks i ≡ Some k)
-key_at ks k r e = rw e (by_test (nat_lt (position_or_len (nat_eq k) ks) (length ks)) refl)
+new_distinct : {T : Type 0} (rows : List (KeyedLane T)) (k : ℕ) (new : Lane T) → is_member nat_eq (keys_of rows) k ≡ false → AreDistinct (keys_of rows) → AreDistinct (keys_of (rows ++ record { key = k; lane = new } ∷ []))
+new_distinct rows k new out d = subst AreDistinct (sym (keys_more rows (record { key = k; lane = new }))) (distinct_more (keys_of rows) k d out)
+
+-- a key that was added and removed again
+see_new : (ks : List ℕ) (k : ℕ) → is_member nat_eq ks k ≡ false → see ks k ≡ ks ++ k ∷ []
+see_new ks k out = rw out refl
+
+-- ---- what the table keeps
+
+abbrev pub Keeps : {T : Type 0} → List ℕ → List (KeyedLane T) → Type 0
+Keeps ks rows = (ks ≡ keys_of rows) × AreDistinct (keys_of rows)
+
+pub kept : {T : Type 0} (ks ks' : List ℕ) (rows rows' : List (KeyedLane T)) → Keeps ks rows → ks' ≡ ks → rows' ≡ rows → Keeps ks' rows'
+kept ks ks' rows rows' h k r = rw (k, r) h
+
+pub kept_more : {T : Type 0} (ks ks' : List ℕ) (now rows rows' more : List (KeyedLane T)) (k : ℕ) (new : Lane T) → Keeps ks rows → rows ≡ now → is_member nat_eq (keys_of now) k ≡ false → ks' ≡ see ks k → rows' ≡ rows → more ≡ rows' ++ record { key = k; lane = new } ∷ [] → Keeps ks' more
+kept_more ks ks' now rows rows' more k new h view out added same is =
+    let there : is_member nat_eq (keys_of rows) k ≡ false = ap (λ z. is_member nat_eq (keys_of z) k) view ∙ out in
+    rw (is, same) (added ∙ ap (λ z. see z k) h.0 ∙ sym (new_keys rows k new there), new_distinct rows k new there h.1)
+
+pub removed : {T : Type 0} (ks ks' left : List ℕ) (now rows rows' : List (KeyedLane T)) (k : ℕ) → Keeps ks rows → rows ≡ now → is_member nat_eq (keys_of now) k ≡ false → ks' ≡ see ks k → ((js : List ℕ) (j : ℕ) → ks' ≡ js ++ j ∷ [] → left ≡ js) → rows' ≡ rows → Keeps left rows'
+removed ks ks' left now rows rows' k h view out added back same =
+    let there : is_member nat_eq ks k ≡ false = ap (λ z. is_member nat_eq z k) h.0 ∙ ap (λ z. is_member nat_eq (keys_of z) k) view ∙ out in
+    kept ks left rows rows' h (back ks k (added ∙ see_new ks k there)) same
+
+set_keys : {T : Type 0} (rows : List (KeyedLane T)) (i : ℕ) (r : KeyedLane T) (new : Lane T) → r ≡ slice_index_or rows i r → keys_of (slice_set rows i (record { key = r.key; lane = new })) ≡ keys_of rows
+set_keys [] i r new is = refl
+set_keys (q ∷ rows) zero r new is = ap (λ z. z.key ∷ keys_of rows) is
+set_keys (q ∷ rows) (suc i) r new is = ap (λ ks. q.key ∷ ks) (set_keys rows i r new is)
+
+pub kept_at : {T : Type 0} (ks : List ℕ) (rows : List (KeyedLane T)) (i : ℕ) (r : KeyedLane T) (new : Lane T) → Keeps ks rows → r ≡ slice_index_or rows i r → Keeps ks (slice_set rows i (record { key = r.key; lane = new }))
+kept_at ks rows i r new h is = let same = set_keys rows i r new is in (h.0 ∙ sym same, subst AreDistinct (sym same) h.1)
+
+-- ---- what the calls answer
+
+pub opened : {T : Type 0} (m : Meaning T) (gs : List (Stage T)) (now rows rows' more : List (KeyedLane T)) (k : ℕ) (x : T) (new : Lane T) → rows ≡ now → is_member nat_eq (keys_of now) k ≡ false → rows' ≡ rows → more ≡ rows' ++ record { key = k; lane = new } ∷ [] → BeginsWith m gs x new →
+    TakesKeyed m gs now k x more
+opened {T} m gs now rows rows' more k x new view out same is begins =
+    let whole : now ++ record { key = k; lane = new } ∷ [] ≡ more = sym (is ∙ ap (λ z. z ++ record { key = k; lane = new } ∷ []) (same ∙ view)) in
+    subst (TakesKeyed m gs now k x) whole (new_key m gs now k x new out begins)
+
+key_in : {T : Type 0} (ks : List ℕ) (rows : List (KeyedLane T)) (i k : ℕ) → Keeps ks rows → slice_get ks i ≡ Some k → slice_get (keys_of rows) i ≡ Some k
+key_in ks rows i k h at = ap (λ z. slice_get z i) (sym h.0) ∙ at
+
+pub quiet_there : {T : Type 0} (ks : List ℕ) (now rows : List (KeyedLane T)) (i k : ℕ) (r : KeyedLane T) → Keeps ks rows → rows ≡ now → slice_get ks i ≡ Some k → are_quiet now ≡ true → r ≡ slice_index_or rows i r → is_quiet r.lane ≡ true
+quiet_there ks now rows i k r h view at q is = quiet_at rows i r (ap are_quiet view ∙ q) (place_within rows i k (key_in ks rows i k h at)) is
+
+pub taken_there : {T : Type 0} (m : Meaning T) (gs : List (Stage T)) (ks : List ℕ) (now rows : List (KeyedLane T)) (i k : ℕ) (r : KeyedLane T) (new : Lane T) (x : T) → Keeps ks rows → rows ≡ now → slice_get ks i ≡ Some k → r ≡ slice_index_or rows i r → TakesOne m r.lane x new →
+    TakesKeyed m gs now k x (slice_set rows i (record { key = r.key; lane = new }))
+taken_there {T} m gs ks now rows i k r new x h view at is takes =
+    let P : List (KeyedLane T) → Type 0 = λ z. TakesKeyed m gs z k x (slice_set rows i (record { key = r.key; lane = new })) in
+    subst P view (known_taken m gs rows i k r new x h.1 (key_in ks rows i k h at) is takes)
+
+pub seen_there : {T : Type 0} (ks : List ℕ) (now rows : List (KeyedLane T)) (i k : ℕ) (r : KeyedLane T) (new : Lane T) → Keeps ks rows → rows ≡ now → slice_get ks i ≡ Some k → r ≡ slice_index_or rows i r → keys_of (slice_set rows i (record { key = r.key; lane = new })) ≡ see (keys_of now) k
+seen_there ks now rows i k r new h view at is = known_seen rows i k r new (key_in ks rows i k h at) is ∙ ap (λ z. see (keys_of z) k) view
+
+pub set_back : {T : Type 0} (now rows : List (KeyedLane T)) (i : ℕ) (r : KeyedLane T) (new : Lane T) → rows ≡ now → r ≡ slice_index_or rows i r → new ≡ r.lane → slice_set rows i (record { key = r.key; lane = new }) ≡ now
+set_back {T} now rows i r new view is same = ap (λ l. slice_set rows i (record { key = r.key; lane = l })) same ∙ as_it_was rows i is ∙ view
   where
-    by_test : (t : Bool) → nat_lt (position_or_len (nat_eq k) ks) (length ks) ≡ t → IfSome (position (nat_eq k) ks) (λ i. slice_get ks i ≡ Some k)
-    by_test true h = rw h (first_place ks k h)
-    by_test false h = rw h tt
+    as_it_was : (ls : List (KeyedLane T)) (j : ℕ) → r ≡ slice_index_or ls j r → slice_set ls j (record { key = r.key; lane = r.lane }) ≡ ls
+    as_it_was [] j e = refl
+    as_it_was (q ∷ ls) zero e = ap (λ z. z ∷ ls) e
+    as_it_was (q ∷ ls) (suc j) e = ap (λ zs. q ∷ zs) (as_it_was ls j e)
+
+pub commits : {T : Type 0} (now rows : List (KeyedLane T)) (i : ℕ) (r : KeyedLane T) (lane : Option (Lane T)) (new : Lane T) → rows ≡ now → r ≡ slice_index_or rows i r → new ≡ after_pick lane r.lane → CommitsAt now i lane (slice_set rows i (record { key = r.key; lane = new }))
+commits {T} now rows i r lane new view is after q at =
+    let same : r ≡ q = is ∙ got rows i (ap (λ z. slice_get z i) view ∙ at) in
+    let P : List (KeyedLane T) → Type 0 = λ z. slice_set rows i (record { key = r.key; lane = new }) ≡ slice_set z i (record { key = q.key; lane = after_pick lane q.lane }) in
+    subst P view (ap (λ l. slice_set rows i (record { key = r.key; lane = l })) after ∙ ap (λ z. slice_set rows i (record { key = z.key; lane = after_pick lane z.lane })) same)
+  where
+    got : (ls : List (KeyedLane T)) (j : ℕ) → slice_get ls j ≡ Some q → slice_index_or ls j r ≡ q
+    got [] j h = cc
+    got (p ∷ ls) zero h = same_Some p q h
+    got (p ∷ ls) (suc j) h = got ls j h
+
+-- an answer's clause from another
+pub on_ok : {A E : Type 0} (r : Result A E) (P Q : Type 0) → (P → Q) → OnOk r P → OnOk r Q
+on_ok (Ok a) P Q f p = f p
+on_ok (Err e) P Q f p = tt
+
+pub on_err : {A E : Type 0} (r : Result A E) (P Q : Type 0) → (P → Q) → OnErr r P → OnErr r Q
+on_err (Ok a) P Q f p = tt
+on_err (Err e) P Q f p = f p

@@ -1,27 +1,49 @@
 //! One lane.
 
-ghost use Rattle.std.specs.Prelude.{◌≡◌, ◌+◌, ◌≤◌, [], ◌++◌, length, slice_get, Some, None, IfOk, IfErr, OnOk, OnErr};
+ghost use Rattle.std.specs.Prelude.{◌≡◌, ◌+◌, ◌≤◌, true, false, [], ◌++◌, length, is_some, vec_len, vec_capacity, IfOk, IfErr, OnOk, OnErr};
 ghost use Rattle.std.specs.Option.{option_to_list};
-ghost use Rattle.rsx_types.specs.declared.signal.Signal.TheVariants.{Next};
-ghost use Rattle.rsx_operators.specs.Moves.{Moves};
+ghost use Rattle.rsx_operators.specs.Moves.{has_ended};
 ghost use Rattle.rsx_chain.specs.declared.chain.ChainState.{ChainState as ChainStateSpec};
-ghost use Rattle.rsx_pending.specs.Signals.{HasRoom, put_out};
-ghost use Rattle.rsx_grouping.specs.Lane.{unless_ended, lane_left, TakesItem, Begins, BeginsWith, Completes};
+ghost use Rattle.rsx_sources.specs.Slot.{is_nil};
+ghost use Rattle.rsx_grouping.specs.Lane.{state_after, state_ended, ending_signal, is_gone, is_quiet, can_pick, after_pick, TakesItem, Begins, TakesOne, BeginsWith, CompletesWith, IsPrepared};
 ghost use Rattle.rsx_grouping.specs.declared.lane.Lane.{Lane as LaneSpec};
+ghost use Rattle.rsx_grouping.specs.declared.lane.LaneState.TheVariants.{Running, Gone};
 
+use crate::waiting::WaitingItems;
 use rsx_chain::{ChainState, Chaining, NewChain};
 use rsx_operators::Emission;
-use rsx_pending::PendingSignals;
-use rsx_types::{Ending, NoMemory, Ops, Signal, Stage};
+use rsx_types::{Cause, Ending, NoMemory, Ops, Signal, Stage, StreamValue};
 use std::alloc::Global;
 
-/// One lane of an operator: its chain, and what the chain has put out and is not picked yet.
+/// Where the chain of a lane is.
+#[derive(Drop)]
+pub enum LaneState<T> {
+    /// It has put out no ending.
+    Running(ChainState<T>),
+    /// It has put out its completion, which stands behind what waits.
+    Completed,
+    /// It has failed with this cause, which stands behind what waits.
+    Failing(Cause),
+    /// Its ending was picked: nothing more comes out (rule 1.7).
+    Gone,
+}
+
+/// One lane of an operator: its chain, and the items that the chain has put out and that aren't picked yet.
 #[derive(Drop)]
 pub struct Lane<T> {
-    /// The chain, until it has put out its ending.
-    pub chain: Option<ChainState<T>>,
-    /// What waits.
-    pub pending: PendingSignals<T>,
+    /// The chain, or the ending that it has put out.
+    pub state: LaneState<T>,
+    /// The items that wait.
+    pub waiting: WaitingItems<T>,
+}
+
+/// What a pick takes out of a lane.
+#[derive(Drop)]
+pub struct LanePick<T> {
+    /// The signal, an item with the tag of the lane's key.
+    pub signal: Signal<T>,
+    /// The lane as it is then, where the pick completes it; where there is none, the lane without the signal that waited.
+    pub lane: Option<Lane<T>>,
 }
 
 /// A chain that has taken its first item.
@@ -29,25 +51,57 @@ pub struct Lane<T> {
 pub struct Begun<T> {
     /// The chain.
     pub chain: ChainState<T>,
-    /// What came out of it at its start.
+    /// What came out of it at its start. There is memory for one more.
     pub items: Vec<T>,
     /// What came out of it by the item.
     pub out: Emission<T>,
-    /// An empty list with memory for all that came out.
-    pub pending: PendingSignals<T>,
 }
 
-/// The chain, unless it has put out this ending.
-fn unless_ended<T: Drop>(chain: ChainState<T>, ending: Ending) -> Option<ChainState<T>>
-    ensures { result ≡ unless_ended chain ending }
+/// Where a chain is that has put out this ending.
+fn state_after<T: Drop>(chain: ChainState<T>, ending: Ending) -> LaneState<T>
+    ensures { result ≡ state_after chain ending }
 {
     match ending {
-        Ending::Open => Some(chain),
-        Ending::Done | Ending::Failed(_) => None,
+        Ending::Open => LaneState::Running(chain),
+        Ending::Done => LaneState::Completed,
+        Ending::Failed(cause) => LaneState::Failing(cause),
     }
 }
 
-/// What the chain of a lane does with an item.
+/// Where a lane is whose chain has put out this ending.
+fn state_ended<T: Drop>(ending: Ending) -> LaneState<T>
+    ensures { result ≡ state_ended ending }
+{
+    match ending {
+        Ending::Open => LaneState::Gone,
+        Ending::Done => LaneState::Completed,
+        Ending::Failed(cause) => LaneState::Failing(cause),
+    }
+}
+
+/// The signal of an ending.
+fn ending_signal<T: Drop>(ending: Ending) -> Signal<T>
+    ensures { result ≡ ending_signal ending }
+{
+    match ending {
+        Ending::Open | Ending::Done => Signal::Complete,
+        Ending::Failed(cause) => Signal::Error(cause),
+    }
+}
+
+/// Puts an item, if there is one, behind those for which there is memory.
+fn with_item<T: Drop>(items: Vec<T>, item: Option<T>) -> Vec<T>
+    requires { vec_len items + 1 ≤ vec_capacity items }
+    ensures { result.items ≡ items.items ++ option_to_list item }
+{
+    let mut items = items;
+    if let Some(item) = item {
+        items.push_reserved(item);
+    }
+    items
+}
+
+/// What the chain of a lane does.
 trait TakingItem<T: Drop> {
     ghost chain: { Self → ChainStateSpec T };
 
@@ -70,9 +124,17 @@ trait TakingItem<T: Drop> {
         item: T,
     ) -> Result<Begun<T>, T>
         ensures ok { IfOk result (λ b. Begins (O.meaning ops.now) stages.now item b) }
-        ensures nothing { IfOk result (λ b. b.pending.left ≡ []) }
-        ensures room { IfOk result (λ b. length b.items.items + 2 ≤ b.pending.room) }
+        ensures room { IfOk result (λ b. vec_len b.items + 1 ≤ vec_capacity b.items) }
         ensures err { IfErr result (λ x. x ≡ item) };
+
+    /// What a pick takes that completes the lane of this key with this chain. The chain stays as it is.
+    fn completion<O: Ops<Item = T>>(
+        &self,
+        alloc: Global,
+        ops: &O,
+        key: u64,
+    ) -> Result<LanePick<T>, NoMemory>
+        ensures ok { IfOk result (λ p. CompletesWith (O.meaning ops.now) key (chain self.now) p) };
 }
 
 impl<T: Drop> TakingItem<T> for ChainState<T> {
@@ -108,8 +170,7 @@ impl<T: Drop> TakingItem<T> for ChainState<T> {
         item: T,
     ) -> Result<Begun<T>, T>
         ensures ok { IfOk result (λ b. Begins (O.meaning ops.now) stages.now item b) }
-        ensures nothing { IfOk result (λ b. b.pending.left ≡ []) }
-        ensures room { IfOk result (λ b. length b.items.items + 2 ≤ b.pending.room) }
+        ensures room { IfOk result (λ b. vec_len b.items + 1 ≤ vec_capacity b.items) }
         ensures err { IfErr result (λ x. x ≡ item) }
     {
         let (mut chain, first) = match ChainState::new(alloc, ops, stages) {
@@ -118,13 +179,9 @@ impl<T: Drop> TakingItem<T> for ChainState<T> {
         };
         let ending = first.ending();
         let mut items = first.into_items();
-        if items.reserve(2).is_err() {
+        if items.reserve(1).is_err() {
             return Err(item);
         }
-        let pending = match PendingSignals::with_room(alloc, items.capacity()) {
-            Ok(pending) => pending,
-            Err(_) => return Err(item),
-        };
         let out = match ending {
             Ending::Open => match chain.take_one(alloc, ops, item) {
                 Ok(out) => out,
@@ -132,42 +189,110 @@ impl<T: Drop> TakingItem<T> for ChainState<T> {
             },
             ending => Emission { item: None, ending },
         };
-        Ok(Begun {
-            chain,
-            items,
-            out,
-            pending,
-        })
-    }
-}
-
-impl<T: Drop> Lane<T> {
-    /// The next signal that waits, if there is one. It doesn't wait any more.
-    pub fn next(&mut self) -> Option<Signal<T>>
-        ensures signal { result ≡ slice_get self.old.pending.left 0 }
-        ensures left { self.old.pending.left ≡ option_to_list result ++ self.new.pending.left }
-        ensures chain { self.new.chain ≡ self.old.chain }
-    {
-        self.pending.pop()
+        Ok(Begun { chain, items, out })
     }
 
-    /// Puts what came out of the chain into the list, in which nothing waits.
-    fn put_out(&mut self, alloc: Global, spare: Option<PendingSignals<T>>, out: Emission<T>)
-        requires nothing { self.old.pending.left ≡ [] }
-        requires room { HasRoom spare self.old.pending 2 }
-        ensures left { self.new.pending.left ≡ put_out [] out.item out.ending }
-        ensures chain { (c : ChainStateSpec T) → self.old.chain ≡ Some c → self.new.chain ≡ unless_ended c out.ending }
+    fn completion<O: Ops<Item = T>>(
+        &self,
+        alloc: Global,
+        ops: &O,
+        key: u64,
+    ) -> Result<LanePick<T>, NoMemory>
+        ensures ok { IfOk result (λ p. CompletesWith (O.meaning ops.now) key self.now p) }
     {
-        self.pending.take_over(spare);
-        self.pending.put_all(Vec::new(alloc), out.item, out.ending);
-        match out.ending {
-            Ending::Open => {}
-            Ending::Done | Ending::Failed(_) => self.chain = None,
+        let done = StreamValue::new(Vec::new(alloc), Ending::Done);
+        let value = self.rest(alloc, ops, done)?;
+        let ending = value.ending();
+        let mut waiting = WaitingItems::of(value.into_items());
+        match waiting.pop() {
+            Some(item) => {
+                let tagged = ops.tag(alloc, key, &item)?;
+                let state = state_ended(ending);
+                Ok(LanePick {
+                    signal: Signal::Next(tagged),
+                    lane: Some(Lane { state, waiting }),
+                })
+            }
+            None => {
+                let state = LaneState::Gone;
+                Ok(LanePick {
+                    signal: ending_signal(ending),
+                    lane: Some(Lane { state, waiting }),
+                })
+            }
         }
     }
 }
 
-/// What a lane does with what comes in at it.
+impl<T: Drop> Lane<T> {
+    /// Whether its ending was picked.
+    pub fn is_gone(&self) -> bool
+        ensures { result ≡ is_gone self.now }
+    {
+        matches!(self.state, LaneState::Gone)
+    }
+
+    /// Puts what came out of the chain into the list, in which nothing waits.
+    fn put_out(&mut self, out: Emission<T>)
+        requires { self.old.waiting ≡ [] }
+        ensures waiting { self.new.waiting ≡ option_to_list out.item }
+        ensures state { (c : ChainStateSpec T) → self.old.state ≡ Running c → self.new.state ≡ state_after c out.ending }
+    {
+        self.waiting.put(out.item);
+        match out.ending {
+            Ending::Open => {}
+            Ending::Done => self.state = LaneState::Completed,
+            Ending::Failed(cause) => self.state = LaneState::Failing(cause),
+        }
+    }
+
+    /// Nothing more comes out.
+    fn leave(&mut self)
+        ensures { self.new ≡ record self.old { state = Gone } }
+    {
+        self.state = LaneState::Gone;
+    }
+
+    /// Whether nothing of it waits: no item, and no ending that its chain has put out.
+    pub fn is_quiet(&self) -> bool
+        ensures { result ≡ is_quiet self.now }
+    {
+        match &self.state {
+            LaneState::Running(_) => self.waiting.is_empty(),
+            LaneState::Completed | LaneState::Failing(_) => false,
+            LaneState::Gone => true,
+        }
+    }
+
+    /// Whether it can be picked, where the input is done or not, so much is asked of the operator, and so much was sent by it. An
+    /// item, and the completion of the lane, can be picked only where one more may be sent.
+    pub fn can_pick(&self, done: bool, asked: u64, sent: u64) -> bool
+        ensures { result ≡ can_pick self.now done asked sent }
+    {
+        let waits = !self.waiting.is_empty();
+        match &self.state {
+            LaneState::Running(_) => (waits || done) && sent < asked,
+            LaneState::Completed | LaneState::Failing(_) => !waits || sent < asked,
+            LaneState::Gone => false,
+        }
+    }
+
+    /// Takes what a pick took: the lane that it completed stands here, or the signal that waited is gone.
+    pub fn commit(&mut self, lane: Option<Lane<T>>)
+        ensures { self.new ≡ after_pick lane self.old }
+    {
+        match lane {
+            Some(lane) => *self = lane,
+            None => {
+                if self.waiting.pop().is_none() {
+                    self.leave();
+                }
+            }
+        }
+    }
+}
+
+/// What a lane does with what comes in at it, and what is picked of it.
 pub trait Laning<T: Drop> {
     ghost lane: { Self → LaneSpec T };
 
@@ -179,23 +304,28 @@ pub trait Laning<T: Drop> {
         item: T,
     ) -> Result<Lane<T>, T>
         ensures ok { IfOk result (λ l. BeginsWith (O.meaning ops.now) stages.now item l) }
+        ensures there { IfOk result (λ l. is_gone l ≡ false) }
         ensures err { IfErr result (λ x. x ≡ item) };
 
-    /// Takes an item. No signal waits. For want of memory the item comes back, and nothing has changed. An item that comes behind
+    /// Takes an item. Nothing of the lane waits. For want of memory the item comes back, and nothing has changed. An item that comes behind
     /// the ending of the lane's chain is let go.
     fn take_item<O: Ops<Item = T>>(&mut self, alloc: Global, ops: &O, item: T) -> Result<(), T>
-        requires { (lane self.old).pending.left ≡ [] }
-        ensures ok { OnOk result (Moves (lane_left (O.meaning ops.now)) (lane self.old) (Next item) [] (lane self.new)) }
+        requires { is_quiet (lane self.old) ≡ true }
+        ensures ok { OnOk result (TakesOne (O.meaning ops.now) (lane self.old) item (lane self.new)) }
+        ensures gone { OnOk result (is_gone (lane self.new) ≡ is_gone (lane self.old)) }
         ensures err { IfErr result (λ x. x ≡ item) }
         ensures same { OnErr result (self.new ≡ self.old) };
 
-    /// Takes the completion. No signal waits. For want of memory nothing has changed. Where it was not put out before, the ending of
-    /// the chain is put out now.
-    fn complete<O: Ops<Item = T>>(&mut self, alloc: Global, ops: &O) -> Result<(), NoMemory>
-        requires { (lane self.old).pending.left ≡ [] }
-        ensures ok { OnOk result (Completes (O.meaning ops.now) (lane self.old) (lane self.new)) }
-        ensures over { OnOk result ((lane self.new).chain ≡ None) }
-        ensures same { OnErr result (self.new ≡ self.old) };
+    /// What a pick takes out of the lane of this key. Where no item waits and the chain has put out no ending, the pick completes
+    /// the lane. Nothing changes here: [`commit`](Lane::commit) takes it.
+    fn prepare<O: Ops<Item = T>>(
+        &self,
+        alloc: Global,
+        ops: &O,
+        key: u64,
+    ) -> Result<LanePick<T>, NoMemory>
+        requires { is_gone (lane self.now) ≡ false }
+        ensures ok { IfOk result (λ p. IsPrepared (O.meaning ops.now) key (lane self.now) p) };
 }
 
 impl<T: Drop> Laning<T> for Lane<T> {
@@ -208,63 +338,64 @@ impl<T: Drop> Laning<T> for Lane<T> {
         item: T,
     ) -> Result<Lane<T>, T>
         ensures ok { IfOk result (λ l. BeginsWith (O.meaning ops.now) stages.now item l) }
+        ensures there { IfOk result (λ l. is_gone l ≡ false) }
         ensures err { IfErr result (λ x. x ≡ item) }
     {
         match ChainState::begun(alloc, ops, stages, item) {
             Ok(begun) => {
-                let ending = begun.out.ending;
-                let mut pending = begun.pending;
-                pending.put_all(begun.items, begun.out.item, ending);
-                Ok(Lane {
-                    chain: unless_ended(begun.chain, ending),
-                    pending,
-                })
+                let state = state_after(begun.chain, begun.out.ending);
+                let waiting = WaitingItems::of(with_item(begun.items, begun.out.item));
+                Ok(Lane { state, waiting })
             }
             Err(item) => Err(item),
         }
     }
 
     fn take_item<O: Ops<Item = T>>(&mut self, alloc: Global, ops: &O, item: T) -> Result<(), T>
-        requires { self.old.pending.left ≡ [] }
-        ensures ok { OnOk result (Moves (lane_left (O.meaning ops.now)) self.old (Next item) [] self.new) }
+        requires { is_quiet self.old ≡ true }
+        ensures ok { OnOk result (TakesOne (O.meaning ops.now) self.old item self.new) }
+        ensures gone { OnOk result (is_gone self.new ≡ is_gone self.old) }
         ensures err { IfErr result (λ x. x ≡ item) }
         ensures same { OnErr result (self.new ≡ self.old) }
     {
-        let Some(chain) = &mut self.chain else {
+        let LaneState::Running(chain) = &mut self.state else {
             return Ok(());
-        };
-        let spare = match self.pending.spare(alloc, 2) {
-            Ok(spare) => spare,
-            Err(_) => return Err(item),
         };
         let out = match chain.take_one(alloc, ops, item) {
             Ok(out) => out,
             Err(item) => return Err(item),
         };
-        self.put_out(alloc, spare, out);
+        self.put_out(out);
         Ok(())
     }
 
-    fn complete<O: Ops<Item = T>>(&mut self, alloc: Global, ops: &O) -> Result<(), NoMemory>
-        requires { self.old.pending.left ≡ [] }
-        ensures ok { OnOk result (Completes (O.meaning ops.now) self.old self.new) }
-        ensures over { OnOk result (self.new.chain ≡ None) }
-        ensures same { OnErr result (self.new ≡ self.old) }
+    fn prepare<O: Ops<Item = T>>(
+        &self,
+        alloc: Global,
+        ops: &O,
+        key: u64,
+    ) -> Result<LanePick<T>, NoMemory>
+        requires { is_gone self.now ≡ false }
+        ensures ok { IfOk result (λ p. IsPrepared (O.meaning ops.now) key self.now p) }
     {
-        let Some(chain) = &mut self.chain else {
-            return Ok(());
-        };
-        let spare = self.pending.spare(alloc, 2)?;
-        let emission = Emission {
-            item: None,
-            ending: Ending::Done,
-        };
-        match chain.take(alloc, ops, emission) {
-            Ok(out) => {
-                self.put_out(alloc, spare, out);
-                Ok(())
-            }
-            Err(_) => Err(NoMemory),
+        if let Some(item) = self.waiting.front() {
+            let tagged = ops.tag(alloc, key, item)?;
+            return Ok(LanePick {
+                signal: Signal::Next(tagged),
+                lane: None,
+            });
+        }
+        match &self.state {
+            LaneState::Running(chain) => chain.completion(alloc, ops, key),
+            LaneState::Completed => Ok(LanePick {
+                signal: Signal::Complete,
+                lane: None,
+            }),
+            LaneState::Failing(cause) => Ok(LanePick {
+                signal: Signal::Error(*cause),
+                lane: None,
+            }),
+            LaneState::Gone => unreachable!(),
         }
     }
 }

@@ -1,4 +1,4 @@
-use Rattle.rsx_grouping.proofs.Tables.{key_at}
+use Rattle.rsx_grouping.proofs.SeenKeys.{key_at}
 use Rattle.rsx_grouping.proofs.keys.LaneKeys.lane_of.Goals as goal
 
 pub returns-clause-lane : goal.returns-clause-lane

@@ -1,8 +1,18 @@
-use Rattle.std.proofs.Common.{rules, refl}
-use Rattle.rsx_grouping.proofs.Lanes.{lane_takes}
+use Rattle.std.proofs.Common.{◌≡◌, rules, refl}
+use Rattle.rsx_grouping.proofs.Lanes.{lane_takes, gone_kept, none_waits}
+use Rattle.rsx_grouping.specs.declared.lane.LaneState.TheVariants.{Running}
 use Rattle.rsx_grouping.proofs.lane.LaneLaning.take_item.Goals as goal
+
+pub put_out-requires : goal.put_out-requires
+put_out-requires g c =
+    let is : c.args.self.now.state ≡ Running c.in-Running.chain = search rules in
+    none_waits c.args.self.now c.in-Running.chain is c.requires
 
 pub returns-clause-ok : goal.returns-clause-ok
 returns-clause-ok g c =
-    lane_takes (g.O.Ops.meaning c.args.ops.now) c.args.self.now c.put_out.new.self c.in-Some.chain c.take_one.new.self c.args.item c.in-Ok-take_one.out
-    c.requires (search rules) c.in-Ok-take_one.ensures.ok c.put_out.ensures.left (c.put_out.ensures.chain c.take_one.new.self refl)
+    let is : c.args.self.now.state ≡ Running c.in-Running.chain = search rules in
+    lane_takes (g.O.Ops.meaning c.args.ops.now) c.args.self.now c.put_out.new.self c.in-Running.chain c.take_one.new.self c.args.item c.in-Ok.out
+    (none_waits c.args.self.now c.in-Running.chain is c.requires) is c.in-Ok.ensures.ok c.put_out.ensures.waiting (c.put_out.ensures.state c.take_one.new.self refl)
+
+pub returns-clause-gone : goal.returns-clause-gone
+returns-clause-gone g c = gone_kept c.args.self.now c.put_out.new.self c.in-Running.chain c.take_one.new.self c.in-Ok.out.ending (search rules) (c.put_out.ensures.state c.take_one.new.self refl)

@@ -1,0 +1,4 @@
+pub mod Chosen
+pub mod Fresh
+pub mod Signals
+pub mod Takes

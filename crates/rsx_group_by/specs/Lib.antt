@@ -1,0 +1,4 @@
+-- Definitions that contracts cite.
+pub mod MainState
+pub mod GroupBy
+pub mod Laws

@@ -1,0 +1,39 @@
+-- Where Main is.
+use Rattle.std.specs.Prelude.{Bool, true, false}
+use Rattle.rsx_group_by.specs.declared.main_state.MainState.{MainState}
+use Rattle.rsx_group_by.specs.declared.main_state.MainState.TheVariants.{Coming, Completed, Failing, Taken}
+
+-- whether the ending of the input has not come
+abbrev pub is_coming : MainState → Bool
+is_coming Coming = true
+is_coming Completed = false
+is_coming (Failing c) = false
+is_coming Taken = false
+
+-- whether the completion of the input came
+abbrev pub is_done : MainState → Bool
+is_done Coming = false
+is_done Completed = true
+is_done (Failing c) = false
+is_done Taken = true
+
+-- whether Main can be picked
+abbrev pub is_ready : MainState → Bool
+is_ready Coming = false
+is_ready Completed = true
+is_ready (Failing c) = true
+is_ready Taken = false
+
+-- whether the completion was picked
+abbrev pub is_taken : MainState → Bool
+is_taken Coming = false
+is_taken Completed = false
+is_taken (Failing c) = false
+is_taken Taken = true
+
+-- once the input has ended; a second ending changes nothing
+abbrev pub ended_by : MainState → MainState → MainState
+ended_by Coming e = e
+ended_by Completed e = Completed
+ended_by (Failing c) e = Failing c
+ended_by Taken e = Taken

@@ -1,0 +1,12 @@
+-- Items that wait.
+use Rattle.std.proofs.Common.{◌≡◌, List, [], ◌∷◌, ◌++◌, reverse, Option, Some, None, refl, ap, sym, ◌∙◌}
+use Rattle.std.specs.Option.{option_to_list}
+use Rattle.std.proofs.lemmas.List.{append-nil, reverse-append, reverse-reverse}
+use Rattle.rsx_grouping.specs.Waiting.{waiting_of}
+
+-- all items, the last one first, of which the last was taken
+pub of_reversed : {T : Type 0} (xs rs behind : List T) (o : Option T) → rs ≡ reverse xs → rs ≡ behind ++ option_to_list o → (o ≡ None → behind ≡ []) → waiting_of o behind ≡ xs
+of_reversed xs rs behind (Some x) back left empty =
+    sym (reverse-append behind (x ∷ [])) ∙ ap reverse (sym left ∙ back) ∙ reverse-reverse xs
+of_reversed xs rs behind None back left empty =
+    sym (ap reverse (left ∙ append-nil behind ∙ empty refl)) ∙ ap reverse back ∙ reverse-reverse xs

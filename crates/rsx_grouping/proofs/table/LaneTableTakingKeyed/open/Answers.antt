@@ -1,0 +1,21 @@
+use Rattle.std.proofs.Common.{arith}
+use Rattle.rsx_grouping.proofs.Tables.{kept, kept_more, removed, opened}
+use Rattle.rsx_grouping.proofs.table.LaneTableTakingKeyed.open.Goals as goal
+
+pub invariant_of-self-in-Err-add : goal.invariant_of-self-in-Err-add
+invariant_of-self-in-Err-add g c = kept c.self.inside.keys c.add.new.self c.self.inside.rows.items c.reserve.new.self.items c.self.invariant c.in-Err-add.ensures.same c.reserve.ensures.items
+
+pub push_reserved-requires : goal.push_reserved-requires
+push_reserved-requires g c = let room = c.in-Ok.ensures.ok in omega arith
+
+pub invariant_of-self-in-Ok-begin : goal.invariant_of-self-in-Ok-begin
+invariant_of-self-in-Ok-begin g c =
+    kept_more c.self.inside.keys c.add.new.self c.args.self.now c.self.inside.rows.items c.reserve.new.self.items c.push_reserved.new.self.items c.args.key c.in-Ok-begin.lane c.self.invariant c.self.view_is c.requires c.in-Ok-add.ensures.keys c.reserve.ensures.items c.push_reserved.ensures.items
+
+pub invariant_of-self-in-Err-begin : goal.invariant_of-self-in-Err-begin
+invariant_of-self-in-Err-begin g c =
+    removed c.self.inside.keys c.add.new.self c.remove_last.new.self c.args.self.now c.self.inside.rows.items c.reserve.new.self.items c.args.key c.self.invariant c.self.view_is c.requires c.in-Ok-add.ensures.keys c.remove_last.ensures c.reserve.ensures.items
+
+pub returns-in-Ok-begin-clause-ok : goal.returns-in-Ok-begin-clause-ok
+returns-in-Ok-begin-clause-ok g c =
+    opened (g.O.Ops.meaning c.args.ops.now) c.args.stages.now c.args.self.now c.self.inside.rows.items c.reserve.new.self.items c.push_reserved.new.self.items c.args.key c.args.item c.in-Ok-begin.lane c.self.view_is c.requires c.reserve.ensures.items c.push_reserved.ensures.items c.in-Ok-begin.ensures.ok

@@ -1,0 +1,23 @@
+use Rattle.rsx_grouping.proofs.Tables.{kept_at, quiet_there, taken_there, seen_there, set_back, on_ok, on_err}
+use Rattle.rsx_grouping.proofs.table.LaneTableTakingKeyed.take_keyed.Goals as goal
+
+pub take_item-requires : goal.take_item-requires
+take_item-requires g c = quiet_there c.self.inside.keys c.args.self.now c.self.inside.rows.items c.in-Some.at c.args.key c.index_mut.result.now c.self.invariant c.self.view_is c.in-Some.ensures.lane c.requires c.index_mut.ensures.value
+
+pub invariant_of-self : goal.invariant_of-self
+invariant_of-self g c = kept_at c.self.inside.keys c.self.inside.rows.items c.in-Some.at c.index_mut.result.now c.take_item.new.self c.self.invariant c.index_mut.ensures.value
+
+pub returns-in-Some-clause-ok : goal.returns-in-Some-clause-ok
+returns-in-Some-clause-ok g c =
+    on_ok c.take_item.result _ _ (taken_there (g.O.Ops.meaning c.args.ops.now) c.args.stages.now c.self.inside.keys c.args.self.now c.self.inside.rows.items c.in-Some.at c.args.key c.index_mut.result.now c.take_item.new.self c.args.item c.self.invariant c.self.view_is c.in-Some.ensures.lane c.index_mut.ensures.value)
+    c.take_item.ensures.ok
+
+pub returns-in-Some-clause-keys : goal.returns-in-Some-clause-keys
+returns-in-Some-clause-keys g c =
+    on_ok c.take_item.result _ _ (λ takes. seen_there c.self.inside.keys c.args.self.now c.self.inside.rows.items c.in-Some.at c.args.key c.index_mut.result.now c.take_item.new.self c.self.invariant c.self.view_is c.in-Some.ensures.lane c.index_mut.ensures.value)
+    c.take_item.ensures.ok
+
+pub returns-in-Some-clause-same : goal.returns-in-Some-clause-same
+returns-in-Some-clause-same g c =
+    on_err c.take_item.result _ _ (set_back c.args.self.now c.self.inside.rows.items c.in-Some.at c.index_mut.result.now c.take_item.new.self c.self.view_is c.index_mut.ensures.value)
+    c.take_item.ensures.same

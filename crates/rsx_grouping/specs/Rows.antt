@@ -1,0 +1,28 @@
+-- The lanes of a `groupBy` with their keys.
+use Rattle.std.specs.Prelude.{ℕ, Bool, true, false, ◌&&◌, List, [], ◌∷◌, map, Option, Some, None}
+use Rattle.rsx_grouping.specs.Lane.{is_quiet, is_gone, can_pick}
+use Rattle.rsx_grouping.specs.declared.table.KeyedLane.{KeyedLane}
+
+-- their keys
+abbrev pub keys_of : {T : Type 0} → List (KeyedLane T) → List ℕ
+keys_of rows = map (λ r. r.key) rows
+
+-- whether nothing waits in any
+abbrev pub are_quiet : {T : Type 0} → List (KeyedLane T) → Bool
+are_quiet [] = true
+are_quiet (r ∷ rows) = is_quiet r.lane && are_quiet rows
+
+-- whether the endings of all were picked
+abbrev pub are_gone : {T : Type 0} → List (KeyedLane T) → Bool
+are_gone [] = true
+are_gone (r ∷ rows) = is_gone r.lane && are_gone rows
+
+-- whether the lane at a place, if there is one, can be picked
+abbrev pub can_pick_at : {T : Type 0} → Option (KeyedLane T) → Bool → ℕ → ℕ → Bool
+can_pick_at None done asked sent = false
+can_pick_at (Some r) done asked sent = can_pick r.lane done asked sent
+
+-- whether its ending was picked; also where there is none
+abbrev pub is_gone_at : {T : Type 0} → Option (KeyedLane T) → Bool
+is_gone_at None = true
+is_gone_at (Some r) = is_gone r.lane
