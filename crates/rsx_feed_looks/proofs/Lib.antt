@@ -1,0 +1,3 @@
+-- Lemmas about looks at rows with feeds.
+pub mod Noted
+pub mod ToComes
