@@ -1,6 +1,100 @@
-//! Graphs over the demonstration's functions: each call once on its happy path, a refused move, and the hubs.
+//! Graphs, as a program calls them: a list of steps with each move, and a list of deliveries that is used again.
 
-mod hubs;
-mod numbers;
-mod reuse;
-mod tests;
+use rsx_demo::{Demo, Val};
+use rsx_graph::{Answer, Deliveries, Graph, Refusal, Step, SubscriptionState, replay};
+use rsx_model::Expr;
+use rsx_types::{HubId, Move, NoMemory, NodeId, Signal, Stage, SubId, Tree};
+use std::alloc::Global;
+
+// The tests need no facts of what they call, so these functions have no clause. What looks at a graph only borrows it, and
+// what makes one has few ways out, so that little is let go of in many places.
+
+const SUB: SubId = SubId(0);
+
+const TREE: Tree = Tree::Sub(SUB);
+
+/// A Take before an item has come up, the moves that bring the first one up to the root's queue, and two Takes, of which the
+/// second finds the queue empty. The last move is one that no graph without hubs has.
+const MOVES: [Move; 7] = [
+    Move::Take(TREE, NodeId(0)),
+    Move::Ask(TREE, NodeId(1)),
+    Move::Send(TREE, NodeId(1)),
+    Move::Send(TREE, NodeId(0)),
+    Move::Take(TREE, NodeId(0)),
+    Move::Take(TREE, NodeId(0)),
+    Move::Ask(Tree::Feed(HubId(0)), NodeId(0)),
+];
+
+/// A subscription to `map double (range 2 3)`, which puts out 4, 6 and 8, a request, those moves, and a cancel.
+fn listed(alloc: Global) -> Result<Vec<Step<Val>>, NoMemory> {
+    let mut steps = Vec::new(alloc);
+    let range = Box::new(alloc, Expr::Range(2, 3))?;
+    steps.push(Step::Subscribe(Expr::Plain(Stage::Map(2), range)))?;
+    steps.push(Step::Request(SUB, 2))?;
+    for step in &MOVES {
+        steps.push(Step::Make(*step))?;
+    }
+    steps.push(Step::Cancel(SUB))?;
+    Ok(steps)
+}
+
+/// Whether these are the answers of those steps.
+fn are_answers(answers: &[Answer<Val>]) -> bool {
+    matches!(
+        answers,
+        [
+            Answer::Subscribed(SubId(0)),
+            Answer::Requested(None),
+            Answer::Refused(Refusal::NotEnabled),
+            Answer::Made(None),
+            Answer::Made(None),
+            Answer::Made(None),
+            Answer::Made(Some((SubId(0), Signal::Next(Val::Int(4))))),
+            Answer::Refused(Refusal::NotEnabled),
+            Answer::Refused(Refusal::UnknownHub),
+            Answer::Cancelled
+        ]
+    )
+}
+
+#[test]
+fn a_list_of_steps_is_answered(rt: HostRuntime) -> Result<(), NoMemory> {
+    match replay(rt.alloc(), Demo, listed(rt.alloc())?) {
+        Ok((_graph, answers)) => assert!(rt; are_answers(answers.as_slice())),
+        Err(_steps) => assert!(rt; false, "the steps came back"),
+    }
+    Ok(())
+}
+
+/// Whether two items that are asked for are delivered, and leave the subscription so. Then the list is cleared.
+fn delivers_two(
+    alloc: Global,
+    graph: &mut Graph<Demo>,
+    out: &mut Deliveries<Val>,
+    state: SubscriptionState,
+) -> Result<bool, Refusal> {
+    graph.request(SUB, 2)?;
+    graph.pump(alloc, 100, out)?;
+    let delivered = out.len() == 2 && graph.standing(SUB)? == state;
+    out.clear();
+    Ok(delivered && out.len() == 0)
+}
+
+fn delivers_all(alloc: Global, graph: &mut Graph<Demo>) -> Result<bool, Refusal> {
+    let mut out = Deliveries::new(alloc);
+    graph.subscribe(alloc, &Expr::Range(2, 3))?;
+    let first = delivers_two(alloc, graph, &mut out, SubscriptionState::Open)?;
+    let last = delivers_two(alloc, graph, &mut out, SubscriptionState::Ended)?;
+    Ok(first && last && out.into_vec().is_empty())
+}
+
+fn range_delivers_all(alloc: Global) -> Result<bool, Refusal> {
+    let mut graph = Graph::new(alloc, Demo)?;
+    delivers_all(alloc, &mut graph)
+}
+
+#[test]
+fn a_list_of_deliveries_is_used_again(rt: HostRuntime) -> Result<(), Refusal> {
+    assert!(rt; range_delivers_all(rt.alloc())?);
+    Ok(())
+}
