@@ -1,9 +1,13 @@
-use Rattle.std.proofs.Common.{◌≡◌, ◌∷◌, ◌++◌, [], None, length, true, rules}
+use Rattle.std.proofs.Common.{◌≡◌, ◌∙◌, ◌∷◌, ◌++◌, [], None, ap, length, map, suc, sym, true, rules}
+use Rattle.std.proofs.lemmas.List.{length-map}
+use Rattle.rsx_history.proofs.Joins.{map_last}
 use Rattle.rsx_hub.specs.Hub.{fresh_hub}
 use Rattle.rsx_leaves.specs.Leaves.{have_places}
 use Rattle.rsx_feeding.specs.Moves.{rows_of}
 use Rattle.rsx_feed_edits.specs.Edits.{fault_of}
+use Rattle.rsx_feed_edits.proofs.Behind.{one_more}
 use Rattle.rsx_feed_edits.proofs.Fed.{fed_effect, fed_made, fed_named}
+use Rattle.rsx_feed_edits.proofs.Kept.{joins_fed}
 use Rattle.rsx_feed_edits.proofs.Leaves.{places_behind}
 use Rattle.rsx_feed_edits.proofs.feed_hubs.feed_hub.Goals as goal
 
@@ -34,3 +38,21 @@ returns-clause-effect g c =
     let pushed : c.push_reserved.new.self.items ≡ c.args.hubs.now.items ++ fresh_hub c.args.kind c.args.capacity ∷ [] = search rules in
     let added : c.push_reserved-2.new.self.items ≡ c.args.feeds.now.items ++ c.in-Ok.made.feed ∷ [] = search rules in
     fed_effect c.args.kind c.args.capacity c.args.expr.now c.args.hubs.now.items c.push_reserved.new.self.items c.count_in.new.hubs.items c.args.feeds.now.items c.push_reserved-2.new.self.items c.in-Ok.made.feed fine pushed c.count_in.ensures.joined added c.in-Ok.ensures.named
+
+pub returns-clause-beside : goal.returns-clause-beside
+returns-clause-beside g c =
+    let added : c.push_reserved-2.new.self.items ≡ c.args.feeds.now.items ++ c.in-Ok.made.feed ∷ [] = search rules in
+    let kept : c.push_reserved-3.new.self.items ≡ c.args.joins.now.items ++ c.in-Ok.made.joins ∷ [] = search rules in
+    ap length kept ∙ (one_more c.args.joins.now.items c.in-Ok.made.joins ∙ (ap suc c.requires.beside ∙ sym (ap length added ∙ one_more c.args.feeds.now.items c.in-Ok.made.feed)))
+
+pub returns-clause-missed : goal.returns-clause-missed
+returns-clause-missed g c =
+    let missed = c.in-Ok.made.joins in
+    let kept : c.push_reserved-3.new.self.items ≡ c.args.joins.now.items ++ c.in-Ok.made.joins ∷ [] = search rules in
+    ap (map (λ v. v.items)) kept ∙ (map_last (λ v. v.items) c.args.joins.now.items missed ∙ ap (λ js. map (λ v. v.items) c.args.joins.now.items ++ js ∷ []) c.in-Ok.ensures.missed)
+
+pub returns-clause-joins : goal.returns-clause-joins
+returns-clause-joins g c = λ subscriptions sub_joins h s j.
+    let added : c.push_reserved-2.new.self.items ≡ c.args.feeds.now.items ++ c.in-Ok.made.feed ∷ [] = search rules in
+    joins_fed (g.O.Ops.meaning c.args.ops.now) c.args.kind c.args.expr.now (rows_of c.args.hubs.now.items c.args.feeds.now.items subscriptions) c.push_reserved-2.new.self.items c.in-Ok.made.feed sub_joins (map (λ v. v.items) c.args.joins.now.items) (map (λ v. v.items) c.push_reserved-3.new.self.items) h
+    added c.in-Ok.ensures.named c.requires.named (length-map c.args.joins.now.items (λ v. v.items) ∙ c.requires.beside) (returns-clause-missed g c) s j
