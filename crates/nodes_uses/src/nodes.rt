@@ -213,10 +213,9 @@ const GROUP_LISTS: [Act; 12] = [
 ];
 
 /// A fault of the key is the input's failure, and what comes in behind it is let go.
-const GROUP_FAULT: [Act; 6] = [
+const GROUP_FAULT: [Act; 5] = [
     Act::Takes(0, 5),
     Act::Takes(0, 6),
-    Act::PicksNothing(0, 0),
     Act::Picks(MAIN, 0, 0),
     Act::HasEnded,
     Act::GivesEnding(Ending::Failed(Cause::Function(7))),
