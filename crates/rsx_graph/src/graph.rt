@@ -259,13 +259,7 @@ impl<O: Ops> Graph<O> {
         ensures notes { IfOk result (λ v. HasNotes (state_of self.now).rows tree v.items) }
         ensures err { IfErr result (λ r. IsTreeLookRefusal (state_of self.now).rows (length self.now.subscriptions.items) tree r) }
     {
-        match notes(
-            alloc,
-            &self.hubs,
-            &self.feeds,
-            &self.subscriptions,
-            tree,
-        ) {
+        match notes(alloc, &self.hubs, &self.feeds, &self.subscriptions, tree) {
             Ok(notes) => Ok(notes),
             Err(why) => Err(why),
         }
