@@ -112,6 +112,7 @@ pub fn record<O: Ops>(
     expr: &Expr<O::Item>,
     acts: &[Act],
 ) -> Result<Vec<Stamped>, VerifyRefusal>
+    ensures admitted { OnOk result (refusal 0 expr.now ≡ None) }
     ensures recorded { IfOk result (λ events. IsRecorded (O.meaning ops) expr.now acts.now events.items) }
 
     // Whatever the acts are, each rule is kept.

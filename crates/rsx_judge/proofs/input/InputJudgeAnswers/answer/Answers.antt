@@ -2,7 +2,7 @@ use Rattle.std.proofs.Common.{[], sym, ◌∙◌}
 use Rattle.std.specs.String.{string_bytes}
 use Rattle.std.proofs.lemmas.List.{append-nil}
 use Rattle.rsx_judge.proofs.Parts.{still_stands}
-use Rattle.rsx_judge.proofs.input.TraceJudgeAnswers.answer.Goals as goal
+use Rattle.rsx_judge.proofs.input.InputJudgeAnswers.answer.Goals as goal
 
 pub returns-in-Ok-clause-answered : goal.returns-in-Ok-clause-answered
 returns-in-Ok-clause-answered c = λ lines text s. (

@@ -1,6 +1,6 @@
 use Rattle.std.proofs.Common.{sym, ◌∙◌}
 use Rattle.rsx_judge.proofs.Parts.{blank_stands}
-use Rattle.rsx_judge.proofs.judge.TraceJudge.begin.Goals as goal
+use Rattle.rsx_judge.proofs.judge.InputJudge.begin.Goals as goal
 
 pub returns-in-None-clause-answered : goal.returns-in-None-clause-answered
 returns-in-None-clause-answered c = λ lines text s.
