@@ -1,6 +1,6 @@
 //! Reads a line: its command, with numbers, names and expressions, or an expression alone.
 
-ghost use Rattle.std.specs.Prelude.{◌≡◌, ◌<◌, ◌≤◌, ℕ, length, option_map};
+ghost use Rattle.std.specs.Prelude.{◌≡◌, ◌<◌, ◌≤◌, ℕ, length, nat_lt, option_map};
 ghost use Rattle.rsx_words.specs.Numbers.{u32_of};
 ghost use Rattle.rsx_words.specs.Reading.{Gives, GivesInMemory, left, bytes_left, number_at};
 ghost use Rattle.rsx_commands.specs.Orders.{order_of, tree_of};
@@ -17,6 +17,13 @@ use std::alloc::Global;
 /// The most bytes of a line, without its newline.
 pub const MOST_BYTES: usize = 4096;
 
+/// Whether a line has more bytes than it may have.
+fn is_too_long(line: &[u8]) -> bool
+    ensures { result ≡ nat_lt 4096 (length line.now) }
+{
+    line.len() > MOST_BYTES
+}
+
 /// The command of a line, or none where the line is empty or spaces alone. Words are judged from left to right.
 ///
 /// # Errors
@@ -28,7 +35,7 @@ pub fn parse_line(alloc: Global, line: &[u8]) -> Result<Option<Command>, LineRef
     ensures meaning { GivesInMemory (λ command. option_map order_of command) result (meaning_of_line line.now) }
     ensures long { 4096 < length line.now → result ≡ Err LineRefusal.TooLong }
 {
-    if line.len() > MOST_BYTES {
+    if is_too_long(line) {
         return Err(LineRefusal::TooLong);
     }
     let mut words = Words::new(line);
@@ -45,7 +52,7 @@ pub fn parse_expression(alloc: Global, line: &[u8]) -> Result<Expr<Val>, LineRef
     ensures meaning { GivesInMemory tree_of result (expression_of_line line.now) }
     ensures long { 4096 < length line.now → result ≡ Err LineRefusal.TooLong }
 {
-    if line.len() > MOST_BYTES {
+    if is_too_long(line) {
         return Err(LineRefusal::TooLong);
     }
     let mut words = Words::new(line);

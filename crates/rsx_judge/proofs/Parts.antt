@@ -1,6 +1,7 @@
 -- What an input of expressions and traces comes to with a further line.
 use Rattle.std.proofs.Common.{◌≡◌, ◌⊎◌, ℕ, ◌<◌, true, false, List, [], ◌∷◌, ◌++◌, length, Option, Some, None, Err, refl, sym, ap, subst, ◌∙◌, append_assoc, arith, inl, inr}
 use Rattle.std.specs.List.{flat_map}
+use Rattle.std.specs.Option.{is_some}
 use Rattle.std.proofs.lemmas.List.{append-nil}
 use Rattle.rsx_words.specs.declared.words.LineRefusal.{LineRefusal}
 use Rattle.rsx_words.specs.declared.words.LineRefusal.TheVariants.{Syntax, NoMemory}
@@ -153,3 +154,13 @@ still_stands old new lines text same s = record {
   judged = s.judged;
   taken = subst (λ (o : Option TraceReader). IsOpen o s.opening) same s.taken;
 }
+
+-- ---- a place that was looked for
+
+pub none_of : (o : Option ℕ) → is_some o ≡ false → o ≡ None
+none_of None h = refl
+none_of (Some x) h = absurd (cc)
+
+pub some_of : (o : Option ℕ) → is_some o ≡ true → ¬ (o ≡ None)
+some_of None h = absurd (cc)
+some_of (Some x) h = λ e. absurd (cc)

@@ -129,9 +129,15 @@ impl InputJudge {
             return Ok(());
         }
         if begins_trace(line) {
-            return self.begin_trace(alloc, line);
+            return match self.begin_trace(alloc, line) {
+                Ok(()) => Ok(()),
+                Err(refusal) => Err(refusal),
+            };
         }
-        answer_expression(alloc, line, out)
+        match answer_expression(alloc, line, out) {
+            Ok(()) => Ok(()),
+            Err(refusal) => Err(refusal),
+        }
     }
 
     /// Takes in the first line of a trace.

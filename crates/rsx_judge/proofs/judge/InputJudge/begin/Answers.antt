@@ -1,7 +1,12 @@
-use Rattle.std.proofs.Common.{sym, ◌∙◌}
-use Rattle.rsx_judge.proofs.Parts.{blank_stands}
+use Rattle.std.proofs.Common.{◌≡◌, true, false, not, None, [], sym, ap, subst, ◌∙◌}
+use Rattle.std.specs.String.{string_bytes}
+use Rattle.std.proofs.lemmas.List.{append-nil}
+use Rattle.rsx_judge.proofs.Parts.{blank_stands, expression_refused, expression_stands, none_of, some_of}
 use Rattle.rsx_judge.proofs.judge.InputJudge.begin.Goals as goal
 
-pub returns-in-None-clause-answered : goal.returns-in-None-clause-answered
-returns-in-None-clause-answered c = λ lines text s.
-    blank_stands c.args.self.now c.args.self.now lines text c.args.line.now c.requires.between c.requires.between (sym c.written_place.ensures ∙ c.in-None.is) s
+pub returns-then-is_none-clause-answered : goal.returns-then-is_none-clause-answered
+returns-then-is_none-clause-answered c = λ lines text s. (
+  [],
+  sym (append-nil (string_bytes c.args.out.now)),
+  blank_stands c.args.self.now c.args.self.now lines text c.args.line.now c.requires.between c.requires.between (sym c.written_place.ensures ∙ none_of c.written_place.result (c.is_none.ensures ∙ ap not c.if-is_none.true)) s,
+)
