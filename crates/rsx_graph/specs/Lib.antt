@@ -3,5 +3,6 @@ pub mod Done
 pub mod InGraph
 pub mod Pumped
 pub mod Replayed
+pub mod Rows
 pub mod Stands
 pub mod Steps

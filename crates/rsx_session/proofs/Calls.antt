@@ -31,11 +31,9 @@ use Rattle.rsx_history.specs.declared.refusal.Refusal.TheVariants.{NoMemory}
 use Rattle.rsx_history.specs.declared.step.Answer.{Answer as Answered}
 use Rattle.rsx_history.specs.declared.step.Answer.TheVariants as did
 use Rattle.rsx_graph.specs.Done.{IsDone, fed_by}
-use Rattle.rsx_graph.specs.Edits.{joins_in, with_fed_hub, with_hub}
-use Rattle.rsx_graph.specs.History.{History, HubPast, Source, emitted, fed, with_delivery}
+use Rattle.rsx_graph.specs.Rows.{Feed, History, HubPast, IsCopyRefusal, IsEmitRefusal, Source, emitted, fed, feed_of, has_emitter, joins_in, published_at, published_from, with_delivery, with_fed_hub, with_hub}
 use Rattle.rsx_graph.specs.InGraph.{state_of}
-use Rattle.rsx_graph.specs.Publishes.{IsCopyRefusal, IsEmitRefusal, has_emitter, published_at, published_from}
-use Rattle.rsx_graph.specs.Stands.{Feed, GraphStands, GraphState, feed_of}
+use Rattle.rsx_graph.specs.Stands.{GraphStands, GraphState}
 use Rattle.rsx_graph.specs.Steps.{extended}
 use Rattle.rsx_graph.specs.declared.step.Step.{Step}
 use Rattle.rsx_script.specs.declared.print.Answer.{Answer}

@@ -12,9 +12,8 @@ use Rattle.rsx_subscriber.specs.Past.{IsPrefixOf}
 use Rattle.rsx_subscriber.specs.declared.state.SubscriptionState.{SubscriptionState}
 use Rattle.rsx_subscriber.specs.declared.state.SubscriptionState.TheVariants as state
 use Rattle.rsx_history.specs.History.{state_at}
-use Rattle.rsx_graph.specs.History.{History}
+use Rattle.rsx_graph.specs.Rows.{History, IsOwed}
 use Rattle.rsx_graph.specs.InGraph.{state_of}
-use Rattle.rsx_graph.specs.Looks.{IsOwed}
 use Rattle.rsx_script.specs.declared.print.Answer.{Answer}
 use Rattle.rsx_session.specs.Kept.{Known, followed_by}
 use Rattle.rsx_session.specs.Places.{IsChecked, IsEvaluated, IsRight, OfValue, checked_text}

@@ -15,11 +15,8 @@ use Rattle.rsx_demo.specs.declared.val.Val.{Val}
 use Rattle.rsx_hub.specs.Hub.{HubState}
 use Rattle.rsx_history.specs.declared.refusal.Refusal.{Refusal}
 use Rattle.rsx_history.specs.declared.refusal.Refusal.TheVariants as refusal
-use Rattle.rsx_graph.specs.Headline.{AreValues, IsValue}
-use Rattle.rsx_graph.specs.History.{History, HubPast, Source, emitted, fed}
+use Rattle.rsx_graph.specs.Rows.{AreValues, Feed, HasFedJoins, HasFeedNotes, History, HubPast, IsFeedLookRefusal, IsValue, Rows, Source, SourceStands, emitted, fed, feed_of, has_feed}
 use Rattle.rsx_graph.specs.InGraph.{state_of}
-use Rattle.rsx_graph.specs.Looks.{HasFedJoins, HasFeedNotes, IsFeedLookRefusal}
-use Rattle.rsx_graph.specs.Stands.{Feed, Rows, SourceStands, feed_of, has_feed}
 use Rattle.rsx_session.specs.Answers.{IsTrouble}
 use Rattle.rsx_session.specs.Kept.{source_of}
 use Rattle.rsx_session.specs.Places.{HaveFirstValues, IsFeedRefused, Place}

@@ -19,9 +19,8 @@ use Rattle.rsx_history.specs.Stands.{HasNotesAt}
 use Rattle.rsx_history.specs.declared.refusal.Refusal.{Refusal}
 use Rattle.rsx_history.specs.declared.refusal.Refusal.TheVariants as refusal
 use Rattle.rsx_history.proofs.Graphs.{count_same}
-use Rattle.rsx_graph.specs.History.{History}
+use Rattle.rsx_graph.specs.Rows.{History, IsOwed}
 use Rattle.rsx_graph.specs.InGraph.{state_of}
-use Rattle.rsx_graph.specs.Looks.{IsOwed}
 use Rattle.rsx_subscriber.specs.declared.state.SubscriptionState.{SubscriptionState}
 use Rattle.rsx_script.specs.Answers.{rest_text, signals_text}
 use Rattle.rsx_script.specs.declared.print.Answer.{Answer}

@@ -7,9 +7,8 @@ use Rattle.rsx_demo.specs.declared.val.Val.{Val}
 use Rattle.rsx_hub.specs.Hub.{HubState}
 use Rattle.rsx_subscriber.specs.declared.subscription.Subscription.{Subscription}
 use Rattle.rsx_history.specs.Stands.{AllStand}
-use Rattle.rsx_graph.specs.Edits.{NameHubs}
+use Rattle.rsx_graph.specs.Rows.{Feed, NameHubs}
 use Rattle.rsx_graph.specs.InGraph.{state_of}
-use Rattle.rsx_graph.specs.Stands.{Feed}
 use Rattle.rsx_graph.specs.Steps.{no_history}
 use Rattle.rsx_session.specs.Places.{Place, begun}
 use Rattle.rsx_session.specs.Sessions.{SessionStands, place_of}

@@ -11,7 +11,7 @@ use Rattle.rsx_model.specs.declared.expr.Expr.{Expr}
 use Rattle.rsx_subscriber.specs.Past.{Past, items_in}
 use Rattle.rsx_history.specs.History.{changed}
 use Rattle.rsx_pipe.specs.Output.{with_signal}
-use Rattle.rsx_graph.specs.History.{History, Source, emitted, fed}
+use Rattle.rsx_graph.specs.Rows.{History, Source, emitted, fed}
 use Rattle.rsx_session.specs.declared.published.HubSource.{HubSource}
 use Rattle.rsx_session.specs.declared.published.HubSource.TheVariants.{Emitted, Fed}
 use Rattle.rsx_session.specs.declared.session.Record.{Record}

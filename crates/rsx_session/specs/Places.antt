@@ -19,12 +19,7 @@ use Rattle.rsx_subscriber.specs.declared.state.SubscriptionState.TheVariants as 
 use Rattle.rsx_subscriber.specs.declared.subscription.Subscription.{Subscription}
 use Rattle.rsx_pipe.specs.Tree.{notes_of}
 use Rattle.rsx_history.specs.Names.{name_codes}
-use Rattle.rsx_graph.specs.Stands.{Feed}
-use Rattle.rsx_graph.specs.Headline.{AreValues}
-use Rattle.rsx_graph.specs.History.{History, HubPast, fed}
-use Rattle.rsx_graph.specs.Stands.{feed_of}
-use Rattle.rsx_graph.specs.Pumped.{HasEnded, LeadTo, Made, after_moves}
-use Rattle.rsx_graph.specs.Looks.{IsOwed}
+use Rattle.rsx_graph.specs.Rows.{AreValues, Feed, HasEnded, History, HubPast, IsOwed, LeadTo, Made, after_moves, fed, feed_of}
 use Rattle.rsx_graph.specs.Done.{IsDone, fed_by}
 use Rattle.rsx_graph.specs.Stands.{AreJoinsSame, GraphState, nothing}
 use Rattle.rsx_graph.specs.Steps.{extended, no_history}

@@ -14,9 +14,7 @@ use Rattle.rsx_history.specs.Names.{name_codes}
 use Rattle.rsx_history.specs.declared.refusal.Refusal.{Refusal}
 use Rattle.rsx_history.specs.declared.refusal.Refusal.TheVariants.{NoMemory}
 use Rattle.rsx_history.specs.declared.step.Pumped.{Pumped}
-use Rattle.rsx_graph.specs.Headline.{IsValue}
-use Rattle.rsx_graph.specs.History.{History, HubPast}
-use Rattle.rsx_graph.specs.Pumped.{HasEnded, LeadTo, Made, after_moves}
+use Rattle.rsx_graph.specs.Rows.{HasEnded, History, HubPast, IsValue, LeadTo, Made, after_moves}
 use Rattle.rsx_graph.specs.InGraph.{state_of}
 use Rattle.rsx_graph.specs.Stands.{AreJoinsSame, GraphStands}
 use Rattle.rsx_commands.specs.declared.command.Command.{Command}

@@ -1,7 +1,7 @@
 //! A graph with what each of its subscribers received: the state of a run.
 
 ghost use Rattle.std.specs.Prelude.{◌≡◌, ◌≤◌, [], true, length, map, slice_get, Some, string_bytes, OnErr, OnOk, IsOk, IfOk, IfErr, Decides};
-ghost use Rattle.rsx_graph.specs.History.{History};
+ghost use Rattle.rsx_graph.specs.Rows.{History};
 ghost use Rattle.rsx_graph.specs.Steps.{no_history};
 ghost use Rattle.rsx_history.specs.History.{changed};
 ghost use Rattle.rsx_subscriber.specs.Past.{IsPrefixOf};

@@ -9,7 +9,7 @@ use Rattle.rsx_history.specs.declared.refusal.Refusal.TheVariants as unknown
 use Rattle.rsx_history.specs.declared.step.Answer.TheVariants as did
 use Rattle.rsx_graph.specs.declared.step.Step.TheVariants as step
 use Rattle.rsx_graph.specs.InGraph.{state_of}
-use Rattle.rsx_graph.specs.Publishes.{with_published}
+use Rattle.rsx_graph.specs.Rows.{with_published}
 use Rattle.rsx_graph.specs.Stands.{GraphStands}
 use Rattle.rsx_session.specs.Kept.{source_with}
 use Rattle.rsx_session.proofs.Calls.{emit_refusal, hubs_count, let_go, made, none_emits, not_made, published_set}

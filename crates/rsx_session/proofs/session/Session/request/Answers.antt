@@ -2,7 +2,7 @@ use Rattle.std.proofs.Common.{ℤ, w64}
 use Rattle.std.proofs.lemmas.Int.{to_z-of_z}
 use Rattle.rsx_demo.specs.Demo.{demo_meaning}
 use Rattle.rsx_history.specs.Stands.{IsRequestedAt}
-use Rattle.rsx_graph.specs.Requests.{with_past}
+use Rattle.rsx_graph.specs.Rows.{with_past}
 use Rattle.rsx_graph.specs.Stands.{GraphStands}
 use Rattle.rsx_subscriber.specs.Past.{requested}
 use Rattle.std.proofs.Common.{◌∙◌, map, refl, sym, ap, subst}

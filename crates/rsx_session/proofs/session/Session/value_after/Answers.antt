@@ -1,7 +1,7 @@
 use Rattle.std.proofs.Common.{◌≡◌, ◌∙◌, List, length, sym, subst, Ok, Err}
 use Rattle.rsx_demo.specs.declared.val.Val.{Val}
 use Rattle.rsx_types.specs.declared.note.Note.{Note}
-use Rattle.rsx_graph.specs.History.{History}
+use Rattle.rsx_graph.specs.Rows.{History}
 use Rattle.rsx_session.specs.Sessions.{IsNextTrouble, SessionStands, place_of}
 use Rattle.rsx_session.specs.declared.session.Trouble.{Trouble}
 use Rattle.rsx_session.specs.declared.session.Trouble.TheVariants as trouble

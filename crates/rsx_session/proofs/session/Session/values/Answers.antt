@@ -3,8 +3,7 @@ use Rattle.std.proofs.lemmas.List.{length-map, take_all}
 use Rattle.rsx_types.specs.Stream.{Stream}
 use Rattle.rsx_demo.specs.Demo.{demo_meaning}
 use Rattle.rsx_demo.specs.declared.val.Val.{Val}
-use Rattle.rsx_graph.specs.Headline.{AreValues}
-use Rattle.rsx_graph.specs.History.{History, HubPast}
+use Rattle.rsx_graph.specs.Rows.{AreValues, History, HubPast}
 use Rattle.rsx_session.specs.Kept.{source_of}
 use Rattle.rsx_session.specs.Sessions.{IsHubsTrouble, SessionStands, place_of}
 use Rattle.rsx_session.specs.declared.published.HubSource.{HubSource}

@@ -1,8 +1,7 @@
 use Rattle.std.proofs.Common.{◌≡◌, [], length, take}
 use Rattle.rsx_demo.specs.Demo.{demo_meaning}
 use Rattle.rsx_demo.specs.declared.val.Val.{Val}
-use Rattle.rsx_graph.specs.Headline.{AreValues}
-use Rattle.rsx_graph.specs.History.{History}
+use Rattle.rsx_graph.specs.Rows.{AreValues, History}
 use Rattle.rsx_session.specs.Sessions.{SessionStands}
 use Rattle.rsx_session.proofs.session.Session.values.Given as goal
 
