@@ -79,7 +79,7 @@ hubs_passed t (Err u) P k e = subst P (sym e.1) k
 -- ---- a hub with an emitter
 
 pub emitted_next : (place : Place) (before : List (Stream Val)) (source : HubSource) (w v : Stream Val) → source ≡ kept.Emitted w → v ≡ w → IsNextValue place before source v
-emitted_next place before source w v is same = λ hub there of. by_source hub.source (of ∙ is)
+emitted_next place before source w v is same = λ hub there own. by_source hub.source (own ∙ is)
   where
     by_source : (src : Source Val) → source_of src ≡ kept.Emitted w → IsValue demo_meaning place.graph.rows.feeds before src v
     by_source (emitted x) e = let one : x ≡ w = cc in same ∙ sym one
@@ -89,11 +89,11 @@ emitted_next place before source w v is same = λ hub there of. by_source hub.so
 
 -- it is fed by the expression that is kept, whose leaves have these joins
 fed_by_it : (hubs : List (HubPast Val)) (n number : ℕ) (hub : HubPast Val) (source : HubSource) (e : Expr Val) (js : List ℕ) → number ≡ n → slice_get hubs n ≡ Some hub → source_of hub.source ≡ source → source ≡ kept.Fed e → HasFedJoins hubs number js → hub.source ≡ fed e js
-fed_by_it hubs n number hub source e js at there of is k =
+fed_by_it hubs n number hub source e js at there own is k =
     let found : slice_get hubs n ≡ Some k.0 = ap (slice_get hubs) (sym at) ∙ k.2 in
     let one : k.0 ≡ hub = cc in
     let src : hub.source ≡ fed k.1 js = ap (λ q. q.source) (sym one) ∙ k.3 in
-    let both : kept.Fed k.1 ≡ kept.Fed e = sym (ap source_of src) ∙ (of ∙ is) in
+    let both : kept.Fed k.1 ≡ kept.Fed e = sym (ap source_of src) ∙ (own ∙ is) in
     let same : k.1 ≡ e = cc in
     src ∙ ap (λ x. fed x js) same
 
@@ -106,16 +106,16 @@ scratch_of before js found notes e r same is = let P : List Note → Type 0 = λ
 
 pub fed_next : (s : Session) (h : History Val) (before : List (Stream Val)) (source : HubSource) (e : Expr Val) (v : Stream Val) (number : ℕ) (js : List ℕ) (notes : List Note) → number ≡ length before → source ≡ kept.Fed e → HasFeedNotes (state_of s.graph).rows number notes → HasFedJoins h.hubs number js →
     IsScratch (environment demo_meaning before js notes) e (Ok v) → IsNextValue (place_of s h) before source v
-fed_next s h before source e v number js notes at is noted joined was = λ hub there of.
-    let src = fed_by_it h.hubs (length before) number hub source e js at there of is joined in
+fed_next s h before source e v number js notes at is noted joined was = λ hub there own.
+    let src = fed_by_it h.hubs (length before) number hub source e js at there own is joined in
     let V : Source Val → Type 0 = λ x. IsValue demo_meaning s.graph.feeds.items before x v in
     subst V (sym src) (noted.feed, feed_at s.graph.feeds.items number (length before) noted.feed at noted.there, (scratch_of before js notes (notes_of noted.feed.part.tree) e (Ok v) noted.notes was).2)
 
 pub fed_refused : (s : Session) (h : History Val) (before : List (Stream Val)) (source : HubSource) (e : Expr Val) (r : ScratchRefusal) (number : ℕ) (js : List ℕ) (notes : List Note) {A : Type 0} (result : Result A Trouble) → number ≡ length before → source ≡ kept.Fed e → HasFeedNotes (state_of s.graph).rows number notes → HasFedJoins h.hubs number js →
     IsScratch (environment demo_meaning before js notes) e (Err r) → IsErr result × IsErrAnd result (λ t. IsTrouble t × IsScratchTrouble r t) → IfErr result (λ t. IsNextTrouble (place_of s h) before source t)
 fed_refused s h before source e r number js notes (Ok a) at is noted joined was k = tt
-fed_refused s h before source e r number js notes (Err trouble.Memory) at is noted joined was k = λ hub there of first. tt
-fed_refused s h before source e r number js notes (Err (trouble.Refused name)) at is noted joined was k = λ hub there of first.
+fed_refused s h before source e r number js notes (Err trouble.Memory) at is noted joined was k = λ hub there own first. tt
+fed_refused s h before source e r number js notes (Err (trouble.Refused name)) at is noted joined was k = λ hub there own first.
     let refused : IsFeedRefused (place_of s h) r = record {
       before = before;
       values = first;
@@ -123,7 +123,7 @@ fed_refused s h before source e r number js notes (Err (trouble.Refused name)) a
       there = there;
       expression = e;
       joins = js;
-      source = fed_by_it h.hubs (length before) number hub source e js at there of is joined;
+      source = fed_by_it h.hubs (length before) number hub source e js at there own is joined;
       feed = noted.feed;
       feeds = feed_at s.graph.feeds.items number (length before) noted.feed at noted.there;
       refused = scratch_of before js notes (notes_of noted.feed.part.tree) e (Err r) noted.notes was;
@@ -132,13 +132,13 @@ fed_refused s h before source e r number js notes (Err (trouble.Refused name)) a
 
 -- a hub that is fed has a feed
 has_its_feed : (s : Session) (h : History Val) → SessionStands s h → (n : ℕ) (hub : HubPast Val) (source : HubSource) (e : Expr Val) → slice_get h.hubs n ≡ Some hub → source_of hub.source ≡ source → source ≡ kept.Fed e → has_feed (state_of s.graph).rows n ≡ true
-has_its_feed s h k n hub source e there of is =
+has_its_feed s h k n hub source e there own is =
     let lt = slice_get_within h.hubs n hub there in
     let many = k.graph.rows.many in
     let each = k.graph.rows.each in
     let taken = past_at k.graph.rows.taken n (omega (arith, lt, each)) in
     let state = past_at s.graph.hubs.items n (omega (arith, lt, many)) in
-    by_source hub.source (of ∙ is) taken.0 state.0 state.1 (k.graph.rows.hub n taken.0 state.0 hub taken.1 state.1 there).source
+    by_source hub.source (own ∙ is) taken.0 state.0 state.1 (k.graph.rows.hub n taken.0 state.0 hub taken.1 state.1 there).source
   where
     by_source : (src : Source Val) → source_of src ≡ kept.Fed e → (v : Stream Val) (t : HubState Val) → slice_get s.graph.hubs.items n ≡ Some t → SourceStands demo_meaning s.graph.feeds.items k.graph.rows.taken n v t src → has_feed (state_of s.graph).rows n ≡ true
     by_source (emitted w) same v t found st = cc
@@ -148,8 +148,8 @@ has_its_feed s h k n hub source e there of is =
 pub feed_refused : (s : Session) (h : History Val) → SessionStands s h → (before : List (Stream Val)) (source : HubSource) (e : Expr Val) (r : Refusal) (number : ℕ) {A : Type 0} (result : Result A Trouble) → number ≡ length before → source ≡ kept.Fed e → IsFeedLookRefusal (state_of s.graph).rows number r →
     IsErr result × IsErrAnd result (λ t. IsTrouble t × IsTroubleOf r t) → IfErr result (λ t. IsNextTrouble (place_of s h) before source t)
 feed_refused s h k before source e r number (Ok a) at is why f = tt
-feed_refused s h k before source e r number (Err trouble.Memory) at is why f = λ hub there of first. tt
-feed_refused s h k before source e r number (Err (trouble.Refused name)) at is why f = λ hub there of first. absurd (never r why f.1.1.0 (ap (has_feed (state_of s.graph).rows) at ∙ has_its_feed s h k (length before) hub source e there of is))
+feed_refused s h k before source e r number (Err trouble.Memory) at is why f = λ hub there own first. tt
+feed_refused s h k before source e r number (Err (trouble.Refused name)) at is why f = λ hub there own first. absurd (never r why f.1.1.0 (ap (has_feed (state_of s.graph).rows) at ∙ has_its_feed s h k (length before) hub source e there own is))
   where
     never : (q : Refusal) → IsFeedLookRefusal (state_of s.graph).rows number q → (q ≡ refusal.NoMemory → ⊥) → has_feed (state_of s.graph).rows number ≡ true → ⊥
     never refusal.UnknownHub none other has = let bad : false ≡ true = sym none ∙ has in absurd cc
