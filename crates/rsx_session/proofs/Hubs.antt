@@ -111,11 +111,11 @@ fed_next s h before source e v number js notes at is noted joined was = λ hub t
     let V : Source Val → Type 0 = λ x. IsValue demo_meaning s.graph.feeds.items before x v in
     subst V (sym src) (noted.feed, feed_at s.graph.feeds.items number (length before) noted.feed at noted.there, (scratch_of before js notes (notes_of noted.feed.part.tree) e (Ok v) noted.notes was).2)
 
-pub fed_refused : (s : Session) (h : History Val) (before : List (Stream Val)) (source : HubSource) (e : Expr Val) (r : ScratchRefusal) (number : ℕ) (js : List ℕ) (notes : List Note) {A : Type 0} (result : Result A Trouble) → number ≡ length before → source ≡ kept.Fed e → HasFeedNotes (state_of s.graph).rows number notes → HasFedJoins h.hubs number js →
-    IsScratch (environment demo_meaning before js notes) e (Err r) → IsErr result × IsErrAnd result (λ t. IsTrouble t × IsScratchTrouble r t) → IfErr result (λ t. IsNextTrouble (place_of s h) before source t)
-fed_refused s h before source e r number js notes (Ok a) at is noted joined was k = tt
-fed_refused s h before source e r number js notes (Err trouble.Memory) at is noted joined was k = λ hub there own first. tt
-fed_refused s h before source e r number js notes (Err (trouble.Refused name)) at is noted joined was k = λ hub there own first.
+pub fed_refused : (s : Session) (before : List (Stream Val)) (source : HubSource) (e : Expr Val) (r : ScratchRefusal) (number : ℕ) (js : List ℕ) (notes : List Note) (result : Result (Stream Val) Trouble) → number ≡ length before → source ≡ kept.Fed e → HasFeedNotes (state_of s.graph).rows number notes →
+    ((h : History Val) → SessionStands s h → HasFedJoins h.hubs number js) → IsScratch (environment demo_meaning before js notes) e (Err r) → IsErr result × IsErrAnd result (λ t. IsTrouble t × IsScratchTrouble r t) → IfErr result (λ t. (h : History Val) → SessionStands s h → IsNextTrouble (place_of s h) before source t)
+fed_refused s before source e r number js notes (Ok a) at is noted joined was f = tt
+fed_refused s before source e r number js notes (Err trouble.Memory) at is noted joined was f = λ h k hub there own first. tt
+fed_refused s before source e r number js notes (Err (trouble.Refused name)) at is noted joined was f = λ h k hub there own first.
     let refused : IsFeedRefused (place_of s h) r = record {
       before = before;
       values = first;
@@ -123,12 +123,12 @@ fed_refused s h before source e r number js notes (Err (trouble.Refused name)) a
       there = there;
       expression = e;
       joins = js;
-      source = fed_by_it h.hubs (length before) number hub source e js at there own is joined;
+      source = fed_by_it h.hubs (length before) number hub source e js at there own is (joined h k);
       feed = noted.feed;
       feeds = feed_at s.graph.feeds.items number (length before) noted.feed at noted.there;
       refused = scratch_of before js notes (notes_of noted.feed.part.tree) e (Err r) noted.notes was;
     } in
-    (r, refused, k.1.1.0, k.1.1.1)
+    (r, refused, f.1.1.0, f.1.1.1)
 
 -- a hub that is fed has a feed
 has_its_feed : (s : Session) (h : History Val) → SessionStands s h → (n : ℕ) (hub : HubPast Val) (source : HubSource) (e : Expr Val) → slice_get h.hubs n ≡ Some hub → source_of hub.source ≡ source → source ≡ kept.Fed e → has_feed (state_of s.graph).rows n ≡ true
@@ -145,11 +145,11 @@ has_its_feed s h k n hub source e there own is =
     by_source (fed x js) same v t found st = ap (λ o. is_some o && is_some (feed_of s.graph.feeds.items n)) found ∙ ap is_some st.there
 
 -- so a look at that feed is refused for want of memory alone
-pub feed_refused : (s : Session) (h : History Val) → SessionStands s h → (before : List (Stream Val)) (source : HubSource) (e : Expr Val) (r : Refusal) (number : ℕ) {A : Type 0} (result : Result A Trouble) → number ≡ length before → source ≡ kept.Fed e → IsFeedLookRefusal (state_of s.graph).rows number r →
-    IsErr result × IsErrAnd result (λ t. IsTrouble t × IsTroubleOf r t) → IfErr result (λ t. IsNextTrouble (place_of s h) before source t)
-feed_refused s h k before source e r number (Ok a) at is why f = tt
-feed_refused s h k before source e r number (Err trouble.Memory) at is why f = λ hub there own first. tt
-feed_refused s h k before source e r number (Err (trouble.Refused name)) at is why f = λ hub there own first. absurd (never r why f.1.1.0 (ap (has_feed (state_of s.graph).rows) at ∙ has_its_feed s h k (length before) hub source e there own is))
+pub feed_refused : (s : Session) (before : List (Stream Val)) (source : HubSource) (e : Expr Val) (r : Refusal) (number : ℕ) (result : Result (Stream Val) Trouble) → number ≡ length before → source ≡ kept.Fed e → IsFeedLookRefusal (state_of s.graph).rows number r →
+    IsErr result × IsErrAnd result (λ t. IsTrouble t × IsTroubleOf r t) → IfErr result (λ t. (h : History Val) → SessionStands s h → IsNextTrouble (place_of s h) before source t)
+feed_refused s before source e r number (Ok a) at is why f = tt
+feed_refused s before source e r number (Err trouble.Memory) at is why f = λ h k hub there own first. tt
+feed_refused s before source e r number (Err (trouble.Refused name)) at is why f = λ h k hub there own first. absurd (never r why f.1.1.0 (ap (has_feed (state_of s.graph).rows) at ∙ has_its_feed s h k (length before) hub source e there own is))
   where
     never : (q : Refusal) → IsFeedLookRefusal (state_of s.graph).rows number q → (q ≡ refusal.NoMemory → ⊥) → has_feed (state_of s.graph).rows number ≡ true → ⊥
     never refusal.UnknownHub none other has = let bad : false ≡ true = sym none ∙ has in absurd cc
