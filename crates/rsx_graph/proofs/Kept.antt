@@ -1,6 +1,6 @@
 -- Graphs go on standing for what has happened: the joins that they keep, and the hubs that their feeds name.
-use Rattle.std.proofs.Common.{◌≡◌, ℕ, List, [], ◌∷◌, length, Option, Result, Ok, refl, sym, subst}
-use Rattle.rsx_feed_driving.proofs.Keeping.{KeepHubs, moved_keep}
+use Rattle.std.proofs.Common.{◌≡◌, ℕ, List, [], ◌∷◌, length, map, Option, Result, Ok, Err, IfOk, OnOk, OnErr, refl, ap, sym, ◌∙◌, subst}
+use Rattle.rsx_feed_driving.proofs.Keeping.{KeepHubs, lead_keep, moved_keep}
 use Rattle.rsx_feed_driving.specs.Moves.{IsMoved}
 use Rattle.rsx_feed_driving.proofs.Serving.{rows_served}
 use Rattle.rsx_feed_driving.specs.Pumped as driving
@@ -41,6 +41,9 @@ begun m = record {
   joined = record { subs = refl; fed = λ i p e. cc };
 }
 
+pub begun_from : {T : Type 0} (m : Meaning T) (g : GraphState T) → g ≡ nothing → GraphStands m g no_history
+begun_from {T} m g empty = let P : GraphState T → Type 0 = λ s. GraphStands m s no_history in subst P (sym empty) (begun m)
+
 -- ---- the joins
 
 -- what subscribers did
@@ -66,6 +69,28 @@ names_on {T} n k feeds count names = let P : ℕ → Type 0 = λ i. NameHubs i f
 
 pub names_moved : {T : Type 0} (old new : Rows T) → KeepHubs old new → length new.hubs ≡ length old.hubs → NameHubs (length old.hubs) old.feeds → NameHubs (length new.hubs) new.feeds
 names_moved old new keep count names = names_on (length old.hubs) (length new.hubs) new.feeds count (names_kept (length old.hubs) old.feeds new.feeds keep names)
+
+-- they go on doing so by each call, whatever it answers
+
+pub names_made : {T E : Type 0} (m : Meaning T) (mv : Move) (old new : Rows T) (r : Result (Option (SubId × Signal T)) E) → IfOk r (λ o. IsMoved m mv old new o) → OnErr r ((new.hubs ≡ old.hubs) × (new.feeds ≡ old.feeds) × (new.subs ≡ old.subs)) → length new.hubs ≡ length old.hubs →
+    NameHubs (length old.hubs) old.feeds → NameHubs (length new.hubs) new.feeds
+names_made m mv old new (Ok o) effect same count names = names_moved old new (moved_keep m mv old new o effect) count names
+names_made m mv old new (Err e) effect same count names = names_moved old new (ap (map (λ f. f.hub)) same.1) count names
+
+pub names_pumped : {T : Type 0} (m : Meaning T) (budget : ℕ) (old new : Rows T) (before after : Delivered T) (r : Result Pumped Refusal) → driving.HasPumped m budget old before r new after → length new.hubs ≡ length old.hubs → NameHubs (length old.hubs) old.feeds → NameHubs (length new.hubs) new.feeds
+names_pumped m budget old new before after r k count names = names_moved old new (lead_keep m old k.0 new k.2.lead) count names
+
+pub names_hub : {T A E : Type 0} (olds news : List (HubState T)) (feeds : List (Feed T)) (r : Result A E) → OnOk r (NameHubs (length news) feeds) → OnErr r (news ≡ olds) → NameHubs (length olds) feeds → NameHubs (length news) feeds
+names_hub olds news feeds (Ok a) made same names = made
+names_hub olds news feeds (Err e) made same names = names_on (length olds) (length news) feeds (ap length same) names
+
+pub names_fed : {T A E J : Type 0} (olds news : List (HubState T)) (feeds fs : List (Feed T)) (js ks : List J) (r : Result A E) → OnOk r (NameHubs (length news) fs) → OnErr r ((news ≡ olds) × (fs ≡ feeds) × (ks ≡ js)) → NameHubs (length olds) feeds → NameHubs (length news) fs
+names_fed olds news feeds fs js ks (Ok a) made same names = made
+names_fed {T} olds news feeds fs js ks (Err e) made same names = let P : List (Feed T) → Type 0 = λ l. NameHubs (length olds) l in names_on (length olds) (length news) fs (ap length same.0) (subst P (sym same.1) names)
+
+pub beside_fed : {T A E J : Type 0} (olds news : List (HubState T)) (feeds fs : List (Feed T)) (js ks : List J) (r : Result A E) → OnOk r (length ks ≡ length fs) → OnErr r ((news ≡ olds) × (fs ≡ feeds) × (ks ≡ js)) → length js ≡ length feeds → length ks ≡ length fs
+beside_fed olds news feeds fs js ks (Ok a) made same before = made
+beside_fed olds news feeds fs js ks (Err e) made same before = ap length same.2 ∙ (before ∙ sym (ap length same.1))
 
 -- ---- runs of moves
 

@@ -21,7 +21,6 @@ use Rattle.rsx_model.specs.declared.expr.Expr.{Expr}
 use Rattle.rsx_subscriber.specs.Moves.{node_move}
 use Rattle.rsx_subscriber.specs.Stands.{move_enabled_in}
 use Rattle.rsx_subscriber.specs.declared.subscription.Subscription.{Subscription}
-use Rattle.rsx_tree.specs.declared.look.NodeMove.{NodeMove}
 use Rattle.rsx_types.specs.Meaning.{Meaning}
 use Rattle.rsx_types.specs.Stream.{Stream}
 use Rattle.rsx_types.specs.declared.names.HubKind.{HubKind}
@@ -155,9 +154,8 @@ within m (s ∷ ss) (suc i) mv e =
     let k = within m ss i mv (sym (first ∙ ap (λ j. enabled_at m ss j mv) (suc_less i)) ∙ e) in
     omega (arith, k)
 
-fed_move : {T : Type 0} (m : Meaning T) (g : Rows T) (n : ℕ) (inside : Option NodeMove) → feed_move_enabled m g n inside ≡ true → has_feed g n ≡ true
-fed_move m g n None e = cc
-fed_move m g n (Some step) e = and_first (has_feed g n) _ e
+fed_move : {T : Type 0} (m : Meaning T) (g : Rows T) (n : ℕ) (mv : Move) → feed_move_enabled m g n (node_move mv) ≡ true → has_feed g n ≡ true
+fed_move m g n mv = elim (node_move mv) as (λ o. feed_move_enabled m g n o ≡ true → has_feed g n ≡ true) [ None ↦ (λ e. cc) | Some step ↦ (λ e. and_first (has_feed g n) _ e) ]
 
 accepted_hub : {T : Type 0} (g : Rows T) (n : ℕ) (o : Option (HubState T)) → slice_get g.hubs n ≡ o → accepts_in g o n ≡ true → has_emitter g.hubs g.feeds n ≡ true
 accepted_hub g n None e k = cc
@@ -169,18 +167,18 @@ move_known {T} m g h mv s = by_move mv
     of_sub : (i : SubId) (v : Move) → enabled_at m g.subs i.0 v ≡ true → i.0 < length h.pasts
     of_sub i v e = let k = within m g.subs i.0 v e in let same = subs_there m g h s in omega (arith, k, same)
 
-    of_feed : (n : ℕ) (inside : Option NodeMove) → feed_move_enabled m g n inside ≡ true → is_fed (slice_get h.hubs n) ≡ true
-    of_feed n inside e = fed_there m g h n s ∙ fed_move m g n inside e
+    of_feed : (n : ℕ) (v : Move) → feed_move_enabled m g n (node_move v) ≡ true → is_fed (slice_get h.hubs n) ≡ true
+    of_feed n v e = fed_there m g h n s ∙ fed_move m g n v e
 
     by_move : (v : Move) → is_enabled m g v ≡ true → IsOfKnown h v
     by_move (Ask (Sub i) n) e = of_sub i (Ask (Sub i) n) e
-    by_move (Ask (FeedOf i) n) e = of_feed i.0 (node_move (Ask (FeedOf i) n)) e
+    by_move (Ask (FeedOf i) n) e = of_feed i.0 (Ask (FeedOf i) n) e
     by_move (Send (Sub i) n) e = of_sub i (Send (Sub i) n) e
-    by_move (Send (FeedOf i) n) e = of_feed i.0 (node_move (Send (FeedOf i) n)) e
+    by_move (Send (FeedOf i) n) e = of_feed i.0 (Send (FeedOf i) n) e
     by_move (Take (Sub i) n) e = of_sub i (Take (Sub i) n) e
-    by_move (Take (FeedOf i) n) e = of_feed i.0 (node_move (Take (FeedOf i) n)) e
+    by_move (Take (FeedOf i) n) e = of_feed i.0 (Take (FeedOf i) n) e
     by_move (Pick (Sub i) n k) e = of_sub i (Pick (Sub i) n k) e
-    by_move (Pick (FeedOf i) n k) e = of_feed i.0 (node_move (Pick (FeedOf i) n k)) e
+    by_move (Pick (FeedOf i) n k) e = of_feed i.0 (Pick (FeedOf i) n k) e
     by_move (Row (Sub i) n) e = of_sub i (Row (Sub i) n) e
-    by_move (Row (FeedOf i) n) e = of_feed i.0 (node_move (Row (FeedOf i) n)) e
+    by_move (Row (FeedOf i) n) e = of_feed i.0 (Row (FeedOf i) n) e
     by_move (Accept i) e = emits_there m g h i.0 s ∙ accepted_hub g i.0 (slice_get g.hubs i.0) refl e

@@ -1,9 +1,12 @@
 -- What a graph stands for, and what of it an edit leaves as it was.
-use Rattle.std.specs.Prelude.{◌≡◌, ℕ, List, []}
+use Rattle.std.specs.Prelude.{◌≡◌, ℕ, List, [], ◌∷◌}
+use Rattle.std.specs.Coded.{×_prop, Unit-prop, le_prop}
 use Rattle.rsx_feed_driving.specs.Served.{IsServed}
+use Rattle.rsx_feed_edits.specs.Edits.{NameHubs}
 use Rattle.rsx_feed_edits.specs.Joins.{JoinsStand}
 use Rattle.rsx_feeding.specs.History.{History}
 use Rattle.rsx_feeding.specs.Stands.{Rows, StandsFor}
+use Rattle.rsx_publishing.specs.declared.feed.Feed.{Feed}
 use Rattle.rsx_types.specs.Meaning.{Meaning}
 
 -- its hubs, feeds and subscriptions in rows, and the joins of the leaves of each subscription and of each feed, in the same order
@@ -38,3 +41,9 @@ IsAsideSame old new = (new.rows.hubs ≡ old.rows.hubs) × (new.rows.feeds ≡ o
 -- the feeds and the subscriptions, with all joins: only hubs change
 abbrev pub IsRestSame : {T : Type 0} → GraphState T → GraphState T → Type 0
 IsRestSame old new = (new.rows.feeds ≡ old.rows.feeds) × (new.rows.subs ≡ old.rows.subs) × (new.joins ≡ old.joins) × (new.feed_joins ≡ old.feed_joins)
+
+-- ---- that each feed names a hub is a fact with one proof at most
+
+pub NameHubs-prop : {T : Type 0} (n : ℕ) (feeds : List (Feed T)) → IsProp (NameHubs n feeds)
+NameHubs-prop n [] = Unit-prop
+NameHubs-prop n (f ∷ fs) = ×_prop le_prop (NameHubs-prop n fs)

@@ -13,7 +13,7 @@ ghost use Rattle.rsx_feed_edits.specs.Edits.{NameHubs};
 ghost use Rattle.rsx_feed_edits.specs.Requests.{with_past};
 ghost use Rattle.rsx_feed_edits.specs.Subscribing.{IsSubscribeRefusal, with_subscriber};
 ghost use Rattle.rsx_feed_looks.specs.Looks.{HasNotes, HasTreeJoins, IsOwed, IsTreeLookRefusal};
-ghost use Rattle.rsx_graph.specs.Stands.{AreJoinsSame, GraphStands, IsAllServed, IsAsideSame, nothing};
+ghost use Rattle.rsx_graph.specs.Stands.{AreJoinsSame, GraphStands, IsAllServed, IsAsideSame, NameHubs-prop, nothing};
 ghost use Rattle.rsx_graph.specs.Steps.{Belongs, extended, no_history};
 ghost use Rattle.rsx_history.specs.declared.TheConstants.{MOST_HUBS, MOST_SUBSCRIPTIONS};
 
@@ -47,7 +47,7 @@ pub struct Graph<O: Ops> {
     pub(crate) joins: Vec<Vec<u64>>,
     pub ghost few: { length subscriptions.items ≤ MOST_SUBSCRIPTIONS },
     pub ghost few_hubs: { length hubs.items ≤ MOST_HUBS },
-    pub ghost named: { NameHubs (length hubs.items) feeds.items },
+    pub ghost named: { NameHubs (length hubs.items) feeds.items } by { NameHubs-prop (length hubs.items) feeds.items },
     pub ghost beside: { length feed_joins.items ≡ length feeds.items },
 }
 

@@ -1,7 +1,10 @@
 use Rattle.std.proofs.Common.{map}
 use Rattle.rsx_feed_edits.proofs.Kept.{joins_hub}
-use Rattle.rsx_graph.proofs.Kept.{state_with}
+use Rattle.rsx_graph.proofs.Kept.{names_hub, state_with}
 use Rattle.rsx_graph.proofs.graph.Graph.hub.Goals as goal
+
+pub invariant_of-self-clause-named : goal.invariant_of-self-clause-named
+invariant_of-self-clause-named g c = names_hub c.args.self.now.hubs.items c.hub.new.hubs.items c.args.self.now.feeds.items c.hub.result c.hub.ensures.named c.hub.ensures.same c.args.self.now.named
 
 pub returns-in-Ok-clause-stands : goal.returns-in-Ok-clause-stands
 returns-in-Ok-clause-stands g c = λ h s.
