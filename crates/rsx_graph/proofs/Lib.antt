@@ -1,0 +1,4 @@
+-- Lemmas about graphs.
+pub mod Kept
+pub mod Known
+pub mod Runs
