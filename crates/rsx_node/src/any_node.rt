@@ -3,6 +3,7 @@
 ghost use Rattle.std.specs.Prelude.{◌≡◌};
 
 use crate::source_node::SourceNode;
+use rsx_flat_map::FlatMapNode;
 use rsx_plain::PlainNode;
 use rsx_publish_on::PublishOnNode;
 use rsx_several::SeveralNode;
@@ -24,6 +25,8 @@ pub enum AnyNode<T> {
     PublishOn(PublishOnNode<T>),
     /// `window`: its one input in windows, each through a chain of its own.
     Window(WindowNode<T>),
+    /// `flatMap`: each item of its one input made a lane of its own, and the lanes merged.
+    FlatMap(FlatMapNode<T>),
 }
 
 impl<T: Drop> Machine for AnyNode<T> {
@@ -83,6 +86,7 @@ impl<T: Drop> Machine for AnyNode<T> {
             AnyNode::Several(node) => node.front(),
             AnyNode::PublishOn(node) => node.front(),
             AnyNode::Window(node) => node.front(),
+            AnyNode::FlatMap(node) => node.front(),
         }
     }
 
@@ -106,6 +110,7 @@ impl<T: Drop> Machine for AnyNode<T> {
             AnyNode::Several(node) => node.pop_front(alloc, ops),
             AnyNode::PublishOn(node) => node.pop_front(alloc, ops),
             AnyNode::Window(node) => node.pop_front(alloc, ops),
+            AnyNode::FlatMap(node) => node.pop_front(alloc, ops),
         }
     }
 
@@ -118,6 +123,7 @@ impl<T: Drop> Machine for AnyNode<T> {
             AnyNode::Several(node) => node.put_back(signal),
             AnyNode::PublishOn(node) => node.put_back(signal),
             AnyNode::Window(node) => node.put_back(signal),
+            AnyNode::FlatMap(node) => node.put_back(signal),
         }
     }
 
@@ -129,6 +135,7 @@ impl<T: Drop> Machine for AnyNode<T> {
             AnyNode::Several(node) => node.has_ended(),
             AnyNode::PublishOn(node) => node.has_ended(),
             AnyNode::Window(node) => node.has_ended(),
+            AnyNode::FlatMap(node) => node.has_ended(),
         }
     }
 
@@ -140,6 +147,7 @@ impl<T: Drop> Machine for AnyNode<T> {
             AnyNode::Several(node) => node.can_take(input, front),
             AnyNode::PublishOn(node) => node.can_take(input, front),
             AnyNode::Window(node) => node.can_take(input, front),
+            AnyNode::FlatMap(node) => node.can_take(input, front),
         }
     }
 
@@ -166,6 +174,7 @@ impl<T: Drop> Machine for AnyNode<T> {
             AnyNode::Several(node) => node.on_signal(alloc, ops, input, signal),
             AnyNode::PublishOn(node) => node.on_signal(alloc, ops, input, signal),
             AnyNode::Window(node) => node.on_signal(alloc, ops, input, signal),
+            AnyNode::FlatMap(node) => node.on_signal(alloc, ops, input, signal),
         }
     }
 
@@ -177,6 +186,7 @@ impl<T: Drop> Machine for AnyNode<T> {
             AnyNode::Several(node) => node.pop_item(alloc, ops),
             AnyNode::PublishOn(node) => node.pop_item(alloc, ops),
             AnyNode::Window(node) => node.pop_item(alloc, ops),
+            AnyNode::FlatMap(node) => node.pop_item(alloc, ops),
         }
     }
 
@@ -188,6 +198,7 @@ impl<T: Drop> Machine for AnyNode<T> {
             AnyNode::Several(node) => node.pass(alloc, ops, input, item),
             AnyNode::PublishOn(node) => node.pass(alloc, ops, input, item),
             AnyNode::Window(node) => node.pass(alloc, ops, input, item),
+            AnyNode::FlatMap(node) => node.pass(alloc, ops, input, item),
         }
     }
 
@@ -198,6 +209,7 @@ impl<T: Drop> Machine for AnyNode<T> {
             AnyNode::Several(node) => node.hub(),
             AnyNode::PublishOn(node) => node.hub(),
             AnyNode::Window(node) => node.hub(),
+            AnyNode::FlatMap(node) => node.hub(),
         }
     }
 
@@ -208,6 +220,7 @@ impl<T: Drop> Machine for AnyNode<T> {
             AnyNode::Several(node) => node.has_room(),
             AnyNode::PublishOn(node) => node.has_room(),
             AnyNode::Window(node) => node.has_room(),
+            AnyNode::FlatMap(node) => node.has_room(),
         }
     }
 
@@ -227,6 +240,7 @@ impl<T: Drop> Machine for AnyNode<T> {
             AnyNode::Several(node) => node.on_published(signal),
             AnyNode::PublishOn(node) => node.on_published(signal),
             AnyNode::Window(node) => node.on_published(signal),
+            AnyNode::FlatMap(node) => node.on_published(signal),
         }
     }
 
@@ -236,6 +250,7 @@ impl<T: Drop> Machine for AnyNode<T> {
             AnyNode::Source(_) | AnyNode::Plain(_) | AnyNode::PublishOn(_) | AnyNode::Window(_) =>
                 false,
             AnyNode::Several(node) => node.can_pick(input, asked, sent),
+            AnyNode::FlatMap(node) => node.can_pick(input, asked, sent),
         }
     }
 
@@ -245,6 +260,7 @@ impl<T: Drop> Machine for AnyNode<T> {
             AnyNode::Source(_) | AnyNode::Plain(_) | AnyNode::PublishOn(_) | AnyNode::Window(_) =>
                 None,
             AnyNode::Several(node) => node.next_pick(asked, sent),
+            AnyNode::FlatMap(node) => node.next_pick(asked, sent),
         }
     }
 
@@ -260,14 +276,18 @@ impl<T: Drop> Machine for AnyNode<T> {
             AnyNode::Source(_) | AnyNode::Plain(_) | AnyNode::PublishOn(_) | AnyNode::Window(_) =>
                 Err(NotMade::NotEnabled),
             AnyNode::Several(node) => node.on_pick(alloc, ops, input, asked, sent),
+            AnyNode::FlatMap(node) => node.on_pick(alloc, ops, input, asked, sent),
         }
     }
 
     #[inline(always)]
     fn can_row(&self, asked: u64, sent: u64) -> bool {
         match self {
-            AnyNode::Source(_) | AnyNode::Plain(_) | AnyNode::PublishOn(_) | AnyNode::Window(_) =>
-                false,
+            AnyNode::Source(_)
+            | AnyNode::Plain(_)
+            | AnyNode::PublishOn(_)
+            | AnyNode::Window(_)
+            | AnyNode::FlatMap(_) => false,
             AnyNode::Several(node) => node.can_row(asked, sent),
         }
     }
@@ -281,8 +301,11 @@ impl<T: Drop> Machine for AnyNode<T> {
         sent: u64,
     ) -> Result<(), NotMade> {
         match self {
-            AnyNode::Source(_) | AnyNode::Plain(_) | AnyNode::PublishOn(_) | AnyNode::Window(_) =>
-                Err(NotMade::NotEnabled),
+            AnyNode::Source(_)
+            | AnyNode::Plain(_)
+            | AnyNode::PublishOn(_)
+            | AnyNode::Window(_)
+            | AnyNode::FlatMap(_) => Err(NotMade::NotEnabled),
             AnyNode::Several(node) => node.on_row(alloc, ops, asked, sent),
         }
     }
@@ -295,6 +318,7 @@ impl<T: Drop> Machine for AnyNode<T> {
             AnyNode::Several(node) => node.want(input, asked, sent),
             AnyNode::PublishOn(node) => node.want(input, asked, sent),
             AnyNode::Window(node) => node.want(input, asked, sent),
+            AnyNode::FlatMap(node) => node.want(input, asked, sent),
         }
     }
 
@@ -303,6 +327,7 @@ impl<T: Drop> Machine for AnyNode<T> {
             AnyNode::Source(_) | AnyNode::Plain(_) | AnyNode::PublishOn(_) | AnyNode::Window(_) =>
                 Ok(Note::Nothing),
             AnyNode::Several(node) => node.note(alloc),
+            AnyNode::FlatMap(node) => node.note(alloc),
         }
     }
 
@@ -322,6 +347,7 @@ impl<T: Drop> Machine for AnyNode<T> {
             AnyNode::Several(node) => node.residual(alloc, ops, inboxes, incoming),
             AnyNode::PublishOn(node) => node.residual(alloc, ops, inboxes, incoming),
             AnyNode::Window(node) => node.residual(alloc, ops, inboxes, incoming),
+            AnyNode::FlatMap(node) => node.residual(alloc, ops, inboxes, incoming),
         }
     }
 

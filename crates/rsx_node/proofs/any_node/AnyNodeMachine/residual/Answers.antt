@@ -11,3 +11,6 @@ returns-in-PublishOn g c = rw c.in-PublishOn.is c.residual-in-PublishOn.ensures
 
 pub returns-in-Window : goal.returns-in-Window
 returns-in-Window g c = rw c.in-Window.is c.residual-in-Window.ensures
+
+pub returns-in-FlatMap : goal.returns-in-FlatMap
+returns-in-FlatMap g c = rw c.in-FlatMap.is c.residual-in-FlatMap.ensures
