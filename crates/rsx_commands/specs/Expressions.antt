@@ -14,7 +14,7 @@ use Rattle.rsx_words.specs.declared.words.LineRefusal.TheVariants.{Syntax, Unkno
 use Rattle.rsx_words.specs.Words.{Placed, Written, opening, closing, text, strange, nothing}
 use Rattle.rsx_words.specs.Numbers.{u8_of, u32_of, u64_of, signed_of}
 use Rattle.rsx_words.specs.Reading.{Left, ◌>>=◌, next_at, opening_at, closing_at, name_at, number_at, is_opening_next}
-use Rattle.rsx_commands.specs.Orders.{Tree, Trees, items, range, hub, plain, concat, merge, zip, latest, window, on, none, first}
+use Rattle.rsx_commands.specs.Orders.{Tree, Trees, items, range, hub, plain, concat, merge, zip, latest, group, window, flat, on, none, first}
 
 -- the name of a function of this use, which has a number
 unfoldable pub function_at : Role → Left → Result (ℕ × Left) LineRefusal
@@ -163,6 +163,25 @@ window_at read most l = do
   rest ← closing_at e.1
   Ok (window n.0 gs.0 e.0, rest)
 
+-- the name of a key function and a chain, and then its one input
+unfoldable pub group_at : (Left → Result (Tree × Left) LineRefusal) → ℕ → Left → Result (Tree × Left) LineRefusal
+group_at read most l = do
+  f ← function_at for.Key l
+  gs ← chain_at most f.1
+  e ← read gs.1
+  rest ← closing_at e.1
+  Ok (group f.0 gs.0 e.0, rest)
+
+-- the name of a function that expands, a concurrency and a chain, and then its one input
+unfoldable pub flat_at : (Left → Result (Tree × Left) LineRefusal) → ℕ → Left → Result (Tree × Left) LineRefusal
+flat_at read most l = do
+  f ← function_at for.Expand l
+  c ← number_at u64_of f.1
+  gs ← chain_at most c.1
+  e ← read gs.1
+  rest ← closing_at e.1
+  Ok (flat f.0 c.0 gs.0 e.0, rest)
+
 -- a worker and a prefetch, and then its one input
 unfoldable pub on_at : (Left → Result (Tree × Left) LineRefusal) → Left → Result (Tree × Left) LineRefusal
 on_at read l = do
@@ -193,9 +212,11 @@ operator_at read most column name l =
     else (if bytes_eq name (codes "merge") then of_prefetch merge read most l
     else (if bytes_eq name (codes "zip") then of_prefetch zip read most l
     else (if bytes_eq name (codes "combineLatest") then of_prefetch latest read most l
+    else (if bytes_eq name (codes "groupBy") then group_at read most l
     else (if bytes_eq name (codes "window") then window_at read most l
+    else (if bytes_eq name (codes "flatMap") then flat_at read most l
     else (if bytes_eq name (codes "publishOn") then on_at read l
-    else plain_at read column name l))))))))
+    else plain_at read column name l))))))))))
 
 -- An expression, where less operators stand one in the other than is said first; in a line there are less of them than bytes.
 unfoldable pub expression_at : ℕ → Left → Result (Tree × Left) LineRefusal

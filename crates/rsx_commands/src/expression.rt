@@ -3,7 +3,7 @@
 ghost use Rattle.std.specs.Prelude.{◌≡◌, ◌<◌, ◌≤◌, ℕ, IfOk, IfSome, OnOk, map};
 ghost use Rattle.rsx_words.specs.Reading.{Gives, GivesInMemory, left, bytes_left};
 ghost use Rattle.rsx_commands.specs.Orders.{tree_of, trees_of};
-ghost use Rattle.rsx_commands.specs.Expressions.{function_at, stage_at, opened_stage_at, chain_stage_at, stages_at, chain_at, item_at, items_at, range_at, hub_at, inputs_at, window_at, on_at, plain_at, operator_at, expression_at};
+ghost use Rattle.rsx_commands.specs.Expressions.{function_at, stage_at, opened_stage_at, chain_stage_at, stages_at, chain_at, item_at, items_at, range_at, hub_at, inputs_at, group_at, window_at, flat_at, on_at, plain_at, operator_at, expression_at};
 
 use crate::parse::hub;
 use rsx_demo::{Role, Val, function_number};
@@ -55,7 +55,9 @@ fn operator(
             let prefetch = words.u64()?;
             Ok(Expr::Latest(prefetch, inputs(alloc, words)?))
         }
+        "groupBy" => group_by(alloc, words),
         "window" => window(alloc, words),
+        "flatMap" => flat_map(alloc, words),
         "publishOn" => publish_on(alloc, words),
         _ => plain(alloc, column, name, words),
     }
@@ -78,6 +80,20 @@ fn inputs(alloc: Global, words: &mut Words<'_>) -> Result<Vec<Expr<Val>>, LineRe
     }
 }
 
+/// The key function and the chain of a `groupBy`, and the expression that follows.
+#[cycle(expression)]
+#[tactic(auto, unfolding(crate::specs::Expressions::group_at))]
+fn group_by(alloc: Global, words: &mut Words<'_>) -> Result<Expr<Val>, LineRefusal>
+    ensures word { (n : ℕ) → bytes_left words.old < n → GivesInMemory (λ e. (tree_of e, left words.new)) result (group_at (expression_at n) n (left words.old)) }
+    ensures most { bytes_left words.new ≤ bytes_left words.old }
+{
+    let key = function(words, Role::Key)?;
+    let stages = chain(alloc, words)?;
+    let input = expression(alloc, words)?;
+    words.close()?;
+    Ok(Expr::Group(key, stages, Box::new(alloc, input)?))
+}
+
 /// The size and the chain of a `window`, and the expression that follows.
 #[cycle(expression)]
 #[tactic(auto, unfolding(crate::specs::Expressions::window_at))]
@@ -90,6 +106,21 @@ fn window(alloc: Global, words: &mut Words<'_>) -> Result<Expr<Val>, LineRefusal
     let input = expression(alloc, words)?;
     words.close()?;
     Ok(Expr::Window(size, stages, Box::new(alloc, input)?))
+}
+
+/// The function, the concurrency and the chain of a `flatMap`, and the expression that follows.
+#[cycle(expression)]
+#[tactic(auto, unfolding(crate::specs::Expressions::flat_at))]
+fn flat_map(alloc: Global, words: &mut Words<'_>) -> Result<Expr<Val>, LineRefusal>
+    ensures word { (n : ℕ) → bytes_left words.old < n → GivesInMemory (λ e. (tree_of e, left words.new)) result (flat_at (expression_at n) n (left words.old)) }
+    ensures most { bytes_left words.new ≤ bytes_left words.old }
+{
+    let expand = function(words, Role::Expand)?;
+    let concurrency = words.u64()?;
+    let stages = chain(alloc, words)?;
+    let input = expression(alloc, words)?;
+    words.close()?;
+    Ok(Expr::Flat(expand, concurrency, stages, Box::new(alloc, input)?))
 }
 
 /// The worker and the prefetch of a `publishOn`, and the expression that follows.

@@ -14,6 +14,12 @@ decreases-operator l = 3 * bytes_left l.words.now + 2
 abbrev pub decreases-plain : goal.decreases-plain
 decreases-plain l = 3 * bytes_left l.words.now + 1
 
+abbrev pub decreases-group_by : goal.decreases-group_by
+decreases-group_by l = 3 * bytes_left l.words.now + 1
+
+abbrev pub decreases-flat_map : goal.decreases-flat_map
+decreases-flat_map l = 3 * bytes_left l.words.now + 1
+
 abbrev pub decreases-window : goal.decreases-window
 decreases-window l = 3 * bytes_left l.words.now + 1
 
