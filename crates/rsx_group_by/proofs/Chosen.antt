@@ -24,9 +24,9 @@ use Rattle.rsx_queued.specs.declared.output.Output.TheVariants.{Empty, Waiting, 
 use Rattle.rsx_queued.specs.Input.{IsFirst}
 use Rattle.rsx_queued.specs.Output.{is_empty, has_ending}
 use Rattle.rsx_grouping.proofs.Picks.{lane_picked, next_behind, none_there}
-use Rattle.rsx_grouping.proofs.Tables.{keys_set}
-use Rattle.rsx_grouping.specs.Lane.{lane_left, state_left, is_gone, is_gone_state, is_running, completes, after_pick, can_pick_of}
-use Rattle.rsx_grouping.specs.Rows.{keys_of, are_gone, can_pick_at}
+use Rattle.rsx_grouping.proofs.Tables.{keys_set, picked_goes_on}
+use Rattle.rsx_grouping.specs.Lane.{lane_left, state_left, is_gone, is_gone_state, is_running, completes, after_pick, can_pick_of, PickGoesOn}
+use Rattle.rsx_grouping.specs.Rows.{keys_of, are_gone, can_pick_at, GoOn}
 use Rattle.rsx_grouping.specs.Table.{lanes_there, lanes_to_come, TakesFirstAt, CommitsAt}
 use Rattle.rsx_grouping.specs.declared.lane.Lane.{Lane}
 use Rattle.rsx_grouping.specs.declared.lane.LaneState.{LaneState}
@@ -116,21 +116,21 @@ not_ended : {T : Type 0} (out : Output T) → out ≡ Empty → has_ending out �
 not_ended out e h = both (has_ending out) h (ap has_ending e)
 
 -- the node goes on, or it ends by this signal
-goes_on : {T : Type 0} (old mid : GroupByNode T) (s : Signal T) → mid.output ≡ Empty → mid.got ≡ old.got → (length old.table ≤ MOST_KEYS → length mid.table ≤ MOST_KEYS) → (ends_input s ≡ false → is_complete mid.table mid.main ≡ false) →
+goes_on : {T : Type 0} (old mid : GroupByNode T) (s : Signal T) → mid.output ≡ Empty → mid.got ≡ old.got → (length old.table ≤ MOST_KEYS → length mid.table ≤ MOST_KEYS) → (GoOn old.table → GoOn mid.table) → (ends_input s ≡ false → is_complete mid.table mid.main ≡ false) →
     group_ended (after_signal s mid) ≡ false → (taken : List ℕ) (sent : ℕ) → group_counted old taken sent → group_counted (after_signal s mid) taken sent
-goes_on old mid (Next x) empty got few left still taken sent h = record { not_over = refl; some_left = left refl; few = few h.few; items = h.items; at = h.at; counts = got ∙ h.counts }
-goes_on {T} old mid Complete empty got few left still taken sent h = by_complete (is_complete mid.table mid.main) refl
+goes_on old mid (Next x) empty got few on left still taken sent h = record { not_over = refl; some_left = left refl; few = few h.few; goes_on = on h.goes_on; items = h.items; at = h.at; counts = got ∙ h.counts }
+goes_on {T} old mid Complete empty got few on left still taken sent h = by_complete (is_complete mid.table mid.main) refl
   where
     by_complete : (b : Bool) → is_complete mid.table mid.main ≡ b → group_counted (unless_complete mid) taken sent
     by_complete true e = absurd (both (group_ended (unless_complete mid)) (rw e refl) still)
-    by_complete false e = record { not_over = rw (e, empty) refl; some_left = e; few = few h.few; items = h.items; at = h.at; counts = got ∙ h.counts }
-goes_on old mid (Error c) empty got few left still taken sent h = cc
+    by_complete false e = record { not_over = rw (e, empty) refl; some_left = e; few = few h.few; goes_on = on h.goes_on; items = h.items; at = h.at; counts = got ∙ h.counts }
+goes_on old mid (Error c) empty got few on left still taken sent h = cc
 
-pub signal_counts : {T : Type 0} (old mid : GroupByNode T) (s : Signal T) → old.output ≡ Empty → mid.output ≡ Empty → mid.got ≡ old.got → (length old.table ≤ MOST_KEYS → length mid.table ≤ MOST_KEYS) → (ends_input s ≡ false → is_complete mid.table mid.main ≡ false) →
+pub signal_counts : {T : Type 0} (old mid : GroupByNode T) (s : Signal T) → old.output ≡ Empty → mid.output ≡ Empty → mid.got ≡ old.got → (length old.table ≤ MOST_KEYS → length mid.table ≤ MOST_KEYS) → (GoOn old.table → GoOn mid.table) → (ends_input s ≡ false → is_complete mid.table mid.main ≡ false) →
     (not (is_coming old.main) ≡ true → not (is_coming mid.main) ≡ true) → CountsStep group_counted group_ended group_done old (after_signal s mid)
-signal_counts {T} old mid s was empty got few left done = record {
+signal_counts {T} old mid s was empty got few on left done = record {
   stays_ended = λ e. absurd (not_ended old.output was e);
-  counts = goes_on old mid s empty got few left;
+  counts = goes_on old mid s empty got few on left;
   stays_done = λ j d. same_main s (done d);
 }
   where
@@ -303,9 +303,9 @@ lane_out {T} m old new i asked sent p choices table picks other takes commits is
     } in
     ap (λ z. group_comes_out m z inc further) is ∙ signal_out m old mid i p.signal chosen inc further
 
-pub lane_counts : {T : Type 0} (m : Meaning T) (old new : GroupByNode T) (i asked sent : ℕ) (p : LanePick T) (choices : List Run) (table : List (KeyedLane T)) → group_picks old i asked sent ≡ true → (i ≡ MAIN → ⊥) → TakesFirstAt m old.table i p → CommitsAt old.table i p.lane table →
+pub lane_counts : {T : Type 0} (m : Meaning T) (old new : GroupByNode T) (i asked sent : ℕ) (p : LanePick T) (choices : List Run) (table : List (KeyedLane T)) → group_picks old i asked sent ≡ true → (i ≡ MAIN → ⊥) → TakesFirstAt m old.table i p → PickGoesOn p.lane → CommitsAt old.table i p.lane table →
     new ≡ after_signal p.signal (record old { choices = choices; table = table }) → CountsStep group_counted group_ended group_done old new
-lane_counts {T} m old new i asked sent p choices table picks other takes commits is =
+lane_counts {T} m old new i asked sent p choices table picks other takes on commits is =
     let k : IsPickable old i = pickable old i asked sent picks other in
     let empty : old.output ≡ Empty = picks_empty old i asked sent picks in
     let mid : GroupByNode T = record old { choices = choices; table = table } in
@@ -314,7 +314,7 @@ lane_counts {T} m old new i asked sent p choices table picks other takes commits
     let P : GroupByNode T → Type 0 = λ z. CountsStep group_counted group_ended group_done old z in
     let few : length old.table ≤ MOST_KEYS → length table ≤ MOST_KEYS = λ h. subst (λ (z : List (KeyedLane T)). length z ≤ MOST_KEYS) (sym set) (length_same old.table i row h) in
     let left : ends_input p.signal ≡ false → is_complete table old.main ≡ false = λ h. ap (λ rows. is_complete rows old.main) set ∙ item_left m old.table old.main i k.row p k.at takes h in
-    subst P (sym is) (signal_counts old mid p.signal empty empty refl few left (λ d. d))
+    subst P (sym is) (signal_counts old mid p.signal empty empty refl few (picked_goes_on old.table table i k.row p.lane k.at commits on) left (λ d. d))
 
 pub lane_within : {T : Type 0} (n : GroupByNode T) (i asked sent : ℕ) → group_picks n i asked sent ≡ true → (i ≡ MAIN → ⊥) → i < length n.table
 lane_within n i asked sent picks other = let k = pickable n i asked sent picks other in k.within

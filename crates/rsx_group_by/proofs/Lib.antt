@@ -1,4 +1,5 @@
 pub mod Chosen
+pub mod Copied
 pub mod Fresh
 pub mod Signals
 pub mod Takes

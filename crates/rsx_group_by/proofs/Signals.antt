@@ -14,6 +14,7 @@ use Rattle.rsx_sources.specs.Counts.{CountsIn, one_more}
 use Rattle.rsx_sources.specs.Machine.{TakesIn, in_front}
 use Rattle.rsx_lanes.specs.declared.limits.TheConstants.{MOST_KEYS}
 use Rattle.rsx_queued.specs.Output.{is_over, has_ending}
+use Rattle.rsx_grouping.specs.Rows.{GoOn}
 use Rattle.rsx_grouping.specs.declared.table.KeyedLane.{KeyedLane}
 use Rattle.rsx_group_by.specs.GroupBy.{inputs_left, group_of, group_comes_out, group_takes, group_counted, group_ended, group_done, is_complete, TakesItem}
 use Rattle.rsx_group_by.specs.MainState.{is_coming, ended_by as main_ended_by}
@@ -44,9 +45,9 @@ more_taken i items taken at is = rw (at, is) refl
 more_got : (got items : ℕ) → got ≡ min UNBOUNDED items → saturating_total got 1 ≡ min UNBOUNDED (items + 1)
 more_got got items h = omega arith
 
-pub item_counted : {T : Type 0} (old mid : GroupByNode T) (i : ℕ) (x : T) → i ≡ 0 → mid ≡ record old { table = mid.table; main = mid.main } → (length old.table ≤ MOST_KEYS → length mid.table ≤ MOST_KEYS) → (is_complete old.table old.main ≡ false → is_complete mid.table mid.main ≡ false) → (is_coming old.main ≡ false → is_coming mid.main ≡ false) →
+pub item_counted : {T : Type 0} (old mid : GroupByNode T) (i : ℕ) (x : T) → i ≡ 0 → mid ≡ record old { table = mid.table; main = mid.main } → (length old.table ≤ MOST_KEYS → length mid.table ≤ MOST_KEYS) → (GoOn old.table → GoOn mid.table) → (is_complete old.table old.main ≡ false → is_complete mid.table mid.main ≡ false) → (is_coming old.main ≡ false → is_coming mid.main ≡ false) →
     CountsIn group_counted group_ended group_done old i (Next x) (record mid { got = saturating_total mid.got 1 })
-item_counted {T} old mid i x at rest few left done =
+item_counted {T} old mid i x at rest few on left done =
     let out : mid.output ≡ old.output = ap (λ (z : GroupByNode T). z.output) rest in
     let got : mid.got ≡ old.got = ap (λ (z : GroupByNode T). z.got) rest in
     record {
@@ -55,6 +56,7 @@ item_counted {T} old mid i x at rest few left done =
         not_over = ap is_over out ∙ h.not_over;
         some_left = left h.some_left;
         few = few h.few;
+        goes_on = on h.goes_on;
         items = h.items + 1;
         at = more_taken i h.items taken at h.at;
         counts = more_got mid.got h.items (got ∙ h.counts);
@@ -108,6 +110,7 @@ ending_goes_on old main e is left taken sent h = record {
   not_over = h.not_over;
   some_left = ap (is_complete old.table) is ∙ still_left old.table old.main e left h.some_left;
   few = h.few;
+  goes_on = h.goes_on;
   items = h.items;
   at = h.at;
   counts = h.counts;

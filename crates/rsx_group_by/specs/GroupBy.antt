@@ -23,7 +23,7 @@ use Rattle.rsx_queued.specs.declared.output.Output.{Output}
 use Rattle.rsx_queued.specs.declared.output.Output.TheVariants.{Waiting}
 use Rattle.rsx_queued.specs.Inputs.{picked}
 use Rattle.rsx_queued.specs.Output.{out_signal, is_empty, is_over, has_ending, IsOut, output_then}
-use Rattle.rsx_grouping.specs.Rows.{keys_of, are_quiet, are_gone, can_pick_at}
+use Rattle.rsx_grouping.specs.Rows.{keys_of, are_quiet, are_gone, can_pick_at, GoOn}
 use Rattle.rsx_grouping.specs.Table.{lanes_left}
 use Rattle.rsx_grouping.specs.declared.table.KeyedLane.{KeyedLane}
 use Rattle.rsx_group_by.specs.MainState.{is_coming, is_done, is_ready, is_taken}
@@ -117,6 +117,7 @@ pub record IsGoing {T : Type 0} (out : Output T) (rows : List (KeyedLane T)) (ma
   pub not_over : is_over out ≡ false
   pub some_left : is_complete rows main ≡ false
   pub few : length rows ≤ MOST_KEYS
+  pub goes_on : GoOn rows
   pub items : ℕ
   pub at : taken ≡ items ∷ []
   pub counts : got ≡ min UNBOUNDED items

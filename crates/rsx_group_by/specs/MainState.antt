@@ -1,5 +1,7 @@
 -- Where Main is.
-use Rattle.std.specs.Prelude.{Bool, true, false}
+use Rattle.std.specs.Prelude.{Bool, true, false, List, []}
+use Rattle.rsx_types.specs.declared.signal.Ending.{Ending}
+use Rattle.rsx_types.specs.declared.signal.Ending.TheVariants.{Done, Failed}
 use Rattle.rsx_group_by.specs.declared.main_state.MainState.{MainState}
 use Rattle.rsx_group_by.specs.declared.main_state.MainState.TheVariants.{Coming, Completed, Failing, Taken}
 
@@ -37,3 +39,17 @@ ended_by Coming e = e
 ended_by Completed e = Completed
 ended_by (Failing c) e = Failing c
 ended_by Taken e = Taken
+
+-- the items that still come in before it
+abbrev pub items_before : {T : Type 0} → MainState → List T → List T
+items_before Coming xs = xs
+items_before Completed xs = []
+items_before (Failing c) xs = []
+items_before Taken xs = []
+
+-- how what still comes in ends, where the input ends so unless its ending came
+abbrev pub ending_behind : MainState → Ending → Ending
+ending_behind Coming e = e
+ending_behind Completed e = Done
+ending_behind (Failing c) e = Failed c
+ending_behind Taken e = Done

@@ -1,9 +1,9 @@
 //! Where Main is.
 
 ghost use Rattle.std.specs.Prelude.{◌≡◌};
-ghost use Rattle.rsx_group_by.specs.MainState.{is_coming, is_done, is_ready, is_taken, ended_by};
+ghost use Rattle.rsx_group_by.specs.MainState.{is_coming, is_done, is_ready, is_taken, ended_by, items_before, ending_behind};
 
-use rsx_types::Cause;
+use rsx_types::{Cause, Ending};
 
 /// Where Main is, which has the ending of the input.
 #[derive(Clone, Copy, Debug, PartialEq, Eq)]
@@ -47,6 +47,27 @@ impl MainState {
         match self {
             MainState::Coming => ending,
             other => other,
+        }
+    }
+
+    /// Which of the items still come in that stand before it: all of them until it came, and then none.
+    pub fn items_before<'a, T>(&self, items: &'a [T]) -> &'a [T]
+        ensures { result.now ≡ items_before self.now items.now }
+    {
+        match self {
+            MainState::Coming => items,
+            MainState::Completed | MainState::Failing(_) | MainState::Taken => &[],
+        }
+    }
+
+    /// How what still comes in ends, where the input ends so unless its ending came.
+    pub fn ending_behind(&self, ending: Ending) -> Ending
+        ensures { result ≡ ending_behind self.now ending }
+    {
+        match self {
+            MainState::Coming => ending,
+            MainState::Completed | MainState::Taken => Ending::Done,
+            MainState::Failing(cause) => Ending::Failed(*cause),
         }
     }
 

@@ -1,24 +1,21 @@
 //! `groupBy`.
 
-ghost use Rattle.std.specs.Prelude.{◌≡◌, ◌≤◌, ℕ, true, false, length, OnOk, OnErr, IfErr};
-ghost use Rattle.rsx_types.specs.Notes.{note_then};
-ghost use Rattle.rsx_sources.specs.Counts.{CountsIn, CountsStep};
-ghost use Rattle.rsx_sources.specs.Machine.{TakesIn, Records};
-ghost use Rattle.rsx_sources.specs.Steps.{IsNotTaken, IsNotMade};
-ghost use Rattle.rsx_grouping.specs.Rows.{are_quiet};
-ghost use Rattle.rsx_group_by.specs.GroupBy.{TakesItem, is_complete, group_comes_out, group_takes, group_picks, group_recording, group_recorded, group_ended, group_done, group_counted};
+ghost use Rattle.std.specs.Prelude.{◌≡◌, ◌≤◌, true, false, length, IfOk, OnOk, OnErr, IfErr};
+ghost use Rattle.rsx_queued.specs.Values.{head_of};
+ghost use Rattle.rsx_grouping.specs.Rows.{are_quiet, GoOn};
+ghost use Rattle.rsx_group_by.specs.GroupBy.{TakesItem, inputs_left, is_complete};
 ghost use Rattle.rsx_group_by.specs.declared.node.GroupByNode.{GroupByNode as GroupByNodeSpec};
 ghost use Rattle.rsx_lanes.specs.declared.limits.TheConstants.{MOST_KEYS};
 ghost use Rattle.rsx_group_by.specs.MainState.{is_coming};
 
 use crate::main_state::MainState;
-use rsx_choices::{Record, Run};
+use rsx_choices::{Input, Record, Run, merge_inputs};
 use rsx_demand::saturating_total;
-use rsx_grouping::{LaneTable, TakingKeyed};
+use rsx_grouping::{LaneTable, Resting, TakingKeyed};
 use rsx_lanes::{MAIN, TOO_MANY_KEYS};
-use rsx_queued::Output;
-use rsx_sources::{NotMade, NotTaken};
-use rsx_types::{Cause, Fault, NoMemory, Ops, Signal, Stage};
+use rsx_queued::{InFront, Output, front_of};
+use rsx_sources::{Front, Machine, NotMade, NotTaken, Passed};
+use rsx_types::{Cause, Ending, Fault, NoMemory, Note, Ops, Signal, Stage, StreamValue};
 use std::alloc::Global;
 
 /// The items of its input in lanes, a lane for each key, each through a chain of its own; what comes out is the merge of the lanes and
@@ -48,7 +45,7 @@ pub struct GroupByNode<T> {
 }
 
 impl<T: Drop> GroupByNode<T> {
-    ghost use Rattle.std.specs.Prelude.{◌≡◌, ◌<◌, ◌^◌, ◌++◌, ℕ, [], ◌∷◌, true, false, length, IfSome, IfNone, OnOk, OnErr};
+    ghost use Rattle.std.specs.Prelude.{◌≡◌, ◌<◌, ◌^◌, ◌++◌, [], ◌∷◌, true, length, OnOk, OnErr};
     ghost use Rattle.rsx_types.specs.Meaning.{Meaning};
     ghost use Rattle.rsx_sources.specs.Counts.{CountsStep};
     ghost use Rattle.rsx_sources.specs.Machine.{Records};
@@ -56,12 +53,13 @@ impl<T: Drop> GroupByNode<T> {
     ghost use Rattle.rsx_queued.specs.Output.{is_empty};
     ghost use Rattle.rsx_queued.specs.declared.output.Output.TheVariants.{Empty};
     ghost use Rattle.rsx_group_by.specs.MainState.{is_ready};
-    ghost use Rattle.rsx_group_by.specs.GroupBy.{GivesGroups, group_comes_out, group_takes, group_picks, group_recording, group_ended, group_done, group_counted, group_wanted, unless_complete, after_signal};
+    ghost use Rattle.rsx_group_by.specs.GroupBy.{GivesGroups, group_comes_out, group_recording, group_ended, group_done, group_counted, unless_complete, after_signal};
 
     /// `groupBy` by this function, with a chain of these operators in each lane.
     pub fn new(alloc: Global, function: u16, stages: Vec<Stage<T>>) -> GroupByNode<T>
         ensures fresh { GivesGroups result function stages.items }
         ensures counted { group_counted result (0 ∷ []) 0 }
+        ensures choices { result.choices ≡ [] }
     {
         GroupByNode {
             function,
@@ -72,54 +70,6 @@ impl<T: Drop> GroupByNode<T> {
             choices: Record::new(alloc),
             got: 0,
         }
-    }
-
-    /// Whether a signal of this input can be taken: it has one input, the out slot is empty, and nothing waits in a lane.
-    pub fn can_take(&self, input: u64) -> bool
-        ensures { result ≡ group_takes self.now input }
-    {
-        input == 0 && self.output.is_empty() && self.table.is_quiet()
-    }
-
-    /// Whether a lane, or [`MAIN`], can be picked, where `asked` is asked of the node and it sent `sent` items.
-    pub fn can_pick(&self, input: u64, asked: u64, sent: u64) -> bool
-        ensures { result ≡ group_picks self.now input asked sent }
-    {
-        if !self.output.is_empty() {
-            return false;
-        }
-        if input == MAIN {
-            return self.main.is_ready();
-        }
-        self.table
-            .can_pick(input as usize, self.main.is_done(), asked, sent)
-    }
-
-    /// A lane that can be picked, or else Main, if one can.
-    pub fn next_pick(&self, asked: u64, sent: u64) -> Option<u64>
-        ensures some { IfSome result (λ i. group_picks self.now i asked sent ≡ true) }
-        ensures none { IfNone result ((i : ℕ) → i < 2 ^ 64 → group_picks self.now i asked sent ≡ false) }
-    {
-        for at in 0..self.table.len() {
-            if self.can_pick(at as u64, asked, sent) {
-                return Some(at as u64);
-            }
-        }
-        if self.can_pick(MAIN, asked, sent) {
-            return Some(MAIN);
-        }
-        None
-    }
-
-    /// What is to be asked of the input in all, where `asked` is asked of the node and it sent `sent` items: one item more than it got
-    /// where nothing waits in a lane and fewer items were sent than asked for.
-    pub fn want(&self, asked: u64, sent: u64) -> u64
-        ensures { (i : ℕ) → result ≡ group_wanted self.now i asked sent }
-    {
-        if sent < asked && self.table.is_quiet() {
-            return saturating_total(self.got, 1);
-        }
-        self.got
     }
 
     /// Puts the completion out where Main and all lanes were picked to their ends. Nothing was put out.
@@ -184,8 +134,8 @@ impl<T: Drop> GroupByNode<T> {
     }
 }
 
-/// What a `groupBy` does with the signals of its input, and how it is picked.
-pub trait Grouping<T: Drop> {
+/// What comes in at a `groupBy`.
+trait TakingIn<T: Drop> {
     ghost node: { Self → GroupByNodeSpec T };
 
     /// Puts an item into the lane of its key; a fault of the key, or a key too many, is the ending of the input. Nothing waits. For
@@ -194,51 +144,32 @@ pub trait Grouping<T: Drop> {
         requires { are_quiet (node self.old).table ≡ true }
         ensures ok { OnOk result (TakesItem (O.meaning ops.now) (node self.old).function (node self.old).stages.items (node self.old).table (node self.old).main item (node self.new).table (node self.new).main) }
         ensures few { OnOk result (length (node self.old).table ≤ MOST_KEYS → length (node self.new).table ≤ MOST_KEYS) }
+        ensures goes_on { OnOk result (GoOn (node self.old).table → GoOn (node self.new).table) }
         ensures left { OnOk result (is_complete (node self.old).table (node self.old).main ≡ false → is_complete (node self.new).table (node self.new).main ≡ false) }
         ensures done { OnOk result (is_coming (node self.old).main ≡ false → is_coming (node self.new).main ≡ false) }
         ensures rest { OnOk result (node self.new ≡ record (node self.old) { table = (node self.new).table; main = (node self.new).main }) }
         ensures err { IfErr result (λ x. x ≡ item) }
         ensures same { OnErr result (self.new ≡ self.old) };
 
-    /// Takes a signal of an input. Where it can't, or for want of memory, the signal comes back and the node is unchanged.
-    fn take_signal<O: Ops<Item = T>>(
-        &mut self,
+    /// Copies of what is left to pick of the lanes, of those that are there and of those that come, and Main behind them, where just
+    /// these values come in.
+    fn left<O: Ops<Item = T>>(
+        &self,
         alloc: Global,
         ops: &O,
-        input: u64,
-        signal: Signal<T>,
-    ) -> Result<(), NotTaken<T>>
-        ensures ok { OnOk result (TakesIn (group_comes_out (O.meaning ops.now)) (node self.old) input signal (node self.new)) }
-        ensures enabled { OnOk result (group_takes (node self.old) input ≡ true) }
-        ensures recorded { group_recorded (node self.new) ≡ group_recorded (node self.old) }
-        ensures counts { OnOk result (CountsIn group_counted group_ended group_done (node self.old) input signal (node self.new)) }
-        ensures err { IfErr result (IsNotTaken (group_takes (node self.old) input) signal) }
-        ensures same { OnErr result (self.new ≡ self.old) };
-
-    /// Picks a lane, or [`MAIN`], and records the choice. Where it can't, or for want of memory, nothing has changed.
-    fn pick<O: Ops<Item = T>>(
-        &mut self,
-        alloc: Global,
-        ops: &O,
-        input: u64,
-        asked: u64,
-        sent: u64,
-    ) -> Result<(), NotMade>
-        ensures ok { OnOk result (Records (group_comes_out (O.meaning ops.now)) (node self.old) (group_recording (node self.old) input) (node self.new)) }
-        ensures enabled { OnOk result (group_picks (node self.old) input asked sent ≡ true) }
-        ensures recorded { OnOk result (group_recorded (node self.new) ≡ note_then (group_recorded (node self.old)) (group_recording (node self.old) input)) }
-        ensures counts { OnOk result (CountsStep group_counted group_ended group_done (node self.old) (node self.new)) }
-        ensures err { IfErr result (IsNotMade (group_picks (node self.old) input asked sent)) }
-        ensures same { OnErr result (self.new ≡ self.old) };
+        incoming: &[StreamValue<T>],
+    ) -> Result<Vec<Input<T>>, NoMemory>
+        ensures { IfOk result (λ is. is.items ≡ inputs_left (O.meaning ops.now) (node self.now).function (node self.now).stages.items (node self.now).table (node self.now).main (head_of incoming.now)) };
 }
 
-impl<T: Drop> Grouping<T> for GroupByNode<T> {
+impl<T: Drop> TakingIn<T> for GroupByNode<T> {
     ghost node = { λ n. n };
 
     fn take_item<O: Ops<Item = T>>(&mut self, alloc: Global, ops: &O, item: T) -> Result<(), T>
         requires { are_quiet self.old.table ≡ true }
         ensures ok { OnOk result (TakesItem (O.meaning ops.now) self.old.function self.old.stages.items self.old.table self.old.main item self.new.table self.new.main) }
         ensures few { OnOk result (length self.old.table ≤ MOST_KEYS → length self.new.table ≤ MOST_KEYS) }
+        ensures goes_on { OnOk result (GoOn self.old.table → GoOn self.new.table) }
         ensures left { OnOk result (is_complete self.old.table self.old.main ≡ false → is_complete self.new.table self.new.main ≡ false) }
         ensures done { OnOk result (is_coming self.old.main ≡ false → is_coming self.new.main ≡ false) }
         ensures rest { OnOk result (self.new ≡ record self.old { table = self.new.table; main = self.new.main }) }
@@ -267,7 +198,130 @@ impl<T: Drop> Grouping<T> for GroupByNode<T> {
         }
     }
 
-    fn take_signal<O: Ops<Item = T>>(
+    fn left<O: Ops<Item = T>>(
+        &self,
+        alloc: Global,
+        ops: &O,
+        incoming: &[StreamValue<T>],
+    ) -> Result<Vec<Input<T>>, NoMemory>
+        ensures { IfOk result (λ is. is.items ≡ inputs_left (O.meaning ops.now) self.now.function self.now.stages.items self.now.table self.now.main (head_of incoming.now)) }
+    {
+        let items = self.main.items_before(first_items(incoming));
+        let ending = self.main.ending_behind(first_ending(incoming));
+        let keyed = self.table.keyed(alloc, ops, self.function, items, ending)?;
+        let mut inputs = self.table.left(alloc, ops, &self.stages, &keyed)?;
+        if self.main.is_taken() {
+            return Ok(inputs);
+        }
+        let main = StreamValue::new(Vec::new(alloc), keyed.ending);
+        inputs.push(Input::new(alloc, MAIN, main)?)?;
+        Ok(inputs)
+    }
+}
+
+/// The items that come in at the first input; none where no value is named.
+fn first_items<T>(incoming: &[StreamValue<T>]) -> &[T]
+    ensures { result.now ≡ (head_of incoming.now).items }
+{
+    match incoming.first() {
+        Some(value) => value.items(),
+        None => &[],
+    }
+}
+
+/// How the first input ends; it stays open where no value is named.
+fn first_ending<T>(incoming: &[StreamValue<T>]) -> Ending
+    ensures { result ≡ (head_of incoming.now).ending }
+{
+    match incoming.first() {
+        Some(value) => value.ending(),
+        None => Ending::Open,
+    }
+}
+
+impl<T: Drop> Machine for GroupByNode<T> {
+    type Item = T;
+
+    ghost use Rattle.std.specs.Prelude.{◌≡◌, true, false, refl, None, IfOk, IfErr, IsOk, OnOk, OnErr};
+    ghost use Rattle.rsx_types.specs.Notes.{note_then};
+    ghost use Rattle.rsx_sources.specs.Counts.{CountsIn, CountsOut, CountsStep};
+    ghost use Rattle.rsx_sources.specs.Machine.{TakesIn, Records, IsComposed};
+    ghost use Rattle.rsx_sources.specs.Reading.{IsReadOn, IsResidualOf};
+    ghost use Rattle.rsx_sources.specs.Steps.{IsPopped, IsNotTaken, IsNotMade};
+    ghost use Rattle.rsx_group_by.specs.GroupBy.{group_comes_out, group_waiting, group_shown, group_takes, group_picks, group_recording, group_recorded, group_ended, group_done, group_counted, group_wanted, IsPoppedGroup};
+    ghost use Rattle.rsx_group_by.specs.Laws.{group_drops, group_ends, group_done_drops, group_settles, group_ending_waits, group_hungry};
+    ghost use Rattle.rsx_group_by.specs.declared.node.GroupByNode.{GroupByNode};
+
+    ghost comes_out = { group_comes_out };
+
+    ghost waiting = { group_waiting };
+
+    ghost shown = { group_shown };
+
+    ghost takes = { λ n i f. group_takes n i };
+
+    ghost picks = { group_picks };
+
+    ghost rows = { λ n a s. false };
+
+    ghost recording = { group_recording };
+
+    ghost recorded = { group_recorded };
+
+    ghost ended = { group_ended };
+
+    ghost done = { group_done };
+
+    ghost counted = { group_counted };
+
+    ghost wanted = { group_wanted };
+
+    ghost popped = { IsPoppedGroup };
+
+    ghost reads = { λ n. None };
+
+    ghost rooms = { λ n. false };
+
+    ghost pop_allocates = { λ a n. false };
+
+    ghost signal_allocates = { λ a n. true };
+
+    ghost step_allocates = { λ a n. true };
+
+    fn front(&self) -> Option<Front> {
+        self.output.front()
+    }
+
+    fn pop_front<O: Ops<Item = T>>(
+        &mut self,
+        alloc: Global,
+        ops: &O,
+    ) -> Result<Option<Signal<T>>, NoMemory>
+        ensures ok { IfOk result (λ s.
+            IsPopped (group_comes_out (O.meaning ops.now)) IsPoppedGroup (group_waiting (O.meaning ops.now) self.old) self.old s self.new) }
+        ensures recorded { group_recorded self.new ≡ group_recorded self.old }
+        ensures counts { IfOk result (λ s. CountsOut group_counted group_ended group_done self.old s self.new) }
+        ensures err { OnErr result (self.new ≡ self.old) }
+        ensures memory { IsOk result }
+    {
+        Ok(self.output.pop())
+    }
+
+    fn put_back(&mut self, signal: Signal<T>)
+        ensures { (before : GroupByNode T) → IsPoppedGroup before signal self.old → self.new ≡ before }
+    {
+        self.output.put_back(signal);
+    }
+
+    fn has_ended(&self) -> bool {
+        self.output.has_ending()
+    }
+
+    fn can_take(&self, input: u64, front: Front) -> bool {
+        input == 0 && self.output.is_empty() && self.table.is_quiet()
+    }
+
+    fn on_signal<O: Ops<Item = T>>(
         &mut self,
         alloc: Global,
         ops: &O,
@@ -281,7 +335,7 @@ impl<T: Drop> Grouping<T> for GroupByNode<T> {
         ensures err { IfErr result (IsNotTaken (group_takes self.old input) signal) }
         ensures same { OnErr result (self.new ≡ self.old) }
     {
-        if !self.can_take(input) {
+        if !self.can_take(input, front_of(&signal)) {
             return Err(NotTaken::Busy(signal));
         }
         match signal {
@@ -303,7 +357,57 @@ impl<T: Drop> Grouping<T> for GroupByNode<T> {
         }
     }
 
-    fn pick<O: Ops<Item = T>>(
+    fn pop_item<O: Ops<Item = T>>(&mut self, alloc: Global, ops: &O) -> Option<T> {
+        self.output.pop_item()
+    }
+
+    fn pass<O: Ops<Item = T>>(&mut self, alloc: Global, ops: &O, input: u64, item: T) -> Passed<T> {
+        Passed::Declined(item)
+    }
+
+    fn hub(&self) -> Option<u64> {
+        None
+    }
+
+    fn has_room(&self) -> bool {
+        false
+    }
+
+    fn on_published(&mut self, signal: Signal<T>) -> Result<(), Signal<T>>
+        ensures ok { OnOk result (IsReadOn group_comes_out (λ n. None) self.old signal self.new) }
+        ensures enabled { OnOk result (false ≡ true) }
+        ensures recorded { group_recorded self.new ≡ group_recorded self.old }
+        ensures counts { OnOk result (CountsStep group_counted group_ended group_done self.old self.new) }
+        ensures err { IfErr result (λ s. s ≡ signal) }
+        ensures same { OnErr result (self.new ≡ self.old) }
+    {
+        Err(signal)
+    }
+
+    fn can_pick(&self, input: u64, asked: u64, sent: u64) -> bool {
+        if !self.output.is_empty() {
+            return false;
+        }
+        if input == MAIN {
+            return self.main.is_ready();
+        }
+        self.table
+            .can_pick(input as usize, self.main.is_done(), asked, sent)
+    }
+
+    fn next_pick(&self, asked: u64, sent: u64) -> Option<u64> {
+        for at in 0..self.table.len() {
+            if self.can_pick(at as u64, asked, sent) {
+                return Some(at as u64);
+            }
+        }
+        if self.can_pick(MAIN, asked, sent) {
+            return Some(MAIN);
+        }
+        None
+    }
+
+    fn on_pick<O: Ops<Item = T>>(
         &mut self,
         alloc: Global,
         ops: &O,
@@ -314,6 +418,7 @@ impl<T: Drop> Grouping<T> for GroupByNode<T> {
         ensures ok { OnOk result (Records (group_comes_out (O.meaning ops.now)) self.old (group_recording self.old input) self.new) }
         ensures enabled { OnOk result (group_picks self.old input asked sent ≡ true) }
         ensures recorded { OnOk result (group_recorded self.new ≡ note_then (group_recorded self.old) (group_recording self.old input)) }
+        ensures composes { OnOk result (IsComposed (group_recorded self.old) (group_recording self.old input)) }
         ensures counts { OnOk result (CountsStep group_counted group_ended group_done self.old self.new) }
         ensures err { IfErr result (IsNotMade (group_picks self.old input asked sent)) }
         ensures same { OnErr result (self.new ≡ self.old) }
@@ -341,4 +446,65 @@ impl<T: Drop> Grouping<T> for GroupByNode<T> {
         self.put_out(alloc, pick.signal);
         Ok(())
     }
+
+    fn can_row(&self, asked: u64, sent: u64) -> bool {
+        false
+    }
+
+    fn on_row<O: Ops<Item = T>>(
+        &mut self,
+        alloc: Global,
+        ops: &O,
+        asked: u64,
+        sent: u64,
+    ) -> Result<(), NotMade> {
+        Err(NotMade::NotEnabled)
+    }
+
+    fn want(&self, input: u64, asked: u64, sent: u64) -> u64 {
+        if sent < asked && self.table.is_quiet() {
+            return saturating_total(self.got, 1);
+        }
+        self.got
+    }
+
+    fn note(&self, alloc: Global) -> Result<Note, NoMemory> {
+        let choices = self.choices.choices(alloc)?;
+        Ok(Note::Picks(choices))
+    }
+
+    fn residual<O: Ops<Item = T>>(
+        &self,
+        alloc: Global,
+        ops: &O,
+        inboxes: &[StreamValue<T>],
+        incoming: &[StreamValue<T>],
+    ) -> Result<StreamValue<T>, NoMemory>
+        ensures { IfOk result (λ v.
+            IsResidualOf (group_comes_out (O.meaning ops.now)) group_recorded (λ n. None) self.now inboxes.now incoming.now v) }
+    {
+        let left = self.left(alloc, ops, incoming)?;
+        match merge_inputs(alloc, left, &[])? {
+            Some(rest) => self.output.in_front(alloc, ops, rest),
+            None => unreachable!(),
+        }
+    }
+
+    ghost shows = { λ m n. refl };
+
+    ghost popped_alike = { λ old s new h. (refl, λ a. (refl, refl, refl)) };
+
+    ghost drops = { group_drops };
+
+    ghost ends = { group_ends };
+
+    ghost done_drops = { group_done_drops };
+
+    ghost ends_reading = { λ m n s w e. refl };
+
+    ghost settles = { group_settles };
+
+    ghost ending_waits = { group_ending_waits };
+
+    ghost hungry = { group_hungry };
 }

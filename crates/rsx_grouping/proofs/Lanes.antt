@@ -1,5 +1,5 @@
 -- What comes out of a lane by an item, and what a pick takes of it.
-use Rattle.std.proofs.Common.{◌≡◌, ℕ, true, false, List, [], ◌∷◌, ◌++◌, map, Option, Some, None, option_map, refl, ap, sym, ◌∙◌, subst}
+use Rattle.std.proofs.Common.{◌≡◌, ℕ, Bool, true, false, List, [], ◌∷◌, ◌++◌, map, Option, Some, None, option_map, refl, ap, sym, ◌∙◌, subst}
 use Rattle.std.specs.Option.{option_to_list}
 use Rattle.std.specs.Prelude.{slice_get, is_some}
 use Rattle.std.proofs.lemmas.List.{append-nil}
@@ -13,14 +13,14 @@ use Rattle.rsx_types.specs.Meaning.{Meaning}
 use Rattle.rsx_types.specs.Stream.{Stream, ended_by, item_then, items_then}
 use Rattle.rsx_sources.specs.Slot.{is_nil}
 use Rattle.rsx_operators.specs.Emission.{emission_then}
-use Rattle.rsx_operators.specs.Moves.{has_ended}
+use Rattle.rsx_operators.specs.Moves.{has_ended, ended_or}
 use Rattle.rsx_operators.specs.declared.prepared.Emission.{Emission}
-use Rattle.rsx_chain.specs.Chain.{chain_from}
+use Rattle.rsx_chain.specs.Chain.{chain_from, chain_over, IsChained}
 use Rattle.rsx_chain.specs.declared.chain.ChainState.{ChainState}
 use Rattle.rsx_lanes.specs.Group.{tagged_items}
 use Rattle.rsx_queued.specs.Input.{IsFirst}
 use Rattle.rsx_grouping.proofs.Ends.{chain_ends}
-use Rattle.rsx_grouping.specs.Lane.{state_left, lane_left, state_after, state_ended, ending_signal, is_gone, is_gone_state, is_quiet, TakesItem, Begins, TakesOne, BeginsWith, CompletesWith, IsPrepared, without_next}
+use Rattle.rsx_grouping.specs.Lane.{state_left, lane_left, state_after, state_ended, ending_signal, is_gone, is_gone_state, is_quiet, TakesItem, Begins, TakesOne, BeginsWith, CompletesWith, IsPrepared, without_next, GoesOn, IsFresh}
 use Rattle.rsx_grouping.specs.declared.lane.Begun.{Begun}
 use Rattle.rsx_grouping.specs.declared.lane.Lane.{Lane}
 use Rattle.rsx_grouping.specs.declared.lane.LanePick.{LanePick}
@@ -139,3 +139,40 @@ pub leaves : {T : Type 0} (s : LaneState T) (xs ys : List T) (o : Option T) → 
 leaves s xs ys (Some x) first left none = cc
 leaves s [] ys None first left none = ap (λ zs. record { state = Gone; waiting = zs }) (sym left)
 leaves s (x ∷ xs) ys None first left none = cc
+
+-- ---- a chain that runs is not over
+
+not_over : (b : Bool) → (b ≡ true → false ≡ true) → b ≡ false
+not_over true h = sym (h refl)
+not_over false h = refl
+
+pub after_goes_on : {T : Type 0} (c : ChainState T) (e : Ending) (s : LaneState T) → (chain_over c ≡ true → has_ended e ≡ true) → s ≡ state_after c e → GoesOn s
+after_goes_on {T} c e s h is = subst GoesOn (sym is) (by_ending e h)
+  where
+    by_ending : (e : Ending) → (chain_over c ≡ true → has_ended e ≡ true) → GoesOn (state_after c e)
+    by_ending Open k = not_over (chain_over c) k
+    by_ending Done k = tt
+    by_ending (Failed f) k = tt
+
+-- nor is that of a lane which has put out its ending
+pub ended_goes_on : {T : Type 0} (e : Ending) (s : LaneState T) → s ≡ state_ended e → GoesOn s
+ended_goes_on {T} e s is = subst GoesOn (sym is) (by_ending e)
+  where
+    by_ending : (e : Ending) → GoesOn {T = T} (state_ended e)
+    by_ending Open = tt
+    by_ending Done = tt
+    by_ending (Failed f) = tt
+
+-- ---- a lane at which nothing came in
+
+fresh_value : {T : Type 0} (m : Meaning T) (k : ℕ) (c : ChainState T) (xs : List T) (e : Ending) (v : Stream T) →
+    Some (tagged_items m k (items_then xs (ended_or e (chain_from m c v)))) ≡ option_map (λ w. items_then (map (m.tagged k) xs) w) (state_left m k (state_after c e) v)
+fresh_value m k c (x ∷ xs) Open v = ap (option_map (item_then (m.tagged k x))) (fresh_value m k c xs Open v)
+fresh_value m k c (x ∷ xs) Done v = ap (option_map (item_then (m.tagged k x))) (fresh_value m k c xs Done v)
+fresh_value m k c (x ∷ xs) (Failed f) v = ap (option_map (item_then (m.tagged k x))) (fresh_value m k c xs (Failed f) v)
+fresh_value m k c [] Open v = refl
+fresh_value m k c [] Done v = refl
+fresh_value m k c [] (Failed f) v = refl
+
+pub lane_fresh : {T : Type 0} (m : Meaning T) (gs : List (Stage T)) (first : Stream T) (c : ChainState T) (l : Lane T) → IsChained m gs first c → l.waiting ≡ first.items → l.state ≡ state_after c first.ending → IsFresh m gs l
+lane_fresh m gs first c l chain waits state k v = ap (λ w. Some (tagged_items m k w)) (chain v) ∙ rw (waits, state) (fresh_value m k c first.items first.ending v)

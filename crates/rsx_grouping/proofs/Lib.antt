@@ -1,3 +1,4 @@
+pub mod Copies
 pub mod Ends
 pub mod Lanes
 pub mod Picks

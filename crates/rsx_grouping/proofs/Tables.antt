@@ -1,5 +1,5 @@
 -- An item with its key comes in at the lanes.
-use Rattle.std.proofs.Common.{◌≡◌, ℕ, zero, suc, ◌+◌, ◌<◌, Bool, true, false, ◌&&◌, nat_eq, List, [], ◌∷◌, ◌++◌, map, length, slice_set, slice_get, slice_index_or, Option, Some, Result, Ok, Err, refl, ap, sym, ◌∙◌, subst, arith, length-append}
+use Rattle.std.proofs.Common.{◌≡◌, ℕ, zero, suc, ◌+◌, ◌<◌, Bool, true, false, ◌&&◌, nat_eq, List, [], ◌∷◌, ◌++◌, map, length, slice_set, slice_get, slice_index_or, Option, Some, None, Result, Ok, Err, refl, ap, sym, ◌∙◌, subst, arith, length-append}
 use Rattle.std.specs.Prelude.{OnOk, OnErr}
 use Rattle.std.specs.Set.{is_member}
 use Rattle.std.proofs.lemmas.Option.{same_Some}
@@ -12,8 +12,8 @@ use Rattle.rsx_lanes.specs.Group.{of_key, tagged_items, group_lane, see}
 use Rattle.rsx_queued.specs.Inputs.{here}
 use Rattle.rsx_grouping.proofs.SeenKeys.{equal_itself, or_left, or_right, other_key, stays_seen, last_seen, key_there, distinct_more}
 use Rattle.rsx_grouping.specs.Keys.{AreDistinct}
-use Rattle.rsx_grouping.specs.Lane.{lane_left, TakesOne, BeginsWith, is_quiet, after_pick}
-use Rattle.rsx_grouping.specs.Rows.{keys_of, are_quiet}
+use Rattle.rsx_grouping.specs.Lane.{lane_left, TakesOne, BeginsWith, is_quiet, after_pick, without_next, GoesOn, PickGoesOn}
+use Rattle.rsx_grouping.specs.Rows.{keys_of, are_quiet, GoOn}
 use Rattle.rsx_grouping.specs.Table.{fresh_keys, lanes_there, lanes_to_come, TakesKeyed, CommitsAt}
 use Rattle.rsx_grouping.specs.declared.lane.Lane.{Lane}
 use Rattle.rsx_grouping.specs.declared.table.KeyedLane.{KeyedLane}
@@ -253,6 +253,40 @@ commits {T} now rows i r lane new view is after q at =
     got [] j h = cc
     got (p ∷ ls) zero h = same_Some p q h
     got (p ∷ ls) (suc j) h = got ls j h
+
+-- ---- no chain is over
+
+pub go_on_set : {T : Type 0} (rows : List (KeyedLane T)) (i : ℕ) (q : KeyedLane T) → GoOn rows → GoesOn q.lane.state → GoOn (slice_set rows i q)
+go_on_set [] i q h new = tt
+go_on_set (r ∷ rows) zero q h new = (new, h.1)
+go_on_set (r ∷ rows) (suc i) q h new = (h.0, go_on_set rows i q h.1 new)
+
+go_on_more : {T : Type 0} (rows : List (KeyedLane T)) (q : KeyedLane T) → GoOn rows → GoesOn q.lane.state → GoOn (rows ++ q ∷ [])
+go_on_more [] q h new = (new, tt)
+go_on_more (r ∷ rows) q h new = (h.0, go_on_more rows q h.1 new)
+
+pub opened_goes_on : {T : Type 0} (now rows rows' more : List (KeyedLane T)) (q : KeyedLane T) → rows ≡ now → rows' ≡ rows → more ≡ rows' ++ q ∷ [] → GoesOn q.lane.state → GoOn now → GoOn more
+opened_goes_on now rows rows' more q view same is new h = rw (is, same, view) (go_on_more now q h new)
+
+pub set_goes_on : {T : Type 0} (now rows : List (KeyedLane T)) (i : ℕ) (q : KeyedLane T) → rows ≡ now → GoesOn q.lane.state → GoOn now → GoOn (slice_set rows i q)
+set_goes_on now rows i q view new h = rw view (go_on_set now i q h new)
+
+-- after a pick
+pub picked_goes_on : {T : Type 0} (old new : List (KeyedLane T)) (i : ℕ) (r : KeyedLane T) (pick : Option (Lane T)) → slice_get old i ≡ Some r → CommitsAt old i pick new → PickGoesOn pick → GoOn old → GoOn new
+picked_goes_on {T} old new i r pick at committed rests h = subst GoOn (sym (committed r at)) (go_on_set old i (record { key = r.key; lane = after_pick pick r.lane }) h (by_pick pick rests))
+  where
+    there : (rows : List (KeyedLane T)) (j : ℕ) → slice_get rows j ≡ Some r → GoOn rows → GoesOn r.lane.state
+    there [] j e k = cc
+    there (q ∷ rows) zero e k = subst (λ (z : KeyedLane T). GoesOn z.lane.state) (same_Some q r e) k.0
+    there (q ∷ rows) (suc j) e k = there rows j e k.1
+
+    behind : (xs : List T) → GoesOn (without_next r.lane.state xs).state
+    behind [] = tt
+    behind (x ∷ xs) = there old i at h
+
+    by_pick : (p : Option (Lane T)) → PickGoesOn p → GoesOn (after_pick p r.lane).state
+    by_pick None k = behind r.lane.waiting
+    by_pick (Some l) k = k
 
 -- an answer's clause from another
 pub on_ok : {A E : Type 0} (r : Result A E) (P Q : Type 0) → (P → Q) → OnOk r P → OnOk r Q

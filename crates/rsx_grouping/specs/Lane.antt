@@ -1,5 +1,5 @@
 -- What still comes out of a lane, and what a pick takes of that.
-use Rattle.std.specs.Prelude.{◌≡◌, ℕ, Bool, true, false, ◌&&◌, ◌||◌, not, nat_lt, List, [], ◌∷◌, map, Option, Some, None, option_map}
+use Rattle.std.specs.Prelude.{◌≡◌, ⊤, ℕ, Bool, true, false, ◌&&◌, ◌||◌, not, nat_lt, List, [], ◌∷◌, map, Option, Some, None, option_map}
 use Rattle.rsx_types.specs.declared.signal.Ending.{Ending}
 use Rattle.rsx_types.specs.declared.signal.Ending.TheVariants.{Open, Done, Failed}
 use Rattle.rsx_types.specs.declared.signal.Signal.{Signal}
@@ -11,7 +11,7 @@ use Rattle.rsx_types.specs.Stream.{Stream, ended_by, item_then, items_then}
 use Rattle.rsx_sources.specs.Slot.{is_nil}
 use Rattle.rsx_operators.specs.Emission.{emission_then}
 use Rattle.rsx_operators.specs.declared.prepared.Emission.{Emission}
-use Rattle.rsx_chain.specs.Chain.{chain_from}
+use Rattle.rsx_chain.specs.Chain.{chain_from, chain_over}
 use Rattle.rsx_chain.specs.declared.chain.ChainState.{ChainState}
 use Rattle.rsx_lanes.specs.Group.{tagged_items}
 use Rattle.rsx_queued.specs.Input.{IsFirst}
@@ -68,6 +68,18 @@ is_running Completed = false
 is_running (Failing f) = false
 is_running Gone = false
 
+-- the chain of a lane that runs is not over
+abbrev pub GoesOn : {T : Type 0} → LaneState T → Type 0
+GoesOn (Running c) = chain_over c ≡ false
+GoesOn Completed = ⊤
+GoesOn (Failing f) = ⊤
+GoesOn Gone = ⊤
+
+-- nor is that of the lane that a pick completed, if it completed one
+abbrev pub PickGoesOn : {T : Type 0} → Option (Lane T) → Type 0
+PickGoesOn None = ⊤
+PickGoesOn (Some l) = GoesOn l.state
+
 -- whether nothing waits of a lane in this state, of which items wait or not
 abbrev pub is_quiet_of : {T : Type 0} → LaneState T → Bool → Bool
 is_quiet_of (Running c) none = none
@@ -98,6 +110,10 @@ TakesItem {T} m old x out new = (v : Stream T) → chain_from m old (item_then x
 -- what comes out of a new chain at its start and by its first item, and then what comes out of it
 abbrev pub Begins : {T : Type 0} → Meaning T → List (Stage T) → T → Begun T → Type 0
 Begins {T} m gs x b = (v : Stream T) → chained m gs (item_then x v) ≡ items_then b.items.items (emission_then b.out (chain_from m b.chain v))
+
+-- what comes out of a lane at which nothing came in is what its operators make of all that comes in
+abbrev pub IsFresh : {T : Type 0} → Meaning T → List (Stage T) → Lane T → Type 0
+IsFresh {T} m gs l = (k : ℕ) (v : Stream T) → Some (tagged_items m k (chained m gs v)) ≡ lane_left m k l v
 
 -- an item came in: what came out of the old lane behind it comes out of the new one
 abbrev pub TakesOne : {T : Type 0} → Meaning T → Lane T → T → Lane T → Type 0

@@ -5,3 +5,4 @@ pub mod Waiting
 pub mod Lane
 pub mod Rows
 pub mod Table
+pub mod Rest

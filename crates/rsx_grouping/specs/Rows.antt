@@ -1,6 +1,6 @@
 -- The lanes of a `groupBy` with their keys.
-use Rattle.std.specs.Prelude.{ℕ, Bool, true, false, ◌&&◌, List, [], ◌∷◌, map, Option, Some, None}
-use Rattle.rsx_grouping.specs.Lane.{is_quiet, is_gone, can_pick}
+use Rattle.std.specs.Prelude.{⊤, ℕ, Bool, true, false, ◌&&◌, List, [], ◌∷◌, map, Option, Some, None}
+use Rattle.rsx_grouping.specs.Lane.{is_quiet, is_gone, can_pick, GoesOn}
 use Rattle.rsx_grouping.specs.declared.table.KeyedLane.{KeyedLane}
 
 -- their keys
@@ -16,6 +16,11 @@ are_quiet (r ∷ rows) = is_quiet r.lane && are_quiet rows
 abbrev pub are_gone : {T : Type 0} → List (KeyedLane T) → Bool
 are_gone [] = true
 are_gone (r ∷ rows) = is_gone r.lane && are_gone rows
+
+-- no chain of a lane that runs is over
+abbrev pub GoOn : {T : Type 0} → List (KeyedLane T) → Type 0
+GoOn [] = ⊤
+GoOn (r ∷ rows) = GoesOn r.lane.state × GoOn rows
 
 -- whether the lane at a place, if there is one, can be picked
 abbrev pub can_pick_at : {T : Type 0} → Option (KeyedLane T) → Bool → ℕ → ℕ → Bool

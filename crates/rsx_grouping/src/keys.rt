@@ -37,6 +37,13 @@ impl LaneKeys {
         }
     }
 
+    /// The keys, in their order.
+    pub fn as_slice(&self) -> &[u64]
+        ensures { result.now ≡ self.now }
+    {
+        self.set.as_slice()
+    }
+
     /// The number of the lane that has this key, if one has it.
     pub fn lane_of(&self, key: u64) -> Option<usize>
         ensures lane { IfSome result (λ i. slice_get self.now i ≡ Some key) }

@@ -5,7 +5,8 @@ ghost use Rattle.std.specs.Option.{option_to_list};
 ghost use Rattle.rsx_operators.specs.Moves.{has_ended};
 ghost use Rattle.rsx_chain.specs.declared.chain.ChainState.{ChainState as ChainStateSpec};
 ghost use Rattle.rsx_sources.specs.Slot.{is_nil};
-ghost use Rattle.rsx_grouping.specs.Lane.{state_after, state_ended, ending_signal, is_gone, is_quiet, can_pick, after_pick, TakesItem, Begins, TakesOne, BeginsWith, CompletesWith, IsPrepared};
+ghost use Rattle.rsx_chain.specs.Chain.{chain_over};
+ghost use Rattle.rsx_grouping.specs.Lane.{state_after, state_ended, ending_signal, is_gone, is_quiet, can_pick, after_pick, GoesOn, PickGoesOn, TakesItem, Begins, TakesOne, BeginsWith, CompletesWith, IsPrepared};
 ghost use Rattle.rsx_grouping.specs.declared.lane.Lane.{Lane as LaneSpec};
 ghost use Rattle.rsx_grouping.specs.declared.lane.LaneState.TheVariants.{Running, Gone};
 
@@ -58,7 +59,7 @@ pub struct Begun<T> {
 }
 
 /// Where a chain is that has put out this ending.
-fn state_after<T: Drop>(chain: ChainState<T>, ending: Ending) -> LaneState<T>
+pub(crate) fn state_after<T: Drop>(chain: ChainState<T>, ending: Ending) -> LaneState<T>
     ensures { result ≡ state_after chain ending }
 {
     match ending {
@@ -113,6 +114,7 @@ trait TakingItem<T: Drop> {
         item: T,
     ) -> Result<Emission<T>, T>
         ensures ok { IfOk result (λ out. TakesItem (O.meaning ops.now) (chain self.old) item out (chain self.new)) }
+        ensures over { IfOk result (λ out. chain_over (chain self.new) ≡ true → has_ended out.ending ≡ true) }
         ensures err { IfErr result (λ x. x ≡ item) }
         ensures same { OnErr result (self.new ≡ self.old) };
 
@@ -124,6 +126,7 @@ trait TakingItem<T: Drop> {
         item: T,
     ) -> Result<Begun<T>, T>
         ensures ok { IfOk result (λ b. Begins (O.meaning ops.now) stages.now item b) }
+        ensures over { IfOk result (λ b. chain_over b.chain ≡ true → has_ended b.out.ending ≡ true) }
         ensures room { IfOk result (λ b. vec_len b.items + 1 ≤ vec_capacity b.items) }
         ensures err { IfErr result (λ x. x ≡ item) };
 
@@ -134,7 +137,8 @@ trait TakingItem<T: Drop> {
         ops: &O,
         key: u64,
     ) -> Result<LanePick<T>, NoMemory>
-        ensures ok { IfOk result (λ p. CompletesWith (O.meaning ops.now) key (chain self.now) p) };
+        ensures ok { IfOk result (λ p. CompletesWith (O.meaning ops.now) key (chain self.now) p) }
+        ensures goes_on { IfOk result (λ p. PickGoesOn p.lane) };
 }
 
 impl<T: Drop> TakingItem<T> for ChainState<T> {
@@ -147,6 +151,7 @@ impl<T: Drop> TakingItem<T> for ChainState<T> {
         item: T,
     ) -> Result<Emission<T>, T>
         ensures ok { IfOk result (λ out. TakesItem (O.meaning ops.now) self.old item out self.new) }
+        ensures over { IfOk result (λ out. chain_over self.new ≡ true → has_ended out.ending ≡ true) }
         ensures err { IfErr result (λ x. x ≡ item) }
         ensures same { OnErr result (self.new ≡ self.old) }
     {
@@ -170,6 +175,7 @@ impl<T: Drop> TakingItem<T> for ChainState<T> {
         item: T,
     ) -> Result<Begun<T>, T>
         ensures ok { IfOk result (λ b. Begins (O.meaning ops.now) stages.now item b) }
+        ensures over { IfOk result (λ b. chain_over b.chain ≡ true → has_ended b.out.ending ≡ true) }
         ensures room { IfOk result (λ b. vec_len b.items + 1 ≤ vec_capacity b.items) }
         ensures err { IfErr result (λ x. x ≡ item) }
     {
@@ -199,6 +205,7 @@ impl<T: Drop> TakingItem<T> for ChainState<T> {
         key: u64,
     ) -> Result<LanePick<T>, NoMemory>
         ensures ok { IfOk result (λ p. CompletesWith (O.meaning ops.now) key self.now p) }
+        ensures goes_on { IfOk result (λ p. PickGoesOn p.lane) }
     {
         let done = StreamValue::new(Vec::new(alloc), Ending::Done);
         let value = self.rest(alloc, ops, done)?;
@@ -305,6 +312,7 @@ pub trait Laning<T: Drop> {
     ) -> Result<Lane<T>, T>
         ensures ok { IfOk result (λ l. BeginsWith (O.meaning ops.now) stages.now item l) }
         ensures there { IfOk result (λ l. is_gone l ≡ false) }
+        ensures goes_on { IfOk result (λ l. GoesOn l.state) }
         ensures err { IfErr result (λ x. x ≡ item) };
 
     /// Takes an item. Nothing of the lane waits. For want of memory the item comes back, and nothing has changed. An item that comes behind
@@ -313,6 +321,7 @@ pub trait Laning<T: Drop> {
         requires { is_quiet (lane self.old) ≡ true }
         ensures ok { OnOk result (TakesOne (O.meaning ops.now) (lane self.old) item (lane self.new)) }
         ensures gone { OnOk result (is_gone (lane self.new) ≡ is_gone (lane self.old)) }
+        ensures goes_on { OnOk result (GoesOn (lane self.new).state) }
         ensures err { IfErr result (λ x. x ≡ item) }
         ensures same { OnErr result (self.new ≡ self.old) };
 
@@ -325,7 +334,8 @@ pub trait Laning<T: Drop> {
         key: u64,
     ) -> Result<LanePick<T>, NoMemory>
         requires { is_gone (lane self.now) ≡ false }
-        ensures ok { IfOk result (λ p. IsPrepared (O.meaning ops.now) key (lane self.now) p) };
+        ensures ok { IfOk result (λ p. IsPrepared (O.meaning ops.now) key (lane self.now) p) }
+        ensures goes_on { IfOk result (λ p. PickGoesOn p.lane) };
 }
 
 impl<T: Drop> Laning<T> for Lane<T> {
@@ -339,6 +349,7 @@ impl<T: Drop> Laning<T> for Lane<T> {
     ) -> Result<Lane<T>, T>
         ensures ok { IfOk result (λ l. BeginsWith (O.meaning ops.now) stages.now item l) }
         ensures there { IfOk result (λ l. is_gone l ≡ false) }
+        ensures goes_on { IfOk result (λ l. GoesOn l.state) }
         ensures err { IfErr result (λ x. x ≡ item) }
     {
         match ChainState::begun(alloc, ops, stages, item) {
@@ -355,6 +366,7 @@ impl<T: Drop> Laning<T> for Lane<T> {
         requires { is_quiet self.old ≡ true }
         ensures ok { OnOk result (TakesOne (O.meaning ops.now) self.old item self.new) }
         ensures gone { OnOk result (is_gone self.new ≡ is_gone self.old) }
+        ensures goes_on { OnOk result (GoesOn self.new.state) }
         ensures err { IfErr result (λ x. x ≡ item) }
         ensures same { OnErr result (self.new ≡ self.old) }
     {
@@ -377,6 +389,7 @@ impl<T: Drop> Laning<T> for Lane<T> {
     ) -> Result<LanePick<T>, NoMemory>
         requires { is_gone self.now ≡ false }
         ensures ok { IfOk result (λ p. IsPrepared (O.meaning ops.now) key self.now p) }
+        ensures goes_on { IfOk result (λ p. PickGoesOn p.lane) }
     {
         if let Some(item) = self.waiting.front() {
             let tagged = ops.tag(alloc, key, item)?;

@@ -5,14 +5,16 @@
 //! `groupBy` are numbered by the order in which their keys come first ([`LaneTable`]). A pick takes the next signal of a lane in two
 //! steps: [`Laning::prepare`] makes it ready and can want memory, and [`Lane::commit`] can't. The definitions stand in `specs/`: `Lane`
 //! (what still comes out of a lane, given what still comes in at it) and `Table` (what still comes out of all lanes, of those that are
-//! there and of those that aren't yet).
+//! there and of those that aren't yet). [`Resting`] computes that over copies.
 
 pub mod keys;
 pub mod lane;
+pub mod rest;
 pub mod table;
 pub mod waiting;
 
 pub use keys::LaneKeys;
 pub use lane::{Lane, LanePick, LaneState, Laning};
+pub use rest::{KeyedItems, Resting};
 pub use table::{KeyedLane, LaneTable, TakingKeyed};
 pub use waiting::WaitingItems;

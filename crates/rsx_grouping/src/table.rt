@@ -3,7 +3,9 @@
 ghost use Rattle.std.specs.Prelude.{◌≡◌, ◌<◌, ◌^◌, true, false, [], length, nat_eq, slice_get, IfOk, IfErr, OnOk, OnErr, List};
 ghost use Rattle.std.specs.Set.{is_member};
 ghost use Rattle.rsx_lanes.specs.Group.{see, has_place};
-ghost use Rattle.rsx_grouping.specs.Rows.{keys_of, are_quiet, are_gone, is_gone_at, can_pick_at};
+ghost use Rattle.rsx_grouping.specs.Keys.{AreDistinct};
+ghost use Rattle.rsx_grouping.specs.Lane.{PickGoesOn};
+ghost use Rattle.rsx_grouping.specs.Rows.{keys_of, are_quiet, are_gone, is_gone_at, can_pick_at, GoOn};
 ghost use Rattle.rsx_grouping.specs.Table.{TakesKeyed, TakesFirstAt, CommitsAt};
 ghost use Rattle.rsx_grouping.specs.declared.table.KeyedLane.{KeyedLane as KeyedLaneSpec};
 
@@ -79,9 +81,10 @@ impl<T: Drop> LaneTable<T> {
         }
     }
 
-    /// The lanes.
+    /// The lanes. No key comes twice.
     pub fn rows(&self) -> &[KeyedLane<T>]
-        ensures { result.now ≡ self.now }
+        ensures rows { result.now ≡ self.now }
+        ensures distinct { AreDistinct (keys_of self.now) }
     {
         self.rows.as_slice()
     }
@@ -151,6 +154,7 @@ pub trait TakingKeyed<T: Drop> {
         requires { is_member nat_eq (keys_of (rows self.old)) key ≡ false }
         ensures ok { OnOk result (TakesKeyed (O.meaning ops.now) stages.now (rows self.old) key item (rows self.new)) }
         ensures keys { OnOk result (keys_of (rows self.new) ≡ see (keys_of (rows self.old)) key) }
+        ensures goes_on { OnOk result (GoOn (rows self.old) → GoOn (rows self.new)) }
         ensures err { IfErr result (λ x. x ≡ item) }
         ensures same { OnErr result (self.new ≡ self.old) };
 
@@ -167,6 +171,7 @@ pub trait TakingKeyed<T: Drop> {
         requires { are_quiet (rows self.old) ≡ true }
         ensures ok { OnOk result (TakesKeyed (O.meaning ops.now) stages.now (rows self.old) key item (rows self.new)) }
         ensures keys { OnOk result (keys_of (rows self.new) ≡ see (keys_of (rows self.old)) key) }
+        ensures goes_on { OnOk result (GoOn (rows self.old) → GoOn (rows self.new)) }
         ensures err { IfErr result (λ x. x ≡ item) }
         ensures same { OnErr result (self.new ≡ self.old) };
 
@@ -180,7 +185,8 @@ pub trait TakingKeyed<T: Drop> {
     ) -> Result<LanePick<T>, NoMemory>
         requires within { at < length (rows self.now) }
         requires there { is_gone_at (slice_get (rows self.now) at) ≡ false }
-        ensures ok { IfOk result (λ p. TakesFirstAt (O.meaning ops.now) (rows self.now) at p) };
+        ensures ok { IfOk result (λ p. TakesFirstAt (O.meaning ops.now) (rows self.now) at p) }
+        ensures goes_on { IfOk result (λ p. PickGoesOn p.lane) };
 }
 
 impl<T: Drop> TakingKeyed<T> for LaneTable<T> {
@@ -197,6 +203,7 @@ impl<T: Drop> TakingKeyed<T> for LaneTable<T> {
         requires { is_member nat_eq (keys_of self.old) key ≡ false }
         ensures ok { OnOk result (TakesKeyed (O.meaning ops.now) stages.now self.old key item self.new) }
         ensures keys { OnOk result (keys_of self.new ≡ see (keys_of self.old) key) }
+        ensures goes_on { OnOk result (GoOn self.old → GoOn self.new) }
         ensures err { IfErr result (λ x. x ≡ item) }
         ensures same { OnErr result (self.new ≡ self.old) }
     {
@@ -231,6 +238,7 @@ impl<T: Drop> TakingKeyed<T> for LaneTable<T> {
         requires { are_quiet self.old ≡ true }
         ensures ok { OnOk result (TakesKeyed (O.meaning ops.now) stages.now self.old key item self.new) }
         ensures keys { OnOk result (keys_of self.new ≡ see (keys_of self.old) key) }
+        ensures goes_on { OnOk result (GoOn self.old → GoOn self.new) }
         ensures err { IfErr result (λ x. x ≡ item) }
         ensures same { OnErr result (self.new ≡ self.old) }
     {
@@ -249,6 +257,7 @@ impl<T: Drop> TakingKeyed<T> for LaneTable<T> {
         requires within { at < length self.now }
         requires there { is_gone_at (slice_get self.now at) ≡ false }
         ensures ok { IfOk result (λ p. TakesFirstAt (O.meaning ops.now) self.now at p) }
+        ensures goes_on { IfOk result (λ p. PickGoesOn p.lane) }
     {
         let row = &self.rows[at];
         row.lane.prepare(alloc, ops, row.key)

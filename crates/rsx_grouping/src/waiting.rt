@@ -1,7 +1,9 @@
 //! Items that wait to be taken, one by one.
 
-ghost use Rattle.std.specs.Prelude.{◌≡◌};
+ghost use Rattle.std.specs.Prelude.{◌≡◌, List, ◌++◌, map, IfOk, OnOk};
 
+use rsx_types::{NoMemory, Ops};
+use std::alloc::Global;
 use std::marker::Model;
 
 /// Items that wait to be taken, the oldest first. Contracts see the list of them. No call takes memory.
@@ -72,5 +74,84 @@ impl<T: Drop> WaitingItems<T> {
             }
             None => None,
         }
+    }
+}
+
+/// Items that get the tag of a key.
+pub(crate) trait Tagging<T: Drop> {
+    ghost items: { Self → List T };
+
+    /// Copies of the items, each with the tag of this key.
+    ///
+    /// # Errors
+    /// [`NoMemory`] where a growth was refused, in `Ops::tag` too.
+    fn tagged<O: Ops<Item = T>>(
+        &self,
+        alloc: Global,
+        ops: &O,
+        key: u64,
+    ) -> Result<Vec<T>, NoMemory>
+        ensures { IfOk result (λ v. v.items ≡ map ((O.meaning ops.now).tagged key) (items self.now)) };
+}
+
+impl<T: Drop> Tagging<T> for WaitingItems<T> {
+    ghost items = { λ w. w };
+
+    fn tagged<O: Ops<Item = T>>(
+        &self,
+        alloc: Global,
+        ops: &O,
+        key: u64,
+    ) -> Result<Vec<T>, NoMemory>
+        ensures { IfOk result (λ v. v.items ≡ map ((O.meaning ops.now).tagged key) self.now) }
+    {
+        let mut tagged = Vec::new(alloc);
+        let Some(first) = &self.first else {
+            return Ok(tagged);
+        };
+        tagged.push(ops.tag(alloc, key, first)?)?;
+        for at in (0..self.behind.len()).rev() {
+            let item = ops.tag(alloc, key, &self.behind[at])?;
+            tagged.push(item)?;
+        }
+        Ok(tagged)
+    }
+}
+
+/// Tagged items that came out so far.
+pub(crate) trait TaggingBehind<T: Drop> {
+    ghost so_far: { Self → List T };
+
+    /// Puts copies of these items behind, each with the tag of this key.
+    ///
+    /// # Errors
+    /// [`NoMemory`] where a growth was refused, in `Ops::tag` too.
+    fn tag_behind<O: Ops<Item = T>>(
+        &mut self,
+        alloc: Global,
+        ops: &O,
+        key: u64,
+        items: &[T],
+    ) -> Result<(), NoMemory>
+        ensures { OnOk result (so_far self.new ≡ so_far self.old ++ map ((O.meaning ops.now).tagged key) items.now) };
+}
+
+impl<T: Drop> TaggingBehind<T> for Vec<T> {
+    ghost so_far = { λ v. v.items };
+
+    fn tag_behind<O: Ops<Item = T>>(
+        &mut self,
+        alloc: Global,
+        ops: &O,
+        key: u64,
+        items: &[T],
+    ) -> Result<(), NoMemory>
+        ensures { OnOk result (self.new.items ≡ self.old.items ++ map ((O.meaning ops.now).tagged key) items.now) }
+    {
+        for item in items {
+            let tagged = ops.tag(alloc, key, item)?;
+            self.push(tagged)?;
+        }
+        Ok(())
     }
 }

@@ -1,5 +1,5 @@
 use Rattle.std.proofs.Common.{◌≡◌, rules, refl}
-use Rattle.rsx_grouping.proofs.Lanes.{lane_takes, gone_kept, none_waits}
+use Rattle.rsx_grouping.proofs.Lanes.{lane_takes, gone_kept, none_waits, after_goes_on}
 use Rattle.rsx_grouping.specs.declared.lane.LaneState.TheVariants.{Running}
 use Rattle.rsx_grouping.proofs.lane.LaneLaning.take_item.Goals as goal
 
@@ -16,3 +16,6 @@ returns-clause-ok g c =
 
 pub returns-clause-gone : goal.returns-clause-gone
 returns-clause-gone g c = gone_kept c.args.self.now c.put_out.new.self c.in-Running.chain c.take_one.new.self c.in-Ok.out.ending (search rules) (c.put_out.ensures.state c.take_one.new.self refl)
+
+pub returns-clause-goes_on : goal.returns-clause-goes_on
+returns-clause-goes_on g c = after_goes_on c.take_one.new.self c.in-Ok.out.ending c.put_out.new.self.state c.in-Ok.ensures.over (c.put_out.ensures.state c.take_one.new.self refl)

@@ -1,5 +1,5 @@
 use Rattle.std.proofs.Common.{arith}
-use Rattle.rsx_grouping.proofs.Tables.{kept, kept_more, removed, opened}
+use Rattle.rsx_grouping.proofs.Tables.{kept, kept_more, removed, opened, opened_goes_on}
 use Rattle.rsx_grouping.proofs.table.LaneTableTakingKeyed.open.Goals as goal
 
 pub invariant_of-self-in-Err-add : goal.invariant_of-self-in-Err-add
@@ -19,3 +19,7 @@ invariant_of-self-in-Err-begin g c =
 pub returns-in-Ok-begin-clause-ok : goal.returns-in-Ok-begin-clause-ok
 returns-in-Ok-begin-clause-ok g c =
     opened (g.O.Ops.meaning c.args.ops.now) c.args.stages.now c.args.self.now c.self.inside.rows.items c.reserve.new.self.items c.push_reserved.new.self.items c.args.key c.args.item c.in-Ok-begin.lane c.self.view_is c.requires c.reserve.ensures.items c.push_reserved.ensures.items c.in-Ok-begin.ensures.ok
+
+pub returns-in-Ok-begin-clause-goes_on : goal.returns-in-Ok-begin-clause-goes_on
+returns-in-Ok-begin-clause-goes_on g c =
+    opened_goes_on c.args.self.now c.self.inside.rows.items c.reserve.new.self.items c.push_reserved.new.self.items (record { key = c.args.key; lane = c.in-Ok-begin.lane }) c.self.view_is c.reserve.ensures.items c.push_reserved.ensures.items c.in-Ok-begin.ensures.goes_on

@@ -1,4 +1,4 @@
-use Rattle.rsx_grouping.proofs.Tables.{kept_at, quiet_there, taken_there, seen_there, set_back, on_ok, on_err}
+use Rattle.rsx_grouping.proofs.Tables.{kept_at, quiet_there, taken_there, seen_there, set_back, set_goes_on, on_ok, on_err}
 use Rattle.rsx_grouping.proofs.table.LaneTableTakingKeyed.take_keyed.Goals as goal
 
 pub take_item-requires : goal.take_item-requires
@@ -21,3 +21,8 @@ pub returns-in-Some-clause-same : goal.returns-in-Some-clause-same
 returns-in-Some-clause-same g c =
     on_err c.take_item.result _ _ (set_back c.args.self.now c.self.inside.rows.items c.in-Some.at c.index_mut.result.now c.take_item.new.self c.self.view_is c.index_mut.ensures.value)
     c.take_item.ensures.same
+
+pub returns-in-Some-clause-goes_on : goal.returns-in-Some-clause-goes_on
+returns-in-Some-clause-goes_on g c =
+    on_ok c.take_item.result _ _ (set_goes_on c.args.self.now c.self.inside.rows.items c.in-Some.at (record { key = c.index_mut.result.now.key; lane = c.take_item.new.self }) c.self.view_is)
+    c.take_item.ensures.goes_on

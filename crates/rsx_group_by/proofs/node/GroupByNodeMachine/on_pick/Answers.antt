@@ -2,7 +2,7 @@ use Rattle.std.proofs.Common.{◌≡◌, true, rules, ap, sym, ◌∙◌}
 use Rattle.rsx_types.specs.Notes.{note_then}
 use Rattle.rsx_group_by.specs.GroupBy.{group_picks, group_comes_out, group_recording}
 use Rattle.rsx_group_by.proofs.Chosen.{lane_out, lane_counts, lane_within}
-use Rattle.rsx_group_by.proofs.node.GroupByNodeGrouping.pick.Goals as goal
+use Rattle.rsx_group_by.proofs.node.GroupByNodeMachine.on_pick.Goals as goal
 
 pub returns-in-Ok-clause-ok : goal.returns-in-Ok-clause-ok
 returns-in-Ok-clause-ok g c = λ inc further.
@@ -27,4 +27,4 @@ returns-clause-ok g c =
 pub returns-clause-counts : goal.returns-clause-counts
 returns-clause-counts g c =
     let picks : group_picks c.args.self.now c.args.input c.args.asked c.args.sent ≡ true = search rules in
-    lane_counts (g.O.Ops.meaning c.args.ops.now) c.args.self.now c.put_out.new.self c.args.input c.args.asked c.args.sent c.in-Ok-prepare.pick c.push.new.self c.commit.new.self picks c.if-input-eq-MAIN.false c.in-Ok-prepare.ensures.ok c.commit.ensures c.put_out.ensures
+    lane_counts (g.O.Ops.meaning c.args.ops.now) c.args.self.now c.put_out.new.self c.args.input c.args.asked c.args.sent c.in-Ok-prepare.pick c.push.new.self c.commit.new.self picks c.if-input-eq-MAIN.false c.in-Ok-prepare.ensures.ok c.in-Ok-prepare.ensures.goes_on c.commit.ensures c.put_out.ensures
