@@ -60,6 +60,7 @@ impl<T: Drop> GroupByNode<T> {
         ensures fresh { GivesGroups result function stages.items }
         ensures counted { group_counted result (0 ∷ []) 0 }
         ensures choices { result.choices ≡ [] }
+        ensures nothing { result.output ≡ Empty }
     {
         GroupByNode {
             function,
