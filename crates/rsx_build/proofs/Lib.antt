@@ -1,6 +1,7 @@
 -- Lemmas about trees that were built.
 pub mod Builds
 pub mod FlatMaps
+pub mod GroupBys
 pub mod Made
 pub mod PublishOn
 pub mod Rows

@@ -28,6 +28,8 @@ use Rattle.rsx_node.specs.declared.any_node.AnyNode.TheVariants.{Several}
 use Rattle.rsx_node.specs.Any.{any_machine}
 use Rattle.rsx_flat_map.specs.FlatMap.{flat_wanted}
 use Rattle.rsx_flat_map.specs.declared.node.FlatMapNode.{FlatMapNode}
+use Rattle.rsx_group_by.specs.GroupBy.{group_counted, group_wanted}
+use Rattle.rsx_group_by.specs.declared.node.GroupByNode.{GroupByNode}
 use Rattle.rsx_window.specs.Window.{CountsItems, window_wanted}
 use Rattle.rsx_window.specs.declared.node.WindowNode.{WindowNode}
 use Rattle.rsx_build.specs.Built.{WantsOfEach, first_wants, fresh_wants, prefetch_of, wants_beside}
@@ -59,6 +61,13 @@ pub window_wants : {T : Type 0} (n : WindowNode T) → CountsItems n (0 ∷ []) 
 window_wants n counted =
     let none : 0 ≡ counted.items = ap (λ l. get_or l 0 0) counted.at in
     let got = counted.got in
+    omega arith
+
+-- nor does a fresh `groupBy`
+pub group_wants : {T : Type 0} (n : GroupByNode T) → group_counted n (0 ∷ []) 0 → group_wanted n 0 0 0 ≡ 0
+group_wants n counted =
+    let none : 0 ≡ counted.items = ap (λ l. get_or l 0 0) counted.at in
+    let got = counted.counts in
     omega arith
 
 -- a fresh `flatMap` wants as many items as its concurrency says

@@ -21,12 +21,14 @@ use Rattle.rsx_window.specs.declared.node.WindowNode.{WindowNode}
 use Rattle.rsx_queued.specs.declared.output.Output.TheVariants.{Empty}
 use Rattle.rsx_flat_map.specs.FlatMap.{GivesFlatMap, IsGoing}
 use Rattle.rsx_flat_map.specs.declared.node.FlatMapNode.{FlatMapNode}
+use Rattle.rsx_group_by.specs.GroupBy.{GivesGroups, group_counted}
+use Rattle.rsx_group_by.specs.declared.node.GroupByNode.{GroupByNode}
 use Rattle.rsx_tree.specs.Inputs.{closed_row_if}
 use Rattle.rsx_tree.specs.Tree.{IsJoined}
 use Rattle.rsx_tree.specs.declared.inputs.Inputs.{Inputs, End}
 use Rattle.rsx_tree.specs.declared.node.Node.{Node}
 use Rattle.rsx_node.specs.declared.any_node.AnyNode.{AnyNode}
-use Rattle.rsx_node.specs.declared.any_node.AnyNode.TheVariants.{Plain, Several, PublishOn, Window, FlatMap}
+use Rattle.rsx_node.specs.declared.any_node.AnyNode.TheVariants.{Plain, Several, PublishOn, Window, FlatMap, GroupBy}
 
 -- a fresh plain operator as a node of any kind
 pub record IsPlain {T : Type 0} (g : Stage T) (n : AnyNode T) : Type 0 where
@@ -61,6 +63,15 @@ pub record IsWindow {T : Type 0} (size : ℕ) (gs : List (Stage T)) (n : AnyNode
   pub fresh : GivesWindows node size gs
   pub counted : CountsItems node (0 ∷ []) 0
   pub nothing : node.pending.left ≡ []
+
+-- a fresh `groupBy` as a node of any kind
+pub record IsGroupBy {T : Type 0} (f : ℕ) (gs : List (Stage T)) (n : AnyNode T) : Type 0 where
+  pub node : GroupByNode T
+  pub is : n ≡ GroupBy node
+  pub fresh : GivesGroups node f gs
+  pub counted : group_counted node (0 ∷ []) 0
+  pub choices : node.choices ≡ []
+  pub nothing : node.output ≡ Empty
 
 -- a fresh `flatMap` as a node of any kind
 pub record IsFlatMap {T : Type 0} (f concurrency : ℕ) (gs : List (Stage T)) (n : AnyNode T) : Type 0 where

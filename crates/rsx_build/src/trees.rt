@@ -6,11 +6,12 @@ ghost use Rattle.rsx_model.specs.Check.{first_fault, first_of};
 ghost use Rattle.rsx_model.specs.declared.check.TheConstants.{MOST_INPUTS, MOST_PREFETCH};
 ghost use Rattle.rsx_model.specs.declared.expr.Expr.TheVariants.{Items as ItemsOf, Hub as HubOf};
 ghost use Rattle.rsx_build.specs.Built.{IsBuilt, AreBuilt, IsBuiltOver, IsPlainOver, IsPublishOnOver, IsWindowOver, starts_ended};
-ghost use Rattle.rsx_build.specs.Made.{IsFlatMap, IsInFront, IsOver, IsOverOne, IsPlain, IsPublishOn, IsSeveral, IsWindow};
+ghost use Rattle.rsx_build.specs.Made.{IsFlatMap, IsGroupBy, IsInFront, IsOver, IsOverOne, IsPlain, IsPublishOn, IsSeveral, IsWindow};
 ghost use Rattle.rsx_several.specs.Kind.{IsWithin};
 
 use rsx_chain::copy_stages;
 use rsx_flat_map::FlatMapNode;
+use rsx_group_by::GroupByNode;
 use rsx_hub::Hub;
 use rsx_hub_leaf::HubLeaf;
 use rsx_model::Expr;
@@ -59,6 +60,10 @@ pub fn build<O: Ops>(
         Expr::Latest(prefetch, inputs) => {
             build_over(alloc, ops, SeveralKind::Latest(*prefetch), inputs, hubs)
         }
+        Expr::Group(function, stages, input) => {
+            let below = build(alloc, ops, input, hubs)?;
+            over_one(alloc, group_by(alloc, ops, *function, stages), below)
+        }
         Expr::Window(size, stages, input) => {
             let below = build(alloc, ops, input, hubs)?;
             build_window(alloc, ops, *size, stages, below)
@@ -71,7 +76,6 @@ pub fn build<O: Ops>(
                 below,
             )
         }
-        Expr::Group(_, _, _) => Err(NoMemory),
         Expr::On(_, prefetch, input) => {
             let below = build(alloc, ops, input, hubs)?;
             build_publish_on(alloc, *prefetch, below)
@@ -231,6 +235,20 @@ fn window<O: Ops>(
     ensures { IfOk result (λ n. IsWindow size stages.now n) }
 {
     Ok(AnyNode::Window(WindowNode::new(alloc, ops, size, stages)?))
+}
+
+/// A `groupBy` as a node of any kind.
+fn group_by<O: Ops>(
+    alloc: Global,
+    ops: &O,
+    function: u16,
+    stages: &[Stage<O::Item>],
+) -> Result<AnyNode<O::Item>, NoMemory>
+    ensures { IfOk result (λ n. IsGroupBy function stages.now n) }
+{
+    let copies = copy_stages(alloc, ops, stages)?;
+    let node = GroupByNode::new(alloc, function, copies);
+    Ok(AnyNode::GroupBy(node))
 }
 
 /// A `flatMap` as a node of any kind.

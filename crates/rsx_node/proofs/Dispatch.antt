@@ -25,8 +25,10 @@ use Rattle.rsx_window.specs.Window.{window_comes_out, window_waiting, window_tak
 use Rattle.rsx_window.specs.declared.node.WindowNode.{WindowNode}
 use Rattle.rsx_flat_map.specs.FlatMap.{flat_comes_out, flat_waiting, flat_takes, flat_recorded, flat_ended, flat_done, flat_popped, IsGoing}
 use Rattle.rsx_flat_map.specs.declared.node.FlatMapNode.{FlatMapNode}
+use Rattle.rsx_group_by.specs.GroupBy.{group_comes_out, group_waiting, group_takes, group_recorded, group_ended, group_done, group_counted, IsPoppedGroup}
+use Rattle.rsx_group_by.specs.declared.node.GroupByNode.{GroupByNode}
 use Rattle.rsx_node.specs.declared.any_node.AnyNode.{AnyNode}
-use Rattle.rsx_node.specs.declared.any_node.AnyNode.TheVariants.{Source, Plain, Several, PublishOn, Window, FlatMap}
+use Rattle.rsx_node.specs.declared.any_node.AnyNode.TheVariants.{Source, Plain, Several, PublishOn, Window, FlatMap, GroupBy}
 use Rattle.rsx_node.specs.declared.source_node.SourceNode.{SourceNode}
 use Rattle.rsx_node.specs.declared.source_node.SourceNode.TheVariants.{Items, Range, Hub}
 use Rattle.rsx_node.specs.Any.{any_comes_out, any_popped, any_waiting, any_recorded, any_counted, any_ended, any_done, any_takes}
@@ -112,6 +114,10 @@ pub popped_flat_map : {T : Type 0} (m : Meaning T) (old new : FlatMapNode T) (o 
 popped_flat_map m old new None h = (h.0, ap FlatMap h.1)
 popped_flat_map m old new (Some s) h = h
 
+pub popped_group_by : {T : Type 0} (m : Meaning T) (old new : GroupByNode T) (o : Option (Signal T)) → IsPopped (group_comes_out m) IsPoppedGroup (group_waiting m old) old o new → IsPopped (any_comes_out m) any_popped (group_waiting m old) (GroupBy old) o (GroupBy new)
+popped_group_by m old new None h = (h.0, ap GroupBy h.1)
+popped_group_by m old new (Some s) h = h
+
 pub counted_plain : {T : Type 0} (old new : PlainNode T) (o : Option (Signal T)) → CountsOut plain_counted plain_ended (λ n i. false) old o new → CountsOut any_counted any_ended any_done (Plain old) o (Plain new)
 counted_plain old new None h = tt
 counted_plain old new (Some (Next x)) h = h
@@ -142,6 +148,12 @@ counted_flat_map old new (Some (Next x)) h = h
 counted_flat_map old new (Some Complete) h = tt
 counted_flat_map old new (Some (Error c)) h = tt
 
+pub counted_group_by : {T : Type 0} (old new : GroupByNode T) (o : Option (Signal T)) → CountsOut group_counted group_ended group_done old o new → CountsOut any_counted any_ended any_done (GroupBy old) o (GroupBy new)
+counted_group_by old new None h = tt
+counted_group_by old new (Some (Next x)) h = h
+counted_group_by old new (Some Complete) h = tt
+counted_group_by old new (Some (Error c)) h = tt
+
 pub taken_plain : {T : Type 0} (old new : PlainNode T) (i : ℕ) (s : Signal T) → CountsIn plain_counted plain_ended (λ n j. false) old i s new → CountsIn any_counted any_ended any_done (Plain old) i s (Plain new)
 taken_plain old new i s h = record { stays_ended = h.stays_ended; counts = h.counts; stays_done = h.stays_done; is_done = h.is_done }
 
@@ -157,11 +169,17 @@ taken_window old new i s h = record { stays_ended = h.stays_ended; counts = h.co
 pub taken_flat_map : {T : Type 0} (old new : FlatMapNode T) (i : ℕ) (s : Signal T) → CountsIn IsGoing flat_ended flat_done old i s new → CountsIn any_counted any_ended any_done (FlatMap old) i s (FlatMap new)
 taken_flat_map old new i s h = record { stays_ended = h.stays_ended; counts = h.counts; stays_done = h.stays_done; is_done = h.is_done }
 
+pub taken_group_by : {T : Type 0} (old new : GroupByNode T) (i : ℕ) (s : Signal T) → CountsIn group_counted group_ended group_done old i s new → CountsIn any_counted any_ended any_done (GroupBy old) i s (GroupBy new)
+taken_group_by old new i s h = record { stays_ended = h.stays_ended; counts = h.counts; stays_done = h.stays_done; is_done = h.is_done }
+
 pub stepped_several : {T : Type 0} (old new : SeveralNode T) → CountsStep several_counted several_ended several_done old new → CountsStep any_counted any_ended any_done (Several old) (Several new)
 stepped_several old new h = record { stays_ended = h.stays_ended; counts = h.counts; stays_done = h.stays_done }
 
 pub stepped_flat_map : {T : Type 0} (old new : FlatMapNode T) → CountsStep IsGoing flat_ended flat_done old new → CountsStep any_counted any_ended any_done (FlatMap old) (FlatMap new)
 stepped_flat_map old new h = record { stays_ended = h.stays_ended; counts = h.counts; stays_done = h.stays_done }
+
+pub stepped_group_by : {T : Type 0} (old new : GroupByNode T) → CountsStep group_counted group_ended group_done old new → CountsStep any_counted any_ended any_done (GroupBy old) (GroupBy new)
+stepped_group_by old new h = record { stays_ended = h.stays_ended; counts = h.counts; stays_done = h.stays_done }
 
 pub returned_plain : {T : Type 0} (before : AnyNode T) (s : Signal T) (n n' : PlainNode T) → any_popped before s (Plain n) → ((b : PlainNode T) → plain_popped b s n → n' ≡ b) → Plain n' ≡ before
 returned_plain (Plain a) s n n' h k = ap Plain (k a h)
@@ -186,6 +204,10 @@ returned_window before s n n' h k = absurd h
 pub returned_flat_map : {T : Type 0} (before : AnyNode T) (s : Signal T) (n n' : FlatMapNode T) → any_popped before s (FlatMap n) → ((b : FlatMapNode T) → flat_popped b s n → n' ≡ b) → FlatMap n' ≡ before
 returned_flat_map (FlatMap a) s n n' h k = ap FlatMap (k a h)
 returned_flat_map before s n n' h k = absurd h
+
+pub returned_group_by : {T : Type 0} (before : AnyNode T) (s : Signal T) (n n' : GroupByNode T) → any_popped before s (GroupBy n) → ((b : GroupByNode T) → IsPoppedGroup b s n → n' ≡ b) → GroupBy n' ≡ before
+returned_group_by (GroupBy a) s n n' h k = ap GroupBy (k a h)
+returned_group_by before s n n' h k = absurd h
 
 -- ---- an item that goes through in one go
 
@@ -262,12 +284,26 @@ pub item_out_flat_map : {T : Type 0} (m : Meaning T) (old new : FlatMapNode T) (
 item_out_flat_map m old new None h = h
 item_out_flat_map m old new (Some x) h = record { waited = h.waited; popped_out = h.popped_out; value = h.value; notes = h.notes; counts = h.counts }
 
+pub item_out_group_by : {T : Type 0} (m : Meaning T) (old new : GroupByNode T) (o : Option T) → IfSome o (λ x. IsItemOut (group_comes_out m) (group_waiting m) IsPoppedGroup group_recorded group_counted group_ended group_done old x new) → IfSome o (λ x. IsOutAny m (GroupBy old) x (GroupBy new))
+item_out_group_by m old new None h = h
+item_out_group_by m old new (Some x) h = record { waited = h.waited; popped_out = h.popped_out; value = h.value; notes = h.notes; counts = h.counts }
+
 in_flat_map : {T : Type 0} (m : Meaning T) (old new : FlatMapNode T) (i : ℕ) (s : Signal T) → IsTakenIn (flat_comes_out m) flat_takes flat_recorded IsGoing flat_ended flat_done old i s new →
     IsTakenIn (any_comes_out m) any_takes any_recorded any_counted any_ended any_done (FlatMap old) i s (FlatMap new)
 in_flat_map m old new i s h = record { enabled = h.enabled; value = h.value; notes = h.notes; counts = taken_flat_map old new i s h.counts; goes_on = h.goes_on }
+
+in_group_by : {T : Type 0} (m : Meaning T) (old new : GroupByNode T) (i : ℕ) (s : Signal T) → IsTakenIn (group_comes_out m) (λ n j f. group_takes n j) group_recorded group_counted group_ended group_done old i s new →
+    IsTakenIn (any_comes_out m) any_takes any_recorded any_counted any_ended any_done (GroupBy old) i s (GroupBy new)
+in_group_by m old new i s h = record { enabled = h.enabled; value = h.value; notes = h.notes; counts = taken_group_by old new i s h.counts; goes_on = h.goes_on }
 
 pub passed_flat_map : {T : Type 0} (m : Meaning T) (old new : FlatMapNode T) (i : ℕ) (x : T) (r : Passed T) → IsPassed (flat_comes_out m) (flat_waiting m) flat_takes flat_popped flat_recorded IsGoing flat_ended flat_done old i x r new →
     IsPassed (any_comes_out m) (any_waiting m) any_takes any_popped any_recorded any_counted any_ended any_done (FlatMap old) i x r (FlatMap new)
 passed_flat_map m old new i x (Item y) h = (FlatMap h.0, in_flat_map m old h.0 i (Next x) h.1, item_out_flat_map m h.0 new (Some y) h.2)
 passed_flat_map m old new i x Kept h = in_flat_map m old new i (Next x) h
 passed_flat_map m old new i x (Declined y) h = (h.0, ap FlatMap h.1)
+
+pub passed_group_by : {T : Type 0} (m : Meaning T) (old new : GroupByNode T) (i : ℕ) (x : T) (r : Passed T) → IsPassed (group_comes_out m) (group_waiting m) (λ n j f. group_takes n j) IsPoppedGroup group_recorded group_counted group_ended group_done old i x r new →
+    IsPassed (any_comes_out m) (any_waiting m) any_takes any_popped any_recorded any_counted any_ended any_done (GroupBy old) i x r (GroupBy new)
+passed_group_by m old new i x (Item y) h = (GroupBy h.0, in_group_by m old h.0 i (Next x) h.1, item_out_group_by m h.0 new (Some y) h.2)
+passed_group_by m old new i x Kept h = in_group_by m old new i (Next x) h
+passed_group_by m old new i x (Declined y) h = (h.0, ap GroupBy h.1)

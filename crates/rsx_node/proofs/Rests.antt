@@ -10,9 +10,10 @@ use Rattle.rsx_several.specs.Several.{several_comes_out, several_counted, severa
 use Rattle.rsx_several.specs.declared.several_node.SeveralNode.{SeveralNode}
 use Rattle.rsx_several.specs.declared.several_node.SeveralNode.TheVariants.{Concat, Merge, Zip, Latest}
 use Rattle.rsx_flat_map.proofs.Rests.{flat_rests}
+use Rattle.rsx_group_by.proofs.Rests.{group_rests}
 use Rattle.rsx_node.specs.Any.{any_machine}
 use Rattle.rsx_node.specs.declared.any_node.AnyNode.{AnyNode}
-use Rattle.rsx_node.specs.declared.any_node.AnyNode.TheVariants.{Source, Plain, Several, PublishOn, Window, FlatMap}
+use Rattle.rsx_node.specs.declared.any_node.AnyNode.TheVariants.{Source, Plain, Several, PublishOn, Window, FlatMap, GroupBy}
 use Rattle.rsx_node.proofs.ConcatRests.{concat_rests}
 use Rattle.rsx_node.proofs.LatestRests.{latest_rests}
 use Rattle.rsx_node.proofs.MergeRests.{merge_rests}
@@ -37,3 +38,4 @@ any_rests m (Several n) taken asked sent inc still counted waits more within stu
 any_rests m (PublishOn n) taken asked sent inc still counted waits more within stuck none behind = publish_rests m n taken asked sent inc still counted waits more within none
 any_rests m (Window n) taken asked sent inc still counted waits more within stuck none behind = window_rests m n taken asked sent inc still counted waits more within none
 any_rests m (FlatMap n) taken asked sent inc still counted waits more within stuck none behind = flat_rests m n taken asked sent inc counted waits more within stuck.0 (λ c at alive wants. none 0 c at alive (λ f. refl) wants)
+any_rests m (GroupBy n) taken asked sent inc still counted waits more within stuck none behind = group_rests m n taken asked sent inc counted waits more within stuck.0 (λ c at alive takes wants. none 0 c at alive (λ f. takes) wants)

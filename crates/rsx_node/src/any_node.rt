@@ -4,6 +4,7 @@ ghost use Rattle.std.specs.Prelude.{◌≡◌};
 
 use crate::source_node::SourceNode;
 use rsx_flat_map::FlatMapNode;
+use rsx_group_by::GroupByNode;
 use rsx_plain::PlainNode;
 use rsx_publish_on::PublishOnNode;
 use rsx_several::SeveralNode;
@@ -27,6 +28,8 @@ pub enum AnyNode<T> {
     Window(WindowNode<T>),
     /// `flatMap`: each item of its one input made a lane of its own, and the lanes merged.
     FlatMap(FlatMapNode<T>),
+    /// `groupBy`: its one input in lanes by key, each through a chain of its own, and the lanes merged.
+    GroupBy(GroupByNode<T>),
 }
 
 impl<T: Drop> Machine for AnyNode<T> {
@@ -87,6 +90,7 @@ impl<T: Drop> Machine for AnyNode<T> {
             AnyNode::PublishOn(node) => node.front(),
             AnyNode::Window(node) => node.front(),
             AnyNode::FlatMap(node) => node.front(),
+            AnyNode::GroupBy(node) => node.front(),
         }
     }
 
@@ -111,6 +115,7 @@ impl<T: Drop> Machine for AnyNode<T> {
             AnyNode::PublishOn(node) => node.pop_front(alloc, ops),
             AnyNode::Window(node) => node.pop_front(alloc, ops),
             AnyNode::FlatMap(node) => node.pop_front(alloc, ops),
+            AnyNode::GroupBy(node) => node.pop_front(alloc, ops),
         }
     }
 
@@ -124,6 +129,7 @@ impl<T: Drop> Machine for AnyNode<T> {
             AnyNode::PublishOn(node) => node.put_back(signal),
             AnyNode::Window(node) => node.put_back(signal),
             AnyNode::FlatMap(node) => node.put_back(signal),
+            AnyNode::GroupBy(node) => node.put_back(signal),
         }
     }
 
@@ -136,6 +142,7 @@ impl<T: Drop> Machine for AnyNode<T> {
             AnyNode::PublishOn(node) => node.has_ended(),
             AnyNode::Window(node) => node.has_ended(),
             AnyNode::FlatMap(node) => node.has_ended(),
+            AnyNode::GroupBy(node) => node.has_ended(),
         }
     }
 
@@ -148,6 +155,7 @@ impl<T: Drop> Machine for AnyNode<T> {
             AnyNode::PublishOn(node) => node.can_take(input, front),
             AnyNode::Window(node) => node.can_take(input, front),
             AnyNode::FlatMap(node) => node.can_take(input, front),
+            AnyNode::GroupBy(node) => node.can_take(input, front),
         }
     }
 
@@ -175,6 +183,7 @@ impl<T: Drop> Machine for AnyNode<T> {
             AnyNode::PublishOn(node) => node.on_signal(alloc, ops, input, signal),
             AnyNode::Window(node) => node.on_signal(alloc, ops, input, signal),
             AnyNode::FlatMap(node) => node.on_signal(alloc, ops, input, signal),
+            AnyNode::GroupBy(node) => node.on_signal(alloc, ops, input, signal),
         }
     }
 
@@ -187,6 +196,7 @@ impl<T: Drop> Machine for AnyNode<T> {
             AnyNode::PublishOn(node) => node.pop_item(alloc, ops),
             AnyNode::Window(node) => node.pop_item(alloc, ops),
             AnyNode::FlatMap(node) => node.pop_item(alloc, ops),
+            AnyNode::GroupBy(node) => node.pop_item(alloc, ops),
         }
     }
 
@@ -199,6 +209,7 @@ impl<T: Drop> Machine for AnyNode<T> {
             AnyNode::PublishOn(node) => node.pass(alloc, ops, input, item),
             AnyNode::Window(node) => node.pass(alloc, ops, input, item),
             AnyNode::FlatMap(node) => node.pass(alloc, ops, input, item),
+            AnyNode::GroupBy(node) => node.pass(alloc, ops, input, item),
         }
     }
 
@@ -210,6 +221,7 @@ impl<T: Drop> Machine for AnyNode<T> {
             AnyNode::PublishOn(node) => node.hub(),
             AnyNode::Window(node) => node.hub(),
             AnyNode::FlatMap(node) => node.hub(),
+            AnyNode::GroupBy(node) => node.hub(),
         }
     }
 
@@ -221,6 +233,7 @@ impl<T: Drop> Machine for AnyNode<T> {
             AnyNode::PublishOn(node) => node.has_room(),
             AnyNode::Window(node) => node.has_room(),
             AnyNode::FlatMap(node) => node.has_room(),
+            AnyNode::GroupBy(node) => node.has_room(),
         }
     }
 
@@ -241,6 +254,7 @@ impl<T: Drop> Machine for AnyNode<T> {
             AnyNode::PublishOn(node) => node.on_published(signal),
             AnyNode::Window(node) => node.on_published(signal),
             AnyNode::FlatMap(node) => node.on_published(signal),
+            AnyNode::GroupBy(node) => node.on_published(signal),
         }
     }
 
@@ -251,6 +265,7 @@ impl<T: Drop> Machine for AnyNode<T> {
                 false,
             AnyNode::Several(node) => node.can_pick(input, asked, sent),
             AnyNode::FlatMap(node) => node.can_pick(input, asked, sent),
+            AnyNode::GroupBy(node) => node.can_pick(input, asked, sent),
         }
     }
 
@@ -261,6 +276,7 @@ impl<T: Drop> Machine for AnyNode<T> {
                 None,
             AnyNode::Several(node) => node.next_pick(asked, sent),
             AnyNode::FlatMap(node) => node.next_pick(asked, sent),
+            AnyNode::GroupBy(node) => node.next_pick(asked, sent),
         }
     }
 
@@ -277,6 +293,7 @@ impl<T: Drop> Machine for AnyNode<T> {
                 Err(NotMade::NotEnabled),
             AnyNode::Several(node) => node.on_pick(alloc, ops, input, asked, sent),
             AnyNode::FlatMap(node) => node.on_pick(alloc, ops, input, asked, sent),
+            AnyNode::GroupBy(node) => node.on_pick(alloc, ops, input, asked, sent),
         }
     }
 
@@ -287,7 +304,8 @@ impl<T: Drop> Machine for AnyNode<T> {
             | AnyNode::Plain(_)
             | AnyNode::PublishOn(_)
             | AnyNode::Window(_)
-            | AnyNode::FlatMap(_) => false,
+            | AnyNode::FlatMap(_)
+            | AnyNode::GroupBy(_) => false,
             AnyNode::Several(node) => node.can_row(asked, sent),
         }
     }
@@ -305,7 +323,8 @@ impl<T: Drop> Machine for AnyNode<T> {
             | AnyNode::Plain(_)
             | AnyNode::PublishOn(_)
             | AnyNode::Window(_)
-            | AnyNode::FlatMap(_) => Err(NotMade::NotEnabled),
+            | AnyNode::FlatMap(_)
+            | AnyNode::GroupBy(_) => Err(NotMade::NotEnabled),
             AnyNode::Several(node) => node.on_row(alloc, ops, asked, sent),
         }
     }
@@ -319,6 +338,7 @@ impl<T: Drop> Machine for AnyNode<T> {
             AnyNode::PublishOn(node) => node.want(input, asked, sent),
             AnyNode::Window(node) => node.want(input, asked, sent),
             AnyNode::FlatMap(node) => node.want(input, asked, sent),
+            AnyNode::GroupBy(node) => node.want(input, asked, sent),
         }
     }
 
@@ -328,6 +348,7 @@ impl<T: Drop> Machine for AnyNode<T> {
                 Ok(Note::Nothing),
             AnyNode::Several(node) => node.note(alloc),
             AnyNode::FlatMap(node) => node.note(alloc),
+            AnyNode::GroupBy(node) => node.note(alloc),
         }
     }
 
@@ -348,6 +369,7 @@ impl<T: Drop> Machine for AnyNode<T> {
             AnyNode::PublishOn(node) => node.residual(alloc, ops, inboxes, incoming),
             AnyNode::Window(node) => node.residual(alloc, ops, inboxes, incoming),
             AnyNode::FlatMap(node) => node.residual(alloc, ops, inboxes, incoming),
+            AnyNode::GroupBy(node) => node.residual(alloc, ops, inboxes, incoming),
         }
     }
 

@@ -1,7 +1,7 @@
 use Rattle.std.proofs.Common.{ap, refl}
 use Rattle.std.proofs.lemmas.Result.{on_ok_weaker, on_err_weaker}
-use Rattle.rsx_node.specs.declared.any_node.AnyNode.TheVariants.{Several, PublishOn, Window, FlatMap}
-use Rattle.rsx_node.proofs.Dispatch.{taken_several, taken_publish_on, taken_window, taken_flat_map}
+use Rattle.rsx_node.specs.declared.any_node.AnyNode.TheVariants.{Several, PublishOn, Window, FlatMap, GroupBy}
+use Rattle.rsx_node.proofs.Dispatch.{taken_several, taken_publish_on, taken_window, taken_flat_map, taken_group_by}
 use Rattle.rsx_node.proofs.any_node.AnyNodeMachine.on_signal.Goals as goal
 
 pub returns-in-Several : goal.returns-in-Several
@@ -50,4 +50,16 @@ returns-in-FlatMap g c = rw c.in-FlatMap.is (record {
   memory = λ e. cc;
   alike = (refl, λ a. (refl, refl, refl));
   same = on_err_weaker c.on_signal-in-FlatMap.result (λ e. ap FlatMap e) c.on_signal-in-FlatMap.ensures.same;
+})
+
+pub returns-in-GroupBy : goal.returns-in-GroupBy
+returns-in-GroupBy g c = rw c.in-GroupBy.is (record {
+  ok = c.on_signal-in-GroupBy.ensures.ok;
+  enabled = c.on_signal-in-GroupBy.ensures.enabled;
+  recorded = c.on_signal-in-GroupBy.ensures.recorded;
+  counts = on_ok_weaker c.on_signal-in-GroupBy.result (taken_group_by c.in-GroupBy.node c.on_signal-in-GroupBy.new.self c.args.input c.args.signal) c.on_signal-in-GroupBy.ensures.counts;
+  err = c.on_signal-in-GroupBy.ensures.err;
+  memory = λ e. cc;
+  alike = (refl, λ a. (refl, refl, refl));
+  same = on_err_weaker c.on_signal-in-GroupBy.result (λ e. ap GroupBy e) c.on_signal-in-GroupBy.ensures.same;
 })
