@@ -180,16 +180,16 @@ length_same rows i q few = rw (length_set rows i q) few
     length_set (y ∷ xs) zero x = refl
     length_set (y ∷ xs) (suc j) x = ap suc (length_set xs j x)
 
-empty_is : {T : Type 0} (out : Output T) → is_empty out ≡ true → out ≡ Empty
+pub empty_is : {T : Type 0} (out : Output T) → is_empty out ≡ true → out ≡ Empty
 empty_is Empty e = refl
 empty_is (Waiting s) e = cc
 empty_is Over e = cc
 
-and_left : (a b : Bool) → a && b ≡ true → a ≡ true
+pub and_left : (a b : Bool) → a && b ≡ true → a ≡ true
 and_left true b e = refl
 and_left false b e = e
 
-and_right : (a b : Bool) → a && b ≡ true → b ≡ true
+pub and_right : (a b : Bool) → a && b ≡ true → b ≡ true
 and_right true b e = e
 and_right false b e = cc
 

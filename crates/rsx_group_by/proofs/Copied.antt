@@ -60,19 +60,20 @@ main_pushed is all i v xs e none items ending here put =
     put ∙ ap (λ j. is ++ j ∷ []) (here ∙ (λ k. (MAIN, signals (record { items = (items ∙ none) k; ending = ending k }))))
 
 -- where Main was picked
-pub without_main : {T : Type 0} (m : Meaning T) (f : ℕ) (gs : List (Stage T)) (rows : List (KeyedLane T)) (main : MainState) (v : Stream T) (firsts items : List T) (last e : Ending) (w : Stream (ℕ × T)) (is : List (InputLeft T)) → firsts ≡ v.items → last ≡ v.ending → items ≡ items_before main firsts → e ≡ ending_behind main last →
-    w ≡ keyed_items (m.keyed f) (keys_of rows) items e → is ≡ lanes_left m gs rows w [] → is_taken main ≡ true → is ≡ inputs_left m f gs rows main v
-without_main m f gs rows main v firsts items last e w is first end some ending keyed lanes taken =
+pub without_main : {T : Type 0} (m : Meaning T) (f : ℕ) (gs hs : List (Stage T)) (rows : List (KeyedLane T)) (main : MainState) (v : Stream T) (firsts items : List T) (last e : Ending) (w : Stream (ℕ × T)) (is : List (InputLeft T)) → firsts ≡ v.items → last ≡ v.ending → items ≡ items_before main firsts → e ≡ ending_behind main last →
+    w ≡ keyed_items (m.keyed f) (keys_of rows) items e → hs ≡ gs → is ≡ lanes_left m hs rows w [] → is_taken main ≡ true → is ≡ inputs_left m f gs rows main v
+without_main m f gs hs rows main v firsts items last e w is first end some ending keyed same lanes taken =
     lanes
+    ∙ ap (λ l. lanes_left m l rows w []) same
     ∙ ap (lanes_left m gs rows w) (sym (taken_left main w.ending taken))
     ∙ ap (lanes_and_main m gs rows main) (keyed_is m f (keys_of rows) main v firsts items last e w first end some ending keyed)
 
 -- and where it wasn't
-pub with_main : {T : Type 0} (m : Meaning T) (f : ℕ) (gs : List (Stage T)) (rows : List (KeyedLane T)) (main : MainState) (v : Stream T) (firsts items : List T) (last e : Ending) (w : Stream (ℕ × T)) (is all : List (InputLeft T)) (i : InputLeft T) (u : Stream T) (xs : List T) → firsts ≡ v.items → last ≡ v.ending → items ≡ items_before main firsts → e ≡ ending_behind main last →
-    w ≡ keyed_items (m.keyed f) (keys_of rows) items e → is ≡ lanes_left m gs rows w [] → xs ≡ [] → u.items ≡ xs → u.ending ≡ w.ending → i ≡ (MAIN, signals u) → all ≡ is ++ i ∷ [] → is_taken main ≡ false → all ≡ inputs_left m f gs rows main v
-with_main m f gs rows main v firsts items last e w is all i u xs first end some ending keyed lanes none empty same here put there =
-    main_pushed is all i u xs w.ending none empty same here put
-    ∙ ap (λ l. l ++ main_input w.ending) lanes
+pub with_main : {T : Type 0} (m : Meaning T) (f : ℕ) (gs hs : List (Stage T)) (rows : List (KeyedLane T)) (main : MainState) (v : Stream T) (firsts items : List T) (last e : Ending) (w : Stream (ℕ × T)) (is all : List (InputLeft T)) (i : InputLeft T) (u : Stream T) (xs : List T) → firsts ≡ v.items → last ≡ v.ending → items ≡ items_before main firsts → e ≡ ending_behind main last →
+    w ≡ keyed_items (m.keyed f) (keys_of rows) items e → hs ≡ gs → is ≡ lanes_left m hs rows w [] → xs ≡ [] → u.items ≡ xs → u.ending ≡ w.ending → i ≡ (MAIN, signals u) → all ≡ is ++ i ∷ [] → is_taken main ≡ false → all ≡ inputs_left m f gs rows main v
+with_main m f gs hs rows main v firsts items last e w is all i u xs first end some ending keyed same lanes none empty ends here put there =
+    main_pushed is all i u xs w.ending none empty ends here put
+    ∙ ap (λ l. l ++ main_input w.ending) (lanes ∙ ap (λ l. lanes_left m l rows w []) same)
     ∙ sym (lanes_apart m gs rows w (main_input w.ending))
     ∙ ap (lanes_left m gs rows w) (sym (still_left main w.ending there))
     ∙ ap (lanes_and_main m gs rows main) (keyed_is m f (keys_of rows) main v firsts items last e w first end some ending keyed)

@@ -45,7 +45,7 @@ pub struct GroupByNode<T> {
 }
 
 impl<T: Drop> GroupByNode<T> {
-    ghost use Rattle.std.specs.Prelude.{◌≡◌, ◌<◌, ◌^◌, ◌++◌, [], ◌∷◌, true, length, OnOk, OnErr};
+    ghost use Rattle.std.specs.Prelude.{◌≡◌, ◌<◌, ◌^◌, ◌++◌, [], ◌∷◌, true, false, length, OnOk, OnErr};
     ghost use Rattle.rsx_types.specs.Meaning.{Meaning};
     ghost use Rattle.rsx_sources.specs.Counts.{CountsStep};
     ghost use Rattle.rsx_sources.specs.Machine.{Records};
@@ -60,7 +60,9 @@ impl<T: Drop> GroupByNode<T> {
         ensures fresh { GivesGroups result function stages.items }
         ensures counted { group_counted result (0 ∷ []) 0 }
         ensures choices { result.choices ≡ [] }
-        ensures nothing { result.output ≡ Empty }
+        ensures table { result.table ≡ [] }
+        ensures ended { group_ended result ≡ false }
+        ensures got { result.got ≡ 0 }
     {
         GroupByNode {
             function,

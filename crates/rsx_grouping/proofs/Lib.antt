@@ -1,5 +1,6 @@
 pub mod Copies
 pub mod Ends
+pub mod Idle
 pub mod Lanes
 pub mod Picks
 pub mod SeenKeys

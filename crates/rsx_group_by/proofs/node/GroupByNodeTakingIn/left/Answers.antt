@@ -1,7 +1,6 @@
-use Rattle.std.proofs.Common.{[], sym, ap, ◌∙◌}
+use Rattle.std.proofs.Common.{sym, ◌∙◌}
 use Rattle.rsx_queued.specs.Values.{head_of}
 use Rattle.rsx_grouping.specs.Rest.{keyed_value}
-use Rattle.rsx_grouping.specs.Table.{lanes_left}
 use Rattle.rsx_group_by.proofs.Copied.{with_main, without_main}
 use Rattle.rsx_group_by.proofs.node.GroupByNodeTakingIn.left.Goals as goal
 
@@ -10,15 +9,15 @@ returns-then-is_taken g c =
     let m = g.O.Ops.meaning c.args.ops.now in
     let n = c.args.self.now in
     let w = keyed_value c.in_ok-keyed.keyed in
-    without_main m n.function n.stages.items n.table n.main (head_of c.args.incoming.now) c.first_items.result.now c.items_before-items.result.now c.first_ending.result c.ending_behind-ending.result w c.in_ok-inputs.inputs.items
+    without_main m n.function n.stages.items c.deref.result.now n.table n.main (head_of c.args.incoming.now) c.first_items.result.now c.items_before-items.result.now c.first_ending.result c.ending_behind-ending.result w c.in_ok-inputs.inputs.items
     c.first_items.ensures c.first_ending.ensures c.items_before-items.ensures c.ending_behind-ending.ensures c.in_ok-keyed.ensures.items
-    (c.in_ok-inputs.ensures ∙ ap (λ gs. lanes_left m gs n.table w []) c.deref.ensures.value) (sym c.is_taken.ensures ∙ c.if-is_taken.true)
+    c.deref.ensures.value c.in_ok-inputs.ensures (sym c.is_taken.ensures ∙ c.if-is_taken.true)
 
 pub returns : goal.returns
 returns g c =
     let m = g.O.Ops.meaning c.args.ops.now in
     let n = c.args.self.now in
     let w = keyed_value c.in_ok-keyed.keyed in
-    with_main m n.function n.stages.items n.table n.main (head_of c.args.incoming.now) c.first_items.result.now c.items_before-items.result.now c.first_ending.result c.ending_behind-ending.result w c.in_ok-inputs.inputs.items c.push.new.self.items c.in_ok-new.field-0 c.new-main.result c.new.result.items
+    with_main m n.function n.stages.items c.deref.result.now n.table n.main (head_of c.args.incoming.now) c.first_items.result.now c.items_before-items.result.now c.first_ending.result c.ending_behind-ending.result w c.in_ok-inputs.inputs.items c.push.new.self.items c.in_ok-new.field-0 c.new-main.result c.new.result.items
     c.first_items.ensures c.first_ending.ensures c.items_before-items.ensures c.ending_behind-ending.ensures c.in_ok-keyed.ensures.items
-    (c.in_ok-inputs.ensures ∙ ap (λ gs. lanes_left m gs n.table w []) c.deref.ensures.value) c.new.ensures.items c.new-main.ensures.items c.new-main.ensures.ending c.in_ok-new.ensures c.in_ok-push.ensures.items (sym c.is_taken.ensures ∙ c.if-is_taken.false)
+    c.deref.ensures.value c.in_ok-inputs.ensures c.new.ensures.items c.new-main.ensures.items c.new-main.ensures.ending c.in_ok-new.ensures c.in_ok-push.ensures.items (sym c.is_taken.ensures ∙ c.if-is_taken.false)
