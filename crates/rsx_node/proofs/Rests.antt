@@ -38,4 +38,4 @@ any_rests m (Several n) taken asked sent inc still counted waits more within stu
 any_rests m (PublishOn n) taken asked sent inc still counted waits more within stuck none behind = publish_rests m n taken asked sent inc still counted waits more within none
 any_rests m (Window n) taken asked sent inc still counted waits more within stuck none behind = window_rests m n taken asked sent inc still counted waits more within none
 any_rests m (FlatMap n) taken asked sent inc still counted waits more within stuck none behind = flat_rests m n taken asked sent inc counted waits more within stuck.0 (λ c at alive wants. none 0 c at alive (λ f. refl) wants)
-any_rests m (GroupBy n) taken asked sent inc still counted waits more within stuck none behind = group_rests m n taken asked sent inc counted waits more within stuck.0 (λ c at alive takes wants. none 0 c at alive (λ f. takes) wants)
+any_rests m (GroupBy n) taken asked sent inc still counted waits more within stuck none behind = group_rests m n taken asked sent inc still counted waits more within stuck.0 (λ c at alive takes wants. none 0 c at alive (λ f. takes) wants)
