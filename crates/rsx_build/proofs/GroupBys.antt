@@ -1,5 +1,5 @@
 -- The tree of a `groupBy` over that of its input.
-use Rattle.std.proofs.Common.{◌≡◌, ℕ, ◌+◌, List, [], ◌∷◌, refl, ap, sym, ◌∙◌, subst, slice_get, Result, Box, Vec, Global}
+use Rattle.std.proofs.Common.{◌≡◌, ℕ, false, ◌+◌, List, [], ◌∷◌, refl, ap, sym, ◌∙◌, subst, slice_get, Result, Box, Vec, Global}
 use Rattle.std.specs.Prelude.{IfOk}
 use Rattle.std.proofs.lemmas.List.{append-nil}
 use Rattle.rsx_types.specs.Meaning.{Meaning}
@@ -16,9 +16,7 @@ use Rattle.rsx_model.specs.declared.expr.Expr.TheFolds.{fold_out-Expr}
 use Rattle.rsx_model.specs.declared.expr.Expr.TheViews.{Group, outs-Group}
 use Rattle.rsx_model.proofs.Unfold.{value_Group}
 use Rattle.rsx_queued.specs.Inputs.{picked}
-use Rattle.rsx_queued.specs.Output.{has_ending}
-use Rattle.rsx_queued.specs.declared.output.Output.TheVariants.{Empty}
-use Rattle.rsx_group_by.specs.GroupBy.{GivesGroups, group_counted}
+use Rattle.rsx_group_by.specs.GroupBy.{GivesGroups, group_counted, group_ended}
 use Rattle.rsx_group_by.specs.declared.node.GroupByNode.{GroupByNode}
 use Rattle.rsx_tree.specs.declared.node.Node.{Node}
 use Rattle.rsx_node.specs.declared.any_node.AnyNode.{AnyNode}
@@ -35,10 +33,10 @@ fresh_Group : {T : Type 0} (f : ℕ) (gs : Vec (Stage T) Global) (b : Box (Expr 
 fresh_Group {T} f gs b = rw (fold_out-Expr, outs-Group) (ap (λ l. fresh_edge ∷ l) (append-nil (fresh_edges b.value)))
 
 -- a fresh node, with copies of the operators
-pub as_group_by : {T : Type 0} (f : ℕ) (copies gs : List (Stage T)) (n : GroupByNode T) → copies ≡ gs → GivesGroups n f copies → group_counted n (0 ∷ []) 0 → n.choices ≡ [] → n.output ≡ Empty → IsGroupBy f gs (GroupBy n)
-as_group_by {T} f copies gs n same fresh counted choices nothing =
+pub as_group_by : {T : Type 0} (f : ℕ) (copies gs : List (Stage T)) (n : GroupByNode T) → copies ≡ gs → GivesGroups n f copies → group_ended n ≡ false → group_counted n (0 ∷ []) 0 → n.choices ≡ [] → IsGroupBy f gs (GroupBy n)
+as_group_by {T} f copies gs n same fresh ended counted choices =
     let F : List (Stage T) → Type 0 = λ l. IsGroupBy f l (GroupBy n) in
-    subst F same (record { node = n; is = refl; fresh = fresh; counted = counted; choices = choices; nothing = nothing })
+    subst F same (record { node = n; is = refl; fresh = fresh; ended = ended; counted = counted; choices = choices })
 
 stands : {T : Type 0} (m : Meaning T) (hubs : List (HubState T)) (f : ℕ) (gs : Vec (Stage T) Global) (b : Box (Expr T) Global) (n : AnyNode T) → IsGroupBy f gs.items n →
     StandsFor m hubs (λ k v. picked k (λ cs. group_by m f gs.items cs v)) 0 n b.value (Group f gs b)
@@ -49,7 +47,7 @@ stands {T} m hubs f gs b n h =
       fresh = λ inc k. h.fresh m inc k;
       unread = refl;
       unrecorded = subst U (sym h.choices) no_picks;
-      goes_on = ap has_ending h.nothing;
+      goes_on = h.ended;
       counted = h.counted;
       wanted = group_wants h.node h.counted;
       value = λ whole joins further at leaf.

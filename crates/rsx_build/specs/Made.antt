@@ -21,7 +21,7 @@ use Rattle.rsx_window.specs.declared.node.WindowNode.{WindowNode}
 use Rattle.rsx_queued.specs.declared.output.Output.TheVariants.{Empty}
 use Rattle.rsx_flat_map.specs.FlatMap.{GivesFlatMap, IsGoing}
 use Rattle.rsx_flat_map.specs.declared.node.FlatMapNode.{FlatMapNode}
-use Rattle.rsx_group_by.specs.GroupBy.{GivesGroups, group_counted}
+use Rattle.rsx_group_by.specs.GroupBy.{GivesGroups, group_counted, group_ended}
 use Rattle.rsx_group_by.specs.declared.node.GroupByNode.{GroupByNode}
 use Rattle.rsx_tree.specs.Inputs.{closed_row_if}
 use Rattle.rsx_tree.specs.Tree.{IsJoined}
@@ -69,9 +69,9 @@ pub record IsGroupBy {T : Type 0} (f : ℕ) (gs : List (Stage T)) (n : AnyNode T
   pub node : GroupByNode T
   pub is : n ≡ GroupBy node
   pub fresh : GivesGroups node f gs
+  pub ended : group_ended node ≡ false
   pub counted : group_counted node (0 ∷ []) 0
   pub choices : node.choices ≡ []
-  pub nothing : node.output ≡ Empty
 
 -- a fresh `flatMap` as a node of any kind
 pub record IsFlatMap {T : Type 0} (f concurrency : ℕ) (gs : List (Stage T)) (n : AnyNode T) : Type 0 where
