@@ -4,6 +4,8 @@ use crate::acts::{Act, answered};
 use crate::numbers::PLENTY;
 use rsx_concat::ConcatNode;
 use rsx_crossing::Queued;
+use rsx_group_by::GroupByNode;
+use rsx_lanes::MAIN;
 use rsx_latest::CombineLatestNode;
 use rsx_merging::MergeNode;
 use rsx_publish_on::PublishOnNode;
@@ -163,6 +165,62 @@ const WINDOW: [Act; 8] = [
     Act::GivesNothing,
 ];
 
+/// The node `groupBy`, into which 5 comes for one key and 1 for the other, complete. Main and the completions of the lanes send nothing,
+/// but for the last of them; a lane needs demand for its completion, and Main none.
+const GROUP_BY: [Act; 26] = [
+    Act::Wants(0, 9, 0, 1),
+    Act::PicksNothing(9, 0),
+    Act::Takes(0, 5),
+    Act::IsBusy(0, 1),
+    Act::Wants(0, 9, 0, 1),
+    Act::Leaves((&[1, 6], Ending::Done), (&[5, 6, 1], Ending::Done)),
+    Act::CannotPick(0, 0, 0),
+    Act::Picks(0, 9, 0),
+    Act::GivesItem(5),
+    Act::Wants(0, 9, 1, 2),
+    Act::Wants(0, 1, 1, 1),
+    Act::Takes(0, 1),
+    Act::CannotPick(0, 9, 1),
+    Act::CannotPick(MAIN, 9, 1),
+    Act::Picks(1, 9, 1),
+    Act::Gives(1),
+    Act::Ends(0, Ending::Done),
+    Act::Picks(MAIN, 2, 2),
+    Act::CannotPick(0, 2, 2),
+    Act::Picks(0, 9, 2),
+    Act::GivesNothing,
+    Act::CannotPick(0, 9, 2),
+    Act::Picks(1, 9, 2),
+    Act::HasEnded,
+    Act::GivesEnding(Ending::Done),
+    Act::Recorded(&[0, 1, MAIN, 0, 1]),
+];
+
+/// Each lane through lists of two. A lane is completed when it is picked with nothing waiting; for want of memory it stays.
+const GROUP_LISTS: [Act; 12] = [
+    Act::Takes(0, 1),
+    Act::Takes(0, 2),
+    Act::Picks(0, 9, 0),
+    Act::Gives(2),
+    Act::Takes(0, 3),
+    Act::Ends(0, Ending::Done),
+    Act::PicksWithoutMemory(0, 9, 1),
+    Act::Leaves((&[], Ending::Open), (&[1], Ending::Done)),
+    Act::Picks(0, 9, 1),
+    Act::Gives(1),
+    Act::Picks(0, 9, 2),
+    Act::Recorded(&[0, 0, 0]),
+];
+
+/// A fault of the key is the input's failure, and what comes in behind it is let go.
+const GROUP_FAULT: [Act; 5] = [
+    Act::Takes(0, 5),
+    Act::Takes(0, 6),
+    Act::Picks(MAIN, 0, 0),
+    Act::HasEnded,
+    Act::GivesEnding(Ending::Failed(Cause::Function(7))),
+];
+
 /// A source of three numbers with the queue of an edge behind it: its row moves a signal into the queue.
 const QUEUED: [Act; 11] = [
     Act::GivesNothing,
@@ -239,6 +297,24 @@ fn a_failure_stays_behind_the_items(rt: HostRuntime) -> Result<(), Fail> {
 fn a_window_asks_for_one_item_more(rt: HostRuntime) -> Result<(), Fail> {
     let node = WindowNode::new(rt.alloc(), &PLENTY, 2, &[Stage::Scan(0, 0)]);
     assert_eq!(rt; answered(rt.alloc(), node, &WINDOW)?, WINDOW.len());
+    Ok(())
+}
+
+#[test]
+fn each_key_has_a_lane(rt: HostRuntime) -> Result<(), Fail> {
+    let node = Ok(GroupByNode::new(rt.alloc(), 0, Vec::new(rt.alloc())));
+    assert_eq!(rt; answered(rt.alloc(), node, &GROUP_BY)?, GROUP_BY.len());
+    let lists = vec![in rt.alloc(); Stage::Buffer(2)]?;
+    let node = Ok(GroupByNode::new(rt.alloc(), 0, lists));
+    assert_eq!(rt;
+        answered(rt.alloc(), node, &GROUP_LISTS)?,
+        GROUP_LISTS.len()
+    );
+    let node = Ok(GroupByNode::new(rt.alloc(), 3, Vec::new(rt.alloc())));
+    assert_eq!(rt;
+        answered(rt.alloc(), node, &GROUP_FAULT)?,
+        GROUP_FAULT.len()
+    );
     Ok(())
 }
 

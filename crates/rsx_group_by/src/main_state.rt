@@ -51,7 +51,7 @@ impl MainState {
     }
 
     /// Which of the items still come in that stand before it: all of them until it came, and then none.
-    pub fn items_before<'a, T>(&self, items: &'a [T]) -> &'a [T]
+    pub(crate) fn items_before<'a, T>(&self, items: &'a [T]) -> &'a [T]
         ensures { result.now ≡ items_before self.now items.now }
     {
         match self {
@@ -61,7 +61,7 @@ impl MainState {
     }
 
     /// How what still comes in ends, where the input ends so unless its ending came.
-    pub fn ending_behind(&self, ending: Ending) -> Ending
+    pub(crate) fn ending_behind(&self, ending: Ending) -> Ending
         ensures { result ≡ ending_behind self.now ending }
     {
         match self {

@@ -63,8 +63,7 @@ key_copied {T} key before seen seen' keyed keyed' xs i k x e whole r within at i
     let rest : Stream (ℕ × T) = keyed_items key seen' (drop (i + 1) xs) e in
     let more : seen' ≡ see seen k = keys ∙ ap (keys_after seen) ok in
     let item : drop i xs ≡ x ∷ drop (i + 1) xs = at_drop_more (λ l. l) xs i x within ∙ ap (λ z. z ∷ drop (i + 1) xs) (sym at) in
-    let step : keyed_items key seen (drop i xs) e ≡ item_then (k, x) rest = ap (λ l. keyed_items key seen l e) item ∙ keyed_item key x seen seen' k (drop (i + 1) xs) e (sym ok ∙ is) more in
-    (
+    let step : keyed_items key seen (drop i xs) e ≡ item_then (k, x) rest = ap (λ l. keyed_items key seen l e) item ∙ keyed_item key x seen seen' k (drop (i + 1) xs) e (sym ok ∙ is) more in (
       rw put (ap (λ l. record { items = l; ending = rest.ending }) (append_assoc keyed ((k, x) ∷ []) rest.items) ∙ ap (items_then keyed) (sym step) ∙ came),
       more ∙ ap (λ s. see s k) all ∙ sym (first_seen_more before keyed (k, x)) ∙ ap (first_seen before) (sym put),
     )

@@ -38,7 +38,7 @@ impl LaneKeys {
     }
 
     /// The keys, in their order.
-    pub fn as_slice(&self) -> &[u64]
+    pub(crate) fn as_slice(&self) -> &[u64]
         ensures { result.now ≡ self.now }
     {
         self.set.as_slice()

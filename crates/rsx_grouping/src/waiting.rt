@@ -85,24 +85,14 @@ pub(crate) trait Tagging<T: Drop> {
     ///
     /// # Errors
     /// [`NoMemory`] where a growth was refused, in `Ops::tag` too.
-    fn tagged<O: Ops<Item = T>>(
-        &self,
-        alloc: Global,
-        ops: &O,
-        key: u64,
-    ) -> Result<Vec<T>, NoMemory>
+    fn tagged<O: Ops<Item = T>>(&self, alloc: Global, ops: &O, key: u64) -> Result<Vec<T>, NoMemory>
         ensures { IfOk result (λ v. v.items ≡ map ((O.meaning ops.now).tagged key) (items self.now)) };
 }
 
 impl<T: Drop> Tagging<T> for WaitingItems<T> {
     ghost items = { λ w. w };
 
-    fn tagged<O: Ops<Item = T>>(
-        &self,
-        alloc: Global,
-        ops: &O,
-        key: u64,
-    ) -> Result<Vec<T>, NoMemory>
+    fn tagged<O: Ops<Item = T>>(&self, alloc: Global, ops: &O, key: u64) -> Result<Vec<T>, NoMemory>
         ensures { IfOk result (λ v. v.items ≡ map ((O.meaning ops.now).tagged key) self.now) }
     {
         let mut tagged = Vec::new(alloc);
