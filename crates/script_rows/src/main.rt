@@ -1,50 +1,36 @@
 #![tactic(auto)]
-//! Runs scripts and traces, those of `examples/` first, and writes their answers. What it writes is stored beside it, and is
-//! a table of the script language and of reports.
+//! Runs graphs. What it writes without arguments is stored beside it: first the lines of `random`, which compares graphs under
+//! moves at random with the value from scratch, then a sum over both kinds of items that `timing` knows, then the scripts and
+//! traces of the input with their answers, as `rows` says. With arguments it times one case, as `timing` says.
 //!
-//! A line `run`, `scratch` or `tck` begins an input for the mode of that name, which goes on up to the next such line. The
-//! input is written, then a line `answers`, its answers, and the line of the fault that ended it.
+//! It is one program, since what a program over graphs costs to prove before its first function is as much as many functions.
 
-use rsx_drive::drive;
-use rsx_script::{Mode, mode_named};
-use std::io;
-use std::io::Write;
+mod cases;
+mod integers;
+mod numbers;
+mod random;
+mod rows;
+mod timing;
+mod trees;
+mod trial;
 
-/// Writes a script, its answers, and the line of the fault that ended it.
-fn write_row(rt: &(impl Print + AllocGlobal), mode: Mode, script: &str) -> io::Result<()> {
-    if script.is_empty() {
+use crate::random::write_kinds;
+use crate::rows::write_rows;
+use crate::timing::{write_sums, write_time};
+use anyhow::{Result, bail};
+use std::env;
+
+fn main(rt: HostRuntime) -> Result<()> {
+    let mut words = env::args(&rt)?.skip(1);
+    let Some(items) = words.next() else {
+        write_kinds(&rt)?;
+        write_sums(&rt)?;
+        write_rows(&rt)?;
         return Ok(());
-    }
-    let heading = match mode {
-        Mode::Run => "run\n",
-        Mode::Scratch => "scratch\n",
-        Mode::Tck => "tck\n",
     };
-    let mut out = io::writer(rt);
-    out.write_all(heading.as_bytes())?;
-    out.write_all(script.as_bytes())?;
-    out.write_all(b"answers\n")?;
-    let mut input = script.as_bytes();
-    if let Err(fault) = drive(rt.alloc(), mode, &mut input, &mut out) {
-        let text = format!(in rt.alloc(); "{fault}\n")?;
-        out.write_all(text.as_bytes())?;
-    }
-    Ok(())
-}
-
-fn main(rt: HostRuntime) -> io::Result<()> {
-    let mut mode = Mode::Run;
-    let mut script = String::new(rt.alloc());
-    for line in rt.lines(rt.alloc()) {
-        let line = line?;
-        if let Some(begun) = mode_named(line.as_str()) {
-            write_row(&rt, mode, script.as_str())?;
-            mode = begun;
-            script.clear();
-        } else {
-            script.push_str(line.as_str())?;
-            script.push('\n')?;
-        }
-    }
-    write_row(&rt, mode, script.as_str())
+    let Some(case) = words.next() else {
+        bail!("wanted: ITEMS CASE COUNT BUDGET ROUNDS, or nothing")
+    };
+    let numbers = [words.next(), words.next(), words.next()];
+    write_time(&rt, items.as_str(), case.as_str(), numbers)
 }

@@ -1,6 +1,6 @@
 //! Times graphs through the library, without a script.
 //!
-//! `rsx_graph_bench ITEMS CASE COUNT BUDGET ROUNDS` pumps an expression over the numbers from 1 to COUNT to its end, with
+//! `script_rows ITEMS CASE COUNT BUDGET ROUNDS` pumps an expression over the numbers from 1 to COUNT to its end, with
 //! so much of a budget in each call, and does so ROUNDS times. Where COUNT is more than a million, it pumps an expression
 //! over the numbers from 1 on for each million of them, one after the other. ITEMS is `numbers` (64-bit integers) or
 //! `values` (the items of the demonstration). CASE is `range`; `map` (doubles); `filter` (the even ones of the doubled);
@@ -13,20 +13,15 @@
 //!
 //! How many items came and their sum go to standard output, which is the same in every run, and the least time to
 //! standard error.
-#![tactic(auto)]
-
-mod cases;
-mod numbers;
 
 use crate::cases::expression;
-use crate::numbers::Numbers;
+use crate::integers::Integers;
 use anyhow::{Result, bail};
 use rsx_demo::{Demo, Val};
 use rsx_graph::{Deliveries, Graph, Pumped};
 use rsx_model::Expr;
 use rsx_types::{HubKind, Ops, Signal, SubId};
 use std::alloc::Global;
-use std::env;
 use std::time::Instant;
 
 /// The longest range of an expression.
@@ -187,23 +182,40 @@ fn number(word: Option<String>, otherwise: u64) -> u64 {
     }
 }
 
-fn main(rt: HostRuntime) -> Result<()> {
-    let mut words = env::args(&rt)?.skip(1);
-    let (Some(items), Some(case)) = (words.next(), words.next()) else {
-        bail!("wanted: ITEMS CASE COUNT BUDGET ROUNDS")
-    };
-    let count = number(words.next(), 100_000);
-    let budget = number(words.next(), 65_536).min(u64::from(u32::MAX)) as u32;
-    let rounds = number(words.next(), 1);
+/// One run of a case over these items.
+fn run_case(alloc: Global, items: &str, case: &str, count: u64, budget: u32) -> Result<Sum> {
+    match items {
+        "numbers" => run(alloc, Integers, case, count, budget),
+        _ => run(alloc, Demo, case, count, budget),
+    }
+}
+
+/// Runs a short case over both kinds of items, and writes how many items came and their sum.
+pub fn write_sums(rt: &(impl Print + AllocGlobal)) -> Result<()> {
+    for items in ["numbers", "values"] {
+        let sum = run_case(rt.alloc(), items, "filter", 1_000, 64)?;
+        println!(rt; "{items}: {} items, sum {}", sum.items, sum.sum)?;
+    }
+    Ok(())
+}
+
+/// Times the case that the arguments name.
+pub fn write_time(
+    rt: &HostRuntime,
+    items: &str,
+    case: &str,
+    numbers: [Option<String>; 3],
+) -> Result<()> {
+    let [count, budget, rounds] = numbers;
+    let count = number(count, 100_000);
+    let budget = number(budget, 65_536).min(u64::from(u32::MAX)) as u32;
+    let rounds = number(rounds, 1);
     let mut least = u128::MAX;
     let mut sum = Sum { items: 0, sum: 0 };
     for _ in 0..rounds {
-        let start = Instant::now(&rt)?;
-        sum = match items.as_str() {
-            "numbers" => run(rt.alloc(), Numbers, case.as_str(), count, budget)?,
-            _ => run(rt.alloc(), Demo, case.as_str(), count, budget)?,
-        };
-        least = least.min(start.elapsed(&rt)?.as_nanos());
+        let start = Instant::now(rt)?;
+        sum = run_case(rt.alloc(), items, case, count, budget)?;
+        least = least.min(start.elapsed(rt)?.as_nanos());
     }
     println!(rt; "{} items, sum {}", sum.items, sum.sum)?;
     eprintln!(rt; "{} ns", least)?;

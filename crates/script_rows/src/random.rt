@@ -1,16 +1,11 @@
-#![tactic(auto)]
 //! Makes moves and calls at random over small trees of all operators, and compares after each of them: what a subscriber
 //! received, with what it is still owed behind it, is the value of its expression, evaluated from scratch over what the hubs
 //! published, under what its nodes recorded. What a subscriber that cancelled received is the beginning of that value.
 //!
-//! It writes a line for each kind of tree, with how many trees there were, how many moves were made, how many signals were
+//! A line is written for each kind of tree, with how many trees there were, how many moves were made, how many signals were
 //! received, and how many comparisons were equal, one for each subscriber after each move and each call. The numbers come from
-//! fixed seeds, so the lines are the same in every run. The first comparison that differs ends it with status 1 and a line
-//! that names the kind of tree, the seed and the step.
-
-mod numbers;
-mod trees;
-mod trial;
+//! fixed seeds, so the lines are the same in every run. The first comparison that differs ends the program with status 1 and a
+//! line that names the kind of tree, the seed and the step.
 
 use crate::numbers::Numbers;
 use crate::trees::{KINDS, Kind, tree};
@@ -54,7 +49,8 @@ fn try_kind(alloc: Global, name: &str, kind: Kind) -> Result<Tally> {
     Ok(tally)
 }
 
-fn main(rt: HostRuntime) -> Result<()> {
+/// Tries all seeds over all kinds of trees, and writes a line for each kind.
+pub fn write_kinds(rt: &(impl Print + AllocGlobal)) -> Result<()> {
     for (name, kind) in &KINDS {
         let tally = try_kind(rt.alloc(), name, *kind)?;
         println!(rt;
