@@ -4,7 +4,7 @@ use Rattle.std.proofs.Math.ListN.{set}
 use Rattle.std.specs.Result.{IsErr, IsErrAnd}
 use Rattle.std.proofs.lemmas.List.{append-nil, get_or-set_same, length-map, map_push, set-get_or}
 use Rattle.std.proofs.lemmas.Option.{slice_get_past}
-use Rattle.rsx_types.specs.Stream.{Stream, ended_by}
+use Rattle.rsx_types.specs.Stream.{ended_by}
 use Rattle.rsx_types.specs.declared.names.HubKind.{HubKind}
 use Rattle.rsx_types.specs.declared.names.SubId.{SubId}
 use Rattle.rsx_model.specs.declared.expr.Expr.{Expr}

@@ -5,7 +5,7 @@ use Rattle.std.proofs.lemmas.List.{append-nil, take_more}
 use Rattle.std.proofs.lemmas.Option.{get_or_from_slice_get, slice_get_within}
 use Rattle.rsx_types.specs.Stream.{Stream}
 use Rattle.rsx_types.specs.declared.note.Note.{Note}
-use Rattle.rsx_model.specs.Eval.{environment, eval}
+use Rattle.rsx_model.specs.Eval.{environment}
 use Rattle.rsx_model.specs.declared.expr.Expr.{Expr}
 use Rattle.rsx_evaluation.specs.Answer.{IsScratch}
 use Rattle.rsx_evaluation.specs.declared.evaluate.ScratchRefusal.{ScratchRefusal}
@@ -15,11 +15,11 @@ use Rattle.rsx_demo.specs.declared.val.Val.{Val}
 use Rattle.rsx_hub.specs.Hub.{HubState}
 use Rattle.rsx_history.specs.declared.refusal.Refusal.{Refusal}
 use Rattle.rsx_history.specs.declared.refusal.Refusal.TheVariants as refusal
-use Rattle.rsx_graph.specs.Rows.{AreValues, Feed, HasFedJoins, HasFeedNotes, History, HubPast, IsFeedLookRefusal, IsValue, Rows, Source, SourceStands, emitted, fed, feed_of, has_feed}
+use Rattle.rsx_graph.specs.Rows.{AreValues, Feed, HasFedJoins, HasFeedNotes, History, HubPast, IsFeedLookRefusal, IsValue, Source, SourceStands, emitted, fed, feed_of, has_feed}
 use Rattle.rsx_graph.specs.InGraph.{state_of}
 use Rattle.rsx_session.specs.Answers.{IsTrouble}
 use Rattle.rsx_session.specs.Kept.{source_of}
-use Rattle.rsx_session.specs.Places.{HaveFirstValues, IsFeedRefused, Place}
+use Rattle.rsx_session.specs.Places.{IsFeedRefused, Place}
 use Rattle.rsx_session.specs.Sessions.{IsHubsTrouble, IsNextTrouble, IsNextValue, IsScratchTrouble, IsTroubleOf, SessionStands, place_of}
 use Rattle.rsx_session.specs.declared.published.HubSource.{HubSource}
 use Rattle.rsx_session.specs.declared.published.HubSource.TheVariants as kept

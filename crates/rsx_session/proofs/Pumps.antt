@@ -17,7 +17,6 @@ use Rattle.rsx_history.specs.declared.step.Pumped.{Pumped}
 use Rattle.rsx_history.specs.declared.step.Pumped.TheVariants.{Idle, Budget}
 use Rattle.rsx_graph.specs.Rows.{HasEnded, History, HubPast, LeadTo, Made, Rows, accepted_at, after_moves, delivered_by, sent_at, with_delivery, with_made, with_moved, with_sent}
 use Rattle.rsx_graph.specs.InGraph.{HasPumpedIn, state_of}
-use Rattle.rsx_graph.specs.Stands.{AreJoinsSame, GraphState}
 use Rattle.rsx_session.specs.Kept.{Known, all_taken, known, seen, source_of, sources_of, taken}
 use Rattle.rsx_session.specs.Places.{ArePumped, pumped_text}
 use Rattle.rsx_session.specs.Sessions.{AllLead, AllPumpTo, AllRun, HasRun, SessionStands}

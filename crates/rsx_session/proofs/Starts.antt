@@ -1,5 +1,5 @@
 -- Where a script begins.
-use Rattle.std.proofs.Common.{◌≡◌, ◌<◌, ℕ, List, [], ◌∷◌, length, map, refl, ap, ◌∙◌, arith}
+use Rattle.std.proofs.Common.{◌≡◌, ℕ, List, [], ◌∷◌, length, map, refl, ap, ◌∙◌, arith}
 use Rattle.std.proofs.lemmas.List.{length-map}
 use Rattle.rsx_types.specs.Stream.{Stream}
 use Rattle.rsx_demo.specs.Demo.{demo_meaning}
@@ -8,7 +8,6 @@ use Rattle.rsx_hub.specs.Hub.{HubState}
 use Rattle.rsx_subscriber.specs.declared.subscription.Subscription.{Subscription}
 use Rattle.rsx_history.specs.Stands.{AllStand}
 use Rattle.rsx_graph.specs.Rows.{Feed, NameHubs}
-use Rattle.rsx_graph.specs.InGraph.{state_of}
 use Rattle.rsx_graph.specs.Steps.{no_history}
 use Rattle.rsx_session.specs.Places.{Place, begun}
 use Rattle.rsx_session.specs.Sessions.{SessionStands, place_of}

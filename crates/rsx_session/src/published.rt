@@ -72,10 +72,7 @@ impl HubSource {
 pub(crate) fn copied(alloc: Global, value: &StreamValue<Val>) -> Result<StreamValue<Val>, NoMemory>
     ensures { IfOk result (λ v. v ≡ value.now) }
 {
-    Ok(StreamValue::new(
-        copy_items(alloc, value.items())?,
-        value.ending(),
-    ))
+    Ok(StreamValue::new(copy_items(alloc, value.items())?, value.ending()))
 }
 
 /// Takes the items out of a value, which has none then, and keeps its ending.

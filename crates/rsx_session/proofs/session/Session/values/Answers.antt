@@ -1,4 +1,4 @@
-use Rattle.std.proofs.Common.{◌≡◌, ◌<◌, ◌+◌, ◌++◌, ◌∷◌, ◌∙◌, List, [], length, map, take, get_or, refl, ap, sym, subst, arith, length-append}
+use Rattle.std.proofs.Common.{◌≡◌, ◌<◌, ◌+◌, ◌++◌, ◌∷◌, List, [], length, take, get_or, ap, sym, subst, arith, length-append}
 use Rattle.std.proofs.lemmas.List.{length-map, take_all}
 use Rattle.rsx_types.specs.Stream.{Stream}
 use Rattle.rsx_demo.specs.Demo.{demo_meaning}
@@ -30,8 +30,8 @@ loop-source-preserved c =
     record {
       count = let n = length-append vs (value ∷ []) in let m = ap length pushed in let k = inv.count in omega (arith, n, m, k);
       values = λ h k.
-      let A : List (Stream Val) → Type 0 = λ l. AreValues demo_meaning s.graph.feeds.items [] (take (i + 1) h.hubs) l in
-      subst A (sym pushed) (next_value s h k i vs c.deref.result.now value source (inv.values h k) inv.count c.deref.ensures.value (subst L items c.loop-source-test.true) (subst G items c.source-item.is) (c.in_ok-value.ensures.says h k));
+          let A : List (Stream Val) → Type 0 = λ l. AreValues demo_meaning s.graph.feeds.items [] (take (i + 1) h.hubs) l in
+          subst A (sym pushed) (next_value s h k i vs c.deref.result.now value source (inv.values h k) inv.count c.deref.ensures.value (subst L items c.loop-source-test.true) (subst G items c.source-item.is) (c.in_ok-value.ensures.says h k));
     }
 
 pub returns-clause-says : goal.returns-clause-says
