@@ -1,8 +1,11 @@
 -- Lemmas about trees that were built.
 pub mod Builds
+pub mod FlatMaps
+pub mod GroupBys
 pub mod Made
 pub mod PublishOn
 pub mod Rows
 pub mod Several
+pub mod Single
 pub mod Wants
 pub mod Windows

@@ -36,7 +36,9 @@ begins_ended-map h (layer.Concat v) = refl
 begins_ended-map h (layer.Merge p v) = refl
 begins_ended-map h (layer.Zip p v) = refl
 begins_ended-map h (layer.Latest p v) = refl
+begins_ended-map h (layer.Group f gs b) = refl
 begins_ended-map h (layer.Window n gs b) = refl
+begins_ended-map h (layer.Flat f c gs b) = refl
 begins_ended-map h (layer.On k p b) = refl
 
 join_here-map : {T A B : Type 0} (js : List ℕ) (h : A → B) (x : Expr-F T A) → join_here js (map-Expr T A B h x) ≡ join_here js x
@@ -48,7 +50,9 @@ join_here-map js h (layer.Concat v) = refl
 join_here-map js h (layer.Merge p v) = refl
 join_here-map js h (layer.Zip p v) = refl
 join_here-map js h (layer.Latest p v) = refl
+join_here-map js h (layer.Group f gs b) = refl
 join_here-map js h (layer.Window n gs b) = refl
+join_here-map js h (layer.Flat f c gs b) = refl
 join_here-map js h (layer.On k p b) = refl
 
 -- one level of each
@@ -97,7 +101,9 @@ length_join js (layer.Concat v) = refl
 length_join js (layer.Merge p v) = refl
 length_join js (layer.Zip p v) = refl
 length_join js (layer.Latest p v) = refl
+length_join js (layer.Group f gs b) = refl
 length_join js (layer.Window n gs b) = refl
+length_join js (layer.Flat f c gs b) = refl
 length_join js (layer.On k p b) = refl
 
 length_row : {T : Type 0} (js : List ℕ) (es : List (Expr T)) → Each (λ e. length (leaf_joins js e) ≡ leaves e) es → length (in_a_row (map (leaf_joins js) es)) ≡ sum_of (map leaves es)

@@ -9,12 +9,12 @@ use Rattle.rsx_sources.specs.declared.machine.Machine.{Ghosts as Machine}
 use Rattle.rsx_prefetch.specs.Credits.{credits}
 use Rattle.rsx_operators.specs.State.{plain_start, wanted_from}
 use Rattle.rsx_model.specs.Shape.{children}
-use Rattle.rsx_model.specs.declared.check.TheConstants.{MOST_PREFETCH}
+use Rattle.rsx_model.specs.declared.check.TheConstants.{MOST_CONCURRENCY, MOST_PREFETCH}
 use Rattle.rsx_model.specs.declared.expr.Expr.{Expr}
 use Rattle.rsx_model.specs.declared.expr.Expr.TheFolds.{fold_out-Expr, map-Expr}
 use Rattle.rsx_model.specs.declared.expr.Expr.TheOpen.{Expr-F}
 use Rattle.rsx_model.specs.declared.expr.Expr.TheOpen as layer
-use Rattle.rsx_model.specs.declared.expr.Expr.TheViews.{Plain, Window, On, out-Expr, outs-Items, outs-Hub, outs-Plain, outs-Window, outs-On}
+use Rattle.rsx_model.specs.declared.expr.Expr.TheViews.{Plain, Group, Window, Flat, On, out-Expr, outs-Items, outs-Hub, outs-Plain, outs-Group, outs-Window, outs-Flat, outs-On}
 use Rattle.rsx_model.specs.declared.expr.Expr.TheVariants.{Items, Hub}
 use Rattle.rsx_model.proofs.Unfold.{children-map}
 use Rattle.rsx_several.specs.Kind.{first_wanted}
@@ -26,6 +26,10 @@ use Rattle.rsx_tree.specs.declared.inputs.Inputs.{Inputs, End, More'}
 use Rattle.rsx_tree.specs.Inputs.{closed_row, closed_row_if}
 use Rattle.rsx_node.specs.declared.any_node.AnyNode.TheVariants.{Several}
 use Rattle.rsx_node.specs.Any.{any_machine}
+use Rattle.rsx_flat_map.specs.FlatMap.{flat_wanted}
+use Rattle.rsx_flat_map.specs.declared.node.FlatMapNode.{FlatMapNode}
+use Rattle.rsx_group_by.specs.GroupBy.{group_counted, group_wanted}
+use Rattle.rsx_group_by.specs.declared.node.GroupByNode.{GroupByNode}
 use Rattle.rsx_window.specs.Window.{CountsItems, window_wanted}
 use Rattle.rsx_window.specs.declared.node.WindowNode.{WindowNode}
 use Rattle.rsx_build.specs.Built.{WantsOfEach, first_wants, fresh_wants, prefetch_of, wants_beside}
@@ -59,6 +63,17 @@ window_wants n counted =
     let got = counted.got in
     omega arith
 
+-- nor does a fresh `groupBy`
+pub group_wants : {T : Type 0} (n : GroupByNode T) → group_counted n (0 ∷ []) 0 → group_wanted n 0 0 0 ≡ 0
+group_wants n counted =
+    let none : 0 ≡ counted.items = ap (λ l. get_or l 0 0) counted.at in
+    let got = counted.counts in
+    omega arith
+
+-- a fresh `flatMap` wants as many items as its concurrency says
+pub flat_wants : {T : Type 0} (n : FlatMapNode T) (c : ℕ) → n.concurrency ≡ c → n.next ≡ 0 → c ≤ MOST_CONCURRENCY → flat_wanted n 0 0 0 ≡ c
+flat_wants n c is next le = omega arith
+
 -- an empty queue asks for all that it can hold
 pub whole_capacity : (p : ℕ) → p ≤ MOST_PREFETCH → credits p 0 ≡ p
 whole_capacity p le = rw (zero-div (p - p / 4)) (omega arith)
@@ -88,7 +103,9 @@ prefetch_of-map h (layer.Concat v) = refl
 prefetch_of-map h (layer.Merge p v) = refl
 prefetch_of-map h (layer.Zip p v) = refl
 prefetch_of-map h (layer.Latest p v) = refl
+prefetch_of-map h (layer.Group f gs b) = refl
 prefetch_of-map h (layer.Window n gs b) = refl
+prefetch_of-map h (layer.Flat f c gs b) = refl
 prefetch_of-map h (layer.On k p b) = refl
 
 -- one level
@@ -109,6 +126,12 @@ wants_Plain {T} g b = rw (fold_out-Expr, outs-Plain) (ap (λ l. 0 ∷ l) (append
 
 pub wants_Window : {T : Type 0} (n : ℕ) (gs : Vec (Stage T) Global) (b : Box (Expr T) Global) → fresh_wants (Window n gs b) ≡ 0 ∷ fresh_wants b.value
 wants_Window {T} n gs b = rw (fold_out-Expr, outs-Window) (ap (λ l. 0 ∷ l) (append-nil (fresh_wants b.value)))
+
+pub wants_Group : {T : Type 0} (f : ℕ) (gs : Vec (Stage T) Global) (b : Box (Expr T) Global) → fresh_wants (Group f gs b) ≡ 0 ∷ fresh_wants b.value
+wants_Group {T} f gs b = rw (fold_out-Expr, outs-Group) (ap (λ l. 0 ∷ l) (append-nil (fresh_wants b.value)))
+
+pub wants_Flat : {T : Type 0} (f c : ℕ) (gs : Vec (Stage T) Global) (b : Box (Expr T) Global) → fresh_wants (Flat f c gs b) ≡ c ∷ fresh_wants b.value
+wants_Flat {T} f c gs b = rw (fold_out-Expr, outs-Flat) (ap (λ l. c ∷ l) (append-nil (fresh_wants b.value)))
 
 pub wants_On : {T : Type 0} (k p : ℕ) (b : Box (Expr T) Global) → fresh_wants (On k p b) ≡ p ∷ fresh_wants b.value
 wants_On {T} k p b = rw (fold_out-Expr, outs-On) (ap (λ l. p ∷ l) (append-nil (fresh_wants b.value)))

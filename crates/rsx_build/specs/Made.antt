@@ -18,12 +18,17 @@ use Rattle.rsx_publish_on.specs.PublishOn.{publish_comes_out, publish_counted}
 use Rattle.rsx_publish_on.specs.declared.node.PublishOnNode.{PublishOnNode}
 use Rattle.rsx_window.specs.Window.{GivesWindows, CountsItems}
 use Rattle.rsx_window.specs.declared.node.WindowNode.{WindowNode}
+use Rattle.rsx_queued.specs.declared.output.Output.TheVariants.{Empty}
+use Rattle.rsx_flat_map.specs.FlatMap.{GivesFlatMap, IsGoing}
+use Rattle.rsx_flat_map.specs.declared.node.FlatMapNode.{FlatMapNode}
+use Rattle.rsx_group_by.specs.GroupBy.{GivesGroups, group_counted, group_ended}
+use Rattle.rsx_group_by.specs.declared.node.GroupByNode.{GroupByNode}
 use Rattle.rsx_tree.specs.Inputs.{closed_row_if}
 use Rattle.rsx_tree.specs.Tree.{IsJoined}
-use Rattle.rsx_tree.specs.declared.inputs.Inputs.{Inputs}
+use Rattle.rsx_tree.specs.declared.inputs.Inputs.{Inputs, End}
 use Rattle.rsx_tree.specs.declared.node.Node.{Node}
 use Rattle.rsx_node.specs.declared.any_node.AnyNode.{AnyNode}
-use Rattle.rsx_node.specs.declared.any_node.AnyNode.TheVariants.{Plain, Several, PublishOn, Window}
+use Rattle.rsx_node.specs.declared.any_node.AnyNode.TheVariants.{Plain, Several, PublishOn, Window, FlatMap, GroupBy}
 
 -- a fresh plain operator as a node of any kind
 pub record IsPlain {T : Type 0} (g : Stage T) (n : AnyNode T) : Type 0 where
@@ -59,10 +64,37 @@ pub record IsWindow {T : Type 0} (size : ℕ) (gs : List (Stage T)) (n : AnyNode
   pub counted : CountsItems node (0 ∷ []) 0
   pub nothing : node.pending.left ≡ []
 
+-- a fresh `groupBy` as a node of any kind
+pub record IsGroupBy {T : Type 0} (f : ℕ) (gs : List (Stage T)) (n : AnyNode T) : Type 0 where
+  pub node : GroupByNode T
+  pub is : n ≡ GroupBy node
+  pub fresh : GivesGroups node f gs
+  pub ended : group_ended node ≡ false
+  pub counted : group_counted node (0 ∷ []) 0
+  pub choices : node.choices ≡ []
+
+-- a fresh `flatMap` as a node of any kind
+pub record IsFlatMap {T : Type 0} (f concurrency : ℕ) (gs : List (Stage T)) (n : AnyNode T) : Type 0 where
+  pub node : FlatMapNode T
+  pub is : n ≡ FlatMap node
+  pub fresh : GivesFlatMap node f gs
+  pub counted : 1 ≤ concurrency → IsGoing node (0 ∷ []) 0
+  pub at_most : node.concurrency ≡ concurrency
+  pub choices : node.choices ≡ []
+  pub next : node.next ≡ 0
+  pub nothing : node.output ≡ Empty
+
 -- the tree of the node that was made, over this row
 pub record IsOver {M : Type 0} (made : Result M NoMemory) (row : Inputs M) (has_ended : Bool) (t : Node M) : Type 0 where
   pub is : made ≡ Ok t.machine
   pub inputs : t.inputs ≡ closed_row_if has_ended row
+
+-- the tree of the node that was made, over this one as its only input
+pub record IsOverOne {T : Type 0} (made : Result (AnyNode T) NoMemory) (below t : Node (AnyNode T)) : Type 0 where
+  pub is : made ≡ Ok t.machine
+  pub row : Inputs (AnyNode T)
+  pub joined : IsJoined below End row
+  pub inputs : t.inputs ≡ row
 
 -- the tree that was made, as an input in front of those beside it
 pub record IsInFront {M : Type 0} (made : Result (Node M) NoMemory) (beside row : Inputs M) : Type 0 where

@@ -6,9 +6,12 @@ ghost use Rattle.rsx_model.specs.Check.{first_fault, first_of};
 ghost use Rattle.rsx_model.specs.declared.check.TheConstants.{MOST_INPUTS, MOST_PREFETCH};
 ghost use Rattle.rsx_model.specs.declared.expr.Expr.TheVariants.{Items as ItemsOf, Hub as HubOf};
 ghost use Rattle.rsx_build.specs.Built.{IsBuilt, AreBuilt, IsBuiltOver, IsPlainOver, IsPublishOnOver, IsWindowOver, starts_ended};
-ghost use Rattle.rsx_build.specs.Made.{IsInFront, IsOver, IsPlain, IsPublishOn, IsSeveral, IsWindow};
+ghost use Rattle.rsx_build.specs.Made.{IsFlatMap, IsGroupBy, IsInFront, IsOver, IsOverOne, IsPlain, IsPublishOn, IsSeveral, IsWindow};
 ghost use Rattle.rsx_several.specs.Kind.{IsWithin};
 
+use rsx_chain::copy_stages;
+use rsx_flat_map::FlatMapNode;
+use rsx_group_by::GroupByNode;
 use rsx_hub::Hub;
 use rsx_hub_leaf::HubLeaf;
 use rsx_model::Expr;
@@ -57,9 +60,21 @@ pub fn build<O: Ops>(
         Expr::Latest(prefetch, inputs) => {
             build_over(alloc, ops, SeveralKind::Latest(*prefetch), inputs, hubs)
         }
+        Expr::Group(function, stages, input) => {
+            let below = build(alloc, ops, input, hubs)?;
+            over_one(alloc, group_by(alloc, ops, *function, stages), below)
+        }
         Expr::Window(size, stages, input) => {
             let below = build(alloc, ops, input, hubs)?;
             build_window(alloc, ops, *size, stages, below)
+        }
+        Expr::Flat(function, concurrency, stages, input) => {
+            let below = build(alloc, ops, input, hubs)?;
+            over_one(
+                alloc,
+                flat_map(alloc, ops, *function, *concurrency, stages),
+                below,
+            )
         }
         Expr::On(_, prefetch, input) => {
             let below = build(alloc, ops, input, hubs)?;
@@ -222,6 +237,35 @@ fn window<O: Ops>(
     Ok(AnyNode::Window(WindowNode::new(alloc, ops, size, stages)?))
 }
 
+/// A `groupBy` as a node of any kind.
+fn group_by<O: Ops>(
+    alloc: Global,
+    ops: &O,
+    function: u16,
+    stages: &[Stage<O::Item>],
+) -> Result<AnyNode<O::Item>, NoMemory>
+    ensures { IfOk result (λ n. IsGroupBy function stages.now n) }
+{
+    let copies = copy_stages(alloc, ops, stages)?;
+    let node = GroupByNode::new(alloc, function, copies);
+    Ok(AnyNode::GroupBy(node))
+}
+
+/// A `flatMap` as a node of any kind.
+fn flat_map<O: Ops>(
+    alloc: Global,
+    ops: &O,
+    function: u16,
+    concurrency: u64,
+    stages: &[Stage<O::Item>],
+) -> Result<AnyNode<O::Item>, NoMemory>
+    ensures { IfOk result (λ n. IsFlatMap function concurrency stages.now n) }
+{
+    let copies = copy_stages(alloc, ops, stages)?;
+    let node = FlatMapNode::new(alloc, function, concurrency, copies);
+    Ok(AnyNode::FlatMap(node))
+}
+
 /// A node of several inputs as a node of any kind.
 fn several<T: Drop>(alloc: Global, kind: SeveralKind, inputs: u32) -> Result<AnyNode<T>, NoMemory>
     requires { IsWithin kind }
@@ -244,6 +288,23 @@ fn over<M: Drop>(
     }
     match node {
         Ok(machine) => Ok(Node { machine, inputs }),
+        Err(NoMemory) => Err(NoMemory),
+    }
+}
+
+/// The tree of a node over this one as its only input.
+fn over_one<T: Drop>(
+    alloc: Global,
+    node: Result<AnyNode<T>, NoMemory>,
+    below: Node<AnyNode<T>>,
+) -> Result<Node<AnyNode<T>>, NoMemory>
+    ensures { IfOk result (λ tree. IsOverOne node below tree) }
+{
+    match node {
+        Ok(machine) => {
+            let inputs = below.join(alloc, Inputs::End)?;
+            Ok(Node { machine, inputs })
+        }
         Err(NoMemory) => Err(NoMemory),
     }
 }

@@ -9,6 +9,7 @@
 //! - [`Chaining::react`] takes one signal, and [`Chaining::take`] an item and the ending behind it. What came out of the chain
 //!   before is the answer, and then what comes out of it now.
 //! - [`Chaining::rest`] computes what still comes out.
+//! - [`copy_stages`] copies operators, for a node that makes chains of them.
 //!
 //! For want of memory a signal comes back, and the whole chain is as it was, though the operators in front may have answered
 //! before the one that found no memory. So an operator answers in two steps, `prepare` and then `commit` or `roll_back` of
@@ -20,5 +21,7 @@
 
 pub mod chain;
 mod emission;
+mod stages;
 
 pub use chain::{ChainState, Chaining, NewChain};
+pub use stages::copy_stages;

@@ -1,10 +1,12 @@
 -- Commands, as they are written: a name, and what it wants behind it.
 use Rattle.std.specs.Prelude.{ℕ, ◌+◌, ℤ, nat_lt, List, length, Option, Some, None, Result, Ok, Err, if◌then◌else◌, codes}
+use Rattle.std.specs.Option.{ok_or}
 use Rattle.std.specs.Str.{bytes_eq}
 use Rattle.rsx_types.specs.declared.names.HubKind.{HubKind}
 use Rattle.rsx_types.specs.declared.names.HubKind.TheVariants.{Multicast, Replay}
 use Rattle.rsx_words.specs.declared.words.LineRefusal.{LineRefusal}
 use Rattle.rsx_words.specs.declared.words.LineRefusal.TheVariants.{Syntax, UnknownName, TooLong}
+use Rattle.rsx_lanes.specs.declared.limits.TheConstants.{MAIN}
 use Rattle.rsx_words.specs.Numbers.{u32_of, u64_of, signed_of}
 use Rattle.rsx_words.specs.Reading.{Left, line_of, ◌>>=◌, next_at, end_at, name_at, number_at}
 use Rattle.rsx_words.specs.Words.{Written, opening, closing, text, strange, nothing}
@@ -30,12 +32,22 @@ with_two makes l = do
   m ← number_at u32_of n.1
   Ok (makes n.0 m.0, m.1)
 
+-- an input of a node: its number, or `m` for Main
+abbrev pub input_of : List ℕ → Option ℕ
+input_of word = if bytes_eq word (codes "m") then Some MAIN else u64_of word
+
+unfoldable pub input_at : Left → Result (ℕ × Left) LineRefusal
+input_at l = do
+  word ← name_at l
+  input ← ok_or (input_of word.0.1) (Syntax word.0.0)
+  Ok (input, word.1)
+
 -- a subscription, a node and an input
 unfoldable pub pick_at : Left → Result (Order × Left) LineRefusal
 pick_at l = do
   s ← number_at u32_of l
   node ← number_at u32_of s.1
-  input ← number_at u64_of node.1
+  input ← input_at node.1
   Ok (pick s.0 node.0 input.0, input.1)
 
 -- the kind of a hub, with the number of items that a `replay` keeps

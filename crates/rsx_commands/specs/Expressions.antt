@@ -14,7 +14,9 @@ use Rattle.rsx_words.specs.declared.words.LineRefusal.TheVariants.{Syntax, Unkno
 use Rattle.rsx_words.specs.Words.{Placed, Written, opening, closing, text, strange, nothing}
 use Rattle.rsx_words.specs.Numbers.{u8_of, u32_of, u64_of, signed_of}
 use Rattle.rsx_words.specs.Reading.{Left, ◌>>=◌, next_at, opening_at, closing_at, name_at, number_at, is_opening_next}
-use Rattle.rsx_commands.specs.Orders.{Tree, Trees, items, range, hub, plain, concat, merge, zip, latest, window, on, none, first}
+use Rattle.rsx_commands.specs.declared.expression.OneInput.{OneInput}
+use Rattle.rsx_commands.specs.declared.expression.OneInput.TheVariants as one
+use Rattle.rsx_commands.specs.Orders.{Tree, Trees, items, range, hub, plain, concat, merge, zip, latest, group, window, flat, on, none, first}
 
 -- the name of a function of this use, which has a number
 unfoldable pub function_at : Role → Left → Result (ℕ × Left) LineRefusal
@@ -147,30 +149,66 @@ hub_at l = do
   rest ← closing_at h.1
   Ok (hub h.0, rest)
 
-unfoldable pub plain_at : (Left → Result (Tree × Left) LineRefusal) → ℕ → List ℕ → Left → Result (Tree × Left) LineRefusal
-plain_at read column name l = do
-  g ← stage_at column name l
-  e ← read g.1
-  rest ← closing_at e.1
-  Ok (plain g.0 e.0, rest)
+-- ---- an operator with one input, without that: what it makes of its input
 
--- a size and a chain, and then its one input
-unfoldable pub window_at : (Left → Result (Tree × Left) LineRefusal) → ℕ → Left → Result (Tree × Left) LineRefusal
-window_at read most l = do
+abbrev pub node_over : OneInput → Tree → Tree
+node_over (one.Plain g) = plain g
+node_over (one.GroupBy f gs) = group f gs.items
+node_over (one.Window n gs) = window n gs.items
+node_over (one.FlatMap f c gs) = flat f c gs.items
+node_over (one.PublishOn k p) = on k p
+
+-- a plain operator
+abbrev pub of_stage : ℕ → List ℕ → Left → Result ((Tree → Tree) × Left) LineRefusal
+of_stage column name l = do
+  g ← stage_at column name l
+  Ok (plain g.0, g.1)
+
+-- the name of a key function, and a chain
+unfoldable pub group_at : ℕ → Left → Result ((Tree → Tree) × Left) LineRefusal
+group_at most l = do
+  f ← function_at for.Key l
+  gs ← chain_at most f.1
+  Ok (group f.0 gs.0, gs.1)
+
+-- a size, and a chain
+unfoldable pub window_at : ℕ → Left → Result ((Tree → Tree) × Left) LineRefusal
+window_at most l = do
   n ← number_at u64_of l
   gs ← chain_at most n.1
-  e ← read gs.1
-  rest ← closing_at e.1
-  Ok (window n.0 gs.0 e.0, rest)
+  Ok (window n.0 gs.0, gs.1)
 
--- a worker and a prefetch, and then its one input
-unfoldable pub on_at : (Left → Result (Tree × Left) LineRefusal) → Left → Result (Tree × Left) LineRefusal
-on_at read l = do
+-- the name of a function that expands, a concurrency, and a chain
+unfoldable pub flat_at : ℕ → Left → Result ((Tree → Tree) × Left) LineRefusal
+flat_at most l = do
+  f ← function_at for.Expand l
+  c ← number_at u64_of f.1
+  gs ← chain_at most c.1
+  Ok (flat f.0 c.0 gs.0, gs.1)
+
+-- a worker, and a prefetch
+unfoldable pub on_at : Left → Result ((Tree → Tree) × Left) LineRefusal
+on_at l = do
   k ← number_at u8_of l
   p ← number_at u64_of k.1
-  e ← read p.1
+  Ok (on k.0 p.0, p.1)
+
+-- those of them that aren't plain have these names
+unfoldable pub one_input_at : ℕ → ℕ → List ℕ → Left → Result ((Tree → Tree) × Left) LineRefusal
+one_input_at most column name l =
+    if bytes_eq name (codes "groupBy") then group_at most l
+    else (if bytes_eq name (codes "window") then window_at most l
+    else (if bytes_eq name (codes "flatMap") then flat_at most l
+    else (if bytes_eq name (codes "publishOn") then on_at l
+    else of_stage column name l)))
+
+-- such an operator, and then its input
+unfoldable pub over_one_at : (Left → Result (Tree × Left) LineRefusal) → ℕ → ℕ → List ℕ → Left → Result (Tree × Left) LineRefusal
+over_one_at read most column name l = do
+  operator ← one_input_at most column name l
+  e ← read operator.1
   rest ← closing_at e.1
-  Ok (on k.0 p.0 e.0, rest)
+  Ok (operator.0 e.0, rest)
 
 abbrev pub of_inputs : (Trees → Tree) → (Left → Result (Tree × Left) LineRefusal) → ℕ → Left → Result (Tree × Left) LineRefusal
 of_inputs makes read most l = do
@@ -183,7 +221,7 @@ of_prefetch makes read most l = do
   es ← inputs_at read most p.1
   Ok (makes p.0 es.0, es.1)
 
--- the operators; a name that is none of theirs stands at this column
+-- the operators, those with one input last; a name that is none of theirs stands at this column
 unfoldable pub operator_at : (Left → Result (Tree × Left) LineRefusal) → ℕ → ℕ → List ℕ → Left → Result (Tree × Left) LineRefusal
 operator_at read most column name l =
     if bytes_eq name (codes "items") then of_items l
@@ -193,9 +231,7 @@ operator_at read most column name l =
     else (if bytes_eq name (codes "merge") then of_prefetch merge read most l
     else (if bytes_eq name (codes "zip") then of_prefetch zip read most l
     else (if bytes_eq name (codes "combineLatest") then of_prefetch latest read most l
-    else (if bytes_eq name (codes "window") then window_at read most l
-    else (if bytes_eq name (codes "publishOn") then on_at read l
-    else plain_at read column name l))))))))
+    else over_one_at read most column name l))))))
 
 -- An expression, where less operators stand one in the other than is said first; in a line there are less of them than bytes.
 unfoldable pub expression_at : ℕ → Left → Result (Tree × Left) LineRefusal

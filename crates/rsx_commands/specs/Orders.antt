@@ -4,7 +4,7 @@ use Rattle.rsx_types.specs.declared.names.HubKind.{HubKind}
 use Rattle.rsx_types.specs.declared.stage.Stage.{Stage}
 use Rattle.rsx_demo.specs.declared.val.Val.{Val}
 use Rattle.rsx_model.specs.declared.expr.Expr.{Expr}
-use Rattle.rsx_model.specs.declared.expr.Expr.TheOpen.{Expr-F, Items, Range, Hub, Plain, Concat, Merge, Zip, Latest, Window, On}
+use Rattle.rsx_model.specs.declared.expr.Expr.TheOpen.{Expr-F, Items, Range, Hub, Plain, Concat, Merge, Zip, Latest, Group, Window, Flat, On}
 use Rattle.rsx_model.specs.declared.expr.Expr.TheFolds.{fold-Expr}
 use Rattle.rsx_commands.specs.declared.command.Command.{Command}
 use Rattle.rsx_commands.specs.declared.command.Command.TheVariants as asks
@@ -20,7 +20,9 @@ mutual
     merge : ℕ → Trees → Tree
     zip : ℕ → Trees → Tree
     latest : ℕ → Trees → Tree
+    group : ℕ → List (Stage Val) → Tree → Tree
     window : ℕ → List (Stage Val) → Tree → Tree
+    flat : ℕ → ℕ → List (Stage Val) → Tree → Tree
     on : ℕ → ℕ → Tree → Tree
 
   pub data Trees : Type 0 where
@@ -41,7 +43,9 @@ node_of (Concat v) = concat (trees_of v.items)
 node_of (Merge p v) = merge p (trees_of v.items)
 node_of (Zip p v) = zip p (trees_of v.items)
 node_of (Latest p v) = latest p (trees_of v.items)
+node_of (Group f gs b) = group f gs.items b.value
 node_of (Window n gs b) = window n gs.items b.value
+node_of (Flat f c gs b) = flat f c gs.items b.value
 node_of (On k p b) = on k p b.value
 
 abbrev pub tree_of : Expr Val → Tree

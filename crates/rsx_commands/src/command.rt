@@ -23,7 +23,7 @@ pub enum Command {
     Cancel(SubId),
     /// `pump B`
     Pump(u32),
-    /// `pick S NODE INPUT`
+    /// `pick S NODE INPUT`; for Main, which is written `m`, the number is [`MAIN`](rsx_lanes::MAIN).
     Pick(SubId, NodeId, u64),
     /// `show S`
     Show(SubId),

@@ -3,7 +3,7 @@
 ghost use Rattle.std.specs.Prelude.{◌≡◌, ◌<◌, ◌≤◌, ℕ, IfOk, IfSome, OnOk, map};
 ghost use Rattle.rsx_words.specs.Reading.{Gives, GivesInMemory, left, bytes_left};
 ghost use Rattle.rsx_commands.specs.Orders.{tree_of, trees_of};
-ghost use Rattle.rsx_commands.specs.Expressions.{function_at, stage_at, opened_stage_at, chain_stage_at, stages_at, chain_at, item_at, items_at, range_at, hub_at, inputs_at, window_at, on_at, plain_at, operator_at, expression_at};
+ghost use Rattle.rsx_commands.specs.Expressions.{function_at, stage_at, opened_stage_at, chain_stage_at, stages_at, chain_at, item_at, items_at, range_at, hub_at, inputs_at, node_over, group_at, window_at, flat_at, on_at, one_input_at, over_one_at, operator_at, expression_at};
 
 use crate::parse::hub;
 use rsx_demo::{Role, Val, function_number};
@@ -55,9 +55,7 @@ fn operator(
             let prefetch = words.u64()?;
             Ok(Expr::Latest(prefetch, inputs(alloc, words)?))
         }
-        "window" => window(alloc, words),
-        "publishOn" => publish_on(alloc, words),
-        _ => plain(alloc, column, name, words),
+        _ => over_one(alloc, column, name, words),
     }
 }
 
@@ -78,50 +76,119 @@ fn inputs(alloc: Global, words: &mut Words<'_>) -> Result<Vec<Expr<Val>>, LineRe
     }
 }
 
-/// The size and the chain of a `window`, and the expression that follows.
+/// The operator with this name, which stands at this column, over the expression that follows.
 #[cycle(expression)]
-#[tactic(auto, unfolding(crate::specs::Expressions::window_at))]
-fn window(alloc: Global, words: &mut Words<'_>) -> Result<Expr<Val>, LineRefusal>
-    ensures word { (n : ℕ) → bytes_left words.old < n → GivesInMemory (λ e. (tree_of e, left words.new)) result (window_at (expression_at n) n (left words.old)) }
-    ensures most { bytes_left words.new ≤ bytes_left words.old }
-{
-    let size = words.u64()?;
-    let stages = chain(alloc, words)?;
-    let input = expression(alloc, words)?;
-    words.close()?;
-    Ok(Expr::Window(size, stages, Box::new(alloc, input)?))
-}
-
-/// The worker and the prefetch of a `publishOn`, and the expression that follows.
-#[cycle(expression)]
-#[tactic(auto, unfolding(crate::specs::Expressions::on_at))]
-fn publish_on(alloc: Global, words: &mut Words<'_>) -> Result<Expr<Val>, LineRefusal>
-    ensures word { (n : ℕ) → bytes_left words.old < n → GivesInMemory (λ e. (tree_of e, left words.new)) result (on_at (expression_at n) (left words.old)) }
-    ensures most { bytes_left words.new ≤ bytes_left words.old }
-{
-    let worker = words.u8()?;
-    let prefetch = words.u64()?;
-    let input = expression(alloc, words)?;
-    words.close()?;
-    Ok(Expr::On(worker, prefetch, Box::new(alloc, input)?))
-}
-
-/// The plain operator with this name, which stands at this column, over the expression that follows.
-#[cycle(expression)]
-#[tactic(auto, unfolding(crate::specs::Expressions::plain_at))]
-fn plain(
+#[tactic(auto, unfolding(crate::specs::Expressions::over_one_at))]
+fn over_one(
     alloc: Global,
     column: u64,
     name: &str,
     words: &mut Words<'_>,
 ) -> Result<Expr<Val>, LineRefusal>
-    ensures word { (n : ℕ) → bytes_left words.old < n → GivesInMemory (λ e. (tree_of e, left words.new)) result (plain_at (expression_at n) column name.now (left words.old)) }
+    ensures word { (n : ℕ) → bytes_left words.old < n → GivesInMemory (λ e. (tree_of e, left words.new)) result (over_one_at (expression_at n) n column name.now (left words.old)) }
     ensures most { bytes_left words.new ≤ bytes_left words.old }
 {
-    let stage = stage(column, name, words)?;
+    let operator = one_input(alloc, column, name, words)?;
     let input = expression(alloc, words)?;
     words.close()?;
-    Ok(Expr::Plain(stage, Box::new(alloc, input)?))
+    Ok(operator.over(Box::new(alloc, input)?))
+}
+
+/// An operator with one input, without that.
+#[derive(Drop)]
+pub(crate) enum OneInput {
+    /// A plain operator.
+    Plain(Stage<Val>),
+    /// `groupBy`: the number of the key function, and the chain.
+    GroupBy(u16, Vec<Stage<Val>>),
+    /// `window`: the size, and the chain.
+    Window(u64, Vec<Stage<Val>>),
+    /// `flatMap`: the number of the function that expands, the concurrency, and the chain.
+    FlatMap(u16, u64, Vec<Stage<Val>>),
+    /// `publishOn`: the worker, and the prefetch.
+    PublishOn(u8, u64),
+}
+
+impl OneInput {
+    /// The operator over this input.
+    fn over(self, input: Box<Expr<Val>>) -> Expr<Val>
+        ensures { tree_of result ≡ node_over self (tree_of input.value) }
+    {
+        match self {
+            OneInput::Plain(stage) => Expr::Plain(stage, input),
+            OneInput::GroupBy(key, stages) => Expr::Group(key, stages, input),
+            OneInput::Window(size, stages) => Expr::Window(size, stages, input),
+            OneInput::FlatMap(expand, concurrency, stages) => {
+                Expr::Flat(expand, concurrency, stages, input)
+            }
+            OneInput::PublishOn(worker, prefetch) => Expr::On(worker, prefetch, input),
+        }
+    }
+}
+
+/// The operator with one input of this name, which stands at this column, up to where its input begins.
+#[tactic(auto, unfolding(crate::specs::Expressions::one_input_at))]
+fn one_input(
+    alloc: Global,
+    column: u64,
+    name: &str,
+    words: &mut Words<'_>,
+) -> Result<OneInput, LineRefusal>
+    ensures word { (n : ℕ) → bytes_left words.old < n → GivesInMemory (λ o. (node_over o, left words.new)) result (one_input_at n column name.now (left words.old)) }
+    ensures most { bytes_left words.new ≤ bytes_left words.old }
+{
+    match name {
+        "groupBy" => group_by(alloc, words),
+        "window" => window(alloc, words),
+        "flatMap" => flat_map(alloc, words),
+        "publishOn" => publish_on(words),
+        _ => Ok(OneInput::Plain(stage(column, name, words)?)),
+    }
+}
+
+/// The key function and the chain of a `groupBy`.
+#[tactic(auto, unfolding(crate::specs::Expressions::group_at))]
+fn group_by(alloc: Global, words: &mut Words<'_>) -> Result<OneInput, LineRefusal>
+    ensures word { (n : ℕ) → bytes_left words.old < n → GivesInMemory (λ o. (node_over o, left words.new)) result (group_at n (left words.old)) }
+    ensures most { bytes_left words.new ≤ bytes_left words.old }
+{
+    let key = function(words, Role::Key)?;
+    let stages = chain(alloc, words)?;
+    Ok(OneInput::GroupBy(key, stages))
+}
+
+/// The size and the chain of a `window`.
+#[tactic(auto, unfolding(crate::specs::Expressions::window_at))]
+fn window(alloc: Global, words: &mut Words<'_>) -> Result<OneInput, LineRefusal>
+    ensures word { (n : ℕ) → bytes_left words.old < n → GivesInMemory (λ o. (node_over o, left words.new)) result (window_at n (left words.old)) }
+    ensures most { bytes_left words.new ≤ bytes_left words.old }
+{
+    let size = words.u64()?;
+    let stages = chain(alloc, words)?;
+    Ok(OneInput::Window(size, stages))
+}
+
+/// The function, the concurrency and the chain of a `flatMap`.
+#[tactic(auto, unfolding(crate::specs::Expressions::flat_at))]
+fn flat_map(alloc: Global, words: &mut Words<'_>) -> Result<OneInput, LineRefusal>
+    ensures word { (n : ℕ) → bytes_left words.old < n → GivesInMemory (λ o. (node_over o, left words.new)) result (flat_at n (left words.old)) }
+    ensures most { bytes_left words.new ≤ bytes_left words.old }
+{
+    let expand = function(words, Role::Expand)?;
+    let concurrency = words.u64()?;
+    let stages = chain(alloc, words)?;
+    Ok(OneInput::FlatMap(expand, concurrency, stages))
+}
+
+/// The worker and the prefetch of a `publishOn`.
+#[tactic(auto, unfolding(crate::specs::Expressions::on_at))]
+fn publish_on(words: &mut Words<'_>) -> Result<OneInput, LineRefusal>
+    ensures word { Gives (λ o. (node_over o, left words.new)) result (on_at (left words.old)) }
+    ensures most { bytes_left words.new ≤ bytes_left words.old }
+{
+    let worker = words.u8()?;
+    let prefetch = words.u64()?;
+    Ok(OneInput::PublishOn(worker, prefetch))
 }
 
 /// The plain operator with this name, which stands at this column, with its functions and numbers.

@@ -4,12 +4,13 @@ ghost use Rattle.std.specs.Prelude.{◌≡◌, ◌<◌, ◌≤◌, ℕ, length, 
 ghost use Rattle.rsx_words.specs.Numbers.{u32_of};
 ghost use Rattle.rsx_words.specs.Reading.{Gives, GivesInMemory, left, bytes_left, number_at};
 ghost use Rattle.rsx_commands.specs.Orders.{order_of};
-ghost use Rattle.rsx_commands.specs.Commands.{pick_at, hub_kind_at, hub_command_at, plain_command_at, command_at, line_at, meaning_of_line};
+ghost use Rattle.rsx_commands.specs.Commands.{input_of, input_at, pick_at, hub_kind_at, hub_command_at, plain_command_at, command_at, line_at, meaning_of_line};
 
 use crate::command::Command;
 use crate::expression::expression;
+use rsx_lanes::MAIN;
 use rsx_types::{HubId, HubKind, NodeId, SubId};
-use rsx_words::{LineRefusal, Word, Words};
+use rsx_words::{LineRefusal, Word, Words, number_u64};
 use std::alloc::Global;
 
 /// The most bytes of a line, without its newline.
@@ -119,7 +120,26 @@ fn pick(words: &mut Words<'_>) -> Result<Command, LineRefusal>
 {
     let sub = subscription(words)?;
     let node = NodeId(words.u32()?);
-    Ok(Command::Pick(sub, node, words.u64()?))
+    Ok(Command::Pick(sub, node, input(words)?))
+}
+
+/// The input of a pick: its number, or `m` for Main.
+#[tactic(auto, unfolding(crate::specs::Commands::input_at))]
+fn input(words: &mut Words<'_>) -> Result<u64, LineRefusal>
+    ensures { Gives (λ n. (n, left words.new)) result (input_at (left words.old)) }
+{
+    let (column, word) = words.name()?;
+    number_of_input(word).ok_or(LineRefusal::Syntax(column))
+}
+
+/// The number of the input that a word names.
+fn number_of_input(word: &str) -> Option<u64>
+    ensures { result ≡ input_of word.now }
+{
+    match word {
+        "m" => Some(MAIN),
+        _ => number_u64(word),
+    }
 }
 
 /// The kind of a hub: `multicast`, or `replay` and how many items it keeps.

@@ -8,6 +8,7 @@ use Rattle.rsx_types.specs.declared.signal.Signal.TheVariants.{Next, Complete, E
 use Rattle.rsx_types.specs.Stream.{Stream, ending_signals}
 use Rattle.rsx_choices.specs.Concat.{concat, unless_open}
 use Rattle.rsx_choices.specs.Merge.{merge, merged, taken_ending}
+use Rattle.rsx_lanes.specs.Lanes.{main_input, merged_lanes}
 use Rattle.rsx_choices.specs.Pick.{InputLeft, Taken, numbered, is_failure, left_after, next_here, next_of, up_to_failure, rest_of, no_more, chosen_before, pick}
 use Rattle.rsx_joining.specs.Latest.{all_latest, row_first, stops, behind_first, unless_chosen, walk, none_yet, combine_latest}
 use Rattle.rsx_joining.specs.Zip.{items_of, shortest, ends_after, first_ending, ending_after, zip_ending, zip_rows, zip}
@@ -163,6 +164,15 @@ merged_fine left (Some ts) h = taken_fine left ts h
 pub merge_values_fine : {T : Type 0} (cs : List ℕ) (o : Option (List (Stream T))) → FineValues o → AllFine (option_and_then (merge cs) o)
 merge_values_fine cs None h = tt
 merge_values_fine cs (Some vs) h = merged_fine _ (pick cs (numbered 0 vs)) (pick_fine cs (numbered 0 vs) (numbered_fine 0 vs h))
+
+-- ---- lanes and Main
+
+main_fine : {T : Type 0} (n : ℕ) (vs : List (Stream T)) (e : Ending) → Each (λ (v : Stream T). Fine v.ending) vs → Fine e → FineLeft (numbered n vs ++ main_input e)
+main_fine {T} n [] e hs h = (ending_fine T e h, tt)
+main_fine {T} n (v ∷ vs) e hs h = (items_fine v.items (ending_signals v.ending) (ending_fine T v.ending hs.0), main_fine (suc n) vs e hs.1 h)
+
+pub merged_lanes_fine : {T : Type 0} (cs : List ℕ) (vs : List (Stream T)) (e : Ending) → Each (λ (v : Stream T). Fine v.ending) vs → Fine e → AllFine (merged_lanes cs vs e)
+merged_lanes_fine cs vs e hs h = merged_fine _ (pick cs (numbered 0 vs ++ main_input e)) (pick_fine cs (numbered 0 vs ++ main_input e) (main_fine 0 vs e hs h))
 
 -- ---- combineLatest
 

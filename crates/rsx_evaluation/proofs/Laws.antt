@@ -20,6 +20,8 @@ use Rattle.rsx_types.specs.Plain.{mapped_items, filtered_items, taken_items, acc
 use Rattle.rsx_types.specs.Stream.{Stream, ended_by, item_then, answer_then, kept_then, cut_by}
 use Rattle.rsx_choices.specs.Concat.{concat}
 use Rattle.rsx_choices.specs.Merge.{merge}
+use Rattle.rsx_lanes.specs.Flat.{list_then, expanded_items, flat_lane, flat_map}
+use Rattle.rsx_lanes.specs.Group.{placed, see, keyed_then, keyed_items, lane_ending, of_key, group_lane, group_lanes, first_seen, group_by}
 use Rattle.rsx_lanes.specs.Window.{last_window, windows, windows_and_main, window}
 use Rattle.rsx_joining.specs.Latest.{combine_latest}
 use Rattle.rsx_joining.specs.Zip.{zip}
@@ -33,7 +35,7 @@ use Rattle.rsx_model.specs.Eval.{Environment, Meant, meant, in_order, node_value
 use Rattle.rsx_evaluation.specs.Laws.{folded_in, folded, ScanFolds, joined, IsCut, given_lists, BufferCuts, DistinctKeepsFirst, NoBadRequest}
 use Rattle.rsx_values.proofs.Steps.{buffered_full, buffered_more}
 use Rattle.rsx_model.proofs.Unfold.{Each, by_children, children-map, value_out}
-use Rattle.rsx_evaluation.proofs.Endings.{Fine, AllFine, FineMeant, in_order_fine, concat_values_fine, merge_values_fine, zip_values_fine, latest_values_fine}
+use Rattle.rsx_evaluation.proofs.Endings.{Fine, AllFine, FineMeant, in_order_fine, concat_values_fine, merge_values_fine, zip_values_fine, latest_values_fine, merged_lanes_fine}
 
 -- ---- scan
 
@@ -331,6 +333,51 @@ window_fine m n gs None h = tt
 window_fine m n gs (Some v) h =
     concat_values_fine (Some (windows_and_main (chained m gs) (windows n [] v.items v.ending) v.ending)) (lanes_fine m gs (windows n [] v.items v.ending) v.ending (windows_fine n [] v.items v.ending h) h)
 
+-- ---- flatMap
+
+list_then_fine : {T : Type 0} (r : Result (List T) ℕ) (v : Stream (List T)) → Fine v.ending → Fine (list_then r v).ending
+list_then_fine (Ok ys) v h = h
+list_then_fine (Err c) v h = λ p. cc
+
+expanded_fine : {T : Type 0} (f : T → Result (List T) ℕ) (xs : List T) (e : Ending) → Fine e → Fine (expanded_items f xs e).ending
+expanded_fine f [] e h = h
+expanded_fine f (x ∷ xs) e h = list_then_fine (f x) (expanded_items f xs e) (expanded_fine f xs e h)
+
+flat_lanes_fine : {T : Type 0} (m : Meaning T) (gs : List (Stage T)) (ls : List (List T)) → EachFine (map (flat_lane m gs) ls)
+flat_lanes_fine m gs [] = tt
+flat_lanes_fine m gs (ys ∷ ls) = (chained_fine m gs (listed ys) (λ p. cc), flat_lanes_fine m gs ls)
+
+flat_fine : {T : Type 0} (m : Meaning T) (f : ℕ) (gs : List (Stage T)) (cs : List ℕ) (o : Option (Stream T)) → AllFine o → AllFine (option_and_then (flat_map m f gs cs) o)
+flat_fine m f gs cs None h = tt
+flat_fine m f gs cs (Some v) h =
+    let lists = expanded_items (m.expanded f) v.items v.ending in
+    merged_lanes_fine cs (map (flat_lane m gs) lists.items) lists.ending (flat_lanes_fine m gs lists.items) (expanded_fine (m.expanded f) v.items v.ending h)
+
+-- ---- groupBy
+
+keyed_fine : {T : Type 0} (key : T → Result ℕ ℕ) (seen : List ℕ) (xs : List T) (e : Ending) → Fine e → Fine (keyed_items key seen xs e).ending
+keyed_fine key seen [] e h = h
+keyed_fine {T} key seen (x ∷ xs) e h = after (λ known. keyed_fine key known xs e h) (placed seen (key x))
+  where
+    after : ((known : List ℕ) → Fine (keyed_items key known xs e).ending) → (r : Result ℕ ℕ) → Fine (keyed_then x seen r (λ known. keyed_items key known xs e)).ending
+    after more (Ok k) = more (see seen k)
+    after more (Err c) = λ p. cc
+
+lane_ending_fine : (e : Ending) → Fine (lane_ending e)
+lane_ending_fine Open = λ p. cc
+lane_ending_fine Done = λ p. cc
+lane_ending_fine (Failed c) = λ p. cc
+
+group_lanes_fine : {T : Type 0} (m : Meaning T) (gs : List (Stage T)) (v : Stream (ℕ × T)) (ks : List ℕ) → EachFine (map (group_lane m gs v) ks)
+group_lanes_fine m gs v [] = tt
+group_lanes_fine m gs v (k ∷ ks) = (chained_fine m gs (of_key k v) (lane_ending_fine v.ending), group_lanes_fine m gs v ks)
+
+group_fine : {T : Type 0} (m : Meaning T) (f : ℕ) (gs : List (Stage T)) (cs : List ℕ) (o : Option (Stream T)) → AllFine o → AllFine (option_and_then (group_by m f gs cs) o)
+group_fine m f gs cs None h = tt
+group_fine m f gs cs (Some v) h =
+    let keyed = keyed_items (m.keyed f) [] v.items v.ending in
+    merged_lanes_fine cs (group_lanes m gs keyed) keyed.ending (group_lanes_fine m gs keyed (first_seen [] keyed.items)) (keyed_fine (m.keyed f) [] v.items v.ending h)
+
 -- a value of a list of fine ones, and what stands of it behind a join
 one_fine : {T : Type 0} (hubs : List (Stream T)) (hub : ℕ) → All (λ (v : Stream T). Fine v.ending) hubs → AllFine (slice_get hubs hub)
 one_fine {T} hubs hub h = elim ((slice_get_cases hubs hub).1) [
@@ -360,6 +407,8 @@ node_fine w fine (layer.Items v) kids at leaf = quiet_fine (slice_get w.notes at
 node_fine w fine (layer.Range a n) kids at leaf = quiet_fine (slice_get w.notes at) (Some (listed (range_items w.meaning a n))) (λ p. cc)
 node_fine w fine (layer.Hub h) kids at leaf = quiet_fine (slice_get w.notes at) (joined_value w h.0 leaf) (behind_fine (slice_get w.hubs h.0) (slice_get w.joins leaf) (one_fine w.hubs h.0 fine))
 node_fine w fine (layer.Plain g b) kids at leaf = quiet_fine (slice_get w.notes at) (option_map (plain w.meaning g) (b.value.value (at + 1) leaf)) (below_fine w.meaning g (b.value.value (at + 1) leaf) (kids.0 (at + 1) leaf))
+node_fine w fine (layer.Group f gs b) kids at leaf = chosen_fine (slice_get w.notes at) (λ cs. option_and_then (group_by w.meaning f gs.items cs) (b.value.value (at + 1) leaf)) (λ cs. group_fine w.meaning f gs.items cs (b.value.value (at + 1) leaf) (kids.0 (at + 1) leaf))
+node_fine w fine (layer.Flat f c gs b) kids at leaf = chosen_fine (slice_get w.notes at) (λ cs. option_and_then (flat_map w.meaning f gs.items cs) (b.value.value (at + 1) leaf)) (λ cs. flat_fine w.meaning f gs.items cs (b.value.value (at + 1) leaf) (kids.0 (at + 1) leaf))
 node_fine w fine (layer.Window n gs b) kids at leaf = quiet_fine (slice_get w.notes at) (option_map (window w.meaning n gs.items) (b.value.value (at + 1) leaf)) (window_fine w.meaning n gs.items (b.value.value (at + 1) leaf) (kids.0 (at + 1) leaf))
 node_fine w fine (layer.On k p b) kids at leaf = quiet_fine (slice_get w.notes at) (b.value.value (at + 1) leaf) (kids.0 (at + 1) leaf)
 node_fine w fine (layer.Concat v) kids at leaf =

@@ -4,6 +4,8 @@ use Rattle.std.proofs.Common.{◌≡◌, ◌∙◌, ℕ, suc, ◌+◌, Bool, tru
 use Rattle.std.proofs.lemmas.Option.{slice_get_within, get_or_from_slice_get}
 use Rattle.std.proofs.Math.Seq.{drop-cons, drop-length}
 use Rattle.rsx_choices.specs.Merge.{merge}
+use Rattle.rsx_lanes.specs.Flat.{flat_map}
+use Rattle.rsx_lanes.specs.Group.{group_by}
 use Rattle.rsx_joining.specs.Latest.{combine_latest}
 use Rattle.rsx_joining.specs.Zip.{zip}
 use Rattle.rsx_types.specs.declared.note.Note.{Note}
@@ -28,7 +30,9 @@ is_of_kind-map h (layer.Concat v) n = refl
 is_of_kind-map h (layer.Merge p v) n = refl
 is_of_kind-map h (layer.Zip p v) n = refl
 is_of_kind-map h (layer.Latest p v) n = refl
+is_of_kind-map h (layer.Group f gs b) n = refl
 is_of_kind-map h (layer.Window k gs b) n = refl
+is_of_kind-map h (layer.Flat f c gs b) n = refl
 is_of_kind-map h (layer.On k p b) n = refl
 
 behind_kind-map : {T A B : Type 0} (h : A → B) (x : Expr-F T A) (ns : List Note) → behind_kind (is_of_kind (map-Expr T A B h x)) ns ≡ behind_kind (is_of_kind x) ns
@@ -94,6 +98,12 @@ node_shown w (layer.Concat v) at leaf s h =
     (q.0, q.1, q.2, (vs.0, vs.1))
 node_shown w (layer.Merge p v) at leaf s h = of_chosen (slice_get w.notes at) merge (in_order v.items (at + 1) leaf) s h
 node_shown w (layer.Zip p v) at leaf s h = of_record (slice_get w.notes at) (zip w.meaning.row_of) (in_order v.items (at + 1) leaf) s h
+node_shown w (layer.Group f gs b) at leaf s h =
+    let q = of_chosen (slice_get w.notes at) (group_by w.meaning f gs.items) (b.value.value (at + 1) leaf) s h in
+    (q.0, q.1, q.2, (q.3.0 ∷ [], one_value (b.value.value (at + 1) leaf) q.3.0 q.3.1))
+node_shown w (layer.Flat f c gs b) at leaf s h =
+    let q = of_chosen (slice_get w.notes at) (flat_map w.meaning f gs.items) (b.value.value (at + 1) leaf) s h in
+    (q.0, q.1, q.2, (q.3.0 ∷ [], one_value (b.value.value (at + 1) leaf) q.3.0 q.3.1))
 node_shown w (layer.Window n gs b) at leaf s h =
     let q = of_quiet (slice_get w.notes at) _ s h in
     let v = of_map _ (b.value.value (at + 1) leaf) s q.3 in

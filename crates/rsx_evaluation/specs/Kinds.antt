@@ -3,7 +3,7 @@ use Rattle.std.specs.Prelude.{◌≡◌, Bool, true, false, if◌then◌else◌,
 use Rattle.rsx_types.specs.declared.note.Note.{Note}
 use Rattle.rsx_types.specs.declared.note.Note.TheVariants.{Nothing, Picks, Ended}
 use Rattle.rsx_model.specs.declared.expr.Expr.{Expr}
-use Rattle.rsx_model.specs.declared.expr.Expr.TheOpen.{Expr-F, Items, Range, Hub, Plain, Concat, Merge, Zip, Latest, Window, On}
+use Rattle.rsx_model.specs.declared.expr.Expr.TheOpen.{Expr-F, Items, Range, Hub, Plain, Concat, Merge, Zip, Latest, Group, Window, Flat, On}
 use Rattle.rsx_model.specs.declared.expr.Expr.TheFolds.{fold-Expr}
 use Rattle.rsx_model.specs.Shape.{children}
 
@@ -32,7 +32,9 @@ is_of_kind (Concat v) n = is_nothing n
 is_of_kind (Merge p v) n = is_picks n
 is_of_kind (Zip p v) n = is_ended n
 is_of_kind (Latest p v) n = is_picks n
+is_of_kind (Group f gs b) n = is_picks n
 is_of_kind (Window k gs b) n = is_nothing n
+is_of_kind (Flat f c gs b) n = is_picks n
 is_of_kind (On k p b) n = is_nothing n
 
 -- the notes behind the first, where that one is of the kind

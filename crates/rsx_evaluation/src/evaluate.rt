@@ -3,7 +3,6 @@
 ghost use Rattle.std.specs.Prelude.{◌≡◌, ◌⊎◌, ◌≤◌, ◌<◌, ◌+◌, ◌^◌, ◌+ℤ◌, ◌≤ℤ◌, pos, length, map, Option, Some, None, option_map, codes};
 ghost use Rattle.rsx_types.specs.Stream.{Stream};
 ghost use Rattle.rsx_types.specs.Plain.{plain, listed, range_items};
-ghost use Rattle.rsx_lanes.specs.Window.{window};
 ghost use Rattle.rsx_evaluation.specs.declared.evaluate.Trouble.TheVariants.{OutOfMemory};
 ghost use Rattle.rsx_model.specs.Shape.{children, nodes, leaves, sum_of};
 ghost use Rattle.rsx_model.specs.declared.expr.Expr.TheViews.{out-Expr};
@@ -12,8 +11,8 @@ ghost use Rattle.rsx_model.specs.Eval.{environment, meant, in_order, quiet, behi
 ghost use Rattle.rsx_evaluation.specs.Answer.{Gives, GivesAll, IsScratch, alone, name_codes};
 
 use crate::kinds::are_noted;
+use crate::lanes::{flat_of, group_of, window_of};
 use crate::several::{concat_of, latest_of, merge_of, zip_of};
-use rsx_lanes::window;
 use rsx_model::{
     BadExpr, Below, Expr, MOST_COUNT, MOST_NODES, below_of, leaves_of, nodes_of, refusal_of,
 };
@@ -213,9 +212,11 @@ fn node_value_of<O: Ops>(
         Expr::Merge(_, _) => merge_of(alloc, note, values),
         Expr::Zip(_, _) => zip_of(alloc, ops, note, values),
         Expr::Latest(_, _) => latest_of(alloc, ops, note, values),
+        Expr::Group(f, stages, _) => group_of(alloc, ops, *f, stages, note, values),
         Expr::Window(size, stages, _) => {
             if_quiet(note, window_of(alloc, ops, *size, stages, values))
         }
+        Expr::Flat(f, _, stages, _) => flat_of(alloc, ops, *f, stages, note, values),
         Expr::On(_, _, _) => if_quiet(note, only_of(values)),
     }
 }
@@ -289,25 +290,10 @@ fn plain_of<O: Ops>(
     }
 }
 
-/// The value of `window` over the value of its only input; what is wrong with the input is wrong here.
-fn window_of<O: Ops>(
-    alloc: Global,
-    ops: &O,
-    size: u64,
-    stages: &[Stage<O::Item>],
-    values: Result<Vec<StreamValue<O::Item>>, Trouble>,
-) -> Result<StreamValue<O::Item>, Trouble>
-    ensures { (o : Option (Stream O.Item)) → GivesAll values (alone o) → Gives result (option_map (window (O.meaning ops.now) size stages.now) o) }
-{
-    let mut values = values?;
-    match values.pop() {
-        Some(value) => Ok(window(alloc, ops, size, stages, value)?),
-        None => Err(Trouble::BadNotes),
-    }
-}
-
 /// The value of the only input, unchanged; what is wrong with the input is wrong here.
-fn only_of<T: Drop>(values: Result<Vec<StreamValue<T>>, Trouble>) -> Result<StreamValue<T>, Trouble>
+pub(crate) fn only_of<T: Drop>(
+    values: Result<Vec<StreamValue<T>>, Trouble>,
+) -> Result<StreamValue<T>, Trouble>
     ensures { (o : Option (Stream T)) → GivesAll values (alone o) → Gives result o }
 {
     let mut values = values?;

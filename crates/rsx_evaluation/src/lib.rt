@@ -8,6 +8,7 @@
 
 mod evaluate;
 mod kinds;
+mod lanes;
 mod law;
 mod several;
 

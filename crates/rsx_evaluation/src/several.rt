@@ -121,7 +121,7 @@ fn numbered_inputs<T: Drop>(
 }
 
 /// The value, unless the choices or the recorded ending that it follows were invalid.
-fn if_valid<T: Drop>(value: Option<StreamValue<T>>) -> Result<StreamValue<T>, Trouble>
+pub(crate) fn if_valid<T: Drop>(value: Option<StreamValue<T>>) -> Result<StreamValue<T>, Trouble>
     ensures { Gives result value }
 {
     match value {

@@ -43,6 +43,7 @@ impl<T: Drop> FlatMapNode<T> {
     ghost use Rattle.std.specs.Prelude.{◌≡◌, ◌≤◌, ◌<◌, ◌&&◌, [], ◌∷◌, OnOk, OnErr};
     ghost use Rattle.rsx_lanes.specs.declared.limits.TheConstants.{MAIN};
     ghost use Rattle.rsx_sources.specs.Slot.{is_nil};
+    ghost use Rattle.rsx_queued.specs.declared.output.Output.TheVariants.{Empty};
     ghost use Rattle.rsx_flat_map.specs.FlatMap.{GivesFlatMap, IsGoing, with_lane, with_main};
 
     /// The node at which nothing came in. It takes no memory.
@@ -56,6 +57,8 @@ impl<T: Drop> FlatMapNode<T> {
         ensures counted { 1 ≤ concurrency → IsGoing result (0 ∷ []) 0 }
         ensures concurrency { result.concurrency ≡ concurrency }
         ensures choices { result.choices ≡ [] }
+        ensures next { result.next ≡ 0 }
+        ensures nothing { result.output ≡ Empty }
     {
         FlatMapNode {
             expansion: Expansion { function, stages },

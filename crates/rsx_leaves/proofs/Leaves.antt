@@ -23,7 +23,9 @@ reads_here-map n h (layer.Concat v) = refl
 reads_here-map n h (layer.Merge p v) = refl
 reads_here-map n h (layer.Zip p v) = refl
 reads_here-map n h (layer.Latest p v) = refl
+reads_here-map n h (layer.Group f gs b) = refl
 reads_here-map n h (layer.Window k gs b) = refl
+reads_here-map n h (layer.Flat f c gs b) = refl
 reads_here-map n h (layer.On k p b) = refl
 
 leaves_out : {T : Type 0} (n : ℕ) (e : Expr T) → leaves_on n e ≡ reads_here n (out-Expr T e) + sum_of (map (leaves_on n) (children (out-Expr T e)))
@@ -85,7 +87,9 @@ reads_le n (layer.Concat v) = omega arith
 reads_le n (layer.Merge p v) = omega arith
 reads_le n (layer.Zip p v) = omega arith
 reads_le n (layer.Latest p v) = omega arith
+reads_le n (layer.Group f gs b) = omega arith
 reads_le n (layer.Window k gs b) = omega arith
+reads_le n (layer.Flat f c gs b) = omega arith
 reads_le n (layer.On k p b) = omega arith
 
 pub leaves_le : {T : Type 0} (n : ℕ) (e : Expr T) → leaves_on n e ≤ nodes e

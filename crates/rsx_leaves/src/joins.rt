@@ -50,7 +50,9 @@ fn add_joins<T: Drop>(expr: &Expr<T>, hubs: &[Hub<T>], joins: &mut Vec<u64>) -> 
         Expr::Merge(_, inputs) => add_joins_of(inputs, hubs, joins),
         Expr::Zip(_, inputs) => add_joins_of(inputs, hubs, joins),
         Expr::Latest(_, inputs) => add_joins_of(inputs, hubs, joins),
+        Expr::Group(_, _, input) => add_joins(input, hubs, joins),
         Expr::Window(_, _, input) => add_joins(input, hubs, joins),
+        Expr::Flat(_, _, _, input) => add_joins(input, hubs, joins),
         Expr::On(_, _, input) => add_joins(input, hubs, joins),
     }
 }

@@ -25,7 +25,9 @@ fn leaves_on<T>(expr: &Expr<T>, hub: u32) -> u64
         Expr::Merge(_, inputs) => leaves_on_all(inputs, hub),
         Expr::Zip(_, inputs) => leaves_on_all(inputs, hub),
         Expr::Latest(_, inputs) => leaves_on_all(inputs, hub),
+        Expr::Group(_, _, input) => leaves_on(input, hub),
         Expr::Window(_, _, input) => leaves_on(input, hub),
+        Expr::Flat(_, _, _, input) => leaves_on(input, hub),
         Expr::On(_, _, input) => leaves_on(input, hub),
     }
 }

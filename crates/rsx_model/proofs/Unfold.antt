@@ -11,6 +11,8 @@ use Rattle.rsx_model.specs.declared.check.BadExpr.{BadExpr}
 use Rattle.rsx_model.specs.declared.check.BadExpr.TheVariants.{Depth, Nodes, Inputs, Number, Hub as NoSuchHub, Length}
 use Rattle.rsx_choices.specs.Concat.{concat}
 use Rattle.rsx_choices.specs.Merge.{merge}
+use Rattle.rsx_lanes.specs.Flat.{flat_map}
+use Rattle.rsx_lanes.specs.Group.{group_by}
 use Rattle.rsx_lanes.specs.Window.{window}
 use Rattle.rsx_joining.specs.Latest.{combine_latest}
 use Rattle.rsx_joining.specs.Zip.{zip}
@@ -20,9 +22,9 @@ use Rattle.rsx_model.specs.declared.expr.Expr.TheOpen.{Expr-F}
 use Rattle.rsx_model.specs.declared.expr.Expr.TheOpen as layer
 use Rattle.rsx_model.specs.declared.expr.Expr.TheFolds.{map-Expr, fold_out-Expr, ind-Expr}
 use Rattle.rsx_model.specs.declared.expr.Expr.TheVariants.{Items, Range, Hub}
-use Rattle.rsx_model.specs.declared.expr.Expr.TheViews.{Plain, Concat, Merge, Zip, Latest, Window, On, outs-Items, outs-Range, outs-Hub, outs-Plain, outs-Concat, outs-Merge, outs-Zip, outs-Latest, outs-Window, outs-On, rolls-Items, rolls-Range, rolls-Hub, rolls-Plain, rolls-Concat, rolls-Merge, rolls-Zip, rolls-Latest, rolls-Window, rolls-On, roll-out-Expr, out-Expr, roll-Expr, out-roll-Expr}
+use Rattle.rsx_model.specs.declared.expr.Expr.TheViews.{Plain, Concat, Merge, Zip, Latest, Group, Window, Flat, On, outs-Items, outs-Range, outs-Hub, outs-Plain, outs-Concat, outs-Merge, outs-Zip, outs-Latest, outs-Group, outs-Window, outs-Flat, outs-On, rolls-Items, rolls-Range, rolls-Hub, rolls-Plain, rolls-Concat, rolls-Merge, rolls-Zip, rolls-Latest, rolls-Group, rolls-Window, rolls-Flat, rolls-On, roll-out-Expr, out-Expr, roll-Expr, out-roll-Expr}
 use Rattle.rsx_model.specs.Shape.{children, leaf_here, sum_of, max_of, nodes, depth, leaves}
-use Rattle.rsx_model.specs.Check.{own_fault, queued_fault, window_fault, or_else, first_of, first_fault, unless, range_fits, stage_fits, inputs_fit, worker_fits, refusal}
+use Rattle.rsx_model.specs.Check.{own_fault, queued_fault, window_fault, chain_fault, flat_fault, or_else, first_of, first_fault, unless, range_fits, stage_fits, inputs_fit, worker_fits, refusal}
 use Rattle.rsx_model.specs.Eval.{Environment, Meant, quiet, chosen, ended_by_record, behind, joined_value, in_order, node_value, node_meant, meant}
 
 -- ---- a node and its children
@@ -36,7 +38,9 @@ own_fault-map hubs h (layer.Concat v) = ap (λ n. unless (inputs_fit n) Inputs) 
 own_fault-map hubs h (layer.Merge p v) = ap (queued_fault p) (length-map v.items h)
 own_fault-map hubs h (layer.Zip p v) = ap (queued_fault p) (length-map v.items h)
 own_fault-map hubs h (layer.Latest p v) = ap (queued_fault p) (length-map v.items h)
+own_fault-map hubs h (layer.Group f gs b) = refl
 own_fault-map hubs h (layer.Window n gs b) = refl
+own_fault-map hubs h (layer.Flat f c gs b) = refl
 own_fault-map hubs h (layer.On k p b) = refl
 
 leaf_here-map : {T A B : Type 0} (h : A → B) (x : Expr-F T A) → leaf_here (map-Expr T A B h x) ≡ leaf_here x
@@ -48,7 +52,9 @@ leaf_here-map h (layer.Concat v) = refl
 leaf_here-map h (layer.Merge p v) = refl
 leaf_here-map h (layer.Zip p v) = refl
 leaf_here-map h (layer.Latest p v) = refl
+leaf_here-map h (layer.Group f gs b) = refl
 leaf_here-map h (layer.Window n gs b) = refl
+leaf_here-map h (layer.Flat f c gs b) = refl
 leaf_here-map h (layer.On k p b) = refl
 
 -- the children's answers
@@ -61,7 +67,9 @@ children-map h (layer.Concat v) = refl
 children-map h (layer.Merge p v) = refl
 children-map h (layer.Zip p v) = refl
 children-map h (layer.Latest p v) = refl
+children-map h (layer.Group f gs b) = refl
 children-map h (layer.Window n gs b) = refl
+children-map h (layer.Flat f c gs b) = refl
 children-map h (layer.On k p b) = refl
 
 pub nodes_out : {T : Type 0} (e : Expr T) → nodes e ≡ 1 + sum_of (map nodes (children (out-Expr T e)))
@@ -163,8 +171,14 @@ nodes_Zip p v = rw (nodes_out, outs-Zip) refl
 pub nodes_Latest : {T : Type 0} (p : ℕ) (v : Several T) → nodes (Latest p v) ≡ 1 + sum_of (map nodes v.items)
 nodes_Latest p v = rw (nodes_out, outs-Latest) refl
 
+pub nodes_Group : {T : Type 0} (f : ℕ) (gs : Stages T) (b : Below T) → nodes (Group f gs b) ≡ 1 + nodes b.value
+nodes_Group f gs b = rw (nodes_out, outs-Group) (omega arith)
+
 pub nodes_Window : {T : Type 0} (n : ℕ) (gs : Stages T) (b : Below T) → nodes (Window n gs b) ≡ 1 + nodes b.value
 nodes_Window n gs b = rw (nodes_out, outs-Window) (omega arith)
+
+pub nodes_Flat : {T : Type 0} (f c : ℕ) (gs : Stages T) (b : Below T) → nodes (Flat f c gs b) ≡ 1 + nodes b.value
+nodes_Flat f c gs b = rw (nodes_out, outs-Flat) (omega arith)
 
 pub nodes_On : {T : Type 0} (k p : ℕ) (b : Below T) → nodes (On k p b) ≡ 1 + nodes b.value
 nodes_On k p b = rw (nodes_out, outs-On) (omega arith)
@@ -193,8 +207,14 @@ depth_Zip p v = rw (depth_out, outs-Zip) refl
 pub depth_Latest : {T : Type 0} (p : ℕ) (v : Several T) → depth (Latest p v) ≡ 1 + max_of (map depth v.items)
 depth_Latest p v = rw (depth_out, outs-Latest) refl
 
+pub depth_Group : {T : Type 0} (f : ℕ) (gs : Stages T) (b : Below T) → depth (Group f gs b) ≡ 1 + depth b.value
+depth_Group f gs b = rw (depth_out, outs-Group) (omega arith)
+
 pub depth_Window : {T : Type 0} (n : ℕ) (gs : Stages T) (b : Below T) → depth (Window n gs b) ≡ 1 + depth b.value
 depth_Window n gs b = rw (depth_out, outs-Window) (omega arith)
+
+pub depth_Flat : {T : Type 0} (f c : ℕ) (gs : Stages T) (b : Below T) → depth (Flat f c gs b) ≡ 1 + depth b.value
+depth_Flat f c gs b = rw (depth_out, outs-Flat) (omega arith)
 
 pub depth_On : {T : Type 0} (k p : ℕ) (b : Below T) → depth (On k p b) ≡ 1 + depth b.value
 depth_On k p b = rw (depth_out, outs-On) (omega arith)
@@ -223,8 +243,14 @@ leaves_Zip p v = rw (leaves_out, outs-Zip) (omega arith)
 pub leaves_Latest : {T : Type 0} (p : ℕ) (v : Several T) → leaves (Latest p v) ≡ sum_of (map leaves v.items)
 leaves_Latest p v = rw (leaves_out, outs-Latest) (omega arith)
 
+pub leaves_Group : {T : Type 0} (f : ℕ) (gs : Stages T) (b : Below T) → leaves (Group f gs b) ≡ leaves b.value
+leaves_Group f gs b = rw (leaves_out, outs-Group) (omega arith)
+
 pub leaves_Window : {T : Type 0} (n : ℕ) (gs : Stages T) (b : Below T) → leaves (Window n gs b) ≡ leaves b.value
 leaves_Window n gs b = rw (leaves_out, outs-Window) (omega arith)
+
+pub leaves_Flat : {T : Type 0} (f c : ℕ) (gs : Stages T) (b : Below T) → leaves (Flat f c gs b) ≡ leaves b.value
+leaves_Flat f c gs b = rw (leaves_out, outs-Flat) (omega arith)
 
 pub leaves_On : {T : Type 0} (k p : ℕ) (b : Below T) → leaves (On k p b) ≡ leaves b.value
 leaves_On k p b = rw (leaves_out, outs-On) (omega arith)
@@ -253,8 +279,14 @@ first_fault_Zip hubs p v = rw (fault_out, outs-Zip) refl
 pub first_fault_Latest : {T : Type 0} (hubs p : ℕ) (v : Several T) → first_fault hubs (Latest p v) ≡ or_else (queued_fault p (length v.items)) (first_of (map (first_fault hubs) v.items))
 first_fault_Latest hubs p v = rw (fault_out, outs-Latest) refl
 
+pub first_fault_Group : {T : Type 0} (hubs f : ℕ) (gs : Stages T) (b : Below T) → first_fault hubs (Group f gs b) ≡ or_else (chain_fault gs.items) (first_fault hubs b.value)
+first_fault_Group hubs f gs b = rw (fault_out, outs-Group) (ap (or_else (chain_fault gs.items)) (or_else-nothing _))
+
 pub first_fault_Window : {T : Type 0} (hubs n : ℕ) (gs : Stages T) (b : Below T) → first_fault hubs (Window n gs b) ≡ or_else (window_fault n gs.items) (first_fault hubs b.value)
 first_fault_Window hubs n gs b = rw (fault_out, outs-Window) (ap (or_else (window_fault n gs.items)) (or_else-nothing _))
+
+pub first_fault_Flat : {T : Type 0} (hubs f c : ℕ) (gs : Stages T) (b : Below T) → first_fault hubs (Flat f c gs b) ≡ or_else (flat_fault c gs.items) (first_fault hubs b.value)
+first_fault_Flat hubs f c gs b = rw (fault_out, outs-Flat) (ap (or_else (flat_fault c gs.items)) (or_else-nothing _))
 
 pub first_fault_On : {T : Type 0} (hubs k p : ℕ) (b : Below T) → first_fault hubs (On k p b) ≡ or_else (unless (worker_fits k p) Number) (first_fault hubs b.value)
 first_fault_On hubs k p b = rw (fault_out, outs-On) (ap (or_else (unless (worker_fits k p) Number)) (or_else-nothing _))
@@ -283,8 +315,14 @@ value_Zip w p v at leaf = rw (value_out, outs-Zip) refl
 pub value_Latest : {T : Type 0} (w : Environment T) (p : ℕ) (v : Several T) (at leaf : ℕ) → (meant w (Latest p v)).value at leaf ≡ chosen (slice_get w.notes at) (λ cs. option_and_then (combine_latest w.meaning.row_of cs) (in_order (map (meant w) v.items) (at + 1) leaf))
 value_Latest w p v at leaf = rw (value_out, outs-Latest) refl
 
+pub value_Group : {T : Type 0} (w : Environment T) (f : ℕ) (gs : Stages T) (b : Below T) (at leaf : ℕ) → (meant w (Group f gs b)).value at leaf ≡ chosen (slice_get w.notes at) (λ cs. option_and_then (group_by w.meaning f gs.items cs) ((meant w b.value).value (at + 1) leaf))
+value_Group w f gs b at leaf = rw (value_out, outs-Group) refl
+
 pub value_Window : {T : Type 0} (w : Environment T) (n : ℕ) (gs : Stages T) (b : Below T) (at leaf : ℕ) → (meant w (Window n gs b)).value at leaf ≡ quiet (slice_get w.notes at) (option_map (window w.meaning n gs.items) ((meant w b.value).value (at + 1) leaf))
 value_Window w n gs b at leaf = rw (value_out, outs-Window) refl
+
+pub value_Flat : {T : Type 0} (w : Environment T) (f c : ℕ) (gs : Stages T) (b : Below T) (at leaf : ℕ) → (meant w (Flat f c gs b)).value at leaf ≡ chosen (slice_get w.notes at) (λ cs. option_and_then (flat_map w.meaning f gs.items cs) ((meant w b.value).value (at + 1) leaf))
+value_Flat w f c gs b at leaf = rw (value_out, outs-Flat) refl
 
 pub value_On : {T : Type 0} (w : Environment T) (k p : ℕ) (b : Below T) (at leaf : ℕ) → (meant w (On k p b)).value at leaf ≡ quiet (slice_get w.notes at) ((meant w b.value).value (at + 1) leaf)
 value_On w k p b at leaf = rw (value_out, outs-On) refl
@@ -299,7 +337,9 @@ pub record ForEach {T : Type 0} (P : Expr T → Type 0) : Type 0 where
   pub merge : (p : ℕ) (v : Several T) → Each P v.items → P (Merge p v)
   pub zip : (p : ℕ) (v : Several T) → Each P v.items → P (Zip p v)
   pub latest : (p : ℕ) (v : Several T) → Each P v.items → P (Latest p v)
+  pub group : (f : ℕ) (gs : Stages T) (b : Below T) → P b.value → P (Group f gs b)
   pub window : (n : ℕ) (gs : Stages T) (b : Below T) → P b.value → P (Window n gs b)
+  pub flat : (f c : ℕ) (gs : Stages T) (b : Below T) → P b.value → P (Flat f c gs b)
   pub on : (k p : ℕ) (b : Below T) → P b.value → P (On k p b)
 
 node_case : {T : Type 0} (P : Expr T → Type 0) → ForEach P → (x : Expr-F T (Expr T)) → Each P (children x) → P (roll-Expr T x)
@@ -311,7 +351,9 @@ node_case P all (layer.Concat v) kids = subst P (sym (rolls-Concat v)) (all.conc
 node_case P all (layer.Merge p v) kids = subst P (sym (rolls-Merge p v)) (all.merge p v kids)
 node_case P all (layer.Zip p v) kids = subst P (sym (rolls-Zip p v)) (all.zip p v kids)
 node_case P all (layer.Latest p v) kids = subst P (sym (rolls-Latest p v)) (all.latest p v kids)
+node_case P all (layer.Group f gs b) kids = subst P (sym (rolls-Group f gs b)) (all.group f gs b kids.0)
 node_case P all (layer.Window n gs b) kids = subst P (sym (rolls-Window n gs b)) (all.window n gs b kids.0)
+node_case P all (layer.Flat f c gs b) kids = subst P (sym (rolls-Flat f c gs b)) (all.flat f c gs b kids.0)
 node_case P all (layer.On k p b) kids = subst P (sym (rolls-On k p b)) (all.on k p b kids.0)
 
 -- what holds of each variant, where it holds of the children, holds of every expression
@@ -341,7 +383,9 @@ leaf_here-le (layer.Concat v) = omega arith
 leaf_here-le (layer.Merge p v) = omega arith
 leaf_here-le (layer.Zip p v) = omega arith
 leaf_here-le (layer.Latest p v) = omega arith
+leaf_here-le (layer.Group f gs b) = omega arith
 leaf_here-le (layer.Window n gs b) = omega arith
+leaf_here-le (layer.Flat f c gs b) = omega arith
 leaf_here-le (layer.On k p b) = omega arith
 
 pub leaves_le_nodes : {T : Type 0} (e : Expr T) → leaves e ≤ nodes e
@@ -419,9 +463,17 @@ joined_there w hub leaf v is within = rw (slice_get-get_or w.joins leaf 0 within
 pub fault_below : {T : Type 0} (hubs : ℕ) (g : Stage T) (b : Below T) → first_fault hubs (Plain g b) ≡ None → first_fault hubs b.value ≡ None
 fault_below hubs g b h = (or_none (unless (stage_fits g) Number) (first_fault hubs b.value) (sym (first_fault_Plain hubs g b) ∙ h)).1
 
+-- the same of what stands under a `groupBy`, with a chain within its limits
+pub fault_Group : {T : Type 0} (hubs f : ℕ) (gs : Stages T) (b : Below T) → first_fault hubs (Group f gs b) ≡ None → (chain_fault gs.items ≡ None) × (first_fault hubs b.value ≡ None)
+fault_Group hubs f gs b h = or_none _ _ (sym (first_fault_Group hubs f gs b) ∙ h)
+
 -- the same of what stands under a `window`, with a size and a chain within their limits
 pub fault_Window : {T : Type 0} (hubs n : ℕ) (gs : Stages T) (b : Below T) → first_fault hubs (Window n gs b) ≡ None → (window_fault n gs.items ≡ None) × (first_fault hubs b.value ≡ None)
 fault_Window hubs n gs b h = or_none _ _ (sym (first_fault_Window hubs n gs b) ∙ h)
+
+-- the same of what stands under a `flatMap`, with a concurrency and a chain within their limits
+pub fault_Flat : {T : Type 0} (hubs f c : ℕ) (gs : Stages T) (b : Below T) → first_fault hubs (Flat f c gs b) ≡ None → (flat_fault c gs.items ≡ None) × (first_fault hubs b.value ≡ None)
+fault_Flat hubs f c gs b h = or_none _ _ (sym (first_fault_Flat hubs f c gs b) ∙ h)
 
 -- the same of what stands under a `publishOn`, of a worker and a prefetch within their limits
 pub fault_On : {T : Type 0} (hubs k p : ℕ) (b : Below T) → first_fault hubs (On k p b) ≡ None → (unless (worker_fits k p) Number ≡ None) × (first_fault hubs b.value ≡ None)

@@ -3,11 +3,11 @@ use Rattle.std.specs.Prelude.{ℕ, ℤ, pos, ◌+ℤ◌, ◌^◌, Bool, true, fa
 use Rattle.rsx_types.specs.declared.stage.Stage.{Stage}
 use Rattle.rsx_types.specs.declared.stage.Stage.TheVariants.{Map, Filter, Take, Scan, Buffer, Distinct}
 use Rattle.rsx_model.specs.declared.expr.Expr.{Expr}
-use Rattle.rsx_model.specs.declared.expr.Expr.TheOpen.{Expr-F, Items, Range, Hub, Plain, Concat, Merge, Zip, Latest, Window, On}
+use Rattle.rsx_model.specs.declared.expr.Expr.TheOpen.{Expr-F, Items, Range, Hub, Plain, Concat, Merge, Zip, Latest, Group, Window, Flat, On}
 use Rattle.rsx_model.specs.declared.expr.Expr.TheFolds.{fold-Expr}
 use Rattle.rsx_types.specs.declared.limits.TheConstants.{MOST_ITEMS}
 use Rattle.rsx_model.specs.declared.check.BadExpr.{BadExpr}
-use Rattle.rsx_model.specs.declared.check.TheConstants.{MOST_DEPTH, MOST_NODES, MOST_COUNT, MOST_INPUTS, MOST_PREFETCH, MOST_STAGES, MOST_WINDOW, MOST_WORKER}
+use Rattle.rsx_model.specs.declared.check.TheConstants.{MOST_DEPTH, MOST_NODES, MOST_COUNT, MOST_INPUTS, MOST_PREFETCH, MOST_STAGES, MOST_WINDOW, MOST_CONCURRENCY, MOST_WORKER}
 use Rattle.rsx_model.specs.declared.check.BadExpr.TheVariants.{Depth, Nodes, Inputs, Number, Chain, Hub as NoSuchHub, Length}
 use Rattle.rsx_model.specs.Shape.{children, nodes, depth}
 
@@ -62,6 +62,10 @@ chain_fits gs = nat_le (length gs) MOST_STAGES && stages_fit gs
 abbrev pub window_fits : ℕ → Bool
 window_fits n = nat_le 1 n && nat_le n MOST_WINDOW
 
+-- a concurrency of 1 to 64
+abbrev pub concurrency_fits : ℕ → Bool
+concurrency_fits c = nat_le 1 c && nat_le c MOST_CONCURRENCY
+
 -- 1 to 16 inputs
 abbrev pub inputs_fit : ℕ → Bool
 inputs_fit n = nat_le 1 n && nat_le n MOST_INPUTS
@@ -86,6 +90,10 @@ chain_fault gs = unless (chain_fits gs) Chain
 abbrev pub window_fault : {T : Type 0} → ℕ → List (Stage T) → Option BadExpr
 window_fault n gs = or_else (unless (window_fits n) Number) (chain_fault gs)
 
+-- what is wrong with a node of this concurrency, whose lanes go each through a chain of these operators
+abbrev pub flat_fault : {T : Type 0} → ℕ → List (Stage T) → Option BadExpr
+flat_fault c gs = or_else (unless (concurrency_fits c) Number) (chain_fault gs)
+
 -- what is wrong with one node where there are so many hubs, leaving out its children
 abbrev pub own_fault : {T A : Type 0} → ℕ → Expr-F T A → Option BadExpr
 own_fault hubs (Items v) = unless (nat_le (length v.items) MOST_ITEMS) Length
@@ -96,7 +104,9 @@ own_fault hubs (Concat v) = unless (inputs_fit (length v.items)) Inputs
 own_fault hubs (Merge p v) = queued_fault p (length v.items)
 own_fault hubs (Zip p v) = queued_fault p (length v.items)
 own_fault hubs (Latest p v) = queued_fault p (length v.items)
+own_fault hubs (Group f gs b) = chain_fault gs.items
 own_fault hubs (Window n gs b) = window_fault n gs.items
+own_fault hubs (Flat f c gs b) = flat_fault c gs.items
 own_fault hubs (On k p b) = unless (worker_fits k p) Number
 
 -- what is wrong with the first faulty node in pre-order

@@ -5,13 +5,15 @@ pub use Rattle.rsx_types.specs.Meaning.{Meaning}
 pub use Rattle.rsx_types.specs.Plain.{plain, listed, range_items}
 use Rattle.rsx_choices.specs.Concat.{concat}
 use Rattle.rsx_choices.specs.Merge.{merge}
+use Rattle.rsx_lanes.specs.Flat.{flat_map}
+use Rattle.rsx_lanes.specs.Group.{group_by}
 use Rattle.rsx_lanes.specs.Window.{window}
 use Rattle.rsx_joining.specs.Latest.{combine_latest}
 use Rattle.rsx_joining.specs.Zip.{zip}
 use Rattle.rsx_types.specs.declared.note.Note.{Note}
 use Rattle.rsx_types.specs.declared.note.Note.TheVariants.{Nothing, Picks, Ended}
 use Rattle.rsx_model.specs.declared.expr.Expr.{Expr}
-use Rattle.rsx_model.specs.declared.expr.Expr.TheOpen.{Expr-F, Items, Range, Hub, Plain, Concat, Merge, Zip, Latest, Window, On}
+use Rattle.rsx_model.specs.declared.expr.Expr.TheOpen.{Expr-F, Items, Range, Hub, Plain, Concat, Merge, Zip, Latest, Group, Window, Flat, On}
 use Rattle.rsx_model.specs.declared.expr.Expr.TheFolds.{fold-Expr}
 use Rattle.rsx_model.specs.Shape.{children, sum_of, leaf_here}
 
@@ -45,7 +47,7 @@ quiet (Some Nothing) o = o
 quiet (Some (Picks cs)) o = None
 quiet (Some (Ended i)) o = None
 
--- the value of a node that picks among its inputs, by the choices that were recorded: none where something else was recorded
+-- the value of a node that picks among its inputs or lanes, by the choices that were recorded: none where something else was recorded
 abbrev pub chosen : {A : Type 0} → Option Note → (List ℕ → Option A) → Option A
 chosen None f = None
 chosen (Some Nothing) f = None
@@ -81,8 +83,12 @@ node_value w (Zip p v) at leaf =
     ended_by_record (slice_get w.notes at) (λ i. option_and_then (zip w.meaning.row_of i) (in_order v.items (at + 1) leaf))
 node_value w (Latest p v) at leaf =
     chosen (slice_get w.notes at) (λ cs. option_and_then (combine_latest w.meaning.row_of cs) (in_order v.items (at + 1) leaf))
+node_value w (Group f gs b) at leaf =
+    chosen (slice_get w.notes at) (λ cs. option_and_then (group_by w.meaning f gs.items cs) (b.value.value (at + 1) leaf))
 node_value w (Window n gs b) at leaf =
     quiet (slice_get w.notes at) (option_map (window w.meaning n gs.items) (b.value.value (at + 1) leaf))
+node_value w (Flat f c gs b) at leaf =
+    chosen (slice_get w.notes at) (λ cs. option_and_then (flat_map w.meaning f gs.items cs) (b.value.value (at + 1) leaf))
 node_value w (On k p b) at leaf = quiet (slice_get w.notes at) (b.value.value (at + 1) leaf)
 
 -- what one node means, from what its children mean

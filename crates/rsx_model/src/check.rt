@@ -2,7 +2,7 @@
 
 ghost use Rattle.std.specs.Prelude.{◌≡◌, ◌+◌, min, map, nat_le, MatchResult, Some, None};
 ghost use Rattle.rsx_model.specs.Shape.{nodes, leaves, leaf_here, depth, sum_of, max_of};
-ghost use Rattle.rsx_model.specs.Check.{refusal, first_fault, first_of, own_fault, queued_fault, window_fault, chain_fault, stages_fit, inputs_fit, worker_fits, window_fits, unless, range_fits, stage_fits, kind_number};
+ghost use Rattle.rsx_model.specs.Check.{refusal, first_fault, first_of, own_fault, queued_fault, window_fault, flat_fault, chain_fault, stages_fit, inputs_fit, worker_fits, window_fits, concurrency_fits, unless, range_fits, stage_fits, kind_number};
 ghost use Rattle.rsx_model.specs.declared.expr.Expr.TheViews.{out-Expr};
 
 use crate::expr::{Below, Expr, below_of};
@@ -27,6 +27,9 @@ pub const MOST_PREFETCH: u64 = 1_024;
 /// The most items of one window.
 pub const MOST_WINDOW: u64 = 1_024;
 
+/// The most lanes that a `flatMap` has at a time.
+pub const MOST_CONCURRENCY: u64 = 64;
+
 /// The most operators of a chain that a node has for each of its lanes, as `window` for each window.
 pub const MOST_STAGES: u64 = 8;
 
@@ -48,7 +51,7 @@ pub enum BadExpr {
     Inputs,
     /// A number is out of its limit: a range of more than 1,000,000 numbers, or whose last one is above 2^63-1; a `take`
     /// of more than 1,000,000 items; a `buffer` whose lists aren't of 1 to 1,024 items; a prefetch that isn't 1 to 1,024; a
-    /// window whose size isn't 1 to 1,024; a worker's number above 15.
+    /// window whose size isn't 1 to 1,024; a concurrency that isn't 1 to 64; a worker's number above 15.
     #[error("a number is out of its limit")]
     Number,
     /// A chain of a node has more than 8 operators, or one of them has a number out of its limit.
@@ -188,7 +191,8 @@ fn own_leaf<T>(expr: &Expr<T>) -> u64
         Expr::Hub(_) => 1,
         Expr::Plain(_, _) | Expr::Concat(_) => 0,
         Expr::Merge(_, _) | Expr::Zip(_, _) | Expr::Latest(_, _) => 0,
-        Expr::Window(_, _, _) | Expr::On(_, _, _) => 0,
+        Expr::Group(_, _, _) | Expr::Window(_, _, _) | Expr::Flat(_, _, _, _) => 0,
+        Expr::On(_, _, _) => 0,
     }
 }
 
@@ -234,7 +238,9 @@ fn own_fault_of<T>(expr: &Expr<T>, hubs: u64) -> Option<BadExpr>
         Expr::Merge(prefetch, inputs) => queued_fault_of(*prefetch, inputs.len()),
         Expr::Zip(prefetch, inputs) => queued_fault_of(*prefetch, inputs.len()),
         Expr::Latest(prefetch, inputs) => queued_fault_of(*prefetch, inputs.len()),
+        Expr::Group(_, stages, _) => chain_fault_of(stages),
         Expr::Window(size, stages, _) => window_fault_of(*size, stages),
+        Expr::Flat(_, concurrency, stages, _) => flat_fault_of(*concurrency, stages),
         Expr::On(worker, prefetch, _) => unless_ok(is_worker(*worker, *prefetch), BadExpr::Number),
     }
 }
@@ -259,6 +265,16 @@ fn window_fault_of<T>(size: u64, stages: &[Stage<T>]) -> Option<BadExpr>
     chain_fault_of(stages)
 }
 
+/// What is wrong with a node of so many lanes at a time, each through a chain of these operators.
+fn flat_fault_of<T>(concurrency: u64, stages: &[Stage<T>]) -> Option<BadExpr>
+    ensures { result ≡ flat_fault concurrency stages.now }
+{
+    if !is_concurrency(concurrency) {
+        return Some(BadExpr::Number);
+    }
+    chain_fault_of(stages)
+}
+
 /// What is wrong with a chain of these operators.
 fn chain_fault_of<T>(stages: &[Stage<T>]) -> Option<BadExpr>
     ensures { result ≡ chain_fault stages.now }
@@ -274,6 +290,13 @@ fn is_window(size: u64) -> bool
     ensures { result ≡ window_fits size }
 {
     1 <= size && size <= MOST_WINDOW
+}
+
+/// Whether there may be so many lanes at a time.
+fn is_concurrency(concurrency: u64) -> bool
+    ensures { result ≡ concurrency_fits concurrency }
+{
+    1 <= concurrency && concurrency <= MOST_CONCURRENCY
 }
 
 /// Whether there may be a worker of this number, and this is a prefetch.

@@ -35,9 +35,17 @@ pub enum Expr<T> {
     /// A row of the latest items of the inputs at each item, once every input has had one; the order of the items is chosen and
     /// recorded (`combineLatest`). The number is the prefetch, as for `Merge`.
     Latest(u64, Vec<Expr<T>>),
+    /// What is below it by key (`groupBy`): the function of that number says each item's key, the items of a key go through a chain
+    /// of 0 to 8 plain operators, and each that comes out is tagged with its key. The order among the keys, of which there are at most
+    /// 1,024, is chosen and recorded.
+    Group(u16, Vec<Stage<T>>, Box<Expr<T>>),
     /// What is below it in windows of so many items, each through a chain of plain operators of its own, one window behind the other:
     /// 1 to 1,024 items, and 0 to 8 operators. A full window is done, and a shorter last one has the input's ending; none is empty.
     Window(u64, Vec<Stage<T>>, Box<Expr<T>>),
+    /// Each item below it expanded to a list by the function of the first number (`flatMap`), each list through a chain of 0 to 8
+    /// plain operators; the order among the lists is chosen and recorded. The second number is the concurrency, how many of the lists
+    /// are there at a time: 1 to 64.
+    Flat(u16, u64, Vec<Stage<T>>, Box<Expr<T>>),
     /// What is below it, unchanged, from a queue (`publishOn`). The first number is that of the worker that is to serve what
     /// stands over it, 0 to 15; it changes no value. The second is the prefetch, the room of the queue, as for `Merge`.
     On(u8, u64, Box<Expr<T>>),
@@ -65,7 +73,9 @@ pub fn below_of<T>(expr: &Expr<T>) -> Below<'_, T>
         Expr::Merge(_, inputs) => Below::Inputs(inputs),
         Expr::Zip(_, inputs) => Below::Inputs(inputs),
         Expr::Latest(_, inputs) => Below::Inputs(inputs),
+        Expr::Group(_, _, below) => Below::One(below),
         Expr::Window(_, _, below) => Below::One(below),
+        Expr::Flat(_, _, _, below) => Below::One(below),
         Expr::On(_, _, below) => Below::One(below),
     }
 }

@@ -11,8 +11,8 @@ mod check;
 mod expr;
 
 pub use check::{
-    BadExpr, MOST_COUNT, MOST_DEPTH, MOST_INPUTS, MOST_NODES, MOST_PREFETCH, MOST_STAGES,
-    MOST_WINDOW, MOST_WORKER, check_expr, leaves_of, nodes_of, refusal_of,
+    BadExpr, MOST_CONCURRENCY, MOST_COUNT, MOST_DEPTH, MOST_INPUTS, MOST_NODES, MOST_PREFETCH,
+    MOST_STAGES, MOST_WINDOW, MOST_WORKER, check_expr, leaves_of, nodes_of, refusal_of,
 };
 pub use expr::{Below, Expr, below_of};
 pub use rsx_types::{Choices, Note, Stage, StreamValue};

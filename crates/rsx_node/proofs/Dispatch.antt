@@ -23,8 +23,12 @@ use Rattle.rsx_publish_on.specs.PublishOn.{publish_comes_out, publish_waiting, p
 use Rattle.rsx_publish_on.specs.declared.node.PublishOnNode.{PublishOnNode}
 use Rattle.rsx_window.specs.Window.{window_comes_out, window_waiting, window_takes, window_ended, window_done, IsPoppedWindow, CountsItems}
 use Rattle.rsx_window.specs.declared.node.WindowNode.{WindowNode}
+use Rattle.rsx_flat_map.specs.FlatMap.{flat_comes_out, flat_waiting, flat_takes, flat_recorded, flat_ended, flat_done, flat_popped, IsGoing}
+use Rattle.rsx_flat_map.specs.declared.node.FlatMapNode.{FlatMapNode}
+use Rattle.rsx_group_by.specs.GroupBy.{group_comes_out, group_waiting, group_takes, group_recorded, group_ended, group_done, group_counted, IsPoppedGroup}
+use Rattle.rsx_group_by.specs.declared.node.GroupByNode.{GroupByNode}
 use Rattle.rsx_node.specs.declared.any_node.AnyNode.{AnyNode}
-use Rattle.rsx_node.specs.declared.any_node.AnyNode.TheVariants.{Source, Plain, Several, PublishOn, Window}
+use Rattle.rsx_node.specs.declared.any_node.AnyNode.TheVariants.{Source, Plain, Several, PublishOn, Window, FlatMap, GroupBy}
 use Rattle.rsx_node.specs.declared.source_node.SourceNode.{SourceNode}
 use Rattle.rsx_node.specs.declared.source_node.SourceNode.TheVariants.{Items, Range, Hub}
 use Rattle.rsx_node.specs.Any.{any_comes_out, any_popped, any_waiting, any_recorded, any_counted, any_ended, any_done, any_takes}
@@ -106,6 +110,14 @@ pub popped_window : {T : Type 0} (m : Meaning T) (old new : WindowNode T) (o : O
 popped_window m old new None h = (h.0, ap Window h.1)
 popped_window m old new (Some s) h = h
 
+pub popped_flat_map : {T : Type 0} (m : Meaning T) (old new : FlatMapNode T) (o : Option (Signal T)) → IsPopped (flat_comes_out m) flat_popped (flat_waiting m old) old o new → IsPopped (any_comes_out m) any_popped (flat_waiting m old) (FlatMap old) o (FlatMap new)
+popped_flat_map m old new None h = (h.0, ap FlatMap h.1)
+popped_flat_map m old new (Some s) h = h
+
+pub popped_group_by : {T : Type 0} (m : Meaning T) (old new : GroupByNode T) (o : Option (Signal T)) → IsPopped (group_comes_out m) IsPoppedGroup (group_waiting m old) old o new → IsPopped (any_comes_out m) any_popped (group_waiting m old) (GroupBy old) o (GroupBy new)
+popped_group_by m old new None h = (h.0, ap GroupBy h.1)
+popped_group_by m old new (Some s) h = h
+
 pub counted_plain : {T : Type 0} (old new : PlainNode T) (o : Option (Signal T)) → CountsOut plain_counted plain_ended (λ n i. false) old o new → CountsOut any_counted any_ended any_done (Plain old) o (Plain new)
 counted_plain old new None h = tt
 counted_plain old new (Some (Next x)) h = h
@@ -130,6 +142,18 @@ counted_window old new (Some (Next x)) h = h
 counted_window old new (Some Complete) h = tt
 counted_window old new (Some (Error c)) h = tt
 
+pub counted_flat_map : {T : Type 0} (old new : FlatMapNode T) (o : Option (Signal T)) → CountsOut IsGoing flat_ended flat_done old o new → CountsOut any_counted any_ended any_done (FlatMap old) o (FlatMap new)
+counted_flat_map old new None h = tt
+counted_flat_map old new (Some (Next x)) h = h
+counted_flat_map old new (Some Complete) h = tt
+counted_flat_map old new (Some (Error c)) h = tt
+
+pub counted_group_by : {T : Type 0} (old new : GroupByNode T) (o : Option (Signal T)) → CountsOut group_counted group_ended group_done old o new → CountsOut any_counted any_ended any_done (GroupBy old) o (GroupBy new)
+counted_group_by old new None h = tt
+counted_group_by old new (Some (Next x)) h = h
+counted_group_by old new (Some Complete) h = tt
+counted_group_by old new (Some (Error c)) h = tt
+
 pub taken_plain : {T : Type 0} (old new : PlainNode T) (i : ℕ) (s : Signal T) → CountsIn plain_counted plain_ended (λ n j. false) old i s new → CountsIn any_counted any_ended any_done (Plain old) i s (Plain new)
 taken_plain old new i s h = record { stays_ended = h.stays_ended; counts = h.counts; stays_done = h.stays_done; is_done = h.is_done }
 
@@ -142,43 +166,48 @@ taken_publish_on old new i s h = record { stays_ended = h.stays_ended; counts = 
 pub taken_window : {T : Type 0} (old new : WindowNode T) (i : ℕ) (s : Signal T) → CountsIn CountsItems window_ended window_done old i s new → CountsIn any_counted any_ended any_done (Window old) i s (Window new)
 taken_window old new i s h = record { stays_ended = h.stays_ended; counts = h.counts; stays_done = h.stays_done; is_done = h.is_done }
 
+pub taken_flat_map : {T : Type 0} (old new : FlatMapNode T) (i : ℕ) (s : Signal T) → CountsIn IsGoing flat_ended flat_done old i s new → CountsIn any_counted any_ended any_done (FlatMap old) i s (FlatMap new)
+taken_flat_map old new i s h = record { stays_ended = h.stays_ended; counts = h.counts; stays_done = h.stays_done; is_done = h.is_done }
+
+pub taken_group_by : {T : Type 0} (old new : GroupByNode T) (i : ℕ) (s : Signal T) → CountsIn group_counted group_ended group_done old i s new → CountsIn any_counted any_ended any_done (GroupBy old) i s (GroupBy new)
+taken_group_by old new i s h = record { stays_ended = h.stays_ended; counts = h.counts; stays_done = h.stays_done; is_done = h.is_done }
+
 pub stepped_several : {T : Type 0} (old new : SeveralNode T) → CountsStep several_counted several_ended several_done old new → CountsStep any_counted any_ended any_done (Several old) (Several new)
 stepped_several old new h = record { stays_ended = h.stays_ended; counts = h.counts; stays_done = h.stays_done }
 
+pub stepped_flat_map : {T : Type 0} (old new : FlatMapNode T) → CountsStep IsGoing flat_ended flat_done old new → CountsStep any_counted any_ended any_done (FlatMap old) (FlatMap new)
+stepped_flat_map old new h = record { stays_ended = h.stays_ended; counts = h.counts; stays_done = h.stays_done }
+
+pub stepped_group_by : {T : Type 0} (old new : GroupByNode T) → CountsStep group_counted group_ended group_done old new → CountsStep any_counted any_ended any_done (GroupBy old) (GroupBy new)
+stepped_group_by old new h = record { stays_ended = h.stays_ended; counts = h.counts; stays_done = h.stays_done }
+
 pub returned_plain : {T : Type 0} (before : AnyNode T) (s : Signal T) (n n' : PlainNode T) → any_popped before s (Plain n) → ((b : PlainNode T) → plain_popped b s n → n' ≡ b) → Plain n' ≡ before
-returned_plain (Source a) s n n' h k = absurd h
 returned_plain (Plain a) s n n' h k = ap Plain (k a h)
-returned_plain (Several a) s n n' h k = absurd h
-returned_plain (PublishOn a) s n n' h k = absurd h
-returned_plain (Window a) s n n' h k = absurd h
+returned_plain before s n n' h k = absurd h
 
 pub returned_source : {T : Type 0} (before : AnyNode T) (s : Signal T) (n n' : SourceNode T) → any_popped before s (Source n) → ((b : SourceNode T) → source_popped b s n → n' ≡ b) → Source n' ≡ before
 returned_source (Source a) s n n' h k = ap Source (k a h)
-returned_source (Plain a) s n n' h k = absurd h
-returned_source (Several a) s n n' h k = absurd h
-returned_source (PublishOn a) s n n' h k = absurd h
-returned_source (Window a) s n n' h k = absurd h
+returned_source before s n n' h k = absurd h
 
 pub returned_several : {T : Type 0} (before : AnyNode T) (s : Signal T) (n n' : SeveralNode T) → any_popped before s (Several n) → ((b : SeveralNode T) → several_popped b s n → n' ≡ b) → Several n' ≡ before
-returned_several (Source a) s n n' h k = absurd h
-returned_several (Plain a) s n n' h k = absurd h
 returned_several (Several a) s n n' h k = ap Several (k a h)
-returned_several (PublishOn a) s n n' h k = absurd h
-returned_several (Window a) s n n' h k = absurd h
+returned_several before s n n' h k = absurd h
 
 pub returned_publish_on : {T : Type 0} (before : AnyNode T) (s : Signal T) (n n' : PublishOnNode T) → any_popped before s (PublishOn n) → ((b : PublishOnNode T) → publish_popped b s n → n' ≡ b) → PublishOn n' ≡ before
-returned_publish_on (Source a) s n n' h k = absurd h
-returned_publish_on (Plain a) s n n' h k = absurd h
-returned_publish_on (Several a) s n n' h k = absurd h
 returned_publish_on (PublishOn a) s n n' h k = ap PublishOn (k a h)
-returned_publish_on (Window a) s n n' h k = absurd h
+returned_publish_on before s n n' h k = absurd h
 
 pub returned_window : {T : Type 0} (before : AnyNode T) (s : Signal T) (n n' : WindowNode T) → any_popped before s (Window n) → ((b : WindowNode T) → IsPoppedWindow b s n → n' ≡ b) → Window n' ≡ before
-returned_window (Source a) s n n' h k = absurd h
-returned_window (Plain a) s n n' h k = absurd h
-returned_window (Several a) s n n' h k = absurd h
-returned_window (PublishOn a) s n n' h k = absurd h
 returned_window (Window a) s n n' h k = ap Window (k a h)
+returned_window before s n n' h k = absurd h
+
+pub returned_flat_map : {T : Type 0} (before : AnyNode T) (s : Signal T) (n n' : FlatMapNode T) → any_popped before s (FlatMap n) → ((b : FlatMapNode T) → flat_popped b s n → n' ≡ b) → FlatMap n' ≡ before
+returned_flat_map (FlatMap a) s n n' h k = ap FlatMap (k a h)
+returned_flat_map before s n n' h k = absurd h
+
+pub returned_group_by : {T : Type 0} (before : AnyNode T) (s : Signal T) (n n' : GroupByNode T) → any_popped before s (GroupBy n) → ((b : GroupByNode T) → IsPoppedGroup b s n → n' ≡ b) → GroupBy n' ≡ before
+returned_group_by (GroupBy a) s n n' h k = ap GroupBy (k a h)
+returned_group_by before s n n' h k = absurd h
 
 -- ---- an item that goes through in one go
 
@@ -250,3 +279,31 @@ pub passed_window : {T : Type 0} (m : Meaning T) (old new : WindowNode T) (i : �
 passed_window m old new i x (Item y) h = (Window h.0, in_window m old h.0 i (Next x) h.1, item_out_window m h.0 new (Some y) h.2)
 passed_window m old new i x Kept h = in_window m old new i (Next x) h
 passed_window m old new i x (Declined y) h = (h.0, ap Window h.1)
+
+pub item_out_flat_map : {T : Type 0} (m : Meaning T) (old new : FlatMapNode T) (o : Option T) → IfSome o (λ x. IsItemOut (flat_comes_out m) (flat_waiting m) flat_popped flat_recorded IsGoing flat_ended flat_done old x new) → IfSome o (λ x. IsOutAny m (FlatMap old) x (FlatMap new))
+item_out_flat_map m old new None h = h
+item_out_flat_map m old new (Some x) h = record { waited = h.waited; popped_out = h.popped_out; value = h.value; notes = h.notes; counts = h.counts }
+
+pub item_out_group_by : {T : Type 0} (m : Meaning T) (old new : GroupByNode T) (o : Option T) → IfSome o (λ x. IsItemOut (group_comes_out m) (group_waiting m) IsPoppedGroup group_recorded group_counted group_ended group_done old x new) → IfSome o (λ x. IsOutAny m (GroupBy old) x (GroupBy new))
+item_out_group_by m old new None h = h
+item_out_group_by m old new (Some x) h = record { waited = h.waited; popped_out = h.popped_out; value = h.value; notes = h.notes; counts = h.counts }
+
+in_flat_map : {T : Type 0} (m : Meaning T) (old new : FlatMapNode T) (i : ℕ) (s : Signal T) → IsTakenIn (flat_comes_out m) flat_takes flat_recorded IsGoing flat_ended flat_done old i s new →
+    IsTakenIn (any_comes_out m) any_takes any_recorded any_counted any_ended any_done (FlatMap old) i s (FlatMap new)
+in_flat_map m old new i s h = record { enabled = h.enabled; value = h.value; notes = h.notes; counts = taken_flat_map old new i s h.counts; goes_on = h.goes_on }
+
+in_group_by : {T : Type 0} (m : Meaning T) (old new : GroupByNode T) (i : ℕ) (s : Signal T) → IsTakenIn (group_comes_out m) (λ n j f. group_takes n j) group_recorded group_counted group_ended group_done old i s new →
+    IsTakenIn (any_comes_out m) any_takes any_recorded any_counted any_ended any_done (GroupBy old) i s (GroupBy new)
+in_group_by m old new i s h = record { enabled = h.enabled; value = h.value; notes = h.notes; counts = taken_group_by old new i s h.counts; goes_on = h.goes_on }
+
+pub passed_flat_map : {T : Type 0} (m : Meaning T) (old new : FlatMapNode T) (i : ℕ) (x : T) (r : Passed T) → IsPassed (flat_comes_out m) (flat_waiting m) flat_takes flat_popped flat_recorded IsGoing flat_ended flat_done old i x r new →
+    IsPassed (any_comes_out m) (any_waiting m) any_takes any_popped any_recorded any_counted any_ended any_done (FlatMap old) i x r (FlatMap new)
+passed_flat_map m old new i x (Item y) h = (FlatMap h.0, in_flat_map m old h.0 i (Next x) h.1, item_out_flat_map m h.0 new (Some y) h.2)
+passed_flat_map m old new i x Kept h = in_flat_map m old new i (Next x) h
+passed_flat_map m old new i x (Declined y) h = (h.0, ap FlatMap h.1)
+
+pub passed_group_by : {T : Type 0} (m : Meaning T) (old new : GroupByNode T) (i : ℕ) (x : T) (r : Passed T) → IsPassed (group_comes_out m) (group_waiting m) (λ n j f. group_takes n j) IsPoppedGroup group_recorded group_counted group_ended group_done old i x r new →
+    IsPassed (any_comes_out m) (any_waiting m) any_takes any_popped any_recorded any_counted any_ended any_done (GroupBy old) i x r (GroupBy new)
+passed_group_by m old new i x (Item y) h = (GroupBy h.0, in_group_by m old h.0 i (Next x) h.1, item_out_group_by m h.0 new (Some y) h.2)
+passed_group_by m old new i x Kept h = in_group_by m old new i (Next x) h
+passed_group_by m old new i x (Declined y) h = (h.0, ap GroupBy h.1)

@@ -1,5 +1,5 @@
 -- The law of rest holds of every kind of node.
-use Rattle.std.proofs.Common.{◌≡◌, ℕ, ◌<◌, false, List, ◌∷◌, Some, None}
+use Rattle.std.proofs.Common.{◌≡◌, ℕ, ◌<◌, false, List, ◌∷◌, Some, None, refl}
 use Rattle.rsx_types.specs.declared.signal.Ending.TheVariants.{Open}
 use Rattle.rsx_types.specs.Meaning.{Meaning}
 use Rattle.rsx_types.specs.Notes.{unchosen}
@@ -9,9 +9,11 @@ use Rattle.rsx_sources.specs.Machine.{Incoming}
 use Rattle.rsx_several.specs.Several.{several_comes_out, several_counted, several_done, several_ended, several_picks, several_recorded, several_rows, several_takes, several_waiting, several_wanted}
 use Rattle.rsx_several.specs.declared.several_node.SeveralNode.{SeveralNode}
 use Rattle.rsx_several.specs.declared.several_node.SeveralNode.TheVariants.{Concat, Merge, Zip, Latest}
+use Rattle.rsx_flat_map.proofs.Rests.{flat_rests}
+use Rattle.rsx_group_by.proofs.Rests.{group_rests}
 use Rattle.rsx_node.specs.Any.{any_machine}
 use Rattle.rsx_node.specs.declared.any_node.AnyNode.{AnyNode}
-use Rattle.rsx_node.specs.declared.any_node.AnyNode.TheVariants.{Source, Plain, Several, PublishOn, Window}
+use Rattle.rsx_node.specs.declared.any_node.AnyNode.TheVariants.{Source, Plain, Several, PublishOn, Window, FlatMap, GroupBy}
 use Rattle.rsx_node.proofs.ConcatRests.{concat_rests}
 use Rattle.rsx_node.proofs.LatestRests.{latest_rests}
 use Rattle.rsx_node.proofs.MergeRests.{merge_rests}
@@ -35,3 +37,5 @@ any_rests m (Plain n) taken asked sent inc still counted waits more within stuck
 any_rests m (Several n) taken asked sent inc still counted waits more within stuck none behind = several_rests m n taken asked sent inc still counted waits more within stuck none
 any_rests m (PublishOn n) taken asked sent inc still counted waits more within stuck none behind = publish_rests m n taken asked sent inc still counted waits more within none
 any_rests m (Window n) taken asked sent inc still counted waits more within stuck none behind = window_rests m n taken asked sent inc still counted waits more within none
+any_rests m (FlatMap n) taken asked sent inc still counted waits more within stuck none behind = flat_rests m n taken asked sent inc counted waits more within stuck.0 (λ c at alive wants. none 0 c at alive (λ f. refl) wants)
+any_rests m (GroupBy n) taken asked sent inc still counted waits more within stuck none behind = group_rests m n taken asked sent inc still counted waits more within stuck.0 (λ c at alive takes wants. none 0 c at alive (λ f. takes) wants)

@@ -13,9 +13,11 @@ use Rattle.rsx_plain.specs.Node.{plain_comes_out, plain_waiting, plain_shown, pl
 use Rattle.rsx_several.specs.Several.{several_comes_out, several_waiting, several_shown, several_takes, several_picks, several_rows, several_recording, several_recorded, several_ended, several_done, several_counted, several_wanted, several_popped, several_step_allocates}
 use Rattle.rsx_publish_on.specs.PublishOn.{publish_comes_out, publish_waiting, publish_shown, publish_popped, publish_takes, publish_wanted, publish_ended, publish_counted}
 use Rattle.rsx_window.specs.Window.{window_comes_out, window_waiting, window_shown, window_takes, window_ended, window_done, window_wanted, IsPoppedWindow, CountsItems}
+use Rattle.rsx_flat_map.specs.FlatMap.{flat_comes_out, flat_waiting, flat_shown, flat_takes, flat_picks, flat_recording, flat_recorded, flat_ended, flat_done, flat_wanted, flat_popped, IsGoing}
+use Rattle.rsx_group_by.specs.GroupBy.{group_comes_out, group_waiting, group_shown, group_takes, group_picks, group_recording, group_recorded, group_ended, group_done, group_counted, group_wanted, IsPoppedGroup}
 use Rattle.rsx_node.specs.Source.{source_comes_out, source_waiting, source_shown, source_popped, source_reads, source_rooms, source_pop_allocates}
 use Rattle.rsx_node.specs.declared.any_node.AnyNode.{AnyNode}
-use Rattle.rsx_node.specs.declared.any_node.AnyNode.TheVariants.{Source, Plain, Several, PublishOn, Window}
+use Rattle.rsx_node.specs.declared.any_node.AnyNode.TheVariants.{Source, Plain, Several, PublishOn, Window, FlatMap, GroupBy}
 
 -- what still comes out
 abbrev pub any_comes_out : {T : Type 0} → Meaning T → AnyNode T → Incoming T → Note → Option (Stream T)
@@ -24,6 +26,8 @@ any_comes_out m (Plain n) inc k = plain_comes_out m n inc k
 any_comes_out m (Several n) inc k = several_comes_out m n inc k
 any_comes_out m (PublishOn n) inc k = publish_comes_out m n inc k
 any_comes_out m (Window n) inc k = window_comes_out m n inc k
+any_comes_out m (FlatMap n) inc k = flat_comes_out m n inc k
+any_comes_out m (GroupBy n) inc k = group_comes_out m n inc k
 
 -- the signal that waits
 abbrev pub any_waiting : {T : Type 0} → Meaning T → AnyNode T → Option (Signal T)
@@ -32,6 +36,8 @@ any_waiting m (Plain n) = plain_waiting m n
 any_waiting m (Several n) = several_waiting m n
 any_waiting m (PublishOn n) = publish_waiting m n
 any_waiting m (Window n) = window_waiting m n
+any_waiting m (FlatMap n) = flat_waiting m n
+any_waiting m (GroupBy n) = group_waiting m n
 
 -- which signal that is
 abbrev pub any_shown : {T : Type 0} → AnyNode T → Option Front
@@ -40,6 +46,8 @@ any_shown (Plain n) = plain_shown n
 any_shown (Several n) = several_shown n
 any_shown (PublishOn n) = publish_shown n
 any_shown (Window n) = window_shown n
+any_shown (FlatMap n) = flat_shown n
+any_shown (GroupBy n) = group_shown n
 
 -- whether such a signal of an input can be taken; a source has no input
 abbrev pub any_takes : {T : Type 0} → AnyNode T → ℕ → Front → Bool
@@ -48,14 +56,18 @@ any_takes (Plain n) i f = plain_takes n i
 any_takes (Several n) i f = several_takes n i f
 any_takes (PublishOn n) i f = publish_takes n i f
 any_takes (Window n) i f = window_takes n i
+any_takes (FlatMap n) i f = flat_takes n i f
+any_takes (GroupBy n) i f = group_takes n i
 
--- whether an input can be picked; only a node of several inputs picks one
+-- whether an input can be picked; only a node of several inputs, and one of lanes, picks one
 abbrev pub any_picks : {T : Type 0} → AnyNode T → ℕ → ℕ → ℕ → Bool
 any_picks (Source n) i asked sent = false
 any_picks (Plain n) i asked sent = false
 any_picks (Several n) i asked sent = several_picks n i asked sent
 any_picks (PublishOn n) i asked sent = false
 any_picks (Window n) i asked sent = false
+any_picks (FlatMap n) i asked sent = flat_picks n i asked sent
+any_picks (GroupBy n) i asked sent = group_picks n i asked sent
 
 -- whether a row can be made
 abbrev pub any_rows : {T : Type 0} → AnyNode T → ℕ → ℕ → Bool
@@ -64,6 +76,8 @@ any_rows (Plain n) asked sent = false
 any_rows (Several n) asked sent = several_rows n asked sent
 any_rows (PublishOn n) asked sent = false
 any_rows (Window n) asked sent = false
+any_rows (FlatMap n) asked sent = false
+any_rows (GroupBy n) asked sent = false
 
 -- what picking an input adds to what it recorded
 abbrev pub any_recording : {T : Type 0} → AnyNode T → ℕ → Note
@@ -72,6 +86,8 @@ any_recording (Plain n) i = Nothing
 any_recording (Several n) i = several_recording n i
 any_recording (PublishOn n) i = Nothing
 any_recording (Window n) i = Nothing
+any_recording (FlatMap n) i = flat_recording n i
+any_recording (GroupBy n) i = group_recording n i
 
 -- what it recorded
 abbrev pub any_recorded : {T : Type 0} → AnyNode T → Note
@@ -80,6 +96,8 @@ any_recorded (Plain n) = Nothing
 any_recorded (Several n) = several_recorded n
 any_recorded (PublishOn n) = Nothing
 any_recorded (Window n) = Nothing
+any_recorded (FlatMap n) = flat_recorded n
+any_recorded (GroupBy n) = group_recorded n
 
 -- whether its ending was put out
 abbrev pub any_ended : {T : Type 0} → AnyNode T → Bool
@@ -88,6 +106,8 @@ any_ended (Plain n) = plain_ended n
 any_ended (Several n) = several_ended n
 any_ended (PublishOn n) = publish_ended n
 any_ended (Window n) = window_ended n
+any_ended (FlatMap n) = flat_ended n
+any_ended (GroupBy n) = group_ended n
 
 -- whether it took the completion of an input and goes on; a plain operator and `publishOn` end by it
 abbrev pub any_done : {T : Type 0} → AnyNode T → ℕ → Bool
@@ -96,6 +116,8 @@ any_done (Plain n) i = false
 any_done (Several n) i = several_done n i
 any_done (PublishOn n) i = false
 any_done (Window n) i = window_done n i
+any_done (FlatMap n) i = flat_done n i
+any_done (GroupBy n) i = group_done n i
 
 -- how many items came in and how many were sent; a source takes none in
 abbrev pub any_counted : {T : Type 0} → AnyNode T → List ℕ → ℕ → Type 0
@@ -104,6 +126,8 @@ any_counted (Plain n) taken sent = plain_counted n taken sent
 any_counted (Several n) taken sent = several_counted n taken sent
 any_counted (PublishOn n) taken sent = publish_counted n taken sent
 any_counted (Window n) taken sent = CountsItems n taken sent
+any_counted (FlatMap n) taken sent = IsGoing n taken sent
+any_counted (GroupBy n) taken sent = group_counted n taken sent
 
 -- what is to be asked of an input
 abbrev pub any_wanted : {T : Type 0} → AnyNode T → ℕ → ℕ → ℕ → ℕ
@@ -112,6 +136,8 @@ any_wanted (Plain n) i a s = plain_wanted n i a s
 any_wanted (Several n) i a s = several_wanted n i a s
 any_wanted (PublishOn n) i a s = publish_wanted n i a s
 any_wanted (Window n) i a s = window_wanted n i a s
+any_wanted (FlatMap n) i a s = flat_wanted n i a s
+any_wanted (GroupBy n) i a s = group_wanted n i a s
 
 -- the second is the first without the signal that it offered
 abbrev pub any_popped : {T : Type 0} → AnyNode T → Signal T → AnyNode T → Type 0
@@ -120,6 +146,8 @@ any_popped (Plain a) s (Plain b) = plain_popped a s b
 any_popped (Several a) s (Several b) = several_popped a s b
 any_popped (PublishOn a) s (PublishOn b) = publish_popped a s b
 any_popped (Window a) s (Window b) = IsPoppedWindow a s b
+any_popped (FlatMap a) s (FlatMap b) = flat_popped a s b
+any_popped (GroupBy a) s (GroupBy b) = IsPoppedGroup a s b
 any_popped a s b = ⊥
 
 -- how far it got in the hub that it reads
@@ -129,6 +157,8 @@ any_reads (Plain n) = None
 any_reads (Several n) = None
 any_reads (PublishOn n) = None
 any_reads (Window n) = None
+any_reads (FlatMap n) = None
+any_reads (GroupBy n) = None
 
 -- whether it has room for an item of that hub
 abbrev pub any_rooms : {T : Type 0} → AnyNode T → Bool
@@ -137,6 +167,8 @@ any_rooms (Plain n) = false
 any_rooms (Several n) = false
 any_rooms (PublishOn n) = false
 any_rooms (Window n) = false
+any_rooms (FlatMap n) = false
+any_rooms (GroupBy n) = false
 
 -- whether taking the offered signal out may allocate
 abbrev pub any_pop_allocates : {T : Type 0} → Allocates → AnyNode T → Bool
@@ -145,6 +177,8 @@ any_pop_allocates a (Plain n) = false
 any_pop_allocates a (Several n) = false
 any_pop_allocates a (PublishOn n) = false
 any_pop_allocates a (Window n) = false
+any_pop_allocates a (FlatMap n) = false
+any_pop_allocates a (GroupBy n) = false
 
 -- whether taking a signal in may allocate
 abbrev pub any_signal_allocates : {T : Type 0} → Allocates → AnyNode T → Bool
@@ -153,6 +187,8 @@ any_signal_allocates a (Plain n) = plain_allocates a n
 any_signal_allocates a (Several n) = false
 any_signal_allocates a (PublishOn n) = false
 any_signal_allocates a (Window n) = true
+any_signal_allocates a (FlatMap n) = true
+any_signal_allocates a (GroupBy n) = true
 
 -- whether a pick or a row may allocate
 abbrev pub any_step_allocates : {T : Type 0} → Allocates → AnyNode T → Bool
@@ -161,6 +197,8 @@ any_step_allocates a (Plain n) = false
 any_step_allocates a (Several n) = several_step_allocates a n
 any_step_allocates a (PublishOn n) = false
 any_step_allocates a (Window n) = false
+any_step_allocates a (FlatMap n) = true
+any_step_allocates a (GroupBy n) = true
 
 -- the meaning of all kinds together
 abbrev pub any_machine : {T : Type 0} → Machine (AnyNode T) T

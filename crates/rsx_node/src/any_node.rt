@@ -3,6 +3,8 @@
 ghost use Rattle.std.specs.Prelude.{◌≡◌};
 
 use crate::source_node::SourceNode;
+use rsx_flat_map::FlatMapNode;
+use rsx_group_by::GroupByNode;
 use rsx_plain::PlainNode;
 use rsx_publish_on::PublishOnNode;
 use rsx_several::SeveralNode;
@@ -24,6 +26,10 @@ pub enum AnyNode<T> {
     PublishOn(PublishOnNode<T>),
     /// `window`: its one input in windows, each through a chain of its own.
     Window(WindowNode<T>),
+    /// `flatMap`: each item of its one input made a lane of its own, and the lanes merged.
+    FlatMap(FlatMapNode<T>),
+    /// `groupBy`: its one input in lanes by key, each through a chain of its own, and the lanes merged.
+    GroupBy(GroupByNode<T>),
 }
 
 impl<T: Drop> Machine for AnyNode<T> {
@@ -83,6 +89,8 @@ impl<T: Drop> Machine for AnyNode<T> {
             AnyNode::Several(node) => node.front(),
             AnyNode::PublishOn(node) => node.front(),
             AnyNode::Window(node) => node.front(),
+            AnyNode::FlatMap(node) => node.front(),
+            AnyNode::GroupBy(node) => node.front(),
         }
     }
 
@@ -106,6 +114,8 @@ impl<T: Drop> Machine for AnyNode<T> {
             AnyNode::Several(node) => node.pop_front(alloc, ops),
             AnyNode::PublishOn(node) => node.pop_front(alloc, ops),
             AnyNode::Window(node) => node.pop_front(alloc, ops),
+            AnyNode::FlatMap(node) => node.pop_front(alloc, ops),
+            AnyNode::GroupBy(node) => node.pop_front(alloc, ops),
         }
     }
 
@@ -118,6 +128,8 @@ impl<T: Drop> Machine for AnyNode<T> {
             AnyNode::Several(node) => node.put_back(signal),
             AnyNode::PublishOn(node) => node.put_back(signal),
             AnyNode::Window(node) => node.put_back(signal),
+            AnyNode::FlatMap(node) => node.put_back(signal),
+            AnyNode::GroupBy(node) => node.put_back(signal),
         }
     }
 
@@ -129,6 +141,8 @@ impl<T: Drop> Machine for AnyNode<T> {
             AnyNode::Several(node) => node.has_ended(),
             AnyNode::PublishOn(node) => node.has_ended(),
             AnyNode::Window(node) => node.has_ended(),
+            AnyNode::FlatMap(node) => node.has_ended(),
+            AnyNode::GroupBy(node) => node.has_ended(),
         }
     }
 
@@ -140,6 +154,8 @@ impl<T: Drop> Machine for AnyNode<T> {
             AnyNode::Several(node) => node.can_take(input, front),
             AnyNode::PublishOn(node) => node.can_take(input, front),
             AnyNode::Window(node) => node.can_take(input, front),
+            AnyNode::FlatMap(node) => node.can_take(input, front),
+            AnyNode::GroupBy(node) => node.can_take(input, front),
         }
     }
 
@@ -166,6 +182,8 @@ impl<T: Drop> Machine for AnyNode<T> {
             AnyNode::Several(node) => node.on_signal(alloc, ops, input, signal),
             AnyNode::PublishOn(node) => node.on_signal(alloc, ops, input, signal),
             AnyNode::Window(node) => node.on_signal(alloc, ops, input, signal),
+            AnyNode::FlatMap(node) => node.on_signal(alloc, ops, input, signal),
+            AnyNode::GroupBy(node) => node.on_signal(alloc, ops, input, signal),
         }
     }
 
@@ -177,6 +195,8 @@ impl<T: Drop> Machine for AnyNode<T> {
             AnyNode::Several(node) => node.pop_item(alloc, ops),
             AnyNode::PublishOn(node) => node.pop_item(alloc, ops),
             AnyNode::Window(node) => node.pop_item(alloc, ops),
+            AnyNode::FlatMap(node) => node.pop_item(alloc, ops),
+            AnyNode::GroupBy(node) => node.pop_item(alloc, ops),
         }
     }
 
@@ -188,6 +208,8 @@ impl<T: Drop> Machine for AnyNode<T> {
             AnyNode::Several(node) => node.pass(alloc, ops, input, item),
             AnyNode::PublishOn(node) => node.pass(alloc, ops, input, item),
             AnyNode::Window(node) => node.pass(alloc, ops, input, item),
+            AnyNode::FlatMap(node) => node.pass(alloc, ops, input, item),
+            AnyNode::GroupBy(node) => node.pass(alloc, ops, input, item),
         }
     }
 
@@ -198,6 +220,8 @@ impl<T: Drop> Machine for AnyNode<T> {
             AnyNode::Several(node) => node.hub(),
             AnyNode::PublishOn(node) => node.hub(),
             AnyNode::Window(node) => node.hub(),
+            AnyNode::FlatMap(node) => node.hub(),
+            AnyNode::GroupBy(node) => node.hub(),
         }
     }
 
@@ -208,6 +232,8 @@ impl<T: Drop> Machine for AnyNode<T> {
             AnyNode::Several(node) => node.has_room(),
             AnyNode::PublishOn(node) => node.has_room(),
             AnyNode::Window(node) => node.has_room(),
+            AnyNode::FlatMap(node) => node.has_room(),
+            AnyNode::GroupBy(node) => node.has_room(),
         }
     }
 
@@ -227,6 +253,8 @@ impl<T: Drop> Machine for AnyNode<T> {
             AnyNode::Several(node) => node.on_published(signal),
             AnyNode::PublishOn(node) => node.on_published(signal),
             AnyNode::Window(node) => node.on_published(signal),
+            AnyNode::FlatMap(node) => node.on_published(signal),
+            AnyNode::GroupBy(node) => node.on_published(signal),
         }
     }
 
@@ -236,6 +264,8 @@ impl<T: Drop> Machine for AnyNode<T> {
             AnyNode::Source(_) | AnyNode::Plain(_) | AnyNode::PublishOn(_) | AnyNode::Window(_) =>
                 false,
             AnyNode::Several(node) => node.can_pick(input, asked, sent),
+            AnyNode::FlatMap(node) => node.can_pick(input, asked, sent),
+            AnyNode::GroupBy(node) => node.can_pick(input, asked, sent),
         }
     }
 
@@ -245,6 +275,8 @@ impl<T: Drop> Machine for AnyNode<T> {
             AnyNode::Source(_) | AnyNode::Plain(_) | AnyNode::PublishOn(_) | AnyNode::Window(_) =>
                 None,
             AnyNode::Several(node) => node.next_pick(asked, sent),
+            AnyNode::FlatMap(node) => node.next_pick(asked, sent),
+            AnyNode::GroupBy(node) => node.next_pick(asked, sent),
         }
     }
 
@@ -260,14 +292,20 @@ impl<T: Drop> Machine for AnyNode<T> {
             AnyNode::Source(_) | AnyNode::Plain(_) | AnyNode::PublishOn(_) | AnyNode::Window(_) =>
                 Err(NotMade::NotEnabled),
             AnyNode::Several(node) => node.on_pick(alloc, ops, input, asked, sent),
+            AnyNode::FlatMap(node) => node.on_pick(alloc, ops, input, asked, sent),
+            AnyNode::GroupBy(node) => node.on_pick(alloc, ops, input, asked, sent),
         }
     }
 
     #[inline(always)]
     fn can_row(&self, asked: u64, sent: u64) -> bool {
         match self {
-            AnyNode::Source(_) | AnyNode::Plain(_) | AnyNode::PublishOn(_) | AnyNode::Window(_) =>
-                false,
+            AnyNode::Source(_)
+            | AnyNode::Plain(_)
+            | AnyNode::PublishOn(_)
+            | AnyNode::Window(_)
+            | AnyNode::FlatMap(_)
+            | AnyNode::GroupBy(_) => false,
             AnyNode::Several(node) => node.can_row(asked, sent),
         }
     }
@@ -281,8 +319,12 @@ impl<T: Drop> Machine for AnyNode<T> {
         sent: u64,
     ) -> Result<(), NotMade> {
         match self {
-            AnyNode::Source(_) | AnyNode::Plain(_) | AnyNode::PublishOn(_) | AnyNode::Window(_) =>
-                Err(NotMade::NotEnabled),
+            AnyNode::Source(_)
+            | AnyNode::Plain(_)
+            | AnyNode::PublishOn(_)
+            | AnyNode::Window(_)
+            | AnyNode::FlatMap(_)
+            | AnyNode::GroupBy(_) => Err(NotMade::NotEnabled),
             AnyNode::Several(node) => node.on_row(alloc, ops, asked, sent),
         }
     }
@@ -295,6 +337,8 @@ impl<T: Drop> Machine for AnyNode<T> {
             AnyNode::Several(node) => node.want(input, asked, sent),
             AnyNode::PublishOn(node) => node.want(input, asked, sent),
             AnyNode::Window(node) => node.want(input, asked, sent),
+            AnyNode::FlatMap(node) => node.want(input, asked, sent),
+            AnyNode::GroupBy(node) => node.want(input, asked, sent),
         }
     }
 
@@ -303,6 +347,8 @@ impl<T: Drop> Machine for AnyNode<T> {
             AnyNode::Source(_) | AnyNode::Plain(_) | AnyNode::PublishOn(_) | AnyNode::Window(_) =>
                 Ok(Note::Nothing),
             AnyNode::Several(node) => node.note(alloc),
+            AnyNode::FlatMap(node) => node.note(alloc),
+            AnyNode::GroupBy(node) => node.note(alloc),
         }
     }
 
@@ -322,6 +368,8 @@ impl<T: Drop> Machine for AnyNode<T> {
             AnyNode::Several(node) => node.residual(alloc, ops, inboxes, incoming),
             AnyNode::PublishOn(node) => node.residual(alloc, ops, inboxes, incoming),
             AnyNode::Window(node) => node.residual(alloc, ops, inboxes, incoming),
+            AnyNode::FlatMap(node) => node.residual(alloc, ops, inboxes, incoming),
+            AnyNode::GroupBy(node) => node.residual(alloc, ops, inboxes, incoming),
         }
     }
 

@@ -29,7 +29,8 @@ const STEPS: u32 = 4_000;
 fn try_seed(alloc: Global, kind: Kind, seed: u32, tally: &mut Tally) -> Result<Option<u32>> {
     let mut numbers = Numbers::new(seed);
     let expr = tree(alloc, &mut numbers, kind)?;
-    let mut trial = Trial::new(alloc, expr)?;
+    let has_lanes = matches!(kind, Kind::Laned(_));
+    let mut trial = Trial::new(alloc, expr, has_lanes)?;
     for step in 0..STEPS {
         if !trial.advance(alloc, &mut numbers)? {
             return Ok(Some(step));

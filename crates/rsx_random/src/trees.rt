@@ -50,6 +50,17 @@ pub enum Queued {
     PublishOn,
 }
 
+/// A kind of operator with lanes, each of which goes through a chain of plain operators.
+#[derive(Clone, Copy)]
+pub enum Laned {
+    /// So many items each.
+    Window,
+    /// The items of each key.
+    GroupBy,
+    /// What each item is expanded to.
+    FlatMap,
+}
+
 /// A kind of node.
 #[derive(Clone, Copy)]
 pub enum Kind {
@@ -59,10 +70,12 @@ pub enum Kind {
     Plain(Plain),
     /// An operator with queues.
     Queued(Queued),
+    /// An operator with lanes.
+    Laned(Laned),
 }
 
 /// All kinds of nodes, each with the name that a script has for it.
-pub const KINDS: [(&'static str, Kind); 14] = [
+pub const KINDS: [(&'static str, Kind); 17] = [
     ("items", Kind::Leaf(Leaf::Items)),
     ("range", Kind::Leaf(Leaf::Range)),
     ("hub", Kind::Leaf(Leaf::Hub)),
@@ -77,6 +90,9 @@ pub const KINDS: [(&'static str, Kind); 14] = [
     ("zip", Kind::Queued(Queued::Zip)),
     ("combineLatest", Kind::Queued(Queued::CombineLatest)),
     ("publishOn", Kind::Queued(Queued::PublishOn)),
+    ("window", Kind::Laned(Laned::Window)),
+    ("groupBy", Kind::Laned(Laned::GroupBy)),
+    ("flatMap", Kind::Laned(Laned::FlatMap)),
 ];
 
 /// A node of this kind over leaves that may have plain operators over them, with up to two operators of any kind over it.
@@ -90,6 +106,10 @@ pub fn tree(alloc: Global, numbers: &mut Numbers, kind: Kind) -> Result<Expr<Val
         Kind::Queued(operator) => {
             let below = branch(alloc, numbers)?;
             queued_over(alloc, numbers, operator, below)?
+        }
+        Kind::Laned(operator) => {
+            let below = branch(alloc, numbers)?;
+            laned_over(alloc, numbers, operator, below)?
         }
     };
     for _ in 0..numbers.below(3) {
@@ -206,6 +226,38 @@ fn queued_over(
         Queued::CombineLatest => Ok(Expr::Latest(prefetch, inputs(alloc, numbers, below)?)),
         Queued::PublishOn => Ok(Expr::On(1, prefetch, Box::new(alloc, below)?)),
     }
+}
+
+/// An operator of this kind over this expression: windows of one to three items, lanes of two keys or more, or one to three expansions at
+/// a time.
+fn laned_over(
+    alloc: Global,
+    numbers: &mut Numbers,
+    operator: Laned,
+    below: Expr<Val>,
+) -> Result<Expr<Val>> {
+    let stages = chain(alloc, numbers)?;
+    let count = 1 + u64::from(numbers.below(3));
+    let function = match numbers.below(2) {
+        0 => 1,
+        _ => 2,
+    };
+    let below = Box::new(alloc, below)?;
+    match operator {
+        Laned::Window => Ok(Expr::Window(count, stages, below)),
+        Laned::GroupBy => Ok(Expr::Group(function, stages, below)),
+        Laned::FlatMap => Ok(Expr::Flat(function, count, stages, below)),
+    }
+}
+
+/// Up to two plain operators, for each lane.
+fn chain(alloc: Global, numbers: &mut Numbers) -> Result<Vec<Stage<Val>>> {
+    let mut stages = Vec::new(alloc);
+    for _ in 0..numbers.below(3) {
+        let operator = any_plain(numbers);
+        stages.push(stage(numbers, operator))?;
+    }
+    Ok(stages)
 }
 
 /// How many items are asked for in advance: 1 to 4.

@@ -5,6 +5,7 @@ use anyhow::Result;
 use rsx_demo::{Demo, Val, copy_val};
 use rsx_evaluation::scratch;
 use rsx_graph::{Graph, SubscriptionState};
+use rsx_lanes::MAIN;
 use rsx_model::{Expr, nodes_of};
 use rsx_types::{Cause, Ending, HubId, HubKind, Move, NodeId, Signal, StreamValue, SubId, Tree};
 use std::alloc::Global;
@@ -23,6 +24,9 @@ const MOST_SUBSCRIBERS: u32 = 3;
 
 /// The most inputs of a node.
 const MOST_INPUTS: u32 = 3;
+
+/// The most lanes of a node that are picked.
+const MOST_LANES: u32 = 12;
 
 /// Signals in their order, each with the number of the hub that it was published at, or of the subscriber that received it.
 type Log = Vec<(u32, Signal<Val>)>;
@@ -43,6 +47,7 @@ pub struct Tally {
 pub struct Trial {
     expr: Expr<Val>,
     nodes: u32,
+    has_lanes: bool,
     graph: Graph<Demo>,
     subscribers: u32,
     published: Log,
@@ -52,13 +57,14 @@ pub struct Trial {
 }
 
 impl Trial {
-    /// A graph with one subscriber to this expression.
-    pub fn new(alloc: Global, expr: Expr<Val>) -> Result<Trial> {
+    /// A graph with one subscriber to this expression, which may have a node with lanes.
+    pub fn new(alloc: Global, expr: Expr<Val>, has_lanes: bool) -> Result<Trial> {
         let graph = graph_with(alloc, &expr)?;
         let nodes = nodes_of(&expr) as u32;
         Ok(Trial {
             expr,
             nodes,
+            has_lanes,
             graph,
             subscribers: 1,
             published: Vec::new(alloc),
@@ -92,7 +98,7 @@ impl Trial {
             2..=11 => Ok(request(numbers, &mut self.graph)),
             12..=23 => publish(numbers, &mut self.graph, &mut self.published),
             _ => {
-                let step = any_move(numbers, self.nodes);
+                let step = any_move(numbers, self.nodes, self.has_lanes);
                 let is_made = make(alloc, step, &mut self.graph, &mut self.received)?;
                 self.moves = self.moves.wrapping_add(u64::from(is_made));
                 Ok(is_made)
@@ -182,18 +188,30 @@ fn any_subscriber(numbers: &mut Numbers) -> SubId {
     SubId(numbers.below(MOST_SUBSCRIBERS))
 }
 
-/// A move of any kind, which may be one that isn't enabled, in trees of so many nodes.
-fn any_move(numbers: &mut Numbers, nodes: u32) -> Move {
+/// A move of any kind, which may be one that isn't enabled, in trees of so many nodes, with lanes or without.
+fn any_move(numbers: &mut Numbers, nodes: u32, has_lanes: bool) -> Move {
     let tree = Tree::Sub(any_subscriber(numbers));
     let node = NodeId(numbers.below(nodes));
     match numbers.below(8) {
         0 | 1 => Move::Ask(tree, node),
         2 | 3 => Move::Send(tree, node),
         4 => Move::Take(tree, NodeId(0)),
-        5 => Move::Pick(tree, node, u64::from(numbers.below(MOST_INPUTS))),
+        5 => Move::Pick(tree, node, any_input(numbers, has_lanes)),
         6 => Move::Row(tree, node),
         _ => Move::Accept(HubId(numbers.below(HUBS))),
     }
+}
+
+/// An input of a node, or a lane or Main, which may not be there.
+fn any_input(numbers: &mut Numbers, has_lanes: bool) -> u64 {
+    if !has_lanes {
+        return u64::from(numbers.below(MOST_INPUTS));
+    }
+    let lane = numbers.below(MOST_LANES + 1);
+    if lane == MOST_LANES {
+        return MAIN;
+    }
+    u64::from(lane)
 }
 
 /// The items and the ending of the signals with this number.

@@ -1,7 +1,8 @@
 -- The text of answers.
-use Rattle.std.specs.Prelude.{◌≡◌, ℕ, ◌+◌, List, [], ◌∷◌, ◌++◌, Some, None, codes}
+use Rattle.std.specs.Prelude.{◌≡◌, ℕ, ◌+◌, nat_eq, if◌then◌else◌, List, [], ◌∷◌, ◌++◌, Some, None, codes}
 use Rattle.std.specs.List.{flat_map}
 use Rattle.std.specs.Fmt.{decimal}
+use Rattle.rsx_lanes.specs.declared.limits.TheConstants.{MAIN}
 use Rattle.rsx_types.specs.declared.note.Note.{Note}
 use Rattle.rsx_types.specs.declared.note.Note.TheVariants.{Nothing, Picks, Ended}
 use Rattle.rsx_types.specs.declared.signal.Cause.TheVariants.{User, Function, NonPositiveRequest}
@@ -19,10 +20,14 @@ use Rattle.rsx_script.specs.declared.print.Answer.TheVariants.{Hub, Sub, Done, I
 abbrev pub numbers_text : List ℕ → List ℕ
 numbers_text numbers = flat_map (λ n. codes " " ++ decimal n) numbers
 
+-- a choice: the number of an input, or `m` for Main
+abbrev pub choice_text : ℕ → List ℕ
+choice_text c = if nat_eq c MAIN then codes "m" else decimal c
+
 -- choices with a comma between them
 abbrev pub picks_text : List ℕ → List ℕ
 picks_text [] = []
-picks_text (c ∷ cs) = decimal c ++ flat_map (λ n. codes "," ++ decimal n) cs
+picks_text (c ∷ cs) = choice_text c ++ flat_map (λ n. codes "," ++ choice_text n) cs
 
 -- what a node with this number recorded, behind a space, the number and a colon; of a node that records nothing there is none
 abbrev pub note_text : ℕ → Note → List ℕ

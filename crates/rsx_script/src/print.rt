@@ -5,6 +5,7 @@ ghost use Rattle.std.specs.Fmt.{WritesOnOk};
 ghost use Rattle.rsx_script.specs.Answers.{IsTextOf, numbers_text, picks_text, note_text, notes_text, ending_text, items_text, signals_text, rest_text};
 
 use rsx_demo::Val;
+use rsx_lanes::MAIN;
 use rsx_types::{Cause, Ending, HubId, NoMemory, Note, StreamValue, SubId};
 use std::alloc::Global;
 use std::fmt;
@@ -185,11 +186,31 @@ fn write_picks<W: fmt::Write>(f: &mut fmt::Formatter<W>, choices: &[u64]) -> fmt
     let Some((first, others)) = choices.split_first() else {
         return Ok(());
     };
-    write!(f, "{first}")?;
+    write!(f, "{}", Choice(*first))?;
     for other in others {
-        write!(f, ",{other}")?;
+        write!(f, ",{}", Choice(*other))?;
     }
     Ok(())
+}
+
+/// The number of an input that was chosen.
+#[derive(Clone, Copy)]
+struct Choice(u64);
+
+/// As `0`, and `m` for Main.
+impl fmt::Display for Choice {
+    ghost use Rattle.std.specs.Prelude.{Some};
+    ghost use Rattle.rsx_script.specs.Answers.{choice_text};
+
+    ghost output = { λ choice. Some (choice_text choice.0) };
+
+    fn fmt<W: fmt::Write>(&self, f: &mut fmt::Formatter<W>) -> fmt::Result {
+        if self.0 == MAIN {
+            f.write_str("m")
+        } else {
+            write!(f, "{}", self.0)
+        }
+    }
 }
 
 /// Each item behind a space, and then the ending.

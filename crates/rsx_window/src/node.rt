@@ -4,6 +4,7 @@ ghost use Rattle.std.specs.Prelude.{◌≡◌, IfOk};
 
 use crate::current::{CurrentWindow, Windowing};
 use crate::rest::{Collecting, first_ending, first_items};
+use rsx_chain::copy_stages;
 use rsx_demand::saturating_total;
 use rsx_pending::{InFront, PendingSignals};
 use rsx_sources::{Front, Machine, NotMade, NotTaken, Passed};
@@ -51,15 +52,11 @@ impl<T: Drop> WindowNode<T> {
         ensures counted { IfOk result (λ n. CountsItems n (0 ∷ []) 0) }
         ensures nothing { IfOk result (λ n. n.pending.left ≡ []) }
     {
-        let mut copies = Vec::new(alloc);
-        for stage in stages {
-            let copy = copy_stage(alloc, ops, stage)?;
-            copies.push(copy)?;
-        }
+        let stages = copy_stages(alloc, ops, stages)?;
         let pending = PendingSignals::with_room(alloc, 2)?;
         Ok(WindowNode {
             size,
-            stages: copies,
+            stages,
             current: CurrentWindow::Passing(0),
             pending,
             halfway: false,
@@ -354,25 +351,4 @@ impl<T: Drop> Machine for WindowNode<T> {
     ghost ending_waits = { window_ending_waits };
 
     ghost hungry = { window_hungry };
-}
-
-/// The same operator, with a copy of its seed.
-fn copy_stage<T: Drop, O: Ops<Item = T>>(
-    alloc: Global,
-    ops: &O,
-    stage: &Stage<T>,
-) -> Result<Stage<T>, NoMemory>
-    ensures { IfOk result (λ s. s ≡ stage.now) }
-{
-    match stage {
-        Stage::Map(function) => Ok(Stage::Map(*function)),
-        Stage::Filter(function) => Ok(Stage::Filter(*function)),
-        Stage::Take(count) => Ok(Stage::Take(*count)),
-        Stage::Scan(function, seed) => {
-            let seed = ops.copy(alloc, seed)?;
-            Ok(Stage::Scan(*function, seed))
-        }
-        Stage::Buffer(count) => Ok(Stage::Buffer(*count)),
-        Stage::Distinct(function) => Ok(Stage::Distinct(*function)),
-    }
 }

@@ -1,5 +1,7 @@
 use Rattle.std.proofs.Common.{length, rules}
 use Rattle.rsx_build.proofs.Builds.{hub_read, items_if, leaf_if, plain_if}
+use Rattle.rsx_build.proofs.FlatMaps.{flat_if}
+use Rattle.rsx_build.proofs.GroupBys.{group_if}
 use Rattle.rsx_build.proofs.Made.{in_front_built, several_over}
 use Rattle.rsx_build.proofs.PublishOn.{publish_on_if}
 use Rattle.rsx_build.proofs.Rows.{split}
@@ -59,10 +61,20 @@ build-build_over-requires-in-Latest g t c κs within =
     let l = limits_Latest (length c.args.hubs.now) c.args.expr.now c.in-Latest.prefetch c.in-Latest.inputs c.deref-in-Latest.result.now c.in-Latest.is c.deref-in-Latest.ensures.value c.requires in
     (search (rules, l.smaller), (search rules, (search rules, (search rules, (search rules, (search rules, (l.within, (l.few.some, (l.few.most, l.faultless)))))))))
 
+pub build-returns-in_ok-below-in-Group : goal.build-returns-in_ok-below-in-Group
+build-returns-in_ok-below-in-Group g t c =
+    group_if (g.O.Ops.meaning c.args.ops.now) c.args.hubs.now c.args.expr.now c.in-Group.function c.in-Group.stages c.deref-in-Group-2.result.now c.in-Group.input c.deref-in-Group.result.now c.in_ok-below-in-Group.below c.group_by.result c.over_one.result
+    c.in-Group.is c.deref-in-Group-2.ensures.value c.deref-in-Group.ensures c.in_ok-below-in-Group.ensures c.group_by.ensures c.over_one.ensures
+
 pub build-returns-in_ok-below-in-Window : goal.build-returns-in_ok-below-in-Window
 build-returns-in_ok-below-in-Window g t c =
     window_if (g.O.Ops.meaning c.args.ops.now) c.args.hubs.now c.args.expr.now c.in-Window.size c.in-Window.stages c.deref-in-Window-2.result.now c.in-Window.input c.deref-in-Window.result.now c.in_ok-below-in-Window.below c.build_window.result
     c.in-Window.is c.deref-in-Window-2.ensures.value c.deref-in-Window.ensures c.in_ok-below-in-Window.ensures c.build_window.ensures
+
+pub build-returns-in_ok-below-in-Flat : goal.build-returns-in_ok-below-in-Flat
+build-returns-in_ok-below-in-Flat g t c =
+    flat_if (g.O.Ops.meaning c.args.ops.now) c.args.hubs.now (length c.args.hubs.now) c.args.expr.now c.in-Flat.function c.in-Flat.concurrency c.in-Flat.stages c.deref-in-Flat-2.result.now c.in-Flat.input c.deref-in-Flat.result.now c.in_ok-below-in-Flat.below c.flat_map.result c.over_one-in-Flat.result
+    c.in-Flat.is c.deref-in-Flat-2.ensures.value c.deref-in-Flat.ensures c.requires c.in_ok-below-in-Flat.ensures c.flat_map.ensures c.over_one-in-Flat.ensures
 
 pub build-returns-in_ok-below-in-On : goal.build-returns-in_ok-below-in-On
 build-returns-in_ok-below-in-On g t c =

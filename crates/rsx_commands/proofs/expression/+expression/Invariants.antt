@@ -11,14 +11,8 @@ decreases-expression l = 3 * bytes_left l.words.now
 abbrev pub decreases-operator : goal.decreases-operator
 decreases-operator l = 3 * bytes_left l.words.now + 2
 
-abbrev pub decreases-plain : goal.decreases-plain
-decreases-plain l = 3 * bytes_left l.words.now + 1
-
-abbrev pub decreases-window : goal.decreases-window
-decreases-window l = 3 * bytes_left l.words.now + 1
-
-abbrev pub decreases-publish_on : goal.decreases-publish_on
-decreases-publish_on l = 3 * bytes_left l.words.now + 1
+abbrev pub decreases-over_one : goal.decreases-over_one
+decreases-over_one l = 3 * bytes_left l.words.now + 1
 
 abbrev pub decreases-inputs : goal.decreases-inputs
 decreases-inputs l = 3 * bytes_left l.words.now + 1

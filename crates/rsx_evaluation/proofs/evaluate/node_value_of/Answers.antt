@@ -3,7 +3,7 @@ use Rattle.std.proofs.lemmas.Int.{to_z-of_z}
 use Rattle.std.proofs.lemmas.Option.{slice_get_read}
 use mir.Val.{SFits}
 use mir.Syntax.{w64}
-use Rattle.rsx_model.specs.declared.expr.Expr.TheViews.{outs-Items, outs-Range, outs-Hub, outs-Plain, outs-Concat, outs-Merge, outs-Zip, outs-Latest, outs-Window, outs-On}
+use Rattle.rsx_model.specs.declared.expr.Expr.TheViews.{outs-Items, outs-Range, outs-Hub, outs-Plain, outs-Concat, outs-Merge, outs-Zip, outs-Latest, outs-Group, outs-Window, outs-Flat, outs-On}
 use Rattle.rsx_model.specs.Check.{first_fault}
 use Rattle.rsx_model.specs.Eval.{environment, meant}
 use Rattle.rsx_model.specs.Shape.{leaves}
@@ -62,12 +62,26 @@ returns-in-Latest g c =
     let below = rw (c.in-Latest.is, outs-Latest) at c.requires.below in
     rw (c.in-Latest.is, value_Latest, note) (c.latest_of.ensures _ below)
 
+pub returns-in-Group : goal.returns-in-Group
+returns-in-Group g c =
+    let w = environment (g.O.Ops.meaning c.args.ops.now) c.args.hubs.now c.args.joins.now c.args.notes.now in
+    let note : slice_get c.args.notes.now c.args.at ≡ Some c.index-notes-at.result = slice_get_read c.args.notes.now (length c.args.notes.now) c.args.at c.index-notes-at.result refl c.requires.noted c.index-notes-at.is in
+    let below = rw (c.in-Group.is, outs-Group) at c.requires.below in
+    rw (value_out, c.in-Group.is, outs-Group, note, ← c.deref-in-Group.ensures.value) (c.group_of.ensures ((meant w c.in-Group.field-2.value).value (c.args.at + 1) c.args.leaf) below)
+
 pub returns-in-Window : goal.returns-in-Window
 returns-in-Window g c =
     let w = environment (g.O.Ops.meaning c.args.ops.now) c.args.hubs.now c.args.joins.now c.args.notes.now in
     let note : slice_get c.args.notes.now c.args.at ≡ Some c.index-notes-at.result = slice_get_read c.args.notes.now (length c.args.notes.now) c.args.at c.index-notes-at.result refl c.requires.noted c.index-notes-at.is in
     let below = rw (c.in-Window.is, outs-Window) at c.requires.below in
     rw (value_out, c.in-Window.is, outs-Window, note, ← c.deref-in-Window.ensures.value) (c.if_quiet-in-Window.ensures _ (c.window_of.ensures ((meant w c.in-Window.field-2.value).value (c.args.at + 1) c.args.leaf) below))
+
+pub returns-in-Flat : goal.returns-in-Flat
+returns-in-Flat g c =
+    let w = environment (g.O.Ops.meaning c.args.ops.now) c.args.hubs.now c.args.joins.now c.args.notes.now in
+    let note : slice_get c.args.notes.now c.args.at ≡ Some c.index-notes-at.result = slice_get_read c.args.notes.now (length c.args.notes.now) c.args.at c.index-notes-at.result refl c.requires.noted c.index-notes-at.is in
+    let below = rw (c.in-Flat.is, outs-Flat) at c.requires.below in
+    rw (value_out, c.in-Flat.is, outs-Flat, note, ← c.deref-in-Flat.ensures.value) (c.flat_of.ensures ((meant w c.in-Flat.field-3.value).value (c.args.at + 1) c.args.leaf) below)
 
 pub returns-in-On : goal.returns-in-On
 returns-in-On g c =

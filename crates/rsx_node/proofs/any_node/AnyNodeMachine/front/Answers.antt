@@ -14,3 +14,9 @@ returns-in-PublishOn g c = record { shown = rw c.in-PublishOn.is c.front-in-Publ
 
 pub returns-in-Window : goal.returns-in-Window
 returns-in-Window g c = record { shown = rw c.in-Window.is c.front-in-Window.ensures.shown; first = λ m. rw c.in-Window.is (c.front-in-Window.ensures.first m) }
+
+pub returns-in-FlatMap : goal.returns-in-FlatMap
+returns-in-FlatMap g c = record { shown = rw c.in-FlatMap.is c.front-in-FlatMap.ensures.shown; first = λ m. rw c.in-FlatMap.is (c.front-in-FlatMap.ensures.first m) }
+
+pub returns-in-GroupBy : goal.returns-in-GroupBy
+returns-in-GroupBy g c = record { shown = rw c.in-GroupBy.is c.front-in-GroupBy.ensures.shown; first = λ m. rw c.in-GroupBy.is (c.front-in-GroupBy.ensures.first m) }

@@ -1,7 +1,7 @@
 use Rattle.std.proofs.Common.{ap, refl}
 use Rattle.std.proofs.lemmas.Result.{on_ok_weaker, on_err_weaker}
-use Rattle.rsx_node.specs.declared.any_node.AnyNode.TheVariants.{Several, PublishOn, Window}
-use Rattle.rsx_node.proofs.Dispatch.{taken_several, taken_publish_on, taken_window}
+use Rattle.rsx_node.specs.declared.any_node.AnyNode.TheVariants.{Several, PublishOn, Window, FlatMap, GroupBy}
+use Rattle.rsx_node.proofs.Dispatch.{taken_several, taken_publish_on, taken_window, taken_flat_map, taken_group_by}
 use Rattle.rsx_node.proofs.any_node.AnyNodeMachine.on_signal.Goals as goal
 
 pub returns-in-Several : goal.returns-in-Several
@@ -38,4 +38,28 @@ returns-in-Window g c = rw c.in-Window.is (record {
   memory = λ e. cc;
   alike = (refl, λ a. (refl, refl, refl));
   same = on_err_weaker c.on_signal-in-Window.result (λ e. ap Window e) c.on_signal-in-Window.ensures.same;
+})
+
+pub returns-in-FlatMap : goal.returns-in-FlatMap
+returns-in-FlatMap g c = rw c.in-FlatMap.is (record {
+  ok = c.on_signal-in-FlatMap.ensures.ok;
+  enabled = c.on_signal-in-FlatMap.ensures.enabled;
+  recorded = c.on_signal-in-FlatMap.ensures.recorded;
+  counts = on_ok_weaker c.on_signal-in-FlatMap.result (taken_flat_map c.in-FlatMap.node c.on_signal-in-FlatMap.new.self c.args.input c.args.signal) c.on_signal-in-FlatMap.ensures.counts;
+  err = c.on_signal-in-FlatMap.ensures.err;
+  memory = λ e. cc;
+  alike = (refl, λ a. (refl, refl, refl));
+  same = on_err_weaker c.on_signal-in-FlatMap.result (λ e. ap FlatMap e) c.on_signal-in-FlatMap.ensures.same;
+})
+
+pub returns-in-GroupBy : goal.returns-in-GroupBy
+returns-in-GroupBy g c = rw c.in-GroupBy.is (record {
+  ok = c.on_signal-in-GroupBy.ensures.ok;
+  enabled = c.on_signal-in-GroupBy.ensures.enabled;
+  recorded = c.on_signal-in-GroupBy.ensures.recorded;
+  counts = on_ok_weaker c.on_signal-in-GroupBy.result (taken_group_by c.in-GroupBy.node c.on_signal-in-GroupBy.new.self c.args.input c.args.signal) c.on_signal-in-GroupBy.ensures.counts;
+  err = c.on_signal-in-GroupBy.ensures.err;
+  memory = λ e. cc;
+  alike = (refl, λ a. (refl, refl, refl));
+  same = on_err_weaker c.on_signal-in-GroupBy.result (λ e. ap GroupBy e) c.on_signal-in-GroupBy.ensures.same;
 })

@@ -1,4 +1,4 @@
-use Rattle.rsx_node.proofs.Dispatch.{passed_plain, passed_several, passed_publish_on, passed_window}
+use Rattle.rsx_node.proofs.Dispatch.{passed_plain, passed_several, passed_publish_on, passed_window, passed_flat_map, passed_group_by}
 use Rattle.rsx_node.proofs.any_node.AnyNodeMachine.pass.Goals as goal
 
 pub returns-in-Plain-clause-passed : goal.returns-in-Plain-clause-passed
@@ -16,3 +16,11 @@ returns-in-PublishOn-clause-passed g c =
 pub returns-in-Window-clause-passed : goal.returns-in-Window-clause-passed
 returns-in-Window-clause-passed g c =
     rw c.in-Window.is (passed_window (g.O.Ops.meaning c.args.ops.now) c.in-Window.node c.pass-in-Window.new.self c.args.input c.args.item c.pass-in-Window.result c.pass-in-Window.ensures.passed)
+
+pub returns-in-FlatMap-clause-passed : goal.returns-in-FlatMap-clause-passed
+returns-in-FlatMap-clause-passed g c =
+    rw c.in-FlatMap.is (passed_flat_map (g.O.Ops.meaning c.args.ops.now) c.in-FlatMap.node c.pass-in-FlatMap.new.self c.args.input c.args.item c.pass-in-FlatMap.result c.pass-in-FlatMap.ensures.passed)
+
+pub returns-in-GroupBy-clause-passed : goal.returns-in-GroupBy-clause-passed
+returns-in-GroupBy-clause-passed g c =
+    rw c.in-GroupBy.is (passed_group_by (g.O.Ops.meaning c.args.ops.now) c.in-GroupBy.node c.pass-in-GroupBy.new.self c.args.input c.args.item c.pass-in-GroupBy.result c.pass-in-GroupBy.ensures.passed)

@@ -1,4 +1,4 @@
-use Rattle.rsx_node.proofs.Dispatch.{item_out_source, item_out_plain, item_out_publish_on, item_out_several, item_out_window}
+use Rattle.rsx_node.proofs.Dispatch.{item_out_source, item_out_plain, item_out_publish_on, item_out_several, item_out_window, item_out_flat_map, item_out_group_by}
 use Rattle.rsx_node.proofs.any_node.AnyNodeMachine.pop_item.Goals as goal
 
 pub returns-in-Source-clause-some : goal.returns-in-Source-clause-some
@@ -20,3 +20,11 @@ returns-in-PublishOn-clause-some g c =
 pub returns-in-Window-clause-some : goal.returns-in-Window-clause-some
 returns-in-Window-clause-some g c =
     rw c.in-Window.is (item_out_window (g.O.Ops.meaning c.args.ops.now) c.in-Window.node c.pop_item-in-Window.new.self c.pop_item-in-Window.result c.pop_item-in-Window.ensures.some)
+
+pub returns-in-FlatMap-clause-some : goal.returns-in-FlatMap-clause-some
+returns-in-FlatMap-clause-some g c =
+    rw c.in-FlatMap.is (item_out_flat_map (g.O.Ops.meaning c.args.ops.now) c.in-FlatMap.node c.pop_item-in-FlatMap.new.self c.pop_item-in-FlatMap.result c.pop_item-in-FlatMap.ensures.some)
+
+pub returns-in-GroupBy-clause-some : goal.returns-in-GroupBy-clause-some
+returns-in-GroupBy-clause-some g c =
+    rw c.in-GroupBy.is (item_out_group_by (g.O.Ops.meaning c.args.ops.now) c.in-GroupBy.node c.pop_item-in-GroupBy.new.self c.pop_item-in-GroupBy.result c.pop_item-in-GroupBy.ensures.some)

@@ -1,7 +1,7 @@
 use Rattle.std.proofs.Common.{subst}
 use Rattle.rsx_node.specs.Any.{any_popped}
 use Rattle.rsx_node.specs.declared.any_node.AnyNode.{AnyNode}
-use Rattle.rsx_node.proofs.Dispatch.{returned_plain, returned_publish_on, returned_several, returned_source, returned_window}
+use Rattle.rsx_node.proofs.Dispatch.{returned_plain, returned_publish_on, returned_several, returned_source, returned_window, returned_flat_map, returned_group_by}
 use Rattle.rsx_node.proofs.any_node.AnyNodeMachine.put_back.Goals as goal
 
 pub returns-in-Source : goal.returns-in-Source
@@ -28,3 +28,13 @@ pub returns-in-Window : goal.returns-in-Window
 returns-in-Window g c = λ before h.
     let P : AnyNode _ → Type 0 = λ t. any_popped before c.args.signal t in
     returned_window before c.args.signal c.in-Window.node c.put_back-in-Window.new.self (subst P c.in-Window.is h) c.put_back-in-Window.ensures
+
+pub returns-in-FlatMap : goal.returns-in-FlatMap
+returns-in-FlatMap g c = λ before h.
+    let P : AnyNode _ → Type 0 = λ t. any_popped before c.args.signal t in
+    returned_flat_map before c.args.signal c.in-FlatMap.node c.put_back-in-FlatMap.new.self (subst P c.in-FlatMap.is h) c.put_back-in-FlatMap.ensures
+
+pub returns-in-GroupBy : goal.returns-in-GroupBy
+returns-in-GroupBy g c = λ before h.
+    let P : AnyNode _ → Type 0 = λ t. any_popped before c.args.signal t in
+    returned_group_by before c.args.signal c.in-GroupBy.node c.put_back-in-GroupBy.new.self (subst P c.in-GroupBy.is h) c.put_back-in-GroupBy.ensures

@@ -11,3 +11,9 @@ returns-in-PublishOn g c = rw c.in-PublishOn.is c.residual-in-PublishOn.ensures
 
 pub returns-in-Window : goal.returns-in-Window
 returns-in-Window g c = rw c.in-Window.is c.residual-in-Window.ensures
+
+pub returns-in-FlatMap : goal.returns-in-FlatMap
+returns-in-FlatMap g c = rw c.in-FlatMap.is c.residual-in-FlatMap.ensures
+
+pub returns-in-GroupBy : goal.returns-in-GroupBy
+returns-in-GroupBy g c = rw c.in-GroupBy.is c.residual-in-GroupBy.ensures
