@@ -1,10 +1,11 @@
 -- A tree that was built over the trees of its inputs.
 use Rattle.std.proofs.Common.{◌≡◌, ◌⊎◌, inl, inr, ℕ, zero, suc, ◌+◌, ◌*◌, ◌<◌, Bool, true, false, nat_eq, List, [], ◌∷◌, ◌++◌, length, refl, ap, sym, ◌∙◌, subst, arith, Option, Some, None, option_map, option_and_then, slice_get, Result, Ok, Err, Box, Vec, Global}
-use Rattle.std.specs.Prelude.{IfOk}
+use Rattle.std.specs.Prelude.{ℤ, IfOk}
 use Rattle.std.proofs.lemmas.Bool.Decides.{nat_tests}
 use Rattle.std.proofs.lemmas.List.{append-nil}
 use Rattle.rsx_types.specs.Meaning.{Meaning}
-use Rattle.rsx_types.specs.Plain.{listed, plain}
+use Rattle.rsx_types.specs.Plain.{listed, plain, range_items}
+use Rattle.rsx_types.specs.declared.fault.NoMemory.{NoMemory}
 use Rattle.rsx_types.specs.Stream.{Stream}
 use Rattle.rsx_types.specs.declared.note.Note.{Note}
 use Rattle.rsx_types.specs.declared.note.Note.TheVariants.{Nothing, Picks, Ended}
@@ -16,7 +17,9 @@ use Rattle.rsx_types.specs.declared.stage.Stage.{Stage}
 use Rattle.rsx_types.specs.declared.stage.Stage.TheVariants.{Map, Filter, Take, Scan, Buffer, Distinct}
 use Rattle.rsx_sources.specs.Machine.{Incoming, incoming_of, quiet as quiet_at}
 use Rattle.rsx_sources.specs.Items.{GivesItems, ItemsLeft}
+use Rattle.rsx_sources.specs.Range.{GivesRange}
 use Rattle.rsx_sources.specs.Reading.{Reading, published_at}
+use Rattle.rsx_sources.specs.declared.range.RangeNode.{RangeNode}
 use Rattle.rsx_hub.specs.Hub.{HubState, HasTakenIn, BeginsWith, join}
 use Rattle.rsx_hub.specs.Member.{MemberState, ReadsFromJoin, ending_taken, fresh_member, rest, without}
 use Rattle.rsx_hub_leaf.specs.Leaf.{LeafState, member_of, leaf_reads, reading_of}
@@ -26,9 +29,9 @@ use Rattle.rsx_model.specs.declared.check.BadExpr.{BadExpr}
 use Rattle.rsx_model.specs.declared.check.BadExpr.TheVariants.{Number}
 use Rattle.rsx_model.specs.declared.expr.Expr.{Expr}
 use Rattle.rsx_model.specs.declared.expr.Expr.TheFolds.{fold_out-Expr}
-use Rattle.rsx_model.specs.declared.expr.Expr.TheViews.{Plain as PlainOf, outs-Items, outs-Hub, outs-Plain}
-use Rattle.rsx_model.specs.declared.expr.Expr.TheVariants.{Items as ItemsOf, Hub as HubOf}
-use Rattle.rsx_model.proofs.Unfold.{value_Items, value_Hub, value_Plain, first_fault_Plain, hub_there}
+use Rattle.rsx_model.specs.declared.expr.Expr.TheViews.{Plain as PlainOf, outs-Items, outs-Range, outs-Hub, outs-Plain}
+use Rattle.rsx_model.specs.declared.expr.Expr.TheVariants.{Items as ItemsOf, Range as RangeOf, Hub as HubOf}
+use Rattle.rsx_model.proofs.Unfold.{value_Items, value_Range, value_Hub, value_Plain, first_fault_Plain, hub_there}
 use Rattle.rsx_operators.specs.Moves.{has_ending}
 use Rattle.rsx_plain.specs.Node.{plain_comes_out, plain_ended, start_slot}
 use Rattle.rsx_operators.specs.State.{plain_start, is_over, balanced, wanted_from}
@@ -50,10 +53,10 @@ use Rattle.rsx_tree.proofs.Readings.{closed_if_reads}
 use Rattle.rsx_node.specs.declared.any_node.AnyNode.{AnyNode}
 use Rattle.rsx_node.specs.declared.any_node.AnyNode.TheVariants.{Source, Plain}
 use Rattle.rsx_node.specs.declared.source_node.SourceNode.{SourceNode}
-use Rattle.rsx_node.specs.declared.source_node.SourceNode.TheVariants.{Items, Hub}
+use Rattle.rsx_node.specs.declared.source_node.SourceNode.TheVariants.{Items, Range, Hub}
 use Rattle.rsx_node.specs.Any.{any_machine}
 use Rattle.rsx_build.specs.Built.{IsBuilt, IsPlainOver, AllUnrecorded, AreBegun, StandAt, counts_of, first_wants, fresh_edge, fresh_edges, fresh_wants, join_at, joins_now, new_joins, starts_ended}
-use Rattle.rsx_build.proofs.Wants.{first_wants_closed_if, plain_wants, wants_Hub, wants_Items, wants_Plain}
+use Rattle.rsx_build.proofs.Wants.{first_wants_closed_if, plain_wants, wants_Hub, wants_Items, wants_Plain, wants_Range}
 
 -- what comes out of a fresh node is its operator of what comes in
 pub fresh_out : {T : Type 0} (m : Meaning T) (hubs : List (Stream T)) (n : AnyNode T) (f : List (Stream T) → Stream T) → ((vs : List (Stream T)) (k : Note) → any_machine.comes_out m n (incoming_of hubs vs) k ≡ quiet_at k (f vs)) →
@@ -114,12 +117,36 @@ built_source {T} m hubs e n t n_is r_is values read unread none nothing = record
 fresh_Items : {T : Type 0} (v : Vec T Global) → fresh_edges (ItemsOf v) ≡ []
 fresh_Items {T} v = rw (fold_out-Expr, outs-Items) refl
 
-pub built_items : {T : Type 0} (m : Meaning T) (hubs : List (HubState T)) (e : Expr T) (v : Vec T Global) (items : List T) (n : ItemsLeft T) (t : Node (AnyNode T)) → e ≡ ItemsOf v → items ≡ v.items → GivesItems n items → t.machine ≡ Source (Items n) → t.inputs ≡ End → IsBuilt m hubs e t
+built_items : {T : Type 0} (m : Meaning T) (hubs : List (HubState T)) (e : Expr T) (v : Vec T Global) (items : List T) (n : ItemsLeft T) (t : Node (AnyNode T)) → e ≡ ItemsOf v → items ≡ v.items → GivesItems n items → t.machine ≡ Source (Items n) → t.inputs ≡ End → IsBuilt m hubs e t
 built_items {T} m hubs e v items n t is all fresh n_is r_is =
     let P : Expr T → Type 0 = λ x. IsBuilt m hubs x t in
     subst P (sym is) (built_source m hubs (ItemsOf v) (Items n) t n_is r_is
     (λ whole joins leaf begun stand. (listed v.items, (λ inc k same. fresh m inc k ∙ ap (λ l. quiet_at k (listed l)) all), (λ further at. value_Items (environment m whole joins further) v at leaf)))
     tt (λ bare. tt) (fresh_Items v) (wants_Items v))
+
+-- the same of a tree that was made unless memory ran out
+pub items_made : {T : Type 0} (m : Meaning T) (v : Vec T Global) (items : List T) (n : ItemsLeft T) (r : Result (Node (AnyNode T)) NoMemory) → items ≡ v.items → GivesItems n items →
+    IfOk r (λ t. t.machine ≡ Source (Items n)) → IfOk r (λ t. t.inputs ≡ End) → IfOk r (λ t. (hubs : List (HubState T)) → IsBuilt m hubs (ItemsOf v) t)
+items_made m v items n (Ok t) all fresh n_is r_is = λ hubs. built_items m hubs (ItemsOf v) v items n t refl all fresh n_is r_is
+items_made m v items n (Err x) all fresh n_is r_is = tt
+
+-- ---- a range
+
+fresh_Range : (T : Type 0) (a : ℤ) (k : ℕ) → fresh_edges {T = T} (RangeOf a k) ≡ []
+fresh_Range T a k = rw (fold_out-Expr, outs-Range) refl
+
+built_range : {T : Type 0} (m : Meaning T) (hubs : List (HubState T)) (e : Expr T) (a : ℤ) (k : ℕ) (n : RangeNode T) (t : Node (AnyNode T)) → e ≡ RangeOf a k → GivesRange n a k → t.machine ≡ Source (Range n) → t.inputs ≡ End → IsBuilt m hubs e t
+built_range {T} m hubs e a k n t is fresh n_is r_is =
+    let P : Expr T → Type 0 = λ x. IsBuilt m hubs x t in
+    subst P (sym is) (built_source m hubs (RangeOf a k) (Range n) t n_is r_is
+    (λ whole joins leaf begun stand. (listed (range_items m a k), (λ inc d same. fresh m inc d), (λ further at. value_Range (environment m whole joins further) a k at leaf)))
+    tt (λ bare. tt) (fresh_Range T a k) (wants_Range T a k))
+
+-- the same of a tree that was made unless memory ran out
+pub range_if : {T : Type 0} (m : Meaning T) (hubs : List (HubState T)) (e : Expr T) (a : ℤ) (k : ℕ) (n : RangeNode T) (r : Result (Node (AnyNode T)) NoMemory) → e ≡ RangeOf a k → GivesRange n a k →
+    IfOk r (λ t. t.machine ≡ Source (Range n)) → IfOk r (λ t. t.inputs ≡ End) → IfOk r (λ t. IsBuilt m hubs e t)
+range_if m hubs e a k n (Ok t) is fresh n_is r_is = built_range m hubs e a k n t is fresh n_is r_is
+range_if m hubs e a k n (Err x) is fresh n_is r_is = tt
 
 -- ---- a leaf that reads a hub
 
@@ -161,7 +188,7 @@ some_join e = cc
 fresh_Hub : (T : Type 0) (h : HubId) → fresh_edges {T = T} (HubOf h) ≡ []
 fresh_Hub T h = rw (fold_out-Expr, outs-Hub) refl
 
-pub built_hub : {T : Type 0} (m : Meaning T) (hubs : List (HubState T)) (e : Expr T) (id : HubId) (h : HubState T) (mem : MemberState T) (n : LeafState T) (t : Node (AnyNode T)) → e ≡ HubOf id → slice_get hubs id.0 ≡ Some h → mem ≡ fresh_member h → ReadsFromJoin h mem →
+built_hub : {T : Type 0} (m : Meaning T) (hubs : List (HubState T)) (e : Expr T) (id : HubId) (h : HubState T) (mem : MemberState T) (n : LeafState T) (t : Node (AnyNode T)) → e ≡ HubOf id → slice_get hubs id.0 ≡ Some h → mem ≡ fresh_member h → ReadsFromJoin h mem →
     n.hub ≡ id.0 → member_of n ≡ mem → t.machine ≡ Source (Hub n) → t.inputs ≡ End → IsBuilt m hubs e t
 built_hub {T} m hubs e id h mem n t is there fresh from hub_is mem_is n_is r_is =
     let P : Expr T → Type 0 = λ x. IsBuilt m hubs x t in
@@ -188,6 +215,12 @@ built_hub {T} m hubs e id h mem n t is there fresh from hub_is mem_is n_is r_is 
         let ending : n.ending ≡ ending_taken h.has_ended h.ending = ap (λ k. k.ending) (mem_is ∙ fresh) in
         read_at (counts_of hubs) n.ending (record { hub = n.hub; reached = n.reached })
         (ap (slice_get (counts_of hubs)) hub_is ∙ (count_there hubs id.0 h there ∙ (ap (λ k. Some (count_before (ending_taken h.has_ended h.ending) k)) (sym reached) ∙ ap (λ e. Some (count_before e n.reached)) (sym ending))))
+
+-- the same of a tree that was made unless memory ran out
+pub hub_made : {T : Type 0} (m : Meaning T) (hubs : List (HubState T)) (id : HubId) (h : HubState T) (mem : MemberState T) (n : LeafState T) (r : Result (Node (AnyNode T)) NoMemory) → slice_get hubs id.0 ≡ Some h → mem ≡ fresh_member h → ReadsFromJoin h mem →
+    n.hub ≡ id.0 → member_of n ≡ mem → IfOk r (λ t. t.machine ≡ Source (Hub n)) → IfOk r (λ t. t.inputs ≡ End) → IfOk r (λ t. IsBuilt m hubs (HubOf id) t)
+hub_made m hubs id h mem n (Ok t) there fresh from hub_is mem_is n_is r_is = built_hub m hubs (HubOf id) id h mem n t refl there fresh from hub_is mem_is n_is r_is
+hub_made m hubs id h mem n (Err x) there fresh from hub_is mem_is n_is r_is = tt
 
 -- ---- a plain operator
 

@@ -1,5 +1,6 @@
 -- How many items the nodes of a tree that was built want first.
 use Rattle.std.proofs.Common.{◌≡◌, ℕ, zero, suc, ◌+◌, ◌-◌, ◌/◌, ◌<◌, ◌≤◌, Bool, true, false, List, [], ◌∷◌, get_or, map, refl, ap, ◌∙◌, arith, Box, Vec, Global}
+use Rattle.std.specs.Prelude.{ℤ}
 use Rattle.std.proofs.Math.Nat.{zero-div}
 use Rattle.std.proofs.lemmas.List.{append-nil}
 use Rattle.rsx_types.specs.declared.names.HubId.{HubId}
@@ -14,8 +15,8 @@ use Rattle.rsx_model.specs.declared.expr.Expr.{Expr}
 use Rattle.rsx_model.specs.declared.expr.Expr.TheFolds.{fold_out-Expr, map-Expr}
 use Rattle.rsx_model.specs.declared.expr.Expr.TheOpen.{Expr-F}
 use Rattle.rsx_model.specs.declared.expr.Expr.TheOpen as layer
-use Rattle.rsx_model.specs.declared.expr.Expr.TheViews.{Plain, Group, Window, Flat, On, out-Expr, outs-Items, outs-Hub, outs-Plain, outs-Group, outs-Window, outs-Flat, outs-On}
-use Rattle.rsx_model.specs.declared.expr.Expr.TheVariants.{Items, Hub}
+use Rattle.rsx_model.specs.declared.expr.Expr.TheViews.{Plain, Group, Window, Flat, On, out-Expr, outs-Items, outs-Range, outs-Hub, outs-Plain, outs-Group, outs-Window, outs-Flat, outs-On}
+use Rattle.rsx_model.specs.declared.expr.Expr.TheVariants.{Items, Range, Hub}
 use Rattle.rsx_model.proofs.Unfold.{children-map}
 use Rattle.rsx_several.specs.Kind.{first_wanted}
 use Rattle.rsx_several.specs.Several.{several_wanted}
@@ -117,6 +118,9 @@ fresh_wants_out {T} e =
 
 pub wants_Items : {T : Type 0} (v : Vec T Global) → fresh_wants (Items v) ≡ []
 wants_Items {T} v = rw (fold_out-Expr, outs-Items) refl
+
+pub wants_Range : (T : Type 0) (a : ℤ) (k : ℕ) → fresh_wants {T = T} (Range a k) ≡ []
+wants_Range T a k = rw (fold_out-Expr, outs-Range) refl
 
 pub wants_Hub : (T : Type 0) (h : HubId) → fresh_wants {T = T} (Hub h) ≡ []
 wants_Hub T h = rw (fold_out-Expr, outs-Hub) refl

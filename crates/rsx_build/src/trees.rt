@@ -9,6 +9,8 @@ ghost use Rattle.rsx_build.specs.Built.{IsBuilt, AreBuilt, IsBuiltOver, IsPlainO
 ghost use Rattle.rsx_build.specs.Made.{IsFlatMap, IsGroupBy, IsInFront, IsOver, IsOverOne, IsPlain, IsPublishOn, IsSeveral, IsWindow};
 ghost use Rattle.rsx_several.specs.Kind.{IsWithin};
 
+use crate::TreeNode;
+use rsx_boxed::Boxed;
 use rsx_chain::copy_stages;
 use rsx_flat_map::FlatMapNode;
 use rsx_group_by::GroupByNode;
@@ -35,7 +37,7 @@ pub fn build<O: Ops>(
     ops: &O,
     expr: &Expr<O::Item>,
     hubs: &[Hub<O::Item>],
-) -> Result<Node<AnyNode<O::Item>>, NoMemory>
+) -> Result<Node<TreeNode<O::Item>>, NoMemory>
     requires { first_fault (length hubs.now) expr.now ≡ None }
     ensures { IfOk result (λ tree. IsBuilt (O.meaning ops.now) hubs.now expr.now tree) }
 {
@@ -43,7 +45,7 @@ pub fn build<O: Ops>(
         Expr::Items(items) => build_items(alloc, ops, items),
         Expr::Range(first, count) => {
             let node = RangeNode::new(*first, *count);
-            Ok(source(SourceNode::Range(node)))
+            source(alloc, SourceNode::Range(node))
         }
         Expr::Hub(number) => build_leaf(alloc, ops, *number, hubs),
         Expr::Plain(stage, input) => {
@@ -91,7 +93,7 @@ fn build_over<O: Ops>(
     kind: SeveralKind,
     inputs: &[Expr<O::Item>],
     hubs: &[Hub<O::Item>],
-) -> Result<Node<AnyNode<O::Item>>, NoMemory>
+) -> Result<Node<TreeNode<O::Item>>, NoMemory>
     requires within { IsWithin kind }
     requires some { 1 ≤ length inputs.now }
     requires most { length inputs.now ≤ MOST_INPUTS }
@@ -99,7 +101,7 @@ fn build_over<O: Ops>(
     ensures { IfOk result (λ tree. IsBuiltOver (O.meaning ops.now) hubs.now kind inputs.now tree) }
 {
     let row = build_inputs(alloc, ops, inputs, hubs)?;
-    over(several(alloc, kind, inputs.len() as u32), row, false)
+    over(alloc, several(alloc, kind, inputs.len() as u32), row, false)
 }
 
 /// The trees of these expressions as the inputs of a node, in their order.
@@ -109,7 +111,7 @@ fn build_inputs<O: Ops>(
     ops: &O,
     exprs: &[Expr<O::Item>],
     hubs: &[Hub<O::Item>],
-) -> Result<Inputs<AnyNode<O::Item>>, NoMemory>
+) -> Result<Inputs<TreeNode<O::Item>>, NoMemory>
     requires { first_of (map (first_fault (length hubs.now)) exprs.now) ≡ None }
     ensures { IfOk result (λ row. AreBuilt (O.meaning ops.now) hubs.now exprs.now row) }
 {
@@ -127,11 +129,11 @@ fn build_items<O: Ops>(
     alloc: Global,
     ops: &O,
     items: &Vec<O::Item>,
-) -> Result<Node<AnyNode<O::Item>>, NoMemory>
+) -> Result<Node<TreeNode<O::Item>>, NoMemory>
     ensures { IfOk result (λ tree. (hubs : List (HubState O.Item)) → IsBuilt (O.meaning ops.now) hubs (ItemsOf items.now) tree) }
 {
     let node = ItemsNode::new(alloc, ops, items)?;
-    Ok(source(SourceNode::Items(node)))
+    source(alloc, SourceNode::Items(node))
 }
 
 /// The tree of a leaf that reads the hub with this number.
@@ -140,13 +142,13 @@ fn build_leaf<O: Ops>(
     ops: &O,
     number: HubId,
     hubs: &[Hub<O::Item>],
-) -> Result<Node<AnyNode<O::Item>>, NoMemory>
+) -> Result<Node<TreeNode<O::Item>>, NoMemory>
     requires { number.0 < length hubs.now }
     ensures { IfOk result (λ tree. IsBuilt (O.meaning ops.now) hubs.now (HubOf number) tree) }
 {
     let hub = &hubs[number.0 as usize];
     let member = hub.member(alloc, ops)?;
-    Ok(source(SourceNode::Hub(HubLeaf::new(number.0, member))))
+    source(alloc, SourceNode::Hub(HubLeaf::new(number.0, member)))
 }
 
 /// The tree of a plain operator over this one.
@@ -154,12 +156,12 @@ fn build_plain<O: Ops>(
     alloc: Global,
     ops: &O,
     stage: &Stage<O::Item>,
-    below: Node<AnyNode<O::Item>>,
-) -> Result<Node<AnyNode<O::Item>>, NoMemory>
+    below: Node<TreeNode<O::Item>>,
+) -> Result<Node<TreeNode<O::Item>>, NoMemory>
     ensures { IfOk result (λ tree. IsPlainOver stage.now below tree) }
 {
     let row = below.join(alloc, Inputs::End)?;
-    over(plain(alloc, ops, stage), row, is_over_at_once(stage))
+    over(alloc, plain(alloc, ops, stage), row, is_over_at_once(stage))
 }
 
 /// A plain operator as a node of any kind.
@@ -191,14 +193,14 @@ fn is_over_at_once<T>(stage: &Stage<T>) -> bool
 fn build_publish_on<T: Drop>(
     alloc: Global,
     prefetch: u64,
-    below: Node<AnyNode<T>>,
-) -> Result<Node<AnyNode<T>>, NoMemory>
+    below: Node<TreeNode<T>>,
+) -> Result<Node<TreeNode<T>>, NoMemory>
     requires positive { 1 ≤ prefetch }
     requires within { prefetch ≤ MOST_PREFETCH }
     ensures { IfOk result (λ tree. IsPublishOnOver prefetch below tree) }
 {
     let row = below.join(alloc, Inputs::End)?;
-    over(publish_on(alloc, prefetch), row, false)
+    over(alloc, publish_on(alloc, prefetch), row, false)
 }
 
 /// A `publishOn` as a node of any kind.
@@ -217,12 +219,12 @@ fn build_window<O: Ops>(
     ops: &O,
     size: u64,
     stages: &[Stage<O::Item>],
-    below: Node<AnyNode<O::Item>>,
-) -> Result<Node<AnyNode<O::Item>>, NoMemory>
+    below: Node<TreeNode<O::Item>>,
+) -> Result<Node<TreeNode<O::Item>>, NoMemory>
     ensures { IfOk result (λ tree. IsWindowOver size stages.now below tree) }
 {
     let row = below.join(alloc, Inputs::End)?;
-    over(window(alloc, ops, size, stages), row, false)
+    over(alloc, window(alloc, ops, size, stages), row, false)
 }
 
 /// A node of windows as a node of any kind.
@@ -275,11 +277,12 @@ fn several<T: Drop>(alloc: Global, kind: SeveralKind, inputs: u32) -> Result<Any
 }
 
 /// The tree of a node over a row of inputs. Where the node has put out its ending already, all below it is closed.
-fn over<M: Drop>(
-    node: Result<M, NoMemory>,
-    row: Inputs<M>,
+fn over<T: Drop>(
+    alloc: Global,
+    node: Result<AnyNode<T>, NoMemory>,
+    row: Inputs<TreeNode<T>>,
     has_ended: bool,
-) -> Result<Node<M>, NoMemory>
+) -> Result<Node<TreeNode<T>>, NoMemory>
     ensures { IfOk result (λ tree. IsOver node row has_ended tree) }
 {
     let mut inputs = row;
@@ -287,7 +290,10 @@ fn over<M: Drop>(
         inputs.close();
     }
     match node {
-        Ok(machine) => Ok(Node { machine, inputs }),
+        Ok(machine) => {
+            let machine = Boxed::new(alloc, machine)?;
+            Ok(Node { machine, inputs })
+        }
         Err(NoMemory) => Err(NoMemory),
     }
 }
@@ -296,12 +302,13 @@ fn over<M: Drop>(
 fn over_one<T: Drop>(
     alloc: Global,
     node: Result<AnyNode<T>, NoMemory>,
-    below: Node<AnyNode<T>>,
-) -> Result<Node<AnyNode<T>>, NoMemory>
+    below: Node<TreeNode<T>>,
+) -> Result<Node<TreeNode<T>>, NoMemory>
     ensures { IfOk result (λ tree. IsOverOne node below tree) }
 {
     match node {
         Ok(machine) => {
+            let machine = Boxed::new(alloc, machine)?;
             let inputs = below.join(alloc, Inputs::End)?;
             Ok(Node { machine, inputs })
         }
@@ -324,12 +331,13 @@ fn in_front<M: Drop>(
 }
 
 /// The tree of a source alone.
-fn source<T: Drop>(node: SourceNode<T>) -> Node<AnyNode<T>>
-    ensures machine { result.machine ≡ AnyNode.Source node }
-    ensures inputs { result.inputs ≡ Inputs.End }
+fn source<T: Drop>(alloc: Global, node: SourceNode<T>) -> Result<Node<TreeNode<T>>, NoMemory>
+    ensures machine { IfOk result (λ tree. tree.machine ≡ AnyNode.Source node) }
+    ensures inputs { IfOk result (λ tree. tree.inputs ≡ Inputs.End) }
 {
-    Node {
-        machine: AnyNode::Source(node),
+    let machine = Boxed::new(alloc, AnyNode::Source(node))?;
+    Ok(Node {
+        machine,
         inputs: Inputs::End,
-    }
+    })
 }

@@ -1,9 +1,8 @@
 //! A part of a graph: one tree of nodes with its edges.
 
-use rsx_build::build;
+use rsx_build::{build, TreeNode};
 use rsx_hub::Hub;
 use rsx_model::Expr;
-use rsx_node::AnyNode;
 use rsx_queue::SignalQueue;
 pub use rsx_rooted::Pumped;
 use rsx_rooted::Rooted;
@@ -23,7 +22,7 @@ use std::marker::Model;
 #[derive(Drop)]
 pub struct Part<T> {
     /// The tree, with the edge from its root to its receiver.
-    pub(crate) rooted: Rooted<AnyNode<T>>,
+    pub(crate) rooted: Rooted<TreeNode<T>>,
 }
 
 impl<T> Model for Part<T> {

@@ -1,5 +1,6 @@
 use Rattle.std.proofs.Common.{length, rules}
-use Rattle.rsx_build.proofs.Builds.{hub_read, items_if, leaf_if, plain_if}
+use Rattle.std.proofs.lemmas.Int.{to_z-of_z}
+use Rattle.rsx_build.proofs.Builds.{hub_read, items_if, leaf_if, plain_if, range_if}
 use Rattle.rsx_build.proofs.FlatMaps.{flat_if}
 use Rattle.rsx_build.proofs.GroupBys.{group_if}
 use Rattle.rsx_build.proofs.Made.{in_front_built, several_over}
@@ -8,9 +9,17 @@ use Rattle.rsx_build.proofs.Rows.{split}
 use Rattle.rsx_build.proofs.Several.{built_concat, built_latest, built_merge, built_zip, limits_Concat, limits_Latest, limits_Merge, limits_Zip}
 use Rattle.rsx_build.proofs.Windows.{window_if}
 use Rattle.rsx_build.proofs.trees.+trees.Goals as goal
+use mir.Syntax.{w64}
+use mir.Val.{SFits}
 
 pub build-returns-in-Items : goal.build-returns-in-Items
 build-returns-in-Items g t c = items_if (g.O.Ops.meaning c.args.ops.now) c.args.hubs.now c.args.expr.now c.in-Items.items c.build_items.result c.in-Items.is c.build_items.ensures
+
+pub build-returns-in-Range : goal.build-returns-in-Range
+build-returns-in-Range g t c =
+    let f : SFits w64 c.in-Range.first = search rules in
+    range_if (g.O.Ops.meaning c.args.ops.now) c.args.hubs.now c.args.expr.now c.in-Range.first c.in-Range.count c.new-node.result c.source.result
+    c.in-Range.is (rw (to_z-of_z w64 c.in-Range.first f) at c.new-node.ensures.fresh) c.source.ensures.machine c.source.ensures.inputs
 
 pub build-build_leaf-requires : goal.build-build_leaf-requires
 build-build_leaf-requires g t c =
