@@ -11,7 +11,7 @@ use Rattle.rsx_words.specs.Numbers.{u32_of, u64_of, signed_of}
 use Rattle.rsx_words.specs.Reading.{Left, line_of, ◌>>=◌, next_at, end_at, name_at, number_at}
 use Rattle.rsx_words.specs.Words.{Written, opening, closing, text, strange, nothing}
 use Rattle.rsx_commands.specs.Expressions.{expression_at}
-use Rattle.rsx_commands.specs.Orders.{Order, make_hub, emit, complete, fail, subscribe, request, cancel, pump, pick, show, asked, count, joins, choices, check}
+use Rattle.rsx_commands.specs.Orders.{Order, make_hub, feed_hub, emit, complete, fail, subscribe, request, cancel, pump, pick, show, asked, count, joins, choices, check}
 
 -- the number of a hub or of a subscription, alone
 abbrev pub with_one : (ℕ → Order) → Left → Result (Order × Left) LineRefusal
@@ -99,11 +99,20 @@ with_expression most l = do
   e ← expression_at most l
   Ok (subscribe e.0, e.1)
 
+-- the kind and the capacity of a hub, and the expression that feeds it
+unfoldable pub feed_at : ℕ → Left → Result (Order × Left) LineRefusal
+feed_at most l = do
+  kind ← hub_kind_at l
+  capacity ← number_at u64_of kind.1
+  e ← expression_at most capacity.1
+  Ok (feed_hub kind.0 capacity.0 e.0, e.1)
+
 -- all commands
 unfoldable pub command_at : ℕ → ℕ → List ℕ → Left → Result (Order × Left) LineRefusal
 command_at most column name l =
     if bytes_eq name (codes "subscribe") then with_expression most l
-    else plain_command_at column name l
+    else (if bytes_eq name (codes "feed") then feed_at most l
+    else plain_command_at column name l)
 
 -- the command with which the first word of a line begins, and no word behind it; a line without words has none
 abbrev pub line_from : ℕ → (ℕ × Written) × Left → Result (Option Order) LineRefusal

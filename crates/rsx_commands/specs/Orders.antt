@@ -54,6 +54,7 @@ tree_of = fold-Expr Val Tree node_of
 -- a command
 pub data Order : Type 0 where
   make_hub : HubKind → ℕ → Order
+  feed_hub : HubKind → ℕ → Tree → Order
   emit : ℕ → ℤ → Order
   complete : ℕ → Order
   fail : ℕ → ℕ → Order
@@ -71,6 +72,7 @@ pub data Order : Type 0 where
 
 abbrev pub order_of : Command → Order
 order_of (asks.Hub kind capacity) = make_hub kind capacity
+order_of (asks.Feed kind capacity expr) = feed_hub kind capacity (tree_of expr)
 order_of (asks.Emit h value) = emit h.0 value
 order_of (asks.Complete h) = complete h.0
 order_of (asks.Fail h number) = fail h.0 number

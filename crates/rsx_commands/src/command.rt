@@ -9,6 +9,8 @@ use rsx_types::{HubId, HubKind, NodeId, SubId};
 pub enum Command {
     /// `hub multicast C` or `hub replay N C`
     Hub(HubKind, u64),
+    /// `feed multicast C EXPR` or `feed replay N C EXPR`
+    Feed(HubKind, u64, Expr<Val>),
     /// `emit H V`
     Emit(HubId, i64),
     /// `complete H`

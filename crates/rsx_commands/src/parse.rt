@@ -4,7 +4,7 @@ ghost use Rattle.std.specs.Prelude.{◌≡◌, ◌<◌, ◌≤◌, ℕ, length, 
 ghost use Rattle.rsx_words.specs.Numbers.{u32_of};
 ghost use Rattle.rsx_words.specs.Reading.{Gives, GivesInMemory, left, bytes_left, number_at};
 ghost use Rattle.rsx_commands.specs.Orders.{order_of};
-ghost use Rattle.rsx_commands.specs.Commands.{input_of, input_at, pick_at, hub_kind_at, hub_command_at, plain_command_at, command_at, line_at, meaning_of_line};
+ghost use Rattle.rsx_commands.specs.Commands.{input_of, input_at, pick_at, feed_at, hub_kind_at, hub_command_at, plain_command_at, command_at, line_at, meaning_of_line};
 
 use crate::command::Command;
 use crate::expression::expression;
@@ -63,8 +63,19 @@ fn command_of(
 {
     match name {
         "subscribe" => Ok(Command::Subscribe(expression(alloc, words)?)),
+        "feed" => feed(alloc, words),
         _ => plain_command_of(column, name, words),
     }
+}
+
+/// A hub that is fed: its kind and capacity, and the expression.
+#[tactic(auto, unfolding(crate::specs::Commands::feed_at))]
+fn feed(alloc: Global, words: &mut Words<'_>) -> Result<Command, LineRefusal>
+    ensures { (n : ℕ) → bytes_left words.old < n → GivesInMemory (λ x. (order_of x, left words.new)) result (feed_at n (left words.old)) }
+{
+    let kind = hub_kind(words)?;
+    let capacity = words.u64()?;
+    Ok(Command::Feed(kind, capacity, expression(alloc, words)?))
 }
 
 /// The command with this name, which stands at this column and is followed by numbers alone.
@@ -145,7 +156,8 @@ fn number_of_input(word: &str) -> Option<u64>
 /// The kind of a hub: `multicast`, or `replay` and how many items it keeps.
 #[tactic(auto, unfolding(crate::specs::Commands::hub_kind_at))]
 fn hub_kind(words: &mut Words<'_>) -> Result<HubKind, LineRefusal>
-    ensures { Gives (λ x. (x, left words.new)) result (hub_kind_at (left words.old)) }
+    ensures word { Gives (λ x. (x, left words.new)) result (hub_kind_at (left words.old)) }
+    ensures most { bytes_left words.new ≤ bytes_left words.old }
 {
     let (column, name) = words.name()?;
     match name {

@@ -1,6 +1,6 @@
 -- Where a script begins.
 use Rattle.std.proofs.Common.{◌≡◌, [], refl, ◌∙◌}
-use Rattle.rsx_session.specs.History.{no_history}
+use Rattle.rsx_session.specs.Steps.{no_history}
 use Rattle.rsx_session.specs.Sessions.{SessionStands}
 use Rattle.rsx_session.specs.declared.session.Session.{Session}
 use Rattle.rsx_session.specs.declared.session.View.{View}

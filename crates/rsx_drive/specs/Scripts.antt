@@ -2,8 +2,8 @@
 use Rattle.std.specs.Prelude.{◌≡◌, ◌⊎◌, ℕ, List, [], ◌∷◌, ◌++◌, Some, None, Ok, Err}
 use Rattle.rsx_demo.specs.Demo.{demo_meaning}
 use Rattle.rsx_demo.specs.declared.val.Val.{Val}
-use Rattle.rsx_session.specs.History.{History}
-use Rattle.rsx_session.specs.Stands.{StandsFor}
+use Rattle.rsx_session.specs.Rows.{History}
+use Rattle.rsx_session.specs.Stands.{GraphStands}
 use Rattle.rsx_words.specs.declared.words.LineRefusal.{LineRefusal}
 use Rattle.rsx_words.specs.declared.words.LineRefusal.TheVariants.{NoMemory}
 use Rattle.rsx_commands.specs.Commands.{meaning_of_line}
@@ -37,7 +37,7 @@ AreAnswered view (line ∷ others) old text new =
 pub record IsScript (view : View) (lines : List (List ℕ)) (text : List ℕ) : Type 0 where
   pub last : Place
   pub answered : AreAnswered view lines begun text last
-  pub stands : StandsFor demo_meaning last.graph last.history
+  pub stands : GraphStands demo_meaning last.graph last.history
 
 -- why a line has no answer: it can't be read, or memory is wanted
 abbrev pub IsBadLine : List ℕ → LineRefusal → Type 0

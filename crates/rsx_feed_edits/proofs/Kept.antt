@@ -1,5 +1,5 @@
--- The joins that are kept beside the rows go on being those of the history, by new hubs and by moves.
-use Rattle.std.proofs.Common.{◌≡◌, inl, inr, ℕ, zero, suc, Bool, true, false, nat_eq, if◌then◌else◌, List, [], ◌∷◌, ◌++◌, length, map, slice_get, Option, Some, None, option_map, refl, ap, sym, ◌∙◌, subst, arith}
+-- The joins that are kept beside the rows go on being those of the history, by new hubs, by what is published and by moves.
+use Rattle.std.proofs.Common.{◌≡◌, ◌⊎◌, inl, inr, ℕ, zero, suc, Bool, true, false, nat_eq, if◌then◌else◌, List, [], ◌∷◌, ◌++◌, length, map, slice_get, Option, Some, None, option_map, refl, ap, sym, ◌∙◌, subst, arith}
 use Rattle.rsx_feeding.proofs.Named.{is_number, other_number}
 use Rattle.rsx_feeding.specs.History.{History, HubPast, Source, accepted_at, emitted, fed, sent_at, with_delivery, with_made, with_moved, with_sent}
 use Rattle.rsx_feeding.specs.Stands.{Rows, StandsFor, place_of}
@@ -12,6 +12,7 @@ use Rattle.rsx_publishing.specs.declared.feed.Feed.{Feed}
 use Rattle.rsx_subscriber.specs.Past.{given}
 use Rattle.rsx_types.specs.Meaning.{Meaning}
 use Rattle.rsx_types.specs.Stream.{ended_by}
+use Rattle.rsx_types.specs.declared.names.HubId.{HubId}
 use Rattle.rsx_types.specs.declared.names.HubKind.{HubKind}
 use Rattle.rsx_types.specs.declared.names.Move.{Move}
 use Rattle.rsx_types.specs.declared.names.Move.TheVariants.{Ask, Send, Take, Pick, Row, Accept}
@@ -22,6 +23,7 @@ use Rattle.rsx_types.specs.declared.signal.Ending.TheVariants.{Open}
 use Rattle.rsx_types.specs.declared.signal.Signal.{Signal}
 use Rattle.rsx_feed_edits.specs.Edits.{NameHubs, joins_in, with_fed_hub, with_hub}
 use Rattle.rsx_feed_edits.specs.Joins.{AreFeedJoins, HasFeedJoins, JoinsStand}
+use Rattle.rsx_feed_edits.specs.Publishes.{published_at, published_from, with_published}
 use Rattle.rsx_feed_edits.proofs.Behind.{last_or, still_there}
 use Rattle.rsx_feed_edits.proofs.Subscribed.{new_joins_there}
 
@@ -151,3 +153,26 @@ kept_made (Take t n) o s h = kept_moved t o s h
 kept_made (Pick t n i) o s h = kept_moved t o s h
 kept_made (Row t n) o s h = kept_moved t o s h
 kept_made (Accept i) o s h = record { joins = refl; sources = kept_changed (λ p. p.source) accepted_at (λ p. refl) h.hubs i.0 }
+
+-- ---- what is published
+
+-- one element changed: what stands there is what stood there, or that changed
+got_changed : {A : Type 0} (f : A → A) (xs : List A) (n i : ℕ) (y : A) → slice_get (changed f xs n) i ≡ Some y → (x : A) × (slice_get xs i ≡ Some x) × ((y ≡ x) ⊎ (y ≡ f x))
+got_changed f [] n i y e = cc
+got_changed f (x ∷ xs) zero zero y e = (x, refl, inr (sym (some_same (f x) y e)))
+got_changed f (x ∷ xs) zero (suc i) y e = (y, e, inl refl)
+got_changed f (x ∷ xs) (suc n) zero y e = (x, refl, inl (sym (some_same x y e)))
+got_changed f (x ∷ xs) (suc n) (suc i) y e = got_changed f xs n i y e
+
+pub joins_published : {T : Type 0} (s : Signal T) (n : HubId) (feeds : List (Feed T)) (sub_joins feed_joins : List (List ℕ)) (h : History T) → JoinsStand feeds sub_joins feed_joins h → JoinsStand feeds sub_joins feed_joins (with_published s n h)
+joins_published {T} s n feeds sub_joins feed_joins h j = record { subs = j.subs; fed = each }
+  where
+    publishes : (i : ℕ) (src : Source T) → HasFeedJoins feeds feed_joins i src → HasFeedJoins feeds feed_joins i (published_from s src)
+    publishes i (emitted w) r = tt
+    publishes i (fed x ks) r = r
+
+    each : (i : ℕ) (p : HubPast T) → slice_get (changed (published_at s) h.hubs n.0) i ≡ Some p → HasFeedJoins feeds feed_joins i p.source
+    each i p q =
+        let was = got_changed (published_at s) h.hubs n.0 i p q in
+        let P : HubPast T → Type 0 = λ r. HasFeedJoins feeds feed_joins i r.source in
+        elim was.2 [ inl a ↦ subst P (sym a) (j.fed i was.0 was.1) | inr b ↦ subst P (sym b) (publishes i was.0.source (j.fed i was.0 was.1)) ]

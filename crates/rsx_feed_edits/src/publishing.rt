@@ -20,13 +20,22 @@ use rsx_publishing::Feed;
 use rsx_types::{HubId, NoMemory, Ops};
 use std::alloc::Global;
 
-/// An item that a hub did not accept, and why.
+/// An item that a hub did not accept, and why. By `?` the refusal alone goes on.
 #[derive(Debug, Drop)]
 pub struct NotEmitted<T> {
     /// Why it was not accepted.
     pub refusal: Refusal,
     /// The item, which comes back.
     pub item: T,
+}
+
+impl<T: Drop> From<NotEmitted<T>> for Refusal {
+    /// Why it was not accepted; the item is let go.
+    fn from(back: NotEmitted<T>) -> Refusal
+        ensures { result ≡ back.refusal }
+    {
+        back.refusal
+    }
 }
 
 /// Publishes an item at a hub with an emitter: it waits in the hub's inbox, behind the others, until the hub takes it in. The other

@@ -1,54 +1,72 @@
-//! A graph of subscriptions.
+//! A graph of hubs and subscriptions.
 
 ghost use Rattle.std.specs.Prelude.{◌≡◌, ◌≢◌, ◌<◌, ◌≤◌, ◌++◌, ◌∷◌, [], length, OnOk, OnErr, IfOk, IfErr, IsOk, None, Some, true, false};
+ghost use Rattle.rsx_pipe.specs.Built.{new_joins};
 ghost use Rattle.rsx_subscriber.specs.Delivered.{IsFull};
 ghost use Rattle.rsx_subscriber.specs.Past.{cancelled, requested};
 ghost use Rattle.rsx_subscriber.specs.Stands.{IsMadeAnswer};
-ghost use Rattle.rsx_history.specs.History.{no_history, with_subscriber, with_past, with_made, extended, all_extended, IsSubscribeId, IsSubscribeRefusal, Belongs, AllBelong, HasAsked, HasTreeJoins, state_at, IsLookRefusal, IsTreeRefusal};
-ghost use Rattle.rsx_history.specs.Stands.{StandsFor, IsAsideSame, nothing, IsRequestedAt, IsCancelledAt, IsOwed, HasNotes, HasNotesAt};
-ghost use Rattle.rsx_history.specs.Begun.{IsSubscribed, HaveJoined, AreTooMany};
-ghost use Rattle.rsx_history.specs.Served.{IsAllServed};
-ghost use Rattle.rsx_history.specs.declared.TheConstants.{MOST_SUBSCRIPTIONS, MOST_HUBS};
+ghost use Rattle.rsx_history.specs.Begun.{HaveJoined, IsSubscribed, have_places};
+ghost use Rattle.rsx_history.specs.History.{HasAsked, IsLookRefusal, IsSubscribeId, state_at};
+ghost use Rattle.rsx_history.specs.Stands.{IsCancelledAt, IsRequestedAt};
+ghost use Rattle.rsx_feeding.specs.History.{with_made};
+ghost use Rattle.rsx_feed_edits.specs.Edits.{NameHubs};
+ghost use Rattle.rsx_feed_edits.specs.Requests.{with_past};
+ghost use Rattle.rsx_feed_edits.specs.Subscribing.{IsSubscribeRefusal, with_subscriber};
+ghost use Rattle.rsx_feed_looks.specs.Looks.{HasNotes, HasTreeJoins, IsOwed, IsTreeLookRefusal};
+ghost use Rattle.rsx_graph.specs.Read.{IsAllRead};
+ghost use Rattle.rsx_graph.specs.Stands.{AreJoinsSame, GraphStands, IsAllServed, IsAsideSame, NameHubs-prop, nothing};
+ghost use Rattle.rsx_graph.specs.Steps.{Belongs, extended, no_history};
+ghost use Rattle.rsx_history.specs.declared.TheConstants.{MOST_HUBS, MOST_SUBSCRIPTIONS};
 
-use crate::joining::copied;
-use rsx_driving::{make, pump};
-use rsx_history::{Answer, Pumped, Refusal, Step};
+use crate::step::Step;
+use rsx_feed_driving::{make, pump};
+use rsx_feed_edits::{cancel, request, subscribe};
+use rsx_feed_looks::{joins, notes, owed};
+use rsx_history::{Answer, Pumped, Refusal};
 pub use rsx_history::{MOST_HUBS, MOST_SUBSCRIPTIONS};
 use rsx_hub::Hub;
-use rsx_leaves::{count_in, have_places, inboxes_of};
-use rsx_model::{Expr, check_expr};
+use rsx_model::Expr;
+use rsx_publishing::Feed;
 use rsx_subscriber::{Deliveries, Subscription, SubscriptionState};
-use rsx_types::{Ending, Move, NoMemory, Note, Ops, Signal, StreamValue, SubId, Tree};
+use rsx_types::{Move, Note, Ops, Signal, StreamValue, SubId, Tree};
 use std::alloc::Global;
 
-/// Hubs, and subscriptions to expressions, driven by edits and moves.
+/// Hubs, some of them fed by expressions, and subscriptions to expressions, driven by edits and moves.
 #[derive(Drop)]
 pub struct Graph<O: Ops> {
     /// The functions of the caller.
     pub(crate) ops: O,
     /// The hubs, in the order of their making.
     pub(crate) hubs: Vec<Hub<O::Item>>,
+    /// The feeds of those hubs that expressions feed, in the order of their making. Each names its hub.
+    pub(crate) feeds: Vec<Feed<O::Item>>,
+    /// The joins of each feed's leaves that read a hub, from left to right.
+    pub(crate) feed_joins: Vec<Vec<u64>>,
     /// The subscriptions, in the order of their making.
     pub(crate) subscriptions: Vec<Subscription<O::Item>>,
     /// The joins of each subscription's leaves that read a hub, from left to right.
     pub(crate) joins: Vec<Vec<u64>>,
     pub ghost few: { length subscriptions.items ≤ MOST_SUBSCRIPTIONS },
     pub ghost few_hubs: { length hubs.items ≤ MOST_HUBS },
+    pub ghost named: { NameHubs (length hubs.items) feeds.items } by { NameHubs-prop (length hubs.items) feeds.items },
+    pub ghost beside: { length feed_joins.items ≡ length feeds.items },
 }
 
 impl<O: Ops> Graph<O> {
-    ghost use Rattle.rsx_graph.specs.InGraph.{state_of, IfStandsFor, StandsAfter, enabled_in, allocates_in, IsMadeIn, IsRefusedIn, drives_allocate_in, HasPumped, IsDoneIn, AllDoneIn};
+    ghost use Rattle.rsx_graph.specs.InGraph.{state_of, IfStandsFor, StandsAfter, enabled_in, allocates_in, sent_in, IsMadeIn, IsRefusedIn, drives_allocate_in, HasPumpedIn, fed_in, IsDoneIn, HasRunIn};
 
     /// A graph with no hub and no subscription. It takes no memory so far, and is never refused.
     pub fn new(alloc: Global, ops: O) -> Result<Graph<O>, Refusal>
         ensures made { IsOk result }
         ensures ops { IfOk result (λ g. g.ops ≡ ops) }
         ensures empty { IfOk result (λ g. state_of g ≡ nothing) }
-        ensures stands { IfOk result (λ g. StandsFor (O.meaning ops) (state_of g) no_history) }
+        ensures stands { IfOk result (λ g. GraphStands (O.meaning ops) (state_of g) no_history) }
     {
         Ok(Graph {
             ops,
             hubs: Vec::new(alloc),
+            feeds: Vec::new(alloc),
+            feed_joins: Vec::new(alloc),
             subscriptions: Vec::new(alloc),
             joins: Vec::new(alloc),
         })
@@ -67,29 +85,26 @@ impl<O: Ops> Graph<O> {
         ensures stands { OnOk result (StandsAfter (with_subscriber expr.now) self.old self.new) }
         ensures effect { OnOk result (IsSubscribed expr.now self.old.subscriptions.items self.new.subscriptions.items) }
         ensures joined { OnOk result (HaveJoined expr.now self.old.hubs.items self.new.hubs.items) }
+        ensures missed { OnOk result ((state_of self.new).joins ≡ (state_of self.old).joins ++ new_joins self.old.hubs.items expr.now ∷ []) }
+        ensures feeds { self.new.feeds.items ≡ self.old.feeds.items }
+        ensures feed_joins { self.new.feed_joins.items ≡ self.old.feed_joins.items }
         ensures id { IfOk result (λ id. IsSubscribeId (length self.old.hubs.items) (length self.old.subscriptions.items) expr.now id) }
-        ensures err { IfErr result (λ r. IsSubscribeRefusal (length self.old.hubs.items) (length self.old.subscriptions.items) expr.now r) }
-        ensures places { IfErr result (λ r. r ≡ Refusal.TooMany → AreTooMany expr.now self.old.hubs.items (length self.old.subscriptions.items)) }
+        ensures places { OnOk result (have_places 0 expr.now self.old.hubs.items ≡ true) }
+        ensures err { IfErr result (λ r. IsSubscribeRefusal expr.now self.old.hubs.items (length self.old.subscriptions.items) r) }
         ensures same { OnErr result (state_of self.new ≡ state_of self.old) }
     {
-        if let Err(kind) = check_expr(expr, self.hubs.len() as u32) {
-            return Err(Refusal::BadExpr(kind));
+        let ops = self.ops;
+        match subscribe(
+            alloc,
+            &ops,
+            &mut self.hubs,
+            &mut self.subscriptions,
+            &mut self.joins,
+            expr,
+        ) {
+            Ok(id) => Ok(id),
+            Err(why) => Err(why),
         }
-        let count = self.subscriptions.len();
-        if count >= MOST_SUBSCRIPTIONS || !have_places(expr, &self.hubs) {
-            return Err(Refusal::TooMany);
-        }
-        match self.reserve() {
-            Ok(()) => {}
-            Err(NoMemory) => return Err(Refusal::NoMemory),
-        }
-        let made = match self.prepare(alloc, expr) {
-            Ok(made) => made,
-            Err(NoMemory) => return Err(Refusal::NoMemory),
-        };
-        self.add(made);
-        count_in(expr, &mut self.hubs);
-        Ok(SubId(count as u32))
     }
 
     /// Cancels a subscription (rules 3.5 to 3.7): the edges of its part are closed, and nothing is queued for it. Where it
@@ -104,15 +119,12 @@ impl<O: Ops> Graph<O> {
         ensures effect { OnOk result (IsCancelledAt sub.0 self.old.subscriptions.items self.new.subscriptions.items) }
         ensures known { OnOk result (sub.0 < length self.old.subscriptions.items) }
         ensures err { IfErr result (λ r. (r ≡ Refusal.UnknownSub) × (length self.old.subscriptions.items ≤ sub.0)) }
-        ensures same { OnErr result (self.new.subscriptions.items ≡ self.old.subscriptions.items) }
+        ensures same { OnErr result (state_of self.new ≡ state_of self.old) }
     {
-        let at = sub.0 as usize;
-        if at >= self.subscriptions.len() {
-            return Err(Refusal::UnknownSub);
+        match cancel(&mut self.subscriptions, sub) {
+            Ok(()) => Ok(()),
+            Err(why) => Err(why),
         }
-        let subscription = &mut self.subscriptions[at];
-        subscription.cancel();
-        Ok(())
     }
 
     /// Requests `n` items more, at most 2^63-1 in all (rules 3.8, 3.9 and 3.17). The signal is the error of a bad request,
@@ -126,35 +138,36 @@ impl<O: Ops> Graph<O> {
         ensures stands { OnOk result (StandsAfter (with_past (requested n) sub) self.old self.new) }
         ensures effect { IfOk result (λ o. IsRequestedAt sub.0 n self.old.subscriptions.items self.new.subscriptions.items o) }
         ensures err { IfErr result (λ r. (r ≡ Refusal.UnknownSub) × (length self.old.subscriptions.items ≤ sub.0)) }
-        ensures same { OnErr result (self.new.subscriptions.items ≡ self.old.subscriptions.items) }
+        ensures same { OnErr result (state_of self.new ≡ state_of self.old) }
     {
-        let at = sub.0 as usize;
-        if at >= self.subscriptions.len() {
-            return Err(Refusal::UnknownSub);
+        match request(&mut self.subscriptions, sub, n) {
+            Ok(signal) => Ok(signal),
+            Err(why) => Err(why),
         }
-        let subscription = &mut self.subscriptions[at];
-        Ok(subscription.request(n))
     }
 
     /// Makes one move. A Take from the root edge of a subscription answers the signal that it delivered. An Accept takes the signal
-    /// in that waits in front of a hub's inbox, and each node that reads the hub gets it: an item only where all of them have
-    /// room, so the slowest reader holds the others back (rule 1.1), and nobody loses an item.
+    /// in that waits in front of the inbox of a hub with an emitter; the Send over the root edge of a hub's feed takes its next signal
+    /// straight into the hub. Either way each node that reads the hub gets it: an item only where all of them have room, so the
+    /// slowest reader holds the others back (rule 1.1), and nobody loses an item.
     ///
     /// # Errors
-    /// G1 for a hub that isn't there and for the tree of a hub, G2 for a subscription that isn't there, else G7 exactly where the
-    /// move isn't enabled, and G8 where a growth was refused; nothing changed. An Ask and a Take allocate nothing, a Send only
-    /// where its receiver is a `buffer` or a `distinct`, or where a function of the caller's that it calls may, a Pick and a Row
-    /// where the node says so (of a `merge` and a `combineLatest` always), and an Accept always may.
+    /// G1 for a hub that isn't there and for the tree of a hub that has no feed, G2 for a subscription that isn't there, else G7
+    /// exactly where the move isn't enabled, and G8 where a growth was refused; nothing changed. An Ask and a Take allocate nothing,
+    /// a Send only where its receiver is a `buffer` or a `distinct`, or where a function of the caller's that it calls may, or where
+    /// it leads into a hub, a Pick and a Row where the node says so (of a `merge` and a `combineLatest` always), and an Accept always
+    /// may.
     pub fn make(
         &mut self,
         alloc: Global,
         step: Move,
     ) -> Result<Option<(SubId, Signal<O::Item>)>, Refusal>
         ensures ops { self.new.ops ≡ self.old.ops }
-        ensures stands { IfOk result (λ o. StandsAfter (with_made step o) self.old self.new) }
+        ensures stands { IfOk result (λ o. StandsAfter (with_made step o (sent_in self.old step)) self.old self.new) }
         ensures answer { IfOk result (λ o. IsMadeAnswer step o) }
         ensures enabled { OnOk result (enabled_in self.old step ≡ true) }
         ensures effect { IfOk result (λ o. IsMadeIn step self.old self.new o) }
+        ensures joins { AreJoinsSame (state_of self.old) (state_of self.new) }
         ensures err { IfErr result (λ r. IsRefusedIn step self.old r) }
 
         // An enabled move that takes no memory is made.
@@ -162,19 +175,26 @@ impl<O: Ops> Graph<O> {
         ensures same { OnErr result (state_of self.new ≡ state_of self.old) }
     {
         let ops = self.ops;
-        match make(alloc, &ops, &mut self.hubs, &mut self.subscriptions, step) {
+        match make(
+            alloc,
+            &ops,
+            &mut self.hubs,
+            &mut self.feeds,
+            &mut self.subscriptions,
+            step,
+        ) {
             Ok(delivered) => Ok(delivered),
             Err(why) => Err(why),
         }
     }
 
     /// Makes enabled moves, in an order of its own, until none is enabled (Idle) or `budget` moves were made (Budget); where
-    /// both hold it answers Idle. A hub that takes a signal in makes a move too. What is delivered is put into `out`, behind what
-    /// stands there.
+    /// both hold it answers Idle. A hub that takes a signal in makes a move too, and so does each node of a hub's feed. What is
+    /// delivered is put into `out`, behind what stands there.
     ///
     /// # Errors
-    /// G8 where a growth was refused; the moves made before stand, and their deliveries are in `out`. It comes only where
-    /// `out` has no room for one signal more, where a signal waits in the inbox of a hub, or where some node of a
+    /// G8 where a growth was refused; the moves made before stand, and their deliveries are in `out`. Where no hub has a feed it
+    /// comes only where `out` has no room for one signal more, where a signal waits in the inbox of a hub, or where some node of a
     /// subscription's tree may allocate: a `buffer` or a `distinct`, or a node that calls a function of the caller's whose
     /// [`Ops`] says that it may (`allocates`).
     pub fn pump(
@@ -184,19 +204,23 @@ impl<O: Ops> Graph<O> {
         out: &mut Deliveries<O::Item>,
     ) -> Result<Pumped, Refusal>
         ensures ops { self.new.ops ≡ self.old.ops }
-        ensures pumped { HasPumped budget self.old out.old result self.new out.new }
+        ensures pumped { HasPumpedIn budget self.old out.old result self.new out.new }
 
         // Idle means delivered.
         ensures served { IfOk result (λ p. p ≡ Pumped.Idle → IsAllServed (O.meaning self.old.ops) (state_of self.new)) }
 
-        // Where no move may allocate, there is want of memory only for the list of deliveries.
-        ensures memory { drives_allocate_in self.old ≡ false → OnErr result (IsFull out.new) }
+        // Where no signal waits in front of a hub, each node that reads a hub has got all that was published there.
+        ensures read { IfOk result (λ p. p ≡ Pumped.Idle → IsAllRead (O.meaning self.old.ops) (state_of self.new)) }
+
+        // Where no hub has a feed and no move may allocate, there is want of memory only for the list of deliveries.
+        ensures memory { drives_allocate_in self.old ≡ false → self.old.feeds.items ≡ [] → OnErr result (IsFull out.new) }
     {
         let ops = self.ops;
         match pump(
             alloc,
             &ops,
             &mut self.hubs,
+            &mut self.feeds,
             &mut self.subscriptions,
             budget,
             out,
@@ -206,83 +230,64 @@ impl<O: Ops> Graph<O> {
         }
     }
 
-    /// What the graph still owes a subscriber: what is on its root edge, and then what comes out of its tree where just what
-    /// stands in the hubs' inboxes is still published and nothing more is chosen. For a subscriber that got its ending or isn't live it is nothing, Open.
+    /// What the graph still owes a subscriber: what is on its root edge, and then what comes out of its tree, where at each hub just
+    /// what is still to come there comes and nothing more is chosen. Still to come is, of a hub with an emitter, what stands in its
+    /// inbox, and of a hub with a feed what still comes out of the feed. For a subscriber that got its ending or isn't live it is
+    /// nothing, Open.
     ///
     /// # Errors
     /// G2 exactly where there is no such subscription, and G8 where a growth was refused.
     pub fn owed(&self, alloc: Global, sub: SubId) -> Result<StreamValue<O::Item>, Refusal>
-        ensures owes { IfOk result (λ v. IfStandsFor self.now (λ h. IsOwed (O.meaning self.now.ops) self.now.subscriptions.items h sub v)) }
+        ensures owes { IfOk result (λ v. IfStandsFor self.now (λ h. IsOwed (O.meaning self.now.ops) (state_of self.now).rows h sub v)) }
         ensures err { IfErr result (λ r. IsLookRefusal (length self.now.subscriptions.items) sub r) }
     {
-        let at = sub.0 as usize;
-        if at >= self.subscriptions.len() {
-            return Err(Refusal::UnknownSub);
-        }
-        let subscription = &self.subscriptions[at];
-        match subscription.standing() {
-            SubscriptionState::Open => {}
-            _ => return Ok(StreamValue::new(Vec::new(alloc), Ending::Open)),
-        }
-        let inboxes = match inboxes_of(alloc, &self.ops, &self.hubs) {
-            Ok(inboxes) => inboxes,
-            Err(NoMemory) => return Err(Refusal::NoMemory),
-        };
-        match subscription.owed(alloc, &self.ops, &inboxes) {
+        match owed(
+            alloc,
+            &self.ops,
+            &self.hubs,
+            &self.feeds,
+            &self.subscriptions,
+            sub,
+        ) {
             Ok(value) => Ok(value),
-            Err(NoMemory) => Err(Refusal::NoMemory),
+            Err(why) => Err(why),
         }
     }
 
-    /// What the nodes of a tree recorded, in pre-order.
+    /// What the nodes of a tree recorded, in pre-order: of a subscription's tree, or of that of a hub's feed.
     ///
     /// # Errors
-    /// G1 for the tree of a hub, G2 where there is no such subscription, and G8 where a growth was refused.
+    /// G1 exactly for the tree of a hub that isn't there or has no feed, G2 exactly where there is no such subscription, and G8
+    /// where a growth was refused.
     pub fn notes(&self, alloc: Global, tree: Tree) -> Result<Vec<Note>, Refusal>
-        ensures notes { IfOk result (λ v. HasNotes self.now.subscriptions.items tree v.items) }
-        ensures err { IfErr result (λ r. IsTreeRefusal (length self.now.subscriptions.items) tree r) }
+        ensures notes { IfOk result (λ v. HasNotes (state_of self.now).rows tree v.items) }
+        ensures err { IfErr result (λ r. IsTreeLookRefusal (state_of self.now).rows (length self.now.subscriptions.items) tree r) }
     {
-        match tree {
-            Tree::Feed(_) => Err(Refusal::UnknownHub),
-            Tree::Sub(sub) => match self.notes_of_sub(alloc, sub) {
-                Ok(notes) => Ok(notes),
-                Err(why) => Err(why),
-            },
-        }
-    }
-
-    fn notes_of_sub(&self, alloc: Global, sub: SubId) -> Result<Vec<Note>, Refusal>
-        ensures notes { IfOk result (λ v. HasNotesAt self.now.subscriptions.items sub v.items) }
-        ensures err { IfErr result (λ r. IsLookRefusal (length self.now.subscriptions.items) sub r) }
-    {
-        let at = sub.0 as usize;
-        if at >= self.subscriptions.len() {
-            return Err(Refusal::UnknownSub);
-        }
-        let subscription = &self.subscriptions[at];
-        match subscription.notes(alloc) {
+        match notes(alloc, &self.hubs, &self.feeds, &self.subscriptions, tree) {
             Ok(notes) => Ok(notes),
-            Err(NoMemory) => Err(Refusal::NoMemory),
+            Err(why) => Err(why),
         }
     }
 
     /// The joins of a tree's leaves that read a hub, from left to right: how many items of its hub each of them misses.
     ///
     /// # Errors
-    /// G1 for the tree of a hub, G2 where there is no such subscription, and G8 where a growth was refused.
+    /// G1 exactly for the tree of a hub that isn't there or has no feed, G2 exactly where there is no such subscription, and G8
+    /// where a growth was refused.
     pub fn joins(&self, alloc: Global, tree: Tree) -> Result<Vec<u64>, Refusal>
-        ensures joins { IfOk result (λ v. IfStandsFor self.now (λ h. HasTreeJoins h.pasts tree v.items)) }
-        ensures err { IfErr result (λ r. IsTreeRefusal (length self.now.joins.items) tree r) }
+        ensures joins { IfOk result (λ v. IfStandsFor self.now (λ h. HasTreeJoins h tree v.items)) }
+        ensures err { IfErr result (λ r. IsTreeLookRefusal (state_of self.now).rows (length self.now.joins.items) tree r) }
     {
-        match tree {
-            Tree::Feed(_) => Err(Refusal::UnknownHub),
-            Tree::Sub(sub) => match self.joins.get(sub.0 as usize) {
-                Some(joins) => match copied(alloc, joins) {
-                    Ok(joins) => Ok(joins),
-                    Err(NoMemory) => Err(Refusal::NoMemory),
-                },
-                None => Err(Refusal::UnknownSub),
-            },
+        match joins(
+            alloc,
+            &self.hubs,
+            &self.feeds,
+            &self.joins,
+            &self.feed_joins,
+            tree,
+        ) {
+            Ok(joins) => Ok(joins),
+            Err(why) => Err(why),
         }
     }
 
@@ -323,7 +328,7 @@ impl<O: Ops> Graph<O> {
     /// it was. Of an item that is emitted a copy is made.
     pub fn step(&mut self, alloc: Global, step: &Step<O::Item>) -> Answer<O::Item>
         ensures ops { self.new.ops ≡ self.old.ops }
-        ensures stands { StandsAfter (λ h. extended h step.now result) self.old self.new }
+        ensures stands { StandsAfter (λ h. extended h step.now result (fed_in self.old step.now result)) self.old self.new }
         ensures belongs { IfStandsFor self.old (λ h. Belongs h step.now result) }
 
         // What was done, by the answer.
@@ -350,6 +355,12 @@ impl<O: Ops> Graph<O> {
                 Ok(id) => Answer::Opened(id),
                 Err(why) => Answer::Refused(why),
             },
+            Step::FeedHub(kind, capacity, expr) => {
+                match self.feed_hub(alloc, *kind, *capacity, expr) {
+                    Ok(id) => Answer::Opened(id),
+                    Err(why) => Answer::Refused(why),
+                }
+            }
             Step::Emit(hub, item) => match self.emit_copy(alloc, *hub, item) {
                 Ok(()) => Answer::Published,
                 Err(why) => Answer::Refused(why),
@@ -376,11 +387,9 @@ impl<O: Ops> Graph<O> {
         steps: Vec<Step<O::Item>>,
     ) -> Result<Vec<Answer<O::Item>>, Vec<Step<O::Item>>>
         ensures ops { self.new.ops ≡ self.old.ops }
-        ensures stands { IfOk result (λ answers. StandsAfter (λ h. all_extended h steps.items answers.items) self.old self.new) }
-        ensures belongs { IfOk result (λ answers. IfStandsFor self.old (λ h. AllBelong h steps.items answers.items)) }
 
-        // What was done, step by step.
-        ensures done { IfOk result (λ answers. AllDoneIn steps.items answers.items self.old self.new) }
+        // What was done, step by step, and what has happened by it.
+        ensures ran { IfOk result (λ answers. HasRunIn steps.items answers.items self.old self.new) }
         ensures err { IfErr result (λ back. (back.items ≡ steps.items) × (state_of self.new ≡ state_of self.old)) }
     {
         let mut answers = match Vec::with_capacity(alloc, steps.len()) {

@@ -1,22 +1,30 @@
 #![tactic(auto)]
-//! Graphs of subscriptions to expressions, driven by edits (subscribe, request, cancel) and moves (Ask, Send, Take).
+//! Graphs of hubs and of subscriptions to expressions, driven by edits (a new hub, what is published there, subscribe, request,
+//! cancel) and moves (Ask, Send, Take, Pick, Row, Accept).
 //!
-//! - [`graph`]: [`Graph`], with every edit, move and look; `run` makes a list of steps.
-//! - [`hubs`]: its hubs: `hub`, `emit`, `complete`, `fail`, and `accept`, by which a hub hands a signal to its readers.
-//! - [`replays`]: `replay`, a list of steps from nothing, whose contract is the headline with no premise.
-//! - [`law`]: `headline`, what is proved of all of them, as the contract of one function; of `rsx_history`.
-//! - [`step`], [`refusal`]: the types that the calls speak of; of `rsx_history`.
+//! - [`graph`]: [`Graph`], with every edit and look of a subscription, and every move; `run` makes a list of steps.
+//! - [`hubs`]: its hubs: `hub`, `feed_hub`, `emit`, `complete` and `fail`.
+//! - [`replays`]: [`replay`], a list of steps from nothing, whose contract is the headline with no premise.
+//! - [`step`]: [`Step`], one edit or one move.
+//! - [`headline`], [`idle_means_delivered`] and [`read_all`]: what is proved of all graphs, each as the contract of one function.
 //!
-//! The definitions stand apart from the code: those of a whole graph in `rsx_history`, and `InGraph`, in `specs/`, puts them
-//! into words of a [`Graph`]. Those of one subscription are in `rsx_subscriber`, and those of parts, trees and edges below it.
+//! The definitions stand in `specs/`: `Stands` (what a graph stands for), `Steps` (what has happened by steps with their answers),
+//! `Done` (what each step did), `Pumped`, `Read` (what is read of hubs), `Replayed`, and `InGraph`, which puts them into words of a
+//! [`Graph`]. Those of rows of hubs, feeds and subscriptions are in `rsx_feeding` and in the crates over it, those of one
+//! subscription in `rsx_subscriber`.
 
 pub mod graph;
 pub mod hubs;
-mod joining;
+pub mod law;
 pub mod replays;
+pub mod step;
 
 pub use graph::{Graph, MOST_HUBS, MOST_SUBSCRIPTIONS};
-pub use hubs::NotEmitted;
+pub use law::read_all;
 pub use replays::replay;
-pub use rsx_history::{Answer, Pumped, Refusal, Step, headline, law, refusal, step};
+pub use rsx_feed_driving::idle_means_delivered;
+pub use rsx_feed_edits::NotEmitted;
+pub use rsx_feeding::headline;
+pub use rsx_history::{Answer, Pumped, Refusal, refusal};
 pub use rsx_subscriber::{Deliveries, Subscription, SubscriptionState};
+pub use step::Step;

@@ -1,13 +1,12 @@
 //! A list of steps from nothing.
 
 ghost use Rattle.std.specs.Prelude.{◌≡◌, IfOk, IfErr};
-ghost use Rattle.rsx_history.specs.History.{all_extended, no_history};
-ghost use Rattle.rsx_history.specs.Replayed.{IsReplayed};
 ghost use Rattle.rsx_graph.specs.InGraph.{state_of};
-ghost use Rattle.rsx_history.specs.Stands.{StandsFor};
+ghost use Rattle.rsx_graph.specs.Replayed.{IsReplayed};
 
 use crate::graph::Graph;
-use rsx_history::{Answer, Step};
+use crate::step::Step;
+use rsx_history::Answer;
 use rsx_types::Ops;
 use std::alloc::Global;
 
@@ -15,7 +14,9 @@ use std::alloc::Global;
 ///
 /// The contract is the headline for what this call gives back, and speaks of no state that a caller would have to know: each
 /// step did what its answer says, each answer belongs to its step, and what each live subscriber received by these answers,
-/// followed by what the graph still owes it, is its expression evaluated from scratch.
+/// followed by what the graph still owes it, is its expression evaluated from scratch over the values of the hubs. Of a hub with an
+/// emitter that value is what was published there, of a hub with a feed the value of the feed's expression over the hubs before it.
+/// Further calls of the graph go on from here: it stands for what has happened.
 ///
 /// # Errors
 /// The steps come back where the memory for their answers was refused; none of them was made.
@@ -26,9 +27,6 @@ pub fn replay<O: Ops>(
 ) -> Result<(Graph<O>, Vec<Answer<O::Item>>), Vec<Step<O::Item>>>
     ensures ops { IfOk result (λ r. r.0.ops ≡ ops) }
     ensures replayed { IfOk result (λ r. IsReplayed (O.meaning ops) (O.allocates ops) steps.items r.1.items (state_of r.0)) }
-
-    // Further calls of the graph go on from here.
-    ensures stands { IfOk result (λ r. StandsFor (O.meaning ops) (state_of r.0) (all_extended no_history steps.items r.1.items)) }
     ensures err { IfErr result (λ back. back.items ≡ steps.items) }
 {
     let Ok(mut graph) = Graph::new(alloc, ops) else {

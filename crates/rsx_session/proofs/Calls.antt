@@ -1,69 +1,77 @@
 -- Lemmas about the calls of a session.
-use Rattle.std.proofs.Common.{◌≡◌, ◌≤◌, ◌<◌, true, false, ℕ, ℤ, pos, negsuc, zero, suc, List, [], ◌∷◌, ◌++◌, length, map, get_or, refl, ap, sym, subst, ◌∙◌, ◌-◌, arith, take, length-append, Option, Some, None, Result, Ok, Err, codes}
+use Rattle.std.proofs.Common.{◌≡◌, ◌≤◌, ◌<◌, ◌&&◌, true, false, ℕ, ℤ, pos, negsuc, zero, suc, List, [], ◌∷◌, ◌++◌, length, map, get_or, refl, ap, sym, subst, ◌∙◌, ◌-◌, arith, take, length-append, Option, Some, None, is_none, is_some, Result, Ok, Err, codes}
 use Rattle.std.proofs.Math.ListN.{set}
 use Rattle.std.specs.Result.{IsErr, IsErrAnd}
-use Rattle.std.proofs.lemmas.List.{append-nil, get_or-set_same, length-map, set-get_or}
-use Rattle.rsx_types.specs.Stream.{Stream, ended_by}
+use Rattle.std.proofs.lemmas.List.{append-nil, get_or-set_same, length-map, map_push, set-get_or}
+use Rattle.std.proofs.lemmas.Option.{slice_get_past}
+use Rattle.rsx_types.specs.Stream.{ended_by}
 use Rattle.rsx_types.specs.declared.names.HubKind.{HubKind}
 use Rattle.rsx_types.specs.declared.names.SubId.{SubId}
 use Rattle.rsx_model.specs.declared.expr.Expr.{Expr}
+use Rattle.rsx_types.specs.declared.signal.Cause.{Cause}
 use Rattle.rsx_types.specs.declared.signal.Cause.TheVariants.{NonPositiveRequest}
 use Rattle.rsx_types.specs.declared.signal.Ending.{Ending}
-use Rattle.rsx_types.specs.declared.signal.Ending.TheVariants.{Open}
+use Rattle.rsx_types.specs.declared.signal.Ending.TheVariants.{Open, Done, Failed}
 use Rattle.rsx_types.specs.declared.signal.Signal.{Signal}
 use Rattle.rsx_types.specs.declared.signal.Signal.TheVariants.{Next, Complete, Error}
 use Rattle.rsx_demo.specs.Demo.{demo_meaning, demo_allocates}
 use Rattle.rsx_demo.specs.declared.val.Val.{Val}
 use Rattle.rsx_hub.specs.Hub.{HubState}
-use Rattle.rsx_pipe.specs.Output.{with_signal}
 use Rattle.rsx_subscriber.specs.Past.{Past, given, items_in, request_answer, requested, requested_in, subscribed}
 use Rattle.rsx_subscriber.specs.declared.state.SubscriptionState.{SubscriptionState}
 use Rattle.rsx_subscriber.specs.declared.state.SubscriptionState.TheVariants as state
-use Rattle.rsx_history.specs.Done.{IsDone}
-use Rattle.rsx_history.specs.History.{History, HubPast, changed, extended, published, published_at, state_at, with_delivery, with_hub}
+use Rattle.rsx_history.specs.History.{changed, state_at}
 use Rattle.rsx_subscriber.specs.Stands.{standing_of}
 use Rattle.rsx_subscriber.specs.declared.subscription.Subscription.{Subscription}
 use Rattle.rsx_history.proofs.Graphs.{state_there}
-use Rattle.rsx_history.specs.Hubs.{IsCopyRefusal, IsEmitRefusal}
 use Rattle.rsx_history.specs.declared.refusal.Refusal.TheVariants as refusal
-use Rattle.rsx_history.specs.Stands.{GraphState, HubsStand, IsRequestedAt, StandsFor, all_taken}
+use Rattle.rsx_history.specs.Stands.{IsRequestedAt}
 use Rattle.rsx_history.specs.declared.refusal.Refusal.{Refusal}
 use Rattle.rsx_history.specs.declared.refusal.Refusal.TheVariants.{NoMemory}
-use Rattle.rsx_history.specs.declared.step.Step.{Step}
 use Rattle.rsx_history.specs.declared.step.Answer.{Answer as Answered}
 use Rattle.rsx_history.specs.declared.step.Answer.TheVariants as did
-use Rattle.rsx_history.proofs.Joins.{map_last}
+use Rattle.rsx_graph.specs.Done.{IsDone, fed_by}
+use Rattle.rsx_graph.specs.Rows.{Feed, History, HubPast, IsCopyRefusal, IsEmitRefusal, Source, emitted, fed, feed_of, has_emitter, joins_in, published_at, published_from, with_delivery, with_fed_hub, with_hub}
 use Rattle.rsx_graph.specs.InGraph.{state_of}
+use Rattle.rsx_graph.specs.Stands.{GraphStands, GraphState}
+use Rattle.rsx_graph.specs.Steps.{extended}
+use Rattle.rsx_graph.specs.declared.step.Step.{Step}
 use Rattle.rsx_script.specs.declared.print.Answer.{Answer}
 use Rattle.rsx_session.specs.Answers.{IsTrouble}
-use Rattle.rsx_session.specs.Kept.{Known, ending_after, ending_by, known, seen, taken}
+use Rattle.rsx_session.specs.Kept.{Known, ending_after, ending_by, known, seen, source_ended, source_of, source_with, source_without_last, sources_of, taken}
 use Rattle.rsx_session.specs.Places.{IsStepMade, step_text}
 use Rattle.rsx_session.specs.Sessions.{AllLead, IsTroubleOf, LeadsBy, OnText, SessionStands}
+use Rattle.rsx_session.specs.declared.published.HubSource.{HubSource}
+use Rattle.rsx_session.specs.declared.published.HubSource.TheVariants as kept
 use Rattle.rsx_session.specs.declared.session.Record.{Record}
 use Rattle.rsx_session.specs.declared.session.Session.{Session}
 use Rattle.rsx_session.specs.declared.session.Trouble.{Trouble}
 use Rattle.rsx_session.specs.declared.session.Trouble.TheVariants as trouble
 
-pub made : (s : Step Val) (answer : Answered Val) (old new : Session) (h : History Val) → SessionStands old h → StandsFor demo_meaning (state_of new.graph) (extended h s answer) → IsDone demo_meaning demo_allocates (state_of old.graph) s answer (state_of new.graph) → (answer ≡ did.Refused NoMemory → ⊥) →
-    new.published.items ≡ published (extended h s answer) → map known new.records.items ≡ map seen (extended h s answer).pasts → new.spare.items ≡ old.spare.items → new.view ≡ old.view → LeadsBy (IsStepMade s) old h (step_text answer) new
+-- the history after a step, with what goes out of a feed by it
+abbrev after : Step Val → Answered Val → Session → History Val → History Val
+after s answer old h = extended h s answer (fed_by demo_meaning (state_of old.graph) s answer)
+
+pub made : (s : Step Val) (answer : Answered Val) (old new : Session) (h : History Val) → SessionStands old h → GraphStands demo_meaning (state_of new.graph) (after s answer old h) → IsDone demo_meaning demo_allocates (state_of old.graph) s answer (state_of new.graph) → (answer ≡ did.Refused NoMemory → ⊥) →
+    new.published.items ≡ sources_of (after s answer old h) → map known new.records.items ≡ map seen (after s answer old h).pasts → new.spare.items ≡ old.spare.items → new.view ≡ old.view → LeadsBy (IsStepMade s) old h (step_text answer) new
 made s answer old new h k stands done granted p r e v = record {
-  history = extended h s answer;
+  history = after s answer old h;
   stands = record { graph = stands; published = p; records = r; spare = e ∙ k.spare };
   answers = (answer, done, refl, granted, refl);
   view = v;
 }
 
 -- a call that the graph refused changed nothing
-pub not_made : (s : Step Val) (old new : Session) (r : Refusal) (result : Result Answer Trouble) → ((h : History Val) → extended h s (did.Refused r) ≡ h) → ((h : History Val) → SessionStands old h → IsDone demo_meaning demo_allocates (state_of old.graph) s (did.Refused r) (state_of new.graph)) → state_of new.graph ≡ state_of old.graph →
+pub not_made : (s : Step Val) (old new : Session) (r : Refusal) (result : Result Answer Trouble) → ((h : History Val) (o : Option (Signal Val)) → extended h s (did.Refused r) o ≡ h) → ((h : History Val) → SessionStands old h → IsDone demo_meaning demo_allocates (state_of old.graph) s (did.Refused r) (state_of new.graph)) → state_of new.graph ≡ state_of old.graph →
     new.published.items ≡ old.published.items → new.records.items ≡ old.records.items → new.spare.items ≡ old.spare.items → new.view ≡ old.view → IsErr result × IsErrAnd result (λ t. IsTrouble t × IsTroubleOf r t) → OnText result (λ text. AllLead (IsStepMade s) old text new)
 not_made s old new r (Ok a) none done same p q e v is = let bad : false ≡ true = is.0 in absurd cc
 not_made s old new r (Err trouble.Memory) none done same p q e v is = tt
 not_made s old new r (Err (trouble.Refused name)) none done same p q e v is = λ h k.
-    let G : GraphState Val → Type 0 = λ g. StandsFor demo_meaning g h in
+    let G : GraphState Val → Type 0 = λ g. GraphStands demo_meaning g h in
     record {
       history = h;
       stands = record { graph = subst G (sym same) k.graph; published = p ∙ k.published; records = ap (map known) q ∙ k.records; spare = e ∙ k.spare };
-      answers = (did.Refused r, done h k, sym (none h), (λ bad. is.1.1.0 (let one : r ≡ NoMemory = cc in one)), ap (λ n. codes "refused " ++ n) is.1.1.1);
+      answers = (did.Refused r, done h k, sym (none h (fed_by demo_meaning (state_of old.graph) s (did.Refused r))), (λ bad. is.1.1.0 (let one : r ≡ NoMemory = cc in one)), ap (λ n. codes "refused " ++ n) is.1.1.1);
       view = v;
     }
 
@@ -75,40 +83,48 @@ no_memory (Err (trouble.Refused name)) P e = let bad : trouble.Refused name ≡ 
 
 -- ---- hubs
 
-hubs_alike : (hubs : List (HubState Val)) (h : History Val) → HubsStand hubs h.hubs → length hubs ≡ length h.hubs
-hubs_alike hubs h k = go hubs h.hubs k
-  where
-    go : (xs : List (HubState Val)) (ps : List (HubPast Val)) → HubsStand xs ps → length xs ≡ length ps
-    go [] [] e = refl
-    go (x ∷ xs) (p ∷ ps) e = ap suc (go xs ps e.1)
-    go [] (p ∷ ps) e = absurd e
-    go (x ∷ xs) [] e = absurd e
-
--- there are as many hubs as values
+-- something is kept of each hub
 pub hubs_count : (s : Session) (h : History Val) → SessionStands s h → length s.published.items ≡ length s.graph.hubs.items
-hubs_count s h k = ap length k.published ∙ (length-map h.hubs (λ p. p.value) ∙ sym (hubs_alike s.graph.hubs.items h k.graph.hub))
+hubs_count s h k = ap length k.published ∙ (length-map h.hubs (λ p. source_of p.source) ∙ sym k.graph.rows.many)
 
-pub stream_is : (v : Stream Val) (xs : List Val) (e : Ending) → v.items ≡ xs → v.ending ≡ e → v ≡ record { items = xs; ending = e }
-stream_is v xs e p q = λ i. record { items = p i; ending = q i }
+-- a hub that isn't there has no emitter
+pub none_emits : (hubs : List (HubState Val)) (feeds : List (Feed Val)) (i : ℕ) → length hubs ≤ i → has_emitter hubs feeds i ≡ false
+none_emits hubs feeds i lt = ap (λ o. is_some o && is_none (feed_of feeds i)) (slice_get_past hubs i lt)
 
-pub published_set : (s : Signal Val) (hubs : List (HubPast Val)) (vs : List (Stream Val)) (i : ℕ) (v : Stream Val) → vs ≡ map (λ p. p.value) hubs → i < length vs → get_or vs i v ≡ v → set vs i (with_signal s v) ≡ map (λ p. p.value) (changed (published_at s) hubs i)
+signalled : (s : Signal Val) (source : Source Val) → source_with s (source_of source) ≡ source_of (published_from s source)
+signalled s (emitted w) = refl
+signalled s (fed e js) = refl
+
+pub published_set : (s : Signal Val) (hubs : List (HubPast Val)) (vs : List HubSource) (i : ℕ) (v : HubSource) → vs ≡ map (λ p. source_of p.source) hubs → i < length vs → get_or vs i v ≡ v → set vs i (source_with s v) ≡ map (λ p. source_of p.source) (changed (published_at s) hubs i)
 published_set s hubs [] i v e lt at = absurd (omega arith)
 published_set s [] (x ∷ vs) i v e lt at = cc
 published_set s (p ∷ hubs) (x ∷ vs) zero v e lt at =
-    let one : x ≡ p.value = cc in
-    let others : vs ≡ map (λ q. q.value) hubs = cc in
-    let same : v ≡ p.value = sym at ∙ one in
-    ap (λ n. with_signal s n ∷ vs) same ∙ ap (λ l. with_signal s p.value ∷ l) others
+    let one : x ≡ source_of p.source = cc in
+    let others : vs ≡ map (λ q. source_of q.source) hubs = cc in
+    let same : v ≡ source_of p.source = sym at ∙ one in
+    ap (λ n. source_with s n ∷ vs) same ∙ (ap (λ n. n ∷ vs) (signalled s p.source) ∙ ap (λ l. source_of (published_from s p.source) ∷ l) others)
 published_set s (p ∷ hubs) (x ∷ vs) (suc i) v e lt at =
-    let one : x ≡ p.value = cc in
-    let others : vs ≡ map (λ q. q.value) hubs = cc in
-    ap (λ n. n ∷ set vs i (with_signal s v)) one ∙ ap (λ l. p.value ∷ l) (published_set s hubs vs i v others (omega arith) at)
+    let one : x ≡ source_of p.source = cc in
+    let others : vs ≡ map (λ q. source_of q.source) hubs = cc in
+    ap (λ n. n ∷ set vs i (source_with s v)) one ∙ ap (λ l. source_of p.source ∷ l) (published_set s hubs vs i v others (omega arith) at)
 
-pub hub_published : (kind : HubKind) (h : History Val) (old new : List (Stream Val)) (v : Stream Val) → new ≡ old ++ v ∷ [] → old ≡ published h → v.items ≡ [] → v.ending ≡ Open → new ≡ published (with_hub kind h)
-hub_published kind h old new v e k a b = e ∙ (ap (λ l. l ++ v ∷ []) k ∙ (ap (λ x. published h ++ x ∷ []) (stream_is v [] Open a b) ∙ sym (map_last (λ p. p.value) h.hubs (record { kind = kind; value = ended_by Open; count = 0 }))))
+-- its completion, or its failure
+pub completed : (v : HubSource) → source_ended Done v ≡ source_with Complete v
+completed (kept.Emitted w) = refl
+completed (kept.Fed e) = refl
 
-pub state_is : (old new : GraphState Val) → new.hubs ≡ old.hubs → new.subs ≡ old.subs → new.joins ≡ old.joins → new ≡ old
-state_is old new a b c = λ i. record { hubs = a i; subs = b i; joins = c i }
+pub failed : (c : Cause) (v : HubSource) → source_ended (Failed c) v ≡ source_with (Error c) v
+failed c (kept.Emitted w) = refl
+failed c (kept.Fed e) = refl
+
+one_more : (hubs : List (HubPast Val)) (old new : List HubSource) (v : HubSource) (p : HubPast Val) → new ≡ old ++ v ∷ [] → old ≡ map (λ q. source_of q.source) hubs → v ≡ source_of p.source → new ≡ map (λ q. source_of q.source) (hubs ++ p ∷ [])
+one_more hubs old new v p e k is = e ∙ (ap (λ l. l ++ v ∷ []) k ∙ (ap (λ x. map (λ q. source_of q.source) hubs ++ x ∷ []) is ∙ sym (map_push (λ q. source_of q.source) hubs p)))
+
+pub hub_published : (kind : HubKind) (h : History Val) (old new : List HubSource) (v : HubSource) → new ≡ old ++ v ∷ [] → old ≡ sources_of h → v ≡ kept.Emitted (ended_by Open) → new ≡ sources_of (with_hub kind h)
+hub_published kind h old new v e k is = one_more h.hubs old new v (record { kind = kind; source = emitted (ended_by Open); count = 0 }) e k is
+
+pub feed_published : (kind : HubKind) (expr : Expr Val) (h : History Val) (old new : List HubSource) → new ≡ old ++ kept.Fed expr ∷ [] → old ≡ sources_of h → new ≡ sources_of (with_fed_hub kind expr h)
+feed_published kind expr h old new e k = one_more h.hubs old new (kept.Fed expr) (record { kind = kind; source = fed expr (joins_in h expr); count = 0 }) e k refl
 
 pub no_delivery : (o : Option (SubId × Signal Val)) (h : History Val) → o ≡ None → with_delivery o h ≡ h
 no_delivery o h e = ap (λ x. with_delivery x h) e
@@ -116,7 +132,7 @@ no_delivery o h e = ap (λ x. with_delivery x h) e
 pub subscribed_records : (e : Expr Val) (js : List ℕ) (ps : List (Past Val)) (old new : List Record) (r : Record) → new ≡ old ++ r ∷ [] → map known old ≡ map seen ps → r.expr ≡ e → r.received.items ≡ [] → r.ending ≡ Open → map known new ≡ map seen (ps ++ subscribed e js ∷ [])
 subscribed_records e js ps old new r n k a b c =
     let one : known r ≡ seen (subscribed e js) = λ i. record { expression = a i; items = b i; ending = c i } in
-    ap (map known) n ∙ (map_last known old r ∙ (ap (λ l. l ++ known r ∷ []) k ∙ (ap (λ x. map seen ps ++ x ∷ []) one ∙ sym (map_last seen ps (subscribed e js)))))
+    ap (map known) n ∙ (map_push known old r ∙ (ap (λ l. l ++ known r ∷ []) k ∙ (ap (λ x. map seen ps ++ x ∷ []) one ∙ sym (map_push seen ps (subscribed e js)))))
 
 -- ---- what is kept of subscribers
 
@@ -187,7 +203,7 @@ none_there s (k ∷ ks) (suc i) lt = ap (λ l. k ∷ l) (none_there s ks i (omeg
 pub request_records : (s : Session) (h : History Val) → SessionStands s h → (i : ℕ) (n : ℤ) (o : Option (Signal Val)) (subs : List (Subscription Val)) (new : List Known) → IsRequestedAt i n s.graph.subscriptions.items subs o → new ≡ after_signal o (map known s.records.items) i → new ≡ map seen (changed (requested n) h.pasts i)
 request_records s h k i n o subs new eff e =
     let st = standing_of eff.old in
-    let there = state_there demo_meaning (all_taken s.graph.hubs.items h.hubs) s.graph.subscriptions.items h.pasts i eff.old eff.there k.graph.all in
+    let there = state_there demo_meaning k.graph.rows.taken s.graph.subscriptions.items h.pasts i eff.old eff.there k.graph.rows.all in
     e ∙ (ap (λ l. after_signal o l i) k.records ∙ (ap (λ x. after_signal x (map seen h.pasts) i) eff.answer ∙ requested_kept n h.pasts i st there))
 
 pub passed_memory : (t : Trouble) (result : Result Answer Trouble) (P : List ℕ → Type 0) → t ≡ trouble.Memory → IsErr result × IsErrAnd result (λ u. u ≡ t) → OnText result P
@@ -212,21 +228,22 @@ set_twice [] i a b = refl
 set_twice (x ∷ xs) zero a b = refl
 set_twice (x ∷ xs) (suc i) a b = ap (λ l. x ∷ l) (set_twice xs i a b)
 
-pub let_go : (vs : List (Stream Val)) (i : ℕ) (v kept got after : Stream Val) (x : Val) → i < length vs → get_or vs i v ≡ v → kept ≡ record { items = v.items ++ x ∷ []; ending = v.ending } → got ≡ get_or (set vs i kept) i got →
-    after.items ≡ take (length got.items - 1) got.items → after.ending ≡ got.ending → set (set vs i kept) i after ≡ vs
-let_go vs i v kept got after x lt at e g a b =
-    let one : got ≡ record { items = v.items ++ x ∷ []; ending = v.ending } = g ∙ (get_or-set_same vs i kept got lt ∙ e) in
-    let items : after.items ≡ v.items = a ∙ (ap (λ s. take (length s.items - 1) s.items) one ∙ without_last v.items x) in
-    let ending : after.ending ≡ v.ending = b ∙ ap (λ s. s.ending) one in
-    let whole : after ≡ v = λ j. record { items = items j; ending = ending j } in
-    set_twice vs i kept after ∙ (ap (set vs i) (whole ∙ sym at) ∙ set-get_or vs i v)
+pub let_go : (vs : List HubSource) (i : ℕ) (v more got after : HubSource) (x : Val) → i < length vs → get_or vs i v ≡ v → more ≡ source_with (Next x) v → got ≡ get_or (set vs i more) i got → after ≡ source_without_last got → set (set vs i more) i after ≡ vs
+let_go vs i v more got after x lt at e g a =
+    let one : got ≡ source_with (Next x) v = g ∙ (get_or-set_same vs i more got lt ∙ e) in
+    let whole : after ≡ v = a ∙ (ap source_without_last one ∙ back v) in
+    set_twice vs i more after ∙ (ap (set vs i) (whole ∙ sym at) ∙ set-get_or vs i v)
+  where
+    back : (w : HubSource) → source_without_last (source_with (Next x) w) ≡ w
+    back (kept.Emitted w) = ap kept.Emitted (λ j. record { items = without_last w.items x j; ending = w.ending })
+    back (kept.Fed e) = refl
 
-pub emit_refusal : (hubs : List (HubState Val)) (count i : ℕ) (r : Refusal) → IsEmitRefusal hubs count i r → IsCopyRefusal hubs count i r
-emit_refusal hubs count i refusal.UnknownHub k = k
-emit_refusal hubs count i refusal.UnknownSub k = absurd k
-emit_refusal hubs count i refusal.Ended k = k
-emit_refusal hubs count i refusal.Full k = k
-emit_refusal hubs count i refusal.TooMany k = k
-emit_refusal hubs count i (refusal.BadExpr b) k = absurd k
-emit_refusal hubs count i refusal.NotEnabled k = absurd k
-emit_refusal hubs count i refusal.NoMemory k = absurd k
+pub emit_refusal : (hubs : List (HubState Val)) (feeds : List (Feed Val)) (i : ℕ) (r : Refusal) → IsEmitRefusal hubs feeds i r → IsCopyRefusal hubs feeds i r
+emit_refusal hubs feeds i refusal.UnknownHub k = k
+emit_refusal hubs feeds i refusal.UnknownSub k = k
+emit_refusal hubs feeds i refusal.Ended k = k
+emit_refusal hubs feeds i refusal.Full k = k
+emit_refusal hubs feeds i refusal.TooMany k = k
+emit_refusal hubs feeds i (refusal.BadExpr b) k = k
+emit_refusal hubs feeds i refusal.NotEnabled k = k
+emit_refusal hubs feeds i refusal.NoMemory k = k.0

@@ -11,8 +11,9 @@ use Rattle.rsx_demo.specs.declared.val.Val.{Val}
 use Rattle.rsx_subscriber.specs.Past.{IsPrefixOf}
 use Rattle.rsx_subscriber.specs.declared.state.SubscriptionState.{SubscriptionState}
 use Rattle.rsx_subscriber.specs.declared.state.SubscriptionState.TheVariants as state
-use Rattle.rsx_history.specs.History.{History, state_at}
-use Rattle.rsx_history.specs.Stands.{IsOwed}
+use Rattle.rsx_history.specs.History.{state_at}
+use Rattle.rsx_graph.specs.Rows.{History, IsOwed}
+use Rattle.rsx_graph.specs.InGraph.{state_of}
 use Rattle.rsx_script.specs.declared.print.Answer.{Answer}
 use Rattle.rsx_session.specs.Kept.{Known, followed_by}
 use Rattle.rsx_session.specs.Places.{IsChecked, IsEvaluated, IsRight, OfValue, checked_text}
@@ -36,7 +37,7 @@ begins_by r first items d =
 
 -- of a subscription to which items can be owed
 pub right_owed : (s : Session) (h : History Val) (sub : SubId) (st : SubscriptionState) (k : Record) (v owed : Stream Val) (right : Bool) → (st ≡ state.Open) ⊎ (st ≡ state.Ended) → state_at h.pasts sub.0 ≡ Some st →
-    IsOwed demo_meaning s.graph.subscriptions.items h sub owed → Decides right (followed_by k.received.items k.ending owed ≡ v) → IsRightOf (place_of s h) sub k v right
+    IsOwed demo_meaning (state_of s.graph).rows h sub owed → Decides right (followed_by k.received.items k.ending owed ≡ v) → IsRightOf (place_of s h) sub k v right
 right_owed s h sub st k v owed right which at is d = λ past there same.
     let p = state_there h.pasts sub.0 st at in
     let found = p.1 in

@@ -14,11 +14,13 @@ use Rattle.std.proofs.lemmas.Option.{slice_get_within}
 use Rattle.rsx_demo.specs.Demo.{demo_meaning}
 use Rattle.rsx_demo.specs.declared.val.Val.{Val}
 use Rattle.rsx_subscriber.specs.Past.{Past}
-use Rattle.rsx_history.specs.History.{published, HasAsked, HasJoins, IsLookRefusal, History, state_at}
-use Rattle.rsx_history.specs.Stands.{HasNotesAt, IsOwed, all_taken}
+use Rattle.rsx_history.specs.History.{HasAsked, HasJoins, IsLookRefusal, state_at}
+use Rattle.rsx_history.specs.Stands.{HasNotesAt}
 use Rattle.rsx_history.specs.declared.refusal.Refusal.{Refusal}
 use Rattle.rsx_history.specs.declared.refusal.Refusal.TheVariants as refusal
 use Rattle.rsx_history.proofs.Graphs.{count_same}
+use Rattle.rsx_graph.specs.Rows.{History, IsOwed}
+use Rattle.rsx_graph.specs.InGraph.{state_of}
 use Rattle.rsx_subscriber.specs.declared.state.SubscriptionState.{SubscriptionState}
 use Rattle.rsx_script.specs.Answers.{rest_text, signals_text}
 use Rattle.rsx_script.specs.declared.print.Answer.{Answer}
@@ -27,8 +29,8 @@ use Rattle.rsx_script.specs.declared.print.Rest.TheVariants as rest
 use Rattle.rsx_subscriber.specs.declared.state.SubscriptionState.TheVariants as state
 use Rattle.rsx_session.specs.Answers.{IsTrouble}
 use Rattle.rsx_session.specs.Kept.{known, seen}
-use Rattle.rsx_session.specs.Places.{IsEvaluated, IsRest, IsShown, IsValued, OfSub, Place}
-use Rattle.rsx_session.specs.Sessions.{IsLookTrouble, IsRestOf, IsScratchTrouble, IsTroubleOf, IsValueAt, IsValueOf, OnText, Says, SessionStands, place_of}
+use Rattle.rsx_session.specs.Places.{HaveValues, IsEvaluated, IsEvaluatedOver, IsRest, IsShown, IsValued, OfSub, Place}
+use Rattle.rsx_session.specs.Sessions.{IsHubsTrouble, IsLookTrouble, IsRestOf, IsScratchTrouble, IsTroubleOf, IsValueAt, IsValueOf, OnText, Says, SessionStands, place_of}
 use Rattle.rsx_session.specs.declared.session.Record.{Record}
 use Rattle.rsx_session.specs.declared.session.Session.{Session}
 use Rattle.rsx_session.specs.declared.session.Trouble.{Trouble}
@@ -36,11 +38,11 @@ use Rattle.rsx_session.specs.declared.session.Trouble.TheVariants as trouble
 
 -- there are as many subscriptions as pasts
 pub subs_count : (s : Session) (h : History Val) → SessionStands s h → length s.graph.subscriptions.items ≡ length h.pasts
-subs_count s h k = count_same demo_meaning (all_taken s.graph.hubs.items h.hubs) s.graph.subscriptions.items h.pasts k.graph.all
+subs_count s h k = count_same demo_meaning k.graph.rows.taken s.graph.subscriptions.items h.pasts k.graph.rows.all
 
 -- there are as many lists of joins as pasts
 pub joins_count : (s : Session) (h : History Val) → SessionStands s h → length s.graph.joins.items ≡ length h.pasts
-joins_count s h k = sym (length-map s.graph.joins.items (λ v. v.items)) ∙ (ap length k.graph.joined ∙ length-map h.pasts (λ p. p.joins))
+joins_count s h k = sym (length-map s.graph.joins.items (λ v. v.items)) ∙ (ap length k.graph.joined.subs ∙ length-map h.pasts (λ p. p.joins))
 
 pub asked_at : (ps : List (Past Val)) (i n : ℕ) → HasAsked ps i n → (past : Past Val) × (slice_get ps i ≡ Some past) × (n ≡ past.asked)
 asked_at [] i n k = absurd k
@@ -52,8 +54,8 @@ joins_at [] i js k = absurd k
 joins_at (p ∷ ps) zero js k = (p, refl, k)
 joins_at (p ∷ ps) (suc i) js k = joins_at ps i js k
 
--- the past of a subscription that is there
-pub past_at : (ps : List (Past Val)) (i : ℕ) → suc i ≤ length ps → (past : Past Val) × (slice_get ps i ≡ Some past)
+-- what stands at a place that is there
+pub past_at : {A : Type 0} (ps : List A) (i : ℕ) → suc i ≤ length ps → (past : A) × (slice_get ps i ≡ Some past)
 past_at [] i k = absurd (omega arith)
 past_at (p ∷ ps) zero k = (p, refl)
 past_at (p ∷ ps) (suc i) k = past_at ps i (omega arith)
@@ -95,18 +97,17 @@ state_there (p ∷ ps) (suc i) st e = state_there ps i st e
 
 -- ---- the slow evaluator
 
-pub evaluated : (s : Session) (h : History Val) → SessionStands s h → (sub : SubId) (past : Past Val) (e : Expr Val) (r : Result (Stream Val) ScratchRefusal) (joins : List ℕ) (notes : List Note) → slice_get h.pasts sub.0 ≡ Some past → past.expression ≡ e →
-    HasNotesAt s.graph.subscriptions.items sub notes → HasJoins h.pasts sub.0 joins → IsScratch (environment demo_meaning s.published.items joins notes) e r → IsEvaluated (place_of s h) sub past r
-evaluated s h k sub past e r joins notes there same noted joined is =
+pub evaluated : (s : Session) (h : History Val) (sub : SubId) (past : Past Val) (e : Expr Val) (r : Result (Stream Val) ScratchRefusal) (published : List (Stream Val)) (joins : List ℕ) (notes : List Note) → HaveValues (place_of s h) published → slice_get h.pasts sub.0 ≡ Some past → past.expression ≡ e →
+    HasNotesAt s.graph.subscriptions.items sub notes → HasJoins h.pasts sub.0 joins → IsScratch (environment demo_meaning published joins notes) e r → IsEvaluatedOver (place_of s h) sub past r
+evaluated s h sub past e r published joins notes values there same noted joined is =
     let j = joins_at h.pasts sub.0 joins joined in
     let found = j.1 in
     let one : j.0 ≡ past = cc in
     let js : joins ≡ past.joins = j.2 ∙ ap (λ p. p.joins) one in
-    let A : List (Stream Val) → Type 0 = λ v. IsScratch (environment demo_meaning v joins notes) e r in
-    let B : List ℕ → Type 0 = λ v. IsScratch (environment demo_meaning (published h) v notes) e r in
-    let C : List Note → Type 0 = λ v. IsScratch (environment demo_meaning (published h) past.joins v) e r in
-    let D : Expr Val → Type 0 = λ v. IsScratch (environment demo_meaning (published h) past.joins (notes_of noted.0.part.tree)) v r in
-    (noted.0, noted.1, subst D (sym same) (subst C noted.2 (subst B js (subst A k.published is))))
+    let B : List ℕ → Type 0 = λ v. IsScratch (environment demo_meaning published v notes) e r in
+    let C : List Note → Type 0 = λ v. IsScratch (environment demo_meaning published past.joins v) e r in
+    let D : Expr Val → Type 0 = λ v. IsScratch (environment demo_meaning published past.joins (notes_of noted.0.part.tree)) v r in
+    (published, values, (noted.0, noted.1, subst D (sym same) (subst C noted.2 (subst B js is))))
 
 -- the same lists give the same answer
 pub scratch_same : (e : Expr Val) (r : Result (Stream Val) ScratchRefusal) (hubs hubs' : List (Stream Val)) (joins joins' : List ℕ) (notes notes' : List Note) → hubs ≡ hubs' → joins ≡ joins' → notes ≡ notes' → IsScratch (environment demo_meaning hubs joins notes) e r → IsScratch (environment demo_meaning hubs' joins' notes') e r
@@ -139,6 +140,15 @@ scratch_err place sub past r (Ok v) k e = let bad : false ≡ true = e.0 in absu
 scratch_err place sub past r (Err trouble.Memory) k e = tt
 scratch_err place sub past r (Err (trouble.Refused name)) k e = (r, k, e.1.1.0, e.1.1.1)
 
+-- a feed's expression was refused
+pub hubs_err : (place : Place) (sub : SubId) (past : Past Val) (t : Trouble) (result : Result (Stream Val) Trouble) → IsHubsTrouble place t → IsErr result × IsErrAnd result (λ u. u ≡ t) → IsValueAt place sub past result
+hubs_err place sub past t (Ok v) k e = let bad : false ≡ true = e.0 in absurd cc
+hubs_err place sub past t (Err trouble.Memory) k e = tt
+hubs_err place sub past t (Err (trouble.Refused name)) k e =
+    let T : Trouble → Type 0 = λ u. IsHubsTrouble place u in
+    let was = subst T (sym e.1) k in
+    (was.0, inr was.1, was.2, was.3)
+
 -- ---- what was received
 
 pub shown : (s : Session) (h : History Val) → SessionStands s h → (sub : SubId) (r : Record) (left : Rest) (received : List Val) → slice_get s.records.items sub.0 ≡ Some r → received ≡ r.received.items → IsRestOf (place_of s h) sub left →
@@ -152,7 +162,7 @@ shown s h k sub r left received there same is =
     inl (kept.0, kept.1, (rest_text left, subst P one is.2, ap (λ n. codes "received" ++ (signals_text n r.ending ++ rest_text left)) same ∙ ap (λ n. codes "received" ++ (signals_text n.items n.ending ++ rest_text left)) (sym kept.2)))
 
 -- how it stands says what follows
-pub rest_owed : (s : Session) (h : History Val) → SessionStands s h → (sub : SubId) (st : SubscriptionState) (v : Stream Val) → (st ≡ state.Open) ⊎ (st ≡ state.Ended) → state_at h.pasts sub.0 ≡ Some st → IsOwed demo_meaning s.graph.subscriptions.items h sub v → IsRestOf (place_of s h) sub (rest.Owed v)
+pub rest_owed : (s : Session) (h : History Val) → SessionStands s h → (sub : SubId) (st : SubscriptionState) (v : Stream Val) → (st ≡ state.Open) ⊎ (st ≡ state.Ended) → state_at h.pasts sub.0 ≡ Some st → IsOwed demo_meaning (state_of s.graph).rows h sub v → IsRestOf (place_of s h) sub (rest.Owed v)
 rest_owed s h k sub st v (inl e) there is = let p = state_there h.pasts sub.0 st there in let P : SubscriptionState → Type 0 = λ x. IsRest (place_of s h) sub x (codes " | owed" ++ signals_text v.items v.ending) in (p.0, p.1, subst P (sym (p.2 ∙ e)) (v, is, refl))
 rest_owed s h k sub st v (inr e) there is = let p = state_there h.pasts sub.0 st there in let P : SubscriptionState → Type 0 = λ x. IsRest (place_of s h) sub x (codes " | owed" ++ signals_text v.items v.ending) in (p.0, p.1, subst P (sym (p.2 ∙ e)) (v, is, refl))
 

@@ -1,31 +1,46 @@
 -- Where a script begins.
-use Rattle.std.proofs.Common.{◌≡◌, ℕ, List, [], ◌∷◌, map, refl, ap, ◌∙◌}
+use Rattle.std.proofs.Common.{◌≡◌, ℕ, List, [], ◌∷◌, length, map, refl, ap, ◌∙◌, arith}
+use Rattle.std.proofs.lemmas.List.{length-map}
 use Rattle.rsx_types.specs.Stream.{Stream}
 use Rattle.rsx_demo.specs.Demo.{demo_meaning}
 use Rattle.rsx_demo.specs.declared.val.Val.{Val}
 use Rattle.rsx_hub.specs.Hub.{HubState}
 use Rattle.rsx_subscriber.specs.declared.subscription.Subscription.{Subscription}
-use Rattle.rsx_history.specs.History.{no_history}
-use Rattle.rsx_history.specs.Stands.{AllStand, HubsStand}
+use Rattle.rsx_history.specs.Stands.{AllStand}
+use Rattle.rsx_graph.specs.Rows.{Feed, NameHubs}
+use Rattle.rsx_graph.specs.Steps.{no_history}
 use Rattle.rsx_session.specs.Places.{Place, begun}
 use Rattle.rsx_session.specs.Sessions.{SessionStands, place_of}
 use Rattle.rsx_session.specs.declared.session.Session.{Session}
 
-no_hubs : (hubs : List (HubState Val)) → HubsStand hubs [] → hubs ≡ []
-no_hubs [] k = refl
-no_hubs (hub ∷ hubs) k = absurd k
+none_there : {A : Type 0} (xs : List A) → length xs ≡ 0 → xs ≡ []
+none_there [] e = refl
+none_there (x ∷ xs) e = absurd (omega (arith, e))
 
 no_subs : (published : List (Stream Val)) (subs : List (Subscription Val)) → AllStand demo_meaning published subs [] → subs ≡ []
 no_subs published [] k = refl
 no_subs published (s ∷ subs) k = absurd k
 
-abbrev place_with : List (HubState Val) → List (Subscription Val) → List (List ℕ) → Place
-place_with hubs subs joins = record { graph = record { hubs = hubs; subs = subs; joins = joins }; history = no_history }
+-- each feed names a hub
+no_feeds : (n : ℕ) (feeds : List (Feed Val)) → n ≡ 0 → NameHubs n feeds → feeds ≡ []
+no_feeds n [] e k = refl
+no_feeds n (f ∷ feeds) e k = let less = k.0 in absurd (omega (arith, e, less))
+
+abbrev place_with : List (HubState Val) → List (Feed Val) → List (Subscription Val) → List (List ℕ) → List (List ℕ) → Place
+place_with hubs feeds subs joins feed_joins = record { graph = record { rows = record { hubs = hubs; feeds = feeds; subs = subs }; joins = joins; feed_joins = feed_joins }; history = no_history }
 
 -- a session for which nothing has happened stands where a script begins
 pub at_begin : (session : Session) → SessionStands session no_history → place_of session no_history ≡ begun
 at_begin session s =
     let hubs = session.graph.hubs.items in
+    let feeds = session.graph.feeds.items in
     let subs = session.graph.subscriptions.items in
     let joins : List (List ℕ) = map (λ v. v.items) session.graph.joins.items in
-    ap (λ x. place_with x subs joins) (no_hubs hubs s.graph.hub) ∙ ap (λ x. place_with [] x joins) (no_subs _ subs s.graph.all) ∙ ap (λ x. place_with [] [] x) s.graph.joined
+    let feed_joins : List (List ℕ) = map (λ v. v.items) session.graph.feed_joins.items in
+    let many : length hubs ≡ 0 = s.graph.rows.many in
+    let unfed : feeds ≡ [] = no_feeds (length hubs) feeds many session.graph.named in
+    let beside : length feed_joins ≡ 0 = length-map session.graph.feed_joins.items (λ v. v.items) ∙ (session.graph.beside ∙ ap length unfed) in
+    ap (λ x. place_with x feeds subs joins feed_joins) (none_there hubs many)
+    ∙ (ap (λ x. place_with [] x subs joins feed_joins) unfed
+    ∙ (ap (λ x. place_with [] [] x joins feed_joins) (no_subs s.graph.rows.taken subs s.graph.rows.all)
+    ∙ (ap (λ x. place_with [] [] [] x feed_joins) s.graph.joined.subs ∙ ap (λ x. place_with [] [] [] [] x) (none_there feed_joins beside))))

@@ -68,6 +68,7 @@ is_compared _ = false
 -- the answers to a command that is not refused
 abbrev pub is_of : View → Command → Answer → Bool
 is_of view (command.Hub kind capacity) a = is_hub a
+is_of view (command.Feed kind capacity expr) a = is_hub a
 is_of view (command.Emit hub number) a = is_done a
 is_of view (command.Complete hub) a = is_done a
 is_of view (command.Fail hub number) a = is_done a

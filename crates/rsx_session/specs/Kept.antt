@@ -1,5 +1,5 @@
--- What a session keeps of each subscriber: a look of what has happened to it.
-use Rattle.std.specs.Prelude.{List, [], ◌∷◌, ◌++◌, length, take, ◌-◌}
+-- What a session keeps of each hub and of each subscriber: a look of what has happened to it.
+use Rattle.std.specs.Prelude.{List, [], ◌∷◌, ◌++◌, length, map, take, ◌-◌}
 use Rattle.rsx_types.specs.Stream.{Stream}
 use Rattle.rsx_types.specs.declared.names.SubId.{SubId}
 use Rattle.rsx_types.specs.declared.signal.Ending.{Ending}
@@ -10,6 +10,10 @@ use Rattle.rsx_demo.specs.declared.val.Val.{Val}
 use Rattle.rsx_model.specs.declared.expr.Expr.{Expr}
 use Rattle.rsx_subscriber.specs.Past.{Past, items_in}
 use Rattle.rsx_history.specs.History.{changed}
+use Rattle.rsx_pipe.specs.Output.{with_signal}
+use Rattle.rsx_graph.specs.Rows.{History, Source, emitted, fed}
+use Rattle.rsx_session.specs.declared.published.HubSource.{HubSource}
+use Rattle.rsx_session.specs.declared.published.HubSource.TheVariants.{Emitted, Fed}
 use Rattle.rsx_session.specs.declared.session.Record.{Record}
 
 -- the ending after a signal
@@ -58,14 +62,31 @@ abbrev pub all_taken : List (SubId × Signal Val) → List Known → List Known
 all_taken [] ks = ks
 all_taken (d ∷ ds) ks = all_taken ds (changed (taken d.1) ks d.0.0)
 
--- the last item was let go
-abbrev pub without_last : Stream Val → Stream Val
-without_last v = record { items = take (length v.items - 1) v.items; ending = v.ending }
-
--- it ended so
-abbrev pub ended_by : Ending → Stream Val → Stream Val
-ended_by e v = record { items = v.items; ending = e }
-
 -- these items and this ending, and then what is owed
 abbrev pub followed_by : List Val → Ending → Stream Val → Stream Val
 followed_by items e owed = record { items = items ++ owed.items; ending = ending_then e owed.ending }
+
+-- ---- what is kept of a hub
+
+-- of what it publishes: what its emitter was answered ok for, or the expression that feeds it
+abbrev pub source_of : Source Val → HubSource
+source_of (emitted v) = Emitted v
+source_of (fed e joins) = Fed e
+
+abbrev pub sources_of : History Val → List HubSource
+sources_of h = map (λ p. source_of p.source) h.hubs
+
+-- a signal more was published at an emitter
+abbrev pub source_with : Signal Val → HubSource → HubSource
+source_with s (Emitted v) = Emitted (with_signal s v)
+source_with s (Fed e) = Fed e
+
+-- the last item was let go
+abbrev pub source_without_last : HubSource → HubSource
+source_without_last (Emitted v) = Emitted (record { items = take (length v.items - 1) v.items; ending = v.ending })
+source_without_last (Fed e) = Fed e
+
+-- it ended so
+abbrev pub source_ended : Ending → HubSource → HubSource
+source_ended x (Emitted v) = Emitted (record { items = v.items; ending = x })
+source_ended x (Fed e) = Fed e

@@ -1,7 +1,8 @@
 -- Definitions that contracts cite.
 pub mod Answers
-pub use Rattle.rsx_history.specs.History
 pub mod Kept
 pub mod Places
+pub use Rattle.rsx_graph.specs.Rows
 pub mod Sessions
-pub use Rattle.rsx_history.specs.Stands
+pub use Rattle.rsx_graph.specs.Stands
+pub use Rattle.rsx_graph.specs.Steps

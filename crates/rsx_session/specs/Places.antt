@@ -1,5 +1,5 @@
 -- Where a script stands, and what each command changes there and answers.
-use Rattle.std.specs.Prelude.{◌≡◌, ◌⊎◌, ℕ, ◌≤◌, Bool, true, false, Decides, List, ◌++◌, length, Some, Result, Ok, Err, slice_get, codes}
+use Rattle.std.specs.Prelude.{◌≡◌, ◌⊎◌, ℕ, ◌≤◌, Bool, true, false, Decides, List, [], ◌++◌, length, take, Some, Result, Ok, Err, slice_get, codes}
 use Rattle.std.specs.Fmt.{decimal}
 use Rattle.rsx_types.specs.Stream.{Stream}
 use Rattle.rsx_types.specs.declared.names.Move.TheVariants.{Pick}
@@ -9,6 +9,7 @@ use Rattle.rsx_demo.specs.Demo.{demo_meaning, demo_allocates}
 use Rattle.rsx_demo.specs.declared.val.Val.{Val}
 use Rattle.rsx_demo.specs.declared.val.Val.TheVariants.{Int}
 use Rattle.rsx_model.specs.Eval.{environment}
+use Rattle.rsx_model.specs.declared.expr.Expr.{Expr}
 use Rattle.rsx_evaluation.specs.Answer.{IsScratch, name_codes as scratch_name}
 use Rattle.rsx_evaluation.specs.declared.evaluate.ScratchRefusal.{ScratchRefusal}
 use Rattle.rsx_evaluation.specs.declared.evaluate.ScratchRefusal.TheVariants as scratch
@@ -17,18 +18,18 @@ use Rattle.rsx_subscriber.specs.declared.state.SubscriptionState.{SubscriptionSt
 use Rattle.rsx_subscriber.specs.declared.state.SubscriptionState.TheVariants as is
 use Rattle.rsx_subscriber.specs.declared.subscription.Subscription.{Subscription}
 use Rattle.rsx_pipe.specs.Tree.{notes_of}
-use Rattle.rsx_history.specs.Done.{IsDone}
-use Rattle.rsx_history.specs.History.{History, no_history, extended, published}
 use Rattle.rsx_history.specs.Names.{name_codes}
-use Rattle.rsx_history.specs.Pumped.{HasEnded, LeadTo, Made, after_moves}
-use Rattle.rsx_history.specs.Stands.{GraphState, IsOwed, nothing}
+use Rattle.rsx_graph.specs.Rows.{AreValues, Feed, HasEnded, History, HubPast, IsOwed, LeadTo, Made, after_moves, fed, feed_of}
+use Rattle.rsx_graph.specs.Done.{IsDone, fed_by}
+use Rattle.rsx_graph.specs.Stands.{AreJoinsSame, GraphState, nothing}
+use Rattle.rsx_graph.specs.Steps.{extended, no_history}
 use Rattle.rsx_history.specs.declared.refusal.Refusal.TheVariants.{NoMemory}
 use Rattle.rsx_history.specs.declared.step.Answer.{Answer}
 use Rattle.rsx_history.specs.declared.step.Answer.TheVariants.{Opened, Published, Subscribed, Requested, Cancelled, Made as MoveMade, Refused}
 use Rattle.rsx_history.specs.declared.step.Pumped.{Pumped}
 use Rattle.rsx_history.specs.declared.step.Pumped.TheVariants.{Idle, Budget}
-use Rattle.rsx_history.specs.declared.step.Step.{Step}
-use Rattle.rsx_history.specs.declared.step.Step.TheVariants as step
+use Rattle.rsx_graph.specs.declared.step.Step.{Step}
+use Rattle.rsx_graph.specs.declared.step.Step.TheVariants as step
 use Rattle.rsx_commands.specs.declared.command.Command.{Command}
 use Rattle.rsx_commands.specs.declared.command.Command.TheVariants as command
 use Rattle.rsx_script.specs.Answers.{notes_text, numbers_text, signals_text}
@@ -60,7 +61,7 @@ step_text (Refused r) = codes "refused " ++ name_codes r
 -- the graph made this step, or refused it other than for want of memory, and the text says which
 abbrev pub IsStepMade : Step Val → Place → List ℕ → Place → Type 0
 IsStepMade s old text new =
-    (answer : Answer Val) × IsDone demo_meaning demo_allocates old.graph s answer new.graph × (new.history ≡ extended old.history s answer) × (answer ≡ Refused NoMemory → ⊥) × (text ≡ step_text answer)
+    (answer : Answer Val) × IsDone demo_meaning demo_allocates old.graph s answer new.graph × (new.history ≡ extended old.history s answer (fed_by demo_meaning old.graph s answer)) × (answer ≡ Refused NoMemory → ⊥) × (text ≡ step_text answer)
 
 -- how a run of moves ended
 abbrev pub pumped_text : Pumped → List ℕ
@@ -70,7 +71,8 @@ pumped_text Budget = codes "budget"
 -- the graph made enabled moves, at most so many, until none was enabled, or else the whole budget was spent
 abbrev pub ArePumped : ℕ → Place → List ℕ → Place → Type 0
 ArePumped budget old text new =
-    (moves : List (Made Val)) × LeadTo demo_meaning old.graph moves new.graph × (new.history ≡ after_moves old.history moves) × ((ended : Pumped) × HasEnded demo_meaning budget (length moves) new.graph (Ok ended) × (text ≡ pumped_text ended))
+    (moves : List (Made Val)) × LeadTo demo_meaning old.graph.rows moves new.graph.rows × AreJoinsSame old.graph new.graph × (new.history ≡ after_moves old.history moves)
+    × ((ended : Pumped) × HasEnded demo_meaning budget (length moves) new.graph.rows (Ok ended) × (text ≡ pumped_text ended))
 
 -- ---- looks
 
@@ -81,7 +83,7 @@ OfSub place i text P =
 
 -- what the graph owes it
 abbrev pub IsOwing : Place → SubId → List ℕ → Type 0
-IsOwing place sub rest = (v : Stream Val) × IsOwed demo_meaning place.graph.subs place.history sub v × (rest ≡ codes " | owed" ++ signals_text v.items v.ending)
+IsOwing place sub rest = (v : Stream Val) × IsOwed demo_meaning place.graph.rows place.history sub v × (rest ≡ codes " | owed" ++ signals_text v.items v.ending)
 
 -- what follows what it received
 abbrev pub IsRest : Place → SubId → SubscriptionState → List ℕ → Type 0
@@ -95,10 +97,39 @@ abbrev pub IsShown : Place → SubId → List ℕ → Type 0
 IsShown place sub text = OfSub place sub.0 text (λ past.
     (rest : List ℕ) × IsRest place sub past.state rest × (text ≡ codes "received" ++ (signals_text (items_in past.received) (ending_in past.received) ++ rest)))
 
--- what the slow evaluator answers for its expression, over what was published and under what its nodes recorded
+-- the values of the hubs, in their order: what was published at an emitter, and the value of an expression that feeds a hub over
+-- the hubs before it
+abbrev pub HaveValues : Place → List (Stream Val) → Type 0
+HaveValues place published = AreValues demo_meaning place.graph.rows.feeds [] place.history.hubs published
+
+-- the values of the first hubs
+abbrev pub HaveFirstValues : Place → List (Stream Val) → Type 0
+HaveFirstValues place before = AreValues demo_meaning place.graph.rows.feeds [] (take (length before) place.history.hubs) before
+
+-- the slow evaluator refused the expression that feeds a hub, over the values of the hubs before it, under its joins and what the
+-- nodes of the feed recorded
+pub record IsFeedRefused (place : Place) (e : ScratchRefusal) : Type 0 where
+  pub before : List (Stream Val)
+  pub values : HaveFirstValues place before
+  pub hub : HubPast Val
+  pub there : slice_get place.history.hubs (length before) ≡ Some hub
+  pub expression : Expr Val
+  pub joins : List ℕ
+  pub source : hub.source ≡ fed expression joins
+  pub feed : Feed Val
+  pub feeds : feed_of place.graph.rows.feeds (length before) ≡ Some feed
+  pub refused : IsScratch (environment demo_meaning before joins (notes_of feed.part.tree)) expression (Err e)
+
+-- what the slow evaluator answers for its expression, over the values of the hubs and under what its nodes recorded
+abbrev pub IsEvaluatedOver : Place → SubId → Past Val → Result (Stream Val) ScratchRefusal → Type 0
+IsEvaluatedOver place sub past r =
+    (published : List (Stream Val)) × HaveValues place published
+    × ((node : Subscription Val) × (slice_get place.graph.rows.subs sub.0 ≡ Some node) × IsScratch (environment demo_meaning published past.joins (notes_of node.part.tree)) past.expression r)
+
+-- the same, where it may refuse the expression of a feed
 abbrev pub IsEvaluated : Place → SubId → Past Val → Result (Stream Val) ScratchRefusal → Type 0
-IsEvaluated place sub past r =
-    (node : Subscription Val) × (slice_get place.graph.subs sub.0 ≡ Some node) × IsScratch (environment demo_meaning (published place.history) past.joins (notes_of node.part.tree)) past.expression r
+IsEvaluated place sub past (Ok v) = IsEvaluatedOver place sub past (Ok v)
+IsEvaluated place sub past (Err e) = IsEvaluatedOver place sub past (Err e) ⊎ IsFeedRefused place e
 
 -- that answer is a value of which this holds, or a refusal other than for want of memory, which the text names
 abbrev pub OfValue : List ℕ → Result (Stream Val) ScratchRefusal → (Stream Val → Type 0) → Type 0
@@ -126,12 +157,12 @@ AreJoins place sub text = OfSub place sub.0 text (λ past. text ≡ codes "joins
 
 abbrev pub AreChoices : Place → SubId → List ℕ → Type 0
 AreChoices place sub text = OfSub place sub.0 text (λ past.
-    (node : Subscription Val) × (slice_get place.graph.subs sub.0 ≡ Some node) × (text ≡ codes "choices" ++ notes_text 0 (notes_of node.part.tree)))
+    (node : Subscription Val) × (slice_get place.graph.rows.subs sub.0 ≡ Some node) × (text ≡ codes "choices" ++ notes_text 0 (notes_of node.part.tree)))
 
 -- whether this, and what the graph owes it, is this value
 abbrev pub IsAllOf : Place → SubId → Known → Stream Val → Bool → Type 0
 IsAllOf place sub got v right =
-    (owed : Stream Val) × IsOwed demo_meaning place.graph.subs place.history sub owed × Decides right (followed_by got.items got.ending owed ≡ v)
+    (owed : Stream Val) × IsOwed demo_meaning place.graph.rows place.history sub owed × Decides right (followed_by got.items got.ending owed ≡ v)
 
 -- whether what it received, and what the graph owes it, is this value; of one that cancelled or made a bad request, whether the
 -- items that it received begin it
@@ -159,6 +190,7 @@ IsLook old new P = (new ≡ old) × P
 -- what a command changes, and the text of its answer
 abbrev pub IsAnswerTo : View → Command → Place → List ℕ → Place → Type 0
 IsAnswerTo view (command.Hub kind capacity) old text new = IsStepMade (step.Hub kind capacity) old text new
+IsAnswerTo view (command.Feed kind capacity expr) old text new = IsStepMade (step.FeedHub kind capacity expr) old text new
 IsAnswerTo view (command.Emit hub number) old text new = IsStepMade (step.Emit hub (Int number)) old text new
 IsAnswerTo view (command.Complete hub) old text new = IsStepMade (step.Complete hub) old text new
 IsAnswerTo view (command.Fail hub number) old text new = IsStepMade (step.Fail hub number) old text new

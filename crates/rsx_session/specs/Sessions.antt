@@ -9,20 +9,21 @@ use Rattle.rsx_evaluation.specs.Answer.{name_codes as scratch_name}
 use Rattle.rsx_evaluation.specs.declared.evaluate.ScratchRefusal.{ScratchRefusal}
 use Rattle.rsx_evaluation.specs.declared.evaluate.ScratchRefusal.TheVariants as scratch
 use Rattle.rsx_subscriber.specs.Past.{Past}
-use Rattle.rsx_history.specs.History.{History, IsLookRefusal, published}
+use Rattle.rsx_history.specs.History.{IsLookRefusal}
 use Rattle.rsx_history.specs.Names.{name_codes}
 use Rattle.rsx_history.specs.declared.refusal.Refusal.{Refusal}
 use Rattle.rsx_history.specs.declared.refusal.Refusal.TheVariants.{NoMemory}
-use Rattle.rsx_history.specs.Pumped.{HasEnded, LeadTo, Made, after_moves}
 use Rattle.rsx_history.specs.declared.step.Pumped.{Pumped}
-use Rattle.rsx_history.specs.Stands.{StandsFor}
+use Rattle.rsx_graph.specs.Rows.{HasEnded, History, HubPast, IsValue, LeadTo, Made, after_moves}
 use Rattle.rsx_graph.specs.InGraph.{state_of}
+use Rattle.rsx_graph.specs.Stands.{AreJoinsSame, GraphStands}
 use Rattle.rsx_commands.specs.declared.command.Command.{Command}
 use Rattle.rsx_script.specs.Answers.{answer_text, rest_text}
 use Rattle.rsx_script.specs.declared.print.Answer.{Answer}
 use Rattle.rsx_script.specs.declared.print.Rest.{Rest}
-use Rattle.rsx_session.specs.Kept.{known, seen}
-use Rattle.rsx_session.specs.Places.{IsAnswerTo, IsEvaluated, IsRest, IsRight, Place}
+use Rattle.rsx_session.specs.Kept.{known, seen, source_of, sources_of}
+use Rattle.rsx_session.specs.Places.{HaveFirstValues, IsAnswerTo, IsEvaluated, IsFeedRefused, IsRest, IsRight, Place}
+use Rattle.rsx_session.specs.declared.published.HubSource.{HubSource}
 use Rattle.rsx_session.specs.declared.session.Record.{Record}
 use Rattle.rsx_session.specs.declared.session.Session.{Session}
 use Rattle.rsx_session.specs.declared.session.Trouble.{Trouble}
@@ -30,9 +31,9 @@ use Rattle.rsx_session.specs.declared.session.Trouble.TheVariants.{Refused, Memo
 
 -- a session stands for a history: its graph does, and what it keeps beside the graph is a look of that history
 pub record SessionStands (session : Session) (h : History Val) : Type 0 where
-  pub graph : StandsFor demo_meaning (state_of session.graph) h
-  -- what was published at each hub
-  pub published : session.published.items ≡ published h
+  pub graph : GraphStands demo_meaning (state_of session.graph) h
+  -- what each hub publishes
+  pub published : session.published.items ≡ sources_of h
   -- the expression of each subscriber, and what it received
   pub records : map known session.records.items ≡ map seen h.pasts
   -- nothing waits to be taken in
@@ -95,7 +96,8 @@ IsLineOf (Err Memory) line = ⊥
 pub record HasRun (count : ℕ) (old : Session) (h : History Val) (new : Session) : Type 0 where
   pub moves : List (Made Val)
   pub counted : length moves ≡ count
-  pub lead : LeadTo demo_meaning (state_of old.graph) moves (state_of new.graph)
+  pub lead : LeadTo demo_meaning (state_of old.graph).rows moves (state_of new.graph).rows
+  pub same : AreJoinsSame (state_of old.graph) (state_of new.graph)
   pub stands : SessionStands new (after_moves h moves)
   pub view : new.view ≡ old.view
 
@@ -107,7 +109,7 @@ AllRun count old new = (h : History Val) → SessionStands old h → HasRun coun
 pub record PumpsTo (budget : ℕ) (old : Session) (h : History Val) (ended : Pumped) (new : Session) : Type 0 where
   pub count : ℕ
   pub run : HasRun count old h new
-  pub ends : HasEnded demo_meaning budget count (state_of new.graph) (Ok ended)
+  pub ends : HasEnded demo_meaning budget count (state_of new.graph).rows (Ok ended)
 
 -- for each history that the session stood for
 abbrev pub AllPumpTo : ℕ → Session → Pumped → Session → Type 0
@@ -120,6 +122,19 @@ IsRestOf place sub rest = (past : Past Val) × (slice_get place.history.pasts su
 -- whether what is kept of a subscriber, and what it is owed, is this value, by how the subscription stands
 abbrev pub IsRightOf : Place → SubId → Record → Stream Val → Bool → Type 0
 IsRightOf place sub r v right = (past : Past Val) → slice_get place.history.pasts sub.0 ≡ Some past → seen past ≡ known r → IsRight place sub past v past.state right
+
+-- the slow evaluator refused the expression of a feed
+abbrev pub IsHubsTrouble : Place → Trouble → Type 0
+IsHubsTrouble place (Refused name) = (e : ScratchRefusal) × IsFeedRefused place e × (e ≡ scratch.NoMemory → ⊥) × (name.now ≡ scratch_name e)
+IsHubsTrouble place Memory = ⊤
+
+-- the value of the hub behind those with these values, where this is kept of it
+abbrev pub IsNextValue : Place → List (Stream Val) → HubSource → Stream Val → Type 0
+IsNextValue place before kept v = (hub : HubPast Val) → slice_get place.history.hubs (length before) ≡ Some hub → source_of hub.source ≡ kept → IsValue demo_meaning place.graph.rows.feeds before hub.source v
+
+-- why it has none
+abbrev pub IsNextTrouble : Place → List (Stream Val) → HubSource → Trouble → Type 0
+IsNextTrouble place before kept t = (hub : HubPast Val) → slice_get place.history.hubs (length before) ≡ Some hub → source_of hub.source ≡ kept → HaveFirstValues place before → IsHubsTrouble place t
 
 -- what the slow evaluator answers for a subscription, as a value or as a trouble
 abbrev pub IsValueAt : Place → SubId → Past Val → Result (Stream Val) Trouble → Type 0

@@ -1,11 +1,79 @@
-//! What was published at a hub, as the value that the slow evaluator takes.
+//! What a session keeps of a hub.
 
-ghost use Rattle.std.specs.Prelude.{◌≡◌, ◌-◌, ◌++◌, ◌∷◌, [], length, take, OnOk, OnErr};
+ghost use Rattle.std.specs.Prelude.{◌≡◌, ◌-◌, ◌++◌, ◌∷◌, [], length, take, IfOk, OnOk, OnErr};
+ghost use Rattle.rsx_types.specs.Stream.{ended_by};
+ghost use Rattle.rsx_types.specs.declared.signal.Signal.TheVariants.{Next};
+ghost use Rattle.rsx_session.specs.Kept.{source_ended, source_with, source_without_last};
 
-use rsx_demo::Val;
+use rsx_demo::{Val, copy_items};
+use rsx_model::Expr;
 use rsx_types::{Ending, NoMemory, StreamValue};
 use std::alloc::Global;
 use std::mem;
+
+/// What a hub publishes, as the slow evaluator takes it.
+#[derive(Drop)]
+pub(crate) enum HubSource {
+    /// What was published at its emitter and not refused.
+    Emitted(StreamValue<Val>),
+    /// What this expression gives, which feeds it.
+    Fed(Expr<Val>),
+}
+
+impl HubSource {
+    /// That of an emitter at which nothing was published so far.
+    pub(crate) fn emitter(alloc: Global) -> HubSource
+        ensures { result ≡ HubSource.Emitted (ended_by Ending.Open) }
+    {
+        HubSource::Emitted(StreamValue::new(Vec::new(alloc), Ending::Open))
+    }
+
+    /// Puts an item behind what was published at an emitter. Of a hub that is fed, nothing is kept.
+    ///
+    /// # Errors
+    ///
+    /// `NoMemory` where a growth was refused; nothing changed then.
+    pub(crate) fn keep_item(&mut self, alloc: Global, item: Val) -> Result<(), NoMemory>
+        ensures kept { OnOk result (self.new ≡ source_with (Next item) self.old) }
+        ensures same { OnErr result (self.new ≡ self.old) }
+    {
+        match self {
+            HubSource::Emitted(value) => keep_item(alloc, value, item),
+            HubSource::Fed(_) => Ok(()),
+        }
+    }
+
+    /// Takes the last item off what was published at an emitter.
+    pub(crate) fn let_item_go(&mut self, alloc: Global)
+        ensures { self.new ≡ source_without_last self.old }
+    {
+        match self {
+            HubSource::Emitted(value) => let_item_go(alloc, value),
+            HubSource::Fed(_) => {}
+        }
+    }
+
+    /// Ends what was published at an emitter.
+    pub(crate) fn end(&mut self, alloc: Global, ending: Ending)
+        ensures { self.new ≡ source_ended ending self.old }
+    {
+        match self {
+            HubSource::Emitted(value) => end(alloc, value, ending),
+            HubSource::Fed(_) => {}
+        }
+    }
+}
+
+/// A copy of a value.
+///
+/// # Errors
+///
+/// `NoMemory` where a growth was refused.
+pub(crate) fn copied(alloc: Global, value: &StreamValue<Val>) -> Result<StreamValue<Val>, NoMemory>
+    ensures { IfOk result (λ v. v ≡ value.now) }
+{
+    Ok(StreamValue::new(copy_items(alloc, value.items())?, value.ending()))
+}
 
 /// Takes the items out of a value, which has none then, and keeps its ending.
 fn taken_out(alloc: Global, value: &mut StreamValue<Val>) -> Vec<Val>
@@ -21,11 +89,7 @@ fn taken_out(alloc: Global, value: &mut StreamValue<Val>) -> Vec<Val>
 /// # Errors
 ///
 /// `NoMemory` where a growth was refused; the value is then as it was.
-pub(crate) fn keep_item(
-    alloc: Global,
-    value: &mut StreamValue<Val>,
-    item: Val,
-) -> Result<(), NoMemory>
+fn keep_item(alloc: Global, value: &mut StreamValue<Val>, item: Val) -> Result<(), NoMemory>
     ensures kept { OnOk result (value.new ≡ record { items = value.old.items ++ item ∷ []; ending = value.old.ending }) }
     ensures same { OnErr result (value.new ≡ value.old) }
 {
@@ -42,7 +106,7 @@ pub(crate) fn keep_item(
 }
 
 /// Takes the last item off a value.
-pub(crate) fn let_item_go(alloc: Global, value: &mut StreamValue<Val>)
+fn let_item_go(alloc: Global, value: &mut StreamValue<Val>)
     ensures items { value.new.items ≡ take (length value.old.items - 1) value.old.items }
     ensures ending { value.new.ending ≡ value.old.ending }
 {
@@ -52,7 +116,7 @@ pub(crate) fn let_item_go(alloc: Global, value: &mut StreamValue<Val>)
 }
 
 /// Ends a value.
-pub(crate) fn end(alloc: Global, value: &mut StreamValue<Val>, ending: Ending)
+fn end(alloc: Global, value: &mut StreamValue<Val>, ending: Ending)
     ensures { value.new ≡ record { items = value.old.items; ending = ending } }
 {
     *value = StreamValue::new(taken_out(alloc, value), ending);

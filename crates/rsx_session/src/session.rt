@@ -1,14 +1,16 @@
 //! A graph with what each of its subscribers received: the state of a run.
 
 ghost use Rattle.std.specs.Prelude.{◌≡◌, ◌≤◌, [], true, length, map, slice_get, Some, string_bytes, OnErr, OnOk, IsOk, IfOk, IfErr, Decides};
-ghost use Rattle.rsx_history.specs.History.{History, changed, no_history};
+ghost use Rattle.rsx_graph.specs.Rows.{History};
+ghost use Rattle.rsx_graph.specs.Steps.{no_history};
+ghost use Rattle.rsx_history.specs.History.{changed};
 ghost use Rattle.rsx_subscriber.specs.Past.{IsPrefixOf};
-ghost use Rattle.rsx_session.specs.Sessions.{AllPumpTo, GrowsByLine, IsLineOf, LeadsAll, OnText, IsLookTrouble, IsRestOf, IsRightOf, IsScratchTrouble, IsTroubleOf, IsValueOf, Says, SessionStands, place_of};
+ghost use Rattle.rsx_session.specs.Sessions.{AllPumpTo, GrowsByLine, IsHubsTrouble, IsLineOf, IsNextTrouble, IsNextValue, LeadsAll, OnText, IsLookTrouble, IsRestOf, IsRightOf, IsScratchTrouble, IsTroubleOf, IsValueOf, Says, SessionStands, place_of};
 ghost use Rattle.rsx_session.specs.Kept.{all_taken, followed_by, known, taken};
-ghost use Rattle.rsx_session.specs.Places.{AreChoices, AreJoins, IsAsked, IsChecked, IsCounted, IsShown, IsValued, IsViewed};
+ghost use Rattle.rsx_session.specs.Places.{AreChoices, AreJoins, HaveValues, IsAsked, IsChecked, IsCounted, IsShown, IsValued, IsViewed};
 ghost use Rattle.rsx_session.specs.Answers.{IsAnswered, IsTrouble, is_asked, is_choices, is_count, is_joins, is_of, is_hub, is_sub, is_done, is_pumped, is_received, is_value, is_shown, is_compared};
 
-use crate::published::{end, keep_item, let_item_go};
+use crate::published::{HubSource, copied};
 use rsx_demo::{Demo, Val, is_same_val};
 use rsx_evaluation::{ScratchRefusal, scratch};
 use rsx_graph::{Deliveries, Graph, Pumped, Refusal, SubscriptionState};
@@ -102,13 +104,13 @@ pub enum View {
     FromScratch,
 }
 
-/// A graph with what was published at each of its hubs, and what each of its subscribers received.
+/// A graph with what each of its hubs publishes, and what each of its subscribers received.
 #[derive(Drop)]
 pub struct Session {
     view: View,
     graph: Graph<Demo>,
-    /// What was published and not refused, at the hubs in the order of their ids.
-    published: Vec<StreamValue<Val>>,
+    /// What the hubs publish, in the order of their ids.
+    published: Vec<HubSource>,
     /// The subscriptions, in the order of their ids.
     records: Vec<Record>,
     /// The list that deliveries are put into. It is empty between calls, and its memory is used again.
@@ -154,6 +156,11 @@ impl Session {
     {
         match command {
             Command::Hub(kind, capacity) => write(alloc, self.hub(alloc, kind, capacity), out),
+            Command::Feed(kind, capacity, expr) => write(
+                alloc,
+                self.feed(alloc, kind, capacity, expr),
+                out,
+            ),
             Command::Emit(hub, number) => write(alloc, self.emit(alloc, hub, number), out),
             Command::Complete(hub) => write(alloc, self.complete(alloc, hub), out),
             Command::Fail(hub, number) => write(alloc, self.fail(alloc, hub, number), out),
@@ -200,8 +207,25 @@ impl Session {
     {
         self.published.reserve(1)?;
         let hub = self.graph.hub(alloc, kind, capacity)?;
-        let nothing = StreamValue::new(Vec::new(alloc), Ending::Open);
-        self.published.push_reserved(nothing);
+        self.published.push_reserved(HubSource::emitter(alloc));
+        Ok(Answer::Hub(hub))
+    }
+
+    /// Makes a hub that is fed by an expression, and keeps that for `show` and `check`.
+    fn feed(
+        &mut self,
+        alloc: Global,
+        kind: HubKind,
+        capacity: u64,
+        expr: Expr<Val>,
+    ) -> Result<Answer<'static>, Trouble>
+        ensures answer { IfOk result (λ a. is_hub a ≡ true) }
+        ensures leads { OnText result (λ text. LeadsAll (Command.Feed kind capacity expr) self.old text self.new) }
+        ensures err { IfErr result IsTrouble }
+    {
+        self.published.reserve(1)?;
+        let hub = self.graph.feed_hub(alloc, kind, capacity, &expr)?;
+        self.published.push_reserved(HubSource::Fed(expr));
         Ok(Answer::Hub(hub))
     }
 
@@ -215,13 +239,13 @@ impl Session {
         if at >= self.published.len() {
             return Err(Trouble::from(Refusal::UnknownHub));
         }
-        let value = &mut self.published[at];
-        keep_item(alloc, value, Val::Int(number))?;
+        let source = &mut self.published[at];
+        source.keep_item(alloc, Val::Int(number))?;
         match self.graph.emit(hub, Val::Int(number)) {
             Ok(()) => Ok(Answer::Done),
             Err(back) => {
                 let kept = &mut self.published[at];
-                let_item_go(alloc, kept);
+                kept.let_item_go(alloc);
                 Err(Trouble::from(back.refusal))
             }
         }
@@ -238,8 +262,8 @@ impl Session {
             return Err(Trouble::from(Refusal::UnknownHub));
         }
         self.graph.complete(hub)?;
-        let value = &mut self.published[at];
-        end(alloc, value, Ending::Done);
+        let source = &mut self.published[at];
+        source.end(alloc, Ending::Done);
         Ok(Answer::Done)
     }
 
@@ -254,8 +278,8 @@ impl Session {
             return Err(Trouble::from(Refusal::UnknownHub));
         }
         self.graph.fail(hub, number)?;
-        let value = &mut self.published[at];
-        end(alloc, value, Ending::Failed(Cause::User(number)));
+        let source = &mut self.published[at];
+        source.end(alloc, Ending::Failed(Cause::User(number)));
         Ok(Answer::Done)
     }
 
@@ -449,7 +473,48 @@ impl Session {
     {
         let notes = self.graph.notes(alloc, Tree::Sub(sub))?;
         let joins = self.graph.joins(alloc, Tree::Sub(sub))?;
-        Ok(scratch(alloc, &Demo, expr, &self.published, &joins, &notes)?)
+        let published = self.values(alloc)?;
+        Ok(scratch(alloc, &Demo, expr, &published, &joins, &notes)?)
+    }
+
+    /// The values of the hubs, in the order of their ids.
+    fn values(&self, alloc: Global) -> Result<Vec<StreamValue<Val>>, Trouble>
+        ensures says { IfOk result (λ vs. (h : History Val) → SessionStands self.now h → HaveValues (place_of self.now h) vs.items) }
+        ensures refused { IfErr result (λ t. (h : History Val) → SessionStands self.now h → IsHubsTrouble (place_of self.now h) t) }
+        ensures err { IfErr result IsTrouble }
+    {
+        let mut values = Vec::new(alloc);
+        for source in &self.published {
+            let value = self.value_after(alloc, &values, source)?;
+            values.push(value)?;
+        }
+        Ok(values)
+    }
+
+    /// The value of the hub behind those with these values: what was published at its emitter, or the value of the expression
+    /// that feeds it, evaluated from scratch.
+    fn value_after(
+        &self,
+        alloc: Global,
+        before: &[StreamValue<Val>],
+        source: &HubSource,
+    ) -> Result<StreamValue<Val>, Trouble>
+        ensures says { IfOk result (λ v. (h : History Val) → SessionStands self.now h → IsNextValue (place_of self.now h) before.now source.now v) }
+        ensures refused { IfErr result (λ t. (h : History Val) → SessionStands self.now h → IsNextTrouble (place_of self.now h) before.now source.now t) }
+        ensures err { IfErr result IsTrouble }
+    {
+        let expr = match source {
+            HubSource::Emitted(value) => return Ok(copied(alloc, value)?),
+            HubSource::Fed(expr) => expr,
+        };
+        // A graph has at most 64 hubs, so each of their numbers is a u32.
+        let Ok(number) = u32::try_from(before.len()) else {
+            return Err(Trouble::Memory);
+        };
+        let tree = Tree::Feed(HubId(number));
+        let notes = self.graph.notes(alloc, tree)?;
+        let joins = self.graph.joins(alloc, tree)?;
+        Ok(scratch(alloc, &Demo, expr, before, &joins, &notes)?)
     }
 
     /// Compares with the value of the expression, evaluated from scratch.

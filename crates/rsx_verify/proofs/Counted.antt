@@ -1,7 +1,7 @@
 -- No more items than were requested.
-use Rattle.std.proofs.Common.{◌≡◌, ℕ, zero, suc, pos, negsuc, ◌+◌, ◌<◌, ◌≤◌, ◌==◌, inl, inr, cond, Bool, true, false, ◌&&◌, ◌||◌, List, [], ◌∷◌, ◌++◌, take, min, refl, sym, ap, ◌∙◌, subst, arith}
+use Rattle.std.proofs.Common.{◌≡◌, ◌≢◌, ℕ, zero, suc, pos, negsuc, ◌+◌, ◌<◌, ◌≤◌, ◌==◌, inl, inr, cond, Bool, true, false, ◌&&◌, ◌||◌, List, [], ◌∷◌, ◌++◌, take, min, refl, sym, ap, ◌∙◌, arith}
 use Rattle.std.specs.Prelude.{sum_by, if◌then◌else◌}
-use Rattle.std.proofs.lemmas.Bool.{cases_Bool, cases_eq, ne_eqb}
+use Rattle.std.proofs.lemmas.Bool.{cases_Bool, ne_eqb}
 use Rattle.std.proofs.lemmas.List.Sums.{sum_by-cons}
 use Rattle.rsx_demand.specs.declared.TheConstants.{UNBOUNDED}
 use Rattle.rsx_trace.specs.declared.event.Event.{Event}
@@ -11,7 +11,7 @@ use Rattle.rsx_trace.specs.Events.{of, subscriber_of, requested, is_cancel, is_n
 use Rattle.rsx_tck.specs.declared.pass.Effect.TheVariants.{Nothing}
 use Rattle.rsx_tck.specs.Passes.{Tells}
 use Rattle.rsx_tck.specs.Sentences.{AtEachPosition, before_cancel, items_in, requests_in}
-use Rattle.rsx_tck.specs.Laws.Counting.{before_cancel-other, before_cancel-step, each-none, requests_before_cancel}
+use Rattle.rsx_tck.specs.Laws.Counting.{before_cancel-other, before_cancel-step, counted_before_cancel-other, each-none, requests_before_cancel}
 use Rattle.rsx_tck.specs.Laws.Following.{tells-none}
 use Rattle.rsx_verify.proofs.Progress.{Phase, Progress, at, fresh, subscribed, receiving, running, refusing, ending, over, after, May, IsKeptBy}
 
@@ -19,15 +19,15 @@ abbrev pub Covered : ℕ → List Stamped → Type 0
 Covered s t = AtEachPosition (λ past. items_in s past ≤ requests_in s (before_cancel s past)) t
 
 -- what was asked for before a cancel, and what was delivered
-pub record Counts (live : Bool) (a n : ℕ) (t : List Stamped) : Type 0 where
+pub record Counts (me : ℕ) (live : Bool) (a n : ℕ) (t : List Stamped) : Type 0 where
   pub asked : ℕ
   pub cancelled : Bool
-  pub sent_is : n ≡ items_in 0 t
-  pub asked_is : asked ≡ requests_before_cancel 0 t
-  pub tells : Tells cancelled (of 0 is_cancel) t
+  pub sent_is : n ≡ items_in me t
+  pub asked_is : asked ≡ requests_before_cancel me t
+  pub tells : Tells cancelled (of me is_cancel) t
   pub covers : a ≤ asked
   pub goes_on : live ≡ true → cancelled ≡ false
-  pub keeps : (s : ℕ) → Covered s t
+  pub keeps : Covered me t
 
 -- what one event changes
 record Changes (live : Bool) (a n : ℕ) (e : Event) (live' : Bool) (a' n' : ℕ) : Type 0 where
@@ -40,11 +40,11 @@ none_over : (next : Bool) (n a asked : ℕ) → (next ≡ true → n < a) → a 
 none_over true n a asked lt le = sym (ne_eqb asked n (let l = lt refl in λ h. absurd (omega (arith, l, le, h))))
 none_over false n a asked lt le = refl
 
-counts_on : (live live' : Bool) (a n a' n' : ℕ) (t : List Stamped) (e : Stamped) → subscriber_of e.event ≡ 0 → Changes live a n e.event live' a' n' → Counts live a n t → Counts live' a' n' (t ++ e ∷ [])
-counts_on live live' a n a' n' t e own changes c =
+counts_on : (me : ℕ) (live live' : Bool) (a n a' n' : ℕ) (t : List Stamped) (e : Stamped) → subscriber_of e.event ≡ me → Changes live a n e.event live' a' n' → Counts me live a n t → Counts me live' a' n' (t ++ e ∷ [])
+counts_on me live live' a n a' n' t e own changes c =
     let asked' : ℕ = min UNBOUNDED (c.asked + (if c.cancelled then 0 else requested e.event)) in
     let within : c.asked ≤ UNBOUNDED = (let is = c.asked_is in omega arith) in
-    let step = before_cancel-step 0 e n c.asked n' asked' c.cancelled (c.cancelled || is_cancel e.event) Nothing own refl (λ h. changes.sent) refl (none_over (is_next e.event) n a c.asked changes.covered c.covers) t (c.sent_is, c.asked_is, c.tells) (c.keeps 0) in
+    let step = before_cancel-step me e n c.asked n' asked' c.cancelled (c.cancelled || is_cancel e.event) Nothing own refl (λ h. changes.sent) refl (none_over (is_next e.event) n a c.asked changes.covered c.covers) t (c.sent_is, c.asked_is, c.tells) c.keeps in
     record {
       asked = asked';
       cancelled = c.cancelled || is_cancel e.event;
@@ -53,10 +53,22 @@ counts_on live live' a n a' n' t e own changes c =
       tells = step.0.2;
       covers = changes.raised c.asked c.cancelled c.covers within c.goes_on;
       goes_on = λ l. let still = changes.still l in ap (λ b. b || is_cancel e.event) (c.goes_on still.0) ∙ still.1;
-      keeps = λ s. elim (cases_eq s 0) [
-        | inl is ↦ subst (λ k. Covered k (t ++ e ∷ [])) (sym is) step.1
-        | inr ne ↦ before_cancel-other s t e (λ is. ne (sym is ∙ own)) (c.keeps s)
-      ];
+      keeps = step.1;
+    }
+
+-- an event of another subscriber
+counts_beside : (me : ℕ) (live : Bool) (a n : ℕ) (t : List Stamped) (e : Stamped) → subscriber_of e.event ≢ me → Counts me live a n t → Counts me live a n (t ++ e ∷ [])
+counts_beside me live a n t e other c =
+    let same = counted_before_cancel-other n c.asked c.cancelled me t e other (c.sent_is, c.asked_is, c.tells) in
+    record {
+      asked = c.asked;
+      cancelled = c.cancelled;
+      sent_is = same.0;
+      asked_is = same.1;
+      tells = same.2;
+      covers = c.covers;
+      goes_on = c.goes_on;
+      keeps = before_cancel-other me t e other c.keeps;
     }
 
 abbrev pub is_live : Phase → Bool
@@ -80,41 +92,44 @@ quiet live live' a n e isnt still = record {
   still = still;
 }
 
-abbrev pub KeepsCounts : Progress → List Stamped → Type 0
-KeepsCounts (at p a n) t = Counts (is_live p) a n t
+abbrev pub KeepsCounts : ℕ → Progress → List Stamped → Type 0
+KeepsCounts me (at p a n) t = Counts me (is_live p) a n t
 
-counted : (p : Progress) (t : List Stamped) (e : Event) (w : ℕ) → subscriber_of e ≡ 0 → May p e → KeepsCounts p t → KeepsCounts (after p e) (t ++ record { worker = w; event = e } ∷ [])
-counted (at fresh a n) t (Subscribe s) w own m c = counts_on true true a n a n t (record { worker = w; event = Subscribe s }) own (quiet true true a n (Subscribe s) refl (λ l. (l, refl))) c
-counted (at subscribed a n) t (OnSubscribe s) w own m c = counts_on true true a n a n t (record { worker = w; event = OnSubscribe s }) own (quiet true true a n (OnSubscribe s) refl (λ l. (l, refl))) c
-counted (at receiving a n) t (Exit s) w own m c = counts_on true true a n a n t (record { worker = w; event = Exit s }) own (quiet true true a n (Exit s) refl (λ l. (l, refl))) c
-counted (at running a n) t (Next s) w own m c = counts_on true true a n a (n + 1) t (record { worker = w; event = Next s }) own
+counted : (me : ℕ) (p : Progress) (t : List Stamped) (e : Event) (w : ℕ) → subscriber_of e ≡ me → May p e → KeepsCounts me p t → KeepsCounts me (after p e) (t ++ record { worker = w; event = e } ∷ [])
+counted me (at fresh a n) t (Subscribe s) w own m c = counts_on me true true a n a n t (record { worker = w; event = Subscribe s }) own (quiet true true a n (Subscribe s) refl (λ l. (l, refl))) c
+counted me (at subscribed a n) t (OnSubscribe s) w own m c = counts_on me true true a n a n t (record { worker = w; event = OnSubscribe s }) own (quiet true true a n (OnSubscribe s) refl (λ l. (l, refl))) c
+counted me (at receiving a n) t (Exit s) w own m c = counts_on me true true a n a n t (record { worker = w; event = Exit s }) own (quiet true true a n (Exit s) refl (λ l. (l, refl))) c
+counted me (at running a n) t (Next s) w own m c = counts_on me true true a n a (n + 1) t (record { worker = w; event = Next s }) own
     (record { covered = λ is. m; sent = refl; raised = λ asked cancelled le within g. raises a asked (if cancelled then 0 else 0) le within; still = λ l. (l, refl) }) c
-counted (at running a n) t (Complete s) w own m c = counts_on true false a n a n t (record { worker = w; event = Complete s }) own (quiet true false a n (Complete s) refl (λ l. absurd (cc))) c
-counted (at running a n) t (Error s x) w own m c = counts_on true false a n a n t (record { worker = w; event = Error s x }) own (quiet true false a n (Error s x) refl (λ l. absurd (cc))) c
-counted (at running a n) t (Request s (pos zero)) w own m c = counts_on true true a n a n t (record { worker = w; event = Request s (pos zero) }) own (quiet true true a n (Request s (pos zero)) refl (λ l. (l, refl))) c
-counted (at running a n) t (Request s (pos (suc k))) w own m c = counts_on true true a n (min UNBOUNDED (a + suc k)) n t (record { worker = w; event = Request s (pos (suc k)) }) own
+counted me (at running a n) t (Complete s) w own m c = counts_on me true false a n a n t (record { worker = w; event = Complete s }) own (quiet true false a n (Complete s) refl (λ l. absurd (cc))) c
+counted me (at running a n) t (Error s x) w own m c = counts_on me true false a n a n t (record { worker = w; event = Error s x }) own (quiet true false a n (Error s x) refl (λ l. absurd (cc))) c
+counted me (at running a n) t (Request s (pos zero)) w own m c = counts_on me true true a n a n t (record { worker = w; event = Request s (pos zero) }) own (quiet true true a n (Request s (pos zero)) refl (λ l. (l, refl))) c
+counted me (at running a n) t (Request s (pos (suc k))) w own m c = counts_on me true true a n (min UNBOUNDED (a + suc k)) n t (record { worker = w; event = Request s (pos (suc k)) }) own
     (record { covered = λ is. absurd (cc); sent = omega arith; raised = λ asked cancelled le within g. raises_more a (suc k) asked cancelled le (g refl); still = λ l. (l, refl) }) c
-counted (at running a n) t (Request s (negsuc k)) w own m c = counts_on true true a n a n t (record { worker = w; event = Request s (negsuc k) }) own (quiet true true a n (Request s (negsuc k)) refl (λ l. (l, refl))) c
-counted (at running a n) t (Cancel s) w own m c = counts_on true false a n a n t (record { worker = w; event = Cancel s }) own (quiet true false a n (Cancel s) refl (λ l. absurd (cc))) c
-counted (at refusing a n) t (Error s x) w own m c = counts_on true false a n a n t (record { worker = w; event = Error s x }) own (quiet true false a n (Error s x) refl (λ l. absurd (cc))) c
-counted (at ending a n) t (Exit s) w own m c = counts_on false false a n a n t (record { worker = w; event = Exit s }) own (quiet false false a n (Exit s) refl (λ l. absurd (cc))) c
-counted (at over a n) t (Request s r) w own m c = counts_on false false a n a n t (record { worker = w; event = Request s r }) own (quiet false false a n (Request s r) refl (λ l. absurd (cc))) c
-counted (at over a n) t (Cancel s) w own m c = counts_on false false a n a n t (record { worker = w; event = Cancel s }) own (quiet false false a n (Cancel s) refl (λ l. absurd (cc))) c
-counted _ t e w own m c = absurd m
+counted me (at running a n) t (Request s (negsuc k)) w own m c = counts_on me true true a n a n t (record { worker = w; event = Request s (negsuc k) }) own (quiet true true a n (Request s (negsuc k)) refl (λ l. (l, refl))) c
+counted me (at running a n) t (Cancel s) w own m c = counts_on me true false a n a n t (record { worker = w; event = Cancel s }) own (quiet true false a n (Cancel s) refl (λ l. absurd (cc))) c
+counted me (at refusing a n) t (Error s x) w own m c = counts_on me true false a n a n t (record { worker = w; event = Error s x }) own (quiet true false a n (Error s x) refl (λ l. absurd (cc))) c
+counted me (at ending a n) t (Exit s) w own m c = counts_on me false false a n a n t (record { worker = w; event = Exit s }) own (quiet false false a n (Exit s) refl (λ l. absurd (cc))) c
+counted me (at over a n) t (Request s r) w own m c = counts_on me false false a n a n t (record { worker = w; event = Request s r }) own (quiet false false a n (Request s r) refl (λ l. absurd (cc))) c
+counted me (at over a n) t (Cancel s) w own m c = counts_on me false false a n a n t (record { worker = w; event = Cancel s }) own (quiet false false a n (Cancel s) refl (λ l. absurd (cc))) c
+counted me _ t e w own m c = absurd m
 
-pub counts_kept : IsKeptBy KeepsCounts
-counts_kept p t e goes c = counted p t e.event e.worker goes.own goes.may c
+counted_beside : (me : ℕ) (p : Progress) (t : List Stamped) (e : Stamped) → subscriber_of e.event ≢ me → KeepsCounts me p t → KeepsCounts me p (t ++ e ∷ [])
+counted_beside me (at p a n) t e other c = counts_beside me (is_live p) a n t e other c
 
-pub counts_first : KeepsCounts (at fresh 0 0) []
-counts_first = record {
+pub counts_kept : (me : ℕ) → IsKeptBy me (KeepsCounts me)
+counts_kept me = record { own = λ p t e goes c. counted me p t e.event e.worker goes.own goes.may c; other = λ p t e ne c. counted_beside me p t e ne c }
+
+pub counts_first : (me : ℕ) → KeepsCounts me (at fresh 0 0) []
+counts_first me = record {
   asked = 0;
   cancelled = false;
   sent_is = refl;
   asked_is = refl;
-  tells = tells-none (of 0 is_cancel);
+  tells = tells-none (of me is_cancel);
   covers = omega arith;
   goes_on = λ l. refl;
-  keeps = λ s. each-none (λ past. items_in s past ≤ requests_in s (before_cancel s past));
+  keeps = each-none (λ past. items_in me past ≤ requests_in me (before_cancel me past));
 }
 
 -- ---- what is covered before a cancel is covered

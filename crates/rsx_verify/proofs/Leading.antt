@@ -5,23 +5,27 @@ use Rattle.rsx_trace.specs.declared.event.Stamped.{Stamped}
 use Rattle.rsx_types.specs.Meaning.{Meaning}
 use Rattle.rsx_model.specs.declared.expr.Expr.{Expr}
 use Rattle.rsx_history.specs.Begun.{IsSubscribed}
-use Rattle.rsx_history.specs.History.{History, with_past, with_subscriber, no_history}
+use Rattle.rsx_history.specs.Stands.{IsRequestedAt}
 use Rattle.rsx_subscriber.specs.Past.{requested}
 use Rattle.rsx_types.specs.declared.signal.Signal.{Signal}
 use Rattle.rsx_trace.specs.declared.event.Event.TheVariants as event
-use Rattle.rsx_history.specs.Stands.{GraphState, IsAsideSame, IsRequestedAt, StandsFor, nothing}
+use Rattle.rsx_feeding.specs.History.{History}
+use Rattle.rsx_feed_edits.specs.Requests.{with_past}
+use Rattle.rsx_feed_edits.specs.Subscribing.{with_subscriber}
+use Rattle.rsx_graph.specs.Stands.{GraphStands, GraphState, IsAsideSame, nothing}
+use Rattle.rsx_graph.specs.Steps.{no_history}
 use Rattle.rsx_verify.specs.declared.act.Act.{Act}
-use Rattle.rsx_verify.specs.Events.{beginning, stamped, delivery}
+use Rattle.rsx_verify.specs.Events.{beginning, delivery, stamped}
 use Rattle.rsx_verify.specs.declared.line.Line.{Line}
 use Rattle.rsx_verify.specs.Reports.{AreLines, AreVerified, IsLine, publisher_acts, cancel_acts, bad_request_acts}
 use Rattle.rsx_verify.specs.Runs.{IsRequestOf, subscriber, IsActed, IsBegun, IsRunTo, IsRecorded, Leads}
 
-pub begun_from : {T : Type 0} (m m' : Meaning T) (e : Expr T) (old new : GraphState T) → m' ≡ m → old ≡ nothing → IsSubscribed e old.subs new.subs → StandsFor m old no_history →
-    ((h : History T) → StandsFor m' old h → StandsFor m' new (with_subscriber e h)) → IsBegun m e new
+pub begun_from : {T : Type 0} (m m' : Meaning T) (e : Expr T) (old new : GraphState T) → m' ≡ m → old ≡ nothing → IsSubscribed e old.rows.subs new.rows.subs → GraphStands m old no_history →
+    ((h : History T) → GraphStands m' old h → GraphStands m' new (with_subscriber e h)) → IsBegun m e new
 begun_from {T} m m' e old new same empty subscribed stood after =
-    let S : GraphState T → Type 0 = λ g. IsSubscribed e g.subs new.subs in
-    let A : Meaning T → Type 0 = λ n. (h : History T) → StandsFor n old h → StandsFor n new (with_subscriber e h) in
-    let after' : (h : History T) → StandsFor m old h → StandsFor m new (with_subscriber e h) = subst A same after in
+    let S : GraphState T → Type 0 = λ g. IsSubscribed e g.rows.subs new.rows.subs in
+    let A : Meaning T → Type 0 = λ n. (h : History T) → GraphStands n old h → GraphStands n new (with_subscriber e h) in
+    let after' : (h : History T) → GraphStands m old h → GraphStands m new (with_subscriber e h) = subst A same after in
     record { subscribed = subst S empty subscribed; stands = after' no_history stood }
 
 pub leads_more : {T : Type 0} (m : Meaning T) (a b c : GraphState T) (acts : List Act) (act : Act) (t more : List Stamped) → Leads m a acts t b → IsActed m act b more c → Leads m a (acts ++ act ∷ []) (t ++ more) c
@@ -60,12 +64,12 @@ run_all {T} m e acts i t g l run =
 
 -- a request that answered the error of a bad request
 pub request_answered : {T : Type 0} (m : Meaning T) (n : ℤ) (old new : GraphState T) (o : Option (Signal T)) (s : Signal T) (t t' t'' : List Stamped) →
-    t' ≡ t ++ stamped (event.Request 0 n) ∷ [] → t'' ≡ t' ++ delivery (subscriber, s) → o ≡ Some s → IsRequestedAt 0 n old.subs new.subs o → IsAsideSame old new →
-    ((h : History T) → StandsFor m old h → StandsFor m new (with_past (requested n) subscriber h)) → (more : List Stamped) × (t'' ≡ t ++ more) × IsRequestOf m n old more new
+    t' ≡ t ++ stamped (event.Request 0 n) ∷ [] → t'' ≡ t' ++ delivery (subscriber 0, s) → o ≡ Some s → IsRequestedAt 0 n old.rows.subs new.rows.subs o → IsAsideSame old new →
+    ((h : History T) → GraphStands m old h → GraphStands m new (with_past (requested n) (subscriber 0) h)) → (more : List Stamped) × (t'' ≡ t ++ more) × IsRequestOf m 0 n old more new
 request_answered {T} m n old new o s t t' t'' first second is effect aside stands =
-    let R : Option (Signal T) → Type 0 = λ a. IsRequestedAt 0 n old.subs new.subs a in (
-      stamped (event.Request 0 n) ∷ delivery (subscriber, s),
-      second ∙ (ap (λ l. l ++ delivery (subscriber, s)) first ∙ append_assoc t (stamped (event.Request 0 n) ∷ []) (delivery (subscriber, s))),
+    let R : Option (Signal T) → Type 0 = λ a. IsRequestedAt 0 n old.rows.subs new.rows.subs a in (
+      stamped (event.Request 0 n) ∷ delivery (subscriber 0, s),
+      second ∙ (ap (λ l. l ++ delivery (subscriber 0, s)) first ∙ append_assoc t (stamped (event.Request 0 n) ∷ []) (delivery (subscriber 0, s))),
       record { answer = Some s; effect = subst R is effect; aside = aside; stands = stands; recorded = refl },
     )
 

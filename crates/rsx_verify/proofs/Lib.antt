@@ -4,6 +4,7 @@ pub mod Counted
 pub mod Kept
 pub mod Leading
 pub mod Lines
+pub mod Moving
 pub mod Once
 pub mod Ordered
 pub mod Progress

@@ -1,5 +1,5 @@
--- How a subscription goes on, event by event.
-use Rattle.std.proofs.Common.{◌≡◌, ◌≢◌, ℕ, ℤ, zero, suc, pos, negsuc, ◌+◌, ◌<◌, List, [], ◌∷◌, ◌++◌, take, sym, subst, append_assoc}
+-- How a subscription goes on, event by event, beside others.
+use Rattle.std.proofs.Common.{◌≡◌, ◌≢◌, ℕ, ℤ, ◌⊎◌, inl, inr, zero, suc, pos, negsuc, ◌+◌, ◌<◌, List, [], ◌∷◌, ◌++◌, take, sym, subst, append_assoc}
 use Rattle.std.proofs.lemmas.List.{append-nil}
 use Rattle.rsx_demand.specs.Demand.{saturating_total}
 use Rattle.rsx_types.specs.declared.signal.Cause.TheVariants.{NonPositiveRequest}
@@ -59,33 +59,38 @@ May (at over a n) (Request s r) = Unit {0}
 May (at over a n) (Cancel s) = Unit {0}
 May _ _ = ⊥
 
--- an event on worker 0 that the subscriber 0 may have
-pub record Goes (p : Progress) (e : Stamped) : Type 0 where
+-- an event on worker 0 that this subscriber may have
+pub record Goes (me : ℕ) (p : Progress) (e : Stamped) : Type 0 where
   pub here : e.worker ≡ 0
-  pub own : subscriber_of e.event ≡ 0
+  pub own : subscriber_of e.event ≡ me
   pub may : May p e.event
 
--- these events lead from one to the other
-abbrev pub GoesOn : Progress → List Stamped → Progress → Type 0
-GoesOn p [] q = q ≡ p
-GoesOn p (e ∷ es) q = Goes p e × GoesOn (after p e.event) es q
+-- these events, of this subscriber and of others, lead it from one to the other
+abbrev pub GoesOn : ℕ → Progress → List Stamped → Progress → Type 0
+GoesOn me p [] q = q ≡ p
+GoesOn me p (e ∷ es) q = (Goes me p e × GoesOn me (after p e.event) es q) ⊎ ((subscriber_of e.event ≢ me) × GoesOn me p es q)
 
-pub goes_further : (p q r : Progress) (t u : List Stamped) → GoesOn p t q → GoesOn q u r → GoesOn p (t ++ u) r
-goes_further p q r [] u same on = subst (λ x. GoesOn x u r) same on
-goes_further p q r (e ∷ t) u (goes, on) further = (goes, goes_further (after p e.event) q r t u on further)
+pub goes_further : (me : ℕ) (p q r : Progress) (t u : List Stamped) → GoesOn me p t q → GoesOn me q u r → GoesOn me p (t ++ u) r
+goes_further me p q r [] u same on = subst (λ x. GoesOn me x u r) same on
+goes_further me p q r (e ∷ t) u (inl (goes, on)) further = inl (goes, goes_further me (after p e.event) q r t u on further)
+goes_further me p q r (e ∷ t) u (inr (other, on)) further = inr (other, goes_further me p q r t u on further)
 
--- what one event more keeps
-abbrev pub IsKeptBy : (Progress → List Stamped → Type 0) → Type 0
-IsKeptBy K = (p : Progress) (t : List Stamped) (e : Stamped) → Goes p e → K p t → K (after p e.event) (t ++ e ∷ [])
+-- what one event more keeps, be it of this subscriber or of another
+pub record IsKeptBy (me : ℕ) (K : Progress → List Stamped → Type 0) : Type 0 where
+  pub own : (p : Progress) (t : List Stamped) (e : Stamped) → Goes me p e → K p t → K (after p e.event) (t ++ e ∷ [])
+  pub other : (p : Progress) (t : List Stamped) (e : Stamped) → subscriber_of e.event ≢ me → K p t → K p (t ++ e ∷ [])
 
-prefix_behind : (K : Progress → List Stamped → Type 0) → IsKeptBy K → (p q : Progress) (t u : List Stamped) → GoesOn p u q → K p t → (j : ℕ) → (r : Progress) × K r (t ++ take j u)
-prefix_behind K step p q t [] on k zero = (p, subst (K p) (sym (append-nil t)) k)
-prefix_behind K step p q t [] on k (suc j) = (p, subst (K p) (sym (append-nil t)) k)
-prefix_behind K step p q t (e ∷ u) on k zero = (p, subst (K p) (sym (append-nil t)) k)
-prefix_behind K step p q t (e ∷ u) (goes, on) k (suc j) =
-    let rest = prefix_behind K step (after p e.event) q (t ++ e ∷ []) u on (step p t e goes k) j in
+prefix_behind : (me : ℕ) (K : Progress → List Stamped → Type 0) → IsKeptBy me K → (p q : Progress) (t u : List Stamped) → GoesOn me p u q → K p t → (j : ℕ) → (r : Progress) × K r (t ++ take j u)
+prefix_behind me K step p q t [] on k zero = (p, subst (K p) (sym (append-nil t)) k)
+prefix_behind me K step p q t [] on k (suc j) = (p, subst (K p) (sym (append-nil t)) k)
+prefix_behind me K step p q t (e ∷ u) on k zero = (p, subst (K p) (sym (append-nil t)) k)
+prefix_behind me K step p q t (e ∷ u) (inl (goes, on)) k (suc j) =
+    let rest = prefix_behind me K step (after p e.event) q (t ++ e ∷ []) u on (step.own p t e goes k) j in
+    (rest.0, subst (K rest.0) (append_assoc t (e ∷ []) (take j u)) rest.1)
+prefix_behind me K step p q t (e ∷ u) (inr (other, on)) k (suc j) =
+    let rest = prefix_behind me K step p q (t ++ e ∷ []) u on (step.other p t e other k) j in
     (rest.0, subst (K rest.0) (append_assoc t (e ∷ []) (take j u)) rest.1)
 
 -- it holds of each list of the first events
-pub each_prefix : (K : Progress → List Stamped → Type 0) → IsKeptBy K → K (at fresh 0 0) [] → (q : Progress) (t : List Stamped) → GoesOn (at fresh 0 0) t q → (j : ℕ) → (r : Progress) × K r (take j t)
-each_prefix K step first q t on j = prefix_behind K step (at fresh 0 0) q [] t on first j
+pub each_prefix : (me : ℕ) (K : Progress → List Stamped → Type 0) → IsKeptBy me K → K (at fresh 0 0) [] → (q : Progress) (t : List Stamped) → GoesOn me (at fresh 0 0) t q → (j : ℕ) → (r : Progress) × K r (take j t)
+each_prefix me K step first q t on j = prefix_behind me K step (at fresh 0 0) q [] t on first j

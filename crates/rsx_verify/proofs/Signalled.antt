@@ -1,7 +1,6 @@
 -- What stands while a signal is in progress, and what answers a bad request.
-use Rattle.std.proofs.Common.{◌≡◌, ◌≢◌, ℕ, zero, suc, pos, negsuc, inl, inr, true, false, not, ◌&&◌, List, [], ◌∷◌, ◌++◌, Option, Some, None, refl, sym, ap, ◌∙◌, subst}
+use Rattle.std.proofs.Common.{◌≡◌, ◌≢◌, ℕ, zero, suc, pos, negsuc, inl, inr, true, false, not, ◌&&◌, List, [], ◌∷◌, ◌++◌, Option, Some, None, refl, sym, ap, ◌∙◌}
 use Rattle.std.specs.Prelude.{is_some}
-use Rattle.std.proofs.lemmas.Bool.{cases_eq}
 use Rattle.rsx_trace.specs.declared.event.Event.{Event}
 use Rattle.rsx_trace.specs.declared.event.Event.TheVariants.{Subscribe, OnSubscribe, Next, Complete, Error, Exit, Request, Cancel}
 use Rattle.rsx_trace.specs.declared.event.Stamped.{Stamped}
@@ -11,14 +10,12 @@ use Rattle.rsx_tck.specs.declared.answers.BadRequest.TheVariants.{NotYet, Unansw
 use Rattle.rsx_tck.specs.declared.pass.Effect.TheVariants.{Nothing}
 use Rattle.rsx_tck.specs.Passes.{IsOpen, KnowsAnswer, KnowsSignal, is_unanswered, next_answer, next_signal}
 use Rattle.rsx_tck.specs.Sentences.{FirstIs}
-use Rattle.rsx_tck.specs.Laws.Answering.{answer-step, answered-none, answered-other, knows_answer-none}
-use Rattle.rsx_tck.specs.Laws.Running.{Apart, apart-none, apart-other, knows_signal-none, none_until-more, on-same, open-cases, open-none, signal-step}
-use Rattle.rsx_tck.specs.Laws.Working.{QuietInEnding, on-parts, quiet-none}
-use Rattle.rsx_verify.proofs.Ordered.{not_none, of_parts}
-use Rattle.rsx_verify.proofs.Progress.{Progress, at, fresh, subscribed, receiving, running, refusing, ending, over, after, May, IsKeptBy}
-
-apart_from : (e : Stamped) (s : ℕ) → subscriber_of e.event ≡ 0 → (s ≡ 0 → ⊥) → subscriber_of e.event ≢ s
-apart_from e s own ne is = ne (sym is ∙ own)
+use Rattle.rsx_tck.specs.Laws.Answering.{answer-step, answered-none, answered-other, knows_answer-none, knows_answer-other}
+use Rattle.rsx_tck.specs.Laws.Running.{Apart, apart-none, apart-other, knows_signal-none, knows_signal-other, none_until-more, on-same, open-cases, open-none, signal-step}
+use Rattle.rsx_tck.specs.Laws.Working.{QuietInEnding, on-parts, quiet-none, quiet-other}
+use Rattle.rsx_tck.specs.Laws.Positions.{of-other}
+use Rattle.rsx_verify.proofs.Ordered.{not_none, of_kind}
+use Rattle.rsx_verify.proofs.Progress.{Progress, at, fresh, subscribed, receiving, running, refusing, ending, over, after, May, Goes, IsKeptBy}
 
 -- ---- one signal at a time
 
@@ -55,20 +52,23 @@ none_meanwhile (at refusing a n) e m = refl
 none_meanwhile (at over a n) e m = refl
 none_meanwhile _ e m = absurd m
 
-abbrev pub KeepsApart : Progress → List Stamped → Type 0
-KeepsApart p t = KnowsSignal (signal_at p) 0 t × ((s : ℕ) → Apart s t)
+abbrev pub KeepsApart : ℕ → Progress → List Stamped → Type 0
+KeepsApart me p t = KnowsSignal (signal_at p) me t × Apart me t
 
-pub apart_kept : IsKeptBy KeepsApart
-apart_kept p t e goes (knows, keeps) =
+apart_own : (me : ℕ) (p : Progress) (t : List Stamped) (e : Stamped) → Goes me p e → KeepsApart me p t → KeepsApart me (after p e.event) (t ++ e ∷ [])
+apart_own me p t e goes (knows, keeps) =
     let moves : signal_at (after p e.event) ≡ next_signal (is_signal e.event) (is_exit e.event) e.worker (signal_at p) =
     signal_moves p e.event goes.may ∙ ap (λ w. next_signal (is_signal e.event) (is_exit e.event) w (signal_at p)) (sym goes.here) in
-    let own = signal-step 0 e (signal_at p) (signal_at (after p e.event)) Nothing goes.own moves (sym (none_meanwhile p e.event goes.may)) t knows (keeps 0) in (
-      own.0,
-      (λ s. elim (cases_eq s 0) [ inl is ↦ subst (λ k. Apart k (t ++ e ∷ [])) (sym is) own.1 | inr ne ↦ apart-other s t e (apart_from e s goes.own ne) (keeps s) ]),
-    )
+    signal-step me e (signal_at p) (signal_at (after p e.event)) Nothing goes.own moves (sym (none_meanwhile p e.event goes.may)) t knows keeps
 
-pub apart_first : KeepsApart (at fresh 0 0) []
-apart_first = (knows_signal-none 0, (λ s. apart-none s))
+pub apart_kept : (me : ℕ) → IsKeptBy me (KeepsApart me)
+apart_kept me = record {
+  own = λ p t e goes k. apart_own me p t e goes k;
+  other = λ p t e ne k. (knows_signal-other (signal_at p) me t e ne k.0, apart-other me t e ne k.1);
+}
+
+pub apart_first : (me : ℕ) → KeepsApart me (at fresh 0 0) []
+apart_first me = (knows_signal-none me, apart-none me)
 
 -- ---- no call while an ending is in progress
 
@@ -76,9 +76,9 @@ abbrev pub IsEnding : Progress → Type 0
 IsEnding (at ending a n) = Unit {0}
 IsEnding (at p a n) = ⊥
 
--- an ending in progress is one of the subscriber 0 on worker 0
-abbrev pub KnowsEnding : Progress → List Stamped → Type 0
-KnowsEnding p t = (s w : ℕ) → IsOpen (of_on s w is_ending) (of_on s w is_exit) t → IsEnding p × (s ≡ 0) × (w ≡ 0)
+-- an ending in progress is one on worker 0
+abbrev pub KnowsEnding : ℕ → Progress → List Stamped → Type 0
+KnowsEnding me p t = (w : ℕ) → IsOpen (of_on me w is_ending) (of_on me w is_exit) t → IsEnding p × (w ≡ 0)
 
 ending_begins : (p : Progress) (e : Event) → May p e → is_ending e ≡ true → IsEnding (after p e)
 ending_begins (at running a n) (Complete s) m is = tt
@@ -98,24 +98,35 @@ never_called (at ending a n) (Exit s) m is e = absurd (cc)
 never_called (at ending a n) x m is e = m
 never_called p x m is e = e
 
-abbrev pub KeepsQuiet : Progress → List Stamped → Type 0
-KeepsQuiet p t = KnowsEnding p t × ((s : ℕ) → QuietInEnding s t)
+abbrev pub KeepsQuiet : ℕ → Progress → List Stamped → Type 0
+KeepsQuiet me p t = KnowsEnding me p t × QuietInEnding me t
 
-pub quiet_kept : IsKeptBy KeepsQuiet
-quiet_kept p t e goes (knows, keeps) = (
-  (λ s w found. elim (open-cases (of_on s w is_ending) (of_on s w is_exit) t e found) [
-    | inl new ↦ (let where_is = on-parts s w is_ending e new in
-        let parts = of_parts s is_ending e.worker e.event goes.own where_is.1 in
-        (ending_begins p e.event goes.may parts.1, sym parts.0, sym where_is.0 ∙ goes.here))
-    | inr (old, ne) ↦ (let was = knows s w old in
-        absurd (ne (on-same s w is_exit e (goes.own ∙ sym was.1) (goes.here ∙ sym was.2) ∙ ending_exits p e.event goes.may was.0)))
+quiet_own : (me : ℕ) (p : Progress) (t : List Stamped) (e : Stamped) → Goes me p e → KeepsQuiet me p t → KeepsQuiet me (after p e.event) (t ++ e ∷ [])
+quiet_own me p t e goes (knows, keeps) = (
+  (λ w found. elim (open-cases (of_on me w is_ending) (of_on me w is_exit) t e found) [
+    | inl new ↦ (let where_is = on-parts me w is_ending e new in
+        (ending_begins p e.event goes.may (of_kind me is_ending e.worker e.event where_is.1), sym where_is.0 ∙ goes.here))
+    | inr (old, ne) ↦ (let was = knows w old in
+        absurd (ne (on-same me w is_exit e goes.own (goes.here ∙ sym was.1) ∙ ending_exits p e.event goes.may was.0)))
   ]),
-  (λ s w. none_until-more (of_on s w is_ending) (of_on s w is_exit) (of_on s w is_request_or_cancel) t e (keeps s w)
-      (λ new running. never_called p e.event goes.may (of_parts s is_request_or_cancel e.worker e.event goes.own (on-parts s w is_request_or_cancel e new).1).1 (knows s w running).0)),
+  (λ w. none_until-more (of_on me w is_ending) (of_on me w is_exit) (of_on me w is_request_or_cancel) t e (keeps w)
+      (λ new found. never_called p e.event goes.may (of_kind me is_request_or_cancel e.worker e.event (on-parts me w is_request_or_cancel e new).1) (knows w found).0)),
 )
 
-pub quiet_first : KeepsQuiet (at fresh 0 0) []
-quiet_first = ((λ s w found. absurd (open-none (of_on s w is_ending) (of_on s w is_exit) found)), (λ s. quiet-none s))
+quiet_beside : (me : ℕ) (p : Progress) (t : List Stamped) (e : Stamped) → subscriber_of e.event ≢ me → KeepsQuiet me p t → KeepsQuiet me p (t ++ e ∷ [])
+quiet_beside me p t e other (knows, keeps) = (
+  (λ w found. elim (open-cases (of_on me w is_ending) (of_on me w is_exit) t e found) [
+    | inl new ↦ (let where_is = on-parts me w is_ending e new in let off = of-other me is_ending e other in absurd (cc))
+    | inr (old, ne) ↦ knows w old
+  ]),
+  quiet-other me t e other keeps,
+)
+
+pub quiet_kept : (me : ℕ) → IsKeptBy me (KeepsQuiet me)
+quiet_kept me = record { own = λ p t e goes k. quiet_own me p t e goes k; other = λ p t e ne k. quiet_beside me p t e ne k }
+
+pub quiet_first : (me : ℕ) → KeepsQuiet me (at fresh 0 0) []
+quiet_first me = ((λ w found. absurd (open-none (of_on me w is_ending) (of_on me w is_exit) found)), quiet-none me)
 
 -- ---- the answer of a bad request
 
@@ -155,15 +166,18 @@ well_answered _ e m = absurd m
 abbrev pub Answers : ℕ → List Stamped → Type 0
 Answers s t = FirstIs (of s is_bad_request) (of s is_cancel_or_ending) (of s is_ending) (of s is_bad_request_error) t
 
-abbrev pub KeepsAnswers : Progress → List Stamped → Type 0
-KeepsAnswers p t = KnowsAnswer (of 0 is_bad_request) (of 0 is_cancel_or_ending) (of 0 is_ending) (answer_at p) t × ((s : ℕ) → Answers s t)
+abbrev pub KeepsAnswers : ℕ → Progress → List Stamped → Type 0
+KeepsAnswers me p t = KnowsAnswer (of me is_bad_request) (of me is_cancel_or_ending) (of me is_ending) (answer_at p) t × Answers me t
 
-pub answers_kept : IsKeptBy KeepsAnswers
-answers_kept p t e goes (knows, keeps) =
-    let own = answer-step 0 e (answer_at p) (answer_at (after p e.event)) Nothing goes.own (answer_moves p e.event goes.may) (sym (well_answered p e.event goes.may)) t knows (keeps 0) in (
-      own.0,
-      (λ s. elim (cases_eq s 0) [ inl is ↦ subst (λ k. Answers k (t ++ e ∷ [])) (sym is) own.1 | inr ne ↦ answered-other s t e (apart_from e s goes.own ne) (keeps s) ]),
-    )
+answers_own : (me : ℕ) (p : Progress) (t : List Stamped) (e : Stamped) → Goes me p e → KeepsAnswers me p t → KeepsAnswers me (after p e.event) (t ++ e ∷ [])
+answers_own me p t e goes (knows, keeps) =
+    answer-step me e (answer_at p) (answer_at (after p e.event)) Nothing goes.own (answer_moves p e.event goes.may) (sym (well_answered p e.event goes.may)) t knows keeps
 
-pub answers_first : KeepsAnswers (at fresh 0 0) []
-answers_first = (knows_answer-none 0, (λ s. answered-none s))
+pub answers_kept : (me : ℕ) → IsKeptBy me (KeepsAnswers me)
+answers_kept me = record {
+  own = λ p t e goes k. answers_own me p t e goes k;
+  other = λ p t e ne k. (knows_answer-other (answer_at p) me t e ne k.0, answered-other me t e ne k.1);
+}
+
+pub answers_first : (me : ℕ) → KeepsAnswers me (at fresh 0 0) []
+answers_first me = (knows_answer-none me, answered-none me)

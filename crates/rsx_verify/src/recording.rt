@@ -49,7 +49,7 @@ impl<O: Ops> Recording<O> {
     fn request(&mut self, count: i64) -> Result<(), VerifyRefusal>
         ensures ops { self.new.graph.ops ≡ self.old.graph.ops }
         ensures acted { OnOk result ((more : List Stamped) × (self.new.events.items ≡ self.old.events.items ++ more) ×
-            IsRequestOf (O.meaning self.old.graph.ops) count (state_of self.old.graph) more (state_of self.new.graph)) }
+            IsRequestOf (O.meaning self.old.graph.ops) 0 count (state_of self.old.graph) more (state_of self.new.graph)) }
         ensures err { IfErr result (λ r. r ≡ VerifyRefusal.NoMemory) }
     {
         note(&mut self.events, Event::Request(0, count))?;
@@ -64,7 +64,7 @@ impl<O: Ops> Recording<O> {
     fn cancel(&mut self) -> Result<(), VerifyRefusal>
         ensures ops { self.new.graph.ops ≡ self.old.graph.ops }
         ensures acted { OnOk result ((more : List Stamped) × (self.new.events.items ≡ self.old.events.items ++ more) ×
-            IsCancelOf (O.meaning self.old.graph.ops) (state_of self.old.graph) more (state_of self.new.graph)) }
+            IsCancelOf (O.meaning self.old.graph.ops) 0 (state_of self.old.graph) more (state_of self.new.graph)) }
         ensures err { IfErr result (λ r. r ≡ VerifyRefusal.NoMemory) }
     {
         note(&mut self.events, Event::Cancel(0))?;
@@ -112,6 +112,7 @@ pub fn record<O: Ops>(
     expr: &Expr<O::Item>,
     acts: &[Act],
 ) -> Result<Vec<Stamped>, VerifyRefusal>
+    ensures admitted { OnOk result (refusal 0 expr.now ≡ None) }
     ensures recorded { IfOk result (λ events. IsRecorded (O.meaning ops) expr.now acts.now events.items) }
 
     // Whatever the acts are, each rule is kept.

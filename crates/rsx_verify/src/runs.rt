@@ -1,6 +1,7 @@
 //! The runs by which an expression is verified.
 
-ghost use Rattle.std.specs.Prelude.{IfOk, IfErr};
+ghost use Rattle.std.specs.Prelude.{◌≡◌, None, IfOk, IfErr, OnOk};
+ghost use Rattle.rsx_model.specs.Check.{refusal};
 ghost use Rattle.rsx_verify.specs.Kept.{AreKept};
 ghost use Rattle.rsx_verify.specs.Refusals.{IsVerifyRefusal};
 ghost use Rattle.rsx_verify.specs.Reports.{AreUnbroken, AreVerified, publisher_acts, cancel_acts, bad_request_acts};
@@ -25,6 +26,7 @@ pub fn publisher_run<O: Ops>(
     ops: O,
     expr: &Expr<O::Item>,
 ) -> Result<Vec<Stamped>, VerifyRefusal>
+    ensures admitted { OnOk result (refusal 0 expr.now ≡ None) }
     ensures recorded { IfOk result (λ events. IsRecorded (O.meaning ops) expr.now publisher_acts events.items) }
     ensures kept { IfOk result (λ events. AreKept events.items) }
     ensures err { IfErr result (λ r. IsVerifyRefusal expr.now r) }
@@ -89,6 +91,7 @@ pub fn verify<O: Ops>(
     ops: O,
     expr: &Expr<O::Item>,
 ) -> Result<[Line; 43], VerifyRefusal>
+    ensures admitted { OnOk result (refusal 0 expr.now ≡ None) }
     ensures verified { IfOk result (λ lines. AreVerified (O.meaning ops) expr.now lines) }
     ensures unbroken { IfOk result (λ lines. AreUnbroken lines) }
     ensures err { IfErr result (λ r. IsVerifyRefusal expr.now r) }

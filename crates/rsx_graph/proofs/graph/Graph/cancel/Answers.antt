@@ -1,24 +1,17 @@
-use Rattle.std.proofs.Common.{◌∙◌, ◌<◌, length, refl, sym, arith}
+use Rattle.std.proofs.Common.{map, refl}
+use Rattle.rsx_graph.proofs.Kept.{past_joins, state_with}
 use Rattle.rsx_subscriber.specs.Past.{cancelled}
-use Rattle.rsx_history.proofs.Graphs.{AllStand-set, found, joins_kept}
-use Rattle.rsx_history.specs.Stands.{all_taken}
 use Rattle.rsx_graph.proofs.graph.Graph.cancel.Goals as goal
 
-pub returns-clause-stands : goal.returns-clause-stands
-returns-clause-stands g c = λ h s.
-    let m = g.O.Ops.meaning c.args.self.now.ops in
-    let l = c.len.ensures in
-    let within : c.args.sub.0 < length c.args.self.now.subscriptions.items = omega (arith, l, c.if-at-len.false) in
-    record { hub = s.hub; all = AllStand-set m (all_taken c.args.self.now.hubs.items h.hubs) cancelled c.args.self.now.subscriptions.items h.pasts c.args.sub.0 c.index_mut-subscription.result.now c.cancel.new.self within (sym c.index_mut-subscription.ensures.value) (λ p k. c.cancel.ensures.stands m (all_taken c.args.self.now.hubs.items h.hubs) p k) s.all; joined = s.joined ∙ sym (joins_kept cancelled (λ p. refl) h.pasts c.args.sub.0) }
-
-pub returns-clause-effect : goal.returns-clause-effect
-returns-clause-effect g c =
-    let l = c.len.ensures in
-    let within : c.args.sub.0 < length c.args.self.now.subscriptions.items = omega (arith, l, c.if-at-len.false) in
+pub returns-in-Ok-clause-stands : goal.returns-in-Ok-clause-stands
+returns-in-Ok-clause-stands g c = λ h s.
+    let graph = c.args.self.now in
     record {
-      old = c.index_mut-subscription.result.now;
-      new = c.cancel.new.self;
-      there = found c.args.self.now.subscriptions.items c.args.sub.0 c.index_mut-subscription.result.now within (sym c.index_mut-subscription.ensures.value);
-      effect = c.cancel.ensures.effect;
-      others = refl;
+      rows = c.in-Ok.ensures.stands (g.O.Ops.meaning graph.ops) graph.hubs.items graph.feeds.items h s.rows;
+      joined = past_joins cancelled c.args.sub graph.feeds.items (map (λ v. v.items) graph.joins.items) (map (λ v. v.items) graph.feed_joins.items) h (λ p. refl) s.joined;
     }
+
+pub returns-in-Err-clause-same : goal.returns-in-Err-clause-same
+returns-in-Err-clause-same g c =
+    let graph = c.args.self.now in
+    λ i. state_with graph.hubs.items graph.feeds.items (c.in-Err.ensures.same i) (map (λ v. v.items) graph.joins.items) (map (λ v. v.items) graph.feed_joins.items)

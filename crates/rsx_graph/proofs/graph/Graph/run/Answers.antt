@@ -1,6 +1,6 @@
 use Rattle.std.proofs.Common.{length, ap, refl, sym, ◌∙◌, arith, length-append}
+use Rattle.rsx_graph.proofs.Runs.{run_all, run_more, run_none}
 use Rattle.rsx_graph.specs.InGraph.{state_of}
-use Rattle.rsx_history.proofs.Graphs.{run_more, has_run_all, has_run_none}
 use Rattle.rsx_graph.proofs.graph.Graph.run.Goals as goal
 
 pub loop-step-init : goal.loop-step-init
@@ -8,7 +8,7 @@ loop-step-init g c = record {
   ops = refl;
   count = ap length c.in-Ok.ensures.items;
   room = c.in-Ok.ensures.exact ∙ (c.len.ensures ∙ sym c.deref-step-items.ensures.len);
-  run = has_run_none (g.O.Ops.meaning c.args.self.now.ops) (g.O.Ops.allocates c.args.self.now.ops) (state_of c.args.self.now) c.deref-step-items.result.now c.in-Ok.answers.items c.in-Ok.ensures.items;
+  run = run_none (g.O.Ops.meaning c.args.self.now.ops) (g.O.Ops.allocates c.args.self.now.ops) (state_of c.args.self.now) c.deref-step-items.result.now c.in-Ok.answers.items c.in-Ok.ensures.items;
 }
 
 pub push_reserved-requires : goal.push_reserved-requires
@@ -28,11 +28,5 @@ loop-step-preserved g c =
           (ap meaning i.ops) (ap allocates i.ops) c.loop-step-test.true c.step-item.is pushed i.run c.step-answer.ensures.stands c.step-answer.ensures.belongs c.step-answer.ensures.done;
     }
 
-pub returns-clause-stands : goal.returns-clause-stands
-returns-clause-stands g c = (has_run_all (g.O.Ops.meaning c.args.self.now.ops) (g.O.Ops.allocates c.args.self.now.ops) c.args.steps.items c.deref-step-items.result.now c.loop-step.step-index (state_of c.args.self.now) (state_of c.loop-step.self) c.loop-step.answers.items c.deref-step-items.ensures.value c.loop-step-test.false c.loop-step.invariant.run).stands
-
-pub returns-clause-belongs : goal.returns-clause-belongs
-returns-clause-belongs g c = (has_run_all (g.O.Ops.meaning c.args.self.now.ops) (g.O.Ops.allocates c.args.self.now.ops) c.args.steps.items c.deref-step-items.result.now c.loop-step.step-index (state_of c.args.self.now) (state_of c.loop-step.self) c.loop-step.answers.items c.deref-step-items.ensures.value c.loop-step-test.false c.loop-step.invariant.run).belongs
-
-pub returns-clause-done : goal.returns-clause-done
-returns-clause-done g c = (has_run_all (g.O.Ops.meaning c.args.self.now.ops) (g.O.Ops.allocates c.args.self.now.ops) c.args.steps.items c.deref-step-items.result.now c.loop-step.step-index (state_of c.args.self.now) (state_of c.loop-step.self) c.loop-step.answers.items c.deref-step-items.ensures.value c.loop-step-test.false c.loop-step.invariant.run).done
+pub returns-clause-ran : goal.returns-clause-ran
+returns-clause-ran g c = run_all (g.O.Ops.meaning c.args.self.now.ops) (g.O.Ops.allocates c.args.self.now.ops) c.args.steps.items c.deref-step-items.result.now c.loop-step.step-index (state_of c.args.self.now) (state_of c.loop-step.self) c.loop-step.answers.items c.deref-step-items.ensures.value c.loop-step-test.false c.loop-step.invariant.run

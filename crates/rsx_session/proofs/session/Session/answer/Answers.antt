@@ -12,6 +12,12 @@ returns-in-Hub-clause-grows c = rw c.in-Hub.is (answered c.hub.result c.args.sel
 pub returns-in-Hub-clause-leads : goal.returns-in-Hub-clause-leads
 returns-in-Hub-clause-leads c = rw c.in-Hub.is (told c.hub.result (command.Hub c.in-Hub.kind c.in-Hub.capacity) c.args.self.now c.hub.new.self _ _ c.write.result c.write.ensures.grows c.hub.ensures.leads)
 
+pub returns-in-Feed-clause-grows : goal.returns-in-Feed-clause-grows
+returns-in-Feed-clause-grows c = rw c.in-Feed.is (answered c.feed.result c.args.self.now.view (command.Feed c.in-Feed.kind c.in-Feed.capacity c.in-Feed.expr) _ _ c.write-in-Feed.result c.write-in-Feed.ensures.grows c.feed.ensures.answer c.feed.ensures.err)
+
+pub returns-in-Feed-clause-leads : goal.returns-in-Feed-clause-leads
+returns-in-Feed-clause-leads c = rw c.in-Feed.is (told c.feed.result (command.Feed c.in-Feed.kind c.in-Feed.capacity c.in-Feed.expr) c.args.self.now c.feed.new.self _ _ c.write-in-Feed.result c.write-in-Feed.ensures.grows c.feed.ensures.leads)
+
 pub returns-in-Emit-clause-grows : goal.returns-in-Emit-clause-grows
 returns-in-Emit-clause-grows c = rw c.in-Emit.is (answered c.emit.result c.args.self.now.view (command.Emit c.in-Emit.hub c.in-Emit.number) _ _ c.write-in-Emit.result c.write-in-Emit.ensures.grows c.emit.ensures.answer c.emit.ensures.err)
 

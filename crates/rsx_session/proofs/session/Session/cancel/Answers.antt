@@ -1,17 +1,15 @@
 use Rattle.std.proofs.Common.{◌∙◌, refl, sym}
-use Rattle.rsx_graph.specs.InGraph.{state_of}
 use Rattle.rsx_subscriber.specs.Past.{cancelled}
-use Rattle.rsx_history.proofs.Graphs.{state_same}
 use Rattle.rsx_history.specs.declared.step.Answer.TheVariants as did
-use Rattle.rsx_history.specs.declared.step.Step.TheVariants as step
+use Rattle.rsx_graph.specs.declared.step.Step.TheVariants as step
 use Rattle.rsx_session.proofs.Calls.{made, not_made, seen_same}
 use Rattle.rsx_session.proofs.session.Session.cancel.Goals as goal
 
 pub returns-in_err-cancel-clause-leads : goal.returns-in_err-cancel-clause-leads
 returns-in_err-cancel-clause-leads c =
     let err = c.in_err-cancel.ensures.err in
-    let same = state_same (state_of c.args.self.now.graph) (state_of c.cancel.new.self) c.cancel.ensures.aside c.in_err-cancel.ensures.same in
-    not_made (step.Cancel c.args.sub) c.args.self.now _ c.in_err-cancel.field-0.0 c.from_residual.result (λ h. refl) (λ h k. (err.0, err.1, same)) same refl refl refl refl c.from_residual.ensures
+    let same = c.in_err-cancel.ensures.same in
+    not_made (step.Cancel c.args.sub) c.args.self.now _ c.in_err-cancel.field-0.0 c.from_residual.result (λ h o. refl) (λ h k. (err.0, err.1, same)) same refl refl refl refl c.from_residual.ensures
 
 pub returns-clause-leads : goal.returns-clause-leads
 returns-clause-leads c = λ h k.

@@ -10,7 +10,7 @@ use Rattle.rsx_session.proofs.session.Session.choices.Goals as goal
 pub returns-in_err-notes-clause-says : goal.returns-in_err-notes-clause-says
 returns-in_err-notes-clause-says c =
     let s = c.args.self.now in
-    look_err s (length s.graph.subscriptions.items) c.args.sub c.in_err-notes.field-0.0 c.from_residual.result (λ place text past. (node : Subscription Val) × (slice_get place.graph.subs c.args.sub.0 ≡ Some node) × (text ≡ codes "choices" ++ notes_text 0 (notes_of node.part.tree))) (subs_count s) c.in_err-notes.ensures.err c.from_residual.ensures
+    look_err s (length s.graph.subscriptions.items) c.args.sub c.in_err-notes.field-0.0 c.from_residual.result (λ place text past. (node : Subscription Val) × (slice_get place.graph.rows.subs c.args.sub.0 ≡ Some node) × (text ≡ codes "choices" ++ notes_text 0 (notes_of node.part.tree))) (subs_count s) c.in_err-notes.ensures.err c.from_residual.ensures
 
 pub returns-clause-says : goal.returns-clause-says
 returns-clause-says c = λ h s.

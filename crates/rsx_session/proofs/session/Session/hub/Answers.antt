@@ -1,8 +1,7 @@
-use Rattle.std.proofs.Common.{◌∙◌, map, refl, ap}
-use Rattle.rsx_graph.specs.InGraph.{state_of}
+use Rattle.std.proofs.Common.{◌∙◌, refl}
 use Rattle.rsx_history.specs.declared.step.Answer.TheVariants as did
-use Rattle.rsx_history.specs.declared.step.Step.TheVariants as step
-use Rattle.rsx_session.proofs.Calls.{hub_published, made, no_memory, not_made, state_is}
+use Rattle.rsx_graph.specs.declared.step.Step.TheVariants as step
+use Rattle.rsx_session.proofs.Calls.{hub_published, made, no_memory, not_made}
 use Rattle.rsx_session.proofs.session.Session.hub.Goals as goal
 
 pub returns-in_err-reserve-clause-leads : goal.returns-in_err-reserve-clause-leads
@@ -11,12 +10,9 @@ returns-in_err-reserve-clause-leads c = no_memory c.from_residual.result _ c.fro
 pub returns-in_err-hub-clause-leads : goal.returns-in_err-hub-clause-leads
 returns-in_err-hub-clause-leads c =
     let e = c.in_err-hub.ensures in
-    let all = c.hub.ensures in
-    let same = state_is (state_of c.args.self.now.graph) (state_of c.hub.new.self) e.same all.subscriptions (ap (map (λ v. v.items)) all.joins) in
-    not_made (step.Hub c.args.kind c.args.capacity) c.args.self.now _ c.in_err-hub.field-0.0 c.from_residual-in_err-hub.result (λ h. refl) (λ h k. (e.err, same)) same c.reserve.ensures.items refl refl refl c.from_residual-in_err-hub.ensures
+    not_made (step.Hub c.args.kind c.args.capacity) c.args.self.now _ c.in_err-hub.field-0.0 c.from_residual-in_err-hub.result (λ h o. refl) (λ h k. (e.err, e.same)) e.same c.reserve.ensures.items refl refl refl c.from_residual-in_err-hub.ensures
 
 pub returns-clause-leads : goal.returns-clause-leads
 returns-clause-leads c = λ h k.
     let ok = c.in_ok-hub.ensures in
-    let all = c.hub.ensures in
-    made (step.Hub c.args.kind c.args.capacity) (did.Opened c.in_ok-hub.hub) c.args.self.now _ h k (ok.stands h k.graph) (ok.id.0, ok.effect, (all.subscriptions, ap (map (λ v. v.items)) all.joins)) (λ bad. cc) (hub_published c.args.kind h _ _ c.new-nothing.result c.push_reserved.ensures.items (c.reserve.ensures.items ∙ k.published) (c.new-nothing.ensures.items ∙ c.new.ensures.items) c.new-nothing.ensures.ending) k.records refl refl
+    made (step.Hub c.args.kind c.args.capacity) (did.Opened c.in_ok-hub.hub) c.args.self.now _ h k (ok.stands h k.graph) (ok.id.0, ok.id.1, ok.id.2, ok.effect, c.hub.ensures.rest) (λ bad. cc) (hub_published c.args.kind h _ _ c.emitter.result c.push_reserved.ensures.items (c.reserve.ensures.items ∙ k.published) c.emitter.ensures) k.records refl refl

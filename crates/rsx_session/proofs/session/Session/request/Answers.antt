@@ -1,14 +1,14 @@
 use Rattle.std.proofs.Common.{ℤ, w64}
 use Rattle.std.proofs.lemmas.Int.{to_z-of_z}
 use Rattle.rsx_demo.specs.Demo.{demo_meaning}
-use Rattle.rsx_history.specs.Stands.{IsRequestedAt, StandsFor}
-use Rattle.rsx_history.specs.History.{with_past}
+use Rattle.rsx_history.specs.Stands.{IsRequestedAt}
+use Rattle.rsx_graph.specs.Rows.{with_past}
+use Rattle.rsx_graph.specs.Stands.{GraphStands}
 use Rattle.rsx_subscriber.specs.Past.{requested}
 use Rattle.std.proofs.Common.{◌∙◌, map, refl, sym, ap, subst}
 use Rattle.rsx_graph.specs.InGraph.{state_of}
 use Rattle.rsx_history.specs.declared.step.Answer.TheVariants as did
-use Rattle.rsx_history.specs.declared.step.Step.TheVariants as step
-use Rattle.rsx_history.proofs.Graphs.{state_same}
+use Rattle.rsx_graph.specs.declared.step.Step.TheVariants as step
 use Rattle.rsx_session.proofs.Calls.{after_signal, made, not_made, passed_memory, request_records}
 use Rattle.rsx_session.specs.Kept.{known}
 use Rattle.rsx_session.proofs.session.Session.request.Goals as goal
@@ -16,15 +16,15 @@ use Rattle.rsx_session.proofs.session.Session.request.Goals as goal
 pub returns-in_err-request-clause-leads : goal.returns-in_err-request-clause-leads
 returns-in_err-request-clause-leads c =
     let err = c.in_err-request.ensures.err in
-    let same = state_same (state_of c.args.self.now.graph) (state_of c.request.new.self) c.request.ensures.aside c.in_err-request.ensures.same in
-    not_made (step.Request c.args.sub c.args.count) c.args.self.now _ c.in_err-request.field-0.0 c.from_residual.result (λ h. refl) (λ h k. (err.0, err.1, same)) same refl refl refl refl c.from_residual.ensures
+    let same = c.in_err-request.ensures.same in
+    not_made (step.Request c.args.sub c.args.count) c.args.self.now _ c.in_err-request.field-0.0 c.from_residual.result (λ h o. refl) (λ h k. (err.0, err.1, same)) same refl refl refl refl c.from_residual.ensures
 
 pub returns-in-None-clause-leads : goal.returns-in-None-clause-leads
 returns-in-None-clause-leads c = λ h k.
     let ok = c.in_ok-request.ensures in
     let s = c.args.self.now in
     let same = to_z-of_z w64 c.args.count c.ranges.count in
-    let A : ℤ → Type 0 = λ z. StandsFor demo_meaning (state_of c.request.new.self) (with_past (requested z) c.args.sub h) in
+    let A : ℤ → Type 0 = λ z. GraphStands demo_meaning (state_of c.request.new.self) (with_past (requested z) c.args.sub h) in
     let B : ℤ → Type 0 = λ z. IsRequestedAt c.args.sub.0 z s.graph.subscriptions.items c.request.new.self.subscriptions.items c.in_ok-request.field-0 in
     let effect = subst B same ok.effect in
     let records = request_records s h k c.args.sub.0 c.args.count c.in_ok-request.field-0 c.request.new.self.subscriptions.items (map known s.records.items) effect (ap (λ x. after_signal x (map known s.records.items) c.args.sub.0) (sym c.in-None.is)) in
@@ -38,7 +38,7 @@ returns-in_ok-take_in-in-Some-clause-leads c = λ h k.
     let ok = c.in_ok-request.ensures in
     let s = c.args.self.now in
     let same = to_z-of_z w64 c.args.count c.ranges.count in
-    let A : ℤ → Type 0 = λ z. StandsFor demo_meaning (state_of c.request.new.self) (with_past (requested z) c.args.sub h) in
+    let A : ℤ → Type 0 = λ z. GraphStands demo_meaning (state_of c.request.new.self) (with_past (requested z) c.args.sub h) in
     let B : ℤ → Type 0 = λ z. IsRequestedAt c.args.sub.0 z s.graph.subscriptions.items c.request.new.self.subscriptions.items c.in_ok-request.field-0 in
     let effect = subst B same ok.effect in
     let records = request_records s h k c.args.sub.0 c.args.count c.in_ok-request.field-0 c.request.new.self.subscriptions.items (map known c.take_in.new.records.items) effect (c.in_ok-take_in-in-Some.ensures.taken ∙ ap (λ x. after_signal x (map known s.records.items) c.args.sub.0) (sym c.in-Some.is)) in

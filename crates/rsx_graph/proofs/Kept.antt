@@ -1,0 +1,125 @@
+-- Graphs go on standing for what has happened: the joins that they keep, and the hubs that their feeds name.
+use Rattle.std.proofs.Common.{◌≡◌, ℕ, List, [], ◌∷◌, length, map, Option, Result, Ok, Err, IfOk, OnOk, OnErr, refl, ap, sym, ◌∙◌, subst}
+use Rattle.rsx_feed_driving.proofs.Keeping.{KeepHubs, lead_keep, moved_keep}
+use Rattle.rsx_feed_driving.specs.Moves.{IsMoved}
+use Rattle.rsx_feed_driving.proofs.Serving.{rows_served}
+use Rattle.rsx_feed_driving.specs.Pumped as driving
+use Rattle.rsx_feed_driving.specs.Pumped.{HasEnded, LeadTo, Made, after_moves}
+use Rattle.rsx_feed_edits.proofs.Kept.{joins_same, kept_made}
+use Rattle.rsx_feed_edits.proofs.Names.{names_kept}
+use Rattle.rsx_feed_edits.specs.Edits.{NameHubs}
+use Rattle.rsx_feed_edits.specs.Joins.{JoinsStand}
+use Rattle.rsx_feed_edits.specs.Requests.{with_past}
+use Rattle.rsx_feeding.specs.History.{History, with_made}
+use Rattle.rsx_feeding.specs.Moves.{rows_of}
+use Rattle.rsx_feeding.specs.Stands.{Rows}
+use Rattle.rsx_history.proofs.Graphs.{joins_kept}
+use Rattle.rsx_history.specs.declared.refusal.Refusal.{Refusal}
+use Rattle.rsx_history.specs.declared.step.Pumped.{Pumped}
+use Rattle.rsx_history.specs.declared.step.Pumped.TheVariants.{Idle}
+use Rattle.rsx_hub.specs.Hub.{HubState}
+use Rattle.rsx_publishing.specs.declared.feed.Feed.{Feed}
+use Rattle.rsx_subscriber.specs.Delivered.{Delivered}
+use Rattle.rsx_subscriber.specs.Past.{Past}
+use Rattle.rsx_subscriber.specs.declared.subscription.Subscription.{Subscription}
+use Rattle.rsx_types.specs.Meaning.{Meaning}
+use Rattle.rsx_types.specs.declared.names.Move.{Move}
+use Rattle.rsx_types.specs.declared.names.SubId.{SubId}
+use Rattle.rsx_types.specs.declared.signal.Signal.{Signal}
+use Rattle.rsx_graph.specs.Pumped.{HasPumped}
+use Rattle.rsx_graph.specs.Read.{IsAllRead}
+use Rattle.rsx_graph.specs.Stands.{GraphStands, GraphState, IsAllServed, nothing}
+use Rattle.rsx_graph.specs.Steps.{no_history}
+use Rattle.rsx_graph.proofs.Reading.{feeds_quiet, rows_read}
+
+-- a graph of these rows and joins
+abbrev pub state_with : {T : Type 0} → List (HubState T) → List (Feed T) → List (Subscription T) → List (List ℕ) → List (List ℕ) → GraphState T
+state_with hubs feeds subs joins feed_joins = record { rows = rows_of hubs feeds subs; joins = joins; feed_joins = feed_joins }
+
+-- one that has just begun stands for nothing that has happened
+pub begun : {T : Type 0} (m : Meaning T) → GraphStands m nothing no_history
+begun m = record {
+  rows = record { taken = []; many = refl; each = refl; hub = λ i v s p a b c. cc; all = tt };
+  joined = record { subs = refl; fed = λ i p e. cc };
+}
+
+pub begun_from : {T : Type 0} (m : Meaning T) (g : GraphState T) → g ≡ nothing → GraphStands m g no_history
+begun_from {T} m g empty = let P : GraphState T → Type 0 = λ s. GraphStands m s no_history in subst P (sym empty) (begun m)
+
+-- ---- the joins
+
+-- what subscribers did
+pub past_joins : {T : Type 0} (f : Past T → Past T) (i : SubId) (feeds : List (Feed T)) (joins feed_joins : List (List ℕ)) (h : History T) → ((p : Past T) → (f p).joins ≡ p.joins) → JoinsStand feeds joins feed_joins h → JoinsStand feeds joins feed_joins (with_past f i h)
+past_joins f i feeds joins feed_joins h keeps j = joins_same feeds feeds joins feed_joins h (with_past f i h) refl (joins_kept f keeps h.pasts i.0) refl j
+
+-- one move
+pub made_joins : {T : Type 0} (m : Meaning T) (mv : Move) (o : Option (SubId × Signal T)) (s : Option (Signal T)) (old new : Rows T) (joins feed_joins : List (List ℕ)) (h : History T) → IsMoved m mv old new o → JoinsStand old.feeds joins feed_joins h → JoinsStand new.feeds joins feed_joins (with_made mv o s h)
+made_joins m mv o s old new joins feed_joins h effect j =
+    let k = kept_made mv o s h in
+    joins_same old.feeds new.feeds joins feed_joins h (with_made mv o s h) (moved_keep m mv old new o effect) k.joins k.sources j
+
+-- many
+pub moved_joins : {T : Type 0} (m : Meaning T) (old new : Rows T) (moves : List (Made T)) (joins feed_joins : List (List ℕ)) (h : History T) → LeadTo m old moves new → JoinsStand old.feeds joins feed_joins h → JoinsStand new.feeds joins feed_joins (after_moves h moves)
+moved_joins {T} m old new [] joins feed_joins h lead j = let P : Rows T → Type 0 = λ g. JoinsStand g.feeds joins feed_joins h in subst P (sym lead) j
+moved_joins m old new (d ∷ ds) joins feed_joins h lead j =
+    moved_joins m lead.0 new ds joins feed_joins (with_made d.move d.delivered d.fed h) lead.2 (made_joins m d.move d.delivered d.fed old lead.0 joins feed_joins h lead.1.effect j)
+
+-- ---- the hubs that the feeds name
+
+pub names_on : {T : Type 0} (n k : ℕ) (feeds : List (Feed T)) → k ≡ n → NameHubs n feeds → NameHubs k feeds
+names_on {T} n k feeds count names = let P : ℕ → Type 0 = λ i. NameHubs i feeds in subst P (sym count) names
+
+pub names_moved : {T : Type 0} (old new : Rows T) → KeepHubs old new → length new.hubs ≡ length old.hubs → NameHubs (length old.hubs) old.feeds → NameHubs (length new.hubs) new.feeds
+names_moved old new keep count names = names_on (length old.hubs) (length new.hubs) new.feeds count (names_kept (length old.hubs) old.feeds new.feeds keep names)
+
+-- they go on doing so by each call, whatever it answers
+
+pub names_made : {T E : Type 0} (m : Meaning T) (mv : Move) (old new : Rows T) (r : Result (Option (SubId × Signal T)) E) → IfOk r (λ o. IsMoved m mv old new o) → OnErr r ((new.hubs ≡ old.hubs) × (new.feeds ≡ old.feeds) × (new.subs ≡ old.subs)) → length new.hubs ≡ length old.hubs →
+    NameHubs (length old.hubs) old.feeds → NameHubs (length new.hubs) new.feeds
+names_made m mv old new (Ok o) effect same count names = names_moved old new (moved_keep m mv old new o effect) count names
+names_made m mv old new (Err e) effect same count names = names_moved old new (ap (map (λ f. f.hub)) same.1) count names
+
+pub names_pumped : {T : Type 0} (m : Meaning T) (budget : ℕ) (old new : Rows T) (before after : Delivered T) (r : Result Pumped Refusal) → driving.HasPumped m budget old before r new after → length new.hubs ≡ length old.hubs → NameHubs (length old.hubs) old.feeds → NameHubs (length new.hubs) new.feeds
+names_pumped m budget old new before after r k count names = names_moved old new (lead_keep m old k.0 new k.2.lead) count names
+
+pub names_hub : {T A E : Type 0} (olds news : List (HubState T)) (feeds : List (Feed T)) (r : Result A E) → OnOk r (NameHubs (length news) feeds) → OnErr r (news ≡ olds) → NameHubs (length olds) feeds → NameHubs (length news) feeds
+names_hub olds news feeds (Ok a) made same names = made
+names_hub olds news feeds (Err e) made same names = names_on (length olds) (length news) feeds (ap length same) names
+
+pub names_fed : {T A E J : Type 0} (olds news : List (HubState T)) (feeds fs : List (Feed T)) (js ks : List J) (r : Result A E) → OnOk r (NameHubs (length news) fs) → OnErr r ((news ≡ olds) × (fs ≡ feeds) × (ks ≡ js)) → NameHubs (length olds) feeds → NameHubs (length news) fs
+names_fed olds news feeds fs js ks (Ok a) made same names = made
+names_fed {T} olds news feeds fs js ks (Err e) made same names = let P : List (Feed T) → Type 0 = λ l. NameHubs (length olds) l in names_on (length olds) (length news) fs (ap length same.0) (subst P (sym same.1) names)
+
+pub beside_fed : {T A E J : Type 0} (olds news : List (HubState T)) (feeds fs : List (Feed T)) (js ks : List J) (r : Result A E) → OnOk r (length ks ≡ length fs) → OnErr r ((news ≡ olds) × (fs ≡ feeds) × (ks ≡ js)) → length js ≡ length feeds → length ks ≡ length fs
+beside_fed olds news feeds fs js ks (Ok a) made same before = made
+beside_fed olds news feeds fs js ks (Err e) made same before = ap length same.2 ∙ (before ∙ sym (ap length same.1))
+
+-- ---- runs of moves
+
+pub graph_pumped : {T : Type 0} (m : Meaning T) (budget : ℕ) (old : GraphState T) (before : Delivered T) (result : Result Pumped Refusal) (new : Rows T) (after : Delivered T) → driving.HasPumped m budget old.rows before result new after →
+    HasPumped m budget old before result (record { rows = new; joins = old.joins; feed_joins = old.feed_joins }) after
+graph_pumped m budget old before result new after k = record {
+  moves = k.0;
+  ends = k.1;
+  lead = k.2.lead;
+  same = (refl, refl);
+  stands = λ h s. record { rows = k.2.stands h s.rows; joined = moved_joins m old.rows new k.0 old.joins old.feed_joins h k.2.lead s.joined };
+  output = k.3;
+}
+
+-- where no move is enabled any more, each live subscriber was served
+pub idle_served : {T : Type 0} (m : Meaning T) (budget : ℕ) (old new : Rows T) (before after : Delivered T) (p : Pumped) (joins feed_joins : List (List ℕ)) → driving.HasPumped m budget old before (Ok p) new after → p ≡ Idle → IsAllServed m (record { rows = new; joins = joins; feed_joins = feed_joins })
+idle_served {T} m budget old new before after p joins feed_joins k idle =
+    let P : Pumped → Type 0 = λ q. HasEnded m budget (length k.0) new (Ok q) in
+    λ h s. rows_served m new h s.rows (subst P idle k.1).1
+
+-- and each node that reads a hub has got all that was published there, where no signal waits in front of a hub
+pub idle_read : {T : Type 0} (m : Meaning T) (budget : ℕ) (old new : Rows T) (before after : Delivered T) (p : Pumped) (joins feed_joins : List (List ℕ)) → driving.HasPumped m budget old before (Ok p) new after → p ≡ Idle → IsAllRead m (record { rows = new; joins = joins; feed_joins = feed_joins })
+idle_read {T} m budget old new before after p joins feed_joins k idle =
+    let P : Pumped → Type 0 = λ q. HasEnded m budget (length k.0) new (Ok q) in
+    λ h s none within. rows_read m new h s.rows none (feeds_quiet m new (subst P idle k.1).1) within
+
+-- ---- a refused call
+
+pub unchanged : {T : Type 0} (m : Meaning T) (old new : GraphState T) → new ≡ old → (h : History T) → GraphStands m old h → GraphStands m new h
+unchanged {T} m old new same h s = let P : GraphState T → Type 0 = λ g. GraphStands m g h in subst P (sym same) s

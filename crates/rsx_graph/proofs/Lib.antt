@@ -1,0 +1,5 @@
+-- Lemmas about graphs.
+pub mod Kept
+pub mod Known
+pub mod Reading
+pub mod Runs

@@ -1,0 +1,18 @@
+use Rattle.std.proofs.Common.{map}
+use Rattle.rsx_feed_edits.proofs.Kept.{joins_published}
+use Rattle.rsx_graph.proofs.Kept.{state_with}
+use Rattle.rsx_types.specs.declared.signal.Signal.TheVariants.{Next}
+use Rattle.rsx_graph.proofs.graph.Graph.emit_copy.Goals as goal
+
+pub returns-in-Ok-clause-stands : goal.returns-in-Ok-clause-stands
+returns-in-Ok-clause-stands g c = λ h s.
+    let graph = c.args.self.now in
+    record {
+      rows = c.in-Ok.ensures.stands (g.O.Ops.meaning graph.ops) graph.subscriptions.items h s.rows;
+      joined = joins_published (Next c.args.item.now) c.args.hub graph.feeds.items (map (λ v. v.items) graph.joins.items) (map (λ v. v.items) graph.feed_joins.items) h s.joined;
+    }
+
+pub returns-in-Err-clause-same : goal.returns-in-Err-clause-same
+returns-in-Err-clause-same g c =
+    let graph = c.args.self.now in
+    λ i. state_with (c.in-Err.ensures.same i) graph.feeds.items graph.subscriptions.items (map (λ v. v.items) graph.joins.items) (map (λ v. v.items) graph.feed_joins.items)

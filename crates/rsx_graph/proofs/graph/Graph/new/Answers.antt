@@ -1,0 +1,25 @@
+use Rattle.std.proofs.Common.{◌≡◌, length, map, List, ap, sym, ◌∙◌, subst, arith}
+use Rattle.rsx_feed_edits.specs.Edits.{NameHubs}
+use Rattle.rsx_graph.proofs.Kept.{begun_from, state_with}
+use Rattle.rsx_publishing.specs.declared.feed.Feed.{Feed}
+use Rattle.rsx_graph.proofs.graph.Graph.new.Goals as goal
+
+pub invariant_of-result : goal.invariant_of-result
+invariant_of-result g c =
+    let hubs = ap length c.new.ensures.items in
+    let subscriptions = ap length c.new-4.ensures.items in
+    let P : List (Feed _) → Type 0 = λ l. NameHubs (length c.new.result.items) l in
+    record {
+      few = omega (arith, subscriptions);
+      few_hubs = omega (arith, hubs);
+      named = subst P (sym c.new-2.ensures.items) tt;
+      beside = ap length c.new-3.ensures.items ∙ sym (ap length c.new-2.ensures.items);
+    }
+
+pub returns-clause-empty : goal.returns-clause-empty
+returns-clause-empty g c = λ i. state_with (c.new.ensures.items i) (c.new-2.ensures.items i) (c.new-4.ensures.items i) (map (λ v. v.items) (c.new-5.ensures.items i)) (map (λ v. v.items) (c.new-3.ensures.items i))
+
+pub returns-clause-stands : goal.returns-clause-stands
+returns-clause-stands g c =
+    begun_from (g.O.Ops.meaning c.args.ops) _
+    (λ i. state_with (c.new.ensures.items i) (c.new-2.ensures.items i) (c.new-4.ensures.items i) (map (λ v. v.items) (c.new-5.ensures.items i)) (map (λ v. v.items) (c.new-3.ensures.items i)))

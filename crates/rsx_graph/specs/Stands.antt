@@ -1,0 +1,49 @@
+-- What a graph stands for, and what of it an edit leaves as it was.
+use Rattle.std.specs.Prelude.{◌≡◌, ℕ, List, [], ◌∷◌}
+use Rattle.std.specs.Coded.{×_prop, Unit-prop, le_prop}
+use Rattle.rsx_feed_driving.specs.Served.{IsServed}
+use Rattle.rsx_feed_edits.specs.Edits.{NameHubs}
+use Rattle.rsx_feed_edits.specs.Joins.{JoinsStand}
+use Rattle.rsx_feeding.specs.History.{History}
+use Rattle.rsx_feeding.specs.Stands.{Rows, StandsFor}
+use Rattle.rsx_publishing.specs.declared.feed.Feed.{Feed}
+use Rattle.rsx_types.specs.Meaning.{Meaning}
+
+-- its hubs, feeds and subscriptions in rows, and the joins of the leaves of each subscription and of each feed, in the same order
+pub record GraphState (T : Type 0) : Type 0 where
+  pub rows : Rows T
+  pub joins : List (List ℕ)
+  pub feed_joins : List (List ℕ)
+
+-- a graph that has just begun
+abbrev pub nothing : {T : Type 0} → GraphState T
+nothing = record { rows = record { hubs = []; feeds = []; subs = [] }; joins = []; feed_joins = [] }
+
+-- a graph stands for a history: its rows do, and the joins that it keeps are those of the history
+pub record GraphStands {T : Type 0} (m : Meaning T) (g : GraphState T) (h : History T) : Type 0 where
+  pub rows : StandsFor m g.rows h
+  pub joined : JoinsStand g.rows.feeds g.joins g.feed_joins h
+
+-- whatever history the graph stands for, by it each live subscriber was served
+abbrev pub IsAllServed : {T : Type 0} → Meaning T → GraphState T → Type 0
+IsAllServed {T} m g = (h : History T) → GraphStands m g h → IsServed m g.rows h
+
+-- ---- what stays
+
+-- all joins
+abbrev pub AreJoinsSame : {T : Type 0} → GraphState T → GraphState T → Type 0
+AreJoinsSame old new = (new.joins ≡ old.joins) × (new.feed_joins ≡ old.feed_joins)
+
+-- the hubs and the feeds, with all joins: only subscriptions change
+abbrev pub IsAsideSame : {T : Type 0} → GraphState T → GraphState T → Type 0
+IsAsideSame old new = (new.rows.hubs ≡ old.rows.hubs) × (new.rows.feeds ≡ old.rows.feeds) × (new.joins ≡ old.joins) × (new.feed_joins ≡ old.feed_joins)
+
+-- the feeds and the subscriptions, with all joins: only hubs change
+abbrev pub IsRestSame : {T : Type 0} → GraphState T → GraphState T → Type 0
+IsRestSame old new = (new.rows.feeds ≡ old.rows.feeds) × (new.rows.subs ≡ old.rows.subs) × (new.joins ≡ old.joins) × (new.feed_joins ≡ old.feed_joins)
+
+-- ---- that each feed names a hub is a fact with one proof at most
+
+pub NameHubs-prop : {T : Type 0} (n : ℕ) (feeds : List (Feed T)) → IsProp (NameHubs n feeds)
+NameHubs-prop n [] = Unit-prop
+NameHubs-prop n (f ∷ fs) = ×_prop le_prop (NameHubs-prop n fs)

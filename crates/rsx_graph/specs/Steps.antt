@@ -1,0 +1,142 @@
+-- What has happened by steps with their answers, and which answers a step can have.
+use Rattle.std.specs.Prelude.{◌≡◌, ⊤, ℕ, ◌<◌, ◌≤◌, Bool, true, false, List, [], ◌∷◌, length, Option, Some, None, slice_get}
+use Rattle.rsx_feed_edits.specs.Edits.{fault_of, with_fed_hub, with_hub}
+use Rattle.rsx_feed_edits.specs.Publishes.{with_published}
+use Rattle.rsx_feed_edits.specs.Requests.{with_past}
+use Rattle.rsx_feed_edits.specs.Subscribing.{with_subscriber}
+use Rattle.rsx_feeding.specs.History.{History, HubPast, Source, emitted, fed, with_made}
+use Rattle.rsx_feeding.specs.Moves.{IsFeedRefusal}
+use Rattle.rsx_history.specs.History.{IsAcceptRefusal, IsHubRefusal, IsSubscribeId, IsSubscribeRefusal, IsTreeMoveRefusal, state_at}
+use Rattle.rsx_history.specs.declared.TheConstants.{MOST_HUBS}
+use Rattle.rsx_history.specs.declared.refusal.Refusal.{Refusal}
+use Rattle.rsx_history.specs.declared.refusal.Refusal.TheVariants.{UnknownHub, UnknownSub, TooMany, BadExpr, NoMemory}
+use Rattle.rsx_history.specs.declared.step.Answer.{Answer}
+use Rattle.rsx_history.specs.declared.step.Answer.TheVariants.{Opened, Published, Subscribed, Requested, Cancelled as CancelTaken, Made, Refused as NotDone}
+use Rattle.rsx_hub.specs.Hub.{are_numbers}
+use Rattle.rsx_model.specs.declared.expr.Expr.{Expr}
+use Rattle.rsx_subscriber.specs.Past.{cancelled, request_answer, requested}
+use Rattle.rsx_subscriber.specs.Stands.{IsMadeAnswer}
+use Rattle.rsx_subscriber.specs.declared.state.SubscriptionState.{SubscriptionState}
+use Rattle.rsx_types.specs.declared.names.HubKind.{HubKind}
+use Rattle.rsx_types.specs.declared.names.Move.{Move}
+use Rattle.rsx_types.specs.declared.names.Move.TheVariants.{Ask, Send, Take, Pick, Row, Accept}
+use Rattle.rsx_types.specs.declared.names.Tree.{Tree}
+use Rattle.rsx_types.specs.declared.names.Tree.TheVariants.{Sub, Feed as FeedOf}
+use Rattle.rsx_types.specs.declared.signal.Cause.TheVariants.{User}
+use Rattle.rsx_types.specs.declared.signal.Signal.{Signal}
+use Rattle.rsx_types.specs.declared.signal.Signal.TheVariants.{Next, Complete as Completion, Error}
+use Rattle.rsx_graph.specs.declared.step.Step.{Step}
+use Rattle.rsx_graph.specs.declared.step.Step.TheVariants.{Hub, FeedHub, Emit, Complete, Fail, Subscribe, Request, Cancel, Make}
+
+-- nothing has happened
+abbrev pub no_history : {T : Type 0} → History T
+no_history = record { hubs = []; pasts = [] }
+
+-- the history after one step with its answer, where this went out of a feed into its hub by it
+abbrev pub extended : {T : Type 0} → History T → Step T → Answer T → Option (Signal T) → History T
+extended h (Subscribe e) (Subscribed i) s = with_subscriber e h
+extended h (Request i n) (Requested o) s = with_past (requested n) i h
+extended h (Cancel i) CancelTaken s = with_past cancelled i h
+extended h (Make mv) (Made o) s = with_made mv o s h
+extended h (Hub k c) (Opened i) s = with_hub k h
+extended h (FeedHub k c e) (Opened i) s = with_fed_hub k e h
+extended h (Emit i x) Published s = with_published (Next x) i h
+extended h (Complete i) Published s = with_published Completion i h
+extended h (Fail i n) Published s = with_published (Error (User n)) i h
+extended h step a s = h
+
+-- the history after a list of steps, with their answers and with what went out of feeds into hubs
+abbrev pub all_extended : {T : Type 0} → History T → List (Step T) → List (Answer T) → List (Option (Signal T)) → History T
+all_extended h [] as' sent = h
+all_extended h (s ∷ ss) [] sent = h
+all_extended h (s ∷ ss) (a ∷ as') [] = h
+all_extended h (s ∷ ss) (a ∷ as') (o ∷ sent) = all_extended (extended h s a o) ss as' sent
+
+-- ---- which hubs have emitters, and which have feeds
+
+abbrev pub is_emitter : {T : Type 0} → Source T → Bool
+is_emitter (emitted w) = true
+is_emitter (fed e js) = false
+
+abbrev pub is_feed : {T : Type 0} → Source T → Bool
+is_feed (emitted w) = false
+is_feed (fed e js) = true
+
+-- a hub is there, and has an emitter
+abbrev pub is_emitted : {T : Type 0} → Option (HubPast T) → Bool
+is_emitted None = false
+is_emitted (Some p) = is_emitter p.source
+
+-- a hub is there, and has a feed
+abbrev pub is_fed : {T : Type 0} → Option (HubPast T) → Bool
+is_fed None = false
+is_fed (Some p) = is_feed p.source
+
+-- ---- which answers belong to a step
+
+-- a call of a hub that isn't there or has a feed is refused for that, and only then
+abbrev pub IsPublishRefusal : {T : Type 0} → List (HubPast T) → ℕ → Refusal → Type 0
+IsPublishRefusal ps i UnknownHub = is_emitted (slice_get ps i) ≡ false
+IsPublishRefusal ps i r = is_emitted (slice_get ps i) ≡ true
+
+-- why a hub with a feed is not made, where there are so many hubs: a fault first, then the limits (of hubs, and of a hub's members),
+-- and memory last
+abbrev pub IsNewFeedRefusal : {T : Type 0} → HubKind → ℕ → Expr T → ℕ → Refusal → Type 0
+IsNewFeedRefusal k c e count (BadExpr b) = fault_of k c count e ≡ Some b
+IsNewFeedRefusal k c e count TooMany = fault_of k c count e ≡ None
+IsNewFeedRefusal k c e count NoMemory = (fault_of k c count e ≡ None) × (count < MOST_HUBS)
+IsNewFeedRefusal k c e count r = ⊥
+
+-- why a move in a tree is refused: an unknown name first, then a move that isn't enabled, and memory last
+abbrev pub IsTreeRefusal : {T : Type 0} → History T → Bool → Tree → Refusal → Type 0
+IsTreeRefusal h enabled (Sub i) r = IsTreeMoveRefusal (length h.pasts) enabled (Sub i) r
+IsTreeRefusal h enabled (FeedOf i) r = IsFeedRefusal (is_fed (slice_get h.hubs i.0)) enabled r
+
+abbrev pub IsMoveRefusal : {T : Type 0} → History T → Bool → Move → Refusal → Type 0
+IsMoveRefusal h enabled (Ask t n) r = IsTreeRefusal h enabled t r
+IsMoveRefusal h enabled (Send t n) r = IsTreeRefusal h enabled t r
+IsMoveRefusal h enabled (Take t n) r = IsTreeRefusal h enabled t r
+IsMoveRefusal h enabled (Pick t n i) r = IsTreeRefusal h enabled t r
+IsMoveRefusal h enabled (Row t n) r = IsTreeRefusal h enabled t r
+IsMoveRefusal h enabled (Accept i) r = IsAcceptRefusal (length h.hubs) enabled i.0 r
+
+-- the tree of a move that was made is there, and so is the hub of an Accept, which has an emitter
+abbrev pub IsOfKnownTree : {T : Type 0} → History T → Tree → Type 0
+IsOfKnownTree h (Sub i) = i.0 < length h.pasts
+IsOfKnownTree h (FeedOf i) = is_fed (slice_get h.hubs i.0) ≡ true
+
+abbrev pub IsOfKnown : {T : Type 0} → History T → Move → Type 0
+IsOfKnown h (Ask t n) = IsOfKnownTree h t
+IsOfKnown h (Send t n) = IsOfKnownTree h t
+IsOfKnown h (Take t n) = IsOfKnownTree h t
+IsOfKnown h (Pick t n i) = IsOfKnownTree h t
+IsOfKnown h (Row t n) = IsOfKnownTree h t
+IsOfKnown h (Accept i) = is_emitted (slice_get h.hubs i.0) ≡ true
+
+-- an answer that belongs to a step after this history: its names are those of the history, and a refusal comes in its case
+abbrev pub Belongs : {T : Type 0} → History T → Step T → Answer T → Type 0
+Belongs h (Subscribe e) (Subscribed i) = IsSubscribeId (length h.hubs) (length h.pasts) e i
+Belongs h (Subscribe e) (NotDone r) = IsSubscribeRefusal (length h.hubs) (length h.pasts) e r
+Belongs h (Request i n) (Requested o) = (s : SubscriptionState) × (state_at h.pasts i.0 ≡ Some s) × (o ≡ request_answer s n)
+Belongs h (Request i n) (NotDone r) = (r ≡ UnknownSub) × (length h.pasts ≤ i.0)
+Belongs h (Cancel i) CancelTaken = i.0 < length h.pasts
+Belongs h (Cancel i) (NotDone r) = (r ≡ UnknownSub) × (length h.pasts ≤ i.0)
+Belongs h (Make mv) (Made o) = IsMadeAnswer mv o × IsOfKnown h mv
+Belongs h (Make mv) (NotDone r) = (enabled : Bool) × IsMoveRefusal h enabled mv r
+Belongs h (Hub k c) (Opened i) = (i.0 ≡ length h.hubs) × (are_numbers k c ≡ true) × (length h.hubs < MOST_HUBS)
+Belongs h (Hub k c) (NotDone r) = IsHubRefusal k c (length h.hubs) r
+Belongs h (FeedHub k c e) (Opened i) = (i.0 ≡ length h.hubs) × (fault_of k c (length h.hubs) e ≡ None) × (length h.hubs < MOST_HUBS)
+Belongs h (FeedHub k c e) (NotDone r) = IsNewFeedRefusal k c e (length h.hubs) r
+Belongs h (Emit i x) Published = is_emitted (slice_get h.hubs i.0) ≡ true
+Belongs h (Emit i x) (NotDone r) = IsPublishRefusal h.hubs i.0 r
+Belongs h (Complete i) Published = is_emitted (slice_get h.hubs i.0) ≡ true
+Belongs h (Complete i) (NotDone r) = IsPublishRefusal h.hubs i.0 r
+Belongs h (Fail i n) Published = is_emitted (slice_get h.hubs i.0) ≡ true
+Belongs h (Fail i n) (NotDone r) = IsPublishRefusal h.hubs i.0 r
+Belongs h s a = ⊥
+
+-- each answer belongs to its step
+abbrev pub AllBelong : {T : Type 0} → History T → List (Step T) → List (Answer T) → List (Option (Signal T)) → Type 0
+AllBelong h [] [] [] = ⊤
+AllBelong h (s ∷ ss) (a ∷ as') (o ∷ sent) = Belongs h s a × AllBelong (extended h s a o) ss as' sent
+AllBelong h ss as' sent = ⊥
