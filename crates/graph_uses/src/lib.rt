@@ -1,6 +1,6 @@
 #![tactic(auto)]
-//! Tests of graphs, of scripts and of traces: what no row of `script_rows` reaches, and what ends a run. They stand in one
-//! crate, since what a crate of tests costs before its first test is that of many tests.
+//! Tests of graphs, of scripts, of expressions and of traces: what no row of `script_rows` reaches, and what ends a run. They
+//! stand in one crate, since what a crate of tests costs before its first test is that of many tests.
 
 #[cfg(test)]
 mod driven;
@@ -10,3 +10,5 @@ mod graphs;
 mod scripts;
 #[cfg(test)]
 mod texts;
+#[cfg(test)]
+mod verified;

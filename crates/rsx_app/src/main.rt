@@ -1,10 +1,10 @@
 #![tactic(auto)]
-//! The program `rsx`: runs a script of commands over a graph of reactive streams, or judges traces.
+//! The program `rsx`: runs a script of commands over a graph of reactive streams, or judges expressions and traces.
 //!
 //! `rsx run` reads standard input, one command a line, and writes one answer for each to standard output. `rsx scratch`
-//! does the same, but shows a subscription by the value of its expression, evaluated from scratch. `rsx tck` reads traces,
-//! one after the other, and writes the report of each, a line for each of the 43 rules. Exit status 0 where the input
-//! ended; 1 after a line that can't be read; 2 after a command line that is wrong or that asked for help; 3
+//! does the same, but shows a subscription by the value of its expression, evaluated from scratch. `rsx tck` reads
+//! expressions and traces, one after the other, and writes what each says of the rules, a line for each of the 43. Exit status
+//! 0 where the input ended; 1 after a line that can't be read; 2 after a command line that is wrong or that asked for help; 3
 //! after a read or a write that failed; 4 where memory was wanted.
 
 use clap::error::ErrorKind;

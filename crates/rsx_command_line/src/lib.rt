@@ -15,9 +15,9 @@ use std::alloc::Global;
 const SCRIPT: &str =
     "Commands are read from standard input, one a line, and each is answered by one line on standard output. docs/SCRIPT.md describes them.";
 
-/// What the help of the mode that judges traces says of the input.
-const TRACES: &str =
-    "Traces are read from standard input, one after the other, and each is answered by 43 lines on standard output, one for each rule. docs/CONFORMANCE.md describes them.";
+/// What the help of the mode that judges expressions and traces says of the input.
+const JUDGED: &str =
+    "Expressions, one a line, and traces are read from standard input, and each is answered by 43 lines on standard output, one for each rule. docs/CONFORMANCE.md describes them.";
 
 /// What the help of the program says of how it ends.
 const STATUS: &str =
@@ -48,12 +48,12 @@ fn program_of<'a>(alloc: Global) -> Result<Command<'a>, Error> {
         .about("The same, but shows values evaluated from scratch")
         .after_help(SCRIPT);
     let tck = Command::new(alloc, "tck")
-        .about("Judges traces by the rules of Reactive Streams")
-        .after_help(TRACES);
+        .about("Judges expressions and traces by the rules of Reactive Streams")
+        .after_help(JUDGED);
     let program = Command::new(alloc, "rsx")
         .bin_name("rsx")?
         .about(
-            "Runs scripts over graphs of reactive streams, and judges traces of publishers and subscribers",
+            "Runs scripts over graphs of reactive streams, and judges expressions, and traces of publishers and subscribers",
         )
         .after_help(STATUS)
         .disable_help_subcommand(true)

@@ -11,7 +11,7 @@ use Rattle.rsx_words.specs.Numbers.{u32_of, u64_of, signed_of}
 use Rattle.rsx_words.specs.Reading.{Left, line_of, ◌>>=◌, next_at, end_at, name_at, number_at}
 use Rattle.rsx_words.specs.Words.{Written, opening, closing, text, strange, nothing}
 use Rattle.rsx_commands.specs.Expressions.{expression_at}
-use Rattle.rsx_commands.specs.Orders.{Order, make_hub, feed_hub, emit, complete, fail, subscribe, request, cancel, pump, pick, show, asked, count, joins, choices, check}
+use Rattle.rsx_commands.specs.Orders.{Tree, Order, make_hub, feed_hub, emit, complete, fail, subscribe, request, cancel, pump, pick, show, asked, count, joins, choices, check}
 
 -- the number of a hub or of a subscription, alone
 abbrev pub with_one : (ℕ → Order) → Left → Result (Order × Left) LineRefusal
@@ -128,3 +128,11 @@ line_at most l = next_at l >>= line_from most
 -- what a line asks for: nothing where it has no words; else its command, or the first word that can't stand where it does
 unfoldable pub meaning_of_line : List ℕ → Result (Option Order) LineRefusal
 meaning_of_line line = if nat_lt 4096 (length line) then Err TooLong else line_at (length line + 1) (line_of line)
+
+-- the expression of a line, and no word behind it
+abbrev pub alone_at : ℕ → Left → Result Tree LineRefusal
+alone_at most l = expression_at most l >>= λ e. end_at e.1 >>= λ _. Ok e.0
+
+-- the expression that a line is, which stands there alone; else the first word that can't stand where it does
+unfoldable pub expression_of_line : List ℕ → Result Tree LineRefusal
+expression_of_line line = if nat_lt 4096 (length line) then Err TooLong else alone_at (length line + 1) (line_of line)

@@ -1,20 +1,29 @@
-//! Reads a line: its command, with numbers, names and expressions.
+//! Reads a line: its command, with numbers, names and expressions, or an expression alone.
 
-ghost use Rattle.std.specs.Prelude.{◌≡◌, ◌<◌, ◌≤◌, ℕ, length, option_map};
+ghost use Rattle.std.specs.Prelude.{◌≡◌, ◌<◌, ◌≤◌, ℕ, length, nat_lt, option_map};
 ghost use Rattle.rsx_words.specs.Numbers.{u32_of};
 ghost use Rattle.rsx_words.specs.Reading.{Gives, GivesInMemory, left, bytes_left, number_at};
-ghost use Rattle.rsx_commands.specs.Orders.{order_of};
-ghost use Rattle.rsx_commands.specs.Commands.{input_of, input_at, pick_at, feed_at, hub_kind_at, hub_command_at, plain_command_at, command_at, line_at, meaning_of_line};
+ghost use Rattle.rsx_commands.specs.Orders.{order_of, tree_of};
+ghost use Rattle.rsx_commands.specs.Commands.{input_of, input_at, pick_at, feed_at, hub_kind_at, hub_command_at, plain_command_at, command_at, line_at, meaning_of_line, expression_of_line};
 
 use crate::command::Command;
 use crate::expression::expression;
+use rsx_demo::Val;
 use rsx_lanes::MAIN;
+use rsx_model::Expr;
 use rsx_types::{HubId, HubKind, NodeId, SubId};
 use rsx_words::{LineRefusal, Word, Words, number_u64};
 use std::alloc::Global;
 
 /// The most bytes of a line, without its newline.
 pub const MOST_BYTES: usize = 4096;
+
+/// Whether a line has more bytes than it may have.
+fn is_too_long(line: &[u8]) -> bool
+    ensures { result ≡ nat_lt 4096 (length line.now) }
+{
+    line.len() > MOST_BYTES
+}
 
 /// The command of a line, or none where the line is empty or spaces alone. Words are judged from left to right.
 ///
@@ -27,11 +36,30 @@ pub fn parse_line(alloc: Global, line: &[u8]) -> Result<Option<Command>, LineRef
     ensures meaning { GivesInMemory (λ command. option_map order_of command) result (meaning_of_line line.now) }
     ensures long { 4096 < length line.now → result ≡ Err LineRefusal.TooLong }
 {
-    if line.len() > MOST_BYTES {
+    if is_too_long(line) {
         return Err(LineRefusal::TooLong);
     }
     let mut words = Words::new(line);
     command_in(alloc, &mut words)
+}
+
+/// The expression of a line, which stands there alone, in its parentheses. Words are judged from left to right.
+///
+/// # Errors
+///
+/// As [`parse_line`]; a line that is empty or spaces alone is `Syntax` behind its last byte.
+#[tactic(auto, unfolding(crate::specs::Commands::expression_of_line))]
+pub fn parse_expression(alloc: Global, line: &[u8]) -> Result<Expr<Val>, LineRefusal>
+    ensures meaning { GivesInMemory tree_of result (expression_of_line line.now) }
+    ensures long { 4096 < length line.now → result ≡ Err LineRefusal.TooLong }
+{
+    if is_too_long(line) {
+        return Err(LineRefusal::TooLong);
+    }
+    let mut words = Words::new(line);
+    let expr = expression(alloc, &mut words)?;
+    words.end()?;
+    Ok(expr)
 }
 
 /// The command that these words ask for, if there are any.

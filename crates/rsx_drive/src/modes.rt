@@ -7,7 +7,7 @@ ghost use Rattle.rsx_lines.specs.Answered.{IsStopped, Writes};
 ghost use Rattle.rsx_drive.specs.Modes.{IsAnsweredIn, IsStoppedIn};
 
 use crate::script::answer_script;
-use rsx_judge::judge_traces;
+use rsx_judge::judge_input;
 use rsx_script::{AppFault, Mode};
 use rsx_session::View;
 use std::alloc::Global;
@@ -16,8 +16,9 @@ use std::io::{Read, Write};
 /// Does what the mode says with all that the reader gives, and writes the answers, until the input ends.
 ///
 /// In the modes `Run` and `Scratch` each line is answered by one: what the command that it asks for answers, where the lines
-/// before it left the graph; a line that is empty or spaces alone has no answer. In the mode `Tck` each trace is answered by
-/// 43 lines, one for each rule. A last line needs no newline.
+/// before it left the graph; a line that is empty or spaces alone has no answer. In the mode `Tck` each expression and each
+/// trace is answered by 43 lines, one for each rule, and an expression that can't be run by the one line `refused M1`. A last
+/// line needs no newline.
 ///
 /// The answers so far are written as soon as they have 65,536 bytes, before each read, and at the end, also before an
 /// error of `Line` or `Memory`. So at most that many bytes and one answer wait to be written.
@@ -34,7 +35,7 @@ pub fn drive<R: Read, W: Write>(
     reader: &mut R,
     writer: &mut W,
 ) -> Result<(), AppFault>
-    // The whole input was answered, each line or trace by its own answer, and nothing else was written.
+    // The whole input was answered, each line, expression or trace by its own answer, and nothing else was written.
     ensures answered { OnOk result (IfSome (R.remaining reader.old) (λ input.
         Writes (W.contents writer.old) (W.contents writer.new) (λ text. IsAnsweredIn mode (lines input) text))) }
     // What comes before the fault was answered so, and nothing else was written; where a read or a write failed, the last of
@@ -46,7 +47,7 @@ pub fn drive<R: Read, W: Write>(
     match mode {
         Mode::Run => answer_script(alloc, View::Received, reader, writer),
         Mode::Scratch => answer_script(alloc, View::FromScratch, reader, writer),
-        Mode::Tck => match judge_traces(alloc, reader, writer) {
+        Mode::Tck => match judge_input(alloc, reader, writer) {
             Ok(()) => Ok(()),
             Err(fault) => Err(fault),
         },

@@ -1,8 +1,10 @@
--- What an input of traces comes to with a further line.
-use Rattle.std.proofs.Common.{◌≡◌, ℕ, ◌<◌, List, [], ◌∷◌, ◌++◌, length, Option, Some, None, refl, sym, ap, subst, ◌∙◌, append_assoc, arith, inl, inr}
+-- What an input of expressions and traces comes to with a further line.
+use Rattle.std.proofs.Common.{◌≡◌, ◌⊎◌, ℕ, ◌<◌, true, false, List, [], ◌∷◌, ◌++◌, length, Option, Some, None, Err, refl, sym, ap, subst, ◌∙◌, append_assoc, arith, inl, inr}
 use Rattle.std.specs.List.{flat_map}
+use Rattle.std.specs.Option.{is_some}
 use Rattle.std.proofs.lemmas.List.{append-nil}
-use Rattle.rsx_words.specs.declared.words.LineRefusal.TheVariants.{Syntax}
+use Rattle.rsx_words.specs.declared.words.LineRefusal.{LineRefusal}
+use Rattle.rsx_words.specs.declared.words.LineRefusal.TheVariants.{Syntax, NoMemory}
 use Rattle.rsx_trace.specs.declared.event.Stamped.{Stamped}
 use Rattle.rsx_trace.specs.declared.reader.BadLine.{BadLine}
 use Rattle.rsx_trace.specs.declared.reader.BadLine.TheVariants.{At}
@@ -12,9 +14,10 @@ use Rattle.rsx_trace.specs.Grammar.{AreTrace}
 use Rattle.rsx_trace.specs.Opening.{HasTaken, IsWrongLast, NamesWrongLast}
 use Rattle.rsx_trace.proofs.Openings.{lacks_end}
 use Rattle.rsx_tck.specs.Report.{IsReportText}
-use Rattle.rsx_judge.specs.declared.judge.TraceJudge.{TraceJudge}
+use Rattle.rsx_commands.specs.Commands.{expression_of_line}
+use Rattle.rsx_judge.specs.declared.judge.InputJudge.{InputJudge}
 use Rattle.rsx_judge.specs.Laws.{refused, memory_wanted}
-use Rattle.rsx_judge.specs.Judged.{IsBlank, IsPart, AreParts, AreJudged, IsRefusedAfter, IsOpen, StandsFor, refusal_of}
+use Rattle.rsx_judge.specs.Judged.{IsBlank, IsLineAnswer, IsPart, AreParts, AreJudged, IsBadFirst, IsBadBehind, IsRefusedAfter, IsOpen, StandsFor, begins_trace, refusal_of}
 
 abbrev Part : Type 0
 Part = List (List ℕ) × List ℕ
@@ -41,19 +44,26 @@ none_judged = record { parts = []; answered = tt; whole = refl; answers = refl }
 
 -- ---- fine lines
 
-pub blank_stands : (old new : TraceJudge) (lines : List (List ℕ)) (text line : List ℕ) → old.reader ≡ None → new.reader ≡ None → IsBlank line → StandsFor old lines text → StandsFor new (lines ++ line ∷ []) (text ++ [])
-blank_stands old new lines text line was is blank s =
+-- a line between two traces that is a part of its own
+part_stands : (old new : InputJudge) (lines : List (List ℕ)) (text line more : List ℕ) → old.reader ≡ None → new.reader ≡ None → IsPart (line ∷ []) more → StandsFor old lines text → StandsFor new (lines ++ line ∷ []) (text ++ more)
+part_stands old new lines text line more was is part s =
     let none : s.opening ≡ [] = subst (λ (o : Option TraceReader). IsOpen o s.opening) was s.taken in
     let all : lines ≡ s.done = s.split ∙ ap (λ (xs : List (List ℕ)). s.done ++ xs) none ∙ append-nil s.done in
     record {
       done = s.done ++ line ∷ [];
       opening = [];
       split = ap (λ (xs : List (List ℕ)). xs ++ line ∷ []) all ∙ sym (append-nil (s.done ++ line ∷ []));
-      judged = more_judged s.done text (line ∷ []) [] s.judged (inl (line, blank, refl, refl));
+      judged = more_judged s.done text (line ∷ []) more s.judged part;
       taken = subst (λ (o : Option TraceReader). IsOpen o []) (sym is) refl;
     }
 
-pub first_stands : (old new : TraceJudge) (lines : List (List ℕ)) (text line : List ℕ) (reader : TraceReader) → old.reader ≡ None → new.reader ≡ Some reader → HasTaken reader (line ∷ []) → StandsFor old lines text → StandsFor new (lines ++ line ∷ []) (text ++ [])
+pub blank_stands : (old new : InputJudge) (lines : List (List ℕ)) (text line : List ℕ) → old.reader ≡ None → new.reader ≡ None → IsBlank line → StandsFor old lines text → StandsFor new (lines ++ line ∷ []) (text ++ [])
+blank_stands old new lines text line was is blank s = part_stands old new lines text line [] was is (inl (line, blank, refl, refl)) s
+
+pub expression_stands : (old new : InputJudge) (lines : List (List ℕ)) (text line more : List ℕ) → old.reader ≡ None → new.reader ≡ None → IsLineAnswer line more → StandsFor old lines text → StandsFor new (lines ++ line ∷ []) (text ++ more)
+expression_stands old new lines text line more was is answer s = part_stands old new lines text line more was is (inr (inl (line, answer, refl))) s
+
+pub first_stands : (old new : InputJudge) (lines : List (List ℕ)) (text line : List ℕ) (reader : TraceReader) → old.reader ≡ None → new.reader ≡ Some reader → HasTaken reader (line ∷ []) → StandsFor old lines text → StandsFor new (lines ++ line ∷ []) (text ++ [])
 first_stands old new lines text line reader was is taken s =
     let none : s.opening ≡ [] = subst (λ (o : Option TraceReader). IsOpen o s.opening) was s.taken in
     let all : lines ≡ s.done = s.split ∙ ap (λ (xs : List (List ℕ)). s.done ++ xs) none ∙ append-nil s.done in
@@ -65,7 +75,7 @@ first_stands old new lines text line reader was is taken s =
       taken = subst (λ (o : Option TraceReader). IsOpen o (line ∷ [])) (sym is) taken;
     }
 
-pub event_stands : (old new : TraceJudge) (lines : List (List ℕ)) (text line : List ℕ) (before after : TraceReader) → old.reader ≡ Some before → new.reader ≡ Some after → ((parts : List (List ℕ)) → HasTaken before parts → HasTaken after (parts ++ line ∷ []))
+pub event_stands : (old new : InputJudge) (lines : List (List ℕ)) (text line : List ℕ) (before after : TraceReader) → old.reader ≡ Some before → new.reader ≡ Some after → ((parts : List (List ℕ)) → HasTaken before parts → HasTaken after (parts ++ line ∷ []))
     → StandsFor old lines text → StandsFor new (lines ++ line ∷ []) (text ++ [])
 event_stands old new lines text line before after was is step s = record {
   done = s.done;
@@ -75,7 +85,7 @@ event_stands old new lines text line before after was is step s = record {
   taken = subst (λ (o : Option TraceReader). IsOpen o (s.opening ++ line ∷ [])) (sym is) (step s.opening (subst (λ (o : Option TraceReader). IsOpen o s.opening) was s.taken));
 }
 
-pub end_stands : (old new : TraceJudge) (lines : List (List ℕ)) (text line more : List ℕ) (before : TraceReader) (events : List Stamped) → old.reader ≡ Some before → new.reader ≡ None → ((parts : List (List ℕ)) → HasTaken before parts → AreTrace (parts ++ line ∷ []) events)
+pub end_stands : (old new : InputJudge) (lines : List (List ℕ)) (text line more : List ℕ) (before : TraceReader) (events : List Stamped) → old.reader ≡ Some before → new.reader ≡ None → ((parts : List (List ℕ)) → HasTaken before parts → AreTrace (parts ++ line ∷ []) events)
     → IsReportText events more → StandsFor old lines text → StandsFor new (lines ++ line ∷ []) (text ++ more)
 end_stands old new lines text line more before events was is step report s =
     let trace = step s.opening (subst (λ (o : Option TraceReader). IsOpen o s.opening) was s.taken) in
@@ -83,47 +93,60 @@ end_stands old new lines text line more before events was is step report s =
       done = s.done ++ (s.opening ++ line ∷ []);
       opening = [];
       split = ap (λ (xs : List (List ℕ)). xs ++ line ∷ []) s.split ∙ append_assoc s.done s.opening (line ∷ []) ∙ sym (append-nil (s.done ++ (s.opening ++ line ∷ [])));
-      judged = more_judged s.done text (s.opening ++ line ∷ []) more s.judged (inr (events, trace, report));
+      judged = more_judged s.done text (s.opening ++ line ∷ []) more s.judged (inr (inr (events, trace, report)));
       taken = subst (λ (o : Option TraceReader). IsOpen o []) (sym is) refl;
     }
 
 -- ---- lines that can't be read
 
-pub first_refused : (judge : TraceJudge) (lines : List (List ℕ)) (text line : List ℕ) (others : List (List ℕ)) (column : ℕ) → judge.reader ≡ None → ¬ IsBlank line → IsWrongLast (line ∷ []) column → StandsFor judge lines text → IsRefusedAfter lines text (line ∷ others) (Syntax column)
-first_refused judge lines text line others column was written wrong s =
+-- outside a trace
+bad_first : (judge : InputJudge) (lines : List (List ℕ)) (text line : List ℕ) (others : List (List ℕ)) (refusal : LineRefusal) → judge.reader ≡ None → IsBadFirst line refusal → StandsFor judge lines text → IsRefusedAfter lines text (line ∷ others) refusal
+bad_first judge lines text line others refusal was wrong s =
     let none : s.opening ≡ [] = subst (λ (o : Option TraceReader). IsOpen o s.opening) was s.taken in
-    refused judge lines text (line ∷ others) (Syntax column) s ((λ _. written), subst (λ (xs : List (List ℕ)). IsWrongLast (xs ++ line ∷ []) column) (sym none) wrong)
+    refused judge lines text (line ∷ others) refusal s (inr (inr (subst (λ (xs : List (List ℕ)). IsBadBehind xs line refusal) (sym none) wrong)))
+
+pub first_refused : (judge : InputJudge) (lines : List (List ℕ)) (text line : List ℕ) (others : List (List ℕ)) (column : ℕ) → judge.reader ≡ None → begins_trace line ≡ true → IsWrongLast (line ∷ []) column → StandsFor judge lines text → IsRefusedAfter lines text (line ∷ others) (Syntax column)
+first_refused judge lines text line others column was begins wrong s = bad_first judge lines text line others (Syntax column) was (inl (begins, column, refl, wrong)) s
+
+pub expression_refused : (judge : InputJudge) (lines : List (List ℕ)) (text line : List ℕ) (others : List (List ℕ)) (refusal : LineRefusal) → judge.reader ≡ None → begins_trace line ≡ false → ¬ IsBlank line
+    → (refusal ≡ NoMemory) ⊎ (expression_of_line line ≡ Err refusal) → StandsFor judge lines text → IsRefusedAfter lines text (line ∷ others) refusal
+expression_refused judge lines text line others refusal was begins written (inl wanted) s = refused judge lines text (line ∷ others) refusal s (inl wanted)
+expression_refused judge lines text line others refusal was begins written (inr none) s = bad_first judge lines text line others refusal was (inr (begins, written, none)) s
 
 taken_some : (reader : TraceReader) (opening : List (List ℕ)) → HasTaken reader opening → 0 < length opening
 taken_some reader opening (body, is, lined) = omega (arith, ap (λ (xs : List (List ℕ)). length xs) is)
 
-next_refused : (judge : TraceJudge) (lines : List (List ℕ)) (text line : List ℕ) (others : List (List ℕ)) (column : ℕ) (reader : TraceReader) → judge.reader ≡ Some reader → ((parts : List (List ℕ)) → HasTaken reader parts → IsWrongLast (parts ++ line ∷ []) column)
+inside : (opening : List (List ℕ)) (line : List ℕ) (column : ℕ) → 0 < length opening → IsWrongLast (opening ++ line ∷ []) column → IsBadBehind opening line (Syntax column)
+inside [] line column some wrong = absurd (omega (arith, some))
+inside (first ∷ opening) line column some wrong = (column, refl, wrong)
+
+next_refused : (judge : InputJudge) (lines : List (List ℕ)) (text line : List ℕ) (others : List (List ℕ)) (column : ℕ) (reader : TraceReader) → judge.reader ≡ Some reader → ((parts : List (List ℕ)) → HasTaken reader parts → IsWrongLast (parts ++ line ∷ []) column)
     → StandsFor judge lines text → IsRefusedAfter lines text (line ∷ others) (Syntax column)
 next_refused judge lines text line others column reader was step s =
     let taken = subst (λ (o : Option TraceReader). IsOpen o s.opening) was s.taken in
     let some = taken_some reader s.opening taken in
-    refused judge lines text (line ∷ others) (Syntax column) s ((λ none. absurd (omega (arith, some, ap (λ (xs : List (List ℕ)). length xs) none))), step s.opening taken)
+    refused judge lines text (line ∷ others) (Syntax column) s (inr (inr (inside s.opening line column some (step s.opening taken))))
 
-pub bad_refused : (judge : TraceJudge) (lines : List (List ℕ)) (text line : List ℕ) (others : List (List ℕ)) (line_bad : BadLine) (reader : TraceReader) → judge.reader ≡ Some reader → ((parts : List (List ℕ)) → HasTaken reader parts → NamesWrongLast (parts ++ line ∷ []) line_bad)
+pub bad_refused : (judge : InputJudge) (lines : List (List ℕ)) (text line : List ℕ) (others : List (List ℕ)) (line_bad : BadLine) (reader : TraceReader) → judge.reader ≡ Some reader → ((parts : List (List ℕ)) → HasTaken reader parts → NamesWrongLast (parts ++ line ∷ []) line_bad)
     → StandsFor judge lines text → IsRefusedAfter lines text (line ∷ others) (refusal_of line_bad)
 bad_refused judge lines text line others (At column) reader was step s = next_refused judge lines text line others column reader was step s
 bad_refused judge lines text line others bad.NoMemory reader was step s = memory_wanted judge lines text (line ∷ others) s
 
 -- ---- the end of the input
 
-pub all_ends : (judge : TraceJudge) (lines : List (List ℕ)) (text : List ℕ) → judge.reader ≡ None → StandsFor judge lines text → AreJudged lines text
+pub all_ends : (judge : InputJudge) (lines : List (List ℕ)) (text : List ℕ) → judge.reader ≡ None → StandsFor judge lines text → AreJudged lines text
 all_ends judge lines text was s =
     let none : s.opening ≡ [] = subst (λ (o : Option TraceReader). IsOpen o s.opening) was s.taken in
     let all : lines ≡ s.done = s.split ∙ ap (λ (xs : List (List ℕ)). s.done ++ xs) none ∙ append-nil s.done in
     subst (λ (xs : List (List ℕ)). AreJudged xs text) (sym all) s.judged
 
-pub end_refused : (judge : TraceJudge) (lines : List (List ℕ)) (text : List ℕ) (reader : TraceReader) → judge.reader ≡ Some reader → StandsFor judge lines text → IsRefusedAfter lines text [] (Syntax 1)
+pub end_refused : (judge : InputJudge) (lines : List (List ℕ)) (text : List ℕ) (reader : TraceReader) → judge.reader ≡ Some reader → StandsFor judge lines text → IsRefusedAfter lines text [] (Syntax 1)
 end_refused judge lines text reader was s =
     let taken = subst (λ (o : Option TraceReader). IsOpen o s.opening) was s.taken in
-    refused judge lines text [] (Syntax 1) s (refl, taken_some reader s.opening taken, lacks_end s.opening reader.stamped reader.events.items taken)
+    refused judge lines text [] (Syntax 1) s (inr (refl, taken_some reader s.opening taken, lacks_end s.opening reader.stamped reader.events.items taken))
 
 -- the reader alone says what is stood for
-pub still_stands : (old new : TraceJudge) (lines : List (List ℕ)) (text : List ℕ) → old.reader ≡ new.reader → StandsFor old lines text → StandsFor new lines text
+pub still_stands : (old new : InputJudge) (lines : List (List ℕ)) (text : List ℕ) → old.reader ≡ new.reader → StandsFor old lines text → StandsFor new lines text
 still_stands old new lines text same s = record {
   done = s.done;
   opening = s.opening;
@@ -131,3 +154,13 @@ still_stands old new lines text same s = record {
   judged = s.judged;
   taken = subst (λ (o : Option TraceReader). IsOpen o s.opening) same s.taken;
 }
+
+-- ---- a place that was looked for
+
+pub none_of : (o : Option ℕ) → is_some o ≡ false → o ≡ None
+none_of None h = refl
+none_of (Some x) h = absurd (cc)
+
+pub some_of : (o : Option ℕ) → is_some o ≡ true → ¬ (o ≡ None)
+some_of None h = absurd (cc)
+some_of (Some x) h = λ e. absurd (cc)

@@ -1,24 +1,20 @@
--- The laws of what answers the lines of an input of traces.
-use Rattle.std.specs.Prelude.{ℕ, ◌<◌, List, [], ◌∷◌, length}
-use Rattle.std.proofs.Common.{sym}
+-- The laws of what answers the lines of an input of expressions and traces.
+use Rattle.std.specs.Prelude.{ℕ, ◌<◌, ◌≡◌, ◌⊎◌, List, [], ◌∷◌, length}
+use Rattle.std.proofs.Common.{refl, sym, inl, inr}
 use Rattle.std.proofs.lemmas.List.{append-nil}
 use Rattle.rsx_words.specs.declared.words.LineRefusal.{LineRefusal}
 use Rattle.rsx_words.specs.declared.words.LineRefusal.TheVariants.{TooLong, NoMemory}
-use Rattle.rsx_judge.specs.declared.judge.TraceJudge.{TraceJudge}
+use Rattle.rsx_judge.specs.declared.judge.InputJudge.{InputJudge}
 use Rattle.rsx_judge.specs.Judged.{AreJudged, IsBadNext, IsRefusedAfter, StandsFor}
 
-pub refused : (judge : TraceJudge) (lines : List (List ℕ)) (text : List ℕ) (others : List (List ℕ)) (refusal : LineRefusal) → (s : StandsFor judge lines text) → IsBadNext s.opening others refusal → IsRefusedAfter lines text others refusal
+pub refused : (judge : InputJudge) (lines : List (List ℕ)) (text : List ℕ) (others : List (List ℕ)) (refusal : LineRefusal) → (s : StandsFor judge lines text) → (refusal ≡ NoMemory) ⊎ IsBadNext s.opening others refusal → IsRefusedAfter lines text others refusal
 refused judge lines text others refusal s bad = record { done = s.done; opening = s.opening; split = s.split; judged = s.judged; bad = bad }
 
-pub line_too_long : (judge : TraceJudge) (lines : List (List ℕ)) (text line : List ℕ) (others : List (List ℕ)) → 4096 < length line → StandsFor judge lines text → IsRefusedAfter lines text (line ∷ others) TooLong
-line_too_long judge lines text line others lt s = refused judge lines text (line ∷ others) TooLong s lt
+pub line_too_long : (judge : InputJudge) (lines : List (List ℕ)) (text line : List ℕ) (others : List (List ℕ)) → 4096 < length line → StandsFor judge lines text → IsRefusedAfter lines text (line ∷ others) TooLong
+line_too_long judge lines text line others lt s = refused judge lines text (line ∷ others) TooLong s (inr (inl (refl, lt)))
 
-wanted : (opening others : List (List ℕ)) → IsBadNext opening others NoMemory
-wanted opening [] = tt
-wanted opening (line ∷ others) = tt
-
-pub memory_wanted : (judge : TraceJudge) (lines : List (List ℕ)) (text : List ℕ) (others : List (List ℕ)) → StandsFor judge lines text → IsRefusedAfter lines text others NoMemory
-memory_wanted judge lines text others s = refused judge lines text others NoMemory s (wanted s.opening others)
+pub memory_wanted : (judge : InputJudge) (lines : List (List ℕ)) (text : List ℕ) (others : List (List ℕ)) → StandsFor judge lines text → IsRefusedAfter lines text others NoMemory
+memory_wanted judge lines text others s = refused judge lines text others NoMemory s (inl refl)
 
 pub memory_wanted_last : (lines : List (List ℕ)) (text : List ℕ) → AreJudged lines text → IsRefusedAfter lines text [] NoMemory
-memory_wanted_last lines text judged = record { done = lines; opening = []; split = sym (append-nil lines); judged = judged; bad = tt }
+memory_wanted_last lines text judged = record { done = lines; opening = []; split = sym (append-nil lines); judged = judged; bad = inl refl }

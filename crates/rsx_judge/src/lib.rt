@@ -1,10 +1,11 @@
 #![tactic(auto)]
-//! Judges the traces of an input, one after the other.
+//! Answers an input of expressions and traces, each by what it says of the 43 rules.
 //!
-//! [`judge_traces`] reads traces of both formats, line by line, and writes the report of each as soon as its line `end` was
-//! read. It keeps the events of the trace that it reads, and of no other.
+//! [`judge_input`] reads expressions, one a line, and traces of both formats, line by line, and writes the lines that answer
+//! each as soon as it was read. It keeps the events of the trace that it reads, and of no other.
 
+mod expression;
 mod input;
 mod judge;
 
-pub use input::judge_traces;
+pub use input::judge_input;

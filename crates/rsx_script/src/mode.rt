@@ -3,14 +3,14 @@
 ghost use Rattle.std.specs.Prelude.{◌≡◌};
 ghost use Rattle.rsx_script.specs.Modes.{mode_of_name};
 
-/// What the program does with its input: it answers the commands of a script, or judges traces.
+/// What the program does with its input: it answers the commands of a script, or judges expressions and traces.
 #[derive(Clone, Copy, Debug, PartialEq, Eq)]
 pub enum Mode {
     /// Answers commands; `show` is what was received, and then the rest.
     Run,
     /// Answers commands; `show` is the value of the slow evaluator.
     Scratch,
-    /// Judges traces.
+    /// Judges expressions and traces.
     Tck,
 }
 

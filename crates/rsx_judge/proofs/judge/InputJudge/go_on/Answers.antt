@@ -5,7 +5,7 @@ use Rattle.rsx_trace.specs.Opening.{HasCome}
 use Rattle.rsx_tck.specs.Report.{IsReportText}
 use Rattle.rsx_judge.specs.Judged.{IsRefusedAfter, judging}
 use Rattle.rsx_judge.proofs.Parts.{event_stands, end_stands, bad_refused}
-use Rattle.rsx_judge.proofs.judge.TraceJudge.go_on.Goals as goal
+use Rattle.rsx_judge.proofs.judge.InputJudge.go_on.Goals as goal
 
 pub returns-in-Ok-Open-clause-answered : goal.returns-in-Ok-Open-clause-answered
 returns-in-Ok-Open-clause-answered c = λ lines text s. (
