@@ -6,10 +6,9 @@
 
 mod trees;
 
-pub use trees::build;
-
 use rsx_boxed::Boxed;
 use rsx_node::AnyNode;
+pub use trees::build;
 
 /// A node of a tree, behind a pointer: a tree of nodes is moved as a whole where inputs are added to it, and a node of any kind
 /// is as large as the largest kind.

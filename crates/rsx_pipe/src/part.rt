@@ -1,6 +1,6 @@
 //! A part of a graph: one tree of nodes with its edges.
 
-use rsx_build::{build, TreeNode};
+use rsx_build::{TreeNode, build};
 use rsx_hub::Hub;
 use rsx_model::Expr;
 use rsx_queue::SignalQueue;
