@@ -32,6 +32,12 @@ fn total<O: Ops>(alloc: Global, ops: &O, input: Expr<O::Item>) -> Result<Expr<O:
 /// The worker of a `publishOn`.
 const WORKER: u8 = 1;
 
+/// The function `twice` of `expand`.
+const TWICE: u16 = 2;
+
+/// How many lanes of a `flatMap` run at a time.
+const CONCURRENCY: u64 = 4;
+
 /// How many items of each input are asked for in advance.
 const PREFETCH: u64 = 64;
 
@@ -68,6 +74,9 @@ pub fn expression<O: Ops>(alloc: Global, ops: &O, case: &str, count: u64) -> Res
         "zip" => Ok(Expr::Zip(PREFETCH, halves(alloc, count)?)),
         "latest" => Ok(Expr::Latest(PREFETCH, halves(alloc, count)?)),
         "publish" => Ok(Expr::On(WORKER, PREFETCH, Box::new(alloc, range)?)),
+        "window" => Ok(Expr::Window(10, Vec::new(alloc), Box::new(alloc, range)?)),
+        "group" => Ok(Expr::Group(THREE_KEYS, Vec::new(alloc), Box::new(alloc, range)?)),
+        "flat" => Ok(Expr::Flat(TWICE, CONCURRENCY, Vec::new(alloc), Box::new(alloc, range)?)),
         _ => bail!("no such case"),
     }
 }

@@ -7,7 +7,8 @@
 //! `half` (the doubled of the even ones); `single` (as `filter`, each item asked for and pumped by itself); `buffer` (lists
 //! of 10); `scan` (as many as there are of the totals); `keys3` and `keys` (distinct, with three keys and with a key for
 //! each number); `concat`, `merge`, `zip` and `latest` (of two ranges, each to a half of COUNT, with a prefetch of 64);
-//! `publish` (a `publishOn` with a prefetch of 64);
+//! `publish` (a `publishOn` with a prefetch of 64); `window` (of 10), `group` (a `groupBy` with three keys) and, of the items of
+//! the demonstration, `flat` (a `flatMap` of each number twice, four lanes at a time), each with an empty chain;
 //! `fan1`, `fan8` and `fan64` (the numbers published to a hub, 64 before each pump, with so many readers that have asked for
 //! all).
 //!
