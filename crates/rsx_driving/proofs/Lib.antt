@@ -1,2 +1,0 @@
--- Lemmas about moves of rows.
-pub mod Same
