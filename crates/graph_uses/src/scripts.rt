@@ -92,8 +92,8 @@ const SCRIPTS: [Row; 10] = [
     ),
 ];
 
-/// A trace needs its first and its last line, and nothing else stands between two traces but blank lines. A line of 4,096 bytes is
-/// read inside a trace, and one of 4,097 is not.
+/// A trace needs its first and its last line, and nothing else stands between two traces but expressions and blank lines. A line
+/// of 4,096 bytes is read inside a trace, and one of 4,097 is not.
 const JUDGED: [Row; 13] = [
     (&[("\n   \n", 1)], 0, "", End::Whole),
     (&[("trace 1\nend", 1)], 43, "", End::Whole),
@@ -125,7 +125,7 @@ const JUDGED: [Row; 13] = [
         "",
         End::At(3, 1),
     ),
-    (&[("trace 1\nend\n(range 1 5)\n", 1)], 43, "", End::At(3, 1)),
+    (&[("trace 1\nend\n(range 1 5)\n", 1)], 86, "", End::Whole),
     (&[("trace 1\nnext ", 1), ("0", 4091)], 0, "", End::At(3, 1)),
     (
         &[("trace 1\nnext ", 1), ("0", 4092)],
