@@ -325,10 +325,13 @@ impl<T: Drop> Machine for FlatMapNode<T> {
         Err(signal)
     }
 
+    // Not inlined, so that what looks for the next step of a node of any kind stays small.
+    #[inline(never)]
     fn can_pick(&self, input: u64, asked: u64, sent: u64) -> bool {
         self.output.is_empty() && may_take(self.lanes.front(input), sent < asked)
     }
 
+    #[inline(never)]
     fn next_pick(&self, asked: u64, sent: u64) -> Option<u64> {
         if !self.output.is_empty() {
             return None;

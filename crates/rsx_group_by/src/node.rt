@@ -387,6 +387,8 @@ impl<T: Drop> Machine for GroupByNode<T> {
         Err(signal)
     }
 
+    // Not inlined, so that what looks for the next step of a node of any kind stays small.
+    #[inline(never)]
     fn can_pick(&self, input: u64, asked: u64, sent: u64) -> bool {
         if !self.output.is_empty() {
             return false;
@@ -398,6 +400,7 @@ impl<T: Drop> Machine for GroupByNode<T> {
             .can_pick(input as usize, self.main.is_done(), asked, sent)
     }
 
+    #[inline(never)]
     fn next_pick(&self, asked: u64, sent: u64) -> Option<u64> {
         for at in 0..self.table.len() {
             if self.can_pick(at as u64, asked, sent) {
