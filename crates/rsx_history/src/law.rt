@@ -1,4 +1,5 @@
-//! The headline, and that idle means delivered, for whoever reads nothing else.
+//! The headline, and that idle means delivered, of hubs and subscriptions where no hub has a feed. Those of all graphs are in
+//! `rsx_graph`.
 
 ghost use Rattle.std.specs.Prelude.{◌≡◌, false};
 ghost use Rattle.rsx_types.specs.Meaning.{Meaning};
@@ -15,9 +16,7 @@ use rsx_types::Ops;
 /// by what it is still owed, is its expression evaluated from scratch; it received no more than it asked for and nothing
 /// after an ending; and a subscriber that isn't live holds a prefix.
 ///
-/// `Graph::new` stands for the history in which nothing has happened, and `Graph::run`, like each single call of a graph,
-/// leads from the history so far to the one that its steps and answers extend it to. So the sentence holds after any list
-/// of edits and moves, in any order. The function does nothing; its contract is the sentence.
+/// The function does nothing; its contract is the sentence.
 pub fn headline<O: Ops>()
     ensures { (m : Meaning O.Item) (graph : GraphState O.Item) (h : History O.Item) → StandsFor m graph h → Headline m graph.subs h }
 {}
@@ -28,7 +27,7 @@ pub fn headline<O: Ops>()
 /// each of its nodes that reads one and offers nothing has got all that was published there ([`read_all`]). It holds as long as
 /// no edge has carried 2^63-1 items.
 ///
-/// `Graph::pump` answers Idle only where no move is enabled. The function does nothing; its contract is the sentence.
+/// The function does nothing; its contract is the sentence.
 pub fn idle_means_delivered<O: Ops>()
     ensures { (m : Meaning O.Item) (graph : GraphState O.Item) (h : History O.Item) →
         StandsFor m graph h → IsAllQuiet m graph → AllServed m (published h) graph.subs h.pasts }
