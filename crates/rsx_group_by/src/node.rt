@@ -365,7 +365,16 @@ impl<T: Drop> Machine for GroupByNode<T> {
     }
 
     fn pass<O: Ops<Item = T>>(&mut self, alloc: Global, ops: &O, input: u64, item: T) -> Passed<T> {
-        Passed::Declined(item)
+        if !self.can_take(input, Front::Item) {
+            return Passed::Declined(item);
+        }
+        match self.take_item(alloc, ops, item) {
+            Ok(()) => {
+                self.got = saturating_total(self.got, 1);
+                Passed::Kept
+            }
+            Err(item) => Passed::Declined(item),
+        }
     }
 
     fn hub(&self) -> Option<u64> {
