@@ -9,13 +9,14 @@ use Rattle.rsx_types.specs.Meaning.{Meaning}
 use Rattle.rsx_types.specs.Stream.{Stream, item_then, signal_then, signals}
 use Rattle.rsx_sources.specs.Counts.{CountsIn, one_more, ends_input}
 use Rattle.rsx_sources.specs.Machine.{TakesIn, in_front}
+use Rattle.rsx_sources.specs.Passed.{IsTakenIn}
 use Rattle.rsx_sources.specs.Slot.{is_nil}
 use Rattle.rsx_operators.specs.Moves.{has_ended, has_ending}
 use Rattle.rsx_choices.specs.Pick.{InputLeft}
 use Rattle.rsx_lanes.specs.Lanes.{main_input}
 use Rattle.rsx_lanes.specs.declared.limits.TheConstants.{MAIN}
 use Rattle.rsx_flat_map.specs.Coming.{lane_answer, lanes_to_come, lanes_left}
-use Rattle.rsx_flat_map.specs.FlatMap.{flat_comes_out, flat_ended, flat_done, merge_behind, with_lane, with_main, CountsLanes, IsGoing}
+use Rattle.rsx_flat_map.specs.FlatMap.{flat_comes_out, flat_takes, flat_recorded, flat_ended, flat_done, merge_behind, with_lane, with_main, CountsLanes, IsGoing}
 use Rattle.rsx_flat_map.specs.Lanes.{AreWhole}
 use Rattle.rsx_flat_map.specs.declared.node.FlatMapNode.{FlatMapNode}
 use Rattle.std.specs.Prelude.{Ok}
@@ -105,3 +106,16 @@ main_counts old new i s e first ends is =
       stays_done = λ j d. done_same old new j (λ c. ap (λ n. n.closed) is) d;
       is_done = λ going h. rw (is, first) refl;
     }
+
+-- ---- an item in one go
+
+pub lane_taken_in : {T : Type 0} (m : Meaning T) (old new : FlatMapNode T) (i : ℕ) (x : T) (v : Stream T) → i ≡ 0 → old.closed ≡ false → flat_ended old ≡ false → old.next < 2 ^ 64 → has_ended v.ending ≡ true →
+    lane_answer m old.expansion.function old.expansion.stages.items x ≡ Ok v → new ≡ with_lane old v →
+    IsTakenIn (flat_comes_out m) flat_takes flat_recorded IsGoing flat_ended flat_done old i (Next x) new
+lane_taken_in m old new i x v first open_still going few ends answer is = record {
+  enabled = rw first refl;
+  value = lane_comes_in m old new i (Next x) x v first refl open_still answer is;
+  notes = rw is refl;
+  counts = lane_counts old new i (Next x) x v first refl open_still few ends is;
+  goes_on = ap flat_ended is ∙ going;
+}

@@ -303,7 +303,16 @@ impl<T: Drop> Machine for FlatMapNode<T> {
     }
 
     fn pass<O: Ops<Item = T>>(&mut self, alloc: Global, ops: &O, input: u64, item: T) -> Passed<T> {
-        Passed::Declined(item)
+        if input != 0 || self.closed || self.has_ended() {
+            return Passed::Declined(item);
+        }
+        match self.expansion.lane_of(alloc, ops, &item) {
+            Ok(value) => match self.add_lane(value) {
+                Ok(()) => Passed::Kept,
+                Err(_) => Passed::Declined(item),
+            },
+            Err(_) => Passed::Declined(item),
+        }
     }
 
     fn hub(&self) -> Option<u64> {
