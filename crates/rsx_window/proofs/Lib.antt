@@ -1,4 +1,5 @@
 pub mod Cuts
 pub mod NothingLeft
+pub mod Passes
 pub mod Rests
 pub mod Runs

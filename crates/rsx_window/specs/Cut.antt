@@ -15,6 +15,8 @@ use Rattle.rsx_lanes.specs.Window.{window}
 use Rattle.rsx_chain.specs.Chain.{chain_from, chain_over}
 use Rattle.rsx_pending.specs.Signals.{put_out}
 use Rattle.rsx_chain.specs.declared.chain.ChainState.{ChainState}
+use Rattle.rsx_sources.specs.declared.machine.Passed.{Passed}
+use Rattle.rsx_sources.specs.declared.machine.Passed.TheVariants.{Item, Kept, Declined}
 use Rattle.rsx_window.specs.declared.current.CurrentWindow.{CurrentWindow}
 use Rattle.rsx_window.specs.declared.current.CurrentWindow.TheVariants.{Running, Passing, Over}
 use Rattle.rsx_window.specs.declared.current.Begun.{Begun}
@@ -71,6 +73,16 @@ abbrev pub window_after : {T : Type 0} → ChainState T → ℕ → Ending → C
 window_after c more Open = Running c (more - 1)
 window_after c more Done = Passing more
 window_after c more (Failed f) = Over
+
+-- the windows go on behind an item, and their chain does
+abbrev pub IsOpen : {T : Type 0} → CurrentWindow T → Type 0
+IsOpen c = (is_over c ≡ false) × GoesOn c
+
+-- an item comes out as it is; or it is let go; or it comes back, and nothing has changed
+abbrev pub GoesThrough : {T : Type 0} → ℕ → List (Stage T) → CurrentWindow T → T → Passed T → CurrentWindow T → Type 0
+GoesThrough {T} n gs old x (Item y) new = IsOpen new × ((m : Meaning T) (v : Stream T) → window_left m n gs old (item_then x v) ≡ item_then y (window_left m n gs new v))
+GoesThrough {T} n gs old x Kept new = IsOpen new × ((m : Meaning T) (v : Stream T) → window_left m n gs old (item_then x v) ≡ window_left m n gs new v)
+GoesThrough n gs old x (Declined y) new = (y ≡ x) × (new ≡ old)
 
 -- ---- an ending of the input
 

@@ -7,7 +7,7 @@ ghost use Rattle.rsx_pending.specs.Signals.{HasRoom, SignalsLeft, has_ending};
 ghost use Rattle.rsx_types.specs.declared.signal.Signal.TheVariants.{Next};
 ghost use Rattle.rsx_chain.specs.Chain.{chain_over};
 ghost use Rattle.rsx_operators.specs.Moves.{Moves, has_ended};
-ghost use Rattle.rsx_window.specs.Cut.{TakesItem, Begins, unless_done, last_ending, is_over, GoesOn, window_left, window_after, ClosesWith, EndsWith};
+ghost use Rattle.rsx_window.specs.Cut.{TakesItem, Begins, unless_done, last_ending, is_over, GoesOn, GoesThrough, window_left, window_after, ClosesWith, EndsWith};
 ghost use Rattle.rsx_chain.specs.declared.chain.ChainState.{ChainState as ChainStateSpec};
 ghost use Rattle.rsx_window.specs.declared.current.CurrentWindow.{CurrentWindow as CurrentWindowSpec};
 ghost use Rattle.rsx_window.specs.declared.current.CurrentWindow.TheVariants.{Running};
@@ -15,6 +15,7 @@ ghost use Rattle.rsx_window.specs.declared.current.CurrentWindow.TheVariants.{Ru
 use rsx_chain::{ChainState, Chaining, NewChain};
 use rsx_operators::Emission;
 use rsx_pending::PendingSignals;
+use rsx_sources::Passed;
 use rsx_types::{Ending, NoMemory, Ops, Signal, Stage};
 use std::alloc::Global;
 
@@ -196,6 +197,40 @@ impl<T: Drop> CurrentWindow<T> {
         ensures { self.new ≡ next }
     {
         *self = next;
+    }
+
+    /// Takes an item that no operator answers, of windows of so many items through a chain of these operators: one for a window
+    /// with an empty chain, which comes out as it is, or one that is let go. Any other item comes back, and nothing has changed.
+    pub(crate) fn pass(&mut self, size: u64, stages: &[Stage<T>], item: T) -> Passed<T>
+        ensures { GoesThrough size stages.now self.old item result self.new }
+    {
+        match self {
+            CurrentWindow::Passing(0) => {
+                if !stages.is_empty() {
+                    return Passed::Declined(item);
+                }
+                if size <= 1 {
+                    return Passed::Item(item);
+                }
+                self.set(CurrentWindow::Running(ChainState::End, size - 2));
+                Passed::Item(item)
+            }
+            CurrentWindow::Passing(left) => {
+                *left -= 1;
+                Passed::Kept
+            }
+            CurrentWindow::Running(ChainState::End, more) => {
+                if *more == 0 {
+                    self.set(CurrentWindow::Passing(0));
+                    return Passed::Item(item);
+                }
+                *more -= 1;
+                Passed::Item(item)
+            }
+            CurrentWindow::Running(ChainState::Stage(_, _), _) | CurrentWindow::Over => {
+                Passed::Declined(item)
+            }
+        }
     }
 
     /// Goes on behind an item by which the chain of the started window has put out this ending.

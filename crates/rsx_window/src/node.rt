@@ -243,7 +243,22 @@ impl<T: Drop> Machine for WindowNode<T> {
     }
 
     fn pass<O: Ops<Item = T>>(&mut self, alloc: Global, ops: &O, input: u64, item: T) -> Passed<T> {
-        Passed::Declined(item)
+        if input != 0 || !self.is_ready() || self.pending.room() == 0 {
+            return Passed::Declined(item);
+        }
+        match self.current.pass(self.size, &self.stages, item) {
+            Passed::Item(item) => {
+                self.halfway = true;
+                self.got = saturating_total(self.got, 1);
+                Passed::Item(item)
+            }
+            Passed::Kept => {
+                self.halfway = false;
+                self.got = saturating_total(self.got, 1);
+                Passed::Kept
+            }
+            Passed::Declined(item) => Passed::Declined(item),
+        }
     }
 
     fn hub(&self) -> Option<u64> {

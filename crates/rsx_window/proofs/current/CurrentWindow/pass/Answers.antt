@@ -1,0 +1,17 @@
+use Rattle.std.proofs.Common.{◌≡◌, ◌-◌, length, refl, ap, rules}
+use Rattle.rsx_window.specs.declared.current.CurrentWindow.TheVariants.{Running}
+use Rattle.rsx_window.proofs.Passes.{next_passes, first_passes, skipped_passes}
+use Rattle.rsx_window.proofs.current.CurrentWindow.pass.Goals as goal
+
+pub returns-in-Passing : goal.returns-in-Passing
+returns-in-Passing g c = skipped_passes c.args.size c.args.stages.now c.args.self.now _ c.in-Passing.left c.args.item (search rules) c.in-Passing.left-test.1 refl
+
+pub returns-else-size-le1 : goal.returns-else-size-le1
+returns-else-size-le1 g c =
+    let none : length c.args.stages.now ≡ 0 = search rules in
+    first_passes c.args.size c.args.stages.now c.args.self.now c.set.new.self c.args.item (search rules) none (search rules) c.set.ensures
+
+pub returns-else-more-eq0 : goal.returns-else-more-eq0
+returns-else-more-eq0 g c =
+    let w = c.in-Running-End-default in
+    next_passes c.args.size c.args.stages.now c.args.self.now (Running w.field-0 (w.more - 1)) w.more c.args.item (search rules) c.if-more-eq0.false (ap (λ h. Running h (w.more - 1)) w.field-0-is)
