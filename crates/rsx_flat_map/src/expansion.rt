@@ -107,6 +107,10 @@ impl<T: Drop> Expanding<T> for Expansion<T> {
     ) -> Result<StreamValue<T>, NoMemory>
         ensures { IfOk result (λ v. v ≡ flat_lane (O.meaning ops.now) self.now.stages.items list.items) }
     {
+        // With no operator the list is the lane, without a copy.
+        if self.stages.is_empty() {
+            return Ok(StreamValue::new(list, Ending::Done));
+        }
         let NewChain { chain, first } = ChainState::new(alloc, ops, &self.stages)?;
         match first.ending() {
             Ending::Open => {
