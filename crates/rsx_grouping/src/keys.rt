@@ -56,7 +56,7 @@ impl LaneKeys {
     pub fn has_place(&self, key: u64) -> bool
         ensures { result ≡ has_place self.now key }
     {
-        self.set.contains(&key) || self.set.len() < MOST_KEYS
+        self.set.len() < MOST_KEYS || self.set.contains(&key)
     }
 
     /// Puts a key last, unless it is there.
