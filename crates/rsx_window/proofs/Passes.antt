@@ -10,14 +10,12 @@ use Rattle.rsx_types.specs.declared.signal.Signal.TheVariants.{Next}
 use Rattle.rsx_types.specs.declared.stage.Stage.{Stage}
 use Rattle.rsx_types.specs.Meaning.{Meaning}
 use Rattle.rsx_types.specs.Stream.{Stream, item_then, signal_then, signals_then}
-use Rattle.rsx_sources.specs.Counts.{taken_after}
 use Rattle.rsx_sources.specs.Machine.{quiet}
 use Rattle.rsx_sources.specs.Passed.{IsTakenIn, IsItemOut, IsPassed}
 use Rattle.rsx_sources.specs.Slot.{is_nil}
 use Rattle.rsx_sources.specs.declared.machine.Passed.TheVariants.{Item, Kept}
-use Rattle.rsx_pending.specs.Signals.{SignalsLeft, has_ending}
+use Rattle.rsx_pending.specs.Signals.{has_ending}
 use Rattle.rsx_chain.specs.declared.chain.ChainState.{End}
-use Rattle.rsx_lanes.specs.Window.{window}
 use Rattle.rsx_window.specs.Cut.{window_left, is_over, IsOpen, GoesThrough}
 use Rattle.rsx_window.specs.Window.{window_comes_out, window_waiting, window_takes, window_ended, window_done, IsPoppedWindow, CountsItems}
 use Rattle.rsx_window.specs.declared.node.WindowNode.{WindowNode}
@@ -137,4 +135,4 @@ item_passed_on {T} m n gs c got i x y first ready space stand through one =
     let goes : GoesThrough n.size n.stages.items n.current x (Item y) c = rw stand at through in
     let P : List (Signal T) → ℕ → Type 0 = λ l k. IsPassed (window_comes_out m) (window_waiting m) (λ a j f. window_takes a j) IsPoppedWindow (λ a. Nothing) CountsItems window_ended window_done n i x (Item y) (record n { current = c; pending = record { left = l; room = n.pending.room }; halfway = true; got = k }) in
     subst (λ k. P n.pending.left k) (sym one) (subst (λ l. P l (saturating_total n.got 1)) (sym empty)
-      (behind_item n c (Next y ∷ []) false, taken_in m n c (Next y ∷ []) i x first empty (open_of n ready) refl goes.0 (goes.1 m), item_out m n c y space))
+    (behind_item n c (Next y ∷ []) false, taken_in m n c (Next y ∷ []) i x first empty (open_of n ready) refl goes.0 (goes.1 m), item_out m n c y space))

@@ -1,5 +1,4 @@
-use Rattle.std.proofs.Common.{◌≡◌, ◌<◌, false, refl, sym, ◌∙◌, arith}
-use Rattle.rsx_types.specs.declared.signal.Signal.TheVariants.{Next}
+use Rattle.std.proofs.Common.{◌≡◌, ◌<◌, false, sym, ◌∙◌, arith}
 use Rattle.rsx_flat_map.specs.FlatMap.{flat_ended}
 use Rattle.rsx_flat_map.proofs.Taken.{lane_taken_in}
 use Rattle.rsx_flat_map.proofs.node.FlatMapNodeMachine.pass.Goals as goal
