@@ -1,9 +1,7 @@
 -- How the subscriptions of a graph stand together.
-use Rattle.std.proofs.Common.{◌≡◌, ℕ, ℤ, pos, negsuc, zero, suc, ◌+◌, ◌-◌, ◌<◌, ◌≤◌, List, [], ◌∷◌, ◌++◌, length, get_or, slice_get, refl, ap, sym, ◌∙◌, subst, arith, append_assoc, length-append, take, map, Option, Some, Result, Ok, Bool, true, false, ◌||◌, nat_eq, if◌then◌else◌, inl, inr}
+use Rattle.std.proofs.Common.{◌≡◌, ℕ, ℤ, pos, negsuc, zero, suc, ◌+◌, ◌-◌, ◌<◌, ◌≤◌, List, [], ◌∷◌, ◌++◌, length, get_or, slice_get, refl, ap, sym, ◌∙◌, subst, arith, append_assoc, map, Option, Some, Ok, Bool, true, false, ◌||◌, nat_eq, if◌then◌else◌, inl, inr}
 use Rattle.std.proofs.Math.ListN.{set}
 use Rattle.std.proofs.lemmas.Bool.Decides.{nat_tests}
-use Rattle.std.proofs.lemmas.List.{take_more, take_all, append-nil}
-use Rattle.rsx_model.specs.declared.expr.Expr.{Expr}
 use Rattle.rsx_types.specs.Meaning.{Meaning, Allocates}
 use Rattle.rsx_types.specs.Notes.{unchosen}
 use Rattle.rsx_types.specs.Stream.{Stream, signals_then, ended_by}
@@ -22,7 +20,6 @@ use Rattle.rsx_rooted.specs.declared.rooted.Pumped.{Pumped as Rest}
 use Rattle.rsx_rooted.specs.declared.rooted.Pumped.TheVariants.{Idle as Rests, Budget as Wakes}
 use Rattle.rsx_pipe.proofs.Signals.{some_same}
 use Rattle.rsx_tree.proofs.Alike.{or_left, or_right}
-use Rattle.rsx_hub.specs.Hub.{HubState}
 use Rattle.rsx_subscriber.specs.Moves.{IsNumbered}
 use Rattle.rsx_subscriber.specs.Past.{Past, given, requested, requested_in}
 use Rattle.rsx_subscriber.specs.Pumped.{IsPumped, IsMoved, Leads, IsQuiet, IsAwake, HasRested, given_all, to}
@@ -33,13 +30,9 @@ use Rattle.rsx_subscriber.specs.declared.subscription.Subscription.{Subscription
 use Rattle.rsx_subscriber.proofs.Moves.{leads_on}
 use Rattle.rsx_subscriber.proofs.Sentence.{owes}
 use Rattle.rsx_subscriber.proofs.Serving.{quiet_move}
-use Rattle.rsx_history.specs.declared.refusal.Refusal.{Refusal}
-use Rattle.rsx_history.specs.declared.step.Step.{Step}
-use Rattle.rsx_history.specs.declared.step.Answer.{Answer}
-use Rattle.rsx_history.specs.History.{History, published, Belongs, AllBelong, IsSubscribeRefusal, IsMakeRefusal, changed, extended, all_extended, delivered, pasts_after, HasAsked, state_at, tree_of}
-use Rattle.rsx_history.specs.Done.{IsDone, AllDone}
+use Rattle.rsx_history.specs.History.{published, changed, pasts_after, HasAsked, state_at, tree_of}
 use Rattle.rsx_history.specs.Pumped.{AllPumped, IsSubMoveMade, AreQuiet, HasRestedAt, IsSubAwake}
-use Rattle.rsx_history.specs.Stands.{AllStand, GraphState, HubsStand, IsAsideSame, StandsFor, all_taken, pump_allocates, allocates_at, IsMade, enabled_in_tree, enabled_at, OwedAt}
+use Rattle.rsx_history.specs.Stands.{AllStand, pump_allocates, allocates_at, IsMade, enabled_in_tree, enabled_at, OwedAt}
 
 pub AllStand-push : {T : Type 0} (m : Meaning T) (published : List (Stream T)) (subs : List (Subscription T)) (pasts : List (Past T)) (s : Subscription T) (p : Past T) → Stands m published s p → AllStand m published subs pasts → AllStand m published (subs ++ s ∷ []) (pasts ++ p ∷ [])
 AllStand-push m published [] [] s p k h = (k, tt)
@@ -64,12 +57,6 @@ pub AllStand-moved : {T : Type 0} (m : Meaning T) (published : List (Stream T)) 
 AllStand-moved {T} m published subs pasts i old new lt e k h =
     let P : List (Past T) → Type 0 = λ ps. AllStand m published (set subs i new) ps in
     subst P (changed_same pasts i) (AllStand-set m published (λ p. p) subs pasts i old new lt e k h)
-
-pub all_extended-more : {T : Type 0} (h : History T) (steps : List (Step T)) (answers : List (Answer T)) (s : Step T) (a : Answer T) → length steps ≡ length answers → all_extended h (steps ++ s ∷ []) (answers ++ a ∷ []) ≡ extended (all_extended h steps answers) s a
-all_extended-more h [] [] s a e = refl
-all_extended-more h (t ∷ steps) (b ∷ answers) s a e = all_extended-more (extended h t b) steps answers s a (omega arith)
-all_extended-more h [] (b ∷ answers) s a e = absurd (omega arith)
-all_extended-more h (t ∷ steps) [] s a e = absurd (omega arith)
 
 pub count_same : {T : Type 0} (m : Meaning T) (published : List (Stream T)) (subs : List (Subscription T)) (pasts : List (Past T)) → AllStand m published subs pasts → length subs ≡ length pasts
 count_same m published [] [] h = refl
@@ -213,9 +200,6 @@ pumped_on {T} m n k s1 s2 s3 o1 o2 o3 a b = record {
   alike = λ p. b.alike p ∙ a.alike p;
 }
 
-pub pumped_none : {T : Type 0} (m : Meaning T) (s : List (Subscription T)) (o : List (SubId × Signal T)) → AllPumped m 0 s o s o
-pumped_none m s o = record { signals = []; output = sym (append-nil o); moves = (refl, refl); stands = λ published ps k. k; alike = λ a. refl }
-
 -- ---- no enabled move, and some
 
 -- one subscription more is quiet
@@ -226,9 +210,6 @@ quiet_there {T} m (x ∷ subs) zero new q h zero l s e = let P : Subscription T 
 quiet_there m (x ∷ subs) zero new q h (suc j) l s e = absurd (omega arith)
 quiet_there m (x ∷ subs) (suc i) new q h zero l s e = h 0 (omega arith) s e
 quiet_there m (x ∷ subs) (suc i) new q h (suc j) l s e = quiet_there m subs i new q (λ k lt t is. h (suc k) (omega arith) t is) j (omega arith) s e
-
-pub none_quiet : {T : Type 0} (m : Meaning T) (subs : List (Subscription T)) → AreQuiet m subs 0
-none_quiet m subs j l s e = absurd (omega arith)
 
 -- the first so many are all of them
 pub quiet_up_to : {T : Type 0} (m : Meaning T) (subs : List (Subscription T)) (n : ℕ) → length subs ≤ n → AreQuiet m subs n → AreQuiet m subs (length subs)
@@ -279,10 +260,6 @@ rested_there E m budget n i subs old new Wakes lt h = (h.0, any_awake m (set sub
     set_got (x ∷ xs) zero a l = refl
     set_got (x ∷ xs) (suc i) a l = set_got xs i a (omega arith)
 
--- the same functions mean the same
-pub rested_same : {T : Type 0} (m m' : Meaning T) (budget n i : ℕ) (olds news : List (Subscription T)) (r : Result Rest Refusal) → m' ≡ m → HasRestedAt m' budget n olds i news r → HasRestedAt m budget n olds i news r
-rested_same {T} m m' budget n i olds news r e h = let P : Meaning T → Type 0 = λ k. HasRestedAt k budget n olds i news r in subst P e h
-
 -- ---- what is owed
 
 pub owed_open : {T : Type 0} (m : Meaning T) (taken waiting : List (Stream T)) (subs : List (Subscription T)) (pasts : List (Past T)) (i : ℕ) (sub : Subscription T) (v : Stream T) → i < length subs → get_or subs i sub ≡ sub → standing_of sub ≡ Open →
@@ -298,9 +275,6 @@ owed_open {T} m taken waiting (s ∷ subs) (p ∷ pasts) zero sub v lt e o w h =
     subst R (sym o ∙ k.state) w'
 owed_open m taken waiting (s ∷ subs) (p ∷ pasts) (suc i) sub v lt e o w h = owed_open m taken waiting subs pasts i sub v (omega arith) e o w h.1
 
-pub owed_whole : {T : Type 0} (m : Meaning T) (taken waiting : List (Stream T)) (subs : List (Subscription T)) (h : History T) (i : ℕ) (v : Stream T) → values_then taken waiting ≡ published h → OwedAt m (values_then taken waiting) subs h.pasts i v → OwedAt m (published h) subs h.pasts i v
-owed_whole {T} m taken waiting subs h i v whole w = let P : List (Stream T) → Type 0 = λ l. OwedAt m l subs h.pasts i v in subst P whole w
-
 pub owed_none : {T : Type 0} (m : Meaning T) (published taken : List (Stream T)) (subs : List (Subscription T)) (pasts : List (Past T)) (i : ℕ) (sub : Subscription T) (v : Stream T) → i < length subs → get_or subs i sub ≡ sub → (standing_of sub ≡ Open → ⊥) → v ≡ ended_by NotEnded → AllStand m taken subs pasts → OwedAt m published subs pasts i v
 owed_none m published taken [] pasts i sub v lt e o w h = absurd (omega arith)
 owed_none m published taken (s ∷ subs) [] i sub v lt e o w h = absurd h
@@ -315,73 +289,6 @@ owed_none {T} m published taken (s ∷ subs) (p ∷ pasts) zero sub v lt e o w h
     by_state Cancelled n = w
     by_state Refused n = w
 owed_none m published taken (s ∷ subs) (p ∷ pasts) (suc i) sub v lt e o w h = owed_none m published taken subs pasts i sub v (omega arith) e o w h.1
-
--- ---- a list of steps
-
-pub AllBelong-more : {T : Type 0} (h : History T) (steps : List (Step T)) (answers : List (Answer T)) (s : Step T) (a : Answer T) → AllBelong h steps answers → Belongs (all_extended h steps answers) s a → AllBelong h (steps ++ s ∷ []) (answers ++ a ∷ [])
-AllBelong-more h [] [] s a k b = (b, tt)
-AllBelong-more h (t ∷ steps) (u ∷ answers) s a k b = (k.0, AllBelong-more (extended h t u) steps answers s a k.1 b)
-AllBelong-more h [] (u ∷ answers) s a k b = absurd k
-AllBelong-more h (t ∷ steps) [] s a k b = absurd k
-
-pub AllDone-more : {T : Type 0} (m : Meaning T) (a : Allocates) (old mid new : GraphState T) (steps : List (Step T)) (answers : List (Answer T)) (s : Step T) (r : Answer T) → AllDone m a old steps answers mid → IsDone m a mid s r new → AllDone m a old (steps ++ s ∷ []) (answers ++ r ∷ []) new
-AllDone-more {T} m a old mid new [] [] s r k d = let P : GraphState T → Type 0 = λ l. IsDone m a l s r new in (new, subst P k d, refl)
-AllDone-more m a old mid new (t ∷ steps) (u ∷ answers) s r k d = (k.0, k.1, AllDone-more m a k.0 mid new steps answers s r k.2 d)
-AllDone-more m a old mid new [] (u ∷ answers) s r k d = absurd k
-AllDone-more m a old mid new (t ∷ steps) [] s r k d = absurd k
-
--- what a list of steps with its answers has done so far
-pub record HasRun {T : Type 0} (m : Meaning T) (a : Allocates) (old new : GraphState T) (steps : List (Step T)) (answers : List (Answer T)) : Type 0 where
-  pub count : length steps ≡ length answers
-  pub stands : (h : History T) → StandsFor m old h → StandsFor m new (all_extended h steps answers)
-  pub belongs : (h : History T) → StandsFor m old h → AllBelong h steps answers
-  pub done : AllDone m a old steps answers new
-
-pub run_more : {T : Type 0} (m m' : Meaning T) (a a' : Allocates) (steps : List (Step T)) (i : ℕ) (s : Step T) (first before after : GraphState T) (answers answers' : List (Answer T)) (r : Answer T) →
-    m' ≡ m → a' ≡ a → i < length steps → s ≡ get_or steps i s → answers' ≡ answers ++ r ∷ [] →
-    HasRun m a first before (take i steps) answers →
-    ((h : History T) → StandsFor m' before h → StandsFor m' after (extended h s r)) →
-    ((h : History T) → StandsFor m' before h → Belongs h s r) →
-    IsDone m' a' before s r after →
-    HasRun m a first after (take (i + 1) steps) answers'
-run_more {T} m m' a a' steps i s first before after answers answers' r same alike lt at pushed k stands belongs done =
-    let taken : take (i + 1) steps ≡ take i steps ++ s ∷ [] = take_more steps i s lt ∙ ap (λ t. take i steps ++ t ∷ []) (sym at) in
-    let P : List (Step T) → Type 0 = λ l. HasRun m a first after l answers' in
-    let Q : List (Answer T) → Type 0 = λ l. HasRun m a first after (take i steps ++ s ∷ []) l in
-    let S : Meaning T → Type 0 = λ n. (h : History T) → StandsFor n before h → StandsFor n after (extended h s r) in
-    let B : Meaning T → Type 0 = λ n. (h : History T) → StandsFor n before h → Belongs h s r in
-    let D : Meaning T → Type 0 = λ n. IsDone n a' before s r after in
-    let E : Allocates → Type 0 = λ b. IsDone m b before s r after in
-    let stands' : (h : History T) → StandsFor m before h → StandsFor m after (extended h s r) = subst S same stands in
-    let belongs' : (h : History T) → StandsFor m before h → Belongs h s r = subst B same belongs in
-    let grown : HasRun m a first after (take i steps ++ s ∷ []) (answers ++ r ∷ []) = record {
-      count = simp (length-append) (omega (arith, k.count));
-      stands = λ h x. let G : History T → Type 0 = λ g. StandsFor m after g in subst G (sym (all_extended-more h (take i steps) answers s r k.count)) (stands' (all_extended h (take i steps) answers) (k.stands h x));
-      belongs = λ h x. AllBelong-more h (take i steps) answers s r (k.belongs h x) (belongs' (all_extended h (take i steps) answers) (k.stands h x));
-      done = AllDone-more m a first before after (take i steps) answers s r k.done (subst E alike (subst D same done));
-    } in
-    subst P (sym taken) (subst Q (sym pushed) grown)
-
-pub has_run_all : {T : Type 0} (m : Meaning T) (a : Allocates) (steps items : List (Step T)) (i : ℕ) (first after : GraphState T) (answers : List (Answer T)) → items ≡ steps → length items ≤ i → HasRun m a first after (take i items) answers → HasRun m a first after steps answers
-has_run_all {T} m a steps items i first after answers e l r =
-    let P : List (Step T) → Type 0 = λ s. HasRun m a first after s answers in
-    subst P (take_all i items l ∙ e) r
-
-pub has_run_none : {T : Type 0} (m : Meaning T) (a : Allocates) (subs : GraphState T) (steps : List (Step T)) (answers : List (Answer T)) → answers ≡ [] → HasRun m a subs subs (take 0 steps) answers
-has_run_none {T} m a subs steps answers e =
-    let P : List (Answer T) → Type 0 = λ l. HasRun m a subs subs [] l in
-    subst P (sym e) (record { count = refl; stands = λ h k. k; belongs = λ h k. tt; done = refl })
-
-pub pumped_same : {T : Type 0} (m m' : Meaning T) (n : ℕ) (s1 s2 : List (Subscription T)) (o1 o2 : List (SubId × Signal T)) → m' ≡ m → AllPumped m' n s1 o1 s2 o2 → AllPumped m n s1 o1 s2 o2
-pumped_same {T} m m' n s1 s2 o1 o2 e h = let P : Meaning T → Type 0 = λ k. AllPumped k n s1 o1 s2 o2 in subst P e h
-
--- ---- answers that belong to their steps
-
-pub subscribe_refusal : {T : Type 0} (n k a b : ℕ) (e : Expr T) (r : Refusal) → n ≡ k → a ≡ b → IsSubscribeRefusal n a e r → IsSubscribeRefusal k b e r
-subscribe_refusal {T} n k a b e r t s h =
-    let P : ℕ → Type 0 = λ i. IsSubscribeRefusal i b e r in
-    let Q : ℕ → Type 0 = λ i. IsSubscribeRefusal n i e r in
-    subst P t (subst Q s h)
 
 -- ---- the joins of all subscriptions
 
@@ -400,28 +307,3 @@ requested_joins n p = by_state p.state n
     by_state Ended n = refl
     by_state Cancelled n = refl
     by_state Refused n = refl
-
-joins_after : {T : Type 0} (ds : List (SubId × Signal T)) (ps : List (Past T)) → map (λ p. p.joins) (pasts_after ds ps) ≡ map (λ p. p.joins) ps
-joins_after [] ps = refl
-joins_after (d ∷ ds) ps = joins_after ds (changed (given d.1) ps d.0.0) ∙ joins_kept (given d.1) (λ p. refl) ps d.0.0
-
--- moves of subscriptions alone
-pub pumped_stands : {T : Type 0} (m : Meaning T) (n : ℕ) (old new : GraphState T) (before after : List (SubId × Signal T)) → (k : AllPumped m n old.subs before new.subs after) → IsAsideSame old new → (h : History T) → StandsFor m old h → StandsFor m new (delivered h k.signals)
-pumped_stands {T} m n old new before after k aside h s =
-    let H : List (HubState T) → Type 0 = λ l. HubsStand l h.hubs in
-    let A : List (HubState T) → Type 0 = λ l. AllStand m (all_taken l h.hubs) new.subs (pasts_after k.signals h.pasts) in
-    record {
-      hub = subst H (sym aside.0) s.hub;
-      all = subst A (sym aside.0) (k.stands (all_taken old.hubs h.hubs) h.pasts s.all);
-      joined = aside.1 ∙ (s.joined ∙ sym (joins_after k.signals h.pasts));
-    }
-
--- a refused step left all as it was
-pub state_same : {T : Type 0} (old new : GraphState T) → IsAsideSame old new → new.subs ≡ old.subs → new ≡ old
-state_same old new aside subs i = record { hubs = aside.0 i; subs = subs i; joins = aside.1 i }
-
-pub make_refusal : (hubs hubs' a b : ℕ) (enabled : Bool) (mv : Move) (r : Refusal) → hubs ≡ hubs' → a ≡ b → IsMakeRefusal hubs a enabled mv r → IsMakeRefusal hubs' b enabled mv r
-make_refusal hubs hubs' a b enabled mv r t s h =
-    let P : ℕ → Type 0 = λ n. IsMakeRefusal hubs' n enabled mv r in
-    let Q : ℕ → Type 0 = λ n. IsMakeRefusal n a enabled mv r in
-    subst P s (subst Q t h)

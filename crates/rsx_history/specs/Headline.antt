@@ -5,7 +5,6 @@ use Rattle.rsx_types.specs.Stream.{Stream}
 use Rattle.rsx_subscriber.specs.declared.subscription.Subscription.{Subscription}
 use Rattle.rsx_subscriber.specs.Holds.{Holds}
 use Rattle.rsx_subscriber.specs.Past.{Past}
-use Rattle.rsx_history.specs.History.{History, published}
 
 -- the sentence for each subscriber
 abbrev pub AllHold : {T : Type 0} → Meaning T → List (Stream T) → List (Subscription T) → List (Past T) → Type 0
@@ -13,7 +12,3 @@ AllHold m published [] [] = Unit {0}
 AllHold m published (s ∷ ss) (p ∷ ps) = Holds m published s p × AllHold m published ss ps
 AllHold m published [] (p ∷ ps) = ⊥
 AllHold m published (s ∷ ss) [] = ⊥
-
--- the sentence for a whole graph after a history
-abbrev pub Headline : {T : Type 0} → Meaning T → List (Subscription T) → History T → Type 0
-Headline m subs h = AllHold m (published h) subs h.pasts

@@ -1,11 +1,9 @@
 -- What the calls of a graph's hubs change, and why they are refused.
-use Rattle.std.specs.Prelude.{◌≡◌, ℕ, ◌≤◌, ◌<◌, Bool, true, false, ◌||◌, List, [], ◌∷◌, length, Option, Some, None, is_some, slice_get, slice_set}
+use Rattle.std.specs.Prelude.{◌≡◌, ℕ, ◌≤◌, ◌<◌, Bool, true, false, ◌||◌, List, [], ◌∷◌, length, Some, is_some, slice_get, slice_set}
 use Rattle.rsx_types.specs.declared.signal.Ending.{Ending}
 use Rattle.rsx_hub.specs.Hub.{HubState, accepted_items, accepts_items, emitted, ended_with, waiting}
 use Rattle.rsx_hub.specs.Waiting.{is_open}
 use Rattle.rsx_hub.specs.declared.TheConstants.{MOST_ACCEPTED}
-use Rattle.rsx_publishing.specs.Publishing.{IsAccepted as IsAcceptedBy, can_accept}
-use Rattle.rsx_history.specs.Stands.{GraphState}
 use Rattle.rsx_history.specs.declared.refusal.Refusal.{Refusal}
 use Rattle.rsx_history.specs.declared.refusal.Refusal.TheVariants.{UnknownHub, UnknownSub, Ended, Full, TooMany, BadExpr, NotEnabled, NoMemory}
 
@@ -42,39 +40,11 @@ IsEmitRefusal hubs count i (BadExpr k) = ⊥
 IsEmitRefusal hubs count i NotEnabled = ⊥
 IsEmitRefusal hubs count i NoMemory = ⊥
 
--- the same where a copy of the item is made first
-abbrev pub IsCopyRefusal : {T : Type 0} → List (HubState T) → ℕ → ℕ → Refusal → Type 0
-IsCopyRefusal hubs count i NoMemory = i < count
-IsCopyRefusal hubs count i UnknownHub = IsEmitRefusal hubs count i UnknownHub
-IsCopyRefusal hubs count i Ended = IsEmitRefusal hubs count i Ended
-IsCopyRefusal hubs count i TooMany = IsEmitRefusal hubs count i TooMany
-IsCopyRefusal hubs count i Full = IsEmitRefusal hubs count i Full
-IsCopyRefusal hubs count i UnknownSub = ⊥
-IsCopyRefusal hubs count i (BadExpr k) = ⊥
-IsCopyRefusal hubs count i NotEnabled = ⊥
-
 -- why a hub is not ended
 abbrev pub IsEndRefusal : {T : Type 0} → List (HubState T) → ℕ → ℕ → Refusal → Type 0
 IsEndRefusal hubs count i UnknownHub = count ≤ i
 IsEndRefusal hubs count i Ended = OfHub hubs i (λ h. is_open h.ending ≡ false)
 IsEndRefusal hubs count i r = ⊥
-
--- the hub with this number took its next signal in, which all subscriptions' readers of it got, and nothing else changed
-pub record IsAcceptedAt {T : Type 0} (i : ℕ) (old new : GraphState T) : Type 0 where
-  pub hub : HubState T
-  pub after : HubState T
-  pub there : slice_get old.hubs i ≡ Some hub
-  pub others : new.hubs ≡ slice_set old.hubs i after
-  pub effect : IsAcceptedBy i hub after old.subs new.subs
-  pub joins : new.joins ≡ old.joins
-
-abbrev pub accepts_in : {T : Type 0} → GraphState T → Option (HubState T) → ℕ → Bool
-accepts_in g None i = false
-accepts_in g (Some hub) i = can_accept i hub g.subs
-
--- whether it can
-abbrev pub accepts_at : {T : Type 0} → GraphState T → ℕ → Bool
-accepts_at g i = accepts_in g (slice_get g.hubs i) i
 
 -- a signal waits in the inbox of one of these hubs
 abbrev pub signals_wait : {T : Type 0} → List (HubState T) → Bool

@@ -9,8 +9,6 @@ use Rattle.rsx_subscriber.specs.declared.subscription.Subscription.{Subscription
 use Rattle.rsx_subscriber.specs.Holds.{IsServed}
 use Rattle.rsx_subscriber.specs.Past.{Past, IsLive}
 use Rattle.rsx_subscriber.specs.Stands.{evaluated}
-use Rattle.rsx_history.specs.History.{History, published}
-use Rattle.rsx_history.specs.Stands.{GraphState, StandsFor}
 
 -- a subscriber's expression reads no hub, or each node of its tree that reads one and offers nothing has got all that was published
 -- there
@@ -25,10 +23,6 @@ AllServed {T} m published (s ∷ ss) (p ∷ ps) =
     (IsLive p.state → HasGotAll m published s p → IsWithin s.part.tree → (v : Stream T) → evaluated m published p (notes_of s.part.tree) ≡ Some v → IsServed s p v) × AllServed m published ss ps
 AllServed m published [] (p ∷ ps) = ⊥
 AllServed m published (s ∷ ss) [] = ⊥
-
--- whatever history the subscriptions stand for, by it each live subscriber did
-abbrev pub IsAllServed : {T : Type 0} → Meaning T → GraphState T → Type 0
-IsAllServed {T} m graph = (h : History T) → StandsFor m graph h → AllServed m (published h) graph.subs h.pasts
 
 -- each node that reads a hub and offers nothing has got all that was published there
 abbrev pub AllHaveRead : {T : Type 0} → Meaning T → List (Stream T) → List (Subscription T) → Type 0

@@ -95,10 +95,6 @@ abbrev pub allocates_at : {T : Type 0} → Allocates → List (Subscription T) �
 allocates_at a [] i mv = false
 allocates_at a (s ∷ ss) i mv = if nat_eq i 0 then make_allocates a s mv else allocates_at a ss (i - 1) mv
 
-abbrev pub allocates_in_tree : {T : Type 0} → Allocates → List (Subscription T) → Tree → Move → Bool
-allocates_in_tree a subs (Sub i) mv = allocates_at a subs i.0 mv
-allocates_in_tree a subs (Feed h) mv = false
-
 -- ---- what the looks answer
 
 -- this is what the subscriber with this number is owed
@@ -108,26 +104,11 @@ OwedAt m published (s ∷ ss) (p ∷ ps) (suc i) v = OwedAt m published ss ps i 
 OwedAt m published [] ps i v = ⊥
 OwedAt m published (s ∷ ss) [] i v = ⊥
 
-abbrev pub IsOwed : {T : Type 0} → Meaning T → List (Subscription T) → History T → SubId → Stream T → Type 0
-IsOwed m subs h i v = OwedAt m (published h) subs h.pasts i.0 v
-
 -- these are the notes of a tree
 abbrev pub HasNotesAt : {T : Type 0} → List (Subscription T) → SubId → List Note → Type 0
 HasNotesAt {T} subs i ns = (s : Subscription T) × (slice_get subs i.0 ≡ Some s) × (ns ≡ notes_of s.part.tree)
 
-abbrev pub HasNotes : {T : Type 0} → List (Subscription T) → Tree → List Note → Type 0
-HasNotes subs (Sub i) ns = HasNotesAt subs i ns
-HasNotes subs (Feed h) ns = ⊥
-
 -- ---- what an edit changes
-
--- the hubs stay, and the joins of all subscriptions
-abbrev pub IsAsideSame : {T : Type 0} → GraphState T → GraphState T → Type 0
-IsAsideSame old new = (new.hubs ≡ old.hubs) × (new.joins ≡ old.joins)
-
--- the subscriptions stay, and their joins
-abbrev pub IsRestSame : {T : Type 0} → GraphState T → GraphState T → Type 0
-IsRestSame old new = (new.subs ≡ old.subs) × (new.joins ≡ old.joins)
 
 -- the subscription with this number took a request of n, and no other one changed
 pub record IsRequestedAt {T : Type 0} (i : ℕ) (n : ℤ) (subs news : List (Subscription T)) (o : Option (Signal T)) : Type 0 where
