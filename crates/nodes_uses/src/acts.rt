@@ -1,6 +1,6 @@
 //! What is done to a node, call by call, and what it answers.
 
-use crate::numbers::{PLENTY, SCARCE};
+use crate::numbers::{NO_LISTS, PLENTY, SCARCE};
 use rsx_sources::{Machine, NotMade, NotTaken};
 use rsx_types::{Ending, NoMemory, Note, Signal, StreamValue};
 use std::alloc::Global;
@@ -62,7 +62,8 @@ pub(crate) fn signal_of(ending: Ending) -> Option<Signal<i64>> {
     }
 }
 
-/// The node takes a signal, first without memory for what the functions make and then with it: where it found none, the signal came back.
+/// The node takes a signal, first without memory for what the functions make, then without memory for lists alone, and then with it: where
+/// it found none, the signal came back.
 /// Answers whether it took the signal.
 pub(crate) fn takes<M: Machine<Item = i64>>(
     alloc: Global,
@@ -71,7 +72,7 @@ pub(crate) fn takes<M: Machine<Item = i64>>(
     signal: Signal<i64>,
 ) -> Result<bool, NoMemory> {
     let mut signal = signal;
-    for ops in [SCARCE, PLENTY, PLENTY] {
+    for ops in [SCARCE, NO_LISTS, PLENTY, PLENTY] {
         match node.on_signal(alloc, &ops, input, signal) {
             Ok(()) => return Ok(true),
             Err(NotTaken::Busy(_)) => return Ok(false),
@@ -156,12 +157,28 @@ fn moves_signals<M: Machine<Item = i64>>(
     }
 }
 
+/// Whether the node makes a pick, at once or once there is memory.
+fn picks<M: Machine<Item = i64>>(
+    alloc: Global,
+    node: &mut M,
+    input: u64,
+    asked: u64,
+    sent: u64,
+) -> bool {
+    for _ in 0..2 {
+        match node.on_pick(alloc, &PLENTY, input, asked, sent) {
+            Ok(()) => return true,
+            Err(NotMade::NotEnabled) => return false,
+            Err(NotMade::NoMemory) => {}
+        }
+    }
+    false
+}
+
 /// Does what an act says about picks and rows. Answers whether the node answered so; true for other acts.
 fn chooses<M: Machine<Item = i64>>(alloc: Global, node: &mut M, act: Act) -> bool {
     match act {
-        Act::Picks(input, asked, sent) => {
-            node.on_pick(alloc, &PLENTY, input, asked, sent) == Ok(())
-        }
+        Act::Picks(input, asked, sent) => picks(alloc, node, input, asked, sent),
         Act::PicksWithoutMemory(input, asked, sent) => {
             node.on_pick(alloc, &SCARCE, input, asked, sent) == Err(NotMade::NoMemory)
         }

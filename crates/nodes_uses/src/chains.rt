@@ -1,7 +1,7 @@
 //! Chains, against lists that were computed by hand.
 
 use crate::acts::{Value, signal_of};
-use crate::numbers::{PLENTY, SCARCE};
+use crate::numbers::{NO_LISTS, PLENTY, SCARCE};
 use crate::rows::Received;
 use rsx_chain::{ChainState, Chaining, NewChain};
 use rsx_sources::OutSlot;
@@ -20,8 +20,8 @@ fn note_both(received: &mut Received, slot: OutSlot<i64>) -> Result<(), NoMemory
     Ok(())
 }
 
-/// The chain takes the signal, first without memory for accumulations and lists, and then with it; what comes out goes
-/// behind what came out before. Where it found no memory, the signal came back.
+/// The chain takes the signal, first without memory for accumulations and lists, then without memory for lists alone, and then with
+/// it; what comes out goes behind what came out before. Where it found no memory, the signal came back.
 fn give(
     alloc: Global,
     chain: &mut ChainState<i64>,
@@ -29,7 +29,7 @@ fn give(
     signal: Signal<i64>,
 ) -> Result<(), NoMemory> {
     let mut signal = signal;
-    for ops in [SCARCE, PLENTY, PLENTY] {
+    for ops in [SCARCE, NO_LISTS, PLENTY, PLENTY] {
         let mut out = OutSlot::new();
         match chain.react(alloc, &ops, signal, &mut out) {
             Ok(()) => return note_both(received, out),
@@ -101,9 +101,22 @@ fn answers(
 /// A failure that comes in.
 const FAILURE: Ending = Ending::Failed(Cause::User(3));
 
+/// Eight operators, with two lists and the keys of one `distinct` inside. Of 4 and 6 the accumulations are 1, 2, 2, 4 and 6, the lists of
+/// four of these 4 and 1, the accumulations of the two 0, 4 and 4, and the lists of two of those 2 and 1.
+pub(crate) const EIGHT_STAGES: [Stage<i64>; 8] = [
+    Stage::Scan(0, 0),
+    Stage::Scan(0, 2),
+    Stage::Scan(0, 1),
+    Stage::Buffer(4),
+    Stage::Distinct(0),
+    Stage::Scan(0, 0),
+    Stage::Buffer(2),
+    Stage::Take(3),
+];
+
 /// Operators, the first one innermost, what comes in, and what comes out: seeds go through the operators behind, a buffer gathers what a
 /// filter keeps, and operators go back where one behind finds no memory.
-const CHAINS: [(&[Stage<i64>], Value, Value); 5] = [
+const CHAINS: [(&[Stage<i64>], Value, Value); 6] = [
     (
         &[Stage::Scan(0, 2), Stage::Scan(0, 1)],
         (&[5, 3, 8], Ending::Done),
@@ -133,6 +146,11 @@ const CHAINS: [(&[Stage<i64>], Value, Value); 5] = [
         ],
         (&[5, 6, 1], Ending::Open),
         (&[0, 1, 1], Ending::Done),
+    ),
+    (
+        &EIGHT_STAGES,
+        (&[4, 6], Ending::Done),
+        (&[2, 1], Ending::Done),
     ),
 ];
 

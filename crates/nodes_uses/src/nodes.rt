@@ -1,9 +1,12 @@
 //! Nodes, call by call.
 
 use crate::acts::{Act, answered};
+use crate::chains::EIGHT_STAGES;
 use crate::numbers::PLENTY;
+use rsx_chain::copy_stages;
 use rsx_concat::ConcatNode;
 use rsx_crossing::Queued;
+use rsx_flat_map::FlatMapNode;
 use rsx_group_by::GroupByNode;
 use rsx_lanes::MAIN;
 use rsx_latest::CombineLatestNode;
@@ -212,6 +215,44 @@ const GROUP_LISTS: [Act; 12] = [
     Act::Recorded(&[0, 0, 0]),
 ];
 
+/// Lanes of eight operators with lists and keys inside, in which each growth is refused before it is made: 5 and 7 come for one key, and
+/// 1 for the other. The first lane's completion gives out the lists that were begun.
+const GROUP_STAGES: [Act; 15] = [
+    Act::Takes(0, 5),
+    Act::Picks(0, 9, 0),
+    Act::Gives(2),
+    Act::Takes(0, 7),
+    Act::Takes(0, 1),
+    Act::Picks(1, 9, 1),
+    Act::Gives(2),
+    Act::Ends(0, Ending::Done),
+    Act::Picks(MAIN, 9, 2),
+    Act::PicksWithoutMemory(0, 9, 2),
+    Act::Picks(0, 9, 2),
+    Act::Gives(1),
+    Act::Picks(0, 9, 3),
+    Act::Picks(1, 9, 3),
+    Act::GivesEnding(Ending::Done),
+];
+
+/// The node `flatMap` with such lanes: each item comes twice, and its lane is made when the item comes in.
+const FLAT_STAGES: [Act; 14] = [
+    Act::Takes(0, 4),
+    Act::Takes(0, 5),
+    Act::Picks(0, 9, 0),
+    Act::Gives(2),
+    Act::Picks(1, 9, 1),
+    Act::Gives(2),
+    Act::Picks(0, 9, 2),
+    Act::Gives(1),
+    Act::Picks(0, 9, 3),
+    Act::Ends(0, Ending::Done),
+    Act::Picks(1, 9, 3),
+    Act::Gives(1),
+    Act::Picks(1, 9, 4),
+    Act::Recorded(&[0, 1, 0, 0, 1, 1]),
+];
+
 /// A fault of the key is the input's failure, and what comes in behind it is let go.
 const GROUP_FAULT: [Act; 5] = [
     Act::Takes(0, 5),
@@ -314,6 +355,23 @@ fn each_key_has_a_lane(rt: HostRuntime) -> Result<(), Fail> {
     assert_eq!(rt;
         answered(rt.alloc(), node, &GROUP_FAULT)?,
         GROUP_FAULT.len()
+    );
+    Ok(())
+}
+
+#[test]
+fn lanes_of_eight_operators(rt: HostRuntime) -> Result<(), Fail> {
+    let stages = copy_stages(rt.alloc(), &PLENTY, &EIGHT_STAGES)?;
+    let node = Ok(GroupByNode::new(rt.alloc(), 0, stages));
+    assert_eq!(rt;
+        answered(rt.alloc(), node, &GROUP_STAGES)?,
+        GROUP_STAGES.len()
+    );
+    let stages = copy_stages(rt.alloc(), &PLENTY, &EIGHT_STAGES)?;
+    let node = Ok(FlatMapNode::new(rt.alloc(), 0, 2, stages));
+    assert_eq!(rt;
+        answered(rt.alloc(), node, &FLAT_STAGES)?,
+        FLAT_STAGES.len()
     );
     Ok(())
 }

@@ -1,6 +1,7 @@
 //! Plain operators and windows as nodes, against lists that were computed by hand.
 
 use crate::acts::{Value, given, leaves, signal_of, takes};
+use crate::chains::EIGHT_STAGES;
 use crate::numbers::PLENTY;
 use rsx_plain::PlainNode;
 use rsx_sources::{Machine, RangeNode};
@@ -140,7 +141,7 @@ fn operators(rt: HostRuntime) -> Result<(), Fail> {
 }
 
 /// Windows of two items, each of which has a chain of its own. A list that was started is dropped at a failure.
-const WINDOWS: [(&[Stage<i64>], Value, Value); 3] = [
+const WINDOWS: [(&[Stage<i64>], Value, Value); 5] = [
     (
         &[Stage::Scan(0, 0)],
         (&[1, 2, 3], Ending::Done),
@@ -152,6 +153,12 @@ const WINDOWS: [(&[Stage<i64>], Value, Value); 3] = [
         (&[2, 1], Ending::Done),
     ),
     (&[Stage::Buffer(5)], (&[1, 2, 3], FAILURE), (&[2], FAILURE)),
+    (
+        &EIGHT_STAGES,
+        (&[4, 6, 5], Ending::Done),
+        (&[2, 1, 2], Ending::Done),
+    ),
+    (&EIGHT_STAGES, (&[4, 6, 5], FAILURE), (&[2, 1, 2], FAILURE)),
 ];
 
 #[test]
