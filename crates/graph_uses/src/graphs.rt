@@ -93,6 +93,35 @@ fn range_delivers_all(alloc: Global) -> Result<bool, Refusal> {
     delivers_all(alloc, &mut graph)
 }
 
+/// `publishOn 1 4 (range 1 5)`.
+fn on_a_worker(alloc: Global) -> Result<Expr<Val>, NoMemory> {
+    let range = Box::new(alloc, Expr::Range(1, 5))?;
+    Ok(Expr::On(1, 4, range))
+}
+
+/// `map double` over it.
+fn over_a_worker(alloc: Global) -> Result<Expr<Val>, NoMemory> {
+    let below = Box::new(alloc, on_a_worker(alloc)?)?;
+    Ok(Expr::Plain(Stage::Map(2), below))
+}
+
+/// The region of a subscription to this.
+fn region(alloc: Global, expr: &Expr<Val>) -> Result<u8, Refusal> {
+    let mut graph = Graph::new(alloc, Demo)?;
+    let sub = graph.subscribe(alloc, expr)?;
+    graph.region(sub)
+}
+
+#[test]
+fn a_subscription_is_in_the_region_of_its_root(rt: HostRuntime) -> Result<(), NoMemory> {
+    let on = on_a_worker(rt.alloc())?;
+    let over = over_a_worker(rt.alloc())?;
+    assert_eq!(rt; region(rt.alloc(), &Expr::Range(1, 5)), Ok(0));
+    assert_eq!(rt; region(rt.alloc(), &on), Ok(1));
+    assert_eq!(rt; region(rt.alloc(), &over), Ok(1));
+    Ok(())
+}
+
 #[test]
 fn a_list_of_deliveries_is_used_again(rt: HostRuntime) -> Result<(), Refusal> {
     assert!(rt; range_delivers_all(rt.alloc())?);

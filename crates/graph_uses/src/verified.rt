@@ -72,6 +72,19 @@ fn counted<O: Ops>(alloc: Global, ops: O) -> Result<(usize, usize), VerifyRefusa
     Ok((lines.len(), held.count()))
 }
 
+/// How many lines on `publishOn 1 4 (range 1 5)` say that a rule is broken.
+fn broken_on_a_worker(alloc: Global) -> Result<usize, VerifyRefusal> {
+    let range = Box::new(alloc, Expr::Range(1, 5))?;
+    let lines = verify(alloc, Demo, &Expr::On(1, 4, range))?;
+    let broken = lines.iter().filter(|line| line.run > 0);
+    Ok(broken.count())
+}
+
+#[test]
+fn signals_of_a_worker_keep_the_rules(rt: HostRuntime) {
+    assert_eq!(rt; broken_on_a_worker(rt.alloc()), Ok(0));
+}
+
 #[test]
 fn an_expression_is_judged(rt: HostRuntime) {
     assert_eq!(rt; counted(rt.alloc(), Demo), Ok((43, 13)));

@@ -26,6 +26,7 @@ use Rattle.rsx_feed_edits.specs.Joins.{AreFeedJoins, HasFeedJoins, JoinsStand}
 use Rattle.rsx_feed_edits.specs.Publishes.{published_at, published_from, with_published}
 use Rattle.rsx_feed_edits.proofs.Behind.{last_or, still_there}
 use Rattle.rsx_feed_edits.proofs.Subscribed.{new_joins_there}
+use Rattle.rsx_feed_edits.specs.Regions.{region_in}
 
 -- ---- a feed behind the others
 
@@ -124,23 +125,28 @@ joins_same {T} feeds gs sub_joins feed_joins h k same joins sources j = record {
         let P : Source T → Type 0 = λ src. HasFeedJoins feeds feed_joins i src in
         moved i p.source (subst P was.2 (j.fed i was.0 was.1))
 
-kept_changed : {A B : Type 0} (g : A → B) (f : A → A) → ((a : A) → g (f a) ≡ g a) → (xs : List A) (i : ℕ) → map g (changed f xs i) ≡ map g xs
+pub kept_changed : {A B : Type 0} (g : A → B) (f : A → A) → ((a : A) → g (f a) ≡ g a) → (xs : List A) (i : ℕ) → map g (changed f xs i) ≡ map g xs
 kept_changed g f k [] i = refl
 kept_changed g f k (x ∷ xs) zero = ap (λ b. b ∷ map g xs) (k x)
 kept_changed g f k (x ∷ xs) (suc i) = ap (λ l. g x ∷ l) (kept_changed g f k xs i)
 
--- what a move adds to the history changes neither
+-- what a move adds to the history changes none of these
 pub record AreKept {T : Type 0} (h k : History T) : Type 0 where
   pub joins : map (λ p. p.joins) k.pasts ≡ map (λ p. p.joins) h.pasts
+  pub regions : map region_in k.pasts ≡ map region_in h.pasts
   pub sources : map (λ p. p.source) k.hubs ≡ map (λ p. p.source) h.hubs
 
 kept_delivery : {T : Type 0} (o : Option (SubId × Signal T)) (h : History T) → AreKept h (with_delivery o h)
-kept_delivery None h = record { joins = refl; sources = refl }
-kept_delivery (Some d) h = record { joins = kept_changed (λ p. p.joins) (given d.1) (λ p. refl) h.pasts d.0.0; sources = refl }
+kept_delivery None h = record { joins = refl; regions = refl; sources = refl }
+kept_delivery (Some d) h = record {
+  joins = kept_changed (λ p. p.joins) (given d.1) (λ p. refl) h.pasts d.0.0;
+  regions = kept_changed region_in (given d.1) (λ p. refl) h.pasts d.0.0;
+  sources = refl;
+}
 
 kept_sent : {T : Type 0} (s : Option (Signal T)) (i : ℕ) (h : History T) → AreKept h (with_sent s i h)
-kept_sent None i h = record { joins = refl; sources = refl }
-kept_sent (Some s) i h = record { joins = refl; sources = kept_changed (λ p. p.source) (sent_at s) (λ p. refl) h.hubs i }
+kept_sent None i h = record { joins = refl; regions = refl; sources = refl }
+kept_sent (Some s) i h = record { joins = refl; regions = refl; sources = kept_changed (λ p. p.source) (sent_at s) (λ p. refl) h.hubs i }
 
 kept_moved : {T : Type 0} (t : Tree) (o : Option (SubId × Signal T)) (s : Option (Signal T)) (h : History T) → AreKept h (with_moved t o s h)
 kept_moved (Sub i) o s h = kept_delivery o h
@@ -152,7 +158,7 @@ kept_made (Send t n) o s h = kept_moved t o s h
 kept_made (Take t n) o s h = kept_moved t o s h
 kept_made (Pick t n i) o s h = kept_moved t o s h
 kept_made (Row t n) o s h = kept_moved t o s h
-kept_made (Accept i) o s h = record { joins = refl; sources = kept_changed (λ p. p.source) accepted_at (λ p. refl) h.hubs i.0 }
+kept_made (Accept i) o s h = record { joins = refl; regions = refl; sources = kept_changed (λ p. p.source) accepted_at (λ p. refl) h.hubs i.0 }
 
 -- ---- what is published
 

@@ -11,12 +11,14 @@ use Rattle.rsx_leaves.specs.Leaves.{HaveJoinedFrom}
 use Rattle.rsx_model.specs.declared.expr.Expr.{Expr}
 use Rattle.rsx_pipe.specs.Built.{joins_now, leaf_joins, new_joins}
 use Rattle.rsx_pipe.specs.Published.{AreTaken}
+use Rattle.rsx_region.specs.Region.{region_of}
 use Rattle.rsx_subscriber.specs.Past.{subscribed}
 use Rattle.rsx_subscriber.specs.Stands.{Stands}
 use Rattle.rsx_subscriber.specs.declared.subscription.Subscription.{Subscription}
 use Rattle.rsx_types.specs.Meaning.{Meaning}
 use Rattle.rsx_feed_edits.specs.Edits.{joins_in}
 use Rattle.rsx_feed_edits.specs.Joins.{JoinsStand}
+use Rattle.rsx_feed_edits.specs.Regions.{RegionsStand, region_in}
 use Rattle.rsx_feed_edits.specs.Subscribing.{with_subscriber}
 use Rattle.rsx_feed_edits.proofs.Fed.{as_taken, hub_joined, members_count}
 
@@ -49,3 +51,8 @@ joins_made m e old joins news feed_joins h is s k =
       subs = is ∙ (ap (λ l. l ++ new_joins old.hubs e ∷ []) k.subs ∙ (ap (λ js. map (λ p. p.joins) h.pasts ++ js ∷ []) same ∙ sym (map_last (λ p. p.joins) h.pasts (subscribed e (joins_in h e)))));
       fed = k.fed;
     }
+
+-- and so does its region, behind those of the others
+pub regions_made : {T : Type 0} (e : Expr T) (regions news : List ℕ) (h : History T) → news ≡ regions ++ region_of e ∷ [] → RegionsStand regions h → RegionsStand news (with_subscriber e h)
+regions_made e regions news h is k =
+    is ∙ (ap (λ l. l ++ region_of e ∷ []) k ∙ sym (map_last region_in h.pasts (subscribed e (joins_in h e))))

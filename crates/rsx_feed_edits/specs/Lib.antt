@@ -2,5 +2,6 @@
 pub mod Edits
 pub mod Joins
 pub mod Publishes
+pub mod Regions
 pub mod Requests
 pub mod Subscribing

@@ -1,14 +1,16 @@
 -- Graphs go on standing for what has happened: the joins that they keep, and the hubs that their feeds name.
-use Rattle.std.proofs.Common.{◌≡◌, ℕ, ◌≤◌, List, [], ◌∷◌, length, map, Option, Result, Ok, Err, IfOk, OnOk, OnErr, refl, ap, sym, ◌∙◌, subst}
+use Rattle.std.proofs.Common.{◌≡◌, ℕ, ◌≤◌, ℤ, zero, suc, pos, negsuc, List, [], ◌∷◌, length, map, slice_get, Option, Some, Result, Ok, Err, IfOk, OnOk, OnErr, refl, ap, sym, ◌∙◌, subst}
+use Rattle.std.proofs.lemmas.Option.{same_Some}
 use Rattle.rsx_feed_driving.proofs.Keeping.{KeepHubs, lead_keep, moved_keep}
 use Rattle.rsx_feed_driving.specs.Moves.{IsMoved}
 use Rattle.rsx_feed_driving.proofs.Serving.{rows_served}
 use Rattle.rsx_feed_driving.specs.Pumped as driving
 use Rattle.rsx_feed_driving.specs.Pumped.{HasEnded, LeadTo, Made, after_moves}
-use Rattle.rsx_feed_edits.proofs.Kept.{joins_same, kept_made}
+use Rattle.rsx_feed_edits.proofs.Kept.{joins_same, kept_changed, kept_made}
 use Rattle.rsx_feed_edits.proofs.Names.{names_kept}
 use Rattle.rsx_feed_edits.specs.Edits.{NameHubs}
 use Rattle.rsx_feed_edits.specs.Joins.{JoinsStand}
+use Rattle.rsx_feed_edits.specs.Regions.{HasRegion, RegionsStand, region_in}
 use Rattle.rsx_feed_edits.specs.Requests.{with_past}
 use Rattle.rsx_feeding.specs.History.{History, with_made}
 use Rattle.rsx_feeding.specs.Moves.{rows_of}
@@ -21,7 +23,9 @@ use Rattle.rsx_history.specs.declared.step.Pumped.TheVariants.{Idle}
 use Rattle.rsx_hub.specs.Hub.{HubState}
 use Rattle.rsx_publishing.specs.declared.feed.Feed.{Feed}
 use Rattle.rsx_subscriber.specs.Delivered.{Delivered}
-use Rattle.rsx_subscriber.specs.Past.{Past}
+use Rattle.rsx_subscriber.specs.Past.{Past, requested, requested_in}
+use Rattle.rsx_subscriber.specs.declared.state.SubscriptionState.{SubscriptionState}
+use Rattle.rsx_subscriber.specs.declared.state.SubscriptionState.TheVariants.{Open, Ended, Cancelled, Refused}
 use Rattle.rsx_subscriber.specs.declared.subscription.Subscription.{Subscription}
 use Rattle.rsx_types.specs.Meaning.{Meaning}
 use Rattle.rsx_types.specs.declared.names.Move.{Move}
@@ -33,15 +37,16 @@ use Rattle.rsx_graph.specs.Stands.{GraphStands, GraphState, IsAllServed, nothing
 use Rattle.rsx_graph.specs.Steps.{no_history}
 use Rattle.rsx_graph.proofs.Reading.{hubs_quiet, rows_read}
 
--- a graph of these rows and joins
-abbrev pub state_with : {T : Type 0} → List (HubState T) → List (Feed T) → List (Subscription T) → List (List ℕ) → List (List ℕ) → GraphState T
-state_with hubs feeds subs joins feed_joins = record { rows = rows_of hubs feeds subs; joins = joins; feed_joins = feed_joins }
+-- a graph of these rows, joins and regions
+abbrev pub state_with : {T : Type 0} → List (HubState T) → List (Feed T) → List (Subscription T) → List (List ℕ) → List (List ℕ) → List ℕ → GraphState T
+state_with hubs feeds subs joins feed_joins regions = record { rows = rows_of hubs feeds subs; joins = joins; feed_joins = feed_joins; regions = regions }
 
 -- one that has just begun stands for nothing that has happened
 pub begun : {T : Type 0} (m : Meaning T) → GraphStands m nothing no_history
 begun m = record {
   rows = record { taken = []; many = refl; each = refl; hub = λ i v s p a b c. cc; all = tt };
   joined = record { subs = refl; fed = λ i p e. cc };
+  placed = refl;
 }
 
 pub begun_from : {T : Type 0} (m : Meaning T) (g : GraphState T) → g ≡ nothing → GraphStands m g no_history
@@ -64,6 +69,41 @@ pub moved_joins : {T : Type 0} (m : Meaning T) (old new : Rows T) (moves : List 
 moved_joins {T} m old new [] joins feed_joins h lead j = let P : Rows T → Type 0 = λ g. JoinsStand g.feeds joins feed_joins h in subst P (sym lead) j
 moved_joins m old new (d ∷ ds) joins feed_joins h lead j =
     moved_joins m lead.0 new ds joins feed_joins (with_made d.move d.delivered d.fed h) lead.2 (made_joins m d.move d.delivered d.fed old lead.0 joins feed_joins h lead.1.effect j)
+
+-- ---- the regions
+
+-- what subscribers did
+pub past_regions : {T : Type 0} (f : Past T → Past T) (i : SubId) (regions : List ℕ) (h : History T) → ((p : Past T) → region_in (f p) ≡ region_in p) → RegionsStand regions h → RegionsStand regions (with_past f i h)
+past_regions f i regions h keeps k = k ∙ sym (kept_changed region_in f keeps h.pasts i.0)
+
+pub requested_region : {T : Type 0} (n : ℤ) (p : Past T) → region_in (requested n p) ≡ region_in p
+requested_region n p = by_state p.state n
+  where
+    by_state : (s : SubscriptionState) (n : ℤ) → region_in (requested_in s n p) ≡ region_in p
+    by_state Open (pos zero) = refl
+    by_state Open (pos (suc n)) = refl
+    by_state Open (negsuc n) = refl
+    by_state Ended n = refl
+    by_state Cancelled n = refl
+    by_state Refused n = refl
+
+-- one move
+pub made_regions : {T : Type 0} (mv : Move) (o : Option (SubId × Signal T)) (s : Option (Signal T)) (regions : List ℕ) (h : History T) → RegionsStand regions h → RegionsStand regions (with_made mv o s h)
+made_regions mv o s regions h k = k ∙ sym (kept_made mv o s h).regions
+
+-- many
+pub moved_regions : {T : Type 0} (moves : List (Made T)) (regions : List ℕ) (h : History T) → RegionsStand regions h → RegionsStand regions (after_moves h moves)
+moved_regions [] regions h k = k
+moved_regions (d ∷ ds) regions h k = moved_regions ds regions (with_made d.move d.delivered d.fed h) (made_regions d.move d.delivered d.fed regions h k)
+
+-- the region at one place
+got_region : {T : Type 0} (pasts : List (Past T)) (i r : ℕ) → slice_get (map region_in pasts) i ≡ Some r → HasRegion pasts i r
+got_region [] i r e = cc
+got_region (p ∷ pasts) zero r e = (p, refl, sym (same_Some (region_in p) r e))
+got_region (p ∷ pasts) (suc i) r e = got_region pasts i r e
+
+pub region_there : {T : Type 0} (regions : List ℕ) (h : History T) (i r : ℕ) → slice_get regions i ≡ Some r → RegionsStand regions h → HasRegion h.pasts i r
+region_there regions h i r there k = got_region h.pasts i r (ap (λ l. slice_get l i) (sym k) ∙ there)
 
 -- ---- the hubs that the feeds name
 
@@ -98,27 +138,27 @@ beside_fed olds news feeds fs js ks (Err e) made same before = ap length same.2 
 -- ---- runs of moves
 
 pub graph_pumped : {T : Type 0} (m : Meaning T) (budget : ℕ) (old : GraphState T) (before : Delivered T) (result : Result Pumped Refusal) (new : Rows T) (after : Delivered T) → driving.HasPumped m budget old.rows before result new after →
-    HasPumped m budget old before result (record { rows = new; joins = old.joins; feed_joins = old.feed_joins }) after
+    HasPumped m budget old before result (record { rows = new; joins = old.joins; feed_joins = old.feed_joins; regions = old.regions }) after
 graph_pumped m budget old before result new after k = record {
   moves = k.0;
   ends = k.1;
   lead = k.2.lead;
-  same = (refl, refl);
-  stands = λ h s. record { rows = k.2.stands h s.rows; joined = moved_joins m old.rows new k.0 old.joins old.feed_joins h k.2.lead s.joined };
+  same = (refl, refl, refl);
+  stands = λ h s. record { rows = k.2.stands h s.rows; joined = moved_joins m old.rows new k.0 old.joins old.feed_joins h k.2.lead s.joined; placed = moved_regions k.0 old.regions h s.placed };
   output = k.3;
 }
 
 -- where no move is enabled any more, each live subscriber was served
-pub idle_served : {T : Type 0} (m : Meaning T) (budget : ℕ) (old new : Rows T) (before after : Delivered T) (p : Pumped) (joins feed_joins : List (List ℕ)) → driving.HasPumped m budget old before (Ok p) new after → p ≡ Idle → IsAllServed m (record { rows = new; joins = joins; feed_joins = feed_joins })
-idle_served {T} m budget old new before after p joins feed_joins k idle =
+pub idle_served : {T : Type 0} (m : Meaning T) (budget : ℕ) (old new : Rows T) (before after : Delivered T) (p : Pumped) (joins feed_joins : List (List ℕ)) (regions : List ℕ) → driving.HasPumped m budget old before (Ok p) new after → p ≡ Idle → IsAllServed m (record { rows = new; joins = joins; feed_joins = feed_joins; regions = regions })
+idle_served {T} m budget old new before after p joins feed_joins regions k idle =
     let P : Pumped → Type 0 = λ q. HasEnded m budget (length k.0) new (Ok q) in
     λ h s. rows_served m new h s.rows (subst P idle k.1).1
 
 -- and each node that reads a hub and offers nothing has got all that was published there, where each hub in front of which a signal waits
 -- has one reader at most
-pub idle_read : {T : Type 0} (m : Meaning T) (budget : ℕ) (old new : Rows T) (before after : Delivered T) (p : Pumped) (joins feed_joins : List (List ℕ)) → length new.hubs ≤ MOST_HUBS → driving.HasPumped m budget old before (Ok p) new after → p ≡ Idle →
-    IsAllRead m (record { rows = new; joins = joins; feed_joins = feed_joins })
-idle_read {T} m budget old new before after p joins feed_joins few k idle =
+pub idle_read : {T : Type 0} (m : Meaning T) (budget : ℕ) (old new : Rows T) (before after : Delivered T) (p : Pumped) (joins feed_joins : List (List ℕ)) (regions : List ℕ) → length new.hubs ≤ MOST_HUBS → driving.HasPumped m budget old before (Ok p) new after → p ≡ Idle →
+    IsAllRead m (record { rows = new; joins = joins; feed_joins = feed_joins; regions = regions })
+idle_read {T} m budget old new before after p joins feed_joins regions few k idle =
     let P : Pumped → Type 0 = λ q. HasEnded m budget (length k.0) new (Ok q) in
     λ h s wait within. rows_read m new h s.rows wait (hubs_quiet m new few (subst P idle k.1).1) within
 

@@ -22,12 +22,13 @@ use Rattle.rsx_graph.specs.declared.step.Step.{Step}
 
 -- ---- what a graph stands for
 
--- its hubs, feeds and subscriptions, and their joins
+-- its hubs, feeds and subscriptions, their joins, and their regions
 abbrev pub state_of : {O T : Type 0} {b : Ops O T} → Graph O T b → GraphState T
 state_of graph = record {
   rows = rows_of graph.hubs.items graph.feeds.items graph.subscriptions.items;
   joins = map (λ v. v.items) graph.joins.items;
   feed_joins = map (λ v. v.items) graph.feed_joins.items;
+  regions = graph.regions.items;
 }
 
 -- of each history for which the graph stands, this holds

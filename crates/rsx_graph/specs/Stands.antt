@@ -4,25 +4,29 @@ use Rattle.std.specs.Coded.{×_prop, Unit-prop, le_prop}
 use Rattle.rsx_feed_driving.specs.Served.{IsServed}
 use Rattle.rsx_feed_edits.specs.Edits.{NameHubs}
 use Rattle.rsx_feed_edits.specs.Joins.{JoinsStand}
+use Rattle.rsx_feed_edits.specs.Regions.{RegionsStand}
 use Rattle.rsx_feeding.specs.History.{History}
 use Rattle.rsx_feeding.specs.Stands.{Rows, StandsFor}
 use Rattle.rsx_publishing.specs.declared.feed.Feed.{Feed}
 use Rattle.rsx_types.specs.Meaning.{Meaning}
 
--- its hubs, feeds and subscriptions in rows, and the joins of the leaves of each subscription and of each feed, in the same order
+-- its hubs, feeds and subscriptions in rows, the joins of the leaves of each subscription and of each feed, and the region of each
+-- subscription, in the same order
 pub record GraphState (T : Type 0) : Type 0 where
   pub rows : Rows T
   pub joins : List (List ℕ)
   pub feed_joins : List (List ℕ)
+  pub regions : List ℕ
 
 -- a graph that has just begun
 abbrev pub nothing : {T : Type 0} → GraphState T
-nothing = record { rows = record { hubs = []; feeds = []; subs = [] }; joins = []; feed_joins = [] }
+nothing = record { rows = record { hubs = []; feeds = []; subs = [] }; joins = []; feed_joins = []; regions = [] }
 
--- a graph stands for a history: its rows do, and the joins that it keeps are those of the history
+-- a graph stands for a history: its rows do, and the joins and the regions that it keeps are those of the history
 pub record GraphStands {T : Type 0} (m : Meaning T) (g : GraphState T) (h : History T) : Type 0 where
   pub rows : StandsFor m g.rows h
   pub joined : JoinsStand g.rows.feeds g.joins g.feed_joins h
+  pub placed : RegionsStand g.regions h
 
 -- whatever history the graph stands for, by it each live subscriber was served
 abbrev pub IsAllServed : {T : Type 0} → Meaning T → GraphState T → Type 0
@@ -30,17 +34,17 @@ IsAllServed {T} m g = (h : History T) → GraphStands m g h → IsServed m g.row
 
 -- ---- what stays
 
--- all joins
+-- all joins, and all regions
 abbrev pub AreJoinsSame : {T : Type 0} → GraphState T → GraphState T → Type 0
-AreJoinsSame old new = (new.joins ≡ old.joins) × (new.feed_joins ≡ old.feed_joins)
+AreJoinsSame old new = (new.joins ≡ old.joins) × (new.feed_joins ≡ old.feed_joins) × (new.regions ≡ old.regions)
 
--- the hubs and the feeds, with all joins: only subscriptions change
+-- the hubs and the feeds, with all joins and regions: only subscriptions change
 abbrev pub IsAsideSame : {T : Type 0} → GraphState T → GraphState T → Type 0
-IsAsideSame old new = (new.rows.hubs ≡ old.rows.hubs) × (new.rows.feeds ≡ old.rows.feeds) × (new.joins ≡ old.joins) × (new.feed_joins ≡ old.feed_joins)
+IsAsideSame old new = (new.rows.hubs ≡ old.rows.hubs) × (new.rows.feeds ≡ old.rows.feeds) × (new.joins ≡ old.joins) × (new.feed_joins ≡ old.feed_joins) × (new.regions ≡ old.regions)
 
--- the feeds and the subscriptions, with all joins: only hubs change
+-- the feeds and the subscriptions, with all joins and regions: only hubs change
 abbrev pub IsRestSame : {T : Type 0} → GraphState T → GraphState T → Type 0
-IsRestSame old new = (new.rows.feeds ≡ old.rows.feeds) × (new.rows.subs ≡ old.rows.subs) × (new.joins ≡ old.joins) × (new.feed_joins ≡ old.feed_joins)
+IsRestSame old new = (new.rows.feeds ≡ old.rows.feeds) × (new.rows.subs ≡ old.rows.subs) × (new.joins ≡ old.joins) × (new.feed_joins ≡ old.feed_joins) × (new.regions ≡ old.regions)
 
 -- ---- that each feed names a hub is a fact with one proof at most
 

@@ -2,6 +2,7 @@
 
 ghost use Rattle.std.specs.Prelude.{◌≡◌, ◌≢◌, ◌<◌, ◌≤◌, ◌++◌, ◌∷◌, [], length, OnOk, OnErr, IfOk, IfErr, IsOk, None, Some, true, false};
 ghost use Rattle.rsx_pipe.specs.Built.{new_joins};
+ghost use Rattle.rsx_region.specs.Region.{region_of};
 ghost use Rattle.rsx_subscriber.specs.Delivered.{IsFull};
 ghost use Rattle.rsx_subscriber.specs.Past.{cancelled, requested};
 ghost use Rattle.rsx_subscriber.specs.Stands.{IsMadeAnswer};
@@ -10,6 +11,7 @@ ghost use Rattle.rsx_history.specs.History.{HasAsked, IsLookRefusal, IsSubscribe
 ghost use Rattle.rsx_history.specs.Stands.{IsCancelledAt, IsRequestedAt};
 ghost use Rattle.rsx_feeding.specs.History.{with_made};
 ghost use Rattle.rsx_feed_edits.specs.Edits.{NameHubs};
+ghost use Rattle.rsx_feed_edits.specs.Regions.{HasRegion};
 ghost use Rattle.rsx_feed_edits.specs.Requests.{with_past};
 ghost use Rattle.rsx_feed_edits.specs.Subscribing.{IsSubscribeRefusal, with_subscriber};
 ghost use Rattle.rsx_feed_looks.specs.Looks.{HasNotes, HasTreeJoins, IsOwed, IsTreeLookRefusal};
@@ -46,6 +48,8 @@ pub struct Graph<O: Ops> {
     pub(crate) subscriptions: Vec<Subscription<O::Item>>,
     /// The joins of each subscription's leaves that read a hub, from left to right.
     pub(crate) joins: Vec<Vec<u64>>,
+    /// The region of each subscription's expression.
+    pub(crate) regions: Vec<u8>,
     pub ghost few: { length subscriptions.items ≤ MOST_SUBSCRIPTIONS },
     pub ghost few_hubs: { length hubs.items ≤ MOST_HUBS },
     pub ghost named: { NameHubs (length hubs.items) feeds.items } by { NameHubs-prop (length hubs.items) feeds.items },
@@ -69,6 +73,7 @@ impl<O: Ops> Graph<O> {
             feed_joins: Vec::new(alloc),
             subscriptions: Vec::new(alloc),
             joins: Vec::new(alloc),
+            regions: Vec::new(alloc),
         })
     }
 
@@ -88,6 +93,7 @@ impl<O: Ops> Graph<O> {
         ensures missed { OnOk result ((state_of self.new).joins ≡ (state_of self.old).joins ++ new_joins self.old.hubs.items expr.now ∷ []) }
         ensures feeds { self.new.feeds.items ≡ self.old.feeds.items }
         ensures feed_joins { self.new.feed_joins.items ≡ self.old.feed_joins.items }
+        ensures placed { OnOk result (self.new.regions.items ≡ self.old.regions.items ++ region_of expr.now ∷ []) }
         ensures id { IfOk result (λ id. IsSubscribeId (length self.old.hubs.items) (length self.old.subscriptions.items) expr.now id) }
         ensures places { OnOk result (have_places 0 expr.now self.old.hubs.items ≡ true) }
         ensures err { IfErr result (λ r. IsSubscribeRefusal expr.now self.old.hubs.items (length self.old.subscriptions.items) r) }
@@ -100,6 +106,7 @@ impl<O: Ops> Graph<O> {
             &mut self.hubs,
             &mut self.subscriptions,
             &mut self.joins,
+            &mut self.regions,
             expr,
         ) {
             Ok(id) => Ok(id),
@@ -293,6 +300,24 @@ impl<O: Ops> Graph<O> {
             Ok(joins) => Ok(joins),
             Err(why) => Err(why),
         }
+    }
+
+    /// The region of a subscription: the number of the worker that serves the root of its expression, and so delivers its signals. A
+    /// `publishOn` is in the region of its worker, each other node in that of its first input, and a leaf in region 0. It takes no
+    /// memory.
+    ///
+    /// # Errors
+    /// G2 exactly where there is no such subscription.
+    pub fn region(&self, sub: SubId) -> Result<u8, Refusal>
+        ensures region { IfOk result (λ r. IfStandsFor self.now (λ h. HasRegion h.pasts sub.0 r)) }
+        ensures err { IfErr result (λ r. (r ≡ Refusal.UnknownSub) × (length self.now.regions.items ≤ sub.0)) }
+    {
+        let at = sub.0 as usize;
+        if at >= self.regions.len() {
+            return Err(Refusal::UnknownSub);
+        }
+        let region = &self.regions[at];
+        Ok(*region)
     }
 
     /// How many items a subscriber asked for, at most 2^63-1. It takes no memory.

@@ -65,6 +65,7 @@ impl<O: Ops> Graph<O> {
         ensures missed { OnOk result ((state_of self.new).feed_joins ≡ (state_of self.old).feed_joins ++ new_joins self.old.hubs.items expr.now ∷ []) }
         ensures subscriptions { self.new.subscriptions.items ≡ self.old.subscriptions.items }
         ensures joins { self.new.joins.items ≡ self.old.joins.items }
+        ensures regions { self.new.regions.items ≡ self.old.regions.items }
         ensures id { IfOk result (λ id. (id.0 ≡ length self.old.hubs.items) × (fault_of kind capacity (length self.old.hubs.items) expr.now ≡ None) × (length self.old.hubs.items < MOST_HUBS)) }
         ensures err { IfErr result (λ r. IsFedHubRefusal kind capacity expr.now self.old.hubs.items r) }
         ensures same { OnErr result (state_of self.new ≡ state_of self.old) }

@@ -105,7 +105,7 @@ after_on h (d ∷ ds) es = after_on (with_made d.move d.delivered d.fed h) ds es
 
 -- no move was made so far
 pub none_run : (s : Session) → AllRun 0 s s
-none_run s = λ h k. record { moves = []; counted = refl; lead = refl; same = (refl, refl); stands = k; view = refl }
+none_run s = λ h k. record { moves = []; counted = refl; lead = refl; same = (refl, refl, refl); stands = k; view = refl }
 
 -- and then further moves
 run_on : (n m : ℕ) (old mid new : Session) (h : History Val) → (a : HasRun n old h mid) → HasRun m mid (after_moves h a.moves) new → HasRun (n + m) old h new
@@ -115,7 +115,7 @@ run_on n m old mid new h a b =
       moves = a.moves ++ b.moves;
       counted = let l = length-append a.moves b.moves in let x = a.counted in let y = b.counted in omega (arith, l, x, y);
       lead = lead_on (state_of old.graph).rows (state_of mid.graph).rows (state_of new.graph).rows a.moves b.moves a.lead b.lead;
-      same = (b.same.0 ∙ a.same.0, b.same.1 ∙ a.same.1);
+      same = (b.same.0 ∙ a.same.0, b.same.1 ∙ a.same.1, b.same.2 ∙ a.same.2);
       stands = subst P (sym (after_on h a.moves b.moves)) b.stands;
       view = b.view ∙ a.view;
     }

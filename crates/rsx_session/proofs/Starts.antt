@@ -26,8 +26,8 @@ no_feeds : (n : ℕ) (feeds : List (Feed Val)) → n ≡ 0 → NameHubs n feeds 
 no_feeds n [] e k = refl
 no_feeds n (f ∷ feeds) e k = let less = k.0 in absurd (omega (arith, e, less))
 
-abbrev place_with : List (HubState Val) → List (Feed Val) → List (Subscription Val) → List (List ℕ) → List (List ℕ) → Place
-place_with hubs feeds subs joins feed_joins = record { graph = record { rows = record { hubs = hubs; feeds = feeds; subs = subs }; joins = joins; feed_joins = feed_joins }; history = no_history }
+abbrev place_with : List (HubState Val) → List (Feed Val) → List (Subscription Val) → List (List ℕ) → List (List ℕ) → List ℕ → Place
+place_with hubs feeds subs joins feed_joins regions = record { graph = record { rows = record { hubs = hubs; feeds = feeds; subs = subs }; joins = joins; feed_joins = feed_joins; regions = regions }; history = no_history }
 
 -- a session for which nothing has happened stands where a script begins
 pub at_begin : (session : Session) → SessionStands session no_history → place_of session no_history ≡ begun
@@ -37,10 +37,12 @@ at_begin session s =
     let subs = session.graph.subscriptions.items in
     let joins : List (List ℕ) = map (λ v. v.items) session.graph.joins.items in
     let feed_joins : List (List ℕ) = map (λ v. v.items) session.graph.feed_joins.items in
+    let regions : List ℕ = session.graph.regions.items in
     let many : length hubs ≡ 0 = s.graph.rows.many in
     let unfed : feeds ≡ [] = no_feeds (length hubs) feeds many session.graph.named in
     let beside : length feed_joins ≡ 0 = length-map session.graph.feed_joins.items (λ v. v.items) ∙ (session.graph.beside ∙ ap length unfed) in
-    ap (λ x. place_with x feeds subs joins feed_joins) (none_there hubs many)
-    ∙ (ap (λ x. place_with [] x subs joins feed_joins) unfed
-    ∙ (ap (λ x. place_with [] [] x joins feed_joins) (no_subs s.graph.rows.taken subs s.graph.rows.all)
-    ∙ (ap (λ x. place_with [] [] [] x feed_joins) s.graph.joined.subs ∙ ap (λ x. place_with [] [] [] [] x) (none_there feed_joins beside))))
+    ap (λ x. place_with x feeds subs joins feed_joins regions) (none_there hubs many)
+    ∙ (ap (λ x. place_with [] x subs joins feed_joins regions) unfed
+    ∙ (ap (λ x. place_with [] [] x joins feed_joins regions) (no_subs s.graph.rows.taken subs s.graph.rows.all)
+    ∙ (ap (λ x. place_with [] [] [] x feed_joins regions) s.graph.joined.subs
+    ∙ (ap (λ x. place_with [] [] [] [] x regions) (none_there feed_joins beside) ∙ ap (λ x. place_with [] [] [] [] [] x) s.graph.placed))))

@@ -24,6 +24,8 @@ use Rattle.rsx_model.specs.declared.expr.Expr.{Expr}
 use Rattle.rsx_evaluation.proofs.Laws.{never_a_bad_request_law}
 use Rattle.rsx_pipe.specs.Tree.{notes_of}
 use Rattle.rsx_publishing.specs.declared.feed.Feed.{Feed}
+use Rattle.rsx_region.specs.Region.{region_of}
+use Rattle.rsx_subscriber.specs.Begun.{IsFresh}
 use Rattle.rsx_subscriber.specs.Holds.{Holds}
 use Rattle.rsx_subscriber.specs.Past.{Past, given}
 use Rattle.rsx_subscriber.specs.Standing.{standing}
@@ -43,7 +45,7 @@ use Rattle.rsx_trace.specs.declared.event.Stamped.{Stamped}
 use Rattle.rsx_verify.specs.declared.act.Act.{Act}
 use Rattle.rsx_verify.specs.declared.act.Act.TheVariants.{Request, Cancel, Pump}
 use Rattle.rsx_verify.specs.Events.{answered, beginning, stamped}
-use Rattle.rsx_verify.specs.Runs.{IsActed, IsBegun, IsCancelOf, IsPumpOf, IsRecorded, IsRequestOf, Leads as ActsLead, subscriber}
+use Rattle.rsx_verify.specs.Runs.{IsActed, IsBegun, IsCancelOf, IsFollowed, IsProcessed, IsProcessing, IsPumpOf, IsRecorded, IsRequestOf, Leads as ActsLead, reader, subscriber}
 use Rattle.rsx_verify.proofs.Moving.{FitsAt, Steps, after_given, at_set, beside_set, clean_parts, IsElsewhere, lead_steps, moves_past, other_delivery, steps_come, to, to_on, to_other}
 use Rattle.rsx_verify.proofs.Progress.{Progress, at, fresh, subscribed, receiving, running, GoesOn, goes_further}
 use Rattle.rsx_verify.proofs.Subscribed.{IsClean, cancelled_comes, event_goes, requested_comes}
@@ -174,10 +176,10 @@ some_last me [] old new same = (old, same)
 some_last {T} me (d ∷ ds) old new (mid, (next, same, step), rest) = some_last me ds next new (subst (λ (o : Option (Subscription T)). Steps me ds o new) same rest)
 
 -- what was delivered to this subscriber has no error of a bad request
-delivered_clean : {T : Type 0} (m : Meaning T) (me : ℕ) (old new : GraphState T) (t : List Stamped) (h : History T) (x : IsPumpOf m old t new) (o : Option (Subscription T)) → slice_get old.rows.subs me ≡ o → GraphStands m old h → AreFed h.hubs →
+delivered_clean : {T : Type 0} (m : Meaning T) (me : ℕ) (old new : GraphState T) (t : List Stamped) (h : History T) (w : ℕ) (x : IsPumpOf m w old t new) (o : Option (Subscription T)) → slice_get old.rows.subs me ≡ o → GraphStands m old h → AreFed h.hubs →
     Steps me x.moves o (slice_get new.rows.subs me) → IsClean (to me (delivered_by x.moves))
-delivered_clean {T} m me old new t h x None there stands sources steps = subst (λ (l : List (Signal T)). IsClean l) (sym (none_elsewhere me x.moves (slice_get new.rows.subs me) steps)) tt
-delivered_clean {T} m me old new t h x (Some sub) there stands sources steps =
+delivered_clean {T} m me old new t h w x None there stands sources steps = subst (λ (l : List (Signal T)). IsClean l) (sym (none_elsewhere me x.moves (slice_get new.rows.subs me) steps)) tt
+delivered_clean {T} m me old new t h w x (Some sub) there stands sources steps =
     let last = some_last me x.moves sub (slice_get new.rows.subs me) steps in
     let past = past_of m stands.rows.taken old.rows.subs h.pasts me sub stands.rows.all there in
     let after = x.stands h stands in
@@ -189,11 +191,11 @@ delivered_clean {T} m me old new t h x (Some sub) there stands sources steps =
     let holds' = subst (λ (p : Past T). Holds m whole.published last.0 p) is holds.2 in
     clean_or_ended ss past.0 (λ e. (clean_parts past.0.received ss (subst (λ (l : List (Signal T)). IsClean l) (received_after ss past.0) (clean_whole m whole.published last.0 (after_given ss past.0) fine holds' e))).1)
 
-pumped_leads : {T : Type 0} (m : Meaning T) (me : ℕ) (p : Progress) (old new : GraphState T) (t : List Stamped) → IsPumpOf m old t new → IsAt m me p old → IsLed m me p t new
-pumped_leads m me p old new t x here =
+pumped_leads : {T : Type 0} (m : Meaning T) (me w : ℕ) (p : Progress) (old new : GraphState T) (t : List Stamped) → IsPumpOf m w old t new → IsAt m me p old → IsLed m me p t new
+pumped_leads m me w p old new t x here =
     let steps = lead_steps m me x.moves old.rows new.rows x.lead in
-    let clean = delivered_clean m me old new t here.history x (slice_get old.rows.subs me) refl here.stands here.fed steps in
-    let come = steps_come me p x.moves (slice_get old.rows.subs me) (slice_get new.rows.subs me) steps here.fits clean in (
+    let clean = delivered_clean m me old new t here.history w x (slice_get old.rows.subs me) refl here.stands here.fed steps in
+    let come = steps_come w me p x.moves (slice_get old.rows.subs me) (slice_get new.rows.subs me) steps here.fits clean in (
       come.0,
       subst (λ (l : List Stamped). GoesOn me p l come.0) (sym x.recorded) come.1,
       record { history = after_moves here.history x.moves; stands = x.stands here.history here.stands; fed = fed_after here.history x.moves here.fed; fits = come.2 },
@@ -201,14 +203,14 @@ pumped_leads m me p old new t x here =
 
 -- ---- requests and cancels
 
-other_answered : {T : Type 0} (me i : ℕ) (p : Progress) (o : Option (Signal T)) → i ≢ me → GoesOn me p (answered (subscriber i) o) p
+other_answered : {T : Type 0} (me : ℕ) (i : SubId) (p : Progress) (o : Option (Signal T)) → i.0 ≢ me → GoesOn me p (answered i o) p
 other_answered me i p None ne = refl
-other_answered me i p (Some s) ne = other_delivery me p (subscriber i, s) ne
+other_answered me i p (Some s) ne = other_delivery 0 me p (i, s) ne
 
-requested_leads : {T : Type 0} (m : Meaning T) (me i : ℕ) (n : ℤ) (p : Progress) (old new : GraphState T) (t : List Stamped) → IsRequestOf m i n old t new → IsAt m me p old → IsLed m me p t new
-requested_leads {T} m me i n p old new t x here = elim (cases_eq i me) [
+requested_leads : {T : Type 0} (m : Meaning T) (me : ℕ) (i : SubId) (n : ℤ) (p : Progress) (old new : GraphState T) (t : List Stamped) → IsRequestOf m i n old t new → IsAt m me p old → IsLed m me p t new
+requested_leads {T} m me i n p old new t x here = elim (cases_eq i.0 me) [
   | inl is ↦ (let before : slice_get old.rows.subs me ≡ Some x.effect.old = ap (λ k. slice_get old.rows.subs k) (sym is) ∙ x.effect.there in
-      let after : slice_get new.rows.subs me ≡ Some x.effect.new = ap (λ l. slice_get l me) x.effect.others ∙ (ap (λ k. slice_get (slice_set old.rows.subs i x.effect.new) k) (sym is) ∙ at_set old.rows.subs i x.effect.old x.effect.new x.effect.there) in
+      let after : slice_get new.rows.subs me ≡ Some x.effect.new = ap (λ l. slice_get l me) x.effect.others ∙ (ap (λ k. slice_get (slice_set old.rows.subs i.0 x.effect.new) k) (sym is) ∙ at_set old.rows.subs i.0 x.effect.old x.effect.new x.effect.there) in
       let fits = subst (λ (o : Option (Subscription T)). FitsAt p o) before here.fits in
       let come = requested_comes me (standing_of x.effect.old) n p x.effect.old x.effect.new x.answer refl x.effect.effect x.effect.answer fits in
       let recorded : t ≡ stamped (event.Request me n) ∷ answered (subscriber me) x.answer = x.recorded ∙ ap (λ k. stamped (event.Request k n) ∷ answered (subscriber k) x.answer) is in
@@ -217,7 +219,7 @@ requested_leads {T} m me i n p old new t x here = elim (cases_eq i me) [
         subst (λ (l : List Stamped). GoesOn me p l come.last) (sym recorded) come.goes,
         record { history = _; stands = x.stands here.history here.stands; fed = here.fed; fits = subst (λ (o : Option (Subscription T)). FitsAt come.last o) (sym after) come.fits },
       ) in led)
-  | inr ne ↦ (let after : slice_get new.rows.subs me ≡ slice_get old.rows.subs me = ap (λ l. slice_get l me) x.effect.others ∙ beside_set old.rows.subs i me x.effect.new ne in
+  | inr ne ↦ (let after : slice_get new.rows.subs me ≡ slice_get old.rows.subs me = ap (λ l. slice_get l me) x.effect.others ∙ beside_set old.rows.subs i.0 me x.effect.new ne in
       let led : IsLed m me p t new = (
         p,
         subst (λ (l : List Stamped). GoesOn me p l p) (sym x.recorded) (inr (ne, other_answered me i p x.answer ne)),
@@ -225,10 +227,10 @@ requested_leads {T} m me i n p old new t x here = elim (cases_eq i me) [
       ) in led)
 ]
 
-cancelled_leads : {T : Type 0} (m : Meaning T) (me i : ℕ) (p : Progress) (old new : GraphState T) (t : List Stamped) → IsCancelOf m i old t new → IsAt m me p old → IsLed m me p t new
-cancelled_leads {T} m me i p old new t x here = elim (cases_eq i me) [
+cancelled_leads : {T : Type 0} (m : Meaning T) (me : ℕ) (i : SubId) (p : Progress) (old new : GraphState T) (t : List Stamped) → IsCancelOf m i old t new → IsAt m me p old → IsLed m me p t new
+cancelled_leads {T} m me i p old new t x here = elim (cases_eq i.0 me) [
   | inl is ↦ (let before : slice_get old.rows.subs me ≡ Some x.effect.old = ap (λ k. slice_get old.rows.subs k) (sym is) ∙ x.effect.there in
-      let after : slice_get new.rows.subs me ≡ Some x.effect.new = ap (λ l. slice_get l me) x.effect.others ∙ (ap (λ k. slice_get (slice_set old.rows.subs i x.effect.new) k) (sym is) ∙ at_set old.rows.subs i x.effect.old x.effect.new x.effect.there) in
+      let after : slice_get new.rows.subs me ≡ Some x.effect.new = ap (λ l. slice_get l me) x.effect.others ∙ (ap (λ k. slice_get (slice_set old.rows.subs i.0 x.effect.new) k) (sym is) ∙ at_set old.rows.subs i.0 x.effect.old x.effect.new x.effect.there) in
       let fits = subst (λ (o : Option (Subscription T)). FitsAt p o) before here.fits in
       let come = cancelled_comes me (standing_of x.effect.old) p x.effect.old x.effect.new refl x.effect.effect fits in
       let recorded : t ≡ stamped (event.Cancel me) ∷ [] = x.recorded ∙ ap (λ k. stamped (event.Cancel k) ∷ []) is in
@@ -237,7 +239,7 @@ cancelled_leads {T} m me i p old new t x here = elim (cases_eq i me) [
         subst (λ (l : List Stamped). GoesOn me p l come.last) (sym recorded) come.goes,
         record { history = _; stands = x.stands here.history here.stands; fed = here.fed; fits = subst (λ (o : Option (Subscription T)). FitsAt come.last o) (sym after) come.fits },
       ) in led)
-  | inr ne ↦ (let after : slice_get new.rows.subs me ≡ slice_get old.rows.subs me = ap (λ l. slice_get l me) x.effect.others ∙ beside_set old.rows.subs i me x.effect.new ne in
+  | inr ne ↦ (let after : slice_get new.rows.subs me ≡ slice_get old.rows.subs me = ap (λ l. slice_get l me) x.effect.others ∙ beside_set old.rows.subs i.0 me x.effect.new ne in
       let led : IsLed m me p t new = (
         p,
         subst (λ (l : List Stamped). GoesOn me p l p) (sym x.recorded) (inr (ne, refl)),
@@ -247,39 +249,92 @@ cancelled_leads {T} m me i p old new t x here = elim (cases_eq i me) [
 
 -- ---- runs
 
-acted_leads : {T : Type 0} (m : Meaning T) (me : ℕ) (act : Act) (p : Progress) (old new : GraphState T) (t : List Stamped) → IsActed m act old t new → IsAt m me p old → IsLed m me p t new
-acted_leads m me (Request n) p old new t x here = requested_leads m me 0 n p old new t x here
-acted_leads m me Cancel p old new t x here = cancelled_leads m me 0 p old new t x here
-acted_leads m me Pump p old new t x here = pumped_leads m me p old new t x here
-
-acts_lead : {T : Type 0} (m : Meaning T) (me : ℕ) (acts : List Act) (p : Progress) (old new : GraphState T) (t : List Stamped) → ActsLead m old acts t new → IsAt m me p old → IsLed m me p t new
-acts_lead {T} m me [] p old new t (none, same) here =
+-- nothing happened, and nothing was recorded
+passed_over : {T : Type 0} (m : Meaning T) (me : ℕ) (p : Progress) (old new : GraphState T) (t : List Stamped) → t ≡ [] → new ≡ old → IsAt m me p old → IsLed m me p t new
+passed_over {T} m me p old new t none same here =
     (p, subst (λ (l : List Stamped). GoesOn me p l p) (sym none) refl, subst (λ (g : GraphState T). IsAt m me p g) (sym same) here)
-acts_lead {T} m me (act ∷ acts) p old new t (mid, (first, (rest, (acted, lead, whole)))) here =
-    let one = acted_leads m me act p old mid first acted here in
-    let more = acts_lead m me acts one.0 mid new rest lead one.2 in
+
+acted_leads : {T : Type 0} (m : Meaning T) (me w : ℕ) (act : Act) (p : Progress) (old new : GraphState T) (t : List Stamped) → IsActed m w act old t new → IsAt m me p old → IsLed m me p t new
+acted_leads m me w (Request i n) p old new t (inl x) here = requested_leads m me i n p old new t x here
+acted_leads m me w (Request i n) p old new t (inr (past, none, same)) here = passed_over m me p old new t none same here
+acted_leads m me w (Cancel i) p old new t (inl x) here = cancelled_leads m me i p old new t x here
+acted_leads m me w (Cancel i) p old new t (inr (past, none, same)) here = passed_over m me p old new t none same here
+acted_leads m me w Pump p old new t x here = pumped_leads m me w p old new t x here
+
+acts_lead : {T : Type 0} (m : Meaning T) (me w : ℕ) (acts : List Act) (p : Progress) (old new : GraphState T) (t : List Stamped) → ActsLead m w old acts t new → IsAt m me p old → IsLed m me p t new
+acts_lead m me w [] p old new t (none, same) here = passed_over m me p old new t none same here
+acts_lead {T} m me w (act ∷ acts) p old new t (mid, (first, (rest, (acted, lead, whole)))) here =
+    let one = acted_leads m me w act p old mid first acted here in
+    let more = acts_lead m me w acts one.0 mid new rest lead one.2 in
     (more.0, subst (λ (l : List Stamped). GoesOn me p l more.0) (sym whole) (goes_further me p one.0 more.0 first rest one.1 more.1), more.2)
 
--- the beginning of a run, for its subscriber and for others
-begun_leads : {T : Type 0} (m : Meaning T) (me : ℕ) (e : Expr T) (g : GraphState T) → IsBegun m e g → IsLed m me (at fresh 0 0) beginning g
+-- a run that began so goes on
+followed_goes : {T : Type 0} (m : Meaning T) (me w : ℕ) (acts : List Act) (old : GraphState T) (first t : List Stamped) → IsLed m me (at fresh 0 0) first old → IsFollowed m w old acts first t → (q : Progress) × GoesOn me (at fresh 0 0) t q
+followed_goes m me w acts old first t begun (g, (rest, (lead, whole))) =
+    let led = acts_lead m me w acts begun.0 old g rest lead begun.2 in
+    (led.0, subst (λ (l : List Stamped). GoesOn me (at fresh 0 0) l led.0) (sym whole) (goes_further me (at fresh 0 0) begun.0 led.0 first rest begun.1 led.1))
+
+-- ---- how a run begins, for its subscribers and for others
+
+begins : (me : ℕ) → GoesOn me (at fresh 0 0) (beginning me) (at running 0 0)
+begins me =
+    inl (event_goes me (at fresh 0 0) (event.Subscribe me) refl tt, inl (event_goes me (at subscribed 0 0) (event.OnSubscribe me) refl tt, inl (event_goes me (at receiving 0 0) (event.Exit me) refl tt, refl)))
+
+other_begins : (me i : ℕ) (p : Progress) → i ≢ me → GoesOn me p (beginning i) p
+other_begins me i p ne = inr (ne, inr (ne, inr (ne, refl)))
+
+-- a new subscription stands where its beginning has led
+fresh_fits : {T : Type 0} (e : Expr T) (sub : Subscription T) → IsFresh e sub → FitsAt (at running 0 0) (Some sub)
+fresh_fits e sub is = (ap (λ s. standing s sub.live) is.state, is.asked, is.delivered)
+
+begun_leads : {T : Type 0} (m : Meaning T) (me : ℕ) (e : Expr T) (g : GraphState T) → IsBegun m e g → IsLed m me (at fresh 0 0) (beginning 0) g
 begun_leads {T} m zero e g b =
-    let sub = b.subscribed.0 in let is = b.subscribed.2 in
+    let sub = b.subscribed.0 in
     let only : slice_get g.rows.subs 0 ≡ Some sub = ap (λ l. slice_get l 0) b.subscribed.1 in (
       at running 0 0,
-      inl (event_goes 0 (at fresh 0 0) (event.Subscribe 0) refl tt, inl (event_goes 0 (at subscribed 0 0) (event.OnSubscribe 0) refl tt, inl (event_goes 0 (at receiving 0 0) (event.Exit 0) refl tt, refl))),
-      record { history = _; stands = b.stands; fed = tt; fits = subst (λ (o : Option (Subscription T)). FitsAt (at running 0 0) o) (sym only) (ap (λ s. standing s sub.live) is.state, is.asked, is.delivered) },
+      begins 0,
+      record { history = _; stands = b.stands; fed = tt; fits = subst (λ (o : Option (Subscription T)). FitsAt (at running 0 0) o) (sym only) (fresh_fits e sub b.subscribed.2) },
     )
 begun_leads {T} m (suc me) e g b =
-    let sub = b.subscribed.0 in
     let none : slice_get g.rows.subs (suc me) ≡ None = ap (λ l. slice_get l (suc me)) b.subscribed.1 in
     let other : 0 ≢ suc me = λ h. absurd (omega (arith, h)) in (
       at fresh 0 0,
-      inr (other, inr (other, inr (other, refl))),
+      other_begins (suc me) 0 (at fresh 0 0) other,
       record { history = _; stands = b.stands; fed = tt; fits = subst (λ (o : Option (Subscription T)). FitsAt (at fresh 0 0) o) (sym none) refl },
     )
 
+-- the subscriptions of a processor
+both : {T : Type 0} (m : Meaning T) (e : Expr T) (g : GraphState T) (b : IsProcessing m e g) → g.rows.subs ≡ b.first.0 ∷ b.second.0 ∷ []
+both m e g b = b.second.1 ∙ ap (λ l. l ++ b.second.0 ∷ []) b.first.1
+
+processing_leads : {T : Type 0} (m : Meaning T) (me : ℕ) (e : Expr T) (g : GraphState T) → IsProcessing m e g → IsLed m me (at fresh 0 0) (beginning 0 ++ beginning 1) g
+processing_leads {T} m zero e g b =
+    let sub = b.first.0 in
+    let there : slice_get g.rows.subs 0 ≡ Some sub = ap (λ l. slice_get l 0) (both m e g b) in
+    let other : 1 ≢ 0 = λ h. absurd (omega (arith, h)) in (
+      at running 0 0,
+      goes_further 0 (at fresh 0 0) (at running 0 0) (at running 0 0) (beginning 0) (beginning 1) (begins 0) (other_begins 0 1 (at running 0 0) other),
+      record { history = _; stands = b.stands; fed = (tt, tt); fits = subst (λ (o : Option (Subscription T)). FitsAt (at running 0 0) o) (sym there) (fresh_fits reader sub b.first.2) },
+    )
+processing_leads {T} m (suc zero) e g b =
+    let sub = b.second.0 in
+    let there : slice_get g.rows.subs 1 ≡ Some sub = ap (λ l. slice_get l 1) (both m e g b) in
+    let other : 0 ≢ 1 = λ h. absurd (omega (arith, h)) in (
+      at running 0 0,
+      goes_further 1 (at fresh 0 0) (at fresh 0 0) (at running 0 0) (beginning 0) (beginning 1) (other_begins 1 0 (at fresh 0 0) other) (begins 1),
+      record { history = _; stands = b.stands; fed = (tt, tt); fits = subst (λ (o : Option (Subscription T)). FitsAt (at running 0 0) o) (sym there) (fresh_fits reader sub b.second.2) },
+    )
+processing_leads {T} m (suc (suc me)) e g b =
+    let none : slice_get g.rows.subs (suc (suc me)) ≡ None = ap (λ l. slice_get l (suc (suc me))) (both m e g b) in
+    let zeroth : 0 ≢ suc (suc me) = λ h. absurd (omega (arith, h)) in
+    let first : 1 ≢ suc (suc me) = λ h. absurd (omega (arith, h)) in (
+      at fresh 0 0,
+      goes_further (suc (suc me)) (at fresh 0 0) (at fresh 0 0) (at fresh 0 0) (beginning 0) (beginning 1) (other_begins (suc (suc me)) 0 (at fresh 0 0) zeroth) (other_begins (suc (suc me)) 1 (at fresh 0 0) first),
+      record { history = _; stands = b.stands; fed = (tt, tt); fits = subst (λ (o : Option (Subscription T)). FitsAt (at fresh 0 0) o) (sym none) refl },
+    )
+
 pub recorded_goes : {T : Type 0} (m : Meaning T) (me : ℕ) (e : Expr T) (acts : List Act) (t : List Stamped) → IsRecorded m e acts t → (q : Progress) × GoesOn me (at fresh 0 0) t q
-recorded_goes {T} m me e acts t (g, run) =
-    let begun = begun_leads m me e run.fresh run.begun in
-    let led = acts_lead m me acts begun.0 run.fresh g run.rest run.lead begun.2 in
-    (led.0, subst (λ (l : List Stamped). GoesOn me (at fresh 0 0) l led.0) (sym run.recorded) (goes_further me (at fresh 0 0) begun.0 led.0 beginning run.rest begun.1 led.1))
+recorded_goes m me e acts t (g, (begun, followed)) = followed_goes m me (region_of e) acts g (beginning 0) t (begun_leads m me e g begun) followed
+
+pub processed_goes : {T : Type 0} (m : Meaning T) (me : ℕ) (e : Expr T) (acts : List Act) (t : List Stamped) → IsProcessed m e acts t → (q : Progress) × GoesOn me (at fresh 0 0) t q
+processed_goes {T} m me e acts t (g, (begun, followed)) = followed_goes m me (region_of {T = T} reader) acts g (beginning 0 ++ beginning 1) t (processing_leads m me e g begun) followed

@@ -1,24 +1,31 @@
 -- Runs, act by act.
-use Rattle.std.proofs.Common.{◌≡◌, ℕ, ◌+◌, ◌<◌, ◌≤◌, List, [], ◌∷◌, ◌++◌, length, take, get_or, ℤ, Option, Some, refl, sym, ap, ◌∙◌, subst, append_assoc}
+use Rattle.std.proofs.Common.{◌≡◌, ℕ, ◌+◌, ◌<◌, ◌≤◌, List, [], ◌∷◌, ◌++◌, length, take, get_or, ℤ, Option, Some, None, inl, refl, sym, ap, ◌∙◌, subst, append_assoc}
 use Rattle.std.proofs.lemmas.List.{append-nil, take_all, take_more}
 use Rattle.rsx_trace.specs.declared.event.Stamped.{Stamped}
 use Rattle.rsx_types.specs.Meaning.{Meaning}
 use Rattle.rsx_model.specs.declared.expr.Expr.{Expr}
-use Rattle.rsx_history.specs.Begun.{IsSubscribed}
-use Rattle.rsx_history.specs.Stands.{IsRequestedAt}
-use Rattle.rsx_subscriber.specs.Past.{requested}
+use Rattle.rsx_history.specs.Begun.{HaveJoined, IsSubscribed}
+use Rattle.rsx_history.specs.Stands.{IsCancelledAt, IsRequestedAt}
+use Rattle.rsx_subscriber.specs.Past.{cancelled, requested}
+use Rattle.rsx_publishing.specs.declared.feed.Feed.{Feed}
+use Rattle.rsx_subscriber.specs.declared.subscription.Subscription.{Subscription}
+use Rattle.rsx_types.specs.declared.names.HubKind.TheVariants.{Multicast}
+use Rattle.rsx_types.specs.declared.names.SubId.{SubId}
 use Rattle.rsx_types.specs.declared.signal.Signal.{Signal}
 use Rattle.rsx_trace.specs.declared.event.Event.TheVariants as event
 use Rattle.rsx_feeding.specs.History.{History}
+use Rattle.rsx_feed_edits.specs.Edits.{IsFedHubMade, with_fed_hub}
 use Rattle.rsx_feed_edits.specs.Requests.{with_past}
 use Rattle.rsx_feed_edits.specs.Subscribing.{with_subscriber}
 use Rattle.rsx_graph.specs.Stands.{GraphStands, GraphState, IsAsideSame, nothing}
 use Rattle.rsx_graph.specs.Steps.{no_history}
 use Rattle.rsx_verify.specs.declared.act.Act.{Act}
-use Rattle.rsx_verify.specs.Events.{beginning, delivery, stamped}
+use Rattle.rsx_verify.specs.declared.act.Act.TheVariants.{Request, Cancel}
+use Rattle.rsx_verify.specs.Events.{delivery, stamped}
 use Rattle.rsx_verify.specs.declared.line.Line.{Line}
-use Rattle.rsx_verify.specs.Reports.{AreLines, AreVerified, IsLine, publisher_acts, cancel_acts, bad_request_acts}
-use Rattle.rsx_verify.specs.Runs.{IsRequestOf, subscriber, IsActed, IsBegun, IsRunTo, IsRecorded, Leads}
+use Rattle.rsx_verify.specs.Reports.{AreLines, AreVerified, IsLine, publisher_acts, cancel_acts, bad_request_acts, processor_acts}
+use Rattle.rsx_verify.specs.Runs.{IsActed, IsBegun, IsFollowed, IsFollowedTo, IsPassedOver, IsProcessed, IsProcessing, IsRecorded, Leads, reader}
+use Rattle.rsx_verify.specs.declared.TheConstants.{CAPACITY}
 
 pub begun_from : {T : Type 0} (m m' : Meaning T) (e : Expr T) (old new : GraphState T) → m' ≡ m → old ≡ nothing → IsSubscribed e old.rows.subs new.rows.subs → GraphStands m old no_history →
     ((h : History T) → GraphStands m' old h → GraphStands m' new (with_subscriber e h)) → IsBegun m e new
@@ -28,64 +35,115 @@ begun_from {T} m m' e old new same empty subscribed stood after =
     let after' : (h : History T) → GraphStands m old h → GraphStands m new (with_subscriber e h) = subst A same after in
     record { subscribed = subst S empty subscribed; stands = after' no_history stood }
 
-pub leads_more : {T : Type 0} (m : Meaning T) (a b c : GraphState T) (acts : List Act) (act : Act) (t more : List Stamped) → Leads m a acts t b → IsActed m act b more c → Leads m a (acts ++ act ∷ []) (t ++ more) c
-leads_more {T} m a b c [] act t more (none, same) acted =
-    let P : GraphState T → Type 0 = λ g. IsActed m act g more c in
+pub processing_from : {T : Type 0} (m m' m'' m''' : Meaning T) (e : Expr T) (a b c d : GraphState T) → m' ≡ m → m'' ≡ m' → m''' ≡ m'' → a ≡ nothing → GraphStands m a no_history →
+    ((h : History T) → GraphStands m' a h → GraphStands m' b (with_fed_hub Multicast e h)) → IsFedHubMade Multicast CAPACITY e a.rows.hubs b.rows.hubs a.rows.feeds b.rows.feeds → b.rows.subs ≡ a.rows.subs →
+    ((h : History T) → GraphStands m'' b h → GraphStands m'' c (with_subscriber reader h)) → IsSubscribed reader b.rows.subs c.rows.subs → HaveJoined reader b.rows.hubs c.rows.hubs → c.rows.feeds ≡ b.rows.feeds →
+    ((h : History T) → GraphStands m''' c h → GraphStands m''' d (with_subscriber reader h)) → IsSubscribed reader c.rows.subs d.rows.subs → HaveJoined reader c.rows.hubs d.rows.hubs → d.rows.feeds ≡ c.rows.feeds → IsProcessing m e d
+processing_from {T} m m' m'' m''' e a b c d same same' same'' empty stood feeding fed unread reading first first_joined feeds reading' second second_joined feeds' =
+    let A : Meaning T → Type 0 = λ n. (h : History T) → GraphStands n a h → GraphStands n b (with_fed_hub Multicast e h) in
+    let B : Meaning T → Type 0 = λ n. (h : History T) → GraphStands n b h → GraphStands n c (with_subscriber reader h) in
+    let C : Meaning T → Type 0 = λ n. (h : History T) → GraphStands n c h → GraphStands n d (with_subscriber reader h) in
+    let one : A m = subst A same feeding in
+    let two : B m = subst B (same' ∙ same) reading in
+    let three : C m = subst C (same'' ∙ (same' ∙ same)) reading' in
+    let h : History T = with_fed_hub Multicast e no_history in
+    let F : GraphState T → Type 0 = λ g. IsFedHubMade Multicast CAPACITY e g.rows.hubs b.rows.hubs g.rows.feeds b.rows.feeds in
+    let G : List (Feed T) → Type 0 = λ l. IsFedHubMade Multicast CAPACITY e [] b.rows.hubs [] l in
+    let S : List (Subscription T) → Type 0 = λ l. IsSubscribed reader l c.rows.subs in
+    record {
+      hubs = b.rows.hubs;
+      joined = c.rows.hubs;
+      subs = c.rows.subs;
+      fed = subst G (sym (feeds' ∙ feeds)) (subst F empty fed);
+      first = subst S (unread ∙ ap (λ g. g.rows.subs) empty) first;
+      first_joined = first_joined;
+      second = second;
+      second_joined = second_joined;
+      stands = three (with_subscriber reader h) (two h (one no_history stood));
+    }
+
+pub leads_more : {T : Type 0} (m : Meaning T) (w : ℕ) (a b c : GraphState T) (acts : List Act) (act : Act) (t more : List Stamped) → Leads m w a acts t b → IsActed m w act b more c → Leads m w a (acts ++ act ∷ []) (t ++ more) c
+leads_more {T} m w a b c [] act t more (none, same) acted =
+    let P : GraphState T → Type 0 = λ g. IsActed m w act g more c in
     (c, (more, ([], (subst P same acted, (refl, refl), ap (λ l. l ++ more) none ∙ sym (append-nil more)))))
-leads_more m a b c (x ∷ acts) act t more (mid, (first, (rest, (acted, lead, whole)))) last =
-    (mid, (first, (rest ++ more, (acted, leads_more m mid b c acts act rest more lead last, ap (λ l. l ++ more) whole ∙ append_assoc first rest more))))
+leads_more m w a b c (x ∷ acts) act t more (mid, (first, (rest, (acted, lead, whole)))) last =
+    (mid, (first, (rest ++ more, (acted, leads_more m w mid b c acts act rest more lead last, ap (λ l. l ++ more) whole ∙ append_assoc first rest more))))
 
-pub run_none : {T : Type 0} (m : Meaning T) (e : Expr T) (t : List Stamped) (g : GraphState T) → IsBegun m e g → t ≡ beginning → IsRunTo m e [] t g
-run_none m e t g begun recorded = record { fresh = g; begun = begun; rest = []; lead = (refl, refl); recorded = recorded }
-
-run_act : {T : Type 0} (m : Meaning T) (e : Expr T) (acts : List Act) (act : Act) (t more : List Stamped) (b c : GraphState T) → IsRunTo m e acts t b → IsActed m act b more c → IsRunTo m e (acts ++ act ∷ []) (t ++ more) c
-run_act m e acts act t more b c run acted = record {
-  fresh = run.fresh;
-  begun = run.begun;
-  rest = run.rest ++ more;
-  lead = leads_more m run.fresh b c acts act run.rest more run.lead acted;
-  recorded = ap (λ l. l ++ more) run.recorded ∙ append_assoc beginning run.rest more;
-}
+-- nothing was done yet
+pub followed_none : {T : Type 0} (m : Meaning T) (w : ℕ) (g : GraphState T) (first : List Stamped) → IsFollowedTo m w g [] first first g
+followed_none m w g first = ([], ((refl, refl), sym (append-nil first)))
 
 -- one act more of a list
-pub run_more : {T : Type 0} (m m' : Meaning T) (e : Expr T) (acts : List Act) (i : ℕ) (d : Act) (t t' : List Stamped) (b c : GraphState T) → m' ≡ m → i < length acts → IsRunTo m e (take i acts) t b →
-    ((more : List Stamped) × (t' ≡ t ++ more) × IsActed m' (get_or acts i d) b more c) → IsRunTo m e (take (i + 1) acts) t' c
-run_more {T} m m' e acts i d t t' b c same lt run (more, noted, acted) =
+pub followed_more : {T : Type 0} (m m' : Meaning T) (w w' : ℕ) (old : GraphState T) (acts : List Act) (i : ℕ) (d : Act) (first t t' : List Stamped) (b c : GraphState T) → m' ≡ m → w' ≡ w → i < length acts → IsFollowedTo m w old (take i acts) first t b →
+    ((more : List Stamped) × (t' ≡ t ++ more) × IsActed m' w' (get_or acts i d) b more c) → IsFollowedTo m w old (take (i + 1) acts) first t' c
+followed_more {T} m m' w w' old acts i d first t t' b c same there lt (rest, (lead, whole)) (more, noted, acted) =
     let taken : take (i + 1) acts ≡ take i acts ++ get_or acts i d ∷ [] = take_more acts i d lt in
-    let A : Meaning T → Type 0 = λ n. IsActed n (get_or acts i d) b more c in
-    let P : List Act → Type 0 = λ l. IsRunTo m e l t' c in
-    let Q : List Stamped → Type 0 = λ l. IsRunTo m e (take i acts ++ get_or acts i d ∷ []) l c in
-    subst P (sym taken) (subst Q (sym noted) (run_act m e (take i acts) (get_or acts i d) t more b c run (subst A same acted)))
-
-pub run_all : {T : Type 0} (m : Meaning T) (e : Expr T) (acts : List Act) (i : ℕ) (t : List Stamped) (g : GraphState T) → length acts ≤ i → IsRunTo m e (take i acts) t g → IsRecorded m e acts t
-run_all {T} m e acts i t g l run =
-    let P : List Act → Type 0 = λ s. IsRunTo m e s t g in
-    (g, subst P (take_all i acts l) run)
-
--- a request that answered the error of a bad request
-pub request_answered : {T : Type 0} (m : Meaning T) (n : ℤ) (old new : GraphState T) (o : Option (Signal T)) (s : Signal T) (t t' t'' : List Stamped) →
-    t' ≡ t ++ stamped (event.Request 0 n) ∷ [] → t'' ≡ t' ++ delivery (subscriber 0, s) → o ≡ Some s → IsRequestedAt 0 n old.rows.subs new.rows.subs o → IsAsideSame old new →
-    ((h : History T) → GraphStands m old h → GraphStands m new (with_past (requested n) (subscriber 0) h)) → (more : List Stamped) × (t'' ≡ t ++ more) × IsRequestOf m 0 n old more new
-request_answered {T} m n old new o s t t' t'' first second is effect aside stands =
-    let R : Option (Signal T) → Type 0 = λ a. IsRequestedAt 0 n old.rows.subs new.rows.subs a in (
-      stamped (event.Request 0 n) ∷ delivery (subscriber 0, s),
-      second ∙ (ap (λ l. l ++ delivery (subscriber 0, s)) first ∙ append_assoc t (stamped (event.Request 0 n) ∷ []) (delivery (subscriber 0, s))),
-      record { answer = Some s; effect = subst R is effect; aside = aside; stands = stands; recorded = refl },
+    let A : Meaning T → Type 0 = λ n. IsActed n w' (get_or acts i d) b more c in
+    let B : ℕ → Type 0 = λ k. IsActed m k (get_or acts i d) b more c in
+    let P : List Act → Type 0 = λ l. IsFollowedTo m w old l first t' c in
+    subst P (sym taken) (
+      rest ++ more,
+      (leads_more m w old b c (take i acts) (get_or acts i d) rest more lead (subst B there (subst A same acted)), noted ∙ (ap (λ l. l ++ more) whole ∙ append_assoc first rest more)),
     )
 
--- the three runs, judged
-pub verified_from : {T : Type 0} (m : Meaning T) (e : Expr T) (p c b p' c' b' : List Stamped) (lines : List Line) → IsRecorded m e publisher_acts p → IsRecorded m e cancel_acts c → IsRecorded m e bad_request_acts b →
-    p' ≡ p → c' ≡ c → b' ≡ b → AreLines (IsLine p' c' b') lines → AreVerified m e lines
-verified_from {T} m e p c b p' c' b' lines published cancelled requested ep ec eb judged =
+pub followed_all : {T : Type 0} (m : Meaning T) (w : ℕ) (old : GraphState T) (acts : List Act) (i : ℕ) (first t : List Stamped) (g : GraphState T) → length acts ≤ i → IsFollowedTo m w old (take i acts) first t g → IsFollowed m w old acts first t
+followed_all {T} m w old acts i first t g l run =
+    let P : List Act → Type 0 = λ s. IsFollowedTo m w old s first t g in
+    (g, subst P (take_all i acts l) run)
+
+-- a run of what began so, where its functions, its region and its first events are these
+pub followed_from : {T : Type 0} (m m' : Meaning T) (w w' : ℕ) (old : GraphState T) (acts : List Act) (first first' t : List Stamped) → m' ≡ m → w' ≡ w → first' ≡ first → IsFollowed m' w' old acts first' t → IsFollowed m w old acts first t
+followed_from {T} m m' w w' old acts first first' t same there is run =
+    let A : Meaning T → Type 0 = λ n. IsFollowed n w' old acts first' t in
+    let B : ℕ → Type 0 = λ k. IsFollowed m k old acts first' t in
+    let C : List Stamped → Type 0 = λ l. IsFollowed m w old acts l t in
+    subst C is (subst B there (subst A same run))
+
+-- a request that answered the error of a bad request
+pub request_answered : {T : Type 0} (m : Meaning T) (w : ℕ) (i : SubId) (n : ℤ) (old new : GraphState T) (o : Option (Signal T)) (s : Signal T) (t t' t'' : List Stamped) →
+    t' ≡ t ++ stamped (event.Request i.0 n) ∷ [] → t'' ≡ t' ++ delivery 0 (i, s) → o ≡ Some s → IsRequestedAt i.0 n old.rows.subs new.rows.subs o → IsAsideSame old new →
+    ((h : History T) → GraphStands m old h → GraphStands m new (with_past (requested n) i h)) → (more : List Stamped) × (t'' ≡ t ++ more) × IsActed m w (Request i n) old more new
+request_answered {T} m w i n old new o s t t' t'' first second is effect aside stands =
+    let R : Option (Signal T) → Type 0 = λ a. IsRequestedAt i.0 n old.rows.subs new.rows.subs a in (
+      stamped (event.Request i.0 n) ∷ delivery 0 (i, s),
+      second ∙ (ap (λ l. l ++ delivery 0 (i, s)) first ∙ append_assoc t (stamped (event.Request i.0 n) ∷ []) (delivery 0 (i, s))),
+      inl (record { answer = Some s; effect = subst R is effect; aside = aside; stands = stands; recorded = refl }),
+    )
+
+-- one that answered nothing
+pub request_taken : {T : Type 0} (m : Meaning T) (w : ℕ) (i : SubId) (n : ℤ) (old new : GraphState T) (o : Option (Signal T)) (t t' : List Stamped) →
+    t' ≡ t ++ stamped (event.Request i.0 n) ∷ [] → o ≡ None → IsRequestedAt i.0 n old.rows.subs new.rows.subs o → IsAsideSame old new →
+    ((h : History T) → GraphStands m old h → GraphStands m new (with_past (requested n) i h)) → (more : List Stamped) × (t' ≡ t ++ more) × IsActed m w (Request i n) old more new
+request_taken {T} m w i n old new o t t' first is effect aside stands =
+    let R : Option (Signal T) → Type 0 = λ a. IsRequestedAt i.0 n old.rows.subs new.rows.subs a in
+    (stamped (event.Request i.0 n) ∷ [], first, inl (record { answer = None; effect = subst R is effect; aside = aside; stands = stands; recorded = refl }))
+
+pub cancel_taken : {T : Type 0} (m : Meaning T) (w : ℕ) (i : SubId) (old new : GraphState T) (t t' : List Stamped) →
+    t' ≡ t ++ stamped (event.Cancel i.0) ∷ [] → IsCancelledAt i.0 old.rows.subs new.rows.subs → IsAsideSame old new →
+    ((h : History T) → GraphStands m old h → GraphStands m new (with_past cancelled i h)) → (more : List Stamped) × (t' ≡ t ++ more) × IsActed m w (Cancel i) old more new
+cancel_taken m w i old new t t' first effect aside stands =
+    (stamped (event.Cancel i.0) ∷ [], first, inl (record { effect = effect; aside = aside; stands = stands; recorded = refl }))
+
+-- nothing was recorded, and nothing happened
+pub none_recorded : {T : Type 0} (i : SubId) (old new : GraphState T) (t : List Stamped) → length old.rows.subs ≤ i.0 → new ≡ old → (more : List Stamped) × (t ≡ t ++ more) × IsPassedOver i old more new
+none_recorded i old new t past same = ([], sym (append-nil t), (past, refl, same))
+
+-- the four runs, judged
+pub verified_from : {T : Type 0} (m : Meaning T) (e : Expr T) (p c b r p' c' b' r' : List Stamped) (lines : List Line) → IsRecorded m e publisher_acts p → IsRecorded m e cancel_acts c → IsRecorded m e bad_request_acts b → IsProcessed m e processor_acts r →
+    p' ≡ p → c' ≡ c → b' ≡ b → r' ≡ r → AreLines (IsLine p' c' b' r') lines → AreVerified m e lines
+verified_from {T} m e p c b r p' c' b' r' lines published cancelled requested processed ep ec eb er judged =
     let P : List Stamped → Type 0 = λ t. IsRecorded m e publisher_acts t in
     let C : List Stamped → Type 0 = λ t. IsRecorded m e cancel_acts t in
     let B : List Stamped → Type 0 = λ t. IsRecorded m e bad_request_acts t in
+    let R : List Stamped → Type 0 = λ t. IsProcessed m e processor_acts t in
     record {
       publisher = p';
       cancel = c';
       bad_request = b';
+      processor = r';
       published = subst P (sym ep) published;
       cancelled = subst C (sym ec) cancelled;
       requested = subst B (sym eb) requested;
+      processed = subst R (sym er) processed;
       judged = judged;
     }

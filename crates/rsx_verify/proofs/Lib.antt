@@ -7,6 +7,8 @@ pub mod Lines
 pub mod Moving
 pub mod Once
 pub mod Ordered
+pub mod Paired
+pub mod Placed
 pub mod Progress
 pub mod Signalled
 pub mod Subscribed

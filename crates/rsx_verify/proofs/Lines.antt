@@ -38,24 +38,26 @@ unbroken r t Held kept judged = refl
 unbroken r t (NotJudged c) kept judged = refl
 unbroken r t (Broken i) kept judged = absurd (judged.2 (kept (suc i)))
 
-unbroken_line : (t u w : List Stamped) (r : Rule) (line : Line) → IsKept r t → IsKept r u → IsKept r w → IsLine t u w r line → IsUnbroken line
-unbroken_line t u w r line kt ku kw (a, (b, (c, (ja, jb, jc, is)))) =
+unbroken_line : (t u v w : List Stamped) (r : Rule) (line : Line) → IsKept r t → IsKept r u → IsKept r v → IsKept r w → IsLine t u v w r line → IsUnbroken line
+unbroken_line t u v w r line kt ku kv kw (a, (b, (c, (d, (ja, jb, jc, jd, is))))) =
     let fa = unbroken r t a kt ja in
     let fb = unbroken r u b ku jb in
-    let fc = unbroken r w c kw jc in
-    let none : first_broken a b c ≡ (0, a) =
-    ap (λ x. if x then (1, a) else (if is_broken b then (2, b) else (if is_broken c then (3, c) else (0, a)))) fa
-    ∙ (ap (λ x. if x then (2, b) else (if is_broken c then (3, c) else (0, a))) fb
-    ∙ ap (λ x. if x then (3, c) else (0, a)) fc) in
+    let fc = unbroken r v c kv jc in
+    let fd = unbroken r w d kw jd in
+    let none : first_broken a b c d ≡ (0, a) =
+    ap (λ x. if x then (1, a) else (if is_broken b then (2, b) else (if is_broken c then (3, c) else (if is_broken d then (4, d) else (0, a))))) fa
+    ∙ (ap (λ x. if x then (2, b) else (if is_broken c then (3, c) else (if is_broken d then (4, d) else (0, a)))) fb
+    ∙ (ap (λ x. if x then (3, c) else (if is_broken d then (4, d) else (0, a))) fc
+    ∙ ap (λ x. if x then (4, d) else (0, a)) fd)) in
     let whole : line ≡ line_of r (0, a) = is ∙ ap (line_of r) none in
     (ap (λ l. l.run) whole, ap (λ l. is_broken l.verdict) whole ∙ fa)
 
--- where three traces keep the rules, no line on them is broken
-pub unbroken_lines : (t u w : List Stamped) (lines : List Line) → AreKept t → AreKept u → AreKept w → AreLines (IsLine t u w) lines → AreUnbroken lines
-unbroken_lines t u w lines kt ku kw (count, judged) k line there =
+-- where four traces keep the rules, no line on them is broken
+pub unbroken_lines : (t u v w : List Stamped) (lines : List Line) → AreKept t → AreKept u → AreKept v → AreKept w → AreLines (IsLine t u v w) lines → AreUnbroken lines
+unbroken_lines t u v w lines kt ku kv kw (count, judged) k line there =
     let below : k < 43 = (let lt = slice_get_within lines k line there in omega (arith, lt, count)) in
     let r = get_or all_rules k rule.Rule1_1 in
     let found = judged k r (slice_get-get_or all_rules k rule.Rule1_1 below) in
     let same : found.0 ≡ line = same_Some found.0 line (sym found.1 ∙ there) in
     let U : Line → Type 0 = λ l. IsUnbroken l in
-    subst U same (unbroken_line t u w r found.0 (kt r) (ku r) (kw r) found.2)
+    subst U same (unbroken_line t u v w r found.0 (kt r) (ku r) (kv r) (kw r) found.2)

@@ -184,25 +184,25 @@ abbrev pub ComesAt : {T : Type 0} → ℕ → Progress → List Stamped → Opti
 ComesAt me p t o = (q : Progress) × GoesOn me p t q × FitsAt q o
 
 -- a delivery to another
-pub other_delivery : {T : Type 0} (me : ℕ) (p : Progress) (d : SubId × Signal T) → d.0.0 ≢ me → GoesOn me p (delivery d) p
-other_delivery me p (i, Next x) ne = inr (ne, inr (ne, refl))
-other_delivery me p (i, Complete) ne = inr (ne, inr (ne, refl))
-other_delivery me p (i, Error c) ne = inr (ne, inr (ne, refl))
+pub other_delivery : {T : Type 0} (w me : ℕ) (p : Progress) (d : SubId × Signal T) → d.0.0 ≢ me → GoesOn me p (delivery w d) p
+other_delivery w me p (i, Next x) ne = inr (ne, inr (ne, refl))
+other_delivery w me p (i, Complete) ne = inr (ne, inr (ne, refl))
+other_delivery w me p (i, Error c) ne = inr (ne, inr (ne, refl))
 
-step_comes : {T : Type 0} (me : ℕ) (p : Progress) (o : Option (SubId × Signal T)) (old new : Option (Subscription T)) → IsStepOf me o old new → FitsAt p old → IsClean (to me (option_to_list o)) → ComesAt me p (deliveries (option_to_list o)) new
-step_comes {T} me p None None new (same, e) fits clean = (p, refl, subst (λ (x : Option (Subscription T)). FitsAt p x) (sym same) fits)
-step_comes {T} me p (Some d) None new (same, ne) fits clean = (p, subst (λ (l : List Stamped). GoesOn me p l p) (sym (append-nil (delivery d))) (other_delivery me p d ne), subst (λ (x : Option (Subscription T)). FitsAt p x) (sym same) fits)
-step_comes {T} me p None (Some old) new (next, same, kept) fits clean = (p, refl, subst (λ (x : Option (Subscription T)). FitsAt p x) (sym same) (fits_kept p old next kept fits))
-step_comes {T} me p (Some d) (Some old) new (next, same, inl (own, del, take)) fits clean =
+step_comes : {T : Type 0} (w me : ℕ) (p : Progress) (o : Option (SubId × Signal T)) (old new : Option (Subscription T)) → IsStepOf me o old new → FitsAt p old → IsClean (to me (option_to_list o)) → ComesAt me p (deliveries w (option_to_list o)) new
+step_comes {T} w me p None None new (same, e) fits clean = (p, refl, subst (λ (x : Option (Subscription T)). FitsAt p x) (sym same) fits)
+step_comes {T} w me p (Some d) None new (same, ne) fits clean = (p, subst (λ (l : List Stamped). GoesOn me p l p) (sym (append-nil (delivery w d))) (other_delivery w me p d ne), subst (λ (x : Option (Subscription T)). FitsAt p x) (sym same) fits)
+step_comes {T} w me p None (Some old) new (next, same, kept) fits clean = (p, refl, subst (λ (x : Option (Subscription T)). FitsAt p x) (sym same) (fits_kept p old next kept fits))
+step_comes {T} w me p (Some d) (Some old) new (next, same, inl (own, del, take)) fits clean =
     let C : List (Signal T) → Type 0 = λ l. IsClean l in
-    let come = delivered_comes me p d.0.0 d.1 old next own del take fits (subst C (to_me me d [] own) clean) in
-    (come.last, subst (λ (l : List Stamped). GoesOn me p l come.last) (sym (append-nil (delivery d))) come.goes, subst (λ (x : Option (Subscription T)). FitsAt come.last x) (sym same) come.fits)
-step_comes {T} me p (Some d) (Some old) new (next, same, inr (ne, kept)) fits clean =
-    (p, subst (λ (l : List Stamped). GoesOn me p l p) (sym (append-nil (delivery d))) (other_delivery me p d ne), subst (λ (x : Option (Subscription T)). FitsAt p x) (sym same) (fits_kept p old next kept fits))
+    let come = delivered_comes w me p d.0.0 d.1 old next own del take fits (subst C (to_me me d [] own) clean) in
+    (come.last, subst (λ (l : List Stamped). GoesOn me p l come.last) (sym (append-nil (delivery w d))) come.goes, subst (λ (x : Option (Subscription T)). FitsAt come.last x) (sym same) come.fits)
+step_comes {T} w me p (Some d) (Some old) new (next, same, inr (ne, kept)) fits clean =
+    (p, subst (λ (l : List Stamped). GoesOn me p l p) (sym (append-nil (delivery w d))) (other_delivery w me p d ne), subst (λ (x : Option (Subscription T)). FitsAt p x) (sym same) (fits_kept p old next kept fits))
 
-deliveries_on : {T : Type 0} (o : Option (SubId × Signal T)) (ds : List (SubId × Signal T)) → deliveries (option_to_list o ++ ds) ≡ deliveries (option_to_list o) ++ deliveries ds
-deliveries_on None ds = refl
-deliveries_on (Some d) ds = ap (λ l. l ++ deliveries ds) (sym (append-nil (delivery d)))
+deliveries_on : {T : Type 0} (w : ℕ) (o : Option (SubId × Signal T)) (ds : List (SubId × Signal T)) → deliveries w (option_to_list o ++ ds) ≡ deliveries w (option_to_list o) ++ deliveries w ds
+deliveries_on w None ds = refl
+deliveries_on w (Some d) ds = ap (λ l. l ++ deliveries w ds) (sym (append-nil (delivery w d)))
 
 pub clean_parts : {T : Type 0} (xs ys : List (Signal T)) → IsClean (xs ++ ys) → IsClean xs × IsClean ys
 clean_parts [] ys c = (tt, c)
@@ -217,15 +217,15 @@ to_on me (d ∷ xs) ys = elim (cases_eq d.0.0 me) [
   | inr ne ↦ to_other me d (xs ++ ys) ne ∙ (to_on me xs ys ∙ sym (ap (λ l. l ++ to me ys) (to_other me d xs ne)))
 ]
 
-pub steps_come : {T : Type 0} (me : ℕ) (p : Progress) (moves : List (Made T)) (old new : Option (Subscription T)) → Steps me moves old new → FitsAt p old → IsClean (to me (delivered_by moves)) → ComesAt me p (deliveries (delivered_by moves)) new
-steps_come {T} me p [] old new same fits clean = (p, refl, subst (λ (x : Option (Subscription T)). FitsAt p x) (sym same) fits)
-steps_come {T} me p (d ∷ ds) old new (mid, step, rest) fits clean =
+pub steps_come : {T : Type 0} (w me : ℕ) (p : Progress) (moves : List (Made T)) (old new : Option (Subscription T)) → Steps me moves old new → FitsAt p old → IsClean (to me (delivered_by moves)) → ComesAt me p (deliveries w (delivered_by moves)) new
+steps_come {T} w me p [] old new same fits clean = (p, refl, subst (λ (x : Option (Subscription T)). FitsAt p x) (sym same) fits)
+steps_come {T} w me p (d ∷ ds) old new (mid, step, rest) fits clean =
     let C : List (Signal T) → Type 0 = λ l. IsClean l in
     let parts = clean_parts (to me (option_to_list d.delivered)) (to me (delivered_by ds)) (subst C (to_on me (option_to_list d.delivered) (delivered_by ds)) clean) in
-    let first = step_comes me p d.delivered old mid step fits parts.0 in
-    let more = steps_come me first.0 ds mid new rest first.2 parts.1 in (
+    let first = step_comes w me p d.delivered old mid step fits parts.0 in
+    let more = steps_come w me first.0 ds mid new rest first.2 parts.1 in (
       more.0,
-      subst (λ (l : List Stamped). GoesOn me p l more.0) (sym (deliveries_on d.delivered (delivered_by ds))) (goes_further me p first.0 more.0 (deliveries (option_to_list d.delivered)) (deliveries (delivered_by ds)) first.1 more.1),
+      subst (λ (l : List Stamped). GoesOn me p l more.0) (sym (deliveries_on w d.delivered (delivered_by ds))) (goes_further me p first.0 more.0 (deliveries w (option_to_list d.delivered)) (deliveries w (delivered_by ds)) first.1 more.1),
       more.2,
     )
 

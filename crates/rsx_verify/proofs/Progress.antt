@@ -59,9 +59,8 @@ May (at over a n) (Request s r) = Unit {0}
 May (at over a n) (Cancel s) = Unit {0}
 May _ _ = ⊥
 
--- an event on worker 0 that this subscriber may have
+-- an event that this subscriber may have
 pub record Goes (me : ℕ) (p : Progress) (e : Stamped) : Type 0 where
-  pub here : e.worker ≡ 0
   pub own : subscriber_of e.event ≡ me
   pub may : May p e.event
 

@@ -23,7 +23,7 @@ use Rattle.rsx_trace.specs.declared.event.Event.{Event}
 use Rattle.rsx_trace.specs.declared.event.Event.TheVariants as event
 use Rattle.rsx_trace.specs.declared.event.Stamped.{Stamped}
 use Rattle.rsx_trace.specs.Events.{subscriber_of}
-use Rattle.rsx_verify.specs.Events.{answered, event_of, stamped}
+use Rattle.rsx_verify.specs.Events.{answered, event_of, stamped, stamped_on}
 use Rattle.rsx_verify.specs.Runs.{subscriber}
 use Rattle.rsx_verify.proofs.Progress.{Progress, at, receiving, running, refusing, ending, over, after, May, Goes, GoesOn}
 
@@ -52,8 +52,8 @@ pub record Leads (me : ℕ) (p : Progress) (t : List Stamped) (s : SubscriptionS
 abbrev pub Comes : {T : Type 0} → ℕ → Progress → List Stamped → Subscription T → Type 0
 Comes me p t sub = Leads me p t (standing_of sub) sub.demand.asked sub.demand.sent
 
-pub event_goes : (me : ℕ) (p : Progress) (e : Event) → subscriber_of e ≡ me → May p e → Goes me p (stamped e)
-event_goes me p e own m = record { here = refl; own = own; may = m }
+pub event_goes : {w : ℕ} (me : ℕ) (p : Progress) (e : Event) → subscriber_of e ≡ me → May p e → Goes me p (stamped_on w e)
+event_goes me p e own m = record { own = own; may = m }
 
 -- ---- requests and cancels
 
@@ -135,10 +135,10 @@ failed_closed true o = absurd (cc)
 failed_closed false o = absurd (cc)
 
 -- a delivery, by where the subscription stood in the table
-taken : {T : Type 0} (me : ℕ) (st st' : State) (live : Bool) (d : Demand) (asked sent : ℕ) (x : Signal T) (p : Progress) (i : ℕ) → i ≡ me → is_delivery (answer (cell_of st (input_of x)) d) ≡ true →
+taken : {T : Type 0} (w me : ℕ) (st st' : State) (live : Bool) (d : Demand) (asked sent : ℕ) (x : Signal T) (p : Progress) (i : ℕ) → i ≡ me → is_delivery (answer (cell_of st (input_of x)) d) ≡ true →
     st' ≡ state_after (cell_of st (input_of x)) st → asked ≡ asked_after (cell_of st (input_of x)) d → sent ≡ sent_after (cell_of st (input_of x)) d → FitsIn p (standing st live) d.asked d.sent → IsClean (x ∷ []) →
-    Leads me p (stamped (event_of i x) ∷ stamped (event.Exit i) ∷ []) (standing st' live) asked sent
-taken me StateOpen st' live d asked sent (Next x) (at running a k) i own del to ask given fits clean =
+    Leads me p (stamped_on w (event_of i x) ∷ stamped_on w (event.Exit i) ∷ []) (standing st' live) asked sent
+taken w me StateOpen st' live d asked sent (Next x) (at running a k) i own del to ask given fits clean =
     let test : nat_lt d.sent d.asked ≡ true = delivers_item (nat_lt d.sent d.asked) del in
     let lt : d.sent < d.asked = ltb-true d.sent d.asked test in
     record {
@@ -146,33 +146,33 @@ taken me StateOpen st' live d asked sent (Next x) (at running a k) i own del to 
       goes = inl (event_goes me (at running a k) (event.Next i) own (omega (arith, lt, fits.1, fits.2)), inl (event_goes me (at receiving a (k + 1)) (event.Exit i) own tt, refl));
       fits = (ap (λ s. standing s live) to, ask ∙ fits.1, given ∙ ap (λ b. if b then d.sent + 1 else d.sent) test ∙ ap (λ n. n + 1) fits.2);
     }
-taken me StateOpen st' live d asked sent Complete (at running a k) i own del to ask given fits clean = record {
+taken w me StateOpen st' live d asked sent Complete (at running a k) i own del to ask given fits clean = record {
   last = at over a k;
   goes = inl (event_goes me (at running a k) (event.Complete i) own tt, inl (event_goes me (at ending a k) (event.Exit i) own tt, refl));
   fits = λ o. let is : standing st' live ≡ Ended = ap (λ s. standing s live) to in absurd (cc);
 }
-taken me StateOpen st' live d asked sent (Error c) (at running a k) i own del to ask given fits clean = record {
+taken w me StateOpen st' live d asked sent (Error c) (at running a k) i own del to ask given fits clean = record {
   last = at over a k;
   goes = inl (event_goes me (at running a k) (event.Error i c) own clean.0, inl (event_goes me (at ending a k) (event.Exit i) own tt, refl));
   fits = λ o. failed_closed live (sym (ap (λ s. standing s live) to) ∙ o);
 }
-taken me StateOpen st' live d asked sent x (at over a k) i own del to ask given fits clean = absurd (fits refl)
-taken me StateOpen st' live d asked sent x _ i own del to ask given fits clean = absurd fits
-taken me Fresh st' live d asked sent (Next x) p i own del to ask given fits clean = absurd (cc)
-taken me Fresh st' live d asked sent Complete p i own del to ask given fits clean = absurd (cc)
-taken me Fresh st' live d asked sent (Error c) p i own del to ask given fits clean = absurd (cc)
-taken me StateCancelled st' live d asked sent (Next x) p i own del to ask given fits clean = absurd (cc)
-taken me StateCancelled st' live d asked sent Complete p i own del to ask given fits clean = absurd (cc)
-taken me StateCancelled st' live d asked sent (Error c) p i own del to ask given fits clean = absurd (cc)
-taken me Done st' live d asked sent (Next x) p i own del to ask given fits clean = absurd (cc)
-taken me Done st' live d asked sent Complete p i own del to ask given fits clean = absurd (cc)
-taken me Done st' live d asked sent (Error c) p i own del to ask given fits clean = absurd (cc)
-taken me Failed st' live d asked sent (Next x) p i own del to ask given fits clean = absurd (cc)
-taken me Failed st' live d asked sent Complete p i own del to ask given fits clean = absurd (cc)
-taken me Failed st' live d asked sent (Error c) p i own del to ask given fits clean = absurd (cc)
+taken w me StateOpen st' live d asked sent x (at over a k) i own del to ask given fits clean = absurd (fits refl)
+taken w me StateOpen st' live d asked sent x _ i own del to ask given fits clean = absurd fits
+taken w me Fresh st' live d asked sent (Next x) p i own del to ask given fits clean = absurd (cc)
+taken w me Fresh st' live d asked sent Complete p i own del to ask given fits clean = absurd (cc)
+taken w me Fresh st' live d asked sent (Error c) p i own del to ask given fits clean = absurd (cc)
+taken w me StateCancelled st' live d asked sent (Next x) p i own del to ask given fits clean = absurd (cc)
+taken w me StateCancelled st' live d asked sent Complete p i own del to ask given fits clean = absurd (cc)
+taken w me StateCancelled st' live d asked sent (Error c) p i own del to ask given fits clean = absurd (cc)
+taken w me Done st' live d asked sent (Next x) p i own del to ask given fits clean = absurd (cc)
+taken w me Done st' live d asked sent Complete p i own del to ask given fits clean = absurd (cc)
+taken w me Done st' live d asked sent (Error c) p i own del to ask given fits clean = absurd (cc)
+taken w me Failed st' live d asked sent (Next x) p i own del to ask given fits clean = absurd (cc)
+taken w me Failed st' live d asked sent Complete p i own del to ask given fits clean = absurd (cc)
+taken w me Failed st' live d asked sent (Error c) p i own del to ask given fits clean = absurd (cc)
 
-pub delivered_comes : {T : Type 0} (me : ℕ) (p : Progress) (i : ℕ) (x : Signal T) (old new : Subscription T) → i ≡ me → delivers old.state old.demand old.queue ≡ true → IsTake old x new → Fits p old → IsClean (x ∷ []) →
-    Comes me p (stamped (event_of i x) ∷ stamped (event.Exit i) ∷ []) new
-delivered_comes {T} me p i x old new own del take fits clean =
-    let L : Bool → Type 0 = λ l. Leads me p (stamped (event_of i x) ∷ stamped (event.Exit i) ∷ []) (standing new.state l) new.demand.asked new.demand.sent in
-    subst L (sym take.live) (taken me old.state new.state old.live old.demand new.demand.asked new.demand.sent x p i own (sym (ap (λ q. delivers old.state old.demand q) take.queue) ∙ del) take.state take.requested take.delivered fits clean)
+pub delivered_comes : {T : Type 0} (w me : ℕ) (p : Progress) (i : ℕ) (x : Signal T) (old new : Subscription T) → i ≡ me → delivers old.state old.demand old.queue ≡ true → IsTake old x new → Fits p old → IsClean (x ∷ []) →
+    Comes me p (stamped_on w (event_of i x) ∷ stamped_on w (event.Exit i) ∷ []) new
+delivered_comes {T} w me p i x old new own del take fits clean =
+    let L : Bool → Type 0 = λ l. Leads me p (stamped_on w (event_of i x) ∷ stamped_on w (event.Exit i) ∷ []) (standing new.state l) new.demand.asked new.demand.sent in
+    subst L (sym take.live) (taken w me old.state new.state old.live old.demand new.demand.asked new.demand.sent x p i own (sym (ap (λ q. delivers old.state old.demand q) take.queue) ∙ del) take.state take.requested take.delivered fits clean)

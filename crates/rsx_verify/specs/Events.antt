@@ -1,4 +1,4 @@
--- How what happens to a subscription is recorded.
+-- How what happens to subscriptions is recorded.
 use Rattle.std.specs.Prelude.{ℕ, List, [], ◌∷◌, Option, Some, None}
 use Rattle.std.specs.List.{flat_map}
 use Rattle.rsx_trace.specs.declared.event.Event.{Event}
@@ -8,9 +8,13 @@ use Rattle.rsx_types.specs.declared.names.SubId.{SubId}
 use Rattle.rsx_types.specs.declared.signal.Signal.{Signal}
 use Rattle.rsx_types.specs.declared.signal.Signal.TheVariants.{Next, Complete, Error}
 
+-- an event on this worker
+abbrev pub stamped_on : ℕ → Event → Stamped
+stamped_on w e = record { worker = w; event = e }
+
 -- an event on worker 0
 abbrev pub stamped : Event → Stamped
-stamped e = record { worker = 0; event = e }
+stamped e = stamped_on 0 e
 
 -- the signal to this subscriber begins
 abbrev pub event_of : {T : Type 0} → ℕ → Signal T → Event
@@ -18,19 +22,19 @@ event_of s (Next x) = event.Next s
 event_of s Complete = event.Complete s
 event_of s (Error c) = event.Error s c
 
--- a signal that was delivered: it begins and returns
-abbrev pub delivery : {T : Type 0} → SubId × Signal T → List Stamped
-delivery d = stamped (event_of d.0.0 d.1) ∷ stamped (event.Exit d.0.0) ∷ []
+-- a signal that was delivered on this worker: it begins and returns
+abbrev pub delivery : {T : Type 0} → ℕ → SubId × Signal T → List Stamped
+delivery w d = stamped_on w (event_of d.0.0 d.1) ∷ stamped_on w (event.Exit d.0.0) ∷ []
 
--- the signals that were delivered, in their order
-abbrev pub deliveries : {T : Type 0} → List (SubId × Signal T) → List Stamped
-deliveries ds = flat_map delivery ds
+-- the signals that were delivered on this worker, in their order
+abbrev pub deliveries : {T : Type 0} → ℕ → List (SubId × Signal T) → List Stamped
+deliveries w ds = flat_map (delivery w) ds
 
--- the signal that a request answers, if any, delivered to this subscriber
+-- the signal that a request answers, if any, delivered at once to this subscriber, on worker 0
 abbrev pub answered : {T : Type 0} → SubId → Option (Signal T) → List Stamped
 answered i None = []
-answered i (Some s) = delivery (i, s)
+answered i (Some s) = delivery 0 (i, s)
 
--- a subscription of the subscriber 0
-abbrev pub beginning : List Stamped
-beginning = stamped (event.Subscribe 0) ∷ stamped (event.OnSubscribe 0) ∷ stamped (event.Exit 0) ∷ []
+-- a subscription of this subscriber
+abbrev pub beginning : ℕ → List Stamped
+beginning i = stamped (event.Subscribe i) ∷ stamped (event.OnSubscribe i) ∷ stamped (event.Exit i) ∷ []

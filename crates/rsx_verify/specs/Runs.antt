@@ -1,24 +1,32 @@
--- The runs of one subscription, and what is recorded of them.
-use Rattle.std.specs.Prelude.{◌≡◌, ℕ, ℤ, List, [], ◌∷◌, ◌++◌, length, Option, Ok}
+-- The runs of subscriptions to one expression, and what is recorded of them.
+use Rattle.std.specs.Prelude.{◌≡◌, ◌⊎◌, ℕ, ℤ, ◌≤◌, List, [], ◌∷◌, ◌++◌, length, Option, Ok}
 use Rattle.rsx_trace.specs.declared.event.Event.TheVariants as event
 use Rattle.rsx_trace.specs.declared.event.Stamped.{Stamped}
 use Rattle.rsx_types.specs.Meaning.{Meaning}
+use Rattle.rsx_types.specs.declared.names.HubId.{HubId}
+use Rattle.rsx_types.specs.declared.names.HubKind.TheVariants.{Multicast}
 use Rattle.rsx_types.specs.declared.names.SubId.{SubId}
 use Rattle.rsx_types.specs.declared.signal.Signal.{Signal}
 use Rattle.rsx_model.specs.declared.expr.Expr.{Expr}
-use Rattle.rsx_history.specs.Begun.{IsSubscribed}
+use Rattle.rsx_model.specs.declared.expr.Expr.TheVariants.{Hub}
+use Rattle.rsx_region.specs.Region.{region_of}
+use Rattle.rsx_hub.specs.Hub.{HubState}
+use Rattle.rsx_publishing.specs.declared.feed.Feed.{Feed}
+use Rattle.rsx_subscriber.specs.declared.subscription.Subscription.{Subscription}
+use Rattle.rsx_history.specs.Begun.{HaveJoined, IsSubscribed}
 use Rattle.rsx_history.specs.Stands.{IsCancelledAt, IsRequestedAt}
 use Rattle.rsx_history.specs.declared.step.Pumped.{Pumped}
 use Rattle.rsx_subscriber.specs.Past.{cancelled, requested}
 use Rattle.rsx_feeding.specs.History.{History}
 use Rattle.rsx_feed_driving.specs.Pumped.{HasEnded, LeadTo, Made, after_moves, delivered_by}
+use Rattle.rsx_feed_edits.specs.Edits.{IsFedHubMade, with_fed_hub}
 use Rattle.rsx_feed_edits.specs.Requests.{with_past}
 use Rattle.rsx_graph.specs.Stands.{AreJoinsSame, GraphStands, GraphState, IsAsideSame}
 use Rattle.rsx_feed_edits.specs.Subscribing.{with_subscriber}
 use Rattle.rsx_graph.specs.Steps.{no_history}
 use Rattle.rsx_verify.specs.declared.act.Act.{Act}
 use Rattle.rsx_verify.specs.declared.act.Act.TheVariants.{Request, Cancel, Pump}
-use Rattle.rsx_verify.specs.declared.TheConstants.{BUDGET}
+use Rattle.rsx_verify.specs.declared.TheConstants.{BUDGET, CAPACITY}
 use Rattle.rsx_verify.specs.Events.{stamped, deliveries, answered, beginning}
 
 -- the subscriber with this number
@@ -26,55 +34,85 @@ abbrev pub subscriber : ℕ → SubId
 subscriber i = record { 0 = i }
 
 -- a request of n by a subscriber, what it answered, and what was recorded of both: the request before its effect
-pub record IsRequestOf {T : Type 0} (m : Meaning T) (i : ℕ) (n : ℤ) (old : GraphState T) (events : List Stamped) (new : GraphState T) : Type 0 where
+pub record IsRequestOf {T : Type 0} (m : Meaning T) (i : SubId) (n : ℤ) (old : GraphState T) (events : List Stamped) (new : GraphState T) : Type 0 where
   pub answer : Option (Signal T)
-  pub effect : IsRequestedAt i n old.rows.subs new.rows.subs answer
+  pub effect : IsRequestedAt i.0 n old.rows.subs new.rows.subs answer
   pub aside : IsAsideSame old new
-  pub stands : (h : History T) → GraphStands m old h → GraphStands m new (with_past (requested n) (subscriber i) h)
-  pub recorded : events ≡ stamped (event.Request i n) ∷ answered (subscriber i) answer
+  pub stands : (h : History T) → GraphStands m old h → GraphStands m new (with_past (requested n) i h)
+  pub recorded : events ≡ stamped (event.Request i.0 n) ∷ answered i answer
 
 -- a cancel by a subscriber, and what was recorded of it
-pub record IsCancelOf {T : Type 0} (m : Meaning T) (i : ℕ) (old : GraphState T) (events : List Stamped) (new : GraphState T) : Type 0 where
-  pub effect : IsCancelledAt i old.rows.subs new.rows.subs
+pub record IsCancelOf {T : Type 0} (m : Meaning T) (i : SubId) (old : GraphState T) (events : List Stamped) (new : GraphState T) : Type 0 where
+  pub effect : IsCancelledAt i.0 old.rows.subs new.rows.subs
   pub aside : IsAsideSame old new
-  pub stands : (h : History T) → GraphStands m old h → GraphStands m new (with_past cancelled (subscriber i) h)
-  pub recorded : events ≡ stamped (event.Cancel i) ∷ []
+  pub stands : (h : History T) → GraphStands m old h → GraphStands m new (with_past cancelled i h)
+  pub recorded : events ≡ stamped (event.Cancel i.0) ∷ []
 
--- enabled moves, until none is enabled or the budget is spent, and what was recorded of what they delivered
-pub record IsPumpOf {T : Type 0} (m : Meaning T) (old : GraphState T) (events : List Stamped) (new : GraphState T) : Type 0 where
+-- enabled moves, until none is enabled or the budget is spent, and what was recorded of what they delivered, on this worker
+pub record IsPumpOf {T : Type 0} (m : Meaning T) (w : ℕ) (old : GraphState T) (events : List Stamped) (new : GraphState T) : Type 0 where
   pub moves : List (Made T)
   pub lead : LeadTo m old.rows moves new.rows
   pub same : AreJoinsSame old new
   pub stands : (h : History T) → GraphStands m old h → GraphStands m new (after_moves h moves)
   pub end : Pumped
   pub ended : HasEnded m BUDGET (length moves) new.rows (Ok end)
-  pub recorded : events ≡ deliveries (delivered_by moves)
+  pub recorded : events ≡ deliveries w (delivered_by moves)
 
--- an act of the subscriber 0 led from one graph to the other, and these events were recorded of it
-abbrev pub IsActed : {T : Type 0} → Meaning T → Act → GraphState T → List Stamped → GraphState T → Type 0
-IsActed m (Request n) old events new = IsRequestOf m 0 n old events new
-IsActed m Cancel old events new = IsCancelOf m 0 old events new
-IsActed m Pump old events new = IsPumpOf m old events new
+-- there is no such subscriber: nothing happened, and nothing was recorded
+abbrev pub IsPassedOver : {T : Type 0} → SubId → GraphState T → List Stamped → GraphState T → Type 0
+IsPassedOver i old events new = (length old.rows.subs ≤ i.0) × (events ≡ []) × (new ≡ old)
+
+-- an act led from one graph to the other, and these events were recorded of it: signals that moves delivered on this worker, all
+-- else on worker 0
+abbrev pub IsActed : {T : Type 0} → Meaning T → ℕ → Act → GraphState T → List Stamped → GraphState T → Type 0
+IsActed m w (Request i n) old events new = IsRequestOf m i n old events new ⊎ IsPassedOver i old events new
+IsActed m w (Cancel i) old events new = IsCancelOf m i old events new ⊎ IsPassedOver i old events new
+IsActed m w Pump old events new = IsPumpOf m w old events new
 
 -- the acts led from one graph to the other, one after the other, and these events were recorded of them, in their order
-abbrev pub Leads : {T : Type 0} → Meaning T → GraphState T → List Act → List Stamped → GraphState T → Type 0
-Leads m old [] events new = (events ≡ []) × (new ≡ old)
-Leads {T} m old (act ∷ acts) events new =
-    (mid : GraphState T) × ((first : List Stamped) × ((rest : List Stamped) × (IsActed m act old first mid × Leads m mid acts rest new × (events ≡ first ++ rest))))
+abbrev pub Leads : {T : Type 0} → Meaning T → ℕ → GraphState T → List Act → List Stamped → GraphState T → Type 0
+Leads m w old [] events new = (events ≡ []) × (new ≡ old)
+Leads {T} m w old (act ∷ acts) events new =
+    (mid : GraphState T) × ((first : List Stamped) × ((rest : List Stamped) × (IsActed m w act old first mid × Leads m w mid acts rest new × (events ≡ first ++ rest))))
+
+-- the acts led from one graph to the other, and what was recorded of them stands behind the first events
+abbrev pub IsFollowedTo : {T : Type 0} → Meaning T → ℕ → GraphState T → List Act → List Stamped → List Stamped → GraphState T → Type 0
+IsFollowedTo m w old acts first events new = (rest : List Stamped) × (Leads m w old acts rest new × (events ≡ first ++ rest))
+
+abbrev pub IsFollowed : {T : Type 0} → Meaning T → ℕ → GraphState T → List Act → List Stamped → List Stamped → Type 0
+IsFollowed {T} m w old acts first events = (new : GraphState T) × IsFollowedTo m w old acts first events new
+
+-- ---- one subscription
 
 -- a fresh graph with one subscription, to this expression
 pub record IsBegun {T : Type 0} (m : Meaning T) (e : Expr T) (g : GraphState T) : Type 0 where
   pub subscribed : IsSubscribed e [] g.rows.subs
   pub stands : GraphStands m g (with_subscriber e no_history)
 
--- a fresh graph subscribed to the expression, the acts led from it to this one, and these events were recorded
-pub record IsRunTo {T : Type 0} (m : Meaning T) (e : Expr T) (acts : List Act) (events : List Stamped) (g : GraphState T) : Type 0 where
-  pub fresh : GraphState T
-  pub begun : IsBegun m e fresh
-  pub rest : List Stamped
-  pub lead : Leads m fresh acts rest g
-  pub recorded : events ≡ beginning ++ rest
-
--- these events were recorded of a run with these acts, from a fresh graph on
+-- these events were recorded of a run with these acts: a fresh graph subscribed to the expression, and then they were done. What
+-- moves deliver is delivered in the region of the expression
 abbrev pub IsRecorded : {T : Type 0} → Meaning T → Expr T → List Act → List Stamped → Type 0
-IsRecorded {T} m e acts events = (g : GraphState T) × IsRunTo m e acts events g
+IsRecorded {T} m e acts events = (fresh : GraphState T) × (IsBegun m e fresh × IsFollowed m (region_of e) fresh acts (beginning 0) events)
+
+-- ---- two subscriptions to a hub that the expression feeds
+
+-- what is published at the first hub
+abbrev pub reader : {T : Type 0} → Expr T
+reader = Hub (record { 0 = 0 })
+
+-- a fresh graph with a hub of the processor's capacity that this expression feeds, and with two subscriptions to the hub
+pub record IsProcessing {T : Type 0} (m : Meaning T) (e : Expr T) (g : GraphState T) : Type 0 where
+  pub hubs : List (HubState T)
+  pub joined : List (HubState T)
+  pub subs : List (Subscription T)
+  pub fed : IsFedHubMade Multicast CAPACITY e [] hubs [] g.rows.feeds
+  pub first : IsSubscribed reader [] subs
+  pub first_joined : HaveJoined reader hubs joined
+  pub second : IsSubscribed reader subs g.rows.subs
+  pub second_joined : HaveJoined reader joined g.rows.hubs
+  pub stands : GraphStands m g (with_subscriber reader (with_subscriber reader (with_fed_hub Multicast e no_history)))
+
+-- these events were recorded of a run of a processor with these acts
+abbrev pub IsProcessed : {T : Type 0} → Meaning T → Expr T → List Act → List Stamped → Type 0
+IsProcessed {T} m e acts events =
+    (fresh : GraphState T) × (IsProcessing m e fresh × IsFollowed m (region_of {T = T} reader) fresh acts (beginning 0 ++ beginning 1) events)

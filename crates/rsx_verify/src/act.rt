@@ -1,12 +1,14 @@
 //! What a run does.
 
-/// What a run does to its subscription, or to its graph.
+use rsx_types::SubId;
+
+/// What a run does: what one of its subscribers does, or its graph.
 #[derive(Clone, Copy, Debug, PartialEq, Eq)]
 pub enum Act {
-    /// The subscriber requests so many items.
-    Request(i64),
-    /// The subscriber cancels.
-    Cancel,
+    /// This subscriber requests so many items.
+    Request(SubId, i64),
+    /// This subscriber cancels.
+    Cancel(SubId),
     /// The graph makes moves, at most [`BUDGET`](crate::BUDGET).
     Pump,
 }

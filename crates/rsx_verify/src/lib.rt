@@ -1,9 +1,10 @@
 #![tactic(auto)]
-//! Verifies an expression: runs of a subscription to it, each on a fresh graph and recorded as a trace.
+//! Verifies an expression: runs of subscriptions to it, each on a fresh graph and recorded as a trace.
 //!
-//! - [`act`]: [`Act`], what a run does to its subscription.
-//! - [`recording`]: [`record`], the events of a run.
-//! - [`runs`]: the three runs by which an expression is verified, and [`verify`], what they say of the rules.
+//! - [`act`]: [`Act`], what a run does.
+//! - [`recording`]: [`record`], the events of a run of one subscription, and [`process`], those of a run of two subscriptions to a hub
+//!   that the expression feeds.
+//! - [`runs`]: the four runs by which an expression is verified, and [`verify`], what they say of the rules.
 //! - [`line`]: [`Line`], what the runs say of a rule, and [`print_lines`].
 //! - [`refusal`]: [`VerifyRefusal`], why an expression isn't run.
 
@@ -17,9 +18,12 @@ pub mod runs;
 
 pub use act::Act;
 pub use line::{Line, print_lines};
-pub use recording::record;
+pub use recording::{process, record};
 pub use refusal::VerifyRefusal;
-pub use runs::{bad_request_run, cancel_run, publisher_run, verify};
+pub use runs::{bad_request_run, cancel_run, processor_run, publisher_run, verify};
 
 /// The most moves of one pump of a run.
 pub const BUDGET: u32 = 10_000;
+
+/// How many items may wait at each reader of the hub of a processor.
+pub const CAPACITY: u64 = 4;

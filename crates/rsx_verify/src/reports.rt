@@ -6,21 +6,27 @@ ghost use Rattle.rsx_verify.specs.Reports.{AreLines, IsLine, first_broken};
 use crate::line::Line;
 use rsx_tck::{Rule, Stamped, Verdict, judge};
 
-/// The first of three verdicts by which a rule is broken, with its number; 0 and the first where none is.
-fn first_broken(first: Verdict, second: Verdict, third: Verdict) -> (u32, Verdict)
-    ensures { result ≡ first_broken first second third }
+/// The first of four verdicts by which a rule is broken, with its number; 0 and the first where none is.
+fn first_broken(first: Verdict, second: Verdict, third: Verdict, fourth: Verdict) -> (u32, Verdict)
+    ensures { result ≡ first_broken first second third fourth }
 {
-    match (first, second, third) {
-        (Verdict::Broken(_), _, _) => (1, first),
-        (_, Verdict::Broken(_), _) => (2, second),
-        (_, _, Verdict::Broken(_)) => (3, third),
+    match (first, second, third, fourth) {
+        (Verdict::Broken(_), _, _, _) => (1, first),
+        (_, Verdict::Broken(_), _, _) => (2, second),
+        (_, _, Verdict::Broken(_), _) => (3, third),
+        (_, _, _, Verdict::Broken(_)) => (4, fourth),
         _ => (0, first),
     }
 }
 
-/// What three traces say of the rules, in their order.
-pub fn judge_runs(first: &[Stamped], second: &[Stamped], third: &[Stamped]) -> [Line; 43]
-    ensures { AreLines (IsLine first.now second.now third.now) result }
+/// What four traces say of the rules, in their order.
+pub fn judge_runs(
+    first: &[Stamped],
+    second: &[Stamped],
+    third: &[Stamped],
+    fourth: &[Stamped],
+) -> [Line; 43]
+    ensures { AreLines (IsLine first.now second.now third.now fourth.now) result }
 {
     let rules = Rule::all();
     let mut lines = [Line {
@@ -34,6 +40,7 @@ pub fn judge_runs(first: &[Stamped], second: &[Stamped], third: &[Stamped]) -> [
             judge(rule, first),
             judge(rule, second),
             judge(rule, third),
+            judge(rule, fourth),
         );
         lines[position] = Line { rule, run, verdict };
     }

@@ -1,7 +1,8 @@
 use Rattle.std.proofs.Common.{◌≡◌, ◌∙◌, ◌∷◌, ◌++◌, [], ap, map, rules}
 use Rattle.rsx_history.proofs.Joins.{map_last}
 use Rattle.rsx_feeding.specs.Moves.{rows_of}
-use Rattle.rsx_feed_edits.proofs.Subscribed.{joins_made, subscribed_made}
+use Rattle.rsx_feed_edits.proofs.Subscribed.{joins_made, regions_made, subscribed_made}
+use Rattle.rsx_region.specs.Region.{region_of}
 use Rattle.rsx_feed_edits.proofs.subscribing.subscribe.Goals as goal
 
 pub returns-clause-stands : goal.returns-clause-stands
@@ -26,3 +27,11 @@ returns-clause-missed g c =
 pub returns-clause-joins : goal.returns-clause-joins
 returns-clause-joins g c = λ feeds feed_joins h s k.
     joins_made (g.O.Ops.meaning c.args.ops.now) c.args.expr.now (rows_of c.args.hubs.now.items feeds c.args.subscriptions.now.items) (map (λ v. v.items) c.args.joins.now.items) (map (λ v. v.items) c.push_reserved-2.new.self.items) feed_joins h (returns-clause-missed g c) s k
+
+pub returns-clause-placed : goal.returns-clause-placed
+returns-clause-placed g c =
+    let added : c.push_reserved-3.new.self.items ≡ c.args.regions.now.items ++ region_of c.args.expr.now ∷ [] = search rules in
+    added
+
+pub returns-clause-regions : goal.returns-clause-regions
+returns-clause-regions g c = λ h k. regions_made c.args.expr.now c.args.regions.now.items c.push_reserved-3.new.self.items h (returns-clause-placed g c) k

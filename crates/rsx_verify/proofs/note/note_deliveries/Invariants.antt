@@ -4,4 +4,4 @@ use Rattle.rsx_verify.proofs.note.note_deliveries.Given as goal
 
 -- what was delivered so far is written down
 abbrev pub invariant-loop-sub : goal.invariant-loop-sub
-invariant-loop-sub g l = l.events.items ≡ l.fn.events.items ++ deliveries (take l.sub-index l.fn.delivered)
+invariant-loop-sub g l = l.events.items ≡ l.fn.events.items ++ deliveries l.fn.worker (take l.sub-index l.fn.delivered)

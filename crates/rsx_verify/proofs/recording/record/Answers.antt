@@ -1,21 +1,18 @@
-use Rattle.std.proofs.Common.{ap, ◌∙◌, arith}
+use Rattle.std.proofs.Common.{ap}
 use Rattle.rsx_graph.specs.InGraph.{state_of}
-use Rattle.rsx_verify.proofs.Leading.{run_more, run_all}
+use Rattle.rsx_region.specs.Region.{region_of}
+use Rattle.rsx_verify.specs.Events.{beginning}
 use Rattle.rsx_verify.proofs.Kept.{recorded_kept}
+use Rattle.rsx_verify.proofs.Leading.{followed_from}
 use Rattle.rsx_verify.proofs.recording.record.Goals as goal
 
-pub loop-act-preserved : goal.loop-act-preserved
-loop-act-preserved g c =
-    let i = c.loop-act.invariant in
-    record {
-      ops = c.in_ok-act.ensures.ops ∙ i.ops;
-      admitted = i.admitted;
-      run = run_more (g.O.Ops.meaning c.args.ops) (g.O.Ops.meaning c.loop-act.recording.graph.ops) c.args.expr.now c.args.acts.now c.loop-act.act-index _ c.loop-act.recording.events.items c.act.new.self.events.items (state_of c.loop-act.recording.graph) (state_of c.act.new.self.graph)
-          (ap g.O.Ops.meaning i.ops) (omega (arith, c.loop-act-test.true)) i.run c.in_ok-act.ensures.acted;
-    }
-
 pub returns-clause-recorded : goal.returns-clause-recorded
-returns-clause-recorded g c = run_all (g.O.Ops.meaning c.args.ops) c.args.expr.now c.args.acts.now c.loop-act.act-index c.loop-act.recording.events.items (state_of c.loop-act.recording.graph) (omega (arith, c.loop-act-test.false)) c.loop-act.invariant.run
+returns-clause-recorded g c =
+    let begun = c.in_ok-begun.begun in
+    let meaning = g.O.Ops.meaning in
+    let followed = followed_from (meaning c.args.ops) (meaning begun.graph.ops) (region_of c.args.expr.now) begun.region (state_of begun.graph) c.args.acts.now (beginning 0) begun.events.items c.in_ok-events.events.items
+    (ap meaning c.in_ok-begun.ensures.ops) c.in_ok-begun.ensures.region c.in_ok-begun.ensures.recorded c.in_ok-events.ensures.followed in
+    (state_of begun.graph, (c.in_ok-begun.ensures.begun, followed))
 
 pub returns-clause-kept : goal.returns-clause-kept
-returns-clause-kept g c = recorded_kept (g.O.Ops.meaning c.args.ops) c.args.expr.now c.args.acts.now c.loop-act.recording.events.items (run_all (g.O.Ops.meaning c.args.ops) c.args.expr.now c.args.acts.now c.loop-act.act-index c.loop-act.recording.events.items (state_of c.loop-act.recording.graph) (omega (arith, c.loop-act-test.false)) c.loop-act.invariant.run)
+returns-clause-kept g c = recorded_kept (g.O.Ops.meaning c.args.ops) c.args.expr.now c.args.acts.now c.in_ok-events.events.items (returns-clause-recorded g c)

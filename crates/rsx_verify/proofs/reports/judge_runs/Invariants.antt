@@ -7,5 +7,5 @@ use Rattle.rsx_verify.proofs.reports.judge_runs.Given as goal
 abbrev pub invariant-loop-position : goal.invariant-loop-position
 invariant-loop-position l = record {
   all : length l.lines ≡ 43;
-  so_far : LinesBelow (IsLine l.first l.second l.third) l.lines l.position;
+  so_far : LinesBelow (IsLine l.first l.second l.third l.fourth) l.lines l.position;
 }

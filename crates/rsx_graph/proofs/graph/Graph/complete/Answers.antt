@@ -10,9 +10,10 @@ returns-in-Ok-clause-stands g c = λ h s.
     record {
       rows = c.in-Ok.ensures.stands (g.O.Ops.meaning graph.ops) graph.subscriptions.items h s.rows;
       joined = joins_published Complete c.args.hub graph.feeds.items (map (λ v. v.items) graph.joins.items) (map (λ v. v.items) graph.feed_joins.items) h s.joined;
+      placed = s.placed;
     }
 
 pub returns-in-Err-clause-same : goal.returns-in-Err-clause-same
 returns-in-Err-clause-same g c =
     let graph = c.args.self.now in
-    λ i. state_with (c.in-Err.ensures.same i) graph.feeds.items graph.subscriptions.items (map (λ v. v.items) graph.joins.items) (map (λ v. v.items) graph.feed_joins.items)
+    λ i. state_with (c.in-Err.ensures.same i) graph.feeds.items graph.subscriptions.items (map (λ v. v.items) graph.joins.items) (map (λ v. v.items) graph.feed_joins.items) graph.regions.items

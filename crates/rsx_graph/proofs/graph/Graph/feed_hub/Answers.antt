@@ -14,6 +14,7 @@ returns-in-Ok-clause-stands g c = λ h s.
     record {
       rows = c.in-Ok.ensures.stands graph.subscriptions.items h s.rows;
       joined = c.in-Ok.ensures.joins graph.subscriptions.items (map (λ v. v.items) graph.joins.items) h s.rows s.joined;
+      placed = s.placed;
     }
 
 pub returns-in-Ok-clause-missed : goal.returns-in-Ok-clause-missed
@@ -23,4 +24,4 @@ pub returns-in-Err-clause-same : goal.returns-in-Err-clause-same
 returns-in-Err-clause-same g c =
     let graph = c.args.self.now in
     let same = c.in-Err.ensures.same in
-    λ i. state_with (same.0 i) (same.1 i) graph.subscriptions.items (map (λ v. v.items) graph.joins.items) (map (λ v. v.items) (same.2 i))
+    λ i. state_with (same.0 i) (same.1 i) graph.subscriptions.items (map (λ v. v.items) graph.joins.items) (map (λ v. v.items) (same.2 i)) graph.regions.items

@@ -17,9 +17,9 @@ invariant_of-result g c =
     }
 
 pub returns-clause-empty : goal.returns-clause-empty
-returns-clause-empty g c = λ i. state_with (c.new.ensures.items i) (c.new-2.ensures.items i) (c.new-4.ensures.items i) (map (λ v. v.items) (c.new-5.ensures.items i)) (map (λ v. v.items) (c.new-3.ensures.items i))
+returns-clause-empty g c = λ i. state_with (c.new.ensures.items i) (c.new-2.ensures.items i) (c.new-4.ensures.items i) (map (λ v. v.items) (c.new-5.ensures.items i)) (map (λ v. v.items) (c.new-3.ensures.items i)) (c.new-6.ensures.items i)
 
 pub returns-clause-stands : goal.returns-clause-stands
 returns-clause-stands g c =
     begun_from (g.O.Ops.meaning c.args.ops) _
-    (λ i. state_with (c.new.ensures.items i) (c.new-2.ensures.items i) (c.new-4.ensures.items i) (map (λ v. v.items) (c.new-5.ensures.items i)) (map (λ v. v.items) (c.new-3.ensures.items i)))
+    (λ i. state_with (c.new.ensures.items i) (c.new-2.ensures.items i) (c.new-4.ensures.items i) (map (λ v. v.items) (c.new-5.ensures.items i)) (map (λ v. v.items) (c.new-3.ensures.items i)) (c.new-6.ensures.items i))

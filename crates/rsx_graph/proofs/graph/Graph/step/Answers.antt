@@ -23,7 +23,7 @@ returns-in-Err-clause-belongs g c = λ h s.
     rw c.in-Subscribe.is (subscribe_refused _ c.args.self.now.hubs.items _ _ _ c.in-Err.why s.rows.many (subs_there (g.O.Ops.meaning c.args.self.now.ops) (state_of c.args.self.now).rows h s.rows) c.in-Err.ensures.err)
 
 pub returns-in-Ok-clause-done : goal.returns-in-Ok-clause-done
-returns-in-Ok-clause-done g c = let k = c.in-Ok.ensures in rw c.in-Subscribe.is (k.id, k.effect, k.joined, c.subscribe.ensures.feeds, k.missed, ap (map (λ v. v.items)) c.subscribe.ensures.feed_joins)
+returns-in-Ok-clause-done g c = let k = c.in-Ok.ensures in rw c.in-Subscribe.is (k.id, k.effect, k.joined, c.subscribe.ensures.feeds, k.missed, ap (map (λ v. v.items)) c.subscribe.ensures.feed_joins, k.placed)
 
 pub returns-in-Err-clause-done : goal.returns-in-Err-clause-done
 returns-in-Err-clause-done g c = let k = c.in-Err.ensures in rw c.in-Subscribe.is (k.err, k.same)
@@ -134,7 +134,7 @@ returns-in-Err-feed_hub-clause-belongs g c = λ h s.
     rw c.in-FeedHub.is (new_feed_refused c.in-FeedHub.kind c.in-FeedHub.capacity _ c.args.self.now.hubs.items (length h.hubs) c.in-Err-feed_hub.why s.rows.many c.in-Err-feed_hub.ensures.err)
 
 pub returns-in-Ok-feed_hub-clause-done : goal.returns-in-Ok-feed_hub-clause-done
-returns-in-Ok-feed_hub-clause-done g c = let k = c.in-Ok-feed_hub.ensures in rw c.in-FeedHub.is (k.id.0, k.id.1, k.id.2, k.effect, c.feed_hub.ensures.subscriptions, ap (map (λ v. v.items)) c.feed_hub.ensures.joins, k.missed)
+returns-in-Ok-feed_hub-clause-done g c = let k = c.in-Ok-feed_hub.ensures in rw c.in-FeedHub.is (k.id.0, k.id.1, k.id.2, k.effect, c.feed_hub.ensures.subscriptions, ap (map (λ v. v.items)) c.feed_hub.ensures.joins, k.missed, c.feed_hub.ensures.regions)
 
 pub returns-in-Err-feed_hub-clause-done : goal.returns-in-Err-feed_hub-clause-done
 returns-in-Err-feed_hub-clause-done g c = let k = c.in-Err-feed_hub.ensures in rw c.in-FeedHub.is (k.err, k.same)

@@ -17,4 +17,4 @@ returns-in_err-sub-clause-leads c =
 pub returns-clause-leads : goal.returns-clause-leads
 returns-clause-leads c = λ h k.
     let ok = c.in_ok-sub.ensures in
-    made (step.Subscribe c.args.expr) (did.Subscribed c.in_ok-sub.sub) c.args.self.now _ h k (ok.stands h k.graph) (ok.id, ok.effect, ok.joined, ok.feeds, ok.missed, ap (map (λ v. v.items)) ok.feed_joins) (λ bad. cc) k.published (subscribed_records c.args.expr (joins_in h c.args.expr) h.pasts _ _ _ c.push_reserved.ensures.items (ap (map known) c.reserve.ensures.items ∙ k.records) refl c.new.ensures.items refl) refl refl
+    made (step.Subscribe c.args.expr) (did.Subscribed c.in_ok-sub.sub) c.args.self.now _ h k (ok.stands h k.graph) (ok.id, ok.effect, ok.joined, ok.feeds, ok.missed, ap (map (λ v. v.items)) ok.feed_joins, ok.placed) (λ bad. cc) k.published (subscribed_records c.args.expr (joins_in h c.args.expr) h.pasts _ _ _ c.push_reserved.ensures.items (ap (map known) c.reserve.ensures.items ∙ k.records) refl c.new.ensures.items refl) refl refl
