@@ -112,6 +112,7 @@ left m = record m { queue = []; gone = true }
 
 -- what holds of every member
 pub record IsMember {T : Type 0} (m : MemberState T) : Type 0 where
+  pub positive : 1 ≤ m.capacity
   pub fits : length m.queue ≤ m.places
   pub stored : m.capacity ≤ m.places
   pub few : m.reached ≤ MOST_ACCEPTED

@@ -48,7 +48,8 @@ impl<T: Drop> Member<T> {
         replayed: u64,
         reached: u64,
     ) -> Result<Member<T>, NoMemory>
-        requires { reached ≤ MOST_ACCEPTED }
+        requires positive { 1 ≤ capacity }
+        requires reached { reached ≤ MOST_ACCEPTED }
         ensures { IfOk result (λ m. m ≡ empty_member capacity replayed reached) }
     {
         let queue = HeapCircularBuffer::with_capacity(alloc, capacity.max(replayed) as usize)?;
@@ -85,9 +86,10 @@ impl<T: Drop> Member<T> {
     }
 
     /// Whether it takes in an item: it has not left, the hub's ending was not taken in, and fewer items wait than the hub's
-    /// capacity. A member that has taken in 2^63 - 1 items takes in no more.
+    /// capacity, which is one at least. A member that has taken in 2^63 - 1 items takes in no more.
     pub fn can_take_in(&self) -> bool
-        ensures { result ≡ takes_items self.now }
+        ensures room { result ≡ takes_items self.now }
+        ensures positive { 1 ≤ self.now.capacity }
     {
         self.is_reading()
             && (self.queue.len() as u64) < self.capacity
@@ -105,6 +107,7 @@ impl<T: Drop> Member<T> {
         // Over each value in which this signal comes next, what it still gives out is the same as before.
         ensures value { OnOk result ((w : Stream T) → IsNextAt self.old.reached w signal → rest self.new w ≡ rest self.old w) }
         ensures refused { OnErr result (takes self.old signal ≡ false) }
+        ensures positive { 1 ≤ self.old.capacity }
         ensures err { IfErr result (λ s. s ≡ signal) }
         ensures same { OnErr result (self.new ≡ self.old) }
     {

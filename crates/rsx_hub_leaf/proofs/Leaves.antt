@@ -1,6 +1,7 @@
 -- What a node that reads a hub makes of what its member does.
-use Rattle.std.proofs.Common.{◌≡◌, ℕ, zero, suc, Bool, true, false, ◌&&◌, List, [], ◌∷◌, drop, Option, Some, None, Result, Ok, Err, ◌<◌, ◌≤◌, length, get_or, arith, refl, ap, sym, ◌∙◌, subst}
-use Rattle.std.specs.Prelude.{OnOk, IfOk}
+use Rattle.std.proofs.Common.{◌≡◌, ℕ, zero, suc, Bool, true, false, ◌&&◌, ◌||◌, nat_lt, List, [], ◌∷◌, drop, Option, Some, None, Result, Ok, Err, ◌<◌, ◌≤◌, length, get_or, arith, refl, ap, sym, ◌∙◌, subst}
+use Rattle.std.specs.Prelude.{OnOk, OnErr, IfOk}
+use Rattle.std.proofs.lemmas.Bool.Decides.{nat_tests}
 use Rattle.std.proofs.lemmas.Result.{IfOk-weaker}
 use Rattle.rsx_types.specs.declared.note.Note.{Note}
 use Rattle.rsx_types.specs.declared.note.Note.TheVariants.{Nothing}
@@ -12,9 +13,12 @@ use Rattle.rsx_types.specs.declared.signal.Signal.TheVariants.{Next, Complete, E
 use Rattle.rsx_types.specs.Meaning.{Meaning}
 use Rattle.rsx_types.specs.Stream.{Stream, ended_by, items_then}
 use Rattle.rsx_sources.specs.Machine.{Incoming, incoming_of, quiet}
-use Rattle.rsx_sources.specs.Reading.{Reading, IsNextAt, IsNextIn, IsReadOn, IsBehind, IsResidualOf, published_at, reading_after}
-use Rattle.rsx_hub.specs.Member.{MemberState, rest, rest_before, behind, without, is_reading, takes, took, IsGiven}
-use Rattle.rsx_hub_leaf.specs.Leaf.{LeafState, member_of, leaf_comes_out, leaf_reads, leaf_popped, reading_of}
+use Rattle.rsx_sources.specs.Reading.{Reading, IsNextAt, IsNextIn, IsReadOn, IsBehind, IsResidualOf, published_at, reading_after, takes_published}
+use Rattle.rsx_sources.specs.Slot.{is_nil}
+use Rattle.rsx_hub.specs.Member.{MemberState, rest, rest_before, behind, without, is_reading, takes, takes_items, took, IsGiven}
+use Rattle.rsx_hub.specs.Waiting.{first_waiting, is_open}
+use Rattle.rsx_hub.specs.declared.TheConstants.{MOST_ACCEPTED}
+use Rattle.rsx_hub_leaf.specs.Leaf.{LeafState, member_of, leaf_comes_out, leaf_reads, leaf_rooms, leaf_popped, leaf_waiting, reading_of}
 
 -- the node that reads a hub by this member
 abbrev pub leaf_of : {T : Type 0} → ℕ → MemberState T → LeafState T
@@ -81,6 +85,68 @@ taken_on h m k s live can is value =
 pub read_on : {T A E : Type 0} (h : ℕ) (m k : MemberState T) (s : Signal T) (r : Result A E) → m.gone ≡ false → OnOk r (takes m s ≡ true) → OnOk r (k ≡ took m s) → OnOk r ((w : Stream T) → IsNextAt m.reached w s → rest k w ≡ rest m w) → OnOk r (IsReadOn leaf_comes_out leaf_reads (leaf_of h m) s (leaf_of h k))
 read_on h m k s (Ok a) live can is value = taken_on h m k s live can is value
 read_on h m k s (Err e) live can is value = value
+
+-- ---- room
+
+-- an empty queue has room for an item, since a member's capacity is one at least
+room_in : {T : Type 0} (r : Bool) (q : List T) (n c : ℕ) → 1 ≤ c → (r && (nat_lt (length q) c && nat_lt n MOST_ACCEPTED)) ≡ (r && ((is_nil q || nat_lt (length q) c) && nat_lt n MOST_ACCEPTED))
+room_in r [] n c l = ap (λ b. r && (b && nat_lt n MOST_ACCEPTED)) (some_room c l)
+  where
+    some_room : (k : ℕ) → 1 ≤ k → nat_lt 0 k ≡ true
+    some_room k e = grind (arith, nat_tests)
+room_in r (x ∷ q) n c l = refl
+
+pub room_is : {T : Type 0} (h : ℕ) (m : MemberState T) → m.gone ≡ false → 1 ≤ m.capacity → takes_items m ≡ leaf_rooms (leaf_of h m)
+room_is h m live l = ap (λ g. is_reading g m.ending && (nat_lt (length m.queue) m.capacity && nat_lt m.reached MOST_ACCEPTED)) live ∙ room_in (is_open m.ending) m.queue m.reached m.capacity l
+
+takes_is : {T : Type 0} (h : ℕ) (m : MemberState T) (s : Signal T) → m.gone ≡ false → 1 ≤ m.capacity → takes_published (leaf_reads (leaf_of h m)) (leaf_rooms (leaf_of h m)) s ≡ takes m s
+takes_is {T} h m s live l = by_signal s
+  where
+    reading : Reading
+    reading = record { hub = h; reached = m.reached }
+
+    goes_on : is_reading m.gone m.ending ≡ is_open m.ending
+    goes_on = ap (λ g. is_reading g m.ending) live
+
+    of_item : (e : Ending) (x : T) (b : Bool) → takes_published (reading_of e reading) (is_open e && b) (Next x) ≡ (is_open e && b)
+    of_item Open x b = refl
+    of_item Done x b = refl
+    of_item (Failed c) x b = refl
+
+    of_end : (e : Ending) (b : Bool) → takes_published {T = T} (reading_of e reading) b Complete ≡ is_open e
+    of_end Open b = refl
+    of_end Done b = refl
+    of_end (Failed c) b = refl
+
+    of_error : (e : Ending) (b : Bool) (k : Cause) → takes_published {T = T} (reading_of e reading) b (Error k) ≡ is_open e
+    of_error Open b k = refl
+    of_error Done b k = refl
+    of_error (Failed c) b k = refl
+
+    by_signal : (t : Signal T) → takes_published (leaf_reads (leaf_of h m)) (leaf_rooms (leaf_of h m)) t ≡ takes m t
+    by_signal (Next x) = of_item m.ending x ((is_nil m.queue || nat_lt (length m.queue) m.capacity) && nat_lt m.reached MOST_ACCEPTED) ∙ sym (room_is h m live l)
+    by_signal Complete = of_end m.ending (leaf_rooms (leaf_of h m)) ∙ sym goes_on
+    by_signal (Error k) = of_error m.ending (leaf_rooms (leaf_of h m)) k ∙ sym goes_on
+
+pub refused_is : {T A E : Type 0} (h : ℕ) (m : MemberState T) (s : Signal T) (r : Result A E) → m.gone ≡ false → 1 ≤ m.capacity → OnErr r (takes m s ≡ false) → OnErr r (takes_published (leaf_reads (leaf_of h m)) (leaf_rooms (leaf_of h m)) s ≡ false)
+refused_is h m s (Ok a) live l k = k
+refused_is h m s (Err e) live l k = takes_is h m s live l ∙ k
+
+-- a node that reads a hub and has no room offers something, as long as it has not taken in as many items as there may be
+full_in : {T : Type 0} (q : List T) (n c : ℕ) → n < MOST_ACCEPTED → (is_nil q || nat_lt (length q) c) && nat_lt n MOST_ACCEPTED ≡ false → first_waiting q Open false ≡ None → ⊥
+full_in [] n c less k none = let more : nat_lt n MOST_ACCEPTED ≡ true = grind (arith, nat_tests, less) in cc
+full_in (x ∷ q) n c less k none = cc
+
+pub leaf_full : {T : Type 0} (m : Meaning T) (n : LeafState T) (r : Reading) → leaf_reads n ≡ Some r → leaf_rooms n ≡ false → r.reached < MOST_ACCEPTED → leaf_waiting m n ≡ None → ⊥
+leaf_full {T} m n r reads full less none = by_ending n.ending reads full none
+  where
+    reached_of : (h i : ℕ) (k : Reading) → Some (record { hub = h; reached = i }) ≡ Some k → i ≡ k.reached
+    reached_of h i k e = cc
+
+    by_ending : (e : Ending) → reading_of e (record { hub = n.hub; reached = n.reached }) ≡ Some r → is_open e && ((is_nil n.queue || nat_lt (length n.queue) n.capacity) && nat_lt n.reached MOST_ACCEPTED) ≡ false → first_waiting n.queue e false ≡ None → ⊥
+    by_ending Open read k w = full_in n.queue n.reached n.capacity (subst (λ i. i < MOST_ACCEPTED) (sym (reached_of n.hub n.reached r read)) less) k w
+    by_ending Done read k w = cc
+    by_ending (Failed c) read k w = cc
 
 -- ---- what still comes out
 

@@ -1,5 +1,5 @@
 -- The node that reads a hub: what it offers, what still comes out of it, and how far it got.
-use Rattle.std.specs.Prelude.{◌≡◌, ℕ, Bool, true, false, nat_le, List, [], ◌∷◌, Option, Some, None, option_map, refl}
+use Rattle.std.specs.Prelude.{◌≡◌, ℕ, Bool, true, false, ◌&&◌, ◌||◌, nat_lt, List, [], ◌∷◌, length, Option, Some, None, option_map, refl}
 use Rattle.rsx_types.specs.declared.note.Note.{Note}
 use Rattle.rsx_types.specs.declared.signal.Ending.{Ending}
 use Rattle.rsx_types.specs.declared.signal.Ending.TheVariants.{Open, Done, Failed}
@@ -9,9 +9,11 @@ use Rattle.rsx_types.specs.Meaning.{Meaning}
 use Rattle.rsx_types.specs.Stream.{Stream}
 use Rattle.rsx_sources.specs.Machine.{Incoming, quiet}
 use Rattle.rsx_sources.specs.Reading.{Reading, published_at}
+use Rattle.rsx_sources.specs.Slot.{is_nil}
 use Rattle.rsx_sources.specs.declared.machine.Front.{Front}
-use Rattle.rsx_hub.specs.Member.{MemberState, rest, offered, takes_items, IsGiven}
-use Rattle.rsx_hub.specs.Waiting.{first_shown}
+use Rattle.rsx_hub.specs.Member.{MemberState, rest, offered, IsGiven}
+use Rattle.rsx_hub.specs.Waiting.{first_shown, is_open}
+use Rattle.rsx_hub.specs.declared.TheConstants.{MOST_ACCEPTED}
 
 -- the number of its hub, and its member of that hub, which never leaves
 pub record LeafState (T : Type 0) : Type 0 where
@@ -52,6 +54,7 @@ reading_of (Failed c) r = None
 abbrev pub leaf_reads : {T : Type 0} → LeafState T → Option Reading
 leaf_reads n = reading_of n.ending (record { hub = n.hub; reached = n.reached })
 
--- it has room for an item where its member takes one in
+-- it has room for an item where its member takes one in. That has a capacity of one at least, so while its queue is empty, only the
+-- most items that a member may take in can leave it without room
 abbrev pub leaf_rooms : {T : Type 0} → LeafState T → Bool
-leaf_rooms n = takes_items (member_of n)
+leaf_rooms n = is_open n.ending && ((is_nil n.queue || nat_lt (length n.queue) n.capacity) && nat_lt n.reached MOST_ACCEPTED)

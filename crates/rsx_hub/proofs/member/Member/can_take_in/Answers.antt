@@ -1,5 +1,5 @@
 use Rattle.std.proofs.Common.{rules}
 use Rattle.rsx_hub.proofs.member.Member.can_take_in.Goals as goal
 
-pub returns-then-len-self : goal.returns-then-len-self
-returns-then-len-self g c = search rules
+pub returns-then-len-self-clause-room : goal.returns-then-len-self-clause-room
+returns-then-len-self-clause-room g c = search rules
