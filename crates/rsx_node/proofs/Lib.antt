@@ -7,6 +7,7 @@ pub mod PlainRests
 pub mod PublishOnRests
 pub mod QueuesRests
 pub mod Rests
+pub mod Room
 pub mod SourcesRests
 pub mod WindowRests
 pub mod ZipRests
