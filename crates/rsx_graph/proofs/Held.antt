@@ -1,6 +1,8 @@
 -- A hub that can't take its next item in, since a node that reads it has no room: where no other node reads it, each node that does
 -- offers something.
-use Rattle.std.proofs.Common.{◌≡◌, ◌⊎◌, inl, inr, ⊤, ℕ, zero, suc, ◌+◌, ◌<◌, ◌≤◌, Bool, true, false, ◌&&◌, nat_eq, nat_lt, if◌then◌else◌, List, [], ◌∷◌, slice_get, Option, Some, None, refl, sym, ap, ◌∙◌, subst, arith}
+use Rattle.std.proofs.Common.{◌≡◌, ◌⊎◌, inl, inr, ℕ, zero, suc, ◌+◌, ◌<◌, ◌≤◌, Bool, true, false, ◌&&◌, nat_eq, nat_lt, if◌then◌else◌, List, [], ◌∷◌, slice_get, Option, Some, None, refl, sym, ap, ◌∙◌, subst, arith}
+use Rattle.std.specs.Prelude.{⊤}
+use Rattle.std.proofs.lemmas.Bool.Decides.{nat_tests}
 use Rattle.rsx_feeding.proofs.Named.{same_number}
 use Rattle.rsx_hub.specs.declared.TheConstants.{MOST_ACCEPTED}
 use Rattle.rsx_pipe.proofs.Room.{any_full}
@@ -119,60 +121,62 @@ row_unread b m h (More' e n p below q beside) few =
     let here = left_most (reader_at b h n + readers_in b h below) (readers_in b h beside) 0 (subst (λ x. x ≤ 0) (live_count (is_live e.state) (reader_at b h n + readers_in b h below) (readers_in b h beside) live) few) in
     (node_unread b m h n (left_most (reader_at b h n) (readers_in b h below) 0 here), row_unread b m h below (right_most (reader_at b h n) (readers_in b h below) 0 here)), row_unread b m h beside rest)
 
+-- a node of a row and what is below it, or what is beside it, has no room
+abbrev NoRoomHere : {M T : Type 0} → Machine M T → ℕ → M → Inputs M → Type 0
+NoRoomHere b h n below = room_at b h n && has_room_in b h below ≡ false
+
+here_reads : {M T : Type 0} (b : Machine M T) (h : ℕ) (n : M) (below : Inputs M) → (has_room_in b h below ≡ false → 1 ≤ readers_in b h below) → NoRoomHere b h n below → 1 ≤ reader_at b h n + readers_in b h below
+here_reads b h n below deeper none = elim (one_false (room_at b h n) (has_room_in b h below) none) [
+  | inl x ↦ left_more (reader_at b h n) (readers_in b h below) (node_reads b h n x)
+  | inr x ↦ right_more (reader_at b h n) (readers_in b h below) (deeper x)
+]
+
 row_reads : {M T : Type 0} (b : Machine M T) (h : ℕ) (t : Inputs M) → has_room_in b h t ≡ false → 1 ≤ readers_in b h t
 row_reads b h End room = cc
-row_reads {M} b h (More' e n p below q beside) room = by_test (is_live e.state) (one_false (if is_live e.state then room_at b h n && has_room_in b h below else true) (has_room_in b h beside) room)
+row_reads {M} b h (More' e n p below q beside) room = by_test (λ x. row_reads b h below x) (λ x. row_reads b h beside x) (is_live e.state) (one_false (if is_live e.state then room_at b h n && has_room_in b h below else true) (has_room_in b h beside) room)
   where
-    here : room_at b h n && has_room_in b h below ≡ false → 1 ≤ reader_at b h n + readers_in b h below
-    here k = elim (one_false (room_at b h n) (has_room_in b h below) k) [
-      | inl x ↦ left_more (reader_at b h n) (readers_in b h below) (node_reads b h n x)
-      | inr x ↦ right_more (reader_at b h n) (readers_in b h below) (row_reads b h below x)
-    ]
+    by_test : (has_room_in b h below ≡ false → 1 ≤ readers_in b h below) → (has_room_in b h beside ≡ false → 1 ≤ readers_in b h beside) → (t : Bool) → ((if t then room_at b h n && has_room_in b h below else true) ≡ false) ⊎ (has_room_in b h beside ≡ false) → 1 ≤ (if t then reader_at b h n + readers_in b h below else 0) + readers_in b h beside
+    by_test deeper further t (inr x) = right_more (if t then reader_at b h n + readers_in b h below else 0) (readers_in b h beside) (further x)
+    by_test deeper further true (inl x) = left_more (reader_at b h n + readers_in b h below) (readers_in b h beside) (here_reads b h n below deeper x)
+    by_test deeper further false (inl x) = cc
 
-    by_test : (t : Bool) → ((if t then room_at b h n && has_room_in b h below else true) ≡ false) ⊎ (has_room_in b h beside ≡ false) → 1 ≤ (if t then reader_at b h n + readers_in b h below else 0) + readers_in b h beside
-    by_test t (inr x) = right_more (if t then reader_at b h n + readers_in b h below else 0) (readers_in b h beside) (row_reads b h beside x)
-    by_test true (inl x) = left_more (reader_at b h n + readers_in b h below) (readers_in b h beside) (here x)
-    by_test false (inl x) = cc
+-- the only node that reads the hub has no room: a node, or one below it
+here_held : {M T : Type 0} (b : Machine M T) (m : Meaning T) (h c : ℕ) (counts : List (Option ℕ)) (n : M) (below : Inputs M) → OffersWhenFull b m → IsCounted counts h c → IsReadAt counts (b.reads n) → (has_room_in b h below ≡ false → readers_in b h below ≤ 1 → AllOfferIn b m h below) → NoRoomHere b h n below →
+    reader_at b h n + readers_in b h below ≤ 1 → Offers b m h n × AllOfferIn b m h below
+here_held b m h c counts n below law k read deeper none most = elim (one_false (room_at b h n) (has_room_in b h below) none) [
+  | inl x ↦ (node_held b m h c counts n law k read x, row_unread b m h below (left_one (reader_at b h n) (readers_in b h below) most (node_reads b h n x)))
+  | inr x ↦ (node_unread b m h n (right_one (reader_at b h n) (readers_in b h below) most (row_reads b h below x)), deeper x (right_most (reader_at b h n) (readers_in b h below) 1 most))
+]
 
--- the only node that reads the hub has no room
+here_unread : {M T : Type 0} (b : Machine M T) (m : Meaning T) (h : ℕ) (n : M) (below : Inputs M) → reader_at b h n + readers_in b h below ≤ 0 → Offers b m h n × AllOfferIn b m h below
+here_unread b m h n below l = (node_unread b m h n (left_most (reader_at b h n) (readers_in b h below) 0 l), row_unread b m h below (right_most (reader_at b h n) (readers_in b h below) 0 l))
+
+not_both : (t : Bool) → t ≡ true → t ≡ false → ⊥
+not_both t x y = cc
+
+read_behind : {M T : Type 0} (b : Machine M T) (counts : List (Option ℕ)) (t : Bool) (n : M) (below : Inputs M) → t ≡ true → (t ≡ false) ⊎ (IsReadAt counts (b.reads n) × IsRowReadAt b counts below) → IsReadAt counts (b.reads n) × IsRowReadAt b counts below
+read_behind b counts t n below live k = elim k [ inl dead ↦ absurd (not_both t live dead) | inr r ↦ r ]
+
+-- or one of the row
 row_held : {M T : Type 0} (b : Machine M T) (m : Meaning T) (h c : ℕ) (counts : List (Option ℕ)) (t : Inputs M) → OffersWhenFull b m → IsCounted counts h c → IsRowReadAt b counts t → has_room_in b h t ≡ false → readers_in b h t ≤ 1 → AllOfferIn b m h t
 row_held b m h c counts End law k read room few = tt
-row_held {M} {T} b m h c counts (More' e n p below q beside) law k read room few = by_test (is_live e.state) refl room few
+row_held {M} {T} b m h c counts (More' e n p below q beside) law k read room few =
+    by_test (λ r x l. row_held b m h c counts below law k r x l) (λ x l. row_held b m h c counts beside law k read.1 x l) (is_live e.state) refl room few
   where
-    own : ℕ
-    own = reader_at b h n + readers_in b h below
+    by_live : (IsRowReadAt b counts below → has_room_in b h below ≡ false → readers_in b h below ≤ 1 → AllOfferIn b m h below) → (has_room_in b h beside ≡ false → readers_in b h beside ≤ 1 → AllOfferIn b m h beside) →
+        is_live e.state ≡ true → (room_at b h n && has_room_in b h below) && has_room_in b h beside ≡ false → (reader_at b h n + readers_in b h below) + readers_in b h beside ≤ 1 → (is_live e.state ≡ true → Offers b m h n × AllOfferIn b m h below) × AllOfferIn b m h beside
+    by_live deeper further live none most =
+        let r = read_behind b counts (is_live e.state) n below live read.0 in
+        elim (one_false (room_at b h n && has_room_in b h below) (has_room_in b h beside) none) [
+          | inl x ↦ (λ _. here_held b m h c counts n below law k r.0 (deeper r.1) x (left_most (reader_at b h n + readers_in b h below) (readers_in b h beside) 1 most), row_unread b m h beside (left_one (reader_at b h n + readers_in b h below) (readers_in b h beside) most (here_reads b h n below (row_reads b h below) x)))
+          | inr x ↦ (λ _. here_unread b m h n below (right_one (reader_at b h n + readers_in b h below) (readers_in b h beside) most (row_reads b h beside x)), further x (right_most (reader_at b h n + readers_in b h below) (readers_in b h beside) 1 most))
+        ]
 
-    both : (t : Bool) → t ≡ true → t ≡ false → ⊥
-    both t x y = cc
-
-    read_here : is_live e.state ≡ true → IsReadAt counts (b.reads n) × IsRowReadAt b counts below
-    read_here live = elim read.0 [ inl dead ↦ absurd (both (is_live e.state) live dead) | inr r ↦ r ]
-
-    below_held : is_live e.state ≡ true → (room_at b h n && has_room_in b h below) ≡ false → reader_at b h n + readers_in b h below ≤ 1 → Offers b m h n × AllOfferIn b m h below
-    below_held live none most = elim (one_false (room_at b h n) (has_room_in b h below) none) [
-      | inl x ↦ (node_held b m h c counts n law k (read_here live).0 x, row_unread b m h below (left_one (reader_at b h n) (readers_in b h below) most (node_reads b h n x)))
-      | inr x ↦ (node_unread b m h n (right_one (reader_at b h n) (readers_in b h below) most (row_reads b h below x)), row_held b m h c counts below law k (read_here live).1 x (right_most (reader_at b h n) (readers_in b h below) 1 most))
-    ]
-
-    below_reads : (room_at b h n && has_room_in b h below) ≡ false → 1 ≤ reader_at b h n + readers_in b h below
-    below_reads none = elim (one_false (room_at b h n) (has_room_in b h below) none) [
-      | inl x ↦ left_more (reader_at b h n) (readers_in b h below) (node_reads b h n x)
-      | inr x ↦ right_more (reader_at b h n) (readers_in b h below) (row_reads b h below x)
-    ]
-
-    below_unread : reader_at b h n + readers_in b h below ≤ 0 → Offers b m h n × AllOfferIn b m h below
-    below_unread l = (node_unread b m h n (left_most (reader_at b h n) (readers_in b h below) 0 l), row_unread b m h below (right_most (reader_at b h n) (readers_in b h below) 0 l))
-
-    by_live : is_live e.state ≡ true → (room_at b h n && has_room_in b h below) && has_room_in b h beside ≡ false → (reader_at b h n + readers_in b h below) + readers_in b h beside ≤ 1 → (is_live e.state ≡ true → Offers b m h n × AllOfferIn b m h below) × AllOfferIn b m h beside
-    by_live live none most = elim (one_false (room_at b h n && has_room_in b h below) (has_room_in b h beside) none) [
-      | inl x ↦ (λ _. below_held live x (left_most (reader_at b h n + readers_in b h below) (readers_in b h beside) 1 most), row_unread b m h beside (left_one (reader_at b h n + readers_in b h below) (readers_in b h beside) most (below_reads x)))
-      | inr x ↦ (λ _. below_unread (right_one (reader_at b h n + readers_in b h below) (readers_in b h beside) most (row_reads b h beside x)), row_held b m h c counts beside law k read.1 x (right_most (reader_at b h n + readers_in b h below) (readers_in b h beside) 1 most))
-    ]
-
-    by_test : (t : Bool) → is_live e.state ≡ t → (if t then room_at b h n && has_room_in b h below else true) && has_room_in b h beside ≡ false → (if t then reader_at b h n + readers_in b h below else 0) + readers_in b h beside ≤ 1 →
+    by_test : (IsRowReadAt b counts below → has_room_in b h below ≡ false → readers_in b h below ≤ 1 → AllOfferIn b m h below) → (has_room_in b h beside ≡ false → readers_in b h beside ≤ 1 → AllOfferIn b m h beside) →
+        (t : Bool) → is_live e.state ≡ t → (if t then room_at b h n && has_room_in b h below else true) && has_room_in b h beside ≡ false → (if t then reader_at b h n + readers_in b h below else 0) + readers_in b h beside ≤ 1 →
         (is_live e.state ≡ true → Offers b m h n × AllOfferIn b m h below) × AllOfferIn b m h beside
-    by_test true is none most = by_live is none most
-    by_test false is none most = (λ live. absurd (both (is_live e.state) live is), row_held b m h c counts beside law k read.1 none most)
+    by_test deeper further true is none most = by_live deeper further is none most
+    by_test deeper further false is none most = (λ live. absurd (not_both (is_live e.state) live is), further none (right_most 0 (readers_in b h beside) 1 most))
 
 -- ---- a part
 

@@ -1,4 +1,5 @@
 -- Lemmas about graphs.
+pub mod Held
 pub mod Kept
 pub mod Known
 pub mod Reading

@@ -1,37 +1,41 @@
--- What the nodes that read hubs have got, where no signal waits in front of a hub.
-use Rattle.std.specs.Prelude.{◌≡◌, ⊤, ℕ, ◌<◌, ◌≤◌, Bool, false, ◌||◌, List, [], ◌∷◌, length}
+-- What the nodes that read hubs have got, where each hub in front of which a signal waits has one reader at most.
+use Rattle.std.specs.Prelude.{◌≡◌, ⊤, ℕ, ◌<◌, ◌≤◌, Bool, true, false, ◌||◌, List, [], ◌∷◌, length, Option, Some, None, is_some, slice_get}
 use Rattle.rsx_demand.specs.declared.TheConstants.{UNBOUNDED}
 use Rattle.rsx_feeding.specs.Headline.{AreValues}
 use Rattle.rsx_feeding.specs.History.{History}
-use Rattle.rsx_feeding.specs.Moves.{feed_enabled}
-use Rattle.rsx_feeding.specs.Stands.{Rows}
-use Rattle.rsx_history.specs.Hubs.{signals_wait}
+use Rattle.rsx_feeding.specs.Stands.{Rows, feed_of}
 use Rattle.rsx_history.specs.Served.{AllHaveRead}
+use Rattle.rsx_hub.specs.Hub.{HubState, waiting}
+use Rattle.rsx_hub.specs.declared.TheConstants.{MOST_ACCEPTED}
 use Rattle.rsx_model.specs.declared.check.TheConstants.{MOST_NODES}
 use Rattle.rsx_pipe.specs.Feeding.{goes_out}
-use Rattle.rsx_pipe.specs.Part.{IsNumbered, all_edges}
+use Rattle.rsx_pipe.specs.Part.{all_edges}
 use Rattle.rsx_pipe.specs.Tree.{IsWithin}
+use Rattle.rsx_publishing.specs.Publishing.{all_readers}
 use Rattle.rsx_publishing.specs.declared.feed.Feed.{Feed}
-use Rattle.rsx_tree.specs.declared.look.NodeMove.{NodeMove}
 use Rattle.rsx_types.specs.Meaning.{Meaning}
 use Rattle.rsx_types.specs.Stream.{Stream}
 use Rattle.rsx_graph.specs.Stands.{GraphStands, GraphState}
 
--- ---- where no signal waits in front of a hub
+-- ---- where a signal waits in front of a hub
 
--- the root edge of one of these feeds carries a signal, which waits there for its hub
-abbrev pub feeds_wait : {T : Type 0} → Meaning T → List (Feed T) → Bool
-feeds_wait m [] = false
-feeds_wait m (f ∷ fs) = goes_out m f.part || feeds_wait m fs
+-- the root edge of this feed, if there is one, carries a signal, which waits there for its hub
+abbrev pub feed_waits : {T : Type 0} → Meaning T → Option (Feed T) → Bool
+feed_waits m None = false
+feed_waits m (Some f) = goes_out m f.part
 
--- no signal waits in front of a hub: neither in the inbox of one nor at the root of a feed
-pub record NoneWaits {T : Type 0} (m : Meaning T) (g : Rows T) : Type 0 where
-  pub inboxes : signals_wait g.hubs ≡ false
-  pub feeds : feeds_wait m g.feeds ≡ false
+-- a signal waits in front of the hub with this number: in its inbox, or at the root of its feed
+abbrev pub waits_at : {T : Type 0} → Meaning T → Rows T → ℕ → HubState T → Bool
+waits_at m g i s = is_some (waiting s) || feed_waits m (feed_of g.feeds i)
 
--- no move of a feed is enabled
-abbrev pub AreFeedsQuiet : {T : Type 0} → Meaning T → Rows T → Type 0
-AreFeedsQuiet m g = (h : ℕ) (step : NodeMove) → IsNumbered step → feed_enabled m g h step ≡ false
+-- one node at most reads a hub, of all subscriptions and feeds, and the hub has not taken in 2^63-1 items
+pub record HasOneReader {T : Type 0} (g : Rows T) (i : ℕ) (s : HubState T) : Type 0 where
+  pub one : all_readers i g.feeds g.subs ≤ 1
+  pub more : s.count < MOST_ACCEPTED
+
+-- so it is with each hub in front of which a signal waits
+abbrev pub WaitForOne : {T : Type 0} → Meaning T → Rows T → Type 0
+WaitForOne {T} m g = (i : ℕ) (s : HubState T) → slice_get g.hubs i ≡ Some s → waits_at m g i s ≡ true → HasOneReader g i s
 
 -- no edge of a feed has carried 2^63-1 items, and it has at most `MOST_NODES` nodes, as each has whose expression isn't refused
 pub record IsFeedWithin {T : Type 0} (f : Feed T) : Type 0 where
@@ -50,6 +54,6 @@ AreFeedsWithin (f ∷ fs) = IsFeedWithin f × AreFeedsWithin fs
 abbrev pub HaveAllRead : {T : Type 0} → Meaning T → Rows T → History T → Type 0
 HaveAllRead {T} m g h = (published : List (Stream T)) → AreValues m g.feeds [] h.hubs published → AllHaveRead m published g.subs
 
--- whatever history the graph stands for: by it each did, where no signal waits in front of a hub
+-- whatever history the graph stands for: by it each did, where each hub in front of which a signal waits has one reader at most
 abbrev pub IsAllRead : {T : Type 0} → Meaning T → GraphState T → Type 0
-IsAllRead {T} m g = (h : History T) → GraphStands m g h → NoneWaits m g.rows → AreFeedsWithin g.rows.feeds → HaveAllRead m g.rows h
+IsAllRead {T} m g = (h : History T) → GraphStands m g h → WaitForOne m g.rows → AreFeedsWithin g.rows.feeds → HaveAllRead m g.rows h

@@ -1,9 +1,11 @@
 //! That where no signal waits in front of a hub, all that was published is read.
 
+ghost use Rattle.std.specs.Prelude.{length};
+ghost use Rattle.rsx_feed_driving.specs.Pumped.{AreHubsQuiet};
 ghost use Rattle.rsx_feeding.specs.History.{History};
 ghost use Rattle.rsx_feeding.specs.Stands.{Rows, StandsFor};
 ghost use Rattle.rsx_types.specs.Meaning.{Meaning};
-ghost use Rattle.rsx_graph.specs.Read.{AreFeedsQuiet, AreFeedsWithin, HaveAllRead, NoneWaits};
+ghost use Rattle.rsx_graph.specs.Read.{AreFeedsWithin, HaveAllRead, WaitForOne};
 
 use rsx_types::Ops;
 
@@ -16,5 +18,5 @@ use rsx_types::Ops;
 /// sentence.
 pub fn read_all<O: Ops>()
     ensures { (m : Meaning O.Item) (g : Rows O.Item) (h : History O.Item) →
-        StandsFor m g h → NoneWaits m g → AreFeedsQuiet m g → AreFeedsWithin g.feeds → HaveAllRead m g h }
+        StandsFor m g h → WaitForOne m g → AreHubsQuiet m g (length g.hubs) → AreFeedsWithin g.feeds → HaveAllRead m g h }
 {}
