@@ -1,5 +1,5 @@
 -- Graphs go on standing for what has happened: the joins that they keep, and the hubs that their feeds name.
-use Rattle.std.proofs.Common.{◌≡◌, ℕ, List, [], ◌∷◌, length, map, Option, Result, Ok, Err, IfOk, OnOk, OnErr, refl, ap, sym, ◌∙◌, subst}
+use Rattle.std.proofs.Common.{◌≡◌, ℕ, ◌≤◌, List, [], ◌∷◌, length, map, Option, Result, Ok, Err, IfOk, OnOk, OnErr, refl, ap, sym, ◌∙◌, subst}
 use Rattle.rsx_feed_driving.proofs.Keeping.{KeepHubs, lead_keep, moved_keep}
 use Rattle.rsx_feed_driving.specs.Moves.{IsMoved}
 use Rattle.rsx_feed_driving.proofs.Serving.{rows_served}
@@ -14,6 +14,7 @@ use Rattle.rsx_feeding.specs.History.{History, with_made}
 use Rattle.rsx_feeding.specs.Moves.{rows_of}
 use Rattle.rsx_feeding.specs.Stands.{Rows}
 use Rattle.rsx_history.proofs.Graphs.{joins_kept}
+use Rattle.rsx_history.specs.declared.TheConstants.{MOST_HUBS}
 use Rattle.rsx_history.specs.declared.refusal.Refusal.{Refusal}
 use Rattle.rsx_history.specs.declared.step.Pumped.{Pumped}
 use Rattle.rsx_history.specs.declared.step.Pumped.TheVariants.{Idle}
@@ -30,7 +31,7 @@ use Rattle.rsx_graph.specs.Pumped.{HasPumped}
 use Rattle.rsx_graph.specs.Read.{IsAllRead}
 use Rattle.rsx_graph.specs.Stands.{GraphStands, GraphState, IsAllServed, nothing}
 use Rattle.rsx_graph.specs.Steps.{no_history}
-use Rattle.rsx_graph.proofs.Reading.{feeds_quiet, rows_read}
+use Rattle.rsx_graph.proofs.Reading.{hubs_quiet, rows_read}
 
 -- a graph of these rows and joins
 abbrev pub state_with : {T : Type 0} → List (HubState T) → List (Feed T) → List (Subscription T) → List (List ℕ) → List (List ℕ) → GraphState T
@@ -113,11 +114,13 @@ idle_served {T} m budget old new before after p joins feed_joins k idle =
     let P : Pumped → Type 0 = λ q. HasEnded m budget (length k.0) new (Ok q) in
     λ h s. rows_served m new h s.rows (subst P idle k.1).1
 
--- and each node that reads a hub has got all that was published there, where no signal waits in front of a hub
-pub idle_read : {T : Type 0} (m : Meaning T) (budget : ℕ) (old new : Rows T) (before after : Delivered T) (p : Pumped) (joins feed_joins : List (List ℕ)) → driving.HasPumped m budget old before (Ok p) new after → p ≡ Idle → IsAllRead m (record { rows = new; joins = joins; feed_joins = feed_joins })
-idle_read {T} m budget old new before after p joins feed_joins k idle =
+-- and each node that reads a hub and offers nothing has got all that was published there, where each hub in front of which a signal waits
+-- has one reader at most
+pub idle_read : {T : Type 0} (m : Meaning T) (budget : ℕ) (old new : Rows T) (before after : Delivered T) (p : Pumped) (joins feed_joins : List (List ℕ)) → length new.hubs ≤ MOST_HUBS → driving.HasPumped m budget old before (Ok p) new after → p ≡ Idle →
+    IsAllRead m (record { rows = new; joins = joins; feed_joins = feed_joins })
+idle_read {T} m budget old new before after p joins feed_joins few k idle =
     let P : Pumped → Type 0 = λ q. HasEnded m budget (length k.0) new (Ok q) in
-    λ h s none within. rows_read m new h s.rows none (feeds_quiet m new (subst P idle k.1).1) within
+    λ h s wait within. rows_read m new h s.rows wait (hubs_quiet m new few (subst P idle k.1).1) within
 
 -- ---- a refused call
 

@@ -29,7 +29,7 @@ use Rattle.rsx_pipe.specs.Output.{IsUnended, counts_in, items_in, more_after, pu
 use Rattle.rsx_pipe.specs.Part as Part
 use Rattle.rsx_pipe.specs.Part.{HasReadAll, IsServed, PartStands, evaluated, has_room}
 use Rattle.rsx_pipe.specs.Published.{IsTaken}
-use Rattle.rsx_pipe.specs.Tree.{notes_of}
+use Rattle.rsx_pipe.specs.Tree.{can_go, notes_of}
 use Rattle.rsx_publishing.specs.Publishing.{all_have_room, can_accept_with_feeds, is_ready}
 use Rattle.rsx_publishing.specs.Sending.{can_feed, takes_next}
 use Rattle.rsx_publishing.specs.declared.feed.Feed.{Feed}
@@ -369,20 +369,20 @@ emitted_held {T} m g h k i v w s p st there source waits =
     in_front false None is e = e
     in_front false (Some f) is e = cc
 
-fed_held : {T : Type 0} (m : Meaning T) (g : Rows T) (h : History T) (k : IsAtRest m g h) (i : ℕ) (v : Stream T) (s : HubState T) (p : HubPast T) (e : Expr T) (joins : List ℕ) → HubStands m g.feeds k.stands.taken i v s p → slice_get g.hubs i ≡ Some s → slice_get k.stands.taken i ≡ Some v → (fed : IsFedBy m g.feeds k.stands.taken i s e joins) → goes_out m fed.feed.part ≡ true → waits_at m g i s ≡ true → IsHeldAt g i v
-fed_held {T} m g h k i v s p e joins st there took fed out waits =
+fed_held : {T : Type 0} (m : Meaning T) (g : Rows T) (h : History T) (k : IsAtRest m g h) (i : ℕ) (v : Stream T) (s : HubState T) (p : HubPast T) (e : Expr T) (joins : List ℕ) → HubStands m g.feeds k.stands.taken i v s p → slice_get g.hubs i ≡ Some s → slice_get k.stands.taken i ≡ Some v → (source : IsFedBy m g.feeds k.stands.taken i s e joins) → goes_out m source.feed.part ≡ true → waits_at m g i s ≡ true → IsHeldAt g i v
+fed_held {T} m g h k i v s p e joins st there took source out waits =
     let one = k.wait i s there waits in
     let quiet = k.quiet i (hub_less g.hubs i s there) in
-    let here : fed.feed.hub ≡ i = feed_named g.feeds i fed.feed fed.there in
-    let going = carried_signal (edge_view fed.feed.part.root) (offers any_machine m fed.feed.part.tree) out in
-    let live : fed.feed.part.root.state ≡ Live = live_state fed.feed.part.root.state going.2 in
-    let same : fed.stands.value ≡ v = some_same fed.stands.value v (sym fed.stands.taken ∙ (ap (slice_get k.stands.taken) here ∙ took)) in
-    let none_ended : v.ending ≡ Open = ap (λ x. x.ending) (sym same) ∙ unended_open fed.stands.value.items fed.stands.value.ending (fed.stands.part.unended live) in
-    let unended : s.ending ≡ Open = still_open s.ending s.has_ended v.ending st.taken_in.ending none_ended st.taken_in.closed fed.unended in
-    let takes : takes_signal s going.0 ≡ true = takes_open s.ending s.inbox s.count going.0 unended fed.empty one.more in
-    let root : sends m g i ≡ false = known_first (has_feed g i) (sends m g i) (has_known g i s fed.feed there fed.there) (quiet.feed (NodeSend 0) (omega arith)) in
-    let full : can_feed m fed.feed s g.feeds g.subs ≡ false = sym (ap (λ o. sends_where m g o (feed_of g.feeds i)) there ∙ ap (λ o. sends_where m g (Some s) o) fed.there) ∙ root in
-    let room : all_have_room fed.feed.hub g.feeds g.subs ≡ false = next_full s (all_have_room fed.feed.hub g.feeds g.subs) (next_out m fed.feed.part) going.0 going.1 takes full in
+    let here : source.feed.hub ≡ i = feed_named g.feeds i source.feed source.there in
+    let going = carried_signal (edge_view source.feed.part.root) (offers any_machine m source.feed.part.tree) out in
+    let live : source.feed.part.root.state ≡ Live = live_state source.feed.part.root.state going.2 in
+    let same : source.stands.value ≡ v = some_same source.stands.value v (sym source.stands.taken ∙ (ap (slice_get k.stands.taken) here ∙ took)) in
+    let none_ended : v.ending ≡ Open = ap (λ x. x.ending) (sym same) ∙ unended_open source.stands.value.items source.stands.value.ending (source.stands.part.unended live) in
+    let unended : s.ending ≡ Open = still_open s.ending s.has_ended v.ending st.taken_in.ending none_ended st.taken_in.closed source.unended in
+    let takes : takes_signal s going.0 ≡ true = takes_open s.ending s.inbox s.count going.0 unended source.empty one.more in
+    let root : sends m g i ≡ false = known_first (has_feed g i) (sends m g i) (has_known g i s source.feed there source.there) (quiet.feed (NodeSend 0) (omega arith)) in
+    let full : can_feed m source.feed s g.feeds g.subs ≡ false = sym (ap (λ o. sends_where m g o (feed_of g.feeds i)) there ∙ ap (λ o. sends_where m g (Some s) o) source.there) ∙ root in
+    let room : all_have_room source.feed.hub g.feeds g.subs ≡ false = next_full s (all_have_room source.feed.hub g.feeds g.subs) (next_out m source.feed.part) going.0 going.1 takes full in
     held_at m g i v s st.taken_in one (ap (λ n. all_have_room n g.feeds g.subs) (sym here) ∙ room) none_ended
 
 -- ---- a hub that isn't held back took in its value
@@ -459,24 +459,24 @@ record HaveValues {T : Type 0} (m : Meaning T) (g : Rows T) (h : History T) (tak
   many : length rest ≡ length taken
   values : AreValues m g.feeds [] h.hubs (values_then taken rest)
 
-fed_taken : {T : Type 0} (m : Meaning T) (g : Rows T) (h : History T) (k : IsAtRest m g h) (rest : List (Stream T)) (i : ℕ) (v : Stream T) (s : HubState T) (p : HubPast T) (e : Expr T) (joins : List ℕ) → HaveValues m g h k.stands.taken rest → slice_get g.hubs i ≡ Some s → slice_get k.stands.taken i ≡ Some v → (fed : IsFedBy m g.feeds k.stands.taken i s e joins) → goes_out m fed.feed.part ≡ false →
-    ((w : Stream T) (l : List (Stream T)) → slice_get (values_then k.stands.taken rest) i ≡ Some w → l ≡ take i (values_then k.stands.taken rest) → evaluated m l joins e (notes_of fed.feed.part.tree) ≡ Some w) →
+fed_taken : {T : Type 0} (m : Meaning T) (g : Rows T) (h : History T) (k : IsAtRest m g h) (rest : List (Stream T)) (i : ℕ) (v : Stream T) (s : HubState T) (p : HubPast T) (e : Expr T) (joins : List ℕ) → HaveValues m g h k.stands.taken rest → slice_get g.hubs i ≡ Some s → slice_get k.stands.taken i ≡ Some v → (source : IsFedBy m g.feeds k.stands.taken i s e joins) → goes_out m source.feed.part ≡ false →
+    ((w : Stream T) (l : List (Stream T)) → slice_get (values_then k.stands.taken rest) i ≡ Some w → l ≡ take i (values_then k.stands.taken rest) → evaluated m l joins e (notes_of source.feed.part.tree) ≡ Some w) →
     ((j : ℕ) (w : Stream T) → j < i → slice_get k.stands.taken j ≡ Some w → IsHeldAt g j w ⊎ (slice_get (values_then k.stands.taken rest) j ≡ Some w)) → slice_get (values_then k.stands.taken rest) i ≡ Some v
-fed_taken {T} m g h k rest i v s p e joins all there took fed none value below =
+fed_taken {T} m g h k rest i v s p e joins all there took source none value below =
     let taken = k.stands.taken in
-    let f = fed.feed in
+    let f = source.feed in
     let published = values_then taken rest in
-    let here : f.hub ≡ i = feed_named g.feeds i f fed.there in
-    let place = feed_place g.feeds i f fed.there in
-    let same : fed.stands.value ≡ v = some_same fed.stands.value v (sym fed.stands.taken ∙ (ap (slice_get taken) here ∙ took)) in
+    let here : f.hub ≡ i = feed_named g.feeds i f source.there in
+    let place = feed_place g.feeds i f source.there in
+    let same : source.stands.value ≡ v = some_same source.stands.value v (sym source.stands.taken ∙ (ap (slice_get taken) here ∙ took)) in
     let u = then_at taken rest i v all.many took in
     let front : take f.hub published ≡ values_then (take f.hub taken) (take f.hub rest) = take_then f.hub taken rest all.many in
-    let got = feed_got m g taken published place.0 f place.1 (λ j w l q. below j w (subst (λ n. j < n) here l) q) fed.stands.part.reads in
+    let got = feed_got m g taken published place.0 f place.1 (λ j w l q. below j w (subst (λ n. j < n) here l) q) source.stands.part.reads in
     let R : List (Stream T) → Type 0 = λ l. HasReadAll m l f.part in
     let S : Stream T → Type 0 = λ x. PartStands m (take f.hub taken) f.part e joins (signals x) in
-    let done : IsDone m f = record { quiet = feed_quiet m g i s f there fed.there (k.quiet i (hub_less g.hubs i s there)); none = none; within = feed_within g.feeds i f k.within fed.there } in
+    let done : IsDone m f = record { quiet = feed_quiet m g i s f there source.there (k.quiet i (hub_less g.hubs i s there)); none = none; within = feed_within g.feeds i f k.within source.there } in
     let is : evaluated m (values_then (take f.hub taken) (take f.hub rest)) joins e (notes_of f.part.tree) ≡ Some (published_then v u.0) = value (published_then v u.0) (values_then (take f.hub taken) (take f.hub rest)) u.1 (sym front ∙ ap (λ n. take n published) here) in
-    let whole = fed_whole m (take f.hub taken) (take f.hub rest) f e joins v u.0 done (subst S same fed.stands.part) fed.stands.asked fed.stands.unclosed (subst R front got) is in
+    let whole = fed_whole m (take f.hub taken) (take f.hub rest) f e joins v u.0 done (subst S same source.stands.part) source.stands.asked source.stands.unclosed (subst R front got) is in
     u.1 ∙ ap Some whole
 
 -- ---- each hub is held back, or took in its value
@@ -503,10 +503,10 @@ next_settled {T} m g h k rest i v s p all took there past below = by_test (waits
     value = value_at m g.feeds [] h.hubs (values_then k.stands.taken rest) i p all.values past
 
     unwaited : (e : Expr T) (joins : List ℕ) → IsFedBy m g.feeds k.stands.taken i s e joins → is_some (waiting s) ≡ false
-    unwaited e joins fed = fed_inbox s.inbox s.ending s.has_ended fed.empty fed.unended
+    unwaited e joins source = fed_inbox s.inbox s.ending s.has_ended source.empty source.unended
 
-    out_is : (e : Expr T) (joins : List ℕ) (fed : IsFedBy m g.feeds k.stands.taken i s e joins) → feed_waits m (feed_of g.feeds i) ≡ goes_out m fed.feed.part
-    out_is e joins fed = ap (feed_waits m) fed.there
+    out_is : (e : Expr T) (joins : List ℕ) (source : IsFedBy m g.feeds k.stands.taken i s e joins) → feed_waits m (feed_of g.feeds i) ≡ goes_out m source.feed.part
+    out_is e joins source = ap (feed_waits m) source.there
 
     held : (src : Source T) → SourceStands m g.feeds k.stands.taken i v s src → waits_at m g i s ≡ true → IsHeldAt g i v
     held (emitted w) source waits = emitted_held m g h k i v w s p st there source waits
