@@ -192,6 +192,9 @@ impl<O: Ops> Graph<O> {
     /// both hold it answers Idle. A hub that takes a signal in makes a move too, and so does each node of a hub's feed. What is
     /// delivered is put into `out`, behind what stands there.
     ///
+    /// Where it answers Idle and no hub in front of which a signal waits has two readers, each live subscriber got what it asked
+    /// for, over all that was published.
+    ///
     /// # Errors
     /// G8 where a growth was refused; the moves made before stand, and their deliveries are in `out`. Where no hub has a feed it
     /// comes only where `out` has no room for one signal more, where a signal waits in the inbox of a hub, or where some node of a
@@ -209,7 +212,8 @@ impl<O: Ops> Graph<O> {
         // Idle means delivered.
         ensures served { IfOk result (λ p. p ≡ Pumped.Idle → IsAllServed (O.meaning self.old.ops) (state_of self.new)) }
 
-        // Where no signal waits in front of a hub, each node that reads a hub has got all that was published there.
+        // Where each hub in front of which a signal waits has one reader at most, each node that reads a hub has got all that was
+        // published there, or has a signal to offer.
         ensures read { IfOk result (λ p. p ≡ Pumped.Idle → IsAllRead (O.meaning self.old.ops) (state_of self.new)) }
 
         // Where no hub has a feed and no move may allocate, there is want of memory only for the list of deliveries.

@@ -1,4 +1,4 @@
-//! That where no signal waits in front of a hub, all that was published is read.
+//! That where each hub in front of which a signal waits has one reader at most, all that was published is read.
 
 ghost use Rattle.std.specs.Prelude.{length};
 ghost use Rattle.rsx_feed_driving.specs.Pumped.{AreHubsQuiet};
@@ -9,10 +9,11 @@ ghost use Rattle.rsx_graph.specs.Read.{AreFeedsWithin, HaveAllRead, WaitForOne};
 
 use rsx_types::Ops;
 
-/// Where no signal waits in front of a hub, neither in the inbox of one nor at the root of a feed, each node that reads a hub and
-/// offers nothing has got all that was published there, over the values of the hubs: wherever the rows of a graph stand for a history
-/// and no move of a feed is enabled. It holds as long as no edge of a feed has carried 2^63-1 items, and of feeds of at most 256
-/// nodes, as each has whose expression isn't refused. Where no hub has a feed, only the inboxes count.
+/// Where each hub in front of which a signal waits, in its inbox or at the root of its feed, has one reader at most, each node that
+/// reads a hub and offers nothing has got all that was published there, over the values of the hubs: wherever the rows of a graph
+/// stand for a history and no move of a hub or of a feed is enabled. So it is where no signal waits in front of a hub, and where no
+/// hub is read by two nodes. It holds as long as no edge of a feed has carried 2^63-1 items and no hub in front of which a signal
+/// waits has taken in as many, and of feeds of at most 256 nodes, as each has whose expression isn't refused.
 ///
 /// [`Graph::pump`](crate::Graph::pump) answers Idle only where no move is enabled. The function does nothing; its contract is the
 /// sentence.
