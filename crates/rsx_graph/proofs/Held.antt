@@ -116,10 +116,12 @@ live_count false a b e = cc
 row_unread : {M T : Type 0} (b : Machine M T) (m : Meaning T) (h : ℕ) (t : Inputs M) → readers_in b h t ≤ 0 → AllOfferIn b m h t
 row_unread b m h End few = tt
 row_unread b m h (More' e n p below q beside) few =
-    let rest = right_most (if is_live e.state then reader_at b h n + readers_in b h below else 0) (readers_in b h beside) 0 few in
-    (λ live.
-    let here = left_most (reader_at b h n + readers_in b h below) (readers_in b h beside) 0 (subst (λ x. x ≤ 0) (live_count (is_live e.state) (reader_at b h n + readers_in b h below) (readers_in b h beside) live) few) in
-    (node_unread b m h n (left_most (reader_at b h n) (readers_in b h below) 0 here), row_unread b m h below (right_most (reader_at b h n) (readers_in b h below) 0 here)), row_unread b m h beside rest)
+    let rest = right_most (if is_live e.state then reader_at b h n + readers_in b h below else 0) (readers_in b h beside) 0 few in (
+      λ live.
+          let here = left_most (reader_at b h n + readers_in b h below) (readers_in b h beside) 0 (subst (λ x. x ≤ 0) (live_count (is_live e.state) (reader_at b h n + readers_in b h below) (readers_in b h beside) live) few) in
+          (node_unread b m h n (left_most (reader_at b h n) (readers_in b h below) 0 here), row_unread b m h below (right_most (reader_at b h n) (readers_in b h below) 0 here)),
+      row_unread b m h beside rest,
+    )
 
 -- a node of a row and what is below it, or what is beside it, has no room
 abbrev NoRoomHere : {M T : Type 0} → Machine M T → ℕ → M → Inputs M → Type 0

@@ -103,9 +103,10 @@ node_got {M} {T} b m taken published n at each none r is =
 
 row_got : {M T : Type 0} (b : Machine M T) (m : Meaning T) (taken published : List (Stream T)) (t : Inputs M) → IsRowReadAt b (counts_in taken) t → OrWhole taken published (λ h. AllOfferIn b m h t) → HaveReadAll b m published t
 row_got b m taken published End at each = tt
-row_got {M} b m taken published (More' e n p below q beside) at each =
-    (λ live. first live at.0 (λ w. row_got b m taken published below w (or_weaker taken published (λ h. AllOfferIn b m h (More' e n p below q beside)) (λ h. AllOfferIn b m h below) (λ h k. (k.0 live).1) each)),
-    row_got b m taken published beside at.1 (or_weaker taken published (λ h. AllOfferIn b m h (More' e n p below q beside)) (λ h. AllOfferIn b m h beside) (λ h k. k.1) each))
+row_got {M} b m taken published (More' e n p below q beside) at each = (
+  λ live. first live at.0 (λ w. row_got b m taken published below w (or_weaker taken published (λ h. AllOfferIn b m h (More' e n p below q beside)) (λ h. AllOfferIn b m h below) (λ h k. (k.0 live).1) each)),
+  row_got b m taken published beside at.1 (or_weaker taken published (λ h. AllOfferIn b m h (More' e n p below q beside)) (λ h. AllOfferIn b m h beside) (λ h k. k.1) each),
+)
   where
     both : (c : Bool) → c ≡ true → c ≡ false → ⊥
     both c x y = cc
@@ -117,9 +118,10 @@ row_got {M} b m taken published (More' e n p below q beside) at each =
     ]
 
 tree_got : {M T : Type 0} (b : Machine M T) (m : Meaning T) (taken published : List (Stream T)) (t : Node M) → IsTreeReadAt b (counts_in taken) t → OrWhole taken published (λ h. AllOffer b m h t) → TreeHasReadAll b m published t
-tree_got b m taken published t at each =
-    (node_got b m taken published t.machine at.0 (or_weaker taken published (λ h. AllOffer b m h t) (λ h. Offers b m h t.machine) (λ h k. k.0) each),
-    row_got b m taken published t.inputs at.1 (or_weaker taken published (λ h. AllOffer b m h t) (λ h. AllOfferIn b m h t.inputs) (λ h k. k.1) each))
+tree_got b m taken published t at each = (
+  node_got b m taken published t.machine at.0 (or_weaker taken published (λ h. AllOffer b m h t) (λ h. Offers b m h t.machine) (λ h k. k.0) each),
+  row_got b m taken published t.inputs at.1 (or_weaker taken published (λ h. AllOffer b m h t) (λ h. AllOfferIn b m h t.inputs) (λ h k. k.1) each),
+)
 
 part_got : {T : Type 0} (m : Meaning T) (taken published : List (Stream T)) (part : Part.Part T) → (part.root.state ≡ Live → IsTreeReadAt any_machine (counts_in taken) part.tree) → OrWhole taken published (λ h. PartOffers m h part) → HasReadAll m published part
 part_got m taken published part at each live = tree_got any_machine m taken published part.tree (at live) (or_weaker taken published (λ h. PartOffers m h part) (λ h. AllOffer any_machine m h part.tree) (λ h k. k live) each)
