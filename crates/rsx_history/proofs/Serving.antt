@@ -11,7 +11,7 @@ use Rattle.rsx_tree.specs.declared.inputs.Inputs.{Inputs, End, More'}
 use Rattle.rsx_tree.specs.declared.node.Node.{Node}
 use Rattle.rsx_tree.specs.Edges.{is_live}
 use Rattle.rsx_tree.specs.Reads.{IsReadAt, IsRowReadAt, IsTreeReadAt}
-use Rattle.rsx_tree.specs.Rests.{HaveReadAll, NothingBehind, TreeHasReadAll}
+use Rattle.rsx_tree.specs.Rests.{HasReadAll as HasNodeReadAll, HaveReadAll, NothingBehind, TreeHasReadAll}
 use Rattle.rsx_pipe.specs.Any.{any_machine}
 use Rattle.rsx_types.specs.declared.names.Move.{Move}
 use Rattle.rsx_types.specs.declared.names.Move.TheVariants.{Ask, Send, Take, Pick, Row}
@@ -71,15 +71,15 @@ row_read {M} b m hubs counts none (More' e n p below q beside) h = (λ live. fir
     both : (c : Bool) → c ≡ true → c ≡ false → ⊥
     both c x y = cc
 
-    first : is_live e.state ≡ true → (is_live e.state ≡ false) ⊎ (IsReadAt counts (b.reads n) × IsRowReadAt b counts below) → (IsRowReadAt b counts below → HaveReadAll b m hubs below) → (b.waiting m n ≡ None → NothingBehind (b.reads n) hubs) × HaveReadAll b m hubs below
-    first live k deeper = elim k [ inl dead ↦ absurd (both (is_live e.state) live dead) | inr w ↦ (λ _. reads_none hubs counts none (b.reads n) w.0, deeper w.1) ]
+    first : is_live e.state ≡ true → (is_live e.state ≡ false) ⊎ (IsReadAt counts (b.reads n) × IsRowReadAt b counts below) → (IsRowReadAt b counts below → HaveReadAll b m hubs below) → HasNodeReadAll b m hubs n e.demand.asked e.demand.sent × HaveReadAll b m hubs below
+    first live k deeper = elim k [ inl dead ↦ absurd (both (is_live e.state) live dead) | inr w ↦ ((λ _ _ _. reads_none hubs counts none (b.reads n) w.0), deeper w.1) ]
 
-tree_read : {M T : Type 0} (b : Machine M T) (m : Meaning T) (hubs : List (Stream T)) (counts : List (Option ℕ)) → ((r : Reading) → slice_get counts r.hub ≡ Some (Some r.reached) → without r.reached (published_at hubs r.hub) ≡ ended_by Open) → (t : Node M) → IsTreeReadAt b counts t → TreeHasReadAll b m hubs t
-tree_read b m hubs counts none t h = (λ _. reads_none hubs counts none (b.reads t.machine) h.0, row_read b m hubs counts none t.inputs h.1)
+tree_read : {M T : Type 0} (b : Machine M T) (m : Meaning T) (hubs : List (Stream T)) (counts : List (Option ℕ)) → ((r : Reading) → slice_get counts r.hub ≡ Some (Some r.reached) → without r.reached (published_at hubs r.hub) ≡ ended_by Open) → (t : Node M) (asked sent : ℕ) → IsTreeReadAt b counts t → TreeHasReadAll b m hubs t asked sent
+tree_read b m hubs counts none t asked sent h = ((λ _ _ _. reads_none hubs counts none (b.reads t.machine) h.0), row_read b m hubs counts none t.inputs h.1)
 
 -- of a tree that reads no hub
 alone_read : {T : Type 0} (m : Meaning T) (taken hubs : List (Stream T)) (s : Subscription T) (p : Past T) → Stands m taken s p → p.joins ≡ [] → HasReadAll m hubs s.part
-alone_read m taken hubs s p h alone live = tree_read any_machine m hubs [] (λ r e. cc) s.part.tree (h.part.alone live alone)
+alone_read m taken hubs s p h alone live = tree_read any_machine m hubs [] (λ r e. cc) s.part.tree s.part.root.demand.asked s.part.root.demand.sent (h.part.alone live alone)
 
 -- ---- idle means delivered
 
@@ -104,7 +104,7 @@ all_served {T} m h graph q s =
 each_read : {T : Type 0} (m : Meaning T) (hubs : List (HubState T)) (ps : List (HubPast T)) → HubsStand hubs ps → signals_wait hubs ≡ false → (subs : List (Subscription T)) (pasts : List (Past T)) → AllStand m (all_taken hubs ps) subs pasts → AllHaveRead m (values_then (all_taken hubs ps) (inboxes hubs)) subs
 each_read m hubs ps k none [] [] h = tt
 each_read m hubs ps k none (s ∷ ss) (p ∷ pasts) h =
-    (λ live. tree_read any_machine m (values_then (all_taken hubs ps) (inboxes hubs)) (counts_in (all_taken hubs ps)) (λ r e. nothing_behind hubs ps k none r.hub r.reached e) s.part.tree (h.0.part.reads live), each_read m hubs ps k none ss pasts h.1)
+    (λ live. tree_read any_machine m (values_then (all_taken hubs ps) (inboxes hubs)) (counts_in (all_taken hubs ps)) (λ r e. nothing_behind hubs ps k none r.hub r.reached e) s.part.tree s.part.root.demand.asked s.part.root.demand.sent (h.0.part.reads live), each_read m hubs ps k none ss pasts h.1)
 each_read m hubs ps k none [] (p ∷ pasts) h = absurd h
 each_read m hubs ps k none (s ∷ ss) [] h = absurd h
 
