@@ -12,8 +12,8 @@ use Rattle.rsx_subscriber.specs.Stands.{evaluated}
 use Rattle.rsx_history.specs.History.{History, published}
 use Rattle.rsx_history.specs.Stands.{GraphState, StandsFor}
 
--- a subscriber's expression reads no hub, or each node of its tree that reads one and offers nothing has got all that was published
--- there
+-- a subscriber's expression reads no hub, or each node of its tree that reads one has got all that was published there, where it
+-- offers nothing, though more is asked over its edge than it sent, and can make no step
 abbrev pub HasGotAll : {T : Type 0} → Meaning T → List (Stream T) → Subscription T → Past T → Type 0
 HasGotAll m published s p = (p.joins ≡ []) ⊎ HasReadAll m published s.part
 
@@ -30,7 +30,8 @@ AllServed m published (s ∷ ss) [] = ⊥
 abbrev pub IsAllServed : {T : Type 0} → Meaning T → GraphState T → Type 0
 IsAllServed {T} m graph = (h : History T) → StandsFor m graph h → AllServed m (published h) graph.subs h.pasts
 
--- each node that reads a hub and offers nothing has got all that was published there
+-- each node that reads a hub has got all that was published there, where it offers nothing, though more is asked over its edge than
+-- it sent, and can make no step
 abbrev pub AllHaveRead : {T : Type 0} → Meaning T → List (Stream T) → List (Subscription T) → Type 0
 AllHaveRead m published [] = Unit {0}
 AllHaveRead m published (s ∷ ss) = HasReadAll m published s.part × AllHaveRead m published ss

@@ -24,8 +24,8 @@ pub fn headline<O: Ops>()
 /// Idle means delivered: wherever a graph stands for a history and no move is enabled, each live subscriber got the first items of
 /// its expression's value over all that was published, as many as it asked for or as there are; and the ending too, where it
 /// asked for more than there are and the value has one. So of an expression that reads no hub, and of one that reads hubs where
-/// each of its nodes that reads one and offers nothing has got all that was published there ([`read_all`]). It holds as long as
-/// no edge has carried 2^63-1 items.
+/// each of its nodes that reads one has got all that was published there ([`read_all`]), unless it offers something, can make a
+/// step, or nothing more is asked of it. It holds as long as no edge has carried 2^63-1 items.
 ///
 /// The function does nothing; its contract is the sentence.
 pub fn idle_means_delivered<O: Ops>()
