@@ -157,7 +157,7 @@ pub record IsServed {T : Type 0} (part : Part T) (output : List (Signal T)) (v :
 -- each node of a part that reads a hub and offers nothing has got all that was published there, where these are the values of the
 -- hubs; of a part whose root edge isn't live nothing is said
 abbrev pub HasReadAll : {T : Type 0} → Meaning T → List (Stream T) → Part T → Type 0
-HasReadAll m hubs part = part.root.state ≡ Live → TreeHasReadAll any_machine m hubs part.tree
+HasReadAll m hubs part = part.root.state ≡ Live → TreeHasReadAll any_machine m hubs part.tree part.root.demand.asked part.root.demand.sent
 
 -- a part whose root edge isn't closed and whose receiver has room did so, over what is published in all, as long as its nodes have
 -- read that and no edge has carried 2^63-1 items; its expression has at most `MOST_NODES` nodes, as each has that isn't refused

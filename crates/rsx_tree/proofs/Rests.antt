@@ -111,7 +111,7 @@ row_rests {M} {T} b m waits settles rests hubs further r i asked sent (More' e n
         let us = below_is.0 in
         let H : List (Stream T) → Type 0 = λ l. NothingBehind (b.reads n) l in
         let rest : b.comes_out m n (incoming_of hubs us) (unchosen (b.recorded n)) ≡ Some (ended_by Open) =
-        rests n (sent_over below) e.demand.asked e.demand.sent (incoming_of hubs us) going counted nothing more (within_row below within.1) still (none_comes b n e.demand.asked e.demand.sent below hubs us below_is.2) (subst H (sym (hubs_of hubs us)) ((read.0 live).0 nothing)) in
+        rests n (sent_over below) e.demand.asked e.demand.sent (incoming_of hubs us) going counted nothing more (within_row below within.1) still (none_comes b n e.demand.asked e.demand.sent below hubs us below_is.2) (subst H (sym (hubs_of hubs us)) ((read.0 live).0 nothing more still)) in
         rw (u.0, below_is.1) rest
 
     over_first : Under → (v : Stream T) × (out ≡ Some v) × IsFirst v
@@ -155,7 +155,7 @@ row_rests {M} {T} b m waits settles rests hubs further r i asked sent (More' e n
 
 -- nothing comes out of an idle tree of which more is asked than it sent, and that offers nothing
 pub tree_rests : {M T : Type 0} (b : Machine M T) (m : Meaning T) → Waits b m → Settles b m → Rests b m → (hubs : List (Stream T)) (further : List Note) (t : Node M) (asked sent : ℕ) → IsIdle b m t asked sent → IsNodeStill b t.machine asked sent → IsBalanced b t sent → sent < asked → size t.inputs ≤ 2 ^ 64 → IsWithin t →
-    TreeHasReadAll b m hubs t → IsUnchosen b further t 0 → offers b m t ≡ None → comes_out b m hubs further t 0 ≡ Some (ended_by Open)
+    TreeHasReadAll b m hubs t asked sent → IsUnchosen b further t 0 → offers b m t ≡ None → comes_out b m hubs further t 0 ≡ Some (ended_by Open)
 tree_rests {M} {T} b m waits settles rests hubs further t asked sent idle still balanced more few within read u nothing = elim balanced [
   | inl over ↦ absurd (no_step b t.machine asked sent still (waits t.machine asked sent over nothing more))
   | inr k ↦ resting k.0 k.1 (row_rests b m waits settles rests hubs further t.machine 0 asked sent t.inputs 1 small row_idle k.2 within read.1 u.1)
@@ -172,5 +172,5 @@ tree_rests {M} {T} b m waits settles rests hubs further t asked sent idle still 
         let us = below.0 in
         let H : List (Stream T) → Type 0 = λ l. NothingBehind (b.reads t.machine) l in
         let rest : b.comes_out m t.machine (incoming_of hubs us) (unchosen (b.recorded t.machine)) ≡ Some (ended_by Open) =
-        rests t.machine (sent_over t.inputs) asked sent (incoming_of hubs us) going counted nothing more (within_row t.inputs within) still (none_comes b t.machine asked sent t.inputs hubs us below.2) (subst H (sym (hubs_of hubs us)) (read.0 nothing)) in
+        rests t.machine (sent_over t.inputs) asked sent (incoming_of hubs us) going counted nothing more (within_row t.inputs within) still (none_comes b t.machine asked sent t.inputs hubs us below.2) (subst H (sym (hubs_of hubs us)) (read.0 nothing more still)) in
         rw (u.0, below.1) rest

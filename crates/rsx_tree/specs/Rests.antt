@@ -43,15 +43,16 @@ Rests {M} {T} b m =
 
 -- ---- a tree of nodes
 
--- where a node offers nothing, nothing stands behind what it took in of the hub that it reads
-abbrev pub HasReadAll : {M T : Type 0} → Machine M T → Meaning T → List (Stream T) → M → Type 0
-HasReadAll b m hubs n = b.waiting m n ≡ None → NothingBehind (b.reads n) hubs
+-- where a node offers nothing, though more is asked over its edge than it sent, and can make no step, nothing stands behind what it
+-- took in of the hub that it reads
+abbrev pub HasReadAll : {M T : Type 0} → Machine M T → Meaning T → List (Stream T) → M → ℕ → ℕ → Type 0
+HasReadAll b m hubs n asked sent = b.waiting m n ≡ None → sent < asked → IsStuck b.picks b.rows n asked sent → NothingBehind (b.reads n) hubs
 
 -- so of each node of a row, and below it, whose edge is live
 abbrev pub HaveReadAll : {M T : Type 0} → Machine M T → Meaning T → List (Stream T) → Inputs M → Type 0
 HaveReadAll b m hubs End = Unit {0}
-HaveReadAll b m hubs (More' e n p below q beside) = (is_live e.state ≡ true → HasReadAll b m hubs n × HaveReadAll b m hubs below) × HaveReadAll b m hubs beside
+HaveReadAll b m hubs (More' e n p below q beside) = (is_live e.state ≡ true → HasReadAll b m hubs n e.demand.asked e.demand.sent × HaveReadAll b m hubs below) × HaveReadAll b m hubs beside
 
--- and of a whole tree whose root's own edge is live
-abbrev pub TreeHasReadAll : {M T : Type 0} → Machine M T → Meaning T → List (Stream T) → Node M → Type 0
-TreeHasReadAll b m hubs t = HasReadAll b m hubs t.machine × HaveReadAll b m hubs t.inputs
+-- and of a whole tree over whose root's own edge, which is live, so many items were asked for and so many sent
+abbrev pub TreeHasReadAll : {M T : Type 0} → Machine M T → Meaning T → List (Stream T) → Node M → ℕ → ℕ → Type 0
+TreeHasReadAll b m hubs t asked sent = HasReadAll b m hubs t.machine asked sent × HaveReadAll b m hubs t.inputs
