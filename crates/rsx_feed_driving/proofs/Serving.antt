@@ -20,7 +20,7 @@ use Rattle.rsx_subscriber.specs.Stands.{Stands, move_enabled_in}
 use Rattle.rsx_subscriber.specs.declared.subscription.Subscription.{Subscription}
 use Rattle.rsx_tree.specs.Edges.{is_live}
 use Rattle.rsx_tree.specs.Reads.{IsReadAt, IsRowReadAt, IsTreeReadAt}
-use Rattle.rsx_tree.specs.Rests.{HaveReadAll, NothingBehind, TreeHasReadAll}
+use Rattle.rsx_tree.specs.Rests.{HasReadAll as HasNodeReadAll, HaveReadAll, NothingBehind, TreeHasReadAll}
 use Rattle.rsx_tree.specs.declared.inputs.Inputs.{Inputs, End, More'}
 use Rattle.rsx_tree.specs.declared.node.Node.{Node}
 use Rattle.rsx_tree.specs.declared.look.NodeMove.TheVariants.{Ask as NodeAsk, Send as NodeSend, Pick as NodePick, Row as NodeRow}
@@ -63,14 +63,14 @@ row_unread {M} b m hubs (More' e n p below q beside) h = (λ live. first live h.
     both : (c : Bool) → c ≡ true → c ≡ false → ⊥
     both c x y = cc
 
-    first : is_live e.state ≡ true → (is_live e.state ≡ false) ⊎ (IsReadAt [] (b.reads n) × IsRowReadAt b [] below) → (IsRowReadAt b [] below → HaveReadAll b m hubs below) → (b.waiting m n ≡ None → NothingBehind (b.reads n) hubs) × HaveReadAll b m hubs below
-    first live k deeper = elim k [ inl dead ↦ absurd (both (is_live e.state) live dead) | inr w ↦ (λ _. unread hubs (b.reads n) w.0, deeper w.1) ]
+    first : is_live e.state ≡ true → (is_live e.state ≡ false) ⊎ (IsReadAt [] (b.reads n) × IsRowReadAt b [] below) → (IsRowReadAt b [] below → HaveReadAll b m hubs below) → HasNodeReadAll b m hubs n e.demand.asked e.demand.sent × HaveReadAll b m hubs below
+    first live k deeper = elim k [ inl dead ↦ absurd (both (is_live e.state) live dead) | inr w ↦ ((λ _ _ _. unread hubs (b.reads n) w.0), deeper w.1) ]
 
-tree_unread : {M T : Type 0} (b : Machine M T) (m : Meaning T) (hubs : List (Stream T)) (t : Node M) → IsTreeReadAt b [] t → TreeHasReadAll b m hubs t
-tree_unread b m hubs t h = (λ _. unread hubs (b.reads t.machine) h.0, row_unread b m hubs t.inputs h.1)
+tree_unread : {M T : Type 0} (b : Machine M T) (m : Meaning T) (hubs : List (Stream T)) (t : Node M) (asked sent : ℕ) → IsTreeReadAt b [] t → TreeHasReadAll b m hubs t asked sent
+tree_unread b m hubs t asked sent h = ((λ _ _ _. unread hubs (b.reads t.machine) h.0), row_unread b m hubs t.inputs h.1)
 
 got_all : {T : Type 0} (m : Meaning T) (taken hubs : List (Stream T)) (s : Subscription T) (p : Past T) → Stands m taken s p → HasGotAll m hubs s p → HasReadAll m hubs s.part
-got_all m taken hubs s p h (inl alone) = λ live. tree_unread any_machine m hubs s.part.tree (h.part.alone live alone)
+got_all m taken hubs s p h (inl alone) = λ live. tree_unread any_machine m hubs s.part.tree s.part.root.demand.asked s.part.root.demand.sent (h.part.alone live alone)
 got_all m taken hubs s p h (inr read) = read
 
 -- ---- idle means delivered

@@ -20,7 +20,9 @@ use Rattle.rsx_tree.specs.Edges.{is_live}
 use Rattle.rsx_tree.specs.Handed as Tree
 use Rattle.rsx_tree.specs.Handed.{has_room_in, reader_at, readers_in, room_at}
 use Rattle.rsx_tree.specs.Reads.{IsReadAt, IsRowReadAt, IsTreeReadAt}
-use Rattle.rsx_tree.specs.declared.edge.EdgeState.TheVariants.{Live}
+use Rattle.rsx_tree.specs.Rests.{IsStuck}
+use Rattle.rsx_tree.specs.declared.edge.EdgeState.{EdgeState}
+use Rattle.rsx_tree.specs.declared.edge.EdgeState.TheVariants.{Live, Ended, Closed}
 use Rattle.rsx_tree.specs.declared.inputs.Inputs.{Inputs, End, More'}
 use Rattle.rsx_tree.specs.declared.node.Node.{Node}
 use Rattle.rsx_types.specs.Meaning.{Meaning}
@@ -51,21 +53,21 @@ one_false false b e = inl refl
 
 -- ---- one node
 
--- where a node offers nothing, it doesn't read this hub
-abbrev pub Offers : {M T : Type 0} → Machine M T → Meaning T → ℕ → M → Type 0
-Offers b m h n = b.waiting m n ≡ None → reads_hub h (b.reads n) ≡ false
+-- where a node offers nothing, though more is asked over its edge than it sent, and can make no step, it doesn't read this hub
+abbrev pub Offers : {M T : Type 0} → Machine M T → Meaning T → ℕ → M → ℕ → ℕ → Type 0
+Offers b m h n asked sent = b.waiting m n ≡ None → sent < asked → IsStuck b.picks b.rows n asked sent → reads_hub h (b.reads n) ≡ false
 
--- a node that reads a hub and has no room offers something
+-- a node that reads a hub and has no room offers something, where more is asked over its edge than it sent, and it can make no step
 abbrev OffersWhenFull : {M T : Type 0} → Machine M T → Meaning T → Type 0
-OffersWhenFull {M} b m = (n : M) (r : Reading) → b.reads n ≡ Some r → b.rooms n ≡ false → r.reached < MOST_ACCEPTED → b.waiting m n ≡ None → ⊥
+OffersWhenFull {M} b m = (n : M) (r : Reading) (asked sent : ℕ) → b.reads n ≡ Some r → b.rooms n ≡ false → r.reached < MOST_ACCEPTED → b.waiting m n ≡ None → sent < asked → IsStuck b.picks b.rows n asked sent → ⊥
 
 -- so many items of the hub with this number were taken in
 record IsCounted (counts : List (Option ℕ)) (h c : ℕ) : Type 0 where
   there : slice_get counts h ≡ Some (Some c)
   less : c < MOST_ACCEPTED
 
-node_held : {M T : Type 0} (b : Machine M T) (m : Meaning T) (h c : ℕ) (counts : List (Option ℕ)) (n : M) → OffersWhenFull b m → IsCounted counts h c → IsReadAt counts (b.reads n) → room_at b h n ≡ false → Offers b m h n
-node_held {M} {T} b m h c counts n law k read room none = by_reading (b.reads n) refl
+node_held : {M T : Type 0} (b : Machine M T) (m : Meaning T) (h c : ℕ) (counts : List (Option ℕ)) (n : M) (asked sent : ℕ) → OffersWhenFull b m → IsCounted counts h c → IsReadAt counts (b.reads n) → room_at b h n ≡ false → Offers b m h n asked sent
+node_held {M} {T} b m h c counts n asked sent law k read room none more stuck = by_reading (b.reads n) refl
   where
     same_count : (i j : ℕ) (o : Option (Option ℕ)) → o ≡ Some (Some i) → o ≡ Some (Some j) → i ≡ j
     same_count i j o x y = let z = sym x ∙ y in cc
@@ -77,7 +79,7 @@ node_held {M} {T} b m h c counts n law k read room none = by_reading (b.reads n)
         let full : b.rooms n ≡ false = sym (ap (λ x. if x then b.rooms n else true) reads) ∙ room in
         let there : slice_get counts r.hub ≡ Some (Some r.reached) = subst (λ o. IsReadAt counts o) is read in
         let got : r.reached ≡ c = same_count r.reached c (slice_get counts h) (ap (slice_get counts) (sym (same_number r.hub h t)) ∙ there) k.there in
-        absurd (law n r is full (subst (λ i. i < MOST_ACCEPTED) (sym got) k.less) none)
+        absurd (law n r asked sent is full (subst (λ i. i < MOST_ACCEPTED) (sym got) k.less) none more stuck)
 
     by_reading : (o : Option Reading) → b.reads n ≡ o → reads_hub h (b.reads n) ≡ false
     by_reading None is = ap (reads_hub h) is
@@ -90,8 +92,8 @@ node_reads {M} b h n room = by_test (reads_hub h (b.reads n)) room
     by_test true k = omega arith
     by_test false k = cc
 
-node_unread : {M T : Type 0} (b : Machine M T) (m : Meaning T) (h : ℕ) (n : M) → reader_at b h n ≤ 0 → Offers b m h n
-node_unread {M} b m h n few none = by_test (reads_hub h (b.reads n)) few
+node_unread : {M T : Type 0} (b : Machine M T) (m : Meaning T) (h : ℕ) (n : M) (asked sent : ℕ) → reader_at b h n ≤ 0 → Offers b m h n asked sent
+node_unread {M} b m h n asked sent few none more stuck = by_test (reads_hub h (b.reads n)) few
   where
     by_test : (t : Bool) → (if t then 1 else 0) ≤ 0 → t ≡ false
     by_test true k = absurd (omega (arith, k))
@@ -102,11 +104,11 @@ node_unread {M} b m h n few none = by_test (reads_hub h (b.reads n)) few
 -- so of each node of a row, and below it, whose edge is live
 abbrev pub AllOfferIn : {M T : Type 0} → Machine M T → Meaning T → ℕ → Inputs M → Type 0
 AllOfferIn b m h End = ⊤
-AllOfferIn b m h (More' e n p below q beside) = (is_live e.state ≡ true → Offers b m h n × AllOfferIn b m h below) × AllOfferIn b m h beside
+AllOfferIn b m h (More' e n p below q beside) = (is_live e.state ≡ true → Offers b m h n e.demand.asked e.demand.sent × AllOfferIn b m h below) × AllOfferIn b m h beside
 
--- and of a whole tree whose root's own edge is live
-abbrev pub AllOffer : {M T : Type 0} → Machine M T → Meaning T → ℕ → Node M → Type 0
-AllOffer b m h t = Offers b m h t.machine × AllOfferIn b m h t.inputs
+-- and of a whole tree over whose root's own edge, which is live, so many items were asked for and so many sent
+abbrev pub AllOffer : {M T : Type 0} → Machine M T → Meaning T → ℕ → Node M → ℕ → ℕ → Type 0
+AllOffer b m h t asked sent = Offers b m h t.machine asked sent × AllOfferIn b m h t.inputs
 
 live_count : (t : Bool) (a b : ℕ) → t ≡ true → (if t then a else 0) + b ≡ a + b
 live_count true a b e = refl
@@ -118,7 +120,7 @@ row_unread b m h (More' e n p below q beside) few =
     let rest = right_most (if is_live e.state then reader_at b h n + readers_in b h below else 0) (readers_in b h beside) 0 few in (
       λ live.
           let here = left_most (reader_at b h n + readers_in b h below) (readers_in b h beside) 0 (subst (λ x. x ≤ 0) (live_count (is_live e.state) (reader_at b h n + readers_in b h below) (readers_in b h beside) live) few) in
-          (node_unread b m h n (left_most (reader_at b h n) (readers_in b h below) 0 here), row_unread b m h below (right_most (reader_at b h n) (readers_in b h below) 0 here)),
+          (node_unread b m h n e.demand.asked e.demand.sent (left_most (reader_at b h n) (readers_in b h below) 0 here), row_unread b m h below (right_most (reader_at b h n) (readers_in b h below) 0 here)),
       row_unread b m h beside rest,
     )
 
@@ -142,15 +144,15 @@ row_reads {M} b h (More' e n p below q beside) room = by_test (λ x. row_reads b
     by_test deeper further false (inl x) = cc
 
 -- the only node that reads the hub has no room: a node, or one below it
-here_held : {M T : Type 0} (b : Machine M T) (m : Meaning T) (h c : ℕ) (counts : List (Option ℕ)) (n : M) (below : Inputs M) → OffersWhenFull b m → IsCounted counts h c → IsReadAt counts (b.reads n) → (has_room_in b h below ≡ false → readers_in b h below ≤ 1 → AllOfferIn b m h below) → NoRoomHere b h n below →
-    reader_at b h n + readers_in b h below ≤ 1 → Offers b m h n × AllOfferIn b m h below
-here_held b m h c counts n below law k read deeper none most = elim (one_false (room_at b h n) (has_room_in b h below) none) [
-  | inl x ↦ (node_held b m h c counts n law k read x, row_unread b m h below (left_one (reader_at b h n) (readers_in b h below) most (node_reads b h n x)))
-  | inr x ↦ (node_unread b m h n (right_one (reader_at b h n) (readers_in b h below) most (row_reads b h below x)), deeper x (right_most (reader_at b h n) (readers_in b h below) 1 most))
+here_held : {M T : Type 0} (b : Machine M T) (m : Meaning T) (h c : ℕ) (counts : List (Option ℕ)) (n : M) (asked sent : ℕ) (below : Inputs M) → OffersWhenFull b m → IsCounted counts h c → IsReadAt counts (b.reads n) → (has_room_in b h below ≡ false → readers_in b h below ≤ 1 → AllOfferIn b m h below) → NoRoomHere b h n below →
+    reader_at b h n + readers_in b h below ≤ 1 → Offers b m h n asked sent × AllOfferIn b m h below
+here_held b m h c counts n asked sent below law k read deeper none most = elim (one_false (room_at b h n) (has_room_in b h below) none) [
+  | inl x ↦ (node_held b m h c counts n asked sent law k read x, row_unread b m h below (left_one (reader_at b h n) (readers_in b h below) most (node_reads b h n x)))
+  | inr x ↦ (node_unread b m h n asked sent (right_one (reader_at b h n) (readers_in b h below) most (row_reads b h below x)), deeper x (right_most (reader_at b h n) (readers_in b h below) 1 most))
 ]
 
-here_unread : {M T : Type 0} (b : Machine M T) (m : Meaning T) (h : ℕ) (n : M) (below : Inputs M) → reader_at b h n + readers_in b h below ≤ 0 → Offers b m h n × AllOfferIn b m h below
-here_unread b m h n below l = (node_unread b m h n (left_most (reader_at b h n) (readers_in b h below) 0 l), row_unread b m h below (right_most (reader_at b h n) (readers_in b h below) 0 l))
+here_unread : {M T : Type 0} (b : Machine M T) (m : Meaning T) (h : ℕ) (n : M) (asked sent : ℕ) (below : Inputs M) → reader_at b h n + readers_in b h below ≤ 0 → Offers b m h n asked sent × AllOfferIn b m h below
+here_unread b m h n asked sent below l = (node_unread b m h n asked sent (left_most (reader_at b h n) (readers_in b h below) 0 l), row_unread b m h below (right_most (reader_at b h n) (readers_in b h below) 0 l))
 
 not_both : (t : Bool) → t ≡ true → t ≡ false → ⊥
 not_both t x y = cc
@@ -165,30 +167,30 @@ row_held {M} {T} b m h c counts (More' e n p below q beside) law k read room few
     by_test (λ r x l. row_held b m h c counts below law k r x l) (λ x l. row_held b m h c counts beside law k read.1 x l) (is_live e.state) refl room few
   where
     by_live : (IsRowReadAt b counts below → has_room_in b h below ≡ false → readers_in b h below ≤ 1 → AllOfferIn b m h below) → (has_room_in b h beside ≡ false → readers_in b h beside ≤ 1 → AllOfferIn b m h beside) →
-        is_live e.state ≡ true → (room_at b h n && has_room_in b h below) && has_room_in b h beside ≡ false → (reader_at b h n + readers_in b h below) + readers_in b h beside ≤ 1 → (is_live e.state ≡ true → Offers b m h n × AllOfferIn b m h below) × AllOfferIn b m h beside
+        is_live e.state ≡ true → (room_at b h n && has_room_in b h below) && has_room_in b h beside ≡ false → (reader_at b h n + readers_in b h below) + readers_in b h beside ≤ 1 → (is_live e.state ≡ true → Offers b m h n e.demand.asked e.demand.sent × AllOfferIn b m h below) × AllOfferIn b m h beside
     by_live deeper further live none most =
         let r = read_behind b counts (is_live e.state) n below live read.0 in
         elim (one_false (room_at b h n && has_room_in b h below) (has_room_in b h beside) none) [
-          | inl x ↦ (λ _. here_held b m h c counts n below law k r.0 (deeper r.1) x (left_most (reader_at b h n + readers_in b h below) (readers_in b h beside) 1 most), row_unread b m h beside (left_one (reader_at b h n + readers_in b h below) (readers_in b h beside) most (here_reads b h n below (row_reads b h below) x)))
-          | inr x ↦ (λ _. here_unread b m h n below (right_one (reader_at b h n + readers_in b h below) (readers_in b h beside) most (row_reads b h beside x)), further x (right_most (reader_at b h n + readers_in b h below) (readers_in b h beside) 1 most))
+          | inl x ↦ (λ _. here_held b m h c counts n e.demand.asked e.demand.sent below law k r.0 (deeper r.1) x (left_most (reader_at b h n + readers_in b h below) (readers_in b h beside) 1 most), row_unread b m h beside (left_one (reader_at b h n + readers_in b h below) (readers_in b h beside) most (here_reads b h n below (row_reads b h below) x)))
+          | inr x ↦ (λ _. here_unread b m h n e.demand.asked e.demand.sent below (right_one (reader_at b h n + readers_in b h below) (readers_in b h beside) most (row_reads b h beside x)), further x (right_most (reader_at b h n + readers_in b h below) (readers_in b h beside) 1 most))
         ]
 
     by_test : (IsRowReadAt b counts below → has_room_in b h below ≡ false → readers_in b h below ≤ 1 → AllOfferIn b m h below) → (has_room_in b h beside ≡ false → readers_in b h beside ≤ 1 → AllOfferIn b m h beside) →
         (t : Bool) → is_live e.state ≡ t → (if t then room_at b h n && has_room_in b h below else true) && has_room_in b h beside ≡ false → (if t then reader_at b h n + readers_in b h below else 0) + readers_in b h beside ≤ 1 →
-        (is_live e.state ≡ true → Offers b m h n × AllOfferIn b m h below) × AllOfferIn b m h beside
+        (is_live e.state ≡ true → Offers b m h n e.demand.asked e.demand.sent × AllOfferIn b m h below) × AllOfferIn b m h beside
     by_test deeper further true is none most = by_live deeper further is none most
     by_test deeper further false is none most = (λ live. absurd (not_both (is_live e.state) live is), further none (right_most 0 (readers_in b h beside) 1 most))
 
 -- ---- a part
 
-tree_held : {M T : Type 0} (b : Machine M T) (m : Meaning T) (h c : ℕ) (counts : List (Option ℕ)) (t : Node M) → OffersWhenFull b m → IsCounted counts h c → IsTreeReadAt b counts t → Tree.has_room b h t ≡ false → Tree.readers b h t ≤ 1 → AllOffer b m h t
-tree_held b m h c counts t law k read none most = elim (one_false (room_at b h t.machine) (has_room_in b h t.inputs) none) [
-  | inl x ↦ (node_held b m h c counts t.machine law k read.0 x, row_unread b m h t.inputs (left_one (reader_at b h t.machine) (readers_in b h t.inputs) most (node_reads b h t.machine x)))
-  | inr x ↦ (node_unread b m h t.machine (right_one (reader_at b h t.machine) (readers_in b h t.inputs) most (row_reads b h t.inputs x)), row_held b m h c counts t.inputs law k read.1 x (right_most (reader_at b h t.machine) (readers_in b h t.inputs) 1 most))
+tree_held : {M T : Type 0} (b : Machine M T) (m : Meaning T) (h c : ℕ) (counts : List (Option ℕ)) (t : Node M) (asked sent : ℕ) → OffersWhenFull b m → IsCounted counts h c → IsTreeReadAt b counts t → Tree.has_room b h t ≡ false → Tree.readers b h t ≤ 1 → AllOffer b m h t asked sent
+tree_held b m h c counts t asked sent law k read none most = elim (one_false (room_at b h t.machine) (has_room_in b h t.inputs) none) [
+  | inl x ↦ (node_held b m h c counts t.machine asked sent law k read.0 x, row_unread b m h t.inputs (left_one (reader_at b h t.machine) (readers_in b h t.inputs) most (node_reads b h t.machine x)))
+  | inr x ↦ (node_unread b m h t.machine asked sent (right_one (reader_at b h t.machine) (readers_in b h t.inputs) most (row_reads b h t.inputs x)), row_held b m h c counts t.inputs law k read.1 x (right_most (reader_at b h t.machine) (readers_in b h t.inputs) 1 most))
 ]
 
-tree_unread : {M T : Type 0} (b : Machine M T) (m : Meaning T) (h : ℕ) (t : Node M) → Tree.readers b h t ≤ 0 → AllOffer b m h t
-tree_unread b m h t few = (node_unread b m h t.machine (left_most (reader_at b h t.machine) (readers_in b h t.inputs) 0 few), row_unread b m h t.inputs (right_most (reader_at b h t.machine) (readers_in b h t.inputs) 0 few))
+tree_unread : {M T : Type 0} (b : Machine M T) (m : Meaning T) (h : ℕ) (t : Node M) (asked sent : ℕ) → Tree.readers b h t ≤ 0 → AllOffer b m h t asked sent
+tree_unread b m h t asked sent few = (node_unread b m h t.machine asked sent (left_most (reader_at b h t.machine) (readers_in b h t.inputs) 0 few), row_unread b m h t.inputs (right_most (reader_at b h t.machine) (readers_in b h t.inputs) 0 few))
 
 tree_reads : {M T : Type 0} (b : Machine M T) (h : ℕ) (t : Node M) → Tree.has_room b h t ≡ false → 1 ≤ Tree.readers b h t
 tree_reads b h t none = elim (one_false (room_at b h t.machine) (has_room_in b h t.inputs) none) [
@@ -198,17 +200,17 @@ tree_reads b h t none = elim (one_false (room_at b h t.machine) (has_room_in b h
 
 -- each node of a part that reads this hub offers something
 abbrev pub PartOffers : {T : Type 0} → Meaning T → ℕ → Part T → Type 0
-PartOffers m h part = part.root.state ≡ Live → AllOffer any_machine m h part.tree
+PartOffers m h part = part.root.state ≡ Live → AllOffer any_machine m h part.tree part.root.demand.asked part.root.demand.sent
 
 part_held : {T : Type 0} (m : Meaning T) (h c : ℕ) (counts : List (Option ℕ)) (part : Part T) → IsCounted counts h c → (part.root.state ≡ Live → IsTreeReadAt any_machine counts part.tree) → has_room_for h part ≡ false → readers h part ≤ 1 → PartOffers m h part
 part_held {T} m h c counts part k read none most live =
     let is : is_live part.root.state ≡ true = ap is_live live in
-    tree_held any_machine m h c counts part.tree (any_full m) k (read live) (sym (ap (λ x. if x then Tree.has_room any_machine h part.tree else true) is) ∙ none) (subst (λ x. x ≤ 1) (ap (λ x. if x then Tree.readers any_machine h part.tree else 0) is) most)
+    tree_held any_machine m h c counts part.tree part.root.demand.asked part.root.demand.sent (any_full m) k (read live) (sym (ap (λ x. if x then Tree.has_room any_machine h part.tree else true) is) ∙ none) (subst (λ x. x ≤ 1) (ap (λ x. if x then Tree.readers any_machine h part.tree else 0) is) most)
 
 part_unread : {T : Type 0} (m : Meaning T) (h : ℕ) (part : Part T) → readers h part ≤ 0 → PartOffers m h part
 part_unread {T} m h part few live =
     let is : is_live part.root.state ≡ true = ap is_live live in
-    tree_unread any_machine m h part.tree (subst (λ x. x ≤ 0) (ap (λ x. if x then Tree.readers any_machine h part.tree else 0) is) few)
+    tree_unread any_machine m h part.tree part.root.demand.asked part.root.demand.sent (subst (λ x. x ≤ 0) (ap (λ x. if x then Tree.readers any_machine h part.tree else 0) is) few)
 
 part_reads : {T : Type 0} (h : ℕ) (part : Part T) → has_room_for h part ≡ false → 1 ≤ readers h part
 part_reads {T} h part none = by_test (is_live part.root.state) none

@@ -42,7 +42,7 @@ use Rattle.rsx_subscriber.specs.declared.subscription.Subscription.{Subscription
 use Rattle.rsx_tree.specs.Edges.{EdgeView, edge_view, is_live}
 use Rattle.rsx_tree.specs.Handed.{is_room_for}
 use Rattle.rsx_tree.specs.Reads.{IsReadAt, IsRowReadAt, IsTreeReadAt, count_before}
-use Rattle.rsx_tree.specs.Rests.{HaveReadAll, NothingBehind, TreeHasReadAll}
+use Rattle.rsx_tree.specs.Rests.{HasReadAll as HasNodeReadAll, HaveReadAll, TreeHasReadAll}
 use Rattle.rsx_tree.specs.Tree.{offers}
 use Rattle.rsx_tree.specs.declared.edge.EdgeState.{EdgeState}
 use Rattle.rsx_tree.specs.declared.edge.EdgeState.TheVariants.{Live, Ended, Closed}
@@ -90,11 +90,11 @@ OrWhole {T} taken published P = (h : ℕ) (v : Stream T) → slice_get taken h �
 or_weaker : {T : Type 0} (taken published : List (Stream T)) (P Q : ℕ → Type 0) → ((h : ℕ) → P h → Q h) → OrWhole taken published P → OrWhole taken published Q
 or_weaker taken published P Q k each h v e = elim (each h v e) [ inl p ↦ inl (k h p) | inr q ↦ inr q ]
 
-node_got : {M T : Type 0} (b : Machine M T) (m : Meaning T) (taken published : List (Stream T)) (n : M) → IsReadAt (counts_in taken) (b.reads n) → OrWhole taken published (λ h. Offers b m h n) → b.waiting m n ≡ None → NothingBehind (b.reads n) published
-node_got {M} {T} b m taken published n at each none r is =
+node_got : {M T : Type 0} (b : Machine M T) (m : Meaning T) (taken published : List (Stream T)) (n : M) (asked sent : ℕ) → IsReadAt (counts_in taken) (b.reads n) → OrWhole taken published (λ h. Offers b m h n asked sent) → HasNodeReadAll b m published n asked sent
+node_got {M} {T} b m taken published n asked sent at each none more stuck r is =
     let there = counted_there taken r.hub r.reached (subst (λ o. IsReadAt (counts_in taken) o) is at) in
     elim (each r.hub there.0 there.1) [
-      | inl offers ↦ absurd (both (reads_hub r.hub (b.reads n)) (ap (reads_hub r.hub) is ∙ is_number r.hub r.hub refl) (offers none))
+      | inl offers ↦ absurd (both (reads_hub r.hub (b.reads n)) (ap (reads_hub r.hub) is ∙ is_number r.hub r.hub refl) (offers none more stuck))
       | inr got ↦ ap (without r.reached) (published_there published r.hub there.0 got) ∙ there.2
     ]
   where
@@ -111,20 +111,20 @@ row_got {M} b m taken published (More' e n p below q beside) at each = (
     both : (c : Bool) → c ≡ true → c ≡ false → ⊥
     both c x y = cc
 
-    first : is_live e.state ≡ true → (is_live e.state ≡ false) ⊎ (IsReadAt (counts_in taken) (b.reads n) × IsRowReadAt b (counts_in taken) below) → (IsRowReadAt b (counts_in taken) below → HaveReadAll b m published below) → (b.waiting m n ≡ None → NothingBehind (b.reads n) published) × HaveReadAll b m published below
+    first : is_live e.state ≡ true → (is_live e.state ≡ false) ⊎ (IsReadAt (counts_in taken) (b.reads n) × IsRowReadAt b (counts_in taken) below) → (IsRowReadAt b (counts_in taken) below → HaveReadAll b m published below) → HasNodeReadAll b m published n e.demand.asked e.demand.sent × HaveReadAll b m published below
     first live k deeper = elim k [
       | inl dead ↦ absurd (both (is_live e.state) live dead)
-      | inr w ↦ (node_got b m taken published n w.0 (or_weaker taken published (λ h. AllOfferIn b m h (More' e n p below q beside)) (λ h. Offers b m h n) (λ h o. (o.0 live).0) each), deeper w.1)
+      | inr w ↦ (node_got b m taken published n e.demand.asked e.demand.sent w.0 (or_weaker taken published (λ h. AllOfferIn b m h (More' e n p below q beside)) (λ h. Offers b m h n e.demand.asked e.demand.sent) (λ h o. (o.0 live).0) each), deeper w.1)
     ]
 
-tree_got : {M T : Type 0} (b : Machine M T) (m : Meaning T) (taken published : List (Stream T)) (t : Node M) → IsTreeReadAt b (counts_in taken) t → OrWhole taken published (λ h. AllOffer b m h t) → TreeHasReadAll b m published t
-tree_got b m taken published t at each = (
-  node_got b m taken published t.machine at.0 (or_weaker taken published (λ h. AllOffer b m h t) (λ h. Offers b m h t.machine) (λ h k. k.0) each),
-  row_got b m taken published t.inputs at.1 (or_weaker taken published (λ h. AllOffer b m h t) (λ h. AllOfferIn b m h t.inputs) (λ h k. k.1) each),
+tree_got : {M T : Type 0} (b : Machine M T) (m : Meaning T) (taken published : List (Stream T)) (t : Node M) (asked sent : ℕ) → IsTreeReadAt b (counts_in taken) t → OrWhole taken published (λ h. AllOffer b m h t asked sent) → TreeHasReadAll b m published t asked sent
+tree_got b m taken published t asked sent at each = (
+  node_got b m taken published t.machine asked sent at.0 (or_weaker taken published (λ h. AllOffer b m h t asked sent) (λ h. Offers b m h t.machine asked sent) (λ h k. k.0) each),
+  row_got b m taken published t.inputs at.1 (or_weaker taken published (λ h. AllOffer b m h t asked sent) (λ h. AllOfferIn b m h t.inputs) (λ h k. k.1) each),
 )
 
 part_got : {T : Type 0} (m : Meaning T) (taken published : List (Stream T)) (part : Part.Part T) → (part.root.state ≡ Live → IsTreeReadAt any_machine (counts_in taken) part.tree) → OrWhole taken published (λ h. PartOffers m h part) → HasReadAll m published part
-part_got m taken published part at each live = tree_got any_machine m taken published part.tree (at live) (or_weaker taken published (λ h. PartOffers m h part) (λ h. AllOffer any_machine m h part.tree) (λ h k. k live) each)
+part_got m taken published part at each live = tree_got any_machine m taken published part.tree part.root.demand.asked part.root.demand.sent (at live) (or_weaker taken published (λ h. PartOffers m h part) (λ h. AllOffer any_machine m h part.tree part.root.demand.asked part.root.demand.sent) (λ h k. k live) each)
 
 -- ---- a hub with an emitter took in its value
 
