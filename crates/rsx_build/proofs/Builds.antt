@@ -50,16 +50,16 @@ use Rattle.rsx_tree.specs.Tree.{comes_out, notes, IsJoined}
 use Rattle.rsx_tree.proofs.Rows.{comes_in_closed_if, notes_closed_if}
 use Rattle.rsx_tree.proofs.Effects.{edges_closed_if}
 use Rattle.rsx_tree.proofs.Readings.{closed_if_reads}
-use Rattle.rsx_node.specs.declared.any_node.AnyNode.{AnyNode}
 use Rattle.rsx_node.specs.declared.any_node.AnyNode.TheVariants.{Source, Plain}
 use Rattle.rsx_node.specs.declared.source_node.SourceNode.{SourceNode}
 use Rattle.rsx_node.specs.declared.source_node.SourceNode.TheVariants.{Items, Range, Hub}
-use Rattle.rsx_node.specs.Any.{any_machine}
+use Rattle.rsx_crossing.specs.declared.sender.Sender.TheVariants.{Direct}
+use Rattle.rsx_node.specs.Any.{TreeNode, any_machine}
 use Rattle.rsx_build.specs.Built.{IsBuilt, IsPlainOver, AllUnrecorded, AreBegun, StandAt, counts_of, first_wants, fresh_edge, fresh_edges, fresh_wants, join_at, joins_now, new_joins, starts_ended}
 use Rattle.rsx_build.proofs.Wants.{first_wants_closed_if, plain_wants, wants_Hub, wants_Items, wants_Plain, wants_Range}
 
 -- what comes out of a fresh node is its operator of what comes in
-pub fresh_out : {T : Type 0} (m : Meaning T) (hubs : List (Stream T)) (n : AnyNode T) (f : List (Stream T) → Stream T) → ((vs : List (Stream T)) (k : Note) → any_machine.comes_out m n (incoming_of hubs vs) k ≡ quiet_at k (f vs)) →
+pub fresh_out : {T : Type 0} (m : Meaning T) (hubs : List (Stream T)) (n : TreeNode T) (f : List (Stream T) → Stream T) → ((vs : List (Stream T)) (k : Note) → any_machine.comes_out m n (incoming_of hubs vs) k ≡ quiet_at k (f vs)) →
     (o : Option (List (Stream T))) (k : Option Note) → out_of any_machine m hubs n o k ≡ quiet k (option_map f o)
 fresh_out m hubs n f h o None = refl
 fresh_out m hubs n f h None (Some Nothing) = refl
@@ -71,40 +71,40 @@ fresh_out m hubs n f h (Some vs) (Some (Ended i)) = h vs (Ended i)
 
 -- ---- a source
 
-abbrev node_of : {T : Type 0} → AnyNode T → Inputs (AnyNode T) → Node (AnyNode T)
+abbrev node_of : {T : Type 0} → TreeNode T → Inputs (TreeNode T) → Node (TreeNode T)
 node_of n r = record { machine = n; inputs = r }
 
 -- a source alone, whose value is that of the expression
-pub built_source : {T : Type 0} (m : Meaning T) (hubs : List (HubState T)) (e : Expr T) (n : SourceNode T) (t : Node (AnyNode T)) → t.machine ≡ Source n → t.inputs ≡ End →
-    ((whole : List (Stream T)) (joins : List ℕ) (leaf : ℕ) → AreBegun hubs whole → StandAt joins leaf (new_joins hubs e) → (v : Stream T) × ((inc : Incoming T) (k : Note) → inc.hubs ≡ whole → any_machine.comes_out m (Source n) inc k ≡ quiet_at k v)
+pub built_source : {T : Type 0} (m : Meaning T) (hubs : List (HubState T)) (e : Expr T) (n : SourceNode T) (t : Node (TreeNode T)) → t.machine ≡ Direct (Source n) → t.inputs ≡ End →
+    ((whole : List (Stream T)) (joins : List ℕ) (leaf : ℕ) → AreBegun hubs whole → StandAt joins leaf (new_joins hubs e) → (v : Stream T) × ((inc : Incoming T) (k : Note) → inc.hubs ≡ whole → any_machine.comes_out m (Direct (Source n)) inc k ≡ quiet_at k v)
     × ((further : List Note) (at : ℕ) → (meant (environment m whole joins further) e).value at leaf ≡ quiet (slice_get further at) (Some v))) →
-    IsReadAt (counts_of hubs) (any_machine.reads (Source n)) → (new_joins hubs e ≡ [] → IsReadAt [] (any_machine.reads (Source n))) → fresh_edges e ≡ [] → fresh_wants e ≡ [] → IsBuilt m hubs e t
+    IsReadAt (counts_of hubs) (any_machine.reads (Direct (Source n))) → (new_joins hubs e ≡ [] → IsReadAt [] (any_machine.reads (Direct (Source n)))) → fresh_edges e ≡ [] → fresh_wants e ≡ [] → IsBuilt m hubs e t
 built_source {T} m hubs e n t n_is r_is values read unread none nothing = record {
   value = λ whole joins further at leaf begun stand.
       let v = values whole joins leaf begun stand in
       ap (λ x. out_of any_machine m whole x (comes_in any_machine m whole further t.inputs (at + 1)) (slice_get further at)) n_is
-      ∙ (ap (λ r. out_of any_machine m whole (Source n) (comes_in any_machine m whole further r (at + 1)) (slice_get further at)) r_is
-      ∙ (fresh_out m whole (Source n) (λ vs. v.0) (λ vs k. v.1 (incoming_of whole vs) k (same_hubs whole vs)) (Some []) (slice_get further at)
+      ∙ (ap (λ r. out_of any_machine m whole (Direct (Source n)) (comes_in any_machine m whole further r (at + 1)) (slice_get further at)) r_is
+      ∙ (fresh_out m whole (Direct (Source n)) (λ vs. v.0) (λ vs k. v.1 (incoming_of whole vs) k (same_hubs whole vs)) (Some []) (slice_get further at)
       ∙ sym (v.2 further at)));
   reads =
-      let R : AnyNode T → Inputs (AnyNode T) → Type 0 = λ x r. IsTreeReadAt any_machine (counts_of hubs) (node_of x r) in
-      let N : AnyNode T → Type 0 = λ x. R x t.inputs in
-      let I : Inputs (AnyNode T) → Type 0 = λ r. R (Source n) r in
+      let R : TreeNode T → Inputs (TreeNode T) → Type 0 = λ x r. IsTreeReadAt any_machine (counts_of hubs) (node_of x r) in
+      let N : TreeNode T → Type 0 = λ x. R x t.inputs in
+      let I : Inputs (TreeNode T) → Type 0 = λ r. R (Direct (Source n)) r in
       subst N (sym n_is) (subst I (sym r_is) (read, tt));
   alone = λ bare.
-      let R : AnyNode T → Inputs (AnyNode T) → Type 0 = λ x r. IsTreeReadAt any_machine [] (node_of x r) in
-      let N : AnyNode T → Type 0 = λ x. R x t.inputs in
-      let I : Inputs (AnyNode T) → Type 0 = λ r. R (Source n) r in
+      let R : TreeNode T → Inputs (TreeNode T) → Type 0 = λ x r. IsTreeReadAt any_machine [] (node_of x r) in
+      let N : TreeNode T → Type 0 = λ x. R x t.inputs in
+      let I : Inputs (TreeNode T) → Type 0 = λ r. R (Direct (Source n)) r in
       subst N (sym n_is) (subst I (sym r_is) (unread bare, tt));
   notes =
-      let N : AnyNode T → Type 0 = λ x. AllUnrecorded (any_machine.recorded x ∷ notes_of any_machine t.inputs) in
-      let P : Inputs (AnyNode T) → Type 0 = λ r. AllUnrecorded (Nothing ∷ notes_of any_machine r) in
+      let N : TreeNode T → Type 0 = λ x. AllUnrecorded (any_machine.recorded x ∷ notes_of any_machine t.inputs) in
+      let P : Inputs (TreeNode T) → Type 0 = λ r. AllUnrecorded (Nothing ∷ notes_of any_machine r) in
       subst N (sym n_is) (subst P (sym r_is) ((λ k. refl), tt));
   edges = ap edges_in r_is ∙ sym none;
   wants = ap (first_wants any_machine t.machine 0) r_is ∙ sym nothing;
   balance =
-      let R : Inputs (AnyNode T) → Type 0 = λ r. IsOwnerBalanced any_machine t.machine (sent_over r) 0 (IsRowBalanced any_machine t.machine 0 r) in
-      let N : AnyNode T → Type 0 = λ x. IsOwnerBalanced any_machine x [] 0 (Unit {0}) in
+      let R : Inputs (TreeNode T) → Type 0 = λ r. IsOwnerBalanced any_machine t.machine (sent_over r) 0 (IsRowBalanced any_machine t.machine 0 r) in
+      let N : TreeNode T → Type 0 = λ x. IsOwnerBalanced any_machine x [] 0 (Unit {0}) in
       subst R (sym r_is) (subst N (sym n_is) (inr (refl, tt, tt)));
 }
   where
@@ -117,7 +117,7 @@ built_source {T} m hubs e n t n_is r_is values read unread none nothing = record
 fresh_Items : {T : Type 0} (v : Vec T Global) → fresh_edges (ItemsOf v) ≡ []
 fresh_Items {T} v = rw (fold_out-Expr, outs-Items) refl
 
-built_items : {T : Type 0} (m : Meaning T) (hubs : List (HubState T)) (e : Expr T) (v : Vec T Global) (items : List T) (n : ItemsLeft T) (t : Node (AnyNode T)) → e ≡ ItemsOf v → items ≡ v.items → GivesItems n items → t.machine ≡ Source (Items n) → t.inputs ≡ End → IsBuilt m hubs e t
+built_items : {T : Type 0} (m : Meaning T) (hubs : List (HubState T)) (e : Expr T) (v : Vec T Global) (items : List T) (n : ItemsLeft T) (t : Node (TreeNode T)) → e ≡ ItemsOf v → items ≡ v.items → GivesItems n items → t.machine ≡ Direct (Source (Items n)) → t.inputs ≡ End → IsBuilt m hubs e t
 built_items {T} m hubs e v items n t is all fresh n_is r_is =
     let P : Expr T → Type 0 = λ x. IsBuilt m hubs x t in
     subst P (sym is) (built_source m hubs (ItemsOf v) (Items n) t n_is r_is
@@ -125,8 +125,8 @@ built_items {T} m hubs e v items n t is all fresh n_is r_is =
     tt (λ bare. tt) (fresh_Items v) (wants_Items v))
 
 -- the same of a tree that was made unless memory ran out
-pub items_made : {T : Type 0} (m : Meaning T) (v : Vec T Global) (items : List T) (n : ItemsLeft T) (r : Result (Node (AnyNode T)) NoMemory) → items ≡ v.items → GivesItems n items →
-    IfOk r (λ t. t.machine ≡ Source (Items n)) → IfOk r (λ t. t.inputs ≡ End) → IfOk r (λ t. (hubs : List (HubState T)) → IsBuilt m hubs (ItemsOf v) t)
+pub items_made : {T : Type 0} (m : Meaning T) (v : Vec T Global) (items : List T) (n : ItemsLeft T) (r : Result (Node (TreeNode T)) NoMemory) → items ≡ v.items → GivesItems n items →
+    IfOk r (λ t. t.machine ≡ Direct (Source (Items n))) → IfOk r (λ t. t.inputs ≡ End) → IfOk r (λ t. (hubs : List (HubState T)) → IsBuilt m hubs (ItemsOf v) t)
 items_made m v items n (Ok t) all fresh n_is r_is = λ hubs. built_items m hubs (ItemsOf v) v items n t refl all fresh n_is r_is
 items_made m v items n (Err x) all fresh n_is r_is = tt
 
@@ -135,7 +135,7 @@ items_made m v items n (Err x) all fresh n_is r_is = tt
 fresh_Range : (T : Type 0) (a : ℤ) (k : ℕ) → fresh_edges {T = T} (RangeOf a k) ≡ []
 fresh_Range T a k = rw (fold_out-Expr, outs-Range) refl
 
-built_range : {T : Type 0} (m : Meaning T) (hubs : List (HubState T)) (e : Expr T) (a : ℤ) (k : ℕ) (n : RangeNode T) (t : Node (AnyNode T)) → e ≡ RangeOf a k → GivesRange n a k → t.machine ≡ Source (Range n) → t.inputs ≡ End → IsBuilt m hubs e t
+built_range : {T : Type 0} (m : Meaning T) (hubs : List (HubState T)) (e : Expr T) (a : ℤ) (k : ℕ) (n : RangeNode T) (t : Node (TreeNode T)) → e ≡ RangeOf a k → GivesRange n a k → t.machine ≡ Direct (Source (Range n)) → t.inputs ≡ End → IsBuilt m hubs e t
 built_range {T} m hubs e a k n t is fresh n_is r_is =
     let P : Expr T → Type 0 = λ x. IsBuilt m hubs x t in
     subst P (sym is) (built_source m hubs (RangeOf a k) (Range n) t n_is r_is
@@ -143,8 +143,8 @@ built_range {T} m hubs e a k n t is fresh n_is r_is =
     tt (λ bare. tt) (fresh_Range T a k) (wants_Range T a k))
 
 -- the same of a tree that was made unless memory ran out
-pub range_if : {T : Type 0} (m : Meaning T) (hubs : List (HubState T)) (e : Expr T) (a : ℤ) (k : ℕ) (n : RangeNode T) (r : Result (Node (AnyNode T)) NoMemory) → e ≡ RangeOf a k → GivesRange n a k →
-    IfOk r (λ t. t.machine ≡ Source (Range n)) → IfOk r (λ t. t.inputs ≡ End) → IfOk r (λ t. IsBuilt m hubs e t)
+pub range_if : {T : Type 0} (m : Meaning T) (hubs : List (HubState T)) (e : Expr T) (a : ℤ) (k : ℕ) (n : RangeNode T) (r : Result (Node (TreeNode T)) NoMemory) → e ≡ RangeOf a k → GivesRange n a k →
+    IfOk r (λ t. t.machine ≡ Direct (Source (Range n))) → IfOk r (λ t. t.inputs ≡ End) → IfOk r (λ t. IsBuilt m hubs e t)
 range_if m hubs e a k n (Ok t) is fresh n_is r_is = built_range m hubs e a k n t is fresh n_is r_is
 range_if m hubs e a k n (Err x) is fresh n_is r_is = tt
 
@@ -188,13 +188,13 @@ some_join e = cc
 fresh_Hub : (T : Type 0) (h : HubId) → fresh_edges {T = T} (HubOf h) ≡ []
 fresh_Hub T h = rw (fold_out-Expr, outs-Hub) refl
 
-built_hub : {T : Type 0} (m : Meaning T) (hubs : List (HubState T)) (e : Expr T) (id : HubId) (h : HubState T) (mem : MemberState T) (n : LeafState T) (t : Node (AnyNode T)) → e ≡ HubOf id → slice_get hubs id.0 ≡ Some h → mem ≡ fresh_member h → ReadsFromJoin h mem →
-    n.hub ≡ id.0 → member_of n ≡ mem → t.machine ≡ Source (Hub n) → t.inputs ≡ End → IsBuilt m hubs e t
+built_hub : {T : Type 0} (m : Meaning T) (hubs : List (HubState T)) (e : Expr T) (id : HubId) (h : HubState T) (mem : MemberState T) (n : LeafState T) (t : Node (TreeNode T)) → e ≡ HubOf id → slice_get hubs id.0 ≡ Some h → mem ≡ fresh_member h → ReadsFromJoin h mem →
+    n.hub ≡ id.0 → member_of n ≡ mem → t.machine ≡ Direct (Source (Hub n)) → t.inputs ≡ End → IsBuilt m hubs e t
 built_hub {T} m hubs e id h mem n t is there fresh from hub_is mem_is n_is r_is =
     let P : Expr T → Type 0 = λ x. IsBuilt m hubs x t in
     subst P (sym is) (built_source m hubs (HubOf id) (Hub n) t n_is r_is values read (λ bare. absurd (some_join (sym (new_joins_Hub T hubs id) ∙ bare))) (fresh_Hub T id) (wants_Hub T id))
   where
-    values : (whole : List (Stream T)) (joins : List ℕ) (leaf : ℕ) → AreBegun hubs whole → StandAt joins leaf (new_joins hubs (HubOf id)) → (v : Stream T) × ((inc : Incoming T) (k : Note) → inc.hubs ≡ whole → any_machine.comes_out m (Source (Hub n)) inc k ≡ quiet_at k v)
+    values : (whole : List (Stream T)) (joins : List ℕ) (leaf : ℕ) → AreBegun hubs whole → StandAt joins leaf (new_joins hubs (HubOf id)) → (v : Stream T) × ((inc : Incoming T) (k : Note) → inc.hubs ≡ whole → any_machine.comes_out m (Direct (Source (Hub n))) inc k ≡ quiet_at k v)
         × ((further : List Note) (at : ℕ) → (meant (environment m whole joins further) (HubOf id)).value at leaf ≡ quiet (slice_get further at) (Some v))
     values whole joins leaf begun stand =
         let w = hub_at hubs whole id.0 h there begun in
@@ -217,8 +217,8 @@ built_hub {T} m hubs e id h mem n t is there fresh from hub_is mem_is n_is r_is 
         (ap (slice_get (counts_of hubs)) hub_is ∙ (count_there hubs id.0 h there ∙ (ap (λ k. Some (count_before (ending_taken h.has_ended h.ending) k)) (sym reached) ∙ ap (λ e. Some (count_before e n.reached)) (sym ending))))
 
 -- the same of a tree that was made unless memory ran out
-pub hub_made : {T : Type 0} (m : Meaning T) (hubs : List (HubState T)) (id : HubId) (h : HubState T) (mem : MemberState T) (n : LeafState T) (r : Result (Node (AnyNode T)) NoMemory) → slice_get hubs id.0 ≡ Some h → mem ≡ fresh_member h → ReadsFromJoin h mem →
-    n.hub ≡ id.0 → member_of n ≡ mem → IfOk r (λ t. t.machine ≡ Source (Hub n)) → IfOk r (λ t. t.inputs ≡ End) → IfOk r (λ t. IsBuilt m hubs (HubOf id) t)
+pub hub_made : {T : Type 0} (m : Meaning T) (hubs : List (HubState T)) (id : HubId) (h : HubState T) (mem : MemberState T) (n : LeafState T) (r : Result (Node (TreeNode T)) NoMemory) → slice_get hubs id.0 ≡ Some h → mem ≡ fresh_member h → ReadsFromJoin h mem →
+    n.hub ≡ id.0 → member_of n ≡ mem → IfOk r (λ t. t.machine ≡ Direct (Source (Hub n))) → IfOk r (λ t. t.inputs ≡ End) → IfOk r (λ t. IsBuilt m hubs (HubOf id) t)
 hub_made m hubs id h mem n (Ok t) there fresh from hub_is mem_is n_is r_is = built_hub m hubs (HubOf id) id h mem n t refl there fresh from hub_is mem_is n_is r_is
 hub_made m hubs id h mem n (Err x) there fresh from hub_is mem_is n_is r_is = tt
 
@@ -259,13 +259,13 @@ fits_of true o e = refl
 fits_of false o e = cc
 
 -- the same over the edge of its input
-fresh_balanced : {T : Type 0} (g : Stage T) (n : PlainNode T) (below : Node (AnyNode T)) (e : Edge) (p q : Hold) → n.state ≡ plain_start g → n.slot ≡ start_slot g → stage_fits g ≡ true → e.demand.sent ≡ 0 → e.state ≡ Live → IsBalanced any_machine below 0 →
-    IsBalanced any_machine (node_of (Plain n) (closed_row_if (plain_ended n) (More' e below.machine p below.inputs q End))) 0
+fresh_balanced : {T : Type 0} (g : Stage T) (n : PlainNode T) (below : Node (TreeNode T)) (e : Edge) (p q : Hold) → n.state ≡ plain_start g → n.slot ≡ start_slot g → stage_fits g ≡ true → e.demand.sent ≡ 0 → e.state ≡ Live → IsBalanced any_machine below 0 →
+    IsBalanced any_machine (node_of (Direct (Plain n)) (closed_row_if (plain_ended n) (More' e below.machine p below.inputs q End))) 0
 fresh_balanced {T} g n below e p q st sl fits sent live w = elim (fresh_counts g n st sl fits) [
   | inl f ↦ inl f
   | inr r ↦
-      let row : Inputs (AnyNode T) = More' e below.machine p below.inputs q End in
-      let Q : Inputs (AnyNode T) → Type 0 = λ u. IsOwnerBalanced any_machine (Plain n) (sent_over u) 0 (IsRowBalanced any_machine (Plain n) 0 u) in
+      let row : Inputs (TreeNode T) = More' e below.machine p below.inputs q End in
+      let Q : Inputs (TreeNode T) → Type 0 = λ u. IsOwnerBalanced any_machine (Direct (Plain n)) (sent_over u) 0 (IsRowBalanced any_machine (Direct (Plain n)) 0 u) in
       let open_still : closed_row_if (plain_ended n) row ≡ row = ap (λ c. closed_row_if c row) r.0 in
       let B : ℕ → Type 0 = λ k. balanced n.state k (0 + length n.slot) in
       let W : ℕ → Type 0 = λ k. IsBalanced any_machine below k in
@@ -280,43 +280,43 @@ fresh_edge_is e a s l =
     ap (λ x. record { asked = x; sent = e.demand.sent; state = e.state }) a
     ∙ (ap (λ x. record { asked = 0; sent = x; state = e.state }) s ∙ ap (λ x. record { asked = 0; sent = 0; state = x }) l)
 
-built_plain : {T : Type 0} (m : Meaning T) (hubs : List (HubState T)) (e : Expr T) (g : Stage T) (box : Box (Expr T) Global) (input : Expr T) (below : Node (AnyNode T)) (n : PlainNode T) (row : Inputs (AnyNode T)) (t : Node (AnyNode T)) →
+built_plain : {T : Type 0} (m : Meaning T) (hubs : List (HubState T)) (e : Expr T) (g : Stage T) (box : Box (Expr T) Global) (input : Expr T) (below : Node (TreeNode T)) (n : PlainNode T) (row : Inputs (TreeNode T)) (t : Node (TreeNode T)) →
     e ≡ PlainOf g box → input ≡ box.value → first_fault (length hubs) e ≡ None → IsBuilt m hubs input below → ((inc : Incoming T) (further : Note) → plain_comes_out m n inc further ≡ quiet_at further (plain m g inc.first)) → n.state ≡ plain_start g → n.slot ≡ start_slot g →
-    IsJoined below End row → t.machine ≡ Plain n → t.inputs ≡ closed_row_if (plain_ended n) row → IsBuilt m hubs e t
+    IsJoined below End row → t.machine ≡ Direct (Plain n) → t.inputs ≡ closed_row_if (plain_ended n) row → IsBuilt m hubs e t
 built_plain {T} m hubs e g box input below n row t is in_box fine w0 fresh st sl j n_is r_is =
     let P : Expr T → Type 0 = λ x. IsBuilt m hubs x t in
     let I : Expr T → Type 0 = λ x. IsBuilt m hubs x below in
     let w : IsBuilt m hubs box.value below = subst I in_box w0 in
     let c = plain_ended n in
-    let whole : Inputs (AnyNode T) = More' j.e below.machine j.p below.inputs j.q End in
+    let whole : Inputs (TreeNode T) = More' j.e below.machine j.p below.inputs j.q End in
     let tree_is : t.inputs ≡ closed_row_if c whole = r_is ∙ ap (closed_row_if c) j.row_is in
     let fits : stage_fits g ≡ true = fits_of (stage_fits g) (first_fault (length hubs) box.value) (sym (first_fault_Plain (length hubs) g box) ∙ (ap (first_fault (length hubs)) (sym is) ∙ fine)) in
     let ended_is : c ≡ starts_ended g = ap has_ending sl in
     let new : edge_view j.e ≡ fresh_edge = fresh_edge_is j.e j.asked j.sent j.live in
     let N : List Note → Type 0 = λ ns. AllUnrecorded (Nothing ∷ ns) in
-    let NM : AnyNode T → Type 0 = λ x. AllUnrecorded (any_machine.recorded x ∷ notes_of any_machine t.inputs) in
+    let NM : TreeNode T → Type 0 = λ x. AllUnrecorded (any_machine.recorded x ∷ notes_of any_machine t.inputs) in
     let notes_are : notes_of any_machine t.inputs ≡ notes any_machine below = ap (notes_of any_machine) tree_is ∙ (notes_closed_if any_machine c whole ∙ ap (λ l. any_machine.recorded below.machine ∷ l) (append-nil (notes_of any_machine below.inputs))) in
     let below_is : edges_in whole ≡ fresh_edge ∷ fresh_edges box.value = ap (λ v. v ∷ (edges_in below.inputs ++ [])) new ∙ ap (λ l. fresh_edge ∷ l) (append-nil (edges_in below.inputs) ∙ w.edges) in
-    let B : AnyNode T → Inputs (AnyNode T) → Type 0 = λ x r. IsBalanced any_machine (node_of x r) 0 in
-    let BN : AnyNode T → Type 0 = λ x. B x t.inputs in
-    let BR : Inputs (AnyNode T) → Type 0 = λ r. B (Plain n) r in
+    let B : TreeNode T → Inputs (TreeNode T) → Type 0 = λ x r. IsBalanced any_machine (node_of x r) 0 in
+    let BN : TreeNode T → Type 0 = λ x. B x t.inputs in
+    let BR : Inputs (TreeNode T) → Type 0 = λ r. B (Direct (Plain n)) r in
     subst P (sym is) (record {
       value = λ more joins further at leaf begun stand.
           let S : List ℕ → Type 0 = λ l. StandAt joins leaf l in
           ap (λ x. out_of any_machine m more x (comes_in any_machine m more further t.inputs (at + 1)) (slice_get further at)) n_is
-          ∙ (ap (λ o. out_of any_machine m more (Plain n) o (slice_get further at)) (ap (λ r. comes_in any_machine m more further r (at + 1)) tree_is ∙ comes_in_closed_if any_machine m more further c whole (at + 1))
-          ∙ (fresh_out m more (Plain n) (λ vs. plain m g (incoming_of more vs).first) (λ vs d. fresh (incoming_of more vs) d) (beside_of (comes_out any_machine m more further below (at + 1)) (Some [])) (slice_get further at)
+          ∙ (ap (λ o. out_of any_machine m more (Direct (Plain n)) o (slice_get further at)) (ap (λ r. comes_in any_machine m more further r (at + 1)) tree_is ∙ comes_in_closed_if any_machine m more further c whole (at + 1))
+          ∙ (fresh_out m more (Direct (Plain n)) (λ vs. plain m g (incoming_of more vs).first) (λ vs d. fresh (incoming_of more vs) d) (beside_of (comes_out any_machine m more further below (at + 1)) (Some [])) (slice_get further at)
           ∙ (ap (quiet (slice_get further at)) (first_of_one more (plain m g) (comes_out any_machine m more further below (at + 1)) ∙ ap (option_map (plain m g)) (w.value more joins further (at + 1) leaf begun (subst S (new_joins_Plain hubs g box) stand)))
           ∙ sym (value_Plain (environment m more joins further) g box at leaf))));
       reads =
-          let R : AnyNode T → Inputs (AnyNode T) → Type 0 = λ x r. IsTreeReadAt any_machine (counts_of hubs) (node_of x r) in
-          let N : AnyNode T → Type 0 = λ x. R x t.inputs in
-          let I : Inputs (AnyNode T) → Type 0 = λ r. R (Plain n) r in
+          let R : TreeNode T → Inputs (TreeNode T) → Type 0 = λ x r. IsTreeReadAt any_machine (counts_of hubs) (node_of x r) in
+          let N : TreeNode T → Type 0 = λ x. R x t.inputs in
+          let I : Inputs (TreeNode T) → Type 0 = λ r. R (Direct (Plain n)) r in
           subst N (sym n_is) (subst I (sym tree_is) (tt, closed_if_reads any_machine (counts_of hubs) c whole (inr w.reads, tt)));
       alone = λ bare.
-          let R : AnyNode T → Inputs (AnyNode T) → Type 0 = λ x r. IsTreeReadAt any_machine [] (node_of x r) in
-          let N : AnyNode T → Type 0 = λ x. R x t.inputs in
-          let I : Inputs (AnyNode T) → Type 0 = λ r. R (Plain n) r in
+          let R : TreeNode T → Inputs (TreeNode T) → Type 0 = λ x r. IsTreeReadAt any_machine [] (node_of x r) in
+          let N : TreeNode T → Type 0 = λ x. R x t.inputs in
+          let I : Inputs (TreeNode T) → Type 0 = λ r. R (Direct (Plain n)) r in
           subst N (sym n_is) (subst I (sym tree_is) (tt, closed_if_reads any_machine [] c whole (inr (w.alone (sym (new_joins_Plain hubs g box) ∙ bare)), tt)));
       notes = subst NM (sym n_is) (subst N (sym notes_are) ((λ x. refl), w.notes));
       edges = ap edges_in tree_is ∙ (edges_closed_if c whole ∙ (ap (closed_if c) below_is ∙ (ap (λ d. closed_if d (fresh_edge ∷ fresh_edges box.value)) ended_is ∙ sym (fresh_Plain g box))));
@@ -331,16 +331,16 @@ built_plain {T} m hubs e g box input below n row t is in_box fine w0 fresh st sl
     })
 
 -- the same of a tree that was made unless memory ran out
-pub plain_if : {T E : Type 0} (m : Meaning T) (hubs : List (HubState T)) (e : Expr T) (g : Stage T) (box : Box (Expr T) Global) (input : Expr T) (below : Node (AnyNode T)) (r : Result (Node (AnyNode T)) E) →
+pub plain_if : {T E : Type 0} (m : Meaning T) (hubs : List (HubState T)) (e : Expr T) (g : Stage T) (box : Box (Expr T) Global) (input : Expr T) (below : Node (TreeNode T)) (r : Result (Node (TreeNode T)) E) →
     e ≡ PlainOf g box → input ≡ box.value → first_fault (length hubs) e ≡ None → IsBuilt m hubs input below → IfOk r (λ t. IsPlainOver g below t) → IfOk r (λ t. IsBuilt m hubs e t)
 plain_if m hubs e g box input below (Ok t) is in_box fine w o = built_plain m hubs e g box input below o.node o.row t is in_box fine w (o.fresh m) o.state o.slot o.joined o.machine o.inputs
 plain_if m hubs e g box input below (Err x) is in_box fine w o = tt
 
-pub items_if : {T E : Type 0} (m : Meaning T) (hubs : List (HubState T)) (e : Expr T) (v : Vec T Global) (r : Result (Node (AnyNode T)) E) → e ≡ ItemsOf v → IfOk r (λ t. (hs : List (HubState T)) → IsBuilt m hs (ItemsOf v) t) → IfOk r (λ t. IsBuilt m hubs e t)
+pub items_if : {T E : Type 0} (m : Meaning T) (hubs : List (HubState T)) (e : Expr T) (v : Vec T Global) (r : Result (Node (TreeNode T)) E) → e ≡ ItemsOf v → IfOk r (λ t. (hs : List (HubState T)) → IsBuilt m hs (ItemsOf v) t) → IfOk r (λ t. IsBuilt m hubs e t)
 items_if {T} m hubs e v (Ok t) is o = let P : Expr T → Type 0 = λ x. IsBuilt m hubs x t in subst P (sym is) (o hubs)
 items_if m hubs e v (Err x) is o = tt
 
-pub leaf_if : {T E : Type 0} (m : Meaning T) (hubs : List (HubState T)) (e : Expr T) (id : HubId) (r : Result (Node (AnyNode T)) E) → e ≡ HubOf id → IfOk r (λ t. IsBuilt m hubs (HubOf id) t) → IfOk r (λ t. IsBuilt m hubs e t)
+pub leaf_if : {T E : Type 0} (m : Meaning T) (hubs : List (HubState T)) (e : Expr T) (id : HubId) (r : Result (Node (TreeNode T)) E) → e ≡ HubOf id → IfOk r (λ t. IsBuilt m hubs (HubOf id) t) → IfOk r (λ t. IsBuilt m hubs e t)
 leaf_if {T} m hubs e id (Ok t) is o = let P : Expr T → Type 0 = λ x. IsBuilt m hubs x t in subst P (sym is) o
 leaf_if m hubs e id (Err x) is o = tt
 

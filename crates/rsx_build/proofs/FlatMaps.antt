@@ -25,6 +25,7 @@ use Rattle.rsx_queued.specs.declared.output.Output.TheVariants.{Empty}
 use Rattle.rsx_flat_map.specs.FlatMap.{GivesFlatMap, IsGoing}
 use Rattle.rsx_flat_map.specs.declared.node.FlatMapNode.{FlatMapNode}
 use Rattle.rsx_tree.specs.declared.node.Node.{Node}
+use Rattle.rsx_node.specs.Any.{TreeNode}
 use Rattle.rsx_node.specs.declared.any_node.AnyNode.{AnyNode}
 use Rattle.rsx_node.specs.declared.any_node.AnyNode.TheVariants.{FlatMap}
 use Rattle.rsx_build.specs.Built.{IsBuilt, IsUnrecorded, fresh_edge, fresh_edges, new_joins}
@@ -66,7 +67,7 @@ stands {T} m hubs f c gs b some most n h =
       wants = wants_Flat f c gs b;
     })
 
-pub flat_if : {T : Type 0} (m : Meaning T) (hubs : List (HubState T)) (count : ℕ) (e : Expr T) (f c : ℕ) (gs : Vec (Stage T) Global) (stages : List (Stage T)) (b : Box (Expr T) Global) (input : Expr T) (below : Node (AnyNode T)) (made : Result (AnyNode T) NoMemory) (r : Result (Node (AnyNode T)) NoMemory) →
+pub flat_if : {T : Type 0} (m : Meaning T) (hubs : List (HubState T)) (count : ℕ) (e : Expr T) (f c : ℕ) (gs : Vec (Stage T) Global) (stages : List (Stage T)) (b : Box (Expr T) Global) (input : Expr T) (below : Node (TreeNode T)) (made : Result (AnyNode T) NoMemory) (r : Result (Node (TreeNode T)) NoMemory) →
     e ≡ Flat f c gs b → stages ≡ gs.items → input ≡ b.value → first_fault count e ≡ None → IsBuilt m hubs input below → IfOk made (λ n. IsFlatMap f c stages n) → IfOk r (λ t. IsOverOne made below t) → IfOk r (λ t. IsBuilt m hubs e t)
 flat_if {T} m hubs count e f c gs stages b input below made r is in_list in_box fine w fresh o =
     let few = fits_concurrency c (or_none _ _ (fault_Flat count f c gs b (ap (first_fault count) (sym is) ∙ fine)).0).0 in

@@ -19,6 +19,7 @@ use Rattle.rsx_queued.specs.Inputs.{picked}
 use Rattle.rsx_group_by.specs.GroupBy.{GivesGroups, group_counted, group_ended}
 use Rattle.rsx_group_by.specs.declared.node.GroupByNode.{GroupByNode}
 use Rattle.rsx_tree.specs.declared.node.Node.{Node}
+use Rattle.rsx_node.specs.Any.{TreeNode}
 use Rattle.rsx_node.specs.declared.any_node.AnyNode.{AnyNode}
 use Rattle.rsx_node.specs.declared.any_node.AnyNode.TheVariants.{GroupBy}
 use Rattle.rsx_build.specs.Built.{IsBuilt, IsUnrecorded, fresh_edge, fresh_edges, new_joins}
@@ -57,7 +58,7 @@ stands {T} m hubs f gs b n h =
       wants = wants_Group f gs b;
     })
 
-pub group_if : {T : Type 0} (m : Meaning T) (hubs : List (HubState T)) (e : Expr T) (f : ℕ) (gs : Vec (Stage T) Global) (stages : List (Stage T)) (b : Box (Expr T) Global) (input : Expr T) (below : Node (AnyNode T)) (made : Result (AnyNode T) NoMemory) (r : Result (Node (AnyNode T)) NoMemory) →
+pub group_if : {T : Type 0} (m : Meaning T) (hubs : List (HubState T)) (e : Expr T) (f : ℕ) (gs : Vec (Stage T) Global) (stages : List (Stage T)) (b : Box (Expr T) Global) (input : Expr T) (below : Node (TreeNode T)) (made : Result (AnyNode T) NoMemory) (r : Result (Node (TreeNode T)) NoMemory) →
     e ≡ Group f gs b → stages ≡ gs.items → input ≡ b.value → IsBuilt m hubs input below → IfOk made (λ n. IsGroupBy f stages n) → IfOk r (λ t. IsOverOne made below t) → IfOk r (λ t. IsBuilt m hubs e t)
 group_if {T} m hubs e f gs stages b input below made r is in_list in_box w fresh o =
     let P : Expr T → Type 0 = λ x. IfOk r (λ t. IsBuilt m hubs x t) in

@@ -11,6 +11,8 @@ use Rattle.rsx_tree.specs.Inputs.{closed_row_if}
 use Rattle.rsx_tree.specs.Tree.{IsJoined}
 use Rattle.rsx_tree.specs.declared.inputs.Inputs.{Inputs, End}
 use Rattle.rsx_tree.specs.declared.node.Node.{Node}
+use Rattle.rsx_crossing.specs.declared.sender.Sender.TheVariants.{Direct}
+use Rattle.rsx_node.specs.Any.{TreeNode}
 use Rattle.rsx_node.specs.declared.any_node.AnyNode.{AnyNode}
 use Rattle.rsx_build.specs.Built.{IsBuilt, AreBuilt, IsBuiltOver, IsPlainOver, starts_ended}
 use Rattle.rsx_build.specs.Made.{IsInFront, IsOver, IsPlain, IsSeveral}
@@ -21,10 +23,10 @@ use Rattle.rsx_build.proofs.Several.{built_over}
 made : {A : Type 0} (P : A → Type 0) (r : Result A NoMemory) (a : A) → r ≡ Ok a → IfOk r P → P a
 made P r a is h = subst (λ x. IfOk x P) is h
 
-pub plain_over : {T : Type 0} (g : Stage T) (below : Node (AnyNode T)) (row : Inputs (AnyNode T)) (r : Result (AnyNode T) NoMemory) (t : Result (Node (AnyNode T)) NoMemory) →
+pub plain_over : {T : Type 0} (g : Stage T) (below : Node (TreeNode T)) (row : Inputs (TreeNode T)) (r : Result (AnyNode T) NoMemory) (t : Result (Node (TreeNode T)) NoMemory) →
     IsJoined below End row → IfOk r (λ n. IsPlain g n) → IfOk t (λ x. IsOver r row (starts_ended g) x) → IfOk t (λ x. IsPlainOver g below x)
 plain_over {T} g below row r (Ok x) joined fresh o =
-    let n = made (λ n. IsPlain g n) r x.machine o.is fresh in
+    let n = made (λ n. IsPlain g n) r o.node o.is fresh in
     record {
       node = n.node;
       row = row;
@@ -32,19 +34,19 @@ plain_over {T} g below row r (Ok x) joined fresh o =
       state = n.state;
       slot = n.slot;
       joined = joined;
-      machine = n.is;
+      machine = o.machine ∙ ap Direct n.is;
       inputs = o.inputs ∙ ap (λ s. closed_row_if (has_ending s) row) (sym n.slot);
     }
 plain_over g below row r (Err e) joined fresh o = tt
 
-pub several_over : {T : Type 0} (m : Meaning T) (hubs : List (HubState T)) (kind : SeveralKind) (es : List (Expr T)) (row : Inputs (AnyNode T)) (r : Result (AnyNode T) NoMemory) (t : Result (Node (AnyNode T)) NoMemory) →
+pub several_over : {T : Type 0} (m : Meaning T) (hubs : List (HubState T)) (kind : SeveralKind) (es : List (Expr T)) (row : Inputs (TreeNode T)) (r : Result (AnyNode T) NoMemory) (t : Result (Node (TreeNode T)) NoMemory) →
     1 ≤ length es → AreBuilt m hubs es row → IfOk r (λ n. IsSeveral kind (length es) n) → IfOk t (λ x. IsOver r row false x) → IfOk t (λ x. IsBuiltOver m hubs kind es x)
 several_over {T} m hubs kind es row r (Ok x) some w fresh o =
-    let n = made (λ n. IsSeveral kind (length es) n) r x.machine o.is fresh in
-    built_over m hubs kind es row n.node x some w n.fresh n.recorded (n.ended some) (n.counted some) n.wanted n.is o.inputs
+    let n = made (λ n. IsSeveral kind (length es) n) r o.node o.is fresh in
+    built_over m hubs kind es row n.node x some w n.fresh n.recorded (n.ended some) (n.counted some) n.wanted (o.machine ∙ ap Direct n.is) o.inputs
 several_over m hubs kind es row r (Err e) some w fresh o = tt
 
-pub in_front_built : {T : Type 0} (m : Meaning T) (hubs : List (HubState T)) (all : List (Expr T)) (x : Expr T) (xs : List (Expr T)) (r : Result (Node (AnyNode T)) NoMemory) (beside : Inputs (AnyNode T)) (t : Result (Inputs (AnyNode T)) NoMemory) →
+pub in_front_built : {T : Type 0} (m : Meaning T) (hubs : List (HubState T)) (all : List (Expr T)) (x : Expr T) (xs : List (Expr T)) (r : Result (Node (TreeNode T)) NoMemory) (beside : Inputs (TreeNode T)) (t : Result (Inputs (TreeNode T)) NoMemory) →
     all ≡ x ∷ xs → IfOk r (λ b. IsBuilt m hubs x b) → AreBuilt m hubs xs beside → IfOk t (λ row. IsInFront r beside row) → IfOk t (λ row. AreBuilt m hubs all row)
 in_front_built m hubs all x xs r beside (Ok row) all_is first rest o =
     built_more m hubs all x xs o.tree beside row all_is (made (λ b. IsBuilt m hubs x b) r o.tree o.is first) rest o.joined

@@ -32,13 +32,14 @@ use Rattle.rsx_tree.specs.Reads.{IsTreeReadAt}
 use Rattle.rsx_tree.specs.Tree.{comes_out, notes, IsJoined}
 use Rattle.rsx_node.specs.declared.any_node.AnyNode.{AnyNode}
 use Rattle.rsx_node.specs.declared.any_node.AnyNode.TheVariants.{PublishOn}
-use Rattle.rsx_node.specs.Any.{any_machine}
+use Rattle.rsx_crossing.specs.declared.sender.Sender.TheVariants.{Direct}
+use Rattle.rsx_node.specs.Any.{TreeNode, any_machine}
 use Rattle.rsx_build.specs.Built.{IsBuilt, IsPublishOnOver, AllUnrecorded, StandAt, counts_of, first_wants, fresh_edge, fresh_edges, new_joins}
 use Rattle.rsx_build.specs.Made.{IsOver, IsPublishOn}
 use Rattle.rsx_build.proofs.Builds.{fresh_out, fresh_edge_is}
 use Rattle.rsx_build.proofs.Wants.{wants_On, whole_capacity}
 
-abbrev node_of : {T : Type 0} → AnyNode T → Inputs (AnyNode T) → Node (AnyNode T)
+abbrev node_of : {T : Type 0} → TreeNode T → Inputs (TreeNode T) → Node (TreeNode T)
 node_of n r = record { machine = n; inputs = r }
 
 -- the first of the values that come in is the only one
@@ -53,14 +54,14 @@ fresh_On : {T : Type 0} (k p : ℕ) (b : Box (Expr T) Global) → fresh_edges (O
 fresh_On {T} k p b = rw (fold_out-Expr, outs-On) (ap (λ l. fresh_edge ∷ l) (append-nil (fresh_edges b.value)))
 
 -- its counts are balanced over the edge of its input
-fresh_balanced : {T : Type 0} (n : PublishOnNode T) (below : Node (AnyNode T)) (e : Edge) (p q : Hold) → publish_ended n ≡ false → publish_counted n (0 ∷ []) 0 → e.demand.sent ≡ 0 → e.state ≡ Live → IsBalanced any_machine below 0 →
-    IsBalanced any_machine (node_of (PublishOn n) (More' e below.machine p below.inputs q End)) 0
+fresh_balanced : {T : Type 0} (n : PublishOnNode T) (below : Node (TreeNode T)) (e : Edge) (p q : Hold) → publish_ended n ≡ false → publish_counted n (0 ∷ []) 0 → e.demand.sent ≡ 0 → e.state ≡ Live → IsBalanced any_machine below 0 →
+    IsBalanced any_machine (node_of (Direct (PublishOn n)) (More' e below.machine p below.inputs q End)) 0
 fresh_balanced {T} n below e p q goes_on counted sent live w =
     let B : ℕ → Type 0 = λ k. publish_counted n (k ∷ []) 0 in
     let W : ℕ → Type 0 = λ k. IsBalanced any_machine below k in
     inr (goes_on, subst B (sym sent) counted, (inr (live, subst W (sym sent) w), tt))
 
-built_publish_on : {T : Type 0} (m : Meaning T) (hubs : List (HubState T)) (e : Expr T) (k p : ℕ) (box : Box (Expr T) Global) (input : Expr T) (below t : Node (AnyNode T)) →
+built_publish_on : {T : Type 0} (m : Meaning T) (hubs : List (HubState T)) (e : Expr T) (k p : ℕ) (box : Box (Expr T) Global) (input : Expr T) (below t : Node (TreeNode T)) →
     e ≡ On k p box → input ≡ box.value → IsBuilt m hubs input below → IsPublishOnOver p below t → IsBuilt m hubs e t
 built_publish_on {T} m hubs e k p box input below t is in_box w0 o =
     let P : Expr T → Type 0 = λ x. IsBuilt m hubs x t in
@@ -68,34 +69,34 @@ built_publish_on {T} m hubs e k p box input below t is in_box w0 o =
     let w : IsBuilt m hubs box.value below = subst I in_box w0 in
     let n = o.node in
     let j = o.joined in
-    let whole : Inputs (AnyNode T) = More' j.e below.machine j.p below.inputs j.q End in
-    let n_is : t.machine ≡ PublishOn n = o.machine in
+    let whole : Inputs (TreeNode T) = More' j.e below.machine j.p below.inputs j.q End in
+    let n_is : t.machine ≡ Direct (PublishOn n) = o.machine in
     let goes_on : publish_ended n ≡ false = ap (λ i. publish_ended (record { input = i })) o.input in
     let tree_is : t.inputs ≡ whole = o.inputs ∙ j.row_is in
     let N : List Note → Type 0 = λ ns. AllUnrecorded (Nothing ∷ ns) in
-    let NM : AnyNode T → Type 0 = λ x. AllUnrecorded (any_machine.recorded x ∷ notes_of any_machine t.inputs) in
+    let NM : TreeNode T → Type 0 = λ x. AllUnrecorded (any_machine.recorded x ∷ notes_of any_machine t.inputs) in
     let notes_are : notes_of any_machine t.inputs ≡ notes any_machine below = ap (notes_of any_machine) tree_is ∙ ap (λ l. any_machine.recorded below.machine ∷ l) (append-nil (notes_of any_machine below.inputs)) in
     let below_is : edges_in whole ≡ fresh_edge ∷ fresh_edges box.value = ap (λ v. v ∷ (edges_in below.inputs ++ [])) (fresh_edge_is j.e j.asked j.sent j.live) ∙ ap (λ l. fresh_edge ∷ l) (append-nil (edges_in below.inputs) ∙ w.edges) in
-    let B : AnyNode T → Inputs (AnyNode T) → Type 0 = λ x r. IsBalanced any_machine (node_of x r) 0 in
-    let BN : AnyNode T → Type 0 = λ x. B x t.inputs in
-    let BR : Inputs (AnyNode T) → Type 0 = λ r. B (PublishOn n) r in
+    let B : TreeNode T → Inputs (TreeNode T) → Type 0 = λ x r. IsBalanced any_machine (node_of x r) 0 in
+    let BN : TreeNode T → Type 0 = λ x. B x t.inputs in
+    let BR : Inputs (TreeNode T) → Type 0 = λ r. B (Direct (PublishOn n)) r in
     subst P (sym is) (record {
       value = λ more joins further at leaf begun stand.
           let S : List ℕ → Type 0 = λ l. StandAt joins leaf l in
           ap (λ x. out_of any_machine m more x (comes_in any_machine m more further t.inputs (at + 1)) (slice_get further at)) n_is
-          ∙ (ap (λ r. out_of any_machine m more (PublishOn n) (comes_in any_machine m more further r (at + 1)) (slice_get further at)) tree_is
-          ∙ (fresh_out m more (PublishOn n) (λ vs. (incoming_of more vs).first) (λ vs d. o.fresh m (incoming_of more vs) d) (beside_of (comes_out any_machine m more further below (at + 1)) (Some [])) (slice_get further at)
+          ∙ (ap (λ r. out_of any_machine m more (Direct (PublishOn n)) (comes_in any_machine m more further r (at + 1)) (slice_get further at)) tree_is
+          ∙ (fresh_out m more (Direct (PublishOn n)) (λ vs. (incoming_of more vs).first) (λ vs d. o.fresh m (incoming_of more vs) d) (beside_of (comes_out any_machine m more further below (at + 1)) (Some [])) (slice_get further at)
           ∙ (ap (quiet (slice_get further at)) (only_value more (comes_out any_machine m more further below (at + 1)) ∙ w.value more joins further (at + 1) leaf begun (subst S (new_joins_On hubs k p box) stand))
           ∙ sym (value_On (environment m more joins further) k p box at leaf))));
       reads =
-          let R : AnyNode T → Inputs (AnyNode T) → Type 0 = λ x r. IsTreeReadAt any_machine (counts_of hubs) (node_of x r) in
-          let RN : AnyNode T → Type 0 = λ x. R x t.inputs in
-          let RI : Inputs (AnyNode T) → Type 0 = λ r. R (PublishOn n) r in
+          let R : TreeNode T → Inputs (TreeNode T) → Type 0 = λ x r. IsTreeReadAt any_machine (counts_of hubs) (node_of x r) in
+          let RN : TreeNode T → Type 0 = λ x. R x t.inputs in
+          let RI : Inputs (TreeNode T) → Type 0 = λ r. R (Direct (PublishOn n)) r in
           subst RN (sym n_is) (subst RI (sym tree_is) (tt, (inr w.reads, tt)));
       alone = λ bare.
-          let R : AnyNode T → Inputs (AnyNode T) → Type 0 = λ x r. IsTreeReadAt any_machine [] (node_of x r) in
-          let RN : AnyNode T → Type 0 = λ x. R x t.inputs in
-          let RI : Inputs (AnyNode T) → Type 0 = λ r. R (PublishOn n) r in
+          let R : TreeNode T → Inputs (TreeNode T) → Type 0 = λ x r. IsTreeReadAt any_machine [] (node_of x r) in
+          let RN : TreeNode T → Type 0 = λ x. R x t.inputs in
+          let RI : Inputs (TreeNode T) → Type 0 = λ r. R (Direct (PublishOn n)) r in
           subst RN (sym n_is) (subst RI (sym tree_is) (tt, (inr (w.alone (sym (new_joins_On hubs k p box) ∙ bare)), tt)));
       notes = subst NM (sym n_is) (subst N (sym notes_are) ((λ x. refl), w.notes));
       edges = ap edges_in tree_is ∙ (below_is ∙ sym (fresh_On k p box));
@@ -108,7 +109,7 @@ built_publish_on {T} m hubs e k p box input below t is in_box w0 o =
     })
 
 -- the same of a tree that was made unless memory ran out
-pub publish_on_if : {T E : Type 0} (m : Meaning T) (hubs : List (HubState T)) (e : Expr T) (k p : ℕ) (box : Box (Expr T) Global) (input : Expr T) (below : Node (AnyNode T)) (r : Result (Node (AnyNode T)) E) →
+pub publish_on_if : {T E : Type 0} (m : Meaning T) (hubs : List (HubState T)) (e : Expr T) (k p : ℕ) (box : Box (Expr T) Global) (input : Expr T) (below : Node (TreeNode T)) (r : Result (Node (TreeNode T)) E) →
     e ≡ On k p box → input ≡ box.value → IsBuilt m hubs input below → IfOk r (λ t. IsPublishOnOver p below t) → IfOk r (λ t. IsBuilt m hubs e t)
 publish_on_if m hubs e k p box input below (Ok t) is in_box w o = built_publish_on m hubs e k p box input below t is in_box w o
 publish_on_if m hubs e k p box input below (Err x) is in_box w o = tt
@@ -117,10 +118,10 @@ publish_on_if m hubs e k p box input below (Err x) is in_box w o = tt
 made : {A : Type 0} (P : A → Type 0) (r : Result A NoMemory) (a : A) → r ≡ Ok a → IfOk r P → P a
 made P r a is h = subst (λ x. IfOk x P) is h
 
-pub publish_on_over : {T : Type 0} (p : ℕ) (below : Node (AnyNode T)) (row : Inputs (AnyNode T)) (r : Result (AnyNode T) NoMemory) (t : Result (Node (AnyNode T)) NoMemory) →
+pub publish_on_over : {T : Type 0} (p : ℕ) (below : Node (TreeNode T)) (row : Inputs (TreeNode T)) (r : Result (AnyNode T) NoMemory) (t : Result (Node (TreeNode T)) NoMemory) →
     p ≤ MOST_PREFETCH → IsJoined below End row → IfOk r (λ n. IsPublishOn p n) → IfOk t (λ x. IsOver r row false x) → IfOk t (λ x. IsPublishOnOver p below x)
 publish_on_over {T} p below row r (Ok x) within joined fresh o =
-    let n = made (λ n. IsPublishOn p n) r x.machine o.is fresh in
+    let n = made (λ n. IsPublishOn p n) r o.node o.is fresh in
     record {
       node = n.node;
       row = row;
@@ -129,7 +130,7 @@ publish_on_over {T} p below row r (Ok x) within joined fresh o =
       counted = n.counted;
       wanted = ap (λ i. publish_wanted (record { input = i }) 0 0 0) n.input ∙ whole_capacity p within;
       joined = joined;
-      machine = n.is;
+      machine = o.machine ∙ ap Direct n.is;
       inputs = o.inputs;
     }
 publish_on_over p below row r (Err e) within joined fresh o = tt

@@ -20,8 +20,7 @@ use Rattle.rsx_tree.specs.Edges.{EdgeView, closed_if}
 use Rattle.rsx_tree.specs.Inputs.{beside_of, comes_in, notes_of, size, edges as edges_in}
 use Rattle.rsx_tree.specs.Tree.{IsJoined}
 use Rattle.rsx_tree.proofs.Effects.{length_edges}
-use Rattle.rsx_node.specs.declared.any_node.AnyNode.{AnyNode}
-use Rattle.rsx_node.specs.Any.{any_machine}
+use Rattle.rsx_node.specs.Any.{TreeNode, any_machine}
 use Rattle.rsx_build.specs.Built.{IsBuilt, AreBuilt, AllUnrecorded, StandAt, begins_ended, first_wants, fresh_below, fresh_beside, fresh_edge, fresh_edges, fresh_wants, in_a_row, join_here, joins_now, leaf_joins, new_joins, new_joins_of}
 use Rattle.rsx_build.proofs.Builds.{fresh_edge_is}
 
@@ -151,11 +150,11 @@ no_joins_behind (x ∷ xs) ys e = cc
 
 -- ---- no input
 
-pub built_none : {T : Type 0} (m : Meaning T) (hubs : List (HubState T)) (es : List (Expr T)) (row : Inputs (AnyNode T)) → es ≡ [] → row ≡ End → AreBuilt m hubs es row
+pub built_none : {T : Type 0} (m : Meaning T) (hubs : List (HubState T)) (es : List (Expr T)) (row : Inputs (TreeNode T)) → es ≡ [] → row ≡ End → AreBuilt m hubs es row
 built_none {T} m hubs es row none is =
-    let P : List (Expr T) → Inputs (AnyNode T) → Type 0 = λ l r. AreBuilt m hubs l r in
+    let P : List (Expr T) → Inputs (TreeNode T) → Type 0 = λ l r. AreBuilt m hubs l r in
     let L : List (Expr T) → Type 0 = λ l. P l row in
-    let R : Inputs (AnyNode T) → Type 0 = λ r. P [] r in
+    let R : Inputs (TreeNode T) → Type 0 = λ r. P [] r in
     subst L (sym none) (subst R (sym is) (record {
       values = λ whole joins further at leaf begun stand. refl;
       reads = tt;
@@ -179,12 +178,12 @@ behind_none i = omega arith
 one_more : (i k : ℕ) → i + 1 + k ≡ i + (k + 1)
 one_more i k = omega arith
 
-pub built_more : {T : Type 0} (m : Meaning T) (hubs : List (HubState T)) (all : List (Expr T)) (x : Expr T) (xs : List (Expr T)) (below : Node (AnyNode T)) (beside row : Inputs (AnyNode T)) →
+pub built_more : {T : Type 0} (m : Meaning T) (hubs : List (HubState T)) (all : List (Expr T)) (x : Expr T) (xs : List (Expr T)) (below : Node (TreeNode T)) (beside row : Inputs (TreeNode T)) →
     all ≡ x ∷ xs → IsBuilt m hubs x below → AreBuilt m hubs xs beside → IsJoined below beside row → AreBuilt m hubs all row
 built_more {T} m hubs all x xs below beside row all_is first rest j =
     let A : List (Expr T) → Type 0 = λ l. AreBuilt m hubs l row in
-    let R : Inputs (AnyNode T) → Type 0 = λ r. AreBuilt m hubs (x ∷ xs) r in
-    let whole_row : Inputs (AnyNode T) = More' j.e below.machine j.p below.inputs j.q beside in
+    let R : Inputs (TreeNode T) → Type 0 = λ r. AreBuilt m hubs (x ∷ xs) r in
+    let whole_row : Inputs (TreeNode T) = More' j.e below.machine j.p below.inputs j.q beside in
     let joins_first = new_joins hubs x in
     let joins_behind = new_joins_of hubs xs in
     let leaves_are : length joins_first ≡ leaves x = length_joins (joins_now hubs) x in

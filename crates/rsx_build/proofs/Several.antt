@@ -32,9 +32,9 @@ use Rattle.rsx_tree.specs.declared.inputs.Inputs.{Inputs}
 use Rattle.rsx_tree.specs.declared.node.Node.{Node}
 use Rattle.rsx_tree.specs.Inputs.{out_of}
 use Rattle.rsx_tree.proofs.Rows.{then_same}
-use Rattle.rsx_node.specs.declared.any_node.AnyNode.{AnyNode}
 use Rattle.rsx_node.specs.declared.any_node.AnyNode.TheVariants.{Several}
-use Rattle.rsx_node.specs.Any.{any_machine}
+use Rattle.rsx_crossing.specs.declared.sender.Sender.TheVariants.{Direct}
+use Rattle.rsx_node.specs.Any.{TreeNode, any_machine}
 use Rattle.rsx_build.specs.Built.{IsBuilt, AreBuilt, IsBuiltOver, IsUnrecorded, StandAt, fresh_beside, fresh_edges, fresh_wants, new_joins, new_joins_of, wants_beside}
 use Rattle.rsx_build.proofs.Rows.{fresh_edges_out, leaf_joins_out}
 use Rattle.rsx_build.proofs.Wants.{fresh_wants_out, several_wants}
@@ -75,7 +75,7 @@ length_map f (x ∷ xs) = ap suc (length_map f xs)
 
 -- what comes out of a node at which nothing came in is its operator of what comes in
 out_several : {T : Type 0} (m : Meaning T) (hubs : List (Stream T)) (n : SeveralNode T) (kind : SeveralKind) (count : ℕ) → GivesKind n kind count → 1 ≤ count →
-    (o : Option (List (Stream T))) → ((vs : List (Stream T)) → o ≡ Some vs → length vs ≡ count) → (note : Option Note) → out_of any_machine m hubs (Several n) o note ≡ option_and_then (λ k. option_and_then (joined m kind k) o) note
+    (o : Option (List (Stream T))) → ((vs : List (Stream T)) → o ≡ Some vs → length vs ≡ count) → (note : Option Note) → out_of any_machine m hubs (Direct (Several n)) o note ≡ option_and_then (λ k. option_and_then (joined m kind k) o) note
 out_several m hubs n kind count fresh some None lengths note = then_same _ _ (λ k. refl) note
 out_several m hubs n kind count fresh some (Some vs) lengths note =
     then_same _ _ (λ k. fresh m (incoming_of hubs vs) k ∙ ap (joined m kind k) (incoming_row hubs count vs some (lengths vs refl))) note
@@ -95,30 +95,30 @@ unrecorded_first (Latest p) Nothing = refl
 unrecorded_first (Latest p) (Picks cs) = refl
 unrecorded_first (Latest p) (Ended o) = refl
 
-abbrev node_of : {T : Type 0} → AnyNode T → Inputs (AnyNode T) → Node (AnyNode T)
+abbrev node_of : {T : Type 0} → TreeNode T → Inputs (TreeNode T) → Node (TreeNode T)
 node_of n r = record { machine = n; inputs = r }
 
-pub built_over : {T : Type 0} (m : Meaning T) (hubs : List (HubState T)) (kind : SeveralKind) (es : List (Expr T)) (row : Inputs (AnyNode T)) (n : SeveralNode T) (t : Node (AnyNode T)) →
+pub built_over : {T : Type 0} (m : Meaning T) (hubs : List (HubState T)) (kind : SeveralKind) (es : List (Expr T)) (row : Inputs (TreeNode T)) (n : SeveralNode T) (t : Node (TreeNode T)) →
     1 ≤ length es → AreBuilt m hubs es row → GivesKind n kind (length es) → several_recorded n ≡ recorded_first kind → several_ended n ≡ false → several_counted n (replicate (length es) 0) 0 →
-    ((i asked : ℕ) → i < length es → several_wanted n i asked 0 ≡ first_wanted kind i asked) → t.machine ≡ Several n → t.inputs ≡ row → IsBuiltOver m hubs kind es t
+    ((i asked : ℕ) → i < length es → several_wanted n i asked 0 ≡ first_wanted kind i asked) → t.machine ≡ Direct (Several n) → t.inputs ≡ row → IsBuiltOver m hubs kind es t
 built_over {T} m hubs kind es row n t some w fresh noted goes_on counted wanted n_is r_is =
-    let TN : Node (AnyNode T) → Type 0 = λ x. IsBuiltOver m hubs kind es x in
-    let BN : AnyNode T → Type 0 = λ x. TN (node_of x t.inputs) in
-    let BR : Inputs (AnyNode T) → Type 0 = λ r. TN (node_of (Several n) r) in
+    let TN : Node (TreeNode T) → Type 0 = λ x. IsBuiltOver m hubs kind es x in
+    let BN : TreeNode T → Type 0 = λ x. TN (node_of x t.inputs) in
+    let BR : Inputs (TreeNode T) → Type 0 = λ r. TN (node_of (Direct (Several n)) r) in
     subst BN (sym n_is) (subst BR (sym r_is) (record {
       value = λ whole joins further at leaf begun stand.
           let w_env = environment m whole joins further in
           let values = in_order (map (meant w_env) es) (at + 1) leaf in
-          ap (λ o. out_of any_machine m whole (Several n) o (slice_get further at)) (w.values whole joins further (at + 1) leaf begun stand)
+          ap (λ o. out_of any_machine m whole (Direct (Several n)) o (slice_get further at)) (w.values whole joins further (at + 1) leaf begun stand)
           ∙ out_several m whole n kind (length es) fresh some values (λ vs e. there_are (map (meant w_env) es) (at + 1) leaf vs e ∙ length_map (meant w_env) es) (slice_get further at);
       reads = (tt, w.reads);
       alone = λ bare. (tt, w.alone bare);
       notes = let U : Note → Type 0 = λ k. IsUnrecorded k in (subst U (sym noted) (unrecorded_first kind), w.notes);
       edges = w.edges;
-      wants = w.wants (Several n) 0 (first_wanted kind 0 0) (several_wants n kind (length es) wanted);
+      wants = w.wants (Direct (Several n)) 0 (first_wanted kind 0 0) (several_wants n kind (length es) wanted);
       balance =
           let C : List ℕ → Type 0 = λ l. several_counted n l 0 in
-          inr (goes_on, subst C (sym w.sent) counted, w.balance (Several n) 0);
+          inr (goes_on, subst C (sym w.sent) counted, w.balance (Direct (Several n)) 0);
     }))
 
 -- ---- each kind of expression
@@ -170,7 +170,7 @@ record IsOver {T : Type 0} (m : Meaning T) (hubs : List (HubState T)) (kind : Se
   edges_are : fresh_edges e ≡ fresh_beside (map fresh_edges es)
   wants_are : fresh_wants e ≡ wants_beside (first_wanted kind 0 0) (map fresh_wants es)
 
-as_built : {T : Type 0} (m : Meaning T) (hubs : List (HubState T)) (kind : SeveralKind) (es : List (Expr T)) (e : Expr T) (t : Node (AnyNode T)) → IsOver m hubs kind es e → IsBuiltOver m hubs kind es t → IsBuilt m hubs e t
+as_built : {T : Type 0} (m : Meaning T) (hubs : List (HubState T)) (kind : SeveralKind) (es : List (Expr T)) (e : Expr T) (t : Node (TreeNode T)) → IsOver m hubs kind es e → IsBuiltOver m hubs kind es t → IsBuilt m hubs e t
 as_built m hubs kind es e t o w = record {
   value = λ whole joins further at leaf begun stand.
       let S : List ℕ → Type 0 = λ l. StandAt joins leaf l in
@@ -184,7 +184,7 @@ as_built m hubs kind es e t o w = record {
 }
 
 -- the same of a tree that was made unless memory ran out
-if_built : {T E : Type 0} (m : Meaning T) (hubs : List (HubState T)) (kind : SeveralKind) (es items : List (Expr T)) (whole_of e : Expr T) (r : Result (Node (AnyNode T)) E) →
+if_built : {T E : Type 0} (m : Meaning T) (hubs : List (HubState T)) (kind : SeveralKind) (es items : List (Expr T)) (whole_of e : Expr T) (r : Result (Node (TreeNode T)) E) →
     e ≡ whole_of → items ≡ es → IsOver m hubs kind es whole_of → IfOk r (λ t. IsBuiltOver m hubs kind items t) → IfOk r (λ t. IsBuilt m hubs e t)
 if_built {T} m hubs kind es items whole_of e (Ok t) is all o w =
     let P : Expr T → Type 0 = λ x. IsBuilt m hubs x t in
@@ -201,7 +201,7 @@ over_concat m hubs v = record {
   wants_are = rw (fresh_wants_out, outs-Concat) refl;
 }
 
-pub built_concat : {T E : Type 0} (m : Meaning T) (hubs : List (HubState T)) (e : Expr T) (v : Listed T) (items : List (Expr T)) (r : Result (Node (AnyNode T)) E) → e ≡ ConcatOf v → items ≡ v.items → IfOk r (λ t. IsBuiltOver m hubs Concat items t) → IfOk r (λ t. IsBuilt m hubs e t)
+pub built_concat : {T E : Type 0} (m : Meaning T) (hubs : List (HubState T)) (e : Expr T) (v : Listed T) (items : List (Expr T)) (r : Result (Node (TreeNode T)) E) → e ≡ ConcatOf v → items ≡ v.items → IfOk r (λ t. IsBuiltOver m hubs Concat items t) → IfOk r (λ t. IsBuilt m hubs e t)
 built_concat m hubs e v items r is all w = if_built m hubs Concat v.items items (ConcatOf v) e r is all (over_concat m hubs v) w
 
 over_merge : {T : Type 0} (m : Meaning T) (hubs : List (HubState T)) (p : ℕ) (v : Listed T) → IsOver m hubs (Merge p) v.items (MergeOf p v)
@@ -213,7 +213,7 @@ over_merge m hubs p v = record {
   wants_are = rw (fresh_wants_out, outs-Merge) refl;
 }
 
-pub built_merge : {T E : Type 0} (m : Meaning T) (hubs : List (HubState T)) (e : Expr T) (p : ℕ) (v : Listed T) (items : List (Expr T)) (r : Result (Node (AnyNode T)) E) → e ≡ MergeOf p v → items ≡ v.items → IfOk r (λ t. IsBuiltOver m hubs (Merge p) items t) → IfOk r (λ t. IsBuilt m hubs e t)
+pub built_merge : {T E : Type 0} (m : Meaning T) (hubs : List (HubState T)) (e : Expr T) (p : ℕ) (v : Listed T) (items : List (Expr T)) (r : Result (Node (TreeNode T)) E) → e ≡ MergeOf p v → items ≡ v.items → IfOk r (λ t. IsBuiltOver m hubs (Merge p) items t) → IfOk r (λ t. IsBuilt m hubs e t)
 built_merge m hubs e p v items r is all w = if_built m hubs (Merge p) v.items items (MergeOf p v) e r is all (over_merge m hubs p v) w
 
 over_zip : {T : Type 0} (m : Meaning T) (hubs : List (HubState T)) (p : ℕ) (v : Listed T) → IsOver m hubs (Zip p) v.items (ZipOf p v)
@@ -225,7 +225,7 @@ over_zip m hubs p v = record {
   wants_are = rw (fresh_wants_out, outs-Zip) refl;
 }
 
-pub built_zip : {T E : Type 0} (m : Meaning T) (hubs : List (HubState T)) (e : Expr T) (p : ℕ) (v : Listed T) (items : List (Expr T)) (r : Result (Node (AnyNode T)) E) → e ≡ ZipOf p v → items ≡ v.items → IfOk r (λ t. IsBuiltOver m hubs (Zip p) items t) → IfOk r (λ t. IsBuilt m hubs e t)
+pub built_zip : {T E : Type 0} (m : Meaning T) (hubs : List (HubState T)) (e : Expr T) (p : ℕ) (v : Listed T) (items : List (Expr T)) (r : Result (Node (TreeNode T)) E) → e ≡ ZipOf p v → items ≡ v.items → IfOk r (λ t. IsBuiltOver m hubs (Zip p) items t) → IfOk r (λ t. IsBuilt m hubs e t)
 built_zip m hubs e p v items r is all w = if_built m hubs (Zip p) v.items items (ZipOf p v) e r is all (over_zip m hubs p v) w
 
 over_latest : {T : Type 0} (m : Meaning T) (hubs : List (HubState T)) (p : ℕ) (v : Listed T) → IsOver m hubs (Latest p) v.items (LatestOf p v)
@@ -237,7 +237,7 @@ over_latest m hubs p v = record {
   wants_are = rw (fresh_wants_out, outs-Latest) refl;
 }
 
-pub built_latest : {T E : Type 0} (m : Meaning T) (hubs : List (HubState T)) (e : Expr T) (p : ℕ) (v : Listed T) (items : List (Expr T)) (r : Result (Node (AnyNode T)) E) → e ≡ LatestOf p v → items ≡ v.items → IfOk r (λ t. IsBuiltOver m hubs (Latest p) items t) → IfOk r (λ t. IsBuilt m hubs e t)
+pub built_latest : {T E : Type 0} (m : Meaning T) (hubs : List (HubState T)) (e : Expr T) (p : ℕ) (v : Listed T) (items : List (Expr T)) (r : Result (Node (TreeNode T)) E) → e ≡ LatestOf p v → items ≡ v.items → IfOk r (λ t. IsBuiltOver m hubs (Latest p) items t) → IfOk r (λ t. IsBuilt m hubs e t)
 built_latest m hubs e p v items r is all w = if_built m hubs (Latest p) v.items items (LatestOf p v) e r is all (over_latest m hubs p v) w
 
 -- ---- its limits

@@ -20,23 +20,24 @@ use Rattle.rsx_tree.specs.Inputs.{comes_in, out_of, beside_of, notes_of, edges a
 use Rattle.rsx_tree.specs.Reads.{IsReadAt, IsTreeReadAt}
 use Rattle.rsx_tree.specs.Tree.{comes_out, notes, IsJoined}
 use Rattle.rsx_tree.proofs.Rows.{then_same}
+use Rattle.rsx_crossing.specs.declared.sender.Sender.TheVariants.{Direct}
+use Rattle.rsx_node.specs.Any.{TreeNode, any_machine, kind_machine}
 use Rattle.rsx_node.specs.declared.any_node.AnyNode.{AnyNode}
-use Rattle.rsx_node.specs.Any.{any_machine}
 use Rattle.rsx_build.specs.Built.{IsBuilt, IsUnrecorded, AllUnrecorded, StandAt, counts_of, first_wants, fresh_edge, fresh_edges, fresh_wants, new_joins}
 use Rattle.rsx_build.specs.Made.{IsOverOne}
 use Rattle.rsx_build.proofs.Builds.{fresh_edge_is}
 
-abbrev node_of : {T : Type 0} → AnyNode T → Inputs (AnyNode T) → Node (AnyNode T)
+abbrev node_of : {T : Type 0} → TreeNode T → Inputs (TreeNode T) → Node (TreeNode T)
 node_of n r = record { machine = n; inputs = r }
 
 -- the node is fresh and gives this under what it records, and the expression is made so of that of its input
 pub record StandsFor {T : Type 0} (m : Meaning T) (hubs : List (HubState T)) (gives : Note → Stream T → Option (Stream T)) (p : ℕ) (n : AnyNode T) (input e : Expr T) : Type 0 where
-  pub fresh : (inc : Incoming T) (k : Note) → any_machine.comes_out m n inc k ≡ gives k inc.first
-  pub unread : any_machine.reads n ≡ None
-  pub unrecorded : IsUnrecorded (any_machine.recorded n)
-  pub goes_on : any_machine.ended n ≡ false
-  pub counted : any_machine.counted n (0 ∷ []) 0
-  pub wanted : any_machine.wanted n 0 0 0 ≡ p
+  pub fresh : (inc : Incoming T) (k : Note) → kind_machine.comes_out m n inc k ≡ gives k inc.first
+  pub unread : kind_machine.reads n ≡ None
+  pub unrecorded : IsUnrecorded (kind_machine.recorded n)
+  pub goes_on : kind_machine.ended n ≡ false
+  pub counted : kind_machine.counted n (0 ∷ []) 0
+  pub wanted : kind_machine.wanted n 0 0 0 ≡ p
   pub value : (whole : List (Stream T)) (joins : List ℕ) (further : List Note) (at leaf : ℕ) →
       (meant (environment m whole joins further) e).value at leaf ≡ option_and_then (λ k. option_and_then (gives k) ((meant (environment m whole joins further) input).value (at + 1) leaf)) (slice_get further at)
   pub joins : new_joins hubs e ≡ new_joins hubs input
@@ -44,8 +45,8 @@ pub record StandsFor {T : Type 0} (m : Meaning T) (hubs : List (HubState T)) (gi
   pub wants : fresh_wants e ≡ p ∷ fresh_wants input
 
 -- what comes out of it, where this comes in
-out_single : {T : Type 0} (m : Meaning T) (hubs : List (Stream T)) (n : AnyNode T) (gives : Note → Stream T → Option (Stream T)) → ((inc : Incoming T) (k : Note) → any_machine.comes_out m n inc k ≡ gives k inc.first) →
-    (o : Option (Stream T)) (note : Option Note) → out_of any_machine m hubs n (beside_of o (Some [])) note ≡ option_and_then (λ k. option_and_then (gives k) o) note
+out_single : {T : Type 0} (m : Meaning T) (hubs : List (Stream T)) (n : AnyNode T) (gives : Note → Stream T → Option (Stream T)) → ((inc : Incoming T) (k : Note) → kind_machine.comes_out m n inc k ≡ gives k inc.first) →
+    (o : Option (Stream T)) (note : Option Note) → out_of any_machine m hubs (Direct n) (beside_of o (Some [])) note ≡ option_and_then (λ k. option_and_then (gives k) o) note
 out_single m hubs n gives fresh None note = then_same _ _ (λ k. refl) note
 out_single m hubs n gives fresh (Some v) note = then_same _ _ (λ k. fresh (incoming_of hubs (v ∷ [])) k) note
 
@@ -53,18 +54,18 @@ unread_at : (counts : List (Option ℕ)) (o : Option Reading) → o ≡ None →
 unread_at counts None e = tt
 unread_at counts (Some r) e = cc
 
-built_single : {T : Type 0} (m : Meaning T) (hubs : List (HubState T)) (gives : Note → Stream T → Option (Stream T)) (p : ℕ) (n : AnyNode T) (input e : Expr T) (below t : Node (AnyNode T)) (row : Inputs (AnyNode T)) →
-    StandsFor m hubs gives p n input e → IsBuilt m hubs input below → IsJoined below End row → t.machine ≡ n → t.inputs ≡ row → IsBuilt m hubs e t
+built_single : {T : Type 0} (m : Meaning T) (hubs : List (HubState T)) (gives : Note → Stream T → Option (Stream T)) (p : ℕ) (n : AnyNode T) (input e : Expr T) (below t : Node (TreeNode T)) (row : Inputs (TreeNode T)) →
+    StandsFor m hubs gives p n input e → IsBuilt m hubs input below → IsJoined below End row → t.machine ≡ Direct n → t.inputs ≡ row → IsBuilt m hubs e t
 built_single {T} m hubs gives p n input e below t row s w j n_is r_is =
-    let whole : Inputs (AnyNode T) = More' j.e below.machine j.p below.inputs j.q End in
+    let whole : Inputs (TreeNode T) = More' j.e below.machine j.p below.inputs j.q End in
     let tree_is : t.inputs ≡ whole = r_is ∙ j.row_is in
-    let TN : Node (AnyNode T) → Type 0 = λ x. IsBuilt m hubs e x in
-    let BN : AnyNode T → Type 0 = λ x. TN (node_of x t.inputs) in
-    let BR : Inputs (AnyNode T) → Type 0 = λ r. TN (node_of n r) in
+    let TN : Node (TreeNode T) → Type 0 = λ x. IsBuilt m hubs e x in
+    let BN : TreeNode T → Type 0 = λ x. TN (node_of x t.inputs) in
+    let BR : Inputs (TreeNode T) → Type 0 = λ r. TN (node_of (Direct n) r) in
     let notes_are : notes_of any_machine whole ≡ notes any_machine below = ap (λ l. any_machine.recorded below.machine ∷ l) (append-nil (notes_of any_machine below.inputs)) in
     let edges_are : edges_in whole ≡ fresh_edge ∷ fresh_edges input = ap (λ v. v ∷ (edges_in below.inputs ++ [])) (fresh_edge_is j.e j.asked j.sent j.live) ∙ ap (λ l. fresh_edge ∷ l) (append-nil (edges_in below.inputs) ∙ w.edges) in
-    let N : List Note → Type 0 = λ ns. AllUnrecorded (any_machine.recorded n ∷ ns) in
-    let B : ℕ → Type 0 = λ k. any_machine.counted n (k ∷ []) 0 in
+    let N : List Note → Type 0 = λ ns. AllUnrecorded (kind_machine.recorded n ∷ ns) in
+    let B : ℕ → Type 0 = λ k. kind_machine.counted n (k ∷ []) 0 in
     let W : ℕ → Type 0 = λ k. IsBalanced any_machine below k in
     subst BN (sym n_is) (subst BR (sym tree_is) (record {
       value = λ more joins further at leaf begun stand.
@@ -72,8 +73,8 @@ built_single {T} m hubs gives p n input e below t row s w j n_is r_is =
           out_single m more n gives s.fresh (comes_out any_machine m more further below (at + 1)) (slice_get further at)
           ∙ (ap (λ o. option_and_then (λ k. option_and_then (gives k) o) (slice_get further at)) (w.value more joins further (at + 1) leaf begun (subst S s.joins stand))
           ∙ sym (s.value more joins further at leaf));
-      reads = (unread_at (counts_of hubs) (any_machine.reads n) s.unread, (inr w.reads, tt));
-      alone = λ bare. (unread_at [] (any_machine.reads n) s.unread, (inr (w.alone (sym s.joins ∙ bare)), tt));
+      reads = (unread_at (counts_of hubs) (kind_machine.reads n) s.unread, (inr w.reads, tt));
+      alone = λ bare. (unread_at [] (kind_machine.reads n) s.unread, (inr (w.alone (sym s.joins ∙ bare)), tt));
       notes = subst N (sym notes_are) (s.unrecorded, w.notes);
       edges = edges_are ∙ sym s.edges;
       wants =
@@ -83,12 +84,12 @@ built_single {T} m hubs gives p n input e below t row s w j n_is r_is =
     }))
 
 -- the same of a tree that was made unless memory ran out, over the node that was made
-pub single_if : {T : Type 0} (m : Meaning T) (hubs : List (HubState T)) (gives : Note → Stream T → Option (Stream T)) (p : ℕ) (input e : Expr T) (below : Node (AnyNode T)) (P : AnyNode T → Type 0) (made : Result (AnyNode T) NoMemory) (r : Result (Node (AnyNode T)) NoMemory) →
+pub single_if : {T : Type 0} (m : Meaning T) (hubs : List (HubState T)) (gives : Note → Stream T → Option (Stream T)) (p : ℕ) (input e : Expr T) (below : Node (TreeNode T)) (P : AnyNode T → Type 0) (made : Result (AnyNode T) NoMemory) (r : Result (Node (TreeNode T)) NoMemory) →
     ((n : AnyNode T) → P n → StandsFor m hubs gives p n input e) → IsBuilt m hubs input below → IfOk made P → IfOk r (λ t. IsOverOne made below t) → IfOk r (λ t. IsBuilt m hubs e t)
 single_if m hubs gives p input e below P made (Err x) stands w fresh o = tt
 single_if {T} m hubs gives p input e below P made (Ok t) stands w fresh o =
     let F : Result (AnyNode T) NoMemory → Type 0 = λ x. IfOk x P in
-    built_single m hubs gives p t.machine input e below t o.row (stands t.machine (subst F o.is fresh)) w o.joined refl o.inputs
+    built_single m hubs gives p o.node input e below t o.row (stands o.node (subst F o.is fresh)) w o.joined o.machine o.inputs
 
 -- ---- a node that picks
 

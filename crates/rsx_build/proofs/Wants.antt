@@ -26,6 +26,7 @@ use Rattle.rsx_several.specs.declared.several_node.SeveralNode.{SeveralNode}
 use Rattle.rsx_tree.specs.declared.inputs.Inputs.{Inputs, End, More'}
 use Rattle.rsx_tree.specs.Inputs.{closed_row, closed_row_if}
 use Rattle.rsx_node.specs.declared.any_node.AnyNode.TheVariants.{Several}
+use Rattle.rsx_crossing.specs.declared.sender.Sender.TheVariants.{Direct}
 use Rattle.rsx_node.specs.Any.{any_machine}
 use Rattle.rsx_flat_map.specs.FlatMap.{flat_wanted}
 use Rattle.rsx_flat_map.specs.declared.node.FlatMapNode.{FlatMapNode}
@@ -87,7 +88,7 @@ first_wanted_each (Merge p) i = refl
 first_wanted_each (Zip p) i = refl
 first_wanted_each (Latest p) i = refl
 
-pub several_wants : {T : Type 0} (n : SeveralNode T) (kind : SeveralKind) (count : ℕ) → ((i asked : ℕ) → i < count → several_wanted n i asked 0 ≡ first_wanted kind i asked) → WantsOfEach any_machine (Several n) 0 count (first_wanted kind 0 0)
+pub several_wants : {T : Type 0} (n : SeveralNode T) (kind : SeveralKind) (count : ℕ) → ((i asked : ℕ) → i < count → several_wanted n i asked 0 ≡ first_wanted kind i asked) → WantsOfEach any_machine (Direct (Several n)) 0 count (first_wanted kind 0 0)
 several_wants n kind count h k lt = ap (λ i. several_wanted n i 0 0) (from_first k) ∙ (h k 0 lt ∙ first_wanted_each kind k)
   where
     from_first : (k : ℕ) → 0 + k ≡ k

@@ -32,13 +32,14 @@ use Rattle.rsx_tree.specs.Reads.{IsTreeReadAt}
 use Rattle.rsx_tree.specs.Tree.{comes_out, notes, IsJoined}
 use Rattle.rsx_node.specs.declared.any_node.AnyNode.{AnyNode}
 use Rattle.rsx_node.specs.declared.any_node.AnyNode.TheVariants.{Window}
-use Rattle.rsx_node.specs.Any.{any_machine}
+use Rattle.rsx_crossing.specs.declared.sender.Sender.TheVariants.{Direct}
+use Rattle.rsx_node.specs.Any.{TreeNode, any_machine}
 use Rattle.rsx_build.specs.Built.{IsBuilt, IsWindowOver, AllUnrecorded, StandAt, counts_of, first_wants, fresh_edge, fresh_edges, new_joins}
 use Rattle.rsx_build.specs.Made.{IsOver, IsWindow}
 use Rattle.rsx_build.proofs.Builds.{first_of_one, fresh_out, fresh_edge_is}
 use Rattle.rsx_build.proofs.Wants.{wants_Window, window_wants}
 
-abbrev node_of : {T : Type 0} → AnyNode T → Inputs (AnyNode T) → Node (AnyNode T)
+abbrev node_of : {T : Type 0} → TreeNode T → Inputs (TreeNode T) → Node (TreeNode T)
 node_of n r = record { machine = n; inputs = r }
 
 new_joins_Window : {T : Type 0} (hubs : List (HubState T)) (n : ℕ) (gs : Vec (Stage T) Global) (b : Box (Expr T) Global) → new_joins hubs (WindowOf n gs b) ≡ new_joins hubs b.value
@@ -48,14 +49,14 @@ fresh_Window : {T : Type 0} (n : ℕ) (gs : Vec (Stage T) Global) (b : Box (Expr
 fresh_Window {T} n gs b = rw (fold_out-Expr, outs-Window) (ap (λ l. fresh_edge ∷ l) (append-nil (fresh_edges b.value)))
 
 -- its counts are balanced over the edge of its input
-fresh_balanced : {T : Type 0} (n : WindowNode T) (below : Node (AnyNode T)) (e : Edge) (p q : Hold) → window_ended n ≡ false → CountsItems n (0 ∷ []) 0 → e.demand.sent ≡ 0 → e.state ≡ Live → IsBalanced any_machine below 0 →
-    IsBalanced any_machine (node_of (Window n) (More' e below.machine p below.inputs q End)) 0
+fresh_balanced : {T : Type 0} (n : WindowNode T) (below : Node (TreeNode T)) (e : Edge) (p q : Hold) → window_ended n ≡ false → CountsItems n (0 ∷ []) 0 → e.demand.sent ≡ 0 → e.state ≡ Live → IsBalanced any_machine below 0 →
+    IsBalanced any_machine (node_of (Direct (Window n)) (More' e below.machine p below.inputs q End)) 0
 fresh_balanced {T} n below e p q goes_on counted sent live w =
     let B : ℕ → Type 0 = λ k. CountsItems n (k ∷ []) 0 in
     let W : ℕ → Type 0 = λ k. IsBalanced any_machine below k in
     inr (goes_on, subst B (sym sent) counted, (inr (live, subst W (sym sent) w), tt))
 
-built_window : {T : Type 0} (m : Meaning T) (hubs : List (HubState T)) (e : Expr T) (size : ℕ) (gs : Vec (Stage T) Global) (stages : List (Stage T)) (box : Box (Expr T) Global) (input : Expr T) (below t : Node (AnyNode T)) →
+built_window : {T : Type 0} (m : Meaning T) (hubs : List (HubState T)) (e : Expr T) (size : ℕ) (gs : Vec (Stage T) Global) (stages : List (Stage T)) (box : Box (Expr T) Global) (input : Expr T) (below t : Node (TreeNode T)) →
     e ≡ WindowOf size gs box → stages ≡ gs.items → input ≡ box.value → IsBuilt m hubs input below → IsWindowOver size stages below t → IsBuilt m hubs e t
 built_window {T} m hubs e size gs stages box input below t is in_list in_box w0 o =
     let P : Expr T → Type 0 = λ x. IsBuilt m hubs x t in
@@ -63,35 +64,35 @@ built_window {T} m hubs e size gs stages box input below t is in_list in_box w0 
     let w : IsBuilt m hubs box.value below = subst I in_box w0 in
     let n = o.node in
     let j = o.joined in
-    let whole : Inputs (AnyNode T) = More' j.e below.machine j.p below.inputs j.q End in
-    let n_is : t.machine ≡ Window n = o.machine in
+    let whole : Inputs (TreeNode T) = More' j.e below.machine j.p below.inputs j.q End in
+    let n_is : t.machine ≡ Direct (Window n) = o.machine in
     let goes_on : window_ended n ≡ false = ap has_ending o.nothing in
     let tree_is : t.inputs ≡ whole = o.inputs ∙ j.row_is in
     let N : List Note → Type 0 = λ ns. AllUnrecorded (Nothing ∷ ns) in
-    let NM : AnyNode T → Type 0 = λ x. AllUnrecorded (any_machine.recorded x ∷ notes_of any_machine t.inputs) in
+    let NM : TreeNode T → Type 0 = λ x. AllUnrecorded (any_machine.recorded x ∷ notes_of any_machine t.inputs) in
     let notes_are : notes_of any_machine t.inputs ≡ notes any_machine below = ap (notes_of any_machine) tree_is ∙ ap (λ l. any_machine.recorded below.machine ∷ l) (append-nil (notes_of any_machine below.inputs)) in
     let below_is : edges_in whole ≡ fresh_edge ∷ fresh_edges box.value = ap (λ v. v ∷ (edges_in below.inputs ++ [])) (fresh_edge_is j.e j.asked j.sent j.live) ∙ ap (λ l. fresh_edge ∷ l) (append-nil (edges_in below.inputs) ∙ w.edges) in
-    let B : AnyNode T → Inputs (AnyNode T) → Type 0 = λ x r. IsBalanced any_machine (node_of x r) 0 in
-    let BN : AnyNode T → Type 0 = λ x. B x t.inputs in
-    let BR : Inputs (AnyNode T) → Type 0 = λ r. B (Window n) r in
+    let B : TreeNode T → Inputs (TreeNode T) → Type 0 = λ x r. IsBalanced any_machine (node_of x r) 0 in
+    let BN : TreeNode T → Type 0 = λ x. B x t.inputs in
+    let BR : Inputs (TreeNode T) → Type 0 = λ r. B (Direct (Window n)) r in
     subst P (sym is) (record {
       value = λ more joins further at leaf begun stand.
           let S : List ℕ → Type 0 = λ l. StandAt joins leaf l in
           let came : Option (Stream T) = comes_out any_machine m more further below (at + 1) in
           ap (λ x. out_of any_machine m more x (comes_in any_machine m more further t.inputs (at + 1)) (slice_get further at)) n_is
-          ∙ (ap (λ r. out_of any_machine m more (Window n) (comes_in any_machine m more further r (at + 1)) (slice_get further at)) tree_is
-          ∙ (fresh_out m more (Window n) (λ vs. window m size stages (incoming_of more vs).first) (λ vs d. o.fresh m (incoming_of more vs) d) (beside_of came (Some [])) (slice_get further at)
+          ∙ (ap (λ r. out_of any_machine m more (Direct (Window n)) (comes_in any_machine m more further r (at + 1)) (slice_get further at)) tree_is
+          ∙ (fresh_out m more (Direct (Window n)) (λ vs. window m size stages (incoming_of more vs).first) (λ vs d. o.fresh m (incoming_of more vs) d) (beside_of came (Some [])) (slice_get further at)
           ∙ (ap (quiet (slice_get further at)) (first_of_one more (window m size stages) came ∙ (ap (λ l. option_map (window m size l) came) in_list ∙ ap (option_map (window m size gs.items)) (w.value more joins further (at + 1) leaf begun (subst S (new_joins_Window hubs size gs box) stand))))
           ∙ sym (value_Window (environment m more joins further) size gs box at leaf))));
       reads =
-          let R : AnyNode T → Inputs (AnyNode T) → Type 0 = λ x r. IsTreeReadAt any_machine (counts_of hubs) (node_of x r) in
-          let RN : AnyNode T → Type 0 = λ x. R x t.inputs in
-          let RI : Inputs (AnyNode T) → Type 0 = λ r. R (Window n) r in
+          let R : TreeNode T → Inputs (TreeNode T) → Type 0 = λ x r. IsTreeReadAt any_machine (counts_of hubs) (node_of x r) in
+          let RN : TreeNode T → Type 0 = λ x. R x t.inputs in
+          let RI : Inputs (TreeNode T) → Type 0 = λ r. R (Direct (Window n)) r in
           subst RN (sym n_is) (subst RI (sym tree_is) (tt, (inr w.reads, tt)));
       alone = λ bare.
-          let R : AnyNode T → Inputs (AnyNode T) → Type 0 = λ x r. IsTreeReadAt any_machine [] (node_of x r) in
-          let RN : AnyNode T → Type 0 = λ x. R x t.inputs in
-          let RI : Inputs (AnyNode T) → Type 0 = λ r. R (Window n) r in
+          let R : TreeNode T → Inputs (TreeNode T) → Type 0 = λ x r. IsTreeReadAt any_machine [] (node_of x r) in
+          let RN : TreeNode T → Type 0 = λ x. R x t.inputs in
+          let RI : Inputs (TreeNode T) → Type 0 = λ r. R (Direct (Window n)) r in
           subst RN (sym n_is) (subst RI (sym tree_is) (tt, (inr (w.alone (sym (new_joins_Window hubs size gs box) ∙ bare)), tt)));
       notes = subst NM (sym n_is) (subst N (sym notes_are) ((λ x. refl), w.notes));
       edges = ap edges_in tree_is ∙ (below_is ∙ sym (fresh_Window size gs box));
@@ -104,7 +105,7 @@ built_window {T} m hubs e size gs stages box input below t is in_list in_box w0 
     })
 
 -- the same of a tree that was made unless memory ran out
-pub window_if : {T E : Type 0} (m : Meaning T) (hubs : List (HubState T)) (e : Expr T) (size : ℕ) (gs : Vec (Stage T) Global) (stages : List (Stage T)) (box : Box (Expr T) Global) (input : Expr T) (below : Node (AnyNode T)) (r : Result (Node (AnyNode T)) E) →
+pub window_if : {T E : Type 0} (m : Meaning T) (hubs : List (HubState T)) (e : Expr T) (size : ℕ) (gs : Vec (Stage T) Global) (stages : List (Stage T)) (box : Box (Expr T) Global) (input : Expr T) (below : Node (TreeNode T)) (r : Result (Node (TreeNode T)) E) →
     e ≡ WindowOf size gs box → stages ≡ gs.items → input ≡ box.value → IsBuilt m hubs input below → IfOk r (λ t. IsWindowOver size stages below t) → IfOk r (λ t. IsBuilt m hubs e t)
 window_if m hubs e size gs stages box input below (Ok t) is in_list in_box w o = built_window m hubs e size gs stages box input below t is in_list in_box w o
 window_if m hubs e size gs stages box input below (Err x) is in_list in_box w o = tt
@@ -113,11 +114,11 @@ window_if m hubs e size gs stages box input below (Err x) is in_list in_box w o 
 made : {A : Type 0} (P : A → Type 0) (r : Result A NoMemory) (a : A) → r ≡ Ok a → IfOk r P → P a
 made P r a is h = subst (λ x. IfOk x P) is h
 
-pub window_over : {T : Type 0} (size : ℕ) (gs : List (Stage T)) (below : Node (AnyNode T)) (row : Inputs (AnyNode T)) (r : Result (AnyNode T) NoMemory) (t : Result (Node (AnyNode T)) NoMemory) →
+pub window_over : {T : Type 0} (size : ℕ) (gs : List (Stage T)) (below : Node (TreeNode T)) (row : Inputs (TreeNode T)) (r : Result (AnyNode T) NoMemory) (t : Result (Node (TreeNode T)) NoMemory) →
     IsJoined below End row → IfOk r (λ n. IsWindow size gs n) → IfOk t (λ x. IsOver r row false x) → IfOk t (λ x. IsWindowOver size gs below x)
 window_over {T} size gs below row r (Ok x) joined fresh o =
-    let n = made (λ n. IsWindow size gs n) r x.machine o.is fresh in
-    record { node = n.node; row = row; fresh = n.fresh; counted = n.counted; nothing = n.nothing; joined = joined; machine = n.is; inputs = o.inputs }
+    let n = made (λ n. IsWindow size gs n) r o.node o.is fresh in
+    record { node = n.node; row = row; fresh = n.fresh; counted = n.counted; nothing = n.nothing; joined = joined; machine = o.machine ∙ ap Direct n.is; inputs = o.inputs }
 window_over size gs below row r (Err e) joined fresh o = tt
 
 -- ---- its limits

@@ -28,10 +28,10 @@ use Rattle.rsx_tree.specs.Edges.{EdgeView, closed_if}
 use Rattle.rsx_tree.specs.Inputs.{closed_row_if, comes_in, notes_of, edges as edges_in}
 use Rattle.rsx_tree.specs.Reads.{IsRowReadAt, IsTreeReadAt, count_before}
 use Rattle.rsx_tree.specs.Tree.{IsJoined, comes_out, notes, edges}
-use Rattle.rsx_node.specs.Any.{any_machine}
-use Rattle.rsx_node.specs.declared.any_node.AnyNode.{AnyNode}
+use Rattle.rsx_node.specs.Any.{TreeNode, any_machine}
 use Rattle.rsx_node.specs.declared.any_node.AnyNode.TheVariants.{Plain, PublishOn}
 use Rattle.rsx_node.specs.declared.any_node.AnyNode.TheVariants as variants
+use Rattle.rsx_crossing.specs.declared.sender.Sender.TheVariants.{Direct}
 use Rattle.rsx_publish_on.specs.PublishOn.{publish_comes_out, publish_counted, publish_wanted}
 use Rattle.rsx_queued.specs.Input.{fresh_input}
 use Rattle.rsx_sources.specs.Machine.{Incoming, quiet as quiet_at}
@@ -178,7 +178,7 @@ StandAt all at (n ∷ ns) = (slice_get all at ≡ Some n) × StandAt all (at + 1
 -- what comes out of the tree is what the expression means, over all whole values of the hubs that begin with what these took in,
 -- where its leaves join them now; nothing is recorded, its edges are as at the start, each of its nodes wants first what the
 -- expression's prefetch says, and its counts are balanced
-pub record IsBuilt {T : Type 0} (m : Meaning T) (hubs : List (HubState T)) (e : Expr T) (t : Node (AnyNode T)) : Type 0 where
+pub record IsBuilt {T : Type 0} (m : Meaning T) (hubs : List (HubState T)) (e : Expr T) (t : Node (TreeNode T)) : Type 0 where
   pub value : (whole : List (Stream T)) (joins : List ℕ) (further : List Note) (at leaf : ℕ) → AreBegun hubs whole → StandAt joins leaf (new_joins hubs e) →
       comes_out any_machine m whole further t at ≡ (meant (environment m whole joins further) e).value at leaf
   -- each leaf got all that its hub took in; with no leaf, no node reads a hub
@@ -190,37 +190,37 @@ pub record IsBuilt {T : Type 0} (m : Meaning T) (hubs : List (HubState T)) (e : 
   pub balance : IsBalanced any_machine t 0
 
 -- the tree of a fresh plain operator over another one
-pub record IsPlainOver {T : Type 0} (g : Stage T) (below t : Node (AnyNode T)) : Type 0 where
+pub record IsPlainOver {T : Type 0} (g : Stage T) (below t : Node (TreeNode T)) : Type 0 where
   pub node : PlainNode T
-  pub row : Inputs (AnyNode T)
+  pub row : Inputs (TreeNode T)
   pub fresh : GivesOperator node g
   pub state : node.state ≡ plain_start g
   pub slot : node.slot ≡ start_slot g
   pub joined : IsJoined below End row
-  pub machine : t.machine ≡ Plain node
+  pub machine : t.machine ≡ Direct (Plain node)
   pub inputs : t.inputs ≡ closed_row_if (plain_ended node) row
 
 -- the tree of a fresh `publishOn` over another one, whose queue has room for so many items
-pub record IsPublishOnOver {T : Type 0} (capacity : ℕ) (below t : Node (AnyNode T)) : Type 0 where
+pub record IsPublishOnOver {T : Type 0} (capacity : ℕ) (below t : Node (TreeNode T)) : Type 0 where
   pub node : PublishOnNode T
-  pub row : Inputs (AnyNode T)
+  pub row : Inputs (TreeNode T)
   pub input : node.input ≡ fresh_input capacity
   pub fresh : (m : Meaning T) (inc : Incoming T) (further : Note) → publish_comes_out m node inc further ≡ quiet_at further inc.first
   pub counted : publish_counted node (0 ∷ []) 0
   pub wanted : publish_wanted node 0 0 0 ≡ capacity
   pub joined : IsJoined below End row
-  pub machine : t.machine ≡ PublishOn node
+  pub machine : t.machine ≡ Direct (PublishOn node)
   pub inputs : t.inputs ≡ row
 
 -- the tree of a fresh `window` of this size over another one, with a chain of these operators
-pub record IsWindowOver {T : Type 0} (size : ℕ) (gs : List (Stage T)) (below t : Node (AnyNode T)) : Type 0 where
+pub record IsWindowOver {T : Type 0} (size : ℕ) (gs : List (Stage T)) (below t : Node (TreeNode T)) : Type 0 where
   pub node : WindowNode T
-  pub row : Inputs (AnyNode T)
+  pub row : Inputs (TreeNode T)
   pub fresh : GivesWindows node size gs
   pub counted : CountsItems node (0 ∷ []) 0
   pub nothing : node.pending.left ≡ []
   pub joined : IsJoined below End row
-  pub machine : t.machine ≡ variants.Window node
+  pub machine : t.machine ≡ Direct (variants.Window node)
   pub inputs : t.inputs ≡ row
 
 -- ---- the inputs of a node
@@ -231,20 +231,20 @@ new_joins_of hubs es = in_a_row (map (new_joins hubs) es)
 
 -- a row of trees that was made for these expressions: what comes in is what they mean, side by side. Nothing went over an edge
 -- yet, and whatever node takes the row, what is wanted below it is as the expressions say, and the counts are balanced
-pub record AreBuilt {T : Type 0} (m : Meaning T) (hubs : List (HubState T)) (es : List (Expr T)) (row : Inputs (AnyNode T)) : Type 0 where
+pub record AreBuilt {T : Type 0} (m : Meaning T) (hubs : List (HubState T)) (es : List (Expr T)) (row : Inputs (TreeNode T)) : Type 0 where
   pub values : (whole : List (Stream T)) (joins : List ℕ) (further : List Note) (at leaf : ℕ) → AreBegun hubs whole → StandAt joins leaf (new_joins_of hubs es) →
       comes_in any_machine m whole further row at ≡ in_order (map (meant (environment m whole joins further)) es) at leaf
   pub reads : IsRowReadAt any_machine (counts_of hubs) row
   pub alone : new_joins_of hubs es ≡ [] → IsRowReadAt any_machine [] row
   pub notes : AllUnrecorded (notes_of any_machine row)
   pub edges : edges_in row ≡ fresh_beside (map fresh_edges es)
-  pub wants : (n : AnyNode T) (i p : ℕ) → WantsOfEach any_machine n i (length es) p → first_wants any_machine n i row ≡ wants_beside p (map fresh_wants es)
+  pub wants : (n : TreeNode T) (i p : ℕ) → WantsOfEach any_machine n i (length es) p → first_wants any_machine n i row ≡ wants_beside p (map fresh_wants es)
   pub sent : sent_over row ≡ replicate (length es) 0
-  pub balance : (n : AnyNode T) (i : ℕ) → IsRowBalanced any_machine n i row
+  pub balance : (n : TreeNode T) (i : ℕ) → IsRowBalanced any_machine n i row
 
 -- the tree of a node of this kind over those of these expressions: what comes out is the operator of what they mean, side by
 -- side, under what the node recorded; the rest is as for the tree of one expression
-pub record IsBuiltOver {T : Type 0} (m : Meaning T) (hubs : List (HubState T)) (kind : SeveralKind) (es : List (Expr T)) (t : Node (AnyNode T)) : Type 0 where
+pub record IsBuiltOver {T : Type 0} (m : Meaning T) (hubs : List (HubState T)) (kind : SeveralKind) (es : List (Expr T)) (t : Node (TreeNode T)) : Type 0 where
   pub value : (whole : List (Stream T)) (joins : List ℕ) (further : List Note) (at leaf : ℕ) → AreBegun hubs whole → StandAt joins leaf (new_joins_of hubs es) →
       comes_out any_machine m whole further t at
       ≡ option_and_then (λ k. option_and_then (joined m kind k) (in_order (map (meant (environment m whole joins further)) es) (at + 1) leaf)) (slice_get further at)

@@ -27,6 +27,8 @@ use Rattle.rsx_tree.specs.Inputs.{closed_row_if}
 use Rattle.rsx_tree.specs.Tree.{IsJoined}
 use Rattle.rsx_tree.specs.declared.inputs.Inputs.{Inputs, End}
 use Rattle.rsx_tree.specs.declared.node.Node.{Node}
+use Rattle.rsx_crossing.specs.declared.sender.Sender.TheVariants.{Direct}
+use Rattle.rsx_node.specs.Any.{TreeNode}
 use Rattle.rsx_node.specs.declared.any_node.AnyNode.{AnyNode}
 use Rattle.rsx_node.specs.declared.any_node.AnyNode.TheVariants.{Plain, Several, PublishOn, Window, FlatMap, GroupBy}
 
@@ -85,14 +87,18 @@ pub record IsFlatMap {T : Type 0} (f concurrency : ℕ) (gs : List (Stage T)) (n
   pub nothing : node.output ≡ Empty
 
 -- the tree of the node that was made, over this row
-pub record IsOver {M : Type 0} (made : Result M NoMemory) (row : Inputs M) (has_ended : Bool) (t : Node M) : Type 0 where
-  pub is : made ≡ Ok t.machine
+pub record IsOver {T : Type 0} (made : Result (AnyNode T) NoMemory) (row : Inputs (TreeNode T)) (has_ended : Bool) (t : Node (TreeNode T)) : Type 0 where
+  pub node : AnyNode T
+  pub is : made ≡ Ok node
+  pub machine : t.machine ≡ Direct node
   pub inputs : t.inputs ≡ closed_row_if has_ended row
 
 -- the tree of the node that was made, over this one as its only input
-pub record IsOverOne {T : Type 0} (made : Result (AnyNode T) NoMemory) (below t : Node (AnyNode T)) : Type 0 where
-  pub is : made ≡ Ok t.machine
-  pub row : Inputs (AnyNode T)
+pub record IsOverOne {T : Type 0} (made : Result (AnyNode T) NoMemory) (below t : Node (TreeNode T)) : Type 0 where
+  pub node : AnyNode T
+  pub is : made ≡ Ok node
+  pub machine : t.machine ≡ Direct node
+  pub row : Inputs (TreeNode T)
   pub joined : IsJoined below End row
   pub inputs : t.inputs ≡ row
 

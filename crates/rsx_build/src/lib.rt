@@ -7,9 +7,10 @@
 mod trees;
 
 use rsx_boxed::Boxed;
+use rsx_crossing::Sender;
 use rsx_node::AnyNode;
 pub use trees::build;
 
-/// A node of a tree, behind a pointer: a tree of nodes is moved as a whole where inputs are added to it, and a node of any kind
-/// is as large as the largest kind.
-pub type TreeNode<T> = Boxed<AnyNode<T>>;
+/// A node of a tree, with the queue of its edge where that crosses to another region. It stands behind a pointer: a tree of
+/// nodes is moved as a whole where inputs are added to it, and a node of any kind is as large as the largest kind.
+pub type TreeNode<T> = Boxed<Sender<AnyNode<T>, T>>;

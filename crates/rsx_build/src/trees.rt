@@ -12,6 +12,7 @@ ghost use Rattle.rsx_several.specs.Kind.{IsWithin};
 use crate::TreeNode;
 use rsx_boxed::Boxed;
 use rsx_chain::copy_stages;
+use rsx_crossing::Sender;
 use rsx_flat_map::FlatMapNode;
 use rsx_group_by::GroupByNode;
 use rsx_hub::Hub;
@@ -291,7 +292,7 @@ fn over<T: Drop>(
     }
     match node {
         Ok(machine) => {
-            let machine = Boxed::new(alloc, machine)?;
+            let machine = Boxed::new(alloc, Sender::Direct(machine))?;
             Ok(Node { machine, inputs })
         }
         Err(NoMemory) => Err(NoMemory),
@@ -308,7 +309,7 @@ fn over_one<T: Drop>(
 {
     match node {
         Ok(machine) => {
-            let machine = Boxed::new(alloc, machine)?;
+            let machine = Boxed::new(alloc, Sender::Direct(machine))?;
             let inputs = below.join(alloc, Inputs::End)?;
             Ok(Node { machine, inputs })
         }
@@ -332,10 +333,10 @@ fn in_front<M: Drop>(
 
 /// The tree of a source alone.
 fn source<T: Drop>(alloc: Global, node: SourceNode<T>) -> Result<Node<TreeNode<T>>, NoMemory>
-    ensures machine { IfOk result (λ tree. tree.machine ≡ AnyNode.Source node) }
+    ensures machine { IfOk result (λ tree. tree.machine ≡ Sender.Direct (AnyNode.Source node)) }
     ensures inputs { IfOk result (λ tree. tree.inputs ≡ Inputs.End) }
 {
-    let machine = Boxed::new(alloc, AnyNode::Source(node))?;
+    let machine = Boxed::new(alloc, Sender::Direct(AnyNode::Source(node)))?;
     Ok(Node {
         machine,
         inputs: Inputs::End,

@@ -8,6 +8,7 @@ pub mod PublishOnRests
 pub mod QueuesRests
 pub mod Rests
 pub mod Room
+pub mod SenderRests
 pub mod SourcesRests
 pub mod WindowRests
 pub mod ZipRests

@@ -1,4 +1,4 @@
--- The law of rest holds of every kind of node.
+-- The law of rest holds of every kind of node, and of each node of a tree.
 use Rattle.std.proofs.Common.{◌≡◌, ℕ, ◌<◌, false, List, ◌∷◌, Some, None, refl}
 use Rattle.rsx_types.specs.declared.signal.Ending.TheVariants.{Open}
 use Rattle.rsx_types.specs.Meaning.{Meaning}
@@ -11,7 +11,8 @@ use Rattle.rsx_several.specs.declared.several_node.SeveralNode.{SeveralNode}
 use Rattle.rsx_several.specs.declared.several_node.SeveralNode.TheVariants.{Concat, Merge, Zip, Latest}
 use Rattle.rsx_flat_map.proofs.Rests.{flat_rests}
 use Rattle.rsx_group_by.proofs.Rests.{group_rests}
-use Rattle.rsx_node.specs.Any.{any_machine}
+use Rattle.rsx_node.specs.Any.{TreeNode, any_machine, kind_machine}
+use Rattle.rsx_node.specs.Laws.{any_shows}
 use Rattle.rsx_node.specs.declared.any_node.AnyNode.{AnyNode}
 use Rattle.rsx_node.specs.declared.any_node.AnyNode.TheVariants.{Source, Plain, Several, PublishOn, Window, FlatMap, GroupBy}
 use Rattle.rsx_node.proofs.ConcatRests.{concat_rests}
@@ -19,6 +20,7 @@ use Rattle.rsx_node.proofs.LatestRests.{latest_rests}
 use Rattle.rsx_node.proofs.MergeRests.{merge_rests}
 use Rattle.rsx_node.proofs.PlainRests.{plain_rests}
 use Rattle.rsx_node.proofs.PublishOnRests.{publish_rests}
+use Rattle.rsx_node.proofs.SenderRests.{sender_rests}
 use Rattle.rsx_node.proofs.SourcesRests.{source_rests}
 use Rattle.rsx_node.proofs.WindowRests.{window_rests}
 use Rattle.rsx_node.proofs.ZipRests.{zip_rests}
@@ -31,11 +33,14 @@ several_rests m (Merge n) taken asked sent inc still counted waits more within s
 several_rests m (Zip n) taken asked sent inc still counted waits more within stuck none = zip_rests m n taken asked sent inc counted waits more within stuck.0 stuck.1 none
 several_rests m (Latest n) taken asked sent inc still counted waits more within stuck none = latest_rests m n taken asked sent inc counted waits more within stuck.0 none
 
-pub any_rests : {T : Type 0} (m : Meaning T) → Rests {M = AnyNode T} any_machine m
-any_rests m (Source n) taken asked sent inc still counted waits more within stuck none behind = source_rests m n inc waits behind
-any_rests m (Plain n) taken asked sent inc still counted waits more within stuck none behind = plain_rests m n taken asked sent inc still counted waits more within none
-any_rests m (Several n) taken asked sent inc still counted waits more within stuck none behind = several_rests m n taken asked sent inc still counted waits more within stuck none
-any_rests m (PublishOn n) taken asked sent inc still counted waits more within stuck none behind = publish_rests m n taken asked sent inc still counted waits more within none
-any_rests m (Window n) taken asked sent inc still counted waits more within stuck none behind = window_rests m n taken asked sent inc still counted waits more within none
-any_rests m (FlatMap n) taken asked sent inc still counted waits more within stuck none behind = flat_rests m n taken asked sent inc counted waits more within stuck.0 (λ c at alive wants. none 0 c at alive (λ f. refl) wants)
-any_rests m (GroupBy n) taken asked sent inc still counted waits more within stuck none behind = group_rests m n taken asked sent inc still counted waits more within stuck.0 (λ c at alive takes wants. none 0 c at alive (λ f. takes) wants)
+kind_rests : {T : Type 0} (m : Meaning T) → Rests {M = AnyNode T} kind_machine m
+kind_rests m (Source n) taken asked sent inc still counted waits more within stuck none behind = source_rests m n inc waits behind
+kind_rests m (Plain n) taken asked sent inc still counted waits more within stuck none behind = plain_rests m n taken asked sent inc still counted waits more within none
+kind_rests m (Several n) taken asked sent inc still counted waits more within stuck none behind = several_rests m n taken asked sent inc still counted waits more within stuck none
+kind_rests m (PublishOn n) taken asked sent inc still counted waits more within stuck none behind = publish_rests m n taken asked sent inc still counted waits more within none
+kind_rests m (Window n) taken asked sent inc still counted waits more within stuck none behind = window_rests m n taken asked sent inc still counted waits more within none
+kind_rests m (FlatMap n) taken asked sent inc still counted waits more within stuck none behind = flat_rests m n taken asked sent inc counted waits more within stuck.0 (λ c at alive wants. none 0 c at alive (λ f. refl) wants)
+kind_rests m (GroupBy n) taken asked sent inc still counted waits more within stuck none behind = group_rests m n taken asked sent inc still counted waits more within stuck.0 (λ c at alive takes wants. none 0 c at alive (λ f. takes) wants)
+
+pub any_rests : {T : Type 0} (m : Meaning T) → Rests {M = TreeNode T} any_machine m
+any_rests m n taken asked sent inc still counted waits more within stuck none behind = sender_rests kind_machine m (any_shows m) (kind_rests m) n taken asked sent inc still counted waits more within stuck none behind

@@ -1,4 +1,5 @@
--- A node of any kind: its meaning is that of its kind.
+-- A node of any kind: its meaning is that of its kind. A node of a tree is one of any kind, with the queue of its edge where that
+-- crosses to another region.
 use Rattle.std.specs.Prelude.{⊤, ℕ, Bool, true, false, List, Option, None}
 use Rattle.rsx_types.specs.declared.note.Note.{Note}
 use Rattle.rsx_types.specs.declared.note.Note.TheVariants.{Nothing}
@@ -9,6 +10,8 @@ use Rattle.rsx_sources.specs.Machine.{Incoming}
 use Rattle.rsx_sources.specs.Reading.{Reading}
 use Rattle.rsx_sources.specs.declared.machine.Front.{Front}
 use Rattle.rsx_sources.specs.declared.machine.Machine.{Ghosts as Machine}
+use Rattle.rsx_crossing.specs.declared.sender.Sender.{Sender}
+use Rattle.rsx_crossing.specs.Sender.{sender_comes_out, sender_waiting, sender_shown, sender_takes, sender_picks, sender_rows, sender_recording, sender_recorded, sender_ended, sender_done, sender_counted, sender_wanted, sender_popped, sender_reads, sender_rooms, sender_pop_allocates, sender_signal_allocates, sender_step_allocates}
 use Rattle.rsx_plain.specs.Node.{plain_comes_out, plain_waiting, plain_shown, plain_popped, plain_takes, plain_wanted, plain_ended, plain_allocates, plain_counted}
 use Rattle.rsx_several.specs.Several.{several_comes_out, several_waiting, several_shown, several_takes, several_picks, several_rows, several_recording, several_recorded, several_ended, several_done, several_counted, several_wanted, several_popped, several_step_allocates}
 use Rattle.rsx_publish_on.specs.PublishOn.{publish_comes_out, publish_waiting, publish_shown, publish_popped, publish_takes, publish_wanted, publish_ended, publish_counted}
@@ -201,8 +204,8 @@ any_step_allocates a (FlatMap n) = true
 any_step_allocates a (GroupBy n) = true
 
 -- the meaning of all kinds together
-abbrev pub any_machine : {T : Type 0} → Machine (AnyNode T) T
-any_machine = record {
+abbrev pub kind_machine : {T : Type 0} → Machine (AnyNode T) T
+kind_machine = record {
   comes_out = any_comes_out;
   waiting = any_waiting;
   shown = any_shown;
@@ -221,4 +224,31 @@ any_machine = record {
   pop_allocates = any_pop_allocates;
   signal_allocates = any_signal_allocates;
   step_allocates = any_step_allocates;
+}
+
+-- a node of a tree
+abbrev pub TreeNode : Type 0 → Type 0
+TreeNode T = Sender (AnyNode T) T
+
+-- its meaning: that of the node, or of the node with the queue of its edge
+abbrev pub any_machine : {T : Type 0} → Machine (TreeNode T) T
+any_machine = record {
+  comes_out = sender_comes_out kind_machine;
+  waiting = sender_waiting kind_machine;
+  shown = sender_shown kind_machine;
+  takes = sender_takes kind_machine;
+  picks = sender_picks kind_machine;
+  rows = sender_rows kind_machine;
+  recording = sender_recording kind_machine;
+  recorded = sender_recorded kind_machine;
+  ended = sender_ended kind_machine;
+  done = sender_done kind_machine;
+  counted = sender_counted kind_machine;
+  wanted = sender_wanted kind_machine;
+  popped = sender_popped kind_machine;
+  reads = sender_reads kind_machine;
+  rooms = sender_rooms kind_machine;
+  pop_allocates = sender_pop_allocates kind_machine;
+  signal_allocates = sender_signal_allocates kind_machine;
+  step_allocates = sender_step_allocates kind_machine;
 }

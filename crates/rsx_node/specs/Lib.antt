@@ -3,3 +3,4 @@ pub mod Any
 pub mod Laws
 pub mod Source
 pub mod SourceLaws
+pub mod TreeLaws

@@ -44,7 +44,7 @@ use Rattle.rsx_tree.proofs.Alike.{or_right, driven_alike, or_left}
 use Rattle.rsx_tree.proofs.Drives.{chosen_run}
 use Rattle.rsx_tree.proofs.Effects.{length_edges}
 use Rattle.rsx_tree.proofs.Noted.{kept_chosen, picked_effect, picked_enabled, row_effect, row_enabled as row_made_enabled}
-use Rattle.rsx_node.specs.Laws.{any_ending_waits, any_settles}
+use Rattle.rsx_node.specs.TreeLaws.{tree_ending_waits, tree_settles}
 use Rattle.rsx_node.proofs.Rests.{any_rests}
 use Rattle.rsx_tree.proofs.Rests.{tree_rests}
 use Rattle.rsx_pipe.proofs.Trees.{unchosen_tree}
@@ -186,7 +186,7 @@ no_signal (Some a) h = absurd (h a refl)
 nothing_more : {T : Type 0} (m : Meaning T) (hubs : List (Stream T)) (part : Part T) (queue : List (Signal T)) → IsQuiet m part queue → part.root.state ≡ Live → length queue < CAPACITY → IsBalanced part.tree part.root.demand.sent → length (all_edges part) ≤ MOST_NODES → IsWithin part.tree → HasReadAll m hubs part → part.root.demand.sent < part.root.demand.asked →
     comes_out m hubs (map unchosen (notes_of part.tree)) part.tree 0 ≡ Some (ended_by Open)
 nothing_more {T} m hubs part queue q live room b few w read less =
-    tree_rests any_machine m (any_ending_waits m) (any_settles m) (any_rests m) hubs (map unchosen (notes_of part.tree)) part.tree part.root.demand.asked part.root.demand.sent (idle_tree m part queue q few) (live_still any_machine part.root part.tree.machine can (still_root m part queue q)) b less (let k = few_below part few in omega (arith, k)) w (read live) (unchosen_tree part.tree) (no_signal (offers m part.tree) silent)
+    tree_rests any_machine m (tree_ending_waits m) (tree_settles m) (any_rests m) hubs (map unchosen (notes_of part.tree)) part.tree part.root.demand.asked part.root.demand.sent (idle_tree m part queue q few) (live_still any_machine part.root part.tree.machine can (still_root m part queue q)) b less (let k = few_below part few in omega (arith, k)) w (read live) (unchosen_tree part.tree) (no_signal (offers m part.tree) silent)
   where
     can : is_live part.root.state ≡ true
     can = ap is_live live

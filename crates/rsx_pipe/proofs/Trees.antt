@@ -7,9 +7,8 @@ use Rattle.rsx_types.specs.declared.note.Note.{Note}
 use Rattle.rsx_types.specs.declared.note.Note.TheVariants.{Nothing, Picks, Ended}
 use Rattle.rsx_sources.specs.declared.machine.Front.{Front}
 use Rattle.rsx_sources.specs.Reading.{Reading, IsBehind}
-use Rattle.rsx_node.specs.Any.{any_machine, any_reads}
+use Rattle.rsx_node.specs.Any.{TreeNode, any_machine}
 use Rattle.rsx_build.specs.Built.{AllUnrecorded}
-use Rattle.rsx_node.specs.declared.any_node.AnyNode.{AnyNode}
 use Rattle.rsx_types.specs.Stream.{Stream}
 use Rattle.rsx_tree.specs.declared.edge.EdgeState.TheVariants.{Live}
 use Rattle.rsx_tree.specs.declared.inputs.Inputs.{Inputs, End, More'}
@@ -29,13 +28,13 @@ unread : {T : Type 0} (inboxes hubs : List (Stream T)) (o : Option Reading) → 
 unread inboxes hubs None h = tt
 unread inboxes hubs (Some r) h = cc
 
-row_unread : {T : Type 0} (inboxes hubs : List (Stream T)) (t : Inputs (AnyNode T)) → IsRowReadAt any_machine [] t → IsRowBehind any_machine inboxes hubs t
+row_unread : {T : Type 0} (inboxes hubs : List (Stream T)) (t : Inputs (TreeNode T)) → IsRowReadAt any_machine [] t → IsRowBehind any_machine inboxes hubs t
 row_unread inboxes hubs End h = tt
-row_unread inboxes hubs (More' e n p below q beside) h = (elim h.0 [ inl dead ↦ inl dead | inr k ↦ inr (unread inboxes hubs (any_reads n) k.0, row_unread inboxes hubs below k.1) ], row_unread inboxes hubs beside h.1)
+row_unread inboxes hubs (More' e n p below q beside) h = (elim h.0 [ inl dead ↦ inl dead | inr k ↦ inr (unread inboxes hubs (any_machine.reads n) k.0, row_unread inboxes hubs below k.1) ], row_unread inboxes hubs beside h.1)
 
 -- where no node reads a hub, nothing that stands in an inbox matters
 pub tree_unread : {T : Type 0} (inboxes hubs : List (Stream T)) (t : AnyTree T) → IsTreeReadAt any_machine [] t → IsTreeBehind any_machine inboxes hubs t
-tree_unread inboxes hubs t h = (unread inboxes hubs (any_reads t.machine) h.0, row_unread inboxes hubs t.inputs h.1)
+tree_unread inboxes hubs t h = (unread inboxes hubs (any_machine.reads t.machine) h.0, row_unread inboxes hubs t.inputs h.1)
 
 -- ---- choices
 

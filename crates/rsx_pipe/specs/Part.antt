@@ -12,8 +12,7 @@ use Rattle.rsx_sources.specs.declared.machine.Front.{Front}
 use Rattle.rsx_tree.specs.declared.look.NodeMove.{NodeMove}
 use Rattle.rsx_tree.specs.declared.edge.EdgeState.TheVariants.{Live, Closed, Ended}
 use Rattle.rsx_tree.specs.Rests.{TreeHasReadAll}
-use Rattle.rsx_node.specs.Any.{any_machine}
-use Rattle.rsx_node.specs.declared.any_node.AnyNode.{AnyNode}
+use Rattle.rsx_node.specs.Any.{TreeNode, any_machine}
 use Rattle.rsx_rooted.specs.Rooted as OfAny
 pub use Rattle.rsx_rooted.specs.Rooted.{evaluated, all_edges, has_room, sent_at, IsNumbered}
 use Rattle.rsx_rooted.specs.declared.rooted.Rooted.{Rooted}
@@ -23,7 +22,7 @@ use Rattle.rsx_pipe.specs.Tree.{notes_of, IsWithin}
 
 -- what contracts see of a part: its tree, and the edge from its root
 abbrev pub Part : Type 0 → Type 0
-Part T = Rooted (AnyNode T)
+Part T = Rooted (TreeNode T)
 
 -- a part stands for an expression, where `published` is what the hubs took in and handed to their readers, and the signals
 -- `output` went over the part's root edge

@@ -6,8 +6,7 @@ use Rattle.rsx_types.specs.declared.note.Note.{Note}
 use Rattle.rsx_types.specs.declared.signal.Signal.{Signal}
 use Rattle.rsx_sources.specs.Machine.{front_of}
 use Rattle.rsx_sources.specs.declared.machine.Front.{Front}
-use Rattle.rsx_node.specs.Any.{any_machine, any_pop_allocates}
-use Rattle.rsx_node.specs.declared.any_node.AnyNode.{AnyNode}
+use Rattle.rsx_node.specs.Any.{TreeNode, any_machine}
 use Rattle.rsx_tree.specs.Allocates as Calls
 use Rattle.rsx_tree.specs.Balance as Counts
 use Rattle.rsx_tree.specs.Chosen as Choices
@@ -22,7 +21,7 @@ use Rattle.rsx_tree.specs.declared.node.Node.{Node}
 
 -- a tree of nodes of any kind
 abbrev pub AnyTree : Type 0 → Type 0
-AnyTree T = Node (AnyNode T)
+AnyTree T = Node (TreeNode T)
 
 -- what still comes out of the tree whose root has the number `at`, where `hubs` is what is still published at each hub and
 -- `further` what each node of the whole tree still chooses; nothing where those choices don't fit
@@ -57,12 +56,12 @@ abbrev pub can_row : {T : Type 0} → AnyTree T → EdgeView → ℕ → Bool
 can_row t root at = can_row_in any_machine (station_of t root at)
 
 -- no step of a node is enabled
-abbrev pub IsStill : {T : Type 0} → Option (Station (AnyNode T)) → Type 0
+abbrev pub IsStill : {T : Type 0} → Option (Station (TreeNode T)) → Type 0
 IsStill o = Steps.IsStill any_machine o
 
 -- whether taking out what the root offers may allocate, and whether a Send below it may
 abbrev pub pop_allocates : {T : Type 0} → Allocates → AnyTree T → Bool
-pop_allocates a t = any_pop_allocates a t.machine
+pop_allocates a t = any_machine.pop_allocates a t.machine
 
 abbrev pub send_allocates : {T : Type 0} → Allocates → AnyTree T → ℕ → Bool
 send_allocates a t at = Whole.send_allocates any_machine a t at
@@ -80,7 +79,7 @@ abbrev pub IsAlike : {T : Type 0} → AnyTree T → AnyTree T → Type 0
 IsAlike old new = Calls.IsAlike any_machine old new
 
 -- what the receiver of the edge `at` wants, where there is one
-abbrev pub want_in : {T : Type 0} → Option (Place (AnyNode T)) → ℕ
+abbrev pub want_in : {T : Type 0} → Option (Place (TreeNode T)) → ℕ
 want_in None = 0
 want_in (Some p) = wanted_at any_machine p
 
@@ -88,7 +87,7 @@ abbrev pub want_at : {T : Type 0} → AnyTree T → ℕ → ℕ → ℕ → ℕ
 want_at t at asked sent = want_in (Whole.place_of t at asked sent)
 
 -- which signal is offered over the edge `at`
-abbrev pub front_in : {T : Type 0} → Meaning T → Option (Place (AnyNode T)) → Option Front
+abbrev pub front_in : {T : Type 0} → Meaning T → Option (Place (TreeNode T)) → Option Front
 front_in m None = None
 front_in m (Some p) = option_map front_of (any_machine.waiting m p.sender)
 

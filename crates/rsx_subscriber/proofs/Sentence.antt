@@ -6,7 +6,7 @@ use Rattle.rsx_types.specs.Stream.{Stream, signals, signals_then, item_then, end
 use Rattle.rsx_types.specs.declared.signal.Signal.{Signal}
 use Rattle.rsx_types.specs.declared.signal.Signal.TheVariants.{Next, Complete, Error}
 use Rattle.rsx_node.specs.Any.{any_machine}
-use Rattle.rsx_node.specs.Laws.{any_settles}
+use Rattle.rsx_node.specs.TreeLaws.{tree_settles}
 use Rattle.rsx_tree.specs.declared.edge.EdgeState.{EdgeState}
 use Rattle.rsx_tree.specs.declared.edge.EdgeState.TheVariants.{Live as EdgeLive, Closed as EdgeClosed, Ended as EdgeEnded}
 use Rattle.rsx_tree.proofs.Residuals.{tree_some}
@@ -94,7 +94,7 @@ still_owed {T} m inboxes sub rest v is e published whole past h o behind = by_ed
     live = rw o tt
 
     some : (u : Stream T) × (comes_out m whole (map unchosen (notes_of sub.part.tree)) sub.part.tree 0 ≡ Some u)
-    some = tree_some any_machine m (any_settles m) whole (map unchosen (notes_of sub.part.tree)) sub.part.tree 0 (unchosen_tree sub.part.tree)
+    some = tree_some any_machine m (tree_settles m) whole (map unchosen (notes_of sub.part.tree)) sub.part.tree 0 (unchosen_tree sub.part.tree)
 
     by_edge : (s : EdgeState) → sub.part.root.state ≡ s → owed_from m whole (map unchosen (notes_of sub.part.tree)) sub ≡ Some v
     by_edge EdgeLive s = ap (option_map (signals_then sub.queue)) (is whole (h.part.balance s) (behind s)) ∙ ap Some (sym e)

@@ -24,9 +24,8 @@ use Rattle.rsx_pipe.specs.Tree.{AnyTree, comes_out, edges, edges_after, notes_of
 use Rattle.rsx_tree.specs.Tree.{IsUnchosen}
 use Rattle.rsx_tree.specs.Inputs.{size, is_own, beside_of, comes_in, sent_edges, edges as edges_in, notes_of as notes_in, IsUnchosen as IsUnchosenIn}
 use Rattle.rsx_tree.specs.declared.inputs.Inputs.{Inputs, End, More'}
-use Rattle.rsx_node.specs.Any.{any_machine}
-use Rattle.rsx_node.specs.Laws.{any_settles}
-use Rattle.rsx_node.specs.declared.any_node.AnyNode.{AnyNode}
+use Rattle.rsx_node.specs.Any.{TreeNode, any_machine}
+use Rattle.rsx_node.specs.TreeLaws.{tree_settles}
 use Rattle.rsx_pipe.specs.Part.{Part as AnyPart}
 use Rattle.rsx_sources.specs.Machine.{incoming_of}
 use Rattle.rsx_sources.specs.declared.machine.Front.{Front}
@@ -45,19 +44,19 @@ use Rattle.rsx_subscriber.specs.Past.{IsUnended, IsOrderly}
 -- ---- the value is there
 
 -- what comes in at each input of a row where nothing more is chosen is there
-row_there : {T : Type 0} (m : Meaning T) (hubs : List (Stream T)) (further : List Note) (t : Inputs (AnyNode T)) (at : ℕ) → IsUnchosenIn any_machine further t at → (vs : List (Stream T)) × (comes_in any_machine m hubs further t at ≡ Some vs)
+row_there : {T : Type 0} (m : Meaning T) (hubs : List (Stream T)) (further : List Note) (t : Inputs (TreeNode T)) (at : ℕ) → IsUnchosenIn any_machine further t at → (vs : List (Stream T)) × (comes_in any_machine m hubs further t at ≡ Some vs)
 row_there m hubs further End at u = ([], refl)
 row_there {T} m hubs further (More' e n p below q beside) at u =
     let vs = row_there m hubs further below (at + 1) u.1 in
     let ws = row_there m hubs further beside (at + 1 + size below) u.2 in
-    let v = any_settles m n (incoming_of hubs vs.0) in
+    let v = tree_settles m n (incoming_of hubs vs.0) in
     (v.0 ∷ ws.0, rw (u.0, vs.1, ws.1) (ap (λ o. beside_of o (Some ws.0)) v.1))
 
 -- and so is what comes out of a tree
 comes_out_there : {T : Type 0} (m : Meaning T) (hubs : List (Stream T)) (further : List Note) (t : AnyTree T) (at : ℕ) → IsUnchosen any_machine further t at → (v : Stream T) × (comes_out m hubs further t at ≡ Some v)
 comes_out_there m hubs further t at u =
     let vs = row_there m hubs further t.inputs (at + 1) u.1 in
-    let v = any_settles m t.machine (incoming_of hubs vs.0) in
+    let v = tree_settles m t.machine (incoming_of hubs vs.0) in
     (v.0, rw (u.0, vs.1) v.1)
 
 -- so what a part stands for has a value under what was recorded: what went out, and then what is left
@@ -146,7 +145,7 @@ closed_if_length true es = length-map es closed_view
 closed_if_length false es = refl
 
 -- a tree recorded a note for each of its edges and one for its root
-row_notes : {T : Type 0} (t : Inputs (AnyNode T)) → length (notes_in any_machine t) ≡ length (edges_in t)
+row_notes : {T : Type 0} (t : Inputs (TreeNode T)) → length (notes_in any_machine t) ≡ length (edges_in t)
 row_notes End = refl
 row_notes (More' e n p below q beside) =
     let ns = notes_in any_machine below in
