@@ -31,6 +31,13 @@ impl<N: Drop> Boxed<N> {
         let node = Box::new(alloc, node)?;
         Ok(Boxed { node })
     }
+
+    /// The node, out of its place.
+    pub fn into_node(self) -> N
+        ensures { result ≡ self }
+    {
+        Box::into_inner(self.node)
+    }
 }
 
 impl<N: Machine> Machine for Boxed<N> {

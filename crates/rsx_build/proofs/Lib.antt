@@ -1,5 +1,6 @@
 -- Lemmas about trees that were built.
 pub mod Builds
+pub mod Crossings
 pub mod FlatMaps
 pub mod GroupBys
 pub mod Made

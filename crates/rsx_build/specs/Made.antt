@@ -1,5 +1,5 @@
 -- What the parts of a tree are made of.
-use Rattle.std.specs.Prelude.{◌≡◌, ◌≤◌, ◌<◌, ℕ, Bool, false, List, [], ◌∷◌, Result, Ok}
+use Rattle.std.specs.Prelude.{◌≡◌, ◌⊎◌, ◌≤◌, ◌<◌, ℕ, Bool, true, false, ◌||◌, List, [], ◌∷◌, Result, Ok}
 use Rattle.std.proofs.Math.ListN.{replicate}
 use Rattle.rsx_types.specs.declared.stage.Stage.{Stage}
 use Rattle.rsx_types.specs.declared.fault.NoMemory.{NoMemory}
@@ -27,7 +27,9 @@ use Rattle.rsx_tree.specs.Inputs.{closed_row_if}
 use Rattle.rsx_tree.specs.Tree.{IsJoined}
 use Rattle.rsx_tree.specs.declared.inputs.Inputs.{Inputs, End}
 use Rattle.rsx_tree.specs.declared.node.Node.{Node}
-use Rattle.rsx_crossing.specs.declared.sender.Sender.TheVariants.{Direct}
+use Rattle.rsx_crossing.specs.declared.queued.Queued.{Queued}
+use Rattle.rsx_crossing.specs.declared.sender.Sender.TheVariants.{Direct, Crossing}
+use Rattle.rsx_crossing.specs.declared.tail.Tail.TheVariants.{Open}
 use Rattle.rsx_node.specs.Any.{TreeNode}
 use Rattle.rsx_node.specs.declared.any_node.AnyNode.{AnyNode}
 use Rattle.rsx_node.specs.declared.any_node.AnyNode.TheVariants.{Plain, Several, PublishOn, Window, FlatMap, GroupBy}
@@ -101,6 +103,29 @@ pub record IsOverOne {T : Type 0} (made : Result (AnyNode T) NoMemory) (below t 
   pub row : Inputs (TreeNode T)
   pub joined : IsJoined below End row
   pub inputs : t.inputs ≡ row
+
+-- whether a node has the queue of its edge
+abbrev pub is_crossing : {T : Type 0} → TreeNode T → Bool
+is_crossing (Direct n) = false
+is_crossing (Crossing n) = true
+
+-- the second tree is the first with an empty queue behind its root
+pub record IsQueuedRoot {T : Type 0} (old new : Node (TreeNode T)) : Type 0 where
+  pub node : AnyNode T
+  pub queued : Queued (AnyNode T) T
+  pub was : old.machine ≡ Direct node
+  pub machine : new.machine ≡ Crossing queued
+  pub inside : queued.node ≡ node
+  pub empty : queued.queue ≡ []
+  pub still : queued.tail ≡ Open
+  pub inputs : new.inputs ≡ old.inputs
+
+-- the tree that was made, whose root has the queue of its edge where that crosses to another region
+pub record IsCrossed {T : Type 0} (made : Result (Node (TreeNode T)) NoMemory) (crosses : Bool) (t : Node (TreeNode T)) : Type 0 where
+  pub tree : Node (TreeNode T)
+  pub is : made ≡ Ok tree
+  pub either : (t ≡ tree) ⊎ IsQueuedRoot tree t
+  pub crossed : is_crossing t.machine ≡ crosses || is_crossing tree.machine
 
 -- the tree that was made, as an input in front of those beside it
 pub record IsInFront {M : Type 0} (made : Result (Node M) NoMemory) (beside row : Inputs M) : Type 0 where

@@ -6,13 +6,13 @@ ghost use Rattle.rsx_model.specs.Check.{first_fault, first_of};
 ghost use Rattle.rsx_model.specs.declared.check.TheConstants.{MOST_INPUTS, MOST_PREFETCH};
 ghost use Rattle.rsx_model.specs.declared.expr.Expr.TheVariants.{Items as ItemsOf, Hub as HubOf};
 ghost use Rattle.rsx_build.specs.Built.{IsBuilt, AreBuilt, IsBuiltOver, IsPlainOver, IsPublishOnOver, IsWindowOver, starts_ended};
-ghost use Rattle.rsx_build.specs.Made.{IsFlatMap, IsGroupBy, IsInFront, IsOver, IsOverOne, IsPlain, IsPublishOn, IsSeveral, IsWindow};
+ghost use Rattle.rsx_build.specs.Made.{IsCrossed, IsFlatMap, IsGroupBy, IsInFront, IsOver, IsOverOne, IsPlain, IsPublishOn, IsSeveral, IsWindow};
 ghost use Rattle.rsx_several.specs.Kind.{IsWithin};
 
 use crate::TreeNode;
 use rsx_boxed::Boxed;
 use rsx_chain::copy_stages;
-use rsx_crossing::Sender;
+use rsx_crossing::{Queued, Sender};
 use rsx_flat_map::FlatMapNode;
 use rsx_group_by::GroupByNode;
 use rsx_hub::Hub;
@@ -21,6 +21,7 @@ use rsx_model::Expr;
 use rsx_node::{AnyNode, SourceNode};
 use rsx_plain::PlainNode;
 use rsx_publish_on::PublishOnNode;
+use rsx_region::region_of;
 use rsx_several::{SeveralKind, SeveralNode};
 use rsx_sources::{ItemsNode, RangeNode};
 use rsx_tree::{Inputs, Node};
@@ -79,8 +80,9 @@ pub fn build<O: Ops>(
                 below,
             )
         }
-        Expr::On(_, prefetch, input) => {
-            let below = build(alloc, ops, input, hubs)?;
+        Expr::On(worker, prefetch, input) => {
+            let made = build(alloc, ops, input, hubs);
+            let below = crossed(alloc, made, *worker != region_of(input))?;
             build_publish_on(alloc, *prefetch, below)
         }
     }
@@ -101,25 +103,28 @@ fn build_over<O: Ops>(
     requires faultless { first_of (map (first_fault (length hubs.now)) inputs.now) ≡ None }
     ensures { IfOk result (λ tree. IsBuiltOver (O.meaning ops.now) hubs.now kind inputs.now tree) }
 {
-    let row = build_inputs(alloc, ops, inputs, hubs)?;
+    let row = build_inputs(alloc, ops, inputs, hubs, region_of(&inputs[0]))?;
     over(alloc, several(alloc, kind, inputs.len() as u32), row, false)
 }
 
-/// The trees of these expressions as the inputs of a node, in their order.
+/// The trees of these expressions as the inputs of a node in this region, in their order.
 #[cycle(trees)]
 fn build_inputs<O: Ops>(
     alloc: Global,
     ops: &O,
     exprs: &[Expr<O::Item>],
     hubs: &[Hub<O::Item>],
+    region: u8,
 ) -> Result<Inputs<TreeNode<O::Item>>, NoMemory>
     requires { first_of (map (first_fault (length hubs.now)) exprs.now) ≡ None }
     ensures { IfOk result (λ row. AreBuilt (O.meaning ops.now) hubs.now exprs.now row) }
 {
     match exprs.split_first() {
         Some((first, others)) => {
-            let beside = build_inputs(alloc, ops, others, hubs)?;
-            in_front(alloc, build(alloc, ops, first, hubs), beside)
+            let beside = build_inputs(alloc, ops, others, hubs, region)?;
+            let made = build(alloc, ops, first, hubs);
+            let below = crossed(alloc, made, region_of(first) != region);
+            in_front(alloc, below, beside)
         }
         None => Ok(Inputs::End),
     }
@@ -315,6 +320,26 @@ fn over_one<T: Drop>(
         }
         Err(NoMemory) => Err(NoMemory),
     }
+}
+
+/// A tree whose root has the queue of its edge, where that crosses to another region.
+fn crossed<T: Drop>(
+    alloc: Global,
+    made: Result<Node<TreeNode<T>>, NoMemory>,
+    crosses: bool,
+) -> Result<Node<TreeNode<T>>, NoMemory>
+    ensures { IfOk result (λ tree. IsCrossed made crosses tree) }
+{
+    if !crosses {
+        return made;
+    }
+    let Node { machine, inputs } = made?;
+    let node = match machine.into_node() {
+        Sender::Direct(node) => Queued::new(alloc, node)?,
+        Sender::Crossing(node) => node,
+    };
+    let machine = Boxed::new(alloc, Sender::Crossing(node))?;
+    Ok(Node { machine, inputs })
 }
 
 /// A tree as an input in front of those beside it.

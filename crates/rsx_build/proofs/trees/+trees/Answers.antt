@@ -1,6 +1,7 @@
 use Rattle.std.proofs.Common.{length, rules}
 use Rattle.std.proofs.lemmas.Int.{to_z-of_z}
 use Rattle.rsx_build.proofs.Builds.{hub_read, items_if, leaf_if, plain_if, range_if}
+use Rattle.rsx_build.proofs.Crossings.{crossed_built, crossed_if}
 use Rattle.rsx_build.proofs.FlatMaps.{flat_if}
 use Rattle.rsx_build.proofs.GroupBys.{group_if}
 use Rattle.rsx_build.proofs.Made.{in_front_built, several_over}
@@ -87,8 +88,10 @@ build-returns-in_ok-below-in-Flat g t c =
 
 pub build-returns-in_ok-below-in-On : goal.build-returns-in_ok-below-in-On
 build-returns-in_ok-below-in-On g t c =
-    publish_on_if (g.O.Ops.meaning c.args.ops.now) c.args.hubs.now c.args.expr.now c.in-On.field-0 c.in-On.prefetch c.in-On.input c.deref-in-On.result.now c.in_ok-below-in-On.below c.build_publish_on.result
-    c.in-On.is c.deref-in-On.ensures c.in_ok-below-in-On.ensures c.build_publish_on.ensures
+    let m = g.O.Ops.meaning c.args.ops.now in
+    let e = c.deref-in-On.result.now in
+    publish_on_if m c.args.hubs.now c.args.expr.now c.in-On.worker c.in-On.prefetch c.in-On.input e c.in_ok-below-in-On.below c.build_publish_on.result
+    c.in-On.is c.deref-in-On.ensures (crossed_built m c.args.hubs.now e c.build-made.result _ c.in_ok-below-in-On.below c.build-made.ensures c.in_ok-below-in-On.ensures) c.build_publish_on.ensures
 
 pub build_over-returns : goal.build_over-returns
 build_over-returns g t c =
@@ -99,8 +102,8 @@ pub build_inputs-returns-in_ok-beside-in-Some : goal.build_inputs-returns-in_ok-
 build_inputs-returns-in_ok-beside-in-Some g t c =
     let m = g.O.Ops.meaning c.args.ops.now in
     let k = c.in-Some.ensures.cases in
-    in_front_built m c.args.hubs.now c.args.exprs.now c.in-Some.first.now c.in-Some.others.now c.build.result c.in_ok-beside-in-Some.beside c.in_front.result
-    k.0 c.build.ensures c.in_ok-beside-in-Some.ensures c.in_front.ensures
+    in_front_built m c.args.hubs.now c.args.exprs.now c.in-Some.first.now c.in-Some.others.now c.crossed-below.result c.in_ok-beside-in-Some.beside c.in_front.result
+    k.0 (crossed_if m c.args.hubs.now c.in-Some.first.now c.build-made.result _ c.crossed-below.result c.build-made.ensures c.crossed-below.ensures) c.in_ok-beside-in-Some.ensures c.in_front.ensures
 
 pub build_over-build_inputs-requires : goal.build_over-build_inputs-requires
 build_over-build_inputs-requires g t c κs within = (search rules, (search rules, (search rules, (search rules, (search rules, (search rules, c.requires.faultless))))))
@@ -110,7 +113,7 @@ build_inputs-build_inputs-requires g t c κs within =
     let l = split (length c.args.hubs.now) c.args.exprs.now c.in-Some.first.now c.in-Some.others.now c.in-Some.ensures.cases.0 c.requires in
     (search (rules, l.fewer), (search rules, (search rules, (search rules, (search rules, (search rules, l.behind))))))
 
-pub build_inputs-build-requires : goal.build_inputs-build-requires
-build_inputs-build-requires g t c κs within =
+pub build_inputs-build-made-requires : goal.build_inputs-build-made-requires
+build_inputs-build-made-requires g t c κs within =
     let l = split (length c.args.hubs.now) c.args.exprs.now c.in-Some.first.now c.in-Some.others.now c.in-Some.ensures.cases.0 c.requires in
     (search (rules, l.smaller), (search rules, (search rules, (search rules, (search rules, (search rules, l.here))))))
