@@ -8,7 +8,8 @@ use Rattle.rsx_types.specs.Meaning.{Meaning}
 use Rattle.rsx_types.specs.Stream.{Stream}
 
 -- over the values of the hubs, each live subscriber got what it asked for whose expression reads no hub, or each of whose nodes that
--- reads a hub and offers nothing has got all that was published there
+-- reads a hub has got all that was published there, where it offers nothing, though more is asked over its edge than it sent, and
+-- can make no step
 pub record IsServed {T : Type 0} (m : Meaning T) (g : Rows T) (h : History T) : Type 0 where
   pub published : List (Stream T)
   pub values : AreValues m g.feeds [] h.hubs published

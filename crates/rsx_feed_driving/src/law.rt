@@ -12,7 +12,8 @@ use rsx_types::Ops;
 /// Idle means delivered: wherever the rows of a graph stand for a history and no move is enabled, each live subscriber got the first
 /// items of its expression's value over the values of the hubs, as many as it asked for or as there are; and the ending too, where
 /// it asked for more than there are and the value has one. So of an expression that reads no hub, and of one each of whose nodes
-/// that reads a hub and offers nothing has got all that was published there. It holds as long as no edge has carried 2^63-1 items.
+/// that reads a hub has got all that was published there, unless it offers something, can make a step, or nothing more is asked of
+/// it. It holds as long as no edge has carried 2^63-1 items.
 ///
 /// [`crate::pump`] answers Idle only where no move is enabled. The function does nothing; its contract is the sentence.
 pub fn idle_means_delivered<O: Ops>()

@@ -154,7 +154,7 @@ idle_served {T} m budget old new before after p joins feed_joins regions k idle 
     let P : Pumped → Type 0 = λ q. HasEnded m budget (length k.0) new (Ok q) in
     λ h s. rows_served m new h s.rows (subst P idle k.1).1
 
--- and each node that reads a hub and offers nothing has got all that was published there, where each hub in front of which a signal waits
+-- and each node that reads a hub and is at rest has got all that was published there, where each hub in front of which a signal waits
 -- has one reader at most
 pub idle_read : {T : Type 0} (m : Meaning T) (budget : ℕ) (old new : Rows T) (before after : Delivered T) (p : Pumped) (joins feed_joins : List (List ℕ)) (regions : List ℕ) → length new.hubs ≤ MOST_HUBS → driving.HasPumped m budget old before (Ok p) new after → p ≡ Idle →
     IsAllRead m (record { rows = new; joins = joins; feed_joins = feed_joins; regions = regions })

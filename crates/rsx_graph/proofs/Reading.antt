@@ -1,4 +1,4 @@
--- Where each hub in front of which a signal waits has one reader at most, each node that reads a hub and offers nothing has got all that
+-- Where each hub in front of which a signal waits has one reader at most, each node that reads a hub and is at rest has got all that
 -- was published there: either the hub took in its whole value, or each node that reads it offers something.
 use Rattle.std.proofs.Common.{◌≡◌, ◌⊎◌, inl, inr, ℕ, zero, suc, ◌+◌, ◌-◌, ◌<◌, ◌≤◌, min, Bool, true, false, ◌&&◌, ◌||◌, nat_eq, nat_le, if◌then◌else◌, List, [], ◌∷◌, ◌++◌, length, length-append, take, drop, map, slice_get, Option, Some, None, option_map, refl, sym, ap, ◌∙◌, subst, arith, append_assoc}
 use Rattle.std.specs.Option.{is_none, is_some}
@@ -61,7 +61,7 @@ use Rattle.rsx_types.specs.declared.signal.Signal.TheVariants.{Next, Complete, E
 use Rattle.rsx_graph.specs.Read.{AreFeedsWithin, HasOneReader, HaveAllRead, IsFeedWithin, WaitForOne, feed_waits, waits_at}
 use Rattle.rsx_graph.proofs.Held.{AllOffer, AllOfferIn, IsHeld, Offers, PartOffers, feed_offers, sub_offers}
 
--- ---- each node that reads a hub and offers nothing has got all that was published there
+-- ---- each node that reads a hub and is at rest has got all that was published there
 
 open_count : (e : Ending) (n c : ℕ) → Some (count_before e n) ≡ Some (Some c) → (e ≡ Open) × (n ≡ c)
 open_count Open n c h = (refl, cc)

@@ -50,7 +50,8 @@ AreFeedsWithin (f ∷ fs) = IsFeedWithin f × AreFeedsWithin fs
 
 -- ---- what is read
 
--- over the values of the hubs: each node of a subscription that reads a hub and offers nothing has got all that was published there
+-- over the values of the hubs: each node of a subscription that reads a hub has got all that was published there, where it offers
+-- nothing, though more is asked over its edge than it sent, and can make no step
 abbrev pub HaveAllRead : {T : Type 0} → Meaning T → Rows T → History T → Type 0
 HaveAllRead {T} m g h = (published : List (Stream T)) → AreValues m g.feeds [] h.hubs published → AllHaveRead m published g.subs
 

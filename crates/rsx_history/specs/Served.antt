@@ -10,8 +10,8 @@ use Rattle.rsx_subscriber.specs.Holds.{IsServed}
 use Rattle.rsx_subscriber.specs.Past.{Past, IsLive}
 use Rattle.rsx_subscriber.specs.Stands.{evaluated}
 
--- a subscriber's expression reads no hub, or each node of its tree that reads one and offers nothing has got all that was published
--- there
+-- a subscriber's expression reads no hub, or each node of its tree that reads one has got all that was published there, where it
+-- offers nothing, though more is asked over its edge than it sent, and can make no step
 abbrev pub HasGotAll : {T : Type 0} → Meaning T → List (Stream T) → Subscription T → Past T → Type 0
 HasGotAll m published s p = (p.joins ≡ []) ⊎ HasReadAll m published s.part
 
@@ -24,7 +24,8 @@ AllServed {T} m published (s ∷ ss) (p ∷ ps) =
 AllServed m published [] (p ∷ ps) = ⊥
 AllServed m published (s ∷ ss) [] = ⊥
 
--- each node that reads a hub and offers nothing has got all that was published there
+-- each node that reads a hub has got all that was published there, where it offers nothing, though more is asked over its edge than
+-- it sent, and can make no step
 abbrev pub AllHaveRead : {T : Type 0} → Meaning T → List (Stream T) → List (Subscription T) → Type 0
 AllHaveRead m published [] = Unit {0}
 AllHaveRead m published (s ∷ ss) = HasReadAll m published s.part × AllHaveRead m published ss
