@@ -27,12 +27,12 @@ pub enum NodeMove {
 }
 
 impl<M: Machine> Inputs<M> {
-    ghost use Rattle.std.specs.Prelude.{◌≡◌, ◌+◌, ◌<◌, ◌≤◌, ◌^◌, ℕ, IfSome, IfNone, true};
+    ghost use Rattle.std.specs.Prelude.{◌≡◌, ◌+◌, ◌<◌, ◌≤◌, ◌^◌, ℕ, IfSome, IfNone, Some, None, true};
     ghost use Rattle.rsx_types.specs.Meaning.{Meaning};
     ghost use Rattle.rsx_tree.specs.Driven.{IsRestAt, IsRowIdle};
     ghost use Rattle.rsx_tree.specs.Inputs.{place, can_ask_in, can_send_in};
     ghost use Rattle.rsx_tree.specs.Look.{IsEnabledIn};
-    ghost use Rattle.rsx_tree.specs.Stepped.{can_pick_in, can_row_in, station};
+    ghost use Rattle.rsx_tree.specs.Stepped.{can_pick_in, can_row_in, over, station};
 
     /// Whether an Ask over the edge `at` is enabled, where the first edge is input `input` of `receiver`.
     pub fn can_ask(&self, receiver: &M, input: u64, asked: u64, sent: u64, at: u32) -> bool
@@ -110,6 +110,26 @@ impl<M: Machine> Inputs<M> {
                     return beside.can_row(at - 1 - inside);
                 }
                 below.can_row(at - 1)
+            }
+        }
+    }
+
+    /// The node `at` of the row, with its edge; none where the row has fewer nodes.
+    pub fn node(&self, at: u32) -> Option<(&Edge, &M)>
+        ensures some { IfSome result (λ found. station self.now at ≡ Some (over found.0.now found.1.now)) }
+        ensures none { IfNone result (station self.now at ≡ None) }
+    {
+        match self {
+            Inputs::End => None,
+            Inputs::More(edge, machine, below, beside) => {
+                if at == 0 {
+                    return Some((edge, machine));
+                }
+                let inside = below.count_up_to(at);
+                if at > inside {
+                    return beside.node(at - 1 - inside);
+                }
+                below.node(at - 1)
             }
         }
     }
@@ -193,7 +213,7 @@ impl<M: Machine> Inputs<M> {
 impl<M: Machine> Node<M> {
     ghost use Rattle.std.specs.Prelude.{◌≡◌};
     ghost use Rattle.rsx_types.specs.Meaning.{Meaning};
-    ghost use Rattle.std.specs.Prelude.{IfSome, IfNone, Some, true};
+    ghost use Rattle.std.specs.Prelude.{IfSome, IfNone, Some, None, true};
     ghost use Rattle.rsx_tree.specs.Driven.{IsIdle};
     ghost use Rattle.rsx_tree.specs.Edges.{edge_view};
     ghost use Rattle.rsx_tree.specs.Look.{IsStepEnabled};
@@ -231,6 +251,17 @@ impl<M: Machine> Node<M> {
         ensures none { IfNone result (IsStill M.Machine (Some (over root.now self.now.machine))) }
     {
         first_step(root, &self.machine, 0)
+    }
+
+    /// The node `at` with its edge, where the root has the number 0 and the edge `root`; none where the tree has fewer nodes.
+    pub fn node<'a>(&'a self, root: &'a Edge, at: u32) -> Option<(&'a Edge, &'a M)>
+        ensures some { IfSome result (λ found. station_of self.now (edge_view root.now) at ≡ Some (over found.0.now found.1.now)) }
+        ensures none { IfNone result (station_of self.now (edge_view root.now) at ≡ None) }
+    {
+        if at > 0 {
+            return self.inputs.node(at - 1);
+        }
+        Some((root, &self.machine))
     }
 
     /// Whether the node `at` can pick an input, where the root has the number 0 and the edge `root`.
