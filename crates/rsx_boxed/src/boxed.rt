@@ -32,6 +32,13 @@ impl<N: Drop> Boxed<N> {
         Ok(Boxed { node })
     }
 
+    /// The node, where it stands.
+    pub fn node(&self) -> &N
+        ensures { result.now ≡ self.now }
+    {
+        &self.node
+    }
+
     /// The node, out of its place.
     pub fn into_node(self) -> N
         ensures { result ≡ self }
