@@ -2,6 +2,7 @@
 pub use Rattle.rsx_build.specs.Built
 pub use Rattle.rsx_node.specs.Any
 pub mod Code
+pub mod Crossing
 pub mod Feeding
 pub mod Fetched
 pub mod Output

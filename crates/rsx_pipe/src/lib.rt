@@ -2,18 +2,21 @@
 //! Parts: trees of nodes, each with the edge from its root.
 //!
 //! - [`part`]: [`Part`], one tree with the edge from its root: every move of it, as a [`NodeMove`], and `pump`.
+//! - [`crossing`]: [`Route`], how an edge joins its two ends.
 //! - [`feeding`]: signals go over the root edge straight to a receiver, with no queue between.
 //! - [`published`]: what a hub published is handed to the nodes of a part that read it.
 //!
 //! The definitions stand in `specs/`, apart from the code: `Part` (what a part stands for, which of its moves are enabled,
 //! what they change, and what is delivered where it is idle), `Tree` (what `rsx_tree` says of the tree of a part), `Output`
-//! (what has gone out, and what was published), `Published` (what the hubs took in and handed on) and `Feeding` (what goes out
+//! (what has gone out, and what was published), `Crossing` (which edges have a queue), `Published` (what the hubs took in and handed on) and `Feeding` (what goes out
 //! where no queue is behind the root edge).
 
+pub mod crossing;
 pub mod feeding;
 pub mod part;
 pub mod published;
 
+pub use crossing::Route;
 pub use part::{Part, Pumped};
 pub use rsx_queue::SignalQueue;
 pub use rsx_tree::{Edge, EdgeState, NodeMove};

@@ -2,6 +2,7 @@ pub mod Begun
 pub mod Edits
 pub mod Fetches
 pub mod Moves
+pub mod Names
 pub mod Publishing
 pub mod Sentence
 pub mod Serving

@@ -1,5 +1,5 @@
 -- How each edit and each move keeps what a subscription stands for.
-use Rattle.std.proofs.Common.{◌≡◌, ℕ, zero, suc, ◌+◌, ◌<◌, Bool, true, false, nat_lt, List, [], ◌∷◌, ◌++◌, length, map, refl, ap, sym, ◌∙◌, subst, arith, append_assoc, length-append, ◌⊎◌, inl, inr, ℤ, pos, negsuc, int_lt, unsigned_abs, slice_index_or, Option, Some, None, Ok}
+use Rattle.std.proofs.Common.{◌≡◌, ℕ, zero, suc, ◌+◌, ◌<◌, Bool, true, false, ◌&&◌, ◌||◌, if◌then◌else◌, nat_eq, nat_lt, List, [], ◌∷◌, ◌++◌, length, map, refl, ap, sym, ◌∙◌, subst, arith, append_assoc, length-append, ◌⊎◌, inl, inr, ℤ, pos, negsuc, int_lt, unsigned_abs, slice_index_or, Option, Some, None, Ok}
 use mathlib.Core.HLevel.{⊥_prop, Π_prop}
 use Rattle.std.proofs.lemmas.Bool.Decides.{nat_tests}
 use Rattle.std.proofs.lemmas.List.{append-nil}
@@ -10,7 +10,7 @@ use Rattle.rsx_types.specs.Stream.{Stream}
 use Rattle.rsx_types.specs.declared.names.Move.{Move}
 use Rattle.rsx_types.specs.declared.names.Move.TheVariants.{Ask, Send, Take, Pick, Row, Accept}
 use Rattle.rsx_types.specs.declared.names.SubId.{SubId}
-use Rattle.rsx_types.specs.declared.names.Tree.TheVariants.{Sub}
+use Rattle.rsx_types.specs.declared.names.Tree.TheVariants.{Sub, Feed}
 use Rattle.rsx_types.specs.declared.signal.Signal.{Signal}
 use Rattle.rsx_types.specs.declared.signal.Signal.TheVariants.{Next, Complete, Error}
 use Rattle.rsx_node.specs.Any.{any_machine}
@@ -18,6 +18,9 @@ use Rattle.rsx_tree.specs.Edges.{closed_view}
 use Rattle.rsx_tree.specs.Reads.{IsTreeReadAt}
 use Rattle.rsx_pipe.specs.Part.{PartStands, IsPutOut, all_edges}
 use Rattle.rsx_pipe.specs.Part as Part
+use Rattle.rsx_pipe.specs.Crossing.{route, route_below}
+use Rattle.rsx_pipe.specs.declared.crossing.Route.{Route}
+use Rattle.rsx_pipe.specs.declared.crossing.Route.TheVariants.{Straight, Queued}
 use Rattle.rsx_pipe.specs.Tree.{IsAllClosed, edges}
 use Rattle.rsx_tree.specs.declared.edge.EdgeState.TheVariants.{Live, Closed}
 use Rattle.rsx_tree.specs.declared.look.NodeMove.{NodeMove}
@@ -37,8 +40,9 @@ use Rattle.rsx_subscriber.specs.declared.state.SubscriptionState.{SubscriptionSt
 use Rattle.rsx_subscriber.specs.declared.state.SubscriptionState.TheVariants.{Open, Ended, Cancelled, Refused}
 use Rattle.rsx_subscriber.specs.Past.{Past, items_in, IsUnended, IsOrderly, IsPrefixOf, IsLive, cancelled, cancelled_state, state_after, refused, requested, requested_in, given, asked_more}
 use Rattle.rsx_subscriber.specs.Pumped.{IsPumped, IsMoved, IsQuiet, IsAwake, IsRest, HasRested, Leads, given_all, to}
-use Rattle.rsx_subscriber.specs.Stands.{Stands, take_enabled, IsInside, IsKeptBeside, IsWorked, IsEffect, IsTake, move_enabled_in, standing_of, enabled_inside}
-use Rattle.rsx_subscriber.specs.Moves.{node_move}
+use Rattle.rsx_subscriber.specs.Stands.{Stands, take_enabled, IsInside, IsKeptBeside, IsMadeAnswer, IsTakeAnswer, IsWorked, IsWorkedBy, IsEffect, IsTake, inner_move, move_enabled_in, standing_of, enabled_inside}
+use Rattle.rsx_subscriber.specs.Moves.{inside_node, name_of, node_move, tree_of}
+use Rattle.rsx_subscriber.proofs.Names.{name_move, name_node}
 
 pub IsLive-open : (s : SubscriptionState) → s ≡ Open → IsLive s
 IsLive-open s e = rw e tt
@@ -419,38 +423,71 @@ pumped_more {T} m id n k s1 s2 s3 o1 o2 o3 a b =
 
 -- ---- the moves of a part
 
+or_second : (a b : Bool) → b ≡ true → a || b ≡ true
+or_second true b e = refl
+or_second false b e = e
+
+-- the effect of a move of a part
+worked_by : {T : Type 0} (m : Meaning T) (step : NodeMove) (old new : Subscription T) (out : List (Signal T)) → IsKeptBeside old new → new.queue ≡ old.queue ++ out → Part.IsEffect m step old.part out new.part → IsWorkedBy m (Some step) old new
+worked_by m (NodeAsk n) old new out r queued e = record { edges = e.1; queue = queued ∙ (ap (λ l. old.queue ++ l) e.0 ∙ append-nil old.queue); kept = r }
+worked_by m (NodeSend n) old new out r queued e = record { out = out; edges = e; queue = queued; kept = r }
+worked_by m (NodePick n input) old new out r queued e = record { part = e.1; queue = queued ∙ (ap (λ l. old.queue ++ l) e.0 ∙ append-nil old.queue); kept = r }
+worked_by m (NodeRow n) old new out r queued e = record { part = e.1; queue = queued ∙ (ap (λ l. old.queue ++ l) e.0 ∙ append-nil old.queue); kept = r }
+
+-- a move of a part has the name that its edge gives it
+part_name : {T : Type 0} → SubId → AnyPart T → NodeMove → Move
+part_name id part step = name_of (route_below part (inside_node step)) (Sub id) step
+
+pub name_inner : {T : Type 0} (id : SubId) (sub : Subscription T) (step : NodeMove) → inner_move sub (part_name id sub.part step) ≡ Some step
+name_inner id sub step =
+    let r = route_below sub.part (inside_node step) in
+    ap (λ n. node_move (route_below sub.part n) (name_of r (Sub id) step)) (name_node r (Sub id) step) ∙ name_move r (Sub id) step
+
+-- such a move is inside the tree, and answers nothing
+pub record IsNamed {T : Type 0} (m : Meaning T) (id : SubId) (sub : Subscription T) (step : NodeMove) (move : Move) : Type 0 where
+  pub tree : tree_of move ≡ Sub id
+  pub enabled : Part.move_enabled m sub.part sub.queue step ≡ true → move_enabled_in m sub move ≡ true
+  pub effect : (new : Subscription T) → IsWorkedBy m (Some step) sub new → IsEffect m move sub new None
+  pub answer : IsMadeAnswer move None
+
+named_by : {T : Type 0} (m : Meaning T) (id : SubId) (sub : Subscription T) (step : NodeMove) (n : ℕ) → n ≡ inside_node step → (r : Route) → route_below sub.part n ≡ r → IsNamed m id sub step (name_of r (Sub id) step)
+named_by m id sub (NodeAsk k) n at r is = record { tree = refl; enabled = λ can. can; effect = λ new h. h; answer = refl }
+named_by m id sub (NodePick k i) n at r is = record { tree = refl; enabled = λ can. can; effect = λ new h. h; answer = refl }
+named_by {T} m id sub (NodeSend k) n at Straight is =
+    let w = ap (λ r. node_move r (Send (Sub id) (record { 0 = k }))) (ap (λ i. route_below sub.part i) (sym at) ∙ is) in
+    record { tree = refl; enabled = λ can. ap (enabled_inside m sub) w ∙ can; effect = λ new h. subst (λ o. IsWorkedBy m o sub new) (sym w) h; answer = refl }
+named_by {T} m id sub (NodeSend k) n at (Queued b) is =
+    let w = ap (λ r. node_move r (Take (Sub id) (record { 0 = k }))) (ap (λ i. route_below sub.part i) (sym at) ∙ is) in
+    record {
+      tree = refl;
+      enabled = λ can. or_second (take_enabled sub k) _ (ap (enabled_inside m sub) w ∙ can);
+      effect = λ new h. subst (λ o. IsWorkedBy m o sub new) (sym w) h;
+      answer = not_root k (nat_eq k 0) refl (ap (λ i. route_below sub.part i) (sym at) ∙ is);
+    }
+  where
+    not_root : (k : ℕ) (c : Bool) → nat_eq k 0 ≡ c → (if nat_eq k 0 then Straight else route sub.part k) ≡ Queued b → IsTakeAnswer (nat_eq k 0) id None
+    not_root k false e q = subst (λ c. IsTakeAnswer c id None) (sym e) refl
+    not_root k true e q = let no = sym (ap (λ c. if c then Straight else route sub.part k) e) ∙ q in cc
+named_by {T} m id sub (NodeRow k) n at Straight is =
+    let w = ap (λ r. node_move r (Row (Sub id) (record { 0 = k }))) (ap (λ i. route_below sub.part i) (sym at) ∙ is) in
+    record { tree = refl; enabled = λ can. ap (enabled_inside m sub) w ∙ can; effect = λ new h. subst (λ o. IsWorkedBy m o sub new) (sym w) h; answer = refl }
+named_by {T} m id sub (NodeRow k) n at (Queued true) is =
+    let w = ap (λ r. node_move r (Send (Sub id) (record { 0 = k }))) (ap (λ i. route_below sub.part i) (sym at) ∙ is) in
+    record { tree = refl; enabled = λ can. ap (enabled_inside m sub) w ∙ can; effect = λ new h. subst (λ o. IsWorkedBy m o sub new) (sym w) h; answer = refl }
+named_by {T} m id sub (NodeRow k) n at (Queued false) is =
+    let w = ap (λ r. node_move r (Row (Sub id) (record { 0 = k }))) (ap (λ i. route_below sub.part i) (sym at) ∙ is) in
+    record { tree = refl; enabled = λ can. ap (enabled_inside m sub) w ∙ can; effect = λ new h. subst (λ o. IsWorkedBy m o sub new) (sym w) h; answer = refl }
+
 -- an enabled move of a part is one of the subscription
 moved_part : {T : Type 0} (m : Meaning T) (id : SubId) (old new : Subscription T) (out : List (Signal T)) → IsKeptBeside old new → Part.IsMoved m old.part old.queue out new.part new.queue → IsMoved m id old None new
-moved_part {T} m id old new out r k = by_move k.move k.enabled k.effect
-  where
-    by_move : (move : NodeMove) → Part.move_enabled m old.part old.queue move ≡ true → Part.IsEffect m move old.part out new.part → IsMoved m id old None new
-    by_move (NodeAsk n) can e = record {
-      move = Ask (Sub id) (record { 0 = n });
-      tree = refl;
-      enabled = can;
-      effect = record { edges = e.1; queue = k.queued ∙ (ap (λ l. old.queue ++ l) e.0 ∙ append-nil old.queue); kept = r };
-      answer = refl;
-    }
-    by_move (NodeSend n) can e = record {
-      move = Send (Sub id) (record { 0 = n });
-      tree = refl;
-      enabled = can;
-      effect = record { out = out; edges = e; queue = k.queued; kept = r };
-      answer = refl;
-    }
-    by_move (NodePick n input) can e = record {
-      move = Pick (Sub id) (record { 0 = n }) input;
-      tree = refl;
-      enabled = can;
-      effect = record { part = e.1; queue = k.queued ∙ (ap (λ l. old.queue ++ l) e.0 ∙ append-nil old.queue); kept = r };
-      answer = refl;
-    }
-    by_move (NodeRow n) can e = record {
-      move = Row (Sub id) (record { 0 = n });
-      tree = refl;
-      enabled = can;
-      effect = record { part = e.1; queue = k.queued ∙ (ap (λ l. old.queue ++ l) e.0 ∙ append-nil old.queue); kept = r };
-      answer = refl;
+moved_part {T} m id old new out r k =
+    let named = named_by m id old k.move (inside_node k.move) refl (route_below old.part (inside_node k.move)) refl in
+    record {
+      move = part_name id old.part k.move;
+      tree = named.tree;
+      enabled = named.enabled k.enabled;
+      effect = named.effect new (worked_by m k.move old new out r k.queued k.effect);
+      answer = named.answer;
     }
 
 -- the subscription with another part and queue
@@ -494,29 +531,8 @@ pumped_part {T} m id n sub w part' queue' o k = record {
         }) h
 
 -- one move of the part
-pub worked_part : {T : Type 0} (m : Meaning T) (move : Move) (step : NodeMove) (old new : Subscription T) → Some step ≡ node_move move → IsKeptBeside old new → Part.IsMade m step old.part old.queue new.part new.queue → IsWorked m move old new
-worked_part {T} m (Ask t n) step old new is r h =
-    let P : NodeMove → Type 0 = λ e. Part.IsMade m e old.part old.queue new.part new.queue in
-    let same : step ≡ NodeAsk n.0 = cc in
-    let k = subst P same h in
-    record { edges = k.effect.1; queue = k.queued ∙ (ap (λ l. old.queue ++ l) k.effect.0 ∙ append-nil old.queue); kept = r }
-worked_part {T} m (Send t n) step old new is r h =
-    let P : NodeMove → Type 0 = λ e. Part.IsMade m e old.part old.queue new.part new.queue in
-    let same : step ≡ NodeSend n.0 = cc in
-    let k = subst P same h in
-    record { out = k.out; edges = k.effect; queue = k.queued; kept = r }
-worked_part m (Take t n) step old new is r h = cc
-worked_part {T} m (Pick t n i) step old new is r h =
-    let P : NodeMove → Type 0 = λ e. Part.IsMade m e old.part old.queue new.part new.queue in
-    let same : step ≡ NodePick n.0 i = cc in
-    let k = subst P same h in
-    record { part = k.effect.1; queue = k.queued ∙ (ap (λ l. old.queue ++ l) k.effect.0 ∙ append-nil old.queue); kept = r }
-worked_part {T} m (Row t n) step old new is r h =
-    let P : NodeMove → Type 0 = λ e. Part.IsMade m e old.part old.queue new.part new.queue in
-    let same : step ≡ NodeRow n.0 = cc in
-    let k = subst P same h in
-    record { part = k.effect.1; queue = k.queued ∙ (ap (λ l. old.queue ++ l) k.effect.0 ∙ append-nil old.queue); kept = r }
-worked_part m (Accept i) step old new is r h = cc
+pub worked_part : {T : Type 0} (m : Meaning T) (move : Move) (step : NodeMove) (old new : Subscription T) → Some step ≡ inner_move old move → IsKeptBeside old new → Part.IsMade m step old.part old.queue new.part new.queue → IsWorked m move old new
+worked_part m move step old new is r h = subst (λ o. IsWorkedBy m o old new) is (worked_by m step old new h.out r h.queued h.effect)
 
 pub stands_made : {T : Type 0} (m : Meaning T) (step : NodeMove) (published : List (Stream T)) (old new : Subscription T) (past : Past T) → IsKeptBeside old new → Part.move_enabled m old.part old.queue step ≡ true → Part.IsMade m step old.part old.queue new.part new.queue → Stands m published old past → Stands m published new past
 stands_made m step published old new past r can k h =
@@ -593,19 +609,32 @@ rest_quiet {T} m old new same e q =
 
 -- ---- moves inside a tree
 
+not_first : (n : ℕ) → 0 < n → nat_eq n 0 ≡ false
+not_first n h = grind (arith, nat_tests)
+
 -- a move inside a tree is enabled where it is one of the part
-pub inside_enabled : {T : Type 0} (m : Meaning T) (sub : Subscription T) (mv : Move) → IsInside mv → enabled_inside m sub (node_move mv) ≡ move_enabled_in m sub mv
+pub inside_enabled : {T : Type 0} (m : Meaning T) (sub : Subscription T) (mv : Move) → IsInside mv → enabled_inside m sub (inner_move sub mv) ≡ move_enabled_in m sub mv
 inside_enabled m sub (Ask t n) h = refl
 inside_enabled m sub (Send t n) h = refl
-inside_enabled m sub (Take t n) h = absurd h
+inside_enabled m sub (Take t n) h = ap (λ c. (c && delivers sub.state sub.demand sub.queue) || enabled_inside m sub (inner_move sub (Take t n))) (sym (not_first n.0 h))
 inside_enabled m sub (Pick t n i) h = refl
 inside_enabled m sub (Row t n) h = refl
 inside_enabled m sub (Accept i) h = absurd h
 
-pub inside_effect : {T : Type 0} (m : Meaning T) (mv : Move) (old new : Subscription T) → IsWorked m mv old new → IsEffect m mv old new None
-inside_effect m (Ask t n) old new h = h
-inside_effect m (Send t n) old new h = h
-inside_effect m (Take t n) old new h = absurd h
-inside_effect m (Pick t n i) old new h = h
-inside_effect m (Row t n) old new h = h
-inside_effect m (Accept i) old new h = absurd h
+pub inside_effect : {T : Type 0} (m : Meaning T) (mv : Move) (old new : Subscription T) → IsInside mv → IsWorked m mv old new → IsEffect m mv old new None
+inside_effect m (Ask t n) old new i h = h
+inside_effect m (Send t n) old new i h = h
+inside_effect m (Take t n) old new i h = h
+inside_effect m (Pick t n k) old new i h = h
+inside_effect m (Row t n) old new i h = h
+inside_effect m (Accept k) old new i h = absurd i
+
+-- and it answers nothing
+pub inside_answer : (mv : Move) → IsInside mv → IsMadeAnswer mv None
+inside_answer (Ask t n) i = refl
+inside_answer (Send t n) i = refl
+inside_answer (Take (Sub k) n) i = subst (λ c. IsTakeAnswer c k None) (sym (not_first n.0 i)) refl
+inside_answer (Take (Feed h) n) i = refl
+inside_answer (Pick t n k) i = refl
+inside_answer (Row t n) i = refl
+inside_answer (Accept k) i = absurd i

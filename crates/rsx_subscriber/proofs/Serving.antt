@@ -1,5 +1,5 @@
 -- Where no move of a subscription is enabled, what was asked for was delivered.
-use Rattle.std.proofs.Common.{◌≡◌, ◌<◌, ◌≤◌, Bool, true, false, ◌&&◌, nat_eq, List, [], ◌∷◌, ◌++◌, length, Some, refl, sym, ap, ◌∙◌, subst, arith}
+use Rattle.std.proofs.Common.{◌≡◌, ◌<◌, ◌≤◌, Bool, true, false, ◌&&◌, ◌||◌, nat_eq, List, [], ◌∷◌, ◌++◌, length, Option, Some, None, refl, sym, ap, ◌∙◌, subst, arith}
 use Rattle.std.proofs.lemmas.List.{append-nil}
 use Rattle.rsx_types.specs.Meaning.{Meaning}
 use Rattle.rsx_types.specs.Stream.{Stream}
@@ -7,11 +7,14 @@ use Rattle.rsx_types.specs.declared.limits.TheConstants.{CAPACITY}
 use Rattle.rsx_types.specs.declared.names.Move.{Move}
 use Rattle.rsx_types.specs.declared.names.Move.TheVariants.{Ask, Send, Take, Pick, Row, Accept}
 use Rattle.rsx_types.specs.declared.signal.Signal.{Signal}
-use Rattle.rsx_tree.specs.declared.look.NodeMove.TheVariants.{Ask as NodeAsk, Send as NodeSend, Pick as NodePick, Row as NodeRow}
+use Rattle.rsx_tree.specs.declared.look.NodeMove.{NodeMove}
+use Rattle.rsx_tree.specs.declared.look.NodeMove.TheVariants.{Ask as NodeAsk, Pick as NodePick}
 use Rattle.rsx_pipe.specs.Tree.{IsWithin}
 use Rattle.rsx_model.proofs.Unfold.{sound}
 use Rattle.rsx_model.specs.declared.check.TheConstants.{MOST_NODES}
+use Rattle.rsx_pipe.specs.Crossing.{route_below}
 use Rattle.rsx_pipe.specs.Part.{HasReadAll, all_edges}
+use Rattle.rsx_pipe.specs.Part as Part
 use Rattle.rsx_pipe.specs.Tree.{notes_of}
 use Rattle.rsx_pipe.proofs.Parts.{delivered}
 use Rattle.rsx_subscriber.specs.declared.state.SubscriptionState.{SubscriptionState}
@@ -20,8 +23,9 @@ use Rattle.rsx_subscriber.specs.declared.subscription.Subscription.{Subscription
 use Rattle.rsx_subscriber.specs.Holds.{IsServed}
 use Rattle.rsx_subscriber.specs.Past.{Past, IsLive, IsUnended}
 use Rattle.rsx_subscriber.specs.Pumped.{IsQuiet}
-use Rattle.rsx_subscriber.specs.Stands.{Stands, evaluated, move_enabled_in, take_enabled, standing_of, values_then}
-use Rattle.rsx_subscriber.specs.Moves.{IsNumbered}
+use Rattle.rsx_subscriber.specs.Stands.{Stands, enabled_inside, evaluated, inner_move, move_enabled_in, take_enabled, standing_of, values_then}
+use Rattle.rsx_subscriber.specs.Moves.{IsNumbered, node_of}
+use Rattle.rsx_subscriber.proofs.Names.{numbered_inside}
 use Rattle.rsx_subscriber.proofs.Moves.{take_queued}
 
 never : (b : Bool) → b ≡ true → b ≡ false → ⊥
@@ -67,11 +71,23 @@ and_false : (a b : Bool) → b ≡ false → a && b ≡ false
 and_false true b e = e
 and_false false b e = refl
 
+-- no move of the part that is named is enabled
+quiet_inside : {T : Type 0} (m : Meaning T) (sub : Subscription T) (o : Option NodeMove) → ((step : NodeMove) → o ≡ Some step → Part.IsNumbered step) → Part.IsQuiet m sub.part sub.queue → enabled_inside m sub o ≡ false
+quiet_inside m sub None l q = refl
+quiet_inside m sub (Some step) l q = q step (l step refl)
+
+inner_quiet : {T : Type 0} (m : Meaning T) (sub : Subscription T) (mv : Move) → IsNumbered mv → IsQuiet m sub → enabled_inside m sub (inner_move sub mv) ≡ false
+inner_quiet m sub mv l h = quiet_inside m sub (inner_move sub mv) (λ step e. numbered_inside (route_below sub.part (node_of mv)) mv step e l) h.0
+
+neither : (a b : Bool) → a ≡ false → b ≡ false → a || b ≡ false
+neither true b x y = cc
+neither false b x y = y
+
 -- no move that is named is enabled
 pub quiet_move : {T : Type 0} (m : Meaning T) (sub : Subscription T) (mv : Move) → IsNumbered mv → IsQuiet m sub → move_enabled_in m sub mv ≡ false
 quiet_move m sub (Ask t n) l h = h.0 (NodeAsk n.0) l
-quiet_move m sub (Send t n) l h = h.0 (NodeSend n.0) l
-quiet_move m sub (Take t n) l h = and_false (nat_eq n.0 0) _ h.1
+quiet_move m sub (Send t n) l h = inner_quiet m sub (Send t n) l h
+quiet_move m sub (Take t n) l h = neither (take_enabled sub n.0) _ (and_false (nat_eq n.0 0) _ h.1) (inner_quiet m sub (Take t n) l h)
 quiet_move m sub (Pick t n i) l h = h.0 (NodePick n.0 i) l
-quiet_move m sub (Row t n) l h = h.0 (NodeRow n.0) l
+quiet_move m sub (Row t n) l h = inner_quiet m sub (Row t n) l h
 quiet_move m sub (Accept i) l h = refl

@@ -1,9 +1,11 @@
--- The tree and the node that a move of a graph names.
-use Rattle.std.specs.Prelude.{◌<◌, ◌^◌, Option, Some, None}
+-- The tree and the node that a move of a graph names, and which move inside the tree that is.
+use Rattle.std.specs.Prelude.{◌<◌, ◌^◌, ℕ, true, false, Option, Some, None}
 use Rattle.rsx_types.specs.declared.names.Move.{Move}
 use Rattle.rsx_types.specs.declared.names.Move.TheVariants.{Ask, Send, Take, Pick, Row, Accept}
 use Rattle.rsx_types.specs.declared.names.Tree.{Tree}
 use Rattle.rsx_types.specs.declared.names.Tree.TheVariants.{Feed}
+use Rattle.rsx_pipe.specs.declared.crossing.Route.{Route}
+use Rattle.rsx_pipe.specs.declared.crossing.Route.TheVariants.{Straight, Queued}
 use Rattle.rsx_tree.specs.declared.look.NodeMove.{NodeMove}
 use Rattle.rsx_tree.specs.declared.look.NodeMove.TheVariants.{Ask as NodeAsk, Send as NodeSend, Pick as NodePick, Row as NodeRow}
 
@@ -16,6 +18,15 @@ tree_of (Pick t n i) = t
 tree_of (Row t n) = t
 tree_of (Accept h) = Feed h
 
+-- the node in that tree, whose output edge has the same number
+abbrev pub node_of : Move → ℕ
+node_of (Ask t n) = n.0
+node_of (Send t n) = n.0
+node_of (Take t n) = n.0
+node_of (Pick t n i) = n.0
+node_of (Row t n) = n.0
+node_of (Accept h) = 0
+
 -- the numbers that a move names are numbers of a node, of an input, or of a hub
 abbrev pub IsNumbered : Move → Type 0
 IsNumbered (Ask t n) = n.0 < 2 ^ 32
@@ -25,11 +36,55 @@ IsNumbered (Pick t n i) = (n.0 < 2 ^ 32) × (i < 2 ^ 64)
 IsNumbered (Row t n) = n.0 < 2 ^ 32
 IsNumbered (Accept h) = h.0 < 2 ^ 32
 
--- the move inside that tree, where it is one: a Take is from the queue behind the tree, and an Accept is a hub's
-abbrev pub node_move : Move → Option NodeMove
-node_move (Ask t n) = Some (NodeAsk n.0)
-node_move (Send t n) = Some (NodeSend n.0)
-node_move (Take t n) = None
-node_move (Pick t n i) = Some (NodePick n.0 i)
-node_move (Row t n) = Some (NodeRow n.0)
-node_move (Accept h) = None
+-- ---- the move inside the tree, where the edge of the named node goes so
+
+-- a Send of the node `n`: over a straight edge, or into the queue of an edge that crosses. The queue belongs to the node, so to the
+-- tree that is a row of the node
+abbrev pub send_by : Route → ℕ → Option NodeMove
+send_by Straight n = Some (NodeSend n)
+send_by (Queued true) n = Some (NodeRow n)
+send_by (Queued false) n = None
+
+-- a Take out of that queue, by which a signal goes over the edge of the tree
+abbrev pub take_by : Route → ℕ → Option NodeMove
+take_by Straight n = None
+take_by (Queued b) n = Some (NodeSend n)
+
+-- a row of the node itself; a node makes none while it has a signal to send
+abbrev pub row_by : Route → ℕ → Option NodeMove
+row_by Straight n = Some (NodeRow n)
+row_by (Queued true) n = None
+row_by (Queued false) n = Some (NodeRow n)
+
+-- none where the move is no move inside the tree: an Accept is a hub's
+abbrev pub node_move : Route → Move → Option NodeMove
+node_move r (Ask t n) = Some (NodeAsk n.0)
+node_move r (Send t n) = send_by r n.0
+node_move r (Take t n) = take_by r n.0
+node_move r (Pick t n i) = Some (NodePick n.0 i)
+node_move r (Row t n) = row_by r n.0
+node_move r (Accept h) = None
+
+-- ---- the name of a move inside the tree
+
+abbrev pub send_as : Route → Tree → ℕ → Move
+send_as Straight t n = Send t (record { 0 = n })
+send_as (Queued b) t n = Take t (record { 0 = n })
+
+abbrev pub row_as : Route → Tree → ℕ → Move
+row_as Straight t n = Row t (record { 0 = n })
+row_as (Queued true) t n = Send t (record { 0 = n })
+row_as (Queued false) t n = Row t (record { 0 = n })
+
+abbrev pub name_of : Route → Tree → NodeMove → Move
+name_of r t (NodeAsk n) = Ask t (record { 0 = n })
+name_of r t (NodeSend n) = send_as r t n
+name_of r t (NodePick n i) = Pick t (record { 0 = n }) i
+name_of r t (NodeRow n) = row_as r t n
+
+-- the node of such a move
+abbrev pub inside_node : NodeMove → ℕ
+inside_node (NodeAsk n) = n
+inside_node (NodeSend n) = n
+inside_node (NodePick n i) = n
+inside_node (NodeRow n) = n

@@ -1,5 +1,5 @@
 -- What a subscription stands for, its enabled moves, and what a move changes.
-use Rattle.std.specs.Prelude.{◌≡◌, ℕ, Bool, false, ◌&&◌, nat_eq, List, [], ◌∷◌, ◌++◌, length, map, Option, Some, None, option_map}
+use Rattle.std.specs.Prelude.{◌≡◌, ℕ, ◌<◌, Bool, true, false, ◌&&◌, ◌||◌, nat_eq, List, [], ◌∷◌, ◌++◌, length, map, Option, Some, None, option_map}
 use Rattle.rsx_types.specs.Meaning.{Meaning, Allocates}
 use Rattle.rsx_types.specs.Notes.{unchosen}
 use Rattle.rsx_types.specs.Stream.{Stream, signals_then, ended_by}
@@ -17,15 +17,17 @@ use Rattle.rsx_model.specs.Check.{refusal}
 use Rattle.rsx_model.specs.Shape.{nodes, leaves}
 use Rattle.rsx_pipe.specs.Part.{PartStands, all_edges}
 use Rattle.rsx_pipe.specs.Part as Part
+use Rattle.rsx_pipe.specs.Crossing.{route_below}
 use Rattle.rsx_pipe.specs.Tree.{comes_out, notes_of, IsAllClosed}
 use Rattle.rsx_tree.specs.declared.edge.EdgeState.TheVariants.{Live, Closed}
 use Rattle.rsx_tree.specs.declared.look.NodeMove.{NodeMove}
+use Rattle.rsx_tree.specs.declared.look.NodeMove.TheVariants.{Ask as NodeAsk, Send as NodeSend, Pick as NodePick, Row as NodeRow}
 use Rattle.rsx_subscriber.specs.declared.state.SubscriptionState.{SubscriptionState}
 use Rattle.rsx_subscriber.specs.declared.state.SubscriptionState.TheVariants.{Open, Ended, Cancelled, Refused}
 use Rattle.rsx_subscriber.specs.declared.subscription.Subscription.{Subscription}
 use Rattle.rsx_subscription.specs.Table.{cell_of, state_after, asked_after, sent_after}
 use Rattle.rsx_subscriber.specs.Standing.{standing, live_in, delivers, input_of}
-use Rattle.rsx_subscriber.specs.Moves.{node_move}
+use Rattle.rsx_subscriber.specs.Moves.{node_move, node_of}
 use Rattle.rsx_subscriber.specs.Past.{Past, IsLive, items_in, IsUnended, IsOrderly, IsPrefixOf}
 
 -- the expression of a subscriber, evaluated from scratch over the hubs' values, under its joins and these notes
@@ -99,18 +101,22 @@ send_enabled m sub at = Part.send_enabled m sub.part sub.queue at
 abbrev pub take_enabled : {T : Type 0} → Subscription T → ℕ → Bool
 take_enabled sub at = nat_eq at 0 && delivers sub.state sub.demand sub.queue
 
-abbrev pub move_enabled_in : {T : Type 0} → Meaning T → Subscription T → Move → Bool
-move_enabled_in m sub (Ask t n) = ask_enabled sub n.0
-move_enabled_in m sub (Send t n) = send_enabled m sub n.0
-move_enabled_in m sub (Take t n) = take_enabled sub n.0
-move_enabled_in m sub (Pick t n i) = Part.pick_enabled sub.part n.0 i
-move_enabled_in m sub (Row t n) = Part.row_enabled sub.part n.0
-move_enabled_in m sub (Accept h) = false
-
--- a move of the part is enabled; a Take isn't one of them
+-- a move of the part is enabled
 abbrev pub enabled_inside : {T : Type 0} → Meaning T → Subscription T → Option NodeMove → Bool
 enabled_inside m sub None = false
 enabled_inside m sub (Some e) = Part.move_enabled m sub.part sub.queue e
+
+-- the move of the part that a move names; the queue of the root edge is the subscription's own
+abbrev pub inner_move : {T : Type 0} → Subscription T → Move → Option NodeMove
+inner_move sub mv = node_move (route_below sub.part (node_of mv)) mv
+
+abbrev pub move_enabled_in : {T : Type 0} → Meaning T → Subscription T → Move → Bool
+move_enabled_in m sub (Ask t n) = ask_enabled sub n.0
+move_enabled_in m sub (Send t n) = enabled_inside m sub (inner_move sub (Send t n))
+move_enabled_in m sub (Take t n) = take_enabled sub n.0 || enabled_inside m sub (inner_move sub (Take t n))
+move_enabled_in m sub (Pick t n i) = Part.pick_enabled sub.part n.0 i
+move_enabled_in m sub (Row t n) = enabled_inside m sub (inner_move sub (Row t n))
+move_enabled_in m sub (Accept h) = false
 
 -- whether it may allocate, where these of the caller's functions may
 abbrev pub allocates_inside : {T : Type 0} → Allocates → Subscription T → Option NodeMove → Bool
@@ -118,7 +124,7 @@ allocates_inside a sub None = false
 allocates_inside a sub (Some e) = Part.make_allocates a sub.part e
 
 abbrev pub make_allocates : {T : Type 0} → Allocates → Subscription T → Move → Bool
-make_allocates a sub mv = allocates_inside a sub (node_move mv)
+make_allocates a sub mv = allocates_inside a sub (inner_move sub mv)
 
 -- ---- what the looks answer
 
@@ -164,23 +170,26 @@ pub record IsRowMade {T : Type 0} (old : Subscription T) (at : ℕ) (new : Subsc
   pub queue : new.queue ≡ old.queue
   pub kept : IsKeptBeside old new
 
--- a move inside a tree
+-- a move inside a tree: each but the Take of the root, which delivers
 abbrev pub IsInside : Move → Type 0
 IsInside (Ask t n) = Unit {0}
 IsInside (Send t n) = Unit {0}
-IsInside (Take t n) = ⊥
+IsInside (Take t n) = 0 < n.0
 IsInside (Pick t n i) = Unit {0}
 IsInside (Row t n) = Unit {0}
 IsInside (Accept h) = ⊥
 
+-- the effect of a move of the part
+abbrev pub IsWorkedBy : {T : Type 0} → Meaning T → Option NodeMove → Subscription T → Subscription T → Type 0
+IsWorkedBy m None old new = ⊥
+IsWorkedBy m (Some (NodeAsk n)) old new = IsAsk old n new
+IsWorkedBy m (Some (NodeSend n)) old new = IsSend m old n new
+IsWorkedBy m (Some (NodePick n i)) old new = IsPicked old n i new
+IsWorkedBy m (Some (NodeRow n)) old new = IsRowMade old n new
+
 -- the effect of a move inside a tree
 abbrev pub IsWorked : {T : Type 0} → Meaning T → Move → Subscription T → Subscription T → Type 0
-IsWorked m (Ask t n) old new = IsAsk old n.0 new
-IsWorked m (Send t n) old new = IsSend m old n.0 new
-IsWorked m (Take t n) old new = ⊥
-IsWorked m (Pick t n i) old new = IsPicked old n.0 i new
-IsWorked m (Row t n) old new = IsRowMade old n.0 new
-IsWorked m (Accept h) old new = ⊥
+IsWorked m mv old new = IsWorkedBy m (inner_move old mv) old new
 
 -- a Take: the front signal left the queue, no edge changed, and the subscription stands as the table says; an item is
 -- counted as delivered
@@ -192,22 +201,27 @@ pub record IsTake {T : Type 0} (old : Subscription T) (s : Signal T) (new : Subs
   pub requested : new.demand.asked ≡ asked_after (cell_of old.state (input_of s)) old.demand
   pub delivered : new.demand.sent ≡ sent_after (cell_of old.state (input_of s)) old.demand
 
--- a move's effect on the subscription in which it was made
+-- a move's effect on the subscription in which it was made: a Take delivers a signal, or is one inside the tree
 abbrev pub IsEffect : {T : Type 0} → Meaning T → Move → Subscription T → Subscription T → Option (SubId × Signal T) → Type 0
-IsEffect m (Ask t n) old new o = IsAsk old n.0 new
-IsEffect m (Send t n) old new o = IsSend m old n.0 new
-IsEffect m (Take t n) old new None = ⊥
+IsEffect m (Ask t n) old new o = IsWorked m (Ask t n) old new
+IsEffect m (Send t n) old new o = IsWorked m (Send t n) old new
+IsEffect m (Take t n) old new None = IsWorked m (Take t n) old new
 IsEffect m (Take t n) old new (Some d) = IsTake old d.1 new
-IsEffect m (Pick t n i) old new o = IsPicked old n.0 i new
-IsEffect m (Row t n) old new o = IsRowMade old n.0 new
+IsEffect m (Pick t n i) old new o = IsWorked m (Pick t n i) old new
+IsEffect m (Row t n) old new o = IsWorked m (Row t n) old new
 IsEffect m (Accept h) old new o = ⊥
 
--- what a move that was made answers: a Take from a root edge hands its signal on
+-- what a Take answers: that of a root hands its signal on
+abbrev pub IsTakeAnswer : {T : Type 0} → Bool → SubId → Option (SubId × Signal T) → Type 0
+IsTakeAnswer {T} true i o = (s : Signal T) × (o ≡ Some (i, s))
+IsTakeAnswer false i o = o ≡ None
+
+-- what a move that was made answers
 abbrev pub IsMadeAnswer : {T : Type 0} → Move → Option (SubId × Signal T) → Type 0
 IsMadeAnswer (Ask t n) o = o ≡ None
 IsMadeAnswer (Send t n) o = o ≡ None
-IsMadeAnswer {T} (Take (Sub i) n) o = (s : Signal T) × (o ≡ Some (i, s))
-IsMadeAnswer (Take (Feed h) n) o = ⊥
+IsMadeAnswer (Take (Sub i) n) o = IsTakeAnswer (nat_eq n.0 0) i o
+IsMadeAnswer (Take (Feed h) n) o = o ≡ None
 IsMadeAnswer (Pick t n i) o = o ≡ None
 IsMadeAnswer (Row t n) o = o ≡ None
 IsMadeAnswer (Accept h) o = o ≡ None

@@ -5,14 +5,14 @@ ghost use Rattle.rsx_types.specs.Stream.{signals_then};
 ghost use Rattle.rsx_subscription.specs.declared.State.TheVariants.{Fresh};
 ghost use Rattle.rsx_subscription.specs.Table.{answer, asked_after, cell_of, sent_after, state_after};
 ghost use Rattle.rsx_subscriber.specs.Standing.{input_of, is_delivery};
-ghost use Rattle.rsx_subscriber.specs.Moves.{node_move};
 
 use crate::deliveries::Deliveries;
+use crate::moves::{node_move, node_of};
 use crate::state::SubscriptionState;
 use rsx_demand::Demand;
 use rsx_hub::Hub;
 use rsx_model::Expr;
-use rsx_pipe::{EdgeState, NodeMove, Part, Pumped, SignalQueue};
+use rsx_pipe::{EdgeState, Part, Pumped, SignalQueue};
 use rsx_sources::NotMade;
 use rsx_subscription::{Effect, Input, State, step};
 use rsx_types::{Cause, Ending, Move, NoMemory, Note, Ops, Signal, StreamValue, SubId};
@@ -51,8 +51,7 @@ impl<T: Drop> Subscription<T> {
     ghost use Rattle.rsx_pipe.specs.Part.{all_edges, IsPutOut, pump_allocates};
     ghost use Rattle.rsx_pipe.specs.Tree.{notes_of, IsAllClosed};
     ghost use Rattle.rsx_subscriber.specs.Past.{subscribed, cancelled, requested, given, request_answer, Past};
-    ghost use Rattle.rsx_subscriber.specs.Stands.{Stands, StandsAfter, standing_of, take_enabled, enabled_inside, make_allocates, IsWorked, IsTake, IsStillOwed};
-    ghost use Rattle.rsx_subscriber.specs.Moves.{node_move};
+    ghost use Rattle.rsx_subscriber.specs.Stands.{Stands, StandsAfter, standing_of, take_enabled, enabled_inside, inner_move, make_allocates, IsWorked, IsTake, IsStillOwed};
     ghost use Rattle.rsx_subscriber.specs.Begun.{IsFresh};
     ghost use Rattle.rsx_subscriber.specs.Delivered.{IsFull};
     ghost use Rattle.rsx_subscriber.specs.Edited.{IsRequested, IsCancelled};
@@ -196,7 +195,8 @@ impl<T: Drop> Subscription<T> {
         delivers(&mut state, &mut demand, self.queue.at(0))
     }
 
-    /// Makes the move Ask, Send, Pick or Row of a node.
+    /// Makes the move Ask, Send, Take, Pick or Row of a node. A Take is from the queue of the node's edge, where that crosses to another
+    /// region; that of the root delivers, and is made by [`Subscription::take`].
     ///
     /// # Errors
     /// [`NotMade::NotEnabled`] exactly where the move isn't enabled, and [`NotMade::NoMemory`] where a growth was refused, of a
@@ -208,13 +208,14 @@ impl<T: Drop> Subscription<T> {
         step: Move,
     ) -> Result<(), NotMade>
         ensures stands { OnOk result (StandsAfter (O.meaning ops.now) (λ past. past) self.old self.new) }
-        ensures enabled { OnOk result (enabled_inside (O.meaning ops.now) self.old (node_move step) ≡ true) }
+        ensures enabled { OnOk result (enabled_inside (O.meaning ops.now) self.old (inner_move self.old step) ≡ true) }
         ensures effect { OnOk result (IsWorked (O.meaning ops.now) step self.old self.new) }
-        ensures err { IfErr result (IsNotMade (enabled_inside (O.meaning ops.now) self.old (node_move step))) }
+        ensures err { IfErr result (IsNotMade (enabled_inside (O.meaning ops.now) self.old (inner_move self.old step))) }
         ensures memory { make_allocates (O.allocates ops.now) self.old step ≡ false → OnlyNotEnabled result }
         ensures same { OnErr result (self.new ≡ self.old) }
     {
-        let Some(inside) = node_move(step) else {
+        let route = self.part.route_below(node_of(step));
+        let Some(inside) = node_move(step, route) else {
             return Err(NotMade::NotEnabled);
         };
         match self.part.make(alloc, ops, inside, &mut self.queue) {
@@ -485,20 +486,6 @@ impl<T: Drop> Subscription<T> {
     {
         let rest = self.part.residual(alloc, ops, inboxes)?;
         behind(alloc, ops, &self.queue, rest)
-    }
-}
-
-/// The move inside the tree that a move names, which the graph has looked up. A Take isn't one: it is from the queue behind
-/// the tree; and neither is an Accept, which is a hub's.
-fn node_move(step: Move) -> Option<NodeMove>
-    ensures { result ≡ node_move step }
-{
-    match step {
-        Move::Ask(_, node) => Some(NodeMove::Ask(node.0)),
-        Move::Send(_, node) => Some(NodeMove::Send(node.0)),
-        Move::Pick(_, node, input) => Some(NodeMove::Pick(node.0, input)),
-        Move::Row(_, node) => Some(NodeMove::Row(node.0)),
-        Move::Take(_, _) | Move::Accept(_) => None,
     }
 }
 

@@ -1,0 +1,62 @@
+-- A move inside a tree and its name.
+use Rattle.std.proofs.Common.{◌≡◌, ⊤, Bool, true, false, refl, subst, Option, Some, None}
+use Rattle.rsx_types.specs.declared.names.Move.{Move}
+use Rattle.rsx_types.specs.declared.names.Move.TheVariants.{Ask, Send, Take, Pick, Row, Accept}
+use Rattle.rsx_types.specs.declared.names.Tree.{Tree}
+use Rattle.rsx_pipe.specs.Part as Part
+use Rattle.rsx_pipe.specs.declared.crossing.Route.{Route}
+use Rattle.rsx_pipe.specs.declared.crossing.Route.TheVariants.{Straight, Queued}
+use Rattle.rsx_tree.specs.declared.look.NodeMove.{NodeMove}
+use Rattle.rsx_tree.specs.declared.look.NodeMove.TheVariants.{Ask as NodeAsk, Send as NodeSend, Pick as NodePick, Row as NodeRow}
+use Rattle.rsx_subscriber.specs.Moves.{IsNumbered, inside_node, name_of, node_move, node_of, tree_of}
+
+-- ---- what a name says
+
+pub name_tree : (r : Route) (t : Tree) (s : NodeMove) → tree_of (name_of r t s) ≡ t
+name_tree r t (NodeAsk n) = refl
+name_tree Straight t (NodeSend n) = refl
+name_tree (Queued b) t (NodeSend n) = refl
+name_tree r t (NodePick n i) = refl
+name_tree Straight t (NodeRow n) = refl
+name_tree (Queued true) t (NodeRow n) = refl
+name_tree (Queued false) t (NodeRow n) = refl
+
+pub name_node : (r : Route) (t : Tree) (s : NodeMove) → node_of (name_of r t s) ≡ inside_node s
+name_node r t (NodeAsk n) = refl
+name_node Straight t (NodeSend n) = refl
+name_node (Queued b) t (NodeSend n) = refl
+name_node r t (NodePick n i) = refl
+name_node Straight t (NodeRow n) = refl
+name_node (Queued true) t (NodeRow n) = refl
+name_node (Queued false) t (NodeRow n) = refl
+
+pub name_move : (r : Route) (t : Tree) (s : NodeMove) → node_move r (name_of r t s) ≡ Some s
+name_move r t (NodeAsk n) = refl
+name_move Straight t (NodeSend n) = refl
+name_move (Queued b) t (NodeSend n) = refl
+name_move r t (NodePick n i) = refl
+name_move Straight t (NodeRow n) = refl
+name_move (Queued true) t (NodeRow n) = refl
+name_move (Queued false) t (NodeRow n) = refl
+
+-- ---- a move inside a tree has the numbers of its name
+
+abbrev AreNumbered : Option NodeMove → Type 0
+AreNumbered None = ⊤
+AreNumbered (Some s) = Part.IsNumbered s
+
+all_numbered : (r : Route) (mv : Move) → IsNumbered mv → AreNumbered (node_move r mv)
+all_numbered r (Ask t n) h = h
+all_numbered Straight (Send t n) h = h
+all_numbered (Queued true) (Send t n) h = h
+all_numbered (Queued false) (Send t n) h = tt
+all_numbered Straight (Take t n) h = tt
+all_numbered (Queued b) (Take t n) h = h
+all_numbered r (Pick t n i) h = h
+all_numbered Straight (Row t n) h = h
+all_numbered (Queued true) (Row t n) h = tt
+all_numbered (Queued false) (Row t n) h = h
+all_numbered r (Accept i) h = tt
+
+pub numbered_inside : (r : Route) (mv : Move) (s : NodeMove) → node_move r mv ≡ Some s → IsNumbered mv → Part.IsNumbered s
+numbered_inside r mv s e h = subst AreNumbered e (all_numbered r mv h)
