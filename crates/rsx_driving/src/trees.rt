@@ -3,6 +3,7 @@
 ghost use Rattle.std.specs.Prelude.{◌≡◌, ◌≢◌, length, List, None, Some, true, false, OnOk, OnErr, IfOk, IfErr};
 ghost use Rattle.rsx_types.specs.Meaning.{Meaning};
 ghost use Rattle.rsx_types.specs.Stream.{Stream};
+ghost use Rattle.rsx_subscriber.specs.Moves.{delivery};
 ghost use Rattle.rsx_subscriber.specs.Past.{Past, given};
 ghost use Rattle.rsx_subscriber.specs.Stands.{IsInside};
 ghost use Rattle.rsx_history.specs.History.{IsTreeMoveRefusal, changed};
@@ -11,10 +12,10 @@ ghost use Rattle.rsx_history.specs.Stands.{AllStand, IsMadeAt, allocates_at, ena
 use rsx_history::Refusal;
 use rsx_sources::NotMade;
 use rsx_subscriber::Subscription;
-use rsx_types::{Move, NodeId, Ops, Signal, SubId, Tree};
+use rsx_types::{Move, Ops, Signal, SubId, Tree};
 use std::alloc::Global;
 
-/// Makes an Ask, a Send, a Pick or a Row in the tree of a subscription.
+/// Makes an Ask, a Send, a Pick or a Row in the tree of a subscription, or a Take from the queue of an edge below its root.
 ///
 /// # Errors
 /// G2 for a subscription that isn't there, else G7 exactly where the move isn't enabled, and G8 where a growth was refused, of a
@@ -48,22 +49,21 @@ pub fn make_in_tree<O: Ops>(
     }
 }
 
-/// Makes the Take from the queue of a subscription. It takes no memory.
+/// Makes the Take from the queue of a subscription, which is that of its root edge. It takes no memory.
 ///
 /// # Errors
 /// G2 for a subscription that isn't there, else G7 exactly where the move isn't enabled; nothing changed.
 pub fn take<T: Drop>(
     subscriptions: &mut Vec<Subscription<T>>,
     sub: SubId,
-    node: NodeId,
 ) -> Result<Signal<T>, Refusal>
     ensures count { length subscriptions.new.items ≡ length subscriptions.old.items }
     ensures stands { IfOk result (λ s. (m : Meaning T) (published : List (Stream T)) (pasts : List (Past T)) →
         AllStand m published subscriptions.old.items pasts → AllStand m published subscriptions.new.items (changed (given s) pasts sub.0)) }
-    ensures enabled { OnOk result ((m : Meaning T) → enabled_at m subscriptions.old.items sub.0 (Move.Take (Tree.Sub sub) node) ≡ true) }
-    ensures effect { IfOk result (λ s. (m : Meaning T) → IsMadeAt m (Move.Take (Tree.Sub sub) node) sub.0 subscriptions.old.items subscriptions.new.items (Some (sub, s))) }
+    ensures enabled { OnOk result ((m : Meaning T) → enabled_at m subscriptions.old.items sub.0 (delivery sub) ≡ true) }
+    ensures effect { IfOk result (λ s. (m : Meaning T) → IsMadeAt m (delivery sub) sub.0 subscriptions.old.items subscriptions.new.items (Some (sub, s))) }
     ensures err { IfErr result (λ r. (m : Meaning T) →
-        IsTreeMoveRefusal (length subscriptions.old.items) (enabled_at m subscriptions.old.items sub.0 (Move.Take (Tree.Sub sub) node)) (Tree.Sub sub) r) }
+        IsTreeMoveRefusal (length subscriptions.old.items) (enabled_at m subscriptions.old.items sub.0 (delivery sub)) (Tree.Sub sub) r) }
     ensures memory { IfErr result (λ r. r ≢ Refusal.NoMemory) }
     ensures same { OnErr result (subscriptions.new.items ≡ subscriptions.old.items) }
 {
@@ -72,7 +72,7 @@ pub fn take<T: Drop>(
         return Err(Refusal::UnknownSub);
     }
     let subscription = &mut subscriptions[at];
-    match subscription.take(node.0) {
+    match subscription.take(0) {
         Some(signal) => Ok(signal),
         None => Err(Refusal::NotEnabled),
     }

@@ -16,7 +16,6 @@ use Rattle.rsx_subscriber.specs.Pumped.{Leads}
 use Rattle.rsx_subscriber.specs.Stands.{IsMadeAnswer}
 use Rattle.rsx_subscriber.specs.declared.subscription.Subscription.{Subscription}
 use Rattle.rsx_tree.proofs.Alike.{or_left, or_right}
-use Rattle.rsx_tree.specs.declared.look.NodeMove.TheVariants.{Ask as NodeAsk, Send as NodeSend, Pick as NodePick, Row as NodeRow}
 use Rattle.rsx_types.specs.Meaning.{Meaning}
 use Rattle.rsx_types.specs.declared.names.Move.{Move}
 use Rattle.rsx_types.specs.declared.names.Move.TheVariants.{Ask, Send, Take, Pick, Row, Accept}
@@ -24,7 +23,7 @@ use Rattle.rsx_types.specs.declared.names.SubId.{SubId}
 use Rattle.rsx_types.specs.declared.names.Tree.TheVariants.{Sub, Feed as FeedOf}
 use Rattle.rsx_types.specs.declared.signal.Signal.{Signal}
 use Rattle.rsx_feed_driving.specs.Moves.{IsMoved, is_enabled, sent}
-use Rattle.rsx_feed_driving.proofs.Named.{unfed_quiet}
+use Rattle.rsx_feed_driving.proofs.Named.{quiet_feed, unfed_quiet}
 use Rattle.rsx_feed_driving.specs.Pumped.{AreHubsQuiet, AreMade, IsAllQuiet, IsAnyAwake, IsHubQuiet, IsMoveMade, LeadTo, Made, after_moves, delivered_by}
 
 -- ---- one list of moves behind another
@@ -203,11 +202,11 @@ rows_quiet m g quiet none (Send (Sub i) n) small = all_quiet m g.subs (length g.
 rows_quiet m g quiet none (Take (Sub i) n) small = all_quiet m g.subs (length g.subs) (omega arith) quiet (Take (Sub i) n) small
 rows_quiet m g quiet none (Pick (Sub i) n k) small = all_quiet m g.subs (length g.subs) (omega arith) quiet (Pick (Sub i) n k) small
 rows_quiet m g quiet none (Row (Sub i) n) small = all_quiet m g.subs (length g.subs) (omega arith) quiet (Row (Sub i) n) small
-rows_quiet m g quiet none (Ask (FeedOf h) n) small = (hub_quiet m g none h.0).feed (NodeAsk n.0) small
-rows_quiet m g quiet none (Send (FeedOf h) n) small = (hub_quiet m g none h.0).feed (NodeSend n.0) small
-rows_quiet m g quiet none (Take (FeedOf h) n) small = refl
-rows_quiet m g quiet none (Pick (FeedOf h) n k) small = (hub_quiet m g none h.0).feed (NodePick n.0 k) small
-rows_quiet m g quiet none (Row (FeedOf h) n) small = (hub_quiet m g none h.0).feed (NodeRow n.0) small
+rows_quiet m g quiet none (Ask (FeedOf h) n) small = quiet_feed m g h.0 (Ask (FeedOf h) n) small (hub_quiet m g none h.0)
+rows_quiet m g quiet none (Send (FeedOf h) n) small = quiet_feed m g h.0 (Send (FeedOf h) n) small (hub_quiet m g none h.0)
+rows_quiet m g quiet none (Take (FeedOf h) n) small = quiet_feed m g h.0 (Take (FeedOf h) n) small (hub_quiet m g none h.0)
+rows_quiet m g quiet none (Pick (FeedOf h) n k) small = quiet_feed m g h.0 (Pick (FeedOf h) n k) small (hub_quiet m g none h.0)
+rows_quiet m g quiet none (Row (FeedOf h) n) small = quiet_feed m g h.0 (Row (FeedOf h) n) small (hub_quiet m g none h.0)
 rows_quiet m g quiet none (Accept h) small = (hub_quiet m g none h.0).accept
 
 pub rows_awake : {T : Type 0} (m : Meaning T) (g : Rows T) → IsSubAwake m g.subs → IsAnyAwake m g

@@ -6,7 +6,6 @@ use Rattle.rsx_feeding.specs.Stands.{Rows}
 use Rattle.rsx_pipe.proofs.Signals.{some_same}
 use Rattle.rsx_publishing.specs.Publishing.{AllFeedsHanded}
 use Rattle.rsx_publishing.specs.declared.feed.Feed.{Feed}
-use Rattle.rsx_subscriber.specs.Moves.{node_move}
 use Rattle.rsx_tree.specs.declared.look.NodeMove.{NodeMove}
 use Rattle.rsx_types.specs.Meaning.{Meaning}
 use Rattle.rsx_types.specs.declared.names.Move.{Move}
@@ -15,7 +14,7 @@ use Rattle.rsx_types.specs.declared.names.SubId.{SubId}
 use Rattle.rsx_types.specs.declared.names.Tree.{Tree}
 use Rattle.rsx_types.specs.declared.names.Tree.TheVariants.{Sub, Feed as FeedOf}
 use Rattle.rsx_types.specs.declared.signal.Signal.{Signal}
-use Rattle.rsx_feed_driving.specs.Moves.{IsMoved, IsMovedInFeed, IsMovedInTree}
+use Rattle.rsx_feed_driving.specs.Moves.{IsMoved, IsMovedInFeed, IsMovedInTree, feed_move}
 use Rattle.rsx_feed_driving.specs.Pumped.{LeadTo, Made}
 
 -- the hub of each feed
@@ -68,7 +67,7 @@ inside_keep m (Some step) n old new k = feed_moved_keep m step n old new k
 
 tree_keep : {T : Type 0} (m : Meaning T) (mv : Move) (t : Tree) (old new : Rows T) (o : Option (SubId × Signal T)) → IsMovedInTree m mv t old new o → KeepHubs old new
 tree_keep m mv (Sub i) old new o k = ap hubs_of k.2
-tree_keep m mv (FeedOf h) old new o k = inside_keep m (node_move mv) h.0 old new k
+tree_keep m mv (FeedOf h) old new o k = inside_keep m (feed_move old.feeds h.0 mv) h.0 old new k
 
 pub moved_keep : {T : Type 0} (m : Meaning T) (mv : Move) (old new : Rows T) (o : Option (SubId × Signal T)) → IsMoved m mv old new o → KeepHubs old new
 moved_keep m (Ask t n) old new o k = tree_keep m (Ask t n) t old new o k

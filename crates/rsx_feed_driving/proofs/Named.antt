@@ -3,12 +3,14 @@ use Rattle.std.proofs.Common.{◌≡◌, ℕ, ◌<◌, Bool, true, false, ◌&&�
 use Rattle.rsx_feeding.specs.Moves.{accepts_at, accepts_in, feed_enabled, has_feed, is_out, sends, sends_where, works, works_where}
 use Rattle.rsx_feeding.specs.Stands.{Rows, feed_of}
 use Rattle.rsx_hub.specs.Hub.{HubState}
+use Rattle.rsx_pipe.specs.Crossing.{route}
 use Rattle.rsx_pipe.specs.Part as Part
 use Rattle.rsx_pipe.specs.Feeding.{IsQuietInside, inside_enabled}
 use Rattle.rsx_publishing.specs.Publishing.{can_accept_with_feeds}
 use Rattle.rsx_publishing.specs.Sending.{can_feed, can_feed_at, can_feed_of}
 use Rattle.rsx_publishing.specs.declared.feed.Feed.{Feed}
-use Rattle.rsx_subscriber.specs.Moves.{node_move, tree_of}
+use Rattle.rsx_subscriber.proofs.Names.{name_move, name_node, name_tree, numbered_inside}
+use Rattle.rsx_subscriber.specs.Moves.{IsNumbered, inside_node, node_move, node_of, tree_of}
 use Rattle.rsx_subscriber.specs.Stands.{IsMadeAnswer}
 use Rattle.rsx_subscriber.specs.declared.subscription.Subscription.{Subscription}
 use Rattle.rsx_tree.specs.declared.look.NodeMove.{NodeMove}
@@ -18,32 +20,66 @@ use Rattle.rsx_types.specs.declared.names.HubId.{HubId}
 use Rattle.rsx_types.specs.declared.names.Move.{Move}
 use Rattle.rsx_types.specs.declared.names.Move.TheVariants.{Ask, Send, Take, Pick, Row, Accept}
 use Rattle.rsx_types.specs.declared.names.SubId.{SubId}
-use Rattle.rsx_types.specs.declared.names.Tree.TheVariants.{Feed as FeedOf}
+use Rattle.rsx_types.specs.declared.names.Tree.TheVariants.{Sub, Feed as FeedOf}
 use Rattle.rsx_types.specs.declared.signal.Signal.{Signal}
-use Rattle.rsx_feed_driving.specs.Moves.{enabled_in_tree, feed_move_enabled, is_enabled}
+use Rattle.rsx_feed_driving.specs.Moves.{enabled_in_tree, feed_move, feed_move_enabled, is_enabled, move_in, name_in}
 use Rattle.rsx_feed_driving.specs.Pumped.{IsHubQuiet}
 
 -- ---- a move of a feed, by its names
 
-pub enabled_named : {T : Type 0} (m : Meaning T) (g : Rows T) (h : HubId) (inside : NodeMove) (mv : Move) → tree_of mv ≡ FeedOf h → node_move mv ≡ Some inside → is_enabled m g mv ≡ feed_enabled m g h.0 inside
+no_accept : {T : Type 0} (o : Option (Feed T)) (i : HubId) → move_in o (Accept i) ≡ None
+no_accept None i = refl
+no_accept (Some f) i = refl
+
+pub enabled_named : {T : Type 0} (m : Meaning T) (g : Rows T) (h : HubId) (inside : NodeMove) (mv : Move) → tree_of mv ≡ FeedOf h → feed_move g.feeds h.0 mv ≡ Some inside → is_enabled m g mv ≡ feed_enabled m g h.0 inside
 enabled_named {T} m g h inside mv tree node = by_move mv tree node ∙ ap (λ o. feed_move_enabled m g h.0 o) node
   where
-    by_move : (mv : Move) → tree_of mv ≡ FeedOf h → node_move mv ≡ Some inside → is_enabled m g mv ≡ feed_move_enabled m g h.0 (node_move mv)
+    by_move : (mv : Move) → tree_of mv ≡ FeedOf h → feed_move g.feeds h.0 mv ≡ Some inside → is_enabled m g mv ≡ feed_move_enabled m g h.0 (feed_move g.feeds h.0 mv)
     by_move (Ask t n) e k = ap (λ t. enabled_in_tree m g t (Ask t n)) e
     by_move (Send t n) e k = ap (λ t. enabled_in_tree m g t (Send t n)) e
-    by_move (Take t n) e k = cc
+    by_move (Take t n) e k = ap (λ t. enabled_in_tree m g t (Take t n)) e
     by_move (Pick t n i) e k = ap (λ t. enabled_in_tree m g t (Pick t n i)) e
     by_move (Row t n) e k = ap (λ t. enabled_in_tree m g t (Row t n)) e
-    by_move (Accept i) e k = cc
+    by_move (Accept i) e k = let none = sym (no_accept (feed_of g.feeds h.0) i) ∙ k in cc
 
--- it delivers nothing
-pub nothing_delivered : {T : Type 0} (inside : NodeMove) (mv : Move) (o : Option (SubId × Signal T)) → node_move mv ≡ Some inside → IsMadeAnswer mv o → o ≡ None
-nothing_delivered inside (Ask t n) o e k = k
-nothing_delivered inside (Send t n) o e k = k
-nothing_delivered inside (Take t n) o e k = cc
-nothing_delivered inside (Pick t n i) o e k = k
-nothing_delivered inside (Row t n) o e k = k
-nothing_delivered inside (Accept i) o e k = k
+pub name_in_tree : {T : Type 0} (f : Feed T) (h : HubId) (inside : NodeMove) → tree_of (name_in f h inside) ≡ FeedOf h
+name_in_tree f h inside = name_tree (route f.part (inside_node inside)) (FeedOf h) inside
+
+-- the move that such a name says
+pub name_inside : {T : Type 0} (feeds : List (Feed T)) (h : HubId) (f : Feed T) (inside : NodeMove) → feed_of feeds h.0 ≡ Some f → feed_move feeds h.0 (name_in f h inside) ≡ Some inside
+name_inside feeds h f inside there =
+    let r = route f.part (inside_node inside) in
+    ap (λ o. move_in o (name_in f h inside)) there
+    ∙ (ap (λ n. node_move (route f.part n) (name_in f h inside)) (name_node r (FeedOf h) inside) ∙ name_move r (FeedOf h) inside)
+
+-- it is enabled just where that move is
+pub name_enabled : {T : Type 0} (m : Meaning T) (g : Rows T) (h : HubId) (f : Feed T) (inside : NodeMove) → feed_of g.feeds h.0 ≡ Some f → is_enabled m g (name_in f h inside) ≡ feed_enabled m g h.0 inside
+name_enabled m g h f inside there =
+    enabled_named m g h inside (name_in f h inside) (name_in_tree f h inside) (name_inside g.feeds h f inside there)
+
+-- a move of a feed delivers nothing
+pub nothing_delivered : {T : Type 0} (h : HubId) (mv : Move) (o : Option (SubId × Signal T)) → tree_of mv ≡ FeedOf h → IsMadeAnswer mv o → o ≡ None
+nothing_delivered h (Ask t n) o e k = k
+nothing_delivered h (Send t n) o e k = k
+nothing_delivered h (Take (Sub i) n) o e k = cc
+nothing_delivered h (Take (FeedOf i) n) o e k = k
+nothing_delivered h (Pick t n i) o e k = k
+nothing_delivered h (Row t n) o e k = k
+nothing_delivered h (Accept i) o e k = k
+
+-- ---- a quiet hub
+
+-- no move of its feed that is named is enabled
+quiet_named : {T : Type 0} (m : Meaning T) (g : Rows T) (h : ℕ) (o : Option NodeMove) → ((step : NodeMove) → o ≡ Some step → Part.IsNumbered step) → IsHubQuiet m g h → feed_move_enabled m g h o ≡ false
+quiet_named m g h None small q = refl
+quiet_named m g h (Some step) small q = q.feed step (small step refl)
+
+numbered_in : {T : Type 0} (o : Option (Feed T)) (mv : Move) → IsNumbered mv → (step : NodeMove) → move_in o mv ≡ Some step → Part.IsNumbered step
+numbered_in None mv small step e = cc
+numbered_in (Some f) mv small step e = numbered_inside (route f.part (node_of mv)) mv step e small
+
+pub quiet_feed : {T : Type 0} (m : Meaning T) (g : Rows T) (h : ℕ) (mv : Move) → IsNumbered mv → IsHubQuiet m g h → feed_move_enabled m g h (feed_move g.feeds h mv) ≡ false
+quiet_feed m g h mv small q = quiet_named m g h (feed_move g.feeds h mv) (λ step e. numbered_in (feed_of g.feeds h) mv small step e) q
 
 -- ---- a hub with an emitter
 

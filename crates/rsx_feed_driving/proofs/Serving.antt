@@ -1,5 +1,5 @@
 -- Where no move of a graph with feeds is enabled, what was asked for was delivered.
-use Rattle.std.proofs.Common.{◌≡◌, ◌⊎◌, inl, inr, ℕ, zero, suc, ◌-◌, Bool, true, false, List, [], ◌∷◌, Option, Some, None, slice_get, refl, sym, ap, ◌∙◌, arith}
+use Rattle.std.proofs.Common.{◌≡◌, ◌⊎◌, inl, inr, ℕ, zero, suc, ◌-◌, Bool, true, false, ◌||◌, List, [], ◌∷◌, Option, Some, None, slice_get, refl, sym, ap, ◌∙◌, arith}
 use Rattle.rsx_feeding.proofs.Values.{values_of}
 use Rattle.rsx_feeding.specs.History.{History}
 use Rattle.rsx_feeding.specs.Stands.{Rows, StandsFor}
@@ -13,23 +13,27 @@ use Rattle.rsx_pipe.specs.Part as Part
 use Rattle.rsx_pipe.specs.Part.{HasReadAll}
 use Rattle.rsx_sources.specs.Reading.{Reading}
 use Rattle.rsx_sources.specs.declared.machine.Machine.{Ghosts as Machine}
+use Rattle.rsx_pipe.specs.Crossing.{route_below}
+use Rattle.rsx_subscriber.proofs.Moves.{part_name, part_named}
+use Rattle.rsx_subscriber.proofs.Names.{numbered_name}
 use Rattle.rsx_subscriber.proofs.Serving.{served}
+use Rattle.rsx_subscriber.specs.Moves.{IsNumbered, delivery, inside_node, tree_of}
 use Rattle.rsx_subscriber.specs.Past.{Past}
 use Rattle.rsx_subscriber.specs.Pumped.{IsQuiet}
-use Rattle.rsx_subscriber.specs.Stands.{Stands, move_enabled_in}
+use Rattle.rsx_subscriber.specs.Stands.{Stands, move_enabled_in, take_enabled}
 use Rattle.rsx_subscriber.specs.declared.subscription.Subscription.{Subscription}
 use Rattle.rsx_tree.specs.Edges.{is_live}
 use Rattle.rsx_tree.specs.Reads.{IsReadAt, IsRowReadAt, IsTreeReadAt}
 use Rattle.rsx_tree.specs.Rests.{HasReadAll as HasNodeReadAll, HaveReadAll, NothingBehind, TreeHasReadAll}
 use Rattle.rsx_tree.specs.declared.inputs.Inputs.{Inputs, End, More'}
 use Rattle.rsx_tree.specs.declared.node.Node.{Node}
-use Rattle.rsx_tree.specs.declared.look.NodeMove.TheVariants.{Ask as NodeAsk, Send as NodeSend, Pick as NodePick, Row as NodeRow}
 use Rattle.rsx_types.specs.Meaning.{Meaning}
 use Rattle.rsx_types.specs.Stream.{Stream}
 use Rattle.rsx_types.specs.declared.names.Move.{Move}
-use Rattle.rsx_types.specs.declared.names.Move.TheVariants.{Ask, Send, Take, Pick, Row}
-use Rattle.rsx_types.specs.declared.names.Tree.{Tree}
+use Rattle.rsx_types.specs.declared.names.Move.TheVariants.{Ask, Send, Take, Pick, Row, Accept}
+use Rattle.rsx_types.specs.declared.names.SubId.{SubId}
 use Rattle.rsx_types.specs.declared.names.Tree.TheVariants.{Sub}
+use Rattle.rsx_feed_driving.specs.Moves.{enabled_in_tree, is_enabled}
 use Rattle.rsx_feed_driving.specs.Pumped.{IsAllQuiet}
 use Rattle.rsx_feed_driving.specs.Served.{IsServed}
 
@@ -38,17 +42,38 @@ enabled_got m [] i sub mv e = cc
 enabled_got m (s ∷ subs) zero sub mv e = ap (λ t. move_enabled_in m t mv) (some_same s sub e)
 enabled_got m (s ∷ subs) (suc i) sub mv e = past_first (move_enabled_in m s mv) (enabled_at m subs (suc i - 1) mv) i ∙ (ap (λ k. enabled_at m subs k mv) (suc_less i) ∙ enabled_got m subs i sub mv e)
 
-quiet_got : {T : Type 0} (m : Meaning T) (g : Rows T) (i : ℕ) (sub : Subscription T) → IsAllQuiet m g → slice_get g.subs i ≡ Some sub → IsQuiet m sub
-quiet_got {T} m g i sub q e = (in_part, sym (enabled_got m g.subs i sub (Take tree (record { 0 = 0 })) e) ∙ q (Take tree (record { 0 = 0 })) (omega arith))
-  where
-    tree : Tree
-    tree = Sub (record { 0 = i })
+-- a move in the tree of a subscription is enabled where it is so there
+in_tree : {T : Type 0} (m : Meaning T) (g : Rows T) (i : SubId) (mv : Move) → tree_of mv ≡ Sub i → is_enabled m g mv ≡ enabled_at m g.subs i.0 mv
+in_tree m g i (Ask t n) e = ap (λ k. enabled_in_tree m g k (Ask t n)) e
+in_tree m g i (Send t n) e = ap (λ k. enabled_in_tree m g k (Send t n)) e
+in_tree m g i (Take t n) e = ap (λ k. enabled_in_tree m g k (Take t n)) e
+in_tree m g i (Pick t n input) e = ap (λ k. enabled_in_tree m g k (Pick t n input)) e
+in_tree m g i (Row t n) e = ap (λ k. enabled_in_tree m g k (Row t n)) e
+in_tree m g i (Accept h) e = cc
 
+not_on : (b : Bool) → (b ≡ true → ⊥) → b ≡ false
+not_on true h = absurd (h refl)
+not_on false h = refl
+
+first_off : (a b : Bool) → a || b ≡ false → a ≡ false
+first_off true b e = cc
+first_off false b e = refl
+
+quiet_got : {T : Type 0} (m : Meaning T) (g : Rows T) (i : ℕ) (sub : Subscription T) → IsAllQuiet m g → slice_get g.subs i ≡ Some sub → IsQuiet m sub
+quiet_got {T} m g i sub q e = (in_part, first_off (take_enabled sub 0) _ (sym (enabled_got m g.subs i sub (delivery id) e) ∙ q (delivery id) (omega arith)))
+  where
+    id : SubId
+    id = record { 0 = i }
+
+    off : (mv : Move) → tree_of mv ≡ Sub id → IsNumbered mv → move_enabled_in m sub mv ≡ false
+    off mv own small = sym (enabled_got m g.subs i sub mv e) ∙ (sym (in_tree m g id mv own) ∙ q mv small)
+
+    -- each move of the part has a name
     in_part : Part.IsQuiet m sub.part sub.queue
-    in_part (NodeAsk n) l = sym (enabled_got m g.subs i sub (Ask tree (record { 0 = n })) e) ∙ q (Ask tree (record { 0 = n })) l
-    in_part (NodeSend n) l = sym (enabled_got m g.subs i sub (Send tree (record { 0 = n })) e) ∙ q (Send tree (record { 0 = n })) l
-    in_part (NodePick n k) l = sym (enabled_got m g.subs i sub (Pick tree (record { 0 = n }) k) e) ∙ q (Pick tree (record { 0 = n }) k) l
-    in_part (NodeRow n) l = sym (enabled_got m g.subs i sub (Row tree (record { 0 = n })) e) ∙ q (Row tree (record { 0 = n })) l
+    in_part step l =
+        let named = part_named m id sub step in
+        let none = off (part_name id sub.part step) named.tree (numbered_name (route_below sub.part (inside_node step)) (Sub id) step l) in
+        not_on (Part.move_enabled m sub.part sub.queue step) (λ can. let on = named.enabled can in cc)
 
 -- ---- a tree that reads no hub
 

@@ -1,14 +1,16 @@
 -- Any move of a graph with feeds: when it is enabled, and what it changes.
 use Rattle.std.specs.Prelude.{◌≡◌, ℕ, Bool, true, false, List, length, Option, Some, None}
 use Rattle.rsx_feeding.specs.Moves.{IsAcceptedAt, IsFeedMoved, IsFeedRefusal, accepts_at, feed_allocates, feed_enabled, has_feed, sent_by}
-use Rattle.rsx_feeding.specs.Stands.{Rows}
+use Rattle.rsx_feeding.specs.Stands.{Rows, feed_of}
 use Rattle.rsx_history.specs.History.{IsAcceptRefusal, IsTreeMoveRefusal}
 use Rattle.rsx_history.specs.Stands.{IsMadeAt, allocates_at, enabled_at}
 use Rattle.rsx_history.specs.declared.refusal.Refusal.{Refusal}
 use Rattle.rsx_publishing.specs.declared.feed.Feed.{Feed}
-use Rattle.rsx_subscriber.specs.Moves.{node_move}
+use Rattle.rsx_pipe.specs.Crossing.{route}
+use Rattle.rsx_subscriber.specs.Moves.{inside_node, name_of, node_move, node_of}
 use Rattle.rsx_tree.specs.declared.look.NodeMove.{NodeMove}
 use Rattle.rsx_types.specs.Meaning.{Meaning, Allocates}
+use Rattle.rsx_types.specs.declared.names.HubId.{HubId}
 use Rattle.rsx_types.specs.declared.names.Move.{Move}
 use Rattle.rsx_types.specs.declared.names.Move.TheVariants.{Ask, Send, Take, Pick, Row, Accept}
 use Rattle.rsx_types.specs.declared.names.SubId.{SubId}
@@ -18,14 +20,26 @@ use Rattle.rsx_types.specs.declared.signal.Signal.{Signal}
 
 -- ---- when it is enabled
 
--- a move in the tree of a feed: there is no queue from which one could be taken
+-- the move inside its part that a move of a feed names
+abbrev pub move_in : {T : Type 0} → Option (Feed T) → Move → Option NodeMove
+move_in None mv = None
+move_in (Some f) mv = node_move (route f.part (node_of mv)) mv
+
+abbrev pub feed_move : {T : Type 0} → List (Feed T) → ℕ → Move → Option NodeMove
+feed_move feeds h mv = move_in (feed_of feeds h) mv
+
+-- the name of a move inside that part
+abbrev pub name_in : {T : Type 0} → Feed T → HubId → NodeMove → Move
+name_in f h inside = name_of (route f.part (inside_node inside)) (FeedOf h) inside
+
+-- a move in the tree of a feed
 abbrev pub feed_move_enabled : {T : Type 0} → Meaning T → Rows T → ℕ → Option NodeMove → Bool
 feed_move_enabled m g h None = false
 feed_move_enabled m g h (Some step) = feed_enabled m g h step
 
 abbrev pub enabled_in_tree : {T : Type 0} → Meaning T → Rows T → Tree → Move → Bool
 enabled_in_tree m g (Sub i) mv = enabled_at m g.subs i.0 mv
-enabled_in_tree m g (FeedOf h) mv = feed_move_enabled m g h.0 (node_move mv)
+enabled_in_tree m g (FeedOf h) mv = feed_move_enabled m g h.0 (feed_move g.feeds h.0 mv)
 
 abbrev pub is_enabled : {T : Type 0} → Meaning T → Rows T → Move → Bool
 is_enabled m g (Ask t n) = enabled_in_tree m g t (Ask t n)
@@ -43,7 +57,7 @@ feed_move_allocates a feeds h (Some step) = feed_allocates a feeds h step
 
 abbrev pub allocates_in_tree : {T : Type 0} → Allocates → Rows T → Tree → Move → Bool
 allocates_in_tree a g (Sub i) mv = allocates_at a g.subs i.0 mv
-allocates_in_tree a g (FeedOf h) mv = feed_move_allocates a g.feeds h.0 (node_move mv)
+allocates_in_tree a g (FeedOf h) mv = feed_move_allocates a g.feeds h.0 (feed_move g.feeds h.0 mv)
 
 -- an Accept may always, since it makes copies for the nodes that read its hub
 abbrev pub may_allocate : {T : Type 0} → Allocates → Rows T → Move → Bool
@@ -62,7 +76,7 @@ sent_by_feed m g h (Some step) = sent_by m g step h
 
 abbrev pub sent_in_tree : {T : Type 0} → Meaning T → Rows T → Tree → Move → Option (Signal T)
 sent_in_tree m g (Sub i) mv = None
-sent_in_tree m g (FeedOf h) mv = sent_by_feed m g h.0 (node_move mv)
+sent_in_tree m g (FeedOf h) mv = sent_by_feed m g h.0 (feed_move g.feeds h.0 mv)
 
 abbrev pub sent : {T : Type 0} → Meaning T → Rows T → Move → Option (Signal T)
 sent m g (Ask t n) = sent_in_tree m g t (Ask t n)
@@ -82,7 +96,7 @@ IsMovedInFeed m (Some step) h old new = IsFeedMoved m step h old new
 -- a move in the tree of a subscription changes nothing else
 abbrev pub IsMovedInTree : {T : Type 0} → Meaning T → Move → Tree → Rows T → Rows T → Option (SubId × Signal T) → Type 0
 IsMovedInTree m mv (Sub i) old new o = IsMadeAt m mv i.0 old.subs new.subs o × (new.hubs ≡ old.hubs) × (new.feeds ≡ old.feeds)
-IsMovedInTree m mv (FeedOf h) old new o = IsMovedInFeed m (node_move mv) h.0 old new
+IsMovedInTree m mv (FeedOf h) old new o = IsMovedInFeed m (feed_move old.feeds h.0 mv) h.0 old new
 
 -- what a move changes, where it delivers this
 abbrev pub IsMoved : {T : Type 0} → Meaning T → Move → Rows T → Rows T → Option (SubId × Signal T) → Type 0

@@ -3,12 +3,11 @@
 ghost use Rattle.std.specs.Prelude.{◌≡◌, ◌<◌, ◌^◌, None, Option, Some, IfNone, IfSome, IsOk, length, true};
 ghost use Rattle.rsx_feeding.specs.Moves.{rows_of};
 ghost use Rattle.rsx_feeding.specs.Stands as spec;
-ghost use Rattle.rsx_subscriber.specs.Moves as named;
 ghost use Rattle.rsx_subscriber.specs.Stands.{IsMadeAnswer};
 ghost use Rattle.rsx_types.specs.Meaning.{Meaning};
 ghost use Rattle.rsx_types.specs.declared.names.SubId.{SubId};
 ghost use Rattle.rsx_types.specs.declared.signal.Signal.{Signal};
-ghost use Rattle.rsx_feed_driving.specs.Moves.{is_enabled};
+ghost use Rattle.rsx_feed_driving.specs.Moves.{is_enabled, name_in};
 ghost use Rattle.rsx_feed_driving.specs.Pumped.{AreHubsQuiet, HasServed, HaveServed, IsHubQuiet};
 
 use crate::moves::make;
@@ -18,7 +17,8 @@ use rsx_hub::Hub;
 use rsx_pipe::{NodeMove, Pumped as Driven};
 use rsx_publishing::{Feed, can_accept_with_feeds, can_feed};
 use rsx_subscriber::Subscription;
-use rsx_types::{HubId, Move, NodeId, Ops, Tree};
+use rsx_subscriber::moves::{inside_node, name_of};
+use rsx_types::{HubId, Move, Ops, Tree};
 use std::alloc::Global;
 
 /// All hubs take in what they can, one after the other, in at most `budget` moves; the moves of a hub's feed are among them.
@@ -144,24 +144,19 @@ fn first_of_feed<T: Drop>(
     ensures still { IfSome result (λ step. (o : Option (SubId × Signal T)) → IsMadeAnswer step o → o ≡ None) }
     ensures none { (m : Meaning T) → IfNone result (IsHubQuiet m (rows_of hubs.now.items feeds.now.items subscriptions.now.items) hub.0) }
 {
-    if let Some(inside) = feeds[at].first_work() {
-        return Some(move_of(hub, inside));
+    let feed = &feeds[at];
+    if let Some(inside) = feed.first_work() {
+        return Some(name_in_feed(feed, hub, inside));
     }
     match can_feed(at, &hubs[hub.0 as usize], feeds, subscriptions) {
-        true => Some(Move::Send(Tree::Feed(hub), NodeId(0))),
+        true => Some(name_in_feed(feed, hub, NodeMove::Send(0))),
         false => None,
     }
 }
 
-/// The move in the tree of a hub's feed.
-fn move_of(hub: HubId, inside: NodeMove) -> Move
-    ensures tree { named.tree_of result ≡ Tree.Feed hub }
-    ensures inside { named.node_move result ≡ Some inside }
+/// The name of a move inside the part of a hub's feed.
+fn name_in_feed<T: Drop>(feed: &Feed<T>, hub: HubId, inside: NodeMove) -> Move
+    ensures { result ≡ name_in feed.now hub inside }
 {
-    match inside {
-        NodeMove::Ask(node) => Move::Ask(Tree::Feed(hub), NodeId(node)),
-        NodeMove::Send(node) => Move::Send(Tree::Feed(hub), NodeId(node)),
-        NodeMove::Pick(node, input) => Move::Pick(Tree::Feed(hub), NodeId(node), input),
-        NodeMove::Row(node) => Move::Row(Tree::Feed(hub), NodeId(node)),
-    }
+    name_of(Tree::Feed(hub), inside, feed.part.route(inside_node(inside)))
 }

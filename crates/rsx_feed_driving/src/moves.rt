@@ -4,10 +4,9 @@ ghost use Rattle.std.specs.Prelude.{◌≡◌, ◌≢◌, List, length, true, fa
 ghost use Rattle.rsx_feeding.specs.History.{History, with_made, with_sent};
 ghost use Rattle.rsx_feeding.specs.Moves.{IsFeedRefusal, has_feed, rows_of};
 ghost use Rattle.rsx_feeding.specs.Stands.{StandsFor};
-ghost use Rattle.rsx_subscriber.specs.Moves as named;
 ghost use Rattle.rsx_subscriber.specs.declared.subscription.Subscription.{Subscription as SubscriptionOf};
 ghost use Rattle.rsx_subscriber.specs.Stands.{IsMadeAnswer};
-ghost use Rattle.rsx_feed_driving.specs.Moves.{IsMakeRefusal, IsMoved, IsMovedInFeed, feed_move_allocates, feed_move_enabled, is_enabled, may_allocate, sent, sent_by_feed};
+ghost use Rattle.rsx_feed_driving.specs.Moves.{IsMakeRefusal, IsMoved, IsMovedInFeed, feed_move, feed_move_allocates, feed_move_enabled, is_enabled, may_allocate, sent, sent_by_feed};
 
 use rsx_driving::{make_in_tree, take};
 use rsx_feeding::{accept, make_in_feed, place_of};
@@ -16,7 +15,8 @@ use rsx_hub::Hub;
 use rsx_pipe::NodeMove;
 use rsx_publishing::Feed;
 use rsx_subscriber::Subscription;
-use rsx_types::{HubId, Move, Ops, Signal, SubId, Tree};
+use rsx_subscriber::moves::{node_move, node_of};
+use rsx_types::{HubId, Move, NodeId, Ops, Signal, SubId, Tree};
 use std::alloc::Global;
 
 /// Makes one move. A Take from the root edge of a subscription answers the signal that it delivered. An Accept takes the signal
@@ -52,15 +52,16 @@ pub fn make<O: Ops>(
     ensures same { OnErr result ((hubs.new.items ≡ hubs.old.items) × (feeds.new.items ≡ feeds.old.items) × (subscriptions.new.items ≡ subscriptions.old.items)) }
 {
     match step {
+        Move::Take(Tree::Sub(sub), NodeId(0)) => match take(subscriptions, sub) {
+            Ok(signal) => Ok(Some((sub, signal))),
+            Err(why) => Err(why),
+        },
         Move::Ask(Tree::Sub(sub), _)
         | Move::Send(Tree::Sub(sub), _)
+        | Move::Take(Tree::Sub(sub), _)
         | Move::Pick(Tree::Sub(sub), _, _)
         | Move::Row(Tree::Sub(sub), _) => match make_in_tree(alloc, ops, subscriptions, sub, step) {
             Ok(()) => Ok(None),
-            Err(why) => Err(why),
-        },
-        Move::Take(Tree::Sub(sub), node) => match take(subscriptions, sub, node) {
-            Ok(signal) => Ok(Some((sub, signal))),
             Err(why) => Err(why),
         },
         Move::Accept(hub) => match accept(alloc, ops, hubs, feeds, subscriptions, hub) {
@@ -72,7 +73,8 @@ pub fn make<O: Ops>(
         | Move::Take(Tree::Feed(hub), _)
         | Move::Pick(Tree::Feed(hub), _, _)
         | Move::Row(Tree::Feed(hub), _) => {
-            match make_of_feed(alloc, ops, hubs, feeds, subscriptions, hub, node_move(step)) {
+            let inside = move_in_feed(feeds, hub, step);
+            match make_of_feed(alloc, ops, hubs, feeds, subscriptions, hub, inside) {
                 Ok(()) => Ok(None),
                 Err(why) => Err(why),
             }
@@ -80,20 +82,20 @@ pub fn make<O: Ops>(
     }
 }
 
-/// The move inside a tree that a move names. A Take isn't one, and neither is an Accept.
-fn node_move(step: Move) -> Option<NodeMove>
-    ensures { result ≡ named.node_move step }
+/// The move inside its part that a move of the feed of a hub names, if there is one.
+fn move_in_feed<T: Drop>(feeds: &Vec<Feed<T>>, hub: HubId, step: Move) -> Option<NodeMove>
+    ensures { result ≡ feed_move feeds.now.items hub.0 step }
 {
-    match step {
-        Move::Ask(_, node) => Some(NodeMove::Ask(node.0)),
-        Move::Send(_, node) => Some(NodeMove::Send(node.0)),
-        Move::Pick(_, node, input) => Some(NodeMove::Pick(node.0, input)),
-        Move::Row(_, node) => Some(NodeMove::Row(node.0)),
-        Move::Take(_, _) | Move::Accept(_) => None,
+    match place_of(feeds, hub.0) {
+        Some(at) => {
+            let route = feeds[at].part.route(node_of(step));
+            node_move(step, route)
+        }
+        None => None,
     }
 }
 
-/// Makes a move of the feed of a hub. None stands for a Take, which is never enabled there: a feed has no queue.
+/// Makes a move of the feed of a hub. None stands for one that is never enabled there, as the Take from an edge with no queue.
 fn make_of_feed<O: Ops>(
     alloc: Global,
     ops: &O,

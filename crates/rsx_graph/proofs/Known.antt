@@ -1,7 +1,7 @@
 -- What the answers of a graph name is known to each history for which the graph stands.
 use Rattle.std.proofs.Common.{◌≡◌, ℕ, zero, suc, ◌-◌, ◌<◌, Bool, true, false, ◌&&◌, List, [], ◌∷◌, length, slice_get, Option, Some, None, is_some, is_none, refl, ap, sym, ◌∙◌, subst, arith}
 use Rattle.rsx_feed_driving.specs.Moves as driving
-use Rattle.rsx_feed_driving.specs.Moves.{IsMakeRefusal, feed_move_enabled, is_enabled}
+use Rattle.rsx_feed_driving.specs.Moves.{IsMakeRefusal, feed_move, feed_move_enabled, is_enabled}
 use Rattle.rsx_feed_edits.specs.Edits.{IsFedHubRefusal, fault_of}
 use Rattle.rsx_feed_edits.specs.Publishes.{IsCopyRefusal, IsEndRefusal, has_emitter}
 use Rattle.rsx_feed_edits.specs.Subscribing.{IsSubscribeRefusal}
@@ -18,7 +18,7 @@ use Rattle.rsx_history.specs.declared.refusal.Refusal.TheVariants.{UnknownHub, U
 use Rattle.rsx_hub.specs.Hub.{HubState}
 use Rattle.rsx_model.specs.Check.{refusal}
 use Rattle.rsx_model.specs.declared.expr.Expr.{Expr}
-use Rattle.rsx_subscriber.specs.Moves.{node_move}
+use Rattle.rsx_tree.specs.declared.look.NodeMove.{NodeMove}
 use Rattle.rsx_subscriber.specs.Stands.{move_enabled_in}
 use Rattle.rsx_subscriber.specs.declared.subscription.Subscription.{Subscription}
 use Rattle.rsx_types.specs.Meaning.{Meaning}
@@ -154,8 +154,9 @@ within m (s ∷ ss) (suc i) mv e =
     let k = within m ss i mv (sym (first ∙ ap (λ j. enabled_at m ss j mv) (suc_less i)) ∙ e) in
     omega (arith, k)
 
-fed_move : {T : Type 0} (m : Meaning T) (g : Rows T) (n : ℕ) (mv : Move) → feed_move_enabled m g n (node_move mv) ≡ true → has_feed g n ≡ true
-fed_move m g n mv = elim (node_move mv) as (λ o. feed_move_enabled m g n o ≡ true → has_feed g n ≡ true) [ None ↦ (λ e. cc) | Some step ↦ (λ e. and_first (has_feed g n) _ e) ]
+fed_move : {T : Type 0} (m : Meaning T) (g : Rows T) (n : ℕ) (o : Option NodeMove) → feed_move_enabled m g n o ≡ true → has_feed g n ≡ true
+fed_move m g n None e = cc
+fed_move m g n (Some step) e = and_first (has_feed g n) _ e
 
 accepted_hub : {T : Type 0} (g : Rows T) (n : ℕ) (o : Option (HubState T)) → slice_get g.hubs n ≡ o → accepts_in g o n ≡ true → has_emitter g.hubs g.feeds n ≡ true
 accepted_hub g n None e k = cc
@@ -167,8 +168,8 @@ move_known {T} m g h mv s = by_move mv
     of_sub : (i : SubId) (v : Move) → enabled_at m g.subs i.0 v ≡ true → i.0 < length h.pasts
     of_sub i v e = let k = within m g.subs i.0 v e in let same = subs_there m g h s in omega (arith, k, same)
 
-    of_feed : (n : ℕ) (v : Move) → feed_move_enabled m g n (node_move v) ≡ true → is_fed (slice_get h.hubs n) ≡ true
-    of_feed n v e = fed_there m g h n s ∙ fed_move m g n v e
+    of_feed : (n : ℕ) (v : Move) → feed_move_enabled m g n (feed_move g.feeds n v) ≡ true → is_fed (slice_get h.hubs n) ≡ true
+    of_feed n v e = fed_there m g h n s ∙ fed_move m g n (feed_move g.feeds n v) e
 
     by_move : (v : Move) → is_enabled m g v ≡ true → IsOfKnown h v
     by_move (Ask (Sub i) n) e = of_sub i (Ask (Sub i) n) e

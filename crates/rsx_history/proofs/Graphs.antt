@@ -6,7 +6,6 @@ use Rattle.rsx_types.specs.Meaning.{Meaning, Allocates}
 use Rattle.rsx_types.specs.Notes.{unchosen}
 use Rattle.rsx_types.specs.Stream.{Stream, signals_then, ended_by}
 use Rattle.rsx_types.specs.declared.names.Move.{Move}
-use Rattle.rsx_types.specs.declared.names.Move.TheVariants.{Ask, Send, Take, Pick, Row}
 use Rattle.rsx_types.specs.declared.names.SubId.{SubId}
 use Rattle.rsx_types.specs.declared.names.Tree.{Tree}
 use Rattle.rsx_types.specs.declared.names.Tree.TheVariants.{Sub, Feed}
@@ -14,20 +13,19 @@ use Rattle.rsx_types.specs.declared.signal.Ending.TheVariants.{Open as NotEnded}
 use Rattle.rsx_types.specs.declared.signal.Signal.{Signal}
 use Rattle.rsx_pipe.specs.Part as Part
 use Rattle.rsx_tree.specs.declared.look.NodeMove.{NodeMove}
-use Rattle.rsx_tree.specs.declared.look.NodeMove.TheVariants.{Ask as NodeAsk, Send as NodeSend, Pick as NodePick, Row as NodeRow}
 use Rattle.rsx_pipe.specs.Tree.{notes_of}
 use Rattle.rsx_rooted.specs.declared.rooted.Pumped.{Pumped as Rest}
 use Rattle.rsx_rooted.specs.declared.rooted.Pumped.TheVariants.{Idle as Rests, Budget as Wakes}
 use Rattle.rsx_pipe.proofs.Signals.{some_same}
 use Rattle.rsx_tree.proofs.Alike.{or_left, or_right}
-use Rattle.rsx_subscriber.specs.Moves.{IsNumbered}
+use Rattle.rsx_subscriber.specs.Moves.{IsNumbered, delivery}
 use Rattle.rsx_subscriber.specs.Past.{Past, given, requested, requested_in}
 use Rattle.rsx_subscriber.specs.Pumped.{IsPumped, IsMoved, Leads, IsQuiet, IsAwake, HasRested, given_all, to}
 use Rattle.rsx_subscriber.specs.Stands.{make_allocates, Stands, move_enabled_in, evaluated, owed_from, owes_in, standing_of, values_then}
 use Rattle.rsx_subscriber.specs.declared.state.SubscriptionState.{SubscriptionState}
 use Rattle.rsx_subscriber.specs.declared.state.SubscriptionState.TheVariants.{Open, Ended, Cancelled, Refused}
 use Rattle.rsx_subscriber.specs.declared.subscription.Subscription.{Subscription}
-use Rattle.rsx_subscriber.proofs.Moves.{leads_on}
+use Rattle.rsx_subscriber.proofs.Moves.{delivery_enabled, leads_on, part_name, part_named}
 use Rattle.rsx_subscriber.proofs.Sentence.{owes}
 use Rattle.rsx_subscriber.proofs.Serving.{quiet_move}
 use Rattle.rsx_history.specs.History.{published, changed, pasts_after, HasAsked, state_at, tree_of}
@@ -234,15 +232,18 @@ all_quiet {T} m subs n lt h mv small = in_tree (tree_of mv)
 
 pub any_awake : {T : Type 0} (m : Meaning T) (subs : List (Subscription T)) (i : ℕ) (sub : Subscription T) → i < length subs → get_or subs i sub ≡ sub → IsAwake m sub → IsSubAwake m subs
 any_awake {T} m subs i sub lt e h = elim h [
-  | inl a ↦ by_move a.0 a.2
-  | inr t ↦ (Take (Sub (record { 0 = i })) (record { 0 = 0 }), enabled_there m subs i sub _ lt e ∙ t)
+  | inl a ↦ by_part a.0 a.2
+  | inr t ↦ (delivery id, enabled_there m subs i sub _ lt e ∙ delivery_enabled m id sub true t)
 ]
   where
-    by_move : (step : NodeMove) → Part.move_enabled m sub.part sub.queue step ≡ true → IsSubAwake m subs
-    by_move (NodeAsk n) a = (Ask (Sub (record { 0 = i })) (record { 0 = n }), enabled_there m subs i sub _ lt e ∙ a)
-    by_move (NodeSend n) a = (Send (Sub (record { 0 = i })) (record { 0 = n }), enabled_there m subs i sub _ lt e ∙ a)
-    by_move (NodePick n input) a = (Pick (Sub (record { 0 = i })) (record { 0 = n }) input, enabled_there m subs i sub _ lt e ∙ a)
-    by_move (NodeRow n) a = (Row (Sub (record { 0 = i })) (record { 0 = n }), enabled_there m subs i sub _ lt e ∙ a)
+    id : SubId
+    id = record { 0 = i }
+
+    by_part : (step : NodeMove) → Part.move_enabled m sub.part sub.queue step ≡ true → IsSubAwake m subs
+    by_part step a =
+        let name = part_name id sub.part step in
+        let named = part_named m id sub step in
+        (name, ap (λ t. enabled_in_tree m subs t name) named.tree ∙ (enabled_there m subs i sub name lt e ∙ named.enabled a))
 
 -- ---- how driving one subscription ends
 

@@ -78,7 +78,7 @@ made_seen : (move : Move) (o : Option (SubId × Signal Val)) (s : Option (Signal
 made_seen (Ask t n) o s h a = moved_seen t o s h a
 made_seen (Send t n) o s h a = moved_seen t o s h a
 made_seen (Take (Sub i) n) o s h a = delivery_seen o h
-made_seen (Take (FeedOf i) n) o s h a = absurd a
+made_seen (Take (FeedOf i) n) o s h a = moved_seen (FeedOf i) o s h a
 made_seen (Pick t n i) o s h a = moved_seen t o s h a
 made_seen (Row t n) o s h a = moved_seen t o s h a
 made_seen (Accept i) o s h a = ap (λ x. all_taken (option_to_list x) (map seen h.pasts)) (sym a)

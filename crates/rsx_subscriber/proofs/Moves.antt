@@ -41,8 +41,7 @@ use Rattle.rsx_subscriber.specs.declared.state.SubscriptionState.TheVariants.{Op
 use Rattle.rsx_subscriber.specs.Past.{Past, items_in, IsUnended, IsOrderly, IsPrefixOf, IsLive, cancelled, cancelled_state, state_after, refused, requested, requested_in, given, asked_more}
 use Rattle.rsx_subscriber.specs.Pumped.{IsPumped, IsMoved, IsQuiet, IsAwake, IsRest, HasRested, Leads, given_all, to}
 use Rattle.rsx_subscriber.specs.Stands.{Stands, take_enabled, IsInside, IsKeptBeside, IsMadeAnswer, IsTakeAnswer, IsWorked, IsWorkedBy, IsEffect, IsTake, inner_move, move_enabled_in, standing_of, enabled_inside}
-use Rattle.rsx_subscriber.specs.Moves.{inside_node, name_of, node_move, tree_of}
-use Rattle.rsx_subscriber.proofs.Names.{name_move, name_node}
+use Rattle.rsx_subscriber.specs.Moves.{delivery, inside_node, name_of, node_move, tree_of}
 
 pub IsLive-open : (s : SubscriptionState) → s ≡ Open → IsLive s
 IsLive-open s e = rw e tt
@@ -391,11 +390,24 @@ pumped_same_sub {T} m id old new o e = let P : Subscription T → Type 0 = λ s.
 pub pumped_still : {T : Type 0} (m : Meaning T) (id : SubId) (old new : Subscription T) (o o' : List (SubId × Signal T)) → new ≡ old → o' ≡ o → IsPumped m id 0 old o new o'
 pumped_still {T} m id old new o o' e f = let P : List (SubId × Signal T) → Type 0 = λ l. IsPumped m id 0 old o new l in subst P (sym f) (pumped_same_sub m id old new o e)
 
+or_first : (a b : Bool) → a ≡ true → a || b ≡ true
+or_first true b e = refl
+or_first false b e = cc
+
+or_second : (a b : Bool) → b ≡ true → a || b ≡ true
+or_second true b e = refl
+or_second false b e = e
+
+-- the Take of the root is enabled where the queue's front signal is delivered
+pub delivery_enabled : {T : Type 0} (m : Meaning T) (id : SubId) (sub : Subscription T) (b : Bool) → take_enabled sub 0 ≡ b → move_enabled_in m sub (delivery id) ≡ b
+delivery_enabled m id sub true e = or_first (take_enabled sub 0) _ e
+delivery_enabled m id sub false e = ap (λ c. c || false) e
+
 pub pumped_one : {T : Type 0} (m : Meaning T) (id : SubId) (old new : Subscription T) (o o' : List (SubId × Signal T)) (s : Signal T) → o' ≡ o ++ (id, s) ∷ [] → take_enabled old 0 ≡ true → IsTake old s new → ((published : List (Stream T)) (past : Past T) → Stands m published old past → Stands m published new (given s past)) → IsPumped m id 1 old o new o'
 pumped_one m id old new o o' s e can took k = record {
   signals = s ∷ [];
   output = e;
-  moves = (new, Some (id, s), [], record { move = Take (Sub id) (record { 0 = 0 }); tree = refl; enabled = can; effect = took; answer = (s, refl) }, (refl, refl), refl);
+  moves = (new, Some (id, s), [], record { move = delivery id; tree = refl; enabled = delivery_enabled m id old true can; effect = took; answer = (s, refl) }, (refl, refl), refl);
   stands = k;
   alike = (λ a. ap (Part.pump_allocates a) took.part, λ counts h. subst (λ p. IsTreeReadAt any_machine counts p.tree) (sym took.part) h);
 }
@@ -423,10 +435,6 @@ pumped_more {T} m id n k s1 s2 s3 o1 o2 o3 a b =
 
 -- ---- the moves of a part
 
-or_second : (a b : Bool) → b ≡ true → a || b ≡ true
-or_second true b e = refl
-or_second false b e = e
-
 -- the effect of a move of a part
 worked_by : {T : Type 0} (m : Meaning T) (step : NodeMove) (old new : Subscription T) (out : List (Signal T)) → IsKeptBeside old new → new.queue ≡ old.queue ++ out → Part.IsEffect m step old.part out new.part → IsWorkedBy m (Some step) old new
 worked_by m (NodeAsk n) old new out r queued e = record { edges = e.1; queue = queued ∙ (ap (λ l. old.queue ++ l) e.0 ∙ append-nil old.queue); kept = r }
@@ -434,14 +442,17 @@ worked_by m (NodeSend n) old new out r queued e = record { out = out; edges = e;
 worked_by m (NodePick n input) old new out r queued e = record { part = e.1; queue = queued ∙ (ap (λ l. old.queue ++ l) e.0 ∙ append-nil old.queue); kept = r }
 worked_by m (NodeRow n) old new out r queued e = record { part = e.1; queue = queued ∙ (ap (λ l. old.queue ++ l) e.0 ∙ append-nil old.queue); kept = r }
 
--- a move of a part has the name that its edge gives it
-part_name : {T : Type 0} → SubId → AnyPart T → NodeMove → Move
-part_name id part step = name_of (route_below part (inside_node step)) (Sub id) step
+-- beside the part and its queue it changes nothing
+pub worked_kept : {T : Type 0} (m : Meaning T) (o : Option NodeMove) (old new : Subscription T) → IsWorkedBy m o old new → IsKeptBeside old new
+worked_kept m None old new h = absurd h
+worked_kept m (Some (NodeAsk n)) old new h = h.kept
+worked_kept m (Some (NodeSend n)) old new h = h.kept
+worked_kept m (Some (NodePick n input)) old new h = h.kept
+worked_kept m (Some (NodeRow n)) old new h = h.kept
 
-pub name_inner : {T : Type 0} (id : SubId) (sub : Subscription T) (step : NodeMove) → inner_move sub (part_name id sub.part step) ≡ Some step
-name_inner id sub step =
-    let r = route_below sub.part (inside_node step) in
-    ap (λ n. node_move (route_below sub.part n) (name_of r (Sub id) step)) (name_node r (Sub id) step) ∙ name_move r (Sub id) step
+-- a move of a part has the name that its edge gives it
+abbrev pub part_name : {T : Type 0} → SubId → AnyPart T → NodeMove → Move
+part_name id part step = name_of (route_below part (inside_node step)) (Sub id) step
 
 -- such a move is inside the tree, and answers nothing
 pub record IsNamed {T : Type 0} (m : Meaning T) (id : SubId) (sub : Subscription T) (step : NodeMove) (move : Move) : Type 0 where
@@ -478,10 +489,13 @@ named_by {T} m id sub (NodeRow k) n at (Queued false) is =
     let w = ap (λ r. node_move r (Row (Sub id) (record { 0 = k }))) (ap (λ i. route_below sub.part i) (sym at) ∙ is) in
     record { tree = refl; enabled = λ can. ap (enabled_inside m sub) w ∙ can; effect = λ new h. subst (λ o. IsWorkedBy m o sub new) (sym w) h; answer = refl }
 
+pub part_named : {T : Type 0} (m : Meaning T) (id : SubId) (sub : Subscription T) (step : NodeMove) → IsNamed m id sub step (part_name id sub.part step)
+part_named m id sub step = named_by m id sub step (inside_node step) refl (route_below sub.part (inside_node step)) refl
+
 -- an enabled move of a part is one of the subscription
 moved_part : {T : Type 0} (m : Meaning T) (id : SubId) (old new : Subscription T) (out : List (Signal T)) → IsKeptBeside old new → Part.IsMoved m old.part old.queue out new.part new.queue → IsMoved m id old None new
 moved_part {T} m id old new out r k =
-    let named = named_by m id old k.move (inside_node k.move) refl (route_below old.part (inside_node k.move)) refl in
+    let named = part_named m id old k.move in
     record {
       move = part_name id old.part k.move;
       tree = named.tree;

@@ -60,3 +60,13 @@ all_numbered r (Accept i) h = tt
 
 pub numbered_inside : (r : Route) (mv : Move) (s : NodeMove) → node_move r mv ≡ Some s → IsNumbered mv → Part.IsNumbered s
 numbered_inside r mv s e h = subst AreNumbered e (all_numbered r mv h)
+
+-- and a name those of the move
+pub numbered_name : (r : Route) (t : Tree) (s : NodeMove) → Part.IsNumbered s → IsNumbered (name_of r t s)
+numbered_name r t (NodeAsk n) h = h
+numbered_name Straight t (NodeSend n) h = h
+numbered_name (Queued b) t (NodeSend n) h = h
+numbered_name r t (NodePick n i) h = h
+numbered_name Straight t (NodeRow n) h = h
+numbered_name (Queued true) t (NodeRow n) h = h
+numbered_name (Queued false) t (NodeRow n) h = h

@@ -2,8 +2,9 @@
 use Rattle.std.specs.Prelude.{◌<◌, ◌^◌, ℕ, true, false, Option, Some, None}
 use Rattle.rsx_types.specs.declared.names.Move.{Move}
 use Rattle.rsx_types.specs.declared.names.Move.TheVariants.{Ask, Send, Take, Pick, Row, Accept}
+use Rattle.rsx_types.specs.declared.names.SubId.{SubId}
 use Rattle.rsx_types.specs.declared.names.Tree.{Tree}
-use Rattle.rsx_types.specs.declared.names.Tree.TheVariants.{Feed}
+use Rattle.rsx_types.specs.declared.names.Tree.TheVariants.{Sub, Feed}
 use Rattle.rsx_pipe.specs.declared.crossing.Route.{Route}
 use Rattle.rsx_pipe.specs.declared.crossing.Route.TheVariants.{Straight, Queued}
 use Rattle.rsx_tree.specs.declared.look.NodeMove.{NodeMove}
@@ -26,6 +27,10 @@ node_of (Take t n) = n.0
 node_of (Pick t n i) = n.0
 node_of (Row t n) = n.0
 node_of (Accept h) = 0
+
+-- the Take from the root edge of a subscription, which delivers
+abbrev pub delivery : SubId → Move
+delivery i = Take (Sub i) (record { 0 = 0 })
 
 -- the numbers that a move names are numbers of a node, of an input, or of a hub
 abbrev pub IsNumbered : Move → Type 0

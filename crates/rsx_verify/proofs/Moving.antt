@@ -1,5 +1,5 @@
 -- What the moves of a graph come to for one subscriber.
-use Rattle.std.proofs.Common.{◌≡◌, ◌≢◌, ◌⊎◌, ℕ, zero, suc, ◌==◌, true, false, inl, inr, List, [], ◌∷◌, ◌++◌, Option, Some, None, refl, sym, ap, ◌∙◌, subst}
+use Rattle.std.proofs.Common.{◌≡◌, ◌≢◌, ◌⊎◌, ℕ, zero, suc, ◌==◌, Bool, true, false, ◌&&◌, ◌||◌, nat_eq, inl, inr, List, [], ◌∷◌, ◌++◌, Option, Some, None, refl, sym, ap, ◌∙◌, subst}
 use Rattle.std.specs.Prelude.{if◌then◌else◌, slice_get, slice_set}
 use Rattle.std.specs.Option.{option_to_list}
 use Rattle.std.proofs.lemmas.Bool.{and_parts, cases_eq, eq-eqb, ne_eqb}
@@ -16,9 +16,12 @@ use Rattle.rsx_types.specs.declared.signal.Signal.TheVariants.{Next, Complete, E
 use Rattle.rsx_publishing.specs.Publishing.{AllHanded}
 use Rattle.rsx_subscriber.specs.Past.{Past, given}
 use Rattle.rsx_subscriber.specs.Standing.{delivers}
-use Rattle.rsx_subscriber.specs.Stands.{IsKeptBeside, IsMadeAnswer, IsTake}
+use Rattle.rsx_pipe.specs.Crossing.{route}
+use Rattle.rsx_pipe.specs.declared.crossing.Route.TheVariants.{Straight}
+use Rattle.rsx_subscriber.proofs.Moves.{worked_kept}
+use Rattle.rsx_subscriber.specs.Stands.{IsKeptBeside, IsMadeAnswer, IsTake, IsTakeAnswer, enabled_inside, inner_move}
 use Rattle.rsx_subscriber.specs.declared.subscription.Subscription.{Subscription}
-use Rattle.rsx_subscriber.specs.Moves.{node_move}
+use Rattle.rsx_subscriber.specs.Moves.{take_by}
 use Rattle.rsx_tree.specs.declared.look.NodeMove.{NodeMove}
 use Rattle.rsx_history.specs.History.{changed}
 use Rattle.rsx_history.specs.Stands.{IsMadeAt, enabled_at}
@@ -26,7 +29,7 @@ use Rattle.rsx_history.proofs.Graphs.{enabled_there}
 use Rattle.rsx_feeding.specs.History.{History, with_made, with_sent}
 use Rattle.rsx_feeding.specs.Moves.{IsMovedBy, is_out}
 use Rattle.rsx_feeding.specs.Stands.{Rows}
-use Rattle.rsx_feed_driving.specs.Moves.{IsMoved, IsMovedInFeed, is_enabled}
+use Rattle.rsx_feed_driving.specs.Moves.{IsMoved, IsMovedInFeed, feed_move, is_enabled}
 use Rattle.rsx_feed_driving.specs.Pumped.{LeadTo, Made, after_moves, delivered_by}
 use Rattle.rsx_trace.specs.declared.event.Stamped.{Stamped}
 use Rattle.rsx_verify.specs.Events.{deliveries, delivery}
@@ -103,9 +106,27 @@ tree_step {T} m me mv i subs news made kept = elim (cases_eq i me) [
   | inr ne ↦ quiet_step me (slice_get subs me) (slice_get news me) (ap (λ l. slice_get l me) made.others ∙ beside_set subs i me made.new ne)
 ]
 
-delivering : {T : Type 0} (m : Meaning T) (subs : List (Subscription T)) (i : ℕ) (sub : Subscription T) (t : SubId) (n : NodeId) → slice_get subs i ≡ Some sub → enabled_at m subs i (Take (Sub t) n) ≡ true → delivers sub.state sub.demand sub.queue ≡ true
-delivering m subs i sub t n there on =
-    (and_parts _ (delivers sub.state sub.demand sub.queue) (sym (enabled_there m subs i sub (Take (Sub t) n) (slice_get_within subs i sub there) (get_or_from_slice_get subs i sub sub there)) ∙ on)).1
+only_first : (b : Bool) → b || false ≡ true → b ≡ true
+only_first true e = refl
+only_first false e = cc
+
+-- what the Take of a root hands on the table delivers
+delivering : {T : Type 0} (m : Meaning T) (subs : List (Subscription T)) (i : ℕ) (sub : Subscription T) (t : SubId) (n : NodeId) → slice_get subs i ≡ Some sub → nat_eq n.0 0 ≡ true → enabled_at m subs i (Take (Sub t) n) ≡ true → delivers sub.state sub.demand sub.queue ≡ true
+delivering {T} m subs i sub t n there root on = only_first (on_table true) (ap whole (sym root) ∙ here)
+  where
+    on_table : Bool → Bool
+    on_table b = b && delivers sub.state sub.demand sub.queue
+
+    whole : Bool → Bool
+    whole b = on_table b || enabled_inside m sub (take_by (if b then Straight else route sub.part n.0) n.0)
+
+    here : whole (nat_eq n.0 0) ≡ true
+    here = sym (enabled_there m subs i sub (Take (Sub t) n) (slice_get_within subs i sub there) (get_or_from_slice_get subs i sub sub there)) ∙ on
+
+-- only the Take of a root answers a signal
+root_taken : {T : Type 0} (b : Bool) (i : SubId) (d : SubId × Signal T) → IsTakeAnswer b i (Some d) → (b ≡ true) × IsTakeAnswer true i (Some d)
+root_taken true i d h = (refl, h)
+root_taken false i d h = absurd (cc)
 
 handed_step : {T : Type 0} (me h : ℕ) (s : Signal T) (subs news : List (Subscription T)) → AllHanded h s subs news → IsStepOf {T = T} me None (slice_get subs me) (slice_get news me)
 handed_step me h s [] [] all = (refl, tt)
@@ -124,28 +145,30 @@ feed_step m me None h old new moved = absurd moved
 feed_step m me (Some step) h old new moved = fed_step m me step (is_out step) h old new moved
 
 one_step : {T : Type 0} (m : Meaning T) (me : ℕ) (mv : Move) (o : Option (SubId × Signal T)) (old new : Rows T) → is_enabled m old mv ≡ true → IsMoved m mv old new o → IsMadeAnswer mv o → IsStepOf me o (slice_get old.subs me) (slice_get new.subs me)
-one_step m me (Ask (Sub i) n) None old new enabled moved answer = tree_step m me (Ask (Sub i) n) i.0 old.subs new.subs moved.0 moved.0.effect.kept
-one_step m me (Send (Sub i) n) None old new enabled moved answer = tree_step m me (Send (Sub i) n) i.0 old.subs new.subs moved.0 moved.0.effect.kept
-one_step m me (Pick (Sub i) n k) None old new enabled moved answer = tree_step m me (Pick (Sub i) n k) i.0 old.subs new.subs moved.0 moved.0.effect.kept
-one_step m me (Row (Sub i) n) None old new enabled moved answer = tree_step m me (Row (Sub i) n) i.0 old.subs new.subs moved.0 moved.0.effect.kept
-one_step m me (Ask (FeedOf h) n) None old new enabled moved answer = feed_step m me (node_move (Ask (FeedOf h) n)) h.0 old new moved
-one_step m me (Send (FeedOf h) n) None old new enabled moved answer = feed_step m me (node_move (Send (FeedOf h) n)) h.0 old new moved
-one_step m me (Pick (FeedOf h) n k) None old new enabled moved answer = feed_step m me (node_move (Pick (FeedOf h) n k)) h.0 old new moved
-one_step m me (Row (FeedOf h) n) None old new enabled moved answer = feed_step m me (node_move (Row (FeedOf h) n)) h.0 old new moved
+one_step m me (Ask (Sub i) n) None old new enabled moved answer = tree_step m me (Ask (Sub i) n) i.0 old.subs new.subs moved.0 (worked_kept m (inner_move moved.0.old (Ask (Sub i) n)) moved.0.old moved.0.new moved.0.effect)
+one_step m me (Send (Sub i) n) None old new enabled moved answer = tree_step m me (Send (Sub i) n) i.0 old.subs new.subs moved.0 (worked_kept m (inner_move moved.0.old (Send (Sub i) n)) moved.0.old moved.0.new moved.0.effect)
+one_step m me (Pick (Sub i) n k) None old new enabled moved answer = tree_step m me (Pick (Sub i) n k) i.0 old.subs new.subs moved.0 (worked_kept m (inner_move moved.0.old (Pick (Sub i) n k)) moved.0.old moved.0.new moved.0.effect)
+one_step m me (Row (Sub i) n) None old new enabled moved answer = tree_step m me (Row (Sub i) n) i.0 old.subs new.subs moved.0 (worked_kept m (inner_move moved.0.old (Row (Sub i) n)) moved.0.old moved.0.new moved.0.effect)
+one_step m me (Ask (FeedOf h) n) None old new enabled moved answer = feed_step m me (feed_move old.feeds h.0 (Ask (FeedOf h) n)) h.0 old new moved
+one_step m me (Send (FeedOf h) n) None old new enabled moved answer = feed_step m me (feed_move old.feeds h.0 (Send (FeedOf h) n)) h.0 old new moved
+one_step m me (Pick (FeedOf h) n k) None old new enabled moved answer = feed_step m me (feed_move old.feeds h.0 (Pick (FeedOf h) n k)) h.0 old new moved
+one_step m me (Row (FeedOf h) n) None old new enabled moved answer = feed_step m me (feed_move old.feeds h.0 (Row (FeedOf h) n)) h.0 old new moved
 one_step m me (Ask t n) (Some d) old new enabled moved answer = absurd (cc)
 one_step m me (Send t n) (Some d) old new enabled moved answer = absurd (cc)
 one_step m me (Pick t n k) (Some d) old new enabled moved answer = absurd (cc)
 one_step m me (Row t n) (Some d) old new enabled moved answer = absurd (cc)
-one_step m me (Take (FeedOf h) n) o old new enabled moved answer = absurd answer
-one_step m me (Take (Sub i) n) None old new enabled moved answer = absurd (cc)
+one_step m me (Take (FeedOf h) n) None old new enabled moved answer = feed_step m me (feed_move old.feeds h.0 (Take (FeedOf h) n)) h.0 old new moved
+one_step m me (Take (FeedOf h) n) (Some d) old new enabled moved answer = absurd (cc)
+one_step m me (Take (Sub i) n) None old new enabled moved answer = tree_step m me (Take (Sub i) n) i.0 old.subs new.subs moved.0 (worked_kept m (inner_move moved.0.old (Take (Sub i) n)) moved.0.old moved.0.new moved.0.effect)
 one_step {T} m me (Take (Sub i) n) (Some d) old new enabled moved answer =
-    let here : d.0.0 ≡ i.0 = ap (λ x. x.0.0) (same_Some d (i, answer.0) answer.1) in
+    let root = root_taken (nat_eq n.0 0) i d answer in
+    let here : d.0.0 ≡ i.0 = ap (λ x. x.0.0) (same_Some d (i, root.1) root.2) in
     let made = moved.0 in
     elim (cases_eq i.0 me) [
       | inl is ↦ (let before : slice_get old.subs me ≡ Some made.old = ap (λ k. slice_get old.subs k) (sym is) ∙ made.there in
           let after : slice_get new.subs me ≡ Some made.new = ap (λ l. slice_get l me) made.others ∙ (ap (λ k. slice_get (slice_set old.subs i.0 made.new) k) (sym is) ∙ at_set old.subs i.0 made.old made.new made.there) in
           let S : Option (Subscription T) → Type 0 = λ x. IsStepOf me (Some d) x (slice_get new.subs me) in
-          subst S (sym before) (made.new, after, inl (here ∙ is, delivering m old.subs i.0 made.old i n made.there enabled, made.effect)))
+          subst S (sym before) (made.new, after, inl (here ∙ is, delivering m old.subs i.0 made.old i n made.there root.0 enabled, made.effect)))
       | inr ne ↦ other_step me d (slice_get old.subs me) (slice_get new.subs me) (λ h. ne (sym here ∙ h)) (ap (λ l. slice_get l me) made.others ∙ beside_set old.subs i.0 me made.new ne)
     ]
 one_step m me (Accept h) None old new enabled moved answer = handed_step me h.0 moved.effect.0.signal old.subs new.subs moved.effect.0.handed
@@ -263,7 +286,8 @@ made_past me (Ask t n) (Some d) s h p answer there = absurd (cc)
 made_past me (Send t n) (Some d) s h p answer there = absurd (cc)
 made_past me (Pick t n k) (Some d) s h p answer there = absurd (cc)
 made_past me (Row t n) (Some d) s h p answer there = absurd (cc)
-made_past me (Take (FeedOf i) n) o s h p answer there = absurd answer
+made_past me (Take (FeedOf i) n) None s h p answer there = sent_past me s i.0 h ∙ there
+made_past me (Take (FeedOf i) n) (Some d) s h p answer there = absurd (cc)
 made_past me (Take (Sub i) n) None s h p answer there = there
 made_past me (Take (Sub i) n) (Some d) s h p answer there = delivered_past me d h.pasts p there
 made_past me (Accept i) None s h p answer there = there

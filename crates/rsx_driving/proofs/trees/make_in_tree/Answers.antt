@@ -36,7 +36,7 @@ returns-in-Ok-clause-effect g c =
       old = c.index_mut-subscription.result.now;
       new = c.make.new.self;
       there = found c.args.subscriptions.now.items c.args.sub.0 c.index_mut-subscription.result.now within (sym c.index_mut-subscription.ensures.value);
-      effect = inside_effect m c.args.step c.index_mut-subscription.result.now c.make.new.self c.in-Ok.ensures.effect;
+      effect = inside_effect m c.args.step c.index_mut-subscription.result.now c.make.new.self c.requires c.in-Ok.ensures.effect;
       others = refl;
     }
 

@@ -1,5 +1,7 @@
-use Rattle.std.proofs.Common.{◌<◌, ◌∙◌, arith, length, refl, sym}
+use Rattle.std.proofs.Common.{◌<◌, ◌∙◌, arith, false, length, refl, sym, true}
 use Rattle.std.proofs.lemmas.List.{length-set}
+use Rattle.rsx_subscriber.proofs.Moves.{delivery_enabled}
+use Rattle.rsx_subscriber.specs.Moves.{delivery}
 use Rattle.rsx_subscriber.specs.Past.{given}
 use Rattle.rsx_history.proofs.Graphs.{AllStand-set, enabled_there, found, set_same}
 use Rattle.rsx_driving.proofs.trees.take.Goals as goal
@@ -20,7 +22,7 @@ pub returns-in-Some-clause-enabled : goal.returns-in-Some-clause-enabled
 returns-in-Some-clause-enabled g c = λ m.
     let l = c.len.ensures in
     let within : c.args.sub.0 < length c.args.subscriptions.now.items = omega (arith, l, c.if-at-len.false) in
-    enabled_there m c.args.subscriptions.now.items c.args.sub.0 c.index_mut-subscription.result.now _ within (sym c.index_mut-subscription.ensures.value) ∙ c.in-Some.ensures.enabled
+    enabled_there m c.args.subscriptions.now.items c.args.sub.0 c.index_mut-subscription.result.now (delivery c.args.sub) within (sym c.index_mut-subscription.ensures.value) ∙ delivery_enabled m c.args.sub c.index_mut-subscription.result.now true c.in-Some.ensures.enabled
 
 pub returns-in-Some-clause-effect : goal.returns-in-Some-clause-effect
 returns-in-Some-clause-effect g c = λ m.
@@ -38,7 +40,7 @@ pub returns-in-None-clause-err : goal.returns-in-None-clause-err
 returns-in-None-clause-err g c = λ m.
     let l = c.len.ensures in
     let within : c.args.sub.0 < length c.args.subscriptions.now.items = omega (arith, l, c.if-at-len.false) in
-    (within, enabled_there m c.args.subscriptions.now.items c.args.sub.0 c.index_mut-subscription.result.now _ within (sym c.index_mut-subscription.ensures.value) ∙ c.in-None.ensures.none.1)
+    (within, enabled_there m c.args.subscriptions.now.items c.args.sub.0 c.index_mut-subscription.result.now (delivery c.args.sub) within (sym c.index_mut-subscription.ensures.value) ∙ delivery_enabled m c.args.sub c.index_mut-subscription.result.now false c.in-None.ensures.none.1)
 
 pub returns-in-None-clause-same : goal.returns-in-None-clause-same
 returns-in-None-clause-same g c =
