@@ -17,7 +17,7 @@ use rsx_hub::Hub;
 use rsx_pipe::{NodeMove, Pumped as Driven};
 use rsx_publishing::{Feed, can_accept_with_feeds, can_feed};
 use rsx_subscriber::Subscription;
-use rsx_subscriber::moves::{inside_node, name_of};
+use rsx_subscriber::naming::{inside_node, name_of};
 use rsx_types::{HubId, Move, Ops, Tree};
 use std::alloc::Global;
 

@@ -15,7 +15,7 @@ use rsx_hub::Hub;
 use rsx_pipe::NodeMove;
 use rsx_publishing::Feed;
 use rsx_subscriber::Subscription;
-use rsx_subscriber::moves::{node_move, node_of};
+use rsx_subscriber::naming::{node_move, node_of};
 use rsx_types::{HubId, Move, NodeId, Ops, Signal, SubId, Tree};
 use std::alloc::Global;
 

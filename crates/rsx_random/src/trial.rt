@@ -192,12 +192,13 @@ fn any_subscriber(numbers: &mut Numbers) -> SubId {
 fn any_move(numbers: &mut Numbers, nodes: u32, has_lanes: bool) -> Move {
     let tree = Tree::Sub(any_subscriber(numbers));
     let node = NodeId(numbers.below(nodes));
-    match numbers.below(8) {
+    match numbers.below(9) {
         0 | 1 => Move::Ask(tree, node),
         2 | 3 => Move::Send(tree, node),
         4 => Move::Take(tree, NodeId(0)),
-        5 => Move::Pick(tree, node, any_input(numbers, has_lanes)),
-        6 => Move::Row(tree, node),
+        5 => Move::Take(tree, node),
+        6 => Move::Pick(tree, node, any_input(numbers, has_lanes)),
+        7 => Move::Row(tree, node),
         _ => Move::Accept(HubId(numbers.below(HUBS))),
     }
 }

@@ -2,7 +2,7 @@
 //! One subscription to an expression: its part, the queue behind it, and where it stands in the subscription table.
 //!
 //! - [`subscription`]: [`Subscription`], with its edits (request, cancel), its moves and `pump`.
-//! - [`moves`]: which move inside a tree a [`Move`](rsx_types::Move) of a graph names.
+//! - [`naming`]: which move inside a tree a [`Move`](rsx_types::Move) of a graph names.
 //! - [`published`]: what a hub published is handed to the nodes of a subscription's part that read it.
 //! - [`deliveries`]: [`Deliveries`], the signals that were handed to subscribers.
 //! - [`state`]: [`SubscriptionState`], how a subscription stands.
@@ -13,7 +13,7 @@
 //! subscription stands for its past). Those of parts, trees and edges are in the crates below.
 
 pub mod deliveries;
-pub mod moves;
+pub mod naming;
 pub mod published;
 pub mod state;
 pub mod subscription;

@@ -7,7 +7,7 @@ ghost use Rattle.rsx_subscription.specs.Table.{answer, asked_after, cell_of, sen
 ghost use Rattle.rsx_subscriber.specs.Standing.{input_of, is_delivery};
 
 use crate::deliveries::Deliveries;
-use crate::moves::{node_move, node_of};
+use crate::naming::{node_move, node_of};
 use crate::state::SubscriptionState;
 use rsx_demand::Demand;
 use rsx_hub::Hub;
