@@ -10,7 +10,7 @@ use Rattle.rsx_types.specs.Stream.{Stream}
 use Rattle.rsx_types.specs.declared.names.Move.{Move}
 use Rattle.rsx_types.specs.declared.names.Move.TheVariants.{Ask, Send, Take, Pick, Row, Accept}
 use Rattle.rsx_types.specs.declared.names.SubId.{SubId}
-use Rattle.rsx_types.specs.declared.names.Tree.TheVariants.{Sub, Feed}
+use Rattle.rsx_types.specs.declared.names.Tree.TheVariants.{Sub}
 use Rattle.rsx_types.specs.declared.signal.Signal.{Signal}
 use Rattle.rsx_types.specs.declared.signal.Signal.TheVariants.{Next, Complete, Error}
 use Rattle.rsx_node.specs.Any.{any_machine}
@@ -459,7 +459,7 @@ pub record IsNamed {T : Type 0} (m : Meaning T) (id : SubId) (sub : Subscription
   pub tree : tree_of move ≡ Sub id
   pub enabled : Part.move_enabled m sub.part sub.queue step ≡ true → move_enabled_in m sub move ≡ true
   pub effect : (new : Subscription T) → IsWorkedBy m (Some step) sub new → IsEffect m move sub new None
-  pub answer : IsMadeAnswer move None
+  pub answer : IsMadeAnswer {T = T} move None
 
 named_by : {T : Type 0} (m : Meaning T) (id : SubId) (sub : Subscription T) (step : NodeMove) (n : ℕ) → n ≡ inside_node step → (r : Route) → route_below sub.part n ≡ r → IsNamed m id sub step (name_of r (Sub id) step)
 named_by m id sub (NodeAsk k) n at r is = record { tree = refl; enabled = λ can. can; effect = λ new h. h; answer = refl }
@@ -476,8 +476,8 @@ named_by {T} m id sub (NodeSend k) n at (Queued b) is =
       answer = not_root k (nat_eq k 0) refl (ap (λ i. route_below sub.part i) (sym at) ∙ is);
     }
   where
-    not_root : (k : ℕ) (c : Bool) → nat_eq k 0 ≡ c → (if nat_eq k 0 then Straight else route sub.part k) ≡ Queued b → IsTakeAnswer (nat_eq k 0) id None
-    not_root k false e q = subst (λ c. IsTakeAnswer c id None) (sym e) refl
+    not_root : (k : ℕ) (c : Bool) → nat_eq k 0 ≡ c → (if nat_eq k 0 then Straight else route sub.part k) ≡ Queued b → IsTakeAnswer {T = T} (nat_eq k 0) id None
+    not_root k false e q = subst (λ c. IsTakeAnswer {T = T} c id None) (sym e) refl
     not_root k true e q = let no = sym (ap (λ c. if c then Straight else route sub.part k) e) ∙ q in cc
 named_by {T} m id sub (NodeRow k) n at Straight is =
     let w = ap (λ r. node_move r (Row (Sub id) (record { 0 = k }))) (ap (λ i. route_below sub.part i) (sym at) ∙ is) in
@@ -642,13 +642,3 @@ inside_effect m (Take t n) old new i h = h
 inside_effect m (Pick t n k) old new i h = h
 inside_effect m (Row t n) old new i h = h
 inside_effect m (Accept k) old new i h = absurd i
-
--- and it answers nothing
-pub inside_answer : (mv : Move) → IsInside mv → IsMadeAnswer mv None
-inside_answer (Ask t n) i = refl
-inside_answer (Send t n) i = refl
-inside_answer (Take (Sub k) n) i = subst (λ c. IsTakeAnswer c k None) (sym (not_first n.0 i)) refl
-inside_answer (Take (Feed h) n) i = refl
-inside_answer (Pick t n k) i = refl
-inside_answer (Row t n) i = refl
-inside_answer (Accept k) i = absurd i
