@@ -10,7 +10,7 @@ use Rattle.rsx_publishing.specs.Publishing.{can_accept_with_feeds}
 use Rattle.rsx_publishing.specs.Sending.{can_feed, can_feed_at, can_feed_of}
 use Rattle.rsx_publishing.specs.declared.feed.Feed.{Feed}
 use Rattle.rsx_subscriber.proofs.Names.{name_move, name_node, name_tree, numbered_inside}
-use Rattle.rsx_subscriber.specs.Moves.{IsNumbered, inside_node, node_move, node_of, tree_of}
+use Rattle.rsx_subscriber.specs.Moves.{IsNumbered, delivery, inside_node, node_move, node_of, tree_of}
 use Rattle.rsx_subscriber.specs.Stands.{IsMadeAnswer}
 use Rattle.rsx_subscriber.specs.declared.subscription.Subscription.{Subscription}
 use Rattle.rsx_tree.specs.declared.look.NodeMove.{NodeMove}
@@ -19,6 +19,7 @@ use Rattle.rsx_types.specs.Meaning.{Meaning}
 use Rattle.rsx_types.specs.declared.names.HubId.{HubId}
 use Rattle.rsx_types.specs.declared.names.Move.{Move}
 use Rattle.rsx_types.specs.declared.names.Move.TheVariants.{Ask, Send, Take, Pick, Row, Accept}
+use Rattle.rsx_types.specs.declared.names.NodeId.{NodeId}
 use Rattle.rsx_types.specs.declared.names.SubId.{SubId}
 use Rattle.rsx_types.specs.declared.names.Tree.TheVariants.{Sub, Feed as FeedOf}
 use Rattle.rsx_types.specs.declared.signal.Signal.{Signal}
@@ -35,11 +36,11 @@ pub enabled_named : {T : Type 0} (m : Meaning T) (g : Rows T) (h : HubId) (insid
 enabled_named {T} m g h inside mv tree node = by_move mv tree node ∙ ap (λ o. feed_move_enabled m g h.0 o) node
   where
     by_move : (mv : Move) → tree_of mv ≡ FeedOf h → feed_move g.feeds h.0 mv ≡ Some inside → is_enabled m g mv ≡ feed_move_enabled m g h.0 (feed_move g.feeds h.0 mv)
-    by_move (Ask t n) e k = ap (λ t. enabled_in_tree m g t (Ask t n)) e
-    by_move (Send t n) e k = ap (λ t. enabled_in_tree m g t (Send t n)) e
-    by_move (Take t n) e k = ap (λ t. enabled_in_tree m g t (Take t n)) e
-    by_move (Pick t n i) e k = ap (λ t. enabled_in_tree m g t (Pick t n i)) e
-    by_move (Row t n) e k = ap (λ t. enabled_in_tree m g t (Row t n)) e
+    by_move (Ask t n) e k = ap (λ x. enabled_in_tree m g x (Ask t n)) e
+    by_move (Send t n) e k = ap (λ x. enabled_in_tree m g x (Send t n)) e
+    by_move (Take t n) e k = ap (λ x. enabled_in_tree m g x (Take t n)) e
+    by_move (Pick t n i) e k = ap (λ x. enabled_in_tree m g x (Pick t n i)) e
+    by_move (Row t n) e k = ap (λ x. enabled_in_tree m g x (Row t n)) e
     by_move (Accept i) e k = let none = sym (no_accept (feed_of g.feeds h.0) i) ∙ k in cc
 
 pub name_in_tree : {T : Type 0} (f : Feed T) (h : HubId) (inside : NodeMove) → tree_of (name_in f h inside) ≡ FeedOf h
@@ -66,6 +67,10 @@ nothing_delivered h (Take (FeedOf i) n) o e k = k
 nothing_delivered h (Pick t n i) o e k = k
 nothing_delivered h (Row t n) o e k = k
 nothing_delivered h (Accept i) o e k = k
+
+-- the Take of a root is that which delivers
+pub root_take : (i : SubId) (n : NodeId) → n.0 ≡ 0 → delivery i ≡ Take (Sub i) n
+root_take i n e = ap (λ k. Take (Sub i) (record { 0 = k })) (sym e)
 
 -- ---- a quiet hub
 

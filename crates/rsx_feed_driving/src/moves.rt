@@ -1,9 +1,13 @@
 //! One move of a subscription, of a hub or of a hub's feed.
 
 ghost use Rattle.std.specs.Prelude.{◌≡◌, ◌≢◌, List, length, true, false, OnOk, OnErr, IfOk, IfErr};
-ghost use Rattle.rsx_feeding.specs.History.{History, with_made, with_sent};
+ghost use Rattle.rsx_feeding.specs.History.{History, with_delivery, with_made, with_sent};
 ghost use Rattle.rsx_feeding.specs.Moves.{IsFeedRefusal, has_feed, rows_of};
 ghost use Rattle.rsx_feeding.specs.Stands.{StandsFor};
+ghost use Rattle.rsx_history.specs.History.{IsTreeMoveRefusal};
+ghost use Rattle.rsx_history.specs.Stands.{IsMadeAt, allocates_at, enabled_at};
+ghost use Rattle.rsx_hub.specs.Hub.{HubState};
+ghost use Rattle.rsx_publishing.specs.declared.feed.Feed.{Feed as FeedOf};
 ghost use Rattle.rsx_subscriber.specs.declared.subscription.Subscription.{Subscription as SubscriptionOf};
 ghost use Rattle.rsx_subscriber.specs.Stands.{IsMadeAnswer};
 ghost use Rattle.rsx_feed_driving.specs.Moves.{IsMakeRefusal, IsMoved, IsMovedInFeed, feed_move, feed_move_allocates, feed_move_enabled, is_enabled, may_allocate, sent, sent_by_feed};
@@ -52,18 +56,19 @@ pub fn make<O: Ops>(
     ensures same { OnErr result ((hubs.new.items ≡ hubs.old.items) × (feeds.new.items ≡ feeds.old.items) × (subscriptions.new.items ≡ subscriptions.old.items)) }
 {
     match step {
-        Move::Take(Tree::Sub(sub), NodeId(0)) => match take(subscriptions, sub) {
-            Ok(signal) => Ok(Some((sub, signal))),
-            Err(why) => Err(why),
-        },
         Move::Ask(Tree::Sub(sub), _)
         | Move::Send(Tree::Sub(sub), _)
-        | Move::Take(Tree::Sub(sub), _)
         | Move::Pick(Tree::Sub(sub), _, _)
         | Move::Row(Tree::Sub(sub), _) => match make_in_tree(alloc, ops, subscriptions, sub, step) {
             Ok(()) => Ok(None),
             Err(why) => Err(why),
         },
+        Move::Take(Tree::Sub(sub), node) => {
+            match take_in_tree(alloc, ops, subscriptions, sub, node) {
+                Ok(taken) => Ok(taken),
+                Err(why) => Err(why),
+            }
+        }
         Move::Accept(hub) => match accept(alloc, ops, hubs, feeds, subscriptions, hub) {
             Ok(()) => Ok(None),
             Err(why) => Err(why),
@@ -73,8 +78,7 @@ pub fn make<O: Ops>(
         | Move::Take(Tree::Feed(hub), _)
         | Move::Pick(Tree::Feed(hub), _, _)
         | Move::Row(Tree::Feed(hub), _) => {
-            let inside = move_in_feed(feeds, hub, step);
-            match make_of_feed(alloc, ops, hubs, feeds, subscriptions, hub, inside) {
+            match make_of_feed(alloc, ops, hubs, feeds, subscriptions, hub, step) {
                 Ok(()) => Ok(None),
                 Err(why) => Err(why),
             }
@@ -95,7 +99,40 @@ fn move_in_feed<T: Drop>(feeds: &Vec<Feed<T>>, hub: HubId, step: Move) -> Option
     }
 }
 
-/// Makes a move of the feed of a hub. None stands for one that is never enabled there, as the Take from an edge with no queue.
+/// Makes a Take in the tree of a subscription: that of the root hands the front signal of its queue to the subscriber, and any
+/// other one hands that of an edge's queue to the edge's receiver.
+fn take_in_tree<O: Ops>(
+    alloc: Global,
+    ops: &O,
+    subscriptions: &mut Vec<Subscription<O::Item>>,
+    sub: SubId,
+    node: NodeId,
+) -> Result<Option<(SubId, Signal<O::Item>)>, Refusal>
+    ensures count { length subscriptions.new.items ≡ length subscriptions.old.items }
+    ensures stands { IfOk result (λ o. (hubs : List (HubState O.Item)) (feeds : List (FeedOf O.Item)) (h : History O.Item) →
+        StandsFor (O.meaning ops.now) (rows_of hubs feeds subscriptions.old.items) h → StandsFor (O.meaning ops.now) (rows_of hubs feeds subscriptions.new.items) (with_delivery o h)) }
+    ensures answer { IfOk result (λ o. IsMadeAnswer (Move.Take (Tree.Sub sub) node) o) }
+    ensures enabled { OnOk result (enabled_at (O.meaning ops.now) subscriptions.old.items sub.0 (Move.Take (Tree.Sub sub) node) ≡ true) }
+    ensures effect { IfOk result (λ o. IsMadeAt (O.meaning ops.now) (Move.Take (Tree.Sub sub) node) sub.0 subscriptions.old.items subscriptions.new.items o) }
+    ensures err { IfErr result (λ r. IsTreeMoveRefusal (length subscriptions.old.items)
+        (enabled_at (O.meaning ops.now) subscriptions.old.items sub.0 (Move.Take (Tree.Sub sub) node)) (Tree.Sub sub) r) }
+    ensures memory { allocates_at (O.allocates ops.now) subscriptions.old.items sub.0 (Move.Take (Tree.Sub sub) node) ≡ false → IfErr result (λ r. r ≢ Refusal.NoMemory) }
+    ensures same { OnErr result (subscriptions.new.items ≡ subscriptions.old.items) }
+{
+    if node.0 > 0 {
+        let step = Move::Take(Tree::Sub(sub), node);
+        return match make_in_tree(alloc, ops, subscriptions, sub, step) {
+            Ok(()) => Ok(None),
+            Err(why) => Err(why),
+        };
+    }
+    match take(subscriptions, sub) {
+        Ok(signal) => Ok(Some((sub, signal))),
+        Err(why) => Err(why),
+    }
+}
+
+/// Makes a move of the feed of a hub.
 fn make_of_feed<O: Ops>(
     alloc: Global,
     ops: &O,
@@ -103,7 +140,7 @@ fn make_of_feed<O: Ops>(
     feeds: &mut Vec<Feed<O::Item>>,
     subscriptions: &mut Vec<Subscription<O::Item>>,
     hub: HubId,
-    inside: Option<NodeMove>,
+    step: Move,
 ) -> Result<(), Refusal>
     ensures hubs { length hubs.new.items ≡ length hubs.old.items }
     ensures feeds { length feeds.new.items ≡ length feeds.old.items }
@@ -111,23 +148,23 @@ fn make_of_feed<O: Ops>(
     ensures stands { OnOk result ((h : History O.Item) →
         StandsFor (O.meaning ops.now) (rows_of hubs.old.items feeds.old.items subscriptions.old.items) h →
         StandsFor (O.meaning ops.now) (rows_of hubs.new.items feeds.new.items subscriptions.new.items)
-        (with_sent (sent_by_feed (O.meaning ops.now) (rows_of hubs.old.items feeds.old.items subscriptions.old.items) hub.0 inside) hub.0 h)) }
-    ensures enabled { OnOk result (feed_move_enabled (O.meaning ops.now) (rows_of hubs.old.items feeds.old.items subscriptions.old.items) hub.0 inside ≡ true) }
-    ensures effect { OnOk result (IsMovedInFeed (O.meaning ops.now) inside hub.0 (rows_of hubs.old.items feeds.old.items subscriptions.old.items) (rows_of hubs.new.items feeds.new.items subscriptions.new.items)) }
+        (with_sent (sent_by_feed (O.meaning ops.now) (rows_of hubs.old.items feeds.old.items subscriptions.old.items) hub.0 (feed_move feeds.old.items hub.0 step)) hub.0 h)) }
+    ensures enabled { OnOk result (feed_move_enabled (O.meaning ops.now) (rows_of hubs.old.items feeds.old.items subscriptions.old.items) hub.0 (feed_move feeds.old.items hub.0 step) ≡ true) }
+    ensures effect { OnOk result (IsMovedInFeed (O.meaning ops.now) (feed_move feeds.old.items hub.0 step) hub.0 (rows_of hubs.old.items feeds.old.items subscriptions.old.items) (rows_of hubs.new.items feeds.new.items subscriptions.new.items)) }
     ensures err { IfErr result (IsFeedRefusal (has_feed (rows_of hubs.old.items feeds.old.items subscriptions.old.items) hub.0)
-        (feed_move_enabled (O.meaning ops.now) (rows_of hubs.old.items feeds.old.items subscriptions.old.items) hub.0 inside)) }
-    ensures memory { feed_move_allocates (O.allocates ops.now) feeds.old.items hub.0 inside ≡ false → IfErr result (λ r. r ≢ Refusal.NoMemory) }
+        (feed_move_enabled (O.meaning ops.now) (rows_of hubs.old.items feeds.old.items subscriptions.old.items) hub.0 (feed_move feeds.old.items hub.0 step))) }
+    ensures memory { feed_move_allocates (O.allocates ops.now) feeds.old.items hub.0 (feed_move feeds.old.items hub.0 step) ≡ false → IfErr result (λ r. r ≢ Refusal.NoMemory) }
     ensures same { OnErr result ((hubs.new.items ≡ hubs.old.items) × (feeds.new.items ≡ feeds.old.items) × (subscriptions.new.items ≡ subscriptions.old.items)) }
 {
-    match inside {
-        Some(move_inside) => match make_in_feed(
+    match move_in_feed(feeds, hub, step) {
+        Some(inside) => match make_in_feed(
             alloc,
             ops,
             hubs,
             feeds,
             subscriptions,
             hub,
-            move_inside,
+            inside,
         ) {
             Ok(()) => Ok(()),
             Err(why) => Err(why),
