@@ -6,11 +6,13 @@ use Rattle.std.proofs.lemmas.Bool.Decides.{nat_tests}
 use Rattle.std.proofs.lemmas.List.{append-nil, drop_all, length-take}
 use Rattle.rsx_demand.specs.declared.TheConstants.{UNBOUNDED}
 use Rattle.rsx_feed_driving.specs.Pumped.{AreHubsQuiet, IsAllQuiet, IsHubQuiet}
+use Rattle.rsx_feed_driving.proofs.Named.{name_enabled}
+use Rattle.rsx_feed_driving.specs.Moves.{name_in}
 use Rattle.rsx_feeding.proofs.Named.{feed_named, is_number}
 use Rattle.rsx_feeding.proofs.Values.{emitted_value, values_of}
 use Rattle.rsx_feeding.specs.Headline.{AreValues, IsValue}
 use Rattle.rsx_feeding.specs.History.{History, HubPast, Source, emitted, fed}
-use Rattle.rsx_feeding.specs.Moves.{accepts_at, accepts_in, feed_enabled, has_feed, sends, sends_where, works, works_where}
+use Rattle.rsx_feeding.specs.Moves.{accepts_at, accepts_in, feed_enabled, has_feed, is_out, sends, sends_where, works, works_where}
 use Rattle.rsx_feeding.specs.Stands.{HubStands, IsFedBy, Rows, SourceStands, StandsFor, feed_of}
 use Rattle.rsx_history.specs.Served.{AllHaveRead}
 use Rattle.rsx_history.specs.Stands.{AllStand}
@@ -32,6 +34,7 @@ use Rattle.rsx_pipe.specs.Published.{IsTaken}
 use Rattle.rsx_pipe.specs.Tree.{can_go, notes_of}
 use Rattle.rsx_publishing.specs.Publishing.{all_have_room, can_accept_with_feeds, is_ready}
 use Rattle.rsx_publishing.specs.Sending.{can_feed, takes_next}
+use Rattle.rsx_pipe.specs.Crossing.{route}
 use Rattle.rsx_publishing.specs.declared.feed.Feed.{Feed}
 use Rattle.rsx_sources.specs.Machine.{front_of}
 use Rattle.rsx_sources.specs.Reading.{published_at, reads_hub}
@@ -47,12 +50,15 @@ use Rattle.rsx_tree.specs.Tree.{offers}
 use Rattle.rsx_tree.specs.declared.edge.EdgeState.{EdgeState}
 use Rattle.rsx_tree.specs.declared.edge.EdgeState.TheVariants.{Live, Ended, Closed}
 use Rattle.rsx_tree.specs.declared.inputs.Inputs.{Inputs, End, More'}
+use Rattle.rsx_subscriber.proofs.Names.{numbered_name}
+use Rattle.rsx_subscriber.specs.Moves.{inside_node}
 use Rattle.rsx_tree.specs.declared.look.NodeMove.{NodeMove}
 use Rattle.rsx_tree.specs.declared.look.NodeMove.TheVariants.{Ask as NodeAsk, Send as NodeSend, Pick as NodePick, Row as NodeRow}
 use Rattle.rsx_tree.specs.declared.node.Node.{Node}
 use Rattle.rsx_types.specs.Meaning.{Meaning}
 use Rattle.rsx_types.specs.Stream.{Stream, ended_by, ending_signals, items_then, signals}
 use Rattle.rsx_types.specs.declared.names.Move.TheVariants.{Ask, Send, Pick, Row, Accept}
+use Rattle.rsx_types.specs.declared.names.HubId.{HubId}
 use Rattle.rsx_types.specs.declared.names.Tree.TheVariants.{Feed as FeedOf}
 use Rattle.rsx_types.specs.declared.signal.Ending.{Ending}
 use Rattle.rsx_types.specs.declared.signal.Ending.TheVariants.{Open, Done, Failed}
@@ -578,12 +584,17 @@ rows_read {T} m g h s wait quiet within published values =
     let k : IsAtRest m g h = record { stands = s; wait = wait; quiet = quiet; within = within } in
     subst P (same_values m g.feeds [] h.hubs (values_then s.taken r.rest) published r.values values) (values_read m g h k r.rest (record { many = r.many; values = r.values }))
 
--- where no move is enabled at all, none of a hub is
+-- where no move is enabled at all, none of a hub is: each move of a feed has a name
 pub hubs_quiet : {T : Type 0} (m : Meaning T) (g : Rows T) → length g.hubs ≤ MOST_HUBS → IsAllQuiet m g → AreHubsQuiet m g (length g.hubs)
-hubs_quiet {T} m g few q h less = record { accept = q (Accept (record { 0 = h })) (omega (arith, few, less)); feed = by_step }
+hubs_quiet {T} m g few q h less = record { accept = q (Accept hub) (omega (arith, few, less)); feed = λ step l. by_feed step l (feed_of g.feeds h) refl }
   where
-    by_step : (step : NodeMove) → Part.IsNumbered step → feed_enabled m g h step ≡ false
-    by_step (NodeAsk n) l = q (Ask (FeedOf (record { 0 = h })) (record { 0 = n })) l
-    by_step (NodeSend n) l = q (Send (FeedOf (record { 0 = h })) (record { 0 = n })) l
-    by_step (NodePick n k) l = q (Pick (FeedOf (record { 0 = h })) (record { 0 = n }) k) l
-    by_step (NodeRow n) l = q (Row (FeedOf (record { 0 = h })) (record { 0 = n })) l
+    hub : HubId
+    hub = record { 0 = h }
+
+    no_feed : (a : Bool) → feed_of g.feeds h ≡ None → a && is_some (feed_of g.feeds h) ≡ false
+    no_feed true e = ap is_some e
+    no_feed false e = refl
+
+    by_feed : (step : NodeMove) → Part.IsNumbered step → (o : Option (Feed T)) → feed_of g.feeds h ≡ o → feed_enabled m g h step ≡ false
+    by_feed step l None e = ap (λ b. b && (if is_out step then sends m g h else works m g.feeds h step)) (no_feed (is_some (slice_get g.hubs h)) e)
+    by_feed step l (Some f) e = sym (name_enabled m g hub f step e) ∙ q (name_in f hub step) (numbered_name (route f.part (inside_node step)) (FeedOf hub) step l)
