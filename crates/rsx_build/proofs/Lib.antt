@@ -4,6 +4,7 @@ pub mod Crossings
 pub mod FlatMaps
 pub mod GroupBys
 pub mod Made
+pub mod Placings
 pub mod PublishOn
 pub mod Rows
 pub mod Several

@@ -1,3 +1,4 @@
 -- Definitions that contracts cite.
 pub mod Built
+pub mod Crossings
 pub mod Made

@@ -31,6 +31,7 @@ use Rattle.rsx_crossing.specs.declared.queued.Queued.{Queued}
 use Rattle.rsx_crossing.specs.declared.sender.Sender.TheVariants.{Direct, Crossing}
 use Rattle.rsx_crossing.specs.declared.tail.Tail.TheVariants.{Open}
 use Rattle.rsx_node.specs.Any.{TreeNode}
+use Rattle.rsx_build.specs.Crossings.{is_crossing}
 use Rattle.rsx_node.specs.declared.any_node.AnyNode.{AnyNode}
 use Rattle.rsx_node.specs.declared.any_node.AnyNode.TheVariants.{Plain, Several, PublishOn, Window, FlatMap, GroupBy}
 
@@ -103,11 +104,6 @@ pub record IsOverOne {T : Type 0} (made : Result (AnyNode T) NoMemory) (below t 
   pub row : Inputs (TreeNode T)
   pub joined : IsJoined below End row
   pub inputs : t.inputs ≡ row
-
--- whether a node has the queue of its edge
-abbrev pub is_crossing : {T : Type 0} → TreeNode T → Bool
-is_crossing (Direct n) = false
-is_crossing (Crossing n) = true
 
 -- the second tree is the first with an empty queue behind its root
 pub record IsQueuedRoot {T : Type 0} (old new : Node (TreeNode T)) : Type 0 where

@@ -1,11 +1,13 @@
 //! The tree of an expression.
 
-ghost use Rattle.std.specs.Prelude.{◌≡◌, ◌≤◌, ◌<◌, IfOk, List, None, length, map};
+ghost use Rattle.std.specs.Prelude.{◌≡◌, ◌≤◌, ◌<◌, false, IfOk, List, None, length, map};
 ghost use Rattle.rsx_hub.specs.Hub.{HubState};
 ghost use Rattle.rsx_model.specs.Check.{first_fault, first_of};
 ghost use Rattle.rsx_model.specs.declared.check.TheConstants.{MOST_INPUTS, MOST_PREFETCH};
 ghost use Rattle.rsx_model.specs.declared.expr.Expr.TheVariants.{Items as ItemsOf, Hub as HubOf};
 ghost use Rattle.rsx_build.specs.Built.{IsBuilt, AreBuilt, IsBuiltOver, IsPlainOver, IsPublishOnOver, IsWindowOver, starts_ended};
+ghost use Rattle.rsx_region.specs.Region.{region_of};
+ghost use Rattle.rsx_build.specs.Crossings.{ArePlaced, IsAlone, IsPlaced, IsPlacedOver, differ};
 ghost use Rattle.rsx_build.specs.Made.{IsCrossed, IsFlatMap, IsGroupBy, IsInFront, IsOver, IsOverOne, IsPlain, IsPublishOn, IsSeveral, IsWindow};
 ghost use Rattle.rsx_several.specs.Kind.{IsWithin};
 
@@ -41,7 +43,10 @@ pub fn build<O: Ops>(
     hubs: &[Hub<O::Item>],
 ) -> Result<Node<TreeNode<O::Item>>, NoMemory>
     requires { first_fault (length hubs.now) expr.now ≡ None }
-    ensures { IfOk result (λ tree. IsBuilt (O.meaning ops.now) hubs.now expr.now tree) }
+    ensures built { IfOk result (λ tree. IsBuilt (O.meaning ops.now) hubs.now expr.now tree) }
+
+    // The edges below the root have a queue just where they join two regions, and the root's own has none.
+    ensures placed { IfOk result (λ tree. IsPlaced expr.now false tree) }
 {
     match expr {
         Expr::Items(items) => build_items(alloc, ops, items),
@@ -88,6 +93,26 @@ pub fn build<O: Ops>(
     }
 }
 
+/// The tree of an expression for a receiver in this region: as [`build`] makes it, and where the root is in another region, the
+/// root's own edge crosses, and has a queue.
+///
+/// # Errors
+/// [`NoMemory`] where a growth was refused.
+pub fn build_for<O: Ops>(
+    alloc: Global,
+    ops: &O,
+    expr: &Expr<O::Item>,
+    hubs: &[Hub<O::Item>],
+    region: u8,
+) -> Result<Node<TreeNode<O::Item>>, NoMemory>
+    requires { first_fault (length hubs.now) expr.now ≡ None }
+    ensures built { IfOk result (λ tree. IsBuilt (O.meaning ops.now) hubs.now expr.now tree) }
+    ensures placed { IfOk result (λ tree. IsPlaced expr.now (differ region (region_of expr.now)) tree) }
+{
+    let made = build(alloc, ops, expr, hubs);
+    crossed(alloc, made, region != region_of(expr))
+}
+
 /// The tree of a node of this kind over those of these expressions.
 #[cycle(trees)]
 fn build_over<O: Ops>(
@@ -101,7 +126,8 @@ fn build_over<O: Ops>(
     requires some { 1 ≤ length inputs.now }
     requires most { length inputs.now ≤ MOST_INPUTS }
     requires faultless { first_of (map (first_fault (length hubs.now)) inputs.now) ≡ None }
-    ensures { IfOk result (λ tree. IsBuiltOver (O.meaning ops.now) hubs.now kind inputs.now tree) }
+    ensures built { IfOk result (λ tree. IsBuiltOver (O.meaning ops.now) hubs.now kind inputs.now tree) }
+    ensures placed { IfOk result (λ tree. IsPlacedOver inputs.now tree) }
 {
     let row = build_inputs(alloc, ops, inputs, hubs, region_of(&inputs[0]))?;
     over(alloc, several(alloc, kind, inputs.len() as u32), row, false)
@@ -117,13 +143,14 @@ fn build_inputs<O: Ops>(
     region: u8,
 ) -> Result<Inputs<TreeNode<O::Item>>, NoMemory>
     requires { first_of (map (first_fault (length hubs.now)) exprs.now) ≡ None }
-    ensures { IfOk result (λ row. AreBuilt (O.meaning ops.now) hubs.now exprs.now row) }
+    ensures built { IfOk result (λ row. AreBuilt (O.meaning ops.now) hubs.now exprs.now row) }
+    ensures placed { IfOk result (λ row. ArePlaced region exprs.now row) }
 {
     match exprs.split_first() {
         Some((first, others)) => {
             let beside = build_inputs(alloc, ops, others, hubs, region)?;
             let made = build(alloc, ops, first, hubs);
-            let below = crossed(alloc, made, region_of(first) != region);
+            let below = crossed(alloc, made, region != region_of(first));
             in_front(alloc, below, beside)
         }
         None => Ok(Inputs::End),
@@ -136,7 +163,8 @@ fn build_items<O: Ops>(
     ops: &O,
     items: &Vec<O::Item>,
 ) -> Result<Node<TreeNode<O::Item>>, NoMemory>
-    ensures { IfOk result (λ tree. (hubs : List (HubState O.Item)) → IsBuilt (O.meaning ops.now) hubs (ItemsOf items.now) tree) }
+    ensures built { IfOk result (λ tree. (hubs : List (HubState O.Item)) → IsBuilt (O.meaning ops.now) hubs (ItemsOf items.now) tree) }
+    ensures alone { IfOk result (λ tree. IsAlone tree) }
 {
     let node = ItemsNode::new(alloc, ops, items)?;
     source(alloc, SourceNode::Items(node))
@@ -150,7 +178,8 @@ fn build_leaf<O: Ops>(
     hubs: &[Hub<O::Item>],
 ) -> Result<Node<TreeNode<O::Item>>, NoMemory>
     requires { number.0 < length hubs.now }
-    ensures { IfOk result (λ tree. IsBuilt (O.meaning ops.now) hubs.now (HubOf number) tree) }
+    ensures built { IfOk result (λ tree. IsBuilt (O.meaning ops.now) hubs.now (HubOf number) tree) }
+    ensures alone { IfOk result (λ tree. IsAlone tree) }
 {
     let hub = &hubs[number.0 as usize];
     let member = hub.member(alloc, ops)?;
@@ -360,6 +389,7 @@ fn in_front<M: Drop>(
 fn source<T: Drop>(alloc: Global, node: SourceNode<T>) -> Result<Node<TreeNode<T>>, NoMemory>
     ensures machine { IfOk result (λ tree. tree.machine ≡ Sender.Direct (AnyNode.Source node)) }
     ensures inputs { IfOk result (λ tree. tree.inputs ≡ Inputs.End) }
+    ensures alone { IfOk result (λ tree. IsAlone tree) }
 {
     let machine = Boxed::new(alloc, Sender::Direct(AnyNode::Source(node)))?;
     Ok(Node {
