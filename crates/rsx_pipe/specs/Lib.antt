@@ -1,5 +1,6 @@
 -- Definitions that contracts cite.
 pub use Rattle.rsx_build.specs.Built
+pub use Rattle.rsx_build.specs.Crossings
 pub use Rattle.rsx_node.specs.Any
 pub mod Code
 pub mod Crossing

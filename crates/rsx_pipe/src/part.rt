@@ -1,6 +1,6 @@
 //! A part of a graph: one tree of nodes with its edges.
 
-use rsx_build::{TreeNode, build};
+use rsx_build::{TreeNode, build, build_for};
 use rsx_hub::Hub;
 use rsx_model::Expr;
 use rsx_queue::SignalQueue;
@@ -45,6 +45,8 @@ impl<T: Drop> Part<T> {
     ghost use Rattle.rsx_types.specs.Stream.{Stream};
     ghost use Rattle.rsx_sources.specs.Steps.{IsNotMade};
     ghost use Rattle.rsx_build.specs.Built.{fresh_edge, fresh_edges, new_joins};
+    ghost use Rattle.rsx_build.specs.Crossings.{IsPlaced, differ};
+    ghost use Rattle.rsx_region.specs.Region.{region_of};
     ghost use Rattle.rsx_pipe.specs.Published.{AreTaken};
     ghost use Rattle.rsx_tree.specs.Edges.{closed_view, edge_view};
     ghost use Rattle.rsx_tree.specs.Stepped.{station_of};
@@ -69,8 +71,34 @@ impl<T: Drop> Part<T> {
         ensures stands { IfOk result (λ p. (published : List (Stream T)) → AreTaken hubs.now published →
             PartStands (O.meaning ops.now) published p expr.now (new_joins hubs.now expr.now) []) }
         ensures edges { IfOk result (λ p. all_edges p ≡ fresh_edge ∷ fresh_edges expr.now) }
+        ensures placed { IfOk result (λ p. IsPlaced expr.now false p.tree) }
     {
         let tree = build(alloc, ops, expr, hubs)?;
+        let root = Edge::new();
+        Ok(Part {
+            rooted: Rooted { tree, root },
+        })
+    }
+
+    /// The same for a receiver in this region that has no queue for the root edge: where the root is in another region, the root
+    /// edge crosses, and has a queue of its own.
+    ///
+    /// # Errors
+    /// [`NoMemory`] where a growth was refused.
+    pub fn new_for<O: Ops<Item = T>>(
+        alloc: Global,
+        ops: &O,
+        expr: &Expr<T>,
+        hubs: &[Hub<T>],
+        region: u8,
+    ) -> Result<Part<T>, NoMemory>
+        requires { first_fault (length hubs.now) expr.now ≡ None }
+        ensures stands { IfOk result (λ p. (published : List (Stream T)) → AreTaken hubs.now published →
+            PartStands (O.meaning ops.now) published p expr.now (new_joins hubs.now expr.now) []) }
+        ensures edges { IfOk result (λ p. all_edges p ≡ fresh_edge ∷ fresh_edges expr.now) }
+        ensures placed { IfOk result (λ p. IsPlaced expr.now (differ region (region_of expr.now)) p.tree) }
+    {
+        let tree = build_for(alloc, ops, expr, hubs, region)?;
         let root = Edge::new();
         Ok(Part {
             rooted: Rooted { tree, root },

@@ -7,8 +7,11 @@ use rsx_pipe::{NodeMove, Part};
 use rsx_types::{NoMemory, Ops, Signal};
 use std::alloc::Global;
 
-/// A part whose signals a hub takes in, which publishes so what an expression gives. No queue stands between: what goes over the
-/// part's root edge is taken in by the hub in the same move.
+/// The region of every hub.
+const HUB_REGION: u8 = 0;
+
+/// A part whose signals a hub takes in, which publishes so what an expression gives. What goes over the part's root edge is taken in
+/// by the hub in the same move. Where the root isn't in region 0, as the hub is, that edge has a queue of its own in front.
 #[derive(Drop)]
 pub struct Feed<T> {
     /// The part of the expression.
@@ -21,6 +24,8 @@ impl<T: Drop> Feed<T> {
     ghost use Rattle.std.specs.Prelude.{◌≡◌, ℕ, ◌<◌, ◌^◌, min, true, List, [], ◌∷◌, ◌++◌, length, None, IfOk, IfSome, IfNone};
     ghost use Rattle.rsx_model.specs.Check.{first_fault};
     ghost use Rattle.rsx_pipe.specs.Built.{new_joins};
+    ghost use Rattle.rsx_pipe.specs.Crossings.{IsPlaced, differ};
+    ghost use Rattle.rsx_region.specs.Region.{region_of};
     ghost use Rattle.rsx_types.specs.Meaning.{Meaning};
     ghost use Rattle.rsx_types.specs.Stream.{Stream, ended_by};
     ghost use Rattle.rsx_types.specs.declared.signal.Ending.TheVariants.{Open};
@@ -47,8 +52,9 @@ impl<T: Drop> Feed<T> {
         ensures stands { IfOk result (λ f. (published : List (Stream T)) → AreTaken hubs.now published →
             FeedStands (O.meaning ops.now) (published ++ ended_by Open ∷ []) f expr.now (new_joins hubs.now expr.now)) }
         ensures hub { IfOk result (λ f. f.hub ≡ length hubs.now) }
+        ensures placed { IfOk result (λ f. IsPlaced expr.now (differ 0 (region_of expr.now)) f.part.tree) }
     {
-        let mut part = Part::new(alloc, ops, expr, hubs)?;
+        let mut part = Part::new_for(alloc, ops, expr, hubs, HUB_REGION)?;
         part.request(UNBOUNDED);
         Ok(Feed {
             part,

@@ -5,6 +5,7 @@ use Rattle.rsx_model.specs.Check.{refusal}
 use Rattle.rsx_model.specs.declared.expr.Expr.{Expr}
 use Rattle.rsx_hub.specs.Hub.{HubState}
 use Rattle.rsx_pipe.specs.Built.{fresh_edge, fresh_edges, new_joins}
+use Rattle.rsx_pipe.specs.Crossings.{IsPlaced}
 use Rattle.rsx_pipe.specs.Published.{AreTaken}
 use Rattle.rsx_tree.specs.Edges.{edge_view}
 use Rattle.rsx_pipe.specs.Part.{PartStands, all_edges}
@@ -60,9 +61,10 @@ stands_fresh {T} m hubs published e sub ok taken b k q f =
     not_closed : Live ≡ Closed → ⊥
     not_closed c = cc
 
-pub fresh_sub : {T : Type 0} (m : Meaning T) (e : Expr T) (sub : Subscription T) → all_edges sub.part ≡ fresh_edge ∷ fresh_edges e → sub.queue ≡ [] → IsBegun sub → IsFresh e sub
-fresh_sub m e sub b q f = record {
+pub fresh_sub : {T : Type 0} (m : Meaning T) (e : Expr T) (sub : Subscription T) → all_edges sub.part ≡ fresh_edge ∷ fresh_edges e → IsPlaced e false sub.part.tree → sub.queue ≡ [] → IsBegun sub → IsFresh e sub
+fresh_sub m e sub b placed q f = record {
   edges = b;
+  placed = placed;
   queue = q;
   state = f.state;
   live = f.live;

@@ -162,7 +162,7 @@ one_step m me (Take (FeedOf h) n) (Some d) old new enabled moved answer = absurd
 one_step m me (Take (Sub i) n) None old new enabled moved answer = tree_step m me (Take (Sub i) n) i.0 old.subs new.subs moved.0 (worked_kept m (inner_move moved.0.old (Take (Sub i) n)) moved.0.old moved.0.new moved.0.effect)
 one_step {T} m me (Take (Sub i) n) (Some d) old new enabled moved answer =
     let root = root_taken (nat_eq n.0 0) i d answer in
-    let here : d.0.0 ≡ i.0 = ap (λ x. x.0.0) (same_Some d (i, root.1) root.2) in
+    let here : d.0.0 ≡ i.0 = ap (λ x. x.0.0) (same_Some d (i, root.1.0) root.1.1) in
     let made = moved.0 in
     elim (cases_eq i.0 me) [
       | inl is ↦ (let before : slice_get old.subs me ≡ Some made.old = ap (λ k. slice_get old.subs k) (sym is) ∙ made.there in

@@ -12,4 +12,4 @@ pub returns-clause-fresh : goal.returns-clause-fresh
 returns-clause-fresh g c =
     let t = c.step.ensures in
     let d = c.new-demand.ensures in
-    fresh_sub (g.O.Ops.meaning c.args.ops.now) c.args.expr.now _ c.in_ok-part.ensures.edges c.in_ok-queue.ensures (begun _ c.new-demand.result d.asked d.sent t.state refl t.asked t.sent)
+    fresh_sub (g.O.Ops.meaning c.args.ops.now) c.args.expr.now _ c.in_ok-part.ensures.edges c.in_ok-part.ensures.placed c.in_ok-queue.ensures (begun _ c.new-demand.result d.asked d.sent t.state refl t.asked t.sent)
