@@ -158,5 +158,9 @@ fn first_of_feed<T: Drop>(
 fn name_in_feed<T: Drop>(feed: &Feed<T>, hub: HubId, inside: NodeMove) -> Move
     ensures { result ≡ name_in feed.now hub inside }
 {
-    name_of(Tree::Feed(hub), inside, feed.part.route(inside_node(inside)))
+    name_of(
+        Tree::Feed(hub),
+        inside,
+        feed.part.route(inside_node(inside)),
+    )
 }

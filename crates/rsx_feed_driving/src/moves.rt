@@ -157,15 +157,7 @@ fn make_of_feed<O: Ops>(
     ensures same { OnErr result ((hubs.new.items ≡ hubs.old.items) × (feeds.new.items ≡ feeds.old.items) × (subscriptions.new.items ≡ subscriptions.old.items)) }
 {
     match move_in_feed(feeds, hub, step) {
-        Some(inside) => match make_in_feed(
-            alloc,
-            ops,
-            hubs,
-            feeds,
-            subscriptions,
-            hub,
-            inside,
-        ) {
+        Some(inside) => match make_in_feed(alloc, ops, hubs, feeds, subscriptions, hub, inside) {
             Ok(()) => Ok(()),
             Err(why) => Err(why),
         },

@@ -8,8 +8,8 @@
 //!
 //! The definitions stand in `specs/`, apart from the code: `Part` (what a part stands for, which of its moves are enabled,
 //! what they change, and what is delivered where it is idle), `Tree` (what `rsx_tree` says of the tree of a part), `Output`
-//! (what has gone out, and what was published), `Crossing` (which edges have a queue), `Published` (what the hubs took in and handed on) and `Feeding` (what goes out
-//! where no queue is behind the root edge).
+//! (what has gone out, and what was published), `Crossing` (which edges go through a queue), `Published` (what the hubs took in
+//! and handed on) and `Feeding` (what goes out where no queue is behind the root edge).
 
 pub mod crossing;
 pub mod feeding;

@@ -10,8 +10,8 @@ use std::alloc::Global;
 /// The region of every hub.
 const HUB_REGION: u8 = 0;
 
-/// A part whose signals a hub takes in, which publishes so what an expression gives. What goes over the part's root edge is taken in
-/// by the hub in the same move. Where the root isn't in region 0, as the hub is, that edge has a queue of its own in front.
+/// A part whose signals a hub takes in, which publishes so what an expression gives. What goes over the part's root edge is taken
+/// in by the hub in the same move. Where the root isn't in the region of the hub, the root has a queue in front of that edge.
 #[derive(Drop)]
 pub struct Feed<T> {
     /// The part of the expression.

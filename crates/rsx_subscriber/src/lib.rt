@@ -8,9 +8,9 @@
 //! - [`state`]: [`SubscriptionState`], how a subscription stands.
 //!
 //! The definitions stand in `specs/`, apart from the code: `Past` (what has happened to a subscriber), `Stands` (what a
-//! subscription stands for, its enabled moves and their effect), `Moves` (the names of moves), `Edited` (what a request and a cancel change), `Standing`
-//! (where it stands in the table of `rsx_subscription`), `Begun`, `Pumped`, `Published`, and `Holds` (what holds of a subscriber whose
-//! subscription stands for its past). Those of parts, trees and edges are in the crates below.
+//! subscription stands for, its enabled moves and their effect), `Moves` (the names of moves), `Edited` (what a request and a
+//! cancel change), `Standing` (where it stands in the table of `rsx_subscription`), `Begun`, `Pumped`, `Published`, and `Holds`
+//! (what holds of a subscriber whose subscription stands for its past). Those of parts, trees and edges are in the crates below.
 
 pub mod deliveries;
 pub mod naming;

@@ -195,8 +195,8 @@ impl<T: Drop> Subscription<T> {
         delivers(&mut state, &mut demand, self.queue.at(0))
     }
 
-    /// Makes the move Ask, Send, Take, Pick or Row of a node. A Take is from the queue of the node's edge, where that crosses to another
-    /// region; that of the root delivers, and is made by [`Subscription::take`].
+    /// Makes the move Ask, Send, Take, Pick or Row of a node. A Take is from the queue of the node's edge, where that crosses to
+    /// another region; that of the root delivers, and is made by [`Subscription::take`].
     ///
     /// # Errors
     /// [`NotMade::NotEnabled`] exactly where the move isn't enabled, and [`NotMade::NoMemory`] where a growth was refused, of a
