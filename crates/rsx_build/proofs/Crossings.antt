@@ -1,5 +1,5 @@
 -- An empty queue behind the root of a tree changes nothing of what the tree gives.
-use Rattle.std.proofs.Common.{◌≡◌, ◌⊎◌, inl, inr, ℕ, ◌+◌, Bool, List, [], ◌∷◌, ◌++◌, refl, ap, sym, ◌∙◌, subst, Option, Some, None, option_map, slice_get, Result, Ok, Err}
+use Rattle.std.proofs.Common.{◌≡◌, inl, inr, ℕ, ◌+◌, Bool, List, [], ◌∷◌, ◌++◌, refl, ap, sym, ◌∙◌, subst, Option, Some, None, option_map, slice_get, Result, Ok, Err}
 use Rattle.std.specs.Prelude.{IfOk}
 use Rattle.rsx_types.specs.Meaning.{Meaning}
 use Rattle.rsx_types.specs.Stream.{Stream}
@@ -12,7 +12,7 @@ use Rattle.rsx_crossing.specs.declared.sender.Sender.TheVariants.{Direct, Crossi
 use Rattle.rsx_crossing.specs.declared.tail.Tail.TheVariants.{Open}
 use Rattle.rsx_hub.specs.Hub.{HubState}
 use Rattle.rsx_model.specs.declared.expr.Expr.{Expr}
-use Rattle.rsx_node.specs.Any.{TreeNode, any_machine, kind_machine}
+use Rattle.rsx_node.specs.Any.{TreeNode, any_machine}
 use Rattle.rsx_node.specs.declared.any_node.AnyNode.{AnyNode}
 use Rattle.rsx_tree.specs.Balance.{IsRowBalanced}
 use Rattle.rsx_tree.specs.Inputs.{comes_in, out_of}

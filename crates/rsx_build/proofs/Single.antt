@@ -16,8 +16,8 @@ use Rattle.rsx_queued.specs.Inputs.{picked}
 use Rattle.rsx_tree.specs.declared.inputs.Inputs.{Inputs, End, More'}
 use Rattle.rsx_tree.specs.declared.node.Node.{Node}
 use Rattle.rsx_tree.specs.Balance.{IsBalanced}
-use Rattle.rsx_tree.specs.Inputs.{comes_in, out_of, beside_of, notes_of, edges as edges_in}
-use Rattle.rsx_tree.specs.Reads.{IsReadAt, IsTreeReadAt}
+use Rattle.rsx_tree.specs.Inputs.{out_of, beside_of, notes_of, edges as edges_in}
+use Rattle.rsx_tree.specs.Reads.{IsReadAt}
 use Rattle.rsx_tree.specs.Tree.{comes_out, notes, IsJoined}
 use Rattle.rsx_tree.proofs.Rows.{then_same}
 use Rattle.rsx_crossing.specs.declared.sender.Sender.TheVariants.{Direct}

@@ -1,5 +1,5 @@
 -- What the parts of a tree are made of.
-use Rattle.std.specs.Prelude.{◌≡◌, ◌⊎◌, ◌≤◌, ◌<◌, ℕ, Bool, true, false, ◌||◌, List, [], ◌∷◌, Result, Ok}
+use Rattle.std.specs.Prelude.{◌≡◌, ◌⊎◌, ◌≤◌, ◌<◌, ℕ, Bool, false, ◌||◌, List, [], ◌∷◌, Result, Ok}
 use Rattle.std.proofs.Math.ListN.{replicate}
 use Rattle.rsx_types.specs.declared.stage.Stage.{Stage}
 use Rattle.rsx_types.specs.declared.fault.NoMemory.{NoMemory}

@@ -1,5 +1,5 @@
 -- How the leaves of an expression join the hubs of a graph.
-use Rattle.std.proofs.Common.{◌≡◌, ℕ, zero, suc, ◌+◌, List, [], ◌∷◌, ◌++◌, map, slice_get, refl, ap, sym, Some}
+use Rattle.std.proofs.Common.{◌≡◌, ℕ, zero, suc, List, [], ◌∷◌, ◌++◌, map, slice_get, refl, ap, sym, Some}
 use Rattle.rsx_subscriber.specs.Past.{Past}
 use Rattle.rsx_history.specs.History.{HasJoins}
 

@@ -1,17 +1,13 @@
 -- A signal of a hub is handed to the nodes of a part.
-use Rattle.std.proofs.Common.{◌≡◌, ℕ, zero, suc, ◌+◌, Bool, true, false, List, [], ◌∷◌, ◌++◌, length, length-append, map, option_map, slice_get, if◌then◌else◌, refl, ap, sym, ◌∙◌, subst, arith, add-zero, append_assoc, Option, Some, None}
+use Rattle.std.proofs.Common.{◌≡◌, ℕ, zero, suc, ◌+◌, true, false, List, [], ◌∷◌, ◌++◌, length, length-append, option_map, slice_get, if◌then◌else◌, refl, ap, sym, ◌∙◌, subst, arith, add-zero, append_assoc, Option, Some}
 use Rattle.std.proofs.lemmas.List.{append-nil}
-use Rattle.rsx_types.specs.Meaning.{Meaning, Allocates}
 use Rattle.rsx_types.specs.Notes.{notes_then}
 use Rattle.rsx_types.specs.Stream.{Stream, ended_by, signal_then, signals_then}
-use Rattle.rsx_types.specs.declared.note.Note.{Note}
 use Rattle.rsx_types.specs.declared.signal.Ending.{Ending}
 use Rattle.rsx_types.specs.declared.signal.Ending.TheVariants.{Open, Done, Failed}
 use Rattle.rsx_types.specs.declared.signal.Signal.{Signal}
 use Rattle.rsx_types.specs.declared.signal.Signal.TheVariants.{Next, Complete, Error}
-use Rattle.rsx_model.specs.declared.expr.Expr.{Expr}
-use Rattle.rsx_sources.specs.Counts.{ends_input}
-use Rattle.rsx_sources.specs.Reading.{IsNextAt, published_at}
+use Rattle.rsx_sources.specs.Reading.{IsNextAt}
 use Rattle.rsx_node.specs.Any.{any_machine}
 use Rattle.rsx_tree.specs.Edges.{edge_view, is_live}
 use Rattle.rsx_tree.specs.Handed.{IsHanded as IsTreeHanded, IsHandedOut, IsNextOf, counts_after, is_room_for, times}
@@ -21,9 +17,9 @@ use Rattle.rsx_tree.specs.declared.edge.Edge.{Edge}
 use Rattle.rsx_tree.specs.declared.edge.EdgeState.{EdgeState}
 use Rattle.rsx_tree.specs.declared.edge.EdgeState.TheVariants.{Live, Ended, Closed}
 use Rattle.rsx_pipe.specs.Output.{counts_in, values_then, published_then, more_after, with_signal, with_signal_at, IsOpenAt}
-use Rattle.rsx_pipe.specs.Part.{PartStands, all_edges, evaluated}
+use Rattle.rsx_pipe.specs.Part.{evaluated}
 use Rattle.rsx_pipe.specs.Published.{IsHanded, has_room_for, readers}
-use Rattle.rsx_pipe.specs.Tree.{AnyTree, comes_out, notes_of, IsAllClosed, IsBalanced}
+use Rattle.rsx_pipe.specs.Tree.{AnyTree, comes_out, notes_of}
 use Rattle.rsx_pipe.specs.Part.{Part}
 
 -- ---- one signal more is published

@@ -1,59 +1,45 @@
 -- Parts that have just begun, and what is delivered where a part is idle.
-use Rattle.std.proofs.Common.{◌≡◌, ◌⊎◌, inl, inr, ℕ, zero, suc, ◌+◌, ◌-◌, ◌<◌, ◌≤◌, min, Bool, true, false, ◌&&◌, nat_eq, nat_lt, if◌then◌else◌, List, [], ◌∷◌, ◌++◌, length, length-append, take, map, option_map, Option, Some, None, Result, Ok, Err, IfOk, refl, ap, sym, ◌∙◌, subst, arith, append_assoc, add-zero}
+use Rattle.std.proofs.Common.{◌≡◌, inl, inr, ℕ, zero, suc, ◌+◌, ◌-◌, ◌<◌, ◌≤◌, min, Bool, true, false, ◌&&◌, List, [], ◌∷◌, ◌++◌, length, length-append, take, map, option_map, Option, Some, None, Result, Ok, Err, IfOk, refl, ap, sym, ◌∙◌, subst, arith, append_assoc}
 use Rattle.std.proofs.lemmas.Bool.Decides.{nat_tests}
 use Rattle.std.proofs.lemmas.List.{append-nil, take_all}
 use Rattle.rsx_model.specs.declared.check.TheConstants.{MOST_NODES}
 use Rattle.rsx_types.specs.declared.limits.TheConstants.{CAPACITY}
 use Rattle.rsx_model.specs.declared.expr.Expr.{Expr}
-use Rattle.rsx_types.specs.Meaning.{Meaning, Allocates}
-use Rattle.rsx_types.specs.Notes.{unchosen, notes_then}
+use Rattle.rsx_types.specs.Meaning.{Meaning}
+use Rattle.rsx_types.specs.Notes.{unchosen}
 use Rattle.rsx_types.specs.Stream.{Stream, ended_by, item_then, signals_then}
 use Rattle.rsx_types.specs.declared.signal.Ending.{Ending}
 use Rattle.rsx_types.specs.declared.signal.Ending.TheVariants.{Open, Done, Failed}
-use Rattle.rsx_types.specs.declared.note.Note.{Note}
 use Rattle.rsx_types.specs.declared.signal.Signal.{Signal}
 use Rattle.rsx_types.specs.declared.signal.Signal.TheVariants.{Next, Complete, Error}
 use Rattle.rsx_sources.specs.Machine.{front_of}
-use Rattle.rsx_sources.specs.declared.machine.Front.{Front}
 use Rattle.rsx_hub.specs.Hub.{HubState, HasTakenIn, BeginsWith}
 use Rattle.rsx_hub.specs.Member.{ending_taken}
 use Rattle.rsx_hub.specs.Waiting.{is_open}
 use Rattle.rsx_build.specs.Built.{IsBuilt, AreBegun, StandAt, counts_of, new_joins}
 use Rattle.rsx_tree.specs.Reads.{IsTreeReadAt, count_before}
 use Rattle.rsx_pipe.specs.Published.{AreTaken, IsTaken}
-use Rattle.rsx_tree.specs.Edges.{changed_at, asked_up_to, edge_view, EdgeView, passed, is_live, closed_view, closed_state}
+use Rattle.rsx_tree.specs.Edges.{edge_view, is_live}
 use Rattle.rsx_pipe.specs.Output.{counts_in, items_in, IsUnended, more_after, published_then, values_then}
-use Rattle.rsx_pipe.specs.Part.{PartStands, IsPutOut, IsRootSent, IsMade, IsMoved, IsMovedBy, IsPumped, IsQuiet, HasReadAll, IsDelivered, IsServed, IsSpent, HasEnded, IsAsk, IsSend, IsEffect, GoesOut, all_edges, sent_at, send_enabled, move_enabled, has_room, make_allocates, evaluated, pump_allocates, IsPick, IsRow}
-use Rattle.rsx_pipe.specs.Tree.{AnyTree, comes_out, notes_of, offers, edges, edges_after, can_ask, can_send, can_go, want_at, want_in, front_at, front_in, ended_at, IsAllClosed, IsKept, IsAlike, step_allocates, IsAdvanced, IsAskedAt, IsSentAt, IsChosen, IsDriven, IsIdle, IsBalanced, IsBalancedAfter, IsWithin, pop_allocates, IsStill}
-use Rattle.rsx_tree.specs.declared.look.NodeMove.{NodeMove}
+use Rattle.rsx_pipe.specs.Part.{PartStands, IsMoved, IsQuiet, HasReadAll, IsDelivered, IsServed, HasEnded, all_edges, send_enabled, has_room, evaluated}
+use Rattle.rsx_pipe.specs.Tree.{comes_out, notes_of, offers, can_ask, can_send, can_go, IsAllClosed, IsIdle, IsBalanced, IsWithin, IsStill}
 use Rattle.rsx_tree.specs.declared.look.NodeMove.TheVariants.{Ask, Send, Pick, Row}
-use Rattle.rsx_tree.specs.declared.edge.Edge.{Edge}
 use Rattle.rsx_tree.specs.declared.edge.EdgeState.{EdgeState}
 use Rattle.rsx_tree.specs.declared.edge.EdgeState.TheVariants.{Live, Closed, Ended}
 use Rattle.rsx_pipe.specs.Part.{Part}
 use Rattle.rsx_rooted.specs.declared.rooted.Pumped.{Pumped}
 use Rattle.rsx_rooted.specs.declared.rooted.Pumped.TheVariants.{Idle, Budget}
 use Rattle.rsx_node.specs.Any.{any_machine}
-use Rattle.rsx_tree.specs.Stepped.{IsSteppedAt, IsPickedHere, IsRowMadeHere, over, station_of}
-use Rattle.rsx_tree.specs.Allocates.{node_allocates}
-use Rattle.rsx_sources.specs.Steps.{IsNotMade}
-use Rattle.rsx_sources.specs.declared.machine.NotMade.{NotMade}
-use Rattle.rsx_sources.specs.declared.machine.NotMade.TheVariants.{NotEnabled}
-use Rattle.rsx_tree.specs.Look.{IsStepEnabled}
-use Rattle.rsx_tree.proofs.Alike.{or_right, driven_alike, or_left}
-use Rattle.rsx_tree.proofs.Drives.{chosen_run}
+use Rattle.rsx_tree.specs.Stepped.{station_of}
 use Rattle.rsx_tree.proofs.Effects.{length_edges}
-use Rattle.rsx_tree.proofs.Noted.{kept_chosen, picked_effect, picked_enabled, row_effect, row_enabled as row_made_enabled}
 use Rattle.rsx_node.specs.TreeLaws.{tree_ending_waits, tree_settles}
 use Rattle.rsx_node.proofs.Rests.{any_rests}
 use Rattle.rsx_tree.proofs.Rests.{tree_rests}
 use Rattle.rsx_pipe.proofs.Trees.{unchosen_tree}
-use Rattle.rsx_tree.specs.Inputs.{size, wanted_at, can_ask_in, can_send_in, edges as edges_in}
+use Rattle.rsx_tree.specs.Inputs.{size, can_ask_in, can_send_in}
 use Rattle.rsx_tree.specs.Stepped.{can_pick_in, can_row_in}
-use Rattle.rsx_tree.proofs.Changes.{chosen_second}
 use Rattle.rsx_tree.proofs.Idles.{can_pass_live, live_still, place_none, station_none, less_or_more}
-use Rattle.rsx_pipe.proofs.Signals.{IsOrderly-more, IsUnended-more, IsUnended-last, items_in-append, map_then-last, prefix_of_orderly, cut_value}
-use Rattle.rsx_tree.proofs.Shut.{pass_live, and_right, pick_alive, row_alive}
+use Rattle.rsx_pipe.proofs.Signals.{prefix_of_orderly, cut_value}
 use Rattle.rsx_rooted.proofs.Numbers.{above_zero, suc_minus}
 use Rattle.rsx_rooted.proofs.Parts as OfAny
 use Rattle.rsx_rooted.proofs.Trees.{get_behind, unchosen_notes, notes_then-unchosen}

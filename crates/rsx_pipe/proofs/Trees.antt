@@ -1,26 +1,18 @@
 -- The tree of a part: choices, and closed trees.
-use Rattle.std.proofs.Common.{◌≡◌, inl, inr, ℕ, suc, ◌+◌, true, List, [], ◌∷◌, ◌++◌, length, length-append, map, slice_get, refl, ap, sym, ◌∙◌, subst, arith, append_assoc, Option, Some, None}
-use Rattle.std.proofs.lemmas.List.{append-nil}
-use Rattle.rsx_types.specs.Meaning.{Meaning}
-use Rattle.rsx_types.specs.Notes.{note_then, notes_then, unchosen}
+use Rattle.std.proofs.Common.{◌≡◌, inl, inr, List, [], ◌∷◌, length, map, refl, ap, arith, Option, Some, None}
+use Rattle.rsx_types.specs.Notes.{notes_then, unchosen}
 use Rattle.rsx_types.specs.declared.note.Note.{Note}
-use Rattle.rsx_types.specs.declared.note.Note.TheVariants.{Nothing, Picks, Ended}
-use Rattle.rsx_sources.specs.declared.machine.Front.{Front}
 use Rattle.rsx_sources.specs.Reading.{Reading, IsBehind}
 use Rattle.rsx_node.specs.Any.{TreeNode, any_machine}
 use Rattle.rsx_build.specs.Built.{AllUnrecorded}
 use Rattle.rsx_types.specs.Stream.{Stream}
-use Rattle.rsx_tree.specs.declared.edge.EdgeState.TheVariants.{Live}
 use Rattle.rsx_tree.specs.declared.inputs.Inputs.{Inputs, End, More'}
-use Rattle.rsx_tree.specs.Edges.{EdgeView}
-use Rattle.rsx_tree.specs.Inputs.{size, comes_in, out_of, beside_of, notes_of as notes_in, IsUnchosen as IsUnchosenIn}
 use Rattle.rsx_tree.specs.Reads.{IsReadAt, IsRowReadAt, IsTreeReadAt}
 use Rattle.rsx_tree.specs.Residual.{IsRowBehind, IsTreeBehind}
 use Rattle.rsx_tree.specs.Tree.{IsUnchosen}
-use Rattle.rsx_tree.proofs.Shut.{pass_live}
 pub use Rattle.rsx_rooted.proofs.Trees.{unchosen_notes, note_then-unchosen, notes_then-unchosen}
 use Rattle.rsx_rooted.proofs.Trees as OfAny
-use Rattle.rsx_pipe.specs.Tree.{AnyTree, comes_out, can_ask, can_send, can_go, notes_of, IsAllClosed, IsAdvanced}
+use Rattle.rsx_pipe.specs.Tree.{AnyTree, notes_of}
 
 -- ---- hubs
 

@@ -1,6 +1,6 @@
 -- A move inside a tree and its name.
 use Rattle.std.specs.Prelude.{⊤}
-use Rattle.std.proofs.Common.{◌≡◌, Bool, true, false, refl, subst, Option, Some, None}
+use Rattle.std.proofs.Common.{◌≡◌, true, false, refl, subst, Option, Some, None}
 use Rattle.rsx_types.specs.declared.names.Move.{Move}
 use Rattle.rsx_types.specs.declared.names.Move.TheVariants.{Ask, Send, Take, Pick, Row, Accept}
 use Rattle.rsx_types.specs.declared.names.Tree.{Tree}

@@ -1,5 +1,4 @@
 use Rattle.rsx_build.proofs.Crossings.{crossed_if}
-use Rattle.rsx_build.proofs.Placings.{crossed_placed}
 use Rattle.rsx_build.proofs.trees.build_for.Goals as goal
 
 pub returns-clause-built : goal.returns-clause-built
