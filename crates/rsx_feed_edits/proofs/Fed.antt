@@ -11,6 +11,8 @@ use Rattle.rsx_pipe.proofs.Signals.{some_same}
 use Rattle.rsx_pipe.specs.Built.{joins_now, leaf_joins, new_joins}
 use Rattle.rsx_pipe.specs.Published.{AreTaken, IsTaken}
 use Rattle.rsx_publishing.specs.Feeds.{FeedStands}
+use Rattle.rsx_pipe.specs.Crossings.{IsPlaced, differ}
+use Rattle.rsx_region.specs.Region.{region_of}
 use Rattle.rsx_publishing.specs.declared.feed.Feed.{Feed}
 use Rattle.rsx_types.specs.Meaning.{Meaning}
 use Rattle.rsx_types.specs.Stream.{Stream, ended_by}
@@ -125,10 +127,10 @@ fed_made m k c e old pushed news feeds f h fine is j added named names stands s 
     let b = joined_behind k c e old.hubs pushed news fine is j in
     fed_behind m k c e old b.joined news feeds f h b.members b.behind added named names stands s
 
-pub fed_effect : {T : Type 0} (k : HubKind) (c : ℕ) (e : Expr T) (hubs pushed news : List (HubState T)) (fs feeds : List (Feed T)) (f : Feed T) → fault_of k c (length hubs) e ≡ None → pushed ≡ hubs ++ fresh_hub k c ∷ [] → HaveJoinedFrom 0 e pushed news → feeds ≡ fs ++ f ∷ [] → f.hub ≡ length hubs → IsFedHubMade k c e hubs news fs feeds
-fed_effect k c e hubs pushed news fs feeds f fine is j added named =
+pub fed_effect : {T : Type 0} (k : HubKind) (c : ℕ) (e : Expr T) (hubs pushed news : List (HubState T)) (fs feeds : List (Feed T)) (f : Feed T) → fault_of k c (length hubs) e ≡ None → pushed ≡ hubs ++ fresh_hub k c ∷ [] → HaveJoinedFrom 0 e pushed news → feeds ≡ fs ++ f ∷ [] → f.hub ≡ length hubs → IsPlaced e (differ 0 (region_of e)) f.part.tree → IsFedHubMade k c e hubs news fs feeds
+fed_effect k c e hubs pushed news fs feeds f fine is j added named placed =
     let b = joined_behind k c e hubs pushed news fine is j in
-    record { joined = b.joined; feed = f; members = b.members; behind = b.behind; named = named; added = added }
+    record { joined = b.joined; feed = f; members = b.members; behind = b.behind; placed = placed; named = named; added = added }
 
 pub fed_named : {T : Type 0} (k : HubKind) (c n : ℕ) (hubs pushed : List (HubState T)) (fs feeds : List (Feed T)) (f : Feed T) → pushed ≡ hubs ++ fresh_hub k c ∷ [] → n ≡ length pushed → feeds ≡ fs ++ f ∷ [] → f.hub ≡ length hubs → NameHubs (length hubs) fs → NameHubs n feeds
 fed_named {T} k c n hubs pushed fs feeds f is count added named names =

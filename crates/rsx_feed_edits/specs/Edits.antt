@@ -11,6 +11,8 @@ use Rattle.rsx_model.specs.declared.check.BadExpr.{BadExpr as BadExprKind}
 use Rattle.rsx_model.specs.declared.check.BadExpr.TheVariants.{Number}
 use Rattle.rsx_model.specs.declared.expr.Expr.{Expr}
 use Rattle.rsx_pipe.specs.Built.{leaf_joins}
+use Rattle.rsx_pipe.specs.Crossings.{IsPlaced, differ}
+use Rattle.rsx_region.specs.Region.{region_of}
 use Rattle.rsx_publishing.specs.declared.feed.Feed.{Feed}
 use Rattle.rsx_types.specs.Stream.{ended_by}
 use Rattle.rsx_types.specs.declared.names.HubKind.{HubKind}
@@ -52,5 +54,7 @@ pub record IsFedHubMade {T : Type 0} (k : HubKind) (c : ℕ) (e : Expr T) (hubs 
   pub feed : Feed T
   pub members : HaveJoined e hubs joined
   pub behind : news ≡ joined ++ fresh_hub k c ∷ []
+  -- the edges of the feed have a queue just where they join two regions; a hub is in region 0
+  pub placed : IsPlaced e (differ 0 (region_of e)) feed.part.tree
   pub named : feed.hub ≡ length hubs
   pub added : fed_by ≡ feeds ++ feed ∷ []

@@ -1,5 +1,7 @@
 //! New hubs that are fed by expressions.
 
+ghost use Rattle.rsx_pipe.specs.Crossings.{IsPlaced, differ};
+ghost use Rattle.rsx_region.specs.Region.{region_of};
 ghost use Rattle.std.specs.Prelude.{◌≡◌, ℕ, ◌<◌, ◌≤◌, ◌^◌, ◌++◌, ◌∷◌, List, [], length, map, None, OnOk, OnErr, IfOk, IfErr, vec_len, vec_capacity};
 ghost use Rattle.rsx_types.specs.Stream.{Stream, ended_by};
 ghost use Rattle.rsx_types.specs.declared.signal.Ending.TheVariants.{Open};
@@ -124,6 +126,7 @@ fn prepare<O: Ops>(
     ensures room_for_joins { OnOk result (vec_len joins.new < vec_capacity joins.new) }
     ensures hub { IfOk result (λ p. p.hub ≡ fresh_hub kind capacity) }
     ensures named { IfOk result (λ p. p.feed.hub ≡ length hubs.old.items) }
+    ensures placed { IfOk result (λ p. IsPlaced expr.now (differ 0 (region_of expr.now)) p.feed.part.tree) }
     ensures missed { IfOk result (λ p. p.joins.items ≡ new_joins hubs.old.items expr.now) }
     ensures stands { IfOk result (λ p. (published : List (Stream O.Item)) → AreTaken hubs.old.items published →
         FeedStands (O.meaning ops.now) (published ++ ended_by Open ∷ []) p.feed expr.now (new_joins hubs.old.items expr.now)) }

@@ -21,8 +21,7 @@ use Rattle.rsx_tree.specs.Handed as Tree
 use Rattle.rsx_tree.specs.Handed.{has_room_in, reader_at, readers_in, room_at}
 use Rattle.rsx_tree.specs.Reads.{IsReadAt, IsRowReadAt, IsTreeReadAt}
 use Rattle.rsx_tree.specs.Rests.{IsStuck}
-use Rattle.rsx_tree.specs.declared.edge.EdgeState.{EdgeState}
-use Rattle.rsx_tree.specs.declared.edge.EdgeState.TheVariants.{Live, Ended, Closed}
+use Rattle.rsx_tree.specs.declared.edge.EdgeState.TheVariants.{Live}
 use Rattle.rsx_tree.specs.declared.inputs.Inputs.{Inputs, End, More'}
 use Rattle.rsx_tree.specs.declared.node.Node.{Node}
 use Rattle.rsx_types.specs.Meaning.{Meaning}

@@ -6,13 +6,12 @@ use Rattle.rsx_feed_edits.specs.Edits.{IsFedHubRefusal, fault_of}
 use Rattle.rsx_feed_edits.specs.Publishes.{IsCopyRefusal, IsEndRefusal, has_emitter}
 use Rattle.rsx_feed_edits.specs.Subscribing.{IsSubscribeRefusal}
 use Rattle.rsx_feeding.specs.History.{History, HubPast, Source, emitted, fed}
-use Rattle.rsx_feeding.specs.Moves.{IsFeedRefusal, accepts_at, accepts_in, has_feed}
+use Rattle.rsx_feeding.specs.Moves.{IsFeedRefusal, accepts_in, has_feed}
 use Rattle.rsx_feeding.specs.Stands.{Rows, SourceStands, StandsFor, feed_of}
 use Rattle.rsx_history.proofs.Graphs.{count_same, past_first, suc_less}
 use Rattle.rsx_history.specs.History.{IsAcceptRefusal, IsSubscribeId, IsTreeMoveRefusal}
 use Rattle.rsx_history.specs.History as history
 use Rattle.rsx_history.specs.Stands.{enabled_at}
-use Rattle.rsx_history.specs.declared.TheConstants.{MOST_HUBS}
 use Rattle.rsx_history.specs.declared.refusal.Refusal.{Refusal}
 use Rattle.rsx_history.specs.declared.refusal.Refusal.TheVariants.{UnknownHub, UnknownSub, Ended, Full, TooMany, BadExpr, NotEnabled, NoMemory}
 use Rattle.rsx_hub.specs.Hub.{HubState}
@@ -29,7 +28,7 @@ use Rattle.rsx_types.specs.declared.names.Move.TheVariants.{Ask, Send, Take, Pic
 use Rattle.rsx_types.specs.declared.names.SubId.{SubId}
 use Rattle.rsx_types.specs.declared.names.Tree.{Tree}
 use Rattle.rsx_types.specs.declared.names.Tree.TheVariants.{Sub, Feed as FeedOf}
-use Rattle.rsx_graph.specs.Steps.{IsMoveRefusal, IsNewFeedRefusal, IsOfKnown, IsOfKnownTree, IsPublishRefusal, IsTreeRefusal, is_emitted, is_emitter, is_fed, is_feed}
+use Rattle.rsx_graph.specs.Steps.{IsMoveRefusal, IsNewFeedRefusal, IsOfKnown, IsPublishRefusal, IsTreeRefusal, is_emitted, is_emitter, is_fed, is_feed}
 
 -- ---- which hubs have emitters, and which have feeds
 

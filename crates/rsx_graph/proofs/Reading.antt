@@ -1,6 +1,6 @@
 -- Where each hub in front of which a signal waits has one reader at most, each node that reads a hub and is at rest has got all that
 -- was published there: either the hub took in its whole value, or each node that reads it offers something.
-use Rattle.std.proofs.Common.{◌≡◌, ◌⊎◌, inl, inr, ℕ, zero, suc, ◌+◌, ◌-◌, ◌<◌, ◌≤◌, min, Bool, true, false, ◌&&◌, ◌||◌, nat_eq, nat_le, if◌then◌else◌, List, [], ◌∷◌, ◌++◌, length, length-append, take, drop, map, slice_get, Option, Some, None, option_map, refl, sym, ap, ◌∙◌, subst, arith, append_assoc}
+use Rattle.std.proofs.Common.{◌≡◌, ◌⊎◌, inl, inr, ℕ, zero, suc, ◌+◌, ◌<◌, ◌≤◌, min, Bool, true, false, ◌&&◌, ◌||◌, nat_eq, nat_le, if◌then◌else◌, List, [], ◌∷◌, ◌++◌, length, length-append, take, drop, map, slice_get, Option, Some, None, option_map, refl, sym, ap, ◌∙◌, subst, arith, append_assoc}
 use Rattle.std.specs.Option.{is_none, is_some}
 use Rattle.std.proofs.lemmas.Bool.Decides.{nat_tests}
 use Rattle.std.proofs.lemmas.List.{append-nil, drop_all, length-take}
@@ -57,7 +57,7 @@ use Rattle.rsx_tree.specs.declared.look.NodeMove.TheVariants.{Ask as NodeAsk, Se
 use Rattle.rsx_tree.specs.declared.node.Node.{Node}
 use Rattle.rsx_types.specs.Meaning.{Meaning}
 use Rattle.rsx_types.specs.Stream.{Stream, ended_by, ending_signals, items_then, signals}
-use Rattle.rsx_types.specs.declared.names.Move.TheVariants.{Ask, Send, Pick, Row, Accept}
+use Rattle.rsx_types.specs.declared.names.Move.TheVariants.{Accept}
 use Rattle.rsx_types.specs.declared.names.HubId.{HubId}
 use Rattle.rsx_types.specs.declared.names.Tree.TheVariants.{Feed as FeedOf}
 use Rattle.rsx_types.specs.declared.signal.Ending.{Ending}

@@ -1,4 +1,4 @@
-use Rattle.std.proofs.Common.{◌≡◌, arith, length, subst, Some}
+use Rattle.std.proofs.Common.{arith, length, subst, Some}
 use Rattle.rsx_history.specs.History.{IsTreeMoveRefusal}
 use Rattle.rsx_history.specs.Stands.{IsMadeAt, enabled_at}
 use Rattle.rsx_types.specs.declared.names.Move.{Move}

@@ -37,7 +37,7 @@ returns-clause-effect g c =
     let fine : fault_of c.args.kind c.args.capacity (length c.args.hubs.now.items) c.args.expr.now ≡ None = search rules in
     let pushed : c.push_reserved.new.self.items ≡ c.args.hubs.now.items ++ fresh_hub c.args.kind c.args.capacity ∷ [] = search rules in
     let added : c.push_reserved-2.new.self.items ≡ c.args.feeds.now.items ++ c.in-Ok.made.feed ∷ [] = search rules in
-    fed_effect c.args.kind c.args.capacity c.args.expr.now c.args.hubs.now.items c.push_reserved.new.self.items c.count_in.new.hubs.items c.args.feeds.now.items c.push_reserved-2.new.self.items c.in-Ok.made.feed fine pushed c.count_in.ensures.joined added c.in-Ok.ensures.named
+    fed_effect c.args.kind c.args.capacity c.args.expr.now c.args.hubs.now.items c.push_reserved.new.self.items c.count_in.new.hubs.items c.args.feeds.now.items c.push_reserved-2.new.self.items c.in-Ok.made.feed fine pushed c.count_in.ensures.joined added c.in-Ok.ensures.named c.in-Ok.ensures.placed
 
 pub returns-clause-beside : goal.returns-clause-beside
 returns-clause-beside g c =

@@ -1,4 +1,4 @@
-use Rattle.std.proofs.Common.{◌≡◌, length, map, List, ap, sym, ◌∙◌, subst, arith}
+use Rattle.std.proofs.Common.{length, map, List, ap, sym, ◌∙◌, subst, arith}
 use Rattle.rsx_feed_edits.specs.Edits.{NameHubs}
 use Rattle.rsx_graph.proofs.Kept.{begun_from, state_with}
 use Rattle.rsx_publishing.specs.declared.feed.Feed.{Feed}
