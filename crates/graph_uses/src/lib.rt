@@ -3,6 +3,8 @@
 //! stand in one crate, since what a crate of tests costs before its first test is that of many tests.
 
 #[cfg(test)]
+mod crossings;
+#[cfg(test)]
 mod driven;
 #[cfg(test)]
 mod graphs;
