@@ -23,9 +23,9 @@ use rsx_subscriber::naming::{node_move, node_of};
 use rsx_types::{HubId, Move, NodeId, Ops, Signal, SubId, Tree};
 use std::alloc::Global;
 
-/// Makes one move. A Take from the root edge of a subscription answers the signal that it delivered. An Accept takes the signal
-/// in that waits in front of the inbox of a hub with an emitter; the Send over the root edge of a feed takes its next signal
-/// straight into its hub. Either way each node that reads the hub gets it.
+/// Makes one move. The Take from the root edge of a subscription answers the signal that it delivered. An Accept takes the signal
+/// in that waits in front of the inbox of a hub with an emitter; the Send over the root edge of a feed, or where that edge crosses
+/// the Take from its queue, takes a signal straight into its hub. Either way each node that reads the hub gets it.
 ///
 /// # Errors
 /// G1 for a hub that isn't there and for the tree of a hub that has no feed, G2 for a subscription that isn't there, else G7

@@ -8,8 +8,8 @@
 //! - [`subscribing`]: [`subscribe`], a new subscription.
 //!
 //! The definitions stand in `specs/`: `Edits` and `Subscribing` (what has happened by each edit, and why it is refused), `Publishes`
-//! (the same of what is published), `Requests` (what a subscriber did), `Joins` (the joins that are kept beside the rows) and `Regions` (the regions that are kept
-//! beside the subscriptions).
+//! (the same of what is published), `Requests` (what a subscriber did), `Joins` (the joins that are kept beside the rows) and
+//! `Regions` (the regions that are kept beside the subscriptions).
 
 pub mod feed_hubs;
 pub mod hubs;

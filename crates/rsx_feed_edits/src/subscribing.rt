@@ -32,9 +32,9 @@ struct Prepared<T> {
 }
 
 /// Subscribes to an expression over the hubs that are there. The subscription stands behind the others, so its number is how many
-/// there were, and its joins and its region behind theirs. It is open, and nothing was asked of it yet. Each of its leaves that reads a hub has
-/// joined that hub, where it is counted as a member: it misses the items that the hub took in before, but for those that a replay
-/// keeps. Feeds have nothing to do with it, and stay.
+/// there were, and its joins and its region behind theirs. It is open, and nothing was asked of it yet. Each of its leaves that
+/// reads a hub has joined that hub, where it is counted as a member: it misses the items that the hub took in before, but for
+/// those that a replay keeps. Feeds have nothing to do with it, and stay.
 ///
 /// # Errors
 /// G6 exactly where the expression goes past a limit or names a hub that isn't there, else G5 exactly where there are

@@ -154,16 +154,17 @@ impl<O: Ops> Graph<O> {
     }
 
     /// Makes one move. A Take from the root edge of a subscription answers the signal that it delivered. An Accept takes the signal
-    /// in that waits in front of the inbox of a hub with an emitter; the Send over the root edge of a hub's feed takes its next signal
-    /// straight into the hub. Either way each node that reads the hub gets it: an item only where all of them have room, so the
-    /// slowest reader holds the others back (rule 1.1), and nobody loses an item.
+    /// in that waits in front of the inbox of a hub with an emitter; the Send over the root edge of a hub's feed, or where that edge
+    /// crosses the Take from its queue, takes a signal straight into the hub. Either way each node that reads the hub gets it: an
+    /// item only where all of them have room, so the slowest reader holds the others back (rule 1.1), and nobody loses an item.
     ///
     /// # Errors
     /// G1 for a hub that isn't there and for the tree of a hub that has no feed, G2 for a subscription that isn't there, else G7
-    /// exactly where the move isn't enabled, and G8 where a growth was refused; nothing changed. An Ask and a Take allocate nothing,
-    /// a Send only where its receiver is a `buffer` or a `distinct`, or where a function of the caller's that it calls may, or where
-    /// it leads into a hub, a Pick and a Row where the node says so (of a `merge` and a `combineLatest` always), and an Accept always
-    /// may.
+    /// exactly where the move isn't enabled, and G8 where a growth was refused; nothing changed. An Ask allocates nothing, and so
+    /// does a Take but one that leads into a hub. A Send does only where its receiver is a `buffer` or a `distinct`, or where a
+    /// function of the caller's that it calls may, or where it leads into a hub, and into the queue of an edge that crosses where a
+    /// pick or a row of its node may. A Pick and a Row do where the node says so (of a `merge` and a `combineLatest` always), and an
+    /// Accept always may.
     pub fn make(
         &mut self,
         alloc: Global,

@@ -11,9 +11,10 @@ use rsx_types::Ops;
 
 /// Where each hub in front of which a signal waits, in its inbox or at the root of its feed, has one reader at most, each node that
 /// reads a hub has got all that was published there, over the values of the hubs, unless it offers something, can make a step, or
-/// nothing more is asked of it: wherever the rows of a graph stand for a history and no move of a hub or of a feed is enabled. So it is where no signal waits in front of a hub, and where no
-/// hub is read by two nodes. It holds as long as no edge of a feed has carried 2^63-1 items and no hub in front of which a signal
-/// waits has taken in as many, and of feeds of at most 256 nodes, as each has whose expression isn't refused.
+/// nothing more is asked of it: wherever the rows of a graph stand for a history and no move of a hub or of a feed is enabled. So
+/// it is where no signal waits in front of a hub, and where no hub is read by two nodes. It holds as long as no edge of a feed has
+/// carried 2^63-1 items and no hub in front of which a signal waits has taken in as many, and of feeds of at most 256 nodes, as
+/// each has whose expression isn't refused.
 ///
 /// [`Graph::pump`](crate::Graph::pump) answers Idle only where no move is enabled. The function does nothing; its contract is the
 /// sentence.

@@ -228,8 +228,8 @@ fn queued_over(
     }
 }
 
-/// An operator of this kind over this expression: windows of one to three items, lanes of two keys or more, or one to three expansions at
-/// a time.
+/// An operator of this kind over this expression: windows of one to three items, lanes of two keys or more, or one to three
+/// expansions at a time.
 fn laned_over(
     alloc: Global,
     numbers: &mut Numbers,

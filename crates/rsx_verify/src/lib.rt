@@ -2,8 +2,8 @@
 //! Verifies an expression: runs of subscriptions to it, each on a fresh graph and recorded as a trace.
 //!
 //! - [`act`]: [`Act`], what a run does.
-//! - [`recording`]: [`record`], the events of a run of one subscription, and [`process`], those of a run of two subscriptions to a hub
-//!   that the expression feeds.
+//! - [`recording`]: [`record`], the events of a run of one subscription, and [`process`], those of a run of two subscriptions to a
+//!   hub that the expression feeds.
 //! - [`runs`]: the four runs by which an expression is verified, and [`verify`], what they say of the rules.
 //! - [`line`]: [`Line`], what the runs say of a rule, and [`print_lines`].
 //! - [`refusal`]: [`VerifyRefusal`], why an expression isn't run.
