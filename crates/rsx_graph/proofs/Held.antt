@@ -6,6 +6,7 @@ use Rattle.std.proofs.lemmas.Bool.Decides.{nat_tests}
 use Rattle.rsx_feeding.proofs.Named.{same_number}
 use Rattle.rsx_hub.specs.declared.TheConstants.{MOST_ACCEPTED}
 use Rattle.rsx_pipe.proofs.Room.{any_full}
+use Rattle.rsx_pipe.proofs.Signals.{some_same}
 use Rattle.rsx_pipe.specs.Any.{any_machine}
 use Rattle.rsx_pipe.specs.Part.{Part}
 use Rattle.rsx_pipe.specs.Published.{has_room_for, readers}
@@ -229,11 +230,8 @@ some_counted count test (x ∷ xs) k none = elim (one_false (test x) (every test
 
 one_of : {X : Type 0} (count : X → ℕ) (xs : List X) (i : ℕ) (x : X) → slice_get xs i ≡ Some x → count x ≤ total count xs
 one_of count [] i x e = cc
-one_of {X} count (y ∷ xs) zero x e = first_of (count y) (total count xs) (count x) (ap count (one_same y x e))
+one_of {X} count (y ∷ xs) zero x e = first_of (count y) (total count xs) (count x) (ap count (some_same y x e))
   where
-    one_same : (y x : X) → Some y ≡ Some x → y ≡ x
-    one_same y x e = cc
-
     first_of : (a b c : ℕ) → a ≡ c → c ≤ a + b
     first_of a b c e = omega (arith, e)
 one_of count (y ∷ xs) (suc i) x e = let more = one_of count xs i x e in behind (count y) (total count xs) (count x) more
@@ -245,13 +243,10 @@ one_of count (y ∷ xs) (suc i) x e = let more = one_of count xs i x e in behind
 one_beside : {X : Type 0} (count : X → ℕ) (test : X → Bool) (xs : List X) (i : ℕ) (x : X) → ((y : X) → test y ≡ false → 1 ≤ count y) → every test xs ≡ false → slice_get xs i ≡ Some x → test x ≡ true → 1 + count x ≤ total count xs
 one_beside count test [] i x k none e passes = cc
 one_beside {X} count test (y ∷ xs) zero x k none e passes = elim (one_false (test y) (every test xs) none) [
-  | inl z ↦ absurd (both (test x) passes (ap test (sym (one_same y x e)) ∙ z))
-  | inr z ↦ first_of (count y) (total count xs) (count x) (ap count (one_same y x e)) (some_counted count test xs k z)
+  | inl z ↦ absurd (not_both (test x) passes (ap test (sym (some_same y x e)) ∙ z))
+  | inr z ↦ first_of (count y) (total count xs) (count x) (ap count (some_same y x e)) (some_counted count test xs k z)
 ]
   where
-    one_same : (y x : X) → Some y ≡ Some x → y ≡ x
-    one_same y x e = cc
-
     both : (t : Bool) → t ≡ true → t ≡ false → ⊥
     both t p q = cc
 
