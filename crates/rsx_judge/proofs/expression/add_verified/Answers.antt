@@ -15,5 +15,5 @@ returns-in-Ok-clause-added c =
     let lines = c.in-Ok.lines in
     let verified = c.in-Ok.ensures in
     let grown : string_bytes c.add_lines.new.out ≡ string_bytes c.args.out.now ++ lines_text lines → Grows (string_bytes c.args.out.now) (string_bytes c.add_lines.new.out) (λ more. IsExpressionAnswer c.args.expr.now more) =
-        λ e. (lines_text lines, e, inl (record { admitted = verified.admitted; lines = lines; verified = verified.verified; unbroken = verified.unbroken; printed = refl })) in
+    λ e. (lines_text lines, e, inl (record { admitted = verified.admitted; lines = lines; verified = verified.verified; unbroken = verified.unbroken; printed = refl })) in
     on_ok c.add_lines.result grown c.add_lines.ensures.added
