@@ -22,7 +22,7 @@ use Rattle.rsx_types.specs.declared.names.Tree.TheVariants.{Sub, Feed as FeedOf}
 use Rattle.rsx_types.specs.declared.signal.Ending.TheVariants.{Open}
 use Rattle.rsx_types.specs.declared.signal.Signal.{Signal}
 use Rattle.rsx_feed_edits.specs.Edits.{NameHubs, joins_in, with_fed_hub, with_hub}
-use Rattle.rsx_feed_edits.specs.Joins.{AreFeedJoins, HasFeedJoins, JoinsStand}
+use Rattle.rsx_feeding.specs.Joins.{AreFeedJoins, HasFeedJoins, JoinsStand}
 use Rattle.rsx_feed_edits.specs.Publishes.{published_at, published_from, with_published}
 use Rattle.rsx_feed_edits.proofs.Behind.{last_or, still_there}
 use Rattle.rsx_feed_edits.proofs.Subscribed.{new_joins_there}

@@ -17,7 +17,7 @@ use Rattle.rsx_subscriber.specs.Stands.{Stands}
 use Rattle.rsx_subscriber.specs.declared.subscription.Subscription.{Subscription}
 use Rattle.rsx_types.specs.Meaning.{Meaning}
 use Rattle.rsx_feed_edits.specs.Edits.{joins_in}
-use Rattle.rsx_feed_edits.specs.Joins.{JoinsStand}
+use Rattle.rsx_feeding.specs.Joins.{JoinsStand}
 use Rattle.rsx_feed_edits.specs.Regions.{RegionsStand, region_in}
 use Rattle.rsx_feed_edits.specs.Subscribing.{with_subscriber}
 use Rattle.rsx_feed_edits.proofs.Fed.{as_taken, hub_joined, members_count}

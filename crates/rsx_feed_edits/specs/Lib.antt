@@ -1,6 +1,5 @@
 -- Definitions that contracts cite.
 pub mod Edits
-pub mod Joins
 pub mod Publishes
 pub mod Regions
 pub mod Requests

@@ -15,7 +15,7 @@ ghost use Rattle.rsx_feeding.specs.History.{History};
 ghost use Rattle.rsx_feeding.specs.Moves.{rows_of};
 ghost use Rattle.rsx_feeding.specs.Stands.{StandsFor};
 ghost use Rattle.rsx_feed_edits.specs.Edits.{IsFedHubMade, IsFedHubRefusal, NameHubs, fault_of, with_fed_hub};
-ghost use Rattle.rsx_feed_edits.specs.Joins.{JoinsStand};
+ghost use Rattle.rsx_feeding.specs.Joins.{JoinsStand};
 
 use crate::hubs::are_numbers;
 use rsx_history::{MOST_HUBS, Refusal};

@@ -11,7 +11,7 @@ ghost use Rattle.rsx_history.specs.declared.TheConstants.{MOST_HUBS};
 ghost use Rattle.rsx_feeding.specs.History.{History};
 ghost use Rattle.rsx_feeding.specs.Moves.{rows_of};
 ghost use Rattle.rsx_feeding.specs.Stands.{StandsFor};
-ghost use Rattle.rsx_feed_edits.specs.Joins.{JoinsStand};
+ghost use Rattle.rsx_feeding.specs.Joins.{JoinsStand};
 ghost use Rattle.rsx_feed_edits.specs.Regions.{RegionsStand};
 ghost use Rattle.rsx_feed_edits.specs.Subscribing.{IsSubscribeRefusal, with_subscriber};
 

@@ -1,6 +1,6 @@
 -- The joins of a hub's feed are those of its history.
 use Rattle.std.proofs.Common.{◌≡◌, ℕ, zero, suc, ◌<◌, List, [], ◌∷◌, length, slice_get, Some, refl, ap, sym, ◌∙◌, arith}
-use Rattle.rsx_feed_edits.specs.Joins.{AreFeedJoins, HasFeedJoins, JoinsStand}
+use Rattle.rsx_feeding.specs.Joins.{AreFeedJoins, HasFeedJoins, JoinsStand}
 use Rattle.rsx_feeding.proofs.Places.{feed_placed}
 use Rattle.rsx_feeding.specs.History.{History, HubPast, Source, emitted, fed}
 use Rattle.rsx_feeding.specs.Stands.{Rows, SourceStands, StandsFor}

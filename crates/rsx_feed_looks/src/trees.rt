@@ -4,7 +4,7 @@ ghost use Rattle.std.specs.Prelude.{◌≡◌, ◌<◌, List, Some, length, map,
 ghost use Rattle.rsx_feeding.specs.History.{History};
 ghost use Rattle.rsx_feeding.specs.Moves.{rows_of};
 ghost use Rattle.rsx_feeding.specs.Stands.{StandsFor};
-ghost use Rattle.rsx_feed_edits.specs.Joins.{AreFeedJoins, JoinsStand};
+ghost use Rattle.rsx_feeding.specs.Joins.{AreFeedJoins, JoinsStand};
 ghost use Rattle.rsx_history.specs.History.{IsLookRefusal};
 ghost use Rattle.rsx_history.specs.Stands.{HasNotesAt};
 ghost use Rattle.rsx_subscriber.specs.declared.subscription.Subscription.{Subscription as SubscriptionOf};

@@ -9,7 +9,7 @@ use Rattle.rsx_feed_driving.specs.Pumped.{HasEnded, LeadTo, Made, after_moves}
 use Rattle.rsx_feed_edits.proofs.Kept.{joins_same, kept_changed, kept_made}
 use Rattle.rsx_feed_edits.proofs.Names.{names_kept}
 use Rattle.rsx_feed_edits.specs.Edits.{NameHubs}
-use Rattle.rsx_feed_edits.specs.Joins.{JoinsStand}
+use Rattle.rsx_feeding.specs.Joins.{JoinsStand}
 use Rattle.rsx_feed_edits.specs.Regions.{HasRegion, RegionsStand, region_in}
 use Rattle.rsx_feed_edits.specs.Requests.{with_past}
 use Rattle.rsx_feeding.specs.History.{History, with_made}

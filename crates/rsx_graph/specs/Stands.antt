@@ -3,7 +3,7 @@ use Rattle.std.specs.Prelude.{◌≡◌, ℕ, List, [], ◌∷◌}
 use Rattle.std.specs.Coded.{×_prop, Unit-prop, le_prop}
 use Rattle.rsx_feed_driving.specs.Served.{IsServed}
 use Rattle.rsx_feed_edits.specs.Edits.{NameHubs}
-use Rattle.rsx_feed_edits.specs.Joins.{JoinsStand}
+use Rattle.rsx_feeding.specs.Joins.{JoinsStand}
 use Rattle.rsx_feed_edits.specs.Regions.{RegionsStand}
 use Rattle.rsx_feeding.specs.History.{History}
 use Rattle.rsx_feeding.specs.Stands.{Rows, StandsFor}
