@@ -39,6 +39,10 @@ pub(crate) enum Act {
     RowWithoutMemory(u64, u64),
     /// It can't make a row then.
     CannotRow(u64, u64),
+    /// It makes a row and gives this item out at once, where so many items are asked for and so many were sent.
+    RowGives(u64, u64, i64),
+    /// It gives no item out by a row at once then.
+    RowGivesNothing(u64, u64),
     /// Of this input, where so many items are asked for and so many were sent, it wants so many in all.
     Wants(u64, u64, u64, u64),
     /// It has recorded these picks.
@@ -189,6 +193,12 @@ fn chooses<M: Machine<Item = i64>>(alloc: Global, node: &mut M, act: Act) -> boo
         Act::PicksNothing(asked, sent) => node.next_pick(asked, sent).is_none(),
         Act::MakesRow(asked, sent) => {
             node.can_row(asked, sent) && node.on_row(alloc, &PLENTY, asked, sent) == Ok(())
+        }
+        Act::RowGives(asked, sent, item) => {
+            node.row_item(alloc, &PLENTY, asked, sent) == Some(item)
+        }
+        Act::RowGivesNothing(asked, sent) => {
+            node.row_item(alloc, &PLENTY, asked, sent).is_none()
         }
         Act::RowWithoutMemory(asked, sent) => {
             node.on_row(alloc, &SCARCE, asked, sent) == Err(NotMade::NoMemory)

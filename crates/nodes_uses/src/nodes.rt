@@ -262,17 +262,21 @@ const GROUP_FAULT: [Act; 5] = [
     Act::GivesEnding(Ending::Failed(Cause::Function(7))),
 ];
 
-/// A source of three numbers with the queue of an edge behind it: its row moves a signal into the queue.
-const QUEUED: [Act; 11] = [
+/// A source of three numbers with the queue of an edge behind it: its row moves a signal into the queue, and an item goes
+/// through the queue at once where that is empty.
+const QUEUED: [Act; 14] = [
     Act::GivesNothing,
     Act::MakesRow(9, 0),
+    Act::RowGivesNothing(9, 0),
     Act::MakesRow(9, 0),
     Act::Leaves((&[], Ending::Open), (&[1, 2, 3], Ending::Done)),
     Act::Gives(1),
-    Act::MakesRow(9, 1),
     Act::GivesItem(2),
-    Act::MakesRow(9, 2),
-    Act::Gives(3),
+    Act::RowGivesNothing(2, 2),
+    Act::RowGives(9, 2, 3),
+    Act::Leaves((&[], Ending::Open), (&[], Ending::Done)),
+    Act::RowGivesNothing(9, 3),
+    Act::MakesRow(9, 3),
     Act::GivesEnding(Ending::Done),
     Act::GivesNothing,
 ];

@@ -68,6 +68,8 @@ impl<N: Machine> Machine for Boxed<N> {
 
     ghost rows = { N.rows };
 
+    ghost rowed = { N.rowed };
+
     ghost recording = { N.recording };
 
     ghost recorded = { N.recorded };
@@ -218,6 +220,17 @@ impl<N: Machine> Machine for Boxed<N> {
         sent: u64,
     ) -> Result<(), NotMade> {
         self.node.on_row(alloc, ops, asked, sent)
+    }
+
+    #[inline]
+    fn row_item<O: Ops<Item = Self::Item>>(
+        &mut self,
+        alloc: Global,
+        ops: &O,
+        asked: u64,
+        sent: u64,
+    ) -> Option<Self::Item> {
+        self.node.row_item(alloc, ops, asked, sent)
     }
 
     #[inline]

@@ -16,6 +16,7 @@ use Rattle.rsx_crossing.specs.declared.sender.Sender.{Sender}
 use Rattle.rsx_crossing.specs.declared.sender.Sender.TheVariants.{Direct, Crossing}
 use Rattle.rsx_crossing.specs.Laws.{Shows, Drops, Ends, Settles, Waits, Hungers, DoneDrops, queued_shows, queued_popped_alike, queued_drops, queued_ends, queued_ends_reading, queued_done_drops, queued_settles, queued_ending_waits, queued_hungry}
 use Rattle.rsx_crossing.specs.Queued.{queued_comes_out, queued_waiting, queued_shown, queued_takes, queued_picks, queued_rows, queued_ended, queued_done, queued_counted, queued_wanted, queued_popped, queued_reads, queued_rooms, queued_allocates, queued_step_allocates}
+use Rattle.rsx_crossing.specs.Transfer.{IsQueuedRow}
 
 -- ---- its meaning is that of the node, or of the node with its queue
 
@@ -42,6 +43,11 @@ sender_picks b (Crossing n) i a s = queued_picks b n i a s
 abbrev pub sender_rows : {M T : Type 0} → Machine M T → Sender M T → ℕ → ℕ → Bool
 sender_rows b (Direct n) a s = b.rows n a s
 sender_rows b (Crossing n) a s = queued_rows b n a s
+
+abbrev pub sender_rowed : {M T : Type 0} → Machine M T → Sender M T → ℕ → ℕ → Sender M T → Type 0
+sender_rowed b (Direct x) asked sent (Direct y) = b.rowed x asked sent y
+sender_rowed b (Crossing x) asked sent (Crossing y) = IsQueuedRow b x asked sent y
+sender_rowed b x asked sent y = ⊥
 
 abbrev pub sender_recording : {M T : Type 0} → Machine M T → Sender M T → ℕ → Note
 sender_recording b (Direct n) i = b.recording n i

@@ -1,15 +1,15 @@
 -- A signal that went over the edge into its queue, and one that was taken from there.
-use Rattle.std.specs.Prelude.{◌≡◌, ℕ, ◌+◌, List, [], ◌∷◌, ◌++◌, Some}
+use Rattle.std.specs.Prelude.{◌≡◌, ℕ, ◌+◌, true, false, List, [], ◌∷◌, ◌++◌, Some}
 use Rattle.rsx_types.specs.declared.signal.Signal.{Signal}
 use Rattle.rsx_types.specs.declared.signal.Signal.TheVariants.{Next, Complete, Error}
 use Rattle.rsx_types.specs.Meaning.{Meaning}
 use Rattle.rsx_sources.specs.Counts.{CountsOut, ends_input}
-use Rattle.rsx_sources.specs.Machine.{LetsGo}
+use Rattle.rsx_sources.specs.Machine.{LetsGo, front_of}
 use Rattle.rsx_sources.specs.declared.machine.Machine.{Ghosts as Machine}
 use Rattle.rsx_crossing.specs.declared.queued.Queued.{Queued}
 use Rattle.rsx_crossing.specs.declared.tail.Tail.{Tail}
 use Rattle.rsx_crossing.specs.declared.tail.Tail.TheVariants.{Open, Completion, Failure}
-use Rattle.rsx_crossing.specs.Queued.{queue_of, sent_over, is_ended, queued_popped}
+use Rattle.rsx_crossing.specs.Queued.{queue_of, sent_over, is_ended, node_sent, can_transfer, queued_popped}
 
 -- an item goes behind the items, an ending behind them all
 abbrev pub IsPushed : {T : Type 0} → List T → Signal T → List T → Tail → Type 0
@@ -31,6 +31,20 @@ pub record IsTransferred {M T : Type 0} (b : Machine M T) (m : Meaning T) (old n
 -- nothing went over the edge, and nothing was taken from its queue
 abbrev pub IsQueueKept : {M T : Type 0} → Queued M T → Queued M T → Type 0
 IsQueueKept old new = (new.queue ≡ old.queue) × (new.tail ≡ old.tail)
+
+-- the signal that the node offered left it, and stands at the back of the queue
+pub record IsMovedOver {M T : Type 0} (b : Machine M T) (old new : Queued M T) : Type 0 where
+  pub signal : Signal T
+  pub shown : b.shown old.node ≡ Some (front_of signal)
+  pub popped : b.popped old.node signal new.node
+  pub was_open : old.tail ≡ Open
+  pub pushed : IsPushed old.queue signal new.queue new.tail
+
+-- what a row makes of a node with its queue: a signal goes over the edge, where one can; or a row of the node, where none can, and
+-- the queue stays
+pub record IsQueuedRow {M T : Type 0} (b : Machine M T) (old : Queued M T) (asked taken : ℕ) (new : Queued M T) : Type 0 where
+  pub over : can_transfer b old asked taken ≡ true → IsMovedOver b old new
+  pub inside : can_transfer b old asked taken ≡ false → IsQueueKept old new × b.rowed old.node asked (node_sent old.queue asked taken) new.node
 
 -- ---- the same, as callers see the edge
 

@@ -88,7 +88,7 @@ impl<M: Machine<Item = T>, T: Drop> Machine for Queued<M, T> {
     ghost use Rattle.rsx_crossing.specs.declared.queued.Queued.{Queued};
     ghost use Rattle.rsx_sources.specs.Machine.{TakesIn, Keeps, front_of};
     ghost use Rattle.rsx_sources.specs.Steps.{IsNotTaken, IsNotMade, AllocatesAlike, StaysAlike};
-    ghost use Rattle.rsx_crossing.specs.Transfer.{IsQueueKept, IsTransferred};
+    ghost use Rattle.rsx_crossing.specs.Transfer.{IsQueueKept, IsQueuedRow, IsTransferred};
     ghost use Rattle.rsx_sources.specs.Reading.{IsReadOn, takes_published};
     ghost use Rattle.std.specs.Prelude.{◌≡◌, true, false, IsOk, OnOk, OnErr, IfErr};
 
@@ -103,6 +103,8 @@ impl<M: Machine<Item = T>, T: Drop> Machine for Queued<M, T> {
     ghost picks = { queued_picks M.Machine };
 
     ghost rows = { queued_rows M.Machine };
+
+    ghost rowed = { IsQueuedRow M.Machine };
 
     ghost recording = { λ n i. M.recording n.node i };
 
@@ -128,7 +130,7 @@ impl<M: Machine<Item = T>, T: Drop> Machine for Queued<M, T> {
 
     ghost step_allocates = { queued_step_allocates M.Machine };
 
-    #[inline]
+    #[inline(never)]
     fn front(&self) -> Option<Front> {
         if self.queue.is_empty() {
             self.tail.front()
@@ -137,6 +139,7 @@ impl<M: Machine<Item = T>, T: Drop> Machine for Queued<M, T> {
         }
     }
 
+    #[inline(never)]
     fn pop_front<O: Ops<Item = T>>(
         &mut self,
         alloc: Global,
@@ -148,6 +151,7 @@ impl<M: Machine<Item = T>, T: Drop> Machine for Queued<M, T> {
         }
     }
 
+    #[inline(never)]
     fn put_back(&mut self, signal: Signal<T>)
         ensures { (before : Queued M T) → queued_popped before signal self.old → self.new ≡ before }
     {
@@ -162,6 +166,7 @@ impl<M: Machine<Item = T>, T: Drop> Machine for Queued<M, T> {
         }
     }
 
+    #[inline(never)]
     fn has_ended(&self) -> bool {
         match self.tail {
             Tail::Open => self.node.has_ended(),
@@ -170,10 +175,12 @@ impl<M: Machine<Item = T>, T: Drop> Machine for Queued<M, T> {
         }
     }
 
+    #[inline(never)]
     fn can_take(&self, input: u64, front: Front) -> bool {
         self.tail.is_open() && self.node.can_take(input, front)
     }
 
+    #[inline(never)]
     fn on_signal<O: Ops<Item = T>>(
         &mut self,
         alloc: Global,
@@ -199,6 +206,7 @@ impl<M: Machine<Item = T>, T: Drop> Machine for Queued<M, T> {
         }
     }
 
+    #[inline(always)]
     fn pop_item<O: Ops<Item = T>>(&mut self, alloc: Global, ops: &O) -> Option<T> {
         self.queue.pop()
     }
@@ -207,6 +215,7 @@ impl<M: Machine<Item = T>, T: Drop> Machine for Queued<M, T> {
         Passed::Declined(item)
     }
 
+    #[inline(never)]
     fn hub(&self) -> Option<u64> {
         if !self.tail.is_open() {
             return None;
@@ -214,10 +223,12 @@ impl<M: Machine<Item = T>, T: Drop> Machine for Queued<M, T> {
         self.node.hub()
     }
 
+    #[inline(never)]
     fn has_room(&self) -> bool {
         self.node.has_room()
     }
 
+    #[inline(never)]
     fn on_published(&mut self, signal: Signal<T>) -> Result<(), Signal<T>>
         ensures ok { OnOk result (IsReadOn (queued_comes_out M.Machine) (queued_reads M.Machine) self.old signal self.new) }
         ensures enabled { OnOk result (queued_takes_published M.Machine self.old signal ≡ true) }
@@ -234,10 +245,12 @@ impl<M: Machine<Item = T>, T: Drop> Machine for Queued<M, T> {
         self.node.on_published(signal)
     }
 
+    #[inline(never)]
     fn can_pick(&self, input: u64, asked: u64, sent: u64) -> bool {
         self.tail.is_open() && self.node.can_pick(input, asked, self.sent(asked, sent))
     }
 
+    #[inline(never)]
     fn next_pick(&self, asked: u64, sent: u64) -> Option<u64> {
         if !self.tail.is_open() {
             return None;
@@ -245,6 +258,7 @@ impl<M: Machine<Item = T>, T: Drop> Machine for Queued<M, T> {
         self.node.next_pick(asked, self.sent(asked, sent))
     }
 
+    #[inline(never)]
     fn on_pick<O: Ops<Item = T>>(
         &mut self,
         alloc: Global,
@@ -263,6 +277,7 @@ impl<M: Machine<Item = T>, T: Drop> Machine for Queued<M, T> {
         }
     }
 
+    #[inline(never)]
     fn can_row(&self, asked: u64, sent: u64) -> bool {
         if self.can_transfer(asked, sent) {
             return true;
@@ -270,6 +285,7 @@ impl<M: Machine<Item = T>, T: Drop> Machine for Queued<M, T> {
         self.tail.is_open() && self.node.can_row(asked, self.sent(asked, sent))
     }
 
+    #[inline(never)]
     fn on_row<O: Ops<Item = T>>(
         &mut self,
         alloc: Global,
@@ -279,6 +295,7 @@ impl<M: Machine<Item = T>, T: Drop> Machine for Queued<M, T> {
     ) -> Result<(), NotMade>
         ensures ok { OnOk result (Keeps (queued_comes_out M.Machine (O.meaning ops.now)) self.old self.new) }
         ensures enabled { OnOk result (queued_rows M.Machine self.old asked sent ≡ true) }
+        ensures rowed { OnOk result (IsQueuedRow M.Machine self.old asked sent self.new) }
         ensures recorded { M.recorded self.new.node ≡ M.recorded self.old.node }
         ensures counts { OnOk result (QueuedCountsStep M.Machine self.old self.new) }
         ensures err { IfErr result (IsNotMade (queued_rows M.Machine self.old asked sent)) }
@@ -322,14 +339,35 @@ impl<M: Machine<Item = T>, T: Drop> Machine for Queued<M, T> {
         }
     }
 
+    /// The item that the node offers goes out at once where the queue is empty and the item could go into it.
+    #[inline(never)]
+    fn row_item<O: Ops<Item = T>>(
+        &mut self,
+        alloc: Global,
+        ops: &O,
+        asked: u64,
+        sent: u64,
+    ) -> Option<T> {
+        if !self.queue.is_empty() || !self.can_transfer(asked, sent) {
+            return None;
+        }
+        match self.node.pop_item(alloc, ops) {
+            Some(item) => Some(item),
+            None => None,
+        }
+    }
+
+    #[inline(never)]
     fn want(&self, input: u64, asked: u64, sent: u64) -> u64 {
         self.node.want(input, asked, self.sent(asked, sent))
     }
 
+    #[inline(never)]
     fn note(&self, alloc: Global) -> Result<Note, NoMemory> {
         self.node.note(alloc)
     }
 
+    #[inline(never)]
     fn residual<O: Ops<Item = T>>(
         &self,
         alloc: Global,

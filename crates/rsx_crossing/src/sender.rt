@@ -19,7 +19,7 @@ pub enum Sender<M, T> {
 impl<M: Machine<Item = T>, T: Drop> Machine for Sender<M, T> {
     type Item = T;
 
-    ghost use Rattle.rsx_crossing.specs.Sender.{sender_comes_out, sender_waiting, sender_shown, sender_takes, sender_picks, sender_rows, sender_recording, sender_recorded, sender_ended, sender_done, sender_counted, sender_wanted, sender_popped, sender_pop_allocates, sender_signal_allocates, sender_step_allocates, sender_shows, sender_alike, sender_drops, sender_ends, sender_settles, sender_ending_waits, sender_hungry, SenderCountsIn, SenderCountsStep, SenderAlike, SenderAllocatesAlike, sender_reads, sender_rooms, sender_takes_published, sender_ends_reading, sender_done_drops};
+    ghost use Rattle.rsx_crossing.specs.Sender.{sender_comes_out, sender_waiting, sender_shown, sender_takes, sender_picks, sender_rows, sender_rowed, sender_recording, sender_recorded, sender_ended, sender_done, sender_counted, sender_wanted, sender_popped, sender_pop_allocates, sender_signal_allocates, sender_step_allocates, sender_shows, sender_alike, sender_drops, sender_ends, sender_settles, sender_ending_waits, sender_hungry, SenderCountsIn, SenderCountsStep, SenderAlike, SenderAllocatesAlike, sender_reads, sender_rooms, sender_takes_published, sender_ends_reading, sender_done_drops};
     ghost use Rattle.rsx_crossing.specs.declared.sender.Sender.{Sender};
     ghost use Rattle.rsx_sources.specs.Machine.{TakesIn, front_of};
     ghost use Rattle.rsx_sources.specs.Steps.{IsNotTaken, AllocatesAlike, StaysAlike};
@@ -38,6 +38,8 @@ impl<M: Machine<Item = T>, T: Drop> Machine for Sender<M, T> {
     ghost picks = { sender_picks M.Machine };
 
     ghost rows = { sender_rows M.Machine };
+
+    ghost rowed = { sender_rowed M.Machine };
 
     ghost recording = { sender_recording M.Machine };
 
@@ -130,6 +132,7 @@ impl<M: Machine<Item = T>, T: Drop> Machine for Sender<M, T> {
         }
     }
 
+    #[inline(always)]
     fn pop_item<O: Ops<Item = T>>(&mut self, alloc: Global, ops: &O) -> Option<T> {
         match self {
             Sender::Direct(node) => node.pop_item(alloc, ops),
@@ -137,6 +140,7 @@ impl<M: Machine<Item = T>, T: Drop> Machine for Sender<M, T> {
         }
     }
 
+    #[inline(always)]
     fn pass<O: Ops<Item = T>>(&mut self, alloc: Global, ops: &O, input: u64, item: T) -> Passed<T> {
         match self {
             Sender::Direct(node) => node.pass(alloc, ops, input, item),
@@ -220,6 +224,21 @@ impl<M: Machine<Item = T>, T: Drop> Machine for Sender<M, T> {
         match self {
             Sender::Direct(node) => node.on_row(alloc, ops, asked, sent),
             Sender::Crossing(node) => node.on_row(alloc, ops, asked, sent),
+        }
+    }
+
+    #[inline]
+    fn row_item<O: Ops<Item = T>>(
+        &mut self,
+        alloc: Global,
+        ops: &O,
+        asked: u64,
+        sent: u64,
+    ) -> Option<T> {
+        match self {
+            // A node without a queue has nothing to do at once that it wouldn't do by a row.
+            Sender::Direct(_) => None,
+            Sender::Crossing(node) => node.row_item(alloc, ops, asked, sent),
         }
     }
 

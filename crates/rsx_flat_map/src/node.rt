@@ -196,6 +196,8 @@ impl<T: Drop> Machine for FlatMapNode<T> {
 
     ghost rows = { λ n a s. false };
 
+    ghost rowed = { λ n a s k. ⊥ };
+
     ghost recording = { flat_recording };
 
     ghost recorded = { flat_recorded };

@@ -267,6 +267,8 @@ impl<T: Drop> Machine for GroupByNode<T> {
 
     ghost rows = { λ n a s. false };
 
+    ghost rowed = { λ n a s k. ⊥ };
+
     ghost recording = { group_recording };
 
     ghost recorded = { group_recorded };

@@ -188,6 +188,8 @@ impl<T: Drop> Machine for CombineLatestNode<T> {
 
     ghost rows = { λ n a s. false };
 
+    ghost rowed = { λ n a s k. ⊥ };
+
     ghost recording = { latest_recording };
 
     ghost recorded = { latest_recorded };

@@ -111,6 +111,8 @@ impl<T: Drop> Machine for MergeNode<T> {
 
     ghost rows = { λ n a s. false };
 
+    ghost rowed = { λ n a s k. ⊥ };
+
     ghost recording = { merge_recording };
 
     ghost recorded = { merge_recorded };

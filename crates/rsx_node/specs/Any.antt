@@ -11,9 +11,9 @@ use Rattle.rsx_sources.specs.Reading.{Reading}
 use Rattle.rsx_sources.specs.declared.machine.Front.{Front}
 use Rattle.rsx_sources.specs.declared.machine.Machine.{Ghosts as Machine}
 use Rattle.rsx_crossing.specs.declared.sender.Sender.{Sender}
-use Rattle.rsx_crossing.specs.Sender.{sender_comes_out, sender_waiting, sender_shown, sender_takes, sender_picks, sender_rows, sender_recording, sender_recorded, sender_ended, sender_done, sender_counted, sender_wanted, sender_popped, sender_reads, sender_rooms, sender_pop_allocates, sender_signal_allocates, sender_step_allocates}
+use Rattle.rsx_crossing.specs.Sender.{sender_comes_out, sender_waiting, sender_shown, sender_takes, sender_picks, sender_rows, sender_rowed, sender_recording, sender_recorded, sender_ended, sender_done, sender_counted, sender_wanted, sender_popped, sender_reads, sender_rooms, sender_pop_allocates, sender_signal_allocates, sender_step_allocates}
 use Rattle.rsx_plain.specs.Node.{plain_comes_out, plain_waiting, plain_shown, plain_popped, plain_takes, plain_wanted, plain_ended, plain_allocates, plain_counted}
-use Rattle.rsx_several.specs.Several.{several_comes_out, several_waiting, several_shown, several_takes, several_picks, several_rows, several_recording, several_recorded, several_ended, several_done, several_counted, several_wanted, several_popped, several_step_allocates}
+use Rattle.rsx_several.specs.Several.{several_comes_out, several_waiting, several_shown, several_takes, several_picks, several_rows, several_rowed, several_recording, several_recorded, several_ended, several_done, several_counted, several_wanted, several_popped, several_step_allocates}
 use Rattle.rsx_publish_on.specs.PublishOn.{publish_comes_out, publish_waiting, publish_shown, publish_popped, publish_takes, publish_wanted, publish_ended, publish_counted}
 use Rattle.rsx_window.specs.Window.{window_comes_out, window_waiting, window_shown, window_takes, window_ended, window_done, window_wanted, IsPoppedWindow, CountsItems}
 use Rattle.rsx_flat_map.specs.FlatMap.{flat_comes_out, flat_waiting, flat_shown, flat_takes, flat_picks, flat_recording, flat_recorded, flat_ended, flat_done, flat_wanted, flat_popped, IsGoing}
@@ -81,6 +81,11 @@ any_rows (PublishOn n) asked sent = false
 any_rows (Window n) asked sent = false
 any_rows (FlatMap n) asked sent = false
 any_rows (GroupBy n) asked sent = false
+
+-- what a row makes of it
+abbrev pub any_rowed : {T : Type 0} → AnyNode T → ℕ → ℕ → AnyNode T → Type 0
+any_rowed (Several a) asked sent (Several b) = several_rowed a asked sent b
+any_rowed a asked sent b = ⊥
 
 -- what picking an input adds to what it recorded
 abbrev pub any_recording : {T : Type 0} → AnyNode T → ℕ → Note
@@ -212,6 +217,7 @@ kind_machine = record {
   takes = any_takes;
   picks = any_picks;
   rows = any_rows;
+  rowed = any_rowed;
   recording = any_recording;
   recorded = any_recorded;
   ended = any_ended;
@@ -239,6 +245,7 @@ any_machine = record {
   takes = sender_takes kind_machine;
   picks = sender_picks kind_machine;
   rows = sender_rows kind_machine;
+  rowed = sender_rowed kind_machine;
   recording = sender_recording kind_machine;
   recorded = sender_recorded kind_machine;
   ended = sender_ended kind_machine;

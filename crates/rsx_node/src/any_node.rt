@@ -41,7 +41,7 @@ impl<T: Drop> Machine for AnyNode<T> {
     ghost use Rattle.rsx_sources.specs.Machine.{TakesIn, front_of};
     ghost use Rattle.rsx_sources.specs.Reading.{IsReadOn, IsResidualOf, takes_published};
     ghost use Rattle.rsx_sources.specs.Steps.{IsPopped, IsNotTaken, AllocatesAlike, StaysAlike};
-    ghost use Rattle.rsx_node.specs.Any.{any_comes_out, any_waiting, any_shown, any_takes, any_picks, any_rows, any_recording, any_recorded, any_ended, any_done, any_counted, any_wanted, any_popped, any_reads, any_rooms, any_pop_allocates, any_signal_allocates, any_step_allocates};
+    ghost use Rattle.rsx_node.specs.Any.{any_comes_out, any_waiting, any_shown, any_takes, any_picks, any_rows, any_rowed, any_recording, any_recorded, any_ended, any_done, any_counted, any_wanted, any_popped, any_reads, any_rooms, any_pop_allocates, any_signal_allocates, any_step_allocates};
     ghost use Rattle.rsx_node.specs.Laws.{any_shows, any_drops, any_ends, any_ends_reading, any_done_drops, any_settles, any_ending_waits, any_hungry, any_popped_alike};
     ghost use Rattle.rsx_node.specs.declared.any_node.AnyNode.{AnyNode};
 
@@ -56,6 +56,8 @@ impl<T: Drop> Machine for AnyNode<T> {
     ghost picks = { any_picks };
 
     ghost rows = { any_rows };
+
+    ghost rowed = { any_rowed };
 
     ghost recording = { any_recording };
 

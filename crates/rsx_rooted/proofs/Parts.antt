@@ -18,7 +18,7 @@ use Rattle.rsx_sources.specs.declared.machine.Front.{Front}
 use Rattle.rsx_tree.specs.Reads.{IsTreeReadAt}
 use Rattle.rsx_tree.specs.Edges.{changed_at, asked_up_to, edge_view, EdgeView, passed, is_live, closed_view, closed_state}
 use Rattle.rsx_rooted.specs.Output.{counts_in, items_in, IsUnended, more_after, published_then, values_then}
-use Rattle.rsx_rooted.specs.Rooted.{Stands, IsPutOut, IsRootSent, IsMade, IsMoved, IsMovedBy, IsPumped, IsQuiet, IsSpent, HasEnded, IsAsk, IsSend, IsEffect, GoesOut, all_edges, sent_at, send_enabled, move_enabled, has_room, make_allocates, evaluated, pump_allocates, IsPick, IsRow}
+use Rattle.rsx_rooted.specs.Rooted.{Stands, IsPutOut, IsRootSent, IsMade, IsMoved, IsMovedBy, IsPumped, IsQuiet, IsSpent, HasEnded, IsAsk, IsSend, IsEffect, IsTreeSent, GoesOut, all_edges, sent_at, send_enabled, move_enabled, has_room, make_allocates, evaluated, pump_allocates, IsPick, IsRow}
 use Rattle.rsx_rooted.specs.Tree.{comes_out, notes, offers, edges, edges_after, can_ask, can_send, can_go, want_at, want_in, front_at, front_in, ended_at, IsAllClosed, IsKept, IsAlike, step_allocates, IsAdvanced, IsAskedAt, IsSentAt, IsChosen, IsDriven, IsIdle, IsBalanced, IsBalancedAfter, IsWithin, pop_allocates, IsStill}
 use Rattle.rsx_tree.specs.declared.look.NodeMove.{NodeMove}
 use Rattle.rsx_tree.specs.declared.look.NodeMove.TheVariants.{Ask, Send, Pick, Row}
@@ -243,6 +243,7 @@ pumped_on b m n k a mid c q q' q'' x y = record {
 pub sent_below_root : {M T : Type 0} (b : Machine M T) (m : Meaning T) (old : Rooted M) (tree : Node M) (at : ℕ) → 0 < at → IsSentAt b m old.tree (at - 1) tree → IsSend b m old at [] (record { tree = tree; root = old.root })
 sent_below_root {M = M} {T = T} b m old tree at z k =
     let Q : Bool → Type 0 = λ root. GoesOut b m old root [] in
+    let S : Bool → Type 0 = λ root. IsTreeSent b m old at root [] (record { tree = tree; root = old.root }) in
     let not : nat_eq at 0 ≡ false = above_root at z in
     let ended : Bool = ended_at b tree (at - 1) in
     let same : (if nat_eq at 0 then false else ended) ≡ ended = chosen_second (nat_eq at 0) false ended not in
@@ -252,6 +253,7 @@ sent_below_root {M = M} {T = T} b m old tree at z k =
       carries = front_there at (option_map front_of (offers b m old.tree)) (front_at b m old.tree (at - 1)) k.front z (ap (front_in b m) k.is ∙ k.offered);
       edges = ap (λ l. edge_view old.root ∷ l) k.edges ∙ (sym there ∙ ap (λ v. sent_at v k.front old at) (sym same));
       goes = subst Q (sym not) refl;
+      tree = subst S (sym not) (k, refl);
     }
 
 pub asked_below_root : {M T : Type 0} (b : Machine M T) (old : Rooted M) (tree : Node M) (at : ℕ) → 0 < at → IsAskedAt b old.tree (at - 1) old.root.demand.asked old.root.demand.sent tree → IsAsk b old at (record { tree = tree; root = old.root })
@@ -266,6 +268,7 @@ sent_root b m old new queue queue' k = record {
   carries = k.offered;
   edges = ap (λ e. e ∷ edges new.tree) k.passed ∙ ap (λ t. passed (edge_view old.root) k.front ∷ edges_in t) (sym k.gone.popped.1);
   goes = (k.signal, k.gone.offered, refl);
+  tree = (k.signal, refl, k.gone);
 }
 
 pub root_can : {M T : Type 0} (b : Machine M T) (m : Meaning T) (old new : Rooted M) (queue queue' : List (Signal T)) → (k : IsRootSent b m old queue new queue') → send_enabled b m old queue 0 ≡ true

@@ -19,7 +19,7 @@ use Rattle.rsx_tree.specs.Residual.{IsTreeBehind}
 use Rattle.rsx_sources.specs.declared.machine.Machine.{Ghosts as Machine}
 use Rattle.rsx_tree.specs.Reads.{IsTreeReadAt}
 use Rattle.rsx_rooted.specs.Output.{counts_in, items_in, IsUnended, IsOrderly, values_then}
-use Rattle.rsx_rooted.specs.Tree.{comes_out, notes, offers, can_ask, can_send, can_go, IsAllClosed, IsLetGo, edges, edges_after, want_at, front_at, ended_at, pop_allocates, send_allocates, step_allocates, tree_allocates, IsAlike, IsBalanced, IsWithin, can_pick, can_row, IsPickedAt, IsRowAt}
+use Rattle.rsx_rooted.specs.Tree.{comes_out, notes, offers, can_ask, can_send, can_go, IsAllClosed, IsLetGo, edges, edges_after, want_at, front_at, ended_at, pop_allocates, send_allocates, step_allocates, tree_allocates, IsAlike, IsBalanced, IsWithin, can_pick, can_row, IsPickedAt, IsRowAt, IsSentAt}
 use Rattle.rsx_tree.specs.declared.edge.EdgeState.TheVariants.{Live, Closed, Ended}
 use Rattle.rsx_rooted.specs.declared.rooted.Rooted.{Rooted}
 use Rattle.rsx_rooted.specs.declared.rooted.Pumped.{Pumped}
@@ -127,6 +127,12 @@ abbrev pub GoesOut : {M T : Type 0} → Machine M T → Meaning T → Rooted M �
 GoesOut {T = T} b m old true out = (s : Signal T) × (offers b m old.tree ≡ Some s) × (out ≡ s ∷ [])
 GoesOut b m old false out = out ≡ []
 
+-- what the Send did to the tree: over the root edge the root let the signal go; over another one it went from one node to another.
+-- Nothing else in the tree changed.
+abbrev pub IsTreeSent : {M T : Type 0} → Machine M T → Meaning T → Rooted M → ℕ → Bool → List (Signal T) → Rooted M → Type 0
+IsTreeSent {T = T} b m old at true out new = (s : Signal T) × (out ≡ s ∷ []) × IsLetGo b m old.tree s new.tree
+IsTreeSent b m old at false out new = IsSentAt b m old.tree (at - 1) new.tree × (new.root ≡ old.root)
+
 -- all edges after a signal went over this edge; where the receiver ended by it, all its inputs and all below them are closed
 abbrev pub sent_at : {M : Type 0} → Bool → Front → Rooted M → ℕ → List EdgeView
 sent_at ended front part at =
@@ -139,6 +145,7 @@ pub record IsSend {M T : Type 0} (b : Machine M T) (m : Meaning T) (old : Rooted
   pub carries : offered b m old at ≡ Some front
   pub edges : all_edges new ≡ sent_at (receiver_ended b new at) front old at
   pub goes : GoesOut b m old (nat_eq at 0) out
+  pub tree : IsTreeSent b m old at (nat_eq at 0) out new
 
 -- a Pick: the choice stands behind what the node recorded, and where the node ended by it, all below it is closed
 pub record IsPick {M T : Type 0} (b : Machine M T) (old : Rooted M) (at input : ℕ) (new : Rooted M) : Type 0 where

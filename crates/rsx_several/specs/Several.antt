@@ -9,7 +9,7 @@ use Rattle.rsx_sources.specs.Machine.{Incoming}
 use Rattle.rsx_sources.specs.declared.machine.Front.{Front}
 use Rattle.rsx_concat.specs.Concat.{concat_comes_out, concat_waiting, concat_shown, concat_takes, concat_ended, concat_done, concat_wanted, concat_popped, IsInTurn}
 use Rattle.rsx_merging.specs.Merge.{merge_comes_out, merge_waiting, merge_shown, merge_takes, merge_picks, merge_recording, merge_recorded, merge_ended, merge_done, merge_counted, merge_wanted, merge_popped}
-use Rattle.rsx_zipping.specs.Zip.{zip_comes_out, zip_waiting, zip_shown, zip_takes, zip_picks, zip_rows, zip_recording, zip_recorded, zip_ended, zip_done, IsZipCounted, zip_wanted, zip_popped, zip_step_allocates}
+use Rattle.rsx_zipping.specs.Zip.{zip_comes_out, zip_waiting, zip_shown, zip_takes, zip_picks, zip_rows, IsZipRow, zip_recording, zip_recorded, zip_ended, zip_done, IsZipCounted, zip_wanted, zip_popped, zip_step_allocates}
 use Rattle.rsx_latest.specs.Latest.{latest_comes_out, latest_waiting, latest_shown, latest_takes, latest_picks, latest_recording, latest_recorded, latest_ended, latest_done, IsLatestCounted, latest_wanted, latest_popped}
 use Rattle.rsx_several.specs.declared.several_node.SeveralNode.{SeveralNode}
 use Rattle.rsx_several.specs.declared.several_node.SeveralNode.TheVariants.{Concat, Merge, Zip, Latest}
@@ -55,6 +55,11 @@ several_rows (Concat n) asked sent = false
 several_rows (Merge n) asked sent = false
 several_rows (Zip n) asked sent = zip_rows n asked sent
 several_rows (Latest n) asked sent = false
+
+-- what a row makes of it
+abbrev pub several_rowed : {T : Type 0} → SeveralNode T → ℕ → ℕ → SeveralNode T → Type 0
+several_rowed (Zip n) asked sent (Zip k) = IsZipRow n asked sent k
+several_rowed n asked sent k = ⊥
 
 -- what picking an input adds to what it recorded
 abbrev pub several_recording : {T : Type 0} → SeveralNode T → ℕ → Note

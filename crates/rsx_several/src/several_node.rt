@@ -71,7 +71,7 @@ impl<T: Drop> Machine for SeveralNode<T> {
     ghost use Rattle.rsx_sources.specs.Reading.{IsReadOn, IsResidualOf};
     ghost use Rattle.rsx_sources.specs.Steps.{IsPopped, IsNotTaken, IsNotMade, StaysAlike};
     ghost use Rattle.rsx_several.specs.Laws.{several_shows, several_popped_alike, several_drops, several_ends, several_done_drops, several_settles, several_ending_waits, several_hungry};
-    ghost use Rattle.rsx_several.specs.Several.{several_comes_out, several_waiting, several_shown, several_takes, several_picks, several_rows, several_recording, several_recorded, several_ended, several_done, several_counted, several_wanted, several_popped, several_step_allocates};
+    ghost use Rattle.rsx_several.specs.Several.{several_comes_out, several_waiting, several_shown, several_takes, several_picks, several_rows, several_rowed, several_recording, several_recorded, several_ended, several_done, several_counted, several_wanted, several_popped, several_step_allocates};
     ghost use Rattle.rsx_several.specs.declared.several_node.SeveralNode.{SeveralNode};
 
     ghost comes_out = { several_comes_out };
@@ -85,6 +85,8 @@ impl<T: Drop> Machine for SeveralNode<T> {
     ghost picks = { several_picks };
 
     ghost rows = { several_rows };
+
+    ghost rowed = { several_rowed };
 
     ghost recording = { several_recording };
 

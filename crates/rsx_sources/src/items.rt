@@ -74,6 +74,8 @@ impl<T: Drop> Machine for ItemsNode<T> {
 
     ghost rows = { λ n a s. false };
 
+    ghost rowed = { λ n a s k. ⊥ };
+
     ghost recording = { λ n i. Nothing };
 
     ghost recorded = { λ n. Nothing };

@@ -80,6 +80,9 @@ pub trait Machine {
     /// Whether a row can be made, where so much is asked of the node and was sent by it.
     ghost rows: { Self → ℕ → ℕ → Bool };
 
+    /// What a row makes of the node, where so much is asked of it and was sent by it.
+    ghost rowed: { Self → ℕ → ℕ → Self → Type 0 };
+
     /// What picking an input adds to what the node recorded.
     ghost recording: { Self → ℕ → Note };
 
@@ -120,7 +123,7 @@ pub trait Machine {
     ghost use Rattle.rsx_types.specs.Notes.{note_then, unchosen};
     ghost use Rattle.rsx_sources.specs.Counts.{CountsIn, CountsOut, CountsStep, CanStep, IsHungry, AreWithin, ends_input};
     ghost use Rattle.rsx_sources.specs.Machine.{IsComposed, Keeps, TakesIn, Records, front_of, incoming_of};
-    ghost use Rattle.rsx_sources.specs.Passed.{IsItemOut, IsPassed};
+    ghost use Rattle.rsx_sources.specs.Passed.{IsItemOut, IsPassed, IsRowOut};
     ghost use Rattle.rsx_sources.specs.Reading.{IsReadOn, IsResidualOf, takes_published, hub_of};
     ghost use Rattle.rsx_sources.specs.Steps.{AllocatesAlike, StaysAlike, IsPopped, IsNotTaken, IsNotMade};
 
@@ -260,12 +263,30 @@ pub trait Machine {
     ) -> Result<(), NotMade>
         ensures ok { OnOk result (Keeps (comes_out (O.meaning ops.now)) self.old self.new) }
         ensures enabled { OnOk result (rows self.old asked sent ≡ true) }
+        ensures rowed { OnOk result (rowed self.old asked sent self.new) }
         ensures recorded { recorded self.new ≡ recorded self.old }
         ensures counts { OnOk result (CountsStep counted ended done self.old self.new) }
         ensures err { IfErr result (IsNotMade (rows self.old asked sent)) }
         ensures memory { step_allocates (O.allocates ops.now) self.old ≡ false → IfErr result (λ e. e ≡ NotMade.NotEnabled) }
         ensures alike { StaysAlike reads pop_allocates signal_allocates step_allocates self.old self.new }
         ensures same { OnErr result (self.new ≡ self.old) };
+
+    /// Makes a row, as `on_row` does, and takes the item out that the node then offers, as `pop_item` does; the item doesn't
+    /// have to wait in the node. A node may answer nothing to any call; then it is unchanged, and the two calls do the work.
+    #[inline(always)]
+    fn row_item<O: Ops<Item = Self::Item>>(
+        &mut self,
+        alloc: Global,
+        ops: &O,
+        asked: u64,
+        sent: u64,
+    ) -> Option<Self::Item>
+        ensures out { IsRowOut (comes_out (O.meaning ops.now)) (waiting (O.meaning ops.now))
+            rows rowed popped recorded counted ended done self.old asked sent result self.new }
+        ensures alike { StaysAlike reads pop_allocates signal_allocates step_allocates self.old self.new }
+    {
+        None
+    }
 
     /// What is to be asked of an input in all, where `asked` is asked of the node and it sent `sent` items.
     fn want(&self, input: u64, asked: u64, sent: u64) -> u64

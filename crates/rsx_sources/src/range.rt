@@ -81,6 +81,8 @@ impl<T: Drop> Machine for RangeNode<T> {
 
     ghost rows = { λ n a s. false };
 
+    ghost rowed = { λ n a s k. ⊥ };
+
     ghost recording = { λ n i. Nothing };
 
     ghost recorded = { λ n. Nothing };

@@ -17,7 +17,7 @@ use Rattle.rsx_tree.specs.Inputs.{size, can_go}
 use Rattle.rsx_tree.specs.Allocates.{IsNodeAlike}
 use Rattle.rsx_tree.specs.Changed.{Hold, IsSentOver}
 use Rattle.rsx_tree.specs.Driven.{IsRowRun}
-use Rattle.rsx_tree.specs.Fetched.{IsOut, IsHanded, IsPulled, IsRunOver, IsRowFetched, IsLed, IsFetched}
+use Rattle.rsx_tree.specs.Fetched.{IsOut, IsHanded, IsPulled, IsRunOver, IsRowFetched, IsLed, IsFetched, IsStepOut}
 use Rattle.rsx_tree.specs.Tree.{IsLetGo}
 use Rattle.rsx_tree.proofs.Alike.{driven_alike}
 use Rattle.rsx_tree.proofs.Changes.{Rest}
@@ -34,6 +34,7 @@ sent_over b m r i e n r' e' n' x out taken alike can carried asked sent = record
   signal = Next x;
   can = ap (λ o. can_go (b.takes r i) (edge_view e) (option_map front_of o)) out.0.waited ∙ (ap (λ c. c && can_pass (edge_view e) ItemFront) taken.enabled ∙ can);
   offered = out.0.waited;
+  popped = out.0.popped_out;
   gone = out.0.value;
   taken = taken.value;
   edge = carried;
@@ -109,14 +110,27 @@ pub pulled_at_once : {M T : Type 0} (b : Machine M T) (m : Meaning T) (budget : 
 pulled_at_once b m budget e n n' below x out = (0, n, omega arith, λ r i asked sent p q beside. (refl, refl), out)
 
 -- a step of it was made
-pub pulled_step : {M T : Type 0} (b : Machine M T) (m : Meaning T) (budget : ℕ) (e : Edge) (n n1 n' : M) (below below' : Inputs M) → 0 < budget → n1 ≡ n → IsStepOver (IsStepOf b m) b.ended e n1 below n' below' → IsPulled b m budget e n below Moved (budget - 1) n' below'
-pulled_step {M} b m budget e n n1 n' below below' some same h =
+pub pulled_step : {M T : Type 0} (b : Machine M T) (m : Meaning T) (budget : ℕ) (e : Edge) (n n1 n' : M) (below was below' : Inputs M) → 0 < budget → n1 ≡ n → was ≡ below → IsStepOver (IsStepOf b m) b.ended e n1 was n' below' → IsPulled b m budget e n below Moved (budget - 1) n' below'
+pulled_step {M} b m budget e n n1 n' below was below' some same at h =
     let N : M → Type 0 = λ k. IsPulled b m budget e k below Moved (budget - 1) n' below' in
-    subst N same (
+    let W : Inputs M → Type 0 = λ k. IsPulled b m budget e n1 k Moved (budget - 1) n' below' in
+    subst N same (subst W at (
       1,
       omega (arith, some),
       omega (arith, some),
-      λ r i asked sent p q beside. run_once b m true i asked sent 0 r r (More' e n1 p below q beside) (More' e n' p below' q beside) (step_here b m i asked sent r e n1 n' below below' h p q beside),
+      λ r i asked sent p q beside. run_once b m true i asked sent 0 r r (More' e n1 p was q beside) (More' e n' p below' q beside) (step_here b m i asked sent r e n1 n' was below' h p q beside),
+    ))
+
+-- a step of it was made, and the item that then waited went out
+pub pulled_step_out : {M T : Type 0} (b : Machine M T) (m : Meaning T) (budget : ℕ) (e : Edge) (n n1 n' : M) (below below' : Inputs M) (x : T) → 0 < budget → n1 ≡ n → IsStepOut b m e n1 below (Some x) n' below' → IsPulled b m budget e n below (AnItem x) (budget - 1) n' below'
+pulled_step_out {M} b m budget e n n1 n' below below' x some same h =
+    let N : M → Type 0 = λ k. IsPulled b m budget e k below (AnItem x) (budget - 1) n' below' in
+    subst N same (
+      1,
+      h.0,
+      omega (arith, some),
+      λ r i asked sent p q beside. run_once b m true i asked sent 0 r r (More' e n1 p below q beside) (More' e h.0 p below' q beside) (step_here b m i asked sent r e n1 h.0 below below' h.1 p q beside),
+      h.2,
     )
 
 -- a run below it led to an item

@@ -15,7 +15,7 @@ use Rattle.rsx_tree.specs.Changed.{Hold}
 use Rattle.rsx_tree.specs.Chosen.{noted_at, stepped_edges, edges_after, ended_there, IsChosen, IsPickedAt, IsRowAt}
 use Rattle.rsx_tree.specs.Edges.{EdgeView, edge_view, is_live, closed_if}
 use Rattle.rsx_tree.specs.Inputs.{size, edges, notes_of, comes_in, out_of, beside_of, closed_row_if}
-use Rattle.rsx_tree.specs.Stepped.{Step, IsStepped, IsSteppedAt, IsPickedHere, IsRowMadeHere, Station, station, station_of, can_pick_in, can_row_in}
+use Rattle.rsx_tree.specs.Stepped.{Step, IsStepped, IsSteppedAt, IsPickedHere, IsRecordedHere, IsRowMadeHere, Station, station, station_of, can_pick_in, can_row_in}
 use Rattle.rsx_tree.specs.Tree.{notes, IsKept}
 use Rattle.rsx_tree.proofs.Balances.{step_balanced, root_balanced}
 use Rattle.rsx_tree.proofs.Changes.{chosen_first, chosen_second, not_zero, is_within, is_beyond}
@@ -361,11 +361,34 @@ tree_noted {M} b m P front back law old e (suc at) new h =
     let R : M → Type 0 = λ r. IsTreeNoted b m P back old e (suc at) (node r new.inputs) in
     subst R (sym h.machine) (below_noted b m P front back law old.machine old.inputs new.inputs e at h.made)
 
+-- a step, by what it is besides
+stepped_as : {M : Type 0} (P Q : Step M) (ends : M → Bool) → ((n : M) (asked sent : ℕ) (n' : M) → P n asked sent n' → Q n asked sent n') → (t : Inputs M) (at : ℕ) (t' : Inputs M) → IsStepped P ends t at t' → IsStepped Q ends t at t'
+stepped_as P Q ends law End at t' h = absurd h
+stepped_as P Q ends law (More' e n p below q beside) at t' h = elim h [
+  | inl x ↦ inl (record { n' = x.n'; at_is = x.at_is; live = x.live; made = law n e.demand.asked e.demand.sent x.n' x.made; new_is = x.new_is })
+  | inr y ↦ elim y [
+    | inl x ↦ inr (inl (record { below' = x.below'; above = x.above; within = x.within; made = stepped_as P Q ends law below (at - 1) x.below' x.made; new_is = x.new_is }))
+    | inr x ↦ inr (inr (record { beside' = x.beside'; beyond = x.beyond; made = stepped_as P Q ends law beside (at - 1 - size below) x.beside' x.made; new_is = x.new_is }))
+  ]
+]
+
+stepped_tree_as : {M : Type 0} (P Q : Step M) (ends : M → Bool) → ((n : M) (asked sent : ℕ) (n' : M) → P n asked sent n' → Q n asked sent n') → (old : Node M) (e : EdgeView) (at : ℕ) (new : Node M) → IsSteppedAt P ends old e at new → IsSteppedAt Q ends old e at new
+stepped_tree_as P Q ends law old e zero new h = record { live = h.live; made = law old.machine e.asked e.sent new.machine h.made; inputs = h.inputs }
+stepped_tree_as P Q ends law old e (suc at) new h = record { machine = h.machine; made = stepped_as P Q ends law old.inputs at new.inputs h.made }
+
 pub picked_noted : {M T : Type 0} (b : Machine M T) (m : Meaning T) (i : ℕ) (old : Node M) (e : EdgeView) (at : ℕ) (new : Node M) → IsSteppedAt (IsPickedHere b m i) b.ended old e at new → IsTreeNoted b m (IsPickedHere b m i) (λ n k. note_then k (b.recording n i)) old e at new
 picked_noted b m i old e at new h = tree_noted b m (IsPickedHere b m i) (λ n k. note_then (b.recording n i) k) (λ n k. note_then k (b.recording n i)) (pick_notes b m i) old e at new h
 
 pub picked_effect : {M T : Type 0} (b : Machine M T) (m : Meaning T) (i : ℕ) (old : Node M) (e : EdgeView) (at : ℕ) (new : Node M) → IsSteppedAt (IsPickedHere b m i) b.ended old e at new → IsPickedAt b old e at i new
-picked_effect b m i old e at new h = let k = picked_noted b m i old e at new h in record { there = k.there; is = k.is; edges = k.edges; notes = k.notes }
+picked_effect b m i old e at new h =
+    let k = picked_noted b m i old e at new h in
+    record {
+      there = k.there;
+      is = k.is;
+      edges = k.edges;
+      notes = k.notes;
+      step = stepped_tree_as (IsPickedHere b m i) (IsRecordedHere b i) b.ended (λ n a s n' p. p.recorded) old e at new h;
+    }
 
 pub picked_enabled : {M T : Type 0} (b : Machine M T) (m : Meaning T) (i : ℕ) (old : Node M) (e : EdgeView) (at : ℕ) (new : Node M) → IsSteppedAt (IsPickedHere b m i) b.ended old e at new → can_pick_in b i (station_of old e at) ≡ true
 picked_enabled b m i old e at new h = let k = picked_noted b m i old e at new h in ap (can_pick_in b i) k.is ∙ (ap (λ l. l && b.picks k.there.machine i k.there.asked k.there.sent) k.live ∙ k.made.can)
@@ -374,7 +397,13 @@ pub row_noted : {M T : Type 0} (b : Machine M T) (m : Meaning T) (old : Node M) 
 row_noted b m old e at new h = tree_noted b m (IsRowMadeHere b m) (λ n k. k) (λ n k. k) (row_notes b m) old e at new h
 
 pub row_effect : {M T : Type 0} (b : Machine M T) (m : Meaning T) (old : Node M) (e : EdgeView) (at : ℕ) (new : Node M) → IsSteppedAt (IsRowMadeHere b m) b.ended old e at new → IsRowAt b old e at new
-row_effect b m old e at new h = let k = row_noted b m old e at new h in record { edges = k.edges; notes = k.notes ∙ noted_same at (notes b old) }
+row_effect b m old e at new h =
+    let k = row_noted b m old e at new h in
+    record {
+      edges = k.edges;
+      notes = k.notes ∙ noted_same at (notes b old);
+      step = stepped_tree_as (IsRowMadeHere b m) b.rowed b.ended (λ n a s n' p. p.row) old e at new h;
+    }
 
 pub row_enabled : {M T : Type 0} (b : Machine M T) (m : Meaning T) (old : Node M) (e : EdgeView) (at : ℕ) (new : Node M) → IsSteppedAt (IsRowMadeHere b m) b.ended old e at new → can_row_in b (station_of old e at) ≡ true
 row_enabled b m old e at new h = let k = row_noted b m old e at new h in ap (can_row_in b) k.is ∙ (ap (λ l. l && b.rows k.there.machine k.there.asked k.there.sent) k.live ∙ k.made.can)

@@ -94,6 +94,9 @@ sent_effect {M} b m r r' at t mid t' h is =
           ∙ (ap (λ z. closed_if z (edges_in mid)) same
           ∙ (ap (λ es. closed_if (ended && is_own t at) es) k.edges
           ∙ ap (λ z. closed_if (z && is_own t at) (sent_edges z k.front t at)) (sym still)));
+      mid = mid;
+      step = h;
+      shut = refl;
     })
 
 pub joined : {M : Type 0} (t : Node M) (beside : Inputs M) (e : Edge) (below others : Rest M) → e.demand.asked ≡ 0 → e.demand.sent ≡ 0 → e.state ≡ Live → below.value ≡ t.inputs → others.value ≡ beside → IsJoined t beside (More e t.machine below others)

@@ -36,6 +36,7 @@ pub record IsSentOver {M T : Type 0} (b : Machine M T) (m : Meaning T) (r : M) (
   pub signal : Signal T
   pub can : can_send_over b m r i (edge_view e) n ≡ true
   pub offered : b.waiting m n ≡ Some signal
+  pub popped : b.popped n signal n'
   pub gone : LetsGo (b.comes_out m) n signal n'
   pub taken : TakesIn (b.comes_out m) r i signal r'
   pub edge : edge_view e' ≡ passed (edge_view e) (front_of signal)

@@ -9,7 +9,7 @@ use Rattle.rsx_tree.specs.declared.inputs.Inputs.{Inputs, End, More'}
 use Rattle.rsx_tree.specs.declared.node.Node.{Node}
 use Rattle.rsx_tree.specs.Edges.{EdgeView, edge_view, closed_if}
 use Rattle.rsx_tree.specs.Inputs.{size, tests, edges as edges_in}
-use Rattle.rsx_tree.specs.Stepped.{Station, station_of}
+use Rattle.rsx_tree.specs.Stepped.{Station, station_of, IsRecordedHere, IsSteppedAt}
 use Rattle.rsx_tree.specs.Tree.{comes_out, edges, notes}
 
 -- ---- notes
@@ -53,14 +53,16 @@ edges_after ended t (suc at) = stepped_edges ended t.inputs at
 
 -- ---- a pick, and a row, of the node `at` of a tree, whose root has the number 0 and this edge
 
--- the choice stands behind what the node recorded; all other notes stay
+-- the choice stands behind what the node recorded; all other notes stay, and no other node changed
 pub record IsPickedAt {M T : Type 0} (b : Machine M T) (old : Node M) (e : EdgeView) (at input : ℕ) (new : Node M) : Type 0 where
   pub there : Station M
   pub is : station_of old e at ≡ Some there
   pub edges : edges new ≡ edges_after (ended_there b (station_of new e at)) old at
   pub notes : notes b new ≡ recorded_at at (b.recording there.machine input) (notes b old)
+  pub step : IsSteppedAt (IsRecordedHere b input) b.ended old e at new
 
--- all notes stay
+-- all notes stay, and the row made of the node what it makes of such a node; no other node changed
 pub record IsRowAt {M T : Type 0} (b : Machine M T) (old : Node M) (e : EdgeView) (at : ℕ) (new : Node M) : Type 0 where
   pub edges : edges new ≡ edges_after (ended_there b (station_of new e at)) old at
   pub notes : notes b new ≡ notes b old
+  pub step : IsSteppedAt b.rowed b.ended old e at new

@@ -16,11 +16,18 @@ use Rattle.rsx_tree.specs.Balance.{IsBalanced}
 use Rattle.rsx_tree.specs.Changed.{Hold, IsCarried}
 use Rattle.rsx_tree.specs.Chosen.{IsChosen}
 use Rattle.rsx_tree.specs.Driven.{IsDriven, IsRowRun}
+use Rattle.rsx_tree.specs.Stepped.{IsStepOf, IsStepOver}
 use Rattle.rsx_tree.specs.Tree.{IsLetGo}
 
 -- the item that waited in a node went out of it, and the same of its calls may allocate
 abbrev pub IsOut : {M T : Type 0} → Machine M T → Meaning T → M → T → M → Type 0
 IsOut b m n x n' = IsItemOut (b.comes_out m) (b.waiting m) b.popped b.recorded b.counted b.ended b.done n x n' × IsNodeAlike b n n'
+
+-- a pick or a row was made of a node whose edge is live, and then the item that waited in it went out; where the node ended by it,
+-- all below it is closed. With no item nothing has changed.
+abbrev pub IsStepOut : {M T : Type 0} → Machine M T → Meaning T → Edge → M → Inputs M → Option T → M → Inputs M → Type 0
+IsStepOut {M} b m e n below (Some x) n' below' = (mid : M) × IsStepOver (IsStepOf b m) b.ended e n below mid below' × IsOut b m mid x n'
+IsStepOut b m e n below None n' below' = (n' ≡ n) × (below' ≡ below)
 
 -- what came of an item that was taken out of the sender `n` of input i of a receiver: it went over the edge, one move of the
 -- budget, and what the receiver put out first went out of it again, or it put out nothing; or the item went back

@@ -65,10 +65,15 @@ pub record IsPickedHere {M T : Type 0} (b : Machine M T) (m : Meaning T) (i : �
 -- a row
 pub record IsRowMadeHere {M T : Type 0} (b : Machine M T) (m : Meaning T) (n : M) (asked sent : ℕ) (n' : M) : Type 0 where
   pub can : b.rows n asked sent ≡ true
+  pub row : b.rowed n asked sent n'
   pub value : Keeps (b.comes_out m) n n'
   pub recorded : b.recorded n' ≡ b.recorded n
   pub counts : CountsStep b.counted b.ended b.done n n'
   pub alike : IsNodeAlike b n n'
+
+-- a pick, by what the node recorded
+abbrev pub IsRecordedHere : {M T : Type 0} → Machine M T → ℕ → Step M
+IsRecordedHere b i n asked sent n' = b.recorded n' ≡ note_then (b.recorded n) (b.recording n i)
 
 -- a pick of some input, or a row
 abbrev pub IsStepOf : {M T : Type 0} → Machine M T → Meaning T → Step M

@@ -14,9 +14,9 @@ use Rattle.rsx_tree.specs.declared.inputs.Inputs.{Inputs, End, More'}
 use Rattle.rsx_tree.specs.declared.node.Node.{Node}
 use Rattle.rsx_tree.specs.Allocates.{IsAlike}
 use Rattle.rsx_tree.specs.Balance.{IsBalanced, IsBalancedAfter}
-use Rattle.rsx_tree.specs.Changed.{Hold}
+use Rattle.rsx_tree.specs.Changed.{Hold, IsChanged, IsSentOver}
 use Rattle.rsx_tree.specs.Edges.{EdgeView, asked_up_to, changed_at, closed_if}
-use Rattle.rsx_tree.specs.Inputs.{Place, place, size, is_own, comes_in, out_of, notes_of, edges as edges_in, can_ask_in, can_send_in, wanted_at, send_allocates_in, sent_edges, IsUnchosen as IsUnchosenIn}
+use Rattle.rsx_tree.specs.Inputs.{Place, place, size, is_own, closed_row_if, comes_in, out_of, notes_of, edges as edges_in, can_ask_in, can_send_in, wanted_at, send_allocates_in, sent_edges, IsUnchosen as IsUnchosenIn}
 
 -- what still comes out of the tree whose root has the number `at`, where `hubs` is what is still published at each hub and
 -- `further` what each node of the whole tree still chooses; nothing where those choices don't fit
@@ -104,13 +104,17 @@ pub record IsAskedAt {M T : Type 0} (b : Machine M T) (old : Node M) (at asked s
   pub is : place_of old at asked sent ≡ Some there
   pub edges : edges new ≡ changed_at (asked_up_to (wanted_at b there)) at (edges old)
 
--- a Send: the offered signal went over the edge, and where its receiver ended by it, all edges below that are closed
+-- a Send: the offered signal went over the edge, and where its receiver ended by it, all edges below that are closed; no other
+-- edge, and no node but the two at its ends, changed
 pub record IsSentAt {M T : Type 0} (b : Machine M T) (m : Meaning T) (old : Node M) (at : ℕ) (new : Node M) : Type 0 where
   pub there : Place M
   pub front : Front
   pub is : place_of old at 0 0 ≡ Some there
   pub offered : option_map front_of (b.waiting m there.sender) ≡ Some front
   pub edges : edges new ≡ closed_if (ended_at b new at && is_own old.inputs at) (sent_edges (ended_at b new at) front old.inputs at)
+  pub mid : Inputs M
+  pub step : IsChanged (IsSentOver b m) b.ended old.machine 0 0 0 old.inputs at new.machine mid
+  pub shut : new.inputs ≡ closed_row_if (b.ended new.machine && is_own old.inputs at) mid
 
 -- a tree became an input, over an edge over which nothing went yet
 pub record IsJoined {M : Type 0} (t : Node M) (beside row : Inputs M) : Type 0 where

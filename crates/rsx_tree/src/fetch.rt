@@ -7,7 +7,7 @@ ghost use Rattle.rsx_tree.specs.Fetched.{IsHanded, IsOut};
 use crate::edge::Edge;
 use crate::inputs::{Inputs, ask_over};
 use crate::node::Node;
-use crate::step::step_over;
+use crate::step::{row_item_over, step_over};
 use rsx_sources::{Front, Machine, Passed};
 use rsx_types::{NoMemory, Ops, Signal};
 use std::alloc::Global;
@@ -92,7 +92,8 @@ impl<M: Machine> Inputs<M> {
     }
 
     /// Takes the item out that the sender over this row offers over its edge. Where it offers none, makes a pick or a row of
-    /// it, or where none is enabled makes moves of the row until the sender offers an item.
+    /// it, a row with the item that comes of it at once; or where none is enabled makes moves of the row until the sender offers
+    /// an item.
     #[cycle(fetch)]
     #[inline(always)]
     fn pull<O: Ops<Item = M::Item>>(
@@ -111,6 +112,10 @@ impl<M: Machine> Inputs<M> {
         let before = *left;
         if before == 0 {
             return Pulled::Nothing;
+        }
+        if let Some(item) = row_item_over(alloc, ops, edge, sender, self) {
+            *left -= 1;
+            return Pulled::Item(item);
         }
         match step_over(alloc, ops, edge, sender, self) {
             Ok(true) => {

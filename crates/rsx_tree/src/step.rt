@@ -2,6 +2,7 @@
 
 ghost use Rattle.std.specs.Prelude.{◌≡◌, OnOk, OnErr, IfOk, IfErr, IsOk, Some, true, false};
 ghost use Rattle.rsx_sources.specs.Steps.{IsNotMade};
+ghost use Rattle.rsx_tree.specs.Fetched.{IsStepOut};
 ghost use Rattle.rsx_tree.specs.Inputs.{size};
 ghost use Rattle.rsx_tree.specs.Refusals.{OnlyNotEnabled};
 ghost use Rattle.rsx_tree.specs.Stepped.{IsPickOver, IsRowOver, IsStepOf, IsStepOver, IsStill, can_pick_in, can_row_in, over};
@@ -65,9 +66,34 @@ pub(crate) fn row_over<M: Machine, O: Ops<Item = M::Item>>(
     }
 }
 
+/// Makes a row at a node over this edge and takes the item out that the node then offers, where the node does both at once.
+/// Where the node ended by the row, all below it is closed.
+#[inline(always)]
+pub(crate) fn row_item_over<M: Machine, O: Ops<Item = M::Item>>(
+    alloc: Global,
+    ops: &O,
+    edge: &Edge,
+    node: &mut M,
+    below: &mut Inputs<M>,
+) -> Option<M::Item>
+    ensures out { IsStepOut M.Machine (O.meaning ops.now) edge.now node.old below.old result node.new below.new }
+    ensures size { size below.new ≡ size below.old }
+{
+    if !edge.is_live() {
+        return None;
+    }
+    match node.row_item(alloc, ops, edge.demand.asked, edge.demand.sent) {
+        Some(item) => {
+            below.close_if(node.has_ended(), true);
+            Some(item)
+        }
+        None => None,
+    }
+}
+
 /// Makes a pick or a row of a node, where one is enabled, and answers whether it did. Where the node ended by it, all below
 /// it is closed.
-#[inline]
+#[inline(always)]
 pub(crate) fn step_over<M: Machine, O: Ops<Item = M::Item>>(
     alloc: Global,
     ops: &O,

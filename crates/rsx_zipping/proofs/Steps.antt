@@ -15,7 +15,7 @@ use Rattle.rsx_queued.specs.Input.{with_signal}
 use Rattle.rsx_queued.specs.Output.{is_empty, output_then}
 use Rattle.rsx_joining.specs.Zip.{heads, zip}
 use Rattle.rsx_zipping.specs.Inputs.{lefts, all_have_items, queued, all_shortened}
-use Rattle.rsx_zipping.specs.Zip.{ZipState, recorded_ending, behind_ending, zip_of, zip_comes_out, zip_takes, zip_rows, zip_recorded, zip_ended, zip_done, IsZipCounted, is_some_input}
+use Rattle.rsx_zipping.specs.Zip.{ZipState, recorded_ending, behind_ending, zip_of, zip_comes_out, zip_takes, zip_rows, IsZipRow, zip_recorded, zip_ended, zip_done, IsZipCounted, is_some_input}
 use Rattle.rsx_queued.proofs.Changed.{length_set, IsPut, is_put, put_done, put_ends}
 use Rattle.rsx_zipping.proofs.Filled.{put_lefts, put_counted}
 use Rattle.rsx_zipping.proofs.Zips.{row_made, row_counts, rest_out}
@@ -118,6 +118,14 @@ row_keeps {T} m start old asked sent qs out y p =
     let Q : List (QueuedInput T) → Type 0 = λ l. Keeps (zip_comes_out m) start (with_row start l out) in
     let R : Output T → Type 0 = λ o. Keeps (zip_comes_out m) start (with_row start (all_shortened start.inputs) o) in
     subst P p.same (subst Q (sym p.shorter) (subst R (sym p.put) (made_at m start y can p.row)))
+
+pub row_rowed : {T : Type 0} (m : Meaning T) (start old : ZipState T) (asked sent : ℕ) (qs : List (QueuedInput T)) (out : Output T) (y : T) → IsRowMade m start old asked sent qs out y → IsZipRow old asked sent (with_row start qs out)
+row_rowed m start old asked sent qs out y p = record {
+  row = y;
+  inputs = p.shorter ∙ ap (λ n. all_shortened n.inputs) p.same;
+  output = p.put;
+  chosen = ap (λ n. n.chosen) p.same;
+}
 
 pub row_steps : {T : Type 0} (m : Meaning T) (start old : ZipState T) (asked sent : ℕ) (qs : List (QueuedInput T)) (out : Output T) (y : T) → IsRowMade m start old asked sent qs out y → CountsStep IsZipCounted zip_ended zip_done old (with_row start qs out)
 row_steps {T} m start old asked sent qs out y p =

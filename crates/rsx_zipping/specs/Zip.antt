@@ -5,18 +5,19 @@ use Rattle.rsx_types.specs.declared.note.Note.{Note}
 use Rattle.rsx_types.specs.declared.note.Note.TheVariants.{Nothing, Picks, Ended}
 use Rattle.rsx_types.specs.declared.signal.Ending.TheVariants.{Done}
 use Rattle.rsx_types.specs.declared.signal.Signal.{Signal}
+use Rattle.rsx_types.specs.declared.signal.Signal.TheVariants.{Next}
 use Rattle.rsx_types.specs.Meaning.{Meaning, Allocates}
 use Rattle.rsx_types.specs.Stream.{Stream, ended_by}
 use Rattle.rsx_sources.specs.declared.machine.Front.{Front}
 use Rattle.rsx_sources.specs.Machine.{Incoming, front_of}
 use Rattle.rsx_queued.specs.declared.input.QueuedInput.{QueuedInput}
 use Rattle.rsx_queued.specs.declared.output.Output.{Output}
-use Rattle.rsx_queued.specs.declared.output.Output.TheVariants.{Empty}
+use Rattle.rsx_queued.specs.declared.output.Output.TheVariants.{Empty, Waiting}
 use Rattle.rsx_queued.specs.Output.{out_signal, is_empty, has_ending, is_over, output_then, IsOut}
 use Rattle.rsx_joining.specs.Zip.{zip}
 use Rattle.rsx_queued.specs.Inputs.{takes_at, credits_at, done_at}
 use Rattle.rsx_queued.specs.Values.{first_values}
-use Rattle.rsx_zipping.specs.Inputs.{lefts, ending_at, all_have_items, AllCounted}
+use Rattle.rsx_zipping.specs.Inputs.{lefts, ending_at, all_have_items, all_shortened, AllCounted}
 
 -- the inputs, what the node has put out, and the number of the input whose ending it took
 pub record ZipState (T : Type 0) : Type 0 where
@@ -71,6 +72,13 @@ is_some_input (q ∷ qs) = true
 -- a row can be made where an item is next at each input, one more may be sent, and nothing waits
 abbrev pub zip_rows : {T : Type 0} → ZipState T → ℕ → ℕ → Bool
 zip_rows n asked sent = (is_empty n.output && nat_lt sent asked) && (is_some_input n.inputs && all_have_items n.inputs)
+
+-- a row: the first item of each input is gone, and one item waits
+pub record IsZipRow {T : Type 0} (old : ZipState T) (asked sent : ℕ) (new : ZipState T) : Type 0 where
+  pub row : T
+  pub inputs : new.inputs ≡ all_shortened old.inputs
+  pub output : new.output ≡ Waiting (Next row)
+  pub chosen : new.chosen ≡ old.chosen
 
 abbrev pub zip_recording : {T : Type 0} → ZipState T → ℕ → Note
 zip_recording n i = Ended (Some i)

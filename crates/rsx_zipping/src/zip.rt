@@ -129,7 +129,7 @@ impl<T: Drop> Machine for ZipNode<T> {
     ghost use Rattle.rsx_sources.specs.Machine.{TakesIn, Keeps, Records, IsComposed, front_of};
     ghost use Rattle.rsx_sources.specs.Reading.{IsReadOn, IsResidualOf};
     ghost use Rattle.rsx_sources.specs.Steps.{IsNotTaken, IsNotMade};
-    ghost use Rattle.rsx_zipping.specs.Zip.{ZipState, zip_comes_out, zip_waiting, zip_shown, zip_takes, zip_picks, zip_rows, zip_recording, zip_recorded, zip_ended, zip_done, IsZipCounted, zip_wanted, zip_popped, zip_step_allocates};
+    ghost use Rattle.rsx_zipping.specs.Zip.{ZipState, zip_comes_out, zip_waiting, zip_shown, zip_takes, zip_picks, zip_rows, IsZipRow, zip_recording, zip_recorded, zip_ended, zip_done, IsZipCounted, zip_wanted, zip_popped, zip_step_allocates};
     ghost use Rattle.rsx_zipping.specs.Laws.{zip_popped_alike, zip_drops, zip_ends, zip_done_drops, zip_settles, zip_ending_waits, zip_hungry};
 
     ghost comes_out = { zip_comes_out };
@@ -143,6 +143,8 @@ impl<T: Drop> Machine for ZipNode<T> {
     ghost picks = { zip_picks };
 
     ghost rows = { zip_rows };
+
+    ghost rowed = { IsZipRow };
 
     ghost recording = { zip_recording };
 
@@ -307,6 +309,7 @@ impl<T: Drop> Machine for ZipNode<T> {
     ) -> Result<(), NotMade>
         ensures ok { OnOk result (Keeps (zip_comes_out (O.meaning ops.now)) self.old self.new) }
         ensures enabled { OnOk result (zip_rows self.old asked sent ≡ true) }
+        ensures rowed { OnOk result (IsZipRow self.old asked sent self.new) }
         ensures recorded { zip_recorded self.new ≡ zip_recorded self.old }
         ensures counts { OnOk result (CountsStep IsZipCounted zip_ended zip_done self.old self.new) }
         ensures err { IfErr result (IsNotMade (zip_rows self.old asked sent)) }

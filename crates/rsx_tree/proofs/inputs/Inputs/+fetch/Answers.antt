@@ -4,7 +4,7 @@ use Rattle.rsx_tree.specs.Inputs.{size}
 use Rattle.rsx_tree.specs.declared.inputs.Inputs.TheViews.{More}
 use Rattle.rsx_tree.proofs.Changes.{Rest}
 use Rattle.rsx_tree.proofs.Drives.{IsUnderWay, size_run, under_way_asked}
-use Rattle.rsx_tree.proofs.Fetches.{below_smaller, fetched_beside, fetched_none, fetched_then, handed_back, handed_item, handed_kept, pulled_item, pulled_moved, pulled_run, pulled_step, run_over}
+use Rattle.rsx_tree.proofs.Fetches.{below_smaller, fetched_beside, fetched_none, fetched_then, handed_back, handed_item, handed_kept, pulled_item, pulled_moved, pulled_run, pulled_step, pulled_step_out, run_over}
 use Rattle.rsx_tree.proofs.inputs.Inputs.+fetch.Goals as goal
 
 pub fetch-returns-then-left-eq0 : goal.fetch-returns-then-left-eq0
@@ -99,16 +99,24 @@ fetch_row-returns-in-None g t c =
 pub pull-returns-in-Ok-true : goal.pull-returns-in-Ok-true
 pull-returns-in-Ok-true g t c =
     let some = c.if-before-eq0.false in
-    pulled_step g.M.Machine (g.O.Ops.meaning c.args.ops.now) c.args.left.now c.args.edge.now c.args.sender.now c.pop_item.new.self c.step_over.new.node c.args.self.now c.step_over.new.below (omega (arith, some)) (c.in_default.ensures.none) (c.in-Ok-true.ensures.made c.in-Ok-true.field-0-test)
+    let none = c.in_default-row_item_over.ensures.out in
+    pulled_step g.M.Machine (g.O.Ops.meaning c.args.ops.now) c.args.left.now c.args.edge.now c.args.sender.now c.row_item_over.new.node c.step_over.new.node c.args.self.now c.row_item_over.new.below c.step_over.new.below (omega (arith, some)) (none.0 ∙ c.in_default.ensures.none) none.1 (c.in-Ok-true.ensures.made c.in-Ok-true.field-0-test)
 
 pub pull-returns-in-Some-fetch_row : goal.pull-returns-in-Some-fetch_row
 pull-returns-in-Some-fetch_row g t c =
     let still = c.in-Ok-false.ensures.same c.in-Ok-false.field-0-test in
+    let none = c.in_default-row_item_over.ensures.out in
     pulled_item g.M.Machine (g.O.Ops.meaning c.args.ops.now) c.args.left.now c.fetch_row.new.left c.args.edge.now c.args.sender.now c.step_over.new.node c.fetch_row.new.receiver c.args.self.now c.step_over.new.below c.fetch_row.new.self c.in-Some-fetch_row.item
-    (still.0 ∙ c.in_default.ensures.none) still.1 c.in-Some-fetch_row.ensures
+    (still.0 ∙ none.0 ∙ c.in_default.ensures.none) (still.1 ∙ none.1) c.in-Some-fetch_row.ensures
 
 pub pull-returns-else-left-before : goal.pull-returns-else-left-before
 pull-returns-else-left-before g t c =
     let still = c.in-Ok-false.ensures.same c.in-Ok-false.field-0-test in
+    let none = c.in_default-row_item_over.ensures.out in
     pulled_moved g.M.Machine (g.O.Ops.meaning c.args.ops.now) c.args.left.now c.fetch_row.new.left c.args.edge.now c.args.sender.now c.fetch_row.new.receiver c.args.self.now c.fetch_row.new.self c.if-left-before.false
-    (pulled_run g.M.Machine (g.O.Ops.meaning c.args.ops.now) c.args.left.now c.fetch_row.new.left c.args.edge.now c.args.sender.now c.step_over.new.node c.fetch_row.new.receiver c.args.self.now c.step_over.new.below c.fetch_row.new.self (still.0 ∙ c.in_default.ensures.none) still.1 c.in-None.ensures)
+    (pulled_run g.M.Machine (g.O.Ops.meaning c.args.ops.now) c.args.left.now c.fetch_row.new.left c.args.edge.now c.args.sender.now c.step_over.new.node c.fetch_row.new.receiver c.args.self.now c.step_over.new.below c.fetch_row.new.self (still.0 ∙ none.0 ∙ c.in_default.ensures.none) (still.1 ∙ none.1) c.in-None.ensures)
+
+pub pull-returns-in-Some-row_item_over : goal.pull-returns-in-Some-row_item_over
+pull-returns-in-Some-row_item_over g t c =
+    let some = c.if-before-eq0.false in
+    pulled_step_out g.M.Machine (g.O.Ops.meaning c.args.ops.now) c.args.left.now c.args.edge.now c.args.sender.now c.pop_item.new.self c.row_item_over.new.node c.args.self.now c.row_item_over.new.below c.in-Some-row_item_over.item (omega (arith, some)) c.in_default.ensures.none c.in-Some-row_item_over.ensures.out

@@ -7,7 +7,7 @@ use Rattle.rsx_joining.specs.Zip.{heads}
 use Rattle.rsx_zipping.specs.Inputs.{queued, all_shortened}
 use Rattle.rsx_zipping.specs.Zip.{ZipState}
 use Rattle.rsx_zipping.proofs.Zips.{length_shortened}
-use Rattle.rsx_zipping.proofs.Steps.{IsRowMade, row_keeps, row_steps}
+use Rattle.rsx_zipping.proofs.Steps.{IsRowMade, row_keeps, row_rowed, row_steps}
 use Rattle.rsx_zipping.proofs.zip.ZipNodeMachine.on_row.Goals as goal
 
 start : (g : _) → goal.After-put g → ZipState g.row.T.Denot
@@ -35,6 +35,11 @@ pub returns-in-Ok-clause-ok : goal.returns-in-Ok-clause-ok
 unfolding start after
 returns-in-Ok-clause-ok g c =
     row_keeps (g.O.Ops.meaning c.args.ops.now) (start g c) c.args.self.now c.args.asked c.args.sent (after g c) c.put.new.self c.in-Ok.row (made g c)
+
+pub returns-in-Ok-clause-rowed : goal.returns-in-Ok-clause-rowed
+unfolding start after
+returns-in-Ok-clause-rowed g c =
+    row_rowed (g.O.Ops.meaning c.args.ops.now) (start g c) c.args.self.now c.args.asked c.args.sent (after g c) c.put.new.self c.in-Ok.row (made g c)
 
 pub returns-in-Ok-clause-counts : goal.returns-in-Ok-clause-counts
 unfolding start after
