@@ -1,0 +1,67 @@
+#!/usr/bin/env bash
+# Tries the wrong bodies that the gate doesn't try: the edits crates/NAME/edits/*.edit, each of which the prover has to refuse. (The gate, `rt ci`, tries those
+# in crates/NAME/must-fail/.) Whoever changes a crate runs this for it.
+# Usage: bench/edits.sh [--since COMMIT] [NAME..]
+#   NAME..          tries the edits of these crates; without names, those of all crates that have a folder edits/
+#   --since COMMIT  of these crates, takes only those with a file that differs from that commit, or that it doesn't have
+# It works on a copy in a temporary folder, so nothing here is changed and the checkout may be worked in meanwhile. There `rt must-fail` begins with what
+# `rt check` kept of a crate and of those below it, here or in other checkouts on this machine, and proves the rest: so run `rt check` in a crate first. An
+# edit whose crate and whose crates below are as they were when it was tried before is not tried again.
+# It prints what each edit came to, and last 'N refused, M not refused, K bad or not tried'. The status is 0 where all were refused, 1 where one was not,
+# and 2 where it could not begin.
+set -uo pipefail
+
+root=$(cd "$(dirname "${BASH_SOURCE[0]}")/.." && pwd) || exit 2
+cd "$root" || exit 2
+
+stop() { echo "edits.sh: $1" >&2; exit 2; }
+
+# The crates that have such a folder with an edit in it, one a line.
+with_edits() { for it in crates/*/edits/*.edit; do [[ -f $it ]] && basename "$(dirname "$(dirname "$it")")"; done | sort -u; }
+
+# The crates with a file that differs from the commit, or that it doesn't have.
+changed_since() {
+  { git diff --name-only --no-renames "$1" -- crates && git ls-files --others --exclude-standard -- crates; } | sed -n 's|^crates/\([^/]*\)/.*|\1|p' | sort -u
+}
+
+since=
+names=()
+while (($#)); do
+  case $1 in
+    --since) [[ -n ${2:-} ]] || stop "--since wants a commit"; since=$2; shift 2 ;;
+    -h | --help) sed -n '2,/^set /{/^set /d;s/^# \{0,1\}//;p}' "${BASH_SOURCE[0]}"; exit 0 ;;
+    -*) stop "unknown option $1 (--help says more)" ;;
+    *) names+=("$1"); shift ;;
+  esac
+done
+for name in ${names[@]+"${names[@]}"}; do
+  with_edits | grep -qx -- "$name" || stop "no file crates/$name/edits/*.edit"
+done
+((${#names[@]})) || mapfile -t names < <(with_edits)
+if [[ -n $since ]]; then
+  git rev-parse -q --verify "$since^{commit}" >/dev/null || stop "$since is no commit here"
+  mapfile -t names < <(printf '%s\n' ${names[@]+"${names[@]}"} | grep -Fx -f <(changed_since "$since"))
+fi
+
+room=$(mktemp -d) || exit 2
+trap 'rm -rf "$room"' EXIT
+total=0
+if ((${#names[@]})); then
+  # Sources alone: what was proved of them is found by `rt`, wherever it was kept.
+  tar --anchored --no-wildcards-match-slash --exclude='crates/*/out' -cf - crates.txt HANDLES crates | tar -xf - -C "$room" || stop "the crates could not be copied"
+  for name in "${names[@]}"; do
+    rm -rf "$room/crates/$name/must-fail"
+    mv "$room/crates/$name/edits" "$room/crates/$name/must-fail" || exit 2
+    ((total += $(find "$room/crates/$name/must-fail" -name '*.edit' | wc -l)))
+  done
+  echo "edits.sh: $total edits of ${names[*]}"
+  (cd "$room" && rt must-fail "${names[@]}") 2>&1 | tee "$room/said"
+fi
+
+# How many edits came to what these words say.
+count() { grep -c "^rt: must-fail [^ ]*\.edit: $1" "$room/said" 2>/dev/null || true; }
+refused=$(count 'refused, as it must be')
+missed=$(count 'NOT REFUSED')
+refused=${refused:-0} missed=${missed:-0}
+echo "$refused refused, $missed not refused, $((total - refused - missed)) bad or not tried"
+((refused == total))
