@@ -35,7 +35,7 @@ while (($#)); do
   esac
 done
 for name in ${names[@]+"${names[@]}"}; do
-  with_edits | grep -qx -- "$name" || stop "no file crates/$name/edits/*.edit"
+  compgen -G "crates/$name/edits/*.edit" >/dev/null || stop "there is no crates/$name/edits/*.edit"
 done
 ((${#names[@]})) || mapfile -t names < <(with_edits)
 if [[ -n $since ]]; then
@@ -44,7 +44,16 @@ if [[ -n $since ]]; then
 fi
 
 room=$(mktemp -d) || exit 2
-trap 'rm -rf "$room"' EXIT
+running=
+clean_up() {
+  trap '' INT TERM
+  [[ -z $running ]] || kill "$running" 2>/dev/null
+  wait
+  rm -rf "$room" || { sleep 2; rm -rf "$room"; }
+}
+trap clean_up EXIT
+trap 'exit 130' INT
+trap 'exit 143' TERM
 total=0
 if ((${#names[@]})); then
   # Sources alone: what was proved of them is found by `rt`, wherever it was kept.
@@ -55,7 +64,14 @@ if ((${#names[@]})); then
     ((total += $(find "$room/crates/$name/must-fail" -name '*.edit' | wc -l)))
   done
   echo "edits.sh: $total edits of ${names[*]}"
-  (cd "$room" && rt must-fail "${names[@]}") 2>&1 | tee "$room/said"
+  # In the background, so that a signal ends it at once. What is proved of the crates below is left out.
+  : >"$room/said"
+  (cd "$room" && exec rt must-fail "${names[@]}") >"$room/said" 2>&1 &
+  running=$!
+  tail -n +1 -f -s 0.2 --pid="$running" "$room/said" | grep --line-buffered -E '^rt: |error|logic=not-proved' &
+  wait "$running"
+  running=
+  wait
 fi
 
 # How many edits came to what these words say.
