@@ -63,6 +63,12 @@ full_device() {
     (($? == 3)) && diff "$room/said" <(echo 'rsx: read or write fault')
 }
 
+# Whether a trial, before any proof, writes what the program does, and ends as it does.
+trial() {
+    ends_with 1 --trial run <"$here/unreadable.rsx" && diff "$room/written" "$here/unreadable.answers" &&
+        diff <(tail -n +2 "$room/said") "$here/unreadable.fault"
+}
+
 # Proves and builds the program where that is needed, so that what follows only runs it.
 "$rsx" run </dev/null || exit
 
@@ -90,6 +96,7 @@ expect 'a closed output' closed_output
 expect 'a full device' full_device
 expect 'want of memory' ends_without_memory
 ln -s "$rsx" "$room/linked"
+expect 'a trial' trial
 expect 'the launcher by a symlink, from another folder' \
     diff <(cd / && "$room/linked" run <"$here/first.rsx") "$here/first.answers"
 exit $failed
