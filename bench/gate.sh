@@ -1,12 +1,14 @@
 #!/usr/bin/env bash
 # Runs the gate, `rt ci`, from nothing and prints what each of its own steps cost in processor seconds: for each crate its proof, its tests, its first
-# must-fail edit (which checks the whole crate again) and the mean of its further edits, and the sum of all.
-# Usage: bench/gate.sh [LOG]. The gate's own output goes to LOG (standard error where none is given), the table to standard output, most dear first.
+# must-fail edit (which checks the whole crate again) and the mean of its further edits, the sum of all, and what `rt` itself took.
+# Usage: bench/gate.sh [LOG [NAME..]]. The gate's own output goes to LOG (standard error where none is given), the table to standard output, most dear
+# first. With names of crates it measures these and the crates that they stand on, which isn't the gate.
 # Processor time grows with the load of the machine, by up to a half: say the load beside a figure.
 set -uo pipefail
 
 root=$(cd "$(dirname "${BASH_SOURCE[0]}")/.." && pwd) || exit 2
 log=${1:-/dev/stderr}
+shift || true
 kit=$(dirname "$(rt doc)") || exit 2
 room=$(mktemp -d) || exit 2
 trap 'rm -rf "$room"' EXIT
@@ -32,14 +34,25 @@ if status < 0:
 sys.exit(status)
 CLOCK
 chmod +x "$room/bin/rattle"
+cat >>"$room/bin/rtlib.py" <<CLOCK
+
+import atexit, resource
+_own = os.getpid()
+def _count():
+    if os.getpid() == _own:
+        used = resource.getrusage(resource.RUSAGE_SELF)
+        with open("$room/rt", "w") as it:
+            it.write(f"{used.ru_utime + used.ru_stime:.0f}")
+atexit.register(_count)
+CLOCK
 
 cd "$root" || exit 2
 begun=$(date +%s)
-"$room/bin/rt" ci >"$log" 2>&1
+"$room/bin/rt" ci "$@" >"$log" 2>&1
 status=$?
 ended=$(date +%s)
 
-python3 - "$room/steps" "$((ended - begun))" <<'TABLE'
+python3 - "$room/steps" "$((ended - begun))" "$(cat "$room/rt" 2>/dev/null)" <<'TABLE'
 import collections, sys
 crates = collections.defaultdict(lambda: {"proof": 0.0, "tests": 0.0, "edits": []})
 for line in open(sys.argv[1]):
@@ -56,7 +69,7 @@ form = "{:20} {:>8} {:>8} {:>11} {:>13} {:>7} {:>8}"
 print(form.format("crate", "proof", "tests", "first edit", "further edit", "checks", "in all"))
 for whole, name, proof, tests, first, mean, count in sorted(rows, reverse=True):
     print(form.format(name, f"{proof:.0f}", f"{tests:.0f}", f"{first:.0f}", f"{mean:.1f}", count, f"{whole:.0f}"))
-print(f"all: {sum(it[0] for it in rows):.0f} s of processor time, of it proofs {sum(it[2] for it in rows):.0f}, tests {sum(it[3] for it in rows):.0f}, edits {sum(it[0] - it[2] - it[3] for it in rows):.0f}; {sys.argv[2]} s by the clock")
+print(f"all: {sum(it[0] for it in rows):.0f} s of processor time, of it proofs {sum(it[2] for it in rows):.0f}, tests {sum(it[3] for it in rows):.0f}, edits {sum(it[0] - it[2] - it[3] for it in rows):.0f}; rt itself {sys.argv[3] or '?'} s; {sys.argv[2]} s by the clock")
 TABLE
 echo "the gate ended with status $status"
 exit "$status"

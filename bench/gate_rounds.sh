@@ -1,6 +1,6 @@
 #!/bin/sh
 # Nanoseconds of processor time for one round of enter, add, mark and leave by one thread, beside the same three atomic steps in plain Rust.
-# First build crates/gate_bench (rt run makes crates/gate_bench/out/gate_bench). The least of nine runs counts.
+# First build crates/bench_gate (rt run makes crates/bench_gate/out/bench_gate). The least of nine runs counts.
 set -eu
 cd "$(dirname "$0")/.."
 rounds=${1:-10000000}
@@ -15,5 +15,5 @@ measure() {
     awk -v s="$least" -v n="$rounds" -v name="$2" 'BEGIN { printf "%s: %.1f ns a round\n", name, s * 1e9 / n }'
 }
 
-measure crates/gate_bench/out/gate_bench 'rsx_gate'
+measure crates/bench_gate/out/bench_gate 'rsx_gate'
 measure "${TMPDIR:-/tmp}/gate_baseline" 'plain Rust'

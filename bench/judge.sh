@@ -1,9 +1,9 @@
 #!/bin/sh
 # Nanoseconds an event that a report of all rules takes, over traces in memory, by the number of events and of subscribers.
-# The least of five runs counts. First build crates/rsx_tck_bench (rt run makes crates/rsx_tck_bench/out/rsx_tck_bench).
+# The least of five runs counts. First build crates/bench_tck (rt run makes crates/bench_tck/out/bench_tck).
 set -eu
 cd "$(dirname "$0")/.."
-program=crates/rsx_tck_bench/out/rsx_tck_bench
+program=crates/bench_tck/out/bench_tck
 
 printf '%10s %12s %14s\n' events subscribers 'ns an event'
 for size in '100000 4' '1000000 1' '1000000 4' '1000000 16' '4000000 4'; do

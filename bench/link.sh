@@ -2,7 +2,7 @@
 # Nanoseconds a signal over a link whose queue has room for 64, between two threads, beside plain Rust.
 #
 # usage: bench/link.sh PROGRAM [COUNT]
-# PROGRAM is the built crates/rsx_link_bench. Each figure is the best of forty short runs, less the best run of no
+# PROGRAM is the built crates/bench_link. Each figure is the best of forty short runs, less the best run of no
 # signal, so that a busy machine disturbs it little.
 set -eu
 program=$1

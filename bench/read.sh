@@ -1,11 +1,11 @@
 #!/bin/sh
 # Nanoseconds an event that a trace takes as text: to take the bytes in from a file, to read them as a trace, and to judge it
 # by all rules. The text is that of bench/million_events.sh, of four subscribers.
-# The least of five runs counts, for each part. First build crates/rsx_tck_bench (rt run makes
-# crates/rsx_tck_bench/out/rsx_tck_bench).
+# The least of five runs counts, for each part. First build crates/bench_tck (rt run makes
+# crates/bench_tck/out/bench_tck).
 set -eu
 cd "$(dirname "$0")/.."
-program=crates/rsx_tck_bench/out/rsx_tck_bench
+program=crates/bench_tck/out/bench_tck
 folder=$(mktemp -d)
 trap 'rm -r "$folder"' EXIT
 

@@ -41,7 +41,7 @@ answers() {
 is_row() {
     local fault=${1%.rsx}.fault
     [[ -f $fault && $2 == run ]] || fault=/dev/null
-    [[ $(<"$here/../crates/script_rows/stdout") == *"$(echo "$2" && cat "$1" && echo answers && cat "$3" "$fault")"* ]]
+    [[ $(<"$here/../crates/test_scripts/stdout") == *"$(echo "$2" && cat "$1" && echo answers && cat "$3" "$fault")"* ]]
 }
 
 # Whether the program ends for want of memory where it may have 32 MiB, and has written what it had answered by then.

@@ -8,8 +8,7 @@
 //! after a read or a write that failed; 4 where memory was wanted.
 
 use clap::error::ErrorKind;
-use rsx_command_line::mode_of;
-use rsx_drive::drive;
+use rsx_drive::{drive, mode_of};
 use rsx_script::AppFault;
 use std::process::ExitCode;
 use std::rt::Env;

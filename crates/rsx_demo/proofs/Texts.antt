@@ -18,7 +18,3 @@ each_spaced (is.List d ∷ xs) = ap (λ r. codes " " ++ (item_text (is.List d) +
 pub list_text : (d : Data) (items others : List Val) (first : Val) → data_of items ≡ d → items ≡ first ∷ others → item_text first ++ flat_map (λ v. codes " " ++ item_text v) others ≡ data_text d
 list_text d items others first h e =
     sym (ap data_text (sym h ∙ ap data_of e) ∙ ap (drop 1) (each_spaced (first ∷ others)))
-
-pub no_text : (d : Data) (items : List Val) → data_of items ≡ d → length items ≡ 0 → data_text d ≡ []
-no_text d [] h e = ap data_text (sym h)
-no_text d (x ∷ xs) h e = absurd (omega (arith, e))

@@ -1,9 +1,9 @@
 -- What a script comes to with a further line.
 use Rattle.std.proofs.Common.{◌≡◌, ℕ, List, [], ◌∷◌, ◌++◌, Some, None, Ok, refl, sym, ap, subst, ◌∙◌, append_assoc, inl, inr}
 use Rattle.std.proofs.lemmas.List.{append-nil}
-use Rattle.rsx_commands.specs.Commands.{meaning_of_line}
-use Rattle.rsx_commands.specs.Orders.{order_of}
-use Rattle.rsx_commands.specs.declared.command.Command.{Command}
+use Rattle.rsx_script.specs.Commands.{meaning_of_line}
+use Rattle.rsx_script.specs.Orders.{order_of}
+use Rattle.rsx_script.specs.declared.command.Command.{Command}
 use Rattle.rsx_session.specs.Places.{IsAnswerTo, Place, begun}
 use Rattle.rsx_session.specs.Sessions.{LeadsAll, place_of}
 use Rattle.rsx_session.specs.declared.session.Session.{Session}

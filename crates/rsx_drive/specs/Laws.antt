@@ -2,10 +2,10 @@
 use Rattle.std.specs.Prelude.{◌≡◌, ℕ, ◌+◌, ◌<◌, Bool, List, [], ◌∷◌, length, Err, if◌then◌else◌}
 use Rattle.std.proofs.Common.{ap, refl, inl, inr}
 use Rattle.std.proofs.lemmas.Bool.{lt-ltb}
-use Rattle.rsx_words.specs.Reading.{line_of}
-use Rattle.rsx_words.specs.declared.words.LineRefusal.{LineRefusal}
-use Rattle.rsx_words.specs.declared.words.LineRefusal.TheVariants.{TooLong, NoMemory}
-use Rattle.rsx_commands.specs.Commands.{line_at, meaning_of_line}
+use Rattle.rsx_script.specs.Reading.{line_of}
+use Rattle.rsx_script.specs.declared.words.LineRefusal.{LineRefusal}
+use Rattle.rsx_script.specs.declared.words.LineRefusal.TheVariants.{TooLong, NoMemory}
+use Rattle.rsx_script.specs.Commands.{line_at, meaning_of_line}
 use Rattle.rsx_session.specs.Sessions.{place_of}
 use Rattle.rsx_session.specs.declared.session.Session.{Session}
 use Rattle.rsx_session.specs.declared.session.View.{View}

@@ -1,4 +1,8 @@
 -- Definitions that contracts cite.
+pub mod Answered
+pub mod JudgeLaws
+pub mod Judged
 pub mod Laws
 pub mod Modes
 pub mod Scripts
+pub mod Taken

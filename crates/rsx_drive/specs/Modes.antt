@@ -3,8 +3,8 @@ use Rattle.std.specs.Prelude.{ℕ, List}
 use Rattle.rsx_script.specs.declared.mode.Mode.{Mode}
 use Rattle.rsx_script.specs.declared.mode.Mode.TheVariants.{Run, Scratch, Tck}
 use Rattle.rsx_session.specs.declared.session.View.TheVariants.{Received, FromScratch}
-use Rattle.rsx_lines.specs.Answered.{Refuses}
-use Rattle.rsx_judge.specs.Judged.{AreJudged, IsRefusedAfter}
+use Rattle.rsx_drive.specs.Answered.{Refuses}
+use Rattle.rsx_drive.specs.Judged.{AreJudged, IsRefusedAfter}
 use Rattle.rsx_drive.specs.Scripts.{IsScript, IsScriptStopped}
 
 -- the lines of a whole input were answered by this text

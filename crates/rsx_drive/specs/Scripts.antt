@@ -4,11 +4,11 @@ use Rattle.rsx_demo.specs.Demo.{demo_meaning}
 use Rattle.rsx_demo.specs.declared.val.Val.{Val}
 use Rattle.rsx_session.specs.Rows.{History}
 use Rattle.rsx_session.specs.Stands.{GraphStands}
-use Rattle.rsx_words.specs.declared.words.LineRefusal.{LineRefusal}
-use Rattle.rsx_words.specs.declared.words.LineRefusal.TheVariants.{NoMemory}
-use Rattle.rsx_commands.specs.Commands.{meaning_of_line}
-use Rattle.rsx_commands.specs.Orders.{order_of}
-use Rattle.rsx_commands.specs.declared.command.Command.{Command}
+use Rattle.rsx_script.specs.declared.words.LineRefusal.{LineRefusal}
+use Rattle.rsx_script.specs.declared.words.LineRefusal.TheVariants.{NoMemory}
+use Rattle.rsx_script.specs.Commands.{meaning_of_line}
+use Rattle.rsx_script.specs.Orders.{order_of}
+use Rattle.rsx_script.specs.declared.command.Command.{Command}
 use Rattle.rsx_session.specs.Places.{IsAnswerTo, Place, begun}
 use Rattle.rsx_session.specs.Sessions.{SessionStands, place_of}
 use Rattle.rsx_session.specs.declared.session.Session.{Session}

@@ -1,4 +1,22 @@
 #![tactic(auto)]
+//! Runs the program `rsx` in one of its modes over a reader and a writer, and reads its command line.
+//!
+//! # Line by line
+//!
+//! Answers an input line by line: reads it, has each line answered, and writes the answers.
+//!
+//! What a line is answered with is said by an implementation of [`Answers`]; [`answer_lines`] does the reading and the
+//! writing, and says which line a run is stopped at.
+//!
+//! # Judging
+//!
+//! Answers an input of expressions and traces, each by what it says of the 43 rules.
+//!
+//! [`judge_input`] reads expressions, one a line, and traces of both formats, line by line, and writes the lines that answer
+//! each as soon as it was read. It keeps the events of the trace that it reads, and of no other.
+//!
+//! # Modes
+//!
 //! Runs the program in one of its modes over a reader and a writer: it answers the commands of a script, or judges expressions
 //! and traces.
 //!
@@ -6,7 +24,18 @@
 //! that the line asks for, where the lines before it left the graph; of expressions and traces what each says of the rules; and,
 //! where it is stopped, at which line and why.
 
+mod answers;
+pub mod command_line;
+mod expression;
+mod input;
+mod judge;
 mod modes;
+mod run;
 mod script;
+mod state;
 
+pub use answers::Answers;
+pub use command_line::mode_of;
+pub use input::judge_input;
 pub use modes::drive;
+pub use run::answer_lines;

@@ -3,11 +3,11 @@
 ghost use Rattle.std.specs.Prelude.{IfSome, OnOk, IfErr};
 ghost use Rattle.rsx_script.specs.Fault.{IsRunFault};
 ghost use Rattle.rsx_trace.specs.Texts.{lines};
-ghost use Rattle.rsx_lines.specs.Answered.{IsStopped, Writes};
+ghost use Rattle.rsx_drive.specs.Answered.{IsStopped, Writes};
 ghost use Rattle.rsx_drive.specs.Modes.{IsAnsweredIn, IsStoppedIn};
 
+use crate::judge_input;
 use crate::script::answer_script;
-use rsx_judge::judge_input;
 use rsx_script::{AppFault, Mode};
 use rsx_session::View;
 use std::alloc::Global;

@@ -1,5 +1,6 @@
 -- A join moves the lists of one seat behind those of another, and keeps the rule.
 use Rattle.std.proofs.Common.{◌≡◌, ◌≢◌, ℕ, zero, suc, ◌+◌, ◌-◌, ◌<◌, ◌≤◌, false, cond, eqb, eq-eqb, ne_eqb, List, [], ◌∷◌, ◌++◌, map, get_or, set, length, refl, sym, ap, ◌∙◌, subst, inl, inr, ◌⊎◌, ⊎_elim, arith, lt_of_not-le}
+use Rattle.std.proofs.lemmas.List.{get_or_append_left, get_or_past}
 use mathlib.Core.Logic.{dite}
 use mathlib.Core.Option.{some, none, some-injective, some-ne-none}
 use mathlib.Core.Option as maybe
@@ -15,20 +16,10 @@ use Rattle.rsx_gate.specs.Plays.{joined}
 use Rattle.rsx_gate.proofs.Runs.{Same, own_cases}
 use Rattle.rsx_gate.proofs.Keeps.{set_at, listed, parts_set}
 
-left_part : {A : Type 0} (xs ys : List A) (k : ℕ) (d : A) → k < length xs → get_or (xs ++ ys) k d ≡ get_or xs k d
-left_part [] ys k d h = absurd (omega arith)
-left_part (x ∷ xs) ys zero d h = refl
-left_part (x ∷ xs) ys (suc k) d h = left_part xs ys k d (omega arith)
-
 right_part : {A : Type 0} (xs ys : List A) (k j : ℕ) (d : A) → k ≡ length xs + j → get_or (xs ++ ys) k d ≡ get_or ys j d
 right_part [] ys k j d h = ap (λ (z : ℕ). get_or ys z d) (omega arith)
 right_part (x ∷ xs) ys zero j d h = absurd (omega arith)
 right_part (x ∷ xs) ys (suc k) j d h = right_part xs ys k j d (omega arith)
-
-past : {A : Type 0} (xs : List A) (k : ℕ) (d : A) → length xs ≤ k → get_or xs k d ≡ d
-past [] k d h = refl
-past (x ∷ xs) zero d h = absurd (omega arith)
-past (x ∷ xs) (suc k) d h = past xs k d (omega arith)
 
 abbrev Each : (Entry → Type 0) → List Entry → Type 0
 Each D [] = Unit {0}
@@ -136,7 +127,7 @@ module _ {T K : Type 0} (fits : T → Type 0) (key : K) where
       let at_other : get_elem? s.views other ≡ some w = sym (set_else s.views id other both far) ∙ there in
       let now_other : get_elem? views other ≡ some spent = set_at mid other spent w there in
       let now_id : get_elem? views id ≡ some both = set_else mid other id spent apart ∙ set_at s.views id both v at in
-      let empty : (k : ℕ) → len ≤ k → own id k log ≡ [] = λ k l. sym (h.lists id k) ∙ listed s.views id v k at ∙ past (v.steps ∷ v.beside) k [] l in
+      let empty : (k : ℕ) → len ≤ k → own id k log ≡ [] = λ k l. sym (h.lists id k) ∙ listed s.views id v k at ∙ get_or_past (v.steps ∷ v.beside) k [] l in
       let lists : (o k : ℕ) → list_at views o k ≡ own o k (map (mv id other len) log) = λ o k. dite (ℕ_discrete o other)
       (λ here. subst (λ (z : ℕ). list_at views z k ≡ own z k (map (mv id other len) log)) (sym here)
       (listed views other spent k now_other ∙ nothing k ∙ sym (own_gone id other len apart k log)))
@@ -145,7 +136,7 @@ module _ {T K : Type 0} (fits : T → Type 0) (key : K) where
       (listed views id both k now_id ∙ dite (dec_le len k)
       (λ l. let j : ℕ = k - len in let is : k ≡ len + j = omega arith in
       right_part (v.steps ∷ v.beside) (w.steps ∷ w.beside) k j [] is ∙ sym (listed s.views other w j at_other) ∙ h.lists other j ∙ sym (own_comes id other len k j apart is log (empty k l)))
-      (λ l. left_part (v.steps ∷ v.beside) (w.steps ∷ w.beside) k [] (lt_of_not-le l) ∙ sym (listed s.views id v k at) ∙ h.lists id k
+      (λ l. get_or_append_left (v.steps ∷ v.beside) (w.steps ∷ w.beside) [] k (lt_of_not-le l) ∙ sym (listed s.views id v k at) ∙ h.lists id k
       ∙ sym (own_stays id other len id k apart (λ _. lt_of_not-le l) log))))
       (λ nid. ap (λ g. get_or (lists_of g) k []) (set_else mid other o spent ne ∙ set_else s.views id o both nid) ∙ h.lists o k ∙ sym (own_stays id other len o k ne (λ e. absurd (nid e)) log)))
       in record {

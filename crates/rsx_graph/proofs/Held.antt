@@ -3,29 +3,16 @@
 use Rattle.std.proofs.Common.{◌≡◌, ◌⊎◌, inl, inr, ℕ, zero, suc, ◌+◌, ◌<◌, ◌≤◌, Bool, true, false, ◌&&◌, nat_eq, nat_lt, if◌then◌else◌, List, [], ◌∷◌, slice_get, Option, Some, None, refl, sym, ap, ◌∙◌, subst, arith}
 use Rattle.std.specs.Prelude.{⊤}
 use Rattle.std.proofs.lemmas.Bool.Decides.{nat_tests}
-use Rattle.rsx_feeding.proofs.Named.{same_number}
-use Rattle.rsx_hub.specs.declared.TheConstants.{MOST_ACCEPTED}
+use Rattle.rsx_graph_state.proofs.Named.{same_number}
+use Rattle.rsx_graph_state.specs.Prelude.{MOST_ACCEPTED, has_room_at, reads_at, every, total, all_have_room, all_readers, Subscription}
 use Rattle.rsx_pipe.proofs.Room.{any_full}
 use Rattle.rsx_pipe.proofs.Signals.{some_same}
-use Rattle.rsx_pipe.specs.Any.{any_machine}
-use Rattle.rsx_pipe.specs.Part.{Part}
-use Rattle.rsx_pipe.specs.Published.{has_room_for, readers}
-use Rattle.rsx_publishing.specs.Feeds.{has_room_at, reads_at}
-use Rattle.rsx_publishing.specs.Lists.{every, total}
-use Rattle.rsx_publishing.specs.Publishing.{all_have_room, all_readers}
-use Rattle.rsx_publishing.specs.declared.feed.Feed.{Feed}
-use Rattle.rsx_sources.specs.Reading.{Reading, reads_hub}
+use Rattle.rsx_subscriber.specs.Prelude.{any_machine, Part, has_room_for, readers, Live, Inputs, End, More', Node}
+use Rattle.rsx_graph_state.specs.declared.feed.Feed.{Feed}
+use Rattle.rsx_sources.specs.Prelude.{Reading, reads_hub, Meaning}
 use Rattle.rsx_sources.specs.declared.machine.Machine.{Ghosts as Machine}
-use Rattle.rsx_subscriber.specs.declared.subscription.Subscription.{Subscription}
-use Rattle.rsx_tree.specs.Edges.{is_live}
+use Rattle.rsx_tree.specs.Prelude.{is_live, has_room_in, reader_at, readers_in, room_at, IsReadAt, IsRowReadAt, IsTreeReadAt, IsStuck}
 use Rattle.rsx_tree.specs.Handed as Tree
-use Rattle.rsx_tree.specs.Handed.{has_room_in, reader_at, readers_in, room_at}
-use Rattle.rsx_tree.specs.Reads.{IsReadAt, IsRowReadAt, IsTreeReadAt}
-use Rattle.rsx_tree.specs.Rests.{IsStuck}
-use Rattle.rsx_tree.specs.declared.edge.EdgeState.TheVariants.{Live}
-use Rattle.rsx_tree.specs.declared.inputs.Inputs.{Inputs, End, More'}
-use Rattle.rsx_tree.specs.declared.node.Node.{Node}
-use Rattle.rsx_types.specs.Meaning.{Meaning}
 
 -- ---- numbers and tests
 

@@ -1,36 +1,26 @@
 -- Graphs go on standing for what has happened: the joins that they keep, and the hubs that their feeds name.
 use Rattle.std.proofs.Common.{◌≡◌, ℕ, ◌≤◌, ℤ, zero, suc, pos, negsuc, List, [], ◌∷◌, length, map, slice_get, Option, Some, Result, Ok, Err, IfOk, OnOk, OnErr, refl, ap, sym, ◌∙◌, subst}
 use Rattle.std.proofs.lemmas.Option.{same_Some}
-use Rattle.rsx_feed_driving.proofs.Keeping.{KeepHubs, lead_keep, moved_keep}
-use Rattle.rsx_feed_driving.specs.Moves.{IsMoved}
-use Rattle.rsx_feed_driving.proofs.Serving.{rows_served}
-use Rattle.rsx_feed_driving.specs.Pumped as driving
-use Rattle.rsx_feed_driving.specs.Pumped.{HasEnded, LeadTo, Made, after_moves}
-use Rattle.rsx_feed_edits.proofs.Kept.{joins_same, kept_changed, kept_made}
-use Rattle.rsx_feed_edits.proofs.Names.{names_kept}
-use Rattle.rsx_feed_edits.specs.Edits.{NameHubs}
-use Rattle.rsx_feeding.specs.Joins.{JoinsStand}
-use Rattle.rsx_feed_edits.specs.Regions.{HasRegion, RegionsStand, region_in}
-use Rattle.rsx_feed_edits.specs.Requests.{with_past}
-use Rattle.rsx_feeding.specs.History.{History, with_made}
-use Rattle.rsx_feeding.specs.Moves.{rows_of}
-use Rattle.rsx_feeding.specs.Stands.{Rows}
-use Rattle.rsx_history.proofs.Graphs.{joins_kept}
-use Rattle.rsx_history.specs.declared.TheConstants.{MOST_HUBS}
-use Rattle.rsx_history.specs.declared.refusal.Refusal.{Refusal}
-use Rattle.rsx_history.specs.declared.step.Pumped.{Pumped}
-use Rattle.rsx_history.specs.declared.step.Pumped.TheVariants.{Idle}
-use Rattle.rsx_hub.specs.Hub.{HubState}
-use Rattle.rsx_publishing.specs.declared.feed.Feed.{Feed}
-use Rattle.rsx_subscriber.specs.Delivered.{Delivered}
-use Rattle.rsx_subscriber.specs.Past.{Past, requested, requested_in}
-use Rattle.rsx_subscriber.specs.declared.state.SubscriptionState.{SubscriptionState}
+use Rattle.rsx_graph_moves.proofs.Keeping.{KeepHubs, lead_keep, moved_keep}
+use Rattle.rsx_graph_moves.specs.Moves.{IsMoved}
+use Rattle.rsx_graph_moves.proofs.Serving.{rows_served}
+use Rattle.rsx_graph_moves.specs.Pumped as driving
+use Rattle.rsx_graph_moves.specs.Pumped.{HasEnded, LeadTo, Made, after_moves}
+use Rattle.rsx_graph_calls.proofs.Kept.{joins_same, kept_changed, kept_made}
+use Rattle.rsx_graph_calls.proofs.Names.{names_kept}
+use Rattle.rsx_graph_calls.specs.Edits.{NameHubs}
+use Rattle.rsx_graph_state.specs.Prelude.{JoinsStand, History, with_made, rows_of, Rows, HubState, SubscriptionState, Subscription}
+use Rattle.rsx_graph_calls.specs.Regions.{HasRegion, RegionsStand, region_in}
+use Rattle.rsx_graph_calls.specs.Requests.{with_past}
+use Rattle.rsx_graph_state.proofs.Graphs.{joins_kept}
+use Rattle.rsx_graph_state.specs.declared.TheConstants.{MOST_HUBS}
+use Rattle.rsx_graph_state.specs.declared.refusal.Refusal.{Refusal}
+use Rattle.rsx_graph_state.specs.declared.step.Pumped.{Pumped}
+use Rattle.rsx_graph_state.specs.declared.step.Pumped.TheVariants.{Idle}
+use Rattle.rsx_graph_state.specs.declared.feed.Feed.{Feed}
+use Rattle.rsx_subscriber.specs.Prelude.{Delivered, Past, requested, requested_in}
 use Rattle.rsx_subscriber.specs.declared.state.SubscriptionState.TheVariants.{Open, Ended, Cancelled, Refused}
-use Rattle.rsx_subscriber.specs.declared.subscription.Subscription.{Subscription}
-use Rattle.rsx_types.specs.Meaning.{Meaning}
-use Rattle.rsx_types.specs.declared.names.Move.{Move}
-use Rattle.rsx_types.specs.declared.names.SubId.{SubId}
-use Rattle.rsx_types.specs.declared.signal.Signal.{Signal}
+use Rattle.rsx_sources.specs.Prelude.{Meaning, Move, SubId, Signal}
 use Rattle.rsx_graph.specs.Pumped.{HasPumped}
 use Rattle.rsx_graph.specs.Read.{IsAllRead}
 use Rattle.rsx_graph.specs.Stands.{GraphStands, GraphState, IsAllServed, nothing}

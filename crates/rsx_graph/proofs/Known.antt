@@ -1,34 +1,17 @@
 -- What the answers of a graph name is known to each history for which the graph stands.
 use Rattle.std.proofs.Common.{◌≡◌, ℕ, zero, suc, ◌-◌, ◌<◌, Bool, true, false, ◌&&◌, List, [], ◌∷◌, length, slice_get, Option, Some, None, is_some, is_none, refl, ap, sym, ◌∙◌, subst, arith}
-use Rattle.rsx_feed_driving.specs.Moves as driving
-use Rattle.rsx_feed_driving.specs.Moves.{IsMakeRefusal, feed_move, feed_move_enabled, is_enabled}
-use Rattle.rsx_feed_edits.specs.Edits.{IsFedHubRefusal, fault_of}
-use Rattle.rsx_feed_edits.specs.Publishes.{IsCopyRefusal, IsEndRefusal, has_emitter}
-use Rattle.rsx_feed_edits.specs.Subscribing.{IsSubscribeRefusal}
-use Rattle.rsx_feeding.specs.History.{History, HubPast, Source, emitted, fed}
-use Rattle.rsx_feeding.specs.Moves.{IsFeedRefusal, accepts_in, has_feed}
-use Rattle.rsx_feeding.specs.Stands.{Rows, SourceStands, StandsFor, feed_of}
-use Rattle.rsx_history.proofs.Graphs.{count_same, past_first, suc_less}
-use Rattle.rsx_history.specs.History.{IsAcceptRefusal, IsSubscribeId, IsTreeMoveRefusal}
-use Rattle.rsx_history.specs.History as history
-use Rattle.rsx_history.specs.Stands.{enabled_at}
-use Rattle.rsx_history.specs.declared.refusal.Refusal.{Refusal}
-use Rattle.rsx_history.specs.declared.refusal.Refusal.TheVariants.{UnknownHub, UnknownSub, Ended, Full, TooMany, BadExpr, NotEnabled, NoMemory}
-use Rattle.rsx_hub.specs.Hub.{HubState}
-use Rattle.rsx_model.specs.Check.{refusal}
-use Rattle.rsx_model.specs.declared.expr.Expr.{Expr}
-use Rattle.rsx_tree.specs.declared.look.NodeMove.{NodeMove}
-use Rattle.rsx_subscriber.specs.Stands.{move_enabled_in}
-use Rattle.rsx_subscriber.specs.declared.subscription.Subscription.{Subscription}
-use Rattle.rsx_types.specs.Meaning.{Meaning}
-use Rattle.rsx_types.specs.Stream.{Stream}
-use Rattle.rsx_types.specs.declared.names.HubKind.{HubKind}
-use Rattle.rsx_types.specs.declared.names.Move.{Move}
-use Rattle.rsx_types.specs.declared.names.Move.TheVariants.{Ask, Send, Take, Pick, Row, Accept}
-use Rattle.rsx_types.specs.declared.names.SubId.{SubId}
-use Rattle.rsx_types.specs.declared.names.Tree.{Tree}
-use Rattle.rsx_types.specs.declared.names.Tree.TheVariants.{Sub, Feed as FeedOf}
-use Rattle.rsx_graph.specs.Steps.{IsMoveRefusal, IsNewFeedRefusal, IsOfKnown, IsPublishRefusal, IsTreeRefusal, is_emitted, is_emitter, is_fed, is_feed}
+use Rattle.rsx_graph_moves.specs.Moves as driving
+use Rattle.rsx_graph_moves.specs.Moves.{IsMakeRefusal, feed_move, feed_move_enabled, is_enabled}
+use Rattle.rsx_graph_calls.specs.Edits.{IsFedHubRefusal, fault_of}
+use Rattle.rsx_graph_calls.specs.Publishes.{IsCopyRefusal, IsEndRefusal, has_emitter}
+use Rattle.rsx_graph_calls.specs.Subscribing.{IsSubscribeRefusal}
+use Rattle.rsx_graph_state.specs.Prelude.{History, HubPast, Source, emitted, fed, IsFeedRefusal, accepts_in, has_feed, Rows, SourceStands, StandsFor, feed_of, IsAcceptRefusal, IsSubMoveRefusal, IsSubscribeId, enabled_at, HubState, Subscription}
+use Rattle.rsx_graph_state.proofs.Graphs.{count_same, past_first, suc_less}
+use Rattle.rsx_graph_state.specs.declared.refusal.Refusal.{Refusal}
+use Rattle.rsx_graph_state.specs.declared.refusal.Refusal.TheVariants.{UnknownHub, UnknownSub, Ended, Full, TooMany, BadExpr, NotEnabled, NoMemory}
+use Rattle.rsx_subscriber.specs.Prelude.{refusal, Expr, NodeMove, move_enabled_in}
+use Rattle.rsx_sources.specs.Prelude.{Meaning, Stream, HubKind, Move, Ask, Send, Take, Pick, Row, Accept, SubId, Tree, Sub, Feed as FeedOf}
+use Rattle.rsx_graph.specs.Steps.{IsMoveRefusal, IsNewFeedRefusal, IsNewSubRefusal, IsOfKnown, IsPublishRefusal, IsTreeRefusal, is_emitted, is_emitter, is_fed, is_feed}
 
 -- ---- which hubs have emitters, and which have feeds
 
@@ -81,23 +64,23 @@ subs_there m g h s = count_same m s.taken g.subs h.pasts s.all
 
 pub copy_refused : {T : Type 0} (m : Meaning T) (g : Rows T) (h : History T) (i : ℕ) (r : Refusal) → StandsFor m g h → IsCopyRefusal g.hubs g.feeds i r → IsPublishRefusal h.hubs i r
 copy_refused m g h i UnknownHub s k = emits_there m g h i s ∙ k
-copy_refused m g h i UnknownSub s k = emits_there m g h i s ∙ k.0
+copy_refused m g h i UnknownSub s k = absurd k
 copy_refused m g h i Ended s k = emits_there m g h i s ∙ k.0
 copy_refused m g h i Full s k = emits_there m g h i s ∙ k.0
 copy_refused m g h i TooMany s k = emits_there m g h i s ∙ k.0
-copy_refused m g h i (BadExpr b) s k = emits_there m g h i s ∙ k.0
-copy_refused m g h i NotEnabled s k = emits_there m g h i s ∙ k.0
+copy_refused m g h i (BadExpr b) s k = absurd k
+copy_refused m g h i NotEnabled s k = absurd k
 copy_refused m g h i NoMemory s k = emits_there m g h i s ∙ k
 
 pub end_refused : {T : Type 0} (m : Meaning T) (g : Rows T) (h : History T) (i : ℕ) (r : Refusal) → StandsFor m g h → IsEndRefusal g.hubs g.feeds i r → IsPublishRefusal h.hubs i r
 end_refused m g h i UnknownHub s k = emits_there m g h i s ∙ k
-end_refused m g h i UnknownSub s k = emits_there m g h i s ∙ k.0
+end_refused m g h i UnknownSub s k = absurd k
 end_refused m g h i Ended s k = emits_there m g h i s ∙ k.0
-end_refused m g h i Full s k = emits_there m g h i s ∙ k.0
-end_refused m g h i TooMany s k = emits_there m g h i s ∙ k.0
-end_refused m g h i (BadExpr b) s k = emits_there m g h i s ∙ k.0
-end_refused m g h i NotEnabled s k = emits_there m g h i s ∙ k.0
-end_refused m g h i NoMemory s k = emits_there m g h i s ∙ k.0
+end_refused m g h i Full s k = absurd k
+end_refused m g h i TooMany s k = absurd k
+end_refused m g h i (BadExpr b) s k = absurd k
+end_refused m g h i NotEnabled s k = absurd k
+end_refused m g h i NoMemory s k = absurd k
 
 -- ---- new subscriptions and new feeds
 
@@ -117,7 +100,7 @@ new_feed_refused k c e hubs p NoMemory count a = let less = a.1 in (fault_there 
 pub id_there : {T : Type 0} (e : Expr T) (i : SubId) (n p a b : ℕ) → n ≡ p → a ≡ b → IsSubscribeId n a e i → IsSubscribeId p b e i
 id_there e i n p a b hubs subs k = let less = k.2 in (k.0 ∙ subs, ap (λ j. refusal j e) (sym hubs) ∙ k.1, omega (arith, subs, less))
 
-pub subscribe_refused : {T : Type 0} (e : Expr T) (hubs : List (HubState T)) (p a b : ℕ) (r : Refusal) → length hubs ≡ p → a ≡ b → IsSubscribeRefusal e hubs a r → history.IsSubscribeRefusal p b e r
+pub subscribe_refused : {T : Type 0} (e : Expr T) (hubs : List (HubState T)) (p a b : ℕ) (r : Refusal) → length hubs ≡ p → a ≡ b → IsSubscribeRefusal e hubs a r → IsNewSubRefusal p b e r
 subscribe_refused e hubs p a b UnknownHub count same k = absurd k
 subscribe_refused e hubs p a b UnknownSub count same k = absurd k
 subscribe_refused e hubs p a b Ended count same k = absurd k
@@ -130,7 +113,7 @@ subscribe_refused e hubs p a b NoMemory count same k = let less = k.1 in (ap (λ
 -- ---- moves
 
 tree_refused : {T : Type 0} (m : Meaning T) (g : Rows T) (h : History T) (enabled : Bool) (t : Tree) (r : Refusal) → StandsFor m g h → driving.IsTreeRefusal g enabled t r → IsTreeRefusal h enabled t r
-tree_refused m g h enabled (Sub i) r s k = let P : ℕ → Type 0 = λ n. IsTreeMoveRefusal n enabled (Sub i) r in subst P (subs_there m g h s) k
+tree_refused m g h enabled (Sub i) r s k = let P : ℕ → Type 0 = λ n. IsSubMoveRefusal n enabled i r in subst P (subs_there m g h s) k
 tree_refused m g h enabled (FeedOf i) r s k = let P : Bool → Type 0 = λ known. IsFeedRefusal known enabled r in subst P (sym (fed_there m g h i.0 s)) k
 
 pub move_refused : {T : Type 0} (m : Meaning T) (g : Rows T) (h : History T) (enabled : Bool) (mv : Move) (r : Refusal) → StandsFor m g h → IsMakeRefusal g enabled mv r → IsMoveRefusal h enabled mv r

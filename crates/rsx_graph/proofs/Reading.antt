@@ -5,65 +5,26 @@ use Rattle.std.specs.Option.{is_none, is_some}
 use Rattle.std.proofs.lemmas.Bool.Decides.{nat_tests}
 use Rattle.std.proofs.lemmas.List.{append-nil, drop_all, length-take}
 use Rattle.rsx_demand.specs.declared.TheConstants.{UNBOUNDED}
-use Rattle.rsx_feed_driving.specs.Pumped.{AreHubsQuiet, IsAllQuiet, IsHubQuiet}
-use Rattle.rsx_feed_driving.proofs.Named.{name_enabled}
-use Rattle.rsx_feed_driving.specs.Moves.{name_in}
-use Rattle.rsx_feeding.proofs.Named.{feed_named, is_number}
-use Rattle.rsx_feeding.proofs.Values.{emitted_value, values_of}
-use Rattle.rsx_feeding.specs.Headline.{AreValues, IsValue}
-use Rattle.rsx_feeding.specs.History.{History, HubPast, Source, emitted, fed}
-use Rattle.rsx_feeding.specs.Moves.{accepts_at, accepts_in, feed_enabled, has_feed, is_out, sends, sends_where, works, works_where}
-use Rattle.rsx_feeding.specs.Stands.{HubStands, IsFedBy, Rows, SourceStands, StandsFor, feed_of}
-use Rattle.rsx_history.specs.Served.{AllHaveRead}
-use Rattle.rsx_history.specs.Stands.{AllStand}
-use Rattle.rsx_history.specs.declared.TheConstants.{MOST_HUBS}
-use Rattle.rsx_hub.specs.Hub.{HubState, hub_value, items_of, takes_signal, waiting}
-use Rattle.rsx_hub.specs.Member.{ending_taken, without}
-use Rattle.rsx_hub.specs.Waiting.{first_waiting, is_open}
-use Rattle.rsx_hub.specs.declared.TheConstants.{MOST_ACCEPTED}
-use Rattle.rsx_model.specs.declared.expr.Expr.{Expr}
+use Rattle.rsx_graph_moves.specs.Pumped.{AreHubsQuiet, IsAllQuiet, IsHubQuiet}
+use Rattle.rsx_graph_moves.proofs.Named.{name_enabled}
+use Rattle.rsx_graph_moves.specs.Moves.{name_in}
+use Rattle.rsx_graph_state.proofs.Named.{feed_named, is_number}
+use Rattle.rsx_graph_state.proofs.Values.{emitted_value, values_of}
+use Rattle.rsx_graph_state.specs.Prelude.{AreValues, IsValue, History, HubPast, Source, emitted, fed, accepts_at, accepts_in, feed_enabled, has_feed, is_out, sends, sends_where, works, works_where, HubStands, IsFedBy, Rows, SourceStands, StandsFor, feed_of, AllHaveRead, AllStand, HubState, hub_value, items_of, takes_signal, waiting, ending_taken, without, first_waiting, is_open, MOST_ACCEPTED, all_have_room, can_accept, is_ready, can_feed, takes_next, Subscription}
+use Rattle.rsx_graph_state.specs.declared.TheConstants.{MOST_HUBS}
+use Rattle.rsx_subscriber.specs.Prelude.{Expr, any_machine, IsQuietInside, carried, goes_out, inside_enabled, next_out, IsTaken, can_go, notes_of, route, Past, EdgeState, Inputs, End, More', inside_node, NodeMove, Ask as NodeAsk, Send as NodeSend, Pick as NodePick, Row as NodeRow, Node}
 use Rattle.rsx_pipe.proofs.Handing.{none_value}
 use Rattle.rsx_pipe.proofs.Parts.{delivered}
 use Rattle.rsx_pipe.proofs.Signals.{some_same}
-use Rattle.rsx_pipe.specs.Any.{any_machine}
-use Rattle.rsx_pipe.specs.Feeding.{IsQuietInside, carried, goes_out, inside_enabled, next_out}
 use Rattle.rsx_pipe.specs.Output.{IsUnended, counts_in, items_in, more_after, published_then, values_then}
 use Rattle.rsx_pipe.specs.Part as Part
 use Rattle.rsx_pipe.specs.Part.{HasReadAll, IsServed, PartStands, evaluated, has_room}
-use Rattle.rsx_pipe.specs.Published.{IsTaken}
-use Rattle.rsx_pipe.specs.Tree.{can_go, notes_of}
-use Rattle.rsx_publishing.specs.Publishing.{all_have_room, can_accept_with_feeds, is_ready}
-use Rattle.rsx_publishing.specs.Sending.{can_feed, takes_next}
-use Rattle.rsx_pipe.specs.Crossing.{route}
-use Rattle.rsx_publishing.specs.declared.feed.Feed.{Feed}
-use Rattle.rsx_sources.specs.Machine.{front_of}
-use Rattle.rsx_sources.specs.Reading.{published_at, reads_hub}
-use Rattle.rsx_sources.specs.Slot.{is_nil}
+use Rattle.rsx_graph_state.specs.declared.feed.Feed.{Feed}
+use Rattle.rsx_sources.specs.Prelude.{front_of, published_at, reads_hub, is_nil, Meaning, Stream, ended_by, ending_signals, items_then, signals, Accept, HubId, Feed as FeedOf, Ending, Open, Done, Failed, Signal, Next, Complete, Error}
 use Rattle.rsx_sources.specs.declared.machine.Machine.{Ghosts as Machine}
-use Rattle.rsx_subscriber.specs.Past.{Past}
-use Rattle.rsx_subscriber.specs.declared.subscription.Subscription.{Subscription}
-use Rattle.rsx_tree.specs.Edges.{EdgeView, edge_view, is_live}
-use Rattle.rsx_tree.specs.Handed.{is_room_for}
-use Rattle.rsx_tree.specs.Reads.{IsReadAt, IsRowReadAt, IsTreeReadAt, count_before}
-use Rattle.rsx_tree.specs.Rests.{HasReadAll as HasNodeReadAll, HaveReadAll, TreeHasReadAll}
-use Rattle.rsx_tree.specs.Tree.{offers}
-use Rattle.rsx_tree.specs.declared.edge.EdgeState.{EdgeState}
+use Rattle.rsx_tree.specs.Prelude.{EdgeView, edge_view, is_live, is_room_for, IsReadAt, IsRowReadAt, IsTreeReadAt, count_before, HasReadAll as HasNodeReadAll, HaveReadAll, TreeHasReadAll, offers}
 use Rattle.rsx_tree.specs.declared.edge.EdgeState.TheVariants.{Live, Ended, Closed}
-use Rattle.rsx_tree.specs.declared.inputs.Inputs.{Inputs, End, More'}
 use Rattle.rsx_subscriber.proofs.Names.{numbered_name}
-use Rattle.rsx_subscriber.specs.Moves.{inside_node}
-use Rattle.rsx_tree.specs.declared.look.NodeMove.{NodeMove}
-use Rattle.rsx_tree.specs.declared.look.NodeMove.TheVariants.{Ask as NodeAsk, Send as NodeSend, Pick as NodePick, Row as NodeRow}
-use Rattle.rsx_tree.specs.declared.node.Node.{Node}
-use Rattle.rsx_types.specs.Meaning.{Meaning}
-use Rattle.rsx_types.specs.Stream.{Stream, ended_by, ending_signals, items_then, signals}
-use Rattle.rsx_types.specs.declared.names.Move.TheVariants.{Accept}
-use Rattle.rsx_types.specs.declared.names.HubId.{HubId}
-use Rattle.rsx_types.specs.declared.names.Tree.TheVariants.{Feed as FeedOf}
-use Rattle.rsx_types.specs.declared.signal.Ending.{Ending}
-use Rattle.rsx_types.specs.declared.signal.Ending.TheVariants.{Open, Done, Failed}
-use Rattle.rsx_types.specs.declared.signal.Signal.{Signal}
-use Rattle.rsx_types.specs.declared.signal.Signal.TheVariants.{Next, Complete, Error}
 use Rattle.rsx_graph.specs.Read.{AreFeedsWithin, HasOneReader, HaveAllRead, IsFeedWithin, WaitForOne, feed_waits, waits_at}
 use Rattle.rsx_graph.proofs.Held.{AllOffer, AllOfferIn, IsHeld, Offers, PartOffers, feed_offers, sub_offers}
 
@@ -304,8 +265,8 @@ inbox_open (x ∷ xs) e false w k t s = t
 
 emitted_full : {T : Type 0} (m : Meaning T) (g : Rows T) (i : ℕ) (s : HubState T) → slice_get g.hubs i ≡ Some s → feed_of g.feeds i ≡ None → accepts_at g i ≡ false → is_some (waiting s) ≡ true → all_have_room i g.feeds g.subs ≡ false
 emitted_full m g i s there unfed none waits =
-    let here : is_none (feed_of g.feeds i) && can_accept_with_feeds i s g.feeds g.subs ≡ false = sym (ap (λ o. accepts_in g o i) there) ∙ none in
-    no_room_ready (waiting s) (all_have_room i g.feeds g.subs) waits (known_first (is_none (feed_of g.feeds i)) (can_accept_with_feeds i s g.feeds g.subs) (ap is_none unfed) here)
+    let here : is_none (feed_of g.feeds i) && can_accept i s g.feeds g.subs ≡ false = sym (ap (λ o. accepts_in g o i) there) ∙ none in
+    no_room_ready (waiting s) (all_have_room i g.feeds g.subs) waits (known_first (is_none (feed_of g.feeds i)) (can_accept i s g.feeds g.subs) (ap is_none unfed) here)
 
 -- a signal that can go over an edge: the edge is live
 first_true : (a b : Bool) → a && b ≡ true → a ≡ true

@@ -1,11 +1,10 @@
 -- Lists of steps, one step after the other.
 use Rattle.std.proofs.Common.{◌≡◌, ℕ, ◌+◌, ◌<◌, ◌≤◌, List, [], ◌∷◌, ◌++◌, length, get_or, take, Option, refl, ap, sym, ◌∙◌, subst}
 use Rattle.std.proofs.lemmas.List.{take_all, take_more}
-use Rattle.rsx_feeding.proofs.Values.{whole_holds}
-use Rattle.rsx_feeding.specs.History.{History}
-use Rattle.rsx_history.specs.declared.step.Answer.{Answer}
-use Rattle.rsx_types.specs.Meaning.{Meaning, Allocates}
-use Rattle.rsx_types.specs.declared.signal.Signal.{Signal}
+use Rattle.rsx_graph_state.proofs.Values.{whole_holds}
+use Rattle.rsx_graph_state.specs.History.{History}
+use Rattle.rsx_graph_state.specs.declared.step.Answer.{Answer}
+use Rattle.rsx_sources.specs.Prelude.{Meaning, Allocates, Signal}
 use Rattle.rsx_graph.specs.Done.{AllDone, HasRun, IsDone, fed_by}
 use Rattle.rsx_graph.specs.Replayed.{IsReplayed}
 use Rattle.rsx_graph.specs.Stands.{GraphStands, GraphState, nothing}

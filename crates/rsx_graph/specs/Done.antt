@@ -1,26 +1,16 @@
 -- What each step of a graph did, by its answer.
 use Rattle.std.specs.Prelude.{◌≡◌, ◌≢◌, ◌≤◌, ◌<◌, true, false, List, [], ◌∷◌, ◌++◌, length, Option, None}
-use Rattle.rsx_feed_driving.specs.Moves.{IsMakeRefusal, IsMoved, is_enabled, may_allocate, sent}
-use Rattle.rsx_feed_edits.specs.Edits.{IsFedHubMade, IsFedHubRefusal, fault_of}
-use Rattle.rsx_feed_edits.specs.Publishes.{IsCopyRefusal, IsEndRefusal, has_emitter}
-use Rattle.rsx_feed_edits.specs.Subscribing.{IsSubscribeRefusal}
-use Rattle.rsx_feeding.specs.History.{History}
-use Rattle.rsx_history.specs.Begun.{HaveJoined, IsSubscribed}
-use Rattle.rsx_history.specs.History.{IsHubRefusal, IsSubscribeId}
-use Rattle.rsx_history.specs.Hubs.{IsEmittedAt, IsEndedAt}
-use Rattle.rsx_history.specs.Stands.{IsCancelledAt, IsRequestedAt}
-use Rattle.rsx_history.specs.declared.TheConstants.{MOST_HUBS}
-use Rattle.rsx_history.specs.declared.refusal.Refusal.TheVariants.{UnknownSub, NoMemory}
-use Rattle.rsx_history.specs.declared.step.Answer.{Answer}
-use Rattle.rsx_history.specs.declared.step.Answer.TheVariants.{Opened, Published, Subscribed, Requested, Cancelled as CancelTaken, Made, Refused as NotDone}
-use Rattle.rsx_hub.specs.Hub.{are_numbers, fresh_hub}
-use Rattle.rsx_pipe.specs.Built.{new_joins}
-use Rattle.rsx_region.specs.Region.{region_of}
-use Rattle.rsx_subscriber.specs.Stands.{IsMadeAnswer}
-use Rattle.rsx_types.specs.Meaning.{Meaning, Allocates}
-use Rattle.rsx_types.specs.declared.signal.Cause.TheVariants.{User}
-use Rattle.rsx_types.specs.declared.signal.Ending.TheVariants.{Done, Failed}
-use Rattle.rsx_types.specs.declared.signal.Signal.{Signal}
+use Rattle.rsx_graph_moves.specs.Moves.{IsMakeRefusal, IsMoved, is_enabled, may_allocate, sent}
+use Rattle.rsx_graph_calls.specs.Edits.{IsFedHubMade, IsFedHubRefusal, fault_of}
+use Rattle.rsx_graph_calls.specs.Publishes.{IsCopyRefusal, IsEndRefusal, has_emitter}
+use Rattle.rsx_graph_calls.specs.Subscribing.{IsSubscribeRefusal}
+use Rattle.rsx_graph_state.specs.Prelude.{History, HaveJoined, IsSubscribed, IsHubRefusal, IsSubscribeId, IsEmittedAt, IsEndedAt, IsCancelledAt, IsRequestedAt, are_numbers, fresh_hub}
+use Rattle.rsx_graph_state.specs.declared.TheConstants.{MOST_HUBS}
+use Rattle.rsx_graph_state.specs.declared.refusal.Refusal.TheVariants.{UnknownSub, NoMemory}
+use Rattle.rsx_graph_state.specs.declared.step.Answer.{Answer}
+use Rattle.rsx_graph_state.specs.declared.step.Answer.TheVariants.{Opened, Published, Subscribed, Requested, Cancelled as CancelTaken, Made, Refused as NotDone}
+use Rattle.rsx_subscriber.specs.Prelude.{new_joins, region_of, IsMadeAnswer}
+use Rattle.rsx_sources.specs.Prelude.{Meaning, Allocates, User, Done, Failed, Signal}
 use Rattle.rsx_graph.specs.Stands.{AreJoinsSame, GraphStands, GraphState, IsAsideSame, IsRestSame}
 use Rattle.rsx_graph.specs.Steps.{AllBelong, all_extended}
 use Rattle.rsx_graph.specs.declared.step.Step.{Step}

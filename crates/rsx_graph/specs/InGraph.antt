@@ -1,19 +1,13 @@
 -- The words of contracts on a whole graph: those of its hubs, feeds and subscriptions, under what the functions that it holds mean.
-use Rattle.std.specs.Prelude.{ℕ, Bool, ◌||◌, List, map, Option, Result}
-use Rattle.rsx_feed_driving.specs.Moves.{IsMakeRefusal, IsMoved, is_enabled, may_allocate}
-use Rattle.rsx_feed_driving.specs.Moves as moves
-use Rattle.rsx_feeding.specs.History.{History}
-use Rattle.rsx_feeding.specs.Moves.{rows_of}
-use Rattle.rsx_history.specs.Hubs.{signals_wait}
-use Rattle.rsx_history.specs.Stands.{pump_allocates}
-use Rattle.rsx_history.specs.declared.refusal.Refusal.{Refusal}
-use Rattle.rsx_history.specs.declared.step.Answer.{Answer}
-use Rattle.rsx_history.specs.declared.step.Pumped.{Pumped}
-use Rattle.rsx_subscriber.specs.Delivered.{Delivered}
-use Rattle.rsx_types.specs.declared.names.Move.{Move}
-use Rattle.rsx_types.specs.declared.names.SubId.{SubId}
+use Rattle.std.specs.Prelude.{ℕ, Bool, List, map, Option, Result}
+use Rattle.rsx_graph_moves.specs.Moves.{IsMakeRefusal, IsMoved, drives_allocate, is_enabled, may_allocate}
+use Rattle.rsx_graph_moves.specs.Moves as moves
+use Rattle.rsx_graph_state.specs.Prelude.{History, rows_of, Delivered}
+use Rattle.rsx_graph_state.specs.declared.refusal.Refusal.{Refusal}
+use Rattle.rsx_graph_state.specs.declared.step.Answer.{Answer}
+use Rattle.rsx_graph_state.specs.declared.step.Pumped.{Pumped}
+use Rattle.rsx_sources.specs.Prelude.{Move, SubId, Signal}
 use Rattle.rsx_types.specs.declared.ops.Ops.{Ghosts as Ops}
-use Rattle.rsx_types.specs.declared.signal.Signal.{Signal}
 use Rattle.rsx_graph.specs.Done.{HasRun, IsDone, fed_by}
 use Rattle.rsx_graph.specs.Pumped.{HasPumped}
 use Rattle.rsx_graph.specs.Stands.{GraphStands, GraphState}
@@ -66,7 +60,7 @@ IsRefusedIn mv graph r = IsMakeRefusal (state_of graph).rows (enabled_in graph m
 -- whether driving the subscriptions and the hubs with emitters may allocate: some move in a subscription's tree may, or a signal
 -- waits in a hub's inbox
 abbrev pub drives_allocate_in : {O T : Type 0} {b : Ops O T} → Graph O T b → Bool
-drives_allocate_in {O} {T} {b} graph = pump_allocates (b.allocates graph.ops) graph.subscriptions.items || signals_wait graph.hubs.items
+drives_allocate_in {O} {T} {b} graph = drives_allocate (b.allocates graph.ops) (state_of graph).rows
 
 -- what `pump` promises
 abbrev pub HasPumpedIn : {O T : Type 0} {b : Ops O T} → ℕ → Graph O T b → Delivered T → Result Pumped Refusal → Graph O T b → Delivered T → Type 0

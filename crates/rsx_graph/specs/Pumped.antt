@@ -1,10 +1,9 @@
 -- What driving a graph until it is idle does.
 use Rattle.std.specs.Prelude.{◌≡◌, ℕ, List, ◌++◌, length, Result}
-use Rattle.rsx_feed_driving.specs.Pumped.{HasEnded, LeadTo, Made, after_moves, delivered_by}
-use Rattle.rsx_feeding.specs.History.{History}
-use Rattle.rsx_history.specs.declared.refusal.Refusal.{Refusal}
-use Rattle.rsx_history.specs.declared.step.Pumped.{Pumped}
-use Rattle.rsx_subscriber.specs.Delivered.{Delivered}
+use Rattle.rsx_graph_moves.specs.Pumped.{HasEnded, LeadTo, Made, after_moves, delivered_by}
+use Rattle.rsx_graph_state.specs.Prelude.{History, Delivered}
+use Rattle.rsx_graph_state.specs.declared.refusal.Refusal.{Refusal}
+use Rattle.rsx_graph_state.specs.declared.step.Pumped.{Pumped}
 use Rattle.rsx_types.specs.Meaning.{Meaning}
 use Rattle.rsx_graph.specs.Stands.{AreJoinsSame, GraphStands, GraphState}
 

@@ -1,20 +1,10 @@
 -- What the nodes that read hubs have got, where each hub in front of which a signal waits has one reader at most.
 use Rattle.std.specs.Prelude.{◌≡◌, ⊤, ℕ, ◌<◌, ◌≤◌, Bool, true, false, ◌||◌, List, [], ◌∷◌, length, Option, Some, None, is_some, slice_get}
 use Rattle.rsx_demand.specs.declared.TheConstants.{UNBOUNDED}
-use Rattle.rsx_feeding.specs.Headline.{AreValues}
-use Rattle.rsx_feeding.specs.History.{History}
-use Rattle.rsx_feeding.specs.Stands.{Rows, feed_of}
-use Rattle.rsx_history.specs.Served.{AllHaveRead}
-use Rattle.rsx_hub.specs.Hub.{HubState, waiting}
-use Rattle.rsx_hub.specs.declared.TheConstants.{MOST_ACCEPTED}
-use Rattle.rsx_model.specs.declared.check.TheConstants.{MOST_NODES}
-use Rattle.rsx_pipe.specs.Feeding.{goes_out}
-use Rattle.rsx_pipe.specs.Part.{all_edges}
-use Rattle.rsx_pipe.specs.Tree.{IsWithin}
-use Rattle.rsx_publishing.specs.Publishing.{all_readers}
-use Rattle.rsx_publishing.specs.declared.feed.Feed.{Feed}
-use Rattle.rsx_types.specs.Meaning.{Meaning}
-use Rattle.rsx_types.specs.Stream.{Stream}
+use Rattle.rsx_graph_state.specs.Prelude.{AreValues, History, Rows, feed_of, AllHaveRead, HubState, waiting, MOST_ACCEPTED, all_readers}
+use Rattle.rsx_subscriber.specs.Prelude.{MOST_NODES, goes_out, all_edges, IsWithin}
+use Rattle.rsx_graph_state.specs.declared.feed.Feed.{Feed}
+use Rattle.rsx_sources.specs.Prelude.{Meaning, Stream}
 use Rattle.rsx_graph.specs.Stands.{GraphStands, GraphState}
 
 -- ---- where a signal waits in front of a hub

@@ -1,9 +1,8 @@
 -- What a list of steps gives, from nothing.
 use Rattle.std.specs.Prelude.{List, Option}
-use Rattle.rsx_feeding.specs.Headline.{Headline}
-use Rattle.rsx_history.specs.declared.step.Answer.{Answer}
-use Rattle.rsx_types.specs.Meaning.{Meaning, Allocates}
-use Rattle.rsx_types.specs.declared.signal.Signal.{Signal}
+use Rattle.rsx_graph_state.specs.Headline.{Headline}
+use Rattle.rsx_graph_state.specs.declared.step.Answer.{Answer}
+use Rattle.rsx_sources.specs.Prelude.{Meaning, Allocates, Signal}
 use Rattle.rsx_graph.specs.Done.{AllDone}
 use Rattle.rsx_graph.specs.Stands.{GraphStands, GraphState, nothing}
 use Rattle.rsx_graph.specs.Steps.{AllBelong, all_extended, no_history}

@@ -1,30 +1,17 @@
 -- What has happened by steps with their answers, and which answers a step can have.
 use Rattle.std.specs.Prelude.{◌≡◌, ⊤, ℕ, ◌<◌, ◌≤◌, Bool, true, false, List, [], ◌∷◌, length, Option, Some, None, slice_get}
-use Rattle.rsx_feed_edits.specs.Edits.{fault_of, with_fed_hub, with_hub}
-use Rattle.rsx_feed_edits.specs.Publishes.{with_published}
-use Rattle.rsx_feed_edits.specs.Requests.{with_past}
-use Rattle.rsx_feed_edits.specs.Subscribing.{with_subscriber}
-use Rattle.rsx_feeding.specs.History.{History, HubPast, Source, emitted, fed, with_made}
-use Rattle.rsx_feeding.specs.Moves.{IsFeedRefusal}
-use Rattle.rsx_history.specs.History.{IsAcceptRefusal, IsHubRefusal, IsSubscribeId, IsSubscribeRefusal, IsTreeMoveRefusal, state_at}
-use Rattle.rsx_history.specs.declared.TheConstants.{MOST_HUBS}
-use Rattle.rsx_history.specs.declared.refusal.Refusal.{Refusal}
-use Rattle.rsx_history.specs.declared.refusal.Refusal.TheVariants.{UnknownHub, UnknownSub, TooMany, BadExpr, NoMemory}
-use Rattle.rsx_history.specs.declared.step.Answer.{Answer}
-use Rattle.rsx_history.specs.declared.step.Answer.TheVariants.{Opened, Published, Subscribed, Requested, Cancelled as CancelTaken, Made, Refused as NotDone}
-use Rattle.rsx_hub.specs.Hub.{are_numbers}
-use Rattle.rsx_model.specs.declared.expr.Expr.{Expr}
-use Rattle.rsx_subscriber.specs.Past.{cancelled, request_answer, requested}
-use Rattle.rsx_subscriber.specs.Stands.{IsMadeAnswer}
-use Rattle.rsx_subscriber.specs.declared.state.SubscriptionState.{SubscriptionState}
-use Rattle.rsx_types.specs.declared.names.HubKind.{HubKind}
-use Rattle.rsx_types.specs.declared.names.Move.{Move}
-use Rattle.rsx_types.specs.declared.names.Move.TheVariants.{Ask, Send, Take, Pick, Row, Accept}
-use Rattle.rsx_types.specs.declared.names.Tree.{Tree}
-use Rattle.rsx_types.specs.declared.names.Tree.TheVariants.{Sub, Feed as FeedOf}
-use Rattle.rsx_types.specs.declared.signal.Cause.TheVariants.{User}
-use Rattle.rsx_types.specs.declared.signal.Signal.{Signal}
-use Rattle.rsx_types.specs.declared.signal.Signal.TheVariants.{Next, Complete as Completion, Error}
+use Rattle.rsx_graph_calls.specs.Edits.{fault_of, with_fed_hub, with_hub}
+use Rattle.rsx_graph_calls.specs.Publishes.{with_published}
+use Rattle.rsx_graph_calls.specs.Requests.{with_past}
+use Rattle.rsx_graph_calls.specs.Subscribing.{with_subscriber}
+use Rattle.rsx_graph_state.specs.Prelude.{History, HubPast, Source, emitted, fed, with_made, IsFeedRefusal, IsAcceptRefusal, IsHubRefusal, IsSubMoveRefusal, IsSubscribeId, state_at, are_numbers, SubscriptionState}
+use Rattle.rsx_graph_state.specs.declared.TheConstants.{MOST_HUBS, MOST_SUBSCRIPTIONS}
+use Rattle.rsx_graph_state.specs.declared.refusal.Refusal.{Refusal}
+use Rattle.rsx_graph_state.specs.declared.refusal.Refusal.TheVariants.{UnknownHub, UnknownSub, TooMany, BadExpr, NoMemory}
+use Rattle.rsx_graph_state.specs.declared.step.Answer.{Answer}
+use Rattle.rsx_graph_state.specs.declared.step.Answer.TheVariants.{Opened, Published, Subscribed, Requested, Cancelled as CancelTaken, Made, Refused as NotDone}
+use Rattle.rsx_subscriber.specs.Prelude.{refusal, Expr, cancelled, request_answer, requested, IsMadeAnswer}
+use Rattle.rsx_sources.specs.Prelude.{HubKind, Move, Ask, Send, Take, Pick, Row, Accept, Tree, Sub, Feed as FeedOf, User, Signal, Next, Complete as Completion, Error}
 use Rattle.rsx_graph.specs.declared.step.Step.{Step}
 use Rattle.rsx_graph.specs.declared.step.Step.TheVariants.{Hub, FeedHub, Emit, Complete, Fail, Subscribe, Request, Cancel, Make}
 
@@ -79,6 +66,14 @@ abbrev pub IsPublishRefusal : {T : Type 0} → List (HubPast T) → ℕ → Refu
 IsPublishRefusal ps i UnknownHub = is_emitted (slice_get ps i) ≡ false
 IsPublishRefusal ps i r = is_emitted (slice_get ps i) ≡ true
 
+-- why a subscription is refused, where there are so many hubs and so many subscriptions: the expression first, then the limits (of
+-- subscriptions, and of a hub's members), and memory last
+abbrev pub IsNewSubRefusal : {T : Type 0} → ℕ → ℕ → Expr T → Refusal → Type 0
+IsNewSubRefusal hubs count e (BadExpr k) = refusal hubs e ≡ Some k
+IsNewSubRefusal hubs count e TooMany = refusal hubs e ≡ None
+IsNewSubRefusal hubs count e NoMemory = (refusal hubs e ≡ None) × (count < MOST_SUBSCRIPTIONS)
+IsNewSubRefusal hubs count e r = ⊥
+
 -- why a hub with a feed is not made, where there are so many hubs: a fault first, then the limits (of hubs, and of a hub's members),
 -- and memory last
 abbrev pub IsNewFeedRefusal : {T : Type 0} → HubKind → ℕ → Expr T → ℕ → Refusal → Type 0
@@ -89,7 +84,7 @@ IsNewFeedRefusal k c e count r = ⊥
 
 -- why a move in a tree is refused: an unknown name first, then a move that isn't enabled, and memory last
 abbrev pub IsTreeRefusal : {T : Type 0} → History T → Bool → Tree → Refusal → Type 0
-IsTreeRefusal h enabled (Sub i) r = IsTreeMoveRefusal (length h.pasts) enabled (Sub i) r
+IsTreeRefusal h enabled (Sub i) r = IsSubMoveRefusal (length h.pasts) enabled i r
 IsTreeRefusal h enabled (FeedOf i) r = IsFeedRefusal (is_fed (slice_get h.hubs i.0)) enabled r
 
 abbrev pub IsMoveRefusal : {T : Type 0} → History T → Bool → Move → Refusal → Type 0
@@ -116,7 +111,7 @@ IsOfKnown h (Accept i) = is_emitted (slice_get h.hubs i.0) ≡ true
 -- an answer that belongs to a step after this history: its names are those of the history, and a refusal comes in its case
 abbrev pub Belongs : {T : Type 0} → History T → Step T → Answer T → Type 0
 Belongs h (Subscribe e) (Subscribed i) = IsSubscribeId (length h.hubs) (length h.pasts) e i
-Belongs h (Subscribe e) (NotDone r) = IsSubscribeRefusal (length h.hubs) (length h.pasts) e r
+Belongs h (Subscribe e) (NotDone r) = IsNewSubRefusal (length h.hubs) (length h.pasts) e r
 Belongs h (Request i n) (Requested o) = (s : SubscriptionState) × (state_at h.pasts i.0 ≡ Some s) × (o ≡ request_answer s n)
 Belongs h (Request i n) (NotDone r) = (r ≡ UnknownSub) × (length h.pasts ≤ i.0)
 Belongs h (Cancel i) CancelTaken = i.0 < length h.pasts

@@ -1,8 +1,8 @@
 //! The hubs of a graph: those that a program publishes to, and those that expressions feed.
 
 use crate::graph::Graph;
-use rsx_feed_edits::{NotEmitted, complete, emit, emit_copy, fail, feed_hub, hub};
-use rsx_history::Refusal;
+use rsx_graph_calls::{NotEmitted, complete, emit, emit_copy, fail, feed_hub, hub};
+use rsx_graph_state::Refusal;
 use rsx_model::Expr;
 use rsx_types::{HubId, HubKind, Ops};
 use std::alloc::Global;
@@ -14,13 +14,13 @@ impl<O: Ops> Graph<O> {
     ghost use Rattle.rsx_types.specs.declared.signal.Signal.TheVariants.{Next, Complete, Error};
     ghost use Rattle.rsx_hub.specs.Hub.{are_numbers, fresh_hub};
     ghost use Rattle.rsx_pipe.specs.Built.{new_joins};
-    ghost use Rattle.rsx_history.specs.History.{IsHubRefusal};
-    ghost use Rattle.rsx_history.specs.Hubs.{IsEmittedAt, IsEndedAt};
-    ghost use Rattle.rsx_feed_edits.specs.Edits.{IsFedHubMade, IsFedHubRefusal, fault_of, with_fed_hub, with_hub};
-    ghost use Rattle.rsx_feed_edits.specs.Publishes.{IsCopyRefusal, IsEmitRefusal, IsEndRefusal, has_emitter, with_published};
+    ghost use Rattle.rsx_graph_state.specs.Answers.{IsHubRefusal};
+    ghost use Rattle.rsx_graph_state.specs.Hubs.{IsEmittedAt, IsEndedAt};
+    ghost use Rattle.rsx_graph_calls.specs.Edits.{IsFedHubMade, IsFedHubRefusal, fault_of, with_fed_hub, with_hub};
+    ghost use Rattle.rsx_graph_calls.specs.Publishes.{IsCopyRefusal, IsEmitRefusal, IsEndRefusal, has_emitter, with_published};
     ghost use Rattle.rsx_graph.specs.InGraph.{StandsAfter, state_of};
     ghost use Rattle.rsx_graph.specs.Stands.{IsRestSame};
-    ghost use Rattle.rsx_history.specs.declared.TheConstants.{MOST_HUBS};
+    ghost use Rattle.rsx_graph_state.specs.declared.TheConstants.{MOST_HUBS};
 
     /// A hub, to which a program publishes by [`Graph::emit`], [`Graph::complete`] and [`Graph::fail`]. It stands behind the
     /// others, so its number is how many there were. Where `capacity` items wait in its inbox it accepts no more, and so many

@@ -10,7 +10,7 @@
 //!
 //! The definitions stand in `specs/`: `Stands` (what a graph stands for), `Steps` (what has happened by steps with their answers),
 //! `Done` (what each step did), `Pumped`, `Read` (what is read of hubs), `Replayed`, and `InGraph`, which puts them into words of a
-//! [`Graph`]. Those of rows of hubs, feeds and subscriptions are in `rsx_feeding` and in the crates over it, those of one
+//! [`Graph`]. Those of rows of hubs, feeds and subscriptions are in `rsx_graph_state` and in the crates over it, those of one
 //! subscription in `rsx_subscriber`.
 
 pub mod graph;
@@ -22,9 +22,8 @@ pub mod step;
 pub use graph::{Graph, MOST_HUBS, MOST_SUBSCRIPTIONS};
 pub use law::read_all;
 pub use replays::replay;
-pub use rsx_feed_driving::idle_means_delivered;
-pub use rsx_feed_edits::NotEmitted;
-pub use rsx_feeding::headline;
-pub use rsx_history::{Answer, Pumped, Refusal, refusal};
+pub use rsx_graph_calls::NotEmitted;
+pub use rsx_graph_moves::idle_means_delivered;
+pub use rsx_graph_state::{Answer, Pumped, Refusal, headline, refusal};
 pub use rsx_subscriber::{Deliveries, Subscription, SubscriptionState};
 pub use step::Step;

@@ -6,7 +6,7 @@ ghost use Rattle.rsx_graph.specs.Replayed.{IsReplayed};
 
 use crate::graph::Graph;
 use crate::step::Step;
-use rsx_history::Answer;
+use rsx_graph_state::Answer;
 use rsx_types::Ops;
 use std::alloc::Global;
 

@@ -1,16 +1,13 @@
 -- What still comes out of the lanes, copied part by part.
-use Rattle.std.proofs.Common.{◌≡◌, ℕ, zero, suc, ◌+◌, ◌<◌, Bool, true, false, nat_eq, List, [], ◌∷◌, ◌++◌, map, drop, length, get_or, Option, Some, None, Result, Ok, refl, ap, sym, ◌∙◌, subst, arith, append_assoc}
+use Rattle.std.proofs.Common.{◌≡◌, ℕ, suc, ◌+◌, ◌<◌, Bool, true, false, nat_eq, List, [], ◌∷◌, ◌++◌, map, drop, length, get_or, Option, Some, None, Result, Ok, refl, ap, sym, ◌∙◌, subst, arith, append_assoc}
 use Rattle.std.specs.Set.{is_member}
-use Rattle.std.proofs.lemmas.List.{append-nil, at_drop_more, at_drop_all}
-use Rattle.rsx_types.specs.declared.signal.Ending.{Ending}
-use Rattle.rsx_types.specs.declared.stage.Stage.{Stage}
-use Rattle.rsx_types.specs.Meaning.{Meaning}
-use Rattle.rsx_types.specs.Stream.{Stream, item_then, items_then, signals}
-use Rattle.rsx_choices.specs.Pick.{InputLeft, numbered}
-use Rattle.rsx_lanes.specs.Group.{first_seen, group_lane, keyed_items, keys_after, of_key, placed, see}
-use Rattle.rsx_lanes.proofs.Keying.{keyed_item, first_seen_more}
+use Rattle.std.proofs.lemmas.List.{append-nil, at_drop_more}
+use Rattle.std.proofs.lemmas.Bool.{eq-eqb, eqb-true, or_right}
+use Rattle.rsx_sources.specs.Prelude.{Ending, Stage, Meaning, Stream, item_then, items_then, signals}
+use Rattle.rsx_values.specs.Prelude.{InputLeft, numbered, first_seen, group_lane, keyed_items, keys_after, of_key, placed, see}
+use Rattle.rsx_values.proofs.Keying.{keyed_item, first_seen_more}
 use Rattle.rsx_queued.specs.Inputs.{here}
-use Rattle.rsx_grouping.proofs.SeenKeys.{equal_itself, equal_keys, or_right_true}
+use Rattle.rsx_grouping.proofs.Tables.{length_keys}
 use Rattle.rsx_grouping.specs.Keys.{AreDistinct}
 use Rattle.rsx_grouping.specs.Lane.{lane_left, IsFresh}
 use Rattle.rsx_grouping.specs.Rest.{see_all}
@@ -22,8 +19,8 @@ use Rattle.rsx_grouping.specs.declared.table.KeyedLane.{KeyedLane}
 -- ---- the keys of lanes, one by one
 
 key_among : (seen : List ℕ) (k : ℕ) (ks : List ℕ) → is_member nat_eq (seen ++ k ∷ ks) k ≡ true
-key_among [] k ks = rw (equal_itself k) refl
-key_among (j ∷ seen) k ks = or_right_true (nat_eq k j) (is_member nat_eq (seen ++ k ∷ ks) k) (key_among seen k ks)
+key_among [] k ks = rw (eq-eqb k k refl) refl
+key_among (j ∷ seen) k ks = or_right (nat_eq k j) (is_member nat_eq (seen ++ k ∷ ks) k) (key_among seen k ks)
 
 not_before : (seen : List ℕ) (k : ℕ) (ks : List ℕ) → AreDistinct (seen ++ k ∷ ks) → is_member nat_eq seen k ≡ false
 not_before [] k ks d = refl
@@ -32,7 +29,7 @@ not_before (j ∷ seen) k ks d = by_test (nat_eq k j) refl (not_before seen k ks
     by_test : (t : Bool) → nat_eq k j ≡ t → is_member nat_eq seen k ≡ false → is_member nat_eq (j ∷ seen) k ≡ false
     by_test false e rest = rw e rest
     by_test true e rest =
-        let same : k ≡ j = equal_keys k j e in
+        let same : k ≡ j = eqb-true k j e in
         let there : is_member nat_eq (seen ++ k ∷ ks) j ≡ true = subst (λ i. is_member nat_eq (seen ++ k ∷ ks) i ≡ true) same (key_among seen k ks) in
         let out : is_member nat_eq (seen ++ k ∷ ks) j ≡ false = d.0 in
         cc
@@ -117,10 +114,6 @@ fresh_pushed {T} m gs before now new whole ks w i l within fresh put came =
     rw pushed (append_assoc now ((i, signals (group_lane m gs w k)) ∷ []) rest ∙ ap (λ is. now ++ is) (sym step) ∙ came)
 
 -- ---- all lanes
-
-length_keys : {T : Type 0} (rows : List (KeyedLane T)) → length (keys_of rows) ≡ length rows
-length_keys [] = refl
-length_keys (r ∷ rows) = ap suc (length_keys rows)
 
 behind_all : {A : Type 0} (xs ys : List A) → drop (length xs) (xs ++ ys) ≡ ys
 behind_all [] ys = refl

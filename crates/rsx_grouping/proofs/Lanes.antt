@@ -1,27 +1,21 @@
 -- What comes out of a lane by an item, and what a pick takes of it.
-use Rattle.std.proofs.Common.{◌≡◌, ℕ, Bool, true, false, List, [], ◌∷◌, ◌++◌, map, Option, Some, None, option_map, refl, ap, sym, ◌∙◌, subst}
+use Rattle.std.proofs.Common.{◌≡◌, ℕ, true, false, List, [], ◌∷◌, ◌++◌, map, Option, Some, None, option_map, refl, ap, sym, ◌∙◌, subst}
 use Rattle.std.specs.Option.{option_to_list}
 use Rattle.std.specs.Prelude.{slice_get, is_some}
 use Rattle.std.proofs.lemmas.List.{append-nil}
 use Rattle.std.proofs.lemmas.Option.{same_Some}
-use Rattle.rsx_types.specs.declared.signal.Ending.{Ending}
-use Rattle.rsx_types.specs.declared.signal.Ending.TheVariants.{Open, Done, Failed}
-use Rattle.rsx_types.specs.declared.signal.Signal.{Signal}
-use Rattle.rsx_types.specs.declared.signal.Signal.TheVariants.{Next}
-use Rattle.rsx_types.specs.declared.stage.Stage.{Stage}
-use Rattle.rsx_types.specs.Meaning.{Meaning}
-use Rattle.rsx_types.specs.Stream.{Stream, ended_by, item_then, items_then}
-use Rattle.rsx_sources.specs.Slot.{is_nil}
-use Rattle.rsx_operators.specs.Emission.{emission_then}
-use Rattle.rsx_operators.specs.Moves.{has_ended, ended_or}
-use Rattle.rsx_operators.specs.declared.prepared.Emission.{Emission}
-use Rattle.rsx_chain.specs.Chain.{chain_from, chain_over, IsChained}
-use Rattle.rsx_chain.specs.declared.chain.ChainState.{ChainState}
-use Rattle.rsx_lanes.specs.Group.{tagged_items}
+use Rattle.rsx_types.proofs.Lists.{nil_from_no_first}
+use Rattle.rsx_types.proofs.Booleans.{false_from_absurd}
+use Rattle.rsx_sources.specs.Prelude.{Ending, Open, Done, Failed, Signal, Next, Meaning, Stream, ended_by, item_then, items_then, is_nil}
+use Rattle.rsx_plain.specs.Emission.{emission_then}
+use Rattle.rsx_plain.specs.Moves.{has_ended}
+use Rattle.rsx_plain.specs.declared.prepared.Emission.{Emission}
+use Rattle.rsx_plain.specs.Chain.{chain_from, chain_over}
+use Rattle.rsx_plain.specs.declared.chain.ChainState.{ChainState}
+use Rattle.rsx_values.specs.Group.{tagged_items}
 use Rattle.rsx_queued.specs.Input.{IsFirst}
-use Rattle.rsx_grouping.proofs.Ends.{chain_ends}
-use Rattle.rsx_grouping.specs.Lane.{state_left, lane_left, state_after, state_ended, ending_signal, is_gone, is_gone_state, is_quiet, TakesItem, Begins, TakesOne, BeginsWith, CompletesWith, IsPrepared, without_next, GoesOn, IsFresh}
-use Rattle.rsx_grouping.specs.declared.lane.Begun.{Begun}
+use Rattle.rsx_plain.proofs.Rests.{chain_ends}
+use Rattle.rsx_grouping.specs.Lane.{state_left, lane_left, state_after, state_ended, ending_signal, is_gone, is_gone_state, is_quiet, TakesItem, TakesOne, CompletesWith, IsPrepared, without_next, GoesOn}
 use Rattle.rsx_grouping.specs.declared.lane.Lane.{Lane}
 use Rattle.rsx_grouping.specs.declared.lane.LanePick.{LanePick}
 use Rattle.rsx_grouping.specs.declared.lane.LaneState.{LaneState}
@@ -41,10 +35,6 @@ runs m k c [] None Done v = refl
 runs m k c [] (Some z) Done v = refl
 runs m k c [] None (Failed f) v = refl
 runs m k c [] (Some z) (Failed f) v = refl
-
--- a lane began
-pub lane_begins : {T : Type 0} (m : Meaning T) (gs : List (Stage T)) (x : T) (b : Begun T) (l : Lane T) → Begins m gs x b → l.waiting ≡ b.items.items ++ option_to_list b.out.item → l.state ≡ state_after b.chain b.out.ending → BeginsWith m gs x l
-lane_begins m gs x b l begins waits state k v = ap (λ w. Some (tagged_items m k w)) (begins v) ∙ rw (waits, state) (runs m k b.chain b.items.items b.out.item b.out.ending v)
 
 -- where nothing of a lane waits whose chain runs, no item does
 pub none_waits : {T : Type 0} (l : Lane T) (c : ChainState T) → l.state ≡ Running c → is_quiet l ≡ true → l.waiting ≡ []
@@ -107,14 +97,10 @@ completes_with_item {T} m k c d v x l p none done gives items state signal lane 
     let R : Signal T → Type 0 = λ s. IsFirst s (Some (tagged_items m k (chain_from m c (ended_by Done)))) (lane_left m k l (ended_by Done)) in
     (l, lane, subst R (sym signal) (subst P whole (subst Q (sym state) (first_of_value m k x l.waiting v.ending (ended_value m c v is)))))
 
-none_there : {T : Type 0} (xs : List T) → None ≡ slice_get xs 0 → xs ≡ []
-none_there [] h = refl
-none_there (x ∷ xs) h = cc
-
 -- nothing but the ending comes out
 pub completes_at_once : {T : Type 0} (m : Meaning T) (k : ℕ) (c : ChainState T) (d v : Stream T) (l : Lane T) (p : LanePick T) → d.items ≡ [] → d.ending ≡ Done → v ≡ chain_from m c d → None ≡ slice_get v.items 0 → l.state ≡ Gone → p.signal ≡ ending_signal v.ending → p.lane ≡ Some l → CompletesWith m k c p
 completes_at_once {T} m k c d v l p empty done gives first state signal lane =
-    let items : v.items ≡ [] = none_there v.items first in
+    let items : v.items ≡ [] = nil_from_no_first v.items first in
     let is : v ≡ chain_from m c (ended_by Done) = gives ∙ ap (chain_from m c) (done_value d empty done) in
     let whole : record { items = []; ending = v.ending } ≡ chain_from m c (ended_by Done) = ap (λ xs. record { items = xs; ending = v.ending }) (sym items) ∙ is in
     let none : lane_left m k l (ended_by Done) ≡ None = ap (λ s. option_map (λ w. items_then (map (m.tagged k) l.waiting) w) (state_left m k s (ended_by Done))) state in
@@ -142,15 +128,11 @@ leaves s (x ∷ xs) ys None first left none = cc
 
 -- ---- a chain that runs is not over
 
-not_over : (b : Bool) → (b ≡ true → false ≡ true) → b ≡ false
-not_over true h = sym (h refl)
-not_over false h = refl
-
 pub after_goes_on : {T : Type 0} (c : ChainState T) (e : Ending) (s : LaneState T) → (chain_over c ≡ true → has_ended e ≡ true) → s ≡ state_after c e → GoesOn s
 after_goes_on {T} c e s h is = subst GoesOn (sym is) (by_ending e h)
   where
     by_ending : (e : Ending) → (chain_over c ≡ true → has_ended e ≡ true) → GoesOn (state_after c e)
-    by_ending Open k = not_over (chain_over c) k
+    by_ending Open k = false_from_absurd (chain_over c) k
     by_ending Done k = tt
     by_ending (Failed f) k = tt
 
@@ -162,17 +144,3 @@ ended_goes_on {T} e s is = subst GoesOn (sym is) (by_ending e)
     by_ending Open = tt
     by_ending Done = tt
     by_ending (Failed f) = tt
-
--- ---- a lane at which nothing came in
-
-fresh_value : {T : Type 0} (m : Meaning T) (k : ℕ) (c : ChainState T) (xs : List T) (e : Ending) (v : Stream T) →
-    Some (tagged_items m k (items_then xs (ended_or e (chain_from m c v)))) ≡ option_map (λ w. items_then (map (m.tagged k) xs) w) (state_left m k (state_after c e) v)
-fresh_value m k c (x ∷ xs) Open v = ap (option_map (item_then (m.tagged k x))) (fresh_value m k c xs Open v)
-fresh_value m k c (x ∷ xs) Done v = ap (option_map (item_then (m.tagged k x))) (fresh_value m k c xs Done v)
-fresh_value m k c (x ∷ xs) (Failed f) v = ap (option_map (item_then (m.tagged k x))) (fresh_value m k c xs (Failed f) v)
-fresh_value m k c [] Open v = refl
-fresh_value m k c [] Done v = refl
-fresh_value m k c [] (Failed f) v = refl
-
-pub lane_fresh : {T : Type 0} (m : Meaning T) (gs : List (Stage T)) (first : Stream T) (c : ChainState T) (l : Lane T) → IsChained m gs first c → l.waiting ≡ first.items → l.state ≡ state_after c first.ending → IsFresh m gs l
-lane_fresh m gs first c l chain waits state k v = ap (λ w. Some (tagged_items m k w)) (chain v) ∙ rw (waits, state) (fresh_value m k c first.items first.ending v)

@@ -1,8 +1,11 @@
+pub mod Chosen
+pub mod Copied
 pub mod Copies
-pub mod Ends
+pub mod Fresh
 pub mod Idle
 pub mod Lanes
 pub mod Picks
+pub mod Rests
 pub mod SeenKeys
 pub mod Tables
 pub mod Waits

@@ -2,16 +2,10 @@
 use Rattle.std.proofs.Common.{◌≡◌, ℕ, zero, suc, ◌+◌, ◌<◌, ◌≤◌, ◌&&◌, nat_eq, Bool, true, false, List, [], ◌∷◌, length, slice_set, slice_get, Some, None, refl, ap, sym, ◌∙◌, subst, arith}
 use Rattle.std.proofs.lemmas.Bool.Decides.{nat_tests}
 use Rattle.std.proofs.lemmas.Option.{same_Some}
-use Rattle.rsx_types.specs.declared.signal.Signal.{Signal}
-use Rattle.rsx_types.specs.declared.stage.Stage.{Stage}
-use Rattle.rsx_types.specs.Meaning.{Meaning}
-use Rattle.rsx_types.specs.Stream.{Stream, ended_by}
-use Rattle.rsx_types.specs.declared.signal.Ending.TheVariants.{Done}
-use Rattle.rsx_choices.specs.Pick.{InputLeft, next_of}
-use Rattle.rsx_lanes.specs.Group.{of_key}
+use Rattle.rsx_sources.specs.Prelude.{Signal, Stage, Meaning, Stream, ended_by, Done}
+use Rattle.rsx_values.specs.Prelude.{InputLeft, next_of, of_key}
 use Rattle.rsx_queued.proofs.Picks.{next_first, next_beside, unequal}
-use Rattle.rsx_queued.specs.Input.{IsFirst}
-use Rattle.rsx_queued.specs.Inputs.{here}
+use Rattle.rsx_queued.specs.Prelude.{IsFirst, here}
 use Rattle.rsx_grouping.proofs.Tables.{keys_set}
 use Rattle.rsx_grouping.specs.Lane.{lane_left, state_left, is_gone, is_gone_state, completes, after_pick}
 use Rattle.rsx_grouping.specs.Rows.{keys_of, are_gone}

@@ -1,31 +1,14 @@
 -- The keys of lanes, in the order in which each came first.
-use Rattle.std.proofs.Common.{◌≡◌, ℕ, zero, suc, ◌+◌, Bool, true, false, ◌||◌, nat_eq, List, [], ◌∷◌, ◌++◌, slice_get, Option, Some, refl, ap, sym, arith}
+use Rattle.std.proofs.Common.{◌≡◌, ℕ, zero, suc, ◌+◌, Bool, true, false, nat_eq, List, [], ◌∷◌, ◌++◌, slice_get, Option, Some, refl, ap, sym, arith}
 use Rattle.std.specs.Prelude.{length, nat_lt, position, IfSome}
 use Rattle.std.specs.List.{position_or_len}
 use Rattle.std.specs.Set.{is_member}
 use Rattle.std.proofs.lemmas.Bool.Decides.{nat_tests}
 use Rattle.std.proofs.lemmas.Option.{same_Some}
+use Rattle.std.proofs.lemmas.Bool.{eq-eqb, eqb-true, or_parts, or_right}
 use Rattle.rsx_grouping.specs.Keys.{AreDistinct}
 
 -- ---- keys
-
-pub equal_itself : (k : ℕ) → nat_eq k k ≡ true
-equal_itself k = grind (arith, nat_tests)
-
-pub equal_keys : (k j : ℕ) → nat_eq k j ≡ true → k ≡ j
-equal_keys k j h = grind (arith, nat_tests)
-
-pub or_left : (a b : Bool) → (a || b) ≡ false → a ≡ false
-or_left true b h = cc
-or_left false b h = refl
-
-pub or_right : (a b : Bool) → (a || b) ≡ false → b ≡ false
-or_right true b h = cc
-or_right false b h = h
-
-pub or_right_true : (a b : Bool) → b ≡ true → (a || b) ≡ true
-or_right_true true b h = refl
-or_right_true false b h = h
 
 -- a key that was seen is another than one that wasn't
 pub other_key : (ks : List ℕ) (k j : ℕ) → is_member nat_eq ks k ≡ true → is_member nat_eq ks j ≡ false → nat_eq k j ≡ false
@@ -33,7 +16,7 @@ other_key ks k j a b = by_test (nat_eq k j) refl
   where
     by_test : (t : Bool) → nat_eq k j ≡ t → nat_eq k j ≡ false
     by_test false e = e
-    by_test true e = let same : k ≡ j = equal_keys k j e in let both : is_member nat_eq ks j ≡ true = rw same at a in cc
+    by_test true e = let same : k ≡ j = eqb-true k j e in let both : is_member nat_eq ks j ≡ true = rw same at a in cc
 
 pub stays_seen : (ks more : List ℕ) (k : ℕ) → is_member nat_eq ks k ≡ true → is_member nat_eq (ks ++ more) k ≡ true
 stays_seen [] more k h = cc
@@ -44,25 +27,25 @@ stays_seen (j ∷ ks) more k h = by_test (nat_eq k j) refl (stays_seen ks more k
     by_test false e rest = rw e (rest (rw e at h))
 
 pub last_seen : (ks : List ℕ) (k : ℕ) → is_member nat_eq (ks ++ k ∷ []) k ≡ true
-last_seen [] k = rw (equal_itself k) refl
-last_seen (j ∷ ks) k = or_right_true (nat_eq k j) (is_member nat_eq (ks ++ k ∷ []) k) (last_seen ks k)
+last_seen [] k = rw (eq-eqb k k refl) refl
+last_seen (j ∷ ks) k = or_right (nat_eq k j) (is_member nat_eq (ks ++ k ∷ []) k) (last_seen ks k)
 
 pub key_there : (ks : List ℕ) (k i : ℕ) → slice_get ks i ≡ Some k → is_member nat_eq ks k ≡ true
 key_there [] k i h = cc
-key_there (j ∷ ks) k zero h = let same : j ≡ k = same_Some j k h in rw (same, equal_itself k) refl
-key_there (j ∷ ks) k (suc i) h = or_right_true (nat_eq k j) (is_member nat_eq ks k) (key_there ks k i h)
+key_there (j ∷ ks) k zero h = let same : j ≡ k = same_Some j k h in rw (same, eq-eqb k k refl) refl
+key_there (j ∷ ks) k (suc i) h = or_right (nat_eq k j) (is_member nat_eq ks k) (key_there ks k i h)
 
 not_same : (j k : ℕ) → nat_eq k j ≡ false → nat_eq j k ≡ false
 not_same j k h = grind (arith, nat_tests)
 
 not_there : (ks : List ℕ) (j k : ℕ) → is_member nat_eq ks j ≡ false → nat_eq k j ≡ false → is_member nat_eq (ks ++ k ∷ []) j ≡ false
 not_there [] j k h n = rw (not_same j k n) refl
-not_there (i ∷ ks) j k h n = rw (or_left (nat_eq j i) (is_member nat_eq ks j) h) (not_there ks j k (or_right (nat_eq j i) (is_member nat_eq ks j) h) n)
+not_there (i ∷ ks) j k h n = rw (or_parts (nat_eq j i) (is_member nat_eq ks j) h).0 (not_there ks j k (or_parts (nat_eq j i) (is_member nat_eq ks j) h).1 n)
 
 -- a key that wasn't seen stands last
 pub distinct_more : (ks : List ℕ) (k : ℕ) → AreDistinct ks → is_member nat_eq ks k ≡ false → AreDistinct (ks ++ k ∷ [])
 distinct_more [] k d out = (refl, tt)
-distinct_more (j ∷ ks) k d out = (not_there ks j k d.0 (or_left (nat_eq k j) (is_member nat_eq ks k) out), distinct_more ks k d.1 (or_right (nat_eq k j) (is_member nat_eq ks k) out))
+distinct_more (j ∷ ks) k d out = (not_there ks j k d.0 (or_parts (nat_eq k j) (is_member nat_eq ks k) out).0, distinct_more ks k d.1 (or_parts (nat_eq k j) (is_member nat_eq ks k) out).1)
 
 -- ---- the place of a key
 
@@ -74,7 +57,7 @@ first_place (j ∷ ks) k h = by_test (nat_eq k j) refl (first_place ks k)
     less p n h = grind (arith, nat_tests)
 
     by_test : (t : Bool) → nat_eq k j ≡ t → (nat_lt (position_or_len (nat_eq k) ks) (length ks) ≡ true → slice_get ks (position_or_len (nat_eq k) ks) ≡ Some k) → slice_get (j ∷ ks) (position_or_len (nat_eq k) (j ∷ ks)) ≡ Some k
-    by_test true e rest = rw e (ap Some (sym (equal_keys k j e)))
+    by_test true e rest = rw e (ap Some (sym (eqb-true k j e)))
     by_test false e rest =
         let more : 1 + position_or_len (nat_eq k) ks ≡ suc (position_or_len (nat_eq k) ks) = omega arith in
         let there = rw e at h in

@@ -1,16 +1,12 @@
 -- An item with its key comes in at the lanes.
-use Rattle.std.proofs.Common.{◌≡◌, ℕ, zero, suc, ◌+◌, ◌<◌, Bool, true, false, ◌&&◌, nat_eq, List, [], ◌∷◌, ◌++◌, map, length, slice_set, slice_get, slice_index_or, Option, Some, None, Result, Ok, Err, refl, ap, sym, ◌∙◌, subst, arith, length-append}
-use Rattle.std.specs.Prelude.{OnOk, OnErr}
+use Rattle.std.proofs.Common.{◌≡◌, ℕ, zero, suc, ◌+◌, ◌<◌, Bool, true, false, nat_eq, List, [], ◌∷◌, ◌++◌, map, length, slice_set, slice_get, slice_index_or, Option, Some, None, refl, ap, sym, ◌∙◌, subst, arith, length-append}
 use Rattle.std.specs.Set.{is_member}
 use Rattle.std.proofs.lemmas.Option.{same_Some}
-use Rattle.rsx_types.specs.declared.stage.Stage.{Stage}
-use Rattle.rsx_types.specs.Meaning.{Meaning}
-use Rattle.rsx_types.specs.Plain.{chained}
-use Rattle.rsx_types.specs.Stream.{Stream, item_then}
-use Rattle.rsx_choices.specs.Pick.{InputLeft, numbered}
-use Rattle.rsx_lanes.specs.Group.{of_key, tagged_items, group_lane, see}
+use Rattle.std.proofs.lemmas.Bool.{and_parts, eq-eqb, or_parts}
+use Rattle.rsx_sources.specs.Prelude.{Stage, Meaning, chained, Stream, item_then}
+use Rattle.rsx_values.specs.Prelude.{InputLeft, numbered, of_key, tagged_items, group_lane, see}
 use Rattle.rsx_queued.specs.Inputs.{here}
-use Rattle.rsx_grouping.proofs.SeenKeys.{equal_itself, or_left, or_right, other_key, stays_seen, last_seen, key_there, distinct_more}
+use Rattle.rsx_grouping.proofs.SeenKeys.{other_key, stays_seen, last_seen, key_there, distinct_more}
 use Rattle.rsx_grouping.specs.Keys.{AreDistinct}
 use Rattle.rsx_grouping.specs.Lane.{lane_left, TakesOne, BeginsWith, is_quiet, after_pick, without_next, GoesOn, PickGoesOn}
 use Rattle.rsx_grouping.specs.Rows.{keys_of, are_quiet, GoOn}
@@ -21,7 +17,7 @@ use Rattle.rsx_grouping.specs.declared.table.KeyedLane.{KeyedLane}
 -- ---- one lane
 
 key_here : {T : Type 0} (k : ℕ) (x : T) (v : Stream (ℕ × T)) → of_key k (item_then (k, x) v) ≡ item_then x (of_key k v)
-key_here k x v = rw (equal_itself k) refl
+key_here k x v = rw (eq-eqb k k refl) refl
 
 key_other : {T : Type 0} (k j : ℕ) (x : T) (v : Stream (ℕ × T)) → nat_eq k j ≡ false → of_key j (item_then (k, x) v) ≡ of_key j v
 key_other k j x v h = rw h refl
@@ -47,8 +43,8 @@ there_other : {T : Type 0} (m : Meaning T) (n : ℕ) (rows : List (KeyedLane T))
     lanes_there m n rows (item_then (k, x) v) rest ≡ lanes_there m n rows v rest
 there_other m n [] k x v rest h = refl
 there_other m n (r ∷ rows) k x v rest h =
-    ap (λ w. here n (lane_left m r.key r.lane w) (lanes_there m (suc n) rows (item_then (k, x) v) rest)) (key_other k r.key x v (or_left (nat_eq k r.key) (is_member nat_eq (keys_of rows) k) h))
-    ∙ ap (here n (lane_left m r.key r.lane (of_key r.key v))) (there_other m (suc n) rows k x v rest (or_right (nat_eq k r.key) (is_member nat_eq (keys_of rows) k) h))
+    ap (λ w. here n (lane_left m r.key r.lane w) (lanes_there m (suc n) rows (item_then (k, x) v) rest)) (key_other k r.key x v (or_parts (nat_eq k r.key) (is_member nat_eq (keys_of rows) k) h).0)
+    ∙ ap (here n (lane_left m r.key r.lane (of_key r.key v))) (there_other m (suc n) rows k x v rest (or_parts (nat_eq k r.key) (is_member nat_eq (keys_of rows) k) h).1)
 
 there_first : {T : Type 0} (m : Meaning T) (n : ℕ) (r : KeyedLane T) (new : Lane T) (rows : List (KeyedLane T)) (x : T) (v : Stream (ℕ × T)) (rest : List (InputLeft T)) → is_member nat_eq (keys_of rows) r.key ≡ false → TakesOne m r.lane x new →
     lanes_there m n (r ∷ rows) (item_then (r.key, x) v) rest ≡ lanes_there m n (record { key = r.key; lane = new } ∷ rows) v rest
@@ -89,7 +85,7 @@ keys_set [] i r new h = refl
 keys_set (q ∷ rows) zero r new h = ap (λ z. z.key ∷ keys_of rows) (sym (same_Some q r h))
 keys_set (q ∷ rows) (suc i) r new h = ap (λ ks. q.key ∷ ks) (keys_set rows i r new h)
 
-length_keys : {T : Type 0} (rows : List (KeyedLane T)) → length (keys_of rows) ≡ length rows
+pub length_keys : {T : Type 0} (rows : List (KeyedLane T)) → length (keys_of rows) ≡ length rows
 length_keys [] = refl
 length_keys (r ∷ rows) = ap suc (length_keys rows)
 
@@ -165,16 +161,8 @@ known_seen rows i k r new at is =
 -- nothing waits in it
 quiet_at : {T : Type 0} (rows : List (KeyedLane T)) (i : ℕ) (r : KeyedLane T) → are_quiet rows ≡ true → i < length rows → r ≡ slice_index_or rows i r → is_quiet r.lane ≡ true
 quiet_at [] i r q lt is = absurd (omega arith)
-quiet_at (p ∷ rows) zero r q lt is = ap (λ z. is_quiet z.lane) is ∙ and_left (is_quiet p.lane) (are_quiet rows) q
-  where
-    and_left : (a b : Bool) → a && b ≡ true → a ≡ true
-    and_left true b e = refl
-    and_left false b e = e
-quiet_at (p ∷ rows) (suc i) r q lt is = quiet_at rows i r (and_right (is_quiet p.lane) (are_quiet rows) q) (omega arith) is
-  where
-    and_right : (a b : Bool) → a && b ≡ true → b ≡ true
-    and_right true b e = e
-    and_right false b e = cc
+quiet_at (p ∷ rows) zero r q lt is = ap (λ z. is_quiet z.lane) is ∙ (and_parts (is_quiet p.lane) (are_quiet rows) q).0
+quiet_at (p ∷ rows) (suc i) r q lt is = quiet_at rows i r (and_parts (is_quiet p.lane) (are_quiet rows) q).1 (omega arith) is
 
 new_keys : {T : Type 0} (rows : List (KeyedLane T)) (k : ℕ) (new : Lane T) → is_member nat_eq (keys_of rows) k ≡ false → keys_of (rows ++ record { key = k; lane = new } ∷ []) ≡ see (keys_of rows) k
 new_keys rows k new out = rw out (keys_more rows (record { key = k; lane = new }))
@@ -287,12 +275,3 @@ picked_goes_on {T} old new i r pick at committed rests h = subst GoOn (sym (comm
     by_pick : (p : Option (Lane T)) → PickGoesOn p → GoesOn (after_pick p r.lane).state
     by_pick None k = behind r.lane.waiting
     by_pick (Some l) k = k
-
--- an answer's clause from another
-pub on_ok : {A E : Type 0} (r : Result A E) (P Q : Type 0) → (P → Q) → OnOk r P → OnOk r Q
-on_ok (Ok a) P Q f p = f p
-on_ok (Err e) P Q f p = tt
-
-pub on_err : {A E : Type 0} (r : Result A E) (P Q : Type 0) → (P → Q) → OnErr r P → OnErr r Q
-on_err (Ok a) P Q f p = tt
-on_err (Err e) P Q f p = f p

@@ -1,8 +1,8 @@
 -- The code of a lane's chain, by which a proof tells chains apart, whose items have a code.
 use Rattle.std.specs.Prelude.{[]}
 use Rattle.std.specs.Coded.{Coded}
-use Rattle.rsx_chain.specs.contracts.chain.ChainState as chain
-use Rattle.rsx_chain.specs.declared.chain.ChainState.{ChainState}
+use Rattle.rsx_plain.specs.contracts.chain.ChainState as chain
+use Rattle.rsx_plain.specs.declared.chain.ChainState.{ChainState}
 use base.Fml.{ffalse}
 use denote.Exit.{unchanged}
 use denote.RattleType.{RattleType}

@@ -1,19 +1,11 @@
 -- What still comes out of a lane, and what a pick takes of that.
 use Rattle.std.specs.Prelude.{◌≡◌, ⊤, ℕ, Bool, true, false, ◌&&◌, ◌||◌, not, nat_lt, List, [], ◌∷◌, map, Option, Some, None, option_map}
-use Rattle.rsx_types.specs.declared.signal.Ending.{Ending}
-use Rattle.rsx_types.specs.declared.signal.Ending.TheVariants.{Open, Done, Failed}
-use Rattle.rsx_types.specs.declared.signal.Signal.{Signal}
-use Rattle.rsx_types.specs.declared.signal.Signal.TheVariants.{Complete, Error}
-use Rattle.rsx_types.specs.declared.stage.Stage.{Stage}
-use Rattle.rsx_types.specs.Meaning.{Meaning}
-use Rattle.rsx_types.specs.Plain.{chained}
-use Rattle.rsx_types.specs.Stream.{Stream, ended_by, item_then, items_then}
-use Rattle.rsx_sources.specs.Slot.{is_nil}
-use Rattle.rsx_operators.specs.Emission.{emission_then}
-use Rattle.rsx_operators.specs.declared.prepared.Emission.{Emission}
-use Rattle.rsx_chain.specs.Chain.{chain_from, chain_over}
-use Rattle.rsx_chain.specs.declared.chain.ChainState.{ChainState}
-use Rattle.rsx_lanes.specs.Group.{tagged_items}
+use Rattle.rsx_sources.specs.Prelude.{Ending, Open, Done, Failed, Signal, Complete, Error, Stage, Meaning, chained, Stream, ended_by, item_then, items_then, is_nil}
+use Rattle.rsx_plain.specs.Emission.{emission_then}
+use Rattle.rsx_plain.specs.declared.prepared.Emission.{Emission}
+use Rattle.rsx_plain.specs.Chain.{chain_from, chain_over}
+use Rattle.rsx_plain.specs.declared.chain.ChainState.{ChainState}
+use Rattle.rsx_values.specs.Group.{tagged_items}
 use Rattle.rsx_queued.specs.Input.{IsFirst}
 use Rattle.rsx_grouping.specs.declared.lane.Begun.{Begun}
 use Rattle.rsx_grouping.specs.declared.lane.Lane.{Lane}

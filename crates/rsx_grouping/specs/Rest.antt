@@ -1,7 +1,6 @@
 -- What still comes out of the lanes, computed over copies.
 use Rattle.std.specs.Prelude.{ℕ, List, [], ◌∷◌}
-use Rattle.rsx_types.specs.Stream.{Stream}
-use Rattle.rsx_lanes.specs.Group.{see}
+use Rattle.rsx_values.specs.Prelude.{Stream, see}
 use Rattle.rsx_grouping.specs.declared.rest.KeyedItems.{KeyedItems}
 
 -- the items with their keys, and how they end

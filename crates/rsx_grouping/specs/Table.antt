@@ -1,11 +1,8 @@
 -- What still comes out of all lanes of a `groupBy`, of those that are there and of those that aren't yet.
 use Rattle.std.specs.Prelude.{◌≡◌, ℕ, suc, nat_eq, if◌then◌else◌, List, [], ◌∷◌, ◌++◌, map, length, Option, Some, slice_get, slice_set}
 use Rattle.std.specs.Set.{is_member}
-use Rattle.rsx_types.specs.declared.stage.Stage.{Stage}
-use Rattle.rsx_types.specs.Meaning.{Meaning}
-use Rattle.rsx_types.specs.Stream.{Stream, item_then}
-use Rattle.rsx_choices.specs.Pick.{InputLeft, numbered}
-use Rattle.rsx_lanes.specs.Group.{of_key, group_lane}
+use Rattle.rsx_sources.specs.Prelude.{Stage, Meaning, Stream, item_then}
+use Rattle.rsx_values.specs.Prelude.{InputLeft, numbered, of_key, group_lane}
 use Rattle.rsx_queued.specs.Inputs.{here}
 use Rattle.rsx_grouping.specs.Lane.{lane_left, after_pick, TakesFirst}
 use Rattle.rsx_grouping.specs.Rows.{keys_of}

@@ -3,8 +3,8 @@
 ghost use Rattle.std.specs.Prelude.{◌≡◌};
 
 use indexmap::IndexSet;
-use rsx_lanes::MOST_KEYS;
 use rsx_types::NoMemory;
+use rsx_values::MOST_KEYS;
 use std::alloc::Global;
 use std::marker::Model;
 
@@ -26,7 +26,7 @@ impl Model for LaneKeys {
 impl LaneKeys {
     ghost use Rattle.std.specs.Prelude.{◌≡◌, ℕ, List, [], ◌∷◌, ◌++◌, nat_eq, slice_get, is_some, Some, IfSome, OnOk, OnErr};
     ghost use Rattle.std.specs.Set.{is_member};
-    ghost use Rattle.rsx_lanes.specs.Group.{see, has_place};
+    ghost use Rattle.rsx_values.specs.Group.{see, has_place};
 
     /// No keys. It takes no memory.
     pub fn new(alloc: Global) -> LaneKeys

@@ -2,17 +2,16 @@
 
 ghost use Rattle.std.specs.Prelude.{◌≡◌, ◌+◌, ◌≤◌, true, false, [], ◌++◌, length, is_some, vec_len, vec_capacity, IfOk, IfErr, OnOk, OnErr};
 ghost use Rattle.std.specs.Option.{option_to_list};
-ghost use Rattle.rsx_operators.specs.Moves.{has_ended};
-ghost use Rattle.rsx_chain.specs.declared.chain.ChainState.{ChainState as ChainStateSpec};
+ghost use Rattle.rsx_plain.specs.Moves.{has_ended};
+ghost use Rattle.rsx_plain.specs.declared.chain.ChainState.{ChainState as ChainStateSpec};
 ghost use Rattle.rsx_sources.specs.Slot.{is_nil};
-ghost use Rattle.rsx_chain.specs.Chain.{chain_over};
+ghost use Rattle.rsx_plain.specs.Chain.{chain_over};
 ghost use Rattle.rsx_grouping.specs.Lane.{state_after, state_ended, ending_signal, is_gone, is_quiet, can_pick, after_pick, GoesOn, PickGoesOn, TakesItem, Begins, TakesOne, BeginsWith, CompletesWith, IsPrepared};
 ghost use Rattle.rsx_grouping.specs.declared.lane.Lane.{Lane as LaneSpec};
 ghost use Rattle.rsx_grouping.specs.declared.lane.LaneState.TheVariants.{Running, Gone};
 
 use crate::waiting::WaitingItems;
-use rsx_chain::{ChainState, Chaining, NewChain};
-use rsx_operators::Emission;
+use rsx_plain::{ChainState, Chaining, Emission, NewChain};
 use rsx_types::{Cause, Ending, NoMemory, Ops, Signal, Stage, StreamValue};
 use std::alloc::Global;
 

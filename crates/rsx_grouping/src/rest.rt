@@ -2,8 +2,8 @@
 
 ghost use Rattle.std.specs.Prelude.{◌≡◌, ℕ, List, [], ◌++◌, map, drop, length, Some, IfOk, OnOk};
 ghost use Rattle.rsx_types.specs.Stream.{Stream};
-ghost use Rattle.rsx_choices.specs.Pick.{InputLeft, numbered};
-ghost use Rattle.rsx_lanes.specs.Group.{first_seen, group_lane, keyed_items, keys_after, lane_ending, of_key, placed};
+ghost use Rattle.rsx_values.specs.Pick.{InputLeft, numbered};
+ghost use Rattle.rsx_values.specs.Group.{first_seen, group_lane, keyed_items, keys_after, lane_ending, of_key, placed};
 ghost use Rattle.rsx_queued.specs.Inputs.{here};
 ghost use Rattle.rsx_grouping.specs.Keys.{AreDistinct};
 ghost use Rattle.rsx_grouping.specs.Lane.{lane_left, IsFresh};
@@ -18,10 +18,9 @@ use crate::keys::LaneKeys;
 use crate::lane::{Lane, LaneState, state_after};
 use crate::table::{KeyedLane, LaneTable};
 use crate::waiting::{Tagging, TaggingBehind, WaitingItems};
-use rsx_chain::{ChainState, Chaining, NewChain};
-use rsx_choices::Input;
-use rsx_lanes::TOO_MANY_KEYS;
+use rsx_plain::{ChainState, Chaining, NewChain};
 use rsx_types::{Cause, Ending, Fault, NoMemory, Ops, Stage, StreamValue};
+use rsx_values::{Input, TOO_MANY_KEYS};
 use std::alloc::Global;
 
 /// Copies of the items that still come in, each behind its key.

@@ -2,7 +2,7 @@
 
 ghost use Rattle.std.specs.Prelude.{◌≡◌, ◌<◌, ◌^◌, true, false, [], length, nat_eq, slice_get, IfOk, IfErr, OnOk, OnErr, List};
 ghost use Rattle.std.specs.Set.{is_member};
-ghost use Rattle.rsx_lanes.specs.Group.{see, has_place};
+ghost use Rattle.rsx_values.specs.Group.{see, has_place};
 ghost use Rattle.rsx_grouping.specs.Keys.{AreDistinct};
 ghost use Rattle.rsx_grouping.specs.Lane.{PickGoesOn};
 ghost use Rattle.rsx_grouping.specs.Rows.{keys_of, are_quiet, are_gone, is_gone_at, can_pick_at, GoOn};

@@ -1,4 +1,6 @@
 -- Lemmas about hubs and their members.
+-- Lemmas about a node that reads a hub.
+pub mod Leaves
 pub mod Lists
 pub mod Readings
 pub mod Rests

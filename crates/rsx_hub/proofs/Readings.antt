@@ -3,20 +3,13 @@ use Rattle.std.proofs.Common.{◌≡◌, ℕ, ◌+◌, ◌-◌, Bool, true, fals
 use Rattle.std.proofs.lemmas.Bool.{false≢true}
 use Rattle.std.proofs.lemmas.List.{drop-append-le, drop-drop, drop_at}
 use Rattle.circular_buffer.specs.Buffer.{keep_last}
-use Rattle.rsx_types.specs.declared.names.HubKind.{HubKind}
-use Rattle.rsx_types.specs.declared.names.HubKind.TheVariants.{Multicast, Replay}
-use Rattle.rsx_types.specs.declared.signal.Cause.{Cause}
-use Rattle.rsx_types.specs.declared.signal.Ending.{Ending}
-use Rattle.rsx_types.specs.declared.signal.Ending.TheVariants.{Open, Done, Failed}
-use Rattle.rsx_types.specs.declared.signal.Signal.{Signal}
-use Rattle.rsx_types.specs.declared.signal.Signal.TheVariants.{Next, Complete, Error}
-use Rattle.rsx_types.specs.Stream.{Stream, ended_by, item_then, items_then, signal_then, signals_then}
-use Rattle.rsx_sources.specs.Slot.{is_nil}
+use Rattle.rsx_sources.specs.Prelude.{HubKind, Multicast, Replay, Cause, Ending, Open, Done, Failed, Signal, Next, Complete, Error, Stream, ended_by, item_then, items_then, signal_then, signals_then, is_nil, ends_input}
 use Rattle.rsx_hub.specs.Hub.{HubState, IsHub, replayed, join, accepts_items, waiting, taken_in, accepted, takes_signal, HasTakenIn, hub_value, BeginsWith}
 use Rattle.rsx_hub.specs.Member.{MemberState, without, behind, rest, fresh_member, ending_taken, takes, offered, given}
 use Rattle.rsx_hub.specs.Waiting.{is_open, first_waiting}
 use Rattle.rsx_hub.specs.Reading.{Step, emits, ends, accepts, feeds, advances, Reading, item_behind, handed, accepted_next, given_next, emitted_next, ended_next, next, after, joined_now, IsRead, ReadsOn}
 use Rattle.rsx_hub.proofs.Rests.{took_rest, stream_of}
+use Rattle.rsx_sources.proofs.Slots.{nil_of}
 
 -- ---- the last ones of a list
 
@@ -118,22 +111,12 @@ front_out taken (x ∷ xs) e g (Next y) h = let same : y ≡ x = cc in ap (λ z.
 front_out taken (x ∷ xs) e g Complete h = cc
 front_out taken (x ∷ xs) e g (Error c) h = cc
 
--- whether a signal ends the hub
-abbrev is_ending : {T : Type 0} → Signal T → Bool
-is_ending (Next x) = false
-is_ending Complete = true
-is_ending (Error c) = true
-
 -- behind an ending nothing waits
-nothing_behind : {T : Type 0} (xs : List T) (e : Ending) (g : Bool) (s : Signal T) → first_waiting xs e g ≡ Some s → is_ending s ≡ true → drop 1 xs ≡ []
+nothing_behind : {T : Type 0} (xs : List T) (e : Ending) (g : Bool) (s : Signal T) → first_waiting xs e g ≡ Some s → ends_input s ≡ true → drop 1 xs ≡ []
 nothing_behind [] e g s h i = refl
 nothing_behind (x ∷ xs) e g (Next y) h i = cc
 nothing_behind (x ∷ xs) e g Complete h i = cc
 nothing_behind (x ∷ xs) e g (Error c) h i = cc
-
-empty_list : {X : Type 0} (xs : List X) → is_nil xs ≡ true → xs ≡ []
-empty_list [] h = refl
-empty_list (x ∷ xs) h = cc
 
 both_hold : (a b : Bool) → (a && b) ≡ true → (a ≡ true) × (b ≡ true)
 both_hold true b r = (refl, r)
@@ -150,7 +133,7 @@ record Reads {T : Type 0} (j : ℕ) (r : Reading T) : Type 0 where
   reads : (w : Stream T) → BeginsWith r.hub r.taken w → signals_then r.given_out (rest r.member w) ≡ without j w
 
 -- hub and member take a signal in
-took_in : {T : Type 0} (j : ℕ) (r : Reading T) → Reads j r → (i : List T) (s : Signal T) (ps : List T) → r.hub.has_ended ≡ false → takes r.member s ≡ true → item_behind r.taken s ++ i ≡ ps → (is_ending s ≡ true → i ≡ []) →
+took_in : {T : Type 0} (j : ℕ) (r : Reading T) → Reads j r → (i : List T) (s : Signal T) (ps : List T) → r.hub.has_ended ≡ false → takes r.member s ≡ true → item_behind r.taken s ++ i ≡ ps → (ends_input s ≡ true → i ≡ []) →
     Reads j (handed r (taken_in (record r.hub { inbox = i }) s) ps s true)
 took_in j r k i (Next x) ps goes_on takes_it p e =
     let n : ℕ = replayed r.hub.kind in
@@ -207,7 +190,7 @@ fed_step j r s false k h = k
 fed_step j r s true k h =
     let both = both_hold (takes_signal r.hub s) (takes r.member s) h in
     let hub = both_hold (is_open r.hub.ending) _ both.0 in
-    let none : r.hub.inbox ≡ [] = empty_list r.hub.inbox (both_hold (is_nil r.hub.inbox) _ hub.1).0 in
+    let none : r.hub.inbox ≡ [] = nil_of r.hub.inbox (both_hold (is_nil r.hub.inbox) _ hub.1).0 in
     let all : r.taken ≡ r.published = sym (append-nil r.taken) ∙ (ap (λ l. r.taken ++ l) (sym none) ∙ k.published) in
     took_in j r k r.hub.inbox s (item_behind r.published s) (not_ended r.hub.has_ended r.hub.ending k.all_taken hub.0) both.1
     (ap (λ l. item_behind r.taken s ++ l) none ∙ (append-nil (item_behind r.taken s) ∙ published_too r.taken r.published s all))

@@ -1,12 +1,8 @@
 -- What a member still gives out, before and after a call.
-use Rattle.std.proofs.Common.{◌≡◌, ℕ, ◌+◌, Bool, true, false, ◌&&◌, List, [], ◌∷◌, ◌++◌, length, drop, Some, slice_get, refl, sym, ap, ◌∙◌, arith, append_assoc}
+use Rattle.std.proofs.Common.{◌≡◌, ℕ, ◌+◌, Bool, true, false, List, [], ◌∷◌, ◌++◌, length, drop, Some, slice_get, refl, sym, ap, ◌∙◌, arith, append_assoc}
 use Rattle.std.proofs.lemmas.List.{drop_all}
-use Rattle.rsx_types.specs.declared.signal.Cause.{Cause}
-use Rattle.rsx_types.specs.declared.signal.Ending.{Ending}
-use Rattle.rsx_types.specs.declared.signal.Ending.TheVariants.{Open, Done, Failed}
-use Rattle.rsx_types.specs.declared.signal.Signal.{Signal}
-use Rattle.rsx_types.specs.declared.signal.Signal.TheVariants.{Next, Complete, Error}
-use Rattle.rsx_types.specs.Stream.{Stream, ended_by, items_then}
+use Rattle.std.proofs.lemmas.Bool.{and_parts}
+use Rattle.rsx_sources.specs.Prelude.{Cause, Ending, Open, Done, Failed, Signal, Next, Complete, Error, Stream, ended_by, items_then}
 use Rattle.rsx_hub.specs.Member.{MemberState, without, behind, rest, is_reading, takes, took, IsNextAt}
 use Rattle.rsx_hub.proofs.Lists.{next_item}
 
@@ -41,11 +37,7 @@ failed_in : {T : Type 0} (q : List T) (n : ℕ) (g : Bool) (e : Ending) (c : Cau
 failed_in q n true e c w r l h = refl
 failed_in q n false e c w r l h = ending_in q n false e (Failed c) w r l h
 
-first_holds : (a b : Bool) → (a && b) ≡ true → a ≡ true
-first_holds true b r = refl
-first_holds false b r = r
-
 pub took_rest : {T : Type 0} (m : MemberState T) (s : Signal T) → takes m s ≡ true → (w : Stream T) → IsNextAt m.reached w s → rest (took m s) w ≡ rest m w
-took_rest m (Next x) r w next = item_in m.queue m.reached m.gone m.ending x w (first_holds _ _ r) next
+took_rest m (Next x) r w next = item_in m.queue m.reached m.gone m.ending x w (and_parts (is_reading m.gone m.ending) _ r).0 next
 took_rest m Complete r w next = done_in m.queue m.reached m.gone m.ending w r next.0 next.1
 took_rest m (Error c) r w next = failed_in m.queue m.reached m.gone m.ending c w r next.0 next.1

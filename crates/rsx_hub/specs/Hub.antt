@@ -1,14 +1,7 @@
 -- What a contract sees of a hub, and what its calls make of it.
 use Rattle.std.specs.Prelude.{◌≡◌, ◌⊎◌, ℕ, ◌+◌, ◌-◌, ◌<◌, ◌≤◌, Bool, true, false, ◌&&◌, if◌then◌else◌, nat_eq, nat_le, nat_lt, List, [], ◌∷◌, ◌++◌, length, drop, Option, Some, None}
 use Rattle.circular_buffer.specs.Buffer.{keep_last}
-use Rattle.rsx_types.specs.declared.names.HubKind.{HubKind}
-use Rattle.rsx_types.specs.declared.names.HubKind.TheVariants.{Multicast, Replay}
-use Rattle.rsx_types.specs.declared.signal.Ending.{Ending}
-use Rattle.rsx_types.specs.declared.signal.Ending.TheVariants.{Open, Done, Failed}
-use Rattle.rsx_types.specs.declared.signal.Signal.{Signal}
-use Rattle.rsx_types.specs.declared.signal.Signal.TheVariants.{Next, Complete, Error}
-use Rattle.rsx_types.specs.Stream.{Stream}
-use Rattle.rsx_sources.specs.Slot.{is_nil}
+use Rattle.rsx_sources.specs.Prelude.{HubKind, Multicast, Replay, Ending, Open, Done, Failed, Signal, Next, Complete, Error, Stream, is_nil}
 use Rattle.rsx_hub.specs.declared.TheConstants.{LARGEST, MOST_ACCEPTED, MOST_MEMBERS}
 use Rattle.rsx_hub.specs.declared.refusal.Rejected.{Rejected}
 use Rattle.rsx_hub.specs.declared.refusal.Rejected.TheVariants.{Ended as EndedItem, TooMany as TooManyItems, Full}

@@ -1,10 +1,6 @@
 -- What a contract sees of a member, what its calls make of it, and what it still gives out.
-use Rattle.std.specs.Prelude.{◌≡◌, ℕ, ◌+◌, ◌≤◌, max, Bool, true, false, ◌&&◌, nat_lt, List, [], ◌∷◌, ◌++◌, length, drop, Option, Some, None, slice_get}
-use Rattle.rsx_types.specs.declared.signal.Ending.{Ending}
-use Rattle.rsx_types.specs.declared.signal.Ending.TheVariants.{Open, Done, Failed}
-use Rattle.rsx_types.specs.declared.signal.Signal.{Signal}
-use Rattle.rsx_types.specs.declared.signal.Signal.TheVariants.{Next, Complete, Error}
-use Rattle.rsx_types.specs.Stream.{Stream, ended_by, items_then, signal_then}
+use Rattle.std.specs.Prelude.{◌≡◌, ℕ, ◌+◌, ◌≤◌, max, Bool, true, false, ◌&&◌, nat_lt, List, [], ◌∷◌, ◌++◌, length, drop, Option, Some, None}
+use Rattle.rsx_sources.specs.Prelude.{Ending, Open, Done, Failed, Signal, Next, Complete, Error, Stream, ended_by, items_then, signal_then, ended_or}
 pub use Rattle.rsx_sources.specs.Reading.{IsNextAt}
 use Rattle.rsx_hub.specs.declared.TheConstants.{MOST_ACCEPTED}
 use Rattle.rsx_hub.specs.Hub.{HubState, replayed, join, HasTakenIn, BeginsWith}
@@ -30,16 +26,10 @@ pub record MemberState (T : Type 0) : Type 0 where
 abbrev pub without : {T : Type 0} → ℕ → Stream T → Stream T
 without n w = record { items = drop n w.items; ending = w.ending }
 
--- this ending, and as long as there is none, what comes
-abbrev pub ending_or : {T : Type 0} → Ending → Stream T → Stream T
-ending_or Open v = v
-ending_or Done v = ended_by Done
-ending_or (Failed c) v = ended_by (Failed c)
-
 -- what comes behind the queue: once the ending is gone, nothing
 abbrev pub behind : {T : Type 0} → Bool → Ending → Stream T → Stream T
 behind true e v = ended_by Open
-behind false e v = ending_or e v
+behind false e v = ended_or e v
 
 -- what a member still gives out, where v stands behind what it took in: the items of its queue, and then v
 abbrev pub rest_before : {T : Type 0} → MemberState T → Stream T → Stream T

@@ -1,9 +1,6 @@
 -- A hub and one of its members, over any list of what happens to them.
 use Rattle.std.specs.Prelude.{◌≡◌, Bool, true, false, ◌&&◌, List, [], ◌∷◌, ◌++◌, Option, Some, None}
-use Rattle.rsx_types.specs.declared.signal.Ending.{Ending}
-use Rattle.rsx_types.specs.declared.signal.Signal.{Signal}
-use Rattle.rsx_types.specs.declared.signal.Signal.TheVariants.{Next, Complete, Error}
-use Rattle.rsx_types.specs.Stream.{Stream, signals_then}
+use Rattle.rsx_sources.specs.Prelude.{Ending, Signal, Next, Complete, Error, Stream, signals_then}
 use Rattle.rsx_hub.specs.Hub.{HubState, IsHub, join, emitted, accepts_items, ended_with, waiting, taken_in, accepted, takes_signal, HasTakenIn, hub_value, BeginsWith}
 use Rattle.rsx_hub.specs.Member.{MemberState, without, rest, fresh_member, takes, took, offered, given}
 use Rattle.rsx_hub.specs.Waiting.{is_open}

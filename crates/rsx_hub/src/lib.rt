@@ -1,3 +1,8 @@
+#![tactic(auto)]
+//! Hubs, their members, and the node of an expression that reads a hub.
+//!
+//! # Hubs and members
+//!
 //! Hubs: what a program emits into a graph, or what one expression feeds, read by several members at their own pace.
 //!
 //! - [`Hub`] has an inbox, into which its emitter emits, and takes the signals in from there one by one. A hub that is fed
@@ -13,16 +18,27 @@
 //!
 //! The memory of a hub and of a member is taken when it is made, and no later call takes any, but for the copies that the
 //! caller's functions make.
-#![tactic(auto)]
+//!
+//! # The leaf
+//!
+//! The node of an expression that reads a hub.
+//!
+//! - [`HubLeaf`]: a member of a hub as a node of a tree. It offers what its member offers, so it needs no access to the hub; the
+//!   signals of the hub are handed to it by [`on_published`](rsx_sources::Machine::on_published).
+//!
+//! What still comes out of it is said over the hub's whole value: the items of its queue, and then that value without its first
+//! items, as many as it took in or missed. So a signal of the hub that is taken in changes nothing in what comes out.
 
 pub mod ending;
 pub mod hub;
 pub mod law;
+pub mod leaf;
 pub mod member;
 pub mod refusal;
 
 pub use hub::Hub;
 pub use law::reads_on;
+pub use leaf::HubLeaf;
 pub use member::{Member, Remaining};
 pub use refusal::{AdmitRefusal, HasEnded, HubRefusal, Rejected, TakeInRefusal};
 

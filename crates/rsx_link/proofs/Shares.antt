@@ -1,5 +1,6 @@
 -- The parts of the right to cancel stay one whole.
 use Rattle.std.proofs.Common.{◌≡◌, ℕ, zero, suc, ◌+◌, ◌<◌, ◌≤◌, List, [], ◌∷◌, ◌++◌, set, refl, sym, ap, ◌∙◌, subst, ⊎_elim, arith}
+use Rattle.rsx_types.proofs.Lists.{nil_before, nil_behind}
 use mathlib.Core.Option.{some, some-injective, some-ne-none}
 use lib.ListN.{get_elem?}
 use Rattle.atomic_table.proofs.Lists.{at_set, at_snoc, set_else}
@@ -135,16 +136,8 @@ half_idle v views id at h e = (h.each id v at).idle (halved_none v.parts e)
 pub halved_some : (ns : List ℕ) → (ns ≡ [] → ⊥) → halved ns ≡ [] → ⊥
 halved_some ns has e = has (halved_none ns e)
 
-left_none : (ms ns : List ℕ) → ms ++ ns ≡ [] → ms ≡ []
-left_none [] ns e = refl
-left_none (m ∷ ms) ns e = cc
-
 pub joined_some : (ms ns : List ℕ) → (ms ≡ [] → ⊥) → ms ++ ns ≡ [] → ⊥
-joined_some ms ns has e = has (left_none ms ns e)
-
-right_none : (ms ns : List ℕ) → ms ++ ns ≡ [] → ns ≡ []
-right_none [] ns e = e
-right_none (m ∷ ms) ns e = cc
+joined_some ms ns has e = has (nil_before ms ns e)
 
 -- a seat takes another's parts
 pub shares_join : (views : List View) (id : ℕ) (v : View) (other : ℕ) (w : View) → get_elem? views id ≡ some v → (other ≡ id → ⊥) → get_elem? (set views id (joined v w)) other ≡ some w
@@ -170,8 +163,8 @@ shares_join views id v other w at ne at' h = record {
     both = let mine = h.each id v at in record {
       within = within-append h.depth v.parts w.parts mine.within its.within;
       idle = λ e.
-          let one = mine.idle (left_none v.parts w.parts e) in
-          let two = its.idle (right_none v.parts w.parts e) in
+          let one = mine.idle (nil_before v.parts w.parts e) in
+          let two = its.idle (nil_behind v.parts w.parts e) in
           let lists = total-append cancel_count v.beside (lists_of w) in omega arith;
     }
 

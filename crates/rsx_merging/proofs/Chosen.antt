@@ -1,33 +1,21 @@
 -- An input is picked: the value under the choice, and the counts.
+use Rattle.std.proofs.lemmas.List.{length-set}
 use Rattle.std.proofs.Common.{◌≡◌, ℕ, zero, suc, ◌+◌, ◌<◌, ◌&&◌, Bool, true, false, List, [], ◌∷◌, length, slice_index_or, slice_set, slice_get, Option, Some, None, option_map, IfSome, refl, ap, sym, ◌∙◌, subst, arith}
-use Rattle.rsx_types.specs.declared.note.Note.{Note}
-use Rattle.rsx_types.specs.declared.note.Note.TheVariants.{Nothing, Picks, Ended}
-use Rattle.rsx_types.specs.declared.signal.Cause.{Cause}
-use Rattle.rsx_types.specs.declared.signal.Signal.{Signal}
-use Rattle.rsx_types.specs.declared.signal.Signal.TheVariants.{Next, Complete, Error}
-use Rattle.rsx_types.specs.Notes.{note_then}
-use Rattle.rsx_types.specs.Stream.{Stream}
-use Rattle.rsx_sources.specs.Counts.{CountsStep}
-use Rattle.rsx_sources.specs.Machine.{Incoming, front_of}
-use Rattle.rsx_crossing.specs.declared.tail.Tail.{Tail}
-use Rattle.rsx_crossing.specs.declared.tail.Tail.TheVariants.{Open, Completion, Failure, Taken}
-use Rattle.rsx_crossing.specs.Held.{first_held}
-use Rattle.rsx_crossing.specs.Queued.{is_ended}
+use Rattle.rsx_sources.specs.Prelude.{Note, Picks, Cause, Signal, Next, Complete, Error, note_then, Stream, CountsStep, Incoming, front_of}
+use Rattle.rsx_queued.specs.declared.tail.Tail.{Tail}
+use Rattle.rsx_queued.specs.declared.tail.Tail.TheVariants.{Open, Completion, Failure, Taken}
+use Rattle.rsx_queued.specs.Prelude.{first_held, is_ended, unless_taken, still, is_taken, is_gone, next_signal, without, Gives, IsCounted, is_over, is_empty, has_ending, head_of, tail_of, next_signal_at, done_at, inputs_left, are_gone, AreCounted, may_go}
 use Rattle.rsx_queued.proofs.Counts.{counted_without}
+use Rattle.rsx_queued.proofs.Merged.{item_chosen, completion_chosen, last_chosen, failure_chosen}
+use Rattle.rsx_queued.proofs.Outputs.{empty_is, not_ended}
 use Rattle.rsx_queued.specs.declared.input.QueuedInput.{QueuedInput}
 use Rattle.rsx_queued.specs.declared.output.Output.{Output}
-use Rattle.rsx_queued.specs.declared.output.Output.TheVariants.{Empty, Waiting, Over}
-use Rattle.rsx_queued.specs.Input.{unless_taken, still, is_taken, is_gone, next_signal, without, Gives, IsCounted}
-use Rattle.rsx_queued.specs.Output.{is_over, is_empty, has_ending}
-use Rattle.rsx_choices.proofs.OneChoice.{merge_step, done_stays as completion_stays}
-use Rattle.rsx_choices.specs.Pick.{next_of}
-use Rattle.rsx_choices.specs.Merge.{merge_inputs, unless_failure, signal_first}
-use Rattle.rsx_merging.specs.declared.node.MergeNode.{MergeNode}
-use Rattle.rsx_queued.specs.Values.{head_of, tail_of}
-use Rattle.rsx_queued.specs.Inputs.{next_signal_at, done_at, inputs_left, are_gone, AreCounted}
-use Rattle.rsx_queued.proofs.Changed.{done_stays, not_gone_at, length_set}
+use Rattle.rsx_queued.specs.declared.output.Output.TheVariants.{Empty, Waiting}
+use Rattle.rsx_values.specs.Pick.{next_of}
+use Rattle.rsx_merging.specs.declared.merge_node.MergeNode.{MergeNode}
+use Rattle.rsx_queued.proofs.Changed.{done_stays, not_gone_at}
 use Rattle.rsx_queued.proofs.Picks.{unequal, next_first, next_beside, none_left}
-use Rattle.rsx_merging.specs.Merge.{merge_of, merge_counted, merge_ended, merge_done, may_pick}
+use Rattle.rsx_merging.specs.Merge.{merge_of, merge_counted, merge_ended, merge_done}
 
 -- ---- the choice finds its input
 
@@ -49,24 +37,19 @@ pub record IsPick {T : Type 0} (out : Output T) (qs : List (QueuedInput T)) (i :
   pub gives : Gives old s new
   pub state : new ≡ without old (Some s)
 
--- the value under a choice
-step_at : {T : Type 0} (out : Output T) (qs : List (QueuedInput T)) (i : ℕ) (s : Signal T) (old new : QueuedInput T) → IsPick out qs i s old new → (vs : List (Stream T)) (cs : List ℕ) →
-    merge_inputs (i ∷ cs) (inputs_left 0 qs vs) ≡ signal_first s (merge_inputs cs (unless_failure s (inputs_left 0 (slice_set qs i new) vs)))
-step_at {T} out qs i s old new p vs cs =
+-- the choice takes it
+taken_next : {T : Type 0} (out : Output T) (qs : List (QueuedInput T)) (i : ℕ) (s : Signal T) (old new : QueuedInput T) → IsPick out qs i s old new → (vs : List (Stream T)) → next_of i (inputs_left 0 qs vs) ≡ Some (s, inputs_left 0 (slice_set qs i new) vs)
+taken_next {T} out qs i s old new p vs =
     let P : QueuedInput T → Type 0 = λ q. Gives q s new in
-    merge_step i cs (inputs_left 0 qs vs) (inputs_left 0 (slice_set qs i new) vs) s (next_at i 0 qs i new s vs old (omega arith) p.there (subst P p.was p.gives))
+    next_at i 0 qs i new s vs old (omega arith) p.there (subst P p.was p.gives)
 
 pub item_picked : {T : Type 0} (out out' : Output T) (qs : List (QueuedInput T)) (i : ℕ) (x : T) (old new : QueuedInput T) → IsPick out qs i (Next x) old new → out' ≡ Waiting (Next x) →
     (inc : Incoming T) (further : Note) → merge_of out' (slice_set qs i new) inc further ≡ merge_of out qs inc (note_then (Picks (i ∷ [])) further)
-item_picked out out' qs i x old new p put inc Nothing = refl
-item_picked out out' qs i x old new p put inc (Ended o) = refl
-item_picked out out' qs i x old new p put inc (Picks cs) = rw (put, p.empty) (sym (step_at out qs i (Next x) old new p (inc.first ∷ inc.others) cs))
+item_picked out out' qs i x old new p put inc = item_chosen out out' (inputs_left 0 qs (inc.first ∷ inc.others)) (inputs_left 0 (slice_set qs i new) (inc.first ∷ inc.others)) i x p.empty put (taken_next out qs i (Next x) old new p (inc.first ∷ inc.others))
 
 pub completion_picked : {T : Type 0} (out : Output T) (qs : List (QueuedInput T)) (i : ℕ) (old new : QueuedInput T) → IsPick out qs i Complete old new →
     (inc : Incoming T) (further : Note) → merge_of out (slice_set qs i new) inc further ≡ merge_of out qs inc (note_then (Picks (i ∷ [])) further)
-completion_picked out qs i old new p inc Nothing = refl
-completion_picked out qs i old new p inc (Ended o) = refl
-completion_picked out qs i old new p inc (Picks cs) = rw p.empty (sym (step_at out qs i Complete old new p (inc.first ∷ inc.others) cs))
+completion_picked out qs i old new p inc = completion_chosen out out (inputs_left 0 qs (inc.first ∷ inc.others)) (inputs_left 0 (slice_set qs i new) (inc.first ∷ inc.others)) i p.empty p.empty (taken_next out qs i Complete old new p (inc.first ∷ inc.others))
 
 and_left : (a b : Bool) → a && b ≡ true → a ≡ true
 and_left true b e = refl
@@ -78,39 +61,30 @@ and_right false b e = cc
 
 pub last_picked : {T : Type 0} (out out' : Output T) (qs : List (QueuedInput T)) (i : ℕ) (old new : QueuedInput T) → IsPick out qs i Complete old new → out' ≡ Waiting Complete → are_gone (slice_set qs i new) ≡ true →
     (inc : Incoming T) (further : Note) → merge_of out' (slice_set qs i new) inc further ≡ merge_of out qs inc (note_then (Picks (i ∷ [])) further)
-last_picked out out' qs i old new p put gone inc Nothing = refl
-last_picked out out' qs i old new p put gone inc (Ended o) = refl
-last_picked out out' qs i old new p put gone inc (Picks cs) =
-    rw (put, p.empty) (completion_stays cs ∙ ap (merge_inputs cs) (sym (none_left 0 (slice_set qs i new) (inc.first ∷ inc.others) gone)) ∙ sym (step_at out qs i Complete old new p (inc.first ∷ inc.others) cs))
+last_picked out out' qs i old new p put gone inc =
+    last_chosen out out' (inputs_left 0 qs (inc.first ∷ inc.others)) (inputs_left 0 (slice_set qs i new) (inc.first ∷ inc.others)) i p.empty put (taken_next out qs i Complete old new p (inc.first ∷ inc.others)) (none_left 0 (slice_set qs i new) (inc.first ∷ inc.others) gone)
 
 pub failure_picked : {T : Type 0} (out out' : Output T) (qs qs' : List (QueuedInput T)) (i : ℕ) (c : Cause) (old new : QueuedInput T) → IsPick out qs i (Error c) old new → out' ≡ Waiting (Error c) →
     (inc : Incoming T) (further : Note) → merge_of out' qs' inc further ≡ merge_of out qs inc (note_then (Picks (i ∷ [])) further)
-failure_picked out out' qs qs' i c old new p put inc Nothing = refl
-failure_picked out out' qs qs' i c old new p put inc (Ended o) = refl
-failure_picked out out' qs qs' i c old new p put inc (Picks cs) = rw (put, p.empty) (sym (step_at out qs i (Error c) old new p (inc.first ∷ inc.others) cs))
+failure_picked out out' qs qs' i c old new p put inc = failure_chosen out out' (inputs_left 0 qs (inc.first ∷ inc.others)) (inputs_left 0 (slice_set qs i new) (inc.first ∷ inc.others)) (inputs_left 0 qs' (inc.first ∷ inc.others)) i c p.empty put (taken_next out qs i (Error c) old new p (inc.first ∷ inc.others))
 
 -- ---- what the code knows
 
 -- an input that can be picked is there
-pub there : {T : Type 0} (qs : List (QueuedInput T)) (i asked sent : ℕ) → may_pick (option_map front_of (next_signal_at (slice_get qs i))) asked sent ≡ true → i < length qs
+pub there : {T : Type 0} (qs : List (QueuedInput T)) (i asked sent : ℕ) → may_go (option_map front_of (next_signal_at (slice_get qs i))) asked sent ≡ true → i < length qs
 there [] i asked sent e = cc
 there (q ∷ qs) zero asked sent e = omega arith
 there (q ∷ qs) (suc i) asked sent e = let lt = there qs i asked sent e in omega arith
 
-empty_is : {T : Type 0} (out : Output T) → is_empty out ≡ true → out ≡ Empty
-empty_is Empty e = refl
-empty_is (Waiting s) e = cc
-empty_is Over e = cc
-
 -- the code's facts make a pick
 pub is_pick : {T : Type 0} (out : Output T) (qs : List (QueuedInput T)) (i asked sent : ℕ) (o : Option (Signal T)) (t s : Signal T) (old new : QueuedInput T) →
-    is_empty out && may_pick (option_map front_of (next_signal_at (slice_get qs i))) asked sent ≡ true → old ≡ slice_index_or qs i old → o ≡ next_signal old → new ≡ without old o → IfSome o (λ u. Gives old u new) → o ≡ Some t → t ≡ s → IsPick out qs i s old new
+    is_empty out && may_go (option_map front_of (next_signal_at (slice_get qs i))) asked sent ≡ true → old ≡ slice_index_or qs i old → o ≡ next_signal old → new ≡ without old o → IfSome o (λ u. Gives old u new) → o ≡ Some t → t ≡ s → IsPick out qs i s old new
 is_pick {T} out qs i asked sent o t s old new picks was signal state value is at =
     let whole : o ≡ Some s = is ∙ ap Some at in
     let P : Option (Signal T) → Type 0 = λ z. IfSome z (λ u. Gives old u new) in
     record {
-      empty = empty_is out (and_left (is_empty out) (may_pick (option_map front_of (next_signal_at (slice_get qs i))) asked sent) picks);
-      there = there qs i asked sent (and_right (is_empty out) (may_pick (option_map front_of (next_signal_at (slice_get qs i))) asked sent) picks);
+      empty = empty_is out (and_left (is_empty out) (may_go (option_map front_of (next_signal_at (slice_get qs i))) asked sent) picks);
+      there = there qs i asked sent (and_right (is_empty out) (may_go (option_map front_of (next_signal_at (slice_get qs i))) asked sent) picks);
       was = was;
       signal = sym whole ∙ signal;
       gives = subst P whole value;
@@ -118,10 +92,10 @@ is_pick {T} out qs i asked sent o t s old new picks was signal state value is at
     }
 
 -- an input that can be picked gives a signal
-pub gives_some : {T : Type 0} (out : Output T) (qs : List (QueuedInput T)) (i asked sent : ℕ) (old : QueuedInput T) → is_empty out && may_pick (option_map front_of (next_signal_at (slice_get qs i))) asked sent ≡ true → old ≡ slice_index_or qs i old → next_signal old ≡ None → ⊥
-gives_some {T} out qs i asked sent old picks was none = by_place qs i was (and_right (is_empty out) (may_pick (option_map front_of (next_signal_at (slice_get qs i))) asked sent) picks)
+pub gives_some : {T : Type 0} (out : Output T) (qs : List (QueuedInput T)) (i asked sent : ℕ) (old : QueuedInput T) → is_empty out && may_go (option_map front_of (next_signal_at (slice_get qs i))) asked sent ≡ true → old ≡ slice_index_or qs i old → next_signal old ≡ None → ⊥
+gives_some {T} out qs i asked sent old picks was none = by_place qs i was (and_right (is_empty out) (may_go (option_map front_of (next_signal_at (slice_get qs i))) asked sent) picks)
   where
-    by_place : (qs : List (QueuedInput T)) (i : ℕ) → old ≡ slice_index_or qs i old → may_pick (option_map front_of (next_signal_at (slice_get qs i))) asked sent ≡ true → ⊥
+    by_place : (qs : List (QueuedInput T)) (i : ℕ) → old ≡ slice_index_or qs i old → may_go (option_map front_of (next_signal_at (slice_get qs i))) asked sent ≡ true → ⊥
     by_place [] i was e = cc
     by_place (q ∷ qs) zero was e = cc (sym none ∙ ap next_signal was)
     by_place (q ∷ qs) (suc i) was e = by_place qs i was e
@@ -149,9 +123,6 @@ not_gone_by Taken xs s e = cc
 both : (b : Bool) → b ≡ true → b ≡ false → ⊥
 both b x y = cc
 
-not_ended : {T : Type 0} (out : Output T) → out ≡ Empty → has_ending out ≡ true → ⊥
-not_ended out e h = both (has_ending out) h (ap has_ending e)
-
 done_kept : {T : Type 0} (qs : List (QueuedInput T)) (i j : ℕ) (s : Signal T) (q p : QueuedInput T) → q ≡ slice_index_or qs i q → p ≡ without q (Some s) → done_at (slice_get qs j) ≡ true → done_at (slice_get (slice_set qs i p) j) ≡ true
 done_kept qs i j s q p at is d = done_stays qs i j q p at (λ e. ap (λ z. is_ended z.tail) is ∙ ended_without q s e) d
 
@@ -164,7 +135,7 @@ going_on {T} old new i s q p k ins going left =
       counts = λ still taken sent h. rw ins (record {
         not_over = going;
         some_left = left;
-        few = let few = h.few in rw length_set few;
+        few = let few = h.few in rw length-set few;
         counts = rw k.state (take_counted old.inputs.items i q s taken k.was k.signal h.counts);
       });
       stays_done = λ j d. rw ins (done_kept old.inputs.items i j s q p k.was k.state d);

@@ -2,21 +2,14 @@
 use Rattle.std.proofs.Common.{◌≡◌, ℕ, zero, suc, ◌<◌, ◌≤◌, ◌^◌, false, List, [], ◌∷◌, refl, ap, ◌∙◌, arith}
 use Rattle.std.proofs.Math.ListN.{replicate}
 use Rattle.std.proofs.lemmas.List.{length-replicate}
-use Rattle.rsx_types.specs.declared.note.Note.{Note}
-use Rattle.rsx_types.specs.Stream.{Stream}
-use Rattle.rsx_sources.specs.Machine.{Incoming}
+use Rattle.rsx_sources.specs.Prelude.{Note, Stream, Incoming}
 use Rattle.rsx_queued.proofs.Changed.{fresh_left, fresh_counted}
 use Rattle.rsx_queued.specs.declared.input.QueuedInput.{QueuedInput}
 use Rattle.rsx_queued.specs.declared.output.Output.{Output}
-use Rattle.rsx_queued.specs.declared.output.Output.TheVariants.{Empty}
-use Rattle.rsx_queued.specs.Input.{fresh_input}
-use Rattle.rsx_queued.specs.Output.{is_over, output_then}
-use Rattle.rsx_choices.proofs.OneChoice.{done_stays}
-use Rattle.rsx_choices.specs.Merge.{merge, merge_inputs}
-use Rattle.rsx_queued.specs.Values.{first_values}
-use Rattle.rsx_queued.specs.Inputs.{inputs_left, are_gone, picked}
-use Rattle.rsx_queued.specs.Laws.{picked_same}
-use Rattle.rsx_merging.specs.Merge.{merge_of, first_output, IsGoing}
+use Rattle.rsx_queued.specs.Prelude.{fresh_input, first_output, is_over, output_then, first_values, inputs_left, are_gone, picked, picked_same}
+use Rattle.rsx_values.proofs.OneChoice.{done_stays}
+use Rattle.rsx_values.specs.Merge.{merge, merge_inputs}
+use Rattle.rsx_merging.specs.Merge.{merge_of, IsGoing}
 
 first_then : {T : Type 0} (n : ℕ) (vs : List (Stream T)) (cs : List ℕ) → output_then (first_output n) (merge cs (first_values n vs)) (merge_inputs cs []) ≡ merge cs (first_values n vs)
 first_then zero vs cs = done_stays cs
@@ -44,8 +37,3 @@ fresh_going {T} out qs n p first all some lt h = rw (first, all) (record {
   few = rw length-replicate (omega arith);
   counts = fresh_counted T n p h;
 })
-
--- a merge of some inputs puts out nothing at first
-pub some_inputs : {T : Type 0} (n : ℕ) → (n ≡ 0 → ⊥) → Empty ≡ first_output {T = T} n
-some_inputs zero h = absurd (h refl)
-some_inputs (suc n) h = refl

@@ -1,4 +1,14 @@
+-- Lemmas about lanes.
 pub mod Chosen
+pub mod Coming
+pub mod Concats
+pub mod Copied
 pub mod Fresh
+pub mod Passes
+pub mod Picked
+pub mod Places
 pub mod Rest
+pub mod Rests
+pub mod Taken
 pub mod Takes
+pub mod Turns

@@ -1,29 +1,18 @@
 -- A signal comes in at one of the inputs: the value, and the counts.
-use Rattle.std.proofs.Common.{◌≡◌, ℕ, List, slice_set, [], Option, ap, ◌∙◌}
-use Rattle.rsx_types.specs.declared.note.Note.{Note}
-use Rattle.rsx_types.specs.declared.signal.Signal.{Signal}
-use Rattle.rsx_types.specs.Stream.{Stream, signal_then}
-use Rattle.rsx_sources.specs.Counts.{CountsIn}
-use Rattle.rsx_sources.specs.Machine.{Incoming, in_front}
+use Rattle.std.proofs.Common.{◌≡◌, ℕ, List, slice_set, ap, ◌∙◌}
+use Rattle.std.proofs.lemmas.List.{length-set}
+use Rattle.rsx_sources.specs.Prelude.{Note, Signal, Stream, signal_then, CountsIn, Incoming, in_front}
 use Rattle.rsx_queued.specs.declared.input.QueuedInput.{QueuedInput}
 use Rattle.rsx_queued.specs.declared.output.Output.{Output}
-use Rattle.rsx_queued.specs.Input.{still}
-use Rattle.rsx_queued.specs.Inputs.{picked}
-use Rattle.rsx_queued.specs.Output.{has_ending, output_then}
-use Rattle.rsx_queued.proofs.Changed.{length_set, IsPut, put_left, put_counted, put_not_gone, put_done, put_ends}
-use Rattle.rsx_choices.specs.Pick.{InputLeft}
-use Rattle.rsx_choices.specs.Merge.{merge_inputs}
-use Rattle.rsx_merging.specs.declared.node.MergeNode.{MergeNode}
+use Rattle.rsx_queued.specs.Prelude.{still, merge_behind, has_ending}
+use Rattle.rsx_queued.proofs.Changed.{IsPut, put_left, put_counted, put_not_gone, put_done, put_ends}
+use Rattle.rsx_merging.specs.declared.merge_node.MergeNode.{MergeNode}
 use Rattle.rsx_merging.specs.Merge.{merge_of, merge_counted, merge_ended, merge_done}
-
-of_left : {T : Type 0} → Output T → Note → List (InputLeft T) → Option (Stream T)
-of_left out further is = picked further (λ cs. output_then out (merge_inputs cs is) (merge_inputs cs []))
 
 -- the input at i was `old` and is `new`
 pub took : {T : Type 0} (out : Output T) (qs : List (QueuedInput T)) (i : ℕ) (old new : QueuedInput T) (s : Signal T) → IsPut qs i s old new → ((v : Stream T) → still new v ≡ still old (signal_then s v)) →
     (inc : Incoming T) (further : Note) → merge_of out (slice_set qs i new) inc further ≡ merge_of out qs (in_front i s inc) further
-unfolding of_left
-took out qs i old new s p value inc further = ap (of_left out further) (put_left qs i s old new p value inc)
+took out qs i old new s p value inc further = ap (λ is. merge_behind out is further) (put_left qs i s old new p value inc)
 
 pub counts_in : {T : Type 0} (old new : MergeNode T) (i : ℕ) (a b : QueuedInput T) (s : Signal T) → IsPut old.inputs.items i s a b → new.output ≡ old.output → new.inputs.items ≡ slice_set old.inputs.items i b → CountsIn merge_counted merge_ended merge_done old i s new
 counts_in old new i a b s p out ins =
@@ -32,7 +21,7 @@ counts_in old new i a b s p out ins =
       counts = λ going taken sent h. rw (out, ins) (record {
         not_over = h.not_over;
         some_left = put_not_gone old.inputs.items i s a b p;
-        few = let few = h.few in rw length_set few;
+        few = let few = h.few in rw length-set few;
         counts = put_counted old.inputs.items i s a b taken p h.counts;
       });
       stays_done = λ j d. rw ins (put_done old.inputs.items i s a b p j d);

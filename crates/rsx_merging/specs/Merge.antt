@@ -1,26 +1,16 @@
 -- The merge as a node: the queues of its inputs, what it has put out, and the choices made.
-use Rattle.std.specs.Prelude.{◌≡◌, ℕ, zero, suc, ◌≤◌, ◌^◌, Bool, true, false, ◌&&◌, nat_lt, List, [], ◌∷◌, length, slice_get, Option, Some, None, option_map}
-use Rattle.rsx_types.specs.declared.note.Note.{Note}
-use Rattle.rsx_types.specs.declared.note.Note.TheVariants.{Picks}
-use Rattle.rsx_types.specs.declared.signal.Signal.{Signal}
-use Rattle.rsx_types.specs.declared.signal.Signal.TheVariants.{Complete}
-use Rattle.rsx_types.specs.Meaning.{Meaning}
-use Rattle.rsx_types.specs.Stream.{Stream}
-use Rattle.rsx_sources.specs.Machine.{Incoming, front_of}
+use Rattle.std.specs.Prelude.{◌≡◌, ℕ, ◌≤◌, ◌^◌, Bool, false, ◌&&◌, List, [], ◌∷◌, length, slice_get, Option, option_map}
+use Rattle.rsx_sources.specs.Prelude.{Note, Picks, Signal, Meaning, Stream, Incoming, front_of}
 use Rattle.rsx_sources.specs.declared.machine.Front.{Front}
-use Rattle.rsx_sources.specs.declared.machine.Front.TheVariants.{Item, Completion, Failure}
+use Rattle.rsx_queued.specs.Prelude.{may_go, takes_at, next_signal_at, credits_at, done_at, are_gone, AreCounted, inputs_left, merge_behind, out_signal, is_empty, is_over, has_ending, IsOut}
 use Rattle.rsx_queued.specs.declared.input.QueuedInput.{QueuedInput}
 use Rattle.rsx_queued.specs.declared.output.Output.{Output}
-use Rattle.rsx_queued.specs.declared.output.Output.TheVariants.{Empty, Waiting}
-use Rattle.rsx_queued.specs.Inputs.{takes_at, next_signal_at, credits_at, done_at, are_gone, AreCounted, inputs_left, picked}
-use Rattle.rsx_queued.specs.Output.{out_signal, is_empty, is_over, has_ending, IsOut, output_then}
-use Rattle.rsx_choices.specs.Merge.{merge_inputs}
-use Rattle.rsx_choices.specs.Record.{written}
-use Rattle.rsx_merging.specs.declared.node.MergeNode.{MergeNode}
+use Rattle.rsx_values.specs.Record.{written}
+use Rattle.rsx_merging.specs.declared.merge_node.MergeNode.{MergeNode}
 
 -- what was put out, and then the merge of the inputs under the further choices; behind an ending nothing can be chosen
 abbrev pub merge_of : {T : Type 0} → Output T → List (QueuedInput T) → Incoming T → Note → Option (Stream T)
-merge_of out qs inc further = picked further (λ cs. output_then out (merge_inputs cs (inputs_left 0 qs (inc.first ∷ inc.others))) (merge_inputs cs []))
+merge_of out qs inc further = merge_behind out (inputs_left 0 qs (inc.first ∷ inc.others)) further
 
 abbrev pub merge_comes_out : {T : Type 0} → Meaning T → MergeNode T → Incoming T → Note → Option (Stream T)
 merge_comes_out m n inc further = merge_of n.output n.inputs.items inc further
@@ -34,15 +24,8 @@ merge_shown n = option_map front_of (out_signal n.output)
 abbrev pub merge_takes : {T : Type 0} → MergeNode T → ℕ → Front → Bool
 merge_takes n i f = takes_at (slice_get n.inputs.items i) f
 
--- an item can be picked only where one more may be sent
-abbrev pub may_pick : Option Front → ℕ → ℕ → Bool
-may_pick None asked sent = false
-may_pick (Some Item) asked sent = nat_lt sent asked
-may_pick (Some Completion) asked sent = true
-may_pick (Some (Failure c)) asked sent = true
-
 abbrev pub merge_picks : {T : Type 0} → MergeNode T → ℕ → ℕ → ℕ → Bool
-merge_picks n i asked sent = is_empty n.output && may_pick (option_map front_of (next_signal_at (slice_get n.inputs.items i))) asked sent
+merge_picks n i asked sent = is_empty n.output && may_go (option_map front_of (next_signal_at (slice_get n.inputs.items i))) asked sent
 
 abbrev pub merge_recording : {T : Type 0} → MergeNode T → ℕ → Note
 merge_recording n i = Picks (i ∷ [])
@@ -72,8 +55,3 @@ merge_wanted n i asked sent = credits_at (slice_get n.inputs.items i)
 
 abbrev pub merge_popped : {T : Type 0} → MergeNode T → Signal T → MergeNode T → Type 0
 merge_popped old s new = IsOut old.output s new.output × (old.inputs ≡ new.inputs) × (old.choices ≡ new.choices)
-
--- a merge of no inputs completes at once
-abbrev pub first_output : {T : Type 0} → ℕ → Output T
-first_output zero = Waiting Complete
-first_output (suc n) = Empty

@@ -1,2 +1,6 @@
-pub mod Unfold
+pub mod Endings
 pub mod Inputs
+pub mod Laws
+pub mod Noted
+pub mod Unfold
+pub mod Values

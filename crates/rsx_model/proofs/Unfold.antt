@@ -2,21 +2,10 @@
 use Rattle.std.proofs.Common.{◌≡◌, ℕ, ℤ, ◌+◌, ◌<◌, ◌≤◌, List, [], ◌∷◌, length, get_or, map, nat_le, nat_lt, Option, Some, None, option_map, option_and_then, slice_get, Vec, Global, Box, refl, sym, ap, subst, ◌∙◌, arith}
 use Rattle.std.proofs.lemmas.List.{length-map}
 use Rattle.std.proofs.lemmas.Option.{slice_get-get_or}
-use Rattle.rsx_types.specs.Plain.{plain, listed, range_items}
-use Rattle.rsx_types.specs.Stream.{Stream}
-use Rattle.rsx_types.specs.declared.stage.Stage.{Stage}
-use Rattle.rsx_types.specs.declared.limits.TheConstants.{MOST_ITEMS}
+use Rattle.rsx_values.specs.Prelude.{plain, listed, range_items, Stream, Stage, MOST_ITEMS, concat, merge, flat_map, group_by, window, combine_latest, zip, HubId}
 use Rattle.rsx_model.specs.declared.check.TheConstants.{MOST_DEPTH, MOST_NODES}
 use Rattle.rsx_model.specs.declared.check.BadExpr.{BadExpr}
 use Rattle.rsx_model.specs.declared.check.BadExpr.TheVariants.{Depth, Nodes, Inputs, Number, Hub as NoSuchHub, Length}
-use Rattle.rsx_choices.specs.Concat.{concat}
-use Rattle.rsx_choices.specs.Merge.{merge}
-use Rattle.rsx_lanes.specs.Flat.{flat_map}
-use Rattle.rsx_lanes.specs.Group.{group_by}
-use Rattle.rsx_lanes.specs.Window.{window}
-use Rattle.rsx_joining.specs.Latest.{combine_latest}
-use Rattle.rsx_joining.specs.Zip.{zip}
-use Rattle.rsx_types.specs.declared.names.HubId.{HubId}
 use Rattle.rsx_model.specs.declared.expr.Expr.{Expr}
 use Rattle.rsx_model.specs.declared.expr.Expr.TheOpen.{Expr-F}
 use Rattle.rsx_model.specs.declared.expr.Expr.TheOpen as layer
@@ -134,31 +123,6 @@ Stages T = Vec (Stage T) Global
 abbrev Several : Type 0 → Type 0
 Several T = Vec (Expr T) Global
 
--- the inputs of a node are its children
-pub children_Concat : {T : Type 0} (v : Several T) → children (out-Expr T (Concat v)) ≡ v.items
-children_Concat v = rw outs-Concat refl
-
-pub children_Merge : {T : Type 0} (p : ℕ) (v : Several T) → children (out-Expr T (Merge p v)) ≡ v.items
-children_Merge p v = rw outs-Merge refl
-
-pub children_Zip : {T : Type 0} (p : ℕ) (v : Several T) → children (out-Expr T (Zip p v)) ≡ v.items
-children_Zip p v = rw outs-Zip refl
-
-pub children_Latest : {T : Type 0} (p : ℕ) (v : Several T) → children (out-Expr T (Latest p v)) ≡ v.items
-children_Latest p v = rw outs-Latest refl
-
-pub nodes_Items : {T : Type 0} (v : Listed T) → nodes (Items v) ≡ 1
-nodes_Items v = rw (nodes_out, outs-Items) refl
-
-pub nodes_Range : (T : Type 0) (a : ℤ) (n : ℕ) → nodes {T = T} (Range a n) ≡ 1
-nodes_Range T a n = rw (nodes_out, outs-Range) refl
-
-pub nodes_Hub : (T : Type 0) (h : HubId) → nodes {T = T} (Hub h) ≡ 1
-nodes_Hub T h = rw (nodes_out, outs-Hub) refl
-
-pub nodes_Plain : {T : Type 0} (g : Stage T) (b : Below T) → nodes (Plain g b) ≡ 1 + nodes b.value
-nodes_Plain g b = rw (nodes_out, outs-Plain) (omega arith)
-
 pub nodes_Concat : {T : Type 0} (v : Several T) → nodes (Concat v) ≡ 1 + sum_of (map nodes v.items)
 nodes_Concat v = rw (nodes_out, outs-Concat) refl
 
@@ -171,95 +135,8 @@ nodes_Zip p v = rw (nodes_out, outs-Zip) refl
 pub nodes_Latest : {T : Type 0} (p : ℕ) (v : Several T) → nodes (Latest p v) ≡ 1 + sum_of (map nodes v.items)
 nodes_Latest p v = rw (nodes_out, outs-Latest) refl
 
-pub nodes_Group : {T : Type 0} (f : ℕ) (gs : Stages T) (b : Below T) → nodes (Group f gs b) ≡ 1 + nodes b.value
-nodes_Group f gs b = rw (nodes_out, outs-Group) (omega arith)
-
-pub nodes_Window : {T : Type 0} (n : ℕ) (gs : Stages T) (b : Below T) → nodes (Window n gs b) ≡ 1 + nodes b.value
-nodes_Window n gs b = rw (nodes_out, outs-Window) (omega arith)
-
-pub nodes_Flat : {T : Type 0} (f c : ℕ) (gs : Stages T) (b : Below T) → nodes (Flat f c gs b) ≡ 1 + nodes b.value
-nodes_Flat f c gs b = rw (nodes_out, outs-Flat) (omega arith)
-
-pub nodes_On : {T : Type 0} (k p : ℕ) (b : Below T) → nodes (On k p b) ≡ 1 + nodes b.value
-nodes_On k p b = rw (nodes_out, outs-On) (omega arith)
-
-pub depth_Items : {T : Type 0} (v : Listed T) → depth (Items v) ≡ 1
-depth_Items v = rw (depth_out, outs-Items) refl
-
-pub depth_Range : (T : Type 0) (a : ℤ) (n : ℕ) → depth {T = T} (Range a n) ≡ 1
-depth_Range T a n = rw (depth_out, outs-Range) refl
-
-pub depth_Hub : (T : Type 0) (h : HubId) → depth {T = T} (Hub h) ≡ 1
-depth_Hub T h = rw (depth_out, outs-Hub) refl
-
-pub depth_Plain : {T : Type 0} (g : Stage T) (b : Below T) → depth (Plain g b) ≡ 1 + depth b.value
-depth_Plain g b = rw (depth_out, outs-Plain) (omega arith)
-
-pub depth_Concat : {T : Type 0} (v : Several T) → depth (Concat v) ≡ 1 + max_of (map depth v.items)
-depth_Concat v = rw (depth_out, outs-Concat) refl
-
-pub depth_Merge : {T : Type 0} (p : ℕ) (v : Several T) → depth (Merge p v) ≡ 1 + max_of (map depth v.items)
-depth_Merge p v = rw (depth_out, outs-Merge) refl
-
-pub depth_Zip : {T : Type 0} (p : ℕ) (v : Several T) → depth (Zip p v) ≡ 1 + max_of (map depth v.items)
-depth_Zip p v = rw (depth_out, outs-Zip) refl
-
-pub depth_Latest : {T : Type 0} (p : ℕ) (v : Several T) → depth (Latest p v) ≡ 1 + max_of (map depth v.items)
-depth_Latest p v = rw (depth_out, outs-Latest) refl
-
-pub depth_Group : {T : Type 0} (f : ℕ) (gs : Stages T) (b : Below T) → depth (Group f gs b) ≡ 1 + depth b.value
-depth_Group f gs b = rw (depth_out, outs-Group) (omega arith)
-
-pub depth_Window : {T : Type 0} (n : ℕ) (gs : Stages T) (b : Below T) → depth (Window n gs b) ≡ 1 + depth b.value
-depth_Window n gs b = rw (depth_out, outs-Window) (omega arith)
-
-pub depth_Flat : {T : Type 0} (f c : ℕ) (gs : Stages T) (b : Below T) → depth (Flat f c gs b) ≡ 1 + depth b.value
-depth_Flat f c gs b = rw (depth_out, outs-Flat) (omega arith)
-
-pub depth_On : {T : Type 0} (k p : ℕ) (b : Below T) → depth (On k p b) ≡ 1 + depth b.value
-depth_On k p b = rw (depth_out, outs-On) (omega arith)
-
-pub leaves_Items : {T : Type 0} (v : Listed T) → leaves (Items v) ≡ 0
-leaves_Items v = rw (leaves_out, outs-Items) refl
-
-pub leaves_Range : (T : Type 0) (a : ℤ) (n : ℕ) → leaves {T = T} (Range a n) ≡ 0
-leaves_Range T a n = rw (leaves_out, outs-Range) refl
-
 pub leaves_Hub : (T : Type 0) (h : HubId) → leaves {T = T} (Hub h) ≡ 1
 leaves_Hub T h = rw (leaves_out, outs-Hub) refl
-
-pub leaves_Plain : {T : Type 0} (g : Stage T) (b : Below T) → leaves (Plain g b) ≡ leaves b.value
-leaves_Plain g b = rw (leaves_out, outs-Plain) (omega arith)
-
-pub leaves_Concat : {T : Type 0} (v : Several T) → leaves (Concat v) ≡ sum_of (map leaves v.items)
-leaves_Concat v = rw (leaves_out, outs-Concat) (omega arith)
-
-pub leaves_Merge : {T : Type 0} (p : ℕ) (v : Several T) → leaves (Merge p v) ≡ sum_of (map leaves v.items)
-leaves_Merge p v = rw (leaves_out, outs-Merge) (omega arith)
-
-pub leaves_Zip : {T : Type 0} (p : ℕ) (v : Several T) → leaves (Zip p v) ≡ sum_of (map leaves v.items)
-leaves_Zip p v = rw (leaves_out, outs-Zip) (omega arith)
-
-pub leaves_Latest : {T : Type 0} (p : ℕ) (v : Several T) → leaves (Latest p v) ≡ sum_of (map leaves v.items)
-leaves_Latest p v = rw (leaves_out, outs-Latest) (omega arith)
-
-pub leaves_Group : {T : Type 0} (f : ℕ) (gs : Stages T) (b : Below T) → leaves (Group f gs b) ≡ leaves b.value
-leaves_Group f gs b = rw (leaves_out, outs-Group) (omega arith)
-
-pub leaves_Window : {T : Type 0} (n : ℕ) (gs : Stages T) (b : Below T) → leaves (Window n gs b) ≡ leaves b.value
-leaves_Window n gs b = rw (leaves_out, outs-Window) (omega arith)
-
-pub leaves_Flat : {T : Type 0} (f c : ℕ) (gs : Stages T) (b : Below T) → leaves (Flat f c gs b) ≡ leaves b.value
-leaves_Flat f c gs b = rw (leaves_out, outs-Flat) (omega arith)
-
-pub leaves_On : {T : Type 0} (k p : ℕ) (b : Below T) → leaves (On k p b) ≡ leaves b.value
-leaves_On k p b = rw (leaves_out, outs-On) (omega arith)
-
-pub first_fault_Items : {T : Type 0} (hubs : ℕ) (v : Listed T) → first_fault hubs (Items v) ≡ unless (nat_le (length v.items) MOST_ITEMS) Length
-first_fault_Items hubs v = rw (fault_out, outs-Items) (or_else-nothing _)
-
-pub first_fault_Range : (T : Type 0) (hubs : ℕ) (a : ℤ) (n : ℕ) → first_fault {T = T} hubs (Range a n) ≡ unless (range_fits a n) Number
-first_fault_Range T hubs a n = rw (fault_out, outs-Range) (or_else-nothing _)
 
 pub first_fault_Hub : (T : Type 0) (hubs : ℕ) (h : HubId) → first_fault {T = T} hubs (Hub h) ≡ unless (nat_lt h.0 hubs) NoSuchHub
 first_fault_Hub T hubs h = rw (fault_out, outs-Hub) (or_else-nothing _)
@@ -278,12 +155,6 @@ first_fault_Zip hubs p v = rw (fault_out, outs-Zip) refl
 
 pub first_fault_Latest : {T : Type 0} (hubs p : ℕ) (v : Several T) → first_fault hubs (Latest p v) ≡ or_else (queued_fault p (length v.items)) (first_of (map (first_fault hubs) v.items))
 first_fault_Latest hubs p v = rw (fault_out, outs-Latest) refl
-
-pub first_fault_Group : {T : Type 0} (hubs f : ℕ) (gs : Stages T) (b : Below T) → first_fault hubs (Group f gs b) ≡ or_else (chain_fault gs.items) (first_fault hubs b.value)
-first_fault_Group hubs f gs b = rw (fault_out, outs-Group) (ap (or_else (chain_fault gs.items)) (or_else-nothing _))
-
-pub first_fault_Window : {T : Type 0} (hubs n : ℕ) (gs : Stages T) (b : Below T) → first_fault hubs (Window n gs b) ≡ or_else (window_fault n gs.items) (first_fault hubs b.value)
-first_fault_Window hubs n gs b = rw (fault_out, outs-Window) (ap (or_else (window_fault n gs.items)) (or_else-nothing _))
 
 pub first_fault_Flat : {T : Type 0} (hubs f c : ℕ) (gs : Stages T) (b : Below T) → first_fault hubs (Flat f c gs b) ≡ or_else (flat_fault c gs.items) (first_fault hubs b.value)
 first_fault_Flat hubs f c gs b = rw (fault_out, outs-Flat) (ap (or_else (flat_fault c gs.items)) (or_else-nothing _))
@@ -326,39 +197,6 @@ value_Flat w f c gs b at leaf = rw (value_out, outs-Flat) refl
 
 pub value_On : {T : Type 0} (w : Environment T) (k p : ℕ) (b : Below T) (at leaf : ℕ) → (meant w (On k p b)).value at leaf ≡ quiet (slice_get w.notes at) ((meant w b.value).value (at + 1) leaf)
 value_On w k p b at leaf = rw (value_out, outs-On) refl
-
--- what has to be shown of each variant, where P holds of its children
-pub record ForEach {T : Type 0} (P : Expr T → Type 0) : Type 0 where
-  pub items : (v : Listed T) → P (Items v)
-  pub range : (a : ℤ) (n : ℕ) → P (Range a n)
-  pub hub : (h : HubId) → P (Hub h)
-  pub below : (g : Stage T) (b : Below T) → P b.value → P (Plain g b)
-  pub concat : (v : Several T) → Each P v.items → P (Concat v)
-  pub merge : (p : ℕ) (v : Several T) → Each P v.items → P (Merge p v)
-  pub zip : (p : ℕ) (v : Several T) → Each P v.items → P (Zip p v)
-  pub latest : (p : ℕ) (v : Several T) → Each P v.items → P (Latest p v)
-  pub group : (f : ℕ) (gs : Stages T) (b : Below T) → P b.value → P (Group f gs b)
-  pub window : (n : ℕ) (gs : Stages T) (b : Below T) → P b.value → P (Window n gs b)
-  pub flat : (f c : ℕ) (gs : Stages T) (b : Below T) → P b.value → P (Flat f c gs b)
-  pub on : (k p : ℕ) (b : Below T) → P b.value → P (On k p b)
-
-node_case : {T : Type 0} (P : Expr T → Type 0) → ForEach P → (x : Expr-F T (Expr T)) → Each P (children x) → P (roll-Expr T x)
-node_case P all (layer.Items v) kids = subst P (sym (rolls-Items v)) (all.items v)
-node_case P all (layer.Range a n) kids = subst P (sym (rolls-Range a n)) (all.range a n)
-node_case P all (layer.Hub h) kids = subst P (sym (rolls-Hub h)) (all.hub h)
-node_case P all (layer.Plain g b) kids = subst P (sym (rolls-Plain g b)) (all.below g b kids.0)
-node_case P all (layer.Concat v) kids = subst P (sym (rolls-Concat v)) (all.concat v kids)
-node_case P all (layer.Merge p v) kids = subst P (sym (rolls-Merge p v)) (all.merge p v kids)
-node_case P all (layer.Zip p v) kids = subst P (sym (rolls-Zip p v)) (all.zip p v kids)
-node_case P all (layer.Latest p v) kids = subst P (sym (rolls-Latest p v)) (all.latest p v kids)
-node_case P all (layer.Group f gs b) kids = subst P (sym (rolls-Group f gs b)) (all.group f gs b kids.0)
-node_case P all (layer.Window n gs b) kids = subst P (sym (rolls-Window n gs b)) (all.window n gs b kids.0)
-node_case P all (layer.Flat f c gs b) kids = subst P (sym (rolls-Flat f c gs b)) (all.flat f c gs b kids.0)
-node_case P all (layer.On k p b) kids = subst P (sym (rolls-On k p b)) (all.on k p b kids.0)
-
--- what holds of each variant, where it holds of the children, holds of every expression
-pub by_variant : {T : Type 0} (P : Expr T → Type 0) → ForEach P → (e : Expr T) → P e
-by_variant {T} P all = by_children P (λ e kids. subst P (roll-out-Expr T e) (node_case P all (out-Expr T e) kids))
 
 -- ---- the size of what an expression means
 
@@ -450,26 +288,10 @@ is_below n hubs e = grind arith
 pub hub_there : (T : Type 0) (hubs : ℕ) (h : HubId) → first_fault {T = T} hubs (Hub h) ≡ None → h.0 < hubs
 hub_there T hubs h e = is_below h.0 hubs (sym (first_fault_Hub T hubs h) ∙ e)
 
--- and over no hubs each one is refused
-pub no_hub_there : (T : Type 0) (h : HubId) → first_fault {T = T} 0 (Hub h) ≡ None → ⊥
-no_hub_there T h e = omega (arith, hub_there T 0 h e)
-
 pub joined_there : {T : Type 0} (w : Environment T) (hub leaf : ℕ) (v : Stream T) → slice_get w.hubs hub ≡ Some v → leaf < length w.joins → joined_value w hub leaf ≡ Some (behind (get_or w.joins leaf 0) v)
 joined_there w hub leaf v is within = rw (slice_get-get_or w.joins leaf 0 within, is) refl
 
 -- ---- what an operator stands over
-
--- isn't refused where the operator isn't
-pub fault_below : {T : Type 0} (hubs : ℕ) (g : Stage T) (b : Below T) → first_fault hubs (Plain g b) ≡ None → first_fault hubs b.value ≡ None
-fault_below hubs g b h = (or_none (unless (stage_fits g) Number) (first_fault hubs b.value) (sym (first_fault_Plain hubs g b) ∙ h)).1
-
--- the same of what stands under a `groupBy`, with a chain within its limits
-pub fault_Group : {T : Type 0} (hubs f : ℕ) (gs : Stages T) (b : Below T) → first_fault hubs (Group f gs b) ≡ None → (chain_fault gs.items ≡ None) × (first_fault hubs b.value ≡ None)
-fault_Group hubs f gs b h = or_none _ _ (sym (first_fault_Group hubs f gs b) ∙ h)
-
--- the same of what stands under a `window`, with a size and a chain within their limits
-pub fault_Window : {T : Type 0} (hubs n : ℕ) (gs : Stages T) (b : Below T) → first_fault hubs (Window n gs b) ≡ None → (window_fault n gs.items ≡ None) × (first_fault hubs b.value ≡ None)
-fault_Window hubs n gs b h = or_none _ _ (sym (first_fault_Window hubs n gs b) ∙ h)
 
 -- the same of what stands under a `flatMap`, with a concurrency and a chain within their limits
 pub fault_Flat : {T : Type 0} (hubs f c : ℕ) (gs : Stages T) (b : Below T) → first_fault hubs (Flat f c gs b) ≡ None → (flat_fault c gs.items ≡ None) × (first_fault hubs b.value ≡ None)
@@ -480,13 +302,6 @@ pub fault_On : {T : Type 0} (hubs k p : ℕ) (b : Below T) → first_fault hubs 
 fault_On hubs k p b h = or_none _ _ (sym (first_fault_On hubs k p b) ∙ h)
 
 -- ---- what a node of several inputs stands over
-
--- none of the inputs is refused where none of the list is
-pub none_at_fault : {T : Type 0} (hubs : ℕ) (es : List (Expr T)) → first_of (map (first_fault hubs) es) ≡ None → Each (λ e. first_fault hubs e ≡ None) es
-none_at_fault hubs [] h = tt
-none_at_fault hubs (e ∷ es) h =
-    let both = or_none (first_fault hubs e) (first_of (map (first_fault hubs) es)) h in
-    (both.0, none_at_fault hubs es both.1)
 
 -- nothing is wrong with the children of an expression that isn't refused
 pub fault_children : {T : Type 0} (hubs : ℕ) (e : Expr T) → first_fault hubs e ≡ None → first_of (map (first_fault hubs) (children (out-Expr T e))) ≡ None

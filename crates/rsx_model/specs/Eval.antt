@@ -3,15 +3,7 @@ use Rattle.std.specs.Prelude.{ℕ, ◌+◌, List, [], ◌∷◌, map, drop, Opti
 pub use Rattle.rsx_types.specs.Stream.{Stream}
 pub use Rattle.rsx_types.specs.Meaning.{Meaning}
 pub use Rattle.rsx_types.specs.Plain.{plain, listed, range_items}
-use Rattle.rsx_choices.specs.Concat.{concat}
-use Rattle.rsx_choices.specs.Merge.{merge}
-use Rattle.rsx_lanes.specs.Flat.{flat_map}
-use Rattle.rsx_lanes.specs.Group.{group_by}
-use Rattle.rsx_lanes.specs.Window.{window}
-use Rattle.rsx_joining.specs.Latest.{combine_latest}
-use Rattle.rsx_joining.specs.Zip.{zip}
-use Rattle.rsx_types.specs.declared.note.Note.{Note}
-use Rattle.rsx_types.specs.declared.note.Note.TheVariants.{Nothing, Picks, Ended}
+use Rattle.rsx_values.specs.Prelude.{concat, merge, flat_map, group_by, window, combine_latest, zip, Note, Nothing, Picks, Ended}
 use Rattle.rsx_model.specs.declared.expr.Expr.{Expr}
 use Rattle.rsx_model.specs.declared.expr.Expr.TheOpen.{Expr-F, Items, Range, Hub, Plain, Concat, Merge, Zip, Latest, Group, Window, Flat, On}
 use Rattle.rsx_model.specs.declared.expr.Expr.TheFolds.{fold-Expr}

@@ -1,4 +1,8 @@
 -- Definitions that contracts cite.
-pub mod Shape
+pub mod Answer
 pub mod Check
 pub mod Eval
+pub mod Kinds
+pub mod Laws
+pub mod Region
+pub mod Shape

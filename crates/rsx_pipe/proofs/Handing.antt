@@ -1,18 +1,11 @@
 -- A signal of a hub is handed to the nodes of a part.
-use Rattle.std.proofs.Common.{◌≡◌, ℕ, zero, suc, ◌+◌, true, false, List, [], ◌∷◌, ◌++◌, length, length-append, option_map, slice_get, if◌then◌else◌, refl, ap, sym, ◌∙◌, subst, arith, add-zero, append_assoc, Option, Some}
-use Rattle.std.proofs.lemmas.List.{append-nil}
-use Rattle.rsx_types.specs.Notes.{notes_then}
-use Rattle.rsx_types.specs.Stream.{Stream, ended_by, signal_then, signals_then}
-use Rattle.rsx_types.specs.declared.signal.Ending.{Ending}
-use Rattle.rsx_types.specs.declared.signal.Ending.TheVariants.{Open, Done, Failed}
-use Rattle.rsx_types.specs.declared.signal.Signal.{Signal}
-use Rattle.rsx_types.specs.declared.signal.Signal.TheVariants.{Next, Complete, Error}
-use Rattle.rsx_sources.specs.Reading.{IsNextAt}
-use Rattle.rsx_node.specs.Any.{any_machine}
-use Rattle.rsx_tree.specs.Edges.{edge_view, is_live}
-use Rattle.rsx_tree.specs.Handed.{IsHanded as IsTreeHanded, IsHandedOut, IsNextOf, counts_after, is_room_for, times}
+use Rattle.std.proofs.Common.{◌≡◌, ℕ, zero, suc, ◌+◌, true, false, List, [], ◌∷◌, length, option_map, slice_get, if◌then◌else◌, refl, ap, sym, ◌∙◌, subst, arith, add-zero, append_assoc, Option, Some}
+use Rattle.std.proofs.lemmas.List.{append-nil, length_push}
+use Rattle.rsx_types.proofs.Lists.{slice_get_behind}
+use Rattle.rsx_sources.specs.Prelude.{notes_then, Stream, ended_by, signal_then, signals_then, Ending, Open, Done, Failed, Signal, Next, Complete, Error, IsNextAt}
+use Rattle.rsx_kinds.specs.Any.{any_machine}
+use Rattle.rsx_tree.specs.Prelude.{edge_view, is_live, IsHanded as IsTreeHanded, IsHandedOut, IsNextOf, counts_after, is_room_for, times, IsTreeReadAt, count_before}
 use Rattle.rsx_tree.specs.Handed as Tree
-use Rattle.rsx_tree.specs.Reads.{IsTreeReadAt, count_before}
 use Rattle.rsx_tree.specs.declared.edge.Edge.{Edge}
 use Rattle.rsx_tree.specs.declared.edge.EdgeState.{EdgeState}
 use Rattle.rsx_tree.specs.declared.edge.EdgeState.TheVariants.{Live, Ended, Closed}
@@ -56,9 +49,6 @@ handed_values {T} zero s (v ∷ vs) (m ∷ ms) o =
 handed_values (suc n) s (v ∷ vs) [] o = ap (λ w. w ∷ values_then (with_signal_at n s vs) []) (sym (none_value v)) ∙ ap (λ l. published_then v (ended_by Open) ∷ l) (handed_values n s vs [] o)
 handed_values (suc n) s (v ∷ vs) (m ∷ ms) o = ap (λ l. published_then v m ∷ l) (handed_values n s vs ms o)
 
-length_last : {A : Type 0} (xs : List A) (x : A) → length (xs ++ x ∷ []) ≡ length xs + 1
-length_last xs x = length-append xs (x ∷ [])
-
 next_count : (e : Ending) (n : ℕ) → count_before e (n + 1) ≡ option_map suc (count_before e n)
 next_count Open n = ap Some (one_more n)
   where
@@ -72,21 +62,17 @@ handed_counts : {T : Type 0} (n : ℕ) (s : Signal T) (vs : List (Stream T)) →
 handed_counts n (Next x) [] = refl
 handed_counts n Complete [] = refl
 handed_counts n (Error c) [] = refl
-handed_counts zero (Next x) (v ∷ vs) = ap (λ k. k ∷ counts_in vs) (ap (count_before v.ending) (length_last v.items x) ∙ next_count v.ending (length v.items))
+handed_counts zero (Next x) (v ∷ vs) = ap (λ k. k ∷ counts_in vs) (ap (count_before v.ending) (length_push v.items x) ∙ next_count v.ending (length v.items))
 handed_counts zero Complete (v ∷ vs) = refl
 handed_counts zero (Error c) (v ∷ vs) = refl
 handed_counts (suc n) (Next x) (v ∷ vs) = ap (λ l. count_before v.ending (length v.items) ∷ l) (handed_counts n (Next x) vs)
 handed_counts (suc n) Complete (v ∷ vs) = ap (λ l. count_before v.ending (length v.items) ∷ l) (handed_counts n Complete vs)
 handed_counts (suc n) (Error c) (v ∷ vs) = ap (λ l. count_before v.ending (length v.items) ∷ l) (handed_counts n (Error c) vs)
 
-behind_all : {A : Type 0} (xs : List A) (x : A) (more : List A) → slice_get (xs ++ x ∷ more) (length xs) ≡ Some x
-behind_all [] x more = refl
-behind_all (y ∷ ys) x more = behind_all ys x more
-
 next_of : {T : Type 0} (s : Signal T) (v m : Stream T) → v.ending ≡ Open → IsNextAt (length v.items) (published_then v (signal_then s m)) s
 next_of {T} (Next x) v m o =
     let P : Ending → Type 0 = λ e. slice_get (more_after e v (signal_then (Next x) m)).items (length v.items) ≡ Some x in
-    subst P (sym o) (behind_all v.items x m.items)
+    subst P (sym o) (slice_get_behind v.items x m.items)
 next_of {T} Complete v m o =
     let P : Ending → Type 0 = λ e. (length (more_after e v (ended_by Done)).items ≡ length v.items) × ((more_after e v (ended_by Done)).ending ≡ Done) in
     subst P (sym o) (ap length (append-nil v.items), refl)

@@ -1,6 +1,6 @@
 -- Lemmas about parts.
-pub use Rattle.rsx_build.proofs.Rows
-pub use Rattle.rsx_node.proofs.Room
+pub use Rattle.rsx_kinds.proofs.Rows
+pub use Rattle.rsx_kinds.proofs.Room
 pub mod Handing
 pub mod Parts
 pub mod Signals

@@ -1,25 +1,20 @@
 -- Parts that have just begun, and what is delivered where a part is idle.
-use Rattle.std.proofs.Common.{◌≡◌, inl, inr, ℕ, zero, suc, ◌+◌, ◌-◌, ◌<◌, ◌≤◌, min, Bool, true, false, ◌&&◌, List, [], ◌∷◌, ◌++◌, length, length-append, take, map, option_map, Option, Some, None, Result, Ok, Err, IfOk, refl, ap, sym, ◌∙◌, subst, arith, append_assoc}
+use Rattle.std.proofs.Common.{◌≡◌, inl, inr, ℕ, suc, ◌+◌, ◌-◌, ◌<◌, ◌≤◌, min, Bool, true, false, ◌&&◌, List, [], ◌∷◌, ◌++◌, length, length-append, take, map, option_map, Option, Some, None, Result, Ok, Err, IfOk, refl, ap, sym, ◌∙◌, subst, arith, append_assoc}
 use Rattle.std.proofs.lemmas.Bool.Decides.{nat_tests}
-use Rattle.std.proofs.lemmas.List.{append-nil, take_all}
+use Rattle.std.proofs.lemmas.List.{append-nil, take_all, take_at}
+use Rattle.std.proofs.lemmas.Bool.{both_ways, cases_lt}
+use Rattle.std.proofs.lemmas.Option.{same_Some}
+use Rattle.rsx_types.proofs.Options.{none_from_no_some}
+use Rattle.rsx_types.proofs.Lists.{slice_get_behind}
 use Rattle.rsx_model.specs.declared.check.TheConstants.{MOST_NODES}
-use Rattle.rsx_types.specs.declared.limits.TheConstants.{CAPACITY}
+use Rattle.rsx_sources.specs.Prelude.{CAPACITY, Meaning, unchosen, Stream, ended_by, item_then, signals_then, Ending, Open, Done, Failed, Signal, Next, Complete, Error, front_of}
 use Rattle.rsx_model.specs.declared.expr.Expr.{Expr}
-use Rattle.rsx_types.specs.Meaning.{Meaning}
-use Rattle.rsx_types.specs.Notes.{unchosen}
-use Rattle.rsx_types.specs.Stream.{Stream, ended_by, item_then, signals_then}
-use Rattle.rsx_types.specs.declared.signal.Ending.{Ending}
-use Rattle.rsx_types.specs.declared.signal.Ending.TheVariants.{Open, Done, Failed}
-use Rattle.rsx_types.specs.declared.signal.Signal.{Signal}
-use Rattle.rsx_types.specs.declared.signal.Signal.TheVariants.{Next, Complete, Error}
-use Rattle.rsx_sources.specs.Machine.{front_of}
 use Rattle.rsx_hub.specs.Hub.{HubState, HasTakenIn, BeginsWith}
 use Rattle.rsx_hub.specs.Member.{ending_taken}
 use Rattle.rsx_hub.specs.Waiting.{is_open}
-use Rattle.rsx_build.specs.Built.{IsBuilt, AreBegun, StandAt, counts_of, new_joins}
-use Rattle.rsx_tree.specs.Reads.{IsTreeReadAt, count_before}
+use Rattle.rsx_kinds.specs.Built.{IsBuilt, AreBegun, StandAt, counts_of, new_joins}
+use Rattle.rsx_tree.specs.Prelude.{IsTreeReadAt, count_before, edge_view, is_live, station_of, size, can_ask_in, can_send_in, can_pick_in, can_row_in}
 use Rattle.rsx_pipe.specs.Published.{AreTaken, IsTaken}
-use Rattle.rsx_tree.specs.Edges.{edge_view, is_live}
 use Rattle.rsx_pipe.specs.Output.{counts_in, items_in, IsUnended, more_after, published_then, values_then}
 use Rattle.rsx_pipe.specs.Part.{PartStands, IsMoved, IsQuiet, HasReadAll, IsDelivered, IsServed, HasEnded, all_edges, send_enabled, has_room, evaluated}
 use Rattle.rsx_pipe.specs.Tree.{comes_out, notes_of, offers, can_ask, can_send, can_go, IsAllClosed, IsIdle, IsBalanced, IsWithin, IsStill}
@@ -29,24 +24,18 @@ use Rattle.rsx_tree.specs.declared.edge.EdgeState.TheVariants.{Live, Closed, End
 use Rattle.rsx_pipe.specs.Part.{Part}
 use Rattle.rsx_rooted.specs.declared.rooted.Pumped.{Pumped}
 use Rattle.rsx_rooted.specs.declared.rooted.Pumped.TheVariants.{Idle, Budget}
-use Rattle.rsx_node.specs.Any.{any_machine}
-use Rattle.rsx_tree.specs.Stepped.{station_of}
+use Rattle.rsx_kinds.specs.Any.{any_machine}
 use Rattle.rsx_tree.proofs.Effects.{length_edges}
-use Rattle.rsx_node.specs.TreeLaws.{tree_ending_waits, tree_settles}
-use Rattle.rsx_node.proofs.Rests.{any_rests}
+use Rattle.rsx_kinds.specs.TreeLaws.{tree_ending_waits, tree_settles}
+use Rattle.rsx_kinds.proofs.Rests.{any_rests}
 use Rattle.rsx_tree.proofs.Rests.{tree_rests}
 use Rattle.rsx_pipe.proofs.Trees.{unchosen_tree}
-use Rattle.rsx_tree.specs.Inputs.{size, can_ask_in, can_send_in}
-use Rattle.rsx_tree.specs.Stepped.{can_pick_in, can_row_in}
-use Rattle.rsx_tree.proofs.Idles.{can_pass_live, live_still, place_none, station_none, less_or_more}
+use Rattle.rsx_tree.proofs.Idles.{can_pass_live, live_still, place_none, station_none}
 use Rattle.rsx_pipe.proofs.Signals.{prefix_of_orderly, cut_value}
 use Rattle.rsx_rooted.proofs.Numbers.{above_zero, suc_minus}
 use Rattle.rsx_rooted.proofs.Parts as OfAny
-use Rattle.rsx_rooted.proofs.Trees.{get_behind, unchosen_notes, notes_then-unchosen}
+use Rattle.rsx_rooted.proofs.Trees.{unchosen_notes, notes_then-unchosen}
 use Rattle.rsx_pipe.proofs.Trees.{notes_then-unrecorded}
-
-never : (b : Bool) → b ≡ true → b ≡ false → ⊥
-never b x y = cc
 
 -- ---- a part that has just begun
 
@@ -57,7 +46,7 @@ stands_at before (n ∷ ns) =
     let at : length (before ++ n ∷ []) ≡ length before + 1 = length-append before (n ∷ []) in
     let P : List ℕ → Type 0 = λ l. StandAt l (length before + 1) ns in
     let Q : ℕ → Type 0 = λ k. StandAt ((before ++ n ∷ []) ++ ns) k ns in
-    (get_behind before ns n, subst P all (subst Q at (stands_at (before ++ n ∷ []) ns)))
+    (slice_get_behind before n ns, subst P all (subst Q at (stands_at (before ++ n ∷ []) ns)))
 
 -- a value that begins with what a hub took in
 begun_one : {T : Type 0} (h : HubState T) (v m : Stream T) → IsTaken h v → (taken : List T) × HasTakenIn h taken × BeginsWith h taken (published_then v m)
@@ -143,7 +132,7 @@ few_below : {T : Type 0} (part : Part T) → length (all_edges part) ≤ MOST_NO
 few_below part few = let len = length_edges part.tree.inputs in omega (arith, len, few)
 
 idle_tree : {T : Type 0} (m : Meaning T) (part : Part T) (queue : List (Signal T)) → IsQuiet m part queue → length (all_edges part) ≤ MOST_NODES → IsIdle m part.tree part.root.demand.asked part.root.demand.sent
-idle_tree {T} m part queue q few at lt = elim (less_or_more at (size part.tree.inputs)) [
+idle_tree {T} m part queue q few at lt = elim (cases_lt at (size part.tree.inputs)) [
   | inl w ↦
       let small : size part.tree.inputs < MOST_NODES = few_below part few in
       let a = q (Ask (at + 1)) (omega (arith, w, small)) in
@@ -164,15 +153,11 @@ idle_tree {T} m part queue q few at lt = elim (less_or_more at (size part.tree.i
 still_root : {T : Type 0} (m : Meaning T) (part : Part T) (queue : List (Signal T)) → IsQuiet m part queue → IsStill (station_of part.tree (edge_view part.root) 0)
 still_root m part queue q = ((λ input l. q (Pick 0 input) (omega arith, l)), q (Row 0) (omega arith))
 
-no_signal : {A : Type 0} (o : Option A) → ((a : A) → o ≡ Some a → ⊥) → o ≡ None
-no_signal None h = refl
-no_signal (Some a) h = absurd (h a refl)
-
 -- over a live root edge with room behind it, of which more is asked than went, nothing more comes
 nothing_more : {T : Type 0} (m : Meaning T) (hubs : List (Stream T)) (part : Part T) (queue : List (Signal T)) → IsQuiet m part queue → part.root.state ≡ Live → length queue < CAPACITY → IsBalanced part.tree part.root.demand.sent → length (all_edges part) ≤ MOST_NODES → IsWithin part.tree → HasReadAll m hubs part → part.root.demand.sent < part.root.demand.asked →
     comes_out m hubs (map unchosen (notes_of part.tree)) part.tree 0 ≡ Some (ended_by Open)
 nothing_more {T} m hubs part queue q live room b few w read less =
-    tree_rests any_machine m (tree_ending_waits m) (tree_settles m) (any_rests m) hubs (map unchosen (notes_of part.tree)) part.tree part.root.demand.asked part.root.demand.sent (idle_tree m part queue q few) (live_still any_machine part.root part.tree.machine can (still_root m part queue q)) b less (let k = few_below part few in omega (arith, k)) w (read live) (unchosen_tree part.tree) (no_signal (offers m part.tree) silent)
+    tree_rests any_machine m (tree_ending_waits m) (tree_settles m) (any_rests m) hubs (map unchosen (notes_of part.tree)) part.tree part.root.demand.asked part.root.demand.sent (idle_tree m part queue q few) (live_still any_machine part.root part.tree.machine can (still_root m part queue q)) b less (let k = few_below part few in omega (arith, k)) w (read live) (unchosen_tree part.tree) (none_from_no_some (offers m part.tree) silent)
   where
     can : is_live part.root.state ≡ true
     can = ap is_live live
@@ -181,16 +166,7 @@ nothing_more {T} m hubs part queue q live room b few w read less =
     silent s offered =
         let r : has_room queue ≡ true = grind (arith, nat_tests, room) in
         let goes : send_enabled m part queue 0 ≡ true = rw (r, offered) (can_pass_live (edge_view part.root) (front_of s) can less) in
-        never (send_enabled m part queue 0) goes (q (Send 0) (omega arith))
-
-take_front : {A : Type 0} (xs rest : List A) (n : ℕ) → n ≡ length xs → take n (xs ++ rest) ≡ xs
-take_front [] rest n e = rw e refl
-take_front (x ∷ xs) rest zero e = absurd (omega (arith, e))
-take_front (x ∷ xs) rest (suc n) e = ap (λ l. x ∷ l) (take_front xs rest n (omega (arith, e)))
-
-pub values_then-none : {T : Type 0} (published : List (Stream T)) → values_then published [] ≡ published
-values_then-none [] = refl
-values_then-none (v ∷ vs) = ap (λ l. v ∷ l) (values_then-none vs)
+        both_ways (send_enabled m part queue 0) (q (Send 0) (omega arith)) goes
 
 more_again : {T : Type 0} (d e : Ending) (xs ys : List T) (k : Stream T) →
     published_then (more_after d (record { items = xs; ending = d }) (record { items = ys; ending = e })) k ≡ more_after d (record { items = xs; ending = d }) (more_after e (record { items = ys; ending = e }) k)
@@ -223,9 +199,6 @@ unended_then (Next x ∷ ss) u = ap (item_then x) (unended_then ss u)
 unended_then (Complete ∷ ss) u = absurd u
 unended_then (Error c ∷ ss) u = absurd u
 
-some_same : {A : Type 0} (a b : A) → Some a ≡ Some b → a ≡ b
-some_same a b e = cc
-
 -- all that was asked for went
 served_all : {T : Type 0} (m : Meaning T) (published : List (Stream T)) (part : Part T) (e : Expr T) (joins : List ℕ) (output : List (Signal T)) → part.root.demand.asked ≤ part.root.demand.sent → PartStands m published part e joins output → (more : List (Stream T)) (v : Stream T) → evaluated m (values_then published more) joins e (notes_of part.tree) ≡ Some v → IsServed part output v
 served_all m published part e joins output full h more v x =
@@ -236,7 +209,7 @@ served_all m published part e joins output full h more v x =
     let longer : length v.items ≡ length (items_in output) + length p.0 = ap length (sym p.1) ∙ length-append (items_in output) p.0 in
     let least : min part.root.demand.asked (length v.items) ≡ length (items_in output) = omega (arith, count, longer) in
     record {
-      items = sym (ap (λ l. take (min part.root.demand.asked (length v.items)) l) (sym p.1) ∙ take_front (items_in output) p.0 (min part.root.demand.asked (length v.items)) least);
+      items = sym (ap (λ l. take (min part.root.demand.asked (length v.items)) l) (sym p.1) ∙ take_at (items_in output) p.0 (min part.root.demand.asked (length v.items)) (sym least));
       ending = λ less _. absurd (omega (arith, less, count, longer));
     }
 
@@ -244,7 +217,7 @@ served_all m published part e joins output full h more v x =
 served_whole : {T : Type 0} (m : Meaning T) (published : List (Stream T)) (part : Part T) (e : Expr T) (joins : List ℕ) (output : List (Signal T)) → part.root.state ≡ Live → PartStands m published part e joins output → (more : List (Stream T)) (v : Stream T) → comes_out m (values_then published more) (map unchosen (notes_of part.tree)) part.tree 0 ≡ Some (ended_by Open) → evaluated m (values_then published more) joins e (notes_of part.tree) ≡ Some v → IsServed part output v
 served_whole m published part e joins output live h more v none x =
     let whole : v ≡ record { items = items_in output; ending = Open } =
-    some_same v (signals_then output (ended_by Open)) (sym (value_now m published more part e joins output v h x) ∙ ap (option_map (signals_then output)) none) ∙ unended_then output (h.unended live) in
+    same_Some v (signals_then output (ended_by Open)) (sym (value_now m published more part e joins output v h x) ∙ ap (option_map (signals_then output)) none) ∙ unended_then output (h.unended live) in
     let within = part.root.demand.covered in
     let counted = h.counted in
     let all : items_in output ≡ v.items = sym (ap (λ w. w.items) whole) in
@@ -255,7 +228,7 @@ served_whole m published part e joins output live h more v none x =
     }
 
 served_live : {T : Type 0} (m : Meaning T) (published : List (Stream T)) (part : Part T) (queue : List (Signal T)) (e : Expr T) (joins : List ℕ) (output : List (Signal T)) → IsQuiet m part queue → part.root.state ≡ Live → length queue < CAPACITY → length (all_edges part) ≤ MOST_NODES → IsWithin part.tree → PartStands m published part e joins output → (more : List (Stream T)) (v : Stream T) → HasReadAll m (values_then published more) part → evaluated m (values_then published more) joins e (notes_of part.tree) ≡ Some v → IsServed part output v
-served_live m published part queue e joins output q live room few w h more v read x = elim (less_or_more part.root.demand.sent part.root.demand.asked) [
+served_live m published part queue e joins output q live room few w h more v read x = elim (cases_lt part.root.demand.sent part.root.demand.asked) [
   | inl less ↦ served_whole m published part e joins output live h more v (nothing_more m (values_then published more) part queue q live room (h.balance live) few w read less) x
   | inr full ↦ served_all m published part e joins output full h more v x
 ]

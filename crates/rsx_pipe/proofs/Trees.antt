@@ -1,32 +1,12 @@
--- The tree of a part: choices, and closed trees.
-use Rattle.std.proofs.Common.{◌≡◌, inl, inr, List, [], ◌∷◌, length, map, refl, ap, arith, Option, Some, None}
-use Rattle.rsx_types.specs.Notes.{notes_then, unchosen}
-use Rattle.rsx_types.specs.declared.note.Note.{Note}
-use Rattle.rsx_sources.specs.Reading.{Reading, IsBehind}
-use Rattle.rsx_node.specs.Any.{TreeNode, any_machine}
-use Rattle.rsx_build.specs.Built.{AllUnrecorded}
-use Rattle.rsx_types.specs.Stream.{Stream}
-use Rattle.rsx_tree.specs.declared.inputs.Inputs.{Inputs, End, More'}
-use Rattle.rsx_tree.specs.Reads.{IsReadAt, IsRowReadAt, IsTreeReadAt}
-use Rattle.rsx_tree.specs.Residual.{IsRowBehind, IsTreeBehind}
+-- The tree of a part: what its nodes recorded, and choices.
+use Rattle.std.proofs.Common.{◌≡◌, List, [], ◌∷◌, length, map, refl, ap, arith}
+use Rattle.rsx_sources.specs.Prelude.{notes_then, unchosen, Note}
+use Rattle.rsx_kinds.specs.Any.{any_machine}
+use Rattle.rsx_kinds.specs.Built.{AllUnrecorded}
 use Rattle.rsx_tree.specs.Tree.{IsUnchosen}
-pub use Rattle.rsx_rooted.proofs.Trees.{unchosen_notes, note_then-unchosen, notes_then-unchosen}
+pub use Rattle.rsx_rooted.proofs.Trees.{unchosen_notes, notes_then-unchosen}
 use Rattle.rsx_rooted.proofs.Trees as OfAny
 use Rattle.rsx_pipe.specs.Tree.{AnyTree, notes_of}
-
--- ---- hubs
-
-unread : {T : Type 0} (inboxes hubs : List (Stream T)) (o : Option Reading) → IsReadAt [] o → IsBehind o inboxes hubs
-unread inboxes hubs None h = tt
-unread inboxes hubs (Some r) h = cc
-
-row_unread : {T : Type 0} (inboxes hubs : List (Stream T)) (t : Inputs (TreeNode T)) → IsRowReadAt any_machine [] t → IsRowBehind any_machine inboxes hubs t
-row_unread inboxes hubs End h = tt
-row_unread inboxes hubs (More' e n p below q beside) h = (elim h.0 [ inl dead ↦ inl dead | inr k ↦ inr (unread inboxes hubs (any_machine.reads n) k.0, row_unread inboxes hubs below k.1) ], row_unread inboxes hubs beside h.1)
-
--- where no node reads a hub, nothing that stands in an inbox matters
-pub tree_unread : {T : Type 0} (inboxes hubs : List (Stream T)) (t : AnyTree T) → IsTreeReadAt any_machine [] t → IsTreeBehind any_machine inboxes hubs t
-tree_unread inboxes hubs t h = (unread inboxes hubs (any_machine.reads t.machine) h.0, row_unread inboxes hubs t.inputs h.1)
 
 -- ---- choices
 

@@ -1,8 +1,8 @@
 -- The code of a part, by which a proof tells parts apart: that of a tree with the edge from its root, whose items have a code.
 use Rattle.std.specs.Prelude.{[]}
 use Rattle.std.specs.Coded.{Coded}
-use Rattle.rsx_crossing.specs.contracts.sender.Sender as sender
-use Rattle.rsx_node.specs.contracts.any_node.AnyNode as node
+use Rattle.rsx_queued.specs.contracts.sender.Sender as sender
+use Rattle.rsx_kinds.specs.contracts.any_node.AnyNode as node
 use Rattle.rsx_pipe.specs.Part.{Part}
 use Rattle.rsx_rooted.specs.contracts.rooted.Rooted as tree
 use base.Fml.{ffalse}

@@ -1,13 +1,12 @@
 -- How the edges of a part join their two ends: straight, or through the queue of an edge that crosses to another region.
 use Rattle.std.specs.Prelude.{ℕ, ◌&&◌, nat_eq, if◌then◌else◌, Option, Some, None}
-use Rattle.rsx_crossing.specs.Queued.{can_transfer}
-use Rattle.rsx_crossing.specs.declared.sender.Sender.{Sender}
-use Rattle.rsx_crossing.specs.declared.sender.Sender.TheVariants.{Direct, Crossing}
-use Rattle.rsx_node.specs.Any.{TreeNode, kind_machine}
-use Rattle.rsx_node.specs.declared.any_node.AnyNode.{AnyNode}
+use Rattle.rsx_queued.specs.Queued.{can_transfer}
+use Rattle.rsx_queued.specs.declared.sender.Sender.{Sender}
+use Rattle.rsx_queued.specs.declared.sender.Sender.TheVariants.{Direct, Crossing}
+use Rattle.rsx_kinds.specs.Any.{TreeNode, kind_machine}
+use Rattle.rsx_kinds.specs.declared.any_node.AnyNode.{AnyNode}
 use Rattle.rsx_tree.specs.declared.edge.EdgeState.{EdgeState}
-use Rattle.rsx_tree.specs.Edges.{edge_view, is_live}
-use Rattle.rsx_tree.specs.Stepped.{Station, station_of}
+use Rattle.rsx_tree.specs.Prelude.{edge_view, is_live, Station, station_of}
 use Rattle.rsx_pipe.specs.Part.{Part}
 use Rattle.rsx_pipe.specs.declared.crossing.Route.{Route}
 use Rattle.rsx_pipe.specs.declared.crossing.Route.TheVariants.{Straight, Queued}

@@ -1,10 +1,9 @@
 -- A part whose receiver takes each signal straight from the root, with no queue between, as a hub does that the part feeds: what
 -- `rsx_rooted` says of such a tree, at the kinds of nodes that there are.
 use Rattle.std.specs.Prelude.{Bool, Option}
-use Rattle.rsx_types.specs.Meaning.{Meaning}
-use Rattle.rsx_types.specs.declared.signal.Signal.{Signal}
+use Rattle.rsx_sources.specs.Prelude.{Meaning, Signal}
 use Rattle.rsx_tree.specs.declared.look.NodeMove.{NodeMove}
-use Rattle.rsx_node.specs.Any.{any_machine}
+use Rattle.rsx_kinds.specs.Any.{any_machine}
 use Rattle.rsx_rooted.specs.Feeding as OfAny
 pub use Rattle.rsx_rooted.specs.Feeding.{carried}
 use Rattle.rsx_pipe.specs.Part.{Part}

@@ -1,7 +1,7 @@
 -- An item that is pulled through a part in one go, and out over its root edge.
 use Rattle.std.specs.Prelude.{ℕ, Option}
 use Rattle.rsx_types.specs.Meaning.{Meaning}
-use Rattle.rsx_node.specs.Any.{any_machine}
+use Rattle.rsx_kinds.specs.Any.{any_machine}
 use Rattle.rsx_rooted.specs.Fetched as OfAny
 use Rattle.rsx_pipe.specs.Part.{Part}
 

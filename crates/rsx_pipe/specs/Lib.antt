@@ -1,7 +1,7 @@
 -- Definitions that contracts cite.
-pub use Rattle.rsx_build.specs.Built
-pub use Rattle.rsx_build.specs.Crossings
-pub use Rattle.rsx_node.specs.Any
+pub use Rattle.rsx_kinds.specs.Built
+pub use Rattle.rsx_kinds.specs.Crossings
+pub use Rattle.rsx_kinds.specs.Any
 pub mod Code
 pub mod Crossing
 pub mod Feeding

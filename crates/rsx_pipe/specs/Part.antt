@@ -1,18 +1,13 @@
 -- A part: a tree of nodes of any kind with the edge from its root. What `rsx_rooted` says of such a tree, at the kinds that there
 -- are, and what is delivered where a part is idle.
-use Rattle.std.specs.Prelude.{◌≡◌, ℕ, ◌<◌, ◌≤◌, min, Bool, List, length, take, Option, Some, Result}
+use Rattle.std.specs.Prelude.{◌≡◌, ℕ, ◌<◌, ◌≤◌, min, Bool, List, length, take, Some, Result}
 use Rattle.rsx_model.specs.declared.check.TheConstants.{MOST_NODES}
 use Rattle.rsx_model.specs.declared.expr.Expr.{Expr}
-use Rattle.rsx_types.specs.Meaning.{Meaning, Allocates}
-use Rattle.rsx_types.specs.Stream.{Stream}
-use Rattle.rsx_types.specs.declared.limits.TheConstants.{CAPACITY}
-use Rattle.rsx_types.specs.declared.signal.Ending.TheVariants.{Open}
-use Rattle.rsx_types.specs.declared.signal.Signal.{Signal}
-use Rattle.rsx_sources.specs.declared.machine.Front.{Front}
+use Rattle.rsx_sources.specs.Prelude.{Meaning, Allocates, Stream, CAPACITY, Open, Signal}
 use Rattle.rsx_tree.specs.declared.look.NodeMove.{NodeMove}
 use Rattle.rsx_tree.specs.declared.edge.EdgeState.TheVariants.{Live, Closed, Ended}
 use Rattle.rsx_tree.specs.Rests.{TreeHasReadAll}
-use Rattle.rsx_node.specs.Any.{TreeNode, any_machine}
+use Rattle.rsx_kinds.specs.Any.{TreeNode, any_machine}
 use Rattle.rsx_rooted.specs.Rooted as OfAny
 pub use Rattle.rsx_rooted.specs.Rooted.{evaluated, all_edges, has_room, sent_at, IsNumbered}
 use Rattle.rsx_rooted.specs.declared.rooted.Rooted.{Rooted}
@@ -63,10 +58,6 @@ pump_allocates a part = OfAny.pump_allocates any_machine a part
 abbrev pub wanted : {T : Type 0} → Part T → ℕ → ℕ
 wanted part at = OfAny.wanted any_machine part at
 
--- which signal is offered over an edge
-abbrev pub offered : {T : Type 0} → Meaning T → Part T → ℕ → Option Front
-offered m part at = OfAny.offered any_machine m part at
-
 -- whether the receiver of an edge has put out an ending; the root's receiver puts out nothing
 abbrev pub receiver_ended : {T : Type 0} → Part T → ℕ → Bool
 receiver_ended part at = OfAny.receiver_ended any_machine part at
@@ -74,10 +65,6 @@ receiver_ended part at = OfAny.receiver_ended any_machine part at
 -- an Ask: what was asked of this edge is what its receiver wants, and no other edge changed
 abbrev pub IsAsk : {T : Type 0} → Part T → ℕ → Part T → Type 0
 IsAsk old at new = OfAny.IsAsk any_machine old at new
-
--- what went over the root edge: the offered signal, where the Send went over it, and else nothing
-abbrev pub GoesOut : {T : Type 0} → Meaning T → Part T → Bool → List (Signal T) → Type 0
-GoesOut m old root out = OfAny.GoesOut any_machine m old root out
 
 -- a Send: the offered signal went over this edge; where the receiver ended by it, all its inputs and all below them are closed
 abbrev pub IsSend : {T : Type 0} → Meaning T → Part T → ℕ → List (Signal T) → Part T → Type 0
@@ -105,10 +92,6 @@ IsPutOut m old out new = OfAny.IsPutOut any_machine m old out new
 abbrev pub IsMoved : {T : Type 0} → Meaning T → Part T → List (Signal T) → List (Signal T) → Part T → List (Signal T) → Type 0
 IsMoved m old queue out new queue' = OfAny.IsMoved any_machine m old queue out new queue'
 
--- the root's signal went over the root edge, to the back of the queue
-abbrev pub IsRootSent : {T : Type 0} → Meaning T → Part T → List (Signal T) → Part T → List (Signal T) → Type 0
-IsRootSent m old queue new queue' = OfAny.IsRootSent any_machine m old queue new queue'
-
 -- this move was made, and had its effect
 abbrev pub IsMade : {T : Type 0} → Meaning T → NodeMove → Part T → List (Signal T) → Part T → List (Signal T) → Type 0
 IsMade m move old queue new queue' = OfAny.IsMade any_machine m move old queue new queue'
@@ -133,10 +116,6 @@ IsAwake m part queue = OfAny.IsAwake any_machine m part queue
 -- one is and the whole budget was spent
 abbrev pub HasEnded : {T E : Type 0} → Meaning T → ℕ → ℕ → Part T → List (Signal T) → Result Pumped E → Type 0
 HasEnded m budget n part queue result = OfAny.HasEnded any_machine m budget n part queue result
-
--- how it ends where the whole budget was spent
-abbrev pub IsSpent : {T : Type 0} → Meaning T → Part T → List (Signal T) → Pumped → Type 0
-IsSpent m part queue p = OfAny.IsSpent any_machine m part queue p
 
 -- ---- what is still owed
 

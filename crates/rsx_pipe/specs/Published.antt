@@ -1,14 +1,11 @@
 -- What the hubs published, and a part to whose nodes a signal of a hub is handed.
 use Rattle.std.specs.Prelude.{◌≡◌, ⊤, ℕ, Bool, true, false, if◌then◌else◌, List, [], ◌∷◌}
-use Rattle.rsx_types.specs.Meaning.{Meaning, Allocates}
-use Rattle.rsx_types.specs.Stream.{Stream}
-use Rattle.rsx_types.specs.declared.signal.Signal.{Signal}
+use Rattle.rsx_sources.specs.Prelude.{Meaning, Allocates, Stream, Signal, ends_input}
 use Rattle.rsx_hub.specs.Hub.{HubState, HasTakenIn}
 use Rattle.rsx_hub.specs.Member.{ending_taken}
 use Rattle.rsx_hub.specs.Waiting.{is_open}
 use Rattle.rsx_model.specs.declared.expr.Expr.{Expr}
-use Rattle.rsx_node.specs.Any.{any_machine}
-use Rattle.rsx_sources.specs.Counts.{ends_input}
+use Rattle.rsx_kinds.specs.Any.{any_machine}
 use Rattle.rsx_tree.specs.Edges.{is_live}
 use Rattle.rsx_tree.specs.Handed as Tree
 use Rattle.rsx_pipe.specs.Output.{IsOpenAt, with_signal_at}

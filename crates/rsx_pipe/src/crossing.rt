@@ -1,13 +1,12 @@
 //! How the edges of a part join their two ends.
 
 ghost use Rattle.std.specs.Prelude.{◌≡◌};
-ghost use Rattle.rsx_tree.specs.Edges.{edge_view};
 ghost use Rattle.rsx_tree.specs.Stepped.{over};
 ghost use Rattle.rsx_pipe.specs.Crossing.{route, route_below, route_over};
 
 use crate::part::Part;
-use rsx_build::TreeNode;
-use rsx_crossing::Sender;
+use rsx_kinds::TreeNode;
+use rsx_queued::Sender;
 use rsx_tree::Edge;
 
 /// How an edge joins its two ends.

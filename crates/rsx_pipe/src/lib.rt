@@ -18,5 +18,5 @@ pub mod published;
 
 pub use crossing::Route;
 pub use part::{Part, Pumped};
-pub use rsx_queue::SignalQueue;
+pub use rsx_prefetch::SignalQueue;
 pub use rsx_tree::{Edge, EdgeState, NodeMove};

@@ -1,9 +1,9 @@
 //! A part of a graph: one tree of nodes with its edges.
 
-use rsx_build::{TreeNode, build, build_for};
 use rsx_hub::Hub;
+use rsx_kinds::{TreeNode, build, build_for};
 use rsx_model::Expr;
-use rsx_queue::SignalQueue;
+use rsx_prefetch::SignalQueue;
 pub use rsx_rooted::Pumped;
 use rsx_rooted::Rooted;
 use rsx_sources::NotMade;
@@ -37,24 +37,21 @@ impl<T> Model for Part<T> {
 }
 
 impl<T: Drop> Part<T> {
-    ghost use Rattle.std.specs.Prelude.{◌≡◌, ◌<◌, ◌+◌, ◌^◌, ℕ, List, [], ◌∷◌, Option, Some, None, true, false, OnOk, OnErr, IfOk, IfErr, IsOk, IfSome, IfNone, length, map};
+    ghost use Rattle.std.specs.Prelude.{◌≡◌, ◌<◌, ℕ, List, [], ◌∷◌, Option, None, true, false, OnOk, OnErr, IfOk, IfErr, IsOk, IfSome, IfNone, length, map};
     ghost use Rattle.rsx_demand.specs.Demand.{saturating_total};
     ghost use Rattle.rsx_model.specs.Check.{first_fault};
     ghost use Rattle.rsx_types.specs.Meaning.{Meaning};
-    ghost use Rattle.rsx_types.specs.Notes.{unchosen};
     ghost use Rattle.rsx_types.specs.Stream.{Stream};
     ghost use Rattle.rsx_sources.specs.Steps.{IsNotMade};
-    ghost use Rattle.rsx_build.specs.Built.{fresh_edge, fresh_edges, new_joins};
-    ghost use Rattle.rsx_build.specs.Crossings.{IsPlaced, differ};
-    ghost use Rattle.rsx_region.specs.Region.{region_of};
+    ghost use Rattle.rsx_kinds.specs.Built.{fresh_edge, fresh_edges, new_joins};
+    ghost use Rattle.rsx_kinds.specs.Crossings.{IsPlaced, differ};
+    ghost use Rattle.rsx_model.specs.Region.{region_of};
     ghost use Rattle.rsx_pipe.specs.Published.{AreTaken};
-    ghost use Rattle.rsx_tree.specs.Edges.{closed_view, edge_view};
-    ghost use Rattle.rsx_tree.specs.Stepped.{station_of};
-    ghost use Rattle.rsx_pipe.specs.Tree.{comes_out, notes_of, can_send, pop_allocates, send_allocates, step_allocates, IsAlike, IsAllClosed, IsStill};
-    ghost use Rattle.rsx_tree.specs.Driven.{Spent};
+    ghost use Rattle.rsx_tree.specs.Edges.{closed_view};
+    ghost use Rattle.rsx_pipe.specs.Tree.{notes_of, IsAllClosed};
     ghost use Rattle.rsx_pipe.specs.Fetched.{IsFetched};
-    ghost use Rattle.rsx_tree.specs.Refusals.{IsNotEnabled, OnlyNotEnabled};
-    ghost use Rattle.rsx_pipe.specs.Part.{pump_allocates, PartStands, IsPutOut, IsMade, IsPumped, IsQuiet, IsAwake, IsSpent, IsRootSent, HasEnded, IsDelivered, IsPartResidual, make_allocates, all_edges, move_enabled, ask_enabled, send_enabled, IsAsk, IsSend, pick_enabled, row_enabled, IsPick, IsRow, IsNumbered};
+    ghost use Rattle.rsx_tree.specs.Refusals.{OnlyNotEnabled};
+    ghost use Rattle.rsx_pipe.specs.Part.{pump_allocates, PartStands, IsPutOut, IsMade, IsPumped, IsQuiet, IsAwake, HasEnded, IsDelivered, IsPartResidual, make_allocates, all_edges, move_enabled, IsNumbered};
 
     /// The part of an expression that `check_expr` accepts over these hubs, before anything was asked of it. Each leaf that
     /// reads a hub gets a member of it; the members have joined once they are counted in.

@@ -1,22 +1,16 @@
 -- The counts of a node.
 use Rattle.std.proofs.Common.{◌≡◌, ℕ, suc, ◌+◌, ◌==◌, Bool, true, false, ◌&&◌, List, [], ◌∷◌, length, Some, refl, sym, ap, ◌∙◌, subst, arith}
 use Rattle.std.proofs.lemmas.Bool.Decides.{nat_tests}
-use Rattle.rsx_types.specs.declared.signal.Signal.{Signal}
-use Rattle.rsx_types.specs.declared.signal.Signal.TheVariants.{Next, Complete, Error}
-use Rattle.rsx_sources.specs.Counts.{CountsIn, CountsOut, ends_input, taken_after}
-use Rattle.rsx_sources.specs.Slot.{is_nil}
-use Rattle.rsx_operators.specs.Moves.{has_ending}
+use Rattle.rsx_sources.specs.Prelude.{Signal, Next, Complete, Error, CountsIn, CountsOut, ends_input, taken_after, is_nil}
+use Rattle.rsx_plain.specs.Moves.{has_ending}
 use Rattle.rsx_plain.specs.Node.{plain_ended, plain_takes, plain_popped, plain_counted}
-use Rattle.rsx_operators.specs.State.{balanced, is_over, Counts}
+use Rattle.rsx_plain.specs.State.{balanced, is_over, Counts}
 use Rattle.rsx_plain.specs.declared.node.PlainNode.{PlainNode}
-use Rattle.rsx_operators.specs.declared.state.PlainState.{PlainState}
+use Rattle.rsx_plain.specs.declared.state.PlainState.{PlainState}
+use Rattle.rsx_sources.proofs.Slots.{nil_of}
 
 both : (b : Bool) → b ≡ true → b ≡ false → ⊥
 both b x y = cc
-
-pub nil_of : {A : Type 0} (xs : List A) → is_nil xs ≡ true → xs ≡ []
-nil_of [] e = refl
-nil_of (x ∷ xs) e = cc
 
 pub left_of : (a b : Bool) → a && b ≡ true → a ≡ true
 left_of true b e = refl

@@ -1,4 +1,13 @@
 pub mod Balance
+pub mod Counts
+pub mod Drained
+pub mod Ended
 pub mod Endings
+pub mod Followed
+pub mod Overs
 pub mod Passes
+pub mod Prepares
+pub mod Reactions
 pub mod Residuals
+pub mod Rests
+pub mod Taken

@@ -1,22 +1,17 @@
 -- An item that an operator answers in one go goes through its node in one go.
 use Rattle.std.proofs.Common.{◌≡◌, ℕ, ◌<◌, arith, ◌==◌, Bool, true, false, List, [], ◌∷◌, length, refl, sym, ap, subst}
-use Rattle.rsx_types.specs.Meaning.{Meaning}
-use Rattle.rsx_types.specs.declared.note.Note.TheVariants.{Nothing, Picks, Ended}
-use Rattle.rsx_types.specs.declared.signal.Signal.{Signal}
-use Rattle.rsx_types.specs.declared.signal.Signal.TheVariants.{Next}
-use Rattle.rsx_sources.specs.Machine.{LetsGo, quiet}
-use Rattle.rsx_sources.specs.Slot.{is_nil}
-use Rattle.rsx_sources.specs.Passed.{IsItemOut, IsPassed, IsTakenIn}
+use Rattle.rsx_sources.specs.Prelude.{Meaning, Nothing, Signal, Next, LetsGo, quiet, is_nil, IsItemOut, IsPassed, IsTakenIn, signals_then}
 use Rattle.rsx_sources.specs.declared.machine.Passed.{Passed}
 use Rattle.rsx_sources.specs.declared.machine.Passed.TheVariants.{Item, Kept, Declined}
-use Rattle.rsx_operators.specs.Moves.{has_ending}
+use Rattle.rsx_plain.specs.Moves.{has_ending}
 use Rattle.rsx_plain.specs.Node.{plain_comes_out, plain_waiting, plain_takes, plain_popped, plain_ended, plain_counted}
 use Rattle.rsx_plain.specs.Passes.{GoesThrough, PutsOut}
-use Rattle.rsx_operators.specs.State.{is_over}
+use Rattle.rsx_plain.specs.State.{is_over, plain_from}
 use Rattle.rsx_plain.specs.declared.node.PlainNode.{PlainNode}
-use Rattle.rsx_operators.specs.declared.state.PlainState.{PlainState}
-use Rattle.rsx_plain.proofs.Balance.{is_zero, left_of, nil_of, right_of, plain_counts_in, plain_counts_out}
-use Rattle.rsx_operators.proofs.Counts.{counts}
+use Rattle.rsx_plain.specs.declared.state.PlainState.{PlainState}
+use Rattle.rsx_plain.proofs.Balance.{is_zero, left_of, right_of, plain_counts_in, plain_counts_out}
+use Rattle.rsx_plain.proofs.Counts.{counts}
+use Rattle.rsx_sources.proofs.Slots.{nil_of, quiet_then}
 
 abbrev node : {T : Type 0} → PlainState T → List (Signal T) → PlainNode T
 node state slot = record { state = state; slot = slot }
@@ -39,9 +34,7 @@ taken_in {T} m old new x out none a =
 
 -- what stands in front of the slot goes out
 lets_go : {T : Type 0} (m : Meaning T) (state : PlainState T) (s : Signal T) (slot : List (Signal T)) → LetsGo (plain_comes_out m) (node state (s ∷ slot)) s (node state slot)
-lets_go m state s slot inc Nothing = refl
-lets_go m state s slot inc (Picks cs) = refl
-lets_go m state s slot inc (Ended o) = refl
+lets_go m state s slot inc further = quiet_then s further (signals_then slot (plain_from m state inc.first))
 
 -- the item in front of a slot with at most two signals goes out
 pub item_out : {T : Type 0} (m : Meaning T) (state : PlainState T) (x : T) (slot : List (Signal T)) → length slot < 2 →
@@ -53,14 +46,6 @@ item_out m state x slot few = record {
   notes = refl;
   counts = plain_counts_out (node state (Next x ∷ slot)) (node state slot) (Next x) (refl, refl, few);
 }
-
--- the same of any node
-pub item_popped : {T : Type 0} (m : Meaning T) (old new : PlainNode T) (x : T) → old.slot ≡ Next x ∷ new.slot → new.state ≡ old.state → length new.slot < 2 →
-    IsItemOut (plain_comes_out m) (plain_waiting m) plain_popped (λ n. Nothing) plain_counted plain_ended (λ n i. false) old x new
-item_popped {T} m old new x slot state few =
-    let P : List (Signal T) → Type 0 = λ l. IsItemOut (plain_comes_out m) (plain_waiting m) plain_popped (λ n. Nothing) plain_counted plain_ended (λ n i. false) (node old.state l) x new in
-    let Q : PlainState T → Type 0 = λ s. IsItemOut (plain_comes_out m) (plain_waiting m) plain_popped (λ n. Nothing) plain_counted plain_ended (λ n i. false) (node s (Next x ∷ new.slot)) x new in
-    subst P (sym slot) (subst Q state (item_out m new.state x new.slot few))
 
 by_answer : {T : Type 0} (m : Meaning T) (old new : PlainState T) (x : T) (r : Passed T) → GoesThrough m old x r new →
     IsPassed (plain_comes_out m) (plain_waiting m) (λ n i f. plain_takes n i) plain_popped (λ n. Nothing) plain_counted plain_ended (λ n i. false) (node old []) 0 x r (node new [])

@@ -2,18 +2,9 @@
 use Rattle.std.proofs.Common.{◌≡◌, ℕ, zero, suc, ◌+◌, ◌≤◌, List, [], ◌∷◌, ◌++◌, drop, length, Some, None, Result, refl, sym, ap, ◌∙◌, add-one, append_assoc, append-nil}
 use Rattle.std.specs.Prelude.{slice_get, IfOk}
 use Rattle.std.proofs.lemmas.Result.{IfOk-weaker}
-use Rattle.rsx_types.specs.declared.note.Note.{Note}
-use Rattle.rsx_types.specs.declared.note.Note.TheVariants.{Nothing}
-use Rattle.rsx_types.specs.declared.signal.Ending.{Ending}
-use Rattle.rsx_types.specs.declared.signal.Ending.TheVariants.{Open}
-use Rattle.rsx_types.specs.declared.signal.Signal.{Signal}
-use Rattle.rsx_types.specs.declared.signal.Signal.TheVariants.{Next}
-use Rattle.rsx_types.specs.Meaning.{Meaning}
-use Rattle.rsx_types.specs.Stream.{Stream, ended_by, items_then, signal_then, signals_then}
-use Rattle.rsx_sources.specs.Machine.{Incoming, incoming_of}
-use Rattle.rsx_sources.specs.Reading.{IsResidualOf}
-use Rattle.rsx_operators.specs.State.{plain_from}
-use Rattle.rsx_operators.proofs.Drained.{drop_all}
+use Rattle.std.proofs.lemmas.List.{drop_all}
+use Rattle.rsx_sources.specs.Prelude.{Note, Nothing, Ending, Open, Signal, Next, Meaning, Stream, ended_by, items_then, signal_then, signals_then, Incoming, incoming_of, IsResidualOf}
+use Rattle.rsx_plain.specs.State.{plain_from}
 use Rattle.rsx_plain.specs.Node.{plain_comes_out}
 use Rattle.rsx_plain.specs.declared.node.PlainNode.{PlainNode}
 

@@ -3,56 +3,30 @@ use Rattle.std.specs.Prelude.{◌≡◌, ◌⊎◌, ℕ, zero, suc, ◌+◌, ◌
 use Rattle.std.proofs.Common.{inl, inr, sym, ap, subst, arith}
 use Rattle.std.proofs.Math.Nat.{mul-le-mul_right}
 use Rattle.std.proofs.lemmas.Bool.Decides.{nat_tests}
-use Rattle.std.specs.List.{list_any}
 use Rattle.rsx_demand.specs.declared.TheConstants.{UNBOUNDED}
-use Rattle.rsx_types.specs.Meaning.{Meaning}
-use Rattle.rsx_types.specs.declared.note.Note.{Note}
-use Rattle.rsx_types.specs.declared.signal.Signal.{Signal}
-use Rattle.rsx_types.specs.declared.signal.Signal.TheVariants.{Next, Complete, Error}
-use Rattle.rsx_types.specs.Stream.{Stream, item_then, signals_then}
-use Rattle.rsx_sources.specs.Counts.{CanStep, IsHungry, AreWithin, ends_input}
-use Rattle.rsx_sources.specs.Machine.{Incoming, incoming_of, quiet}
-use Rattle.rsx_sources.specs.Steps.{StaysAlike}
-use Rattle.rsx_sources.specs.Slot.{is_nil}
-use Rattle.rsx_operators.specs.Moves.{is_ending}
+use Rattle.rsx_sources.specs.Prelude.{Meaning, Note, Signal, Stream, CanStep, IsHungry, AreWithin, ends_input, Incoming, incoming_of, quiet, StaysAlike, is_nil}
+use Rattle.rsx_sources.proofs.Endings.{ending_cuts, ending_first, ending_waits}
 use Rattle.rsx_plain.specs.Node.{plain_allocates, plain_comes_out, plain_ended, plain_popped, plain_takes, plain_wanted, plain_waiting, plain_counted}
-use Rattle.rsx_operators.specs.State.{allocates_from, plain_from, balanced, is_over, wanted_from}
+use Rattle.rsx_plain.specs.State.{allocates_from, plain_from, balanced, is_over, wanted_from}
 use Rattle.rsx_plain.specs.declared.node.PlainNode.{PlainNode}
-use Rattle.rsx_operators.specs.declared.state.PlainState.{PlainState}
-use Rattle.rsx_operators.specs.declared.state.PlainState.TheVariants.{Map as MapFrom, Filter as FilterFrom, Take as TakeFrom, Scan as ScanFrom, Buffer as BufferFrom, Distinct as DistinctFrom}
+use Rattle.rsx_plain.specs.declared.state.PlainState.{PlainState}
+use Rattle.rsx_plain.specs.declared.state.PlainState.TheVariants.{Map as MapFrom, Filter as FilterFrom, Take as TakeFrom, Scan as ScanFrom, Buffer as BufferFrom, Distinct as DistinctFrom}
 
 -- what leaves the slot leaves what may allocate as it is, and it reads no hub
 pub plain_popped_alike : {T : Type 0} (old : PlainNode T) (s : Signal T) (new : PlainNode T) → plain_popped old s new → StaysAlike (λ n. None) (λ a n. false) plain_allocates (λ a n. false) old new
 plain_popped_alike old s new h = (refl, λ a. (refl, ap (allocates_from a) (sym h.1), refl))
 
--- where an ending stands in the slot, what the operator would give does not come out
-pub ended_slot : {T : Type 0} (slot : List (Signal T)) (v w : Stream T) → true ≡ list_any is_ending slot → signals_then slot v ≡ signals_then slot w
-ended_slot [] v w h = cc
-ended_slot (Next x ∷ ss) v w h = ap (item_then x) (ended_slot ss v w h)
-ended_slot (Complete ∷ ss) v w h = refl
-ended_slot (Error c ∷ ss) v w h = refl
-
 -- an ending in the slot cuts off whatever comes in
 pub plain_drops : {T : Type 0} (m : Meaning T) (n : PlainNode T) (inc other : Incoming T) (further : Note) → plain_ended n ≡ true → plain_comes_out m n inc further ≡ plain_comes_out m n other further
-plain_drops m n inc other further e = ap (quiet further) (ended_slot n.slot (plain_from m n.state inc.first) (plain_from m n.state other.first) (sym e))
-
-ending_first : {T : Type 0} (slot : List (Signal T)) (s : Signal T) → slice_get slot 0 ≡ Some s → ends_input s ≡ true → list_any is_ending slot ≡ true
-ending_first [] s w e = cc
-ending_first (Next x ∷ ss) s w e = cc
-ending_first (Complete ∷ ss) s w e = refl
-ending_first (Error c ∷ ss) s w e = refl
+plain_drops m n inc other further e = ap (quiet further) (ending_cuts n.slot (plain_from m n.state inc.first) (plain_from m n.state other.first) e)
 
 -- so does one that is offered
 pub plain_ends : {T : Type 0} (m : Meaning T) (n : PlainNode T) (s : Signal T) (inc other : Incoming T) (further : Note) → plain_waiting m n ≡ Some s → ends_input s ≡ true → plain_comes_out m n inc further ≡ plain_comes_out m n other further
 plain_ends m n s inc other further w e = plain_drops m n inc other further (ending_first n.slot s w e)
 
-some_waits : {T : Type 0} (slot : List (Signal T)) → list_any is_ending slot ≡ true → slice_get slot 0 ≡ None → ⊥
-some_waits [] e none = cc
-some_waits (s ∷ ss) e none = cc
-
 -- the slot of a node that has ended isn't empty
 pub plain_ending_waits : {T : Type 0} (m : Meaning T) (n : PlainNode T) (asked sent : ℕ) → plain_ended n ≡ true → plain_waiting m n ≡ None → sent < asked → CanStep (λ k i a s. false) (λ k a s. false) n asked sent
-plain_ending_waits m n asked sent e none more = absurd (some_waits n.slot e none)
+plain_ending_waits m n asked sent e none more = absurd (ending_waits n.slot e none)
 
 -- a node has no input whose completion it took and that it goes on with
 pub plain_done_drops : {T : Type 0} (m : Meaning T) (n : PlainNode T) (hubs before after : List (Stream T)) (v w : Stream T) (further : Note) → false ≡ true → plain_comes_out m n (incoming_of hubs (before ++ v ∷ after)) further ≡ plain_comes_out m n (incoming_of hubs (before ++ w ∷ after)) further

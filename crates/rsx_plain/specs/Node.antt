@@ -1,19 +1,11 @@
 -- What still comes out of a plain operator with its out slot.
 use Rattle.std.specs.Prelude.{◌≡◌, ℕ, zero, suc, ◌+◌, ◌<◌, ◌==◌, false, ◌&&◌, Bool, List, [], ◌∷◌, length, slice_get, Option, option_map}
-use Rattle.rsx_types.specs.declared.note.Note.{Note}
-use Rattle.rsx_types.specs.declared.signal.Signal.{Signal}
-use Rattle.rsx_types.specs.declared.signal.Signal.TheVariants.{Next, Complete}
-use Rattle.rsx_types.specs.declared.stage.Stage.{Stage}
+use Rattle.rsx_sources.specs.Prelude.{Note, Signal, Next, Complete, Stage, Meaning, Allocates, plain, Stream, signals_then, Incoming, quiet, front_of, is_nil}
 use Rattle.rsx_types.specs.declared.stage.Stage.TheVariants.{Map, Filter, Take, Scan, Buffer, Distinct}
-use Rattle.rsx_types.specs.Meaning.{Meaning, Allocates}
-use Rattle.rsx_types.specs.Plain.{plain}
-use Rattle.rsx_types.specs.Stream.{Stream, signals_then}
-use Rattle.rsx_sources.specs.Machine.{Incoming, quiet, front_of}
 use Rattle.rsx_sources.specs.declared.machine.Front.{Front}
-use Rattle.rsx_sources.specs.Slot.{is_nil}
 use Rattle.rsx_plain.specs.declared.node.PlainNode.{PlainNode}
-use Rattle.rsx_operators.specs.Moves.{has_ending}
-use Rattle.rsx_operators.specs.State.{plain_from, wanted_from, allocates_from, balanced, is_over}
+use Rattle.rsx_plain.specs.Moves.{has_ending}
+use Rattle.rsx_plain.specs.State.{plain_from, wanted_from, allocates_from, balanced, is_over}
 
 -- what stands in the slot at the start: the seed of `scan`, and the completion of `take 0`
 abbrev pub start_slot : {T : Type 0} → Stage T → List (Signal T)

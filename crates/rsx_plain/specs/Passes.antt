@@ -1,13 +1,11 @@
 -- What an operator answers an item in one go.
 use Rattle.std.specs.Prelude.{◌≡◌, false, List, [], ◌∷◌}
-use Rattle.rsx_types.specs.Meaning.{Meaning}
-use Rattle.rsx_types.specs.declared.signal.Signal.{Signal}
-use Rattle.rsx_types.specs.declared.signal.Signal.TheVariants.{Next}
+use Rattle.rsx_sources.specs.Prelude.{Meaning, Signal, Next}
 use Rattle.rsx_sources.specs.declared.machine.Passed.{Passed}
 use Rattle.rsx_sources.specs.declared.machine.Passed.TheVariants.{Item, Kept, Declined}
-use Rattle.rsx_operators.specs.Moves.{Moves}
-use Rattle.rsx_operators.specs.State.{plain_from, after_item, is_over}
-use Rattle.rsx_operators.specs.declared.state.PlainState.{PlainState}
+use Rattle.rsx_plain.specs.Moves.{Moves}
+use Rattle.rsx_plain.specs.State.{plain_from, after_item, is_over}
+use Rattle.rsx_plain.specs.declared.state.PlainState.{PlainState}
 
 -- the item went in, just these signals came out of the old state, which left the new one, and the operator goes on
 pub record PutsOut {T : Type 0} (m : Meaning T) (old : PlainState T) (x : T) (out : List (Signal T)) (new : PlainState T) : Type 0 where

@@ -3,7 +3,7 @@
 ghost use Rattle.std.specs.Prelude.{◌≡◌};
 
 use crate::pass::Passing;
-use rsx_operators::{Operator, PlainState};
+use crate::{Operator, PlainState};
 use rsx_sources::{Front, Machine, NotMade, NotTaken, OutSlot, Passed};
 use rsx_types::{Ending, NoMemory, Note, Ops, Signal, Stage, StreamValue};
 use std::alloc::Global;
@@ -19,7 +19,7 @@ pub struct PlainNode<T> {
 
 impl<T: Drop> PlainNode<T> {
     ghost use Rattle.std.specs.Prelude.{◌≡◌, IfOk, IsTrue};
-    ghost use Rattle.rsx_operators.specs.State.{plain_start};
+    ghost use Rattle.rsx_plain.specs.State.{plain_start};
     ghost use Rattle.rsx_plain.specs.Node.{GivesOperator, start_slot, plain_ended};
 
     /// The node of an operator before it has taken anything. Its slot begins with the seed of `scan`, or the completion of
@@ -62,7 +62,7 @@ impl<T: Drop> Machine for PlainNode<T> {
     ghost use Rattle.rsx_sources.specs.Steps.{IsPopped, IsNotTaken};
     ghost use Rattle.rsx_plain.specs.Laws.{plain_done_drops};
     ghost use Rattle.rsx_plain.specs.Node.{plain_comes_out, plain_waiting, plain_shown, plain_takes, plain_wanted, plain_popped, plain_ended, plain_allocates, plain_counted, NeedsNothing};
-    ghost use Rattle.rsx_operators.specs.State.{is_over, after_signal, Counts};
+    ghost use Rattle.rsx_plain.specs.State.{is_over, after_signal, Counts};
     ghost use Rattle.rsx_plain.specs.declared.node.PlainNode.{PlainNode};
 
     ghost comes_out = { plain_comes_out };

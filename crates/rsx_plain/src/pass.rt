@@ -1,17 +1,17 @@
 //! An item that goes through a plain operator in one go, without its out slot.
 //!
 //! An operator declines what it would answer with more than an item: a fault of the caller's function, and the last item of
-//! a `take`. It answers those by [`react`](rsx_operators::Operator::react).
+//! a `take`. It answers those by [`react`](crate::Operator::react).
 
 ghost use Rattle.std.specs.Prelude.{◌+◌, ◌≤◌, ℕ, length, IfOk, IfErr};
 ghost use Rattle.rsx_types.specs.Meaning.{Meaning};
 ghost use Rattle.rsx_plain.specs.Passes.{GoesThrough};
-ghost use Rattle.rsx_operators.specs.declared.state.PlainState.{PlainState as StateSpec};
-ghost use Rattle.rsx_operators.specs.declared.state.PlainState.TheVariants.{Map as MapFrom, Filter as FilterFrom, Take as TakeFrom, Scan as ScanFrom, Buffer as BufferFrom, Distinct as DistinctFrom};
+ghost use Rattle.rsx_plain.specs.declared.state.PlainState.{PlainState as StateSpec};
+ghost use Rattle.rsx_plain.specs.declared.state.PlainState.TheVariants.{Map as MapFrom, Filter as FilterFrom, Take as TakeFrom, Scan as ScanFrom, Buffer as BufferFrom, Distinct as DistinctFrom};
 
+use crate::PlainState;
 use rsx_collections::{Buffered, Keys};
 use rsx_demand::UNBOUNDED;
-use rsx_operators::PlainState;
 use rsx_sources::Passed;
 use rsx_types::{NoMemory, Ops};
 use std::alloc::Global;

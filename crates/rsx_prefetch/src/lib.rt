@@ -1,3 +1,4 @@
+#![tactic(auto)]
 //! The queue between an operator and one of its inputs, and how much it lets be asked for.
 //!
 //! A [`Prefetch`] holds at most its capacity of items, first in, first out. What it credits is the
@@ -13,7 +14,14 @@
 //! An input that sends no more than was credited always finds room ([`Prefetch::credits`], `room`).
 //!
 //! The ring is made with the queue. No later call takes memory, and none refuses.
-#![tactic(auto)]
+//!
+//! # The queue of an edge
+//!
+//! The signals that wait on an edge.
+//!
+//! - [`queue`]: [`SignalQueue`], the signals on an edge that crosses, as the edge from a root to a subscriber does.
+
+pub mod queue;
 
 ghost use Rattle.std.specs.Prelude.{◌≡◌, ℕ, ◌+◌, ◌<◌, ◌≤◌, [], ◌∷◌, ◌++◌, length, drop, min, slice_get, option_copied, IfSome, IfNone, IfOk, IsTrue, ◌↔◌};
 ghost use Rattle.rsx_demand.specs.Demand.{saturating_total};
@@ -21,7 +29,9 @@ ghost use Rattle.rsx_prefetch.specs.Credits as spec;
 ghost use Rattle.rsx_prefetch.specs.Queue.{queue};
 
 use circular_buffer::HeapCircularBuffer;
+pub use queue::SignalQueue;
 use rsx_demand::{UNBOUNDED, saturating_total};
+pub use rsx_types::CAPACITY;
 use rsx_types::NoMemory;
 use std::alloc::Global;
 use std::marker::Model;

@@ -1,34 +1,20 @@
 -- Inputs of which one was changed.
-use Rattle.std.proofs.Common.{◌≡◌, ℕ, zero, suc, ◌<◌, ◌≤◌, ◌&&◌, Bool, true, false, List, [], ◌∷◌, length, slice_index_or, slice_set, slice_get, Some, refl, ap, sym, ◌∙◌, subst, arith}
+use Rattle.std.proofs.Common.{◌≡◌, ℕ, zero, suc, ◌<◌, ◌≤◌, ◌&&◌, Bool, true, false, List, [], ◌∷◌, length, slice_index_or, slice_set, slice_get, refl, ap, sym, ◌∙◌, subst, arith}
 use Rattle.std.proofs.Math.ListN.{replicate}
-use Rattle.rsx_types.specs.declared.signal.Ending.TheVariants.{Open as OpenEnding}
-use Rattle.rsx_types.specs.declared.signal.Signal.{Signal}
-use Rattle.rsx_types.specs.declared.signal.Signal.TheVariants.{Next, Complete, Error}
-use Rattle.rsx_types.specs.Stream.{Stream, ended_by, signals, signal_then}
-use Rattle.rsx_sources.specs.Counts.{ends_input, taken_after}
-use Rattle.rsx_sources.specs.Machine.{Incoming, in_front, in_front_at, front_of}
+use Rattle.rsx_types.proofs.Lists.{slice_get-set_same}
+use Rattle.rsx_sources.specs.Prelude.{Open as OpenEnding, Signal, Next, Complete, Error, Stream, ended_by, signals, signal_then, ends_input, taken_after, Incoming, in_front, in_front_at, front_of}
 use Rattle.rsx_sources.specs.declared.machine.Front.{Front}
-use Rattle.rsx_choices.specs.Pick.{numbered}
-use Rattle.rsx_crossing.specs.declared.tail.Tail.{Tail}
-use Rattle.rsx_crossing.specs.declared.tail.Tail.TheVariants.{Open, Completion, Failure, Taken}
-use Rattle.rsx_crossing.specs.Held.{is_open}
-use Rattle.rsx_crossing.specs.Queued.{is_ended}
+use Rattle.rsx_values.specs.Pick.{numbered}
+use Rattle.rsx_queued.specs.declared.tail.Tail.{Tail}
+use Rattle.rsx_queued.specs.declared.tail.Tail.TheVariants.{Open, Completion, Failure, Taken}
+use Rattle.rsx_queued.specs.Held.{is_open}
+use Rattle.rsx_queued.specs.Queued.{is_ended}
 use Rattle.rsx_queued.specs.declared.input.QueuedInput.{QueuedInput}
 use Rattle.rsx_queued.specs.Input.{still, takes, with_signal, fresh_input, is_taken, is_gone, has_room_for, IsCounted}
 use Rattle.rsx_queued.specs.Inputs.{takes_at, done_at, are_gone, AreCounted, here, inputs_left}
 use Rattle.rsx_queued.specs.Values.{head_of, tail_of, first_values}
 use Rattle.rsx_queued.proofs.Counts.{counted_with, counted_fresh}
 use Rattle.rsx_queued.proofs.Values.{front_list}
-
-pub length_set : {A : Type 0} (xs : List A) (i : ℕ) (x : A) → length (slice_set xs i x) ≡ length xs
-length_set [] i x = refl
-length_set (y ∷ xs) zero x = refl
-length_set (y ∷ xs) (suc i) x = ap suc (length_set xs i x)
-
-pub get_set : {A : Type 0} (xs : List A) (i : ℕ) (x : A) → i < length xs → slice_get (slice_set xs i x) i ≡ Some x
-get_set [] i x lt = absurd (omega arith)
-get_set (y ∷ xs) zero x lt = refl
-get_set (y ∷ xs) (suc i) x lt = get_set xs i x (omega arith)
 
 -- the input at i was q and is p
 pub done_stays : {T : Type 0} (qs : List (QueuedInput T)) (i j : ℕ) (q p : QueuedInput T) → q ≡ slice_index_or qs i q → (is_ended q.tail ≡ true → is_ended p.tail ≡ true) → done_at (slice_get qs j) ≡ true → done_at (slice_get (slice_set qs i p) j) ≡ true
@@ -128,7 +114,7 @@ pub put_done : {T : Type 0} (qs : List (QueuedInput T)) (i : ℕ) (s : Signal T)
 put_done qs i s old new p j d = done_stays qs i j old new p.was (λ e. ap (λ q. is_ended q.tail) p.with_it ∙ ended_with old s e) d
 
 pub put_ends : {T : Type 0} (qs : List (QueuedInput T)) (i : ℕ) (s : Signal T) (old new : QueuedInput T) → IsPut qs i s old new → ends_input s ≡ true → done_at (slice_get (slice_set qs i new) i) ≡ true
-put_ends qs i s old new p e = ap done_at (get_set qs i new p.there) ∙ ap (λ q. is_ended q.tail) p.with_it ∙ ending_with old s e
+put_ends qs i s old new p e = ap done_at (slice_get-set_same qs i new p.there) ∙ ap (λ q. is_ended q.tail) p.with_it ∙ ending_with old s e
 
 -- ---- nothing came in yet
 

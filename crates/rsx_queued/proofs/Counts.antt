@@ -1,18 +1,18 @@
 -- How many items an input took in.
-use Rattle.std.proofs.Common.{◌≡◌, ℕ, ◌+◌, ◌*◌, ◌/◌, ◌<◌, ◌≤◌, min, true, List, [], ◌∷◌, ◌++◌, length, drop, None, refl, ap, ◌∙◌, subst, arith}
+use Rattle.std.proofs.Common.{◌≡◌, ℕ, ◌+◌, ◌<◌, ◌≤◌, min, true, List, [], ◌∷◌, ◌++◌, length, drop, None, refl, ap, ◌∙◌, subst, arith}
 use Rattle.std.proofs.lemmas.Bool.Decides.{nat_tests}
 use Rattle.std.proofs.lemmas.List.{length-append}
-use Rattle.rsx_types.specs.declared.signal.Signal.{Signal}
-use Rattle.rsx_types.specs.declared.signal.Signal.TheVariants.{Next, Complete, Error}
+use Rattle.rsx_sources.specs.Prelude.{Signal, Next, Complete, Error}
 use Rattle.rsx_demand.specs.Demand.{saturating_total}
 use Rattle.rsx_demand.specs.declared.TheConstants.{UNBOUNDED}
 use Rattle.rsx_sources.specs.declared.machine.Front.{Front}
 use Rattle.rsx_sources.specs.declared.machine.Front.TheVariants.{Item, Completion as CompletionFront, Failure as FailureFront}
-use Rattle.rsx_prefetch.specs.Credits.{batch, credits}
+use Rattle.rsx_prefetch.proofs.Batches.{credits-more}
+use Rattle.rsx_prefetch.specs.Credits.{credits}
 use Rattle.rsx_prefetch.specs.Queue.{Queue, queue}
-use Rattle.rsx_crossing.specs.declared.tail.Tail.{Tail}
-use Rattle.rsx_crossing.specs.declared.tail.Tail.TheVariants.{Open, Completion, Failure, Taken}
-use Rattle.rsx_crossing.specs.Held.{is_open, first_held}
+use Rattle.rsx_queued.specs.declared.tail.Tail.{Tail}
+use Rattle.rsx_queued.specs.declared.tail.Tail.TheVariants.{Open, Completion, Failure, Taken}
+use Rattle.rsx_queued.specs.Held.{is_open, first_held}
 use Rattle.rsx_queued.specs.declared.input.QueuedInput.{QueuedInput}
 use Rattle.rsx_queued.specs.Input.{unless_taken, next_signal, has_room_for, takes, with_signal, without, fresh_input, IsPutIn, IsCountedBy, IsCounted, input_credits}
 
@@ -65,29 +65,18 @@ counted_with q (Error f) c h = tt
 
 -- ---- an input that is open and from which nothing can be taken out is empty: it takes any signal, and more is to be asked of it
 
-room_for : {T : Type 0} (q : Queue T) → q.items ≡ [] → 1 ≤ q.capacity → (f : Front) → has_room_for q f ≡ true
+pub room_for : {T : Type 0} (q : Queue T) → q.items ≡ [] → 1 ≤ q.capacity → (f : Front) → has_room_for q f ≡ true
 room_for q e p Item = let none : length q.items ≡ 0 = ap length e in grind (arith, nat_tests)
 room_for q e p CompletionFront = refl
 room_for q e p (FailureFront c) = refl
 
-nothing_held : {T : Type 0} (t : Tail) (xs : List T) → is_open t ≡ true → unless_taken t (first_held xs t) ≡ None → xs ≡ []
+-- it holds nothing where nothing is next
+pub nothing_held : {T : Type 0} (t : Tail) (xs : List T) → is_open t ≡ true → unless_taken t (first_held xs t) ≡ None → xs ≡ []
 nothing_held Open [] o e = refl
 nothing_held Open (x ∷ xs) o e = cc
 nothing_held Completion xs o e = cc
 nothing_held (Failure f) xs o e = cc
 nothing_held Taken xs o e = cc
-
-more_than : (p b c : ℕ) → 0 < b → b ≤ p → c < UNBOUNDED → c < min UNBOUNDED (p + b * (c / b))
-more_than p b c h le lt = omega arith
-
-batch_positive : (p : ℕ) → 1 ≤ p → 0 < batch p
-batch_positive p h = omega arith
-
-batch_within : (p : ℕ) → batch p ≤ p
-batch_within p = omega arith
-
-credits_more : (p c : ℕ) → 1 ≤ p → c < UNBOUNDED → c < credits p c
-credits_more p c h lt = more_than p (batch p) c (batch_positive p h) (batch_within p) lt
 
 counted_open : {T : Type 0} (t : Tail) (q : Queue T) (c : ℕ) → is_open t ≡ true → IsCountedBy t q c → (1 ≤ q.capacity) × IsPutIn q c
 counted_open Open q c o h = h
@@ -110,5 +99,5 @@ waits q c h o none lt =
     let same : c ≡ q.queue.taken = omega (arith, total, stored, zero_long, lt) in
     record {
       takes_any = λ f. rw o (room_for q.queue empty k.0 f);
-      wants = let P : ℕ → Type 0 = λ n. c < credits q.queue.capacity n in subst P same (credits_more q.queue.capacity c k.0 lt);
+      wants = let P : ℕ → Type 0 = λ n. c < credits q.queue.capacity n in subst P same (credits-more q.queue.capacity c k.0 lt);
     }

@@ -1,17 +1,12 @@
 -- Picks among inputs.
-use Rattle.std.proofs.Common.{◌≡◌, ℕ, suc, ◌+◌, ◌++◌, nat_eq, false, true, ◌&&◌, Bool, List, [], ◌∷◌, append_assoc, Option, Some, None, refl, ap, ◌∙◌, add-one, arith}
+use Rattle.std.proofs.Common.{◌≡◌, ℕ, suc, ◌+◌, ◌++◌, nat_eq, false, true, List, [], ◌∷◌, append_assoc, Option, Some, None, refl, ap, ◌∙◌, add-one, arith}
 use Rattle.std.proofs.lemmas.Bool.Decides.{nat_tests}
-use Rattle.rsx_types.specs.declared.note.Note.{Note}
-use Rattle.rsx_types.specs.declared.note.Note.TheVariants.{Nothing, Picks, Ended}
-use Rattle.rsx_types.specs.declared.signal.Signal.{Signal}
-use Rattle.rsx_types.specs.declared.signal.Signal.TheVariants.{Next, Complete, Error}
-use Rattle.rsx_types.specs.Notes.{note_then}
-use Rattle.rsx_types.specs.Stream.{Stream}
-use Rattle.rsx_sources.specs.Machine.{incoming_of}
-use Rattle.rsx_choices.specs.Pick.{InputLeft, next_of}
-use Rattle.rsx_crossing.specs.declared.tail.Tail.{Tail}
-use Rattle.rsx_crossing.specs.declared.tail.Tail.TheVariants.{Open, Completion, Failure, Taken}
-use Rattle.rsx_crossing.specs.Held.{held_then}
+use Rattle.std.proofs.lemmas.Bool.{eq-eqb, and_parts}
+use Rattle.rsx_sources.specs.Prelude.{Note, Nothing, Picks, Ended, Signal, Next, Complete, Error, note_then, Stream, incoming_of}
+use Rattle.rsx_values.specs.Pick.{InputLeft, next_of}
+use Rattle.rsx_queued.specs.declared.tail.Tail.{Tail}
+use Rattle.rsx_queued.specs.declared.tail.Tail.TheVariants.{Open, Completion, Failure, Taken}
+use Rattle.rsx_queued.specs.Held.{held_then}
 use Rattle.rsx_queued.specs.declared.input.QueuedInput.{QueuedInput}
 use Rattle.rsx_queued.specs.Input.{unless_taken, still, is_taken, is_gone, IsFirst}
 use Rattle.rsx_queued.specs.Inputs.{are_gone, here, inputs_left}
@@ -30,16 +25,13 @@ here_first k q qs vs old mid new m n =
 
 -- ---- the choice finds its input
 
-equal_itself : (k : ℕ) → nat_eq k k ≡ true
-equal_itself k = grind (arith, nat_tests)
-
 pub unequal : (c k i : ℕ) → c ≡ k + suc i → nat_eq c k ≡ false
 unequal c k i e = grind (arith, nat_tests)
 
 pub next_first : {T : Type 0} (k : ℕ) (o p : Option (Stream T)) (is : List (InputLeft T)) (s : Signal T) → IsFirst s o p → next_of k (here k o is) ≡ Some (s, here k p is)
-next_first k o p is (Next x) f = rw (f.1, f.2, equal_itself k) refl
-next_first k o p is Complete f = rw (f.0, f.1, equal_itself k) refl
-next_first k o p is (Error c) f = rw (f.0, f.1, equal_itself k) refl
+next_first k o p is (Next x) f = rw (f.1, f.2, eq-eqb k k refl) refl
+next_first k o p is Complete f = rw (f.0, f.1, eq-eqb k k refl) refl
+next_first k o p is (Error c) f = rw (f.0, f.1, eq-eqb k k refl) refl
 
 pub next_beside : {T : Type 0} (c k : ℕ) (o : Option (Stream T)) (is js : List (InputLeft T)) (s : Signal T) → nat_eq c k ≡ false → next_of c is ≡ Some (s, js) → next_of c (here k o is) ≡ Some (s, here k o js)
 next_beside c k None is js s u e = e
@@ -47,25 +39,17 @@ next_beside c k (Some v) is js s u e = rw (u, e) refl
 
 -- ---- the endings of all were taken out
 
-gone_still : {T : Type 0} (t : Tail) (o : Option (Stream T)) → is_taken t ≡ true → unless_taken t o ≡ None
+pub gone_still : {T : Type 0} (t : Tail) (o : Option (Stream T)) → is_taken t ≡ true → unless_taken t o ≡ None
 gone_still Open o e = cc
 gone_still Completion o e = cc
 gone_still (Failure c) o e = cc
 gone_still Taken o e = refl
 
-and_left : (a b : Bool) → a && b ≡ true → a ≡ true
-and_left true b e = refl
-and_left false b e = e
-
-and_right : (a b : Bool) → a && b ≡ true → b ≡ true
-and_right true b e = e
-and_right false b e = cc
-
 pub none_left : {T : Type 0} (k : ℕ) (qs : List (QueuedInput T)) (vs : List (Stream T)) → are_gone qs ≡ true → inputs_left k qs vs ≡ []
 none_left k [] vs e = refl
 none_left k (q ∷ qs) vs e =
-    ap (λ o. here k o (inputs_left (suc k) qs (tail_of vs))) (gone_still q.tail (Some (held_then q.queue.items q.tail (head_of vs))) (and_left (is_gone q) (are_gone qs) e))
-    ∙ none_left (suc k) qs (tail_of vs) (and_right (is_gone q) (are_gone qs) e)
+    ap (λ o. here k o (inputs_left (suc k) qs (tail_of vs))) (gone_still q.tail (Some (held_then q.queue.items q.tail (head_of vs))) (and_parts (is_gone q) (are_gone qs) e).0)
+    ∙ none_left (suc k) qs (tail_of vs) (and_parts (is_gone q) (are_gone qs) e).1
 
 -- ---- nothing more is chosen
 

@@ -1,12 +1,10 @@
 -- A queue with one item less, and one that is copied item by item.
 use Rattle.std.proofs.Common.{◌≡◌, ℕ, zero, suc, ◌+◌, false, List, [], ◌∷◌, ◌++◌, take, slice_get, Some, refl, ap, ◌∙◌, add-one, append_assoc}
 use Rattle.std.proofs.lemmas.Option.{same_Some}
-use Rattle.rsx_types.specs.declared.signal.Signal.{Signal}
-use Rattle.rsx_types.specs.declared.signal.Signal.TheVariants.{Next}
-use Rattle.rsx_types.specs.Stream.{Stream}
-use Rattle.rsx_crossing.specs.declared.tail.Tail.{Tail}
-use Rattle.rsx_crossing.specs.declared.tail.Tail.TheVariants.{Open, Completion, Failure, Taken}
-use Rattle.rsx_crossing.specs.Held.{held_then, tail_signal, tail_taken}
+use Rattle.rsx_sources.specs.Prelude.{Signal, Next, Stream}
+use Rattle.rsx_queued.specs.declared.tail.Tail.{Tail}
+use Rattle.rsx_queued.specs.declared.tail.Tail.TheVariants.{Open, Completion, Failure, Taken}
+use Rattle.rsx_queued.specs.Held.{held_then, tail_signal, tail_taken}
 use Rattle.rsx_queued.specs.Input.{unless_taken, is_taken, IsFirst}
 
 -- an item in front of the others comes first

@@ -1,10 +1,7 @@
 -- The values that come in, one by one.
-use Rattle.std.proofs.Common.{◌≡◌, ℕ, zero, suc, ◌+◌, ◌<◌, ◌≤◌, List, [], ◌∷◌, drop, length, slice_get, slice_index_or, Some, None, refl, sym, ◌∙◌, arith, add-one}
+use Rattle.std.proofs.Common.{◌≡◌, ℕ, zero, suc, ◌+◌, ◌<◌, List, [], ◌∷◌, drop, length, slice_get, slice_index_or, Some, None, refl, sym, ◌∙◌, arith, add-one}
 use Rattle.std.proofs.lemmas.Option.{same_Some}
-use Rattle.rsx_types.specs.declared.signal.Ending.TheVariants.{Open}
-use Rattle.rsx_types.specs.declared.signal.Signal.{Signal}
-use Rattle.rsx_types.specs.Stream.{Stream, ended_by}
-use Rattle.rsx_sources.specs.Machine.{Incoming, in_front, in_front_at}
+use Rattle.rsx_sources.specs.Prelude.{Open, Signal, Stream, ended_by, Incoming, in_front, in_front_at}
 use Rattle.rsx_queued.specs.Values.{tail_of, value_at}
 
 pub front_list : {T : Type 0} (i : ℕ) (s : Signal T) (inc : Incoming T) → (in_front i s inc).first ∷ (in_front i s inc).others ≡ in_front_at i s (inc.first ∷ inc.others)
@@ -16,17 +13,6 @@ tail_drop [] zero = refl
 tail_drop [] (suc k) = rw add-one refl
 tail_drop (v ∷ vs) zero = refl
 tail_drop (v ∷ vs) (suc k) = tail_drop vs k ∙ rw add-one (rw add-one refl)
-
-pub drop_here : {A : Type 0} (xs : List A) (k : ℕ) (d : A) → k < length xs → drop k xs ≡ slice_index_or xs k d ∷ drop (k + 1) xs
-drop_here [] k d lt = absurd (omega arith)
-drop_here (x ∷ xs) zero d lt = refl
-drop_here (x ∷ xs) (suc k) d lt = drop_here xs k d (omega arith) ∙ rw add-one (rw add-one refl)
-
-pub drop_all : {A : Type 0} (xs : List A) (k : ℕ) → length xs ≤ k → drop k xs ≡ []
-drop_all [] zero le = refl
-drop_all [] (suc k) le = refl
-drop_all (y ∷ xs) zero le = absurd (omega arith)
-drop_all (y ∷ xs) (suc k) le = drop_all xs k (omega arith)
 
 pub value_there : {T : Type 0} (vs : List (Stream T)) (k : ℕ) (v : Stream T) → Some v ≡ slice_get vs k → value_at vs k ≡ v
 value_there [] k v e = cc

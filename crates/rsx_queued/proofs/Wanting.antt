@@ -1,13 +1,12 @@
 -- Inputs at which a signal is next, or that wait for more.
 use Rattle.std.proofs.Common.{◌≡◌, ℕ, suc, ◌<◌, ◌⊎◌, inl, inr, ◌&&◌, Bool, true, false, List, [], ◌∷◌, length, slice_get, Option, Some, None, refl, sym, ap, ◌∙◌, arith}
-use Rattle.rsx_types.specs.declared.signal.Signal.{Signal}
+use Rattle.rsx_sources.specs.Prelude.{Signal, AreWithin}
 use Rattle.rsx_demand.specs.declared.TheConstants.{UNBOUNDED}
-use Rattle.rsx_sources.specs.Counts.{AreWithin}
 use Rattle.rsx_sources.specs.declared.machine.Front.{Front}
-use Rattle.rsx_crossing.specs.declared.tail.Tail.{Tail}
-use Rattle.rsx_crossing.specs.declared.tail.Tail.TheVariants.{Open, Completion, Failure, Taken}
-use Rattle.rsx_crossing.specs.Held.{is_open, first_held}
-use Rattle.rsx_crossing.specs.Queued.{is_ended}
+use Rattle.rsx_queued.specs.declared.tail.Tail.{Tail}
+use Rattle.rsx_queued.specs.declared.tail.Tail.TheVariants.{Open, Completion, Failure, Taken}
+use Rattle.rsx_queued.specs.Held.{is_open, first_held}
+use Rattle.rsx_queued.specs.Queued.{is_ended}
 use Rattle.rsx_queued.specs.declared.input.QueuedInput.{QueuedInput}
 use Rattle.rsx_queued.specs.Input.{unless_taken, is_taken, is_gone, next_signal, IsCounted}
 use Rattle.rsx_queued.specs.Inputs.{takes_at, next_signal_at, credits_at, done_at, are_gone, AreCounted}
@@ -32,7 +31,7 @@ pub record IsWanting {T : Type 0} (qs : List (QueuedInput T)) (taken : List ℕ)
 pub wants_behind : {T : Type 0} (q : QueuedInput T) (qs : List (QueuedInput T)) (c : ℕ) (cs : List ℕ) → IsWanting qs cs → IsWanting (q ∷ qs) (c ∷ cs)
 wants_behind q qs c cs p = record { i = suc p.i; c = p.c; at = p.at; open_still = p.open_still; takes_any = p.takes_any; wants = p.wants }
 
-nothing_next : {T : Type 0} (t : Tail) (xs : List T) → unless_taken t (first_held xs t) ≡ None → is_taken t ≡ false → (is_open t ≡ true) × (is_ended t ≡ false)
+pub nothing_next : {T : Type 0} (t : Tail) (xs : List T) → unless_taken t (first_held xs t) ≡ None → is_taken t ≡ false → (is_open t ≡ true) × (is_ended t ≡ false)
 nothing_next Open xs e g = (refl, refl)
 nothing_next Completion [] e g = cc
 nothing_next Completion (x ∷ xs) e g = cc

@@ -1,18 +1,15 @@
 -- One input of a node that queues what comes in there: what stands in it, and what its calls make of that.
 use Rattle.std.specs.Prelude.{◌≡◌, ⊤, ℕ, ◌+◌, ◌≤◌, min, Bool, true, false, ◌&&◌, nat_lt, [], ◌∷◌, ◌++◌, length, drop, Option, Some, None}
-use Rattle.rsx_types.specs.declared.signal.Ending.TheVariants.{Done, Failed}
-use Rattle.rsx_types.specs.declared.signal.Signal.{Signal}
-use Rattle.rsx_types.specs.declared.signal.Signal.TheVariants.{Next, Complete, Error}
-use Rattle.rsx_types.specs.Stream.{Stream, ended_by, item_then}
+use Rattle.rsx_sources.specs.Prelude.{Done, Failed, Signal, Next, Complete, Error, Stream, ended_by, item_then}
 use Rattle.rsx_demand.specs.Demand.{saturating_total}
 use Rattle.rsx_demand.specs.declared.TheConstants.{UNBOUNDED}
 use Rattle.rsx_sources.specs.declared.machine.Front.{Front}
 use Rattle.rsx_sources.specs.declared.machine.Front.TheVariants.{Item, Completion as CompletionFront, Failure as FailureFront}
 use Rattle.rsx_prefetch.specs.Credits.{credits}
 use Rattle.rsx_prefetch.specs.Queue.{Queue, queue}
-use Rattle.rsx_crossing.specs.declared.tail.Tail.{Tail}
-use Rattle.rsx_crossing.specs.declared.tail.Tail.TheVariants.{Open, Completion, Failure, Taken}
-use Rattle.rsx_crossing.specs.Held.{is_open, held_then, first_held}
+use Rattle.rsx_queued.specs.declared.tail.Tail.{Tail}
+use Rattle.rsx_queued.specs.declared.tail.Tail.TheVariants.{Open, Completion, Failure, Taken}
+use Rattle.rsx_queued.specs.Held.{is_open, held_then, first_held}
 use Rattle.rsx_queued.specs.declared.input.QueuedInput.{QueuedInput}
 
 -- nothing once the ending was taken out

@@ -1,12 +1,9 @@
 -- The inputs of a node: what each takes, how many items it took in, and what can still be picked of it.
 use Rattle.std.specs.Prelude.{⊤, ℕ, suc, Bool, true, false, ◌&&◌, List, [], ◌∷◌, Option, Some, None}
-use Rattle.rsx_types.specs.declared.note.Note.{Note}
-use Rattle.rsx_types.specs.declared.note.Note.TheVariants.{Nothing, Picks, Ended}
-use Rattle.rsx_types.specs.declared.signal.Signal.{Signal}
-use Rattle.rsx_types.specs.Stream.{Stream, signals}
+use Rattle.rsx_sources.specs.Prelude.{Note, Nothing, Picks, Ended, Signal, Stream, signals}
 use Rattle.rsx_sources.specs.declared.machine.Front.{Front}
-use Rattle.rsx_crossing.specs.Queued.{is_ended}
-use Rattle.rsx_choices.specs.Pick.{InputLeft}
+use Rattle.rsx_queued.specs.Queued.{is_ended}
+use Rattle.rsx_values.specs.Pick.{InputLeft}
 use Rattle.rsx_queued.specs.declared.input.QueuedInput.{QueuedInput}
 use Rattle.rsx_queued.specs.Input.{still, takes, is_gone, next_signal, input_credits, IsCounted}
 use Rattle.rsx_queued.specs.Values.{head_of, tail_of}

@@ -1,17 +1,11 @@
 -- What the laws of nodes with such an output rest on.
 use Rattle.std.specs.Prelude.{◌≡◌, ℕ, suc, true, false, List, [], ◌∷◌, ◌++◌, length, slice_get, Option, Some, None, refl}
 use Rattle.std.proofs.Common.{ap}
-use Rattle.rsx_types.specs.declared.note.Note.{Note}
-use Rattle.rsx_types.specs.declared.note.Note.TheVariants.{Nothing, Picks, Ended}
-use Rattle.rsx_types.specs.declared.signal.Signal.{Signal}
-use Rattle.rsx_types.specs.declared.signal.Signal.TheVariants.{Next, Complete, Error}
-use Rattle.rsx_types.specs.Stream.{Stream}
-use Rattle.rsx_sources.specs.Counts.{ends_input}
-use Rattle.rsx_sources.specs.Machine.{incoming_of}
-use Rattle.rsx_crossing.specs.declared.tail.Tail.{Tail}
-use Rattle.rsx_crossing.specs.declared.tail.Tail.TheVariants.{Open, Completion, Failure, Taken}
-use Rattle.rsx_crossing.specs.Held.{held_then}
-use Rattle.rsx_crossing.specs.Queued.{is_ended}
+use Rattle.rsx_sources.specs.Prelude.{Note, Nothing, Picks, Ended, Signal, Next, Complete, Error, Stream, ends_input, incoming_of}
+use Rattle.rsx_queued.specs.declared.tail.Tail.{Tail}
+use Rattle.rsx_queued.specs.declared.tail.Tail.TheVariants.{Open, Completion, Failure, Taken}
+use Rattle.rsx_queued.specs.Held.{held_then}
+use Rattle.rsx_queued.specs.Queued.{is_ended}
 use Rattle.rsx_queued.specs.declared.input.QueuedInput.{QueuedInput}
 use Rattle.rsx_queued.specs.declared.output.Output.{Output}
 use Rattle.rsx_queued.specs.declared.output.Output.TheVariants.{Empty, Waiting, Over}

@@ -1,8 +1,6 @@
 -- What a node with several inputs has put out: one signal at a time, and nothing behind an ending.
-use Rattle.std.specs.Prelude.{◌≡◌, Bool, true, false, Option, Some, None, option_map}
-use Rattle.rsx_types.specs.declared.signal.Signal.{Signal}
-use Rattle.rsx_types.specs.declared.signal.Signal.TheVariants.{Next, Complete, Error}
-use Rattle.rsx_types.specs.Stream.{Stream, signal_then}
+use Rattle.std.specs.Prelude.{◌≡◌, ℕ, zero, suc, Bool, true, false, Option, Some, None, option_map}
+use Rattle.rsx_sources.specs.Prelude.{Signal, Next, Complete, Error, Stream, signal_then}
 use Rattle.rsx_queued.specs.declared.output.Output.{Output}
 use Rattle.rsx_queued.specs.declared.output.Output.TheVariants.{Empty, Waiting, Over}
 
@@ -71,3 +69,8 @@ item_popped (Waiting (Next x)) = Empty
 item_popped (Waiting Complete) = Waiting Complete
 item_popped (Waiting (Error c)) = Waiting (Error c)
 item_popped Over = Over
+
+-- what a node of so many inputs puts out at first: one without inputs completes at once
+abbrev pub first_output : {T : Type 0} → ℕ → Output T
+first_output zero = Waiting Complete
+first_output (suc n) = Empty

@@ -1,12 +1,7 @@
 -- The values that come in at the inputs of a node, in their order.
 use Rattle.std.specs.Prelude.{ℕ, zero, suc, List, [], ◌∷◌, drop}
-use Rattle.rsx_types.specs.declared.signal.Ending.TheVariants.{Open}
-use Rattle.rsx_types.specs.Stream.{Stream, ended_by}
-
--- the first value; nothing comes at an input that has no value
-abbrev pub head_of : {T : Type 0} → List (Stream T) → Stream T
-head_of [] = ended_by Open
-head_of (v ∷ vs) = v
+use Rattle.rsx_types.specs.Stream.{Stream}
+pub use Rattle.rsx_sources.specs.Heads.{head_of}
 
 -- the values behind the first
 abbrev pub tail_of : {A : Type 0} → List A → List A

@@ -6,7 +6,7 @@ ghost use Rattle.rsx_sources.specs.Machine.{front_of};
 ghost use Rattle.rsx_prefetch.specs.declared.TheConstants.{LARGEST};
 ghost use Rattle.rsx_queued.specs.Input.{fresh_input, still, takes, is_gone, next_signal, with_signal, without, Gives, input_credits};
 
-use rsx_crossing::Tail;
+use crate::Tail;
 use rsx_prefetch::{LARGEST, Prefetch};
 use rsx_sources::Front;
 use rsx_types::{Ending, NoMemory, Ops, Signal, StreamValue};

@@ -1,15 +1,15 @@
 //! The inputs of a node: what each takes, and what can still be picked of them.
 
 ghost use Rattle.std.specs.Prelude.{◌≡◌, ◌<◌, ◌+◌, ◌^◌, ◌++◌, [], ℕ, List, length, slice_get, option_map, OnOk};
-ghost use Rattle.rsx_choices.specs.Pick.{InputLeft};
+ghost use Rattle.rsx_values.specs.Pick.{InputLeft};
 ghost use Rattle.rsx_sources.specs.Machine.{front_of};
 ghost use Rattle.rsx_queued.specs.Input.{still};
 ghost use Rattle.rsx_queued.specs.Inputs.{takes_at, next_signal_at, credits_at, are_gone, here, inputs_left};
 
 use crate::input::{QueuedInput, Remaining};
-use rsx_choices::Input;
 use rsx_sources::Front;
 use rsx_types::{Ending, NoMemory, Ops, StreamValue};
+use rsx_values::Input;
 use std::alloc::Global;
 
 /// Whether the input with this number takes such a signal. One that isn't there takes none.

@@ -3,7 +3,7 @@
 ghost use Rattle.std.specs.Prelude.{◌≡◌, true, IfSome, option_map};
 ghost use Rattle.rsx_types.specs.declared.signal.Signal.TheVariants.{Next};
 ghost use Rattle.rsx_sources.specs.Machine.{front_of};
-ghost use Rattle.rsx_queued.specs.Output.{out_signal, out_item, is_empty, has_ending, popped, item_popped, IsOut};
+ghost use Rattle.rsx_queued.specs.Output.{out_signal, out_item, is_empty, first_output, has_ending, popped, item_popped, IsOut};
 ghost use Rattle.rsx_queued.specs.declared.output.Output.{Output as OutputSpec};
 ghost use Rattle.rsx_queued.specs.declared.output.Output.TheVariants.{Waiting};
 
@@ -20,6 +20,16 @@ pub fn front_of<T>(signal: &Signal<T>) -> Front
         Signal::Complete => Front::Completion,
         Signal::Error(cause) => Front::Failure(*cause),
     }
+}
+
+/// What a node of so many inputs puts out at first: one without inputs completes at once.
+pub fn first_output<T: Drop>(inputs: u32) -> Output<T>
+    ensures { result ≡ first_output inputs }
+{
+    if inputs == 0 {
+        return Output::Waiting(Signal::Complete);
+    }
+    Output::Empty
 }
 
 /// What a node with several inputs has put out and its receiver has not taken yet: at most one signal. No call takes memory.

@@ -1,12 +1,8 @@
 -- How an item is pulled through a part.
 use Rattle.std.proofs.Common.{◌≡◌, ℕ, ◌+◌, ◌-◌, ◌<◌, true, List, [], ◌∷◌, ◌++◌, Option, Some, None, option_map, refl, ap, sym, subst, arith}
-use Rattle.rsx_types.specs.Meaning.{Meaning}
-use Rattle.rsx_types.specs.declared.signal.Signal.{Signal}
-use Rattle.rsx_types.specs.declared.signal.Signal.TheVariants.{Next}
-use Rattle.rsx_sources.specs.Machine.{front_of}
+use Rattle.rsx_sources.specs.Prelude.{Meaning, Signal, Next, front_of}
 use Rattle.rsx_sources.specs.declared.machine.Front.TheVariants.{Item}
-use Rattle.rsx_tree.specs.Edges.{edge_view, can_pass, passed}
-use Rattle.rsx_tree.specs.Fetched.{IsLed}
+use Rattle.rsx_tree.specs.Prelude.{edge_view, can_pass, passed, IsLed}
 use Rattle.rsx_tree.specs.declared.node.Node.{Node}
 use Rattle.rsx_sources.specs.declared.machine.Machine.{Ghosts as Machine}
 use Rattle.rsx_rooted.specs.Fetched.{IsFetched}

@@ -1,14 +1,10 @@
 -- The first enabled move of a part, from that of its tree.
 use Rattle.std.proofs.Common.{◌≡◌, ℕ, zero, suc, ◌+◌, ◌-◌, ◌<◌, ◌^◌, true, false, ◌&&◌, List, option_map, refl, ap, sym, ◌∙◌, subst, arith, Option, Some, None, IfSome, IfNone}
-use Rattle.rsx_types.specs.Meaning.{Meaning}
-use Rattle.rsx_types.specs.declared.signal.Signal.{Signal}
-use Rattle.rsx_sources.specs.Machine.{front_of}
+use Rattle.rsx_sources.specs.Prelude.{Meaning, Signal, front_of}
 use Rattle.rsx_sources.specs.declared.machine.Machine.{Ghosts as Machine}
-use Rattle.rsx_tree.specs.Edges.{edge_view}
-use Rattle.rsx_tree.specs.Look.{IsEnabledAt, IsStepEnabled}
+use Rattle.rsx_tree.specs.Prelude.{edge_view, IsEnabledAt, IsStepEnabled, IsStill as NoStep, over, station, station_of}
 use Rattle.rsx_tree.specs.declared.look.NodeMove.{NodeMove}
 use Rattle.rsx_tree.specs.declared.look.NodeMove.TheVariants.{Ask, Send, Pick, Row}
-use Rattle.rsx_tree.specs.Stepped.{IsStill as NoStep, over, station, station_of}
 use Rattle.rsx_rooted.specs.Rooted.{ask_enabled, send_enabled, pick_enabled, row_enabled, move_enabled, has_room, IsNumbered}
 use Rattle.rsx_rooted.specs.Tree.{can_ask, can_send, can_go, offers, IsStill}
 use Rattle.rsx_rooted.specs.declared.rooted.Rooted.{Rooted}

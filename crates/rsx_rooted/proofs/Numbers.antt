@@ -1,6 +1,7 @@
 -- Numbers of edges: the root edge is 0, and those below it follow.
 use Rattle.std.proofs.Common.{◌≡◌, ℕ, ◌+◌, ◌-◌, ◌<◌, Bool, true, false, nat_eq, if◌then◌else◌, List, ◌∷◌, ap, sym, ◌∙◌, arith, Option, Some}
 use Rattle.std.proofs.lemmas.Bool.Decides.{nat_tests}
+use Rattle.rsx_types.proofs.Numbers.{not_zero}
 use Rattle.rsx_sources.specs.declared.machine.Front.{Front}
 use Rattle.rsx_tree.specs.Edges.{EdgeView, asked_up_to, changed_at}
 use Rattle.rsx_tree.proofs.Changes.{chosen_second}
@@ -10,9 +11,6 @@ suc_minus at = omega arith
 
 pub above_zero : (at : ℕ) (x y : Bool) → (if nat_eq (at + 1) 0 then x else y) ≡ y
 above_zero at x y = grind (arith, nat_tests)
-
-not_zero : (at : ℕ) → 0 < at → nat_eq at 0 ≡ false
-not_zero at h = grind (arith, nat_tests)
 
 pub not_root : (at : ℕ) (x y : Bool) → (at ≡ 0 → ⊥) → (if nat_eq at 0 then x else y) ≡ y
 not_root at x y h = grind (arith, nat_tests, h)
@@ -29,6 +27,3 @@ asked_all root es es' at w first z e =
 
 pub front_there : (at : ℕ) (root below : Option Front) (f : Front) → 0 < at → below ≡ Some f → (if nat_eq at 0 then root else below) ≡ Some f
 front_there at root below f z e = chosen_second (nat_eq at 0) root below (not_zero at z) ∙ e
-
-pub above_root : (at : ℕ) → 0 < at → nat_eq at 0 ≡ false
-above_root at z = not_zero at z

@@ -2,24 +2,16 @@
 use Rattle.std.proofs.Common.{◌≡◌, ◌⊎◌, inl, inr, ℕ, zero, suc, ◌+◌, ◌-◌, ◌<◌, ◌≤◌, min, Bool, true, false, ◌&&◌, nat_eq, nat_lt, if◌then◌else◌, List, [], ◌∷◌, ◌++◌, length, length-append, take, map, option_map, Option, Some, None, Ok, refl, ap, sym, ◌∙◌, subst, arith, append_assoc, add-zero}
 use Rattle.std.proofs.lemmas.Bool.Decides.{nat_tests}
 use Rattle.std.proofs.lemmas.List.{append-nil, take_all}
+use Rattle.std.proofs.lemmas.Bool.{both_ways, and_parts}
+use Rattle.rsx_types.proofs.Numbers.{not_zero}
 use Rattle.rsx_model.specs.declared.check.TheConstants.{MOST_NODES}
-use Rattle.rsx_types.specs.declared.limits.TheConstants.{CAPACITY}
+use Rattle.rsx_sources.specs.Prelude.{CAPACITY, Meaning, Allocates, notes_then, Stream, signals_then, Note, Signal, Next, Complete, Error, front_of, IsNotMade}
 use Rattle.rsx_model.specs.declared.expr.Expr.{Expr}
-use Rattle.rsx_types.specs.Meaning.{Meaning, Allocates}
-use Rattle.rsx_types.specs.Notes.{unchosen, notes_then}
-use Rattle.rsx_types.specs.Stream.{Stream, ended_by, signals_then}
-use Rattle.rsx_types.specs.declared.signal.Ending.{Ending}
-use Rattle.rsx_types.specs.declared.signal.Ending.TheVariants.{Open, Done, Failed}
-use Rattle.rsx_types.specs.declared.note.Note.{Note}
-use Rattle.rsx_types.specs.declared.signal.Signal.{Signal}
-use Rattle.rsx_types.specs.declared.signal.Signal.TheVariants.{Next, Complete, Error}
-use Rattle.rsx_sources.specs.Machine.{front_of}
 use Rattle.rsx_sources.specs.declared.machine.Front.{Front}
-use Rattle.rsx_tree.specs.Reads.{IsTreeReadAt}
-use Rattle.rsx_tree.specs.Edges.{changed_at, asked_up_to, edge_view, EdgeView, passed, is_live, closed_view, closed_state}
-use Rattle.rsx_rooted.specs.Output.{counts_in, items_in, IsUnended, more_after, published_then, values_then}
-use Rattle.rsx_rooted.specs.Rooted.{Stands, IsPutOut, IsRootSent, IsMade, IsMoved, IsMovedBy, IsPumped, IsQuiet, IsSpent, HasEnded, IsAsk, IsSend, IsEffect, IsTreeSent, GoesOut, all_edges, sent_at, send_enabled, move_enabled, has_room, make_allocates, evaluated, pump_allocates, IsPick, IsRow}
-use Rattle.rsx_rooted.specs.Tree.{comes_out, notes, offers, edges, edges_after, can_ask, can_send, can_go, want_at, want_in, front_at, front_in, ended_at, IsAllClosed, IsKept, IsAlike, step_allocates, IsAdvanced, IsAskedAt, IsSentAt, IsChosen, IsDriven, IsIdle, IsBalanced, IsBalancedAfter, IsWithin, pop_allocates, IsStill}
+use Rattle.rsx_tree.specs.Prelude.{IsTreeReadAt, changed_at, asked_up_to, edge_view, EdgeView, passed, closed_view, closed_state, IsSteppedAt, IsPickedHere, IsRowMadeHere, over, station_of, node_allocates, IsStepEnabled, wanted_at, edges as edges_in}
+use Rattle.rsx_rooted.specs.Output.{counts_in, items_in, IsUnended, values_then}
+use Rattle.rsx_rooted.specs.Rooted.{Stands, IsPutOut, IsRootSent, IsMade, IsMoved, IsMovedBy, IsPumped, IsQuiet, IsSpent, HasEnded, IsAsk, IsSend, IsEffect, IsTreeSent, GoesOut, sent_at, send_enabled, move_enabled, has_room, make_allocates, evaluated, pump_allocates, IsPick, IsRow}
+use Rattle.rsx_rooted.specs.Tree.{comes_out, notes, offers, edges, edges_after, can_ask, can_send, can_go, want_at, want_in, front_at, front_in, ended_at, IsAllClosed, IsKept, IsAlike, step_allocates, IsAdvanced, IsAskedAt, IsSentAt, IsChosen, IsDriven, IsIdle, IsBalanced, IsBalancedAfter, pop_allocates, IsStill}
 use Rattle.rsx_tree.specs.declared.look.NodeMove.{NodeMove}
 use Rattle.rsx_tree.specs.declared.look.NodeMove.TheVariants.{Ask, Send, Pick, Row}
 use Rattle.rsx_tree.specs.declared.node.Node.{Node}
@@ -30,28 +22,18 @@ use Rattle.rsx_rooted.specs.declared.rooted.Rooted.{Rooted}
 use Rattle.rsx_rooted.specs.declared.rooted.Pumped.{Pumped}
 use Rattle.rsx_rooted.specs.declared.rooted.Pumped.TheVariants.{Idle, Budget}
 use Rattle.rsx_sources.specs.declared.machine.Machine.{Ghosts as Machine}
-use Rattle.rsx_tree.specs.Stepped.{IsSteppedAt, IsPickedHere, IsRowMadeHere, over, station_of}
-use Rattle.rsx_tree.specs.Allocates.{node_allocates}
-use Rattle.rsx_sources.specs.Steps.{IsNotMade}
 use Rattle.rsx_sources.specs.declared.machine.NotMade.{NotMade}
 use Rattle.rsx_sources.specs.declared.machine.NotMade.TheVariants.{NotEnabled}
-use Rattle.rsx_tree.specs.Look.{IsStepEnabled}
 use Rattle.rsx_tree.proofs.Alike.{or_right, driven_alike, or_left}
 use Rattle.rsx_tree.proofs.Drives.{chosen_run}
-use Rattle.rsx_tree.proofs.Effects.{length_edges}
 use Rattle.rsx_tree.proofs.Noted.{kept_chosen, picked_effect, picked_enabled, row_effect, row_enabled as row_made_enabled}
-use Rattle.rsx_tree.specs.Inputs.{size, wanted_at, can_ask_in, can_send_in, edges as edges_in}
-use Rattle.rsx_tree.specs.Stepped.{can_pick_in, can_row_in}
 use Rattle.rsx_tree.proofs.Changes.{chosen_second}
-use Rattle.rsx_tree.proofs.Idles.{can_pass_live, live_still, place_none, station_none, less_or_more}
+use Rattle.rsx_tree.proofs.Idles.{can_pass_live, live_still, place_none, station_none}
 use Rattle.rsx_rooted.proofs.Numbers.{above_zero, suc_minus}
 use Rattle.rsx_rooted.proofs.Signals.{IsOrderly-more, IsUnended-more, IsUnended-last, items_in-append, map_then-last, prefix_of_orderly, cut_value}
-use Rattle.rsx_tree.proofs.Shut.{pass_live, and_right, pick_alive, row_alive}
-use Rattle.rsx_rooted.proofs.Trees.{advanced_not_closed, ask_not_closed, send_not_closed, go_live, notes_then-unchosen, unchosen_notes, get_behind}
-use Rattle.rsx_rooted.proofs.Numbers.{front_there, above_root, asked_all, at_zero}
-
-never : (b : Bool) → b ≡ true → b ≡ false → ⊥
-never b x y = cc
+use Rattle.rsx_tree.proofs.Shut.{pass_live, pick_alive, row_alive}
+use Rattle.rsx_rooted.proofs.Trees.{advanced_not_closed, ask_not_closed, send_not_closed, go_live, notes_then-unchosen, unchosen_notes}
+use Rattle.rsx_rooted.proofs.Numbers.{front_there, asked_all, at_zero}
 
 -- ---- what goes out
 
@@ -244,7 +226,7 @@ pub sent_below_root : {M T : Type 0} (b : Machine M T) (m : Meaning T) (old : Ro
 sent_below_root {M = M} {T = T} b m old tree at z k =
     let Q : Bool → Type 0 = λ root. GoesOut b m old root [] in
     let S : Bool → Type 0 = λ root. IsTreeSent b m old at root [] (record { tree = tree; root = old.root }) in
-    let not : nat_eq at 0 ≡ false = above_root at z in
+    let not : nat_eq at 0 ≡ false = not_zero at z in
     let ended : Bool = ended_at b tree (at - 1) in
     let same : (if nat_eq at 0 then false else ended) ≡ ended = chosen_second (nat_eq at 0) false ended not in
     let there : sent_at ended k.front old at ≡ edge_view old.root ∷ edges_after ended k.front old.tree (at - 1) = chosen_second (nat_eq at 0) _ _ not in
@@ -376,13 +358,6 @@ made_ask {T = T} b m move n old new queue e effect stands root alike =
     let P : NodeMove → Type 0 = λ mv. IsEffect b m mv old [] new in
     made_inside b m move old new queue (subst P (sym e) (refl, effect)) stands root alike
 
-pub made_below : {M T : Type 0} (b : Machine M T) (m : Meaning T) (move : NodeMove) (n : ℕ) (old new : Rooted M) (queue : List (Signal T)) → move ≡ Send n → 0 < n → IsSend b m old ((n - 1) + 1) [] new → IsPutOut b m old [] new → new.root ≡ old.root → IsAlike b old.tree new.tree → IsMade b m move old queue new queue
-made_below {T = T} b m move n old new queue e z effect stands root alike =
-    let P : NodeMove → Type 0 = λ mv. IsEffect b m mv old [] new in
-    let Q : ℕ → Type 0 = λ i. IsSend b m old i [] new in
-    let same : (n - 1) + 1 ≡ n = omega (arith, z) in
-    made_inside b m move old new queue (subst P (sym e) (subst Q same effect)) stands root alike
-
 pub made_pick : {M T : Type 0} (b : Machine M T) (m : Meaning T) (move : NodeMove) (n input : ℕ) (old new : Rooted M) (queue : List (Signal T)) → move ≡ Pick n input → IsPick b old n input new → IsPutOut b m old [] new → IsAlike b old.tree new.tree → IsMade b m move old queue new queue
 made_pick {T = T} b m move n input old new queue e effect stands alike =
     let P : NodeMove → Type 0 = λ mv. IsEffect b m mv old [] new in
@@ -422,7 +397,7 @@ moved_alive {M = M} {T = T} b m old new queue queue' out k closed shut = by_move
       | inr a ↦ ask_not_closed b old.tree (n - 1) old.root.demand.asked old.root.demand.sent a closed
     ]
     by_move (Send n) e = elim (below n (has_room queue && can_go (edge_view old.root) (option_map front_of (offers b m old.tree))) (can_send b m old.tree (n - 1)) e) [
-      | inl r ↦ shut (go_live (edge_view old.root) (option_map front_of (offers b m old.tree)) (and_right (has_room queue) _ r))
+      | inl r ↦ shut (go_live (edge_view old.root) (option_map front_of (offers b m old.tree)) (and_parts (has_room queue) _ r).1)
       | inr s ↦ send_not_closed b m old.tree (n - 1) s closed
     ]
     by_move (Pick n input) e = pick_alive b old.tree (edge_view old.root) n input e closed shut
@@ -466,7 +441,7 @@ root_step_free b a part (Row n) h free = ap (λ k. step_allocates b a part.tree 
 
 -- an enabled move isn't refused but for want of memory
 pub not_refused : (can : Bool) (e : NotMade) → can ≡ true → IsNotMade can e → e ≡ NotEnabled → ⊥
-not_refused can e enabled h is = let other : IsNotMade can NotEnabled = subst (IsNotMade can) is h in never can enabled other
+not_refused can e enabled h is = let other : IsNotMade can NotEnabled = subst (IsNotMade can) is h in both_ways can other enabled
 
 -- ---- where no move is enabled
 

@@ -1,16 +1,10 @@
 -- A signal that goes over the root edge straight to a receiver, and the moves inside the tree.
 use Rattle.std.proofs.Common.{◌≡◌, ℕ, ◌+◌, ◌-◌, ◌<◌, ◌≤◌, ◌^◌, Bool, true, false, if◌then◌else◌, List, [], ◌∷◌, Option, Some, None, IfSome, IfNone, option_map, refl, ap, sym, ◌∙◌, subst, arith}
 use Rattle.std.proofs.Math.Bridge.{le_prop}
-use Rattle.rsx_types.specs.Meaning.{Meaning}
-use Rattle.rsx_types.specs.declared.signal.Signal.{Signal}
-use Rattle.rsx_types.specs.declared.signal.Signal.TheVariants.{Complete}
-use Rattle.rsx_sources.specs.Machine.{front_of}
+use Rattle.rsx_sources.specs.Prelude.{Meaning, Signal, Complete, front_of, CAPACITY}
 use Rattle.rsx_sources.specs.declared.machine.Front.{Front}
 use Rattle.rsx_sources.specs.declared.machine.Machine.{Ghosts as Machine}
-use Rattle.rsx_tree.specs.Edges.{EdgeView, can_pass, edge_view, passed}
-use Rattle.rsx_tree.specs.Handed.{times}
-use Rattle.rsx_tree.specs.Look.{IsEnabledAt, IsStepEnabled}
-use Rattle.rsx_tree.specs.Stepped.{IsStill as NoStep, over, station, station_of}
+use Rattle.rsx_tree.specs.Prelude.{EdgeView, can_pass, edge_view, passed, times, IsEnabledAt, IsStepEnabled, IsStill as NoStep, over, station, station_of, popped}
 use Rattle.rsx_tree.specs.declared.look.NodeMove.{NodeMove}
 use Rattle.rsx_tree.specs.declared.look.NodeMove.TheVariants.{Ask, Send, Pick, Row}
 use Rattle.rsx_tree.specs.declared.edge.EdgeState.TheVariants.{Live}
@@ -20,8 +14,6 @@ use Rattle.rsx_rooted.specs.Tree.{IsAlike, IsAskedAt, IsLetGo, IsPickedAt, IsRow
 use Rattle.rsx_rooted.specs.declared.rooted.Rooted.{Rooted}
 use Rattle.rsx_demand.specs.declared.Demand.{Demand}
 use Rattle.rsx_demand.specs.declared.TheConstants.{UNBOUNDED}
-use Rattle.rsx_types.specs.declared.limits.TheConstants.{CAPACITY}
-use Rattle.rsx_tree.specs.Tree.{popped}
 use Rattle.rsx_tree.specs.declared.edge.Edge.{Edge}
 use Rattle.rsx_tree.specs.declared.node.Node.{Node}
 use Rattle.rsx_tree.proofs.Shut.{pass_live}

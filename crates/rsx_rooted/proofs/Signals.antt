@@ -1,18 +1,8 @@
 -- Lists of signals: endings, items, and what stands in front of a stream value.
 use Rattle.std.proofs.Common.{◌≡◌, List, [], ◌∷◌, ◌++◌, refl, ap, sym, ◌∙◌, Option, Some, None, option_map}
 use Rattle.std.proofs.lemmas.List.{append-nil}
-use Rattle.rsx_types.specs.Stream.{Stream, signal_then, signals_then}
-use Rattle.rsx_types.specs.declared.signal.Signal.{Signal}
-use Rattle.rsx_types.specs.declared.signal.Signal.TheVariants.{Next, Complete, Error}
+use Rattle.rsx_sources.specs.Prelude.{Stream, signal_then, signals_then, Signal, Next, Complete, Error}
 use Rattle.rsx_rooted.specs.Output.{items_in, IsUnended, IsOrderly, IsPrefixOf}
-
-pub IsOrderly-front : {T : Type 0} (a b : List (Signal T)) → IsOrderly (a ++ b) → IsOrderly a
-IsOrderly-front [] b h = tt
-IsOrderly-front (Next x ∷ a) b h = IsOrderly-front a b h
-IsOrderly-front (Complete ∷ []) b h = refl
-IsOrderly-front (Complete ∷ (s ∷ a)) b h = cc
-IsOrderly-front (Error c ∷ []) b h = refl
-IsOrderly-front (Error c ∷ (s ∷ a)) b h = cc
 
 -- what something follows has no ending
 pub unended_before : {T : Type 0} (a : List (Signal T)) (s : Signal T) (b : List (Signal T)) → IsOrderly (a ++ s ∷ b) → IsUnended a
@@ -63,19 +53,8 @@ items_in-append (Next x ∷ a) b = ap (λ l. x ∷ l) (items_in-append a b)
 items_in-append (Complete ∷ a) b = items_in-append a b
 items_in-append (Error c ∷ a) b = items_in-append a b
 
--- what came first begins the value
-pub prefix_of_then : {T : Type 0} (a : List (Signal T)) (v : Stream T) → IsUnended a → IsPrefixOf (items_in a) (signals_then a v).items
-prefix_of_then [] v h = (v.items, refl)
-prefix_of_then (Next x ∷ a) v h = let r = prefix_of_then a v h in (r.0, ap (λ l. x ∷ l) r.1)
-prefix_of_then (Complete ∷ a) v h = absurd h
-prefix_of_then (Error c ∷ a) v h = absurd h
-
 pub some_same : {A : Type 0} (a b : A) → Some a ≡ Some b → a ≡ b
 some_same a b e = cc
-
-pub prefix_of_some : {T : Type 0} (a : List (Signal T)) (o : Option (Stream T)) (v : Stream T) → IsUnended a → option_map (signals_then a) o ≡ Some v → IsPrefixOf (items_in a) v.items
-prefix_of_some a None v h e = cc
-prefix_of_some a (Some w) v h e = rw (sym (some_same (signals_then a w) v e)) (prefix_of_then a w h)
 
 -- two lists of signals in front, one behind the other
 pub map_then-append : {T : Type 0} (a b : List (Signal T)) (o : Option (Stream T)) → option_map (signals_then (a ++ b)) o ≡ option_map (signals_then a) (option_map (signals_then b) o)
@@ -85,10 +64,6 @@ map_then-append a b (Some v) = ap Some (signals_then-append a b v)
 pub map_then-last : {T : Type 0} (a : List (Signal T)) (s : Signal T) (o : Option (Stream T)) → option_map (signals_then (a ++ s ∷ [])) o ≡ option_map (signals_then a) (option_map (signal_then s) o)
 map_then-last a s None = refl
 map_then-last a s (Some v) = ap Some (signals_then-append a (s ∷ []) v)
-
-pub map_then-first : {T : Type 0} (s : Signal T) (b : List (Signal T)) (o : Option (Stream T)) → option_map (signals_then (s ∷ b)) o ≡ option_map (signal_then s) (option_map (signals_then b) o)
-map_then-first s b None = refl
-map_then-first s b (Some v) = refl
 
 -- the items of an orderly list begin every value that has the list in front
 pub prefix_orderly : {T : Type 0} (a : List (Signal T)) (v : Stream T) → IsOrderly a → IsPrefixOf (items_in a) (signals_then a v).items

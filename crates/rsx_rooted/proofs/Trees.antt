@@ -1,25 +1,18 @@
 -- The tree of a part: choices, and closed trees.
-use Rattle.std.proofs.Common.{◌≡◌, inl, inr, ℕ, suc, ◌+◌, true, List, [], ◌∷◌, ◌++◌, length, length-append, map, slice_get, refl, ap, sym, ◌∙◌, subst, arith, append_assoc, Option, Some, None}
-use Rattle.std.proofs.lemmas.List.{append-nil}
-use Rattle.rsx_types.specs.Meaning.{Meaning}
-use Rattle.rsx_types.specs.Notes.{note_then, notes_then, unchosen}
-use Rattle.rsx_types.specs.declared.note.Note.{Note}
-use Rattle.rsx_types.specs.declared.note.Note.TheVariants.{Nothing, Picks, Ended}
+use Rattle.std.proofs.Common.{◌≡◌, inl, inr, ℕ, suc, ◌+◌, true, List, [], ◌∷◌, ◌++◌, length, length-append, map, refl, ap, sym, ◌∙◌, subst, arith, append_assoc, Option, Some, None}
+use Rattle.std.proofs.lemmas.List.{append-nil, map-append}
+use Rattle.rsx_types.proofs.Lists.{slice_get_behind}
+use Rattle.rsx_sources.specs.Prelude.{Meaning, note_then, notes_then, unchosen, Note, Nothing, Picks, Ended}
 use Rattle.rsx_sources.specs.declared.machine.Front.{Front}
-use Rattle.rsx_sources.specs.Reading.{Reading, IsBehind}
 use Rattle.rsx_sources.specs.declared.machine.Machine.{Ghosts as Machine}
-use Rattle.rsx_types.specs.Stream.{Stream}
 use Rattle.rsx_tree.specs.declared.edge.EdgeState.TheVariants.{Live}
 use Rattle.rsx_tree.specs.declared.inputs.Inputs.{Inputs, End, More'}
 use Rattle.rsx_tree.specs.declared.node.Node.{Node}
-use Rattle.rsx_tree.specs.Edges.{EdgeView}
-use Rattle.rsx_tree.specs.Inputs.{size, comes_in, out_of, beside_of, notes_of as notes_in, IsUnchosen as IsUnchosenIn}
-use Rattle.rsx_tree.specs.Reads.{IsReadAt, IsRowReadAt, IsTreeReadAt}
-use Rattle.rsx_tree.specs.Residual.{IsRowBehind, IsTreeBehind}
-use Rattle.rsx_tree.specs.Tree.{IsUnchosen}
+use Rattle.rsx_tree.specs.Prelude.{EdgeView, IsUnchosen}
+use Rattle.rsx_tree.specs.Inputs.{size, notes_of as notes_in, IsUnchosen as IsUnchosenIn}
 use Rattle.rsx_tree.proofs.Shut.{pass_live}
 use Rattle.rsx_tree.proofs.Shut as Shut
-use Rattle.rsx_rooted.specs.Tree.{comes_out, can_ask, can_send, can_go, notes, IsAllClosed, IsAdvanced}
+use Rattle.rsx_rooted.specs.Tree.{can_ask, can_send, can_go, notes, IsAllClosed, IsAdvanced}
 
 -- ---- a closed tree
 
@@ -44,14 +37,6 @@ advanced_not_closed b m old new asked sent a h = elim a.made [
 pub unchosen_notes : (ns : List Note) → length (map unchosen ns) ≡ length ns
 unchosen_notes [] = refl
 unchosen_notes (n ∷ ns) = ap suc (unchosen_notes ns)
-
-pub get_behind : {A : Type 0} (before rest : List A) (a : A) → slice_get (before ++ a ∷ rest) (length before) ≡ Some a
-get_behind [] rest a = refl
-get_behind (b ∷ before) rest a = get_behind before rest a
-
-map-append : {A B : Type 0} (f : A → B) (xs ys : List A) → map f (xs ++ ys) ≡ map f xs ++ map f ys
-map-append f [] ys = refl
-map-append f (x ∷ xs) ys = ap (λ l. f x ∷ l) (map-append f xs ys)
 
 length_notes : {M T : Type 0} (b : Machine M T) (t : Inputs M) → length (notes_in b t) ≡ size t
 length_notes b End = refl
@@ -79,7 +64,7 @@ unchosen_row {T = T} b (More' e n p below q beside) before behind =
     let B : ℕ → Type 0 = λ i. IsUnchosenIn b ((first ++ inside) ++ (c ++ behind)) beside i in
     let under : IsUnchosenIn b (first ++ (inside ++ (c ++ behind))) below (length before + 1) = subst A longer (unchosen_row b below first (c ++ behind)) in
     let side : IsUnchosenIn b ((first ++ inside) ++ (c ++ behind)) beside (length before + 1 + size below) = subst B through (unchosen_row b beside (first ++ inside) behind) in
-    (get_behind before (map unchosen (notes_in b below ++ notes_in b beside) ++ behind) k, subst P (sym whole) under, subst Q (sym whole) (subst Q (append_assoc first inside (c ++ behind)) side))
+    (slice_get_behind before k (map unchosen (notes_in b below ++ notes_in b beside) ++ behind), subst P (sym whole) under, subst Q (sym whole) (subst Q (append_assoc first inside (c ++ behind)) side))
 
 pub unchosen_tree : {M T : Type 0} (b : Machine M T) (t : Node M) → IsUnchosen b (map unchosen (notes b t)) t 0
 unchosen_tree {T = T} b t =

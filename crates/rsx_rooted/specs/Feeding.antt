@@ -1,11 +1,8 @@
 -- A part whose receiver takes each signal straight from the root, with no queue between, as a hub does that the part feeds.
 use Rattle.std.specs.Prelude.{◌≡◌, ◌-◌, Bool, true, false, nat_eq, if◌then◌else◌, [], ◌∷◌, Option, Some, None, option_map}
-use Rattle.rsx_types.specs.Meaning.{Meaning}
-use Rattle.rsx_types.specs.declared.signal.Signal.{Signal}
-use Rattle.rsx_sources.specs.Machine.{front_of}
+use Rattle.rsx_sources.specs.Prelude.{Meaning, Signal, front_of}
 use Rattle.rsx_sources.specs.declared.machine.Machine.{Ghosts as Machine}
-use Rattle.rsx_tree.specs.Edges.{EdgeView, can_pass, edge_view, passed}
-use Rattle.rsx_tree.specs.Tree.{popped}
+use Rattle.rsx_tree.specs.Prelude.{EdgeView, can_pass, edge_view, passed, popped}
 use Rattle.rsx_tree.specs.declared.look.NodeMove.{NodeMove}
 use Rattle.rsx_tree.specs.declared.look.NodeMove.TheVariants.{Ask, Send, Pick, Row}
 use Rattle.rsx_tree.specs.declared.edge.EdgeState.TheVariants.{Closed}

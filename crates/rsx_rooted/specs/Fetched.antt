@@ -1,9 +1,7 @@
 -- An item that is pulled through a part in one go, and out over its root edge.
 use Rattle.std.specs.Prelude.{◌≡◌, ℕ, ◌+◌, true, List, [], ◌∷◌, ◌++◌, Option, Some, None}
-use Rattle.rsx_types.specs.Meaning.{Meaning}
+use Rattle.rsx_sources.specs.Prelude.{Meaning, Signal, Next}
 use Rattle.rsx_sources.specs.declared.machine.Machine.{Ghosts as Machine}
-use Rattle.rsx_types.specs.declared.signal.Signal.{Signal}
-use Rattle.rsx_types.specs.declared.signal.Signal.TheVariants.{Next}
 use Rattle.rsx_rooted.specs.Rooted.{IsPumped, has_room}
 use Rattle.rsx_rooted.specs.declared.rooted.Rooted.{Rooted}
 

@@ -1,10 +1,6 @@
 -- What a part has put out: lists of signals; and what was published to it, which is what the hubs took in.
 use Rattle.std.specs.Prelude.{◌≡◌, ℕ, zero, suc, List, [], ◌∷◌, ◌++◌, length, map, Option, Some, slice_get}
-use Rattle.rsx_types.specs.Stream.{Stream, items_then}
-use Rattle.rsx_types.specs.declared.signal.Ending.{Ending}
-use Rattle.rsx_types.specs.declared.signal.Ending.TheVariants.{Open, Done, Failed}
-use Rattle.rsx_types.specs.declared.signal.Signal.{Signal}
-use Rattle.rsx_types.specs.declared.signal.Signal.TheVariants.{Next, Complete, Error}
+use Rattle.rsx_sources.specs.Prelude.{Stream, items_then, Ending, Open, Done, Failed, Signal, Next, Complete, Error}
 use Rattle.rsx_tree.specs.Reads.{count_before}
 
 -- the items among the signals

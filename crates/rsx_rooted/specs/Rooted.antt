@@ -1,25 +1,15 @@
 -- A part: a tree with the edge from its root. What it stands for, which of its moves are enabled, and what they change.
-use Rattle.std.specs.Prelude.{◌≡◌, ℕ, zero, suc, ◌+◌, ◌-◌, ◌<◌, ◌≤◌, ◌^◌, min, Bool, true, false, ◌&&◌, nat_lt, nat_eq, if◌then◌else◌, List, [], ◌∷◌, ◌++◌, length, take, map, Option, Some, option_map, Result, Ok, Err}
+use Rattle.std.specs.Prelude.{◌≡◌, ℕ, zero, suc, ◌+◌, ◌-◌, ◌<◌, ◌≤◌, ◌^◌, Bool, true, false, ◌&&◌, nat_lt, nat_eq, if◌then◌else◌, List, [], ◌∷◌, ◌++◌, length, map, Option, Some, option_map, Result, Ok, Err}
 use Rattle.rsx_model.specs.Eval.{environment, eval}
-use Rattle.rsx_model.specs.declared.check.TheConstants.{MOST_NODES}
 use Rattle.rsx_model.specs.declared.expr.Expr.{Expr}
-use Rattle.rsx_types.specs.Meaning.{Meaning, Allocates}
-use Rattle.rsx_types.specs.Notes.{notes_then, unchosen}
-use Rattle.rsx_types.specs.Stream.{Stream, signals_then}
-use Rattle.rsx_types.specs.declared.limits.TheConstants.{CAPACITY}
-use Rattle.rsx_types.specs.declared.note.Note.{Note}
-use Rattle.rsx_types.specs.declared.signal.Ending.TheVariants.{Open}
-use Rattle.rsx_types.specs.declared.signal.Signal.{Signal}
-use Rattle.rsx_sources.specs.Machine.{front_of}
+use Rattle.rsx_sources.specs.Prelude.{Meaning, Allocates, notes_then, unchosen, Stream, signals_then, CAPACITY, Note, Signal, front_of}
 use Rattle.rsx_sources.specs.declared.machine.Front.{Front}
 use Rattle.rsx_tree.specs.declared.look.NodeMove.{NodeMove}
 use Rattle.rsx_tree.specs.declared.look.NodeMove.TheVariants.{Ask, Send, Pick, Row}
-use Rattle.rsx_tree.specs.Edges.{edge_view, EdgeView, can_pass, IsPassed, passed, changed_at, asked_up_to}
-use Rattle.rsx_tree.specs.Residual.{IsTreeBehind}
+use Rattle.rsx_tree.specs.Prelude.{edge_view, EdgeView, can_pass, IsPassed, passed, changed_at, asked_up_to, IsTreeBehind, IsTreeReadAt}
 use Rattle.rsx_sources.specs.declared.machine.Machine.{Ghosts as Machine}
-use Rattle.rsx_tree.specs.Reads.{IsTreeReadAt}
 use Rattle.rsx_rooted.specs.Output.{counts_in, items_in, IsUnended, IsOrderly, values_then}
-use Rattle.rsx_rooted.specs.Tree.{comes_out, notes, offers, can_ask, can_send, can_go, IsAllClosed, IsLetGo, edges, edges_after, want_at, front_at, ended_at, pop_allocates, send_allocates, step_allocates, tree_allocates, IsAlike, IsBalanced, IsWithin, can_pick, can_row, IsPickedAt, IsRowAt, IsSentAt}
+use Rattle.rsx_rooted.specs.Tree.{comes_out, notes, offers, can_ask, can_send, can_go, IsAllClosed, IsLetGo, edges, edges_after, want_at, front_at, ended_at, pop_allocates, send_allocates, step_allocates, tree_allocates, IsAlike, IsBalanced, can_pick, can_row, IsPickedAt, IsRowAt, IsSentAt}
 use Rattle.rsx_tree.specs.declared.edge.EdgeState.TheVariants.{Live, Closed, Ended}
 use Rattle.rsx_rooted.specs.declared.rooted.Rooted.{Rooted}
 use Rattle.rsx_rooted.specs.declared.rooted.Pumped.{Pumped}

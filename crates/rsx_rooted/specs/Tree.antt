@@ -1,7 +1,6 @@
 -- A tree: what `rsx_tree` says of it, and its moves where its root has the number 0 and an edge.
 use Rattle.std.specs.Prelude.{◌&&◌, ℕ, Bool, true, false, List, Option, Some, None, option_map}
-use Rattle.rsx_types.specs.Meaning.{Meaning, Allocates}
-use Rattle.rsx_sources.specs.Machine.{front_of}
+use Rattle.rsx_sources.specs.Prelude.{Meaning, Allocates, front_of}
 use Rattle.rsx_sources.specs.declared.machine.Front.{Front}
 use Rattle.rsx_sources.specs.declared.machine.Machine.{Ghosts as Machine}
 pub use Rattle.rsx_tree.specs.Allocates.{IsAlike, tree_allocates}
@@ -9,12 +8,9 @@ pub use Rattle.rsx_tree.specs.Balance.{IsBalanced, IsBalancedAfter, IsWithin}
 pub use Rattle.rsx_tree.specs.Chosen.{IsChosen, IsPickedAt, IsRowAt}
 pub use Rattle.rsx_tree.specs.Driven.{IsIdle}
 use Rattle.rsx_tree.specs.Driven as Runs
-use Rattle.rsx_tree.specs.Edges.{EdgeView, can_pass, closed_if}
-use Rattle.rsx_tree.specs.Inputs.{Place, wanted_at, is_own, sent_edges}
-use Rattle.rsx_tree.specs.Stepped.{can_pick_in, can_row_in, station_of}
+use Rattle.rsx_tree.specs.Prelude.{EdgeView, can_pass, closed_if, Place, wanted_at, is_own, sent_edges, can_pick_in, can_row_in, station_of, place_of}
 pub use Rattle.rsx_tree.specs.Stepped.{IsStill, step_allocates}
 pub use Rattle.rsx_tree.specs.Tree.{comes_out, notes, offers, edges, can_ask, can_send, send_allocates, ended_at, IsAllClosed, IsKept, IsLetGo, IsAskedAt, IsSentAt}
-use Rattle.rsx_tree.specs.Tree.{place_of}
 use Rattle.rsx_tree.specs.declared.node.Node.{Node}
 
 -- a signal that is offered can go over this edge

@@ -13,5 +13,5 @@ pub mod feeding;
 pub mod rooted;
 
 pub use rooted::{Pumped, Rooted};
-pub use rsx_queue::SignalQueue;
+pub use rsx_prefetch::SignalQueue;
 pub use rsx_tree::{Edge, EdgeState, NodeMove};

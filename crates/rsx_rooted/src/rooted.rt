@@ -2,7 +2,7 @@
 
 ghost use Rattle.std.specs.Prelude.{◌≡◌, IfSome, true};
 
-use rsx_queue::{CAPACITY, SignalQueue};
+use rsx_prefetch::{CAPACITY, SignalQueue};
 use rsx_sources::{Front, Machine, NotMade};
 use rsx_tree::{Edge, Node, NodeMove};
 use rsx_types::{NoMemory, Ops, Signal};
@@ -31,7 +31,7 @@ pub struct Rooted<M> {
 }
 
 impl<M: Machine> Rooted<M> {
-    ghost use Rattle.std.specs.Prelude.{◌≡◌, ◌<◌, ◌+◌, ◌^◌, ℕ, List, [], ◌∷◌, Option, Some, None, true, false, OnOk, OnErr, IfOk, IfErr, IsOk, IfSome, IfNone, length, map};
+    ghost use Rattle.std.specs.Prelude.{◌≡◌, ◌<◌, ◌+◌, ℕ, List, [], Option, Some, None, true, false, OnOk, OnErr, IfOk, IfErr, IsOk, IfSome, IfNone};
     ghost use Rattle.rsx_types.specs.Meaning.{Meaning};
     ghost use Rattle.rsx_types.specs.declared.signal.Signal.{Signal};
     ghost use Rattle.rsx_sources.specs.Steps.{IsNotMade};

@@ -1,2 +1,7 @@
 -- Lemmas of this crate.
+pub mod Digits
+pub mod Lists
 pub mod Notes
+pub mod Places
+pub mod Runs
+pub mod Stages

@@ -2,12 +2,8 @@
 use Rattle.std.specs.Prelude.{◌≡◌, ℕ, ◌+◌, nat_eq, if◌then◌else◌, List, [], ◌∷◌, ◌++◌, Some, None, codes}
 use Rattle.std.specs.List.{flat_map}
 use Rattle.std.specs.Fmt.{decimal}
-use Rattle.rsx_lanes.specs.declared.limits.TheConstants.{MAIN}
-use Rattle.rsx_types.specs.declared.note.Note.{Note}
-use Rattle.rsx_types.specs.declared.note.Note.TheVariants.{Nothing, Picks, Ended}
-use Rattle.rsx_types.specs.declared.signal.Cause.TheVariants.{User, Function, NonPositiveRequest}
-use Rattle.rsx_types.specs.declared.signal.Ending.{Ending}
-use Rattle.rsx_types.specs.declared.signal.Ending.TheVariants.{Open, Done as EndedDone, Failed}
+use Rattle.rsx_values.specs.declared.limits.TheConstants.{MAIN}
+use Rattle.rsx_values.specs.Prelude.{Note, Nothing, Picks, Ended, User, Function, NonPositiveRequest, Ending, Open, Done as EndedDone, Failed}
 use Rattle.rsx_demo.specs.declared.val.Val.{Val}
 use Rattle.rsx_demo.specs.Texts.{item_text}
 use Rattle.rsx_script.specs.declared.print.Rest.{Rest}

@@ -3,8 +3,8 @@ use Rattle.std.specs.Prelude.{ℕ, ◌≢◌, ◌<◌, ⊤, List, ◌++◌, code
 use Rattle.std.specs.Fmt.{decimal}
 use Rattle.rsx_script.specs.declared.fault.AppFault.{AppFault}
 use Rattle.rsx_script.specs.declared.fault.AppFault.TheVariants.{Line, Io, Memory}
-use Rattle.rsx_words.specs.declared.words.LineRefusal.TheVariants.{NoMemory}
-use Rattle.rsx_words.specs.Texts.{refusal_text}
+use Rattle.rsx_script.specs.declared.words.LineRefusal.TheVariants.{NoMemory}
+use Rattle.rsx_script.specs.Texts.{refusal_text}
 
 -- 1 for a line that can't be read, 3 for a read or a write that failed, 4 for want of memory
 abbrev pub status_of : AppFault → ℕ

@@ -1,4 +1,11 @@
 -- Definitions that contracts cite.
+pub mod Answers
+pub mod Commands
+pub mod Expressions
 pub mod Fault
 pub mod Modes
-pub mod Answers
+pub mod Numbers
+pub mod Orders
+pub mod Reading
+pub mod Texts
+pub mod Words

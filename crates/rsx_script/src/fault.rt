@@ -4,8 +4,8 @@ ghost use Rattle.std.specs.Prelude.{◌≡◌, IfOk, string_bytes};
 ghost use Rattle.rsx_script.specs.Fault.{fault_text, status_of};
 ghost use Rattle.rsx_script.specs.declared.fault.AppFault.TheVariants.{Memory};
 
+use crate::LineRefusal;
 use rsx_types::NoMemory;
-use rsx_words::LineRefusal;
 use std::alloc::{AllocError, Global};
 use std::error::Error;
 use std::fmt;

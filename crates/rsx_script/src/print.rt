@@ -5,8 +5,8 @@ ghost use Rattle.std.specs.Fmt.{WritesOnOk};
 ghost use Rattle.rsx_script.specs.Answers.{IsTextOf, numbers_text, picks_text, note_text, notes_text, ending_text, items_text, signals_text, rest_text};
 
 use rsx_demo::Val;
-use rsx_lanes::MAIN;
 use rsx_types::{Cause, Ending, HubId, NoMemory, Note, StreamValue, SubId};
+use rsx_values::MAIN;
 use std::alloc::Global;
 use std::fmt;
 

@@ -2,12 +2,13 @@
 use Rattle.std.proofs.Common.{◌≡◌, ◌≤◌, ◌<◌, ◌&&◌, true, false, ℕ, ℤ, pos, negsuc, zero, suc, List, [], ◌∷◌, ◌++◌, length, map, get_or, refl, ap, sym, subst, ◌∙◌, ◌-◌, arith, take, length-append, Option, Some, None, is_none, is_some, Result, Ok, Err, codes}
 use Rattle.std.proofs.Math.ListN.{set}
 use Rattle.std.specs.Result.{IsErr, IsErrAnd}
-use Rattle.std.proofs.lemmas.List.{append-nil, get_or-set_same, length-map, map_push, set-get_or}
+use Rattle.std.proofs.lemmas.List.{append-nil, get_or-set_same, length-map, map_push, set-get_or, set-set}
 use Rattle.std.proofs.lemmas.Option.{slice_get_past}
+use Rattle.std.proofs.Math.Seq.{take-append_seam}
 use Rattle.rsx_types.specs.Stream.{ended_by}
 use Rattle.rsx_types.specs.declared.names.HubKind.{HubKind}
 use Rattle.rsx_types.specs.declared.names.SubId.{SubId}
-use Rattle.rsx_model.specs.declared.expr.Expr.{Expr}
+use Rattle.rsx_subscriber.specs.Prelude.{Expr, Past, given, items_in, request_answer, requested, requested_in, subscribed, standing_of}
 use Rattle.rsx_types.specs.declared.signal.Cause.{Cause}
 use Rattle.rsx_types.specs.declared.signal.Cause.TheVariants.{NonPositiveRequest}
 use Rattle.rsx_types.specs.declared.signal.Ending.{Ending}
@@ -16,20 +17,14 @@ use Rattle.rsx_types.specs.declared.signal.Signal.{Signal}
 use Rattle.rsx_types.specs.declared.signal.Signal.TheVariants.{Next, Complete, Error}
 use Rattle.rsx_demo.specs.Demo.{demo_meaning, demo_allocates}
 use Rattle.rsx_demo.specs.declared.val.Val.{Val}
-use Rattle.rsx_hub.specs.Hub.{HubState}
-use Rattle.rsx_subscriber.specs.Past.{Past, given, items_in, request_answer, requested, requested_in, subscribed}
-use Rattle.rsx_subscriber.specs.declared.state.SubscriptionState.{SubscriptionState}
+use Rattle.rsx_graph_state.specs.Prelude.{HubState, SubscriptionState, changed, state_at, Subscription, IsRequestedAt}
 use Rattle.rsx_subscriber.specs.declared.state.SubscriptionState.TheVariants as state
-use Rattle.rsx_history.specs.History.{changed, state_at}
-use Rattle.rsx_subscriber.specs.Stands.{standing_of}
-use Rattle.rsx_subscriber.specs.declared.subscription.Subscription.{Subscription}
-use Rattle.rsx_history.proofs.Graphs.{state_there}
-use Rattle.rsx_history.specs.declared.refusal.Refusal.TheVariants as refusal
-use Rattle.rsx_history.specs.Stands.{IsRequestedAt}
-use Rattle.rsx_history.specs.declared.refusal.Refusal.{Refusal}
-use Rattle.rsx_history.specs.declared.refusal.Refusal.TheVariants.{NoMemory}
-use Rattle.rsx_history.specs.declared.step.Answer.{Answer as Answered}
-use Rattle.rsx_history.specs.declared.step.Answer.TheVariants as did
+use Rattle.rsx_graph_state.proofs.Graphs.{state_there}
+use Rattle.rsx_graph_state.specs.declared.refusal.Refusal.TheVariants as refusal
+use Rattle.rsx_graph_state.specs.declared.refusal.Refusal.{Refusal}
+use Rattle.rsx_graph_state.specs.declared.refusal.Refusal.TheVariants.{NoMemory}
+use Rattle.rsx_graph_state.specs.declared.step.Answer.{Answer as Answered}
+use Rattle.rsx_graph_state.specs.declared.step.Answer.TheVariants as did
 use Rattle.rsx_graph.specs.Done.{IsDone, fed_by}
 use Rattle.rsx_graph.specs.Rows.{Feed, History, HubPast, IsCopyRefusal, IsEmitRefusal, Source, emitted, fed, feed_of, has_emitter, joins_in, published_at, published_from, with_delivery, with_fed_hub, with_hub}
 use Rattle.rsx_graph.specs.InGraph.{state_of}
@@ -213,26 +208,17 @@ passed_memory t (Err (trouble.Refused name)) P e k = let one = k.1 in let bad : 
 
 -- ---- an item that is let go again
 
-take_whole : (xs ys : List Val) → take (length xs) (xs ++ ys) ≡ xs
-take_whole [] ys = refl
-take_whole (x ∷ xs) ys = ap (λ l. x ∷ l) (take_whole xs ys)
-
 without_last : (xs : List Val) (x : Val) → take (length (xs ++ x ∷ []) - 1) (xs ++ x ∷ []) ≡ xs
 without_last xs x =
     let l = length-append xs (x ∷ []) in
     let n : length (xs ++ x ∷ []) - 1 ≡ length xs = omega (arith, l) in
-    ap (λ k. take k (xs ++ x ∷ [])) n ∙ take_whole xs (x ∷ [])
-
-set_twice : {A : Type 0} (xs : List A) (i : ℕ) (a b : A) → set (set xs i a) i b ≡ set xs i b
-set_twice [] i a b = refl
-set_twice (x ∷ xs) zero a b = refl
-set_twice (x ∷ xs) (suc i) a b = ap (λ l. x ∷ l) (set_twice xs i a b)
+    ap (λ k. take k (xs ++ x ∷ [])) n ∙ take-append_seam xs (x ∷ [])
 
 pub let_go : (vs : List HubSource) (i : ℕ) (v more got after : HubSource) (x : Val) → i < length vs → get_or vs i v ≡ v → more ≡ source_with (Next x) v → got ≡ get_or (set vs i more) i got → after ≡ source_without_last got → set (set vs i more) i after ≡ vs
 let_go vs i v more got after x lt at e g a =
     let one : got ≡ source_with (Next x) v = g ∙ (get_or-set_same vs i more got lt ∙ e) in
     let whole : after ≡ v = a ∙ (ap source_without_last one ∙ back v) in
-    set_twice vs i more after ∙ (ap (set vs i) (whole ∙ sym at) ∙ set-get_or vs i v)
+    set-set vs i more after ∙ (ap (set vs i) (whole ∙ sym at) ∙ set-get_or vs i v)
   where
     back : (w : HubSource) → source_without_last (source_with (Next x) w) ≡ w
     back (kept.Emitted w) = ap kept.Emitted (λ j. record { items = without_last w.items x j; ending = w.ending })
@@ -246,4 +232,4 @@ emit_refusal hubs feeds i refusal.Full k = k
 emit_refusal hubs feeds i refusal.TooMany k = k
 emit_refusal hubs feeds i (refusal.BadExpr b) k = k
 emit_refusal hubs feeds i refusal.NotEnabled k = k
-emit_refusal hubs feeds i refusal.NoMemory k = k.0
+emit_refusal hubs feeds i refusal.NoMemory k = absurd k

@@ -1,17 +1,16 @@
 -- Lemmas about the comparison with the value from scratch.
-use Rattle.std.proofs.Common.{◌≡◌, ◌⊎◌, Bool, true, false, List, [], ◌∷◌, ◌++◌, length, take, drop, refl, ap, sym, subst, ◌∙◌, Some, Result, Ok, Err, slice_get, inl, inr, codes}
+use Rattle.std.proofs.Common.{◌≡◌, ◌⊎◌, Bool, true, false, List, ◌++◌, length, take, drop, ap, sym, subst, ◌∙◌, Some, Result, Ok, Err, slice_get, inl, inr, codes}
 use Rattle.std.specs.Prelude.{Decides}
 use Rattle.std.specs.Result.{IsErr, IsErrAnd}
 use Rattle.std.proofs.lemmas.List.{take-append-drop}
+use Rattle.std.proofs.Math.Seq.{take-append_seam}
 use Rattle.rsx_types.specs.declared.names.SubId.{SubId}
 use Rattle.rsx_types.specs.Stream.{Stream}
-use Rattle.rsx_evaluation.specs.declared.evaluate.ScratchRefusal.{ScratchRefusal}
+use Rattle.rsx_subscriber.specs.Prelude.{ScratchRefusal, IsPrefixOf}
 use Rattle.rsx_demo.specs.Demo.{demo_meaning}
 use Rattle.rsx_demo.specs.declared.val.Val.{Val}
-use Rattle.rsx_subscriber.specs.Past.{IsPrefixOf}
-use Rattle.rsx_subscriber.specs.declared.state.SubscriptionState.{SubscriptionState}
+use Rattle.rsx_graph_state.specs.Prelude.{SubscriptionState, state_at}
 use Rattle.rsx_subscriber.specs.declared.state.SubscriptionState.TheVariants as state
-use Rattle.rsx_history.specs.History.{state_at}
 use Rattle.rsx_graph.specs.Rows.{History, IsOwed}
 use Rattle.rsx_graph.specs.InGraph.{state_of}
 use Rattle.rsx_script.specs.declared.print.Answer.{Answer}
@@ -24,15 +23,11 @@ use Rattle.rsx_session.specs.declared.session.Trouble.{Trouble}
 use Rattle.rsx_session.specs.declared.session.Trouble.TheVariants as trouble
 use Rattle.rsx_session.proofs.Looks.{kept_at, passed_on, state_there, subs_count}
 
-take_all : (xs ys : List Val) → take (length xs) (xs ++ ys) ≡ xs
-take_all [] ys = refl
-take_all (x ∷ xs) ys = ap (λ l. x ∷ l) (take_all xs ys)
-
 -- a list begins another one where the first items of that are the list
 pub begins_by : (r : Bool) (first items : List Val) → Decides r (take (length first) items ≡ first) → Decides r (IsPrefixOf first items)
 begins_by r first items d =
     let forth : r ≡ true → IsPrefixOf first items = λ yes. (drop (length first) items, ap (λ l. l ++ drop (length first) items) (sym (d.0 yes)) ∙ take-append-drop (length first) items) in
-    let back : IsPrefixOf first items → r ≡ true = λ p. d.1 (ap (take (length first)) (sym p.1) ∙ take_all first p.0) in
+    let back : IsPrefixOf first items → r ≡ true = λ p. d.1 (ap (take (length first)) (sym p.1) ∙ take-append_seam first p.0) in
     (forth, back)
 
 -- of a subscription to which items can be owed

@@ -5,21 +5,17 @@ use Rattle.std.proofs.lemmas.List.{append-nil, take_more}
 use Rattle.std.proofs.lemmas.Option.{get_or_from_slice_get, slice_get_within}
 use Rattle.rsx_types.specs.Stream.{Stream}
 use Rattle.rsx_types.specs.declared.note.Note.{Note}
-use Rattle.rsx_model.specs.Eval.{environment}
-use Rattle.rsx_model.specs.declared.expr.Expr.{Expr}
-use Rattle.rsx_evaluation.specs.Answer.{IsScratch}
-use Rattle.rsx_evaluation.specs.declared.evaluate.ScratchRefusal.{ScratchRefusal}
-use Rattle.rsx_pipe.specs.Tree.{notes_of}
+use Rattle.rsx_subscriber.specs.Prelude.{environment, Expr, IsScratch, ScratchRefusal, notes_of}
 use Rattle.rsx_demo.specs.Demo.{demo_meaning}
 use Rattle.rsx_demo.specs.declared.val.Val.{Val}
 use Rattle.rsx_hub.specs.Hub.{HubState}
-use Rattle.rsx_history.specs.declared.refusal.Refusal.{Refusal}
-use Rattle.rsx_history.specs.declared.refusal.Refusal.TheVariants as refusal
+use Rattle.rsx_graph_state.specs.declared.refusal.Refusal.{Refusal}
+use Rattle.rsx_graph_state.specs.declared.refusal.Refusal.TheVariants as refusal
 use Rattle.rsx_graph.specs.Rows.{AreValues, Feed, HasFedJoins, HasFeedNotes, History, HubPast, IsFeedLookRefusal, IsValue, Source, SourceStands, emitted, fed, feed_of, has_feed}
 use Rattle.rsx_graph.specs.InGraph.{state_of}
 use Rattle.rsx_session.specs.Answers.{IsTrouble}
 use Rattle.rsx_session.specs.Kept.{source_of}
-use Rattle.rsx_session.specs.Places.{IsFeedRefused, Place}
+use Rattle.rsx_session.specs.Places.{IsFeedRefused}
 use Rattle.rsx_session.specs.Sessions.{IsHubsTrouble, IsNextTrouble, IsNextValue, IsScratchTrouble, IsTroubleOf, SessionStands, place_of}
 use Rattle.rsx_session.specs.declared.published.HubSource.{HubSource}
 use Rattle.rsx_session.specs.declared.published.HubSource.TheVariants as kept
@@ -75,15 +71,6 @@ next_trouble s h k i vs before t source values count same lt at is =
 pub hubs_passed : {A : Type 0} (t : Trouble) (result : Result A Trouble) (P : Trouble → Type 0) → P t → IsErr result × IsErrAnd result (λ u. u ≡ t) → IfErr result P
 hubs_passed t (Ok a) P k e = tt
 hubs_passed t (Err u) P k e = subst P (sym e.1) k
-
--- ---- a hub with an emitter
-
-pub emitted_next : (place : Place) (before : List (Stream Val)) (source : HubSource) (w v : Stream Val) → source ≡ kept.Emitted w → v ≡ w → IsNextValue place before source v
-emitted_next place before source w v is same = λ hub there own. by_source hub.source (own ∙ is)
-  where
-    by_source : (src : Source Val) → source_of src ≡ kept.Emitted w → IsValue demo_meaning place.graph.rows.feeds before src v
-    by_source (emitted x) e = let one : x ≡ w = cc in same ∙ sym one
-    by_source (fed x js) e = cc
 
 -- ---- a hub with a feed
 

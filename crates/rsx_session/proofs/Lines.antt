@@ -1,9 +1,10 @@
 -- Lemmas about the line of an answer.
-use Rattle.std.proofs.Common.{◌≡◌, ℕ, ◌++◌, ◌∷◌, [], List, Bool, true, false, ◌||◌, Result, Ok, Err, refl, subst, sym}
+use Rattle.std.proofs.Common.{◌≡◌, ℕ, ◌++◌, ◌∷◌, [], List, true, Result, Ok, Err, refl, subst, sym}
 use Rattle.std.specs.Prelude.{IfErr, IfOk, OnOk}
+use Rattle.std.proofs.lemmas.Bool.{or_left, or_right}
 use Rattle.rsx_types.specs.declared.fault.NoMemory.{NoMemory}
 use Rattle.rsx_script.specs.Answers.{IsTextOf, answer_text}
-use Rattle.rsx_commands.specs.declared.command.Command.{Command}
+use Rattle.rsx_script.specs.declared.command.Command.{Command}
 use Rattle.rsx_script.specs.declared.print.Answer.{Answer}
 use Rattle.rsx_script.specs.declared.print.Answer.TheVariants as answer
 use Rattle.rsx_session.specs.Answers.{IsAnswered, IsTrouble, is_of, is_refused}
@@ -13,14 +14,6 @@ use Rattle.rsx_session.specs.declared.session.Session.{Session}
 use Rattle.rsx_session.specs.declared.session.Trouble.{Trouble}
 use Rattle.rsx_session.specs.declared.session.Trouble.TheVariants as trouble
 use Rattle.rsx_session.specs.declared.session.View.{View}
-
-or_left : (a b : Bool) → a ≡ true → (a || b) ≡ true
-or_left true b h = refl
-or_left false b h = absurd cc
-
-or_right : (a b : Bool) → b ≡ true → (a || b) ≡ true
-or_right true b h = refl
-or_right false b h = h
 
 -- what was printed is the line of what was done
 pub line_of : (done : Result Answer Trouble) (a : Answer) (before after : List ℕ) (r : Result (Unit {0}) NoMemory) → ((text : List ℕ) → text ≡ answer_text a → IsLineOf done text) → OnOk r ((text : List ℕ) × IsTextOf a text × (after ≡ before ++ (text ++ 10 ∷ []))) → OnOk r (GrowsByLine before after (IsLineOf done))

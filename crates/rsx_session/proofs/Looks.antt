@@ -4,24 +4,17 @@ use Rattle.std.specs.Result.{IfErr, IsErr, IsErrAnd}
 use Rattle.rsx_types.specs.declared.names.SubId.{SubId}
 use Rattle.rsx_types.specs.Stream.{Stream}
 use Rattle.rsx_types.specs.declared.note.Note.{Note}
-use Rattle.rsx_model.specs.Eval.{environment}
-use Rattle.rsx_model.specs.declared.expr.Expr.{Expr}
-use Rattle.rsx_pipe.specs.Tree.{notes_of}
-use Rattle.rsx_evaluation.specs.Answer.{IsScratch}
-use Rattle.rsx_evaluation.specs.declared.evaluate.ScratchRefusal.{ScratchRefusal}
+use Rattle.rsx_subscriber.specs.Prelude.{environment, Expr, notes_of, IsScratch, ScratchRefusal, Past}
 use Rattle.std.proofs.lemmas.List.{length-map}
 use Rattle.std.proofs.lemmas.Option.{slice_get_within}
 use Rattle.rsx_demo.specs.Demo.{demo_meaning}
 use Rattle.rsx_demo.specs.declared.val.Val.{Val}
-use Rattle.rsx_subscriber.specs.Past.{Past}
-use Rattle.rsx_history.specs.History.{HasAsked, HasJoins, IsLookRefusal, state_at}
-use Rattle.rsx_history.specs.Stands.{HasNotesAt}
-use Rattle.rsx_history.specs.declared.refusal.Refusal.{Refusal}
-use Rattle.rsx_history.specs.declared.refusal.Refusal.TheVariants as refusal
-use Rattle.rsx_history.proofs.Graphs.{count_same}
+use Rattle.rsx_graph_state.specs.Prelude.{HasAsked, HasJoins, IsLookRefusal, state_at, HasNotesAt, SubscriptionState}
+use Rattle.rsx_graph_state.specs.declared.refusal.Refusal.{Refusal}
+use Rattle.rsx_graph_state.specs.declared.refusal.Refusal.TheVariants as refusal
+use Rattle.rsx_graph_state.proofs.Graphs.{count_same}
 use Rattle.rsx_graph.specs.Rows.{History, IsOwed}
 use Rattle.rsx_graph.specs.InGraph.{state_of}
-use Rattle.rsx_subscriber.specs.declared.state.SubscriptionState.{SubscriptionState}
 use Rattle.rsx_script.specs.Answers.{rest_text, signals_text}
 use Rattle.rsx_script.specs.declared.print.Answer.{Answer}
 use Rattle.rsx_script.specs.declared.print.Rest.{Rest}

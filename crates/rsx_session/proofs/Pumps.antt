@@ -9,12 +9,10 @@ use Rattle.rsx_types.specs.declared.signal.Signal.{Signal}
 use Rattle.std.specs.Option.{option_to_list}
 use Rattle.rsx_demo.specs.Demo.{demo_meaning}
 use Rattle.rsx_demo.specs.declared.val.Val.{Val}
-use Rattle.rsx_subscriber.specs.Delivered.{Delivered}
-use Rattle.rsx_subscriber.specs.Past.{Past, given}
-use Rattle.rsx_subscriber.specs.Stands.{IsMadeAnswer}
-use Rattle.rsx_history.specs.History.{changed}
-use Rattle.rsx_history.specs.declared.step.Pumped.{Pumped}
-use Rattle.rsx_history.specs.declared.step.Pumped.TheVariants.{Idle, Budget}
+use Rattle.rsx_subscriber.specs.Prelude.{Delivered, Past, given, IsMadeAnswer}
+use Rattle.rsx_graph_state.specs.Answers.{changed}
+use Rattle.rsx_graph_state.specs.declared.step.Pumped.{Pumped}
+use Rattle.rsx_graph_state.specs.declared.step.Pumped.TheVariants.{Idle, Budget}
 use Rattle.rsx_graph.specs.Rows.{HasEnded, History, HubPast, LeadTo, Made, Rows, accepted_at, after_moves, delivered_by, sent_at, with_delivery, with_made, with_moved, with_sent}
 use Rattle.rsx_graph.specs.InGraph.{HasPumpedIn, state_of}
 use Rattle.rsx_session.specs.Kept.{Known, all_taken, known, seen, source_of, sources_of, taken}

@@ -1,21 +1,15 @@
 -- Where a script begins.
 use Rattle.std.proofs.Common.{◌≡◌, ℕ, List, [], ◌∷◌, length, map, refl, ap, ◌∙◌, arith}
-use Rattle.std.proofs.lemmas.List.{length-map}
+use Rattle.std.proofs.lemmas.List.{length-map, nil_from_length}
 use Rattle.rsx_types.specs.Stream.{Stream}
 use Rattle.rsx_demo.specs.Demo.{demo_meaning}
 use Rattle.rsx_demo.specs.declared.val.Val.{Val}
-use Rattle.rsx_hub.specs.Hub.{HubState}
-use Rattle.rsx_subscriber.specs.declared.subscription.Subscription.{Subscription}
-use Rattle.rsx_history.specs.Stands.{AllStand}
+use Rattle.rsx_graph_state.specs.Prelude.{HubState, Subscription, AllStand}
 use Rattle.rsx_graph.specs.Rows.{Feed, NameHubs}
 use Rattle.rsx_graph.specs.Steps.{no_history}
 use Rattle.rsx_session.specs.Places.{Place, begun}
 use Rattle.rsx_session.specs.Sessions.{SessionStands, place_of}
 use Rattle.rsx_session.specs.declared.session.Session.{Session}
-
-none_there : {A : Type 0} (xs : List A) → length xs ≡ 0 → xs ≡ []
-none_there [] e = refl
-none_there (x ∷ xs) e = absurd (omega (arith, e))
 
 no_subs : (published : List (Stream Val)) (subs : List (Subscription Val)) → AllStand demo_meaning published subs [] → subs ≡ []
 no_subs published [] k = refl
@@ -41,8 +35,8 @@ at_begin session s =
     let many : length hubs ≡ 0 = s.graph.rows.many in
     let unfed : feeds ≡ [] = no_feeds (length hubs) feeds many session.graph.named in
     let beside : length feed_joins ≡ 0 = length-map session.graph.feed_joins.items (λ v. v.items) ∙ (session.graph.beside ∙ ap length unfed) in
-    ap (λ x. place_with x feeds subs joins feed_joins regions) (none_there hubs many)
+    ap (λ x. place_with x feeds subs joins feed_joins regions) (nil_from_length hubs many)
     ∙ (ap (λ x. place_with [] x subs joins feed_joins regions) unfed
     ∙ (ap (λ x. place_with [] [] x joins feed_joins regions) (no_subs s.graph.rows.taken subs s.graph.rows.all)
     ∙ (ap (λ x. place_with [] [] [] x feed_joins regions) s.graph.joined.subs
-    ∙ (ap (λ x. place_with [] [] [] [] x regions) (none_there feed_joins beside) ∙ ap (λ x. place_with [] [] [] [] [] x) s.graph.placed))))
+    ∙ (ap (λ x. place_with [] [] [] [] x regions) (nil_from_length feed_joins beside) ∙ ap (λ x. place_with [] [] [] [] [] x) s.graph.placed))))

@@ -2,8 +2,8 @@
 use Rattle.std.specs.Prelude.{◌≡◌, ℕ, Bool, true, false, ◌||◌, List, [], ◌∷◌, ◌++◌, codes}
 use Rattle.std.specs.Str.{bytes_eq}
 use Rattle.rsx_script.specs.Answers.{IsTextOf}
-use Rattle.rsx_commands.specs.declared.command.Command.{Command}
-use Rattle.rsx_commands.specs.declared.command.Command.TheVariants as command
+use Rattle.rsx_script.specs.declared.command.Command.{Command}
+use Rattle.rsx_script.specs.declared.command.Command.TheVariants as command
 use Rattle.rsx_script.specs.declared.print.Answer.{Answer}
 use Rattle.rsx_script.specs.declared.print.Answer.TheVariants.{Hub, Sub, Done, Idle, Budget, Shown, Value, Asked, Count, Joins, Choices, Equal, Different, Refused}
 use Rattle.rsx_session.specs.declared.session.View.{View}

@@ -7,10 +7,8 @@ use Rattle.rsx_types.specs.declared.signal.Ending.TheVariants.{Open, Done, Faile
 use Rattle.rsx_types.specs.declared.signal.Signal.{Signal}
 use Rattle.rsx_types.specs.declared.signal.Signal.TheVariants.{Next, Complete, Error}
 use Rattle.rsx_demo.specs.declared.val.Val.{Val}
-use Rattle.rsx_model.specs.declared.expr.Expr.{Expr}
-use Rattle.rsx_subscriber.specs.Past.{Past, items_in}
-use Rattle.rsx_history.specs.History.{changed}
-use Rattle.rsx_pipe.specs.Output.{with_signal}
+use Rattle.rsx_subscriber.specs.Prelude.{Expr, Past, items_in, with_signal}
+use Rattle.rsx_graph_state.specs.Answers.{changed}
 use Rattle.rsx_graph.specs.Rows.{History, Source, emitted, fed}
 use Rattle.rsx_session.specs.declared.published.HubSource.{HubSource}
 use Rattle.rsx_session.specs.declared.published.HubSource.TheVariants.{Emitted, Fed}

@@ -8,30 +8,24 @@ use Rattle.rsx_types.specs.declared.names.Tree.TheVariants.{Sub}
 use Rattle.rsx_demo.specs.Demo.{demo_meaning, demo_allocates}
 use Rattle.rsx_demo.specs.declared.val.Val.{Val}
 use Rattle.rsx_demo.specs.declared.val.Val.TheVariants.{Int}
-use Rattle.rsx_model.specs.Eval.{environment}
-use Rattle.rsx_model.specs.declared.expr.Expr.{Expr}
-use Rattle.rsx_evaluation.specs.Answer.{IsScratch, name_codes as scratch_name}
-use Rattle.rsx_evaluation.specs.declared.evaluate.ScratchRefusal.{ScratchRefusal}
-use Rattle.rsx_evaluation.specs.declared.evaluate.ScratchRefusal.TheVariants as scratch
-use Rattle.rsx_subscriber.specs.Past.{Past, IsPrefixOf, items_in}
-use Rattle.rsx_subscriber.specs.declared.state.SubscriptionState.{SubscriptionState}
+use Rattle.rsx_subscriber.specs.Prelude.{environment, Expr, IsScratch, name_codes as scratch_name, ScratchRefusal, Past, IsPrefixOf, items_in, notes_of}
+use Rattle.rsx_model.specs.declared.evaluate.ScratchRefusal.TheVariants as scratch
+use Rattle.rsx_graph_state.specs.Prelude.{SubscriptionState, Subscription}
 use Rattle.rsx_subscriber.specs.declared.state.SubscriptionState.TheVariants as is
-use Rattle.rsx_subscriber.specs.declared.subscription.Subscription.{Subscription}
-use Rattle.rsx_pipe.specs.Tree.{notes_of}
-use Rattle.rsx_history.specs.Names.{name_codes}
+use Rattle.rsx_graph_state.specs.Names.{name_codes}
 use Rattle.rsx_graph.specs.Rows.{AreValues, Feed, HasEnded, History, HubPast, IsOwed, LeadTo, Made, after_moves, fed, feed_of}
 use Rattle.rsx_graph.specs.Done.{IsDone, fed_by}
 use Rattle.rsx_graph.specs.Stands.{AreJoinsSame, GraphState, nothing}
 use Rattle.rsx_graph.specs.Steps.{extended, no_history}
-use Rattle.rsx_history.specs.declared.refusal.Refusal.TheVariants.{NoMemory}
-use Rattle.rsx_history.specs.declared.step.Answer.{Answer}
-use Rattle.rsx_history.specs.declared.step.Answer.TheVariants.{Opened, Published, Subscribed, Requested, Cancelled, Made as MoveMade, Refused}
-use Rattle.rsx_history.specs.declared.step.Pumped.{Pumped}
-use Rattle.rsx_history.specs.declared.step.Pumped.TheVariants.{Idle, Budget}
+use Rattle.rsx_graph_state.specs.declared.refusal.Refusal.TheVariants.{NoMemory}
+use Rattle.rsx_graph_state.specs.declared.step.Answer.{Answer}
+use Rattle.rsx_graph_state.specs.declared.step.Answer.TheVariants.{Opened, Published, Subscribed, Requested, Cancelled, Made as MoveMade, Refused}
+use Rattle.rsx_graph_state.specs.declared.step.Pumped.{Pumped}
+use Rattle.rsx_graph_state.specs.declared.step.Pumped.TheVariants.{Idle, Budget}
 use Rattle.rsx_graph.specs.declared.step.Step.{Step}
 use Rattle.rsx_graph.specs.declared.step.Step.TheVariants as step
-use Rattle.rsx_commands.specs.declared.command.Command.{Command}
-use Rattle.rsx_commands.specs.declared.command.Command.TheVariants as command
+use Rattle.rsx_script.specs.declared.command.Command.{Command}
+use Rattle.rsx_script.specs.declared.command.Command.TheVariants as command
 use Rattle.rsx_script.specs.Answers.{notes_text, numbers_text, signals_text}
 use Rattle.rsx_session.specs.Kept.{Known, ending_in, followed_by, seen}
 use Rattle.rsx_session.specs.declared.session.View.{View}

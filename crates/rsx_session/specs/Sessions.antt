@@ -4,20 +4,17 @@ use Rattle.rsx_types.specs.Stream.{Stream}
 use Rattle.rsx_types.specs.declared.names.SubId.{SubId}
 use Rattle.rsx_demo.specs.Demo.{demo_meaning}
 use Rattle.rsx_demo.specs.declared.val.Val.{Val}
-use Rattle.rsx_model.specs.declared.expr.Expr.{Expr}
-use Rattle.rsx_evaluation.specs.Answer.{name_codes as scratch_name}
-use Rattle.rsx_evaluation.specs.declared.evaluate.ScratchRefusal.{ScratchRefusal}
-use Rattle.rsx_evaluation.specs.declared.evaluate.ScratchRefusal.TheVariants as scratch
-use Rattle.rsx_subscriber.specs.Past.{Past}
-use Rattle.rsx_history.specs.History.{IsLookRefusal}
-use Rattle.rsx_history.specs.Names.{name_codes}
-use Rattle.rsx_history.specs.declared.refusal.Refusal.{Refusal}
-use Rattle.rsx_history.specs.declared.refusal.Refusal.TheVariants.{NoMemory}
-use Rattle.rsx_history.specs.declared.step.Pumped.{Pumped}
+use Rattle.rsx_subscriber.specs.Prelude.{Expr, name_codes as scratch_name, ScratchRefusal, Past}
+use Rattle.rsx_model.specs.declared.evaluate.ScratchRefusal.TheVariants as scratch
+use Rattle.rsx_graph_state.specs.Answers.{IsLookRefusal}
+use Rattle.rsx_graph_state.specs.Names.{name_codes}
+use Rattle.rsx_graph_state.specs.declared.refusal.Refusal.{Refusal}
+use Rattle.rsx_graph_state.specs.declared.refusal.Refusal.TheVariants.{NoMemory}
+use Rattle.rsx_graph_state.specs.declared.step.Pumped.{Pumped}
 use Rattle.rsx_graph.specs.Rows.{HasEnded, History, HubPast, IsValue, LeadTo, Made, after_moves}
 use Rattle.rsx_graph.specs.InGraph.{state_of}
 use Rattle.rsx_graph.specs.Stands.{AreJoinsSame, GraphStands}
-use Rattle.rsx_commands.specs.declared.command.Command.{Command}
+use Rattle.rsx_script.specs.declared.command.Command.{Command}
 use Rattle.rsx_script.specs.Answers.{answer_text, rest_text}
 use Rattle.rsx_script.specs.declared.print.Answer.{Answer}
 use Rattle.rsx_script.specs.declared.print.Rest.{Rest}

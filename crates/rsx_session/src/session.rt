@@ -3,18 +3,17 @@
 ghost use Rattle.std.specs.Prelude.{◌≡◌, ◌≤◌, [], true, length, map, slice_get, Some, string_bytes, OnErr, OnOk, IsOk, IfOk, IfErr, Decides};
 ghost use Rattle.rsx_graph.specs.Rows.{History};
 ghost use Rattle.rsx_graph.specs.Steps.{no_history};
-ghost use Rattle.rsx_history.specs.History.{changed};
+ghost use Rattle.rsx_graph_state.specs.Answers.{changed};
 ghost use Rattle.rsx_subscriber.specs.Past.{IsPrefixOf};
 ghost use Rattle.rsx_session.specs.Sessions.{AllPumpTo, GrowsByLine, IsHubsTrouble, IsLineOf, IsNextTrouble, IsNextValue, LeadsAll, OnText, IsLookTrouble, IsRestOf, IsRightOf, IsScratchTrouble, IsTroubleOf, IsValueOf, Says, SessionStands, place_of};
 ghost use Rattle.rsx_session.specs.Kept.{all_taken, followed_by, known, taken};
 ghost use Rattle.rsx_session.specs.Places.{AreChoices, AreJoins, HaveValues, IsAsked, IsChecked, IsCounted, IsShown, IsValued, IsViewed};
-ghost use Rattle.rsx_session.specs.Answers.{IsAnswered, IsTrouble, is_asked, is_choices, is_count, is_joins, is_of, is_hub, is_sub, is_done, is_pumped, is_received, is_value, is_shown, is_compared};
+ghost use Rattle.rsx_session.specs.Answers.{IsAnswered, IsTrouble, is_asked, is_choices, is_count, is_joins, is_hub, is_sub, is_done, is_pumped, is_received, is_value, is_shown, is_compared};
 
 use crate::published::{HubSource, copied};
 use rsx_demo::{Demo, Val, is_same_val};
-use rsx_evaluation::{ScratchRefusal, scratch};
 use rsx_graph::{Deliveries, Graph, Pumped, Refusal, SubscriptionState};
-use rsx_model::Expr;
+use rsx_model::{Expr, ScratchRefusal, scratch};
 use rsx_script::{Answer, Command, Rest, Shown};
 use rsx_types::{
     Cause, Ending, HubId, HubKind, Move, NoMemory, NodeId, Signal, StreamValue, SubId, Tree,

@@ -1,8 +1,11 @@
 -- Definitions that contracts cite.
 pub mod Counts
+pub mod Endings
+pub mod Heads
 pub mod Items
 pub mod Machine
 pub mod Passed
+pub mod Prelude
 pub mod Range
 pub mod Reading
 pub mod Slot

@@ -8,11 +8,13 @@
 //!
 //! No call waits, and each answers the same for the same node (rule 1.3: the calls of one node come one after another).
 
+pub mod firsts;
 pub mod items;
 pub mod machine;
 pub mod range;
 pub mod slot;
 
+pub use firsts::{first_ending, first_items};
 pub use items::ItemsNode;
 pub use machine::{Front, Machine, NotMade, NotTaken, Passed};
 pub use range::RangeNode;

@@ -20,8 +20,7 @@ use Rattle.rsx_subscriber.specs.Stands.{Stands, standing_of}
 use Rattle.rsx_subscriber.specs.declared.state.SubscriptionState.TheVariants.{Open}
 use Rattle.rsx_subscriber.specs.declared.subscription.Subscription.{Subscription}
 use Rattle.rsx_subscription.specs.declared.State.TheVariants.{Open as OpenState}
-use Rattle.rsx_types.specs.Meaning.{Meaning}
-use Rattle.rsx_types.specs.Stream.{Stream}
+use Rattle.rsx_sources.specs.Prelude.{Meaning, Stream}
 
 -- how the subscriber stands at the beginning
 pub record IsBegun {T : Type 0} (sub : Subscription T) : Type 0 where

@@ -1,9 +1,6 @@
 -- How an item is pulled through a part and handed to its subscriber.
 use Rattle.std.proofs.Common.{◌≡◌, ℕ, ◌+◌, true, List, [], ◌∷◌, ◌++◌, Some, None, refl, ap, sym, ◌∙◌, subst, arith, Result, Ok, Err}
-use Rattle.rsx_types.specs.Meaning.{Meaning}
-use Rattle.rsx_types.specs.declared.names.SubId.{SubId}
-use Rattle.rsx_types.specs.declared.signal.Signal.{Signal}
-use Rattle.rsx_types.specs.declared.signal.Signal.TheVariants.{Next}
+use Rattle.rsx_sources.specs.Prelude.{Meaning, SubId, Signal, Next}
 use Rattle.rsx_pipe.specs.Fetched.{IsFetched}
 use Rattle.rsx_pipe.specs.Part.{has_room}
 use Rattle.rsx_pipe.specs.Part.{Part as AnyPart}

@@ -4,19 +4,13 @@ use mathlib.Core.HLevel.{⊥_prop, Π_prop}
 use Rattle.std.proofs.lemmas.Bool.Decides.{nat_tests}
 use Rattle.std.proofs.lemmas.List.{append-nil}
 use Rattle.std.specs.Option.{option_to_list, IfSome}
+use Rattle.std.proofs.lemmas.Bool.{both_ways, or_left, or_right}
+use Rattle.rsx_types.proofs.Numbers.{not_zero}
 use Rattle.rsx_demand.specs.Demand.{saturating_total}
-use Rattle.rsx_types.specs.Meaning.{Meaning}
-use Rattle.rsx_types.specs.Stream.{Stream}
-use Rattle.rsx_types.specs.declared.names.Move.{Move}
-use Rattle.rsx_types.specs.declared.names.Move.TheVariants.{Ask, Send, Take, Pick, Row, Accept}
-use Rattle.rsx_types.specs.declared.names.SubId.{SubId}
-use Rattle.rsx_types.specs.declared.names.Tree.TheVariants.{Sub}
-use Rattle.rsx_types.specs.declared.signal.Signal.{Signal}
-use Rattle.rsx_types.specs.declared.signal.Signal.TheVariants.{Next, Complete, Error}
-use Rattle.rsx_node.specs.Any.{any_machine}
-use Rattle.rsx_tree.specs.Edges.{closed_view}
-use Rattle.rsx_tree.specs.Reads.{IsTreeReadAt}
-use Rattle.rsx_pipe.specs.Part.{PartStands, IsPutOut, all_edges}
+use Rattle.rsx_sources.specs.Prelude.{Meaning, Stream, Move, Ask, Send, Take, Pick, Row, Accept, SubId, Sub, Signal, Next, Complete, Error}
+use Rattle.rsx_kinds.specs.Any.{any_machine}
+use Rattle.rsx_tree.specs.Prelude.{closed_view, IsTreeReadAt}
+use Rattle.rsx_pipe.specs.Part.{IsPutOut, all_edges}
 use Rattle.rsx_pipe.specs.Part as Part
 use Rattle.rsx_pipe.specs.Crossing.{route, route_below}
 use Rattle.rsx_pipe.specs.declared.crossing.Route.{Route}
@@ -153,20 +147,6 @@ stands_same m published old new past k h = record {
   joined = h.joined;
   closed = rw (k.state, k.live, k.part, k.queue) h.closed;
 }
-
--- one that isn't open is left as it is by a cancel
-pub stands_uncancelled : {T : Type 0} (m : Meaning T) (published : List (Stream T)) (old new : Subscription T) (past : Past T) → (old.state ≡ OpenState → ⊥) → IsSame old new → Stands m published old past → Stands m published new (cancelled past)
-stands_uncancelled {T} m published old new past n k h =
-    let shut : past.state ≡ Open → ⊥ = λ o. n (standing_open old.state old.live old.opened (h.state ∙ o)) in
-    let same : cancelled past ≡ past = ap (λ s. record { expression = past.expression; joins = past.joins; received = past.received; asked = past.asked; state = s }) (kept past.state shut) in
-    let P : Past T → Type 0 = λ p. Stands m published new p in
-    subst P (sym same) (stands_same m published old new past k h)
-  where
-    kept : (s : SubscriptionState) → (s ≡ Open → ⊥) → cancelled_state s ≡ s
-    kept Open n = absurd (n refl)
-    kept Ended n = refl
-    kept Cancelled n = refl
-    kept Refused n = refl
 
 pub stands_refused : {T : Type 0} (m : Meaning T) (published : List (Stream T)) (old new : Subscription T) (past : Past T) → IsClosing old new → new.state ≡ FailedState → Stands m published old past → Stands m published new (refused past)
 stands_refused m published old new past k f h =
@@ -377,12 +357,6 @@ leads_on {S} {D} step (suc n) k a b c ds es x y =
 pub pumped_none : {T : Type 0} (m : Meaning T) (id : SubId) (sub : Subscription T) (o : List (SubId × Signal T)) → IsPumped m id 0 sub o sub o
 pumped_none m id sub o = record { signals = []; output = sym (append-nil o); moves = (refl, refl); stands = λ p q h. h; alike = (λ a. refl, λ counts h. h) }
 
-pub pumped_from : {T : Type 0} (m : Meaning T) (id : SubId) (n : ℕ) (old mid new : Subscription T) (o o' after : List (SubId × Signal T)) → mid ≡ old → o' ≡ o → IsPumped m id n mid o' new after → IsPumped m id n old o new after
-pumped_from {T} m id n old mid new o o' after e f h =
-    let P : Subscription T → Type 0 = λ s. IsPumped m id n s o new after in
-    let Q : List (SubId × Signal T) → Type 0 = λ l. IsPumped m id n mid l new after in
-    subst P e (subst Q f h)
-
 pub pumped_same_sub : {T : Type 0} (m : Meaning T) (id : SubId) (old new : Subscription T) (o : List (SubId × Signal T)) → new ≡ old → IsPumped m id 0 old o new o
 pumped_same_sub {T} m id old new o e = let P : Subscription T → Type 0 = λ s. IsPumped m id 0 old o s o in subst P (sym e) (pumped_none m id old o)
 
@@ -390,17 +364,9 @@ pumped_same_sub {T} m id old new o e = let P : Subscription T → Type 0 = λ s.
 pub pumped_still : {T : Type 0} (m : Meaning T) (id : SubId) (old new : Subscription T) (o o' : List (SubId × Signal T)) → new ≡ old → o' ≡ o → IsPumped m id 0 old o new o'
 pumped_still {T} m id old new o o' e f = let P : List (SubId × Signal T) → Type 0 = λ l. IsPumped m id 0 old o new l in subst P (sym f) (pumped_same_sub m id old new o e)
 
-or_first : (a b : Bool) → a ≡ true → a || b ≡ true
-or_first true b e = refl
-or_first false b e = cc
-
-or_second : (a b : Bool) → b ≡ true → a || b ≡ true
-or_second true b e = refl
-or_second false b e = e
-
 -- the Take of the root is enabled where the queue's front signal is delivered
 pub delivery_enabled : {T : Type 0} (m : Meaning T) (id : SubId) (sub : Subscription T) (b : Bool) → take_enabled sub 0 ≡ b → move_enabled_in m sub (delivery id) ≡ b
-delivery_enabled m id sub true e = or_first (take_enabled sub 0) _ e
+delivery_enabled m id sub true e = or_left (take_enabled sub 0) _ e
 delivery_enabled m id sub false e = ap (λ c. c || false) e
 
 pub pumped_one : {T : Type 0} (m : Meaning T) (id : SubId) (old new : Subscription T) (o o' : List (SubId × Signal T)) (s : Signal T) → o' ≡ o ++ (id, s) ∷ [] → take_enabled old 0 ≡ true → IsTake old s new → ((published : List (Stream T)) (past : Past T) → Stands m published old past → Stands m published new (given s past)) → IsPumped m id 1 old o new o'
@@ -471,7 +437,7 @@ named_by {T} m id sub (NodeSend k) n at (Queued b) is =
     let w = ap (λ r. node_move r (Take (Sub id) (record { 0 = k }))) (ap (λ i. route_below sub.part i) (sym at) ∙ is) in
     record {
       tree = refl;
-      enabled = λ can. or_second (take_enabled sub k) _ (ap (enabled_inside m sub) w ∙ can);
+      enabled = λ can. or_right (take_enabled sub k) _ (ap (enabled_inside m sub) w ∙ can);
       effect = λ new h. subst (λ o. IsWorkedBy m o sub new) (sym w) h;
       answer = not_root k (nat_eq k 0) refl (ap (λ i. route_below sub.part i) (sym at) ∙ is);
     }
@@ -570,9 +536,6 @@ quiet_when m sub e q = (q, e)
 pub awake_part : {T : Type 0} (m : Meaning T) (sub : Subscription T) → Part.IsAwake m sub.part sub.queue → IsAwake m sub
 awake_part m sub h = inl h
 
-pub awake_take : {T : Type 0} (m : Meaning T) (sub : Subscription T) → take_enabled sub 0 ≡ true → IsAwake m sub
-awake_take m sub e = inr e
-
 -- what is queued can be taken just where something is queued
 pub take_queued : {T : Type 0} (m : Meaning T) (published : List (Stream T)) (sub : Subscription T) (past : Past T) → Stands m published sub past → 0 < length sub.queue → take_enabled sub 0 ≡ true
 take_queued {T} m published sub past h some = by_queue sub.queue refl
@@ -608,12 +571,9 @@ none_left m sub zero q a = refl
 none_left m sub (suc left) q a =
     let h = q (omega arith) in
     absurd (elim a [
-      | inl x ↦ never _ x.2 (h.0 x.0 x.1)
-      | inr x ↦ never _ x h.1
+      | inl x ↦ both_ways _ (h.0 x.0 x.1) x.2
+      | inr x ↦ both_ways _ h.1 x
     ])
-  where
-    never : (b : Bool) → b ≡ true → b ≡ false → ⊥
-    never b x y = cc
 
 -- a part that is quiet stays so where no signal was taken
 pub rest_quiet : {T : Type 0} (m : Meaning T) (old new : Subscription T) → new ≡ old → take_enabled new 0 ≡ false → Part.IsQuiet m old.part old.queue → IsQuiet m new
@@ -623,14 +583,11 @@ rest_quiet {T} m old new same e q =
 
 -- ---- moves inside a tree
 
-not_first : (n : ℕ) → 0 < n → nat_eq n 0 ≡ false
-not_first n h = grind (arith, nat_tests)
-
 -- a move inside a tree is enabled where it is one of the part
 pub inside_enabled : {T : Type 0} (m : Meaning T) (sub : Subscription T) (mv : Move) → IsInside mv → enabled_inside m sub (inner_move sub mv) ≡ move_enabled_in m sub mv
 inside_enabled m sub (Ask t n) h = refl
 inside_enabled m sub (Send t n) h = refl
-inside_enabled m sub (Take t n) h = ap (λ c. (c && delivers sub.state sub.demand sub.queue) || enabled_inside m sub (inner_move sub (Take t n))) (sym (not_first n.0 h))
+inside_enabled m sub (Take t n) h = ap (λ c. (c && delivers sub.state sub.demand sub.queue) || enabled_inside m sub (inner_move sub (Take t n))) (sym (not_zero n.0 h))
 inside_enabled m sub (Pick t n i) h = refl
 inside_enabled m sub (Row t n) h = refl
 inside_enabled m sub (Accept i) h = absurd h

@@ -1,9 +1,7 @@
 -- A move inside a tree and its name.
 use Rattle.std.specs.Prelude.{⊤}
 use Rattle.std.proofs.Common.{◌≡◌, true, false, refl, subst, Option, Some, None}
-use Rattle.rsx_types.specs.declared.names.Move.{Move}
-use Rattle.rsx_types.specs.declared.names.Move.TheVariants.{Ask, Send, Take, Pick, Row, Accept}
-use Rattle.rsx_types.specs.declared.names.Tree.{Tree}
+use Rattle.rsx_sources.specs.Prelude.{Move, Ask, Send, Take, Pick, Row, Accept, Tree}
 use Rattle.rsx_pipe.specs.Part as Part
 use Rattle.rsx_pipe.specs.declared.crossing.Route.{Route}
 use Rattle.rsx_pipe.specs.declared.crossing.Route.TheVariants.{Straight, Queued}

@@ -1,13 +1,12 @@
 -- What a subscription stands for, where more is published.
 use Rattle.std.proofs.Common.{◌≡◌, ℕ, zero, suc, List, [], ◌∷◌, length, None, refl, ap, sym, ◌∙◌, subst}
-use Rattle.rsx_types.specs.Stream.{Stream}
-use Rattle.rsx_types.specs.declared.signal.Signal.{Signal}
+use Rattle.rsx_types.proofs.Lists.{same_tail}
+use Rattle.rsx_sources.specs.Prelude.{Stream, Signal}
 use Rattle.rsx_model.specs.Check.{refusal}
 use Rattle.rsx_pipe.specs.Output.{with_signal_at}
 use Rattle.rsx_pipe.specs.Published as Part
 use Rattle.rsx_pipe.specs.Tree.{edges}
-use Rattle.rsx_tree.specs.Tree.{NoneLive}
-use Rattle.rsx_tree.specs.Edges.{EdgeView}
+use Rattle.rsx_tree.specs.Prelude.{NoneLive, EdgeView}
 use Rattle.rsx_pipe.specs.Part.{Part as AnyPart}
 use Rattle.rsx_subscription.specs.declared.State.TheVariants.{Fresh}
 use Rattle.rsx_subscriber.specs.declared.subscription.Subscription.{Subscription}
@@ -19,9 +18,6 @@ signal_length zero s (v ∷ vs) = refl
 signal_length (suc h) s (v ∷ vs) = ap suc (signal_length h s vs)
 
 -- all edges of a tree are those of the other
-tail_same : {A : Type 0} (a b : A) (xs ys : List A) → a ∷ xs ≡ b ∷ ys → xs ≡ ys
-tail_same a b xs ys e = cc
-
 pub handed_sub : {T : Type 0} (h : ℕ) (s : Signal T) (old : Subscription T) (part : AnyPart T) (opened : old.state ≡ Fresh → ⊥) → Part.IsHanded h s old.part part →
     IsHanded h s old (record { part = part; queue = old.queue; state = old.state; demand = old.demand; live = old.live; opened = opened })
 handed_sub {T} h s old part opened k = record {
@@ -50,6 +46,6 @@ handed_sub {T} h s old part opened k = record {
         joined = x.joined;
         closed = λ dead.
             let was = x.closed dead in
-            (subst C (sym (tail_same _ _ (edges part.tree) (edges old.part.tree) k.edges)) was.0, (λ l. was.1 (ap (λ r. r.state) (sym k.root) ∙ l)), was.2);
+            (subst C (sym (same_tail _ _ (edges part.tree) (edges old.part.tree) k.edges)) was.0, (λ l. was.1 (ap (λ r. r.state) (sym k.root) ∙ l)), was.2);
       };
 }

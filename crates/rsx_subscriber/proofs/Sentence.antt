@@ -1,18 +1,12 @@
 -- A subscription that stands for its past keeps the headline.
 use Rattle.std.proofs.Common.{◌≡◌, refl, ℕ, suc, List, [], ◌∷◌, ◌++◌, length, sym, ap, ◌∙◌, subst, arith, append_assoc, map, Option, Some, None, option_map}
-use Rattle.rsx_types.specs.Meaning.{Meaning}
-use Rattle.rsx_types.specs.Notes.{notes_then, unchosen}
-use Rattle.rsx_types.specs.Stream.{Stream, signals, signals_then, item_then, ended_by}
-use Rattle.rsx_types.specs.declared.signal.Signal.{Signal}
-use Rattle.rsx_types.specs.declared.signal.Signal.TheVariants.{Next, Complete, Error}
-use Rattle.rsx_node.specs.Any.{any_machine}
-use Rattle.rsx_node.specs.TreeLaws.{tree_settles}
+use Rattle.rsx_sources.specs.Prelude.{Meaning, notes_then, unchosen, Stream, signals, signals_then, item_then, ended_by, Signal, Next, Complete, Error, Note, Ending}
+use Rattle.rsx_kinds.specs.Any.{any_machine}
+use Rattle.rsx_kinds.specs.TreeLaws.{tree_settles}
 use Rattle.rsx_tree.specs.declared.edge.EdgeState.{EdgeState}
 use Rattle.rsx_tree.specs.declared.edge.EdgeState.TheVariants.{Live as EdgeLive, Closed as EdgeClosed, Ended as EdgeEnded}
 use Rattle.rsx_tree.proofs.Residuals.{tree_some}
 use Rattle.rsx_pipe.specs.Part.{IsPartResidual}
-use Rattle.rsx_types.specs.declared.note.Note.{Note}
-use Rattle.rsx_types.specs.declared.signal.Ending.{Ending}
 use Rattle.rsx_pipe.specs.Tree.{comes_out, notes_of}
 use Rattle.rsx_model.specs.Check.{refusal}
 use Rattle.rsx_pipe.proofs.Parts.{values_then-again}

@@ -1,12 +1,8 @@
 -- Where no move of a subscription is enabled, what was asked for was delivered.
-use Rattle.std.proofs.Common.{◌≡◌, ◌<◌, ◌≤◌, Bool, true, false, ◌&&◌, ◌||◌, nat_eq, List, [], ◌∷◌, ◌++◌, length, Option, Some, None, refl, sym, ap, ◌∙◌, subst, arith}
+use Rattle.std.proofs.Common.{◌≡◌, ◌<◌, ◌≤◌, false, nat_eq, List, [], ◌∷◌, ◌++◌, length, Option, Some, None, refl, sym, ap, ◌∙◌, subst, arith}
 use Rattle.std.proofs.lemmas.List.{append-nil}
-use Rattle.rsx_types.specs.Meaning.{Meaning}
-use Rattle.rsx_types.specs.Stream.{Stream}
-use Rattle.rsx_types.specs.declared.limits.TheConstants.{CAPACITY}
-use Rattle.rsx_types.specs.declared.names.Move.{Move}
-use Rattle.rsx_types.specs.declared.names.Move.TheVariants.{Ask, Send, Take, Pick, Row, Accept}
-use Rattle.rsx_types.specs.declared.signal.Signal.{Signal}
+use Rattle.std.proofs.lemmas.Bool.{both_ways, and_right, or_from}
+use Rattle.rsx_sources.specs.Prelude.{Meaning, Stream, CAPACITY, Move, Ask, Send, Take, Pick, Row, Accept, Signal}
 use Rattle.rsx_tree.specs.declared.look.NodeMove.{NodeMove}
 use Rattle.rsx_tree.specs.declared.look.NodeMove.TheVariants.{Ask as NodeAsk, Pick as NodePick}
 use Rattle.rsx_pipe.specs.Tree.{IsWithin}
@@ -28,9 +24,6 @@ use Rattle.rsx_subscriber.specs.Moves.{IsNumbered, node_of}
 use Rattle.rsx_subscriber.proofs.Names.{numbered_inside}
 use Rattle.rsx_subscriber.proofs.Moves.{take_queued}
 
-never : (b : Bool) → b ≡ true → b ≡ false → ⊥
-never b x y = cc
-
 -- ---- a quiet subscription
 
 nothing_queued : {T : Type 0} (m : Meaning T) (published : List (Stream T)) (sub : Subscription T) (past : Past T) → IsQuiet m sub → Stands m published sub past → sub.queue ≡ []
@@ -40,7 +33,7 @@ nothing_queued {T} m published sub past q h = by_queue sub.queue refl
     by_queue [] e = e
     by_queue (t ∷ l) e =
         let some : 0 < length sub.queue = rw e (omega arith) in
-        absurd (never (take_enabled sub 0) (take_queued m published sub past h some) q.1)
+        absurd (both_ways (take_enabled sub 0) q.1 (take_queued m published sub past h some))
 
 -- a live subscriber got all that its part put out, and that is what was asked for
 served_live : {T : Type 0} (m : Meaning T) (published : List (Stream T)) (sub : Subscription T) (past : Past T) → IsQuiet m sub → Stands m published sub past → IsLive (standing_of sub) → IsWithin sub.part.tree → (more : List (Stream T)) (v : Stream T) → HasReadAll m (values_then published more) sub.part → evaluated m (values_then published more) past (notes_of sub.part.tree) ≡ Some v → IsServed sub past v
@@ -67,10 +60,6 @@ served {T} m published sub past q h live w more v read e =
     let L : SubscriptionState → Type 0 = λ s. IsLive s in
     served_live m published sub past q h (subst L (sym h.state) live) w more v read e
 
-and_false : (a b : Bool) → b ≡ false → a && b ≡ false
-and_false true b e = e
-and_false false b e = refl
-
 -- no move of the part that is named is enabled
 quiet_inside : {T : Type 0} (m : Meaning T) (sub : Subscription T) (o : Option NodeMove) → ((step : NodeMove) → o ≡ Some step → Part.IsNumbered step) → Part.IsQuiet m sub.part sub.queue → enabled_inside m sub o ≡ false
 quiet_inside m sub None l q = refl
@@ -79,15 +68,11 @@ quiet_inside m sub (Some step) l q = q step (l step refl)
 inner_quiet : {T : Type 0} (m : Meaning T) (sub : Subscription T) (mv : Move) → IsNumbered mv → IsQuiet m sub → enabled_inside m sub (inner_move sub mv) ≡ false
 inner_quiet m sub mv l h = quiet_inside m sub (inner_move sub mv) (λ step e. numbered_inside (route_below sub.part (node_of mv)) mv step e l) h.0
 
-neither : (a b : Bool) → a ≡ false → b ≡ false → a || b ≡ false
-neither true b x y = cc
-neither false b x y = y
-
 -- no move that is named is enabled
 pub quiet_move : {T : Type 0} (m : Meaning T) (sub : Subscription T) (mv : Move) → IsNumbered mv → IsQuiet m sub → move_enabled_in m sub mv ≡ false
 quiet_move m sub (Ask t n) l h = h.0 (NodeAsk n.0) l
 quiet_move m sub (Send t n) l h = inner_quiet m sub (Send t n) l h
-quiet_move m sub (Take t n) l h = neither (take_enabled sub n.0) _ (and_false (nat_eq n.0 0) _ h.1) (inner_quiet m sub (Take t n) l h)
+quiet_move m sub (Take t n) l h = or_from (take_enabled sub n.0) _ (and_right (nat_eq n.0 0) _ h.1) (inner_quiet m sub (Take t n) l h)
 quiet_move m sub (Pick t n i) l h = h.0 (NodePick n.0 i) l
 quiet_move m sub (Row t n) l h = inner_quiet m sub (Row t n) l h
 quiet_move m sub (Accept i) l h = refl

@@ -1,6 +1,6 @@
 -- What the steps of the subscription table do to how a subscription stands.
-use Rattle.std.proofs.Common.{◌≡◌, ℕ, ◌+◌, ◌<◌, ℤ, pos, Bool, true, false, nat_lt, int_lt, unsigned_abs, if◌then◌else◌, List, [], ◌∷◌, length, None, Result, Ok, Err, refl, ap, sym, add-zero, arith}
-use Rattle.std.proofs.lemmas.Bool.Decides.{nat_tests}
+use Rattle.std.proofs.Common.{◌≡◌, ℕ, ◌+◌, ◌<◌, ℤ, pos, Bool, true, false, nat_lt, int_lt, unsigned_abs, if◌then◌else◌, List, [], ◌∷◌, length, None, Result, Ok, Err, refl, ap, sym, add-zero}
+use Rattle.std.proofs.lemmas.Bool.{lt-ltb}
 use Rattle.rsx_demand.specs.Demand.{saturating_total}
 use Rattle.rsx_demand.specs.declared.Demand.{Demand}
 use Rattle.rsx_subscription.specs.Table.{cell, cell_of, Column, good_request, bad_request, answer, state_after as next_state, asked_after, sent_after}
@@ -11,10 +11,9 @@ use Rattle.rsx_subscription.specs.declared.Effect.{Effect}
 use Rattle.rsx_subscription.specs.declared.Effect.TheVariants.{Opened, Deliver, Add, Bad, Close, Drop, Nothing}
 use Rattle.rsx_subscription.specs.declared.Refusal.{Refusal}
 use Rattle.rsx_subscription.specs.declared.Refusal.TheVariants.{Overrun}
-use Rattle.rsx_types.specs.declared.signal.Signal.{Signal}
-use Rattle.rsx_types.specs.declared.signal.Signal.TheVariants.{Next, Complete, Error}
+use Rattle.rsx_sources.specs.Prelude.{Signal, Next, Complete, Error}
 use Rattle.rsx_subscriber.specs.declared.state.SubscriptionState.TheVariants.{Open as IsOpen}
-use Rattle.rsx_subscriber.specs.Past.{items_in, state_after, request_answer}
+use Rattle.rsx_subscriber.specs.Past.{items_in, state_after}
 use Rattle.rsx_subscriber.specs.Standing.{standing, input_of, is_delivery, delivers}
 
 -- a subscription that was opened stands open in the history just where it is open in the table
@@ -41,13 +40,6 @@ cancel_closes Open d e = (refl, refl)
 cancel_closes Cancelled d e = cc
 cancel_closes Done d e = cc
 cancel_closes Failed d e = cc
-
-pub cancel_leaves : (s : State) (d : Demand) → (answer (cell_of s Cancel) d ≡ Ok Close → ⊥) → (s ≡ Open → ⊥) × (next_state (cell_of s Cancel) s ≡ s)
-cancel_leaves Fresh d n = (λ e. cc, refl)
-cancel_leaves Open d n = absurd (n refl)
-cancel_leaves Cancelled d n = (λ e. cc, refl)
-cancel_leaves Done d n = (λ e. cc, refl)
-cancel_leaves Failed d n = (λ e. cc, refl)
 
 -- the demand stays
 pub cancel_asks : (s : State) (d : Demand) → (asked_after (cell_of s Cancel) d ≡ d.asked) × (sent_after (cell_of s Cancel) d ≡ d.sent)
@@ -140,15 +132,6 @@ request_ignored s n d na nb =
     by_cell Failed true k d na nb = (λ e. cc, refl, refl, refl)
     by_cell Failed false k d na nb = (λ e. cc, refl, refl, refl)
 
--- a request of one that isn't open answers nothing
-pub unanswered : {T : Type 0} (s : State) (live : Bool) (n : ℤ) → (s ≡ Fresh → ⊥) → (s ≡ Open → ⊥) → request_answer {T = T} (standing s live) n ≡ None
-unanswered Fresh live n f o = absurd (f refl)
-unanswered Open live n f o = absurd (o refl)
-unanswered Cancelled live n f o = refl
-unanswered Done live n f o = refl
-unanswered Failed true n f o = refl
-unanswered Failed false n f o = refl
-
 -- ---- a signal
 
 -- what the delivery of a signal does
@@ -201,23 +184,10 @@ item_delivered Cancelled d e = cc
 item_delivered Done d e = cc
 item_delivered Failed d e = cc
 
-pub not_delivery : (r : Result Effect Refusal) → (r ≡ Ok Deliver → ⊥) → is_delivery r ≡ false
-not_delivery (Ok Opened) n = refl
-not_delivery (Ok Deliver) n = absurd (n refl)
-not_delivery (Ok Add) n = refl
-not_delivery (Ok Bad) n = refl
-not_delivery (Ok Close) n = refl
-not_delivery (Ok Drop) n = refl
-not_delivery (Ok Nothing) n = refl
-not_delivery (Err r) n = refl
-
 -- an open subscription is delivered an item within its demand, and any ending
 pub open_delivers : {T : Type 0} (d : Demand) (t : Signal T) (q : List (Signal T)) → ((x : T) → t ≡ Next x → d.sent < d.asked) → delivers Open d (t ∷ q) ≡ true
-open_delivers d (Next x) q h = by_test (nat_lt d.sent d.asked) (less d.sent d.asked (h x refl))
+open_delivers d (Next x) q h = by_test (nat_lt d.sent d.asked) (lt-ltb d.sent d.asked (h x refl))
   where
-    less : (a b : ℕ) → a < b → nat_lt a b ≡ true
-    less a b l = grind (arith, nat_tests)
-
     by_test : (b : Bool) → b ≡ true → is_delivery (if b then Ok Deliver else Err Overrun) ≡ true
     by_test true e = refl
     by_test false e = cc

@@ -1,7 +1,7 @@
 -- The value of an expression under what its part recorded: it is there, and notes and joins fit it.
 use Rattle.std.proofs.Common.{◌≡◌, ℕ, zero, suc, ◌+◌, ◌-◌, ◌<◌, ◌≤◌, Bool, true, false, nat_eq, nat_le, nat_lt, if◌then◌else◌, ◌&&◌, List, [], ◌∷◌, ◌++◌, length, length-append, map, Some, None, option_map, refl, ap, sym, ◌∙◌, arith}
-use Rattle.std.proofs.lemmas.Bool.Decides.{nat_tests}
 use Rattle.std.proofs.lemmas.List.{length-map}
+use Rattle.std.proofs.lemmas.Bool.{lt-ltb}
 use Rattle.rsx_model.specs.declared.check.TheConstants.{MOST_DEPTH, MOST_NODES}
 use Rattle.rsx_model.proofs.Unfold.{Each, by_children, fault_out, or_none, sound}
 use Rattle.rsx_model.specs.Check.{refusal, first_fault, first_of, own_fault, or_else, unless}
@@ -15,30 +15,22 @@ use Rattle.rsx_pipe.proofs.Trees.{notes_then-unchosen, unchosen_notes, unchosen_
 use Rattle.rsx_hub.specs.Hub.{HubState}
 use Rattle.rsx_pipe.specs.Built.{joins_now, new_joins}
 use Rattle.rsx_pipe.proofs.Rows.{length_joins}
-use Rattle.rsx_tree.specs.Edges.{edge_view, EdgeView, asked_up_to, changed_at, closed_if, closed_view, passed}
+use Rattle.rsx_tree.specs.Prelude.{edge_view, EdgeView, asked_up_to, changed_at, closed_if, closed_view, passed, IsUnchosen}
 use Rattle.rsx_pipe.specs.Output.{values_then}
 use Rattle.rsx_pipe.specs.Published.{AreTaken}
 use Rattle.rsx_pipe.specs.Part as Part
 use Rattle.rsx_pipe.specs.Part.{all_edges, PartStands}
 use Rattle.rsx_pipe.specs.Tree.{AnyTree, comes_out, edges, edges_after, notes_of}
-use Rattle.rsx_tree.specs.Tree.{IsUnchosen}
 use Rattle.rsx_tree.specs.Inputs.{size, is_own, beside_of, comes_in, sent_edges, edges as edges_in, notes_of as notes_in, IsUnchosen as IsUnchosenIn}
 use Rattle.rsx_tree.specs.declared.inputs.Inputs.{Inputs, End, More'}
-use Rattle.rsx_node.specs.Any.{TreeNode, any_machine}
-use Rattle.rsx_node.specs.TreeLaws.{tree_settles}
+use Rattle.rsx_kinds.specs.Any.{TreeNode, any_machine}
+use Rattle.rsx_kinds.specs.TreeLaws.{tree_settles}
 use Rattle.rsx_pipe.specs.Part.{Part as AnyPart}
-use Rattle.rsx_sources.specs.Machine.{incoming_of}
+use Rattle.rsx_sources.specs.Prelude.{incoming_of, Meaning, unchosen, Stream, signals, signals_then, Ask, Send, Note, Signal, Next, Complete, Error}
 use Rattle.rsx_sources.specs.declared.machine.Front.{Front}
-use Rattle.rsx_types.specs.Meaning.{Meaning}
-use Rattle.rsx_types.specs.Notes.{unchosen}
-use Rattle.rsx_types.specs.Stream.{Stream, signals, signals_then}
-use Rattle.rsx_types.specs.declared.names.Move.TheVariants.{Ask, Send}
 use Rattle.rsx_tree.specs.Chosen as Chosen
 use Rattle.rsx_tree.specs.declared.look.NodeMove.{NodeMove}
 use Rattle.rsx_tree.specs.declared.look.NodeMove.TheVariants.{Ask, Send, Pick, Row}
-use Rattle.rsx_types.specs.declared.note.Note.{Note}
-use Rattle.rsx_types.specs.declared.signal.Signal.{Signal}
-use Rattle.rsx_types.specs.declared.signal.Signal.TheVariants.{Next, Complete, Error}
 use Rattle.rsx_subscriber.specs.Past.{IsUnended, IsOrderly}
 
 -- ---- the value is there
@@ -85,11 +77,8 @@ signals_ended (Error c ∷ a) b v o n = ap (λ l. Error c ∷ l) o
 -- ---- an expression that isn't refused over some hubs isn't refused over more, and each of its leaves has a join
 
 below_more : (h n k : ℕ) → h < n → n ≤ k → unless (nat_lt h k) NoSuchHub ≡ None
-below_more h n k l m = by_test (nat_lt h k) (less h k (omega (arith, l, m)))
+below_more h n k l m = by_test (nat_lt h k) (lt-ltb h k (omega (arith, l, m)))
   where
-    less : (a b : ℕ) → a < b → nat_lt a b ≡ true
-    less a b e = grind (arith, nat_tests)
-
     by_test : (b : Bool) → b ≡ true → unless b NoSuchHub ≡ None
     by_test true e = refl
     by_test false e = cc

@@ -1,7 +1,6 @@
 -- The signals that a graph delivered.
 use Rattle.std.specs.Prelude.{ℕ, ◌≤◌, List, length}
-use Rattle.rsx_types.specs.declared.names.SubId.{SubId}
-use Rattle.rsx_types.specs.declared.signal.Signal.{Signal}
+use Rattle.rsx_sources.specs.Prelude.{SubId, Signal}
 
 -- the signals, each with its subscriber, and for how many there is memory
 pub record Delivered (T : Type 0) : Type 0 where

@@ -1,11 +1,7 @@
 -- What holds of each subscriber whose subscription stands for its past.
 use Rattle.std.specs.Prelude.{◌≡◌, ◌<◌, ◌≤◌, min, List, length, take, map, Some, Ok, option_map}
-use Rattle.rsx_types.specs.Meaning.{Meaning}
-use Rattle.rsx_types.specs.Notes.{notes_then, unchosen}
-use Rattle.rsx_types.specs.Stream.{Stream, signals, signals_then}
-use Rattle.rsx_types.specs.declared.note.Note.{Note}
-use Rattle.rsx_types.specs.declared.signal.Ending.TheVariants.{Open as NotEnded}
-use Rattle.rsx_evaluation.specs.Answer.{IsScratch}
+use Rattle.rsx_sources.specs.Prelude.{Meaning, notes_then, unchosen, Stream, signals, signals_then, Note, Open as NotEnded}
+use Rattle.rsx_model.specs.Answer.{IsScratch}
 use Rattle.rsx_model.specs.Eval.{environment}
 use Rattle.rsx_pipe.specs.Tree.{notes_of}
 use Rattle.rsx_subscriber.specs.declared.state.SubscriptionState.TheVariants.{Ended}

@@ -5,6 +5,7 @@ pub mod Edited
 pub mod Holds
 pub mod Moves
 pub mod Past
+pub mod Prelude
 pub mod Published
 pub mod Pumped
 pub mod Standing

@@ -1,10 +1,6 @@
 -- The tree and the node that a move of a graph names, and which move inside the tree that is.
 use Rattle.std.specs.Prelude.{◌<◌, ◌^◌, ℕ, true, false, Option, Some, None}
-use Rattle.rsx_types.specs.declared.names.Move.{Move}
-use Rattle.rsx_types.specs.declared.names.Move.TheVariants.{Ask, Send, Take, Pick, Row, Accept}
-use Rattle.rsx_types.specs.declared.names.SubId.{SubId}
-use Rattle.rsx_types.specs.declared.names.Tree.{Tree}
-use Rattle.rsx_types.specs.declared.names.Tree.TheVariants.{Sub, Feed}
+use Rattle.rsx_sources.specs.Prelude.{Move, Ask, Send, Take, Pick, Row, Accept, SubId, Tree, Sub, Feed}
 use Rattle.rsx_pipe.specs.declared.crossing.Route.{Route}
 use Rattle.rsx_pipe.specs.declared.crossing.Route.TheVariants.{Straight, Queued}
 use Rattle.rsx_tree.specs.declared.look.NodeMove.{NodeMove}

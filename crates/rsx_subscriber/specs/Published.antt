@@ -1,8 +1,6 @@
 -- A subscription to whose nodes a signal of a hub is handed.
 use Rattle.std.specs.Prelude.{◌≡◌, ℕ, List}
-use Rattle.rsx_types.specs.Meaning.{Meaning}
-use Rattle.rsx_types.specs.Stream.{Stream}
-use Rattle.rsx_types.specs.declared.signal.Signal.{Signal}
+use Rattle.rsx_sources.specs.Prelude.{Meaning, Stream, Signal}
 use Rattle.rsx_pipe.specs.Output.{IsOpenAt, with_signal_at}
 use Rattle.rsx_pipe.specs.Published as Part
 use Rattle.rsx_subscriber.specs.declared.subscription.Subscription.{Subscription}

@@ -1,11 +1,7 @@
 -- What driving a subscription until it is idle does.
 use Rattle.std.specs.Prelude.{◌≡◌, ◌⊎◌, ℕ, zero, suc, ◌+◌, ◌≤◌, Bool, true, false, List, [], ◌∷◌, ◌++◌, map, Option, Result, Ok, Err}
 use Rattle.std.specs.Option.{option_to_list}
-use Rattle.rsx_types.specs.Meaning.{Meaning}
-use Rattle.rsx_types.specs.declared.names.Move.{Move}
-use Rattle.rsx_types.specs.declared.names.SubId.{SubId}
-use Rattle.rsx_types.specs.declared.names.Tree.TheVariants.{Sub}
-use Rattle.rsx_types.specs.declared.signal.Signal.{Signal}
+use Rattle.rsx_sources.specs.Prelude.{Meaning, Move, SubId, Sub, Signal}
 pub use Rattle.rsx_tree.specs.Driven.{Spent}
 use Rattle.rsx_pipe.specs.Part.{HasEnded}
 use Rattle.rsx_pipe.specs.Part as Part

@@ -9,8 +9,7 @@ use Rattle.rsx_subscription.specs.declared.Input.TheVariants.{Next as Item, Comp
 use Rattle.rsx_subscription.specs.declared.Effect.{Effect}
 use Rattle.rsx_subscription.specs.declared.Effect.TheVariants.{Opened, Deliver, Add, Bad, Close, Drop, Nothing}
 use Rattle.rsx_subscription.specs.declared.Refusal.{Refusal}
-use Rattle.rsx_types.specs.declared.signal.Signal.{Signal}
-use Rattle.rsx_types.specs.declared.signal.Signal.TheVariants.{Next, Complete, Error}
+use Rattle.rsx_sources.specs.Prelude.{Signal, Next, Complete, Error}
 use Rattle.rsx_subscriber.specs.declared.state.SubscriptionState.{SubscriptionState}
 use Rattle.rsx_subscriber.specs.declared.state.SubscriptionState.TheVariants.{Open as IsOpen, Ended, Cancelled as IsCancelled, Refused}
 

@@ -1,17 +1,8 @@
 -- What a subscription stands for, its enabled moves, and what a move changes.
 use Rattle.std.specs.Prelude.{◌≡◌, ℕ, ◌<◌, Bool, true, false, ◌&&◌, ◌||◌, nat_eq, List, [], ◌∷◌, ◌++◌, length, map, Option, Some, None, option_map}
-use Rattle.rsx_types.specs.Meaning.{Meaning, Allocates}
-use Rattle.rsx_types.specs.Notes.{unchosen}
-use Rattle.rsx_types.specs.Stream.{Stream, signals_then, ended_by}
-use Rattle.rsx_node.specs.Any.{any_machine}
+use Rattle.rsx_sources.specs.Prelude.{Meaning, Allocates, unchosen, Stream, signals_then, ended_by, Note, SubId, Sub, Feed, Move, Ask, Send, Take, Pick, Row, Accept, Open as NotEnded, Signal}
+use Rattle.rsx_kinds.specs.Any.{any_machine}
 use Rattle.rsx_tree.specs.Residual.{IsTreeBehind}
-use Rattle.rsx_types.specs.declared.note.Note.{Note}
-use Rattle.rsx_types.specs.declared.names.SubId.{SubId}
-use Rattle.rsx_types.specs.declared.names.Tree.TheVariants.{Sub, Feed}
-use Rattle.rsx_types.specs.declared.names.Move.{Move}
-use Rattle.rsx_types.specs.declared.names.Move.TheVariants.{Ask, Send, Take, Pick, Row, Accept}
-use Rattle.rsx_types.specs.declared.signal.Ending.TheVariants.{Open as NotEnded}
-use Rattle.rsx_types.specs.declared.signal.Signal.{Signal}
 pub use Rattle.rsx_pipe.specs.Output.{values_then}
 use Rattle.rsx_model.specs.Check.{refusal}
 use Rattle.rsx_model.specs.Shape.{nodes, leaves}
@@ -92,10 +83,6 @@ IsStillOwed {T} m inboxes sub v =
 -- Ask: the root edge rises by requests alone
 abbrev pub ask_enabled : {T : Type 0} → Subscription T → ℕ → Bool
 ask_enabled sub at = Part.ask_enabled sub.part at
-
--- Send: over the root edge into its queue, or over an edge of the tree
-abbrev pub send_enabled : {T : Type 0} → Meaning T → Subscription T → ℕ → Bool
-send_enabled m sub at = Part.send_enabled m sub.part sub.queue at
 
 -- Take: from the queue of the root edge, where the table delivers its front signal
 abbrev pub take_enabled : {T : Type 0} → Subscription T → ℕ → Bool

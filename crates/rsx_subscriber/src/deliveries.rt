@@ -1,6 +1,6 @@
 //! The signals that a graph delivered.
 
-ghost use Rattle.std.specs.Prelude.{◌≡◌, ◌∷◌, ◌++◌, [], ◌<◌, length, OnOk, OnErr, ◌≤◌, vec_capacity};
+ghost use Rattle.std.specs.Prelude.{◌≡◌, ◌∷◌, ◌++◌, [], ◌<◌, length, OnOk, OnErr, vec_capacity};
 ghost use Rattle.rsx_subscriber.specs.Delivered.{IsFull};
 
 use rsx_types::{NoMemory, Signal, SubId};

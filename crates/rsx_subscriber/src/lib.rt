@@ -15,9 +15,11 @@
 pub mod deliveries;
 pub mod naming;
 pub mod published;
+pub mod replay;
 pub mod state;
 pub mod subscription;
 
 pub use deliveries::Deliveries;
+pub use replay::equal_records_give_equal_values;
 pub use state::SubscriptionState;
 pub use subscription::Subscription;

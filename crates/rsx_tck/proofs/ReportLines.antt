@@ -1,17 +1,13 @@
 -- The lines of a report, one by one.
 use Rattle.std.proofs.Common.{◌≡◌, ◌≢◌, ℕ, ◌+◌, ◌<◌, inl, inr, List, length, set, get_or, Some, slice_get, ap, ◌∙◌, subst, arith}
 use Rattle.std.proofs.lemmas.Bool.{cases_eq}
-use Rattle.std.proofs.lemmas.List.{get_or-set_same, get_or-set_other, length-set}
+use Rattle.std.proofs.lemmas.List.{get_or-set_other, length-set}
 use Rattle.std.proofs.lemmas.Option.{slice_get-get_or, slice_get_within, get_or_from_slice_get}
+use Rattle.rsx_types.proofs.Lists.{slice_get-set_same}
 use Rattle.rsx_trace.specs.declared.event.Stamped.{Stamped}
 use Rattle.rsx_tck.specs.declared.rule.Rule.{Rule}
 use Rattle.rsx_tck.specs.declared.rule.Verdict.{Verdict}
 use Rattle.rsx_tck.specs.Verdicts.{Judged}
-
-pub slice_get-set_same : {X : Type 0} (l : List X) (i : ℕ) (x : X) → i < length l → slice_get (set l i x) i ≡ Some x
-slice_get-set_same l i x lt =
-    let len = length-set l i x in
-    slice_get-get_or (set l i x) i x (omega arith) ∙ ap Some (get_or-set_same l i x x lt)
 
 pub slice_get-set_other : {X : Type 0} (l : List X) (i k : ℕ) (x y : X) → k ≢ i → slice_get l k ≡ Some y → slice_get (set l i x) k ≡ Some y
 slice_get-set_other l i k x y ne h =

@@ -1,6 +1,7 @@
 -- Lists that can be gone on with to right ones, up to their first wrong item.
 use Rattle.std.proofs.Common.{◌≡◌, List, [], ◌∷◌, ◌++◌, refl, sym, ap, subst, ◌∙◌}
 use Rattle.std.specs.Prelude.{◌↔◌}
+use Rattle.rsx_types.proofs.Lists.{same_head, same_tail}
 use Rattle.rsx_trace.specs.FirstWrong.{Begins, GoesWrong}
 
 -- no list that begins so is right
@@ -36,13 +37,6 @@ pub pull_wrong : {X : Type 0} (P : List X → Type 0) (x : X) (before rest : Lis
 pull_wrong P x before [] g = record { begins = g.begins; stops = g.stops }
 pull_wrong P x before (y ∷ rest) g = record { begins = g.begins; stops = g.stops }
 
--- the first items of two lists that are the same
-pub heads : {X : Type 0} (x y : X) (xs ys : List X) → x ∷ xs ≡ y ∷ ys → x ≡ y
-heads x y xs ys e = cc
-
-pub tails : {X : Type 0} (x y : X) (xs ys : List X) → x ∷ xs ≡ y ∷ ys → xs ≡ ys
-tails x y xs ys e = cc
-
 -- a right list that begins with some items begins with the first of them
 sooner : {X : Type 0} (P : List X → Type 0) (y : X) (c : List X) → Begins P (y ∷ c) → Begins P (y ∷ [])
 sooner P y c (more, p) = (c ++ more, p)
@@ -50,7 +44,7 @@ sooner P y c (more, p) = (c ++ more, p)
 -- a list that goes wrong at once doesn't go wrong later
 not_later : {X : Type 0} (P : List X → Type 0) (b : List X) (y : X) (c d : List X) → b ≡ y ∷ (c ++ d) → GoesWrong P [] b → GoesWrong P (y ∷ c) d → ⊥
 not_later P [] y c d e g h = absurd cc
-not_later P (x ∷ b) y c d e g h = g.stops (subst (λ z. Begins P (z ∷ [])) (sym (heads x y b (c ++ d) e)) (sooner P y c h.begins))
+not_later P (x ∷ b) y c d e g h = g.stops (subst (λ z. Begins P (z ∷ [])) (sym (same_head x y b (c ++ d) e)) (sooner P y c h.begins))
 
 -- a list goes wrong at one place only
 pub one_place : {X : Type 0} (P : List X → Type 0) (a b c d : List X) → a ++ b ≡ c ++ d → GoesWrong P a b → GoesWrong P c d → (a ≡ c) × (b ≡ d)
@@ -58,7 +52,7 @@ one_place P [] b [] d e g h = (refl, e)
 one_place P [] b (y ∷ c) d e g h = absurd (not_later P b y c d e g h)
 one_place P (x ∷ a) b [] d e g h = absurd (not_later P d x a b (sym e) h g)
 one_place {X} P (x ∷ a) b (y ∷ c) d e g h =
-    let first : x ≡ y = heads x y (a ++ b) (c ++ d) e in
+    let first : x ≡ y = same_head x y (a ++ b) (c ++ d) e in
     let other = subst (λ z. GoesWrong P (z ∷ c) d) (sym first) h in
-    let rest = one_place (λ xs. P (x ∷ xs)) a b c d (tails x y (a ++ b) (c ++ d) e) (pull_wrong P x a b g) (pull_wrong P x c d other) in
+    let rest = one_place (λ xs. P (x ∷ xs)) a b c d (same_tail x y (a ++ b) (c ++ d) e) (pull_wrong P x a b g) (pull_wrong P x c d other) in
     (ap (λ z. z ∷ a) first ∙ ap (λ (xs : List X). y ∷ xs) rest.0, rest.1)

@@ -1,6 +1,5 @@
 -- Lemmas.
 pub mod Numbers
-pub mod Places
 pub mod Lines
 pub mod Words
 pub mod KindWords

@@ -5,11 +5,11 @@ use Rattle.std.specs.List.{slice_split, onto_first, before_first, after_first, p
 use Rattle.std.proofs.lemmas.Bool.{cases_lt}
 use Rattle.std.proofs.lemmas.List.{append-nil, take_all, drop_all, length-drop}
 use Rattle.std.proofs.lemmas.List.Splits.{slice_split_first, length-slice_split}
+use Rattle.rsx_types.proofs.Places.{position_or_len_le}
 use Rattle.rsx_trace.specs.declared.event.Stamped.{Stamped}
 use Rattle.rsx_trace.specs.declared.line.Line.TheVariants as kinds
 use Rattle.rsx_trace.specs.Texts.{lines, lines_of_parts}
 use Rattle.rsx_trace.specs.Reading.{◌>>=◌, events_of, line_at, trace_of}
-use Rattle.rsx_trace.proofs.Places.{place-le}
 
 abbrev pub newline : ℕ → Bool
 newline b = eqb b 10
@@ -41,7 +41,7 @@ first_line bs lt =
 
 pub only_line : (bs : List ℕ) → 0 < length bs → length bs ≤ position_or_len newline bs → lines bs ≡ bs ∷ []
 unfolding lines
-only_line bs lt le = ap lines_of_parts (whole bs (omega (arith, place-le newline bs))) ∙ last_part bs lt
+only_line bs lt le = ap lines_of_parts (whole bs (omega (arith, position_or_len_le newline bs))) ∙ last_part bs lt
 
 pub some_line : (bs : List ℕ) → 0 < length bs → lines bs ≡ before_first newline bs ∷ lines (after_first newline bs)
 some_line bs lt =

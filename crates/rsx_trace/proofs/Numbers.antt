@@ -36,10 +36,6 @@ value_more text i digit value lt d e h =
     let is : digit_value c ≡ digit = omega (arith, (ascii_value c d).0) in
     sym (ap (digits_value 10) (take_more text i 0 lt) ∙ digits_value_push 10 (take i text) c ∙ ap (λ (n : ℕ). n * 10 + digit_value c) (sym h) ∙ ap (λ (b : ℕ). value * 10 + b) is)
 
--- the test of `number_of`
-test : ℕ → List ℕ → Bool
-test most text = ltb 0 (length text) && all_ascii_digits text && leb (digits_value 10 text) most
-
 pub number_none_empty : (most : ℕ) (text : List ℕ) → length text ≡ 0 → number_of most text ≡ None
 unfolding number_of
 number_none_empty most [] e = refl
@@ -60,7 +56,3 @@ pub number_some : (most : ℕ) (text : List ℕ) → 0 < length text → all_asc
 unfolding number_of
 number_some most text some digits le =
     cond-true _ (Some (digits_value 10 text)) None (and_from (ltb 0 (length text) && all_ascii_digits text) (leb (digits_value 10 text) most) (and_from (ltb 0 (length text)) (all_ascii_digits text) (grind arith) digits) (grind arith))
-
-pub some_if : (r : Option ℤ) (P : Type 0) (v : ℤ) → SomeIff r P v → P → r ≡ Some v
-some_if None P v h p = absurd (h p)
-some_if (Some x) P v h p = ap (λ (y : ℤ). Some y) h.1

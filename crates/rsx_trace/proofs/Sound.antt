@@ -7,11 +7,13 @@ use Rattle.rsx_trace.specs.Gives.{GivesTrace}
 use Rattle.std.specs.List.{position_or_len}
 use Rattle.std.specs.Str.{bytes_eq, all_ascii_digits}
 use Rattle.std.specs.Str.Parse.{digits_value}
-use Rattle.std.proofs.lemmas.Bool.{ltb-true, leb-true, eqb-true, and_parts}
+use Rattle.std.proofs.lemmas.Bool.{ltb-true, leb-true, eqb-true, and_parts, cases_Bool}
 use Rattle.std.proofs.lemmas.Bool.Decides.{nat_tests}
 use Rattle.std.proofs.lemmas.List.{append-nil, take-append-drop, length-take}
 use Rattle.std.proofs.lemmas.Option.{cond_some}
 use Rattle.std.proofs.lemmas.Str.Parse.{tells_all_ascii_digits, numerals_by_value, IsNumeralModel}
+use Rattle.rsx_types.proofs.Places.{position_or_len_le}
+use Rattle.rsx_types.proofs.Lists.{same_head}
 use Rattle.rsx_types.specs.declared.signal.Cause.{Cause}
 use Rattle.rsx_types.specs.declared.signal.Cause.TheVariants.{User, Function, NonPositiveRequest}
 use Rattle.rsx_trace.specs.declared.event.Event.{Event}
@@ -24,7 +26,6 @@ use Rattle.rsx_trace.specs.declared.line.Line.TheVariants as kinds
 use Rattle.rsx_trace.specs.Texts.{lines}
 use Rattle.rsx_trace.specs.Reading.{◌>>=◌, behind, word_at, valued, ends, number_of, option_map_to, number_at, signed_of, signed_at, kind_of, cause_at, tail_of, event_at, stamped_at, line_at, first_at, at_line, line_then, nothing_more, events_of, trace_of_lines, trace_of}
 use Rattle.rsx_trace.specs.Grammar.{u32, IsNumber, IsSigned, IsCause, IsEvent, IsLine, AreLines, first_text, IsTrace}
-use Rattle.rsx_trace.proofs.Places.{place-le}
 use Rattle.rsx_trace.proofs.KindWords.{kind_text, named, kind_is}
 use Rattle.rsx_trace.proofs.Words.{space, IsWord, joined, joined_some, place_again, place-append, stamp}
 
@@ -50,9 +51,6 @@ no_error w x e = cc
 ok_is : {A : Type 0} (x y : A) → done x ≡ done y → x ≡ y
 ok_is x y e = cc
 
-hd : (b c : ℕ) (xs ys : List ℕ) → b ∷ xs ≡ c ∷ ys → b ≡ c
-hd b c xs ys e = cc
-
 -- what a reader took: a word, behind which the line goes on, ends, or has one space at its end
 pub record Took (bytes w rest : List ℕ) : Type 0 where
   pub word : IsWord w
@@ -62,14 +60,10 @@ place_none : (t : Bool) (n : ℕ) → t ≡ true → cond (not t) (1 + n) 0 ≡ 
 place_none true n e = refl
 place_none false n e = absurd cc
 
-test_cases : (t : Bool) → (t ≡ true) ⊎ (t ≡ false)
-test_cases true = inl refl
-test_cases false = inr refl
-
 take_solid : (bs : List ℕ) → position_or_len space (take (position_or_len space bs) bs) ≡ position_or_len space bs
 take_solid [] = refl
 take_solid (b ∷ bs) =
-    elim (test_cases (space b)) [
+    elim (cases_Bool (space b)) [
       | inl here ↦
           let none : position_or_len space (b ∷ bs) ≡ 0 = place_none (space b) (position_or_len space bs) here in
           ap (λ (n : ℕ). position_or_len space (take n (b ∷ bs))) none ∙ sym none
@@ -85,7 +79,7 @@ take_solid (b ∷ bs) =
 drop_space : (bs : List ℕ) → (drop (position_or_len space bs) bs ≡ []) ⊎ ((r : List ℕ) × (drop (position_or_len space bs) bs ≡ 32 ∷ r))
 drop_space [] = inl refl
 drop_space (b ∷ bs) =
-    elim (test_cases (space b)) [
+    elim (cases_Bool (space b)) [
       | inl here ↦
           let none : position_or_len space (b ∷ bs) ≡ 0 = place_none (space b) (position_or_len space bs) here in
           inr (bs, ap (λ (n : ℕ). drop n (b ∷ bs)) none ∙ ap (λ (c : ℕ). c ∷ bs) (eqb-true b 32 here))
@@ -101,9 +95,9 @@ drop_space (b ∷ bs) =
 took_parts : (bytes w back : List ℕ) → bytes ≡ w ++ back → (back ≡ []) ⊎ ((r : List ℕ) × (back ≡ 32 ∷ r)) → IsWord w → Took bytes w (behind back)
 took_parts bytes w [] e h word = record { word = word; parts = inl (refl, e ∙ append-nil w) }
 took_parts bytes w (b ∷ []) e (inl h) word = absurd cc
-took_parts bytes w (b ∷ []) e (inr h) word = record { word = word; parts = inr (inl (ap (λ (c : ℕ). c ∷ []) (hd b 32 [] h.0 h.1))) }
+took_parts bytes w (b ∷ []) e (inr h) word = record { word = word; parts = inr (inl (ap (λ (c : ℕ). c ∷ []) (same_head b 32 [] h.0 h.1))) }
 took_parts bytes w (b ∷ c ∷ r) e (inl h) word = absurd cc
-took_parts bytes w (b ∷ c ∷ r) e (inr h) word = record { word = word; parts = inr (inr (omega arith, e ∙ ap (λ (x : ℕ). w ++ x ∷ c ∷ r) (hd b 32 (c ∷ r) h.0 h.1))) }
+took_parts bytes w (b ∷ c ∷ r) e (inr h) word = record { word = word; parts = inr (inr (omega arith, e ∙ ap (λ (x : ℕ). w ++ x ∷ c ∷ r) (same_head b 32 (c ∷ r) h.0 h.1))) }
 
 pub word_sound : (bytes w rest : List ℕ) → word_at bytes ≡ Ok (w, rest) → Took bytes w rest
 unfolding word_at
@@ -113,7 +107,7 @@ word_sound bytes w rest e =
       | inl h ↦ absurd (no_error (length bytes) (w, rest) h.1)
       | inr h ↦
           let some : 0 < n = grind (arith, nat_tests) in
-          let le = place-le space bytes in
+          let le = position_or_len_le space bytes in
           let len : length (take n bytes) ≡ n = omega (arith, length-take n bytes) in
           let word : IsWord (take n bytes) = record { some = omega arith; solid = take_solid bytes ∙ sym len } in
           let took : Took bytes (take n bytes) (behind (drop n bytes)) = took_parts bytes (take n bytes) (drop n bytes) (sym (take-append-drop n bytes)) (drop_space bytes) word in

@@ -58,9 +58,6 @@ behind_space : (bytes : List ℕ) → 0 < length bytes → behind (32 ∷ bytes)
 behind_space [] lt = absurd (omega arith)
 behind_space (b ∷ bytes) lt = refl
 
-pair : List ℕ → List ℕ → Result (List ℕ × List ℕ) ℕ
-pair a b = Ok (a, b)
-
 pub word_again : (w : List ℕ) (ws : List (List ℕ)) → IsWord w → StartWell ws → word_at (joined (w ∷ ws)) ≡ Ok (w, joined ws)
 word_again w [] h s =
     let front : take (length w) w ≡ w = take_all (length w) w (omega arith) in

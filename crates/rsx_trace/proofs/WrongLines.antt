@@ -3,6 +3,7 @@ use Rattle.std.proofs.Common.{◌≡◌, ℕ, ◌+◌, ◌-◌, ◌<◌, ◌⊎�
 use Rattle.std.proofs.Common.{Vec, Global}
 use Rattle.std.specs.Prelude.{◌↔◌, IfErr, codes}
 use Rattle.std.proofs.lemmas.List.{append-nil}
+use Rattle.rsx_types.proofs.Lists.{same_head, same_tail}
 use Rattle.rsx_types.specs.declared.signal.Cause.{Cause}
 use Rattle.rsx_types.specs.declared.signal.Cause.TheVariants.{User, Function, NonPositiveRequest}
 use Rattle.rsx_trace.specs.declared.event.Stamped.{Stamped}
@@ -21,7 +22,7 @@ use Rattle.rsx_trace.proofs.Words.{joined, IsWord-number}
 use Rattle.rsx_trace.proofs.KindWords.{kind_text, name_is}
 use Rattle.rsx_trace.proofs.Events.{IsWord-signed, line_again, end_again, first_again}
 use Rattle.rsx_trace.proofs.Sound.{signed_is, at_ok, line_sound, first_sound, trace_sound}
-use Rattle.rsx_trace.proofs.Continuing.{begun, same_wrong, push_wrong, heads, tails, one_place}
+use Rattle.rsx_trace.proofs.Continuing.{begun, same_wrong, push_wrong, one_place}
 use Rattle.rsx_trace.proofs.Parts.{AllWords, words_solid, words_line, words_joined}
 use Rattle.rsx_trace.proofs.WrongWords.{Nothing, Behind, Opened, opened, SomeEvent, Stampable, LineWords, version, FirstWords, Found, kind_word, stamp, line_wrong, first_wrong}
 
@@ -107,9 +108,9 @@ no_rest s [] e = cc
 no_rest s (b ∷ body) e = cc
 
 first_of_rest : (s : Bool) (line : List ℕ) (more body : List (List ℕ)) (events : List Stamped) → line ∷ more ≡ body ++ codes "end" ∷ [] → AreLines s body events → RightLine s line
-first_of_rest s line more [] events e h = inl (heads line (codes "end") more [] e)
+first_of_rest s line more [] events e h = inl (same_head line (codes "end") more [] e)
 first_of_rest s line more (b ∷ body) [] e h = absurd h
-first_of_rest s line more (b ∷ body) (x ∷ events) e h = inr (x, subst (λ (l : List ℕ). IsLine s l x) (sym (heads line b more (body ++ codes "end" ∷ []) e)) h.0)
+first_of_rest s line more (b ∷ body) (x ∷ events) e h = inr (x, subst (λ (l : List ℕ). IsLine s l x) (sym (same_head line b more (body ++ codes "end" ∷ []) e)) h.0)
 
 follows : (s : Bool) (line : List ℕ) → MayFollow (Rest s) [] line → RightLine s line
 follows s line (more, r) = first_of_rest s line more r.body r.events r.is r.lined
@@ -141,9 +142,9 @@ right_is_read s line left e (inl is) = not_wrong kinds.End left (sym (ap (line_a
 right_is_read s line left e (inr (x, h)) = not_wrong (kinds.Event x) left (sym (line_again s line x h) ∙ e)
 
 one_less : (s : Bool) (line : List ℕ) (ls body : List (List ℕ)) (events : List Stamped) (x : Stamped) → IsLine s line x → line ∷ ls ≡ body ++ codes "end" ∷ [] → AreLines s body events → Rest s ls
-one_less s line ls [] events x l e h = absurd (end_is_no_event s x (subst (λ (y : List ℕ). IsLine s y x) (heads line (codes "end") ls [] e) l))
+one_less s line ls [] events x l e h = absurd (end_is_no_event s x (subst (λ (y : List ℕ). IsLine s y x) (same_head line (codes "end") ls [] e) l))
 one_less s line ls (b ∷ body) [] x l e h = absurd h
-one_less s line ls (b ∷ body) (y ∷ events) x l e h = record { events = events; body = body; is = tails line b ls (body ++ codes "end" ∷ []) e; lined = h.1 }
+one_less s line ls (b ∷ body) (y ∷ events) x l e h = record { events = events; body = body; is = same_tail line b ls (body ++ codes "end" ∷ []) e; lined = h.1 }
 
 rest_more : (s : Bool) (line : List ℕ) (e : Stamped) → IsLine s line e → (ls : List (List ℕ)) → Rest s (line ∷ ls) ↔ Rest s ls
 rest_more s line e h ls = (
@@ -152,9 +153,9 @@ rest_more s line e h ls = (
 )
 
 end_is_last : (s : Bool) (line : List ℕ) (ls body : List (List ℕ)) (events : List Stamped) → codes "end" ∷ line ∷ ls ≡ body ++ codes "end" ∷ [] → AreLines s body events → ⊥
-end_is_last s line ls [] events e h = let t = tails (codes "end") (codes "end") (line ∷ ls) [] e in cc
+end_is_last s line ls [] events e h = let t = same_tail (codes "end") (codes "end") (line ∷ ls) [] e in cc
 end_is_last s line ls (b ∷ body) [] e h = h
-end_is_last s line ls (b ∷ body) (y ∷ events) e h = end_is_no_event s y (subst (λ (x : List ℕ). IsLine s x y) (sym (heads (codes "end") b (line ∷ ls) (body ++ codes "end" ∷ []) e)) h.0)
+end_is_last s line ls (b ∷ body) (y ∷ events) e h = end_is_no_event s y (subst (λ (x : List ℕ). IsLine s x y) (sym (same_head (codes "end") b (line ∷ ls) (body ++ codes "end" ∷ []) e)) h.0)
 
 nothing_behind : (s : Bool) (line : List ℕ) → MayFollow (Rest s) (codes "end" ∷ []) line → ⊥
 nothing_behind s line (more, r) = end_is_last s line more r.body r.events r.is r.lined
@@ -308,7 +309,7 @@ to_first : (ws : List (List ℕ)) → FirstWords ws → HasWords (MayFollow AreS
 to_first ws h = (first_text h.0, (codes "end" ∷ [], ([], (h.0, [], refl, tt))), first_words h.0 ∙ sym h.1)
 
 first_follows : (line : List ℕ) → MayFollow AreSomeTrace [] line → (s : Bool) × (line ≡ first_text s)
-first_follows line (more, (events, (s, body, e, h))) = (s, heads line (first_text s) more (body ++ codes "end" ∷ []) e)
+first_follows line (more, (events, (s, body, e, h))) = (s, same_head line (first_text s) more (body ++ codes "end" ∷ []) e)
 
 from_first : (ws : List (List ℕ)) (line : List ℕ) → MayFollow AreSomeTrace [] line → words line ≡ ws → FirstWords ws
 from_first ws line m e =
@@ -360,8 +361,8 @@ same_format s t e = format_is s t (sym (first_again s) ∙ ap first_at e ∙ fir
 
 behind_first : (s : Bool) (ls : List (List ℕ)) → AreSomeTrace (first_text s ∷ ls) → Rest s ls
 behind_first s ls (events, (t, body, e, h)) =
-    let same : s ≡ t = same_format s t (heads (first_text s) (first_text t) ls (body ++ codes "end" ∷ []) e) in
-    record { events = events; body = body; is = tails (first_text s) (first_text t) ls (body ++ codes "end" ∷ []) e; lined = subst (λ (x : Bool). AreLines x body events) (sym same) h }
+    let same : s ≡ t = same_format s t (same_head (first_text s) (first_text t) ls (body ++ codes "end" ∷ []) e) in
+    record { events = events; body = body; is = same_tail (first_text s) (first_text t) ls (body ++ codes "end" ∷ []) e; lined = subst (λ (x : Bool). AreLines x body events) (sym same) h }
 
 trace_more : (s : Bool) (ls : List (List ℕ)) → AreSomeTrace (first_text s ∷ ls) ↔ Rest s ls
 trace_more s ls = (behind_first s ls, (λ r. (r.events, (s, r.body, ap (λ (xs : List (List ℕ)). first_text s ∷ xs) r.is, r.lined))))

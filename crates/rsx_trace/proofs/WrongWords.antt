@@ -19,9 +19,11 @@ use Rattle.rsx_trace.proofs.Words.{IsWord, number_of_again, IsWord-number, not_e
 use Rattle.rsx_trace.proofs.Events.{signed_of_again}
 use Rattle.rsx_trace.proofs.KindWords.{kind_text, named, kind_is, name_is}
 use Rattle.std.proofs.lemmas.Slice.Eq.{bytes_eq-Decides}
+use Rattle.std.proofs.lemmas.Option.{same_Some, none-some}
+use Rattle.rsx_types.proofs.Lists.{same_head, same_tail}
 use Rattle.rsx_trace.proofs.Traces.{number_text}
 use Rattle.rsx_trace.proofs.Sound.{number_is, signed_is, cause_of, counted_of, function_of, version_of, first_of}
-use Rattle.rsx_trace.proofs.Continuing.{never, same_wrong, push_wrong, pull_wrong, heads, tails}
+use Rattle.rsx_trace.proofs.Continuing.{never, same_wrong, push_wrong, pull_wrong}
 use Rattle.rsx_trace.proofs.Parts.{AllSolid, word_missing, word_empty, word_first, ends_wrong_at}
 
 -- ---- steps
@@ -62,9 +64,6 @@ pub record Found (P : List (List ℕ) → Type 0) (ws : List (List ℕ)) (left :
   pub split : ws ≡ before ++ rest
   pub wrong : GoesWrong P before rest
   pub place : left ≡ length (bytes_from rest)
-
-pub found_same : (P Q : List (List ℕ) → Type 0) (ws : List (List ℕ)) (left : ℕ) → ((xs : List (List ℕ)) → P xs ↔ Q xs) → Found P ws left → Found Q ws left
-found_same P Q ws left same f = record { before = f.before; rest = f.rest; split = f.split; wrong = same_wrong P Q f.before f.rest same f.wrong; place = f.place }
 
 found_push : (P Q : List (List ℕ) → Type 0) (w : List ℕ) (ws : List (List ℕ)) (left : ℕ) → ((xs : List (List ℕ)) → P (w ∷ xs) ↔ Q xs) → Found Q ws left → Found P (w ∷ ws) left
 found_push P Q w ws left same f = record {
@@ -185,30 +184,30 @@ no_cause NonPositiveRequest h = cc
 
 -- a cause has one of three words first
 cause_head : (w : List ℕ) (more : List (List ℕ)) (cause : Cause) → IsCause (w ∷ more) cause → bytes_eq w (codes "bad-request") ≡ false → bytes_eq w (codes "user") ≡ false → bytes_eq w (codes "function") ≡ false → ⊥
-cause_head w more (User n) h a b c = other_name w (codes "user") b (heads w (codes "user") more (h.0 ∷ []) h.2)
-cause_head w more (Function n) h a b c = other_name w (codes "function") c (heads w (codes "function") more (h.0 ∷ []) h.2)
-cause_head w more NonPositiveRequest h a b c = other_name w (codes "bad-request") a (heads w (codes "bad-request") more [] h)
+cause_head w more (User n) h a b c = other_name w (codes "user") b (same_head w (codes "user") more (h.0 ∷ []) h.2)
+cause_head w more (Function n) h a b c = other_name w (codes "function") c (same_head w (codes "function") more (h.0 ∷ []) h.2)
+cause_head w more NonPositiveRequest h a b c = other_name w (codes "bad-request") a (same_head w (codes "bad-request") more [] h)
 
 bad_only : (xs : List (List ℕ)) (cause : Cause) → IsCause (codes "bad-request" ∷ xs) cause → Nothing xs
-bad_only xs (User n) h = absurd (other_name (codes "bad-request") (codes "user") refl (heads (codes "bad-request") (codes "user") xs (h.0 ∷ []) h.2))
-bad_only xs (Function n) h = absurd (other_name (codes "bad-request") (codes "function") refl (heads (codes "bad-request") (codes "function") xs (h.0 ∷ []) h.2))
-bad_only xs NonPositiveRequest h = tails (codes "bad-request") (codes "bad-request") xs [] h
+bad_only xs (User n) h = absurd (other_name (codes "bad-request") (codes "user") refl (same_head (codes "bad-request") (codes "user") xs (h.0 ∷ []) h.2))
+bad_only xs (Function n) h = absurd (other_name (codes "bad-request") (codes "function") refl (same_head (codes "bad-request") (codes "function") xs (h.0 ∷ []) h.2))
+bad_only xs NonPositiveRequest h = same_tail (codes "bad-request") (codes "bad-request") xs [] h
 
 bad_cause : (xs : List (List ℕ)) → SomeCause (codes "bad-request" ∷ xs) ↔ Nothing xs
 bad_cause xs = ((λ h. bad_only xs h.0 h.1), (λ h. (NonPositiveRequest, ap (λ (ys : List (List ℕ)). codes "bad-request" ∷ ys) h)))
 
 user_only : (xs : List (List ℕ)) (cause : Cause) → IsCause (codes "user" ∷ xs) cause → One (number_of u32) xs
-user_only xs (User n) h = (h.0, n, number_of_again u32 h.0 n h.1, tails (codes "user") (codes "user") xs (h.0 ∷ []) h.2)
-user_only xs (Function n) h = absurd (other_name (codes "user") (codes "function") refl (heads (codes "user") (codes "function") xs (h.0 ∷ []) h.2))
-user_only xs NonPositiveRequest h = absurd (other_name (codes "user") (codes "bad-request") refl (heads (codes "user") (codes "bad-request") xs [] h))
+user_only xs (User n) h = (h.0, n, number_of_again u32 h.0 n h.1, same_tail (codes "user") (codes "user") xs (h.0 ∷ []) h.2)
+user_only xs (Function n) h = absurd (other_name (codes "user") (codes "function") refl (same_head (codes "user") (codes "function") xs (h.0 ∷ []) h.2))
+user_only xs NonPositiveRequest h = absurd (other_name (codes "user") (codes "bad-request") refl (same_head (codes "user") (codes "bad-request") xs [] h))
 
 user_cause : (xs : List (List ℕ)) → SomeCause (codes "user" ∷ xs) ↔ One (number_of u32) xs
 user_cause xs = ((λ h. user_only xs h.0 h.1), (λ h. (User h.1, (h.0, number_is u32 h.0 h.1 h.2, ap (λ (ys : List (List ℕ)). codes "user" ∷ ys) h.3))))
 
 function_only : (xs : List (List ℕ)) (cause : Cause) → IsCause (codes "function" ∷ xs) cause → One (number_of u32) xs
-function_only xs (User n) h = absurd (other_name (codes "function") (codes "user") refl (heads (codes "function") (codes "user") xs (h.0 ∷ []) h.2))
-function_only xs (Function n) h = (h.0, n, number_of_again u32 h.0 n h.1, tails (codes "function") (codes "function") xs (h.0 ∷ []) h.2)
-function_only xs NonPositiveRequest h = absurd (other_name (codes "function") (codes "bad-request") refl (heads (codes "function") (codes "bad-request") xs [] h))
+function_only xs (User n) h = absurd (other_name (codes "function") (codes "user") refl (same_head (codes "function") (codes "user") xs (h.0 ∷ []) h.2))
+function_only xs (Function n) h = (h.0, n, number_of_again u32 h.0 n h.1, same_tail (codes "function") (codes "function") xs (h.0 ∷ []) h.2)
+function_only xs NonPositiveRequest h = absurd (other_name (codes "function") (codes "bad-request") refl (same_head (codes "function") (codes "bad-request") xs [] h))
 
 function_cause : (xs : List (List ℕ)) → SomeCause (codes "function" ∷ xs) ↔ One (number_of u32) xs
 function_cause xs = ((λ h. function_only xs h.0 h.1), (λ h. (Function h.1, (h.0, number_is u32 h.0 h.1 h.2, ap (λ (ys : List (List ℕ)). codes "function" ∷ ys) h.3))))
@@ -338,41 +337,35 @@ some_behind kind.Request = (decimal 0 ∷ [], (decimal 0, pos 0, signed_of_again
 some_behind kind.Cancel = ([], refl)
 some_behind kind.CancelNew = ([], refl)
 
-some_kind : (a b : Kind) → Some a ≡ Some b → a ≡ b
-some_kind a b e = cc
-
 kind_texts : (a b : Kind) → kind_text a ≡ kind_text b → a ≡ b
-kind_texts a b e = some_kind a b (sym (kind_again a) ∙ ap kind_of e ∙ kind_again b)
+kind_texts a b e = same_Some a b (sym (kind_again a) ∙ ap kind_of e ∙ kind_again b)
 
 behind_of : (k : Kind) (number : List ℕ) (xs : List (List ℕ)) → Opened (kind_text k ∷ number ∷ xs) → Behind k xs
 behind_of k number xs o =
-    let rest : number ∷ xs ≡ o.number ∷ o.tail = tails (kind_text k) (kind_text o.k) (number ∷ xs) (o.number ∷ o.tail) o.is in
-    let kinds_same : k ≡ o.k = kind_texts k o.k (heads (kind_text k) (kind_text o.k) (number ∷ xs) (o.number ∷ o.tail) o.is) in
-    subst (λ (x : Kind). Behind x xs) (sym kinds_same) (subst (λ (ys : List (List ℕ)). Behind o.k ys) (sym (tails number o.number xs o.tail rest)) o.more)
+    let rest : number ∷ xs ≡ o.number ∷ o.tail = same_tail (kind_text k) (kind_text o.k) (number ∷ xs) (o.number ∷ o.tail) o.is in
+    let kinds_same : k ≡ o.k = kind_texts k o.k (same_head (kind_text k) (kind_text o.k) (number ∷ xs) (o.number ∷ o.tail) o.is) in
+    subst (λ (x : Kind). Behind x xs) (sym kinds_same) (subst (λ (ys : List (List ℕ)). Behind o.k ys) (sym (same_tail number o.number xs o.tail rest)) o.more)
 
 event_behind : (k : Kind) (number : List ℕ) (s : ℕ) → IsNumber u32 number s → (xs : List (List ℕ)) → SomeEvent (kind_text k ∷ number ∷ xs) ↔ Behind k xs
 event_behind k number s h xs = ((λ e. behind_of k number xs (opened (kind_text k ∷ number ∷ xs) e.0 e.1)), (λ t. closed k number s xs h t))
 
 no_number : (k : Kind) → Opened (kind_text k ∷ []) → ⊥
-no_number k o = let t = tails (kind_text k) (kind_text o.k) [] (o.number ∷ o.tail) o.is in cc
+no_number k o = let t = same_tail (kind_text k) (kind_text o.k) [] (o.number ∷ o.tail) o.is in cc
 
 bad_number : (k : Kind) (w : List ℕ) (more : List (List ℕ)) → number_of u32 w ≡ None → Opened (kind_text k ∷ w ∷ more) → ⊥
 bad_number k w more none o =
-    let same : w ≡ o.number = heads w o.number more o.tail (tails (kind_text k) (kind_text o.k) (w ∷ more) (o.number ∷ o.tail) o.is) in
+    let same : w ≡ o.number = same_head w o.number more o.tail (same_tail (kind_text k) (kind_text o.k) (w ∷ more) (o.number ∷ o.tail) o.is) in
     let again = number_of_again u32 o.number o.s o.value in
     cc
 
 no_event : Opened [] → ⊥
 no_event o = let i = o.is in cc
 
-no_kind : (k : Kind) → None ≡ Some k → ⊥
-no_kind k e = cc
-
 bad_kind : (w : List ℕ) (more : List (List ℕ)) → kind_of w ≡ None → Opened (w ∷ more) → ⊥
 bad_kind w more none o =
-    let same : kind_of w ≡ kind_of (kind_text o.k) = ap kind_of (heads w (kind_text o.k) more (o.number ∷ o.tail) o.is) in
+    let same : kind_of w ≡ kind_of (kind_text o.k) = ap kind_of (same_head w (kind_text o.k) more (o.number ∷ o.tail) o.is) in
     let again = kind_again o.k in
-    no_kind o.k (sym none ∙ same ∙ again)
+    none-some o.k (sym none ∙ same ∙ again)
 
 number_step : {A : Type 0} (P : List (List ℕ) → Type 0) (most : ℕ) (ws : List (List ℕ)) (f : ℕ × List ℕ → Result A ℕ) (left : ℕ)
     → AllSolid ws → Begins P [] → ¬ P [] → ((w : List ℕ) (more : List (List ℕ)) → number_of most w ≡ None → P (w ∷ more) → ⊥)
@@ -422,7 +415,7 @@ stamp w e = record { worker = w; event = e }
 
 numbered_event : (w : List ℕ) (n : ℕ) → IsNumber 15 w n → (xs : List (List ℕ)) → Numbered (w ∷ xs) ↔ SomeEvent xs
 numbered_event w n h xs = (
-  (λ q. subst (λ (ys : List (List ℕ)). SomeEvent ys) (sym (tails w q.worker xs q.more q.is)) q.event),
+  (λ q. subst (λ (ys : List (List ℕ)). SomeEvent ys) (sym (same_tail w q.worker xs q.more q.is)) q.event),
   (λ e. record { worker = w; n = n; more = xs; value = h; is = refl; event = e }),
 )
 
@@ -431,7 +424,7 @@ no_numbered q = let i = q.is in cc
 
 bad_worker : (w : List ℕ) (more : List (List ℕ)) → number_of 15 w ≡ None → Numbered (w ∷ more) → ⊥
 bad_worker w more none q =
-    let same : w ≡ q.worker = heads w q.worker more q.more q.is in
+    let same : w ≡ q.worker = same_head w q.worker more q.more q.is in
     let again = number_of_again 15 q.worker q.n q.value in
     cc
 
@@ -465,13 +458,13 @@ kind_word kind.Cancel = (name_is (codes "cancel") (lit< tt) refl, refl)
 kind_word kind.CancelNew = (name_is (codes "cancel-new") (lit< tt) refl, refl)
 
 opened_first : (w : List ℕ) (more : List (List ℕ)) → Opened (w ∷ more) → IsWord w × (bytes_eq w (codes "end") ≡ false)
-opened_first w more o = subst (λ (x : List ℕ). IsWord x × (bytes_eq x (codes "end") ≡ false)) (sym (heads w (kind_text o.k) more (o.number ∷ o.tail) o.is)) (kind_word o.k)
+opened_first w more o = subst (λ (x : List ℕ). IsWord x × (bytes_eq x (codes "end") ≡ false)) (sym (same_head w (kind_text o.k) more (o.number ∷ o.tail) o.is)) (kind_word o.k)
 
 -- the first word of an event's line
 stampable_first : (s : Bool) (w : List ℕ) (more : List (List ℕ)) → Stampable s (w ∷ more) → IsWord w × (bytes_eq w (codes "end") ≡ false)
 stampable_first false w more h = opened_first w more (opened (w ∷ more) h.0 h.1)
 stampable_first true w more q =
-    subst (λ (x : List ℕ). IsWord x × (bytes_eq x (codes "end") ≡ false)) (sym (heads w q.worker more q.more q.is)) (IsWord-number 15 q.worker q.n q.value, not_end 15 q.worker q.n q.value)
+    subst (λ (x : List ℕ). IsWord x × (bytes_eq x (codes "end") ≡ false)) (sym (same_head w q.worker more q.more q.is)) (IsWord-number 15 q.worker q.n q.value, not_end 15 q.worker q.n q.value)
 
 no_stampable : (s : Bool) → Stampable s [] → ⊥
 no_stampable false h = no_event (opened [] h.0 h.1)
@@ -485,18 +478,18 @@ no_line s (inl e) = cc
 no_line s (inr q) = no_stampable s q
 
 empty_line : (s : Bool) (more : List (List ℕ)) → LineWords s ([] ∷ more) → ⊥
-empty_line s more (inl e) = other_name [] (codes "end") refl (heads [] (codes "end") more [] e)
+empty_line s more (inl e) = other_name [] (codes "end") refl (same_head [] (codes "end") more [] e)
 empty_line s more (inr q) = omega (arith, (stampable_first s [] more q).0.some)
 
 end_only : (s : Bool) (xs : List (List ℕ)) → LineWords s (codes "end" ∷ xs) → Nothing xs
-end_only s xs (inl e) = tails (codes "end") (codes "end") xs [] e
+end_only s xs (inl e) = same_tail (codes "end") (codes "end") xs [] e
 end_only s xs (inr q) = absurd (let f : true ≡ false = (stampable_first s (codes "end") xs q).1 in cc)
 
 end_line : (s : Bool) (xs : List (List ℕ)) → LineWords s (codes "end" ∷ xs) ↔ Nothing xs
 end_line s xs = ((λ h. end_only s xs h), (λ e. inl (ap (λ (ys : List (List ℕ)). codes "end" ∷ ys) e)))
 
 event_words : (s : Bool) (w : List ℕ) (xs : List (List ℕ)) → bytes_eq w (codes "end") ≡ false → LineWords s (w ∷ xs) → Stampable s (w ∷ xs)
-event_words s w xs other (inl e) = absurd (other_name w (codes "end") other (heads w (codes "end") xs [] e))
+event_words s w xs other (inl e) = absurd (other_name w (codes "end") other (same_head w (codes "end") xs [] e))
 event_words s w xs other (inr q) = q
 
 -- words that go wrong do so for what is right just where it begins with the same word
@@ -504,10 +497,10 @@ swap_parts : (P Q : List (List ℕ) → Type 0) (w : List ℕ) (more : List (Lis
     → w ∷ more ≡ before ++ rest → GoesWrong P before rest → left ≡ length (bytes_from rest) → Found Q (w ∷ more) left
 swap_parts P Q w more left [] [] same begins split wrong place = absurd cc
 swap_parts P Q w more left [] (r ∷ rs) same begins split wrong place =
-    found_here Q w more left begins (λ others q. wrong.stops (subst (λ (x : List ℕ). Begins P (x ∷ [])) (heads w r more rs split) (others, (same others).1 q)))
+    found_here Q w more left begins (λ others q. wrong.stops (subst (λ (x : List ℕ). Begins P (x ∷ [])) (same_head w r more rs split) (others, (same others).1 q)))
     (place ∙ sym (ap (λ (xs : List (List ℕ)). length (bytes_from xs)) split))
 swap_parts P Q w more left (b ∷ bs) rest same begins split wrong place =
-    let first : w ≡ b = heads w b more (bs ++ rest) split in
+    let first : w ≡ b = same_head w b more (bs ++ rest) split in
     let pulled = pull_wrong P w bs rest (subst (λ (x : List ℕ). GoesWrong P (x ∷ bs) rest) (sym first) wrong) in
     record {
       before = w ∷ bs;
@@ -558,11 +551,11 @@ no_version : Version [] → ⊥
 no_version h = let e = h.1 in cc
 
 bad_version : (w : List ℕ) (more : List (List ℕ)) (s : Bool) → bytes_eq w (codes "1") ≡ false → bytes_eq w (codes "2") ≡ false → w ∷ more ≡ version s ∷ [] → ⊥
-bad_version w more false a b e = other_name w (codes "1") a (heads w (codes "1") more [] e)
-bad_version w more true a b e = other_name w (codes "2") b (heads w (codes "2") more [] e)
+bad_version w more false a b e = other_name w (codes "1") a (same_head w (codes "1") more [] e)
+bad_version w more true a b e = other_name w (codes "2") b (same_head w (codes "2") more [] e)
 
 version_ends : (s : Bool) (xs : List (List ℕ)) → Version (version s ∷ xs) ↔ Nothing xs
-version_ends s xs = ((λ h. tails (version s) (version h.0) xs [] h.1), (λ e. (s, ap (λ (ys : List (List ℕ)). version s ∷ ys) e)))
+version_ends s xs = ((λ h. same_tail (version s) (version h.0) xs [] h.1), (λ e. (s, ap (λ (ys : List (List ℕ)). version s ∷ ys) e)))
 
 version_next : (bytes : List ℕ) (w : List ℕ) (more : List (List ℕ)) (left : ℕ) → AllSolid more → length bytes ≡ length (bytes_from (w ∷ more))
     → cond (bytes_eq w (codes "1")) (ends (bytes_from more) false) (cond (bytes_eq w (codes "2")) (ends (bytes_from more) true) (Err (length bytes))) ≡ Err left → Found Version (w ∷ more) left
@@ -585,10 +578,10 @@ no_first : FirstWords [] → ⊥
 no_first h = let e = h.1 in cc
 
 trace_first : (w : List ℕ) (more : List (List ℕ)) → bytes_eq w (codes "trace") ≡ false → FirstWords (w ∷ more) → ⊥
-trace_first w more other h = other_name w (codes "trace") other (heads w (codes "trace") more (version h.0 ∷ []) h.1)
+trace_first w more other h = other_name w (codes "trace") other (same_head w (codes "trace") more (version h.0 ∷ []) h.1)
 
 trace_version : (xs : List (List ℕ)) → FirstWords (codes "trace" ∷ xs) ↔ Version xs
-trace_version xs = ((λ h. (h.0, tails (codes "trace") (codes "trace") xs (version h.0 ∷ []) h.1)), (λ h. (h.0, ap (λ (ys : List (List ℕ)). codes "trace" ∷ ys) h.1)))
+trace_version xs = ((λ h. (h.0, same_tail (codes "trace") (codes "trace") xs (version h.0 ∷ []) h.1)), (λ h. (h.0, ap (λ (ys : List (List ℕ)). codes "trace" ∷ ys) h.1)))
 
 first_next : (bytes : List ℕ) (w : List ℕ) (more : List (List ℕ)) (left : ℕ) → AllSolid more → length bytes ≡ length (bytes_from (w ∷ more))
     → first_of bytes (w, bytes_from more) ≡ Err left → Found FirstWords (w ∷ more) left

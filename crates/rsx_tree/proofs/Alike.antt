@@ -1,7 +1,7 @@
 -- No move changes which calls of a tree's nodes may allocate.
 use Rattle.std.proofs.Common.{◌≡◌, inl, inr, ℕ, zero, suc, ◌+◌, ◌-◌, Bool, true, false, ◌||◌, ◌&&◌, refl, ap, sym, ◌∙◌, subst}
-use Rattle.rsx_types.specs.Meaning.{Meaning, Allocates}
-use Rattle.rsx_sources.specs.Machine.{front_of}
+use Rattle.std.proofs.lemmas.Bool.{or_from}
+use Rattle.rsx_sources.specs.Prelude.{Meaning, Allocates, front_of}
 use Rattle.rsx_sources.specs.declared.machine.Front.{Front}
 use Rattle.rsx_sources.specs.declared.machine.Front.TheVariants.{Item, Completion, Failure}
 use Rattle.rsx_sources.specs.declared.machine.Machine.{Ghosts as Machine}
@@ -25,10 +25,6 @@ or_left true y h = h
 pub or_right : (x y : Bool) → (x || y) ≡ false → y ≡ false
 or_right false y h = h
 or_right true y h = cc
-
-pub or_none : (x y : Bool) → x ≡ false → y ≡ false → (x || y) ≡ false
-or_none false y p q = q
-or_none true y p q = p
 
 pub alike_same : {M T : Type 0} (b : Machine M T) (n n' : M) → n' ≡ n → IsNodeAlike b n n'
 alike_same b n n' h = (ap b.reads h, λ a. (ap (b.pop_allocates a) h, ap (b.signal_allocates a) h, ap (b.step_allocates a) h))
@@ -181,8 +177,7 @@ driven_alike b m steps (suc k) old asked sent new h =
 -- the calls of a Send
 pub send_free : {M T : Type 0} (b : Machine M T) (a : Allocates) (r n : M) → (node_allocates b a r || node_allocates b a n) ≡ false → send_over_allocates b a r n ≡ false
 send_free b a r n h =
-    or_none (b.pop_allocates a n) (b.signal_allocates a r) (or_left (b.pop_allocates a n) _ (or_right (node_allocates b a r) _ h))
-    (or_left (b.signal_allocates a r) _ (or_right (b.pop_allocates a r) _ (or_left (node_allocates b a r) _ h)))
+    or_from (b.pop_allocates a n) (b.signal_allocates a r) (or_left (b.pop_allocates a n) _ (or_right (node_allocates b a r) _ h)) (or_left (b.signal_allocates a r) _ (or_right (b.pop_allocates a r) _ (or_left (node_allocates b a r) _ h)))
 
 -- those of a step of the sender
 pub step_free : {M T : Type 0} (b : Machine M T) (a : Allocates) (r n n' : M) → (node_allocates b a r || node_allocates b a n) ≡ false → n' ≡ n → b.step_allocates a n' ≡ false
@@ -190,15 +185,15 @@ step_free b a r n n' h same = ap (b.step_allocates a) same ∙ or_right (b.signa
 
 -- those over the first edge, of the row below it, and of the row beside it
 pub first_free : {M T : Type 0} (b : Machine M T) (a : Allocates) (r n : M) (x y : Bool) → (node_allocates b a r || (node_allocates b a n || (x || y))) ≡ false → (node_allocates b a r || node_allocates b a n) ≡ false
-first_free b a r n x y h = or_none (node_allocates b a r) (node_allocates b a n) (or_left (node_allocates b a r) _ h) (or_left (node_allocates b a n) _ (or_right (node_allocates b a r) _ h))
+first_free b a r n x y h = or_from (node_allocates b a r) (node_allocates b a n) (or_left (node_allocates b a r) _ h) (or_left (node_allocates b a n) _ (or_right (node_allocates b a r) _ h))
 
 pub below_free : {M T : Type 0} (b : Machine M T) (a : Allocates) (r n n' : M) (below was : Inputs M) (y : Bool) → (node_allocates b a r || (node_allocates b a n || (row_allocates b a below || y))) ≡ false → n' ≡ n → was ≡ below → over_allocates b a n' was ≡ false
 below_free b a r n n' below was y h same at =
     let k = or_right (node_allocates b a r) _ h in
     ap (λ c. over_allocates b a c was) same
-    ∙ (ap (over_allocates b a n) at ∙ or_none (node_allocates b a n) (row_allocates b a below) (or_left (node_allocates b a n) _ k) (or_left (row_allocates b a below) y (or_right (node_allocates b a n) _ k)))
+    ∙ (ap (over_allocates b a n) at ∙ or_from (node_allocates b a n) (row_allocates b a below) (or_left (node_allocates b a n) _ k) (or_left (row_allocates b a below) y (or_right (node_allocates b a n) _ k)))
 
 pub beside_free : {M T : Type 0} (b : Machine M T) (a : Allocates) (r n : M) (x : Bool) (beside was : Inputs M) → (node_allocates b a r || (node_allocates b a n || (x || row_allocates b a beside))) ≡ false → was ≡ beside → over_allocates b a r was ≡ false
 beside_free b a r n x beside was h at =
     ap (over_allocates b a r) at
-    ∙ or_none (node_allocates b a r) (row_allocates b a beside) (or_left (node_allocates b a r) _ h) (or_right x (row_allocates b a beside) (or_right (node_allocates b a n) _ (or_right (node_allocates b a r) _ h)))
+    ∙ or_from (node_allocates b a r) (row_allocates b a beside) (or_left (node_allocates b a r) _ h) (or_right x (row_allocates b a beside) (or_right (node_allocates b a n) _ (or_right (node_allocates b a r) _ h)))

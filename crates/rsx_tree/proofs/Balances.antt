@@ -1,10 +1,6 @@
 -- How the counts along the edges stay balanced.
 use Rattle.std.proofs.Common.{◌≡◌, ◌⊎◌, inl, inr, ℕ, ◌+◌, ◌-◌, Bool, true, false, ◌&&◌, List, [], ◌∷◌, ◌++◌, length, refl, ap, sym, ◌∙◌, subst, append_assoc, length-append, Some}
-use Rattle.rsx_types.specs.Meaning.{Meaning}
-use Rattle.rsx_types.specs.declared.signal.Signal.{Signal}
-use Rattle.rsx_types.specs.declared.signal.Signal.TheVariants.{Next, Complete, Error}
-use Rattle.rsx_sources.specs.Counts.{CountsOut, CountsStep, taken_after, one_more, ends_input}
-use Rattle.rsx_sources.specs.Machine.{front_of}
+use Rattle.rsx_sources.specs.Prelude.{Meaning, Signal, Next, Complete, Error, CountsOut, CountsStep, taken_after, one_more, ends_input, front_of}
 use Rattle.rsx_sources.specs.declared.machine.Machine.{Ghosts as Machine}
 use Rattle.rsx_tree.specs.declared.edge.Edge.{Edge}
 use Rattle.rsx_tree.specs.declared.edge.EdgeState.TheVariants.{Live}

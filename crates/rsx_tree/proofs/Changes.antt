@@ -1,13 +1,13 @@
 -- How a change of one edge is put together from a change below a node, or beside it.
 use Rattle.std.proofs.Common.{◌≡◌, inl, inr, ℕ, ◌+◌, ◌-◌, ◌<◌, ◌≤◌, min, Bool, true, false, ◌&&◌, nat_eq, nat_le, if◌then◌else◌, refl, ap, sym, ◌∙◌, subst, arith, Box, Global}
-use Rattle.std.proofs.lemmas.Bool.Decides.{nat_tests}
 use Rattle.std.specs.Box.{with_value}
+use Rattle.std.proofs.lemmas.Bool.{le-leb, lt-leb}
+use Rattle.rsx_types.proofs.Numbers.{not_zero}
 use Rattle.rsx_tree.specs.declared.edge.Edge.{Edge}
 use Rattle.rsx_tree.specs.declared.inputs.Inputs.{Inputs}
 use Rattle.rsx_tree.specs.declared.inputs.Inputs.TheViews.{More}
 use Rattle.rsx_tree.specs.Inputs.{size, is_own, place, closed_row_if}
-use Rattle.rsx_sources.specs.declared.machine.Machine.{Ghosts as Machine}
-use Rattle.rsx_tree.specs.Changed.{Change, IsChanged, IsAskedOver}
+use Rattle.rsx_tree.specs.Changed.{Change, IsChanged}
 
 -- inputs in their box
 abbrev pub Rest : Type 0 → Type 0
@@ -20,15 +20,6 @@ chosen_second false x y e = refl
 pub chosen_first : {A : Type 0} (b : Bool) (x y : A) → b ≡ true → (if b then x else y) ≡ x
 chosen_first true x y e = refl
 chosen_first false x y e = cc
-
-pub not_zero : (at : ℕ) → 0 < at → nat_eq at 0 ≡ false
-not_zero at h = grind (arith, nat_tests)
-
-pub is_within : (at k : ℕ) → at ≤ k → nat_le at k ≡ true
-is_within at k h = grind (arith, nat_tests)
-
-pub is_beyond : (at k : ℕ) → k < at → nat_le at k ≡ false
-is_beyond at k h = grind (arith, nat_tests)
 
 -- the number of nodes below, where there are fewer than were counted up to
 pub counted_all : (k inside at : ℕ) → inside ≡ min k at → inside < at → inside ≡ k
@@ -87,7 +78,7 @@ place_beside {M} r i asked sent old e n below beside under was at inside is u w 
     let above : 0 < at = omega arith in
     ap (λ t. place r i asked sent t at) is
     ∙ (chosen_second (nat_eq at 0) _ _ (not_zero at above)
-    ∙ (chosen_second (nat_le at (size below.value)) (place n 0 e.demand.asked e.demand.sent below.value (at - 1)) (place r (i + 1) asked sent beside.value (at - 1 - size below.value)) (is_beyond at (size below.value) beyond)
+    ∙ (chosen_second (nat_le at (size below.value)) (place n 0 e.demand.asked e.demand.sent below.value (at - 1)) (place r (i + 1) asked sent beside.value (at - 1 - size below.value)) (lt-leb at (size below.value) beyond)
     ∙ (ap (λ k. place r (i + 1) asked sent beside.value (at - 1 - k)) (sym all) ∙ ap (λ t. place r (i + 1) asked sent t (at - 1 - inside)) (sym w))))
 
 pub place_below : {M : Type 0} (r : M) (i asked sent : ℕ) (old : Inputs M) (e : Edge) (n : M) (below beside : Rest M) (under was : Inputs M) (at inside : ℕ) →
@@ -98,14 +89,5 @@ place_below {M} r i asked sent old e n below beside under was at inside is u w c
     let within : at ≤ size below.value = subst S u (counted_some (size under) inside at c near) in
     ap (λ t. place r i asked sent t at) is
     ∙ (chosen_second (nat_eq at 0) _ _ (not_zero at above)
-    ∙ (chosen_first (nat_le at (size below.value)) (place n 0 e.demand.asked e.demand.sent below.value (at - 1)) (place r (i + 1) asked sent beside.value (at - 1 - size below.value)) (is_within at (size below.value) within)
+    ∙ (chosen_first (nat_le at (size below.value)) (place n 0 e.demand.asked e.demand.sent below.value (at - 1)) (place r (i + 1) asked sent beside.value (at - 1 - size below.value)) (le-leb at (size below.value) within)
     ∙ ap (λ t. place n 0 e.demand.asked e.demand.sent t (at - 1)) (sym w)))
-
--- ---- an Ask after a Send that changed nothing
-
-pub asked_after : {M T : Type 0} (b : Machine M T) (r r1 : M) (i asked sent : ℕ) (e e1 e2 : Edge) (n n1 : M) → r1 ≡ r → e1 ≡ e → n1 ≡ n → IsAskedOver b r1 i asked sent e1 n1 r1 e2 n1 → IsAskedOver b r i asked sent e n r1 e2 n1
-asked_after {M} b r r1 i asked sent e e1 e2 n n1 same_r same_e same_n h =
-    let R : M → Type 0 = λ x. IsAskedOver b x i asked sent e1 n1 r1 e2 n1 in
-    let E : Edge → Type 0 = λ x. IsAskedOver b r i asked sent x n1 r1 e2 n1 in
-    let N : M → Type 0 = λ x. IsAskedOver b r i asked sent e x r1 e2 n1 in
-    subst N same_n (subst E same_e (subst R same_r h))

@@ -1,8 +1,10 @@
 -- Runs of moves: how they are put together.
-use Rattle.std.proofs.Common.{◌^◌, ◌||◌, ◌≡◌, ◌⊎◌, inl, inr, ℕ, zero, suc, ◌+◌, ◌-◌, ◌<◌, ◌≤◌, Bool, true, false, ◌&&◌, nat_eq, nat_le, if◌then◌else◌, refl, ap, sym, ◌∙◌, subst, arith, Option}
+use Rattle.std.proofs.Common.{◌||◌, ◌≡◌, ◌⊎◌, inl, inr, ℕ, zero, suc, ◌+◌, ◌-◌, ◌<◌, ◌≤◌, Bool, true, false, ◌&&◌, nat_eq, nat_le, if◌then◌else◌, refl, ap, sym, ◌∙◌, subst, arith, Option}
 use Rattle.std.proofs.lemmas.Bool.Decides.{nat_tests}
 use Rattle.std.specs.Box.{with_value}
-use Rattle.rsx_types.specs.Meaning.{Meaning}
+use Rattle.std.proofs.lemmas.Bool.{both_ways, le-leb, lt-leb}
+use Rattle.rsx_types.proofs.Numbers.{not_zero}
+use Rattle.rsx_sources.specs.Prelude.{Meaning, note_then}
 use Rattle.rsx_sources.specs.declared.machine.Machine.{Ghosts as Machine}
 use Rattle.rsx_tree.specs.declared.edge.Edge.{Edge}
 use Rattle.rsx_tree.specs.declared.inputs.Inputs.{Inputs, End, More'}
@@ -12,9 +14,7 @@ use Rattle.rsx_tree.specs.Edges.{EdgeView}
 use Rattle.rsx_tree.specs.Inputs.{size, is_own, place, Place, closed_row_if, can_ask_in, can_send_in}
 use Rattle.rsx_tree.specs.Changed.{Change, IsChanged, IsAskedOver, IsSentOver, Hold}
 use Rattle.rsx_tree.specs.Stepped.{IsStepped, IsStepOf, IsStepOver, Step, Station, IsPickedHere, IsRowMadeHere, IsStill, station}
-use Rattle.rsx_tree.specs.Tree.{IsKept}
 use Rattle.rsx_tree.specs.Driven.{IsMade, IsRowRun, IsRowEnded, IsRowDriven, IsRowIdle, IsRestAt, IsRestOver, IsDriven, IsAdvanced, IsIdle}
-use Rattle.rsx_types.specs.Notes.{note_then}
 use Rattle.rsx_tree.specs.declared.edge.EdgeState.TheVariants.{Live}
 use Rattle.rsx_tree.specs.Chosen.{IsChosen}
 use Rattle.rsx_tree.proofs.Noted.{pick_notes, row_notes, step_noted, picked_noted, row_noted, kept_chosen, chosen_then}
@@ -24,7 +24,7 @@ use Rattle.rsx_tree.proofs.Balances.{tree_ask_balanced, tree_send_balanced}
 use Rattle.rsx_tree.proofs.Alike.{closed_alike, made_alike, reads_made, reads_closed_if, tree_alike}
 use Rattle.rsx_tree.proofs.Rows.{size_sent}
 use Rattle.rsx_tree.proofs.Effects.{row_asked}
-use Rattle.rsx_tree.proofs.Changes.{Rest, chosen_first, chosen_second, not_zero, is_within, is_beyond}
+use Rattle.rsx_tree.proofs.Changes.{Rest, chosen_first, chosen_second}
 
 -- so much of a budget is left in a run of moves of a row that has led to this receiver and this row
 pub record IsUnderWay {M T : Type 0} (b : Machine M T) (m : Meaning T) (steps : Bool) (i asked sent budget : ℕ) (r : M) (t : Inputs M) (left : ℕ) (r' : M) (t' : Inputs M) : Type 0 where
@@ -82,12 +82,12 @@ pub back_over : (at k : ℕ) → at ≡ at + 1 + k - 1 - k
 back_over at k = omega arith
 
 not_own : {M : Type 0} (e : Edge) (n : M) (p q : Hold) (below beside : Inputs M) (at : ℕ) → 0 < at → at ≤ size below → is_own (More' e n p below q beside) at ≡ false
-not_own e n p q below beside at above within = chosen_second (nat_eq at 0) _ _ (not_zero at above) ∙ chosen_first (nat_le at (size below)) _ _ (is_within at (size below) within)
+not_own e n p q below beside at above within = chosen_second (nat_eq at 0) _ _ (not_zero at above) ∙ chosen_first (nat_le at (size below)) _ _ (le-leb at (size below) within)
 
 own_beside : {M : Type 0} (e : Edge) (n : M) (p q : Hold) (below beside : Inputs M) (at : ℕ) → is_own (More' e n p below q beside) (at + 1 + size below) ≡ is_own beside at
 own_beside e n p q below beside at =
     chosen_second (nat_eq (at + 1 + size below) 0) _ _ (not_zero (at + 1 + size below) (omega arith))
-    ∙ (chosen_second (nat_le (at + 1 + size below) (size below)) _ _ (is_beyond (at + 1 + size below) (size below) (omega arith)) ∙ ap (λ k. is_own beside k) (sym (back_over at (size below))))
+    ∙ (chosen_second (nat_le (at + 1 + size below) (size below)) _ _ (lt-leb (at + 1 + size below) (size below) (omega arith)) ∙ ap (λ k. is_own beside k) (sym (back_over at (size below))))
 
 -- a move below the first node
 pub made_below : {M T : Type 0} (b : Machine M T) (m : Meaning T) (steps : Bool) (r : M) (i asked sent : ℕ) (e : Edge) (n : M) (p : Hold) (below : Inputs M) (q : Hold) (beside : Inputs M) (at : ℕ) (ends : Bool) (n' : M) (mid : Inputs M) →
@@ -242,9 +242,6 @@ driven_beside b m steps k true i asked sent r r' e n p below q beside beside' h 
 
 -- ---- the loop over one edge
 
-pub under_way_begun : {M T : Type 0} (b : Machine M T) (m : Meaning T) (steps : Bool) (i asked sent budget : ℕ) (r : M) (t now : Inputs M) → t ≡ now → IsUnderWay b m steps i asked sent budget r t budget r now
-under_way_begun b m steps i asked sent budget r t now is = record { count = 0; spent = omega arith; run = (refl, sym is) }
-
 and_same : (x : Bool) → x ≡ (x && true)
 and_same true = refl
 and_same false = refl
@@ -384,9 +381,6 @@ idle_whole {M} b m r i asked sent e n below beside d h (suc k) lt = deeper (nat_
         (chosen_second (nat_eq (suc k) 0) _ _ (not_zero (suc k) (omega arith)) ∙ chosen_second (nat_le (suc k) (size below.value)) (station below.value (suc k - 1)) (station beside.value (suc k - 1 - size below.value)) c)
         (h (suc k - 1 - size below.value) (omega (arith, lt)))
 
-pub idle_last : {M T : Type 0} (b : Machine M T) (m : Meaning T) (r : M) (i asked sent : ℕ) (e : Edge) (n : M) (below beside : Rest M) → 2 ^ 64 ≤ i + 1 → IsDone b m r i asked sent e n below.value → IsRowIdle b m r i asked sent (More e n below beside)
-idle_last b m r i asked sent e n below beside far d = idle_whole b m r i asked sent e n below beside d (λ at lt. absurd (omega (arith, far, lt)))
-
 -- no move over the edge, and none below it
 pub done_below : {M T : Type 0} (b : Machine M T) (m : Meaning T) (steps : Bool) (i asked sent k : ℕ) (over : Bool) (r r' : M) (e e' : Edge) (n n1 n' : M) (was now new : Inputs M) →
     r' ≡ r → e' ≡ e → n1 ≡ n → IsRestOver b m r i asked sent e n →
@@ -409,14 +403,6 @@ pub still_some : (x : Bool) (k : ℕ) → (x || nat_eq k 0) ≡ false → 0 < k
 still_some true k e = cc
 still_some false zero e = cc
 still_some false (suc k) e = omega arith
-
-pub idle_beside : {M T : Type 0} (b : Machine M T) (m : Meaning T) (steps : Bool) (i next asked sent k : ℕ) (over : Bool) (r r' : M) (e : Edge) (n : M) (below beside : Rest M) (was now : Inputs M) →
-    IsDone b m r i asked sent e n below.value → next ≡ i + 1 → k ≡ 0 → IsRowDriven b m steps k over next asked sent r was r' now → IsRowIdle b m r' next asked sent now → IsRowIdle b m r' i asked sent (More e n below (with_value beside now))
-idle_beside {M} b m steps i next asked sent k over r r' e n below beside was now d up none h idle =
-    let z = nothing_done b m steps k over next asked sent r r' was now none h in
-    let D : M → Type 0 = λ x. IsDone b m x i asked sent e n below.value in
-    let I : ℕ → Type 0 = λ j. IsRowIdle b m r' j asked sent now in
-    idle_whole b m r' i asked sent e n below (with_value beside now) (subst D (sym z.1) d) (subst I up idle)
 
 -- ---- a run leaves as many nodes
 
@@ -499,16 +485,13 @@ advanced {M} b m steps r r' asked sent at ends t mid h = elim h [
         subst C (sym z.1.stays) (subst R (sym z.1.receiver) (record {
           at = at;
           made = inr (inr (z.0, record { made = z.1.made; receiver = refl; stays = refl }));
-          kept = λ f. absurd (never steps z.0 f);
+          kept = λ f. absurd (both_ways steps f z.0);
           chosen = both.0;
           balance = both.1;
           alike = tree_alike b r r t mid (λ a. made_alike b m steps r 0 asked sent t at false r mid (inr (inr (z.0, record { made = z.1.made; receiver = refl; stays = refl }))) a) (reads_made b m steps r 0 asked sent t at false r mid (inr (inr (z.0, record { made = z.1.made; receiver = refl; stays = refl }))));
         }))
   ]
 ]
-  where
-    never : (c : Bool) → c ≡ true → c ≡ false → ⊥
-    never c x y = cc
 
 pub tree_run : {M T : Type 0} (b : Machine M T) (m : Meaning T) (steps : Bool) (k asked sent : ℕ) (r r' : M) (t t' : Inputs M) → IsRowRun b m steps k 0 asked sent r t r' t' → IsDriven b m steps k (node r t) asked sent (node r' t')
 tree_run b m steps zero asked sent r r' t t' h = ap (λ x. node x t') h.0 ∙ ap (λ x. node r x) h.1
@@ -531,13 +514,6 @@ tree_driven b m steps k false asked sent r r' t t' h = tree_run b m steps k aske
 tree_driven {M} b m steps k true asked sent r r' t t' h =
     let Q : ℕ → Type 0 = λ j. IsDriven b m steps j (node r t) asked sent (node r' (closed_row_if true t')) in
     subst Q (sym h.count) (tree_then b m steps h.before 1 (node r t) (node h.r1 h.t1) (node r' (closed_row_if true t')) asked sent (tree_run b m steps h.before asked sent r h.r1 t h.t1 h.run) (node r' (closed_row_if true t'), advanced b m steps h.r1 r' asked sent h.at true h.t1 t' h.last, refl))
-
-pub kept_run : {M T : Type 0} (b : Machine M T) (m : Meaning T) (k : ℕ) (x y : Node M) (asked sent : ℕ) → IsDriven b m false k x asked sent y → IsKept b m x y
-kept_run {M} b m zero x y asked sent h = let Q : Node M → Type 0 = λ t. IsKept b m x t in subst Q (sym h) (record { value = λ hubs further at. refl; notes = refl })
-kept_run b m (suc k) x y asked sent h =
-    let rest = kept_run b m k h.0 y asked sent h.2 in
-    let one = h.1.kept refl in
-    record { value = λ hubs further at. rest.value hubs further at ∙ one.value hubs further at; notes = rest.notes ∙ one.notes }
 
 none_chosen : {M T : Type 0} (b : Machine M T) (m : Meaning T) (x : Node M) → IsChosen b m x x
 none_chosen b m x = kept_chosen b m x x (record { value = λ hubs further at. refl; notes = refl })
@@ -568,10 +544,7 @@ idle_after {M} b m steps k over asked sent r r' t now new none h shut idle =
     subst Q (sym (shut ∙ ap (λ c. closed_row_if c now) z.0)) (idle_tree b m r' now asked sent idle)
 
 pub none_left : (k : ℕ) → nat_eq k 0 ≡ true → 0 < k → ⊥
-none_left k e some = both (nat_eq k 0) e (not_zero k some)
-  where
-    both : (c : Bool) → c ≡ true → c ≡ false → ⊥
-    both c x y = cc
+none_left k e some = both_ways (nat_eq k 0) (not_zero k some) e
 
 pub pass_same : (k left : ℕ) → (nat_eq k left || nat_eq k 0) ≡ true → 0 < k → k ≡ left
 pass_same k left e some = grind (arith, nat_tests)

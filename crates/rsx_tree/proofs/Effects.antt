@@ -1,9 +1,8 @@
 -- What a change of one edge says of the edges, and that the move was enabled.
 use Rattle.std.proofs.Common.{◌≡◌, inl, inr, ℕ, zero, suc, ◌+◌, ◌-◌, ◌<◌, ◌≤◌, Bool, true, false, ◌&&◌, nat_eq, nat_le, List, [], ◌∷◌, ◌++◌, length, refl, ap, sym, ◌∙◌, subst, arith, length-append, Option, Some, option_map, slice_get}
-use Rattle.rsx_types.specs.Meaning.{Meaning}
-use Rattle.rsx_types.specs.Stream.{Stream}
-use Rattle.rsx_types.specs.declared.note.Note.{Note}
-use Rattle.rsx_sources.specs.Machine.{front_of}
+use Rattle.std.proofs.lemmas.Bool.{true≢false, le-leb, lt-leb}
+use Rattle.rsx_types.proofs.Numbers.{not_zero}
+use Rattle.rsx_sources.specs.Prelude.{Meaning, Stream, Note, front_of}
 use Rattle.rsx_sources.specs.declared.machine.Front.{Front}
 use Rattle.rsx_sources.specs.declared.machine.Machine.{Ghosts as Machine}
 use Rattle.rsx_tree.specs.declared.edge.Edge.{Edge}
@@ -12,7 +11,7 @@ use Rattle.rsx_tree.specs.Edges.{edge_view, EdgeView, asked_up_to, changed_at, c
 use Rattle.rsx_tree.specs.Inputs.{Place, place, size, edges, notes_of, comes_in, out_of, beside_of, is_own, closed_row, closed_row_if, wanted_at, sent_edges}
 use Rattle.rsx_tree.specs.Tree.{ended_in}
 use Rattle.rsx_tree.specs.Changed.{Change, IsChanged, IsAskedOver, IsSentOver}
-use Rattle.rsx_tree.proofs.Changes.{chosen_first, chosen_second, not_zero, is_within, is_beyond}
+use Rattle.rsx_tree.proofs.Changes.{chosen_first, chosen_second}
 use Rattle.rsx_tree.proofs.Closes.{size_closed, size_closed_if}
 use Rattle.rsx_tree.proofs.Rows.{size_sent, edges_closed}
 
@@ -38,8 +37,8 @@ found {M} P ends r i asked sent (More' e n p below q beside) at r' t' h = elim h
       let Q : ℕ → Type 0 = λ k. Found P (place r i asked sent (More' e n p below q beside) k) in
       subst Q (sym x.at_is) (record { there = record { receiver = r; input = i; asked = asked; sent = sent; edge = edge_view e; sender = n }; is = refl; e = e; edge_is = refl; r' = r'; e' = x.e'; n' = x.n'; made = x.made })
   | inr y ↦ elim y [
-    | inl x ↦ elsewhere P _ _ (chosen_second (nat_eq at 0) _ _ (not_zero at x.above) ∙ chosen_first (nat_le at (size below)) _ _ (is_within at (size below) x.within)) (found P ends n 0 e.demand.asked e.demand.sent below (at - 1) x.n' x.mid x.made)
-    | inr x ↦ elsewhere P _ _ (chosen_second (nat_eq at 0) _ _ (not_zero at (let l = x.beyond in omega arith)) ∙ chosen_second (nat_le at (size below)) _ _ (is_beyond at (size below) x.beyond)) (found P ends r (i + 1) asked sent beside (at - 1 - size below) r' x.beside' x.made)
+    | inl x ↦ elsewhere P _ _ (chosen_second (nat_eq at 0) _ _ (not_zero at x.above) ∙ chosen_first (nat_le at (size below)) _ _ (le-leb at (size below) x.within)) (found P ends n 0 e.demand.asked e.demand.sent below (at - 1) x.n' x.mid x.made)
+    | inr x ↦ elsewhere P _ _ (chosen_second (nat_eq at 0) _ _ (not_zero at (let l = x.beyond in omega arith)) ∙ chosen_second (nat_le at (size below)) _ _ (lt-leb at (size below) x.beyond)) (found P ends r (i + 1) asked sent beside (at - 1 - size below) r' x.beside' x.made)
   ]
 ]
 
@@ -110,7 +109,7 @@ row_asked {M} {T} b ends r i asked sent (More' e n p below q beside) at r' t' ne
         let inside : at - 1 < length (edges below) = let a = x.above in let w = x.within in omega (arith, len) in
         record {
           there = rec.there;
-          is = chosen_second (nat_eq at 0) _ _ (not_zero at x.above) ∙ (chosen_first (nat_le at (size below)) _ _ (is_within at (size below) x.within) ∙ rec.is);
+          is = chosen_second (nat_eq at 0) _ _ (not_zero at x.above) ∙ (chosen_first (nat_le at (size below)) _ _ (le-leb at (size below) x.within) ∙ rec.is);
           edges = ap edges whole ∙ (ap (λ es. edge_view e ∷ (es ++ edges beside)) rec.edges ∙ (ap (λ es. edge_view e ∷ es) (sym (changed_left f (at - 1) (edges below) (edges beside) inside)) ∙ sym (not_first f at (edge_view e) (edges below ++ edges beside) x.above)));
           size = ap size whole ∙ ap (λ k. k + size beside + 1) rec.size;
           notes = ap (notes_of b) whole ∙ ap (λ l. b.recorded n ∷ (l ++ notes_of b beside)) rec.notes;
@@ -125,7 +124,7 @@ row_asked {M} {T} b ends r i asked sent (More' e n p below q beside) at r' t' ne
         let behind : length (edges below) ≤ at - 1 = let l = x.beyond in omega (arith, len) in
         record {
           there = rec.there;
-          is = chosen_second (nat_eq at 0) _ _ (not_zero at above) ∙ (chosen_second (nat_le at (size below)) _ _ (is_beyond at (size below) x.beyond) ∙ rec.is);
+          is = chosen_second (nat_eq at 0) _ _ (not_zero at above) ∙ (chosen_second (nat_le at (size below)) _ _ (lt-leb at (size below) x.beyond) ∙ rec.is);
           edges = ap edges x.new_is ∙ (ap (λ es. edge_view e ∷ (edges below ++ es)) (rec.edges ∙ ap (λ k. changed_at f (at - 1 - k) (edges beside)) (sym len)) ∙ (ap (λ es. edge_view e ∷ es) (sym (changed_right f (at - 1) (edges below) (edges beside) behind)) ∙ sym (not_first f at (edge_view e) (edges below ++ edges beside) above)));
           size = ap size x.new_is ∙ ap (λ k. size below + k + 1) rec.size;
           notes = ap (notes_of b) x.new_is ∙ ap (λ l. b.recorded n ∷ (notes_of b below ++ l)) rec.notes;
@@ -159,18 +158,15 @@ own_ended {M} b m ends r i asked sent (More' e n p below q beside) at r' t' h o 
   | inl x ↦ ap (λ u. ended_in b r' u at) x.new_is ∙ chosen_first (nat_eq at 0) (b.ended r') _ (ap (λ k. nat_eq k 0) x.at_is)
   | inr y ↦ elim y [
     | inl x ↦
-        let not_own : is_own (More' e n p below q beside) at ≡ false = chosen_second (nat_eq at 0) _ _ (not_zero at x.above) ∙ chosen_first (nat_le at (size below)) false _ (is_within at (size below) x.within) in
-        absurd (true_not_false (sym o ∙ not_own))
+        let not_own : is_own (More' e n p below q beside) at ≡ false = chosen_second (nat_eq at 0) _ _ (not_zero at x.above) ∙ chosen_first (nat_le at (size below)) false _ (le-leb at (size below) x.within) in
+        absurd (true≢false (sym o ∙ not_own))
     | inr x ↦
         let above : 0 < at = let l = x.beyond in omega arith in
-        let own : is_own beside (at - 1 - size below) ≡ true = sym (chosen_second (nat_eq at 0) _ _ (not_zero at above) ∙ chosen_second (nat_le at (size below)) false _ (is_beyond at (size below) x.beyond)) ∙ o in
-        ap (λ u. ended_in b r' u at) x.new_is ∙ (chosen_second (nat_eq at 0) _ _ (not_zero at above) ∙ (chosen_second (nat_le at (size below)) _ _ (is_beyond at (size below) x.beyond)
+        let own : is_own beside (at - 1 - size below) ≡ true = sym (chosen_second (nat_eq at 0) _ _ (not_zero at above) ∙ chosen_second (nat_le at (size below)) false _ (lt-leb at (size below) x.beyond)) ∙ o in
+        ap (λ u. ended_in b r' u at) x.new_is ∙ (chosen_second (nat_eq at 0) _ _ (not_zero at above) ∙ (chosen_second (nat_le at (size below)) _ _ (lt-leb at (size below) x.beyond)
         ∙ own_ended b m ends r (i + 1) asked sent beside (at - 1 - size below) r' x.beside' x.made own))
   ]
 ]
-  where
-    true_not_false : true ≡ false → ⊥
-    true_not_false e = cc
 
 pub same_close : (a c own : Bool) → (own ≡ true → a ≡ c) → (c && own) ≡ (a && own)
 same_close true true own h = refl
@@ -211,33 +207,33 @@ row_sent {M} {T} b m r i asked sent (More' e n p below q beside) at r' t' h = el
         let ended = ended_in b x.n' x.mid (at - 1) in
         let S : ℕ → Type 0 = λ k. at ≤ k in
         let ended_is : ended_in b r' t' at ≡ ended =
-        ap (λ u. ended_in b r' u at) x.new_is ∙ (chosen_second (nat_eq at 0) _ _ (not_zero at x.above) ∙ (chosen_first (nat_le at (size shut)) _ _ (is_within at (size shut) (subst S (sym same_size) x.within)) ∙ ended_closed_if b c x.n' x.mid (at - 1))) in
+        ap (λ u. ended_in b r' u at) x.new_is ∙ (chosen_second (nat_eq at 0) _ _ (not_zero at x.above) ∙ (chosen_first (nat_le at (size shut)) _ _ (le-leb at (size shut) (subst S (sym same_size) x.within)) ∙ ended_closed_if b c x.n' x.mid (at - 1))) in
         let close_is : c ≡ (ended && own) = same_close ended (b.ended x.n') own (λ o. own_ended b m (λ k. b.ended k) n 0 e.demand.asked e.demand.sent below (at - 1) x.n' x.mid x.made o) in
         record {
           there = rec.there;
           front = rec.front;
-          is = chosen_second (nat_eq at 0) _ _ (not_zero at x.above) ∙ (chosen_first (nat_le at (size below)) _ _ (is_within at (size below) x.within) ∙ rec.is);
+          is = chosen_second (nat_eq at 0) _ _ (not_zero at x.above) ∙ (chosen_first (nat_le at (size below)) _ _ (le-leb at (size below) x.within) ∙ rec.is);
           offered = rec.offered;
           edges =
               ap edges x.new_is
               ∙ (ap (λ es. edge_view e ∷ (es ++ edges beside)) (edges_closed_if c x.mid ∙ (ap (λ z. closed_if z (edges x.mid)) close_is ∙ ap (λ es. closed_if (ended && own) es) rec.edges))
-              ∙ (sym (chosen_second (nat_eq at 0) _ _ (not_zero at x.above) ∙ chosen_first (nat_le at (size below)) _ _ (is_within at (size below) x.within))
+              ∙ (sym (chosen_second (nat_eq at 0) _ _ (not_zero at x.above) ∙ chosen_first (nat_le at (size below)) _ _ (le-leb at (size below) x.within))
               ∙ ap (λ z. sent_edges z rec.front (More' e n p below q beside) at) (sym ended_is)));
         }
     | inr x ↦
         let rec = row_sent b m r (i + 1) asked sent beside (at - 1 - size below) r' x.beside' x.made in
         let above : 0 < at = let l = x.beyond in omega arith in
         let ended = ended_in b r' x.beside' (at - 1 - size below) in
-        let ended_is : ended_in b r' t' at ≡ ended = ap (λ u. ended_in b r' u at) x.new_is ∙ (chosen_second (nat_eq at 0) _ _ (not_zero at above) ∙ chosen_second (nat_le at (size below)) _ _ (is_beyond at (size below) x.beyond)) in
+        let ended_is : ended_in b r' t' at ≡ ended = ap (λ u. ended_in b r' u at) x.new_is ∙ (chosen_second (nat_eq at 0) _ _ (not_zero at above) ∙ chosen_second (nat_le at (size below)) _ _ (lt-leb at (size below) x.beyond)) in
         record {
           there = rec.there;
           front = rec.front;
-          is = chosen_second (nat_eq at 0) _ _ (not_zero at above) ∙ (chosen_second (nat_le at (size below)) _ _ (is_beyond at (size below) x.beyond) ∙ rec.is);
+          is = chosen_second (nat_eq at 0) _ _ (not_zero at above) ∙ (chosen_second (nat_le at (size below)) _ _ (lt-leb at (size below) x.beyond) ∙ rec.is);
           offered = rec.offered;
           edges =
               ap edges x.new_is
               ∙ (ap (λ es. edge_view e ∷ (edges below ++ es)) rec.edges
-              ∙ (sym (chosen_second (nat_eq at 0) _ _ (not_zero at above) ∙ chosen_second (nat_le at (size below)) _ _ (is_beyond at (size below) x.beyond))
+              ∙ (sym (chosen_second (nat_eq at 0) _ _ (not_zero at above) ∙ chosen_second (nat_le at (size below)) _ _ (lt-leb at (size below) x.beyond))
               ∙ ap (λ z. sent_edges z rec.front (More' e n p below q beside) at) (sym ended_is)));
         }
   ]

@@ -1,10 +1,7 @@
 -- How an item is pulled through a row of inputs and through a tree.
 use Rattle.std.proofs.Common.{◌≡◌, ℕ, ◌+◌, ◌-◌, ◌<◌, true, false, ◌&&◌, refl, ap, sym, ◌∙◌, subst, arith, Option, Some, None, option_map}
 use Rattle.std.specs.Box.{with_value}
-use Rattle.rsx_types.specs.Meaning.{Meaning}
-use Rattle.rsx_types.specs.declared.signal.Signal.TheVariants.{Next}
-use Rattle.rsx_sources.specs.Machine.{front_of}
-use Rattle.rsx_sources.specs.Passed.{IsTakenIn}
+use Rattle.rsx_sources.specs.Prelude.{Meaning, Next, front_of, IsTakenIn}
 use Rattle.rsx_sources.specs.declared.machine.Front.TheVariants.{Item as ItemFront}
 use Rattle.rsx_sources.specs.declared.machine.Machine.{Ghosts as Machine}
 use Rattle.rsx_tree.specs.declared.edge.Edge.{Edge}
@@ -105,10 +102,6 @@ handed_back {M} b m i asked sent budget left left' r0 t0 r r' e e' n n' below be
 
 -- ---- the way to an item of a sender
 
--- it offered the item already
-pub pulled_at_once : {M T : Type 0} (b : Machine M T) (m : Meaning T) (budget : ℕ) (e : Edge) (n n' : M) (below : Inputs M) (x : T) → IsOut b m n x n' → IsPulled b m budget e n below (AnItem x) budget n' below
-pulled_at_once b m budget e n n' below x out = (0, n, omega arith, λ r i asked sent p q beside. (refl, refl), out)
-
 -- a step of it was made
 pub pulled_step : {M T : Type 0} (b : Machine M T) (m : Meaning T) (budget : ℕ) (e : Edge) (n n1 n' : M) (below was below' : Inputs M) → 0 < budget → n1 ≡ n → was ≡ below → IsStepOver (IsStepOf b m) b.ended e n1 was n' below' → IsPulled b m budget e n below Moved (budget - 1) n' below'
 pulled_step {M} b m budget e n n1 n' below was below' some same at h =
@@ -150,15 +143,7 @@ pulled_run {M} b m budget left e n n1 n' below was now same at h =
 pub pulled_moved : {M T : Type 0} (b : Machine M T) (m : Meaning T) (budget left : ℕ) (e : Edge) (n n' : M) (below now : Inputs M) → (left ≡ budget → ⊥) → IsPulled b m budget e n below Nothing left n' now → IsPulled b m budget e n below Moved left n' now
 pulled_moved b m budget left e n n' below now other h = let q = h.1 in (h.0, h.1, omega (arith, other, q), h.2)
 
--- nothing was done
-pub pulled_nothing : {M T : Type 0} (b : Machine M T) (m : Meaning T) (budget : ℕ) (e : Edge) (n n' : M) (below below' : Inputs M) → n' ≡ n → below' ≡ below → IsPulled b m budget e n below Nothing budget n' below'
-pulled_nothing b m budget e n n' below below' same at = (0, omega arith, λ r i asked sent p q beside. (refl, ap (λ k. More' e k p below' q beside) same ∙ ap (λ k. More' e n p k q beside) at))
-
 -- ---- a row
-
--- no move was made
-pub fetched_nothing : {M T : Type 0} (b : Machine M T) (m : Meaning T) (i asked sent budget : ℕ) (r : M) (t : Inputs M) → IsRowFetched b m budget i asked sent r t None budget r t
-fetched_nothing b m i asked sent budget r t = (0, omega arith, (refl, refl))
 
 -- a run that came upon no item, and then another
 pub fetched_then : {M T : Type 0} (b : Machine M T) (m : Meaning T) (i asked sent budget left left' : ℕ) (r r1 r' : M) (t t1 t' : Inputs M) (o : Option T) →

@@ -1,11 +1,7 @@
 -- What a signal of a hub that was handed to a tree changes, and what it doesn't.
 use Rattle.std.proofs.Common.{◌≡◌, ℕ, zero, suc, ◌+◌, Bool, true, false, ◌&&◌, if◌then◌else◌, List, [], ◌∷◌, ◌++◌, Option, Some, None, Result, Ok, Err, refl, ap, sym, ◌∙◌, subst, arith}
 use Rattle.std.specs.Prelude.{OnOk, OnErr}
-use Rattle.rsx_types.specs.declared.signal.Signal.{Signal}
-use Rattle.rsx_types.specs.declared.signal.Signal.TheVariants.{Next, Complete, Error}
-use Rattle.rsx_sources.specs.Counts.{CountsStep}
-use Rattle.rsx_sources.specs.Reading.{Reading, IsReadOn, reads_hub, takes_published}
-use Rattle.rsx_sources.specs.Steps.{AllocatesAlike}
+use Rattle.rsx_sources.specs.Prelude.{Signal, Next, Complete, Error, CountsStep, Reading, IsReadOn, reads_hub, takes_published, AllocatesAlike}
 use Rattle.rsx_sources.specs.declared.machine.Machine.{Ghosts as Machine}
 use Rattle.rsx_tree.specs.declared.edge.Edge.{Edge}
 use Rattle.rsx_tree.specs.declared.inputs.Inputs.{Inputs}
@@ -13,6 +9,8 @@ use Rattle.rsx_tree.specs.declared.inputs.Inputs.TheViews.{More}
 use Rattle.rsx_tree.specs.Edges.{is_live}
 use Rattle.rsx_tree.specs.Handed.{reader_at, readers_in, room_at, has_room_in, is_room_for, times, IsTakenBy, IsTakenWhere, IsNodeHanded, OneOf, IsRowHanded}
 use Rattle.std.specs.Box.{with_value}
+use Rattle.std.proofs.Math.Nat.{zero-add}
+use Rattle.std.proofs.lemmas.Bool.{and_parts, both_ways}
 use Rattle.rsx_tree.proofs.Changes.{Rest}
 
 -- ---- the same signal so many times
@@ -36,21 +34,13 @@ last_of (suc n) (x ∷ xs) a s e =
 
 -- ---- a node
 
-and_first : (a b : Bool) → a && b ≡ true → a ≡ true
-and_first true b h = refl
-and_first false b h = cc
-
-and_second : (a b : Bool) → a && b ≡ true → b ≡ true
-and_second true b h = h
-and_second false b h = cc
-
 pub room_first : {T : Type 0} (s : Signal T) (a b : Bool) → is_room_for s (a && b) ≡ true → is_room_for s a ≡ true
-room_first (Next x) a b h = and_first a b h
+room_first (Next x) a b h = (and_parts a b h).0
 room_first Complete a b h = refl
 room_first (Error c) a b h = refl
 
 pub room_second : {T : Type 0} (s : Signal T) (a b : Bool) → is_room_for s (a && b) ≡ true → is_room_for s b ≡ true
-room_second (Next x) a b h = and_second a b h
+room_second (Next x) a b h = (and_parts a b h).1
 room_second Complete a b h = refl
 room_second (Error c) a b h = refl
 
@@ -60,13 +50,10 @@ can_take h (Some w) room (Next x) r k = sym (ap (λ c. if c then room else true)
 can_take h (Some w) room Complete r k = refl
 can_take h (Some w) room (Error c) r k = refl
 
-both_ways : {c : Bool} → c ≡ true → c ≡ false → ⊥
-both_ways x y = cc
-
 taken_by : {M T A E : Type 0} (b : Machine M T) (s : Signal T) (n n' : M) (r : Result A E) → OnOk r (IsReadOn b.comes_out b.reads n s n') → b.recorded n' ≡ b.recorded n → OnOk r (CountsStep b.counted b.ended b.done n n') → OnErr r (takes_published (b.reads n) (b.rooms n) s ≡ false) → AllocatesAlike b.pop_allocates b.signal_allocates b.step_allocates n n' →
     takes_published (b.reads n) (b.rooms n) s ≡ true → IsTakenBy b s n n'
 taken_by b s n n' (Ok a) on recorded counts refused calls can = record { on = on; recorded = recorded; counts = counts; calls = calls }
-taken_by b s n n' (Err e) on recorded counts refused calls can = absurd (both_ways can refused)
+taken_by b s n n' (Err e) on recorded counts refused calls can = absurd (both_ways _ refused can)
 
 -- a node that reads the hub took the last of the signals in
 pub handed_to : {M T A E : Type 0} (b : Machine M T) (h k : ℕ) (s x : Signal T) (n n' : M) (r : Result A E) (old new : List (Signal T)) → reads_hub h (b.reads n) ≡ true → old ≡ new ++ x ∷ [] →
@@ -83,15 +70,6 @@ handed_to {M} {T} b h k s x n n' r old new reads popped on recorded counts refus
     more : (j : ℕ) → j + 1 ≡ suc j
     more j = omega arith
 
--- another is as it was
-pub handed_past : {M T : Type 0} (b : Machine M T) (h k : ℕ) (s : Signal T) (n : M) (old : List (Signal T)) → reads_hub h (b.reads n) ≡ false → old ≡ times (k + reader_at b h n) s → IsNodeHanded b h s n n × (old ≡ times k s)
-handed_past b h k s n old reads all =
-    let W : Bool → Type 0 = λ c. IsTakenWhere b s c n n in
-    (subst W (sym reads) refl, all ∙ ap (λ j. times j s) (ap (λ c. k + (if c then 1 else 0)) reads ∙ less k))
-  where
-    less : (j : ℕ) → j + 0 ≡ j
-    less j = omega arith
-
 -- ---- a row
 
 -- behind an edge that isn't live nothing changed
@@ -99,16 +77,13 @@ pub row_past : {M T : Type 0} (b : Machine M T) (h k : ℕ) (s : Signal T) (t : 
     ((j : ℕ) → old ≡ times (j + readers_in b h was) s → is_room_for s (has_room_in b h was) ≡ true → IsRowHanded b h s was new × (left ≡ times j s)) →
     old ≡ times (k + readers_in b h t) s → is_room_for s (has_room_in b h t) ≡ true → IsRowHanded b h s t (More e n below (with_value beside new)) × (left ≡ times k s)
 row_past {M} {T} b h k s t e n below beside was new old left is w dead rest all room =
-    let here : readers_in b h t ≡ readers_in b h was = ap (readers_in b h) is ∙ (ap (λ c. (if c then reader_at b h n + readers_in b h below.value else 0) + readers_in b h beside.value) dead ∙ (nothing (readers_in b h beside.value) ∙ ap (readers_in b h) (sym w))) in
+    let here : readers_in b h t ≡ readers_in b h was = ap (readers_in b h) is ∙ (ap (λ c. (if c then reader_at b h n + readers_in b h below.value else 0) + readers_in b h beside.value) dead ∙ (zero-add (readers_in b h beside.value) ∙ ap (readers_in b h) (sym w))) in
     let there : has_room_in b h t ≡ has_room_in b h was = ap (has_room_in b h) is ∙ (ap (λ c. (if c then room_at b h n && has_room_in b h below.value else true) && has_room_in b h beside.value) dead ∙ ap (has_room_in b h) (sym w)) in
     let done = rest k (all ∙ ap (λ j. times (k + j) s) here) (ap (is_room_for s) (sym there) ∙ room) in
     let Q : Inputs M → Type 0 = λ u. IsRowHanded b h s u (More e n below (with_value beside new)) in
     let W : Inputs M → Type 0 = λ u. IsRowHanded b h s u new in
     let O : Bool → Type 0 = λ c. OneOf c (IsNodeHanded b h s n n × IsRowHanded b h s below.value below.value) ((n ≡ n) × (below.value ≡ below.value)) in
     (subst Q (sym is) (n, below.value, new, refl, subst O (sym dead) (refl, refl), subst W w done.0), done.1)
-  where
-    nothing : (j : ℕ) → 0 + j ≡ j
-    nothing j = omega arith
 
 -- over a live edge the node took its part, and so did what is below it
 pub row_over : {M T : Type 0} (b : Machine M T) (h k : ℕ) (s : Signal T) (t : Inputs M) (e : Edge) (n n' : M) (below beside : Rest M) (under was down new : Inputs M) (old mid low left : List (Signal T)) → t ≡ More e n below beside → under ≡ below.value → was ≡ beside.value → is_live e.state ≡ true →

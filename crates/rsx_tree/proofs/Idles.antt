@@ -1,8 +1,8 @@
 -- What an idle tree with balanced counts offers.
-use Rattle.std.proofs.Common.{◌≡◌, ◌⊎◌, inl, inr, ℕ, ◌+◌, ◌-◌, ◌<◌, ◌≤◌, ◌^◌, Bool, true, false, ◌&&◌, nat_lt, nat_eq, nat_le, refl, ap, sym, ◌∙◌, arith, Some, None}
-use Rattle.std.proofs.lemmas.Bool.Decides.{nat_tests}
-use Rattle.rsx_types.specs.Meaning.{Meaning}
-use Rattle.rsx_sources.specs.Counts.{CanStep}
+use Rattle.std.proofs.Common.{◌≡◌, inl, inr, ℕ, ◌+◌, ◌-◌, ◌<◌, ◌≤◌, ◌^◌, Bool, true, false, ◌&&◌, nat_eq, nat_le, refl, ap, sym, ◌∙◌, arith, Some, None}
+use Rattle.std.proofs.lemmas.Bool.{le-leb, lt-leb, cases_lt, lt-ltb}
+use Rattle.rsx_types.proofs.Numbers.{not_zero}
+use Rattle.rsx_sources.specs.Prelude.{Meaning, CanStep}
 use Rattle.rsx_sources.specs.declared.machine.Front.{Front}
 use Rattle.rsx_sources.specs.declared.machine.Front.TheVariants.{Item, Completion, Failure}
 use Rattle.rsx_sources.specs.declared.machine.Machine.{Ghosts as Machine}
@@ -13,7 +13,7 @@ use Rattle.rsx_tree.specs.Inputs.{size, place}
 use Rattle.rsx_tree.specs.Changed.{Hold}
 use Rattle.rsx_tree.specs.Driven.{IsRestAt, IsRowIdle}
 use Rattle.rsx_tree.specs.Stepped.{IsStill, over, station}
-use Rattle.rsx_tree.proofs.Changes.{chosen_first, chosen_second, not_zero, is_within, is_beyond}
+use Rattle.rsx_tree.proofs.Changes.{chosen_first, chosen_second}
 use Rattle.rsx_tree.proofs.Drives.{back, back_over, rest_where}
 
 -- ---- the moves of a part of a row
@@ -23,22 +23,15 @@ pub place_none : {M : Type 0} (r : M) (i asked sent : ℕ) (t : Inputs M) (at : 
 place_none r i asked sent End at h = refl
 place_none r i asked sent (More' e n p below q beside) at h =
     chosen_second (nat_eq at 0) _ _ (not_zero at (omega (arith, h)))
-    ∙ (chosen_second (nat_le at (size below)) (place n 0 e.demand.asked e.demand.sent below (at - 1)) (place r (i + 1) asked sent beside (at - 1 - size below)) (is_beyond at (size below) (omega (arith, h)))
+    ∙ (chosen_second (nat_le at (size below)) (place n 0 e.demand.asked e.demand.sent below (at - 1)) (place r (i + 1) asked sent beside (at - 1 - size below)) (lt-leb at (size below) (omega (arith, h)))
     ∙ place_none r (i + 1) asked sent beside (at - 1 - size below) (omega (arith, h)))
-
-pub less_or_more : (a b : ℕ) → (a < b) ⊎ (b ≤ a)
-less_or_more a b = by_test (nat_lt a b) refl
-  where
-    by_test : (c : Bool) → nat_lt a b ≡ c → (a < b) ⊎ (b ≤ a)
-    by_test true e = inl (grind (arith, nat_tests))
-    by_test false e = inr (grind (arith, nat_tests))
 
 -- nor a node
 pub station_none : {M : Type 0} (t : Inputs M) (at : ℕ) → size t ≤ at → station t at ≡ None
 station_none End at h = refl
 station_none (More' e n p below q beside) at h =
     chosen_second (nat_eq at 0) _ _ (not_zero at (omega (arith, h)))
-    ∙ (chosen_second (nat_le at (size below)) (station below (at - 1)) (station beside (at - 1 - size below)) (is_beyond at (size below) (omega (arith, h)))
+    ∙ (chosen_second (nat_le at (size below)) (station below (at - 1)) (station beside (at - 1 - size below)) (lt-leb at (size below) (omega (arith, h)))
     ∙ station_none beside (at - 1 - size below) (omega (arith, h)))
 
 rest_none : {M T : Type 0} (b : Machine M T) (m : Meaning T) (r : M) (i asked sent : ℕ) (t : Inputs M) (at : ℕ) → size t ≤ at → IsRestAt b m r i asked sent t at
@@ -46,30 +39,30 @@ rest_none b m r i asked sent t at w = rest_where b m _ None _ None (place_none r
 
 pub idle_below : {M T : Type 0} (b : Machine M T) (m : Meaning T) (r : M) (i asked sent : ℕ) (e : Edge) (n : M) (p : Hold) (below : Inputs M) (q : Hold) (beside : Inputs M) → i + (size below + size beside + 1) ≤ 2 ^ 64 →
     IsRowIdle b m r i asked sent (More' e n p below q beside) → IsRowIdle b m n 0 e.demand.asked e.demand.sent below
-idle_below {M} b m r i asked sent e n p below q beside small idle at lt = elim (less_or_more at (size below)) [
+idle_below {M} b m r i asked sent e n p below q beside small idle at lt = elim (cases_lt at (size below)) [
   | inl w ↦
       let is : place r i asked sent (More' e n p below q beside) (at + 1) ≡ place n 0 e.demand.asked e.demand.sent below at =
       chosen_second (nat_eq (at + 1) 0) _ _ (not_zero (at + 1) (omega arith))
-      ∙ (chosen_first (nat_le (at + 1) (size below)) (place n 0 e.demand.asked e.demand.sent below (at + 1 - 1)) (place r (i + 1) asked sent beside (at + 1 - 1 - size below)) (is_within (at + 1) (size below) (omega (arith, w)))
+      ∙ (chosen_first (nat_le (at + 1) (size below)) (place n 0 e.demand.asked e.demand.sent below (at + 1 - 1)) (place r (i + 1) asked sent beside (at + 1 - 1 - size below)) (le-leb (at + 1) (size below) (omega (arith, w)))
       ∙ ap (λ j. place n 0 e.demand.asked e.demand.sent below j) (sym (back at))) in
       let there : station (More' e n p below q beside) (at + 1) ≡ station below at =
       chosen_second (nat_eq (at + 1) 0) _ _ (not_zero (at + 1) (omega arith))
-      ∙ (chosen_first (nat_le (at + 1) (size below)) (station below (at + 1 - 1)) (station beside (at + 1 - 1 - size below)) (is_within (at + 1) (size below) (omega (arith, w))) ∙ ap (λ j. station below j) (sym (back at))) in
+      ∙ (chosen_first (nat_le (at + 1) (size below)) (station below (at + 1 - 1)) (station beside (at + 1 - 1 - size below)) (le-leb (at + 1) (size below) (omega (arith, w))) ∙ ap (λ j. station below j) (sym (back at))) in
       rest_where b m _ (place r i asked sent (More' e n p below q beside) (at + 1)) _ (station (More' e n p below q beside) (at + 1)) (sym is) (sym there) (idle (at + 1) (omega (arith, w, small)))
   | inr w ↦ rest_none b m n 0 e.demand.asked e.demand.sent below at w
 ]
 
 pub idle_beside : {M T : Type 0} (b : Machine M T) (m : Meaning T) (r : M) (i asked sent : ℕ) (e : Edge) (n : M) (p : Hold) (below : Inputs M) (q : Hold) (beside : Inputs M) → i + (size below + size beside + 1) ≤ 2 ^ 64 →
     IsRowIdle b m r i asked sent (More' e n p below q beside) → IsRowIdle b m r (i + 1) asked sent beside
-idle_beside {M} b m r i asked sent e n p below q beside small idle at lt = elim (less_or_more at (size beside)) [
+idle_beside {M} b m r i asked sent e n p below q beside small idle at lt = elim (cases_lt at (size beside)) [
   | inl w ↦
       let is : place r i asked sent (More' e n p below q beside) (at + 1 + size below) ≡ place r (i + 1) asked sent beside at =
       chosen_second (nat_eq (at + 1 + size below) 0) _ _ (not_zero (at + 1 + size below) (omega arith))
-      ∙ (chosen_second (nat_le (at + 1 + size below) (size below)) (place n 0 e.demand.asked e.demand.sent below (at + 1 + size below - 1)) (place r (i + 1) asked sent beside (at + 1 + size below - 1 - size below)) (is_beyond (at + 1 + size below) (size below) (omega arith))
+      ∙ (chosen_second (nat_le (at + 1 + size below) (size below)) (place n 0 e.demand.asked e.demand.sent below (at + 1 + size below - 1)) (place r (i + 1) asked sent beside (at + 1 + size below - 1 - size below)) (lt-leb (at + 1 + size below) (size below) (omega arith))
       ∙ ap (λ j. place r (i + 1) asked sent beside j) (sym (back_over at (size below)))) in
       let there : station (More' e n p below q beside) (at + 1 + size below) ≡ station beside at =
       chosen_second (nat_eq (at + 1 + size below) 0) _ _ (not_zero (at + 1 + size below) (omega arith))
-      ∙ (chosen_second (nat_le (at + 1 + size below) (size below)) (station below (at + 1 + size below - 1)) (station beside (at + 1 + size below - 1 - size below)) (is_beyond (at + 1 + size below) (size below) (omega arith)) ∙ ap (λ j. station beside j) (sym (back_over at (size below)))) in
+      ∙ (chosen_second (nat_le (at + 1 + size below) (size below)) (station below (at + 1 + size below - 1)) (station beside (at + 1 + size below - 1 - size below)) (lt-leb (at + 1 + size below) (size below) (omega arith)) ∙ ap (λ j. station beside j) (sym (back_over at (size below)))) in
       rest_where b m _ (place r i asked sent (More' e n p below q beside) (at + 1 + size below)) _ (station (More' e n p below q beside) (at + 1 + size below)) (sym is) (sym there) (idle (at + 1 + size below) (omega (arith, w, small)))
   | inr w ↦ rest_none b m r (i + 1) asked sent beside at w
 ]
@@ -92,10 +85,7 @@ live_still b e n live h = (λ j l. by_live (is_live e.state) (b.picks n j e.dema
     by_live true x e f = f
     by_live false x e f = cc
 
-not_less : (a b : ℕ) → a < b → nat_lt a b ≡ true
-not_less a b l = grind (arith, nat_tests)
-
 pub can_pass_live : (e : EdgeView) (f : Front) → is_live e.state ≡ true → e.sent < e.asked → can_pass e f ≡ true
-can_pass_live e Item v l = rw (v, not_less e.sent e.asked l) refl
+can_pass_live e Item v l = rw (v, lt-ltb e.sent e.asked l) refl
 can_pass_live e Completion v l = v
 can_pass_live e (Failure c) v l = v

@@ -1,7 +1,8 @@
 -- The first enabled move of a row.
 use Rattle.std.proofs.Common.{◌^◌, ◌≡◌, ℕ, zero, suc, ◌+◌, ◌-◌, ◌<◌, min, Bool, true, false, nat_eq, nat_le, refl, ap, sym, ◌∙◌, subst, arith, Option, Some, None}
-use Rattle.std.proofs.lemmas.Bool.Decides.{nat_tests}
 use Rattle.std.specs.Prelude.{IfSome, IfNone}
+use Rattle.std.proofs.lemmas.Bool.{le-leb, lt-leb, leb-false}
+use Rattle.rsx_types.proofs.Numbers.{not_zero}
 use Rattle.rsx_types.specs.Meaning.{Meaning}
 use Rattle.rsx_sources.specs.declared.machine.Machine.{Ghosts as Machine}
 use Rattle.rsx_tree.specs.declared.edge.Edge.{Edge}
@@ -15,31 +16,31 @@ use Rattle.rsx_tree.specs.Inputs.{size, place, can_ask_in, can_send_in}
 use Rattle.rsx_tree.specs.Look.{IsEnabledOver, IsEnabledIn, IsEnabledAt}
 use Rattle.rsx_tree.specs.Tree.{can_ask, can_send}
 use Rattle.rsx_tree.specs.declared.node.Node.{Node}
-use Rattle.rsx_tree.proofs.Changes.{Rest, chosen_first, chosen_second, not_zero, is_within, is_beyond}
+use Rattle.rsx_tree.proofs.Changes.{Rest, chosen_first, chosen_second}
 use Rattle.rsx_tree.proofs.Drives.{back, back_over, idle_whole, row_tree, rest_where, send_anywhere}
 
 pub at_below : {M : Type 0} (r : M) (i asked sent : ℕ) (e : Edge) (n : M) (below beside : Rest M) (at : ℕ) → at < size below.value → place r i asked sent (More e n below beside) (at + 1) ≡ place n 0 e.demand.asked e.demand.sent below.value at
 at_below r i asked sent e n below beside at w =
     chosen_second (nat_eq (at + 1) 0) _ _ (not_zero (at + 1) (omega arith))
-    ∙ (chosen_first (nat_le (at + 1) (size below.value)) (place n 0 e.demand.asked e.demand.sent below.value (at + 1 - 1)) (place r (i + 1) asked sent beside.value (at + 1 - 1 - size below.value)) (is_within (at + 1) (size below.value) (omega (arith, w)))
+    ∙ (chosen_first (nat_le (at + 1) (size below.value)) (place n 0 e.demand.asked e.demand.sent below.value (at + 1 - 1)) (place r (i + 1) asked sent beside.value (at + 1 - 1 - size below.value)) (le-leb (at + 1) (size below.value) (omega (arith, w)))
     ∙ ap (λ j. place n 0 e.demand.asked e.demand.sent below.value j) (sym (back at)))
 
 pub at_beside : {M : Type 0} (r : M) (i asked sent : ℕ) (e : Edge) (n : M) (below beside : Rest M) (at : ℕ) → place r i asked sent (More e n below beside) (at + 1 + size below.value) ≡ place r (i + 1) asked sent beside.value at
 at_beside r i asked sent e n below beside at =
     chosen_second (nat_eq (at + 1 + size below.value) 0) _ _ (not_zero (at + 1 + size below.value) (omega arith))
-    ∙ (chosen_second (nat_le (at + 1 + size below.value) (size below.value)) (place n 0 e.demand.asked e.demand.sent below.value (at + 1 + size below.value - 1)) (place r (i + 1) asked sent beside.value (at + 1 + size below.value - 1 - size below.value)) (is_beyond (at + 1 + size below.value) (size below.value) (omega arith))
+    ∙ (chosen_second (nat_le (at + 1 + size below.value) (size below.value)) (place n 0 e.demand.asked e.demand.sent below.value (at + 1 + size below.value - 1)) (place r (i + 1) asked sent beside.value (at + 1 + size below.value - 1 - size below.value)) (lt-leb (at + 1 + size below.value) (size below.value) (omega arith))
     ∙ ap (λ j. place r (i + 1) asked sent beside.value j) (sym (back_over at (size below.value))))
 
 pub node_below : {M : Type 0} (e : Edge) (n : M) (below beside : Rest M) (at : ℕ) → at < size below.value → station (More e n below beside) (at + 1) ≡ station below.value at
 node_below e n below beside at w =
     chosen_second (nat_eq (at + 1) 0) _ _ (not_zero (at + 1) (omega arith))
-    ∙ (chosen_first (nat_le (at + 1) (size below.value)) (station below.value (at + 1 - 1)) (station beside.value (at + 1 - 1 - size below.value)) (is_within (at + 1) (size below.value) (omega (arith, w)))
+    ∙ (chosen_first (nat_le (at + 1) (size below.value)) (station below.value (at + 1 - 1)) (station beside.value (at + 1 - 1 - size below.value)) (le-leb (at + 1) (size below.value) (omega (arith, w)))
     ∙ ap (λ j. station below.value j) (sym (back at)))
 
 pub node_beside : {M : Type 0} (e : Edge) (n : M) (below beside : Rest M) (at : ℕ) → station (More e n below beside) (at + 1 + size below.value) ≡ station beside.value at
 node_beside e n below beside at =
     chosen_second (nat_eq (at + 1 + size below.value) 0) _ _ (not_zero (at + 1 + size below.value) (omega arith))
-    ∙ (chosen_second (nat_le (at + 1 + size below.value) (size below.value)) (station below.value (at + 1 + size below.value - 1)) (station beside.value (at + 1 + size below.value - 1 - size below.value)) (is_beyond (at + 1 + size below.value) (size below.value) (omega arith))
+    ∙ (chosen_second (nat_le (at + 1 + size below.value) (size below.value)) (station below.value (at + 1 + size below.value - 1)) (station beside.value (at + 1 + size below.value - 1 - size below.value)) (lt-leb (at + 1 + size below.value) (size below.value) (omega arith))
     ∙ ap (λ j. station beside.value j) (sym (back_over at (size below.value))))
 
 -- ---- a move that is enabled
@@ -80,9 +81,6 @@ first_below {M} b m r i asked sent first t e n below beside was step is at h =
 -- the number of nodes below, where there are fewer than were counted up to
 pub counted : (k inside most : ℕ) → inside ≡ min k most → (inside ≡ most → ⊥) → inside ≡ k
 counted k inside most c e = omega (arith, c, e)
-
-past : (k s : ℕ) → nat_le k s ≡ false → s < k
-past k s e = grind (arith, nat_tests)
 
 some_beside : {M T : Type 0} (b : Machine M T) (m : Meaning T) (r : M) (i asked sent first : ℕ) (e : Edge) (n : M) (below beside : Rest M) (step : NodeMove) →
     IsEnabledIn b m r (i + 1) asked sent beside.value (first + 1 + size below.value) step → IsEnabledIn b m r i asked sent (More e n below beside) first step
@@ -125,7 +123,7 @@ none_whole {M} b m r i asked sent first e n below beside rest h q (suc k) lt = d
         (chosen_second (nat_eq (suc k) 0) _ _ (not_zero (suc k) (omega arith)) ∙ chosen_first (nat_le (suc k) (size below.value)) (station below.value (suc k - 1)) (station beside.value (suc k - 1 - size below.value)) c)
         (h (suc k - 1) (omega (arith, lt)))
     deeper false c =
-        let far : size below.value < suc k = past (suc k) (size below.value) c in
+        let far : size below.value < suc k = leb-false (suc k) (size below.value) c in
         rest_where b m _ (place r (i + 1) asked sent beside.value (suc k - 1 - size below.value)) _ (station beside.value (suc k - 1 - size below.value))
         (chosen_second (nat_eq (suc k) 0) _ _ (not_zero (suc k) (omega arith)) ∙ chosen_second (nat_le (suc k) (size below.value)) (place n 0 e.demand.asked e.demand.sent below.value (suc k - 1)) (place r (i + 1) asked sent beside.value (suc k - 1 - size below.value)) c)
         (chosen_second (nat_eq (suc k) 0) _ _ (not_zero (suc k) (omega arith)) ∙ chosen_second (nat_le (suc k) (size below.value)) (station below.value (suc k - 1)) (station beside.value (suc k - 1 - size below.value)) c)

@@ -1,11 +1,9 @@
 -- What a pick or a row of one node says of the whole: its choice comes first among what its node still chooses.
 use Rattle.std.proofs.Common.{◌≡◌, ◌⊎◌, inl, inr, ℕ, zero, suc, ◌+◌, ◌-◌, ◌<◌, ◌≤◌, Bool, true, false, ◌&&◌, nat_eq, nat_le, List, [], ◌∷◌, ◌++◌, length, refl, ap, sym, ◌∙◌, subst, arith, length-append, Option, Some, None, option_map, slice_get}
-use Rattle.rsx_types.specs.Meaning.{Meaning}
-use Rattle.rsx_types.specs.Notes.{note_then, notes_then}
-use Rattle.rsx_types.specs.Stream.{Stream}
-use Rattle.rsx_types.specs.declared.note.Note.{Note}
-use Rattle.rsx_sources.specs.Counts.{CountsStep}
-use Rattle.rsx_sources.specs.Machine.{Incoming, incoming_of}
+use Rattle.std.proofs.lemmas.Bool.{le-leb, lt-leb}
+use Rattle.std.proofs.Math.Nat.{zero-add}
+use Rattle.rsx_types.proofs.Numbers.{not_zero}
+use Rattle.rsx_sources.specs.Prelude.{Meaning, note_then, notes_then, Stream, Note, CountsStep, Incoming, incoming_of}
 use Rattle.rsx_sources.specs.declared.machine.Machine.{Ghosts as Machine}
 use Rattle.rsx_tree.specs.declared.edge.Edge.{Edge}
 use Rattle.rsx_tree.specs.declared.inputs.Inputs.{Inputs, End, More'}
@@ -18,7 +16,7 @@ use Rattle.rsx_tree.specs.Inputs.{size, edges, notes_of, comes_in, out_of, besid
 use Rattle.rsx_tree.specs.Stepped.{Step, IsStepped, IsSteppedAt, IsPickedHere, IsRecordedHere, IsRowMadeHere, Station, station, station_of, can_pick_in, can_row_in}
 use Rattle.rsx_tree.specs.Tree.{notes, IsKept}
 use Rattle.rsx_tree.proofs.Balances.{step_balanced, root_balanced}
-use Rattle.rsx_tree.proofs.Changes.{chosen_first, chosen_second, not_zero, is_within, is_beyond}
+use Rattle.rsx_tree.proofs.Changes.{chosen_first, chosen_second}
 use Rattle.rsx_tree.proofs.Closes.{size_closed_if}
 use Rattle.rsx_tree.proofs.Effects.{edges_closed_if}
 use Rattle.rsx_tree.proofs.Rows.{comes_in_closed_if, notes_closed_if}
@@ -94,14 +92,11 @@ noted_left at f [] ks h = absurd (omega arith)
 noted_left zero f (n ∷ ns) ks h = refl
 noted_left (suc at) f (n ∷ ns) ks h = ap (λ l. n ∷ l) (noted_left at f ns ks (omega arith))
 
-plus_none : (k : ℕ) → 0 + k ≡ k
-plus_none k = omega arith
-
 plus_suc : (k l : ℕ) → suc k + l ≡ suc (k + l)
 plus_suc k l = omega arith
 
 noted_right : (at : ℕ) (f : Note → Note) (ns ks : List Note) → noted_at (length ns + at) f (ns ++ ks) ≡ ns ++ noted_at at f ks
-noted_right at f [] ks = ap (λ k. noted_at k f ks) (plus_none at)
+noted_right at f [] ks = ap (λ k. noted_at k f ks) (zero-add at)
 noted_right at f (n ∷ ns) ks = ap (λ k. noted_at k f (n ∷ (ns ++ ks))) (plus_suc (length ns) at) ∙ ap (λ l. n ∷ l) (noted_right at f ns ks)
 
 get_left : (at : ℕ) (ns ks : List Note) → at < length ns → slice_get (ns ++ ks) at ≡ slice_get ns at
@@ -110,7 +105,7 @@ get_left zero (n ∷ ns) ks h = refl
 get_left (suc at) (n ∷ ns) ks h = get_left at ns ks (omega arith)
 
 get_right : (at : ℕ) (ns ks : List Note) → slice_get (ns ++ ks) (length ns + at) ≡ slice_get ks at
-get_right at [] ks = ap (λ k. slice_get ks k) (plus_none at)
+get_right at [] ks = ap (λ k. slice_get ks k) (zero-add at)
 get_right at (n ∷ ns) ks = ap (λ k. slice_get (n ∷ (ns ++ ks)) k) (plus_suc (length ns) at) ∙ get_right at ns ks
 
 -- ---- a step
@@ -216,10 +211,10 @@ step_noted {M} {T} b m P front back law (More' e n p below q beside) at t' h = e
         record {
           there = rec.there;
           after = rec.after;
-          is = chosen_second (nat_eq at 0) _ _ (not_zero at x.above) ∙ (chosen_first (nat_le at (size below)) _ _ (is_within at (size below) x.within) ∙ rec.is);
+          is = chosen_second (nat_eq at 0) _ _ (not_zero at x.above) ∙ (chosen_first (nat_le at (size below)) _ _ (le-leb at (size below) x.within) ∙ rec.is);
           live = rec.live;
           made = rec.made;
-          ended = ap (λ u. ended_there b (station u at)) x.new_is ∙ (ap (ended_there b) (chosen_second (nat_eq at 0) _ _ (not_zero at x.above) ∙ chosen_first (nat_le at (size x.below')) _ _ (is_within at (size x.below') (subst S (sym rec.size) x.within))) ∙ rec.ended);
+          ended = ap (λ u. ended_there b (station u at)) x.new_is ∙ (ap (ended_there b) (chosen_second (nat_eq at 0) _ _ (not_zero at x.above) ∙ chosen_first (nat_le at (size x.below')) _ _ (le-leb at (size x.below') (subst S (sym rec.size) x.within))) ∙ rec.ended);
           within = omega arith;
           size = ap size x.new_is ∙ ap (λ k. k + size beside + 1) rec.size;
           value = λ hubs further pos.
@@ -235,7 +230,7 @@ step_noted {M} {T} b m P front back law (More' e n p below q beside) at t' h = e
               ∙ ap (λ o. beside_of (out_of b m hubs n (comes_in b m hubs ch below (pos + 1)) (slice_get ch pos)) o) (sym side))));
           notes = ap (notes_of b) x.new_is ∙ (ap (λ l. b.recorded n ∷ (l ++ notes_of b beside)) rec.notes ∙ (ap (λ l. b.recorded n ∷ l) (sym (noted_left (at - 1) g (notes_of b below) (notes_of b beside) (omega (arith, len, lt)))) ∙ ap (λ k. noted_at k g (notes_of b (More' e n p below q beside))) (sym pre)));
           note = ap (λ k. slice_get (notes_of b (More' e n p below q beside)) k) pre ∙ (get_left (at - 1) (notes_of b below) (notes_of b beside) (omega (arith, len, lt)) ∙ rec.note);
-          edges = ap edges x.new_is ∙ (ap (λ es. edge_view e ∷ (es ++ edges beside)) rec.edges ∙ sym (chosen_second (nat_eq at 0) _ _ (not_zero at x.above) ∙ chosen_first (nat_le at (size below)) _ _ (is_within at (size below) x.within)));
+          edges = ap edges x.new_is ∙ (ap (λ es. edge_view e ∷ (es ++ edges beside)) rec.edges ∙ sym (chosen_second (nat_eq at 0) _ _ (not_zero at x.above) ∙ chosen_first (nat_le at (size below)) _ _ (le-leb at (size below) x.within)));
         }
     | inr x ↦
         let rec = step_noted b m P front back law beside (at - 1 - size below) x.beside' x.made in
@@ -249,10 +244,10 @@ step_noted {M} {T} b m P front back law (More' e n p below q beside) at t' h = e
         record {
           there = rec.there;
           after = rec.after;
-          is = chosen_second (nat_eq at 0) _ _ (not_zero at above) ∙ (chosen_second (nat_le at (size below)) _ _ (is_beyond at (size below) x.beyond) ∙ rec.is);
+          is = chosen_second (nat_eq at 0) _ _ (not_zero at above) ∙ (chosen_second (nat_le at (size below)) _ _ (lt-leb at (size below) x.beyond) ∙ rec.is);
           live = rec.live;
           made = rec.made;
-          ended = ap (λ u. ended_there b (station u at)) x.new_is ∙ (ap (ended_there b) (chosen_second (nat_eq at 0) _ _ (not_zero at above) ∙ chosen_second (nat_le at (size below)) _ _ (is_beyond at (size below) x.beyond)) ∙ rec.ended);
+          ended = ap (λ u. ended_there b (station u at)) x.new_is ∙ (ap (ended_there b) (chosen_second (nat_eq at 0) _ _ (not_zero at above) ∙ chosen_second (nat_le at (size below)) _ _ (lt-leb at (size below) x.beyond)) ∙ rec.ended);
           within = omega arith;
           size = ap size x.new_is ∙ ap (λ k. size below + k + 1) rec.size;
           value = λ hubs further pos.
@@ -267,7 +262,7 @@ step_noted {M} {T} b m P front back law (More' e n p below q beside) at t' h = e
               ∙ ap (λ o. beside_of (out_of b m hubs n o (slice_get ch pos)) (comes_in b m hubs ch beside (pos + 1 + size below))) (sym low)));
           notes = ap (notes_of b) x.new_is ∙ (ap (λ l. b.recorded n ∷ (notes_of b below ++ l)) rec.notes ∙ (ap (λ l. b.recorded n ∷ l) (sym (noted_right (at - 1 - size below) g (notes_of b below) (notes_of b beside))) ∙ ap (λ k. noted_at k g (notes_of b (More' e n p below q beside))) pre));
           note = ap (λ k. slice_get (notes_of b (More' e n p below q beside)) k) (sym pre) ∙ (get_right (at - 1 - size below) (notes_of b below) (notes_of b beside) ∙ rec.note);
-          edges = ap edges x.new_is ∙ (ap (λ es. edge_view e ∷ (edges below ++ es)) rec.edges ∙ sym (chosen_second (nat_eq at 0) _ _ (not_zero at above) ∙ chosen_second (nat_le at (size below)) _ _ (is_beyond at (size below) x.beyond)));
+          edges = ap edges x.new_is ∙ (ap (λ es. edge_view e ∷ (edges below ++ es)) rec.edges ∙ sym (chosen_second (nat_eq at 0) _ _ (not_zero at above) ∙ chosen_second (nat_le at (size below)) _ _ (lt-leb at (size below) x.beyond)));
         }
   ]
 ]

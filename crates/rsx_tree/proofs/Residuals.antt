@@ -1,13 +1,8 @@
 -- What still comes in, where nothing more is chosen.
-use Rattle.std.proofs.Common.{◌≡◌, ◌⊎◌, inl, inr, ℕ, ◌+◌, Bool, true, false, List, [], ◌∷◌, ◌++◌, length, Some, None, option_map, slice_get, refl, ap, sym, ◌∙◌, subst, append_assoc, length-append}
+use Rattle.std.proofs.Common.{◌≡◌, ◌⊎◌, inl, inr, ℕ, ◌+◌, true, false, List, [], ◌∷◌, ◌++◌, length, Some, None, option_map, slice_get, refl, ap, sym, ◌∙◌, subst, append_assoc, length-append}
 use Rattle.std.proofs.lemmas.List.{append-nil}
-use Rattle.rsx_types.specs.Meaning.{Meaning}
-use Rattle.rsx_types.specs.Notes.{note_then, unchosen}
-use Rattle.rsx_types.specs.Stream.{Stream}
-use Rattle.rsx_types.specs.declared.note.Note.{Note}
-use Rattle.rsx_types.specs.declared.note.Note.TheVariants.{Nothing, Picks, Ended}
-use Rattle.rsx_sources.specs.Machine.{Incoming, incoming_of}
-use Rattle.rsx_sources.specs.Reading.{IsBehind, IsResidualOf}
+use Rattle.std.proofs.lemmas.Bool.{both_ways}
+use Rattle.rsx_sources.specs.Prelude.{Meaning, note_then, unchosen, Stream, Note, Nothing, Picks, Ended, Incoming, incoming_of, IsBehind, IsResidualOf}
 use Rattle.rsx_sources.specs.declared.machine.Machine.{Ghosts as Machine}
 use Rattle.rsx_tree.specs.declared.edge.Edge.{Edge}
 use Rattle.rsx_tree.specs.declared.inputs.Inputs.{Inputs, End, More, More'}
@@ -103,11 +98,8 @@ residual_dead {M} {T} b m settles inboxes e n p below q beside old mid new v dea
       let some = comes_some b m settles hubs further below (at + 1) u.1 in
       let x = settles n (incoming_of hubs some.0) in
       let side = rest.comes r (i + 1) hubs further (at + 1 + size below) k.1 l.1 u.2 in
-      (x.0 ∷ side.0, rw (u.0, some.1, x.1, side.1) refl, (elim k.0 [ inl d ↦ inl d | inr o ↦ absurd (both (ap is_live o.0) dead) ], side.2));
+      (x.0 ∷ side.0, rw (u.0, some.1, x.1, side.1) refl, (elim k.0 [ inl d ↦ inl d | inr o ↦ absurd (both_ways _ dead (ap is_live o.0)) ], side.2));
 }
-  where
-    both : {c : Bool} → c ≡ true → c ≡ false → ⊥
-    both x y = cc
 
 pub residual_live : {M T : Type 0} (b : Machine M T) (m : Meaning T) → Drops b m → DoneDrops b m → Settles b m → (inboxes : List (Stream T)) (e : Edge) (n : M) (p : Hold) (below : Inputs M) (q : Hold) (beside : Inputs M) (old mid new none incoming : List (Stream T)) (v : Stream T) →
     is_live e.state ≡ true → none ≡ [] → IsResidual b m inboxes below none incoming → IsResidualOf (b.comes_out m) b.recorded b.reads n inboxes incoming v → mid ≡ old ++ v ∷ [] → IsResidual b m inboxes beside mid new → IsResidual b m inboxes (More' e n p below q beside) old new
@@ -128,11 +120,8 @@ residual_live {M} {T} b m drops done settles inboxes e n p below q beside old mi
       ];
 }
   where
-    both : {c : Bool} → c ≡ true → c ≡ false → ⊥
-    both x y = cc
-
     reads_below : {A : Type 0} → (is_live e.state ≡ false) ⊎ A → A
-    reads_below h = elim h [ inl dead ↦ absurd (both live dead) | inr k ↦ k ]
+    reads_below h = elim h [ inl dead ↦ absurd (both_ways _ dead live) | inr k ↦ k ]
 
     comes_below : (hubs : List (Stream T)) (further : List Note) (at : ℕ) → IsRowBehind b inboxes hubs below → IsUnchosen b further below at → IsRowBalanced b n 0 below → (vs : List (Stream T)) × (comes_in b m hubs further below at ≡ Some vs) × AgreeFrom (b.done n) 0 vs incoming
     comes_below hubs further at behind u balanced =

@@ -1,14 +1,9 @@
 -- What still comes in at the inputs of an idle row: nothing where its receiver waits for more.
 use Rattle.std.proofs.Common.{◌≡◌, inl, inr, ℕ, zero, suc, ◌+◌, ◌<◌, ◌≤◌, ◌^◌, Bool, true, false, ◌&&◌, nat_lt, List, [], ◌∷◌, refl, ap, sym, ◌∙◌, subst, arith, Option, Some, None, option_map, slice_get}
-use Rattle.std.proofs.lemmas.Bool.Decides.{nat_tests}
-use Rattle.rsx_types.specs.Meaning.{Meaning}
-use Rattle.rsx_types.specs.Notes.{unchosen}
-use Rattle.rsx_types.specs.Stream.{Stream, ended_by}
-use Rattle.rsx_types.specs.declared.note.Note.{Note}
-use Rattle.rsx_types.specs.declared.signal.Ending.TheVariants.{Open}
-use Rattle.rsx_types.specs.declared.signal.Signal.{Signal}
-use Rattle.rsx_sources.specs.Counts.{AreWithin, CanStep}
-use Rattle.rsx_sources.specs.Machine.{front_of, incoming_of}
+use Rattle.std.proofs.lemmas.Option.{same_Some}
+use Rattle.std.proofs.lemmas.Bool.{cases_lt, both_ways, lt-ltb}
+use Rattle.rsx_types.proofs.Options.{none_from_no_some}
+use Rattle.rsx_sources.specs.Prelude.{Meaning, unchosen, Stream, ended_by, Note, Open, Signal, AreWithin, CanStep, front_of, incoming_of}
 use Rattle.rsx_sources.specs.declared.machine.Front.{Front}
 use Rattle.rsx_sources.specs.declared.machine.Machine.{Ghosts as Machine}
 use Rattle.rsx_tree.specs.declared.edge.Edge.{Edge}
@@ -20,52 +15,39 @@ use Rattle.rsx_tree.specs.Balance.{sent_over, IsBalanced, IsRowBalanced, IsRowWi
 use Rattle.rsx_tree.specs.Driven.{IsIdle, IsRowIdle}
 use Rattle.rsx_tree.specs.Tree.{IsUnchosen, comes_out, offers}
 use Rattle.rsx_tree.proofs.Drives.{send_anywhere}
-use Rattle.rsx_tree.proofs.Idles.{IsNodeStill, Waits, can_pass_live, idle_below, idle_beside, less_or_more, live_still}
+use Rattle.rsx_tree.proofs.Idles.{IsNodeStill, Waits, can_pass_live, idle_below, idle_beside, live_still}
 use Rattle.rsx_tree.proofs.Residuals.{Settles, comes_some}
 use Rattle.rsx_tree.specs.Rests.{HaveReadAll, NothingBehind, NothingComes, Rests, TreeHasReadAll, coming}
+use Rattle.rsx_sources.proofs.Incomings.{hubs_in}
 
 -- ---- an idle row
-
-both : (c : Bool) → c ≡ true → c ≡ false → ⊥
-both c x y = cc
 
 -- no pick and no row can be made, so no step can
 no_step : {M T : Type 0} (b : Machine M T) (n : M) (asked sent : ℕ) → IsNodeStill b n asked sent → CanStep b.picks b.rows n asked sent → ⊥
 no_step b n asked sent still can = elim can [
-  | inl k ↦ both (b.picks n k.0 asked sent) k.2 (still.0 k.0 k.1)
-  | inr k ↦ both (b.rows n asked sent) k still.1
+  | inl k ↦ both_ways (b.picks n k.0 asked sent) (still.0 k.0 k.1) k.2
+  | inr k ↦ both_ways (b.rows n asked sent) still.1 k
 ]
 
 within_row : {M : Type 0} (t : Inputs M) → IsRowWithin t → AreWithin (sent_over t)
 within_row End w = tt
 within_row (More' e n p below q beside) w = (w.0, within_row beside w.2)
 
-is_less : (a b : ℕ) → a < b → nat_lt a b ≡ true
-is_less a b l = grind (arith, nat_tests)
-
 -- a live edge over which fewer items went than its receiver wants, and no Ask is enabled, was asked for more than went
 asked_more : (a k c : ℕ) (v : Bool) → v ≡ true → v && nat_lt a k ≡ false → c < k → c < a
-asked_more a k c true e f g = elim (less_or_more a k) [ inl x ↦ absurd (both (nat_lt a k) (is_less a k x) f) | inr y ↦ omega (arith, y, g) ]
+asked_more a k c true e f g = elim (cases_lt a k) [ inl x ↦ absurd (both_ways (nat_lt a k) f (lt-ltb a k x)) | inr y ↦ omega (arith, y, g) ]
 asked_more a k c false e f g = cc
 
 -- the receiver of an idle row takes what its first input offers, so that offers nothing
 first_silent : {M T : Type 0} (b : Machine M T) (m : Meaning T) (r : M) (i : ℕ) (e : Edge) (n : M) (s : Signal T) → ((f : Front) → b.takes r i f ≡ true) → is_live e.state ≡ true → e.demand.sent < e.demand.asked → b.waiting m n ≡ Some s → can_send_over b m r i (edge_view e) n ≡ false → ⊥
 first_silent b m r i e n s takes live less waits idle =
-    both (can_send_over b m r i (edge_view e) n) (ap (can_go (b.takes r i) (edge_view e)) (ap (option_map front_of) waits) ∙ (ap (λ c. c && can_pass (edge_view e) (front_of s)) (takes (front_of s)) ∙ can_pass_live (edge_view e) (front_of s) live less)) idle
-
-no_signal : {A : Type 0} (o : Option A) → ((a : A) → o ≡ Some a → ⊥) → o ≡ None
-no_signal None h = refl
-no_signal (Some a) h = absurd (h a refl)
+    both_ways (can_send_over b m r i (edge_view e) n) idle (ap (can_go (b.takes r i) (edge_view e)) (ap (option_map front_of) waits) ∙ (ap (λ c. c && can_pass (edge_view e) (front_of s)) (takes (front_of s)) ∙ can_pass_live (edge_view e) (front_of s) live less))
 
 -- the values that come in, as a node counts them
 in_order : {T : Type 0} (hubs us : List (Stream T)) (j : ℕ) → coming ((incoming_of hubs us).first ∷ (incoming_of hubs us).others) j ≡ coming us j
 in_order hubs [] zero = refl
 in_order hubs [] (suc j) = refl
 in_order hubs (u ∷ us) j = refl
-
-hubs_of : {T : Type 0} (hubs us : List (Stream T)) → (incoming_of hubs us).hubs ≡ hubs
-hubs_of hubs [] = refl
-hubs_of hubs (u ∷ us) = refl
 
 -- nothing comes in where the receiver of a row, whose first edge is its input `i`, waits for more
 abbrev pub NoneComes : {M T : Type 0} → Machine M T → M → ℕ → ℕ → ℕ → Inputs M → List (Stream T) → Type 0
@@ -111,7 +93,7 @@ row_rests {M} {T} b m waits settles rests hubs further r i asked sent (More' e n
         let us = below_is.0 in
         let H : List (Stream T) → Type 0 = λ l. NothingBehind (b.reads n) l in
         let rest : b.comes_out m n (incoming_of hubs us) (unchosen (b.recorded n)) ≡ Some (ended_by Open) =
-        rests n (sent_over below) e.demand.asked e.demand.sent (incoming_of hubs us) going counted nothing more (within_row below within.1) still (none_comes b n e.demand.asked e.demand.sent below hubs us below_is.2) (subst H (sym (hubs_of hubs us)) ((read.0 live).0 nothing more still)) in
+        rests n (sent_over below) e.demand.asked e.demand.sent (incoming_of hubs us) going counted nothing more (within_row below within.1) still (none_comes b n e.demand.asked e.demand.sent below hubs us below_is.2) (subst H (sym (hubs_in hubs us)) ((read.0 live).0 nothing more still)) in
         rw (u.0, below_is.1) rest
 
     over_first : Under → (v : Stream T) × (out ≡ Some v) × IsFirst v
@@ -122,12 +104,12 @@ row_rests {M} {T} b m waits settles rests hubs further r i asked sent (More' e n
           v.0,
           is,
           λ d f w. elim balanced.0 [
-            | inl dead ↦ absurd (both (b.done r i) dead d)
+            | inl dead ↦ absurd (both_ways (b.done r i) d dead)
             | inr o ↦
                 let live : is_live e.state ≡ true = ap is_live o.0 in
                 let here = idle 0 (omega (arith, small)) in
                 let more : e.demand.sent < e.demand.asked = asked_more e.demand.asked (b.wanted r i asked sent) e.demand.sent (is_live e.state) live here.0 w in
-                let nothing : b.waiting m n ≡ None = no_signal (b.waiting m n) (λ s x. first_silent b m r i e n s f live more x here.1) in
+                let nothing : b.waiting m n ≡ None = none_from_no_some (b.waiting m n) (λ s x. first_silent b m r i e n s f live more x here.1) in
                 let still = live_still b e n live here.2 in
                 elim o.1 [
                   | inl over ↦ absurd (no_step b n e.demand.asked e.demand.sent still (waits n e.demand.asked e.demand.sent over nothing more))
@@ -135,9 +117,6 @@ row_rests {M} {T} b m waits settles rests hubs further r i asked sent (More' e n
                 ]
           ],
         )
-
-    first_is : (x y : ℕ) → Some x ≡ Some y → x ≡ y
-    first_is x y e = cc
 
     by_place : (vs : List (Stream T)) (v : Stream T) → IsFirst v → NoneComes b r (i + 1) asked sent beside vs → (j c : ℕ) → slice_get (e.demand.sent ∷ sent_over beside) j ≡ Some c → b.done r (i + j) ≡ false → ((f : Front) → b.takes r (i + j) f ≡ true) → c < b.wanted r (i + j) asked sent → coming (v ∷ vs) j ≡ ended_by Open
     by_place vs v f h (suc j) c got d takes wants =
@@ -151,7 +130,7 @@ row_rests {M} {T} b m waits settles rests hubs further r i asked sent (More' e n
         let F : ℕ → Type 0 = λ k. (f : Front) → b.takes r k f ≡ true in
         let W : ℕ → Type 0 = λ k. e.demand.sent < b.wanted r k asked sent in
         let C : ℕ → Type 0 = λ k. k < b.wanted r (i + 0) asked sent in
-        f (subst D (sym (none i)) d) (subst F (sym (none i)) takes) (subst W (sym (none i)) (subst C (sym (first_is e.demand.sent c got)) wants))
+        f (subst D (sym (none i)) d) (subst F (sym (none i)) takes) (subst W (sym (none i)) (subst C (sym (same_Some e.demand.sent c got)) wants))
 
 -- nothing comes out of an idle tree of which more is asked than it sent, and that offers nothing
 pub tree_rests : {M T : Type 0} (b : Machine M T) (m : Meaning T) → Waits b m → Settles b m → Rests b m → (hubs : List (Stream T)) (further : List Note) (t : Node M) (asked sent : ℕ) → IsIdle b m t asked sent → IsNodeStill b t.machine asked sent → IsBalanced b t sent → sent < asked → size t.inputs ≤ 2 ^ 64 → IsWithin t →
@@ -172,5 +151,5 @@ tree_rests {M} {T} b m waits settles rests hubs further t asked sent idle still 
         let us = below.0 in
         let H : List (Stream T) → Type 0 = λ l. NothingBehind (b.reads t.machine) l in
         let rest : b.comes_out m t.machine (incoming_of hubs us) (unchosen (b.recorded t.machine)) ≡ Some (ended_by Open) =
-        rests t.machine (sent_over t.inputs) asked sent (incoming_of hubs us) going counted nothing more (within_row t.inputs within) still (none_comes b t.machine asked sent t.inputs hubs us below.2) (subst H (sym (hubs_of hubs us)) (read.0 nothing more still)) in
+        rests t.machine (sent_over t.inputs) asked sent (incoming_of hubs us) going counted nothing more (within_row t.inputs within) still (none_comes b t.machine asked sent t.inputs hubs us below.2) (subst H (sym (hubs_in hubs us)) (read.0 nothing more still)) in
         rw (u.0, below.1) rest

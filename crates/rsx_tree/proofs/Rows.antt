@@ -1,10 +1,8 @@
 -- What a change of one edge leaves as it is: what still comes in, what was recorded, and how many nodes there are.
 use Rattle.std.proofs.Common.{◌≡◌, inl, inr, ℕ, ◌+◌, ◌-◌, Bool, true, false, ◌&&◌, List, [], ◌∷◌, ◌++◌, length, map, refl, ap, sym, ◌∙◌, append_assoc, length-append, Option, Some, None, option_map, option_and_then, slice_get}
-use Rattle.rsx_types.specs.Meaning.{Meaning}
-use Rattle.rsx_types.specs.Stream.{Stream, signal_then}
-use Rattle.rsx_types.specs.declared.note.Note.{Note}
-use Rattle.rsx_types.specs.declared.signal.Signal.{Signal}
-use Rattle.rsx_sources.specs.Machine.{LetsGo, TakesIn, incoming_of, in_front, in_front_at}
+use Rattle.std.proofs.lemmas.List.{map-append}
+use Rattle.rsx_types.proofs.Options.{nothing_in_front}
+use Rattle.rsx_sources.specs.Prelude.{Meaning, Stream, signal_then, Note, Signal, LetsGo, TakesIn, incoming_of, in_front, in_front_at}
 use Rattle.rsx_sources.specs.declared.machine.Machine.{Ghosts as Machine}
 use Rattle.rsx_tree.specs.declared.inputs.Inputs.{Inputs, End, More'}
 use Rattle.rsx_tree.specs.Edges.{closed_view}
@@ -33,10 +31,6 @@ comes_in_closed b m hubs further (More' e n p below q beside) at = rw (comes_in_
 pub comes_in_closed_if : {M T : Type 0} (b : Machine M T) (m : Meaning T) (hubs : List (Stream T)) (further : List Note) (c : Bool) (t : Inputs M) (at : ℕ) → comes_in b m hubs further (closed_row_if c t) at ≡ comes_in b m hubs further t at
 comes_in_closed_if b m hubs further true t at = comes_in_closed b m hubs further t at
 comes_in_closed_if b m hubs further false t at = refl
-
-map-append : {A B : Type 0} (f : A → B) (xs ys : List A) → map f (xs ++ ys) ≡ map f xs ++ map f ys
-map-append f [] ys = refl
-map-append f (x ∷ xs) ys = ap (λ l. f x ∷ l) (map-append f xs ys)
 
 pub edges_closed : {M : Type 0} (t : Inputs M) → edges (closed_row t) ≡ map closed_view (edges t)
 edges_closed End = refl
@@ -67,10 +61,6 @@ comes_over {M} {T} b m hubs r r' i s h before len (Some v) (Some vs) k =
     ∙ ap (λ inc. b.comes_out m r inc k) (ap (λ j. in_front j s (incoming_of hubs (before ++ v ∷ vs))) (sym len) ∙ in_front_incoming hubs before s v vs)
 
 -- ---- a Send in a row
-
-map_none : {A : Type 0} (o : Option (List A)) → option_map (λ vs. [] ++ vs) o ≡ o
-map_none None = refl
-map_none (Some vs) = refl
 
 map_more : {A : Type 0} (before : List A) (v : A) (o : Option (List A)) → option_map (λ vs. before ++ vs) (beside_of (Some v) o) ≡ option_map (λ vs. (before ++ v ∷ []) ++ vs) o
 map_more before v None = refl
@@ -124,7 +114,7 @@ passed_on {M} {T} b m ends r i asked sent (More' e n p below q beside) at r' t' 
         let same_size : size shut ≡ size below = size_closed_if _ x.mid ∙ size_sent b m ends n 0 e.demand.asked e.demand.sent below (at - 1) x.n' x.mid made in
         let same_in : comes_in b m hubs further shut (pos + 1) ≡ comes_in b m hubs further x.mid (pos + 1) = comes_in_closed_if b m hubs further _ x.mid (pos + 1) in
         let same_out : out_of b m hubs x.n' (comes_in b m hubs further x.mid (pos + 1)) kk ≡ out_of b m hubs n (comes_in b m hubs further below (pos + 1)) kk =
-        then_same _ _ (λ c. ap (λ o. through b m hubs x.n' o c) (sym (map_none (comes_in b m hubs further x.mid (pos + 1)))) ∙ (rec [] refl hubs further (pos + 1) c ∙ ap (λ o. through b m hubs n o c) (map_none (comes_in b m hubs further below (pos + 1))))) kk in
+        then_same _ _ (λ c. ap (λ o. through b m hubs x.n' o c) (sym (nothing_in_front (comes_in b m hubs further x.mid (pos + 1)))) ∙ (rec [] refl hubs further (pos + 1) c ∙ ap (λ o. through b m hubs n o c) (nothing_in_front (comes_in b m hubs further below (pos + 1))))) kk in
         ap (λ u. through b m hubs r' (option_map (λ vs. before ++ vs) (comes_in b m hubs further u pos)) k) x.new_is
         ∙ (ap (λ z. through b m hubs z (option_map (λ vs. before ++ vs) (beside_of (out_of b m hubs x.n' (comes_in b m hubs further shut (pos + 1)) kk) (comes_in b m hubs further beside (pos + 1 + size shut)))) k) x.receiver
         ∙ (ap (λ z. through b m hubs r (option_map (λ vs. before ++ vs) (beside_of (out_of b m hubs x.n' (comes_in b m hubs further shut (pos + 1)) kk) (comes_in b m hubs further beside (pos + 1 + z)))) k) same_size

@@ -1,7 +1,7 @@
 -- No move goes over an edge that isn't live.
 use Rattle.std.proofs.Common.{◌≡◌, ◌⊎◌, inl, inr, ℕ, ◌+◌, ◌-◌, Bool, true, false, ◌&&◌, nat_eq, nat_le, if◌then◌else◌, List, [], ◌∷◌, ◌++◌, refl, ap, ◌∙◌, Option, Some, None, option_map, zero, suc}
-use Rattle.rsx_types.specs.Meaning.{Meaning}
-use Rattle.rsx_sources.specs.Machine.{front_of}
+use Rattle.std.proofs.lemmas.Bool.{and_parts}
+use Rattle.rsx_sources.specs.Prelude.{Meaning, front_of, note_then}
 use Rattle.rsx_sources.specs.declared.machine.Front.{Front}
 use Rattle.rsx_sources.specs.declared.machine.Front.TheVariants.{Item, Completion, Failure}
 use Rattle.rsx_sources.specs.declared.machine.Machine.{Ghosts as Machine}
@@ -12,7 +12,6 @@ use Rattle.rsx_tree.specs.declared.node.Node.{Node}
 use Rattle.rsx_tree.specs.Edges.{EdgeView, is_live, can_pass}
 use Rattle.rsx_tree.specs.Inputs.{Place, place, size, edges, can_go, can_ask_in, can_send_in, tests}
 use Rattle.rsx_tree.specs.Tree.{NoneLive, IsAllClosed, can_ask, can_send}
-use Rattle.rsx_types.specs.Notes.{note_then}
 use Rattle.rsx_tree.specs.Stepped.{Station, station, station_of, can_pick_in, can_row_in, IsStepped, IsPickedHere, IsRowMadeHere}
 use Rattle.rsx_tree.proofs.Noted.{step_noted, pick_notes, row_notes}
 
@@ -52,27 +51,19 @@ live_true Live e = refl
 live_true EdgeEnded e = cc
 live_true Closed e = cc
 
-and_left : (a b : Bool) → a && b ≡ true → a ≡ true
-and_left true b e = refl
-and_left false b e = e
-
-pub and_right : (a b : Bool) → a && b ≡ true → b ≡ true
-and_right true b e = e
-and_right false b e = cc
-
 -- a signal goes over a live edge only
 pub pass_live : (e : EdgeView) (f : Front) → can_pass e f ≡ true → e.state ≡ Live
-pass_live e Item h = live_true e.state (and_left (is_live e.state) _ h)
+pass_live e Item h = live_true e.state (and_parts (is_live e.state) _ h).0
 pass_live e Completion h = live_true e.state h
 pass_live e (Failure c) h = live_true e.state h
 
 go_live : (takes : Front → Bool) (e : EdgeView) (o : Option Front) → can_go takes e o ≡ true → e.state ≡ Live
 go_live takes e None h = cc
-go_live takes e (Some f) h = pass_live e f (and_right (takes f) (can_pass e f) h)
+go_live takes e (Some f) h = pass_live e f (and_parts (takes f) (can_pass e f) h).1
 
 ask_live : {M T : Type 0} (b : Machine M T) (o : Option (Place M)) → can_ask_in b o ≡ true → state_in o ≡ Live
 ask_live b None h = cc
-ask_live b (Some p) h = live_true p.edge.state (and_left (is_live p.edge.state) _ h)
+ask_live b (Some p) h = live_true p.edge.state (and_parts (is_live p.edge.state) _ h).0
 
 send_live : {M T : Type 0} (b : Machine M T) (m : Meaning T) (o : Option (Place M)) → can_send_in b m o ≡ true → state_in o ≡ Live
 send_live b m None h = cc
@@ -107,7 +98,7 @@ closed_station {M} t at s h is live = found (station t at) (closed_row t at h) i
 
 tested_live : {M : Type 0} (f : Station M → Bool) (o : Option (Station M)) → tests (λ s. is_live s.state && f s) o ≡ true → Dead o → ⊥
 tested_live f None h d = cc
-tested_live f (Some s) h d = d (live_true s.state (and_left (is_live s.state) (f s) h))
+tested_live f (Some s) h d = d (live_true s.state (and_parts (is_live s.state) (f s) h).0)
 
 own_or_below : {M : Type 0} (f : Station M → Bool) (t : Node M) (e : EdgeView) (at : ℕ) → tests (λ s. is_live s.state && f s) (station_of t e at) ≡ true → IsAllClosed t → (e.state ≡ Live → ⊥) → ⊥
 own_or_below f t e zero h closed dead = tested_live f (station_of t e zero) h dead

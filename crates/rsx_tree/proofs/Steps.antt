@@ -1,6 +1,8 @@
 -- How a step of one node is put together from a step below a node, or beside it.
-use Rattle.std.proofs.Common.{◌≡◌, inl, inr, ℕ, zero, suc, ◌-◌, ◌<◌, ◌≤◌, min, Bool, true, ◌&&◌, nat_eq, nat_le, refl, ap, sym, ◌∙◌, subst, arith}
+use Rattle.std.proofs.Common.{◌≡◌, inl, inr, ℕ, zero, suc, ◌-◌, ◌<◌, ◌≤◌, min, Bool, true, ◌&&◌, refl, ap, sym, ◌∙◌, subst, arith}
 use Rattle.std.specs.Box.{with_value}
+use Rattle.std.proofs.lemmas.Bool.{le-leb, lt-leb}
+use Rattle.rsx_types.proofs.Numbers.{not_zero}
 use Rattle.rsx_tree.specs.declared.edge.Edge.{Edge}
 use Rattle.rsx_tree.specs.declared.inputs.Inputs.{Inputs}
 use Rattle.rsx_tree.specs.declared.inputs.Inputs.TheViews.{More}
@@ -8,7 +10,7 @@ use Rattle.rsx_tree.specs.declared.node.Node.{Node}
 use Rattle.rsx_tree.specs.Edges.{EdgeView, edge_view}
 use Rattle.rsx_tree.specs.Inputs.{size, closed_row_if}
 use Rattle.rsx_tree.specs.Stepped.{Step, IsStepOver, IsStepped, IsSteppedAt, station, station_of}
-use Rattle.rsx_tree.proofs.Changes.{Rest, chosen_first, chosen_second, not_zero, is_within, is_beyond, counted_all, counted_some}
+use Rattle.rsx_tree.proofs.Changes.{Rest, chosen_first, chosen_second, counted_all, counted_some}
 
 pub stepped_here : {M : Type 0} (P : Step M) (ends : M → Bool) (old : Inputs M) (e : Edge) (n n' : M) (below beside : Rest M) (was new : Inputs M) (at : ℕ) → old ≡ More e n below beside → was ≡ below.value → at ≡ 0 → IsStepOver P ends e n was n' new → IsStepped P ends old at (More e n' (with_value below new) beside)
 stepped_here {M} P ends old e n n' below beside was new at is w z h =
@@ -34,26 +36,6 @@ stepped_below {M} P ends old e n below beside under was new at inside is u w c a
     let S : Inputs M → Type 0 = λ t. at ≤ size t in
     subst Q (sym is) (inr (inl (record { below' = new; above = above; within = subst S u (counted_some (size under) inside at c near); made = subst W w h; new_is = refl })))
 
-pub station_beside : {M : Type 0} (old : Inputs M) (e : Edge) (n : M) (below beside : Rest M) (under was : Inputs M) (at inside : ℕ) → old ≡ More e n below beside → under ≡ below.value → was ≡ beside.value → inside ≡ min (size under) at → inside < at → station old at ≡ station was (at - 1 - inside)
-station_beside {M} old e n below beside under was at inside is u w c far =
-    let all : inside ≡ size below.value = counted_all (size under) inside at c far ∙ ap size u in
-    let L : ℕ → Type 0 = λ k. k < at in
-    let beyond : size below.value < at = subst L all far in
-    let above : 0 < at = omega arith in
-    ap (λ t. station t at) is
-    ∙ (chosen_second (nat_eq at 0) _ _ (not_zero at above)
-    ∙ (chosen_second (nat_le at (size below.value)) (station below.value (at - 1)) (station beside.value (at - 1 - size below.value)) (is_beyond at (size below.value) beyond)
-    ∙ (ap (λ k. station beside.value (at - 1 - k)) (sym all) ∙ ap (λ t. station t (at - 1 - inside)) (sym w))))
-
-pub station_below : {M : Type 0} (old : Inputs M) (e : Edge) (n : M) (below beside : Rest M) (under was : Inputs M) (at inside : ℕ) → old ≡ More e n below beside → under ≡ below.value → was ≡ below.value → inside ≡ min (size under) at → 0 < at → at ≤ inside → station old at ≡ station was (at - 1)
-station_below {M} old e n below beside under was at inside is u w c above near =
-    let S : Inputs M → Type 0 = λ t. at ≤ size t in
-    let within : at ≤ size below.value = subst S u (counted_some (size under) inside at c near) in
-    ap (λ t. station t at) is
-    ∙ (chosen_second (nat_eq at 0) _ _ (not_zero at above)
-    ∙ (chosen_first (nat_le at (size below.value)) (station below.value (at - 1)) (station beside.value (at - 1 - size below.value)) (is_within at (size below.value) within)
-    ∙ ap (λ t. station t (at - 1)) (sym w)))
-
 -- ---- a step of a tree
 
 abbrev tree : {M : Type 0} → M → Inputs M → Node M
@@ -71,14 +53,3 @@ stepped_tree P ends r t t' e (suc at) z h =
   where
     one_less : (k : ℕ) → suc k - 1 ≡ k
     one_less k = omega arith
-
-pub station_tree : {M : Type 0} (t : Node M) (e : EdgeView) (at : ℕ) → 0 < at → station_of t e at ≡ station t.inputs (at - 1)
-station_tree t e zero z = absurd (omega (arith, z))
-station_tree t e (suc at) z = ap (λ k. station t.inputs k) (one_more at)
-  where
-    one_more : (k : ℕ) → k ≡ suc k - 1
-    one_more k = omega arith
-
-pub station_root : {M : Type 0} (t : Node M) (e : EdgeView) (at : ℕ) → at ≤ 0 → station_of t e at ≡ station_of t e 0
-station_root t e zero z = refl
-station_root t e (suc at) z = absurd (omega (arith, z))

@@ -1,15 +1,9 @@
 -- A tree whose nodes took in a signal of the hub that they read.
 use Rattle.std.proofs.Common.{◌≡◌, ◌⊎◌, inl, inr, ℕ, zero, suc, ◌+◌, Bool, true, false, ◌||◌, nat_eq, if◌then◌else◌, List, [], ◌∷◌, ◌++◌, Option, Some, None, option_map, slice_get, refl, ap, sym, ◌∙◌, subst, arith}
 use Rattle.std.proofs.lemmas.Bool.Decides.{nat_tests}
-use Rattle.rsx_types.specs.Meaning.{Meaning, Allocates}
-use Rattle.rsx_types.specs.Stream.{Stream}
-use Rattle.rsx_types.specs.declared.note.Note.{Note}
-use Rattle.rsx_types.specs.declared.signal.Signal.{Signal}
-use Rattle.rsx_types.specs.declared.signal.Signal.TheVariants.{Next, Complete, Error}
-use Rattle.rsx_sources.specs.Counts.{CountsStep, ends_input}
-use Rattle.rsx_sources.specs.Machine.{incoming_of}
-use Rattle.rsx_sources.specs.Reading.{Reading, IsNextAt, IsNextIn, published_at, reads_hub, reading_after}
-use Rattle.rsx_sources.specs.Steps.{AllocatesAlike}
+use Rattle.std.proofs.Math.Nat.{zero-add}
+use Rattle.std.proofs.lemmas.Bool.{both_ways}
+use Rattle.rsx_sources.specs.Prelude.{Meaning, Allocates, Stream, Note, Signal, Next, Complete, Error, CountsStep, ends_input, incoming_of, Reading, IsNextAt, IsNextIn, published_at, reads_hub, reading_after, AllocatesAlike}
 use Rattle.rsx_sources.specs.declared.machine.Machine.{Ghosts as Machine}
 use Rattle.rsx_tree.specs.declared.inputs.Inputs.{Inputs, End, More'}
 use Rattle.rsx_tree.specs.Allocates.{node_allocates, row_allocates}
@@ -18,6 +12,7 @@ use Rattle.rsx_tree.specs.Edges.{edge_view, is_live}
 use Rattle.rsx_tree.specs.Handed.{reader_at, readers_in, IsTakenWhere, IsNodeHanded, OneOf, IsRowHanded, IsNextOf, item_counted, ended_counted, counts_after, IsHanded}
 use Rattle.rsx_tree.specs.Inputs.{size, comes_in, out_of, beside_of, notes_of, edges as edges_in}
 use Rattle.rsx_tree.specs.Reads.{IsReadAt, IsRowReadAt}
+use Rattle.rsx_sources.proofs.Incomings.{hubs_in}
 
 -- ---- a node
 
@@ -51,10 +46,6 @@ read_there counts h o r at e f =
     let R : Option Reading → Type 0 = λ k. IsReadAt counts k in
     ap (slice_get counts) (sym (reads_it h o r e f)) ∙ subst R f at
 
-hubs_of : {T : Type 0} (hubs vs : List (Stream T)) → (incoming_of hubs vs).hubs ≡ hubs
-hubs_of hubs [] = refl
-hubs_of hubs (v ∷ vs) = refl
-
 node_out : {M T : Type 0} (b : Machine M T) (h : ℕ) (s : Signal T) (c : Bool) (n n' : M) → reads_hub h (b.reads n) ≡ c → IsTakenWhere b s c n n' → (m : Meaning T) (counts : List (Option ℕ)) (hubs : List (Stream T)) → IsReadAt counts (b.reads n) → IsNextOf counts hubs h s →
     (o : Option (List (Stream T))) (k : Option Note) → out_of b m hubs n' o k ≡ out_of b m hubs n o k
 node_out b h s false n n' reads same m counts hubs at next o k = ap (λ x. out_of b m hubs x o k) same
@@ -64,7 +55,7 @@ node_out {M} {T} b h s true n n' reads taken m counts hubs at next (Some vs) (So
     let r = taken.on.reading in
     let N : ℕ → Type 0 = λ j. IsNextAt r.reached (published_at hubs j) s in
     let H : List (Stream T) → Type 0 = λ l. IsNextIn r l s in
-    taken.on.value m (incoming_of hubs vs) k (subst H (sym (hubs_of hubs vs)) (subst N (sym (reads_it h (b.reads n) r reads taken.on.read)) (next r.reached (read_there counts h (b.reads n) r at reads taken.on.read))))
+    taken.on.value m (incoming_of hubs vs) k (subst H (sym (hubs_in hubs vs)) (subst N (sym (reads_it h (b.reads n) r reads taken.on.read)) (next r.reached (read_there counts h (b.reads n) r at reads taken.on.read))))
 
 one_further : (h c : ℕ) (counts : List (Option ℕ)) → slice_get counts h ≡ Some (Some c) → slice_get (item_counted h counts) h ≡ Some (Some (c + 1))
 one_further h c [] e = cc
@@ -156,12 +147,6 @@ row_stays {M} {T} b h s (More' e n p below q beside) t' k =
           ∙ (ap (λ c. node_allocates b a n || (c || row_allocates b a k.2)) (o.1.calls a) ∙ ap (λ c. node_allocates b a n || (row_allocates b a below || c)) (rest.calls a));
     }
 
-nothing : (j : ℕ) → 0 + j ≡ j
-nothing j = omega arith
-
-both_ways : {c : Bool} → c ≡ true → c ≡ false → ⊥
-both_ways x y = cc
-
 -- the same comes in
 pub row_value : {M T : Type 0} (b : Machine M T) (h : ℕ) (s : Signal T) (t t' : Inputs M) → IsRowHanded b h s t t' → (m : Meaning T) (counts : List (Option ℕ)) (hubs : List (Stream T)) → IsRowReadAt b counts t → IsNextOf counts hubs h s → (further : List Note) (at : ℕ) → comes_in b m hubs further t' at ≡ comes_in b m hubs further t at
 row_value b h s End t' k m counts hubs reads next further pos = ap (λ u. comes_in b m hubs further u pos) k
@@ -180,7 +165,7 @@ row_value {M} {T} b h s (More' e n p below q beside) t' k m counts hubs reads ne
         out_of b m hubs k.0 (comes_in b m hubs further k.1 (pos + 1)) (slice_get further pos) ≡ out_of b m hubs n (comes_in b m hubs further below (pos + 1)) (slice_get further pos)
     at down false l o = ap (λ x. out_of b m hubs x (comes_in b m hubs further k.1 (pos + 1)) (slice_get further pos)) o.0 ∙ ap (λ u. out_of b m hubs n (comes_in b m hubs further u (pos + 1)) (slice_get further pos)) o.1
     at down true l o = elim reads.0 [
-      | inl dead ↦ absurd (both_ways l dead)
+      | inl dead ↦ absurd (both_ways _ dead l)
       | inr r ↦
           node_out b h s (reads_hub h (b.reads n)) n k.0 refl o.0 m counts hubs r.0 next (comes_in b m hubs further k.1 (pos + 1)) (slice_get further pos)
           ∙ ap (λ x. out_of b m hubs n x (slice_get further pos)) (down o.1 r.1)
@@ -196,7 +181,7 @@ row_reads {M} {T} b h s (More' e n p below q beside) t' k counts reads =
     at : (IsRowHanded b h s below k.1 → IsRowReadAt b counts below → IsRowReadAt b (counts_after h s counts) k.1) → (l : Bool) → is_live e.state ≡ l → OneOf l (IsNodeHanded b h s n k.0 × IsRowHanded b h s below k.1) ((k.0 ≡ n) × (k.1 ≡ below)) →
         (is_live e.state ≡ false) ⊎ (IsReadAt (counts_after h s counts) (b.reads k.0) × IsRowReadAt b (counts_after h s counts) k.1)
     at down false l o = inl l
-    at down true l o = elim reads.0 [ inl dead ↦ absurd (both_ways l dead) | inr r ↦ inr (node_reads b h s (reads_hub h (b.reads n)) n k.0 refl o.0 counts r.0, down o.1 r.1) ]
+    at down true l o = elim reads.0 [ inl dead ↦ absurd (both_ways _ dead l) | inr r ↦ inr (node_reads b h s (reads_hub h (b.reads n)) n k.0 refl o.0 counts r.0, down o.1 r.1) ]
 
 -- after an ending none of them reads the hub
 pub row_over : {M T : Type 0} (b : Machine M T) (h : ℕ) (s : Signal T) (t t' : Inputs M) → IsRowHanded b h s t t' → ends_input s ≡ true → readers_in b h t' ≡ 0
@@ -207,7 +192,7 @@ row_over {M} {T} b h s (More' e n p below q beside) t' k over =
   where
     at : (IsRowHanded b h s below k.1 → readers_in b h k.1 ≡ 0) → (l : Bool) → OneOf l (IsNodeHanded b h s n k.0 × IsRowHanded b h s below k.1) ((k.0 ≡ n) × (k.1 ≡ below)) → (if l then reader_at b h k.0 + readers_in b h k.1 else 0) ≡ 0
     at down false o = refl
-    at down true o = ap (λ j. j + readers_in b h k.1) (node_over b h s (reads_hub h (b.reads n)) n k.0 refl o.0 over) ∙ (nothing (readers_in b h k.1) ∙ down o.1)
+    at down true o = ap (λ j. j + readers_in b h k.1) (node_over b h s (reads_hub h (b.reads n)) n k.0 refl o.0 over) ∙ (zero-add (readers_in b h k.1) ∙ down o.1)
 
 -- the counts along its edges
 owner_balanced : {M T : Type 0} (b : Machine M T) (n n' : M) (taken taken' : List ℕ) (sent : ℕ) (row row' : Type 0) → Stays b n n' → taken' ≡ taken → (row → row') → IsOwnerBalanced b n taken sent row → IsOwnerBalanced b n' taken' sent row'
@@ -243,7 +228,7 @@ tree_handed b h s n n' t t' node row =
           node_out b h s (reads_hub h (b.reads n)) n n' refl node m counts hubs reads.0 next (comes_in b m hubs further t' (at + 1)) (slice_get further at)
           ∙ ap (λ o. out_of b m hubs n o (slice_get further at)) (row_value b h s t t' row m counts hubs reads.1 next further (at + 1));
       reads = λ counts reads. (node_reads b h s (reads_hub h (b.reads n)) n n' refl node counts reads.0, row_reads b h s t t' row counts reads.1);
-      ended = λ e. ap (λ j. j + readers_in b h t') (node_over b h s (reads_hub h (b.reads n)) n n' refl node e) ∙ (nothing (readers_in b h t') ∙ row_over b h s t t' row e);
+      ended = λ e. ap (λ j. j + readers_in b h t') (node_over b h s (reads_hub h (b.reads n)) n n' refl node e) ∙ (zero-add (readers_in b h t') ∙ row_over b h s t t' row e);
       notes = ap (λ x. x ∷ notes_of b t') stays.recorded ∙ ap (λ x. b.recorded n ∷ x) rows.notes_are;
       edges = rows.edges_are;
       balance = λ sent w. owner_balanced b n n' (sent_over t) (sent_over t') sent (IsRowBalanced b n 0 t) (IsRowBalanced b n' 0 t') stays rows.sent_is (row_balanced b h s n n' stays.counts.stays_done 0 t t' row) w;

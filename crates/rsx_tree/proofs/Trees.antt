@@ -1,13 +1,11 @@
 -- A tree from its root and the row of its inputs.
-use Rattle.std.proofs.Common.{◌≡◌, ℕ, ◌+◌, Bool, true, false, ◌&&◌, List, [], ◌∷◌, ◌++◌, map, refl, ap, sym, ◌∙◌, subst, Option, Some, None, option_map, slice_get}
-use Rattle.rsx_types.specs.Meaning.{Meaning}
-use Rattle.rsx_types.specs.declared.signal.Signal.{Signal}
-use Rattle.rsx_sources.specs.Counts.{CountsOut}
-use Rattle.rsx_sources.specs.Steps.{IsPopped as IsPoppedHere}
+use Rattle.std.proofs.Common.{◌≡◌, ℕ, ◌+◌, Bool, true, false, ◌&&◌, List, [], ◌∷◌, map, refl, ap, sym, ◌∙◌, subst, Option, Some, None, slice_get}
+use Rattle.rsx_sources.specs.Prelude.{Meaning, Signal, CountsOut, IsPopped as IsPoppedHere}
 use Rattle.rsx_sources.specs.declared.machine.Machine.{Ghosts as Machine}
 use Rattle.rsx_tree.specs.declared.edge.EdgeState.{EdgeState}
 use Rattle.rsx_tree.specs.declared.edge.EdgeState.TheVariants.{Live, Closed, Ended}
 use Rattle.std.specs.Box.{with_value}
+use Rattle.rsx_types.proofs.Options.{nothing_in_front}
 use Rattle.rsx_tree.specs.declared.edge.Edge.{Edge}
 use Rattle.rsx_tree.specs.declared.inputs.Inputs.{Inputs}
 use Rattle.rsx_tree.specs.declared.inputs.Inputs.TheViews.{More}
@@ -61,10 +59,6 @@ can_send_found b m o f = ap (can_send_in b m) f.is ∙ (ap (λ e. can_send_over 
 pub can_sent : {M T : Type 0} (b : Machine M T) (m : Meaning T) (r r' : M) (at : ℕ) (t t' : Inputs M) → IsChanged (IsSentOver b m) b.ended r 0 0 0 t at r' t' → can_send_in b m (place r 0 0 0 t at) ≡ true
 can_sent b m r r' at t t' h = can_send_found b m _ (found (IsSentOver b m) b.ended r 0 0 0 t at r' t' h)
 
-map_none : {A : Type 0} (o : Option (List A)) → option_map (λ vs. [] ++ vs) o ≡ o
-map_none None = refl
-map_none (Some vs) = refl
-
 pub kept_sent : {M T : Type 0} (b : Machine M T) (m : Meaning T) (r r' : M) (at : ℕ) (t mid t' : Inputs M) (c : Bool) → IsChanged (IsSentOver b m) b.ended r 0 0 0 t at r' mid → t' ≡ closed_row_if c mid → IsKept b m (node r t) (node r' t')
 kept_sent {M} b m r r' at t mid t' c h is =
     let Q : Inputs M → Type 0 = λ u. IsKept b m (node r t) (node r' u) in
@@ -72,7 +66,7 @@ kept_sent {M} b m r r' at t mid t' c h is =
     subst Q (sym is) (record {
       value = λ hubs further pos.
           ap (λ o. out_of b m hubs r' o (slice_get further pos)) (comes_in_closed_if b m hubs further c mid (pos + 1))
-          ∙ then_same _ _ (λ k. ap (λ o. through b m hubs r' o k) (sym (map_none (comes_in b m hubs further mid (pos + 1)))) ∙ (on [] refl hubs further (pos + 1) k ∙ ap (λ o. through b m hubs r o k) (map_none (comes_in b m hubs further t (pos + 1))))) (slice_get further pos);
+          ∙ then_same _ _ (λ k. ap (λ o. through b m hubs r' o k) (sym (nothing_in_front (comes_in b m hubs further mid (pos + 1)))) ∙ (on [] refl hubs further (pos + 1) k ∙ ap (λ o. through b m hubs r o k) (nothing_in_front (comes_in b m hubs further t (pos + 1))))) (slice_get further pos);
       notes = ap (λ k. k ∷ notes_of b (closed_row_if c mid)) (recorded_sent b m b.ended r 0 0 0 t at r' mid h) ∙ ap (λ l. b.recorded r ∷ l) (notes_closed_if b c mid ∙ notes_sent b m b.ended r 0 0 0 t at r' mid h);
     })
 

@@ -1,8 +1,7 @@
 -- What no move of a tree changes: which calls of its nodes may allocate, where these of the caller's functions may, and how far
 -- the nodes got in the hubs that they read.
 use Rattle.std.specs.Prelude.{◌≡◌, ℕ, Bool, false, ◌||◌, List, Option}
-use Rattle.rsx_types.specs.Meaning.{Allocates}
-use Rattle.rsx_sources.specs.Steps.{StaysAlike}
+use Rattle.rsx_sources.specs.Prelude.{Allocates, StaysAlike}
 use Rattle.rsx_sources.specs.declared.machine.Machine.{Ghosts as Machine}
 use Rattle.rsx_tree.specs.declared.inputs.Inputs.{Inputs, End, More'}
 use Rattle.rsx_tree.specs.declared.node.Node.{Node}

@@ -1,13 +1,7 @@
 -- How a move changes a row of inputs: one edge and the nodes at its ends, and nothing else.
 use Rattle.std.specs.Prelude.{◌≡◌, ◌⊎◌, Box, ℕ, ◌+◌, ◌-◌, ◌<◌, ◌≤◌, Bool, true, false, ◌&&◌, List, ◌++◌, length, Some, option_map}
 use Rattle.std.specs.declared.alloc.Global.{Global}
-use Rattle.rsx_types.specs.Meaning.{Meaning}
-use Rattle.rsx_types.specs.Stream.{Stream}
-use Rattle.rsx_types.specs.declared.note.Note.{Note}
-use Rattle.rsx_types.specs.declared.signal.Signal.{Signal}
-use Rattle.rsx_sources.specs.Counts.{CountsIn, CountsOut}
-use Rattle.rsx_sources.specs.Machine.{LetsGo, TakesIn, front_of}
-use Rattle.rsx_sources.specs.Steps.{IsNotMade}
+use Rattle.rsx_sources.specs.Prelude.{Meaning, Stream, Note, Signal, CountsIn, CountsOut, LetsGo, TakesIn, front_of, IsNotMade}
 use Rattle.rsx_sources.specs.declared.machine.Machine.{Ghosts as Machine}
 use Rattle.rsx_sources.specs.declared.machine.NotMade.{NotMade}
 use Rattle.rsx_tree.specs.declared.edge.Edge.{Edge}

@@ -1,9 +1,6 @@
 -- What a pick and a row change in a tree: the edges below the node, where it ended by it, and what the nodes recorded.
 use Rattle.std.specs.Prelude.{◌≡◌, ℕ, zero, suc, ◌-◌, Bool, nat_eq, nat_le, if◌then◌else◌, List, [], ◌∷◌, ◌++◌, length, Option, Some}
-use Rattle.rsx_types.specs.Meaning.{Meaning}
-use Rattle.rsx_types.specs.Notes.{note_then, notes_then}
-use Rattle.rsx_types.specs.Stream.{Stream}
-use Rattle.rsx_types.specs.declared.note.Note.{Note}
+use Rattle.rsx_sources.specs.Prelude.{Meaning, note_then, notes_then, Stream, Note}
 use Rattle.rsx_sources.specs.declared.machine.Machine.{Ghosts as Machine}
 use Rattle.rsx_tree.specs.declared.inputs.Inputs.{Inputs, End, More'}
 use Rattle.rsx_tree.specs.declared.node.Node.{Node}

@@ -1,8 +1,6 @@
 -- An item that is pulled through a tree in one go: the moves that lead to a tree whose root offers it, and then the item out.
 use Rattle.std.specs.Prelude.{◌≡◌, ℕ, ◌+◌, ◌<◌, true, false, Option, Some, None}
-use Rattle.rsx_types.specs.Meaning.{Meaning}
-use Rattle.rsx_types.specs.declared.signal.Signal.TheVariants.{Next}
-use Rattle.rsx_sources.specs.Passed.{IsItemOut}
+use Rattle.rsx_sources.specs.Prelude.{Meaning, Next, IsItemOut}
 use Rattle.rsx_sources.specs.declared.machine.Machine.{Ghosts as Machine}
 use Rattle.rsx_tree.specs.declared.edge.Edge.{Edge}
 use Rattle.rsx_tree.specs.declared.fetch.Handed.{Handed}

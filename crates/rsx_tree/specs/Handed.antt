@@ -1,13 +1,6 @@
 -- Handing a signal of a hub to the nodes of a tree that read it.
 use Rattle.std.specs.Prelude.{◌≡◌, ℕ, zero, suc, ◌+◌, Bool, true, false, ◌&&◌, if◌then◌else◌, List, [], ◌∷◌, Option, Some, None, option_map, slice_get}
-use Rattle.rsx_types.specs.Meaning.{Meaning, Allocates}
-use Rattle.rsx_types.specs.Stream.{Stream}
-use Rattle.rsx_types.specs.declared.note.Note.{Note}
-use Rattle.rsx_types.specs.declared.signal.Signal.{Signal}
-use Rattle.rsx_types.specs.declared.signal.Signal.TheVariants.{Next, Complete, Error}
-use Rattle.rsx_sources.specs.Counts.{CountsStep, ends_input}
-use Rattle.rsx_sources.specs.Reading.{IsNextAt, IsReadOn, published_at, reads_hub}
-use Rattle.rsx_sources.specs.Steps.{AllocatesAlike}
+use Rattle.rsx_sources.specs.Prelude.{Meaning, Allocates, Stream, Note, Signal, Next, Complete, Error, CountsStep, ends_input, IsNextAt, IsReadOn, published_at, reads_hub, AllocatesAlike}
 use Rattle.rsx_sources.specs.declared.machine.Machine.{Ghosts as Machine}
 use Rattle.rsx_tree.specs.declared.inputs.Inputs.{Inputs, End, More'}
 use Rattle.rsx_tree.specs.declared.node.Node.{Node}

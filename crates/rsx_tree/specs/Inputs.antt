@@ -1,11 +1,7 @@
 -- The inputs of a node, with all below them: what still comes in, what was recorded, and which moves are enabled. Each
 -- definition takes the machines' meaning, `Machine M T`, as an argument; a clause names it `M.Machine`.
 use Rattle.std.specs.Prelude.{◌≡◌, ℕ, ◌+◌, ◌-◌, Bool, true, false, ◌&&◌, ◌||◌, nat_eq, nat_le, if◌then◌else◌, List, [], ◌∷◌, ◌++◌, Option, Some, None, option_map, option_and_then, slice_get}
-use Rattle.rsx_types.specs.Meaning.{Meaning, Allocates}
-use Rattle.rsx_types.specs.Notes.{unchosen}
-use Rattle.rsx_types.specs.Stream.{Stream}
-use Rattle.rsx_types.specs.declared.note.Note.{Note}
-use Rattle.rsx_sources.specs.Machine.{incoming_of, front_of}
+use Rattle.rsx_sources.specs.Prelude.{Meaning, Allocates, unchosen, Stream, Note, incoming_of, front_of}
 use Rattle.rsx_sources.specs.declared.machine.Front.{Front}
 use Rattle.rsx_sources.specs.declared.machine.Machine.{Ghosts as Machine}
 use Rattle.rsx_tree.specs.declared.inputs.Inputs.{Inputs, End, More'}

@@ -1,9 +1,7 @@
 -- Which nodes of a tree read a hub, and how far they got in it. How far each hub got is a list: so many items, or nothing for a hub
 -- that has ended.
 use Rattle.std.specs.Prelude.{◌≡◌, ◌⊎◌, ⊤, ℕ, false, List, Option, Some, None, slice_get}
-use Rattle.rsx_types.specs.declared.signal.Ending.{Ending}
-use Rattle.rsx_types.specs.declared.signal.Ending.TheVariants.{Open, Done, Failed}
-use Rattle.rsx_sources.specs.Reading.{Reading}
+use Rattle.rsx_sources.specs.Prelude.{Ending, Open, Done, Failed, Reading}
 use Rattle.rsx_sources.specs.declared.machine.Machine.{Ghosts as Machine}
 use Rattle.rsx_tree.specs.declared.inputs.Inputs.{Inputs, End, More'}
 use Rattle.rsx_tree.specs.declared.node.Node.{Node}

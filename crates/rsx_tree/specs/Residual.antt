@@ -1,9 +1,6 @@
 -- What still comes out of a tree, by what its nodes hold and what stands in the inboxes of the hubs that they read.
 use Rattle.std.specs.Prelude.{◌≡◌, ◌⊎◌, ⊤, ℕ, ◌+◌, Bool, true, false, List, [], ◌∷◌, ◌++◌, Some}
-use Rattle.rsx_types.specs.Meaning.{Meaning}
-use Rattle.rsx_types.specs.Stream.{Stream}
-use Rattle.rsx_types.specs.declared.note.Note.{Note}
-use Rattle.rsx_sources.specs.Reading.{IsBehind}
+use Rattle.rsx_sources.specs.Prelude.{Meaning, Stream, Note, IsBehind}
 use Rattle.rsx_sources.specs.declared.machine.Machine.{Ghosts as Machine}
 use Rattle.rsx_tree.specs.Balance.{IsRowBalanced, IsBalanced}
 use Rattle.rsx_tree.specs.Edges.{is_live}

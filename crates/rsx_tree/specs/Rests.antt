@@ -1,12 +1,6 @@
 -- When nothing more comes out of a node that offers nothing though more is asked of it: nothing more comes in.
 use Rattle.std.specs.Prelude.{◌≡◌, ℕ, ◌<◌, ◌^◌, zero, suc, Bool, true, false, List, [], ◌∷◌, drop, Option, Some, None, slice_get}
-use Rattle.rsx_types.specs.declared.signal.Ending.TheVariants.{Open}
-use Rattle.rsx_types.specs.Meaning.{Meaning}
-use Rattle.rsx_types.specs.Notes.{unchosen}
-use Rattle.rsx_types.specs.Stream.{Stream, ended_by}
-use Rattle.rsx_sources.specs.Counts.{AreWithin}
-use Rattle.rsx_sources.specs.Machine.{Incoming}
-use Rattle.rsx_sources.specs.Reading.{Reading, published_at}
+use Rattle.rsx_sources.specs.Prelude.{Open, Meaning, unchosen, Stream, ended_by, AreWithin, Incoming, Reading, published_at}
 use Rattle.rsx_sources.specs.declared.machine.Front.{Front}
 use Rattle.rsx_sources.specs.declared.machine.Machine.{Ghosts as Machine}
 use Rattle.rsx_tree.specs.declared.inputs.Inputs.{Inputs, End, More'}

@@ -1,10 +1,6 @@
 -- A step of one node: a pick, or a row.
 use Rattle.std.specs.Prelude.{◌≡◌, ◌⊎◌, ℕ, zero, suc, ◌-◌, ◌<◌, ◌≤◌, ◌^◌, Bool, true, false, ◌&&◌, nat_eq, nat_le, if◌then◌else◌, Option, Some, None}
-use Rattle.rsx_types.specs.Meaning.{Meaning, Allocates}
-use Rattle.rsx_types.specs.Notes.{note_then}
-use Rattle.rsx_types.specs.declared.note.Note.{Note}
-use Rattle.rsx_sources.specs.Counts.{CountsStep}
-use Rattle.rsx_sources.specs.Machine.{Keeps, Records}
+use Rattle.rsx_sources.specs.Prelude.{Meaning, Allocates, note_then, Note, CountsStep, Keeps, Records}
 use Rattle.rsx_sources.specs.declared.machine.Machine.{Ghosts as Machine}
 use Rattle.rsx_tree.specs.Allocates.{IsNodeAlike}
 use Rattle.rsx_tree.specs.declared.edge.Edge.{Edge}

@@ -1,11 +1,6 @@
 -- One tree of nodes: what still comes out of it, what it recorded, and its moves.
 use Rattle.std.specs.Prelude.{◌≡◌, ℕ, ◌+◌, Bool, false, ◌&&◌, nat_eq, nat_le, if◌then◌else◌, ◌-◌, List, [], ◌∷◌, Option, Some, None, option_map, slice_get}
-use Rattle.rsx_types.specs.Meaning.{Meaning, Allocates}
-use Rattle.rsx_types.specs.Notes.{unchosen}
-use Rattle.rsx_types.specs.Stream.{Stream, signal_then}
-use Rattle.rsx_types.specs.declared.note.Note.{Note}
-use Rattle.rsx_types.specs.declared.signal.Signal.{Signal}
-use Rattle.rsx_sources.specs.Machine.{front_of}
+use Rattle.rsx_sources.specs.Prelude.{Meaning, Allocates, unchosen, Stream, signal_then, Note, Signal, front_of}
 use Rattle.rsx_sources.specs.declared.machine.Front.{Front}
 use Rattle.rsx_sources.specs.declared.machine.Machine.{Ghosts as Machine}
 use Rattle.rsx_tree.specs.declared.edge.Edge.{Edge}

@@ -1,6 +1,6 @@
 //! The edge between a node and its receiver.
 
-ghost use Rattle.std.specs.Prelude.{◌≡◌, ◌<◌, ◌≤◌, true, false, IfErr, OnOk, OnErr, IfSome, IfNone, min};
+ghost use Rattle.std.specs.Prelude.{◌≡◌, ◌<◌, true};
 ghost use Rattle.rsx_tree.specs.Edges.{IsAsked, IsPassed, can_ask_for, can_pass, closed_edge, closed_view, edge_view, is_live};
 ghost use Rattle.rsx_demand.specs.declared.TheConstants.{UNBOUNDED};
 

@@ -1,6 +1,6 @@
 //! An item pulled through a whole tree in one go.
 
-ghost use Rattle.std.specs.Prelude.{◌≡◌, ℕ, true};
+ghost use Rattle.std.specs.Prelude.{◌≡◌, true};
 ghost use Rattle.rsx_tree.specs.Edges.{can_pass, edge_view};
 ghost use Rattle.rsx_tree.specs.Fetched.{IsHanded, IsOut};
 

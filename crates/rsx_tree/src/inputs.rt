@@ -64,12 +64,11 @@ impl<M> Inputs<M> {
 }
 
 impl<M: Machine> Inputs<M> {
-    ghost use Rattle.std.specs.Prelude.{◌≡◌, ◌+◌, ◌<◌, ◌≤◌, ◌^◌, ◌&&◌, ◌++◌, ℕ, min, true, false, OnOk, OnErr, IfOk, IfErr};
-    ghost use Rattle.rsx_types.specs.Meaning.{Meaning};
+    ghost use Rattle.std.specs.Prelude.{◌≡◌, ◌+◌, ◌<◌, ◌^◌, ◌&&◌, ◌++◌, ℕ, min, true, false, OnOk, OnErr, IfOk, IfErr};
     ghost use Rattle.rsx_sources.specs.Steps.{IsNotMade};
     ghost use Rattle.rsx_tree.specs.Inputs.{size, is_own, place, can_ask_in, send_allocates_in, closed_row_if, notes_of};
-    ghost use Rattle.rsx_tree.specs.Changed.{IsAskedIn, IsSentIn, IsNotSentIn, IsChanged, IsAskedOver, IsSentOver};
-    ghost use Rattle.rsx_tree.specs.Driven.{IsPass, IsRowIdle, IsRowDriven, SpentPass, is_over_in};
+    ghost use Rattle.rsx_tree.specs.Changed.{IsAskedIn, IsSentIn, IsNotSentIn};
+    ghost use Rattle.rsx_tree.specs.Driven.{IsPass, IsRowIdle};
     ghost use Rattle.rsx_tree.specs.Refusals.{IsNotEnabled, OnlyNotEnabled};
     ghost use Rattle.rsx_tree.specs.Residual.{IsResidual};
     ghost use Rattle.rsx_tree.specs.Stepped.{IsStepped, IsPickedHere, IsRowMadeHere, can_pick_in, can_row_in, station, step_allocates_in};

@@ -31,7 +31,6 @@ impl<M: Machine> Node<M> {
     ghost use Rattle.rsx_tree.specs.Stepped.{IsPickMadeAt, IsRowMadeAt, can_pick_in, can_row_in, station_of, step_allocates};
     ghost use Rattle.rsx_tree.specs.Balance.{IsBalanced};
     ghost use Rattle.rsx_tree.specs.Chosen.{IsChosen, IsPickedAt, IsRowAt};
-    ghost use Rattle.rsx_tree.specs.Inputs.{closed_row};
     ghost use Rattle.rsx_tree.specs.Look.{IsEnabledAt};
     ghost use Rattle.rsx_tree.specs.Tree.{notes, edges, offers, popped, IsPopped, IsKept, IsAllClosed, can_ask, can_send, send_allocates, IsAskedAt, IsSentAt};
     ghost use Rattle.rsx_tree.specs.Refusals.{IsNotEnabled, OnlyNotEnabled};

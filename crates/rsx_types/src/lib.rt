@@ -5,6 +5,11 @@
 //! The definitions that contracts cite stand in `specs/`: `Stream` (stream values and what stands in front of them),
 //! `Meaning` (what the caller's functions mean), `Plain` (the plain operators over whole stream values) and `Notes`
 //! (recorded choices, and more choices after them).
+//!
+//! # Small facts
+//!
+//! What the proofs of several crates need of booleans, numbers, lists and options, and std does not state, stands in `proofs/`:
+//! `Booleans`, `Numbers`, `Lists`, `Options` and `Places`. None of it speaks of a type of this library.
 
 pub mod fault;
 pub mod limits;

@@ -4,6 +4,7 @@ use Rattle.std.proofs.lemmas.Bool.Decides.{nat_tests}
 use Rattle.std.proofs.lemmas.List.{at_drop_more, at_drop_all}
 use Rattle.std.specs.Set.{is_member}
 use Rattle.std.specs.Prelude.{if◌then◌else◌}
+use Rattle.std.proofs.lemmas.Bool.{not-true, not-false}
 use Rattle.rsx_types.specs.declared.signal.Ending.{Ending}
 use Rattle.rsx_types.specs.declared.signal.Ending.TheVariants.{Open, Done, Failed}
 use Rattle.rsx_types.specs.Plain.{mapped_items, filtered_items, accumulated_then, scanned_items, last_list, buffered_items, new_key_then, distinct_items}
@@ -32,10 +33,6 @@ all_out out before whole r e i b p q = same r out e p q ∙ ap (items_then out) 
 -- the item at an index, and the items behind it
 pub item_at : {A B : Type 0} (d : List A → B) (xs : List A) (i : ℕ) (x : A) → i < length xs → x ≡ get_or xs i x → d (drop i xs) ≡ d (x ∷ drop (i + 1) xs)
 item_at d xs i x within is = at_drop_more d xs i x within ∙ ap (λ z. d (z ∷ drop (i + 1) xs)) (sym is)
-
-pub none_left : {A : Type 0} (xs : List A) → length xs ≡ 0 → xs ≡ []
-none_left [] h = refl
-none_left (x ∷ xs) h = absurd (omega (arith, h))
 
 -- ---- one item of an operator
 
@@ -74,22 +71,14 @@ key_or key x seen k xs e b = if b then distinct_items key seen xs e else item_th
 -- the first item of its key comes out
 pub distinct_new : {T : Type 0} (key : T → Result ℕ ℕ) (x : T) (seen seen' : List ℕ) (k : ℕ) (xs : List T) (e : Ending) → key x ≡ Ok k → not (is_member nat_eq seen k) ≡ true → seen' ≡ (if is_member nat_eq seen k then seen else seen ++ k ∷ []) → distinct_items key seen (x ∷ xs) e ≡ item_then x (distinct_items key seen' xs e)
 distinct_new key x seen seen' k xs e h new now =
-    let fresh : is_member nat_eq seen k ≡ false = negated (is_member nat_eq seen k) new in
+    let fresh : is_member nat_eq seen k ≡ false = not-true (is_member nat_eq seen k) new in
     rw now (ap (λ r. new_key_then x r seen (λ known. distinct_items key known xs e)) h ∙ ap (key_or key x seen k xs e) fresh ∙ ap (λ b. item_then x (distinct_items key (if b then seen else seen ++ k ∷ []) xs e)) (sym fresh))
-  where
-    negated : (b : Bool) → not b ≡ true → b ≡ false
-    negated true n = cc
-    negated false n = refl
 
 -- a further item of a key is dropped
 pub distinct_known : {T : Type 0} (key : T → Result ℕ ℕ) (x : T) (seen seen' : List ℕ) (k : ℕ) (xs : List T) (e : Ending) → key x ≡ Ok k → not (is_member nat_eq seen k) ≡ false → seen' ≡ (if is_member nat_eq seen k then seen else seen ++ k ∷ []) → distinct_items key seen (x ∷ xs) e ≡ distinct_items key seen' xs e
 distinct_known key x seen seen' k xs e h old now =
-    let known : is_member nat_eq seen k ≡ true = negated (is_member nat_eq seen k) old in
+    let known : is_member nat_eq seen k ≡ true = not-false (is_member nat_eq seen k) old in
     rw now (ap (λ r. new_key_then x r seen (λ known. distinct_items key known xs e)) h ∙ ap (key_or key x seen k xs e) known ∙ ap (λ b. distinct_items key (if b then seen else seen ++ k ∷ []) xs e) (sym known))
-  where
-    negated : (b : Bool) → not b ≡ false → b ≡ true
-    negated true n = refl
-    negated false n = cc
 
 pub distinct_fault : {T : Type 0} (key : T → Result ℕ ℕ) (x : T) (seen : List ℕ) (c : ℕ) (xs : List T) (e : Ending) → key x ≡ Err c → distinct_items key seen (x ∷ xs) e ≡ cut_by c
 distinct_fault key x seen c xs e h = ap (λ r. new_key_then x r seen (λ known. distinct_items key known xs e)) h

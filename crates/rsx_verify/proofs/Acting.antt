@@ -19,26 +19,12 @@ use Rattle.rsx_types.specs.declared.signal.Ending.{Ending}
 use Rattle.rsx_types.specs.declared.signal.Ending.TheVariants as stream
 use Rattle.rsx_types.specs.declared.signal.Signal.{Signal}
 use Rattle.rsx_types.specs.declared.signal.Signal.TheVariants.{Next, Complete, Error}
-use Rattle.rsx_model.specs.Eval.{environment}
-use Rattle.rsx_model.specs.declared.expr.Expr.{Expr}
-use Rattle.rsx_evaluation.proofs.Laws.{never_a_bad_request_law}
-use Rattle.rsx_pipe.specs.Tree.{notes_of}
-use Rattle.rsx_publishing.specs.declared.feed.Feed.{Feed}
-use Rattle.rsx_region.specs.Region.{region_of}
-use Rattle.rsx_subscriber.specs.Begun.{IsFresh}
-use Rattle.rsx_subscriber.specs.Holds.{Holds}
-use Rattle.rsx_subscriber.specs.Past.{Past, given}
-use Rattle.rsx_subscriber.specs.Standing.{standing}
-use Rattle.rsx_subscriber.specs.Stands.{standing_of}
-use Rattle.rsx_subscriber.specs.declared.state.SubscriptionState.TheVariants.{Ended}
-use Rattle.rsx_subscriber.specs.declared.subscription.Subscription.{Subscription}
-use Rattle.rsx_history.specs.Headline.{AllHold}
-use Rattle.rsx_history.specs.History.{changed}
-use Rattle.rsx_history.specs.Stands.{AllStand}
-use Rattle.rsx_feeding.specs.Headline.{AreValues, IsValue}
-use Rattle.rsx_feeding.specs.History.{History, HubPast, Source, accepted_at, emitted, fed, sent_at, with_made, with_moved}
-use Rattle.rsx_feeding.proofs.Values.{whole_holds}
-use Rattle.rsx_feed_driving.specs.Pumped.{Made, after_moves, delivered_by}
+use Rattle.rsx_subscriber.specs.Prelude.{environment, Expr, notes_of, region_of, IsFresh, Holds, Past, given, standing, standing_of}
+use Rattle.rsx_model.proofs.Laws.{never_a_bad_request_law}
+use Rattle.rsx_graph_state.specs.declared.feed.Feed.{Feed}
+use Rattle.rsx_graph_state.specs.Prelude.{Ended, Subscription, AllHold, changed, AllStand, AreValues, IsValue, History, HubPast, Source, accepted_at, emitted, fed, sent_at, with_made, with_moved}
+use Rattle.rsx_graph_state.proofs.Values.{whole_holds}
+use Rattle.rsx_graph_moves.specs.Pumped.{Made, after_moves, delivered_by}
 use Rattle.rsx_graph.specs.Stands.{GraphStands, GraphState}
 use Rattle.rsx_trace.specs.declared.event.Event.TheVariants as event
 use Rattle.rsx_trace.specs.declared.event.Stamped.{Stamped}

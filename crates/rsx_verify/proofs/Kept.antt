@@ -4,11 +4,10 @@ use Rattle.rsx_trace.specs.declared.event.Stamped.{Stamped}
 use Rattle.rsx_tck.specs.declared.rule.Rule.{Rule}
 use Rattle.rsx_tck.specs.declared.rule.Rule.TheVariants as rule
 use Rattle.rsx_tck.specs.Sentences.{Sentence}
-use Rattle.rsx_model.specs.declared.expr.Expr.{Expr}
+use Rattle.rsx_subscriber.specs.Prelude.{Expr, region_of}
 use Rattle.rsx_types.specs.Meaning.{Meaning}
 use Rattle.rsx_verify.specs.declared.act.Act.{Act}
 use Rattle.rsx_verify.specs.declared.line.Line.{Line}
-use Rattle.rsx_region.specs.Region.{region_of}
 use Rattle.rsx_verify.specs.Events.{beginning}
 use Rattle.rsx_verify.specs.Kept.{AreKept, IsKept}
 use Rattle.rsx_verify.specs.Reports.{AreUnbroken, AreVerified, bad_request_acts, cancel_acts, processor_acts, publisher_acts}

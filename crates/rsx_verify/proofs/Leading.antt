@@ -1,26 +1,22 @@
 -- Runs, act by act.
-use Rattle.std.proofs.Common.{◌≡◌, ℕ, ◌+◌, ◌<◌, ◌≤◌, List, [], ◌∷◌, ◌++◌, length, take, get_or, ℤ, Option, Some, None, inl, refl, sym, ap, ◌∙◌, subst, append_assoc}
+use Rattle.std.proofs.Common.{◌≡◌, ℕ, ◌+◌, ◌<◌, ◌≤◌, List, [], ◌∷◌, ◌++◌, length, take, get_or, ℤ, Option, Some, inl, refl, sym, ap, ◌∙◌, subst, append_assoc}
 use Rattle.std.proofs.lemmas.List.{append-nil, take_all, take_more}
 use Rattle.rsx_trace.specs.declared.event.Stamped.{Stamped}
 use Rattle.rsx_types.specs.Meaning.{Meaning}
-use Rattle.rsx_model.specs.declared.expr.Expr.{Expr}
-use Rattle.rsx_history.specs.Begun.{HaveJoined, IsSubscribed}
-use Rattle.rsx_history.specs.Stands.{IsCancelledAt, IsRequestedAt}
-use Rattle.rsx_subscriber.specs.Past.{cancelled, requested}
-use Rattle.rsx_publishing.specs.declared.feed.Feed.{Feed}
-use Rattle.rsx_subscriber.specs.declared.subscription.Subscription.{Subscription}
+use Rattle.rsx_subscriber.specs.Prelude.{Expr, cancelled, requested}
+use Rattle.rsx_graph_state.specs.Prelude.{HaveJoined, IsSubscribed, IsRequestedAt, Subscription, History}
+use Rattle.rsx_graph_state.specs.declared.feed.Feed.{Feed}
 use Rattle.rsx_types.specs.declared.names.HubKind.TheVariants.{Multicast}
 use Rattle.rsx_types.specs.declared.names.SubId.{SubId}
 use Rattle.rsx_types.specs.declared.signal.Signal.{Signal}
 use Rattle.rsx_trace.specs.declared.event.Event.TheVariants as event
-use Rattle.rsx_feeding.specs.History.{History}
-use Rattle.rsx_feed_edits.specs.Edits.{IsFedHubMade, with_fed_hub}
-use Rattle.rsx_feed_edits.specs.Requests.{with_past}
-use Rattle.rsx_feed_edits.specs.Subscribing.{with_subscriber}
+use Rattle.rsx_graph_calls.specs.Edits.{IsFedHubMade, with_fed_hub}
+use Rattle.rsx_graph_calls.specs.Requests.{with_past}
+use Rattle.rsx_graph_calls.specs.Subscribing.{with_subscriber}
 use Rattle.rsx_graph.specs.Stands.{GraphStands, GraphState, IsAsideSame, nothing}
 use Rattle.rsx_graph.specs.Steps.{no_history}
 use Rattle.rsx_verify.specs.declared.act.Act.{Act}
-use Rattle.rsx_verify.specs.declared.act.Act.TheVariants.{Request, Cancel}
+use Rattle.rsx_verify.specs.declared.act.Act.TheVariants.{Request}
 use Rattle.rsx_verify.specs.Events.{delivery, stamped}
 use Rattle.rsx_verify.specs.declared.line.Line.{Line}
 use Rattle.rsx_verify.specs.Reports.{AreLines, AreVerified, IsLine, publisher_acts, cancel_acts, bad_request_acts, processor_acts}
@@ -109,20 +105,6 @@ request_answered {T} m w i n old new o s t t' t'' first second is effect aside s
       second ∙ (ap (λ l. l ++ delivery 0 (i, s)) first ∙ append_assoc t (stamped (event.Request i.0 n) ∷ []) (delivery 0 (i, s))),
       inl (record { answer = Some s; effect = subst R is effect; aside = aside; stands = stands; recorded = refl }),
     )
-
--- one that answered nothing
-pub request_taken : {T : Type 0} (m : Meaning T) (w : ℕ) (i : SubId) (n : ℤ) (old new : GraphState T) (o : Option (Signal T)) (t t' : List Stamped) →
-    t' ≡ t ++ stamped (event.Request i.0 n) ∷ [] → o ≡ None → IsRequestedAt i.0 n old.rows.subs new.rows.subs o → IsAsideSame old new →
-    ((h : History T) → GraphStands m old h → GraphStands m new (with_past (requested n) i h)) → (more : List Stamped) × (t' ≡ t ++ more) × IsActed m w (Request i n) old more new
-request_taken {T} m w i n old new o t t' first is effect aside stands =
-    let R : Option (Signal T) → Type 0 = λ a. IsRequestedAt i.0 n old.rows.subs new.rows.subs a in
-    (stamped (event.Request i.0 n) ∷ [], first, inl (record { answer = None; effect = subst R is effect; aside = aside; stands = stands; recorded = refl }))
-
-pub cancel_taken : {T : Type 0} (m : Meaning T) (w : ℕ) (i : SubId) (old new : GraphState T) (t t' : List Stamped) →
-    t' ≡ t ++ stamped (event.Cancel i.0) ∷ [] → IsCancelledAt i.0 old.rows.subs new.rows.subs → IsAsideSame old new →
-    ((h : History T) → GraphStands m old h → GraphStands m new (with_past cancelled i h)) → (more : List Stamped) × (t' ≡ t ++ more) × IsActed m w (Cancel i) old more new
-cancel_taken m w i old new t t' first effect aside stands =
-    (stamped (event.Cancel i.0) ∷ [], first, inl (record { effect = effect; aside = aside; stands = stands; recorded = refl }))
 
 -- nothing was recorded, and nothing happened
 pub none_recorded : {T : Type 0} (i : SubId) (old new : GraphState T) (t : List Stamped) → length old.rows.subs ≤ i.0 → new ≡ old → (more : List Stamped) × (t ≡ t ++ more) × IsPassedOver i old more new

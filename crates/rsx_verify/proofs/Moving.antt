@@ -2,7 +2,7 @@
 use Rattle.std.proofs.Common.{◌≡◌, ◌≢◌, ◌⊎◌, ℕ, zero, suc, ◌==◌, Bool, true, false, ◌&&◌, ◌||◌, nat_eq, inl, inr, List, [], ◌∷◌, ◌++◌, Option, Some, None, refl, sym, ap, ◌∙◌, subst}
 use Rattle.std.specs.Prelude.{if◌then◌else◌, slice_get, slice_set}
 use Rattle.std.specs.Option.{option_to_list}
-use Rattle.std.proofs.lemmas.Bool.{and_parts, cases_eq, eq-eqb, ne_eqb}
+use Rattle.std.proofs.lemmas.Bool.{cases_eq, eq-eqb, ne_eqb}
 use Rattle.std.proofs.lemmas.List.{append-nil}
 use Rattle.std.proofs.lemmas.Option.{get_or_from_slice_get, same_Some, slice_get_within}
 use Rattle.rsx_types.specs.Meaning.{Meaning}
@@ -13,24 +13,12 @@ use Rattle.rsx_types.specs.declared.names.SubId.{SubId}
 use Rattle.rsx_types.specs.declared.names.Tree.TheVariants.{Sub, Feed as FeedOf}
 use Rattle.rsx_types.specs.declared.signal.Signal.{Signal}
 use Rattle.rsx_types.specs.declared.signal.Signal.TheVariants.{Next, Complete, Error}
-use Rattle.rsx_publishing.specs.Publishing.{AllHanded}
-use Rattle.rsx_subscriber.specs.Past.{Past, given}
-use Rattle.rsx_subscriber.specs.Standing.{delivers}
-use Rattle.rsx_pipe.specs.Crossing.{route}
-use Rattle.rsx_pipe.specs.declared.crossing.Route.TheVariants.{Straight}
+use Rattle.rsx_graph_state.specs.Prelude.{AllHanded, Subscription, changed, IsMadeAt, enabled_at, History, with_made, with_sent, IsMovedBy, is_out, Rows}
+use Rattle.rsx_subscriber.specs.Prelude.{Past, given, delivers, route, Straight, IsKeptBeside, IsMadeAnswer, IsTake, IsTakeAnswer, enabled_inside, inner_move, take_by, NodeMove}
 use Rattle.rsx_subscriber.proofs.Moves.{worked_kept}
-use Rattle.rsx_subscriber.specs.Stands.{IsKeptBeside, IsMadeAnswer, IsTake, IsTakeAnswer, enabled_inside, inner_move}
-use Rattle.rsx_subscriber.specs.declared.subscription.Subscription.{Subscription}
-use Rattle.rsx_subscriber.specs.Moves.{take_by}
-use Rattle.rsx_tree.specs.declared.look.NodeMove.{NodeMove}
-use Rattle.rsx_history.specs.History.{changed}
-use Rattle.rsx_history.specs.Stands.{IsMadeAt, enabled_at}
-use Rattle.rsx_history.proofs.Graphs.{enabled_there}
-use Rattle.rsx_feeding.specs.History.{History, with_made, with_sent}
-use Rattle.rsx_feeding.specs.Moves.{IsMovedBy, is_out}
-use Rattle.rsx_feeding.specs.Stands.{Rows}
-use Rattle.rsx_feed_driving.specs.Moves.{IsMoved, IsMovedInFeed, feed_move, is_enabled}
-use Rattle.rsx_feed_driving.specs.Pumped.{LeadTo, Made, after_moves, delivered_by}
+use Rattle.rsx_graph_state.proofs.Graphs.{enabled_there}
+use Rattle.rsx_graph_moves.specs.Moves.{IsMoved, IsMovedInFeed, feed_move, is_enabled}
+use Rattle.rsx_graph_moves.specs.Pumped.{LeadTo, Made, after_moves, delivered_by}
 use Rattle.rsx_trace.specs.declared.event.Stamped.{Stamped}
 use Rattle.rsx_verify.specs.Events.{deliveries, delivery}
 use Rattle.rsx_verify.proofs.Progress.{Progress, at, fresh, GoesOn, goes_further}
@@ -171,7 +159,7 @@ one_step {T} m me (Take (Sub i) n) (Some d) old new enabled moved answer =
           subst S (sym before) (made.new, after, inl (here ∙ is, delivering m old.subs i.0 made.old i n made.there root.0 enabled, made.effect)))
       | inr ne ↦ other_step me d (slice_get old.subs me) (slice_get new.subs me) (λ h. ne (sym here ∙ h)) (ap (λ l. slice_get l me) made.others ∙ beside_set old.subs i.0 me made.new ne)
     ]
-one_step m me (Accept h) None old new enabled moved answer = handed_step me h.0 moved.effect.0.signal old.subs new.subs moved.effect.0.handed
+one_step m me (Accept h) None old new enabled moved answer = handed_step me h.0 moved.effect.signal old.subs new.subs moved.effect.handed
 one_step m me (Accept h) (Some d) old new enabled moved answer = absurd (cc)
 
 -- ---- moves one after the other

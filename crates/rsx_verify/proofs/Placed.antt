@@ -1,15 +1,13 @@
 -- The region in which the signals of a run are delivered.
-use Rattle.std.proofs.Common.{◌≡◌, ℕ, List, [], ◌∷◌, Some, sym, ap, ◌∙◌, subst}
+use Rattle.std.proofs.Common.{◌≡◌, ℕ, List, [], ◌∷◌, sym, ap, ◌∙◌, subst}
 use Rattle.std.proofs.lemmas.Option.{same_Some}
-use Rattle.rsx_feed_edits.specs.Edits.{joins_in, with_fed_hub}
-use Rattle.rsx_feed_edits.specs.Regions.{HasRegion, region_in}
-use Rattle.rsx_feed_edits.specs.Subscribing.{with_subscriber}
-use Rattle.rsx_feeding.specs.History.{History}
+use Rattle.rsx_graph_calls.specs.Edits.{joins_in, with_fed_hub}
+use Rattle.rsx_graph_calls.specs.Regions.{HasRegion, region_in}
+use Rattle.rsx_graph_calls.specs.Subscribing.{with_subscriber}
+use Rattle.rsx_graph_state.specs.History.{History}
 use Rattle.rsx_graph.specs.Stands.{GraphStands, GraphState}
 use Rattle.rsx_graph.specs.Steps.{no_history}
-use Rattle.rsx_model.specs.declared.expr.Expr.{Expr}
-use Rattle.rsx_region.specs.Region.{region_of}
-use Rattle.rsx_subscriber.specs.Past.{Past, subscribed}
+use Rattle.rsx_subscriber.specs.Prelude.{Expr, region_of, Past, subscribed}
 use Rattle.rsx_types.specs.Meaning.{Meaning}
 use Rattle.rsx_types.specs.declared.names.HubKind.TheVariants.{Multicast}
 use Rattle.rsx_verify.specs.Runs.{IsBegun, IsProcessing, reader}

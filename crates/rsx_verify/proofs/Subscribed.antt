@@ -12,13 +12,9 @@ use Rattle.rsx_subscription.specs.declared.State.{State}
 use Rattle.rsx_subscription.specs.declared.State.TheVariants.{Fresh, Open as StateOpen, Cancelled as StateCancelled, Done, Failed}
 use Rattle.rsx_subscription.specs.declared.Effect.TheVariants.{Deliver}
 use Rattle.rsx_subscription.specs.declared.Refusal.TheVariants.{Overrun}
-use Rattle.rsx_subscriber.specs.Edited.{IsCancelled, IsRequested, IsShut}
-use Rattle.rsx_subscriber.specs.Past.{request_answer}
-use Rattle.rsx_subscriber.specs.Standing.{delivers, input_of, is_delivery, standing}
-use Rattle.rsx_subscriber.specs.Stands.{IsKeptBeside, IsTake, standing_of}
-use Rattle.rsx_subscriber.specs.declared.state.SubscriptionState.{SubscriptionState}
+use Rattle.rsx_subscriber.specs.Prelude.{IsCancelled, IsRequested, IsShut, request_answer, delivers, input_of, is_delivery, standing, IsKeptBeside, IsTake, standing_of}
+use Rattle.rsx_graph_state.specs.Prelude.{SubscriptionState, Subscription}
 use Rattle.rsx_subscriber.specs.declared.state.SubscriptionState.TheVariants.{Open, Ended, Cancelled, Refused}
-use Rattle.rsx_subscriber.specs.declared.subscription.Subscription.{Subscription}
 use Rattle.rsx_trace.specs.declared.event.Event.{Event}
 use Rattle.rsx_trace.specs.declared.event.Event.TheVariants as event
 use Rattle.rsx_trace.specs.declared.event.Stamped.{Stamped}

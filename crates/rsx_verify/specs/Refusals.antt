@@ -1,9 +1,8 @@
 -- Why an expression isn't run.
 use Rattle.std.specs.Prelude.{◌≡◌, ℕ, List, Some, None, codes}
-use Rattle.rsx_model.specs.Check.{refusal}
-use Rattle.rsx_model.specs.declared.expr.Expr.{Expr}
-use Rattle.rsx_history.specs.declared.refusal.Refusal.{Refusal}
-use Rattle.rsx_history.specs.declared.refusal.Refusal.TheVariants as graph
+use Rattle.rsx_subscriber.specs.Prelude.{refusal, Expr}
+use Rattle.rsx_graph_state.specs.declared.refusal.Refusal.{Refusal}
+use Rattle.rsx_graph_state.specs.declared.refusal.Refusal.TheVariants as graph
 use Rattle.rsx_verify.specs.declared.refusal.VerifyRefusal.{VerifyRefusal}
 use Rattle.rsx_verify.specs.declared.refusal.VerifyRefusal.TheVariants.{BadExpr, NoMemory}
 

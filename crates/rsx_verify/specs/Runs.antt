@@ -3,26 +3,17 @@ use Rattle.std.specs.Prelude.{◌≡◌, ◌⊎◌, ℕ, ℤ, ◌≤◌, List, [
 use Rattle.rsx_trace.specs.declared.event.Event.TheVariants as event
 use Rattle.rsx_trace.specs.declared.event.Stamped.{Stamped}
 use Rattle.rsx_types.specs.Meaning.{Meaning}
-use Rattle.rsx_types.specs.declared.names.HubId.{HubId}
 use Rattle.rsx_types.specs.declared.names.HubKind.TheVariants.{Multicast}
 use Rattle.rsx_types.specs.declared.names.SubId.{SubId}
 use Rattle.rsx_types.specs.declared.signal.Signal.{Signal}
-use Rattle.rsx_model.specs.declared.expr.Expr.{Expr}
-use Rattle.rsx_model.specs.declared.expr.Expr.TheVariants.{Hub}
-use Rattle.rsx_region.specs.Region.{region_of}
-use Rattle.rsx_hub.specs.Hub.{HubState}
-use Rattle.rsx_publishing.specs.declared.feed.Feed.{Feed}
-use Rattle.rsx_subscriber.specs.declared.subscription.Subscription.{Subscription}
-use Rattle.rsx_history.specs.Begun.{HaveJoined, IsSubscribed}
-use Rattle.rsx_history.specs.Stands.{IsCancelledAt, IsRequestedAt}
-use Rattle.rsx_history.specs.declared.step.Pumped.{Pumped}
-use Rattle.rsx_subscriber.specs.Past.{cancelled, requested}
-use Rattle.rsx_feeding.specs.History.{History}
-use Rattle.rsx_feed_driving.specs.Pumped.{HasEnded, LeadTo, Made, after_moves, delivered_by}
-use Rattle.rsx_feed_edits.specs.Edits.{IsFedHubMade, with_fed_hub}
-use Rattle.rsx_feed_edits.specs.Requests.{with_past}
+use Rattle.rsx_subscriber.specs.Prelude.{Expr, Hub, region_of, cancelled, requested}
+use Rattle.rsx_graph_state.specs.Prelude.{HubState, Subscription, HaveJoined, IsSubscribed, IsCancelledAt, IsRequestedAt, History}
+use Rattle.rsx_graph_state.specs.declared.step.Pumped.{Pumped}
+use Rattle.rsx_graph_moves.specs.Pumped.{HasEnded, LeadTo, Made, after_moves, delivered_by}
+use Rattle.rsx_graph_calls.specs.Edits.{IsFedHubMade, with_fed_hub}
+use Rattle.rsx_graph_calls.specs.Requests.{with_past}
 use Rattle.rsx_graph.specs.Stands.{AreJoinsSame, GraphStands, GraphState, IsAsideSame}
-use Rattle.rsx_feed_edits.specs.Subscribing.{with_subscriber}
+use Rattle.rsx_graph_calls.specs.Subscribing.{with_subscriber}
 use Rattle.rsx_graph.specs.Steps.{no_history}
 use Rattle.rsx_verify.specs.declared.act.Act.{Act}
 use Rattle.rsx_verify.specs.declared.act.Act.TheVariants.{Request, Cancel, Pump}

@@ -2,14 +2,8 @@
 use Rattle.std.proofs.Common.{◌≡◌, ℕ, zero, suc, ◌+◌, ◌-◌, nat_le, true, false, List, [], ◌∷◌, ◌++◌, drop, length, refl, ap, ◌∙◌, arith, append_assoc, length-append}
 use Rattle.std.proofs.lemmas.Bool.Decides.{nat_tests}
 use Rattle.std.proofs.Math.Seq.{drop-nil}
-use Rattle.rsx_types.specs.declared.signal.Ending.{Ending}
-use Rattle.rsx_types.specs.declared.signal.Ending.TheVariants.{Open, Done, Failed}
-use Rattle.rsx_types.specs.declared.stage.Stage.{Stage}
-use Rattle.rsx_types.specs.Meaning.{Meaning}
-use Rattle.rsx_types.specs.Plain.{chained, taken_items}
-use Rattle.rsx_types.specs.Stream.{Stream, ended_by, item_then, items_then}
-use Rattle.rsx_choices.specs.Concat.{value_then, concat}
-use Rattle.rsx_lanes.specs.Window.{window, windows, last_window, windows_and_main}
+use Rattle.rsx_sources.specs.Prelude.{Ending, Open, Done, Failed, Stage, Meaning, chained, taken_items, Stream, ended_by, item_then, items_then}
+use Rattle.rsx_values.specs.Prelude.{value_then, concat, window, windows, last_window, windows_and_main}
 use Rattle.rsx_window.specs.Cut.{window_rest, behind}
 
 full_with : (n s : ℕ) → n - 1 ≡ s + 0 → nat_le n (s + 1) ≡ true

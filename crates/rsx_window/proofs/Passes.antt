@@ -1,27 +1,21 @@
 -- An item that goes through a window with an empty chain in one go.
-use Rattle.std.proofs.Common.{◌≡◌, ℕ, zero, suc, ◌+◌, ◌-◌, ◌<◌, min, ◌&&◌, Bool, true, false, List, [], ◌∷◌, length, option_map, refl, ap, sym, ◌∙◌, subst, arith}
+use Rattle.std.proofs.Common.{◌≡◌, ℕ, zero, suc, ◌+◌, ◌-◌, ◌<◌, min, ◌&&◌, Bool, true, false, List, [], ◌∷◌, length, refl, ap, sym, ◌∙◌, subst, arith}
 use Rattle.std.specs.Prelude.{not}
+use Rattle.std.proofs.lemmas.List.{nil_from_length}
+use Rattle.std.proofs.lemmas.Bool.{both_ways, and_parts, not-true}
 use Rattle.rsx_demand.specs.Demand.{saturating_total}
 use Rattle.rsx_demand.specs.declared.TheConstants.{UNBOUNDED}
-use Rattle.rsx_types.specs.declared.note.Note.{Note}
-use Rattle.rsx_types.specs.declared.note.Note.TheVariants.{Nothing, Picks, Ended}
-use Rattle.rsx_types.specs.declared.signal.Signal.{Signal}
-use Rattle.rsx_types.specs.declared.signal.Signal.TheVariants.{Next}
-use Rattle.rsx_types.specs.declared.stage.Stage.{Stage}
-use Rattle.rsx_types.specs.Meaning.{Meaning}
-use Rattle.rsx_types.specs.Stream.{Stream, item_then, signal_then, signals_then}
-use Rattle.rsx_sources.specs.Machine.{quiet}
-use Rattle.rsx_sources.specs.Passed.{IsTakenIn, IsItemOut, IsPassed}
-use Rattle.rsx_sources.specs.Slot.{is_nil}
+use Rattle.rsx_sources.specs.Prelude.{Nothing, Signal, Next, Stage, Meaning, Stream, item_then, signals_then, quiet, IsTakenIn, IsItemOut, IsPassed, is_nil}
 use Rattle.rsx_sources.specs.declared.machine.Passed.TheVariants.{Item, Kept}
-use Rattle.rsx_pending.specs.Signals.{has_ending}
-use Rattle.rsx_chain.specs.declared.chain.ChainState.{End}
+use Rattle.rsx_collections.specs.Signals.{has_ending}
+use Rattle.rsx_plain.specs.declared.chain.ChainState.{End}
 use Rattle.rsx_window.specs.Cut.{window_left, is_over, IsOpen, GoesThrough}
 use Rattle.rsx_window.specs.Window.{window_comes_out, window_waiting, window_takes, window_ended, window_done, IsPoppedWindow, CountsItems}
 use Rattle.rsx_window.specs.declared.node.WindowNode.{WindowNode}
 use Rattle.rsx_window.specs.declared.current.CurrentWindow.{CurrentWindow}
 use Rattle.rsx_window.specs.declared.current.CurrentWindow.TheVariants.{Running, Passing}
 use Rattle.rsx_window.proofs.Cuts.{window_first}
+use Rattle.rsx_sources.proofs.Slots.{nil_of, quiet_then}
 
 -- the window that is started takes an item that isn't its last
 next_left : {T : Type 0} (m : Meaning T) (n : ℕ) (gs : List (Stage T)) (k : ℕ) (x : T) (v : Stream T) → window_left m n gs (Running End (suc k)) (item_then x v) ≡ item_then x (window_left m n gs (Running End k) v)
@@ -38,14 +32,10 @@ next_of n gs (suc k) x some = let same : suc k - 1 ≡ k = omega arith in rw sam
 pub next_passes : {T : Type 0} (n : ℕ) (gs : List (Stage T)) (old new : CurrentWindow T) (more : ℕ) (x : T) → old ≡ Running End more → (more ≡ 0 → ⊥) → new ≡ Running End (more - 1) → GoesThrough n gs old x (Item x) new
 next_passes n gs old new more x is some after = rw (is, after) (next_of n gs more x some)
 
-none_stand : {A : Type 0} (xs : List A) → length xs ≡ 0 → xs ≡ []
-none_stand [] e = refl
-none_stand (x ∷ xs) e = cc
-
 pub first_passes : {T : Type 0} (n : ℕ) (gs : List (Stage T)) (old new : CurrentWindow T) (x : T) → old ≡ Passing 0 → length gs ≡ 0 → 1 < n → new ≡ Running End (n - 2) → GoesThrough n gs old x (Item x) new
 first_passes n gs old new x is none large after =
     let k : n - 1 ≡ suc (n - 2) = omega (arith, large) in
-    rw (is, none_stand gs none, after) ((refl, refl), λ m v. first_left m n (suc (n - 2)) x v k ∙ next_left m n [] (n - 2) x v)
+    rw (is, nil_from_length gs none, after) ((refl, refl), λ m v. first_left m n (suc (n - 2)) x v k ∙ next_left m n [] (n - 2) x v)
 
 kept_of : {T : Type 0} (n : ℕ) (gs : List (Stage T)) (k : ℕ) (x : T) → (k ≡ 0 → ⊥) → GoesThrough n gs (Passing k) x Kept (Passing (k - 1))
 kept_of n gs zero x some = absurd (some refl)
@@ -60,10 +50,6 @@ skipped_passes n gs old new k x is some after = rw (is, after) (kept_of n gs k x
 abbrev behind_item : {T : Type 0} → WindowNode T → CurrentWindow T → List (Signal T) → Bool → WindowNode T
 behind_item n c out halfway = record n { current = c; pending = record { left = out; room = n.pending.room }; halfway = halfway; got = saturating_total n.got 1 }
 
-clash : (b : Bool) → b ≡ false → b ≡ true → ⊥
-clash true e f = cc
-clash false e f = cc
-
 one_got : (got items : ℕ) → got ≡ min UNBOUNDED items → saturating_total got 1 ≡ min UNBOUNDED (items + 1)
 one_got got items e = omega (arith, e)
 
@@ -75,7 +61,7 @@ taken_in m n c out i x first empty open_still none opens moves = record {
   value = λ inc further. rw (first, empty) (ap (quiet further) (sym (moves inc.first)));
   notes = refl;
   counts = record {
-    stays_ended = λ e. absurd (clash (has_ending n.pending.left) (ap has_ending empty) e);
+    stays_ended = λ e. absurd (both_ways (has_ending n.pending.left) (ap has_ending empty) e);
     counts = λ still taken sent h. record {
       open_still = opens.0;
       goes_on = opens.1;
@@ -83,48 +69,27 @@ taken_in m n c out i x first empty open_still none opens moves = record {
       at = rw (first, h.at) refl;
       got = one_got n.got h.items h.got;
     };
-    stays_done = λ j d. absurd (clash (is_over n.current) open_still d);
+    stays_done = λ j d. absurd (both_ways (is_over n.current) open_still d);
     is_done = λ going e. cc;
   };
   goes_on = none;
 }
-
-item_first : {T : Type 0} (y : T) (further : Note) (v : Stream T) → quiet further (item_then y v) ≡ option_map (signal_then (Next y)) (quiet further v)
-item_first y Nothing v = refl
-item_first y (Picks cs) v = refl
-item_first y (Ended o) v = refl
 
 item_out : {T : Type 0} (m : Meaning T) (n : WindowNode T) (c : CurrentWindow T) (y : T) → 0 < n.pending.room →
     IsItemOut (window_comes_out m) (window_waiting m) IsPoppedWindow (λ k. Nothing) CountsItems window_ended window_done (behind_item n c (Next y ∷ []) false) y (behind_item n c [] true)
 item_out m n c y space = record {
   waited = refl;
   popped_out = record { signal = refl; room = refl; space = space; size = refl; stages = refl; current = refl; halfway = refl; got = refl };
-  value = λ inc further. item_first y further (window_left m n.size n.stages.items c inc.first);
+  value = λ inc further. quiet_then (Next y) further (window_left m n.size n.stages.items c inc.first);
   notes = refl;
   counts = (refl, λ taken sent h. record { open_still = h.open_still; goes_on = h.goes_on; items = h.items; at = h.at; got = h.got }, λ j d. d);
 }
 
-nil_of : {A : Type 0} (xs : List A) → is_nil xs ≡ true → xs ≡ []
-nil_of [] e = refl
-nil_of (x ∷ xs) e = cc
-
-and_left : (a b : Bool) → a && b ≡ true → a ≡ true
-and_left true b e = refl
-and_left false b e = cc
-
-and_right : (a b : Bool) → a && b ≡ true → b ≡ true
-and_right true b e = e
-and_right false b e = cc
-
-not_true : (b : Bool) → not b ≡ true → b ≡ false
-not_true true e = cc
-not_true false e = refl
-
 empty_of : {T : Type 0} (n : WindowNode T) → is_nil n.pending.left && not (is_over n.current) ≡ true → n.pending.left ≡ []
-empty_of n ready = nil_of n.pending.left (and_left (is_nil n.pending.left) (not (is_over n.current)) ready)
+empty_of n ready = nil_of n.pending.left (and_parts (is_nil n.pending.left) (not (is_over n.current)) ready).0
 
 open_of : {T : Type 0} (n : WindowNode T) → is_nil n.pending.left && not (is_over n.current) ≡ true → is_over n.current ≡ false
-open_of n ready = not_true (is_over n.current) (and_right (is_nil n.pending.left) (not (is_over n.current)) ready)
+open_of n ready = not-true (is_over n.current) (and_parts (is_nil n.pending.left) (not (is_over n.current)) ready).1
 
 -- an item went through the node
 pub item_passed_on : {T : Type 0} (m : Meaning T) (n : WindowNode T) (gs : List (Stage T)) (c : CurrentWindow T) (got i : ℕ) (x y : T) → i ≡ 0 → is_nil n.pending.left && not (is_over n.current) ≡ true → 0 < n.pending.room → gs ≡ n.stages.items →

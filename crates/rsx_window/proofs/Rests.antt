@@ -1,28 +1,16 @@
 -- What still comes out, copied part by part.
-use Rattle.std.proofs.Common.{◌≡◌, ℕ, zero, suc, ◌-◌, ◌<◌, ◌≤◌, List, [], ◌∷◌, ◌++◌, take, drop, length, Some, refl, ap, sym, ◌∙◌, arith, append_assoc, subst}
+use Rattle.std.proofs.Common.{◌≡◌, ℕ, zero, suc, ◌-◌, ◌<◌, ◌≤◌, List, [], ◌∷◌, ◌++◌, take, drop, length, Some, refl, ap, sym, ◌∙◌, arith, append_assoc}
 use Rattle.std.specs.Prelude.{⊤}
-use Rattle.std.proofs.lemmas.List.{append-nil}
-use Rattle.rsx_types.specs.declared.note.Note.{Note}
-use Rattle.rsx_types.specs.declared.note.Note.TheVariants.{Nothing, Picks, Ended}
-use Rattle.rsx_types.specs.declared.signal.Ending.{Ending}
-use Rattle.rsx_types.specs.declared.signal.Ending.TheVariants.{Open, Done, Failed}
-use Rattle.rsx_types.specs.declared.signal.Signal.{Signal}
-use Rattle.rsx_types.specs.declared.stage.Stage.{Stage}
-use Rattle.rsx_types.specs.Meaning.{Meaning}
-use Rattle.rsx_types.specs.Notes.{note_then}
-use Rattle.rsx_types.specs.Plain.{chained, taken_items}
-use Rattle.rsx_types.specs.Stream.{Stream, ended_by, item_then, items_then, signals_then}
-use Rattle.rsx_sources.specs.Machine.{incoming_of}
-use Rattle.rsx_choices.specs.Concat.{unless_open, value_then}
-use Rattle.rsx_chain.specs.Emissions.{followed_by}
-use Rattle.rsx_lanes.specs.Window.{window}
-use Rattle.rsx_window.specs.Cut.{window_rest, window_left, first_value}
+use Rattle.rsx_sources.specs.Prelude.{Note, Nothing, Picks, Ended, Ending, Open, Done, Signal, Stage, Meaning, note_then, chained, taken_items, Stream, item_then, items_then, signals_then, incoming_of, head_of}
+use Rattle.rsx_values.specs.Prelude.{value_then, window}
+use Rattle.rsx_plain.specs.Emissions.{followed_by}
+use Rattle.rsx_sources.proofs.Incomings.{first_in}
+use Rattle.rsx_window.specs.Cut.{window_rest, window_left}
 use Rattle.rsx_window.specs.Window.{windows_of}
 use Rattle.rsx_window.specs.declared.current.CurrentWindow.{CurrentWindow}
 use Rattle.rsx_window.proofs.Cuts.{window_first}
-
-stream_is : {T : Type 0} (xs ys : List T) (e f : Ending) → xs ≡ ys → e ≡ f → ◌≡◌ {A = Stream T} (record { items = xs; ending = e }) (record { items = ys; ending = f })
-stream_is xs ys e f p q = λ i. record { items = p i; ending = q i }
+use Rattle.rsx_values.proofs.Behind.{goes_on, stops, stream_is}
+use Rattle.rsx_plain.proofs.Followed.{followed_ended}
 
 -- ---- the items of one window
 
@@ -50,33 +38,9 @@ chain_open old mid first x whole r e put ends o is h =
     let open_first : first.ending ≡ Open = sym ends ∙ o in
     h ∙ (ap (λ l. items_then l x) put ∙ (stream_is ((old ++ first.items) ++ x.items) (old ++ (first.items ++ x.items)) x.ending x.ending (append_assoc old first.items x.items) refl ∙ ap (items_then old) (sym (is ∙ rw open_first refl))))
 
-cut_value : {T : Type 0} (first x : Stream T) (e : Ending) → first.ending ≡ e → (e ≡ Open → ⊥) → ◌≡◌ {A = Stream T} (followed_by first x) (record { items = first.items; ending = e })
-cut_value first x Open is n = absurd (n refl)
-cut_value first x Done is n = rw is (stream_is (first.items ++ []) first.items Done Done (append-nil first.items) refl)
-cut_value first x (Failed c) is n = rw is (stream_is (first.items ++ []) first.items (Failed c) (Failed c) (append-nil first.items) refl)
-
 -- it was over from the start
 pub chain_ended : {T : Type 0} (old mid : List T) (first x whole : Stream T) (e : Ending) → mid ≡ old ++ first.items → e ≡ first.ending → (e ≡ Open → ⊥) → whole ≡ followed_by first x → ◌≡◌ {A = Stream T} (record { items = mid; ending = e }) (items_then old whole)
-chain_ended old mid first x whole e put ends n is = stream_is mid (old ++ first.items) e e put refl ∙ ap (items_then old) (sym (is ∙ cut_value first x e (sym ends) n))
-
--- ---- one value behind the other
-
-pub goes_on : {T : Type 0} (old new : List T) (e : Ending) (w rest : Stream T) → ◌≡◌ {A = Stream T} (record { items = new; ending = e }) (items_then old w) → e ≡ Done → items_then new rest ≡ items_then old (value_then w rest)
-goes_on old new e w rest copied d =
-    let items : new ≡ old ++ w.items = ap (λ v. v.items) copied in
-    let ending : w.ending ≡ Done = sym (ap (λ v. v.ending) copied) ∙ d in
-    rw (ending, items) (stream_is ((old ++ w.items) ++ rest.items) (old ++ (w.items ++ rest.items)) rest.ending rest.ending (append_assoc old w.items rest.items) refl)
-
-cut : {T : Type 0} (e : Ending) (rest : Stream T) → (e ≡ Done → ⊥) → unless_open e rest ≡ ended_by e
-cut Open rest n = refl
-cut Done rest n = absurd (n refl)
-cut (Failed c) rest n = refl
-
-pub stops : {T : Type 0} (old new : List T) (e : Ending) (w rest : Stream T) → ◌≡◌ {A = Stream T} (record { items = new; ending = e }) (items_then old w) → (e ≡ Done → ⊥) → ◌≡◌ {A = Stream T} (record { items = new; ending = e }) (items_then old (value_then w rest))
-stops {T} old new e w rest copied n =
-    let ending : e ≡ w.ending = ap (λ v. v.ending) copied in
-    let P : Ending → Type 0 = λ f. f ≡ Done → ⊥ in
-    copied ∙ (stream_is (old ++ w.items) (old ++ (w.items ++ [])) w.ending w.ending (ap (λ l. old ++ l) (sym (append-nil w.items))) refl ∙ ap (λ u. items_then old (items_then w.items u)) (sym (cut w.ending rest (subst P ending n))))
+chain_ended old mid first x whole e put ends n is = stream_is mid (old ++ first.items) e e put refl ∙ ap (items_then old) (sym (is ∙ followed_ended first x e (sym ends) n))
 
 -- ---- windows one behind the other
 
@@ -103,17 +67,13 @@ last_window_out m n gs more left e last first old new whole size some part put n
 
 -- ---- the whole
 
-first_in : {T : Type 0} (hubs vs : List (Stream T)) → (incoming_of hubs vs).first ≡ first_value vs
-first_in hubs [] = refl
-first_in hubs (v ∷ vs) = refl
-
 pub owed : {T : Type 0} (m : Meaning T) (size : ℕ) (gs : List (Stage T)) (waits : List (Signal T)) (current : CurrentWindow T) (incoming : List (Stream T)) (xs none out : List T) (e last : Ending) (w v : Stream T) →
-    xs ≡ (first_value incoming).items → e ≡ (first_value incoming).ending → none ≡ [] → ◌≡◌ {A = Stream T} (record { items = out; ending = last }) (items_then none (window_left m size gs current (record { items = xs; ending = e }))) →
+    xs ≡ (head_of incoming).items → e ≡ (head_of incoming).ending → none ≡ [] → ◌≡◌ {A = Stream T} (record { items = out; ending = last }) (items_then none (window_left m size gs current (record { items = xs; ending = e }))) →
     w.items ≡ out → w.ending ≡ last → v ≡ signals_then waits w →
     (hubs : List (Stream T)) (further : Note) → ⊤ → note_then Nothing further ≡ Nothing → windows_of m size gs waits current (incoming_of hubs incoming) further ≡ Some v
 owed {T} m size gs waits current incoming xs none out e last w v items ends empty left o l is hubs Nothing b f =
-    let v_in : ◌≡◌ {A = Stream T} (record { items = xs; ending = e }) (first_value incoming) = stream_is xs (first_value incoming).items e (first_value incoming).ending items ends in
-    let w_is : w ≡ window_left m size gs current (first_value incoming) = stream_is w.items out w.ending last o l ∙ (left ∙ (ap (λ z. items_then z (window_left m size gs current (record { items = xs; ending = e }))) empty ∙ ap (window_left m size gs current) v_in)) in
+    let v_in : ◌≡◌ {A = Stream T} (record { items = xs; ending = e }) (head_of incoming) = stream_is xs (head_of incoming).items e (head_of incoming).ending items ends in
+    let w_is : w ≡ window_left m size gs current (head_of incoming) = stream_is w.items out w.ending last o l ∙ (left ∙ (ap (λ z. items_then z (window_left m size gs current (record { items = xs; ending = e }))) empty ∙ ap (window_left m size gs current) v_in)) in
     ap Some (ap (λ z. signals_then waits (window_left m size gs current z)) (first_in hubs incoming) ∙ (ap (signals_then waits) (sym w_is) ∙ sym is))
 owed m size gs waits current incoming xs none out e last w v items ends empty left o l is hubs (Picks cs) b f = cc
 owed m size gs waits current incoming xs none out e last w v items ends empty left o l is hubs (Ended n) b f = cc

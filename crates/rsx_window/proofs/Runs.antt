@@ -1,24 +1,17 @@
 -- What comes out of a started window by a signal of the input.
-use Rattle.std.proofs.Common.{◌≡◌, ℕ, zero, suc, ◌-◌, Bool, true, false, List, [], ◌∷◌, Option, Some, None, refl, ap, sym, ◌∙◌, arith}
-use Rattle.rsx_types.specs.declared.signal.Cause.{Cause}
-use Rattle.rsx_types.specs.declared.signal.Ending.{Ending}
-use Rattle.rsx_types.specs.declared.signal.Ending.TheVariants.{Open, Done, Failed}
-use Rattle.rsx_types.specs.declared.signal.Signal.{Signal}
-use Rattle.rsx_types.specs.declared.signal.Signal.TheVariants.{Next}
-use Rattle.rsx_types.specs.declared.stage.Stage.{Stage}
-use Rattle.rsx_types.specs.Meaning.{Meaning}
-use Rattle.rsx_types.specs.Stream.{Stream, ended_by, item_then, items_then, signals_then}
-use Rattle.rsx_operators.specs.Emission.{item_or, emission_then}
-use Rattle.rsx_operators.specs.Moves.{Moves, has_ended, ended_or}
-use Rattle.rsx_pending.specs.Signals.{has_ending, put_out}
-use Rattle.rsx_operators.specs.declared.prepared.Emission.{Emission}
-use Rattle.rsx_choices.specs.Concat.{value_then}
-use Rattle.rsx_lanes.specs.Window.{window}
-use Rattle.rsx_chain.specs.Chain.{chain_from, chain_over, MovesEmission}
-use Rattle.rsx_chain.specs.declared.chain.ChainState.{ChainState}
+use Rattle.std.proofs.Common.{◌≡◌, ℕ, zero, suc, ◌-◌, true, false, List, [], ◌∷◌, Option, Some, None, refl, ap, sym, ◌∙◌, arith}
+use Rattle.rsx_types.proofs.Booleans.{false_from_absurd}
+use Rattle.rsx_sources.specs.Prelude.{Cause, Ending, Open, Done, Failed, Signal, Next, Stage, Meaning, Stream, ended_by, item_then, items_then, signals_then}
+use Rattle.rsx_plain.specs.Emission.{item_or, emission_then}
+use Rattle.rsx_plain.specs.Moves.{Moves, has_ended, ended_or}
+use Rattle.rsx_collections.specs.Signals.{has_ending, put_out}
+use Rattle.rsx_plain.specs.declared.prepared.Emission.{Emission}
+use Rattle.rsx_values.specs.Prelude.{value_then, window}
+use Rattle.rsx_plain.specs.Chain.{chain_from, chain_over, MovesEmission}
+use Rattle.rsx_plain.specs.declared.chain.ChainState.{ChainState}
 use Rattle.rsx_window.specs.Cut.{window_rest, behind, window_left, is_over, GoesOn, TakesItem, Begins, unless_done, window_after, last_ending, ClosesWith}
 use Rattle.rsx_window.specs.declared.current.CurrentWindow.{CurrentWindow}
-use Rattle.rsx_window.specs.declared.current.CurrentWindow.TheVariants.{Running, Passing, Over}
+use Rattle.rsx_window.specs.declared.current.CurrentWindow.TheVariants.{Running, Passing}
 use Rattle.rsx_window.specs.declared.current.Begun.{Begun}
 use Rattle.rsx_window.proofs.Cuts.{window_first, nothing_behind}
 
@@ -102,12 +95,8 @@ over_after xs y c more f e put next less p after = rw (p, less, after) (over_ite
 
 -- ---- whether the chain goes on
 
-not_over : (b : Bool) → (b ≡ true → false ≡ true) → b ≡ false
-not_over true h = sym (h refl)
-not_over false h = refl
-
 chain_goes_on : {T : Type 0} (c : ChainState T) (more : ℕ) (e : Ending) → (chain_over c ≡ true → has_ended e ≡ true) → GoesOn (window_after c more e)
-chain_goes_on c more Open h = not_over (chain_over c) h
+chain_goes_on c more Open h = false_from_absurd (chain_over c) h
 chain_goes_on c more Done h = tt
 chain_goes_on c more (Failed f) h = tt
 
@@ -143,29 +132,3 @@ running_closes m n gs old new more e out v moves he hf =
 pub chain_closes : {T : Type 0} (m : Meaning T) (current : CurrentWindow T) (old new : ChainState T) (more : ℕ) (e : Ending) (out : Emission T) → current ≡ Running old more → MovesEmission m old (record { item = None; ending = e }) out new → has_ended e ≡ true → has_ended out.ending ≡ true →
     ClosesWith m current e out
 chain_closes {T} m current old new more e out is moves he hf n gs v o = rw is (running_closes m n gs old new more e out v moves he hf)
-
-passing_closes : {T : Type 0} (m : Meaning T) (n : ℕ) (gs : List (Stage T)) (left : ℕ) (e : Ending) (v : Stream T) → has_ended e ≡ true → window_left m n gs (Passing left) (ended_by e) ≡ signals_then (put_out [] None e) v
-passing_closes m n gs left e v he = nothing_behind m n left gs e ∙ ended_front None e v he
-
--- no window is started
-pub none_closes : {T : Type 0} (m : Meaning T) (current : CurrentWindow T) (e : Ending) → ((c : ChainState T) (more : ℕ) → current ≡ Running c more → ⊥) → has_ended e ≡ true → ClosesWith m current e (record { item = None; ending = Done })
-none_closes m (Running c more) e not he n gs v o = absurd (not c more refl)
-none_closes m (Passing left) e not he n gs v o = passing_closes m n gs left e v he
-none_closes m Over e not he n gs v o = cc
-
--- the ending of the whole is among the signals
-pub closed_over : {T : Type 0} (xs : List T) (y : Option T) (f e : Ending) (put : List (Signal T)) → has_ended e ≡ true → put ≡ put_out xs y (last_ending f e) → has_ending put ≡ true
-closed_over xs y f e put he p = rw p (here xs y (last_ending f e) (ended f e he))
-  where
-    ended : (f e : Ending) → has_ended e ≡ true → has_ended (last_ending f e) ≡ true
-    ended Open e he = he
-    ended Done e he = he
-    ended (Failed c) e he = refl
-
-    here : {T : Type 0} (xs : List T) (y : Option T) (e : Ending) → has_ended e ≡ true → has_ending (put_out xs y e) ≡ true
-    here (x ∷ xs) y e he = here xs y e he
-    here [] y Open he = cc
-    here [] None Done he = refl
-    here [] (Some z) Done he = refl
-    here [] None (Failed c) he = refl
-    here [] (Some z) (Failed c) he = refl

@@ -1,19 +1,12 @@
 -- What still comes out of a `window` that has taken some of its input.
-use Rattle.std.specs.Prelude.{◌≡◌, ⊤, ℕ, suc, ◌-◌, Bool, true, false, List, [], ◌∷◌, drop}
-use Rattle.rsx_types.specs.declared.signal.Ending.{Ending}
-use Rattle.rsx_types.specs.declared.signal.Ending.TheVariants.{Open, Done, Failed}
-use Rattle.rsx_types.specs.declared.signal.Signal.{Signal}
-use Rattle.rsx_types.specs.declared.stage.Stage.{Stage}
-use Rattle.rsx_types.specs.Meaning.{Meaning}
-use Rattle.rsx_types.specs.Plain.{chained, taken_items}
-use Rattle.rsx_types.specs.Stream.{Stream, ended_by, item_then, items_then, signals_then}
-use Rattle.rsx_operators.specs.Emission.{emission_then}
-use Rattle.rsx_operators.specs.declared.prepared.Emission.{Emission}
-use Rattle.rsx_choices.specs.Concat.{value_then}
-use Rattle.rsx_lanes.specs.Window.{window}
-use Rattle.rsx_chain.specs.Chain.{chain_from, chain_over}
-use Rattle.rsx_pending.specs.Signals.{put_out}
-use Rattle.rsx_chain.specs.declared.chain.ChainState.{ChainState}
+use Rattle.std.specs.Prelude.{◌≡◌, ⊤, ℕ, suc, ◌-◌, Bool, true, false, List, [], drop}
+use Rattle.rsx_sources.specs.Prelude.{Ending, Open, Done, Failed, Signal, Stage, Meaning, chained, taken_items, Stream, ended_by, item_then, items_then, signals_then}
+use Rattle.rsx_plain.specs.Emission.{emission_then}
+use Rattle.rsx_plain.specs.declared.prepared.Emission.{Emission}
+use Rattle.rsx_values.specs.Prelude.{value_then, window}
+use Rattle.rsx_plain.specs.Chain.{chain_from, chain_over}
+use Rattle.rsx_collections.specs.Signals.{put_out}
+use Rattle.rsx_plain.specs.declared.chain.ChainState.{ChainState}
 use Rattle.rsx_sources.specs.declared.machine.Passed.{Passed}
 use Rattle.rsx_sources.specs.declared.machine.Passed.TheVariants.{Item, Kept, Declined}
 use Rattle.rsx_window.specs.declared.current.CurrentWindow.{CurrentWindow}
@@ -34,11 +27,6 @@ abbrev pub window_left : {T : Type 0} → Meaning T → ℕ → List (Stage T) �
 window_left m n gs (Running c more) v = value_then (chain_from m c (window_rest (suc more) v)) (window m n gs (behind (suc more) v))
 window_left m n gs (Passing left) v = window m n gs (behind left v)
 window_left m n gs Over v = ended_by Open
-
--- the value that comes in at the first input; where none is named, nothing comes
-abbrev pub first_value : {T : Type 0} → List (Stream T) → Stream T
-first_value [] = ended_by Open
-first_value (v ∷ vs) = v
 
 abbrev pub is_over : {T : Type 0} → CurrentWindow T → Bool
 is_over (Running c more) = false

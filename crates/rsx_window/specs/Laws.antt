@@ -4,36 +4,16 @@ use Rattle.std.proofs.Common.{inl, inr, ap, subst, arith}
 use Rattle.std.proofs.lemmas.Bool.Decides.{nat_tests}
 use Rattle.rsx_demand.specs.Demand.{saturating_total}
 use Rattle.rsx_demand.specs.declared.TheConstants.{UNBOUNDED}
-use Rattle.rsx_types.specs.declared.note.Note.{Note}
-use Rattle.rsx_types.specs.declared.signal.Signal.{Signal}
-use Rattle.rsx_types.specs.declared.signal.Signal.TheVariants.{Next, Complete, Error}
-use Rattle.rsx_types.specs.declared.stage.Stage.{Stage}
-use Rattle.rsx_types.specs.Meaning.{Meaning}
-use Rattle.rsx_types.specs.Stream.{Stream, item_then, signals_then}
-use Rattle.rsx_sources.specs.Counts.{AreWithin, CanStep, IsHungry, ends_input}
-use Rattle.rsx_sources.specs.Machine.{Incoming, incoming_of, quiet}
-use Rattle.rsx_pending.specs.Signals.{has_ending}
+use Rattle.rsx_sources.specs.Prelude.{Note, Signal, Stage, Meaning, Stream, signals_then, AreWithin, CanStep, IsHungry, ends_input, Incoming, incoming_of, quiet}
+use Rattle.rsx_sources.proofs.Endings.{ending_cuts, ending_first, ending_waits}
 use Rattle.rsx_window.specs.Cut.{window_left, is_over}
 use Rattle.rsx_window.specs.Window.{window_comes_out, window_waiting, window_takes, window_ended, window_done, window_wanted, slot_left, CountsItems}
 use Rattle.rsx_window.specs.declared.current.CurrentWindow.{CurrentWindow}
 use Rattle.rsx_window.specs.declared.current.CurrentWindow.TheVariants.{Running, Passing, Over}
 use Rattle.rsx_window.specs.declared.node.WindowNode.{WindowNode}
 
--- an ending that waits cuts off what comes
-cut_off : {T : Type 0} (ss : List (Signal T)) (v w : Stream T) → has_ending ss ≡ true → signals_then ss v ≡ signals_then ss w
-cut_off [] v w h = cc
-cut_off (Next x ∷ ss) v w h = ap (item_then x) (cut_off ss v w h)
-cut_off (Complete ∷ ss) v w h = refl
-cut_off (Error c ∷ ss) v w h = refl
-
 pub window_drops : {T : Type 0} (m : Meaning T) (n : WindowNode T) (inc other : Incoming T) (further : Note) → window_ended n ≡ true → window_comes_out m n inc further ≡ window_comes_out m n other further
-window_drops m n inc other further e = ap (quiet further) (cut_off n.pending.left (window_left m n.size n.stages.items n.current inc.first) (window_left m n.size n.stages.items n.current other.first) e)
-
-ending_first : {T : Type 0} (ss : List (Signal T)) (s : Signal T) → slice_get ss 0 ≡ Some s → ends_input s ≡ true → has_ending ss ≡ true
-ending_first [] s w e = cc
-ending_first (Next x ∷ ss) s w e = cc
-ending_first (Complete ∷ ss) s w e = refl
-ending_first (Error c ∷ ss) s w e = refl
+window_drops m n inc other further e = ap (quiet further) (ending_cuts n.pending.left (window_left m n.size n.stages.items n.current inc.first) (window_left m n.size n.stages.items n.current other.first) e)
 
 pub window_ends : {T : Type 0} (m : Meaning T) (n : WindowNode T) (s : Signal T) (inc other : Incoming T) (further : Note) → window_waiting m n ≡ Some s → ends_input s ≡ true → window_comes_out m n inc further ≡ window_comes_out m n other further
 window_ends m n s inc other further w e = window_drops m n inc other further (ending_first n.pending.left s w e)
@@ -49,12 +29,8 @@ pub window_done_drops : {T : Type 0} (m : Meaning T) (n : WindowNode T) (hubs be
 window_done_drops m n hubs before after v w further d =
     ap (λ z. quiet further (signals_then n.pending.left z)) (over_left m n.size n.stages.items n.current (incoming_of hubs (before ++ v ∷ after)).first (incoming_of hubs (before ++ w ∷ after)).first d)
 
-some_waits : {T : Type 0} (ss : List (Signal T)) → has_ending ss ≡ true → slice_get ss 0 ≡ None → ⊥
-some_waits [] e none = cc
-some_waits (s ∷ ss) e none = cc
-
 pub window_ending_waits : {T : Type 0} (m : Meaning T) (n : WindowNode T) (asked sent : ℕ) → window_ended n ≡ true → window_waiting m n ≡ None → sent < asked → CanStep (λ k i a s. false) (λ k a s. false) n asked sent
-window_ending_waits m n asked sent e none more = absurd (some_waits n.pending.left e none)
+window_ending_waits m n asked sent e none more = absurd (ending_waits n.pending.left e none)
 
 none_waits : {A : Type 0} (xs : List A) → slice_get xs 0 ≡ None → xs ≡ []
 none_waits [] e = refl

@@ -2,16 +2,10 @@
 use Rattle.std.specs.Prelude.{◌≡◌, ℕ, ◌<◌, min, Bool, true, false, ◌&&◌, ◌==◌, not, nat_lt, nat_le, if◌then◌else◌, List, [], ◌∷◌, length, slice_get, Option, option_map}
 use Rattle.rsx_demand.specs.Demand.{saturating_total}
 use Rattle.rsx_demand.specs.declared.TheConstants.{UNBOUNDED}
-use Rattle.rsx_types.specs.declared.note.Note.{Note}
-use Rattle.rsx_types.specs.declared.signal.Signal.{Signal}
-use Rattle.rsx_types.specs.declared.stage.Stage.{Stage}
-use Rattle.rsx_types.specs.Meaning.{Meaning}
-use Rattle.rsx_types.specs.Stream.{Stream, signals_then}
-use Rattle.rsx_sources.specs.Machine.{Incoming, quiet, front_of}
-use Rattle.rsx_sources.specs.Slot.{is_nil}
+use Rattle.rsx_sources.specs.Prelude.{Note, Signal, Stage, Meaning, Stream, signals_then, Incoming, quiet, front_of, is_nil}
 use Rattle.rsx_sources.specs.declared.machine.Front.{Front}
-use Rattle.rsx_pending.specs.Signals.{has_ending}
-use Rattle.rsx_lanes.specs.Window.{window}
+use Rattle.rsx_collections.specs.Signals.{has_ending}
+use Rattle.rsx_values.specs.Window.{window}
 use Rattle.rsx_window.specs.Cut.{window_left, is_over, GoesOn}
 use Rattle.rsx_window.specs.declared.current.CurrentWindow.{CurrentWindow}
 use Rattle.rsx_window.specs.declared.node.WindowNode.{WindowNode}

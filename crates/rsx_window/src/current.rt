@@ -2,19 +2,18 @@
 
 ghost use Rattle.std.specs.Prelude.{◌≡◌, ℕ, ◌+◌, ◌<◌, ◌≤◌, true, false, [], ◌++◌, length, IfOk, IfErr, OnOk, OnErr};
 ghost use Rattle.rsx_types.specs.Stream.{ending_signals};
-ghost use Rattle.rsx_chain.specs.Emissions.{item_signals};
-ghost use Rattle.rsx_pending.specs.Signals.{HasRoom, SignalsLeft, has_ending};
+ghost use Rattle.rsx_plain.specs.Emissions.{item_signals};
+ghost use Rattle.rsx_collections.specs.Signals.{HasRoom, SignalsLeft, has_ending};
 ghost use Rattle.rsx_types.specs.declared.signal.Signal.TheVariants.{Next};
-ghost use Rattle.rsx_chain.specs.Chain.{chain_over};
-ghost use Rattle.rsx_operators.specs.Moves.{Moves, has_ended};
+ghost use Rattle.rsx_plain.specs.Chain.{chain_over};
+ghost use Rattle.rsx_plain.specs.Moves.{Moves, has_ended};
 ghost use Rattle.rsx_window.specs.Cut.{TakesItem, Begins, unless_done, last_ending, is_over, GoesOn, GoesThrough, window_left, window_after, ClosesWith, EndsWith};
-ghost use Rattle.rsx_chain.specs.declared.chain.ChainState.{ChainState as ChainStateSpec};
+ghost use Rattle.rsx_plain.specs.declared.chain.ChainState.{ChainState as ChainStateSpec};
 ghost use Rattle.rsx_window.specs.declared.current.CurrentWindow.{CurrentWindow as CurrentWindowSpec};
 ghost use Rattle.rsx_window.specs.declared.current.CurrentWindow.TheVariants.{Running};
 
-use rsx_chain::{ChainState, Chaining, NewChain};
-use rsx_operators::Emission;
-use rsx_pending::PendingSignals;
+use rsx_collections::PendingSignals;
+use rsx_plain::{ChainState, Chaining, Emission, NewChain};
 use rsx_sources::Passed;
 use rsx_types::{Ending, NoMemory, Ops, Signal, Stage};
 use std::alloc::Global;

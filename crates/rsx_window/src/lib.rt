@@ -7,7 +7,7 @@
 //! the node takes no signal while one waits. So the chain and the signals that wait are all that it keeps.
 //!
 //! The definitions stand in `specs/`: `Cut` (what still comes out of a `window` that has taken some of its input), `Window` (the
-//! node) and `Laws`. What `window` gives for a whole input is `window` of `rsx_lanes`; that is what a new node gives.
+//! node) and `Laws`. What `window` gives for a whole input is `window` of `rsx_values`; that is what a new node gives.
 
 pub mod current;
 pub mod node;

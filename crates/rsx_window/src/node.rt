@@ -3,11 +3,11 @@
 ghost use Rattle.std.specs.Prelude.{◌≡◌, IfOk};
 
 use crate::current::{CurrentWindow, Windowing};
-use crate::rest::{Collecting, first_ending, first_items};
-use rsx_chain::copy_stages;
+use crate::rest::Collecting;
+use rsx_collections::{InFront, PendingSignals};
 use rsx_demand::saturating_total;
-use rsx_pending::{InFront, PendingSignals};
-use rsx_sources::{Front, Machine, NotMade, NotTaken, Passed};
+use rsx_plain::copy_stages;
+use rsx_sources::{Front, Machine, NotMade, NotTaken, Passed, first_ending, first_items};
 use rsx_types::{Ending, NoMemory, Note, Ops, Signal, Stage, StreamValue};
 use std::alloc::Global;
 

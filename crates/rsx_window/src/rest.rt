@@ -3,13 +3,13 @@
 ghost use Rattle.std.specs.Prelude.{◌≡◌, suc, List, take, drop, ◌++◌, IfOk, OnOk};
 ghost use Rattle.rsx_types.specs.Plain.{chained};
 ghost use Rattle.rsx_types.specs.Stream.{items_then};
-ghost use Rattle.rsx_chain.specs.Chain.{chain_from};
-ghost use Rattle.rsx_lanes.specs.Window.{window};
-ghost use Rattle.rsx_window.specs.Cut.{window_rest, window_left, first_value};
+ghost use Rattle.rsx_plain.specs.Chain.{chain_from};
+ghost use Rattle.rsx_values.specs.Window.{window};
+ghost use Rattle.rsx_window.specs.Cut.{window_rest, window_left};
 ghost use Rattle.rsx_window.specs.declared.current.CurrentWindow.{CurrentWindow as CurrentWindowSpec};
 
 use crate::current::CurrentWindow;
-use rsx_chain::{ChainState, Chaining, NewChain};
+use rsx_plain::{ChainState, Chaining, NewChain};
 use rsx_types::{Ending, NoMemory, Ops, Stage, StreamValue};
 use std::alloc::Global;
 
@@ -51,26 +51,6 @@ fn window_ending<T>(items: &[T], more: u64, ending: Ending) -> Ending
         return ending;
     }
     Ending::Done
-}
-
-/// The items that come in at the first input; none where no value is named.
-pub(crate) fn first_items<T>(incoming: &[StreamValue<T>]) -> &[T]
-    ensures { result.now ≡ (first_value incoming.now).items }
-{
-    match incoming.first() {
-        Some(value) => value.items(),
-        None => &[],
-    }
-}
-
-/// How the first input ends; it stays open where no value is named.
-pub(crate) fn first_ending<T>(incoming: &[StreamValue<T>]) -> Ending
-    ensures { result ≡ (first_value incoming.now).ending }
-{
-    match incoming.first() {
-        Some(value) => value.ending(),
-        None => Ending::Open,
-    }
 }
 
 /// Puts items behind those that are there.

@@ -101,17 +101,6 @@ ends s v t e same here isnt exit (running, none) = λ w found.
       ]
     ]
 
-signal_apart_exit : (e : Event) → is_signal e ≡ true → is_exit e ≡ true → ⊥
-signal_apart_exit (Subscribe s) h g = absurd (cc)
-signal_apart_exit (OnSubscribe s) h g = absurd (cc)
-signal_apart_exit (Next s) h g = absurd (cc)
-signal_apart_exit (Complete s) h g = absurd (cc)
-signal_apart_exit (Error s c) h g = absurd (cc)
-signal_apart_exit (Exit s) h g = absurd (cc)
-signal_apart_exit (Request s n) h g = absurd (cc)
-signal_apart_exit (Cancel s) h g = absurd (cc)
-signal_apart_exit (CancelNew s) h g = absurd (cc)
-
 abbrev pub Apart : ℕ → List Stamped → Type 0
 Apart s t = (w : ℕ) → NoneUntil (of_on s w is_signal) (of_on s w is_exit) (of s is_signal) t
 

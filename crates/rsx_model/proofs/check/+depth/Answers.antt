@@ -1,7 +1,8 @@
 use Rattle.std.proofs.Common.{◌+◌, ◌∙◌, refl, sym, ap, map, drop, nat_le}
 use Rattle.std.proofs.lemmas.List.{drop_all}
+use Rattle.rsx_types.proofs.Lists.{drop_read}
 use Rattle.rsx_model.specs.Shape.{depth, max_of, listed_below}
-use Rattle.rsx_model.proofs.Inputs.{front, too_deep, deep_enough, none_deep, below_depth, one_depth}
+use Rattle.rsx_model.proofs.Inputs.{too_deep, deep_enough, none_deep, below_depth, one_depth}
 use Rattle.rsx_model.proofs.check.+depth.Goals as goal
 
 pub is_within_depth-returns-in-One : goal.is_within_depth-returns-in-One
@@ -14,7 +15,7 @@ is_within_depth-returns-in-Inputs g t c =
 
 pub are_within_depth-returns-then-not-is_within_depth : goal.are_within_depth-returns-then-not-is_within_depth
 are_within_depth-returns-then-not-is_within_depth g t c =
-    let cons = front c.args.inputs.now c.loop-input.input-index c.input-item.result c.loop-input-test.true c.input-item.is in
+    let cons = drop_read c.args.inputs.now c.loop-input.input-index c.input-item.result c.loop-input-test.true c.input-item.is in
     too_deep (depth c.input-item.result) (max_of (map depth (drop (c.loop-input.input-index + 1) c.args.inputs.now))) c.args.most (sym c.is_within_depth.ensures ∙ c.if-not-is_within_depth.true)
     ∙ sym (ap (λ ys. nat_le (max_of (map depth ys)) c.args.most) cons)
     ∙ c.loop-input.invariant
@@ -24,7 +25,7 @@ are_within_depth-loop-input-init g t c = refl
 
 pub are_within_depth-loop-input-preserved : goal.are_within_depth-loop-input-preserved
 are_within_depth-loop-input-preserved g t c =
-    let cons = front c.args.inputs.now c.loop-input.input-index c.input-item.result c.loop-input-test.true c.input-item.is in
+    let cons = drop_read c.args.inputs.now c.loop-input.input-index c.input-item.result c.loop-input-test.true c.input-item.is in
     deep_enough (depth c.input-item.result) (max_of (map depth (drop (c.loop-input.input-index + 1) c.args.inputs.now))) c.args.most (sym c.is_within_depth.ensures ∙ c.if-not-is_within_depth.false)
     ∙ sym (ap (λ ys. nat_le (max_of (map depth ys)) c.args.most) cons)
     ∙ c.loop-input.invariant

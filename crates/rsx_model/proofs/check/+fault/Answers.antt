@@ -1,8 +1,9 @@
 use Rattle.std.proofs.Common.{◌∙◌, ◌+◌, map, drop, refl, sym, ap}
 use Rattle.std.proofs.lemmas.List.{drop_all}
+use Rattle.rsx_types.proofs.Lists.{drop_read}
 use Rattle.rsx_model.specs.Check.{or_else, first_of, first_fault}
 use Rattle.rsx_model.specs.Shape.{listed_below}
-use Rattle.rsx_model.proofs.Inputs.{front, below_own, fault_inputs, fault_one}
+use Rattle.rsx_model.proofs.Inputs.{below_own, fault_inputs, fault_one}
 use Rattle.rsx_model.proofs.check.+fault.Goals as goal
 
 pub first_fault_of-returns-in-One : goal.first_fault_of-returns-in-One
@@ -24,7 +25,7 @@ first_fault_of_all-returns g t c =
 
 pub first_fault_of_all-loop-input-preserved : goal.first_fault_of_all-loop-input-preserved
 first_fault_of_all-loop-input-preserved g t c =
-    let cons = front c.args.inputs.now c.loop-input.input-index c.input-item.result c.loop-input-test.true c.input-item.is in
+    let cons = drop_read c.args.inputs.now c.loop-input.input-index c.input-item.result c.loop-input-test.true c.input-item.is in
     let rest = first_of (map (first_fault c.args.hubs) (drop (c.loop-input.input-index + 1) c.args.inputs.now)) in
     below_own c.first_fault_of-fault.result rest c.if-is_some.ensures
     ∙ ap (λ o. or_else o rest) c.first_fault_of-fault.ensures

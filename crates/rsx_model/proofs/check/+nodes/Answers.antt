@@ -1,6 +1,7 @@
 use Rattle.std.proofs.Common.{◌∷◌, [], ◌∙◌, sym, ap, arith}
+use Rattle.rsx_types.proofs.Lists.{drop_read}
 use Rattle.rsx_model.specs.Shape.{nodes, listed_below}
-use Rattle.rsx_model.proofs.Inputs.{front, sum_front, sum_none, below_nodes}
+use Rattle.rsx_model.proofs.Inputs.{sum_front, sum_none, below_nodes}
 use Rattle.rsx_model.proofs.check.+nodes.Goals as goal
 use Rattle.rsx_model.proofs.check.+nodes.Goals.{nodes_of-in-One, nodes_of-in-Inputs}
 
@@ -22,7 +23,7 @@ nodes_of_all-overflow_add-count g t c = omega (arith, c.loop-input.invariant.0, 
 
 pub nodes_of_all-loop-input-preserved : goal.nodes_of_all-loop-input-preserved
 nodes_of_all-loop-input-preserved g t c =
-    let cons = front c.args.inputs.now c.loop-input.input-index c.input-item.result c.loop-input-test.true c.input-item.is in
+    let cons = drop_read c.args.inputs.now c.loop-input.input-index c.input-item.result c.loop-input-test.true c.input-item.is in
     let here = sum_front nodes c.args.inputs.now c.loop-input.input-index c.input-item.result cons in
     (omega (arith, c.min-count.ensures), omega (arith, here, c.min-count.ensures, c.nodes_of.ensures, c.loop-input.invariant.1))
 

@@ -1,11 +1,7 @@
 use Rattle.std.proofs.Common.{◌≡◌, ℕ, ◌+◌, ◌<◌, ◌≤◌, List, [], ◌∷◌, ◌++◌, drop, get_or, length, refl, sym, ap, ◌∙◌, add-one, append_assoc, append-nil, arith}
 use Rattle.std.proofs.Math.Seq.{drop-cons}
 use Rattle.std.proofs.lemmas.List.{drop_all}
-use Rattle.rsx_types.specs.Stream.{Stream, signal_then, signals_then, ended_by}
-use Rattle.rsx_types.specs.declared.signal.Ending.{Ending}
-use Rattle.rsx_types.specs.declared.signal.Ending.TheVariants.{Done, Failed}
-use Rattle.rsx_types.specs.declared.signal.Signal.{Signal}
-use Rattle.rsx_types.specs.declared.signal.Signal.TheVariants.{Next}
+use Rattle.rsx_sources.specs.Prelude.{Stream, signal_then, signals_then, ended_by, Ending, Done, Failed, Signal, Next}
 use Rattle.rsx_subscriber.proofs.subscription.behind.Goals as goal
 
 same_stream : {T : Type 0} (v w : Stream T) → v.items ≡ w.items → v.ending ≡ w.ending → v ≡ w

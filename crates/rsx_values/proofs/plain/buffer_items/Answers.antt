@@ -1,7 +1,7 @@
 use Rattle.std.proofs.Common.{◌≡◌, ◌≤◌, ◌<◌, ◌+◌, ◌++◌, ◌∷◌, [], ◌∙◌, ap, sym, length, arith, length-append}
 use Rattle.std.specs.Vec.Iter.{into_iter_items}
 use Rattle.rsx_types.specs.Plain.{buffered_items}
-use Rattle.rsx_values.proofs.Steps.{item_out, none_out, none_left, buffered_full, buffered_more}
+use Rattle.rsx_values.proofs.Steps.{item_out, none_out, buffered_full, buffered_more}
 use Rattle.rsx_values.proofs.plain.buffer_items.Goals as goal
 
 pub loop-x-preserved-then-len-size : goal.loop-x-preserved-then-len-size

@@ -1,7 +1,8 @@
 use Rattle.std.proofs.Common.{◌≡◌, ◌∙◌, ap, sym, length, arith}
 use Rattle.std.specs.Vec.Iter.{into_iter_items}
+use Rattle.std.proofs.lemmas.List.{nil_from_length}
 use Rattle.rsx_types.specs.Plain.{distinct_items}
-use Rattle.rsx_values.proofs.Steps.{item_out, none_out, all_out, none_left, distinct_new, distinct_known, distinct_fault}
+use Rattle.rsx_values.proofs.Steps.{item_out, none_out, all_out, distinct_new, distinct_known, distinct_fault}
 use Rattle.rsx_values.proofs.plain.distinct_items.Goals as goal
 
 pub loop-x-preserved-in-Continue-branch-2 : goal.loop-x-preserved-in-Continue-branch-2
@@ -33,4 +34,4 @@ pub returns : goal.returns
 returns g c =
     let key = (g.O.Ops.meaning c.args.ops.now).keyed c.args.f in
     let none : length (into_iter_items c.loop-x.x-iterator) ≡ 0 = omega (arith, c.in-None.ensures.steps.0) in
-    all_out _ _ _ _ _ c.loop-x.invariant (ap (λ l. distinct_items key c.loop-x.seen.keys l c.args.ending) (none_left _ none)) c.new.ensures.items c.new.ensures.ending
+    all_out _ _ _ _ _ c.loop-x.invariant (ap (λ l. distinct_items key c.loop-x.seen.keys l c.args.ending) (nil_from_length _ none)) c.new.ensures.items c.new.ensures.ending

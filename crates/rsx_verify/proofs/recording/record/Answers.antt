@@ -1,6 +1,6 @@
 use Rattle.std.proofs.Common.{ap}
 use Rattle.rsx_graph.specs.InGraph.{state_of}
-use Rattle.rsx_region.specs.Region.{region_of}
+use Rattle.rsx_model.specs.Region.{region_of}
 use Rattle.rsx_verify.specs.Events.{beginning}
 use Rattle.rsx_verify.proofs.Kept.{recorded_kept}
 use Rattle.rsx_verify.proofs.Leading.{followed_from}

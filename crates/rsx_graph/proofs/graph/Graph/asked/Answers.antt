@@ -1,6 +1,6 @@
 use Rattle.std.proofs.Common.{◌<◌, ℕ, length, subst, sym, arith}
-use Rattle.rsx_history.proofs.Graphs.{asked_there}
-use Rattle.rsx_history.specs.History.{HasAsked}
+use Rattle.rsx_graph_state.proofs.Graphs.{asked_there}
+use Rattle.rsx_graph_state.specs.Answers.{HasAsked}
 use Rattle.rsx_graph.proofs.graph.Graph.asked.Goals as goal
 
 pub returns-clause-asked : goal.returns-clause-asked

@@ -1,5 +1,5 @@
 use Rattle.std.proofs.Common.{map}
-use Rattle.rsx_feed_edits.proofs.Kept.{joins_published}
+use Rattle.rsx_graph_calls.proofs.Kept.{joins_published}
 use Rattle.rsx_graph.proofs.Kept.{state_with}
 use Rattle.rsx_types.specs.declared.signal.Signal.TheVariants.{Next}
 use Rattle.rsx_graph.proofs.graph.Graph.emit.Goals as goal

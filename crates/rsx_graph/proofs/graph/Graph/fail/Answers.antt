@@ -1,8 +1,7 @@
 use Rattle.std.proofs.Common.{map}
-use Rattle.rsx_feed_edits.proofs.Kept.{joins_published}
+use Rattle.rsx_graph_calls.proofs.Kept.{joins_published}
 use Rattle.rsx_graph.proofs.Kept.{state_with}
-use Rattle.rsx_types.specs.declared.signal.Cause.TheVariants.{User}
-use Rattle.rsx_types.specs.declared.signal.Signal.TheVariants.{Error}
+use Rattle.rsx_sources.specs.Prelude.{User, Error}
 use Rattle.rsx_graph.proofs.graph.Graph.fail.Goals as goal
 
 pub returns-in-Ok-clause-stands : goal.returns-in-Ok-clause-stands

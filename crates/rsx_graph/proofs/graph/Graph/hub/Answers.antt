@@ -1,5 +1,5 @@
 use Rattle.std.proofs.Common.{map}
-use Rattle.rsx_feed_edits.proofs.Kept.{joins_hub}
+use Rattle.rsx_graph_calls.proofs.Kept.{joins_hub}
 use Rattle.rsx_graph.proofs.Kept.{names_hub, state_with}
 use Rattle.rsx_graph.proofs.graph.Graph.hub.Goals as goal
 

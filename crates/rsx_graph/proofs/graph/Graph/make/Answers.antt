@@ -1,5 +1,5 @@
 use Rattle.std.proofs.Common.{map, sym, ◌∙◌}
-use Rattle.rsx_feeding.specs.Moves.{rows_of}
+use Rattle.rsx_graph_state.specs.Moves.{rows_of}
 use Rattle.rsx_graph.proofs.Kept.{made_joins, made_regions, names_made, state_with}
 use Rattle.rsx_graph.specs.InGraph.{sent_in, state_of}
 use Rattle.rsx_graph.proofs.graph.Graph.make.Goals as goal

@@ -1,5 +1,5 @@
 use Rattle.std.proofs.Common.{map, sym, ◌∙◌, arith}
-use Rattle.rsx_feeding.specs.Moves.{rows_of}
+use Rattle.rsx_graph_state.specs.Moves.{rows_of}
 use Rattle.rsx_graph.proofs.Kept.{graph_pumped, idle_read, idle_served, names_pumped}
 use Rattle.rsx_graph.specs.InGraph.{state_of}
 use Rattle.rsx_graph.proofs.graph.Graph.pump.Goals as goal

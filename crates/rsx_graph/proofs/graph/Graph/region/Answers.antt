@@ -1,5 +1,5 @@
 use Rattle.std.proofs.Common.{◌<◌, length, sym, arith}
-use Rattle.rsx_history.proofs.Graphs.{found}
+use Rattle.rsx_graph_state.proofs.Graphs.{found}
 use Rattle.rsx_graph.proofs.Kept.{region_there}
 use Rattle.rsx_graph.proofs.graph.Graph.region.Goals as goal
 

@@ -1,7 +1,7 @@
 use Rattle.std.proofs.Common.{map, w64}
 use Rattle.std.proofs.lemmas.Int.{to_z-of_z}
 use Rattle.rsx_graph.proofs.Kept.{past_joins, past_regions, requested_region, state_with}
-use Rattle.rsx_history.proofs.Graphs.{requested_joins}
+use Rattle.rsx_graph_state.proofs.Graphs.{requested_joins}
 use Rattle.rsx_subscriber.specs.Past.{requested}
 use Rattle.rsx_graph.proofs.graph.Graph.request.Goals as goal
 

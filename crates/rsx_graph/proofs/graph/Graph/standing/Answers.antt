@@ -1,5 +1,5 @@
 use Rattle.std.proofs.Common.{◌<◌, ◌∙◌, ap, length, sym, arith, Some}
-use Rattle.rsx_history.proofs.Graphs.{found, state_there}
+use Rattle.rsx_graph_state.proofs.Graphs.{found, state_there}
 use Rattle.rsx_graph.proofs.graph.Graph.standing.Goals as goal
 
 pub returns-clause-standing : goal.returns-clause-standing

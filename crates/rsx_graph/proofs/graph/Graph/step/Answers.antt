@@ -3,8 +3,8 @@ use Rattle.std.proofs.lemmas.Int.{to_z-of_z}
 use Rattle.rsx_graph.proofs.Kept.{unchanged}
 use Rattle.rsx_graph.proofs.Known.{copy_refused, emits_there, end_refused, fault_there, id_there, move_known, move_refused, new_feed_refused, subs_there, subscribe_refused}
 use Rattle.rsx_graph.specs.InGraph.{state_of}
-use Rattle.rsx_history.proofs.Graphs.{state_there}
-use Rattle.rsx_history.proofs.Publishes.{hub_refused}
+use Rattle.rsx_graph_state.proofs.Graphs.{state_there}
+use Rattle.rsx_graph_state.proofs.Publishes.{hub_refused}
 use Rattle.rsx_subscriber.specs.Stands.{standing_of}
 use Rattle.rsx_graph.proofs.graph.Graph.step.Goals as goal
 

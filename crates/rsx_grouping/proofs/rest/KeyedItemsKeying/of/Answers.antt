@@ -1,5 +1,5 @@
 use Rattle.std.proofs.Common.{[], ◌∷◌, ◌++◌, ◌∙◌, ap}
-use Rattle.rsx_lanes.specs.Group.{keyed_items}
+use Rattle.rsx_values.specs.Group.{keyed_items}
 use Rattle.rsx_grouping.proofs.Copies.{key_copied}
 use Rattle.rsx_grouping.proofs.rest.KeyedItemsKeying.of.Goals as goal
 

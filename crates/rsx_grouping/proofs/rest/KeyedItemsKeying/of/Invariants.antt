@@ -1,6 +1,5 @@
 use Rattle.std.proofs.Common.{◌≡◌, drop}
-use Rattle.rsx_types.specs.Stream.{items_then}
-use Rattle.rsx_lanes.specs.Group.{first_seen, keyed_items}
+use Rattle.rsx_values.specs.Prelude.{items_then, first_seen, keyed_items}
 use Rattle.rsx_grouping.proofs.rest.KeyedItemsKeying.of.Given as goal
 
 abbrev pub invariant-loop-item : goal.invariant-loop-item

@@ -1,5 +1,5 @@
 use Rattle.std.proofs.Common.{◌≡◌, ◌++◌, drop}
-use Rattle.rsx_lanes.specs.Group.{items_of_key}
+use Rattle.rsx_values.specs.Group.{items_of_key}
 use Rattle.rsx_grouping.proofs.rest.KeyedItemsKeying.of_key.Given as goal
 
 abbrev pub invariant-loop-pair : goal.invariant-loop-pair

@@ -1,6 +1,5 @@
 use Rattle.std.proofs.Common.{map, drop}
-use Rattle.rsx_choices.specs.Pick.{numbered}
-use Rattle.rsx_lanes.specs.Group.{group_lane}
+use Rattle.rsx_values.specs.Prelude.{numbered, group_lane}
 use Rattle.rsx_grouping.specs.Rest.{keyed_value}
 use Rattle.rsx_grouping.proofs.Copies.{fresh_pushed}
 use Rattle.rsx_grouping.proofs.rest.VecInputPushingLanes.push_fresh.Goals as goal

@@ -1,4 +1,4 @@
-use Rattle.rsx_node.specs.Any.{any_machine}
+use Rattle.rsx_kinds.specs.Any.{any_machine}
 use Rattle.rsx_rooted.proofs.Parts.{put_out_closed}
 use Rattle.rsx_pipe.proofs.part.Part.close.Goals as goal
 

@@ -1,5 +1,5 @@
 use Rattle.std.proofs.Common.{refl}
-use Rattle.rsx_node.specs.Any.{any_machine}
+use Rattle.rsx_kinds.specs.Any.{any_machine}
 use Rattle.rsx_rooted.proofs.Parts.{put_out_asked}
 use Rattle.rsx_pipe.proofs.part.Part.request.Goals as goal
 

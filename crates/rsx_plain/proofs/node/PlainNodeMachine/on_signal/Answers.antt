@@ -1,5 +1,5 @@
 use Rattle.std.proofs.Common.{rules}
-use Rattle.rsx_operators.proofs.Counts.{counts}
+use Rattle.rsx_plain.proofs.Counts.{counts}
 use Rattle.rsx_plain.proofs.Balance.{plain_counts_in}
 use Rattle.rsx_plain.proofs.node.PlainNodeMachine.on_signal.Goals as goal
 

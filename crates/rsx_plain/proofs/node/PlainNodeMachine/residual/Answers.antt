@@ -1,6 +1,5 @@
 use Rattle.std.proofs.Common.{◌≡◌, ◌++◌, ◌∷◌, [], ap, ◌∙◌, refl, arith, rules}
-use Rattle.rsx_types.specs.Stream.{signal_then}
-use Rattle.rsx_sources.specs.Machine.{incoming_of}
+use Rattle.rsx_sources.specs.Prelude.{signal_then, incoming_of}
 use Rattle.rsx_plain.proofs.Residuals.{ends_here, after_item, after_none, rest_behind, first_is, first_none}
 use Rattle.rsx_plain.proofs.node.PlainNodeMachine.residual.Goals as goal
 use Rattle.rsx_plain.proofs.node.PlainNodeMachine.residual.Goals.{in-Some-Next+in_ok-copy-in-Some-Next+in_ok-push-in-Some-Next, in-None}

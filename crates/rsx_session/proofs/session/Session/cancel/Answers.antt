@@ -1,6 +1,6 @@
 use Rattle.std.proofs.Common.{◌∙◌, refl, sym}
 use Rattle.rsx_subscriber.specs.Past.{cancelled}
-use Rattle.rsx_history.specs.declared.step.Answer.TheVariants as did
+use Rattle.rsx_graph_state.specs.declared.step.Answer.TheVariants as did
 use Rattle.rsx_graph.specs.declared.step.Step.TheVariants as step
 use Rattle.rsx_session.proofs.Calls.{made, not_made, seen_same}
 use Rattle.rsx_session.proofs.session.Session.cancel.Goals as goal

@@ -1,8 +1,8 @@
 use Rattle.std.proofs.Common.{◌<◌, ◌∙◌, length, arith, refl, sym, ap, Err}
 use Rattle.std.proofs.Math.ListN.{set}
 use Rattle.rsx_types.specs.declared.signal.Signal.TheVariants.{Complete}
-use Rattle.rsx_history.specs.declared.refusal.Refusal.TheVariants as unknown
-use Rattle.rsx_history.specs.declared.step.Answer.TheVariants as did
+use Rattle.rsx_graph_state.specs.declared.refusal.Refusal.TheVariants as unknown
+use Rattle.rsx_graph_state.specs.declared.step.Answer.TheVariants as did
 use Rattle.rsx_graph.specs.declared.step.Step.TheVariants as step
 use Rattle.rsx_session.proofs.Calls.{completed, hubs_count, made, none_emits, not_made, published_set}
 use Rattle.rsx_session.proofs.session.Session.complete.Goals as goal

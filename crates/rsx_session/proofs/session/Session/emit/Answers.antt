@@ -4,9 +4,9 @@ use Rattle.std.proofs.Math.ListN.{set}
 use Rattle.rsx_types.specs.declared.signal.Signal.TheVariants.{Next}
 use Rattle.rsx_demo.specs.Demo.{demo_meaning}
 use Rattle.rsx_demo.specs.declared.val.Val.TheVariants.{Int}
-use Rattle.rsx_history.specs.Hubs.{IsEmittedAt}
-use Rattle.rsx_history.specs.declared.refusal.Refusal.TheVariants as unknown
-use Rattle.rsx_history.specs.declared.step.Answer.TheVariants as did
+use Rattle.rsx_graph_state.specs.Hubs.{IsEmittedAt}
+use Rattle.rsx_graph_state.specs.declared.refusal.Refusal.TheVariants as unknown
+use Rattle.rsx_graph_state.specs.declared.step.Answer.TheVariants as did
 use Rattle.rsx_graph.specs.declared.step.Step.TheVariants as step
 use Rattle.rsx_graph.specs.InGraph.{state_of}
 use Rattle.rsx_graph.specs.Rows.{with_published}

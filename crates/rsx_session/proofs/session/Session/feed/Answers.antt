@@ -1,5 +1,5 @@
 use Rattle.std.proofs.Common.{◌∙◌, map, refl, ap}
-use Rattle.rsx_history.specs.declared.step.Answer.TheVariants as did
+use Rattle.rsx_graph_state.specs.declared.step.Answer.TheVariants as did
 use Rattle.rsx_graph.specs.declared.step.Step.TheVariants as step
 use Rattle.rsx_session.proofs.Calls.{feed_published, made, no_memory, not_made}
 use Rattle.rsx_session.proofs.session.Session.feed.Goals as goal

@@ -1,5 +1,5 @@
 use Rattle.std.proofs.Common.{◌≡◌, ◌≤◌, ◌+◌, ◌*◌, ◌%◌, arith}
-use Rattle.rsx_history.specs.declared.step.Pumped.TheVariants.{Idle, Budget}
+use Rattle.rsx_graph_state.specs.declared.step.Pumped.TheVariants.{Idle, Budget}
 use Rattle.rsx_session.proofs.Calls.{passed_memory}
 use Rattle.rsx_session.proofs.Pumps.{last_idle, last_spent, none_run, pump_leads, run_spent}
 use Rattle.rsx_session.proofs.session.Session.pump.Goals as goal

@@ -1,4 +1,5 @@
 use Rattle.std.proofs.Common.{◌≡◌, ◌+◌, ◌∙◌, arith, true, false}
+use Rattle.std.proofs.lemmas.Bool.{false≢true}
 use Rattle.rsx_types.specs.declared.fault.NoMemory.{NoMemory}
 use Rattle.rsx_subscriber.specs.Delivered.{IsFull}
 use Rattle.rsx_subscriber.proofs.Moves.{pumped_more, pumped_none, rest_ended, awake_part, rest_quiet}
@@ -78,10 +79,7 @@ returns-clause-pumped g c =
 pub returns-in-Err-clause-memory : goal.returns-in-Err-clause-memory
 returns-in-Err-clause-memory g c = λ free.
     let done = c.loop-round.invariant.1 in
-    absurd {A = IsFull c.loop-round.out} (never (c.in-Err.ensures.memory (done.2.alike.0 (g.O.Ops.allocates c.args.ops.now) ∙ free)))
-  where
-    never : false ≡ true → ⊥
-    never e = cc
+    absurd {A = IsFull c.loop-round.out} (false≢true (c.in-Err.ensures.memory (done.2.alike.0 (g.O.Ops.allocates c.args.ops.now) ∙ free)))
 
 pub returns-in-Err-deliver-clause-memory : goal.returns-in-Err-deliver-clause-memory
 returns-in-Err-deliver-clause-memory g c = λ _. c.in-Err-deliver.ensures.full

@@ -1,6 +1,6 @@
 use Rattle.std.proofs.Common.{rules}
 use Rattle.std.proofs.lemmas.Result.{IfOk-weaker}
-use Rattle.rsx_chain.specs.Chain.{chain_from}
+use Rattle.rsx_plain.specs.Chain.{chain_from}
 use Rattle.rsx_types.specs.Plain.{chained}
 use Rattle.rsx_window.proofs.Rests.{chain_open, chain_ended}
 use Rattle.rsx_window.proofs.rest.VecCollecting.chain_behind.Goals as goal

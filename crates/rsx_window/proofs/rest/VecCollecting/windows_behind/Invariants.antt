@@ -1,6 +1,5 @@
 use Rattle.std.proofs.Common.{◌≡◌, length}
-use Rattle.rsx_types.specs.Stream.{items_then}
-use Rattle.rsx_lanes.specs.Window.{window}
+use Rattle.rsx_values.specs.Prelude.{items_then, window}
 use Rattle.rsx_window.proofs.rest.VecCollecting.windows_behind.Given as goal
 
 abbrev pub invariant-loop-left : goal.invariant-loop-left

@@ -1,0 +1,212 @@
+//! Times graphs through the library, without a script.
+//!
+//! `bench_graph ITEMS CASE COUNT BUDGET ROUNDS` pumps an expression over the numbers from 1 to COUNT to its end, with
+//! so much of a budget in each call, and does so ROUNDS times. Where COUNT is more than a million, it pumps an expression
+//! over the numbers from 1 on for each million of them, one after the other. ITEMS is `numbers` (64-bit integers) or
+//! `values` (the items of the demonstration). CASE is `range`; `map` (doubles); `filter` (the even ones of the doubled);
+//! `half` (the doubled of the even ones); `single` (as `filter`, each item asked for and pumped by itself); `buffer` (lists
+//! of 10); `scan` (as many as there are of the totals); `keys3` and `keys` (distinct, with three keys and with a key for
+//! each number); `concat`, `merge`, `zip` and `latest` (of two ranges, each to a half of COUNT, with a prefetch of 64);
+//! `publish` (a `publishOn` with a prefetch of 64); `window` (of 10), `group` (a `groupBy` with three keys) and, of the items of
+//! the demonstration, `flat` (a `flatMap` of each number twice, four lanes at a time), each with an empty chain;
+//! `fan1`, `fan8` and `fan64` (the numbers published to a hub, 64 before each pump, with so many readers that have asked for
+//! all).
+//!
+//! How many items came and their sum go to standard output, which is the same in every run, and the least time to
+//! standard error.
+#![tactic(auto)]
+
+mod cases;
+mod numbers;
+
+use crate::cases::expression;
+use crate::numbers::Numbers;
+use anyhow::{Result, bail};
+use rsx_demo::{Demo, Val};
+use rsx_graph::{Deliveries, Graph, Pumped};
+use rsx_model::Expr;
+use rsx_types::{HubKind, Ops, Signal, SubId};
+use std::alloc::Global;
+use std::env;
+use std::time::Instant;
+
+/// The longest range of an expression.
+const LONGEST: u64 = 1_000_000;
+
+/// How many items are published before each pump.
+const BATCH: u64 = 64;
+
+/// What an item adds to the sum.
+trait Weight {
+    fn weight(&self) -> i64;
+}
+
+impl Weight for Val {
+    fn weight(&self) -> i64 {
+        match self {
+            Val::Int(n) => *n,
+            Val::List(items) => i64::try_from(items.len()).unwrap_or(0),
+        }
+    }
+}
+
+impl Weight for i64 {
+    fn weight(&self) -> i64 {
+        *self
+    }
+}
+
+/// What was delivered.
+#[derive(Clone, Copy, Debug)]
+struct Sum {
+    items: u64,
+    sum: i64,
+}
+
+impl Sum {
+    /// Takes in what was delivered.
+    fn add<T: Weight + Drop>(&mut self, deliveries: &Deliveries<T>) {
+        for (_, signal) in deliveries.as_slice() {
+            if let Signal::Next(item) = signal {
+                self.items = self.items.wrapping_add(1);
+                self.sum = self.sum.wrapping_add(item.weight());
+            }
+        }
+    }
+}
+
+/// Subscribes to a case.
+fn subscribed<O: Ops>(
+    alloc: Global,
+    ops: &O,
+    graph: &mut Graph<O>,
+    case: &str,
+    count: u64,
+) -> Result<SubId> {
+    let expr = expression(alloc, ops, case, count)?;
+    match graph.subscribe(alloc, &expr) {
+        Ok(sub) => Ok(sub),
+        Err(_) => bail!("refused"),
+    }
+}
+
+/// Pumps until the graph is idle. The list of deliveries is used again by each call.
+fn pump<O: Ops>(
+    alloc: Global,
+    graph: &mut Graph<O>,
+    budget: u32,
+    out: &mut Deliveries<O::Item>,
+    sum: &mut Sum,
+)
+where
+    O::Item: Weight,
+{
+    for _ in 0..u64::MAX {
+        let pumped = graph.pump(alloc, budget, out);
+        sum.add(out);
+        out.clear();
+        match pumped {
+            Ok(Pumped::Budget) => {}
+            _ => break,
+        }
+    }
+}
+
+/// How many readers share a hub in this case, if it is one of a hub.
+fn readers_of(case: &str) -> Option<u32> {
+    match case {
+        "fan1" => Some(1),
+        "fan8" => Some(8),
+        "fan64" => Some(64),
+        _ => None,
+    }
+}
+
+/// One run of a hub with so many readers, to which the numbers are published.
+fn publish<O: Ops>(alloc: Global, ops: O, readers: u32, count: u64, budget: u32) -> Result<Sum>
+where
+    O::Item: Weight,
+{
+    let mut graph = Graph::new(alloc, ops)?;
+    let hub = graph.hub(alloc, HubKind::Multicast, BATCH)?;
+    for _ in 0..readers {
+        let sub = graph.subscribe(alloc, &Expr::Hub(hub))?;
+        graph.request(sub, i64::MAX)?;
+    }
+    let mut out = Deliveries::new(alloc);
+    let mut sum = Sum { items: 0, sum: 0 };
+    for number in 0..count {
+        let Ok(item) = ops.from_i64(alloc, i64::try_from(number).unwrap_or(i64::MAX)) else {
+            bail!("no memory")
+        };
+        if graph.emit(hub, item).is_err() {
+            bail!("refused")
+        }
+        if number % BATCH == BATCH - 1 {
+            pump(alloc, &mut graph, budget, &mut out, &mut sum);
+        }
+    }
+    pump(alloc, &mut graph, budget, &mut out, &mut sum);
+    Ok(sum)
+}
+
+/// One run of a case: a subscription for each million of the numbers, one after the other.
+fn run<O: Ops>(alloc: Global, ops: O, case: &str, count: u64, budget: u32) -> Result<Sum>
+where
+    O::Item: Weight,
+{
+    if let Some(readers) = readers_of(case) {
+        return publish(alloc, ops, readers, count, budget);
+    }
+    let Ok(mut graph) = Graph::new(alloc, ops) else {
+        bail!("no memory")
+    };
+    let mut out = Deliveries::new(alloc);
+    let mut sum = Sum { items: 0, sum: 0 };
+    let mut left = count;
+    for _ in 0..count.div_ceil(LONGEST) {
+        let size = left.min(LONGEST);
+        left -= size;
+        let sub = subscribed(alloc, &ops, &mut graph, case, size)?;
+        let (requests, n) = match case {
+            "single" => (size, 1),
+            _ => (1, i64::MAX),
+        };
+        for _ in 0..requests {
+            let _ = graph.request(sub, n);
+            pump(alloc, &mut graph, budget, &mut out, &mut sum);
+        }
+    }
+    Ok(sum)
+}
+
+/// The number of an argument, or this one where it is left out.
+fn number(word: Option<String>, otherwise: u64) -> u64 {
+    match word {
+        Some(word) => word.as_str().parse::<u64>().unwrap_or(otherwise),
+        None => otherwise,
+    }
+}
+
+fn main(rt: HostRuntime) -> Result<()> {
+    let mut words = env::args(&rt)?.skip(1);
+    let (Some(items), Some(case)) = (words.next(), words.next()) else {
+        bail!("wanted: ITEMS CASE COUNT BUDGET ROUNDS")
+    };
+    let count = number(words.next(), 100_000);
+    let budget = number(words.next(), 65_536).min(u64::from(u32::MAX)) as u32;
+    let rounds = number(words.next(), 1);
+    let mut least = u128::MAX;
+    let mut sum = Sum { items: 0, sum: 0 };
+    for _ in 0..rounds {
+        let start = Instant::now(&rt)?;
+        sum = match items.as_str() {
+            "numbers" => run(rt.alloc(), Numbers, case.as_str(), count, budget)?,
+            _ => run(rt.alloc(), Demo, case.as_str(), count, budget)?,
+        };
+        least = least.min(start.elapsed(&rt)?.as_nanos());
+    }
+    println!(rt; "{} items, sum {}", sum.items, sum.sum)?;
+    eprintln!(rt; "{} ns", least)?;
+    Ok(())
+}

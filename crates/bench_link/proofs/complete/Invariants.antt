@@ -1,0 +1,5 @@
+use Rattle.rsx_link.specs.Ends.{IsUpOf}
+use Rattle.bench_link.proofs.complete.Given as goal
+
+abbrev pub invariant-loop : goal.invariant-loop
+invariant-loop l = IsUpOf l.link l.up

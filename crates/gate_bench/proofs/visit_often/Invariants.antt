@@ -1,5 +1,0 @@
-use Rattle.rsx_gate.specs.Seats.{IsSeatOf}
-use Rattle.gate_bench.proofs.visit_often.Given as goal
-
-abbrev pub invariant-loop : goal.invariant-loop
-invariant-loop l = IsSeatOf l.gate l.seat

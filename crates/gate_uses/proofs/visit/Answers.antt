@@ -1,9 +1,0 @@
-use Rattle.std.proofs.Common.{rules, ◌≡◌, arith}
-use Rattle.rsx_gate.specs.Seats.{seat_of}
-use Rattle.gate_uses.proofs.visit.Goals as goal
-
--- the loop has ended, so all rounds were made
-pub returns-clause-steps : goal.returns-clause-steps
-returns-clause-steps c =
-    let all : c.loop-round.round ≡ 8 = omega (arith, c.loop-round.auto.round-end, c.loop-round-test.false) in
-    (c.loop-round.round, c.give_up.ensures.0.0, (seat_of c.loop-round.pass).me.0.steps, search rules, search rules, all, search rules)

@@ -1,7 +1,0 @@
-use Rattle.rsx_build.proofs.FlatMaps.{as_flat_map}
-use Rattle.rsx_build.proofs.trees.flat_map.Goals as goal
-
-pub returns : goal.returns
-returns g c =
-    let n = c.new-node.ensures in
-    as_flat_map c.args.function c.args.concurrency c.in_ok-copies.copies.items c.args.stages.now c.new-node.result c.in_ok-copies.ensures n.fresh n.counted n.concurrency n.choices n.next n.nothing

@@ -1,4 +1,0 @@
--- Definitions that contracts cite.
-pub mod Built
-pub mod Crossings
-pub mod Made

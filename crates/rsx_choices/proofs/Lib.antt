@@ -1,3 +1,0 @@
-pub mod OneChoice
-pub mod Places
-pub mod Records

@@ -1,9 +1,0 @@
-use Rattle.std.proofs.Common.{◌≡◌, ◌++◌, List, length}
-use Rattle.rsx_choices.specs.Pick.{Taken, up_to_failure}
-use Rattle.rsx_choices.proofs.picking.drain.Given as goal
-
-abbrev pub decreases-loop-signal : goal.decreases-loop-signal
-decreases-loop-signal g l = length l.signals.items
-
-abbrev pub invariant-loop-signal : goal.invariant-loop-signal
-invariant-loop-signal g l = (rest : List (Taken _)) → l.out.items ++ up_to_failure l.number l.signals.items rest ≡ l.fn.out.items ++ up_to_failure l.fn.input.0 l.fn.input.1 rest

@@ -1,6 +1,0 @@
-use Rattle.std.proofs.Common.{◌≡◌, take}
-use Rattle.rsx_choices.specs.Record.{written}
-use Rattle.rsx_choices.proofs.record.Record.choices.Given as goal
-
-abbrev pub invariant-loop-run : goal.invariant-loop-run
-invariant-loop-run l = l.numbers.items ≡ written (take l.run-index l.run-items)

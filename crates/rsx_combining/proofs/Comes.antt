@@ -1,0 +1,162 @@
+-- A signal comes in at an input of a combineLatest, and the rest.
+use Rattle.std.proofs.lemmas.Bool.{and_parts}
+use Rattle.std.proofs.lemmas.List.{length-set}
+use Rattle.std.proofs.Common.{◌≡◌, ℕ, zero, suc, ◌&&◌, Bool, true, false, List, [], ◌∷◌, length, slice_index_or, slice_set, slice_get, Option, Some, None, refl, ap, sym, ◌∙◌, subst, arith}
+use Rattle.rsx_sources.specs.Prelude.{Note, Picks, Done, Signal, Next, Complete, Error, Meaning, Stream, ended_by, signal_then, CountsIn, CountsStep, Incoming, TakesIn, Records, incoming_of, front_of, IsResidualOf}
+use Rattle.rsx_values.specs.Prelude.{written, combine, unless_chosen}
+use Rattle.rsx_queued.specs.declared.input.QueuedInput.{QueuedInput}
+use Rattle.rsx_queued.specs.declared.output.Output.{Output}
+use Rattle.rsx_queued.specs.declared.output.Output.TheVariants.{Empty}
+use Rattle.rsx_queued.specs.Prelude.{still, with_signal, next_signal, next_signal_at, inputs_left, picked, is_empty, output_then, IsOut}
+use Rattle.rsx_queued.proofs.Changed.{IsPut, is_put, put_left, put_counted, put_not_gone, put_done, put_ends}
+use Rattle.rsx_queued.proofs.Outputs.{empty_is}
+use Rattle.rsx_queued.proofs.Picks.{none_more, padded}
+use Rattle.rsx_combining.specs.Latest.{LatestState, latest_of, latest_comes_out, latest_takes, latest_popped, row_given, may_pick, gives_row, latest_picks, latest_recorded, latest_ended, latest_done, IsLatestCounted, after_signal, after_pick}
+use Rattle.rsx_combining.proofs.Chooses.{pick_records, pick_counts}
+
+-- ---- a signal comes in
+
+-- the state after the input at place i, which was `a`, became `b`
+abbrev with_input : {T : Type 0} → LatestState T → ℕ → QueuedInput T → LatestState T
+with_input n i b = record { inputs = slice_set n.inputs i b; latest = n.latest; output = n.output; choices = n.choices }
+
+signal_at : {T : Type 0} (m : Meaning T) (n : LatestState T) (i : ℕ) (s : Signal T) (a b : QueuedInput T) → IsPut n.inputs i s a b → ((v : Stream T) → still b v ≡ still a (signal_then s v)) → TakesIn (latest_comes_out m) n i s (with_input n i b)
+signal_at m n i s a b p value inc further =
+    ap (λ is. picked further (λ cs. output_then n.output (combine m.row_of n.latest cs is) (unless_chosen cs))) (put_left n.inputs i s a b p value inc)
+
+pub signal_in : {T : Type 0} (m : Meaning T) (start old : LatestState T) (i : ℕ) (s : Signal T) (a b : QueuedInput T) → start ≡ old → latest_takes old i (front_of s) ≡ true → a ≡ slice_index_or start.inputs i a → b ≡ with_signal a s → ((v : Stream T) → still b v ≡ still a (signal_then s v)) →
+    TakesIn (latest_comes_out m) old i s (with_input start i b)
+signal_in {T} m start old i s a b same e was put value =
+    let P : LatestState T → Type 0 = λ n. TakesIn (latest_comes_out m) n i s (with_input start i b) in
+    subst P same (signal_at m start i s a b (is_put start.inputs i s a b (ap (λ n. latest_takes n i (front_of s)) same ∙ e) was put) value)
+
+-- ---- the counts
+
+counts_at : {T : Type 0} (n : LatestState T) (i : ℕ) (s : Signal T) (a b : QueuedInput T) → IsPut n.inputs i s a b → CountsIn IsLatestCounted latest_ended latest_done n i s (with_input n i b)
+counts_at {T} n i s a b p =
+    record {
+      stays_ended = λ e. e;
+      counts = λ e taken sent c. record {
+        goes_on = c.goes_on;
+        some_left = put_not_gone n.inputs i s a b p;
+        few = let few = c.few in let l = length-set n.inputs i b in omega (arith, l, few);
+        counts = put_counted n.inputs i s a b taken p c.counts;
+      };
+      stays_done = λ j d. put_done n.inputs i s a b p j d;
+      is_done = λ e d. put_ends n.inputs i s a b p d;
+    }
+
+pub signal_counts : {T : Type 0} (start old : LatestState T) (i : ℕ) (s : Signal T) (a b : QueuedInput T) → start ≡ old → latest_takes old i (front_of s) ≡ true → a ≡ slice_index_or start.inputs i a → b ≡ with_signal a s →
+    CountsIn IsLatestCounted latest_ended latest_done old i s (with_input start i b)
+signal_counts {T} start old i s a b same e was put =
+    let P : LatestState T → Type 0 = λ n. CountsIn IsLatestCounted latest_ended latest_done n i s (with_input start i b) in
+    subst P same (counts_at start i s a b (is_put start.inputs i s a b (ap (λ n. latest_takes n i (front_of s)) same ∙ e) was put))
+
+-- ---- an input is picked
+
+-- the same but for the choices
+abbrev IsBut : {T : Type 0} → LatestState T → LatestState T → Type 0
+IsBut a b = (a.inputs ≡ b.inputs) × (a.latest ≡ b.latest) × (a.output ≡ b.output)
+
+-- what the code did to pick input i of `old`: it recorded that, and took the next signal
+pub record IsPicked {T : Type 0} (m : Meaning T) (old noted new : LatestState T) (i asked sent : ℕ) (made : Option T) : Type 0 where
+  pub enabled : latest_picks old i asked sent ≡ true
+  pub but : IsBut noted old
+  pub a : QueuedInput T
+  pub was : a ≡ slice_index_or old.inputs i a
+  pub row : made ≡ row_given m.row_of old.latest i (next_signal a)
+  pub after : new ≡ after_pick noted i made
+
+next_from : {T : Type 0} (qs : List (QueuedInput T)) (i : ℕ) (a : QueuedInput T) (s : Signal T) → next_signal_at (slice_get qs i) ≡ Some s → a ≡ slice_index_or qs i a → next_signal_at (slice_get qs i) ≡ next_signal a
+next_from [] i a s e was = cc
+next_from (q ∷ qs) zero a s e was = ap next_signal (sym was)
+next_from (q ∷ qs) (suc i) a s e was = next_from qs i a s e was
+
+some_next : {T : Type 0} (o : Option (Signal T)) (row : Bool) (asked sent : ℕ) → may_pick o row asked sent ≡ true → (s : Signal T) × (o ≡ Some s)
+some_next None row asked sent e = cc
+some_next (Some s) row asked sent e = (s, refl)
+
+picks_at : {T : Type 0} (m : Meaning T) (old : LatestState T) (i : ℕ) (made : Option T) (o : Option (Signal T)) (s : Signal T) → old.output ≡ Empty → next_signal_at (slice_get old.inputs i) ≡ o → o ≡ Some s → made ≡ row_given m.row_of old.latest i o →
+    Records (latest_comes_out m) old (Picks (i ∷ [])) (after_signal old i made o) × CountsStep IsLatestCounted latest_ended latest_done old (after_signal old i made o)
+picks_at {T} m old i made o s empty next is row =
+    let P : Option (Signal T) → Type 0 = λ z. Records (latest_comes_out m) old (Picks (i ∷ [])) (after_signal old i made z) × CountsStep IsLatestCounted latest_ended latest_done old (after_signal old i made z) in
+    subst P (sym is) (pick_records m old i made s empty (next ∙ is) (row ∙ ap (row_given m.row_of old.latest i) is), pick_counts old i made s empty (next ∙ is))
+
+-- what comes out doesn't depend on the choices made
+same_value : {T : Type 0} (m : Meaning T) (a b : LatestState T) → IsBut a b → (inc : Incoming T) (further : Note) → latest_comes_out m a inc further ≡ latest_comes_out m b inc further
+same_value m a b s inc further = rw (s.0, s.1, s.2) refl
+
+but_after : {T : Type 0} (a b : LatestState T) (i : ℕ) (made : Option T) (o : Option (Signal T)) → IsBut a b → IsBut (after_signal a i made o) (after_signal b i made o)
+but_after a b i made None s = (rw s.0 refl, s.1, s.2)
+but_after a b i made (Some (Next x)) s = (rw s.0 refl, rw s.1 refl, rw s.2 refl)
+but_after a b i made (Some Complete) s = (rw s.0 refl, s.1, rw (s.0, s.1, s.2) refl)
+but_after a b i made (Some (Error c)) s = (rw s.0 refl, s.1, refl)
+
+but_pick : {T : Type 0} (a b : LatestState T) (i : ℕ) (made : Option T) → IsBut a b → IsBut (after_pick a i made) (after_signal b i made (next_signal_at (slice_get b.inputs i)))
+but_pick {T} a b i made s =
+    let P : Option (Signal T) → Type 0 = λ o. IsBut (after_signal a i made o) (after_signal b i made (next_signal_at (slice_get b.inputs i))) in
+    subst P (ap (λ qs. next_signal_at (slice_get qs i)) (sym s.0)) (but_after a b i made (next_signal_at (slice_get b.inputs i)) s)
+
+counts_but : {T : Type 0} (old a b : LatestState T) → IsBut a b → CountsStep IsLatestCounted latest_ended latest_done old b → CountsStep IsLatestCounted latest_ended latest_done old a
+counts_but old a b s c =
+    record {
+      stays_ended = λ e. rw s.2 (c.stays_ended e);
+      counts = λ e taken sent h. let r = c.counts (rw s.2 at e) taken sent h in record {
+        goes_on = rw s.2 r.goes_on;
+        some_left = rw s.0 r.some_left;
+        few = let few = r.few in let l = ap length s.0 in omega (arith, l, few);
+        counts = rw s.0 r.counts;
+      };
+      stays_done = λ j d. rw s.0 (c.stays_done j d);
+    }
+
+both : {T : Type 0} (m : Meaning T) (old noted new : LatestState T) (i asked sent : ℕ) (made : Option T) → IsPicked m old noted new i asked sent made →
+    Records (latest_comes_out m) old (Picks (i ∷ [])) new × CountsStep IsLatestCounted latest_ended latest_done old new
+both {T} m old noted new i asked sent made p =
+    let empty = empty_is old.output (and_parts (is_empty old.output) (may_pick (next_signal_at (slice_get old.inputs i)) (gives_row old.latest i) asked sent) p.enabled).0 in
+    let s = some_next (next_signal_at (slice_get old.inputs i)) (gives_row old.latest i) asked sent (and_parts (is_empty old.output) (may_pick (next_signal_at (slice_get old.inputs i)) (gives_row old.latest i) asked sent) p.enabled).1 in
+    let row = p.row ∙ ap (row_given m.row_of old.latest i) (sym (next_from old.inputs i p.a s.0 s.1 p.was)) in
+    let r = picks_at m old i made (next_signal_at (slice_get old.inputs i)) s.0 empty refl s.1 row in
+    let but = but_pick noted old i made p.but in
+    let b = after_signal old i made (next_signal_at (slice_get old.inputs i)) in
+    let P : LatestState T → Type 0 = λ n. Records (latest_comes_out m) old (Picks (i ∷ [])) n × CountsStep IsLatestCounted latest_ended latest_done old n in
+    subst P (sym p.after) ((λ inc further. same_value m (after_pick noted i made) b but inc further ∙ r.0 inc further), counts_but old (after_pick noted i made) b but r.1)
+
+pub pick_value : {T : Type 0} (m : Meaning T) (old noted new : LatestState T) (i asked sent : ℕ) (made : Option T) → IsPicked m old noted new i asked sent made → Records (latest_comes_out m) old (Picks (i ∷ [])) new
+pick_value m old noted new i asked sent made p = (both m old noted new i asked sent made p).0
+
+pub pick_steps : {T : Type 0} (m : Meaning T) (old noted new : LatestState T) (i asked sent : ℕ) (made : Option T) → IsPicked m old noted new i asked sent made → CountsStep IsLatestCounted latest_ended latest_done old new
+pick_steps m old noted new i asked sent made p = (both m old noted new i asked sent made p).1
+
+-- ---- the rest
+
+pub residual_of : {T : Type 0} (m : Meaning T) (start old : LatestState T) (inboxes vs : List (Stream T)) (o : Option (Stream T)) (rest v : Stream T) → start ≡ old →
+    o ≡ combine m.row_of start.latest [] (inputs_left 0 start.inputs vs) → o ≡ Some rest → output_then start.output (Some rest) (Some (ended_by Done)) ≡ Some v →
+    IsResidualOf (latest_comes_out m) latest_recorded (λ n. None) old inboxes vs v
+residual_of {T} m start old inboxes vs o rest v same is some gives =
+    let P : LatestState T → Type 0 = λ n. IsResidualOf (latest_comes_out m) latest_recorded (λ n. None) n inboxes vs v in
+    subst P same (λ hubs further behind none.
+    ap (λ k. latest_of m start.output start.latest start.inputs ((incoming_of hubs vs).first ∷ (incoming_of hubs vs).others) k) (none_more (written start.choices) further none)
+    ∙ ap (λ is. output_then start.output (combine m.row_of start.latest [] is) (Some (ended_by Done))) (padded start.inputs hubs vs)
+    ∙ ap (λ z. output_then start.output z (Some (ended_by Done))) (sym is ∙ some)
+    ∙ gives)
+
+-- ---- what the code puts together
+
+state_is : {T : Type 0} (n m : LatestState T) → n.inputs ≡ m.inputs → n.latest ≡ m.latest → n.output ≡ m.output → n.choices ≡ m.choices → n ≡ m
+state_is {T} n m a b c d i = record { inputs = a i; latest = b i; output = c i; choices = d i }
+
+-- a signal that is put back
+pub put_back_is : {T : Type 0} (start now before new : LatestState T) (s : Signal T) → start ≡ now → new.inputs ≡ start.inputs → new.latest ≡ start.latest → new.choices ≡ start.choices → ((b : Output T) → IsOut b s start.output → new.output ≡ b) → latest_popped before s now → new ≡ before
+put_back_is {T} start now before new s same a b c put h =
+    let P : LatestState T → Type 0 = λ n. latest_popped before s n in
+    let k = subst P (sym same) h in
+    state_is new before (a ∙ k.1) (b ∙ k.2) (put before.output k.0) (c ∙ k.3)
+
+pub set_same : {A : Type 0} (xs : List A) (i : ℕ) (x y : A) → x ≡ slice_index_or xs i x → y ≡ x → slice_set xs i y ≡ xs
+set_same xs i x y was is = ap (slice_set xs i) is ∙ same xs i x was
+  where
+    same : {A : Type 0} (xs : List A) (i : ℕ) (x : A) → x ≡ slice_index_or xs i x → slice_set xs i x ≡ xs
+    same [] i x was = refl
+    same (z ∷ xs) zero x was = ap (λ y. y ∷ xs) was
+    same (z ∷ xs) (suc i) x was = ap (λ l. z ∷ l) (same xs i x was)

@@ -1,0 +1,6 @@
+-- Definitions that contracts cite.
+pub mod Inputs
+pub mod Latest
+pub mod LatestLaws
+pub mod Zip
+pub mod ZipLaws

@@ -1,0 +1,403 @@
+//! The combineLatest of several inputs.
+
+ghost use Rattle.std.specs.Prelude.{◌≡◌, option_map};
+ghost use Rattle.rsx_sources.specs.Machine.{front_of};
+ghost use Rattle.rsx_combining.specs.Latest.{all_there, gives_row};
+ghost use Rattle.rsx_queued.specs.Output.{first_output};
+
+use crate::copies::LatestCopies;
+use crate::given::LatestRow;
+use rsx_prefetch::LARGEST;
+use rsx_queued::{
+    InFront, Output, QueuedInput, ToPick, are_gone, credits_at, first_output, front_at, front_of,
+    takes_at,
+};
+use rsx_sources::{Front, Machine, NotMade, NotTaken, Passed};
+use rsx_types::{NoMemory, Note, Ops, Signal, StreamValue};
+use rsx_values::{Latest, Record, Run};
+use std::alloc::Global;
+use std::marker::Model;
+
+/// Rows of the latest items of its inputs: one at each item that is picked, once every input has had one. Contracts see its
+/// inputs and their latest items as lists, what it has put out, and the choices made, as runs.
+///
+/// It completes where all inputs did, or one without any item, and fails as an input does whose failure is picked.
+#[derive(Drop)]
+pub struct CombineLatestNode<T> {
+    inputs: Vec<QueuedInput<T>>,
+    latest: Vec<Option<T>>,
+    output: Output<T>,
+    choices: Record,
+    row: Vec<T>,
+}
+
+impl<T> Model for CombineLatestNode<T> {
+    ghost use Rattle.std.specs.Prelude.{◌≡◌, ◌≤◌, [], length, vec_capacity};
+    ghost use Rattle.rsx_combining.specs.Latest.{LatestState};
+
+    ghost Value = { LatestState T };
+
+    ghost view = { λ n. record { inputs = n.inputs.items; latest = n.latest.items; output = n.output; choices = n.choices } };
+
+    ghost invariant = { λ n.
+        (n.row.items ≡ []) × (length n.latest.items ≤ vec_capacity n.row) × (length n.inputs.items ≡ length n.latest.items) };
+}
+
+/// Whether every input has had an item.
+fn all_there<T: Drop>(latest: &[Option<T>]) -> bool
+    ensures { result ≡ all_there latest.now }
+{
+    match latest.split_first() {
+        None => true,
+        Some((first, others)) => first.is_some() && all_there(others),
+    }
+}
+
+/// Whether every input but this one has had an item.
+fn gives_row<T: Drop>(latest: &[Option<T>], input: u64) -> bool
+    ensures { result ≡ gives_row latest.now input }
+{
+    match latest.split_first() {
+        None => false,
+        Some((first, others)) => {
+            if input == 0 {
+                return all_there(others);
+            }
+            first.is_some() && gives_row(others, input - 1)
+        }
+    }
+}
+
+impl<T: Drop> CombineLatestNode<T> {
+    ghost use Rattle.std.specs.Prelude.{◌≡◌, ◌≤◌, ◌<◌, ◌||◌, true, [], None, length, slice_get, IfOk};
+    ghost use Rattle.rsx_values.specs.Latest.{is_itemless};
+    ghost use Rattle.std.proofs.Math.ListN.{replicate};
+    ghost use Rattle.rsx_prefetch.specs.declared.TheConstants.{LARGEST};
+    ghost use Rattle.rsx_queued.specs.Input.{fresh_input};
+    ghost use Rattle.rsx_queued.specs.Inputs.{are_gone};
+    ghost use Rattle.rsx_queued.specs.Output.{is_empty};
+    ghost use Rattle.rsx_combining.specs.Latest.{GivesLatest, IsLatestCounted, after_pick};
+
+    /// The combineLatest of so many inputs, each with a queue for so many items, 1 to [`LARGEST`]. That of no inputs completes
+    /// at once.
+    ///
+    /// # Errors
+    /// [`NoMemory`] where a growth was refused.
+    #[tactic(auto, using(std::proofs::lemmas::List::replicate_more, crate::proofs::Fresh::long))]
+    pub fn new(
+        alloc: Global,
+        inputs: u32,
+        capacity: usize,
+    ) -> Result<CombineLatestNode<T>, NoMemory>
+        requires positive { 1 ≤ capacity }
+        requires within { capacity ≤ LARGEST }
+        ensures inputs { IfOk result (λ n. n.inputs ≡ replicate inputs (fresh_input capacity)) }
+        ensures latest { IfOk result (λ n. n.latest ≡ replicate inputs None) }
+        ensures output { IfOk result (λ n. n.output ≡ first_output inputs) }
+        ensures choices { IfOk result (λ n. n.choices ≡ []) }
+        ensures fresh { IfOk result (λ n. GivesLatest n inputs) }
+        ensures counted { IfOk result (λ n. 1 ≤ inputs → IsLatestCounted n (replicate inputs 0) 0) }
+    {
+        let mut queues = Vec::new(alloc);
+        let mut latest = Vec::new(alloc);
+        for _ in 0..inputs {
+            queues.push(QueuedInput::new(alloc, capacity)?)?;
+            latest.push(None)?;
+        }
+        let row = Vec::with_capacity(alloc, latest.len())?;
+        Ok(CombineLatestNode {
+            inputs: queues,
+            latest,
+            output: first_output(inputs),
+            choices: Record::new(alloc),
+            row,
+        })
+    }
+
+    /// The choices made, as runs. It takes no memory.
+    pub fn records(&self) -> &[Run]
+        ensures { result.now ≡ self.now.choices }
+    {
+        self.choices.runs()
+    }
+
+    /// Whether the completion of this input ends the node: the input had no item, or no other input is left.
+    fn completes(&self, at: usize) -> bool
+        ensures { result ≡ is_itemless (slice_get self.now.latest at) || are_gone self.now.inputs }
+    {
+        match self.latest.get(at) {
+            Some(Some(_)) => are_gone(self.inputs.as_slice()),
+            Some(None) | None => true,
+        }
+    }
+
+    /// Takes the next signal of this input, which made this row, and puts out what it gives.
+    fn take_picked(&mut self, at: usize, made: Option<T>)
+        requires free { is_empty self.old.output ≡ true }
+        requires there { at < length self.old.inputs }
+        ensures { self.new ≡ after_pick self.old at made }
+    {
+        match self.inputs[at].take() {
+            Some(Signal::Next(item)) => {
+                self.latest[at] = Some(item);
+                if let Some(row) = made {
+                    self.output.put(Signal::Next(row));
+                }
+            }
+            Some(Signal::Complete) => {
+                if self.completes(at) {
+                    self.output.put(Signal::Complete);
+                }
+            }
+            Some(Signal::Error(cause)) => self.output.put(Signal::Error(cause)),
+            None => {}
+        }
+    }
+}
+
+impl<T: Drop> Machine for CombineLatestNode<T> {
+    type Item = T;
+
+    ghost use Rattle.std.specs.Prelude.{◌≡◌, true, false, refl, None, IfOk, IfErr, OnOk, OnErr};
+    ghost use Rattle.rsx_types.specs.Notes.{note_then};
+    ghost use Rattle.rsx_sources.specs.Counts.{CountsIn, CountsStep};
+    ghost use Rattle.rsx_sources.specs.Machine.{TakesIn, Keeps, Records, IsComposed, front_of};
+    ghost use Rattle.rsx_sources.specs.Reading.{IsReadOn, IsResidualOf};
+    ghost use Rattle.rsx_sources.specs.Steps.{IsNotTaken, IsNotMade};
+    ghost use Rattle.rsx_combining.specs.Latest.{LatestState, latest_comes_out, latest_waiting, latest_shown, latest_takes, latest_picks, latest_recording, latest_recorded, latest_ended, latest_done, IsLatestCounted, latest_wanted, latest_popped};
+    ghost use Rattle.rsx_combining.specs.LatestLaws.{latest_drops, latest_ends, latest_done_drops, latest_settles, latest_ending_waits, latest_hungry};
+
+    ghost comes_out = { latest_comes_out };
+
+    ghost waiting = { latest_waiting };
+
+    ghost shown = { latest_shown };
+
+    ghost takes = { latest_takes };
+
+    ghost picks = { latest_picks };
+
+    ghost rows = { λ n a s. false };
+
+    ghost rowed = { λ n a s k. ⊥ };
+
+    ghost recording = { latest_recording };
+
+    ghost recorded = { latest_recorded };
+
+    ghost ended = { latest_ended };
+
+    ghost done = { latest_done };
+
+    ghost counted = { IsLatestCounted };
+
+    ghost wanted = { latest_wanted };
+
+    ghost popped = { latest_popped };
+
+    ghost reads = { λ n. None };
+
+    ghost rooms = { λ n. false };
+
+    ghost pop_allocates = { λ a n. false };
+
+    ghost signal_allocates = { λ a n. false };
+
+    ghost step_allocates = { λ a n. true };
+
+    fn front(&self) -> Option<Front> {
+        self.output.front()
+    }
+
+    fn pop_front<O: Ops<Item = T>>(
+        &mut self,
+        alloc: Global,
+        ops: &O,
+    ) -> Result<Option<Signal<T>>, NoMemory> {
+        Ok(self.output.pop())
+    }
+
+    fn put_back(&mut self, signal: Signal<T>)
+        ensures { (before : LatestState T) → latest_popped before signal self.old → self.new ≡ before }
+    {
+        self.output.put_back(signal);
+    }
+
+    fn has_ended(&self) -> bool {
+        self.output.has_ending()
+    }
+
+    fn can_take(&self, input: u64, front: Front) -> bool {
+        takes_at(self.inputs.as_slice(), input, front)
+    }
+
+    fn on_signal<O: Ops<Item = T>>(
+        &mut self,
+        alloc: Global,
+        ops: &O,
+        input: u64,
+        signal: Signal<T>,
+    ) -> Result<(), NotTaken<T>>
+        ensures ok { OnOk result (TakesIn (latest_comes_out (O.meaning ops.now)) self.old input signal self.new) }
+        ensures enabled { OnOk result (latest_takes self.old input (front_of signal) ≡ true) }
+        ensures recorded { latest_recorded self.new ≡ latest_recorded self.old }
+        ensures counts { OnOk result (CountsIn IsLatestCounted latest_ended latest_done self.old input signal self.new) }
+        ensures err { IfErr result (IsNotTaken (latest_takes self.old input (front_of signal)) signal) }
+        ensures memory { IfErr result (λ e. e ≡ NotTaken.Busy signal) }
+        ensures same { OnErr result (self.new ≡ self.old) }
+    {
+        if !self.can_take(input, front_of(&signal)) {
+            return Err(NotTaken::Busy(signal));
+        }
+        self.inputs[input as usize].put(signal);
+        Ok(())
+    }
+
+    fn pop_item<O: Ops<Item = T>>(&mut self, alloc: Global, ops: &O) -> Option<T> {
+        self.output.pop_item()
+    }
+
+    fn pass<O: Ops<Item = T>>(&mut self, alloc: Global, ops: &O, input: u64, item: T) -> Passed<T> {
+        if self.has_ended() || !self.can_take(input, Front::Item) {
+            return Passed::Declined(item);
+        }
+        self.inputs[input as usize].put(Signal::Next(item));
+        Passed::Kept
+    }
+
+    fn hub(&self) -> Option<u64> {
+        None
+    }
+
+    fn has_room(&self) -> bool {
+        false
+    }
+
+    fn on_published(&mut self, signal: Signal<T>) -> Result<(), Signal<T>>
+        ensures ok { OnOk result (IsReadOn latest_comes_out (λ n. None) self.old signal self.new) }
+        ensures enabled { OnOk result (false ≡ true) }
+        ensures err { IfErr result (λ s. s ≡ signal) }
+        ensures same { OnErr result (self.new ≡ self.old) }
+    {
+        Err(signal)
+    }
+
+    fn can_pick(&self, input: u64, asked: u64, sent: u64) -> bool {
+        if !self.output.is_empty() {
+            return false;
+        }
+        match front_at(self.inputs.as_slice(), input) {
+            Some(Front::Item) => sent < asked || !gives_row(self.latest.as_slice(), input),
+            Some(Front::Completion) | Some(Front::Failure(_)) => true,
+            None => false,
+        }
+    }
+
+    fn next_pick(&self, asked: u64, sent: u64) -> Option<u64> {
+        for at in 0..self.inputs.len() {
+            if self.can_pick(at as u64, asked, sent) {
+                return Some(at as u64);
+            }
+        }
+        None
+    }
+
+    fn on_pick<O: Ops<Item = T>>(
+        &mut self,
+        alloc: Global,
+        ops: &O,
+        input: u64,
+        asked: u64,
+        sent: u64,
+    ) -> Result<(), NotMade>
+        ensures ok { OnOk result (Records (latest_comes_out (O.meaning ops.now)) self.old (latest_recording self.old input) self.new) }
+        ensures enabled { OnOk result (latest_picks self.old input asked sent ≡ true) }
+        ensures recorded { OnOk result
+            (latest_recorded self.new ≡ note_then (latest_recorded self.old) (latest_recording self.old input)) }
+        ensures composes { OnOk result (IsComposed (latest_recorded self.old) (latest_recording self.old input)) }
+        ensures counts { OnOk result (CountsStep IsLatestCounted latest_ended latest_done self.old self.new) }
+        ensures err { IfErr result (IsNotMade (latest_picks self.old input asked sent)) }
+        ensures same { OnErr result (self.new ≡ self.old) }
+    {
+        if !self.can_pick(input, asked, sent) {
+            return Err(NotMade::NotEnabled);
+        }
+        let at = input as usize;
+        let made = match self.row.row_of_next(
+            alloc,
+            ops,
+            self.latest.as_mut_slice(),
+            at,
+            &mut self.inputs[at],
+        ) {
+            Ok(made) => made,
+            Err(NoMemory) => return Err(NotMade::NoMemory),
+        };
+        if let Err(_) = self.choices.push(input) {
+            return Err(NotMade::NoMemory);
+        }
+        self.take_picked(at, made);
+        Ok(())
+    }
+
+    fn can_row(&self, asked: u64, sent: u64) -> bool {
+        false
+    }
+
+    fn on_row<O: Ops<Item = T>>(
+        &mut self,
+        alloc: Global,
+        ops: &O,
+        asked: u64,
+        sent: u64,
+    ) -> Result<(), NotMade> {
+        Err(NotMade::NotEnabled)
+    }
+
+    fn want(&self, input: u64, asked: u64, sent: u64) -> u64 {
+        credits_at(self.inputs.as_slice(), input)
+    }
+
+    fn note(&self, alloc: Global) -> Result<Note, NoMemory> {
+        let choices = self.choices.choices(alloc)?;
+        Ok(Note::Picks(choices))
+    }
+
+    fn residual<O: Ops<Item = T>>(
+        &self,
+        alloc: Global,
+        ops: &O,
+        inboxes: &[StreamValue<T>],
+        incoming: &[StreamValue<T>],
+    ) -> Result<StreamValue<T>, NoMemory>
+        ensures { IfOk result (λ v.
+            IsResidualOf (latest_comes_out (O.meaning ops.now)) latest_recorded (λ n. None) self.now inboxes.now incoming.now v) }
+    {
+        let mut inputs = Vec::new(alloc);
+        inputs.push_inputs(alloc, ops, 0, self.inputs.as_slice(), incoming)?;
+        let mut latest = Vec::new(alloc);
+        latest.push_copies(alloc, ops, self.latest.as_slice())?;
+        match latest.combine(alloc, ops, inputs, &[])? {
+            Some(rest) => self.output.in_front(alloc, ops, rest),
+            None => unreachable!(),
+        }
+    }
+
+    ghost shows = { λ m n. refl };
+
+    ghost popped_alike = { λ old s new h. (refl, λ a. (refl, refl, refl)) };
+
+    ghost drops = { latest_drops };
+
+    ghost ends = { latest_ends };
+
+    ghost done_drops = { latest_done_drops };
+
+    ghost ends_reading = { λ m n s w e. refl };
+
+    ghost settles = { latest_settles };
+
+    ghost ending_waits = { latest_ending_waits };
+
+    ghost hungry = { latest_hungry };
+}

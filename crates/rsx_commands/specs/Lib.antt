@@ -1,4 +1,0 @@
--- Definitions that contracts cite.
-pub mod Commands
-pub mod Expressions
-pub mod Orders

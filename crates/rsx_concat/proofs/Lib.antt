@@ -1,3 +1,0 @@
-pub mod Concats
-pub mod Copied
-pub mod Turns

@@ -1,5 +1,0 @@
-use Rattle.std.proofs.Common.{length}
-use Rattle.rsx_concat.proofs.node.+ending_out.Given as goal
-
-abbrev pub decreases-ending_out : goal.decreases-ending_out
-decreases-ending_out g l = length l.endings.now

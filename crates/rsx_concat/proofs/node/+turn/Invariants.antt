@@ -1,5 +1,0 @@
-use Rattle.std.proofs.Common.{length}
-use Rattle.rsx_concat.proofs.node.+turn.Given as goal
-
-abbrev pub decreases-turn : goal.decreases-turn
-decreases-turn l = length l.endings.now

@@ -1,5 +1,0 @@
-use Rattle.std.proofs.Common.{rules}
-use Rattle.rsx_crossing.proofs.queued.Queued.new.Goals as goal
-
-pub returns-clause-tail : goal.returns-clause-tail
-returns-clause-tail g c = search rules

@@ -1,5 +1,0 @@
-use Rattle.std.proofs.Common.{rules}
-use Rattle.rsx_crossing.proofs.queued.QueuedMachine.want.Goals as goal
-
-pub returns : goal.returns
-returns g c = search rules

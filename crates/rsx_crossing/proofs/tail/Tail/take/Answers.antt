@@ -1,5 +1,0 @@
-use Rattle.std.proofs.Common.{rules}
-use Rattle.rsx_crossing.proofs.tail.Tail.take.Goals as goal
-
-pub returns-in-Completion-clause-signal : goal.returns-in-Completion-clause-signal
-returns-in-Completion-clause-signal g c = search rules

@@ -1,0 +1,131 @@
+-- Inputs of expressions and traces, and what they are answered with.
+use Rattle.std.specs.Prelude.{◌≡◌, ℕ, ◌<◌, ◌⊎◌, Bool, true, false, List, [], ◌∷◌, ◌++◌, length, Option, Some, None, Result, Ok, Err, codes, ⊤}
+use Rattle.std.specs.List.{flat_map, position}
+use Rattle.std.specs.Str.{bytes_eq}
+use Rattle.rsx_script.specs.declared.words.LineRefusal.{LineRefusal}
+use Rattle.rsx_script.specs.declared.words.LineRefusal.TheVariants.{Syntax, TooLong, NoMemory}
+use Rattle.rsx_script.specs.Reading.{Left, line_of, next_at}
+use Rattle.rsx_script.specs.Words.{Written, is_written}
+use Rattle.rsx_script.specs.Words as written
+use Rattle.rsx_trace.specs.declared.event.Stamped.{Stamped}
+use Rattle.rsx_trace.specs.declared.reader.BadLine.{BadLine}
+use Rattle.rsx_trace.specs.declared.reader.BadLine.TheVariants.{At}
+use Rattle.rsx_trace.specs.declared.reader.BadLine.TheVariants as bad
+use Rattle.rsx_trace.specs.declared.reader.TraceReader.{TraceReader}
+use Rattle.rsx_trace.specs.Grammar.{AreTrace}
+use Rattle.rsx_trace.specs.Opening.{HasTaken, IsWrongLast, LacksEnd}
+use Rattle.rsx_tck.specs.Report.{IsReportText}
+use Rattle.rsx_demo.specs.Demo.{demo_meaning}
+use Rattle.rsx_demo.specs.declared.val.Val.{Val}
+use Rattle.rsx_model.specs.Check.{refusal as refusal_of_expression}
+use Rattle.rsx_model.specs.declared.check.BadExpr.{BadExpr}
+use Rattle.rsx_model.specs.declared.expr.Expr.{Expr}
+use Rattle.rsx_script.specs.Commands.{expression_of_line}
+use Rattle.rsx_script.specs.Orders.{tree_of}
+use Rattle.rsx_verify.specs.declared.line.Line.{Line}
+use Rattle.rsx_verify.specs.Reports.{AreUnbroken, AreVerified}
+use Rattle.rsx_verify.specs.Texts.{lines_text}
+use Rattle.rsx_drive.specs.declared.judge.InputJudge.{InputJudge}
+
+-- a line that is empty or spaces alone
+abbrev pub IsBlank : List ℕ → Type 0
+IsBlank line = position is_written line ≡ None
+
+-- whether this is the word `trace`
+abbrev pub is_trace : Written → Bool
+is_trace written.opening = false
+is_trace written.closing = false
+is_trace (written.text word) = bytes_eq word (codes "trace")
+is_trace written.strange = false
+is_trace written.nothing = false
+
+abbrev pub is_trace_next : Result ((ℕ × Written) × Left) LineRefusal → Bool
+is_trace_next (Ok next) = is_trace next.0.1
+is_trace_next (Err e) = false
+
+-- whether the first word of a line is `trace`
+abbrev pub begins_trace : List ℕ → Bool
+begins_trace line = is_trace_next (next_at (line_of line))
+
+-- The lines on the runs of an expression, none of which is broken.
+pub record IsVerifiedText (e : Expr Val) (text : List ℕ) : Type 0 where
+  pub admitted : refusal_of_expression 0 e ≡ None
+  pub lines : List Line
+  pub verified : AreVerified demo_meaning e lines
+  pub unbroken : AreUnbroken lines
+  pub printed : text ≡ lines_text lines
+
+-- What answers an expression: the lines on its runs; where it goes past a limit or reads a hub, one line that it is refused.
+abbrev pub IsExpressionAnswer : Expr Val → List ℕ → Type 0
+IsExpressionAnswer e text = IsVerifiedText e text ⊎ ((k : BadExpr) × (refusal_of_expression 0 e ≡ Some k) × (text ≡ codes "refused M1" ++ 10 ∷ []))
+
+-- the expression that a line is was answered by this text
+abbrev pub IsLineAnswer : List ℕ → List ℕ → Type 0
+IsLineAnswer line text = (e : Expr Val) × (expression_of_line line ≡ Ok (tree_of e)) × IsExpressionAnswer e text
+
+-- A part of an input with its answer: a blank line, which has none, an expression, or the lines of a trace, with its report.
+abbrev pub IsPart : List (List ℕ) → List ℕ → Type 0
+IsPart part answer =
+    ((line : List ℕ) × IsBlank line × (part ≡ line ∷ []) × (answer ≡ []))
+    ⊎ (((line : List ℕ) × IsLineAnswer line answer × (part ≡ line ∷ []))
+    ⊎ ((events : List Stamped) × AreTrace part events × IsReportText events answer))
+
+-- each of these parts has its answer
+abbrev pub AreParts : List (List (List ℕ) × List ℕ) → Type 0
+AreParts [] = ⊤
+AreParts (p ∷ parts) = IsPart p.0 p.1 × AreParts parts
+
+-- These lines are parts, one after the other, and the text is their answers.
+pub record AreJudged (lines : List (List ℕ)) (text : List ℕ) : Type 0 where
+  pub parts : List (List (List ℕ) × List ℕ)
+  pub answered : AreParts parts
+  pub whole : lines ≡ flat_map (λ p. p.0) parts
+  pub answers : text ≡ flat_map (λ p. p.1) parts
+
+-- A line that isn't in a trace can't be read: it begins with the word `trace`, and no trace goes on so, first at this column;
+-- or it doesn't, it isn't blank, and it is no expression, for this reason.
+abbrev pub IsBadFirst : List ℕ → LineRefusal → Type 0
+IsBadFirst line refusal =
+    ((begins_trace line ≡ true) × (column : ℕ) × (refusal ≡ Syntax column) × IsWrongLast (line ∷ []) column)
+    ⊎ ((begins_trace line ≡ false) × ¬ IsBlank line × (expression_of_line line ≡ Err refusal))
+
+-- A line can't be read behind the first lines of a trace, or none.
+abbrev pub IsBadBehind : List (List ℕ) → List ℕ → LineRefusal → Type 0
+IsBadBehind [] line refusal = IsBadFirst line refusal
+IsBadBehind (first ∷ opening) line refusal = (column : ℕ) × (refusal ≡ Syntax column) × IsWrongLast ((first ∷ opening) ++ line ∷ []) column
+
+-- Behind the first lines of a trace, or none, what follows can't be read: a line is longer than 4,096 bytes, or is wrong there;
+-- or the lines end before the trace does, which is wrong at column 1 of the line after the last.
+abbrev pub IsBadNext : List (List ℕ) → List (List ℕ) → LineRefusal → Type 0
+IsBadNext opening [] refusal = (refusal ≡ Syntax 1) × (0 < length opening) × LacksEnd opening
+IsBadNext opening (line ∷ others) refusal = ((refusal ≡ TooLong) × (4096 < length line)) ⊎ IsBadBehind opening line refusal
+
+-- After these lines, which were answered by this text, the others can't be read, for this reason, or memory is wanted.
+pub record IsRefusedAfter (lines : List (List ℕ)) (text : List ℕ) (others : List (List ℕ)) (refusal : LineRefusal) : Type 0 where
+  pub done : List (List ℕ)
+  pub opening : List (List ℕ)
+  pub split : lines ≡ done ++ opening
+  pub judged : AreJudged done text
+  pub bad : (refusal ≡ NoMemory) ⊎ IsBadNext opening others refusal
+
+-- what a reader has taken of a trace whose `end` hasn't come; nothing, where there is no reader
+abbrev pub IsOpen : Option TraceReader → List (List ℕ) → Type 0
+IsOpen None opening = opening ≡ []
+IsOpen (Some reader) opening = HasTaken reader opening
+
+-- the lines so far were answered by this text
+pub record StandsFor (judge : InputJudge) (lines : List (List ℕ)) (text : List ℕ) : Type 0 where
+  pub done : List (List ℕ)
+  pub opening : List (List ℕ)
+  pub split : lines ≡ done ++ opening
+  pub judged : AreJudged done text
+  pub taken : IsOpen judge.reader opening
+
+-- an input in the middle of the trace that the reader has begun
+abbrev pub judging : TraceReader → InputJudge
+judging reader = record { reader = Some reader }
+
+-- why a line of a trace couldn't be read, as a refusal of a line
+abbrev pub refusal_of : BadLine → LineRefusal
+refusal_of (At column) = Syntax column
+refusal_of bad.NoMemory = NoMemory

@@ -1,0 +1,212 @@
+//! Answers the expressions and the traces of an input.
+
+ghost use Rattle.std.specs.Prelude.{◌≡◌, ◌≤◌, ℕ, true, List, [], ◌∷◌, ◌++◌, length, IfSome, OnOk, OnErr, IfErr, None};
+ghost use Rattle.std.specs.String.{string_bytes};
+ghost use Rattle.std.specs.List.{position};
+ghost use Rattle.rsx_script.specs.Fault.{IsRunFault};
+ghost use Rattle.rsx_script.specs.Words.{is_written};
+ghost use Rattle.rsx_trace.specs.Texts.{lines};
+ghost use Rattle.rsx_tck.specs.Report.{IsReportText};
+ghost use Rattle.rsx_drive.specs.Answered.{Grows, IsStopped, Writes};
+ghost use Rattle.rsx_drive.specs.Judged.{AreJudged, IsRefusedAfter, StandsFor, begins_trace, judging, refusal_of};
+ghost use Rattle.rsx_drive.specs.JudgeLaws.{line_too_long, memory_wanted, memory_wanted_last};
+
+use crate::expression::answer_expression;
+use crate::judge::InputJudge;
+use crate::{Answers, answer_lines};
+use rsx_script::{AppFault, LineRefusal, Word, Words};
+use rsx_tck::print_report;
+use rsx_trace::{BadLine, Progress, Stamped, TraceReader};
+use std::alloc::Global;
+use std::io::{Read, Write};
+
+/// Answers the expressions and the traces that the reader gives, in any order, until the input ends. An expression stands on a
+/// line of its own, in the language of scripts, over the functions of the demonstration; a trace of either format begins with a
+/// line whose first word is `trace`. Each is answered by 43 lines to the writer, one for each rule, as `1.1 held`,
+/// `1.1 broken at 6` or `1.2 not judged: permits`. Those of an expression say what its runs, which are made here, say of the
+/// rules, and none of them is broken; an expression that goes past a limit or reads a hub is answered by the one line
+/// `refused M1`. Lines outside a trace that are empty or spaces alone have no answer. A last line needs no newline.
+///
+/// # Errors
+///
+/// `Line` with the first line that can't be read, counted from 1 in the whole input: `Syntax` or `UnknownName` with the column
+/// of its first wrong word, where it is no expression; `Syntax` with that column, where no trace goes on so, and with column 1 of
+/// the line after the last, where the input ends inside a trace; `TooLong` where it has more than 4,096 bytes. `Io` where a read
+/// or a write failed, or a read more than 16,777,216 would be needed; `Memory` where a growth was refused. What comes before
+/// has been answered then; after a fault of `Io` nothing more is written, and what was written begins these answers.
+pub fn judge_input<R: Read, W: Write>(
+    alloc: Global,
+    reader: &mut R,
+    writer: &mut W,
+) -> Result<(), AppFault>
+    // The whole input is expressions, traces and blank lines, and their answers were written, and nothing else.
+    ensures judged { OnOk result (IfSome (R.remaining reader.old) (λ input.
+        Writes (W.contents writer.old) (W.contents writer.new) (λ text. AreJudged (lines input) text))) }
+    // The answers to what comes before the fault were written, and nothing else; where a read or a write failed, the last of
+    // these answers may not have been written.
+    ensures stopped { IfErr result (λ fault. IfSome (R.remaining reader.old) (λ input.
+        Writes (W.contents writer.old) (W.contents writer.new) (λ text. IsStopped IsRefusedAfter (lines input) text fault))) }
+    ensures fault { IfErr result IsRunFault }
+{
+    match answer_lines(alloc, InputJudge::new(), reader, writer) {
+        Ok(()) => Ok(()),
+        Err(fault) => Err(fault),
+    }
+}
+
+/// The place of the first byte that isn't the space.
+fn written_place(line: &[u8]) -> Option<usize>
+    ensures { result ≡ position is_written line.now }
+{
+    line.iter().position(|b| *b != b' ')
+}
+
+/// Whether the first word of a line is `trace`.
+fn begins_trace(line: &[u8]) -> bool
+    requires { length line.now ≤ 4096 }
+    ensures { result ≡ begins_trace line.now }
+{
+    let mut words = Words::new(line);
+    match words.next() {
+        Ok((_, Word::Text(word))) => word == "trace",
+        Ok((_, Word::Open)) => false,
+        Ok((_, Word::Close)) => false,
+        Ok((_, Word::End)) => false,
+        Err(_) => false,
+    }
+}
+
+/// Why a line of a trace couldn't be read, as a refusal of a line.
+fn refusal_of(bad: BadLine) -> LineRefusal
+    ensures { result ≡ refusal_of bad }
+{
+    match bad {
+        BadLine::At(column) => LineRefusal::Syntax(column),
+        BadLine::NoMemory => LineRefusal::NoMemory,
+    }
+}
+
+/// Adds the report of a trace to the text.
+fn add_report(alloc: Global, trace: &[Stamped], out: &mut String) -> Result<(), LineRefusal>
+    ensures added { OnOk result (Grows (string_bytes out.old) (string_bytes out.new) (λ more. IsReportText trace.now more)) }
+    ensures same { OnErr result (string_bytes out.new ≡ string_bytes out.old) }
+    ensures memory { IfErr result (λ refusal. refusal ≡ LineRefusal.NoMemory) }
+{
+    let Ok(text) = print_report(alloc, trace) else {
+        return Err(LineRefusal::NoMemory);
+    };
+    match out.push_str(text.as_str()) {
+        Ok(()) => Ok(()),
+        Err(_) => Err(LineRefusal::NoMemory),
+    }
+}
+
+impl InputJudge {
+    /// At the start of an input.
+    fn new() -> InputJudge
+        ensures { StandsFor result [] [] }
+    {
+        InputJudge { reader: None }
+    }
+
+    /// Takes in a line that isn't in a trace: a blank one, the first of a trace, or an expression.
+    fn begin(&mut self, alloc: Global, line: &[u8], out: &mut String) -> Result<(), LineRefusal>
+        requires between { self.old.reader ≡ None }
+        requires small { length line.now ≤ 4096 }
+        ensures answered { OnOk result ((lines : List (List ℕ)) (text : List ℕ) → StandsFor self.old lines text →
+            Grows (string_bytes out.old) (string_bytes out.new) (λ more. StandsFor self.new (lines ++ line.now ∷ []) (text ++ more))) }
+        ensures refused { IfErr result (λ refusal. (lines : List (List ℕ)) (text : List ℕ) (others : List (List ℕ)) →
+            StandsFor self.old lines text → IsRefusedAfter lines text (line.now ∷ others) refusal) }
+        ensures same { OnErr result (string_bytes out.new ≡ string_bytes out.old) }
+    {
+        if written_place(line).is_none() {
+            return Ok(());
+        }
+        if begins_trace(line) {
+            return match self.begin_trace(alloc, line) {
+                Ok(()) => Ok(()),
+                Err(refusal) => Err(refusal),
+            };
+        }
+        match answer_expression(alloc, line, out) {
+            Ok(()) => Ok(()),
+            Err(refusal) => Err(refusal),
+        }
+    }
+
+    /// Takes in the first line of a trace.
+    fn begin_trace(&mut self, alloc: Global, line: &[u8]) -> Result<(), LineRefusal>
+        requires between { self.old.reader ≡ None }
+        requires begins { begins_trace line.now ≡ true }
+        requires small { length line.now ≤ 4096 }
+        ensures answered { OnOk result ((lines : List (List ℕ)) (text : List ℕ) → StandsFor self.old lines text →
+            StandsFor self.new (lines ++ line.now ∷ []) (text ++ [])) }
+        ensures refused { IfErr result (λ refusal. (lines : List (List ℕ)) (text : List ℕ) (others : List (List ℕ)) →
+            StandsFor self.old lines text → IsRefusedAfter lines text (line.now ∷ others) refusal) }
+    {
+        match TraceReader::new(alloc, line) {
+            Ok(reader) => {
+                self.reader = Some(reader);
+                Ok(())
+            }
+            Err(column) => Err(LineRefusal::Syntax(column)),
+        }
+    }
+
+    /// Takes in a line of the trace that the reader has begun.
+    fn go_on(
+        &mut self,
+        alloc: Global,
+        mut reader: TraceReader,
+        line: &[u8],
+        out: &mut String,
+    ) -> Result<(), LineRefusal>
+        requires between { self.old.reader ≡ None }
+        requires small { length line.now ≤ 4096 }
+        ensures answered { OnOk result ((lines : List (List ℕ)) (text : List ℕ) → StandsFor (judging reader) lines text →
+            Grows (string_bytes out.old) (string_bytes out.new) (λ more. StandsFor self.new (lines ++ line.now ∷ []) (text ++ more))) }
+        ensures refused { IfErr result (λ refusal. (lines : List (List ℕ)) (text : List ℕ) (others : List (List ℕ)) →
+            StandsFor (judging reader) lines text → IsRefusedAfter lines text (line.now ∷ others) refusal) }
+        ensures same { OnErr result (string_bytes out.new ≡ string_bytes out.old) }
+    {
+        match reader.take_in(line) {
+            Ok(Progress::Open) => {
+                self.reader = Some(reader);
+                Ok(())
+            }
+            Ok(Progress::Ended) => match add_report(alloc, reader.events(), out) {
+                Ok(()) => Ok(()),
+                Err(refusal) => Err(refusal),
+            },
+            Err(bad) => Err(refusal_of(bad)),
+        }
+    }
+}
+
+impl Answers for InputJudge {
+    ghost stands = { StandsFor };
+
+    ghost ends = { AreJudged };
+
+    ghost refuses = { IsRefusedAfter };
+
+    fn answer(&mut self, alloc: Global, line: &[u8], out: &mut String) -> Result<(), LineRefusal> {
+        match self.reader.take() {
+            None => self.begin(alloc, line, out),
+            Some(reader) => self.go_on(alloc, reader, line, out),
+        }
+    }
+
+    fn finish(&self) -> Result<(), LineRefusal> {
+        match self.reader {
+            None => Ok(()),
+            Some(_) => Err(LineRefusal::Syntax(1)),
+        }
+    }
+
+    ghost too_long = { line_too_long };
+
+    ghost wanting = { memory_wanted };
+
+    ghost wanting_last = { memory_wanted_last };
+}

@@ -1,4 +1,0 @@
-pub mod Endings
-pub mod Laws
-pub mod Noted
-pub mod Values

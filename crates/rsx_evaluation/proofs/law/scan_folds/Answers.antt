@@ -1,5 +1,0 @@
-use Rattle.rsx_evaluation.proofs.Laws.{scan_folds_law}
-use Rattle.rsx_evaluation.proofs.law.scan_folds.Goals as goal
-
-pub returns : goal.returns
-returns g c = λ m f s v. scan_folds_law m f s v

@@ -1,4 +1,0 @@
--- Definitions that contracts cite.
-pub mod Kinds
-pub mod Answer
-pub mod Laws

@@ -1,4 +1,0 @@
--- Definitions that contracts cite.
-pub mod Moves
-pub mod Pumped
-pub mod Served

@@ -1,9 +1,0 @@
--- Lemmas about edits of rows with feeds.
-pub mod Behind
-pub mod Fed
-pub mod Kept
-pub mod Leaves
-pub mod Names
-pub mod Published
-pub mod Subscribed
-pub mod Subscribers

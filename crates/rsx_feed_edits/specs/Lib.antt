@@ -1,6 +1,0 @@
--- Definitions that contracts cite.
-pub mod Edits
-pub mod Publishes
-pub mod Regions
-pub mod Requests
-pub mod Subscribing

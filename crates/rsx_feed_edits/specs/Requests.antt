@@ -1,9 +1,0 @@
--- What a subscriber of a graph with feeds did.
-use Rattle.rsx_feeding.specs.History.{History}
-use Rattle.rsx_history.specs.History.{changed}
-use Rattle.rsx_subscriber.specs.Past.{Past}
-use Rattle.rsx_types.specs.declared.names.SubId.{SubId}
-
--- the past of the subscriber with this number changed so
-abbrev pub with_past : {T : Type 0} → (Past T → Past T) → SubId → History T → History T
-with_past f i h = record { hubs = h.hubs; pasts = changed f h.pasts i.0 }

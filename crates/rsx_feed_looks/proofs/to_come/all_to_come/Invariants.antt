@@ -1,6 +1,0 @@
-use Rattle.std.proofs.Common.{[], take}
-use Rattle.rsx_feed_looks.specs.ToCome.{AreToCome}
-use Rattle.rsx_feed_looks.proofs.to_come.all_to_come.Given as goal
-
-abbrev pub invariant-loop-hub : goal.invariant-loop-hub
-invariant-loop-hub g l = AreToCome (g.O.Ops.meaning l.ops) l.feeds [] (take l.hub-index l.hubs) l.all.items

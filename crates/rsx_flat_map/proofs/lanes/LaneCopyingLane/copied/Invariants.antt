@@ -1,5 +1,0 @@
-use Rattle.std.proofs.Common.{◌≡◌, ◌++◌, take, reverse}
-use Rattle.rsx_flat_map.proofs.lanes.LaneCopyingLane.copied.Given as goal
-
-abbrev pub invariant-loop-at : goal.invariant-loop-at
-invariant-loop-at g l = l.items.items ++ reverse (take l.at l.self-inside.reversed.items) ≡ reverse l.self-inside.reversed.items

@@ -1,5 +1,0 @@
--- Definitions that contracts cite.
-pub mod Coming
-pub mod FlatMap
-pub mod Lanes
-pub mod Laws

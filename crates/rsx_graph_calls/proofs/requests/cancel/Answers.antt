@@ -1,0 +1,31 @@
+use Rattle.std.proofs.Common.{◌<◌, arith, length, refl, sym}
+use Rattle.rsx_subscriber.specs.Past.{cancelled}
+use Rattle.rsx_graph_state.proofs.Graphs.{AllStand-set, found}
+use Rattle.rsx_graph_calls.proofs.requests.cancel.Goals as goal
+
+pub returns-clause-stands : goal.returns-clause-stands
+returns-clause-stands g c = λ m hubs feeds h s.
+    let l = c.len.ensures in
+    let subs = c.args.subscriptions.now.items in
+    let old = c.index_mut-subscription.result.now in
+    let within : c.args.sub.0 < length c.args.subscriptions.now.items = omega (arith, l, c.if-at-len.false) in
+    record {
+      taken = s.taken;
+      many = s.many;
+      each = s.each;
+      hub = s.hub;
+      all = AllStand-set m s.taken cancelled subs h.pasts c.args.sub.0 old c.cancel.new.self within (sym c.index_mut-subscription.ensures.value) (λ p k. c.cancel.ensures.stands m s.taken p k) s.all;
+    }
+
+pub returns-clause-effect : goal.returns-clause-effect
+returns-clause-effect g c =
+    let l = c.len.ensures in
+    let old = c.index_mut-subscription.result.now in
+    let within : c.args.sub.0 < length c.args.subscriptions.now.items = omega (arith, l, c.if-at-len.false) in
+    record {
+      old = old;
+      new = c.cancel.new.self;
+      there = found c.args.subscriptions.now.items c.args.sub.0 old within (sym c.index_mut-subscription.ensures.value);
+      effect = c.cancel.ensures.effect;
+      others = refl;
+    }

@@ -1,0 +1,8 @@
+-- Definitions that contracts cite.
+pub mod Edits
+pub mod Looks
+pub mod Publishes
+pub mod Regions
+pub mod Requests
+pub mod Subscribing
+pub mod ToCome

@@ -1,0 +1,44 @@
+#![tactic(auto)]
+//! Edits of the rows of hubs, feeds and subscriptions of a graph, and looks at them.
+//!
+//! # Edits
+//!
+//! The edits of hubs, feeds and subscriptions that stand in rows and are named by their numbers.
+//!
+//! - [`feed_hubs`]: [`feed_hub`], a new hub that is fed by an expression.
+//! - [`hubs`]: [`hub`], a new hub with an emitter.
+//! - [`publishing`]: [`emit`], [`complete`] and [`fail`], at a hub with an emitter.
+//! - [`requests`]: [`request`] and [`cancel`] of a subscription.
+//! - [`subscribing`]: [`subscribe`], a new subscription.
+//!
+//! The definitions stand in `specs/`: `Edits` and `Subscribing` (what has happened by each edit, and why it is refused), `Publishes`
+//! (the same of what is published), `Requests` (what a subscriber did), `Joins` (the joins that are kept beside the rows) and
+//! `Regions` (the regions that are kept beside the subscriptions).
+//!
+//! # Looks
+//!
+//! The looks at hubs, feeds and subscriptions that stand in rows and are named by their numbers.
+//!
+//! - [`still_owed`]: [`owed`], what is still owed to a subscriber.
+//! - [`to_come`]: what is still to come of each hub.
+//! - [`trees`]: [`notes`] and [`joins`] of a tree, of a subscription or of a hub's feed.
+//!
+//! The definitions stand in `specs/`: `Looks` (what a look answers, and why it is refused) and `ToCome` (what is still to come of
+//! the hubs).
+
+pub mod feed_hubs;
+pub mod hubs;
+pub mod publishing;
+pub mod requests;
+pub mod still_owed;
+pub mod subscribing;
+mod to_come;
+pub mod trees;
+
+pub use feed_hubs::feed_hub;
+pub use hubs::hub;
+pub use publishing::{NotEmitted, complete, emit, emit_copy, fail};
+pub use requests::{cancel, request};
+pub use still_owed::owed;
+pub use subscribing::subscribe;
+pub use trees::{joins, notes};

@@ -1,0 +1,5 @@
+-- Definitions that contracts cite.
+pub mod Moves
+pub mod Pumped
+pub mod Rows
+pub mod Served

@@ -1,0 +1,164 @@
+//! Hubs take in what they can: what waits in their inboxes, and what their feeds give.
+
+ghost use Rattle.std.specs.Prelude.{◌≡◌, ◌<◌, ◌^◌, None, Option, Some, IfNone, IfSome, IsOk, length, true};
+ghost use Rattle.rsx_graph_state.specs.Moves.{rows_of};
+ghost use Rattle.rsx_graph_state.specs.Stands as spec;
+ghost use Rattle.rsx_subscriber.specs.Stands.{IsMadeAnswer};
+ghost use Rattle.rsx_types.specs.Meaning.{Meaning};
+ghost use Rattle.rsx_types.specs.declared.names.SubId.{SubId};
+ghost use Rattle.rsx_types.specs.declared.signal.Signal.{Signal};
+ghost use Rattle.rsx_graph_moves.specs.Moves.{is_enabled, name_in};
+ghost use Rattle.rsx_graph_moves.specs.Pumped.{AreHubsQuiet, HasServed, HaveServed, IsHubQuiet};
+
+use crate::moves::make;
+use rsx_graph_state::{Feed, Refusal, can_accept, can_feed, place_of};
+use rsx_hub::Hub;
+use rsx_pipe::{NodeMove, Pumped as Driven};
+use rsx_subscriber::Subscription;
+use rsx_subscriber::naming::{inside_node, name_of};
+use rsx_types::{HubId, Move, Ops, Tree};
+use std::alloc::Global;
+
+/// All hubs take in what they can, one after the other, in at most `budget` moves; the moves of a hub's feed are among them.
+pub(crate) fn serve_all<O: Ops>(
+    alloc: Global,
+    ops: &O,
+    hubs: &mut Vec<Hub<O::Item>>,
+    feeds: &mut Vec<Feed<O::Item>>,
+    subscriptions: &mut Vec<Subscription<O::Item>>,
+    budget: u32,
+) -> Result<Driven, Refusal>
+    requires { length hubs.old.items < 2 ^ 32 }
+    ensures hubs { length hubs.new.items ≡ length hubs.old.items }
+    ensures feeds { length feeds.new.items ≡ length feeds.old.items }
+    ensures subscriptions { length subscriptions.new.items ≡ length subscriptions.old.items }
+    ensures served { HaveServed (O.meaning ops.now) budget (rows_of hubs.old.items feeds.old.items subscriptions.old.items) result (rows_of hubs.new.items feeds.new.items subscriptions.new.items) }
+    ensures none { AreHubsQuiet (O.meaning ops.now) (rows_of hubs.old.items feeds.old.items subscriptions.old.items) (length hubs.old.items) →
+        (rows_of hubs.new.items feeds.new.items subscriptions.new.items ≡ rows_of hubs.old.items feeds.old.items subscriptions.old.items) × IsOk result }
+{
+    let mut left = budget;
+    let count = hubs.len() as u32;
+    for at in 0..count {
+        left = match serve(alloc, ops, hubs, feeds, subscriptions, HubId(at), left) {
+            Ok(Driven::Idle(left)) => left,
+            Ok(Driven::Budget) => return Ok(Driven::Budget),
+            Err(why) => return Err(why),
+        };
+    }
+    Ok(Driven::Idle(left))
+}
+
+/// A hub takes in what it can, in at most `budget` moves; the moves of its feed are among them.
+fn serve<O: Ops>(
+    alloc: Global,
+    ops: &O,
+    hubs: &mut Vec<Hub<O::Item>>,
+    feeds: &mut Vec<Feed<O::Item>>,
+    subscriptions: &mut Vec<Subscription<O::Item>>,
+    hub: HubId,
+    budget: u32,
+) -> Result<Driven, Refusal>
+    requires { hub.0 < length hubs.old.items }
+    ensures hubs { length hubs.new.items ≡ length hubs.old.items }
+    ensures feeds { length feeds.new.items ≡ length feeds.old.items }
+    ensures subscriptions { length subscriptions.new.items ≡ length subscriptions.old.items }
+    ensures served { HasServed (O.meaning ops.now) hub.0 budget (rows_of hubs.old.items feeds.old.items subscriptions.old.items) result (rows_of hubs.new.items feeds.new.items subscriptions.new.items) }
+    ensures none { IsHubQuiet (O.meaning ops.now) (rows_of hubs.old.items feeds.old.items subscriptions.old.items) hub.0 →
+        (rows_of hubs.new.items feeds.new.items subscriptions.new.items ≡ rows_of hubs.old.items feeds.old.items subscriptions.old.items) × IsOk result }
+{
+    for made in 0..budget {
+        let Some(step) = first_move(hubs, feeds, subscriptions, hub) else {
+            return Ok(Driven::Idle(budget - made));
+        };
+        match make(alloc, ops, hubs, feeds, subscriptions, step) {
+            Ok(_) => {}
+            Err(_) => return Err(Refusal::NoMemory),
+        }
+    }
+    match first_move(hubs, feeds, subscriptions, hub) {
+        Some(_) => Ok(Driven::Budget),
+        None => Ok(Driven::Idle(0)),
+    }
+}
+
+/// The first enabled move of a hub: that by which it takes the next signal of its emitter in, or one of its feed. None where no
+/// such move is enabled.
+fn first_move<T: Drop>(
+    hubs: &Vec<Hub<T>>,
+    feeds: &Vec<Feed<T>>,
+    subscriptions: &Vec<Subscription<T>>,
+    hub: HubId,
+) -> Option<Move>
+    requires { hub.0 < length hubs.now.items }
+    ensures some { (m : Meaning T) → IfSome result (λ step. is_enabled m (rows_of hubs.now.items feeds.now.items subscriptions.now.items) step ≡ true) }
+    ensures own { (m : Meaning T) → IfSome result (λ step. IsHubQuiet m (rows_of hubs.now.items feeds.now.items subscriptions.now.items) hub.0 → ⊥) }
+    ensures still { IfSome result (λ step. (o : Option (SubId × Signal T)) → IsMadeAnswer step o → o ≡ None) }
+    ensures none { (m : Meaning T) → IfNone result (IsHubQuiet m (rows_of hubs.now.items feeds.now.items subscriptions.now.items) hub.0) }
+{
+    match place_of(feeds, hub.0) {
+        Some(at) => first_of_feed(hubs, feeds, subscriptions, hub, at),
+        None => first_of_emitter(hubs, feeds, subscriptions, hub),
+    }
+}
+
+/// The same of a hub that has an emitter.
+fn first_of_emitter<T: Drop>(
+    hubs: &Vec<Hub<T>>,
+    feeds: &Vec<Feed<T>>,
+    subscriptions: &Vec<Subscription<T>>,
+    hub: HubId,
+) -> Option<Move>
+    requires there { hub.0 < length hubs.now.items }
+    requires unfed { spec.place_of feeds.now.items hub.0 ≡ None }
+    ensures some { (m : Meaning T) → IfSome result (λ step. is_enabled m (rows_of hubs.now.items feeds.now.items subscriptions.now.items) step ≡ true) }
+    ensures own { (m : Meaning T) → IfSome result (λ step. IsHubQuiet m (rows_of hubs.now.items feeds.now.items subscriptions.now.items) hub.0 → ⊥) }
+    ensures still { IfSome result (λ step. (o : Option (SubId × Signal T)) → IsMadeAnswer step o → o ≡ None) }
+    ensures none { (m : Meaning T) → IfNone result (IsHubQuiet m (rows_of hubs.now.items feeds.now.items subscriptions.now.items) hub.0) }
+{
+    match can_accept(
+        u64::from(hub.0),
+        &hubs[hub.0 as usize],
+        feeds,
+        subscriptions,
+    ) {
+        true => Some(Move::Accept(hub)),
+        false => None,
+    }
+}
+
+/// The same of a hub that has the feed with this index.
+fn first_of_feed<T: Drop>(
+    hubs: &Vec<Hub<T>>,
+    feeds: &Vec<Feed<T>>,
+    subscriptions: &Vec<Subscription<T>>,
+    hub: HubId,
+    at: usize,
+) -> Option<Move>
+    requires there { hub.0 < length hubs.now.items }
+    requires within { at < length feeds.now.items }
+    requires place { spec.place_of feeds.now.items hub.0 ≡ Some at }
+    ensures some { (m : Meaning T) → IfSome result (λ step. is_enabled m (rows_of hubs.now.items feeds.now.items subscriptions.now.items) step ≡ true) }
+    ensures own { (m : Meaning T) → IfSome result (λ step. IsHubQuiet m (rows_of hubs.now.items feeds.now.items subscriptions.now.items) hub.0 → ⊥) }
+    ensures still { IfSome result (λ step. (o : Option (SubId × Signal T)) → IsMadeAnswer step o → o ≡ None) }
+    ensures none { (m : Meaning T) → IfNone result (IsHubQuiet m (rows_of hubs.now.items feeds.now.items subscriptions.now.items) hub.0) }
+{
+    let feed = &feeds[at];
+    if let Some(inside) = feed.first_work() {
+        return Some(name_in_feed(feed, hub, inside));
+    }
+    match can_feed(at, &hubs[hub.0 as usize], feeds, subscriptions) {
+        true => Some(name_in_feed(feed, hub, NodeMove::Send(0))),
+        false => None,
+    }
+}
+
+/// The name of a move inside the part of a hub's feed.
+fn name_in_feed<T: Drop>(feed: &Feed<T>, hub: HubId, inside: NodeMove) -> Move
+    ensures { result ≡ name_in feed.now hub inside }
+{
+    name_of(
+        Tree::Feed(hub),
+        inside,
+        feed.part.route(inside_node(inside)),
+    )
+}

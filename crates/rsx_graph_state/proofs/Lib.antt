@@ -1,0 +1,17 @@
+-- Lemmas about histories, and about the graphs that stand for them.
+-- Lemmas about graphs with feeds.
+pub mod Accepted
+pub mod Calls
+pub mod Graphs
+pub mod Handing
+pub mod HubMoves
+pub mod Joins
+pub mod Kept
+pub mod Named
+pub mod OneFeed
+pub mod Places
+pub mod Publishes
+pub mod Ready
+pub mod Sends
+pub mod Taken
+pub mod Values

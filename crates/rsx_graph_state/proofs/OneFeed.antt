@@ -1,0 +1,179 @@
+-- Feeds to whose nodes a signal of a hub is handed.
+use Rattle.std.proofs.Common.{◌≡◌, ℕ, zero, suc, ◌+◌, ◌<◌, ◌≤◌, min, Bool, true, false, nat_lt, if◌then◌else◌, List, [], ◌∷◌, ◌++◌, length, take, slice_get, Some, refl, ap, sym, ◌∙◌, subst, arith, add-zero}
+use Rattle.std.proofs.lemmas.Bool.Decides.{nat_tests}
+use Rattle.std.proofs.lemmas.List.{append-nil}
+use Rattle.rsx_demand.specs.Demand.{saturating_total}
+use Rattle.rsx_subscriber.specs.Prelude.{fresh_edge, Expr, Live, Closed, NodeMove, IsMadeInside, IsOpenAt, with_signal_at, IsPutOut, Part as PartOf, PartStands, all_edges, AreTaken}
+use Rattle.rsx_tree.specs.Prelude.{EdgeView, edge_view, IsHandedOut, is_room_for, times}
+use Rattle.rsx_demand.specs.declared.TheConstants.{UNBOUNDED}
+use Rattle.rsx_sources.specs.Prelude.{Meaning, Open, Stream, ended_by, signals, Signal}
+use Rattle.rsx_hub.specs.Hub.{HubState}
+use Rattle.rsx_pipe.specs.Published as Part
+use Rattle.rsx_graph_state.specs.Feeds.{FeedStands, IsFeedHanded, has_room_at, reads_at}
+use Rattle.rsx_graph_state.specs.declared.feed.Feed.{Feed}
+
+-- ---- numbers of hubs
+
+pub is_before : (h n k : ℕ) → k ≡ n → h < k → nat_lt h n ≡ true
+is_before h n k named less = grind (arith, nat_tests)
+
+pub not_before : (h n k : ℕ) → k ≡ n → k ≤ h → nat_lt h n ≡ false
+not_before h n k named more = grind (arith, nat_tests)
+
+-- ---- one signal more at a hub, seen by a feed of another one
+
+-- the hubs before a later one
+with_before : {T : Type 0} (h n : ℕ) (s : Signal T) (vs : List (Stream T)) → h < n → with_signal_at h s (take n vs) ≡ take n (with_signal_at h s vs)
+with_before h zero s vs less = absurd (omega (arith, less))
+with_before zero (suc n) s [] less = refl
+with_before (suc h) (suc n) s [] less = refl
+with_before zero (suc n) s (v ∷ vs) less = refl
+with_before (suc h) (suc n) s (v ∷ vs) less = ap (λ l. v ∷ l) (with_before h n s vs (omega (arith, less)))
+
+open_before : {A : Type 0} (h n : ℕ) (vs : List A) → h < n → slice_get (take n vs) h ≡ slice_get vs h
+open_before h zero vs less = absurd (omega (arith, less))
+open_before zero (suc n) [] less = refl
+open_before (suc h) (suc n) [] less = refl
+open_before zero (suc n) (v ∷ vs) less = refl
+open_before (suc h) (suc n) (v ∷ vs) less = open_before h n vs (omega (arith, less))
+
+-- the hubs before it
+pub with_behind : {T : Type 0} (h n : ℕ) (s : Signal T) (vs : List (Stream T)) → n ≤ h → take n (with_signal_at h s vs) ≡ take n vs
+with_behind h zero s vs less = refl
+with_behind zero (suc n) s vs less = absurd (omega (arith, less))
+with_behind (suc h) (suc n) s [] less = refl
+with_behind (suc h) (suc n) s (v ∷ vs) less = ap (λ l. v ∷ l) (with_behind h n s vs (omega (arith, less)))
+
+-- another hub
+with_other : {T : Type 0} (h n : ℕ) (s : Signal T) (vs : List (Stream T)) → (n ≡ h → ⊥) → slice_get (with_signal_at h s vs) n ≡ slice_get vs n
+with_other zero n s [] other = refl
+with_other (suc h) n s [] other = refl
+with_other zero zero s (v ∷ vs) other = absurd (other refl)
+with_other zero (suc n) s (v ∷ vs) other = refl
+with_other (suc h) zero s (v ∷ vs) other = refl
+with_other (suc h) (suc n) s (v ∷ vs) other = with_other h n s vs (λ e. other (ap suc e))
+
+-- ---- one feed
+
+feed_handed : {T : Type 0} (h : ℕ) (s : Signal T) (old : Feed T) (part : PartOf T) → nat_lt h old.hub ≡ true → Part.IsHanded h s old.part part → IsFeedHanded h s old (record { part = part; hub = old.hub })
+feed_handed {T} h s old part below k =
+    let less : h < old.hub = grind (arith, nat_tests, below) in
+    record {
+      hub = refl;
+      part = λ _. k;
+      same = λ not. cc;
+      stands = λ m published e joins unended other f.
+          let P : List (Stream T) → Type 0 = λ vs. PartStands m vs part e joins (signals f.value) in
+          let here : IsOpenAt h (take old.hub published) = (unended.0, open_before h old.hub published less ∙ unended.1, unended.2) in
+          record {
+            value = f.value;
+            taken = with_other h old.hub s published other ∙ f.taken;
+            part = subst P (with_before h old.hub s published less) (k.stands m (take old.hub published) e joins (signals f.value) here f.part);
+            asked = ap (λ r. r.demand.asked) k.root ∙ f.asked;
+            unclosed = λ c. f.unclosed (ap (λ r. r.state) (sym k.root) ∙ c);
+          };
+    }
+
+feed_unhanded : {T : Type 0} (h : ℕ) (s : Signal T) (f : Feed T) → nat_lt h f.hub ≡ false → IsFeedHanded h s f f
+feed_unhanded {T} h s f not =
+    let more : f.hub ≤ h = grind (arith, nat_tests, not) in
+    record {
+      hub = refl;
+      part = λ below. cc;
+      same = λ _. refl;
+      stands = λ m published e joins unended other k.
+          let P : List (Stream T) → Type 0 = λ vs. PartStands m vs f.part e joins (signals k.value) in
+          record {
+            value = k.value;
+            taken = with_other h f.hub s published other ∙ k.taken;
+            part = subst P (sym (with_behind h f.hub s published more)) k.part;
+            asked = k.asked;
+            unclosed = k.unclosed;
+          };
+    }
+
+pub handed_feed : {T : Type 0} (h : ℕ) (old : Feed T) (part : PartOf T) (given left : List (Signal T)) → nat_lt h old.hub ≡ true → IsHandedOut (Part.readers h old.part) (Part.has_room_for h old.part) given left (λ s. Part.IsHanded h s old.part part) →
+    IsHandedOut (reads_at h old) (has_room_at h old) given left (λ s. IsFeedHanded h s old (record { part = part; hub = old.hub }))
+handed_feed h old part given left below f = λ s k all room.
+    let e = f s k (all ∙ ap (λ b. times (k + (if b then Part.readers h old.part else 0)) s) below) (sym (ap (λ b. is_room_for s (if b then Part.has_room_for h old.part else true)) below) ∙ room) in
+    (feed_handed h s old part below e.0, e.1)
+
+pub none_handed : {T : Type 0} (h : ℕ) (f : Feed T) (given : List (Signal T)) → nat_lt h f.hub ≡ false → IsHandedOut (reads_at h f) (has_room_at h f) given given (λ s. IsFeedHanded h s f f)
+none_handed h f given not = λ s k all room.
+    (feed_unhanded h s f not, all ∙ (ap (λ b. times (k + (if b then Part.readers h f.part else 0)) s) not ∙ ap (λ n. times n s) (add-zero k)))
+
+pub reads_before : {T : Type 0} (h : ℕ) (f : Feed T) (n most : ℕ) → nat_lt h f.hub ≡ true → n ≡ min (Part.readers h f.part) most → n ≡ min (reads_at h f) most
+reads_before h f n most below is = is ∙ ap (λ b. min (if b then Part.readers h f.part else 0) most) (sym below)
+
+pub reads_behind : {T : Type 0} (h : ℕ) (f : Feed T) (most : ℕ) → nat_lt h f.hub ≡ false → 0 ≡ min (reads_at h f) most
+reads_behind h f most not = let none : 0 ≡ min 0 most = omega arith in none ∙ ap (λ b. min (if b then Part.readers h f.part else 0) most) (sym not)
+
+pub room_before : {T : Type 0} (h : ℕ) (f : Feed T) (b : Bool) → nat_lt h f.hub ≡ true → b ≡ Part.has_room_for h f.part → b ≡ has_room_at h f
+room_before h f b below is = is ∙ ap (λ c. if c then Part.has_room_for h f.part else true) (sym below)
+
+pub room_behind : {T : Type 0} (h : ℕ) (f : Feed T) → nat_lt h f.hub ≡ false → true ≡ has_room_at h f
+room_behind h f not = ap (λ c. if c then Part.has_room_for h f.part else true) (sym not)
+
+-- ---- a fresh feed
+
+first_edge : (all : List EdgeView) (e : EdgeView) (es : List EdgeView) (f : EdgeView) (fs : List EdgeView) → all ≡ e ∷ es → all ≡ f ∷ fs → e ≡ f
+first_edge all e es f fs a b = cc
+
+take_first : {A : Type 0} (n : ℕ) (xs : List A) (x : A) → n ≡ length xs → take n (xs ++ x ∷ []) ≡ xs
+take_first zero [] x e = refl
+take_first zero (y ∷ ys) x e = absurd (omega (arith, e))
+take_first (suc n) [] x e = absurd (omega (arith, e))
+take_first (suc n) (y ∷ ys) x e = ap (λ l. y ∷ l) (take_first n ys x (omega (arith, e)))
+
+last_there : {A : Type 0} (n : ℕ) (xs : List A) (x : A) → n ≡ length xs → slice_get (xs ++ x ∷ []) n ≡ Some x
+last_there zero [] x e = refl
+last_there zero (y ∷ ys) x e = absurd (omega (arith, e))
+last_there (suc n) [] x e = absurd (omega (arith, e))
+last_there (suc n) (y ∷ ys) x e = last_there n ys x (omega (arith, e))
+
+as_many : {T : Type 0} (hubs : List (HubState T)) (published : List (Stream T)) → AreTaken hubs published → length hubs ≡ length published
+as_many [] [] k = refl
+as_many [] (v ∷ vs) k = absurd k
+as_many (h ∷ hs) [] k = absurd k
+as_many (h ∷ hs) (v ∷ vs) k = ap suc (as_many hs vs k.1)
+
+pub fresh_feed : {T : Type 0} (m : Meaning T) (hubs : List (HubState T)) (published : List (Stream T)) (first : PartOf T) (part : PartOf T) (hub : ℕ) (e : Expr T) (joins : List ℕ) → AreTaken hubs published → hub ≡ length hubs → PartStands m published first e joins [] → IsPutOut m first [] part →
+    part.root.demand.asked ≡ UNBOUNDED → (part.root.state ≡ Closed → ⊥) → FeedStands m (published ++ ended_by Open ∷ []) (record { part = part; hub = hub }) e joins
+fresh_feed {T} m hubs published first part hub e joins taken number stands put asked unclosed =
+    let count : hub ≡ length published = number ∙ as_many hubs published taken in
+    let P : List (Stream T) → Type 0 = λ vs. PartStands m vs part e joins [] in
+    record {
+      value = ended_by Open;
+      taken = last_there hub published (ended_by Open) count;
+      part = subst P (sym (take_first hub published (ended_by Open) count)) (put published e joins [] stands);
+      asked = asked;
+      unclosed = unclosed;
+    }
+
+-- all that can be was asked of it
+pub asked_all_of : {T : Type 0} (first part : PartOf T) (es : List EdgeView) → all_edges first ≡ fresh_edge ∷ es → part.root.demand.asked ≡ saturating_total first.root.demand.asked UNBOUNDED → part.root.demand.asked ≡ UNBOUNDED
+asked_all_of first part es edges asked =
+    let none : first.root.demand.asked ≡ 0 = ap (λ v. v.asked) (first_edge (all_edges first) (edge_view first.root) _ fresh_edge es refl edges) in
+    asked ∙ (ap (λ n. saturating_total n UNBOUNDED) none ∙ all_of UNBOUNDED)
+  where
+    all_of : (n : ℕ) → min n (0 + n) ≡ n
+    all_of n = omega arith
+
+pub fresh_unclosed : {T : Type 0} (first part : PartOf T) (es : List EdgeView) → all_edges first ≡ fresh_edge ∷ es → part.root.state ≡ first.root.state → part.root.state ≡ Closed → ⊥
+fresh_unclosed first part es edges state closed =
+    let live : first.root.state ≡ Live = ap (λ v. v.state) (first_edge (all_edges first) (edge_view first.root) _ fresh_edge es refl edges) in
+    cc
+
+-- ---- a move inside a feed
+
+-- the feed stands for the same afterwards
+pub worked_feed : {T : Type 0} (m : Meaning T) (old : Feed T) (part : PartOf T) (move : NodeMove) → IsMadeInside m move old.part part → (published : List (Stream T)) (e : Expr T) (joins : List ℕ) → FeedStands m published old e joins → FeedStands m published (record { part = part; hub = old.hub }) e joins
+worked_feed {T} m old part move k published e joins f =
+    let P : List (Signal T) → Type 0 = λ ss. PartStands m (take old.hub published) part e joins ss in
+    record {
+      value = f.value;
+      taken = f.taken;
+      part = subst P (append-nil (signals f.value)) (k.stands (take old.hub published) e joins (signals f.value) f.part);
+      asked = ap (λ r. r.demand.asked) k.root ∙ f.asked;
+      unclosed = λ c. f.unclosed (ap (λ r. r.state) (sym k.root) ∙ c);
+    }

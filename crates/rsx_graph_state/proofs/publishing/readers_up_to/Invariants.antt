@@ -1,0 +1,9 @@
+use Rattle.std.proofs.Common.{◌≡◌, ◌+◌, ◌≤◌, min, drop}
+use Rattle.rsx_graph_state.specs.Publishing.{readers}
+use Rattle.rsx_graph_state.proofs.publishing.readers_up_to.Given as goal
+
+abbrev pub invariant-loop-subscription : goal.invariant-loop-subscription
+invariant-loop-subscription g l = record {
+  within : l.found ≤ l.most;
+  rest : min (l.found + readers l.number (drop l.subscription-index l.subscriptions)) l.most ≡ min (readers l.number l.subscriptions) l.most;
+}

@@ -1,0 +1,19 @@
+-- Definitions that contracts cite.
+pub mod Answers
+pub mod Begun
+pub mod Feeds
+pub mod Headline
+pub mod History
+pub mod Holding
+pub mod Hubs
+pub mod Joins
+pub mod Lists
+pub mod Moves
+pub mod Names
+pub mod Prelude
+pub mod Publishing
+pub mod Pumped
+pub mod Sending
+pub mod Served
+pub mod Stands
+pub mod Subscriptions

@@ -1,0 +1,26 @@
+-- What a graph's subscribers got where no move is enabled.
+use Rattle.std.specs.Prelude.{◌≡◌, ◌⊎◌, List, [], ◌∷◌, Some}
+use Rattle.rsx_sources.specs.Prelude.{Meaning, Stream}
+use Rattle.rsx_subscriber.specs.Prelude.{HasReadAll, IsWithin, notes_of, IsServed, Past, IsLive}
+use Rattle.rsx_subscriber.specs.declared.subscription.Subscription.{Subscription}
+use Rattle.rsx_subscriber.specs.Stands.{evaluated}
+
+-- a subscriber's expression reads no hub, or each node of its tree that reads one has got all that was published there, where it
+-- offers nothing, though more is asked over its edge than it sent, and can make no step
+abbrev pub HasGotAll : {T : Type 0} → Meaning T → List (Stream T) → Subscription T → Past T → Type 0
+HasGotAll m published s p = (p.joins ≡ []) ⊎ HasReadAll m published s.part
+
+-- each live subscriber did of which that holds, as long as no edge of its tree has carried 2^63-1 items and each of its nodes has a
+-- number
+abbrev pub AllServed : {T : Type 0} → Meaning T → List (Stream T) → List (Subscription T) → List (Past T) → Type 0
+AllServed m published [] [] = Unit {0}
+AllServed {T} m published (s ∷ ss) (p ∷ ps) =
+    (IsLive p.state → HasGotAll m published s p → IsWithin s.part.tree → (v : Stream T) → evaluated m published p (notes_of s.part.tree) ≡ Some v → IsServed s p v) × AllServed m published ss ps
+AllServed m published [] (p ∷ ps) = ⊥
+AllServed m published (s ∷ ss) [] = ⊥
+
+-- each node that reads a hub has got all that was published there, where it offers nothing, though more is asked over its edge than
+-- it sent, and can make no step
+abbrev pub AllHaveRead : {T : Type 0} → Meaning T → List (Stream T) → List (Subscription T) → Type 0
+AllHaveRead m published [] = Unit {0}
+AllHaveRead m published (s ∷ ss) = HasReadAll m published s.part × AllHaveRead m published ss

@@ -1,0 +1,18 @@
+//! The feeds of hubs, found by the numbers of their hubs.
+
+ghost use Rattle.std.specs.Prelude.{◌≡◌};
+ghost use Rattle.rsx_graph_state.specs.Stands as spec;
+
+use crate::Feed;
+
+/// Where among these feeds that of the hub with this number stands: the first that names the hub. None where none does.
+pub fn place_of<T: Drop>(feeds: &[Feed<T>], hub: u32) -> Option<usize>
+    ensures { result ≡ spec.place_of feeds.now hub }
+{
+    for at in 0..feeds.len() {
+        if feeds[at].hub == hub {
+            return Some(at);
+        }
+    }
+    None
+}

@@ -1,0 +1,241 @@
+//! Taking a signal in at a hub, and handing it to all nodes that read the hub.
+
+ghost use Rattle.std.specs.Prelude.{◌≡◌, ◌-◌, ◌<◌, min, true, Some, IfOk, IfErr, OnOk, OnErr, vec_len, vec_capacity};
+ghost use Rattle.rsx_types.specs.declared.signal.Signal.{Signal};
+ghost use Rattle.rsx_sources.specs.Steps.{IsNotMade};
+ghost use Rattle.rsx_hub.specs.Hub.{accepted, waiting};
+ghost use Rattle.rsx_tree.specs.Handed.{IsHandedOut, times};
+ghost use Rattle.rsx_graph_state.specs.Publishing as spec;
+ghost use Rattle.rsx_graph_state.specs.Publishing.{all_readers, feed_readers, readers, AllFeedsHanded, AllHanded, IsAccepted};
+
+use crate::feed::Feed;
+use rsx_hub::Hub;
+use rsx_sources::{Front, NotMade};
+use rsx_subscriber::Subscription;
+use rsx_types::{NoMemory, Ops, Signal};
+use std::alloc::Global;
+
+/// Takes the signal in that waits in front of the inbox of the hub with this number, and hands it to each node of these feeds and
+/// subscriptions that reads the hub. An item is handed to all or to none: one node without room keeps it in the inbox.
+///
+/// # Errors
+/// Nothing has changed:
+/// - [`NotMade::NotEnabled`] exactly where no signal waits, or an item does and some node that reads the hub has no room for it.
+/// - [`NotMade::NoMemory`] where a growth or a copy was refused, or where 2^32 - 1 nodes or more read the hub, for which no list
+///   is made.
+pub fn accept<O: Ops>(
+    alloc: Global,
+    ops: &O,
+    hub: &mut Hub<O::Item>,
+    number: u32,
+    feeds: &mut [Feed<O::Item>],
+    subscriptions: &mut [Subscription<O::Item>],
+) -> Result<(), NotMade>
+    ensures ok { OnOk result (IsAccepted number hub.old hub.new feeds.old feeds.new subscriptions.old subscriptions.new) }
+    ensures enabled { OnOk result (spec.can_accept number hub.old feeds.old subscriptions.old ≡ true) }
+    ensures err { IfErr result (IsNotMade (spec.can_accept number hub.old feeds.old subscriptions.old)) }
+    ensures same { OnErr result ((hub.new ≡ hub.old) × (feeds.new ≡ feeds.old) × (subscriptions.new ≡ subscriptions.old)) }
+{
+    let number = u64::from(number);
+    if !can_accept(number, hub, feeds, subscriptions) {
+        return Err(NotMade::NotEnabled);
+    }
+    let readers = all_readers_up_to(number, feeds, subscriptions, u32::MAX);
+    if readers == u32::MAX {
+        return Err(NotMade::NoMemory);
+    }
+    match take_in(alloc, ops, hub, readers) {
+        Ok(mut signals) => {
+            hand_to_all(number, feeds, subscriptions, &mut signals);
+            Ok(())
+        }
+        Err(_) => Err(NotMade::NoMemory),
+    }
+}
+
+/// Whether the hub with this number can take a signal in: one waits in front of its inbox, and for an item each node of these feeds
+/// and subscriptions that reads the hub has room. It takes no memory.
+pub fn can_accept<T: Drop>(
+    number: u64,
+    hub: &Hub<T>,
+    feeds: &[Feed<T>],
+    subscriptions: &[Subscription<T>],
+) -> bool
+    ensures { result ≡ spec.can_accept number hub.now feeds.now subscriptions.now }
+{
+    match hub.front() {
+        None => false,
+        Some(Front::Item) => all_have_room(number, feeds, subscriptions),
+        Some(Front::Completion) => true,
+        Some(Front::Failure(_)) => true,
+    }
+}
+
+/// Whether all nodes that read the hub have room for an item of it.
+pub(crate) fn all_have_room<T: Drop>(
+    number: u64,
+    feeds: &[Feed<T>],
+    subscriptions: &[Subscription<T>],
+) -> bool
+    ensures { result ≡ spec.all_have_room number feeds.now subscriptions.now }
+{
+    match feeds_have_room(number, feeds) {
+        true => have_room(number, subscriptions),
+        false => false,
+    }
+}
+
+/// Whether all nodes of these feeds that read the hub have room for an item of it.
+fn feeds_have_room<T: Drop>(number: u64, feeds: &[Feed<T>]) -> bool
+    ensures { result ≡ spec.feeds_have_room number feeds.now }
+{
+    for feed in feeds {
+        if !feed.has_room_for(number) {
+            return false;
+        }
+    }
+    true
+}
+
+/// Whether all nodes of these subscriptions that read the hub have room for an item of it.
+fn have_room<T: Drop>(number: u64, subscriptions: &[Subscription<T>]) -> bool
+    ensures { result ≡ spec.have_room number subscriptions.now }
+{
+    for subscription in subscriptions {
+        if !subscription.has_room_for(number) {
+            return false;
+        }
+    }
+    true
+}
+
+/// How many nodes read the hub, but at most `most`.
+pub(crate) fn all_readers_up_to<T: Drop>(
+    number: u64,
+    feeds: &[Feed<T>],
+    subscriptions: &[Subscription<T>],
+    most: u32,
+) -> u32
+    ensures { result ≡ min (all_readers number feeds.now subscriptions.now) most }
+{
+    let found = feed_readers_up_to(number, feeds, most);
+    found + readers_up_to(number, subscriptions, most - found)
+}
+
+/// How many nodes of these feeds read the hub, but at most `most`.
+fn feed_readers_up_to<T: Drop>(number: u64, feeds: &[Feed<T>], most: u32) -> u32
+    ensures { result ≡ min (feed_readers number feeds.now) most }
+{
+    let mut found = 0;
+    for feed in feeds {
+        found += feed.readers_up_to(number, most - found);
+    }
+    found
+}
+
+/// How many nodes of these subscriptions read the hub, but at most `most`.
+fn readers_up_to<T: Drop>(number: u64, subscriptions: &[Subscription<T>], most: u32) -> u32
+    ensures { result ≡ min (readers number subscriptions.now) most }
+{
+    let mut found = 0;
+    for subscription in subscriptions {
+        found += subscription.readers_up_to(number, most - found);
+    }
+    found
+}
+
+/// Takes the signal in that waits in front of the hub's inbox, and answers it once for each of so many nodes. All copies are made
+/// before it is taken in.
+fn take_in<O: Ops>(
+    alloc: Global,
+    ops: &O,
+    hub: &mut Hub<O::Item>,
+    readers: u32,
+) -> Result<Vec<Signal<O::Item>>, NoMemory>
+    ensures signals { IfOk result (λ v. (s : Signal O.Item) → waiting hub.old ≡ Some s → v.items ≡ times readers s) }
+    ensures taken { OnOk result ((s : Signal O.Item) → waiting hub.old ≡ Some s → hub.new ≡ accepted hub.old (Some s)) }
+    ensures same { OnErr result (hub.new ≡ hub.old) }
+{
+    let mut signals = copies(alloc, ops, hub, readers)?;
+    if let Some(signal) = hub.accept(alloc, ops)? {
+        if readers > 0 {
+            signals.push_reserved(signal);
+        }
+    }
+    Ok(signals)
+}
+
+/// The signal in front of the hub's inbox once for each of so many nodes but one, which gets the signal itself, with room for that.
+fn copies<O: Ops>(
+    alloc: Global,
+    ops: &O,
+    hub: &Hub<O::Item>,
+    readers: u32,
+) -> Result<Vec<Signal<O::Item>>, NoMemory>
+    ensures signals { IfOk result (λ v. (s : Signal O.Item) → waiting hub.now ≡ Some s → v.items ≡ times (readers - 1) s) }
+    ensures room { IfOk result (λ v. 0 < readers → vec_len v < vec_capacity v) }
+{
+    let mut signals = Vec::with_capacity(alloc, readers as usize)?;
+    for made in 0..readers.saturating_sub(1) {
+        let Some(signal) = copy_of_front(alloc, ops, hub)? else {
+            return Ok(signals);
+        };
+        signals.push_reserved(signal);
+    }
+    Ok(signals)
+}
+
+/// A copy of the signal in front of the hub's inbox, if one waits.
+fn copy_of_front<O: Ops>(
+    alloc: Global,
+    ops: &O,
+    hub: &Hub<O::Item>,
+) -> Result<Option<Signal<O::Item>>, NoMemory>
+    ensures { IfOk result (λ s. s ≡ waiting hub.now) }
+{
+    if let Some(item) = hub.front_item() {
+        let copy = ops.copy(alloc, item)?;
+        return Ok(Some(Signal::Next(copy)));
+    }
+    match hub.front() {
+        Some(Front::Completion) => Ok(Some(Signal::Complete)),
+        Some(Front::Failure(cause)) => Ok(Some(Signal::Error(cause))),
+        Some(Front::Item) | None => Ok(None),
+    }
+}
+
+/// Hands a signal of the hub to each node that reads it, out of a list that has it once for each; what else stands in the list
+/// stays. For an item there is room at all of them.
+pub(crate) fn hand_to_all<T: Drop>(
+    number: u64,
+    feeds: &mut [Feed<T>],
+    subscriptions: &mut [Subscription<T>],
+    signals: &mut Vec<Signal<T>>,
+)
+    ensures { IsHandedOut (all_readers number feeds.old subscriptions.old) (spec.all_have_room number feeds.old subscriptions.old)
+        signals.old.items signals.new.items
+        (λ s. AllFeedsHanded number s feeds.old feeds.new × AllHanded number s subscriptions.old subscriptions.new) }
+{
+    hand_to_feeds(number, feeds, signals);
+    hand(number, subscriptions, signals);
+}
+
+/// The same for the nodes of these feeds alone.
+fn hand_to_feeds<T: Drop>(number: u64, feeds: &mut [Feed<T>], signals: &mut Vec<Signal<T>>)
+    ensures { IsHandedOut (feed_readers number feeds.old) (spec.feeds_have_room number feeds.old) signals.old.items signals.new.items
+        (λ s. AllFeedsHanded number s feeds.old feeds.new) }
+{
+    for feed in feeds.iter_mut() {
+        feed.hand(number, signals);
+    }
+}
+
+/// The same for the nodes of these subscriptions alone.
+fn hand<T: Drop>(number: u64, subscriptions: &mut [Subscription<T>], signals: &mut Vec<Signal<T>>)
+    ensures { IsHandedOut (readers number subscriptions.old) (spec.have_room number subscriptions.old) signals.old.items signals.new.items
+        (λ s. AllHanded number s subscriptions.old subscriptions.new) }
+{
+    for subscription in subscriptions.iter_mut() {
+        subscription.hand(number, signals);
+    }
+}

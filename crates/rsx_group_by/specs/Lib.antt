@@ -1,4 +1,0 @@
--- Definitions that contracts cite.
-pub mod MainState
-pub mod GroupBy
-pub mod Laws

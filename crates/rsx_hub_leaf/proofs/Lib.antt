@@ -1,2 +1,0 @@
--- Lemmas about a node that reads a hub.
-pub mod Leaves

@@ -1,4 +1,0 @@
--- Lemmas about joined values.
-pub mod Chosen
-pub mod Places
-pub mod Walks

@@ -1,7 +1,0 @@
-use Rattle.std.proofs.Common.{◌≡◌, drop}
-use Rattle.rsx_joining.specs.Latest.{all_latest}
-use Rattle.rsx_joining.proofs.Walks.{copied_then}
-use Rattle.rsx_joining.proofs.latest.VecOptionLatest.copies.Given as goal
-
-abbrev pub invariant-loop-latest : goal.invariant-loop-latest
-invariant-loop-latest g l = copied_then l.items.items (drop l.latest-index l.self.items) ≡ all_latest l.self.items

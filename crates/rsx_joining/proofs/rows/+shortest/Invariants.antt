@@ -1,5 +1,0 @@
-use Rattle.std.proofs.Common.{length}
-use Rattle.rsx_joining.proofs.rows.+shortest.Given as goal
-
-abbrev pub decreases-shortest : goal.decreases-shortest
-decreases-shortest g l = length l.values.now

@@ -1,0 +1,123 @@
+-- How many items the nodes of a tree that was built want first.
+use Rattle.std.proofs.Math.Nat.{zero-add}
+use Rattle.std.proofs.Common.{◌≡◌, ℕ, zero, suc, ◌+◌, ◌-◌, ◌<◌, ◌≤◌, Bool, true, false, List, [], ◌∷◌, get_or, map, refl, ap, ◌∙◌, arith, Box, Vec, Global}
+use Rattle.std.specs.Prelude.{ℤ}
+use Rattle.std.proofs.lemmas.List.{append-nil}
+use Rattle.rsx_sources.specs.Prelude.{HubId, Stage}
+use Rattle.rsx_types.specs.declared.stage.Stage.TheVariants.{Map, Filter, Take, Scan, Buffer, Distinct}
+use Rattle.rsx_sources.specs.declared.machine.Machine.{Ghosts as Machine}
+use Rattle.rsx_plain.specs.State.{plain_start, wanted_from}
+use Rattle.rsx_model.specs.Shape.{children}
+use Rattle.rsx_model.specs.declared.check.TheConstants.{MOST_CONCURRENCY}
+use Rattle.rsx_model.specs.declared.expr.Expr.{Expr}
+use Rattle.rsx_model.specs.declared.expr.Expr.TheFolds.{fold_out-Expr, map-Expr}
+use Rattle.rsx_model.specs.declared.expr.Expr.TheOpen.{Expr-F}
+use Rattle.rsx_model.specs.declared.expr.Expr.TheOpen as layer
+use Rattle.rsx_model.specs.declared.expr.Expr.TheViews.{Plain, Group, Window, Flat, On, out-Expr, outs-Items, outs-Range, outs-Hub, outs-Plain, outs-Group, outs-Window, outs-Flat, outs-On}
+use Rattle.rsx_model.specs.declared.expr.Expr.TheVariants.{Items, Range, Hub}
+use Rattle.rsx_model.proofs.Unfold.{children-map}
+use Rattle.rsx_kinds.specs.Kind.{first_wanted}
+use Rattle.rsx_kinds.specs.Several.{several_wanted}
+use Rattle.rsx_kinds.specs.declared.kind.SeveralKind.{SeveralKind}
+use Rattle.rsx_kinds.specs.declared.kind.SeveralKind.TheVariants.{Concat, Merge, Zip, Latest}
+use Rattle.rsx_kinds.specs.declared.several_node.SeveralNode.{SeveralNode}
+use Rattle.rsx_tree.specs.declared.inputs.Inputs.{Inputs, End, More'}
+use Rattle.rsx_tree.specs.Inputs.{closed_row, closed_row_if}
+use Rattle.rsx_kinds.specs.declared.any_node.AnyNode.TheVariants.{Several}
+use Rattle.rsx_queued.specs.declared.sender.Sender.TheVariants.{Direct}
+use Rattle.rsx_kinds.specs.Any.{any_machine}
+use Rattle.rsx_merging.specs.FlatMap.{flat_wanted}
+use Rattle.rsx_merging.specs.declared.flat_map_node.FlatMapNode.{FlatMapNode}
+use Rattle.rsx_grouping.specs.GroupBy.{group_counted, group_wanted}
+use Rattle.rsx_grouping.specs.declared.node.GroupByNode.{GroupByNode}
+use Rattle.rsx_window.specs.Window.{CountsItems, window_wanted}
+use Rattle.rsx_window.specs.declared.node.WindowNode.{WindowNode}
+use Rattle.rsx_kinds.specs.Built.{WantsOfEach, first_wants, fresh_wants, prefetch_of, wants_beside}
+
+-- ---- of a tree
+
+-- closed edges leave the nodes as they are
+first_wants_closed : {M T : Type 0} (b : Machine M T) (r : M) (i : ℕ) (t : Inputs M) → first_wants b r i (closed_row t) ≡ first_wants b r i t
+first_wants_closed b r i End = refl
+first_wants_closed b r i (More' e n p below q beside) = rw (first_wants_closed b n 0 below, first_wants_closed b r (i + 1) beside) refl
+
+pub first_wants_closed_if : {M T : Type 0} (b : Machine M T) (c : Bool) (r : M) (i : ℕ) (t : Inputs M) → first_wants b r i (closed_row_if c t) ≡ first_wants b r i t
+first_wants_closed_if b true r i t = first_wants_closed b r i t
+first_wants_closed_if b false r i t = refl
+
+-- ---- of a node
+
+-- a fresh plain operator wants nothing before something is asked of it
+pub plain_wants : {T : Type 0} (g : Stage T) → wanted_from (plain_start g) 0 0 ≡ 0
+plain_wants (Map f) = refl
+plain_wants (Filter f) = refl
+plain_wants (Take k) = grind arith
+plain_wants (Scan f s) = refl
+plain_wants (Buffer k) = grind arith
+plain_wants (Distinct f) = refl
+
+-- nor does a fresh `window`
+pub window_wants : {T : Type 0} (n : WindowNode T) → CountsItems n (0 ∷ []) 0 → window_wanted n 0 0 0 ≡ 0
+window_wants n counted =
+    let none : 0 ≡ counted.items = ap (λ l. get_or l 0 0) counted.at in
+    let got = counted.got in
+    omega arith
+
+-- nor does a fresh `groupBy`
+pub group_wants : {T : Type 0} (n : GroupByNode T) → group_counted n (0 ∷ []) 0 → group_wanted n 0 0 0 ≡ 0
+group_wants n counted =
+    let none : 0 ≡ counted.items = ap (λ l. get_or l 0 0) counted.at in
+    let got = counted.counts in
+    omega arith
+
+-- a fresh `flatMap` wants as many items as its concurrency says
+pub flat_wants : {T : Type 0} (n : FlatMapNode T) (c : ℕ) → n.concurrency ≡ c → n.next ≡ 0 → c ≤ MOST_CONCURRENCY → flat_wanted n 0 0 0 ≡ c
+flat_wants n c is next le = omega arith
+
+-- a fresh node of several inputs wants of each what it wants of its first
+first_wanted_each : (kind : SeveralKind) (i : ℕ) → first_wanted kind i 0 ≡ first_wanted kind 0 0
+first_wanted_each Concat zero = refl
+first_wanted_each Concat (suc i) = refl
+first_wanted_each (Merge p) i = refl
+first_wanted_each (Zip p) i = refl
+first_wanted_each (Latest p) i = refl
+
+pub several_wants : {T : Type 0} (n : SeveralNode T) (kind : SeveralKind) (count : ℕ) → ((i asked : ℕ) → i < count → several_wanted n i asked 0 ≡ first_wanted kind i asked) → WantsOfEach any_machine (Direct (Several n)) 0 count (first_wanted kind 0 0)
+several_wants n kind count h k lt = ap (λ i. several_wanted n i 0 0) (zero-add k) ∙ (h k 0 lt ∙ first_wanted_each kind k)
+
+-- ---- of an expression
+
+prefetch_of-map : {T A B : Type 0} (h : A → B) (x : Expr-F T A) → prefetch_of (map-Expr T A B h x) ≡ prefetch_of x
+prefetch_of-map h (layer.Items v) = refl
+prefetch_of-map h x = refl
+
+-- one level
+pub fresh_wants_out : {T : Type 0} (e : Expr T) → fresh_wants e ≡ wants_beside (prefetch_of (out-Expr T e)) (map fresh_wants (children (out-Expr T e)))
+fresh_wants_out {T} e =
+    fold_out-Expr T (List ℕ) (λ x. wants_beside (prefetch_of x) (children x)) e
+    ∙ (ap (λ p. wants_beside p (children (map-Expr T (Expr T) (List ℕ) fresh_wants (out-Expr T e)))) (prefetch_of-map fresh_wants (out-Expr T e))
+    ∙ ap (wants_beside (prefetch_of (out-Expr T e))) (children-map fresh_wants (out-Expr T e)))
+
+pub wants_Items : {T : Type 0} (v : Vec T Global) → fresh_wants (Items v) ≡ []
+wants_Items {T} v = rw (fold_out-Expr, outs-Items) refl
+
+pub wants_Range : (T : Type 0) (a : ℤ) (k : ℕ) → fresh_wants {T = T} (Range a k) ≡ []
+wants_Range T a k = rw (fold_out-Expr, outs-Range) refl
+
+pub wants_Hub : (T : Type 0) (h : HubId) → fresh_wants {T = T} (Hub h) ≡ []
+wants_Hub T h = rw (fold_out-Expr, outs-Hub) refl
+
+pub wants_Plain : {T : Type 0} (g : Stage T) (b : Box (Expr T) Global) → fresh_wants (Plain g b) ≡ 0 ∷ fresh_wants b.value
+wants_Plain {T} g b = rw (fold_out-Expr, outs-Plain) (ap (λ l. 0 ∷ l) (append-nil (fresh_wants b.value)))
+
+pub wants_Window : {T : Type 0} (n : ℕ) (gs : Vec (Stage T) Global) (b : Box (Expr T) Global) → fresh_wants (Window n gs b) ≡ 0 ∷ fresh_wants b.value
+wants_Window {T} n gs b = rw (fold_out-Expr, outs-Window) (ap (λ l. 0 ∷ l) (append-nil (fresh_wants b.value)))
+
+pub wants_Group : {T : Type 0} (f : ℕ) (gs : Vec (Stage T) Global) (b : Box (Expr T) Global) → fresh_wants (Group f gs b) ≡ 0 ∷ fresh_wants b.value
+wants_Group {T} f gs b = rw (fold_out-Expr, outs-Group) (ap (λ l. 0 ∷ l) (append-nil (fresh_wants b.value)))
+
+pub wants_Flat : {T : Type 0} (f c : ℕ) (gs : Vec (Stage T) Global) (b : Box (Expr T) Global) → fresh_wants (Flat f c gs b) ≡ c ∷ fresh_wants b.value
+wants_Flat {T} f c gs b = rw (fold_out-Expr, outs-Flat) (ap (λ l. c ∷ l) (append-nil (fresh_wants b.value)))
+
+pub wants_On : {T : Type 0} (k p : ℕ) (b : Box (Expr T) Global) → fresh_wants (On k p b) ≡ p ∷ fresh_wants b.value
+wants_On {T} k p b = rw (fold_out-Expr, outs-On) (ap (λ l. p ∷ l) (append-nil (fresh_wants b.value)))

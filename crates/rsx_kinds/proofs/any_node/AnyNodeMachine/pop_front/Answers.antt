@@ -1,0 +1,47 @@
+use Rattle.std.proofs.lemmas.Result.{IfOk-weaker}
+use Rattle.rsx_kinds.proofs.Dispatch.{popped_source, popped_several, popped_publish_on, popped_window, popped_flat_map, popped_group_by, counted_several, counted_publish_on, counted_window, counted_flat_map, counted_group_by}
+use Rattle.rsx_kinds.proofs.any_node.AnyNodeMachine.pop_front.Goals as goal
+
+pub returns-in-Source-clause-ok : goal.returns-in-Source-clause-ok
+returns-in-Source-clause-ok g c =
+    rw c.in-Source.is (IfOk-weaker c.pop_front.result _ _ (λ s. popped_source (g.O.Ops.meaning c.args.ops.now) c.in-Source.node c.pop_front.new.self s) c.pop_front.ensures.ok)
+
+pub returns-in-Several-clause-ok : goal.returns-in-Several-clause-ok
+returns-in-Several-clause-ok g c =
+    rw c.in-Several.is (IfOk-weaker c.pop_front-in-Several.result _ _ (λ s. popped_several (g.O.Ops.meaning c.args.ops.now) c.in-Several.node c.pop_front-in-Several.new.self s) c.pop_front-in-Several.ensures.ok)
+
+pub returns-in-Several-clause-counts : goal.returns-in-Several-clause-counts
+returns-in-Several-clause-counts g c =
+    rw c.in-Several.is (IfOk-weaker c.pop_front-in-Several.result _ _ (λ s. counted_several c.in-Several.node c.pop_front-in-Several.new.self s) c.pop_front-in-Several.ensures.counts)
+
+pub returns-in-PublishOn-clause-ok : goal.returns-in-PublishOn-clause-ok
+returns-in-PublishOn-clause-ok g c =
+    rw c.in-PublishOn.is (IfOk-weaker c.pop_front-in-PublishOn.result _ _ (λ s. popped_publish_on (g.O.Ops.meaning c.args.ops.now) c.in-PublishOn.node c.pop_front-in-PublishOn.new.self s) c.pop_front-in-PublishOn.ensures.ok)
+
+pub returns-in-PublishOn-clause-counts : goal.returns-in-PublishOn-clause-counts
+returns-in-PublishOn-clause-counts g c =
+    rw c.in-PublishOn.is (IfOk-weaker c.pop_front-in-PublishOn.result _ _ (λ s. counted_publish_on c.in-PublishOn.node c.pop_front-in-PublishOn.new.self s) c.pop_front-in-PublishOn.ensures.counts)
+
+pub returns-in-Window-clause-ok : goal.returns-in-Window-clause-ok
+returns-in-Window-clause-ok g c =
+    rw c.in-Window.is (IfOk-weaker c.pop_front-in-Window.result _ _ (λ s. popped_window (g.O.Ops.meaning c.args.ops.now) c.in-Window.node c.pop_front-in-Window.new.self s) c.pop_front-in-Window.ensures.ok)
+
+pub returns-in-Window-clause-counts : goal.returns-in-Window-clause-counts
+returns-in-Window-clause-counts g c =
+    rw c.in-Window.is (IfOk-weaker c.pop_front-in-Window.result _ _ (λ s. counted_window c.in-Window.node c.pop_front-in-Window.new.self s) c.pop_front-in-Window.ensures.counts)
+
+pub returns-in-FlatMap-clause-ok : goal.returns-in-FlatMap-clause-ok
+returns-in-FlatMap-clause-ok g c =
+    rw c.in-FlatMap.is (IfOk-weaker c.pop_front-in-FlatMap.result _ _ (λ s. popped_flat_map (g.O.Ops.meaning c.args.ops.now) c.in-FlatMap.node c.pop_front-in-FlatMap.new.self s) c.pop_front-in-FlatMap.ensures.ok)
+
+pub returns-in-FlatMap-clause-counts : goal.returns-in-FlatMap-clause-counts
+returns-in-FlatMap-clause-counts g c =
+    rw c.in-FlatMap.is (IfOk-weaker c.pop_front-in-FlatMap.result _ _ (λ s. counted_flat_map c.in-FlatMap.node c.pop_front-in-FlatMap.new.self s) c.pop_front-in-FlatMap.ensures.counts)
+
+pub returns-in-GroupBy-clause-ok : goal.returns-in-GroupBy-clause-ok
+returns-in-GroupBy-clause-ok g c =
+    rw c.in-GroupBy.is (IfOk-weaker c.pop_front-in-GroupBy.result _ _ (λ s. popped_group_by (g.O.Ops.meaning c.args.ops.now) c.in-GroupBy.node c.pop_front-in-GroupBy.new.self s) c.pop_front-in-GroupBy.ensures.ok)
+
+pub returns-in-GroupBy-clause-counts : goal.returns-in-GroupBy-clause-counts
+returns-in-GroupBy-clause-counts g c =
+    rw c.in-GroupBy.is (IfOk-weaker c.pop_front-in-GroupBy.result _ _ (λ s. counted_group_by c.in-GroupBy.node c.pop_front-in-GroupBy.new.self s) c.pop_front-in-GroupBy.ensures.counts)

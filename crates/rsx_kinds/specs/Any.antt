@@ -1,0 +1,255 @@
+-- A node of any kind: its meaning is that of its kind. A node of a tree is one of any kind, with the queue of its edge where that
+-- crosses to another region.
+use Rattle.std.specs.Prelude.{⊤, ℕ, Bool, true, false, List, Option, None}
+use Rattle.rsx_sources.specs.Prelude.{Note, Nothing, Signal, Meaning, Allocates, Stream, Incoming, Reading}
+use Rattle.rsx_sources.specs.declared.machine.Front.{Front}
+use Rattle.rsx_sources.specs.declared.machine.Machine.{Ghosts as Machine}
+use Rattle.rsx_queued.specs.declared.sender.Sender.{Sender}
+use Rattle.rsx_queued.specs.Sender.{sender_comes_out, sender_waiting, sender_shown, sender_takes, sender_picks, sender_rows, sender_rowed, sender_recording, sender_recorded, sender_ended, sender_done, sender_counted, sender_wanted, sender_popped, sender_reads, sender_rooms, sender_pop_allocates, sender_signal_allocates, sender_step_allocates}
+use Rattle.rsx_plain.specs.Node.{plain_comes_out, plain_waiting, plain_shown, plain_popped, plain_takes, plain_wanted, plain_ended, plain_allocates, plain_counted}
+use Rattle.rsx_kinds.specs.Several.{several_comes_out, several_waiting, several_shown, several_takes, several_picks, several_rows, several_rowed, several_recording, several_recorded, several_ended, several_done, several_counted, several_wanted, several_popped, several_step_allocates}
+use Rattle.rsx_merging.specs.PublishOn.{publish_comes_out, publish_waiting, publish_shown, publish_popped, publish_takes, publish_wanted, publish_ended, publish_counted}
+use Rattle.rsx_window.specs.Window.{window_comes_out, window_waiting, window_shown, window_takes, window_ended, window_done, window_wanted, IsPoppedWindow, CountsItems}
+use Rattle.rsx_merging.specs.FlatMap.{flat_comes_out, flat_waiting, flat_shown, flat_takes, flat_picks, flat_recording, flat_recorded, flat_ended, flat_done, flat_wanted, flat_popped, IsGoing}
+use Rattle.rsx_grouping.specs.GroupBy.{group_comes_out, group_waiting, group_shown, group_takes, group_picks, group_recording, group_recorded, group_ended, group_done, group_counted, group_wanted, IsPoppedGroup}
+use Rattle.rsx_kinds.specs.Source.{source_comes_out, source_waiting, source_shown, source_popped, source_reads, source_rooms, source_pop_allocates}
+use Rattle.rsx_kinds.specs.declared.any_node.AnyNode.{AnyNode}
+use Rattle.rsx_kinds.specs.declared.any_node.AnyNode.TheVariants.{Source, Plain, Several, PublishOn, Window, FlatMap, GroupBy}
+
+-- what still comes out
+abbrev pub any_comes_out : {T : Type 0} → Meaning T → AnyNode T → Incoming T → Note → Option (Stream T)
+any_comes_out m (Source n) inc k = source_comes_out m n inc k
+any_comes_out m (Plain n) inc k = plain_comes_out m n inc k
+any_comes_out m (Several n) inc k = several_comes_out m n inc k
+any_comes_out m (PublishOn n) inc k = publish_comes_out m n inc k
+any_comes_out m (Window n) inc k = window_comes_out m n inc k
+any_comes_out m (FlatMap n) inc k = flat_comes_out m n inc k
+any_comes_out m (GroupBy n) inc k = group_comes_out m n inc k
+
+-- the signal that waits
+abbrev pub any_waiting : {T : Type 0} → Meaning T → AnyNode T → Option (Signal T)
+any_waiting m (Source n) = source_waiting m n
+any_waiting m (Plain n) = plain_waiting m n
+any_waiting m (Several n) = several_waiting m n
+any_waiting m (PublishOn n) = publish_waiting m n
+any_waiting m (Window n) = window_waiting m n
+any_waiting m (FlatMap n) = flat_waiting m n
+any_waiting m (GroupBy n) = group_waiting m n
+
+-- which signal that is
+abbrev pub any_shown : {T : Type 0} → AnyNode T → Option Front
+any_shown (Source n) = source_shown n
+any_shown (Plain n) = plain_shown n
+any_shown (Several n) = several_shown n
+any_shown (PublishOn n) = publish_shown n
+any_shown (Window n) = window_shown n
+any_shown (FlatMap n) = flat_shown n
+any_shown (GroupBy n) = group_shown n
+
+-- whether such a signal of an input can be taken; a source has no input
+abbrev pub any_takes : {T : Type 0} → AnyNode T → ℕ → Front → Bool
+any_takes (Source n) i f = false
+any_takes (Plain n) i f = plain_takes n i
+any_takes (Several n) i f = several_takes n i f
+any_takes (PublishOn n) i f = publish_takes n i f
+any_takes (Window n) i f = window_takes n i
+any_takes (FlatMap n) i f = flat_takes n i f
+any_takes (GroupBy n) i f = group_takes n i
+
+-- whether an input can be picked; only a node of several inputs, and one of lanes, picks one
+abbrev pub any_picks : {T : Type 0} → AnyNode T → ℕ → ℕ → ℕ → Bool
+any_picks (Source n) i asked sent = false
+any_picks (Plain n) i asked sent = false
+any_picks (Several n) i asked sent = several_picks n i asked sent
+any_picks (PublishOn n) i asked sent = false
+any_picks (Window n) i asked sent = false
+any_picks (FlatMap n) i asked sent = flat_picks n i asked sent
+any_picks (GroupBy n) i asked sent = group_picks n i asked sent
+
+-- whether a row can be made
+abbrev pub any_rows : {T : Type 0} → AnyNode T → ℕ → ℕ → Bool
+any_rows (Source n) asked sent = false
+any_rows (Plain n) asked sent = false
+any_rows (Several n) asked sent = several_rows n asked sent
+any_rows (PublishOn n) asked sent = false
+any_rows (Window n) asked sent = false
+any_rows (FlatMap n) asked sent = false
+any_rows (GroupBy n) asked sent = false
+
+-- what a row makes of it
+abbrev pub any_rowed : {T : Type 0} → AnyNode T → ℕ → ℕ → AnyNode T → Type 0
+any_rowed (Several a) asked sent (Several b) = several_rowed a asked sent b
+any_rowed a asked sent b = ⊥
+
+-- what picking an input adds to what it recorded
+abbrev pub any_recording : {T : Type 0} → AnyNode T → ℕ → Note
+any_recording (Source n) i = Nothing
+any_recording (Plain n) i = Nothing
+any_recording (Several n) i = several_recording n i
+any_recording (PublishOn n) i = Nothing
+any_recording (Window n) i = Nothing
+any_recording (FlatMap n) i = flat_recording n i
+any_recording (GroupBy n) i = group_recording n i
+
+-- what it recorded
+abbrev pub any_recorded : {T : Type 0} → AnyNode T → Note
+any_recorded (Source n) = Nothing
+any_recorded (Plain n) = Nothing
+any_recorded (Several n) = several_recorded n
+any_recorded (PublishOn n) = Nothing
+any_recorded (Window n) = Nothing
+any_recorded (FlatMap n) = flat_recorded n
+any_recorded (GroupBy n) = group_recorded n
+
+-- whether its ending was put out
+abbrev pub any_ended : {T : Type 0} → AnyNode T → Bool
+any_ended (Source n) = false
+any_ended (Plain n) = plain_ended n
+any_ended (Several n) = several_ended n
+any_ended (PublishOn n) = publish_ended n
+any_ended (Window n) = window_ended n
+any_ended (FlatMap n) = flat_ended n
+any_ended (GroupBy n) = group_ended n
+
+-- whether it took the completion of an input and goes on; a plain operator and `publishOn` end by it
+abbrev pub any_done : {T : Type 0} → AnyNode T → ℕ → Bool
+any_done (Source n) i = false
+any_done (Plain n) i = false
+any_done (Several n) i = several_done n i
+any_done (PublishOn n) i = false
+any_done (Window n) i = window_done n i
+any_done (FlatMap n) i = flat_done n i
+any_done (GroupBy n) i = group_done n i
+
+-- how many items came in and how many were sent; a source takes none in
+abbrev pub any_counted : {T : Type 0} → AnyNode T → List ℕ → ℕ → Type 0
+any_counted (Source n) taken sent = ⊤
+any_counted (Plain n) taken sent = plain_counted n taken sent
+any_counted (Several n) taken sent = several_counted n taken sent
+any_counted (PublishOn n) taken sent = publish_counted n taken sent
+any_counted (Window n) taken sent = CountsItems n taken sent
+any_counted (FlatMap n) taken sent = IsGoing n taken sent
+any_counted (GroupBy n) taken sent = group_counted n taken sent
+
+-- what is to be asked of an input
+abbrev pub any_wanted : {T : Type 0} → AnyNode T → ℕ → ℕ → ℕ → ℕ
+any_wanted (Source n) i a s = 0
+any_wanted (Plain n) i a s = plain_wanted n i a s
+any_wanted (Several n) i a s = several_wanted n i a s
+any_wanted (PublishOn n) i a s = publish_wanted n i a s
+any_wanted (Window n) i a s = window_wanted n i a s
+any_wanted (FlatMap n) i a s = flat_wanted n i a s
+any_wanted (GroupBy n) i a s = group_wanted n i a s
+
+-- the second is the first without the signal that it offered
+abbrev pub any_popped : {T : Type 0} → AnyNode T → Signal T → AnyNode T → Type 0
+any_popped (Source a) s (Source b) = source_popped a s b
+any_popped (Plain a) s (Plain b) = plain_popped a s b
+any_popped (Several a) s (Several b) = several_popped a s b
+any_popped (PublishOn a) s (PublishOn b) = publish_popped a s b
+any_popped (Window a) s (Window b) = IsPoppedWindow a s b
+any_popped (FlatMap a) s (FlatMap b) = flat_popped a s b
+any_popped (GroupBy a) s (GroupBy b) = IsPoppedGroup a s b
+any_popped a s b = ⊥
+
+-- how far it got in the hub that it reads
+abbrev pub any_reads : {T : Type 0} → AnyNode T → Option Reading
+any_reads (Source n) = source_reads n
+any_reads (Plain n) = None
+any_reads (Several n) = None
+any_reads (PublishOn n) = None
+any_reads (Window n) = None
+any_reads (FlatMap n) = None
+any_reads (GroupBy n) = None
+
+-- whether it has room for an item of that hub
+abbrev pub any_rooms : {T : Type 0} → AnyNode T → Bool
+any_rooms (Source n) = source_rooms n
+any_rooms (Plain n) = false
+any_rooms (Several n) = false
+any_rooms (PublishOn n) = false
+any_rooms (Window n) = false
+any_rooms (FlatMap n) = false
+any_rooms (GroupBy n) = false
+
+-- whether taking the offered signal out may allocate
+abbrev pub any_pop_allocates : {T : Type 0} → Allocates → AnyNode T → Bool
+any_pop_allocates a (Source n) = source_pop_allocates a n
+any_pop_allocates a (Plain n) = false
+any_pop_allocates a (Several n) = false
+any_pop_allocates a (PublishOn n) = false
+any_pop_allocates a (Window n) = false
+any_pop_allocates a (FlatMap n) = false
+any_pop_allocates a (GroupBy n) = false
+
+-- whether taking a signal in may allocate
+abbrev pub any_signal_allocates : {T : Type 0} → Allocates → AnyNode T → Bool
+any_signal_allocates a (Source n) = false
+any_signal_allocates a (Plain n) = plain_allocates a n
+any_signal_allocates a (Several n) = false
+any_signal_allocates a (PublishOn n) = false
+any_signal_allocates a (Window n) = true
+any_signal_allocates a (FlatMap n) = true
+any_signal_allocates a (GroupBy n) = true
+
+-- whether a pick or a row may allocate
+abbrev pub any_step_allocates : {T : Type 0} → Allocates → AnyNode T → Bool
+any_step_allocates a (Source n) = false
+any_step_allocates a (Plain n) = false
+any_step_allocates a (Several n) = several_step_allocates a n
+any_step_allocates a (PublishOn n) = false
+any_step_allocates a (Window n) = false
+any_step_allocates a (FlatMap n) = true
+any_step_allocates a (GroupBy n) = true
+
+-- the meaning of all kinds together
+abbrev pub kind_machine : {T : Type 0} → Machine (AnyNode T) T
+kind_machine = record {
+  comes_out = any_comes_out;
+  waiting = any_waiting;
+  shown = any_shown;
+  takes = any_takes;
+  picks = any_picks;
+  rows = any_rows;
+  rowed = any_rowed;
+  recording = any_recording;
+  recorded = any_recorded;
+  ended = any_ended;
+  done = any_done;
+  counted = any_counted;
+  wanted = any_wanted;
+  popped = any_popped;
+  reads = any_reads;
+  rooms = any_rooms;
+  pop_allocates = any_pop_allocates;
+  signal_allocates = any_signal_allocates;
+  step_allocates = any_step_allocates;
+}
+
+-- a node of a tree
+abbrev pub TreeNode : Type 0 → Type 0
+TreeNode T = Sender (AnyNode T) T
+
+-- its meaning: that of the node, or of the node with the queue of its edge
+abbrev pub any_machine : {T : Type 0} → Machine (TreeNode T) T
+any_machine = record {
+  comes_out = sender_comes_out kind_machine;
+  waiting = sender_waiting kind_machine;
+  shown = sender_shown kind_machine;
+  takes = sender_takes kind_machine;
+  picks = sender_picks kind_machine;
+  rows = sender_rows kind_machine;
+  rowed = sender_rowed kind_machine;
+  recording = sender_recording kind_machine;
+  recorded = sender_recorded kind_machine;
+  ended = sender_ended kind_machine;
+  done = sender_done kind_machine;
+  counted = sender_counted kind_machine;
+  wanted = sender_wanted kind_machine;
+  popped = sender_popped kind_machine;
+  reads = sender_reads kind_machine;
+  rooms = sender_rooms kind_machine;
+  pop_allocates = sender_pop_allocates kind_machine;
+  signal_allocates = sender_signal_allocates kind_machine;
+  step_allocates = sender_step_allocates kind_machine;
+}

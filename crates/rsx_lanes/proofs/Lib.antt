@@ -1,4 +1,0 @@
--- Lemmas about lanes.
-pub mod Keying
-pub mod Mains
-pub mod Nexts

@@ -1,5 +1,0 @@
-use Rattle.std.proofs.Common.{length}
-use Rattle.rsx_latest.proofs.copies.VecOptionLatestCopies.+push_copies.Given as goal
-
-abbrev pub decreases-push_copies : goal.decreases-push_copies
-decreases-push_copies g l = length l.latest.now

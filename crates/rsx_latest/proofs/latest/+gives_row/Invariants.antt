@@ -1,5 +1,0 @@
-use Rattle.std.proofs.Common.{length}
-use Rattle.rsx_latest.proofs.latest.+gives_row.Given as goal
-
-abbrev pub decreases-gives_row : goal.decreases-gives_row
-decreases-gives_row g l = length l.latest.now

@@ -1,6 +1,0 @@
-use Rattle.std.proofs.Common.{◌≡◌, ◌<◌, ℕ, false}
-use Rattle.rsx_latest.specs.Latest.{latest_picks}
-use Rattle.rsx_latest.proofs.latest.CombineLatestNodeMachine.next_pick.Given as goal
-
-abbrev pub invariant-loop-at : goal.invariant-loop-at
-invariant-loop-at g l = (k : ℕ) → k < l.at → latest_picks l.self k l.asked l.sent ≡ false

@@ -1,4 +1,0 @@
--- Lemmas about the leaves of expressions.
-pub mod Counted
-pub mod Joined
-pub mod Leaves

@@ -1,5 +1,0 @@
--- Lemmas.
-pub mod Bytes
-pub mod Ending
-pub mod Writing
-pub mod Reading

@@ -1,5 +1,0 @@
-use Rattle.rsx_link.specs.Ends.{IsUpOf}
-use Rattle.rsx_link_bench.proofs.complete.Given as goal
-
-abbrev pub invariant-loop : goal.invariant-loop
-invariant-loop l = IsUpOf l.link l.up

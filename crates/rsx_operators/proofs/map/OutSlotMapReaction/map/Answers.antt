@@ -1,8 +1,0 @@
-use Rattle.std.proofs.Common.{rules}
-use Rattle.rsx_operators.proofs.map.OutSlotMapReaction.map.Goals as goal
-
-pub returns-in-Err-Memory : goal.returns-in-Err-Memory
-returns-in-Err-Memory g c = search rules
-
-pub returns : goal.returns
-returns g c = search rules

@@ -1,8 +1,0 @@
-use Rattle.std.proofs.Common.{rules}
-use Rattle.rsx_pending.proofs.signals.PendingSignals.room.Goals as goal
-
-pub capacity-requires : goal.capacity-requires
-capacity-requires g c κs = search rules
-
-pub returns : goal.returns
-returns g c = search rules

@@ -1,0 +1,8 @@
+use Rattle.std.proofs.Common.{rules}
+use Rattle.rsx_plain.proofs.filter.OutSlotFilterReaction.filter.Goals as goal
+
+pub returns-in-Err-Memory : goal.returns-in-Err-Memory
+returns-in-Err-Memory g c = search rules
+
+pub returns : goal.returns
+returns g c = search rules

@@ -1,6 +1,0 @@
-pub mod Accepting
-pub mod Feeds
-pub mod Handing
-pub mod Ready
-pub mod Sends
-pub mod Taken

@@ -1,5 +1,0 @@
-use Rattle.std.proofs.Common.{rules}
-use Rattle.rsx_queue.proofs.queue.SignalQueue.clear.Goals as goal
-
-pub returns : goal.returns
-returns g c = search rules

@@ -1,0 +1,97 @@
+-- An item that goes through an empty queue at once.
+use Rattle.std.proofs.Common.{◌≡◌, ℕ, zero, suc, ◌+◌, ◌<◌, Bool, true, ◌&&◌, ◌||◌, List, [], ◌∷◌, ◌++◌, length, Option, Some, None, refl, ap, sym, ◌∙◌, subst, arith, option_map}
+use Rattle.std.proofs.lemmas.Bool.{true≢false}
+use Rattle.rsx_sources.specs.Prelude.{CAPACITY, Signal, Next, Meaning, Stream, signal_then, CountsStep, Keeps, LetsGo, front_of, IsItemOut, IsRowDone, IsRowOut, is_nil}
+use Rattle.rsx_sources.specs.declared.machine.Machine.{Ghosts as Machine}
+use Rattle.rsx_queued.specs.declared.queued.Queued.{Queued}
+use Rattle.rsx_queued.specs.declared.sender.Sender.TheVariants.{Crossing}
+use Rattle.rsx_queued.specs.declared.tail.Tail.{Tail}
+use Rattle.rsx_queued.specs.declared.tail.Tail.TheVariants.{Open, Completion, Failure, Taken}
+use Rattle.rsx_queued.specs.Held.{held_then, comes_in_at}
+use Rattle.rsx_queued.specs.QueuedLaws.{Shows}
+use Rattle.rsx_queued.specs.Queued.{queued_comes_out, queued_waiting, queued_rows, queued_popped, queued_counted, queued_ended, queued_done, can_move, can_transfer, node_sent}
+use Rattle.rsx_queued.specs.Sender.{sender_comes_out, sender_waiting, sender_rows, sender_rowed, sender_popped, sender_recorded, sender_counted, sender_ended, sender_done}
+use Rattle.rsx_queued.specs.Transfer.{IsQueuedRow, IsMovedOver}
+
+-- a node with these items in its queue, and no ending
+abbrev holding : {M T : Type 0} → M → List T → Queued M T
+holding n q = record { node = n; queue = q; tail = Open }
+
+through : {T : Type 0} (x : T) (o : Option (Stream T)) → option_map (held_then (x ∷ []) Open) o ≡ option_map (held_then [] Open) (option_map (signal_then (Next x)) o)
+through x None = refl
+through x (Some v) = refl
+
+leaves : {T : Type 0} (x : T) (o : Option (Stream T)) → option_map (held_then (x ∷ []) Open) o ≡ option_map (signal_then (Next x)) (option_map (held_then [] Open) o)
+leaves x None = refl
+leaves x (Some v) = refl
+
+row_at : {M T : Type 0} (b : Machine M T) (m : Meaning T) → Shows b m → (n n' : M) (asked taken : ℕ) (x : T) → can_move {T = T} (b.shown n) [] Open asked taken ≡ true → IsItemOut (b.comes_out m) (b.waiting m) b.popped b.recorded b.counted b.ended b.done n x n' →
+    IsRowDone (queued_comes_out b m) (queued_rows b) (IsQueuedRow b) (λ k. b.recorded k.node) (queued_counted b) (queued_ended b) (queued_done b) (holding n []) asked taken (holding n' (x ∷ []))
+row_at {T = T} b m shows n n' asked taken x can out = record {
+  enabled = ap (λ c. c || (true && b.rows n asked (node_sent {T = T} [] asked taken))) can;
+  row = record {
+    over = λ e. record { signal = Next x; shown = shows n ∙ ap (option_map front_of) out.waited; popped = out.popped_out; was_open = refl; pushed = (refl, refl) };
+    inside = λ e. absurd (true≢false (sym can ∙ e));
+  };
+  value = λ inc k. through x (b.comes_out m n' inc k) ∙ sym (ap (option_map (held_then [] Open)) (out.value inc k));
+  notes = out.notes;
+  counts = record {
+    stays_ended = λ e. out.counts.0 ∙ e;
+    counts = λ e took sent h.
+        let P : ℕ → Type 0 = λ k. b.counted n' took k in
+        let more : sent + 0 + 1 ≡ sent + 1 = omega arith in
+        (refl, subst P more (out.counts.1 took (sent + 0) h.1));
+    stays_done = λ j d. out.counts.2 j d;
+  };
+}
+
+out_at : {M T : Type 0} (b : Machine M T) (m : Meaning T) (n' : M) (x : T) → IsItemOut (queued_comes_out b m) (queued_waiting m) queued_popped (λ k. b.recorded k.node) (queued_counted b) (queued_ended b) (queued_done b) (holding n' (x ∷ [])) x (holding n' [])
+out_at b m n' x = record {
+  waited = refl;
+  popped_out = (refl, refl, refl, room);
+  value = λ inc k. leaves x (b.comes_out m n' inc k);
+  notes = refl;
+  counts = (
+    refl,
+    (λ took sent h.
+        let P : ℕ → Type 0 = λ k. b.counted n' took k in
+        let same : sent + 1 ≡ sent + 1 + 0 = omega arith in
+        (refl, subst P same h.1)),
+    λ j d. d,
+  );
+}
+  where
+    room : 0 < CAPACITY
+    room = omega arith
+
+-- the queue was empty, the item could go into it, and it went out of the node
+pub gone : {M T : Type 0} (b : Machine M T) (m : Meaning T) → Shows b m → (old : Queued M T) (n' : M) (asked taken : ℕ) (x : T) → true ≡ is_nil old.queue → true ≡ can_transfer b old asked taken → IsItemOut (b.comes_out m) (b.waiting m) b.popped b.recorded b.counted b.ended b.done old.node x n' →
+    IsRowOut (queued_comes_out b m) (queued_waiting m) (queued_rows b) (IsQueuedRow b) queued_popped (λ k. b.recorded k.node) (queued_counted b) (queued_ended b) (queued_done b) old asked taken (Some x) (record { node = n'; queue = old.queue; tail = old.tail })
+gone {M} {T} b m shows old n' asked taken x none can out =
+    let R : List T → Tail → Type 0 = λ q t. IsRowOut (queued_comes_out b m) (queued_waiting m) (queued_rows b) (IsQueuedRow b) queued_popped (λ k. b.recorded k.node) (queued_counted b) (queued_ended b) (queued_done b) (record { node = old.node; queue = q; tail = t }) asked taken (Some x) (record { node = n'; queue = q; tail = t }) in
+    let empty : old.queue ≡ [] = nil old.queue none in
+    let move : can_move {T = T} (b.shown old.node) [] old.tail asked taken ≡ true = sym (ap (λ q. can_move (b.shown old.node) q old.tail asked taken) empty) ∙ sym can in
+    subst (λ q. R q old.tail) (sym empty) (by old.tail move)
+  where
+    nil : (q : List T) → true ≡ is_nil q → q ≡ []
+    nil [] e = refl
+    nil (y ∷ ys) e = cc
+
+    by : (t : Tail) → can_move {T = T} (b.shown old.node) [] t asked taken ≡ true → IsRowOut (queued_comes_out b m) (queued_waiting m) (queued_rows b) (IsQueuedRow b) queued_popped (λ k. b.recorded k.node) (queued_counted b) (queued_ended b) (queued_done b) (record { node = old.node; queue = []; tail = t }) asked taken (Some x) (record { node = n'; queue = []; tail = t })
+    by Open e = (holding n' (x ∷ []), row_at b m shows old.node n' asked taken x e out, out_at b m n' x)
+    by Completion e = cc
+    by (Failure c) e = cc
+    by Taken e = cc
+
+-- the same of a sender whose edge crosses
+pub gone_over : {M T : Type 0} (b : Machine M T) (m : Meaning T) (old new : Queued M T) (asked taken : ℕ) (o : Option T) → IsRowOut (queued_comes_out b m) (queued_waiting m) (queued_rows b) (IsQueuedRow b) queued_popped (λ k. b.recorded k.node) (queued_counted b) (queued_ended b) (queued_done b) old asked taken o new →
+    IsRowOut (sender_comes_out b m) (sender_waiting b m) (sender_rows b) (sender_rowed b) (sender_popped b) (sender_recorded b) (sender_counted b) (sender_ended b) (sender_done b) (Crossing old) asked taken o (Crossing new)
+gone_over b m old new asked taken None h = ap Crossing h
+gone_over b m old new asked taken (Some x) h =
+    let r = h.1 in
+    let o = h.2 in
+    let k = r.counts in (
+      Crossing h.0,
+      record { enabled = r.enabled; row = r.row; value = r.value; notes = r.notes; counts = record { stays_ended = k.stays_ended; counts = k.counts; stays_done = k.stays_done } },
+      record { waited = o.waited; popped_out = o.popped_out; value = o.value; notes = o.notes; counts = o.counts },
+    )

@@ -1,3 +1,0 @@
--- Lemmas about nodes of several inputs.
-pub mod Dispatch
-pub mod Fresh

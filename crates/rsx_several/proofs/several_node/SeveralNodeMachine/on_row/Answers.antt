@@ -1,6 +1,0 @@
-use Rattle.std.proofs.lemmas.Result.{on_ok_weaker}
-use Rattle.rsx_several.proofs.Dispatch.{stepped_zip}
-use Rattle.rsx_several.proofs.several_node.SeveralNodeMachine.on_row.Goals as goal
-
-pub returns-in-Zip-clause-counts : goal.returns-in-Zip-clause-counts
-returns-in-Zip-clause-counts g c = rw c.in-Zip.is (on_ok_weaker c.on_row.result (stepped_zip c.in-Zip.node c.on_row.new.self) c.on_row.ensures.counts)

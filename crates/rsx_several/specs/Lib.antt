@@ -1,4 +1,0 @@
--- Definitions that contracts cite.
-pub mod Kind
-pub mod Laws
-pub mod Several

@@ -1,0 +1,5 @@
+pub mod Booleans
+pub mod Lists
+pub mod Numbers
+pub mod Options
+pub mod Places

@@ -1,0 +1,61 @@
+//! Lanes through their chains, and together with Main.
+
+ghost use Rattle.std.specs.Prelude.{◌≡◌, IfOk, map};
+ghost use Rattle.rsx_types.specs.Plain.{chained};
+ghost use Rattle.rsx_values.specs.Lanes.{merged_lanes};
+
+use crate::limits::MAIN;
+use crate::{Input, apply, merge_inputs};
+use rsx_types::{Ending, NoMemory, Ops, Stage, StreamValue};
+use std::alloc::Global;
+
+/// What the operators of a chain give for a value, the first one innermost.
+pub(crate) fn chain<O: Ops>(
+    alloc: Global,
+    ops: &O,
+    stages: &[Stage<O::Item>],
+    input: StreamValue<O::Item>,
+) -> Result<StreamValue<O::Item>, NoMemory>
+    ensures { IfOk result (λ v. v ≡ chained (O.meaning ops.now) stages.now input) }
+{
+    let mut value = input;
+    for stage in stages {
+        value = apply(alloc, ops, stage, value)?;
+    }
+    Ok(value)
+}
+
+/// The same of each value.
+pub(crate) fn chain_each<O: Ops>(
+    alloc: Global,
+    ops: &O,
+    stages: &[Stage<O::Item>],
+    inputs: Vec<StreamValue<O::Item>>,
+) -> Result<Vec<StreamValue<O::Item>>, NoMemory>
+    ensures { IfOk result (λ vs. vs.items ≡ map (chained (O.meaning ops.now) stages.now) inputs.items) }
+{
+    let mut values = Vec::new(alloc);
+    for input in inputs {
+        values.push(chain(alloc, ops, stages, input)?)?;
+    }
+    Ok(values)
+}
+
+/// The merge of the lanes and Main under these choices. The answer is none where they don't fit.
+pub(crate) fn merge_lanes<T: Drop>(
+    alloc: Global,
+    lanes: Vec<StreamValue<T>>,
+    ending: Ending,
+    choices: &[u64],
+) -> Result<Option<StreamValue<T>>, NoMemory>
+    ensures { IfOk result (λ o. o ≡ merged_lanes choices.now lanes.items ending) }
+{
+    let mut inputs = Vec::new(alloc);
+    for lane in lanes {
+        let number = inputs.len() as u64;
+        inputs.push(Input::new(alloc, number, lane)?)?;
+    }
+    let main = StreamValue::new(Vec::new(alloc), ending);
+    inputs.push(Input::new(alloc, MAIN, main)?)?;
+    merge_inputs(alloc, inputs, choices)
+}

@@ -1,4 +1,0 @@
--- Lemmas of this crate.
-pub mod Digits
-pub mod Places
-pub mod Runs

@@ -1,5 +1,0 @@
-use Rattle.rsx_words.proofs.Places.{written_is_utf8}
-use Rattle.rsx_words.proofs.words.text_of.Goals as goal
-
-pub returns-in-Err : goal.returns-in-Err
-returns-in-Err c = absurd (c.in-Err.ensures.cases.0 (written_is_utf8 c.args.word.now c.requires))

@@ -1,5 +1,0 @@
--- Definitions that contracts cite.
-pub mod Numbers
-pub mod Reading
-pub mod Texts
-pub mod Words

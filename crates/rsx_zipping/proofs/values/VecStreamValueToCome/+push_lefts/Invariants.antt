@@ -1,5 +1,0 @@
-use Rattle.std.proofs.Common.{length}
-use Rattle.rsx_zipping.proofs.values.VecStreamValueToCome.+push_lefts.Given as goal
-
-abbrev pub decreases-push_lefts : goal.decreases-push_lefts
-decreases-push_lefts g l = length l.inputs.now

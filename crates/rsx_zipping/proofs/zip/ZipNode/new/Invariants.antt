@@ -1,7 +1,0 @@
-use Rattle.std.proofs.Common.{◌≡◌}
-use Rattle.rsx_queued.specs.Input.{fresh_input}
-use Rattle.std.proofs.Math.ListN.{replicate}
-use Rattle.rsx_zipping.proofs.zip.ZipNode.new.Given as goal
-
-abbrev pub invariant-loop : goal.invariant-loop
-invariant-loop g l = l.queues.items ≡ replicate l.counter (fresh_input l.capacity)

@@ -1,4 +1,0 @@
--- Definitions that contracts cite.
-pub mod Inputs
-pub mod Laws
-pub mod Zip

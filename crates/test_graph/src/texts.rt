@@ -1,0 +1,77 @@
+//! The texts of faults, and command lines.
+
+use clap::error::ErrorKind;
+use rsx_drive::mode_of;
+use rsx_script::{AppFault, LineRefusal, Mode};
+use std::alloc::Global;
+use std::test::Fail;
+
+/// The faults, with the status and the line of each.
+const FAULTS: [(AppFault, u8, &str); 5] = [
+    (
+        AppFault::Line(3, LineRefusal::Syntax(11)),
+        1,
+        "rsx: line 3: syntax at column 11",
+    ),
+    (
+        AppFault::Line(1, LineRefusal::UnknownName(16)),
+        1,
+        "rsx: line 1: unknown name at column 16",
+    ),
+    (
+        AppFault::Line(1, LineRefusal::TooLong),
+        1,
+        "rsx: line 1: longer than 4096 bytes",
+    ),
+    (AppFault::Io, 3, "rsx: read or write fault"),
+    (AppFault::Memory, 4, "rsx: out of memory"),
+];
+
+/// The line and the status of each fault.
+#[test]
+fn texts(rt: HostRuntime) -> Result<(), Fail> {
+    for (fault, status, text) in &FAULTS {
+        let line = fault.text(rt.alloc())?;
+        assert_eq!(rt; (fault.status(), line.as_str()), (*status, *text));
+    }
+    Ok(())
+}
+
+/// Command lines, with their modes or what `clap` finds wrong.
+const COMMAND_LINES: [(&str, Result<Mode, ErrorKind>); 9] = [
+    ("rsx run", Ok(Mode::Run)),
+    ("rsx scratch", Ok(Mode::Scratch)),
+    ("rsx tck", Ok(Mode::Tck)),
+    ("rsx tck --help", Err(ErrorKind::DisplayHelp)),
+    ("rsx", Err(ErrorKind::MissingSubcommand)),
+    ("rsx --help", Err(ErrorKind::DisplayHelp)),
+    ("rsx run --help", Err(ErrorKind::DisplayHelp)),
+    ("rsx walk", Err(ErrorKind::InvalidSubcommand)),
+    ("rsx run twice", Err(ErrorKind::UnknownArgument)),
+];
+
+/// The words of a command line.
+fn words_of(alloc: Global, line: &str) -> Result<Vec<String>, Fail> {
+    let mut words = Vec::new(alloc);
+    for word in line.split(' ') {
+        words.push(String::from_str(alloc, word)?)?;
+    }
+    Ok(words)
+}
+
+/// The mode of a command line, or what `clap` finds wrong.
+fn mode_or_error(alloc: Global, words: &[String]) -> Result<Mode, ErrorKind> {
+    match mode_of(alloc, words) {
+        Ok(mode) => Ok(mode),
+        Err(error) => Err(error.kind()),
+    }
+}
+
+#[test]
+fn command_lines(rt: HostRuntime) -> Result<(), Fail> {
+    for (line, mode) in &COMMAND_LINES {
+        let words = words_of(rt.alloc(), line)?;
+        assert_eq!(rt; mode_or_error(rt.alloc(), &words), *mode, "{line}");
+    }
+    Ok(())
+}
