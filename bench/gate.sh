@@ -2,7 +2,8 @@
 # Runs the gate, `rt ci`, from nothing and prints what each of its own steps cost in processor seconds: for each crate its proof, its tests, its first
 # must-fail edit (which checks the whole crate again) and the mean of its further edits, the sum of all, and what `rt` itself took.
 # Usage: bench/gate.sh [LOG [NAME..]]. The gate's own output goes to LOG (standard error where none is given), the table to standard output, most dear
-# first. With names of crates it measures these and the crates that they stand on, which isn't the gate.
+# first, and behind it what the program stands on: the proofs of all those crates, and the longest chain of them, each of which waits for the one before it.
+# With names of crates it measures these and the crates that they stand on, which isn't the gate.
 # Processor time grows with the load of the machine, by up to a half: say the load beside a figure.
 set -uo pipefail
 
@@ -53,7 +54,7 @@ status=$?
 ended=$(date +%s)
 
 python3 - "$room/steps" "$((ended - begun))" "$(cat "$room/rt" 2>/dev/null)" <<'TABLE'
-import collections, sys
+import collections, functools, sys
 crates = collections.defaultdict(lambda: {"proof": 0.0, "tests": 0.0, "edits": []})
 for line in open(sys.argv[1]):
     name, kind, used = line.split()
@@ -70,6 +71,25 @@ print(form.format("crate", "proof", "tests", "first edit", "further edit", "chec
 for whole, name, proof, tests, first, mean, count in sorted(rows, reverse=True):
     print(form.format(name, f"{proof:.0f}", f"{tests:.0f}", f"{first:.0f}", f"{mean:.1f}", count, f"{whole:.0f}"))
 print(f"all: {sum(it[0] for it in rows):.0f} s of processor time, of it proofs {sum(it[2] for it in rows):.0f}, tests {sum(it[3] for it in rows):.0f}, edits {sum(it[0] - it[2] - it[3] for it in rows):.0f}; rt itself {sys.argv[3] or '?'} s; {sys.argv[2]} s by the clock")
+uses = {head.split()[0]: names.replace(",", " ").split() for head, _, names in (row.partition("#")[0].partition(":") for row in open("crates.txt")) if head.strip()}
+
+
+@functools.cache
+def chain(name):
+    """The dearest chain of crates that ends with this one: its processor seconds, and the crates from the lowest up."""
+    cost, below = max((chain(it) for it in uses[name] if it in uses), default=(0.0, ()))
+    return cost + crates[name]["proof"], (*below, name)
+
+
+@functools.cache
+def stands_on(name):
+    return {name}.union(*(stands_on(it) for it in uses[name] if it in uses))
+
+
+app = "rsx_app"
+if crates[app]["proof"]:
+    cost, names = chain(app)
+    print(f"{app} and what it stands on: proofs {sum(crates[it]['proof'] for it in stands_on(app)):.0f} s; the longest chain of them {cost:.0f} s: {' '.join(names)}")
 TABLE
 echo "the gate ended with status $status"
 exit "$status"
