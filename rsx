@@ -4,6 +4,8 @@
 #   ./rsx run < SCRIPT           the proved program; where it isn't built for these sources yet, it is built first
 #   ./rsx --trial run < SCRIPT   the program before any proof, in a minute or two
 #
+# README.md says how long each took where it was measured.
+#
 # The proved build. The toolchain's `rt ci` proves the program and all crates that it stands on, in a copy that has no
 # other crate and no edit that has to be refused: side by side, as many as there are processors and memory allows, those
 # with the longest chain of crates behind them first. As it goes on, the launcher says how many are proved and for how
