@@ -23,6 +23,7 @@ use Rattle.rsx_kinds.specs.declared.source_node.SourceNode.{SourceNode}
 use Rattle.rsx_kinds.specs.declared.source_node.SourceNode.TheVariants.{Items, Range, Hub}
 use Rattle.rsx_queued.specs.declared.sender.Sender.TheVariants.{Direct}
 use Rattle.rsx_kinds.specs.Any.{TreeNode, any_machine}
+use Rattle.rsx_rooted.proofs.Joined.{join_there}
 use Rattle.rsx_kinds.specs.Built.{IsBuilt, AllUnrecorded, AreBegun, StandAt, counts_of, first_wants, fresh_edge, fresh_edges, fresh_wants, join_at, joins_now, new_joins}
 use Rattle.rsx_kinds.proofs.Wants.{wants_Hub, wants_Items, wants_Range}
 use Rattle.rsx_sources.proofs.Incomings.{hubs_in}
@@ -125,11 +126,6 @@ hub_at {T} (g ∷ gs) (w ∷ ws) zero h e b =
     let both = subst P same (b.0.1, b.0.2) in
     (w, b.0.0, refl, refl, both.0, both.1)
 hub_at (g ∷ gs) (w ∷ ws) (suc i) h e b = hub_at gs ws i h e b.1
-
-pub join_there : {T : Type 0} (hubs : List (HubState T)) (i : ℕ) (h : HubState T) → slice_get hubs i ≡ Some h → join_at (joins_now hubs) i ≡ join h.kind h.count
-join_there [] i h e = cc
-join_there (g ∷ gs) zero h e = let same : g ≡ h = cc in ap (λ k. join k.kind k.count) same
-join_there (g ∷ gs) (suc i) h e = join_there gs i h e
 
 count_there : {T : Type 0} (hubs : List (HubState T)) (i : ℕ) (h : HubState T) → slice_get hubs i ≡ Some h → slice_get (counts_of hubs) i ≡ Some (count_before (ending_taken h.has_ended h.ending) h.count)
 count_there [] i h e = cc

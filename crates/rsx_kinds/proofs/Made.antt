@@ -14,6 +14,7 @@ use Rattle.rsx_kinds.specs.Any.{TreeNode}
 use Rattle.rsx_kinds.specs.declared.any_node.AnyNode.{AnyNode}
 use Rattle.rsx_kinds.specs.Built.{IsBuilt, AreBuilt, IsBuiltOver, IsPlainOver, starts_ended}
 use Rattle.rsx_kinds.specs.Made.{IsInFront, IsOver, IsPlain, IsSeveral}
+use Rattle.rsx_kinds.proofs.Plains.{starts_is}
 use Rattle.rsx_kinds.proofs.Rows.{built_more}
 use Rattle.rsx_kinds.proofs.Several.{built_over}
 
@@ -29,7 +30,7 @@ plain_over {T} g below row r (Ok x) joined fresh o =
       slot = n.slot;
       joined = joined;
       machine = o.machine ∙ ap Direct n.is;
-      inputs = o.inputs ∙ ap (λ s. closed_row_if (has_ending s) row) (sym n.slot);
+      inputs = o.inputs ∙ (ap (λ c. closed_row_if c row) (sym (starts_is g)) ∙ ap (λ s. closed_row_if (has_ending s) row) (sym n.slot));
     }
 plain_over g below row r (Err e) joined fresh o = tt
 

@@ -34,6 +34,16 @@ new_joins_Plain {T} hubs g b = rw (fold_out-Expr, outs-Plain) (append-nil (new_j
 fresh_Plain : {T : Type 0} (g : Stage T) (b : Box (Expr T) Global) → fresh_edges (PlainOf g b) ≡ closed_if (starts_ended g) (fresh_edge ∷ fresh_edges b.value)
 fresh_Plain {T} g b = rw (fold_out-Expr, outs-Plain) (ap (λ l. closed_if (starts_ended g) (fresh_edge ∷ l)) (append-nil (fresh_edges b.value)))
 
+-- it has put out its ending just where that stands in its slot at the start
+pub starts_is : {T : Type 0} (g : Stage T) → has_ending (start_slot g) ≡ starts_ended g
+starts_is (Map f) = refl
+starts_is (Filter f) = refl
+starts_is (Take zero) = refl
+starts_is (Take (suc n)) = refl
+starts_is (Scan f s) = refl
+starts_is (Buffer n) = refl
+starts_is (Distinct f) = refl
+
 fits_of : (b : Bool) (o : Option BadExpr) → or_else (unless b Number) o ≡ None → b ≡ true
 fits_of true o e = refl
 fits_of false o e = cc
@@ -71,7 +81,7 @@ stands m hubs g b below t o fits = record {
   fresh = λ inc k. o.fresh m inc k;
   unread = refl;
   unrecorded = λ k. refl;
-  ended = ap has_ending o.slot;
+  ended = ap has_ending o.slot ∙ starts_is g;
   counted = λ still. fresh_counts g o.node o.state o.slot fits still;
   wanted = ap (λ s. wanted_from s 0 0) o.state ∙ plain_wants g;
   value = λ whole joins further at leaf.
@@ -88,5 +98,5 @@ plain_if {T} m hubs e g b input below (Ok t) is in_box fine w o =
     let I : Expr T → Type 0 = λ x. IsBuilt m hubs x below in
     let fits : stage_fits g ≡ true = fits_of (stage_fits g) (first_fault (length hubs) b.value) (sym (first_fault_Plain (length hubs) g b) ∙ (ap (first_fault (length hubs)) (sym is) ∙ fine)) in
     subst P (sym is) (built_single m hubs (λ k v. quiet_at k (plain m g v)) 0 (starts_ended g) (Plain o.node) b.value (PlainOf g b) below t o.row (stands m hubs g b below t o fits) (subst I in_box w) o.joined o.machine
-    (o.inputs ∙ ap (λ l. closed_row_if (has_ending l) o.row) o.slot))
+    (o.inputs ∙ (ap (λ l. closed_row_if (has_ending l) o.row) o.slot ∙ ap (λ c. closed_row_if c o.row) (starts_is g))))
 plain_if m hubs e g b input below (Err x) is in_box fine w o = tt

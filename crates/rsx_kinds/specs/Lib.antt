@@ -1,14 +1,23 @@
--- Definitions that contracts cite.
+-- Definitions that contracts cite, and the laws of nodes.
 pub mod Any
 pub mod Built
+pub mod ConcatRests
 pub mod Crossings
-pub mod Inboxes
 pub mod Kind
+pub mod LatestRests
 pub mod Laws
-pub mod Leaves
 pub mod Made
+pub mod MergeRests
+pub mod OneInputRests
+pub mod QueuesRests
+pub mod Rests
+pub mod Room
+pub mod Routes
+pub mod SenderRests
 pub mod Several
 pub mod SeveralLaws
 pub mod Source
 pub mod SourceLaws
+pub mod SourcesRests
 pub mod TreeLaws
+pub mod ZipRests

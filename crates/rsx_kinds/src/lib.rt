@@ -33,29 +33,20 @@
 //! The tree of an expression.
 //!
 //! [`build`] makes the nodes of an expression, each over those of its inputs. The definitions stand in `specs/`: `Built` has
-//! what a tree is that has just begun, and `Crossings` which of its edges have a queue.
-//!
-//! # Leaves that read hubs
-//!
-//! The leaves of an expression that read hubs, which stand in a row and are named by their numbers.
-//!
-//! - [`joins`]: [`joins_of`], how many items each leaf misses that joins its hub now.
-//! - [`places`]: [`have_places`], whether each hub has place for its leaves, and [`count_in`], which counts them in.
+//! what a tree is that has just begun, `Crossings` which of its edges have a queue, and `Routes` how an edge joins its two ends.
+//! The nodes of a tree are a graph's [`Nodes`](rsx_rooted::Nodes); `Rests` and `Room` have the laws that this asks for.
 
 pub mod any_node;
 mod boxed;
-pub mod joins;
 pub mod kind;
-pub mod places;
+mod nodes;
 pub mod several_node;
 pub mod source_node;
 mod trees;
 
 pub use any_node::AnyNode;
 pub use boxed::Boxed;
-pub use joins::joins_of;
 pub use kind::SeveralKind;
-pub use places::{count_in, have_places};
 use rsx_queued::Sender;
 pub use several_node::SeveralNode;
 pub use source_node::SourceNode;

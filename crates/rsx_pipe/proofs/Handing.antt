@@ -3,7 +3,8 @@ use Rattle.std.proofs.Common.{◌≡◌, ℕ, zero, suc, ◌+◌, true, false, L
 use Rattle.std.proofs.lemmas.List.{append-nil, length_push}
 use Rattle.rsx_types.proofs.Lists.{slice_get_behind}
 use Rattle.rsx_sources.specs.Prelude.{notes_then, Stream, ended_by, signal_then, signals_then, Ending, Open, Done, Failed, Signal, Next, Complete, Error, IsNextAt}
-use Rattle.rsx_kinds.specs.Any.{any_machine}
+use Rattle.rsx_sources.specs.declared.machine.Machine.{Ghosts as Machine}
+use Rattle.rsx_tree.specs.declared.node.Node.{Node}
 use Rattle.rsx_tree.specs.Prelude.{edge_view, is_live, IsHanded as IsTreeHanded, IsHandedOut, IsNextOf, counts_after, is_room_for, times, IsTreeReadAt, count_before}
 use Rattle.rsx_tree.specs.Handed as Tree
 use Rattle.rsx_tree.specs.declared.edge.Edge.{Edge}
@@ -12,7 +13,7 @@ use Rattle.rsx_tree.specs.declared.edge.EdgeState.TheVariants.{Live, Ended, Clos
 use Rattle.rsx_pipe.specs.Output.{counts_in, values_then, published_then, more_after, with_signal, with_signal_at, IsOpenAt}
 use Rattle.rsx_pipe.specs.Part.{evaluated}
 use Rattle.rsx_pipe.specs.Published.{IsHanded, has_room_for, readers}
-use Rattle.rsx_pipe.specs.Tree.{AnyTree, comes_out, notes_of}
+use Rattle.rsx_pipe.specs.Tree.{comes_out, notes_of}
 use Rattle.rsx_pipe.specs.Part.{Part}
 
 -- ---- one signal more is published
@@ -114,12 +115,12 @@ live_state Ended l = cc
 live_state Closed l = cc
 
 -- its nodes took the signal in
-pub handed_part : {T : Type 0} (h : ℕ) (s : Signal T) (root : Edge) (old new : AnyTree T) → is_live root.state ≡ true → IsTreeHanded any_machine h s old new → IsHanded h s (record { tree = old; root = root }) (record { tree = new; root = root })
-handed_part {T} h s root old new live k = record {
+pub handed_part : {M T : Type 0} (b : Machine M T) (h : ℕ) (s : Signal T) (root : Edge) (old new : Node M) → is_live root.state ≡ true → IsTreeHanded b h s old new → IsHanded b h s (record { tree = old; root = root }) (record { tree = new; root = root })
+handed_part {T = T} b h s root old new live k = record {
   stands = λ m published e joins output o p. record {
     value = λ more further len.
         let whole = in_front_of h s more in
-        let V : List (Stream T) → Type 0 = λ w. option_map (signals_then output) (comes_out m w further new 0) ≡ evaluated m w joins e (notes_then (notes_of new) further) in
+        let V : List (Stream T) → Type 0 = λ w. option_map (signals_then output) (comes_out b m w further new 0) ≡ evaluated m w joins e (notes_then (notes_of b new) further) in
         subst V (sym (handed_values h s published more o))
         (ap (option_map (signals_then output)) (k.value m (counts_in published) (values_then published whole) further 0 (p.reads (live_state root.state live)) (handed_next h s published more o))
         ∙ (p.value whole further (len ∙ ap length k.notes) ∙ ap (λ ns. evaluated m (values_then published whole) joins e (notes_then ns further)) (sym k.notes)));
@@ -128,11 +129,11 @@ handed_part {T} h s root old new live k = record {
     ended = p.ended;
     counted = p.counted;
     balance = λ l. k.balance root.demand.sent (p.balance l);
-    reads = λ l. let R : List (Option ℕ) → Type 0 = λ c. IsTreeReadAt any_machine c new in subst R (sym (handed_counts h s published)) (k.reads (counts_in published) (p.reads l));
-    alone = λ l none. let R : List (Option ℕ) → Type 0 = λ c. IsTreeReadAt any_machine c new in subst R (no_count h s) (k.reads [] (p.alone l none));
+    reads = λ l. let R : List (Option ℕ) → Type 0 = λ c. IsTreeReadAt b c new in subst R (sym (handed_counts h s published)) (k.reads (counts_in published) (p.reads l));
+    alone = λ l none. let R : List (Option ℕ) → Type 0 = λ c. IsTreeReadAt b c new in subst R (no_count h s) (k.reads [] (p.alone l none));
     closed = λ c. let not = live_state root.state live in cc;
   };
-  ended = λ last. ap (λ b. if b then Tree.readers any_machine h new else 0) live ∙ k.ended last;
+  ended = λ last. ap (λ t. if t then Tree.readers b h new else 0) live ∙ k.ended last;
   edges = ap (λ l. edge_view root ∷ l) k.edges;
   root = refl;
   notes = k.notes;
@@ -146,11 +147,11 @@ handed_part {T} h s root old new live k = record {
     no_count h (Error c) = refl
 
 -- a part whose root edge isn't live has no reader
-pub handed_dead : {T : Type 0} (h : ℕ) (s : Signal T) (part : Part T) → is_live part.root.state ≡ false → IsHanded h s part part
-handed_dead {T} h s part dead = record {
+pub handed_dead : {M T : Type 0} (b : Machine M T) (h : ℕ) (s : Signal T) (part : Part M) → is_live part.root.state ≡ false → IsHanded b h s part part
+handed_dead {T = T} b h s part dead = record {
   stands = λ m published e joins output o p. record {
     value = λ more further len.
-        let V : List (Stream T) → Type 0 = λ w. option_map (signals_then output) (comes_out m w further part.tree 0) ≡ evaluated m w joins e (notes_then (notes_of part.tree) further) in
+        let V : List (Stream T) → Type 0 = λ w. option_map (signals_then output) (comes_out b m w further part.tree 0) ≡ evaluated m w joins e (notes_then (notes_of b part.tree) further) in
         subst V (sym (handed_values h s published more o)) (p.value (in_front_of h s more) further len);
     orderly = p.orderly;
     unended = p.unended;
@@ -161,7 +162,7 @@ handed_dead {T} h s part dead = record {
     alone = p.alone;
     closed = p.closed;
   };
-  ended = λ last. ap (λ b. if b then Tree.readers any_machine h part.tree else 0) dead;
+  ended = λ last. ap (λ t. if t then Tree.readers b h part.tree else 0) dead;
   edges = refl;
   root = refl;
   notes = refl;
@@ -170,12 +171,12 @@ handed_dead {T} h s part dead = record {
 
 -- ---- out of a list
 
-pub handed_out : {T : Type 0} (h : ℕ) (root : Edge) (old new : AnyTree T) (signals left : List (Signal T)) → is_live root.state ≡ true → IsHandedOut (Tree.readers any_machine h old) (Tree.has_room any_machine h old) signals left (λ s. IsTreeHanded any_machine h s old new) →
-    IsHandedOut (readers h (record { tree = old; root = root })) (has_room_for h (record { tree = old; root = root })) signals left (λ s. IsHanded h s (record { tree = old; root = root }) (record { tree = new; root = root }))
-handed_out h root old new signals left live f s k all room =
-    let e = f s k (all ∙ ap (λ b. times (k + (if b then Tree.readers any_machine h old else 0)) s) live) (sym (ap (λ b. is_room_for s (if b then Tree.has_room any_machine h old else true)) live) ∙ room) in
-    (handed_part h s root old new live e.0, e.1)
+pub handed_out : {M T : Type 0} (b : Machine M T) (h : ℕ) (root : Edge) (old new : Node M) (signals left : List (Signal T)) → is_live root.state ≡ true → IsHandedOut (Tree.readers b h old) (Tree.has_room b h old) signals left (λ s. IsTreeHanded b h s old new) →
+    IsHandedOut (readers b h (record { tree = old; root = root })) (has_room_for b h (record { tree = old; root = root })) signals left (λ s. IsHanded b h s (record { tree = old; root = root }) (record { tree = new; root = root }))
+handed_out b h root old new signals left live f s k all room =
+    let e = f s k (all ∙ ap (λ t. times (k + (if t then Tree.readers b h old else 0)) s) live) (sym (ap (λ t. is_room_for s (if t then Tree.has_room b h old else true)) live) ∙ room) in
+    (handed_part b h s root old new live e.0, e.1)
 
-pub none_handed : {T : Type 0} (h : ℕ) (part : Part T) (signals : List (Signal T)) → is_live part.root.state ≡ false → IsHandedOut (readers h part) (has_room_for h part) signals signals (λ s. IsHanded h s part part)
-none_handed h part signals dead s k all room =
-    (handed_dead h s part dead, all ∙ (ap (λ b. times (k + (if b then Tree.readers any_machine h part.tree else 0)) s) dead ∙ ap (λ n. times n s) (add-zero k)))
+pub none_handed : {M T : Type 0} (b : Machine M T) (h : ℕ) (part : Part M) (signals : List (Signal T)) → is_live part.root.state ≡ false → IsHandedOut (readers b h part) (has_room_for b h part) signals signals (λ s. IsHanded b h s part part)
+none_handed b h part signals dead s k all room =
+    (handed_dead b h s part dead, all ∙ (ap (λ t. times (k + (if t then Tree.readers b h part.tree else 0)) s) dead ∙ ap (λ n. times n s) (add-zero k)))

@@ -1,6 +1,5 @@
 -- Lemmas about parts.
-pub use Rattle.rsx_kinds.proofs.Rows
-pub use Rattle.rsx_kinds.proofs.Room
+pub use Rattle.rsx_rooted.proofs.Rows
 pub mod Handing
 pub mod Parts
 pub mod Signals

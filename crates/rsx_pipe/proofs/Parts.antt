@@ -12,7 +12,7 @@ use Rattle.rsx_model.specs.declared.expr.Expr.{Expr}
 use Rattle.rsx_hub.specs.Hub.{HubState, HasTakenIn, BeginsWith}
 use Rattle.rsx_hub.specs.Member.{ending_taken}
 use Rattle.rsx_hub.specs.Waiting.{is_open}
-use Rattle.rsx_kinds.specs.Built.{IsBuilt, AreBegun, StandAt, counts_of, new_joins}
+use Rattle.rsx_rooted.specs.Built.{IsBuilt, AreBegun, StandAt, counts_of, new_joins}
 use Rattle.rsx_tree.specs.Prelude.{IsTreeReadAt, count_before, edge_view, is_live, station_of, size, can_ask_in, can_send_in, can_pick_in, can_row_in}
 use Rattle.rsx_pipe.specs.Published.{AreTaken, IsTaken}
 use Rattle.rsx_pipe.specs.Output.{counts_in, items_in, IsUnended, more_after, published_then, values_then}
@@ -24,13 +24,13 @@ use Rattle.rsx_tree.specs.declared.edge.EdgeState.TheVariants.{Live, Closed, End
 use Rattle.rsx_pipe.specs.Part.{Part}
 use Rattle.rsx_rooted.specs.declared.rooted.Pumped.{Pumped}
 use Rattle.rsx_rooted.specs.declared.rooted.Pumped.TheVariants.{Idle, Budget}
-use Rattle.rsx_kinds.specs.Any.{any_machine}
+use Rattle.rsx_sources.specs.declared.machine.Machine.{Ghosts as Machine}
 use Rattle.rsx_tree.proofs.Effects.{length_edges}
-use Rattle.rsx_kinds.specs.TreeLaws.{tree_ending_waits, tree_settles}
-use Rattle.rsx_kinds.proofs.Rests.{any_rests}
+use Rattle.rsx_tree.proofs.Residuals.{Settles}
 use Rattle.rsx_tree.proofs.Rests.{tree_rests}
+use Rattle.rsx_tree.specs.Rests.{Rests}
 use Rattle.rsx_pipe.proofs.Trees.{unchosen_tree}
-use Rattle.rsx_tree.proofs.Idles.{can_pass_live, live_still, place_none, station_none}
+use Rattle.rsx_tree.proofs.Idles.{Waits, can_pass_live, live_still, place_none, station_none}
 use Rattle.rsx_pipe.proofs.Signals.{prefix_of_orderly, cut_value}
 use Rattle.rsx_rooted.proofs.Numbers.{above_zero, suc_minus}
 use Rattle.rsx_rooted.proofs.Parts as OfAny
@@ -103,18 +103,18 @@ taken_counts (h ∷ hs) (v ∷ vs) k =
     ap (λ n. count_before (ending_taken h.has_ended h.ending) n ∷ counts_of hs) k.0.taken.counted
     ∙ (ap (λ e. count_before e (length v.items) ∷ counts_of hs) (sym k.0.ending) ∙ ap (λ l. count_before v.ending (length v.items) ∷ l) (taken_counts hs vs k.1))
 
-pub fresh_part : {T : Type 0} (m : Meaning T) (hubs : List (HubState T)) (published : List (Stream T)) (e : Expr T) (part : Part T) → AreTaken hubs published → IsBuilt m hubs e part.tree → part.root.state ≡ Live → part.root.demand.sent ≡ 0 → PartStands m published part e (new_joins hubs e) []
-fresh_part m hubs published e part taken b l s = record {
+pub fresh_part : {M T : Type 0} (b : Machine M T) (m : Meaning T) (hubs : List (HubState T)) (published : List (Stream T)) (e : Expr T) (part : Part M) → AreTaken hubs published → IsBuilt b m hubs e part.tree → part.root.state ≡ Live → part.root.demand.sent ≡ 0 → PartStands b m published part e (new_joins hubs e) []
+fresh_part b m hubs published e part taken is l s = record {
   value = λ more further len.
-      rw (notes_then-unrecorded (notes_of part.tree) further b.notes len)
-      (map_same (comes_out m (values_then published more) further part.tree 0) ∙ b.value (values_then published more) (new_joins hubs e) further 0 0 (begun_all hubs published more taken) (stands_at [] (new_joins hubs e)));
+      rw (notes_then-unrecorded (notes_of b part.tree) further is.notes len)
+      (map_same (comes_out b m (values_then published more) further part.tree 0) ∙ is.value (values_then published more) (new_joins hubs e) further 0 0 (begun_all hubs published more taken) (stands_at [] (new_joins hubs e)));
   orderly = tt;
   unended = λ _. tt;
   ended = λ x. let k = l in cc;
   counted = sym s;
-  balance = λ _. rw s b.balance;
-  reads = λ _. let C : List (Option ℕ) → Type 0 = λ counts. IsTreeReadAt any_machine counts part.tree in subst C (taken_counts hubs published taken) b.reads;
-  alone = λ _ none. b.alone none;
+  balance = λ _. rw s is.balance;
+  reads = λ _. let C : List (Option ℕ) → Type 0 = λ counts. IsTreeReadAt b counts part.tree in subst C (taken_counts hubs published taken) is.reads;
+  alone = λ _ none. is.alone none;
   closed = λ x. let k = l in cc;
 }
   where
@@ -123,50 +123,50 @@ fresh_part m hubs published e part taken b l s = record {
     map_same (Some v) = refl
 
 -- a closed part makes no move
-pub moved_alive : {T : Type 0} (m : Meaning T) (old new : Part T) (queue queue' out : List (Signal T)) → IsMoved m old queue out new queue' → IsAllClosed old.tree → (old.root.state ≡ Live → ⊥) → ⊥
-moved_alive m old new queue queue' out k closed shut = OfAny.moved_alive any_machine m old new queue queue' out k closed shut
+pub moved_alive : {M T : Type 0} (b : Machine M T) (m : Meaning T) (old new : Part M) (queue queue' out : List (Signal T)) → IsMoved b m old queue out new queue' → IsAllClosed old.tree → (old.root.state ≡ Live → ⊥) → ⊥
+moved_alive b m old new queue queue' out k closed shut = OfAny.moved_alive b m old new queue queue' out k closed shut
 
 -- ---- idle means delivered
 
-few_below : {T : Type 0} (part : Part T) → length (all_edges part) ≤ MOST_NODES → size part.tree.inputs < MOST_NODES
+few_below : {M : Type 0} (part : Part M) → length (all_edges part) ≤ MOST_NODES → size part.tree.inputs < MOST_NODES
 few_below part few = let len = length_edges part.tree.inputs in omega (arith, len, few)
 
-idle_tree : {T : Type 0} (m : Meaning T) (part : Part T) (queue : List (Signal T)) → IsQuiet m part queue → length (all_edges part) ≤ MOST_NODES → IsIdle m part.tree part.root.demand.asked part.root.demand.sent
-idle_tree {T} m part queue q few at lt = elim (cases_lt at (size part.tree.inputs)) [
+idle_tree : {M T : Type 0} (b : Machine M T) (m : Meaning T) (part : Part M) (queue : List (Signal T)) → IsQuiet b m part queue → length (all_edges part) ≤ MOST_NODES → IsIdle b m part.tree part.root.demand.asked part.root.demand.sent
+idle_tree {T = T} b m part queue q few at lt = elim (cases_lt at (size part.tree.inputs)) [
   | inl w ↦
       let small : size part.tree.inputs < MOST_NODES = few_below part few in
       let a = q (Ask (at + 1)) (omega (arith, w, small)) in
       let s = q (Send (at + 1)) (omega (arith, w, small)) in (
-        sym (ap (λ k. can_ask part.tree k part.root.demand.asked part.root.demand.sent) (suc_minus at)) ∙ (sym (above_zero at false (can_ask part.tree ((at + 1) - 1) part.root.demand.asked part.root.demand.sent)) ∙ a),
-        sym (ap (λ k. can_send m part.tree k) (suc_minus at)) ∙ (sym (above_zero at (has_room queue && can_go (edge_view part.root) (option_map front_of (offers m part.tree))) (can_send m part.tree ((at + 1) - 1))) ∙ s),
+        sym (ap (λ k. can_ask b part.tree k part.root.demand.asked part.root.demand.sent) (suc_minus at)) ∙ (sym (above_zero at false (can_ask b part.tree ((at + 1) - 1) part.root.demand.asked part.root.demand.sent)) ∙ a),
+        sym (ap (λ k. can_send b m part.tree k) (suc_minus at)) ∙ (sym (above_zero at (has_room queue && can_go (edge_view part.root) (option_map front_of (offers b m part.tree))) (can_send b m part.tree ((at + 1) - 1))) ∙ s),
         ((λ input l. q (Pick (suc at) input) (omega (arith, w, small), l)), q (Row (suc at)) (omega (arith, w, small))),
       )
   | inr w ↦
       let none = station_none part.tree.inputs at w in (
-        ap (can_ask_in any_machine) (place_none part.tree.machine 0 part.root.demand.asked part.root.demand.sent part.tree.inputs at w),
-        ap (can_send_in any_machine m) (place_none part.tree.machine 0 0 0 part.tree.inputs at w),
-        ((λ input l. ap (can_pick_in any_machine input) none), ap (can_row_in any_machine) none),
+        ap (can_ask_in b) (place_none part.tree.machine 0 part.root.demand.asked part.root.demand.sent part.tree.inputs at w),
+        ap (can_send_in b m) (place_none part.tree.machine 0 0 0 part.tree.inputs at w),
+        ((λ input l. ap (can_pick_in b input) none), ap (can_row_in b) none),
       )
 ]
 
 -- no step of the root of a quiet part is enabled
-still_root : {T : Type 0} (m : Meaning T) (part : Part T) (queue : List (Signal T)) → IsQuiet m part queue → IsStill (station_of part.tree (edge_view part.root) 0)
-still_root m part queue q = ((λ input l. q (Pick 0 input) (omega arith, l)), q (Row 0) (omega arith))
+still_root : {M T : Type 0} (b : Machine M T) (m : Meaning T) (part : Part M) (queue : List (Signal T)) → IsQuiet b m part queue → IsStill b (station_of part.tree (edge_view part.root) 0)
+still_root b m part queue q = ((λ input l. q (Pick 0 input) (omega arith, l)), q (Row 0) (omega arith))
 
 -- over a live root edge with room behind it, of which more is asked than went, nothing more comes
-nothing_more : {T : Type 0} (m : Meaning T) (hubs : List (Stream T)) (part : Part T) (queue : List (Signal T)) → IsQuiet m part queue → part.root.state ≡ Live → length queue < CAPACITY → IsBalanced part.tree part.root.demand.sent → length (all_edges part) ≤ MOST_NODES → IsWithin part.tree → HasReadAll m hubs part → part.root.demand.sent < part.root.demand.asked →
-    comes_out m hubs (map unchosen (notes_of part.tree)) part.tree 0 ≡ Some (ended_by Open)
-nothing_more {T} m hubs part queue q live room b few w read less =
-    tree_rests any_machine m (tree_ending_waits m) (tree_settles m) (any_rests m) hubs (map unchosen (notes_of part.tree)) part.tree part.root.demand.asked part.root.demand.sent (idle_tree m part queue q few) (live_still any_machine part.root part.tree.machine can (still_root m part queue q)) b less (let k = few_below part few in omega (arith, k)) w (read live) (unchosen_tree part.tree) (none_from_no_some (offers m part.tree) silent)
+nothing_more : {M T : Type 0} (b : Machine M T) (m : Meaning T) (waits : Waits b m) (settles : Settles b m) (rests : Rests b m) (hubs : List (Stream T)) (part : Part M) (queue : List (Signal T)) → IsQuiet b m part queue → part.root.state ≡ Live → length queue < CAPACITY → IsBalanced b part.tree part.root.demand.sent → length (all_edges part) ≤ MOST_NODES → IsWithin part.tree → HasReadAll b m hubs part → part.root.demand.sent < part.root.demand.asked →
+    comes_out b m hubs (map unchosen (notes_of b part.tree)) part.tree 0 ≡ Some (ended_by Open)
+nothing_more {T = T} b m waits settles rests hubs part queue q live room bal few w read less =
+    tree_rests b m waits settles rests hubs (map unchosen (notes_of b part.tree)) part.tree part.root.demand.asked part.root.demand.sent (idle_tree b m part queue q few) (live_still b part.root part.tree.machine can (still_root b m part queue q)) bal less (let k = few_below part few in omega (arith, k)) w (read live) (unchosen_tree b part.tree) (none_from_no_some (offers b m part.tree) silent)
   where
     can : is_live part.root.state ≡ true
     can = ap is_live live
 
-    silent : (s : Signal T) → offers m part.tree ≡ Some s → ⊥
+    silent : (s : Signal T) → offers b m part.tree ≡ Some s → ⊥
     silent s offered =
         let r : has_room queue ≡ true = grind (arith, nat_tests, room) in
-        let goes : send_enabled m part queue 0 ≡ true = rw (r, offered) (can_pass_live (edge_view part.root) (front_of s) can less) in
-        both_ways (send_enabled m part queue 0) (q (Send 0) (omega arith)) goes
+        let goes : send_enabled b m part queue 0 ≡ true = rw (r, offered) (can_pass_live (edge_view part.root) (front_of s) can less) in
+        both_ways (send_enabled b m part queue 0) (q (Send 0) (omega arith)) goes
 
 more_again : {T : Type 0} (d e : Ending) (xs ys : List T) (k : Stream T) →
     published_then (more_after d (record { items = xs; ending = d }) (record { items = ys; ending = e })) k ≡ more_after d (record { items = xs; ending = d }) (more_after e (record { items = ys; ending = e }) k)
@@ -188,10 +188,10 @@ values_then-again (v ∷ vs) (i ∷ is) [] = ap (λ l. published_then v i ∷ l)
 values_then-again (v ∷ vs) (i ∷ is) (k ∷ ks) = ap (λ w. w ∷ values_then (values_then vs is) ks) (then_again v i k) ∙ ap (λ l. published_then v (published_then i k) ∷ l) (values_then-again vs is ks)
 
 -- what went out, followed by what still comes out, is the value where this is published besides
-pub value_now : {T : Type 0} (m : Meaning T) (published more : List (Stream T)) (part : Part T) (e : Expr T) (joins : List ℕ) (output : List (Signal T)) (v : Stream T) → PartStands m published part e joins output → evaluated m (values_then published more) joins e (notes_of part.tree) ≡ Some v →
-    option_map (signals_then output) (comes_out m (values_then published more) (map unchosen (notes_of part.tree)) part.tree 0) ≡ Some v
-value_now m published more part e joins output v h x =
-    h.value more (map unchosen (notes_of part.tree)) (unchosen_notes (notes_of part.tree)) ∙ (ap (λ k. evaluated m (values_then published more) joins e k) (notes_then-unchosen (notes_of part.tree)) ∙ x)
+pub value_now : {M T : Type 0} (b : Machine M T) (m : Meaning T) (published more : List (Stream T)) (part : Part M) (e : Expr T) (joins : List ℕ) (output : List (Signal T)) (v : Stream T) → PartStands b m published part e joins output → evaluated m (values_then published more) joins e (notes_of b part.tree) ≡ Some v →
+    option_map (signals_then output) (comes_out b m (values_then published more) (map unchosen (notes_of b part.tree)) part.tree 0) ≡ Some v
+value_now b m published more part e joins output v h x =
+    h.value more (map unchosen (notes_of b part.tree)) (unchosen_notes (notes_of b part.tree)) ∙ (ap (λ k. evaluated m (values_then published more) joins e k) (notes_then-unchosen (notes_of b part.tree)) ∙ x)
 
 unended_then : {T : Type 0} (output : List (Signal T)) → IsUnended output → signals_then output (ended_by Open) ≡ record { items = items_in output; ending = Open }
 unended_then [] u = refl
@@ -200,12 +200,12 @@ unended_then (Complete ∷ ss) u = absurd u
 unended_then (Error c ∷ ss) u = absurd u
 
 -- all that was asked for went
-served_all : {T : Type 0} (m : Meaning T) (published : List (Stream T)) (part : Part T) (e : Expr T) (joins : List ℕ) (output : List (Signal T)) → part.root.demand.asked ≤ part.root.demand.sent → PartStands m published part e joins output → (more : List (Stream T)) (v : Stream T) → evaluated m (values_then published more) joins e (notes_of part.tree) ≡ Some v → IsServed part output v
-served_all m published part e joins output full h more v x =
+served_all : {M T : Type 0} (b : Machine M T) (m : Meaning T) (published : List (Stream T)) (part : Part M) (e : Expr T) (joins : List ℕ) (output : List (Signal T)) → part.root.demand.asked ≤ part.root.demand.sent → PartStands b m published part e joins output → (more : List (Stream T)) (v : Stream T) → evaluated m (values_then published more) joins e (notes_of b part.tree) ≡ Some v → IsServed part output v
+served_all b m published part e joins output full h more v x =
     let within = part.root.demand.covered in
     let counted = h.counted in
     let count : length (items_in output) ≡ part.root.demand.asked = omega (arith, full, within, counted) in
-    let p = prefix_of_orderly output (comes_out m (values_then published more) (map unchosen (notes_of part.tree)) part.tree 0) v h.orderly (value_now m published more part e joins output v h x) in
+    let p = prefix_of_orderly output (comes_out b m (values_then published more) (map unchosen (notes_of b part.tree)) part.tree 0) v h.orderly (value_now b m published more part e joins output v h x) in
     let longer : length v.items ≡ length (items_in output) + length p.0 = ap length (sym p.1) ∙ length-append (items_in output) p.0 in
     let least : min part.root.demand.asked (length v.items) ≡ length (items_in output) = omega (arith, count, longer) in
     record {
@@ -214,10 +214,10 @@ served_all m published part e joins output full h more v x =
     }
 
 -- more was asked for than there is
-served_whole : {T : Type 0} (m : Meaning T) (published : List (Stream T)) (part : Part T) (e : Expr T) (joins : List ℕ) (output : List (Signal T)) → part.root.state ≡ Live → PartStands m published part e joins output → (more : List (Stream T)) (v : Stream T) → comes_out m (values_then published more) (map unchosen (notes_of part.tree)) part.tree 0 ≡ Some (ended_by Open) → evaluated m (values_then published more) joins e (notes_of part.tree) ≡ Some v → IsServed part output v
-served_whole m published part e joins output live h more v none x =
+served_whole : {M T : Type 0} (b : Machine M T) (m : Meaning T) (published : List (Stream T)) (part : Part M) (e : Expr T) (joins : List ℕ) (output : List (Signal T)) → part.root.state ≡ Live → PartStands b m published part e joins output → (more : List (Stream T)) (v : Stream T) → comes_out b m (values_then published more) (map unchosen (notes_of b part.tree)) part.tree 0 ≡ Some (ended_by Open) → evaluated m (values_then published more) joins e (notes_of b part.tree) ≡ Some v → IsServed part output v
+served_whole b m published part e joins output live h more v none x =
     let whole : v ≡ record { items = items_in output; ending = Open } =
-    same_Some v (signals_then output (ended_by Open)) (sym (value_now m published more part e joins output v h x) ∙ ap (option_map (signals_then output)) none) ∙ unended_then output (h.unended live) in
+    same_Some v (signals_then output (ended_by Open)) (sym (value_now b m published more part e joins output v h x) ∙ ap (option_map (signals_then output)) none) ∙ unended_then output (h.unended live) in
     let within = part.root.demand.covered in
     let counted = h.counted in
     let all : items_in output ≡ v.items = sym (ap (λ w. w.items) whole) in
@@ -227,15 +227,15 @@ served_whole m published part e joins output live h more v none x =
       ending = λ less some. absurd (some (ap (λ w. w.ending) whole));
     }
 
-served_live : {T : Type 0} (m : Meaning T) (published : List (Stream T)) (part : Part T) (queue : List (Signal T)) (e : Expr T) (joins : List ℕ) (output : List (Signal T)) → IsQuiet m part queue → part.root.state ≡ Live → length queue < CAPACITY → length (all_edges part) ≤ MOST_NODES → IsWithin part.tree → PartStands m published part e joins output → (more : List (Stream T)) (v : Stream T) → HasReadAll m (values_then published more) part → evaluated m (values_then published more) joins e (notes_of part.tree) ≡ Some v → IsServed part output v
-served_live m published part queue e joins output q live room few w h more v read x = elim (cases_lt part.root.demand.sent part.root.demand.asked) [
-  | inl less ↦ served_whole m published part e joins output live h more v (nothing_more m (values_then published more) part queue q live room (h.balance live) few w read less) x
-  | inr full ↦ served_all m published part e joins output full h more v x
+served_live : {M T : Type 0} (b : Machine M T) (m : Meaning T) (waits : Waits b m) (settles : Settles b m) (rests : Rests b m) (published : List (Stream T)) (part : Part M) (queue : List (Signal T)) (e : Expr T) (joins : List ℕ) (output : List (Signal T)) → IsQuiet b m part queue → part.root.state ≡ Live → length queue < CAPACITY → length (all_edges part) ≤ MOST_NODES → IsWithin part.tree → PartStands b m published part e joins output → (more : List (Stream T)) (v : Stream T) → HasReadAll b m (values_then published more) part → evaluated m (values_then published more) joins e (notes_of b part.tree) ≡ Some v → IsServed part output v
+served_live b m waits settles rests published part queue e joins output q live room few w h more v read x = elim (cases_lt part.root.demand.sent part.root.demand.asked) [
+  | inl less ↦ served_whole b m published part e joins output live h more v (nothing_more b m waits settles rests (values_then published more) part queue q live room (h.balance live) few w read less) x
+  | inr full ↦ served_all b m published part e joins output full h more v x
 ]
 
-served_ended : {T : Type 0} (m : Meaning T) (published : List (Stream T)) (part : Part T) (e : Expr T) (joins : List ℕ) (output : List (Signal T)) → part.root.state ≡ Ended → PartStands m published part e joins output → (more : List (Stream T)) (v : Stream T) → evaluated m (values_then published more) joins e (notes_of part.tree) ≡ Some v → IsServed part output v
-served_ended m published part e joins output s h more v x =
-    let all : items_in output ≡ v.items = cut_value output (comes_out m (values_then published more) (map unchosen (notes_of part.tree)) part.tree 0) v h.orderly (h.ended s) (value_now m published more part e joins output v h x) in
+served_ended : {M T : Type 0} (b : Machine M T) (m : Meaning T) (published : List (Stream T)) (part : Part M) (e : Expr T) (joins : List ℕ) (output : List (Signal T)) → part.root.state ≡ Ended → PartStands b m published part e joins output → (more : List (Stream T)) (v : Stream T) → evaluated m (values_then published more) joins e (notes_of b part.tree) ≡ Some v → IsServed part output v
+served_ended b m published part e joins output s h more v x =
+    let all : items_in output ≡ v.items = cut_value output (comes_out b m (values_then published more) (map unchosen (notes_of b part.tree)) part.tree 0) v h.orderly (h.ended s) (value_now b m published more part e joins output v h x) in
     let within = part.root.demand.covered in
     let counted = h.counted in
     let count : length (items_in output) ≡ length v.items = ap length all in
@@ -245,18 +245,18 @@ served_ended m published part e joins output s h more v x =
       ending = λ _ _. s;
     }
 
-pub delivered : {T : Type 0} (m : Meaning T) (part : Part T) (queue : List (Signal T)) → IsQuiet m part queue → IsDelivered m part queue
-delivered {T} m part queue q published e joins output h unclosed room few w more v read x = by_state part.root.state refl
+pub delivered : {M T : Type 0} (b : Machine M T) (m : Meaning T) (waits : Waits b m) (settles : Settles b m) (rests : Rests b m) (part : Part M) (queue : List (Signal T)) → IsQuiet b m part queue → IsDelivered b m part queue
+delivered {T = T} b m waits settles rests part queue q published e joins output h unclosed room few w more v read x = by_state part.root.state refl
   where
     by_state : (s : EdgeState) → part.root.state ≡ s → IsServed part output v
-    by_state Live s = served_live m published part queue e joins output q s room few w h more v read x
-    by_state Ended s = served_ended m published part e joins output s h more v x
+    by_state Live s = served_live b m waits settles rests published part queue e joins output q s room few w h more v read x
+    by_state Ended s = served_ended b m published part e joins output s h more v x
     by_state Closed s = absurd (unclosed s)
 
 -- ---- how driving ends
 
 -- where it ends Idle, all is delivered
-pub ended_served : {T : Type 0} (E : Type 0) (m : Meaning T) (budget n : ℕ) (part : Part T) (queue : List (Signal T)) (result : Result Pumped E) → HasEnded m budget n part queue result → IfOk result (λ p. (left : ℕ) → p ≡ Idle left → IsDelivered m part queue)
-ended_served E m budget n part queue (Ok (Idle k)) h = λ left e. delivered m part queue h.1
-ended_served E m budget n part queue (Ok Budget) h = λ left e. cc
-ended_served E m budget n part queue (Err e) h = tt
+pub ended_served : {M T : Type 0} (E : Type 0) (b : Machine M T) (m : Meaning T) (waits : Waits b m) (settles : Settles b m) (rests : Rests b m) (budget n : ℕ) (part : Part M) (queue : List (Signal T)) (result : Result Pumped E) → HasEnded b m budget n part queue result → IfOk result (λ p. (left : ℕ) → p ≡ Idle left → IsDelivered b m part queue)
+ended_served E b m waits settles rests budget n part queue (Ok (Idle k)) h = λ left e. delivered b m waits settles rests part queue h.1
+ended_served E b m waits settles rests budget n part queue (Ok Budget) h = λ left e. cc
+ended_served E b m waits settles rests budget n part queue (Err e) h = tt

@@ -1,7 +1,6 @@
 -- Definitions that contracts cite.
-pub use Rattle.rsx_kinds.specs.Built
-pub use Rattle.rsx_kinds.specs.Crossings
-pub use Rattle.rsx_kinds.specs.Any
+pub use Rattle.rsx_rooted.specs.Built
+pub use Rattle.rsx_rooted.specs.Crossings
 pub mod Code
 pub mod Crossing
 pub mod Feeding

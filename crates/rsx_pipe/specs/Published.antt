@@ -5,7 +5,7 @@ use Rattle.rsx_hub.specs.Hub.{HubState, HasTakenIn}
 use Rattle.rsx_hub.specs.Member.{ending_taken}
 use Rattle.rsx_hub.specs.Waiting.{is_open}
 use Rattle.rsx_model.specs.declared.expr.Expr.{Expr}
-use Rattle.rsx_kinds.specs.Any.{any_machine}
+use Rattle.rsx_sources.specs.declared.machine.Machine.{Ghosts as Machine}
 use Rattle.rsx_tree.specs.Edges.{is_live}
 use Rattle.rsx_tree.specs.Handed as Tree
 use Rattle.rsx_pipe.specs.Output.{IsOpenAt, with_signal_at}
@@ -27,21 +27,21 @@ AreTaken [] (v ∷ vs) = ⊥
 AreTaken (h ∷ hs) [] = ⊥
 
 -- how many nodes of a part read a hub; with a root edge that isn't live, none
-abbrev pub readers : {T : Type 0} → ℕ → Part T → ℕ
-readers h part = if is_live part.root.state then Tree.readers any_machine h part.tree else 0
+abbrev pub readers : {M T : Type 0} → Machine M T → ℕ → Part M → ℕ
+readers b h part = if is_live part.root.state then Tree.readers b h part.tree else 0
 
 -- whether all of them have room for an item
-abbrev pub has_room_for : {T : Type 0} → ℕ → Part T → Bool
-has_room_for h part = if is_live part.root.state then Tree.has_room any_machine h part.tree else true
+abbrev pub has_room_for : {M T : Type 0} → Machine M T → ℕ → Part M → Bool
+has_room_for b h part = if is_live part.root.state then Tree.has_room b h part.tree else true
 
 -- each node that reads the hub took the signal in, and nothing else changed
-pub record IsHanded {T : Type 0} (h : ℕ) (s : Signal T) (old new : Part T) : Type 0 where
+pub record IsHanded {M T : Type 0} (b : Machine M T) (h : ℕ) (s : Signal T) (old new : Part M) : Type 0 where
   -- the part stands for the same, where the hub published that signal besides
   pub stands : (m : Meaning T) (published : List (Stream T)) (e : Expr T) (joins : List ℕ) (output : List (Signal T)) → IsOpenAt h published →
-      PartStands m published old e joins output → PartStands m (with_signal_at h s published) new e joins output
+      PartStands b m published old e joins output → PartStands b m (with_signal_at h s published) new e joins output
   -- after an ending none of its nodes reads the hub
-  pub ended : ends_input s ≡ true → readers h new ≡ 0
+  pub ended : ends_input s ≡ true → readers b h new ≡ 0
   pub edges : all_edges new ≡ all_edges old
   pub root : new.root ≡ old.root
-  pub notes : notes_of new.tree ≡ notes_of old.tree
-  pub calls : (a : Allocates) → pump_allocates a new ≡ pump_allocates a old
+  pub notes : notes_of b new.tree ≡ notes_of b old.tree
+  pub calls : (a : Allocates) → pump_allocates b a new ≡ pump_allocates b a old

@@ -2,7 +2,7 @@
 //! Parts: trees of nodes, each with the edge from its root.
 //!
 //! - [`part`]: [`Part`], one tree with the edge from its root: every move of it, as a [`NodeMove`], and `pump`.
-//! - [`crossing`]: [`Route`], how an edge joins its two ends.
+//! - [`crossing`]: how an edge joins its two ends.
 //! - [`feeding`]: signals go over the root edge straight to a receiver, with no queue between.
 //! - [`published`]: what a hub published is handed to the nodes of a part that read it.
 //!
@@ -16,7 +16,7 @@ pub mod feeding;
 pub mod part;
 pub mod published;
 
-pub use crossing::Route;
 pub use part::{Part, Pumped};
 pub use rsx_prefetch::SignalQueue;
+pub use rsx_rooted::{Nodes, Route};
 pub use rsx_tree::{Edge, EdgeState, NodeMove};

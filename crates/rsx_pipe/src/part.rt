@@ -1,11 +1,10 @@
 //! A part of a graph: one tree of nodes with its edges.
 
 use rsx_hub::Hub;
-use rsx_kinds::{TreeNode, build, build_for};
 use rsx_model::Expr;
 use rsx_prefetch::SignalQueue;
 pub use rsx_rooted::Pumped;
-use rsx_rooted::Rooted;
+use rsx_rooted::{Nodes, Rooted};
 use rsx_sources::NotMade;
 use rsx_tree::{Edge, EdgeState, NodeMove};
 use rsx_types::{NoMemory, Note, Ops, StreamValue};
@@ -20,31 +19,31 @@ use std::marker::Model;
 ///
 /// Contracts see a tree with the edge from its root.
 #[derive(Drop)]
-pub struct Part<T> {
+pub struct Part<N> {
     /// The tree, with the edge from its root to its receiver.
-    pub(crate) rooted: Rooted<TreeNode<T>>,
+    pub(crate) rooted: Rooted<N>,
 }
 
-impl<T> Model for Part<T> {
+impl<N> Model for Part<N> {
     ghost use Rattle.rsx_pipe.specs.Code.{part_code};
     ghost use Rattle.rsx_pipe.specs.Part.{Part as PartView};
 
-    ghost Value = { PartView T };
+    ghost Value = { PartView N };
 
-    ghost coded = { part_code T.code };
+    ghost coded = { part_code N.code };
 
     ghost view = { λ p. p.rooted };
 }
 
-impl<T: Drop> Part<T> {
+impl<N: Nodes> Part<N> {
     ghost use Rattle.std.specs.Prelude.{◌≡◌, ◌<◌, ℕ, List, [], ◌∷◌, Option, None, true, false, OnOk, OnErr, IfOk, IfErr, IsOk, IfSome, IfNone, length, map};
     ghost use Rattle.rsx_demand.specs.Demand.{saturating_total};
     ghost use Rattle.rsx_model.specs.Check.{first_fault};
     ghost use Rattle.rsx_types.specs.Meaning.{Meaning};
     ghost use Rattle.rsx_types.specs.Stream.{Stream};
     ghost use Rattle.rsx_sources.specs.Steps.{IsNotMade};
-    ghost use Rattle.rsx_kinds.specs.Built.{fresh_edge, fresh_edges, new_joins};
-    ghost use Rattle.rsx_kinds.specs.Crossings.{IsPlaced, differ};
+    ghost use Rattle.rsx_rooted.specs.Built.{fresh_edge, fresh_edges, new_joins};
+    ghost use Rattle.rsx_rooted.specs.Crossings.{IsPlaced, differ};
     ghost use Rattle.rsx_model.specs.Region.{region_of};
     ghost use Rattle.rsx_pipe.specs.Published.{AreTaken};
     ghost use Rattle.rsx_tree.specs.Edges.{closed_view};
@@ -58,19 +57,19 @@ impl<T: Drop> Part<T> {
     ///
     /// # Errors
     /// [`NoMemory`] where a growth was refused.
-    pub fn new<O: Ops<Item = T>>(
+    pub fn new<O: Ops<Item = N::Item>>(
         alloc: Global,
         ops: &O,
-        expr: &Expr<T>,
-        hubs: &[Hub<T>],
-    ) -> Result<Part<T>, NoMemory>
+        expr: &Expr<N::Item>,
+        hubs: &[Hub<N::Item>],
+    ) -> Result<Part<N>, NoMemory>
         requires { first_fault (length hubs.now) expr.now ≡ None }
-        ensures stands { IfOk result (λ p. (published : List (Stream T)) → AreTaken hubs.now published →
-            PartStands (O.meaning ops.now) published p expr.now (new_joins hubs.now expr.now) []) }
+        ensures stands { IfOk result (λ p. (published : List (Stream N.Item)) → AreTaken hubs.now published →
+            PartStands N.Machine (O.meaning ops.now) published p expr.now (new_joins hubs.now expr.now) []) }
         ensures edges { IfOk result (λ p. all_edges p ≡ fresh_edge ∷ fresh_edges expr.now) }
-        ensures placed { IfOk result (λ p. IsPlaced expr.now false p.tree) }
+        ensures placed { IfOk result (λ p. IsPlaced N.crosses expr.now false p.tree) }
     {
-        let tree = build(alloc, ops, expr, hubs)?;
+        let tree = N::build(alloc, ops, expr, hubs)?;
         let root = Edge::new();
         Ok(Part {
             rooted: Rooted { tree, root },
@@ -82,20 +81,20 @@ impl<T: Drop> Part<T> {
     ///
     /// # Errors
     /// [`NoMemory`] where a growth was refused.
-    pub fn new_for<O: Ops<Item = T>>(
+    pub fn new_for<O: Ops<Item = N::Item>>(
         alloc: Global,
         ops: &O,
-        expr: &Expr<T>,
-        hubs: &[Hub<T>],
+        expr: &Expr<N::Item>,
+        hubs: &[Hub<N::Item>],
         region: u8,
-    ) -> Result<Part<T>, NoMemory>
+    ) -> Result<Part<N>, NoMemory>
         requires { first_fault (length hubs.now) expr.now ≡ None }
-        ensures stands { IfOk result (λ p. (published : List (Stream T)) → AreTaken hubs.now published →
-            PartStands (O.meaning ops.now) published p expr.now (new_joins hubs.now expr.now) []) }
+        ensures stands { IfOk result (λ p. (published : List (Stream N.Item)) → AreTaken hubs.now published →
+            PartStands N.Machine (O.meaning ops.now) published p expr.now (new_joins hubs.now expr.now) []) }
         ensures edges { IfOk result (λ p. all_edges p ≡ fresh_edge ∷ fresh_edges expr.now) }
-        ensures placed { IfOk result (λ p. IsPlaced expr.now (differ region (region_of expr.now)) p.tree) }
+        ensures placed { IfOk result (λ p. IsPlaced N.crosses expr.now (differ region (region_of expr.now)) p.tree) }
     {
-        let tree = build_for(alloc, ops, expr, hubs, region)?;
+        let tree = N::build_for(alloc, ops, expr, hubs, region)?;
         let root = Edge::new();
         Ok(Part {
             rooted: Rooted { tree, root },
@@ -104,7 +103,7 @@ impl<T: Drop> Part<T> {
 
     /// Asks for `n` items more over the root edge, at most 2^63 - 1 in all (rules 3.8 and 3.17). It takes no memory.
     pub fn request(&mut self, n: u64)
-        ensures stands { (m : Meaning T) → IsPutOut m self.old [] self.new }
+        ensures stands { (m : Meaning N.Item) → IsPutOut N.Machine m self.old [] self.new }
         ensures asked { self.new.root.demand.asked ≡ saturating_total self.old.root.demand.asked n }
         ensures sent { self.new.root.demand.sent ≡ self.old.root.demand.sent }
         ensures state { self.new.root.state ≡ self.old.root.state }
@@ -115,12 +114,12 @@ impl<T: Drop> Part<T> {
 
     /// Closes the root edge and every edge below it (rule 3.12). An edge that has ended stays so. It takes no memory.
     pub fn close(&mut self)
-        ensures stands { (m : Meaning T) → IsPutOut m self.old [] self.new }
+        ensures stands { (m : Meaning N.Item) → IsPutOut N.Machine m self.old [] self.new }
         ensures edges { all_edges self.new ≡ map closed_view (all_edges self.old) }
         ensures closed { IsAllClosed self.new.tree }
         ensures root { self.new.root.state ≡ EdgeState.Live → ⊥ }
         ensures asked { self.new.root.demand.asked ≡ self.old.root.demand.asked }
-        ensures notes { notes_of self.new.tree ≡ notes_of self.old.tree }
+        ensures notes { notes_of N.Machine self.new.tree ≡ notes_of N.Machine self.old.tree }
     {
         self.rooted.root.close();
         self.rooted.tree.close();
@@ -128,16 +127,16 @@ impl<T: Drop> Part<T> {
 
     /// Whether a move is enabled, where the root's signals go into the queue `out`. The root's Ask never is: what is asked of
     /// the root rises by [`Part::request`].
-    pub fn enabled(&self, step: NodeMove, out: &SignalQueue<T>) -> bool
-        ensures { (m : Meaning T) → result ≡ move_enabled m self.now out.now step }
+    pub fn enabled(&self, step: NodeMove, out: &SignalQueue<N::Item>) -> bool
+        ensures { (m : Meaning N.Item) → result ≡ move_enabled N.Machine m self.now out.now step }
     {
         self.rooted.enabled(step, out)
     }
 
     /// The first enabled move, from the root down. None where no move is enabled.
-    pub fn first_enabled(&self, out: &SignalQueue<T>) -> Option<NodeMove>
-        ensures some { (m : Meaning T) → IfSome result (λ step. IsNumbered step × (move_enabled m self.now out.now step ≡ true)) }
-        ensures none { (m : Meaning T) → IfNone result (IsQuiet m self.now out.now) }
+    pub fn first_enabled(&self, out: &SignalQueue<N::Item>) -> Option<NodeMove>
+        ensures some { (m : Meaning N.Item) → IfSome result (λ step. IsNumbered step × (move_enabled N.Machine m self.now out.now step ≡ true)) }
+        ensures none { (m : Meaning N.Item) → IfNone result (IsQuiet N.Machine m self.now out.now) }
     {
         self.rooted.first_enabled(out)
     }
@@ -148,17 +147,17 @@ impl<T: Drop> Part<T> {
     /// [`NotMade::NotEnabled`] exactly where the move isn't enabled, and [`NotMade::NoMemory`] where a growth was refused: an
     /// Ask doesn't allocate, and a Send only to a `buffer` or a `distinct`, or where a function of the caller's that it calls
     /// may, and a pick or a row only where a step of its node may. Then nothing changed.
-    pub fn make<O: Ops<Item = T>>(
+    pub fn make<O: Ops<Item = N::Item>>(
         &mut self,
         alloc: Global,
         ops: &O,
         step: NodeMove,
-        out: &mut SignalQueue<T>,
+        out: &mut SignalQueue<N::Item>,
     ) -> Result<(), NotMade>
-        ensures made { OnOk result (IsMade (O.meaning ops.now) step self.old out.old self.new out.new) }
-        ensures enabled { OnOk result (move_enabled (O.meaning ops.now) self.old out.old step ≡ true) }
-        ensures err { IfErr result (IsNotMade (move_enabled (O.meaning ops.now) self.old out.old step)) }
-        ensures memory { make_allocates (O.allocates ops.now) self.old step ≡ false → OnlyNotEnabled result }
+        ensures made { OnOk result (IsMade N.Machine (O.meaning ops.now) step self.old out.old self.new out.new) }
+        ensures enabled { OnOk result (move_enabled N.Machine (O.meaning ops.now) self.old out.old step ≡ true) }
+        ensures err { IfErr result (IsNotMade (move_enabled N.Machine (O.meaning ops.now) self.old out.old step)) }
+        ensures memory { make_allocates N.Machine (O.allocates ops.now) self.old step ≡ false → OnlyNotEnabled result }
         ensures same { OnErr result ((self.new ≡ self.old) × (out.new ≡ out.old)) }
     {
         self.rooted.make(alloc, ops, step, out)
@@ -172,8 +171,13 @@ impl<T: Drop> Part<T> {
     /// isn't straight, as [`rsx_tree::Node::fetch`] says. Then the moves made stand, nothing went over the root edge, and
     /// [`Part::pump`] goes on from there.
     #[inline]
-    pub fn fetch<O: Ops<Item = T>>(&mut self, alloc: Global, ops: &O, left: &mut u32) -> Option<T>
-        ensures { IsFetched (O.meaning ops.now) left.old self.old result left.new self.new }
+    pub fn fetch<O: Ops<Item = N::Item>>(
+        &mut self,
+        alloc: Global,
+        ops: &O,
+        left: &mut u32,
+    ) -> Option<N::Item>
+        ensures { IsFetched N.Machine (O.meaning ops.now) left.old self.old result left.new self.new }
     {
         self.rooted.fetch(alloc, ops, left)
     }
@@ -186,49 +190,49 @@ impl<T: Drop> Part<T> {
     /// [`NoMemory`] where a growth was refused; the moves made before stand. It comes only where some node of the tree may
     /// allocate: a `buffer` or a `distinct`, or a node that calls a function of the caller's whose [`Ops`] says that it may
     /// (`allocates`).
-    pub fn pump<O: Ops<Item = T>>(
+    pub fn pump<O: Ops<Item = N::Item>>(
         &mut self,
         alloc: Global,
         ops: &O,
         budget: u32,
-        out: &mut SignalQueue<T>,
+        out: &mut SignalQueue<N::Item>,
     ) -> Result<Pumped, NoMemory>
-        ensures pumped { (n : ℕ) × HasEnded (O.meaning ops.now) budget n self.new out.new result
-            × IsPumped (O.meaning ops.now) n self.old out.old self.new out.new }
+        ensures pumped { (n : ℕ) × HasEnded N.Machine (O.meaning ops.now) budget n self.new out.new result
+            × IsPumped N.Machine (O.meaning ops.now) n self.old out.old self.new out.new }
 
         // Idle means delivered.
-        ensures served { IfOk result (λ p. (left : ℕ) → p ≡ Pumped.Idle left → IsDelivered (O.meaning ops.now) self.new out.new) }
+        ensures served { IfOk result (λ p. (left : ℕ) → p ≡ Pumped.Idle left → IsDelivered N.Machine (O.meaning ops.now) self.new out.new) }
 
         // Where no move may allocate, there is no want of memory.
-        ensures memory { pump_allocates (O.allocates ops.now) self.old ≡ false → IsOk result }
+        ensures memory { pump_allocates N.Machine (O.allocates ops.now) self.old ≡ false → IsOk result }
     {
         self.rooted.pump(alloc, ops, budget, out)
     }
 
     /// Whether no move is enabled.
-    pub fn is_idle(&self, out: &SignalQueue<T>) -> bool
-        ensures yes { (m : Meaning T) → result ≡ true → IsQuiet m self.now out.now }
-        ensures no { (m : Meaning T) → result ≡ false → IsAwake m self.now out.now }
+    pub fn is_idle(&self, out: &SignalQueue<N::Item>) -> bool
+        ensures yes { (m : Meaning N.Item) → result ≡ true → IsQuiet N.Machine m self.now out.now }
+        ensures no { (m : Meaning N.Item) → result ≡ false → IsAwake N.Machine m self.now out.now }
     {
         self.rooted.is_idle(out)
     }
 
     /// What the nodes recorded, in pre-order.
     pub fn notes(&self, alloc: Global) -> Result<Vec<Note>, NoMemory>
-        ensures { IfOk result (λ v. v.items ≡ notes_of self.now.tree) }
+        ensures { IfOk result (λ v. v.items ≡ notes_of N.Machine self.now.tree) }
     {
         self.rooted.tree.notes(alloc)
     }
 
     /// The stream value that still comes out, where just what stands in the inboxes is still published at the hubs, and nothing
     /// more is chosen.
-    pub fn residual<O: Ops<Item = T>>(
+    pub fn residual<O: Ops<Item = N::Item>>(
         &self,
         alloc: Global,
         ops: &O,
-        inboxes: &[StreamValue<T>],
-    ) -> Result<StreamValue<T>, NoMemory>
-        ensures { IfOk result (λ v. IsPartResidual (O.meaning ops.now) inboxes.now self.now v) }
+        inboxes: &[StreamValue<N::Item>],
+    ) -> Result<StreamValue<N::Item>, NoMemory>
+        ensures { IfOk result (λ v. IsPartResidual N.Machine (O.meaning ops.now) inboxes.now self.now v) }
     {
         self.rooted.tree.residual(alloc, ops, inboxes)
     }

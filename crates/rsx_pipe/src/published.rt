@@ -1,9 +1,10 @@
 //! Handing the signals of a hub to the nodes of a part.
 
 use crate::part::Part;
+use rsx_rooted::Nodes;
 use rsx_types::Signal;
 
-impl<T: Drop> Part<T> {
+impl<N: Nodes> Part<N> {
     ghost use Rattle.std.specs.Prelude.{◌≡◌, min};
     ghost use Rattle.rsx_tree.specs.Handed.{IsHandedOut};
     ghost use Rattle.rsx_pipe.specs.Published.{readers, has_room_for, IsHanded};
@@ -11,7 +12,7 @@ impl<T: Drop> Part<T> {
     /// How many nodes of the part read the hub with this number, but at most `most`. With a root edge that isn't live none
     /// does.
     pub fn readers_up_to(&self, hub: u64, most: u32) -> u32
-        ensures { result ≡ min (readers hub self.now) most }
+        ensures { result ≡ min (readers N.Machine hub self.now) most }
     {
         match self.rooted.root.is_live() {
             true => self.rooted.tree.readers_up_to(hub, most),
@@ -21,7 +22,7 @@ impl<T: Drop> Part<T> {
 
     /// Whether all nodes of the part that read the hub have room for an item of it. An ending needs no room.
     pub fn has_room_for(&self, hub: u64) -> bool
-        ensures { result ≡ has_room_for hub self.now }
+        ensures { result ≡ has_room_for N.Machine hub self.now }
     {
         match self.rooted.root.is_live() {
             true => self.rooted.tree.has_room(hub),
@@ -31,9 +32,9 @@ impl<T: Drop> Part<T> {
 
     /// Hands a signal that the hub took in to each node of the part that reads it, out of a list that has it once for each;
     /// what else stands in the list stays. For an item there is room at all of them ([`Part::has_room_for`]).
-    pub fn hand(&mut self, hub: u64, signals: &mut Vec<Signal<T>>)
-        ensures { IsHandedOut (readers hub self.old) (has_room_for hub self.old) signals.old.items signals.new.items
-            (λ s. IsHanded hub s self.old self.new) }
+    pub fn hand(&mut self, hub: u64, signals: &mut Vec<Signal<N::Item>>)
+        ensures { IsHandedOut (readers N.Machine hub self.old) (has_room_for N.Machine hub self.old) signals.old.items signals.new.items
+            (λ s. IsHanded N.Machine hub s self.old self.new) }
     {
         if self.rooted.root.is_live() {
             self.rooted.tree.hand(hub, signals);

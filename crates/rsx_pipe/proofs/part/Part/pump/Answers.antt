@@ -8,7 +8,8 @@ returns-clause-pumped g c = rw (← c.self.view_is) c.pump.ensures.pumped
 pub returns-clause-served : goal.returns-clause-served
 returns-clause-served g c =
     let p = c.pump.ensures.pumped in
-    ended_served NoMemory (g.O.Ops.meaning c.args.ops.now) c.args.budget p.0 c.pump.new.self c.pump.new.out c.pump.result p.1
+    let m = g.O.Ops.meaning c.args.ops.now in
+    ended_served NoMemory g.N.Machine m (g.met.N.Machine.ending_waits m) (g.met.N.Machine.settles m) (g.met.N.Nodes.rests m) c.args.budget p.0 c.pump.new.self c.pump.new.out c.pump.result p.1
 
 pub returns-clause-memory : goal.returns-clause-memory
 returns-clause-memory g c = rw (← c.self.view_is) c.pump.ensures.memory

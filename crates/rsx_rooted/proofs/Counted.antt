@@ -5,7 +5,7 @@ use Rattle.std.proofs.lemmas.Bool.{leb-true, and_parts}
 use Rattle.rsx_hub.specs.Hub.{HubState, with_members}
 use Rattle.rsx_hub.specs.declared.TheConstants.{MOST_MEMBERS}
 use Rattle.rsx_model.specs.declared.expr.Expr.{Expr}
-use Rattle.rsx_kinds.specs.Leaves.{HaveJoinedFrom, have_places, leaves_on}
+use Rattle.rsx_rooted.specs.Leaves.{HaveJoinedFrom, have_places, leaves_on}
 
 -- the first of them are counted in
 abbrev pub joined_up : {T : Type 0} → ℕ → Expr T → ℕ → List (HubState T) → List (HubState T)

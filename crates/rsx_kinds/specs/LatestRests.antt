@@ -6,8 +6,8 @@ use Rattle.rsx_queued.specs.Prelude.{inputs_left, next_signal_at, empty_of, is_e
 use Rattle.rsx_queued.proofs.Outputs.{empty_then}
 use Rattle.rsx_combining.specs.Latest.{IsLatestCounted, LatestState, gives_row, latest_comes_out, latest_done, latest_picks, latest_takes, latest_waiting, latest_wanted}
 use Rattle.rsx_combining.specs.LatestLaws.{picks_any}
-use Rattle.rsx_kinds.proofs.MergeRests.{left_open}
-use Rattle.rsx_kinds.proofs.QueuesRests.{AreEmpty, NothingNext, all_empty, nothing_rest, some_left}
+use Rattle.rsx_kinds.specs.MergeRests.{left_open}
+use Rattle.rsx_kinds.specs.QueuesRests.{AreEmpty, NothingNext, all_empty, nothing_rest, some_left}
 use Rattle.rsx_tree.specs.Rests.{NothingComes}
 
 never : (b : Bool) → b ≡ true → b ≡ false → ⊥

@@ -1,7 +1,7 @@
 //! How many items the leaves of an expression miss that join their hubs now.
 
 ghost use Rattle.std.specs.Prelude.{◌≡◌, ◌++◌, map, IfOk, OnOk};
-ghost use Rattle.rsx_kinds.specs.Built.{in_a_row, join_at, joins_now, new_joins};
+ghost use Rattle.rsx_rooted.specs.Built.{in_a_row, join_at, joins_now, new_joins};
 
 use rsx_hub::Hub;
 use rsx_model::Expr;

@@ -3,7 +3,7 @@
 ghost use Rattle.std.specs.Prelude.{◌≡◌, ◌<◌, ◌≤◌, ◌+◌, ◌^◌, true, length, map};
 ghost use Rattle.rsx_model.specs.Shape.{nodes, sum_of};
 ghost use Rattle.rsx_model.specs.declared.check.TheConstants.{MOST_NODES};
-ghost use Rattle.rsx_kinds.specs.Leaves.{HaveJoined, have_places, leaves_on};
+ghost use Rattle.rsx_rooted.specs.Leaves.{HaveJoined, have_places, leaves_on};
 
 use rsx_hub::Hub;
 use rsx_model::Expr;

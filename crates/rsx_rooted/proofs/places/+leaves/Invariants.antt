@@ -1,7 +1,7 @@
 use Rattle.std.proofs.Common.{◌≡◌, ◌+◌, ◌≤◌, map, drop}
 use Rattle.rsx_model.specs.Shape.{nodes, sum_of}
-use Rattle.rsx_kinds.specs.Leaves.{leaves_on}
-use Rattle.rsx_kinds.proofs.places.+leaves.Given as goal
+use Rattle.rsx_rooted.specs.Leaves.{leaves_on}
+use Rattle.rsx_rooted.proofs.places.+leaves.Given as goal
 
 abbrev pub invariant-leaves_on_all-loop-input : goal.invariant-leaves_on_all-loop-input
 invariant-leaves_on_all-loop-input g l =

@@ -1,8 +1,7 @@
 use Rattle.std.proofs.Common.{◌≡◌, ◌∙◌, length, refl, slice_get, Some, sym}
 use Rattle.std.proofs.lemmas.Option.{slice_get_read}
-use Rattle.rsx_kinds.proofs.Builds.{join_there}
-use Rattle.rsx_kinds.proofs.Joined.{join_past}
-use Rattle.rsx_kinds.proofs.joins.join_at.Goals as goal
+use Rattle.rsx_rooted.proofs.Joined.{join_past, join_there}
+use Rattle.rsx_rooted.proofs.joins.join_at.Goals as goal
 
 pub returns-in-Some : goal.returns-in-Some
 returns-in-Some g c =

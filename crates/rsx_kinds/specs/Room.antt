@@ -5,7 +5,7 @@ use Rattle.rsx_hub.specs.declared.TheConstants.{MOST_ACCEPTED}
 use Rattle.rsx_hub.proofs.Leaves.{leaf_full}
 use Rattle.rsx_kinds.specs.Any.{TreeNode, any_machine, any_reads, any_rooms, any_waiting, kind_machine}
 use Rattle.rsx_kinds.specs.Laws.{any_shows}
-use Rattle.rsx_kinds.proofs.SenderRests.{sender_full}
+use Rattle.rsx_kinds.specs.SenderRests.{sender_full}
 use Rattle.rsx_kinds.specs.Source.{source_reads, source_rooms, source_waiting}
 use Rattle.rsx_kinds.specs.declared.any_node.AnyNode.{AnyNode}
 use Rattle.rsx_kinds.specs.declared.any_node.AnyNode.TheVariants.{Source, Plain, Several, PublishOn, Window, FlatMap, GroupBy}

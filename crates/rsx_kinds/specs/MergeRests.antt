@@ -7,7 +7,7 @@ use Rattle.rsx_queued.specs.Prelude.{inputs_left, next_signal_at, empty_of, is_e
 use Rattle.rsx_queued.proofs.Outputs.{empty_then}
 use Rattle.rsx_merging.specs.Merge.{merge_comes_out, merge_counted, merge_done, merge_picks, merge_takes, merge_waiting, merge_wanted}
 use Rattle.rsx_merging.specs.declared.merge_node.MergeNode.{MergeNode}
-use Rattle.rsx_kinds.proofs.QueuesRests.{AreEmpty, NothingNext, all_empty, nothing_rest, some_left}
+use Rattle.rsx_kinds.specs.QueuesRests.{AreEmpty, NothingNext, all_empty, nothing_rest, some_left}
 use Rattle.rsx_tree.specs.Rests.{NothingComes}
 
 never : (b : Bool) → b ≡ true → b ≡ false → ⊥

@@ -12,7 +12,7 @@ use Rattle.rsx_queued.specs.declared.input.QueuedInput.{QueuedInput}
 use Rattle.rsx_combining.specs.Inputs.{AllCounted, all_have_items, ending_only, is_item, left, lefts, or_nothing}
 use Rattle.rsx_combining.specs.Zip.{IsZipCounted, ZipState, zip_comes_out, zip_done, zip_picks, zip_rows, zip_takes, zip_waiting, zip_wanted}
 use Rattle.rsx_queued.proofs.Outputs.{empty_then}
-use Rattle.rsx_kinds.proofs.QueuesRests.{NothingMore, first_still, more_behind}
+use Rattle.rsx_kinds.specs.QueuesRests.{NothingMore, first_still, more_behind}
 use Rattle.rsx_tree.specs.Rests.{NothingComes}
 
 -- no ending is next at any input

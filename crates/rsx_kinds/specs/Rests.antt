@@ -10,13 +10,13 @@ use Rattle.rsx_kinds.specs.Any.{TreeNode, any_machine, kind_machine}
 use Rattle.rsx_kinds.specs.Laws.{any_shows}
 use Rattle.rsx_kinds.specs.declared.any_node.AnyNode.{AnyNode}
 use Rattle.rsx_kinds.specs.declared.any_node.AnyNode.TheVariants.{Source, Plain, Several, PublishOn, Window, FlatMap, GroupBy}
-use Rattle.rsx_kinds.proofs.ConcatRests.{concat_rests}
-use Rattle.rsx_kinds.proofs.LatestRests.{latest_rests}
-use Rattle.rsx_kinds.proofs.MergeRests.{merge_rests}
-use Rattle.rsx_kinds.proofs.OneInputRests.{plain_rests, publish_rests, window_rests}
-use Rattle.rsx_kinds.proofs.SenderRests.{sender_rests}
-use Rattle.rsx_kinds.proofs.SourcesRests.{source_rests}
-use Rattle.rsx_kinds.proofs.ZipRests.{zip_rests}
+use Rattle.rsx_kinds.specs.ConcatRests.{concat_rests}
+use Rattle.rsx_kinds.specs.LatestRests.{latest_rests}
+use Rattle.rsx_kinds.specs.MergeRests.{merge_rests}
+use Rattle.rsx_kinds.specs.OneInputRests.{plain_rests, publish_rests, window_rests}
+use Rattle.rsx_kinds.specs.SenderRests.{sender_rests}
+use Rattle.rsx_kinds.specs.SourcesRests.{source_rests}
+use Rattle.rsx_kinds.specs.ZipRests.{zip_rests}
 use Rattle.rsx_tree.specs.Rests.{IsStuck, NothingComes, Rests}
 
 several_rests : {T : Type 0} (m : Meaning T) (n : SeveralNode T) (taken : List ℕ) (asked sent : ℕ) (inc : Incoming T) → several_ended n ≡ false → several_counted n taken sent → several_waiting m n ≡ None → sent < asked → AreWithin taken →

@@ -12,7 +12,7 @@ use Rattle.rsx_model.specs.declared.expr.Expr.TheVariants.{Concat, Merge, Zip, L
 use Rattle.rsx_model.specs.declared.expr.Expr.TheViews.{outs-Concat, outs-Merge, outs-Zip, outs-Latest, out-Expr, Plain, Window, On}
 use Rattle.rsx_model.specs.Shape.{children, nodes, sum_of}
 use Rattle.rsx_model.proofs.Unfold.{Each, by_children, children-map, nodes_out}
-use Rattle.rsx_kinds.specs.Leaves.{leaves_on, reads_here}
+use Rattle.rsx_rooted.specs.Leaves.{leaves_on, reads_here}
 
 reads_here-map : {T A B : Type 0} (n : ℕ) (h : A → B) (x : Expr-F T A) → reads_here n (map-Expr T A B h x) ≡ reads_here n x
 reads_here-map n h (layer.Items v) = refl

@@ -1,7 +1,7 @@
 use Rattle.std.proofs.Common.{arith}
-use Rattle.rsx_kinds.specs.Leaves.{leaves_on}
-use Rattle.rsx_kinds.proofs.Leaves.{all_leaves_le, leaves_Concat, leaves_Merge, leaves_Zip, leaves_Latest, sum_front}
-use Rattle.rsx_kinds.proofs.places.+leaves.Goals as goal
+use Rattle.rsx_rooted.specs.Leaves.{leaves_on}
+use Rattle.rsx_rooted.proofs.Leaves.{all_leaves_le, leaves_Concat, leaves_Merge, leaves_Zip, leaves_Latest, sum_front}
+use Rattle.rsx_rooted.proofs.places.+leaves.Goals as goal
 
 pub leaves_on-returns-in-Concat : goal.leaves_on-returns-in-Concat
 leaves_on-returns-in-Concat g t c = rw (c.in-Concat.is, leaves_Concat c.args.hub, ← c.deref-in-Concat.ensures.value) c.leaves_on_all.ensures

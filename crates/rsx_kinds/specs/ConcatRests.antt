@@ -10,7 +10,7 @@ use Rattle.rsx_values.specs.Concat.{value_then}
 use Rattle.rsx_merging.specs.Concat.{IsInTurn, concat_comes_out, concat_done, concat_ended, concat_left, concat_takes, concat_waiting, concat_wanted, turn}
 use Rattle.rsx_merging.specs.ConcatLaws.{concat_hungry, turn_open}
 use Rattle.rsx_merging.specs.declared.concat_node.ConcatNode.{ConcatNode}
-use Rattle.rsx_kinds.proofs.QueuesRests.{coming_behind, first_coming}
+use Rattle.rsx_kinds.specs.QueuesRests.{coming_behind, first_coming}
 use Rattle.rsx_tree.specs.Rests.{NothingComes, coming}
 
 -- an item is taken only of the input whose turn it is

@@ -2,8 +2,8 @@ use Rattle.std.proofs.Common.{◌≡◌, ◌<◌, ◌≤◌, ◌+◌, ◌∙◌,
 use Rattle.std.proofs.Math.ListN.{set}
 use Rattle.rsx_hub.specs.Hub.{with_members}
 use Rattle.rsx_hub.specs.declared.TheConstants.{MOST_MEMBERS}
-use Rattle.rsx_kinds.proofs.Counted.{joined_up, more_first, place_first, up_all, up_length, up_next}
-use Rattle.rsx_kinds.proofs.places.count_in.Goals as goal
+use Rattle.rsx_rooted.proofs.Counted.{joined_up, more_first, place_first, up_all, up_length, up_next}
+use Rattle.rsx_rooted.proofs.places.count_in.Goals as goal
 
 pub count_in-requires : goal.count_in-requires
 count_in-requires g c =

@@ -1,0 +1,20 @@
+-- How the edge of a node joins its two ends: straight, or through the queue of an edge that crosses to another region.
+use Rattle.std.specs.Prelude.{ℕ, ◌&&◌}
+use Rattle.rsx_queued.specs.Queued.{can_transfer}
+use Rattle.rsx_queued.specs.declared.sender.Sender.TheVariants.{Direct, Crossing}
+use Rattle.rsx_kinds.specs.Any.{TreeNode, kind_machine}
+use Rattle.rsx_tree.specs.Prelude.{is_live}
+use Rattle.rsx_tree.specs.declared.edge.EdgeState.{EdgeState}
+use Rattle.rsx_kinds.specs.Crossings.{is_crossing}
+use Rattle.rsx_rooted.specs.declared.nodes.Nodes.{Ghosts as Nodes}
+use Rattle.rsx_rooted.specs.declared.nodes.Route.{Route}
+use Rattle.rsx_rooted.specs.declared.nodes.Route.TheVariants.{Straight, Queued}
+
+-- a signal goes into the queue of an edge that crosses while the edge is live, the node offers one that may go, and there's room
+abbrev pub route_by : {T : Type 0} → TreeNode T → EdgeState → ℕ → ℕ → Route
+route_by (Direct n) state asked sent = Straight
+route_by (Crossing q) state asked sent = Queued (is_live state && can_transfer kind_machine q asked sent)
+
+-- how the nodes of a tree join, and which of their edges cross
+abbrev pub tree_nodes : {T : Type 0} → Nodes (TreeNode T) T
+tree_nodes = record { route_by = route_by; crosses = is_crossing }
