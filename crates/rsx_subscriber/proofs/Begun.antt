@@ -1,4 +1,6 @@
 -- A subscription that has just begun stands for its past.
+use Rattle.rsx_sources.specs.declared.machine.Machine.{Ghosts as Machine}
+use Rattle.rsx_rooted.specs.declared.nodes.Nodes.{Ghosts as Nodes}
 use Rattle.std.proofs.Common.{◌≡◌, ℕ, List, [], ◌∷◌, length, true, false, None, sym, ap, ◌∙◌, subst}
 use Rattle.rsx_demand.specs.declared.Demand.{Demand}
 use Rattle.rsx_model.specs.Check.{refusal}
@@ -23,17 +25,17 @@ use Rattle.rsx_subscription.specs.declared.State.TheVariants.{Open as OpenState}
 use Rattle.rsx_sources.specs.Prelude.{Meaning, Stream}
 
 -- how the subscriber stands at the beginning
-pub record IsBegun {T : Type 0} (sub : Subscription T) : Type 0 where
+pub record IsBegun {M T : Type 0} (sub : Subscription M T) : Type 0 where
   pub state : sub.state ≡ OpenState
   pub live : sub.live ≡ true
   pub asked : sub.demand.asked ≡ 0
   pub delivered : sub.demand.sent ≡ 0
 
-pub begun : {T : Type 0} (sub : Subscription T) (d : Demand) → d.asked ≡ 0 → d.sent ≡ 0 → sub.state ≡ OpenState → sub.live ≡ true → sub.demand.asked ≡ d.asked → sub.demand.sent ≡ d.sent → IsBegun sub
+pub begun : {M T : Type 0} (sub : Subscription M T) (d : Demand) → d.asked ≡ 0 → d.sent ≡ 0 → sub.state ≡ OpenState → sub.live ≡ true → sub.demand.asked ≡ d.asked → sub.demand.sent ≡ d.sent → IsBegun sub
 begun sub d a s o l r t = record { state = o; live = l; asked = r ∙ a; delivered = t ∙ s }
 
-pub stands_fresh : {T : Type 0} (m : Meaning T) (hubs : List (HubState T)) (published : List (Stream T)) (e : Expr T) (sub : Subscription T) → refusal (length hubs) e ≡ None → AreTaken hubs published → PartStands m published sub.part e (new_joins hubs e) [] → all_edges sub.part ≡ fresh_edge ∷ fresh_edges e → sub.queue ≡ [] → IsBegun sub → Stands m published sub (subscribed e (new_joins hubs e))
-stands_fresh {T} m hubs published e sub ok taken b k q f =
+pub stands_fresh : {M T : Type 0} (mc : Machine M T) (m : Meaning T) (hubs : List (HubState T)) (published : List (Stream T)) (e : Expr T) (sub : Subscription M T) → refusal (length hubs) e ≡ None → AreTaken hubs published → PartStands mc m published sub.part e (new_joins hubs e) [] → all_edges sub.part ≡ fresh_edge ∷ fresh_edges e → sub.queue ≡ [] → IsBegun sub → Stands mc m published sub (subscribed e (new_joins hubs e))
+stands_fresh {M} {T} mc m hubs published e sub ok taken b k q f =
     let o : standing_of sub ≡ Open = ap (λ t. standing t sub.live) f.state in
     let live : IsLive (standing_of sub) = rw o tt in
     let root : edge_view sub.part.root ≡ fresh_edge = cc in
@@ -60,8 +62,8 @@ stands_fresh {T} m hubs published e sub ok taken b k q f =
     not_closed : Live ≡ Closed → ⊥
     not_closed c = cc
 
-pub fresh_sub : {T : Type 0} (m : Meaning T) (e : Expr T) (sub : Subscription T) → all_edges sub.part ≡ fresh_edge ∷ fresh_edges e → IsPlaced e false sub.part.tree → sub.queue ≡ [] → IsBegun sub → IsFresh e sub
-fresh_sub m e sub b placed q f = record {
+pub fresh_sub : {M T : Type 0} (kd : Nodes M T) (m : Meaning T) (e : Expr T) (sub : Subscription M T) → all_edges sub.part ≡ fresh_edge ∷ fresh_edges e → IsPlaced kd.crosses e false sub.part.tree → sub.queue ≡ [] → IsBegun sub → IsFresh kd e sub
+fresh_sub kd m e sub b placed q f = record {
   edges = b;
   placed = placed;
   queue = q;

@@ -1,6 +1,7 @@
 pub mod Begun
 pub mod Edits
 pub mod Fetches
+pub mod Laws
 pub mod Moves
 pub mod Names
 pub mod Publishing

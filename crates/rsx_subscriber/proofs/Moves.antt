@@ -1,4 +1,6 @@
 -- How each edit and each move keeps what a subscription stands for.
+use Rattle.rsx_sources.specs.declared.machine.Machine.{Ghosts as Machine}
+use Rattle.rsx_rooted.specs.declared.nodes.Nodes.{Ghosts as Nodes}
 use Rattle.std.proofs.Common.{◌≡◌, ℕ, zero, suc, ◌+◌, ◌<◌, Bool, true, false, ◌&&◌, ◌||◌, if◌then◌else◌, nat_eq, nat_lt, List, [], ◌∷◌, ◌++◌, length, map, refl, ap, sym, ◌∙◌, subst, arith, append_assoc, length-append, ◌⊎◌, inl, inr, ℤ, pos, negsuc, int_lt, unsigned_abs, slice_index_or, Option, Some, None, Ok}
 use mathlib.Core.HLevel.{⊥_prop, Π_prop}
 use Rattle.std.proofs.lemmas.Bool.Decides.{nat_tests}
@@ -8,13 +10,12 @@ use Rattle.std.proofs.lemmas.Bool.{both_ways, or_left, or_right}
 use Rattle.rsx_types.proofs.Numbers.{not_zero}
 use Rattle.rsx_demand.specs.Demand.{saturating_total}
 use Rattle.rsx_sources.specs.Prelude.{Meaning, Stream, Move, Ask, Send, Take, Pick, Row, Accept, SubId, Sub, Signal, Next, Complete, Error}
-use Rattle.rsx_kinds.specs.Any.{any_machine}
 use Rattle.rsx_tree.specs.Prelude.{closed_view, IsTreeReadAt}
 use Rattle.rsx_pipe.specs.Part.{IsPutOut, all_edges}
 use Rattle.rsx_pipe.specs.Part as Part
 use Rattle.rsx_pipe.specs.Crossing.{route, route_below}
-use Rattle.rsx_pipe.specs.declared.crossing.Route.{Route}
-use Rattle.rsx_pipe.specs.declared.crossing.Route.TheVariants.{Straight, Queued}
+use Rattle.rsx_rooted.specs.declared.nodes.Route.{Route}
+use Rattle.rsx_rooted.specs.declared.nodes.Route.TheVariants.{Straight, Queued}
 use Rattle.rsx_pipe.specs.Tree.{IsAllClosed, edges}
 use Rattle.rsx_tree.specs.declared.edge.EdgeState.TheVariants.{Live, Closed}
 use Rattle.rsx_tree.specs.declared.look.NodeMove.{NodeMove}
@@ -67,14 +68,14 @@ pub held_prefix : {T : Type 0} (received queue output : List (Signal T)) → rec
 held_prefix received queue output e = (items_in queue, sym (items_in-append received queue) ∙ ap items_in e)
 
 -- what closing leaves of a subscription that was open
-pub record IsClosing {T : Type 0} (old new : Subscription T) : Type 0 where
+pub record IsClosing {M T : Type 0} (mc : Machine M T) (old new : Subscription M T) : Type 0 where
   pub was_open : standing_of old ≡ Open
   pub live : new.live ≡ false
   pub queue : new.queue ≡ []
   pub root : new.part.root.state ≡ Live → ⊥
   pub asked : new.part.root.demand.asked ≡ old.part.root.demand.asked
   pub tree : IsAllClosed new.part.tree
-  pub put : (m : Meaning T) → IsPutOut m old.part [] new.part
+  pub put : (m : Meaning T) → IsPutOut mc m old.part [] new.part
   pub edges : all_edges new.part ≡ map closed_view (all_edges old.part)
   pub requested : new.demand.asked ≡ old.demand.asked
   pub delivered : new.demand.sent ≡ old.demand.sent
@@ -87,8 +88,8 @@ pub record IsClosedPast {T : Type 0} (past past' : Past T) : Type 0 where
   pub orderly : IsOrderly past'.received
   pub asked : past'.asked ≡ past.asked
 
-pub stands_closed : {T : Type 0} (m : Meaning T) (published : List (Stream T)) (old new : Subscription T) (past past' : Past T) → IsClosing old new → live_in (standing_of new) ≡ false → (IsLive (standing_of new) → ⊥) → standing_of new ≡ past'.state → IsClosedPast past past' → Stands m published old past → Stands m published new past'
-stands_closed {T} m published old new past past' k gone dead s p h =
+pub stands_closed : {M T : Type 0} (mc : Machine M T) (m : Meaning T) (published : List (Stream T)) (old new : Subscription M T) (past past' : Past T) → IsClosing mc old new → live_in (standing_of new) ≡ false → (IsLive (standing_of new) → ⊥) → standing_of new ≡ past'.state → IsClosedPast past past' → Stands mc m published old past → Stands mc m published new past'
+stands_closed {M} {T} mc m published old new past past' k gone dead s p h =
     let held = h.held (IsLive-open (standing_of old) k.was_open) in
     let begins = held_prefix past.received old.queue h.output held in
     record {
@@ -111,15 +112,15 @@ stands_closed {T} m published old new past past' k gone dead s p h =
       closed = λ _. (k.tree, k.root, k.queue);
     }
 
-pub stands_cancelled : {T : Type 0} (m : Meaning T) (published : List (Stream T)) (old new : Subscription T) (past : Past T) → IsClosing old new → new.state ≡ CancelledState → Stands m published old past → Stands m published new (cancelled past)
-stands_cancelled m published old new past k c h =
+pub stands_cancelled : {M T : Type 0} (mc : Machine M T) (m : Meaning T) (published : List (Stream T)) (old new : Subscription M T) (past : Past T) → IsClosing mc old new → new.state ≡ CancelledState → Stands mc m published old past → Stands mc m published new (cancelled past)
+stands_cancelled mc m published old new past k c h =
     let s : standing_of new ≡ Cancelled = ap (λ t. standing t new.live) c in
     let o : Open ≡ past.state = sym k.was_open ∙ h.state in
-    stands_closed m published old new past (cancelled past) k (ap live_in s) (not_cancelled (standing_of new) s) (s ∙ ap cancelled_state o)
+    stands_closed mc m published old new past (cancelled past) k (ap live_in s) (not_cancelled (standing_of new) s) (s ∙ ap cancelled_state o)
     (record { expression = refl; joins = refl; items = refl; orderly = h.orderly; asked = refl }) h
 
 -- nothing changed
-pub record IsSame {T : Type 0} (old new : Subscription T) : Type 0 where
+pub record IsSame {M T : Type 0} (old new : Subscription M T) : Type 0 where
   pub part : new.part ≡ old.part
   pub queue : new.queue ≡ old.queue
   pub state : new.state ≡ old.state
@@ -127,8 +128,8 @@ pub record IsSame {T : Type 0} (old new : Subscription T) : Type 0 where
   pub requested : new.demand.asked ≡ old.demand.asked
   pub delivered : new.demand.sent ≡ old.demand.sent
 
-pub stands_same : {T : Type 0} (m : Meaning T) (published : List (Stream T)) (old new : Subscription T) (past : Past T) → IsSame old new → Stands m published old past → Stands m published new past
-stands_same m published old new past k h = record {
+pub stands_same : {M T : Type 0} (mc : Machine M T) (m : Meaning T) (published : List (Stream T)) (old new : Subscription M T) (past : Past T) → IsSame old new → Stands mc m published old past → Stands mc m published new past
+stands_same mc m published old new past k h = record {
   state = rw (k.state, k.live) h.state;
   live = rw (k.state, k.live) h.live;
   output = h.output;
@@ -148,10 +149,10 @@ stands_same m published old new past k h = record {
   closed = rw (k.state, k.live, k.part, k.queue) h.closed;
 }
 
-pub stands_refused : {T : Type 0} (m : Meaning T) (published : List (Stream T)) (old new : Subscription T) (past : Past T) → IsClosing old new → new.state ≡ FailedState → Stands m published old past → Stands m published new (refused past)
-stands_refused m published old new past k f h =
+pub stands_refused : {M T : Type 0} (mc : Machine M T) (m : Meaning T) (published : List (Stream T)) (old new : Subscription M T) (past : Past T) → IsClosing mc old new → new.state ≡ FailedState → Stands mc m published old past → Stands mc m published new (refused past)
+stands_refused mc m published old new past k f h =
     let s : standing_of new ≡ Refused = ap (λ t. standing t new.live) f ∙ ap (λ l. standing FailedState l) k.live in
-    stands_closed m published old new past (refused past) k (ap live_in s) (not_refused (standing_of new) s) s
+    stands_closed mc m published old new past (refused past) k (ap live_in s) (not_refused (standing_of new) s) s
     (record { expression = refl; joins = refl; items = items_in-append past.received _ ∙ append-nil (items_in past.received); orderly = IsOrderly-more past.received _ (h.waits k.was_open); asked = refl }) h
 
 -- a request of 0 or less is a bad one
@@ -163,25 +164,25 @@ refused_request past (pos (suc k)) o h = absurd (above k h)
     above k e = grind (arith, nat_tests)
 refused_request past (negsuc k) o h = ap (λ s. requested_in s (negsuc k) past) o
 
-pub stands_bad : {T : Type 0} (m : Meaning T) (published : List (Stream T)) (old new : Subscription T) (past : Past T) (n : ℤ) → IsClosing old new → new.state ≡ FailedState → int_lt (pos 0) n ≡ false → Stands m published old past → Stands m published new (requested n past)
-stands_bad m published old new past n k s z h =
-    let P : Past _ → Type 0 = λ p. Stands m published new p in
-    subst P (refused_request past n (sym k.was_open ∙ h.state) z) (stands_refused m published old new past k s h)
+pub stands_bad : {M T : Type 0} (mc : Machine M T) (m : Meaning T) (published : List (Stream T)) (old new : Subscription M T) (past : Past T) (n : ℤ) → IsClosing mc old new → new.state ≡ FailedState → int_lt (pos 0) n ≡ false → Stands mc m published old past → Stands mc m published new (requested n past)
+stands_bad mc m published old new past n k s z h =
+    let P : Past _ → Type 0 = λ p. Stands mc m published new p in
+    subst P (refused_request past n (sym k.was_open ∙ h.state) z) (stands_refused mc m published old new past k s h)
 
 -- all but what was asked stays
-pub record IsAsking {T : Type 0} (old new : Subscription T) (n : ℕ) : Type 0 where
+pub record IsAsking {M T : Type 0} (mc : Machine M T) (old new : Subscription M T) (n : ℕ) : Type 0 where
   pub queue : new.queue ≡ old.queue
   pub state : new.state ≡ old.state
   pub live : new.live ≡ old.live
   pub tree : new.part.tree ≡ old.part.tree
   pub edge : new.part.root.state ≡ old.part.root.state
-  pub put : (m : Meaning T) → IsPutOut m old.part [] new.part
+  pub put : (m : Meaning T) → IsPutOut mc m old.part [] new.part
   pub asked : new.part.root.demand.asked ≡ saturating_total old.part.root.demand.asked n
   pub requested : new.demand.asked ≡ saturating_total old.demand.asked n
   pub delivered : new.demand.sent ≡ old.demand.sent
 
-pub stands_asked : {T : Type 0} (m : Meaning T) (published : List (Stream T)) (old new : Subscription T) (past : Past T) (n : ℕ) → IsAsking old new n → Stands m published old past → Stands m published new (asked_more n past)
-stands_asked m published old new past n k h = record {
+pub stands_asked : {M T : Type 0} (mc : Machine M T) (m : Meaning T) (published : List (Stream T)) (old new : Subscription M T) (past : Past T) (n : ℕ) → IsAsking mc old new n → Stands mc m published old past → Stands mc m published new (asked_more n past)
+stands_asked mc m published old new past n k h = record {
   state = rw (k.state, k.live) h.state;
   live = rw (k.state, k.live) h.live;
   output = h.output ++ [];
@@ -202,28 +203,28 @@ stands_asked m published old new past n k h = record {
 }
 
 -- a request of more than 0 adds to the demand
-pub stands_requested : {T : Type 0} (m : Meaning T) (published : List (Stream T)) (old new : Subscription T) (past : Past T) (n : ℤ) (k : ℕ) → n ≡ pos k → 0 < k → standing_of old ≡ Open → IsAsking old new k → Stands m published old past → Stands m published new (requested n past)
-stands_requested m published old new past n zero e z o a h = absurd (omega arith)
-stands_requested m published old new past n (suc k) e z o a h =
-    let P : Past _ → Type 0 = λ p. Stands m published new p in
-    subst P (asked_request past n k e (sym o ∙ h.state)) (stands_asked m published old new past (suc k) a h)
+pub stands_requested : {M T : Type 0} (mc : Machine M T) (m : Meaning T) (published : List (Stream T)) (old new : Subscription M T) (past : Past T) (n : ℤ) (k : ℕ) → n ≡ pos k → 0 < k → standing_of old ≡ Open → IsAsking mc old new k → Stands mc m published old past → Stands mc m published new (requested n past)
+stands_requested mc m published old new past n zero e z o a h = absurd (omega arith)
+stands_requested mc m published old new past n (suc k) e z o a h =
+    let P : Past _ → Type 0 = λ p. Stands mc m published new p in
+    subst P (asked_request past n k e (sym o ∙ h.state)) (stands_asked mc m published old new past (suc k) a h)
   where
     asked_request : {T : Type 0} (past : Past T) (n : ℤ) (k : ℕ) → n ≡ pos (suc k) → Open ≡ past.state → asked_more (suc k) past ≡ requested n past
     asked_request past n k e o = rw e (ap (λ s. requested_in s (pos (suc k)) past) o)
 
-pub stands_added : {T : Type 0} (m : Meaning T) (published : List (Stream T)) (old new : Subscription T) (past : Past T) (n : ℤ) → Adds old.state n old.demand → IsAsking old new (unsigned_abs n) → Stands m published old past → Stands m published new (requested n past)
-stands_added m published old new past (pos k) a i h = stands_requested m published old new past (pos k) k refl (above k a.good) (open_standing old.state old.live a.was) i h
+pub stands_added : {M T : Type 0} (mc : Machine M T) (m : Meaning T) (published : List (Stream T)) (old new : Subscription M T) (past : Past T) (n : ℤ) → Adds old.state n old.demand → IsAsking mc old new (unsigned_abs n) → Stands mc m published old past → Stands mc m published new (requested n past)
+stands_added mc m published old new past (pos k) a i h = stands_requested mc m published old new past (pos k) k refl (above k a.good) (open_standing old.state old.live a.was) i h
   where
     above : (k : ℕ) → int_lt (pos 0) (pos k) ≡ true → 0 < k
     above zero e = cc
     above (suc k) e = omega arith
-stands_added m published old new past (negsuc k) a i h = let e = a.good in cc
+stands_added mc m published old new past (negsuc k) a i h = let e = a.good in cc
 
 -- one that isn't open is left as it is by a request
-pub stands_unrequested : {T : Type 0} (m : Meaning T) (published : List (Stream T)) (old new : Subscription T) (past : Past T) (n : ℤ) → (old.state ≡ OpenState → ⊥) → IsSame old new → Stands m published old past → Stands m published new (requested n past)
-stands_unrequested {T} m published old new past n o k h =
-    let P : Past T → Type 0 = λ p. Stands m published new p in
-    subst P (sym (same past.state past n (λ e. o (standing_open old.state old.live old.opened (h.state ∙ e))))) (stands_same m published old new past k h)
+pub stands_unrequested : {M T : Type 0} (mc : Machine M T) (m : Meaning T) (published : List (Stream T)) (old new : Subscription M T) (past : Past T) (n : ℤ) → (old.state ≡ OpenState → ⊥) → IsSame old new → Stands mc m published old past → Stands mc m published new (requested n past)
+stands_unrequested {M} {T} mc m published old new past n o k h =
+    let P : Past T → Type 0 = λ p. Stands mc m published new p in
+    subst P (sym (same past.state past n (λ e. o (standing_open old.state old.live old.opened (h.state ∙ e))))) (stands_same mc m published old new past k h)
   where
     same : {T : Type 0} (s : SubscriptionState) (past : Past T) (n : ℤ) → (s ≡ Open → ⊥) → requested_in s n past ≡ past
     same Open past n o = absurd (o refl)
@@ -232,18 +233,18 @@ stands_unrequested {T} m published old new past n o k h =
     same Refused past n o = refl
 
 -- the part made moves, of which some put signals out, into the queue
-pub record IsWorking {T : Type 0} (m : Meaning T) (old new : Subscription T) : Type 0 where
+pub record IsWorking {M T : Type 0} (mc : Machine M T) (m : Meaning T) (old new : Subscription M T) : Type 0 where
   pub kept : IsKeptBeside old new
   pub out : List (Signal T)
   pub queue : new.queue ≡ old.queue ++ out
-  pub put : IsPutOut m old.part out new.part
+  pub put : IsPutOut mc m old.part out new.part
   pub asked : new.part.root.demand.asked ≡ old.part.root.demand.asked
   pub unclosed : (old.part.root.state ≡ Closed → ⊥) → new.part.root.state ≡ Closed → ⊥
   pub alive : IsAllClosed old.part.tree → (old.part.root.state ≡ Live → ⊥) → ⊥
   pub count : length (all_edges new.part) ≡ length (all_edges old.part)
 
-pub stands_worked : {T : Type 0} (m : Meaning T) (published : List (Stream T)) (old new : Subscription T) (past : Past T) → IsWorking m old new → Stands m published old past → Stands m published new past
-stands_worked {T} m published old new past k h =
+pub stands_worked : {M T : Type 0} (mc : Machine M T) (m : Meaning T) (published : List (Stream T)) (old new : Subscription M T) (past : Past T) → IsWorking mc m old new → Stands mc m published old past → Stands mc m published new past
+stands_worked {M} {T} mc m published old new past k h =
     let same : standing_of new ≡ standing_of old = ap (λ s. standing s new.live) k.kept.state ∙ ap (λ l. standing old.state l) k.kept.live in
     let live : IsLive (standing_of old) = elim (live_or_not (standing_of old)) [ inl l ↦ l | inr dead ↦ let c = h.closed dead in absurd (k.alive c.0 c.1) ] in
     let live' : IsLive (standing_of new) = rw same live in
@@ -268,7 +269,7 @@ stands_worked {T} m published old new past k h =
     }
 
 -- the subscriber takes the front signal of the queue, which the table delivers
-pub record IsTaking {T : Type 0} (old new : Subscription T) (s : Signal T) : Type 0 where
+pub record IsTaking {M T : Type 0} (old new : Subscription M T) (s : Signal T) : Type 0 where
   pub take : IsTake old s new
   pub delivers : Delivers old.state s old.demand
 
@@ -276,10 +277,10 @@ popped : {T : Type 0} (o : Option (Signal T)) (s : Signal T) (old new : List (Si
 popped None s old new e h = cc
 popped (Some x) s old new e h = cc
 
-pub is_taking : {T : Type 0} (old new : Subscription T) (front s : Signal T) (o : Option (Signal T)) → front ≡ slice_index_or old.queue 0 front → o ≡ Some s → IfSome o (λ x. old.queue ≡ x ∷ new.queue) → is_delivery (answer (cell_of old.state (input_of front)) old.demand) ≡ true →
+pub is_taking : {M T : Type 0} (old new : Subscription M T) (front s : Signal T) (o : Option (Signal T)) → front ≡ slice_index_or old.queue 0 front → o ≡ Some s → IfSome o (λ x. old.queue ≡ x ∷ new.queue) → is_delivery (answer (cell_of old.state (input_of front)) old.demand) ≡ true →
     new.state ≡ next_state (cell_of old.state (input_of front)) old.state → new.live ≡ old.live → new.demand.asked ≡ asked_after (cell_of old.state (input_of front)) old.demand → new.demand.sent ≡ sent_after (cell_of old.state (input_of front)) old.demand →
     new.part ≡ old.part → IsTaking old new s
-is_taking {T} old new front s o f i w d st l a n p =
+is_taking {M} {T} old new front s o f i w d st l a n p =
     let q : old.queue ≡ s ∷ new.queue = popped o s old.queue new.queue i w in
     let named : front ≡ s = f ∙ ap (λ l. slice_index_or l 0 front) q in
     record {
@@ -309,8 +310,8 @@ ended_after state a (Next x) h e u = h e (IsUnended-front a (Next x ∷ []) u)
 ended_after state a Complete h e u = let x = IsUnended-last a Complete u in let k = x.1 in cc
 ended_after state a (Error c) h e u = let x = IsUnended-last a (Error c) u in let k = x.1 in cc
 
-pub stands_taken : {T : Type 0} (m : Meaning T) (published : List (Stream T)) (old new : Subscription T) (s : Signal T) (past : Past T) → IsTaking old new s → Stands m published old past → Stands m published new (given s past)
-stands_taken {T} m published old new s past k h =
+pub stands_taken : {M T : Type 0} (mc : Machine M T) (m : Meaning T) (published : List (Stream T)) (old new : Subscription M T) (s : Signal T) (past : Past T) → IsTaking old new s → Stands mc m published old past → Stands mc m published new (given s past)
+stands_taken {M} {T} mc m published old new s past k h =
     let live : IsLive (standing_of old) = elim (live_or_not (standing_of old)) [ inl l ↦ l | inr dead ↦ let e = (h.closed dead).2 in let q = k.take.queue in cc ] in
     let was_live : old.live ≡ true = h.live ∙ live_test (standing_of old) live in
     let after : standing_of new ≡ state_after (standing_of old) s =
@@ -354,28 +355,28 @@ leads_on {S} {D} step (suc n) k a b c ds es x y =
     let more : suc (n + k) ≡ suc n + k = omega arith in
     subst R more (x.0, x.1, x.2 ++ es, x.3, leads_on step n k x.0 b c x.2 es x.4 y, ap (λ l. l ++ es) x.5 ∙ append_assoc (option_to_list x.1) x.2 es)
 
-pub pumped_none : {T : Type 0} (m : Meaning T) (id : SubId) (sub : Subscription T) (o : List (SubId × Signal T)) → IsPumped m id 0 sub o sub o
-pumped_none m id sub o = record { signals = []; output = sym (append-nil o); moves = (refl, refl); stands = λ p q h. h; alike = (λ a. refl, λ counts h. h) }
+pub pumped_none : {M T : Type 0} (mc : Machine M T) (kd : Nodes M T) (m : Meaning T) (id : SubId) (sub : Subscription M T) (o : List (SubId × Signal T)) → IsPumped mc kd m id 0 sub o sub o
+pumped_none mc kd m id sub o = record { signals = []; output = sym (append-nil o); moves = (refl, refl); stands = λ p q h. h; alike = (λ a. refl, λ counts h. h) }
 
-pub pumped_same_sub : {T : Type 0} (m : Meaning T) (id : SubId) (old new : Subscription T) (o : List (SubId × Signal T)) → new ≡ old → IsPumped m id 0 old o new o
-pumped_same_sub {T} m id old new o e = let P : Subscription T → Type 0 = λ s. IsPumped m id 0 old o s o in subst P (sym e) (pumped_none m id old o)
+pub pumped_same_sub : {M T : Type 0} (mc : Machine M T) (kd : Nodes M T) (m : Meaning T) (id : SubId) (old new : Subscription M T) (o : List (SubId × Signal T)) → new ≡ old → IsPumped mc kd m id 0 old o new o
+pumped_same_sub {M} {T} mc kd m id old new o e = let P : Subscription M T → Type 0 = λ s. IsPumped mc kd m id 0 old o s o in subst P (sym e) (pumped_none mc kd m id old o)
 
 -- nothing changed
-pub pumped_still : {T : Type 0} (m : Meaning T) (id : SubId) (old new : Subscription T) (o o' : List (SubId × Signal T)) → new ≡ old → o' ≡ o → IsPumped m id 0 old o new o'
-pumped_still {T} m id old new o o' e f = let P : List (SubId × Signal T) → Type 0 = λ l. IsPumped m id 0 old o new l in subst P (sym f) (pumped_same_sub m id old new o e)
+pub pumped_still : {M T : Type 0} (mc : Machine M T) (kd : Nodes M T) (m : Meaning T) (id : SubId) (old new : Subscription M T) (o o' : List (SubId × Signal T)) → new ≡ old → o' ≡ o → IsPumped mc kd m id 0 old o new o'
+pumped_still {M} {T} mc kd m id old new o o' e f = let P : List (SubId × Signal T) → Type 0 = λ l. IsPumped mc kd m id 0 old o new l in subst P (sym f) (pumped_same_sub mc kd m id old new o e)
 
 -- the Take of the root is enabled where the queue's front signal is delivered
-pub delivery_enabled : {T : Type 0} (m : Meaning T) (id : SubId) (sub : Subscription T) (b : Bool) → take_enabled sub 0 ≡ b → move_enabled_in m sub (delivery id) ≡ b
-delivery_enabled m id sub true e = or_left (take_enabled sub 0) _ e
-delivery_enabled m id sub false e = ap (λ c. c || false) e
+pub delivery_enabled : {M T : Type 0} (mc : Machine M T) (kd : Nodes M T) (m : Meaning T) (id : SubId) (sub : Subscription M T) (b : Bool) → take_enabled sub 0 ≡ b → move_enabled_in mc kd m sub (delivery id) ≡ b
+delivery_enabled mc kd m id sub true e = or_left (take_enabled sub 0) _ e
+delivery_enabled mc kd m id sub false e = ap (λ c. c || false) e
 
-pub pumped_one : {T : Type 0} (m : Meaning T) (id : SubId) (old new : Subscription T) (o o' : List (SubId × Signal T)) (s : Signal T) → o' ≡ o ++ (id, s) ∷ [] → take_enabled old 0 ≡ true → IsTake old s new → ((published : List (Stream T)) (past : Past T) → Stands m published old past → Stands m published new (given s past)) → IsPumped m id 1 old o new o'
-pumped_one m id old new o o' s e can took k = record {
+pub pumped_one : {M T : Type 0} (mc : Machine M T) (kd : Nodes M T) (m : Meaning T) (id : SubId) (old new : Subscription M T) (o o' : List (SubId × Signal T)) (s : Signal T) → o' ≡ o ++ (id, s) ∷ [] → take_enabled old 0 ≡ true → IsTake old s new → ((published : List (Stream T)) (past : Past T) → Stands mc m published old past → Stands mc m published new (given s past)) → IsPumped mc kd m id 1 old o new o'
+pumped_one mc kd m id old new o o' s e can took k = record {
   signals = s ∷ [];
   output = e;
-  moves = (new, Some (id, s), [], record { move = delivery id; tree = refl; enabled = delivery_enabled m id old true can; effect = took; answer = (s, refl) }, (refl, refl), refl);
+  moves = (new, Some (id, s), [], record { move = delivery id; tree = refl; enabled = delivery_enabled mc kd m id old true can; effect = took; answer = (s, refl) }, (refl, refl), refl);
   stands = k;
-  alike = (λ a. ap (Part.pump_allocates a) took.part, λ counts h. subst (λ p. IsTreeReadAt any_machine counts p.tree) (sym took.part) h);
+  alike = (λ a. ap (Part.pump_allocates mc a) took.part, λ counts h. subst (λ p. IsTreeReadAt mc counts p.tree) (sym took.part) h);
 }
 
 pub given_all-append : {T : Type 0} (a b : List (Signal T)) (p : Past T) → given_all (a ++ b) p ≡ given_all b (given_all a p)
@@ -386,15 +387,15 @@ to_append : {T : Type 0} (id : SubId) (a b : List (Signal T)) → to id (a ++ b)
 to_append id [] b = refl
 to_append id (s ∷ a) b = ap (λ l. (id, s) ∷ l) (to_append id a b)
 
-pub pumped_more : {T : Type 0} (m : Meaning T) (id : SubId) (n k : ℕ) (s1 s2 s3 : Subscription T) (o1 o2 o3 : List (SubId × Signal T)) → IsPumped m id n s1 o1 s2 o2 → IsPumped m id k s2 o2 s3 o3 → IsPumped m id (n + k) s1 o1 s3 o3
-pumped_more {T} m id n k s1 s2 s3 o1 o2 o3 a b =
-    let L : List (SubId × Signal T) → Type 0 = λ l. Leads (IsMoved m id) (n + k) s1 l s3 in
+pub pumped_more : {M T : Type 0} (mc : Machine M T) (kd : Nodes M T) (m : Meaning T) (id : SubId) (n k : ℕ) (s1 s2 s3 : Subscription M T) (o1 o2 o3 : List (SubId × Signal T)) → IsPumped mc kd m id n s1 o1 s2 o2 → IsPumped mc kd m id k s2 o2 s3 o3 → IsPumped mc kd m id (n + k) s1 o1 s3 o3
+pumped_more {M} {T} mc kd m id n k s1 s2 s3 o1 o2 o3 a b =
+    let L : List (SubId × Signal T) → Type 0 = λ l. Leads (IsMoved mc kd m id) (n + k) s1 l s3 in
     record {
       signals = a.signals ++ b.signals;
       output = b.output ∙ (ap (λ o. o ++ to id b.signals) a.output ∙ (append_assoc o1 (to id a.signals) (to id b.signals) ∙ ap (λ l. o1 ++ l) (sym (to_append id a.signals b.signals))));
-      moves = subst L (sym (to_append id a.signals b.signals)) (leads_on (IsMoved m id) n k s1 s2 s3 (to id a.signals) (to id b.signals) a.moves b.moves);
+      moves = subst L (sym (to_append id a.signals b.signals)) (leads_on (IsMoved mc kd m id) n k s1 s2 s3 (to id a.signals) (to id b.signals) a.moves b.moves);
       stands = λ published past h.
-          let P : Past T → Type 0 = λ p. Stands m published s3 p in
+          let P : Past T → Type 0 = λ p. Stands mc m published s3 p in
           subst P (sym (given_all-append a.signals b.signals past)) (b.stands published (given_all a.signals past) (a.stands published past h));
       alike = (λ p. b.alike.0 p ∙ a.alike.0 p, λ counts h. b.alike.1 counts (a.alike.1 counts h));
     }
@@ -402,143 +403,143 @@ pumped_more {T} m id n k s1 s2 s3 o1 o2 o3 a b =
 -- ---- the moves of a part
 
 -- the effect of a move of a part
-worked_by : {T : Type 0} (m : Meaning T) (step : NodeMove) (old new : Subscription T) (out : List (Signal T)) → IsKeptBeside old new → new.queue ≡ old.queue ++ out → Part.IsEffect m step old.part out new.part → IsWorkedBy m (Some step) old new
-worked_by m (NodeAsk n) old new out r queued e = record { edges = e.1; queue = queued ∙ (ap (λ l. old.queue ++ l) e.0 ∙ append-nil old.queue); kept = r }
-worked_by m (NodeSend n) old new out r queued e = record { out = out; edges = e; queue = queued; kept = r }
-worked_by m (NodePick n input) old new out r queued e = record { part = e.1; queue = queued ∙ (ap (λ l. old.queue ++ l) e.0 ∙ append-nil old.queue); kept = r }
-worked_by m (NodeRow n) old new out r queued e = record { part = e.1; queue = queued ∙ (ap (λ l. old.queue ++ l) e.0 ∙ append-nil old.queue); kept = r }
+worked_by : {M T : Type 0} (mc : Machine M T) (m : Meaning T) (step : NodeMove) (old new : Subscription M T) (out : List (Signal T)) → IsKeptBeside old new → new.queue ≡ old.queue ++ out → Part.IsEffect mc m step old.part out new.part → IsWorkedBy mc m (Some step) old new
+worked_by mc m (NodeAsk n) old new out r queued e = record { edges = e.1; queue = queued ∙ (ap (λ l. old.queue ++ l) e.0 ∙ append-nil old.queue); kept = r }
+worked_by mc m (NodeSend n) old new out r queued e = record { out = out; edges = e; queue = queued; kept = r }
+worked_by mc m (NodePick n input) old new out r queued e = record { part = e.1; queue = queued ∙ (ap (λ l. old.queue ++ l) e.0 ∙ append-nil old.queue); kept = r }
+worked_by mc m (NodeRow n) old new out r queued e = record { part = e.1; queue = queued ∙ (ap (λ l. old.queue ++ l) e.0 ∙ append-nil old.queue); kept = r }
 
 -- beside the part and its queue it changes nothing
-pub worked_kept : {T : Type 0} (m : Meaning T) (o : Option NodeMove) (old new : Subscription T) → IsWorkedBy m o old new → IsKeptBeside old new
-worked_kept m None old new h = absurd h
-worked_kept m (Some (NodeAsk n)) old new h = h.kept
-worked_kept m (Some (NodeSend n)) old new h = h.kept
-worked_kept m (Some (NodePick n input)) old new h = h.kept
-worked_kept m (Some (NodeRow n)) old new h = h.kept
+pub worked_kept : {M T : Type 0} (mc : Machine M T) (m : Meaning T) (o : Option NodeMove) (old new : Subscription M T) → IsWorkedBy mc m o old new → IsKeptBeside old new
+worked_kept mc m None old new h = absurd h
+worked_kept mc m (Some (NodeAsk n)) old new h = h.kept
+worked_kept mc m (Some (NodeSend n)) old new h = h.kept
+worked_kept mc m (Some (NodePick n input)) old new h = h.kept
+worked_kept mc m (Some (NodeRow n)) old new h = h.kept
 
 -- a move of a part has the name that its edge gives it
-abbrev pub part_name : {T : Type 0} → SubId → AnyPart T → NodeMove → Move
-part_name id part step = name_of (route_below part (inside_node step)) (Sub id) step
+abbrev pub part_name : {M T : Type 0} → Nodes M T → SubId → AnyPart M → NodeMove → Move
+part_name kd id part step = name_of (route_below kd part (inside_node step)) (Sub id) step
 
 -- such a move is inside the tree, and answers nothing
-pub record IsNamed {T : Type 0} (m : Meaning T) (id : SubId) (sub : Subscription T) (step : NodeMove) (move : Move) : Type 0 where
+pub record IsNamed {M T : Type 0} (mc : Machine M T) (kd : Nodes M T) (m : Meaning T) (id : SubId) (sub : Subscription M T) (step : NodeMove) (move : Move) : Type 0 where
   pub tree : tree_of move ≡ Sub id
-  pub enabled : Part.move_enabled m sub.part sub.queue step ≡ true → move_enabled_in m sub move ≡ true
-  pub effect : (new : Subscription T) → IsWorkedBy m (Some step) sub new → IsEffect m move sub new None
+  pub enabled : Part.move_enabled mc m sub.part sub.queue step ≡ true → move_enabled_in mc kd m sub move ≡ true
+  pub effect : (new : Subscription M T) → IsWorkedBy mc m (Some step) sub new → IsEffect mc kd m move sub new None
   pub answer : IsMadeAnswer {T = T} move None
 
-named_by : {T : Type 0} (m : Meaning T) (id : SubId) (sub : Subscription T) (step : NodeMove) (n : ℕ) → n ≡ inside_node step → (r : Route) → route_below sub.part n ≡ r → IsNamed m id sub step (name_of r (Sub id) step)
-named_by m id sub (NodeAsk k) n at r is = record { tree = refl; enabled = λ can. can; effect = λ new h. h; answer = refl }
-named_by m id sub (NodePick k i) n at r is = record { tree = refl; enabled = λ can. can; effect = λ new h. h; answer = refl }
-named_by {T} m id sub (NodeSend k) n at Straight is =
-    let w = ap (λ r. node_move r (Send (Sub id) (record { 0 = k }))) (ap (λ i. route_below sub.part i) (sym at) ∙ is) in
-    record { tree = refl; enabled = λ can. ap (enabled_inside m sub) w ∙ can; effect = λ new h. subst (λ o. IsWorkedBy m o sub new) (sym w) h; answer = refl }
-named_by {T} m id sub (NodeSend k) n at (Queued b) is =
-    let w = ap (λ r. node_move r (Take (Sub id) (record { 0 = k }))) (ap (λ i. route_below sub.part i) (sym at) ∙ is) in
+named_by : {M T : Type 0} (mc : Machine M T) (kd : Nodes M T) (m : Meaning T) (id : SubId) (sub : Subscription M T) (step : NodeMove) (n : ℕ) → n ≡ inside_node step → (r : Route) → route_below kd sub.part n ≡ r → IsNamed mc kd m id sub step (name_of r (Sub id) step)
+named_by mc kd m id sub (NodeAsk k) n at r is = record { tree = refl; enabled = λ can. can; effect = λ new h. h; answer = refl }
+named_by mc kd m id sub (NodePick k i) n at r is = record { tree = refl; enabled = λ can. can; effect = λ new h. h; answer = refl }
+named_by {M} {T} mc kd m id sub (NodeSend k) n at Straight is =
+    let w = ap (λ r. node_move r (Send (Sub id) (record { 0 = k }))) (ap (λ i. route_below kd sub.part i) (sym at) ∙ is) in
+    record { tree = refl; enabled = λ can. ap (enabled_inside mc m sub) w ∙ can; effect = λ new h. subst (λ o. IsWorkedBy mc m o sub new) (sym w) h; answer = refl }
+named_by {M} {T} mc kd m id sub (NodeSend k) n at (Queued b) is =
+    let w = ap (λ r. node_move r (Take (Sub id) (record { 0 = k }))) (ap (λ i. route_below kd sub.part i) (sym at) ∙ is) in
     record {
       tree = refl;
-      enabled = λ can. or_right (take_enabled sub k) _ (ap (enabled_inside m sub) w ∙ can);
-      effect = λ new h. subst (λ o. IsWorkedBy m o sub new) (sym w) h;
-      answer = not_root k (nat_eq k 0) refl (ap (λ i. route_below sub.part i) (sym at) ∙ is);
+      enabled = λ can. or_right (take_enabled sub k) _ (ap (enabled_inside mc m sub) w ∙ can);
+      effect = λ new h. subst (λ o. IsWorkedBy mc m o sub new) (sym w) h;
+      answer = not_root k (nat_eq k 0) refl (ap (λ i. route_below kd sub.part i) (sym at) ∙ is);
     }
   where
-    not_root : (k : ℕ) (c : Bool) → nat_eq k 0 ≡ c → (if nat_eq k 0 then Straight else route sub.part k) ≡ Queued b → IsTakeAnswer {T = T} (nat_eq k 0) id None
+    not_root : (k : ℕ) (c : Bool) → nat_eq k 0 ≡ c → (if nat_eq k 0 then Straight else route kd sub.part k) ≡ Queued b → IsTakeAnswer {T = T} (nat_eq k 0) id None
     not_root k false e q = subst (λ c. IsTakeAnswer {T = T} c id None) (sym e) refl
-    not_root k true e q = let no = sym (ap (λ c. if c then Straight else route sub.part k) e) ∙ q in cc
-named_by {T} m id sub (NodeRow k) n at Straight is =
-    let w = ap (λ r. node_move r (Row (Sub id) (record { 0 = k }))) (ap (λ i. route_below sub.part i) (sym at) ∙ is) in
-    record { tree = refl; enabled = λ can. ap (enabled_inside m sub) w ∙ can; effect = λ new h. subst (λ o. IsWorkedBy m o sub new) (sym w) h; answer = refl }
-named_by {T} m id sub (NodeRow k) n at (Queued true) is =
-    let w = ap (λ r. node_move r (Send (Sub id) (record { 0 = k }))) (ap (λ i. route_below sub.part i) (sym at) ∙ is) in
-    record { tree = refl; enabled = λ can. ap (enabled_inside m sub) w ∙ can; effect = λ new h. subst (λ o. IsWorkedBy m o sub new) (sym w) h; answer = refl }
-named_by {T} m id sub (NodeRow k) n at (Queued false) is =
-    let w = ap (λ r. node_move r (Row (Sub id) (record { 0 = k }))) (ap (λ i. route_below sub.part i) (sym at) ∙ is) in
-    record { tree = refl; enabled = λ can. ap (enabled_inside m sub) w ∙ can; effect = λ new h. subst (λ o. IsWorkedBy m o sub new) (sym w) h; answer = refl }
+    not_root k true e q = let no = sym (ap (λ c. if c then Straight else route kd sub.part k) e) ∙ q in cc
+named_by {M} {T} mc kd m id sub (NodeRow k) n at Straight is =
+    let w = ap (λ r. node_move r (Row (Sub id) (record { 0 = k }))) (ap (λ i. route_below kd sub.part i) (sym at) ∙ is) in
+    record { tree = refl; enabled = λ can. ap (enabled_inside mc m sub) w ∙ can; effect = λ new h. subst (λ o. IsWorkedBy mc m o sub new) (sym w) h; answer = refl }
+named_by {M} {T} mc kd m id sub (NodeRow k) n at (Queued true) is =
+    let w = ap (λ r. node_move r (Send (Sub id) (record { 0 = k }))) (ap (λ i. route_below kd sub.part i) (sym at) ∙ is) in
+    record { tree = refl; enabled = λ can. ap (enabled_inside mc m sub) w ∙ can; effect = λ new h. subst (λ o. IsWorkedBy mc m o sub new) (sym w) h; answer = refl }
+named_by {M} {T} mc kd m id sub (NodeRow k) n at (Queued false) is =
+    let w = ap (λ r. node_move r (Row (Sub id) (record { 0 = k }))) (ap (λ i. route_below kd sub.part i) (sym at) ∙ is) in
+    record { tree = refl; enabled = λ can. ap (enabled_inside mc m sub) w ∙ can; effect = λ new h. subst (λ o. IsWorkedBy mc m o sub new) (sym w) h; answer = refl }
 
-pub part_named : {T : Type 0} (m : Meaning T) (id : SubId) (sub : Subscription T) (step : NodeMove) → IsNamed m id sub step (part_name id sub.part step)
-part_named m id sub step = named_by m id sub step (inside_node step) refl (route_below sub.part (inside_node step)) refl
+pub part_named : {M T : Type 0} (mc : Machine M T) (kd : Nodes M T) (m : Meaning T) (id : SubId) (sub : Subscription M T) (step : NodeMove) → IsNamed mc kd m id sub step (part_name kd id sub.part step)
+part_named mc kd m id sub step = named_by mc kd m id sub step (inside_node step) refl (route_below kd sub.part (inside_node step)) refl
 
 -- an enabled move of a part is one of the subscription
-moved_part : {T : Type 0} (m : Meaning T) (id : SubId) (old new : Subscription T) (out : List (Signal T)) → IsKeptBeside old new → Part.IsMoved m old.part old.queue out new.part new.queue → IsMoved m id old None new
-moved_part {T} m id old new out r k =
-    let named = part_named m id old k.move in
+moved_part : {M T : Type 0} (mc : Machine M T) (kd : Nodes M T) (m : Meaning T) (id : SubId) (old new : Subscription M T) (out : List (Signal T)) → IsKeptBeside old new → Part.IsMoved mc m old.part old.queue out new.part new.queue → IsMoved mc kd m id old None new
+moved_part {M} {T} mc kd m id old new out r k =
+    let named = part_named mc kd m id old k.move in
     record {
-      move = part_name id old.part k.move;
+      move = part_name kd id old.part k.move;
       tree = named.tree;
       enabled = named.enabled k.enabled;
-      effect = named.effect new (worked_by m k.move old new out r k.queued k.effect);
+      effect = named.effect new (worked_by mc m k.move old new out r k.queued k.effect);
       answer = named.answer;
     }
 
 -- the subscription with another part and queue
-abbrev pub with_part : {T : Type 0} → (sub : Subscription T) → (sub.state ≡ Fresh → ⊥) → AnyPart T → List (Signal T) → Subscription T
+abbrev pub with_part : {M T : Type 0} → (sub : Subscription M T) → (sub.state ≡ Fresh → ⊥) → AnyPart M → List (Signal T) → Subscription M T
 with_part sub o part queue = record { part = part; queue = queue; state = sub.state; demand = sub.demand; live = sub.live; opened = o }
 
 -- that a subscription was opened is a fact: how it is known makes no difference
-same_part : {T : Type 0} (sub : Subscription T) (o : sub.state ≡ Fresh → ⊥) → with_part sub o sub.part sub.queue ≡ sub
+same_part : {M T : Type 0} (sub : Subscription M T) (o : sub.state ≡ Fresh → ⊥) → with_part sub o sub.part sub.queue ≡ sub
 same_part sub o = ap (λ w. with_part sub w sub.part sub.queue) (Π_prop (λ x. ⊥_prop) o sub.opened)
 
-part_leads : {T : Type 0} (m : Meaning T) (id : SubId) (n : ℕ) (sub : Subscription T) (o : sub.state ≡ Fresh → ⊥) (part part' : AnyPart T) (queue queue' out : List (Signal T)) → Part.IsMovedBy m n part queue out part' queue' → Leads (IsMoved m id) n (with_part sub o part queue) [] (with_part sub o part' queue')
-part_leads m id zero sub o part part' queue queue' out k = (refl, ap (λ p. with_part sub o p queue') k.1 ∙ ap (λ q. with_part sub o part q) k.2)
-part_leads m id (suc n) sub o part part' queue queue' out k =
-    (with_part sub o k.0 k.2, None, [], moved_part m id (with_part sub o part queue) (with_part sub o k.0 k.2) k.1 (record { state = refl; live = refl; demand = refl }) k.4, part_leads m id n sub o k.0 part' k.2 queue' k.3 k.5, refl)
+part_leads : {M T : Type 0} (mc : Machine M T) (kd : Nodes M T) (m : Meaning T) (id : SubId) (n : ℕ) (sub : Subscription M T) (o : sub.state ≡ Fresh → ⊥) (part part' : AnyPart M) (queue queue' out : List (Signal T)) → Part.IsMovedBy mc m n part queue out part' queue' → Leads (IsMoved mc kd m id) n (with_part sub o part queue) [] (with_part sub o part' queue')
+part_leads mc kd m id zero sub o part part' queue queue' out k = (refl, ap (λ p. with_part sub o p queue') k.1 ∙ ap (λ q. with_part sub o part q) k.2)
+part_leads mc kd m id (suc n) sub o part part' queue queue' out k =
+    (with_part sub o k.0 k.2, None, [], moved_part mc kd m id (with_part sub o part queue) (with_part sub o k.0 k.2) k.1 (record { state = refl; live = refl; demand = refl }) k.4, part_leads mc kd m id n sub o k.0 part' k.2 queue' k.3 k.5, refl)
 
-pub pumped_part : {T : Type 0} (m : Meaning T) (id : SubId) (n : ℕ) (sub : Subscription T) (w : sub.state ≡ Fresh → ⊥) (part' : AnyPart T) (queue' : List (Signal T)) (o : List (SubId × Signal T)) → Part.IsPumped m n sub.part sub.queue part' queue' → IsPumped m id n sub o (with_part sub w part' queue') o
-pumped_part {T} m id n sub w part' queue' o k = record {
+pub pumped_part : {M T : Type 0} (mc : Machine M T) (kd : Nodes M T) (m : Meaning T) (id : SubId) (n : ℕ) (sub : Subscription M T) (w : sub.state ≡ Fresh → ⊥) (part' : AnyPart M) (queue' : List (Signal T)) (o : List (SubId × Signal T)) → Part.IsPumped mc m n sub.part sub.queue part' queue' → IsPumped mc kd m id n sub o (with_part sub w part' queue') o
+pumped_part {M} {T} mc kd m id n sub w part' queue' o k = record {
   signals = [];
   output = sym (append-nil o);
-  moves = subst L (same_part sub w) (part_leads m id n sub w sub.part part' sub.queue queue' k.out k.moves);
+  moves = subst L (same_part sub w) (part_leads mc kd m id n sub w sub.part part' sub.queue queue' k.out k.moves);
   stands = λ published past h. by_count n k published past h;
   alike = k.alike;
 }
   where
-    L : Subscription T → Type 0
-    L s = Leads (IsMoved m id) n s [] (with_part sub w part' queue')
+    L : Subscription M T → Type 0
+    L s = Leads (IsMoved mc kd m id) n s [] (with_part sub w part' queue')
 
-    by_count : (n : ℕ) → Part.IsPumped m n sub.part sub.queue part' queue' → (published : List (Stream T)) (past : Past T) → Stands m published sub past → Stands m published (with_part sub w part' queue') past
+    by_count : (n : ℕ) → Part.IsPumped mc m n sub.part sub.queue part' queue' → (published : List (Stream T)) (past : Past T) → Stands mc m published sub past → Stands mc m published (with_part sub w part' queue') past
     by_count zero k published past h =
-        stands_same m published sub (with_part sub w part' queue') past (record { part = k.moves.1; queue = k.moves.2; state = refl; live = refl; requested = refl; delivered = refl }) h
+        stands_same mc m published sub (with_part sub w part' queue') past (record { part = k.moves.1; queue = k.moves.2; state = refl; live = refl; requested = refl; delivered = refl }) h
     by_count (suc n) k published past h =
-        stands_worked m published sub (with_part sub w part' queue') past (record {
+        stands_worked mc m published sub (with_part sub w part' queue') past (record {
           kept = record { state = refl; live = refl; demand = refl };
           out = k.out;
           queue = k.queued;
           put = k.stands;
           asked = k.asked;
           unclosed = k.unclosed;
-          alive = moved_alive m sub.part k.moves.0 sub.queue k.moves.2 k.moves.1 k.moves.4;
-          count = moved_count m (suc n) sub.part part' sub.queue k.out queue' k.moves;
+          alive = moved_alive mc m sub.part k.moves.0 sub.queue k.moves.2 k.moves.1 k.moves.4;
+          count = moved_count mc m (suc n) sub.part part' sub.queue k.out queue' k.moves;
         }) h
 
 -- one move of the part
-pub worked_part : {T : Type 0} (m : Meaning T) (move : Move) (step : NodeMove) (old new : Subscription T) → Some step ≡ inner_move old move → IsKeptBeside old new → Part.IsMade m step old.part old.queue new.part new.queue → IsWorked m move old new
-worked_part m move step old new is r h = subst (λ o. IsWorkedBy m o old new) is (worked_by m step old new h.out r h.queued h.effect)
+pub worked_part : {M T : Type 0} (mc : Machine M T) (kd : Nodes M T) (m : Meaning T) (move : Move) (step : NodeMove) (old new : Subscription M T) → Some step ≡ inner_move kd old move → IsKeptBeside old new → Part.IsMade mc m step old.part old.queue new.part new.queue → IsWorked mc kd m move old new
+worked_part mc kd m move step old new is r h = subst (λ o. IsWorkedBy mc m o old new) is (worked_by mc m step old new h.out r h.queued h.effect)
 
-pub stands_made : {T : Type 0} (m : Meaning T) (step : NodeMove) (published : List (Stream T)) (old new : Subscription T) (past : Past T) → IsKeptBeside old new → Part.move_enabled m old.part old.queue step ≡ true → Part.IsMade m step old.part old.queue new.part new.queue → Stands m published old past → Stands m published new past
-stands_made m step published old new past r can k h =
-    stands_worked m published old new past (record {
+pub stands_made : {M T : Type 0} (mc : Machine M T) (m : Meaning T) (step : NodeMove) (published : List (Stream T)) (old new : Subscription M T) (past : Past T) → IsKeptBeside old new → Part.move_enabled mc m old.part old.queue step ≡ true → Part.IsMade mc m step old.part old.queue new.part new.queue → Stands mc m published old past → Stands mc m published new past
+stands_made mc m step published old new past r can k h =
+    stands_worked mc m published old new past (record {
       kept = r;
       out = k.out;
       queue = k.queued;
       put = k.stands;
       asked = k.asked;
       unclosed = k.unclosed;
-      alive = moved_alive m old.part new.part old.queue new.queue k.out (record { move = step; enabled = can; effect = k.effect; queued = k.queued });
-      count = effect_count m step old.part new.part k.out k.effect;
+      alive = moved_alive mc m old.part new.part old.queue new.queue k.out (record { move = step; enabled = can; effect = k.effect; queued = k.queued });
+      count = effect_count mc m step old.part new.part k.out k.effect;
     }) h
 
 -- ---- where no move is enabled
 
 -- a subscription whose part is quiet, with nothing to take, is quiet
-pub quiet_when : {T : Type 0} (m : Meaning T) (sub : Subscription T) → take_enabled sub 0 ≡ false → Part.IsQuiet m sub.part sub.queue → IsQuiet m sub
-quiet_when m sub e q = (q, e)
+pub quiet_when : {M T : Type 0} (mc : Machine M T) (m : Meaning T) (sub : Subscription M T) → take_enabled sub 0 ≡ false → Part.IsQuiet mc m sub.part sub.queue → IsQuiet mc m sub
+quiet_when mc m sub e q = (q, e)
 
-pub awake_part : {T : Type 0} (m : Meaning T) (sub : Subscription T) → Part.IsAwake m sub.part sub.queue → IsAwake m sub
-awake_part m sub h = inl h
+pub awake_part : {M T : Type 0} (mc : Machine M T) (m : Meaning T) (sub : Subscription M T) → Part.IsAwake mc m sub.part sub.queue → IsAwake mc m sub
+awake_part mc m sub h = inl h
 
 -- what is queued can be taken just where something is queued
-pub take_queued : {T : Type 0} (m : Meaning T) (published : List (Stream T)) (sub : Subscription T) (past : Past T) → Stands m published sub past → 0 < length sub.queue → take_enabled sub 0 ≡ true
-take_queued {T} m published sub past h some = by_queue sub.queue refl
+pub take_queued : {M T : Type 0} (mc : Machine M T) (m : Meaning T) (published : List (Stream T)) (sub : Subscription M T) (past : Past T) → Stands mc m published sub past → 0 < length sub.queue → take_enabled sub 0 ≡ true
+take_queued {M} {T} mc m published sub past h some = by_queue sub.queue refl
   where
     within : (t : Signal T) (q : List (Signal T)) → sub.queue ≡ t ∷ q → IsLive (standing_of sub) → (x : T) → t ≡ Next x → sub.demand.sent < sub.demand.asked
     within t q e live x i =
@@ -561,14 +562,14 @@ take_queued {T} m published sub past h some = by_queue sub.queue refl
 
 -- ---- how driving ends
 
-pub rest_ended : {T : Type 0} (E : Type 0) (m : Meaning T) (budget n left : ℕ) (sub : Subscription T) (p : Rest) → n + left ≡ budget → IsRest m sub left p → HasRested {E = E} m budget n sub (Ok p)
-rest_ended E m budget n left sub (Rests k) e r = (ap (λ i. n + i) r.0 ∙ e, r.1)
-rest_ended E m budget n left sub Wakes e r = let z = r.0 in (omega (arith, e, z), r.1)
+pub rest_ended : {M T : Type 0} (mc : Machine M T) (E : Type 0) (m : Meaning T) (budget n left : ℕ) (sub : Subscription M T) (p : Rest) → n + left ≡ budget → IsRest mc m sub left p → HasRested {E = E} mc m budget n sub (Ok p)
+rest_ended mc E m budget n left sub (Rests k) e r = (ap (λ i. n + i) r.0 ∙ e, r.1)
+rest_ended mc E m budget n left sub Wakes e r = let z = r.0 in (omega (arith, e, z), r.1)
 
 -- where a move is enabled nothing of the budget is left
-pub none_left : {T : Type 0} (m : Meaning T) (sub : Subscription T) (left : ℕ) → (0 < left → IsQuiet m sub) → IsAwake m sub → left ≡ 0
-none_left m sub zero q a = refl
-none_left m sub (suc left) q a =
+pub none_left : {M T : Type 0} (mc : Machine M T) (m : Meaning T) (sub : Subscription M T) (left : ℕ) → (0 < left → IsQuiet mc m sub) → IsAwake mc m sub → left ≡ 0
+none_left mc m sub zero q a = refl
+none_left mc m sub (suc left) q a =
     let h = q (omega arith) in
     absurd (elim a [
       | inl x ↦ both_ways _ (h.0 x.0 x.1) x.2
@@ -576,26 +577,26 @@ none_left m sub (suc left) q a =
     ])
 
 -- a part that is quiet stays so where no signal was taken
-pub rest_quiet : {T : Type 0} (m : Meaning T) (old new : Subscription T) → new ≡ old → take_enabled new 0 ≡ false → Part.IsQuiet m old.part old.queue → IsQuiet m new
-rest_quiet {T} m old new same e q =
-    let P : Subscription T → Type 0 = λ s. Part.IsQuiet m s.part s.queue in
-    quiet_when m new e (subst P (sym same) q)
+pub rest_quiet : {M T : Type 0} (mc : Machine M T) (m : Meaning T) (old new : Subscription M T) → new ≡ old → take_enabled new 0 ≡ false → Part.IsQuiet mc m old.part old.queue → IsQuiet mc m new
+rest_quiet {M} {T} mc m old new same e q =
+    let P : Subscription M T → Type 0 = λ s. Part.IsQuiet mc m s.part s.queue in
+    quiet_when mc m new e (subst P (sym same) q)
 
 -- ---- moves inside a tree
 
 -- a move inside a tree is enabled where it is one of the part
-pub inside_enabled : {T : Type 0} (m : Meaning T) (sub : Subscription T) (mv : Move) → IsInside mv → enabled_inside m sub (inner_move sub mv) ≡ move_enabled_in m sub mv
-inside_enabled m sub (Ask t n) h = refl
-inside_enabled m sub (Send t n) h = refl
-inside_enabled m sub (Take t n) h = ap (λ c. (c && delivers sub.state sub.demand sub.queue) || enabled_inside m sub (inner_move sub (Take t n))) (sym (not_zero n.0 h))
-inside_enabled m sub (Pick t n i) h = refl
-inside_enabled m sub (Row t n) h = refl
-inside_enabled m sub (Accept i) h = absurd h
+pub inside_enabled : {M T : Type 0} (mc : Machine M T) (kd : Nodes M T) (m : Meaning T) (sub : Subscription M T) (mv : Move) → IsInside mv → enabled_inside mc m sub (inner_move kd sub mv) ≡ move_enabled_in mc kd m sub mv
+inside_enabled mc kd m sub (Ask t n) h = refl
+inside_enabled mc kd m sub (Send t n) h = refl
+inside_enabled mc kd m sub (Take t n) h = ap (λ c. (c && delivers sub.state sub.demand sub.queue) || enabled_inside mc m sub (inner_move kd sub (Take t n))) (sym (not_zero n.0 h))
+inside_enabled mc kd m sub (Pick t n i) h = refl
+inside_enabled mc kd m sub (Row t n) h = refl
+inside_enabled mc kd m sub (Accept i) h = absurd h
 
-pub inside_effect : {T : Type 0} (m : Meaning T) (mv : Move) (old new : Subscription T) → IsInside mv → IsWorked m mv old new → IsEffect m mv old new None
-inside_effect m (Ask t n) old new i h = h
-inside_effect m (Send t n) old new i h = h
-inside_effect m (Take t n) old new i h = h
-inside_effect m (Pick t n k) old new i h = h
-inside_effect m (Row t n) old new i h = h
-inside_effect m (Accept k) old new i h = absurd i
+pub inside_effect : {M T : Type 0} (mc : Machine M T) (kd : Nodes M T) (m : Meaning T) (mv : Move) (old new : Subscription M T) → IsInside mv → IsWorked mc kd m mv old new → IsEffect mc kd m mv old new None
+inside_effect mc kd m (Ask t n) old new i h = h
+inside_effect mc kd m (Send t n) old new i h = h
+inside_effect mc kd m (Take t n) old new i h = h
+inside_effect mc kd m (Pick t n k) old new i h = h
+inside_effect mc kd m (Row t n) old new i h = h
+inside_effect mc kd m (Accept k) old new i h = absurd i

@@ -3,8 +3,8 @@ use Rattle.std.specs.Prelude.{⊤}
 use Rattle.std.proofs.Common.{◌≡◌, true, false, refl, subst, Option, Some, None}
 use Rattle.rsx_sources.specs.Prelude.{Move, Ask, Send, Take, Pick, Row, Accept, Tree}
 use Rattle.rsx_pipe.specs.Part as Part
-use Rattle.rsx_pipe.specs.declared.crossing.Route.{Route}
-use Rattle.rsx_pipe.specs.declared.crossing.Route.TheVariants.{Straight, Queued}
+use Rattle.rsx_rooted.specs.declared.nodes.Route.{Route}
+use Rattle.rsx_rooted.specs.declared.nodes.Route.TheVariants.{Straight, Queued}
 use Rattle.rsx_tree.specs.declared.look.NodeMove.{NodeMove}
 use Rattle.rsx_tree.specs.declared.look.NodeMove.TheVariants.{Ask as NodeAsk, Send as NodeSend, Pick as NodePick, Row as NodeRow}
 use Rattle.rsx_subscriber.specs.Moves.{IsNumbered, inside_node, name_of, node_move, node_of, tree_of}

@@ -1,4 +1,5 @@
 -- What a subscription stands for, where more is published.
+use Rattle.rsx_sources.specs.declared.machine.Machine.{Ghosts as Machine}
 use Rattle.std.proofs.Common.{◌≡◌, ℕ, zero, suc, List, [], ◌∷◌, length, None, refl, ap, sym, ◌∙◌, subst}
 use Rattle.rsx_types.proofs.Lists.{same_tail}
 use Rattle.rsx_sources.specs.Prelude.{Stream, Signal}
@@ -18,9 +19,9 @@ signal_length zero s (v ∷ vs) = refl
 signal_length (suc h) s (v ∷ vs) = ap suc (signal_length h s vs)
 
 -- all edges of a tree are those of the other
-pub handed_sub : {T : Type 0} (h : ℕ) (s : Signal T) (old : Subscription T) (part : AnyPart T) (opened : old.state ≡ Fresh → ⊥) → Part.IsHanded h s old.part part →
-    IsHanded h s old (record { part = part; queue = old.queue; state = old.state; demand = old.demand; live = old.live; opened = opened })
-handed_sub {T} h s old part opened k = record {
+pub handed_sub : {M T : Type 0} (mc : Machine M T) (h : ℕ) (s : Signal T) (old : Subscription M T) (part : AnyPart M) (opened : old.state ≡ Fresh → ⊥) → Part.IsHanded mc h s old.part part →
+    IsHanded mc h s old (record { part = part; queue = old.queue; state = old.state; demand = old.demand; live = old.live; opened = opened })
+handed_sub {M} {T} mc h s old part opened k = record {
   part = k;
   queue = refl;
   kept = record { state = refl; live = refl; demand = refl };

@@ -1,4 +1,7 @@
 -- The value of an expression under what its part recorded: it is there, and notes and joins fit it.
+use Rattle.rsx_sources.specs.declared.machine.Machine.{Ghosts as Machine}
+use Rattle.rsx_subscriber.proofs.Laws.{Laws}
+use Rattle.rsx_tree.specs.declared.node.Node.{Node}
 use Rattle.std.proofs.Common.{◌≡◌, ℕ, zero, suc, ◌+◌, ◌-◌, ◌<◌, ◌≤◌, Bool, true, false, nat_eq, nat_le, nat_lt, if◌then◌else◌, ◌&&◌, List, [], ◌∷◌, ◌++◌, length, length-append, map, Some, None, option_map, refl, ap, sym, ◌∙◌, arith}
 use Rattle.std.proofs.lemmas.List.{length-map}
 use Rattle.std.proofs.lemmas.Bool.{lt-ltb}
@@ -20,11 +23,10 @@ use Rattle.rsx_pipe.specs.Output.{values_then}
 use Rattle.rsx_pipe.specs.Published.{AreTaken}
 use Rattle.rsx_pipe.specs.Part as Part
 use Rattle.rsx_pipe.specs.Part.{all_edges, PartStands}
-use Rattle.rsx_pipe.specs.Tree.{AnyTree, comes_out, edges, edges_after, notes_of}
+use Rattle.rsx_pipe.specs.Tree.{comes_out, edges, edges_after, notes_of}
+use Rattle.rsx_tree.specs.Tree.{IsUnchosen}
 use Rattle.rsx_tree.specs.Inputs.{size, is_own, beside_of, comes_in, sent_edges, edges as edges_in, notes_of as notes_in, IsUnchosen as IsUnchosenIn}
 use Rattle.rsx_tree.specs.declared.inputs.Inputs.{Inputs, End, More'}
-use Rattle.rsx_kinds.specs.Any.{TreeNode, any_machine}
-use Rattle.rsx_kinds.specs.TreeLaws.{tree_settles}
 use Rattle.rsx_pipe.specs.Part.{Part as AnyPart}
 use Rattle.rsx_sources.specs.Prelude.{incoming_of, Meaning, unchosen, Stream, signals, signals_then, Ask, Send, Note, Signal, Next, Complete, Error}
 use Rattle.rsx_sources.specs.declared.machine.Front.{Front}
@@ -36,31 +38,31 @@ use Rattle.rsx_subscriber.specs.Past.{IsUnended, IsOrderly}
 -- ---- the value is there
 
 -- what comes in at each input of a row where nothing more is chosen is there
-row_there : {T : Type 0} (m : Meaning T) (hubs : List (Stream T)) (further : List Note) (t : Inputs (TreeNode T)) (at : ℕ) → IsUnchosenIn any_machine further t at → (vs : List (Stream T)) × (comes_in any_machine m hubs further t at ≡ Some vs)
-row_there m hubs further End at u = ([], refl)
-row_there {T} m hubs further (More' e n p below q beside) at u =
-    let vs = row_there m hubs further below (at + 1) u.1 in
-    let ws = row_there m hubs further beside (at + 1 + size below) u.2 in
-    let v = tree_settles m n (incoming_of hubs vs.0) in
+row_there : {M T : Type 0} (mc : Machine M T) (lw : Laws mc) (m : Meaning T) (hubs : List (Stream T)) (further : List Note) (t : Inputs M) (at : ℕ) → IsUnchosenIn mc further t at → (vs : List (Stream T)) × (comes_in mc m hubs further t at ≡ Some vs)
+row_there mc lw m hubs further End at u = ([], refl)
+row_there {M} {T} mc lw m hubs further (More' e n p below q beside) at u =
+    let vs = row_there mc lw m hubs further below (at + 1) u.1 in
+    let ws = row_there mc lw m hubs further beside (at + 1 + size below) u.2 in
+    let v = (lw m).0 n (incoming_of hubs vs.0) in
     (v.0 ∷ ws.0, rw (u.0, vs.1, ws.1) (ap (λ o. beside_of o (Some ws.0)) v.1))
 
 -- and so is what comes out of a tree
-comes_out_there : {T : Type 0} (m : Meaning T) (hubs : List (Stream T)) (further : List Note) (t : AnyTree T) (at : ℕ) → IsUnchosen any_machine further t at → (v : Stream T) × (comes_out m hubs further t at ≡ Some v)
-comes_out_there m hubs further t at u =
-    let vs = row_there m hubs further t.inputs (at + 1) u.1 in
-    let v = tree_settles m t.machine (incoming_of hubs vs.0) in
+comes_out_there : {M T : Type 0} (mc : Machine M T) (lw : Laws mc) (m : Meaning T) (hubs : List (Stream T)) (further : List Note) (t : Node M) (at : ℕ) → IsUnchosen mc further t at → (v : Stream T) × (comes_out mc m hubs further t at ≡ Some v)
+comes_out_there mc lw m hubs further t at u =
+    let vs = row_there mc lw m hubs further t.inputs (at + 1) u.1 in
+    let v = (lw m).0 t.machine (incoming_of hubs vs.0) in
     (v.0, rw (u.0, vs.1) v.1)
 
 -- so what a part stands for has a value under what was recorded: what went out, and then what is left
-pub record HasValue {T : Type 0} (m : Meaning T) (published : List (Stream T)) (part : AnyPart T) (e : Expr T) (joins : List ℕ) (output : List (Signal T)) : Type 0 where
+pub record HasValue {M T : Type 0} (mc : Machine M T) (m : Meaning T) (published : List (Stream T)) (part : AnyPart M) (e : Expr T) (joins : List ℕ) (output : List (Signal T)) : Type 0 where
   pub left : Stream T
-  pub comes : comes_out m published (map unchosen (notes_of part.tree)) part.tree 0 ≡ Some left
-  pub value : Part.evaluated m published joins e (notes_of part.tree) ≡ Some (signals_then output left)
+  pub comes : comes_out mc m published (map unchosen (notes_of mc part.tree)) part.tree 0 ≡ Some left
+  pub value : Part.evaluated m published joins e (notes_of mc part.tree) ≡ Some (signals_then output left)
 
-pub value_there : {T : Type 0} (m : Meaning T) (published more : List (Stream T)) (part : AnyPart T) (e : Expr T) (joins : List ℕ) (output : List (Signal T)) → PartStands m published part e joins output → HasValue m (values_then published more) part e joins output
-value_there {T} m published more part e joins output h =
-    let ns : List Note = notes_of part.tree in
-    let there = comes_out_there m (values_then published more) (map unchosen ns) part.tree 0 (unchosen_tree part.tree) in
+pub value_there : {M T : Type 0} (mc : Machine M T) (lw : Laws mc) (m : Meaning T) (published more : List (Stream T)) (part : AnyPart M) (e : Expr T) (joins : List ℕ) (output : List (Signal T)) → PartStands mc m published part e joins output → HasValue mc m (values_then published more) part e joins output
+value_there {M} {T} mc lw m published more part e joins output h =
+    let ns : List Note = notes_of mc part.tree in
+    let there = comes_out_there mc lw m (values_then published more) (map unchosen ns) part.tree 0 (unchosen_tree mc part.tree) in
     record {
       left = there.0;
       comes = there.1;
@@ -134,15 +136,15 @@ closed_if_length true es = length-map es closed_view
 closed_if_length false es = refl
 
 -- a tree recorded a note for each of its edges and one for its root
-row_notes : {T : Type 0} (t : Inputs (TreeNode T)) → length (notes_in any_machine t) ≡ length (edges_in t)
-row_notes End = refl
-row_notes (More' e n p below q beside) =
-    let ns = notes_in any_machine below in
+row_notes : {M T : Type 0} (mc : Machine M T) (t : Inputs M) → length (notes_in mc t) ≡ length (edges_in t)
+row_notes mc End = refl
+row_notes mc (More' e n p below q beside) =
+    let ns = notes_in mc below in
     let es = edges_in below in
-    ap suc (length-append ns (notes_in any_machine beside) ∙ (ap (λ k. k + length (notes_in any_machine beside)) (row_notes below) ∙ (ap (λ k. length es + k) (row_notes beside) ∙ sym (length-append es (edges_in beside)))))
+    ap suc (length-append ns (notes_in mc beside) ∙ (ap (λ k. k + length (notes_in mc beside)) (row_notes mc below) ∙ (ap (λ k. length es + k) (row_notes mc beside) ∙ sym (length-append es (edges_in beside)))))
 
-pub notes_count : {T : Type 0} (t : AnyTree T) → length (notes_of t) ≡ suc (length (edges t))
-notes_count t = ap suc (row_notes t.inputs)
+pub notes_count : {M T : Type 0} (mc : Machine M T) (t : Node M) → length (notes_of mc t) ≡ suc (length (edges t))
+notes_count mc t = ap suc (row_notes mc t.inputs)
 
 changed_length : (f : EdgeView → EdgeView) (at : ℕ) (es : List EdgeView) → length (changed_at f at es) ≡ length es
 changed_length f at [] = refl
@@ -180,8 +182,8 @@ row_sent {M} ended f (More' e n p below q beside) at = by_first (row_sent ended 
     by_first i j true = refl
     by_first i j false = by_place i j (nat_le at (size below))
 
-sent_length : {T : Type 0} (ended : Bool) (f : Front) (part : AnyPart T) (at : ℕ) → length (Part.sent_at ended f part at) ≡ length (all_edges part)
-sent_length {T} ended f part at = by_root (nat_eq at 0)
+sent_length : {M : Type 0} (ended : Bool) (f : Front) (part : AnyPart M) (at : ℕ) → length (Part.sent_at ended f part at) ≡ length (all_edges part)
+sent_length {M} ended f part at = by_root (nat_eq at 0)
   where
     after : List EdgeView
     after = edges_after ended f part.tree (at - 1)
@@ -212,19 +214,19 @@ row_stepped {M} ended (More' e n p below q beside) at = by_place (row_stepped en
     by_place i j false true = ap suc (length-append inner fs ∙ (ap (λ k. k + length fs) i ∙ sym (length-append es fs)))
     by_place i j false false = ap suc (length-append es past ∙ (ap (λ k. length es + k) j ∙ sym (length-append es fs)))
 
-tree_stepped : {T : Type 0} (ended : Bool) (t : AnyTree T) (at : ℕ) → length (Chosen.edges_after ended t at) ≡ length (edges t)
+tree_stepped : {M : Type 0} (ended : Bool) (t : Node M) (at : ℕ) → length (Chosen.edges_after ended t at) ≡ length (edges t)
 tree_stepped ended t zero = closed_if_length ended (edges t)
 tree_stepped ended t (suc at) = row_stepped ended t.inputs at
 
-pub closed_count : {T : Type 0} (old new : AnyPart T) → all_edges new ≡ map closed_view (all_edges old) → length (all_edges new) ≡ length (all_edges old)
+pub closed_count : {M : Type 0} (old new : AnyPart M) → all_edges new ≡ map closed_view (all_edges old) → length (all_edges new) ≡ length (all_edges old)
 closed_count old new e = ap length e ∙ length-map (all_edges old) closed_view
 
-pub effect_count : {T : Type 0} (m : Meaning T) (move : NodeMove) (old new : AnyPart T) (out : List (Signal T)) → Part.IsEffect m move old out new → length (all_edges new) ≡ length (all_edges old)
-effect_count m (Ask n) old new out k = ap length k.1 ∙ changed_length (asked_up_to (Part.wanted old n)) n (all_edges old)
-effect_count m (Send n) old new out k = ap length k.edges ∙ sent_length (Part.receiver_ended new n) k.front old n
-effect_count m (Pick n input) old new out k = ap suc (ap length k.1.tree.edges ∙ tree_stepped _ old.tree n)
-effect_count m (Row n) old new out k = ap suc (ap length k.1.tree.edges ∙ tree_stepped _ old.tree n)
+pub effect_count : {M T : Type 0} (mc : Machine M T) (m : Meaning T) (move : NodeMove) (old new : AnyPart M) (out : List (Signal T)) → Part.IsEffect mc m move old out new → length (all_edges new) ≡ length (all_edges old)
+effect_count mc m (Ask n) old new out k = ap length k.1 ∙ changed_length (asked_up_to (Part.wanted mc old n)) n (all_edges old)
+effect_count mc m (Send n) old new out k = ap length k.edges ∙ sent_length (Part.receiver_ended mc new n) k.front old n
+effect_count mc m (Pick n input) old new out k = ap suc (ap length k.1.tree.edges ∙ tree_stepped _ old.tree n)
+effect_count mc m (Row n) old new out k = ap suc (ap length k.1.tree.edges ∙ tree_stepped _ old.tree n)
 
-pub moved_count : {T : Type 0} (m : Meaning T) (n : ℕ) (old new : AnyPart T) (queue out queue' : List (Signal T)) → Part.IsMovedBy m n old queue out new queue' → length (all_edges new) ≡ length (all_edges old)
-moved_count m zero old new queue out queue' k = ap (λ p. length (all_edges p)) k.1
-moved_count m (suc n) old new queue out queue' k = moved_count m n k.0 new k.2 k.3 queue' k.5 ∙ effect_count m k.4.move old k.0 k.1 k.4.effect
+pub moved_count : {M T : Type 0} (mc : Machine M T) (m : Meaning T) (n : ℕ) (old new : AnyPart M) (queue out queue' : List (Signal T)) → Part.IsMovedBy mc m n old queue out new queue' → length (all_edges new) ≡ length (all_edges old)
+moved_count mc m zero old new queue out queue' k = ap (λ p. length (all_edges p)) k.1
+moved_count mc m (suc n) old new queue out queue' k = moved_count mc m n k.0 new k.2 k.3 queue' k.5 ∙ effect_count mc m k.4.move old k.0 k.1 k.4.effect

@@ -1,4 +1,5 @@
 -- A subscription that has just begun.
+use Rattle.rsx_rooted.specs.declared.nodes.Nodes.{Ghosts as Nodes}
 use Rattle.std.specs.Prelude.{◌≡◌, true, false, [], ◌∷◌}
 use Rattle.rsx_model.specs.declared.expr.Expr.{Expr}
 use Rattle.rsx_subscription.specs.declared.State.TheVariants.{Open}
@@ -8,10 +9,10 @@ use Rattle.rsx_pipe.specs.Crossings.{IsPlaced}
 use Rattle.rsx_pipe.specs.Part.{all_edges}
 
 -- nothing was asked and nothing sent or delivered, and what a node that has put out its ending closes is closed
-pub record IsFresh {T : Type 0} (e : Expr T) (sub : Subscription T) : Type 0 where
+pub record IsFresh {M T : Type 0} (kd : Nodes M T) (e : Expr T) (sub : Subscription M T) : Type 0 where
   pub edges : all_edges sub.part ≡ fresh_edge ∷ fresh_edges e
   -- the edges below the root have a queue just where they join two regions
-  pub placed : IsPlaced e false sub.part.tree
+  pub placed : IsPlaced kd.crosses e false sub.part.tree
   pub queue : sub.queue ≡ []
   pub state : sub.state ≡ Open
   pub live : sub.live ≡ true

@@ -1,4 +1,5 @@
 -- What a request and a cancel change.
+use Rattle.rsx_sources.specs.declared.machine.Machine.{Ghosts as Machine}
 use Rattle.std.specs.Prelude.{◌≡◌, ℕ, ℤ, pos, negsuc, zero, suc, false, [], map}
 use Rattle.rsx_demand.specs.Demand.{saturating_total}
 use Rattle.rsx_tree.specs.Edges.{EdgeView, edge_view, closed_view}
@@ -15,7 +16,7 @@ abbrev pub raised : ℕ → EdgeView → EdgeView
 raised n e = record { asked = saturating_total e.asked n; sent = e.sent; state = e.state }
 
 -- so many items more were asked for, over the root edge and in the subscriber's own demand, and nothing else changed
-pub record IsRaised {T : Type 0} (old : Subscription T) (n : ℕ) (new : Subscription T) : Type 0 where
+pub record IsRaised {M T : Type 0} (old : Subscription M T) (n : ℕ) (new : Subscription M T) : Type 0 where
   pub root : edge_view new.part.root ≡ raised n (edge_view old.part.root)
   pub tree : new.part.tree ≡ old.part.tree
   pub queue : new.queue ≡ old.queue
@@ -26,9 +27,9 @@ pub record IsRaised {T : Type 0} (old : Subscription T) (n : ℕ) (new : Subscri
 
 -- the subscriber is gone, and stands so in the table: each edge on which signals still went is closed, and nothing is queued;
 -- what was asked and sent over each edge stays, and so do the subscriber's demand and what the nodes recorded
-pub record IsShut {T : Type 0} (old : Subscription T) (stands : State) (new : Subscription T) : Type 0 where
+pub record IsShut {M T : Type 0} (mc : Machine M T) (old : Subscription M T) (stands : State) (new : Subscription M T) : Type 0 where
   pub edges : all_edges new.part ≡ map closed_view (all_edges old.part)
-  pub notes : notes_of new.part.tree ≡ notes_of old.part.tree
+  pub notes : notes_of mc new.part.tree ≡ notes_of mc old.part.tree
   pub queue : new.queue ≡ []
   pub state : new.state ≡ stands
   pub live : new.live ≡ false
@@ -36,17 +37,17 @@ pub record IsShut {T : Type 0} (old : Subscription T) (stands : State) (new : Su
   pub delivered : new.demand.sent ≡ old.demand.sent
 
 -- what a request of n changes in a subscription that stands so: nothing, unless it is open
-abbrev pub IsRequested : {T : Type 0} → SubscriptionState → ℤ → Subscription T → Subscription T → Type 0
-IsRequested Open (pos zero) old new = IsShut old FailedState new
-IsRequested Open (pos (suc n)) old new = IsRaised old (suc n) new
-IsRequested Open (negsuc n) old new = IsShut old FailedState new
-IsRequested Ended n old new = new ≡ old
-IsRequested Cancelled n old new = new ≡ old
-IsRequested Refused n old new = new ≡ old
+abbrev pub IsRequested : {M T : Type 0} → Machine M T → SubscriptionState → ℤ → Subscription M T → Subscription M T → Type 0
+IsRequested mc Open (pos zero) old new = IsShut mc old FailedState new
+IsRequested mc Open (pos (suc n)) old new = IsRaised old (suc n) new
+IsRequested mc Open (negsuc n) old new = IsShut mc old FailedState new
+IsRequested mc Ended n old new = new ≡ old
+IsRequested mc Cancelled n old new = new ≡ old
+IsRequested mc Refused n old new = new ≡ old
 
 -- what a cancel changes in a subscription that stands so: nothing, unless it is open
-abbrev pub IsCancelled : {T : Type 0} → SubscriptionState → Subscription T → Subscription T → Type 0
-IsCancelled Open old new = IsShut old CancelledState new
-IsCancelled Ended old new = new ≡ old
-IsCancelled Cancelled old new = new ≡ old
-IsCancelled Refused old new = new ≡ old
+abbrev pub IsCancelled : {M T : Type 0} → Machine M T → SubscriptionState → Subscription M T → Subscription M T → Type 0
+IsCancelled mc Open old new = IsShut mc old CancelledState new
+IsCancelled mc Ended old new = new ≡ old
+IsCancelled mc Cancelled old new = new ≡ old
+IsCancelled mc Refused old new = new ≡ old

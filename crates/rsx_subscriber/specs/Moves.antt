@@ -1,8 +1,8 @@
 -- The tree and the node that a move of a graph names, and which move inside the tree that is.
 use Rattle.std.specs.Prelude.{◌<◌, ◌^◌, ℕ, true, false, Option, Some, None}
 use Rattle.rsx_sources.specs.Prelude.{Move, Ask, Send, Take, Pick, Row, Accept, SubId, Tree, Sub, Feed}
-use Rattle.rsx_pipe.specs.declared.crossing.Route.{Route}
-use Rattle.rsx_pipe.specs.declared.crossing.Route.TheVariants.{Straight, Queued}
+use Rattle.rsx_rooted.specs.declared.nodes.Route.{Route}
+use Rattle.rsx_rooted.specs.declared.nodes.Route.TheVariants.{Straight, Queued}
 use Rattle.rsx_tree.specs.declared.look.NodeMove.{NodeMove}
 use Rattle.rsx_tree.specs.declared.look.NodeMove.TheVariants.{Ask as NodeAsk, Send as NodeSend, Pick as NodePick, Row as NodeRow}
 

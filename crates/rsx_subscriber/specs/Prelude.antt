@@ -13,7 +13,6 @@ pub use Rattle.rsx_model.specs.declared.expr.Expr.TheFolds.{fold_out-Expr, map-E
 pub use Rattle.rsx_model.specs.declared.expr.Expr.TheOpen.{Expr-F}
 pub use Rattle.rsx_model.specs.declared.expr.Expr.TheVariants.{Hub}
 pub use Rattle.rsx_model.specs.declared.expr.Expr.TheViews.{out-Expr}
-pub use Rattle.rsx_pipe.specs.Any.{any_machine}
 pub use Rattle.rsx_pipe.specs.Built.{fresh_edge, joins_now, leaf_joins, new_joins}
 pub use Rattle.rsx_pipe.specs.Crossing.{route, route_below}
 pub use Rattle.rsx_pipe.specs.Crossings.{IsPlaced, differ}
@@ -22,7 +21,9 @@ pub use Rattle.rsx_pipe.specs.Output.{IsOpenAt, IsUnended, counts_in, more_after
 pub use Rattle.rsx_pipe.specs.Part.{HasReadAll, IsPartResidual, IsPutOut, Part, PartStands, all_edges, evaluated}
 pub use Rattle.rsx_pipe.specs.Published.{AreTaken, IsTaken, has_room_for, readers}
 pub use Rattle.rsx_pipe.specs.Tree.{IsWithin, can_go, comes_out, notes_of}
-pub use Rattle.rsx_pipe.specs.declared.crossing.Route.TheVariants.{Straight}
+pub use Rattle.rsx_rooted.specs.declared.nodes.Nodes.{Ghosts as Nodes}
+pub use Rattle.rsx_rooted.specs.declared.nodes.Route.TheVariants.{Straight}
+pub use Rattle.rsx_sources.specs.declared.machine.Machine.{Ghosts as Machine}
 pub use Rattle.rsx_subscriber.specs.Begun.{IsFresh}
 pub use Rattle.rsx_subscriber.specs.Delivered.{Delivered}
 pub use Rattle.rsx_subscriber.specs.Edited.{IsCancelled, IsRequested, IsShut}

@@ -1,4 +1,5 @@
 -- A subscription to whose nodes a signal of a hub is handed.
+use Rattle.rsx_sources.specs.declared.machine.Machine.{Ghosts as Machine}
 use Rattle.std.specs.Prelude.{◌≡◌, ℕ, List}
 use Rattle.rsx_sources.specs.Prelude.{Meaning, Stream, Signal}
 use Rattle.rsx_pipe.specs.Output.{IsOpenAt, with_signal_at}
@@ -8,9 +9,9 @@ use Rattle.rsx_subscriber.specs.Past.{Past}
 use Rattle.rsx_subscriber.specs.Stands.{Stands, IsKeptBeside}
 
 -- each node of its part that reads the hub took the signal in, and nothing else changed
-pub record IsHanded {T : Type 0} (h : ℕ) (s : Signal T) (old new : Subscription T) : Type 0 where
-  pub part : Part.IsHanded h s old.part new.part
+pub record IsHanded {M T : Type 0} (mc : Machine M T) (h : ℕ) (s : Signal T) (old new : Subscription M T) : Type 0 where
+  pub part : Part.IsHanded mc h s old.part new.part
   pub queue : new.queue ≡ old.queue
   pub kept : IsKeptBeside old new
   -- the subscription stands for the same past, where the hub published that signal besides
-  pub stands : (m : Meaning T) (published : List (Stream T)) (past : Past T) → IsOpenAt h published → Stands m published old past → Stands m (with_signal_at h s published) new past
+  pub stands : (m : Meaning T) (published : List (Stream T)) (past : Past T) → IsOpenAt h published → Stands mc m published old past → Stands mc m (with_signal_at h s published) new past

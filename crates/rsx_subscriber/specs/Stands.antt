@@ -1,7 +1,8 @@
 -- What a subscription stands for, its enabled moves, and what a move changes.
+use Rattle.rsx_sources.specs.declared.machine.Machine.{Ghosts as Machine}
+use Rattle.rsx_rooted.specs.declared.nodes.Nodes.{Ghosts as Nodes}
 use Rattle.std.specs.Prelude.{◌≡◌, ℕ, ◌<◌, Bool, true, false, ◌&&◌, ◌||◌, nat_eq, List, [], ◌∷◌, ◌++◌, length, map, Option, Some, None, option_map}
 use Rattle.rsx_sources.specs.Prelude.{Meaning, Allocates, unchosen, Stream, signals_then, ended_by, Note, SubId, Sub, Feed, Move, Ask, Send, Take, Pick, Row, Accept, Open as NotEnded, Signal}
-use Rattle.rsx_kinds.specs.Any.{any_machine}
 use Rattle.rsx_tree.specs.Residual.{IsTreeBehind}
 pub use Rattle.rsx_pipe.specs.Output.{values_then}
 use Rattle.rsx_model.specs.Check.{refusal}
@@ -26,25 +27,25 @@ abbrev pub evaluated : {T : Type 0} → Meaning T → List (Stream T) → Past T
 evaluated m hubs past notes = Part.evaluated m hubs past.joins past.expression notes
 
 -- what comes out of a subscription, its queue and then its tree, where each node still chooses `further`
-abbrev pub owed_from : {T : Type 0} → Meaning T → List (Stream T) → List Note → Subscription T → Option (Stream T)
-owed_from m hubs further sub = option_map (signals_then sub.queue) (comes_out m hubs further sub.part.tree 0)
+abbrev pub owed_from : {M T : Type 0} → Machine M T → Meaning T → List (Stream T) → List Note → Subscription M T → Option (Stream T)
+owed_from mc m hubs further sub = option_map (signals_then sub.queue) (comes_out mc m hubs further sub.part.tree 0)
 
 -- the same, where nothing more is chosen
-abbrev pub owed_unchosen : {T : Type 0} → Meaning T → List (Stream T) → Subscription T → Option (Stream T)
-owed_unchosen m hubs sub = owed_from m hubs (map unchosen (notes_of sub.part.tree)) sub
+abbrev pub owed_unchosen : {M T : Type 0} → Machine M T → Meaning T → List (Stream T) → Subscription M T → Option (Stream T)
+owed_unchosen mc m hubs sub = owed_from mc m hubs (map unchosen (notes_of mc sub.part.tree)) sub
 
 -- how a subscription stands
-abbrev pub standing_of : {T : Type 0} → Subscription T → SubscriptionState
+abbrev pub standing_of : {M T : Type 0} → Subscription M T → SubscriptionState
 standing_of sub = standing sub.state sub.live
 
 -- a subscription stands for its past, where `published` is what the hubs took in and handed to their readers, and its part has
 -- put out `output`
-pub record Stands {T : Type 0} (m : Meaning T) (published : List (Stream T)) (sub : Subscription T) (past : Past T) : Type 0 where
+pub record Stands {M T : Type 0} (mc : Machine M T) (m : Meaning T) (published : List (Stream T)) (sub : Subscription M T) (past : Past T) : Type 0 where
   pub state : standing_of sub ≡ past.state
   pub live : sub.live ≡ live_in (standing_of sub)
   -- what the part has put out, followed by what still comes out of it, is the expression evaluated from scratch
   pub output : List (Signal T)
-  pub part : PartStands m published sub.part past.expression past.joins output
+  pub part : PartStands mc m published sub.part past.expression past.joins output
   -- live: what was received, and then what is queued, is all that was put out
   pub held : IsLive (standing_of sub) → past.received ++ sub.queue ≡ output
   -- not live: the items received begin those put out
@@ -67,93 +68,97 @@ pub record Stands {T : Type 0} (m : Meaning T) (published : List (Stream T)) (su
   pub closed : (IsLive (standing_of sub) → ⊥) → IsAllClosed sub.part.tree × (sub.part.root.state ≡ Live → ⊥) × (sub.queue ≡ [])
 
 -- of each past for which a subscription stood before, it stands now for that past with this change
-abbrev pub StandsAfter : {T : Type 0} → Meaning T → (Past T → Past T) → Subscription T → Subscription T → Type 0
-StandsAfter {T} m change old new =
-    (published : List (Stream T)) (past : Past T) → Stands m published old past → Stands m published new (change past)
+abbrev pub StandsAfter : {M T : Type 0} → Machine M T → Meaning T → (Past T → Past T) → Subscription M T → Subscription M T → Type 0
+StandsAfter {M} {T} mc m change old new =
+    (published : List (Stream T)) (past : Past T) → Stands mc m published old past → Stands mc m published new (change past)
 
 -- this is still owed to an open subscription, where `whole` are the hubs' whole values, of which just these inboxes stand behind
 -- what its nodes took in, and nothing more is chosen
-abbrev pub IsStillOwed : {T : Type 0} → Meaning T → List (Stream T) → Subscription T → Stream T → Type 0
-IsStillOwed {T} m inboxes sub v =
-    (published whole : List (Stream T)) (past : Past T) → Stands m published sub past → standing_of sub ≡ Open → (sub.part.root.state ≡ Live → IsTreeBehind any_machine inboxes whole sub.part.tree) →
-    owed_unchosen m whole sub ≡ Some v
+abbrev pub IsStillOwed : {M T : Type 0} → Machine M T → Meaning T → List (Stream T) → Subscription M T → Stream T → Type 0
+IsStillOwed {M} {T} mc m inboxes sub v =
+    (published whole : List (Stream T)) (past : Past T) → Stands mc m published sub past → standing_of sub ≡ Open → (sub.part.root.state ≡ Live → IsTreeBehind mc inboxes whole sub.part.tree) →
+    owed_unchosen mc m whole sub ≡ Some v
 
 -- ---- enabled moves
 
 -- Ask: the root edge rises by requests alone
-abbrev pub ask_enabled : {T : Type 0} → Subscription T → ℕ → Bool
-ask_enabled sub at = Part.ask_enabled sub.part at
+abbrev pub ask_enabled : {M T : Type 0} → Machine M T → Subscription M T → ℕ → Bool
+ask_enabled mc sub at = Part.ask_enabled mc sub.part at
+
+-- Send: over the root edge into its queue, or over an edge of the tree
+abbrev pub send_enabled : {M T : Type 0} → Machine M T → Meaning T → Subscription M T → ℕ → Bool
+send_enabled mc m sub at = Part.send_enabled mc m sub.part sub.queue at
 
 -- Take: from the queue of the root edge, where the table delivers its front signal
-abbrev pub take_enabled : {T : Type 0} → Subscription T → ℕ → Bool
+abbrev pub take_enabled : {M T : Type 0} → Subscription M T → ℕ → Bool
 take_enabled sub at = nat_eq at 0 && delivers sub.state sub.demand sub.queue
 
 -- a move of the part is enabled
-abbrev pub enabled_inside : {T : Type 0} → Meaning T → Subscription T → Option NodeMove → Bool
-enabled_inside m sub None = false
-enabled_inside m sub (Some e) = Part.move_enabled m sub.part sub.queue e
+abbrev pub enabled_inside : {M T : Type 0} → Machine M T → Meaning T → Subscription M T → Option NodeMove → Bool
+enabled_inside mc m sub None = false
+enabled_inside mc m sub (Some e) = Part.move_enabled mc m sub.part sub.queue e
 
 -- the move of the part that a move names; the queue of the root edge is the subscription's own
-abbrev pub inner_move : {T : Type 0} → Subscription T → Move → Option NodeMove
-inner_move sub mv = node_move (route_below sub.part (node_of mv)) mv
+abbrev pub inner_move : {M T : Type 0} → Nodes M T → Subscription M T → Move → Option NodeMove
+inner_move kd sub mv = node_move (route_below kd sub.part (node_of mv)) mv
 
-abbrev pub move_enabled_in : {T : Type 0} → Meaning T → Subscription T → Move → Bool
-move_enabled_in m sub (Ask t n) = ask_enabled sub n.0
-move_enabled_in m sub (Send t n) = enabled_inside m sub (inner_move sub (Send t n))
-move_enabled_in m sub (Take t n) = take_enabled sub n.0 || enabled_inside m sub (inner_move sub (Take t n))
-move_enabled_in m sub (Pick t n i) = Part.pick_enabled sub.part n.0 i
-move_enabled_in m sub (Row t n) = enabled_inside m sub (inner_move sub (Row t n))
-move_enabled_in m sub (Accept h) = false
+abbrev pub move_enabled_in : {M T : Type 0} → Machine M T → Nodes M T → Meaning T → Subscription M T → Move → Bool
+move_enabled_in mc kd m sub (Ask t n) = ask_enabled mc sub n.0
+move_enabled_in mc kd m sub (Send t n) = enabled_inside mc m sub (inner_move kd sub (Send t n))
+move_enabled_in mc kd m sub (Take t n) = take_enabled sub n.0 || enabled_inside mc m sub (inner_move kd sub (Take t n))
+move_enabled_in mc kd m sub (Pick t n i) = Part.pick_enabled mc sub.part n.0 i
+move_enabled_in mc kd m sub (Row t n) = enabled_inside mc m sub (inner_move kd sub (Row t n))
+move_enabled_in mc kd m sub (Accept h) = false
 
 -- whether it may allocate, where these of the caller's functions may
-abbrev pub allocates_inside : {T : Type 0} → Allocates → Subscription T → Option NodeMove → Bool
-allocates_inside a sub None = false
-allocates_inside a sub (Some e) = Part.make_allocates a sub.part e
+abbrev pub allocates_inside : {M T : Type 0} → Machine M T → Allocates → Subscription M T → Option NodeMove → Bool
+allocates_inside mc a sub None = false
+allocates_inside mc a sub (Some e) = Part.make_allocates mc a sub.part e
 
-abbrev pub make_allocates : {T : Type 0} → Allocates → Subscription T → Move → Bool
-make_allocates a sub mv = allocates_inside a sub (inner_move sub mv)
+abbrev pub make_allocates : {M T : Type 0} → Machine M T → Nodes M T → Allocates → Subscription M T → Move → Bool
+make_allocates mc kd a sub mv = allocates_inside mc a sub (inner_move kd sub mv)
 
 -- ---- what the looks answer
 
 -- this is what a subscriber is owed: while it is open, its expression's value is what it received followed by this; else
 -- nothing
-abbrev pub owes_in : {T : Type 0} → Meaning T → List (Stream T) → Subscription T → Past T → Stream T → SubscriptionState → Type 0
-owes_in m published sub past v Open = evaluated m published past (notes_of sub.part.tree) ≡ Some (signals_then past.received v)
-owes_in m published sub past v Ended = v ≡ ended_by NotEnded
-owes_in m published sub past v Cancelled = v ≡ ended_by NotEnded
-owes_in m published sub past v Refused = v ≡ ended_by NotEnded
+abbrev pub owes_in : {M T : Type 0} → Machine M T → Meaning T → List (Stream T) → Subscription M T → Past T → Stream T → SubscriptionState → Type 0
+owes_in mc m published sub past v Open = evaluated m published past (notes_of mc sub.part.tree) ≡ Some (signals_then past.received v)
+owes_in mc m published sub past v Ended = v ≡ ended_by NotEnded
+owes_in mc m published sub past v Cancelled = v ≡ ended_by NotEnded
+owes_in mc m published sub past v Refused = v ≡ ended_by NotEnded
 
 -- ---- what a move changes
 
 -- all but the part and its queue stays: where the subscription stands, and the subscriber's demand
-pub record IsKeptBeside {T : Type 0} (old new : Subscription T) : Type 0 where
+pub record IsKeptBeside {M T : Type 0} (old new : Subscription M T) : Type 0 where
   pub state : new.state ≡ old.state
   pub live : new.live ≡ old.live
   pub demand : new.demand ≡ old.demand
 
 -- an Ask: what was asked of this edge is what its receiver wants, and nothing else changed
-pub record IsAsk {T : Type 0} (old : Subscription T) (at : ℕ) (new : Subscription T) : Type 0 where
-  pub edges : Part.IsAsk old.part at new.part
+pub record IsAsk {M T : Type 0} (mc : Machine M T) (old : Subscription M T) (at : ℕ) (new : Subscription M T) : Type 0 where
+  pub edges : Part.IsAsk mc old.part at new.part
   pub queue : new.queue ≡ old.queue
   pub kept : IsKeptBeside old new
 
 -- a Send: the offered signal went over this edge, from the root into the queue; where the receiver ended by it, all from
 -- there on is closed
-pub record IsSend {T : Type 0} (m : Meaning T) (old : Subscription T) (at : ℕ) (new : Subscription T) : Type 0 where
+pub record IsSend {M T : Type 0} (mc : Machine M T) (m : Meaning T) (old : Subscription M T) (at : ℕ) (new : Subscription M T) : Type 0 where
   pub out : List (Signal T)
-  pub edges : Part.IsSend m old.part at out new.part
+  pub edges : Part.IsSend mc m old.part at out new.part
   pub queue : new.queue ≡ old.queue ++ out
   pub kept : IsKeptBeside old new
 
 -- a Pick: the choice stands behind what the node recorded; where the node ended by it, all below it is closed
-pub record IsPicked {T : Type 0} (old : Subscription T) (at input : ℕ) (new : Subscription T) : Type 0 where
-  pub part : Part.IsPick old.part at input new.part
+pub record IsPicked {M T : Type 0} (mc : Machine M T) (old : Subscription M T) (at input : ℕ) (new : Subscription M T) : Type 0 where
+  pub part : Part.IsPick mc old.part at input new.part
   pub queue : new.queue ≡ old.queue
   pub kept : IsKeptBeside old new
 
 -- a Row: where the node ended by it, all below it is closed
-pub record IsRowMade {T : Type 0} (old : Subscription T) (at : ℕ) (new : Subscription T) : Type 0 where
-  pub part : Part.IsRow old.part at new.part
+pub record IsRowMade {M T : Type 0} (mc : Machine M T) (old : Subscription M T) (at : ℕ) (new : Subscription M T) : Type 0 where
+  pub part : Part.IsRow mc old.part at new.part
   pub queue : new.queue ≡ old.queue
   pub kept : IsKeptBeside old new
 
@@ -167,20 +172,20 @@ IsInside (Row t n) = Unit {0}
 IsInside (Accept h) = ⊥
 
 -- the effect of a move of the part
-abbrev pub IsWorkedBy : {T : Type 0} → Meaning T → Option NodeMove → Subscription T → Subscription T → Type 0
-IsWorkedBy m None old new = ⊥
-IsWorkedBy m (Some (NodeAsk n)) old new = IsAsk old n new
-IsWorkedBy m (Some (NodeSend n)) old new = IsSend m old n new
-IsWorkedBy m (Some (NodePick n i)) old new = IsPicked old n i new
-IsWorkedBy m (Some (NodeRow n)) old new = IsRowMade old n new
+abbrev pub IsWorkedBy : {M T : Type 0} → Machine M T → Meaning T → Option NodeMove → Subscription M T → Subscription M T → Type 0
+IsWorkedBy mc m None old new = ⊥
+IsWorkedBy mc m (Some (NodeAsk n)) old new = IsAsk mc old n new
+IsWorkedBy mc m (Some (NodeSend n)) old new = IsSend mc m old n new
+IsWorkedBy mc m (Some (NodePick n i)) old new = IsPicked mc old n i new
+IsWorkedBy mc m (Some (NodeRow n)) old new = IsRowMade mc old n new
 
 -- the effect of a move inside a tree
-abbrev pub IsWorked : {T : Type 0} → Meaning T → Move → Subscription T → Subscription T → Type 0
-IsWorked m mv old new = IsWorkedBy m (inner_move old mv) old new
+abbrev pub IsWorked : {M T : Type 0} → Machine M T → Nodes M T → Meaning T → Move → Subscription M T → Subscription M T → Type 0
+IsWorked mc kd m mv old new = IsWorkedBy mc m (inner_move kd old mv) old new
 
 -- a Take: the front signal left the queue, no edge changed, and the subscription stands as the table says; an item is
 -- counted as delivered
-pub record IsTake {T : Type 0} (old : Subscription T) (s : Signal T) (new : Subscription T) : Type 0 where
+pub record IsTake {M T : Type 0} (old : Subscription M T) (s : Signal T) (new : Subscription M T) : Type 0 where
   pub part : new.part ≡ old.part
   pub queue : old.queue ≡ s ∷ new.queue
   pub state : new.state ≡ state_after (cell_of old.state (input_of s)) old.state
@@ -189,14 +194,14 @@ pub record IsTake {T : Type 0} (old : Subscription T) (s : Signal T) (new : Subs
   pub delivered : new.demand.sent ≡ sent_after (cell_of old.state (input_of s)) old.demand
 
 -- a move's effect on the subscription in which it was made: a Take delivers a signal, or is one inside the tree
-abbrev pub IsEffect : {T : Type 0} → Meaning T → Move → Subscription T → Subscription T → Option (SubId × Signal T) → Type 0
-IsEffect m (Ask t n) old new o = IsWorked m (Ask t n) old new
-IsEffect m (Send t n) old new o = IsWorked m (Send t n) old new
-IsEffect m (Take t n) old new None = IsWorked m (Take t n) old new
-IsEffect m (Take t n) old new (Some d) = IsTake old d.1 new
-IsEffect m (Pick t n i) old new o = IsWorked m (Pick t n i) old new
-IsEffect m (Row t n) old new o = IsWorked m (Row t n) old new
-IsEffect m (Accept h) old new o = ⊥
+abbrev pub IsEffect : {M T : Type 0} → Machine M T → Nodes M T → Meaning T → Move → Subscription M T → Subscription M T → Option (SubId × Signal T) → Type 0
+IsEffect mc kd m (Ask t n) old new o = IsWorked mc kd m (Ask t n) old new
+IsEffect mc kd m (Send t n) old new o = IsWorked mc kd m (Send t n) old new
+IsEffect mc kd m (Take t n) old new None = IsWorked mc kd m (Take t n) old new
+IsEffect mc kd m (Take t n) old new (Some d) = IsTake old d.1 new
+IsEffect mc kd m (Pick t n i) old new o = IsWorked mc kd m (Pick t n i) old new
+IsEffect mc kd m (Row t n) old new o = IsWorked mc kd m (Row t n) old new
+IsEffect mc kd m (Accept h) old new o = ⊥
 
 -- what a Take answers: that of a root hands its signal on
 abbrev pub IsTakeAnswer : {T : Type 0} → Bool → SubId → Option (SubId × Signal T) → Type 0

@@ -1,9 +1,10 @@
 //! Handing the signals of a hub to the nodes of a subscription's part.
 
 use crate::subscription::Subscription;
+use rsx_pipe::Nodes;
 use rsx_types::Signal;
 
-impl<T: Drop> Subscription<T> {
+impl<N: Nodes<Item = T>, T: Drop> Subscription<N, T> {
     ghost use Rattle.std.specs.Prelude.{◌≡◌, min};
     ghost use Rattle.rsx_tree.specs.Handed.{IsHandedOut};
     ghost use Rattle.rsx_pipe.specs.Published.{readers, has_room_for};
@@ -12,14 +13,14 @@ impl<T: Drop> Subscription<T> {
     /// How many nodes of the subscription's part read the hub with this number, but at most `most`. With a root edge that isn't
     /// live none does.
     pub fn readers_up_to(&self, hub: u64, most: u32) -> u32
-        ensures { result ≡ min (readers hub self.now.part) most }
+        ensures { result ≡ min (readers N.Machine hub self.now.part) most }
     {
         self.part.readers_up_to(hub, most)
     }
 
     /// Whether all nodes of its part that read the hub have room for an item of it. An ending needs no room.
     pub fn has_room_for(&self, hub: u64) -> bool
-        ensures { result ≡ has_room_for hub self.now.part }
+        ensures { result ≡ has_room_for N.Machine hub self.now.part }
     {
         self.part.has_room_for(hub)
     }
@@ -27,8 +28,8 @@ impl<T: Drop> Subscription<T> {
     /// Hands a signal that the hub took in to each node of its part that reads the hub, out of a list that has it once for each;
     /// what else stands in the list stays. For an item there is room at all of them ([`Subscription::has_room_for`]).
     pub fn hand(&mut self, hub: u64, signals: &mut Vec<Signal<T>>)
-        ensures { IsHandedOut (readers hub self.old.part) (has_room_for hub self.old.part) signals.old.items signals.new.items
-            (λ s. IsHanded hub s self.old self.new) }
+        ensures { IsHandedOut (readers N.Machine hub self.old.part) (has_room_for N.Machine hub self.old.part) signals.old.items signals.new.items
+            (λ s. IsHanded N.Machine hub s self.old self.new) }
     {
         self.part.hand(hub, signals);
     }

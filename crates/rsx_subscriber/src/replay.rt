@@ -12,6 +12,7 @@ ghost use Rattle.rsx_subscriber.specs.declared.subscription.Subscription.{Subscr
 ghost use Rattle.rsx_types.specs.Meaning.{Meaning};
 ghost use Rattle.rsx_types.specs.Stream.{Stream, signals_then};
 
+use rsx_pipe::Nodes;
 use rsx_types::Ops;
 
 /// Equal records give equal values: of two open subscribers of the same expression, in one graph or in two, whose leaves joined the
@@ -20,10 +21,10 @@ use rsx_types::Ops;
 /// `Graph::owed` answers (`owes_in`).
 ///
 /// The function does nothing; its contract is the sentence.
-pub fn equal_records_give_equal_values<O: Ops>()
-    ensures { (m : Meaning O.Item) (hubs : List (Stream O.Item)) (a b : Subscription O.Item) (p q : Past O.Item) (v w : Stream O.Item) →
+pub fn equal_records_give_equal_values<N: Nodes<Item = O::Item>, O: Ops>()
+    ensures { (m : Meaning O.Item) (hubs : List (Stream O.Item)) (a b : Subscription N O.Item) (p q : Past O.Item) (v w : Stream O.Item) →
         p.expression ≡ q.expression →
         p.joins ≡ q.joins →
-        notes_of a.part.tree ≡ notes_of b.part.tree →
-        owes_in m hubs a p v Open → owes_in m hubs b q w Open → signals_then p.received v ≡ signals_then q.received w }
+        notes_of N.Machine a.part.tree ≡ notes_of N.Machine b.part.tree →
+        owes_in N.Machine m hubs a p v Open → owes_in N.Machine m hubs b q w Open → signals_then p.received v ≡ signals_then q.received w }
 {}

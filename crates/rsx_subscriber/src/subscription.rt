@@ -12,7 +12,7 @@ use crate::state::SubscriptionState;
 use rsx_demand::Demand;
 use rsx_hub::Hub;
 use rsx_model::Expr;
-use rsx_pipe::{EdgeState, Part, Pumped, SignalQueue};
+use rsx_pipe::{EdgeState, Nodes, Part, Pumped, SignalQueue};
 use rsx_sources::NotMade;
 use rsx_subscription::{Effect, Input, State, step};
 use rsx_types::{Cause, Ending, Move, NoMemory, Note, Ops, Signal, StreamValue, SubId};
@@ -22,10 +22,10 @@ use std::alloc::Global;
 ///
 /// Its state and its demand move by the table of `rsx_subscription` alone.
 #[derive(Drop)]
-pub struct Subscription<T> {
+pub struct Subscription<N, T> {
     /// The tree of its expression with its edges. Of the root edge asked is what the subscriber requested, and sent what was
     /// put into the queue.
-    pub(crate) part: Part<T>,
+    pub(crate) part: Part<N>,
     /// The signals on the root edge, at most `rsx_types::CAPACITY`.
     queue: SignalQueue<T>,
     /// Where the subscription stands in the table. It is opened before anything else happens (rule 1.9).
@@ -38,8 +38,8 @@ pub struct Subscription<T> {
     pub ghost opened: { state ≡ Fresh → ⊥ },
 }
 
-impl<T: Drop> Subscription<T> {
-    ghost use Rattle.std.specs.Prelude.{◌≡◌, ◌<◌, ◌+◌, [], List, OnOk, OnErr, IfOk, IfErr, IsOk, IfSome, OnSome, IfNone, Some, None, true, false, length, map};
+impl<N: Nodes<Item = T>, T: Drop> Subscription<N, T> {
+    ghost use Rattle.std.specs.Prelude.{◌≡◌, ◌<◌, ◌+◌, [], List, OnOk, OnErr, IfOk, IfErr, IsOk, IfSome, OnSome, IfNone, Some, None, true, false, length, map, option_map};
     ghost use Rattle.rsx_types.specs.Meaning.{Meaning};
     ghost use Rattle.rsx_types.specs.Stream.{Stream};
     ghost use Rattle.rsx_sources.specs.Steps.{IsNotMade};
@@ -67,11 +67,11 @@ impl<T: Drop> Subscription<T> {
         ops: &O,
         expr: &Expr<T>,
         hubs: &[Hub<T>],
-    ) -> Result<Subscription<T>, NoMemory>
+    ) -> Result<Subscription<N, T>, NoMemory>
         requires { refusal (length hubs.now) expr.now ≡ None }
         ensures stands { IfOk result (λ s. (published : List (Stream T)) → AreTaken hubs.now published →
-            Stands (O.meaning ops.now) published s (subscribed expr.now (new_joins hubs.now expr.now))) }
-        ensures fresh { IfOk result (λ s. IsFresh expr.now s) }
+            Stands N.Machine (O.meaning ops.now) published s (subscribed expr.now (new_joins hubs.now expr.now))) }
+        ensures fresh { IfOk result (λ s. IsFresh N.Nodes.own expr.now s) }
     {
         let queue = SignalQueue::new(alloc)?;
         let part = Part::new(alloc, ops, expr, hubs)?;
@@ -114,8 +114,8 @@ impl<T: Drop> Subscription<T> {
         ensures asked { self.new.part.root.demand.asked ≡ self.old.part.root.demand.asked }
         ensures tree { IsAllClosed self.new.part.tree }
         ensures edges { all_edges self.new.part ≡ map closed_view (all_edges self.old.part) }
-        ensures notes { notes_of self.new.part.tree ≡ notes_of self.old.part.tree }
-        ensures stands { (m : Meaning T) → IsPutOut m self.old.part [] self.new.part }
+        ensures notes { notes_of N.Machine self.new.part.tree ≡ notes_of N.Machine self.old.part.tree }
+        ensures stands { (m : Meaning T) → IsPutOut N.Machine m self.old.part [] self.new.part }
     {
         self.live = false;
         self.part.close();
@@ -125,8 +125,8 @@ impl<T: Drop> Subscription<T> {
     /// Cancels the subscription, where it is open (rules 3.5 to 3.7): closes the edges of its part and drops what is queued.
     /// It takes no memory.
     pub fn cancel(&mut self)
-        ensures effect { IsCancelled (standing_of self.old) self.old self.new }
-        ensures stands { (m : Meaning T) → StandsAfter m cancelled self.old self.new }
+        ensures effect { IsCancelled N.Machine (standing_of self.old) self.old self.new }
+        ensures stands { (m : Meaning T) → StandsAfter N.Machine m cancelled self.old self.new }
     {
         match step(&mut self.state, &mut self.demand, Input::Cancel) {
             Ok(Effect::Close) => self.close(),
@@ -137,8 +137,8 @@ impl<T: Drop> Subscription<T> {
     /// Asks for `n` items more, where the subscription is open. The signal is the error of a bad request (rules 3.8 and 3.9),
     /// which closes the subscription as a cancel does. It takes no memory.
     pub fn request(&mut self, n: i64) -> Option<Signal<T>>
-        ensures effect { IsRequested (standing_of self.old) n self.old self.new }
-        ensures stands { (m : Meaning T) → StandsAfter m (requested n) self.old self.new }
+        ensures effect { IsRequested N.Machine (standing_of self.old) n self.old self.new }
+        ensures stands { (m : Meaning T) → StandsAfter N.Machine m (requested n) self.old self.new }
         ensures answer { result ≡ request_answer (standing_of self.old) n }
     {
         let Ok(effect) = step(&mut self.state, &mut self.demand, Input::Request(n)) else {
@@ -161,7 +161,7 @@ impl<T: Drop> Subscription<T> {
     /// delivers it. An item with no demand left stays queued (rule 1.1). None exactly where the Take isn't enabled; then
     /// nothing changed. It takes no memory.
     pub fn take(&mut self, at: u32) -> Option<Signal<T>>
-        ensures some { IfSome result (λ s. (m : Meaning T) → StandsAfter m (given s) self.old self.new) }
+        ensures some { IfSome result (λ s. (m : Meaning T) → StandsAfter N.Machine m (given s) self.old self.new) }
         ensures enabled { OnSome result (take_enabled self.old at ≡ true) }
         ensures effect { IfSome result (λ s. IsTake self.old s self.new) }
         ensures none { IfNone result ((self.new ≡ self.old) × (take_enabled self.old at ≡ false)) }
@@ -207,11 +207,11 @@ impl<T: Drop> Subscription<T> {
         ops: &O,
         step: Move,
     ) -> Result<(), NotMade>
-        ensures stands { OnOk result (StandsAfter (O.meaning ops.now) (λ past. past) self.old self.new) }
-        ensures enabled { OnOk result (enabled_inside (O.meaning ops.now) self.old (inner_move self.old step) ≡ true) }
-        ensures effect { OnOk result (IsWorked (O.meaning ops.now) step self.old self.new) }
-        ensures err { IfErr result (IsNotMade (enabled_inside (O.meaning ops.now) self.old (inner_move self.old step))) }
-        ensures memory { make_allocates (O.allocates ops.now) self.old step ≡ false → OnlyNotEnabled result }
+        ensures stands { OnOk result (StandsAfter N.Machine (O.meaning ops.now) (λ past. past) self.old self.new) }
+        ensures enabled { OnOk result (enabled_inside N.Machine (O.meaning ops.now) self.old (inner_move N.Nodes.own self.old step) ≡ true) }
+        ensures effect { OnOk result (IsWorked N.Machine N.Nodes.own (O.meaning ops.now) step self.old self.new) }
+        ensures err { IfErr result (IsNotMade (enabled_inside N.Machine (O.meaning ops.now) self.old (inner_move N.Nodes.own self.old step))) }
+        ensures memory { make_allocates N.Machine N.Nodes.own (O.allocates ops.now) self.old step ≡ false → OnlyNotEnabled result }
         ensures same { OnErr result (self.new ≡ self.old) }
     {
         let route = self.part.route_below(node_of(step));
@@ -226,7 +226,7 @@ impl<T: Drop> Subscription<T> {
 
     /// Hands the front signal of the queue to the subscriber, where the table delivers one.
     fn advance_queue(&mut self, id: SubId, out: &mut Deliveries<T>) -> Result<bool, NoMemory>
-        ensures pumped { (m : Meaning T) → IsPumped m id (moves_of result) self.old out.old.signals self.new out.new.signals }
+        ensures pumped { (m : Meaning T) → IsPumped N.Machine N.Nodes.own m id (moves_of result) self.old out.old.signals self.new out.new.signals }
         ensures none { IfOk result (λ b. b ≡ false → NothingTaken self.old out.old self.new out.new) }
         ensures part { self.new.part ≡ self.old.part }
         ensures full { OnErr result (IsFull out.new) }
@@ -248,7 +248,7 @@ impl<T: Drop> Subscription<T> {
     /// left.
     #[inline(always)]
     fn deliver(&mut self, id: SubId, budget: u32, out: &mut Deliveries<T>) -> Result<u32, NoMemory>
-        ensures pumped { (m : Meaning T) → SomePumped m id (λ n. Spent budget n result) self.old out.old self.new out.new }
+        ensures pumped { (m : Meaning T) → SomePumped N.Machine N.Nodes.own m id (λ n. Spent budget n result) self.old out.old self.new out.new }
         ensures none { IfOk result (λ left. left ≡ budget → self.new ≡ self.old) }
         ensures rest { IfOk result (λ left. 0 < left → take_enabled self.new 0 ≡ false) }
         ensures full { OnErr result (IsFull out.new) }
@@ -270,7 +270,7 @@ impl<T: Drop> Subscription<T> {
         budget: u32,
         out: &mut Deliveries<T>,
     ) -> Result<u32, NoMemory>
-        ensures pumped { (m : Meaning T) → SomePumped m id (λ n. Spent budget n result) self.old out.old self.new out.new }
+        ensures pumped { (m : Meaning T) → SomePumped N.Machine N.Nodes.own m id (λ n. Spent budget n result) self.old out.old self.new out.new }
         ensures none { IfOk result (λ left. left ≡ budget → self.new ≡ self.old) }
         ensures rest { IfOk result (λ left. 0 < left → take_enabled self.new 0 ≡ false) }
         ensures full { OnErr result (IsFull out.new) }
@@ -293,8 +293,8 @@ impl<T: Drop> Subscription<T> {
         id: SubId,
         budget: u32,
     ) -> Result<Pumped, NoMemory>
-        ensures pumped { HasPumpedPart (O.meaning ops.now) id budget self.old result self.new }
-        ensures memory { pump_allocates (O.allocates ops.now) self.old.part ≡ false → IsOk result }
+        ensures pumped { HasPumpedPart N.Machine N.Nodes.own (O.meaning ops.now) id budget self.old result self.new }
+        ensures memory { pump_allocates N.Machine (O.allocates ops.now) self.old.part ≡ false → IsOk result }
     {
         match self.part.pump(alloc, ops, budget, &mut self.queue) {
             Ok(ended) => Ok(ended),
@@ -314,7 +314,7 @@ impl<T: Drop> Subscription<T> {
         out: &mut Deliveries<T>,
     ) -> Result<bool, NoMemory>
         requires { self.old.queue ≡ [] }
-        ensures pumped { SomePumped (O.meaning ops.now) id (λ n. n + left.new ≡ left.old) self.old out.old self.new out.new }
+        ensures pumped { SomePumped N.Machine N.Nodes.own (O.meaning ops.now) id (λ n. n + left.new ≡ left.old) self.old out.old self.new out.new }
         ensures delivered { IfOk result (λ b. b ≡ true → (self.new.queue ≡ []) × (left.new < left.old)) }
         ensures full { OnErr result (IsFull out.new) }
     {
@@ -352,7 +352,7 @@ impl<T: Drop> Subscription<T> {
         budget: u32,
         out: &mut Deliveries<T>,
     ) -> Result<u32, NoMemory>
-        ensures pumped { SomePumped (O.meaning ops.now) id (λ n. Spent budget n result) self.old out.old self.new out.new }
+        ensures pumped { SomePumped N.Machine N.Nodes.own (O.meaning ops.now) id (λ n. Spent budget n result) self.old out.old self.new out.new }
         ensures full { OnErr result (IsFull out.new) }
     {
         if self.queue.len() > 0 {
@@ -383,8 +383,8 @@ impl<T: Drop> Subscription<T> {
         budget: u32,
         out: &mut Deliveries<T>,
     ) -> Result<Pumped, NoMemory>
-        ensures pumped { HasPumped (O.meaning ops.now) id budget self.old out.old result self.new out.new }
-        ensures memory { pump_allocates (O.allocates ops.now) self.old.part ≡ false → OnErr result (IsFull out.new) }
+        ensures pumped { HasPumped N.Machine N.Nodes.own (O.meaning ops.now) id budget self.old out.old result self.new out.new }
+        ensures memory { pump_allocates N.Machine (O.allocates ops.now) self.old.part ≡ false → OnErr result (IsFull out.new) }
     {
         let behind = match self.deliver(id, budget, out) {
             Ok(left) => left,
@@ -412,8 +412,8 @@ impl<T: Drop> Subscription<T> {
         budget: u32,
         out: &mut Deliveries<T>,
     ) -> Result<Pumped, NoMemory>
-        ensures pumped { HasPumped (O.meaning ops.now) id budget self.old out.old result self.new out.new }
-        ensures memory { pump_allocates (O.allocates ops.now) self.old.part ≡ false → OnErr result (IsFull out.new) }
+        ensures pumped { HasPumped N.Machine N.Nodes.own (O.meaning ops.now) id budget self.old out.old result self.new out.new }
+        ensures memory { pump_allocates N.Machine (O.allocates ops.now) self.old.part ≡ false → OnErr result (IsFull out.new) }
     {
         let mut left = budget;
         for round in 0..budget {
@@ -435,7 +435,7 @@ impl<T: Drop> Subscription<T> {
 
     /// How driving the subscription ends where so much of the budget is left.
     fn rest(&self, left: u32) -> Pumped
-        ensures { (m : Meaning T) → (0 < left → IsQuiet m self.now) → IsRest m self.now left result }
+        ensures { (m : Meaning T) → (0 < left → IsQuiet N.Machine m self.now) → IsRest N.Machine m self.now left result }
     {
         match self.is_idle() {
             true => Pumped::Idle(left),
@@ -445,8 +445,8 @@ impl<T: Drop> Subscription<T> {
 
     /// Whether no move is enabled.
     pub fn is_idle(&self) -> bool
-        ensures yes { (m : Meaning T) → result ≡ true → IsQuiet m self.now }
-        ensures no { (m : Meaning T) → result ≡ false → IsAwake m self.now }
+        ensures yes { (m : Meaning T) → result ≡ true → IsQuiet N.Machine m self.now }
+        ensures no { (m : Meaning T) → result ≡ false → IsAwake N.Machine m self.now }
     {
         if self.can_take() {
             return false;
@@ -466,7 +466,7 @@ impl<T: Drop> Subscription<T> {
     /// # Errors
     /// [`NoMemory`] where a growth was refused.
     pub fn notes(&self, alloc: Global) -> Result<Vec<Note>, NoMemory>
-        ensures { IfOk result (λ v. v.items ≡ notes_of self.now.part.tree) }
+        ensures { IfOk result (λ v. v.items ≡ notes_of N.Machine self.now.part.tree) }
     {
         self.part.notes(alloc)
     }
@@ -482,7 +482,7 @@ impl<T: Drop> Subscription<T> {
         ops: &O,
         inboxes: &[StreamValue<T>],
     ) -> Result<StreamValue<T>, NoMemory>
-        ensures { IfOk result (λ v. IsStillOwed (O.meaning ops.now) inboxes.now self.now v) }
+        ensures { IfOk result (λ v. IsStillOwed N.Machine (O.meaning ops.now) inboxes.now self.now v) }
     {
         let rest = self.part.residual(alloc, ops, inboxes)?;
         behind(alloc, ops, &self.queue, rest)

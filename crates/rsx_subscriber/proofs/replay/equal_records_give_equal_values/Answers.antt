@@ -8,6 +8,6 @@ use Rattle.rsx_subscriber.proofs.replay.equal_records_give_equal_values.Goals as
 pub returns : goal.returns
 returns g c = λ m hubs a b p q v w expressions joins notes x y.
     let same =
-    ap (λ e. evaluated m hubs p.joins e (notes_of a.part.tree)) expressions
-    ∙ (ap (λ j. evaluated m hubs j q.expression (notes_of a.part.tree)) joins ∙ ap (evaluated m hubs q.joins q.expression) notes) in
+    ap (λ e. evaluated m hubs p.joins e (notes_of g.N.Machine a.part.tree)) expressions
+    ∙ (ap (λ j. evaluated m hubs j q.expression (notes_of g.N.Machine a.part.tree)) joins ∙ ap (evaluated m hubs q.joins q.expression) notes) in
     some_same (signals_then p.received v) (signals_then q.received w) (sym x ∙ (same ∙ y))

@@ -10,7 +10,7 @@ returns-in-Ok-Close-clause-stands g c = λ m published past h.
     let t = c.step.ensures in
     let closes = cancel_closes c.args.self.now.state c.args.self.now.demand (sym t.answer ∙ (c.in-Ok-Close.is ∙ ap Ok c.in-Ok-Close.field-0-is)) in
     let kept = cancel_asks c.args.self.now.state c.args.self.now.demand in
-    stands_cancelled m published c.args.self.now c.close.new.self past (record {
+    stands_cancelled g.N.Machine m published c.args.self.now c.close.new.self past (record {
       was_open = open_standing c.args.self.now.state c.args.self.now.live closes.0;
       live = k.live;
       queue = k.queue;
@@ -29,7 +29,7 @@ returns-in-Ok-Close-clause-effect g c =
     let t = c.step.ensures in
     let closes = cancel_closes c.args.self.now.state c.args.self.now.demand (sym t.answer ∙ (c.in-Ok-Close.is ∙ ap Ok c.in-Ok-Close.field-0-is)) in
     let kept = cancel_asks c.args.self.now.state c.args.self.now.demand in
-    cancelled_shut c.args.self.now c.close.new.self (open_standing c.args.self.now.state c.args.self.now.live closes.0) (record {
+    cancelled_shut g.N.Machine c.args.self.now c.close.new.self (open_standing c.args.self.now.state c.args.self.now.live closes.0) (record {
       edges = k.edges;
       notes = k.notes;
       queue = k.queue;

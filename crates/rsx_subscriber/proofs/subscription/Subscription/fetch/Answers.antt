@@ -3,7 +3,7 @@ use Rattle.rsx_subscriber.proofs.Moves.{pumped_more, pumped_none}
 use Rattle.rsx_subscriber.proofs.subscription.Subscription.fetch.Goals as goal
 
 pub returns-then-len-gt0-clause-pumped : goal.returns-then-len-gt0-clause-pumped
-returns-then-len-gt0-clause-pumped g c = (0, omega arith, pumped_none (g.O.Ops.meaning c.args.ops.now) c.args.id c.args.self.now c.args.out.now.signals)
+returns-then-len-gt0-clause-pumped g c = (0, omega arith, pumped_none g.N.Machine g.N.Nodes (g.O.Ops.meaning c.args.ops.now) c.args.id c.args.self.now c.args.out.now.signals)
 
 pub items-preserved : goal.items-preserved
 items-preserved g c =
@@ -11,7 +11,7 @@ items-preserved g c =
     let more = c.in-Ok-true.ensures.pumped in
     let e = done.1 in
     let k = more.1 in (
-      (done.0 + more.0, omega (arith, e, k), pumped_more (g.O.Ops.meaning c.args.ops.now) c.args.id done.0 more.0 c.args.self.now c.items.self c.fetch_one.new.self c.args.out.now.signals c.items.out.signals c.fetch_one.new.out.signals done.2 more.2),
+      (done.0 + more.0, omega (arith, e, k), pumped_more g.N.Machine g.N.Nodes (g.O.Ops.meaning c.args.ops.now) c.args.id done.0 more.0 c.args.self.now c.items.self c.fetch_one.new.self c.args.out.now.signals c.items.out.signals c.fetch_one.new.out.signals done.2 more.2),
       (c.in-Ok-true.ensures.delivered c.in-Ok-true.field-0-test).0,
     )
 
@@ -21,7 +21,7 @@ returns-in-Ok-false-clause-pumped g c =
     let more = c.in-Ok-false.ensures.pumped in
     let e = done.1 in
     let k = more.1 in
-    (done.0 + more.0, omega (arith, e, k), pumped_more (g.O.Ops.meaning c.args.ops.now) c.args.id done.0 more.0 c.args.self.now c.items.self c.fetch_one.new.self c.args.out.now.signals c.items.out.signals c.fetch_one.new.out.signals done.2 more.2)
+    (done.0 + more.0, omega (arith, e, k), pumped_more g.N.Machine g.N.Nodes (g.O.Ops.meaning c.args.ops.now) c.args.id done.0 more.0 c.args.self.now c.items.self c.fetch_one.new.self c.args.out.now.signals c.items.out.signals c.fetch_one.new.out.signals done.2 more.2)
 
 pub returns-in-Err-clause-pumped : goal.returns-in-Err-clause-pumped
 returns-in-Err-clause-pumped g c =
@@ -29,4 +29,4 @@ returns-in-Err-clause-pumped g c =
     let more = c.in-Err.ensures.pumped in
     let e = done.1 in
     let k = more.1 in
-    (done.0 + more.0, omega (arith, e, k), pumped_more (g.O.Ops.meaning c.args.ops.now) c.args.id done.0 more.0 c.args.self.now c.items.self c.fetch_one.new.self c.args.out.now.signals c.items.out.signals c.fetch_one.new.out.signals done.2 more.2)
+    (done.0 + more.0, omega (arith, e, k), pumped_more g.N.Machine g.N.Nodes (g.O.Ops.meaning c.args.ops.now) c.args.id done.0 more.0 c.args.self.now c.items.self c.fetch_one.new.self c.args.out.now.signals c.items.out.signals c.fetch_one.new.out.signals done.2 more.2)

@@ -14,7 +14,7 @@ returns-in-Err-fetch-clause-pumped g c =
     let f = c.in-Err-fetch.ensures.pumped in
     let e = d.1 in
     let k = f.1 in
-    (d.0 + f.0, omega (arith, e, k), pumped_more m c.args.id d.0 f.0 c.args.self.now c.deliver.new.self c.fetch.new.self c.args.out.now.signals c.deliver.new.out.signals c.fetch.new.out.signals d.2 f.2)
+    (d.0 + f.0, omega (arith, e, k), pumped_more g.N.Machine g.N.Nodes m c.args.id d.0 f.0 c.args.self.now c.deliver.new.self c.fetch.new.self c.args.out.now.signals c.deliver.new.out.signals c.fetch.new.out.signals d.2 f.2)
 
 pub returns-then-is_idle-clause-pumped : goal.returns-then-is_idle-clause-pumped
 returns-then-is_idle-clause-pumped g c =
@@ -23,7 +23,7 @@ returns-then-is_idle-clause-pumped g c =
     let f = c.in-Ok-fetch.ensures.pumped in
     let e = d.1 in
     let k = f.1 in
-    (d.0 + f.0, (omega (arith, e, k), c.is_idle.ensures.yes m c.if-is_idle.true), pumped_more m c.args.id d.0 f.0 c.args.self.now c.deliver.new.self c.fetch.new.self c.args.out.now.signals c.deliver.new.out.signals c.fetch.new.out.signals d.2 f.2)
+    (d.0 + f.0, (omega (arith, e, k), c.is_idle.ensures.yes m c.if-is_idle.true), pumped_more g.N.Machine g.N.Nodes m c.args.id d.0 f.0 c.args.self.now c.deliver.new.self c.fetch.new.self c.args.out.now.signals c.deliver.new.out.signals c.fetch.new.out.signals d.2 f.2)
 
 pub returns-in-Ok-settle-clause-pumped : goal.returns-in-Ok-settle-clause-pumped
 returns-in-Ok-settle-clause-pumped g c =
@@ -34,10 +34,10 @@ returns-in-Ok-settle-clause-pumped g c =
     let e = d.1 in
     let k = f.1 in
     let all : (d.0 + f.0) + c.in-Ok-fetch.left ≡ c.args.budget = omega (arith, e, k) in
-    let first = pumped_more m c.args.id d.0 f.0 c.args.self.now c.deliver.new.self c.fetch.new.self c.args.out.now.signals c.deliver.new.out.signals c.fetch.new.out.signals d.2 f.2 in (
+    let first = pumped_more g.N.Machine g.N.Nodes m c.args.id d.0 f.0 c.args.self.now c.deliver.new.self c.fetch.new.self c.args.out.now.signals c.deliver.new.out.signals c.fetch.new.out.signals d.2 f.2 in (
       (d.0 + f.0) + s.0,
-      rested_after {E = NoMemory} m c.args.budget c.in-Ok-fetch.left (d.0 + f.0) s.0 c.settle.new.self (Ok c.in-Ok-settle.ended) all s.1,
-      pumped_more m c.args.id (d.0 + f.0) s.0 c.args.self.now c.fetch.new.self c.settle.new.self c.args.out.now.signals c.fetch.new.out.signals c.settle.new.out.signals first s.2,
+      rested_after {E = NoMemory} g.N.Machine m c.args.budget c.in-Ok-fetch.left (d.0 + f.0) s.0 c.settle.new.self (Ok c.in-Ok-settle.ended) all s.1,
+      pumped_more g.N.Machine g.N.Nodes m c.args.id (d.0 + f.0) s.0 c.args.self.now c.fetch.new.self c.settle.new.self c.args.out.now.signals c.fetch.new.out.signals c.settle.new.out.signals first s.2,
     )
 
 pub returns-in-Err-settle-clause-pumped : goal.returns-in-Err-settle-clause-pumped
@@ -49,10 +49,10 @@ returns-in-Err-settle-clause-pumped g c =
     let e = d.1 in
     let k = f.1 in
     let j = s.1 in
-    let first = pumped_more m c.args.id d.0 f.0 c.args.self.now c.deliver.new.self c.fetch.new.self c.args.out.now.signals c.deliver.new.out.signals c.fetch.new.out.signals d.2 f.2 in (
+    let first = pumped_more g.N.Machine g.N.Nodes m c.args.id d.0 f.0 c.args.self.now c.deliver.new.self c.fetch.new.self c.args.out.now.signals c.deliver.new.out.signals c.fetch.new.out.signals d.2 f.2 in (
       (d.0 + f.0) + s.0,
       omega (arith, e, k, j),
-      pumped_more m c.args.id (d.0 + f.0) s.0 c.args.self.now c.fetch.new.self c.settle.new.self c.args.out.now.signals c.fetch.new.out.signals c.settle.new.out.signals first s.2,
+      pumped_more g.N.Machine g.N.Nodes m c.args.id (d.0 + f.0) s.0 c.args.self.now c.fetch.new.self c.settle.new.self c.args.out.now.signals c.fetch.new.out.signals c.settle.new.out.signals first s.2,
     )
 
 pub returns-in-Err-clause-memory : goal.returns-in-Err-clause-memory

@@ -14,7 +14,7 @@ returns-in-Add-clause-stands g c = λ m published past h.
     let n = to_z-of_z w64 c.args.n c.ranges.n in
     let t = rw n at c.step.ensures in
     let k = request_adds c.args.self.now.state c.args.n c.args.self.now.demand (sym t.answer ∙ (c.in-Ok.is ∙ ap Ok c.in-Add.is)) in
-    stands_added m published c.args.self.now _ past c.args.n k (record {
+    stands_added g.N.Machine m published c.args.self.now _ past c.args.n k (record {
       queue = refl;
       state = t.state ∙ k.state;
       live = refl;
@@ -32,7 +32,7 @@ returns-in-Bad-clause-stands g c = λ m published past h.
     let t = rw n at c.step.ensures in
     let k = c.close.ensures in
     let b = request_bad c.args.self.now.state c.args.n c.args.self.now.demand (sym t.answer ∙ (c.in-Ok.is ∙ ap Ok c.in-Bad.is)) in
-    stands_bad m published c.args.self.now c.close.new.self past c.args.n (record {
+    stands_bad g.N.Machine m published c.args.self.now c.close.new.self past c.args.n (record {
       was_open = open_standing c.args.self.now.state c.args.self.now.live b.was;
       live = k.live;
       queue = k.queue;
@@ -52,7 +52,7 @@ returns-in_default-effect-clause-stands g c = λ m published past h.
     let i = request_ignored c.args.self.now.state c.args.n c.args.self.now.demand
     (λ e. c.in_default-effect.not-Add (same_effect c.step.result c.in-Ok.effect Add c.in-Ok.is (t.answer ∙ e)))
     (λ e. c.in_default-effect.not-Bad (same_effect c.step.result c.in-Ok.effect Bad c.in-Ok.is (t.answer ∙ e))) in
-    stands_unrequested m published c.args.self.now _ past c.args.n i.was (record {
+    stands_unrequested g.N.Machine m published c.args.self.now _ past c.args.n i.was (record {
       part = refl;
       queue = refl;
       state = t.state ∙ i.state;
@@ -68,7 +68,7 @@ returns-in_default-clause-stands g c = λ m published past h.
     let i = request_ignored c.args.self.now.state c.args.n c.args.self.now.demand
     (λ e. c.in_default.not-Ok Add (t.answer ∙ e))
     (λ e. c.in_default.not-Ok Bad (t.answer ∙ e)) in
-    stands_unrequested m published c.args.self.now _ past c.args.n i.was (record {
+    stands_unrequested g.N.Machine m published c.args.self.now _ past c.args.n i.was (record {
       part = refl;
       queue = refl;
       state = t.state ∙ i.state;
@@ -82,7 +82,7 @@ returns-in-Add-clause-effect g c =
     let n = to_z-of_z w64 c.args.n c.ranges.n in
     let t = rw n at c.step.ensures in
     let k = request_adds c.args.self.now.state c.args.n c.args.self.now.demand (sym t.answer ∙ (c.in-Ok.is ∙ ap Ok c.in-Add.is)) in
-    requested_raised c.args.self.now _ c.args.n k.good (open_standing c.args.self.now.state c.args.self.now.live k.was) (record {
+    requested_raised g.N.Machine c.args.self.now _ c.args.n k.good (open_standing c.args.self.now.state c.args.self.now.live k.was) (record {
       root = same_view (raised (unsigned_abs c.args.n) (edge_view c.args.self.now.part.root)) (edge_view c.request.new.self.root)
           (c.request.ensures.asked ∙ ap (λ i. saturating_total c.args.self.now.part.root.demand.asked i) (c.unsigned_abs.ensures.value ∙ ap unsigned_abs n)) c.request.ensures.sent c.request.ensures.state;
       tree = c.request.ensures.tree;
@@ -99,7 +99,7 @@ returns-in-Bad-clause-effect g c =
     let t = rw n at c.step.ensures in
     let k = c.close.ensures in
     let b = request_bad c.args.self.now.state c.args.n c.args.self.now.demand (sym t.answer ∙ (c.in-Ok.is ∙ ap Ok c.in-Bad.is)) in
-    requested_shut c.args.self.now c.close.new.self c.args.n b.bad (open_standing c.args.self.now.state c.args.self.now.live b.was) (record {
+    requested_shut g.N.Machine c.args.self.now c.close.new.self c.args.n b.bad (open_standing c.args.self.now.state c.args.self.now.live b.was) (record {
       edges = k.edges;
       notes = k.notes;
       queue = k.queue;
@@ -116,7 +116,7 @@ returns-in_default-effect-clause-effect g c =
     let i = request_ignored c.args.self.now.state c.args.n c.args.self.now.demand
     (λ e. c.in_default-effect.not-Add (same_effect c.step.result c.in-Ok.effect Add c.in-Ok.is (t.answer ∙ e)))
     (λ e. c.in_default-effect.not-Bad (same_effect c.step.result c.in-Ok.effect Bad c.in-Ok.is (t.answer ∙ e))) in
-    requested_same c.args.self.now _ c.args.n i.was (record {
+    requested_same g.N.Machine c.args.self.now _ c.args.n i.was (record {
       part = refl;
       queue = refl;
       state = t.state ∙ i.state;
@@ -132,7 +132,7 @@ returns-in_default-clause-effect g c =
     let i = request_ignored c.args.self.now.state c.args.n c.args.self.now.demand
     (λ e. c.in_default.not-Ok Add (t.answer ∙ e))
     (λ e. c.in_default.not-Ok Bad (t.answer ∙ e)) in
-    requested_same c.args.self.now _ c.args.n i.was (record {
+    requested_same g.N.Machine c.args.self.now _ c.args.n i.was (record {
       part = refl;
       queue = refl;
       state = t.state ∙ i.state;

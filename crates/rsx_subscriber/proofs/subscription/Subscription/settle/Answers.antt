@@ -12,7 +12,7 @@ returns-in-Ok-Budget-clause-pumped g c =
     let p = rw c.in-Ok-Budget.field-0-is at c.in-Ok-Budget.ensures.pumped in
     let e = done.1 in
     let k = p.1.0 in
-    (done.0 + p.0, (omega (arith, e, k), awake_part m c.pump_part.new.self p.1.1), pumped_more m c.args.id done.0 p.0 c.args.self.now c.loop-round.self c.pump_part.new.self c.args.out.now.signals c.loop-round.out.signals c.loop-round.out.signals done.2 (p.2 c.loop-round.out.signals))
+    (done.0 + p.0, (omega (arith, e, k), awake_part g.N.Machine m c.pump_part.new.self p.1.1), pumped_more g.N.Machine g.N.Nodes m c.args.id done.0 p.0 c.args.self.now c.loop-round.self c.pump_part.new.self c.args.out.now.signals c.loop-round.out.signals c.loop-round.out.signals done.2 (p.2 c.loop-round.out.signals))
 
 pub returns-in-Err-clause-pumped : goal.returns-in-Err-clause-pumped
 returns-in-Err-clause-pumped g c =
@@ -21,7 +21,7 @@ returns-in-Err-clause-pumped g c =
     let p = c.in-Err.ensures.pumped in
     let e = done.1 in
     let k = p.1 in
-    (done.0 + p.0, omega (arith, e, k), pumped_more m c.args.id done.0 p.0 c.args.self.now c.loop-round.self c.pump_part.new.self c.args.out.now.signals c.loop-round.out.signals c.loop-round.out.signals done.2 (p.2 c.loop-round.out.signals))
+    (done.0 + p.0, omega (arith, e, k), pumped_more g.N.Machine g.N.Nodes m c.args.id done.0 p.0 c.args.self.now c.loop-round.self c.pump_part.new.self c.args.out.now.signals c.loop-round.out.signals c.loop-round.out.signals done.2 (p.2 c.loop-round.out.signals))
 
 pub returns-in-Err-deliver-clause-pumped : goal.returns-in-Err-deliver-clause-pumped
 returns-in-Err-deliver-clause-pumped g c =
@@ -32,8 +32,8 @@ returns-in-Err-deliver-clause-pumped g c =
     let e = done.1 in
     let k = p.1.0 in
     let j = d.1 in
-    let first = pumped_more m c.args.id done.0 p.0 c.args.self.now c.loop-round.self c.pump_part.new.self c.args.out.now.signals c.loop-round.out.signals c.loop-round.out.signals done.2 (p.2 c.loop-round.out.signals) in
-    ((done.0 + p.0) + d.0, omega (arith, e, k, j), pumped_more m c.args.id (done.0 + p.0) d.0 c.args.self.now c.pump_part.new.self c.deliver.new.self c.args.out.now.signals c.loop-round.out.signals c.deliver.new.out.signals first d.2)
+    let first = pumped_more g.N.Machine g.N.Nodes m c.args.id done.0 p.0 c.args.self.now c.loop-round.self c.pump_part.new.self c.args.out.now.signals c.loop-round.out.signals c.loop-round.out.signals done.2 (p.2 c.loop-round.out.signals) in
+    ((done.0 + p.0) + d.0, omega (arith, e, k, j), pumped_more g.N.Machine g.N.Nodes m c.args.id (done.0 + p.0) d.0 c.args.self.now c.pump_part.new.self c.deliver.new.self c.args.out.now.signals c.loop-round.out.signals c.deliver.new.out.signals first d.2)
 
 pub returns-then-left-before-clause-pumped : goal.returns-then-left-before-clause-pumped
 returns-then-left-before-clause-pumped g c =
@@ -46,10 +46,10 @@ returns-then-left-before-clause-pumped g c =
     let j = d.1 in
     let all : ((done.0 + p.0) + d.0) + c.in-Ok.left ≡ c.args.budget = omega (arith, e, k, j) in
     let same = c.in-Ok.ensures.none c.if-left-before.true in
-    let first = pumped_more m c.args.id done.0 p.0 c.args.self.now c.loop-round.self c.pump_part.new.self c.args.out.now.signals c.loop-round.out.signals c.loop-round.out.signals done.2 (p.2 c.loop-round.out.signals) in (
+    let first = pumped_more g.N.Machine g.N.Nodes m c.args.id done.0 p.0 c.args.self.now c.loop-round.self c.pump_part.new.self c.args.out.now.signals c.loop-round.out.signals c.loop-round.out.signals done.2 (p.2 c.loop-round.out.signals) in (
       (done.0 + p.0) + d.0,
-      rest_ended NoMemory m c.args.budget ((done.0 + p.0) + d.0) c.in-Ok.left c.deliver.new.self c.rest.result all (c.rest.ensures m (λ some. rest_quiet m c.pump_part.new.self c.deliver.new.self same (c.in-Ok.ensures.rest some) p.1.1)),
-      pumped_more m c.args.id (done.0 + p.0) d.0 c.args.self.now c.pump_part.new.self c.deliver.new.self c.args.out.now.signals c.loop-round.out.signals c.deliver.new.out.signals first d.2,
+      rest_ended g.N.Machine NoMemory m c.args.budget ((done.0 + p.0) + d.0) c.in-Ok.left c.deliver.new.self c.rest.result all (c.rest.ensures m (λ some. rest_quiet g.N.Machine m c.pump_part.new.self c.deliver.new.self same (c.in-Ok.ensures.rest some) p.1.1)),
+      pumped_more g.N.Machine g.N.Nodes m c.args.id (done.0 + p.0) d.0 c.args.self.now c.pump_part.new.self c.deliver.new.self c.args.out.now.signals c.loop-round.out.signals c.deliver.new.out.signals first d.2,
     )
 
 pub loop-round-preserved : goal.loop-round-preserved
@@ -63,9 +63,9 @@ loop-round-preserved g c =
     let k = p.1.0 in
     let j = d.1 in
     let n = c.if-left-before.false in
-    let first = pumped_more m c.args.id done.0 p.0 c.args.self.now c.loop-round.self c.pump_part.new.self c.args.out.now.signals c.loop-round.out.signals c.loop-round.out.signals done.2 (p.2 c.loop-round.out.signals) in (
+    let first = pumped_more g.N.Machine g.N.Nodes m c.args.id done.0 p.0 c.args.self.now c.loop-round.self c.pump_part.new.self c.args.out.now.signals c.loop-round.out.signals c.loop-round.out.signals done.2 (p.2 c.loop-round.out.signals) in (
       omega (arith, within, k, j, n),
-      ((done.0 + p.0) + d.0, omega (arith, e, k, j), pumped_more m c.args.id (done.0 + p.0) d.0 c.args.self.now c.pump_part.new.self c.deliver.new.self c.args.out.now.signals c.loop-round.out.signals c.deliver.new.out.signals first d.2),
+      ((done.0 + p.0) + d.0, omega (arith, e, k, j), pumped_more g.N.Machine g.N.Nodes m c.args.id (done.0 + p.0) d.0 c.args.self.now c.pump_part.new.self c.deliver.new.self c.args.out.now.signals c.loop-round.out.signals c.deliver.new.out.signals first d.2),
     )
 
 pub returns-clause-pumped : goal.returns-clause-pumped
@@ -74,7 +74,7 @@ returns-clause-pumped g c =
     let within = c.loop-round.invariant.0 in
     let done = c.loop-round.invariant.1 in
     let t = c.loop-round-test.false in
-    (done.0, rest_ended NoMemory m c.args.budget done.0 c.loop-round.left c.loop-round.self c.rest-2.result done.1 (c.rest-2.ensures m (λ some. absurd (omega (arith, within, t, some)))), done.2)
+    (done.0, rest_ended g.N.Machine NoMemory m c.args.budget done.0 c.loop-round.left c.loop-round.self c.rest-2.result done.1 (c.rest-2.ensures m (λ some. absurd (omega (arith, within, t, some)))), done.2)
 
 pub returns-in-Err-clause-memory : goal.returns-in-Err-clause-memory
 returns-in-Err-clause-memory g c = λ free.
@@ -85,4 +85,4 @@ pub returns-in-Err-deliver-clause-memory : goal.returns-in-Err-deliver-clause-me
 returns-in-Err-deliver-clause-memory g c = λ _. c.in-Err-deliver.ensures.full
 
 pub loop-round-init : goal.loop-round-init
-loop-round-init g c = (omega arith, (0, omega arith, pumped_none (g.O.Ops.meaning c.args.ops.now) c.args.id c.args.self.now c.args.out.now.signals))
+loop-round-init g c = (omega arith, (0, omega arith, pumped_none g.N.Machine g.N.Nodes (g.O.Ops.meaning c.args.ops.now) c.args.id c.args.self.now c.args.out.now.signals))
