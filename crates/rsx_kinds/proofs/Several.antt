@@ -31,7 +31,7 @@ use Rattle.rsx_queued.specs.declared.sender.Sender.TheVariants.{Direct}
 use Rattle.rsx_kinds.specs.Any.{TreeNode, any_machine}
 use Rattle.rsx_kinds.specs.Built.{IsBuilt, AreBuilt, IsBuiltOver, IsUnrecorded, StandAt, fresh_beside, fresh_edges, fresh_wants, new_joins, new_joins_of, wants_beside}
 use Rattle.rsx_kinds.proofs.NodeValues.{picked_value, quiet_value}
-use Rattle.rsx_kinds.proofs.Rows.{fresh_edges_out, leaf_joins_out}
+use Rattle.rsx_rooted.proofs.Rows.{fresh_edges_out, leaf_joins_out}
 use Rattle.rsx_kinds.proofs.Builds.{node_of}
 use Rattle.rsx_kinds.proofs.Wants.{fresh_wants_out, several_wants}
 

@@ -1,14 +1,9 @@
 //! The nodes that there are, as those of a graph.
 
 use crate::TreeNode;
-use crate::trees::{build, build_for};
-use rsx_hub::Hub;
-use rsx_model::Expr;
 use rsx_queued::Sender;
 use rsx_rooted::{Nodes, Route};
-use rsx_tree::{Edge, Node};
-use rsx_types::{NoMemory, Ops};
-use std::alloc::Global;
+use rsx_tree::Edge;
 
 impl<T: Drop> Nodes for TreeNode<T> {
     ghost use Rattle.rsx_kinds.specs.Crossings.{is_crossing};
@@ -19,25 +14,6 @@ impl<T: Drop> Nodes for TreeNode<T> {
     ghost route_by = { route_by };
 
     ghost crosses = { is_crossing };
-
-    fn build<O: Ops<Item = T>>(
-        alloc: Global,
-        ops: &O,
-        expr: &Expr<T>,
-        hubs: &[Hub<T>],
-    ) -> Result<Node<TreeNode<T>>, NoMemory> {
-        build(alloc, ops, expr, hubs)
-    }
-
-    fn build_for<O: Ops<Item = T>>(
-        alloc: Global,
-        ops: &O,
-        expr: &Expr<T>,
-        hubs: &[Hub<T>],
-        region: u8,
-    ) -> Result<Node<TreeNode<T>>, NoMemory> {
-        build_for(alloc, ops, expr, hubs, region)
-    }
 
     fn route(&self, edge: &Edge) -> Route {
         match self.node() {

@@ -1,12 +1,10 @@
 //! A part of a graph: one tree of nodes with its edges.
 
-use rsx_hub::Hub;
-use rsx_model::Expr;
 use rsx_prefetch::SignalQueue;
 pub use rsx_rooted::Pumped;
 use rsx_rooted::{Nodes, Rooted};
 use rsx_sources::NotMade;
-use rsx_tree::{Edge, EdgeState, NodeMove};
+use rsx_tree::{Edge, EdgeState, Node, NodeMove};
 use rsx_types::{NoMemory, Note, Ops, StreamValue};
 use std::alloc::Global;
 use std::marker::Model;
@@ -36,15 +34,14 @@ impl<N> Model for Part<N> {
 }
 
 impl<N: Nodes> Part<N> {
-    ghost use Rattle.std.specs.Prelude.{◌≡◌, ◌<◌, ℕ, List, [], ◌∷◌, Option, None, true, false, OnOk, OnErr, IfOk, IfErr, IsOk, IfSome, IfNone, length, map};
+    ghost use Rattle.std.specs.Prelude.{◌≡◌, ◌<◌, ℕ, List, [], ◌∷◌, Option, true, false, OnOk, OnErr, IfOk, IfErr, IsOk, IfSome, IfNone, map};
     ghost use Rattle.rsx_demand.specs.Demand.{saturating_total};
-    ghost use Rattle.rsx_model.specs.Check.{first_fault};
+    ghost use Rattle.rsx_hub.specs.Hub.{HubState};
+    ghost use Rattle.rsx_model.specs.declared.expr.Expr.{Expr};
     ghost use Rattle.rsx_types.specs.Meaning.{Meaning};
     ghost use Rattle.rsx_types.specs.Stream.{Stream};
     ghost use Rattle.rsx_sources.specs.Steps.{IsNotMade};
-    ghost use Rattle.rsx_rooted.specs.Built.{fresh_edge, fresh_edges, new_joins};
-    ghost use Rattle.rsx_rooted.specs.Crossings.{IsPlaced, differ};
-    ghost use Rattle.rsx_model.specs.Region.{region_of};
+    ghost use Rattle.rsx_rooted.specs.Built.{IsBuilt, fresh_edge, fresh_edges, new_joins};
     ghost use Rattle.rsx_pipe.specs.Published.{AreTaken};
     ghost use Rattle.rsx_tree.specs.Edges.{closed_view};
     ghost use Rattle.rsx_pipe.specs.Tree.{notes_of, IsAllClosed};
@@ -52,53 +49,19 @@ impl<N: Nodes> Part<N> {
     ghost use Rattle.rsx_tree.specs.Refusals.{OnlyNotEnabled};
     ghost use Rattle.rsx_pipe.specs.Part.{pump_allocates, PartStands, IsPutOut, IsMade, IsPumped, IsQuiet, IsAwake, HasEnded, IsDelivered, IsPartResidual, make_allocates, all_edges, move_enabled, IsNumbered};
 
-    /// The part of an expression that `check_expr` accepts over these hubs, before anything was asked of it. Each leaf that
-    /// reads a hub gets a member of it; the members have joined once they are counted in.
-    ///
-    /// # Errors
-    /// [`NoMemory`] where a growth was refused.
-    pub fn new<O: Ops<Item = N::Item>>(
-        alloc: Global,
-        ops: &O,
-        expr: &Expr<N::Item>,
-        hubs: &[Hub<N::Item>],
-    ) -> Result<Part<N>, NoMemory>
-        requires { first_fault (length hubs.now) expr.now ≡ None }
-        ensures stands { IfOk result (λ p. (published : List (Stream N.Item)) → AreTaken hubs.now published →
-            PartStands N.Machine (O.meaning ops.now) published p expr.now (new_joins hubs.now expr.now) []) }
-        ensures edges { IfOk result (λ p. all_edges p ≡ fresh_edge ∷ fresh_edges expr.now) }
-        ensures placed { IfOk result (λ p. IsPlaced N.crosses expr.now false p.tree) }
+    /// The part of this tree, before anything was asked of it. Where the tree was made for an expression over some hubs, so is the
+    /// part.
+    pub fn new(tree: Node<N>) -> Part<N>
+        ensures stands { (m : Meaning N.Item) (hubs : List (HubState N.Item)) (e : Expr N.Item) (published : List (Stream N.Item)) →
+            IsBuilt N.Machine m hubs e tree → AreTaken hubs published → PartStands N.Machine m published result e (new_joins hubs e) [] }
+        ensures edges { (m : Meaning N.Item) (hubs : List (HubState N.Item)) (e : Expr N.Item) →
+            IsBuilt N.Machine m hubs e tree → all_edges result ≡ fresh_edge ∷ fresh_edges e }
+        ensures tree { result.tree ≡ tree }
     {
-        let tree = N::build(alloc, ops, expr, hubs)?;
         let root = Edge::new();
-        Ok(Part {
+        Part {
             rooted: Rooted { tree, root },
-        })
-    }
-
-    /// The same for a receiver in this region that has no queue for the root edge: where the root is in another region, the root
-    /// edge crosses, and has a queue of its own.
-    ///
-    /// # Errors
-    /// [`NoMemory`] where a growth was refused.
-    pub fn new_for<O: Ops<Item = N::Item>>(
-        alloc: Global,
-        ops: &O,
-        expr: &Expr<N::Item>,
-        hubs: &[Hub<N::Item>],
-        region: u8,
-    ) -> Result<Part<N>, NoMemory>
-        requires { first_fault (length hubs.now) expr.now ≡ None }
-        ensures stands { IfOk result (λ p. (published : List (Stream N.Item)) → AreTaken hubs.now published →
-            PartStands N.Machine (O.meaning ops.now) published p expr.now (new_joins hubs.now expr.now) []) }
-        ensures edges { IfOk result (λ p. all_edges p ≡ fresh_edge ∷ fresh_edges expr.now) }
-        ensures placed { IfOk result (λ p. IsPlaced N.crosses expr.now (differ region (region_of expr.now)) p.tree) }
-    {
-        let tree = N::build_for(alloc, ops, expr, hubs, region)?;
-        let root = Edge::new();
-        Ok(Part {
-            rooted: Rooted { tree, root },
-        })
+        }
     }
 
     /// Asks for `n` items more over the root edge, at most 2^63 - 1 in all (rules 3.8 and 3.17). It takes no memory.

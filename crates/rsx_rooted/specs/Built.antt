@@ -1,5 +1,5 @@
 -- A tree that was made for an expression, of nodes of any kind.
-use Rattle.std.specs.Prelude.{◌≡◌, ⊤, ℕ, zero, suc, ◌+◌, Bool, true, false, List, [], ◌∷◌, ◌++◌, length, map, Option, Some, slice_get}
+use Rattle.std.specs.Prelude.{◌≡◌, ⊤, ℕ, zero, suc, ◌+◌, Bool, true, false, List, [], ◌∷◌, ◌++◌, map, Option, Some, slice_get}
 use Rattle.rsx_hub.specs.Hub.{HubState, HasTakenIn, BeginsWith, join}
 use Rattle.rsx_hub.specs.Member.{ending_taken}
 use Rattle.rsx_model.specs.Eval.{environment, meant}

@@ -1,8 +1,7 @@
 #![tactic(auto)]
 //! Trees of nodes of any kind, each with the edge from its root, and what a graph asks of their nodes.
 //!
-//! - [`nodes`]: [`Nodes`], a kind of node from which the tree of each expression can be made. Its contracts are all that the
-//!   crates above know of nodes.
+//! - [`nodes`]: [`Nodes`], what a graph asks of its nodes. Its contracts are all that the crates above know of them.
 //! - [`joins`]: [`joins_of`], how many items each leaf of an expression misses that joins its hub now.
 //! - [`places`]: [`have_places`], whether each hub has place for its leaves, and [`count_in`], which counts them in.
 //! - [`rooted`]: [`Rooted`], a tree with the edge from its root: every move of it, as a [`NodeMove`], `fetch` and `pump`.

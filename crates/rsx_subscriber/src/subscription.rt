@@ -10,11 +10,10 @@ use crate::deliveries::Deliveries;
 use crate::naming::{node_move, node_of};
 use crate::state::SubscriptionState;
 use rsx_demand::Demand;
-use rsx_hub::Hub;
-use rsx_model::Expr;
 use rsx_pipe::{EdgeState, Nodes, Part, Pumped, SignalQueue};
 use rsx_sources::NotMade;
 use rsx_subscription::{Effect, Input, State, step};
+use rsx_tree::Node;
 use rsx_types::{Cause, Ending, Move, NoMemory, Note, Ops, Signal, StreamValue, SubId};
 use std::alloc::Global;
 
@@ -38,43 +37,34 @@ pub struct Subscription<N, T> {
     pub ghost opened: { state ≡ Fresh → ⊥ },
 }
 
-impl<N: Nodes<Item = T>, T: Drop> Subscription<N, T> {
-    ghost use Rattle.std.specs.Prelude.{◌≡◌, ◌<◌, ◌+◌, [], List, OnOk, OnErr, IfOk, IfErr, IsOk, IfSome, OnSome, IfNone, Some, None, true, false, length, map, option_map};
+impl<N: Nodes<Item = T> + Drop, T: Drop> Subscription<N, T> {
+    ghost use Rattle.std.specs.Prelude.{◌≡◌, List, IfOk, None, false, length};
+    ghost use Rattle.rsx_hub.specs.Hub.{HubState};
+    ghost use Rattle.rsx_model.specs.Check.{refusal};
+    ghost use Rattle.rsx_model.specs.declared.expr.Expr.{Expr};
+    ghost use Rattle.rsx_pipe.specs.Built.{IsBuilt, new_joins};
+    ghost use Rattle.rsx_pipe.specs.Crossings.{IsPlaced};
+    ghost use Rattle.rsx_pipe.specs.Published.{AreTaken};
+    ghost use Rattle.rsx_subscriber.specs.Begun.{IsFresh};
+    ghost use Rattle.rsx_subscriber.specs.Past.{subscribed};
+    ghost use Rattle.rsx_subscriber.specs.Stands.{Stands};
     ghost use Rattle.rsx_types.specs.Meaning.{Meaning};
     ghost use Rattle.rsx_types.specs.Stream.{Stream};
-    ghost use Rattle.rsx_sources.specs.Steps.{IsNotMade};
-    ghost use Rattle.rsx_model.specs.Check.{refusal};
-    ghost use Rattle.rsx_pipe.specs.Built.{new_joins};
-    ghost use Rattle.rsx_tree.specs.Edges.{closed_view};
-    ghost use Rattle.rsx_pipe.specs.Published.{AreTaken};
-    ghost use Rattle.rsx_tree.specs.Refusals.{OnlyNotEnabled};
-    ghost use Rattle.rsx_pipe.specs.Part.{all_edges, IsPutOut, pump_allocates};
-    ghost use Rattle.rsx_pipe.specs.Tree.{notes_of, IsAllClosed};
-    ghost use Rattle.rsx_subscriber.specs.Past.{subscribed, cancelled, requested, given, request_answer};
-    ghost use Rattle.rsx_subscriber.specs.Stands.{Stands, StandsAfter, standing_of, take_enabled, enabled_inside, inner_move, make_allocates, IsWorked, IsTake, IsStillOwed};
-    ghost use Rattle.rsx_subscriber.specs.Begun.{IsFresh};
-    ghost use Rattle.rsx_subscriber.specs.Delivered.{IsFull};
-    ghost use Rattle.rsx_subscriber.specs.Edited.{IsRequested, IsCancelled};
-    ghost use Rattle.rsx_subscriber.specs.Pumped.{IsPumped, SomePumped, HasPumped, HasPumpedPart, NothingTaken, IsRest, IsQuiet, IsAwake, Spent, moves_of};
 
-    /// A subscription that has just begun: nothing was asked, and nothing was sent. Each leaf that reads a hub gets a member of
-    /// it; the members have joined once they are counted in.
+    /// A subscription to what comes out of this tree, which has just begun: nothing was asked, and nothing was sent. Where the tree
+    /// was made for an expression over some hubs, so is the subscription.
     ///
     /// # Errors
     /// [`NoMemory`] where a growth was refused.
-    pub fn new<O: Ops<Item = T>>(
-        alloc: Global,
-        ops: &O,
-        expr: &Expr<T>,
-        hubs: &[Hub<T>],
-    ) -> Result<Subscription<N, T>, NoMemory>
-        requires { refusal (length hubs.now) expr.now ≡ None }
-        ensures stands { IfOk result (λ s. (published : List (Stream T)) → AreTaken hubs.now published →
-            Stands N.Machine (O.meaning ops.now) published s (subscribed expr.now (new_joins hubs.now expr.now))) }
-        ensures fresh { IfOk result (λ s. IsFresh N.Nodes.own expr.now s) }
+    pub fn new(alloc: Global, tree: Node<N>) -> Result<Subscription<N, T>, NoMemory>
+        ensures stands { IfOk result (λ s. (m : Meaning T) (hubs : List (HubState T)) (e : Expr T) (published : List (Stream T)) →
+            refusal (length hubs) e ≡ None → IsBuilt N.Machine m hubs e tree → AreTaken hubs published →
+            Stands N.Machine m published s (subscribed e (new_joins hubs e))) }
+        ensures fresh { IfOk result (λ s. (m : Meaning T) (hubs : List (HubState T)) (e : Expr T) →
+            IsBuilt N.Machine m hubs e tree → IsPlaced N.crosses e false tree → IsFresh N.Nodes.own e s) }
     {
         let queue = SignalQueue::new(alloc)?;
-        let part = Part::new(alloc, ops, expr, hubs)?;
+        let part = Part::new(tree);
         let mut state = State::Fresh;
         let mut demand = Demand::new();
         // `onSubscribe` comes before everything else (rule 1.9).
@@ -87,6 +77,23 @@ impl<N: Nodes<Item = T>, T: Drop> Subscription<N, T> {
             live: true,
         })
     }
+}
+
+impl<N: Nodes<Item = T>, T: Drop> Subscription<N, T> {
+    ghost use Rattle.std.specs.Prelude.{◌≡◌, ◌<◌, ◌+◌, [], List, OnOk, OnErr, IfOk, IfErr, IsOk, IfSome, OnSome, IfNone, Some, None, true, false, length, map};
+    ghost use Rattle.rsx_types.specs.Meaning.{Meaning};
+    ghost use Rattle.rsx_types.specs.Stream.{Stream};
+    ghost use Rattle.rsx_sources.specs.Steps.{IsNotMade};
+    ghost use Rattle.rsx_tree.specs.Edges.{closed_view};
+    ghost use Rattle.rsx_pipe.specs.Published.{AreTaken};
+    ghost use Rattle.rsx_tree.specs.Refusals.{OnlyNotEnabled};
+    ghost use Rattle.rsx_pipe.specs.Part.{all_edges, IsPutOut, pump_allocates};
+    ghost use Rattle.rsx_pipe.specs.Tree.{notes_of, IsAllClosed};
+    ghost use Rattle.rsx_subscriber.specs.Past.{subscribed, cancelled, requested, given, request_answer};
+    ghost use Rattle.rsx_subscriber.specs.Stands.{Stands, StandsAfter, standing_of, take_enabled, enabled_inside, inner_move, make_allocates, IsWorked, IsTake, IsStillOwed};
+    ghost use Rattle.rsx_subscriber.specs.Delivered.{IsFull};
+    ghost use Rattle.rsx_subscriber.specs.Edited.{IsRequested, IsCancelled};
+    ghost use Rattle.rsx_subscriber.specs.Pumped.{IsPumped, SomePumped, HasPumped, HasPumpedPart, NothingTaken, IsRest, IsQuiet, IsAwake, Spent, moves_of};
 
     /// How the subscription stands.
     pub fn standing(&self) -> SubscriptionState
