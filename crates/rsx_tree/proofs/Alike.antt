@@ -1,5 +1,5 @@
 -- No move changes which calls of a tree's nodes may allocate.
-use Rattle.std.proofs.Common.{◌≡◌, inl, inr, ℕ, zero, suc, ◌+◌, ◌-◌, Bool, true, false, ◌||◌, ◌&&◌, refl, ap, sym, ◌∙◌, subst}
+use Rattle.std.proofs.Common.{◌≡◌, inl, inr, ℕ, zero, suc, ◌+◌, ◌-◌, Bool, true, false, ◌||◌, ◌&&◌, refl, ap, sym, ◌∙◌}
 use Rattle.std.proofs.lemmas.Bool.{or_from}
 use Rattle.rsx_sources.specs.Prelude.{Meaning, Allocates, front_of}
 use Rattle.rsx_sources.specs.declared.machine.Front.{Front}
@@ -10,7 +10,8 @@ use Rattle.rsx_tree.specs.declared.inputs.Inputs.{Inputs, End, More'}
 use Rattle.rsx_tree.specs.declared.node.Node.{Node}
 use Rattle.rsx_tree.specs.Allocates.{node_allocates, row_allocates, over_allocates, tree_allocates, IsNodeAlike, IsAlike}
 use Rattle.rsx_tree.specs.Changed.{Change, IsChanged, IsAskedOver, IsSentOver}
-use Rattle.rsx_tree.specs.Driven.{IsMade, IsRowRun, IsDriven}
+use Rattle.rsx_tree.specs.Driven.{IsMade, IsRowRun, IsRowStep, IsAdvanced, IsDriven}
+use Rattle.rsx_tree.proofs.Runs.{leads_by_keep}
 use Rattle.rsx_tree.specs.Edges.{edge_view, EdgeView, is_live, passed}
 use Rattle.rsx_tree.specs.Inputs.{size, is_own, closed_row, closed_row_if, send_over_allocates}
 use Rattle.rsx_tree.proofs.Readings.{ReadsOn, IsReadChange, IsReadStep, made_reads, tree_reads, tree_stepped_reads, closed_if_reads}
@@ -131,8 +132,8 @@ made_alike b m steps r i asked sent t at ends r' t' h a = elim h [
 ]
 
 pub run_alike : {M T : Type 0} (b : Machine M T) (m : Meaning T) (steps : Bool) (k i asked sent : ℕ) (r : M) (t : Inputs M) (r' : M) (t' : Inputs M) → IsRowRun b m steps k i asked sent r t r' t' → (a : Allocates) → over_allocates b a r' t' ≡ over_allocates b a r t
-run_alike b m steps zero i asked sent r t r' t' h a = over_alike b a r r' t t' (ap (node_allocates b a) h.0) (ap (row_allocates b a) h.1)
-run_alike b m steps (suc k) i asked sent r t r' t' h a = run_alike b m steps k i asked sent h.1 h.2 r' t' h.4 a ∙ made_alike b m steps r i asked sent t h.0 false h.1 h.2 h.3 a
+run_alike {M} b m steps k i asked sent r t r' t' h a =
+    leads_by_keep (IsRowStep b m steps i asked sent) (λ (x : M × Inputs M). over_allocates b a x.0 x.1 ≡ over_allocates b a r t) (λ x y s e. made_alike b m steps x.0 i asked sent x.1 s.0 false y.0 y.1 s.1 a ∙ e) k (r, t) (r', t') h refl
 
 -- a move leaves how far each node got
 pub reads_change : {M T : Type 0} (b : Machine M T) (P : Change M) → IsAlikeChange b P → IsReadChange b P
@@ -167,10 +168,8 @@ pub tree_stepped_alike : {M T : Type 0} (b : Machine M T) (P : Step M) → IsAli
 tree_stepped_alike b P alike ends old e at new h = (tree_stepped_allocates b P alike ends old e at new h, tree_stepped_reads b P (λ n asked sent n' p. (alike n asked sent n' p).0) ends old e at new h)
 
 pub driven_alike : {M T : Type 0} (b : Machine M T) (m : Meaning T) (steps : Bool) (k : ℕ) (old : Node M) (asked sent : ℕ) (new : Node M) → IsDriven b m steps k old asked sent new → IsAlike b old new
-driven_alike {M} b m steps zero old asked sent new h = let K : Node M → Type 0 = λ t. IsAlike b old t in subst K (sym h) (λ a. refl, λ counts r. r)
-driven_alike b m steps (suc k) old asked sent new h =
-    let rest = driven_alike b m steps k h.0 asked sent new h.2 in
-    (λ a. rest.0 a ∙ h.1.alike.0 a, λ counts r. rest.1 counts (h.1.alike.1 counts r))
+driven_alike {M} b m steps k old asked sent new h =
+    leads_by_keep (λ (x y : Node M). IsAdvanced b m steps x asked sent y) (λ t. IsAlike b old t) (λ x y s was. (λ a. s.alike.0 a ∙ was.0 a, λ counts r. s.alike.1 counts (was.1 counts r))) k old new h (λ a. refl, λ counts r. r)
 
 -- ---- no want of memory
 

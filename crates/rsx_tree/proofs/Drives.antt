@@ -14,7 +14,7 @@ use Rattle.rsx_tree.specs.Edges.{EdgeView}
 use Rattle.rsx_tree.specs.Inputs.{size, is_own, place, Place, closed_row_if, can_ask_in, can_send_in}
 use Rattle.rsx_tree.specs.Changed.{Change, IsChanged, IsAskedOver, IsSentOver, Hold}
 use Rattle.rsx_tree.specs.Stepped.{IsStepped, IsStepOf, IsStepOver, Step, Station, IsPickedHere, IsRowMadeHere, IsStill, station}
-use Rattle.rsx_tree.specs.Driven.{IsMade, IsRowRun, IsRowEnded, IsRowDriven, IsRowIdle, IsRestAt, IsRestOver, IsDriven, IsAdvanced, IsIdle}
+use Rattle.rsx_tree.specs.Driven.{IsMade, IsRowRun, IsRowStep, IsRowEnded, IsRowDriven, IsRowIdle, IsRestAt, IsRestOver, IsDriven, IsAdvanced, IsIdle}
 use Rattle.rsx_tree.specs.declared.edge.EdgeState.TheVariants.{Live}
 use Rattle.rsx_tree.specs.Chosen.{IsChosen}
 use Rattle.rsx_tree.proofs.Noted.{pick_notes, row_notes, step_noted, picked_noted, row_noted, kept_chosen, chosen_then}
@@ -23,6 +23,7 @@ use Rattle.rsx_tree.specs.Balance.{IsBalanced}
 use Rattle.rsx_tree.proofs.Balances.{tree_ask_balanced, tree_send_balanced}
 use Rattle.rsx_tree.proofs.Alike.{closed_alike, made_alike, reads_made, reads_closed_if, tree_alike}
 use Rattle.rsx_tree.proofs.Rows.{size_sent}
+use Rattle.rsx_tree.proofs.Runs.{leads_by_keep, leads_by_lift, leads_by_on}
 use Rattle.rsx_tree.proofs.Effects.{row_asked}
 use Rattle.rsx_tree.proofs.Changes.{Rest, chosen_first, chosen_second}
 
@@ -176,56 +177,38 @@ made_beside {M} b m steps r i asked sent e n p below q beside at ends r' beside'
 
 -- ---- runs
 
-pub run_then : {M T : Type 0} (b : Machine M T) (m : Meaning T) (steps : Bool) (n k i asked sent : ℕ) (r r1 r' : M) (t t1 t' : Inputs M) → IsRowRun b m steps n i asked sent r t r1 t1 → IsRowRun b m steps k i asked sent r1 t1 r' t' → IsRowRun b m steps (n + k) i asked sent r t r' t'
-run_then {M} b m steps zero k i asked sent r r1 r' t t1 t' first rest =
-    let R : M → Type 0 = λ x. IsRowRun b m steps k i asked sent x t1 r' t' in
-    let P : Inputs M → Type 0 = λ x. IsRowRun b m steps k i asked sent r x r' t' in
-    let Q : ℕ → Type 0 = λ j. IsRowRun b m steps j i asked sent r t r' t' in
-    let same : k ≡ 0 + k = omega arith in
-    subst Q same (subst P first.1 (subst R first.0 rest))
-run_then {M} b m steps (suc n) k i asked sent r r1 r' t t1 t' first rest =
-    let Q : ℕ → Type 0 = λ j. IsRowRun b m steps j i asked sent r t r' t' in
-    let more : IsRowRun b m steps (suc (n + k)) i asked sent r t r' t' = (first.0, first.1, first.2, first.3, run_then b m steps n k i asked sent first.1 r1 r' first.2 t1 t' first.4 rest) in
-    let same : suc (n + k) ≡ suc n + k = omega arith in
-    subst Q same more
-
-pub run_once : {M T : Type 0} (b : Machine M T) (m : Meaning T) (steps : Bool) (i asked sent at : ℕ) (r r' : M) (t t' : Inputs M) → IsMade b m steps r i asked sent t at false r' t' → IsRowRun b m steps 1 i asked sent r t r' t'
-run_once b m steps i asked sent at r r' t t' h = (at, r', t', h, (refl, refl))
-
 pub driven_then : {M T : Type 0} (b : Machine M T) (m : Meaning T) (steps : Bool) (n k : ℕ) (over : Bool) (i asked sent : ℕ) (r r1 r' : M) (t t1 t' : Inputs M) → IsRowRun b m steps n i asked sent r t r1 t1 → IsRowDriven b m steps k over i asked sent r1 t1 r' t' → IsRowDriven b m steps (n + k) over i asked sent r t r' t'
-driven_then b m steps n k false i asked sent r r1 r' t t1 t' first rest = run_then b m steps n k i asked sent r r1 r' t t1 t' first rest
+driven_then b m steps n k false i asked sent r r1 r' t t1 t' first rest = leads_by_on (IsRowStep b m steps i asked sent) n k (r, t) (r1, t1) (r', t') first rest
 driven_then b m steps n k true i asked sent r r1 r' t t1 t' first rest = record {
   before = n + rest.before;
   count = let c = rest.count in omega (arith, c);
   r1 = rest.r1;
   t1 = rest.t1;
   at = rest.at;
-  run = run_then b m steps n rest.before i asked sent r r1 rest.r1 t t1 rest.t1 first rest.run;
+  run = leads_by_on (IsRowStep b m steps i asked sent) n rest.before (r, t) (r1, t1) (rest.r1, rest.t1) first rest.run;
   last = rest.last;
 }
 
 -- a run below the first node
 pub run_below : {M T : Type 0} (b : Machine M T) (m : Meaning T) (steps : Bool) (k i asked sent : ℕ) (r : M) (e : Edge) (n n' : M) (p : Hold) (below below' : Inputs M) (q : Hold) (beside : Inputs M) →
     IsRowRun b m steps k 0 e.demand.asked e.demand.sent n below n' below' → IsRowRun b m steps k i asked sent r (More' e n p below q beside) r (More' e n' p below' q beside)
-run_below b m steps zero i asked sent r e n n' p below below' q beside h = (refl, ap (λ x. More' e x p below' q beside) h.0 ∙ ap (λ x. More' e n p x q beside) h.1)
-run_below b m steps (suc k) i asked sent r e n n' p below below' q beside h =
-    (h.0 + 1, r, More' e h.1 p h.2 q beside, made_below b m steps r i asked sent e n p below q beside h.0 false h.1 h.2 h.3, run_below b m steps k i asked sent r e h.1 n' p h.2 below' q beside h.4)
+run_below {M} b m steps k i asked sent r e n n' p below below' q beside h =
+    leads_by_lift (IsRowStep b m steps 0 e.demand.asked e.demand.sent) (IsRowStep b m steps i asked sent) (λ (x : M × Inputs M). (r, More' e x.0 p x.1 q beside)) (λ x y s. (s.0 + 1, made_below b m steps r i asked sent e x.0 p x.1 q beside s.0 false y.0 y.1 s.1)) k (n, below) (n', below') h
 
 pub driven_below : {M T : Type 0} (b : Machine M T) (m : Meaning T) (steps : Bool) (k : ℕ) (over : Bool) (i asked sent : ℕ) (r : M) (e : Edge) (n n' : M) (p : Hold) (below below' : Inputs M) (q : Hold) (beside : Inputs M) →
     IsRowDriven b m steps k over 0 e.demand.asked e.demand.sent n below n' below' → IsRowRun b m steps k i asked sent r (More' e n p below q beside) r (More' e n' p (closed_row_if over below') q beside)
 driven_below b m steps k false i asked sent r e n n' p below below' q beside h = run_below b m steps k i asked sent r e n n' p below below' q beside h
 driven_below {M} b m steps k true i asked sent r e n n' p below below' q beside h =
     let Q : ℕ → Type 0 = λ j. IsRowRun b m steps j i asked sent r (More' e n p below q beside) r (More' e n' p (closed_row_if true below') q beside) in
-    subst Q (sym h.count) (run_then b m steps h.before 1 i asked sent r r r (More' e n p below q beside) (More' e h.r1 p h.t1 q beside) (More' e n' p (closed_row_if true below') q beside)
+    subst Q (sym h.count) (leads_by_on (IsRowStep b m steps i asked sent) h.before 1 (r, (More' e n p below q beside)) (r, (More' e h.r1 p h.t1 q beside)) (r, (More' e n' p (closed_row_if true below') q beside))
     (run_below b m steps h.before i asked sent r e n h.r1 p below h.t1 q beside h.run)
-    (run_once b m steps i asked sent (h.at + 1) r r (More' e h.r1 p h.t1 q beside) (More' e n' p (closed_row_if true below') q beside) (made_below b m steps r i asked sent e h.r1 p h.t1 q beside h.at true n' below' h.last)))
+    (((r, More' e n' p (closed_row_if true below') q beside), ((h.at + 1), made_below b m steps r i asked sent e h.r1 p h.t1 q beside h.at true n' below' h.last), refl)))
 
 -- a run of the inputs beside the first
 pub run_beside : {M T : Type 0} (b : Machine M T) (m : Meaning T) (steps : Bool) (k i asked sent : ℕ) (r r' : M) (e : Edge) (n : M) (p : Hold) (below : Inputs M) (q : Hold) (beside beside' : Inputs M) →
     IsRowRun b m steps k (i + 1) asked sent r beside r' beside' → IsRowRun b m steps k i asked sent r (More' e n p below q beside) r' (More' e n p below q beside')
-run_beside b m steps zero i asked sent r r' e n p below q beside beside' h = (h.0, ap (λ x. More' e n p below q x) h.1)
-run_beside b m steps (suc k) i asked sent r r' e n p below q beside beside' h =
-    (h.0 + 1 + size below, h.1, More' e n p below q h.2, made_beside b m steps r i asked sent e n p below q beside h.0 false h.1 h.2 h.3, run_beside b m steps k i asked sent h.1 r' e n p below q h.2 beside' h.4)
+run_beside {M} b m steps k i asked sent r r' e n p below q beside beside' h =
+    leads_by_lift (IsRowStep b m steps (i + 1) asked sent) (IsRowStep b m steps i asked sent) (λ (x : M × Inputs M). (x.0, More' e n p below q x.1)) (λ x y s. (s.0 + 1 + size below, made_beside b m steps x.0 i asked sent e n p below q x.1 s.0 false y.0 y.1 s.1)) k (r, beside) (r', beside') h
 
 pub driven_beside : {M T : Type 0} (b : Machine M T) (m : Meaning T) (steps : Bool) (k : ℕ) (over : Bool) (i asked sent : ℕ) (r r' : M) (e : Edge) (n : M) (p : Hold) (below : Inputs M) (q : Hold) (beside beside' : Inputs M) →
     IsRowDriven b m steps k over (i + 1) asked sent r beside r' beside' → IsRowDriven b m steps k over i asked sent r (More' e n p below q beside) r' (More' e n p below q beside')
@@ -292,8 +275,8 @@ under_way_made {M} b m steps i asked sent budget left r0 t0 r r' e e' n n' below
     record {
       count = u.count + 1;
       spent = let q = u.spent in omega (arith, q, some);
-      run = run_then b m steps u.count 1 i asked sent r0 r r' t0 (More e n below beside) (More e' n' (with_value below new) beside) u.run
-          (run_once b m steps i asked sent 0 r r' (More e n below beside) (More e' n' (with_value below new) beside) (subst W at (h P Q beside.value)));
+      run = leads_by_on (IsRowStep b m steps i asked sent) u.count 1 (r0, t0) (r, (More e n below beside)) (r', (More e' n' (with_value below new) beside)) u.run
+          (((r', More e' n' (with_value below new) beside), (0, subst W at (h P Q beside.value)), refl));
     }
 
 -- a last move over the edge, by which the receiver ended
@@ -335,7 +318,7 @@ under_way_below {M} b m steps i asked sent budget left left' k over r0 t0 r r' e
     record {
       count = u.count + k;
       spent = let q = u.spent in omega (arith, q, spent);
-      run = run_then b m steps u.count k i asked sent r0 r' r' t0 (More e' n1 below beside) (More e' n' (with_value below new) beside) (subst N (sym same_n) (subst E (sym same_e) (subst R (sym same_r) u.run))) (subst S (sym shut) more);
+      run = leads_by_on (IsRowStep b m steps i asked sent) u.count k (r0, t0) (r', (More e' n1 below beside)) (r', (More e' n' (with_value below new) beside)) (subst N (sym same_n) (subst E (sym same_e) (subst R (sym same_r) u.run))) (subst S (sym shut) more);
     }
 
 -- a run of the inputs beside
@@ -356,7 +339,7 @@ over_beside {M} b m steps i next asked sent budget left left' k over r0 t0 r r' 
 
 -- a run of no moves
 pub nothing_done : {M T : Type 0} (b : Machine M T) (m : Meaning T) (steps : Bool) (k : ℕ) (over : Bool) (i asked sent : ℕ) (r r' : M) (t t' : Inputs M) → k ≡ 0 → IsRowDriven b m steps k over i asked sent r t r' t' → (over ≡ false) × (r' ≡ r) × (t' ≡ t)
-nothing_done b m steps zero false i asked sent r r' t t' z h = (refl, h.0, h.1)
+nothing_done b m steps zero false i asked sent r r' t t' z h = (refl, ap (λ x. x.0) h, ap (λ x. x.1) h)
 nothing_done b m steps (suc k) false i asked sent r r' t t' z h = cc
 nothing_done b m steps k true i asked sent r r' t t' z h = let c = h.count in absurd (omega (arith, z, c))
 
@@ -406,18 +389,20 @@ still_some false (suc k) e = omega arith
 
 -- ---- a run leaves as many nodes
 
-pub size_run : {M T : Type 0} (b : Machine M T) (m : Meaning T) (steps : Bool) (k i asked sent : ℕ) (r r' : M) (t t' : Inputs M) → IsRowRun b m steps k i asked sent r t r' t' → size t' ≡ size t
-size_run b m steps zero i asked sent r r' t t' h = ap size h.1
-size_run b m steps (suc k) i asked sent r r' t t' h = size_run b m steps k i asked sent h.1 r' h.2 t' h.4 ∙ elim h.3 [
-  | inl x ↦ (row_asked b (λ n. false) r i asked sent t h.0 h.1 h.2 (λ n. refl) x.made).size
+size_made : {M T : Type 0} (b : Machine M T) (m : Meaning T) (steps : Bool) (r : M) (i asked sent : ℕ) (t : Inputs M) (at : ℕ) (r' : M) (t' : Inputs M) → IsMade b m steps r i asked sent t at false r' t' → size t' ≡ size t
+size_made b m steps r i asked sent t at r' t' h = elim h [
+  | inl x ↦ (row_asked b (λ n. false) r i asked sent t at r' t' (λ n. refl) x.made).size
   | inr y ↦ elim y [
-    | inl x ↦ size_sent b m b.ended r i asked sent t h.0 h.1 h.2 (x.made asked sent)
+    | inl x ↦ size_sent b m b.ended r i asked sent t at r' t' (x.made asked sent)
     | inr z ↦ elim z.1.made [
-      | inl x ↦ (step_noted b m (IsPickedHere b m x.0) (λ n k. note_then (b.recording n x.0) k) (λ n k. note_then k (b.recording n x.0)) (pick_notes b m x.0) t h.0 h.2 x.1).size
-      | inr x ↦ (step_noted b m (IsRowMadeHere b m) (λ n k. k) (λ n k. k) (row_notes b m) t h.0 h.2 x).size
+      | inl x ↦ (step_noted b m (IsPickedHere b m x.0) (λ n k. note_then (b.recording n x.0) k) (λ n k. note_then k (b.recording n x.0)) (pick_notes b m x.0) t at t' x.1).size
+      | inr x ↦ (step_noted b m (IsRowMadeHere b m) (λ n k. k) (λ n k. k) (row_notes b m) t at t' x).size
     ]
   ]
 ]
+
+pub size_run : {M T : Type 0} (b : Machine M T) (m : Meaning T) (steps : Bool) (k i asked sent : ℕ) (r r' : M) (t t' : Inputs M) → IsRowRun b m steps k i asked sent r t r' t' → size t' ≡ size t
+size_run {M} b m steps k i asked sent r r' t t' h = leads_by_keep (IsRowStep b m steps i asked sent) (λ (x : M × Inputs M). size x.1 ≡ size t) (λ x y s e. size_made b m steps x.0 i asked sent x.1 s.0 y.0 y.1 s.1 ∙ e) k (r, t) (r', t') h refl
 
 -- ---- a tree
 
@@ -494,37 +479,23 @@ advanced {M} b m steps r r' asked sent at ends t mid h = elim h [
 ]
 
 pub tree_run : {M T : Type 0} (b : Machine M T) (m : Meaning T) (steps : Bool) (k asked sent : ℕ) (r r' : M) (t t' : Inputs M) → IsRowRun b m steps k 0 asked sent r t r' t' → IsDriven b m steps k (node r t) asked sent (node r' t')
-tree_run b m steps zero asked sent r r' t t' h = ap (λ x. node x t') h.0 ∙ ap (λ x. node r x) h.1
-tree_run b m steps (suc k) asked sent r r' t t' h = (node h.1 h.2, advanced b m steps r h.1 asked sent h.0 false t h.2 h.3, tree_run b m steps k asked sent h.1 r' h.2 t' h.4)
-
-pub tree_then : {M T : Type 0} (b : Machine M T) (m : Meaning T) (steps : Bool) (n k : ℕ) (x y z : Node M) (asked sent : ℕ) → IsDriven b m steps n x asked sent y → IsDriven b m steps k y asked sent z → IsDriven b m steps (n + k) x asked sent z
-tree_then {M} b m steps zero k x y z asked sent first rest =
-    let P : Node M → Type 0 = λ t. IsDriven b m steps k t asked sent z in
-    let Q : ℕ → Type 0 = λ j. IsDriven b m steps j x asked sent z in
-    let same : k ≡ 0 + k = omega arith in
-    subst Q same (subst P first rest)
-tree_then {M} b m steps (suc n) k x y z asked sent first rest =
-    let Q : ℕ → Type 0 = λ j. IsDriven b m steps j x asked sent z in
-    let more : IsDriven b m steps (suc (n + k)) x asked sent z = (first.0, first.1, tree_then b m steps n k first.0 y z asked sent first.2 rest) in
-    let same : suc (n + k) ≡ suc n + k = omega arith in
-    subst Q same more
+tree_run {M} b m steps k asked sent r r' t t' h =
+    leads_by_lift (IsRowStep b m steps 0 asked sent) (λ (x y : Node M). IsAdvanced b m steps x asked sent y) (λ (x : M × Inputs M). node x.0 x.1) (λ x y s. advanced b m steps x.0 y.0 asked sent s.0 false x.1 y.1 s.1) k (r, t) (r', t') h
 
 pub tree_driven : {M T : Type 0} (b : Machine M T) (m : Meaning T) (steps : Bool) (k : ℕ) (over : Bool) (asked sent : ℕ) (r r' : M) (t t' : Inputs M) → IsRowDriven b m steps k over 0 asked sent r t r' t' → IsDriven b m steps k (node r t) asked sent (node r' (closed_row_if over t'))
 tree_driven b m steps k false asked sent r r' t t' h = tree_run b m steps k asked sent r r' t t' h
 tree_driven {M} b m steps k true asked sent r r' t t' h =
     let Q : ℕ → Type 0 = λ j. IsDriven b m steps j (node r t) asked sent (node r' (closed_row_if true t')) in
-    subst Q (sym h.count) (tree_then b m steps h.before 1 (node r t) (node h.r1 h.t1) (node r' (closed_row_if true t')) asked sent (tree_run b m steps h.before asked sent r h.r1 t h.t1 h.run) (node r' (closed_row_if true t'), advanced b m steps h.r1 r' asked sent h.at true h.t1 t' h.last, refl))
+    subst Q (sym h.count) (leads_by_on (λ (u v : Node M). IsAdvanced b m steps u asked sent v) h.before 1 (node r t) (node h.r1 h.t1) (node r' (closed_row_if true t')) (tree_run b m steps h.before asked sent r h.r1 t h.t1 h.run) (node r' (closed_row_if true t'), advanced b m steps h.r1 r' asked sent h.at true h.t1 t' h.last, refl))
 
 none_chosen : {M T : Type 0} (b : Machine M T) (m : Meaning T) (x : Node M) → IsChosen b m x x
 none_chosen b m x = kept_chosen b m x x (record { value = λ hubs further at. refl; notes = refl })
 
 pub chosen_run : {M T : Type 0} (b : Machine M T) (m : Meaning T) (steps : Bool) (k : ℕ) (x y : Node M) (asked sent : ℕ) → IsDriven b m steps k x asked sent y → IsChosen b m x y
-chosen_run {M} b m steps zero x y asked sent h = let Q : Node M → Type 0 = λ t. IsChosen b m x t in subst Q (sym h) (none_chosen b m x)
-chosen_run b m steps (suc k) x y asked sent h = chosen_then b m x h.0 y h.1.chosen (chosen_run b m steps k h.0 y asked sent h.2)
+chosen_run {M} b m steps k x y asked sent h = leads_by_keep (λ (u v : Node M). IsAdvanced b m steps u asked sent v) (λ t. IsChosen b m x t) (λ u v s was. chosen_then b m x u v was s.chosen) k x y h (none_chosen b m x)
 
 pub balance_run : {M T : Type 0} (b : Machine M T) (m : Meaning T) (steps : Bool) (k : ℕ) (x y : Node M) (asked sent : ℕ) → IsDriven b m steps k x asked sent y → (s : ℕ) → IsBalanced b x s → IsBalanced b y s
-balance_run {M} b m steps zero x y asked sent h s w = let Q : Node M → Type 0 = λ t. IsBalanced b t s in subst Q (sym h) w
-balance_run b m steps (suc k) x y asked sent h s w = balance_run b m steps k h.0 y asked sent h.2 s (h.1.balance s w)
+balance_run {M} b m steps k x y asked sent h s w = leads_by_keep (λ (u v : Node M). IsAdvanced b m steps u asked sent v) (λ t. IsBalanced b t s) (λ u v a was. a.balance s was) k x y h w
 
 pub tree_begun : {M T : Type 0} (b : Machine M T) (m : Meaning T) (steps : Bool) (x : Node M) (asked sent budget : ℕ) → IsTreeUnderWay b m steps x asked sent budget budget x
 tree_begun b m steps x asked sent budget = record { count = 0; spent = omega arith; run = refl; chosen = none_chosen b m x; balance = λ s k. k }
@@ -533,7 +504,7 @@ pub tree_under_way : {M T : Type 0} (b : Machine M T) (m : Meaning T) (steps : B
     IsTreeUnderWay b m steps x asked sent budget left (node r t) → k + left' ≡ left → IsRowDriven b m steps k over 0 asked sent r t r' now → new ≡ closed_row_if over now → IsTreeUnderWay b m steps x asked sent budget left' (node r' new)
 tree_under_way {M} b m steps x asked sent budget left left' k over r r' t now new u spent h shut =
     let Q : Inputs M → Type 0 = λ z. IsDriven b m steps (u.count + k) x asked sent (node r' z) in
-    let run : IsDriven b m steps (u.count + k) x asked sent (node r' new) = subst Q (sym shut) (tree_then b m steps u.count k x (node r t) (node r' (closed_row_if over now)) asked sent u.run (tree_driven b m steps k over asked sent r r' t now h)) in
+    let run : IsDriven b m steps (u.count + k) x asked sent (node r' new) = subst Q (sym shut) (leads_by_on (λ (u v : Node M). IsAdvanced b m steps u asked sent v) u.count k x (node r t) (node r' (closed_row_if over now)) u.run (tree_driven b m steps k over asked sent r r' t now h)) in
     record { count = u.count + k; spent = let q = u.spent in omega (arith, q, spent); run = run; chosen = chosen_run b m steps (u.count + k) x (node r' new) asked sent run; balance = balance_run b m steps (u.count + k) x (node r' new) asked sent run }
 
 -- a pass that made no move found none

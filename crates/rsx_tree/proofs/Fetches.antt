@@ -13,13 +13,14 @@ use Rattle.rsx_tree.specs.Edges.{edge_view, can_pass, passed}
 use Rattle.rsx_tree.specs.Inputs.{size, can_go}
 use Rattle.rsx_tree.specs.Allocates.{IsNodeAlike}
 use Rattle.rsx_tree.specs.Changed.{Hold, IsSentOver}
-use Rattle.rsx_tree.specs.Driven.{IsRowRun}
+use Rattle.rsx_tree.specs.Driven.{IsRowRun, IsRowStep}
 use Rattle.rsx_tree.specs.Fetched.{IsOut, IsHanded, IsPulled, IsRunOver, IsRowFetched, IsLed, IsFetched, IsStepOut}
 use Rattle.rsx_tree.specs.Tree.{IsLetGo}
 use Rattle.rsx_tree.proofs.Alike.{driven_alike}
 use Rattle.rsx_tree.proofs.Changes.{Rest}
 use Rattle.rsx_tree.specs.Stepped.{IsStepOf, IsStepOver}
-use Rattle.rsx_tree.proofs.Drives.{IsUnderWay, under_way_sent, step_here, run_then, run_once, run_below, run_beside, tree_run, chosen_run, balance_run, size_run}
+use Rattle.rsx_tree.proofs.Drives.{IsUnderWay, under_way_sent, step_here, run_below, run_beside, tree_run, chosen_run, balance_run, size_run}
+use Rattle.rsx_tree.proofs.Runs.{leads_by_on}
 use Rattle.rsx_tree.proofs.Trees.{node, popped_tree}
 
 -- ---- one edge
@@ -69,7 +70,7 @@ run_over {M} b m i asked sent budget left left' k r0 t0 r e n n' below beside wa
     record {
       count = u.count + k;
       spent = let q = u.spent in omega (arith, q, spent);
-      run = run_then b m true u.count k i asked sent r0 r r t0 (More e n below beside) (More e n' (with_value below now) beside) u.run (subst W at (h r i asked sent P Q beside.value));
+      run = leads_by_on (IsRowStep b m true i asked sent) u.count k (r0, t0) (r, (More e n below beside)) (r, (More e n' (with_value below now) beside)) u.run (subst W at (h r i asked sent P Q beside.value));
     }
 
 under_way_handed : {M T : Type 0} (b : Machine M T) (m : Meaning T) (i asked sent budget left left' : ℕ) (r0 : M) (t0 : Inputs M) (r r' : M) (e e' : Edge) (n n' : M) (below beside : Rest M) →
@@ -111,7 +112,7 @@ pulled_step {M} b m budget e n n1 n' below was below' some same at h =
       1,
       omega (arith, some),
       omega (arith, some),
-      λ r i asked sent p q beside. run_once b m true i asked sent 0 r r (More' e n1 p was q beside) (More' e n' p below' q beside) (step_here b m i asked sent r e n1 n' was below' h p q beside),
+      λ r i asked sent p q beside. ((r, More' e n' p below' q beside), (0, step_here b m i asked sent r e n1 n' was below' h p q beside), refl),
     ))
 
 -- a step of it was made, and the item that then waited went out
@@ -122,7 +123,7 @@ pulled_step_out {M} b m budget e n n1 n' below below' x some same h =
       1,
       h.0,
       omega (arith, some),
-      λ r i asked sent p q beside. run_once b m true i asked sent 0 r r (More' e n1 p below q beside) (More' e h.0 p below' q beside) (step_here b m i asked sent r e n1 h.0 below below' h.1 p q beside),
+      λ r i asked sent p q beside. ((r, More' e h.0 p below' q beside), (0, step_here b m i asked sent r e n1 h.0 below below' h.1 p q beside), refl),
       h.2,
     )
 
@@ -151,11 +152,11 @@ pub fetched_then : {M T : Type 0} (b : Machine M T) (m : Meaning T) (i asked sen
 fetched_then b m i asked sent budget left left' r r1 r' t t1 t' (Some x) h k =
     let a = h.1 in
     let c = k.2 in
-    (h.0 + k.0, k.1, omega (arith, a, c), run_then b m true h.0 k.0 i asked sent r r1 k.1 t t1 t' h.2 k.3, k.4)
+    (h.0 + k.0, k.1, omega (arith, a, c), leads_by_on (IsRowStep b m true i asked sent) h.0 k.0 (r, t) (r1, t1) (k.1, t') h.2 k.3, k.4)
 fetched_then b m i asked sent budget left left' r r1 r' t t1 t' None h k =
     let a = h.1 in
     let c = k.1 in
-    (h.0 + k.0, omega (arith, a, c), run_then b m true h.0 k.0 i asked sent r r1 r' t t1 t' h.2 k.2)
+    (h.0 + k.0, omega (arith, a, c), leads_by_on (IsRowStep b m true i asked sent) h.0 k.0 (r, t) (r1, t1) (r', t') h.2 k.2)
 
 -- a run of the inputs beside the first
 pub fetched_beside : {M T : Type 0} (b : Machine M T) (m : Meaning T) (i next asked sent budget left : ℕ) (r r' : M) (e : Edge) (n : M) (below beside : Rest M) (was now : Inputs M) (o : Option T) →
@@ -185,7 +186,7 @@ item_out b m n n' t x h = popped_tree b m n n' t (Some (Next x)) (h.0.waited, h.
 
 -- the root offered an item already
 pub fetched_at_once : {M T : Type 0} (b : Machine M T) (m : Meaning T) (asked sent budget : ℕ) (r r' : M) (t : Inputs M) (x : T) → IsOut b m r x r' → IsFetched b m budget (node r t) asked sent (Some x) budget (node r' t)
-fetched_at_once b m asked sent budget r r' t x h = (node r t, led b m 0 asked sent budget budget r r t t (omega arith) (refl, refl), item_out b m r r' t x h)
+fetched_at_once b m asked sent budget r r' t x h = (node r t, led b m 0 asked sent budget budget r r t t (omega arith) refl, item_out b m r r' t x h)
 
 pub fetched_tree : {M T : Type 0} (b : Machine M T) (m : Meaning T) (asked sent budget left : ℕ) (r0 r r' : M) (t t' : Inputs M) (o : Option T) → r ≡ r0 → IsRowFetched b m budget 0 asked sent r t o left r' t' → IsFetched b m budget (node r0 t) asked sent o left (node r' t')
 fetched_tree {M} b m asked sent budget left r0 r r' t t' (Some x) same h =

@@ -1,16 +1,14 @@
 -- How a step of one node is put together from a step below a node, or beside it.
 use Rattle.std.proofs.Common.{◌≡◌, inl, inr, ℕ, zero, suc, ◌-◌, ◌<◌, ◌≤◌, min, Bool, true, ◌&&◌, refl, ap, sym, ◌∙◌, subst, arith}
 use Rattle.std.specs.Box.{with_value}
-use Rattle.std.proofs.lemmas.Bool.{le-leb, lt-leb}
-use Rattle.rsx_types.proofs.Numbers.{not_zero}
 use Rattle.rsx_tree.specs.declared.edge.Edge.{Edge}
 use Rattle.rsx_tree.specs.declared.inputs.Inputs.{Inputs}
 use Rattle.rsx_tree.specs.declared.inputs.Inputs.TheViews.{More}
 use Rattle.rsx_tree.specs.declared.node.Node.{Node}
 use Rattle.rsx_tree.specs.Edges.{EdgeView, edge_view}
 use Rattle.rsx_tree.specs.Inputs.{size, closed_row_if}
-use Rattle.rsx_tree.specs.Stepped.{Step, IsStepOver, IsStepped, IsSteppedAt, station, station_of}
-use Rattle.rsx_tree.proofs.Changes.{Rest, chosen_first, chosen_second, counted_all, counted_some}
+use Rattle.rsx_tree.specs.Stepped.{Step, IsStepOver, IsStepped, IsSteppedAt}
+use Rattle.rsx_tree.proofs.Changes.{Rest, counted_all, counted_some}
 
 pub stepped_here : {M : Type 0} (P : Step M) (ends : M → Bool) (old : Inputs M) (e : Edge) (n n' : M) (below beside : Rest M) (was new : Inputs M) (at : ℕ) → old ≡ More e n below beside → was ≡ below.value → at ≡ 0 → IsStepOver P ends e n was n' new → IsStepped P ends old at (More e n' (with_value below new) beside)
 stepped_here {M} P ends old e n n' below beside was new at is w z h =

@@ -1,5 +1,5 @@
 -- Runs of moves, one after the other.
-use Rattle.std.specs.Prelude.{◌≡◌, ◌⊎◌, ℕ, zero, suc, ◌+◌, ◌<◌, ◌≤◌, ◌^◌, Bool, true, false, ◌&&◌, Some, Result, Ok, Err}
+use Rattle.std.specs.Prelude.{◌≡◌, ◌⊎◌, ℕ, ◌+◌, ◌<◌, ◌≤◌, ◌^◌, Bool, true, false, ◌&&◌, Some, Result, Ok, Err}
 use Rattle.rsx_types.specs.Meaning.{Meaning}
 use Rattle.rsx_sources.specs.declared.machine.Machine.{Ghosts as Machine}
 use Rattle.rsx_tree.specs.declared.edge.Edge.{Edge}
@@ -12,6 +12,7 @@ use Rattle.rsx_tree.specs.Allocates.{IsAlike}
 use Rattle.rsx_tree.specs.Balance.{IsBalanced}
 use Rattle.rsx_tree.specs.Changed.{Hold, IsAskedIn, IsSentIn}
 use Rattle.rsx_tree.specs.Chosen.{IsChosen}
+use Rattle.rsx_tree.specs.Runs.{LeadsBy}
 use Rattle.rsx_tree.specs.Stepped.{IsStepped, IsPickedHere, IsRowMadeHere, IsStill, over, station}
 use Rattle.rsx_tree.specs.Tree.{IsKept, IsAskedAt, IsSentAt, can_ask, can_send}
 
@@ -41,11 +42,13 @@ abbrev pub IsMadeOver : {M T : Type 0} → Machine M T → Meaning T → M → �
 IsMadeOver {M} b m r i asked sent e n below ends r' e' n' below' =
     (p q : Hold) (beside : Inputs M) → IsMade b m true r i asked sent (More' e n p below q beside) 0 ends r' (More' e' n' p below' q beside)
 
+-- some move of a row, by which its receiver didn't end, leads from one receiver and row to others
+abbrev pub IsRowStep : {M T : Type 0} → Machine M T → Meaning T → Bool → ℕ → ℕ → ℕ → M × Inputs M → M × Inputs M → Type 0
+IsRowStep b m steps i asked sent x y = (at : ℕ) × IsMade b m steps x.0 i asked sent x.1 at false y.0 y.1
+
 -- so many moves of the row, by none of which its receiver ended
 abbrev pub IsRowRun : {M T : Type 0} → Machine M T → Meaning T → Bool → ℕ → ℕ → ℕ → ℕ → M → Inputs M → M → Inputs M → Type 0
-IsRowRun b m steps zero i asked sent r t r' t' = (r' ≡ r) × (t' ≡ t)
-IsRowRun {M} b m steps (suc n) i asked sent r t r' t' =
-    (at : ℕ) × (r1 : M) × (t1 : Inputs M) × IsMade b m steps r i asked sent t at false r1 t1 × IsRowRun b m steps n i asked sent r1 t1 r' t'
+IsRowRun b m steps n i asked sent r t r' t' = LeadsBy (IsRowStep b m steps i asked sent) n (r, t) (r', t')
 
 -- so many moves and then one by which the receiver of the row ended
 pub record IsRowEnded {M T : Type 0} (b : Machine M T) (m : Meaning T) (steps : Bool) (n i asked sent : ℕ) (r : M) (t : Inputs M) (r' : M) (t' : Inputs M) : Type 0 where
@@ -111,8 +114,7 @@ pub record IsAdvanced {M T : Type 0} (b : Machine M T) (m : Meaning T) (steps : 
 
 -- so many enabled moves lead from the first tree to the second
 abbrev pub IsDriven : {M T : Type 0} → Machine M T → Meaning T → Bool → ℕ → Node M → ℕ → ℕ → Node M → Type 0
-IsDriven b m steps zero old asked sent new = new ≡ old
-IsDriven {M} b m steps (suc n) old asked sent new = (mid : Node M) × IsAdvanced b m steps old asked sent mid × IsDriven b m steps n mid asked sent new
+IsDriven b m steps n old asked sent new = LeadsBy (λ x y. IsAdvanced b m steps x asked sent y) n old new
 
 -- over the edge `at` below the root neither an Ask nor a Send is enabled, nor a step of its node
 abbrev pub IsIdleAt : {M T : Type 0} → Machine M T → Meaning T → Node M → ℕ → ℕ → ℕ → Type 0
