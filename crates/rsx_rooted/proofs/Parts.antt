@@ -1,7 +1,7 @@
 -- How each move keeps what a part stands for.
-use Rattle.std.proofs.Common.{◌≡◌, ◌⊎◌, inl, inr, ℕ, zero, suc, ◌+◌, ◌-◌, ◌<◌, ◌≤◌, min, Bool, true, false, ◌&&◌, nat_eq, nat_lt, if◌then◌else◌, List, [], ◌∷◌, ◌++◌, length, length-append, take, map, option_map, Option, Some, None, Ok, refl, ap, sym, ◌∙◌, subst, arith, append_assoc, add-zero}
+use Rattle.std.proofs.Common.{◌≡◌, ◌⊎◌, inl, inr, ℕ, zero, suc, ◌+◌, ◌-◌, ◌<◌, ◌≤◌, min, Bool, true, false, ◌&&◌, nat_eq, nat_lt, if◌then◌else◌, List, [], ◌∷◌, ◌++◌, length, length-append, replicate, take, map, option_map, Option, Some, None, Ok, refl, ap, sym, ◌∙◌, subst, arith, append_assoc, add-zero}
 use Rattle.std.proofs.lemmas.Bool.Decides.{nat_tests}
-use Rattle.std.proofs.lemmas.List.{append-nil, take_all}
+use Rattle.std.proofs.lemmas.List.{append-nil, length-replicate, take_all}
 use Rattle.std.proofs.lemmas.Bool.{both_ways, and_parts}
 use Rattle.rsx_types.proofs.Numbers.{not_zero}
 use Rattle.rsx_model.specs.declared.check.TheConstants.{MOST_NODES}
@@ -10,7 +10,7 @@ use Rattle.rsx_model.specs.declared.expr.Expr.{Expr}
 use Rattle.rsx_sources.specs.declared.machine.Front.{Front}
 use Rattle.rsx_tree.specs.Prelude.{IsTreeReadAt, changed_at, asked_up_to, edge_view, EdgeView, passed, closed_view, closed_state, IsSteppedAt, IsPickedHere, IsRowMadeHere, over, station_of, node_allocates, IsStepEnabled, wanted_at, edges as edges_in}
 use Rattle.rsx_rooted.specs.Output.{counts_in, items_in, IsUnended, values_then}
-use Rattle.rsx_rooted.specs.Rooted.{Stands, IsPutOut, IsRootSent, IsMade, IsMoved, IsMovedBy, IsPumped, IsQuiet, IsSpent, HasEnded, IsAsk, IsSend, IsEffect, IsTreeSent, GoesOut, sent_at, send_enabled, move_enabled, has_room, make_allocates, evaluated, pump_allocates, IsPick, IsRow}
+use Rattle.rsx_rooted.specs.Rooted.{Stands, IsPutOut, IsRootSent, IsMade, IsMoved, IsMovedBy, IsMovedOver, IsPumped, IsQuiet, IsSpent, HasEnded, IsAsk, IsSend, IsEffect, IsTreeSent, GoesOut, sent_at, send_enabled, move_enabled, has_room, make_allocates, evaluated, pump_allocates, IsPick, IsRow}
 use Rattle.rsx_rooted.specs.Tree.{comes_out, notes, offers, edges, edges_after, can_ask, can_send, can_go, want_at, want_in, front_at, front_in, ended_at, IsAllClosed, IsKept, IsAlike, step_allocates, IsAdvanced, IsAskedAt, IsSentAt, IsChosen, IsDriven, IsIdle, IsBalanced, IsBalancedAfter, pop_allocates, IsStill}
 use Rattle.rsx_tree.specs.declared.look.NodeMove.{NodeMove}
 use Rattle.rsx_tree.specs.declared.look.NodeMove.TheVariants.{Ask, Send, Pick, Row}
@@ -26,6 +26,8 @@ use Rattle.rsx_sources.specs.declared.machine.NotMade.{NotMade}
 use Rattle.rsx_sources.specs.declared.machine.NotMade.TheVariants.{NotEnabled}
 use Rattle.rsx_tree.proofs.Alike.{or_right, driven_alike, or_left}
 use Rattle.rsx_tree.proofs.Drives.{chosen_run}
+use Rattle.rsx_tree.proofs.Runs.{gives_none, gives_on, gives_one, leads_silent}
+use Rattle.rsx_tree.specs.Runs.{Unlabelled}
 use Rattle.rsx_tree.proofs.Noted.{kept_chosen, picked_effect, picked_enabled, row_effect, row_enabled as row_made_enabled}
 use Rattle.rsx_tree.proofs.Changes.{chosen_second}
 use Rattle.rsx_tree.proofs.Idles.{can_pass_live, live_still, place_none, station_none}
@@ -193,27 +195,14 @@ put_out_on {T = T} b m a mid c first rest x y published e joins output h =
 
 -- ---- many moves
 
-pub moved_on : {M T : Type 0} (b : Machine M T) (m : Meaning T) (n k : ℕ) (a mid c : Rooted M) (q q' q'' : List (Signal T)) (ds es : List (Signal T)) → IsMovedBy b m n a q ds mid q' → IsMovedBy b m k mid q' es c q'' → IsMovedBy b m (n + k) a q (ds ++ es) c q''
-moved_on {M = M} {T = T} b m zero k a mid c q q' q'' ds es x y =
-    let P : Rooted M → Type 0 = λ s. IsMovedBy b m k s q' es c q'' in
-    let Q : List (Signal T) → Type 0 = λ l. IsMovedBy b m k a l es c q'' in
-    let D : List (Signal T) → Type 0 = λ l. IsMovedBy b m k a q (l ++ es) c q'' in
-    let R : ℕ → Type 0 = λ i. IsMovedBy b m i a q (ds ++ es) c q'' in
-    let none : k ≡ 0 + k = omega arith in
-    subst R none (subst D (sym x.0) (subst Q x.2 (subst P x.1 y)))
-moved_on {M = M} {T = T} b m (suc n) k a mid c q q' q'' ds es x y =
-    let R : ℕ → Type 0 = λ i. IsMovedBy b m i a q (ds ++ es) c q'' in
-    let more : suc (n + k) ≡ suc n + k = omega arith in
-    subst R more (x.0, x.1, x.2, x.3 ++ es, x.4, moved_on b m n k x.0 mid c x.2 q' q'' x.3 es x.5 y, ap (λ l. l ++ es) x.6 ∙ append_assoc x.1 x.3 es)
-
 pub pumped_none : {M T : Type 0} (b : Machine M T) (m : Meaning T) (part : Rooted M) (queue : List (Signal T)) → IsPumped b m 0 part queue part queue
-pumped_none b m part queue = record { out = []; queued = sym (append-nil queue); moves = (refl, refl, refl); stands = put_out_none b m part; asked = refl; unclosed = λ h. h; alike = (λ a. refl, λ counts h. h) }
+pumped_none b m part queue = record { out = []; queued = sym (append-nil queue); moves = gives_none (IsMovedOver b m) (λ o. o) (part, queue) (part, queue) refl; stands = put_out_none b m part; asked = refl; unclosed = λ h. h; alike = (λ a. refl, λ counts h. h) }
 
 pub pumped_on : {M T : Type 0} (b : Machine M T) (m : Meaning T) (n k : ℕ) (a mid c : Rooted M) (q q' q'' : List (Signal T)) → IsPumped b m n a q mid q' → IsPumped b m k mid q' c q'' → IsPumped b m (n + k) a q c q''
 pumped_on b m n k a mid c q q' q'' x y = record {
   out = x.out ++ y.out;
   queued = y.queued ∙ (ap (λ l. l ++ y.out) x.queued ∙ append_assoc q x.out y.out);
-  moves = moved_on b m n k a mid c q q' q'' x.out y.out x.moves y.moves;
+  moves = gives_on (IsMovedOver b m) (λ o. o) n k (a, q) (mid, q') (c, q'') x.out y.out x.moves y.moves;
   stands = put_out_on b m a mid c x.out y.out x.stands y.stands;
   asked = y.asked ∙ x.asked;
   unclosed = λ h. y.unclosed (x.unclosed h);
@@ -278,7 +267,7 @@ pub pumped_root : {M T : Type 0} (b : Machine M T) (m : Meaning T) (old new : Ro
 pumped_root b m old new queue queue' k = record {
   out = k.signal ∷ [];
   queued = k.queued;
-  moves = (new, k.signal ∷ [], queue', [], moved_root b m old new queue queue' k, (refl, refl, refl), refl);
+  moves = gives_one (IsMovedOver b m) (λ o. o) (old, queue) (new, queue') (k.signal ∷ []) (moved_root b m old new queue queue' k);
   stands = put_out_sent b m old new queue queue' k;
   asked = root_asked b m old new queue queue' k;
   unclosed = λ _. root_unclosed b m old new queue queue' k;
@@ -373,7 +362,7 @@ pub pumped_made : {M T : Type 0} (b : Machine M T) (m : Meaning T) (move : NodeM
 pumped_made b m move old new queue queue' can k = record {
   out = k.out;
   queued = k.queued;
-  moves = (new, k.out, queue', [], record { move = move; enabled = can; effect = k.effect; queued = k.queued }, (refl, refl, refl), sym (append-nil k.out));
+  moves = gives_one (IsMovedOver b m) (λ o. o) (old, queue) (new, queue') k.out (record { move = move; enabled = can; effect = k.effect; queued = k.queued });
   stands = k.stands;
   asked = k.asked;
   unclosed = k.unclosed;
@@ -406,9 +395,9 @@ moved_alive {M = M} {T = T} b m old new queue queue' out k closed shut = by_move
 -- ---- many moves of the tree
 
 pub driven_moves : {M T : Type 0} (b : Machine M T) (m : Meaning T) (n : ℕ) (root : Edge) (old new : Node M) (queue : List (Signal T)) → IsDriven b m n old root.demand.asked root.demand.sent new → IsMovedBy b m n (record { tree = old; root = root }) queue [] (record { tree = new; root = root }) queue
-driven_moves b m zero root old new queue d = (refl, ap (λ t. record { tree = t; root = root }) d, refl)
-driven_moves b m (suc n) root old new queue d =
-    (record { tree = d.0; root = root }, [], queue, [], moved_below b m (record { tree = old; root = root }) d.0 queue d.1, driven_moves b m n root d.0 new queue d.2, refl)
+driven_moves {M = M} {T = T} b m n root old new queue d =
+    let F : Node M → Rooted M × List (Signal T) = λ t. (record { tree = t; root = root }, queue) in
+    leads_silent (Unlabelled (λ (x y : Node M). IsAdvanced b m x root.demand.asked root.demand.sent y)) (IsMovedOver b m) (λ o. o) F [] refl (λ x y l a. moved_below b m (record { tree = x; root = root }) y queue a) n old new (replicate n tt) (length-replicate n tt) d
 
 driven_put_out : {M T : Type 0} (b : Machine M T) (m : Meaning T) (n : ℕ) (root : Edge) (old new : Node M) → IsDriven b m n old root.demand.asked root.demand.sent new → ((s : ℕ) → IsBalanced b old s → IsBalanced b new s) → IsPutOut b m (record { tree = old; root = root }) [] (record { tree = new; root = root })
 driven_put_out {M = M} {T = T} b m zero root old new d balance = let P : Node M → Type 0 = λ t. IsPutOut b m (record { tree = old; root = root }) [] (record { tree = t; root = root }) in subst P (sym d) (put_out_none b m (record { tree = old; root = root }))

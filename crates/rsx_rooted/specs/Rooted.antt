@@ -1,5 +1,5 @@
 -- A part: a tree with the edge from its root. What it stands for, which of its moves are enabled, and what they change.
-use Rattle.std.specs.Prelude.{◌≡◌, ℕ, zero, suc, ◌+◌, ◌-◌, ◌<◌, ◌≤◌, ◌^◌, Bool, true, false, ◌&&◌, nat_lt, nat_eq, if◌then◌else◌, List, [], ◌∷◌, ◌++◌, length, map, Option, Some, option_map, Result, Ok, Err}
+use Rattle.std.specs.Prelude.{◌≡◌, ℕ, ◌+◌, ◌-◌, ◌<◌, ◌≤◌, ◌^◌, Bool, true, false, ◌&&◌, nat_lt, nat_eq, if◌then◌else◌, List, [], ◌∷◌, ◌++◌, length, map, Option, Some, option_map, Result, Ok, Err}
 use Rattle.rsx_model.specs.Eval.{environment, eval}
 use Rattle.rsx_model.specs.declared.expr.Expr.{Expr}
 use Rattle.rsx_sources.specs.Prelude.{Meaning, Allocates, notes_then, unchosen, Stream, signals_then, CAPACITY, Note, Signal, front_of}
@@ -8,6 +8,7 @@ use Rattle.rsx_tree.specs.declared.look.NodeMove.{NodeMove}
 use Rattle.rsx_tree.specs.declared.look.NodeMove.TheVariants.{Ask, Send, Pick, Row}
 use Rattle.rsx_tree.specs.Prelude.{edge_view, EdgeView, can_pass, IsPassed, passed, changed_at, asked_up_to, IsTreeBehind, IsTreeReadAt}
 use Rattle.rsx_sources.specs.declared.machine.Machine.{Ghosts as Machine}
+use Rattle.rsx_tree.specs.Runs.{Gives}
 use Rattle.rsx_rooted.specs.Output.{counts_in, items_in, IsUnended, IsOrderly, values_then}
 use Rattle.rsx_rooted.specs.Tree.{comes_out, notes, offers, can_ask, can_send, can_go, IsAllClosed, IsLetGo, edges, edges_after, want_at, front_at, ended_at, pop_allocates, send_allocates, step_allocates, tree_allocates, IsAlike, IsBalanced, can_pick, can_row, IsPickedAt, IsRowAt, IsSentAt}
 use Rattle.rsx_tree.specs.declared.edge.EdgeState.TheVariants.{Live, Closed, Ended}
@@ -168,6 +169,10 @@ pub record IsMoved {M T : Type 0} (b : Machine M T) (m : Meaning T) (old : Roote
   pub effect : IsEffect b m move old out new
   pub queued : queue' ≡ queue ++ out
 
+-- the same, where a state is the part and the queue
+abbrev pub IsMovedOver : {M T : Type 0} → Machine M T → Meaning T → Rooted M × List (Signal T) → List (Signal T) → Rooted M × List (Signal T) → Type 0
+IsMovedOver b m x out y = IsMoved b m x.0 x.1 out y.0 y.1
+
 -- the root's signal went over the root edge, to the back of the queue
 pub record IsRootSent {M T : Type 0} (b : Machine M T) (m : Meaning T) (old : Rooted M) (queue : List (Signal T)) (new : Rooted M) (queue' : List (Signal T)) : Type 0 where
   pub signal : Signal T
@@ -193,10 +198,7 @@ pub record IsMade {M T : Type 0} (b : Machine M T) (m : Meaning T) (move : NodeM
 
 -- so many enabled moves were made one after the other, and all that went over the root edge is `out`
 abbrev pub IsMovedBy : {M T : Type 0} → Machine M T → Meaning T → ℕ → Rooted M → List (Signal T) → List (Signal T) → Rooted M → List (Signal T) → Type 0
-IsMovedBy b m zero old queue out new queue' = (out ≡ []) × (new ≡ old) × (queue' ≡ queue)
-IsMovedBy {M = M} {T = T} b m (suc n) old queue out new queue' =
-    (mid : Rooted M) × (first : List (Signal T)) × (behind : List (Signal T)) × (rest : List (Signal T)) ×
-    IsMoved b m old queue first mid behind × IsMovedBy b m n mid behind rest new queue' × (out ≡ first ++ rest)
+IsMovedBy {T = T} b m n old queue out new queue' = Gives (IsMovedOver b m) (λ (o : List (Signal T)). o) n (old, queue) out (new, queue')
 
 -- so many moves were made, these signals went over the root edge, and the part stands for what it stood for
 pub record IsPumped {M T : Type 0} (b : Machine M T) (m : Meaning T) (count : ℕ) (old : Rooted M) (queue : List (Signal T)) (new : Rooted M) (queue' : List (Signal T)) : Type 0 where

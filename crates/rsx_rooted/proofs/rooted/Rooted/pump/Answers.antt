@@ -1,7 +1,22 @@
 use Rattle.std.proofs.Common.{arith, ◌≡◌, ◌≤◌, ◌+◌, ◌∙◌}
 use Rattle.rsx_types.specs.declared.fault.NoMemory.{NoMemory}
-use Rattle.rsx_rooted.proofs.Parts.{pumped_on, spent_ended}
+use Rattle.rsx_rooted.proofs.Parts.{pumped_none, pumped_on, spent_ended}
 use Rattle.rsx_rooted.proofs.rooted.Rooted.pump.Goals as goal
+
+pub loop-round-init : goal.loop-round-init
+loop-round-init g c = (omega arith, (0, omega arith, pumped_none g.M.Machine (g.O.Ops.meaning c.args.ops.now) c.args.self.now c.args.out.now))
+
+pub returns-then-left-before-clause-pumped : goal.returns-then-left-before-clause-pumped
+returns-then-left-before-clause-pumped g c =
+    let m = g.O.Ops.meaning c.args.ops.now in
+    let done = c.loop-round.invariant.1 in
+    let more = c.in-Ok.ensures.pumped in
+    let e = done.1 in
+    let k = more.1 in (
+      done.0 + more.0,
+      (omega (arith, e, k), c.in-Ok.ensures.idle c.if-left-before.true),
+      pumped_on g.M.Machine m done.0 more.0 c.args.self.now c.loop-round.self c.round.new.self c.args.out.now c.loop-round.out c.round.new.out done.2 more.2,
+    )
 
 pub returns-then-left-eq0-clause-pumped : goal.returns-then-left-eq0-clause-pumped
 returns-then-left-eq0-clause-pumped g c =

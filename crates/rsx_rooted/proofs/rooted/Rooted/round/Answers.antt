@@ -2,7 +2,7 @@ use Rattle.std.proofs.Common.{rules, arith, ap, ◌∙◌, ◌≡◌, ◌+◌, �
 use Rattle.rsx_sources.specs.declared.machine.NotMade.{NotMade}
 use Rattle.rsx_sources.specs.declared.machine.NotMade.TheVariants.{NotEnabled, NoMemory}
 use Rattle.rsx_rooted.specs.Rooted.{pump_allocates}
-use Rattle.rsx_rooted.proofs.Parts.{root_free, pumped_root, pumped_driven, quiet_driven, pumped_on}
+use Rattle.rsx_rooted.proofs.Parts.{root_free, pumped_none, pumped_root, pumped_driven, quiet_driven, pumped_on}
 use Rattle.rsx_rooted.proofs.rooted.Rooted.round.Goals as goal
 
 pub returns-in-Ok-clause-pumped : goal.returns-in-Ok-clause-pumped
@@ -10,6 +10,11 @@ returns-in-Ok-clause-pumped g c =
     let m = g.O.Ops.meaning c.args.ops.now in
     let more : 1 + (c.args.budget - 1) ≡ c.args.budget = let z = c.requires in omega (arith, z) in
     (1, more, pumped_root g.M.Machine m c.args.self.now c.send_root.new.self c.args.out.now c.send_root.new.out c.in-Ok.ensures.sent)
+
+pub returns-in-Err-NoMemory-clause-pumped : goal.returns-in-Err-NoMemory-clause-pumped
+returns-in-Err-NoMemory-clause-pumped g c =
+    let same = c.in-Err-NoMemory.ensures.same in
+    (0, omega arith, rw (same.0, same.1) (pumped_none g.M.Machine (g.O.Ops.meaning c.args.ops.now) c.args.self.now c.args.out.now))
 
 pub returns-then-left-budget-clause-pumped : goal.returns-then-left-budget-clause-pumped
 returns-then-left-budget-clause-pumped g c =
