@@ -10,7 +10,9 @@ use Rattle.std.proofs.lemmas.Bool.{both_ways, or_left, or_right}
 use Rattle.rsx_types.proofs.Numbers.{not_zero}
 use Rattle.rsx_demand.specs.Demand.{saturating_total}
 use Rattle.rsx_sources.specs.Prelude.{Meaning, Stream, Move, Ask, Send, Take, Pick, Row, Accept, SubId, Sub, Signal, Next, Complete, Error}
+use Rattle.rsx_tree.proofs.Runs.{gives_none, gives_on, gives_one, leads_silent}
 use Rattle.rsx_tree.specs.Prelude.{closed_view, IsTreeReadAt}
+use Rattle.rsx_tree.specs.Runs.{Gives, Leads}
 use Rattle.rsx_pipe.specs.Part.{IsPutOut, all_edges}
 use Rattle.rsx_pipe.specs.Part as Part
 use Rattle.rsx_pipe.specs.Crossing.{route, route_below}
@@ -34,7 +36,7 @@ use Rattle.rsx_subscriber.specs.declared.subscription.Subscription.{Subscription
 use Rattle.rsx_subscriber.specs.declared.state.SubscriptionState.{SubscriptionState}
 use Rattle.rsx_subscriber.specs.declared.state.SubscriptionState.TheVariants.{Open, Ended, Cancelled, Refused}
 use Rattle.rsx_subscriber.specs.Past.{Past, items_in, IsUnended, IsOrderly, IsPrefixOf, IsLive, cancelled, cancelled_state, state_after, refused, requested, requested_in, given, asked_more}
-use Rattle.rsx_subscriber.specs.Pumped.{IsPumped, IsMoved, IsQuiet, IsAwake, IsRest, HasRested, Leads, given_all, to}
+use Rattle.rsx_subscriber.specs.Pumped.{IsPumped, IsMoved, IsQuiet, IsAwake, IsRest, HasRested, given_all, to}
 use Rattle.rsx_subscriber.specs.Stands.{Stands, take_enabled, IsInside, IsKeptBeside, IsMadeAnswer, IsTakeAnswer, IsWorked, IsWorkedBy, IsEffect, IsTake, inner_move, move_enabled_in, standing_of, enabled_inside}
 use Rattle.rsx_subscriber.specs.Moves.{delivery, inside_node, name_of, node_move, tree_of}
 
@@ -343,20 +345,8 @@ stands_taken {M} {T} mc m published old new s past k h =
 
 -- ---- driving a subscription
 
-pub leads_on : {S D : Type 0} (step : S → Option D → S → Type 0) (n k : ℕ) (a b c : S) (ds es : List D) → Leads step n a ds b → Leads step k b es c → Leads step (n + k) a (ds ++ es) c
-leads_on {S} {D} step zero k a b c ds es x y =
-    let P : S → Type 0 = λ s. Leads step k s es c in
-    let Q : List D → Type 0 = λ l. Leads step k a (l ++ es) c in
-    let R : ℕ → Type 0 = λ i. Leads step i a (ds ++ es) c in
-    let none : k ≡ 0 + k = omega arith in
-    subst R none (subst Q (sym x.0) (subst P x.1 y))
-leads_on {S} {D} step (suc n) k a b c ds es x y =
-    let R : ℕ → Type 0 = λ i. Leads step i a (ds ++ es) c in
-    let more : suc (n + k) ≡ suc n + k = omega arith in
-    subst R more (x.0, x.1, x.2 ++ es, x.3, leads_on step n k x.0 b c x.2 es x.4 y, ap (λ l. l ++ es) x.5 ∙ append_assoc (option_to_list x.1) x.2 es)
-
 pub pumped_none : {M T : Type 0} (mc : Machine M T) (kd : Nodes M T) (m : Meaning T) (id : SubId) (sub : Subscription M T) (o : List (SubId × Signal T)) → IsPumped mc kd m id 0 sub o sub o
-pumped_none mc kd m id sub o = record { signals = []; output = sym (append-nil o); moves = (refl, refl); stands = λ p q h. h; alike = (λ a. refl, λ counts h. h) }
+pumped_none mc kd m id sub o = record { signals = []; output = sym (append-nil o); moves = gives_none (IsMoved mc kd m id) option_to_list sub sub refl; stands = λ p q h. h; alike = (λ a. refl, λ counts h. h) }
 
 pub pumped_same_sub : {M T : Type 0} (mc : Machine M T) (kd : Nodes M T) (m : Meaning T) (id : SubId) (old new : Subscription M T) (o : List (SubId × Signal T)) → new ≡ old → IsPumped mc kd m id 0 old o new o
 pumped_same_sub {M} {T} mc kd m id old new o e = let P : Subscription M T → Type 0 = λ s. IsPumped mc kd m id 0 old o s o in subst P (sym e) (pumped_none mc kd m id old o)
@@ -374,7 +364,7 @@ pub pumped_one : {M T : Type 0} (mc : Machine M T) (kd : Nodes M T) (m : Meaning
 pumped_one mc kd m id old new o o' s e can took k = record {
   signals = s ∷ [];
   output = e;
-  moves = (new, Some (id, s), [], record { move = delivery id; tree = refl; enabled = delivery_enabled mc kd m id old true can; effect = took; answer = (s, refl) }, (refl, refl), refl);
+  moves = gives_one (IsMoved mc kd m id) option_to_list old new (Some (id, s)) (record { move = delivery id; tree = refl; enabled = delivery_enabled mc kd m id old true can; effect = took; answer = (s, refl) });
   stands = k;
   alike = (λ a. ap (Part.pump_allocates mc a) took.part, λ counts h. subst (λ p. IsTreeReadAt mc counts p.tree) (sym took.part) h);
 }
@@ -389,11 +379,11 @@ to_append id (s ∷ a) b = ap (λ l. (id, s) ∷ l) (to_append id a b)
 
 pub pumped_more : {M T : Type 0} (mc : Machine M T) (kd : Nodes M T) (m : Meaning T) (id : SubId) (n k : ℕ) (s1 s2 s3 : Subscription M T) (o1 o2 o3 : List (SubId × Signal T)) → IsPumped mc kd m id n s1 o1 s2 o2 → IsPumped mc kd m id k s2 o2 s3 o3 → IsPumped mc kd m id (n + k) s1 o1 s3 o3
 pumped_more {M} {T} mc kd m id n k s1 s2 s3 o1 o2 o3 a b =
-    let L : List (SubId × Signal T) → Type 0 = λ l. Leads (IsMoved mc kd m id) (n + k) s1 l s3 in
+    let L : List (SubId × Signal T) → Type 0 = λ l. Gives (IsMoved mc kd m id) option_to_list (n + k) s1 l s3 in
     record {
       signals = a.signals ++ b.signals;
       output = b.output ∙ (ap (λ o. o ++ to id b.signals) a.output ∙ (append_assoc o1 (to id a.signals) (to id b.signals) ∙ ap (λ l. o1 ++ l) (sym (to_append id a.signals b.signals))));
-      moves = subst L (sym (to_append id a.signals b.signals)) (leads_on (IsMoved mc kd m id) n k s1 s2 s3 (to id a.signals) (to id b.signals) a.moves b.moves);
+      moves = subst L (sym (to_append id a.signals b.signals)) (gives_on (IsMoved mc kd m id) option_to_list n k s1 s2 s3 (to id a.signals) (to id b.signals) a.moves b.moves);
       stands = λ published past h.
           let P : Past T → Type 0 = λ p. Stands mc m published s3 p in
           subst P (sym (given_all-append a.signals b.signals past)) (b.stands published (given_all a.signals past) (a.stands published past h));
@@ -479,27 +469,26 @@ with_part sub o part queue = record { part = part; queue = queue; state = sub.st
 same_part : {M T : Type 0} (sub : Subscription M T) (o : sub.state ≡ Fresh → ⊥) → with_part sub o sub.part sub.queue ≡ sub
 same_part sub o = ap (λ w. with_part sub w sub.part sub.queue) (Π_prop (λ x. ⊥_prop) o sub.opened)
 
-part_leads : {M T : Type 0} (mc : Machine M T) (kd : Nodes M T) (m : Meaning T) (id : SubId) (n : ℕ) (sub : Subscription M T) (o : sub.state ≡ Fresh → ⊥) (part part' : AnyPart M) (queue queue' out : List (Signal T)) → Part.IsMovedBy mc m n part queue out part' queue' → Leads (IsMoved mc kd m id) n (with_part sub o part queue) [] (with_part sub o part' queue')
-part_leads mc kd m id zero sub o part part' queue queue' out k = (refl, ap (λ p. with_part sub o p queue') k.1 ∙ ap (λ q. with_part sub o part q) k.2)
-part_leads mc kd m id (suc n) sub o part part' queue queue' out k =
-    (with_part sub o k.0 k.2, None, [], moved_part mc kd m id (with_part sub o part queue) (with_part sub o k.0 k.2) k.1 (record { state = refl; live = refl; demand = refl }) k.4, part_leads mc kd m id n sub o k.0 part' k.2 queue' k.3 k.5, refl)
-
 pub pumped_part : {M T : Type 0} (mc : Machine M T) (kd : Nodes M T) (m : Meaning T) (id : SubId) (n : ℕ) (sub : Subscription M T) (w : sub.state ≡ Fresh → ⊥) (part' : AnyPart M) (queue' : List (Signal T)) (o : List (SubId × Signal T)) → Part.IsPumped mc m n sub.part sub.queue part' queue' → IsPumped mc kd m id n sub o (with_part sub w part' queue') o
 pumped_part {M} {T} mc kd m id n sub w part' queue' o k = record {
   signals = [];
   output = sym (append-nil o);
-  moves = subst L (same_part sub w) (part_leads mc kd m id n sub w sub.part part' sub.queue queue' k.out k.moves);
-  stands = λ published past h. by_count n k published past h;
+  moves = subst L (same_part sub w) (leads_silent (Part.IsMovedOver mc m) (IsMoved mc kd m id) option_to_list placed None refl
+      (λ x y out moved. moved_part mc kd m id (placed x) (placed y) out (record { state = refl; live = refl; demand = refl }) moved) n (sub.part, sub.queue) (part', queue') k.moves.labels k.moves.count k.moves.run);
+  stands = λ published past h. by_moves k.moves.labels k.moves.run published past h;
   alike = k.alike;
 }
   where
     L : Subscription M T → Type 0
-    L s = Leads (IsMoved mc kd m id) n s [] (with_part sub w part' queue')
+    L s = Gives (IsMoved mc kd m id) option_to_list n s [] (with_part sub w part' queue')
 
-    by_count : (n : ℕ) → Part.IsPumped mc m n sub.part sub.queue part' queue' → (published : List (Stream T)) (past : Past T) → Stands mc m published sub past → Stands mc m published (with_part sub w part' queue') past
-    by_count zero k published past h =
-        stands_same mc m published sub (with_part sub w part' queue') past (record { part = k.moves.1; queue = k.moves.2; state = refl; live = refl; requested = refl; delivered = refl }) h
-    by_count (suc n) k published past h =
+    placed : AnyPart M × List (Signal T) → Subscription M T
+    placed x = with_part sub w x.0 x.1
+
+    by_moves : (outs : List (List (Signal T))) → Leads (Part.IsMovedOver mc m) (sub.part, sub.queue) outs (part', queue') → (published : List (Stream T)) (past : Past T) → Stands mc m published sub past → Stands mc m published (with_part sub w part' queue') past
+    by_moves [] run published past h =
+        stands_same mc m published sub (with_part sub w part' queue') past (record { part = ap (λ x. x.0) run; queue = ap (λ x. x.1) run; state = refl; live = refl; requested = refl; delivered = refl }) h
+    by_moves (out ∷ outs) run published past h =
         stands_worked mc m published sub (with_part sub w part' queue') past (record {
           kept = record { state = refl; live = refl; demand = refl };
           out = k.out;
@@ -507,8 +496,8 @@ pumped_part {M} {T} mc kd m id n sub w part' queue' o k = record {
           put = k.stands;
           asked = k.asked;
           unclosed = k.unclosed;
-          alive = moved_alive mc m sub.part k.moves.0 sub.queue k.moves.2 k.moves.1 k.moves.4;
-          count = moved_count mc m (suc n) sub.part part' sub.queue k.out queue' k.moves;
+          alive = moved_alive mc m sub.part run.0.0 sub.queue run.0.1 out run.1;
+          count = moved_count mc m n sub.part part' sub.queue k.out queue' k.moves;
         }) h
 
 -- one move of the part

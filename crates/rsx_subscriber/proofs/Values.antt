@@ -18,6 +18,7 @@ use Rattle.rsx_pipe.proofs.Trees.{notes_then-unchosen, unchosen_notes, unchosen_
 use Rattle.rsx_hub.specs.Hub.{HubState}
 use Rattle.rsx_pipe.specs.Built.{joins_now, new_joins}
 use Rattle.rsx_pipe.proofs.Rows.{length_joins}
+use Rattle.rsx_tree.proofs.Runs.{leads_keep}
 use Rattle.rsx_tree.specs.Prelude.{edge_view, EdgeView, asked_up_to, changed_at, closed_if, closed_view, passed, IsUnchosen}
 use Rattle.rsx_pipe.specs.Output.{values_then}
 use Rattle.rsx_pipe.specs.Published.{AreTaken}
@@ -228,5 +229,5 @@ effect_count mc m (Pick n input) old new out k = ap suc (ap length k.1.tree.edge
 effect_count mc m (Row n) old new out k = ap suc (ap length k.1.tree.edges ∙ tree_stepped _ old.tree n)
 
 pub moved_count : {M T : Type 0} (mc : Machine M T) (m : Meaning T) (n : ℕ) (old new : AnyPart M) (queue out queue' : List (Signal T)) → Part.IsMovedBy mc m n old queue out new queue' → length (all_edges new) ≡ length (all_edges old)
-moved_count mc m zero old new queue out queue' k = ap (λ p. length (all_edges p)) k.1
-moved_count mc m (suc n) old new queue out queue' k = moved_count mc m n k.0 new k.2 k.3 queue' k.5 ∙ effect_count mc m k.4.move old k.0 k.1 k.4.effect
+moved_count mc m n old new queue out queue' k =
+    leads_keep (Part.IsMovedOver mc m) (λ x. length (all_edges x.0) ≡ length (all_edges old)) (λ x y o s e. effect_count mc m s.move x.0 y.0 o s.effect ∙ e) (old, queue) (new, queue') k.labels k.run refl

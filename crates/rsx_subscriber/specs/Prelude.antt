@@ -31,7 +31,7 @@ pub use Rattle.rsx_subscriber.specs.Holds.{Holds, IsServed}
 pub use Rattle.rsx_subscriber.specs.Moves.{IsNumbered, delivery, inside_node, name_of, node_move, node_of, take_by, tree_of}
 pub use Rattle.rsx_subscriber.specs.Past.{IsLive, IsPrefixOf, Past, cancelled, given, items_in, request_answer, requested, requested_in, subscribed}
 pub use Rattle.rsx_subscriber.specs.Published.{IsHanded}
-pub use Rattle.rsx_subscriber.specs.Pumped.{HasRested, IsAwake, IsMoved, IsPumped, IsQuiet, Leads, given_all, to}
+pub use Rattle.rsx_subscriber.specs.Pumped.{HasRested, IsAwake, IsMoved, IsPumped, IsQuiet, given_all, to}
 pub use Rattle.rsx_subscriber.specs.Standing.{delivers, input_of, is_delivery, standing}
 pub use Rattle.rsx_subscriber.specs.Stands.{IsEffect, IsKeptBeside, IsMadeAnswer, IsStillOwed, IsTake, IsTakeAnswer, Stands, enabled_inside, inner_move, make_allocates, move_enabled_in, owes_in, standing_of, take_enabled}
 pub use Rattle.rsx_tree.specs.Handed.{IsHandedOut, is_room_for, times}

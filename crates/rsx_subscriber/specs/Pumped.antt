@@ -1,10 +1,11 @@
 -- What driving a subscription until it is idle does.
 use Rattle.rsx_sources.specs.declared.machine.Machine.{Ghosts as Machine}
 use Rattle.rsx_rooted.specs.declared.nodes.Nodes.{Ghosts as Nodes}
-use Rattle.std.specs.Prelude.{◌≡◌, ◌⊎◌, ℕ, zero, suc, ◌+◌, ◌≤◌, Bool, true, false, List, [], ◌∷◌, ◌++◌, map, Option, Result, Ok, Err}
+use Rattle.std.specs.Prelude.{◌≡◌, ◌⊎◌, ℕ, ◌+◌, ◌≤◌, Bool, true, false, List, [], ◌∷◌, ◌++◌, map, Option, Result, Ok, Err}
 use Rattle.std.specs.Option.{option_to_list}
 use Rattle.rsx_sources.specs.Prelude.{Meaning, Move, SubId, Sub, Signal}
 pub use Rattle.rsx_tree.specs.Driven.{Spent}
+use Rattle.rsx_tree.specs.Runs.{Gives}
 use Rattle.rsx_pipe.specs.Part.{HasEnded}
 use Rattle.rsx_pipe.specs.Part as Part
 use Rattle.rsx_pipe.specs.Tree.{IsAlike}
@@ -27,12 +28,6 @@ to i ss = map (λ s. (i, s)) ss
 
 -- ---- moves one after the other
 
--- so many steps lead from the first state to the second, and answered these in their order
-abbrev pub Leads : {S D : Type 0} → (S → Option D → S → Type 0) → ℕ → S → List D → S → Type 0
-Leads step zero a ds b = (ds ≡ []) × (b ≡ a)
-Leads {S} {D} step (suc n) a ds b =
-    (mid : S) × (o : Option D) × (rest : List D) × step a o mid × Leads step n mid rest b × (ds ≡ option_to_list o ++ rest)
-
 -- an enabled move of a subscription was made, and had its effect
 pub record IsMoved {M T : Type 0} (mc : Machine M T) (kd : Nodes M T) (m : Meaning T) (id : SubId) (old : Subscription M T) (o : Option (SubId × Signal T)) (new : Subscription M T) : Type 0 where
   pub move : Move
@@ -47,7 +42,7 @@ pub record IsMoved {M T : Type 0} (mc : Machine M T) (kd : Nodes M T) (m : Meani
 pub record IsPumped {M T : Type 0} (mc : Machine M T) (kd : Nodes M T) (m : Meaning T) (id : SubId) (count : ℕ) (old : Subscription M T) (before : List (SubId × Signal T)) (new : Subscription M T) (after : List (SubId × Signal T)) : Type 0 where
   pub signals : List (Signal T)
   pub output : after ≡ before ++ to id signals
-  pub moves : Leads (IsMoved mc kd m id) count old (to id signals) new
+  pub moves : Gives (IsMoved mc kd m id) option_to_list count old (to id signals) new
   pub stands : StandsAfter mc m (given_all signals) old new
   -- whether a move of its part may allocate stays
   pub alike : IsAlike mc old.part.tree new.part.tree

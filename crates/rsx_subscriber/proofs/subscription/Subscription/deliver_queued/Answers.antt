@@ -1,7 +1,10 @@
-use Rattle.std.proofs.Common.{◌+◌, ◌≤◌, arith}
+use Rattle.std.proofs.Common.{◌+◌, ◌≤◌, arith, refl}
 use Rattle.rsx_subscriber.specs.Pumped.{IsPumped}
-use Rattle.rsx_subscriber.proofs.Moves.{pumped_more}
+use Rattle.rsx_subscriber.proofs.Moves.{pumped_more, pumped_none}
 use Rattle.rsx_subscriber.proofs.subscription.Subscription.deliver_queued.Goals as goal
+
+pub loop-made-init : goal.loop-made-init
+loop-made-init g c = (λ m. pumped_none g.N.Machine g.N.Nodes m c.args.id c.args.self.now c.args.out.now.signals, λ z. refl)
 
 pub returns-in-Err-clause-pumped : goal.returns-in-Err-clause-pumped
 returns-in-Err-clause-pumped g c = λ m.
