@@ -49,7 +49,7 @@ module _ {T K : Type 0} (fits : T → Type 0) (key : K) where
       (subst fits same home.2, (log, h.run, free, (λ k. sym (listed s.views id v k f.1.1) ∙ h.lists id k)))
 
   -- where one seat has all parts and no pass, the word is 0
-  pub all_closed : (id : ℕ) (v : View K) (ws : List ℕ) (xs : List T) (w : ℕ) → Final (table.Seen (Serial fits key) id v) ws xs → v.parts ≡ all_parts → holds_pass v.steps ≡ false
+  pub all_closed : (id : ℕ) (v : View K) (ws : List ℕ) (xs : List T) (w : ℕ) → Final (table.Seen (Serial fits key) id v) ws xs → all_parts ≤ v.parts → holds_pass v.steps ≡ false
       → get_elem? ws 0 ≡ some w → w ≡ 0
   all_closed id v ws xs w f all free at = let s = f.0 in let h = f.1.0 in
       let others : (o k : ℕ) → o ≢ id → holds_pass (own o k h.log) ≡ false = λ o k ne.

@@ -92,9 +92,17 @@ rests_if_noted T K g s r = RestsIfErr (seat_type T K) s lender_of r (IsNoted g s
 abbrev pub rests_if_gone : (T K : RattleType) → Gate T.Denot K.Denot → Pass T.Denot K.Denot → Left T.Denot K.Denot → Fml
 rests_if_gone T K g p r = follows_so (seat_type T K) (seat_type T K) (lender_of p) (missed_lender r) (λ x n. OnMissed r (λ _. n ≡ x)) (λ n. OnGone r (IsGone g (seat_of p) n))
 
+-- the seat with this value
+abbrev pub seat_with_value : {T K : Type 0} → Seat T (View K) → T → Seat T (View K)
+seat_with_value s w = record s { me = (s.me.0, (0, w) ∷ []) }
+
+-- what is written through the borrow is the value of the seat afterwards
+abbrev pub lends_of_seat : (T K : RattleType) → MutBor (Seat T.Denot (View K.Denot)) → MutBor T.Denot → Fml
+lends_of_seat T K s r = Lends (seat_type T K) T s r (seat_with_value s.now)
+
 -- the pass with this value
 abbrev pub with_value : {T K : Type 0} → Pass T K → T → Pass T K
-with_value p w = record p { seat = record p.seat { now = record p.seat.now { me = (p.seat.now.me.0, (0, w) ∷ []) } } }
+with_value p w = record p { seat = record p.seat { now = seat_with_value p.seat.now w } }
 
 -- what is written through the borrow is the value of the pass afterwards
 abbrev pub lends_value : (T K : RattleType) → MutBor (Pass T.Denot K.Denot) → MutBor T.Denot → Fml

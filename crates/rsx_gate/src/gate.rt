@@ -44,8 +44,9 @@ pub enum Left<'a, T, K> {
 }
 
 impl<T: Kept<K>, K> Gate<T, K> {
-    ghost use Rattle.std.specs.Prelude.{◌∷◌, [], ◌<◌, IfOk, IfErr, IsOk, MatchBool, Some};
-    ghost use Rattle.rsx_gate.specs.Seats.{IsSeatOf, IsGone, IsMissed, Holds, Stands, key_of};
+    ghost use Rattle.std.specs.Prelude.{◌∷◌, [], ◌<◌, ◌≤◌, IfOk, IfErr, IsOk, MatchBool, Some};
+    ghost use Rattle.rsx_gate.specs.Seats.{IsSeatOf, IsGone, IsMissed, IsNoted, Entered, Marked, GaveUp, Holds, Stands, key_of, lends_of_seat};
+    ghost use Rattle.std.specs.Borrow.{sem};
     ghost use Rattle.rsx_gate.specs.Machine.{founder, newcomer, all_parts};
     ghost use Rattle.rsx_gate.specs.Plays.{fewer, joined};
 
@@ -96,11 +97,11 @@ impl<T: Kept<K>, K> Gate<T, K> {
     ///
     /// # Errors
     ///
-    /// Where some seat that was not joined into this one has the pass: the gate ends, too, and the value comes back, of which nothing is known then. A seat with all parts gets `Ok`.
+    /// Where some seat that was not joined into this one has the pass: the gate ends, too, and the value comes back, of which nothing is known then. A seat with all parts, or more, gets `Ok`.
     pub fn close(self, seat: Seat<T, K>) -> Result<T, T>
         requires { IsSeatOf self seat }
         ensures ok { IfOk result (λ x. T.fits (key_of self) x × Stands seat.id seat.me.0) }
-        ensures all { seat.me.0.parts ≡ all_parts → IsOk result }
+        ensures all { all_parts ≤ seat.me.0.parts → IsOk result }
     {
         let Gate { table } = self;
         let mut closed = table.close_with(seat);
@@ -110,8 +111,59 @@ impl<T: Kept<K>, K> Gate<T, K> {
         if word == 0 { Ok(value) } else { Err(value) }
     }
 
-    /// The step of `Pass::leave`: whether the gate is free now.
-    fn try_leave(&self, seat: &mut Seat<T, K>) -> bool
+    /// The step of [`Pass::enter`] on the seat itself: whether the seat has the value now. It never waits.
+    ///
+    /// At `false` the gate is held: a note stands there for the holder, and the seat has no pass, as before.
+    pub fn take(&self, seat: &mut Seat<T, K>) -> bool
+        requires { IsSeatOf self.now seat.old }
+        ensures { MatchBool result (Entered T.fits self.now seat.old seat.new) (IsNoted self.now seat.old seat.new) }
+    {
+        // One step writes the note and tells whom it is for. At 0 no one holds, and this seat does from now on: the value leaves the slot
+        // with the same step, so no other enter can find 0. The word is 2 and not 1, since the new holder has not looked for work yet.
+        // Else the 2 stays until the holder's next mark, and its leave can't be Gone before.
+        self.table.shared.swap::<Entering>(seat, 0, 2) == 0
+    }
+
+    /// The step of [`Pass::mark`] on the seat itself: the notes so far count as seen. Look for work after this call.
+    ///
+    /// The seat keeps its value.
+    pub fn mark(&self, seat: &mut Seat<T, K>)
+        requires { (x : T) × Holds self.now seat.old x }
+        ensures { Marked seat.old seat.new }
+    {
+        // A swap and no store, so that the seat knows what the step found, as it does of every other. The holder is the only one that
+        // writes less than 2, so the word was 1 or 2.
+        self.table.shared.swap::<Marking>(seat, 0, 1);
+    }
+
+    /// The step of [`Pass::give_up`] on the seat itself: the gate is free, whatever was noted, and the seat has no pass. The value has to
+    /// fit the key.
+    ///
+    /// Others may have entered, and someone has to enter again to see to their work.
+    pub fn release(&self, seat: &mut Seat<T, K>)
+        requires { (x : T) × Holds self.now seat.old x × T.fits (key_of self.now) x }
+        ensures { GaveUp self.now seat.old seat.new }
+    {
+        // One step frees the gate, and the value goes back into the slot with it. A note that stood at the word is gone then.
+        self.table.shared.swap::<GivingUp>(seat, 0, 0);
+    }
+
+    /// Lends the value of a seat that has it. When the borrow ends, the seat has what was written through it. It makes no step.
+    ///
+    /// The value may stop fitting the key; it has to fit again when the seat leaves or gives up.
+    pub fn value_of<'b>(seat: &'b mut Seat<T, K>, gate: &'b Gate<T, K>) -> &'b mut T
+        requires { (x : T) × Holds gate.now seat.old x }
+        ensures* writes_back { sem 𝓛 (lends_of_seat T.row K.row seat.entry result) }
+        ensures value { (x : T) → Holds gate.now seat.old x → x ≡ result.now }
+    {
+        seat.slot_mut(&gate.table.shared, 0)
+    }
+
+    /// The step of [`Pass::leave`] on the seat itself: whether the gate is free now. The value has to fit the key.
+    ///
+    /// It is where no one entered since the last mark, and the seat has no pass then. Else, and also where no mark was made since the
+    /// seat got the value, the seat keeps it.
+    pub fn try_leave(&self, seat: &mut Seat<T, K>) -> bool
         requires { (x : T) × Holds self.now seat.old x × T.fits (key_of self.now) x }
         ensures { MatchBool result (IsGone self.now seat.old seat.new) (IsMissed seat.old seat.new) }
     {
@@ -140,10 +192,7 @@ impl<'a, T, K> Pass<'a, T, K> {
         ensures* noted { sem 𝓛 (rests_if_noted T.row K.row gate.now seat.entry result) }
         ensures pass { IfOk result (λ p. (lender_of p ≡ seat.entry.ghost_name) × Entered T.fits gate.now seat.old (seat_of p)) }
     {
-        // One step writes the note and tells whom it is for. At 0 no one holds, and this seat does from now on: the value leaves the slot
-        // with the same step, so no other enter can find 0. The word is 2 and not 1, since the new holder has not looked for work yet.
-        // Else the 2 stays until the holder's next mark, and its leave can't be Gone before.
-        if gate.table.shared.swap::<Entering>(seat, 0, 2) == 0 {
+        if gate.take(seat) {
             Ok(Pass { seat })
         } else {
             Err(Noted)
@@ -160,9 +209,7 @@ impl<'a, T, K> Pass<'a, T, K> {
         ensures* writes_back { sem 𝓛 (lends_value T.row K.row self.entry result) }
         ensures value { (x : T) → Holds gate.now (seat_of self.old) x → x ≡ result.now }
     {
-        let table = &gate.table.shared;
-        let seat = &mut *self.seat;
-        seat.slot_mut(table, 0)
+        Gate::value_of(self.seat, gate)
     }
 
     /// Counts the notes so far as seen. Look for work after this call: what was put before an enter that came earlier is there.
@@ -175,9 +222,7 @@ impl<'a, T, K> Pass<'a, T, K> {
         ensures same { lender_of self.new ≡ lender_of self.old }
         ensures marked { Marked (seat_of self.old) (seat_of self.new) }
     {
-        // A swap and no store, so that the seat knows what the step found, as it does of every other. The holder is the only one that
-        // writes less than 2, so the word was 1 or 2.
-        gate.table.shared.swap::<Marking>(self.seat, 0, 1);
+        gate.mark(self.seat);
     }
 
     /// Ends the pass where no one entered since the last mark: Gone, and the seat and the gate are free. Else Missed, with the pass and its value as they were.
@@ -207,9 +252,8 @@ impl<'a, T, K> Pass<'a, T, K> {
         ensures { GaveUp gate.now (seat_of self.entry) self.exit.0.now }
     {
         let Pass { seat } = self;
-        // One step frees the gate, and the value goes back into the slot with it. A note that stood at the word is gone then, which is
-        // why the answer is More in any case.
-        gate.table.shared.swap::<GivingUp>(seat, 0, 0);
+        // A note that stood at the word is gone then, which is why the answer is More in any case.
+        gate.release(seat);
         More
     }
 }

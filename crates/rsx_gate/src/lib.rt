@@ -80,13 +80,27 @@
 //!
 //! A [`Pass`] has no `Drop`, since a pass that is dropped would leave the gate held for ever. It borrows its seat, which is free again once the pass has ended, and each call is also passed the gate.
 //!
+//! # The steps on a seat itself
+//!
+//! Each call of a pass but [`Pass::value`] is one step of its seat. The same steps stand alone, for a holder that keeps the seat in a struct of its own: a struct that has a `Pass` can't hand that pass's loan on.
+//!
+//! | on the seat | on the pass |
+//! |---|---|
+//! | [`Gate::take`] | [`Pass::enter`] |
+//! | [`Gate::value_of`] | [`Pass::value`] |
+//! | [`Gate::mark`] | [`Pass::mark`] |
+//! | [`Gate::try_leave`] | [`Pass::leave`] |
+//! | [`Gate::release`] | [`Pass::give_up`] |
+//!
+//! What the type of a pass says, these calls have as a condition: `take` wants a seat that has no pass, and the others want one that has the value. Don't drop such a seat, since the gate would stay held for ever.
+//!
 //! # What is proved
 //!
 //! - Some interleaving of all seats' steps, each seat's own in its order and each once, is a legal history of the word, which ends at the word's value. The value is in its slot exactly where the word is 0.
 //! - In a legal history at most one seat has the pass ([`at_most_one_pass`]). Gone is answered only where no enter stands after the holder's last mark ([`gone_has_no_note`]), and Missed only where one does or the holder has made no mark since it got the pass ([`missed_has_note`]).
 //! - Each call adds to its seat's steps just the one that it made, and answers by what that step found.
 //! - Whoever has the pass has a value that fits the gate's key ([`Kept`]), and hands back one that does.
-//! - A seat that all others were joined into closes the gate, and gets the value.
+//! - A seat that all others were joined into closes the gate, and gets the value. To know that its parts are at least all is enough.
 //!
 //! No clause says that a thread gets the pass in the end, or how soon.
 #![tactic(auto)]

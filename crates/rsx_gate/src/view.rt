@@ -4,13 +4,13 @@ use std::collections::LinkedList;
 
 /// One step on the gate's word, with what it found there: 0 free, 1 held, 2 held and noted.
 pub enum Step {
-    /// [`crate::Pass::enter`].
+    /// [`crate::Pass::enter`], by [`crate::Gate::take`].
     Enter(u64),
-    /// [`crate::Pass::mark`].
+    /// [`crate::Pass::mark`], by [`crate::Gate::mark`].
     Mark(u64),
-    /// [`crate::Pass::leave`].
+    /// [`crate::Pass::leave`], by [`crate::Gate::try_leave`].
     Leave(u64),
-    /// [`crate::Pass::give_up`].
+    /// [`crate::Pass::give_up`], by [`crate::Gate::release`].
     GiveUp(u64),
 }
 

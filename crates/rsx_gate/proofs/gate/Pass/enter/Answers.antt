@@ -1,6 +1,0 @@
-use Rattle.std.proofs.Common.{arith}
-use Rattle.rsx_gate.proofs.Keeps.{enters}
-use Rattle.rsx_gate.proofs.gate.Pass.enter.Goals as goal
-
-pub swap-requires : goal.swap-requires
-swap-requires g c = let sized = c.args.gate.now.sized.0 in (c.requires.0, omega arith, enters g.T.Kept.fits _ _ _ _ c.requires.3)
