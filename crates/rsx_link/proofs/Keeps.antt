@@ -10,7 +10,7 @@ use Rattle.rsx_link.specs.declared.view.Role.TheVariants.{Upstream, Downstream, 
 use Rattle.rsx_link.specs.declared.view.Step.{Step}
 use Rattle.rsx_link.specs.declared.view.Step.TheVariants.{Ask, SeeAsked, SeeFlags, Cancel, Refuse}
 use Rattle.rsx_link.specs.Steps.{has_cancel, has_refusal, asked_of, NeverFalls, seen_of, cancel_of, cancel_count, is_refused}
-use Rattle.rsx_link.specs.Link.{fresh, with_parts, newborn, more, lists_of, joined, total, view_cancels, is_positive, flags, Knows, AllKnow, Fits, Stands, Holds, IsShared, Linked}
+use Rattle.rsx_link.specs.Link.{fresh, informed, with_parts, newborn, more, lists_of, joined, total, view_cancels, is_positive, flags, Knows, AllKnow, Fits, Stands, Holds, IsShared, Linked}
 use Rattle.rsx_link.specs.Plays.{asked, saw_asked, saw_flags, cancelled, refused}
 use Rattle.rsx_link.proofs.Shares.{Cuts, shares_step, shares_cut, shares_join}
 use Rattle.rsx_link.proofs.Totals.{total-set, total-append, le-total}
@@ -193,17 +193,18 @@ refuses n id me is_down s h wide at _ =
       (refl, two ∙ ap is_refused (sym mine.1)),
     )
 
--- a new seat has made no step, and gets some of the parts
-pub splits : (id : ℕ) (v : View) (r : Role) (ps qs : List ℕ) → (r ≡ Downstream → ⊥) → Cuts v.parts ps qs → ((views : List View) → get_elem? views id ≡ some v → IsShared views → ps ≡ [] → view_cancels v ≡ 0)
-    → Splits Linked id v (with_parts v ps) (fresh r qs)
-splits id v r ps qs apart cut idle s h at =
-    let steps = h.1 in let st = h.2 in let c = total view_cancels s.views in let new = fresh r qs in let left = with_parts v ps in
+-- a new seat, which is no receiving end and has never cancelled, gets some of the parts, and knows what is so
+splits_off : (id : ℕ) (v new : View) (ps : List ℕ) → (new.role ≡ Downstream → ⊥) → Cuts v.parts ps new.parts → ((views : List View) → get_elem? views id ≡ some v → IsShared views → ps ≡ [] → view_cancels v ≡ 0)
+    → view_cancels new ≡ 0 → ((down : ℕ) (steps : List Step) (c : ℕ) → Fits down steps c id v → AllKnow steps c (lists_of new)) → Splits Linked id v (with_parts v ps) new
+splits_off id v new ps apart cut idle never known s h at =
+    let steps = h.1 in let st = h.2 in let c = total view_cancels s.views in let left = with_parts v ps in
     let first = total-set view_cancels s.views id v left at in
     let sum = total-append view_cancels (set s.views id left) (new ∷ []) in
+    let none = never in
     let now : total view_cancels (set s.views id left ++ new ∷ []) ≡ c = omega arith in
     let mine = st.fits id v at in
     let kept : Fits h.0 steps c id left = record { asks = mine.asks; knows = mine.knows } in
-    let nothing : (o : ℕ) → Fits h.0 steps c o new = λ o. record { asks = λ e. absurd (apart e); knows = (knows_nothing steps c, tt) } in (
+    let added : (o : ℕ) → Fits h.0 steps c o new = λ o. record { asks = λ e. absurd (apart e); knows = known h.0 steps c mine } in (
       h.0,
       steps,
       record {
@@ -212,10 +213,21 @@ splits id v r ps qs apart cut idle s h at =
         fits = λ o u e. subst (λ (n : ℕ). Fits h.0 steps n o u) (sym now)
             (⊎_elim
             (λ t. ⊎_elim (λ r. subst (λ (z : View). Fits h.0 steps c o z) r.1 (subst (λ (k : ℕ). Fits h.0 steps c k left) (sym r.0) kept)) (λ r. st.fits o u r.1) (at_set s.views id o left u t))
-            (λ is. subst (λ (z : View). Fits h.0 steps c o z) is (nothing o)) (at_snoc (set s.views id left) new u o e));
+            (λ is. subst (λ (z : View). Fits h.0 steps c o z) is (added o)) (at_snoc (set s.views id left) new u o e));
       },
-      shares_cut s.views id v r ps qs at cut (idle s.views at h.3) h.3,
+      shares_cut s.views id v new ps at cut (idle s.views at h.3) never h.3,
     )
+
+-- a new seat has made no step
+pub splits : (id : ℕ) (v : View) (r : Role) (ps qs : List ℕ) → (r ≡ Downstream → ⊥) → Cuts v.parts ps qs → ((views : List View) → get_elem? views id ≡ some v → IsShared views → ps ≡ [] → view_cancels v ≡ 0)
+    → Splits Linked id v (with_parts v ps) (fresh r qs)
+splits id v r ps qs apart cut idle = splits_off id v (fresh r qs) ps apart cut idle refl (λ down steps c mine. (knows_nothing steps c, tt))
+
+-- the receiving end tells the sending end's new seat its total
+pub tells_total : (id : ℕ) (v : View) → v.role ≡ Downstream → Cuts v.parts v.parts [] → ((views : List View) → get_elem? views id ≡ some v → IsShared views → v.parts ≡ [] → view_cancels v ≡ 0)
+    → Splits Linked id v v (informed (asked_of v.steps))
+tells_total id v is cut idle = splits_off id v (informed (asked_of v.steps)) v.parts (λ e. cc) cut idle refl
+    (λ down steps c mine. (record { asked = let same = ap asked_of (mine.asks is).1 in omega arith; cancel = λ e. absurd (cc); refusal = λ e. absurd (cc) }, tt))
 
 -- a seat that takes another in knows what both knew
 pub joins : (id : ℕ) (v : View) (other : ℕ) (w : View) → Joins Linked id v other w (joined v w) (fresh Joined [])

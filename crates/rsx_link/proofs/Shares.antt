@@ -5,7 +5,6 @@ use mathlib.Core.Option.{some, some-injective, some-ne-none}
 use lib.ListN.{get_elem?}
 use Rattle.atomic_table.proofs.Lists.{at_set, at_snoc, set_else}
 use Rattle.rsx_link.specs.declared.view.View.{View}
-use Rattle.rsx_link.specs.declared.view.Role.{Role}
 use Rattle.rsx_link.specs.declared.view.Role.TheVariants.{Joined}
 use Rattle.rsx_link.specs.declared.view.Step.{Step}
 use Rattle.rsx_link.specs.Steps.{cancel_of, cancel_count}
@@ -107,12 +106,12 @@ shares_step views id v x at has h = record {
       idle = λ e. let one = has e in let rest = held.idle e in omega arith;
     }
 
--- a new seat gets some of a seat's parts
-pub shares_cut : (views : List View) (id : ℕ) (v : View) (r : Role) (ps qs : List ℕ) → get_elem? views id ≡ some v → Cuts v.parts ps qs → (ps ≡ [] → view_cancels v ≡ 0)
-    → IsShared views → IsShared (set views id (with_parts v ps) ++ fresh r qs ∷ [])
+-- a new seat, which has never cancelled, gets some of a seat's parts
+pub shares_cut : (views : List View) (id : ℕ) (v right : View) (ps : List ℕ) → get_elem? views id ≡ some v → Cuts v.parts ps right.parts → (ps ≡ [] → view_cancels v ≡ 0)
+    → view_cancels right ≡ 0 → IsShared views → IsShared (set views id (with_parts v ps) ++ right ∷ [])
 unfolding Cuts
-shares_cut views id v r ps qs at cut idle h =
-    let d = suc h.depth in let left = with_parts v ps in let right = fresh r qs in
+shares_cut views id v right ps at cut idle never h =
+    let d = suc h.depth in let left = with_parts v ps in
     let parts = cut h.depth (h.each id v at).within in
     let below = deeper views h in record {
       depth = d;
@@ -126,7 +125,7 @@ shares_cut views id v r ps qs at cut idle h =
       each = λ o u e. ⊎_elim
           (λ t. ⊎_elim (λ r. subst (λ (z : View). Holds d z) r.1 (record { within = parts.0; idle = idle }))
           (λ r. let held = h.each o u r.1 in record { within = within_deeper h.depth u.parts held.within; idle = held.idle }) (at_set views id o left u t))
-          (λ t. subst (λ (z : View). Holds d z) t (record { within = parts.1; idle = λ _. refl })) (at_snoc (set views id left) right u o e);
+          (λ t. subst (λ (z : View). Holds d z) t (record { within = parts.1; idle = λ _. never })) (at_snoc (set views id left) right u o e);
     }
 
 -- who keeps half of its parts has a part, or never had one

@@ -1,10 +1,14 @@
 -- What contracts see of a link's ends.
-use Rattle.std.specs.Prelude.{◌≡◌, ◌≢◌, ℕ, ◌<◌, ◌≤◌, true, cond, nat_eq, List, [], ◌∷◌, ◌++◌, Option, Some, None}
+use Rattle.std.specs.Prelude.{◌≡◌, ◌≢◌, ℕ, ◌+◌, ◌<◌, ◌≤◌, true, cond, nat_eq, List, [], ◌∷◌, ◌++◌, Option, Some, None}
 use mathlib.Core.List.{IsPrefix}
 use Rattle.atomic_table.specs.declared.shared.Seat.{Seat}
 use Rattle.atomic_table.specs.Table.{step}
 use mathlib.Core.Option.{none}
-use Rattle.rtrb.specs.Ring.{sent, received, known_free, known_items, IsPair, SameProducer}
+use Rattle.std.specs.Global.{Global}
+use Rattle.rtrb.specs.declared.AnyItems.{AnyItems}
+use Rattle.rtrb.specs.declared.consumer.Consumer.{Consumer}
+use Rattle.rtrb.specs.declared.producer.Producer.{Producer}
+use Rattle.rtrb.specs.Ring.{sent, received, known_free, producer_capacity, known_items, IsPair, SameProducer}
 use Rattle.rsx_demand.specs.Demand.{saturating_total}
 use Rattle.rsx_types.specs.declared.signal.Signal.{Signal}
 use Rattle.rsx_types.specs.declared.signal.Signal.TheVariants.{Error}
@@ -20,7 +24,7 @@ use Rattle.rsx_link.specs.declared.view.Role.TheVariants.{Canceller}
 use Rattle.rsx_link.specs.declared.view.Step.{Step}
 use Rattle.rsx_link.specs.declared.view.Step.TheVariants.{Ask, SeeAsked, SeeFlags, Cancel, Refuse}
 use Rattle.rsx_link.specs.declared.view.View.{View}
-use Rattle.rsx_link.specs.Link.{total, is_positive}
+use Rattle.rsx_link.specs.Link.{newborn, total, is_positive}
 use Rattle.rsx_link.specs.Parts.{IsWhole, halved}
 use Rattle.rsx_link.specs.Plays.{Told}
 use Rattle.rsx_link.specs.Signals.{is_item, items_in}
@@ -52,8 +56,13 @@ module _ {T : Type 0} where
   abbrev pub sent_signals : Up T → List (Signal T)
   sent_signals u = sent u.producer
 
+  -- how many items went over the edge before the link was made
+  abbrev pub carried_up : Up T → ℕ
+  carried_up u = u.carried
+
+  -- the items sent, with those
   abbrev pub items_sent : Up T → ℕ
-  items_sent u = items_in (sent_signals u)
+  items_sent u = carried_up u + items_in (sent_signals u)
 
   -- the total asked for that was seen last
   abbrev pub seen_total : Up T → ℕ
@@ -71,11 +80,11 @@ module _ {T : Type 0} where
   MaySend u s = is_item s ≡ true → items_sent u < seen_total u
 
   abbrev pub SameUp : Link T → Up T → Up T → Type 0
-  SameUp l old new = IsUpOf l new × (up_steps new ≡ up_steps old)
+  SameUp l old new = IsUpOf l new × (up_steps new ≡ up_steps old) × (carried_up new ≡ carried_up old)
 
   -- the same end, which has sent nothing more
   abbrev pub HasSentNothing : Link T → Up T → Up T → Type 0
-  HasSentNothing l old new = IsUpOf l new × (sent_signals new ≡ sent_signals old) × (free_slots new ≡ free_slots old)
+  HasSentNothing l old new = IsUpOf l new × (sent_signals new ≡ sent_signals old) × (free_slots new ≡ free_slots old) × (carried_up new ≡ carried_up old)
 
   -- the queue has no room: the signal came back, and nothing was sent
   abbrev pub ComesBack : Up T → Up T → Signal T → Signal T → Type 0
@@ -101,8 +110,13 @@ module _ {T : Type 0} where
   abbrev pub received_signals : Down T → List (Signal T)
   received_signals d = received d.consumer
 
+  -- how many items were taken before the link was made
+  abbrev pub carried_down : Down T → ℕ
+  carried_down d = d.carried
+
+  -- the items taken, with those
   abbrev pub items_taken : Down T → ℕ
-  items_taken d = items_in (received_signals d)
+  items_taken d = carried_down d + items_in (received_signals d)
 
   abbrev pub asked_total : Down T → ℕ
   asked_total d = asked_of (down_steps d)
@@ -114,9 +128,14 @@ module _ {T : Type 0} where
   abbrev pub IsDownOf : Link T → Down T → Type 0
   IsDownOf l d = (d.seat.table_id ≡ l.table.shared.table_id) × IsPair l.table.shared.key d.consumer
 
+  -- the same end, which has made no step and taken no signal, and has seen no signal less in the queue
+  abbrev pub HasLooked : Link T → Down T → Down T → Type 0
+  HasLooked l old new = IsDownOf l new × (down_steps new ≡ down_steps old) × (received_signals new ≡ received_signals old) × IsPrefix (queued old) (queued new)
+      × (carried_down new ≡ carried_down old)
+
   -- the same end, which has made no step and taken no signal
   abbrev pub SameDown : Link T → Down T → Down T → Type 0
-  SameDown l old new = IsDownOf l new × (received_signals new ≡ received_signals old) × (queued new ≡ queued old)
+  SameDown l old new = IsDownOf l new × (received_signals new ≡ received_signals old) × (queued new ≡ queued old) × (carried_down new ≡ carried_down old)
 
   -- an item needs demand; an ending needs none
   abbrev pub MayTake : Down T → Signal T → Type 0
@@ -198,10 +217,30 @@ pub record Cancels (old : CancelSeat) (new : List Step) : Type 0 where
 module _ {T : Type 0} where
   -- ---- both ends
 
-  pub record AreNew (capacity : ℕ) (l : Link T) (u : Up T) (d : Down T) (c : CancelSeat) : Type 0 where
-    pub up : IsUpOf l u × (up_steps u ≡ []) × (sent_signals u ≡ []) × (free_slots u ≡ capacity)
-    pub down : IsDownOf l d × (down_steps d ≡ []) × (received_signals d ≡ []) × (queued d ≡ [])
+  -- how many signals the queue holds at most
+  abbrev pub capacity_of : Link T → ℕ
+  capacity_of l = producer_capacity l.table.shared.key
+
+  -- a link as it is made, with these steps of its ends, over whose edge so many items went before
+  pub record AreMade (capacity carried : ℕ) (seen asked : List Step) (l : Link T) (u : Up T) (d : Down T) (c : CancelSeat) : Type 0 where
+    pub up : IsUpOf l u × (up_steps u ≡ seen) × (carried_up u ≡ carried) × (sent_signals u ≡ []) × (free_slots u ≡ capacity)
+    pub down : IsDownOf l d × (down_steps d ≡ asked) × (carried_down d ≡ carried) × (received_signals d ≡ []) × (queued d ≡ [])
     pub cancel : IsCancelSeatOf l c × (cancel_steps c ≡ []) × (cancel_beside c ≡ []) × (cancel_parts c ≡ 0 ∷ [])
+    pub holds : capacity_of l ≡ capacity
+
+  -- nothing was asked for
+  abbrev pub AreNew : ℕ → Link T → Up T → Down T → CancelSeat → Type 0
+  AreNew capacity = AreMade capacity 0 [] []
+
+  -- so many items were asked for, which the sending end has seen, and so many of them were taken
+  abbrev pub AreOpened : ℕ → ℕ → ℕ → Link T → Up T → Down T → CancelSeat → Type 0
+  AreOpened capacity asked carried = AreMade capacity carried (SeeAsked asked ∷ []) (Ask asked ∷ [])
+
+  -- the two words at 0, both ends of the queue, and the first seat
+  pub record AreBegun (capacity : ℕ) (l : Link T) (p : Producer (Signal T) Global AnyItems) (c : Consumer (Signal T) Global AnyItems) (s : Seat Unit View) : Type 0 where
+    pub ring : (l.table.shared.key ≡ p) × IsPair p c
+    pub empty : (sent p ≡ []) × (known_free p ≡ capacity) × (producer_capacity p ≡ capacity) × (received c ≡ []) × (known_items c ≡ [])
+    pub seat : (s.table_id ≡ l.table.shared.table_id) × (s.me ≡ (newborn, []))
 
   abbrev pub AreEnds : Link T → Up T → Down T → CancelSeat → Type 0
   AreEnds l u d c = IsUpOf l u × IsDownOf l d × IsCancelSeatOf l c

@@ -5,8 +5,9 @@ use lib.ListN.{get_elem?}
 use Rattle.atomic_table.specs.Table.{State}
 use Rattle.rsx_link.specs.declared.view.View.{View}
 use Rattle.rsx_link.specs.declared.view.Role.{Role}
-use Rattle.rsx_link.specs.declared.view.Role.TheVariants.{Downstream}
+use Rattle.rsx_link.specs.declared.view.Role.TheVariants.{Downstream, Upstream}
 use Rattle.rsx_link.specs.declared.view.Step.{Step}
+use Rattle.rsx_link.specs.declared.view.Step.TheVariants.{SeeAsked}
 use Rattle.rsx_link.specs.Parts.{share, size, Within}
 use Rattle.rsx_link.specs.Steps.{has_cancel, has_refusal, asked_of, NeverFalls, seen_of, flags_of, cancel_count, is_refused}
 
@@ -20,6 +21,10 @@ newborn = view Downstream (0 ∷ []) [] []
 -- a seat that has made no step
 abbrev pub fresh : Role → List ℕ → View
 fresh role parts = view role parts [] []
+
+-- a new seat of the sending end, which is told the total that was stored last
+abbrev pub informed : ℕ → View
+informed total = view Upstream [] (SeeAsked total ∷ []) []
 
 -- the same seat with other parts of the right to cancel
 abbrev pub with_parts : View → List ℕ → View

@@ -52,7 +52,7 @@ impl<T> Remaining<T> {
 /// What is left of a link: what its words said last, and the signals in its queue.
 #[derive(Drop)]
 pub struct Closed<T> {
-    /// The items asked for since the link was made, at most 2^63 - 1.
+    /// The items asked for, with those from before the link was made: at most 2^63 - 1.
     pub asked: u64,
     /// Some canceller cancelled.
     pub cancelled: bool,

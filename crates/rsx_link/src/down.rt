@@ -1,6 +1,6 @@
 //! The receiving end.
 
-ghost use Rattle.std.specs.Prelude.{◌≡◌, ℤ, []};
+ghost use Rattle.std.specs.Prelude.{◌≡◌, ◌+◌, ℤ, []};
 ghost use Rattle.rtrb.specs.Ring.{received as received_from};
 ghost use Rattle.rsx_link.specs.Link.{view_cancels};
 ghost use Rattle.rsx_link.specs.Steps.{asked_of};
@@ -20,30 +20,54 @@ use rtrb::Consumer;
 pub struct Down<T> {
     pub(crate) consumer: Consumer<Signal<T>>,
     pub(crate) seat: Seat,
+    // The items that were taken before the link was made.
+    pub(crate) carried: u64,
     // The items asked for, and those taken.
     pub(crate) demand: Demand,
     pub ghost alone: { (seat.me.0.role ≡ Downstream) × (seat.me.1 ≡ []) },
     pub ghost never_cancels: { (seat.me.0.parts ≡ []) × (view_cancels seat.me.0 ≡ 0) },
     pub ghost asks: { demand.asked ≡ asked_of seat.me.0.steps },
-    pub ghost counts: { demand.sent ≡ items_in (received_from consumer) },
+    pub ghost counts: { demand.sent ≡ carried + items_in (received_from consumer) },
 }
 
 impl<T> Down<T> {
-    ghost use Rattle.std.specs.Prelude.{◌≤◌, IfSome, IfNone};
-    ghost use Rattle.rsx_link.specs.Ends.{IsDownOf, SameDown, down_steps, asked_total, items_taken, received_signals, queued, TakesOne, TakesNone, Requests};
+    ghost use Rattle.std.specs.Prelude.{◌≤◌, ◌∷◌, length, IfSome, IfNone, IsTrue, ◌↔◌};
+    ghost use mathlib.Core.List.{IsPrefix};
+    ghost use Rattle.rsx_link.specs.Ends.{IsDownOf, SameDown, HasLooked, carried_down, down_steps, asked_total, items_taken, received_signals, queued, TakesOne, TakesNone, Requests};
 
-    /// The items asked for since the link was made, at most 2^63 - 1.
+    /// The items asked for, with those from before the link was made: at most 2^63 - 1.
     pub fn asked(&self) -> u64
         ensures { result ≡ asked_total self.now }
     {
         self.demand.asked()
     }
 
-    /// The items taken since the link was made.
+    /// The items taken, with those from before the link was made.
     pub fn taken(&self) -> u64
         ensures { result ≡ items_taken self.now }
     {
         self.demand.sent()
+    }
+
+    /// Whether no signal waits in the queue. One may come at any time; one that was seen stays until it is taken.
+    pub fn is_empty(&mut self, link: &Link<T>) -> bool
+        requires { IsDownOf link.now self.old }
+        ensures same { HasLooked link.now self.old self.new }
+        ensures empty { IsTrue result ↔ (length (queued self.new) ≡ 0) }
+    {
+        let _ = link;
+        self.consumer.is_empty()
+    }
+
+    /// The oldest signal of those that [`Down::is_empty`] or [`Down::take`] has seen in the queue, which stays there.
+    pub fn front(&self) -> Option<&Signal<T>>
+        ensures some { IfSome result (λ s. IsPrefix (s.now ∷ []) (queued self.now)) }
+        ensures none { IfNone result (length (queued self.now) ≡ 0) }
+    {
+        if self.consumer.cached_slots() == 0 {
+            return None;
+        }
+        Some(self.consumer.peek_known())
     }
 
     /// Takes the oldest signal that was sent and not yet taken.
@@ -52,12 +76,11 @@ impl<T> Down<T> {
     /// taken as were asked for (rule 1.1). An ending needs no demand.
     pub fn take(&mut self, link: &Link<T>) -> Option<Signal<T>>
         requires { IsDownOf link.now self.old }
-        ensures same { IsDownOf link.now self.new × (down_steps self.new ≡ down_steps self.old) }
+        ensures same { IsDownOf link.now self.new × (down_steps self.new ≡ down_steps self.old) × (carried_down self.new ≡ carried_down self.old) }
         ensures some { IfSome result (TakesOne self.old self.new) }
         ensures none { IfNone result (TakesNone self.old self.new) }
     {
-        let _ = link;
-        if self.consumer.is_empty() {
+        if self.is_empty(link) {
             return None;
         }
         let is_item = is_item(self.consumer.peek_known());

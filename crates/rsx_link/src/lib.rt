@@ -10,14 +10,23 @@
 //! | flag 1, cancelled, and flag 2, bad request | [`CancelSeat`], [`Down`] | [`Up`] | a word of flags, which are set and never cleared |
 //!
 //! [`Link`] owns the two words. The ends and the cancel seats move to whatever thread uses them, and each of their
-//! calls takes the link by reference. No call waits, none takes memory once [`Link::new`] has made the link, and
-//! each makes at most two atomic steps besides those of the queue.
+//! calls takes the link by reference. No call waits, none takes memory once [`Link::new`] or [`Link::open`] has made
+//! the link, and each makes at most two atomic steps besides those of the queue.
+//!
+//! # An edge that was in use before
+//!
+//! [`Link::open`] takes over an edge over which items were asked for, and some of them sent, before there was a link.
+//! Both ends count on from there: [`Down::asked`], [`Down::taken`] and [`Up::room`] are those of the edge as a whole,
+//! and what was sent is a number of each end that no call changes. The sending end knows the total from the start, so
+//! it can send before it looks. What stood in the edge's queue is sent into the link after it is made.
+//!
+//! Who has to know beforehand what a call would do asks [`Up::has_room`], after which a send succeeds, or
+//! [`Down::is_empty`], after which [`Down::front`] shows what [`Down::take`] would give.
 //!
 //! # The total, and why it is a store
 //!
-//! Demand is a running total since the link was made, and never a difference that is added and taken away. So
-//! one end alone writes the word, by a plain `store`, and no step of the other end can get between a load and a
-//! store of it. The sending end compares the total that it saw last with the items that it has sent. What it saw
+//! Demand is a running total of the edge, and never a difference that is added and taken away. So one end alone writes
+//! the word, by a plain `store`, and no step of the other end can get between a load and a store of it. The sending end compares the total that it saw last with the items that it has sent. What it saw
 //! may be old, and then it is smaller: it may send fewer items than were asked for, until it looks again, and
 //! never more (rule 1.1). The total saturates at 2^63 - 1 (rule 3.17), and no later store is smaller, so what was
 //! seen stays asked for.
@@ -43,14 +52,14 @@
 //! holds of each [`Up`] and `taken <= asked` of each [`Down`].
 //!
 //! What the sending end sent is compared with what the receiving end took where both are in one thread again:
-//! [`Link::close`] takes both, and then **what was taken, followed by what remains in the queue, is what was sent**. It
-//! answers the total and the flags, too. Flag 1 is known from both sides there: the right to cancel is one whole,
-//! each [`CancelSeat::split`] halves it and each [`CancelSeat::join`] puts it together, and with the whole in hand
-//! the flag is set exactly where one of these seats cancelled.
+//! [`Link::close`] takes both, and then **what was taken, followed by what remains in the queue, is what was sent**. What
+//! remains is no more than the queue has room for. It answers the total and the flags, too. Flag 1 is known from both
+//! sides there: the right to cancel is one whole, each [`CancelSeat::split`] halves it and each [`CancelSeat::join`]
+//! puts it together, and with the whole in hand the flag is set exactly where one of these seats cancelled.
 //!
 //! # What is not proved
 //!
-//! That a signal arrives, or how soon; and that `take` found a queue empty because it was, which tests show. No
+//! That a signal arrives, or how soon; and that a queue which is called empty, or full, was so, which tests show. No
 //! clause compares two ends while they are in different threads.
 #![tactic(auto)]
 

@@ -6,8 +6,8 @@ use crate::cancel::CancelSeat;
 use crate::closed::{Closed, Remaining};
 use crate::down::Down;
 use crate::plays::{
-    Asking, Cancelling, CutCanceller, CutUpstream, GiveCanceller, Glue, Refusing, SeeingAsked,
-    SeeingFlags,
+    Asking, Cancelling, CutCanceller, CutInformed, CutUpstream, GiveCanceller, Glue, Refusing,
+    SeeingAsked, SeeingFlags,
 };
 use crate::rule::Rule;
 use crate::up::Up;
@@ -15,7 +15,7 @@ use crate::view::View;
 use atomic_table::Table;
 use rsx_demand::Demand;
 use rsx_types::{NoMemory, Signal};
-use rtrb::{Producer, RingBuffer};
+use rtrb::{Consumer, Producer, RingBuffer};
 use std::alloc::Global;
 
 pub(crate) type Seat = atomic_table::Seat<(), View>;
@@ -43,8 +43,8 @@ pub struct Link<T> {
 }
 
 impl<T: Drop> Link<T> {
-    ghost use Rattle.std.specs.Prelude.{IfOk};
-    ghost use Rattle.rsx_link.specs.Ends.{AreNew, AreEnds, Closes};
+    ghost use Rattle.std.specs.Prelude.{IfOk, ◌≤◌, length};
+    ghost use Rattle.rsx_link.specs.Ends.{capacity_of, AreNew, AreOpened, AreBegun, AreEnds, Closes};
 
     /// Makes a link whose queue has room for `capacity` signals, with both ends and the seat that has the whole right
     /// to cancel. Nothing is asked for, no flag is set, and nothing was sent. All memory that the link ever uses is
@@ -59,46 +59,98 @@ impl<T: Drop> Link<T> {
     ) -> Result<(Link<T>, Up<T>, Down<T>, CancelSeat), NoMemory>
         ensures { IfOk result (λ r. AreNew capacity r.0 r.1 r.2 r.3) }
     {
-        let (producer, consumer) = RingBuffer::new(alloc, capacity)?;
-        let (table, mut seat) = Table::of_words(alloc, &[0, 0], &producer)?;
-        let up_seat = table.shared.split_seat::<CutUpstream>(&mut seat);
-        let cancel_seat = table.shared.split_seat::<GiveCanceller>(&mut seat);
-        let link = Link { table };
+        let (link, producer, consumer, mut seat) = Link::begin(alloc, capacity)?;
+        let up_seat = link.table.shared.split_seat::<CutUpstream>(&mut seat);
+        let cancel_seat = link.table.shared.split_seat::<GiveCanceller>(&mut seat);
         let up = Up {
             producer,
             seat: up_seat,
+            carried: 0,
             sent: 0,
             seen: 0,
         };
         let down = Down {
             consumer,
             seat,
+            carried: 0,
             demand: Demand::new(),
         };
         Ok((link, up, down, CancelSeat { seat: cancel_seat }))
     }
 
+    /// The same for an edge that was in use before: so many items were asked for over it as `demand` says, and so many of
+    /// them were sent and taken. Both ends count on from there, and the sending end has seen the total that was asked for.
+    /// No flag is set, and the queue is empty.
+    ///
+    /// # Errors
+    ///
+    /// [`NoMemory`] where there was none for the words or for the queue.
+    pub fn open(
+        alloc: Global,
+        capacity: usize,
+        demand: Demand,
+    ) -> Result<(Link<T>, Up<T>, Down<T>, CancelSeat), NoMemory>
+        ensures { IfOk result (λ r. AreOpened capacity demand.asked demand.sent r.0 r.1 r.2 r.3) }
+    {
+        let (link, producer, consumer, mut seat) = Link::begin(alloc, capacity)?;
+        link.store_asked(&mut seat, demand.asked);
+        let up_seat = link.table.shared.split_seat::<CutInformed>(&mut seat);
+        let cancel_seat = link.table.shared.split_seat::<GiveCanceller>(&mut seat);
+        let up = Up {
+            producer,
+            seat: up_seat,
+            carried: demand.sent,
+            sent: demand.sent,
+            seen: demand.asked,
+        };
+        let down = Down {
+            consumer,
+            seat,
+            carried: demand.sent,
+            demand,
+        };
+        Ok((link, up, down, CancelSeat { seat: cancel_seat }))
+    }
+
+    /// The words at 0, the queue's two ends, and the first seat, which is the receiving end's.
+    fn begin(
+        alloc: Global,
+        capacity: usize,
+    ) -> Result<(Link<T>, Producer<Signal<T>>, Consumer<Signal<T>>, Seat), NoMemory>
+        ensures { IfOk result (λ r. AreBegun capacity r.0 r.1 r.2 r.3) }
+    {
+        let (producer, consumer) = RingBuffer::new(alloc, capacity)?;
+        let (table, seat) = Table::of_words(alloc, &[0, 0], &producer)?;
+        Ok((Link { table }, producer, consumer, seat))
+    }
+
     /// Takes both ends and a cancel seat back, and answers what the words say and what remains in the queue.
     ///
-    /// What was taken, followed by what remains, is what was sent. The total is the receiving end's, and flag 2 says
-    /// whether it made a bad request. Flag 1 is set where the seat cancelled; where it has the whole right to cancel,
-    /// because all other seats were joined into it, the flag is set nowhere else.
+    /// What was taken, followed by what remains, is what was sent, and what remains is no more than the queue has room
+    /// for. The total is the receiving end's, and flag 2 says whether it made a bad request. Flag 1 is set where the seat
+    /// cancelled; where it has the whole right to cancel, because all other seats were joined into it, the flag is set
+    /// nowhere else.
     pub fn close(self, up: Up<T>, down: Down<T>, cancel: CancelSeat) -> Closed<T>
         requires { AreEnds self up down cancel }
-        ensures { Closes up down cancel result }
+        ensures closes { Closes up down cancel result }
+        ensures within { length result.remaining ≤ capacity_of self }
     {
         let Link { table } = self;
         let Up {
             mut producer,
             seat: up_seat,
+            carried: _,
             sent: _,
             seen: _,
         } = up;
         let Down {
             mut consumer,
             mut seat,
+            carried: _,
             demand: _,
         } = down;
+        // The first shows that what remains fits into the queue, the second what it is.
+        producer.slots_beside(&mut consumer);
         consumer.slots_beside(&mut producer);
         table.shared.join_seat::<Glue>(&mut seat, up_seat);
         table.shared.join_seat::<Glue>(&mut seat, cancel.seat);

@@ -1,7 +1,8 @@
 //! What each step tells its seat. These types are for the proofs alone.
 
 ghost use Rattle.std.specs.Prelude.{[]};
-ghost use Rattle.rsx_link.specs.Link.{fresh, joined, with_parts};
+ghost use Rattle.rsx_link.specs.Link.{fresh, informed, joined, with_parts};
+ghost use Rattle.rsx_link.specs.Steps.{asked_of};
 ghost use Rattle.rsx_link.specs.Parts.{halved};
 ghost use Rattle.rsx_link.specs.Plays.{asked, saw_asked, saw_flags, cancelled, refused};
 ghost use Rattle.rsx_link.specs.declared.view.Role.TheVariants.{Upstream, Canceller, Joined};
@@ -46,6 +47,15 @@ impl Split<View> for CutUpstream {
     ghost left = { λ v. v };
 
     ghost right = { λ _. fresh Upstream [] };
+}
+
+// The same, where the new seat is told the total that was stored.
+pub(crate) struct CutInformed;
+
+impl Split<View> for CutInformed {
+    ghost left = { λ v. v };
+
+    ghost right = { λ v. informed (asked_of v.steps) };
 }
 
 // A new seat that gets the whole right to cancel.

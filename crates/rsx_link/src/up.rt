@@ -1,6 +1,6 @@
 //! The sending end.
 
-ghost use Rattle.std.specs.Prelude.{◌≡◌, ◌≤◌, []};
+ghost use Rattle.std.specs.Prelude.{◌≡◌, ◌≤◌, ◌+◌, []};
 ghost use Rattle.rtrb.specs.Ring.{sent as sent_into};
 ghost use Rattle.rsx_link.specs.Link.{view_cancels};
 ghost use Rattle.rsx_link.specs.Steps.{seen_of};
@@ -15,7 +15,7 @@ use rtrb::{Producer, PushError};
 /// What [`Up::look`] found: the total first, and then the flags.
 #[derive(Clone, Copy, Debug, PartialEq, Eq)]
 pub struct Found {
-    /// The items asked for since the link was made, at most 2^63 - 1.
+    /// The items asked for, with those from before the link was made: at most 2^63 - 1.
     pub asked: u64,
     /// Some canceller cancelled.
     pub cancelled: bool,
@@ -30,19 +30,21 @@ pub struct Found {
 pub struct Up<T> {
     pub(crate) producer: Producer<Signal<T>>,
     pub(crate) seat: Seat,
-    // The items sent.
+    // The items that went over the edge before the link was made.
+    pub(crate) carried: u64,
+    // The items sent, with those.
     pub(crate) sent: u64,
     // The total that was seen last.
     pub(crate) seen: u64,
     pub ghost alone: { (seat.me.0.role ≡ Upstream) × (seat.me.1 ≡ []) },
     pub ghost never_cancels: { (seat.me.0.parts ≡ []) × (view_cancels seat.me.0 ≡ 0) },
     pub ghost saw: { seen ≡ seen_of seat.me.0.steps },
-    pub ghost counts: { sent ≡ items_in (sent_into producer) },
+    pub ghost counts: { sent ≡ carried + items_in (sent_into producer) },
     pub ghost covered: { sent ≤ seen },
 }
 
 impl<T> Up<T> {
-    ghost use Rattle.std.specs.Prelude.{◌<◌, ◌-◌, [], ◌∷◌, ◌++◌, OnOk, IfErr, IsOk};
+    ghost use Rattle.std.specs.Prelude.{◌<◌, ◌-◌, [], ◌∷◌, ◌++◌, OnOk, IfErr, IsOk, IsTrue, ◌↔◌};
     ghost use Rattle.rsx_link.specs.Ends.{IsUpOf, up_steps, sent_signals, free_slots, items_sent, seen_total, MaySend, Looks, SameUp, HasSentNothing, ComesBack};
 
     /// Reads the total that was asked for, and then the flags, each by one load.
@@ -68,6 +70,17 @@ impl<T> Up<T> {
         ensures { result ≡ seen_total self.now - items_sent self.now }
     {
         self.seen - self.sent
+    }
+
+    /// Whether the queue has room for a signal: then the next [`Up::send`] succeeds. What it needs of demand [`Up::room`] says.
+    pub fn has_room(&mut self, link: &Link<T>) -> bool
+        requires { IsUpOf link.now self.old }
+        ensures same { SameUp link.now self.old self.new × (sent_signals self.new ≡ sent_signals self.old) }
+        ensures known { free_slots self.old ≤ free_slots self.new }
+        ensures room { IsTrue result ↔ (0 < free_slots self.new) }
+    {
+        let _ = link;
+        !self.producer.is_full()
     }
 
     /// Puts a signal into the queue, behind all that were sent before.

@@ -16,9 +16,9 @@ pub enum Role {
 
 /// One step on a word of the link, with what it stored or found.
 pub enum Step {
-    /// The receiving end stored this total of items asked for.
+    /// The receiving end stored this total of items asked for, or it was stored as the link was opened.
     Ask(u64),
-    /// The sending end found this total of items asked for.
+    /// The sending end found this total of items asked for, or was told it as the link was opened.
     SeeAsked(u64),
     /// The sending end found these flags.
     SeeFlags(u64),
