@@ -223,6 +223,10 @@ pub splits : (id : ℕ) (v : View) (r : Role) (ps qs : List ℕ) → (r ≡ Down
     → Splits Linked id v (with_parts v ps) (fresh r qs)
 splits id v r ps qs apart cut idle = splits_off id v (fresh r qs) ps apart cut idle refl (λ down steps c mine. (knows_nothing steps c, tt))
 
+-- the first seat has never cancelled, also once it asked
+pub asked_never_cancels : (v w : View) (n : ℕ) → w ≡ more v (Ask n) → v ≡ newborn → view_cancels w ≡ 0
+asked_never_cancels v w n is born = ap view_cancels (is ∙ ap (λ u. more u (Ask n)) born)
+
 -- the receiving end tells the sending end's new seat its total
 pub tells_total : (id : ℕ) (v : View) → v.role ≡ Downstream → Cuts v.parts v.parts [] → ((views : List View) → get_elem? views id ≡ some v → IsShared views → v.parts ≡ [] → view_cancels v ≡ 0)
     → Splits Linked id v v (informed (asked_of v.steps))
