@@ -1,4 +1,4 @@
-//! A holder of the gate: a count to which threads add, one at a time.
+//! Holders of the gate: a count to which threads add, one at a time, by a pass or by the steps on a seat itself.
 #![tactic(auto)]
 
 ghost use Rattle.std.specs.Prelude.{◌≡◌, ◌+◌, ◌-◌, ◌^◌, ◌≤◌, min};
@@ -59,5 +59,26 @@ pub fn visit(gate: &Gate<Count, u64>, seat: &mut Seat<Count, u64>) -> Outcome
         }
     }
     let More = pass.give_up(gate);
+    Outcome::More
+}
+
+/// The same by the steps on the seat itself.
+pub fn visit_by_steps(gate: &Gate<Count, u64>, seat: &mut Seat<Count, u64>) -> Outcome
+    requires { IsSeatOf gate.now seat.old }
+    ensures seat { IsSeatOf gate.now seat.new }
+    ensures parts { seat.new.me.0.parts ≡ seat.old.me.0.parts }
+    ensures steps { Visited result seat.old.me.0.steps seat.new.me.0.steps }
+{
+    if !gate.take(seat) {
+        return Outcome::Noted;
+    }
+    add(Gate::value_of(seat, gate));
+    for round in 0..ROUNDS {
+        gate.mark(seat);
+        if gate.try_leave(seat) {
+            return Outcome::Gone;
+        }
+    }
+    gate.release(seat);
     Outcome::More
 }
