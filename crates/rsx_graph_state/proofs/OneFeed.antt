@@ -1,4 +1,5 @@
 -- Feeds to whose nodes a signal of a hub is handed.
+use Rattle.rsx_sources.specs.declared.machine.Machine.{Ghosts as Machine}
 use Rattle.std.proofs.Common.{◌≡◌, ℕ, zero, suc, ◌+◌, ◌<◌, ◌≤◌, min, Bool, true, false, nat_lt, if◌then◌else◌, List, [], ◌∷◌, ◌++◌, length, take, slice_get, Some, refl, ap, sym, ◌∙◌, subst, arith, add-zero}
 use Rattle.std.proofs.lemmas.Bool.Decides.{nat_tests}
 use Rattle.std.proofs.lemmas.List.{append-nil}
@@ -55,15 +56,15 @@ with_other (suc h) (suc n) s (v ∷ vs) other = with_other h n s vs (λ e. other
 
 -- ---- one feed
 
-feed_handed : {T : Type 0} (h : ℕ) (s : Signal T) (old : Feed T) (part : PartOf T) → nat_lt h old.hub ≡ true → Part.IsHanded h s old.part part → IsFeedHanded h s old (record { part = part; hub = old.hub })
-feed_handed {T} h s old part below k =
+feed_handed : {M T : Type 0} (mc : Machine M T) (h : ℕ) (s : Signal T) (old : Feed M) (part : PartOf M) → nat_lt h old.hub ≡ true → Part.IsHanded mc h s old.part part → IsFeedHanded mc h s old (record { part = part; hub = old.hub })
+feed_handed {M} {T} mc h s old part below k =
     let less : h < old.hub = grind (arith, nat_tests, below) in
     record {
       hub = refl;
       part = λ _. k;
       same = λ not. cc;
       stands = λ m published e joins unended other f.
-          let P : List (Stream T) → Type 0 = λ vs. PartStands m vs part e joins (signals f.value) in
+          let P : List (Stream T) → Type 0 = λ vs. PartStands mc m vs part e joins (signals f.value) in
           let here : IsOpenAt h (take old.hub published) = (unended.0, open_before h old.hub published less ∙ unended.1, unended.2) in
           record {
             value = f.value;
@@ -74,15 +75,15 @@ feed_handed {T} h s old part below k =
           };
     }
 
-feed_unhanded : {T : Type 0} (h : ℕ) (s : Signal T) (f : Feed T) → nat_lt h f.hub ≡ false → IsFeedHanded h s f f
-feed_unhanded {T} h s f not =
+feed_unhanded : {M T : Type 0} (mc : Machine M T) (h : ℕ) (s : Signal T) (f : Feed M) → nat_lt h f.hub ≡ false → IsFeedHanded mc h s f f
+feed_unhanded {M} {T} mc h s f not =
     let more : f.hub ≤ h = grind (arith, nat_tests, not) in
     record {
       hub = refl;
       part = λ below. cc;
       same = λ _. refl;
       stands = λ m published e joins unended other k.
-          let P : List (Stream T) → Type 0 = λ vs. PartStands m vs f.part e joins (signals k.value) in
+          let P : List (Stream T) → Type 0 = λ vs. PartStands mc m vs f.part e joins (signals k.value) in
           record {
             value = k.value;
             taken = with_other h f.hub s published other ∙ k.taken;
@@ -92,27 +93,27 @@ feed_unhanded {T} h s f not =
           };
     }
 
-pub handed_feed : {T : Type 0} (h : ℕ) (old : Feed T) (part : PartOf T) (given left : List (Signal T)) → nat_lt h old.hub ≡ true → IsHandedOut (Part.readers h old.part) (Part.has_room_for h old.part) given left (λ s. Part.IsHanded h s old.part part) →
-    IsHandedOut (reads_at h old) (has_room_at h old) given left (λ s. IsFeedHanded h s old (record { part = part; hub = old.hub }))
-handed_feed h old part given left below f = λ s k all room.
-    let e = f s k (all ∙ ap (λ b. times (k + (if b then Part.readers h old.part else 0)) s) below) (sym (ap (λ b. is_room_for s (if b then Part.has_room_for h old.part else true)) below) ∙ room) in
-    (feed_handed h s old part below e.0, e.1)
+pub handed_feed : {M T : Type 0} (mc : Machine M T) (h : ℕ) (old : Feed M) (part : PartOf M) (given left : List (Signal T)) → nat_lt h old.hub ≡ true → IsHandedOut (Part.readers mc h old.part) (Part.has_room_for mc h old.part) given left (λ s. Part.IsHanded mc h s old.part part) →
+    IsHandedOut (reads_at mc h old) (has_room_at mc h old) given left (λ s. IsFeedHanded mc h s old (record { part = part; hub = old.hub }))
+handed_feed mc h old part given left below f = λ s k all room.
+    let e = f s k (all ∙ ap (λ b. times (k + (if b then Part.readers mc h old.part else 0)) s) below) (sym (ap (λ b. is_room_for s (if b then Part.has_room_for mc h old.part else true)) below) ∙ room) in
+    (feed_handed mc h s old part below e.0, e.1)
 
-pub none_handed : {T : Type 0} (h : ℕ) (f : Feed T) (given : List (Signal T)) → nat_lt h f.hub ≡ false → IsHandedOut (reads_at h f) (has_room_at h f) given given (λ s. IsFeedHanded h s f f)
-none_handed h f given not = λ s k all room.
-    (feed_unhanded h s f not, all ∙ (ap (λ b. times (k + (if b then Part.readers h f.part else 0)) s) not ∙ ap (λ n. times n s) (add-zero k)))
+pub none_handed : {M T : Type 0} (mc : Machine M T) (h : ℕ) (f : Feed M) (given : List (Signal T)) → nat_lt h f.hub ≡ false → IsHandedOut (reads_at mc h f) (has_room_at mc h f) given given (λ s. IsFeedHanded mc h s f f)
+none_handed mc h f given not = λ s k all room.
+    (feed_unhanded mc h s f not, all ∙ (ap (λ b. times (k + (if b then Part.readers mc h f.part else 0)) s) not ∙ ap (λ n. times n s) (add-zero k)))
 
-pub reads_before : {T : Type 0} (h : ℕ) (f : Feed T) (n most : ℕ) → nat_lt h f.hub ≡ true → n ≡ min (Part.readers h f.part) most → n ≡ min (reads_at h f) most
-reads_before h f n most below is = is ∙ ap (λ b. min (if b then Part.readers h f.part else 0) most) (sym below)
+pub reads_before : {M T : Type 0} (mc : Machine M T) (h : ℕ) (f : Feed M) (n most : ℕ) → nat_lt h f.hub ≡ true → n ≡ min (Part.readers mc h f.part) most → n ≡ min (reads_at mc h f) most
+reads_before mc h f n most below is = is ∙ ap (λ b. min (if b then Part.readers mc h f.part else 0) most) (sym below)
 
-pub reads_behind : {T : Type 0} (h : ℕ) (f : Feed T) (most : ℕ) → nat_lt h f.hub ≡ false → 0 ≡ min (reads_at h f) most
-reads_behind h f most not = let none : 0 ≡ min 0 most = omega arith in none ∙ ap (λ b. min (if b then Part.readers h f.part else 0) most) (sym not)
+pub reads_behind : {M T : Type 0} (mc : Machine M T) (h : ℕ) (f : Feed M) (most : ℕ) → nat_lt h f.hub ≡ false → 0 ≡ min (reads_at mc h f) most
+reads_behind mc h f most not = let none : 0 ≡ min 0 most = omega arith in none ∙ ap (λ b. min (if b then Part.readers mc h f.part else 0) most) (sym not)
 
-pub room_before : {T : Type 0} (h : ℕ) (f : Feed T) (b : Bool) → nat_lt h f.hub ≡ true → b ≡ Part.has_room_for h f.part → b ≡ has_room_at h f
-room_before h f b below is = is ∙ ap (λ c. if c then Part.has_room_for h f.part else true) (sym below)
+pub room_before : {M T : Type 0} (mc : Machine M T) (h : ℕ) (f : Feed M) (b : Bool) → nat_lt h f.hub ≡ true → b ≡ Part.has_room_for mc h f.part → b ≡ has_room_at mc h f
+room_before mc h f b below is = is ∙ ap (λ c. if c then Part.has_room_for mc h f.part else true) (sym below)
 
-pub room_behind : {T : Type 0} (h : ℕ) (f : Feed T) → nat_lt h f.hub ≡ false → true ≡ has_room_at h f
-room_behind h f not = ap (λ c. if c then Part.has_room_for h f.part else true) (sym not)
+pub room_behind : {M T : Type 0} (mc : Machine M T) (h : ℕ) (f : Feed M) → nat_lt h f.hub ≡ false → true ≡ has_room_at mc h f
+room_behind mc h f not = ap (λ c. if c then Part.has_room_for mc h f.part else true) (sym not)
 
 -- ---- a fresh feed
 
@@ -137,11 +138,11 @@ as_many [] (v ∷ vs) k = absurd k
 as_many (h ∷ hs) [] k = absurd k
 as_many (h ∷ hs) (v ∷ vs) k = ap suc (as_many hs vs k.1)
 
-pub fresh_feed : {T : Type 0} (m : Meaning T) (hubs : List (HubState T)) (published : List (Stream T)) (first : PartOf T) (part : PartOf T) (hub : ℕ) (e : Expr T) (joins : List ℕ) → AreTaken hubs published → hub ≡ length hubs → PartStands m published first e joins [] → IsPutOut m first [] part →
-    part.root.demand.asked ≡ UNBOUNDED → (part.root.state ≡ Closed → ⊥) → FeedStands m (published ++ ended_by Open ∷ []) (record { part = part; hub = hub }) e joins
-fresh_feed {T} m hubs published first part hub e joins taken number stands put asked unclosed =
+pub fresh_feed : {M T : Type 0} (mc : Machine M T) (m : Meaning T) (hubs : List (HubState T)) (published : List (Stream T)) (first : PartOf M) (part : PartOf M) (hub : ℕ) (e : Expr T) (joins : List ℕ) → AreTaken hubs published → hub ≡ length hubs → PartStands mc m published first e joins [] → IsPutOut mc m first [] part →
+    part.root.demand.asked ≡ UNBOUNDED → (part.root.state ≡ Closed → ⊥) → FeedStands mc m (published ++ ended_by Open ∷ []) (record { part = part; hub = hub }) e joins
+fresh_feed {M} {T} mc m hubs published first part hub e joins taken number stands put asked unclosed =
     let count : hub ≡ length published = number ∙ as_many hubs published taken in
-    let P : List (Stream T) → Type 0 = λ vs. PartStands m vs part e joins [] in
+    let P : List (Stream T) → Type 0 = λ vs. PartStands mc m vs part e joins [] in
     record {
       value = ended_by Open;
       taken = last_there hub published (ended_by Open) count;
@@ -151,7 +152,7 @@ fresh_feed {T} m hubs published first part hub e joins taken number stands put a
     }
 
 -- all that can be was asked of it
-pub asked_all_of : {T : Type 0} (first part : PartOf T) (es : List EdgeView) → all_edges first ≡ fresh_edge ∷ es → part.root.demand.asked ≡ saturating_total first.root.demand.asked UNBOUNDED → part.root.demand.asked ≡ UNBOUNDED
+pub asked_all_of : {M : Type 0} (first part : PartOf M) (es : List EdgeView) → all_edges first ≡ fresh_edge ∷ es → part.root.demand.asked ≡ saturating_total first.root.demand.asked UNBOUNDED → part.root.demand.asked ≡ UNBOUNDED
 asked_all_of first part es edges asked =
     let none : first.root.demand.asked ≡ 0 = ap (λ v. v.asked) (first_edge (all_edges first) (edge_view first.root) _ fresh_edge es refl edges) in
     asked ∙ (ap (λ n. saturating_total n UNBOUNDED) none ∙ all_of UNBOUNDED)
@@ -159,7 +160,7 @@ asked_all_of first part es edges asked =
     all_of : (n : ℕ) → min n (0 + n) ≡ n
     all_of n = omega arith
 
-pub fresh_unclosed : {T : Type 0} (first part : PartOf T) (es : List EdgeView) → all_edges first ≡ fresh_edge ∷ es → part.root.state ≡ first.root.state → part.root.state ≡ Closed → ⊥
+pub fresh_unclosed : {M : Type 0} (first part : PartOf M) (es : List EdgeView) → all_edges first ≡ fresh_edge ∷ es → part.root.state ≡ first.root.state → part.root.state ≡ Closed → ⊥
 fresh_unclosed first part es edges state closed =
     let live : first.root.state ≡ Live = ap (λ v. v.state) (first_edge (all_edges first) (edge_view first.root) _ fresh_edge es refl edges) in
     cc
@@ -167,9 +168,9 @@ fresh_unclosed first part es edges state closed =
 -- ---- a move inside a feed
 
 -- the feed stands for the same afterwards
-pub worked_feed : {T : Type 0} (m : Meaning T) (old : Feed T) (part : PartOf T) (move : NodeMove) → IsMadeInside m move old.part part → (published : List (Stream T)) (e : Expr T) (joins : List ℕ) → FeedStands m published old e joins → FeedStands m published (record { part = part; hub = old.hub }) e joins
-worked_feed {T} m old part move k published e joins f =
-    let P : List (Signal T) → Type 0 = λ ss. PartStands m (take old.hub published) part e joins ss in
+pub worked_feed : {M T : Type 0} (mc : Machine M T) (m : Meaning T) (old : Feed M) (part : PartOf M) (move : NodeMove) → IsMadeInside mc m move old.part part → (published : List (Stream T)) (e : Expr T) (joins : List ℕ) → FeedStands mc m published old e joins → FeedStands mc m published (record { part = part; hub = old.hub }) e joins
+worked_feed {M} {T} mc m old part move k published e joins f =
+    let P : List (Signal T) → Type 0 = λ ss. PartStands mc m (take old.hub published) part e joins ss in
     record {
       value = f.value;
       taken = f.taken;

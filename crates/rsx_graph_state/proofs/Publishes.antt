@@ -1,7 +1,7 @@
 -- Subscriptions where a hub more is there, and where a signal was handed to them.
 use Rattle.std.proofs.Common.{◌≡◌, inl, inr, ℕ, zero, suc, List, [], ◌∷◌, ◌++◌, length, length-append, option_map, slice_get, refl, ap, sym, ◌∙◌, subst, arith, Option, Some, None}
 use Rattle.rsx_sources.specs.Prelude.{Meaning, notes_then, Stream, ended_by, signals_then, HubKind, Open, Signal, Reading}
-use Rattle.rsx_subscriber.specs.Prelude.{any_machine, Inputs, End, More', Node, counts_in, published_then, values_then, evaluated, comes_out, notes_of, Past, Stands}
+use Rattle.rsx_subscriber.specs.Prelude.{Inputs, End, More', Node, counts_in, published_then, values_then, evaluated, comes_out, notes_of, Past, Stands}
 use Rattle.rsx_sources.specs.declared.machine.Machine.{Ghosts as Machine}
 use Rattle.rsx_tree.specs.Reads.{IsReadAt, IsRowReadAt, IsTreeReadAt, count_before}
 use Rattle.rsx_pipe.proofs.Handing.{none_value}
@@ -47,21 +47,21 @@ row_more b ns k (More' e n p below q beside) h = (elim h.0 [ inl dead ↦ inl de
 tree_more : {M T : Type 0} (b : Machine M T) (ns : List (Option ℕ)) (k : Option ℕ) (t : Node M) → IsTreeReadAt b ns t → IsTreeReadAt b (ns ++ k ∷ []) t
 tree_more b ns k t h = (read_more ns k (b.reads t.machine) h.0, row_more b ns k t.inputs h.1)
 
-stands_more : {T : Type 0} (m : Meaning T) (taken : List (Stream T)) (sub : Subscription T) (past : Past T) → Stands m taken sub past → Stands m (taken ++ ended_by Open ∷ []) sub past
-stands_more {T} m taken sub past h = record {
+stands_more : {M T : Type 0} (mc : Machine M T) (m : Meaning T) (taken : List (Stream T)) (sub : Subscription M T) (past : Past T) → Stands mc m taken sub past → Stands mc m (taken ++ ended_by Open ∷ []) sub past
+stands_more {M} {T} mc m taken sub past h = record {
   state = h.state;
   live = h.live;
   output = h.output;
   part = record {
     value = λ more further len.
-        let V : List (Stream T) → Type 0 = λ w. option_map (signals_then h.output) (comes_out m w further sub.part.tree 0) ≡ evaluated m w past.joins past.expression (notes_then (notes_of sub.part.tree) further) in
+        let V : List (Stream T) → Type 0 = λ w. option_map (signals_then h.output) (comes_out mc m w further sub.part.tree 0) ≡ evaluated m w past.joins past.expression (notes_then (notes_of mc sub.part.tree) further) in
         subst V (sym (padded taken more)) (h.part.value (pad taken more) further len);
     orderly = h.part.orderly;
     unended = h.part.unended;
     ended = h.part.ended;
     counted = h.part.counted;
     balance = h.part.balance;
-    reads = λ l. let R : List (Option ℕ) → Type 0 = λ c. IsTreeReadAt any_machine c sub.part.tree in subst R (sym (one_count taken)) (tree_more any_machine (counts_in taken) (Some 0) sub.part.tree (h.part.reads l));
+    reads = λ l. let R : List (Option ℕ) → Type 0 = λ c. IsTreeReadAt mc c sub.part.tree in subst R (sym (one_count taken)) (tree_more mc (counts_in taken) (Some 0) sub.part.tree (h.part.reads l));
     alone = h.part.alone;
     closed = h.part.closed;
   };
@@ -81,19 +81,19 @@ stands_more {T} m taken sub past h = record {
 }
 
 -- subscriptions stand for the same where one more hub comes behind those that they read
-pub subs_more : {T : Type 0} (m : Meaning T) (taken : List (Stream T)) (subs : List (Subscription T)) (pasts : List (Past T)) → AllStand m taken subs pasts → AllStand m (taken ++ ended_by Open ∷ []) subs pasts
-subs_more m taken [] [] h = tt
-subs_more m taken (s ∷ ss) (p ∷ ps) h = (stands_more m taken s p h.0, subs_more m taken ss ps h.1)
-subs_more m taken [] (p ∷ ps) h = absurd h
-subs_more m taken (s ∷ ss) [] h = absurd h
+pub subs_more : {M T : Type 0} (mc : Machine M T) (m : Meaning T) (taken : List (Stream T)) (subs : List (Subscription M T)) (pasts : List (Past T)) → AllStand mc m taken subs pasts → AllStand mc m (taken ++ ended_by Open ∷ []) subs pasts
+subs_more mc m taken [] [] h = tt
+subs_more mc m taken (s ∷ ss) (p ∷ ps) h = (stands_more mc m taken s p h.0, subs_more mc m taken ss ps h.1)
+subs_more mc m taken [] (p ∷ ps) h = absurd h
+subs_more mc m taken (s ∷ ss) [] h = absurd h
 
 -- ---- a signal was handed to them
 
-pub handed_length : {T : Type 0} (h : ℕ) (sig : Signal T) (olds news : List (Subscription T)) → AllHanded h sig olds news → length news ≡ length olds
-handed_length h sig [] [] k = refl
-handed_length h sig [] (y ∷ ys) k = absurd k
-handed_length h sig (x ∷ xs) [] k = absurd k
-handed_length h sig (x ∷ xs) (y ∷ ys) k = ap suc (handed_length h sig xs ys k.1)
+pub handed_length : {M T : Type 0} (mc : Machine M T) (h : ℕ) (sig : Signal T) (olds news : List (Subscription M T)) → AllHanded mc h sig olds news → length news ≡ length olds
+handed_length mc h sig [] [] k = refl
+handed_length mc h sig [] (y ∷ ys) k = absurd k
+handed_length mc h sig (x ∷ xs) [] k = absurd k
+handed_length mc h sig (x ∷ xs) (y ∷ ys) k = ap suc (handed_length mc h sig xs ys k.1)
 
 -- ---- answers that belong to their steps
 

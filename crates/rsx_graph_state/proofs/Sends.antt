@@ -1,4 +1,5 @@
 -- The signals of a feed, and the hub that takes them in.
+use Rattle.rsx_sources.specs.declared.machine.Machine.{Ghosts as Machine}
 use Rattle.std.proofs.Common.{◌≡◌, ◌≢◌, ℕ, zero, suc, ◌+◌, ◌≤◌, min, Bool, true, false, ◌&&◌, nat_lt, if◌then◌else◌, List, [], ◌∷◌, ◌++◌, map, set, take, slice_get, Option, Some, None, option_map, refl, ap, sym, ◌∙◌, subst, arith}
 use Rattle.std.proofs.lemmas.Bool.Decides.{nat_tests}
 use Rattle.std.proofs.lemmas.List.{append-nil}
@@ -53,8 +54,8 @@ failure_next {T} (Some (Error c)) k hub room b is takes will =
     let same : Failure k ≡ front_of s = cc in
     ap (λ d. d && true) (sym will ∙ takes s same)
 
-pub feed_there : {T : Type 0} (m : Meaning T) (at : ℕ) (f : Feed T) (hub : HubState T) (fs : List (Feed T)) (xs : List (Subscription T)) (b : Bool) → slice_get fs at ≡ Some f → b ≡ can_feed m f hub fs xs → b ≡ can_feed_at m at hub fs xs
-feed_there m at f hub fs xs b there is = is ∙ sym (ap (λ o. can_feed_of m o hub fs xs) there)
+pub feed_there : {M T : Type 0} (mc : Machine M T) (m : Meaning T) (at : ℕ) (f : Feed M) (hub : HubState T) (fs : List (Feed M)) (xs : List (Subscription M T)) (b : Bool) → slice_get fs at ≡ Some f → b ≡ can_feed mc m f hub fs xs → b ≡ can_feed_at mc m at hub fs xs
+feed_there mc m at f hub fs xs b there is = is ∙ sym (ap (λ o. can_feed_of mc m o hub fs xs) there)
 
 -- where it can, there is room for its next signal
 room_of : {T : Type 0} (o : Option (Signal T)) (s : Signal T) (hub : HubState T) (room : Bool) → o ≡ Some s → takes_next o hub room ≡ true → is_room_for s room ≡ true
@@ -72,11 +73,11 @@ room_of (Some t) s hub room is can =
 own_hub : (n k : ℕ) → n ≡ k → nat_lt n k ≡ false
 own_hub n k e = grind (arith, nat_tests)
 
-reads_own : {T : Type 0} (n : ℕ) (f : Feed T) → n ≡ f.hub → reads_at n f ≡ 0
-reads_own n f e = ap (λ b. if b then Published.readers n f.part else 0) (own_hub n f.hub e)
+reads_own : {M T : Type 0} (mc : Machine M T) (n : ℕ) (f : Feed M) → n ≡ f.hub → reads_at mc n f ≡ 0
+reads_own mc n f e = ap (λ b. if b then Published.readers mc n f.part else 0) (own_hub n f.hub e)
 
-room_own : {T : Type 0} (n : ℕ) (f : Feed T) → n ≡ f.hub → has_room_at n f ≡ true
-room_own n f e = ap (λ b. if b then Published.has_room_for n f.part else true) (own_hub n f.hub e)
+room_own : {M T : Type 0} (mc : Machine M T) (n : ℕ) (f : Feed M) → n ≡ f.hub → has_room_at mc n f ≡ true
+room_own mc n f e = ap (λ b. if b then Published.has_room_for mc n f.part else true) (own_hub n f.hub e)
 
 total_set : {X : Type 0} (f : X → ℕ) (i : ℕ) (xs : List X) (x y : X) → slice_get xs i ≡ Some x → f y ≡ f x → total f (set xs i y) ≡ total f xs
 total_set f i [] x y at same = refl
@@ -127,12 +128,12 @@ value_there n s [] v at = cc
 value_there zero s (w ∷ ws) v at = let here : w ≡ v = cc in ap (λ u. Some (with_signal s u)) here
 value_there (suc n) s (w ∷ ws) v at = value_there n s ws v at
 
-sent_stands : {T : Type 0} (m : Meaning T) (feed : Feed T) (s : Signal T) (part : Part T) (published : List (Stream T)) (e : Expr T) (joins : List ℕ) (v : Stream T) → IsSentOut m feed.part s part → slice_get published feed.hub ≡ Some v → v.ending ≡ Open → FeedStands m published feed e joins →
-    FeedStands m (with_signal_at feed.hub s published) (record { part = part; hub = feed.hub }) e joins
-sent_stands {T} m feed s part published e joins v k at unended f =
+sent_stands : {M T : Type 0} (mc : Machine M T) (m : Meaning T) (feed : Feed M) (s : Signal T) (part : Part M) (published : List (Stream T)) (e : Expr T) (joins : List ℕ) (v : Stream T) → IsSentOut mc m feed.part s part → slice_get published feed.hub ≡ Some v → v.ending ≡ Open → FeedStands mc m published feed e joins →
+    FeedStands mc m (with_signal_at feed.hub s published) (record { part = part; hub = feed.hub }) e joins
+sent_stands {M} {T} mc m feed s part published e joins v k at unended f =
     let same : f.value ≡ v = let t = f.taken in cc in
-    let P : List (Stream T) → Type 0 = λ vs. PartStands m vs part e joins (signals (with_signal s f.value)) in
-    let Q : List (Signal T) → Type 0 = λ ss. PartStands m (take feed.hub published) part e joins ss in
+    let P : List (Stream T) → Type 0 = λ vs. PartStands mc m vs part e joins (signals (with_signal s f.value)) in
+    let Q : List (Signal T) → Type 0 = λ ss. PartStands mc m (take feed.hub published) part e joins ss in
     let less : feed.hub ≤ feed.hub = omega arith in
     record {
       value = with_signal s f.value;
@@ -159,21 +160,21 @@ was_open hub s v takes k = k.ending ∙ open_taken hub.has_ended hub.ending (and
 
 -- ---- all of it
 
-pub all_fed : {T : Type 0} (m : Meaning T) (at n count most : ℕ) (hub hub' : HubState T) (fs gs : List (Feed T)) (f mid : Feed T) (xs ys : List (Subscription T)) (given left : List (Signal T)) → slice_get fs at ≡ Some f → n ≡ f.hub → count ≡ min (all_readers n fs xs) most → count ≢ most →
-    can_feed m f hub fs xs ≡ true → IsTakenOut m f hub count given mid hub' → IsHandedOut (all_readers n (set fs at mid) xs) (all_have_room n (set fs at mid) xs) given left (λ s. AllFeedsHanded n s (set fs at mid) gs × AllHanded n s xs ys) → IsFed m at hub hub' fs gs xs ys
-all_fed {T} m at n count most hub hub' fs gs f mid xs ys given left from named counted fewer can out handed =
+pub all_fed : {M T : Type 0} (mc : Machine M T) (m : Meaning T) (at n count most : ℕ) (hub hub' : HubState T) (fs gs : List (Feed M)) (f mid : Feed M) (xs ys : List (Subscription M T)) (given left : List (Signal T)) → slice_get fs at ≡ Some f → n ≡ f.hub → count ≡ min (all_readers mc n fs xs) most → count ≢ most →
+    can_feed mc m f hub fs xs ≡ true → IsTakenOut mc m f hub count given mid hub' → IsHandedOut (all_readers mc n (set fs at mid) xs) (all_have_room mc n (set fs at mid) xs) given left (λ s. AllFeedsHanded mc n s (set fs at mid) gs × AllHanded mc n s xs ys) → IsFed mc m at hub hub' fs gs xs ys
+all_fed {M} {T} mc m at n count most hub hub' fs gs f mid xs ys given left from named counted fewer can out handed =
     let s = out.signal in
     let own : n ≡ mid.hub = named ∙ sym out.number in
-    let found = all_found (all_readers n fs xs) count most counted fewer in
-    let fewer_feeds : feed_readers n (set fs at mid) ≡ feed_readers n fs = total_set (reads_at n) at fs f mid from (reads_own n mid own ∙ sym (reads_own n f named)) in
-    let same_rooms : feeds_have_room n (set fs at mid) ≡ feeds_have_room n fs = every_set (has_room_at n) at fs f mid from (room_own n mid own ∙ sym (room_own n f named)) in
-    let all : 0 + all_readers n (set fs at mid) xs ≡ count = omega (arith, found, fewer_feeds) in
-    let room : is_room_for s (all_have_room n fs xs) ≡ true = ap (λ k. is_room_for s (all_have_room k fs xs)) named ∙ room_of (next_out m f.part) s hub (all_have_room f.hub fs xs) out.sent.next can in
-    let there : is_room_for s (all_have_room n (set fs at mid) xs) ≡ true = ap (λ b. is_room_for s (b && have_room n xs)) same_rooms ∙ room in
+    let found = all_found (all_readers mc n fs xs) count most counted fewer in
+    let fewer_feeds : feed_readers mc n (set fs at mid) ≡ feed_readers mc n fs = total_set (reads_at mc n) at fs f mid from (reads_own mc n mid own ∙ sym (reads_own mc n f named)) in
+    let same_rooms : feeds_have_room mc n (set fs at mid) ≡ feeds_have_room mc n fs = every_set (has_room_at mc n) at fs f mid from (room_own mc n mid own ∙ sym (room_own mc n f named)) in
+    let all : 0 + all_readers mc n (set fs at mid) xs ≡ count = omega (arith, found, fewer_feeds) in
+    let room : is_room_for s (all_have_room mc n fs xs) ≡ true = ap (λ k. is_room_for s (all_have_room mc k fs xs)) named ∙ room_of (next_out mc m f.part) s hub (all_have_room mc f.hub fs xs) out.sent.next can in
+    let there : is_room_for s (all_have_room mc n (set fs at mid) xs) ≡ true = ap (λ b. is_room_for s (b && have_room mc n xs)) same_rooms ∙ room in
     let done = handed s 0 (out.copies ∙ ap (λ k. times k s) (sym all)) there in
-    let after : Feed T = record { part = mid.part; hub = f.hub } in
+    let after : Feed M = record { part = mid.part; hub = f.hub } in
     let mid_is : mid ≡ after = ap (λ h. record { part = mid.part; hub = h }) out.number in
-    let fed : AllFeedsHanded f.hub s (set fs at after) gs = subst (λ k. AllFeedsHanded k s (set fs at after) gs) named (subst (λ g. AllFeedsHanded n s (set fs at g) gs) mid_is done.0.0) in
+    let fed : AllFeedsHanded mc f.hub s (set fs at after) gs = subst (λ k. AllFeedsHanded mc k s (set fs at after) gs) named (subst (λ g. AllFeedsHanded mc n s (set fs at g) gs) mid_is done.0.0) in
     record {
       feed = f;
       from = from;
@@ -183,11 +184,11 @@ all_fed {T} m at n count most hub hub' fs gs f mid xs ys given left from named c
       takes = out.takes;
       taken = out.taken;
       fed = fed;
-      handed = subst (λ k. AllHanded k s xs ys) named done.0.1;
+      handed = subst (λ k. AllHanded mc k s xs ys) named done.0.1;
       published = λ v is. (was_open hub s v out.takes is, subst (λ g. IsTaken g (with_signal s v)) (sym out.taken) (taken_on hub s v is));
       stands = λ published v e joins at_hub is stands.
-          let new = sent_stands m f s mid.part published e joins v out.sent at_hub (was_open hub s v out.takes is) stands in
-          let y = changed_there (IsFeedHanded f.hub s) at (set fs at after) gs after (set_there at fs f after from) fed in
+          let new = sent_stands mc m f s mid.part published e joins v out.sent at_hub (was_open hub s v out.takes is) stands in
+          let y = changed_there (IsFeedHanded mc f.hub s) at (set fs at after) gs after (set_there at fs f after from) fed in
           let not : nat_lt f.hub f.hub ≡ false = own_hub f.hub f.hub refl in
-          (y.0, y.1, subst (λ g. FeedStands m (with_signal_at f.hub s published) g e joins) (sym (y.2.same not)) new);
+          (y.0, y.1, subst (λ g. FeedStands mc m (with_signal_at f.hub s published) g e joins) (sym (y.2.same not)) new);
     }

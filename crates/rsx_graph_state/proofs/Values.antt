@@ -1,4 +1,6 @@
 -- The values of hubs: what they took in, and then what is still to come of them. With these the headline holds.
+use Rattle.rsx_sources.specs.declared.machine.Machine.{Ghosts as Machine}
+use Rattle.rsx_subscriber.proofs.Laws.{Laws}
 use Rattle.std.proofs.Common.{◌≡◌, ℕ, zero, suc, ◌+◌, Bool, true, false, add-zero, List, [], ◌∷◌, ◌++◌, length, length-append, map, take, slice_get, Some, refl, ap, sym, ◌∙◌, subst, arith, append_assoc}
 use Rattle.std.proofs.lemmas.List.{append-nil}
 use Rattle.rsx_graph_state.specs.Holding.{AllHold}
@@ -6,7 +8,7 @@ use Rattle.rsx_graph_state.specs.Subscriptions.{AllStand}
 use Rattle.rsx_hub.specs.Hub.{HubState, hub_value}
 use Rattle.rsx_hub.specs.Member.{ending_taken}
 use Rattle.rsx_hub.specs.Waiting.{is_open}
-use Rattle.rsx_kinds.specs.Inboxes.{waiting_of}
+use Rattle.rsx_rooted.specs.Inboxes.{waiting_of}
 use Rattle.rsx_subscriber.specs.Prelude.{Expr, more_after, published_then, values_then, evaluated, IsTaken, notes_of, Past}
 use Rattle.rsx_pipe.proofs.Signals.{some_same}
 use Rattle.rsx_graph_state.specs.declared.feed.Feed.{Feed}
@@ -74,29 +76,29 @@ behind_front zero (x ∷ xs) y ys e = absurd (omega (arith, e))
 behind_front (suc n) (x ∷ xs) y ys e = behind_front n xs y ys (omega (arith, e))
 
 -- the value of the next hub, behind those before it
-abbrev HasNext : {T : Type 0} → Meaning T → List (Feed T) → List (Stream T) → Source T → Stream T → Type 0
-HasNext {T} m feeds before source v = (u : Stream T) × IsValue m feeds before source (published_then v u)
+abbrev HasNext : {M T : Type 0} → Machine M T → Meaning T → List (Feed M) → List (Stream T) → Source T → Stream T → Type 0
+HasNext {M} {T} mc m feeds before source v = (u : Stream T) × IsValue mc m feeds before source (published_then v u)
 
-fed_value : {T : Type 0} (m : Meaning T) (feeds : List (Feed T)) (front waiting back : List (Stream T)) (i : ℕ) (v : Stream T) (s : HubState T) (e : Expr T) (joins : List ℕ) → length waiting ≡ length front → i ≡ length front → IsFedBy m feeds (front ++ v ∷ back) i s e joins → HasNext m feeds (values_then front waiting) (fed e joins) v
-fed_value {T} m feeds front waiting back i v s e joins many at k =
+fed_value : {M T : Type 0} (mc : Machine M T) (lw : Laws mc) (m : Meaning T) (feeds : List (Feed M)) (front waiting back : List (Stream T)) (i : ℕ) (v : Stream T) (s : HubState T) (e : Expr T) (joins : List ℕ) → length waiting ≡ length front → i ≡ length front → IsFedBy mc m feeds (front ++ v ∷ back) i s e joins → HasNext mc m feeds (values_then front waiting) (fed e joins) v
+fed_value {M} {T} mc lw m feeds front waiting back i v s e joins many at k =
     let f = k.feed in
     let st = k.stands in
     let here : f.hub ≡ length front = feed_named feeds i f k.there ∙ at in
     let before : take f.hub (front ++ v ∷ back) ≡ front = take_front f.hub front (v ∷ back) here in
     let same : st.value ≡ v = some_same st.value v (sym st.taken ∙ behind_front f.hub front v back here) in
-    let there = value_there m (take f.hub (front ++ v ∷ back)) waiting f.part e joins (signals st.value) st.part in
+    let there = value_there mc lw m (take f.hub (front ++ v ∷ back)) waiting f.part e joins (signals st.value) st.part in
     let number : i ≡ length (values_then front waiting) = at ∙ sym (values_then-length front waiting many) in
     let own : feed_of feeds (length (values_then front waiting)) ≡ Some f = ap (λ n. feed_of feeds n) (sym number) ∙ k.there in
-    let value : evaluated m (values_then front waiting) joins e (notes_of f.part.tree) ≡ Some (published_then v there.left) =
-    ap (λ l. evaluated m (values_then l waiting) joins e (notes_of f.part.tree)) (sym before) ∙ (there.value ∙ ap Some (then_signals st.value there.left ∙ ap (λ x. published_then x there.left) same)) in
+    let value : evaluated m (values_then front waiting) joins e (notes_of mc f.part.tree) ≡ Some (published_then v there.left) =
+    ap (λ l. evaluated m (values_then l waiting) joins e (notes_of mc f.part.tree)) (sym before) ∙ (there.value ∙ ap Some (then_signals st.value there.left ∙ ap (λ x. published_then x there.left) same)) in
     (there.left, (f, own, value))
 
-next_value : {T : Type 0} (m : Meaning T) (feeds : List (Feed T)) (front waiting back : List (Stream T)) (i : ℕ) (v : Stream T) (s : HubState T) (p : HubPast T) → length waiting ≡ length front → i ≡ length front → HubStands m feeds (front ++ v ∷ back) i v s p → HasNext m feeds (values_then front waiting) p.source v
-next_value {T} m feeds front waiting back i v s p many at k = by_source p.source k.source
+next_value : {M T : Type 0} (mc : Machine M T) (lw : Laws mc) (m : Meaning T) (feeds : List (Feed M)) (front waiting back : List (Stream T)) (i : ℕ) (v : Stream T) (s : HubState T) (p : HubPast T) → length waiting ≡ length front → i ≡ length front → HubStands mc m feeds (front ++ v ∷ back) i v s p → HasNext mc m feeds (values_then front waiting) p.source v
+next_value {M} {T} mc lw m feeds front waiting back i v s p many at k = by_source p.source k.source
   where
-    by_source : (src : Source T) → SourceStands m feeds (front ++ v ∷ back) i v s src → HasNext m feeds (values_then front waiting) src v
+    by_source : (src : Source T) → SourceStands mc m feeds (front ++ v ∷ back) i v s src → HasNext mc m feeds (values_then front waiting) src v
     by_source (emitted w) h = (waiting_of s, emitted_value s v w k.taken_in k.ended h.1)
-    by_source (fed e joins) h = fed_value m feeds front waiting back i v s e joins many at h
+    by_source (fed e joins) h = fed_value mc lw m feeds front waiting back i v s e joins many at h
 
 -- ---- all hubs
 
@@ -107,46 +109,46 @@ one_behind (x ∷ xs) [] v u e = absurd (omega (arith, e))
 one_behind (x ∷ xs) (w ∷ us) v u e = ap (λ l. published_then x w ∷ l) (one_behind xs us v u (omega (arith, e)))
 
 -- what is still to come of these hubs, with which their values are there
-pub record HaveRest {T : Type 0} (m : Meaning T) (feeds : List (Feed T)) (before taken : List (Stream T)) (ps : List (HubPast T)) : Type 0 where
+pub record HaveRest {M T : Type 0} (mc : Machine M T) (m : Meaning T) (feeds : List (Feed M)) (before taken : List (Stream T)) (ps : List (HubPast T)) : Type 0 where
   pub rest : List (Stream T)
   pub many : length rest ≡ length taken
-  pub values : AreValues m feeds before ps (values_then taken rest)
+  pub values : AreValues mc m feeds before ps (values_then taken rest)
 
-all_values : {T : Type 0} (m : Meaning T) (feeds : List (Feed T)) (front waiting back : List (Stream T)) (hubs : List (HubState T)) (ps : List (HubPast T)) → length waiting ≡ length front → length back ≡ length ps → length hubs ≡ length ps →
-    ((j : ℕ) (v : Stream T) (s : HubState T) (p : HubPast T) → slice_get back j ≡ Some v → slice_get hubs j ≡ Some s → slice_get ps j ≡ Some p → HubStands m feeds (front ++ back) (length front + j) v s p) → HaveRest m feeds (values_then front waiting) back ps
-all_values m feeds front waiting [] [] [] many a b k = record { rest = []; many = refl; values = refl }
-all_values m feeds front waiting (v ∷ back) hubs [] many a b k = absurd (omega (arith, a))
-all_values m feeds front waiting [] hubs (p ∷ ps) many a b k = absurd (omega (arith, a))
-all_values m feeds front waiting back (s ∷ hubs) [] many a b k = absurd (omega (arith, b))
-all_values m feeds front waiting back [] (p ∷ ps) many a b k = absurd (omega (arith, b))
-all_values {T} m feeds front waiting (v ∷ back) (s ∷ hubs) (p ∷ ps) many a b k =
-    let one = next_value m feeds front waiting back (length front + 0) v s p many (add-zero (length front)) (k 0 v s p refl refl refl) in
+all_values : {M T : Type 0} (mc : Machine M T) (lw : Laws mc) (m : Meaning T) (feeds : List (Feed M)) (front waiting back : List (Stream T)) (hubs : List (HubState T)) (ps : List (HubPast T)) → length waiting ≡ length front → length back ≡ length ps → length hubs ≡ length ps →
+    ((j : ℕ) (v : Stream T) (s : HubState T) (p : HubPast T) → slice_get back j ≡ Some v → slice_get hubs j ≡ Some s → slice_get ps j ≡ Some p → HubStands mc m feeds (front ++ back) (length front + j) v s p) → HaveRest mc m feeds (values_then front waiting) back ps
+all_values mc lw m feeds front waiting [] [] [] many a b k = record { rest = []; many = refl; values = refl }
+all_values mc lw m feeds front waiting (v ∷ back) hubs [] many a b k = absurd (omega (arith, a))
+all_values mc lw m feeds front waiting [] hubs (p ∷ ps) many a b k = absurd (omega (arith, a))
+all_values mc lw m feeds front waiting back (s ∷ hubs) [] many a b k = absurd (omega (arith, b))
+all_values mc lw m feeds front waiting back [] (p ∷ ps) many a b k = absurd (omega (arith, b))
+all_values {M} {T} mc lw m feeds front waiting (v ∷ back) (s ∷ hubs) (p ∷ ps) many a b k =
+    let one = next_value mc lw m feeds front waiting back (length front + 0) v s p many (add-zero (length front)) (k 0 v s p refl refl refl) in
     let on : front ++ v ∷ back ≡ (front ++ v ∷ []) ++ back = sym (append_assoc front (v ∷ []) back) in
     let step : (j : ℕ) → length front + suc j ≡ length (front ++ v ∷ []) + j = λ j. let l = length-append front (v ∷ []) in omega (arith, l) in
-    let more = all_values m feeds (front ++ v ∷ []) (waiting ++ one.0 ∷ []) back hubs ps (let x = length-append front (v ∷ []) in let y = length-append waiting (one.0 ∷ []) in omega (arith, x, y, many)) (omega (arith, a)) (omega (arith, b))
+    let more = all_values mc lw m feeds (front ++ v ∷ []) (waiting ++ one.0 ∷ []) back hubs ps (let x = length-append front (v ∷ []) in let y = length-append waiting (one.0 ∷ []) in omega (arith, x, y, many)) (omega (arith, a)) (omega (arith, b))
     (λ j w t q ew et eq.
-    let P : ℕ → Type 0 = λ n. HubStands m feeds ((front ++ v ∷ []) ++ back) n w t q in
-    let Q : List (Stream T) → Type 0 = λ l. HubStands m feeds l (length front + suc j) w t q in
+    let P : ℕ → Type 0 = λ n. HubStands mc m feeds ((front ++ v ∷ []) ++ back) n w t q in
+    let Q : List (Stream T) → Type 0 = λ l. HubStands mc m feeds l (length front + suc j) w t q in
     subst P (step j) (subst Q on (k (suc j) w t q ew et eq))) in
-    let R : List (Stream T) → Type 0 = λ l. AreValues m feeds l ps (values_then back more.rest) in
+    let R : List (Stream T) → Type 0 = λ l. AreValues mc m feeds l ps (values_then back more.rest) in
     record { rest = one.0 ∷ more.rest; many = ap suc more.many; values = (one.1, subst R (one_behind front waiting v one.0 many) more.values) }
 
 -- a graph that stands for a history: the values of its hubs are what they took in, and then this
-pub values_of : {T : Type 0} (m : Meaning T) (g : Rows T) (h : History T) → (s : StandsFor m g h) → HaveRest m g.feeds [] s.taken h.hubs
-values_of {T} m g h s = all_values m g.feeds [] [] s.taken g.hubs h.hubs refl s.each s.many (λ j v t p ev et ep. let P : ℕ → Type 0 = λ n. HubStands m g.feeds s.taken n v t p in subst P (none_first j) (s.hub j v t p ev et ep))
+pub values_of : {M T : Type 0} (mc : Machine M T) (lw : Laws mc) (m : Meaning T) (g : Rows M T) (h : History T) → (s : StandsFor mc m g h) → HaveRest mc m g.feeds [] s.taken h.hubs
+values_of {M} {T} mc lw m g h s = all_values mc lw m g.feeds [] [] s.taken g.hubs h.hubs refl s.each s.many (λ j v t p ev et ep. let P : ℕ → Type 0 = λ n. HubStands mc m g.feeds s.taken n v t p in subst P (none_first j) (s.hub j v t p ev et ep))
   where
     none_first : (k : ℕ) → k ≡ 0 + k
     none_first k = omega arith
 
 -- ---- the headline
 
-all_hold : {T : Type 0} (m : Meaning T) (taken waiting : List (Stream T)) → length waiting ≡ length taken → (subs : List (Subscription T)) (pasts : List (Past T)) → AllStand m taken subs pasts → AllHold m (values_then taken waiting) subs pasts
-all_hold m taken waiting e [] [] h = tt
-all_hold m taken waiting e (s ∷ ss) (p ∷ ps) h = (holds m taken waiting s p h.0 e, all_hold m taken waiting e ss ps h.1)
-all_hold m taken waiting e [] (p ∷ ps) h = absurd h
-all_hold m taken waiting e (s ∷ ss) [] h = absurd h
+all_hold : {M T : Type 0} (mc : Machine M T) (lw : Laws mc) (m : Meaning T) (taken waiting : List (Stream T)) → length waiting ≡ length taken → (subs : List (Subscription M T)) (pasts : List (Past T)) → AllStand mc m taken subs pasts → AllHold mc m (values_then taken waiting) subs pasts
+all_hold mc lw m taken waiting e [] [] h = tt
+all_hold mc lw m taken waiting e (s ∷ ss) (p ∷ ps) h = (holds mc lw m taken waiting s p h.0 e, all_hold mc lw m taken waiting e ss ps h.1)
+all_hold mc lw m taken waiting e [] (p ∷ ps) h = absurd h
+all_hold mc lw m taken waiting e (s ∷ ss) [] h = absurd h
 
-pub whole_holds : {T : Type 0} (m : Meaning T) (g : Rows T) (h : History T) → StandsFor m g h → Headline m g h
-whole_holds m g h s =
-    let r = values_of m g h s in
-    record { published = values_then s.taken r.rest; values = r.values; all = all_hold m s.taken r.rest r.many g.subs h.pasts s.all }
+pub whole_holds : {M T : Type 0} (mc : Machine M T) (lw : Laws mc) (m : Meaning T) (g : Rows M T) (h : History T) → StandsFor mc m g h → Headline mc m g h
+whole_holds mc lw m g h s =
+    let r = values_of mc lw m g h s in
+    record { published = values_then s.taken r.rest; values = r.values; all = all_hold mc lw m s.taken r.rest r.many g.subs h.pasts s.all }

@@ -1,6 +1,6 @@
 -- What files of the crates above import most, in one place.
 pub use Rattle.rsx_graph_state.specs.Answers.{HasAsked, HasJoins, IsAcceptRefusal, IsHubRefusal, IsLookRefusal, IsSubMoveRefusal, IsSubscribeId, changed, state_at}
-pub use Rattle.rsx_graph_state.specs.Begun.{AreTooMany, HaveJoined, IsPrepared, IsSubscribed, have_places}
+pub use Rattle.rsx_graph_state.specs.Begun.{AreTooMany, HaveJoined, IsSubscribed, have_places}
 pub use Rattle.rsx_graph_state.specs.Feeds.{FeedStands, has_room_at, reads_at}
 pub use Rattle.rsx_graph_state.specs.Headline.{AreValues, IsValue}
 pub use Rattle.rsx_graph_state.specs.History.{History, HubPast, Source, accepted_at, delivered, emitted, fed, sent_at, with_delivery, with_made, with_moved, with_sent}

@@ -12,6 +12,7 @@ ghost use Rattle.rsx_graph_state.specs.Stands.{StandsFor};
 use crate::feeds::place_of;
 use crate::{Feed, Refusal, publishing};
 use rsx_hub::Hub;
+use rsx_pipe::Nodes;
 use rsx_sources::NotMade;
 use rsx_subscriber::Subscription;
 use rsx_types::{HubId, Ops};
@@ -24,23 +25,23 @@ use std::alloc::Global;
 /// [`Refusal::UnknownHub`] for a hub that isn't there, else [`Refusal::NotEnabled`] exactly where the hub has a feed, or no signal
 /// waits, or an item does and some node that reads the hub has no room for it, and [`Refusal::NoMemory`] where a growth was
 /// refused; nothing changed.
-pub fn accept<O: Ops>(
+pub fn accept<N: Nodes<Item = O::Item>, O: Ops>(
     alloc: Global,
     ops: &O,
     hubs: &mut Vec<Hub<O::Item>>,
-    feeds: &mut Vec<Feed<O::Item>>,
-    subscriptions: &mut Vec<Subscription<O::Item>>,
+    feeds: &mut Vec<Feed<N>>,
+    subscriptions: &mut Vec<Subscription<N, O::Item>>,
     hub: HubId,
 ) -> Result<(), Refusal>
     ensures hubs { length hubs.new.items ≡ length hubs.old.items }
     ensures feeds { length feeds.new.items ≡ length feeds.old.items }
     ensures subscriptions { length subscriptions.new.items ≡ length subscriptions.old.items }
     ensures stands { OnOk result ((m : Meaning O.Item) (h : History O.Item) →
-        StandsFor m (rows_of hubs.old.items feeds.old.items subscriptions.old.items) h →
-        StandsFor m (rows_of hubs.new.items feeds.new.items subscriptions.new.items) (with_accepted hub h)) }
-    ensures effect { OnOk result (IsAcceptedAt hub.0 (rows_of hubs.old.items feeds.old.items subscriptions.old.items) (rows_of hubs.new.items feeds.new.items subscriptions.new.items)) }
-    ensures enabled { OnOk result (accepts_at (rows_of hubs.old.items feeds.old.items subscriptions.old.items) hub.0 ≡ true) }
-    ensures err { IfErr result (IsAcceptRefusal (length hubs.old.items) (accepts_at (rows_of hubs.old.items feeds.old.items subscriptions.old.items) hub.0) hub.0) }
+        StandsFor N.Machine m (rows_of hubs.old.items feeds.old.items subscriptions.old.items) h →
+        StandsFor N.Machine m (rows_of hubs.new.items feeds.new.items subscriptions.new.items) (with_accepted hub h)) }
+    ensures effect { OnOk result (IsAcceptedAt N.Machine hub.0 (rows_of hubs.old.items feeds.old.items subscriptions.old.items) (rows_of hubs.new.items feeds.new.items subscriptions.new.items)) }
+    ensures enabled { OnOk result (accepts_at N.Machine (rows_of hubs.old.items feeds.old.items subscriptions.old.items) hub.0 ≡ true) }
+    ensures err { IfErr result (IsAcceptRefusal (length hubs.old.items) (accepts_at N.Machine (rows_of hubs.old.items feeds.old.items subscriptions.old.items) hub.0) hub.0) }
     ensures same { OnErr result ((hubs.new.items ≡ hubs.old.items) × (feeds.new.items ≡ feeds.old.items) × (subscriptions.new.items ≡ subscriptions.old.items)) }
 {
     if hub.0 as usize >= hubs.len() {
@@ -57,12 +58,12 @@ pub fn accept<O: Ops>(
 }
 
 /// The same at a hub that is there and has no feed.
-fn accept_known<O: Ops>(
+fn accept_known<N: Nodes<Item = O::Item>, O: Ops>(
     alloc: Global,
     ops: &O,
     hubs: &mut Vec<Hub<O::Item>>,
-    feeds: &mut Vec<Feed<O::Item>>,
-    subscriptions: &mut Vec<Subscription<O::Item>>,
+    feeds: &mut Vec<Feed<N>>,
+    subscriptions: &mut Vec<Subscription<N, O::Item>>,
     hub: HubId,
 ) -> Result<(), NotMade>
     requires there { hub.0 < length hubs.old.items }
@@ -70,9 +71,9 @@ fn accept_known<O: Ops>(
     ensures hubs { length hubs.new.items ≡ length hubs.old.items }
     ensures feeds { length feeds.new.items ≡ length feeds.old.items }
     ensures subscriptions { length subscriptions.new.items ≡ length subscriptions.old.items }
-    ensures effect { OnOk result (IsAcceptedAt hub.0 (rows_of hubs.old.items feeds.old.items subscriptions.old.items) (rows_of hubs.new.items feeds.new.items subscriptions.new.items)) }
-    ensures enabled { OnOk result (accepts_at (rows_of hubs.old.items feeds.old.items subscriptions.old.items) hub.0 ≡ true) }
-    ensures err { IfErr result (IsNotMade (accepts_at (rows_of hubs.old.items feeds.old.items subscriptions.old.items) hub.0)) }
+    ensures effect { OnOk result (IsAcceptedAt N.Machine hub.0 (rows_of hubs.old.items feeds.old.items subscriptions.old.items) (rows_of hubs.new.items feeds.new.items subscriptions.new.items)) }
+    ensures enabled { OnOk result (accepts_at N.Machine (rows_of hubs.old.items feeds.old.items subscriptions.old.items) hub.0 ≡ true) }
+    ensures err { IfErr result (IsNotMade (accepts_at N.Machine (rows_of hubs.old.items feeds.old.items subscriptions.old.items) hub.0)) }
     ensures same { OnErr result ((hubs.new.items ≡ hubs.old.items) × (feeds.new.items ≡ feeds.old.items) × (subscriptions.new.items ≡ subscriptions.old.items)) }
 {
     match publishing::accept(

@@ -12,7 +12,7 @@ ghost use Rattle.rsx_graph_state.specs.Stands.{StandsFor};
 use crate::feeds::place_of;
 use crate::{Feed, Refusal, send_to_hub};
 use rsx_hub::Hub;
-use rsx_pipe::NodeMove;
+use rsx_pipe::{NodeMove, Nodes};
 use rsx_sources::NotMade;
 use rsx_subscriber::Subscription;
 use rsx_types::{HubId, Ops};
@@ -24,12 +24,12 @@ use std::alloc::Global;
 /// # Errors
 /// [`Refusal::UnknownHub`] for a hub that isn't there or has no feed, else [`Refusal::NotEnabled`] exactly where the move isn't
 /// enabled, and [`Refusal::NoMemory`] where a growth was refused, of a move that may allocate; nothing changed.
-pub fn make_in_feed<O: Ops>(
+pub fn make_in_feed<N: Nodes<Item = O::Item>, O: Ops>(
     alloc: Global,
     ops: &O,
     hubs: &mut Vec<Hub<O::Item>>,
-    feeds: &mut Vec<Feed<O::Item>>,
-    subscriptions: &mut Vec<Subscription<O::Item>>,
+    feeds: &mut Vec<Feed<N>>,
+    subscriptions: &mut Vec<Subscription<N, O::Item>>,
     hub: HubId,
     step: NodeMove,
 ) -> Result<(), Refusal>
@@ -37,16 +37,16 @@ pub fn make_in_feed<O: Ops>(
     ensures feeds { length feeds.new.items ≡ length feeds.old.items }
     ensures subscriptions { length subscriptions.new.items ≡ length subscriptions.old.items }
     ensures stands { OnOk result ((h : History O.Item) →
-        StandsFor (O.meaning ops.now) (rows_of hubs.old.items feeds.old.items subscriptions.old.items) h →
-        StandsFor (O.meaning ops.now) (rows_of hubs.new.items feeds.new.items subscriptions.new.items)
-        (with_feed_moved (O.meaning ops.now) (rows_of hubs.old.items feeds.old.items subscriptions.old.items) step hub.0 h)) }
-    ensures effect { OnOk result (IsFeedMoved (O.meaning ops.now) step hub.0 (rows_of hubs.old.items feeds.old.items subscriptions.old.items) (rows_of hubs.new.items feeds.new.items subscriptions.new.items)) }
-    ensures enabled { OnOk result (feed_enabled (O.meaning ops.now) (rows_of hubs.old.items feeds.old.items subscriptions.old.items) hub.0 step ≡ true) }
+        StandsFor N.Machine (O.meaning ops.now) (rows_of hubs.old.items feeds.old.items subscriptions.old.items) h →
+        StandsFor N.Machine (O.meaning ops.now) (rows_of hubs.new.items feeds.new.items subscriptions.new.items)
+        (with_feed_moved N.Machine (O.meaning ops.now) (rows_of hubs.old.items feeds.old.items subscriptions.old.items) step hub.0 h)) }
+    ensures effect { OnOk result (IsFeedMoved N.Machine (O.meaning ops.now) step hub.0 (rows_of hubs.old.items feeds.old.items subscriptions.old.items) (rows_of hubs.new.items feeds.new.items subscriptions.new.items)) }
+    ensures enabled { OnOk result (feed_enabled N.Machine (O.meaning ops.now) (rows_of hubs.old.items feeds.old.items subscriptions.old.items) hub.0 step ≡ true) }
     ensures err { IfErr result (IsFeedRefusal (has_feed (rows_of hubs.old.items feeds.old.items subscriptions.old.items) hub.0)
-        (feed_enabled (O.meaning ops.now) (rows_of hubs.old.items feeds.old.items subscriptions.old.items) hub.0 step)) }
+        (feed_enabled N.Machine (O.meaning ops.now) (rows_of hubs.old.items feeds.old.items subscriptions.old.items) hub.0 step)) }
 
     // An enabled move that takes no memory is made.
-    ensures memory { feed_allocates (O.allocates ops.now) feeds.old.items hub.0 step ≡ false → IfErr result (λ r. r ≢ Refusal.NoMemory) }
+    ensures memory { feed_allocates N.Machine (O.allocates ops.now) feeds.old.items hub.0 step ≡ false → IfErr result (λ r. r ≢ Refusal.NoMemory) }
     ensures same { OnErr result ((hubs.new.items ≡ hubs.old.items) × (feeds.new.items ≡ feeds.old.items) × (subscriptions.new.items ≡ subscriptions.old.items)) }
 {
     if hub.0 as usize >= hubs.len() {
@@ -82,12 +82,12 @@ fn is_out(step: NodeMove) -> bool
 }
 
 /// Sends the next signal of the feed with this index into its hub.
-fn send<O: Ops>(
+fn send<N: Nodes<Item = O::Item>, O: Ops>(
     alloc: Global,
     ops: &O,
     hubs: &mut Vec<Hub<O::Item>>,
-    feeds: &mut Vec<Feed<O::Item>>,
-    subscriptions: &mut Vec<Subscription<O::Item>>,
+    feeds: &mut Vec<Feed<N>>,
+    subscriptions: &mut Vec<Subscription<N, O::Item>>,
     hub: HubId,
     at: usize,
 ) -> Result<(), NotMade>
@@ -97,9 +97,9 @@ fn send<O: Ops>(
     ensures hubs { length hubs.new.items ≡ length hubs.old.items }
     ensures feeds { length feeds.new.items ≡ length feeds.old.items }
     ensures subscriptions { length subscriptions.new.items ≡ length subscriptions.old.items }
-    ensures effect { OnOk result (IsFedAt (O.meaning ops.now) hub.0 (rows_of hubs.old.items feeds.old.items subscriptions.old.items) (rows_of hubs.new.items feeds.new.items subscriptions.new.items)) }
-    ensures enabled { OnOk result (sends (O.meaning ops.now) (rows_of hubs.old.items feeds.old.items subscriptions.old.items) hub.0 ≡ true) }
-    ensures err { IfErr result (IsNotMade (sends (O.meaning ops.now) (rows_of hubs.old.items feeds.old.items subscriptions.old.items) hub.0)) }
+    ensures effect { OnOk result (IsFedAt N.Machine (O.meaning ops.now) hub.0 (rows_of hubs.old.items feeds.old.items subscriptions.old.items) (rows_of hubs.new.items feeds.new.items subscriptions.new.items)) }
+    ensures enabled { OnOk result (sends N.Machine (O.meaning ops.now) (rows_of hubs.old.items feeds.old.items subscriptions.old.items) hub.0 ≡ true) }
+    ensures err { IfErr result (IsNotMade (sends N.Machine (O.meaning ops.now) (rows_of hubs.old.items feeds.old.items subscriptions.old.items) hub.0)) }
     ensures same { OnErr result ((hubs.new.items ≡ hubs.old.items) × (feeds.new.items ≡ feeds.old.items) × (subscriptions.new.items ≡ subscriptions.old.items)) }
 {
     match send_to_hub(
@@ -116,10 +116,10 @@ fn send<O: Ops>(
 }
 
 /// Makes a move inside the feed with this index.
-fn work<O: Ops>(
+fn work<N: Nodes<Item = O::Item>, O: Ops>(
     alloc: Global,
     ops: &O,
-    feeds: &mut Vec<Feed<O::Item>>,
+    feeds: &mut Vec<Feed<N>>,
     hub: HubId,
     at: usize,
     step: NodeMove,
@@ -127,10 +127,10 @@ fn work<O: Ops>(
     requires within { at < length feeds.old.items }
     requires place { spec.place_of feeds.old.items hub.0 ≡ Some at }
     ensures count { length feeds.new.items ≡ length feeds.old.items }
-    ensures effect { OnOk result (IsWorkedAt (O.meaning ops.now) step hub.0 feeds.old.items feeds.new.items) }
-    ensures enabled { OnOk result (works (O.meaning ops.now) feeds.old.items hub.0 step ≡ true) }
-    ensures err { IfErr result (IsNotMade (works (O.meaning ops.now) feeds.old.items hub.0 step)) }
-    ensures memory { allocates_inside (O.allocates ops.now) (spec.feed_of feeds.old.items hub.0) step ≡ false → OnlyNotEnabled result }
+    ensures effect { OnOk result (IsWorkedAt N.Machine (O.meaning ops.now) step hub.0 feeds.old.items feeds.new.items) }
+    ensures enabled { OnOk result (works N.Machine (O.meaning ops.now) feeds.old.items hub.0 step ≡ true) }
+    ensures err { IfErr result (IsNotMade (works N.Machine (O.meaning ops.now) feeds.old.items hub.0 step)) }
+    ensures memory { allocates_inside N.Machine (O.allocates ops.now) (spec.feed_of feeds.old.items hub.0) step ≡ false → OnlyNotEnabled result }
     ensures same { OnErr result (feeds.new.items ≡ feeds.old.items) }
 {
     let feed = &mut feeds[at];

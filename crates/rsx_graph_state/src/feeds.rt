@@ -4,9 +4,10 @@ ghost use Rattle.std.specs.Prelude.{◌≡◌};
 ghost use Rattle.rsx_graph_state.specs.Stands as spec;
 
 use crate::Feed;
+use rsx_pipe::Nodes;
 
 /// Where among these feeds that of the hub with this number stands: the first that names the hub. None where none does.
-pub fn place_of<T: Drop>(feeds: &[Feed<T>], hub: u32) -> Option<usize>
+pub fn place_of<N: Nodes>(feeds: &[Feed<N>], hub: u32) -> Option<usize>
     ensures { result ≡ spec.place_of feeds.now hub }
 {
     for at in 0..feeds.len() {

@@ -5,6 +5,7 @@ ghost use Rattle.rsx_graph_state.specs.Headline.{Headline};
 ghost use Rattle.rsx_graph_state.specs.History.{History};
 ghost use Rattle.rsx_graph_state.specs.Stands.{Rows, StandsFor};
 
+use rsx_pipe::Nodes;
 use rsx_types::Ops;
 
 /// The headline where hubs may have feeds: wherever the rows of a graph stand for a history, what each live subscriber received,
@@ -13,6 +14,6 @@ use rsx_types::Ops;
 /// it, under what the feed's nodes recorded.
 ///
 /// The function does nothing; its contract is the sentence.
-pub fn headline<O: Ops>()
-    ensures { (m : Meaning O.Item) (g : Rows O.Item) (h : History O.Item) → StandsFor m g h → Headline m g h }
+pub fn headline<N: Nodes<Item = O::Item>, O: Ops>()
+    ensures { (m : Meaning O.Item) (g : Rows N O.Item) (h : History O.Item) → StandsFor N.Machine m g h → Headline N.Machine m g h }
 {}

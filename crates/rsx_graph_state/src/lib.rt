@@ -50,7 +50,7 @@ pub mod sending;
 pub mod step;
 
 pub use accepting::accept;
-pub use feed::Feed;
+pub use feed::{Feed, HUB_REGION};
 pub use feed_moves::make_in_feed;
 pub use feeds::place_of;
 pub use law::headline;

@@ -10,6 +10,7 @@ ghost use Rattle.rsx_graph_state.specs.Publishing.{all_readers, feed_readers, re
 
 use crate::feed::Feed;
 use rsx_hub::Hub;
+use rsx_pipe::Nodes;
 use rsx_sources::{Front, NotMade};
 use rsx_subscriber::Subscription;
 use rsx_types::{NoMemory, Ops, Signal};
@@ -23,17 +24,17 @@ use std::alloc::Global;
 /// - [`NotMade::NotEnabled`] exactly where no signal waits, or an item does and some node that reads the hub has no room for it.
 /// - [`NotMade::NoMemory`] where a growth or a copy was refused, or where 2^32 - 1 nodes or more read the hub, for which no list
 ///   is made.
-pub fn accept<O: Ops>(
+pub fn accept<N: Nodes<Item = O::Item>, O: Ops>(
     alloc: Global,
     ops: &O,
     hub: &mut Hub<O::Item>,
     number: u32,
-    feeds: &mut [Feed<O::Item>],
-    subscriptions: &mut [Subscription<O::Item>],
+    feeds: &mut [Feed<N>],
+    subscriptions: &mut [Subscription<N, O::Item>],
 ) -> Result<(), NotMade>
-    ensures ok { OnOk result (IsAccepted number hub.old hub.new feeds.old feeds.new subscriptions.old subscriptions.new) }
-    ensures enabled { OnOk result (spec.can_accept number hub.old feeds.old subscriptions.old ≡ true) }
-    ensures err { IfErr result (IsNotMade (spec.can_accept number hub.old feeds.old subscriptions.old)) }
+    ensures ok { OnOk result (IsAccepted N.Machine number hub.old hub.new feeds.old feeds.new subscriptions.old subscriptions.new) }
+    ensures enabled { OnOk result (spec.can_accept N.Machine number hub.old feeds.old subscriptions.old ≡ true) }
+    ensures err { IfErr result (IsNotMade (spec.can_accept N.Machine number hub.old feeds.old subscriptions.old)) }
     ensures same { OnErr result ((hub.new ≡ hub.old) × (feeds.new ≡ feeds.old) × (subscriptions.new ≡ subscriptions.old)) }
 {
     let number = u64::from(number);
@@ -55,13 +56,13 @@ pub fn accept<O: Ops>(
 
 /// Whether the hub with this number can take a signal in: one waits in front of its inbox, and for an item each node of these feeds
 /// and subscriptions that reads the hub has room. It takes no memory.
-pub fn can_accept<T: Drop>(
+pub fn can_accept<N: Nodes<Item = T>, T: Drop>(
     number: u64,
     hub: &Hub<T>,
-    feeds: &[Feed<T>],
-    subscriptions: &[Subscription<T>],
+    feeds: &[Feed<N>],
+    subscriptions: &[Subscription<N, T>],
 ) -> bool
-    ensures { result ≡ spec.can_accept number hub.now feeds.now subscriptions.now }
+    ensures { result ≡ spec.can_accept N.Machine number hub.now feeds.now subscriptions.now }
 {
     match hub.front() {
         None => false,
@@ -72,12 +73,12 @@ pub fn can_accept<T: Drop>(
 }
 
 /// Whether all nodes that read the hub have room for an item of it.
-pub(crate) fn all_have_room<T: Drop>(
+pub(crate) fn all_have_room<N: Nodes<Item = T>, T: Drop>(
     number: u64,
-    feeds: &[Feed<T>],
-    subscriptions: &[Subscription<T>],
+    feeds: &[Feed<N>],
+    subscriptions: &[Subscription<N, T>],
 ) -> bool
-    ensures { result ≡ spec.all_have_room number feeds.now subscriptions.now }
+    ensures { result ≡ spec.all_have_room N.Machine number feeds.now subscriptions.now }
 {
     match feeds_have_room(number, feeds) {
         true => have_room(number, subscriptions),
@@ -86,8 +87,8 @@ pub(crate) fn all_have_room<T: Drop>(
 }
 
 /// Whether all nodes of these feeds that read the hub have room for an item of it.
-fn feeds_have_room<T: Drop>(number: u64, feeds: &[Feed<T>]) -> bool
-    ensures { result ≡ spec.feeds_have_room number feeds.now }
+fn feeds_have_room<N: Nodes<Item = T>, T: Drop>(number: u64, feeds: &[Feed<N>]) -> bool
+    ensures { result ≡ spec.feeds_have_room N.Machine number feeds.now }
 {
     for feed in feeds {
         if !feed.has_room_for(number) {
@@ -98,8 +99,8 @@ fn feeds_have_room<T: Drop>(number: u64, feeds: &[Feed<T>]) -> bool
 }
 
 /// Whether all nodes of these subscriptions that read the hub have room for an item of it.
-fn have_room<T: Drop>(number: u64, subscriptions: &[Subscription<T>]) -> bool
-    ensures { result ≡ spec.have_room number subscriptions.now }
+fn have_room<N: Nodes<Item = T>, T: Drop>(number: u64, subscriptions: &[Subscription<N, T>]) -> bool
+    ensures { result ≡ spec.have_room N.Machine number subscriptions.now }
 {
     for subscription in subscriptions {
         if !subscription.has_room_for(number) {
@@ -110,21 +111,21 @@ fn have_room<T: Drop>(number: u64, subscriptions: &[Subscription<T>]) -> bool
 }
 
 /// How many nodes read the hub, but at most `most`.
-pub(crate) fn all_readers_up_to<T: Drop>(
+pub(crate) fn all_readers_up_to<N: Nodes<Item = T>, T: Drop>(
     number: u64,
-    feeds: &[Feed<T>],
-    subscriptions: &[Subscription<T>],
+    feeds: &[Feed<N>],
+    subscriptions: &[Subscription<N, T>],
     most: u32,
 ) -> u32
-    ensures { result ≡ min (all_readers number feeds.now subscriptions.now) most }
+    ensures { result ≡ min (all_readers N.Machine number feeds.now subscriptions.now) most }
 {
     let found = feed_readers_up_to(number, feeds, most);
     found + readers_up_to(number, subscriptions, most - found)
 }
 
 /// How many nodes of these feeds read the hub, but at most `most`.
-fn feed_readers_up_to<T: Drop>(number: u64, feeds: &[Feed<T>], most: u32) -> u32
-    ensures { result ≡ min (feed_readers number feeds.now) most }
+fn feed_readers_up_to<N: Nodes<Item = T>, T: Drop>(number: u64, feeds: &[Feed<N>], most: u32) -> u32
+    ensures { result ≡ min (feed_readers N.Machine number feeds.now) most }
 {
     let mut found = 0;
     for feed in feeds {
@@ -134,8 +135,12 @@ fn feed_readers_up_to<T: Drop>(number: u64, feeds: &[Feed<T>], most: u32) -> u32
 }
 
 /// How many nodes of these subscriptions read the hub, but at most `most`.
-fn readers_up_to<T: Drop>(number: u64, subscriptions: &[Subscription<T>], most: u32) -> u32
-    ensures { result ≡ min (readers number subscriptions.now) most }
+fn readers_up_to<N: Nodes<Item = T>, T: Drop>(
+    number: u64,
+    subscriptions: &[Subscription<N, T>],
+    most: u32,
+) -> u32
+    ensures { result ≡ min (readers N.Machine number subscriptions.now) most }
 {
     let mut found = 0;
     for subscription in subscriptions {
@@ -206,24 +211,28 @@ fn copy_of_front<O: Ops>(
 
 /// Hands a signal of the hub to each node that reads it, out of a list that has it once for each; what else stands in the list
 /// stays. For an item there is room at all of them.
-pub(crate) fn hand_to_all<T: Drop>(
+pub(crate) fn hand_to_all<N: Nodes<Item = T>, T: Drop>(
     number: u64,
-    feeds: &mut [Feed<T>],
-    subscriptions: &mut [Subscription<T>],
+    feeds: &mut [Feed<N>],
+    subscriptions: &mut [Subscription<N, T>],
     signals: &mut Vec<Signal<T>>,
 )
-    ensures { IsHandedOut (all_readers number feeds.old subscriptions.old) (spec.all_have_room number feeds.old subscriptions.old)
+    ensures { IsHandedOut (all_readers N.Machine number feeds.old subscriptions.old) (spec.all_have_room N.Machine number feeds.old subscriptions.old)
         signals.old.items signals.new.items
-        (λ s. AllFeedsHanded number s feeds.old feeds.new × AllHanded number s subscriptions.old subscriptions.new) }
+        (λ s. AllFeedsHanded N.Machine number s feeds.old feeds.new × AllHanded N.Machine number s subscriptions.old subscriptions.new) }
 {
     hand_to_feeds(number, feeds, signals);
     hand(number, subscriptions, signals);
 }
 
 /// The same for the nodes of these feeds alone.
-fn hand_to_feeds<T: Drop>(number: u64, feeds: &mut [Feed<T>], signals: &mut Vec<Signal<T>>)
-    ensures { IsHandedOut (feed_readers number feeds.old) (spec.feeds_have_room number feeds.old) signals.old.items signals.new.items
-        (λ s. AllFeedsHanded number s feeds.old feeds.new) }
+fn hand_to_feeds<N: Nodes<Item = T>, T: Drop>(
+    number: u64,
+    feeds: &mut [Feed<N>],
+    signals: &mut Vec<Signal<T>>,
+)
+    ensures { IsHandedOut (feed_readers N.Machine number feeds.old) (spec.feeds_have_room N.Machine number feeds.old) signals.old.items signals.new.items
+        (λ s. AllFeedsHanded N.Machine number s feeds.old feeds.new) }
 {
     for feed in feeds.iter_mut() {
         feed.hand(number, signals);
@@ -231,9 +240,13 @@ fn hand_to_feeds<T: Drop>(number: u64, feeds: &mut [Feed<T>], signals: &mut Vec<
 }
 
 /// The same for the nodes of these subscriptions alone.
-fn hand<T: Drop>(number: u64, subscriptions: &mut [Subscription<T>], signals: &mut Vec<Signal<T>>)
-    ensures { IsHandedOut (readers number subscriptions.old) (spec.have_room number subscriptions.old) signals.old.items signals.new.items
-        (λ s. AllHanded number s subscriptions.old subscriptions.new) }
+fn hand<N: Nodes<Item = T>, T: Drop>(
+    number: u64,
+    subscriptions: &mut [Subscription<N, T>],
+    signals: &mut Vec<Signal<T>>,
+)
+    ensures { IsHandedOut (readers N.Machine number subscriptions.old) (spec.have_room N.Machine number subscriptions.old) signals.old.items signals.new.items
+        (λ s. AllHanded N.Machine number s subscriptions.old subscriptions.new) }
 {
     for subscription in subscriptions.iter_mut() {
         subscription.hand(number, signals);

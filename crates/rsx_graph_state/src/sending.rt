@@ -11,6 +11,7 @@ ghost use Rattle.rsx_graph_state.specs.Sending.{IsFed, IsTakenOut};
 use crate::feed::Feed;
 use crate::publishing::{all_have_room, all_readers_up_to, hand_to_all};
 use rsx_hub::Hub;
+use rsx_pipe::Nodes;
 use rsx_sources::{Front, NotMade};
 use rsx_subscriber::Subscription;
 use rsx_types::{NoMemory, Ops, Signal};
@@ -26,18 +27,18 @@ use std::alloc::Global;
 ///   an item and some node that reads the hub has no room for it.
 /// - [`NotMade::NoMemory`] where a growth or a copy was refused, or where 2^32 - 1 nodes or more read the hub, for which no list
 ///   is made.
-pub fn send_to_hub<O: Ops>(
+pub fn send_to_hub<N: Nodes<Item = O::Item>, O: Ops>(
     alloc: Global,
     ops: &O,
     at: usize,
     hub: &mut Hub<O::Item>,
-    feeds: &mut [Feed<O::Item>],
-    subscriptions: &mut [Subscription<O::Item>],
+    feeds: &mut [Feed<N>],
+    subscriptions: &mut [Subscription<N, O::Item>],
 ) -> Result<(), NotMade>
     requires { at < length feeds.old }
-    ensures ok { OnOk result (IsFed (O.meaning ops.now) at hub.old hub.new feeds.old feeds.new subscriptions.old subscriptions.new) }
-    ensures enabled { OnOk result (spec.can_feed_at (O.meaning ops.now) at hub.old feeds.old subscriptions.old ≡ true) }
-    ensures err { IfErr result (IsNotMade (spec.can_feed_at (O.meaning ops.now) at hub.old feeds.old subscriptions.old)) }
+    ensures ok { OnOk result (IsFed N.Machine (O.meaning ops.now) at hub.old hub.new feeds.old feeds.new subscriptions.old subscriptions.new) }
+    ensures enabled { OnOk result (spec.can_feed_at N.Machine (O.meaning ops.now) at hub.old feeds.old subscriptions.old ≡ true) }
+    ensures err { IfErr result (IsNotMade (spec.can_feed_at N.Machine (O.meaning ops.now) at hub.old feeds.old subscriptions.old)) }
     ensures same { OnErr result ((hub.new ≡ hub.old) × (feeds.new ≡ feeds.old) × (subscriptions.new ≡ subscriptions.old)) }
 {
     if !can_feed(at, hub, feeds, subscriptions) {
@@ -60,14 +61,14 @@ pub fn send_to_hub<O: Ops>(
 /// Whether the Send over the root edge of the feed with the index `at` is enabled ([`send_to_hub`]): the edge carries a signal,
 /// which the hub takes in, and for an item each node of these feeds and subscriptions that reads the hub has room. It takes no
 /// memory.
-pub fn can_feed<T: Drop>(
+pub fn can_feed<N: Nodes<Item = T>, T: Drop>(
     at: usize,
     hub: &Hub<T>,
-    feeds: &[Feed<T>],
-    subscriptions: &[Subscription<T>],
+    feeds: &[Feed<N>],
+    subscriptions: &[Subscription<N, T>],
 ) -> bool
     requires { at < length feeds.now }
-    ensures { (m : Meaning T) → result ≡ spec.can_feed_at m at hub.now feeds.now subscriptions.now }
+    ensures { (m : Meaning T) → result ≡ spec.can_feed_at N.Machine m at hub.now feeds.now subscriptions.now }
 {
     let feed = &feeds[at];
     let front = match feed.part.next_out() {
@@ -86,14 +87,14 @@ pub fn can_feed<T: Drop>(
 
 /// Takes the feed's next signal out of its part and into the hub, and answers it once for each of so many nodes. For want of
 /// memory it is put back.
-fn take_out<O: Ops>(
+fn take_out<N: Nodes<Item = O::Item>, O: Ops>(
     alloc: Global,
     ops: &O,
-    feed: &mut Feed<O::Item>,
+    feed: &mut Feed<N>,
     hub: &mut Hub<O::Item>,
     readers: u32,
 ) -> Result<Vec<Signal<O::Item>>, NoMemory>
-    ensures taken { IfOk result (λ v. IsTakenOut (O.meaning ops.now) feed.old hub.old readers v.items feed.new hub.new) }
+    ensures taken { IfOk result (λ v. IsTakenOut N.Machine (O.meaning ops.now) feed.old hub.old readers v.items feed.new hub.new) }
     ensures same { OnErr result ((feed.new ≡ feed.old) × (hub.new ≡ hub.old)) }
 {
     let signal = match feed.part.send_out(alloc, ops) {

@@ -32,7 +32,7 @@ pub returns-in-Ok-clause-effect : goal.returns-in-Ok-clause-effect
 returns-in-Ok-clause-effect g c =
     let old = rows_of c.args.hubs.now.items c.args.feeds.now.items c.args.subscriptions.now.items in
     let new = rows_of c.send.new.hubs.items c.send.new.feeds.items c.send.new.subscriptions.items in
-    out_moved (g.O.Ops.meaning c.args.ops.now) c.args.hub.0 old new c.args.step (sym c.is_out.ensures ∙ c.in-true.is) c.in-Ok.ensures.effect
+    out_moved g.N.Machine (g.O.Ops.meaning c.args.ops.now) c.args.hub.0 old new c.args.step (sym c.is_out.ensures ∙ c.in-true.is) c.in-Ok.ensures.effect
 
 pub returns-in-Ok-clause-enabled : goal.returns-in-Ok-clause-enabled
 returns-in-Ok-clause-enabled g c =
@@ -40,13 +40,13 @@ returns-in-Ok-clause-enabled g c =
     let within : c.args.hub.0 < length c.args.hubs.now.items = omega (arith, l, c.if-hub-len.false) in
     let old = rows_of c.args.hubs.now.items c.args.feeds.now.items c.args.subscriptions.now.items in
     let place = place_is c.args.hub.0 c.args.feeds.now.items c.deref.result.now c.place_of.result _ c.deref.ensures.value c.place_of.ensures c.in-Some.is in
-    out_enabled (g.O.Ops.meaning c.args.ops.now) c.args.hub.0 old c.args.step true (known_feed c.args.hub.0 c.in-Some.at old within place) (sym c.is_out.ensures ∙ c.in-true.is) c.in-Ok.ensures.enabled
+    out_enabled g.N.Machine (g.O.Ops.meaning c.args.ops.now) c.args.hub.0 old c.args.step true (known_feed c.args.hub.0 c.in-Some.at old within place) (sym c.is_out.ensures ∙ c.in-true.is) c.in-Ok.ensures.enabled
 
 pub returns-in-Ok-clause-stands : goal.returns-in-Ok-clause-stands
 returns-in-Ok-clause-stands g c = λ h s.
     let old = rows_of c.args.hubs.now.items c.args.feeds.now.items c.args.subscriptions.now.items in
     let new = rows_of c.send.new.hubs.items c.send.new.feeds.items c.send.new.subscriptions.items in
-    feed_moved_stands (g.O.Ops.meaning c.args.ops.now) c.args.step c.args.hub.0 old new h (returns-in-Ok-clause-effect g c) s
+    feed_moved_stands g.N.Machine (g.O.Ops.meaning c.args.ops.now) c.args.step c.args.hub.0 old new h (returns-in-Ok-clause-effect g c) s
 
 pub returns-in-Err-NotEnabled-clause-err : goal.returns-in-Err-NotEnabled-clause-err
 returns-in-Err-NotEnabled-clause-err g c =
@@ -55,7 +55,7 @@ returns-in-Err-NotEnabled-clause-err g c =
     let old = rows_of c.args.hubs.now.items c.args.feeds.now.items c.args.subscriptions.now.items in
     let place = place_is c.args.hub.0 c.args.feeds.now.items c.deref.result.now c.place_of.result _ c.deref.ensures.value c.place_of.ensures c.in-Some.is in
     let known = known_feed c.args.hub.0 c.in-Some.at old within place in
-    (known, out_enabled (g.O.Ops.meaning c.args.ops.now) c.args.hub.0 old c.args.step false known (sym c.is_out.ensures ∙ c.in-true.is) (rw c.in-Err-NotEnabled.field-0-is at c.in-Err-NotEnabled.ensures.err))
+    (known, out_enabled g.N.Machine (g.O.Ops.meaning c.args.ops.now) c.args.hub.0 old c.args.step false known (sym c.is_out.ensures ∙ c.in-true.is) (rw c.in-Err-NotEnabled.field-0-is at c.in-Err-NotEnabled.ensures.err))
 
 pub returns-in-Err-NoMemory-clause-err : goal.returns-in-Err-NoMemory-clause-err
 returns-in-Err-NoMemory-clause-err g c =
@@ -64,16 +64,16 @@ returns-in-Err-NoMemory-clause-err g c =
     let old = rows_of c.args.hubs.now.items c.args.feeds.now.items c.args.subscriptions.now.items in
     let place = place_is c.args.hub.0 c.args.feeds.now.items c.deref.result.now c.place_of.result _ c.deref.ensures.value c.place_of.ensures c.in-Some.is in
     let known = known_feed c.args.hub.0 c.in-Some.at old within place in
-    (known, out_enabled (g.O.Ops.meaning c.args.ops.now) c.args.hub.0 old c.args.step true known (sym c.is_out.ensures ∙ c.in-true.is) (rw c.in-Err-NoMemory.field-0-is at c.in-Err-NoMemory.ensures.err))
+    (known, out_enabled g.N.Machine (g.O.Ops.meaning c.args.ops.now) c.args.hub.0 old c.args.step true known (sym c.is_out.ensures ∙ c.in-true.is) (rw c.in-Err-NoMemory.field-0-is at c.in-Err-NoMemory.ensures.err))
 
 pub returns-in-Err-NoMemory-clause-memory : goal.returns-in-Err-NoMemory-clause-memory
-returns-in-Err-NoMemory-clause-memory g c = λ free _. out_allocates (g.O.Ops.allocates c.args.ops.now) c.args.feeds.now.items c.args.hub.0 c.args.step (sym c.is_out.ensures ∙ c.in-true.is) free
+returns-in-Err-NoMemory-clause-memory g c = λ free _. out_allocates g.N.Machine (g.O.Ops.allocates c.args.ops.now) c.args.feeds.now.items c.args.hub.0 c.args.step (sym c.is_out.ensures ∙ c.in-true.is) free
 
 pub returns-in-Ok-work-clause-effect : goal.returns-in-Ok-work-clause-effect
 returns-in-Ok-work-clause-effect g c =
     let old = rows_of c.args.hubs.now.items c.args.feeds.now.items c.args.subscriptions.now.items in
     let new = rows_of c.args.hubs.now.items c.work.new.feeds.items c.args.subscriptions.now.items in
-    work_moved (g.O.Ops.meaning c.args.ops.now) c.args.hub.0 old new c.args.step (sym c.is_out.ensures ∙ c.in-false.is) (record { made = c.in-Ok-work.ensures.effect; hubs = refl; subs = refl })
+    work_moved g.N.Machine (g.O.Ops.meaning c.args.ops.now) c.args.hub.0 old new c.args.step (sym c.is_out.ensures ∙ c.in-false.is) (record { made = c.in-Ok-work.ensures.effect; hubs = refl; subs = refl })
 
 pub returns-in-Ok-work-clause-enabled : goal.returns-in-Ok-work-clause-enabled
 returns-in-Ok-work-clause-enabled g c =
@@ -81,13 +81,13 @@ returns-in-Ok-work-clause-enabled g c =
     let within : c.args.hub.0 < length c.args.hubs.now.items = omega (arith, l, c.if-hub-len.false) in
     let old = rows_of c.args.hubs.now.items c.args.feeds.now.items c.args.subscriptions.now.items in
     let place = place_is c.args.hub.0 c.args.feeds.now.items c.deref.result.now c.place_of.result _ c.deref.ensures.value c.place_of.ensures c.in-Some.is in
-    work_enabled (g.O.Ops.meaning c.args.ops.now) c.args.hub.0 old c.args.step true (known_feed c.args.hub.0 c.in-Some.at old within place) (sym c.is_out.ensures ∙ c.in-false.is) c.in-Ok-work.ensures.enabled
+    work_enabled g.N.Machine (g.O.Ops.meaning c.args.ops.now) c.args.hub.0 old c.args.step true (known_feed c.args.hub.0 c.in-Some.at old within place) (sym c.is_out.ensures ∙ c.in-false.is) c.in-Ok-work.ensures.enabled
 
 pub returns-in-Ok-work-clause-stands : goal.returns-in-Ok-work-clause-stands
 returns-in-Ok-work-clause-stands g c = λ h s.
     let old = rows_of c.args.hubs.now.items c.args.feeds.now.items c.args.subscriptions.now.items in
     let new = rows_of c.args.hubs.now.items c.work.new.feeds.items c.args.subscriptions.now.items in
-    feed_moved_stands (g.O.Ops.meaning c.args.ops.now) c.args.step c.args.hub.0 old new h (returns-in-Ok-work-clause-effect g c) s
+    feed_moved_stands g.N.Machine (g.O.Ops.meaning c.args.ops.now) c.args.step c.args.hub.0 old new h (returns-in-Ok-work-clause-effect g c) s
 
 pub returns-in-Err-NotEnabled-work-clause-err : goal.returns-in-Err-NotEnabled-work-clause-err
 returns-in-Err-NotEnabled-work-clause-err g c =
@@ -96,7 +96,7 @@ returns-in-Err-NotEnabled-work-clause-err g c =
     let old = rows_of c.args.hubs.now.items c.args.feeds.now.items c.args.subscriptions.now.items in
     let place = place_is c.args.hub.0 c.args.feeds.now.items c.deref.result.now c.place_of.result _ c.deref.ensures.value c.place_of.ensures c.in-Some.is in
     let known = known_feed c.args.hub.0 c.in-Some.at old within place in
-    (known, work_enabled (g.O.Ops.meaning c.args.ops.now) c.args.hub.0 old c.args.step false known (sym c.is_out.ensures ∙ c.in-false.is) (rw c.in-Err-NotEnabled-work.field-0-is at c.in-Err-NotEnabled-work.ensures.err))
+    (known, work_enabled g.N.Machine (g.O.Ops.meaning c.args.ops.now) c.args.hub.0 old c.args.step false known (sym c.is_out.ensures ∙ c.in-false.is) (rw c.in-Err-NotEnabled-work.field-0-is at c.in-Err-NotEnabled-work.ensures.err))
 
 pub returns-in-Err-NoMemory-work-clause-err : goal.returns-in-Err-NoMemory-work-clause-err
 returns-in-Err-NoMemory-work-clause-err g c =
@@ -105,10 +105,10 @@ returns-in-Err-NoMemory-work-clause-err g c =
     let old = rows_of c.args.hubs.now.items c.args.feeds.now.items c.args.subscriptions.now.items in
     let place = place_is c.args.hub.0 c.args.feeds.now.items c.deref.result.now c.place_of.result _ c.deref.ensures.value c.place_of.ensures c.in-Some.is in
     let known = known_feed c.args.hub.0 c.in-Some.at old within place in
-    (known, work_enabled (g.O.Ops.meaning c.args.ops.now) c.args.hub.0 old c.args.step true known (sym c.is_out.ensures ∙ c.in-false.is) (rw c.in-Err-NoMemory-work.field-0-is at c.in-Err-NoMemory-work.ensures.err))
+    (known, work_enabled g.N.Machine (g.O.Ops.meaning c.args.ops.now) c.args.hub.0 old c.args.step true known (sym c.is_out.ensures ∙ c.in-false.is) (rw c.in-Err-NoMemory-work.field-0-is at c.in-Err-NoMemory-work.ensures.err))
 
 pub returns-in-Err-NoMemory-work-clause-memory : goal.returns-in-Err-NoMemory-work-clause-memory
 returns-in-Err-NoMemory-work-clause-memory g c = λ free _.
     let only = rw c.in-Err-NoMemory-work.field-0-is at c.in-Err-NoMemory-work.ensures.memory in
-    let no = only (work_allocates (g.O.Ops.allocates c.args.ops.now) c.args.feeds.now.items c.args.hub.0 c.args.step (sym c.is_out.ensures ∙ c.in-false.is) free) in
+    let no = only (work_allocates g.N.Machine (g.O.Ops.allocates c.args.ops.now) c.args.feeds.now.items c.args.hub.0 c.args.step (sym c.is_out.ensures ∙ c.in-false.is) free) in
     cc

@@ -12,34 +12,34 @@ send_to_hub-requires-after_bounds g c κs within =
 
 pub returns-in-Ok-clause-feeds : goal.returns-in-Ok-clause-feeds
 returns-in-Ok-clause-feeds g c =
-    let many = fed_length (g.O.Ops.meaning c.args.ops.now) c.args.at c.index_mut.result.now c.send_to_hub.new.hub c.deref_mut.result.now c.send_to_hub.new.feeds c.deref_mut-2.result.now c.send_to_hub.new.subscriptions c.in-Ok.ensures.ok in
+    let many = fed_length g.N.Machine (g.O.Ops.meaning c.args.ops.now) c.args.at c.index_mut.result.now c.send_to_hub.new.hub c.deref_mut.result.now c.send_to_hub.new.feeds c.deref_mut-2.result.now c.send_to_hub.new.subscriptions c.in-Ok.ensures.ok in
     rw (with_items_is c.args.feeds.now c.send_to_hub.new.feeds (many ∙ c.deref_mut.ensures.len)) (many ∙ ap length c.deref_mut.ensures.value)
 
 pub returns-in-Ok-clause-subscriptions : goal.returns-in-Ok-clause-subscriptions
 returns-in-Ok-clause-subscriptions g c =
-    let all = fed_subs_length (g.O.Ops.meaning c.args.ops.now) c.args.at c.index_mut.result.now c.send_to_hub.new.hub c.deref_mut.result.now c.send_to_hub.new.feeds c.deref_mut-2.result.now c.send_to_hub.new.subscriptions c.in-Ok.ensures.ok in
+    let all = fed_subs_length g.N.Machine (g.O.Ops.meaning c.args.ops.now) c.args.at c.index_mut.result.now c.send_to_hub.new.hub c.deref_mut.result.now c.send_to_hub.new.feeds c.deref_mut-2.result.now c.send_to_hub.new.subscriptions c.in-Ok.ensures.ok in
     rw (with_items_is c.args.subscriptions.now c.send_to_hub.new.subscriptions (all ∙ c.deref_mut-2.ensures.len)) (all ∙ ap length c.deref_mut-2.ensures.value)
 
 pub returns-in-Ok-clause-effect : goal.returns-in-Ok-clause-effect
 returns-in-Ok-clause-effect g c =
     let m = g.O.Ops.meaning c.args.ops.now in
     let there = found c.args.hubs.now.items c.args.hub.0 c.index_mut.result.now c.requires.there (sym c.index_mut.ensures.value) in
-    let many = fed_length m c.args.at c.index_mut.result.now c.send_to_hub.new.hub c.deref_mut.result.now c.send_to_hub.new.feeds c.deref_mut-2.result.now c.send_to_hub.new.subscriptions c.in-Ok.ensures.ok ∙ c.deref_mut.ensures.len in
-    let all = fed_subs_length m c.args.at c.index_mut.result.now c.send_to_hub.new.hub c.deref_mut.result.now c.send_to_hub.new.feeds c.deref_mut-2.result.now c.send_to_hub.new.subscriptions c.in-Ok.ensures.ok ∙ c.deref_mut-2.ensures.len in
+    let many = fed_length g.N.Machine m c.args.at c.index_mut.result.now c.send_to_hub.new.hub c.deref_mut.result.now c.send_to_hub.new.feeds c.deref_mut-2.result.now c.send_to_hub.new.subscriptions c.in-Ok.ensures.ok ∙ c.deref_mut.ensures.len in
+    let all = fed_subs_length g.N.Machine m c.args.at c.index_mut.result.now c.send_to_hub.new.hub c.deref_mut.result.now c.send_to_hub.new.feeds c.deref_mut-2.result.now c.send_to_hub.new.subscriptions c.in-Ok.ensures.ok ∙ c.deref_mut-2.ensures.len in
     rw (with_items_is c.args.feeds.now c.send_to_hub.new.feeds many)
     (rw (with_items_is c.args.subscriptions.now c.send_to_hub.new.subscriptions all)
-    (fed_effect m c.args.hub.0 c.args.at c.args.hubs.now.items c.index_mut.result.now c.send_to_hub.new.hub c.args.feeds.now.items c.deref_mut.result.now c.send_to_hub.new.feeds c.args.subscriptions.now.items c.deref_mut-2.result.now c.send_to_hub.new.subscriptions there c.deref_mut.ensures.value c.deref_mut-2.ensures.value c.requires.place c.in-Ok.ensures.ok))
+    (fed_effect g.N.Machine m c.args.hub.0 c.args.at c.args.hubs.now.items c.index_mut.result.now c.send_to_hub.new.hub c.args.feeds.now.items c.deref_mut.result.now c.send_to_hub.new.feeds c.args.subscriptions.now.items c.deref_mut-2.result.now c.send_to_hub.new.subscriptions there c.deref_mut.ensures.value c.deref_mut-2.ensures.value c.requires.place c.in-Ok.ensures.ok))
 
 pub returns-in-Ok-clause-enabled : goal.returns-in-Ok-clause-enabled
 returns-in-Ok-clause-enabled g c =
     let there = found c.args.hubs.now.items c.args.hub.0 c.index_mut.result.now c.requires.there (sym c.index_mut.ensures.value) in
-    sends_there (g.O.Ops.meaning c.args.ops.now) c.args.hub.0 c.args.at c.args.hubs.now.items c.index_mut.result.now c.args.feeds.now.items c.deref_mut.result.now c.args.subscriptions.now.items c.deref_mut-2.result.now true there c.deref_mut.ensures.value c.deref_mut-2.ensures.value c.requires.place c.in-Ok.ensures.enabled
+    sends_there g.N.Machine (g.O.Ops.meaning c.args.ops.now) c.args.hub.0 c.args.at c.args.hubs.now.items c.index_mut.result.now c.args.feeds.now.items c.deref_mut.result.now c.args.subscriptions.now.items c.deref_mut-2.result.now true there c.deref_mut.ensures.value c.deref_mut-2.ensures.value c.requires.place c.in-Ok.ensures.enabled
 
 pub returns-in-Err-clause-err : goal.returns-in-Err-clause-err
 returns-in-Err-clause-err g c =
     let there = found c.args.hubs.now.items c.args.hub.0 c.index_mut.result.now c.requires.there (sym c.index_mut.ensures.value) in
     let P : Bool → Type 0 = λ b. IsNotMade b c.in-Err.why in
-    subst P (sym (sends_there (g.O.Ops.meaning c.args.ops.now) c.args.hub.0 c.args.at c.args.hubs.now.items c.index_mut.result.now c.args.feeds.now.items c.deref_mut.result.now c.args.subscriptions.now.items c.deref_mut-2.result.now _ there c.deref_mut.ensures.value c.deref_mut-2.ensures.value c.requires.place refl)) c.in-Err.ensures.err
+    subst P (sym (sends_there g.N.Machine (g.O.Ops.meaning c.args.ops.now) c.args.hub.0 c.args.at c.args.hubs.now.items c.index_mut.result.now c.args.feeds.now.items c.deref_mut.result.now c.args.subscriptions.now.items c.deref_mut-2.result.now _ there c.deref_mut.ensures.value c.deref_mut-2.ensures.value c.requires.place refl)) c.in-Err.ensures.err
 
 pub returns-in-Err-clause-feeds : goal.returns-in-Err-clause-feeds
 returns-in-Err-clause-feeds g c =

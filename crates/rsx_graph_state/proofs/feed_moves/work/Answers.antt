@@ -32,7 +32,7 @@ returns-in-Ok-clause-enabled g c =
     let fs = c.args.feeds.now.items in
     let x = c.index_mut-feed.result.now in
     let there = found fs c.args.at x c.requires.within (sym c.index_mut-feed.ensures.value) in
-    ap (λ o. works_where m o c.args.step) (placed_feed fs c.args.hub.0 c.args.at x c.requires.place there) ∙ c.in-Ok.ensures.enabled
+    ap (λ o. works_where g.N.Machine m o c.args.step) (placed_feed fs c.args.hub.0 c.args.at x c.requires.place there) ∙ c.in-Ok.ensures.enabled
 
 pub returns-in-Err-clause-err : goal.returns-in-Err-clause-err
 returns-in-Err-clause-err g c =
@@ -41,7 +41,7 @@ returns-in-Err-clause-err g c =
     let x = c.index_mut-feed.result.now in
     let there = found fs c.args.at x c.requires.within (sym c.index_mut-feed.ensures.value) in
     let P : Bool → Type 0 = λ b. IsNotMade b c.in-Err.why in
-    subst P (sym (ap (λ o. works_where m o c.args.step) (placed_feed fs c.args.hub.0 c.args.at x c.requires.place there))) c.in-Err.ensures.err
+    subst P (sym (ap (λ o. works_where g.N.Machine m o c.args.step) (placed_feed fs c.args.hub.0 c.args.at x c.requires.place there))) c.in-Err.ensures.err
 
 pub returns-in-Err-clause-memory : goal.returns-in-Err-clause-memory
 returns-in-Err-clause-memory g c = λ free.
@@ -49,7 +49,7 @@ returns-in-Err-clause-memory g c = λ free.
     let fs = c.args.feeds.now.items in
     let x = c.index_mut-feed.result.now in
     let there = found fs c.args.at x c.requires.within (sym c.index_mut-feed.ensures.value) in
-    c.in-Err.ensures.memory (sym (ap (λ o. allocates_inside a o c.args.step) (placed_feed fs c.args.hub.0 c.args.at x c.requires.place there)) ∙ free)
+    c.in-Err.ensures.memory (sym (ap (λ o. allocates_inside g.N.Machine a o c.args.step) (placed_feed fs c.args.hub.0 c.args.at x c.requires.place there)) ∙ free)
 
 pub returns-in-Err-clause-same : goal.returns-in-Err-clause-same
 returns-in-Err-clause-same g c =

@@ -2,4 +2,4 @@ use Rattle.rsx_graph_state.proofs.Values.{whole_holds}
 use Rattle.rsx_graph_state.proofs.law.headline.Goals as goal
 
 pub returns : goal.returns
-returns g c = λ m rows h s. whole_holds m rows h s
+returns g c = λ m rows h s. whole_holds g.N.Machine (λ m. (g.met.N.Machine.settles m, g.met.N.Machine.ending_waits m, g.met.N.Nodes.rests m)) m rows h s

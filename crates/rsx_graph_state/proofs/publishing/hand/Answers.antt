@@ -17,7 +17,7 @@ loop-subscription-preserved g c =
     let within : at < length xs = omega (arith, count) in record {
       count = length-set ys at c.hand.new.self ∙ count;
       rest = rest_on at xs ys x c.hand.new.self count within i.rest;
-      handed = handed_on (λ y. Part.readers h y.part) (λ y. Part.has_room_for h y.part) (IsHanded h) at xs ys x c.hand.new.self c.args.signals.now.items c.loop-subscription.signals.items c.hand.new.signals.items count within i.rest i.handed c.hand.ensures;
+      handed = handed_on (λ y. Part.readers g.N.Machine h y.part) (λ y. Part.has_room_for g.N.Machine h y.part) (IsHanded g.N.Machine h) at xs ys x c.hand.new.self c.args.signals.now.items c.loop-subscription.signals.items c.hand.new.signals.items count within i.rest i.handed c.hand.ensures;
     }
 
 pub returns : goal.returns
@@ -28,4 +28,4 @@ returns g c =
     let h = c.args.number in
     let count = i.count in
     let done : length xs ≤ at = omega (arith, count) in
-    handed_through (λ y. Part.readers h y.part) (λ y. Part.has_room_for h y.part) (IsHanded h) at xs c.loop-subscription.subscriptions c.args.signals.now.items c.loop-subscription.signals.items count done i.handed
+    handed_through (λ y. Part.readers g.N.Machine h y.part) (λ y. Part.has_room_for g.N.Machine h y.part) (IsHanded g.N.Machine h) at xs c.loop-subscription.subscriptions c.args.signals.now.items c.loop-subscription.signals.items count done i.handed

@@ -10,6 +10,6 @@ invariant-loop-subscription g l =
     let before = l.fn.subscriptions in record {
       count : length l.subscriptions ≡ length before;
       rest : drop i l.subscriptions ≡ drop i before;
-      handed : IsHandedOut (readers l.number (take i before)) (spec.have_room l.number (take i before)) l.fn.signals.items l.signals.items
-          (λ s. AllHanded l.number s (take i before) (take i l.subscriptions));
+      handed : IsHandedOut (readers g.N.Machine l.number (take i before)) (spec.have_room g.N.Machine l.number (take i before)) l.fn.signals.items l.signals.items
+          (λ s. AllHanded g.N.Machine l.number s (take i before) (take i l.subscriptions));
     }

@@ -7,4 +7,4 @@ returns g c =
     let h = c.args.number in
     let fs = c.args.feeds.now in
     let xs = c.args.subscriptions.now in
-    handed_then (feed_readers h fs) (readers h xs) (feeds_have_room h fs) (have_room h xs) (λ s. AllFeedsHanded h s fs c.hand_to_feeds.new.feeds) (λ s. AllHanded h s xs c.hand.new.subscriptions) c.args.signals.now.items c.hand_to_feeds.new.signals.items c.hand.new.signals.items c.hand_to_feeds.ensures c.hand.ensures
+    handed_then (feed_readers g.N.Machine h fs) (readers g.N.Machine h xs) (feeds_have_room g.N.Machine h fs) (have_room g.N.Machine h xs) (λ s. AllFeedsHanded g.N.Machine h s fs c.hand_to_feeds.new.feeds) (λ s. AllHanded g.N.Machine h s xs c.hand.new.subscriptions) c.args.signals.now.items c.hand_to_feeds.new.signals.items c.hand.new.signals.items c.hand_to_feeds.ensures c.hand.ensures

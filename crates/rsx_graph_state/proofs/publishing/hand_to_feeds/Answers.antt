@@ -16,7 +16,7 @@ loop-feed-preserved g c =
     let within : at < length xs = omega (arith, count) in record {
       count = length-set ys at c.hand.new.self ∙ count;
       rest = rest_on at xs ys x c.hand.new.self count within i.rest;
-      handed = handed_on (reads_at h) (has_room_at h) (IsFeedHanded h) at xs ys x c.hand.new.self c.args.signals.now.items c.loop-feed.signals.items c.hand.new.signals.items count within i.rest i.handed c.hand.ensures;
+      handed = handed_on (reads_at g.N.Machine h) (has_room_at g.N.Machine h) (IsFeedHanded g.N.Machine h) at xs ys x c.hand.new.self c.args.signals.now.items c.loop-feed.signals.items c.hand.new.signals.items count within i.rest i.handed c.hand.ensures;
     }
 
 pub returns : goal.returns
@@ -27,4 +27,4 @@ returns g c =
     let h = c.args.number in
     let count = i.count in
     let done : length xs ≤ at = omega (arith, count) in
-    handed_through (reads_at h) (has_room_at h) (IsFeedHanded h) at xs c.loop-feed.feeds c.args.signals.now.items c.loop-feed.signals.items count done i.handed
+    handed_through (reads_at g.N.Machine h) (has_room_at g.N.Machine h) (IsFeedHanded g.N.Machine h) at xs c.loop-feed.feeds c.args.signals.now.items c.loop-feed.signals.items count done i.handed

@@ -10,6 +10,6 @@ invariant-loop-feed g l =
     let before = l.fn.feeds in record {
       count : length l.feeds ≡ length before;
       rest : drop i l.feeds ≡ drop i before;
-      handed : IsHandedOut (feed_readers l.number (take i before)) (spec.feeds_have_room l.number (take i before)) l.fn.signals.items l.signals.items
-          (λ s. AllFeedsHanded l.number s (take i before) (take i l.feeds));
+      handed : IsHandedOut (feed_readers g.N.Machine l.number (take i before)) (spec.feeds_have_room g.N.Machine l.number (take i before)) l.fn.signals.items l.signals.items
+          (λ s. AllFeedsHanded g.N.Machine l.number s (take i before) (take i l.feeds));
     }

@@ -8,7 +8,7 @@ use Rattle.rsx_graph_state.proofs.publishing.readers_up_to.Goals as goal
 pub loop-subscription-preserved : goal.loop-subscription-preserved
 loop-subscription-preserved g c =
     let i = c.loop-subscription.invariant in
-    let more = total_next (λ x. Part.readers c.args.number x.part) c.loop-subscription.subscription-index c.args.subscriptions.now c.subscription-item.result c.loop-subscription-test.true c.subscription-item.is in
+    let more = total_next (λ x. Part.readers g.N.Machine c.args.number x.part) c.loop-subscription.subscription-index c.args.subscriptions.now c.subscription-item.result c.loop-subscription-test.true c.subscription-item.is in
     let here = c.readers_up_to-found.ensures in
     let rest = i.rest in
     let within = i.within in record {
@@ -21,5 +21,5 @@ returns g c =
     let i = c.loop-subscription.invariant in
     let rest = i.rest in
     let within = i.within in
-    let none = at_drop_all (readers c.args.number) c.args.subscriptions.now c.loop-subscription.subscription-index (omega arith) in
+    let none = at_drop_all (readers g.N.Machine c.args.number) c.args.subscriptions.now c.loop-subscription.subscription-index (omega arith) in
     omega (arith, rest, within, none)

@@ -31,6 +31,6 @@ returns-in-Ok-clause-ok g c =
     let f = get_or fs at c.index-feeds-at-2.result in
     let there = slice_get-get_or fs at c.index-feeds-at-2.result c.requires in
     let named = c.from-number.ensures ∙ ap (λ x. x.hub) (get_or_from_slice_get fs at f c.index-feeds-at.result there) in
-    let can = feed_there m at f hub fs xs (can_feed m f hub fs xs) there refl ∙ (sym (c.can_feed.ensures m) ∙ c.if-not-can_feed.false) in
-    all_fed m at c.from-number.result c.all_readers_up_to-readers.result 4294967295 hub c.take_out.new.hub fs c.hand_to_all.new.feeds f c.take_out.new.feed xs c.hand_to_all.new.subscriptions c.in-Ok.signals.items c.hand_to_all.new.signals.items
+    let can = feed_there g.N.Machine m at f hub fs xs (can_feed g.N.Machine m f hub fs xs) there refl ∙ (sym (c.can_feed.ensures m) ∙ c.if-not-can_feed.false) in
+    all_fed g.N.Machine m at c.from-number.result c.all_readers_up_to-readers.result 4294967295 hub c.take_out.new.hub fs c.hand_to_all.new.feeds f c.take_out.new.feed xs c.hand_to_all.new.subscriptions c.in-Ok.signals.items c.hand_to_all.new.signals.items
     there named c.all_readers_up_to-readers.ensures c.if-readers.false can c.in-Ok.ensures.taken c.hand_to_all.ensures
