@@ -1,4 +1,5 @@
 -- Rows with feeds stand for the same where one more hub comes behind the others.
+use Rattle.rsx_sources.specs.declared.machine.Machine.{Ghosts as Machine}
 use Rattle.std.proofs.Common.{◌≡◌, ◌⊎◌, inl, inr, ℕ, zero, suc, ◌-◌, ◌<◌, ◌≤◌, if◌then◌else◌, List, [], ◌∷◌, ◌++◌, length, drop, take, slice_get, Some, None, refl, ap, sym, ◌∙◌, subst, arith}
 use Rattle.rsx_graph_state.proofs.Named.{other_number}
 use Rattle.rsx_graph_state.specs.Prelude.{History, HubPast, Source, emitted, fed, rows_of, HubStands, Rows, SourceStands, StandsFor, feed_of, HubState, fresh_hub, replayed, FeedStands}
@@ -39,9 +40,9 @@ one_more (z ∷ xs) x = ap suc (one_more xs x)
 
 -- ---- the hubs that were there
 
-feed_more : {T : Type 0} (m : Meaning T) (taken : List (Stream T)) (f : Feed T) (e : Expr T) (joins : List ℕ) → FeedStands m taken f e joins → FeedStands m (taken ++ ended_by Open ∷ []) f e joins
-feed_more {T} m taken f e joins k =
-    let P : List (Stream T) → Type 0 = λ vs. PartStands m vs f.part e joins (signals k.value) in
+feed_more : {M T : Type 0} (mc : Machine M T) (m : Meaning T) (taken : List (Stream T)) (f : Feed M) (e : Expr T) (joins : List ℕ) → FeedStands mc m taken f e joins → FeedStands mc m (taken ++ ended_by Open ∷ []) f e joins
+feed_more {M} {T} mc m taken f e joins k =
+    let P : List (Stream T) → Type 0 = λ vs. PartStands mc m vs f.part e joins (signals k.value) in
     let less = within taken f.hub k.value k.taken in
     record {
       value = k.value;
@@ -51,40 +52,40 @@ feed_more {T} m taken f e joins k =
       unclosed = k.unclosed;
     }
 
-source_more : {T : Type 0} (m : Meaning T) (fs gs : List (Feed T)) (taken : List (Stream T)) (i : ℕ) (v : Stream T) (s : HubState T) (src : Source T) → feed_of gs i ≡ feed_of fs i → SourceStands m fs taken i v s src → SourceStands m gs (taken ++ ended_by Open ∷ []) i v s src
-source_more m fs gs taken i v s (emitted w) same k = (same ∙ k.0, k.1)
-source_more m fs gs taken i v s (fed e joins) same k = record {
+source_more : {M T : Type 0} (mc : Machine M T) (m : Meaning T) (fs gs : List (Feed M)) (taken : List (Stream T)) (i : ℕ) (v : Stream T) (s : HubState T) (src : Source T) → feed_of gs i ≡ feed_of fs i → SourceStands mc m fs taken i v s src → SourceStands mc m gs (taken ++ ended_by Open ∷ []) i v s src
+source_more mc m fs gs taken i v s (emitted w) same k = (same ∙ k.0, k.1)
+source_more mc m fs gs taken i v s (fed e joins) same k = record {
   feed = k.feed;
   there = same ∙ k.there;
-  stands = feed_more m taken k.feed e joins k.stands;
+  stands = feed_more mc m taken k.feed e joins k.stands;
   empty = k.empty;
   unended = k.unended;
 }
 
-hub_more : {T : Type 0} (m : Meaning T) (fs gs : List (Feed T)) (taken : List (Stream T)) (i : ℕ) (v : Stream T) (s : HubState T) (p : HubPast T) → feed_of gs i ≡ feed_of fs i → HubStands m fs taken i v s p → HubStands m gs (taken ++ ended_by Open ∷ []) i v s p
-hub_more m fs gs taken i v s p same k = record {
+hub_more : {M T : Type 0} (mc : Machine M T) (m : Meaning T) (fs gs : List (Feed M)) (taken : List (Stream T)) (i : ℕ) (v : Stream T) (s : HubState T) (p : HubPast T) → feed_of gs i ≡ feed_of fs i → HubStands mc m fs taken i v s p → HubStands mc m gs (taken ++ ended_by Open ∷ []) i v s p
+hub_more mc m fs gs taken i v s p same k = record {
   kind = k.kind;
   count = k.count;
   taken_in = k.taken_in;
   ended = k.ended;
-  source = source_more m fs gs taken i v s p.source same k.source;
+  source = source_more mc m fs gs taken i v s p.source same k.source;
 }
 
 -- ---- a hub more
 
 -- the feeds of the others stay, and what stands behind stands for what has happened there: then so do all rows
-pub rows_more : {T : Type 0} (m : Meaning T) (old : Rows T) (h : History T) (x : HubState T) (p : HubPast T) (gs : List (Feed T)) → ((i : ℕ) → i < length old.hubs → feed_of gs i ≡ feed_of old.feeds i) →
-    (s : StandsFor m old h) → HubStands m gs (s.taken ++ ended_by Open ∷ []) (length old.hubs) (ended_by Open) x p → StandsFor m (rows_of (old.hubs ++ x ∷ []) gs old.subs) (record { hubs = h.hubs ++ p ∷ []; pasts = h.pasts })
-rows_more {T} m old h x p gs feeds s k = record {
+pub rows_more : {M T : Type 0} (mc : Machine M T) (m : Meaning T) (old : Rows M T) (h : History T) (x : HubState T) (p : HubPast T) (gs : List (Feed M)) → ((i : ℕ) → i < length old.hubs → feed_of gs i ≡ feed_of old.feeds i) →
+    (s : StandsFor mc m old h) → HubStands mc m gs (s.taken ++ ended_by Open ∷ []) (length old.hubs) (ended_by Open) x p → StandsFor mc m (rows_of (old.hubs ++ x ∷ []) gs old.subs) (record { hubs = h.hubs ++ p ∷ []; pasts = h.pasts })
+rows_more {M} {T} mc m old h x p gs feeds s k = record {
   taken = s.taken ++ ended_by Open ∷ [];
   many = one_more old.hubs x ∙ (ap suc s.many ∙ sym (one_more h.hubs p));
   each = one_more s.taken (ended_by Open) ∙ (ap suc s.each ∙ sym (one_more h.hubs p));
   hub = each_hub;
-  all = subs_more m s.taken old.subs h.pasts s.all;
+  all = subs_more mc m s.taken old.subs h.pasts s.all;
 }
   where
     Here : ℕ → Stream T → HubState T → HubPast T → Type 0
-    Here i v t q = HubStands m gs (s.taken ++ ended_by Open ∷ []) i v t q
+    Here i v t q = HubStands mc m gs (s.taken ++ ended_by Open ∷ []) i v t q
 
     last_hub : (i : ℕ) (v : Stream T) (t : HubState T) (q : HubPast T) → i ≡ length old.hubs → ended_by Open ≡ v → x ≡ t → p ≡ q → Here i v t q
     last_hub i v t q ei ev et eq =
@@ -101,7 +102,7 @@ rows_more {T} m old h x p gs feeds s k = record {
     each_hub i v t q iv it iq = by_place (last_or s.taken (ended_by Open) i v iv) (last_or old.hubs x i t it) (last_or h.hubs p i q iq)
       where
         by_place : (slice_get s.taken i ≡ Some v) ⊎ ((i ≡ length s.taken) × (ended_by Open ≡ v)) → (slice_get old.hubs i ≡ Some t) ⊎ ((i ≡ length old.hubs) × (x ≡ t)) → (slice_get h.hubs i ≡ Some q) ⊎ ((i ≡ length h.hubs) × (p ≡ q)) → Here i v t q
-        by_place (inl a) (inl b) (inl c) = hub_more m old.feeds gs s.taken i v t q (feeds i (within old.hubs i t b)) (s.hub i v t q a b c)
+        by_place (inl a) (inl b) (inl c) = hub_more mc m old.feeds gs s.taken i v t q (feeds i (within old.hubs i t b)) (s.hub i v t q a b c)
         by_place (inr a) (inr b) (inr c) = last_hub i v t q b.0 a.1 b.1 c.1
         by_place (inl a) (inr b) c = absurd (past_in s.taken old.hubs i v a (s.many ∙ sym s.each) b.0)
         by_place (inr a) (inl b) c = absurd (past_in old.hubs s.taken i t b (s.each ∙ sym s.many) a.0)
@@ -111,13 +112,13 @@ rows_more {T} m old h x p gs feeds s k = record {
 -- ---- a hub with an emitter
 
 -- no feed names the next hub
-pub unfed_next : {T : Type 0} (n : ℕ) (fs : List (Feed T)) → NameHubs n fs → feed_of fs n ≡ None
+pub unfed_next : {M : Type 0} (n : ℕ) (fs : List (Feed M)) → NameHubs n fs → feed_of fs n ≡ None
 unfed_next n [] k = refl
 unfed_next n (f ∷ fs) k =
     let less = k.0 in
     ap (λ b. if b then Some f else feed_of fs n) (other_number f.hub n (λ e. absurd (omega (arith, less, e)))) ∙ unfed_next n fs k.1
 
-pub name_more : {T : Type 0} (n k : ℕ) (fs : List (Feed T)) → n ≤ k → NameHubs n fs → NameHubs k fs
+pub name_more : {M : Type 0} (n k : ℕ) (fs : List (Feed M)) → n ≤ k → NameHubs n fs → NameHubs k fs
 name_more n k [] l a = tt
 name_more n k (f ∷ fs) l a = let less = a.0 in (omega (arith, less, l), name_more n k fs l a.1)
 
@@ -128,8 +129,8 @@ none_left (suc k) = refl
 pub fresh_taken : {T : Type 0} (k : HubKind) (c : ℕ) → IsTaken {T = T} (fresh_hub k c) (ended_by Open)
 fresh_taken k c = record { taken = record { counted = refl; kept = none_left (0 - replayed k) }; ending = refl; closed = λ e. cc }
 
-fresh_stands : {T : Type 0} (m : Meaning T) (k : HubKind) (c n : ℕ) (fs : List (Feed T)) (taken : List (Stream T)) → feed_of fs n ≡ None → HubStands m fs taken n (ended_by Open) (fresh_hub k c) (record { kind = k; source = emitted (ended_by Open); count = 0 })
-fresh_stands k m c n fs taken unfed = record {
+fresh_stands : {M T : Type 0} (mc : Machine M T) (m : Meaning T) (k : HubKind) (c n : ℕ) (fs : List (Feed M)) (taken : List (Stream T)) → feed_of fs n ≡ None → HubStands mc m fs taken n (ended_by Open) (fresh_hub k c) (record { kind = k; source = emitted (ended_by Open); count = 0 })
+fresh_stands mc k m c n fs taken unfed = record {
   kind = refl;
   count = refl;
   taken_in = fresh_taken m c;
@@ -137,13 +138,13 @@ fresh_stands k m c n fs taken unfed = record {
   source = (unfed, refl);
 }
 
-pub hub_behind : {T : Type 0} (m : Meaning T) (k : HubKind) (c : ℕ) (old : Rows T) (hubs : List (HubState T)) (h : History T) → hubs ≡ old.hubs ++ fresh_hub k c ∷ [] → NameHubs (length old.hubs) old.feeds → StandsFor m old h → StandsFor m (rows_of hubs old.feeds old.subs) (with_hub k h)
-hub_behind {T} m k c old hubs h is names s =
-    let P : List (HubState T) → Type 0 = λ l. StandsFor m (rows_of l old.feeds old.subs) (with_hub k h) in
-    subst P (sym is) (rows_more m old h (fresh_hub k c) (record { kind = k; source = emitted (ended_by Open); count = 0 }) old.feeds (λ i l. refl) s
-    (fresh_stands m k c (length old.hubs) old.feeds (s.taken ++ ended_by Open ∷ []) (unfed_next (length old.hubs) old.feeds names)))
+pub hub_behind : {M T : Type 0} (mc : Machine M T) (m : Meaning T) (k : HubKind) (c : ℕ) (old : Rows M T) (hubs : List (HubState T)) (h : History T) → hubs ≡ old.hubs ++ fresh_hub k c ∷ [] → NameHubs (length old.hubs) old.feeds → StandsFor mc m old h → StandsFor mc m (rows_of hubs old.feeds old.subs) (with_hub k h)
+hub_behind {M} {T} mc m k c old hubs h is names s =
+    let P : List (HubState T) → Type 0 = λ l. StandsFor mc m (rows_of l old.feeds old.subs) (with_hub k h) in
+    subst P (sym is) (rows_more mc m old h (fresh_hub k c) (record { kind = k; source = emitted (ended_by Open); count = 0 }) old.feeds (λ i l. refl) s
+    (fresh_stands mc m k c (length old.hubs) old.feeds (s.taken ++ ended_by Open ∷ []) (unfed_next (length old.hubs) old.feeds names)))
 
-pub name_behind : {T : Type 0} (k : HubKind) (c : ℕ) (olds hubs : List (HubState T)) (fs : List (Feed T)) → hubs ≡ olds ++ fresh_hub k c ∷ [] → NameHubs (length olds) fs → NameHubs (length hubs) fs
+pub name_behind : {M T : Type 0} (k : HubKind) (c : ℕ) (olds hubs : List (HubState T)) (fs : List (Feed M)) → hubs ≡ olds ++ fresh_hub k c ∷ [] → NameHubs (length olds) fs → NameHubs (length hubs) fs
 name_behind k c olds hubs fs is names =
     let more = ap length is ∙ one_more olds (fresh_hub k c) in
     name_more (length olds) (length hubs) fs (omega (arith, more)) names

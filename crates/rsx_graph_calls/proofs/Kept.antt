@@ -1,4 +1,5 @@
 -- The joins that are kept beside the rows go on being those of the history, by new hubs, by what is published and by moves.
+use Rattle.rsx_sources.specs.declared.machine.Machine.{Ghosts as Machine}
 use Rattle.std.proofs.Common.{◌≡◌, ◌⊎◌, inl, inr, ℕ, zero, suc, Bool, true, false, nat_eq, if◌then◌else◌, List, [], ◌∷◌, ◌++◌, length, map, slice_get, Option, Some, None, option_map, refl, ap, sym, ◌∙◌, subst, arith}
 use Rattle.rsx_graph_state.proofs.Named.{is_number, other_number}
 use Rattle.rsx_graph_state.specs.Prelude.{History, HubPast, Source, accepted_at, emitted, fed, sent_at, with_delivery, with_made, with_moved, with_sent, Rows, StandsFor, place_of, changed, AreFeedJoins, HasFeedJoins, JoinsStand}
@@ -19,15 +20,15 @@ one_before : (o : Option ℕ) (at : ℕ) → option_map suc o ≡ Some at → (k
 one_before None at e = cc
 one_before (Some k) at e = (k, refl, sym (some_same (suc k) at e))
 
-place_first : {T : Type 0} (fs : List (Feed T)) (f : Feed T) (i at : ℕ) → place_of fs i ≡ Some at → place_of (fs ++ f ∷ []) i ≡ Some at
+place_first : {M : Type 0} (fs : List (Feed M)) (f : Feed M) (i at : ℕ) → place_of fs i ≡ Some at → place_of (fs ++ f ∷ []) i ≡ Some at
 place_first [] f i at e = cc
-place_first {T} (g ∷ fs) f i at e = by_test (λ k q. place_first fs f i k q) (nat_eq g.hub i) e
+place_first {M} (g ∷ fs) f i at e = by_test (λ k q. place_first fs f i k q) (nat_eq g.hub i) e
   where
     by_test : ((k : ℕ) → place_of fs i ≡ Some k → place_of (fs ++ f ∷ []) i ≡ Some k) → (b : Bool) → (if b then Some 0 else option_map suc (place_of fs i)) ≡ Some at → (if b then Some 0 else option_map suc (place_of (fs ++ f ∷ []) i)) ≡ Some at
     by_test rest true q = q
     by_test rest false q = let k = one_before (place_of fs i) at q in ap (option_map suc) (rest k.0 k.1) ∙ ap Some (sym k.2)
 
-place_last : {T : Type 0} (fs : List (Feed T)) (f : Feed T) (n : ℕ) → NameHubs n fs → f.hub ≡ n → place_of (fs ++ f ∷ []) n ≡ Some (length fs)
+place_last : {M : Type 0} (fs : List (Feed M)) (f : Feed M) (n : ℕ) → NameHubs n fs → f.hub ≡ n → place_of (fs ++ f ∷ []) n ≡ Some (length fs)
 place_last [] f n k e = ap (λ b. if b then Some 0 else None) (is_number f.hub n e)
 place_last (g ∷ fs) f n k e =
     let less = k.0 in
@@ -37,10 +38,10 @@ got_last : {A : Type 0} (xs : List A) (x : A) → slice_get (xs ++ x ∷ []) (le
 got_last [] x = refl
 got_last (y ∷ xs) x = got_last xs x
 
-pub joins_fed : {T : Type 0} (m : Meaning T) (k : HubKind) (e : Expr T) (old : Rows T) (feeds : List (Feed T)) (f : Feed T) (sub_joins feed_joins news : List (List ℕ)) (h : History T) →
+pub joins_fed : {M T : Type 0} (mc : Machine M T) (m : Meaning T) (k : HubKind) (e : Expr T) (old : Rows M T) (feeds : List (Feed M)) (f : Feed M) (sub_joins feed_joins news : List (List ℕ)) (h : History T) →
     feeds ≡ old.feeds ++ f ∷ [] → f.hub ≡ length old.hubs → NameHubs (length old.hubs) old.feeds → length feed_joins ≡ length old.feeds → news ≡ feed_joins ++ new_joins old.hubs e ∷ [] →
-    StandsFor m old h → JoinsStand old.feeds sub_joins feed_joins h → JoinsStand feeds sub_joins news (with_fed_hub k e h)
-joins_fed {T} m k e old feeds f sub_joins feed_joins news h is named names beside is_news s j = record { subs = j.subs; fed = each }
+    StandsFor mc m old h → JoinsStand old.feeds sub_joins feed_joins h → JoinsStand feeds sub_joins news (with_fed_hub k e h)
+joins_fed {M} {T} mc m k e old feeds f sub_joins feed_joins news h is named names beside is_news s j = record { subs = j.subs; fed = each }
   where
     last : HubPast T
     last = record { kind = k; source = fed e (joins_in h e); count = 0 }
@@ -57,7 +58,7 @@ joins_fed {T} m k e old feeds f sub_joins feed_joins news h is named names besid
     there i at = (
       length old.feeds,
       ap (λ l. place_of l i) is ∙ (ap (place_of (old.feeds ++ f ∷ [])) (at ∙ sym s.many) ∙ place_last old.feeds f (length old.hubs) names named),
-      ap (λ l. slice_get l (length old.feeds)) is_news ∙ (ap (slice_get (feed_joins ++ new_joins old.hubs e ∷ [])) (sym beside) ∙ (got_last feed_joins (new_joins old.hubs e) ∙ ap Some (new_joins_there m e old h s))),
+      ap (λ l. slice_get l (length old.feeds)) is_news ∙ (ap (slice_get (feed_joins ++ new_joins old.hubs e ∷ [])) (sym beside) ∙ (got_last feed_joins (new_joins old.hubs e) ∙ ap Some (new_joins_there mc m e old h s))),
     )
 
     each : (i : ℕ) (p : HubPast T) → slice_get (h.hubs ++ last ∷ []) i ≡ Some p → HasFeedJoins feeds news i p.source
@@ -67,8 +68,8 @@ joins_fed {T} m k e old feeds f sub_joins feed_joins news h is named names besid
 
 -- ---- a hub with an emitter
 
-pub joins_hub : {T : Type 0} (k : HubKind) (feeds : List (Feed T)) (sub_joins feed_joins : List (List ℕ)) (h : History T) → JoinsStand feeds sub_joins feed_joins h → JoinsStand feeds sub_joins feed_joins (with_hub k h)
-joins_hub {T} k feeds sub_joins feed_joins h j = record { subs = j.subs; fed = each }
+pub joins_hub : {M T : Type 0} (k : HubKind) (feeds : List (Feed M)) (sub_joins feed_joins : List (List ℕ)) (h : History T) → JoinsStand feeds sub_joins feed_joins h → JoinsStand feeds sub_joins feed_joins (with_hub k h)
+joins_hub {M} {T} k feeds sub_joins feed_joins h j = record { subs = j.subs; fed = each }
   where
     last : HubPast T
     last = record { kind = k; source = emitted (ended_by Open); count = 0 }
@@ -81,7 +82,7 @@ joins_hub {T} k feeds sub_joins feed_joins h j = record { subs = j.subs; fed = e
 -- ---- what changes neither joins nor sources
 
 -- feeds of the same hubs have the same places
-place_same : {T : Type 0} (fs gs : List (Feed T)) (i : ℕ) → map (λ f. f.hub) gs ≡ map (λ f. f.hub) fs → place_of gs i ≡ place_of fs i
+place_same : {M : Type 0} (fs gs : List (Feed M)) (i : ℕ) → map (λ f. f.hub) gs ≡ map (λ f. f.hub) fs → place_of gs i ≡ place_of fs i
 place_same [] [] i same = refl
 place_same [] (g ∷ gs) i same = cc
 place_same (f ∷ fs) [] i same = cc
@@ -96,9 +97,9 @@ got_source (p ∷ ps) zero src e = (p, refl, some_same p.source src e)
 got_source (p ∷ ps) (suc i) src e = got_source ps i src e
 
 -- so do joins that are kept
-pub joins_same : {T : Type 0} (feeds gs : List (Feed T)) (sub_joins feed_joins : List (List ℕ)) (h k : History T) → map (λ f. f.hub) gs ≡ map (λ f. f.hub) feeds → map (λ p. p.joins) k.pasts ≡ map (λ p. p.joins) h.pasts → map (λ p. p.source) k.hubs ≡ map (λ p. p.source) h.hubs →
+pub joins_same : {M T : Type 0} (feeds gs : List (Feed M)) (sub_joins feed_joins : List (List ℕ)) (h k : History T) → map (λ f. f.hub) gs ≡ map (λ f. f.hub) feeds → map (λ p. p.joins) k.pasts ≡ map (λ p. p.joins) h.pasts → map (λ p. p.source) k.hubs ≡ map (λ p. p.source) h.hubs →
     JoinsStand feeds sub_joins feed_joins h → JoinsStand gs sub_joins feed_joins k
-joins_same {T} feeds gs sub_joins feed_joins h k same joins sources j = record { subs = j.subs ∙ sym joins; fed = each }
+joins_same {M} {T} feeds gs sub_joins feed_joins h k same joins sources j = record { subs = j.subs ∙ sym joins; fed = each }
   where
     moved : (i : ℕ) (src : Source T) → HasFeedJoins feeds feed_joins i src → HasFeedJoins gs feed_joins i src
     moved i (emitted w) r = tt
@@ -155,8 +156,8 @@ got_changed f (x ∷ xs) zero (suc i) y e = (y, e, inl refl)
 got_changed f (x ∷ xs) (suc n) zero y e = (x, refl, inl (sym (some_same x y e)))
 got_changed f (x ∷ xs) (suc n) (suc i) y e = got_changed f xs n i y e
 
-pub joins_published : {T : Type 0} (s : Signal T) (n : HubId) (feeds : List (Feed T)) (sub_joins feed_joins : List (List ℕ)) (h : History T) → JoinsStand feeds sub_joins feed_joins h → JoinsStand feeds sub_joins feed_joins (with_published s n h)
-joins_published {T} s n feeds sub_joins feed_joins h j = record { subs = j.subs; fed = each }
+pub joins_published : {M T : Type 0} (s : Signal T) (n : HubId) (feeds : List (Feed M)) (sub_joins feed_joins : List (List ℕ)) (h : History T) → JoinsStand feeds sub_joins feed_joins h → JoinsStand feeds sub_joins feed_joins (with_published s n h)
+joins_published {M} {T} s n feeds sub_joins feed_joins h j = record { subs = j.subs; fed = each }
   where
     publishes : (i : ℕ) (src : Source T) → HasFeedJoins feeds feed_joins i src → HasFeedJoins feeds feed_joins i (published_from s src)
     publishes i (emitted w) r = tt

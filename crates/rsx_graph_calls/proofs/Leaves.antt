@@ -2,7 +2,7 @@
 use Rattle.std.proofs.Common.{◌≡◌, ℕ, suc, ◌+◌, ◌<◌, Bool, true, false, ◌&&◌, nat_eq, nat_le, nat_lt, if◌then◌else◌, List, [], ◌∷◌, ◌++◌, length, map, None, Some, refl, ap, sym, subst, ◌∙◌, arith}
 use Rattle.std.proofs.lemmas.Bool.Decides.{nat_tests}
 use Rattle.rsx_graph_state.specs.Prelude.{HubState, are_numbers, fresh_hub, with_members, MOST_MEMBERS}
-use Rattle.rsx_kinds.specs.Leaves.{HaveJoinedFrom, have_places, leaves_on, reads_here}
+use Rattle.rsx_rooted.specs.Leaves.{HaveJoinedFrom, have_places, leaves_on, reads_here}
 use Rattle.rsx_model.proofs.Unfold.{Each, by_children, children-map, fault_out, or_none, sound}
 use Rattle.rsx_subscriber.specs.Prelude.{first_fault, first_of, own_fault, refusal, unless, children, sum_of, Expr, map-Expr, fold_out-Expr, Expr-F, out-Expr}
 use Rattle.rsx_model.specs.declared.check.BadExpr.TheVariants.{Hub as NoSuchHub, Number}

@@ -1,4 +1,5 @@
 -- What is published at a hub with an emitter: the rows stand for what has happened with it.
+use Rattle.rsx_sources.specs.declared.machine.Machine.{Ghosts as Machine}
 use Rattle.std.proofs.Common.{◌≡◌, ℕ, zero, suc, ◌<◌, ◌≤◌, Bool, true, false, ◌&&◌, List, [], ◌∷◌, ◌++◌, length, slice_get, Some, None, is_none, is_some, refl, ap, sym, ◌∙◌, subst, arith, append_assoc}
 use Rattle.std.proofs.Math.ListN.{set}
 use Rattle.std.proofs.lemmas.List.{length-set}
@@ -27,13 +28,13 @@ none_and : (b : Bool) → b && false ≡ false
 none_and true = refl
 none_and false = refl
 
-pub unknown_hub : {T : Type 0} (hubs : List (HubState T)) (feeds : List (Feed T)) (i : ℕ) → length hubs ≤ i → has_emitter hubs feeds i ≡ false
+pub unknown_hub : {M T : Type 0} (hubs : List (HubState T)) (feeds : List (Feed M)) (i : ℕ) → length hubs ≤ i → has_emitter hubs feeds i ≡ false
 unknown_hub hubs feeds i l = ap (λ o. is_some o && is_none (feed_of feeds i)) (none_there hubs i l)
 
-pub fed_hub : {T : Type 0} (hubs : List (HubState T)) (feeds : List (Feed T)) (i at : ℕ) → place_of feeds i ≡ Some at → has_emitter hubs feeds i ≡ false
+pub fed_hub : {M T : Type 0} (hubs : List (HubState T)) (feeds : List (Feed M)) (i at : ℕ) → place_of feeds i ≡ Some at → has_emitter hubs feeds i ≡ false
 fed_hub hubs feeds i at place = ap (λ o. is_some (slice_get hubs i) && is_none o) (feed_placed feeds i at place).named ∙ none_and (is_some (slice_get hubs i))
 
-pub emitter_hub : {T : Type 0} (hubs : List (HubState T)) (feeds : List (Feed T)) (i : ℕ) → i < length hubs → place_of feeds i ≡ None → has_emitter hubs feeds i ≡ true
+pub emitter_hub : {M T : Type 0} (hubs : List (HubState T)) (feeds : List (Feed M)) (i : ℕ) → i < length hubs → place_of feeds i ≡ None → has_emitter hubs feeds i ≡ true
 emitter_hub hubs feeds i l place = ap (λ o. is_some o && is_none (feed_of feeds i)) (there hubs i l).1 ∙ ap is_none (unfed_there feeds i place)
 
 -- ---- one hub changed, and what has happened there
@@ -62,14 +63,14 @@ changed_length f [] n = refl
 changed_length f (x ∷ xs) zero = refl
 changed_length f (x ∷ xs) (suc n) = ap suc (changed_length f xs n)
 
-hub_changed : {T : Type 0} (m : Meaning T) (f : HubPast T → HubPast T) (i : ℕ) (hubs : List (HubState T)) (feeds : List (Feed T)) (subs : List (Subscription T)) (hub after : HubState T) (h : History T) → slice_get hubs i ≡ Some hub →
-    ((taken : List (Stream T)) (v : Stream T) (p : HubPast T) → HubStands m feeds taken i v hub p → HubStands m feeds taken i v after (f p)) →
-    StandsFor m (rows_of hubs feeds subs) h → StandsFor m (rows_of (set hubs i after) feeds subs) (record { hubs = changed f h.hubs i; pasts = h.pasts })
-hub_changed m f i hubs feeds subs hub after h there k s = record {
+hub_changed : {M T : Type 0} (mc : Machine M T) (m : Meaning T) (f : HubPast T → HubPast T) (i : ℕ) (hubs : List (HubState T)) (feeds : List (Feed M)) (subs : List (Subscription M T)) (hub after : HubState T) (h : History T) → slice_get hubs i ≡ Some hub →
+    ((taken : List (Stream T)) (v : Stream T) (p : HubPast T) → HubStands mc m feeds taken i v hub p → HubStands mc m feeds taken i v after (f p)) →
+    StandsFor mc m (rows_of hubs feeds subs) h → StandsFor mc m (rows_of (set hubs i after) feeds subs) (record { hubs = changed f h.hubs i; pasts = h.pasts })
+hub_changed mc m f i hubs feeds subs hub after h there k s = record {
   taken = s.taken;
   many = length-set hubs i after ∙ (s.many ∙ sym (changed_length f h.hubs i));
   each = s.each ∙ sym (changed_length f h.hubs i);
-  hub = one_changed (λ j v x p. HubStands m feeds s.taken j v x p) i f hub after s.taken hubs h.hubs there (k s.taken) s.hub;
+  hub = one_changed (λ j v x p. HubStands mc m feeds s.taken j v x p) i f hub after s.taken hubs h.hubs there (k s.taken) s.hub;
   all = s.all;
 }
 
@@ -86,24 +87,24 @@ open_of s h = first (is_open s.ending) _ h
 not_ended : {T : Type 0} (s : HubState T) (v : Stream T) → IsTaken s v → is_open s.ending ≡ true → s.has_ended ≡ true → ⊥
 not_ended s v k o e = let no = sym o ∙ k.closed e in cc
 
-source_emitted : {T : Type 0} (m : Meaning T) (feeds : List (Feed T)) (taken : List (Stream T)) (i : ℕ) (v : Stream T) (s : HubState T) (x : T) (src : Source T) → feed_of feeds i ≡ None → SourceStands m feeds taken i v s src → SourceStands m feeds taken i v (emitted_hub s x) (published_from (Next x) src)
-source_emitted m feeds taken i v s x (emitted w) unfed k = (k.0, λ j. record { items = (ap (λ y. y.items ++ x ∷ []) k.1 ∙ append_assoc v.items s.inbox (x ∷ [])) j; ending = (ap (λ y. y.ending) k.1) j })
-source_emitted m feeds taken i v s x (fed e joins) unfed k = let no = sym unfed ∙ k.there in cc
+source_emitted : {M T : Type 0} (mc : Machine M T) (m : Meaning T) (feeds : List (Feed M)) (taken : List (Stream T)) (i : ℕ) (v : Stream T) (s : HubState T) (x : T) (src : Source T) → feed_of feeds i ≡ None → SourceStands mc m feeds taken i v s src → SourceStands mc m feeds taken i v (emitted_hub s x) (published_from (Next x) src)
+source_emitted mc m feeds taken i v s x (emitted w) unfed k = (k.0, λ j. record { items = (ap (λ y. y.items ++ x ∷ []) k.1 ∙ append_assoc v.items s.inbox (x ∷ [])) j; ending = (ap (λ y. y.ending) k.1) j })
+source_emitted mc m feeds taken i v s x (fed e joins) unfed k = let no = sym unfed ∙ k.there in cc
 
-hub_emitted : {T : Type 0} (m : Meaning T) (feeds : List (Feed T)) (taken : List (Stream T)) (i : ℕ) (v : Stream T) (s : HubState T) (x : T) (p : HubPast T) → feed_of feeds i ≡ None → accepts_items s ≡ true → HubStands m feeds taken i v s p → HubStands m feeds taken i v (emitted_hub s x) (published_at (Next x) p)
-hub_emitted m feeds taken i v s x p unfed can k = record {
+hub_emitted : {M T : Type 0} (mc : Machine M T) (m : Meaning T) (feeds : List (Feed M)) (taken : List (Stream T)) (i : ℕ) (v : Stream T) (s : HubState T) (x : T) (p : HubPast T) → feed_of feeds i ≡ None → accepts_items s ≡ true → HubStands mc m feeds taken i v s p → HubStands mc m feeds taken i v (emitted_hub s x) (published_at (Next x) p)
+hub_emitted mc m feeds taken i v s x p unfed can k = record {
   kind = k.kind;
   count = k.count;
   taken_in = record { taken = record { counted = k.taken_in.taken.counted; kept = k.taken_in.taken.kept }; ending = k.taken_in.ending; closed = k.taken_in.closed };
   ended = λ e. absurd (not_ended s v k.taken_in (open_of s can) e);
-  source = source_emitted m feeds taken i v s x p.source unfed k.source;
+  source = source_emitted mc m feeds taken i v s x p.source unfed k.source;
 }
 
-pub emitted_stands : {T : Type 0} (m : Meaning T) (x : T) (i : HubId) (hubs : List (HubState T)) (feeds : List (Feed T)) (subs : List (Subscription T)) (hub after : HubState T) (h : History T) → slice_get hubs i.0 ≡ Some hub → feed_of feeds i.0 ≡ None → accepts_items hub ≡ true → after ≡ emitted_hub hub x →
-    StandsFor m (rows_of hubs feeds subs) h → StandsFor m (rows_of (set hubs i.0 after) feeds subs) (with_published (Next x) i h)
-emitted_stands {T} m x i hubs feeds subs hub after h at unfed can is s =
-    hub_changed m (published_at (Next x)) i.0 hubs feeds subs hub after h at
-    (λ taken v p k. let P : HubState T → Type 0 = λ t. HubStands m feeds taken i.0 v t (published_at (Next x) p) in subst P (sym is) (hub_emitted m feeds taken i.0 v hub x p unfed can k)) s
+pub emitted_stands : {M T : Type 0} (mc : Machine M T) (m : Meaning T) (x : T) (i : HubId) (hubs : List (HubState T)) (feeds : List (Feed M)) (subs : List (Subscription M T)) (hub after : HubState T) (h : History T) → slice_get hubs i.0 ≡ Some hub → feed_of feeds i.0 ≡ None → accepts_items hub ≡ true → after ≡ emitted_hub hub x →
+    StandsFor mc m (rows_of hubs feeds subs) h → StandsFor mc m (rows_of (set hubs i.0 after) feeds subs) (with_published (Next x) i h)
+emitted_stands {M} {T} mc m x i hubs feeds subs hub after h at unfed can is s =
+    hub_changed mc m (published_at (Next x)) i.0 hubs feeds subs hub after h at
+    (λ taken v p k. let P : HubState T → Type 0 = λ t. HubStands mc m feeds taken i.0 v t (published_at (Next x) p) in subst P (sym is) (hub_emitted mc m feeds taken i.0 v hub x p unfed can k)) s
 
 -- ---- a hub was ended
 
@@ -111,24 +112,24 @@ not_taken : (b : Bool) (e d : Ending) → (b ≡ true → ⊥) → ending_taken 
 not_taken true e d n = absurd (n refl)
 not_taken false e d n = refl
 
-source_ended : {T : Type 0} (m : Meaning T) (feeds : List (Feed T)) (taken : List (Stream T)) (i : ℕ) (v : Stream T) (s : HubState T) (sig : Signal T) (d : Ending) (src : Source T) → ((w : Stream T) → with_signal sig w ≡ record { items = w.items; ending = d }) → feed_of feeds i ≡ None → SourceStands m feeds taken i v s src → SourceStands m feeds taken i v (ended_with s d) (published_from sig src)
-source_ended m feeds taken i v s sig d (emitted w) ends unfed k = (k.0, ends w ∙ (λ j. record { items = (ap (λ y. y.items) k.1) j; ending = d }))
-source_ended m feeds taken i v s sig d (fed e joins) ends unfed k = let no = sym unfed ∙ k.there in cc
+source_ended : {M T : Type 0} (mc : Machine M T) (m : Meaning T) (feeds : List (Feed M)) (taken : List (Stream T)) (i : ℕ) (v : Stream T) (s : HubState T) (sig : Signal T) (d : Ending) (src : Source T) → ((w : Stream T) → with_signal sig w ≡ record { items = w.items; ending = d }) → feed_of feeds i ≡ None → SourceStands mc m feeds taken i v s src → SourceStands mc m feeds taken i v (ended_with s d) (published_from sig src)
+source_ended mc m feeds taken i v s sig d (emitted w) ends unfed k = (k.0, ends w ∙ (λ j. record { items = (ap (λ y. y.items) k.1) j; ending = d }))
+source_ended mc m feeds taken i v s sig d (fed e joins) ends unfed k = let no = sym unfed ∙ k.there in cc
 
-hub_ended : {T : Type 0} (m : Meaning T) (feeds : List (Feed T)) (taken : List (Stream T)) (i : ℕ) (v : Stream T) (s : HubState T) (sig : Signal T) (d : Ending) (p : HubPast T) → ((w : Stream T) → with_signal sig w ≡ record { items = w.items; ending = d }) → feed_of feeds i ≡ None → is_open s.ending ≡ true → HubStands m feeds taken i v s p → HubStands m feeds taken i v (ended_with s d) (published_at sig p)
-hub_ended m feeds taken i v s sig d p ends unfed goes k =
+hub_ended : {M T : Type 0} (mc : Machine M T) (m : Meaning T) (feeds : List (Feed M)) (taken : List (Stream T)) (i : ℕ) (v : Stream T) (s : HubState T) (sig : Signal T) (d : Ending) (p : HubPast T) → ((w : Stream T) → with_signal sig w ≡ record { items = w.items; ending = d }) → feed_of feeds i ≡ None → is_open s.ending ≡ true → HubStands mc m feeds taken i v s p → HubStands mc m feeds taken i v (ended_with s d) (published_at sig p)
+hub_ended mc m feeds taken i v s sig d p ends unfed goes k =
     let no : s.has_ended ≡ true → ⊥ = not_ended s v k.taken_in goes in
     record {
       kind = k.kind;
       count = k.count;
       taken_in = record { taken = record { counted = k.taken_in.taken.counted; kept = k.taken_in.taken.kept }; ending = k.taken_in.ending ∙ not_taken s.has_ended s.ending d no; closed = λ e. absurd (no e) };
       ended = λ e. absurd (no e);
-      source = source_ended m feeds taken i v s sig d p.source ends unfed k.source;
+      source = source_ended mc m feeds taken i v s sig d p.source ends unfed k.source;
     }
 
 -- by a signal that gives any stream this ending
-pub ended_stands : {T : Type 0} (m : Meaning T) (sig : Signal T) (d : Ending) (i : HubId) (hubs : List (HubState T)) (feeds : List (Feed T)) (subs : List (Subscription T)) (hub after : HubState T) (h : History T) → ((w : Stream T) → with_signal sig w ≡ record { items = w.items; ending = d }) → slice_get hubs i.0 ≡ Some hub → feed_of feeds i.0 ≡ None → is_open hub.ending ≡ true → after ≡ ended_with hub d →
-    StandsFor m (rows_of hubs feeds subs) h → StandsFor m (rows_of (set hubs i.0 after) feeds subs) (with_published sig i h)
-ended_stands {T} m sig d i hubs feeds subs hub after h ends at unfed goes is s =
-    hub_changed m (published_at sig) i.0 hubs feeds subs hub after h at
-    (λ taken v p k. let P : HubState T → Type 0 = λ t. HubStands m feeds taken i.0 v t (published_at sig p) in subst P (sym is) (hub_ended m feeds taken i.0 v hub sig d p ends unfed goes k)) s
+pub ended_stands : {M T : Type 0} (mc : Machine M T) (m : Meaning T) (sig : Signal T) (d : Ending) (i : HubId) (hubs : List (HubState T)) (feeds : List (Feed M)) (subs : List (Subscription M T)) (hub after : HubState T) (h : History T) → ((w : Stream T) → with_signal sig w ≡ record { items = w.items; ending = d }) → slice_get hubs i.0 ≡ Some hub → feed_of feeds i.0 ≡ None → is_open hub.ending ≡ true → after ≡ ended_with hub d →
+    StandsFor mc m (rows_of hubs feeds subs) h → StandsFor mc m (rows_of (set hubs i.0 after) feeds subs) (with_published sig i h)
+ended_stands {M} {T} mc m sig d i hubs feeds subs hub after h ends at unfed goes is s =
+    hub_changed mc m (published_at sig) i.0 hubs feeds subs hub after h at
+    (λ taken v p k. let P : HubState T → Type 0 = λ t. HubStands mc m feeds taken i.0 v t (published_at sig p) in subst P (sym is) (hub_ended mc m feeds taken i.0 v hub sig d p ends unfed goes k)) s

@@ -1,4 +1,5 @@
 -- The edits of a graph with feeds: what has happened by each, and why it is refused.
+use Rattle.rsx_rooted.specs.declared.nodes.Nodes.{Ghosts as Nodes}
 use Rattle.std.specs.Prelude.{◌≡◌, ⊤, ◌⊎◌, ℕ, ◌<◌, ◌≤◌, true, false, if◌then◌else◌, List, [], ◌∷◌, ◌++◌, length, map, Option, Some, None}
 use Rattle.rsx_graph_state.specs.Prelude.{History, emitted, fed, HaveJoined, have_places, HubState, are_numbers, fresh_hub, join}
 use Rattle.rsx_graph_state.specs.declared.TheConstants.{MOST_HUBS}
@@ -23,7 +24,7 @@ abbrev pub with_fed_hub : {T : Type 0} → HubKind → Expr T → History T → 
 with_fed_hub k e h = record { hubs = h.hubs ++ record { kind = k; source = fed e (joins_in h e); count = 0 } ∷ []; pasts = h.pasts }
 
 -- each feed names one of so many hubs
-abbrev pub NameHubs : {T : Type 0} → ℕ → List (Feed T) → Type 0
+abbrev pub NameHubs : {M : Type 0} → ℕ → List (Feed M) → Type 0
 NameHubs n [] = ⊤
 NameHubs n (f ∷ fs) = (f.hub < n) × NameHubs n fs
 
@@ -39,12 +40,12 @@ IsFedHubRefusal k c e hubs NoMemory = (fault_of k c (length hubs) e ≡ None) ×
 IsFedHubRefusal k c e hubs r = ⊥
 
 -- a hub with a feed stands behind the others, which the leaves of the feed joined, and the feed behind the other feeds
-pub record IsFedHubMade {T : Type 0} (k : HubKind) (c : ℕ) (e : Expr T) (hubs news : List (HubState T)) (feeds fed_by : List (Feed T)) : Type 0 where
+pub record IsFedHubMade {M T : Type 0} (kd : Nodes M T) (k : HubKind) (c : ℕ) (e : Expr T) (hubs news : List (HubState T)) (feeds fed_by : List (Feed M)) : Type 0 where
   pub joined : List (HubState T)
-  pub feed : Feed T
+  pub feed : Feed M
   pub members : HaveJoined e hubs joined
   pub behind : news ≡ joined ++ fresh_hub k c ∷ []
   -- the edges of the feed have a queue just where they join two regions; a hub is in region 0
-  pub placed : IsPlaced e (differ 0 (region_of e)) feed.part.tree
+  pub placed : IsPlaced kd.crosses e (differ 0 (region_of e)) feed.part.tree
   pub named : feed.hub ≡ length hubs
   pub added : fed_by ≡ feeds ++ feed ∷ []

@@ -1,4 +1,5 @@
 -- What the looks at a graph with feeds answer, and why they are refused.
+use Rattle.rsx_sources.specs.declared.machine.Machine.{Ghosts as Machine}
 use Rattle.std.specs.Prelude.{◌≡◌, ℕ, true, false, List, [], Some, slice_get}
 use Rattle.rsx_graph_state.specs.Prelude.{AreValues, History, HubPast, fed, has_feed, Rows, feed_of, HasJoins, IsLookRefusal, HasNotesAt, OwedAt}
 use Rattle.rsx_graph_state.specs.declared.refusal.Refusal.{Refusal}
@@ -8,22 +9,22 @@ use Rattle.rsx_graph_state.specs.declared.feed.Feed.{Feed}
 use Rattle.rsx_sources.specs.Prelude.{Meaning, Stream, SubId, Tree, Sub, Feed as FeedOf, Note}
 
 -- this is what the subscriber with this number is owed, over the values of the hubs
-pub record IsOwed {T : Type 0} (m : Meaning T) (g : Rows T) (h : History T) (i : SubId) (v : Stream T) : Type 0 where
+pub record IsOwed {M T : Type 0} (mc : Machine M T) (m : Meaning T) (g : Rows M T) (h : History T) (i : SubId) (v : Stream T) : Type 0 where
   pub published : List (Stream T)
-  pub values : AreValues m g.feeds [] h.hubs published
-  pub owed : OwedAt m published g.subs h.pasts i.0 v
+  pub values : AreValues mc m g.feeds [] h.hubs published
+  pub owed : OwedAt mc m published g.subs h.pasts i.0 v
 
 -- the hub with this number is there and has a feed, whose nodes recorded this
-pub record HasFeedNotes {T : Type 0} (g : Rows T) (h : ℕ) (ns : List Note) : Type 0 where
+pub record HasFeedNotes {M T : Type 0} (mc : Machine M T) (g : Rows M T) (h : ℕ) (ns : List Note) : Type 0 where
   pub known : has_feed g h ≡ true
-  pub feed : Feed T
+  pub feed : Feed M
   pub there : feed_of g.feeds h ≡ Some feed
-  pub notes : ns ≡ notes_of feed.part.tree
+  pub notes : ns ≡ notes_of mc feed.part.tree
 
 -- these are the notes of a tree
-abbrev pub HasNotes : {T : Type 0} → Rows T → Tree → List Note → Type 0
-HasNotes g (Sub i) ns = HasNotesAt g.subs i ns
-HasNotes g (FeedOf h) ns = HasFeedNotes g h.0 ns
+abbrev pub HasNotes : {M T : Type 0} → Machine M T → Rows M T → Tree → List Note → Type 0
+HasNotes mc g (Sub i) ns = HasNotesAt mc g.subs i ns
+HasNotes mc g (FeedOf h) ns = HasFeedNotes mc g h.0 ns
 
 -- the hub with this number is fed by an expression, whose leaves have these joins
 abbrev pub HasFedJoins : {T : Type 0} → List (HubPast T) → ℕ → List ℕ → Type 0
@@ -35,12 +36,12 @@ HasTreeJoins h (Sub i) js = HasJoins h.pasts i.0 js
 HasTreeJoins h (FeedOf i) js = HasFedJoins h.hubs i.0 js
 
 -- why a look at the feed of a hub is refused
-abbrev pub IsFeedLookRefusal : {T : Type 0} → Rows T → ℕ → Refusal → Type 0
+abbrev pub IsFeedLookRefusal : {M T : Type 0} → Rows M T → ℕ → Refusal → Type 0
 IsFeedLookRefusal g h UnknownHub = has_feed g h ≡ false
 IsFeedLookRefusal g h NoMemory = has_feed g h ≡ true
 IsFeedLookRefusal g h r = ⊥
 
 -- why a look at a tree is refused, where there are so many subscriptions: an unknown name first, and then memory
-abbrev pub IsTreeLookRefusal : {T : Type 0} → Rows T → ℕ → Tree → Refusal → Type 0
+abbrev pub IsTreeLookRefusal : {M T : Type 0} → Rows M T → ℕ → Tree → Refusal → Type 0
 IsTreeLookRefusal g count (Sub i) r = IsLookRefusal count i r
 IsTreeLookRefusal g count (FeedOf h) r = IsFeedLookRefusal g h.0 r

@@ -24,16 +24,16 @@ with_published s i h = record { hubs = changed (published_at s) h.hubs i.0; past
 -- ---- why it is refused
 
 -- the hub with this number is there, and has an emitter
-abbrev pub has_emitter : {T : Type 0} → List (HubState T) → List (Feed T) → ℕ → Bool
+abbrev pub has_emitter : {M T : Type 0} → List (HubState T) → List (Feed M) → ℕ → Bool
 has_emitter hubs feeds i = is_some (slice_get hubs i) && is_none (feed_of feeds i)
 
 -- that is so, and this holds of it
-abbrev pub OfEmitter : {T : Type 0} → List (HubState T) → List (Feed T) → ℕ → (HubState T → Type 0) → Type 0
-OfEmitter {T} hubs feeds i P = (has_emitter hubs feeds i ≡ true) × ((hub : HubState T) × (slice_get hubs i ≡ Some hub) × P hub)
+abbrev pub OfEmitter : {M T : Type 0} → List (HubState T) → List (Feed M) → ℕ → (HubState T → Type 0) → Type 0
+OfEmitter {M} {T} hubs feeds i P = (has_emitter hubs feeds i ≡ true) × ((hub : HubState T) × (slice_get hubs i ≡ Some hub) × P hub)
 
 -- why an item is not accepted: a hub that isn't there or has a feed first, then one that has ended, then one that has accepted as
 -- many items as it may in its life, and then a full inbox
-abbrev pub IsEmitRefusal : {T : Type 0} → List (HubState T) → List (Feed T) → ℕ → Refusal → Type 0
+abbrev pub IsEmitRefusal : {M T : Type 0} → List (HubState T) → List (Feed M) → ℕ → Refusal → Type 0
 IsEmitRefusal hubs feeds i UnknownHub = has_emitter hubs feeds i ≡ false
 IsEmitRefusal hubs feeds i Ended = OfEmitter hubs feeds i (λ h. is_open h.ending ≡ false)
 IsEmitRefusal hubs feeds i TooMany = OfEmitter hubs feeds i (λ h. (is_open h.ending ≡ true) × (MOST_ACCEPTED ≤ accepted_items h))
@@ -41,12 +41,12 @@ IsEmitRefusal hubs feeds i Full = OfEmitter hubs feeds i (λ h. (is_open h.endin
 IsEmitRefusal hubs feeds i r = ⊥
 
 -- the same where a copy of the item is made first
-abbrev pub IsCopyRefusal : {T : Type 0} → List (HubState T) → List (Feed T) → ℕ → Refusal → Type 0
+abbrev pub IsCopyRefusal : {M T : Type 0} → List (HubState T) → List (Feed M) → ℕ → Refusal → Type 0
 IsCopyRefusal hubs feeds i NoMemory = has_emitter hubs feeds i ≡ true
 IsCopyRefusal hubs feeds i r = IsEmitRefusal hubs feeds i r
 
 -- why a hub is not ended
-abbrev pub IsEndRefusal : {T : Type 0} → List (HubState T) → List (Feed T) → ℕ → Refusal → Type 0
+abbrev pub IsEndRefusal : {M T : Type 0} → List (HubState T) → List (Feed M) → ℕ → Refusal → Type 0
 IsEndRefusal hubs feeds i UnknownHub = has_emitter hubs feeds i ≡ false
 IsEndRefusal hubs feeds i Ended = OfEmitter hubs feeds i (λ h. is_open h.ending ≡ false)
 IsEndRefusal hubs feeds i r = ⊥

@@ -14,6 +14,7 @@ ghost use Rattle.rsx_graph_calls.specs.Edits.{NameHubs, with_hub};
 use rsx_graph_state::{Feed, MOST_HUBS, Refusal};
 use rsx_hub::{Hub, HubRefusal, LARGEST};
 use rsx_model::BadExpr;
+use rsx_pipe::Nodes;
 use rsx_types::{HubId, HubKind};
 use std::alloc::Global;
 
@@ -24,18 +25,18 @@ use std::alloc::Global;
 /// # Errors
 /// G6 with kind 4 exactly where the capacity or the number of a replay is not 1 to 1,024, else G5 exactly where there are
 /// [`MOST_HUBS`], else G8 where a growth was refused; nothing changed.
-pub fn hub<T: Drop>(
+pub fn hub<N: Nodes<Item = T>, T: Drop>(
     alloc: Global,
     hubs: &mut Vec<Hub<T>>,
-    feeds: &Vec<Feed<T>>,
+    feeds: &Vec<Feed<N>>,
     kind: HubKind,
     capacity: u64,
 ) -> Result<HubId, Refusal>
     requires named { NameHubs (length hubs.old.items) feeds.now.items }
     ensures named { OnOk result (NameHubs (length hubs.new.items) feeds.now.items) }
-    ensures stands { OnOk result ((m : Meaning T) (subscriptions : List (SubscriptionOf T)) (h : History T) →
-        StandsFor m (rows_of hubs.old.items feeds.now.items subscriptions) h →
-        StandsFor m (rows_of hubs.new.items feeds.now.items subscriptions) (with_hub kind h)) }
+    ensures stands { OnOk result ((m : Meaning T) (subscriptions : List (SubscriptionOf N T)) (h : History T) →
+        StandsFor N.Machine m (rows_of hubs.old.items feeds.now.items subscriptions) h →
+        StandsFor N.Machine m (rows_of hubs.new.items feeds.now.items subscriptions) (with_hub kind h)) }
     ensures effect { OnOk result (hubs.new.items ≡ hubs.old.items ++ fresh_hub kind capacity ∷ []) }
     ensures id { IfOk result (λ id. (id.0 ≡ length hubs.old.items) × (are_numbers kind capacity ≡ true) × (length hubs.old.items < MOST_HUBS)) }
     ensures err { IfErr result (λ r. IsHubRefusal kind capacity (length hubs.old.items) r) }

@@ -5,11 +5,11 @@
 //!
 //! The edits of hubs, feeds and subscriptions that stand in rows and are named by their numbers.
 //!
-//! - [`feed_hubs`]: [`feed_hub`], a new hub that is fed by an expression.
+//! - [`feed_hubs`]: [`feed_hub`], a new hub that is fed by an expression, and [`admit_fed`], whether there may be one.
 //! - [`hubs`]: [`hub`], a new hub with an emitter.
 //! - [`publishing`]: [`emit`], [`complete`] and [`fail`], at a hub with an emitter.
 //! - [`requests`]: [`request`] and [`cancel`] of a subscription.
-//! - [`subscribing`]: [`subscribe`], a new subscription.
+//! - [`subscribing`]: [`subscribe`], a new subscription, and [`admit`], whether there may be one.
 //!
 //! The definitions stand in `specs/`: `Edits` and `Subscribing` (what has happened by each edit, and why it is refused), `Publishes`
 //! (the same of what is published), `Requests` (what a subscriber did), `Joins` (the joins that are kept beside the rows) and
@@ -35,10 +35,10 @@ pub mod subscribing;
 mod to_come;
 pub mod trees;
 
-pub use feed_hubs::feed_hub;
+pub use feed_hubs::{admit_fed, feed_hub};
 pub use hubs::hub;
 pub use publishing::{NotEmitted, complete, emit, emit_copy, fail};
 pub use requests::{cancel, request};
 pub use still_owed::owed;
-pub use subscribing::subscribe;
+pub use subscribing::{admit, subscribe};
 pub use trees::{joins, notes};

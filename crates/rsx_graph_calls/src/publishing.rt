@@ -15,6 +15,7 @@ ghost use Rattle.rsx_graph_calls.specs.Publishes.{IsCopyRefusal, IsEmitRefusal, 
 
 use rsx_graph_state::{Feed, Refusal, place_of};
 use rsx_hub::{HasEnded, Hub, Rejected};
+use rsx_pipe::Nodes;
 use rsx_types::{HubId, NoMemory, Ops};
 use std::alloc::Global;
 
@@ -43,15 +44,15 @@ impl<T: Drop> From<NotEmitted<T>> for Refusal {
 /// The item comes back, and nothing changed: G1 exactly where there is no such hub or it has a feed, else G3 exactly where it has
 /// ended (rule 1.7), else G5 exactly where it has accepted 2^63 - 1 items, else G4 exactly where its inbox holds as many items as
 /// its capacity, or more.
-pub fn emit<T: Drop>(
+pub fn emit<N: Nodes<Item = T>, T: Drop>(
     hubs: &mut Vec<Hub<T>>,
-    feeds: &Vec<Feed<T>>,
+    feeds: &Vec<Feed<N>>,
     hub: HubId,
     item: T,
 ) -> Result<(), NotEmitted<T>>
-    ensures stands { OnOk result ((m : Meaning T) (subscriptions : List (SubscriptionOf T)) (h : History T) →
-        StandsFor m (rows_of hubs.old.items feeds.now.items subscriptions) h →
-        StandsFor m (rows_of hubs.new.items feeds.now.items subscriptions) (with_published (Next item) hub h)) }
+    ensures stands { OnOk result ((m : Meaning T) (subscriptions : List (SubscriptionOf N T)) (h : History T) →
+        StandsFor N.Machine m (rows_of hubs.old.items feeds.now.items subscriptions) h →
+        StandsFor N.Machine m (rows_of hubs.new.items feeds.now.items subscriptions) (with_published (Next item) hub h)) }
     ensures effect { OnOk result (IsEmittedAt hub.0 item hubs.old.items hubs.new.items) }
     ensures known { OnOk result (spec.has_emitter hubs.old.items feeds.now.items hub.0 ≡ true) }
     ensures item { IfErr result (λ e. e.item ≡ item) }
@@ -86,17 +87,17 @@ pub fn emit<T: Drop>(
 /// # Errors
 /// Those of [`emit`], in its cases, where the copy is made: [`Refusal::NoMemory`] where it was refused, at a hub that is there and
 /// has an emitter. Nothing changed.
-pub fn emit_copy<O: Ops>(
+pub fn emit_copy<N: Nodes<Item = O::Item>, O: Ops>(
     alloc: Global,
     ops: &O,
     hubs: &mut Vec<Hub<O::Item>>,
-    feeds: &Vec<Feed<O::Item>>,
+    feeds: &Vec<Feed<N>>,
     hub: HubId,
     item: &O::Item,
 ) -> Result<(), Refusal>
-    ensures stands { OnOk result ((m : Meaning O.Item) (subscriptions : List (SubscriptionOf O.Item)) (h : History O.Item) →
-        StandsFor m (rows_of hubs.old.items feeds.now.items subscriptions) h →
-        StandsFor m (rows_of hubs.new.items feeds.now.items subscriptions) (with_published (Next item.now) hub h)) }
+    ensures stands { OnOk result ((m : Meaning O.Item) (subscriptions : List (SubscriptionOf N O.Item)) (h : History O.Item) →
+        StandsFor N.Machine m (rows_of hubs.old.items feeds.now.items subscriptions) h →
+        StandsFor N.Machine m (rows_of hubs.new.items feeds.now.items subscriptions) (with_published (Next item.now) hub h)) }
     ensures effect { OnOk result (IsEmittedAt hub.0 item.now hubs.old.items hubs.new.items) }
     ensures known { OnOk result (spec.has_emitter hubs.old.items feeds.now.items hub.0 ≡ true) }
     ensures err { IfErr result (λ r. IsCopyRefusal hubs.old.items feeds.now.items hub.0 r) }
@@ -120,14 +121,14 @@ pub fn emit_copy<O: Ops>(
 ///
 /// # Errors
 /// G1 exactly where there is no such hub or it has a feed, else G3 exactly where it has ended (rule 1.7); nothing changed.
-pub fn complete<T: Drop>(
+pub fn complete<N: Nodes<Item = T>, T: Drop>(
     hubs: &mut Vec<Hub<T>>,
-    feeds: &Vec<Feed<T>>,
+    feeds: &Vec<Feed<N>>,
     hub: HubId,
 ) -> Result<(), Refusal>
-    ensures stands { OnOk result ((m : Meaning T) (subscriptions : List (SubscriptionOf T)) (h : History T) →
-        StandsFor m (rows_of hubs.old.items feeds.now.items subscriptions) h →
-        StandsFor m (rows_of hubs.new.items feeds.now.items subscriptions) (with_published Complete hub h)) }
+    ensures stands { OnOk result ((m : Meaning T) (subscriptions : List (SubscriptionOf N T)) (h : History T) →
+        StandsFor N.Machine m (rows_of hubs.old.items feeds.now.items subscriptions) h →
+        StandsFor N.Machine m (rows_of hubs.new.items feeds.now.items subscriptions) (with_published Complete hub h)) }
     ensures effect { OnOk result (IsEndedAt hub.0 Done hubs.old.items hubs.new.items) }
     ensures known { OnOk result (spec.has_emitter hubs.old.items feeds.now.items hub.0 ≡ true) }
     ensures err { IfErr result (λ r. IsEndRefusal hubs.old.items feeds.now.items hub.0 r) }
@@ -147,15 +148,15 @@ pub fn complete<T: Drop>(
 ///
 /// # Errors
 /// G1 exactly where there is no such hub or it has a feed, else G3 exactly where it has ended (rule 1.7); nothing changed.
-pub fn fail<T: Drop>(
+pub fn fail<N: Nodes<Item = T>, T: Drop>(
     hubs: &mut Vec<Hub<T>>,
-    feeds: &Vec<Feed<T>>,
+    feeds: &Vec<Feed<N>>,
     hub: HubId,
     number: u32,
 ) -> Result<(), Refusal>
-    ensures stands { OnOk result ((m : Meaning T) (subscriptions : List (SubscriptionOf T)) (h : History T) →
-        StandsFor m (rows_of hubs.old.items feeds.now.items subscriptions) h →
-        StandsFor m (rows_of hubs.new.items feeds.now.items subscriptions) (with_published (Error (User number)) hub h)) }
+    ensures stands { OnOk result ((m : Meaning T) (subscriptions : List (SubscriptionOf N T)) (h : History T) →
+        StandsFor N.Machine m (rows_of hubs.old.items feeds.now.items subscriptions) h →
+        StandsFor N.Machine m (rows_of hubs.new.items feeds.now.items subscriptions) (with_published (Error (User number)) hub h)) }
     ensures effect { OnOk result (IsEndedAt hub.0 (Failed (User number)) hubs.old.items hubs.new.items) }
     ensures known { OnOk result (spec.has_emitter hubs.old.items feeds.now.items hub.0 ≡ true) }
     ensures err { IfErr result (λ r. IsEndRefusal hubs.old.items feeds.now.items hub.0 r) }
@@ -171,7 +172,11 @@ pub fn fail<T: Drop>(
 }
 
 /// Whether the hub with this number is there, and has no feed.
-fn has_emitter<T: Drop>(hubs: &Vec<Hub<T>>, feeds: &Vec<Feed<T>>, hub: HubId) -> bool
+fn has_emitter<N: Nodes<Item = T>, T: Drop>(
+    hubs: &Vec<Hub<T>>,
+    feeds: &Vec<Feed<N>>,
+    hub: HubId,
+) -> bool
     ensures is { result ≡ spec.has_emitter hubs.now.items feeds.now.items hub.0 }
     ensures there { result ≡ true → hub.0 < length hubs.now.items }
     ensures unfed { result ≡ true → feed_of feeds.now.items hub.0 ≡ None }

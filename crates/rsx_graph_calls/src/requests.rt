@@ -12,6 +12,7 @@ ghost use Rattle.rsx_graph_state.specs.Stands.{StandsFor};
 ghost use Rattle.rsx_graph_calls.specs.Requests.{with_past};
 
 use rsx_graph_state::Refusal;
+use rsx_pipe::Nodes;
 use rsx_subscriber::Subscription;
 use rsx_types::{Signal, SubId};
 
@@ -21,15 +22,15 @@ use rsx_types::{Signal, SubId};
 ///
 /// # Errors
 /// G2 exactly where there is no such subscription; nothing changed.
-pub fn request<T: Drop>(
-    subscriptions: &mut Vec<Subscription<T>>,
+pub fn request<N: Nodes<Item = T>, T: Drop>(
+    subscriptions: &mut Vec<Subscription<N, T>>,
     sub: SubId,
     n: i64,
 ) -> Result<Option<Signal<T>>, Refusal>
-    ensures stands { OnOk result ((m : Meaning T) (hubs : List (HubState T)) (feeds : List (FeedOf T)) (h : History T) →
-        StandsFor m (rows_of hubs feeds subscriptions.old.items) h →
-        StandsFor m (rows_of hubs feeds subscriptions.new.items) (with_past (requested n) sub h)) }
-    ensures effect { IfOk result (λ o. IsRequestedAt sub.0 n subscriptions.old.items subscriptions.new.items o) }
+    ensures stands { OnOk result ((m : Meaning T) (hubs : List (HubState T)) (feeds : List (FeedOf N)) (h : History T) →
+        StandsFor N.Machine m (rows_of hubs feeds subscriptions.old.items) h →
+        StandsFor N.Machine m (rows_of hubs feeds subscriptions.new.items) (with_past (requested n) sub h)) }
+    ensures effect { IfOk result (λ o. IsRequestedAt N.Machine sub.0 n subscriptions.old.items subscriptions.new.items o) }
     ensures err { IfErr result (λ r. (r ≡ Refusal.UnknownSub) × (length subscriptions.old.items ≤ sub.0)) }
     ensures same { OnErr result (subscriptions.new.items ≡ subscriptions.old.items) }
 {
@@ -46,11 +47,14 @@ pub fn request<T: Drop>(
 ///
 /// # Errors
 /// G2 exactly where there is no such subscription; nothing changed.
-pub fn cancel<T: Drop>(subscriptions: &mut Vec<Subscription<T>>, sub: SubId) -> Result<(), Refusal>
-    ensures stands { OnOk result ((m : Meaning T) (hubs : List (HubState T)) (feeds : List (FeedOf T)) (h : History T) →
-        StandsFor m (rows_of hubs feeds subscriptions.old.items) h →
-        StandsFor m (rows_of hubs feeds subscriptions.new.items) (with_past cancelled sub h)) }
-    ensures effect { OnOk result (IsCancelledAt sub.0 subscriptions.old.items subscriptions.new.items) }
+pub fn cancel<N: Nodes<Item = T>, T: Drop>(
+    subscriptions: &mut Vec<Subscription<N, T>>,
+    sub: SubId,
+) -> Result<(), Refusal>
+    ensures stands { OnOk result ((m : Meaning T) (hubs : List (HubState T)) (feeds : List (FeedOf N)) (h : History T) →
+        StandsFor N.Machine m (rows_of hubs feeds subscriptions.old.items) h →
+        StandsFor N.Machine m (rows_of hubs feeds subscriptions.new.items) (with_past cancelled sub h)) }
+    ensures effect { OnOk result (IsCancelledAt N.Machine sub.0 subscriptions.old.items subscriptions.new.items) }
     ensures known { OnOk result (sub.0 < length subscriptions.old.items) }
     ensures err { IfErr result (λ r. (r ≡ Refusal.UnknownSub) × (length subscriptions.old.items ≤ sub.0)) }
     ensures same { OnErr result (subscriptions.new.items ≡ subscriptions.old.items) }

@@ -10,6 +10,7 @@ ghost use Rattle.rsx_graph_calls.specs.Looks.{IsOwed};
 use crate::to_come::all_to_come;
 use rsx_graph_state::{Feed, Refusal};
 use rsx_hub::Hub;
+use rsx_pipe::Nodes;
 use rsx_subscriber::{Subscription, SubscriptionState};
 use rsx_types::{Ending, NoMemory, Ops, StreamValue, SubId};
 use std::alloc::Global;
@@ -21,18 +22,18 @@ use std::alloc::Global;
 ///
 /// # Errors
 /// G2 exactly where there is no such subscription, else G8 where a growth was refused.
-pub fn owed<O: Ops>(
+pub fn owed<N: Nodes<Item = O::Item>, O: Ops>(
     alloc: Global,
     ops: &O,
     hubs: &[Hub<O::Item>],
-    feeds: &[Feed<O::Item>],
-    subscriptions: &[Subscription<O::Item>],
+    feeds: &[Feed<N>],
+    subscriptions: &[Subscription<N, O::Item>],
     sub: SubId,
 ) -> Result<StreamValue<O::Item>, Refusal>
     requires few { length hubs.now < 2 ^ 32 }
     ensures owes { IfOk result (λ v. (h : History O.Item) →
-        StandsFor (O.meaning ops.now) (rows_of hubs.now feeds.now subscriptions.now) h →
-        IsOwed (O.meaning ops.now) (rows_of hubs.now feeds.now subscriptions.now) h sub v) }
+        StandsFor N.Machine (O.meaning ops.now) (rows_of hubs.now feeds.now subscriptions.now) h →
+        IsOwed N.Machine (O.meaning ops.now) (rows_of hubs.now feeds.now subscriptions.now) h sub v) }
     ensures err { IfErr result (λ r. IsLookRefusal (length subscriptions.now) sub r) }
 {
     let at = sub.0 as usize;

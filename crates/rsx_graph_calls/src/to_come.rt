@@ -6,6 +6,7 @@ ghost use Rattle.rsx_graph_calls.specs.ToCome.{AreToCome, IsToCome};
 
 use rsx_graph_state::{Feed, place_of};
 use rsx_hub::Hub;
+use rsx_pipe::Nodes;
 use rsx_types::{NoMemory, Ops, StreamValue};
 use std::alloc::Global;
 
@@ -14,14 +15,14 @@ use std::alloc::Global;
 ///
 /// # Errors
 /// [`NoMemory`] where a growth was refused.
-pub(crate) fn all_to_come<O: Ops>(
+pub(crate) fn all_to_come<N: Nodes<Item = O::Item>, O: Ops>(
     alloc: Global,
     ops: &O,
     hubs: &[Hub<O::Item>],
-    feeds: &[Feed<O::Item>],
+    feeds: &[Feed<N>],
 ) -> Result<Vec<StreamValue<O::Item>>, NoMemory>
     requires { length hubs.now < 2 ^ 32 }
-    ensures { IfOk result (λ vs. AreToCome (O.meaning ops.now) feeds.now [] hubs.now vs.items) }
+    ensures { IfOk result (λ vs. AreToCome N.Machine (O.meaning ops.now) feeds.now [] hubs.now vs.items) }
 {
     let mut all = Vec::new(alloc);
     for hub in hubs {
@@ -32,15 +33,15 @@ pub(crate) fn all_to_come<O: Ops>(
 }
 
 /// The same of the next hub, where it is known of those before it.
-fn next_to_come<O: Ops>(
+fn next_to_come<N: Nodes<Item = O::Item>, O: Ops>(
     alloc: Global,
     ops: &O,
     hub: &Hub<O::Item>,
-    feeds: &[Feed<O::Item>],
+    feeds: &[Feed<N>],
     before: &[StreamValue<O::Item>],
 ) -> Result<StreamValue<O::Item>, NoMemory>
     requires { length before.now < 2 ^ 32 }
-    ensures { IfOk result (λ v. IsToCome (O.meaning ops.now) before.now hub.now (feed_of feeds.now (length before.now)) v) }
+    ensures { IfOk result (λ v. IsToCome N.Machine (O.meaning ops.now) before.now hub.now (feed_of feeds.now (length before.now)) v) }
 {
     match place_of(feeds, before.len() as u32) {
         Some(at) => feeds[at].part.residual(alloc, ops, before),

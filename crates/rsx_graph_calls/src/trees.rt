@@ -13,6 +13,7 @@ ghost use Rattle.rsx_graph_calls.specs.Looks.{HasFeedNotes, HasNotes, HasTreeJoi
 
 use rsx_graph_state::{Feed, Refusal, place_of};
 use rsx_hub::Hub;
+use rsx_pipe::Nodes;
 use rsx_subscriber::Subscription;
 use rsx_types::{HubId, NoMemory, Note, SubId, Tree};
 use std::alloc::Global;
@@ -22,14 +23,14 @@ use std::alloc::Global;
 /// # Errors
 /// G1 exactly for the tree of a hub that isn't there or has no feed, G2 exactly where there is no such subscription, and G8 where a
 /// growth was refused.
-pub fn notes<T: Drop>(
+pub fn notes<N: Nodes<Item = T>, T: Drop>(
     alloc: Global,
     hubs: &[Hub<T>],
-    feeds: &[Feed<T>],
-    subscriptions: &[Subscription<T>],
+    feeds: &[Feed<N>],
+    subscriptions: &[Subscription<N, T>],
     tree: Tree,
 ) -> Result<Vec<Note>, Refusal>
-    ensures notes { IfOk result (λ v. HasNotes (rows_of hubs.now feeds.now subscriptions.now) tree v.items) }
+    ensures notes { IfOk result (λ v. HasNotes N.Machine (rows_of hubs.now feeds.now subscriptions.now) tree v.items) }
     ensures err { IfErr result (λ r. IsTreeLookRefusal (rows_of hubs.now feeds.now subscriptions.now) (length subscriptions.now) tree r) }
 {
     match tree {
@@ -45,14 +46,14 @@ pub fn notes<T: Drop>(
 }
 
 /// Those of a hub's feed.
-fn notes_of_feed<T: Drop>(
+fn notes_of_feed<N: Nodes<Item = T>, T: Drop>(
     alloc: Global,
     hubs: &[Hub<T>],
-    feeds: &[Feed<T>],
+    feeds: &[Feed<N>],
     hub: HubId,
 ) -> Result<Vec<Note>, Refusal>
-    ensures notes { IfOk result (λ v. (subs : List (SubscriptionOf T)) → HasFeedNotes (rows_of hubs.now feeds.now subs) hub.0 v.items) }
-    ensures err { IfErr result (λ r. (subs : List (SubscriptionOf T)) → IsFeedLookRefusal (rows_of hubs.now feeds.now subs) hub.0 r) }
+    ensures notes { IfOk result (λ v. (subs : List (SubscriptionOf N T)) → HasFeedNotes N.Machine (rows_of hubs.now feeds.now subs) hub.0 v.items) }
+    ensures err { IfErr result (λ r. (subs : List (SubscriptionOf N T)) → IsFeedLookRefusal (rows_of hubs.now feeds.now subs) hub.0 r) }
 {
     if hub.0 as usize >= hubs.len() {
         return Err(Refusal::UnknownHub);
@@ -68,12 +69,12 @@ fn notes_of_feed<T: Drop>(
 }
 
 /// Those of a subscription.
-fn notes_of_sub<T: Drop>(
+fn notes_of_sub<N: Nodes<Item = T>, T: Drop>(
     alloc: Global,
-    subscriptions: &[Subscription<T>],
+    subscriptions: &[Subscription<N, T>],
     sub: SubId,
 ) -> Result<Vec<Note>, Refusal>
-    ensures notes { IfOk result (λ v. HasNotesAt subscriptions.now sub v.items) }
+    ensures notes { IfOk result (λ v. HasNotesAt N.Machine subscriptions.now sub v.items) }
     ensures err { IfErr result (λ r. IsLookRefusal (length subscriptions.now) sub r) }
 {
     let at = sub.0 as usize;
@@ -93,20 +94,20 @@ fn notes_of_sub<T: Drop>(
 /// # Errors
 /// G1 exactly for the tree of a hub that isn't there or has no feed, G2 exactly where there is no such subscription, and G8 where a
 /// growth was refused.
-pub fn joins<T: Drop>(
+pub fn joins<N: Nodes<Item = T>, T: Drop>(
     alloc: Global,
     hubs: &[Hub<T>],
-    feeds: &[Feed<T>],
+    feeds: &[Feed<N>],
     sub_joins: &[Vec<u64>],
     feed_joins: &[Vec<u64>],
     tree: Tree,
 ) -> Result<Vec<u64>, Refusal>
     requires beside { length feed_joins.now ≡ length feeds.now }
-    ensures joins { IfOk result (λ v. (m : Meaning T) (subs : List (SubscriptionOf T)) (h : History T) →
-        StandsFor m (rows_of hubs.now feeds.now subs) h →
+    ensures joins { IfOk result (λ v. (m : Meaning T) (subs : List (SubscriptionOf N T)) (h : History T) →
+        StandsFor N.Machine m (rows_of hubs.now feeds.now subs) h →
         JoinsStand feeds.now (map (λ js. js.items) sub_joins.now) (map (λ js. js.items) feed_joins.now) h →
         HasTreeJoins h tree v.items) }
-    ensures err { IfErr result (λ r. (subs : List (SubscriptionOf T)) → IsTreeLookRefusal (rows_of hubs.now feeds.now subs) (length sub_joins.now) tree r) }
+    ensures err { IfErr result (λ r. (subs : List (SubscriptionOf N T)) → IsTreeLookRefusal (rows_of hubs.now feeds.now subs) (length sub_joins.now) tree r) }
 {
     match tree {
         Tree::Feed(hub) => match joins_of_feed(alloc, hubs, feeds, feed_joins, hub) {
@@ -121,17 +122,17 @@ pub fn joins<T: Drop>(
 }
 
 /// Those of a hub's feed.
-fn joins_of_feed<T: Drop>(
+fn joins_of_feed<N: Nodes<Item = T>, T: Drop>(
     alloc: Global,
     hubs: &[Hub<T>],
-    feeds: &[Feed<T>],
+    feeds: &[Feed<N>],
     feed_joins: &[Vec<u64>],
     hub: HubId,
 ) -> Result<Vec<u64>, Refusal>
     requires beside { length feed_joins.now ≡ length feeds.now }
     ensures known { OnOk result (hub.0 < length hubs.now) }
     ensures joins { IfOk result (λ v. AreFeedJoins feeds.now (map (λ js. js.items) feed_joins.now) hub.0 v.items) }
-    ensures err { IfErr result (λ r. (subs : List (SubscriptionOf T)) → IsFeedLookRefusal (rows_of hubs.now feeds.now subs) hub.0 r) }
+    ensures err { IfErr result (λ r. (subs : List (SubscriptionOf N T)) → IsFeedLookRefusal (rows_of hubs.now feeds.now subs) hub.0 r) }
 {
     if hub.0 as usize >= hubs.len() {
         return Err(Refusal::UnknownHub);

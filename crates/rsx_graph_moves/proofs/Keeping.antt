@@ -1,4 +1,6 @@
 -- Moves keep of which hub each feed is.
+use Rattle.rsx_sources.specs.declared.machine.Machine.{Ghosts as Machine}
+use Rattle.rsx_rooted.specs.declared.nodes.Nodes.{Ghosts as Nodes}
 use Rattle.std.proofs.Common.{◌≡◌, ℕ, zero, suc, Bool, true, false, List, [], ◌∷◌, map, slice_get, Option, Some, None, refl, ap, sym, ◌∙◌}
 use Rattle.std.proofs.Math.ListN.{set}
 use Rattle.rsx_graph_state.specs.Prelude.{IsAcceptedAt, IsFedAt, IsFeedMoved, IsMadeInFeed, IsMovedBy, is_out, Rows, AllFeedsHanded}
@@ -10,67 +12,67 @@ use Rattle.rsx_graph_moves.specs.Moves.{IsMoved, IsMovedInFeed, IsMovedInTree, f
 use Rattle.rsx_graph_moves.specs.Pumped.{LeadTo, Made}
 
 -- the hub of each feed
-abbrev pub hubs_of : {T : Type 0} → List (Feed T) → List ℕ
+abbrev pub hubs_of : {M : Type 0} → List (Feed M) → List ℕ
 hubs_of fs = map (λ f. f.hub) fs
 
 -- as many feeds, each of the same hub
-abbrev pub KeepHubs : {T : Type 0} → Rows T → Rows T → Type 0
+abbrev pub KeepHubs : {M T : Type 0} → Rows M T → Rows M T → Type 0
 KeepHubs old new = hubs_of new.feeds ≡ hubs_of old.feeds
 
 -- ---- one feed changed, or a signal was handed to all
 
-handed_keep : {T : Type 0} (n : ℕ) (s : Signal T) (fs gs : List (Feed T)) → AllFeedsHanded n s fs gs → hubs_of gs ≡ hubs_of fs
-handed_keep n s [] [] all = refl
-handed_keep n s [] (g ∷ gs) all = absurd all
-handed_keep n s (f ∷ fs) [] all = absurd all
-handed_keep n s (f ∷ fs) (g ∷ gs) all = ap (λ k. k ∷ hubs_of gs) all.0.hub ∙ ap (λ l. f.hub ∷ l) (handed_keep n s fs gs all.1)
+handed_keep : {M T : Type 0} (mc : Machine M T) (n : ℕ) (s : Signal T) (fs gs : List (Feed M)) → AllFeedsHanded mc n s fs gs → hubs_of gs ≡ hubs_of fs
+handed_keep mc n s [] [] all = refl
+handed_keep mc n s [] (g ∷ gs) all = absurd all
+handed_keep mc n s (f ∷ fs) [] all = absurd all
+handed_keep mc n s (f ∷ fs) (g ∷ gs) all = ap (λ k. k ∷ hubs_of gs) all.0.hub ∙ ap (λ l. f.hub ∷ l) (handed_keep mc n s fs gs all.1)
 
-set_keep : {T : Type 0} (fs : List (Feed T)) (at : ℕ) (f g : Feed T) → slice_get fs at ≡ Some f → g.hub ≡ f.hub → hubs_of (set fs at g) ≡ hubs_of fs
+set_keep : {M : Type 0} (fs : List (Feed M)) (at : ℕ) (f g : Feed M) → slice_get fs at ≡ Some f → g.hub ≡ f.hub → hubs_of (set fs at g) ≡ hubs_of fs
 set_keep [] at f g there same = refl
 set_keep (x ∷ fs) zero f g there same = ap (λ k. k ∷ hubs_of fs) (same ∙ ap (λ y. y.hub) (sym (some_same x f there)))
 set_keep (x ∷ fs) (suc at) f g there same = ap (λ l. x.hub ∷ l) (set_keep fs at f g there same)
 
 -- ---- a move
 
-accepted_keep : {T : Type 0} (n : ℕ) (old new : Rows T) → IsAcceptedAt n old new → KeepHubs old new
-accepted_keep n old new k = handed_keep n k.effect.signal old.feeds new.feeds k.effect.fed
+accepted_keep : {M T : Type 0} (mc : Machine M T) (n : ℕ) (old new : Rows M T) → IsAcceptedAt mc n old new → KeepHubs old new
+accepted_keep mc n old new k = handed_keep mc n k.effect.signal old.feeds new.feeds k.effect.fed
 
-fed_keep : {T : Type 0} (m : Meaning T) (n : ℕ) (old new : Rows T) → IsFedAt m n old new → KeepHubs old new
-fed_keep m n old new k =
+fed_keep : {M T : Type 0} (mc : Machine M T) (m : Meaning T) (n : ℕ) (old new : Rows M T) → IsFedAt mc m n old new → KeepHubs old new
+fed_keep mc m n old new k =
     let e = k.effect in
-    handed_keep e.feed.hub e.signal (set old.feeds k.at (record { part = e.part; hub = e.feed.hub })) new.feeds e.fed
+    handed_keep mc e.feed.hub e.signal (set old.feeds k.at (record { part = e.part; hub = e.feed.hub })) new.feeds e.fed
     ∙ set_keep old.feeds k.at e.feed (record { part = e.part; hub = e.feed.hub }) e.from refl
 
-worked_keep : {T : Type 0} (m : Meaning T) (step : NodeMove) (n : ℕ) (old new : Rows T) → IsMadeInFeed m step n old new → KeepHubs old new
-worked_keep m step n old new k =
+worked_keep : {M T : Type 0} (mc : Machine M T) (m : Meaning T) (step : NodeMove) (n : ℕ) (old new : Rows M T) → IsMadeInFeed mc m step n old new → KeepHubs old new
+worked_keep mc m step n old new k =
     let w = k.made in
     ap hubs_of w.others ∙ set_keep old.feeds w.at w.feed (record { part = w.part; hub = w.feed.hub }) w.there refl
 
-feed_moved_keep : {T : Type 0} (m : Meaning T) (step : NodeMove) (n : ℕ) (old new : Rows T) → IsFeedMoved m step n old new → KeepHubs old new
-feed_moved_keep {T} m step n old new k = by_out (is_out step) k
+feed_moved_keep : {M T : Type 0} (mc : Machine M T) (m : Meaning T) (step : NodeMove) (n : ℕ) (old new : Rows M T) → IsFeedMoved mc m step n old new → KeepHubs old new
+feed_moved_keep {M} {T} mc m step n old new k = by_out (is_out step) k
   where
-    by_out : (b : Bool) → IsMovedBy m step b n old new → KeepHubs old new
-    by_out true k = fed_keep m n old new k
-    by_out false k = worked_keep m step n old new k
+    by_out : (b : Bool) → IsMovedBy mc m step b n old new → KeepHubs old new
+    by_out true k = fed_keep mc m n old new k
+    by_out false k = worked_keep mc m step n old new k
 
-inside_keep : {T : Type 0} (m : Meaning T) (o : Option NodeMove) (n : ℕ) (old new : Rows T) → IsMovedInFeed m o n old new → KeepHubs old new
-inside_keep m None n old new k = absurd k
-inside_keep m (Some step) n old new k = feed_moved_keep m step n old new k
+inside_keep : {M T : Type 0} (mc : Machine M T) (m : Meaning T) (o : Option NodeMove) (n : ℕ) (old new : Rows M T) → IsMovedInFeed mc m o n old new → KeepHubs old new
+inside_keep mc m None n old new k = absurd k
+inside_keep mc m (Some step) n old new k = feed_moved_keep mc m step n old new k
 
-tree_keep : {T : Type 0} (m : Meaning T) (mv : Move) (t : Tree) (old new : Rows T) (o : Option (SubId × Signal T)) → IsMovedInTree m mv t old new o → KeepHubs old new
-tree_keep m mv (Sub i) old new o k = ap hubs_of k.2
-tree_keep m mv (FeedOf h) old new o k = inside_keep m (feed_move old.feeds h.0 mv) h.0 old new k
+tree_keep : {M T : Type 0} (mc : Machine M T) (kd : Nodes M T) (m : Meaning T) (mv : Move) (t : Tree) (old new : Rows M T) (o : Option (SubId × Signal T)) → IsMovedInTree mc kd m mv t old new o → KeepHubs old new
+tree_keep mc kd m mv (Sub i) old new o k = ap hubs_of k.2
+tree_keep mc kd m mv (FeedOf h) old new o k = inside_keep mc m (feed_move kd old.feeds h.0 mv) h.0 old new k
 
-pub moved_keep : {T : Type 0} (m : Meaning T) (mv : Move) (old new : Rows T) (o : Option (SubId × Signal T)) → IsMoved m mv old new o → KeepHubs old new
-moved_keep m (Ask t n) old new o k = tree_keep m (Ask t n) t old new o k
-moved_keep m (Send t n) old new o k = tree_keep m (Send t n) t old new o k
-moved_keep m (Take t n) old new o k = tree_keep m (Take t n) t old new o k
-moved_keep m (Pick t n i) old new o k = tree_keep m (Pick t n i) t old new o k
-moved_keep m (Row t n) old new o k = tree_keep m (Row t n) t old new o k
-moved_keep m (Accept h) old new o k = accepted_keep h.0 old new k
+pub moved_keep : {M T : Type 0} (mc : Machine M T) (kd : Nodes M T) (m : Meaning T) (mv : Move) (old new : Rows M T) (o : Option (SubId × Signal T)) → IsMoved mc kd m mv old new o → KeepHubs old new
+moved_keep mc kd m (Ask t n) old new o k = tree_keep mc kd m (Ask t n) t old new o k
+moved_keep mc kd m (Send t n) old new o k = tree_keep mc kd m (Send t n) t old new o k
+moved_keep mc kd m (Take t n) old new o k = tree_keep mc kd m (Take t n) t old new o k
+moved_keep mc kd m (Pick t n i) old new o k = tree_keep mc kd m (Pick t n i) t old new o k
+moved_keep mc kd m (Row t n) old new o k = tree_keep mc kd m (Row t n) t old new o k
+moved_keep mc kd m (Accept h) old new o k = accepted_keep mc h.0 old new k
 
 -- ---- many moves
 
-pub lead_keep : {T : Type 0} (m : Meaning T) (old : Rows T) (moves : List (Made T)) (new : Rows T) → LeadTo m old moves new → KeepHubs old new
-lead_keep m old [] new k = ap (λ g. hubs_of g.feeds) k
-lead_keep m old (d ∷ ds) new k = lead_keep m k.0 ds new k.2 ∙ moved_keep m d.move old k.0 d.delivered k.1.effect
+pub lead_keep : {M T : Type 0} (mc : Machine M T) (kd : Nodes M T) (m : Meaning T) (old : Rows M T) (moves : List (Made T)) (new : Rows M T) → LeadTo mc kd m old moves new → KeepHubs old new
+lead_keep mc kd m old [] new k = ap (λ g. hubs_of g.feeds) k
+lead_keep mc kd m old (d ∷ ds) new k = lead_keep mc kd m k.0 ds new k.2 ∙ moved_keep mc kd m d.move old k.0 d.delivered k.1.effect

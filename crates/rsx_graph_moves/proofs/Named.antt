@@ -1,4 +1,6 @@
 -- The moves of a hub, by their names.
+use Rattle.rsx_sources.specs.declared.machine.Machine.{Ghosts as Machine}
+use Rattle.rsx_rooted.specs.declared.nodes.Nodes.{Ghosts as Nodes}
 use Rattle.std.proofs.Common.{◌≡◌, ℕ, ◌<◌, Bool, true, false, ◌&&◌, nat_eq, if◌then◌else◌, List, [], ◌∷◌, length, slice_get, Option, Some, None, is_some, is_none, zero, suc, refl, ap, sym, ◌∙◌, arith}
 use Rattle.rsx_graph_state.specs.Prelude.{accepts_at, accepts_in, feed_enabled, has_feed, is_out, sends, sends_where, works, works_where, Rows, feed_of, HubState, can_accept, can_feed, can_feed_at, can_feed_of, Subscription}
 use Rattle.rsx_subscriber.specs.Prelude.{route, IsQuietInside, inside_enabled, IsNumbered, delivery, inside_node, node_move, node_of, tree_of, IsMadeAnswer, NodeMove, Ask as NodeAsk, Send as NodeSend, Pick as NodePick, Row as NodeRow}
@@ -11,35 +13,35 @@ use Rattle.rsx_graph_moves.specs.Pumped.{IsHubQuiet}
 
 -- ---- a move of a feed, by its names
 
-no_accept : {T : Type 0} (o : Option (Feed T)) (i : HubId) → move_in o (Accept i) ≡ None
-no_accept None i = refl
-no_accept (Some f) i = refl
+no_accept : {M T : Type 0} (kd : Nodes M T) (o : Option (Feed M)) (i : HubId) → move_in kd o (Accept i) ≡ None
+no_accept kd None i = refl
+no_accept kd (Some f) i = refl
 
-pub enabled_named : {T : Type 0} (m : Meaning T) (g : Rows T) (h : HubId) (inside : NodeMove) (mv : Move) → tree_of mv ≡ FeedOf h → feed_move g.feeds h.0 mv ≡ Some inside → is_enabled m g mv ≡ feed_enabled m g h.0 inside
-enabled_named {T} m g h inside mv tree node = by_move mv tree node ∙ ap (λ o. feed_move_enabled m g h.0 o) node
+pub enabled_named : {M T : Type 0} (mc : Machine M T) (kd : Nodes M T) (m : Meaning T) (g : Rows M T) (h : HubId) (inside : NodeMove) (mv : Move) → tree_of mv ≡ FeedOf h → feed_move kd g.feeds h.0 mv ≡ Some inside → is_enabled mc kd m g mv ≡ feed_enabled mc m g h.0 inside
+enabled_named {M} {T} mc kd m g h inside mv tree node = by_move mv tree node ∙ ap (λ o. feed_move_enabled mc m g h.0 o) node
   where
-    by_move : (mv : Move) → tree_of mv ≡ FeedOf h → feed_move g.feeds h.0 mv ≡ Some inside → is_enabled m g mv ≡ feed_move_enabled m g h.0 (feed_move g.feeds h.0 mv)
-    by_move (Ask t n) e k = ap (λ x. enabled_in_tree m g x (Ask t n)) e
-    by_move (Send t n) e k = ap (λ x. enabled_in_tree m g x (Send t n)) e
-    by_move (Take t n) e k = ap (λ x. enabled_in_tree m g x (Take t n)) e
-    by_move (Pick t n i) e k = ap (λ x. enabled_in_tree m g x (Pick t n i)) e
-    by_move (Row t n) e k = ap (λ x. enabled_in_tree m g x (Row t n)) e
-    by_move (Accept i) e k = let none = sym (no_accept (feed_of g.feeds h.0) i) ∙ k in cc
+    by_move : (mv : Move) → tree_of mv ≡ FeedOf h → feed_move kd g.feeds h.0 mv ≡ Some inside → is_enabled mc kd m g mv ≡ feed_move_enabled mc m g h.0 (feed_move kd g.feeds h.0 mv)
+    by_move (Ask t n) e k = ap (λ x. enabled_in_tree mc kd m g x (Ask t n)) e
+    by_move (Send t n) e k = ap (λ x. enabled_in_tree mc kd m g x (Send t n)) e
+    by_move (Take t n) e k = ap (λ x. enabled_in_tree mc kd m g x (Take t n)) e
+    by_move (Pick t n i) e k = ap (λ x. enabled_in_tree mc kd m g x (Pick t n i)) e
+    by_move (Row t n) e k = ap (λ x. enabled_in_tree mc kd m g x (Row t n)) e
+    by_move (Accept i) e k = let none = sym (no_accept kd (feed_of g.feeds h.0) i) ∙ k in cc
 
-pub name_in_tree : {T : Type 0} (f : Feed T) (h : HubId) (inside : NodeMove) → tree_of (name_in f h inside) ≡ FeedOf h
-name_in_tree f h inside = name_tree (route f.part (inside_node inside)) (FeedOf h) inside
+pub name_in_tree : {M T : Type 0} (kd : Nodes M T) (f : Feed M) (h : HubId) (inside : NodeMove) → tree_of (name_in kd f h inside) ≡ FeedOf h
+name_in_tree kd f h inside = name_tree (route kd f.part (inside_node inside)) (FeedOf h) inside
 
 -- the move that such a name says
-pub name_inside : {T : Type 0} (feeds : List (Feed T)) (h : HubId) (f : Feed T) (inside : NodeMove) → feed_of feeds h.0 ≡ Some f → feed_move feeds h.0 (name_in f h inside) ≡ Some inside
-name_inside feeds h f inside there =
-    let r = route f.part (inside_node inside) in
-    ap (λ o. move_in o (name_in f h inside)) there
-    ∙ (ap (λ n. node_move (route f.part n) (name_in f h inside)) (name_node r (FeedOf h) inside) ∙ name_move r (FeedOf h) inside)
+pub name_inside : {M T : Type 0} (kd : Nodes M T) (feeds : List (Feed M)) (h : HubId) (f : Feed M) (inside : NodeMove) → feed_of feeds h.0 ≡ Some f → feed_move kd feeds h.0 (name_in kd f h inside) ≡ Some inside
+name_inside kd feeds h f inside there =
+    let r = route kd f.part (inside_node inside) in
+    ap (λ o. move_in kd o (name_in kd f h inside)) there
+    ∙ (ap (λ n. node_move (route kd f.part n) (name_in kd f h inside)) (name_node r (FeedOf h) inside) ∙ name_move r (FeedOf h) inside)
 
 -- it is enabled just where that move is
-pub name_enabled : {T : Type 0} (m : Meaning T) (g : Rows T) (h : HubId) (f : Feed T) (inside : NodeMove) → feed_of g.feeds h.0 ≡ Some f → is_enabled m g (name_in f h inside) ≡ feed_enabled m g h.0 inside
-name_enabled m g h f inside there =
-    enabled_named m g h inside (name_in f h inside) (name_in_tree f h inside) (name_inside g.feeds h f inside there)
+pub name_enabled : {M T : Type 0} (mc : Machine M T) (kd : Nodes M T) (m : Meaning T) (g : Rows M T) (h : HubId) (f : Feed M) (inside : NodeMove) → feed_of g.feeds h.0 ≡ Some f → is_enabled mc kd m g (name_in kd f h inside) ≡ feed_enabled mc m g h.0 inside
+name_enabled mc kd m g h f inside there =
+    enabled_named mc kd m g h inside (name_in kd f h inside) (name_in_tree kd f h inside) (name_inside kd g.feeds h f inside there)
 
 -- a move of a feed delivers nothing
 pub nothing_delivered : {T : Type 0} (h : HubId) (mv : Move) (o : Option (SubId × Signal T)) → tree_of mv ≡ FeedOf h → IsMadeAnswer mv o → o ≡ None
@@ -58,25 +60,25 @@ root_take i n e = ap (λ k. Take (Sub i) (record { 0 = k })) (sym e)
 -- ---- a quiet hub
 
 -- no move of its feed that is named is enabled
-quiet_named : {T : Type 0} (m : Meaning T) (g : Rows T) (h : ℕ) (o : Option NodeMove) → ((step : NodeMove) → o ≡ Some step → Part.IsNumbered step) → IsHubQuiet m g h → feed_move_enabled m g h o ≡ false
-quiet_named m g h None small q = refl
-quiet_named m g h (Some step) small q = q.feed step (small step refl)
+quiet_named : {M T : Type 0} (mc : Machine M T) (m : Meaning T) (g : Rows M T) (h : ℕ) (o : Option NodeMove) → ((step : NodeMove) → o ≡ Some step → Part.IsNumbered step) → IsHubQuiet mc m g h → feed_move_enabled mc m g h o ≡ false
+quiet_named mc m g h None small q = refl
+quiet_named mc m g h (Some step) small q = q.feed step (small step refl)
 
-numbered_in : {T : Type 0} (o : Option (Feed T)) (mv : Move) → IsNumbered mv → (step : NodeMove) → move_in o mv ≡ Some step → Part.IsNumbered step
-numbered_in None mv small step e = cc
-numbered_in (Some f) mv small step e = numbered_inside (route f.part (node_of mv)) mv step e small
+numbered_in : {M T : Type 0} (kd : Nodes M T) (o : Option (Feed M)) (mv : Move) → IsNumbered mv → (step : NodeMove) → move_in kd o mv ≡ Some step → Part.IsNumbered step
+numbered_in kd None mv small step e = cc
+numbered_in kd (Some f) mv small step e = numbered_inside (route kd f.part (node_of mv)) mv step e small
 
-pub quiet_feed : {T : Type 0} (m : Meaning T) (g : Rows T) (h : ℕ) (mv : Move) → IsNumbered mv → IsHubQuiet m g h → feed_move_enabled m g h (feed_move g.feeds h mv) ≡ false
-quiet_feed m g h mv small q = quiet_named m g h (feed_move g.feeds h mv) (λ step e. numbered_in (feed_of g.feeds h) mv small step e) q
+pub quiet_feed : {M T : Type 0} (mc : Machine M T) (kd : Nodes M T) (m : Meaning T) (g : Rows M T) (h : ℕ) (mv : Move) → IsNumbered mv → IsHubQuiet mc m g h → feed_move_enabled mc m g h (feed_move kd g.feeds h mv) ≡ false
+quiet_feed mc kd m g h mv small q = quiet_named mc m g h (feed_move kd g.feeds h mv) (λ step e. numbered_in kd (feed_of g.feeds h) mv small step e) q
 
 -- ---- a hub with an emitter
 
 -- what a call for it answered
-pub accepts_answered : {T : Type 0} (n k : ℕ) (hub : HubState T) (fs : List (Feed T)) (olds : List (Subscription T)) (b can : Bool) → k ≡ n → can ≡ can_accept k hub fs olds → can ≡ b → can_accept n hub fs olds ≡ b
-accepts_answered n k hub fs olds b can same is e = ap (λ j. can_accept j hub fs olds) (sym same) ∙ (sym is ∙ e)
+pub accepts_answered : {M T : Type 0} (mc : Machine M T) (n k : ℕ) (hub : HubState T) (fs : List (Feed M)) (olds : List (Subscription M T)) (b can : Bool) → k ≡ n → can ≡ can_accept mc k hub fs olds → can ≡ b → can_accept mc n hub fs olds ≡ b
+accepts_answered mc n k hub fs olds b can same is e = ap (λ j. can_accept mc j hub fs olds) (sym same) ∙ (sym is ∙ e)
 
-pub unfed_quiet : {T : Type 0} (m : Meaning T) (g : Rows T) (h : ℕ) → feed_of g.feeds h ≡ None → accepts_at g h ≡ false → IsHubQuiet m g h
-unfed_quiet m g h unfed rest = record { accept = rest; feed = λ step small. ap (λ b. b && (if is_out step then sends m g h else works m g.feeds h step)) (none (is_some (slice_get g.hubs h)) unfed) }
+pub unfed_quiet : {M T : Type 0} (mc : Machine M T) (m : Meaning T) (g : Rows M T) (h : ℕ) → feed_of g.feeds h ≡ None → accepts_at mc g h ≡ false → IsHubQuiet mc m g h
+unfed_quiet mc m g h unfed rest = record { accept = rest; feed = λ step small. ap (λ b. b && (if is_out step then sends mc m g h else works mc m g.feeds h step)) (none (is_some (slice_get g.hubs h)) unfed) }
   where
     none : (b : Bool) → feed_of g.feeds h ≡ None → b && is_some (feed_of g.feeds h) ≡ false
     none true e = ap is_some e
@@ -84,34 +86,34 @@ unfed_quiet m g h unfed rest = record { accept = rest; feed = λ step small. ap 
 
 -- ---- a hub with a feed
 
-pub fed_enabled : {T : Type 0} (m : Meaning T) (g : Rows T) (h : ℕ) (hub : HubState T) (f : Feed T) (step : NodeMove) → slice_get g.hubs h ≡ Some hub → feed_of g.feeds h ≡ Some f → feed_enabled m g h step ≡ (if is_out step then can_feed m f hub g.feeds g.subs else inside_enabled m f.part step)
-fed_enabled {T} m g h hub f step there named =
-    ap (λ b. b && (if is_out step then sends m g h else works m g.feeds h step)) known
-    ∙ (ap (λ b. if is_out step then b else works m g.feeds h step) send ∙ ap (λ o. if is_out step then can_feed m f hub g.feeds g.subs else works_where m o step) named)
+pub fed_enabled : {M T : Type 0} (mc : Machine M T) (m : Meaning T) (g : Rows M T) (h : ℕ) (hub : HubState T) (f : Feed M) (step : NodeMove) → slice_get g.hubs h ≡ Some hub → feed_of g.feeds h ≡ Some f → feed_enabled mc m g h step ≡ (if is_out step then can_feed mc m f hub g.feeds g.subs else inside_enabled mc m f.part step)
+fed_enabled {M} {T} mc m g h hub f step there named =
+    ap (λ b. b && (if is_out step then sends mc m g h else works mc m g.feeds h step)) known
+    ∙ (ap (λ b. if is_out step then b else works mc m g.feeds h step) send ∙ ap (λ o. if is_out step then can_feed mc m f hub g.feeds g.subs else works_where mc m o step) named)
   where
     known : has_feed g h ≡ true
     known = ap (λ o. is_some o && is_some (feed_of g.feeds h)) there ∙ ap is_some named
 
-    send : sends m g h ≡ can_feed m f hub g.feeds g.subs
-    send = ap (λ o. sends_where m g o (feed_of g.feeds h)) there ∙ ap (λ o. sends_where m g (Some hub) o) named
+    send : sends mc m g h ≡ can_feed mc m f hub g.feeds g.subs
+    send = ap (λ o. sends_where mc m g o (feed_of g.feeds h)) there ∙ ap (λ o. sends_where mc m g (Some hub) o) named
 
-pub feeds_there : {T : Type 0} (m : Meaning T) (at : ℕ) (hub : HubState T) (f : Feed T) (feeds fs : List (Feed T)) (subs olds : List (Subscription T)) (b can : Bool) → slice_get feeds at ≡ Some f → fs ≡ feeds → olds ≡ subs → can ≡ can_feed_at m at hub fs olds → can ≡ b → can_feed m f hub feeds subs ≡ b
-feeds_there m at hub f feeds fs subs olds b can there same all is e =
-    ap (λ o. can_feed_of m o hub feeds subs) (sym there) ∙ (ap (λ l. can_feed_at m at hub l subs) (sym same) ∙ (ap (λ l. can_feed_at m at hub fs l) (sym all) ∙ (sym is ∙ e)))
+pub feeds_there : {M T : Type 0} (mc : Machine M T) (m : Meaning T) (at : ℕ) (hub : HubState T) (f : Feed M) (feeds fs : List (Feed M)) (subs olds : List (Subscription M T)) (b can : Bool) → slice_get feeds at ≡ Some f → fs ≡ feeds → olds ≡ subs → can ≡ can_feed_at mc m at hub fs olds → can ≡ b → can_feed mc m f hub feeds subs ≡ b
+feeds_there mc m at hub f feeds fs subs olds b can there same all is e =
+    ap (λ o. can_feed_of mc m o hub feeds subs) (sym there) ∙ (ap (λ l. can_feed_at mc m at hub l subs) (sym same) ∙ (ap (λ l. can_feed_at mc m at hub fs l) (sym all) ∙ (sym is ∙ e)))
 
-pub fed_quiet : {T : Type 0} (m : Meaning T) (g : Rows T) (h : ℕ) (hub : HubState T) (f : Feed T) → slice_get g.hubs h ≡ Some hub → feed_of g.feeds h ≡ Some f → IsQuietInside m f.part → can_feed m f hub g.feeds g.subs ≡ false → IsHubQuiet m g h
-fed_quiet {T} m g h hub f there named quiet rest = record {
-  accept = ap (λ o. accepts_in g o h) there ∙ ap (λ o. is_none o && can_accept h hub g.feeds g.subs) named;
-  feed = λ step small. fed_enabled m g h hub f step there named ∙ none (is_out step) (inside_enabled m f.part step) (quiet step small);
+pub fed_quiet : {M T : Type 0} (mc : Machine M T) (m : Meaning T) (g : Rows M T) (h : ℕ) (hub : HubState T) (f : Feed M) → slice_get g.hubs h ≡ Some hub → feed_of g.feeds h ≡ Some f → IsQuietInside mc m f.part → can_feed mc m f hub g.feeds g.subs ≡ false → IsHubQuiet mc m g h
+fed_quiet {M} {T} mc m g h hub f there named quiet rest = record {
+  accept = ap (λ o. accepts_in mc g o h) there ∙ ap (λ o. is_none o && can_accept mc h hub g.feeds g.subs) named;
+  feed = λ step small. fed_enabled mc m g h hub f step there named ∙ none (is_out step) (inside_enabled mc m f.part step) (quiet step small);
 }
   where
-    none : (b c : Bool) → c ≡ false → (if b then can_feed m f hub g.feeds g.subs else c) ≡ false
+    none : (b c : Bool) → c ≡ false → (if b then can_feed mc m f hub g.feeds g.subs else c) ≡ false
     none true c e = rest
     none false c e = e
 
 -- a move inside, which is no Send over the root edge
-pub inside_of_feed : {T : Type 0} (m : Meaning T) (g : Rows T) (h : ℕ) (f : Feed T) (step : NodeMove) → h < length g.hubs → feed_of g.feeds h ≡ Some f → inside_enabled m f.part step ≡ true → feed_enabled m g h step ≡ true
-inside_of_feed {T} m g h f step within named can = fed_enabled m g h hub.0 f step hub.1 named ∙ by_step step can
+pub inside_of_feed : {M T : Type 0} (mc : Machine M T) (m : Meaning T) (g : Rows M T) (h : ℕ) (f : Feed M) (step : NodeMove) → h < length g.hubs → feed_of g.feeds h ≡ Some f → inside_enabled mc m f.part step ≡ true → feed_enabled mc m g h step ≡ true
+inside_of_feed {M} {T} mc m g h f step within named can = fed_enabled mc m g h hub.0 f step hub.1 named ∙ by_step step can
   where
     there : {A : Type 0} (xs : List A) (n : ℕ) → n < length xs → (x : A) × (slice_get xs n ≡ Some x)
     there [] n l = absurd (omega (arith, l))
@@ -128,20 +130,20 @@ inside_of_feed {T} m g h f step within named can = fed_enabled m g h hub.0 f ste
         by_test true e = cc
         by_test false e = e
 
-    by_step : (step : NodeMove) → inside_enabled m f.part step ≡ true → (if is_out step then can_feed m f hub.0 g.feeds g.subs else inside_enabled m f.part step) ≡ true
+    by_step : (step : NodeMove) → inside_enabled mc m f.part step ≡ true → (if is_out step then can_feed mc m f hub.0 g.feeds g.subs else inside_enabled mc m f.part step) ≡ true
     by_step (NodeAsk n) e = e
     by_step (NodeSend n) e = not_out n _ _ e
     by_step (NodePick n i) e = e
     by_step (NodeRow n) e = e
 
 -- the Send over the root edge
-pub out_of_feed : {T : Type 0} (m : Meaning T) (g : Rows T) (h : ℕ) (hub : HubState T) (f : Feed T) → slice_get g.hubs h ≡ Some hub → feed_of g.feeds h ≡ Some f → can_feed m f hub g.feeds g.subs ≡ true → feed_enabled m g h (NodeSend 0) ≡ true
-out_of_feed m g h hub f there named can = fed_enabled m g h hub f (NodeSend 0) there named ∙ can
+pub out_of_feed : {M T : Type 0} (mc : Machine M T) (m : Meaning T) (g : Rows M T) (h : ℕ) (hub : HubState T) (f : Feed M) → slice_get g.hubs h ≡ Some hub → feed_of g.feeds h ≡ Some f → can_feed mc m f hub g.feeds g.subs ≡ true → feed_enabled mc m g h (NodeSend 0) ≡ true
+out_of_feed mc m g h hub f there named can = fed_enabled mc m g h hub f (NodeSend 0) there named ∙ can
 
 -- ---- a hub that has an enabled move is not quiet
 
-pub not_quiet_accept : {T : Type 0} (m : Meaning T) (g : Rows T) (h : ℕ) → accepts_at g h ≡ true → IsHubQuiet m g h → ⊥
-not_quiet_accept m g h can q = let rest = q.accept in cc
+pub not_quiet_accept : {M T : Type 0} (mc : Machine M T) (m : Meaning T) (g : Rows M T) (h : ℕ) → accepts_at mc g h ≡ true → IsHubQuiet mc m g h → ⊥
+not_quiet_accept mc m g h can q = let rest = q.accept in cc
 
-pub not_quiet_feed : {T : Type 0} (m : Meaning T) (g : Rows T) (h : ℕ) (step : NodeMove) → Part.IsNumbered step → feed_enabled m g h step ≡ true → IsHubQuiet m g h → ⊥
-not_quiet_feed m g h step small can q = let rest = q.feed step small in cc
+pub not_quiet_feed : {M T : Type 0} (mc : Machine M T) (m : Meaning T) (g : Rows M T) (h : ℕ) (step : NodeMove) → Part.IsNumbered step → feed_enabled mc m g h step ≡ true → IsHubQuiet mc m g h → ⊥
+not_quiet_feed mc m g h step small can q = let rest = q.feed step small in cc

@@ -1,4 +1,6 @@
 -- What driving a graph with feeds until it is idle does.
+use Rattle.rsx_sources.specs.declared.machine.Machine.{Ghosts as Machine}
+use Rattle.rsx_rooted.specs.declared.nodes.Nodes.{Ghosts as Nodes}
 use Rattle.std.specs.Prelude.{◌≡◌, ℕ, ◌+◌, ◌≤◌, ◌<◌, true, false, List, [], ◌∷◌, ◌++◌, length, Option, Result, Ok, Err}
 use Rattle.std.specs.Option.{option_to_list}
 use Rattle.rsx_graph_state.specs.Prelude.{History, with_made, accepts_at, feed_enabled, Rows, StandsFor}
@@ -22,16 +24,16 @@ pub record Made (T : Type 0) : Type 0 where
   pub fed : Option (Signal T)
 
 -- an enabled move was made, and had its effect: what `make` promises
-pub record IsMoveMade {T : Type 0} (m : Meaning T) (old : Rows T) (made : Made T) (new : Rows T) : Type 0 where
-  pub enabled : is_enabled m old made.move ≡ true
-  pub effect : IsMoved m made.move old new made.delivered
+pub record IsMoveMade {M T : Type 0} (mc : Machine M T) (kd : Nodes M T) (m : Meaning T) (old : Rows M T) (made : Made T) (new : Rows M T) : Type 0 where
+  pub enabled : is_enabled mc kd m old made.move ≡ true
+  pub effect : IsMoved mc kd m made.move old new made.delivered
   pub answer : IsMadeAnswer made.move made.delivered
-  pub fed : made.fed ≡ sent m old made.move
+  pub fed : made.fed ≡ sent mc kd m old made.move
 
 -- these moves were made, each on the graph that the one before it left
-abbrev pub LeadTo : {T : Type 0} → Meaning T → Rows T → List (Made T) → Rows T → Type 0
-LeadTo m old [] new = new ≡ old
-LeadTo {T} m old (d ∷ ds) new = (mid : Rows T) × IsMoveMade m old d mid × LeadTo m mid ds new
+abbrev pub LeadTo : {M T : Type 0} → Machine M T → Nodes M T → Meaning T → Rows M T → List (Made T) → Rows M T → Type 0
+LeadTo mc kd m old [] new = new ≡ old
+LeadTo {M} {T} mc kd m old (d ∷ ds) new = (mid : Rows M T) × IsMoveMade mc kd m old d mid × LeadTo mc kd m mid ds new
 
 -- the history after them
 abbrev pub after_moves : {T : Type 0} → History T → List (Made T) → History T
@@ -44,59 +46,59 @@ delivered_by [] = []
 delivered_by (d ∷ ds) = option_to_list d.delivered ++ delivered_by ds
 
 -- these moves were made, and the graph stands for what has happened by them
-pub record AreMade {T : Type 0} (m : Meaning T) (old : Rows T) (moves : List (Made T)) (new : Rows T) : Type 0 where
-  pub lead : LeadTo m old moves new
-  pub stands : (h : History T) → StandsFor m old h → StandsFor m new (after_moves h moves)
+pub record AreMade {M T : Type 0} (mc : Machine M T) (kd : Nodes M T) (m : Meaning T) (old : Rows M T) (moves : List (Made T)) (new : Rows M T) : Type 0 where
+  pub lead : LeadTo mc kd m old moves new
+  pub stands : (h : History T) → StandsFor mc m old h → StandsFor mc m new (after_moves h moves)
 
 -- ---- how it ends
 
 -- no move of a graph is enabled, of all that the numbers of nodes, inputs and hubs can name
-abbrev pub IsAllQuiet : {T : Type 0} → Meaning T → Rows T → Type 0
-IsAllQuiet m g = (move : Move) → IsNumbered move → is_enabled m g move ≡ false
+abbrev pub IsAllQuiet : {M T : Type 0} → Machine M T → Nodes M T → Meaning T → Rows M T → Type 0
+IsAllQuiet mc kd m g = (move : Move) → IsNumbered move → is_enabled mc kd m g move ≡ false
 
 -- some move of a graph is enabled
-abbrev pub IsAnyAwake : {T : Type 0} → Meaning T → Rows T → Type 0
-IsAnyAwake m g = (move : Move) × (is_enabled m g move ≡ true)
+abbrev pub IsAnyAwake : {M T : Type 0} → Machine M T → Nodes M T → Meaning T → Rows M T → Type 0
+IsAnyAwake mc kd m g = (move : Move) × (is_enabled mc kd m g move ≡ true)
 
 -- how driving a graph ends after so many moves: Idle where no move is enabled, and Budget where one is and the whole
 -- budget was spent
-abbrev pub HasEnded : {T : Type 0} → Meaning T → ℕ → ℕ → Rows T → Result Pumped Refusal → Type 0
-HasEnded m budget n g (Ok Idle) = (n ≤ budget) × IsAllQuiet m g
-HasEnded m budget n g (Ok Budget) = (n ≡ budget) × IsAnyAwake m g
-HasEnded m budget n g (Err r) = (n ≤ budget) × (r ≡ NoMemory)
+abbrev pub HasEnded : {M T : Type 0} → Machine M T → Nodes M T → Meaning T → ℕ → ℕ → Rows M T → Result Pumped Refusal → Type 0
+HasEnded mc kd m budget n g (Ok Idle) = (n ≤ budget) × IsAllQuiet mc kd m g
+HasEnded mc kd m budget n g (Ok Budget) = (n ≡ budget) × IsAnyAwake mc kd m g
+HasEnded mc kd m budget n g (Err r) = (n ≤ budget) × (r ≡ NoMemory)
 
 -- for some list of moves, these were made one after the other, each of them enabled, the answer fits their number and the
 -- budget, what they delivered was put behind what stood there, and the graph stands for what has happened
-abbrev pub HasPumped : {T : Type 0} → Meaning T → ℕ → Rows T → Delivered T → Result Pumped Refusal → Rows T → Delivered T → Type 0
-HasPumped {T} m budget old before result new after =
-    (moves : List (Made T)) × HasEnded m budget (length moves) new result × AreMade m old moves new × (after.signals ≡ before.signals ++ delivered_by moves)
+abbrev pub HasPumped : {M T : Type 0} → Machine M T → Nodes M T → Meaning T → ℕ → Rows M T → Delivered T → Result Pumped Refusal → Rows M T → Delivered T → Type 0
+HasPumped {M} {T} mc kd m budget old before result new after =
+    (moves : List (Made T)) × HasEnded mc kd m budget (length moves) new result × AreMade mc kd m old moves new × (after.signals ≡ before.signals ++ delivered_by moves)
 
 -- ---- the moves of hubs alone: what they take in of their emitters, and the moves of their feeds
 
 -- no such move of the hub with this number is enabled
-pub record IsHubQuiet {T : Type 0} (m : Meaning T) (g : Rows T) (h : ℕ) : Type 0 where
-  pub accept : accepts_at g h ≡ false
-  pub feed : (step : NodeMove) → Part.IsNumbered step → feed_enabled m g h step ≡ false
+pub record IsHubQuiet {M T : Type 0} (mc : Machine M T) (m : Meaning T) (g : Rows M T) (h : ℕ) : Type 0 where
+  pub accept : accepts_at mc g h ≡ false
+  pub feed : (step : NodeMove) → Part.IsNumbered step → feed_enabled mc m g h step ≡ false
 
-abbrev pub AreHubsQuiet : {T : Type 0} → Meaning T → Rows T → ℕ → Type 0
-AreHubsQuiet m g n = (h : ℕ) → h < n → IsHubQuiet m g h
+abbrev pub AreHubsQuiet : {M T : Type 0} → Machine M T → Meaning T → Rows M T → ℕ → Type 0
+AreHubsQuiet mc m g n = (h : ℕ) → h < n → IsHubQuiet mc m g h
 
 -- how driving the hub with this number ends after so many moves
-abbrev pub HasRestedAt : {T : Type 0} → Meaning T → ℕ → ℕ → ℕ → Rows T → Result Rest Refusal → Type 0
-HasRestedAt m h budget n g (Ok (Rests left)) = (n + left ≡ budget) × IsHubQuiet m g h
-HasRestedAt m h budget n g (Ok Wakes) = (n ≡ budget) × IsAnyAwake m g
-HasRestedAt m h budget n g (Err r) = (n ≤ budget) × (r ≡ NoMemory)
+abbrev pub HasRestedAt : {M T : Type 0} → Machine M T → Nodes M T → Meaning T → ℕ → ℕ → ℕ → Rows M T → Result Rest Refusal → Type 0
+HasRestedAt mc kd m h budget n g (Ok (Rests left)) = (n + left ≡ budget) × IsHubQuiet mc m g h
+HasRestedAt mc kd m h budget n g (Ok Wakes) = (n ≡ budget) × IsAnyAwake mc kd m g
+HasRestedAt mc kd m h budget n g (Err r) = (n ≤ budget) × (r ≡ NoMemory)
 
 -- how driving all hubs ends: where no move was made, none of a hub was enabled
-abbrev pub HaveRested : {T : Type 0} → Meaning T → ℕ → ℕ → Rows T → Result Rest Refusal → Type 0
-HaveRested m budget n g (Ok (Rests left)) = (n + left ≡ budget) × (left ≡ budget → AreHubsQuiet m g (length g.hubs))
-HaveRested m budget n g (Ok Wakes) = (n ≡ budget) × IsAnyAwake m g
-HaveRested m budget n g (Err r) = (n ≤ budget) × (r ≡ NoMemory)
+abbrev pub HaveRested : {M T : Type 0} → Machine M T → Nodes M T → Meaning T → ℕ → ℕ → Rows M T → Result Rest Refusal → Type 0
+HaveRested mc kd m budget n g (Ok (Rests left)) = (n + left ≡ budget) × (left ≡ budget → AreHubsQuiet mc m g (length g.hubs))
+HaveRested mc kd m budget n g (Ok Wakes) = (n ≡ budget) × IsAnyAwake mc kd m g
+HaveRested mc kd m budget n g (Err r) = (n ≤ budget) × (r ≡ NoMemory)
 
 -- the moves of the hub with this number, which deliver nothing
-abbrev pub HasServed : {T : Type 0} → Meaning T → ℕ → ℕ → Rows T → Result Rest Refusal → Rows T → Type 0
-HasServed {T} m h budget old result new = (moves : List (Made T)) × HasRestedAt m h budget (length moves) new result × AreMade m old moves new × (delivered_by moves ≡ [])
+abbrev pub HasServed : {M T : Type 0} → Machine M T → Nodes M T → Meaning T → ℕ → ℕ → Rows M T → Result Rest Refusal → Rows M T → Type 0
+HasServed {M} {T} mc kd m h budget old result new = (moves : List (Made T)) × HasRestedAt mc kd m h budget (length moves) new result × AreMade mc kd m old moves new × (delivered_by moves ≡ [])
 
 -- those of all hubs
-abbrev pub HaveServed : {T : Type 0} → Meaning T → ℕ → Rows T → Result Rest Refusal → Rows T → Type 0
-HaveServed {T} m budget old result new = (moves : List (Made T)) × HaveRested m budget (length moves) new result × AreMade m old moves new × (delivered_by moves ≡ [])
+abbrev pub HaveServed : {M T : Type 0} → Machine M T → Nodes M T → Meaning T → ℕ → Rows M T → Result Rest Refusal → Rows M T → Type 0
+HaveServed {M} {T} mc kd m budget old result new = (moves : List (Made T)) × HaveRested mc kd m budget (length moves) new result × AreMade mc kd m old moves new × (delivered_by moves ≡ [])

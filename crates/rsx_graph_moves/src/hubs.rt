@@ -13,27 +13,27 @@ ghost use Rattle.rsx_graph_moves.specs.Pumped.{AreHubsQuiet, HasServed, HaveServ
 use crate::moves::make;
 use rsx_graph_state::{Feed, Refusal, can_accept, can_feed, place_of};
 use rsx_hub::Hub;
-use rsx_pipe::{NodeMove, Pumped as Driven};
+use rsx_pipe::{NodeMove, Nodes, Pumped as Driven};
 use rsx_subscriber::Subscription;
 use rsx_subscriber::naming::{inside_node, name_of};
 use rsx_types::{HubId, Move, Ops, Tree};
 use std::alloc::Global;
 
 /// All hubs take in what they can, one after the other, in at most `budget` moves; the moves of a hub's feed are among them.
-pub(crate) fn serve_all<O: Ops>(
+pub(crate) fn serve_all<N: Nodes<Item = O::Item>, O: Ops>(
     alloc: Global,
     ops: &O,
     hubs: &mut Vec<Hub<O::Item>>,
-    feeds: &mut Vec<Feed<O::Item>>,
-    subscriptions: &mut Vec<Subscription<O::Item>>,
+    feeds: &mut Vec<Feed<N>>,
+    subscriptions: &mut Vec<Subscription<N, O::Item>>,
     budget: u32,
 ) -> Result<Driven, Refusal>
     requires { length hubs.old.items < 2 ^ 32 }
     ensures hubs { length hubs.new.items ≡ length hubs.old.items }
     ensures feeds { length feeds.new.items ≡ length feeds.old.items }
     ensures subscriptions { length subscriptions.new.items ≡ length subscriptions.old.items }
-    ensures served { HaveServed (O.meaning ops.now) budget (rows_of hubs.old.items feeds.old.items subscriptions.old.items) result (rows_of hubs.new.items feeds.new.items subscriptions.new.items) }
-    ensures none { AreHubsQuiet (O.meaning ops.now) (rows_of hubs.old.items feeds.old.items subscriptions.old.items) (length hubs.old.items) →
+    ensures served { HaveServed N.Machine N.Nodes.own (O.meaning ops.now) budget (rows_of hubs.old.items feeds.old.items subscriptions.old.items) result (rows_of hubs.new.items feeds.new.items subscriptions.new.items) }
+    ensures none { AreHubsQuiet N.Machine (O.meaning ops.now) (rows_of hubs.old.items feeds.old.items subscriptions.old.items) (length hubs.old.items) →
         (rows_of hubs.new.items feeds.new.items subscriptions.new.items ≡ rows_of hubs.old.items feeds.old.items subscriptions.old.items) × IsOk result }
 {
     let mut left = budget;
@@ -49,12 +49,12 @@ pub(crate) fn serve_all<O: Ops>(
 }
 
 /// A hub takes in what it can, in at most `budget` moves; the moves of its feed are among them.
-fn serve<O: Ops>(
+fn serve<N: Nodes<Item = O::Item>, O: Ops>(
     alloc: Global,
     ops: &O,
     hubs: &mut Vec<Hub<O::Item>>,
-    feeds: &mut Vec<Feed<O::Item>>,
-    subscriptions: &mut Vec<Subscription<O::Item>>,
+    feeds: &mut Vec<Feed<N>>,
+    subscriptions: &mut Vec<Subscription<N, O::Item>>,
     hub: HubId,
     budget: u32,
 ) -> Result<Driven, Refusal>
@@ -62,8 +62,8 @@ fn serve<O: Ops>(
     ensures hubs { length hubs.new.items ≡ length hubs.old.items }
     ensures feeds { length feeds.new.items ≡ length feeds.old.items }
     ensures subscriptions { length subscriptions.new.items ≡ length subscriptions.old.items }
-    ensures served { HasServed (O.meaning ops.now) hub.0 budget (rows_of hubs.old.items feeds.old.items subscriptions.old.items) result (rows_of hubs.new.items feeds.new.items subscriptions.new.items) }
-    ensures none { IsHubQuiet (O.meaning ops.now) (rows_of hubs.old.items feeds.old.items subscriptions.old.items) hub.0 →
+    ensures served { HasServed N.Machine N.Nodes.own (O.meaning ops.now) hub.0 budget (rows_of hubs.old.items feeds.old.items subscriptions.old.items) result (rows_of hubs.new.items feeds.new.items subscriptions.new.items) }
+    ensures none { IsHubQuiet N.Machine (O.meaning ops.now) (rows_of hubs.old.items feeds.old.items subscriptions.old.items) hub.0 →
         (rows_of hubs.new.items feeds.new.items subscriptions.new.items ≡ rows_of hubs.old.items feeds.old.items subscriptions.old.items) × IsOk result }
 {
     for made in 0..budget {
@@ -83,17 +83,17 @@ fn serve<O: Ops>(
 
 /// The first enabled move of a hub: that by which it takes the next signal of its emitter in, or one of its feed. None where no
 /// such move is enabled.
-fn first_move<T: Drop>(
+fn first_move<N: Nodes<Item = T>, T: Drop>(
     hubs: &Vec<Hub<T>>,
-    feeds: &Vec<Feed<T>>,
-    subscriptions: &Vec<Subscription<T>>,
+    feeds: &Vec<Feed<N>>,
+    subscriptions: &Vec<Subscription<N, T>>,
     hub: HubId,
 ) -> Option<Move>
     requires { hub.0 < length hubs.now.items }
-    ensures some { (m : Meaning T) → IfSome result (λ step. is_enabled m (rows_of hubs.now.items feeds.now.items subscriptions.now.items) step ≡ true) }
-    ensures own { (m : Meaning T) → IfSome result (λ step. IsHubQuiet m (rows_of hubs.now.items feeds.now.items subscriptions.now.items) hub.0 → ⊥) }
+    ensures some { (m : Meaning T) → IfSome result (λ step. is_enabled N.Machine N.Nodes.own m (rows_of hubs.now.items feeds.now.items subscriptions.now.items) step ≡ true) }
+    ensures own { (m : Meaning T) → IfSome result (λ step. IsHubQuiet N.Machine m (rows_of hubs.now.items feeds.now.items subscriptions.now.items) hub.0 → ⊥) }
     ensures still { IfSome result (λ step. (o : Option (SubId × Signal T)) → IsMadeAnswer step o → o ≡ None) }
-    ensures none { (m : Meaning T) → IfNone result (IsHubQuiet m (rows_of hubs.now.items feeds.now.items subscriptions.now.items) hub.0) }
+    ensures none { (m : Meaning T) → IfNone result (IsHubQuiet N.Machine m (rows_of hubs.now.items feeds.now.items subscriptions.now.items) hub.0) }
 {
     match place_of(feeds, hub.0) {
         Some(at) => first_of_feed(hubs, feeds, subscriptions, hub, at),
@@ -102,18 +102,18 @@ fn first_move<T: Drop>(
 }
 
 /// The same of a hub that has an emitter.
-fn first_of_emitter<T: Drop>(
+fn first_of_emitter<N: Nodes<Item = T>, T: Drop>(
     hubs: &Vec<Hub<T>>,
-    feeds: &Vec<Feed<T>>,
-    subscriptions: &Vec<Subscription<T>>,
+    feeds: &Vec<Feed<N>>,
+    subscriptions: &Vec<Subscription<N, T>>,
     hub: HubId,
 ) -> Option<Move>
     requires there { hub.0 < length hubs.now.items }
     requires unfed { spec.place_of feeds.now.items hub.0 ≡ None }
-    ensures some { (m : Meaning T) → IfSome result (λ step. is_enabled m (rows_of hubs.now.items feeds.now.items subscriptions.now.items) step ≡ true) }
-    ensures own { (m : Meaning T) → IfSome result (λ step. IsHubQuiet m (rows_of hubs.now.items feeds.now.items subscriptions.now.items) hub.0 → ⊥) }
+    ensures some { (m : Meaning T) → IfSome result (λ step. is_enabled N.Machine N.Nodes.own m (rows_of hubs.now.items feeds.now.items subscriptions.now.items) step ≡ true) }
+    ensures own { (m : Meaning T) → IfSome result (λ step. IsHubQuiet N.Machine m (rows_of hubs.now.items feeds.now.items subscriptions.now.items) hub.0 → ⊥) }
     ensures still { IfSome result (λ step. (o : Option (SubId × Signal T)) → IsMadeAnswer step o → o ≡ None) }
-    ensures none { (m : Meaning T) → IfNone result (IsHubQuiet m (rows_of hubs.now.items feeds.now.items subscriptions.now.items) hub.0) }
+    ensures none { (m : Meaning T) → IfNone result (IsHubQuiet N.Machine m (rows_of hubs.now.items feeds.now.items subscriptions.now.items) hub.0) }
 {
     match can_accept(
         u64::from(hub.0),
@@ -127,20 +127,20 @@ fn first_of_emitter<T: Drop>(
 }
 
 /// The same of a hub that has the feed with this index.
-fn first_of_feed<T: Drop>(
+fn first_of_feed<N: Nodes<Item = T>, T: Drop>(
     hubs: &Vec<Hub<T>>,
-    feeds: &Vec<Feed<T>>,
-    subscriptions: &Vec<Subscription<T>>,
+    feeds: &Vec<Feed<N>>,
+    subscriptions: &Vec<Subscription<N, T>>,
     hub: HubId,
     at: usize,
 ) -> Option<Move>
     requires there { hub.0 < length hubs.now.items }
     requires within { at < length feeds.now.items }
     requires place { spec.place_of feeds.now.items hub.0 ≡ Some at }
-    ensures some { (m : Meaning T) → IfSome result (λ step. is_enabled m (rows_of hubs.now.items feeds.now.items subscriptions.now.items) step ≡ true) }
-    ensures own { (m : Meaning T) → IfSome result (λ step. IsHubQuiet m (rows_of hubs.now.items feeds.now.items subscriptions.now.items) hub.0 → ⊥) }
+    ensures some { (m : Meaning T) → IfSome result (λ step. is_enabled N.Machine N.Nodes.own m (rows_of hubs.now.items feeds.now.items subscriptions.now.items) step ≡ true) }
+    ensures own { (m : Meaning T) → IfSome result (λ step. IsHubQuiet N.Machine m (rows_of hubs.now.items feeds.now.items subscriptions.now.items) hub.0 → ⊥) }
     ensures still { IfSome result (λ step. (o : Option (SubId × Signal T)) → IsMadeAnswer step o → o ≡ None) }
-    ensures none { (m : Meaning T) → IfNone result (IsHubQuiet m (rows_of hubs.now.items feeds.now.items subscriptions.now.items) hub.0) }
+    ensures none { (m : Meaning T) → IfNone result (IsHubQuiet N.Machine m (rows_of hubs.now.items feeds.now.items subscriptions.now.items) hub.0) }
 {
     let feed = &feeds[at];
     if let Some(inside) = feed.first_work() {
@@ -153,8 +153,8 @@ fn first_of_feed<T: Drop>(
 }
 
 /// The name of a move inside the part of a hub's feed.
-fn name_in_feed<T: Drop>(feed: &Feed<T>, hub: HubId, inside: NodeMove) -> Move
-    ensures { result ≡ name_in feed.now hub inside }
+fn name_in_feed<N: Nodes<Item = T>, T: Drop>(feed: &Feed<N>, hub: HubId, inside: NodeMove) -> Move
+    ensures { result ≡ name_in N.Nodes.own feed.now hub inside }
 {
     name_of(
         Tree::Feed(hub),

@@ -7,6 +7,7 @@ ghost use Rattle.rsx_types.specs.Meaning.{Meaning};
 ghost use Rattle.rsx_graph_moves.specs.Pumped.{IsAllQuiet, LeadTo, Made};
 ghost use Rattle.rsx_graph_moves.specs.Served.{IsServed};
 
+use rsx_pipe::Nodes;
 use rsx_types::Ops;
 
 /// Idle means delivered: wherever the rows of a graph stand for a history and no move is enabled, each live subscriber got the first
@@ -16,15 +17,15 @@ use rsx_types::Ops;
 /// it. It holds as long as no edge has carried 2^63-1 items.
 ///
 /// [`crate::pump`] answers Idle only where no move is enabled. The function does nothing; its contract is the sentence.
-pub fn idle_means_delivered<O: Ops>()
-    ensures { (m : Meaning O.Item) (g : Rows O.Item) (h : History O.Item) → StandsFor m g h → IsAllQuiet m g → IsServed m g h }
+pub fn idle_means_delivered<N: Nodes<Item = O::Item>, O: Ops>()
+    ensures { (m : Meaning O.Item) (g : Rows N O.Item) (h : History O.Item) → StandsFor N.Machine m g h → IsAllQuiet N.Machine N.Nodes.own m g → IsServed N.Machine m g h }
 {}
 
 /// Moves keep of which hub each feed is: however many are made one after the other, so many feeds stand there as before, each in its
 /// place and of the same hub.
 ///
 /// The function does nothing; its contract is the sentence.
-pub fn feeds_keep_their_hubs<O: Ops>()
-    ensures { (m : Meaning O.Item) (old new : Rows O.Item) (moves : List (Made O.Item)) → LeadTo m old moves new →
+pub fn feeds_keep_their_hubs<N: Nodes<Item = O::Item>, O: Ops>()
+    ensures { (m : Meaning O.Item) (old new : Rows N O.Item) (moves : List (Made O.Item)) → LeadTo N.Machine N.Nodes.own m old moves new →
         map (λ f. f.hub) new.feeds ≡ map (λ f. f.hub) old.feeds }
 {}

@@ -15,7 +15,7 @@ ghost use Rattle.rsx_graph_moves.specs.Moves.{IsMakeRefusal, IsMoved, IsMovedInF
 use crate::{make_in_tree, take};
 use rsx_graph_state::{Feed, Refusal, accept, make_in_feed, place_of};
 use rsx_hub::Hub;
-use rsx_pipe::NodeMove;
+use rsx_pipe::{NodeMove, Nodes};
 use rsx_subscriber::Subscription;
 use rsx_subscriber::naming::{node_move, node_of};
 use rsx_types::{HubId, Move, NodeId, Ops, Signal, SubId, Tree};
@@ -28,29 +28,29 @@ use std::alloc::Global;
 /// # Errors
 /// G1 for a hub that isn't there and for the tree of a hub that has no feed, G2 for a subscription that isn't there, else G7
 /// exactly where the move isn't enabled, and G8 where a growth was refused, of a move that may allocate; nothing changed.
-pub fn make<O: Ops>(
+pub fn make<N: Nodes<Item = O::Item>, O: Ops>(
     alloc: Global,
     ops: &O,
     hubs: &mut Vec<Hub<O::Item>>,
-    feeds: &mut Vec<Feed<O::Item>>,
-    subscriptions: &mut Vec<Subscription<O::Item>>,
+    feeds: &mut Vec<Feed<N>>,
+    subscriptions: &mut Vec<Subscription<N, O::Item>>,
     step: Move,
 ) -> Result<Option<(SubId, Signal<O::Item>)>, Refusal>
     ensures hubs { length hubs.new.items ≡ length hubs.old.items }
     ensures feeds { length feeds.new.items ≡ length feeds.old.items }
     ensures subscriptions { length subscriptions.new.items ≡ length subscriptions.old.items }
     ensures stands { IfOk result (λ o. (h : History O.Item) →
-        StandsFor (O.meaning ops.now) (rows_of hubs.old.items feeds.old.items subscriptions.old.items) h →
-        StandsFor (O.meaning ops.now) (rows_of hubs.new.items feeds.new.items subscriptions.new.items)
-        (with_made step o (sent (O.meaning ops.now) (rows_of hubs.old.items feeds.old.items subscriptions.old.items) step) h)) }
+        StandsFor N.Machine (O.meaning ops.now) (rows_of hubs.old.items feeds.old.items subscriptions.old.items) h →
+        StandsFor N.Machine (O.meaning ops.now) (rows_of hubs.new.items feeds.new.items subscriptions.new.items)
+        (with_made step o (sent N.Machine N.Nodes.own (O.meaning ops.now) (rows_of hubs.old.items feeds.old.items subscriptions.old.items) step) h)) }
     ensures answer { IfOk result (λ o. IsMadeAnswer step o) }
-    ensures enabled { OnOk result (is_enabled (O.meaning ops.now) (rows_of hubs.old.items feeds.old.items subscriptions.old.items) step ≡ true) }
-    ensures effect { IfOk result (λ o. IsMoved (O.meaning ops.now) step (rows_of hubs.old.items feeds.old.items subscriptions.old.items) (rows_of hubs.new.items feeds.new.items subscriptions.new.items) o) }
+    ensures enabled { OnOk result (is_enabled N.Machine N.Nodes.own (O.meaning ops.now) (rows_of hubs.old.items feeds.old.items subscriptions.old.items) step ≡ true) }
+    ensures effect { IfOk result (λ o. IsMoved N.Machine N.Nodes.own (O.meaning ops.now) step (rows_of hubs.old.items feeds.old.items subscriptions.old.items) (rows_of hubs.new.items feeds.new.items subscriptions.new.items) o) }
     ensures err { IfErr result (λ r. IsMakeRefusal (rows_of hubs.old.items feeds.old.items subscriptions.old.items)
-        (is_enabled (O.meaning ops.now) (rows_of hubs.old.items feeds.old.items subscriptions.old.items) step) step r) }
+        (is_enabled N.Machine N.Nodes.own (O.meaning ops.now) (rows_of hubs.old.items feeds.old.items subscriptions.old.items) step) step r) }
 
     // An enabled move that takes no memory is made.
-    ensures memory { IfErr result (λ r. may_allocate (O.allocates ops.now) (rows_of hubs.old.items feeds.old.items subscriptions.old.items) step ≡ false → r ≢ Refusal.NoMemory) }
+    ensures memory { IfErr result (λ r. may_allocate N.Machine N.Nodes.own (O.allocates ops.now) (rows_of hubs.old.items feeds.old.items subscriptions.old.items) step ≡ false → r ≢ Refusal.NoMemory) }
     ensures same { OnErr result ((hubs.new.items ≡ hubs.old.items) × (feeds.new.items ≡ feeds.old.items) × (subscriptions.new.items ≡ subscriptions.old.items)) }
 {
     match step {
@@ -85,8 +85,12 @@ pub fn make<O: Ops>(
 }
 
 /// The move inside its part that a move of the feed of a hub names, if there is one.
-fn move_in_feed<T: Drop>(feeds: &Vec<Feed<T>>, hub: HubId, step: Move) -> Option<NodeMove>
-    ensures { result ≡ feed_move feeds.now.items hub.0 step }
+fn move_in_feed<N: Nodes<Item = T>, T: Drop>(
+    feeds: &Vec<Feed<N>>,
+    hub: HubId,
+    step: Move,
+) -> Option<NodeMove>
+    ensures { result ≡ feed_move N.Nodes.own feeds.now.items hub.0 step }
 {
     match place_of(feeds, hub.0) {
         Some(at) => {
@@ -99,22 +103,22 @@ fn move_in_feed<T: Drop>(feeds: &Vec<Feed<T>>, hub: HubId, step: Move) -> Option
 
 /// Makes a Take in the tree of a subscription: that of the root hands the front signal of its queue to the subscriber, and any
 /// other one hands that of an edge's queue to the edge's receiver.
-fn take_in_tree<O: Ops>(
+fn take_in_tree<N: Nodes<Item = O::Item>, O: Ops>(
     alloc: Global,
     ops: &O,
-    subscriptions: &mut Vec<Subscription<O::Item>>,
+    subscriptions: &mut Vec<Subscription<N, O::Item>>,
     sub: SubId,
     node: NodeId,
 ) -> Result<Option<(SubId, Signal<O::Item>)>, Refusal>
     ensures count { length subscriptions.new.items ≡ length subscriptions.old.items }
-    ensures stands { IfOk result (λ o. (hubs : List (HubState O.Item)) (feeds : List (FeedOf O.Item)) (h : History O.Item) →
-        StandsFor (O.meaning ops.now) (rows_of hubs feeds subscriptions.old.items) h → StandsFor (O.meaning ops.now) (rows_of hubs feeds subscriptions.new.items) (with_delivery o h)) }
+    ensures stands { IfOk result (λ o. (hubs : List (HubState O.Item)) (feeds : List (FeedOf N)) (h : History O.Item) →
+        StandsFor N.Machine (O.meaning ops.now) (rows_of hubs feeds subscriptions.old.items) h → StandsFor N.Machine (O.meaning ops.now) (rows_of hubs feeds subscriptions.new.items) (with_delivery o h)) }
     ensures answer { IfOk result (λ o. IsMadeAnswer (Move.Take (Tree.Sub sub) node) o) }
-    ensures enabled { OnOk result (enabled_at (O.meaning ops.now) subscriptions.old.items sub.0 (Move.Take (Tree.Sub sub) node) ≡ true) }
-    ensures effect { IfOk result (λ o. IsMadeAt (O.meaning ops.now) (Move.Take (Tree.Sub sub) node) sub.0 subscriptions.old.items subscriptions.new.items o) }
+    ensures enabled { OnOk result (enabled_at N.Machine N.Nodes.own (O.meaning ops.now) subscriptions.old.items sub.0 (Move.Take (Tree.Sub sub) node) ≡ true) }
+    ensures effect { IfOk result (λ o. IsMadeAt N.Machine N.Nodes.own (O.meaning ops.now) (Move.Take (Tree.Sub sub) node) sub.0 subscriptions.old.items subscriptions.new.items o) }
     ensures err { IfErr result (λ r. IsSubMoveRefusal (length subscriptions.old.items)
-        (enabled_at (O.meaning ops.now) subscriptions.old.items sub.0 (Move.Take (Tree.Sub sub) node)) sub r) }
-    ensures memory { allocates_at (O.allocates ops.now) subscriptions.old.items sub.0 (Move.Take (Tree.Sub sub) node) ≡ false → IfErr result (λ r. r ≢ Refusal.NoMemory) }
+        (enabled_at N.Machine N.Nodes.own (O.meaning ops.now) subscriptions.old.items sub.0 (Move.Take (Tree.Sub sub) node)) sub r) }
+    ensures memory { allocates_at N.Machine N.Nodes.own (O.allocates ops.now) subscriptions.old.items sub.0 (Move.Take (Tree.Sub sub) node) ≡ false → IfErr result (λ r. r ≢ Refusal.NoMemory) }
     ensures same { OnErr result (subscriptions.new.items ≡ subscriptions.old.items) }
 {
     if node.0 > 0 {
@@ -131,12 +135,12 @@ fn take_in_tree<O: Ops>(
 }
 
 /// Makes a move of the feed of a hub.
-fn make_of_feed<O: Ops>(
+fn make_of_feed<N: Nodes<Item = O::Item>, O: Ops>(
     alloc: Global,
     ops: &O,
     hubs: &mut Vec<Hub<O::Item>>,
-    feeds: &mut Vec<Feed<O::Item>>,
-    subscriptions: &mut Vec<Subscription<O::Item>>,
+    feeds: &mut Vec<Feed<N>>,
+    subscriptions: &mut Vec<Subscription<N, O::Item>>,
     hub: HubId,
     step: Move,
 ) -> Result<(), Refusal>
@@ -144,14 +148,14 @@ fn make_of_feed<O: Ops>(
     ensures feeds { length feeds.new.items ≡ length feeds.old.items }
     ensures subscriptions { length subscriptions.new.items ≡ length subscriptions.old.items }
     ensures stands { OnOk result ((h : History O.Item) →
-        StandsFor (O.meaning ops.now) (rows_of hubs.old.items feeds.old.items subscriptions.old.items) h →
-        StandsFor (O.meaning ops.now) (rows_of hubs.new.items feeds.new.items subscriptions.new.items)
-        (with_sent (sent_by_feed (O.meaning ops.now) (rows_of hubs.old.items feeds.old.items subscriptions.old.items) hub.0 (feed_move feeds.old.items hub.0 step)) hub.0 h)) }
-    ensures enabled { OnOk result (feed_move_enabled (O.meaning ops.now) (rows_of hubs.old.items feeds.old.items subscriptions.old.items) hub.0 (feed_move feeds.old.items hub.0 step) ≡ true) }
-    ensures effect { OnOk result (IsMovedInFeed (O.meaning ops.now) (feed_move feeds.old.items hub.0 step) hub.0 (rows_of hubs.old.items feeds.old.items subscriptions.old.items) (rows_of hubs.new.items feeds.new.items subscriptions.new.items)) }
+        StandsFor N.Machine (O.meaning ops.now) (rows_of hubs.old.items feeds.old.items subscriptions.old.items) h →
+        StandsFor N.Machine (O.meaning ops.now) (rows_of hubs.new.items feeds.new.items subscriptions.new.items)
+        (with_sent (sent_by_feed N.Machine (O.meaning ops.now) (rows_of hubs.old.items feeds.old.items subscriptions.old.items) hub.0 (feed_move N.Nodes.own feeds.old.items hub.0 step)) hub.0 h)) }
+    ensures enabled { OnOk result (feed_move_enabled N.Machine (O.meaning ops.now) (rows_of hubs.old.items feeds.old.items subscriptions.old.items) hub.0 (feed_move N.Nodes.own feeds.old.items hub.0 step) ≡ true) }
+    ensures effect { OnOk result (IsMovedInFeed N.Machine (O.meaning ops.now) (feed_move N.Nodes.own feeds.old.items hub.0 step) hub.0 (rows_of hubs.old.items feeds.old.items subscriptions.old.items) (rows_of hubs.new.items feeds.new.items subscriptions.new.items)) }
     ensures err { IfErr result (IsFeedRefusal (has_feed (rows_of hubs.old.items feeds.old.items subscriptions.old.items) hub.0)
-        (feed_move_enabled (O.meaning ops.now) (rows_of hubs.old.items feeds.old.items subscriptions.old.items) hub.0 (feed_move feeds.old.items hub.0 step))) }
-    ensures memory { feed_move_allocates (O.allocates ops.now) feeds.old.items hub.0 (feed_move feeds.old.items hub.0 step) ≡ false → IfErr result (λ r. r ≢ Refusal.NoMemory) }
+        (feed_move_enabled N.Machine (O.meaning ops.now) (rows_of hubs.old.items feeds.old.items subscriptions.old.items) hub.0 (feed_move N.Nodes.own feeds.old.items hub.0 step))) }
+    ensures memory { feed_move_allocates N.Machine (O.allocates ops.now) feeds.old.items hub.0 (feed_move N.Nodes.own feeds.old.items hub.0 step) ≡ false → IfErr result (λ r. r ≢ Refusal.NoMemory) }
     ensures same { OnErr result ((hubs.new.items ≡ hubs.old.items) × (feeds.new.items ≡ feeds.old.items) × (subscriptions.new.items ≡ subscriptions.old.items)) }
 {
     match move_in_feed(feeds, hub, step) {
@@ -167,8 +171,8 @@ fn make_of_feed<O: Ops>(
 }
 
 /// Whether the hub with this number is there and has a feed.
-fn is_fed<T: Drop>(hubs: &Vec<Hub<T>>, feeds: &Vec<Feed<T>>, hub: HubId) -> bool
-    ensures { (subscriptions : List (SubscriptionOf T)) → result ≡ has_feed (rows_of hubs.now.items feeds.now.items subscriptions) hub.0 }
+fn is_fed<N: Nodes<Item = T>, T: Drop>(hubs: &Vec<Hub<T>>, feeds: &Vec<Feed<N>>, hub: HubId) -> bool
+    ensures { (subscriptions : List (SubscriptionOf N T)) → result ≡ has_feed (rows_of hubs.now.items feeds.now.items subscriptions) hub.0 }
 {
     if hub.0 as usize >= hubs.len() {
         return false;

@@ -10,7 +10,7 @@ use crate::drive;
 use crate::hubs::serve_all;
 use rsx_graph_state::{Feed, Pumped, Refusal};
 use rsx_hub::Hub;
-use rsx_pipe::Pumped as Driven;
+use rsx_pipe::{Nodes, Pumped as Driven};
 use rsx_subscriber::{Deliveries, Subscription};
 use rsx_types::Ops;
 use std::alloc::Global;
@@ -23,12 +23,12 @@ use std::alloc::Global;
 /// [`Refusal::NoMemory`] where a growth was refused; the moves made before stand, and their deliveries are in `out`. Where no hub
 /// has a feed, it comes only where `out` has no room for one signal more, where a signal waits in the inbox of a hub, or where some
 /// node of a subscription's tree may allocate.
-pub fn pump<O: Ops>(
+pub fn pump<N: Nodes<Item = O::Item>, O: Ops>(
     alloc: Global,
     ops: &O,
     hubs: &mut Vec<Hub<O::Item>>,
-    feeds: &mut Vec<Feed<O::Item>>,
-    subscriptions: &mut Vec<Subscription<O::Item>>,
+    feeds: &mut Vec<Feed<N>>,
+    subscriptions: &mut Vec<Subscription<N, O::Item>>,
     budget: u32,
     out: &mut Deliveries<O::Item>,
 ) -> Result<Pumped, Refusal>
@@ -37,10 +37,10 @@ pub fn pump<O: Ops>(
     ensures hubs { length hubs.new.items ≡ length hubs.old.items }
     ensures feeds { length feeds.new.items ≡ length feeds.old.items }
     ensures subscriptions { length subscriptions.new.items ≡ length subscriptions.old.items }
-    ensures pumped { HasPumped (O.meaning ops.now) budget (rows_of hubs.old.items feeds.old.items subscriptions.old.items) out.old result (rows_of hubs.new.items feeds.new.items subscriptions.new.items) out.new }
+    ensures pumped { HasPumped N.Machine N.Nodes.own (O.meaning ops.now) budget (rows_of hubs.old.items feeds.old.items subscriptions.old.items) out.old result (rows_of hubs.new.items feeds.new.items subscriptions.new.items) out.new }
 
     // Where no hub has a feed and no move may allocate, there is want of memory only for the list of deliveries.
-    ensures memory { drives_allocate (O.allocates ops.now) (rows_of hubs.old.items feeds.old.items subscriptions.old.items) ≡ false → feeds.old.items ≡ [] → OnErr result (IsFull out.new) }
+    ensures memory { drives_allocate N.Machine (O.allocates ops.now) (rows_of hubs.old.items feeds.old.items subscriptions.old.items) ≡ false → feeds.old.items ≡ [] → OnErr result (IsFull out.new) }
 {
     let mut left = budget;
     'rounds: loop {

@@ -10,6 +10,7 @@ ghost use Rattle.rsx_graph_state.specs.Answers.{IsSubMoveRefusal, changed};
 ghost use Rattle.rsx_graph_state.specs.Subscriptions.{AllStand, IsMadeAt, allocates_at, enabled_at};
 
 use rsx_graph_state::Refusal;
+use rsx_pipe::Nodes;
 use rsx_sources::NotMade;
 use rsx_subscriber::Subscription;
 use rsx_types::{Move, Ops, Signal, SubId};
@@ -20,21 +21,21 @@ use std::alloc::Global;
 /// # Errors
 /// G2 for a subscription that isn't there, else G7 exactly where the move isn't enabled, and G8 where a growth was refused, of a
 /// move that may allocate; nothing changed.
-pub fn make_in_tree<O: Ops>(
+pub fn make_in_tree<N: Nodes<Item = O::Item>, O: Ops>(
     alloc: Global,
     ops: &O,
-    subscriptions: &mut Vec<Subscription<O::Item>>,
+    subscriptions: &mut Vec<Subscription<N, O::Item>>,
     sub: SubId,
     step: Move,
 ) -> Result<(), Refusal>
     requires { IsInside step }
     ensures count { length subscriptions.new.items ≡ length subscriptions.old.items }
     ensures stands { OnOk result ((published : List (Stream O.Item)) (pasts : List (Past O.Item)) →
-        AllStand (O.meaning ops.now) published subscriptions.old.items pasts → AllStand (O.meaning ops.now) published subscriptions.new.items pasts) }
-    ensures enabled { OnOk result (enabled_at (O.meaning ops.now) subscriptions.old.items sub.0 step ≡ true) }
-    ensures effect { OnOk result (IsMadeAt (O.meaning ops.now) step sub.0 subscriptions.old.items subscriptions.new.items None) }
-    ensures err { IfErr result (λ r. IsSubMoveRefusal (length subscriptions.old.items) (enabled_at (O.meaning ops.now) subscriptions.old.items sub.0 step) sub r) }
-    ensures memory { allocates_at (O.allocates ops.now) subscriptions.old.items sub.0 step ≡ false → IfErr result (λ r. r ≢ Refusal.NoMemory) }
+        AllStand N.Machine (O.meaning ops.now) published subscriptions.old.items pasts → AllStand N.Machine (O.meaning ops.now) published subscriptions.new.items pasts) }
+    ensures enabled { OnOk result (enabled_at N.Machine N.Nodes.own (O.meaning ops.now) subscriptions.old.items sub.0 step ≡ true) }
+    ensures effect { OnOk result (IsMadeAt N.Machine N.Nodes.own (O.meaning ops.now) step sub.0 subscriptions.old.items subscriptions.new.items None) }
+    ensures err { IfErr result (λ r. IsSubMoveRefusal (length subscriptions.old.items) (enabled_at N.Machine N.Nodes.own (O.meaning ops.now) subscriptions.old.items sub.0 step) sub r) }
+    ensures memory { allocates_at N.Machine N.Nodes.own (O.allocates ops.now) subscriptions.old.items sub.0 step ≡ false → IfErr result (λ r. r ≢ Refusal.NoMemory) }
     ensures same { OnErr result (subscriptions.new.items ≡ subscriptions.old.items) }
 {
     let at = sub.0 as usize;
@@ -53,17 +54,17 @@ pub fn make_in_tree<O: Ops>(
 ///
 /// # Errors
 /// G2 for a subscription that isn't there, else G7 exactly where the move isn't enabled; nothing changed.
-pub fn take<T: Drop>(
-    subscriptions: &mut Vec<Subscription<T>>,
+pub fn take<N: Nodes<Item = T>, T: Drop>(
+    subscriptions: &mut Vec<Subscription<N, T>>,
     sub: SubId,
 ) -> Result<Signal<T>, Refusal>
     ensures count { length subscriptions.new.items ≡ length subscriptions.old.items }
     ensures stands { IfOk result (λ s. (m : Meaning T) (published : List (Stream T)) (pasts : List (Past T)) →
-        AllStand m published subscriptions.old.items pasts → AllStand m published subscriptions.new.items (changed (given s) pasts sub.0)) }
-    ensures enabled { OnOk result ((m : Meaning T) → enabled_at m subscriptions.old.items sub.0 (delivery sub) ≡ true) }
-    ensures effect { IfOk result (λ s. (m : Meaning T) → IsMadeAt m (delivery sub) sub.0 subscriptions.old.items subscriptions.new.items (Some (sub, s))) }
+        AllStand N.Machine m published subscriptions.old.items pasts → AllStand N.Machine m published subscriptions.new.items (changed (given s) pasts sub.0)) }
+    ensures enabled { OnOk result ((m : Meaning T) → enabled_at N.Machine N.Nodes.own m subscriptions.old.items sub.0 (delivery sub) ≡ true) }
+    ensures effect { IfOk result (λ s. (m : Meaning T) → IsMadeAt N.Machine N.Nodes.own m (delivery sub) sub.0 subscriptions.old.items subscriptions.new.items (Some (sub, s))) }
     ensures err { IfErr result (λ r. (m : Meaning T) →
-        IsSubMoveRefusal (length subscriptions.old.items) (enabled_at m subscriptions.old.items sub.0 (delivery sub)) sub r) }
+        IsSubMoveRefusal (length subscriptions.old.items) (enabled_at N.Machine N.Nodes.own m subscriptions.old.items sub.0 (delivery sub)) sub r) }
     ensures memory { IfErr result (λ r. r ≢ Refusal.NoMemory) }
     ensures same { OnErr result (subscriptions.new.items ≡ subscriptions.old.items) }
 {

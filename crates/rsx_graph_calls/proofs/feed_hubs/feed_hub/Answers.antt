@@ -1,9 +1,8 @@
-use Rattle.std.proofs.Common.{◌≡◌, ◌∙◌, ◌∷◌, ◌++◌, [], None, ap, length, map, suc, sym, true, rules}
+use Rattle.std.proofs.Common.{◌≡◌, ◌∙◌, ◌∷◌, ◌++◌, [], ap, length, map, refl, subst, suc, sym, rules}
 use Rattle.std.proofs.lemmas.List.{length-map}
 use Rattle.rsx_graph_state.proofs.Joins.{map_last}
 use Rattle.rsx_graph_state.specs.Prelude.{fresh_hub, rows_of}
-use Rattle.rsx_kinds.specs.Leaves.{have_places}
-use Rattle.rsx_graph_calls.specs.Edits.{fault_of}
+use Rattle.rsx_subscriber.specs.Prelude.{IsPlaced, differ, region_of}
 use Rattle.rsx_graph_calls.proofs.Behind.{one_more}
 use Rattle.rsx_graph_calls.proofs.Fed.{fed_effect, fed_made, fed_named}
 use Rattle.rsx_graph_calls.proofs.Kept.{joins_fed}
@@ -12,46 +11,46 @@ use Rattle.rsx_graph_calls.proofs.feed_hubs.feed_hub.Goals as goal
 
 pub count_in-requires-clause-places : goal.count_in-requires-clause-places
 count_in-requires-clause-places g c =
-    let fine : fault_of c.args.kind c.args.capacity (length c.args.hubs.now.items) c.args.expr.now ≡ None = search rules in
+    let fine = c.requires.fine in
     let pushed : c.push_reserved.new.self.items ≡ c.args.hubs.now.items ++ fresh_hub c.args.kind c.args.capacity ∷ [] = search rules in
-    let places : have_places 0 c.args.expr.now c.args.hubs.now.items ≡ true = search rules in
+    let places = c.requires.places in
     places_behind c.args.kind c.args.capacity c.args.expr.now c.args.hubs.now.items c.push_reserved.new.self.items fine pushed places
 
 pub returns-clause-named : goal.returns-clause-named
 returns-clause-named g c =
     let pushed : c.push_reserved.new.self.items ≡ c.args.hubs.now.items ++ fresh_hub c.args.kind c.args.capacity ∷ [] = search rules in
-    let added : c.push_reserved-2.new.self.items ≡ c.args.feeds.now.items ++ c.in-Ok.made.feed ∷ [] = search rules in
-    fed_named c.args.kind c.args.capacity (length c.count_in.new.hubs.items) c.args.hubs.now.items c.push_reserved.new.self.items c.args.feeds.now.items c.push_reserved-2.new.self.items c.in-Ok.made.feed pushed c.count_in.ensures.count added c.in-Ok.ensures.named c.requires.named
+    let added : c.push_reserved-2.new.self.items ≡ c.args.feeds.now.items ++ c.in_ok-made.made.feed ∷ [] = search rules in
+    fed_named c.args.kind c.args.capacity (length c.count_in.new.hubs.items) c.args.hubs.now.items c.push_reserved.new.self.items c.args.feeds.now.items c.push_reserved-2.new.self.items c.in_ok-made.made.feed pushed c.count_in.ensures.count added c.in_ok-made.ensures.named c.requires.named
 
 pub returns-clause-stands : goal.returns-clause-stands
-returns-clause-stands g c = λ subscriptions h s.
-    let fine : fault_of c.args.kind c.args.capacity (length c.args.hubs.now.items) c.args.expr.now ≡ None = search rules in
+returns-clause-stands g c = λ m subscriptions h built s.
+    let fine = c.requires.fine in
     let pushed : c.push_reserved.new.self.items ≡ c.args.hubs.now.items ++ fresh_hub c.args.kind c.args.capacity ∷ [] = search rules in
-    let added : c.push_reserved-2.new.self.items ≡ c.args.feeds.now.items ++ c.in-Ok.made.feed ∷ [] = search rules in
-    fed_made (g.O.Ops.meaning c.args.ops.now) c.args.kind c.args.capacity c.args.expr.now (rows_of c.args.hubs.now.items c.args.feeds.now.items subscriptions) c.push_reserved.new.self.items c.count_in.new.hubs.items c.push_reserved-2.new.self.items c.in-Ok.made.feed h
-    fine pushed c.count_in.ensures.joined added c.in-Ok.ensures.named c.requires.named c.in-Ok.ensures.stands s
+    let added : c.push_reserved-2.new.self.items ≡ c.args.feeds.now.items ++ c.in_ok-made.made.feed ∷ [] = search rules in
+    fed_made g.N.Machine m c.args.kind c.args.capacity c.args.expr.now (rows_of c.args.hubs.now.items c.args.feeds.now.items subscriptions) c.push_reserved.new.self.items c.count_in.new.hubs.items c.push_reserved-2.new.self.items c.in_ok-made.made.feed h
+    fine pushed c.count_in.ensures.joined added c.in_ok-made.ensures.named c.requires.named (λ published taken. c.in_ok-made.ensures.stands m c.args.hubs.now.items c.args.expr.now published refl built taken) s
 
 pub returns-clause-effect : goal.returns-clause-effect
-returns-clause-effect g c =
-    let fine : fault_of c.args.kind c.args.capacity (length c.args.hubs.now.items) c.args.expr.now ≡ None = search rules in
+returns-clause-effect g c = λ placed.
+    let fine = c.requires.fine in
     let pushed : c.push_reserved.new.self.items ≡ c.args.hubs.now.items ++ fresh_hub c.args.kind c.args.capacity ∷ [] = search rules in
-    let added : c.push_reserved-2.new.self.items ≡ c.args.feeds.now.items ++ c.in-Ok.made.feed ∷ [] = search rules in
-    fed_effect c.args.kind c.args.capacity c.args.expr.now c.args.hubs.now.items c.push_reserved.new.self.items c.count_in.new.hubs.items c.args.feeds.now.items c.push_reserved-2.new.self.items c.in-Ok.made.feed fine pushed c.count_in.ensures.joined added c.in-Ok.ensures.named c.in-Ok.ensures.placed
+    let added : c.push_reserved-2.new.self.items ≡ c.args.feeds.now.items ++ c.in_ok-made.made.feed ∷ [] = search rules in
+    fed_effect g.N.Nodes c.args.kind c.args.capacity c.args.expr.now c.args.hubs.now.items c.push_reserved.new.self.items c.count_in.new.hubs.items c.args.feeds.now.items c.push_reserved-2.new.self.items c.in_ok-made.made.feed fine pushed c.count_in.ensures.joined added c.in_ok-made.ensures.named (subst (λ t. IsPlaced g.N.Nodes.crosses c.args.expr.now (differ 0 (region_of c.args.expr.now)) t) (sym c.in_ok-made.ensures.tree) placed)
 
 pub returns-clause-beside : goal.returns-clause-beside
 returns-clause-beside g c =
-    let added : c.push_reserved-2.new.self.items ≡ c.args.feeds.now.items ++ c.in-Ok.made.feed ∷ [] = search rules in
-    let kept : c.push_reserved-3.new.self.items ≡ c.args.joins.now.items ++ c.in-Ok.made.joins ∷ [] = search rules in
-    ap length kept ∙ (one_more c.args.joins.now.items c.in-Ok.made.joins ∙ (ap suc c.requires.beside ∙ sym (ap length added ∙ one_more c.args.feeds.now.items c.in-Ok.made.feed)))
+    let added : c.push_reserved-2.new.self.items ≡ c.args.feeds.now.items ++ c.in_ok-made.made.feed ∷ [] = search rules in
+    let kept : c.push_reserved-3.new.self.items ≡ c.args.joins.now.items ++ c.in_ok-made.made.joins ∷ [] = search rules in
+    ap length kept ∙ (one_more c.args.joins.now.items c.in_ok-made.made.joins ∙ (ap suc c.requires.beside ∙ sym (ap length added ∙ one_more c.args.feeds.now.items c.in_ok-made.made.feed)))
 
 pub returns-clause-missed : goal.returns-clause-missed
 returns-clause-missed g c =
-    let missed = c.in-Ok.made.joins in
-    let kept : c.push_reserved-3.new.self.items ≡ c.args.joins.now.items ++ c.in-Ok.made.joins ∷ [] = search rules in
-    ap (map (λ v. v.items)) kept ∙ (map_last (λ v. v.items) c.args.joins.now.items missed ∙ ap (λ js. map (λ v. v.items) c.args.joins.now.items ++ js ∷ []) c.in-Ok.ensures.missed)
+    let missed = c.in_ok-made.made.joins in
+    let kept : c.push_reserved-3.new.self.items ≡ c.args.joins.now.items ++ c.in_ok-made.made.joins ∷ [] = search rules in
+    ap (map (λ v. v.items)) kept ∙ (map_last (λ v. v.items) c.args.joins.now.items missed ∙ ap (λ js. map (λ v. v.items) c.args.joins.now.items ++ js ∷ []) c.in_ok-made.ensures.missed)
 
 pub returns-clause-joins : goal.returns-clause-joins
-returns-clause-joins g c = λ subscriptions sub_joins h s j.
-    let added : c.push_reserved-2.new.self.items ≡ c.args.feeds.now.items ++ c.in-Ok.made.feed ∷ [] = search rules in
-    joins_fed (g.O.Ops.meaning c.args.ops.now) c.args.kind c.args.expr.now (rows_of c.args.hubs.now.items c.args.feeds.now.items subscriptions) c.push_reserved-2.new.self.items c.in-Ok.made.feed sub_joins (map (λ v. v.items) c.args.joins.now.items) (map (λ v. v.items) c.push_reserved-3.new.self.items) h
-    added c.in-Ok.ensures.named c.requires.named (length-map c.args.joins.now.items (λ v. v.items) ∙ c.requires.beside) (returns-clause-missed g c) s j
+returns-clause-joins g c = λ m subscriptions sub_joins h s j.
+    let added : c.push_reserved-2.new.self.items ≡ c.args.feeds.now.items ++ c.in_ok-made.made.feed ∷ [] = search rules in
+    joins_fed g.N.Machine m c.args.kind c.args.expr.now (rows_of c.args.hubs.now.items c.args.feeds.now.items subscriptions) c.push_reserved-2.new.self.items c.in_ok-made.made.feed sub_joins (map (λ v. v.items) c.args.joins.now.items) (map (λ v. v.items) c.push_reserved-3.new.self.items) h
+    added c.in_ok-made.ensures.named c.requires.named (length-map c.args.joins.now.items (λ v. v.items) ∙ c.requires.beside) (returns-clause-missed g c) s j

@@ -11,4 +11,4 @@ returns-clause-named g c =
 pub returns-clause-stands : goal.returns-clause-stands
 returns-clause-stands g c = λ m subscriptions h s.
     let pushed : c.push.new.self.items ≡ c.args.hubs.now.items ++ fresh_hub c.args.kind c.args.capacity ∷ [] = search rules in
-    hub_behind m c.args.kind c.args.capacity (rows_of c.args.hubs.now.items c.args.feeds.now.items subscriptions) c.push.new.self.items h pushed c.requires.named s
+    hub_behind g.N.Machine m c.args.kind c.args.capacity (rows_of c.args.hubs.now.items c.args.feeds.now.items subscriptions) c.push.new.self.items h pushed c.requires.named s

@@ -14,7 +14,7 @@ returns-clause-stands g c = λ m hubs feeds h s.
       many = s.many;
       each = s.each;
       hub = s.hub;
-      all = AllStand-set m s.taken cancelled subs h.pasts c.args.sub.0 old c.cancel.new.self within (sym c.index_mut-subscription.ensures.value) (λ p k. c.cancel.ensures.stands m s.taken p k) s.all;
+      all = AllStand-set g.N.Machine m s.taken cancelled subs h.pasts c.args.sub.0 old c.cancel.new.self within (sym c.index_mut-subscription.ensures.value) (λ p k. c.cancel.ensures.stands m s.taken p k) s.all;
     }
 
 pub returns-clause-effect : goal.returns-clause-effect

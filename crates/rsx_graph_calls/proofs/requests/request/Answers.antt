@@ -15,7 +15,7 @@ returns-clause-stands g c = λ m hubs feeds h s.
       many = s.many;
       each = s.each;
       hub = s.hub;
-      all = AllStand-set m s.taken (requested c.args.n) subs h.pasts c.args.sub.0 old c.request.new.self within (sym c.index_mut-subscription.ensures.value)
+      all = AllStand-set g.N.Machine m s.taken (requested c.args.n) subs h.pasts c.args.sub.0 old c.request.new.self within (sym c.index_mut-subscription.ensures.value)
           (λ p k. let q = c.request.ensures.stands m s.taken p k in rw (to_z-of_z w64 c.args.n c.ranges.n) at q) s.all;
     }
 

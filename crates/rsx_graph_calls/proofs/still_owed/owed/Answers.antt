@@ -11,7 +11,7 @@ returns-in_default g c = record {
       let m = g.O.Ops.meaning c.args.ops.now in
       let within : c.args.sub.0 < length c.args.subscriptions.now = omega (arith, c.if-at-subscriptions.false) in
       let none : c.new-in_default.result ≡ ended_by Open = ended_value c.new-in_default.result Open (c.new-in_default.ensures.items ∙ c.new.ensures.items) c.new-in_default.ensures.ending in
-      (owed_nothing m (rows_of c.args.hubs.now c.args.feeds.now c.args.subscriptions.now) h c.args.sub c.index-subscriptions-at.result c.new-in_default.result within (sym c.index-subscriptions-at.is) (λ o. c.in_default.not-Open (c.standing.ensures ∙ o)) none s);
+      (owed_nothing g.N.Machine (λ m. (g.met.N.Machine.settles m, g.met.N.Machine.ending_waits m, g.met.N.Nodes.rests m)) m (rows_of c.args.hubs.now c.args.feeds.now c.args.subscriptions.now) h c.args.sub c.index-subscriptions-at.result c.new-in_default.result within (sym c.index-subscriptions-at.is) (λ o. c.in_default.not-Open (c.standing.ensures ∙ o)) none s);
   err = tt;
 }
 
@@ -21,6 +21,6 @@ returns-in-Ok-owed-clause-owes g c = λ h s.
     let within : c.args.sub.0 < length c.args.subscriptions.now = omega (arith, c.if-at-subscriptions.false) in
     let sub = c.index-subscriptions-at.result in
     let o = sym c.standing.ensures ∙ c.in-Open.is in
-    let W : List (Stream _) → Type 0 = λ l. IsStillOwed m l c.index-subscriptions-at.result c.in-Ok-owed.value in
-    let owes : IsStillOwed m c.in-Ok.to_come.items c.index-subscriptions-at.result c.in-Ok-owed.value = subst W c.deref.ensures.value c.in-Ok-owed.ensures in
-    owed_there m (rows_of c.args.hubs.now c.args.feeds.now c.args.subscriptions.now) h c.args.sub sub c.in-Ok-owed.value c.in-Ok.to_come.items within (sym c.index-subscriptions-at.is) o c.in-Ok.ensures owes s
+    let W : List (Stream _) → Type 0 = λ l. IsStillOwed g.N.Machine m l c.index-subscriptions-at.result c.in-Ok-owed.value in
+    let owes : IsStillOwed g.N.Machine m c.in-Ok.to_come.items c.index-subscriptions-at.result c.in-Ok-owed.value = subst W c.deref.ensures.value c.in-Ok-owed.ensures in
+    owed_there g.N.Machine (λ m. (g.met.N.Machine.settles m, g.met.N.Machine.ending_waits m, g.met.N.Nodes.rests m)) m (rows_of c.args.hubs.now c.args.feeds.now c.args.subscriptions.now) h c.args.sub sub c.in-Ok-owed.value c.in-Ok.to_come.items within (sym c.index-subscriptions-at.is) o c.in-Ok.ensures owes s

@@ -20,11 +20,11 @@ returns-in-Some g c =
     let x = c.index-feeds-at.result in
     let place = sym c.place_of.ensures ∙ c.in-Some.is in
     let there = slice_get_read fs (length fs) c.in-Some.at x refl (feed_placed fs n c.in-Some.at place).within c.index-feeds-at.is in
-    let P : Option (Feed _) → Type 0 = λ o. IfOk c.residual.result (λ v. IsToCome (g.O.Ops.meaning c.args.ops.now) c.args.before.now c.args.hub.now o v) in
-    let R : Feed _ → Type 0 = λ f. IfOk c.residual.result (λ v. IsPartResidual (g.O.Ops.meaning c.args.ops.now) c.args.before.now f.part v) in
+    let P : Option (Feed _) → Type 0 = λ o. IfOk c.residual.result (λ v. IsToCome g.N.Machine (g.O.Ops.meaning c.args.ops.now) c.args.before.now c.args.hub.now o v) in
+    let R : Feed _ → Type 0 = λ f. IfOk c.residual.result (λ v. IsPartResidual g.N.Machine (g.O.Ops.meaning c.args.ops.now) c.args.before.now f.part v) in
     subst P (sym (placed_feed fs n c.in-Some.at x place there)) (subst R (sym c.index-feeds-at.is) c.residual.ensures)
 
 pub returns-in-None : goal.returns-in-None
 returns-in-None g c =
-    let P : Option (Feed _) → Type 0 = λ o. IfOk c.inbox.result (λ v. IsToCome (g.O.Ops.meaning c.args.ops.now) c.args.before.now c.args.hub.now o v) in
+    let P : Option (Feed _) → Type 0 = λ o. IfOk c.inbox.result (λ v. IsToCome g.N.Machine (g.O.Ops.meaning c.args.ops.now) c.args.before.now c.args.hub.now o v) in
     subst P (sym (unfed_there c.args.feeds.now (length c.args.before.now) (sym c.place_of.ensures ∙ c.in-None.is))) c.inbox.ensures

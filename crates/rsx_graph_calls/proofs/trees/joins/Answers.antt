@@ -10,7 +10,7 @@ pub returns-in-Ok-clause-joins : goal.returns-in-Ok-clause-joins
 returns-in-Ok-clause-joins g c = λ m subs h s j.
     let P : Tree → Type 0 = λ t. HasTreeJoins h t c.in-Ok.joins.items in
     subst P (sym c.in-Feed.is)
-    (fed_joins m (rows_of c.args.hubs.now c.args.feeds.now subs) (map (λ js. js.items) c.args.sub_joins.now) (map (λ js. js.items) c.args.feed_joins.now) h c.in-Feed.hub.0 c.in-Ok.joins.items c.in-Ok.ensures.known c.in-Ok.ensures.joins s j)
+    (fed_joins g.N.Machine m (rows_of c.args.hubs.now c.args.feeds.now subs) (map (λ js. js.items) c.args.sub_joins.now) (map (λ js. js.items) c.args.feed_joins.now) h c.in-Feed.hub.0 c.in-Ok.joins.items c.in-Ok.ensures.known c.in-Ok.ensures.joins s j)
 
 pub returns-in-Err-clause-err : goal.returns-in-Err-clause-err
 returns-in-Err-clause-err g c = λ subs.

@@ -6,7 +6,7 @@ use Rattle.rsx_graph_calls.proofs.trees.notes.Goals as goal
 
 pub returns-in-Ok-clause-notes : goal.returns-in-Ok-clause-notes
 returns-in-Ok-clause-notes g c =
-    let P : Tree → Type 0 = λ t. HasNotes (rows_of c.args.hubs.now c.args.feeds.now c.args.subscriptions.now) t c.in-Ok.notes.items in
+    let P : Tree → Type 0 = λ t. HasNotes g.N.Machine (rows_of c.args.hubs.now c.args.feeds.now c.args.subscriptions.now) t c.in-Ok.notes.items in
     subst P (sym c.in-Feed.is) (c.in-Ok.ensures.notes c.args.subscriptions.now)
 
 pub returns-in-Err-clause-err : goal.returns-in-Err-clause-err

@@ -10,7 +10,7 @@ loop-made-init g c = record {
   hubs = refl;
   feeds = refl;
   subscriptions = refl;
-  so_far = so_far_none (g.O.Ops.meaning c.args.ops.now) (rows_of c.args.hubs.now.items c.args.feeds.now.items c.args.subscriptions.now.items) [];
+  so_far = so_far_none g.N.Machine g.N.Nodes (g.O.Ops.meaning c.args.ops.now) (rows_of c.args.hubs.now.items c.args.feeds.now.items c.args.subscriptions.now.items) [];
   first = λ l _. absurd (omega (arith, l));
 }
 
@@ -31,7 +31,7 @@ returns-in-Err-clause-served g c =
     let n = s.count in
     let l = c.loop-made-test.true in
     let e = c.in-Err.ensures.same in
-    (s.moves, (omega (arith, n, l), refl), made_still m first before after s.moves (rows_same before after e.0 e.1 e.2) s.made, sym s.output)
+    (s.moves, (omega (arith, n, l), refl), made_still g.N.Machine g.N.Nodes m first before after s.moves (rows_same before after e.0 e.1 e.2) s.made, sym s.output)
 
 pub loop-made-preserved : goal.loop-made-preserved
 loop-made-preserved g c = record {
@@ -46,12 +46,12 @@ loop-made-preserved g c = record {
       let k = c.in-Ok.ensures in
       let o = c.in-Ok.field-0 in
       let F : Option (SubId × Signal g.row.O-Item.Denot) → _ = λ x. option_to_list x ++ [] in
-      so_far_taken m first before after [] [] c.loop-made.made _ c.loop-made.invariant.so_far (made_one m c.in-Some.step o before after k.enabled k.effect k.answer k.stands) (ap F (c.in-Some.ensures.still o k.answer));
+      so_far_taken g.N.Machine g.N.Nodes m first before after [] [] c.loop-made.made _ c.loop-made.invariant.so_far (made_one g.N.Machine g.N.Nodes m c.in-Some.step o before after k.enabled k.effect k.answer k.stands) (ap F (c.in-Some.ensures.still o k.answer));
   first = λ _ q.
       let m = g.O.Ops.meaning c.args.ops.now in
       let first = rows_of c.args.hubs.now.items c.args.feeds.now.items c.args.subscriptions.now.items in
       let before = rows_of c.loop-made.hubs.items c.loop-made.feeds.items c.loop-made.subscriptions.items in
-      could_first m first before [] [] c.loop-made.made c.args.hub.0 c.loop-made.invariant.so_far c.loop-made.invariant.first (c.in-Some.ensures.own m) q;
+      could_first g.N.Machine g.N.Nodes m first before [] [] c.loop-made.made c.args.hub.0 c.loop-made.invariant.so_far c.loop-made.invariant.first (c.in-Some.ensures.own m) q;
 }
 
 pub returns-in-Some-first_move-clause-served : goal.returns-in-Some-first_move-clause-served
@@ -75,25 +75,25 @@ returns-in_default-clause-none g c = λ q.
     let m = g.O.Ops.meaning c.args.ops.now in
     let first = rows_of c.args.hubs.now.items c.args.feeds.now.items c.args.subscriptions.now.items in
     let before = rows_of c.loop-made.hubs.items c.loop-made.feeds.items c.loop-made.subscriptions.items in
-    (untouched m first before [] [] c.loop-made.made c.args.hub.0 c.loop-made.invariant.so_far c.loop-made.invariant.first q, refl)
+    (untouched g.N.Machine g.N.Nodes m first before [] [] c.loop-made.made c.args.hub.0 c.loop-made.invariant.so_far c.loop-made.invariant.first q, refl)
 
 pub returns-in-Some-first_move-clause-none : goal.returns-in-Some-first_move-clause-none
 returns-in-Some-first_move-clause-none g c = λ q.
     let m = g.O.Ops.meaning c.args.ops.now in
     let first = rows_of c.args.hubs.now.items c.args.feeds.now.items c.args.subscriptions.now.items in
     let before = rows_of c.loop-made.hubs.items c.loop-made.feeds.items c.loop-made.subscriptions.items in
-    (untouched m first before [] [] c.loop-made.made c.args.hub.0 c.loop-made.invariant.so_far c.loop-made.invariant.first q, refl)
+    (untouched g.N.Machine g.N.Nodes m first before [] [] c.loop-made.made c.args.hub.0 c.loop-made.invariant.so_far c.loop-made.invariant.first q, refl)
 
 pub returns-in-None-clause-none : goal.returns-in-None-clause-none
 returns-in-None-clause-none g c = λ q.
     let m = g.O.Ops.meaning c.args.ops.now in
     let first = rows_of c.args.hubs.now.items c.args.feeds.now.items c.args.subscriptions.now.items in
     let before = rows_of c.loop-made.hubs.items c.loop-made.feeds.items c.loop-made.subscriptions.items in
-    (untouched m first before [] [] c.loop-made.made c.args.hub.0 c.loop-made.invariant.so_far c.loop-made.invariant.first q, refl)
+    (untouched g.N.Machine g.N.Nodes m first before [] [] c.loop-made.made c.args.hub.0 c.loop-made.invariant.so_far c.loop-made.invariant.first q, refl)
 
 pub returns-in-Err-clause-none : goal.returns-in-Err-clause-none
 returns-in-Err-clause-none g c = λ q.
     let m = g.O.Ops.meaning c.args.ops.now in
     let first = rows_of c.args.hubs.now.items c.args.feeds.now.items c.args.subscriptions.now.items in
     let before = rows_of c.loop-made.hubs.items c.loop-made.feeds.items c.loop-made.subscriptions.items in
-    absurd (could_first m first before [] [] c.loop-made.made c.args.hub.0 c.loop-made.invariant.so_far c.loop-made.invariant.first (c.in-Some.ensures.own m) q)
+    absurd (could_first g.N.Machine g.N.Nodes m first before [] [] c.loop-made.made c.args.hub.0 c.loop-made.invariant.so_far c.loop-made.invariant.first (c.in-Some.ensures.own m) q)

@@ -9,6 +9,6 @@ invariant-loop-made g l = record {
   hubs : length l.hubs.items ≡ length l.fn.hubs.items;
   feeds : length l.feeds.items ≡ length l.fn.feeds.items;
   subscriptions : length l.subscriptions.items ≡ length l.fn.subscriptions.items;
-  so_far : SoFar (g.O.Ops.meaning l.ops) (rows_of l.fn.hubs.items l.fn.feeds.items l.fn.subscriptions.items) [] l.made (rows_of l.hubs.items l.feeds.items l.subscriptions.items) [];
-  first : 0 < l.made → IsHubQuiet (g.O.Ops.meaning l.ops) (rows_of l.fn.hubs.items l.fn.feeds.items l.fn.subscriptions.items) l.fn.hub.0 → ⊥;
+  so_far : SoFar g.N.Machine g.N.Nodes (g.O.Ops.meaning l.ops) (rows_of l.fn.hubs.items l.fn.feeds.items l.fn.subscriptions.items) [] l.made (rows_of l.hubs.items l.feeds.items l.subscriptions.items) [];
+  first : 0 < l.made → IsHubQuiet g.N.Machine (g.O.Ops.meaning l.ops) (rows_of l.fn.hubs.items l.fn.feeds.items l.fn.subscriptions.items) l.fn.hub.0 → ⊥;
 }

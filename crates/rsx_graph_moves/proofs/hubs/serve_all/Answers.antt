@@ -1,6 +1,6 @@
 use Rattle.std.proofs.Common.{◌+◌, ◌≤◌, ◌∙◌, [], arith, length, refl, sym}
 use Rattle.rsx_graph_state.specs.Moves.{rows_of}
-use Rattle.rsx_graph_moves.proofs.Driving.{all_hubs_quiet, hubs_quiet_on, none_made, so_far_none, so_far_taken, still_quiet}
+use Rattle.rsx_graph_moves.proofs.Driving.{all_hubs_quiet, hubs_quiet_on, none_made, so_far_none, so_far_taken, spent_all, still_quiet}
 use Rattle.rsx_graph_moves.proofs.hubs.serve_all.Goals as goal
 
 pub loop-at-init : goal.loop-at-init
@@ -8,7 +8,7 @@ loop-at-init g c = record {
   hubs = refl;
   feeds = refl;
   subscriptions = refl;
-  so_far = (0, omega arith, so_far_none (g.O.Ops.meaning c.args.ops.now) (rows_of c.args.hubs.now.items c.args.feeds.now.items c.args.subscriptions.now.items) []);
+  so_far = (0, omega arith, so_far_none g.N.Machine g.N.Nodes (g.O.Ops.meaning c.args.ops.now) (rows_of c.args.hubs.now.items c.args.feeds.now.items c.args.subscriptions.now.items) []);
   none = λ _ i l. absurd (omega (arith, l));
   still = λ _. refl;
 }
@@ -29,9 +29,9 @@ loop-at-preserved g c =
       hubs = c.serve.ensures.hubs ∙ c.loop-at.invariant.hubs;
       feeds = c.serve.ensures.feeds ∙ c.loop-at.invariant.feeds;
       subscriptions = c.serve.ensures.subscriptions ∙ c.loop-at.invariant.subscriptions;
-      so_far = (s.0 + length p.0, omega (arith, n, k), so_far_taken m first before after [] [] s.0 p.0 s.2 p.2 p.3);
-      none = λ e. hubs_quiet_on m before after c.loop-at.at (none_made m before after p.0 (omega (arith, n, k, e)) p.2) (c.loop-at.invariant.none (omega (arith, n, k, e))) p.1.1;
-      still = λ q. (c.serve.ensures.none (still_quiet m first before c.loop-at.at (length c.args.hubs.now.items) (omega (arith, less, many)) (c.loop-at.invariant.still q) q)).0 ∙ c.loop-at.invariant.still q;
+      so_far = (s.0 + length p.0, omega (arith, n, k), so_far_taken g.N.Machine g.N.Nodes m first before after [] [] s.0 p.0 s.2 p.2 p.3);
+      none = λ e. hubs_quiet_on g.N.Machine m before after c.loop-at.at (none_made g.N.Machine g.N.Nodes m before after p.0 (omega (arith, n, k, e)) p.2) (c.loop-at.invariant.none (omega (arith, n, k, e))) p.1.1;
+      still = λ q. (c.serve.ensures.none (still_quiet g.N.Machine m first before c.loop-at.at (length c.args.hubs.now.items) (omega (arith, less, many)) (c.loop-at.invariant.still q) q)).0 ∙ c.loop-at.invariant.still q;
     }
 
 pub returns-in-Ok-Budget-clause-served : goal.returns-in-Ok-Budget-clause-served
@@ -41,12 +41,9 @@ returns-in-Ok-Budget-clause-served g c =
     let before = rows_of c.loop-at.hubs.items c.loop-at.feeds.items c.loop-at.subscriptions.items in
     let after = rows_of c.serve.new.hubs.items c.serve.new.feeds.items c.serve.new.subscriptions.items in
     let s = c.loop-at.invariant.so_far in
-    let n = s.1 in
     let p = rw c.in-Ok-Budget.field-0-is at c.in-Ok-Budget.ensures.served in
-    let k = p.1.0 in
-    let all = so_far_taken m first before after [] [] s.0 p.0 s.2 p.2 p.3 in
-    let count = all.count in
-    (all.moves, (omega (arith, n, k, count), p.1.1), all.made, sym all.output)
+    let all = so_far_taken g.N.Machine g.N.Nodes m first before after [] [] s.0 p.0 s.2 p.2 p.3 in
+    (all.moves, (spent_all s.0 c.loop-at.left c.args.budget (length p.0) (length all.moves) s.1 p.1.0 all.count, p.1.1), all.made, sym all.output)
 
 pub returns-in-Err-clause-served : goal.returns-in-Err-clause-served
 returns-in-Err-clause-served g c =
@@ -58,7 +55,7 @@ returns-in-Err-clause-served g c =
     let n = s.1 in
     let p = c.in-Err.ensures.served in
     let k = p.1.0 in
-    let all = so_far_taken m first before after [] [] s.0 p.0 s.2 p.2 p.3 in
+    let all = so_far_taken g.N.Machine g.N.Nodes m first before after [] [] s.0 p.0 s.2 p.2 p.3 in
     let count = all.count in
     (all.moves, (omega (arith, n, k, count), p.1.1), all.made, sym all.output)
 
@@ -70,7 +67,7 @@ returns-clause-served g c =
     let n = s.1 in
     let count = s.2.count in
     let all : length c.loop-at.hubs.items ≤ c.loop-at.at = let l = c.len-count.ensures in let k = c.loop-at.invariant.hubs in let t = c.loop-at-test.false in omega (arith, l, k, t) in
-    (s.2.moves, (omega (arith, n, count), λ e. all_hubs_quiet m now c.loop-at.at all (c.loop-at.invariant.none e)), s.2.made, sym s.2.output)
+    (s.2.moves, (omega (arith, n, count), λ e. all_hubs_quiet g.N.Machine m now c.loop-at.at all (c.loop-at.invariant.none e)), s.2.made, sym s.2.output)
 
 pub returns-in-Ok-Budget-clause-none : goal.returns-in-Ok-Budget-clause-none
 returns-in-Ok-Budget-clause-none g c = λ q.
@@ -79,7 +76,7 @@ returns-in-Ok-Budget-clause-none g c = λ q.
     let before = rows_of c.loop-at.hubs.items c.loop-at.feeds.items c.loop-at.subscriptions.items in
     let less = c.loop-at-test.true in
     let many = c.len-count.ensures in
-    let e = c.serve.ensures.none (still_quiet m first before c.loop-at.at (length c.args.hubs.now.items) (omega (arith, less, many)) (c.loop-at.invariant.still q) q) in
+    let e = c.serve.ensures.none (still_quiet g.N.Machine m first before c.loop-at.at (length c.args.hubs.now.items) (omega (arith, less, many)) (c.loop-at.invariant.still q) q) in
     (e.0 ∙ c.loop-at.invariant.still q, refl)
 
 pub returns-in-Err-clause-none : goal.returns-in-Err-clause-none
@@ -89,7 +86,7 @@ returns-in-Err-clause-none g c = λ q.
     let before = rows_of c.loop-at.hubs.items c.loop-at.feeds.items c.loop-at.subscriptions.items in
     let less = c.loop-at-test.true in
     let many = c.len-count.ensures in
-    let e = c.in-Err.ensures.none (still_quiet m first before c.loop-at.at (length c.args.hubs.now.items) (omega (arith, less, many)) (c.loop-at.invariant.still q) q) in
+    let e = c.in-Err.ensures.none (still_quiet g.N.Machine m first before c.loop-at.at (length c.args.hubs.now.items) (omega (arith, less, many)) (c.loop-at.invariant.still q) q) in
     (e.0 ∙ c.loop-at.invariant.still q, e.1)
 
 pub returns-clause-none : goal.returns-clause-none

@@ -9,7 +9,7 @@ invariant-loop-at g l = record {
   hubs : length l.hubs.items ≡ length l.fn.hubs.items;
   feeds : length l.feeds.items ≡ length l.fn.feeds.items;
   subscriptions : length l.subscriptions.items ≡ length l.fn.subscriptions.items;
-  so_far : (n : ℕ) × (n + l.left ≡ l.fn.budget) × SoFar (g.O.Ops.meaning l.ops) (rows_of l.fn.hubs.items l.fn.feeds.items l.fn.subscriptions.items) [] n (rows_of l.hubs.items l.feeds.items l.subscriptions.items) [];
-  none : l.left ≡ l.fn.budget → AreHubsQuiet (g.O.Ops.meaning l.ops) (rows_of l.hubs.items l.feeds.items l.subscriptions.items) l.at;
-  still : AreHubsQuiet (g.O.Ops.meaning l.ops) (rows_of l.fn.hubs.items l.fn.feeds.items l.fn.subscriptions.items) (length l.fn.hubs.items) → rows_of l.hubs.items l.feeds.items l.subscriptions.items ≡ rows_of l.fn.hubs.items l.fn.feeds.items l.fn.subscriptions.items;
+  so_far : (n : ℕ) × (n + l.left ≡ l.fn.budget) × SoFar g.N.Machine g.N.Nodes (g.O.Ops.meaning l.ops) (rows_of l.fn.hubs.items l.fn.feeds.items l.fn.subscriptions.items) [] n (rows_of l.hubs.items l.feeds.items l.subscriptions.items) [];
+  none : l.left ≡ l.fn.budget → AreHubsQuiet g.N.Machine (g.O.Ops.meaning l.ops) (rows_of l.hubs.items l.feeds.items l.subscriptions.items) l.at;
+  still : AreHubsQuiet g.N.Machine (g.O.Ops.meaning l.ops) (rows_of l.fn.hubs.items l.fn.feeds.items l.fn.subscriptions.items) (length l.fn.hubs.items) → rows_of l.hubs.items l.feeds.items l.subscriptions.items ≡ rows_of l.fn.hubs.items l.fn.feeds.items l.fn.subscriptions.items;
 }

@@ -21,11 +21,11 @@ returns-in-Some g c =
     let f = c.index.result.now in
     let placed = place_is c.args.hub.0 feeds c.deref.result.now c.place_of.result _ c.deref.ensures.value c.place_of.ensures c.in-Some.is in
     let here = found feeds c.in-Some.at f (feed_placed feeds c.args.hub.0 c.in-Some.at placed).within (sym c.index.ensures) in
-    let way = c.route-route.ensures ∙ ap (λ n. route f.part n) c.node_of.ensures in
-    c.node_move.ensures ∙ (ap (λ r. node_move r c.args.step) way ∙ sym (ap (λ o. move_in o c.args.step) (placed_feed feeds c.args.hub.0 c.in-Some.at f placed here)))
+    let way = c.route-route.ensures ∙ ap (λ n. route g.N.Nodes f.part n) c.node_of.ensures in
+    c.node_move.ensures ∙ (ap (λ r. node_move r c.args.step) way ∙ sym (ap (λ o. move_in g.N.Nodes o c.args.step) (placed_feed feeds c.args.hub.0 c.in-Some.at f placed here)))
 
 pub returns-in-None : goal.returns-in-None
 returns-in-None g c =
     let feeds = c.args.feeds.now.items in
     let none = place_is c.args.hub.0 feeds c.deref.result.now c.place_of.result _ c.deref.ensures.value c.place_of.ensures c.in-None.is in
-    sym (ap (λ o. move_in o c.args.step) (unfed_there feeds c.args.hub.0 none))
+    sym (ap (λ o. move_in g.N.Nodes o c.args.step) (unfed_there feeds c.args.hub.0 none))

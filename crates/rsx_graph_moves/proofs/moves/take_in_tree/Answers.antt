@@ -7,12 +7,12 @@ use Rattle.rsx_graph_moves.proofs.moves.take_in_tree.Goals as goal
 pub returns-in-Ok-take-clause-effect : goal.returns-in-Ok-take-clause-effect
 returns-in-Ok-take-clause-effect g c =
     let m = g.O.Ops.meaning c.args.ops.now in
-    let P : Move → Type 0 = λ mv. IsMadeAt m mv c.args.sub.0 c.args.subscriptions.now.items c.take.new.subscriptions.items (Some (c.args.sub, c.in-Ok-take.signal)) in
+    let P : Move → Type 0 = λ mv. IsMadeAt g.N.Machine g.N.Nodes m mv c.args.sub.0 c.args.subscriptions.now.items c.take.new.subscriptions.items (Some (c.args.sub, c.in-Ok-take.signal)) in
     subst P (root_take c.args.sub c.args.node (omega (arith, c.if-node-gt0.false))) (c.in-Ok-take.ensures.effect m)
 
 pub returns-in-Err-take-clause-err : goal.returns-in-Err-take-clause-err
 returns-in-Err-take-clause-err g c =
     let m = g.O.Ops.meaning c.args.ops.now in
     let subs = c.args.subscriptions.now.items in
-    let P : Move → Type 0 = λ mv. IsSubMoveRefusal (length subs) (enabled_at m subs c.args.sub.0 mv) c.args.sub c.in-Err-take.why in
+    let P : Move → Type 0 = λ mv. IsSubMoveRefusal (length subs) (enabled_at g.N.Machine g.N.Nodes m subs c.args.sub.0 mv) c.args.sub c.in-Err-take.why in
     subst P (root_take c.args.sub c.args.node (omega (arith, c.if-node-gt0.false))) (c.in-Err-take.ensures.err m)

@@ -10,8 +10,8 @@ rounds-init g c = record {
   hubs = refl;
   feeds = refl;
   subscriptions = refl;
-  so_far = (0, omega arith, so_far_none (g.O.Ops.meaning c.args.ops.now) (rows_of c.args.hubs.now.items c.args.feeds.now.items c.args.subscriptions.now.items) c.args.out.now.signals);
-  free = λ f unfed. let a = pump_allocates (g.O.Ops.allocates c.args.ops.now) c.args.subscriptions.now.items in let w = signals_wait c.args.hubs.now.items in (or_left a w f, or_right a w f, unfed);
+  so_far = (0, omega arith, so_far_none g.N.Machine g.N.Nodes (g.O.Ops.meaning c.args.ops.now) (rows_of c.args.hubs.now.items c.args.feeds.now.items c.args.subscriptions.now.items) c.args.out.now.signals);
+  free = λ f unfed. let a = pump_allocates g.N.Machine (g.O.Ops.allocates c.args.ops.now) c.args.subscriptions.now.items in let w = signals_wait c.args.hubs.now.items in (or_left a w f, or_right a w f, unfed);
 }
 
 pub returns-in-Ok-Budget-clause-pumped : goal.returns-in-Ok-Budget-clause-pumped
@@ -19,14 +19,14 @@ returns-in-Ok-Budget-clause-pumped g c =
     let m = g.O.Ops.meaning c.args.ops.now in
     let first = rows_of c.args.hubs.now.items c.args.feeds.now.items c.args.subscriptions.now.items in
     let before = rows_of c.rounds.hubs.items c.rounds.feeds.items c.rounds.subscriptions.items in
-    drives_on m c.args.budget c.rounds.left first c.args.out.now before c.rounds.out c.drive.new.out c.drive.new.subscriptions.items c.rounds.invariant.so_far (rw c.in-Ok-Budget.field-0-is at c.in-Ok-Budget.ensures.driven)
+    drives_on g.N.Machine g.N.Nodes m c.args.budget c.rounds.left first c.args.out.now before c.rounds.out c.drive.new.out c.drive.new.subscriptions.items c.rounds.invariant.so_far (rw c.in-Ok-Budget.field-0-is at c.in-Ok-Budget.ensures.driven)
 
 pub returns-in-Err-clause-pumped : goal.returns-in-Err-clause-pumped
 returns-in-Err-clause-pumped g c =
     let m = g.O.Ops.meaning c.args.ops.now in
     let first = rows_of c.args.hubs.now.items c.args.feeds.now.items c.args.subscriptions.now.items in
     let before = rows_of c.rounds.hubs.items c.rounds.feeds.items c.rounds.subscriptions.items in
-    drives_refused m c.args.budget c.rounds.left first c.args.out.now before c.rounds.out c.drive.new.out c.drive.new.subscriptions.items c.in-Err.why c.rounds.invariant.so_far c.in-Err.ensures.driven
+    drives_refused g.N.Machine g.N.Nodes m c.args.budget c.rounds.left first c.args.out.now before c.rounds.out c.drive.new.out c.drive.new.subscriptions.items c.in-Err.why c.rounds.invariant.so_far c.in-Err.ensures.driven
 
 pub returns-in-Ok-Budget-serve_all-clause-pumped : goal.returns-in-Ok-Budget-serve_all-clause-pumped
 returns-in-Ok-Budget-serve_all-clause-pumped g c =
@@ -35,8 +35,8 @@ returns-in-Ok-Budget-serve_all-clause-pumped g c =
     let before = rows_of c.rounds.hubs.items c.rounds.feeds.items c.rounds.subscriptions.items in
     let mid = rows_of c.rounds.hubs.items c.rounds.feeds.items c.drive.new.subscriptions.items in
     let after = rows_of c.serve_all.new.hubs.items c.serve_all.new.feeds.items c.serve_all.new.subscriptions.items in
-    let d = drives m c.args.budget c.rounds.left c.in-Ok-Idle.rested first c.args.out.now before c.rounds.out c.drive.new.out c.drive.new.subscriptions.items c.rounds.invariant.so_far (rw c.in-Ok-Idle.field-0-is at c.in-Ok-Idle.ensures.driven) in
-    serves_on m c.args.budget c.in-Ok-Idle.rested first c.args.out.now mid after c.drive.new.out d (rw c.in-Ok-Budget-serve_all.field-0-is at c.in-Ok-Budget-serve_all.ensures.served)
+    let d = drives g.N.Machine g.N.Nodes m c.args.budget c.rounds.left c.in-Ok-Idle.rested first c.args.out.now before c.rounds.out c.drive.new.out c.drive.new.subscriptions.items c.rounds.invariant.so_far (rw c.in-Ok-Idle.field-0-is at c.in-Ok-Idle.ensures.driven) in
+    serves_on g.N.Machine g.N.Nodes m c.args.budget c.in-Ok-Idle.rested first c.args.out.now mid after c.drive.new.out d (rw c.in-Ok-Budget-serve_all.field-0-is at c.in-Ok-Budget-serve_all.ensures.served)
 
 pub returns-in-Err-serve_all-clause-pumped : goal.returns-in-Err-serve_all-clause-pumped
 returns-in-Err-serve_all-clause-pumped g c =
@@ -45,8 +45,8 @@ returns-in-Err-serve_all-clause-pumped g c =
     let before = rows_of c.rounds.hubs.items c.rounds.feeds.items c.rounds.subscriptions.items in
     let mid = rows_of c.rounds.hubs.items c.rounds.feeds.items c.drive.new.subscriptions.items in
     let after = rows_of c.serve_all.new.hubs.items c.serve_all.new.feeds.items c.serve_all.new.subscriptions.items in
-    let d = drives m c.args.budget c.rounds.left c.in-Ok-Idle.rested first c.args.out.now before c.rounds.out c.drive.new.out c.drive.new.subscriptions.items c.rounds.invariant.so_far (rw c.in-Ok-Idle.field-0-is at c.in-Ok-Idle.ensures.driven) in
-    serves_refused m c.args.budget c.in-Ok-Idle.rested first c.args.out.now mid after c.drive.new.out c.in-Err-serve_all.why d c.in-Err-serve_all.ensures.served
+    let d = drives g.N.Machine g.N.Nodes m c.args.budget c.rounds.left c.in-Ok-Idle.rested first c.args.out.now before c.rounds.out c.drive.new.out c.drive.new.subscriptions.items c.rounds.invariant.so_far (rw c.in-Ok-Idle.field-0-is at c.in-Ok-Idle.ensures.driven) in
+    serves_refused g.N.Machine g.N.Nodes m c.args.budget c.in-Ok-Idle.rested first c.args.out.now mid after c.drive.new.out c.in-Err-serve_all.why d c.in-Err-serve_all.ensures.served
 
 pub returns-then-left-rested-clause-pumped : goal.returns-then-left-rested-clause-pumped
 returns-then-left-rested-clause-pumped g c =
@@ -55,16 +55,16 @@ returns-then-left-rested-clause-pumped g c =
     let before = rows_of c.rounds.hubs.items c.rounds.feeds.items c.rounds.subscriptions.items in
     let mid = rows_of c.rounds.hubs.items c.rounds.feeds.items c.drive.new.subscriptions.items in
     let after = rows_of c.serve_all.new.hubs.items c.serve_all.new.feeds.items c.serve_all.new.subscriptions.items in
-    let d = drives m c.args.budget c.rounds.left c.in-Ok-Idle.rested first c.args.out.now before c.rounds.out c.drive.new.out c.drive.new.subscriptions.items c.rounds.invariant.so_far (rw c.in-Ok-Idle.field-0-is at c.in-Ok-Idle.ensures.driven) in
-    is_idle m c.args.budget c.in-Ok-Idle.rested c.in-Ok-Idle-serve_all.behind first c.args.out.now mid after c.drive.new.out d (rw c.in-Ok-Idle-serve_all.field-0-is at c.in-Ok-Idle-serve_all.ensures.served) c.if-left-rested.true
+    let d = drives g.N.Machine g.N.Nodes m c.args.budget c.rounds.left c.in-Ok-Idle.rested first c.args.out.now before c.rounds.out c.drive.new.out c.drive.new.subscriptions.items c.rounds.invariant.so_far (rw c.in-Ok-Idle.field-0-is at c.in-Ok-Idle.ensures.driven) in
+    is_idle g.N.Machine g.N.Nodes m c.args.budget c.in-Ok-Idle.rested c.in-Ok-Idle-serve_all.behind first c.args.out.now mid after c.drive.new.out d (rw c.in-Ok-Idle-serve_all.field-0-is at c.in-Ok-Idle-serve_all.ensures.served) c.if-left-rested.true
 
 pub rounds-smaller : goal.rounds-smaller
 rounds-smaller g c =
     let m = g.O.Ops.meaning c.args.ops.now in
     let mid = rows_of c.rounds.hubs.items c.rounds.feeds.items c.drive.new.subscriptions.items in
     let after = rows_of c.serve_all.new.hubs.items c.serve_all.new.feeds.items c.serve_all.new.subscriptions.items in
-    let p = rests m c.rounds.left c.in-Ok-Idle.rested c.rounds.subscriptions.items c.drive.new.subscriptions.items c.rounds.out c.drive.new.out (rw c.in-Ok-Idle.field-0-is at c.in-Ok-Idle.ensures.driven) in
-    let q = spends m c.in-Ok-Idle.rested c.in-Ok-Idle-serve_all.behind mid after (rw c.in-Ok-Idle-serve_all.field-0-is at c.in-Ok-Idle-serve_all.ensures.served) in
+    let p = rests g.N.Machine g.N.Nodes m c.rounds.left c.in-Ok-Idle.rested c.rounds.subscriptions.items c.drive.new.subscriptions.items c.rounds.out c.drive.new.out (rw c.in-Ok-Idle.field-0-is at c.in-Ok-Idle.ensures.driven) in
+    let q = spends g.N.Machine g.N.Nodes m c.in-Ok-Idle.rested c.in-Ok-Idle-serve_all.behind mid after (rw c.in-Ok-Idle-serve_all.field-0-is at c.in-Ok-Idle-serve_all.ensures.served) in
     let k = p.1 in
     let j = q.1 in
     let more = c.if-left-rested.false in
@@ -81,16 +81,16 @@ rounds-preserved g c = record {
       let before = rows_of c.rounds.hubs.items c.rounds.feeds.items c.rounds.subscriptions.items in
       let mid = rows_of c.rounds.hubs.items c.rounds.feeds.items c.drive.new.subscriptions.items in
       let after = rows_of c.serve_all.new.hubs.items c.serve_all.new.feeds.items c.serve_all.new.subscriptions.items in
-      let d = drives m c.args.budget c.rounds.left c.in-Ok-Idle.rested first c.args.out.now before c.rounds.out c.drive.new.out c.drive.new.subscriptions.items c.rounds.invariant.so_far (rw c.in-Ok-Idle.field-0-is at c.in-Ok-Idle.ensures.driven) in
-      serves m c.args.budget c.in-Ok-Idle.rested c.in-Ok-Idle-serve_all.behind first c.args.out.now mid after c.drive.new.out d (rw c.in-Ok-Idle-serve_all.field-0-is at c.in-Ok-Idle-serve_all.ensures.served);
+      let d = drives g.N.Machine g.N.Nodes m c.args.budget c.rounds.left c.in-Ok-Idle.rested first c.args.out.now before c.rounds.out c.drive.new.out c.drive.new.subscriptions.items c.rounds.invariant.so_far (rw c.in-Ok-Idle.field-0-is at c.in-Ok-Idle.ensures.driven) in
+      serves g.N.Machine g.N.Nodes m c.args.budget c.in-Ok-Idle.rested c.in-Ok-Idle-serve_all.behind first c.args.out.now mid after c.drive.new.out d (rw c.in-Ok-Idle-serve_all.field-0-is at c.in-Ok-Idle-serve_all.ensures.served);
   free = λ f unfed.
       let m = g.O.Ops.meaning c.args.ops.now in
       let a = g.O.Ops.allocates c.args.ops.now in
       let mid = rows_of c.rounds.hubs.items c.rounds.feeds.items c.drive.new.subscriptions.items in
       let k = c.rounds.invariant.free f unfed in
       let p = rw c.in-Ok-Idle.field-0-is at c.in-Ok-Idle.ensures.driven in
-      let still = (c.serve_all.ensures.none (nothing_waits m mid k.1 k.2 (length c.rounds.hubs.items))).0 in
-      (ap (λ g. pump_allocates a g.subs) still ∙ (p.2.alike a ∙ k.0), ap (λ g. signals_wait g.hubs) still ∙ k.1, ap (λ g. g.feeds) still ∙ k.2);
+      let still = (c.serve_all.ensures.none (nothing_waits g.N.Machine m mid k.1 k.2 (length c.rounds.hubs.items))).0 in
+      (ap (λ r. pump_allocates g.N.Machine a r.subs) still ∙ (p.2.alike a ∙ k.0), ap (λ g. signals_wait g.hubs) still ∙ k.1, ap (λ g. g.feeds) still ∙ k.2);
 }
 
 pub returns-in-Err-clause-memory : goal.returns-in-Err-clause-memory
@@ -101,7 +101,7 @@ returns-in-Err-serve_all-clause-memory g c = λ f unfed.
     let m = g.O.Ops.meaning c.args.ops.now in
     let mid = rows_of c.rounds.hubs.items c.rounds.feeds.items c.drive.new.subscriptions.items in
     let k = c.rounds.invariant.free f unfed in
-    let none = (c.in-Err-serve_all.ensures.none (nothing_waits m mid k.1 k.2 (length c.rounds.hubs.items))).1 in
+    let none = (c.in-Err-serve_all.ensures.none (nothing_waits g.N.Machine m mid k.1 k.2 (length c.rounds.hubs.items))).1 in
     cc
 
 pub returns-in-Ok-Budget-clause-hubs : goal.returns-in-Ok-Budget-clause-hubs

@@ -9,7 +9,7 @@ returns-in-Ok-Budget-clause-driven g c =
     let p = rw c.in-Ok-Budget.field-0-is at c.in-Ok-Budget.ensures.driven in
     let before = i.pumped.1 in
     let more = p.1.0 in
-    (i.pumped.0 + p.0, (omega (arith, before, more), p.1.1), pumped_on m i.pumped.0 p.0 c.args.subscriptions.now.items c.loop-at.subscriptions.items c.drive_one.new.subscriptions.items c.args.out.now.signals c.loop-at.out.signals c.drive_one.new.out.signals i.pumped.2 p.2)
+    (i.pumped.0 + p.0, (omega (arith, before, more), p.1.1), pumped_on g.N.Machine g.N.Nodes m i.pumped.0 p.0 c.args.subscriptions.now.items c.loop-at.subscriptions.items c.drive_one.new.subscriptions.items c.args.out.now.signals c.loop-at.out.signals c.drive_one.new.out.signals i.pumped.2 p.2)
 
 pub returns-in-Err-clause-driven : goal.returns-in-Err-clause-driven
 returns-in-Err-clause-driven g c =
@@ -18,7 +18,7 @@ returns-in-Err-clause-driven g c =
     let p = c.in-Err.ensures.driven in
     let before = i.pumped.1 in
     let more = p.1.0 in
-    (i.pumped.0 + p.0, (omega (arith, before, more), p.1.1), pumped_on m i.pumped.0 p.0 c.args.subscriptions.now.items c.loop-at.subscriptions.items c.drive_one.new.subscriptions.items c.args.out.now.signals c.loop-at.out.signals c.drive_one.new.out.signals i.pumped.2 p.2)
+    (i.pumped.0 + p.0, (omega (arith, before, more), p.1.1), pumped_on g.N.Machine g.N.Nodes m i.pumped.0 p.0 c.args.subscriptions.now.items c.loop-at.subscriptions.items c.drive_one.new.subscriptions.items c.args.out.now.signals c.loop-at.out.signals c.drive_one.new.out.signals i.pumped.2 p.2)
 
 pub loop-at-preserved : goal.loop-at-preserved
 loop-at-preserved g c =
@@ -29,7 +29,7 @@ loop-at-preserved g c =
     let more = p.1.0 in
     record {
       count = c.drive_one.ensures.count ∙ i.count;
-      pumped = (i.pumped.0 + p.0, omega (arith, before, more), pumped_on m i.pumped.0 p.0 c.args.subscriptions.now.items c.loop-at.subscriptions.items c.drive_one.new.subscriptions.items c.args.out.now.signals c.loop-at.out.signals c.drive_one.new.out.signals i.pumped.2 p.2);
+      pumped = (i.pumped.0 + p.0, omega (arith, before, more), pumped_on g.N.Machine g.N.Nodes m i.pumped.0 p.0 c.args.subscriptions.now.items c.loop-at.subscriptions.items c.drive_one.new.subscriptions.items c.args.out.now.signals c.loop-at.out.signals c.drive_one.new.out.signals i.pumped.2 p.2);
       quiet = p.1.1 i.quiet;
     }
 
@@ -39,7 +39,7 @@ returns-clause-driven g c =
     let m = g.O.Ops.meaning c.args.ops.now in
     let spent = i.pumped.1 in
     let all : length c.loop-at.subscriptions.items ≤ c.loop-at.at = let l = c.len-count.ensures in let n = i.count in let t = c.loop-at-test.false in omega (arith, l, n, t) in
-    (i.pumped.0, (omega (arith, spent), quiet_up_to m c.loop-at.subscriptions.items c.loop-at.at all i.quiet), i.pumped.2)
+    (i.pumped.0, (omega (arith, spent), quiet_up_to g.N.Machine m c.loop-at.subscriptions.items c.loop-at.at all i.quiet), i.pumped.2)
 
 pub returns-in-Err-clause-memory : goal.returns-in-Err-clause-memory
 returns-in-Err-clause-memory g c = λ free. c.in-Err.ensures.memory (c.loop-at.invariant.pumped.2.alike (g.O.Ops.allocates c.args.ops.now) ∙ free)

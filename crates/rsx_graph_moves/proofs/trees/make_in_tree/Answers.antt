@@ -18,14 +18,14 @@ returns-in-Ok-clause-stands g c = λ published pasts s.
     let m = g.O.Ops.meaning c.args.ops.now in
     let l = c.len.ensures in
     let within : c.args.sub.0 < length c.args.subscriptions.now.items = omega (arith, l, c.if-at-len.false) in
-    AllStand-moved m published c.args.subscriptions.now.items pasts c.args.sub.0 c.index_mut-subscription.result.now c.make.new.self within (sym c.index_mut-subscription.ensures.value) (λ p k. c.in-Ok.ensures.stands published p k) s
+    AllStand-moved g.N.Machine m published c.args.subscriptions.now.items pasts c.args.sub.0 c.index_mut-subscription.result.now c.make.new.self within (sym c.index_mut-subscription.ensures.value) (λ p k. c.in-Ok.ensures.stands published p k) s
 
 pub returns-in-Ok-clause-enabled : goal.returns-in-Ok-clause-enabled
 returns-in-Ok-clause-enabled g c =
     let m = g.O.Ops.meaning c.args.ops.now in
     let l = c.len.ensures in
     let within : c.args.sub.0 < length c.args.subscriptions.now.items = omega (arith, l, c.if-at-len.false) in
-    enabled_there m c.args.subscriptions.now.items c.args.sub.0 c.index_mut-subscription.result.now c.args.step within (sym c.index_mut-subscription.ensures.value) ∙ (sym (inside_enabled m c.index_mut-subscription.result.now c.args.step c.requires) ∙ c.in-Ok.ensures.enabled)
+    enabled_there g.N.Machine g.N.Nodes m c.args.subscriptions.now.items c.args.sub.0 c.index_mut-subscription.result.now c.args.step within (sym c.index_mut-subscription.ensures.value) ∙ (sym (inside_enabled g.N.Machine g.N.Nodes m c.index_mut-subscription.result.now c.args.step c.requires) ∙ c.in-Ok.ensures.enabled)
 
 pub returns-in-Ok-clause-effect : goal.returns-in-Ok-clause-effect
 returns-in-Ok-clause-effect g c =
@@ -36,7 +36,7 @@ returns-in-Ok-clause-effect g c =
       old = c.index_mut-subscription.result.now;
       new = c.make.new.self;
       there = found c.args.subscriptions.now.items c.args.sub.0 c.index_mut-subscription.result.now within (sym c.index_mut-subscription.ensures.value);
-      effect = inside_effect m c.args.step c.index_mut-subscription.result.now c.make.new.self c.requires c.in-Ok.ensures.effect;
+      effect = inside_effect g.N.Machine g.N.Nodes m c.args.step c.index_mut-subscription.result.now c.make.new.self c.requires c.in-Ok.ensures.effect;
       others = refl;
     }
 
@@ -46,7 +46,7 @@ returns-in-Err-NotEnabled-clause-err g c =
     let m = g.O.Ops.meaning c.args.ops.now in
     let l = c.len.ensures in
     let within : c.args.sub.0 < length c.args.subscriptions.now.items = omega (arith, l, c.if-at-len.false) in
-    (within, enabled_there m c.args.subscriptions.now.items c.args.sub.0 c.index_mut-subscription.result.now c.args.step within (sym c.index_mut-subscription.ensures.value) ∙ (sym (inside_enabled m c.index_mut-subscription.result.now c.args.step c.requires) ∙ refused))
+    (within, enabled_there g.N.Machine g.N.Nodes m c.args.subscriptions.now.items c.args.sub.0 c.index_mut-subscription.result.now c.args.step within (sym c.index_mut-subscription.ensures.value) ∙ (sym (inside_enabled g.N.Machine g.N.Nodes m c.index_mut-subscription.result.now c.args.step c.requires) ∙ refused))
 
 pub returns-in-Err-NotEnabled-clause-same : goal.returns-in-Err-NotEnabled-clause-same
 returns-in-Err-NotEnabled-clause-same g c =
@@ -61,7 +61,7 @@ returns-in-Err-NoMemory-clause-err g c =
     let m = g.O.Ops.meaning c.args.ops.now in
     let l = c.len.ensures in
     let within : c.args.sub.0 < length c.args.subscriptions.now.items = omega (arith, l, c.if-at-len.false) in
-    (within, enabled_there m c.args.subscriptions.now.items c.args.sub.0 c.index_mut-subscription.result.now c.args.step within (sym c.index_mut-subscription.ensures.value) ∙ (sym (inside_enabled m c.index_mut-subscription.result.now c.args.step c.requires) ∙ refused))
+    (within, enabled_there g.N.Machine g.N.Nodes m c.args.subscriptions.now.items c.args.sub.0 c.index_mut-subscription.result.now c.args.step within (sym c.index_mut-subscription.ensures.value) ∙ (sym (inside_enabled g.N.Machine g.N.Nodes m c.index_mut-subscription.result.now c.args.step c.requires) ∙ refused))
 
 pub returns-in-Err-NoMemory-clause-same : goal.returns-in-Err-NoMemory-clause-same
 returns-in-Err-NoMemory-clause-same g c =
@@ -75,5 +75,5 @@ returns-in-Err-NoMemory-clause-memory g c = λ none _.
     let refused = rw c.in-Err-NoMemory.field-0-is at c.in-Err-NoMemory.ensures.memory in
     let l = c.len.ensures in
     let within : c.args.sub.0 < length c.args.subscriptions.now.items = omega (arith, l, c.if-at-len.false) in
-    let k = refused (sym (allocates_there (g.O.Ops.allocates c.args.ops.now) c.args.subscriptions.now.items c.args.sub.0 c.index_mut-subscription.result.now c.args.step within (sym c.index_mut-subscription.ensures.value)) ∙ none) in
+    let k = refused (sym (allocates_there g.N.Machine g.N.Nodes (g.O.Ops.allocates c.args.ops.now) c.args.subscriptions.now.items c.args.sub.0 c.index_mut-subscription.result.now c.args.step within (sym c.index_mut-subscription.ensures.value)) ∙ none) in
     cc

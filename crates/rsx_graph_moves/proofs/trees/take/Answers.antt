@@ -15,13 +15,13 @@ pub returns-in-Some-clause-stands : goal.returns-in-Some-clause-stands
 returns-in-Some-clause-stands g c = λ m published pasts s.
     let l = c.len.ensures in
     let within : c.args.sub.0 < length c.args.subscriptions.now.items = omega (arith, l, c.if-at-len.false) in
-    AllStand-set m published (given c.in-Some.signal) c.args.subscriptions.now.items pasts c.args.sub.0 c.index_mut-subscription.result.now c.take.new.self within (sym c.index_mut-subscription.ensures.value) (λ p k. c.in-Some.ensures.some m published p k) s
+    AllStand-set g.N.Machine m published (given c.in-Some.signal) c.args.subscriptions.now.items pasts c.args.sub.0 c.index_mut-subscription.result.now c.take.new.self within (sym c.index_mut-subscription.ensures.value) (λ p k. c.in-Some.ensures.some m published p k) s
 
 pub returns-in-Some-clause-enabled : goal.returns-in-Some-clause-enabled
 returns-in-Some-clause-enabled g c = λ m.
     let l = c.len.ensures in
     let within : c.args.sub.0 < length c.args.subscriptions.now.items = omega (arith, l, c.if-at-len.false) in
-    enabled_there m c.args.subscriptions.now.items c.args.sub.0 c.index_mut-subscription.result.now (delivery c.args.sub) within (sym c.index_mut-subscription.ensures.value) ∙ delivery_enabled m c.args.sub c.index_mut-subscription.result.now true c.in-Some.ensures.enabled
+    enabled_there g.N.Machine g.N.Nodes m c.args.subscriptions.now.items c.args.sub.0 c.index_mut-subscription.result.now (delivery c.args.sub) within (sym c.index_mut-subscription.ensures.value) ∙ delivery_enabled g.N.Machine g.N.Nodes m c.args.sub c.index_mut-subscription.result.now true c.in-Some.ensures.enabled
 
 pub returns-in-Some-clause-effect : goal.returns-in-Some-clause-effect
 returns-in-Some-clause-effect g c = λ m.
@@ -39,7 +39,7 @@ pub returns-in-None-clause-err : goal.returns-in-None-clause-err
 returns-in-None-clause-err g c = λ m.
     let l = c.len.ensures in
     let within : c.args.sub.0 < length c.args.subscriptions.now.items = omega (arith, l, c.if-at-len.false) in
-    (within, enabled_there m c.args.subscriptions.now.items c.args.sub.0 c.index_mut-subscription.result.now (delivery c.args.sub) within (sym c.index_mut-subscription.ensures.value) ∙ delivery_enabled m c.args.sub c.index_mut-subscription.result.now false c.in-None.ensures.none.1)
+    (within, enabled_there g.N.Machine g.N.Nodes m c.args.subscriptions.now.items c.args.sub.0 c.index_mut-subscription.result.now (delivery c.args.sub) within (sym c.index_mut-subscription.ensures.value) ∙ delivery_enabled g.N.Machine g.N.Nodes m c.args.sub c.index_mut-subscription.result.now false c.in-None.ensures.none.1)
 
 pub returns-in-None-clause-same : goal.returns-in-None-clause-same
 returns-in-None-clause-same g c =
