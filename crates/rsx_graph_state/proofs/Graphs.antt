@@ -2,11 +2,13 @@
 use Rattle.rsx_sources.specs.declared.machine.Machine.{Ghosts as Machine}
 use Rattle.rsx_rooted.specs.declared.nodes.Nodes.{Ghosts as Nodes}
 use Rattle.std.proofs.Common.{◌≡◌, ℕ, ℤ, pos, negsuc, zero, suc, ◌+◌, ◌-◌, ◌<◌, ◌≤◌, List, [], ◌∷◌, ◌++◌, length, get_or, slice_get, refl, ap, sym, ◌∙◌, subst, arith, append_assoc, map, Option, Some, Ok, Bool, true, false, ◌||◌, nat_eq, if◌then◌else◌, inl, inr}
+use Rattle.std.proofs.lemmas.List.{append-nil}
+use Rattle.std.specs.Option.{option_to_list}
 use Rattle.std.proofs.Math.ListN.{set}
 use Rattle.std.proofs.lemmas.Bool.Decides.{nat_tests}
 use Rattle.rsx_sources.specs.Prelude.{Meaning, Allocates, unchosen, Stream, signals_then, ended_by, Move, SubId, Tree, Sub, Feed, Open as NotEnded, Signal}
 use Rattle.rsx_pipe.specs.Part as Part
-use Rattle.rsx_subscriber.specs.Prelude.{NodeMove, notes_of, IsNumbered, delivery, tree_of, Past, given, requested, requested_in, IsPumped, IsMoved, Leads, IsQuiet, IsAwake, HasRested, given_all, to}
+use Rattle.rsx_subscriber.specs.Prelude.{NodeMove, notes_of, IsNumbered, delivery, tree_of, Past, given, requested, requested_in, IsPumped, IsMoved, IsQuiet, IsAwake, HasRested, given_all, to}
 use Rattle.rsx_rooted.specs.declared.rooted.Pumped.{Pumped as Rest}
 use Rattle.rsx_rooted.specs.declared.rooted.Pumped.TheVariants.{Idle as Rests, Budget as Wakes}
 use Rattle.rsx_pipe.proofs.Signals.{some_same}
@@ -15,7 +17,9 @@ use Rattle.rsx_subscriber.specs.Stands.{make_allocates, Stands, move_enabled_in,
 use Rattle.rsx_subscriber.specs.declared.state.SubscriptionState.{SubscriptionState}
 use Rattle.rsx_subscriber.specs.declared.state.SubscriptionState.TheVariants.{Open, Ended, Cancelled, Refused}
 use Rattle.rsx_subscriber.specs.declared.subscription.Subscription.{Subscription}
-use Rattle.rsx_subscriber.proofs.Moves.{delivery_enabled, leads_on, part_name, part_named}
+use Rattle.rsx_subscriber.proofs.Moves.{delivery_enabled, part_name, part_named}
+use Rattle.rsx_tree.proofs.Runs.{gives_none, gives_on, leads_lift}
+use Rattle.rsx_tree.specs.Runs.{Leads}
 use Rattle.rsx_subscriber.proofs.Sentence.{owes}
 use Rattle.rsx_subscriber.proofs.Serving.{quiet_move}
 use Rattle.rsx_graph_state.specs.Answers.{changed, pasts_after, HasAsked, state_at}
@@ -150,30 +154,28 @@ move_there {M} {T} mc kd m id subs old new o lt e v =
       answer = v.answer;
     }
 
-leads_there : {M T : Type 0} (mc : Machine M T) (kd : Nodes M T) (m : Meaning T) (id : SubId) (n : ℕ) (subs : List (Subscription M T)) (old new : Subscription M T) (ds : List (SubId × Signal T)) → id.0 < length subs → get_or subs id.0 old ≡ old → Leads (IsMoved mc kd m id) n old ds new → Leads (IsSubMoveMade mc kd m) n subs ds (set subs id.0 new)
-leads_there mc kd m id zero subs old new ds lt e x = (x.0, set_same subs id.0 old new lt e x.1)
-leads_there {M} {T} mc kd m id (suc n) subs old new ds lt e x =
-    let mid : Subscription M T = x.0 in
-    let P : List (Subscription M T) → Type 0 = λ l. Leads (IsSubMoveMade mc kd m) n (set subs id.0 mid) x.2 l in
-    let within : id.0 < length (set subs id.0 mid) = rw (set_count subs id.0 mid) lt in (
-      set subs id.0 mid,
-      x.1,
-      x.2,
-      move_there mc kd m id subs old mid x.1 lt e x.3,
-      subst P (set_twice subs id.0 mid new) (leads_there mc kd m id n (set subs id.0 mid) mid new x.2 within (set_there subs id.0 mid lt) x.4),
-      x.5,
-    )
+-- so are many
+moves_there : {M T : Type 0} (mc : Machine M T) (kd : Nodes M T) (m : Meaning T) (id : SubId) (subs : List (Subscription M T)) (old new : Subscription M T) (os : List (Option (SubId × Signal T))) → id.0 < length subs → get_or subs id.0 old ≡ old → Leads (IsMoved mc kd m id) old os new → Leads (IsSubMoveMade mc kd m) subs os (set subs id.0 new)
+moves_there {M} {T} mc kd m id subs old new os lt e x =
+    let F : Subscription M T → List (Subscription M T) = λ s. set subs id.0 s in
+    let P : List (Subscription M T) → Type 0 = λ l. Leads (IsSubMoveMade mc kd m) l os (F new) in
+    let one : (a b : Subscription M T) (o : Option (SubId × Signal T)) → IsMoved mc kd m id a o b → IsSubMoveMade mc kd m (F a) o (F b) =
+    λ a b o v. subst (λ (l : List (Subscription M T)). IsSubMoveMade mc kd m (F a) o l) (set_twice subs id.0 a b) (move_there mc kd m id (F a) a b o (rw (set_count subs id.0 a) lt) (set_there subs id.0 a lt) v) in
+    subst P (set_same subs id.0 old old lt e refl) (leads_lift (IsMoved mc kd m id) (IsSubMoveMade mc kd m) F one old new os x)
 
 pub pumped_there : {M T : Type 0} (mc : Machine M T) (kd : Nodes M T) (m : Meaning T) (id : SubId) (n : ℕ) (subs : List (Subscription M T)) (old new : Subscription M T) (before after : List (SubId × Signal T)) → id.0 < length subs → get_or subs id.0 old ≡ old → IsPumped mc kd m id n old before new after → AllPumped mc kd m n subs before (set subs id.0 new) after
 pumped_there {M} {T} mc kd m id n subs old new before after lt e k = record {
   signals = to id k.signals;
   output = k.output;
-  moves = leads_there mc kd m id n subs old new (to id k.signals) lt e k.moves;
+  moves = record { labels = k.moves.labels; count = k.moves.count; all = k.moves.all; run = moves_there mc kd m id subs old new k.moves.labels lt e k.moves.run };
   stands = λ published pasts s.
       let P : List (Past T) → Type 0 = λ ps. AllStand mc m published (set subs id.0 new) ps in
       subst P (sym (pasts_to pasts id k.signals)) (AllStand-set mc m published (given_all k.signals) subs pasts id.0 old new lt e (λ p t. k.stands published p t) s);
   alike = λ a. alike_there mc a subs id.0 old new lt e (k.alike.0 a);
 }
+
+pub pumped_none : {M T : Type 0} (mc : Machine M T) (kd : Nodes M T) (m : Meaning T) (subs : List (Subscription M T)) (out : List (SubId × Signal T)) → AllPumped mc kd m 0 subs out subs out
+pumped_none mc kd m subs out = record { signals = []; output = sym (append-nil out); moves = gives_none (IsSubMoveMade mc kd m) option_to_list subs subs refl; stands = λ published pasts s. s; alike = λ a. refl }
 
 pub pasts_append : {T : Type 0} (ps : List (Past T)) (a b : List (SubId × Signal T)) → pasts_after (a ++ b) ps ≡ pasts_after b (pasts_after a ps)
 pasts_append ps [] b = refl
@@ -183,7 +185,7 @@ pub pumped_on : {M T : Type 0} (mc : Machine M T) (kd : Nodes M T) (m : Meaning 
 pumped_on {M} {T} mc kd m n k s1 s2 s3 o1 o2 o3 a b = record {
   signals = a.signals ++ b.signals;
   output = b.output ∙ (ap (λ o. o ++ b.signals) a.output ∙ append_assoc o1 a.signals b.signals);
-  moves = leads_on (IsSubMoveMade mc kd m) n k s1 s2 s3 a.signals b.signals a.moves b.moves;
+  moves = gives_on (IsSubMoveMade mc kd m) option_to_list n k s1 s2 s3 a.signals b.signals a.moves b.moves;
   stands = λ published ps s. let P : List (Past T) → Type 0 = λ l. AllStand mc m published s3 l in subst P (sym (pasts_append ps a.signals b.signals)) (b.stands published (pasts_after a.signals ps) (a.stands published ps s));
   alike = λ p. b.alike p ∙ a.alike p;
 }

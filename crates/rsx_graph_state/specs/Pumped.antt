@@ -2,10 +2,12 @@
 use Rattle.rsx_sources.specs.declared.machine.Machine.{Ghosts as Machine}
 use Rattle.rsx_rooted.specs.declared.nodes.Nodes.{Ghosts as Nodes}
 use Rattle.std.specs.Prelude.{◌≡◌, ℕ, ◌+◌, ◌≤◌, ◌<◌, true, List, ◌++◌, length, Option, Some, Result, Ok, Err, slice_get}
+use Rattle.std.specs.Option.{option_to_list}
 use Rattle.rsx_sources.specs.Prelude.{Meaning, Allocates, Move, SubId, Signal, Stream}
+use Rattle.rsx_tree.specs.Runs.{Gives}
 use Rattle.rsx_rooted.specs.declared.rooted.Pumped.{Pumped as Rest}
 use Rattle.rsx_rooted.specs.declared.rooted.Pumped.TheVariants.{Idle as Rests, Budget as Wakes}
-use Rattle.rsx_subscriber.specs.Prelude.{tree_of, Leads, IsQuiet, IsMadeAnswer, Past}
+use Rattle.rsx_subscriber.specs.Prelude.{tree_of, IsQuiet, IsMadeAnswer, Past}
 use Rattle.rsx_subscriber.specs.declared.subscription.Subscription.{Subscription}
 use Rattle.rsx_graph_state.specs.declared.refusal.Refusal.{Refusal}
 use Rattle.rsx_graph_state.specs.declared.refusal.Refusal.TheVariants.{NoMemory}
@@ -25,7 +27,7 @@ pub record IsSubMoveMade {M T : Type 0} (mc : Machine M T) (kd : Nodes M T) (m :
 pub record AllPumped {M T : Type 0} (mc : Machine M T) (kd : Nodes M T) (m : Meaning T) (count : ℕ) (old : List (Subscription M T)) (before : List (SubId × Signal T)) (new : List (Subscription M T)) (after : List (SubId × Signal T)) : Type 0 where
   pub signals : List (SubId × Signal T)
   pub output : after ≡ before ++ signals
-  pub moves : Leads (IsSubMoveMade mc kd m) count old signals new
+  pub moves : Gives (IsSubMoveMade mc kd m) option_to_list count old signals new
   pub stands : (published : List (Stream T)) (pasts : List (Past T)) → AllStand mc m published old pasts → AllStand mc m published new (pasts_after signals pasts)
   -- whether a move may allocate stays
   pub alike : (a : Allocates) → pump_allocates mc a new ≡ pump_allocates mc a old
