@@ -3,34 +3,27 @@ use Rattle.rsx_sources.specs.declared.machine.Machine.{Ghosts as Machine}
 use Rattle.rsx_rooted.specs.declared.nodes.Nodes.{Ghosts as Nodes}
 use Rattle.std.proofs.Common.{◌≡◌, ℕ, zero, suc, ◌+◌, ◌<◌, ◌≤◌, true, ◌&&◌, ◌⊎◌, inl, inr, if◌then◌else◌, List, [], ◌∷◌, ◌++◌, length, length-append, slice_get, is_none, is_some, refl, ap, sym, ◌∙◌, subst, arith, append_assoc, Option, Some, None, Bool, false}
 use Rattle.std.proofs.lemmas.List.{append-nil}
+use Rattle.std.proofs.lemmas.List.Concat.{flat_map-append}
+use Rattle.std.proofs.lemmas.List.Sums.{fold-append}
+use Rattle.std.specs.List.{flat_map}
 use Rattle.std.specs.Option.{option_to_list}
 use Rattle.rsx_graph_state.specs.Prelude.{History, delivered, with_delivery, with_made, accepts_in, is_out, sends, works, accepts_at, Rows, StandsFor, feed_of, signals_wait, AllPumped, AreQuiet, IsSubAwake, IsSubMoveMade, IsMade, enabled_in_tree as sub_enabled, HubState, waiting, all_have_room, can_accept, is_ready, Subscription}
 use Rattle.rsx_graph_state.proofs.Graphs.{all_quiet}
-use Rattle.rsx_subscriber.specs.Prelude.{tree_of, Leads, IsMadeAnswer}
+use Rattle.rsx_subscriber.specs.Prelude.{tree_of, IsMadeAnswer}
 use Rattle.rsx_tree.proofs.Alike.{or_left, or_right}
+use Rattle.rsx_tree.proofs.Runs.{leads_on}
+use Rattle.rsx_tree.specs.Runs.{Leads}
 use Rattle.rsx_sources.specs.Prelude.{Meaning, Move, Ask, Send, Take, Pick, Row, Accept, SubId, Sub, Feed as FeedOf, Signal}
 use Rattle.rsx_graph_moves.specs.Moves.{IsMoved, is_enabled, sent}
 use Rattle.rsx_graph_moves.proofs.Named.{quiet_feed, unfed_quiet}
-use Rattle.rsx_graph_moves.specs.Pumped.{AreHubsQuiet, AreMade, IsAllQuiet, IsAnyAwake, IsHubQuiet, IsMoveMade, LeadTo, Made, after_moves, delivered_by}
+use Rattle.rsx_graph_moves.specs.Pumped.{AreHubsQuiet, AreMade, IsAllQuiet, IsAnyAwake, IsHubQuiet, IsMoveMade, LeadTo, Made, after_move, after_moves, delivered_by, delivery_by}
 
 -- ---- one list of moves behind another
 
-lead_on : {M T : Type 0} (mc : Machine M T) (kd : Nodes M T) (m : Meaning T) (a b c : Rows M T) (ds es : List (Made T)) → LeadTo mc kd m a ds b → LeadTo mc kd m b es c → LeadTo mc kd m a (ds ++ es) c
-lead_on {M} {T} mc kd m a b c [] es x y = let P : Rows M T → Type 0 = λ g. LeadTo mc kd m g es c in subst P x y
-lead_on mc kd m a b c (d ∷ ds) es x y = (x.0, x.1, lead_on mc kd m x.0 b c ds es x.2 y)
-
-after_on : {T : Type 0} (h : History T) (ds es : List (Made T)) → after_moves h (ds ++ es) ≡ after_moves (after_moves h ds) es
-after_on h [] es = refl
-after_on h (d ∷ ds) es = after_on (with_made d.move d.delivered d.fed h) ds es
-
-delivered_on : {T : Type 0} (ds es : List (Made T)) → delivered_by (ds ++ es) ≡ delivered_by ds ++ delivered_by es
-delivered_on [] es = refl
-delivered_on (d ∷ ds) es = ap (λ l. option_to_list d.delivered ++ l) (delivered_on ds es) ∙ sym (append_assoc (option_to_list d.delivered) (delivered_by ds) (delivered_by es))
-
 made_on : {M T : Type 0} (mc : Machine M T) (kd : Nodes M T) (m : Meaning T) (a b c : Rows M T) (ds es : List (Made T)) → AreMade mc kd m a ds b → AreMade mc kd m b es c → AreMade mc kd m a (ds ++ es) c
 made_on {M} {T} mc kd m a b c ds es x y = record {
-  lead = lead_on mc kd m a b c ds es x.lead y.lead;
-  stands = λ h s. let P : History T → Type 0 = λ k. StandsFor mc m c k in subst P (sym (after_on h ds es)) (y.stands (after_moves h ds) (x.stands h s));
+  lead = leads_on (IsMoveMade mc kd m) a b c ds es x.lead y.lead;
+  stands = λ h s. let P : History T → Type 0 = λ k. StandsFor mc m c k in subst P (sym (fold-append after_move h ds es)) (y.stands (after_moves h ds) (x.stands h s));
 }
 
 made_none : {M T : Type 0} (mc : Machine M T) (kd : Nodes M T) (m : Meaning T) (g : Rows M T) → AreMade mc kd m g [] g
@@ -95,28 +88,21 @@ record InGraph {M T : Type 0} (mc : Machine M T) (kd : Nodes M T) (m : Meaning T
   output : delivered_by moves ≡ ds
   happened : (h : History T) → after_moves h moves ≡ delivered h ds
 
-lead_in_graph : {M T : Type 0} (mc : Machine M T) (kd : Nodes M T) (m : Meaning T) (g : Rows M T) (n : ℕ) (old new : List (Subscription M T)) (ds : List (SubId × Signal T)) → Leads (IsSubMoveMade mc kd m) n old ds new → InGraph mc kd m n (with_subs g old) ds (with_subs g new)
-lead_in_graph mc kd m g zero old new ds x = record {
-  moves = [];
-  lead = ap (λ l. with_subs g l) x.1;
-  count = refl;
-  output = sym x.0;
-  happened = λ h. ap (λ l. delivered h l) (sym x.0);
-}
-lead_in_graph {M} {T} mc kd m g (suc n) old new ds x =
+lead_in_graph : {M T : Type 0} (mc : Machine M T) (kd : Nodes M T) (m : Meaning T) (g : Rows M T) (old new : List (Subscription M T)) (os : List (Option (SubId × Signal T))) → Leads (IsSubMoveMade mc kd m) old os new → InGraph mc kd m (length os) (with_subs g old) (flat_map option_to_list os) (with_subs g new)
+lead_in_graph mc kd m g old new [] x = record { moves = []; lead = ap (λ l. with_subs g l) x; count = refl; output = refl; happened = λ h. refl }
+lead_in_graph {M} {T} mc kd m g old new (o ∷ os) x =
     let mid = x.0 in
-    let o = x.1 in
-    let made = x.3 in
+    let made = x.1 in
     let one : Made T = record { move = made.move; delivered = o; fed = None } in
-    let rest = lead_in_graph mc kd m g n mid new x.2 x.4 in
+    let rest = lead_in_graph mc kd m g mid new os x.2 in
     record {
       moves = one ∷ rest.moves;
       lead = (with_subs g mid, sub_move mc kd m g made.move old mid o made.enabled made.effect made.answer, rest.lead);
       count = ap suc rest.count;
-      output = ap (λ l. option_to_list o ++ l) rest.output ∙ sym x.5;
+      output = ap (λ l. option_to_list o ++ l) rest.output;
       happened = λ h.
           rest.happened (with_made made.move o None h)
-          ∙ (ap (λ k. delivered k x.2) (sub_happened mc kd m made.move old mid o h made.effect) ∙ (delivered_then o x.2 h ∙ ap (λ l. delivered h l) (sym x.5)));
+          ∙ (ap (λ k. delivered k (flat_map option_to_list os)) (sub_happened mc kd m made.move old mid o h made.effect) ∙ delivered_then o (flat_map option_to_list os) h);
     }
 
 -- the graph stands for what they delivered
@@ -141,18 +127,18 @@ so_far_on mc kd m first mid now before between after n k more s count made outpu
   moves = s.moves ++ more;
   count = let l = length-append s.moves more in let c = s.count in omega (arith, l, c, count);
   made = made_on mc kd m first mid now s.moves more s.made made;
-  output = output ∙ (ap (λ l. l ++ delivered_by more) s.output ∙ (append_assoc before (delivered_by s.moves) (delivered_by more) ∙ ap (λ l. before ++ l) (sym (delivered_on s.moves more))));
+  output = output ∙ (ap (λ l. l ++ delivered_by more) s.output ∙ (append_assoc before (delivered_by s.moves) (delivered_by more) ∙ ap (λ l. before ++ l) (sym (flat_map-append delivery_by s.moves more))));
 }
 
 -- moves of the subscriptions
 pub so_far_driven : {M T : Type 0} (mc : Machine M T) (kd : Nodes M T) (m : Meaning T) (first mid : Rows M T) (new : List (Subscription M T)) (before between after : List (SubId × Signal T)) (n k : ℕ) → SoFar mc kd m first before n mid between → AllPumped mc kd m k mid.subs between new after → SoFar mc kd m first before (n + k) (with_subs mid new) after
 so_far_driven {M} {T} mc kd m first mid new before between after n k s p =
-    let r = lead_in_graph mc kd m mid k mid.subs new p.signals p.moves in
+    let r = lead_in_graph mc kd m mid mid.subs new p.moves.labels p.moves.run in
     let made : AreMade mc kd m mid r.moves (with_subs mid new) = record {
       lead = r.lead;
-      stands = λ h x. let P : History T → Type 0 = λ l. StandsFor mc m (with_subs mid new) l in subst P (sym (r.happened h)) (subs_stand mc kd m k mid new between after p h x);
+      stands = λ h x. let P : History T → Type 0 = λ l. StandsFor mc m (with_subs mid new) l in subst P (ap (λ l. delivered h l) p.moves.all ∙ sym (r.happened h)) (subs_stand mc kd m k mid new between after p h x);
     } in
-    so_far_on mc kd m first mid (with_subs mid new) before between after n k r.moves s r.count made (p.output ∙ ap (λ l. between ++ l) (sym r.output))
+    so_far_on mc kd m first mid (with_subs mid new) before between after n k r.moves s (r.count ∙ p.moves.count) made (p.output ∙ ap (λ l. between ++ l) (p.moves.all ∙ sym r.output))
 
 -- moves of the hubs, which deliver nothing
 pub so_far_taken : {M T : Type 0} (mc : Machine M T) (kd : Nodes M T) (m : Meaning T) (first mid now : Rows M T) (before between : List (SubId × Signal T)) (n : ℕ) (more : List (Made T)) → SoFar mc kd m first before n mid between → AreMade mc kd m mid more now → delivered_by more ≡ [] → SoFar mc kd m first before (n + length more) now between

@@ -9,7 +9,8 @@ use Rattle.rsx_graph_state.specs.declared.feed.Feed.{Feed}
 use Rattle.rsx_tree.specs.declared.look.NodeMove.{NodeMove}
 use Rattle.rsx_sources.specs.Prelude.{Meaning, Move, Ask, Send, Take, Pick, Row, Accept, SubId, Tree, Sub, Feed as FeedOf, Signal}
 use Rattle.rsx_graph_moves.specs.Moves.{IsMoved, IsMovedInFeed, IsMovedInTree, feed_move}
-use Rattle.rsx_graph_moves.specs.Pumped.{LeadTo, Made}
+use Rattle.rsx_graph_moves.specs.Pumped.{IsMoveMade, LeadTo, Made}
+use Rattle.rsx_tree.proofs.Runs.{leads_keep}
 
 -- the hub of each feed
 abbrev pub hubs_of : {M : Type 0} → List (Feed M) → List ℕ
@@ -74,5 +75,4 @@ moved_keep mc kd m (Accept h) old new o k = accepted_keep mc h.0 old new k
 -- ---- many moves
 
 pub lead_keep : {M T : Type 0} (mc : Machine M T) (kd : Nodes M T) (m : Meaning T) (old : Rows M T) (moves : List (Made T)) (new : Rows M T) → LeadTo mc kd m old moves new → KeepHubs old new
-lead_keep mc kd m old [] new k = ap (λ g. hubs_of g.feeds) k
-lead_keep mc kd m old (d ∷ ds) new k = lead_keep mc kd m k.0 ds new k.2 ∙ moved_keep mc kd m d.move old k.0 d.delivered k.1.effect
+lead_keep mc kd m old moves new k = leads_keep (IsMoveMade mc kd m) (λ g. KeepHubs old g) (λ a b d made kept. moved_keep mc kd m d.move a b d.delivered made.effect ∙ kept) old new moves k refl

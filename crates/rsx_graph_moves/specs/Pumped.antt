@@ -1,13 +1,15 @@
 -- What driving a graph with feeds until it is idle does.
 use Rattle.rsx_sources.specs.declared.machine.Machine.{Ghosts as Machine}
 use Rattle.rsx_rooted.specs.declared.nodes.Nodes.{Ghosts as Nodes}
-use Rattle.std.specs.Prelude.{◌≡◌, ℕ, ◌+◌, ◌≤◌, ◌<◌, true, false, List, [], ◌∷◌, ◌++◌, length, Option, Result, Ok, Err}
+use Rattle.std.specs.Prelude.{◌≡◌, ℕ, ◌+◌, ◌≤◌, ◌<◌, true, false, List, [], ◌++◌, length, Option, Result, Ok, Err}
+use Rattle.std.specs.List.{flat_map, fold}
 use Rattle.std.specs.Option.{option_to_list}
 use Rattle.rsx_graph_state.specs.Prelude.{History, with_made, accepts_at, feed_enabled, Rows, StandsFor}
 use Rattle.rsx_graph_state.specs.declared.refusal.Refusal.{Refusal}
 use Rattle.rsx_graph_state.specs.declared.refusal.Refusal.TheVariants.{NoMemory}
 use Rattle.rsx_graph_state.specs.declared.step.Pumped.{Pumped}
 use Rattle.rsx_graph_state.specs.declared.step.Pumped.TheVariants.{Idle, Budget}
+use Rattle.rsx_tree.specs.Runs.{Leads}
 use Rattle.rsx_pipe.specs.Part as Part
 use Rattle.rsx_rooted.specs.declared.rooted.Pumped.{Pumped as Rest}
 use Rattle.rsx_rooted.specs.declared.rooted.Pumped.TheVariants.{Idle as Rests, Budget as Wakes}
@@ -32,18 +34,23 @@ pub record IsMoveMade {M T : Type 0} (mc : Machine M T) (kd : Nodes M T) (m : Me
 
 -- these moves were made, each on the graph that the one before it left
 abbrev pub LeadTo : {M T : Type 0} → Machine M T → Nodes M T → Meaning T → Rows M T → List (Made T) → Rows M T → Type 0
-LeadTo mc kd m old [] new = new ≡ old
-LeadTo {M} {T} mc kd m old (d ∷ ds) new = (mid : Rows M T) × IsMoveMade mc kd m old d mid × LeadTo mc kd m mid ds new
+LeadTo mc kd m old moves new = Leads (IsMoveMade mc kd m) old moves new
 
--- the history after them
+-- the history after one of them
+abbrev pub after_move : {T : Type 0} → History T → Made T → History T
+after_move h d = with_made d.move d.delivered d.fed h
+
+-- after all of them
 abbrev pub after_moves : {T : Type 0} → History T → List (Made T) → History T
-after_moves h [] = h
-after_moves h (d ∷ ds) = after_moves (with_made d.move d.delivered d.fed h) ds
+after_moves h moves = fold after_move h moves
+
+-- what one of them delivered
+abbrev pub delivery_by : {T : Type 0} → Made T → List (SubId × Signal T)
+delivery_by d = option_to_list d.delivered
 
 -- what they delivered, in their order
 abbrev pub delivered_by : {T : Type 0} → List (Made T) → List (SubId × Signal T)
-delivered_by [] = []
-delivered_by (d ∷ ds) = option_to_list d.delivered ++ delivered_by ds
+delivered_by moves = flat_map delivery_by moves
 
 -- these moves were made, and the graph stands for what has happened by them
 pub record AreMade {M T : Type 0} (mc : Machine M T) (kd : Nodes M T) (m : Meaning T) (old : Rows M T) (moves : List (Made T)) (new : Rows M T) : Type 0 where

@@ -1,6 +1,13 @@
-use Rattle.std.proofs.Common.{◌+◌, ◌≤◌, ◌∙◌, arith, length}
-use Rattle.rsx_graph_state.proofs.Graphs.{pumped_on, quiet_up_to}
+use Rattle.std.proofs.Common.{◌+◌, ◌≤◌, ◌∙◌, arith, length, refl}
+use Rattle.rsx_graph_state.proofs.Graphs.{pumped_none, pumped_on, quiet_up_to}
 use Rattle.rsx_graph_moves.proofs.subscriptions.drive.Goals as goal
+
+pub loop-at-init : goal.loop-at-init
+loop-at-init g c = record {
+  count = refl;
+  pumped = (0, omega arith, pumped_none g.N.Machine g.N.Nodes (g.O.Ops.meaning c.args.ops.now) c.args.subscriptions.now.items c.args.out.now.signals);
+  quiet = λ i l s e. absurd (omega (arith, l));
+}
 
 pub returns-in-Ok-Budget-clause-driven : goal.returns-in-Ok-Budget-clause-driven
 returns-in-Ok-Budget-clause-driven g c =
