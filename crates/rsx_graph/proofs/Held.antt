@@ -1,14 +1,15 @@
 -- A hub that can't take its next item in, since a node that reads it has no room: where no other node reads it, each node that does
 -- offers something.
+use Rattle.rsx_kinds.specs.Any.{any_machine}
+use Rattle.rsx_kinds.specs.Room.{any_full}
+use Rattle.rsx_graph.specs.Kinds.{has_room_at, reads_at, all_have_room, all_readers, Subscription, Part, has_room_for, readers, Feed}
 use Rattle.std.proofs.Common.{◌≡◌, ◌⊎◌, inl, inr, ℕ, zero, suc, ◌+◌, ◌<◌, ◌≤◌, Bool, true, false, ◌&&◌, nat_eq, nat_lt, if◌then◌else◌, List, [], ◌∷◌, slice_get, Option, Some, None, refl, sym, ap, ◌∙◌, subst, arith}
 use Rattle.std.specs.Prelude.{⊤}
 use Rattle.std.proofs.lemmas.Bool.Decides.{nat_tests}
 use Rattle.rsx_graph_state.proofs.Named.{same_number}
-use Rattle.rsx_graph_state.specs.Prelude.{MOST_ACCEPTED, has_room_at, reads_at, every, total, all_have_room, all_readers, Subscription}
-use Rattle.rsx_pipe.proofs.Room.{any_full}
+use Rattle.rsx_graph_state.specs.Prelude.{MOST_ACCEPTED, every, total}
 use Rattle.rsx_pipe.proofs.Signals.{some_same}
-use Rattle.rsx_subscriber.specs.Prelude.{any_machine, Part, has_room_for, readers, Live, Inputs, End, More', Node}
-use Rattle.rsx_graph_state.specs.declared.feed.Feed.{Feed}
+use Rattle.rsx_subscriber.specs.Prelude.{Live, Inputs, End, More', Node}
 use Rattle.rsx_sources.specs.Prelude.{Reading, reads_hub, Meaning}
 use Rattle.rsx_sources.specs.declared.machine.Machine.{Ghosts as Machine}
 use Rattle.rsx_tree.specs.Prelude.{is_live, has_room_in, reader_at, readers_in, room_at, IsReadAt, IsRowReadAt, IsTreeReadAt, IsStuck}

@@ -1,24 +1,25 @@
 -- Graphs go on standing for what has happened: the joins that they keep, and the hubs that their feeds name.
-use Rattle.std.proofs.Common.{◌≡◌, ℕ, ◌≤◌, ℤ, zero, suc, pos, negsuc, List, [], ◌∷◌, length, map, slice_get, Option, Some, Result, Ok, Err, IfOk, OnOk, OnErr, refl, ap, sym, ◌∙◌, subst}
+use Rattle.rsx_kinds.specs.Any.{any_machine}
+use Rattle.rsx_kinds.specs.Routes.{tree_nodes}
+use Rattle.rsx_graph.proofs.Laws.{any_laws}
+use Rattle.rsx_graph.specs.Kinds.{IsMoved, IsSubscribed, HasEnded, HasPumped as RowsPumped, LeadTo, Rows, Subscription, Feed}
+use Rattle.std.proofs.Common.{◌≡◌, ℕ, ◌<◌, ◌≤◌, ℤ, zero, suc, pos, negsuc, List, [], ◌∷◌, length, length-append, map, slice_get, Option, Some, Result, Ok, Err, IfOk, OnOk, OnErr, refl, ap, sym, ◌∙◌, subst, arith}
 use Rattle.std.proofs.lemmas.Option.{same_Some}
 use Rattle.rsx_graph_moves.proofs.Keeping.{KeepHubs, lead_keep, moved_keep}
-use Rattle.rsx_graph_moves.specs.Moves.{IsMoved}
 use Rattle.rsx_graph_moves.proofs.Serving.{rows_served}
-use Rattle.rsx_graph_moves.specs.Pumped as driving
-use Rattle.rsx_graph_moves.specs.Pumped.{HasEnded, LeadTo, Made, after_moves}
+use Rattle.rsx_graph_moves.specs.Pumped.{Made, after_moves}
 use Rattle.rsx_graph_calls.proofs.Kept.{joins_same, kept_changed, kept_made}
 use Rattle.rsx_graph_calls.proofs.Names.{names_kept}
 use Rattle.rsx_graph_calls.specs.Edits.{NameHubs}
-use Rattle.rsx_graph_state.specs.Prelude.{JoinsStand, History, with_made, rows_of, Rows, HubState, SubscriptionState, Subscription}
+use Rattle.rsx_graph_state.specs.Prelude.{JoinsStand, History, with_made, rows_of, HubState, SubscriptionState}
 use Rattle.rsx_graph_calls.specs.Regions.{HasRegion, RegionsStand, region_in}
 use Rattle.rsx_graph_calls.specs.Requests.{with_past}
 use Rattle.rsx_graph_state.proofs.Graphs.{joins_kept}
-use Rattle.rsx_graph_state.specs.declared.TheConstants.{MOST_HUBS}
+use Rattle.rsx_graph_state.specs.declared.TheConstants.{MOST_HUBS, MOST_SUBSCRIPTIONS}
 use Rattle.rsx_graph_state.specs.declared.refusal.Refusal.{Refusal}
 use Rattle.rsx_graph_state.specs.declared.step.Pumped.{Pumped}
 use Rattle.rsx_graph_state.specs.declared.step.Pumped.TheVariants.{Idle}
-use Rattle.rsx_graph_state.specs.declared.feed.Feed.{Feed}
-use Rattle.rsx_subscriber.specs.Prelude.{Delivered, Past, requested, requested_in}
+use Rattle.rsx_subscriber.specs.Prelude.{Delivered, Expr, Past, requested, requested_in}
 use Rattle.rsx_subscriber.specs.declared.state.SubscriptionState.TheVariants.{Open, Ended, Cancelled, Refused}
 use Rattle.rsx_sources.specs.Prelude.{Meaning, Move, SubId, Signal}
 use Rattle.rsx_graph.specs.Pumped.{HasPumped}
@@ -52,7 +53,7 @@ past_joins f i feeds joins feed_joins h keeps j = joins_same feeds feeds joins f
 pub made_joins : {T : Type 0} (m : Meaning T) (mv : Move) (o : Option (SubId × Signal T)) (s : Option (Signal T)) (old new : Rows T) (joins feed_joins : List (List ℕ)) (h : History T) → IsMoved m mv old new o → JoinsStand old.feeds joins feed_joins h → JoinsStand new.feeds joins feed_joins (with_made mv o s h)
 made_joins m mv o s old new joins feed_joins h effect j =
     let k = kept_made mv o s h in
-    joins_same old.feeds new.feeds joins feed_joins h (with_made mv o s h) (moved_keep m mv old new o effect) k.joins k.sources j
+    joins_same old.feeds new.feeds joins feed_joins h (with_made mv o s h) (moved_keep any_machine tree_nodes m mv old new o effect) k.joins k.sources j
 
 -- many
 pub moved_joins : {T : Type 0} (m : Meaning T) (old new : Rows T) (moves : List (Made T)) (joins feed_joins : List (List ℕ)) (h : History T) → LeadTo m old moves new → JoinsStand old.feeds joins feed_joins h → JoinsStand new.feeds joins feed_joins (after_moves h moves)
@@ -107,27 +108,29 @@ names_moved old new keep count names = names_on (length old.hubs) (length new.hu
 
 pub names_made : {T E : Type 0} (m : Meaning T) (mv : Move) (old new : Rows T) (r : Result (Option (SubId × Signal T)) E) → IfOk r (λ o. IsMoved m mv old new o) → OnErr r ((new.hubs ≡ old.hubs) × (new.feeds ≡ old.feeds) × (new.subs ≡ old.subs)) → length new.hubs ≡ length old.hubs →
     NameHubs (length old.hubs) old.feeds → NameHubs (length new.hubs) new.feeds
-names_made m mv old new (Ok o) effect same count names = names_moved old new (moved_keep m mv old new o effect) count names
+names_made m mv old new (Ok o) effect same count names = names_moved old new (moved_keep any_machine tree_nodes m mv old new o effect) count names
 names_made m mv old new (Err e) effect same count names = names_moved old new (ap (map (λ f. f.hub)) same.1) count names
 
-pub names_pumped : {T : Type 0} (m : Meaning T) (budget : ℕ) (old new : Rows T) (before after : Delivered T) (r : Result Pumped Refusal) → driving.HasPumped m budget old before r new after → length new.hubs ≡ length old.hubs → NameHubs (length old.hubs) old.feeds → NameHubs (length new.hubs) new.feeds
-names_pumped m budget old new before after r k count names = names_moved old new (lead_keep m old k.0 new k.2.lead) count names
+pub names_pumped : {T : Type 0} (m : Meaning T) (budget : ℕ) (old new : Rows T) (before after : Delivered T) (r : Result Pumped Refusal) → RowsPumped m budget old before r new after → length new.hubs ≡ length old.hubs → NameHubs (length old.hubs) old.feeds → NameHubs (length new.hubs) new.feeds
+names_pumped m budget old new before after r k count names = names_moved old new (lead_keep any_machine tree_nodes m old k.0 new k.2.lead) count names
 
 pub names_hub : {T A E : Type 0} (olds news : List (HubState T)) (feeds : List (Feed T)) (r : Result A E) → OnOk r (NameHubs (length news) feeds) → OnErr r (news ≡ olds) → NameHubs (length olds) feeds → NameHubs (length news) feeds
 names_hub olds news feeds (Ok a) made same names = made
 names_hub olds news feeds (Err e) made same names = names_on (length olds) (length news) feeds (ap length same) names
 
-pub names_fed : {T A E J : Type 0} (olds news : List (HubState T)) (feeds fs : List (Feed T)) (js ks : List J) (r : Result A E) → OnOk r (NameHubs (length news) fs) → OnErr r ((news ≡ olds) × (fs ≡ feeds) × (ks ≡ js)) → NameHubs (length olds) feeds → NameHubs (length news) fs
-names_fed olds news feeds fs js ks (Ok a) made same names = made
-names_fed {T} olds news feeds fs js ks (Err e) made same names = let P : List (Feed T) → Type 0 = λ l. NameHubs (length olds) l in names_on (length olds) (length news) fs (ap length same.0) (subst P (sym same.1) names)
-
-pub beside_fed : {T A E J : Type 0} (olds news : List (HubState T)) (feeds fs : List (Feed T)) (js ks : List J) (r : Result A E) → OnOk r (length ks ≡ length fs) → OnErr r ((news ≡ olds) × (fs ≡ feeds) × (ks ≡ js)) → length js ≡ length feeds → length ks ≡ length fs
-beside_fed olds news feeds fs js ks (Ok a) made same before = made
-beside_fed olds news feeds fs js ks (Err e) made same before = ap length same.2 ∙ (before ∙ sym (ap length same.1))
+-- with one subscription more there are still no more than there may be
+pub few_subscribed : {T A E P X J K : Type 0} (r : Result A E) (e : Expr T) (olds news : List (Subscription T)) (hs gs : List X) (js ks : List J) (is os : List K) → (P → IsSubscribed e olds news) → OnOk r P →
+    OnErr r ((gs ≡ hs) × (news ≡ olds) × (ks ≡ js) × (os ≡ is)) → length olds < MOST_SUBSCRIPTIONS → length news ≤ MOST_SUBSCRIPTIONS
+few_subscribed (Ok a) e olds news hs gs js ks is os made p same less =
+    let k = made p in
+    let grown = ap length k.1 in
+    let both = length-append olds (k.0 ∷ []) in
+    omega (arith, grown, both, less)
+few_subscribed (Err x) e olds news hs gs js ks is os made p same less = let count = ap length same.1 in omega (arith, count, less)
 
 -- ---- runs of moves
 
-pub graph_pumped : {T : Type 0} (m : Meaning T) (budget : ℕ) (old : GraphState T) (before : Delivered T) (result : Result Pumped Refusal) (new : Rows T) (after : Delivered T) → driving.HasPumped m budget old.rows before result new after →
+pub graph_pumped : {T : Type 0} (m : Meaning T) (budget : ℕ) (old : GraphState T) (before : Delivered T) (result : Result Pumped Refusal) (new : Rows T) (after : Delivered T) → RowsPumped m budget old.rows before result new after →
     HasPumped m budget old before result (record { rows = new; joins = old.joins; feed_joins = old.feed_joins; regions = old.regions }) after
 graph_pumped m budget old before result new after k = record {
   moves = k.0;
@@ -139,14 +142,14 @@ graph_pumped m budget old before result new after k = record {
 }
 
 -- where no move is enabled any more, each live subscriber was served
-pub idle_served : {T : Type 0} (m : Meaning T) (budget : ℕ) (old new : Rows T) (before after : Delivered T) (p : Pumped) (joins feed_joins : List (List ℕ)) (regions : List ℕ) → driving.HasPumped m budget old before (Ok p) new after → p ≡ Idle → IsAllServed m (record { rows = new; joins = joins; feed_joins = feed_joins; regions = regions })
+pub idle_served : {T : Type 0} (m : Meaning T) (budget : ℕ) (old new : Rows T) (before after : Delivered T) (p : Pumped) (joins feed_joins : List (List ℕ)) (regions : List ℕ) → RowsPumped m budget old before (Ok p) new after → p ≡ Idle → IsAllServed m (record { rows = new; joins = joins; feed_joins = feed_joins; regions = regions })
 idle_served {T} m budget old new before after p joins feed_joins regions k idle =
     let P : Pumped → Type 0 = λ q. HasEnded m budget (length k.0) new (Ok q) in
-    λ h s. rows_served m new h s.rows (subst P idle k.1).1
+    λ h s. rows_served any_machine tree_nodes any_laws m new h s.rows (subst P idle k.1).1
 
 -- and each node that reads a hub and is at rest has got all that was published there, where each hub in front of which a signal waits
 -- has one reader at most
-pub idle_read : {T : Type 0} (m : Meaning T) (budget : ℕ) (old new : Rows T) (before after : Delivered T) (p : Pumped) (joins feed_joins : List (List ℕ)) (regions : List ℕ) → length new.hubs ≤ MOST_HUBS → driving.HasPumped m budget old before (Ok p) new after → p ≡ Idle →
+pub idle_read : {T : Type 0} (m : Meaning T) (budget : ℕ) (old new : Rows T) (before after : Delivered T) (p : Pumped) (joins feed_joins : List (List ℕ)) (regions : List ℕ) → length new.hubs ≤ MOST_HUBS → RowsPumped m budget old before (Ok p) new after → p ≡ Idle →
     IsAllRead m (record { rows = new; joins = joins; feed_joins = feed_joins; regions = regions })
 idle_read {T} m budget old new before after p joins feed_joins regions few k idle =
     let P : Pumped → Type 0 = λ q. HasEnded m budget (length k.0) new (Ok q) in

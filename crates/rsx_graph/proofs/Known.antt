@@ -1,15 +1,17 @@
 -- What the answers of a graph name is known to each history for which the graph stands.
+use Rattle.rsx_kinds.specs.Any.{any_machine}
+use Rattle.rsx_graph.specs.Kinds.{feed_move, feed_move_enabled, is_enabled, accepts_in, Rows, SourceStands, StandsFor, enabled_at, Subscription, move_enabled_in}
 use Rattle.std.proofs.Common.{◌≡◌, ℕ, zero, suc, ◌-◌, ◌<◌, Bool, true, false, ◌&&◌, List, [], ◌∷◌, length, slice_get, Option, Some, None, is_some, is_none, refl, ap, sym, ◌∙◌, subst, arith}
 use Rattle.rsx_graph_moves.specs.Moves as driving
-use Rattle.rsx_graph_moves.specs.Moves.{IsMakeRefusal, feed_move, feed_move_enabled, is_enabled}
+use Rattle.rsx_graph_moves.specs.Moves.{IsMakeRefusal}
 use Rattle.rsx_graph_calls.specs.Edits.{IsFedHubRefusal, fault_of}
 use Rattle.rsx_graph_calls.specs.Publishes.{IsCopyRefusal, IsEndRefusal, has_emitter}
 use Rattle.rsx_graph_calls.specs.Subscribing.{IsSubscribeRefusal}
-use Rattle.rsx_graph_state.specs.Prelude.{History, HubPast, Source, emitted, fed, IsFeedRefusal, accepts_in, has_feed, Rows, SourceStands, StandsFor, feed_of, IsAcceptRefusal, IsSubMoveRefusal, IsSubscribeId, enabled_at, HubState, Subscription}
+use Rattle.rsx_graph_state.specs.Prelude.{History, HubPast, Source, emitted, fed, IsFeedRefusal, has_feed, feed_of, IsAcceptRefusal, IsSubMoveRefusal, IsSubscribeId, HubState}
 use Rattle.rsx_graph_state.proofs.Graphs.{count_same, past_first, suc_less}
 use Rattle.rsx_graph_state.specs.declared.refusal.Refusal.{Refusal}
 use Rattle.rsx_graph_state.specs.declared.refusal.Refusal.TheVariants.{UnknownHub, UnknownSub, Ended, Full, TooMany, BadExpr, NotEnabled, NoMemory}
-use Rattle.rsx_subscriber.specs.Prelude.{refusal, Expr, NodeMove, move_enabled_in}
+use Rattle.rsx_subscriber.specs.Prelude.{refusal, Expr, NodeMove}
 use Rattle.rsx_sources.specs.Prelude.{Meaning, Stream, HubKind, Move, Ask, Send, Take, Pick, Row, Accept, SubId, Tree, Sub, Feed as FeedOf}
 use Rattle.rsx_graph.specs.Steps.{IsMoveRefusal, IsNewFeedRefusal, IsNewSubRefusal, IsOfKnown, IsPublishRefusal, IsTreeRefusal, is_emitted, is_emitter, is_fed, is_feed}
 
@@ -58,7 +60,7 @@ fed_there {T} m g h i s = by_past (slice_get h.hubs i) refl
 
 -- as many subscriptions as pasts
 pub subs_there : {T : Type 0} (m : Meaning T) (g : Rows T) (h : History T) → StandsFor m g h → length g.subs ≡ length h.pasts
-subs_there m g h s = count_same m s.taken g.subs h.pasts s.all
+subs_there m g h s = count_same any_machine m s.taken g.subs h.pasts s.all
 
 -- ---- what is published
 

@@ -2,5 +2,6 @@
 pub mod Held
 pub mod Kept
 pub mod Known
+pub mod Laws
 pub mod Reading
 pub mod Runs

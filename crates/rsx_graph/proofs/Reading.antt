@@ -1,25 +1,28 @@
 -- Where each hub in front of which a signal waits has one reader at most, each node that reads a hub and is at rest has got all that
 -- was published there: either the hub took in its whole value, or each node that reads it offers something.
+use Rattle.rsx_kinds.specs.Routes.{tree_nodes}
+use Rattle.rsx_graph.proofs.Laws.{any_laws}
+use Rattle.rsx_kinds.specs.Any.{any_machine}
+use Rattle.rsx_kinds.specs.Rests.{any_rests}
+use Rattle.rsx_kinds.specs.TreeLaws.{tree_ending_waits, tree_settles}
+use Rattle.rsx_graph.specs.Kinds.{IsPartQuiet, Part, AreHubsQuiet, IsAllQuiet, IsHubQuiet, name_in, AreValues, IsValue, accepts_at, accepts_in, feed_enabled, sends, sends_where, works, works_where, HubStands, IsFedBy, Rows, SourceStands, StandsFor, AllHaveRead, AllStand, all_have_room, can_accept, can_feed, Subscription, IsQuietInside, goes_out, inside_enabled, next_out, notes_of, route, HasReadAll, PartStands, Feed}
 use Rattle.std.proofs.Common.{◌≡◌, ◌⊎◌, inl, inr, ℕ, zero, suc, ◌+◌, ◌<◌, ◌≤◌, min, Bool, true, false, ◌&&◌, ◌||◌, nat_eq, nat_le, if◌then◌else◌, List, [], ◌∷◌, ◌++◌, length, length-append, take, drop, map, slice_get, Option, Some, None, option_map, refl, sym, ap, ◌∙◌, subst, arith, append_assoc}
 use Rattle.std.specs.Option.{is_none, is_some}
 use Rattle.std.proofs.lemmas.Bool.Decides.{nat_tests}
 use Rattle.std.proofs.lemmas.List.{append-nil, drop_all, length-take}
 use Rattle.rsx_demand.specs.declared.TheConstants.{UNBOUNDED}
-use Rattle.rsx_graph_moves.specs.Pumped.{AreHubsQuiet, IsAllQuiet, IsHubQuiet}
 use Rattle.rsx_graph_moves.proofs.Named.{name_enabled}
-use Rattle.rsx_graph_moves.specs.Moves.{name_in}
 use Rattle.rsx_graph_state.proofs.Named.{feed_named, is_number}
 use Rattle.rsx_graph_state.proofs.Values.{emitted_value, values_of}
-use Rattle.rsx_graph_state.specs.Prelude.{AreValues, IsValue, History, HubPast, Source, emitted, fed, accepts_at, accepts_in, feed_enabled, has_feed, is_out, sends, sends_where, works, works_where, HubStands, IsFedBy, Rows, SourceStands, StandsFor, feed_of, AllHaveRead, AllStand, HubState, hub_value, items_of, takes_signal, waiting, ending_taken, without, first_waiting, is_open, MOST_ACCEPTED, all_have_room, can_accept, is_ready, can_feed, takes_next, Subscription}
+use Rattle.rsx_graph_state.specs.Prelude.{History, HubPast, Source, emitted, fed, has_feed, is_out, feed_of, HubState, hub_value, items_of, takes_signal, waiting, ending_taken, without, first_waiting, is_open, MOST_ACCEPTED, is_ready, takes_next}
 use Rattle.rsx_graph_state.specs.declared.TheConstants.{MOST_HUBS}
-use Rattle.rsx_subscriber.specs.Prelude.{Expr, any_machine, IsQuietInside, carried, goes_out, inside_enabled, next_out, IsTaken, can_go, notes_of, route, Past, EdgeState, Inputs, End, More', inside_node, NodeMove, Ask as NodeAsk, Send as NodeSend, Pick as NodePick, Row as NodeRow, Node}
+use Rattle.rsx_subscriber.specs.Prelude.{Expr, carried, IsTaken, can_go, Past, EdgeState, Inputs, End, More', inside_node, NodeMove, Ask as NodeAsk, Send as NodeSend, Pick as NodePick, Row as NodeRow, Node}
 use Rattle.rsx_pipe.proofs.Handing.{none_value}
 use Rattle.rsx_pipe.proofs.Parts.{delivered}
 use Rattle.rsx_pipe.proofs.Signals.{some_same}
 use Rattle.rsx_pipe.specs.Output.{IsUnended, counts_in, items_in, more_after, published_then, values_then}
-use Rattle.rsx_pipe.specs.Part as Part
-use Rattle.rsx_pipe.specs.Part.{HasReadAll, IsServed, PartStands, evaluated, has_room}
-use Rattle.rsx_graph_state.specs.declared.feed.Feed.{Feed}
+use Rattle.rsx_pipe.specs.Part as Parts
+use Rattle.rsx_pipe.specs.Part.{IsServed, evaluated, has_room}
 use Rattle.rsx_sources.specs.Prelude.{front_of, published_at, reads_hub, is_nil, Meaning, Stream, ended_by, ending_signals, items_then, signals, Accept, HubId, Feed as FeedOf, Ending, Open, Done, Failed, Signal, Next, Complete, Error}
 use Rattle.rsx_sources.specs.declared.machine.Machine.{Ghosts as Machine}
 use Rattle.rsx_tree.specs.Prelude.{EdgeView, edge_view, is_live, is_room_for, IsReadAt, IsRowReadAt, IsTreeReadAt, count_before, HasReadAll as HasNodeReadAll, HaveReadAll, TreeHasReadAll, offers}
@@ -90,7 +93,7 @@ tree_got b m taken published t asked sent at each = (
   row_got b m taken published t.inputs at.1 (or_weaker taken published (λ h. AllOffer b m h t asked sent) (λ h. AllOfferIn b m h t.inputs) (λ h k. k.1) each),
 )
 
-part_got : {T : Type 0} (m : Meaning T) (taken published : List (Stream T)) (part : Part.Part T) → (part.root.state ≡ Live → IsTreeReadAt any_machine (counts_in taken) part.tree) → OrWhole taken published (λ h. PartOffers m h part) → HasReadAll m published part
+part_got : {T : Type 0} (m : Meaning T) (taken published : List (Stream T)) (part : Part T) → (part.root.state ≡ Live → IsTreeReadAt any_machine (counts_in taken) part.tree) → OrWhole taken published (λ h. PartOffers m h part) → HasReadAll m published part
 part_got m taken published part at each live = tree_got any_machine m taken published part.tree part.root.demand.asked part.root.demand.sent (at live) (or_weaker taken published (λ h. PartOffers m h part) (λ h. AllOffer any_machine m h part.tree part.root.demand.asked part.root.demand.sent) (λ h k. k live) each)
 
 -- ---- a hub with an emitter took in its value
@@ -123,7 +126,7 @@ root_first : (b x y z : Bool) → y ≡ false → (if b then false else z) ≡ f
 root_first true x y z none q = and_false x y none
 root_first false x y z none q = q
 
-part_quiet : {T : Type 0} (m : Meaning T) (part : Part.Part T) → IsQuietInside m part → goes_out m part ≡ false → Part.IsQuiet m part []
+part_quiet : {T : Type 0} (m : Meaning T) (part : Part T) → IsQuietInside m part → goes_out m part ≡ false → IsPartQuiet m part []
 part_quiet m part q none (NodeAsk n) l = q (NodeAsk n) l
 part_quiet {T} m part q none (NodeSend n) l =
     let room : List (Signal T) → Bool = has_room in
@@ -181,7 +184,7 @@ nothing_left {T} m before f e joins v u st asked less d = by_ending v.ending ref
 fed_whole : {T : Type 0} (m : Meaning T) (before more : List (Stream T)) (f : Feed T) (e : Expr T) (joins : List ℕ) (v u : Stream T) → IsDone m f → PartStands m before f.part e joins (signals v) → f.part.root.demand.asked ≡ UNBOUNDED → (f.part.root.state ≡ Closed → ⊥) →
     HasReadAll m (values_then before more) f.part → evaluated m (values_then before more) joins e (notes_of f.part.tree) ≡ Some (published_then v u) → published_then v u ≡ v
 fed_whole {T} m before more f e joins v u done st asked unclosed read value =
-    let served = delivered m f.part [] (part_quiet m f.part done.quiet done.none) before e joins (signals v) st unclosed (omega arith) done.within.nodes done.within.below more (published_then v u) read value in
+    let served = delivered any_machine m (tree_ending_waits m) (tree_settles m) (any_rests m) f.part [] (part_quiet m f.part done.quiet done.none) before e joins (signals v) st unclosed (omega arith) done.within.nodes done.within.below more (published_then v u) read value in
     nothing_left m before f e joins v u st asked done.within.root served
 
 -- ---- feeds and their hubs at rest
@@ -540,7 +543,7 @@ values_read {T} m g h k rest all = each_read m k.stands.taken (values_then k.sta
 
 pub rows_read : {T : Type 0} (m : Meaning T) (g : Rows T) (h : History T) → StandsFor m g h → WaitForOne m g → AreHubsQuiet m g (length g.hubs) → AreFeedsWithin g.feeds → HaveAllRead m g h
 rows_read {T} m g h s wait quiet within published values =
-    let r = values_of m g h s in
+    let r = values_of any_machine any_laws m g h s in
     let P : List (Stream T) → Type 0 = λ l. AllHaveRead m l g.subs in
     let k : IsAtRest m g h = record { stands = s; wait = wait; quiet = quiet; within = within } in
     subst P (same_values m g.feeds [] h.hubs (values_then s.taken r.rest) published r.values values) (values_read m g h k r.rest (record { many = r.many; values = r.values }))
@@ -556,6 +559,6 @@ hubs_quiet {T} m g few q h less = record { accept = q (Accept hub) (omega (arith
     no_feed true e = ap is_some e
     no_feed false e = refl
 
-    by_feed : (step : NodeMove) → Part.IsNumbered step → (o : Option (Feed T)) → feed_of g.feeds h ≡ o → feed_enabled m g h step ≡ false
+    by_feed : (step : NodeMove) → Parts.IsNumbered step → (o : Option (Feed T)) → feed_of g.feeds h ≡ o → feed_enabled m g h step ≡ false
     by_feed step l None e = ap (λ b. b && (if is_out step then sends m g h else works m g.feeds h step)) (no_feed (is_some (slice_get g.hubs h)) e)
-    by_feed step l (Some f) e = sym (name_enabled m g hub f step e) ∙ q (name_in f hub step) (numbered_name (route f.part (inside_node step)) (FeedOf hub) step l)
+    by_feed step l (Some f) e = sym (name_enabled any_machine tree_nodes m g hub f step e) ∙ q (name_in f hub step) (numbered_name (route f.part (inside_node step)) (FeedOf hub) step l)

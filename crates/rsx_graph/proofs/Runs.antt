@@ -1,4 +1,6 @@
 -- Lists of steps, one step after the other.
+use Rattle.rsx_kinds.specs.Any.{any_machine}
+use Rattle.rsx_graph.proofs.Laws.{any_laws}
 use Rattle.std.proofs.Common.{◌≡◌, ℕ, ◌+◌, ◌<◌, ◌≤◌, List, [], ◌∷◌, ◌++◌, length, get_or, take, Option, refl, ap, sym, ◌∙◌, subst}
 use Rattle.std.proofs.lemmas.List.{take_all, take_more}
 use Rattle.rsx_graph_state.proofs.Values.{whole_holds}
@@ -87,4 +89,4 @@ replayed {T} m m' a a' steps answers old new same alike none run =
     let k : HasRun m a nothing steps answers new = subst G none (subst A alike (subst M same run)) in
     let h : History T = all_extended no_history steps answers k.sent in
     let stands : GraphStands m new h = k.stands no_history (begun m) in
-    record { sent = k.sent; done = k.done; belongs = k.belongs no_history (begun m); stands = stands; headline = whole_holds m new.rows h stands.rows }
+    record { sent = k.sent; done = k.done; belongs = k.belongs no_history (begun m); stands = stands; headline = whole_holds any_machine any_laws m new.rows h stands.rows }

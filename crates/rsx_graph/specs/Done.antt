@@ -1,10 +1,11 @@
 -- What each step of a graph did, by its answer.
+use Rattle.rsx_graph.specs.Kinds.{IsMoved, is_enabled, may_allocate, sent, IsFedHubMade, IsSubscribed, IsCancelledAt, IsRequestedAt}
 use Rattle.std.specs.Prelude.{◌≡◌, ◌≢◌, ◌≤◌, ◌<◌, true, false, List, [], ◌∷◌, ◌++◌, length, Option, None}
-use Rattle.rsx_graph_moves.specs.Moves.{IsMakeRefusal, IsMoved, is_enabled, may_allocate, sent}
-use Rattle.rsx_graph_calls.specs.Edits.{IsFedHubMade, IsFedHubRefusal, fault_of}
+use Rattle.rsx_graph_moves.specs.Moves.{IsMakeRefusal}
+use Rattle.rsx_graph_calls.specs.Edits.{IsFedHubRefusal, fault_of}
 use Rattle.rsx_graph_calls.specs.Publishes.{IsCopyRefusal, IsEndRefusal, has_emitter}
 use Rattle.rsx_graph_calls.specs.Subscribing.{IsSubscribeRefusal}
-use Rattle.rsx_graph_state.specs.Prelude.{History, HaveJoined, IsSubscribed, IsHubRefusal, IsSubscribeId, IsEmittedAt, IsEndedAt, IsCancelledAt, IsRequestedAt, are_numbers, fresh_hub}
+use Rattle.rsx_graph_state.specs.Prelude.{History, HaveJoined, IsHubRefusal, IsSubscribeId, IsEmittedAt, IsEndedAt, are_numbers, fresh_hub}
 use Rattle.rsx_graph_state.specs.declared.TheConstants.{MOST_HUBS}
 use Rattle.rsx_graph_state.specs.declared.refusal.Refusal.TheVariants.{UnknownSub, NoMemory}
 use Rattle.rsx_graph_state.specs.declared.step.Answer.{Answer}

@@ -1,7 +1,7 @@
 -- The words of contracts on a whole graph: those of its hubs, feeds and subscriptions, under what the functions that it holds mean.
+use Rattle.rsx_graph.specs.Kinds.{IsMoved, drives_allocate, is_enabled, may_allocate, sent}
 use Rattle.std.specs.Prelude.{ℕ, Bool, List, map, Option, Result}
-use Rattle.rsx_graph_moves.specs.Moves.{IsMakeRefusal, IsMoved, drives_allocate, is_enabled, may_allocate}
-use Rattle.rsx_graph_moves.specs.Moves as moves
+use Rattle.rsx_graph_moves.specs.Moves.{IsMakeRefusal}
 use Rattle.rsx_graph_state.specs.Prelude.{History, rows_of, Delivered}
 use Rattle.rsx_graph_state.specs.declared.refusal.Refusal.{Refusal}
 use Rattle.rsx_graph_state.specs.declared.step.Answer.{Answer}
@@ -45,7 +45,7 @@ allocates_in {O} {T} {b} graph mv = may_allocate (b.allocates graph.ops) (state_
 
 -- what goes out of a feed into its hub by it
 abbrev pub sent_in : {O T : Type 0} {b : Ops O T} → Graph O T b → Move → Option (Signal T)
-sent_in {O} {T} {b} graph mv = moves.sent (b.meaning graph.ops) (state_of graph).rows mv
+sent_in {O} {T} {b} graph mv = sent (b.meaning graph.ops) (state_of graph).rows mv
 
 -- what the move changes, where it delivers this
 abbrev pub IsMadeIn : {O T : Type 0} {b : Ops O T} → Move → Graph O T b → Graph O T b → Option (SubId × Signal T) → Type 0

@@ -1,6 +1,7 @@
 -- Definitions that contracts cite.
 pub mod Done
 pub mod InGraph
+pub mod Kinds
 pub mod Pumped
 pub mod Read
 pub mod Replayed

@@ -1,6 +1,7 @@
 -- What driving a graph until it is idle does.
+use Rattle.rsx_graph.specs.Kinds.{HasEnded, LeadTo}
 use Rattle.std.specs.Prelude.{◌≡◌, ℕ, List, ◌++◌, length, Result}
-use Rattle.rsx_graph_moves.specs.Pumped.{HasEnded, LeadTo, Made, after_moves, delivered_by}
+use Rattle.rsx_graph_moves.specs.Pumped.{Made, after_moves, delivered_by}
 use Rattle.rsx_graph_state.specs.Prelude.{History, Delivered}
 use Rattle.rsx_graph_state.specs.declared.refusal.Refusal.{Refusal}
 use Rattle.rsx_graph_state.specs.declared.step.Pumped.{Pumped}

@@ -1,9 +1,9 @@
 -- What the nodes that read hubs have got, where each hub in front of which a signal waits has one reader at most.
+use Rattle.rsx_graph.specs.Kinds.{AreValues, Rows, AllHaveRead, all_readers, goes_out, Feed}
 use Rattle.std.specs.Prelude.{◌≡◌, ⊤, ℕ, ◌<◌, ◌≤◌, Bool, true, false, ◌||◌, List, [], ◌∷◌, length, Option, Some, None, is_some, slice_get}
 use Rattle.rsx_demand.specs.declared.TheConstants.{UNBOUNDED}
-use Rattle.rsx_graph_state.specs.Prelude.{AreValues, History, Rows, feed_of, AllHaveRead, HubState, waiting, MOST_ACCEPTED, all_readers}
-use Rattle.rsx_subscriber.specs.Prelude.{MOST_NODES, goes_out, all_edges, IsWithin}
-use Rattle.rsx_graph_state.specs.declared.feed.Feed.{Feed}
+use Rattle.rsx_graph_state.specs.Prelude.{History, feed_of, HubState, waiting, MOST_ACCEPTED}
+use Rattle.rsx_subscriber.specs.Prelude.{MOST_NODES, all_edges, IsWithin}
 use Rattle.rsx_sources.specs.Prelude.{Meaning, Stream}
 use Rattle.rsx_graph.specs.Stands.{GraphStands, GraphState}
 

@@ -1,6 +1,6 @@
 -- What a list of steps gives, from nothing.
+use Rattle.rsx_graph.specs.Kinds.{Headline}
 use Rattle.std.specs.Prelude.{List, Option}
-use Rattle.rsx_graph_state.specs.Headline.{Headline}
 use Rattle.rsx_graph_state.specs.declared.step.Answer.{Answer}
 use Rattle.rsx_sources.specs.Prelude.{Meaning, Allocates, Signal}
 use Rattle.rsx_graph.specs.Done.{AllDone}

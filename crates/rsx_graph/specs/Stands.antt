@@ -1,11 +1,10 @@
 -- What a graph stands for, and what of it an edit leaves as it was.
+use Rattle.rsx_graph.specs.Kinds.{IsServed, Rows, StandsFor, Feed}
 use Rattle.std.specs.Prelude.{◌≡◌, ℕ, List, [], ◌∷◌}
 use Rattle.std.specs.Coded.{×_prop, Unit-prop, le_prop}
-use Rattle.rsx_graph_moves.specs.Served.{IsServed}
 use Rattle.rsx_graph_calls.specs.Edits.{NameHubs}
-use Rattle.rsx_graph_state.specs.Prelude.{JoinsStand, History, Rows, StandsFor}
+use Rattle.rsx_graph_state.specs.Prelude.{JoinsStand, History}
 use Rattle.rsx_graph_calls.specs.Regions.{RegionsStand}
-use Rattle.rsx_graph_state.specs.declared.feed.Feed.{Feed}
 use Rattle.rsx_types.specs.Meaning.{Meaning}
 
 -- its hubs, feeds and subscriptions in rows, the joins of the leaves of each subscription and of each feed, and the region of each

@@ -1,34 +1,35 @@
 //! A graph of hubs and subscriptions.
 
+ghost use Rattle.rsx_graph.specs.Kinds.{IsSubscribed, IsCancelledAt, IsRequestedAt, HasNotes, IsOwed};
 ghost use Rattle.std.specs.Prelude.{◌≡◌, ◌≢◌, ◌<◌, ◌≤◌, ◌++◌, ◌∷◌, [], length, OnOk, OnErr, IfOk, IfErr, IsOk, Some, true, false};
 ghost use Rattle.rsx_pipe.specs.Built.{new_joins};
 ghost use Rattle.rsx_model.specs.Region.{region_of};
 ghost use Rattle.rsx_subscriber.specs.Delivered.{IsFull};
 ghost use Rattle.rsx_subscriber.specs.Past.{cancelled, requested};
 ghost use Rattle.rsx_subscriber.specs.Stands.{IsMadeAnswer};
-ghost use Rattle.rsx_graph_state.specs.Begun.{HaveJoined, IsSubscribed, have_places};
+ghost use Rattle.rsx_graph_state.specs.Begun.{HaveJoined, have_places};
 ghost use Rattle.rsx_graph_state.specs.Answers.{HasAsked, IsLookRefusal, IsSubscribeId, state_at};
-ghost use Rattle.rsx_graph_state.specs.Subscriptions.{IsCancelledAt, IsRequestedAt};
 ghost use Rattle.rsx_graph_state.specs.History.{with_made};
 ghost use Rattle.rsx_graph_calls.specs.Edits.{NameHubs};
 ghost use Rattle.rsx_graph_calls.specs.Regions.{HasRegion};
 ghost use Rattle.rsx_graph_calls.specs.Requests.{with_past};
 ghost use Rattle.rsx_graph_calls.specs.Subscribing.{IsSubscribeRefusal, with_subscriber};
-ghost use Rattle.rsx_graph_calls.specs.Looks.{HasNotes, HasTreeJoins, IsOwed, IsTreeLookRefusal};
+ghost use Rattle.rsx_graph_calls.specs.Looks.{HasTreeJoins, IsTreeLookRefusal};
 ghost use Rattle.rsx_graph.specs.Read.{IsAllRead};
 ghost use Rattle.rsx_graph.specs.Stands.{AreJoinsSame, GraphStands, IsAllServed, IsAsideSame, NameHubs-prop, nothing};
 ghost use Rattle.rsx_graph.specs.Steps.{Belongs, extended, no_history};
 ghost use Rattle.rsx_graph_state.specs.declared.TheConstants.{MOST_HUBS, MOST_SUBSCRIPTIONS};
 
 use crate::step::Step;
-use rsx_graph_calls::{cancel, joins, notes, owed, request, subscribe};
+use rsx_graph_calls::{admit, cancel, joins, notes, owed, request, subscribe};
 use rsx_graph_moves::{make, pump};
 use rsx_graph_state::{Answer, Feed, Pumped, Refusal};
 pub use rsx_graph_state::{MOST_HUBS, MOST_SUBSCRIPTIONS};
 use rsx_hub::Hub;
+use rsx_kinds::{TreeNode, build};
 use rsx_model::Expr;
 use rsx_subscriber::{Deliveries, Subscription, SubscriptionState};
-use rsx_types::{Move, Note, Ops, Signal, StreamValue, SubId, Tree};
+use rsx_types::{Move, NoMemory, Note, Ops, Signal, StreamValue, SubId, Tree};
 use std::alloc::Global;
 
 /// Hubs, some of them fed by expressions, and subscriptions to expressions, driven by edits and moves.
@@ -39,11 +40,11 @@ pub struct Graph<O: Ops> {
     /// The hubs, in the order of their making.
     pub(crate) hubs: Vec<Hub<O::Item>>,
     /// The feeds of those hubs that expressions feed, in the order of their making. Each names its hub.
-    pub(crate) feeds: Vec<Feed<O::Item>>,
+    pub(crate) feeds: Vec<Feed<TreeNode<O::Item>>>,
     /// The joins of each feed's leaves that read a hub, from left to right.
     pub(crate) feed_joins: Vec<Vec<u64>>,
     /// The subscriptions, in the order of their making.
-    pub(crate) subscriptions: Vec<Subscription<O::Item>>,
+    pub(crate) subscriptions: Vec<Subscription<TreeNode<O::Item>, O::Item>>,
     /// The joins of each subscription's leaves that read a hub, from left to right.
     pub(crate) joins: Vec<Vec<u64>>,
     /// The region of each subscription's expression.
@@ -97,18 +98,25 @@ impl<O: Ops> Graph<O> {
         ensures err { IfErr result (λ r. IsSubscribeRefusal expr.now self.old.hubs.items (length self.old.subscriptions.items) r) }
         ensures same { OnErr result (state_of self.new ≡ state_of self.old) }
     {
+        if let Err(why) = admit(expr, &self.hubs, self.subscriptions.len()) {
+            return Err(why);
+        }
         let ops = self.ops;
+        let tree = match build(alloc, &ops, expr, &self.hubs) {
+            Ok(tree) => tree,
+            Err(NoMemory) => return Err(Refusal::NoMemory),
+        };
         match subscribe(
             alloc,
-            &ops,
             &mut self.hubs,
             &mut self.subscriptions,
             &mut self.joins,
             &mut self.regions,
             expr,
+            tree,
         ) {
             Ok(id) => Ok(id),
-            Err(why) => Err(why),
+            Err(NoMemory) => Err(Refusal::NoMemory),
         }
     }
 

@@ -1,13 +1,15 @@
 //! The hubs of a graph: those that a program publishes to, and those that expressions feed.
 
 use crate::graph::Graph;
-use rsx_graph_calls::{NotEmitted, complete, emit, emit_copy, fail, feed_hub, hub};
-use rsx_graph_state::Refusal;
+use rsx_graph_calls::{NotEmitted, admit_fed, complete, emit, emit_copy, fail, feed_hub, hub};
+use rsx_graph_state::{HUB_REGION, Refusal};
+use rsx_kinds::build_for;
 use rsx_model::Expr;
-use rsx_types::{HubId, HubKind, Ops};
+use rsx_types::{HubId, HubKind, NoMemory, Ops};
 use std::alloc::Global;
 
 impl<O: Ops> Graph<O> {
+    ghost use Rattle.rsx_graph.specs.Kinds.{IsFedHubMade};
     ghost use Rattle.std.specs.Prelude.{◌≡◌, ◌<◌, ◌++◌, ◌∷◌, [], length, true, None, OnOk, OnErr, IfOk, IfErr};
     ghost use Rattle.rsx_types.specs.declared.signal.Cause.TheVariants.{User};
     ghost use Rattle.rsx_types.specs.declared.signal.Ending.TheVariants.{Done, Failed};
@@ -16,7 +18,7 @@ impl<O: Ops> Graph<O> {
     ghost use Rattle.rsx_pipe.specs.Built.{new_joins};
     ghost use Rattle.rsx_graph_state.specs.Answers.{IsHubRefusal};
     ghost use Rattle.rsx_graph_state.specs.Hubs.{IsEmittedAt, IsEndedAt};
-    ghost use Rattle.rsx_graph_calls.specs.Edits.{IsFedHubMade, IsFedHubRefusal, fault_of, with_fed_hub, with_hub};
+    ghost use Rattle.rsx_graph_calls.specs.Edits.{IsFedHubRefusal, fault_of, with_fed_hub, with_hub};
     ghost use Rattle.rsx_graph_calls.specs.Publishes.{IsCopyRefusal, IsEmitRefusal, IsEndRefusal, has_emitter, with_published};
     ghost use Rattle.rsx_graph.specs.InGraph.{StandsAfter, state_of};
     ghost use Rattle.rsx_graph.specs.Stands.{IsRestSame};
@@ -70,19 +72,26 @@ impl<O: Ops> Graph<O> {
         ensures err { IfErr result (λ r. IsFedHubRefusal kind capacity expr.now self.old.hubs.items r) }
         ensures same { OnErr result (state_of self.new ≡ state_of self.old) }
     {
+        if let Err(why) = admit_fed(kind, capacity, expr, &self.hubs) {
+            return Err(why);
+        }
         let ops = self.ops;
+        let tree = match build_for(alloc, &ops, expr, &self.hubs, HUB_REGION) {
+            Ok(tree) => tree,
+            Err(NoMemory) => return Err(Refusal::NoMemory),
+        };
         match feed_hub(
             alloc,
-            &ops,
             &mut self.hubs,
             &mut self.feeds,
             &mut self.feed_joins,
             kind,
             capacity,
             expr,
+            tree,
         ) {
             Ok(id) => Ok(id),
-            Err(why) => Err(why),
+            Err(NoMemory) => Err(Refusal::NoMemory),
         }
     }
 

@@ -1,9 +1,8 @@
 //! That where each hub in front of which a signal waits has one reader at most, all that was published is read.
 
+ghost use Rattle.rsx_graph.specs.Kinds.{AreHubsQuiet, Rows, StandsFor};
 ghost use Rattle.std.specs.Prelude.{length};
-ghost use Rattle.rsx_graph_moves.specs.Pumped.{AreHubsQuiet};
 ghost use Rattle.rsx_graph_state.specs.History.{History};
-ghost use Rattle.rsx_graph_state.specs.Stands.{Rows, StandsFor};
 ghost use Rattle.rsx_types.specs.Meaning.{Meaning};
 ghost use Rattle.rsx_graph.specs.Read.{AreFeedsWithin, HaveAllRead, WaitForOne};
 

@@ -1,4 +1,5 @@
 -- Lemmas about the calls of a session.
+use Rattle.rsx_graph.specs.Kinds.{any_machine, Subscription, IsRequestedAt}
 use Rattle.std.proofs.Common.{◌≡◌, ◌≤◌, ◌<◌, ◌&&◌, true, false, ℕ, ℤ, pos, negsuc, zero, suc, List, [], ◌∷◌, ◌++◌, length, map, get_or, refl, ap, sym, subst, ◌∙◌, ◌-◌, arith, take, length-append, Option, Some, None, is_none, is_some, Result, Ok, Err, codes}
 use Rattle.std.proofs.Math.ListN.{set}
 use Rattle.std.specs.Result.{IsErr, IsErrAnd}
@@ -17,7 +18,7 @@ use Rattle.rsx_types.specs.declared.signal.Signal.{Signal}
 use Rattle.rsx_types.specs.declared.signal.Signal.TheVariants.{Next, Complete, Error}
 use Rattle.rsx_demo.specs.Demo.{demo_meaning, demo_allocates}
 use Rattle.rsx_demo.specs.declared.val.Val.{Val}
-use Rattle.rsx_graph_state.specs.Prelude.{HubState, SubscriptionState, changed, state_at, Subscription, IsRequestedAt}
+use Rattle.rsx_graph_state.specs.Prelude.{HubState, SubscriptionState, changed, state_at}
 use Rattle.rsx_subscriber.specs.declared.state.SubscriptionState.TheVariants as state
 use Rattle.rsx_graph_state.proofs.Graphs.{state_there}
 use Rattle.rsx_graph_state.specs.declared.refusal.Refusal.TheVariants as refusal
@@ -198,7 +199,7 @@ none_there s (k ∷ ks) (suc i) lt = ap (λ l. k ∷ l) (none_there s ks i (omeg
 pub request_records : (s : Session) (h : History Val) → SessionStands s h → (i : ℕ) (n : ℤ) (o : Option (Signal Val)) (subs : List (Subscription Val)) (new : List Known) → IsRequestedAt i n s.graph.subscriptions.items subs o → new ≡ after_signal o (map known s.records.items) i → new ≡ map seen (changed (requested n) h.pasts i)
 request_records s h k i n o subs new eff e =
     let st = standing_of eff.old in
-    let there = state_there demo_meaning k.graph.rows.taken s.graph.subscriptions.items h.pasts i eff.old eff.there k.graph.rows.all in
+    let there = state_there any_machine demo_meaning k.graph.rows.taken s.graph.subscriptions.items h.pasts i eff.old eff.there k.graph.rows.all in
     e ∙ (ap (λ l. after_signal o l i) k.records ∙ (ap (λ x. after_signal x (map seen h.pasts) i) eff.answer ∙ requested_kept n h.pasts i st there))
 
 pub passed_memory : (t : Trouble) (result : Result Answer Trouble) (P : List ℕ → Type 0) → t ≡ trouble.Memory → IsErr result × IsErrAnd result (λ u. u ≡ t) → OnText result P

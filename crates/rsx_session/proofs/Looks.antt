@@ -1,15 +1,16 @@
 -- Lemmas about looks at a session.
+use Rattle.rsx_graph.specs.Kinds.{any_machine, notes_of, HasNotesAt}
 use Rattle.std.proofs.Common.{◌≡◌, ◌⊎◌, ◌≤◌, true, false, ℕ, zero, suc, List, [], ◌∷◌, ◌++◌, length, map, refl, ap, sym, subst, ◌∙◌, arith, Some, Result, Ok, Err, slice_get, inl, inr, codes}
 use Rattle.std.specs.Result.{IfErr, IsErr, IsErrAnd}
 use Rattle.rsx_types.specs.declared.names.SubId.{SubId}
 use Rattle.rsx_types.specs.Stream.{Stream}
 use Rattle.rsx_types.specs.declared.note.Note.{Note}
-use Rattle.rsx_subscriber.specs.Prelude.{environment, Expr, notes_of, IsScratch, ScratchRefusal, Past}
+use Rattle.rsx_subscriber.specs.Prelude.{environment, Expr, IsScratch, ScratchRefusal, Past}
 use Rattle.std.proofs.lemmas.List.{length-map}
 use Rattle.std.proofs.lemmas.Option.{slice_get_within}
 use Rattle.rsx_demo.specs.Demo.{demo_meaning}
 use Rattle.rsx_demo.specs.declared.val.Val.{Val}
-use Rattle.rsx_graph_state.specs.Prelude.{HasAsked, HasJoins, IsLookRefusal, state_at, HasNotesAt, SubscriptionState}
+use Rattle.rsx_graph_state.specs.Prelude.{HasAsked, HasJoins, IsLookRefusal, state_at, SubscriptionState}
 use Rattle.rsx_graph_state.specs.declared.refusal.Refusal.{Refusal}
 use Rattle.rsx_graph_state.specs.declared.refusal.Refusal.TheVariants as refusal
 use Rattle.rsx_graph_state.proofs.Graphs.{count_same}
@@ -31,7 +32,7 @@ use Rattle.rsx_session.specs.declared.session.Trouble.TheVariants as trouble
 
 -- there are as many subscriptions as pasts
 pub subs_count : (s : Session) (h : History Val) → SessionStands s h → length s.graph.subscriptions.items ≡ length h.pasts
-subs_count s h k = count_same demo_meaning k.graph.rows.taken s.graph.subscriptions.items h.pasts k.graph.rows.all
+subs_count s h k = count_same any_machine demo_meaning k.graph.rows.taken s.graph.subscriptions.items h.pasts k.graph.rows.all
 
 -- there are as many lists of joins as pasts
 pub joins_count : (s : Session) (h : History Val) → SessionStands s h → length s.graph.joins.items ≡ length h.pasts

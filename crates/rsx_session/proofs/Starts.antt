@@ -1,10 +1,11 @@
 -- Where a script begins.
+use Rattle.rsx_graph.specs.Kinds.{Subscription, AllStand}
 use Rattle.std.proofs.Common.{◌≡◌, ℕ, List, [], ◌∷◌, length, map, refl, ap, ◌∙◌, arith}
 use Rattle.std.proofs.lemmas.List.{length-map, nil_from_length}
 use Rattle.rsx_types.specs.Stream.{Stream}
 use Rattle.rsx_demo.specs.Demo.{demo_meaning}
 use Rattle.rsx_demo.specs.declared.val.Val.{Val}
-use Rattle.rsx_graph_state.specs.Prelude.{HubState, Subscription, AllStand}
+use Rattle.rsx_graph_state.specs.Prelude.{HubState}
 use Rattle.rsx_graph.specs.Rows.{Feed, NameHubs}
 use Rattle.rsx_graph.specs.Steps.{no_history}
 use Rattle.rsx_session.specs.Places.{Place, begun}

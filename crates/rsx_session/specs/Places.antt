@@ -1,4 +1,5 @@
 -- Where a script stands, and what each command changes there and answers.
+use Rattle.rsx_graph.specs.Kinds.{notes_of, Subscription}
 use Rattle.std.specs.Prelude.{◌≡◌, ◌⊎◌, ℕ, ◌≤◌, Bool, true, false, Decides, List, [], ◌++◌, length, take, Some, Result, Ok, Err, slice_get, codes}
 use Rattle.std.specs.Fmt.{decimal}
 use Rattle.rsx_types.specs.Stream.{Stream}
@@ -8,9 +9,9 @@ use Rattle.rsx_types.specs.declared.names.Tree.TheVariants.{Sub}
 use Rattle.rsx_demo.specs.Demo.{demo_meaning, demo_allocates}
 use Rattle.rsx_demo.specs.declared.val.Val.{Val}
 use Rattle.rsx_demo.specs.declared.val.Val.TheVariants.{Int}
-use Rattle.rsx_subscriber.specs.Prelude.{environment, Expr, IsScratch, name_codes as scratch_name, ScratchRefusal, Past, IsPrefixOf, items_in, notes_of}
+use Rattle.rsx_subscriber.specs.Prelude.{environment, Expr, IsScratch, name_codes as scratch_name, ScratchRefusal, Past, IsPrefixOf, items_in}
 use Rattle.rsx_model.specs.declared.evaluate.ScratchRefusal.TheVariants as scratch
-use Rattle.rsx_graph_state.specs.Prelude.{SubscriptionState, Subscription}
+use Rattle.rsx_graph_state.specs.Prelude.{SubscriptionState}
 use Rattle.rsx_subscriber.specs.declared.state.SubscriptionState.TheVariants as is
 use Rattle.rsx_graph_state.specs.Names.{name_codes}
 use Rattle.rsx_graph.specs.Rows.{AreValues, Feed, HasEnded, History, HubPast, IsOwed, LeadTo, Made, after_moves, fed, feed_of}

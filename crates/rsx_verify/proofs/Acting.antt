@@ -1,4 +1,6 @@
 -- What is recorded of a run goes on, for each subscriber, as one subscription does.
+use Rattle.rsx_graph.specs.Kinds.{any_machine, notes_of, IsFresh, Holds, Feed, Subscription, AllHold, AllStand, AreValues, IsValue}
+use Rattle.rsx_graph.proofs.Laws.{any_laws}
 use Rattle.std.proofs.Common.{◌≡◌, ◌≢◌, ℕ, ℤ, zero, suc, List, [], ◌∷◌, ◌++◌, map, Option, Some, None, inl, inr, refl, sym, ap, ◌∙◌, subst, append_assoc, arith}
 use Rattle.std.specs.Prelude.{slice_get, slice_set}
 use Rattle.std.specs.List.{All}
@@ -19,10 +21,9 @@ use Rattle.rsx_types.specs.declared.signal.Ending.{Ending}
 use Rattle.rsx_types.specs.declared.signal.Ending.TheVariants as stream
 use Rattle.rsx_types.specs.declared.signal.Signal.{Signal}
 use Rattle.rsx_types.specs.declared.signal.Signal.TheVariants.{Next, Complete, Error}
-use Rattle.rsx_subscriber.specs.Prelude.{environment, Expr, notes_of, region_of, IsFresh, Holds, Past, given, standing, standing_of}
+use Rattle.rsx_subscriber.specs.Prelude.{environment, Expr, region_of, Past, given, standing, standing_of}
 use Rattle.rsx_model.proofs.Laws.{never_a_bad_request_law}
-use Rattle.rsx_graph_state.specs.declared.feed.Feed.{Feed}
-use Rattle.rsx_graph_state.specs.Prelude.{Ended, Subscription, AllHold, changed, AllStand, AreValues, IsValue, History, HubPast, Source, accepted_at, emitted, fed, sent_at, with_made, with_moved}
+use Rattle.rsx_graph_state.specs.Prelude.{Ended, changed, History, HubPast, Source, accepted_at, emitted, fed, sent_at, with_made, with_moved}
 use Rattle.rsx_graph_state.proofs.Values.{whole_holds}
 use Rattle.rsx_graph_moves.specs.Pumped.{Made, after_moves, delivered_by}
 use Rattle.rsx_graph.specs.Stands.{GraphStands, GraphState}
@@ -169,7 +170,7 @@ delivered_clean {T} m me old new t h w x (Some sub) there stands sources steps =
     let last = some_last me x.moves sub (slice_get new.rows.subs me) steps in
     let past = past_of m stands.rows.taken old.rows.subs h.pasts me sub stands.rows.all there in
     let after = x.stands h stands in
-    let whole = whole_holds m new.rows (after_moves h x.moves) after.rows in
+    let whole = whole_holds any_machine any_laws m new.rows (after_moves h x.moves) after.rows in
     let fine = values_fine m new.rows.feeds [] (after_moves h x.moves).hubs whole.published (fed_after h x.moves sources) (All-nil (λ (v : Stream T). IsFine v)) whole.values in
     let holds = hold_there m whole.published new.rows.subs (after_moves h x.moves).pasts me last.0 whole.all last.1 in
     let ss = to me (delivered_by x.moves) in

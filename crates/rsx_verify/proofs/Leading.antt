@@ -1,16 +1,16 @@
 -- Runs, act by act.
+use Rattle.rsx_graph.specs.Kinds.{IsSubscribed, IsRequestedAt, Subscription, Feed, IsFedHubMade}
 use Rattle.std.proofs.Common.{◌≡◌, ℕ, ◌+◌, ◌<◌, ◌≤◌, List, [], ◌∷◌, ◌++◌, length, take, get_or, ℤ, Option, Some, inl, refl, sym, ap, ◌∙◌, subst, append_assoc}
 use Rattle.std.proofs.lemmas.List.{append-nil, take_all, take_more}
 use Rattle.rsx_trace.specs.declared.event.Stamped.{Stamped}
 use Rattle.rsx_types.specs.Meaning.{Meaning}
 use Rattle.rsx_subscriber.specs.Prelude.{Expr, cancelled, requested}
-use Rattle.rsx_graph_state.specs.Prelude.{HaveJoined, IsSubscribed, IsRequestedAt, Subscription, History}
-use Rattle.rsx_graph_state.specs.declared.feed.Feed.{Feed}
+use Rattle.rsx_graph_state.specs.Prelude.{HaveJoined, History}
 use Rattle.rsx_types.specs.declared.names.HubKind.TheVariants.{Multicast}
 use Rattle.rsx_types.specs.declared.names.SubId.{SubId}
 use Rattle.rsx_types.specs.declared.signal.Signal.{Signal}
 use Rattle.rsx_trace.specs.declared.event.Event.TheVariants as event
-use Rattle.rsx_graph_calls.specs.Edits.{IsFedHubMade, with_fed_hub}
+use Rattle.rsx_graph_calls.specs.Edits.{with_fed_hub}
 use Rattle.rsx_graph_calls.specs.Requests.{with_past}
 use Rattle.rsx_graph_calls.specs.Subscribing.{with_subscriber}
 use Rattle.rsx_graph.specs.Stands.{GraphStands, GraphState, IsAsideSame, nothing}

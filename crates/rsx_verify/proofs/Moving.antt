@@ -1,4 +1,5 @@
 -- What the moves of a graph come to for one subscriber.
+use Rattle.rsx_graph.specs.Kinds.{any_machine, tree_nodes, AllHanded, Subscription, IsMadeAt, enabled_at, IsMovedBy, Rows, route, enabled_inside, inner_move, IsMoved, IsMovedInFeed, feed_move, is_enabled, LeadTo}
 use Rattle.std.proofs.Common.{◌≡◌, ◌≢◌, ◌⊎◌, ℕ, zero, suc, ◌==◌, Bool, true, false, ◌&&◌, ◌||◌, nat_eq, inl, inr, List, [], ◌∷◌, ◌++◌, Option, Some, None, refl, sym, ap, ◌∙◌, subst}
 use Rattle.std.specs.Prelude.{if◌then◌else◌, slice_get, slice_set}
 use Rattle.std.specs.Option.{option_to_list}
@@ -13,12 +14,11 @@ use Rattle.rsx_types.specs.declared.names.SubId.{SubId}
 use Rattle.rsx_types.specs.declared.names.Tree.TheVariants.{Sub, Feed as FeedOf}
 use Rattle.rsx_types.specs.declared.signal.Signal.{Signal}
 use Rattle.rsx_types.specs.declared.signal.Signal.TheVariants.{Next, Complete, Error}
-use Rattle.rsx_graph_state.specs.Prelude.{AllHanded, Subscription, changed, IsMadeAt, enabled_at, History, with_made, with_sent, IsMovedBy, is_out, Rows}
-use Rattle.rsx_subscriber.specs.Prelude.{Past, given, delivers, route, Straight, IsKeptBeside, IsMadeAnswer, IsTake, IsTakeAnswer, enabled_inside, inner_move, take_by, NodeMove}
+use Rattle.rsx_graph_state.specs.Prelude.{changed, History, with_made, with_sent, is_out}
+use Rattle.rsx_subscriber.specs.Prelude.{Past, given, delivers, Straight, IsKeptBeside, IsMadeAnswer, IsTake, IsTakeAnswer, take_by, NodeMove}
 use Rattle.rsx_subscriber.proofs.Moves.{worked_kept}
 use Rattle.rsx_graph_state.proofs.Graphs.{enabled_there}
-use Rattle.rsx_graph_moves.specs.Moves.{IsMoved, IsMovedInFeed, feed_move, is_enabled}
-use Rattle.rsx_graph_moves.specs.Pumped.{LeadTo, Made, after_moves, delivered_by}
+use Rattle.rsx_graph_moves.specs.Pumped.{Made, after_moves, delivered_by}
 use Rattle.rsx_trace.specs.declared.event.Stamped.{Stamped}
 use Rattle.rsx_verify.specs.Events.{deliveries, delivery}
 use Rattle.rsx_verify.proofs.Progress.{Progress, at, fresh, GoesOn, goes_further}
@@ -109,7 +109,7 @@ delivering {T} m subs i sub t n there root on = only_first (on_table true) (ap w
     whole b = on_table b || enabled_inside m sub (take_by (if b then Straight else route sub.part n.0) n.0)
 
     here : whole (nat_eq n.0 0) ≡ true
-    here = sym (enabled_there m subs i sub (Take (Sub t) n) (slice_get_within subs i sub there) (get_or_from_slice_get subs i sub sub there)) ∙ on
+    here = sym (enabled_there any_machine tree_nodes m subs i sub (Take (Sub t) n) (slice_get_within subs i sub there) (get_or_from_slice_get subs i sub sub there)) ∙ on
 
 -- only the Take of a root answers a signal
 root_taken : {T : Type 0} (b : Bool) (i : SubId) (d : SubId × Signal T) → IsTakeAnswer b i (Some d) → (b ≡ true) × IsTakeAnswer true i (Some d)
@@ -133,10 +133,10 @@ feed_step m me None h old new moved = absurd moved
 feed_step m me (Some step) h old new moved = fed_step m me step (is_out step) h old new moved
 
 one_step : {T : Type 0} (m : Meaning T) (me : ℕ) (mv : Move) (o : Option (SubId × Signal T)) (old new : Rows T) → is_enabled m old mv ≡ true → IsMoved m mv old new o → IsMadeAnswer mv o → IsStepOf me o (slice_get old.subs me) (slice_get new.subs me)
-one_step m me (Ask (Sub i) n) None old new enabled moved answer = tree_step m me (Ask (Sub i) n) i.0 old.subs new.subs moved.0 (worked_kept m (inner_move moved.0.old (Ask (Sub i) n)) moved.0.old moved.0.new moved.0.effect)
-one_step m me (Send (Sub i) n) None old new enabled moved answer = tree_step m me (Send (Sub i) n) i.0 old.subs new.subs moved.0 (worked_kept m (inner_move moved.0.old (Send (Sub i) n)) moved.0.old moved.0.new moved.0.effect)
-one_step m me (Pick (Sub i) n k) None old new enabled moved answer = tree_step m me (Pick (Sub i) n k) i.0 old.subs new.subs moved.0 (worked_kept m (inner_move moved.0.old (Pick (Sub i) n k)) moved.0.old moved.0.new moved.0.effect)
-one_step m me (Row (Sub i) n) None old new enabled moved answer = tree_step m me (Row (Sub i) n) i.0 old.subs new.subs moved.0 (worked_kept m (inner_move moved.0.old (Row (Sub i) n)) moved.0.old moved.0.new moved.0.effect)
+one_step m me (Ask (Sub i) n) None old new enabled moved answer = tree_step m me (Ask (Sub i) n) i.0 old.subs new.subs moved.0 (worked_kept any_machine m (inner_move moved.0.old (Ask (Sub i) n)) moved.0.old moved.0.new moved.0.effect)
+one_step m me (Send (Sub i) n) None old new enabled moved answer = tree_step m me (Send (Sub i) n) i.0 old.subs new.subs moved.0 (worked_kept any_machine m (inner_move moved.0.old (Send (Sub i) n)) moved.0.old moved.0.new moved.0.effect)
+one_step m me (Pick (Sub i) n k) None old new enabled moved answer = tree_step m me (Pick (Sub i) n k) i.0 old.subs new.subs moved.0 (worked_kept any_machine m (inner_move moved.0.old (Pick (Sub i) n k)) moved.0.old moved.0.new moved.0.effect)
+one_step m me (Row (Sub i) n) None old new enabled moved answer = tree_step m me (Row (Sub i) n) i.0 old.subs new.subs moved.0 (worked_kept any_machine m (inner_move moved.0.old (Row (Sub i) n)) moved.0.old moved.0.new moved.0.effect)
 one_step m me (Ask (FeedOf h) n) None old new enabled moved answer = feed_step m me (feed_move old.feeds h.0 (Ask (FeedOf h) n)) h.0 old new moved
 one_step m me (Send (FeedOf h) n) None old new enabled moved answer = feed_step m me (feed_move old.feeds h.0 (Send (FeedOf h) n)) h.0 old new moved
 one_step m me (Pick (FeedOf h) n k) None old new enabled moved answer = feed_step m me (feed_move old.feeds h.0 (Pick (FeedOf h) n k)) h.0 old new moved
@@ -147,7 +147,7 @@ one_step m me (Pick t n k) (Some d) old new enabled moved answer = absurd (cc)
 one_step m me (Row t n) (Some d) old new enabled moved answer = absurd (cc)
 one_step m me (Take (FeedOf h) n) None old new enabled moved answer = feed_step m me (feed_move old.feeds h.0 (Take (FeedOf h) n)) h.0 old new moved
 one_step m me (Take (FeedOf h) n) (Some d) old new enabled moved answer = absurd (cc)
-one_step m me (Take (Sub i) n) None old new enabled moved answer = tree_step m me (Take (Sub i) n) i.0 old.subs new.subs moved.0 (worked_kept m (inner_move moved.0.old (Take (Sub i) n)) moved.0.old moved.0.new moved.0.effect)
+one_step m me (Take (Sub i) n) None old new enabled moved answer = tree_step m me (Take (Sub i) n) i.0 old.subs new.subs moved.0 (worked_kept any_machine m (inner_move moved.0.old (Take (Sub i) n)) moved.0.old moved.0.new moved.0.effect)
 one_step {T} m me (Take (Sub i) n) (Some d) old new enabled moved answer =
     let root = root_taken (nat_eq n.0 0) i d answer in
     let here : d.0.0 ≡ i.0 = ap (λ x. x.0.0) (same_Some d (i, root.1.0) root.1.1) in

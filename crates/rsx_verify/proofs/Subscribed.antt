@@ -1,4 +1,5 @@
 -- How one subscription goes on: what a request, a cancel and a delivery record.
+use Rattle.rsx_graph.specs.Kinds.{any_machine, IsCancelled, IsRequested, Subscription}
 use Rattle.std.proofs.Common.{◌≡◌, ◌≢◌, ℕ, ℤ, zero, suc, pos, negsuc, ◌+◌, ◌<◌, Bool, true, false, List, [], ◌∷◌, Option, Some, None, Ok, Err, inl, refl, sym, ap, ◌∙◌, subst, arith}
 use Rattle.std.specs.Prelude.{nat_lt, if◌then◌else◌}
 use Rattle.std.proofs.lemmas.Bool.{ltb-true}
@@ -12,8 +13,8 @@ use Rattle.rsx_subscription.specs.declared.State.{State}
 use Rattle.rsx_subscription.specs.declared.State.TheVariants.{Fresh, Open as StateOpen, Cancelled as StateCancelled, Done, Failed}
 use Rattle.rsx_subscription.specs.declared.Effect.TheVariants.{Deliver}
 use Rattle.rsx_subscription.specs.declared.Refusal.TheVariants.{Overrun}
-use Rattle.rsx_subscriber.specs.Prelude.{IsCancelled, IsRequested, IsShut, request_answer, delivers, input_of, is_delivery, standing, IsKeptBeside, IsTake, standing_of}
-use Rattle.rsx_graph_state.specs.Prelude.{SubscriptionState, Subscription}
+use Rattle.rsx_subscriber.specs.Prelude.{IsShut, request_answer, delivers, input_of, is_delivery, standing, IsKeptBeside, IsTake, standing_of}
+use Rattle.rsx_graph_state.specs.Prelude.{SubscriptionState}
 use Rattle.rsx_subscriber.specs.declared.state.SubscriptionState.TheVariants.{Open, Ended, Cancelled, Refused}
 use Rattle.rsx_trace.specs.declared.event.Event.{Event}
 use Rattle.rsx_trace.specs.declared.event.Event.TheVariants as event
@@ -53,11 +54,11 @@ event_goes me p e own m = record { own = own; may = m }
 
 -- ---- requests and cancels
 
-shut_refused : {T : Type 0} (old new : Subscription T) → IsShut old Failed new → standing_of new ≡ Open → ⊥
+shut_refused : {T : Type 0} (old new : Subscription T) → IsShut any_machine old Failed new → standing_of new ≡ Open → ⊥
 shut_refused old new shut o =
     let is : standing_of new ≡ Refused = ap (λ s. standing s new.live) shut.state ∙ ap (λ l. standing Failed l) shut.live in absurd (cc)
 
-shut_cancelled : {T : Type 0} (old new : Subscription T) → IsShut old StateCancelled new → standing_of new ≡ Open → ⊥
+shut_cancelled : {T : Type 0} (old new : Subscription T) → IsShut any_machine old StateCancelled new → standing_of new ≡ Open → ⊥
 shut_cancelled old new shut o = let is : standing_of new ≡ Cancelled = ap (λ s. standing s new.live) shut.state in absurd (cc)
 
 -- a request of a subscription that isn't open
@@ -70,7 +71,7 @@ late_request {T} me n (at over a k) old new o closed same e fits =
 late_request me n _ old new o closed same e fits = absurd fits
 
 -- a bad one of an open subscription
-bad_request : {T : Type 0} (me : ℕ) (n : ℤ) (a k : ℕ) (old new : Subscription T) (o : Option (Signal T)) → after (at running a k) (event.Request me n) ≡ at refusing a k → IsShut old Failed new → o ≡ Some (Error NonPositiveRequest) → Comes me (at running a k) (stamped (event.Request me n) ∷ answered (subscriber me) o) new
+bad_request : {T : Type 0} (me : ℕ) (n : ℤ) (a k : ℕ) (old new : Subscription T) (o : Option (Signal T)) → after (at running a k) (event.Request me n) ≡ at refusing a k → IsShut any_machine old Failed new → o ≡ Some (Error NonPositiveRequest) → Comes me (at running a k) (stamped (event.Request me n) ∷ answered (subscriber me) o) new
 bad_request {T} me n a k old new o leads shut e =
     let A : Option (Signal T) → Type 0 = λ x. Comes me (at running a k) (stamped (event.Request me n) ∷ answered (subscriber me) x) new in
     let bad : Option (Signal T) = Some (Error NonPositiveRequest) in

@@ -1,4 +1,5 @@
 -- The runs of subscriptions to one expression, and what is recorded of them.
+use Rattle.rsx_graph.specs.Kinds.{Subscription, IsSubscribed, IsCancelledAt, IsRequestedAt, HasEnded, LeadTo, IsFedHubMade}
 use Rattle.std.specs.Prelude.{◌≡◌, ◌⊎◌, ℕ, ℤ, ◌≤◌, List, [], ◌∷◌, ◌++◌, length, Option, Ok}
 use Rattle.rsx_trace.specs.declared.event.Event.TheVariants as event
 use Rattle.rsx_trace.specs.declared.event.Stamped.{Stamped}
@@ -7,10 +8,10 @@ use Rattle.rsx_types.specs.declared.names.HubKind.TheVariants.{Multicast}
 use Rattle.rsx_types.specs.declared.names.SubId.{SubId}
 use Rattle.rsx_types.specs.declared.signal.Signal.{Signal}
 use Rattle.rsx_subscriber.specs.Prelude.{Expr, Hub, region_of, cancelled, requested}
-use Rattle.rsx_graph_state.specs.Prelude.{HubState, Subscription, HaveJoined, IsSubscribed, IsCancelledAt, IsRequestedAt, History}
+use Rattle.rsx_graph_state.specs.Prelude.{HubState, HaveJoined, History}
 use Rattle.rsx_graph_state.specs.declared.step.Pumped.{Pumped}
-use Rattle.rsx_graph_moves.specs.Pumped.{HasEnded, LeadTo, Made, after_moves, delivered_by}
-use Rattle.rsx_graph_calls.specs.Edits.{IsFedHubMade, with_fed_hub}
+use Rattle.rsx_graph_moves.specs.Pumped.{Made, after_moves, delivered_by}
+use Rattle.rsx_graph_calls.specs.Edits.{with_fed_hub}
 use Rattle.rsx_graph_calls.specs.Requests.{with_past}
 use Rattle.rsx_graph.specs.Stands.{AreJoinsSame, GraphStands, GraphState, IsAsideSame}
 use Rattle.rsx_graph_calls.specs.Subscribing.{with_subscriber}

@@ -1,7 +1,7 @@
+use Rattle.rsx_graph.specs.Kinds.{Feed}
 use Rattle.std.proofs.Common.{length, map, List, ap, sym, ◌∙◌, subst, arith}
 use Rattle.rsx_graph_calls.specs.Edits.{NameHubs}
 use Rattle.rsx_graph.proofs.Kept.{begun_from, state_with}
-use Rattle.rsx_graph_state.specs.declared.feed.Feed.{Feed}
 use Rattle.rsx_graph.proofs.graph.Graph.new.Goals as goal
 
 pub invariant_of-result : goal.invariant_of-result

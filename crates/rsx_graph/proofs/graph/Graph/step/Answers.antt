@@ -1,3 +1,4 @@
+use Rattle.rsx_kinds.specs.Any.{any_machine}
 use Rattle.std.proofs.Common.{rules, length, map, ap, ◌∙◌, arith, w64}
 use Rattle.std.proofs.lemmas.Int.{to_z-of_z}
 use Rattle.rsx_graph.proofs.Kept.{unchanged}
@@ -37,7 +38,7 @@ returns-in-Err-request-clause-stands g c = rw c.in-Request.is (unchanged (g.O.Op
 pub returns-in-Ok-request-clause-belongs : goal.returns-in-Ok-request-clause-belongs
 returns-in-Ok-request-clause-belongs g c = λ h s.
     let a = c.in-Ok-request.ensures.effect in
-    rw c.in-Request.is (standing_of a.old, state_there (g.O.Ops.meaning c.args.self.now.ops) s.rows.taken c.args.self.now.subscriptions.items h.pasts c.in-Request.sub.0 a.old a.there s.rows.all, search (rules, a.answer))
+    rw c.in-Request.is (standing_of a.old, state_there any_machine (g.O.Ops.meaning c.args.self.now.ops) s.rows.taken c.args.self.now.subscriptions.items h.pasts c.in-Request.sub.0 a.old a.there s.rows.all, search (rules, a.answer))
 
 pub returns-in-Err-request-clause-belongs : goal.returns-in-Err-request-clause-belongs
 returns-in-Err-request-clause-belongs g c = λ h s.

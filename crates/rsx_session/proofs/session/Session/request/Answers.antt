@@ -1,7 +1,7 @@
+use Rattle.rsx_graph.specs.Kinds.{IsRequestedAt}
 use Rattle.std.proofs.Common.{ℤ, w64}
 use Rattle.std.proofs.lemmas.Int.{to_z-of_z}
 use Rattle.rsx_demo.specs.Demo.{demo_meaning}
-use Rattle.rsx_graph_state.specs.Subscriptions.{IsRequestedAt}
 use Rattle.rsx_graph.specs.Rows.{with_past}
 use Rattle.rsx_graph.specs.Stands.{GraphStands}
 use Rattle.rsx_subscriber.specs.Past.{requested}
