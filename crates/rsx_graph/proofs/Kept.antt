@@ -2,12 +2,13 @@
 use Rattle.rsx_kinds.specs.Any.{any_machine}
 use Rattle.rsx_kinds.specs.Routes.{tree_nodes}
 use Rattle.rsx_graph.proofs.Laws.{any_laws}
-use Rattle.rsx_graph.specs.Kinds.{IsMoved, IsSubscribed, HasEnded, HasPumped as RowsPumped, LeadTo, Rows, Subscription, Feed}
+use Rattle.rsx_graph.specs.Kinds.{IsMoved, IsSubscribed, HasEnded, HasPumped as RowsPumped, IsMoveMade, LeadTo, Rows, Subscription, Feed}
 use Rattle.std.proofs.Common.{◌≡◌, ℕ, ◌<◌, ◌≤◌, ℤ, zero, suc, pos, negsuc, List, [], ◌∷◌, length, length-append, map, slice_get, Option, Some, Result, Ok, Err, IfOk, OnOk, OnErr, refl, ap, sym, ◌∙◌, subst, arith}
 use Rattle.std.proofs.lemmas.Option.{same_Some}
 use Rattle.rsx_graph_moves.proofs.Keeping.{KeepHubs, lead_keep, moved_keep}
 use Rattle.rsx_graph_moves.proofs.Serving.{rows_served}
-use Rattle.rsx_graph_moves.specs.Pumped.{Made, after_moves}
+use Rattle.rsx_graph_moves.specs.Pumped.{Made, after_move, after_moves}
+use Rattle.rsx_tree.proofs.Runs.{leads_fold}
 use Rattle.rsx_graph_calls.proofs.Kept.{joins_same, kept_changed, kept_made}
 use Rattle.rsx_graph_calls.proofs.Names.{names_kept}
 use Rattle.rsx_graph_calls.specs.Edits.{NameHubs}
@@ -57,9 +58,8 @@ made_joins m mv o s old new joins feed_joins h effect j =
 
 -- many
 pub moved_joins : {T : Type 0} (m : Meaning T) (old new : Rows T) (moves : List (Made T)) (joins feed_joins : List (List ℕ)) (h : History T) → LeadTo m old moves new → JoinsStand old.feeds joins feed_joins h → JoinsStand new.feeds joins feed_joins (after_moves h moves)
-moved_joins {T} m old new [] joins feed_joins h lead j = let P : Rows T → Type 0 = λ g. JoinsStand g.feeds joins feed_joins h in subst P (sym lead) j
-moved_joins m old new (d ∷ ds) joins feed_joins h lead j =
-    moved_joins m lead.0 new ds joins feed_joins (with_made d.move d.delivered d.fed h) lead.2 (made_joins m d.move d.delivered d.fed old lead.0 joins feed_joins h lead.1.effect j)
+moved_joins m old new moves joins feed_joins h lead j =
+    leads_fold (IsMoveMade m) after_move (λ g k. JoinsStand g.feeds joins feed_joins k) (λ a b d k made j. made_joins m d.move d.delivered d.fed a b joins feed_joins k made.effect j) old new moves h lead j
 
 -- ---- the regions
 

@@ -257,6 +257,9 @@ IsAllQuiet m g = MovesPumped.IsAllQuiet any_machine tree_nodes m g
 abbrev pub IsHubQuiet : {T : Type 0} → (m : Meaning T) (g : Rows T) (h : ℕ) → Type 0
 IsHubQuiet m g h = MovesPumped.IsHubQuiet any_machine m g h
 
+abbrev pub IsMoveMade : {T : Type 0} → Meaning T → Rows T → Made T → Rows T → Type 0
+IsMoveMade m old made new = MovesPumped.IsMoveMade any_machine tree_nodes m old made new
+
 abbrev pub LeadTo : {T : Type 0} → Meaning T → Rows T → List (Made T) → Rows T → Type 0
 LeadTo m g moves g' = MovesPumped.LeadTo any_machine tree_nodes m g moves g'
 

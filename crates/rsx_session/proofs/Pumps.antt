@@ -6,14 +6,16 @@ use Rattle.rsx_types.specs.declared.names.Move.TheVariants.{Ask, Send, Take, Pic
 use Rattle.rsx_types.specs.declared.names.Tree.{Tree}
 use Rattle.rsx_types.specs.declared.names.Tree.TheVariants.{Sub, Feed as FeedOf}
 use Rattle.rsx_types.specs.declared.signal.Signal.{Signal}
+use Rattle.std.proofs.lemmas.List.Sums.{fold-append}
 use Rattle.std.specs.Option.{option_to_list}
+use Rattle.rsx_tree.proofs.Runs.{leads_on}
 use Rattle.rsx_demo.specs.Demo.{demo_meaning}
 use Rattle.rsx_demo.specs.declared.val.Val.{Val}
 use Rattle.rsx_subscriber.specs.Prelude.{Delivered, Past, given, IsMadeAnswer}
 use Rattle.rsx_graph_state.specs.Answers.{changed}
 use Rattle.rsx_graph_state.specs.declared.step.Pumped.{Pumped}
 use Rattle.rsx_graph_state.specs.declared.step.Pumped.TheVariants.{Idle, Budget}
-use Rattle.rsx_graph.specs.Rows.{HasEnded, History, HubPast, LeadTo, Made, Rows, accepted_at, after_moves, delivered_by, sent_at, with_delivery, with_made, with_moved, with_sent}
+use Rattle.rsx_graph.specs.Rows.{HasEnded, History, HubPast, IsMoveMade, LeadTo, Made, Rows, accepted_at, after_move, after_moves, delivered_by, sent_at, with_delivery, with_made, with_moved, with_sent}
 use Rattle.rsx_graph.specs.InGraph.{HasPumpedIn, state_of}
 use Rattle.rsx_session.specs.Kept.{Known, all_taken, known, seen, source_of, sources_of, taken}
 use Rattle.rsx_session.specs.Places.{ArePumped, pumped_text}
@@ -93,14 +95,6 @@ seen_after old new h (d ∷ ds) (mid, made, lead) =
 
 -- ---- one run behind another
 
-lead_on : (a b c : Rows Val) (ds es : List (Made Val)) → LeadTo demo_meaning a ds b → LeadTo demo_meaning b es c → LeadTo demo_meaning a (ds ++ es) c
-lead_on a b c [] es x y = let P : Rows Val → Type 0 = λ g. LeadTo demo_meaning g es c in subst P x y
-lead_on a b c (d ∷ ds) es x y = (x.0, x.1, lead_on x.0 b c ds es x.2 y)
-
-after_on : (h : History Val) (ds es : List (Made Val)) → after_moves h (ds ++ es) ≡ after_moves (after_moves h ds) es
-after_on h [] es = refl
-after_on h (d ∷ ds) es = after_on (with_made d.move d.delivered d.fed h) ds es
-
 -- no move was made so far
 pub none_run : (s : Session) → AllRun 0 s s
 none_run s = λ h k. record { moves = []; counted = refl; lead = refl; same = (refl, refl, refl); stands = k; view = refl }
@@ -112,9 +106,9 @@ run_on n m old mid new h a b =
     record {
       moves = a.moves ++ b.moves;
       counted = let l = length-append a.moves b.moves in let x = a.counted in let y = b.counted in omega (arith, l, x, y);
-      lead = lead_on (state_of old.graph).rows (state_of mid.graph).rows (state_of new.graph).rows a.moves b.moves a.lead b.lead;
+      lead = leads_on (IsMoveMade demo_meaning) (state_of old.graph).rows (state_of mid.graph).rows (state_of new.graph).rows a.moves b.moves a.lead b.lead;
       same = (b.same.0 ∙ a.same.0, b.same.1 ∙ a.same.1, b.same.2 ∙ a.same.2);
-      stands = subst P (sym (after_on h a.moves b.moves)) b.stands;
+      stands = subst P (sym (fold-append after_move h a.moves b.moves)) b.stands;
       view = b.view ∙ a.view;
     }
 

@@ -3,7 +3,7 @@ use Rattle.rsx_graph.specs.Kinds.{any_machine, notes_of, IsFresh, Holds, Feed, S
 use Rattle.rsx_graph.proofs.Laws.{any_laws}
 use Rattle.std.proofs.Common.{◌≡◌, ◌≢◌, ℕ, ℤ, zero, suc, List, [], ◌∷◌, ◌++◌, map, Option, Some, None, inl, inr, refl, sym, ap, ◌∙◌, subst, append_assoc, arith}
 use Rattle.std.specs.Prelude.{slice_get, slice_set}
-use Rattle.std.specs.List.{All}
+use Rattle.std.specs.List.{All, flat_map}
 use Rattle.std.specs.Option.{option_to_list}
 use Rattle.std.proofs.lemmas.Bool.{cases_eq}
 use Rattle.std.proofs.lemmas.List.{append-nil}
@@ -32,7 +32,8 @@ use Rattle.rsx_trace.specs.declared.event.Stamped.{Stamped}
 use Rattle.rsx_verify.specs.declared.act.Act.{Act}
 use Rattle.rsx_verify.specs.declared.act.Act.TheVariants.{Request, Cancel, Pump}
 use Rattle.rsx_verify.specs.Events.{answered, beginning, stamped}
-use Rattle.rsx_verify.specs.Runs.{IsActed, IsBegun, IsCancelOf, IsFollowed, IsProcessed, IsProcessing, IsPumpOf, IsRecorded, IsRequestOf, Leads as ActsLead, reader, subscriber}
+use Rattle.rsx_tree.proofs.Runs.{leads_add}
+use Rattle.rsx_verify.specs.Runs.{Acted, IsActed, IsActedAs, IsBegun, IsCancelOf, IsFollowed, IsProcessed, IsProcessing, IsPumpOf, IsRecorded, IsRequestOf, reader, subscriber}
 use Rattle.rsx_verify.proofs.Moving.{FitsAt, Steps, after_given, at_set, beside_set, clean_parts, IsElsewhere, lead_steps, moves_past, other_delivery, steps_come, to, to_on, to_other}
 use Rattle.rsx_verify.proofs.Progress.{Progress, at, fresh, subscribed, receiving, running, GoesOn, goes_further}
 use Rattle.rsx_verify.proofs.Subscribed.{IsClean, cancelled_comes, event_goes, requested_comes}
@@ -248,18 +249,15 @@ acted_leads m me w (Cancel i) p old new t (inl x) here = cancelled_leads m me i 
 acted_leads m me w (Cancel i) p old new t (inr (past, none, same)) here = passed_over m me p old new t none same here
 acted_leads m me w Pump p old new t x here = pumped_leads m me w p old new t x here
 
-acts_lead : {T : Type 0} (m : Meaning T) (me w : ℕ) (acts : List Act) (p : Progress) (old new : GraphState T) (t : List Stamped) → ActsLead m w old acts t new → IsAt m me p old → IsLed m me p t new
-acts_lead m me w [] p old new t (none, same) here = passed_over m me p old new t none same here
-acts_lead {T} m me w (act ∷ acts) p old new t (mid, (first, (rest, (acted, lead, whole)))) here =
-    let one = acted_leads m me w act p old mid first acted here in
-    let more = acts_lead m me w acts one.0 mid new rest lead one.2 in
-    (more.0, subst (λ (l : List Stamped). GoesOn me p l more.0) (sym whole) (goes_further me p one.0 more.0 first rest one.1 more.1), more.2)
-
 -- a run that began so goes on
 followed_goes : {T : Type 0} (m : Meaning T) (me w : ℕ) (acts : List Act) (old : GraphState T) (first t : List Stamped) → IsLed m me (at fresh 0 0) first old → IsFollowed m w old acts first t → (q : Progress) × GoesOn me (at fresh 0 0) t q
-followed_goes m me w acts old first t begun (g, (rest, (lead, whole))) =
-    let led = acts_lead m me w acts begun.0 old g rest lead begun.2 in
-    (led.0, subst (λ (l : List Stamped). GoesOn me (at fresh 0 0) l led.0) (sym whole) (goes_further me (at fresh 0 0) begun.0 led.0 first rest begun.1 led.1))
+followed_goes {T} m me w acts old first t begun (g, run) =
+    let rest = flat_map (λ (d : Acted). d.events) run.done in
+    let P : GraphState T → List Stamped → GraphState T → Type 0 = λ a u b. (p : Progress) → IsAt m me p a → IsLed m me p u b in
+    let further : (a b c : GraphState T) (u v : List Stamped) → P a u b → P b v c → P a (u ++ v) c =
+    λ a b c u v x y p here. let one = x p here in let more = y one.0 one.2 in (more.0, goes_further me p one.0 more.0 u v one.1 more.1, more.2) in
+    let led = leads_add (IsActedAs m w) (λ d. d.events) P (λ a b d acted p here. acted_leads m me w d.act p a b d.events acted here) (λ a p here. (p, refl, here)) further old g run.done run.lead begun.0 begun.2 in
+    (led.0, subst (λ (l : List Stamped). GoesOn me (at fresh 0 0) l led.0) (sym run.recorded) (goes_further me (at fresh 0 0) begun.0 led.0 first rest begun.1 led.1))
 
 -- ---- how a run begins, for its subscribers and for others
 

@@ -1,7 +1,7 @@
 -- Runs, act by act.
 use Rattle.rsx_graph.specs.Kinds.{IsSubscribed, IsRequestedAt, Subscription, Feed, IsFedHubMade}
-use Rattle.std.proofs.Common.{◌≡◌, ℕ, ◌+◌, ◌<◌, ◌≤◌, List, [], ◌∷◌, ◌++◌, length, take, get_or, ℤ, Option, Some, inl, refl, sym, ap, ◌∙◌, subst, append_assoc}
-use Rattle.std.proofs.lemmas.List.{append-nil, take_all, take_more}
+use Rattle.std.proofs.Common.{◌≡◌, ℕ, ◌+◌, ◌<◌, ◌≤◌, List, [], ◌∷◌, ◌++◌, length, take, get_or, ℤ, Option, None, Some, inl, refl, sym, ap, ◌∙◌, subst, append_assoc}
+use Rattle.std.proofs.lemmas.List.{append-nil, flat_map_more, map-append, take_all, take_more}
 use Rattle.rsx_trace.specs.declared.event.Stamped.{Stamped}
 use Rattle.rsx_types.specs.Meaning.{Meaning}
 use Rattle.rsx_subscriber.specs.Prelude.{Expr, cancelled, requested}
@@ -20,7 +20,8 @@ use Rattle.rsx_verify.specs.declared.act.Act.TheVariants.{Request}
 use Rattle.rsx_verify.specs.Events.{delivery, stamped}
 use Rattle.rsx_verify.specs.declared.line.Line.{Line}
 use Rattle.rsx_verify.specs.Reports.{AreLines, AreVerified, IsLine, publisher_acts, cancel_acts, bad_request_acts, processor_acts}
-use Rattle.rsx_verify.specs.Runs.{IsActed, IsBegun, IsFollowed, IsFollowedTo, IsPassedOver, IsProcessed, IsProcessing, IsRecorded, Leads, reader}
+use Rattle.rsx_tree.proofs.Runs.{leads_on}
+use Rattle.rsx_verify.specs.Runs.{Acted, IsActed, IsActedAs, IsBegun, IsFollowed, IsFollowedTo, IsPassedOver, IsProcessed, IsProcessing, IsRecorded, reader}
 use Rattle.rsx_verify.specs.declared.TheConstants.{CAPACITY}
 
 pub begun_from : {T : Type 0} (m m' : Meaning T) (e : Expr T) (old new : GraphState T) → m' ≡ m → old ≡ nothing → IsSubscribed e old.rows.subs new.rows.subs → GraphStands m old no_history →
@@ -58,29 +59,25 @@ processing_from {T} m m' m'' m''' e a b c d same same' same'' empty stood feedin
       stands = three (with_subscriber reader h) (two h (one no_history stood));
     }
 
-pub leads_more : {T : Type 0} (m : Meaning T) (w : ℕ) (a b c : GraphState T) (acts : List Act) (act : Act) (t more : List Stamped) → Leads m w a acts t b → IsActed m w act b more c → Leads m w a (acts ++ act ∷ []) (t ++ more) c
-leads_more {T} m w a b c [] act t more (none, same) acted =
-    let P : GraphState T → Type 0 = λ g. IsActed m w act g more c in
-    (c, (more, ([], (subst P same acted, (refl, refl), ap (λ l. l ++ more) none ∙ sym (append-nil more)))))
-leads_more m w a b c (x ∷ acts) act t more (mid, (first, (rest, (acted, lead, whole)))) last =
-    (mid, (first, (rest ++ more, (acted, leads_more m w mid b c acts act rest more lead last, ap (λ l. l ++ more) whole ∙ append_assoc first rest more))))
-
 -- nothing was done yet
 pub followed_none : {T : Type 0} (m : Meaning T) (w : ℕ) (g : GraphState T) (first : List Stamped) → IsFollowedTo m w g [] first first g
-followed_none m w g first = ([], ((refl, refl), sym (append-nil first)))
+followed_none m w g first = record { done = []; acts_are = refl; lead = refl; recorded = sym (append-nil first) }
 
 -- one act more of a list
 pub followed_more : {T : Type 0} (m m' : Meaning T) (w w' : ℕ) (old : GraphState T) (acts : List Act) (i : ℕ) (d : Act) (first t t' : List Stamped) (b c : GraphState T) → m' ≡ m → w' ≡ w → i < length acts → IsFollowedTo m w old (take i acts) first t b →
     ((more : List Stamped) × (t' ≡ t ++ more) × IsActed m' w' (get_or acts i d) b more c) → IsFollowedTo m w old (take (i + 1) acts) first t' c
-followed_more {T} m m' w w' old acts i d first t t' b c same there lt (rest, (lead, whole)) (more, noted, acted) =
-    let taken : take (i + 1) acts ≡ take i acts ++ get_or acts i d ∷ [] = take_more acts i d lt in
-    let A : Meaning T → Type 0 = λ n. IsActed n w' (get_or acts i d) b more c in
-    let B : ℕ → Type 0 = λ k. IsActed m k (get_or acts i d) b more c in
+followed_more {T} m m' w w' old acts i d first t t' b c same there lt run (more, noted, acted) =
+    let act : Act = get_or acts i d in
+    let one : Acted = record { act = act; events = more } in
+    let A : Meaning T → Type 0 = λ n. IsActed n w' act b more c in
+    let B : ℕ → Type 0 = λ k. IsActed m k act b more c in
     let P : List Act → Type 0 = λ l. IsFollowedTo m w old l first t' c in
-    subst P (sym taken) (
-      rest ++ more,
-      (leads_more m w old b c (take i acts) (get_or acts i d) rest more lead (subst B there (subst A same acted)), noted ∙ (ap (λ l. l ++ more) whole ∙ append_assoc first rest more)),
-    )
+    subst P (sym (take_more acts i d lt)) (record {
+      done = run.done ++ one ∷ [];
+      acts_are = ap (λ l. l ++ act ∷ []) run.acts_are ∙ sym (map-append (λ (d : Acted). d.act) run.done (one ∷ []));
+      lead = leads_on (IsActedAs m w) old b c run.done (one ∷ []) run.lead (c, subst B there (subst A same acted), refl);
+      recorded = noted ∙ (ap (λ l. l ++ more) run.recorded ∙ flat_map_more (λ (d : Acted). d.events) first run.done one);
+    })
 
 pub followed_all : {T : Type 0} (m : Meaning T) (w : ℕ) (old : GraphState T) (acts : List Act) (i : ℕ) (first t : List Stamped) (g : GraphState T) → length acts ≤ i → IsFollowedTo m w old (take i acts) first t g → IsFollowed m w old acts first t
 followed_all {T} m w old acts i first t g l run =
@@ -105,6 +102,14 @@ request_answered {T} m w i n old new o s t t' t'' first second is effect aside s
       second ∙ (ap (λ l. l ++ delivery 0 (i, s)) first ∙ append_assoc t (stamped (event.Request i.0 n) ∷ []) (delivery 0 (i, s))),
       inl (record { answer = Some s; effect = subst R is effect; aside = aside; stands = stands; recorded = refl }),
     )
+
+-- a request that answered no signal
+pub request_unanswered : {T : Type 0} (m : Meaning T) (w : ℕ) (i : SubId) (n : ℤ) (old new : GraphState T) (o : Option (Signal T)) (t t' : List Stamped) →
+    t' ≡ t ++ stamped (event.Request i.0 n) ∷ [] → o ≡ None → IsRequestedAt i.0 n old.rows.subs new.rows.subs o → IsAsideSame old new →
+    ((h : History T) → GraphStands m old h → GraphStands m new (with_past (requested n) i h)) → (more : List Stamped) × (t' ≡ t ++ more) × IsActed m w (Request i n) old more new
+request_unanswered {T} m w i n old new o t t' noted is effect aside stands =
+    let R : Option (Signal T) → Type 0 = λ a. IsRequestedAt i.0 n old.rows.subs new.rows.subs a in
+    (stamped (event.Request i.0 n) ∷ [], noted, inl (record { answer = None; effect = subst R is effect; aside = aside; stands = stands; recorded = refl }))
 
 -- nothing was recorded, and nothing happened
 pub none_recorded : {T : Type 0} (i : SubId) (old new : GraphState T) (t : List Stamped) → length old.rows.subs ≤ i.0 → new ≡ old → (more : List Stamped) × (t ≡ t ++ more) × IsPassedOver i old more new

@@ -1,5 +1,5 @@
 -- What the moves of a graph come to for one subscriber.
-use Rattle.rsx_graph.specs.Kinds.{any_machine, tree_nodes, AllHanded, Subscription, IsMadeAt, enabled_at, IsMovedBy, Rows, route, enabled_inside, inner_move, IsMoved, IsMovedInFeed, feed_move, is_enabled, LeadTo}
+use Rattle.rsx_graph.specs.Kinds.{any_machine, tree_nodes, AllHanded, Subscription, IsMadeAt, enabled_at, IsMovedBy, Rows, route, enabled_inside, inner_move, IsMoved, IsMovedInFeed, feed_move, is_enabled, IsMoveMade, LeadTo}
 use Rattle.std.proofs.Common.{◌≡◌, ◌≢◌, ◌⊎◌, ℕ, zero, suc, ◌==◌, Bool, true, false, ◌&&◌, ◌||◌, nat_eq, inl, inr, List, [], ◌∷◌, ◌++◌, Option, Some, None, refl, sym, ap, ◌∙◌, subst}
 use Rattle.std.specs.Prelude.{if◌then◌else◌, slice_get, slice_set}
 use Rattle.std.specs.Option.{option_to_list}
@@ -19,6 +19,8 @@ use Rattle.rsx_subscriber.specs.Prelude.{Past, given, delivers, Straight, IsKept
 use Rattle.rsx_subscriber.proofs.Moves.{worked_kept}
 use Rattle.rsx_graph_state.proofs.Graphs.{enabled_there}
 use Rattle.rsx_graph_moves.specs.Pumped.{Made, after_moves, delivered_by}
+use Rattle.rsx_tree.proofs.Runs.{leads_lift}
+use Rattle.rsx_tree.specs.Runs.{Leads}
 use Rattle.rsx_trace.specs.declared.event.Stamped.{Stamped}
 use Rattle.rsx_verify.specs.Events.{deliveries, delivery}
 use Rattle.rsx_verify.proofs.Progress.{Progress, at, fresh, GoesOn, goes_further}
@@ -165,13 +167,11 @@ one_step m me (Accept h) (Some d) old new enabled moved answer = absurd (cc)
 -- ---- moves one after the other
 
 abbrev pub Steps : {T : Type 0} → ℕ → List (Made T) → Option (Subscription T) → Option (Subscription T) → Type 0
-Steps me [] old new = new ≡ old
-Steps {T} me (d ∷ ds) old new = (mid : Option (Subscription T)) × IsStepOf me d.delivered old mid × Steps me ds mid new
+Steps {T} me moves old new = Leads (λ (x : Option (Subscription T)) (d : Made T) (y : Option (Subscription T)). IsStepOf me d.delivered x y) old moves new
 
 pub lead_steps : {T : Type 0} (m : Meaning T) (me : ℕ) (moves : List (Made T)) (old new : Rows T) → LeadTo m old moves new → Steps me moves (slice_get old.subs me) (slice_get new.subs me)
-lead_steps m me [] old new same = ap (λ (g : Rows _). slice_get g.subs me) same
-lead_steps m me (d ∷ ds) old new (mid, made, lead) =
-    (slice_get mid.subs me, one_step m me d.move d.delivered old mid made.enabled made.effect made.answer, lead_steps m me ds mid new lead)
+lead_steps {T} m me moves old new lead =
+    leads_lift (IsMoveMade m) (λ (x : Option (Subscription T)) (d : Made T) (y : Option (Subscription T)). IsStepOf me d.delivered x y) (λ (g : Rows T). slice_get g.subs me) (λ a b d made. one_step m me d.move d.delivered a b made.enabled made.effect made.answer) old new moves lead
 
 -- ---- what is recorded of them
 

@@ -15,7 +15,9 @@ use Rattle.rsx_tck.specs.Laws.Positions.{of-other}
 use Rattle.rsx_verify.specs.declared.act.Act.{Act}
 use Rattle.rsx_verify.specs.declared.act.Act.TheVariants.{Request, Cancel, Pump}
 use Rattle.rsx_verify.specs.Events.{answered, beginning, deliveries, delivery, stamped}
-use Rattle.rsx_verify.specs.Runs.{IsActed, IsFollowed, Leads}
+use Rattle.std.specs.List.{flat_map}
+use Rattle.rsx_tree.proofs.Runs.{leads_add}
+use Rattle.rsx_verify.specs.Runs.{Acted, IsActed, IsActedAs, IsFollowed}
 use Rattle.rsx_verify.proofs.Progress.{Progress, at, fresh, after, Goes, GoesOn}
 
 -- the worker on which this subscriber's last signal began, from the one before and an event
@@ -74,14 +76,11 @@ acted_pairs m me w (Cancel i) old new t (inl x) =
 acted_pairs m me w (Cancel i) old new t (inr (past, none, same)) = none_pairs me t none
 acted_pairs m me w Pump old new t x = subst (λ (l : List Stamped). ArePairs me l) (sym x.recorded) (deliveries_pairs me w _)
 
-leads_pairs : {T : Type 0} (m : Meaning T) (me w : ℕ) (acts : List Act) (old new : GraphState T) (t : List Stamped) → Leads m w old acts t new → ArePairs me t
-leads_pairs m me w [] old new t (none, same) = none_pairs me t none
-leads_pairs m me w (act ∷ acts) old new t (mid, (first, (rest, (acted, lead, whole)))) =
-    subst (λ (l : List Stamped). ArePairs me l) (sym whole) (pairs_more me first rest (acted_pairs m me w act old mid first acted) (leads_pairs m me w acts mid new rest lead))
-
 pub followed_pairs : {T : Type 0} (m : Meaning T) (me w : ℕ) (acts : List Act) (old : GraphState T) (first t : List Stamped) → ArePairs me first → IsFollowed m w old acts first t → ArePairs me t
-followed_pairs m me w acts old first t begin (g, (rest, (lead, whole))) =
-    subst (λ (l : List Stamped). ArePairs me l) (sym whole) (pairs_more me first rest begin (leads_pairs m me w acts old g rest lead))
+followed_pairs {T} m me w acts old first t begin (g, run) =
+    let rest = flat_map (λ (d : Acted). d.events) run.done in
+    let pairs : ArePairs me rest = leads_add (IsActedAs m w) (λ d. d.events) (λ (a : GraphState T) u b. ArePairs me u) (λ a b d acted. acted_pairs m me w d.act a b d.events acted) (λ a v. tt) (λ a b c u v x y. pairs_more me u v x y) old g run.done run.lead in
+    subst (λ (l : List Stamped). ArePairs me l) (sym run.recorded) (pairs_more me first rest begin pairs)
 
 -- ---- what one event more keeps
 

@@ -1,6 +1,7 @@
 -- The runs of subscriptions to one expression, and what is recorded of them.
 use Rattle.rsx_graph.specs.Kinds.{Subscription, IsSubscribed, IsCancelledAt, IsRequestedAt, HasEnded, LeadTo, IsFedHubMade}
-use Rattle.std.specs.Prelude.{◌≡◌, ◌⊎◌, ℕ, ℤ, ◌≤◌, List, [], ◌∷◌, ◌++◌, length, Option, Ok}
+use Rattle.std.specs.Prelude.{◌≡◌, ◌⊎◌, ℕ, ℤ, ◌≤◌, List, [], ◌∷◌, ◌++◌, length, map, Option, Ok}
+use Rattle.std.specs.List.{flat_map}
 use Rattle.rsx_trace.specs.declared.event.Event.TheVariants as event
 use Rattle.rsx_trace.specs.declared.event.Stamped.{Stamped}
 use Rattle.rsx_types.specs.Meaning.{Meaning}
@@ -12,6 +13,7 @@ use Rattle.rsx_graph_state.specs.Prelude.{HubState, HaveJoined, History}
 use Rattle.rsx_graph_state.specs.declared.step.Pumped.{Pumped}
 use Rattle.rsx_graph_moves.specs.Pumped.{Made, after_moves, delivered_by}
 use Rattle.rsx_graph_calls.specs.Edits.{with_fed_hub}
+use Rattle.rsx_tree.specs.Runs.{Leads}
 use Rattle.rsx_graph_calls.specs.Requests.{with_past}
 use Rattle.rsx_graph.specs.Stands.{AreJoinsSame, GraphStands, GraphState, IsAsideSame}
 use Rattle.rsx_graph_calls.specs.Subscribing.{with_subscriber}
@@ -61,15 +63,21 @@ IsActed m w (Request i n) old events new = IsRequestOf m i n old events new ⊎ 
 IsActed m w (Cancel i) old events new = IsCancelOf m i old events new ⊎ IsPassedOver i old events new
 IsActed m w Pump old events new = IsPumpOf m w old events new
 
--- the acts led from one graph to the other, one after the other, and these events were recorded of them, in their order
-abbrev pub Leads : {T : Type 0} → Meaning T → ℕ → GraphState T → List Act → List Stamped → GraphState T → Type 0
-Leads m w old [] events new = (events ≡ []) × (new ≡ old)
-Leads {T} m w old (act ∷ acts) events new =
-    (mid : GraphState T) × ((first : List Stamped) × ((rest : List Stamped) × (IsActed m w act old first mid × Leads m w mid acts rest new × (events ≡ first ++ rest))))
+-- an act, and what was recorded of it
+pub record Acted : Type 0 where
+  pub act : Act
+  pub events : List Stamped
 
--- the acts led from one graph to the other, and what was recorded of them stands behind the first events
-abbrev pub IsFollowedTo : {T : Type 0} → Meaning T → ℕ → GraphState T → List Act → List Stamped → List Stamped → GraphState T → Type 0
-IsFollowedTo m w old acts first events new = (rest : List Stamped) × (Leads m w old acts rest new × (events ≡ first ++ rest))
+abbrev pub IsActedAs : {T : Type 0} → Meaning T → ℕ → GraphState T → Acted → GraphState T → Type 0
+IsActedAs m w old done new = IsActed m w done.act old done.events new
+
+-- the acts led from one graph to the other, one after the other, and what was recorded of them, in their order, stands behind the
+-- first events
+pub record IsFollowedTo {T : Type 0} (m : Meaning T) (w : ℕ) (old : GraphState T) (acts : List Act) (first events : List Stamped) (new : GraphState T) : Type 0 where
+  pub done : List Acted
+  pub acts_are : acts ≡ map (λ d. d.act) done
+  pub lead : Leads (IsActedAs m w) old done new
+  pub recorded : events ≡ first ++ flat_map (λ d. d.events) done
 
 abbrev pub IsFollowed : {T : Type 0} → Meaning T → ℕ → GraphState T → List Act → List Stamped → List Stamped → Type 0
 IsFollowed {T} m w old acts first events = (new : GraphState T) × IsFollowedTo m w old acts first events new
