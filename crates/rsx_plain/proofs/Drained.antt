@@ -1,6 +1,5 @@
 -- What comes out where all that still comes in is taken, signal by signal.
-use Rattle.std.proofs.Common.{append_assoc, ◌≡◌, ℕ, zero, suc, ◌+◌, ◌<◌, ◌≤◌, Bool, true, false, nat_eq, List, [], ◌∷◌, ◌++◌, drop, get_or, length, Option, Some, Result, refl, sym, ap, ◌∙◌, add-one, append-nil, arith}
-use Rattle.std.proofs.lemmas.Bool.Decides.{nat_tests}
+use Rattle.std.proofs.Common.{append_assoc, ◌≡◌, ℕ, zero, suc, ◌+◌, ◌<◌, ◌≤◌, Bool, true, false, List, [], ◌∷◌, ◌++◌, drop, get_or, length, Option, Some, Result, refl, sym, ap, ◌∙◌, add-one, append-nil, arith}
 use Rattle.std.proofs.Math.Seq.{drop-cons}
 use Rattle.std.specs.Prelude.{slice_get, IfOk}
 use Rattle.std.proofs.lemmas.Result.{IfOk-weaker}
@@ -8,8 +7,8 @@ use Rattle.std.specs.Option.{option_to_list}
 use Rattle.rsx_sources.specs.Prelude.{Ending, Open, Done, Failed, Signal, Next, Complete, Error, Meaning, Stream, ended_by, items_then, signal_then, signals_then, ending_signals}
 use Rattle.rsx_plain.specs.Moves.{Moves, has_ending, has_ended, ended_or}
 use Rattle.rsx_plain.specs.State.{plain_from, is_over}
+pub use Rattle.rsx_plain.specs.Operators.{over_done, operator_rests}
 use Rattle.rsx_plain.specs.declared.state.PlainState.{PlainState}
-use Rattle.rsx_plain.specs.declared.state.PlainState.TheVariants.{Map, Filter, Take, Scan, Buffer, Distinct}
 
 pub drop_all : {A : Type 0} (at : ℕ) (xs : List A) → length xs ≤ at → drop at xs ≡ []
 drop_all zero [] h = refl
@@ -82,28 +81,6 @@ pub item_is_none : {T : Type 0} (r : Option (Signal T)) (s : Signal T) (x : T) (
 item_is_none r s x b i n h = let e : has_ending (option_to_list r) ≡ false = ap (λ o. has_ending (option_to_list o)) (i ∙ ap Some n) in cc
 
 -- ---- an operator that takes them
-
-is_none : (n : ℕ) → nat_eq n 0 ≡ true → n ≡ 0
-is_none n h = grind (arith, nat_tests)
-
-pub over_done : {T : Type 0} (m : Meaning T) (s : PlainState T) → is_over s ≡ true → (v : Stream T) → plain_from m s v ≡ ended_by Done
-over_done m (Map f) h v = cc
-over_done m (Filter f n) h v = cc
-over_done m (Take n left) h v = rw (is_none left h) refl
-over_done m (Scan f a) h v = cc
-over_done m (Buffer n xs) h v = cc
-over_done m (Distinct f ks n) h v = cc
-
--- where nothing comes in, nothing comes out of an operator that goes on
-pub operator_rests : {T : Type 0} (m : Meaning T) (s : PlainState T) → is_over s ≡ false → plain_from m s (ended_by Open) ≡ ended_by Open
-operator_rests m (Map f) h = refl
-operator_rests m (Filter f n) h = refl
-operator_rests m (Take n zero) h = cc
-operator_rests m (Take n (suc left)) h = refl
-operator_rests m (Scan f a) h = refl
-operator_rests m (Buffer n []) h = refl
-operator_rests m (Buffer n (x ∷ xs)) h = refl
-operator_rests m (Distinct f ks n) h = refl
 
 not_over : (over : Bool) → (over ≡ true → false ≡ true) → over ≡ false
 not_over true h = let f = h refl in cc

@@ -1,16 +1,12 @@
 -- The laws of a node: what comes in doesn't matter once it has ended, and why it isn't stuck.
-use Rattle.std.specs.Prelude.{◌≡◌, ◌⊎◌, ℕ, zero, suc, ◌+◌, ◌*◌, ◌<◌, ◌≤◌, min, Bool, true, false, nat_lt, List, [], ◌∷◌, ◌++◌, length, slice_get, Some, None, refl}
+use Rattle.std.specs.Prelude.{◌≡◌, ℕ, ◌+◌, ◌<◌, true, false, List, [], ◌∷◌, ◌++◌, length, slice_get, Some, None, refl}
 use Rattle.std.proofs.Common.{inl, inr, sym, ap, subst, arith}
-use Rattle.std.proofs.Math.Nat.{mul-le-mul_right}
-use Rattle.std.proofs.lemmas.Bool.Decides.{nat_tests}
-use Rattle.rsx_demand.specs.declared.TheConstants.{UNBOUNDED}
 use Rattle.rsx_sources.specs.Prelude.{Meaning, Note, Signal, Stream, CanStep, IsHungry, AreWithin, ends_input, Incoming, incoming_of, quiet, StaysAlike, is_nil}
 use Rattle.rsx_sources.proofs.Endings.{ending_cuts, ending_first, ending_waits}
 use Rattle.rsx_plain.specs.Node.{plain_allocates, plain_comes_out, plain_ended, plain_popped, plain_takes, plain_wanted, plain_waiting, plain_counted}
-use Rattle.rsx_plain.specs.State.{allocates_from, plain_from, balanced, is_over, wanted_from}
+use Rattle.rsx_plain.specs.State.{allocates_from, plain_from}
+use Rattle.rsx_plain.specs.Operators.{wants_more}
 use Rattle.rsx_plain.specs.declared.node.PlainNode.{PlainNode}
-use Rattle.rsx_plain.specs.declared.state.PlainState.{PlainState}
-use Rattle.rsx_plain.specs.declared.state.PlainState.TheVariants.{Map as MapFrom, Filter as FilterFrom, Take as TakeFrom, Scan as ScanFrom, Buffer as BufferFrom, Distinct as DistinctFrom}
 
 -- what leaves the slot leaves what may allocate as it is, and it reads no hub
 pub plain_popped_alike : {T : Type 0} (old : PlainNode T) (s : Signal T) (new : PlainNode T) → plain_popped old s new → StaysAlike (λ n. None) (λ a n. false) plain_allocates (λ a n. false) old new
@@ -31,35 +27,6 @@ plain_ending_waits m n asked sent e none more = absurd (ending_waits n.slot e no
 -- a node has no input whose completion it took and that it goes on with
 pub plain_done_drops : {T : Type 0} (m : Meaning T) (n : PlainNode T) (hubs before after : List (Stream T)) (v w : Stream T) (further : Note) → false ≡ true → plain_comes_out m n (incoming_of hubs (before ++ v ∷ after)) further ≡ plain_comes_out m n (incoming_of hubs (before ++ w ∷ after)) further
 plain_done_drops m n hubs before after v w further d = cc
-
-less_or_not : (a b : ℕ) → (a < b) ⊎ (b ≤ a)
-less_or_not a b = by_test (nat_lt a b) refl
-  where
-    by_test : (t : Bool) → nat_lt a b ≡ t → (a < b) ⊎ (b ≤ a)
-    by_test true e = inl (grind (arith, nat_tests))
-    by_test false e = inr (grind (arith, nat_tests))
-
-dropped_more : (taken put asked d : ℕ) → (d < UNBOUNDED → taken ≡ put + d) → put < asked → taken < UNBOUNDED → taken < min UNBOUNDED (asked + d)
-dropped_more taken put asked d b l w = elim (less_or_not d UNBOUNDED) [
-  | inl few ↦ let c = b few in omega (arith, c, l, w)
-  | inr many ↦ omega (arith, many, l, w)
-]
-
--- where more is asked of an operator than it put out, it wants more than it took in
-wants_more : {T : Type 0} (state : PlainState T) (taken put asked sent : ℕ) → balanced state taken put → is_over state ≡ false → put < asked → taken < UNBOUNDED → taken < wanted_from state asked sent
-wants_more (MapFrom f) taken put asked sent b o l w = omega (arith, b, l)
-wants_more (FilterFrom f d) taken put asked sent b o l w = dropped_more taken put asked d b l w
-wants_more (TakeFrom n zero) taken put asked sent b o l w = cc
-wants_more (TakeFrom n (suc left)) taken put asked sent b o l w = let p = b.0 in let q = b.1 in omega (arith, p, q, l)
-wants_more (ScanFrom f a) taken put asked sent b o l w = omega (arith, b, l)
-wants_more (BufferFrom n xs) taken put asked sent b o l w =
-    let more : put + 1 ≤ asked = omega (arith, l) in
-    let times : (put + 1) * n ≤ asked * n = mul-le-mul_right n more in
-    let spread : (put + 1) * n ≡ put * n + n = grind arith in
-    let p = b.0 in
-    let q = b.1 in
-    omega (arith, p, q, times, spread, w)
-wants_more (DistinctFrom f ks d) taken put asked sent b o l w = dropped_more taken put asked d b l w
 
 none_waits : {A : Type 0} (xs : List A) → slice_get xs 0 ≡ None → xs ≡ []
 none_waits [] e = refl

@@ -6,6 +6,7 @@ pub mod Emissions
 pub mod Laws
 pub mod Moves
 pub mod Node
+pub mod Operators
 pub mod Passes
 pub mod Prepared
 pub mod State

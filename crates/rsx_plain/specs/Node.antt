@@ -1,21 +1,11 @@
 -- What still comes out of a plain operator with its out slot.
-use Rattle.std.specs.Prelude.{◌≡◌, ℕ, zero, suc, ◌+◌, ◌<◌, ◌==◌, false, ◌&&◌, Bool, List, [], ◌∷◌, length, slice_get, Option, option_map}
-use Rattle.rsx_sources.specs.Prelude.{Note, Signal, Next, Complete, Stage, Meaning, Allocates, plain, Stream, signals_then, Incoming, quiet, front_of, is_nil}
-use Rattle.rsx_types.specs.declared.stage.Stage.TheVariants.{Map, Filter, Take, Scan, Buffer, Distinct}
+use Rattle.std.specs.Prelude.{◌≡◌, ℕ, ◌+◌, ◌<◌, ◌==◌, false, ◌&&◌, Bool, List, [], ◌∷◌, length, slice_get, Option, option_map}
+use Rattle.rsx_sources.specs.Prelude.{Note, Signal, Stage, Meaning, Allocates, plain, Stream, signals_then, Incoming, quiet, front_of, is_nil}
 use Rattle.rsx_sources.specs.declared.machine.Front.{Front}
 use Rattle.rsx_plain.specs.declared.node.PlainNode.{PlainNode}
 use Rattle.rsx_plain.specs.Moves.{has_ending}
 use Rattle.rsx_plain.specs.State.{plain_from, wanted_from, allocates_from, balanced, is_over}
-
--- what stands in the slot at the start: the seed of `scan`, and the completion of `take 0`
-abbrev pub start_slot : {T : Type 0} → Stage T → List (Signal T)
-start_slot (Map f) = []
-start_slot (Filter f) = []
-start_slot (Take zero) = Complete ∷ []
-start_slot (Take (suc n)) = []
-start_slot (Scan f s) = Next s ∷ []
-start_slot (Buffer n) = []
-start_slot (Distinct f) = []
+pub use Rattle.rsx_plain.specs.State.{start_slot}
 
 -- what stands in the slot, and then the operator of what comes in
 abbrev pub plain_comes_out : {T : Type 0} → Meaning T → PlainNode T → Incoming T → Note → Option (Stream T)

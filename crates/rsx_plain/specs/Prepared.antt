@@ -1,57 +1,13 @@
 -- The answer of an operator that can still go back, until the operators behind it have taken it.
-use Rattle.std.specs.Prelude.{◌≡◌, ℕ, ◌-◌, true, false, nat_le, if◌then◌else◌, List, [], ◌∷◌, length, Option, Some, None, Result, Ok, Err}
+use Rattle.std.specs.Prelude.{◌≡◌, ℕ, true, false, nat_le, if◌then◌else◌, List, [], ◌∷◌, length, Option, Some, None, Result, Ok, Err}
 use Rattle.rsx_sources.specs.Prelude.{Ending, Open, Done, Failed, Meaning, Allocates, Stream}
 use Rattle.rsx_plain.specs.State.{plain_from, is_over, allocates_from}
+pub use Rattle.rsx_plain.specs.State.{without_last_from, without_last, last_from, last_of, committed, rolled_back, taken_back}
 use Rattle.rsx_plain.specs.declared.state.PlainState.{PlainState}
-use Rattle.rsx_plain.specs.declared.state.PlainState.TheVariants.{Take, Scan, Buffer, Distinct}
 use Rattle.rsx_plain.specs.Moves.{has_ended}
 use Rattle.rsx_plain.specs.Emission.{emission_then}
 use Rattle.rsx_plain.specs.declared.prepared.Emission.{Emission}
 use Rattle.rsx_plain.specs.declared.prepared.Prepared.{Prepared}
-use Rattle.rsx_plain.specs.declared.prepared.Pending.{Pending}
-use Rattle.rsx_plain.specs.declared.prepared.Pending.TheVariants.{Nothing, Kept, Forwarded, Accumulated, Gathered}
-
--- a list that begins with x, without its last element
-abbrev pub without_last_from : {A : Type 0} → A → List A → List A
-without_last_from x [] = []
-without_last_from x (y ∷ ys) = x ∷ without_last_from y ys
-
--- a list without its last element
-abbrev pub without_last : {A : Type 0} → List A → List A
-without_last [] = []
-without_last (x ∷ xs) = without_last_from x xs
-
--- the last element of a list that begins with x
-abbrev pub last_from : {A : Type 0} → A → List A → A
-last_from x [] = x
-last_from x (y ∷ ys) = last_from y ys
-
--- the last element, if there is one
-abbrev pub last_of : {A : Type 0} → List A → Option A
-last_of [] = None
-last_of (x ∷ xs) = Some (last_from x xs)
-
--- the operator once its answer was taken
-abbrev pub committed : {T : Type 0} → PlainState T → Pending T → PlainState T
-committed (Take n left) Forwarded = Take n (left - 1)
-committed (Scan f a) (Accumulated x b) = Scan f b
-committed (Buffer n xs) Gathered = Buffer n (if nat_le n (length xs) then [] else xs)
-committed s h = s
-
--- the operator once its answer was refused: as it was before
-abbrev pub rolled_back : {T : Type 0} → PlainState T → Pending T → PlainState T
-rolled_back (Buffer n xs) Gathered = Buffer n (without_last xs)
-rolled_back (Distinct f ks n) Forwarded = Distinct f (without_last ks) n
-rolled_back s h = s
-
--- the item that came in, where this item, if any, came out
-abbrev pub taken_back : {T : Type 0} → PlainState T → Pending T → Option T → Option T
-taken_back s Nothing y = None
-taken_back s (Kept x) y = Some x
-taken_back s Forwarded y = y
-taken_back s (Accumulated x b) y = Some x
-taken_back (Buffer n xs) Gathered y = last_of xs
-taken_back s Gathered y = None
 
 -- the items that were gathered come out where the items are complete
 abbrev pub list_at_end : {T : Type 0} → (List T → T) → List T → Ending → Option T

@@ -1,10 +1,12 @@
 -- The plain operators from a state.
-use Rattle.std.specs.Prelude.{◌≡◌, ◌<◌, ℕ, ◌+◌, ◌-◌, ◌*◌, min, Bool, true, false, ◌||◌, nat_eq, nat_le, if◌then◌else◌, List, [], ◌∷◌, ◌++◌, length, Result, Ok, Err}
+use Rattle.std.specs.Prelude.{◌≡◌, ◌<◌, ℕ, zero, suc, ◌+◌, ◌-◌, ◌*◌, min, Bool, true, false, ◌||◌, nat_eq, nat_le, if◌then◌else◌, List, [], ◌∷◌, ◌++◌, length, Option, Some, None, Result, Ok, Err}
 use Rattle.std.specs.Set.{is_member}
 use Rattle.rsx_demand.specs.declared.TheConstants.{UNBOUNDED}
 use Rattle.rsx_sources.specs.Prelude.{Signal, Next, Complete, Error, Stage, Meaning, Allocates, mapped_items, filtered_items, taken_items, scanned_items, buffered_items, distinct_items, Stream}
 use Rattle.rsx_types.specs.declared.stage.Stage.TheVariants.{Map, Filter, Take, Scan, Buffer, Distinct}
 use Rattle.rsx_plain.specs.Moves.{Moves, EndsLast, has_ending}
+use Rattle.rsx_plain.specs.declared.prepared.Pending.{Pending}
+use Rattle.rsx_plain.specs.declared.prepared.Pending.TheVariants.{Nothing, Kept, Forwarded, Accumulated, Gathered}
 use Rattle.rsx_plain.specs.declared.state.PlainState.{PlainState}
 use Rattle.rsx_plain.specs.declared.state.PlainState.TheVariants.{Map as MapFrom, Filter as FilterFrom, Take as TakeFrom, Scan as ScanFrom, Buffer as BufferFrom, Distinct as DistinctFrom}
 
@@ -25,6 +27,12 @@ plain_start (Take n) = TakeFrom n n
 plain_start (Scan f s) = ScanFrom f s
 plain_start (Buffer n) = BufferFrom n []
 plain_start (Distinct f) = DistinctFrom f [] 0
+
+-- what stands in the slot at the start: the seed of `scan`, and the completion of `take 0`
+abbrev pub start_slot : {T : Type 0} → Stage T → List (Signal T)
+start_slot (Take zero) = Complete ∷ []
+start_slot (Scan f s) = Next s ∷ []
+start_slot g = []
 
 -- an item whose test is false is one more that was dropped
 abbrev pub dropped_after : ℕ → Result Bool ℕ → ℕ
@@ -56,14 +64,10 @@ after_item m (ScanFrom f a) x = ScanFrom f (last_after a (m.folded f a x))
 after_item m (BufferFrom n xs) x = BufferFrom n (gathered_after n xs x)
 after_item m (DistinctFrom f ks n) x = distinct_after f ks n (m.keyed f x)
 
--- the state after an ending: the items that were gathered came out or were dropped
+-- the state after an ending: the items that were gathered came out or were dropped; any other operator stays as it was
 abbrev pub after_ending : {T : Type 0} → PlainState T → PlainState T
-after_ending (MapFrom f) = MapFrom f
-after_ending (FilterFrom f n) = FilterFrom f n
-after_ending (TakeFrom n left) = TakeFrom n left
-after_ending (ScanFrom f a) = ScanFrom f a
 after_ending (BufferFrom n xs) = BufferFrom n []
-after_ending (DistinctFrom f ks n) = DistinctFrom f ks n
+after_ending s = s
 
 -- the state after a signal
 abbrev pub after_signal : {T : Type 0} → Meaning T → PlainState T → Signal T → PlainState T
@@ -89,12 +93,8 @@ Counts old (Error c) out new = has_ending out ≡ true
 
 -- whether nothing more of the input matters: a `take` has let all its items through
 abbrev pub is_over : {T : Type 0} → PlainState T → Bool
-is_over (MapFrom f) = false
-is_over (FilterFrom f n) = false
 is_over (TakeFrom n left) = nat_eq left 0
-is_over (ScanFrom f a) = false
-is_over (BufferFrom n xs) = false
-is_over (DistinctFrom f ks n) = false
+is_over s = false
 
 -- a `scan` keeps a copy of its last accumulation
 abbrev pub scan_allocates : Allocates → Bool
@@ -105,10 +105,10 @@ scan_allocates a = a.folded || a.copied
 abbrev pub allocates_from : {T : Type 0} → Allocates → PlainState T → Bool
 allocates_from a (MapFrom f) = a.mapped
 allocates_from a (FilterFrom f n) = a.tested
-allocates_from a (TakeFrom n left) = false
 allocates_from a (ScanFrom f x) = scan_allocates a
 allocates_from a (BufferFrom n xs) = true
 allocates_from a (DistinctFrom f ks n) = true
+allocates_from a s = false
 
 -- what is to be asked of the input in all, where so much is asked of the operator and so much came out of it
 abbrev pub wanted_from : {T : Type 0} → PlainState T → ℕ → ℕ → ℕ
@@ -119,8 +119,55 @@ wanted_from (ScanFrom f a) asked sent = asked - 1
 wanted_from (BufferFrom n xs) asked sent = min UNBOUNDED (asked * n)
 wanted_from (DistinctFrom f ks n) asked sent = min UNBOUNDED (asked + n)
 
--- what came of a signal: it went in, and out came out of the old state, which left the new one, with its ending where that
--- is over; or it came back for want of memory, and nothing has changed
+-- ---- in a chain: an answer that can still go back
+
+-- a list that begins with x, without its last element
+abbrev pub without_last_from : {A : Type 0} → A → List A → List A
+without_last_from x [] = []
+without_last_from x (y ∷ ys) = x ∷ without_last_from y ys
+
+-- a list without its last element
+abbrev pub without_last : {A : Type 0} → List A → List A
+without_last [] = []
+without_last (x ∷ xs) = without_last_from x xs
+
+-- the last element of a list that begins with x
+abbrev pub last_from : {A : Type 0} → A → List A → A
+last_from x [] = x
+last_from x (y ∷ ys) = last_from y ys
+
+-- the last element, if there is one
+abbrev pub last_of : {A : Type 0} → List A → Option A
+last_of [] = None
+last_of (x ∷ xs) = Some (last_from x xs)
+
+-- the operator once its answer was taken
+abbrev pub committed : {T : Type 0} → PlainState T → Pending T → PlainState T
+committed (TakeFrom n left) Forwarded = TakeFrom n (left - 1)
+committed (ScanFrom f a) (Accumulated x b) = ScanFrom f b
+committed (BufferFrom n xs) Gathered = BufferFrom n (if nat_le n (length xs) then [] else xs)
+committed s h = s
+
+-- the operator once its answer was refused: as it was before
+abbrev pub rolled_back : {T : Type 0} → PlainState T → Pending T → PlainState T
+rolled_back (BufferFrom n xs) Gathered = BufferFrom n (without_last xs)
+rolled_back (DistinctFrom f ks n) Forwarded = DistinctFrom f (without_last ks) n
+rolled_back s h = s
+
+-- the item that came in, where this item, if any, came out
+abbrev pub taken_back : {T : Type 0} → PlainState T → Pending T → Option T → Option T
+taken_back s Nothing y = None
+taken_back s (Kept x) y = Some x
+taken_back s Forwarded y = y
+taken_back s (Accumulated x b) y = Some x
+taken_back (BufferFrom n xs) Gathered y = last_of xs
+taken_back s Gathered y = None
+
+-- a signal went in, and out came out of the old state, which left the new one, with its ending where that is over
+abbrev pub Reacts : {T : Type 0} → Meaning T → PlainState T → Signal T → List (Signal T) → PlainState T → Type 0
+Reacts m old s out new = Moves (plain_from m) old s out new × EndsLast out × (is_over new ≡ true → has_ending out ≡ true) × (new ≡ after_signal m old s)
+
+-- what came of a signal: it went in; or it came back for want of memory, and nothing has changed
 abbrev pub IsReaction : {T A : Type 0} → Meaning T → Allocates → PlainState T → Signal T → Result A (Signal T) → List (Signal T) → PlainState T → Type 0
-IsReaction m a old s (Ok _) out new = Moves (plain_from m) old s out new × EndsLast out × (is_over new ≡ true → has_ending out ≡ true) × (new ≡ after_signal m old s)
+IsReaction m a old s (Ok _) out new = Reacts m old s out new
 IsReaction m a old s (Err back) out new = (back ≡ s) × (new ≡ old) × (out ≡ []) × (allocates_from a old ≡ false → ⊥)

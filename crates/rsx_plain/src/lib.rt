@@ -59,7 +59,6 @@ mod prepare;
 pub mod prepared;
 mod rest;
 mod scan;
-mod stages;
 pub mod state;
 mod take;
 
@@ -68,5 +67,4 @@ pub use node::PlainNode;
 pub use operator::Operator;
 pub use prepare::Preparing;
 pub use prepared::{Emission, Pending, Prepared};
-pub use stages::copy_stages;
-pub use state::{PlainState, Starting};
+pub use state::{PlainState, Starting, copy_stages};

@@ -2,7 +2,7 @@
 
 ghost use Rattle.std.specs.Prelude.{◌≡◌};
 
-use crate::pass::Passing;
+use crate::state::Passing;
 use crate::{Operator, PlainState};
 use rsx_sources::{Front, Machine, NotMade, NotTaken, OutSlot, Passed};
 use rsx_types::{Ending, NoMemory, Note, Ops, Signal, Stage, StreamValue};

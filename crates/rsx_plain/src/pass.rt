@@ -6,54 +6,16 @@
 ghost use Rattle.std.specs.Prelude.{◌+◌, ◌≤◌, ℕ, length, IfOk, IfErr};
 ghost use Rattle.rsx_types.specs.Meaning.{Meaning};
 ghost use Rattle.rsx_plain.specs.Passes.{GoesThrough};
-ghost use Rattle.rsx_plain.specs.declared.state.PlainState.{PlainState as StateSpec};
 ghost use Rattle.rsx_plain.specs.declared.state.PlainState.TheVariants.{Map as MapFrom, Filter as FilterFrom, Take as TakeFrom, Scan as ScanFrom, Buffer as BufferFrom, Distinct as DistinctFrom};
 
-use crate::PlainState;
 use rsx_collections::{Buffered, Keys};
 use rsx_demand::UNBOUNDED;
 use rsx_sources::Passed;
 use rsx_types::{NoMemory, Ops};
 use std::alloc::Global;
 
-/// An operator that answers an item in one go.
-pub(crate) trait Passing<T: Drop> {
-    /// The operator's state.
-    ghost state: { Self → StateSpec T };
-
-    /// Takes an item in, and answers what is put out for it where that is one item or nothing. A fault of the caller's
-    /// function, the last item of a `take` and want of memory are declined: then the item comes back, and nothing has
-    /// changed.
-    fn pass<O: Ops<Item = T>>(&mut self, alloc: Global, ops: &O, item: T) -> Passed<T>
-        ensures { GoesThrough (O.meaning ops.now) (state self.old) item result (state self.new) };
-}
-
-impl<T: Drop> Passing<T> for PlainState<T> {
-    ghost state = { λ s. s };
-
-    #[inline(always)]
-    fn pass<O: Ops<Item = T>>(&mut self, alloc: Global, ops: &O, item: T) -> Passed<T> {
-        match self {
-            PlainState::Map { function } => item.through_map(alloc, ops, *function),
-            PlainState::Filter { function, dropped } => {
-                item.through_filter(ops, *function, dropped)
-            }
-            PlainState::Take { count: _, left } => item.through_take(left),
-            PlainState::Scan { function, last } => item.through_scan(alloc, ops, *function, last),
-            PlainState::Buffer { size, gathered } => {
-                item.through_buffer(alloc, ops, *size, gathered)
-            }
-            PlainState::Distinct {
-                function,
-                keys,
-                repeated,
-            } => item.through_distinct(ops, *function, keys, repeated),
-        }
-    }
-}
-
 /// An item, through each of the operators.
-trait Through: Drop {
+pub(crate) trait Through: Drop {
     /// The answer of a function.
     fn through_map<O: Ops<Item = Self>>(self, alloc: Global, ops: &O, function: u16) -> Passed<Self>
         ensures { GoesThrough (O.meaning ops.now) (MapFrom function) self result (MapFrom function) };

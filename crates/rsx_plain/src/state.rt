@@ -1,23 +1,29 @@
-//! The states of the plain operators.
+//! The plain operators as one type: for each call a row or an arm of each operator.
 
-ghost use Rattle.std.specs.Prelude.{◌≡◌, true, false, List, [], IfOk, IfErr, IsOk, OnOk, OnErr};
+ghost use Rattle.std.specs.Prelude.{◌≡◌, true, false, List, [], None, IfOk, IfErr, IsOk, OnOk, OnErr};
 ghost use Rattle.rsx_types.specs.Stream.{items_then};
 ghost use Rattle.rsx_types.specs.declared.signal.Signal.{Signal};
 ghost use Rattle.rsx_types.specs.declared.stage.Stage.{Stage as StageSpec};
 ghost use Rattle.rsx_plain.specs.Moves.{Moves, EndsLast, has_ending};
-ghost use Rattle.rsx_plain.specs.State.{plain_from, plain_start, after_signal, is_over, allocates_from, wanted_from, IsReaction};
+ghost use Rattle.rsx_plain.specs.Emission.{item_ended};
+ghost use Rattle.rsx_plain.specs.Passes.{GoesThrough};
+ghost use Rattle.rsx_plain.specs.Prepared.{IsPreparation};
+ghost use Rattle.rsx_plain.specs.State.{plain_from, plain_start, after_signal, is_over, allocates_from, wanted_from, IsReaction, committed, rolled_back, taken_back};
+ghost use Rattle.rsx_plain.specs.declared.state.PlainState.{PlainState as PlainStateSpec};
 
-use crate::buffer::BufferReaction;
-use crate::distinct::DistinctReaction;
-use crate::filter::FilterReaction;
-use crate::map::MapReaction;
+use crate::buffer::{BufferAnswer, BufferReaction, GatheredLists};
+use crate::distinct::{DistinctAnswer, DistinctReaction};
+use crate::filter::{FilterAnswer, FilterReaction};
+use crate::map::{MapAnswer, MapReaction};
 use crate::operator::Operator;
+use crate::pass::Through;
+use crate::prepared::{Arrival, Pending, Prepared, without_item};
 use crate::rest::Collected;
-use crate::scan::ScanReaction;
+use crate::scan::{ScanAnswer, ScanReaction};
 use crate::{buffer, distinct, filter, scan, take};
 use rsx_collections::{Buffered, Copied, Keys};
 use rsx_rules::rules;
-use rsx_sources::OutSlot;
+use rsx_sources::{OutSlot, Passed};
 use rsx_types::{Ending, NoMemory, Ops, Signal, Stage, StreamValue};
 use std::alloc::Global;
 
@@ -114,25 +120,57 @@ impl<T: Drop> PlainState<T> {
         ensures { result ≡ is_over self.now }
     {
         match self {
-            PlainState::Map { function: _ } => false,
-            PlainState::Filter {
-                function: _,
-                dropped: _,
-            } => false,
             PlainState::Take { count: _, left } => *left == 0,
-            PlainState::Scan {
-                function: _,
-                last: _,
-            } => false,
-            PlainState::Buffer {
-                size: _,
-                gathered: _,
-            } => false,
-            PlainState::Distinct {
-                function: _,
-                keys: _,
-                repeated: _,
-            } => false,
+            _ => false,
+        }
+    }
+}
+
+impl<T: Drop> PlainState<T> {
+    /// Lets an answer stand: the operator is as it is after it.
+    pub fn commit(&mut self, pending: Pending<T>)
+        ensures { self.new ≡ committed self.old pending }
+    {
+        match (self, pending) {
+            (PlainState::Take { count: _, left }, Pending::Forwarded) => {
+                *left = left.saturating_sub(1);
+            }
+            (PlainState::Scan { function: _, last }, Pending::Accumulated(_, next)) => *last = next,
+            (PlainState::Buffer { size, gathered }, Pending::Gathered) => {
+                if gathered.items().len() as u64 >= *size {
+                    gathered.clear();
+                }
+            }
+            _ => {}
+        }
+    }
+
+    /// Undoes an answer, where this item, if any, came out. The operator is as it was before, and the item that came in comes
+    /// back.
+    #[tactic(auto, using(crate::proofs::Prepares::popped_list, crate::proofs::Prepares::popped_item))]
+    pub fn roll_back(&mut self, pending: Pending<T>, out: Option<T>) -> Option<T>
+        ensures state { self.new ≡ rolled_back self.old pending }
+        ensures item { result ≡ taken_back self.old pending out }
+    {
+        match pending {
+            Pending::Nothing => None,
+            Pending::Kept(item) => Some(item),
+            Pending::Accumulated(item, _) => Some(item),
+            Pending::Forwarded => {
+                if let PlainState::Distinct {
+                    function: _,
+                    keys,
+                    repeated: _,
+                } = self
+                {
+                    let _key = keys.pop();
+                }
+                out
+            }
+            Pending::Gathered => match self {
+                PlainState::Buffer { size: _, gathered } => gathered.pop(),
+                _ => None,
+            },
         }
     }
 }
@@ -289,6 +327,120 @@ impl<T: Drop> Reactions<T> for OutSlot<T> {
     }
 }
 
+/// The answers of an operator, with an item and without one.
+pub(crate) trait Answering<T: Drop> {
+    ghost state: { Self → PlainStateSpec T };
+
+    /// What the operator answers to an item, and to this ending behind it. For want of memory the item comes back, and nothing
+    /// has changed.
+    fn to_item<O: Ops<Item = T>>(
+        &mut self,
+        alloc: Global,
+        ops: &O,
+        item: T,
+        ending: Ending,
+    ) -> Result<Prepared<T>, T>
+        ensures answer { IsPreparation (O.meaning ops.now) (O.allocates ops.now) (state self.old) (item_ended item ending) result (state self.new) }
+        ensures err { IfErr result (λ x. x ≡ item) };
+
+    /// What the operator answers where no item comes in. It does not move.
+    fn to_ending<O: Ops<Item = T>>(
+        &self,
+        alloc: Global,
+        ops: &O,
+        ending: Ending,
+    ) -> Result<Prepared<T>, NoMemory>
+        ensures { IsPreparation (O.meaning ops.now) (O.allocates ops.now) (state self.now) (record { item = None; ending = ending }) result (state self.now) };
+}
+
+impl<T: Drop> Answering<T> for PlainState<T> {
+    ghost state = { λ s. s };
+
+    fn to_item<O: Ops<Item = T>>(
+        &mut self,
+        alloc: Global,
+        ops: &O,
+        item: T,
+        ending: Ending,
+    ) -> Result<Prepared<T>, T> {
+        match self {
+            PlainState::Take { count, left } => Ok(take::prepare(*count, *left, item, ending)),
+            PlainState::Map { function } => {
+                Arrival { item, ending }.answer_map(alloc, ops, *function)
+            }
+            PlainState::Filter { function, dropped } => {
+                Arrival { item, ending }.answer_filter(ops, *function, *dropped)
+            }
+            PlainState::Scan { function, last } => {
+                Arrival { item, ending }.answer_scan(alloc, ops, *function, last)
+            }
+            PlainState::Buffer { size, gathered } => {
+                Arrival { item, ending }.answer_buffer(alloc, ops, *size, gathered)
+            }
+            PlainState::Distinct {
+                function,
+                keys,
+                repeated,
+            } => Arrival { item, ending }.answer_distinct(ops, *function, keys, *repeated),
+        }
+    }
+
+    #[tactic(auto, using(crate::proofs::Prepares::taken_ended, crate::proofs::Prepares::buffered_ended))]
+    fn to_ending<O: Ops<Item = T>>(
+        &self,
+        alloc: Global,
+        ops: &O,
+        ending: Ending,
+    ) -> Result<Prepared<T>, NoMemory> {
+        match self {
+            PlainState::Take { count: _, left: 0 } => Ok(without_item(None, Ending::Done)),
+            PlainState::Buffer { size: _, gathered } => {
+                match gathered.list_at_end(alloc, ops, ending) {
+                    Ok(list) => Ok(without_item(list, ending)),
+                    Err(NoMemory) => Err(NoMemory),
+                }
+            }
+            _ => Ok(without_item(None, ending)),
+        }
+    }
+}
+
+/// An operator that answers an item in one go.
+pub(crate) trait Passing<T: Drop> {
+    /// The operator's state.
+    ghost state: { Self → PlainStateSpec T };
+
+    /// Takes an item in, and answers what is put out for it where that is one item or nothing. A fault of the caller's
+    /// function, the last item of a `take` and want of memory are declined: then the item comes back, and nothing has
+    /// changed.
+    fn pass<O: Ops<Item = T>>(&mut self, alloc: Global, ops: &O, item: T) -> Passed<T>
+        ensures { GoesThrough (O.meaning ops.now) (state self.old) item result (state self.new) };
+}
+
+impl<T: Drop> Passing<T> for PlainState<T> {
+    ghost state = { λ s. s };
+
+    #[inline(always)]
+    fn pass<O: Ops<Item = T>>(&mut self, alloc: Global, ops: &O, item: T) -> Passed<T> {
+        match self {
+            PlainState::Map { function } => item.through_map(alloc, ops, *function),
+            PlainState::Filter { function, dropped } => {
+                item.through_filter(ops, *function, dropped)
+            }
+            PlainState::Take { count: _, left } => item.through_take(left),
+            PlainState::Scan { function, last } => item.through_scan(alloc, ops, *function, last),
+            PlainState::Buffer { size, gathered } => {
+                item.through_buffer(alloc, ops, *size, gathered)
+            }
+            PlainState::Distinct {
+                function,
+                keys,
+                repeated,
+            } => item.through_distinct(ops, *function, keys, repeated),
+        }
+    }
+}
+
 impl<T: Drop> Copied<T> for PlainState<T> {
     fn copied<O: Ops<Item = T>>(&self, alloc: Global, ops: &O) -> Result<PlainState<T>, NoMemory> {
         let copy = match self {
@@ -322,5 +474,45 @@ impl<T: Drop> Copied<T> for PlainState<T> {
             },
         };
         Ok(copy)
+    }
+}
+
+/// Copies of these operators, in their order: the same functions and numbers, and a copy of each seed.
+///
+/// # Errors
+/// [`NoMemory`] where a growth was refused, in `Ops::copy` too.
+pub fn copy_stages<T: Drop, O: Ops<Item = T>>(
+    alloc: Global,
+    ops: &O,
+    stages: &[Stage<T>],
+) -> Result<Vec<Stage<T>>, NoMemory>
+    ensures { IfOk result (λ v. v.items ≡ stages.now) }
+{
+    let mut copies = Vec::new(alloc);
+    for stage in stages {
+        let copy = copy_stage(alloc, ops, stage)?;
+        copies.push(copy)?;
+    }
+    Ok(copies)
+}
+
+/// The same operator, with a copy of its seed.
+fn copy_stage<T: Drop, O: Ops<Item = T>>(
+    alloc: Global,
+    ops: &O,
+    stage: &Stage<T>,
+) -> Result<Stage<T>, NoMemory>
+    ensures { IfOk result (λ s. s ≡ stage.now) }
+{
+    match stage {
+        Stage::Map(function) => Ok(Stage::Map(*function)),
+        Stage::Filter(function) => Ok(Stage::Filter(*function)),
+        Stage::Take(count) => Ok(Stage::Take(*count)),
+        Stage::Scan(function, seed) => {
+            let seed = ops.copy(alloc, seed)?;
+            Ok(Stage::Scan(*function, seed))
+        }
+        Stage::Buffer(count) => Ok(Stage::Buffer(*count)),
+        Stage::Distinct(function) => Ok(Stage::Distinct(*function)),
     }
 }

@@ -1,5 +1,5 @@
 use Rattle.std.proofs.Common.{rules}
-use Rattle.rsx_plain.proofs.prepare.PlainStateAnswering.to_ending.Goals as goal
+use Rattle.rsx_plain.proofs.state.PlainStateAnswering.to_ending.Goals as goal
 
 pub returns-in-Take-default-eq0 : goal.returns-in-Take-default-eq0
 returns-in-Take-default-eq0 g c = search rules
