@@ -1,10 +1,9 @@
 -- The tree of a plain operator over that of its input.
-use Rattle.std.proofs.Common.{◌≡◌, ℕ, zero, suc, ◌+◌, ◌*◌, ◌<◌, Bool, true, false, nat_eq, List, [], ◌∷◌, length, refl, ap, sym, ◌∙◌, subst, arith, Option, None, slice_get, Result, Ok, Err, Box, Global}
+use Rattle.std.proofs.Common.{◌≡◌, ℕ, zero, suc, ◌+◌, ◌<◌, Bool, true, false, List, [], ◌∷◌, length, refl, ap, sym, ◌∙◌, subst, arith, Option, None, slice_get, Result, Ok, Err, Box, Global}
 use Rattle.std.specs.Prelude.{IfOk}
-use Rattle.std.proofs.lemmas.Bool.Decides.{nat_tests}
 use Rattle.std.proofs.lemmas.List.{append-nil}
 use Rattle.rsx_sources.specs.Prelude.{Meaning, plain, Signal, Stage, quiet as quiet_at}
-use Rattle.rsx_types.specs.declared.stage.Stage.TheVariants.{Map, Filter, Take, Scan, Buffer, Distinct}
+use Rattle.rsx_types.specs.declared.stage.Stage.TheVariants.{Take, Buffer}
 use Rattle.rsx_hub.specs.Hub.{HubState}
 use Rattle.rsx_model.specs.Eval.{environment, meant}
 use Rattle.rsx_model.specs.Check.{first_fault, stage_fits, or_else, unless}
@@ -16,6 +15,7 @@ use Rattle.rsx_model.specs.declared.expr.Expr.TheViews.{Plain as PlainOf, outs-P
 use Rattle.rsx_model.proofs.Unfold.{value_Plain, first_fault_Plain}
 use Rattle.rsx_plain.specs.Moves.{has_ending}
 use Rattle.rsx_plain.specs.State.{plain_start, is_over, balanced, wanted_from}
+use Rattle.rsx_plain.specs.Operators.{starts_balanced, starts_wanting}
 use Rattle.rsx_plain.specs.declared.state.PlainState.{PlainState}
 use Rattle.rsx_plain.specs.Node.{plain_counted, start_slot}
 use Rattle.rsx_plain.specs.declared.node.PlainNode.{PlainNode}
@@ -26,7 +26,7 @@ use Rattle.rsx_kinds.specs.Any.{TreeNode}
 use Rattle.rsx_kinds.specs.Built.{IsBuilt, IsPlainOver, fresh_edge, fresh_edges, new_joins, starts_ended}
 use Rattle.rsx_kinds.proofs.NodeValues.{quiet_value}
 use Rattle.rsx_kinds.proofs.Single.{StandsFor, built_single}
-use Rattle.rsx_kinds.proofs.Wants.{plain_wants, wants_Plain}
+use Rattle.rsx_kinds.proofs.Wants.{wants_Plain}
 
 new_joins_Plain : {T : Type 0} (hubs : List (HubState T)) (g : Stage T) (b : Box (Expr T) Global) → new_joins hubs (PlainOf g b) ≡ new_joins hubs b.value
 new_joins_Plain {T} hubs g b = rw (fold_out-Expr, outs-Plain) (append-nil (new_joins hubs b.value))
@@ -36,13 +36,8 @@ fresh_Plain {T} g b = rw (fold_out-Expr, outs-Plain) (ap (λ l. closed_if (start
 
 -- it has put out its ending just where that stands in its slot at the start
 pub starts_is : {T : Type 0} (g : Stage T) → has_ending (start_slot g) ≡ starts_ended g
-starts_is (Map f) = refl
-starts_is (Filter f) = refl
 starts_is (Take zero) = refl
-starts_is (Take (suc n)) = refl
-starts_is (Scan f s) = refl
-starts_is (Buffer n) = refl
-starts_is (Distinct f) = refl
+starts_is g = refl
 
 fits_of : (b : Bool) (o : Option BadExpr) → or_else (unless b Number) o ≡ None → b ≡ true
 fits_of true o e = refl
@@ -53,27 +48,15 @@ fresh_counts : {T : Type 0} (g : Stage T) (n : PlainNode T) → n.state ≡ plai
 fresh_counts {T} g n st sl fits still =
     let P : PlainState T → Type 0 = λ s. (is_over s ≡ false) × balanced s 0 (0 + length n.slot) in
     let Q : List (Signal T) → Type 0 = λ l. (is_over (plain_start g) ≡ false) × balanced (plain_start g) 0 (0 + length l) in
-    let both = subst P (sym st) (subst Q (sym sl) (at_start g fits still)) in
+    let both = subst P (sym st) (subst Q (sym sl) (starts_balanced g (some g fits) (starts_is g ∙ still))) in
     (0, refl, both.0, both.1)
   where
-    at_start : (g : Stage T) → stage_fits g ≡ true → starts_ended g ≡ false → (is_over (plain_start g) ≡ false) × balanced (plain_start g) 0 (0 + length (start_slot g))
-    at_start (Map f) e o = (refl, refl)
-    at_start (Filter f) e o = (refl, λ l. refl)
-    at_start (Take zero) e o = cc
-    at_start (Take (suc k)) e o = (some_left k, (refl, omega arith))
+    some : (g : Stage T) → stage_fits g ≡ true → (k : ℕ) → g ≡ Buffer k → 0 < k
+    some g e k is = positive k (sym (ap stage_fits is) ∙ e)
       where
-        some_left : (k : ℕ) → nat_eq (suc k) 0 ≡ false
-        some_left k = grind (arith, nat_tests)
-    at_start (Scan f s) e o = (refl, refl)
-    at_start (Buffer k) e o = (refl, (none k, some k e))
-      where
-        none : (k : ℕ) → 0 ≡ 0 * k + 0
-        none k = grind arith
-
-        some : (k : ℕ) → stage_fits {T = T} (Buffer k) ≡ true → 0 < k
-        some zero e = cc
-        some (suc k) e = omega arith
-    at_start (Distinct f) e o = (refl, λ l. refl)
+        positive : (k : ℕ) → stage_fits {T = T} (Buffer k) ≡ true → 0 < k
+        positive zero e = cc
+        positive (suc k) e = omega arith
 
 stands : {T : Type 0} (m : Meaning T) (hubs : List (HubState T)) (g : Stage T) (b : Box (Expr T) Global) (below t : Node (TreeNode T)) (o : IsPlainOver g below t) → stage_fits g ≡ true →
     StandsFor m hubs (λ k v. quiet_at k (plain m g v)) 0 (starts_ended g) (Plain o.node) b.value (PlainOf g b)
@@ -83,7 +66,7 @@ stands m hubs g b below t o fits = record {
   unrecorded = λ k. refl;
   ended = ap has_ending o.slot ∙ starts_is g;
   counted = λ still. fresh_counts g o.node o.state o.slot fits still;
-  wanted = ap (λ s. wanted_from s 0 0) o.state ∙ plain_wants g;
+  wanted = ap (λ s. wanted_from s 0 0) o.state ∙ starts_wanting g;
   value = λ whole joins further at leaf.
       value_Plain (environment m whole joins further) g b at leaf ∙ quiet_value (plain m g) ((meant (environment m whole joins further) b.value).value (at + 1) leaf) (slice_get further at);
   joins = new_joins_Plain hubs g b;

@@ -4,9 +4,7 @@ use Rattle.std.proofs.Common.{◌≡◌, ℕ, zero, suc, ◌+◌, ◌-◌, ◌<�
 use Rattle.std.specs.Prelude.{ℤ}
 use Rattle.std.proofs.lemmas.List.{append-nil}
 use Rattle.rsx_sources.specs.Prelude.{HubId, Stage}
-use Rattle.rsx_types.specs.declared.stage.Stage.TheVariants.{Map, Filter, Take, Scan, Buffer, Distinct}
 use Rattle.rsx_sources.specs.declared.machine.Machine.{Ghosts as Machine}
-use Rattle.rsx_plain.specs.State.{plain_start, wanted_from}
 use Rattle.rsx_model.specs.Shape.{children}
 use Rattle.rsx_model.specs.declared.check.TheConstants.{MOST_CONCURRENCY}
 use Rattle.rsx_model.specs.declared.expr.Expr.{Expr}
@@ -47,16 +45,7 @@ first_wants_closed_if b false r i t = refl
 
 -- ---- of a node
 
--- a fresh plain operator wants nothing before something is asked of it
-pub plain_wants : {T : Type 0} (g : Stage T) → wanted_from (plain_start g) 0 0 ≡ 0
-plain_wants (Map f) = refl
-plain_wants (Filter f) = refl
-plain_wants (Take k) = grind arith
-plain_wants (Scan f s) = refl
-plain_wants (Buffer k) = grind arith
-plain_wants (Distinct f) = refl
-
--- nor does a fresh `window`
+-- a fresh `window` wants nothing before something is asked of it
 pub window_wants : {T : Type 0} (n : WindowNode T) → CountsItems n (0 ∷ []) 0 → window_wanted n 0 0 0 ≡ 0
 window_wants n counted =
     let none : 0 ≡ counted.items = ap (λ l. get_or l 0 0) counted.at in

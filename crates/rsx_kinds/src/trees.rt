@@ -208,12 +208,8 @@ fn is_over_at_once<T>(stage: &Stage<T>) -> bool
     ensures { result ≡ starts_ended stage.now }
 {
     match stage {
-        Stage::Map(_) => false,
-        Stage::Filter(_) => false,
         Stage::Take(items) => *items == 0,
-        Stage::Scan(_, _) => false,
-        Stage::Buffer(_) => false,
-        Stage::Distinct(_) => false,
+        _ => false,
     }
 }
 

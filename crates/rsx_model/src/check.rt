@@ -347,6 +347,6 @@ fn is_stage<T>(stage: &Stage<T>) -> bool
     match stage {
         Stage::Take(items) => *items <= MOST_COUNT,
         Stage::Buffer(size) => 1 <= *size && *size <= MOST_ITEMS,
-        Stage::Map(_) | Stage::Filter(_) | Stage::Scan(_, _) | Stage::Distinct(_) => true,
+        _ => true,
     }
 }

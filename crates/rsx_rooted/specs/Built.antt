@@ -13,7 +13,7 @@ use Rattle.rsx_types.specs.Notes.{note_then}
 use Rattle.rsx_types.specs.Stream.{Stream}
 use Rattle.rsx_types.specs.declared.note.Note.{Note}
 use Rattle.rsx_types.specs.declared.stage.Stage.{Stage}
-use Rattle.rsx_types.specs.declared.stage.Stage.TheVariants.{Map, Filter, Take, Scan, Buffer, Distinct}
+use Rattle.rsx_types.specs.declared.stage.Stage.TheVariants.{Take}
 use Rattle.rsx_tree.specs.declared.edge.EdgeState.TheVariants.{Live}
 use Rattle.rsx_tree.specs.declared.inputs.Inputs.{Inputs, End, More'}
 use Rattle.rsx_tree.specs.declared.node.Node.{Node}
@@ -37,13 +37,8 @@ fresh_edge = record { asked = 0; sent = 0; state = Live }
 
 -- whether a plain operator has put out its ending before it took anything: `take 0`
 abbrev pub starts_ended : {T : Type 0} → Stage T → Bool
-starts_ended (Map f) = false
-starts_ended (Filter f) = false
 starts_ended (Take zero) = true
-starts_ended (Take (suc n)) = false
-starts_ended (Scan f s) = false
-starts_ended (Buffer n) = false
-starts_ended (Distinct f) = false
+starts_ended g = false
 
 -- whether a node of an expression has put out its ending before it took anything
 abbrev pub begins_ended : {T A : Type 0} → Expr-F T A → Bool
