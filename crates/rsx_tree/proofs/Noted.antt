@@ -79,7 +79,7 @@ chosen_outside {M} {T} b m hubs p f further (More' e n r below q beside) pos h =
 
 -- ---- the notes of a row
 
-length_notes : {M T : Type 0} (b : Machine M T) (t : Inputs M) → length (notes_of b t) ≡ size t
+pub length_notes : {M T : Type 0} (b : Machine M T) (t : Inputs M) → length (notes_of b t) ≡ size t
 length_notes b End = refl
 length_notes b (More' e n p below q beside) =
     ap suc (length-append (notes_of b below) (notes_of b beside) ∙ (ap (λ k. k + length (notes_of b beside)) (length_notes b below) ∙ ap (λ k. size below + k) (length_notes b beside))) ∙ suc_is (size below + size beside)
@@ -99,12 +99,12 @@ noted_right : (at : ℕ) (f : Note → Note) (ns ks : List Note) → noted_at (l
 noted_right at f [] ks = ap (λ k. noted_at k f ks) (zero-add at)
 noted_right at f (n ∷ ns) ks = ap (λ k. noted_at k f (n ∷ (ns ++ ks))) (plus_suc (length ns) at) ∙ ap (λ l. n ∷ l) (noted_right at f ns ks)
 
-get_left : (at : ℕ) (ns ks : List Note) → at < length ns → slice_get (ns ++ ks) at ≡ slice_get ns at
+pub get_left : {A : Type 0} (at : ℕ) (ns ks : List A) → at < length ns → slice_get (ns ++ ks) at ≡ slice_get ns at
 get_left at [] ks h = absurd (omega arith)
 get_left zero (n ∷ ns) ks h = refl
 get_left (suc at) (n ∷ ns) ks h = get_left at ns ks (omega arith)
 
-get_right : (at : ℕ) (ns ks : List Note) → slice_get (ns ++ ks) (length ns + at) ≡ slice_get ks at
+pub get_right : {A : Type 0} (at : ℕ) (ns ks : List A) → slice_get (ns ++ ks) (length ns + at) ≡ slice_get ks at
 get_right at [] ks = ap (λ k. slice_get ks k) (zero-add at)
 get_right at (n ∷ ns) ks = ap (λ k. slice_get (n ∷ (ns ++ ks)) k) (plus_suc (length ns) at) ∙ get_right at ns ks
 

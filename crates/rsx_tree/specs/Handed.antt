@@ -1,7 +1,9 @@
 -- Handing a signal of a hub to the nodes of a tree that read it.
 use Rattle.std.specs.Prelude.{◌≡◌, ℕ, zero, suc, ◌+◌, Bool, true, false, ◌&&◌, if◌then◌else◌, List, [], ◌∷◌, Option, Some, None, option_map, slice_get}
+use Rattle.std.specs.Option.{option_or}
 use Rattle.rsx_sources.specs.Prelude.{Meaning, Allocates, Stream, Note, Signal, Next, Complete, Error, CountsStep, ends_input, IsNextAt, IsReadOn, published_at, reads_hub, AllocatesAlike}
 use Rattle.rsx_sources.specs.declared.machine.Machine.{Ghosts as Machine}
+use Rattle.rsx_tree.specs.declared.edge.Edge.{Edge}
 use Rattle.rsx_tree.specs.declared.inputs.Inputs.{Inputs, End, More'}
 use Rattle.rsx_tree.specs.declared.node.Node.{Node}
 use Rattle.rsx_tree.specs.Allocates.{tree_allocates}
@@ -24,6 +26,11 @@ readers_in b h (More' e n p below q beside) = (if is_live e.state then reader_at
 -- how many nodes of a tree do whose root's own edge is live
 abbrev pub readers : {M T : Type 0} → Machine M T → ℕ → Node M → ℕ
 readers b h t = reader_at b h t.machine + readers_in b h t.inputs
+
+-- the edge of the first node of a row, in pre-order, that reads the hub, whether it is live or not
+abbrev pub reader_edge_in : {M T : Type 0} → Machine M T → ℕ → Inputs M → Option Edge
+reader_edge_in b h End = None
+reader_edge_in b h (More' e n p below q beside) = if reads_hub h (b.reads n) then Some e else option_or (reader_edge_in b h below) (reader_edge_in b h beside)
 
 -- ---- room
 

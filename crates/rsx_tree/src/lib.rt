@@ -11,6 +11,7 @@ pub mod look;
 pub mod node;
 mod published;
 mod step;
+mod swap;
 
 pub use edge::{Edge, EdgeState};
 pub use inputs::{Inputs, Pass};

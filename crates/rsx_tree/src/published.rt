@@ -3,14 +3,15 @@
 ghost use Rattle.std.specs.Prelude.{◌≡◌, min};
 ghost use Rattle.rsx_tree.specs.Handed.{reader_at, room_at, IsHandedOut, IsNodeHanded};
 
+use crate::edge::Edge;
 use crate::inputs::Inputs;
 use crate::node::Node;
 use rsx_sources::Machine;
 use rsx_types::Signal;
 
 impl<M: Machine> Inputs<M> {
-    ghost use Rattle.std.specs.Prelude.{◌≡◌, min};
-    ghost use Rattle.rsx_tree.specs.Handed.{readers_in, has_room_in, IsHandedOut, IsRowHanded};
+    ghost use Rattle.std.specs.Prelude.{◌≡◌, min, option_copied};
+    ghost use Rattle.rsx_tree.specs.Handed.{reader_edge_in, readers_in, has_room_in, IsHandedOut, IsRowHanded};
 
     /// How many nodes of the row, and below it, read the hub with this number, but at most `most`. What is behind an edge that
     /// isn't live reads none.
@@ -26,6 +27,24 @@ impl<M: Machine> Inputs<M> {
                     found = here + below.readers_up_to(hub, most - here);
                 }
                 found + beside.readers_up_to(hub, most - found)
+            }
+        }
+    }
+
+    /// The edge of the first node of the row, or below it, that reads the hub, whether it is live or not.
+    pub(crate) fn reader_edge(&self, hub: u64) -> Option<&Edge>
+        ensures { option_copied result ≡ reader_edge_in M.Machine hub self.now }
+    {
+        match self {
+            Inputs::End => None,
+            Inputs::More(edge, machine, below, beside) => {
+                if reader_of(machine, hub, 1) == 1 {
+                    return Some(edge);
+                }
+                match below.reader_edge(hub) {
+                    Some(found) => Some(found),
+                    None => beside.reader_edge(hub),
+                }
             }
         }
     }
@@ -109,8 +128,8 @@ fn hand_to<M: Machine>(machine: &mut M, hub: u64, signals: &mut Vec<Signal<M::It
 }
 
 impl<M: Machine> Node<M> {
-    ghost use Rattle.std.specs.Prelude.{◌≡◌, min};
-    ghost use Rattle.rsx_tree.specs.Handed.{readers, has_room, IsHandedOut, IsHanded};
+    ghost use Rattle.std.specs.Prelude.{◌≡◌, min, option_copied};
+    ghost use Rattle.rsx_tree.specs.Handed.{reader_edge_in, readers, has_room, IsHandedOut, IsHanded};
 
     /// How many nodes of the tree read the hub with this number, but at most `most`, where the root's own edge is live. What is
     /// behind an edge that isn't live reads none.
@@ -119,6 +138,13 @@ impl<M: Machine> Node<M> {
     {
         let here = reader_of(&self.machine, hub, most);
         here + self.inputs.readers_up_to(hub, most - here)
+    }
+
+    /// The edge below the root over which the first node, in pre-order, that reads the hub sends. It need not be live.
+    pub fn reader_edge(&self, hub: u64) -> Option<&Edge>
+        ensures { option_copied result ≡ reader_edge_in M.Machine hub self.now.inputs }
+    {
+        self.inputs.reader_edge(hub)
     }
 
     /// Whether all nodes of the tree that read the hub have room for an item of it, where the root's own edge is live. An ending
