@@ -1,5 +1,5 @@
 -- No move changes which calls of a tree's nodes may allocate.
-use Rattle.std.proofs.Common.{◌≡◌, inl, inr, ℕ, zero, suc, ◌+◌, ◌-◌, Bool, true, false, ◌||◌, ◌&&◌, refl, ap, sym, ◌∙◌}
+use Rattle.std.proofs.Common.{◌≡◌, inl, inr, ℕ, zero, suc, ◌+◌, ◌-◌, Bool, true, false, ◌||◌, ◌&&◌, refl, ap, sym, ◌∙◌, subst}
 use Rattle.std.proofs.lemmas.Bool.{or_from}
 use Rattle.rsx_sources.specs.Prelude.{Meaning, Allocates, front_of}
 use Rattle.rsx_sources.specs.declared.machine.Front.{Front}
@@ -9,12 +9,12 @@ use Rattle.rsx_tree.specs.declared.edge.Edge.{Edge}
 use Rattle.rsx_tree.specs.declared.inputs.Inputs.{Inputs, End, More'}
 use Rattle.rsx_tree.specs.declared.node.Node.{Node}
 use Rattle.rsx_tree.specs.Allocates.{node_allocates, row_allocates, over_allocates, tree_allocates, IsNodeAlike, IsAlike}
-use Rattle.rsx_tree.specs.Changed.{Change, IsChanged, IsAskedOver, IsSentOver}
+use Rattle.rsx_tree.specs.Changed.{Change, IsChanged, IsAskedIn, IsAskedOver, IsSentOver}
 use Rattle.rsx_tree.specs.Driven.{IsMade, IsRowRun, IsRowStep, IsAdvanced, IsDriven}
 use Rattle.rsx_tree.proofs.Runs.{leads_by_keep}
 use Rattle.rsx_tree.specs.Edges.{edge_view, EdgeView, is_live, passed}
 use Rattle.rsx_tree.specs.Inputs.{size, is_own, closed_row, closed_row_if, send_over_allocates}
-use Rattle.rsx_tree.proofs.Readings.{ReadsOn, IsReadChange, IsReadStep, made_reads, tree_reads, tree_stepped_reads, closed_if_reads}
+use Rattle.rsx_tree.proofs.Readings.{ReadsOn, IsReadChange, IsReadStep, changed_reads, made_reads, tree_reads, tree_stepped_reads, closed_if_reads, shut_readings}
 use Rattle.rsx_tree.specs.Stepped.{Step, IsStepped, IsSteppedAt, IsPickedHere, IsRowMadeHere}
 
 -- ---- a node
@@ -143,7 +143,7 @@ pub reads_step : {M T : Type 0} (b : Machine M T) (P : Step M) → IsAlikeStep b
 reads_step b P alike n asked sent n' h = (alike n asked sent n' h).0
 
 pub reads_closed_if : {M T : Type 0} (b : Machine M T) (r r' : M) (t mid : Inputs M) (c : Bool) → ReadsOn b r r' t mid → ReadsOn b r r' t (closed_row_if c mid)
-reads_closed_if b r r' t mid c h = (h.0, λ counts g. closed_if_reads b counts c mid (h.1 counts g))
+reads_closed_if b r r' t mid c h = (h.0, λ counts g. closed_if_reads b counts c mid (h.1 counts g), shut_readings b c mid ∙ h.2)
 
 pub reads_made : {M T : Type 0} (b : Machine M T) (m : Meaning T) (steps : Bool) (r : M) (i asked sent : ℕ) (t : Inputs M) (at : ℕ) (ends : Bool) (r' : M) (t' : Inputs M) → IsMade b m steps r i asked sent t at ends r' t' → ReadsOn b r r' t t'
 reads_made b m steps r i asked sent t at ends r' t' h =
@@ -156,7 +156,22 @@ node r t = record { machine = r; inputs = t }
 
 -- the same calls of the nodes may allocate, and they got as far
 pub tree_alike : {M T : Type 0} (b : Machine M T) (r r' : M) (t t' : Inputs M) → ((a : Allocates) → over_allocates b a r' t' ≡ over_allocates b a r t) → ReadsOn b r r' t t' → IsAlike b (node r t) (node r' t')
-tree_alike b r r' t t' calls reads = (calls, tree_reads b r r' t t' reads)
+tree_alike b r r' t t' calls reads = let k = tree_reads b r r' t t' reads in (calls, k.0, k.1)
+
+pub popped_alike : {M T : Type 0} (b : Machine M T) (r r' : M) (t : Inputs M) → IsNodeAlike b r r' → IsAlike b (node r t) (node r' t)
+popped_alike b r r' t alike = tree_alike b r r' t t (λ a. over_alike b a r r' t t (node_alike b r r' alike a) refl) (alike.0, λ counts g. g, refl)
+
+-- an Ask, and a Send, by which all edges may be closed
+pub asked_alike : {M T : Type 0} (b : Machine M T) (r r' : M) (asked sent at : ℕ) (t t' : Inputs M) → IsAskedIn b r 0 asked sent t at r' t' → IsAlike b (node r t) (node r' t')
+asked_alike b r r' asked sent at t t' made =
+    tree_alike b r r' t t' (λ a. let k = changed_alike b (IsAskedOver b) (asked_over b) (λ n. false) r 0 asked sent t at r' t' made a in over_alike b a r r' t t' k.0 k.1)
+    (changed_reads b (IsAskedOver b) (reads_change b (IsAskedOver b) (asked_over b)) (λ n. false) r 0 asked sent t at r' t' made)
+
+pub sent_alike : {M T : Type 0} (b : Machine M T) (m : Meaning T) (r r' : M) (at : ℕ) (t mid t' : Inputs M) (c : Bool) → IsChanged (IsSentOver b m) b.ended r 0 0 0 t at r' mid → t' ≡ closed_row_if c mid → IsAlike b (node r t) (node r' t')
+sent_alike {M} b m r r' at t mid t' c made row =
+    let R : Inputs M → Type 0 = λ u. ReadsOn b r r' t u in
+    tree_alike b r r' t t' (λ a. let k = changed_alike b (IsSentOver b m) (sent_over b m) b.ended r 0 0 0 t at r' mid made a in over_alike b a r r' t t' k.0 (ap (row_allocates b a) row ∙ (row_closed_if b a c mid ∙ k.1)))
+    (subst R (sym row) (reads_closed_if b r r' t mid c (changed_reads b (IsSentOver b m) (reads_change b (IsSentOver b m) (sent_over b m)) b.ended r 0 0 0 t at r' mid made)))
 
 tree_stepped_allocates : {M T : Type 0} (b : Machine M T) (P : Step M) → IsAlikeStep b P → (ends : M → Bool) (old : Node M) (e : EdgeView) (at : ℕ) (new : Node M) → IsSteppedAt P ends old e at new → (a : Allocates) → tree_allocates b a new ≡ tree_allocates b a old
 tree_stepped_allocates b P alike ends old e zero new h a =
@@ -165,11 +180,17 @@ tree_stepped_allocates b P alike ends old e (suc at) new h a =
     over_alike b a old.machine new.machine old.inputs new.inputs (ap (node_allocates b a) h.machine) (stepped_alike b P alike ends old.inputs at new.inputs h.made a)
 
 pub tree_stepped_alike : {M T : Type 0} (b : Machine M T) (P : Step M) → IsAlikeStep b P → (ends : M → Bool) (old : Node M) (e : EdgeView) (at : ℕ) (new : Node M) → IsSteppedAt P ends old e at new → IsAlike b old new
-tree_stepped_alike b P alike ends old e at new h = (tree_stepped_allocates b P alike ends old e at new h, tree_stepped_reads b P (λ n asked sent n' p. (alike n asked sent n' p).0) ends old e at new h)
+tree_stepped_alike b P alike ends old e at new h = tree_alike b old.machine new.machine old.inputs new.inputs (tree_stepped_allocates b P alike ends old e at new h) (tree_stepped_reads b P (reads_step b P alike) ends old e at new h)
+
+pub alike_still : {M T : Type 0} (b : Machine M T) (t : Node M) → IsAlike b t t
+alike_still b t = (λ a. refl, λ counts r. r, refl)
+
+pub alike_then : {M T : Type 0} (b : Machine M T) (old mid new : Node M) → IsAlike b old mid → IsAlike b mid new → IsAlike b old new
+alike_then b old mid new h k = (λ a. k.0 a ∙ h.0 a, λ counts r. k.1 counts (h.1 counts r), k.2 ∙ h.2)
 
 pub driven_alike : {M T : Type 0} (b : Machine M T) (m : Meaning T) (steps : Bool) (k : ℕ) (old : Node M) (asked sent : ℕ) (new : Node M) → IsDriven b m steps k old asked sent new → IsAlike b old new
 driven_alike {M} b m steps k old asked sent new h =
-    leads_by_keep (λ (x y : Node M). IsAdvanced b m steps x asked sent y) (λ t. IsAlike b old t) (λ x y s was. (λ a. s.alike.0 a ∙ was.0 a, λ counts r. s.alike.1 counts (was.1 counts r))) k old new h (λ a. refl, λ counts r. r)
+    leads_by_keep (λ (x y : Node M). IsAdvanced b m steps x asked sent y) (λ t. IsAlike b old t) (λ x y s was. alike_then b old x y was s.alike) k old new h (alike_still b old)
 
 -- ---- no want of memory
 

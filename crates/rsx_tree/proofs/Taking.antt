@@ -4,6 +4,7 @@ use Rattle.std.proofs.lemmas.Bool.Decides.{nat_tests}
 use Rattle.std.proofs.Math.Nat.{zero-add}
 use Rattle.std.proofs.lemmas.Bool.{both_ways}
 use Rattle.rsx_sources.specs.Prelude.{Meaning, Allocates, Stream, Note, Signal, Next, Complete, Error, CountsStep, ends_input, incoming_of, Reading, IsNextAt, IsNextIn, published_at, reads_hub, reading_after, AllocatesAlike}
+use Rattle.rsx_sources.specs.Reading.{hub_of}
 use Rattle.rsx_sources.specs.declared.machine.Machine.{Ghosts as Machine}
 use Rattle.rsx_tree.specs.declared.inputs.Inputs.{Inputs, End, More'}
 use Rattle.rsx_tree.specs.Allocates.{node_allocates, row_allocates}
@@ -11,7 +12,7 @@ use Rattle.rsx_tree.specs.Balance.{sent_over, IsOwnerBalanced, IsRowBalanced}
 use Rattle.rsx_tree.specs.Edges.{edge_view, is_live}
 use Rattle.rsx_tree.specs.Handed.{reader_at, readers_in, IsTakenWhere, IsNodeHanded, OneOf, IsRowHanded, IsNextOf, item_counted, ended_counted, counts_after, IsHanded}
 use Rattle.rsx_tree.specs.Inputs.{size, comes_in, out_of, beside_of, notes_of, edges as edges_in}
-use Rattle.rsx_tree.specs.Reads.{IsReadAt, IsRowReadAt}
+use Rattle.rsx_tree.specs.Reads.{AllGoOn, GoesOn, IsReadAt, IsRowReadAt, row_readings}
 use Rattle.rsx_sources.proofs.Incomings.{hubs_in}
 
 -- ---- a node
@@ -217,6 +218,45 @@ row_balanced {M} {T} b h s r r' done i (More' e n p below q beside) t' k w =
         owner_balanced b n k.0 (sent_over below) (sent_over k.1) e.demand.sent (IsRowBalanced b n 0 below) (IsRowBalanced b k.0 0 k.1) stays (row_stays b h s below k.1 o.1).sent_is (deeper k.0 stays.counts.stays_done o.1) v
     at deeper false l o v = cc
 
+-- what each node reads
+same_goes : (o n : Option Reading) → n ≡ o → GoesOn o n
+same_goes o n e = inl (ap (option_map hub_of) e)
+
+after_goes : {T : Type 0} (s : Signal T) (r : Reading) → GoesOn (Some r) (reading_after s r)
+after_goes (Next x) r = inl refl
+after_goes Complete r = inr refl
+after_goes (Error c) r = inr refl
+
+node_goes : {M T : Type 0} (b : Machine M T) (s : Signal T) (c : Bool) (n n' : M) → IsTakenWhere b s c n n' → GoesOn (b.reads n) (b.reads n')
+node_goes {M} {T} b s true n n' k =
+    let G : Option Reading → Option Reading → Type 0 = GoesOn in
+    subst (λ o. G o (b.reads n')) (sym k.on.read) (subst (λ o. G (Some k.on.reading) o) (sym k.on.reads_on) (after_goes s k.on.reading))
+node_goes b s false n n' k = same_goes (b.reads n) (b.reads n') (ap b.reads k)
+
+all_same : (os : List (Option Reading)) → AllGoOn os os
+all_same [] = tt
+all_same (o ∷ os) = (inl refl, all_same os)
+
+all_both : (os ns ps qs : List (Option Reading)) → AllGoOn os ns → AllGoOn ps qs → AllGoOn (os ++ ps) (ns ++ qs)
+all_both [] [] ps qs h k = k
+all_both [] (n ∷ ns) ps qs h k = absurd h
+all_both (o ∷ os) [] ps qs h k = absurd h
+all_both (o ∷ os) (n ∷ ns) ps qs h k = (h.0, all_both os ns ps qs h.1 k)
+
+row_goes : {M T : Type 0} (b : Machine M T) (h : ℕ) (s : Signal T) (t t' : Inputs M) → IsRowHanded b h s t t' → AllGoOn (row_readings b t) (row_readings b t')
+row_goes b h s End t' k = let A : List (Option Reading) → Type 0 = λ l. AllGoOn [] l in subst A (sym (ap (row_readings b) k)) tt
+row_goes {M} {T} b h s (More' e n p below q beside) t' k =
+    let A : List (Option Reading) → Type 0 = λ l. AllGoOn (b.reads n ∷ (row_readings b below ++ row_readings b beside)) l in
+    let first = by_live (is_live e.state) k.0 k.1 k.4 (λ j. row_goes b h s below k.1 j) in
+    subst A (sym (ap (row_readings b) k.3)) (first.0, all_both (row_readings b below) (row_readings b k.1) (row_readings b beside) (row_readings b k.2) first.1 (row_goes b h s beside k.2 k.5))
+  where
+    by_live : (c : Bool) (n' : M) (below' : Inputs M) → OneOf c (IsNodeHanded b h s n n' × IsRowHanded b h s below below') ((n' ≡ n) × (below' ≡ below)) → (IsRowHanded b h s below below' → AllGoOn (row_readings b below) (row_readings b below')) →
+        GoesOn (b.reads n) (b.reads n') × AllGoOn (row_readings b below) (row_readings b below')
+    by_live true n' below' k rec = (node_goes b s (reads_hub h (b.reads n)) n n' k.0, rec k.1)
+    by_live false n' below' k rec =
+        let A : List (Option Reading) → Type 0 = λ l. AllGoOn (row_readings b below) l in
+        (same_goes (b.reads n) (b.reads n') (ap b.reads k.0), subst A (sym (ap (row_readings b) k.1)) (all_same (row_readings b below)))
+
 -- ---- a tree
 
 pub tree_handed : {M T : Type 0} (b : Machine M T) (h : ℕ) (s : Signal T) (n n' : M) (t t' : Inputs M) → IsNodeHanded b h s n n' → IsRowHanded b h s t t' → IsHanded b h s (record { machine = n; inputs = t }) (record { machine = n'; inputs = t' })
@@ -233,4 +273,5 @@ tree_handed b h s n n' t t' node row =
       edges = rows.edges_are;
       balance = λ sent w. owner_balanced b n n' (sent_over t) (sent_over t') sent (IsRowBalanced b n 0 t) (IsRowBalanced b n' 0 t') stays rows.sent_is (row_balanced b h s n n' stays.counts.stays_done 0 t t' row) w;
       calls = λ a. ap (λ c. c || row_allocates b a t') (stays.calls a) ∙ ap (λ c. node_allocates b a n || c) (rows.calls a);
+      reading = (node_goes b s (reads_hub h (b.reads n)) n n' node, row_goes b h s t t' row);
     }

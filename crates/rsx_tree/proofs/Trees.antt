@@ -16,7 +16,7 @@ use Rattle.rsx_tree.specs.Edges.{EdgeView, can_ask_for, closed_if, closed_view, 
 use Rattle.rsx_tree.specs.Inputs.{Place, place, comes_in, through, out_of, notes_of, edges as edges_in, is_own, closed_row, closed_row_if, can_ask_in, can_send_in, can_send_over, sent_edges}
 use Rattle.rsx_tree.specs.Changed.{IsChanged, IsAskedOver, IsSentOver}
 use Rattle.rsx_tree.specs.Tree.{IsKept, IsPopped, IsSentAt, IsAskedAt, IsJoined, NoneLive, ended_in}
-use Rattle.rsx_tree.proofs.Alike.{node_alike, over_alike, tree_alike}
+use Rattle.rsx_tree.proofs.Alike.{popped_alike}
 use Rattle.rsx_tree.proofs.Balances.{tree_pop_balanced}
 use Rattle.rsx_tree.proofs.Rows.{out_lets_go, then_same, passed_on, notes_sent, recorded_sent, notes_closed, notes_closed_if, comes_in_closed, comes_in_closed_if}
 use Rattle.rsx_tree.proofs.Effects.{Found, found, row_asked, row_sent, edges_closed_if, ended_closed_if, own_ended, same_close}
@@ -113,5 +113,5 @@ popped_tree b m n n' t (Some s) h recorded counts alike = record {
   value = λ hubs further at. out_lets_go b m hubs n n' s h.2 (comes_in b m hubs further t (at + 1)) (slice_get further at);
   notes = ap (λ k. k ∷ notes_of b t) recorded;
   balance = λ sent k. tree_pop_balanced b n n' t s sent counts k;
-  alike = tree_alike b n n' t t (λ a. over_alike b a n n' t t (node_alike b n n' alike a) refl) (alike.0, λ counts g. g);
+  alike = popped_alike b n n' t alike;
 }

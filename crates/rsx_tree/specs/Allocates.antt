@@ -5,7 +5,7 @@ use Rattle.rsx_sources.specs.Prelude.{Allocates, StaysAlike}
 use Rattle.rsx_sources.specs.declared.machine.Machine.{Ghosts as Machine}
 use Rattle.rsx_tree.specs.declared.inputs.Inputs.{Inputs, End, More'}
 use Rattle.rsx_tree.specs.declared.node.Node.{Node}
-use Rattle.rsx_tree.specs.Reads.{IsTreeReadAt}
+use Rattle.rsx_tree.specs.Reads.{IsTreeReadAt, readings}
 
 -- whether some call of a node may: taking a signal in, taking one out, a pick or a row
 abbrev pub node_allocates : {M T : Type 0} → Machine M T → Allocates → M → Bool
@@ -32,9 +32,10 @@ tree_allocates b a t = over_allocates b a t.machine t.inputs
 abbrev pub IsNodeAlike : {M T : Type 0} → Machine M T → M → M → Type 0
 IsNodeAlike b old new = StaysAlike b.reads b.pop_allocates b.signal_allocates b.step_allocates old new
 
--- where no call of a tree's nodes may, none may later, whatever the caller's functions; and the nodes that read a hub got as
--- far in it, or read it no more
+-- where no call of a tree's nodes may, none may later, whatever the caller's functions; the nodes that read a hub got as
+-- far in it, or are behind an edge that isn't live any more; and each node reads what it read, behind such an edge, too
 abbrev pub IsAlike : {M T : Type 0} → Machine M T → Node M → Node M → Type 0
 IsAlike b old new =
     ((a : Allocates) → tree_allocates b a new ≡ tree_allocates b a old)
     × ((counts : List (Option ℕ)) → IsTreeReadAt b counts old → IsTreeReadAt b counts new)
+    × (readings b new ≡ readings b old)

@@ -9,7 +9,7 @@ use Rattle.rsx_tree.specs.declared.node.Node.{Node}
 use Rattle.rsx_tree.specs.Allocates.{tree_allocates}
 use Rattle.rsx_tree.specs.Balance.{IsBalanced}
 use Rattle.rsx_tree.specs.Edges.{is_live}
-use Rattle.rsx_tree.specs.Reads.{IsTreeReadAt}
+use Rattle.rsx_tree.specs.Reads.{AllGoOn, IsTreeReadAt, readings}
 use Rattle.rsx_tree.specs.Tree.{comes_out, edges, notes}
 
 -- ---- who reads a hub
@@ -127,3 +127,5 @@ pub record IsHanded {M T : Type 0} (b : Machine M T) (h : ℕ) (s : Signal T) (o
   pub edges : edges new ≡ edges old
   pub balance : (sent : ℕ) → IsBalanced b old sent → IsBalanced b new sent
   pub calls : (a : Allocates) → tree_allocates b a new ≡ tree_allocates b a old
+  -- each node, behind an edge that isn't live, too, reads the hub that it read, or none any more
+  pub reading : AllGoOn (readings b old) (readings b new)

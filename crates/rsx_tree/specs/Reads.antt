@@ -1,7 +1,9 @@
 -- Which nodes of a tree read a hub, and how far they got in it. How far each hub got is a list: so many items, or nothing for a hub
 -- that has ended.
-use Rattle.std.specs.Prelude.{◌≡◌, ◌⊎◌, ⊤, ℕ, false, List, Option, Some, None, slice_get}
+use Rattle.std.specs.Prelude.{◌≡◌, ◌⊎◌, ⊤, ℕ, false, List, [], ◌∷◌, ◌++◌, Option, Some, None, option_map, slice_get}
+use Rattle.std.specs.List.{AllZip}
 use Rattle.rsx_sources.specs.Prelude.{Ending, Open, Done, Failed, Reading}
+use Rattle.rsx_sources.specs.Reading.{hub_of}
 use Rattle.rsx_sources.specs.declared.machine.Machine.{Ghosts as Machine}
 use Rattle.rsx_tree.specs.declared.inputs.Inputs.{Inputs, End, More'}
 use Rattle.rsx_tree.specs.declared.node.Node.{Node}
@@ -27,3 +29,22 @@ IsRowReadAt b counts (More' e n p below q beside) =
 -- and each node of a tree whose root's own edge is live
 abbrev pub IsTreeReadAt : {M T : Type 0} → Machine M T → List (Option ℕ) → Node M → Type 0
 IsTreeReadAt b counts t = IsReadAt counts (b.reads t.machine) × IsRowReadAt b counts t.inputs
+
+-- ---- over live edges and others alike
+
+-- what each node of a row, and below it, reads, in pre-order
+abbrev pub row_readings : {M T : Type 0} → Machine M T → Inputs M → List (Option Reading)
+row_readings b End = []
+row_readings b (More' e n p below q beside) = b.reads n ∷ (row_readings b below ++ row_readings b beside)
+
+-- and each node of a tree
+abbrev pub readings : {M T : Type 0} → Machine M T → Node M → List (Option Reading)
+readings b t = b.reads t.machine ∷ row_readings b t.inputs
+
+-- a node reads the hub that it read, or none any more
+abbrev pub GoesOn : Option Reading → Option Reading → Type 0
+GoesOn old new = (option_map hub_of new ≡ option_map hub_of old) ⊎ (new ≡ None)
+
+-- so does each
+abbrev pub AllGoOn : List (Option Reading) → List (Option Reading) → Type 0
+AllGoOn old new = AllZip GoesOn old new

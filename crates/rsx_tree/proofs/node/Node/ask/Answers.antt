@@ -1,7 +1,4 @@
-use Rattle.std.proofs.Common.{false}
-use Rattle.rsx_tree.specs.Changed.{IsAskedOver}
-use Rattle.rsx_tree.proofs.Alike.{asked_over, changed_alike, over_alike, reads_change}
-use Rattle.rsx_tree.proofs.Readings.{changed_reads, tree_reads}
+use Rattle.rsx_tree.proofs.Alike.{asked_alike}
 use Rattle.rsx_tree.proofs.Balances.{tree_ask_balanced}
 use Rattle.rsx_tree.proofs.Trees.{kept_asked, can_asked, asked_effect}
 use Rattle.rsx_tree.proofs.node.Node.ask.Goals as goal
@@ -19,8 +16,4 @@ pub returns-in-Ok-clause-balance : goal.returns-in-Ok-clause-balance
 returns-in-Ok-clause-balance g c = λ s k. tree_ask_balanced g.M.Machine c.args.self.now.machine c.args.asked c.args.sent c.args.self.now.inputs c.args.at c.ask.new.self s c.in-Ok.ensures.made k
 
 pub returns-in-Ok-clause-alike : goal.returns-in-Ok-clause-alike
-returns-in-Ok-clause-alike g c = (
-  λ a. let k = changed_alike g.M.Machine (IsAskedOver g.M.Machine) (asked_over g.M.Machine) (λ n. false) c.args.self.now.machine 0 c.args.asked c.args.sent c.args.self.now.inputs c.args.at c.args.self.now.machine c.ask.new.self c.in-Ok.ensures.made a in
-      over_alike g.M.Machine a c.args.self.now.machine c.args.self.now.machine c.args.self.now.inputs c.ask.new.self k.0 k.1,
-  tree_reads g.M.Machine c.args.self.now.machine c.args.self.now.machine c.args.self.now.inputs c.ask.new.self (changed_reads g.M.Machine (IsAskedOver g.M.Machine) (reads_change g.M.Machine (IsAskedOver g.M.Machine) (asked_over g.M.Machine)) (λ n. false) c.args.self.now.machine 0 c.args.asked c.args.sent c.args.self.now.inputs c.args.at c.args.self.now.machine c.ask.new.self c.in-Ok.ensures.made),
-)
+returns-in-Ok-clause-alike g c = asked_alike g.M.Machine c.args.self.now.machine c.args.self.now.machine c.args.asked c.args.sent c.args.at c.args.self.now.inputs c.ask.new.self c.in-Ok.ensures.made
