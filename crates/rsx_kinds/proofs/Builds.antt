@@ -2,29 +2,14 @@
 use Rattle.std.proofs.Common.{◌≡◌, inr, ℕ, zero, suc, ◌+◌, ◌<◌, List, [], ◌∷◌, refl, ap, sym, ◌∙◌, subst, Option, Some, None, option_map, option_and_then, slice_get, Result, Ok, Err, Vec, Global}
 use Rattle.std.specs.Prelude.{ℤ, IfOk}
 use Rattle.rsx_sources.specs.Prelude.{Meaning, listed, range_items, NoMemory, Stream, Note, Nothing, Picks, Ended, HubId, Ending, Open, Done, Failed, Incoming, incoming_of, quiet as quiet_at, GivesItems, ItemsLeft, GivesRange, Reading, published_at}
-use Rattle.rsx_sources.specs.declared.range.RangeNode.{RangeNode}
-use Rattle.rsx_hub.specs.Hub.{HubState, HasTakenIn, BeginsWith, join}
+use Rattle.rsx_kinds.specs.Prelude.{AllUnrecorded, AreBegun, BeginsWith, Direct, Edge, End, Expr, HasTakenIn, HubState, Inputs, IsBuilt, LeafState, Live, Node, RangeNode, Source, SourceNode, StandAt, TreeNode, any_machine, counts_of, first_fault, first_wants, fold_out-Expr, fresh_edge, fresh_edges, fresh_wants, join, join_at, joins_now, leaf_reads, member_of, new_joins, outs-Hub, outs-Items, outs-Range, reading_of}
 use Rattle.rsx_hub.specs.Member.{MemberState, ReadsFromJoin, ending_taken, fresh_member, rest, without}
-use Rattle.rsx_hub.specs.Leaf.{LeafState, member_of, leaf_reads, reading_of}
 use Rattle.rsx_model.specs.Eval.{environment, quiet, meant, joined_value, behind as missing}
-use Rattle.rsx_model.specs.Check.{first_fault}
-use Rattle.rsx_model.specs.declared.expr.Expr.{Expr}
-use Rattle.rsx_model.specs.declared.expr.Expr.TheFolds.{fold_out-Expr}
-use Rattle.rsx_model.specs.declared.expr.Expr.TheViews.{outs-Items, outs-Range, outs-Hub}
 use Rattle.rsx_model.specs.declared.expr.Expr.TheVariants.{Items as ItemsOf, Range as RangeOf, Hub as HubOf}
 use Rattle.rsx_model.proofs.Unfold.{value_Items, value_Range, value_Hub, hub_there}
-use Rattle.rsx_tree.specs.declared.edge.Edge.{Edge}
-use Rattle.rsx_tree.specs.declared.edge.EdgeState.TheVariants.{Live}
-use Rattle.rsx_tree.specs.declared.inputs.Inputs.{Inputs, End}
-use Rattle.rsx_tree.specs.declared.node.Node.{Node}
 use Rattle.rsx_tree.specs.Prelude.{IsOwnerBalanced, IsRowBalanced, sent_over, edge_view, comes_in, out_of, notes_of, edges as edges_in, IsReadAt, IsTreeReadAt, count_before, comes_out, notes}
-use Rattle.rsx_kinds.specs.declared.any_node.AnyNode.TheVariants.{Source}
-use Rattle.rsx_kinds.specs.declared.source_node.SourceNode.{SourceNode}
 use Rattle.rsx_kinds.specs.declared.source_node.SourceNode.TheVariants.{Items, Range, Hub}
-use Rattle.rsx_queued.specs.declared.sender.Sender.TheVariants.{Direct}
-use Rattle.rsx_kinds.specs.Any.{TreeNode, any_machine}
 use Rattle.rsx_rooted.proofs.Joined.{join_there}
-use Rattle.rsx_kinds.specs.Built.{IsBuilt, AllUnrecorded, AreBegun, StandAt, counts_of, first_wants, fresh_edge, fresh_edges, fresh_wants, join_at, joins_now, new_joins}
 use Rattle.rsx_kinds.proofs.Wants.{wants_Hub, wants_Items, wants_Range}
 use Rattle.rsx_sources.proofs.Incomings.{hubs_in}
 

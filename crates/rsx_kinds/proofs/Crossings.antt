@@ -5,17 +5,9 @@ use Rattle.rsx_sources.specs.Prelude.{Meaning, Stream, NoMemory, Note}
 use Rattle.rsx_sources.specs.declared.machine.Machine.{Ghosts as Machine}
 use Rattle.rsx_queued.specs.Held.{held_then}
 use Rattle.rsx_queued.specs.declared.queued.Queued.{Queued}
-use Rattle.rsx_queued.specs.declared.sender.Sender.TheVariants.{Direct, Crossing}
+use Rattle.rsx_kinds.specs.Prelude.{AnyNode, Crossing, Direct, End, Expr, HubState, Inputs, IsBuilt, IsCrossed, IsQueuedRoot, More', Node, TreeNode, any_machine, first_wants}
 use Rattle.rsx_queued.specs.declared.tail.Tail.TheVariants.{Open}
-use Rattle.rsx_hub.specs.Hub.{HubState}
-use Rattle.rsx_model.specs.declared.expr.Expr.{Expr}
-use Rattle.rsx_kinds.specs.Any.{TreeNode, any_machine}
-use Rattle.rsx_kinds.specs.declared.any_node.AnyNode.{AnyNode}
 use Rattle.rsx_tree.specs.Prelude.{IsRowBalanced, comes_in, out_of}
-use Rattle.rsx_tree.specs.declared.inputs.Inputs.{Inputs, End, More'}
-use Rattle.rsx_tree.specs.declared.node.Node.{Node}
-use Rattle.rsx_kinds.specs.Built.{IsBuilt, first_wants}
-use Rattle.rsx_kinds.specs.Made.{IsCrossed, IsQueuedRoot}
 use Rattle.rsx_kinds.proofs.Builds.{node_of}
 
 -- a node with an empty queue

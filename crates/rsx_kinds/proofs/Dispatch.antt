@@ -2,28 +2,10 @@
 use Rattle.std.specs.Prelude.{IfSome, ⊤}
 use Rattle.std.proofs.Common.{◌≡◌, ap, ℕ, false, Option, Some, None}
 use Rattle.rsx_sources.specs.Prelude.{Meaning, Nothing, Signal, Next, Complete, Error, CountsIn, CountsOut, CountsStep, IsItemOut, IsPassed, IsTakenIn, IsReadOn, IsPopped, ItemsLeft, items_comes_out, items_popped, items_waiting, range_comes_out, range_popped, range_waiting}
-use Rattle.rsx_sources.specs.declared.machine.Passed.{Passed}
-use Rattle.rsx_sources.specs.declared.machine.Passed.TheVariants.{Item, Kept, Declined}
-use Rattle.rsx_sources.specs.declared.range.RangeNode.{RangeNode}
-use Rattle.rsx_hub.specs.Leaf.{LeafState, leaf_comes_out, leaf_popped, leaf_reads, leaf_waiting}
-use Rattle.rsx_plain.specs.Node.{plain_comes_out, plain_popped, plain_counted, plain_ended, plain_takes, plain_waiting}
-use Rattle.rsx_plain.specs.declared.node.PlainNode.{PlainNode}
-use Rattle.rsx_kinds.specs.Several.{several_comes_out, several_waiting, several_takes, several_popped, several_recorded, several_counted, several_ended, several_done}
-use Rattle.rsx_kinds.specs.declared.several_node.SeveralNode.{SeveralNode}
-use Rattle.rsx_merging.specs.PublishOn.{publish_comes_out, publish_waiting, publish_takes, publish_popped, publish_counted, publish_ended}
+use Rattle.rsx_kinds.specs.Prelude.{AnyNode, CountsItems, Declined, FlatMapNode, GroupByNode, IsGoing, IsPoppedGroup, IsPoppedWindow, Item, Kept, LeafState, Passed, PlainNode, RangeNode, SeveralNode, SourceNode, WindowNode, any_comes_out, any_counted, any_done, any_ended, any_popped, any_recorded, any_takes, any_waiting, flat_comes_out, flat_done, flat_ended, flat_popped, flat_recorded, flat_takes, flat_waiting, group_comes_out, group_counted, group_done, group_ended, group_recorded, group_takes, group_waiting, leaf_comes_out, leaf_popped, leaf_reads, leaf_waiting, plain_comes_out, plain_counted, plain_ended, plain_popped, plain_takes, plain_waiting, publish_comes_out, publish_counted, publish_ended, publish_popped, publish_takes, publish_waiting, several_comes_out, several_counted, several_done, several_ended, several_popped, several_recorded, several_takes, several_waiting, source_comes_out, source_popped, source_reads, source_waiting, window_comes_out, window_done, window_ended, window_takes, window_waiting}
 use Rattle.rsx_merging.specs.declared.publish_on_node.PublishOnNode.{PublishOnNode}
-use Rattle.rsx_window.specs.Window.{window_comes_out, window_waiting, window_takes, window_ended, window_done, IsPoppedWindow, CountsItems}
-use Rattle.rsx_window.specs.declared.node.WindowNode.{WindowNode}
-use Rattle.rsx_merging.specs.FlatMap.{flat_comes_out, flat_waiting, flat_takes, flat_recorded, flat_ended, flat_done, flat_popped, IsGoing}
-use Rattle.rsx_merging.specs.declared.flat_map_node.FlatMapNode.{FlatMapNode}
-use Rattle.rsx_grouping.specs.GroupBy.{group_comes_out, group_waiting, group_takes, group_recorded, group_ended, group_done, group_counted, IsPoppedGroup}
-use Rattle.rsx_grouping.specs.declared.node.GroupByNode.{GroupByNode}
-use Rattle.rsx_kinds.specs.declared.any_node.AnyNode.{AnyNode}
 use Rattle.rsx_kinds.specs.declared.any_node.AnyNode.TheVariants.{Source, Plain, Several, PublishOn, Window, FlatMap, GroupBy}
-use Rattle.rsx_kinds.specs.declared.source_node.SourceNode.{SourceNode}
 use Rattle.rsx_kinds.specs.declared.source_node.SourceNode.TheVariants.{Items, Range, Hub}
-use Rattle.rsx_kinds.specs.Any.{any_comes_out, any_popped, any_waiting, any_recorded, any_counted, any_ended, any_done, any_takes}
-use Rattle.rsx_kinds.specs.Source.{source_comes_out, source_popped, source_reads, source_waiting}
 
 -- ---- a source
 

@@ -4,27 +4,11 @@ use Rattle.std.specs.Prelude.{IfOk}
 use Rattle.std.proofs.lemmas.Bool.Decides.{nat_tests}
 use Rattle.std.proofs.lemmas.List.{append-nil}
 use Rattle.rsx_sources.specs.Prelude.{Meaning, NoMemory, Picks, Stage}
-use Rattle.rsx_hub.specs.Hub.{HubState}
+use Rattle.rsx_kinds.specs.Prelude.{AnyNode, Expr, Flat, FlatMap, FlatMapNode, GivesFlatMap, HubState, IsBuilt, IsFlatMap, IsGoing, IsOverOne, IsUnrecorded, MOST_CONCURRENCY, Node, Number, Run, TreeNode, concurrency_fits, environment, first_fault, fold_out-Expr, fresh_edge, fresh_edges, meant, new_joins, outs-Flat, unless}
 use Rattle.rsx_values.specs.Prelude.{flat_map, written}
-use Rattle.rsx_values.specs.declared.record.Run.{Run}
-use Rattle.rsx_model.specs.Eval.{environment, meant}
-use Rattle.rsx_model.specs.Check.{concurrency_fits, first_fault, unless}
-use Rattle.rsx_model.specs.declared.check.BadExpr.TheVariants.{Number}
-use Rattle.rsx_model.specs.declared.check.TheConstants.{MOST_CONCURRENCY}
-use Rattle.rsx_model.specs.declared.expr.Expr.{Expr}
-use Rattle.rsx_model.specs.declared.expr.Expr.TheFolds.{fold_out-Expr}
-use Rattle.rsx_model.specs.declared.expr.Expr.TheViews.{Flat, outs-Flat}
 use Rattle.rsx_model.proofs.Unfold.{fault_Flat, or_none, value_Flat}
 use Rattle.rsx_queued.specs.Prelude.{picked, has_ending}
 use Rattle.rsx_queued.specs.declared.output.Output.TheVariants.{Empty}
-use Rattle.rsx_merging.specs.FlatMap.{GivesFlatMap, IsGoing}
-use Rattle.rsx_merging.specs.declared.flat_map_node.FlatMapNode.{FlatMapNode}
-use Rattle.rsx_tree.specs.declared.node.Node.{Node}
-use Rattle.rsx_kinds.specs.Any.{TreeNode}
-use Rattle.rsx_kinds.specs.declared.any_node.AnyNode.{AnyNode}
-use Rattle.rsx_kinds.specs.declared.any_node.AnyNode.TheVariants.{FlatMap}
-use Rattle.rsx_kinds.specs.Built.{IsBuilt, IsUnrecorded, fresh_edge, fresh_edges, new_joins}
-use Rattle.rsx_kinds.specs.Made.{IsFlatMap, IsOverOne}
 use Rattle.rsx_kinds.proofs.NodeValues.{picked_value}
 use Rattle.rsx_kinds.proofs.Single.{StandsFor, no_picks, single_if}
 use Rattle.rsx_kinds.proofs.Wants.{flat_wants, wants_Flat}

@@ -3,23 +3,9 @@ use Rattle.std.proofs.Common.{◌≡◌, ℕ, false, ◌+◌, List, [], ◌∷�
 use Rattle.std.specs.Prelude.{IfOk}
 use Rattle.std.proofs.lemmas.List.{append-nil}
 use Rattle.rsx_sources.specs.Prelude.{Meaning, NoMemory, Picks, Stage}
-use Rattle.rsx_hub.specs.Hub.{HubState}
+use Rattle.rsx_kinds.specs.Prelude.{AnyNode, Expr, GivesGroups, Group, GroupBy, GroupByNode, HubState, IsBuilt, IsGroupBy, IsOverOne, IsUnrecorded, Node, Run, TreeNode, environment, fold_out-Expr, fresh_edge, fresh_edges, group_counted, group_ended, meant, new_joins, outs-Group, picked}
 use Rattle.rsx_values.specs.Prelude.{group_by, written}
-use Rattle.rsx_values.specs.declared.record.Run.{Run}
-use Rattle.rsx_model.specs.Eval.{environment, meant}
-use Rattle.rsx_model.specs.declared.expr.Expr.{Expr}
-use Rattle.rsx_model.specs.declared.expr.Expr.TheFolds.{fold_out-Expr}
-use Rattle.rsx_model.specs.declared.expr.Expr.TheViews.{Group, outs-Group}
 use Rattle.rsx_model.proofs.Unfold.{value_Group}
-use Rattle.rsx_queued.specs.Inputs.{picked}
-use Rattle.rsx_grouping.specs.GroupBy.{GivesGroups, group_counted, group_ended}
-use Rattle.rsx_grouping.specs.declared.node.GroupByNode.{GroupByNode}
-use Rattle.rsx_tree.specs.declared.node.Node.{Node}
-use Rattle.rsx_kinds.specs.Any.{TreeNode}
-use Rattle.rsx_kinds.specs.declared.any_node.AnyNode.{AnyNode}
-use Rattle.rsx_kinds.specs.declared.any_node.AnyNode.TheVariants.{GroupBy}
-use Rattle.rsx_kinds.specs.Built.{IsBuilt, IsUnrecorded, fresh_edge, fresh_edges, new_joins}
-use Rattle.rsx_kinds.specs.Made.{IsGroupBy, IsOverOne}
 use Rattle.rsx_kinds.proofs.NodeValues.{picked_value}
 use Rattle.rsx_kinds.proofs.Single.{StandsFor, no_picks, single_if}
 use Rattle.rsx_kinds.proofs.Wants.{group_wants, wants_Group}

@@ -1,19 +1,10 @@
 -- Trees from the parts that were made.
 use Rattle.std.proofs.Common.{◌≡◌, ◌∙◌, ◌≤◌, ◌∷◌, false, List, length, Result, Ok, Err, IfOk, sym, ap}
 use Rattle.std.proofs.lemmas.Result.{IfOk-at_ok}
-use Rattle.rsx_hub.specs.Hub.{HubState}
-use Rattle.rsx_model.specs.declared.expr.Expr.{Expr}
+use Rattle.rsx_kinds.specs.Prelude.{AnyNode, AreBuilt, Direct, End, Expr, HubState, Inputs, IsBuilt, IsBuiltOver, IsInFront, IsOver, IsPlain, IsPlainOver, IsSeveral, Node, SeveralKind, TreeNode, starts_ended}
 use Rattle.rsx_plain.specs.Moves.{has_ending}
-use Rattle.rsx_kinds.specs.declared.kind.SeveralKind.{SeveralKind}
 use Rattle.rsx_sources.specs.Prelude.{Meaning, NoMemory, Stage}
 use Rattle.rsx_tree.specs.Prelude.{closed_row_if, IsJoined}
-use Rattle.rsx_tree.specs.declared.inputs.Inputs.{Inputs, End}
-use Rattle.rsx_tree.specs.declared.node.Node.{Node}
-use Rattle.rsx_queued.specs.declared.sender.Sender.TheVariants.{Direct}
-use Rattle.rsx_kinds.specs.Any.{TreeNode}
-use Rattle.rsx_kinds.specs.declared.any_node.AnyNode.{AnyNode}
-use Rattle.rsx_kinds.specs.Built.{IsBuilt, AreBuilt, IsBuiltOver, IsPlainOver, starts_ended}
-use Rattle.rsx_kinds.specs.Made.{IsInFront, IsOver, IsPlain, IsSeveral}
 use Rattle.rsx_kinds.proofs.Plains.{starts_is}
 use Rattle.rsx_kinds.proofs.Rows.{built_more}
 use Rattle.rsx_kinds.proofs.Several.{built_over}

@@ -1,8 +1,7 @@
 -- The value of a node under what it recorded: what its operator gives there, note by note.
 use Rattle.std.proofs.Common.{◌≡◌, ℕ, List, Option, Some, None, option_map, option_and_then, refl}
 use Rattle.rsx_sources.specs.Prelude.{Note, Nothing, quiet as quiet_at}
-use Rattle.rsx_model.specs.Eval.{chosen, quiet}
-use Rattle.rsx_queued.specs.Inputs.{picked}
+use Rattle.rsx_kinds.specs.Prelude.{chosen, picked, quiet}
 
 -- of one that records nothing
 pub quiet_value : {A B : Type 0} (f : A → B) (o : Option A) (note : Option Note) → quiet note (option_map f o) ≡ option_and_then (λ k. option_and_then (λ v. quiet_at k (f v)) o) note

@@ -3,24 +3,12 @@ use Rattle.std.proofs.Common.{◌≡◌, inl, inr, ℕ, Bool, true, false, ◌||
 use Rattle.std.specs.Prelude.{IfOk, ℤ}
 use Rattle.std.proofs.lemmas.Bool.{eq-eqb}
 use Rattle.rsx_sources.specs.Prelude.{NoMemory, HubId, Stage}
-use Rattle.rsx_plain.specs.Node.{plain_ended}
-use Rattle.rsx_model.specs.Shape.{children}
-use Rattle.rsx_model.specs.declared.expr.Expr.{Expr}
-use Rattle.rsx_model.specs.declared.expr.Expr.TheFolds.{fold_out-Expr, map-Expr}
-use Rattle.rsx_model.specs.declared.expr.Expr.TheOpen.{Expr-F}
+use Rattle.rsx_kinds.specs.Prelude.{AnyNode, ArePlaced, End, Expr, Expr-F, Inputs, IsAlone, IsCrossed, IsInFront, IsOverOne, IsPlaced, IsPlacedOver, IsPlainOver, More', Node, Placed, TreeNode, children, crossings, differ, fold_out-Expr, fresh_crossings, is_crossing, map-Expr, opposite, placed, placed_beside, placed_here, placed_in, plain_ended, region_from, region_of, worker_here}
 use Rattle.rsx_model.specs.declared.expr.Expr.TheOpen as layer
 use Rattle.rsx_model.specs.declared.expr.Expr.TheViews.{Plain as PlainOf, Concat as ConcatOf, Merge as MergeOf, Zip as ZipOf, Latest as LatestOf, Group as GroupOf, Window as WindowOf, Flat as FlatOf, On as OnOf, out-Expr, outs-Items, outs-Range, outs-Hub, outs-Plain, outs-Concat, outs-Merge, outs-Zip, outs-Latest, outs-Group, outs-Window, outs-Flat, outs-On}
 use Rattle.rsx_model.specs.declared.expr.Expr.TheVariants.{Items as ItemsOf, Range as RangeOf, Hub as HubOf}
 use Rattle.rsx_model.proofs.Unfold.{Each, by_children, children-map}
-use Rattle.rsx_model.specs.Region.{region_from, region_of, worker_here}
 use Rattle.rsx_tree.specs.Prelude.{closed_row, closed_row_if, IsJoined}
-use Rattle.rsx_tree.specs.declared.inputs.Inputs.{Inputs, End, More'}
-use Rattle.rsx_tree.specs.declared.node.Node.{Node}
-use Rattle.rsx_kinds.specs.Any.{TreeNode}
-use Rattle.rsx_kinds.specs.declared.any_node.AnyNode.{AnyNode}
-use Rattle.rsx_kinds.specs.Built.{IsPlainOver}
-use Rattle.rsx_kinds.specs.Crossings.{ArePlaced, IsAlone, IsPlaced, IsPlacedOver, Placed, crossings, differ, fresh_crossings, is_crossing, opposite, placed, placed_beside, placed_here, placed_in}
-use Rattle.rsx_kinds.specs.Made.{IsCrossed, IsInFront, IsOverOne}
 
 -- ---- one level of an expression
 

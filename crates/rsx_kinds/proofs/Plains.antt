@@ -4,26 +4,16 @@ use Rattle.std.specs.Prelude.{IfOk}
 use Rattle.std.proofs.lemmas.List.{append-nil}
 use Rattle.rsx_sources.specs.Prelude.{Meaning, plain, Signal, Stage, quiet as quiet_at}
 use Rattle.rsx_types.specs.declared.stage.Stage.TheVariants.{Take, Buffer}
-use Rattle.rsx_hub.specs.Hub.{HubState}
-use Rattle.rsx_model.specs.Eval.{environment, meant}
-use Rattle.rsx_model.specs.Check.{first_fault, stage_fits, or_else, unless}
+use Rattle.rsx_kinds.specs.Prelude.{Expr, HubState, IsBuilt, IsPlainOver, Node, Number, PlainNode, TreeNode, environment, first_fault, fold_out-Expr, fresh_edge, fresh_edges, meant, new_joins, or_else, plain_counted, stage_fits, start_slot, starts_ended, unless}
 use Rattle.rsx_model.specs.declared.check.BadExpr.{BadExpr}
-use Rattle.rsx_model.specs.declared.check.BadExpr.TheVariants.{Number}
-use Rattle.rsx_model.specs.declared.expr.Expr.{Expr}
-use Rattle.rsx_model.specs.declared.expr.Expr.TheFolds.{fold_out-Expr}
 use Rattle.rsx_model.specs.declared.expr.Expr.TheViews.{Plain as PlainOf, outs-Plain}
 use Rattle.rsx_model.proofs.Unfold.{value_Plain, first_fault_Plain}
 use Rattle.rsx_plain.specs.Moves.{has_ending}
 use Rattle.rsx_plain.specs.State.{plain_start, is_over, balanced, wanted_from}
 use Rattle.rsx_plain.specs.Operators.{starts_balanced, starts_wanting}
 use Rattle.rsx_plain.specs.declared.state.PlainState.{PlainState}
-use Rattle.rsx_plain.specs.Node.{plain_counted, start_slot}
-use Rattle.rsx_plain.specs.declared.node.PlainNode.{PlainNode}
-use Rattle.rsx_tree.specs.declared.node.Node.{Node}
 use Rattle.rsx_tree.specs.Prelude.{closed_if, closed_row_if}
 use Rattle.rsx_kinds.specs.declared.any_node.AnyNode.TheVariants.{Plain}
-use Rattle.rsx_kinds.specs.Any.{TreeNode}
-use Rattle.rsx_kinds.specs.Built.{IsBuilt, IsPlainOver, fresh_edge, fresh_edges, new_joins, starts_ended}
 use Rattle.rsx_kinds.proofs.NodeValues.{quiet_value}
 use Rattle.rsx_kinds.proofs.Single.{StandsFor, built_single}
 use Rattle.rsx_kinds.proofs.Wants.{wants_Plain}

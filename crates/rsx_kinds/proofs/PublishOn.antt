@@ -4,21 +4,8 @@ use Rattle.std.specs.Prelude.{IfOk}
 use Rattle.std.proofs.lemmas.Bool.Decides.{nat_tests}
 use Rattle.std.proofs.lemmas.List.{append-nil}
 use Rattle.rsx_sources.specs.Prelude.{Meaning, NoMemory, quiet as quiet_at}
-use Rattle.rsx_hub.specs.Hub.{HubState}
-use Rattle.rsx_model.specs.Eval.{environment, meant, quiet}
-use Rattle.rsx_model.specs.Check.{first_fault, unless, worker_fits}
-use Rattle.rsx_model.specs.declared.check.BadExpr.TheVariants.{Number}
-use Rattle.rsx_model.specs.declared.check.TheConstants.{MOST_PREFETCH}
-use Rattle.rsx_model.specs.declared.expr.Expr.{Expr}
-use Rattle.rsx_model.specs.declared.expr.Expr.TheFolds.{fold_out-Expr}
-use Rattle.rsx_model.specs.declared.expr.Expr.TheViews.{On, outs-On}
+use Rattle.rsx_kinds.specs.Prelude.{AnyNode, Expr, HubState, IsBuilt, IsOverOne, IsPublishOn, MOST_PREFETCH, Node, Number, On, TreeNode, environment, first_fault, fold_out-Expr, fresh_edge, fresh_edges, meant, new_joins, outs-On, publish_ended, publish_wanted, quiet, unless, worker_fits}
 use Rattle.rsx_model.proofs.Unfold.{fault_On, value_On}
-use Rattle.rsx_merging.specs.PublishOn.{publish_ended, publish_wanted}
-use Rattle.rsx_tree.specs.declared.node.Node.{Node}
-use Rattle.rsx_kinds.specs.declared.any_node.AnyNode.{AnyNode}
-use Rattle.rsx_kinds.specs.Any.{TreeNode}
-use Rattle.rsx_kinds.specs.Built.{IsBuilt, fresh_edge, fresh_edges, new_joins}
-use Rattle.rsx_kinds.specs.Made.{IsOverOne, IsPublishOn}
 use Rattle.rsx_kinds.proofs.NodeValues.{quiet_value}
 use Rattle.rsx_kinds.proofs.Single.{StandsFor, single_if}
 use Rattle.rsx_prefetch.proofs.Batches.{whole_capacity}

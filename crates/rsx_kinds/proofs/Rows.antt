@@ -2,18 +2,10 @@
 use Rattle.std.proofs.Common.{◌≡◌, inr, ℕ, suc, ◌+◌, ◌*◌, ◌<◌, List, [], ◌∷◌, ◌++◌, length, map, refl, ap, sym, ◌∙◌, subst, arith, Option, Some, None, option_map, option_and_then}
 use Rattle.rsx_types.proofs.Lists.{nil_before, nil_behind}
 use Rattle.rsx_sources.specs.Prelude.{Meaning, Stream, Note}
-use Rattle.rsx_hub.specs.Hub.{HubState}
-use Rattle.rsx_model.specs.Check.{first_fault, first_of}
-use Rattle.rsx_model.specs.Eval.{environment, in_order, meant}
-use Rattle.rsx_model.specs.Shape.{leaves, nodes, sum_of}
-use Rattle.rsx_model.specs.declared.expr.Expr.{Expr}
+use Rattle.rsx_kinds.specs.Prelude.{AllUnrecorded, AreBuilt, Expr, HubState, Inputs, IsBuilt, More', Node, StandAt, TreeNode, any_machine, environment, first_fault, first_of, first_wants, fresh_edge, fresh_edges, fresh_wants, in_order, joins_now, leaves, meant, new_joins, new_joins_of, nodes, sum_of}
 use Rattle.rsx_model.proofs.Unfold.{meant_leaves, meant_nodes, nodes_out, or_none}
-use Rattle.rsx_tree.specs.declared.inputs.Inputs.{Inputs, More'}
-use Rattle.rsx_tree.specs.declared.node.Node.{Node}
 use Rattle.rsx_tree.specs.Prelude.{IsBalanced, sent_over, beside_of, comes_in, notes_of, size, edges as edges_in, IsJoined}
 use Rattle.rsx_tree.proofs.Effects.{length_edges}
-use Rattle.rsx_kinds.specs.Any.{TreeNode, any_machine}
-use Rattle.rsx_kinds.specs.Built.{IsBuilt, AreBuilt, AllUnrecorded, StandAt, first_wants, fresh_edge, fresh_edges, fresh_wants, joins_now, new_joins, new_joins_of}
 use Rattle.rsx_rooted.proofs.Rows.{length_fresh, length_joins}
 use Rattle.rsx_kinds.proofs.Builds.{fresh_edge_is}
 

@@ -5,31 +5,15 @@ use Rattle.std.proofs.Math.ListN.{replicate}
 use Rattle.rsx_sources.specs.Prelude.{Meaning, Stream, Note, Nothing, Picks, Ended, incoming_of}
 use Rattle.rsx_values.specs.Prelude.{concat, merge, combine_latest, zip}
 use Rattle.rsx_queued.specs.Values.{first_values}
-use Rattle.rsx_hub.specs.Hub.{HubState}
-use Rattle.rsx_model.specs.Eval.{Meant, environment, in_order, meant, ended_by_record}
-use Rattle.rsx_model.specs.declared.expr.Expr.{Expr}
+use Rattle.rsx_kinds.specs.Prelude.{AreBuilt, Direct, Expr, GivesKind, HubState, Inputs, IsBuilt, IsBuiltOver, IsUnrecorded, IsWithin, MOST_INPUTS, MOST_PREFETCH, Meant, Node, Several, SeveralKind, SeveralNode, StandAt, TreeNode, any_machine, ended_by_record, environment, first_fault, first_of, first_wanted, fresh_beside, fresh_edges, fresh_wants, in_order, inputs_fit, joined, meant, new_joins, new_joins_of, nodes, out_of, prefetch_fits, queued_fault, recorded_first, several_counted, several_ended, several_recorded, several_wanted, sum_of, unless, wants_beside}
 use Rattle.rsx_model.specs.declared.expr.Expr.TheViews.{Concat as ConcatOf, Merge as MergeOf, Zip as ZipOf, Latest as LatestOf, outs-Concat, outs-Merge, outs-Zip, outs-Latest}
-use Rattle.rsx_model.specs.Check.{first_fault, first_of, inputs_fit, prefetch_fits, queued_fault, unless}
 use Rattle.rsx_model.specs.declared.check.BadExpr.TheVariants.{Inputs as TooManyInputs, Number}
-use Rattle.rsx_model.specs.declared.check.TheConstants.{MOST_INPUTS, MOST_PREFETCH}
-use Rattle.rsx_model.specs.Shape.{nodes, sum_of}
 use Rattle.rsx_model.proofs.Unfold.{fault_Concat, fault_Merge, fault_Zip, fault_Latest, nodes_Concat, nodes_Merge, nodes_Zip, nodes_Latest, or_none, value_Concat, value_Merge, value_Zip, value_Latest}
 use Rattle.rsx_prefetch.specs.declared.TheConstants.{LARGEST}
 use Rattle.std.proofs.lemmas.Bool.Decides.{nat_tests}
 use Rattle.std.proofs.lemmas.List.{length-map}
-use Rattle.rsx_kinds.specs.Kind.{GivesKind, IsWithin, first_wanted, joined, recorded_first}
-use Rattle.rsx_kinds.specs.Several.{several_counted, several_ended, several_recorded, several_wanted}
-use Rattle.rsx_kinds.specs.declared.kind.SeveralKind.{SeveralKind}
 use Rattle.rsx_kinds.specs.declared.kind.SeveralKind.TheVariants.{Concat, Merge, Zip, Latest}
-use Rattle.rsx_kinds.specs.declared.several_node.SeveralNode.{SeveralNode}
-use Rattle.rsx_tree.specs.declared.inputs.Inputs.{Inputs}
-use Rattle.rsx_tree.specs.declared.node.Node.{Node}
-use Rattle.rsx_tree.specs.Inputs.{out_of}
 use Rattle.rsx_tree.proofs.Rows.{then_same}
-use Rattle.rsx_kinds.specs.declared.any_node.AnyNode.TheVariants.{Several}
-use Rattle.rsx_queued.specs.declared.sender.Sender.TheVariants.{Direct}
-use Rattle.rsx_kinds.specs.Any.{TreeNode, any_machine}
-use Rattle.rsx_kinds.specs.Built.{IsBuilt, AreBuilt, IsBuiltOver, IsUnrecorded, StandAt, fresh_beside, fresh_edges, fresh_wants, new_joins, new_joins_of, wants_beside}
 use Rattle.rsx_kinds.proofs.NodeValues.{picked_value, quiet_value}
 use Rattle.rsx_rooted.proofs.Rows.{fresh_edges_out, leaf_joins_out}
 use Rattle.rsx_kinds.proofs.Builds.{node_of}

@@ -2,16 +2,13 @@
 use Rattle.std.specs.Prelude.{IfSome}
 use Rattle.std.proofs.Common.{◌≡◌, ap, ℕ, Option, Some, None}
 use Rattle.rsx_sources.specs.Prelude.{Meaning, Nothing, Signal, Next, CountsIn, CountsStep, IsItemOut, IsPassed, IsTakenIn}
-use Rattle.rsx_sources.specs.declared.machine.Passed.{Passed}
-use Rattle.rsx_sources.specs.declared.machine.Passed.TheVariants.{Item, Kept, Declined}
+use Rattle.rsx_kinds.specs.Prelude.{Declined, Item, Kept, Passed, SeveralNode, several_comes_out, several_counted, several_done, several_ended, several_popped, several_recorded, several_takes, several_waiting}
 use Rattle.rsx_merging.specs.declared.concat_node.ConcatNode.{ConcatNode}
 use Rattle.rsx_merging.specs.Concat.{concat_comes_out, concat_waiting, concat_takes, concat_popped, concat_ended, concat_done, IsInTurn}
 use Rattle.rsx_merging.specs.declared.merge_node.MergeNode.{MergeNode}
 use Rattle.rsx_merging.specs.Merge.{merge_comes_out, merge_waiting, merge_takes, merge_popped, merge_recorded, merge_ended, merge_done, merge_counted}
 use Rattle.rsx_combining.specs.Zip.{ZipState, zip_comes_out, zip_waiting, zip_takes, zip_popped, zip_recorded, zip_ended, zip_done, IsZipCounted}
 use Rattle.rsx_combining.specs.Latest.{LatestState, latest_comes_out, latest_waiting, latest_takes, latest_popped, latest_recorded, latest_ended, latest_done, IsLatestCounted}
-use Rattle.rsx_kinds.specs.Several.{several_comes_out, several_waiting, several_takes, several_popped, several_recorded, several_ended, several_done, several_counted}
-use Rattle.rsx_kinds.specs.declared.several_node.SeveralNode.{SeveralNode}
 use Rattle.rsx_kinds.specs.declared.several_node.SeveralNode.TheVariants.{Concat, Merge, Zip, Latest}
 
 -- ---- the signal that waited goes out

@@ -3,22 +3,11 @@ use Rattle.std.proofs.Common.{◌≡◌, inl, inr, ℕ, Bool, true, false, ◌+�
 use Rattle.std.specs.Prelude.{IfOk}
 use Rattle.std.proofs.lemmas.List.{append-nil}
 use Rattle.rsx_sources.specs.Prelude.{Meaning, Stream, NoMemory, Note, Nothing, Picks, Ended, Incoming, incoming_of, Reading}
-use Rattle.rsx_hub.specs.Hub.{HubState}
-use Rattle.rsx_model.specs.Eval.{environment, meant}
-use Rattle.rsx_model.specs.declared.expr.Expr.{Expr}
-use Rattle.rsx_tree.specs.declared.edge.Edge.{Edge}
-use Rattle.rsx_tree.specs.declared.edge.EdgeState.TheVariants.{Live}
-use Rattle.rsx_tree.specs.declared.inputs.Inputs.{Inputs, End, More'}
-use Rattle.rsx_tree.specs.declared.node.Node.{Node}
+use Rattle.rsx_kinds.specs.Prelude.{AllUnrecorded, AnyNode, Direct, Edge, End, Expr, HubState, Inputs, IsBuilt, IsOverOne, IsUnrecorded, Live, More', Node, StandAt, TreeNode, any_machine, counts_of, environment, first_wants, fresh_edge, fresh_edges, fresh_wants, kind_machine, meant, new_joins}
 use Rattle.rsx_tree.specs.Prelude.{IsBalanced, Hold, closed_if, out_of, beside_of, closed_row_if, notes_of, edges as edges_in, IsReadAt, comes_out, notes, IsJoined}
 use Rattle.rsx_tree.proofs.Effects.{edges_closed_if}
 use Rattle.rsx_tree.proofs.Readings.{closed_if_reads}
 use Rattle.rsx_tree.proofs.Rows.{comes_in_closed_if, notes_closed_if, then_same}
-use Rattle.rsx_queued.specs.declared.sender.Sender.TheVariants.{Direct}
-use Rattle.rsx_kinds.specs.Any.{TreeNode, any_machine, kind_machine}
-use Rattle.rsx_kinds.specs.declared.any_node.AnyNode.{AnyNode}
-use Rattle.rsx_kinds.specs.Built.{IsBuilt, IsUnrecorded, AllUnrecorded, StandAt, counts_of, first_wants, fresh_edge, fresh_edges, fresh_wants, new_joins}
-use Rattle.rsx_kinds.specs.Made.{IsOverOne}
 use Rattle.rsx_kinds.proofs.Builds.{fresh_edge_is, node_of}
 use Rattle.rsx_kinds.proofs.Wants.{first_wants_closed_if}
 

@@ -5,32 +5,12 @@ use Rattle.std.specs.Prelude.{ℤ}
 use Rattle.std.proofs.lemmas.List.{append-nil}
 use Rattle.rsx_sources.specs.Prelude.{HubId, Stage}
 use Rattle.rsx_sources.specs.declared.machine.Machine.{Ghosts as Machine}
-use Rattle.rsx_model.specs.Shape.{children}
-use Rattle.rsx_model.specs.declared.check.TheConstants.{MOST_CONCURRENCY}
-use Rattle.rsx_model.specs.declared.expr.Expr.{Expr}
-use Rattle.rsx_model.specs.declared.expr.Expr.TheFolds.{fold_out-Expr, map-Expr}
-use Rattle.rsx_model.specs.declared.expr.Expr.TheOpen.{Expr-F}
+use Rattle.rsx_kinds.specs.Prelude.{CountsItems, Direct, End, Expr, Expr-F, FlatMapNode, GroupByNode, Inputs, MOST_CONCURRENCY, More', Several, SeveralKind, SeveralNode, WantsOfEach, WindowNode, any_machine, children, closed_row, closed_row_if, first_wanted, first_wants, flat_wanted, fold_out-Expr, fresh_wants, group_counted, group_wanted, map-Expr, prefetch_of, several_wanted, wants_beside, window_wanted}
 use Rattle.rsx_model.specs.declared.expr.Expr.TheOpen as layer
 use Rattle.rsx_model.specs.declared.expr.Expr.TheViews.{Plain, Group, Window, Flat, On, out-Expr, outs-Items, outs-Range, outs-Hub, outs-Plain, outs-Group, outs-Window, outs-Flat, outs-On}
 use Rattle.rsx_model.specs.declared.expr.Expr.TheVariants.{Items, Range, Hub}
 use Rattle.rsx_model.proofs.Unfold.{children-map}
-use Rattle.rsx_kinds.specs.Kind.{first_wanted}
-use Rattle.rsx_kinds.specs.Several.{several_wanted}
-use Rattle.rsx_kinds.specs.declared.kind.SeveralKind.{SeveralKind}
 use Rattle.rsx_kinds.specs.declared.kind.SeveralKind.TheVariants.{Concat, Merge, Zip, Latest}
-use Rattle.rsx_kinds.specs.declared.several_node.SeveralNode.{SeveralNode}
-use Rattle.rsx_tree.specs.declared.inputs.Inputs.{Inputs, End, More'}
-use Rattle.rsx_tree.specs.Inputs.{closed_row, closed_row_if}
-use Rattle.rsx_kinds.specs.declared.any_node.AnyNode.TheVariants.{Several}
-use Rattle.rsx_queued.specs.declared.sender.Sender.TheVariants.{Direct}
-use Rattle.rsx_kinds.specs.Any.{any_machine}
-use Rattle.rsx_merging.specs.FlatMap.{flat_wanted}
-use Rattle.rsx_merging.specs.declared.flat_map_node.FlatMapNode.{FlatMapNode}
-use Rattle.rsx_grouping.specs.GroupBy.{group_counted, group_wanted}
-use Rattle.rsx_grouping.specs.declared.node.GroupByNode.{GroupByNode}
-use Rattle.rsx_window.specs.Window.{CountsItems, window_wanted}
-use Rattle.rsx_window.specs.declared.node.WindowNode.{WindowNode}
-use Rattle.rsx_kinds.specs.Built.{WantsOfEach, first_wants, fresh_wants, prefetch_of, wants_beside}
 
 -- ---- of a tree
 

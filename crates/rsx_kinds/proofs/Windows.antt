@@ -3,19 +3,11 @@ use Rattle.std.proofs.Common.{◌≡◌, false, ℕ, ◌+◌, List, ◌∷◌, r
 use Rattle.std.specs.Prelude.{IfOk}
 use Rattle.std.proofs.lemmas.List.{append-nil}
 use Rattle.rsx_sources.specs.Prelude.{Meaning, NoMemory, Stage, quiet as quiet_at}
-use Rattle.rsx_hub.specs.Hub.{HubState}
+use Rattle.rsx_kinds.specs.Prelude.{AnyNode, Expr, HubState, IsBuilt, IsOverOne, IsWindow, Node, TreeNode, environment, fold_out-Expr, fresh_edge, fresh_edges, meant, new_joins}
 use Rattle.rsx_values.specs.Window.{window}
-use Rattle.rsx_model.specs.Eval.{environment, meant}
-use Rattle.rsx_model.specs.declared.expr.Expr.{Expr}
-use Rattle.rsx_model.specs.declared.expr.Expr.TheFolds.{fold_out-Expr}
 use Rattle.rsx_model.specs.declared.expr.Expr.TheViews.{Window as WindowOf, outs-Window}
 use Rattle.rsx_model.proofs.Unfold.{value_Window}
 use Rattle.rsx_collections.specs.Signals.{has_ending}
-use Rattle.rsx_tree.specs.declared.node.Node.{Node}
-use Rattle.rsx_kinds.specs.declared.any_node.AnyNode.{AnyNode}
-use Rattle.rsx_kinds.specs.Any.{TreeNode}
-use Rattle.rsx_kinds.specs.Built.{IsBuilt, fresh_edge, fresh_edges, new_joins}
-use Rattle.rsx_kinds.specs.Made.{IsOverOne, IsWindow}
 use Rattle.rsx_kinds.proofs.NodeValues.{quiet_value}
 use Rattle.rsx_kinds.proofs.Single.{StandsFor, single_if}
 use Rattle.rsx_kinds.proofs.Wants.{wants_Window, window_wants}

@@ -9,6 +9,7 @@ pub mod Laws
 pub mod Made
 pub mod MergeRests
 pub mod OneInputRests
+pub mod Prelude
 pub mod QueuesRests
 pub mod Rests
 pub mod Room

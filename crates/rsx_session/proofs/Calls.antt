@@ -1,47 +1,26 @@
 -- Lemmas about the calls of a session.
-use Rattle.rsx_graph.specs.Kinds.{any_machine, Subscription, IsRequestedAt}
+use Rattle.rsx_session.specs.Prelude.{AllLead, Answer, Complete, Error, Feed, GraphStands, GraphState, History, HubPast, HubSource, IsCopyRefusal, IsEmitRefusal, IsRequestedAt, IsStepMade, IsTrouble, IsTroubleOf, Known, LeadsBy, Next, NonPositiveRequest, OnText, Record, Refusal, Session, SessionStands, Signal, Source, SubId, Subscription, Trouble, Val, any_machine, demo_allocates, demo_meaning, emitted, ended_by, ending_after, ending_by, extended, fed, feed_of, has_emitter, joins_in, known, published_at, published_from, seen, source_ended, source_of, source_with, source_without_last, sources_of, state_of, step_text, taken, with_delivery, with_fed_hub, with_hub}
 use Rattle.std.proofs.Common.{◌≡◌, ◌≤◌, ◌<◌, ◌&&◌, true, false, ℕ, ℤ, pos, negsuc, zero, suc, List, [], ◌∷◌, ◌++◌, length, map, get_or, refl, ap, sym, subst, ◌∙◌, ◌-◌, arith, take, length-append, Option, Some, None, is_none, is_some, Result, Ok, Err, codes}
 use Rattle.std.proofs.Math.ListN.{set}
 use Rattle.std.specs.Result.{IsErr, IsErrAnd}
 use Rattle.std.proofs.lemmas.List.{append-nil, get_or-set_same, length-map, map_push, set-get_or, set-set}
 use Rattle.std.proofs.lemmas.Option.{slice_get_past}
 use Rattle.std.proofs.Math.Seq.{take-append_seam}
-use Rattle.rsx_types.specs.Stream.{ended_by}
 use Rattle.rsx_types.specs.declared.names.HubKind.{HubKind}
-use Rattle.rsx_types.specs.declared.names.SubId.{SubId}
 use Rattle.rsx_subscriber.specs.Prelude.{Expr, Past, given, items_in, request_answer, requested, requested_in, subscribed, standing_of}
 use Rattle.rsx_types.specs.declared.signal.Cause.{Cause}
-use Rattle.rsx_types.specs.declared.signal.Cause.TheVariants.{NonPositiveRequest}
 use Rattle.rsx_types.specs.declared.signal.Ending.{Ending}
 use Rattle.rsx_types.specs.declared.signal.Ending.TheVariants.{Open, Done, Failed}
-use Rattle.rsx_types.specs.declared.signal.Signal.{Signal}
-use Rattle.rsx_types.specs.declared.signal.Signal.TheVariants.{Next, Complete, Error}
-use Rattle.rsx_demo.specs.Demo.{demo_meaning, demo_allocates}
-use Rattle.rsx_demo.specs.declared.val.Val.{Val}
 use Rattle.rsx_graph_state.specs.Prelude.{HubState, SubscriptionState, changed, state_at}
 use Rattle.rsx_subscriber.specs.declared.state.SubscriptionState.TheVariants as state
 use Rattle.rsx_graph_state.proofs.Graphs.{state_there}
 use Rattle.rsx_graph_state.specs.declared.refusal.Refusal.TheVariants as refusal
-use Rattle.rsx_graph_state.specs.declared.refusal.Refusal.{Refusal}
 use Rattle.rsx_graph_state.specs.declared.refusal.Refusal.TheVariants.{NoMemory}
 use Rattle.rsx_graph_state.specs.declared.step.Answer.{Answer as Answered}
 use Rattle.rsx_graph_state.specs.declared.step.Answer.TheVariants as did
 use Rattle.rsx_graph.specs.Done.{IsDone, fed_by}
-use Rattle.rsx_graph.specs.Rows.{Feed, History, HubPast, IsCopyRefusal, IsEmitRefusal, Source, emitted, fed, feed_of, has_emitter, joins_in, published_at, published_from, with_delivery, with_fed_hub, with_hub}
-use Rattle.rsx_graph.specs.InGraph.{state_of}
-use Rattle.rsx_graph.specs.Stands.{GraphStands, GraphState}
-use Rattle.rsx_graph.specs.Steps.{extended}
 use Rattle.rsx_graph.specs.declared.step.Step.{Step}
-use Rattle.rsx_script.specs.declared.print.Answer.{Answer}
-use Rattle.rsx_session.specs.Answers.{IsTrouble}
-use Rattle.rsx_session.specs.Kept.{Known, ending_after, ending_by, known, seen, source_ended, source_of, source_with, source_without_last, sources_of, taken}
-use Rattle.rsx_session.specs.Places.{IsStepMade, step_text}
-use Rattle.rsx_session.specs.Sessions.{AllLead, IsTroubleOf, LeadsBy, OnText, SessionStands}
-use Rattle.rsx_session.specs.declared.published.HubSource.{HubSource}
 use Rattle.rsx_session.specs.declared.published.HubSource.TheVariants as kept
-use Rattle.rsx_session.specs.declared.session.Record.{Record}
-use Rattle.rsx_session.specs.declared.session.Session.{Session}
-use Rattle.rsx_session.specs.declared.session.Trouble.{Trouble}
 use Rattle.rsx_session.specs.declared.session.Trouble.TheVariants as trouble
 
 -- the history after a step, with what goes out of a feed by it

@@ -4,22 +4,10 @@ use Rattle.std.specs.Prelude.{Decides}
 use Rattle.std.specs.Result.{IsErr, IsErrAnd}
 use Rattle.std.proofs.lemmas.List.{take-append-drop}
 use Rattle.std.proofs.Math.Seq.{take-append_seam}
-use Rattle.rsx_types.specs.declared.names.SubId.{SubId}
-use Rattle.rsx_types.specs.Stream.{Stream}
+use Rattle.rsx_session.specs.Prelude.{Answer, History, IsChecked, IsEvaluated, IsLookTrouble, IsOwed, IsRight, IsRightOf, IsValueAt, IsValueOf, Known, OfValue, Record, Says, Session, SessionStands, Stream, SubId, Trouble, Val, checked_text, demo_meaning, followed_by, place_of, state_of}
 use Rattle.rsx_subscriber.specs.Prelude.{ScratchRefusal, IsPrefixOf}
-use Rattle.rsx_demo.specs.Demo.{demo_meaning}
-use Rattle.rsx_demo.specs.declared.val.Val.{Val}
 use Rattle.rsx_graph_state.specs.Prelude.{SubscriptionState, state_at}
 use Rattle.rsx_subscriber.specs.declared.state.SubscriptionState.TheVariants as state
-use Rattle.rsx_graph.specs.Rows.{History, IsOwed}
-use Rattle.rsx_graph.specs.InGraph.{state_of}
-use Rattle.rsx_script.specs.declared.print.Answer.{Answer}
-use Rattle.rsx_session.specs.Kept.{Known, followed_by}
-use Rattle.rsx_session.specs.Places.{IsChecked, IsEvaluated, IsRight, OfValue, checked_text}
-use Rattle.rsx_session.specs.Sessions.{IsLookTrouble, IsRightOf, IsValueAt, IsValueOf, Says, SessionStands, place_of}
-use Rattle.rsx_session.specs.declared.session.Record.{Record}
-use Rattle.rsx_session.specs.declared.session.Session.{Session}
-use Rattle.rsx_session.specs.declared.session.Trouble.{Trouble}
 use Rattle.rsx_session.specs.declared.session.Trouble.TheVariants as trouble
 use Rattle.rsx_session.proofs.Looks.{kept_at, passed_on, state_there, subs_count}
 

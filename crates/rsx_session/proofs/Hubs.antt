@@ -1,27 +1,13 @@
 -- Lemmas about the values of the hubs.
-use Rattle.rsx_graph.specs.Kinds.{notes_of}
+use Rattle.rsx_session.specs.Prelude.{AreValues, Feed, HasFedJoins, HasFeedNotes, History, HubPast, HubSource, IsFeedLookRefusal, IsFeedRefused, IsHubsTrouble, IsNextTrouble, IsNextValue, IsScratchTrouble, IsTrouble, IsTroubleOf, IsValue, Note, Refusal, Session, SessionStands, Source, SourceStands, Stream, Trouble, Val, demo_meaning, emitted, fed, feed_of, has_feed, notes_of, place_of, source_of, state_of}
 use Rattle.std.proofs.Common.{◌≡◌, ◌<◌, ◌+◌, ◌&&◌, true, false, ℕ, zero, suc, List, [], ◌∷◌, ◌++◌, length, map, take, get_or, append_assoc, refl, ap, sym, subst, ◌∙◌, arith, Some, is_some, Result, Ok, Err, slice_get}
 use Rattle.std.specs.Result.{IfErr, IsErr, IsErrAnd}
 use Rattle.std.proofs.lemmas.List.{append-nil, take_more}
 use Rattle.std.proofs.lemmas.Option.{get_or_from_slice_get, slice_get_within}
-use Rattle.rsx_types.specs.Stream.{Stream}
-use Rattle.rsx_types.specs.declared.note.Note.{Note}
 use Rattle.rsx_subscriber.specs.Prelude.{environment, Expr, IsScratch, ScratchRefusal}
-use Rattle.rsx_demo.specs.Demo.{demo_meaning}
-use Rattle.rsx_demo.specs.declared.val.Val.{Val}
 use Rattle.rsx_hub.specs.Hub.{HubState}
-use Rattle.rsx_graph_state.specs.declared.refusal.Refusal.{Refusal}
 use Rattle.rsx_graph_state.specs.declared.refusal.Refusal.TheVariants as refusal
-use Rattle.rsx_graph.specs.Rows.{AreValues, Feed, HasFedJoins, HasFeedNotes, History, HubPast, IsFeedLookRefusal, IsValue, Source, SourceStands, emitted, fed, feed_of, has_feed}
-use Rattle.rsx_graph.specs.InGraph.{state_of}
-use Rattle.rsx_session.specs.Answers.{IsTrouble}
-use Rattle.rsx_session.specs.Kept.{source_of}
-use Rattle.rsx_session.specs.Places.{IsFeedRefused}
-use Rattle.rsx_session.specs.Sessions.{IsHubsTrouble, IsNextTrouble, IsNextValue, IsScratchTrouble, IsTroubleOf, SessionStands, place_of}
-use Rattle.rsx_session.specs.declared.published.HubSource.{HubSource}
 use Rattle.rsx_session.specs.declared.published.HubSource.TheVariants as kept
-use Rattle.rsx_session.specs.declared.session.Session.{Session}
-use Rattle.rsx_session.specs.declared.session.Trouble.{Trouble}
 use Rattle.rsx_session.specs.declared.session.Trouble.TheVariants as trouble
 use Rattle.rsx_session.proofs.Looks.{past_at}
 

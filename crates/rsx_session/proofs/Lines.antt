@@ -3,15 +3,9 @@ use Rattle.std.proofs.Common.{◌≡◌, ℕ, ◌++◌, ◌∷◌, [], List, tru
 use Rattle.std.specs.Prelude.{IfErr, IfOk, OnOk}
 use Rattle.std.proofs.lemmas.Bool.{or_left, or_right}
 use Rattle.rsx_types.specs.declared.fault.NoMemory.{NoMemory}
-use Rattle.rsx_script.specs.Answers.{IsTextOf, answer_text}
+use Rattle.rsx_session.specs.Prelude.{AllLead, Answer, GrowsByLine, IsAnswered, IsLineOf, IsLook, IsTextOf, IsTrouble, LeadsAll, OnText, Place, Says, Session, Trouble, answer_text, is_of, is_refused}
 use Rattle.rsx_script.specs.declared.command.Command.{Command}
-use Rattle.rsx_script.specs.declared.print.Answer.{Answer}
 use Rattle.rsx_script.specs.declared.print.Answer.TheVariants as answer
-use Rattle.rsx_session.specs.Answers.{IsAnswered, IsTrouble, is_of, is_refused}
-use Rattle.rsx_session.specs.Places.{IsLook, Place}
-use Rattle.rsx_session.specs.Sessions.{AllLead, GrowsByLine, IsLineOf, LeadsAll, OnText, Says}
-use Rattle.rsx_session.specs.declared.session.Session.{Session}
-use Rattle.rsx_session.specs.declared.session.Trouble.{Trouble}
 use Rattle.rsx_session.specs.declared.session.Trouble.TheVariants as trouble
 use Rattle.rsx_session.specs.declared.session.View.{View}
 

@@ -1,33 +1,16 @@
 -- Lemmas about looks at a session.
-use Rattle.rsx_graph.specs.Kinds.{any_machine, notes_of, HasNotesAt}
+use Rattle.rsx_session.specs.Prelude.{Answer, HasNotesAt, HaveValues, History, IsEvaluated, IsEvaluatedOver, IsHubsTrouble, IsLookTrouble, IsOwed, IsRest, IsRestOf, IsScratchTrouble, IsShown, IsTrouble, IsTroubleOf, IsValueAt, IsValueOf, IsValued, Note, OfSub, OnText, Place, Record, Refusal, Says, Session, SessionStands, Stream, SubId, Trouble, Val, any_machine, demo_meaning, known, notes_of, place_of, rest_text, seen, signals_text, state_of}
 use Rattle.std.proofs.Common.{◌≡◌, ◌⊎◌, ◌≤◌, true, false, ℕ, zero, suc, List, [], ◌∷◌, ◌++◌, length, map, refl, ap, sym, subst, ◌∙◌, arith, Some, Result, Ok, Err, slice_get, inl, inr, codes}
 use Rattle.std.specs.Result.{IfErr, IsErr, IsErrAnd}
-use Rattle.rsx_types.specs.declared.names.SubId.{SubId}
-use Rattle.rsx_types.specs.Stream.{Stream}
-use Rattle.rsx_types.specs.declared.note.Note.{Note}
 use Rattle.rsx_subscriber.specs.Prelude.{environment, Expr, IsScratch, ScratchRefusal, Past}
 use Rattle.std.proofs.lemmas.List.{length-map}
 use Rattle.std.proofs.lemmas.Option.{slice_get_within}
-use Rattle.rsx_demo.specs.Demo.{demo_meaning}
-use Rattle.rsx_demo.specs.declared.val.Val.{Val}
 use Rattle.rsx_graph_state.specs.Prelude.{HasAsked, HasJoins, IsLookRefusal, state_at, SubscriptionState}
-use Rattle.rsx_graph_state.specs.declared.refusal.Refusal.{Refusal}
 use Rattle.rsx_graph_state.specs.declared.refusal.Refusal.TheVariants as refusal
 use Rattle.rsx_graph_state.proofs.Graphs.{count_same}
-use Rattle.rsx_graph.specs.Rows.{History, IsOwed}
-use Rattle.rsx_graph.specs.InGraph.{state_of}
-use Rattle.rsx_script.specs.Answers.{rest_text, signals_text}
-use Rattle.rsx_script.specs.declared.print.Answer.{Answer}
 use Rattle.rsx_script.specs.declared.print.Rest.{Rest}
 use Rattle.rsx_script.specs.declared.print.Rest.TheVariants as rest
 use Rattle.rsx_subscriber.specs.declared.state.SubscriptionState.TheVariants as state
-use Rattle.rsx_session.specs.Answers.{IsTrouble}
-use Rattle.rsx_session.specs.Kept.{known, seen}
-use Rattle.rsx_session.specs.Places.{HaveValues, IsEvaluated, IsEvaluatedOver, IsRest, IsShown, IsValued, OfSub, Place}
-use Rattle.rsx_session.specs.Sessions.{IsHubsTrouble, IsLookTrouble, IsRestOf, IsScratchTrouble, IsTroubleOf, IsValueAt, IsValueOf, OnText, Says, SessionStands, place_of}
-use Rattle.rsx_session.specs.declared.session.Record.{Record}
-use Rattle.rsx_session.specs.declared.session.Session.{Session}
-use Rattle.rsx_session.specs.declared.session.Trouble.{Trouble}
 use Rattle.rsx_session.specs.declared.session.Trouble.TheVariants as trouble
 
 -- there are as many subscriptions as pasts

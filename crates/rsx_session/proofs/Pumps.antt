@@ -1,26 +1,16 @@
 -- Lemmas about `pump`: runs of moves.
 use Rattle.std.proofs.Common.{◌≡◌, ℕ, ◌+◌, zero, suc, List, [], ◌∷◌, ◌++◌, ◌≤◌, length, length-append, arith, map, refl, ap, sym, subst, ◌∙◌, Option, Some, None, Ok}
-use Rattle.rsx_types.specs.declared.names.SubId.{SubId}
+use Rattle.rsx_session.specs.Prelude.{Accept, AllLead, AllPumpTo, AllRun, ArePumped, Ask, HasEnded, HasPumpedIn, HasRun, History, HubPast, IsMoveMade, Known, LeadTo, Made, Pick, Row, Rows, Send, Session, SessionStands, Signal, SubId, Take, Val, accepted_at, after_move, after_moves, all_taken, delivered_by, demo_meaning, known, pumped_text, seen, sent_at, source_of, sources_of, state_of, taken, with_delivery, with_made, with_moved, with_sent}
 use Rattle.rsx_types.specs.declared.names.Move.{Move}
-use Rattle.rsx_types.specs.declared.names.Move.TheVariants.{Ask, Send, Take, Pick, Row, Accept}
 use Rattle.rsx_types.specs.declared.names.Tree.{Tree}
 use Rattle.rsx_types.specs.declared.names.Tree.TheVariants.{Sub, Feed as FeedOf}
-use Rattle.rsx_types.specs.declared.signal.Signal.{Signal}
 use Rattle.std.proofs.lemmas.List.Sums.{fold-append}
 use Rattle.std.specs.Option.{option_to_list}
 use Rattle.rsx_tree.proofs.Runs.{leads_on}
-use Rattle.rsx_demo.specs.Demo.{demo_meaning}
-use Rattle.rsx_demo.specs.declared.val.Val.{Val}
 use Rattle.rsx_subscriber.specs.Prelude.{Delivered, Past, given, IsMadeAnswer}
 use Rattle.rsx_graph_state.specs.Answers.{changed}
 use Rattle.rsx_graph_state.specs.declared.step.Pumped.{Pumped}
 use Rattle.rsx_graph_state.specs.declared.step.Pumped.TheVariants.{Idle, Budget}
-use Rattle.rsx_graph.specs.Rows.{HasEnded, History, HubPast, IsMoveMade, LeadTo, Made, Rows, accepted_at, after_move, after_moves, delivered_by, sent_at, with_delivery, with_made, with_moved, with_sent}
-use Rattle.rsx_graph.specs.InGraph.{HasPumpedIn, state_of}
-use Rattle.rsx_session.specs.Kept.{Known, all_taken, known, seen, source_of, sources_of, taken}
-use Rattle.rsx_session.specs.Places.{ArePumped, pumped_text}
-use Rattle.rsx_session.specs.Sessions.{AllLead, AllPumpTo, AllRun, HasRun, SessionStands}
-use Rattle.rsx_session.specs.declared.session.Session.{Session}
 use Rattle.rsx_session.proofs.Calls.{seen_given}
 
 -- ---- moves publish nothing

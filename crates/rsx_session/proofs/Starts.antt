@@ -1,16 +1,8 @@
 -- Where a script begins.
-use Rattle.rsx_graph.specs.Kinds.{Subscription, AllStand}
+use Rattle.rsx_session.specs.Prelude.{AllStand, Feed, NameHubs, Place, Session, SessionStands, Stream, Subscription, Val, begun, demo_meaning, no_history, place_of}
 use Rattle.std.proofs.Common.{◌≡◌, ℕ, List, [], ◌∷◌, length, map, refl, ap, ◌∙◌, arith}
 use Rattle.std.proofs.lemmas.List.{length-map, nil_from_length}
-use Rattle.rsx_types.specs.Stream.{Stream}
-use Rattle.rsx_demo.specs.Demo.{demo_meaning}
-use Rattle.rsx_demo.specs.declared.val.Val.{Val}
 use Rattle.rsx_graph_state.specs.Prelude.{HubState}
-use Rattle.rsx_graph.specs.Rows.{Feed, NameHubs}
-use Rattle.rsx_graph.specs.Steps.{no_history}
-use Rattle.rsx_session.specs.Places.{Place, begun}
-use Rattle.rsx_session.specs.Sessions.{SessionStands, place_of}
-use Rattle.rsx_session.specs.declared.session.Session.{Session}
 
 no_subs : (published : List (Stream Val)) (subs : List (Subscription Val)) → AllStand demo_meaning published subs [] → subs ≡ []
 no_subs published [] k = refl

@@ -1,5 +1,5 @@
 -- What is recorded of a run goes on, for each subscriber, as one subscription does.
-use Rattle.rsx_graph.specs.Kinds.{any_machine, notes_of, IsFresh, Holds, Feed, Subscription, AllHold, AllStand, AreValues, IsValue}
+use Rattle.rsx_verify.specs.Prelude.{Accept, Act, Acted, AllHold, AllStand, AreValues, Ask, Feed, GraphStands, GraphState, Holds, IsActed, IsActedAs, IsBegun, IsCancelOf, IsFollowed, IsFresh, IsProcessed, IsProcessing, IsPumpOf, IsRecorded, IsRequestOf, IsValue, Made, Meaning, Move, NonPositiveRequest, Pick, Row, Send, Signal, Stamped, SubId, Subscription, Take, after_moves, answered, any_machine, beginning, delivered_by, notes_of, reader, stamped, subscriber}
 use Rattle.rsx_graph.proofs.Laws.{any_laws}
 use Rattle.std.proofs.Common.{◌≡◌, ◌≢◌, ℕ, ℤ, zero, suc, List, [], ◌∷◌, ◌++◌, map, Option, Some, None, inl, inr, refl, sym, ap, ◌∙◌, subst, append_assoc, arith}
 use Rattle.std.specs.Prelude.{slice_get, slice_set}
@@ -9,31 +9,19 @@ use Rattle.std.proofs.lemmas.Bool.{cases_eq}
 use Rattle.std.proofs.lemmas.List.{append-nil}
 use Rattle.std.proofs.lemmas.List.Elements.{All-nil, All-push}
 use Rattle.std.proofs.lemmas.Option.{same_Some}
-use Rattle.rsx_types.specs.Meaning.{Meaning}
 use Rattle.rsx_types.specs.Stream.{Stream, ending_signals}
-use Rattle.rsx_types.specs.declared.names.Move.{Move}
-use Rattle.rsx_types.specs.declared.names.Move.TheVariants.{Ask, Send, Take, Pick, Row, Accept}
-use Rattle.rsx_types.specs.declared.names.SubId.{SubId}
 use Rattle.rsx_types.specs.declared.names.Tree.{Tree}
 use Rattle.rsx_types.specs.declared.names.Tree.TheVariants.{Sub, Feed as FeedOf}
-use Rattle.rsx_types.specs.declared.signal.Cause.TheVariants.{NonPositiveRequest}
 use Rattle.rsx_types.specs.declared.signal.Ending.{Ending}
 use Rattle.rsx_types.specs.declared.signal.Ending.TheVariants as stream
-use Rattle.rsx_types.specs.declared.signal.Signal.{Signal}
 use Rattle.rsx_types.specs.declared.signal.Signal.TheVariants.{Next, Complete, Error}
 use Rattle.rsx_subscriber.specs.Prelude.{environment, Expr, region_of, Past, given, standing, standing_of}
 use Rattle.rsx_model.proofs.Laws.{never_a_bad_request_law}
 use Rattle.rsx_graph_state.specs.Prelude.{Ended, changed, History, HubPast, Source, accepted_at, emitted, fed, sent_at, with_made, with_moved}
 use Rattle.rsx_graph_state.proofs.Values.{whole_holds}
-use Rattle.rsx_graph_moves.specs.Pumped.{Made, after_moves, delivered_by}
-use Rattle.rsx_graph.specs.Stands.{GraphStands, GraphState}
 use Rattle.rsx_trace.specs.declared.event.Event.TheVariants as event
-use Rattle.rsx_trace.specs.declared.event.Stamped.{Stamped}
-use Rattle.rsx_verify.specs.declared.act.Act.{Act}
 use Rattle.rsx_verify.specs.declared.act.Act.TheVariants.{Request, Cancel, Pump}
-use Rattle.rsx_verify.specs.Events.{answered, beginning, stamped}
 use Rattle.rsx_tree.proofs.Runs.{leads_add}
-use Rattle.rsx_verify.specs.Runs.{Acted, IsActed, IsActedAs, IsBegun, IsCancelOf, IsFollowed, IsProcessed, IsProcessing, IsPumpOf, IsRecorded, IsRequestOf, reader, subscriber}
 use Rattle.rsx_verify.proofs.Moving.{FitsAt, Steps, after_given, at_set, beside_set, clean_parts, IsElsewhere, lead_steps, moves_past, other_delivery, steps_come, to, to_on, to_other}
 use Rattle.rsx_verify.proofs.Progress.{Progress, at, fresh, subscribed, receiving, running, GoesOn, goes_further}
 use Rattle.rsx_verify.proofs.Subscribed.{IsClean, cancelled_comes, event_goes, requested_comes}

@@ -1,17 +1,8 @@
 -- What is recorded of subscriptions that go on so keeps each rule.
 use Rattle.std.proofs.Common.{ℕ, List, ◌++◌, take}
-use Rattle.rsx_trace.specs.declared.event.Stamped.{Stamped}
-use Rattle.rsx_tck.specs.declared.rule.Rule.{Rule}
+use Rattle.rsx_verify.specs.Prelude.{Act, AreKept, AreUnbroken, AreVerified, IsKept, IsProcessed, IsRecorded, Line, Meaning, Rule, Sentence, Stamped, bad_request_acts, beginning, cancel_acts, processor_acts, publisher_acts, reader}
 use Rattle.rsx_tck.specs.declared.rule.Rule.TheVariants as rule
-use Rattle.rsx_tck.specs.Sentences.{Sentence}
 use Rattle.rsx_subscriber.specs.Prelude.{Expr, region_of}
-use Rattle.rsx_types.specs.Meaning.{Meaning}
-use Rattle.rsx_verify.specs.declared.act.Act.{Act}
-use Rattle.rsx_verify.specs.declared.line.Line.{Line}
-use Rattle.rsx_verify.specs.Events.{beginning}
-use Rattle.rsx_verify.specs.Kept.{AreKept, IsKept}
-use Rattle.rsx_verify.specs.Reports.{AreUnbroken, AreVerified, bad_request_acts, cancel_acts, processor_acts, publisher_acts}
-use Rattle.rsx_verify.specs.Runs.{IsProcessed, IsRecorded, reader}
 use Rattle.rsx_verify.proofs.Acting.{processed_goes, recorded_goes}
 use Rattle.rsx_verify.proofs.Counted.{Covered, KeepsCounts, counts_first, counts_kept, covered_requests}
 use Rattle.rsx_verify.proofs.Lines.{unbroken_lines}

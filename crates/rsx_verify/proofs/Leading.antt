@@ -1,27 +1,13 @@
 -- Runs, act by act.
-use Rattle.rsx_graph.specs.Kinds.{IsSubscribed, IsRequestedAt, Subscription, Feed, IsFedHubMade}
+use Rattle.rsx_verify.specs.Prelude.{Act, Acted, AreLines, AreVerified, Feed, GraphStands, GraphState, IsActed, IsActedAs, IsAsideSame, IsBegun, IsFedHubMade, IsFollowed, IsFollowedTo, IsLine, IsPassedOver, IsProcessed, IsProcessing, IsRecorded, IsRequestedAt, IsSubscribed, Line, Meaning, Multicast, Signal, Stamped, SubId, Subscription, bad_request_acts, cancel_acts, delivery, no_history, nothing, processor_acts, publisher_acts, reader, stamped, with_fed_hub, with_subscriber}
 use Rattle.std.proofs.Common.{◌≡◌, ℕ, ◌+◌, ◌<◌, ◌≤◌, List, [], ◌∷◌, ◌++◌, length, take, get_or, ℤ, Option, None, Some, inl, refl, sym, ap, ◌∙◌, subst, append_assoc}
 use Rattle.std.proofs.lemmas.List.{append-nil, flat_map_more, map-append, take_all, take_more}
-use Rattle.rsx_trace.specs.declared.event.Stamped.{Stamped}
-use Rattle.rsx_types.specs.Meaning.{Meaning}
 use Rattle.rsx_subscriber.specs.Prelude.{Expr, cancelled, requested}
 use Rattle.rsx_graph_state.specs.Prelude.{HaveJoined, History}
-use Rattle.rsx_types.specs.declared.names.HubKind.TheVariants.{Multicast}
-use Rattle.rsx_types.specs.declared.names.SubId.{SubId}
-use Rattle.rsx_types.specs.declared.signal.Signal.{Signal}
 use Rattle.rsx_trace.specs.declared.event.Event.TheVariants as event
-use Rattle.rsx_graph_calls.specs.Edits.{with_fed_hub}
 use Rattle.rsx_graph_calls.specs.Requests.{with_past}
-use Rattle.rsx_graph_calls.specs.Subscribing.{with_subscriber}
-use Rattle.rsx_graph.specs.Stands.{GraphStands, GraphState, IsAsideSame, nothing}
-use Rattle.rsx_graph.specs.Steps.{no_history}
-use Rattle.rsx_verify.specs.declared.act.Act.{Act}
 use Rattle.rsx_verify.specs.declared.act.Act.TheVariants.{Request}
-use Rattle.rsx_verify.specs.Events.{delivery, stamped}
-use Rattle.rsx_verify.specs.declared.line.Line.{Line}
-use Rattle.rsx_verify.specs.Reports.{AreLines, AreVerified, IsLine, publisher_acts, cancel_acts, bad_request_acts, processor_acts}
 use Rattle.rsx_tree.proofs.Runs.{leads_on}
-use Rattle.rsx_verify.specs.Runs.{Acted, IsActed, IsActedAs, IsBegun, IsFollowed, IsFollowedTo, IsPassedOver, IsProcessed, IsProcessing, IsRecorded, reader}
 use Rattle.rsx_verify.specs.declared.TheConstants.{CAPACITY}
 
 pub begun_from : {T : Type 0} (m m' : Meaning T) (e : Expr T) (old new : GraphState T) → m' ≡ m → old ≡ nothing → IsSubscribed e old.rows.subs new.rows.subs → GraphStands m old no_history →

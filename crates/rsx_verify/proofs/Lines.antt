@@ -4,16 +4,11 @@ use Rattle.std.specs.Prelude.{if◌then◌else◌}
 use Rattle.std.proofs.lemmas.Bool.{cases_eq}
 use Rattle.std.proofs.lemmas.Option.{get_or_from_slice_get, same_Some, slice_get-get_or, slice_get_within}
 use Rattle.rsx_types.proofs.Lists.{slice_get-set_same}
-use Rattle.rsx_tck.specs.Rule.{all_rules}
-use Rattle.rsx_tck.specs.declared.rule.Rule.{Rule}
+use Rattle.rsx_verify.specs.Prelude.{AreKept, AreLines, AreUnbroken, IsKept, IsLine, IsUnbroken, Line, Rule, Stamped, all_rules, first_broken, is_broken, line_of}
 use Rattle.rsx_tck.specs.declared.rule.Rule.TheVariants as rule
 use Rattle.rsx_tck.specs.declared.rule.Verdict.{Verdict}
 use Rattle.rsx_tck.specs.declared.rule.Verdict.TheVariants.{Held, Broken, NotJudged}
 use Rattle.rsx_tck.specs.Verdicts.{Judged}
-use Rattle.rsx_trace.specs.declared.event.Stamped.{Stamped}
-use Rattle.rsx_verify.specs.declared.line.Line.{Line}
-use Rattle.rsx_verify.specs.Kept.{AreKept, IsKept}
-use Rattle.rsx_verify.specs.Reports.{AreLines, AreUnbroken, IsLine, IsUnbroken, first_broken, is_broken, line_of}
 use Rattle.rsx_tck.proofs.ReportLines.{slice_get-set_other}
 
 -- there are lines for the first rules, so many of them

@@ -1,28 +1,20 @@
 -- What the moves of a graph come to for one subscriber.
-use Rattle.rsx_graph.specs.Kinds.{any_machine, tree_nodes, AllHanded, Subscription, IsMadeAt, enabled_at, IsMovedBy, Rows, route, enabled_inside, inner_move, IsMoved, IsMovedInFeed, feed_move, is_enabled, IsMoveMade, LeadTo}
+use Rattle.rsx_verify.specs.Prelude.{Accept, AllHanded, Ask, IsMadeAt, IsMoveMade, IsMoved, IsMovedBy, IsMovedInFeed, LeadTo, Made, Meaning, Move, Pick, Row, Rows, Send, Signal, Stamped, SubId, Subscription, Take, after_moves, any_machine, delivered_by, deliveries, delivery, enabled_at, enabled_inside, feed_move, inner_move, is_enabled, route, tree_nodes}
 use Rattle.std.proofs.Common.{◌≡◌, ◌≢◌, ◌⊎◌, ℕ, zero, suc, ◌==◌, Bool, true, false, ◌&&◌, ◌||◌, nat_eq, inl, inr, List, [], ◌∷◌, ◌++◌, Option, Some, None, refl, sym, ap, ◌∙◌, subst}
 use Rattle.std.specs.Prelude.{if◌then◌else◌, slice_get, slice_set}
 use Rattle.std.specs.Option.{option_to_list}
 use Rattle.std.proofs.lemmas.Bool.{cases_eq, eq-eqb, ne_eqb}
 use Rattle.std.proofs.lemmas.List.{append-nil}
 use Rattle.std.proofs.lemmas.Option.{get_or_from_slice_get, same_Some, slice_get_within}
-use Rattle.rsx_types.specs.Meaning.{Meaning}
-use Rattle.rsx_types.specs.declared.names.Move.{Move}
-use Rattle.rsx_types.specs.declared.names.Move.TheVariants.{Ask, Send, Take, Pick, Row, Accept}
 use Rattle.rsx_types.specs.declared.names.NodeId.{NodeId}
-use Rattle.rsx_types.specs.declared.names.SubId.{SubId}
 use Rattle.rsx_types.specs.declared.names.Tree.TheVariants.{Sub, Feed as FeedOf}
-use Rattle.rsx_types.specs.declared.signal.Signal.{Signal}
 use Rattle.rsx_types.specs.declared.signal.Signal.TheVariants.{Next, Complete, Error}
 use Rattle.rsx_graph_state.specs.Prelude.{changed, History, with_made, with_sent, is_out}
 use Rattle.rsx_subscriber.specs.Prelude.{Past, given, delivers, Straight, IsKeptBeside, IsMadeAnswer, IsTake, IsTakeAnswer, take_by, NodeMove}
 use Rattle.rsx_subscriber.proofs.Moves.{worked_kept}
 use Rattle.rsx_graph_state.proofs.Graphs.{enabled_there}
-use Rattle.rsx_graph_moves.specs.Pumped.{Made, after_moves, delivered_by}
 use Rattle.rsx_tree.proofs.Runs.{leads_lift}
 use Rattle.rsx_tree.specs.Runs.{Leads}
-use Rattle.rsx_trace.specs.declared.event.Stamped.{Stamped}
-use Rattle.rsx_verify.specs.Events.{deliveries, delivery}
 use Rattle.rsx_verify.proofs.Progress.{Progress, at, fresh, GoesOn, goes_further}
 use Rattle.rsx_verify.proofs.Subscribed.{Fits, IsClean, delivered_comes, fits_kept}
 

@@ -1,9 +1,7 @@
 -- Where one OnSubscribe comes, no further one is unwanted.
 use Rattle.std.proofs.Common.{ℕ, List, ◌==◌}
 use Rattle.std.proofs.lemmas.Bool.{and_parts}
-use Rattle.rsx_trace.specs.declared.event.Stamped.{Stamped}
-use Rattle.rsx_trace.specs.Events.{of, is_on_subscribe}
-use Rattle.rsx_tck.specs.Sentences.{NoneAfter, RefusesUnwanted}
+use Rattle.rsx_verify.specs.Prelude.{NoneAfter, RefusesUnwanted, Stamped, is_on_subscribe, of}
 
 pub refuses : (s : ℕ) (t : List Stamped) → NoneAfter (of s is_on_subscribe) (of s is_on_subscribe) t → RefusesUnwanted s t
 refuses s t none w i k lt un a between =

@@ -3,21 +3,12 @@ use Rattle.std.proofs.Common.{◌≡◌, ◌≢◌, ℕ, zero, suc, ◌==◌, �
 use Rattle.std.specs.Prelude.{if◌then◌else◌}
 use Rattle.std.proofs.lemmas.Bool.{eq-eqb}
 use Rattle.std.proofs.lemmas.List.{append-nil}
-use Rattle.rsx_types.specs.Meaning.{Meaning}
-use Rattle.rsx_types.specs.declared.names.SubId.{SubId}
-use Rattle.rsx_types.specs.declared.signal.Signal.{Signal}
+use Rattle.rsx_verify.specs.Prelude.{Act, Acted, GraphState, IsActed, IsActedAs, IsFollowed, Meaning, Signal, Stamped, SubId, answered, beginning, deliveries, delivery, is_exit, is_signal, of, of-other, stamped, subscriber_of}
 use Rattle.rsx_types.specs.declared.signal.Signal.TheVariants.{Next, Complete, Error}
-use Rattle.rsx_graph.specs.Stands.{GraphState}
 use Rattle.rsx_trace.specs.declared.event.Event.TheVariants as event
-use Rattle.rsx_trace.specs.declared.event.Stamped.{Stamped}
-use Rattle.rsx_trace.specs.Events.{of, subscriber_of, is_exit, is_signal}
-use Rattle.rsx_tck.specs.Laws.Positions.{of-other}
-use Rattle.rsx_verify.specs.declared.act.Act.{Act}
 use Rattle.rsx_verify.specs.declared.act.Act.TheVariants.{Request, Cancel, Pump}
-use Rattle.rsx_verify.specs.Events.{answered, beginning, deliveries, delivery, stamped}
 use Rattle.std.specs.List.{flat_map}
 use Rattle.rsx_tree.proofs.Runs.{leads_add}
-use Rattle.rsx_verify.specs.Runs.{Acted, IsActed, IsActedAs, IsFollowed}
 use Rattle.rsx_verify.proofs.Progress.{Progress, at, fresh, after, Goes, GoesOn}
 
 -- the worker on which this subscriber's last signal began, from the one before and an event

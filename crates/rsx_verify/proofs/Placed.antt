@@ -1,16 +1,10 @@
 -- The region in which the signals of a run are delivered.
 use Rattle.std.proofs.Common.{◌≡◌, ℕ, List, [], ◌∷◌, sym, ap, ◌∙◌, subst}
 use Rattle.std.proofs.lemmas.Option.{same_Some}
-use Rattle.rsx_graph_calls.specs.Edits.{joins_in, with_fed_hub}
+use Rattle.rsx_verify.specs.Prelude.{GraphStands, GraphState, IsBegun, IsProcessing, Meaning, Multicast, joins_in, no_history, reader, with_fed_hub, with_subscriber}
 use Rattle.rsx_graph_calls.specs.Regions.{HasRegion, region_in}
-use Rattle.rsx_graph_calls.specs.Subscribing.{with_subscriber}
 use Rattle.rsx_graph_state.specs.History.{History}
-use Rattle.rsx_graph.specs.Stands.{GraphStands, GraphState}
-use Rattle.rsx_graph.specs.Steps.{no_history}
 use Rattle.rsx_subscriber.specs.Prelude.{Expr, region_of, Past, subscribed}
-use Rattle.rsx_types.specs.Meaning.{Meaning}
-use Rattle.rsx_types.specs.declared.names.HubKind.TheVariants.{Multicast}
-use Rattle.rsx_verify.specs.Runs.{IsBegun, IsProcessing, reader}
 
 -- that of the first subscription is that of its expression
 first_region : {T : Type 0} (e : Expr T) (joins : List ℕ) (pasts : List (Past T)) (r : ℕ) → HasRegion (subscribed e joins ∷ pasts) 0 r → r ≡ region_of e

@@ -1,12 +1,8 @@
 -- How a subscription goes on, event by event, beside others.
 use Rattle.std.proofs.Common.{◌≡◌, ◌≢◌, ℕ, ℤ, ◌⊎◌, inl, inr, zero, suc, pos, negsuc, ◌+◌, ◌<◌, List, [], ◌∷◌, ◌++◌, take, sym, subst, append_assoc}
 use Rattle.std.proofs.lemmas.List.{append-nil}
-use Rattle.rsx_demand.specs.Demand.{saturating_total}
-use Rattle.rsx_types.specs.declared.signal.Cause.TheVariants.{NonPositiveRequest}
-use Rattle.rsx_trace.specs.declared.event.Event.{Event}
+use Rattle.rsx_verify.specs.Prelude.{Event, NonPositiveRequest, Stamped, saturating_total, subscriber_of}
 use Rattle.rsx_trace.specs.declared.event.Event.TheVariants.{Subscribe, OnSubscribe, Next, Complete, Error, Exit, Request, Cancel, CancelNew}
-use Rattle.rsx_trace.specs.declared.event.Stamped.{Stamped}
-use Rattle.rsx_trace.specs.Events.{subscriber_of}
 
 -- what comes next: nothing has happened; OnSubscribe; the Exit of OnSubscribe or of an item; any signal; the error of a bad
 -- request; the Exit of an ending; nothing any more

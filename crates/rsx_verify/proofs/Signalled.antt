@@ -2,19 +2,13 @@
 use Rattle.std.proofs.Common.{◌≡◌, ◌≢◌, ℕ, zero, suc, pos, negsuc, inl, inr, true, false, not, ◌&&◌, List, [], ◌∷◌, ◌++◌, Option, Some, None, refl, sym, ap, ◌∙◌}
 use Rattle.std.specs.Prelude.{if◌then◌else◌, is_some}
 use Rattle.std.proofs.lemmas.Bool.{eq-eqb}
-use Rattle.rsx_trace.specs.declared.event.Event.{Event}
+use Rattle.rsx_verify.specs.Prelude.{Event, FirstIs, IsOpen, KnowsAnswer, KnowsSignal, Nothing, Stamped, is_bad_request, is_bad_request_error, is_cancel_or_ending, is_ending, is_exit, is_request_or_cancel, is_signal, is_unanswered, next_answer, next_signal, of, of-other, of-same, of_on, subscriber_of}
 use Rattle.rsx_trace.specs.declared.event.Event.TheVariants.{Subscribe, OnSubscribe, Next, Complete, Error, Exit, Request, Cancel}
-use Rattle.rsx_trace.specs.declared.event.Stamped.{Stamped}
-use Rattle.rsx_trace.specs.Events.{of, of_on, subscriber_of, is_ending, is_signal, is_exit, is_request_or_cancel, is_bad_request, is_bad_request_error, is_cancel_or_ending}
 use Rattle.rsx_tck.specs.declared.answers.BadRequest.{BadRequest}
 use Rattle.rsx_tck.specs.declared.answers.BadRequest.TheVariants.{NotYet, Unanswered, Settled}
-use Rattle.rsx_tck.specs.declared.pass.Effect.TheVariants.{Nothing}
-use Rattle.rsx_tck.specs.Passes.{IsOpen, KnowsAnswer, KnowsSignal, is_unanswered, next_answer, next_signal}
-use Rattle.rsx_tck.specs.Sentences.{FirstIs}
 use Rattle.rsx_tck.specs.Laws.Answering.{answer-step, answered-none, answered-other, knows_answer-none, knows_answer-other}
 use Rattle.rsx_tck.specs.Laws.Running.{Apart, apart-none, apart-other, knows_signal-none, knows_signal-other, none_until-more, on-same, open-cases, open-none, signal-step}
 use Rattle.rsx_tck.specs.Laws.Working.{QuietInEnding, on-parts, quiet-none, quiet-other}
-use Rattle.rsx_tck.specs.Laws.Positions.{of-other, of-same}
 use Rattle.rsx_verify.proofs.Ordered.{not_none, of_kind}
 use Rattle.rsx_verify.proofs.Paired.{IsKeptOn, worker_after}
 use Rattle.rsx_verify.proofs.Progress.{Progress, at, fresh, subscribed, receiving, running, refusing, ending, over, after, May, Goes, IsKeptBy}

@@ -1,12 +1,9 @@
 -- How one subscription goes on: what a request, a cancel and a delivery record.
-use Rattle.rsx_graph.specs.Kinds.{any_machine, IsCancelled, IsRequested, Subscription}
+use Rattle.rsx_verify.specs.Prelude.{Event, IsCancelled, IsRequested, NonPositiveRequest, Signal, Stamped, Subscription, answered, any_machine, event_of, saturating_total, stamped, stamped_on, subscriber, subscriber_of}
 use Rattle.std.proofs.Common.{◌≡◌, ◌≢◌, ℕ, ℤ, zero, suc, pos, negsuc, ◌+◌, ◌<◌, Bool, true, false, List, [], ◌∷◌, Option, Some, None, Ok, Err, inl, refl, sym, ap, ◌∙◌, subst, arith}
 use Rattle.std.specs.Prelude.{nat_lt, if◌then◌else◌}
 use Rattle.std.proofs.lemmas.Bool.{ltb-true}
-use Rattle.rsx_demand.specs.Demand.{saturating_total}
 use Rattle.rsx_demand.specs.declared.Demand.{Demand}
-use Rattle.rsx_types.specs.declared.signal.Cause.TheVariants.{NonPositiveRequest}
-use Rattle.rsx_types.specs.declared.signal.Signal.{Signal}
 use Rattle.rsx_types.specs.declared.signal.Signal.TheVariants.{Next, Complete, Error}
 use Rattle.rsx_subscription.specs.Table.{answer, asked_after, cell_of, sent_after, state_after}
 use Rattle.rsx_subscription.specs.declared.State.{State}
@@ -16,12 +13,7 @@ use Rattle.rsx_subscription.specs.declared.Refusal.TheVariants.{Overrun}
 use Rattle.rsx_subscriber.specs.Prelude.{IsShut, request_answer, delivers, input_of, is_delivery, standing, IsKeptBeside, IsTake, standing_of}
 use Rattle.rsx_graph_state.specs.Prelude.{SubscriptionState}
 use Rattle.rsx_subscriber.specs.declared.state.SubscriptionState.TheVariants.{Open, Ended, Cancelled, Refused}
-use Rattle.rsx_trace.specs.declared.event.Event.{Event}
 use Rattle.rsx_trace.specs.declared.event.Event.TheVariants as event
-use Rattle.rsx_trace.specs.declared.event.Stamped.{Stamped}
-use Rattle.rsx_trace.specs.Events.{subscriber_of}
-use Rattle.rsx_verify.specs.Events.{answered, event_of, stamped, stamped_on}
-use Rattle.rsx_verify.specs.Runs.{subscriber}
 use Rattle.rsx_verify.proofs.Progress.{Progress, at, receiving, running, refusing, ending, over, after, May, Goes, GoesOn}
 
 -- no signal is the error of a bad request

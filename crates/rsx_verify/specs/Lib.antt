@@ -1,6 +1,7 @@
 -- Definitions that contracts cite.
 pub mod Events
 pub mod Kept
+pub mod Prelude
 pub mod Refusals
 pub mod Reports
 pub mod Runs

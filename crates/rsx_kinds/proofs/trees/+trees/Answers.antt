@@ -1,7 +1,6 @@
 use Rattle.std.proofs.Common.{ℕ, ap, length, rules, subst, sym, ◌∙◌}
 use Rattle.std.specs.Prelude.{IfOk}
-use Rattle.rsx_model.specs.Region.{region_of}
-use Rattle.rsx_kinds.specs.Crossings.{IsPlaced, differ}
+use Rattle.rsx_kinds.specs.Prelude.{IsPlaced, differ, region_of}
 use Rattle.std.proofs.lemmas.Int.{to_z-of_z}
 use Rattle.rsx_kinds.proofs.Builds.{hub_read, items_if, leaf_if, range_if}
 use Rattle.rsx_kinds.proofs.Plains.{plain_if}

@@ -1,9 +1,6 @@
 use Rattle.std.proofs.Common.{◌≡◌, ℕ, List, Result, Err, subst, sym}
-use Rattle.rsx_script.specs.Answers.{answer_text}
-use Rattle.rsx_script.specs.declared.print.Answer.{Answer}
+use Rattle.rsx_session.specs.Prelude.{Answer, IsLineOf, Trouble, answer_text}
 use Rattle.rsx_script.specs.declared.print.Answer.TheVariants as answer
-use Rattle.rsx_session.specs.Sessions.{IsLineOf}
-use Rattle.rsx_session.specs.declared.session.Trouble.{Trouble}
 use Rattle.rsx_session.proofs.Lines.{line_of}
 use Rattle.rsx_session.proofs.session.write.Goals as goal
 

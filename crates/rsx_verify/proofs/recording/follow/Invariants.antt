@@ -1,6 +1,5 @@
 use Rattle.std.proofs.Common.{◌≡◌, take}
-use Rattle.rsx_graph.specs.InGraph.{state_of}
-use Rattle.rsx_verify.specs.Runs.{IsFollowedTo}
+use Rattle.rsx_verify.specs.Prelude.{IsFollowedTo, state_of}
 use Rattle.rsx_verify.proofs.recording.follow.Given as goal
 
 -- the first acts were done and are recorded

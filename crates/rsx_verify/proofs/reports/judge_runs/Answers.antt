@@ -1,8 +1,7 @@
 use Rattle.std.proofs.Common.{◌∙◌, ap, arith}
 use Rattle.std.proofs.lemmas.List.{length-set}
 use Rattle.std.proofs.lemmas.Option.{slice_get_within}
-use Rattle.rsx_tck.specs.Rule.{all_rules}
-use Rattle.rsx_verify.specs.Reports.{IsLine, line_of}
+use Rattle.rsx_verify.specs.Prelude.{IsLine, all_rules, line_of}
 use Rattle.rsx_verify.proofs.Lines.{lines_more}
 use Rattle.rsx_verify.proofs.reports.judge_runs.Goals as goal
 

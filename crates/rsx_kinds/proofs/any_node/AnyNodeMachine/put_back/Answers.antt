@@ -1,6 +1,5 @@
 use Rattle.std.proofs.Common.{subst}
-use Rattle.rsx_kinds.specs.Any.{any_popped}
-use Rattle.rsx_kinds.specs.declared.any_node.AnyNode.{AnyNode}
+use Rattle.rsx_kinds.specs.Prelude.{AnyNode, any_popped}
 use Rattle.rsx_kinds.proofs.Dispatch.{returned_plain, returned_publish_on, returned_several, returned_source, returned_window, returned_flat_map, returned_group_by}
 use Rattle.rsx_kinds.proofs.any_node.AnyNodeMachine.put_back.Goals as goal
 

@@ -1,6 +1,5 @@
 use Rattle.std.proofs.Common.{subst}
-use Rattle.rsx_kinds.specs.Several.{several_popped}
-use Rattle.rsx_kinds.specs.declared.several_node.SeveralNode.{SeveralNode}
+use Rattle.rsx_kinds.specs.Prelude.{SeveralNode, several_popped}
 use Rattle.rsx_kinds.proofs.SeveralDispatch.{returned_concat, returned_merge, returned_zip, returned_latest}
 use Rattle.rsx_kinds.proofs.several_node.SeveralNodeMachine.put_back.Goals as goal
 

@@ -1,6 +1,5 @@
 use Rattle.std.proofs.Common.{subst}
-use Rattle.rsx_kinds.specs.Source.{source_popped}
-use Rattle.rsx_kinds.specs.declared.source_node.SourceNode.{SourceNode}
+use Rattle.rsx_kinds.specs.Prelude.{SourceNode, source_popped}
 use Rattle.rsx_kinds.proofs.Dispatch.{returned_items, returned_range, returned_hub}
 use Rattle.rsx_kinds.proofs.source_node.SourceNodeMachine.put_back.Goals as goal
 

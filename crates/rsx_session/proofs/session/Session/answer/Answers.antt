@@ -1,8 +1,7 @@
 use Rattle.std.proofs.Common.{rules, ℤ, w64, subst}
 use Rattle.std.proofs.lemmas.Int.{to_z-of_z}
-use Rattle.rsx_session.specs.Sessions.{LeadsAll, OnText}
+use Rattle.rsx_session.specs.Prelude.{AreChoices, AreJoins, IsAsked, IsChecked, IsCounted, IsViewed, LeadsAll, OnText}
 use Rattle.rsx_script.specs.declared.command.Command.TheVariants as command
-use Rattle.rsx_session.specs.Places.{AreChoices, AreJoins, IsAsked, IsChecked, IsCounted, IsViewed}
 use Rattle.rsx_session.proofs.Lines.{answered, looked, told}
 use Rattle.rsx_session.proofs.session.Session.answer.Goals as goal
 

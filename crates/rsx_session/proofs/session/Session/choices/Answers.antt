@@ -1,8 +1,6 @@
-use Rattle.rsx_graph.specs.Kinds.{notes_of, Subscription}
+use Rattle.rsx_session.specs.Prelude.{Subscription, Val, notes_of, notes_text}
 use Rattle.std.proofs.Common.{◌≡◌, ◌++◌, ap, codes, length, inl, slice_get, Some, arith}
 use Rattle.std.proofs.lemmas.Option.{slice_get_within}
-use Rattle.rsx_demo.specs.declared.val.Val.{Val}
-use Rattle.rsx_script.specs.Answers.{notes_text}
 use Rattle.rsx_session.proofs.Looks.{look_err, past_at, subs_count}
 use Rattle.rsx_session.proofs.session.Session.choices.Goals as goal
 

@@ -1,17 +1,12 @@
 use Rattle.std.proofs.Common.{◌<◌, ◌∙◌, ◌≡◌, ℤ, w64, length, arith, refl, sym, ap, subst, Err}
 use Rattle.std.proofs.lemmas.Int.{to_z-of_z}
 use Rattle.std.proofs.Math.ListN.{set}
-use Rattle.rsx_types.specs.declared.signal.Signal.TheVariants.{Next}
-use Rattle.rsx_demo.specs.Demo.{demo_meaning}
+use Rattle.rsx_session.specs.Prelude.{GraphStands, Next, demo_meaning, source_with, state_of, with_published}
 use Rattle.rsx_demo.specs.declared.val.Val.TheVariants.{Int}
 use Rattle.rsx_graph_state.specs.Hubs.{IsEmittedAt}
 use Rattle.rsx_graph_state.specs.declared.refusal.Refusal.TheVariants as unknown
 use Rattle.rsx_graph_state.specs.declared.step.Answer.TheVariants as did
 use Rattle.rsx_graph.specs.declared.step.Step.TheVariants as step
-use Rattle.rsx_graph.specs.InGraph.{state_of}
-use Rattle.rsx_graph.specs.Rows.{with_published}
-use Rattle.rsx_graph.specs.Stands.{GraphStands}
-use Rattle.rsx_session.specs.Kept.{source_with}
 use Rattle.rsx_session.proofs.Calls.{emit_refusal, hubs_count, let_go, made, none_emits, not_made, published_set}
 use Rattle.rsx_session.proofs.session.Session.emit.Goals as goal
 

@@ -1,7 +1,6 @@
 use Rattle.std.proofs.Common.{◌<◌, ◌∙◌, length, arith, refl, sym, ap, Err}
 use Rattle.std.proofs.Math.ListN.{set}
-use Rattle.rsx_types.specs.declared.signal.Cause.TheVariants.{User}
-use Rattle.rsx_types.specs.declared.signal.Signal.TheVariants.{Error}
+use Rattle.rsx_session.specs.Prelude.{Error, User}
 use Rattle.rsx_graph_state.specs.declared.refusal.Refusal.TheVariants as unknown
 use Rattle.rsx_graph_state.specs.declared.step.Answer.TheVariants as did
 use Rattle.rsx_graph.specs.declared.step.Step.TheVariants as step

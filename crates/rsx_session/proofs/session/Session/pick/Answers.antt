@@ -1,9 +1,8 @@
 use Rattle.std.proofs.Common.{◌∙◌, map, refl, sym, ap}
 use Rattle.rsx_graph_state.specs.declared.step.Answer.TheVariants as did
 use Rattle.rsx_graph.specs.declared.step.Step.TheVariants as step
-use Rattle.rsx_types.specs.declared.names.Move.TheVariants.{Pick}
+use Rattle.rsx_session.specs.Prelude.{Pick, seen, sources_of}
 use Rattle.rsx_types.specs.declared.names.Tree.TheVariants.{Sub}
-use Rattle.rsx_session.specs.Kept.{seen, sources_of}
 use Rattle.rsx_session.proofs.Calls.{made, no_delivery, not_made}
 use Rattle.rsx_session.proofs.session.Session.pick.Goals as goal
 

@@ -1,16 +1,10 @@
-use Rattle.rsx_graph.specs.Kinds.{IsRequestedAt}
+use Rattle.rsx_session.specs.Prelude.{GraphStands, IsRequestedAt, demo_meaning, known, requested, state_of, with_past}
 use Rattle.std.proofs.Common.{ℤ, w64}
 use Rattle.std.proofs.lemmas.Int.{to_z-of_z}
-use Rattle.rsx_demo.specs.Demo.{demo_meaning}
-use Rattle.rsx_graph.specs.Rows.{with_past}
-use Rattle.rsx_graph.specs.Stands.{GraphStands}
-use Rattle.rsx_subscriber.specs.Past.{requested}
 use Rattle.std.proofs.Common.{◌∙◌, map, refl, sym, ap, subst}
-use Rattle.rsx_graph.specs.InGraph.{state_of}
 use Rattle.rsx_graph_state.specs.declared.step.Answer.TheVariants as did
 use Rattle.rsx_graph.specs.declared.step.Step.TheVariants as step
 use Rattle.rsx_session.proofs.Calls.{after_signal, made, not_made, passed_memory, request_records}
-use Rattle.rsx_session.specs.Kept.{known}
 use Rattle.rsx_session.proofs.session.Session.request.Goals as goal
 
 pub returns-in_err-request-clause-leads : goal.returns-in_err-request-clause-leads

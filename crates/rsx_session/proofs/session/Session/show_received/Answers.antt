@@ -1,8 +1,5 @@
 use Rattle.std.proofs.Common.{◌≡◌, ◌++◌, ℕ, List, codes, length}
-use Rattle.rsx_script.specs.Answers.{signals_text}
-use Rattle.rsx_subscriber.specs.Past.{items_in}
-use Rattle.rsx_session.specs.Kept.{ending_in}
-use Rattle.rsx_session.specs.Places.{IsRest}
+use Rattle.rsx_session.specs.Prelude.{IsRest, ending_in, items_in, signals_text}
 use Rattle.rsx_session.proofs.Looks.{passed_on, shown, subs_count}
 use Rattle.rsx_session.proofs.session.Session.show_received.Goals as goal
 

@@ -1,8 +1,7 @@
 use Rattle.std.proofs.Common.{◌∙◌, map, refl, ap}
 use Rattle.rsx_graph_state.specs.declared.step.Answer.TheVariants as did
 use Rattle.rsx_graph.specs.declared.step.Step.TheVariants as step
-use Rattle.rsx_graph.specs.Rows.{joins_in}
-use Rattle.rsx_session.specs.Kept.{known}
+use Rattle.rsx_session.specs.Prelude.{joins_in, known}
 use Rattle.rsx_session.proofs.Calls.{made, no_memory, not_made, subscribed_records}
 use Rattle.rsx_session.proofs.session.Session.subscribe.Goals as goal
 

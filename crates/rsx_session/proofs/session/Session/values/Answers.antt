@@ -1,13 +1,6 @@
 use Rattle.std.proofs.Common.{◌≡◌, ◌<◌, ◌+◌, ◌++◌, ◌∷◌, List, [], length, take, get_or, ap, sym, subst, arith, length-append}
 use Rattle.std.proofs.lemmas.List.{length-map, take_all}
-use Rattle.rsx_types.specs.Stream.{Stream}
-use Rattle.rsx_demo.specs.Demo.{demo_meaning}
-use Rattle.rsx_demo.specs.declared.val.Val.{Val}
-use Rattle.rsx_graph.specs.Rows.{AreValues, History, HubPast}
-use Rattle.rsx_session.specs.Kept.{source_of}
-use Rattle.rsx_session.specs.Sessions.{IsHubsTrouble, SessionStands, place_of}
-use Rattle.rsx_session.specs.declared.published.HubSource.{HubSource}
-use Rattle.rsx_session.specs.declared.session.Trouble.{Trouble}
+use Rattle.rsx_session.specs.Prelude.{AreValues, History, HubPast, HubSource, IsHubsTrouble, SessionStands, Stream, Trouble, Val, demo_meaning, place_of, source_of}
 use Rattle.rsx_session.specs.declared.session.Trouble.TheVariants as trouble
 use Rattle.rsx_session.proofs.Hubs.{hubs_passed, next_trouble, next_value}
 use Rattle.rsx_session.proofs.session.Session.values.Goals as goal

@@ -1,8 +1,5 @@
 use Rattle.std.proofs.Common.{◌≡◌, [], length, take}
-use Rattle.rsx_demo.specs.Demo.{demo_meaning}
-use Rattle.rsx_demo.specs.declared.val.Val.{Val}
-use Rattle.rsx_graph.specs.Rows.{AreValues, History}
-use Rattle.rsx_session.specs.Sessions.{SessionStands}
+use Rattle.rsx_session.specs.Prelude.{AreValues, History, SessionStands, Val, demo_meaning}
 use Rattle.rsx_session.proofs.session.Session.values.Given as goal
 
 -- the values of the hubs so far
