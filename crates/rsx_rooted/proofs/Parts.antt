@@ -24,7 +24,7 @@ use Rattle.rsx_rooted.specs.declared.rooted.Pumped.TheVariants.{Idle, Budget}
 use Rattle.rsx_sources.specs.declared.machine.Machine.{Ghosts as Machine}
 use Rattle.rsx_sources.specs.declared.machine.NotMade.{NotMade}
 use Rattle.rsx_sources.specs.declared.machine.NotMade.TheVariants.{NotEnabled}
-use Rattle.rsx_tree.proofs.Alike.{or_right, driven_alike, or_left}
+use Rattle.rsx_tree.proofs.Alike.{or_right, alike_still, alike_then, driven_alike, or_left}
 use Rattle.rsx_tree.proofs.Drives.{chosen_run}
 use Rattle.rsx_tree.proofs.Runs.{gives_none, gives_on, gives_one, leads_silent}
 use Rattle.rsx_tree.specs.Runs.{Unlabelled}
@@ -196,7 +196,7 @@ put_out_on {T = T} b m a mid c first rest x y published e joins output h =
 -- ---- many moves
 
 pub pumped_none : {M T : Type 0} (b : Machine M T) (m : Meaning T) (part : Rooted M) (queue : List (Signal T)) → IsPumped b m 0 part queue part queue
-pumped_none b m part queue = record { out = []; queued = sym (append-nil queue); moves = gives_none (IsMovedOver b m) (λ o. o) (part, queue) (part, queue) refl; stands = put_out_none b m part; asked = refl; unclosed = λ h. h; alike = (λ a. refl, λ counts h. h) }
+pumped_none b m part queue = record { out = []; queued = sym (append-nil queue); moves = gives_none (IsMovedOver b m) (λ o. o) (part, queue) (part, queue) refl; stands = put_out_none b m part; asked = refl; unclosed = λ h. h; alike = alike_still b part.tree }
 
 pub pumped_on : {M T : Type 0} (b : Machine M T) (m : Meaning T) (n k : ℕ) (a mid c : Rooted M) (q q' q'' : List (Signal T)) → IsPumped b m n a q mid q' → IsPumped b m k mid q' c q'' → IsPumped b m (n + k) a q c q''
 pumped_on b m n k a mid c q q' q'' x y = record {
@@ -206,7 +206,7 @@ pumped_on b m n k a mid c q q' q'' x y = record {
   stands = put_out_on b m a mid c x.out y.out x.stands y.stands;
   asked = y.asked ∙ x.asked;
   unclosed = λ h. y.unclosed (x.unclosed h);
-  alike = (λ p. y.alike.0 p ∙ x.alike.0 p, λ counts h. y.alike.1 counts (x.alike.1 counts h));
+  alike = alike_then b a.tree mid.tree c.tree x.alike y.alike;
 }
 
 -- ---- one move
