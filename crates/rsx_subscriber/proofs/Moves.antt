@@ -12,6 +12,8 @@ use Rattle.rsx_demand.specs.Demand.{saturating_total}
 use Rattle.rsx_sources.specs.Prelude.{Meaning, Stream, Move, Ask, Send, Take, Pick, Row, Accept, SubId, Sub, Signal, Next, Complete, Error}
 use Rattle.rsx_tree.proofs.Runs.{gives_none, gives_on, gives_one, leads_silent}
 use Rattle.rsx_tree.specs.Prelude.{closed_view, IsTreeReadAt}
+use Rattle.rsx_tree.specs.Reads.{readings}
+use Rattle.rsx_tree.proofs.Alike.{alike_still, alike_then}
 use Rattle.rsx_tree.specs.Runs.{Gives, Leads}
 use Rattle.rsx_pipe.specs.Part.{IsPutOut, all_edges}
 use Rattle.rsx_pipe.specs.Part as Part
@@ -346,7 +348,7 @@ stands_taken {M} {T} mc m published old new s past k h =
 -- ---- driving a subscription
 
 pub pumped_none : {M T : Type 0} (mc : Machine M T) (kd : Nodes M T) (m : Meaning T) (id : SubId) (sub : Subscription M T) (o : List (SubId × Signal T)) → IsPumped mc kd m id 0 sub o sub o
-pumped_none mc kd m id sub o = record { signals = []; output = sym (append-nil o); moves = gives_none (IsMoved mc kd m id) option_to_list sub sub refl; stands = λ p q h. h; alike = (λ a. refl, λ counts h. h) }
+pumped_none mc kd m id sub o = record { signals = []; output = sym (append-nil o); moves = gives_none (IsMoved mc kd m id) option_to_list sub sub refl; stands = λ p q h. h; alike = alike_still mc sub.part.tree }
 
 pub pumped_same_sub : {M T : Type 0} (mc : Machine M T) (kd : Nodes M T) (m : Meaning T) (id : SubId) (old new : Subscription M T) (o : List (SubId × Signal T)) → new ≡ old → IsPumped mc kd m id 0 old o new o
 pumped_same_sub {M} {T} mc kd m id old new o e = let P : Subscription M T → Type 0 = λ s. IsPumped mc kd m id 0 old o s o in subst P (sym e) (pumped_none mc kd m id old o)
@@ -366,7 +368,7 @@ pumped_one mc kd m id old new o o' s e can took k = record {
   output = e;
   moves = gives_one (IsMoved mc kd m id) option_to_list old new (Some (id, s)) (record { move = delivery id; tree = refl; enabled = delivery_enabled mc kd m id old true can; effect = took; answer = (s, refl) });
   stands = k;
-  alike = (λ a. ap (Part.pump_allocates mc a) took.part, λ counts h. subst (λ p. IsTreeReadAt mc counts p.tree) (sym took.part) h);
+  alike = (λ a. ap (Part.pump_allocates mc a) took.part, λ counts h. subst (λ p. IsTreeReadAt mc counts p.tree) (sym took.part) h, ap (λ p. readings mc p.tree) took.part);
 }
 
 pub given_all-append : {T : Type 0} (a b : List (Signal T)) (p : Past T) → given_all (a ++ b) p ≡ given_all b (given_all a p)
@@ -387,7 +389,7 @@ pumped_more {M} {T} mc kd m id n k s1 s2 s3 o1 o2 o3 a b =
       stands = λ published past h.
           let P : Past T → Type 0 = λ p. Stands mc m published s3 p in
           subst P (sym (given_all-append a.signals b.signals past)) (b.stands published (given_all a.signals past) (a.stands published past h));
-      alike = (λ p. b.alike.0 p ∙ a.alike.0 p, λ counts h. b.alike.1 counts (a.alike.1 counts h));
+      alike = alike_then mc s1.part.tree s2.part.tree s3.part.tree a.alike b.alike;
     }
 
 -- ---- the moves of a part
