@@ -1,0 +1,25 @@
+//! A node of one of two kinds, as one of a graph's nodes.
+
+use crate::EitherNode;
+use rsx_rooted::{Nodes, Route};
+use rsx_tree::Edge;
+
+impl<A: Nodes, B: Nodes<Item = A::Item>> Nodes for EitherNode<A, B> {
+    ghost use Rattle.rsx_either.specs.Either.{by_kind};
+    ghost use Rattle.rsx_either.specs.declared.either.EitherNode.TheVariants.{Left, Right};
+
+    ghost route_by = { by_kind A.route_by B.route_by };
+
+    ghost crosses = { by_kind A.crosses B.crosses };
+
+    fn route(&self, edge: &Edge) -> Route {
+        match self {
+            EitherNode::Left(node) => node.route(edge),
+            EitherNode::Right(node) => node.route(edge),
+        }
+    }
+
+    ghost rests = { λ m. elim [ Left x ↦ A.rests m x | Right y ↦ B.rests m y ] };
+
+    ghost full = { λ m. elim [ Left x ↦ A.full m x | Right y ↦ B.full m y ] };
+}
