@@ -1,0 +1,2 @@
+-- Lemmas about an operator with its out slot.
+pub mod Taken

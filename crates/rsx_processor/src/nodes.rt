@@ -1,0 +1,23 @@
+//! An operator with its out slot, as one of a graph's nodes.
+
+use crate::{Processor, ProcessorNode};
+use rsx_rooted::{Nodes, Route};
+use rsx_tree::Edge;
+
+impl<P: Processor<Item = T>, T: Drop> Nodes for ProcessorNode<P, T> {
+    ghost use Rattle.std.specs.Prelude.{false};
+    ghost use Rattle.rsx_rooted.specs.declared.nodes.Route.TheVariants.{Straight};
+    ghost use Rattle.rsx_processor.specs.Laws.{node_rests, reads_nothing};
+
+    ghost route_by = { λ n state asked sent. Straight };
+
+    ghost crosses = { λ n. false };
+
+    fn route(&self, edge: &Edge) -> Route {
+        Route::Straight
+    }
+
+    ghost rests = { λ m n taken asked sent inc still counted none more within stuck comes behind. node_rests P.Processor.own m (P.nothing m) P.wants_more n taken asked sent inc counted none more within comes };
+
+    ghost full = { λ m n r asked sent reads full less none more stuck. reads_nothing r reads };
+}
