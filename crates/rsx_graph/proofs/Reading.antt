@@ -22,7 +22,7 @@ use Rattle.rsx_pipe.proofs.Parts.{delivered}
 use Rattle.rsx_pipe.proofs.Signals.{some_same}
 use Rattle.rsx_pipe.specs.Output.{IsUnended, counts_in, items_in, more_after, published_then, values_then}
 use Rattle.rsx_pipe.specs.Part as Parts
-use Rattle.rsx_pipe.specs.Part.{IsServed, evaluated, has_room}
+use Rattle.rsx_pipe.specs.Part.{IsServed, evaluated}
 use Rattle.rsx_sources.specs.Prelude.{front_of, published_at, reads_hub, is_nil, Meaning, Stream, ended_by, ending_signals, items_then, signals, Accept, HubId, Feed as FeedOf, Ending, Open, Done, Failed, Signal, Next, Complete, Error}
 use Rattle.rsx_sources.specs.declared.machine.Machine.{Ghosts as Machine}
 use Rattle.rsx_tree.specs.Prelude.{EdgeView, edge_view, is_live, is_room_for, IsReadAt, IsRowReadAt, IsTreeReadAt, count_before, HasReadAll as HasNodeReadAll, HaveReadAll, TreeHasReadAll, offers}
@@ -118,19 +118,13 @@ record IsDone {T : Type 0} (m : Meaning T) (f : Feed T) : Type 0 where
   none : goes_out m f.part ≡ false
   within : IsFeedWithin f
 
-and_false : (a b : Bool) → b ≡ false → a && b ≡ false
-and_false true b e = e
-and_false false b e = refl
+root_first : (b y z : Bool) → y ≡ false → (if b then false else z) ≡ false → (if b then y else z) ≡ false
+root_first true y z none q = none
+root_first false y z none q = q
 
-root_first : (b x y z : Bool) → y ≡ false → (if b then false else z) ≡ false → (if b then x && y else z) ≡ false
-root_first true x y z none q = and_false x y none
-root_first false x y z none q = q
-
-part_quiet : {T : Type 0} (m : Meaning T) (part : Part T) → IsQuietInside m part → goes_out m part ≡ false → IsPartQuiet m part []
+part_quiet : {T : Type 0} (m : Meaning T) (part : Part T) → IsQuietInside m part → goes_out m part ≡ false → IsPartQuiet m part true
 part_quiet m part q none (NodeAsk n) l = q (NodeAsk n) l
-part_quiet {T} m part q none (NodeSend n) l =
-    let room : List (Signal T) → Bool = has_room in
-    root_first (nat_eq n 0) (room []) (goes_out m part) _ none (q (NodeSend n) l)
+part_quiet m part q none (NodeSend n) l = root_first (nat_eq n 0) (goes_out m part) _ none (q (NodeSend n) l)
 part_quiet m part q none (NodePick n k) l = q (NodePick n k) l
 part_quiet m part q none (NodeRow n) l = q (NodeRow n) l
 
@@ -184,7 +178,7 @@ nothing_left {T} m before f e joins v u st asked less d = by_ending v.ending ref
 fed_whole : {T : Type 0} (m : Meaning T) (before more : List (Stream T)) (f : Feed T) (e : Expr T) (joins : List ℕ) (v u : Stream T) → IsDone m f → PartStands m before f.part e joins (signals v) → f.part.root.demand.asked ≡ UNBOUNDED → (f.part.root.state ≡ Closed → ⊥) →
     HasReadAll m (values_then before more) f.part → evaluated m (values_then before more) joins e (notes_of f.part.tree) ≡ Some (published_then v u) → published_then v u ≡ v
 fed_whole {T} m before more f e joins v u done st asked unclosed read value =
-    let served = delivered any_machine m (tree_ending_waits m) (tree_settles m) (any_rests m) f.part [] (part_quiet m f.part done.quiet done.none) before e joins (signals v) st unclosed (omega arith) done.within.nodes done.within.below more (published_then v u) read value in
+    let served = delivered any_machine m (tree_ending_waits m) (tree_settles m) (any_rests m) f.part true (part_quiet m f.part done.quiet done.none) before e joins (signals v) st unclosed refl done.within.nodes done.within.below more (published_then v u) read value in
     nothing_left m before f e joins v u st asked done.within.root served
 
 -- ---- feeds and their hubs at rest

@@ -77,8 +77,8 @@ inside_enabled m part step = Feeding.inside_enabled any_machine m part step
 abbrev pub next_out : {T : Type 0} → Meaning T → Part T → Option (Signal T)
 next_out m part = Feeding.next_out any_machine m part
 
-abbrev pub IsPartQuiet : {T : Type 0} → Meaning T → Part T → List (Signal T) → Type 0
-IsPartQuiet m part queue = Rooted.IsQuiet any_machine m part queue
+abbrev pub IsPartQuiet : {T : Type 0} → Meaning T → Part T → Bool → Type 0
+IsPartQuiet m part room = Rooted.IsQuiet any_machine m part room
 
 abbrev pub PartStands : {T : Type 0} → Meaning T → List (Stream T) → Part T → Expr T → List ℕ → List (Signal T) → Type 0
 PartStands m published part e joins queue = Rooted.Stands any_machine m published part e joins queue

@@ -50,11 +50,11 @@ quiet_got {M} {T} mc kd m g i sub q e = (in_part, first_off (take_enabled sub 0)
     off mv own small = sym (enabled_got mc kd m g.subs i sub mv e) ∙ (sym (in_tree mc kd m g id mv own) ∙ q mv small)
 
     -- each move of the part has a name
-    in_part : Part.IsQuiet mc m sub.part sub.queue
+    in_part : Part.IsQuiet mc m sub.part (Part.has_room sub.queue)
     in_part step l =
         let named = part_named mc kd m id sub step in
         let none = off (part_name kd id sub.part step) named.tree (numbered_name (route_below kd sub.part (inside_node step)) (Sub id) step l) in
-        not_on (Part.move_enabled mc m sub.part sub.queue step) (λ can. let on = named.enabled can in cc)
+        not_on (Part.move_enabled mc m sub.part (Part.has_room sub.queue) step) (λ can. let on = named.enabled can in cc)
 
 -- ---- a tree that reads no hub
 

@@ -231,7 +231,7 @@ any_awake {M} {T} mc kd m subs i sub lt e h = elim h [
     id : SubId
     id = record { 0 = i }
 
-    by_part : (step : NodeMove) → Part.move_enabled mc m sub.part sub.queue step ≡ true → IsSubAwake mc kd m subs
+    by_part : (step : NodeMove) → Part.move_enabled mc m sub.part (Part.has_room sub.queue) step ≡ true → IsSubAwake mc kd m subs
     by_part step a =
         let name = part_name kd id sub.part step in
         let named = part_named mc kd m id sub step in

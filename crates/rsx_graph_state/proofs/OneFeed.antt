@@ -4,13 +4,13 @@ use Rattle.std.proofs.Common.{◌≡◌, ℕ, zero, suc, ◌+◌, ◌<◌, ◌�
 use Rattle.std.proofs.lemmas.Bool.Decides.{nat_tests}
 use Rattle.std.proofs.lemmas.List.{append-nil}
 use Rattle.rsx_demand.specs.Demand.{saturating_total}
-use Rattle.rsx_subscriber.specs.Prelude.{fresh_edge, Expr, Live, Closed, NodeMove, IsMadeInside, IsOpenAt, with_signal_at, IsPutOut, Part as PartOf, PartStands, all_edges, AreTaken}
-use Rattle.rsx_tree.specs.Prelude.{EdgeView, edge_view, IsHandedOut, is_room_for, times}
+use Rattle.rsx_subscriber.specs.Prelude.{fresh_edge, Expr, Live, Closed, NodeMove, IsMadeInside, IsOpenAt, with_signal_at, IsPutOut, Part as PartOf, PartStands, AreTaken}
+use Rattle.rsx_tree.specs.Prelude.{edge_view, IsHandedOut, is_room_for, times}
 use Rattle.rsx_demand.specs.declared.TheConstants.{UNBOUNDED}
 use Rattle.rsx_sources.specs.Prelude.{Meaning, Open, Stream, ended_by, signals, Signal}
 use Rattle.rsx_hub.specs.Hub.{HubState}
 use Rattle.rsx_pipe.specs.Published as Part
-use Rattle.rsx_graph_state.specs.Feeds.{FeedStands, IsFeedHanded, has_room_at, reads_at}
+use Rattle.rsx_graph_state.specs.Feeds.{FeedStands, IsFeedHanded, begun_edge, has_room_at, reads_at}
 use Rattle.rsx_graph_state.specs.declared.feed.Feed.{Feed}
 
 -- ---- numbers of hubs
@@ -117,9 +117,6 @@ room_behind mc h f not = ap (λ c. if c then Part.has_room_for mc h f.part else 
 
 -- ---- a fresh feed
 
-first_edge : (all : List EdgeView) (e : EdgeView) (es : List EdgeView) (f : EdgeView) (fs : List EdgeView) → all ≡ e ∷ es → all ≡ f ∷ fs → e ≡ f
-first_edge all e es f fs a b = cc
-
 take_first : {A : Type 0} (n : ℕ) (xs : List A) (x : A) → n ≡ length xs → take n (xs ++ x ∷ []) ≡ xs
 take_first zero [] x e = refl
 take_first zero (y ∷ ys) x e = absurd (omega (arith, e))
@@ -152,18 +149,18 @@ fresh_feed {M} {T} mc m hubs published first part hub e joins taken number stand
     }
 
 -- all that can be was asked of it
-pub asked_all_of : {M : Type 0} (first part : PartOf M) (es : List EdgeView) → all_edges first ≡ fresh_edge ∷ es → part.root.demand.asked ≡ saturating_total first.root.demand.asked UNBOUNDED → part.root.demand.asked ≡ UNBOUNDED
-asked_all_of first part es edges asked =
-    let none : first.root.demand.asked ≡ 0 = ap (λ v. v.asked) (first_edge (all_edges first) (edge_view first.root) _ fresh_edge es refl edges) in
-    asked ∙ (ap (λ n. saturating_total n UNBOUNDED) none ∙ all_of UNBOUNDED)
+pub asked_all_of : {M : Type 0} (first part : PartOf M) → edge_view first.root ≡ fresh_edge → part.root.demand.asked ≡ saturating_total first.root.demand.asked UNBOUNDED → part.root.demand.asked ≡ UNBOUNDED
+asked_all_of first part root asked = asked ∙ (ap (λ v. saturating_total v.asked UNBOUNDED) root ∙ all_of UNBOUNDED)
   where
     all_of : (n : ℕ) → min n (0 + n) ≡ n
     all_of n = omega arith
 
-pub fresh_unclosed : {M : Type 0} (first part : PartOf M) (es : List EdgeView) → all_edges first ≡ fresh_edge ∷ es → part.root.state ≡ first.root.state → part.root.state ≡ Closed → ⊥
-fresh_unclosed first part es edges state closed =
-    let live : first.root.state ≡ Live = ap (λ v. v.state) (first_edge (all_edges first) (edge_view first.root) _ fresh_edge es refl edges) in
-    cc
+pub fresh_unclosed : {M : Type 0} (first part : PartOf M) → edge_view first.root ≡ fresh_edge → part.root.state ≡ first.root.state → part.root.state ≡ Closed → ⊥
+fresh_unclosed first part root state closed = let live : first.root.state ≡ Live = ap (λ v. v.state) root in cc
+
+-- the root edge of a feed that has just begun
+pub begun_root : {M : Type 0} (first part : PartOf M) → edge_view first.root ≡ fresh_edge → part.root.demand.asked ≡ UNBOUNDED → part.root.demand.sent ≡ first.root.demand.sent → part.root.state ≡ first.root.state → edge_view part.root ≡ begun_edge
+begun_root first part root asked sent state = λ i. record { asked = asked i; sent = (sent ∙ ap (λ v. v.sent) root) i; state = (state ∙ ap (λ v. v.state) root) i }
 
 -- ---- a move inside a feed
 
@@ -175,6 +172,6 @@ worked_feed {M} {T} mc m old part move k published e joins f =
       value = f.value;
       taken = f.taken;
       part = subst P (append-nil (signals f.value)) (k.stands (take old.hub published) e joins (signals f.value) f.part);
-      asked = ap (λ r. r.demand.asked) k.root ∙ f.asked;
-      unclosed = λ c. f.unclosed (ap (λ r. r.state) (sym k.root) ∙ c);
+      asked = k.asked ∙ f.asked;
+      unclosed = k.unclosed f.unclosed;
     }

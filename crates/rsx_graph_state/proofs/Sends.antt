@@ -138,9 +138,9 @@ sent_stands {M} {T} mc m feed s part published e joins v k at unended f =
     record {
       value = with_signal s f.value;
       taken = value_there feed.hub s published f.value f.taken;
-      part = subst P (sym (with_behind feed.hub feed.hub s published less)) (subst Q (sym (signals_with s f.value (ap (λ w. w.ending) same ∙ unended))) (k.stands (take feed.hub published) e joins (signals f.value) f.part));
-      asked = k.asked ∙ f.asked;
-      unclosed = k.unclosed;
+      part = subst P (sym (with_behind feed.hub feed.hub s published less)) (subst Q (sym (signals_with s f.value (ap (λ w. w.ending) same ∙ unended))) (k.made.stands (take feed.hub published) e joins (signals f.value) f.part));
+      asked = k.made.asked ∙ f.asked;
+      unclosed = k.made.unclosed f.unclosed;
     }
 
 -- ---- the hub had not ended

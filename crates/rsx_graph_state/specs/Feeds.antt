@@ -2,10 +2,15 @@
 use Rattle.rsx_sources.specs.declared.machine.Machine.{Ghosts as Machine}
 use Rattle.std.specs.Prelude.{◌≡◌, ℕ, Bool, true, false, nat_lt, if◌then◌else◌, List, take, Some, slice_get}
 use Rattle.rsx_demand.specs.declared.TheConstants.{UNBOUNDED}
-use Rattle.rsx_subscriber.specs.Prelude.{Expr, Closed, IsOpenAt, with_signal_at, PartStands}
+use Rattle.rsx_subscriber.specs.Prelude.{Expr, Closed, Live, IsOpenAt, with_signal_at, PartStands}
 use Rattle.rsx_sources.specs.Prelude.{Meaning, Stream, signals, Signal}
 use Rattle.rsx_pipe.specs.Published as Part
+use Rattle.rsx_tree.specs.Edges.{EdgeView}
 use Rattle.rsx_graph_state.specs.declared.feed.Feed.{Feed}
+
+-- the root edge of a feed that has just begun: as much as can be was asked over it
+abbrev pub begun_edge : EdgeView
+begun_edge = record { asked = UNBOUNDED; sent = 0; state = Live }
 
 -- how many nodes of a feed read the hub with this number; a feed reads only hubs that were there before its own
 abbrev pub reads_at : {M T : Type 0} → Machine M T → ℕ → Feed M → ℕ

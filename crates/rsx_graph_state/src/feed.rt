@@ -1,7 +1,7 @@
 //! Feeds: parts whose signals hubs take in.
 
 use rsx_demand::UNBOUNDED;
-use rsx_pipe::{NodeMove, Nodes, Part};
+use rsx_pipe::{NoRoom, NodeMove, Nodes, Part};
 use rsx_tree::Node;
 use rsx_types::Signal;
 
@@ -29,8 +29,9 @@ impl<N: Nodes<Item = T>, T: Drop> Feed<N> {
     ghost use Rattle.rsx_pipe.specs.Feeding.{IsQuietInside, inside_enabled};
     ghost use Rattle.rsx_pipe.specs.Part.{IsNumbered};
     ghost use Rattle.rsx_pipe.specs.Published.{AreTaken};
+    ghost use Rattle.rsx_tree.specs.Edges.{edge_view};
     ghost use Rattle.rsx_tree.specs.Handed.{IsHandedOut};
-    ghost use Rattle.rsx_graph_state.specs.Feeds.{FeedStands, IsFeedHanded, has_room_at, reads_at};
+    ghost use Rattle.rsx_graph_state.specs.Feeds.{FeedStands, begun_edge, IsFeedHanded, has_room_at, reads_at};
 
     /// The feed of this tree, for the hub with this number, into which nothing was sent yet. As much as can be is asked of it from
     /// the start. Where the tree was made for an expression over the hubs before that one, so is the feed.
@@ -40,6 +41,7 @@ impl<N: Nodes<Item = T>, T: Drop> Feed<N> {
             FeedStands N.Machine m (published ++ ended_by Open ∷ []) result e (new_joins hubs e) }
         ensures hub { result.hub ≡ hub }
         ensures tree { result.part.tree ≡ tree }
+        ensures root { edge_view result.part.root ≡ begun_edge }
     {
         let mut part = Part::new(tree);
         part.request(UNBOUNDED);
@@ -51,7 +53,7 @@ impl<N: Nodes<Item = T>, T: Drop> Feed<N> {
         ensures some { (m : Meaning T) → IfSome result (λ step. IsNumbered step × (inside_enabled N.Machine m self.now.part step ≡ true)) }
         ensures none { (m : Meaning T) → IfNone result (IsQuietInside N.Machine m self.now.part) }
     {
-        self.part.first_inside()
+        self.part.first_enabled(&NoRoom)
     }
 
     /// How many nodes of the feed's part read the hub with this number, but at most `most`. Of its own hub, and of those that come

@@ -12,7 +12,7 @@ ghost use Rattle.rsx_graph_state.specs.Stands.{StandsFor};
 use crate::feeds::place_of;
 use crate::{Feed, Refusal, send_to_hub};
 use rsx_hub::Hub;
-use rsx_pipe::{NodeMove, Nodes};
+use rsx_pipe::{NoRoom, NodeMove, Nodes};
 use rsx_sources::NotMade;
 use rsx_subscriber::Subscription;
 use rsx_types::{HubId, Ops};
@@ -134,7 +134,7 @@ fn work<N: Nodes<Item = O::Item>, O: Ops>(
     ensures same { OnErr result (feeds.new.items ≡ feeds.old.items) }
 {
     let feed = &mut feeds[at];
-    match feed.part.make_inside(alloc, ops, step) {
+    match feed.part.make(alloc, ops, step, &mut NoRoom) {
         Ok(()) => Ok(()),
         Err(why) => Err(why),
     }

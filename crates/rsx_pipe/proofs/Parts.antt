@@ -1,13 +1,12 @@
 -- Parts that have just begun, and what is delivered where a part is idle.
 use Rattle.std.proofs.Common.{◌≡◌, inl, inr, ℕ, suc, ◌+◌, ◌-◌, ◌<◌, ◌≤◌, min, Bool, true, false, ◌&&◌, List, [], ◌∷◌, ◌++◌, length, length-append, take, map, option_map, Option, Some, None, Result, Ok, Err, IfOk, refl, ap, sym, ◌∙◌, subst, arith, append_assoc}
-use Rattle.std.proofs.lemmas.Bool.Decides.{nat_tests}
 use Rattle.std.proofs.lemmas.List.{append-nil, take_all, take_at}
 use Rattle.std.proofs.lemmas.Bool.{both_ways, cases_lt}
 use Rattle.std.proofs.lemmas.Option.{same_Some}
 use Rattle.rsx_types.proofs.Options.{none_from_no_some}
 use Rattle.rsx_types.proofs.Lists.{slice_get_behind}
 use Rattle.rsx_model.specs.declared.check.TheConstants.{MOST_NODES}
-use Rattle.rsx_sources.specs.Prelude.{CAPACITY, Meaning, unchosen, Stream, ended_by, item_then, signals_then, Ending, Open, Done, Failed, Signal, Next, Complete, Error, front_of}
+use Rattle.rsx_sources.specs.Prelude.{Meaning, unchosen, Stream, ended_by, item_then, signals_then, Ending, Open, Done, Failed, Signal, Next, Complete, Error, front_of}
 use Rattle.rsx_model.specs.declared.expr.Expr.{Expr}
 use Rattle.rsx_hub.specs.Hub.{HubState, HasTakenIn, BeginsWith}
 use Rattle.rsx_hub.specs.Member.{ending_taken}
@@ -16,7 +15,7 @@ use Rattle.rsx_rooted.specs.Built.{IsBuilt, AreBegun, StandAt, counts_of, new_jo
 use Rattle.rsx_tree.specs.Prelude.{IsTreeReadAt, count_before, edge_view, is_live, station_of, size, can_ask_in, can_send_in, can_pick_in, can_row_in}
 use Rattle.rsx_pipe.specs.Published.{AreTaken, IsTaken}
 use Rattle.rsx_pipe.specs.Output.{counts_in, items_in, IsUnended, more_after, published_then, values_then}
-use Rattle.rsx_pipe.specs.Part.{PartStands, IsMoved, IsQuiet, HasReadAll, IsDelivered, IsServed, HasEnded, all_edges, send_enabled, has_room, evaluated}
+use Rattle.rsx_pipe.specs.Part.{PartStands, IsQuiet, HasReadAll, IsDelivered, IsServed, HasEnded, all_edges, send_enabled, evaluated}
 use Rattle.rsx_pipe.specs.Tree.{comes_out, notes_of, offers, can_ask, can_send, can_go, IsAllClosed, IsIdle, IsBalanced, IsWithin, IsStill}
 use Rattle.rsx_tree.specs.declared.look.NodeMove.TheVariants.{Ask, Send, Pick, Row}
 use Rattle.rsx_tree.specs.declared.edge.EdgeState.{EdgeState}
@@ -33,7 +32,6 @@ use Rattle.rsx_pipe.proofs.Trees.{unchosen_tree}
 use Rattle.rsx_tree.proofs.Idles.{Waits, can_pass_live, live_still, place_none, station_none}
 use Rattle.rsx_pipe.proofs.Signals.{prefix_of_orderly, cut_value}
 use Rattle.rsx_rooted.proofs.Numbers.{above_zero, suc_minus}
-use Rattle.rsx_rooted.proofs.Parts as OfAny
 use Rattle.rsx_rooted.proofs.Trees.{unchosen_notes, notes_then-unchosen}
 use Rattle.rsx_pipe.proofs.Trees.{notes_then-unrecorded}
 
@@ -122,23 +120,19 @@ fresh_part b m hubs published e part taken is l s = record {
     map_same None = refl
     map_same (Some v) = refl
 
--- a closed part makes no move
-pub moved_alive : {M T : Type 0} (b : Machine M T) (m : Meaning T) (old new : Part M) (queue queue' out : List (Signal T)) → IsMoved b m old queue out new queue' → IsAllClosed old.tree → (old.root.state ≡ Live → ⊥) → ⊥
-moved_alive b m old new queue queue' out k closed shut = OfAny.moved_alive b m old new queue queue' out k closed shut
-
 -- ---- idle means delivered
 
 few_below : {M : Type 0} (part : Part M) → length (all_edges part) ≤ MOST_NODES → size part.tree.inputs < MOST_NODES
 few_below part few = let len = length_edges part.tree.inputs in omega (arith, len, few)
 
-idle_tree : {M T : Type 0} (b : Machine M T) (m : Meaning T) (part : Part M) (queue : List (Signal T)) → IsQuiet b m part queue → length (all_edges part) ≤ MOST_NODES → IsIdle b m part.tree part.root.demand.asked part.root.demand.sent
-idle_tree {T = T} b m part queue q few at lt = elim (cases_lt at (size part.tree.inputs)) [
+idle_tree : {M T : Type 0} (b : Machine M T) (m : Meaning T) (part : Part M) (room : Bool) → IsQuiet b m part room → length (all_edges part) ≤ MOST_NODES → IsIdle b m part.tree part.root.demand.asked part.root.demand.sent
+idle_tree {T = T} b m part room q few at lt = elim (cases_lt at (size part.tree.inputs)) [
   | inl w ↦
       let small : size part.tree.inputs < MOST_NODES = few_below part few in
       let a = q (Ask (at + 1)) (omega (arith, w, small)) in
       let s = q (Send (at + 1)) (omega (arith, w, small)) in (
         sym (ap (λ k. can_ask b part.tree k part.root.demand.asked part.root.demand.sent) (suc_minus at)) ∙ (sym (above_zero at false (can_ask b part.tree ((at + 1) - 1) part.root.demand.asked part.root.demand.sent)) ∙ a),
-        sym (ap (λ k. can_send b m part.tree k) (suc_minus at)) ∙ (sym (above_zero at (has_room queue && can_go (edge_view part.root) (option_map front_of (offers b m part.tree))) (can_send b m part.tree ((at + 1) - 1))) ∙ s),
+        sym (ap (λ k. can_send b m part.tree k) (suc_minus at)) ∙ (sym (above_zero at (room && can_go (edge_view part.root) (option_map front_of (offers b m part.tree))) (can_send b m part.tree ((at + 1) - 1))) ∙ s),
         ((λ input l. q (Pick (suc at) input) (omega (arith, w, small), l)), q (Row (suc at)) (omega (arith, w, small))),
       )
   | inr w ↦
@@ -150,23 +144,22 @@ idle_tree {T = T} b m part queue q few at lt = elim (cases_lt at (size part.tree
 ]
 
 -- no step of the root of a quiet part is enabled
-still_root : {M T : Type 0} (b : Machine M T) (m : Meaning T) (part : Part M) (queue : List (Signal T)) → IsQuiet b m part queue → IsStill b (station_of part.tree (edge_view part.root) 0)
-still_root b m part queue q = ((λ input l. q (Pick 0 input) (omega arith, l)), q (Row 0) (omega arith))
+still_root : {M T : Type 0} (b : Machine M T) (m : Meaning T) (part : Part M) (room : Bool) → IsQuiet b m part room → IsStill b (station_of part.tree (edge_view part.root) 0)
+still_root b m part room q = ((λ input l. q (Pick 0 input) (omega arith, l)), q (Row 0) (omega arith))
 
 -- over a live root edge with room behind it, of which more is asked than went, nothing more comes
-nothing_more : {M T : Type 0} (b : Machine M T) (m : Meaning T) (waits : Waits b m) (settles : Settles b m) (rests : Rests b m) (hubs : List (Stream T)) (part : Part M) (queue : List (Signal T)) → IsQuiet b m part queue → part.root.state ≡ Live → length queue < CAPACITY → IsBalanced b part.tree part.root.demand.sent → length (all_edges part) ≤ MOST_NODES → IsWithin part.tree → HasReadAll b m hubs part → part.root.demand.sent < part.root.demand.asked →
+nothing_more : {M T : Type 0} (b : Machine M T) (m : Meaning T) (waits : Waits b m) (settles : Settles b m) (rests : Rests b m) (hubs : List (Stream T)) (part : Part M) (room : Bool) → IsQuiet b m part room → part.root.state ≡ Live → room ≡ true → IsBalanced b part.tree part.root.demand.sent → length (all_edges part) ≤ MOST_NODES → IsWithin part.tree → HasReadAll b m hubs part → part.root.demand.sent < part.root.demand.asked →
     comes_out b m hubs (map unchosen (notes_of b part.tree)) part.tree 0 ≡ Some (ended_by Open)
-nothing_more {T = T} b m waits settles rests hubs part queue q live room bal few w read less =
-    tree_rests b m waits settles rests hubs (map unchosen (notes_of b part.tree)) part.tree part.root.demand.asked part.root.demand.sent (idle_tree b m part queue q few) (live_still b part.root part.tree.machine can (still_root b m part queue q)) bal less (let k = few_below part few in omega (arith, k)) w (read live) (unchosen_tree b part.tree) (none_from_no_some (offers b m part.tree) silent)
+nothing_more {T = T} b m waits settles rests hubs part room q live free bal few w read less =
+    tree_rests b m waits settles rests hubs (map unchosen (notes_of b part.tree)) part.tree part.root.demand.asked part.root.demand.sent (idle_tree b m part room q few) (live_still b part.root part.tree.machine can (still_root b m part room q)) bal less (let k = few_below part few in omega (arith, k)) w (read live) (unchosen_tree b part.tree) (none_from_no_some (offers b m part.tree) silent)
   where
     can : is_live part.root.state ≡ true
     can = ap is_live live
 
     silent : (s : Signal T) → offers b m part.tree ≡ Some s → ⊥
     silent s offered =
-        let r : has_room queue ≡ true = grind (arith, nat_tests, room) in
-        let goes : send_enabled b m part queue 0 ≡ true = rw (r, offered) (can_pass_live (edge_view part.root) (front_of s) can less) in
-        both_ways (send_enabled b m part queue 0) (q (Send 0) (omega arith)) goes
+        let goes : send_enabled b m part room 0 ≡ true = rw (free, offered) (can_pass_live (edge_view part.root) (front_of s) can less) in
+        both_ways (send_enabled b m part room 0) (q (Send 0) (omega arith)) goes
 
 more_again : {T : Type 0} (d e : Ending) (xs ys : List T) (k : Stream T) →
     published_then (more_after d (record { items = xs; ending = d }) (record { items = ys; ending = e })) k ≡ more_after d (record { items = xs; ending = d }) (more_after e (record { items = ys; ending = e }) k)
@@ -227,9 +220,9 @@ served_whole b m published part e joins output live h more v none x =
       ending = λ less some. absurd (some (ap (λ w. w.ending) whole));
     }
 
-served_live : {M T : Type 0} (b : Machine M T) (m : Meaning T) (waits : Waits b m) (settles : Settles b m) (rests : Rests b m) (published : List (Stream T)) (part : Part M) (queue : List (Signal T)) (e : Expr T) (joins : List ℕ) (output : List (Signal T)) → IsQuiet b m part queue → part.root.state ≡ Live → length queue < CAPACITY → length (all_edges part) ≤ MOST_NODES → IsWithin part.tree → PartStands b m published part e joins output → (more : List (Stream T)) (v : Stream T) → HasReadAll b m (values_then published more) part → evaluated m (values_then published more) joins e (notes_of b part.tree) ≡ Some v → IsServed part output v
-served_live b m waits settles rests published part queue e joins output q live room few w h more v read x = elim (cases_lt part.root.demand.sent part.root.demand.asked) [
-  | inl less ↦ served_whole b m published part e joins output live h more v (nothing_more b m waits settles rests (values_then published more) part queue q live room (h.balance live) few w read less) x
+served_live : {M T : Type 0} (b : Machine M T) (m : Meaning T) (waits : Waits b m) (settles : Settles b m) (rests : Rests b m) (published : List (Stream T)) (part : Part M) (room : Bool) (e : Expr T) (joins : List ℕ) (output : List (Signal T)) → IsQuiet b m part room → part.root.state ≡ Live → room ≡ true → length (all_edges part) ≤ MOST_NODES → IsWithin part.tree → PartStands b m published part e joins output → (more : List (Stream T)) (v : Stream T) → HasReadAll b m (values_then published more) part → evaluated m (values_then published more) joins e (notes_of b part.tree) ≡ Some v → IsServed part output v
+served_live b m waits settles rests published part room e joins output q live free few w h more v read x = elim (cases_lt part.root.demand.sent part.root.demand.asked) [
+  | inl less ↦ served_whole b m published part e joins output live h more v (nothing_more b m waits settles rests (values_then published more) part room q live free (h.balance live) few w read less) x
   | inr full ↦ served_all b m published part e joins output full h more v x
 ]
 
@@ -245,18 +238,18 @@ served_ended b m published part e joins output s h more v x =
       ending = λ _ _. s;
     }
 
-pub delivered : {M T : Type 0} (b : Machine M T) (m : Meaning T) (waits : Waits b m) (settles : Settles b m) (rests : Rests b m) (part : Part M) (queue : List (Signal T)) → IsQuiet b m part queue → IsDelivered b m part queue
-delivered {T = T} b m waits settles rests part queue q published e joins output h unclosed room few w more v read x = by_state part.root.state refl
+pub delivered : {M T : Type 0} (b : Machine M T) (m : Meaning T) (waits : Waits b m) (settles : Settles b m) (rests : Rests b m) (part : Part M) (room : Bool) → IsQuiet b m part room → IsDelivered b m part room
+delivered {T = T} b m waits settles rests part room q published e joins output h unclosed free few w more v read x = by_state part.root.state refl
   where
     by_state : (s : EdgeState) → part.root.state ≡ s → IsServed part output v
-    by_state Live s = served_live b m waits settles rests published part queue e joins output q s room few w h more v read x
+    by_state Live s = served_live b m waits settles rests published part room e joins output q s free few w h more v read x
     by_state Ended s = served_ended b m published part e joins output s h more v x
     by_state Closed s = absurd (unclosed s)
 
 -- ---- how driving ends
 
 -- where it ends Idle, all is delivered
-pub ended_served : {M T : Type 0} (E : Type 0) (b : Machine M T) (m : Meaning T) (waits : Waits b m) (settles : Settles b m) (rests : Rests b m) (budget n : ℕ) (part : Part M) (queue : List (Signal T)) (result : Result Pumped E) → HasEnded b m budget n part queue result → IfOk result (λ p. (left : ℕ) → p ≡ Idle left → IsDelivered b m part queue)
-ended_served E b m waits settles rests budget n part queue (Ok (Idle k)) h = λ left e. delivered b m waits settles rests part queue h.1
-ended_served E b m waits settles rests budget n part queue (Ok Budget) h = λ left e. cc
-ended_served E b m waits settles rests budget n part queue (Err e) h = tt
+pub ended_served : {M T : Type 0} (E : Type 0) (b : Machine M T) (m : Meaning T) (waits : Waits b m) (settles : Settles b m) (rests : Rests b m) (budget n : ℕ) (part : Part M) (room : Bool) (result : Result Pumped E) → HasEnded b m budget n part room result → IfOk result (λ p. (left : ℕ) → p ≡ Idle left → IsDelivered b m part room)
+ended_served E b m waits settles rests budget n part room (Ok (Idle k)) h = λ left e. delivered b m waits settles rests part room h.1
+ended_served E b m waits settles rests budget n part room (Ok Budget) h = λ left e. cc
+ended_served E b m waits settles rests budget n part room (Err e) h = tt

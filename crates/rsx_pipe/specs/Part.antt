@@ -1,13 +1,14 @@
 -- A part: a tree of nodes with the edge from its root. What `rsx_rooted` says of such a tree, and what is delivered where a part is
 -- idle.
-use Rattle.std.specs.Prelude.{◌≡◌, ℕ, ◌<◌, ◌≤◌, min, List, length, take, Some}
+use Rattle.std.specs.Prelude.{◌≡◌, ℕ, ◌<◌, ◌≤◌, min, Bool, true, List, length, take, Some}
 use Rattle.rsx_model.specs.declared.check.TheConstants.{MOST_NODES}
 use Rattle.rsx_model.specs.declared.expr.Expr.{Expr}
-use Rattle.rsx_sources.specs.Prelude.{Meaning, Stream, CAPACITY, Open, Signal}
+use Rattle.rsx_sources.specs.Prelude.{Meaning, Stream, Open, Signal}
 use Rattle.rsx_sources.specs.declared.machine.Machine.{Ghosts as Machine}
 use Rattle.rsx_tree.specs.declared.edge.EdgeState.TheVariants.{Live, Closed, Ended}
 use Rattle.rsx_tree.specs.Rests.{TreeHasReadAll}
-pub use Rattle.rsx_rooted.specs.Rooted.{evaluated, all_edges, has_room, sent_at, IsNumbered, Stands as PartStands, ask_enabled, send_enabled, pick_enabled, row_enabled, move_enabled, make_allocates, pump_allocates, wanted, offered, receiver_ended, IsAsk, GoesOut, IsSend, IsPick, IsRow, IsEffect, IsPutOut, IsMoved, IsRootSent, IsMade, IsMovedBy, IsMovedOver, IsPumped, IsQuiet, IsAwake, HasEnded, IsSpent, IsResidualOf as IsPartResidual}
+pub use Rattle.rsx_rooted.specs.Output.{has_room}
+pub use Rattle.rsx_rooted.specs.Rooted.{evaluated, all_edges, sent_at, IsNumbered, Stands as PartStands, ask_enabled, send_enabled, pick_enabled, row_enabled, move_enabled, make_allocates, pump_allocates, wanted, offered, receiver_ended, IsAsk, GoesOut, IsSend, IsPick, IsRow, IsEffect, IsPutOut, IsMoved, IsMade, IsMadeInto, IsMovedBy, IsMovedOver, IsPumped, IsQuiet, IsAwake, HasEnded, IsSpent, IsResidualOf as IsPartResidual, no_room, queue_sink}
 use Rattle.rsx_rooted.specs.declared.rooted.Rooted.{Rooted}
 use Rattle.rsx_pipe.specs.Output.{items_in, values_then}
 use Rattle.rsx_pipe.specs.Tree.{notes_of, IsWithin}
@@ -29,10 +30,10 @@ pub record IsServed {M T : Type 0} (part : Part M) (output : List (Signal T)) (v
 abbrev pub HasReadAll : {M T : Type 0} → Machine M T → Meaning T → List (Stream T) → Part M → Type 0
 HasReadAll b m hubs part = part.root.state ≡ Live → TreeHasReadAll b m hubs part.tree part.root.demand.asked part.root.demand.sent
 
--- a part whose root edge isn't closed and whose receiver has room did so, over what is published in all, as long as its nodes have
+-- a part whose root edge isn't closed, with room behind it, did so, over what is published in all, as long as its nodes have
 -- read that and no edge has carried 2^63-1 items; its expression has at most `MOST_NODES` nodes, as each has that isn't refused
-abbrev pub IsDelivered : {M T : Type 0} → Machine M T → Meaning T → Part M → List (Signal T) → Type 0
-IsDelivered {T = T} b m part queue =
+abbrev pub IsDelivered : {M T : Type 0} → Machine M T → Meaning T → Part M → Bool → Type 0
+IsDelivered {T = T} b m part room =
     (published : List (Stream T)) (e : Expr T) (joins : List ℕ) (output : List (Signal T)) → PartStands b m published part e joins output →
-    (part.root.state ≡ Closed → ⊥) → length queue < CAPACITY → length (all_edges part) ≤ MOST_NODES → IsWithin part.tree →
+    (part.root.state ≡ Closed → ⊥) → room ≡ true → length (all_edges part) ≤ MOST_NODES → IsWithin part.tree →
     (more : List (Stream T)) (v : Stream T) → HasReadAll b m (values_then published more) part → evaluated m (values_then published more) joins e (notes_of b part.tree) ≡ Some v → IsServed part output v

@@ -1,8 +1,7 @@
 //! A part of a graph: one tree of nodes with its edges.
 
-use rsx_prefetch::SignalQueue;
 pub use rsx_rooted::Pumped;
-use rsx_rooted::{Nodes, Rooted};
+use rsx_rooted::{Nodes, Rooted, Sink};
 use rsx_sources::NotMade;
 use rsx_tree::{Edge, EdgeState, Node, NodeMove};
 use rsx_types::{NoMemory, Note, Ops, StreamValue};
@@ -11,7 +10,8 @@ use std::marker::Model;
 
 /// One tree of nodes with its edges: the edge from its root, and those below it.
 ///
-/// What the root sends goes into a queue that each call is handed: that of a subscription's root edge. All that went over
+/// What the root sends goes into a [`Sink`] that each call is handed: the queue of a subscription's root edge, or [`crate::NoRoom`],
+/// over which only the moves inside the tree are made. All that went over
 /// the root edge, followed by what still comes out of the tree, is the expression that the part was made for. The nodes
 /// are numbered in pre-order from 0, and an edge has the number of the node that sends over it.
 ///
@@ -34,29 +34,28 @@ impl<N> Model for Part<N> {
 }
 
 impl<N: Nodes> Part<N> {
-    ghost use Rattle.std.specs.Prelude.{◌≡◌, ◌<◌, ℕ, List, [], ◌∷◌, Option, true, false, OnOk, OnErr, IfOk, IfErr, IsOk, IfSome, IfNone, map};
+    ghost use Rattle.std.specs.Prelude.{◌≡◌, ◌<◌, ℕ, List, [], true, false, OnOk, OnErr, IfOk, IfErr, IsOk, IfSome, IfNone, map};
     ghost use Rattle.rsx_demand.specs.Demand.{saturating_total};
     ghost use Rattle.rsx_hub.specs.Hub.{HubState};
     ghost use Rattle.rsx_model.specs.declared.expr.Expr.{Expr};
     ghost use Rattle.rsx_types.specs.Meaning.{Meaning};
     ghost use Rattle.rsx_types.specs.Stream.{Stream};
     ghost use Rattle.rsx_sources.specs.Steps.{IsNotMade};
-    ghost use Rattle.rsx_rooted.specs.Built.{IsBuilt, fresh_edge, fresh_edges, new_joins};
+    ghost use Rattle.rsx_rooted.specs.Built.{IsBuilt, fresh_edge, new_joins};
     ghost use Rattle.rsx_pipe.specs.Published.{AreTaken};
-    ghost use Rattle.rsx_tree.specs.Edges.{closed_view};
+    ghost use Rattle.rsx_tree.specs.Edges.{closed_view, edge_view};
     ghost use Rattle.rsx_pipe.specs.Tree.{notes_of, IsAllClosed};
     ghost use Rattle.rsx_pipe.specs.Fetched.{IsFetched};
     ghost use Rattle.rsx_tree.specs.Refusals.{OnlyNotEnabled};
-    ghost use Rattle.rsx_pipe.specs.Part.{pump_allocates, PartStands, IsPutOut, IsMade, IsPumped, IsQuiet, IsAwake, HasEnded, IsDelivered, IsPartResidual, make_allocates, all_edges, move_enabled, IsNumbered};
+    ghost use Rattle.rsx_pipe.specs.Part.{pump_allocates, PartStands, IsPutOut, IsMadeInto, IsPumped, IsQuiet, IsAwake, HasEnded, IsDelivered, IsPartResidual, make_allocates, all_edges, move_enabled, IsNumbered};
 
     /// The part of this tree, before anything was asked of it. Where the tree was made for an expression over some hubs, so is the
     /// part.
     pub fn new(tree: Node<N>) -> Part<N>
         ensures stands { (m : Meaning N.Item) (hubs : List (HubState N.Item)) (e : Expr N.Item) (published : List (Stream N.Item)) →
             IsBuilt N.Machine m hubs e tree → AreTaken hubs published → PartStands N.Machine m published result e (new_joins hubs e) [] }
-        ensures edges { (m : Meaning N.Item) (hubs : List (HubState N.Item)) (e : Expr N.Item) →
-            IsBuilt N.Machine m hubs e tree → all_edges result ≡ fresh_edge ∷ fresh_edges e }
         ensures tree { result.tree ≡ tree }
+        ensures root { edge_view result.root ≡ fresh_edge }
     {
         let root = Edge::new();
         Part {
@@ -88,38 +87,39 @@ impl<N: Nodes> Part<N> {
         self.rooted.tree.close();
     }
 
-    /// Whether a move is enabled, where the root's signals go into the queue `out`. The root's Ask never is: what is asked of
+    /// Whether a move is enabled, where the root's signals go into `out`. The root's Ask never is: what is asked of
     /// the root rises by [`Part::request`].
-    pub fn enabled(&self, step: NodeMove, out: &SignalQueue<N::Item>) -> bool
-        ensures { (m : Meaning N.Item) → result ≡ move_enabled N.Machine m self.now out.now step }
+    pub fn enabled<S: Sink<N::Item>>(&self, step: NodeMove, out: &S) -> bool
+        ensures { (m : Meaning N.Item) → result ≡ move_enabled N.Machine m self.now (S.Sink.room out.now) step }
     {
         self.rooted.enabled(step, out)
     }
 
     /// The first enabled move, from the root down. None where no move is enabled.
-    pub fn first_enabled(&self, out: &SignalQueue<N::Item>) -> Option<NodeMove>
-        ensures some { (m : Meaning N.Item) → IfSome result (λ step. IsNumbered step × (move_enabled N.Machine m self.now out.now step ≡ true)) }
-        ensures none { (m : Meaning N.Item) → IfNone result (IsQuiet N.Machine m self.now out.now) }
+    pub fn first_enabled<S: Sink<N::Item>>(&self, out: &S) -> Option<NodeMove>
+        ensures some { (m : Meaning N.Item) → IfSome result (λ step. IsNumbered step × (move_enabled N.Machine m self.now (S.Sink.room out.now) step ≡ true)) }
+        ensures none { (m : Meaning N.Item) → IfNone result (IsQuiet N.Machine m self.now (S.Sink.room out.now)) }
     {
         self.rooted.first_enabled(out)
     }
 
-    /// Makes a move; what goes over the root edge goes into the queue `out`.
+    /// Makes a move; what goes over the root edge goes into `out`.
     ///
     /// # Errors
-    /// [`NotMade::NotEnabled`] exactly where the move isn't enabled, and [`NotMade::NoMemory`] where a growth was refused: an
-    /// Ask doesn't allocate, and a Send only to a `buffer` or a `distinct`, or where a function of the caller's that it calls
-    /// may, and a pick or a row only where a step of its node may. Then nothing changed.
-    pub fn make<O: Ops<Item = N::Item>>(
+    /// [`NotMade::NotEnabled`] exactly where the move isn't enabled, and [`NotMade::NoMemory`] where a growth was refused. Then
+    /// nothing changed. An Ask doesn't allocate. A Send may where the node that takes the signal in is a `buffer`, `distinct`,
+    /// `window`, `groupBy` or `flatMap`; a pick or a row where its node is a `merge`, `combineLatest`, `groupBy` or `flatMap`; and
+    /// each where a node calls a function of the caller's that may.
+    pub fn make<O: Ops<Item = N::Item>, S: Sink<N::Item>>(
         &mut self,
         alloc: Global,
         ops: &O,
         step: NodeMove,
-        out: &mut SignalQueue<N::Item>,
+        out: &mut S,
     ) -> Result<(), NotMade>
-        ensures made { OnOk result (IsMade N.Machine (O.meaning ops.now) step self.old out.old self.new out.new) }
-        ensures enabled { OnOk result (move_enabled N.Machine (O.meaning ops.now) self.old out.old step ≡ true) }
-        ensures err { IfErr result (IsNotMade (move_enabled N.Machine (O.meaning ops.now) self.old out.old step)) }
+        ensures made { OnOk result (IsMadeInto N.Machine S.Sink (O.meaning ops.now) step self.old out.old self.new out.new) }
+        ensures enabled { OnOk result (move_enabled N.Machine (O.meaning ops.now) self.old (S.Sink.room out.old) step ≡ true) }
+        ensures err { IfErr result (IsNotMade (move_enabled N.Machine (O.meaning ops.now) self.old (S.Sink.room out.old) step)) }
         ensures memory { make_allocates N.Machine (O.allocates ops.now) self.old step ≡ false → OnlyNotEnabled result }
         ensures same { OnErr result ((self.new ≡ self.old) × (out.new ≡ out.old)) }
     {
@@ -146,25 +146,25 @@ impl<N: Nodes> Part<N> {
     }
 
     /// Makes enabled moves, in an order of its own, until none is enabled (Idle) or `budget` moves were made (Budget); where
-    /// both hold it answers Idle. What goes over the root edge goes into the queue `out`; where that is full, a Send over the
-    /// root edge isn't enabled.
+    /// both hold it answers Idle. What goes over the root edge goes into `out`; while that has no room, a Send over the root edge
+    /// isn't enabled.
     ///
     /// # Errors
     /// [`NoMemory`] where a growth was refused; the moves made before stand. It comes only where some node of the tree may
-    /// allocate: a `buffer` or a `distinct`, or a node that calls a function of the caller's whose [`Ops`] says that it may
-    /// (`allocates`).
-    pub fn pump<O: Ops<Item = N::Item>>(
+    /// allocate: a `buffer`, `distinct`, `window`, `groupBy`, `flatMap`, `merge` or `combineLatest`, or a node that calls a function
+    /// of the caller's whose [`Ops`] says that it may (`allocates`).
+    pub fn pump<O: Ops<Item = N::Item>, S: Sink<N::Item>>(
         &mut self,
         alloc: Global,
         ops: &O,
         budget: u32,
-        out: &mut SignalQueue<N::Item>,
+        out: &mut S,
     ) -> Result<Pumped, NoMemory>
-        ensures pumped { (n : ℕ) × HasEnded N.Machine (O.meaning ops.now) budget n self.new out.new result
-            × IsPumped N.Machine (O.meaning ops.now) n self.old out.old self.new out.new }
+        ensures pumped { (n : ℕ) × HasEnded N.Machine (O.meaning ops.now) budget n self.new (S.Sink.room out.new) result
+            × IsPumped N.Machine S.Sink (O.meaning ops.now) n self.old out.old self.new out.new }
 
         // Idle means delivered.
-        ensures served { IfOk result (λ p. (left : ℕ) → p ≡ Pumped.Idle left → IsDelivered N.Machine (O.meaning ops.now) self.new out.new) }
+        ensures served { IfOk result (λ p. (left : ℕ) → p ≡ Pumped.Idle left → IsDelivered N.Machine (O.meaning ops.now) self.new (S.Sink.room out.new)) }
 
         // Where no move may allocate, there is no want of memory.
         ensures memory { pump_allocates N.Machine (O.allocates ops.now) self.old ≡ false → IsOk result }
@@ -173,9 +173,9 @@ impl<N: Nodes> Part<N> {
     }
 
     /// Whether no move is enabled.
-    pub fn is_idle(&self, out: &SignalQueue<N::Item>) -> bool
-        ensures yes { (m : Meaning N.Item) → result ≡ true → IsQuiet N.Machine m self.now out.now }
-        ensures no { (m : Meaning N.Item) → result ≡ false → IsAwake N.Machine m self.now out.now }
+    pub fn is_idle<S: Sink<N::Item>>(&self, out: &S) -> bool
+        ensures yes { (m : Meaning N.Item) → result ≡ true → IsQuiet N.Machine m self.now (S.Sink.room out.now) }
+        ensures no { (m : Meaning N.Item) → result ≡ false → IsAwake N.Machine m self.now (S.Sink.room out.now) }
     {
         self.rooted.is_idle(out)
     }

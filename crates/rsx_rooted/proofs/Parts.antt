@@ -1,17 +1,16 @@
 -- How each move keeps what a part stands for.
-use Rattle.std.proofs.Common.{◌≡◌, ◌⊎◌, inl, inr, ℕ, zero, suc, ◌+◌, ◌-◌, ◌<◌, ◌≤◌, min, Bool, true, false, ◌&&◌, nat_eq, nat_lt, if◌then◌else◌, List, [], ◌∷◌, ◌++◌, length, length-append, replicate, take, map, option_map, Option, Some, None, Ok, refl, ap, sym, ◌∙◌, subst, arith, append_assoc, add-zero}
-use Rattle.std.proofs.lemmas.Bool.Decides.{nat_tests}
-use Rattle.std.proofs.lemmas.List.{append-nil, length-replicate, take_all}
+use Rattle.std.proofs.Common.{◌≡◌, ◌⊎◌, inl, inr, ℕ, zero, suc, ◌+◌, ◌-◌, ◌<◌, ◌≤◌, Bool, true, false, ◌&&◌, nat_eq, if◌then◌else◌, List, [], ◌∷◌, ◌++◌, length, length-append, replicate, option_map, Option, Ok, refl, ap, sym, ◌∙◌, subst, arith, append_assoc, add-zero}
+use Rattle.std.proofs.lemmas.List.{append-nil, length-replicate}
 use Rattle.std.proofs.lemmas.Bool.{both_ways, and_parts}
 use Rattle.rsx_types.proofs.Numbers.{not_zero}
-use Rattle.rsx_model.specs.declared.check.TheConstants.{MOST_NODES}
-use Rattle.rsx_sources.specs.Prelude.{CAPACITY, Meaning, Allocates, notes_then, Stream, signals_then, Note, Signal, Next, Complete, Error, front_of, IsNotMade}
+use Rattle.rsx_sources.specs.Prelude.{Meaning, Allocates, notes_then, Stream, signals_then, Note, Signal, Next, Complete, Error, front_of, IsNotMade}
 use Rattle.rsx_model.specs.declared.expr.Expr.{Expr}
-use Rattle.rsx_sources.specs.declared.machine.Front.{Front}
-use Rattle.rsx_tree.specs.Prelude.{IsTreeReadAt, changed_at, asked_up_to, edge_view, EdgeView, passed, closed_view, closed_state, IsSteppedAt, IsPickedHere, IsRowMadeHere, over, station_of, node_allocates, IsStepEnabled, wanted_at, edges as edges_in}
+use Rattle.rsx_tree.specs.Prelude.{IsTreeReadAt, changed_at, asked_up_to, edge_view, EdgeView, can_pass, passed, closed_view, closed_state, IsSteppedAt, IsPickedHere, IsRowMadeHere, over, station_of, node_allocates, IsStepEnabled, wanted_at, edges as edges_in}
 use Rattle.rsx_rooted.specs.Output.{counts_in, items_in, IsUnended, values_then}
-use Rattle.rsx_rooted.specs.Rooted.{Stands, IsPutOut, IsRootSent, IsMade, IsMoved, IsMovedBy, IsMovedOver, IsPumped, IsQuiet, IsSpent, HasEnded, IsAsk, IsSend, IsEffect, IsTreeSent, GoesOut, sent_at, send_enabled, move_enabled, has_room, make_allocates, evaluated, pump_allocates, IsPick, IsRow}
-use Rattle.rsx_rooted.specs.Tree.{comes_out, notes, offers, edges, edges_after, can_ask, can_send, can_go, want_at, want_in, front_at, front_in, ended_at, IsAllClosed, IsKept, IsAlike, step_allocates, IsAdvanced, IsAskedAt, IsSentAt, IsChosen, IsDriven, IsIdle, IsBalanced, IsBalancedAfter, pop_allocates, IsStill}
+use Rattle.rsx_rooted.specs.Feeding.{IsSentOut}
+use Rattle.rsx_rooted.specs.Fetched.{IsWorked}
+use Rattle.rsx_rooted.specs.Rooted.{Stands, IsPutOut, IsMade, IsMadeInto, IsMoved, IsMovedBy, IsMovedOver, IsPumped, IsQuiet, IsSpent, HasEnded, IsAsk, IsSend, IsEffect, IsTreeSent, GoesOut, sent_at, send_enabled, move_enabled, make_allocates, evaluated, pump_allocates, no_room}
+use Rattle.rsx_rooted.specs.Tree.{comes_out, notes, offers, edges, edges_after, can_ask, can_send, can_go, want_at, want_in, front_at, front_in, ended_at, IsAllClosed, IsKept, IsLetGo, IsAlike, step_allocates, IsAdvanced, IsAskedAt, IsSentAt, IsChosen, IsDriven, IsIdle, IsBalanced, IsBalancedAfter, pop_allocates, IsStill}
 use Rattle.rsx_tree.specs.declared.look.NodeMove.{NodeMove}
 use Rattle.rsx_tree.specs.declared.look.NodeMove.TheVariants.{Ask, Send, Pick, Row}
 use Rattle.rsx_tree.specs.declared.node.Node.{Node}
@@ -20,6 +19,7 @@ use Rattle.rsx_tree.specs.declared.edge.EdgeState.{EdgeState}
 use Rattle.rsx_tree.specs.declared.edge.EdgeState.TheVariants.{Live, Closed, Ended}
 use Rattle.rsx_rooted.specs.declared.rooted.Rooted.{Rooted}
 use Rattle.rsx_rooted.specs.declared.rooted.Pumped.{Pumped}
+use Rattle.rsx_rooted.specs.declared.sink.Sink.{Ghosts as Sink}
 use Rattle.rsx_rooted.specs.declared.rooted.Pumped.TheVariants.{Idle, Budget}
 use Rattle.rsx_sources.specs.declared.machine.Machine.{Ghosts as Machine}
 use Rattle.rsx_sources.specs.declared.machine.NotMade.{NotMade}
@@ -30,11 +30,10 @@ use Rattle.rsx_tree.proofs.Runs.{gives_none, gives_on, gives_one, leads_silent}
 use Rattle.rsx_tree.specs.Runs.{Unlabelled}
 use Rattle.rsx_tree.proofs.Noted.{kept_chosen, picked_effect, picked_enabled, row_effect, row_enabled as row_made_enabled}
 use Rattle.rsx_tree.proofs.Changes.{chosen_second}
-use Rattle.rsx_tree.proofs.Idles.{can_pass_live, live_still, place_none, station_none}
 use Rattle.rsx_rooted.proofs.Numbers.{above_zero, suc_minus}
-use Rattle.rsx_rooted.proofs.Signals.{IsOrderly-more, IsUnended-more, IsUnended-last, items_in-append, map_then-last, prefix_of_orderly, cut_value}
+use Rattle.rsx_rooted.proofs.Signals.{IsOrderly-more, IsUnended-more, IsUnended-last, items_in-append, map_then-last}
 use Rattle.rsx_tree.proofs.Shut.{pass_live, pick_alive, row_alive}
-use Rattle.rsx_rooted.proofs.Trees.{advanced_not_closed, ask_not_closed, send_not_closed, go_live, notes_then-unchosen, unchosen_notes}
+use Rattle.rsx_rooted.proofs.Trees.{advanced_not_closed, ask_not_closed, send_not_closed, go_live}
 use Rattle.rsx_rooted.proofs.Numbers.{front_there, asked_all, at_zero}
 
 -- ---- what goes out
@@ -95,43 +94,31 @@ passed_last e (Next y) l c x i = cc
 passed_last e Complete l c x i = cc
 passed_last e (Error k) l c x i = cc
 
--- what a signal over the root edge leaves of that edge
-record IsRootAfter {M T : Type 0} (old new : Rooted M) (s : Signal T) : Type 0 where
-  was_live : old.root.state ≡ Live
-  view : edge_view new.root ≡ passed (edge_view old.root) (front_of s)
-
-root_after : {M T : Type 0} (b : Machine M T) (m : Meaning T) (old new : Rooted M) (queue queue' : List (Signal T)) → (k : IsRootSent b m old queue new queue') → IsRootAfter old new k.signal
-root_after b m old new queue queue' k =
-    let offered : Some k.front ≡ Some (front_of k.signal) = sym k.offered ∙ ap (λ x. option_map front_of x) k.gone.offered in
-    let named : k.front ≡ front_of k.signal = cc in
-    let P : Front → Type 0 = λ g. edge_view new.root ≡ passed (edge_view old.root) g in
-    record { was_live = pass_live (edge_view old.root) k.front k.can; view = subst P named k.passed }
-
 -- the root's signal goes over the root edge
-pub put_out_sent : {M T : Type 0} (b : Machine M T) (m : Meaning T) (old new : Rooted M) (queue queue' : List (Signal T)) → (k : IsRootSent b m old queue new queue') → IsPutOut b m old (k.signal ∷ []) new
-put_out_sent {M = M} {T = T} b m old new queue queue' k published e joins output h =
-    let r = root_after b m old new queue queue' k in
-    let open_before : IsUnended output = h.unended r.was_live in
-    let sent : new.root.demand.sent ≡ old.root.demand.sent + length (items_in (k.signal ∷ [])) = ap (λ v. v.sent) r.view ∙ passed_sent (edge_view old.root) k.signal in
-    let live_item : new.root.state ≡ Live → (x : T) × (k.signal ≡ Next x) = λ l. passed_live (edge_view old.root) k.signal (sym (ap (λ v. v.state) r.view) ∙ l) in
+put_out_sent : {M T : Type 0} (b : Machine M T) (m : Meaning T) (old new : Rooted M) (s : Signal T) → IsLetGo b m old.tree s new.tree → can_pass (edge_view old.root) (front_of s) ≡ true → edge_view new.root ≡ passed (edge_view old.root) (front_of s) → IsPutOut b m old (s ∷ []) new
+put_out_sent {M = M} {T = T} b m old new s gone can view published e joins output h =
+    let was_live : old.root.state ≡ Live = pass_live (edge_view old.root) (front_of s) can in
+    let open_before : IsUnended output = h.unended was_live in
+    let sent : new.root.demand.sent ≡ old.root.demand.sent + length (items_in (s ∷ [])) = ap (λ v. v.sent) view ∙ passed_sent (edge_view old.root) s in
+    let live_item : new.root.state ≡ Live → (x : T) × (s ≡ Next x) = λ l. passed_live (edge_view old.root) s (sym (ap (λ v. v.state) view) ∙ l) in
     record {
       value = λ more further len.
-          map_then-last output k.signal (comes_out b m (values_then published more) further new.tree 0)
-          ∙ (ap (λ o. option_map (signals_then output) o) (sym (k.gone.value (values_then published more) further 0))
-          ∙ (h.value more further (len ∙ ap length k.gone.notes) ∙ ap (λ ns. evaluated m (values_then published more) joins e (notes_then ns further)) (sym k.gone.notes)));
-      orderly = IsOrderly-more output k.signal open_before;
+          map_then-last output s (comes_out b m (values_then published more) further new.tree 0)
+          ∙ (ap (λ o. option_map (signals_then output) o) (sym (gone.value (values_then published more) further 0))
+          ∙ (h.value more further (len ∙ ap length gone.notes) ∙ ap (λ ns. evaluated m (values_then published more) joins e (notes_then ns further)) (sym gone.notes)));
+      orderly = IsOrderly-more output s open_before;
       unended = λ l. let x = live_item l in rw x.1 (IsUnended-more output x.0 open_before);
-      ended = λ c u. let x = IsUnended-last output k.signal u in passed_last (edge_view old.root) k.signal r.was_live (sym (ap (λ v. v.state) r.view) ∙ c) x.0 x.1;
-      counted = ap length (items_in-append output (k.signal ∷ [])) ∙ (length-append (items_in output) (items_in (k.signal ∷ [])) ∙ (ap (λ n. n + length (items_in (k.signal ∷ []))) h.counted ∙ sym sent));
+      ended = λ c u. let x = IsUnended-last output s u in passed_last (edge_view old.root) s was_live (sym (ap (λ v. v.state) view) ∙ c) x.0 x.1;
+      counted = ap length (items_in-append output (s ∷ [])) ∙ (length-append (items_in output) (items_in (s ∷ [])) ∙ (ap (λ n. n + length (items_in (s ∷ []))) h.counted ∙ sym sent));
       balance = λ l.
           let x = live_item l in
           let B : Signal T → Type 0 = λ t. IsBalancedAfter b t new.tree old.root.demand.sent in
           let C : ℕ → Type 0 = λ c. IsBalanced b new.tree c in
           let one : new.root.demand.sent ≡ old.root.demand.sent + 1 = sent ∙ ap (λ t. old.root.demand.sent + length (items_in (t ∷ []))) x.1 in
-          subst C (sym one) (subst B x.1 (k.gone.balance old.root.demand.sent (h.balance r.was_live)));
-      reads = λ l. k.gone.alike.1 (counts_in published) (h.reads r.was_live);
-      alone = λ l none. k.gone.alike.1 [] (h.alone r.was_live none);
-      closed = λ c. absurd (passed_open (edge_view old.root) k.signal r.was_live (sym (ap (λ v. v.state) r.view) ∙ c));
+          subst C (sym one) (subst B x.1 (gone.balance old.root.demand.sent (h.balance was_live)));
+      reads = λ l. gone.alike.1 (counts_in published) (h.reads was_live);
+      alone = λ l none. gone.alike.1 [] (h.alone was_live none);
+      closed = λ c. absurd (passed_open (edge_view old.root) s was_live (sym (ap (λ v. v.state) view) ∙ c));
     }
 
 -- what was asked over the root edge rises
@@ -195,14 +182,14 @@ put_out_on {T = T} b m a mid c first rest x y published e joins output h =
 
 -- ---- many moves
 
-pub pumped_none : {M T : Type 0} (b : Machine M T) (m : Meaning T) (part : Rooted M) (queue : List (Signal T)) → IsPumped b m 0 part queue part queue
-pumped_none b m part queue = record { out = []; queued = sym (append-nil queue); moves = gives_none (IsMovedOver b m) (λ o. o) (part, queue) (part, queue) refl; stands = put_out_none b m part; asked = refl; unclosed = λ h. h; alike = alike_still b part.tree }
+pub pumped_none : {M S T : Type 0} (b : Machine M T) (k : Sink S T) (m : Meaning T) (part : Rooted M) (sink : S) → IsPumped b k m 0 part sink part sink
+pumped_none b k m part sink = record { out = []; queued = sym (append-nil (k.signals sink)); moves = gives_none (IsMovedOver b k m) (λ o. o) (part, sink) (part, sink) refl; stands = put_out_none b m part; asked = refl; unclosed = λ h. h; alike = alike_still b part.tree }
 
-pub pumped_on : {M T : Type 0} (b : Machine M T) (m : Meaning T) (n k : ℕ) (a mid c : Rooted M) (q q' q'' : List (Signal T)) → IsPumped b m n a q mid q' → IsPumped b m k mid q' c q'' → IsPumped b m (n + k) a q c q''
-pumped_on b m n k a mid c q q' q'' x y = record {
+pub pumped_on : {M S T : Type 0} (b : Machine M T) (k : Sink S T) (m : Meaning T) (n i : ℕ) (a mid c : Rooted M) (q q' q'' : S) → IsPumped b k m n a q mid q' → IsPumped b k m i mid q' c q'' → IsPumped b k m (n + i) a q c q''
+pumped_on b k m n i a mid c q q' q'' x y = record {
   out = x.out ++ y.out;
-  queued = y.queued ∙ (ap (λ l. l ++ y.out) x.queued ∙ append_assoc q x.out y.out);
-  moves = gives_on (IsMovedOver b m) (λ o. o) n k (a, q) (mid, q') (c, q'') x.out y.out x.moves y.moves;
+  queued = y.queued ∙ (ap (λ l. l ++ y.out) x.queued ∙ append_assoc (k.signals q) x.out y.out);
+  moves = gives_on (IsMovedOver b k m) (λ o. o) n i (a, q) (mid, q') (c, q'') x.out y.out x.moves y.moves;
   stands = put_out_on b m a mid c x.out y.out x.stands y.stands;
   asked = y.asked ∙ x.asked;
   unclosed = λ h. y.unclosed (x.unclosed h);
@@ -233,145 +220,97 @@ asked_below_root b old tree at z k =
     asked_all (edge_view old.root) (edges old.tree) (edges tree) at (want_at b old.tree (at - 1) old.root.demand.asked old.root.demand.sent) old.root.demand.asked z
     (k.edges ∙ ap (λ w. changed_at (asked_up_to w) (at - 1) (edges old.tree)) want)
 
-pub sent_root : {M T : Type 0} (b : Machine M T) (m : Meaning T) (old new : Rooted M) (queue queue' : List (Signal T)) → (k : IsRootSent b m old queue new queue') → IsSend b m old 0 (k.signal ∷ []) new
-sent_root b m old new queue queue' k = record {
-  front = k.front;
-  carries = k.offered;
-  edges = ap (λ e. e ∷ edges new.tree) k.passed ∙ ap (λ t. passed (edge_view old.root) k.front ∷ edges_in t) (sym k.gone.popped.1);
-  goes = (k.signal, k.gone.offered, refl);
-  tree = (k.signal, refl, k.gone);
+pub made_sent : {M T : Type 0} (b : Machine M T) (m : Meaning T) (old new : Rooted M) (s : Signal T) → IsLetGo b m old.tree s new.tree → can_pass (edge_view old.root) (front_of s) ≡ true → edge_view new.root ≡ passed (edge_view old.root) (front_of s) → IsMade b m (Send 0) old (s ∷ []) new
+made_sent b m old new s gone can view = record {
+  effect = record {
+    front = front_of s;
+    carries = ap (option_map front_of) gone.offered;
+    edges = ap (λ e. e ∷ edges new.tree) view ∙ ap (λ t. passed (edge_view old.root) (front_of s) ∷ edges_in t) (sym gone.popped.1);
+    goes = (s, gone.offered, refl);
+    tree = (s, refl, gone);
+  };
+  stands = put_out_sent b m old new s gone can view;
+  inside = λ none. cc;
+  asked = ap (λ v. v.asked) view ∙ passed_asked (edge_view old.root) s;
+  unclosed = λ _ c. passed_open (edge_view old.root) s (pass_live (edge_view old.root) (front_of s) can) (sym (ap (λ v. v.state) view) ∙ c);
+  alike = gone.alike;
 }
 
-pub root_can : {M T : Type 0} (b : Machine M T) (m : Meaning T) (old new : Rooted M) (queue queue' : List (Signal T)) → (k : IsRootSent b m old queue new queue') → send_enabled b m old queue 0 ≡ true
-root_can b m old new queue queue' k = rw (k.room, k.offered) k.can
-
-pub moved_root : {M T : Type 0} (b : Machine M T) (m : Meaning T) (old new : Rooted M) (queue queue' : List (Signal T)) → (k : IsRootSent b m old queue new queue') → IsMoved b m old queue (k.signal ∷ []) new queue'
-moved_root b m old new queue queue' k = record {
-  move = Send 0;
-  enabled = root_can b m old new queue queue' k;
-  effect = sent_root b m old new queue queue' k;
-  queued = k.queued;
-}
-
-root_unclosed : {M T : Type 0} (b : Machine M T) (m : Meaning T) (old new : Rooted M) (queue queue' : List (Signal T)) → (k : IsRootSent b m old queue new queue') → new.root.state ≡ Closed → ⊥
-root_unclosed b m old new queue queue' k c =
-    let r = root_after b m old new queue queue' k in
-    passed_open (edge_view old.root) k.signal r.was_live (sym (ap (λ v. v.state) r.view) ∙ c)
-
-root_asked : {M T : Type 0} (b : Machine M T) (m : Meaning T) (old new : Rooted M) (queue queue' : List (Signal T)) → (k : IsRootSent b m old queue new queue') → new.root.demand.asked ≡ old.root.demand.asked
-root_asked b m old new queue queue' k =
-    let r = root_after b m old new queue queue' k in
-    ap (λ v. v.asked) r.view ∙ passed_asked (edge_view old.root) k.signal
-
-pub pumped_root : {M T : Type 0} (b : Machine M T) (m : Meaning T) (old new : Rooted M) (queue queue' : List (Signal T)) → IsRootSent b m old queue new queue' → IsPumped b m 1 old queue new queue'
-pumped_root b m old new queue queue' k = record {
-  out = k.signal ∷ [];
-  queued = k.queued;
-  moves = gives_one (IsMovedOver b m) (λ o. o) (old, queue) (new, queue') (k.signal ∷ []) (moved_root b m old new queue queue' k);
-  stands = put_out_sent b m old new queue queue' k;
-  asked = root_asked b m old new queue queue' k;
-  unclosed = λ _. root_unclosed b m old new queue queue' k;
-  alike = k.gone.alike;
-}
-
-pub moved_below : {M T : Type 0} (b : Machine M T) (m : Meaning T) (old : Rooted M) (tree : Node M) (queue : List (Signal T)) → IsAdvanced b m old.tree old.root.demand.asked old.root.demand.sent tree → IsMoved b m old queue [] (record { tree = tree; root = old.root }) queue
-moved_below {M = M} {T = T} b m old tree queue a =
+moved_below : {M S T : Type 0} (b : Machine M T) (k : Sink S T) (m : Meaning T) (old : Rooted M) (tree : Node M) (sink : S) → IsAdvanced b m old.tree old.root.demand.asked old.root.demand.sent tree → IsMoved b k m old sink [] (record { tree = tree; root = old.root }) sink
+moved_below {M = M} b k m old tree sink a =
     let asked : ℕ = old.root.demand.asked in
     let sent : ℕ = old.root.demand.sent in
     let above : 0 < a.at + 1 = omega arith in
-    let A : ℕ → Type 0 = λ k. IsAskedAt b old.tree k asked sent tree in
-    let S : ℕ → Type 0 = λ k. IsSentAt b m old.tree k tree in
+    let A : ℕ → Type 0 = λ i. IsAskedAt b old.tree i asked sent tree in
+    let S : ℕ → Type 0 = λ i. IsSentAt b m old.tree i tree in
     elim a.made [
-      | inl k ↦ record {
+      | inl w ↦ record {
         move = Ask (a.at + 1);
-        enabled = above_zero a.at false (can_ask b old.tree ((a.at + 1) - 1) asked sent) ∙ ap (λ i. can_ask b old.tree i asked sent) (suc_minus a.at) ∙ k.0;
-        effect = (refl, asked_below_root b old tree (a.at + 1) above (subst A (sym (suc_minus a.at)) k.1));
-        queued = sym (append-nil queue);
+        enabled = above_zero a.at false (can_ask b old.tree ((a.at + 1) - 1) asked sent) ∙ ap (λ i. can_ask b old.tree i asked sent) (suc_minus a.at) ∙ w.0;
+        effect = (refl, asked_below_root b old tree (a.at + 1) above (subst A (sym (suc_minus a.at)) w.1));
+        queued = sym (append-nil (k.signals sink));
       }
       | inr y ↦ elim y [
-        | inl k ↦ record {
+        | inl w ↦ record {
           move = Send (a.at + 1);
-          enabled = above_zero a.at (has_room queue && can_go (edge_view old.root) (option_map front_of (offers b m old.tree))) (can_send b m old.tree ((a.at + 1) - 1)) ∙ ap (λ i. can_send b m old.tree i) (suc_minus a.at) ∙ k.0;
-          effect = sent_below_root b m old tree (a.at + 1) above (subst S (sym (suc_minus a.at)) k.1);
-          queued = sym (append-nil queue);
+          enabled = above_zero a.at (k.room sink && can_go (edge_view old.root) (option_map front_of (offers b m old.tree))) (can_send b m old.tree ((a.at + 1) - 1)) ∙ ap (λ i. can_send b m old.tree i) (suc_minus a.at) ∙ w.0;
+          effect = sent_below_root b m old tree (a.at + 1) above (subst S (sym (suc_minus a.at)) w.1);
+          queued = sym (append-nil (k.signals sink));
         }
-        | inr k ↦ elim k.1.made [
+        | inr w ↦ elim w.1.made [
           | inl p ↦
-              let made : IsSteppedAt (IsPickedHere b m p.0) b.ended old.tree (edge_view old.root) (suc a.at) tree = record { machine = k.1.receiver; made = p.1 } in
+              let made : IsSteppedAt (IsPickedHere b m p.0) b.ended old.tree (edge_view old.root) (suc a.at) tree = record { machine = w.1.receiver; made = p.1 } in
               record {
                 move = Pick (suc a.at) p.0;
                 enabled = picked_enabled b m p.0 old.tree (edge_view old.root) (suc a.at) tree made;
                 effect = (refl, record { tree = picked_effect b m p.0 old.tree (edge_view old.root) (suc a.at) tree made; root = refl });
-                queued = sym (append-nil queue);
+                queued = sym (append-nil (k.signals sink));
               }
           | inr p ↦
-              let made : IsSteppedAt (IsRowMadeHere b m) b.ended old.tree (edge_view old.root) (suc a.at) tree = record { machine = k.1.receiver; made = p } in
+              let made : IsSteppedAt (IsRowMadeHere b m) b.ended old.tree (edge_view old.root) (suc a.at) tree = record { machine = w.1.receiver; made = p } in
               record {
                 move = Row (suc a.at);
                 enabled = row_made_enabled b m old.tree (edge_view old.root) (suc a.at) tree made;
                 effect = (refl, record { tree = row_effect b m old.tree (edge_view old.root) (suc a.at) tree made; root = refl });
-                queued = sym (append-nil queue);
+                queued = sym (append-nil (k.signals sink));
               }
         ]
       ]
     ]
 
 -- what a call that makes a move gives
-pub made_root : {M T : Type 0} (b : Machine M T) (m : Meaning T) (move : NodeMove) (n : ℕ) (old new : Rooted M) (queue queue' : List (Signal T)) → move ≡ Send n → n ≡ 0 → IsRootSent b m old queue new queue' → IsMade b m move old queue new queue'
-made_root {T = T} b m move n old new queue queue' e z k =
-    let P : NodeMove → Type 0 = λ mv. IsMade b m mv old queue new queue' in
-    let Q : ℕ → Type 0 = λ i. IsSend b m old i (k.signal ∷ []) new in
-    subst P (sym e) (record {
-      out = k.signal ∷ [];
-      effect = subst Q (sym z) (sent_root b m old new queue queue' k);
-      queued = k.queued;
-      stands = put_out_sent b m old new queue queue' k;
-      asked = root_asked b m old new queue queue' k;
-      unclosed = λ _. root_unclosed b m old new queue queue' k;
-      alike = k.gone.alike;
-    })
-
-pub made_inside : {M T : Type 0} (b : Machine M T) (m : Meaning T) (move : NodeMove) (old new : Rooted M) (queue : List (Signal T)) → IsEffect b m move old [] new → IsPutOut b m old [] new → new.root ≡ old.root → IsAlike b old.tree new.tree → IsMade b m move old queue new queue
-made_inside b m move old new queue effect stands root alike = record {
-  out = [];
+pub made_inside : {M T : Type 0} (b : Machine M T) (m : Meaning T) (move : NodeMove) (old new : Rooted M) → IsEffect b m move old [] new → IsPutOut b m old [] new → new.root ≡ old.root → IsAlike b old.tree new.tree → IsMade b m move old [] new
+made_inside b m move old new effect stands root alike = record {
   effect = effect;
-  queued = sym (append-nil queue);
   stands = stands;
+  inside = λ _. root;
   asked = ap (λ r. r.demand.asked) root;
   unclosed = λ h c. h (ap (λ r. r.state) (sym root) ∙ c);
   alike = alike;
 }
 
-pub made_ask : {M T : Type 0} (b : Machine M T) (m : Meaning T) (move : NodeMove) (n : ℕ) (old new : Rooted M) (queue : List (Signal T)) → move ≡ Ask n → IsAsk b old n new → IsPutOut b m old [] new → new.root ≡ old.root → IsAlike b old.tree new.tree → IsMade b m move old queue new queue
-made_ask {T = T} b m move n old new queue e effect stands root alike =
-    let P : NodeMove → Type 0 = λ mv. IsEffect b m mv old [] new in
-    made_inside b m move old new queue (subst P (sym e) (refl, effect)) stands root alike
-
-pub made_pick : {M T : Type 0} (b : Machine M T) (m : Meaning T) (move : NodeMove) (n input : ℕ) (old new : Rooted M) (queue : List (Signal T)) → move ≡ Pick n input → IsPick b old n input new → IsPutOut b m old [] new → IsAlike b old.tree new.tree → IsMade b m move old queue new queue
-made_pick {T = T} b m move n input old new queue e effect stands alike =
-    let P : NodeMove → Type 0 = λ mv. IsEffect b m mv old [] new in
-    made_inside b m move old new queue (subst P (sym e) (refl, effect)) stands effect.root alike
-
-pub made_row : {M T : Type 0} (b : Machine M T) (m : Meaning T) (move : NodeMove) (n : ℕ) (old new : Rooted M) (queue : List (Signal T)) → move ≡ Row n → IsRow b old n new → IsPutOut b m old [] new → IsAlike b old.tree new.tree → IsMade b m move old queue new queue
-made_row {T = T} b m move n old new queue e effect stands alike =
-    let P : NodeMove → Type 0 = λ mv. IsEffect b m mv old [] new in
-    made_inside b m move old new queue (subst P (sym e) (refl, effect)) stands effect.root alike
+pub made_into : {M S T : Type 0} (b : Machine M T) (k : Sink S T) (m : Meaning T) (move step : NodeMove) (old new : Rooted M) (sink : S) → move ≡ step → IsMade b m step old [] new → IsMadeInto b k m move old sink new sink
+made_into b k m move step old new sink is made = ([], subst (λ s. IsMade b m s old [] new) (sym is) made, sym (append-nil (k.signals sink)))
 
 -- a move that a call made is a run of one move
-pub pumped_made : {M T : Type 0} (b : Machine M T) (m : Meaning T) (move : NodeMove) (old new : Rooted M) (queue queue' : List (Signal T)) → move_enabled b m old queue move ≡ true → IsMade b m move old queue new queue' → IsPumped b m 1 old queue new queue'
-pumped_made b m move old new queue queue' can k = record {
-  out = k.out;
-  queued = k.queued;
-  moves = gives_one (IsMovedOver b m) (λ o. o) (old, queue) (new, queue') k.out (record { move = move; enabled = can; effect = k.effect; queued = k.queued });
-  stands = k.stands;
-  asked = k.asked;
-  unclosed = k.unclosed;
-  alike = k.alike;
+pub pumped_made : {M S T : Type 0} (b : Machine M T) (k : Sink S T) (m : Meaning T) (move : NodeMove) (old new : Rooted M) (sink sink' : S) → move_enabled b m old (k.room sink) move ≡ true → IsMadeInto b k m move old sink new sink' → IsPumped b k m 1 old sink new sink'
+pumped_made b k m move old new sink sink' can h = record {
+  out = h.0;
+  queued = h.2;
+  moves = gives_one (IsMovedOver b k m) (λ o. o) (old, sink) (new, sink') h.0 (record { move = move; enabled = can; effect = h.1.effect; queued = h.2 });
+  stands = h.1.stands;
+  asked = h.1.asked;
+  unclosed = h.1.unclosed;
+  alike = h.1.alike;
 }
 
+-- a signal that went out, and stands in the sink now
+pub pumped_sent : {M S T : Type 0} (b : Machine M T) (k : Sink S T) (m : Meaning T) (old new : Rooted M) (sink sink' : S) (s : Signal T) → IsSentOut b m old s new → k.room sink ≡ true → k.signals sink' ≡ k.signals sink ++ s ∷ [] → IsPumped b k m 1 old sink new sink'
+pumped_sent b k m old new sink sink' s gone room put = pumped_made b k m (Send 0) old new sink sink' (rw room gone.enabled) (s ∷ [], gone.made, put)
+
 -- a closed part makes no move
-pub moved_alive : {M T : Type 0} (b : Machine M T) (m : Meaning T) (old new : Rooted M) (queue queue' out : List (Signal T)) → IsMoved b m old queue out new queue' → IsAllClosed old.tree → (old.root.state ≡ Live → ⊥) → ⊥
-moved_alive {M = M} {T = T} b m old new queue queue' out k closed shut = by_move k.move k.enabled
+pub moved_alive : {M T : Type 0} (b : Machine M T) (m : Meaning T) (old : Rooted M) (room : Bool) (move : NodeMove) → move_enabled b m old room move ≡ true → IsAllClosed old.tree → (old.root.state ≡ Live → ⊥) → ⊥
+moved_alive b m old room move can closed shut = by_move move can
   where
     by_test : (b x y : Bool) → (if b then x else y) ≡ true → (x ≡ true) ⊎ (y ≡ true)
     by_test true x y e = inl e
@@ -380,13 +319,13 @@ moved_alive {M = M} {T = T} b m old new queue queue' out k closed shut = by_move
     below : (at : ℕ) (x y : Bool) → (if nat_eq at 0 then x else y) ≡ true → (x ≡ true) ⊎ (y ≡ true)
     below at x y e = by_test (nat_eq at 0) x y e
 
-    by_move : (move : NodeMove) → move_enabled b m old queue move ≡ true → ⊥
+    by_move : (move : NodeMove) → move_enabled b m old room move ≡ true → ⊥
     by_move (Ask n) e = elim (below n false (can_ask b old.tree (n - 1) old.root.demand.asked old.root.demand.sent) e) [
       | inl f ↦ cc
       | inr a ↦ ask_not_closed b old.tree (n - 1) old.root.demand.asked old.root.demand.sent a closed
     ]
-    by_move (Send n) e = elim (below n (has_room queue && can_go (edge_view old.root) (option_map front_of (offers b m old.tree))) (can_send b m old.tree (n - 1)) e) [
-      | inl r ↦ shut (go_live (edge_view old.root) (option_map front_of (offers b m old.tree)) (and_parts (has_room queue) _ r).1)
+    by_move (Send n) e = elim (below n (room && can_go (edge_view old.root) (option_map front_of (offers b m old.tree))) (can_send b m old.tree (n - 1)) e) [
+      | inl r ↦ shut (go_live (edge_view old.root) (option_map front_of (offers b m old.tree)) (and_parts (room) _ r).1)
       | inr s ↦ send_not_closed b m old.tree (n - 1) s closed
     ]
     by_move (Pick n input) e = pick_alive b old.tree (edge_view old.root) n input e closed shut
@@ -394,26 +333,54 @@ moved_alive {M = M} {T = T} b m old new queue queue' out k closed shut = by_move
 
 -- ---- many moves of the tree
 
-pub driven_moves : {M T : Type 0} (b : Machine M T) (m : Meaning T) (n : ℕ) (root : Edge) (old new : Node M) (queue : List (Signal T)) → IsDriven b m n old root.demand.asked root.demand.sent new → IsMovedBy b m n (record { tree = old; root = root }) queue [] (record { tree = new; root = root }) queue
-driven_moves {M = M} {T = T} b m n root old new queue d =
-    let F : Node M → Rooted M × List (Signal T) = λ t. (record { tree = t; root = root }, queue) in
-    leads_silent (Unlabelled (λ (x y : Node M). IsAdvanced b m x root.demand.asked root.demand.sent y)) (IsMovedOver b m) (λ o. o) F [] refl (λ x y l a. moved_below b m (record { tree = x; root = root }) y queue a) n old new (replicate n tt) (length-replicate n tt) d
+driven_moves : {M S T : Type 0} (b : Machine M T) (k : Sink S T) (m : Meaning T) (n : ℕ) (root : Edge) (old new : Node M) (sink : S) → IsDriven b m n old root.demand.asked root.demand.sent new → IsMovedBy b k m n (record { tree = old; root = root }) sink [] (record { tree = new; root = root }) sink
+driven_moves {M = M} {S = S} b k m n root old new sink d =
+    let F : Node M → Rooted M × S = λ t. (record { tree = t; root = root }, sink) in
+    leads_silent (Unlabelled (λ (x y : Node M). IsAdvanced b m x root.demand.asked root.demand.sent y)) (IsMovedOver b k m) (λ o. o) F [] refl (λ x y l a. moved_below b k m (record { tree = x; root = root }) y sink a) n old new (replicate n tt) (length-replicate n tt) d
 
 driven_put_out : {M T : Type 0} (b : Machine M T) (m : Meaning T) (n : ℕ) (root : Edge) (old new : Node M) → IsDriven b m n old root.demand.asked root.demand.sent new → ((s : ℕ) → IsBalanced b old s → IsBalanced b new s) → IsPutOut b m (record { tree = old; root = root }) [] (record { tree = new; root = root })
 driven_put_out {M = M} {T = T} b m zero root old new d balance = let P : Node M → Type 0 = λ t. IsPutOut b m (record { tree = old; root = root }) [] (record { tree = t; root = root }) in subst P (sym d) (put_out_none b m (record { tree = old; root = root }))
 driven_put_out b m (suc n) root old new d balance =
     put_out_chosen b m (record { tree = old; root = root }) (record { tree = new; root = root }) (chosen_run b m true (suc n) old new root.demand.asked root.demand.sent d) balance refl (driven_alike b m true (suc n) old root.demand.asked root.demand.sent new d) (λ closed _. advanced_not_closed b m old d.0 root.demand.asked root.demand.sent d.1 closed)
 
-pub pumped_driven : {M T : Type 0} (b : Machine M T) (m : Meaning T) (n : ℕ) (old : Rooted M) (tree : Node M) (queue : List (Signal T)) → IsDriven b m n old.tree old.root.demand.asked old.root.demand.sent tree → ((s : ℕ) → IsBalanced b old.tree s → IsBalanced b tree s) → IsPumped b m n old queue (record { tree = tree; root = old.root }) queue
-pumped_driven b m n old tree queue d balance = record {
+pub pumped_driven : {M S T : Type 0} (b : Machine M T) (k : Sink S T) (m : Meaning T) (n : ℕ) (old : Rooted M) (tree : Node M) (sink : S) → IsDriven b m n old.tree old.root.demand.asked old.root.demand.sent tree → ((s : ℕ) → IsBalanced b old.tree s → IsBalanced b tree s) → IsPumped b k m n old sink (record { tree = tree; root = old.root }) sink
+pumped_driven b k m n old tree sink d balance = record {
   out = [];
-  queued = sym (append-nil queue);
-  moves = driven_moves b m n old.root old.tree tree queue d;
+  queued = sym (append-nil (k.signals sink));
+  moves = driven_moves b k m n old.root old.tree tree sink d;
   stands = driven_put_out b m n old.root old.tree tree d balance;
   asked = refl;
   unclosed = λ h. h;
   alike = driven_alike b m true n old.tree old.root.demand.asked old.root.demand.sent tree d;
 }
+
+-- moves inside the tree are moves over any sink, which stays as it is
+pub worked_into : {M S T : Type 0} (b : Machine M T) (k : Sink S T) (m : Meaning T) (n : ℕ) (old new : Rooted M) (sink : S) → IsWorked b m n old new → IsPumped b k m n old sink new sink
+worked_into {M = M} {S = S} {T = T} b k m n old new sink x = record {
+  out = [];
+  queued = sym (append-nil (k.signals sink));
+  moves = leads_silent (IsMovedOver b no_room m) (IsMovedOver b k m) (λ (o : List (Signal T)). o) beside [] refl into n (old, tt) (new, tt) x.moves.labels x.moves.count x.moves.run;
+  stands = subst (λ o. IsPutOut b m old o new) (sym x.queued) x.stands;
+  asked = x.asked;
+  unclosed = x.unclosed;
+  alike = x.alike;
+}
+  where
+    beside : Rooted M × Unit {0} → Rooted M × S
+    beside y = (y.0, sink)
+
+    with_room : (part : Rooted M) (move : NodeMove) → move_enabled b m part false move ≡ true → move_enabled b m part (k.room sink) move ≡ true
+    with_room part (Ask n) can = can
+    with_room part (Send n) can = by_test (nat_eq n 0) _ _ can
+      where
+        by_test : (c x y : Bool) → (if c then false else y) ≡ true → (if c then x else y) ≡ true
+        by_test true x y e = cc
+        by_test false x y e = e
+    with_room part (Pick n input) can = can
+    with_room part (Row n) can = can
+
+    into : (y z : Rooted M × Unit {0}) (out : List (Signal T)) → IsMovedOver b no_room m y out z → IsMovedOver b k m (beside y) [] (beside z)
+    into y z out w = record { move = w.move; enabled = with_room y.0 w.move w.enabled; effect = subst (λ o. IsEffect b m w.move y.0 o z.0) (sym w.queued) w.effect; queued = sym (append-nil (k.signals sink)) }
 
 -- ---- no want of memory
 
@@ -434,24 +401,24 @@ not_refused can e enabled h is = let other : IsNotMade can NotEnabled = subst (I
 
 -- ---- where no move is enabled
 
-pub quiet_when : {M T : Type 0} (b : Machine M T) (m : Meaning T) (part : Rooted M) (queue : List (Signal T)) → send_enabled b m part queue 0 ≡ false → IsIdle b m part.tree part.root.demand.asked part.root.demand.sent → IsStill b (station_of part.tree (edge_view part.root) 0) → IsQuiet b m part queue
-quiet_when b m part queue r t still (Ask n) l = at_zero n false (can_ask b part.tree (n - 1) part.root.demand.asked part.root.demand.sent) false refl (t (n - 1) (omega (arith, l))).0
-quiet_when b m part queue r t still (Send n) l = at_zero n (has_room queue && can_go (edge_view part.root) (option_map front_of (offers b m part.tree))) (can_send b m part.tree (n - 1)) false r (t (n - 1) (omega (arith, l))).1
-quiet_when b m part queue r t still (Pick zero input) l = still.0 input l.1
-quiet_when b m part queue r t still (Pick (suc at) input) l = (t at (let small = l.0 in omega (arith, small))).2.0 input l.1
-quiet_when b m part queue r t still (Row zero) l = still.1
-quiet_when b m part queue r t still (Row (suc at)) l = (t at (omega (arith, l))).2.1
+pub quiet_when : {M T : Type 0} (b : Machine M T) (m : Meaning T) (part : Rooted M) (room : Bool) → send_enabled b m part room 0 ≡ false → IsIdle b m part.tree part.root.demand.asked part.root.demand.sent → IsStill b (station_of part.tree (edge_view part.root) 0) → IsQuiet b m part room
+quiet_when b m part room r t still (Ask n) l = at_zero n false (can_ask b part.tree (n - 1) part.root.demand.asked part.root.demand.sent) false refl (t (n - 1) (omega (arith, l))).0
+quiet_when b m part room r t still (Send n) l = at_zero n (room && can_go (edge_view part.root) (option_map front_of (offers b m part.tree))) (can_send b m part.tree (n - 1)) false r (t (n - 1) (omega (arith, l))).1
+quiet_when b m part room r t still (Pick zero input) l = still.0 input l.1
+quiet_when b m part room r t still (Pick (suc at) input) l = (t at (let small = l.0 in omega (arith, small))).2.0 input l.1
+quiet_when b m part room r t still (Row zero) l = still.1
+quiet_when b m part room r t still (Row (suc at)) l = (t at (omega (arith, l))).2.1
 
 -- the tree made no move, and the root can't send, pick or make a row
-pub quiet_driven : {M T : Type 0} (b : Machine M T) (m : Meaning T) (n left budget : ℕ) (part : Rooted M) (tree : Node M) (queue : List (Signal T)) → n + left ≡ budget → budget ≤ left → IsDriven b m n part.tree part.root.demand.asked part.root.demand.sent tree → send_enabled b m part queue 0 ≡ false →
-    IsIdle b m tree part.root.demand.asked part.root.demand.sent → IsStill b (station_of tree (edge_view part.root) 0) → IsQuiet b m (record { tree = tree; root = part.root }) queue
-quiet_driven {M = M} {T = T} b m zero left budget part tree queue spent all d shut idle still =
-    let S : Node M → Type 0 = λ t. send_enabled b m (record { tree = t; root = part.root }) queue 0 ≡ false in
-    quiet_when b m (record { tree = tree; root = part.root }) queue (subst S (sym d) shut) idle still
-quiet_driven b m (suc n) left budget part tree queue spent all d shut idle still = absurd (omega (arith, spent, all))
+pub quiet_driven : {M T : Type 0} (b : Machine M T) (m : Meaning T) (n left budget : ℕ) (part : Rooted M) (tree : Node M) (room : Bool) → n + left ≡ budget → budget ≤ left → IsDriven b m n part.tree part.root.demand.asked part.root.demand.sent tree → send_enabled b m part room 0 ≡ false →
+    IsIdle b m tree part.root.demand.asked part.root.demand.sent → IsStill b (station_of tree (edge_view part.root) 0) → IsQuiet b m (record { tree = tree; root = part.root }) room
+quiet_driven {M = M} {T = T} b m zero left budget part tree room spent all d shut idle still =
+    let S : Node M → Type 0 = λ t. send_enabled b m (record { tree = t; root = part.root }) room 0 ≡ false in
+    quiet_when b m (record { tree = tree; root = part.root }) room (subst S (sym d) shut) idle still
+quiet_driven b m (suc n) left budget part tree room spent all d shut idle still = absurd (omega (arith, spent, all))
 
 -- ---- how driving ends
 
-pub spent_ended : {M T : Type 0} (b : Machine M T) (E : Type 0) (m : Meaning T) (budget n : ℕ) (part : Rooted M) (queue : List (Signal T)) (p : Pumped) → n ≡ budget → IsSpent b m part queue p → HasEnded {E = E} b m budget n part queue (Ok p)
-spent_ended b E m budget n part queue (Idle left) e s = let z = s.0 in (omega (arith, e, z), s.1)
-spent_ended b E m budget n part queue Budget e s = (e, s)
+pub spent_ended : {M T : Type 0} (b : Machine M T) (E : Type 0) (m : Meaning T) (budget n : ℕ) (part : Rooted M) (room : Bool) (p : Pumped) → n ≡ budget → IsSpent b m part room p → HasEnded {E = E} b m budget n part room (Ok p)
+spent_ended b E m budget n part room (Idle left) e s = let z = s.0 in (omega (arith, e, z), s.1)
+spent_ended b E m budget n part room Budget e s = (e, s)

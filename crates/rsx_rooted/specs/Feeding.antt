@@ -1,13 +1,13 @@
--- A part whose receiver takes each signal straight from the root, with no queue between, as a hub does that the part feeds.
-use Rattle.std.specs.Prelude.{◌≡◌, ◌-◌, Bool, true, false, nat_eq, if◌then◌else◌, [], ◌∷◌, Option, Some, None, option_map}
+-- A signal that goes over the root edge into the hands of the caller, and the moves inside the tree, which are those where nothing
+-- behind the root edge has room.
+use Rattle.std.specs.Prelude.{◌≡◌, Bool, true, false, if◌then◌else◌, [], ◌∷◌, Option, Some, None, option_map}
 use Rattle.rsx_sources.specs.Prelude.{Meaning, Signal, front_of}
 use Rattle.rsx_sources.specs.declared.machine.Machine.{Ghosts as Machine}
 use Rattle.rsx_tree.specs.Prelude.{EdgeView, can_pass, edge_view, passed, popped}
 use Rattle.rsx_tree.specs.declared.look.NodeMove.{NodeMove}
-use Rattle.rsx_tree.specs.declared.look.NodeMove.TheVariants.{Ask, Send, Pick, Row}
-use Rattle.rsx_tree.specs.declared.edge.EdgeState.TheVariants.{Closed}
-use Rattle.rsx_rooted.specs.Rooted.{IsEffect, IsNumbered, IsPutOut, IsSend, ask_enabled, pick_enabled, row_enabled}
-use Rattle.rsx_rooted.specs.Tree.{IsAlike, can_go, can_send, offers}
+use Rattle.rsx_tree.specs.declared.look.NodeMove.TheVariants.{Send}
+use Rattle.rsx_rooted.specs.Rooted.{IsMade, IsQuiet, move_enabled}
+use Rattle.rsx_rooted.specs.Tree.{can_go, offers}
 use Rattle.rsx_rooted.specs.declared.rooted.Rooted.{Rooted}
 
 -- ---- over the root edge
@@ -28,35 +28,20 @@ goes_out b m part = can_go (edge_view part.root) (option_map front_of (offers b 
 -- that signal went over the root edge, into the hands of the caller
 pub record IsSentOut {M T : Type 0} (b : Machine M T) (m : Meaning T) (old : Rooted M) (signal : Signal T) (new : Rooted M) : Type 0 where
   pub next : next_out b m old ≡ Some signal
-  pub effect : IsSend b m old 0 (signal ∷ []) new
-  pub stands : IsPutOut b m old (signal ∷ []) new
+  pub enabled : goes_out b m old ≡ true
+  pub made : IsMade b m (Send 0) old (signal ∷ []) new
   -- it was taken out of the tree, and the root edge counts it
   pub popped : popped b old.tree signal new.tree
   pub can : can_pass (edge_view old.root) (front_of signal) ≡ true
   pub root : edge_view new.root ≡ passed (edge_view old.root) (front_of signal)
-  -- what was asked over the root edge stays, and it isn't closed by that
-  pub asked : new.root.demand.asked ≡ old.root.demand.asked
-  pub unclosed : new.root.state ≡ Closed → ⊥
-  -- and so does whether a move may allocate
-  pub alike : IsAlike b old.tree new.tree
 
 -- ---- inside the tree
 
--- whether a move is enabled that isn't the Send over the root edge
 abbrev pub inside_enabled : {M T : Type 0} → Machine M T → Meaning T → Rooted M → NodeMove → Bool
-inside_enabled b m part (Ask n) = ask_enabled b part n
-inside_enabled b m part (Send n) = if nat_eq n 0 then false else can_send b m part.tree (n - 1)
-inside_enabled b m part (Pick n input) = pick_enabled b part n input
-inside_enabled b m part (Row n) = row_enabled b part n
+inside_enabled b m part move = move_enabled b m part false move
 
--- no such move is
 abbrev pub IsQuietInside : {M T : Type 0} → Machine M T → Meaning T → Rooted M → Type 0
-IsQuietInside b m part = (move : NodeMove) → IsNumbered move → inside_enabled b m part move ≡ false
+IsQuietInside b m part = IsQuiet b m part false
 
--- such a move was made: nothing went over the root edge
-pub record IsMadeInside {M T : Type 0} (b : Machine M T) (m : Meaning T) (move : NodeMove) (old new : Rooted M) : Type 0 where
-  pub effect : IsEffect b m move old [] new
-  pub stands : IsPutOut b m old [] new
-  pub root : new.root ≡ old.root
-  -- whether a move may allocate stays
-  pub alike : IsAlike b old.tree new.tree
+abbrev pub IsMadeInside : {M T : Type 0} → Machine M T → Meaning T → NodeMove → Rooted M → Rooted M → Type 0
+IsMadeInside b m move old new = IsMade b m move old [] new

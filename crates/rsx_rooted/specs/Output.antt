@@ -1,6 +1,6 @@
 -- What a part has put out: lists of signals; and what was published to it, which is what the hubs took in.
-use Rattle.std.specs.Prelude.{◌≡◌, ℕ, zero, suc, List, [], ◌∷◌, ◌++◌, length, map, Option, Some, slice_get}
-use Rattle.rsx_sources.specs.Prelude.{Stream, items_then, Ending, Open, Done, Failed, Signal, Next, Complete, Error}
+use Rattle.std.specs.Prelude.{◌≡◌, ℕ, zero, suc, Bool, nat_lt, List, [], ◌∷◌, ◌++◌, length, map, Option, Some, slice_get}
+use Rattle.rsx_sources.specs.Prelude.{CAPACITY, Stream, items_then, Ending, Open, Done, Failed, Signal, Next, Complete, Error}
 use Rattle.rsx_tree.specs.Reads.{count_before}
 
 -- the items among the signals
@@ -9,6 +9,10 @@ items_in [] = []
 items_in (Next x ∷ ss) = x ∷ items_in ss
 items_in (Complete ∷ ss) = items_in ss
 items_in (Error c ∷ ss) = items_in ss
+
+-- a queue has room for a signal
+abbrev pub has_room : {A : Type 0} → List A → Bool
+has_room queue = nat_lt (length queue) CAPACITY
 
 -- no ending among them
 abbrev pub IsUnended : {T : Type 0} → List (Signal T) → Type 0

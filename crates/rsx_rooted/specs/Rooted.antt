@@ -1,18 +1,19 @@
 -- A part: a tree with the edge from its root. What it stands for, which of its moves are enabled, and what they change.
-use Rattle.std.specs.Prelude.{◌≡◌, ℕ, ◌+◌, ◌-◌, ◌<◌, ◌≤◌, ◌^◌, Bool, true, false, ◌&&◌, nat_lt, nat_eq, if◌then◌else◌, List, [], ◌∷◌, ◌++◌, length, map, Option, Some, option_map, Result, Ok, Err}
+use Rattle.std.specs.Prelude.{◌≡◌, ℕ, ◌+◌, ◌-◌, ◌<◌, ◌≤◌, ◌^◌, Bool, true, false, ◌&&◌, nat_eq, if◌then◌else◌, List, [], ◌∷◌, ◌++◌, length, map, Option, Some, option_map, Result, Ok, Err}
 use Rattle.rsx_model.specs.Eval.{environment, eval}
 use Rattle.rsx_model.specs.declared.expr.Expr.{Expr}
-use Rattle.rsx_sources.specs.Prelude.{Meaning, Allocates, notes_then, unchosen, Stream, signals_then, CAPACITY, Note, Signal, front_of}
+use Rattle.rsx_sources.specs.Prelude.{Meaning, Allocates, notes_then, unchosen, Stream, signals_then, Note, Signal, front_of}
 use Rattle.rsx_sources.specs.declared.machine.Front.{Front}
 use Rattle.rsx_tree.specs.declared.look.NodeMove.{NodeMove}
 use Rattle.rsx_tree.specs.declared.look.NodeMove.TheVariants.{Ask, Send, Pick, Row}
-use Rattle.rsx_tree.specs.Prelude.{edge_view, EdgeView, can_pass, IsPassed, passed, changed_at, asked_up_to, IsTreeBehind, IsTreeReadAt}
+use Rattle.rsx_tree.specs.Prelude.{edge_view, EdgeView, passed, changed_at, asked_up_to, IsTreeBehind, IsTreeReadAt}
 use Rattle.rsx_sources.specs.declared.machine.Machine.{Ghosts as Machine}
 use Rattle.rsx_tree.specs.Runs.{Gives}
-use Rattle.rsx_rooted.specs.Output.{counts_in, items_in, IsUnended, IsOrderly, values_then}
+use Rattle.rsx_rooted.specs.Output.{counts_in, has_room, items_in, IsUnended, IsOrderly, values_then}
 use Rattle.rsx_rooted.specs.Tree.{comes_out, notes, offers, can_ask, can_send, can_go, IsAllClosed, IsLetGo, edges, edges_after, want_at, front_at, ended_at, pop_allocates, send_allocates, step_allocates, tree_allocates, IsAlike, IsBalanced, can_pick, can_row, IsPickedAt, IsRowAt, IsSentAt}
 use Rattle.rsx_tree.specs.declared.edge.EdgeState.TheVariants.{Live, Closed, Ended}
 use Rattle.rsx_rooted.specs.declared.rooted.Rooted.{Rooted}
+use Rattle.rsx_rooted.specs.declared.sink.Sink.{Ghosts as Sink}
 use Rattle.rsx_rooted.specs.declared.rooted.Pumped.{Pumped}
 use Rattle.rsx_rooted.specs.declared.rooted.Pumped.TheVariants.{Idle, Budget}
 
@@ -43,24 +44,29 @@ pub record Stands {M T : Type 0} (b : Machine M T) (m : Meaning T) (published : 
   -- all below a closed root edge is closed
   pub closed : part.root.state ≡ Closed → IsAllClosed part.tree
 
+-- ---- what takes the signals that go over the root edge
+
+-- a queue, and what never has room
+abbrev pub queue_sink : {T : Type 0} → Sink (List (Signal T)) T
+queue_sink = record { room = has_room; signals = λ q. q }
+
+abbrev pub no_room : {T : Type 0} → Sink (Unit {0}) T
+no_room = record { room = λ s. false; signals = λ s. [] }
+
 -- ---- edges and enabled moves
 
 -- all edges, the root edge first, and then in pre-order
 abbrev pub all_edges : {M : Type 0} → Rooted M → List EdgeView
 all_edges part = edge_view part.root ∷ edges part.tree
 
--- a queue has room for a signal
-abbrev pub has_room : {A : Type 0} → List A → Bool
-has_room queue = nat_lt (length queue) CAPACITY
-
 -- Ask: the root edge rises by requests alone
 abbrev pub ask_enabled : {M T : Type 0} → Machine M T → Rooted M → ℕ → Bool
 ask_enabled b part at = if nat_eq at 0 then false else can_ask b part.tree (at - 1) part.root.demand.asked part.root.demand.sent
 
--- Send: over the root edge into the queue behind it, or over an edge of the tree
-abbrev pub send_enabled : {M T : Type 0} → Machine M T → Meaning T → Rooted M → List (Signal T) → ℕ → Bool
-send_enabled b m part queue at =
-    if nat_eq at 0 then has_room queue && can_go (edge_view part.root) (option_map front_of (offers b m part.tree))
+-- Send: over the root edge, where there is room behind it, or over an edge of the tree
+abbrev pub send_enabled : {M T : Type 0} → Machine M T → Meaning T → Rooted M → Bool → ℕ → Bool
+send_enabled b m part room at =
+    if nat_eq at 0 then room && can_go (edge_view part.root) (option_map front_of (offers b m part.tree))
     else can_send b m part.tree (at - 1)
 
 -- Pick and Row: of the root, whose edge is the root edge, or of a node below it
@@ -70,11 +76,11 @@ pick_enabled b part at input = can_pick b part.tree (edge_view part.root) at inp
 abbrev pub row_enabled : {M T : Type 0} → Machine M T → Rooted M → ℕ → Bool
 row_enabled b part at = can_row b part.tree (edge_view part.root) at
 
-abbrev pub move_enabled : {M T : Type 0} → Machine M T → Meaning T → Rooted M → List (Signal T) → NodeMove → Bool
-move_enabled b m part queue (Ask n) = ask_enabled b part n
-move_enabled b m part queue (Send n) = send_enabled b m part queue n
-move_enabled b m part queue (Pick n input) = pick_enabled b part n input
-move_enabled b m part queue (Row n) = row_enabled b part n
+abbrev pub move_enabled : {M T : Type 0} → Machine M T → Meaning T → Rooted M → Bool → NodeMove → Bool
+move_enabled b m part room (Ask n) = ask_enabled b part n
+move_enabled b m part room (Send n) = send_enabled b m part room n
+move_enabled b m part room (Pick n input) = pick_enabled b part n input
+move_enabled b m part room (Row n) = row_enabled b part n
 
 -- whether a move may allocate, where these of the caller's functions may
 abbrev pub make_allocates : {M T : Type 0} → Machine M T → Allocates → Rooted M → NodeMove → Bool
@@ -162,49 +168,42 @@ abbrev pub IsPutOut : {M T : Type 0} → Machine M T → Meaning T → Rooted M 
 IsPutOut {T = T} b m old out new =
     (published : List (Stream T)) (e : Expr T) (joins : List ℕ) (output : List (Signal T)) → Stands b m published old e joins output → Stands b m published new e joins (output ++ out)
 
--- an enabled move was made, and had its effect; what went over the root edge is behind what the queue held
-pub record IsMoved {M T : Type 0} (b : Machine M T) (m : Meaning T) (old : Rooted M) (queue : List (Signal T)) (out : List (Signal T)) (new : Rooted M) (queue' : List (Signal T)) : Type 0 where
-  pub move : NodeMove
-  pub enabled : move_enabled b m old queue move ≡ true
+-- a move was made: these signals went over the root edge by it
+pub record IsMade {M T : Type 0} (b : Machine M T) (m : Meaning T) (move : NodeMove) (old : Rooted M) (out : List (Signal T)) (new : Rooted M) : Type 0 where
   pub effect : IsEffect b m move old out new
-  pub queued : queue' ≡ queue ++ out
-
--- the same, where a state is the part and the queue
-abbrev pub IsMovedOver : {M T : Type 0} → Machine M T → Meaning T → Rooted M × List (Signal T) → List (Signal T) → Rooted M × List (Signal T) → Type 0
-IsMovedOver b m x out y = IsMoved b m x.0 x.1 out y.0 y.1
-
--- the root's signal went over the root edge, to the back of the queue
-pub record IsRootSent {M T : Type 0} (b : Machine M T) (m : Meaning T) (old : Rooted M) (queue : List (Signal T)) (new : Rooted M) (queue' : List (Signal T)) : Type 0 where
-  pub signal : Signal T
-  pub front : Front
-  pub offered : option_map front_of (offers b m old.tree) ≡ Some front
-  pub gone : IsLetGo b m old.tree signal new.tree
-  pub room : has_room queue ≡ true
-  pub can : can_pass (edge_view old.root) front ≡ true
-  pub passed : IsPassed front (edge_view old.root) (edge_view new.root)
-  pub queued : queue' ≡ queue ++ signal ∷ []
-
--- what a call that made a move promises
-pub record IsMade {M T : Type 0} (b : Machine M T) (m : Meaning T) (move : NodeMove) (old : Rooted M) (queue : List (Signal T)) (new : Rooted M) (queue' : List (Signal T)) : Type 0 where
-  pub out : List (Signal T)
-  pub effect : IsEffect b m move old out new
-  pub queued : queue' ≡ queue ++ out
   pub stands : IsPutOut b m old out new
+  -- where nothing went over the root edge, that edge stays
+  pub inside : out ≡ [] → new.root ≡ old.root
   -- what was asked over the root edge stays, and it isn't closed by a move
   pub asked : new.root.demand.asked ≡ old.root.demand.asked
   pub unclosed : (old.root.state ≡ Closed → ⊥) → new.root.state ≡ Closed → ⊥
   -- and so does whether a move may allocate
   pub alike : IsAlike b old.tree new.tree
 
+-- what went by it over the root edge is behind what the sink held
+abbrev pub IsMadeInto : {M S T : Type 0} → Machine M T → Sink S T → Meaning T → NodeMove → Rooted M → S → Rooted M → S → Type 0
+IsMadeInto {T = T} b k m move old sink new sink' = (out : List (Signal T)) × IsMade b m move old out new × (k.signals sink' ≡ k.signals sink ++ out)
+
+-- an enabled move was made, and had its effect
+pub record IsMoved {M S T : Type 0} (b : Machine M T) (k : Sink S T) (m : Meaning T) (old : Rooted M) (sink : S) (out : List (Signal T)) (new : Rooted M) (sink' : S) : Type 0 where
+  pub move : NodeMove
+  pub enabled : move_enabled b m old (k.room sink) move ≡ true
+  pub effect : IsEffect b m move old out new
+  pub queued : k.signals sink' ≡ k.signals sink ++ out
+
+-- the same, where a state is the part and the sink
+abbrev pub IsMovedOver : {M S T : Type 0} → Machine M T → Sink S T → Meaning T → Rooted M × S → List (Signal T) → Rooted M × S → Type 0
+IsMovedOver b k m x out y = IsMoved b k m x.0 x.1 out y.0 y.1
+
 -- so many enabled moves were made one after the other, and all that went over the root edge is `out`
-abbrev pub IsMovedBy : {M T : Type 0} → Machine M T → Meaning T → ℕ → Rooted M → List (Signal T) → List (Signal T) → Rooted M → List (Signal T) → Type 0
-IsMovedBy {T = T} b m n old queue out new queue' = Gives (IsMovedOver b m) (λ (o : List (Signal T)). o) n (old, queue) out (new, queue')
+abbrev pub IsMovedBy : {M S T : Type 0} → Machine M T → Sink S T → Meaning T → ℕ → Rooted M → S → List (Signal T) → Rooted M → S → Type 0
+IsMovedBy {T = T} b k m n old sink out new sink' = Gives (IsMovedOver b k m) (λ (o : List (Signal T)). o) n (old, sink) out (new, sink')
 
 -- so many moves were made, these signals went over the root edge, and the part stands for what it stood for
-pub record IsPumped {M T : Type 0} (b : Machine M T) (m : Meaning T) (count : ℕ) (old : Rooted M) (queue : List (Signal T)) (new : Rooted M) (queue' : List (Signal T)) : Type 0 where
+pub record IsPumped {M S T : Type 0} (b : Machine M T) (k : Sink S T) (m : Meaning T) (count : ℕ) (old : Rooted M) (sink : S) (new : Rooted M) (sink' : S) : Type 0 where
   pub out : List (Signal T)
-  pub queued : queue' ≡ queue ++ out
-  pub moves : IsMovedBy b m count old queue out new queue'
+  pub queued : k.signals sink' ≡ k.signals sink ++ out
+  pub moves : IsMovedBy b k m count old sink out new sink'
   pub stands : IsPutOut b m old out new
   -- what was asked, and that its root edge is open, stays
   pub asked : new.root.demand.asked ≡ old.root.demand.asked
@@ -212,25 +211,25 @@ pub record IsPumped {M T : Type 0} (b : Machine M T) (m : Meaning T) (count : �
   -- and so does whether a move may allocate
   pub alike : IsAlike b old.tree new.tree
 
--- no move of a part that has its numbers is enabled
-abbrev pub IsQuiet : {M T : Type 0} → Machine M T → Meaning T → Rooted M → List (Signal T) → Type 0
-IsQuiet b m part queue = (move : NodeMove) → IsNumbered move → move_enabled b m part queue move ≡ false
+-- no move of a part that has its numbers is enabled, where there is room behind its root edge or not
+abbrev pub IsQuiet : {M T : Type 0} → Machine M T → Meaning T → Rooted M → Bool → Type 0
+IsQuiet b m part room = (move : NodeMove) → IsNumbered move → move_enabled b m part room move ≡ false
 
 -- some move of a part that has its numbers is enabled
-abbrev pub IsAwake : {M T : Type 0} → Machine M T → Meaning T → Rooted M → List (Signal T) → Type 0
-IsAwake b m part queue = (move : NodeMove) × IsNumbered move × (move_enabled b m part queue move ≡ true)
+abbrev pub IsAwake : {M T : Type 0} → Machine M T → Meaning T → Rooted M → Bool → Type 0
+IsAwake b m part room = (move : NodeMove) × IsNumbered move × (move_enabled b m part room move ≡ true)
 
 -- how driving a part ends after so many moves: Idle, with what is left of the budget, where no move is enabled; Budget where
 -- one is and the whole budget was spent
-abbrev pub HasEnded : {M T E : Type 0} → Machine M T → Meaning T → ℕ → ℕ → Rooted M → List (Signal T) → Result Pumped E → Type 0
-HasEnded b m budget n part queue (Ok (Idle left)) = (n + left ≡ budget) × IsQuiet b m part queue
-HasEnded b m budget n part queue (Ok Budget) = (n ≡ budget) × IsAwake b m part queue
-HasEnded b m budget n part queue (Err e) = n ≤ budget
+abbrev pub HasEnded : {M T E : Type 0} → Machine M T → Meaning T → ℕ → ℕ → Rooted M → Bool → Result Pumped E → Type 0
+HasEnded b m budget n part room (Ok (Idle left)) = (n + left ≡ budget) × IsQuiet b m part room
+HasEnded b m budget n part room (Ok Budget) = (n ≡ budget) × IsAwake b m part room
+HasEnded b m budget n part room (Err e) = n ≤ budget
 
 -- how it ends where the whole budget was spent
-abbrev pub IsSpent : {M T : Type 0} → Machine M T → Meaning T → Rooted M → List (Signal T) → Pumped → Type 0
-IsSpent b m part queue (Idle left) = (left ≡ 0) × IsQuiet b m part queue
-IsSpent b m part queue Budget = IsAwake b m part queue
+abbrev pub IsSpent : {M T : Type 0} → Machine M T → Meaning T → Rooted M → Bool → Pumped → Type 0
+IsSpent b m part room (Idle left) = (left ≡ 0) × IsQuiet b m part room
+IsSpent b m part room Budget = IsAwake b m part room
 
 -- ---- what is still owed
 

@@ -2,7 +2,7 @@
 
 ghost use Rattle.std.specs.Prelude.{◌≡◌, IfSome, true};
 
-use rsx_prefetch::{CAPACITY, SignalQueue};
+use crate::sink::Sink;
 use rsx_sources::{Front, Machine, NotMade};
 use rsx_tree::{Edge, Node, NodeMove};
 use rsx_types::{NoMemory, Ops, Signal};
@@ -19,7 +19,8 @@ pub enum Pumped {
 
 /// One tree of nodes with its edges: the edge from its root, and those below it.
 ///
-/// What the root sends goes into a queue that each call is handed: that of a subscription's root edge. All that went over
+/// What the root sends goes into a [`Sink`] that each call is handed: the queue of a subscription's root edge, or [`crate::NoRoom`],
+/// over which only the moves inside the tree are made. All that went over
 /// the root edge, followed by what still comes out of the tree, is the expression that the tree was made for. The nodes
 /// are numbered in pre-order from 0, and an edge has the number of the node that sends over it.
 #[derive(Drop)]
@@ -31,7 +32,7 @@ pub struct Rooted<M> {
 }
 
 impl<M: Machine> Rooted<M> {
-    ghost use Rattle.std.specs.Prelude.{◌≡◌, ◌<◌, ◌+◌, ℕ, List, [], Option, Some, None, true, false, OnOk, OnErr, IfOk, IfErr, IsOk, IfSome, IfNone};
+    ghost use Rattle.std.specs.Prelude.{◌≡◌, ◌<◌, ◌-◌, ℕ, [], None, true, false, OnOk, OnErr, IfOk, IfErr, IsOk, IfSome, IfNone};
     ghost use Rattle.rsx_types.specs.Meaning.{Meaning};
     ghost use Rattle.rsx_types.specs.declared.signal.Signal.{Signal};
     ghost use Rattle.rsx_sources.specs.Steps.{IsNotMade};
@@ -40,13 +41,13 @@ impl<M: Machine> Rooted<M> {
     ghost use Rattle.rsx_tree.specs.Driven.{Spent};
     ghost use Rattle.rsx_tree.specs.Refusals.{IsNotEnabled, OnlyNotEnabled};
     ghost use Rattle.rsx_rooted.specs.Tree.{can_send, pop_allocates, send_allocates, step_allocates, IsAlike, IsStill};
-    ghost use Rattle.rsx_rooted.specs.Fetched.{IsFetched};
-    ghost use Rattle.rsx_rooted.specs.Rooted.{pump_allocates, IsPutOut, IsMade, IsPumped, IsQuiet, IsAwake, IsSpent, IsRootSent, HasEnded, make_allocates, move_enabled, ask_enabled, send_enabled, IsAsk, IsSend, pick_enabled, row_enabled, IsPick, IsRow, IsNumbered};
+    ghost use Rattle.rsx_rooted.specs.Fetched.{IsFetched, IsWorked};
+    ghost use Rattle.rsx_rooted.specs.Rooted.{pump_allocates, IsMade, IsMadeInto, IsPumped, IsQuiet, IsAwake, IsSpent, HasEnded, make_allocates, move_enabled, ask_enabled, send_enabled, pick_enabled, row_enabled, IsNumbered};
 
-    /// Whether a move is enabled, where the root's signals go into the queue `out`. The root's Ask never is: what is asked of
+    /// Whether a move is enabled, where the root's signals go into `out`. The root's Ask never is: what is asked of
     /// the root rises by requests.
-    pub fn enabled(&self, step: NodeMove, out: &SignalQueue<M::Item>) -> bool
-        ensures { (m : Meaning M.Item) → result ≡ move_enabled M.Machine m self.now out.now step }
+    pub fn enabled<S: Sink<M::Item>>(&self, step: NodeMove, out: &S) -> bool
+        ensures { (m : Meaning M.Item) → result ≡ move_enabled M.Machine m self.now (S.Sink.room out.now) step }
     {
         match step {
             NodeMove::Ask(node) => self.can_ask(node),
@@ -68,8 +69,8 @@ impl<M: Machine> Rooted<M> {
     }
 
     /// Whether the Send of the node `at` is enabled.
-    fn can_send(&self, at: u32, out: &SignalQueue<M::Item>) -> bool
-        ensures { (m : Meaning M.Item) → result ≡ send_enabled M.Machine m self.now out.now at }
+    fn can_send<S: Sink<M::Item>>(&self, at: u32, out: &S) -> bool
+        ensures { (m : Meaning M.Item) → result ≡ send_enabled M.Machine m self.now (S.Sink.room out.now) at }
     {
         if at == 0 {
             return self.can_send_root(out);
@@ -78,10 +79,10 @@ impl<M: Machine> Rooted<M> {
     }
 
     /// Whether the Send of the root is enabled.
-    fn can_send_root(&self, out: &SignalQueue<M::Item>) -> bool
-        ensures { (m : Meaning M.Item) → result ≡ send_enabled M.Machine m self.now out.now 0 }
+    fn can_send_root<S: Sink<M::Item>>(&self, out: &S) -> bool
+        ensures { (m : Meaning M.Item) → result ≡ send_enabled M.Machine m self.now (S.Sink.room out.now) 0 }
     {
-        if out.len() >= CAPACITY {
+        if !out.has_room() {
             return false;
         }
         match self.tree.front() {
@@ -91,9 +92,9 @@ impl<M: Machine> Rooted<M> {
     }
 
     /// The first enabled move, from the root down. None where no move is enabled.
-    pub fn first_enabled(&self, out: &SignalQueue<M::Item>) -> Option<NodeMove>
-        ensures some { (m : Meaning M.Item) → IfSome result (λ step. IsNumbered step × (move_enabled M.Machine m self.now out.now step ≡ true)) }
-        ensures none { (m : Meaning M.Item) → IfNone result (IsQuiet M.Machine m self.now out.now) }
+    pub fn first_enabled<S: Sink<M::Item>>(&self, out: &S) -> Option<NodeMove>
+        ensures some { (m : Meaning M.Item) → IfSome result (λ step. IsNumbered step × (move_enabled M.Machine m self.now (S.Sink.room out.now) step ≡ true)) }
+        ensures none { (m : Meaning M.Item) → IfNone result (IsQuiet M.Machine m self.now (S.Sink.room out.now)) }
     {
         if self.can_send_root(out) {
             return Some(NodeMove::Send(0));
@@ -106,22 +107,23 @@ impl<M: Machine> Rooted<M> {
             .first_enabled(1, self.root.demand.asked, self.root.demand.sent)
     }
 
-    /// Makes a move; what goes over the root edge goes into the queue `out`.
+    /// Makes a move; what goes over the root edge goes into `out`.
     ///
     /// # Errors
-    /// [`NotMade::NotEnabled`] exactly where the move isn't enabled, and [`NotMade::NoMemory`] where a growth was refused: an
-    /// Ask doesn't allocate, and a Send only to a `buffer` or a `distinct`, or where a function of the caller's that it calls
-    /// may, and a pick or a row only where a step of its node may. Then nothing changed.
-    pub fn make<O: Ops<Item = M::Item>>(
+    /// [`NotMade::NotEnabled`] exactly where the move isn't enabled, and [`NotMade::NoMemory`] where a growth was refused. Then
+    /// nothing changed. An Ask doesn't allocate. A Send may where the node that takes the signal in is a `buffer`, `distinct`,
+    /// `window`, `groupBy` or `flatMap`; a pick or a row where its node is a `merge`, `combineLatest`, `groupBy` or `flatMap`; and
+    /// each where a node calls a function of the caller's that may.
+    pub fn make<O: Ops<Item = M::Item>, S: Sink<M::Item>>(
         &mut self,
         alloc: Global,
         ops: &O,
         step: NodeMove,
-        out: &mut SignalQueue<M::Item>,
+        out: &mut S,
     ) -> Result<(), NotMade>
-        ensures made { OnOk result (IsMade M.Machine (O.meaning ops.now) step self.old out.old self.new out.new) }
-        ensures enabled { OnOk result (move_enabled M.Machine (O.meaning ops.now) self.old out.old step ≡ true) }
-        ensures err { IfErr result (IsNotMade (move_enabled M.Machine (O.meaning ops.now) self.old out.old step)) }
+        ensures made { OnOk result (IsMadeInto M.Machine S.Sink (O.meaning ops.now) step self.old out.old self.new out.new) }
+        ensures enabled { OnOk result (move_enabled M.Machine (O.meaning ops.now) self.old (S.Sink.room out.old) step ≡ true) }
+        ensures err { IfErr result (IsNotMade (move_enabled M.Machine (O.meaning ops.now) self.old (S.Sink.room out.old) step)) }
         ensures memory { make_allocates M.Machine (O.allocates ops.now) self.old step ≡ false → OnlyNotEnabled result }
         ensures same { OnErr result ((self.new ≡ self.old) × (out.new ≡ out.old)) }
     {
@@ -132,7 +134,7 @@ impl<M: Machine> Rooted<M> {
             },
             NodeMove::Send(node) => {
                 if node > 0 {
-                    return match self.send_below(alloc, ops, node - 1) {
+                    return match self.send_below(alloc, ops, node) {
                         Ok(()) => Ok(()),
                         Err(why) => Err(why),
                     };
@@ -155,10 +157,7 @@ impl<M: Machine> Rooted<M> {
 
     /// Makes the Ask of the node `at`.
     fn ask(&mut self, at: u32) -> Result<(), NotMade>
-        ensures stands { (m : Meaning M.Item) → OnOk result (IsPutOut M.Machine m self.old [] self.new) }
-        ensures alike { IsAlike M.Machine self.old.tree self.new.tree }
-        ensures effect { OnOk result (IsAsk M.Machine self.old at self.new) }
-        ensures root { self.new.root ≡ self.old.root }
+        ensures made { (m : Meaning M.Item) → OnOk result (IsMade M.Machine m (NodeMove.Ask at) self.old [] self.new) }
         ensures enabled { OnOk result (ask_enabled M.Machine self.old at ≡ true) }
         ensures err { IfErr result (IsNotEnabled (ask_enabled M.Machine self.old at)) }
         ensures same { OnErr result (self.new ≡ self.old) }
@@ -175,23 +174,21 @@ impl<M: Machine> Rooted<M> {
         }
     }
 
-    /// Makes the Send over the edge `at` below the root.
+    /// Makes the Send of the node `at` below the root.
     fn send_below<O: Ops<Item = M::Item>>(
         &mut self,
         alloc: Global,
         ops: &O,
         at: u32,
     ) -> Result<(), NotMade>
-        ensures stands { OnOk result (IsPutOut M.Machine (O.meaning ops.now) self.old [] self.new) }
-        ensures effect { OnOk result (IsSend M.Machine (O.meaning ops.now) self.old (at + 1) [] self.new) }
-        ensures alike { IsAlike M.Machine self.old.tree self.new.tree }
-        ensures root { self.new.root ≡ self.old.root }
-        ensures enabled { OnOk result (can_send M.Machine (O.meaning ops.now) self.old.tree at ≡ true) }
-        ensures err { IfErr result (IsNotMade (can_send M.Machine (O.meaning ops.now) self.old.tree at)) }
-        ensures memory { send_allocates M.Machine (O.allocates ops.now) self.old.tree at ≡ false → OnlyNotEnabled result }
+        requires { 0 < at }
+        ensures made { OnOk result (IsMade M.Machine (O.meaning ops.now) (NodeMove.Send at) self.old [] self.new) }
+        ensures enabled { OnOk result (can_send M.Machine (O.meaning ops.now) self.old.tree (at - 1) ≡ true) }
+        ensures err { IfErr result (IsNotMade (can_send M.Machine (O.meaning ops.now) self.old.tree (at - 1))) }
+        ensures memory { send_allocates M.Machine (O.allocates ops.now) self.old.tree (at - 1) ≡ false → OnlyNotEnabled result }
         ensures same { OnErr result (self.new ≡ self.old) }
     {
-        match self.tree.send(alloc, ops, at) {
+        match self.tree.send(alloc, ops, at - 1) {
             Ok(()) => Ok(()),
             Err(why) => Err(why),
         }
@@ -205,10 +202,8 @@ impl<M: Machine> Rooted<M> {
         at: u32,
         input: u64,
     ) -> Result<(), NotMade>
-        ensures stands { OnOk result (IsPutOut M.Machine (O.meaning ops.now) self.old [] self.new) }
-        ensures effect { OnOk result (IsPick M.Machine self.old at input self.new) }
+        ensures made { OnOk result (IsMade M.Machine (O.meaning ops.now) (NodeMove.Pick at input) self.old [] self.new) }
         ensures enabled { OnOk result (pick_enabled M.Machine self.old at input ≡ true) }
-        ensures alike { IsAlike M.Machine self.old.tree self.new.tree }
         ensures err { IfErr result (IsNotMade (pick_enabled M.Machine self.old at input)) }
         ensures memory { step_allocates M.Machine (O.allocates ops.now) self.old.tree (edge_view self.old.root) at ≡ false → OnlyNotEnabled result }
         ensures same { OnErr result (self.new ≡ self.old) }
@@ -226,10 +221,8 @@ impl<M: Machine> Rooted<M> {
         ops: &O,
         at: u32,
     ) -> Result<(), NotMade>
-        ensures stands { OnOk result (IsPutOut M.Machine (O.meaning ops.now) self.old [] self.new) }
-        ensures effect { OnOk result (IsRow M.Machine self.old at self.new) }
+        ensures made { OnOk result (IsMade M.Machine (O.meaning ops.now) (NodeMove.Row at) self.old [] self.new) }
         ensures enabled { OnOk result (row_enabled M.Machine self.old at ≡ true) }
-        ensures alike { IsAlike M.Machine self.old.tree self.new.tree }
         ensures err { IfErr result (IsNotMade (row_enabled M.Machine self.old at)) }
         ensures memory { step_allocates M.Machine (O.allocates ops.now) self.old.tree (edge_view self.old.root) at ≡ false → OnlyNotEnabled result }
         ensures same { OnErr result (self.new ≡ self.old) }
@@ -240,32 +233,29 @@ impl<M: Machine> Rooted<M> {
         }
     }
 
-    /// Makes the Send over the root edge: moves the root's signal into the queue.
-    fn send_root<O: Ops<Item = M::Item>>(
+    /// Makes the Send over the root edge: moves the root's signal into `out`.
+    fn send_root<O: Ops<Item = M::Item>, S: Sink<M::Item>>(
         &mut self,
         alloc: Global,
         ops: &O,
-        out: &mut SignalQueue<M::Item>,
+        out: &mut S,
     ) -> Result<(), NotMade>
-        ensures sent { OnOk result (IsRootSent M.Machine (O.meaning ops.now) self.old out.old self.new out.new) }
-        ensures err { IfErr result (IsNotMade (send_enabled M.Machine (O.meaning ops.now) self.old out.old 0)) }
+        ensures made { OnOk result (IsMadeInto M.Machine S.Sink (O.meaning ops.now) (NodeMove.Send 0) self.old out.old self.new out.new) }
+        ensures enabled { OnOk result (send_enabled M.Machine (O.meaning ops.now) self.old (S.Sink.room out.old) 0 ≡ true) }
+        ensures err { IfErr result (IsNotMade (send_enabled M.Machine (O.meaning ops.now) self.old (S.Sink.room out.old) 0)) }
         ensures memory { pop_allocates M.Machine (O.allocates ops.now) self.old.tree ≡ false → OnlyNotEnabled result }
         ensures same { OnErr result ((self.new ≡ self.old) × (out.new ≡ out.old)) }
     {
-        let Some(front) = self.tree.front() else {
-            return Err(NotMade::NotEnabled);
-        };
-        if out.len() >= CAPACITY || !self.root.can_carry(front) {
+        if !out.has_room() {
             return Err(NotMade::NotEnabled);
         }
-        let signal = match self.tree.pop(alloc, ops) {
-            Ok(Some(signal)) => signal,
-            Ok(None) => return Err(NotMade::NotEnabled),
-            Err(NoMemory) => return Err(NotMade::NoMemory),
-        };
-        out.push(signal);
-        self.root.carry(front);
-        Ok(())
+        match self.send_out(alloc, ops) {
+            Ok(signal) => {
+                out.put(signal);
+                Ok(())
+            }
+            Err(why) => Err(why),
+        }
     }
 
     /// Makes enabled moves of the tree, picks and rows of its root among them, until its root offers an item, sends that over the
@@ -324,7 +314,7 @@ impl<M: Machine> Rooted<M> {
     /// Makes a pick or a row of the root, where one is enabled, and answers whether it did.
     #[inline]
     fn step<O: Ops<Item = M::Item>>(&mut self, alloc: Global, ops: &O) -> Result<bool, NoMemory>
-        ensures made { IfOk result (λ b. b ≡ true → (queue : List (Signal M.Item)) → IsPumped M.Machine (O.meaning ops.now) 1 self.old queue self.new queue) }
+        ensures made { IfOk result (λ b. b ≡ true → IsWorked M.Machine (O.meaning ops.now) 1 self.old self.new) }
         ensures none { IfOk result (λ b. b ≡ false → self.new ≡ self.old) }
         ensures same { OnErr result (self.new ≡ self.old) }
     {
@@ -370,22 +360,22 @@ impl<M: Machine> Rooted<M> {
     }
 
     /// Makes enabled moves, in an order of its own, until none is enabled (Idle) or `budget` moves were made (Budget); where
-    /// both hold it answers Idle. What goes over the root edge goes into the queue `out`; where that is full, a Send over the
-    /// root edge isn't enabled.
+    /// both hold it answers Idle. What goes over the root edge goes into `out`; while that has no room, a Send over the root edge
+    /// isn't enabled.
     ///
     /// # Errors
     /// [`NoMemory`] where a growth was refused; the moves made before stand. It comes only where some node of the tree may
-    /// allocate: a `buffer` or a `distinct`, or a node that calls a function of the caller's whose [`Ops`] says that it may
-    /// (`allocates`).
-    pub fn pump<O: Ops<Item = M::Item>>(
+    /// allocate: a `buffer`, `distinct`, `window`, `groupBy`, `flatMap`, `merge` or `combineLatest`, or a node that calls a function
+    /// of the caller's whose [`Ops`] says that it may (`allocates`).
+    pub fn pump<O: Ops<Item = M::Item>, S: Sink<M::Item>>(
         &mut self,
         alloc: Global,
         ops: &O,
         budget: u32,
-        out: &mut SignalQueue<M::Item>,
+        out: &mut S,
     ) -> Result<Pumped, NoMemory>
-        ensures pumped { (n : ℕ) × HasEnded M.Machine (O.meaning ops.now) budget n self.new out.new result
-            × IsPumped M.Machine (O.meaning ops.now) n self.old out.old self.new out.new }
+        ensures pumped { (n : ℕ) × HasEnded M.Machine (O.meaning ops.now) budget n self.new (S.Sink.room out.new) result
+            × IsPumped M.Machine S.Sink (O.meaning ops.now) n self.old out.old self.new out.new }
 
         // Where no move may allocate, there is no want of memory.
         ensures memory { pump_allocates M.Machine (O.allocates ops.now) self.old ≡ false → IsOk result }
@@ -410,16 +400,16 @@ impl<M: Machine> Rooted<M> {
     /// Sends over the root edge, or where that isn't enabled makes the moves of the tree; where none of these is enabled
     /// either, makes a pick or a row of the root. Answers how many of the budget are left. As many as before are left only
     /// where no move is enabled.
-    fn round<O: Ops<Item = M::Item>>(
+    fn round<O: Ops<Item = M::Item>, S: Sink<M::Item>>(
         &mut self,
         alloc: Global,
         ops: &O,
         budget: u32,
-        out: &mut SignalQueue<M::Item>,
+        out: &mut S,
     ) -> Result<u32, NoMemory>
         requires { 0 < budget }
-        ensures pumped { (n : ℕ) × Spent budget n result × IsPumped M.Machine (O.meaning ops.now) n self.old out.old self.new out.new }
-        ensures idle { IfOk result (λ left. left ≡ budget → IsQuiet M.Machine (O.meaning ops.now) self.new out.new) }
+        ensures pumped { (n : ℕ) × Spent budget n result × IsPumped M.Machine S.Sink (O.meaning ops.now) n self.old out.old self.new out.new }
+        ensures idle { IfOk result (λ left. left ≡ budget → IsQuiet M.Machine (O.meaning ops.now) self.new (S.Sink.room out.new)) }
         ensures memory { pump_allocates M.Machine (O.allocates ops.now) self.old ≡ false → IsOk result }
     {
         match self.send_root(alloc, ops, out) {
@@ -448,13 +438,13 @@ impl<M: Machine> Rooted<M> {
     }
 
     /// Makes a pick or a row of the root, where one is enabled, and answers whether it did.
-    fn step_root<O: Ops<Item = M::Item>>(
+    fn step_root<O: Ops<Item = M::Item>, S: Sink<M::Item>>(
         &mut self,
         alloc: Global,
         ops: &O,
-        out: &mut SignalQueue<M::Item>,
+        out: &mut S,
     ) -> Result<bool, NoMemory>
-        ensures pumped { IfOk result (λ b. b ≡ true → IsPumped M.Machine (O.meaning ops.now) 1 self.old out.old self.new out.new) }
+        ensures pumped { IfOk result (λ b. b ≡ true → IsPumped M.Machine S.Sink (O.meaning ops.now) 1 self.old out.old self.new out.new) }
         ensures still { IfOk result (λ b. b ≡ false → IsStill M.Machine (station_of self.old.tree (edge_view self.old.root) 0)) }
         ensures none { IfOk result (λ b. b ≡ false → (self.new ≡ self.old) × (out.new ≡ out.old)) }
         ensures memory { pump_allocates M.Machine (O.allocates ops.now) self.old ≡ false → IsOk result }
@@ -470,8 +460,8 @@ impl<M: Machine> Rooted<M> {
     }
 
     /// How driving the tree ends where the budget is used up.
-    fn spent(&self, out: &SignalQueue<M::Item>) -> Pumped
-        ensures { (m : Meaning M.Item) → IsSpent M.Machine m self.now out.now result }
+    fn spent<S: Sink<M::Item>>(&self, out: &S) -> Pumped
+        ensures { (m : Meaning M.Item) → IsSpent M.Machine m self.now (S.Sink.room out.now) result }
     {
         match self.is_idle(out) {
             true => Pumped::Idle(0),
@@ -480,8 +470,8 @@ impl<M: Machine> Rooted<M> {
     }
 
     /// Whether no move is enabled, by a look that names none. Where it answers no, some move may be or not.
-    fn is_at_rest(&self, out: &SignalQueue<M::Item>) -> bool
-        ensures { (m : Meaning M.Item) → result ≡ true → IsQuiet M.Machine m self.now out.now }
+    fn is_at_rest<S: Sink<M::Item>>(&self, out: &S) -> bool
+        ensures { (m : Meaning M.Item) → result ≡ true → IsQuiet M.Machine m self.now (S.Sink.room out.now) }
     {
         if self.can_send_root(out) {
             return false;
@@ -499,9 +489,9 @@ impl<M: Machine> Rooted<M> {
     }
 
     /// Whether no move is enabled.
-    pub fn is_idle(&self, out: &SignalQueue<M::Item>) -> bool
-        ensures yes { (m : Meaning M.Item) → result ≡ true → IsQuiet M.Machine m self.now out.now }
-        ensures no { (m : Meaning M.Item) → result ≡ false → IsAwake M.Machine m self.now out.now }
+    pub fn is_idle<S: Sink<M::Item>>(&self, out: &S) -> bool
+        ensures yes { (m : Meaning M.Item) → result ≡ true → IsQuiet M.Machine m self.now (S.Sink.room out.now) }
+        ensures no { (m : Meaning M.Item) → result ≡ false → IsAwake M.Machine m self.now (S.Sink.room out.now) }
     {
         // This look is the shorter one, and finds most idle trees so.
         if self.is_at_rest(out) {

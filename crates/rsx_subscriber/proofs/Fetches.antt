@@ -4,7 +4,7 @@ use Rattle.rsx_rooted.specs.declared.nodes.Nodes.{Ghosts as Nodes}
 use Rattle.std.proofs.Common.{◌≡◌, ℕ, ◌+◌, true, List, [], ◌∷◌, ◌++◌, Some, None, refl, ap, sym, ◌∙◌, subst, arith, Result, Ok, Err}
 use Rattle.rsx_sources.specs.Prelude.{Meaning, SubId, Signal, Next}
 use Rattle.rsx_pipe.specs.Fetched.{IsFetched}
-use Rattle.rsx_pipe.specs.Part.{has_room}
+use Rattle.rsx_pipe.specs.Part.{has_room, queue_sink}
 use Rattle.rsx_pipe.specs.Part.{Part as AnyPart}
 use Rattle.rsx_rooted.specs.declared.rooted.Pumped.{Pumped as Rest}
 use Rattle.rsx_rooted.specs.declared.rooted.Pumped.TheVariants.{Idle as Rests, Budget as Wakes}
@@ -15,6 +15,7 @@ use Rattle.rsx_subscriber.specs.Pumped.{IsPumped, HasRested}
 use Rattle.rsx_subscriber.specs.Standing.{is_delivery}
 use Rattle.rsx_subscriber.specs.Stands.{IsTake, take_enabled}
 use Rattle.rsx_subscriber.specs.declared.subscription.Subscription.{Subscription}
+use Rattle.rsx_rooted.proofs.Parts.{pumped_on, pumped_sent, worked_into}
 use Rattle.rsx_subscriber.proofs.Moves.{pumped_more, pumped_one, pumped_part, stands_taken, with_part}
 use Rattle.rsx_subscriber.proofs.Standings.{delivery_made, signal_delivered}
 
@@ -22,16 +23,17 @@ use Rattle.rsx_subscriber.proofs.Standings.{delivery_made, signal_delivered}
 
 pub pulled_none : {M T : Type 0} (mc : Machine M T) (kd : Nodes M T) (m : Meaning T) (id : SubId) (budget left : ℕ) (sub : Subscription M T) (w : sub.state ≡ Fresh → ⊥) (part : AnyPart M) (o : List (SubId × Signal T)) → IsFetched mc m budget sub.part None left part →
     (n : ℕ) × (n + left ≡ budget) × IsPumped mc kd m id n sub o (with_part sub w part sub.queue) o
-pulled_none mc kd m id budget left sub w part o h = (h.0, h.1, pumped_part mc kd m id h.0 sub w part sub.queue o (h.2 sub.queue))
+pulled_none mc kd m id budget left sub w part o h = (h.0, h.1, pumped_part mc kd m id h.0 sub w part sub.queue o (worked_into mc queue_sink m h.0 sub.part part sub.queue h.2))
 
 -- the item went into the queue
 pub pulled_item : {M T : Type 0} (mc : Machine M T) (kd : Nodes M T) (m : Meaning T) (id : SubId) (budget left : ℕ) (sub : Subscription M T) (w : sub.state ≡ Fresh → ⊥) (part : AnyPart M) (x : T) (queue : List (Signal T)) (o o' : List (SubId × Signal T)) → IsFetched mc m budget sub.part (Some x) left part → sub.queue ≡ [] → queue ≡ sub.queue ++ Next x ∷ [] → o' ≡ o →
     (n : ℕ) × (n + left ≡ budget) × IsPumped mc kd m id n sub o (with_part sub w part queue) o'
 pulled_item {M} {T} mc kd m id budget left sub w part x queue o o' h empty is same =
-    let Q : List (Signal T) → Type 0 = λ q. IsPumped mc kd m id h.0 sub o (with_part sub w part q) o in
-    let O : List (SubId × Signal T) → Type 0 = λ l. IsPumped mc kd m id h.0 sub o (with_part sub w part queue) l in
+    let Q : List (Signal T) → Type 0 = λ q. IsPumped mc kd m id (h.0 + 1) sub o (with_part sub w part q) o in
+    let O : List (SubId × Signal T) → Type 0 = λ l. IsPumped mc kd m id (h.0 + 1) sub o (with_part sub w part queue) l in
     let room : has_room sub.queue ≡ true = ap has_room empty in
-    (h.0, h.1, subst O (sym same) (subst Q (sym is) (pumped_part mc kd m id h.0 sub w part (sub.queue ++ Next x ∷ []) o (h.2 sub.queue room))))
+    let run = pumped_on mc queue_sink m h.0 1 sub.part h.1 part sub.queue sub.queue (sub.queue ++ Next x ∷ []) (worked_into mc queue_sink m h.0 sub.part h.1 sub.queue h.3) (pumped_sent mc queue_sink m h.1 part sub.queue (sub.queue ++ Next x ∷ []) (Next x) h.4 room refl) in
+    (h.0 + 1, h.2, subst O (sym same) (subst Q (sym is) (pumped_part mc kd m id (h.0 + 1) sub w part (sub.queue ++ Next x ∷ []) o run)))
 
 -- ---- the item goes to the subscriber
 

@@ -15,7 +15,7 @@ use Rattle.rsx_tree.specs.Prelude.{closed_view, IsTreeReadAt}
 use Rattle.rsx_tree.specs.Reads.{readings}
 use Rattle.rsx_tree.proofs.Alike.{alike_still, alike_then}
 use Rattle.rsx_tree.specs.Runs.{Gives, Leads}
-use Rattle.rsx_pipe.specs.Part.{IsPutOut, all_edges}
+use Rattle.rsx_pipe.specs.Part.{IsPutOut, all_edges, has_room, queue_sink}
 use Rattle.rsx_pipe.specs.Part as Part
 use Rattle.rsx_pipe.specs.Crossing.{route, route_below}
 use Rattle.rsx_rooted.specs.declared.nodes.Route.{Route}
@@ -27,7 +27,7 @@ use Rattle.rsx_tree.specs.declared.look.NodeMove.TheVariants.{Ask as NodeAsk, Se
 use Rattle.rsx_pipe.specs.Part.{Part as AnyPart}
 use Rattle.rsx_rooted.specs.declared.rooted.Pumped.{Pumped as Rest}
 use Rattle.rsx_rooted.specs.declared.rooted.Pumped.TheVariants.{Idle as Rests, Budget as Wakes}
-use Rattle.rsx_pipe.proofs.Parts.{moved_alive}
+use Rattle.rsx_rooted.proofs.Parts.{moved_alive}
 use Rattle.rsx_pipe.proofs.Signals.{IsOrderly-more, IsUnended-more, IsUnended-last, IsUnended-front, items_in-append, unended_before}
 use Rattle.rsx_subscription.specs.Table.{answer, cell_of, state_after as next_state, asked_after, sent_after}
 use Rattle.rsx_subscription.specs.declared.State.TheVariants.{Fresh, Open as OpenState, Cancelled as CancelledState, Failed as FailedState}
@@ -416,7 +416,7 @@ part_name kd id part step = name_of (route_below kd part (inside_node step)) (Su
 -- such a move is inside the tree, and answers nothing
 pub record IsNamed {M T : Type 0} (mc : Machine M T) (kd : Nodes M T) (m : Meaning T) (id : SubId) (sub : Subscription M T) (step : NodeMove) (move : Move) : Type 0 where
   pub tree : tree_of move ≡ Sub id
-  pub enabled : Part.move_enabled mc m sub.part sub.queue step ≡ true → move_enabled_in mc kd m sub move ≡ true
+  pub enabled : Part.move_enabled mc m sub.part (has_room sub.queue) step ≡ true → move_enabled_in mc kd m sub move ≡ true
   pub effect : (new : Subscription M T) → IsWorkedBy mc m (Some step) sub new → IsEffect mc kd m move sub new None
   pub answer : IsMadeAnswer {T = T} move None
 
@@ -452,7 +452,7 @@ pub part_named : {M T : Type 0} (mc : Machine M T) (kd : Nodes M T) (m : Meaning
 part_named mc kd m id sub step = named_by mc kd m id sub step (inside_node step) refl (route_below kd sub.part (inside_node step)) refl
 
 -- an enabled move of a part is one of the subscription
-moved_part : {M T : Type 0} (mc : Machine M T) (kd : Nodes M T) (m : Meaning T) (id : SubId) (old new : Subscription M T) (out : List (Signal T)) → IsKeptBeside old new → Part.IsMoved mc m old.part old.queue out new.part new.queue → IsMoved mc kd m id old None new
+moved_part : {M T : Type 0} (mc : Machine M T) (kd : Nodes M T) (m : Meaning T) (id : SubId) (old new : Subscription M T) (out : List (Signal T)) → IsKeptBeside old new → Part.IsMoved mc queue_sink m old.part old.queue out new.part new.queue → IsMoved mc kd m id old None new
 moved_part {M} {T} mc kd m id old new out r k =
     let named = part_named mc kd m id old k.move in
     record {
@@ -471,11 +471,11 @@ with_part sub o part queue = record { part = part; queue = queue; state = sub.st
 same_part : {M T : Type 0} (sub : Subscription M T) (o : sub.state ≡ Fresh → ⊥) → with_part sub o sub.part sub.queue ≡ sub
 same_part sub o = ap (λ w. with_part sub w sub.part sub.queue) (Π_prop (λ x. ⊥_prop) o sub.opened)
 
-pub pumped_part : {M T : Type 0} (mc : Machine M T) (kd : Nodes M T) (m : Meaning T) (id : SubId) (n : ℕ) (sub : Subscription M T) (w : sub.state ≡ Fresh → ⊥) (part' : AnyPart M) (queue' : List (Signal T)) (o : List (SubId × Signal T)) → Part.IsPumped mc m n sub.part sub.queue part' queue' → IsPumped mc kd m id n sub o (with_part sub w part' queue') o
+pub pumped_part : {M T : Type 0} (mc : Machine M T) (kd : Nodes M T) (m : Meaning T) (id : SubId) (n : ℕ) (sub : Subscription M T) (w : sub.state ≡ Fresh → ⊥) (part' : AnyPart M) (queue' : List (Signal T)) (o : List (SubId × Signal T)) → Part.IsPumped mc queue_sink m n sub.part sub.queue part' queue' → IsPumped mc kd m id n sub o (with_part sub w part' queue') o
 pumped_part {M} {T} mc kd m id n sub w part' queue' o k = record {
   signals = [];
   output = sym (append-nil o);
-  moves = subst L (same_part sub w) (leads_silent (Part.IsMovedOver mc m) (IsMoved mc kd m id) option_to_list placed None refl
+  moves = subst L (same_part sub w) (leads_silent (Part.IsMovedOver mc queue_sink m) (IsMoved mc kd m id) option_to_list placed None refl
       (λ x y out moved. moved_part mc kd m id (placed x) (placed y) out (record { state = refl; live = refl; demand = refl }) moved) n (sub.part, sub.queue) (part', queue') k.moves.labels k.moves.count k.moves.run);
   stands = λ published past h. by_moves k.moves.labels k.moves.run published past h;
   alike = k.alike;
@@ -487,7 +487,7 @@ pumped_part {M} {T} mc kd m id n sub w part' queue' o k = record {
     placed : AnyPart M × List (Signal T) → Subscription M T
     placed x = with_part sub w x.0 x.1
 
-    by_moves : (outs : List (List (Signal T))) → Leads (Part.IsMovedOver mc m) (sub.part, sub.queue) outs (part', queue') → (published : List (Stream T)) (past : Past T) → Stands mc m published sub past → Stands mc m published (with_part sub w part' queue') past
+    by_moves : (outs : List (List (Signal T))) → Leads (Part.IsMovedOver mc queue_sink m) (sub.part, sub.queue) outs (part', queue') → (published : List (Stream T)) (past : Past T) → Stands mc m published sub past → Stands mc m published (with_part sub w part' queue') past
     by_moves [] run published past h =
         stands_same mc m published sub (with_part sub w part' queue') past (record { part = ap (λ x. x.0) run; queue = ap (λ x. x.1) run; state = refl; live = refl; requested = refl; delivered = refl }) h
     by_moves (out ∷ outs) run published past h =
@@ -498,34 +498,34 @@ pumped_part {M} {T} mc kd m id n sub w part' queue' o k = record {
           put = k.stands;
           asked = k.asked;
           unclosed = k.unclosed;
-          alive = moved_alive mc m sub.part run.0.0 sub.queue run.0.1 out run.1;
+          alive = moved_alive mc m sub.part (has_room sub.queue) run.1.move run.1.enabled;
           count = moved_count mc m n sub.part part' sub.queue k.out queue' k.moves;
         }) h
 
 -- one move of the part
-pub worked_part : {M T : Type 0} (mc : Machine M T) (kd : Nodes M T) (m : Meaning T) (move : Move) (step : NodeMove) (old new : Subscription M T) → Some step ≡ inner_move kd old move → IsKeptBeside old new → Part.IsMade mc m step old.part old.queue new.part new.queue → IsWorked mc kd m move old new
-worked_part mc kd m move step old new is r h = subst (λ o. IsWorkedBy mc m o old new) is (worked_by mc m step old new h.out r h.queued h.effect)
+pub worked_part : {M T : Type 0} (mc : Machine M T) (kd : Nodes M T) (m : Meaning T) (move : Move) (step : NodeMove) (old new : Subscription M T) → Some step ≡ inner_move kd old move → IsKeptBeside old new → Part.IsMadeInto mc queue_sink m step old.part old.queue new.part new.queue → IsWorked mc kd m move old new
+worked_part mc kd m move step old new is r h = subst (λ o. IsWorkedBy mc m o old new) is (worked_by mc m step old new h.0 r h.2 h.1.effect)
 
-pub stands_made : {M T : Type 0} (mc : Machine M T) (m : Meaning T) (step : NodeMove) (published : List (Stream T)) (old new : Subscription M T) (past : Past T) → IsKeptBeside old new → Part.move_enabled mc m old.part old.queue step ≡ true → Part.IsMade mc m step old.part old.queue new.part new.queue → Stands mc m published old past → Stands mc m published new past
+pub stands_made : {M T : Type 0} (mc : Machine M T) (m : Meaning T) (step : NodeMove) (published : List (Stream T)) (old new : Subscription M T) (past : Past T) → IsKeptBeside old new → Part.move_enabled mc m old.part (has_room old.queue) step ≡ true → Part.IsMadeInto mc queue_sink m step old.part old.queue new.part new.queue → Stands mc m published old past → Stands mc m published new past
 stands_made mc m step published old new past r can k h =
     stands_worked mc m published old new past (record {
       kept = r;
-      out = k.out;
-      queue = k.queued;
-      put = k.stands;
-      asked = k.asked;
-      unclosed = k.unclosed;
-      alive = moved_alive mc m old.part new.part old.queue new.queue k.out (record { move = step; enabled = can; effect = k.effect; queued = k.queued });
-      count = effect_count mc m step old.part new.part k.out k.effect;
+      out = k.0;
+      queue = k.2;
+      put = k.1.stands;
+      asked = k.1.asked;
+      unclosed = k.1.unclosed;
+      alive = moved_alive mc m old.part (has_room old.queue) step can;
+      count = effect_count mc m step old.part new.part k.0 k.1.effect;
     }) h
 
 -- ---- where no move is enabled
 
 -- a subscription whose part is quiet, with nothing to take, is quiet
-pub quiet_when : {M T : Type 0} (mc : Machine M T) (m : Meaning T) (sub : Subscription M T) → take_enabled sub 0 ≡ false → Part.IsQuiet mc m sub.part sub.queue → IsQuiet mc m sub
+pub quiet_when : {M T : Type 0} (mc : Machine M T) (m : Meaning T) (sub : Subscription M T) → take_enabled sub 0 ≡ false → Part.IsQuiet mc m sub.part (has_room sub.queue) → IsQuiet mc m sub
 quiet_when mc m sub e q = (q, e)
 
-pub awake_part : {M T : Type 0} (mc : Machine M T) (m : Meaning T) (sub : Subscription M T) → Part.IsAwake mc m sub.part sub.queue → IsAwake mc m sub
+pub awake_part : {M T : Type 0} (mc : Machine M T) (m : Meaning T) (sub : Subscription M T) → Part.IsAwake mc m sub.part (has_room sub.queue) → IsAwake mc m sub
 awake_part mc m sub h = inl h
 
 -- what is queued can be taken just where something is queued
@@ -568,9 +568,9 @@ none_left mc m sub (suc left) q a =
     ])
 
 -- a part that is quiet stays so where no signal was taken
-pub rest_quiet : {M T : Type 0} (mc : Machine M T) (m : Meaning T) (old new : Subscription M T) → new ≡ old → take_enabled new 0 ≡ false → Part.IsQuiet mc m old.part old.queue → IsQuiet mc m new
+pub rest_quiet : {M T : Type 0} (mc : Machine M T) (m : Meaning T) (old new : Subscription M T) → new ≡ old → take_enabled new 0 ≡ false → Part.IsQuiet mc m old.part (has_room old.queue) → IsQuiet mc m new
 rest_quiet {M} {T} mc m old new same e q =
-    let P : Subscription M T → Type 0 = λ s. Part.IsQuiet mc m s.part s.queue in
+    let P : Subscription M T → Type 0 = λ s. Part.IsQuiet mc m s.part (has_room s.queue) in
     quiet_when mc m new e (subst P (sym same) q)
 
 -- ---- moves inside a tree

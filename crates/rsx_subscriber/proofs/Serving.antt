@@ -2,17 +2,17 @@
 use Rattle.rsx_sources.specs.declared.machine.Machine.{Ghosts as Machine}
 use Rattle.rsx_rooted.specs.declared.nodes.Nodes.{Ghosts as Nodes}
 use Rattle.rsx_subscriber.proofs.Laws.{Laws}
-use Rattle.std.proofs.Common.{◌≡◌, ◌<◌, ◌≤◌, false, nat_eq, List, [], ◌∷◌, ◌++◌, length, Option, Some, None, refl, sym, ap, ◌∙◌, subst, arith}
+use Rattle.std.proofs.Common.{◌≡◌, ◌<◌, ◌≤◌, false, nat_eq, List, [], ◌∷◌, ◌++◌, length, Option, Some, None, refl, sym, ap, ◌∙◌, subst, arith, true}
 use Rattle.std.proofs.lemmas.List.{append-nil}
 use Rattle.std.proofs.lemmas.Bool.{both_ways, and_right, or_from}
-use Rattle.rsx_sources.specs.Prelude.{Meaning, Stream, CAPACITY, Move, Ask, Send, Take, Pick, Row, Accept, Signal}
+use Rattle.rsx_sources.specs.Prelude.{Meaning, Stream, Move, Ask, Send, Take, Pick, Row, Accept, Signal}
 use Rattle.rsx_tree.specs.declared.look.NodeMove.{NodeMove}
 use Rattle.rsx_tree.specs.declared.look.NodeMove.TheVariants.{Ask as NodeAsk, Pick as NodePick}
 use Rattle.rsx_pipe.specs.Tree.{IsWithin}
 use Rattle.rsx_model.proofs.Unfold.{sound}
 use Rattle.rsx_model.specs.declared.check.TheConstants.{MOST_NODES}
 use Rattle.rsx_pipe.specs.Crossing.{route_below}
-use Rattle.rsx_pipe.specs.Part.{HasReadAll, all_edges}
+use Rattle.rsx_pipe.specs.Part.{HasReadAll, all_edges, has_room}
 use Rattle.rsx_pipe.specs.Part as Part
 use Rattle.rsx_pipe.specs.Tree.{notes_of}
 use Rattle.rsx_pipe.proofs.Parts.{delivered}
@@ -43,10 +43,10 @@ served_live : {M T : Type 0} (mc : Machine M T) (lw : Laws mc) (m : Meaning T) (
 served_live {M} {T} mc lw m published sub past q h live w more v read e =
     let none = nothing_queued mc m published sub past q h in
     let all : past.received ≡ h.output = sym (append-nil past.received) ∙ (ap (λ l. past.received ++ l) (sym none) ∙ h.held live) in
-    let room : length sub.queue < CAPACITY = rw none (omega arith) in
+    let room : has_room sub.queue ≡ true = ap has_room none in
     let small = (sound (length published) past.expression h.admitted).small in
     let few : length (all_edges sub.part) ≤ MOST_NODES = let k = h.shape in omega (arith, k, small) in
-    let d = delivered mc m (lw m).1 (lw m).0 (lw m).2 sub.part sub.queue q.0 published past.expression past.joins h.output h.part (h.unclosed live) room few w more v read e in
+    let d = delivered mc m (lw m).1 (lw m).0 (lw m).2 sub.part (has_room sub.queue) q.0 published past.expression past.joins h.output h.part (h.unclosed live) room few w more v read e in
     record {
       items = rw (all, ← h.asked) d.items;
       ending = λ less some. sym h.state ∙ by_state (standing_of sub) refl (λ u. h.part.ended (d.ending (rw h.asked less) some) (rw all at u));
@@ -64,7 +64,7 @@ served {M} {T} mc lw m published sub past q h live w more v read e =
     served_live mc lw m published sub past q h (subst L (sym h.state) live) w more v read e
 
 -- no move of the part that is named is enabled
-quiet_inside : {M T : Type 0} (mc : Machine M T) (m : Meaning T) (sub : Subscription M T) (o : Option NodeMove) → ((step : NodeMove) → o ≡ Some step → Part.IsNumbered step) → Part.IsQuiet mc m sub.part sub.queue → enabled_inside mc m sub o ≡ false
+quiet_inside : {M T : Type 0} (mc : Machine M T) (m : Meaning T) (sub : Subscription M T) (o : Option NodeMove) → ((step : NodeMove) → o ≡ Some step → Part.IsNumbered step) → Part.IsQuiet mc m sub.part (has_room sub.queue) → enabled_inside mc m sub o ≡ false
 quiet_inside mc m sub None l q = refl
 quiet_inside mc m sub (Some step) l q = q step (l step refl)
 

@@ -228,6 +228,6 @@ effect_count mc m (Send n) old new out k = ap length k.edges ∙ sent_length (Pa
 effect_count mc m (Pick n input) old new out k = ap suc (ap length k.1.tree.edges ∙ tree_stepped _ old.tree n)
 effect_count mc m (Row n) old new out k = ap suc (ap length k.1.tree.edges ∙ tree_stepped _ old.tree n)
 
-pub moved_count : {M T : Type 0} (mc : Machine M T) (m : Meaning T) (n : ℕ) (old new : AnyPart M) (queue out queue' : List (Signal T)) → Part.IsMovedBy mc m n old queue out new queue' → length (all_edges new) ≡ length (all_edges old)
+pub moved_count : {M T : Type 0} (mc : Machine M T) (m : Meaning T) (n : ℕ) (old new : AnyPart M) (queue out queue' : List (Signal T)) → Part.IsMovedBy mc Part.queue_sink m n old queue out new queue' → length (all_edges new) ≡ length (all_edges old)
 moved_count mc m n old new queue out queue' k =
-    leads_keep (Part.IsMovedOver mc m) (λ x. length (all_edges x.0) ≡ length (all_edges old)) (λ x y o s e. effect_count mc m s.move x.0 y.0 o s.effect ∙ e) (old, queue) (new, queue') k.labels k.run refl
+    leads_keep (Part.IsMovedOver mc Part.queue_sink m) (λ x. length (all_edges x.0) ≡ length (all_edges old)) (λ x y o s e. effect_count mc m s.move x.0 y.0 o s.effect ∙ e) (old, queue) (new, queue') k.labels k.run refl

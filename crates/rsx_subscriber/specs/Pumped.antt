@@ -6,7 +6,7 @@ use Rattle.std.specs.Option.{option_to_list}
 use Rattle.rsx_sources.specs.Prelude.{Meaning, Move, SubId, Sub, Signal}
 pub use Rattle.rsx_tree.specs.Driven.{Spent}
 use Rattle.rsx_tree.specs.Runs.{Gives}
-use Rattle.rsx_pipe.specs.Part.{HasEnded}
+use Rattle.rsx_pipe.specs.Part.{HasEnded, has_room}
 use Rattle.rsx_pipe.specs.Part as Part
 use Rattle.rsx_pipe.specs.Tree.{IsAlike}
 use Rattle.rsx_rooted.specs.declared.rooted.Pumped.{Pumped as Rest}
@@ -63,11 +63,11 @@ moves_of (Err e) = 0
 
 -- no move of a subscription is enabled, of all that the numbers of nodes and inputs can name: none of its part, and no Take
 abbrev pub IsQuiet : {M T : Type 0} → Machine M T → Meaning T → Subscription M T → Type 0
-IsQuiet mc m sub = Part.IsQuiet mc m sub.part sub.queue × (take_enabled sub 0 ≡ false)
+IsQuiet mc m sub = Part.IsQuiet mc m sub.part (has_room sub.queue) × (take_enabled sub 0 ≡ false)
 
 -- some move of a subscription is enabled: one of its part, or a Take
 abbrev pub IsAwake : {M T : Type 0} → Machine M T → Meaning T → Subscription M T → Type 0
-IsAwake mc m sub = Part.IsAwake mc m sub.part sub.queue ⊎ (take_enabled sub 0 ≡ true)
+IsAwake mc m sub = Part.IsAwake mc m sub.part (has_room sub.queue) ⊎ (take_enabled sub 0 ≡ true)
 
 -- how driving a subscription ends after so many moves: Idle, with what is left of the budget, where no move is enabled;
 -- Budget where one is and the whole budget was spent
@@ -83,7 +83,7 @@ HasPumped mc kd m id budget old before result new after = SomePumped mc kd m id 
 -- the same of moves of its part alone, by which nothing is delivered
 abbrev pub HasPumpedPart : {M T E : Type 0} → Machine M T → Nodes M T → Meaning T → SubId → ℕ → Subscription M T → Result Rest E → Subscription M T → Type 0
 HasPumpedPart {M} {T} mc kd m id budget old result new =
-    (n : ℕ) × HasEnded mc m budget n new.part new.queue result × ((out : List (SubId × Signal T)) → IsPumped mc kd m id n old out new out)
+    (n : ℕ) × HasEnded mc m budget n new.part (has_room new.queue) result × ((out : List (SubId × Signal T)) → IsPumped mc kd m id n old out new out)
 
 -- how it ends where so much of the budget is left
 abbrev pub IsRest : {M T : Type 0} → Machine M T → Meaning T → Subscription M T → ℕ → Rest → Type 0

@@ -87,7 +87,7 @@ ask_enabled mc sub at = Part.ask_enabled mc sub.part at
 
 -- Send: over the root edge into its queue, or over an edge of the tree
 abbrev pub send_enabled : {M T : Type 0} → Machine M T → Meaning T → Subscription M T → ℕ → Bool
-send_enabled mc m sub at = Part.send_enabled mc m sub.part sub.queue at
+send_enabled mc m sub at = Part.send_enabled mc m sub.part (Part.has_room sub.queue) at
 
 -- Take: from the queue of the root edge, where the table delivers its front signal
 abbrev pub take_enabled : {M T : Type 0} → Subscription M T → ℕ → Bool
@@ -96,7 +96,7 @@ take_enabled sub at = nat_eq at 0 && delivers sub.state sub.demand sub.queue
 -- a move of the part is enabled
 abbrev pub enabled_inside : {M T : Type 0} → Machine M T → Meaning T → Subscription M T → Option NodeMove → Bool
 enabled_inside mc m sub None = false
-enabled_inside mc m sub (Some e) = Part.move_enabled mc m sub.part sub.queue e
+enabled_inside mc m sub (Some e) = Part.move_enabled mc m sub.part (Part.has_room sub.queue) e
 
 -- the move of the part that a move names; the queue of the root edge is the subscription's own
 abbrev pub inner_move : {M T : Type 0} → Nodes M T → Subscription M T → Move → Option NodeMove

@@ -42,7 +42,8 @@ impl<N: Nodes<Item = T> + Drop, T: Drop> Subscription<N, T> {
     ghost use Rattle.rsx_hub.specs.Hub.{HubState};
     ghost use Rattle.rsx_model.specs.Check.{refusal};
     ghost use Rattle.rsx_model.specs.declared.expr.Expr.{Expr};
-    ghost use Rattle.rsx_pipe.specs.Built.{IsBuilt, new_joins};
+    ghost use Rattle.rsx_pipe.specs.Built.{IsBuilt, fresh_edge, new_joins};
+    ghost use Rattle.rsx_tree.specs.Edges.{edge_view};
     ghost use Rattle.rsx_pipe.specs.Crossings.{IsPlaced};
     ghost use Rattle.rsx_pipe.specs.Published.{AreTaken};
     ghost use Rattle.rsx_subscriber.specs.Begun.{IsFresh};
@@ -62,6 +63,8 @@ impl<N: Nodes<Item = T> + Drop, T: Drop> Subscription<N, T> {
             Stands N.Machine m published s (subscribed e (new_joins hubs e))) }
         ensures fresh { IfOk result (λ s. (m : Meaning T) (hubs : List (HubState T)) (e : Expr T) →
             IsBuilt N.Machine m hubs e tree → IsPlaced N.crosses e false tree → IsFresh N.Nodes.own e s) }
+        ensures tree { IfOk result (λ s. s.part.tree ≡ tree) }
+        ensures root { IfOk result (λ s. edge_view s.part.root ≡ fresh_edge) }
     {
         let queue = SignalQueue::new(alloc)?;
         let part = Part::new(tree);

@@ -1,6 +1,7 @@
 use Rattle.std.proofs.Common.{◌∙◌, Bool, ap, refl, subst, sym}
 use Rattle.std.proofs.lemmas.List.{length-set}
 use Rattle.rsx_graph_state.proofs.Graphs.{found, set_same}
+use Rattle.rsx_pipe.specs.Part.{IsMade}
 use Rattle.rsx_sources.specs.Steps.{IsNotMade}
 use Rattle.rsx_graph_state.specs.Moves.{allocates_inside, works_where}
 use Rattle.rsx_graph_state.proofs.Places.{placed_feed}
@@ -16,13 +17,14 @@ pub returns-in-Ok-clause-effect : goal.returns-in-Ok-clause-effect
 returns-in-Ok-clause-effect g c =
     let fs = c.args.feeds.now.items in
     let x = c.index_mut-feed.result.now in
+    let k = c.in-Ok.ensures.made in
     record {
       feed = x;
-      part = c.make_inside.new.self;
+      part = c.make.new.self;
       at = c.args.at;
       place = c.requires.place;
       there = found fs c.args.at x c.requires.within (sym c.index_mut-feed.ensures.value);
-      effect = c.in-Ok.ensures.made;
+      effect = subst (λ o. IsMade g.N.Machine (g.O.Ops.meaning c.args.ops.now) c.args.step x.part o c.make.new.self) (sym k.2) k.1;
       others = refl;
     }
 
@@ -55,4 +57,4 @@ pub returns-in-Err-clause-same : goal.returns-in-Err-clause-same
 returns-in-Err-clause-same g c =
     let fs = c.args.feeds.now.items in
     let x = c.index_mut-feed.result.now in
-    set_same fs c.args.at x (record { part = c.make_inside.new.self; hub = x.hub }) c.requires.within (sym c.index_mut-feed.ensures.value) (λ i. record { part = c.in-Err.ensures.same i; hub = x.hub })
+    set_same fs c.args.at x (record { part = c.make.new.self; hub = x.hub }) c.requires.within (sym c.index_mut-feed.ensures.value) (λ i. record { part = c.in-Err.ensures.same.0 i; hub = x.hub })

@@ -1,9 +1,14 @@
-use Rattle.std.proofs.Common.{refl}
-use Rattle.rsx_rooted.proofs.Parts.{put_out_kept}
+use Rattle.std.proofs.Common.{arith, refl}
+use Rattle.rsx_tree.specs.declared.look.NodeMove.TheVariants.{Ask}
+use Rattle.rsx_rooted.proofs.Parts.{asked_below_root, made_inside, put_out_kept}
 use Rattle.rsx_rooted.proofs.Trees.{ask_not_closed}
 use Rattle.rsx_rooted.proofs.rooted.Rooted.ask.Goals as goal
 
-pub returns-in-Ok-clause-stands : goal.returns-in-Ok-clause-stands
-returns-in-Ok-clause-stands g c = λ m.
-    put_out_kept g.M.Machine m c.args.self.now (record { tree = c.ask.new.self; root = c.args.self.now.root }) (c.in-Ok.ensures.kept m) c.in-Ok.ensures.balance refl c.ask.ensures.alike
-    (λ closed _. ask_not_closed g.M.Machine c.args.self.now.tree _ c.args.self.now.root.demand.asked c.args.self.now.root.demand.sent c.in-Ok.ensures.ok closed)
+pub returns-in-Ok-clause-made : goal.returns-in-Ok-clause-made
+returns-in-Ok-clause-made g c = λ m.
+    let old = c.args.self.now in
+    let some = c.if-at-eq0.false in
+    made_inside g.M.Machine m (Ask c.args.at) old (record { tree = c.ask.new.self; root = old.root }) (refl, asked_below_root g.M.Machine old c.ask.new.self c.args.at (omega (arith, some)) c.in-Ok.ensures.effect)
+    (put_out_kept g.M.Machine m old (record { tree = c.ask.new.self; root = old.root }) (c.in-Ok.ensures.kept m) c.in-Ok.ensures.balance refl c.ask.ensures.alike
+    (λ closed _. ask_not_closed g.M.Machine old.tree _ old.root.demand.asked old.root.demand.sent c.in-Ok.ensures.ok closed))
+    refl c.ask.ensures.alike

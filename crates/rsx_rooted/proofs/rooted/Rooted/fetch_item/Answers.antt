@@ -1,8 +1,7 @@
 use Rattle.std.proofs.Common.{◌≡◌, ◌+◌, ◌-◌, None, subst, sym, ◌∙◌, arith}
 use Rattle.rsx_rooted.specs.Fetched.{IsFetched}
 use Rattle.rsx_tree.specs.declared.node.Node.{Node}
-use Rattle.rsx_rooted.proofs.Fetches.{fetched_item, fetched_none}
-use Rattle.rsx_rooted.proofs.Parts.{pumped_none}
+use Rattle.rsx_rooted.proofs.Fetches.{fetched_item, fetched_none, fetched_nothing}
 use Rattle.rsx_rooted.proofs.rooted.Rooted.fetch_item.Goals as goal
 
 pub returns-in-None : goal.returns-in-None
@@ -24,4 +23,4 @@ returns g c =
     (sym c.can_carry.ensures ∙ c.if-not-can_carry.false) c.carry.ensures
 
 pub returns-then-not-can_carry : goal.returns-then-not-can_carry
-returns-then-not-can_carry g c = (0, omega arith, λ queue. pumped_none g.M.Machine (g.O.Ops.meaning c.args.ops.now) c.args.self.now queue)
+returns-then-not-can_carry g c = fetched_nothing g.M.Machine (g.O.Ops.meaning c.args.ops.now) c.args.left.now c.args.self.now
