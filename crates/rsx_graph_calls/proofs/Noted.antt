@@ -2,10 +2,11 @@
 use Rattle.rsx_sources.specs.declared.machine.Machine.{Ghosts as Machine}
 use Rattle.std.proofs.Common.{◌≡◌, ℕ, zero, suc, ◌<◌, List, [], ◌∷◌, length, slice_get, Some, refl, ap, sym, ◌∙◌, arith}
 use Rattle.rsx_graph_state.specs.Prelude.{AreFeedJoins, HasFeedJoins, JoinsStand, History, HubPast, Source, emitted, fed, Rows, SourceStands, StandsFor, HubState}
+use Rattle.rsx_graph_state.proofs.Joins.{joins_there}
 use Rattle.rsx_graph_state.proofs.Places.{feed_placed}
 use Rattle.rsx_pipe.proofs.Signals.{some_same}
-use Rattle.rsx_sources.specs.Prelude.{Meaning, Stream}
-use Rattle.rsx_graph_calls.specs.Looks.{HasFedJoins}
+use Rattle.rsx_sources.specs.Prelude.{Meaning, Stream, Tree, Sub, Feed as FeedOf}
+use Rattle.rsx_graph_calls.specs.Looks.{AreJoins, HasFedJoins, HasTreeJoins}
 
 there : {A : Type 0} (xs : List A) (n : ℕ) → n < length xs → (x : A) × (slice_get xs n ≡ Some x)
 there [] n l = absurd (omega (arith, l))
@@ -21,7 +22,7 @@ fed_there mc m g taken feed_joins ps i v s p js e k (fed x ks) is q r =
     let same : ks ≡ js = some_same ks js (sym r.2 ∙ (ap (slice_get feed_joins) (sym at) ∙ k.2)) in
     (p, x, e, is ∙ ap (fed x) same)
 
-pub fed_joins : {M T : Type 0} (mc : Machine M T) (m : Meaning T) (g : Rows M T) (sub_joins feed_joins : List (List ℕ)) (h : History T) (i : ℕ) (js : List ℕ) → i < length g.hubs → AreFeedJoins g.feeds feed_joins i js → StandsFor mc m g h → JoinsStand g.feeds sub_joins feed_joins h → HasFedJoins h.hubs i js
+fed_joins : {M T : Type 0} (mc : Machine M T) (m : Meaning T) (g : Rows M T) (sub_joins feed_joins : List (List ℕ)) (h : History T) (i : ℕ) (js : List ℕ) → i < length g.hubs → AreFeedJoins g.feeds feed_joins i js → StandsFor mc m g h → JoinsStand g.feeds sub_joins feed_joins h → HasFedJoins h.hubs i js
 fed_joins mc m g sub_joins feed_joins h i js lt k s j =
     let many = s.many in
     let each = s.each in
@@ -29,3 +30,8 @@ fed_joins mc m g sub_joins feed_joins h i js lt k s j =
     let v = there s.taken i (omega (arith, lt, many, each)) in
     let t = there g.hubs i lt in
     fed_there mc m g s.taken feed_joins h.hubs i v.0 t.0 p.0 js p.1 k p.0.source refl (s.hub i v.0 t.0 p.0 v.1 t.1 p.1).source (j.fed i p.0 p.1)
+
+-- the joins that are kept of a tree are those of the history
+pub tree_joins : {M T : Type 0} (mc : Machine M T) (m : Meaning T) (g : Rows M T) (sub_joins feed_joins : List (List ℕ)) (h : History T) (tree : Tree) (js : List ℕ) → AreJoins g.hubs g.feeds sub_joins feed_joins tree js → StandsFor mc m g h → JoinsStand g.feeds sub_joins feed_joins h → HasTreeJoins h tree js
+tree_joins mc m g sub_joins feed_joins h (Sub i) js k s j = joins_there h.pasts i.0 js (ap (λ l. slice_get l i.0) (sym j.subs) ∙ k)
+tree_joins mc m g sub_joins feed_joins h (FeedOf i) js k s j = fed_joins mc m g sub_joins feed_joins h i.0 js k.0 k.1 s j

@@ -1,10 +1,11 @@
 -- What is published at a hub with an emitter: the rows stand for what has happened with it.
 use Rattle.rsx_sources.specs.declared.machine.Machine.{Ghosts as Machine}
-use Rattle.std.proofs.Common.{◌≡◌, ℕ, zero, suc, ◌<◌, ◌≤◌, Bool, true, false, ◌&&◌, List, [], ◌∷◌, ◌++◌, length, slice_get, Some, None, is_none, is_some, refl, ap, sym, ◌∙◌, subst, arith, append_assoc}
+use Rattle.std.proofs.Common.{◌≡◌, ℕ, zero, suc, ◌<◌, ◌≤◌, Bool, true, false, ◌&&◌, List, [], ◌∷◌, ◌++◌, length, slice_get, Option, Some, None, is_none, is_some, refl, ap, sym, ◌∙◌, subst, arith, append_assoc}
 use Rattle.std.proofs.Math.ListN.{set}
 use Rattle.std.proofs.lemmas.List.{length-set}
 use Rattle.rsx_graph_state.proofs.Places.{feed_placed, unfed_there}
 use Rattle.rsx_graph_state.specs.Prelude.{History, HubPast, Source, emitted, fed, rows_of, HubStands, SourceStands, StandsFor, feed_of, place_of, changed, ending_taken, is_open, Subscription}
+use Rattle.rsx_graph_state.specs.Hubs.{IsEmittedAt, IsEndedAt}
 use Rattle.rsx_hub.specs.Hub.{HubState, accepts_items, emitted as emitted_hub, ended_with}
 use Rattle.rsx_pipe.proofs.Signals.{some_same}
 use Rattle.rsx_subscriber.specs.Prelude.{with_signal, IsTaken}
@@ -27,6 +28,12 @@ there (x ∷ xs) (suc n) l = there xs n (omega (arith, l))
 none_and : (b : Bool) → b && false ≡ false
 none_and true = refl
 none_and false = refl
+
+-- a hub with an emitter has no feed
+unfed_where : {A B : Type 0} (hub : Option A) (feed : Option B) → is_some hub && is_none feed ≡ true → feed ≡ None
+unfed_where (Some x) None k = refl
+unfed_where (Some x) (Some y) k = cc
+unfed_where None o k = cc
 
 pub unknown_hub : {M T : Type 0} (hubs : List (HubState T)) (feeds : List (Feed M)) (i : ℕ) → length hubs ≤ i → has_emitter hubs feeds i ≡ false
 unknown_hub hubs feeds i l = ap (λ o. is_some o && is_none (feed_of feeds i)) (none_there hubs i l)
@@ -100,11 +107,12 @@ hub_emitted mc m feeds taken i v s x p unfed can k = record {
   source = source_emitted mc m feeds taken i v s x p.source unfed k.source;
 }
 
-pub emitted_stands : {M T : Type 0} (mc : Machine M T) (m : Meaning T) (x : T) (i : HubId) (hubs : List (HubState T)) (feeds : List (Feed M)) (subs : List (Subscription M T)) (hub after : HubState T) (h : History T) → slice_get hubs i.0 ≡ Some hub → feed_of feeds i.0 ≡ None → accepts_items hub ≡ true → after ≡ emitted_hub hub x →
-    StandsFor mc m (rows_of hubs feeds subs) h → StandsFor mc m (rows_of (set hubs i.0 after) feeds subs) (with_published (Next x) i h)
-emitted_stands {M} {T} mc m x i hubs feeds subs hub after h at unfed can is s =
-    hub_changed mc m (published_at (Next x)) i.0 hubs feeds subs hub after h at
-    (λ taken v p k. let P : HubState T → Type 0 = λ t. HubStands mc m feeds taken i.0 v t (published_at (Next x) p) in subst P (sym is) (hub_emitted mc m feeds taken i.0 v hub x p unfed can k)) s
+pub emitted_stands : {M T : Type 0} (mc : Machine M T) (m : Meaning T) (x : T) (i : HubId) (hubs news : List (HubState T)) (feeds : List (Feed M)) (subs : List (Subscription M T)) (h : History T) → IsEmittedAt i.0 x hubs news → has_emitter hubs feeds i.0 ≡ true →
+    StandsFor mc m (rows_of hubs feeds subs) h → StandsFor mc m (rows_of news feeds subs) (with_published (Next x) i h)
+emitted_stands {M} {T} mc m x i hubs news feeds subs h e known s =
+    let P : List (HubState T) → Type 0 = λ l. StandsFor mc m (rows_of l feeds subs) (with_published (Next x) i h) in
+    subst P (sym e.others) (hub_changed mc m (published_at (Next x)) i.0 hubs feeds subs e.hub (emitted_hub e.hub x) h e.there
+    (λ taken v p k. hub_emitted mc m feeds taken i.0 v e.hub x p (unfed_where (slice_get hubs i.0) (feed_of feeds i.0) known) e.accepts k) s)
 
 -- ---- a hub was ended
 
@@ -128,8 +136,9 @@ hub_ended mc m feeds taken i v s sig d p ends unfed goes k =
     }
 
 -- by a signal that gives any stream this ending
-pub ended_stands : {M T : Type 0} (mc : Machine M T) (m : Meaning T) (sig : Signal T) (d : Ending) (i : HubId) (hubs : List (HubState T)) (feeds : List (Feed M)) (subs : List (Subscription M T)) (hub after : HubState T) (h : History T) → ((w : Stream T) → with_signal sig w ≡ record { items = w.items; ending = d }) → slice_get hubs i.0 ≡ Some hub → feed_of feeds i.0 ≡ None → is_open hub.ending ≡ true → after ≡ ended_with hub d →
-    StandsFor mc m (rows_of hubs feeds subs) h → StandsFor mc m (rows_of (set hubs i.0 after) feeds subs) (with_published sig i h)
-ended_stands {M} {T} mc m sig d i hubs feeds subs hub after h ends at unfed goes is s =
-    hub_changed mc m (published_at sig) i.0 hubs feeds subs hub after h at
-    (λ taken v p k. let P : HubState T → Type 0 = λ t. HubStands mc m feeds taken i.0 v t (published_at sig p) in subst P (sym is) (hub_ended mc m feeds taken i.0 v hub sig d p ends unfed goes k)) s
+pub ended_stands : {M T : Type 0} (mc : Machine M T) (m : Meaning T) (sig : Signal T) (d : Ending) (i : HubId) (hubs news : List (HubState T)) (feeds : List (Feed M)) (subs : List (Subscription M T)) (h : History T) → ((w : Stream T) → with_signal sig w ≡ record { items = w.items; ending = d }) → IsEndedAt i.0 d hubs news → has_emitter hubs feeds i.0 ≡ true →
+    StandsFor mc m (rows_of hubs feeds subs) h → StandsFor mc m (rows_of news feeds subs) (with_published sig i h)
+ended_stands {M} {T} mc m sig d i hubs news feeds subs h ends e known s =
+    let P : List (HubState T) → Type 0 = λ l. StandsFor mc m (rows_of l feeds subs) (with_published sig i h) in
+    subst P (sym e.others) (hub_changed mc m (published_at sig) i.0 hubs feeds subs e.hub (ended_with e.hub d) h e.there
+    (λ taken v p k. hub_ended mc m feeds taken i.0 v e.hub sig d p ends (unfed_where (slice_get hubs i.0) (feed_of feeds i.0) known) e.goes_on k) s)

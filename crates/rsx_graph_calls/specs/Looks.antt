@@ -1,7 +1,7 @@
 -- What the looks at a graph with feeds answer, and why they are refused.
 use Rattle.rsx_sources.specs.declared.machine.Machine.{Ghosts as Machine}
-use Rattle.std.specs.Prelude.{◌≡◌, ℕ, true, false, List, [], Some, slice_get}
-use Rattle.rsx_graph_state.specs.Prelude.{AreValues, History, HubPast, fed, has_feed, Rows, feed_of, HasJoins, IsLookRefusal, HasNotesAt, OwedAt}
+use Rattle.std.specs.Prelude.{◌≡◌, ℕ, ◌<◌, true, false, List, [], length, Some, slice_get}
+use Rattle.rsx_graph_state.specs.Prelude.{AreFeedJoins, AreValues, History, HubState, HubPast, fed, has_feed, Rows, feed_of, HasJoins, IsLookRefusal, HasNotesAt, OwedAt}
 use Rattle.rsx_graph_state.specs.declared.refusal.Refusal.{Refusal}
 use Rattle.rsx_graph_state.specs.declared.refusal.Refusal.TheVariants.{UnknownHub, NoMemory}
 use Rattle.rsx_subscriber.specs.Prelude.{Expr, notes_of}
@@ -29,6 +29,11 @@ HasNotes mc g (FeedOf h) ns = HasFeedNotes mc g h.0 ns
 -- the hub with this number is fed by an expression, whose leaves have these joins
 abbrev pub HasFedJoins : {T : Type 0} → List (HubPast T) → ℕ → List ℕ → Type 0
 HasFedJoins {T} ps h js = (p : HubPast T) × (e : Expr T) × (slice_get ps h ≡ Some p) × (p.source ≡ fed e js)
+
+-- these are the joins of a tree, of those that are kept beside the subscriptions and beside the feeds
+abbrev pub AreJoins : {M T : Type 0} → List (HubState T) → List (Feed M) → List (List ℕ) → List (List ℕ) → Tree → List ℕ → Type 0
+AreJoins hubs feeds sub_joins feed_joins (Sub i) js = slice_get sub_joins i.0 ≡ Some js
+AreJoins hubs feeds sub_joins feed_joins (FeedOf i) js = (i.0 < length hubs) × AreFeedJoins feeds feed_joins i.0 js
 
 -- these are the joins of a tree
 abbrev pub HasTreeJoins : {T : Type 0} → History T → Tree → List ℕ → Type 0

@@ -1,20 +1,14 @@
 //! New hubs.
 
-ghost use Rattle.std.specs.Prelude.{◌≡◌, ◌<◌, ◌++◌, ◌∷◌, List, [], length, true, OnOk, OnErr, IfOk, IfErr};
-ghost use Rattle.rsx_types.specs.Meaning.{Meaning};
+ghost use Rattle.std.specs.Prelude.{◌≡◌, ◌<◌, ◌++◌, ◌∷◌, [], length, true, OnOk, OnErr, IfOk, IfErr};
 ghost use Rattle.rsx_hub.specs.Hub.{are_numbers, fresh_hub};
 ghost use Rattle.rsx_graph_state.specs.Answers.{IsHubRefusal};
 ghost use Rattle.rsx_graph_state.specs.declared.TheConstants.{MOST_HUBS};
-ghost use Rattle.rsx_subscriber.specs.declared.subscription.Subscription.{Subscription as SubscriptionOf};
-ghost use Rattle.rsx_graph_state.specs.History.{History};
-ghost use Rattle.rsx_graph_state.specs.Moves.{rows_of};
-ghost use Rattle.rsx_graph_state.specs.Stands.{StandsFor};
-ghost use Rattle.rsx_graph_calls.specs.Edits.{NameHubs, with_hub};
+ghost use Rattle.rsx_graph_calls.specs.Edits.{NameHubs};
 
 use rsx_graph_state::{Feed, MOST_HUBS, Refusal};
 use rsx_hub::{Hub, HubRefusal, LARGEST};
 use rsx_model::BadExpr;
-use rsx_pipe::Nodes;
 use rsx_types::{HubId, HubKind};
 use std::alloc::Global;
 
@@ -25,7 +19,7 @@ use std::alloc::Global;
 /// # Errors
 /// G6 with kind 4 exactly where the capacity or the number of a replay is not 1 to 1,024, else G5 exactly where there are
 /// [`MOST_HUBS`], else G8 where a growth was refused; nothing changed.
-pub fn hub<N: Nodes<Item = T>, T: Drop>(
+pub fn hub<N, T: Drop>(
     alloc: Global,
     hubs: &mut Vec<Hub<T>>,
     feeds: &Vec<Feed<N>>,
@@ -34,9 +28,6 @@ pub fn hub<N: Nodes<Item = T>, T: Drop>(
 ) -> Result<HubId, Refusal>
     requires named { NameHubs (length hubs.old.items) feeds.now.items }
     ensures named { OnOk result (NameHubs (length hubs.new.items) feeds.now.items) }
-    ensures stands { OnOk result ((m : Meaning T) (subscriptions : List (SubscriptionOf N T)) (h : History T) →
-        StandsFor N.Machine m (rows_of hubs.old.items feeds.now.items subscriptions) h →
-        StandsFor N.Machine m (rows_of hubs.new.items feeds.now.items subscriptions) (with_hub kind h)) }
     ensures effect { OnOk result (hubs.new.items ≡ hubs.old.items ++ fresh_hub kind capacity ∷ []) }
     ensures id { IfOk result (λ id. (id.0 ≡ length hubs.old.items) × (are_numbers kind capacity ≡ true) × (length hubs.old.items < MOST_HUBS)) }
     ensures err { IfErr result (λ r. IsHubRefusal kind capacity (length hubs.old.items) r) }

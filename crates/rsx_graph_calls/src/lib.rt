@@ -6,6 +6,7 @@
 //! The edits of hubs, feeds and subscriptions that stand in rows and are named by their numbers.
 //!
 //! - [`feed_hubs`]: [`feed_hub`], a new hub that is fed by an expression, and [`admit_fed`], whether there may be one.
+//! - [`feeds`]: where the feed of a hub stands.
 //! - [`hubs`]: [`hub`], a new hub with an emitter.
 //! - [`publishing`]: [`emit`], [`complete`] and [`fail`], at a hub with an emitter.
 //! - [`requests`]: [`request`] and [`cancel`] of a subscription.
@@ -14,6 +15,10 @@
 //! The definitions stand in `specs/`: `Edits` and `Subscribing` (what has happened by each edit, and why it is refused), `Publishes`
 //! (the same of what is published), `Requests` (what a subscriber did), `Joins` (the joins that are kept beside the rows) and
 //! `Regions` (the regions that are kept beside the subscriptions).
+//!
+//! What changes hubs with emitters alone ([`hub`], [`emit`], [`complete`] and [`fail`]) asks nothing of the nodes, and so do
+//! [`joins`]: these calls are cheap to prove at any type of nodes. Their contracts say what changed. That the rows then stand for the
+//! history with the edit follows from that, as `proofs/Published`, `proofs/Behind` and `proofs/Noted` show.
 //!
 //! # Looks
 //!
@@ -27,6 +32,7 @@
 //! the hubs).
 
 pub mod feed_hubs;
+mod feeds;
 pub mod hubs;
 pub mod publishing;
 pub mod requests;

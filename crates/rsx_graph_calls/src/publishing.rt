@@ -1,21 +1,16 @@
 //! What a program publishes at hubs with emitters.
 
-ghost use Rattle.std.specs.Prelude.{◌≡◌, ◌<◌, List, None, length, true, OnOk, OnErr, IfErr};
-ghost use Rattle.rsx_types.specs.Meaning.{Meaning};
+ghost use Rattle.std.specs.Prelude.{◌≡◌, ◌<◌, None, length, true, OnOk, OnErr, IfErr};
 ghost use Rattle.rsx_types.specs.declared.signal.Cause.TheVariants.{User};
 ghost use Rattle.rsx_types.specs.declared.signal.Ending.TheVariants.{Done, Failed};
-ghost use Rattle.rsx_types.specs.declared.signal.Signal.TheVariants.{Next, Complete, Error};
 ghost use Rattle.rsx_graph_state.specs.Hubs.{IsEmittedAt, IsEndedAt};
-ghost use Rattle.rsx_subscriber.specs.declared.subscription.Subscription.{Subscription as SubscriptionOf};
-ghost use Rattle.rsx_graph_state.specs.History.{History};
-ghost use Rattle.rsx_graph_state.specs.Moves.{rows_of};
-ghost use Rattle.rsx_graph_state.specs.Stands.{StandsFor, feed_of};
+ghost use Rattle.rsx_graph_state.specs.Stands.{feed_of};
 ghost use Rattle.rsx_graph_calls.specs.Publishes as spec;
-ghost use Rattle.rsx_graph_calls.specs.Publishes.{IsCopyRefusal, IsEmitRefusal, IsEndRefusal, with_published};
+ghost use Rattle.rsx_graph_calls.specs.Publishes.{IsCopyRefusal, IsEmitRefusal, IsEndRefusal};
 
-use rsx_graph_state::{Feed, Refusal, place_of};
+use crate::feeds::place_of;
+use rsx_graph_state::{Feed, Refusal};
 use rsx_hub::{HasEnded, Hub, Rejected};
-use rsx_pipe::Nodes;
 use rsx_types::{HubId, NoMemory, Ops};
 use std::alloc::Global;
 
@@ -44,15 +39,12 @@ impl<T: Drop> From<NotEmitted<T>> for Refusal {
 /// The item comes back, and nothing changed: G1 exactly where there is no such hub or it has a feed, else G3 exactly where it has
 /// ended (rule 1.7), else G5 exactly where it has accepted 2^63 - 1 items, else G4 exactly where its inbox holds as many items as
 /// its capacity, or more.
-pub fn emit<N: Nodes<Item = T>, T: Drop>(
+pub fn emit<N, T: Drop>(
     hubs: &mut Vec<Hub<T>>,
     feeds: &Vec<Feed<N>>,
     hub: HubId,
     item: T,
 ) -> Result<(), NotEmitted<T>>
-    ensures stands { OnOk result ((m : Meaning T) (subscriptions : List (SubscriptionOf N T)) (h : History T) →
-        StandsFor N.Machine m (rows_of hubs.old.items feeds.now.items subscriptions) h →
-        StandsFor N.Machine m (rows_of hubs.new.items feeds.now.items subscriptions) (with_published (Next item) hub h)) }
     ensures effect { OnOk result (IsEmittedAt hub.0 item hubs.old.items hubs.new.items) }
     ensures known { OnOk result (spec.has_emitter hubs.old.items feeds.now.items hub.0 ≡ true) }
     ensures item { IfErr result (λ e. e.item ≡ item) }
@@ -87,7 +79,7 @@ pub fn emit<N: Nodes<Item = T>, T: Drop>(
 /// # Errors
 /// Those of [`emit`], in its cases, where the copy is made: [`Refusal::NoMemory`] where it was refused, at a hub that is there and
 /// has an emitter. Nothing changed.
-pub fn emit_copy<N: Nodes<Item = O::Item>, O: Ops>(
+pub fn emit_copy<N, O: Ops>(
     alloc: Global,
     ops: &O,
     hubs: &mut Vec<Hub<O::Item>>,
@@ -95,9 +87,6 @@ pub fn emit_copy<N: Nodes<Item = O::Item>, O: Ops>(
     hub: HubId,
     item: &O::Item,
 ) -> Result<(), Refusal>
-    ensures stands { OnOk result ((m : Meaning O.Item) (subscriptions : List (SubscriptionOf N O.Item)) (h : History O.Item) →
-        StandsFor N.Machine m (rows_of hubs.old.items feeds.now.items subscriptions) h →
-        StandsFor N.Machine m (rows_of hubs.new.items feeds.now.items subscriptions) (with_published (Next item.now) hub h)) }
     ensures effect { OnOk result (IsEmittedAt hub.0 item.now hubs.old.items hubs.new.items) }
     ensures known { OnOk result (spec.has_emitter hubs.old.items feeds.now.items hub.0 ≡ true) }
     ensures err { IfErr result (λ r. IsCopyRefusal hubs.old.items feeds.now.items hub.0 r) }
@@ -121,14 +110,11 @@ pub fn emit_copy<N: Nodes<Item = O::Item>, O: Ops>(
 ///
 /// # Errors
 /// G1 exactly where there is no such hub or it has a feed, else G3 exactly where it has ended (rule 1.7); nothing changed.
-pub fn complete<N: Nodes<Item = T>, T: Drop>(
+pub fn complete<N, T: Drop>(
     hubs: &mut Vec<Hub<T>>,
     feeds: &Vec<Feed<N>>,
     hub: HubId,
 ) -> Result<(), Refusal>
-    ensures stands { OnOk result ((m : Meaning T) (subscriptions : List (SubscriptionOf N T)) (h : History T) →
-        StandsFor N.Machine m (rows_of hubs.old.items feeds.now.items subscriptions) h →
-        StandsFor N.Machine m (rows_of hubs.new.items feeds.now.items subscriptions) (with_published Complete hub h)) }
     ensures effect { OnOk result (IsEndedAt hub.0 Done hubs.old.items hubs.new.items) }
     ensures known { OnOk result (spec.has_emitter hubs.old.items feeds.now.items hub.0 ≡ true) }
     ensures err { IfErr result (λ r. IsEndRefusal hubs.old.items feeds.now.items hub.0 r) }
@@ -148,15 +134,12 @@ pub fn complete<N: Nodes<Item = T>, T: Drop>(
 ///
 /// # Errors
 /// G1 exactly where there is no such hub or it has a feed, else G3 exactly where it has ended (rule 1.7); nothing changed.
-pub fn fail<N: Nodes<Item = T>, T: Drop>(
+pub fn fail<N, T: Drop>(
     hubs: &mut Vec<Hub<T>>,
     feeds: &Vec<Feed<N>>,
     hub: HubId,
     number: u32,
 ) -> Result<(), Refusal>
-    ensures stands { OnOk result ((m : Meaning T) (subscriptions : List (SubscriptionOf N T)) (h : History T) →
-        StandsFor N.Machine m (rows_of hubs.old.items feeds.now.items subscriptions) h →
-        StandsFor N.Machine m (rows_of hubs.new.items feeds.now.items subscriptions) (with_published (Error (User number)) hub h)) }
     ensures effect { OnOk result (IsEndedAt hub.0 (Failed (User number)) hubs.old.items hubs.new.items) }
     ensures known { OnOk result (spec.has_emitter hubs.old.items feeds.now.items hub.0 ≡ true) }
     ensures err { IfErr result (λ r. IsEndRefusal hubs.old.items feeds.now.items hub.0 r) }
@@ -172,11 +155,7 @@ pub fn fail<N: Nodes<Item = T>, T: Drop>(
 }
 
 /// Whether the hub with this number is there, and has no feed.
-fn has_emitter<N: Nodes<Item = T>, T: Drop>(
-    hubs: &Vec<Hub<T>>,
-    feeds: &Vec<Feed<N>>,
-    hub: HubId,
-) -> bool
+fn has_emitter<N, T: Drop>(hubs: &Vec<Hub<T>>, feeds: &Vec<Feed<N>>, hub: HubId) -> bool
     ensures is { result ≡ spec.has_emitter hubs.now.items feeds.now.items hub.0 }
     ensures there { result ≡ true → hub.0 < length hubs.now.items }
     ensures unfed { result ≡ true → feed_of feeds.now.items hub.0 ≡ None }

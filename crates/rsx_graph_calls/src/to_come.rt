@@ -4,7 +4,8 @@ ghost use Rattle.std.specs.Prelude.{◌<◌, ◌^◌, [], length, IfOk};
 ghost use Rattle.rsx_graph_state.specs.Stands.{feed_of};
 ghost use Rattle.rsx_graph_calls.specs.ToCome.{AreToCome, IsToCome};
 
-use rsx_graph_state::{Feed, place_of};
+use crate::feeds::place_of;
+use rsx_graph_state::Feed;
 use rsx_hub::Hub;
 use rsx_pipe::Nodes;
 use rsx_types::{NoMemory, Ops, StreamValue};

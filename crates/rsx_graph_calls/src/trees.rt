@@ -1,17 +1,15 @@
 //! What the trees of subscriptions and of hubs' feeds recorded, and how their leaves joined.
 
 ghost use Rattle.std.specs.Prelude.{◌≡◌, ◌<◌, List, Some, length, map, slice_get, OnOk, IfOk, IfErr};
-ghost use Rattle.rsx_graph_state.specs.History.{History};
 ghost use Rattle.rsx_graph_state.specs.Moves.{rows_of};
-ghost use Rattle.rsx_graph_state.specs.Stands.{StandsFor};
-ghost use Rattle.rsx_graph_state.specs.Joins.{AreFeedJoins, JoinsStand};
+ghost use Rattle.rsx_graph_state.specs.Joins.{AreFeedJoins};
 ghost use Rattle.rsx_graph_state.specs.Answers.{IsLookRefusal};
 ghost use Rattle.rsx_graph_state.specs.Subscriptions.{HasNotesAt};
 ghost use Rattle.rsx_subscriber.specs.declared.subscription.Subscription.{Subscription as SubscriptionOf};
-ghost use Rattle.rsx_types.specs.Meaning.{Meaning};
-ghost use Rattle.rsx_graph_calls.specs.Looks.{HasFeedNotes, HasNotes, HasTreeJoins, IsFeedLookRefusal, IsTreeLookRefusal};
+ghost use Rattle.rsx_graph_calls.specs.Looks.{AreJoins, HasFeedNotes, HasNotes, IsFeedLookRefusal, IsTreeLookRefusal};
 
-use rsx_graph_state::{Feed, Refusal, place_of};
+use crate::feeds::place_of;
+use rsx_graph_state::{Feed, Refusal};
 use rsx_hub::Hub;
 use rsx_pipe::Nodes;
 use rsx_subscriber::Subscription;
@@ -94,7 +92,7 @@ fn notes_of_sub<N: Nodes<Item = T>, T: Drop>(
 /// # Errors
 /// G1 exactly for the tree of a hub that isn't there or has no feed, G2 exactly where there is no such subscription, and G8 where a
 /// growth was refused.
-pub fn joins<N: Nodes<Item = T>, T: Drop>(
+pub fn joins<N, T: Drop>(
     alloc: Global,
     hubs: &[Hub<T>],
     feeds: &[Feed<N>],
@@ -103,10 +101,7 @@ pub fn joins<N: Nodes<Item = T>, T: Drop>(
     tree: Tree,
 ) -> Result<Vec<u64>, Refusal>
     requires beside { length feed_joins.now ≡ length feeds.now }
-    ensures joins { IfOk result (λ v. (m : Meaning T) (subs : List (SubscriptionOf N T)) (h : History T) →
-        StandsFor N.Machine m (rows_of hubs.now feeds.now subs) h →
-        JoinsStand feeds.now (map (λ js. js.items) sub_joins.now) (map (λ js. js.items) feed_joins.now) h →
-        HasTreeJoins h tree v.items) }
+    ensures joins { IfOk result (λ v. AreJoins hubs.now feeds.now (map (λ js. js.items) sub_joins.now) (map (λ js. js.items) feed_joins.now) tree v.items) }
     ensures err { IfErr result (λ r. (subs : List (SubscriptionOf N T)) → IsTreeLookRefusal (rows_of hubs.now feeds.now subs) (length sub_joins.now) tree r) }
 {
     match tree {
@@ -122,7 +117,7 @@ pub fn joins<N: Nodes<Item = T>, T: Drop>(
 }
 
 /// Those of a hub's feed.
-fn joins_of_feed<N: Nodes<Item = T>, T: Drop>(
+fn joins_of_feed<N, T: Drop>(
     alloc: Global,
     hubs: &[Hub<T>],
     feeds: &[Feed<N>],

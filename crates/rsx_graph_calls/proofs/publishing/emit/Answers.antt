@@ -1,14 +1,6 @@
 use Rattle.std.proofs.Common.{◌≡◌, ◌∙◌, arith, refl, sym, true}
 use Rattle.rsx_graph_state.proofs.Graphs.{found}
-use Rattle.rsx_graph_calls.proofs.Published.{emitted_stands}
 use Rattle.rsx_graph_calls.proofs.publishing.emit.Goals as goal
-
-pub returns-in-Ok-clause-stands : goal.returns-in-Ok-clause-stands
-returns-in-Ok-clause-stands g c = λ m subscriptions h s.
-    let known : c.has_emitter.result ≡ true = grind (arith, c.if-not-has_emitter.false) in
-    let old = c.index_mut.result.now in
-    let at = found c.args.hubs.now.items c.args.hub.0 old (c.has_emitter.ensures.there known) (sym c.index_mut.ensures.value) in
-    emitted_stands g.N.Machine m c.args.item c.args.hub c.args.hubs.now.items c.args.feeds.now.items subscriptions old c.emit.new.self h at (c.has_emitter.ensures.unfed known) c.in-Ok.ensures.enabled c.in-Ok.ensures.ok s
 
 pub returns-in-Ok-clause-effect : goal.returns-in-Ok-clause-effect
 returns-in-Ok-clause-effect g c =

@@ -1,16 +1,13 @@
-use Rattle.std.proofs.Common.{◌∙◌, ap, length, map, slice_get, subst, sym}
+use Rattle.std.proofs.Common.{length, map, subst, sym}
 use Rattle.rsx_graph_state.specs.Moves.{rows_of}
-use Rattle.rsx_graph_state.proofs.Joins.{joins_there}
 use Rattle.rsx_types.specs.declared.names.Tree.{Tree}
-use Rattle.rsx_graph_calls.specs.Looks.{HasTreeJoins, IsTreeLookRefusal}
-use Rattle.rsx_graph_calls.proofs.Noted.{fed_joins}
+use Rattle.rsx_graph_calls.specs.Looks.{AreJoins, IsTreeLookRefusal}
 use Rattle.rsx_graph_calls.proofs.trees.joins.Goals as goal
 
 pub returns-in-Ok-clause-joins : goal.returns-in-Ok-clause-joins
-returns-in-Ok-clause-joins g c = λ m subs h s j.
-    let P : Tree → Type 0 = λ t. HasTreeJoins h t c.in-Ok.joins.items in
-    subst P (sym c.in-Feed.is)
-    (fed_joins g.N.Machine m (rows_of c.args.hubs.now c.args.feeds.now subs) (map (λ js. js.items) c.args.sub_joins.now) (map (λ js. js.items) c.args.feed_joins.now) h c.in-Feed.hub.0 c.in-Ok.joins.items c.in-Ok.ensures.known c.in-Ok.ensures.joins s j)
+returns-in-Ok-clause-joins g c =
+    let P : Tree → Type 0 = λ t. AreJoins c.args.hubs.now c.args.feeds.now (map (λ js. js.items) c.args.sub_joins.now) (map (λ js. js.items) c.args.feed_joins.now) t c.in-Ok.joins.items in
+    subst P (sym c.in-Feed.is) (c.in-Ok.ensures.known, c.in-Ok.ensures.joins)
 
 pub returns-in-Err-clause-err : goal.returns-in-Err-clause-err
 returns-in-Err-clause-err g c = λ subs.
@@ -18,9 +15,9 @@ returns-in-Err-clause-err g c = λ subs.
     subst P (sym c.in-Feed.is) (c.in-Err.ensures.err subs)
 
 pub returns-in-Ok-joins_of_sub-clause-joins : goal.returns-in-Ok-joins_of_sub-clause-joins
-returns-in-Ok-joins_of_sub-clause-joins g c = λ m subs h s j.
-    let P : Tree → Type 0 = λ t. HasTreeJoins h t c.in-Ok-joins_of_sub.joins.items in
-    subst P (sym c.in-Sub.is) (joins_there h.pasts c.in-Sub.sub.0 c.in-Ok-joins_of_sub.joins.items (ap (λ l. slice_get l c.in-Sub.sub.0) (sym j.subs) ∙ c.in-Ok-joins_of_sub.ensures.joins))
+returns-in-Ok-joins_of_sub-clause-joins g c =
+    let P : Tree → Type 0 = λ t. AreJoins c.args.hubs.now c.args.feeds.now (map (λ js. js.items) c.args.sub_joins.now) (map (λ js. js.items) c.args.feed_joins.now) t c.in-Ok-joins_of_sub.joins.items in
+    subst P (sym c.in-Sub.is) c.in-Ok-joins_of_sub.ensures.joins
 
 pub returns-in-Err-joins_of_sub-clause-err : goal.returns-in-Err-joins_of_sub-clause-err
 returns-in-Err-joins_of_sub-clause-err g c = λ subs.
