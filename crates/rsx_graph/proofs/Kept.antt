@@ -2,17 +2,21 @@
 use Rattle.rsx_kinds.specs.Any.{any_machine}
 use Rattle.rsx_kinds.specs.Routes.{tree_nodes}
 use Rattle.rsx_graph.proofs.Laws.{any_laws}
-use Rattle.rsx_graph.specs.Kinds.{IsMoved, IsSubscribed, HasEnded, HasPumped as RowsPumped, IsMoveMade, LeadTo, Rows, Subscription, Feed}
-use Rattle.std.proofs.Common.{◌≡◌, ℕ, ◌<◌, ◌≤◌, ℤ, zero, suc, pos, negsuc, List, [], ◌∷◌, length, length-append, map, slice_get, Option, Some, Result, Ok, Err, IfOk, OnOk, OnErr, refl, ap, sym, ◌∙◌, subst, arith}
+use Rattle.rsx_graph.specs.Kinds.{IsMoved, StandsFor, IsSubscribed, HasEnded, HasPumped as RowsPumped, IsMoveMade, LeadTo, Rows, Subscription, Feed}
+use Rattle.std.proofs.Common.{◌≡◌, ℕ, ◌<◌, ◌≤◌, ℤ, zero, suc, pos, negsuc, true, ◌++◌, List, [], ◌∷◌, length, length-append, map, slice_get, Option, Some, Result, Ok, Err, IfErr, IfOk, OnOk, OnErr, refl, ap, sym, ◌∙◌, subst, arith}
 use Rattle.std.proofs.lemmas.Option.{same_Some}
 use Rattle.rsx_graph_moves.proofs.Keeping.{KeepHubs, lead_keep, moved_keep}
 use Rattle.rsx_graph_moves.proofs.Serving.{rows_served}
 use Rattle.rsx_graph_moves.specs.Pumped.{Made, after_move, after_moves}
 use Rattle.rsx_tree.proofs.Runs.{leads_fold}
-use Rattle.rsx_graph_calls.proofs.Kept.{joins_same, kept_changed, kept_made}
+use Rattle.rsx_graph_calls.proofs.Behind.{hub_behind}
+use Rattle.rsx_graph_calls.proofs.Kept.{joins_hub, joins_published, joins_same, kept_changed, kept_made}
 use Rattle.rsx_graph_calls.proofs.Names.{names_kept}
-use Rattle.rsx_graph_calls.specs.Edits.{NameHubs}
-use Rattle.rsx_graph_state.specs.Prelude.{JoinsStand, History, with_made, rows_of, HubState, SubscriptionState}
+use Rattle.rsx_graph_calls.proofs.Published.{emitted_stands, ended_stands}
+use Rattle.rsx_graph_calls.specs.Edits.{NameHubs, with_hub}
+use Rattle.rsx_graph_calls.specs.Publishes.{has_emitter, with_published}
+use Rattle.rsx_graph_state.specs.Hubs.{IsEmittedAt, IsEndedAt}
+use Rattle.rsx_graph_state.specs.Prelude.{fresh_hub, JoinsStand, History, with_made, rows_of, HubState, SubscriptionState}
 use Rattle.rsx_graph_calls.specs.Regions.{HasRegion, RegionsStand, region_in}
 use Rattle.rsx_graph_calls.specs.Requests.{with_past}
 use Rattle.rsx_graph_state.proofs.Graphs.{joins_kept}
@@ -20,9 +24,9 @@ use Rattle.rsx_graph_state.specs.declared.TheConstants.{MOST_HUBS, MOST_SUBSCRIP
 use Rattle.rsx_graph_state.specs.declared.refusal.Refusal.{Refusal}
 use Rattle.rsx_graph_state.specs.declared.step.Pumped.{Pumped}
 use Rattle.rsx_graph_state.specs.declared.step.Pumped.TheVariants.{Idle}
-use Rattle.rsx_subscriber.specs.Prelude.{Delivered, Expr, Past, requested, requested_in}
+use Rattle.rsx_subscriber.specs.Prelude.{with_signal, Delivered, Expr, Past, requested, requested_in}
 use Rattle.rsx_subscriber.specs.declared.state.SubscriptionState.TheVariants.{Open, Ended, Cancelled, Refused}
-use Rattle.rsx_sources.specs.Prelude.{Meaning, Move, SubId, Signal}
+use Rattle.rsx_sources.specs.Prelude.{Ending, HubId, HubKind, Meaning, Move, Next, Stream, SubId, Signal}
 use Rattle.rsx_graph.specs.Pumped.{HasPumped}
 use Rattle.rsx_graph.specs.Read.{IsAllRead}
 use Rattle.rsx_graph.specs.Stands.{GraphStands, GraphState, IsAllServed, nothing}
@@ -142,20 +146,84 @@ graph_pumped m budget old before result new after k = record {
 }
 
 -- where no move is enabled any more, each live subscriber was served
-pub idle_served : {T : Type 0} (m : Meaning T) (budget : ℕ) (old new : Rows T) (before after : Delivered T) (p : Pumped) (joins feed_joins : List (List ℕ)) (regions : List ℕ) → RowsPumped m budget old before (Ok p) new after → p ≡ Idle → IsAllServed m (record { rows = new; joins = joins; feed_joins = feed_joins; regions = regions })
-idle_served {T} m budget old new before after p joins feed_joins regions k idle =
+pub idle_served : {T : Type 0} (m : Meaning T) (budget : ℕ) (old : GraphState T) (new : Rows T) (before after : Delivered T) (r : Result Pumped Refusal) → RowsPumped m budget old.rows before r new after →
+    IfOk r (λ p. p ≡ Idle → IsAllServed m (record { rows = new; joins = old.joins; feed_joins = old.feed_joins; regions = old.regions }))
+idle_served {T} m budget old new before after (Ok p) k = λ idle h s.
     let P : Pumped → Type 0 = λ q. HasEnded m budget (length k.0) new (Ok q) in
-    λ h s. rows_served any_machine tree_nodes any_laws m new h s.rows (subst P idle k.1).1
+    rows_served any_machine tree_nodes any_laws m new h s.rows (subst P idle k.1).1
+idle_served m budget old new before after (Err e) k = tt
 
 -- and each node that reads a hub and is at rest has got all that was published there, where each hub in front of which a signal waits
 -- has one reader at most
-pub idle_read : {T : Type 0} (m : Meaning T) (budget : ℕ) (old new : Rows T) (before after : Delivered T) (p : Pumped) (joins feed_joins : List (List ℕ)) (regions : List ℕ) → length new.hubs ≤ MOST_HUBS → RowsPumped m budget old before (Ok p) new after → p ≡ Idle →
-    IsAllRead m (record { rows = new; joins = joins; feed_joins = feed_joins; regions = regions })
-idle_read {T} m budget old new before after p joins feed_joins regions few k idle =
+pub idle_read : {T : Type 0} (m : Meaning T) (budget : ℕ) (old : GraphState T) (new : Rows T) (before after : Delivered T) (r : Result Pumped Refusal) → length new.hubs ≤ MOST_HUBS → RowsPumped m budget old.rows before r new after →
+    IfOk r (λ p. p ≡ Idle → IsAllRead m (record { rows = new; joins = old.joins; feed_joins = old.feed_joins; regions = old.regions }))
+idle_read {T} m budget old new before after (Ok p) few k = λ idle h s wait within.
     let P : Pumped → Type 0 = λ q. HasEnded m budget (length k.0) new (Ok q) in
-    λ h s wait within. rows_read m new h s.rows wait (hubs_quiet m new few (subst P idle k.1).1) within
+    rows_read m new h s.rows wait (hubs_quiet m new few (subst P idle k.1).1) within
+idle_read m budget old new before after (Err e) few k = tt
 
 -- ---- a refused call
 
 pub unchanged : {T : Type 0} (m : Meaning T) (old new : GraphState T) → new ≡ old → (h : History T) → GraphStands m old h → GraphStands m new h
 unchanged {T} m old new same h s = let P : GraphState T → Type 0 = λ g. GraphStands m g h in subst P (sym same) s
+
+-- ---- one call
+
+-- facts of a call's answer, of which others follow
+pub on_ok : {A E P Q : Type 0} (r : Result A E) → OnOk r P → (P → Q) → OnOk r Q
+on_ok (Ok a) p k = k p
+on_ok (Err e) p k = tt
+
+pub on_both : {A E P Q R : Type 0} (r : Result A E) → OnOk r P → OnOk r Q → (P → Q → R) → OnOk r R
+on_both (Ok a) p q k = k p q
+on_both (Err e) p q k = tt
+
+pub on_err : {A E P Q : Type 0} (r : Result A E) → OnErr r P → (P → Q) → OnErr r Q
+on_err (Ok a) p k = tt
+on_err (Err e) p k = k p
+
+pub if_ok : {A E : Type 0} {P Q : A → Type 0} (r : Result A E) → IfOk r P → ((a : A) → P a → Q a) → IfOk r Q
+if_ok (Ok a) p k = k a p
+if_ok (Err e) p k = tt
+
+pub if_err : {A E : Type 0} {P Q : E → Type 0} (r : Result A E) → IfErr r P → ((e : E) → P e → Q e) → IfErr r Q
+if_err (Ok a) p k = tt
+if_err (Err e) p k = k e p
+
+-- an item was emitted
+pub emitted_graph : {T : Type 0} (m : Meaning T) (x : T) (i : HubId) (old : GraphState T) (hubs : List (HubState T)) (h : History T) → IsEmittedAt i.0 x old.rows.hubs hubs → has_emitter old.rows.hubs old.rows.feeds i.0 ≡ true → GraphStands m old h →
+    GraphStands m (state_with hubs old.rows.feeds old.rows.subs old.joins old.feed_joins old.regions) (with_published (Next x) i h)
+emitted_graph m x i old hubs h effect known s = record {
+  rows = emitted_stands any_machine m x i old.rows.hubs hubs old.rows.feeds old.rows.subs h effect known s.rows;
+  joined = joins_published (Next x) i old.rows.feeds old.joins old.feed_joins h s.joined;
+  placed = s.placed;
+}
+
+-- a hub ended, by a signal that gives any stream this ending
+pub ended_graph : {T : Type 0} (m : Meaning T) (sig : Signal T) (d : Ending) (i : HubId) (old : GraphState T) (hubs : List (HubState T)) (h : History T) → ((w : Stream T) → with_signal sig w ≡ record { items = w.items; ending = d }) → IsEndedAt i.0 d old.rows.hubs hubs → has_emitter old.rows.hubs old.rows.feeds i.0 ≡ true → GraphStands m old h →
+    GraphStands m (state_with hubs old.rows.feeds old.rows.subs old.joins old.feed_joins old.regions) (with_published sig i h)
+ended_graph m sig d i old hubs h ends effect known s = record {
+  rows = ended_stands any_machine m sig d i old.rows.hubs hubs old.rows.feeds old.rows.subs h ends effect known s.rows;
+  joined = joins_published sig i old.rows.feeds old.joins old.feed_joins h s.joined;
+  placed = s.placed;
+}
+
+-- there is a hub more, with an emitter
+pub begun_hub : {T : Type 0} (m : Meaning T) (k : HubKind) (c : ℕ) (old : GraphState T) (hubs : List (HubState T)) (h : History T) → hubs ≡ old.rows.hubs ++ fresh_hub k c ∷ [] → NameHubs (length old.rows.hubs) old.rows.feeds → GraphStands m old h →
+    GraphStands m (state_with hubs old.rows.feeds old.rows.subs old.joins old.feed_joins old.regions) (with_hub k h)
+begun_hub m k c old hubs h effect named s = record {
+  rows = hub_behind any_machine m k c old.rows hubs h effect named s.rows;
+  joined = joins_hub k old.rows.feeds old.joins old.feed_joins h s.joined;
+  placed = s.placed;
+}
+
+-- a move was made, unless it was refused
+pub graph_made : {T : Type 0} (m : Meaning T) (mv : Move) (sent : Option (Signal T)) (old : GraphState T) (new : Rows T) (r : Result (Option (SubId × Signal T)) Refusal) →
+    IfOk r (λ o. (h : History T) → StandsFor m old.rows h → StandsFor m new (with_made mv o sent h)) → IfOk r (λ o. IsMoved m mv old.rows new o) →
+    IfOk r (λ o. (h : History T) → GraphStands m old h → GraphStands m (record { rows = new; joins = old.joins; feed_joins = old.feed_joins; regions = old.regions }) (with_made mv o sent h))
+graph_made m mv sent old new (Ok o) stands effect = λ h s. record {
+  rows = stands h s.rows;
+  joined = made_joins m mv o sent old.rows new old.joins old.feed_joins h effect s.joined;
+  placed = made_regions mv o sent old.regions h s.placed;
+}
+graph_made m mv sent old new (Err e) stands effect = tt

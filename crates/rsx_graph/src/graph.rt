@@ -134,10 +134,7 @@ impl<O: Ops> Graph<O> {
         ensures err { IfErr result (λ r. (r ≡ Refusal.UnknownSub) × (length self.old.subscriptions.items ≤ sub.0)) }
         ensures same { OnErr result (state_of self.new ≡ state_of self.old) }
     {
-        match cancel(&mut self.subscriptions, sub) {
-            Ok(()) => Ok(()),
-            Err(why) => Err(why),
-        }
+        cancel(&mut self.subscriptions, sub)
     }
 
     /// Requests `n` items more, at most 2^63-1 in all (rules 3.8, 3.9 and 3.17). The signal is the error of a bad request,
@@ -153,10 +150,7 @@ impl<O: Ops> Graph<O> {
         ensures err { IfErr result (λ r. (r ≡ Refusal.UnknownSub) × (length self.old.subscriptions.items ≤ sub.0)) }
         ensures same { OnErr result (state_of self.new ≡ state_of self.old) }
     {
-        match request(&mut self.subscriptions, sub, n) {
-            Ok(signal) => Ok(signal),
-            Err(why) => Err(why),
-        }
+        request(&mut self.subscriptions, sub, n)
     }
 
     /// Makes one move. A Take from the root edge of a subscription answers the signal that it delivered. An Accept takes the signal
@@ -167,10 +161,10 @@ impl<O: Ops> Graph<O> {
     /// # Errors
     /// G1 for a hub that isn't there and for the tree of a hub that has no feed, G2 for a subscription that isn't there, else G7
     /// exactly where the move isn't enabled, and G8 where a growth was refused; nothing changed. An Ask allocates nothing, and so
-    /// does a Take but one that leads into a hub. A Send does only where its receiver is a `buffer` or a `distinct`, or where a
-    /// function of the caller's that it calls may, or where it leads into a hub, and into the queue of an edge that crosses where a
-    /// pick or a row of its node may. A Pick and a Row do where the node says so (of a `merge` and a `combineLatest` always), and an
-    /// Accept always may.
+    /// does a Take but one that leads into a hub. A Send does only where its receiver is a `buffer`, a `distinct`, a `window`, a
+    /// `flatMap` or a `groupBy`, or where a function of the caller's that it calls may, or where it leads into a hub, and into the
+    /// queue of an edge that crosses where a pick or a row of its node may. A Pick and a Row of a `zip` do only where the function
+    /// that makes its rows may; those of other nodes always may, and so may an Accept.
     pub fn make(
         &mut self,
         alloc: Global,
@@ -189,17 +183,14 @@ impl<O: Ops> Graph<O> {
         ensures same { OnErr result (state_of self.new ≡ state_of self.old) }
     {
         let ops = self.ops;
-        match make(
+        make(
             alloc,
             &ops,
             &mut self.hubs,
             &mut self.feeds,
             &mut self.subscriptions,
             step,
-        ) {
-            Ok(delivered) => Ok(delivered),
-            Err(why) => Err(why),
-        }
+        )
     }
 
     /// Makes enabled moves, in an order of its own, until none is enabled (Idle) or `budget` moves were made (Budget); where
@@ -212,8 +203,8 @@ impl<O: Ops> Graph<O> {
     /// # Errors
     /// G8 where a growth was refused; the moves made before stand, and their deliveries are in `out`. Where no hub has a feed it
     /// comes only where `out` has no room for one signal more, where a signal waits in the inbox of a hub, or where some node of a
-    /// subscription's tree may allocate: a `buffer` or a `distinct`, or a node that calls a function of the caller's whose
-    /// [`Ops`] says that it may (`allocates`).
+    /// subscription's tree may allocate: a `buffer`, a `distinct`, a `window`, a `merge`, a `combineLatest`, a `flatMap` or a
+    /// `groupBy`, or a node that calls a function of the caller's whose [`Ops`] says that it may (`allocates`).
     pub fn pump(
         &mut self,
         alloc: Global,
@@ -234,7 +225,7 @@ impl<O: Ops> Graph<O> {
         ensures memory { drives_allocate_in self.old ≡ false → self.old.feeds.items ≡ [] → OnErr result (IsFull out.new) }
     {
         let ops = self.ops;
-        match pump(
+        pump(
             alloc,
             &ops,
             &mut self.hubs,
@@ -242,10 +233,7 @@ impl<O: Ops> Graph<O> {
             &mut self.subscriptions,
             budget,
             out,
-        ) {
-            Ok(ended) => Ok(ended),
-            Err(why) => Err(why),
-        }
+        )
     }
 
     /// What the graph still owes a subscriber: what is on its root edge, and then what comes out of its tree, where at each hub just
@@ -259,17 +247,14 @@ impl<O: Ops> Graph<O> {
         ensures owes { IfOk result (λ v. IfStandsFor self.now (λ h. IsOwed (O.meaning self.now.ops) (state_of self.now).rows h sub v)) }
         ensures err { IfErr result (λ r. IsLookRefusal (length self.now.subscriptions.items) sub r) }
     {
-        match owed(
+        owed(
             alloc,
             &self.ops,
             &self.hubs,
             &self.feeds,
             &self.subscriptions,
             sub,
-        ) {
-            Ok(value) => Ok(value),
-            Err(why) => Err(why),
-        }
+        )
     }
 
     /// What the nodes of a tree recorded, in pre-order: of a subscription's tree, or of that of a hub's feed.
@@ -281,10 +266,7 @@ impl<O: Ops> Graph<O> {
         ensures notes { IfOk result (λ v. HasNotes (state_of self.now).rows tree v.items) }
         ensures err { IfErr result (λ r. IsTreeLookRefusal (state_of self.now).rows (length self.now.subscriptions.items) tree r) }
     {
-        match notes(alloc, &self.hubs, &self.feeds, &self.subscriptions, tree) {
-            Ok(notes) => Ok(notes),
-            Err(why) => Err(why),
-        }
+        notes(alloc, &self.hubs, &self.feeds, &self.subscriptions, tree)
     }
 
     /// The joins of a tree's leaves that read a hub, from left to right: how many items of its hub each of them misses.
@@ -296,17 +278,14 @@ impl<O: Ops> Graph<O> {
         ensures joins { IfOk result (λ v. IfStandsFor self.now (λ h. HasTreeJoins h tree v.items)) }
         ensures err { IfErr result (λ r. IsTreeLookRefusal (state_of self.now).rows (length self.now.joins.items) tree r) }
     {
-        match joins(
+        joins(
             alloc,
             &self.hubs,
             &self.feeds,
             &self.joins,
             &self.feed_joins,
             tree,
-        ) {
-            Ok(joins) => Ok(joins),
-            Err(why) => Err(why),
-        }
+        )
     }
 
     /// The region of a subscription: the number of the worker that serves the root of its expression, and so delivers its signals. A

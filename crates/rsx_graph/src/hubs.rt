@@ -40,10 +40,7 @@ impl<O: Ops> Graph<O> {
         ensures err { IfErr result (λ r. IsHubRefusal kind capacity (length self.old.hubs.items) r) }
         ensures same { OnErr result (state_of self.new ≡ state_of self.old) }
     {
-        match hub(alloc, &mut self.hubs, &self.feeds, kind, capacity) {
-            Ok(id) => Ok(id),
-            Err(why) => Err(why),
-        }
+        hub(alloc, &mut self.hubs, &self.feeds, kind, capacity)
     }
 
     /// A hub that publishes what an expression gives over the hubs that are there: its feed, whose moves [`Graph::pump`] makes too.
@@ -112,10 +109,7 @@ impl<O: Ops> Graph<O> {
         ensures err { IfErr result (λ e. IsEmitRefusal self.old.hubs.items self.old.feeds.items hub.0 e.refusal) }
         ensures same { OnErr result (state_of self.new ≡ state_of self.old) }
     {
-        match emit(&mut self.hubs, &self.feeds, hub, item) {
-            Ok(()) => Ok(()),
-            Err(back) => Err(back),
-        }
+        emit(&mut self.hubs, &self.feeds, hub, item)
     }
 
     /// Publishes a copy of an item, as [`Graph::emit`] does; at a hub with an emitter want of memory for the copy is refused first.
@@ -134,10 +128,7 @@ impl<O: Ops> Graph<O> {
         ensures same { OnErr result (state_of self.new ≡ state_of self.old) }
     {
         let ops = self.ops;
-        match emit_copy(alloc, &ops, &mut self.hubs, &self.feeds, hub, item) {
-            Ok(()) => Ok(()),
-            Err(why) => Err(why),
-        }
+        emit_copy(alloc, &ops, &mut self.hubs, &self.feeds, hub, item)
     }
 
     /// Completes a hub with an emitter: its completion waits behind the items of its inbox (rule 1.5). It takes no memory.
@@ -153,10 +144,7 @@ impl<O: Ops> Graph<O> {
         ensures err { IfErr result (λ r. IsEndRefusal self.old.hubs.items self.old.feeds.items hub.0 r) }
         ensures same { OnErr result (state_of self.new ≡ state_of self.old) }
     {
-        match complete(&mut self.hubs, &self.feeds, hub) {
-            Ok(()) => Ok(()),
-            Err(why) => Err(why),
-        }
+        complete(&mut self.hubs, &self.feeds, hub)
     }
 
     /// Fails a hub with an emitter with this number: its failure waits behind the items of its inbox (rule 1.4). It takes no memory.
@@ -172,9 +160,6 @@ impl<O: Ops> Graph<O> {
         ensures err { IfErr result (λ r. IsEndRefusal self.old.hubs.items self.old.feeds.items hub.0 r) }
         ensures same { OnErr result (state_of self.new ≡ state_of self.old) }
     {
-        match fail(&mut self.hubs, &self.feeds, hub, number) {
-            Ok(()) => Ok(()),
-            Err(why) => Err(why),
-        }
+        fail(&mut self.hubs, &self.feeds, hub, number)
     }
 }

@@ -1,6 +1,6 @@
 use Rattle.std.proofs.Common.{map, sym, ◌∙◌}
 use Rattle.rsx_graph_state.specs.Moves.{rows_of}
-use Rattle.rsx_graph.proofs.Kept.{made_joins, made_regions, names_made, state_with}
+use Rattle.rsx_graph.proofs.Kept.{graph_made, if_err, names_made, on_err, state_with}
 use Rattle.rsx_graph.specs.InGraph.{sent_in, state_of}
 use Rattle.rsx_graph.proofs.graph.Graph.make.Goals as goal
 
@@ -10,17 +10,17 @@ invariant_of-self-clause-named g c = names_made (g.O.Ops.meaning c.args.self.now
 pub invariant_of-self-clause-beside : goal.invariant_of-self-clause-beside
 invariant_of-self-clause-beside g c = c.args.self.now.beside ∙ sym c.make.ensures.feeds
 
-pub returns-in-Ok-clause-stands : goal.returns-in-Ok-clause-stands
-returns-in-Ok-clause-stands g c = λ h s.
+pub returns-clause-stands : goal.returns-clause-stands
+returns-clause-stands g c =
     let graph = c.args.self.now in
-    record {
-      rows = c.in-Ok.ensures.stands h s.rows;
-      joined = made_joins (g.O.Ops.meaning graph.ops) c.args.step c.in-Ok.delivered (sent_in graph c.args.step) (state_of graph).rows (rows_of c.make.new.hubs.items c.make.new.feeds.items c.make.new.subscriptions.items) (map (λ v. v.items) graph.joins.items) (map (λ v. v.items) graph.feed_joins.items) h c.in-Ok.ensures.effect s.joined;
-      placed = made_regions c.args.step c.in-Ok.delivered (sent_in graph c.args.step) graph.regions.items h s.placed;
-    }
+    graph_made (g.O.Ops.meaning graph.ops) c.args.step (sent_in graph c.args.step) (state_of graph) (rows_of c.make.new.hubs.items c.make.new.feeds.items c.make.new.subscriptions.items) c.make.result c.make.ensures.stands c.make.ensures.effect
 
-pub returns-in-Err-clause-same : goal.returns-in-Err-clause-same
-returns-in-Err-clause-same g c =
+pub returns-clause-same : goal.returns-clause-same
+returns-clause-same g c =
     let graph = c.args.self.now in
-    let same = c.in-Err.ensures.same in
-    λ i. state_with (same.0 i) (same.1 i) (same.2 i) (map (λ v. v.items) graph.joins.items) (map (λ v. v.items) graph.feed_joins.items) graph.regions.items
+    on_err c.make.result c.make.ensures.same
+    (λ same i. state_with (same.0 i) (same.1 i) (same.2 i) (map (λ v. v.items) graph.joins.items) (map (λ v. v.items) graph.feed_joins.items) graph.regions.items)
+
+pub returns-clause-memory : goal.returns-clause-memory
+returns-clause-memory g c = λ quiet. if_err c.make.result c.make.ensures.memory
+    (λ r k. k quiet)

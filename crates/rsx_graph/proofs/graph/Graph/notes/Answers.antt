@@ -1,7 +1,7 @@
 use Rattle.rsx_graph.proofs.graph.Graph.notes.Goals as goal
 
-pub returns-in-Ok-clause-notes : goal.returns-in-Ok-clause-notes
-returns-in-Ok-clause-notes g c = rw (c.deref.ensures.value, c.deref-2.ensures.value, c.deref-3.ensures.value) at c.in-Ok.ensures.notes
+pub returns-clause-notes : goal.returns-clause-notes
+returns-clause-notes g c = rw (c.deref.ensures.value, c.deref-2.ensures.value, c.deref-3.ensures.value) at c.notes.ensures.notes
 
-pub returns-in-Err-clause-err : goal.returns-in-Err-clause-err
-returns-in-Err-clause-err g c = rw (c.deref.ensures.value, c.deref-2.ensures.value, c.deref-3.ensures.value) at c.in-Err.ensures.err
+pub returns-clause-err : goal.returns-clause-err
+returns-clause-err g c = rw (c.deref.ensures.value, c.deref-2.ensures.value, c.deref-3.ensures.value) at c.notes.ensures.err
