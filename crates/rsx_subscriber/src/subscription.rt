@@ -82,21 +82,10 @@ impl<N: Nodes<Item = T> + Drop, T: Drop> Subscription<N, T> {
     }
 }
 
-impl<N: Nodes<Item = T>, T: Drop> Subscription<N, T> {
-    ghost use Rattle.std.specs.Prelude.{◌≡◌, ◌<◌, ◌+◌, [], List, OnOk, OnErr, IfOk, IfErr, IsOk, IfSome, OnSome, IfNone, Some, None, true, false, length, map};
-    ghost use Rattle.rsx_types.specs.Meaning.{Meaning};
-    ghost use Rattle.rsx_types.specs.Stream.{Stream};
-    ghost use Rattle.rsx_sources.specs.Steps.{IsNotMade};
-    ghost use Rattle.rsx_tree.specs.Edges.{closed_view};
-    ghost use Rattle.rsx_pipe.specs.Published.{AreTaken};
-    ghost use Rattle.rsx_tree.specs.Refusals.{OnlyNotEnabled};
-    ghost use Rattle.rsx_pipe.specs.Part.{all_edges, IsPutOut, pump_allocates};
-    ghost use Rattle.rsx_pipe.specs.Tree.{notes_of, IsAllClosed};
-    ghost use Rattle.rsx_subscriber.specs.Past.{subscribed, cancelled, requested, given, request_answer};
-    ghost use Rattle.rsx_subscriber.specs.Stands.{Stands, StandsAfter, standing_of, take_enabled, enabled_inside, inner_move, make_allocates, IsWorked, IsTake, IsStillOwed};
-    ghost use Rattle.rsx_subscriber.specs.Delivered.{IsFull};
-    ghost use Rattle.rsx_subscriber.specs.Edited.{IsRequested, IsCancelled};
-    ghost use Rattle.rsx_subscriber.specs.Pumped.{IsPumped, SomePumped, HasPumped, HasPumpedPart, NothingTaken, IsRest, IsQuiet, IsAwake, Spent, moves_of};
+// What needs no more of nodes than their type can be called at any of them, and costs a caller nothing to prove.
+impl<N, T> Subscription<N, T> {
+    ghost use Rattle.std.specs.Prelude.{◌≡◌};
+    ghost use Rattle.rsx_subscriber.specs.Stands.{standing_of};
 
     /// How the subscription stands.
     pub fn standing(&self) -> SubscriptionState
@@ -113,6 +102,30 @@ impl<N: Nodes<Item = T>, T: Drop> Subscription<N, T> {
             },
         }
     }
+
+    /// How many items the subscriber asked for.
+    pub fn asked(&self) -> u64
+        ensures { result ≡ self.now.demand.asked }
+    {
+        self.demand.asked
+    }
+}
+
+impl<N: Nodes<Item = T>, T: Drop> Subscription<N, T> {
+    ghost use Rattle.std.specs.Prelude.{◌≡◌, ◌<◌, ◌+◌, [], List, OnOk, OnErr, IfOk, IfErr, IsOk, IfSome, OnSome, IfNone, Some, None, true, false, length, map};
+    ghost use Rattle.rsx_types.specs.Meaning.{Meaning};
+    ghost use Rattle.rsx_types.specs.Stream.{Stream};
+    ghost use Rattle.rsx_sources.specs.Steps.{IsNotMade};
+    ghost use Rattle.rsx_tree.specs.Edges.{closed_view};
+    ghost use Rattle.rsx_pipe.specs.Published.{AreTaken};
+    ghost use Rattle.rsx_tree.specs.Refusals.{OnlyNotEnabled};
+    ghost use Rattle.rsx_pipe.specs.Part.{all_edges, IsPutOut, pump_allocates};
+    ghost use Rattle.rsx_pipe.specs.Tree.{notes_of, IsAllClosed};
+    ghost use Rattle.rsx_subscriber.specs.Past.{subscribed, cancelled, requested, given, request_answer};
+    ghost use Rattle.rsx_subscriber.specs.Stands.{Stands, StandsAfter, standing_of, take_enabled, enabled_inside, inner_move, make_allocates, IsWorked, IsTake, IsStillOwed};
+    ghost use Rattle.rsx_subscriber.specs.Delivered.{IsFull};
+    ghost use Rattle.rsx_subscriber.specs.Edited.{IsRequested, IsCancelled};
+    ghost use Rattle.rsx_subscriber.specs.Pumped.{IsPumped, SomePumped, HasPumped, HasPumpedPart, NothingTaken, IsRest, IsQuiet, IsAwake, Spent, moves_of};
 
     /// The subscriber is gone: closes the root edge and all below it, and drops what is queued.
     fn close(&mut self)
@@ -462,13 +475,6 @@ impl<N: Nodes<Item = T>, T: Drop> Subscription<N, T> {
             return false;
         }
         self.part.is_idle(&self.queue)
-    }
-
-    /// How many items the subscriber asked for.
-    pub fn asked(&self) -> u64
-        ensures { result ≡ self.now.demand.asked }
-    {
-        self.demand.asked
     }
 
     /// What the nodes of its tree recorded, in pre-order.
