@@ -4,9 +4,9 @@ use crate::prices::Prices;
 use crate::published::publish;
 use crate::received;
 use anyhow::Result;
-use rsx_graph::{Deliveries, Graph};
-use rsx_model::{Expr, scratch};
-use rsx_types::{Ending, HubKind, Move, NodeId, Note, StreamValue, Tree};
+use rsx::{
+    Deliveries, Ending, Expr, Graph, HubKind, Move, NodeId, Note, StreamValue, Tree, scratch,
+};
 
 /// Merges the prices at two shops in an order of its own, and prints what came and what was recorded.
 pub fn run(rt: &HostRuntime) -> Result<()> {

@@ -3,9 +3,7 @@
 use crate::prices::{CHEAP, Prices, WITH_POSTAGE};
 use crate::received;
 use anyhow::Result;
-use rsx_graph::{Deliveries, Graph};
-use rsx_model::Expr;
-use rsx_types::Stage;
+use rsx::{Deliveries, Expr, Graph, Stage};
 
 /// Adds the postage to each price, keeps the cheap ones, and prints what a subscriber got and is still owed.
 pub fn run(rt: &HostRuntime) -> Result<()> {

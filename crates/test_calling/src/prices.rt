@@ -1,6 +1,6 @@
 //! Prices in cents, and the functions that operators call on them.
 
-use rsx_types::{Fault, NoMemory, Ops};
+use rsx::{Fault, NoMemory, Ops};
 use std::alloc::Global;
 
 /// `map`: the price with 5.00 of postage. Fault 1 where the sum leaves the type.
@@ -24,7 +24,7 @@ impl Ops for Prices {
 
     ghost use Rattle.std.specs.Prelude.{Ok, Err, pos, negsuc, true, [], ◌∷◌, int_le, int_lt, ◌+ℤ◌, ◌==◌, ◌&&◌, if◌then◌else◌};
     ghost use Rattle.std.proofs.Common.{rules};
-    ghost use Rattle.rsx_types.specs.Meaning.{none_allocates};
+    ghost use Rattle.rsx.specs.Meaning.{none_allocates};
 
     ghost meaning = { λ o. record {
       mapped = λ f x. if f == 1 then (if int_le (x +ℤ pos 500) (pos 9223372036854775807) then Ok (x +ℤ pos 500) else Err 1) else Err 2;

@@ -3,9 +3,7 @@
 use crate::prices::{CHEAP, Prices};
 use crate::received;
 use anyhow::Result;
-use rsx_graph::{Deliveries, Graph, Refusal};
-use rsx_model::Expr;
-use rsx_types::{HubId, HubKind, Stage};
+use rsx::{Deliveries, Expr, Graph, HubId, HubKind, Refusal, Stage};
 use std::alloc::Global;
 
 /// Publishes a price, and drives the graph until it is idle.

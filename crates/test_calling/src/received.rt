@@ -1,8 +1,7 @@
 //! Prints what subscribers received.
 
 use anyhow::Result;
-use rsx_graph::Deliveries;
-use rsx_types::Signal;
+use rsx::{Deliveries, Signal};
 
 /// Prints each signal that a graph delivered, in a line of its own.
 pub fn print(rt: &HostRuntime, out: &Deliveries<i64>) -> Result<()> {

@@ -3,9 +3,7 @@
 use crate::prices::{PARTS, Prices, WITHIN_BUDGET};
 use crate::received;
 use anyhow::Result;
-use rsx_graph::{Deliveries, Graph};
-use rsx_model::Expr;
-use rsx_types::Stage;
+use rsx::{Deliveries, Expr, Graph, Stage};
 
 /// Puts the price and its postage in the place of each price, and prints the running total, up to a budget.
 pub fn run(rt: &HostRuntime) -> Result<()> {

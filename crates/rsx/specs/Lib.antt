@@ -1,0 +1,2 @@
+-- What contracts of an `impl Ops` name.
+pub mod Meaning

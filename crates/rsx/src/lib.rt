@@ -1,0 +1,29 @@
+#![tactic(auto)]
+//! Operators on reactive streams, proved: the names that a program needs.
+//!
+//! - Functions of the caller, as operators call them: [`Ops`], with [`Fault`] and [`NoMemory`].
+//! - Expressions of operators: [`Expr`] and [`Stage`], with the limits; [`check_expr`] says what is wrong with one ([`BadExpr`]),
+//!   and [`scratch`] evaluates one.
+//! - A graph of hubs and subscriptions: [`Graph`], with its edits, moves and looks; [`Step`] and [`Answer`] for lists of
+//!   edits and moves, and [`replay`], which makes such a list from nothing.
+//! - What goes over an edge and what a subscriber got: [`Signal`], [`Ending`], [`Cause`], [`Deliveries`], [`StreamValue`].
+//! - Names: of hubs ([`HubId`], [`HubKind`]), subscriptions ([`SubId`]), trees, nodes and moves ([`Tree`], [`NodeId`], [`Move`]).
+//! - What nodes recorded: [`Note`] and [`Choices`].
+//! - Refusals: [`Refusal`], and [`NotEmitted`], which hands an item back.
+//! - Laws, each as the contract of a function that does nothing: [`headline`], [`idle_means_delivered`] and [`read_all`].
+//!
+//! Each name stands in the crate whose page describes it: `rsx_types`, `rsx_model` or `rsx_graph`. A program whose proofs speak
+//! of graphs names those crates beside this one.
+
+pub use rsx_graph::{
+    Answer, Deliveries, Graph, MOST_HUBS, MOST_SUBSCRIPTIONS, NotEmitted, Pumped, Refusal, Step,
+    SubscriptionState, headline, idle_means_delivered, read_all, replay,
+};
+pub use rsx_model::{
+    BadExpr, Expr, MOST_CONCURRENCY, MOST_COUNT, MOST_DEPTH, MOST_INPUTS, MOST_NODES,
+    MOST_PREFETCH, MOST_STAGES, MOST_WINDOW, MOST_WORKER, ScratchRefusal, check_expr, scratch,
+};
+pub use rsx_types::{
+    CAPACITY, Cause, Choices, Ending, Fault, HubId, HubKind, MOST_ITEMS, Move, NoMemory, NodeId,
+    Note, Ops, Signal, Stage, StreamValue, SubId, Tree,
+};
