@@ -14,7 +14,9 @@ pub fn publish(
     price: i64,
     out: &mut Deliveries<i64>,
 ) -> Result<(), Refusal> {
-    graph.emit(hub, price)?;
+    if let Err(back) = graph.emit(hub, price) {
+        return Err(back.refusal);
+    }
     graph.pump(alloc, 1000, out)?;
     Ok(())
 }
