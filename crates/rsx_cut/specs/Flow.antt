@@ -1,6 +1,6 @@
 -- What went out of a tree between two points of a run.
-use Rattle.std.specs.Prelude.{◌≡◌, ℕ, ◌<◌, List, [], ◌++◌, length, Some, option_map}
-use Rattle.rsx_sources.specs.Prelude.{Meaning, Stream, Note, Nothing, Signal, Incoming, incoming_of, notes_then, published_at, signals_then}
+use Rattle.std.specs.Prelude.{◌≡◌, ℕ, ◌+◌, ◌<◌, List, [], ◌++◌, length, map, Some, option_map}
+use Rattle.rsx_sources.specs.Prelude.{Meaning, Stream, Note, Nothing, Signal, Next, Incoming, incoming_of, notes_then, published_at, signals_then}
 use Rattle.rsx_sources.specs.declared.machine.Machine.{Ghosts as Machine}
 use Rattle.rsx_tree.specs.declared.inputs.Inputs.{End}
 use Rattle.rsx_tree.specs.declared.node.Node.{Node}
@@ -31,6 +31,15 @@ pub record Holds {M T : Type 0} (b : Machine M T) (m : Meaning T) (x : M) (q : L
 pub record ReadsLink {M T : Type 0} (b : Machine M T) (m : Meaning T) (k : ℕ) (y : M) (sent held : List (Signal T)) : Type 0 where
   pub out : (hubs : List (Stream T)) (v : Stream T) → published_at hubs k ≡ signals_then sent v → b.comes_out m y (incoming_of hubs []) Nothing ≡ Some (signals_then held v)
   pub recorded : b.recorded y ≡ Nothing
+
+-- the node x is the node n with a queue of these items at its edge. So they come out first, and count as sent by n; all else is as of n
+pub record HoldsQueue {M T : Type 0} (b : Machine M T) (m : Meaning T) (x : M) (q : List T) (n : M) : Type 0 where
+  pub holds : Holds b m x (map Next q) n
+  pub reads : b.reads x ≡ b.reads n
+  pub ended : b.ended x ≡ b.ended n
+  pub done : (i : ℕ) → b.done x i ≡ b.done n i
+  pub counted : (taken : List ℕ) (sent : ℕ) → b.counted x taken sent → b.counted n taken (sent + length q)
+  pub counts : (taken : List ℕ) (sent : ℕ) → b.counted n taken (sent + length q) → b.counted x taken sent
 
 -- the tree with another node at its root, and the tree of one node
 abbrev pub as_root : {M : Type 0} → M → Node M → Node M

@@ -1,30 +1,31 @@
 -- What a node that reads a hub makes of what its member does.
-use Rattle.std.proofs.Common.{◌≡◌, ℕ, zero, suc, Bool, true, false, ◌&&◌, ◌||◌, nat_lt, List, [], ◌∷◌, Some, None, Result, Ok, Err, ◌<◌, ◌≤◌, length, get_or, arith, refl, ap, sym, ◌∙◌, subst}
+use Rattle.std.proofs.Common.{◌≡◌, ℕ, zero, suc, ◌+◌, Bool, true, false, ◌&&◌, ◌||◌, nat_lt, List, [], ◌∷◌, ◌++◌, Some, None, Result, Ok, Err, ◌<◌, ◌≤◌, length, get_or, arith, refl, ap, sym, ◌∙◌, subst}
 use Rattle.std.specs.Prelude.{OnOk, OnErr, IfOk}
 use Rattle.std.proofs.lemmas.Bool.Decides.{nat_tests}
 use Rattle.std.proofs.lemmas.Result.{IfOk-weaker}
 use Rattle.std.proofs.lemmas.Bool.{and_parts}
-use Rattle.rsx_sources.specs.Prelude.{Nothing, Cause, Ending, Open, Done, Failed, Signal, Next, Complete, Error, Meaning, Stream, ended_by, items_then, incoming_of, quiet, Reading, IsNextAt, IsReadOn, IsBehind, IsResidualOf, published_at, reading_after, takes_published, is_nil}
+use Rattle.std.proofs.lemmas.List.{length-append}
+use Rattle.rsx_sources.specs.Prelude.{Nothing, Cause, Ending, Open, Done, Failed, Signal, Next, Complete, Error, Meaning, Stream, ended_by, items_then, incoming_of, quiet, CountsStep, Reading, IsNextAt, IsReadOn, IsBehind, IsResidualOf, published_at, reading_after, takes_published, is_nil}
 use Rattle.rsx_hub.specs.Member.{MemberState, rest, rest_before, behind, without, is_reading, takes, takes_items, took, IsGiven}
 use Rattle.rsx_hub.specs.Waiting.{first_waiting, is_open}
 use Rattle.rsx_hub.specs.declared.TheConstants.{MOST_ACCEPTED}
-use Rattle.rsx_hub.specs.Leaf.{LeafState, member_of, leaf_comes_out, leaf_reads, leaf_rooms, leaf_popped, leaf_waiting, reading_of}
+use Rattle.rsx_hub.specs.Leaf.{LeafState, member_of, leaf_comes_out, leaf_reads, leaf_rooms, leaf_popped, leaf_waiting, leaf_counted, reading_of}
 use Rattle.rsx_sources.proofs.Incomings.{hubs_in}
 
--- the node that reads a hub by this member
-abbrev pub leaf_of : {T : Type 0} → ℕ → MemberState T → LeafState T
-leaf_of h m = record { hub = h; queue = m.queue; ending = m.ending; reached = m.reached; capacity = m.capacity; places = m.places }
+-- the node that reads a hub by this member, with these two numbers for its counts
+abbrev pub leaf_of : {T : Type 0} → ℕ → ℕ → ℕ → MemberState T → LeafState T
+leaf_of h a z m = record { hub = h; queue = m.queue; ending = m.ending; reached = m.reached; capacity = m.capacity; places = m.places; missed = a; before = z }
 
-pub member_is : {T : Type 0} (h : ℕ) (m : MemberState T) → m.gone ≡ false → member_of (leaf_of h m) ≡ m
-member_is h m live i = record { queue = m.queue; ending = m.ending; gone = sym live i; reached = m.reached; capacity = m.capacity; places = m.places }
+pub member_is : {T : Type 0} (h a z : ℕ) (m : MemberState T) → m.gone ≡ false → member_of (leaf_of h a z m) ≡ m
+member_is h a z m live i = record { queue = m.queue; ending = m.ending; gone = sym live i; reached = m.reached; capacity = m.capacity; places = m.places }
 
 -- ---- a signal goes back
 
-pub put_back : {T : Type 0} (h : ℕ) (m k : MemberState T) (x : T) (before : LeafState T) → m.gone ≡ false → ((b : MemberState T) → IsGiven b (Next x) m → k ≡ b) → leaf_popped before (Next x) (leaf_of h m) → leaf_of h k ≡ before
-put_back {T} h m k x before live back popped =
+pub put_back : {T : Type 0} (h a z : ℕ) (m k : MemberState T) (x : T) (before : LeafState T) → m.gone ≡ false → ((b : MemberState T) → IsGiven b (Next x) m → k ≡ b) → leaf_popped before (Next x) (leaf_of h a z m) → leaf_of h a z k ≡ before
+put_back {T} h a z m k x before live back popped =
     let G : MemberState T → Type 0 = λ u. IsGiven (member_of before) (Next x) u in
-    let same : k ≡ member_of before = back (member_of before) (subst G (member_is h m live) popped.1) in
-    λ i. record { hub = sym popped.0 i; queue = (same i).queue; ending = (same i).ending; reached = (same i).reached; capacity = (same i).capacity; places = (same i).places }
+    let same : k ≡ member_of before = back (member_of before) (subst G (member_is h a z m live) popped.1) in
+    λ i. record { hub = sym popped.0 i; queue = (same i).queue; ending = (same i).ending; reached = (same i).reached; capacity = (same i).capacity; places = (same i).places; missed = sym popped.2 i; before = sym popped.3 i }
 
 -- ---- a signal of the hub is taken in
 
@@ -45,33 +46,33 @@ open_of false Open h = refl
 open_of false Done h = cc
 open_of false (Failed c) h = cc
 
-reads_after : {T : Type 0} (h : ℕ) (m : MemberState T) (s : Signal T) → m.ending ≡ Open → leaf_reads (leaf_of h (took m s)) ≡ reading_after s (record { hub = h; reached = m.reached })
-reads_after h m (Next x) o = rw o refl
-reads_after h m Complete o = refl
-reads_after h m (Error c) o = refl
+reads_after : {T : Type 0} (h a z : ℕ) (m : MemberState T) (s : Signal T) → m.ending ≡ Open → leaf_reads (leaf_of h a z (took m s)) ≡ reading_after s (record { hub = h; reached = m.reached })
+reads_after h a z m (Next x) o = rw o refl
+reads_after h a z m Complete o = refl
+reads_after h a z m (Error c) o = refl
 
 gone_stays : {T : Type 0} (m : MemberState T) (s : Signal T) → (took m s).gone ≡ m.gone
 gone_stays m (Next x) = refl
 gone_stays m Complete = refl
 gone_stays m (Error c) = refl
 
-taken_on : {T : Type 0} (h : ℕ) (m k : MemberState T) (s : Signal T) → m.gone ≡ false → takes m s ≡ true → k ≡ took m s → ((w : Stream T) → IsNextAt m.reached w s → rest k w ≡ rest m w) → IsReadOn leaf_comes_out leaf_reads (leaf_of h m) s (leaf_of h k)
-taken_on h m k s live can is value =
+taken_on : {T : Type 0} (h a z : ℕ) (m k : MemberState T) (s : Signal T) → m.gone ≡ false → takes m s ≡ true → k ≡ took m s → ((w : Stream T) → IsNextAt m.reached w s → rest k w ≡ rest m w) → IsReadOn leaf_comes_out leaf_reads (leaf_of h a z m) s (leaf_of h a z k)
+taken_on h a z m k s live can is value =
     let reads = takes_open m s can in
     let gone : k.gone ≡ false = ap (λ u. u.gone) is ∙ (gone_stays m s ∙ live) in
     record {
       reading = record { hub = h; reached = m.reached };
       read = reads_open m.gone m.ending (record { hub = h; reached = m.reached }) reads;
-      reads_on = ap (λ u. leaf_reads (leaf_of h u)) is ∙ reads_after h m s (open_of m.gone m.ending reads);
+      reads_on = ap (λ u. leaf_reads (leaf_of h a z u)) is ∙ reads_after h a z m s (open_of m.gone m.ending reads);
       value = λ meaning inc further next.
-          ap (λ u. quiet further (rest u (published_at inc.hubs h))) (member_is h k gone)
+          ap (λ u. quiet further (rest u (published_at inc.hubs h))) (member_is h a z k gone)
           ∙ (ap (quiet further) (value (published_at inc.hubs h) next)
-          ∙ ap (λ u. quiet further (rest u (published_at inc.hubs h))) (sym (member_is h m live)));
+          ∙ ap (λ u. quiet further (rest u (published_at inc.hubs h))) (sym (member_is h a z m live)));
     }
 
-pub read_on : {T A E : Type 0} (h : ℕ) (m k : MemberState T) (s : Signal T) (r : Result A E) → m.gone ≡ false → OnOk r (takes m s ≡ true) → OnOk r (k ≡ took m s) → OnOk r ((w : Stream T) → IsNextAt m.reached w s → rest k w ≡ rest m w) → OnOk r (IsReadOn leaf_comes_out leaf_reads (leaf_of h m) s (leaf_of h k))
-read_on h m k s (Ok a) live can is value = taken_on h m k s live can is value
-read_on h m k s (Err e) live can is value = value
+pub read_on : {T A E : Type 0} (h a z : ℕ) (m k : MemberState T) (s : Signal T) (r : Result A E) → m.gone ≡ false → OnOk r (takes m s ≡ true) → OnOk r (k ≡ took m s) → OnOk r ((w : Stream T) → IsNextAt m.reached w s → rest k w ≡ rest m w) → OnOk r (IsReadOn leaf_comes_out leaf_reads (leaf_of h a z m) s (leaf_of h a z k))
+read_on h a z m k s (Ok u) live can is value = taken_on h a z m k s live can is value
+read_on h a z m k s (Err e) live can is value = value
 
 -- ---- room
 
@@ -83,11 +84,11 @@ room_in r [] n c l = ap (λ b. r && (b && nat_lt n MOST_ACCEPTED)) (some_room c 
     some_room k e = grind (arith, nat_tests)
 room_in r (x ∷ q) n c l = refl
 
-pub room_is : {T : Type 0} (h : ℕ) (m : MemberState T) → m.gone ≡ false → 1 ≤ m.capacity → takes_items m ≡ leaf_rooms (leaf_of h m)
-room_is h m live l = ap (λ g. is_reading g m.ending && (nat_lt (length m.queue) m.capacity && nat_lt m.reached MOST_ACCEPTED)) live ∙ room_in (is_open m.ending) m.queue m.reached m.capacity l
+pub room_is : {T : Type 0} (h a z : ℕ) (m : MemberState T) → m.gone ≡ false → 1 ≤ m.capacity → takes_items m ≡ leaf_rooms (leaf_of h a z m)
+room_is h a z m live l = ap (λ g. is_reading g m.ending && (nat_lt (length m.queue) m.capacity && nat_lt m.reached MOST_ACCEPTED)) live ∙ room_in (is_open m.ending) m.queue m.reached m.capacity l
 
-takes_is : {T : Type 0} (h : ℕ) (m : MemberState T) (s : Signal T) → m.gone ≡ false → 1 ≤ m.capacity → takes_published (leaf_reads (leaf_of h m)) (leaf_rooms (leaf_of h m)) s ≡ takes m s
-takes_is {T} h m s live l = by_signal s
+takes_is : {T : Type 0} (h a z : ℕ) (m : MemberState T) (s : Signal T) → m.gone ≡ false → 1 ≤ m.capacity → takes_published (leaf_reads (leaf_of h a z m)) (leaf_rooms (leaf_of h a z m)) s ≡ takes m s
+takes_is {T} h a z m s live l = by_signal s
   where
     reading : Reading
     reading = record { hub = h; reached = m.reached }
@@ -110,14 +111,14 @@ takes_is {T} h m s live l = by_signal s
     of_error Done b k = refl
     of_error (Failed c) b k = refl
 
-    by_signal : (t : Signal T) → takes_published (leaf_reads (leaf_of h m)) (leaf_rooms (leaf_of h m)) t ≡ takes m t
-    by_signal (Next x) = of_item m.ending x ((is_nil m.queue || nat_lt (length m.queue) m.capacity) && nat_lt m.reached MOST_ACCEPTED) ∙ sym (room_is h m live l)
-    by_signal Complete = of_end m.ending (leaf_rooms (leaf_of h m)) ∙ sym goes_on
-    by_signal (Error k) = of_error m.ending (leaf_rooms (leaf_of h m)) k ∙ sym goes_on
+    by_signal : (t : Signal T) → takes_published (leaf_reads (leaf_of h a z m)) (leaf_rooms (leaf_of h a z m)) t ≡ takes m t
+    by_signal (Next x) = of_item m.ending x ((is_nil m.queue || nat_lt (length m.queue) m.capacity) && nat_lt m.reached MOST_ACCEPTED) ∙ sym (room_is h a z m live l)
+    by_signal Complete = of_end m.ending (leaf_rooms (leaf_of h a z m)) ∙ sym goes_on
+    by_signal (Error k) = of_error m.ending (leaf_rooms (leaf_of h a z m)) k ∙ sym goes_on
 
-pub refused_is : {T A E : Type 0} (h : ℕ) (m : MemberState T) (s : Signal T) (r : Result A E) → m.gone ≡ false → 1 ≤ m.capacity → OnErr r (takes m s ≡ false) → OnErr r (takes_published (leaf_reads (leaf_of h m)) (leaf_rooms (leaf_of h m)) s ≡ false)
-refused_is h m s (Ok a) live l k = k
-refused_is h m s (Err e) live l k = takes_is h m s live l ∙ k
+pub refused_is : {T A E : Type 0} (h a z : ℕ) (m : MemberState T) (s : Signal T) (r : Result A E) → m.gone ≡ false → 1 ≤ m.capacity → OnErr r (takes m s ≡ false) → OnErr r (takes_published (leaf_reads (leaf_of h a z m)) (leaf_rooms (leaf_of h a z m)) s ≡ false)
+refused_is h a z m s (Ok u) live l k = k
+refused_is h a z m s (Err e) live l k = takes_is h a z m s live l ∙ k
 
 -- a node that reads a hub and has no room offers something, as long as it has not taken in as many items as there may be
 full_in : {T : Type 0} (q : List T) (n c : ℕ) → n < MOST_ACCEPTED → (is_nil q || nat_lt (length q) c) && nat_lt n MOST_ACCEPTED ≡ false → first_waiting q Open false ≡ None → ⊥
@@ -152,12 +153,29 @@ behind_it Open h n inboxes hubs v is b = b ∙ is
 behind_it Done h n inboxes hubs v is b = refl
 behind_it (Failed c) h n inboxes hubs v is b = refl
 
-pub residual_is : {T E : Type 0} (meaning : Meaning T) (h : ℕ) (m : MemberState T) (inboxes incoming : List (Stream T)) (v : Stream T) (r : Result (Stream T) E) → m.gone ≡ false → published_at inboxes h ≡ v → IfOk r (λ u. u ≡ rest_before m v) →
-    IfOk r (λ u. IsResidualOf (leaf_comes_out meaning) (λ n. Nothing) leaf_reads (leaf_of h m) inboxes incoming u)
-residual_is {T} meaning h m inboxes incoming v r live is o = IfOk-weaker r (λ u. u ≡ rest_before m v) (λ u. IsResidualOf (leaf_comes_out meaning) (λ n. Nothing) leaf_reads (leaf_of h m) inboxes incoming u) step o
+pub residual_is : {T E : Type 0} (meaning : Meaning T) (h a z : ℕ) (m : MemberState T) (inboxes incoming : List (Stream T)) (v : Stream T) (r : Result (Stream T) E) → m.gone ≡ false → published_at inboxes h ≡ v → IfOk r (λ u. u ≡ rest_before m v) →
+    IfOk r (λ u. IsResidualOf (leaf_comes_out meaning) (λ n. Nothing) leaf_reads (leaf_of h a z m) inboxes incoming u)
+residual_is {T} meaning h a z m inboxes incoming v r live is o = IfOk-weaker r (λ u. u ≡ rest_before m v) (λ u. IsResidualOf (leaf_comes_out meaning) (λ n. Nothing) leaf_reads (leaf_of h a z m) inboxes incoming u) step o
   where
-    step : (u : Stream T) → u ≡ rest_before m v → IsResidualOf (leaf_comes_out meaning) (λ n. Nothing) leaf_reads (leaf_of h m) inboxes incoming u
+    step : (u : Stream T) → u ≡ rest_before m v → IsResidualOf (leaf_comes_out meaning) (λ n. Nothing) leaf_reads (leaf_of h a z m) inboxes incoming u
     step u e hubs further b none =
-        ap (λ k. quiet k (rest (member_of (leaf_of h m)) (published_at (incoming_of hubs incoming).hubs h))) none
-        ∙ (ap (λ l. Some (rest (member_of (leaf_of h m)) (published_at l h))) (hubs_in hubs incoming)
+        ap (λ k. quiet k (rest (member_of (leaf_of h a z m)) (published_at (incoming_of hubs incoming).hubs h))) none
+        ∙ (ap (λ l. Some (rest (member_of (leaf_of h a z m)) (published_at l h))) (hubs_in hubs incoming)
         ∙ ap Some (ap (items_then m.queue) (behind_it m.ending h m.reached inboxes hubs v is b) ∙ (ap (λ g. items_then m.queue (behind g m.ending v)) (sym live) ∙ sym e)))
+
+-- ---- counts
+
+-- an item comes in
+came_in : (a s r z k j : ℕ) → a + s + k ≡ r + z → j ≡ k + 1 → a + s + j ≡ r + 1 + z
+came_in a s r z k j h e = omega (arith, h, e)
+
+took_counts : {T : Type 0} (h a z : ℕ) (m : MemberState T) (s : Signal T) (taken : List ℕ) (sent : ℕ) → leaf_counted (leaf_of h a z m) taken sent → leaf_counted (leaf_of h a z (took m s)) taken sent
+took_counts h a z m (Next x) taken sent c = came_in a sent m.reached z (length m.queue) (length (m.queue ++ x ∷ [])) c (length-append m.queue (x ∷ []))
+took_counts h a z m Complete taken sent c = c
+took_counts h a z m (Error k) taken sent c = c
+
+pub counts_on : {T A E : Type 0} (h a z : ℕ) (m k : MemberState T) (s : Signal T) (r : Result A E) → OnOk r (k ≡ took m s) → OnOk r (CountsStep leaf_counted (λ n. false) (λ n i. false) (leaf_of h a z m) (leaf_of h a z k))
+counts_on {T} h a z m k s (Ok o) is =
+    let P : MemberState T → Type 0 = λ u. CountsStep leaf_counted (λ n. false) (λ n i. false) (leaf_of h a z m) (leaf_of h a z u) in
+    subst P (sym is) (record { stays_ended = λ e. e; counts = λ e taken sent c. took_counts h a z m s taken sent c; stays_done = λ j e. e })
+counts_on h a z m k s (Err e) is = is

@@ -1,10 +1,10 @@
 -- The laws of a node that reads a hub.
-use Rattle.std.specs.Prelude.{◌≡◌, ⊤, ℕ, ◌<◌, Bool, true, false, List, [], ◌∷◌, Option, Some, None, option_map, refl}
+use Rattle.std.specs.Prelude.{◌≡◌, ℕ, ◌<◌, Bool, true, false, List, [], ◌∷◌, Option, Some, None, option_map, refl}
 use Rattle.std.proofs.Common.{inl, inr, ap, sym}
 use Rattle.rsx_sources.specs.Prelude.{Note, Ending, Open, Done, Failed, Signal, Next, Complete, Error, Meaning, Stream, items_then, AreWithin, IsHungry, IsReading, ends_input, Incoming, front_of, quiet, Reading, published_at, StaysAlike}
 use Rattle.rsx_hub.specs.Member.{behind, without}
 use Rattle.rsx_hub.specs.Waiting.{first_waiting, first_shown}
-use Rattle.rsx_hub.specs.Leaf.{LeafState, leaf_comes_out, leaf_waiting, leaf_shown, leaf_popped, leaf_reads, reading_of}
+use Rattle.rsx_hub.specs.Leaf.{LeafState, leaf_comes_out, leaf_waiting, leaf_shown, leaf_popped, leaf_reads, leaf_counted, reading_of}
 
 shows_in : {T : Type 0} (q : List T) (e : Ending) → first_shown q e false ≡ option_map front_of (first_waiting q e false)
 shows_in [] Open = refl
@@ -56,7 +56,7 @@ waits_in [] Done r h = cc
 waits_in [] (Failed c) r h = cc
 waits_in (x ∷ xs) e r h = cc
 
-pub leaf_hungry : {T : Type 0} (m : Meaning T) (n : LeafState T) (taken : List ℕ) (asked sent : ℕ) → false ≡ false → ⊤ → leaf_waiting m n ≡ None → sent < asked → AreWithin taken →
+pub leaf_hungry : {T : Type 0} (m : Meaning T) (n : LeafState T) (taken : List ℕ) (asked sent : ℕ) → false ≡ false → leaf_counted n taken sent → leaf_waiting m n ≡ None → sent < asked → AreWithin taken →
     IsHungry (λ k i f. false) (λ k i a s. false) (λ k a s. false) (λ k i. false) (λ k i a s. 0) leaf_reads n taken asked sent
 leaf_hungry m n taken asked sent still counted none more within =
     inr (inr (inr (record { hub = n.hub; reached = n.reached }, waits_in n.queue n.ending (record { hub = n.hub; reached = n.reached }) none)))

@@ -1,12 +1,13 @@
 -- The node that reads a hub: what it offers, what still comes out of it, and how far it got.
-use Rattle.std.specs.Prelude.{◌≡◌, ℕ, Bool, true, false, ◌&&◌, ◌||◌, nat_lt, List, [], ◌∷◌, length, Option, Some, None, option_map, refl}
+use Rattle.std.specs.Prelude.{◌≡◌, ℕ, ◌+◌, Bool, true, false, ◌&&◌, ◌||◌, nat_lt, List, [], ◌∷◌, length, Option, Some, None, option_map, refl}
 use Rattle.rsx_sources.specs.Prelude.{Note, Ending, Open, Done, Failed, Signal, Next, Complete, Error, Meaning, Stream, Incoming, quiet, Reading, published_at, is_nil}
 use Rattle.rsx_sources.specs.declared.machine.Front.{Front}
 use Rattle.rsx_hub.specs.Member.{MemberState, rest, offered, IsGiven}
 use Rattle.rsx_hub.specs.Waiting.{first_shown, is_open}
 use Rattle.rsx_hub.specs.declared.TheConstants.{MOST_ACCEPTED}
 
--- the number of its hub, and its member of that hub, which never leaves
+-- the number of its hub, and its member of that hub, which never leaves. The last two are what its counts begin with, and no call
+-- changes them: as it was made, its member had reached `missed` items, and `before` were sent already or in its queue
 pub record LeafState (T : Type 0) : Type 0 where
   pub hub : ℕ
   pub queue : List T
@@ -14,6 +15,8 @@ pub record LeafState (T : Type 0) : Type 0 where
   pub reached : ℕ
   pub capacity : ℕ
   pub places : ℕ
+  pub missed : ℕ
+  pub before : ℕ
 
 abbrev pub member_of : {T : Type 0} → LeafState T → MemberState T
 member_of n = record { queue = n.queue; ending = n.ending; gone = false; reached = n.reached; capacity = n.capacity; places = n.places }
@@ -32,7 +35,7 @@ leaf_shown n = first_shown n.queue n.ending false
 
 -- an item leaves the queue, and can be put back; an ending leaves all as it is
 abbrev pub leaf_popped : {T : Type 0} → LeafState T → Signal T → LeafState T → Type 0
-leaf_popped old (Next x) new = (old.hub ≡ new.hub) × IsGiven (member_of old) (Next x) (member_of new)
+leaf_popped old (Next x) new = (old.hub ≡ new.hub) × IsGiven (member_of old) (Next x) (member_of new) × (old.missed ≡ new.missed) × (old.before ≡ new.before)
 leaf_popped old Complete new = new ≡ old
 leaf_popped old (Error c) new = new ≡ old
 
@@ -49,3 +52,7 @@ leaf_reads n = reading_of n.ending (record { hub = n.hub; reached = n.reached })
 -- most items that a member may take in can leave it without room
 abbrev pub leaf_rooms : {T : Type 0} → LeafState T → Bool
 leaf_rooms n = is_open n.ending && ((is_nil n.queue || nat_lt (length n.queue) n.capacity) && nat_lt n.reached MOST_ACCEPTED)
+
+-- what it sent and what it holds is what it had before and what its member took in
+abbrev pub leaf_counted : {T : Type 0} → LeafState T → List ℕ → ℕ → Type 0
+leaf_counted n taken sent = n.missed + sent + length n.queue ≡ n.reached + n.before

@@ -9,7 +9,7 @@ use std::alloc::Global;
 use std::marker::Model;
 
 /// The node that reads a hub: it offers the items that were handed to it in their order, and then the hub's ending. Contracts
-/// see the number of its hub and the state of its member, which never leaves.
+/// see the number of its hub, the state of its member, which never leaves, and two numbers that its counts begin with.
 ///
 /// It takes memory only when its member is made: from then on each item is moved in and out, and moved back in by
 /// [`put_back`](Machine::put_back).
@@ -17,6 +17,8 @@ use std::marker::Model;
 pub struct HubLeaf<T> {
     hub: u32,
     member: Member<T>,
+    missed: u64,
+    before: u64,
 }
 
 impl<T> Model for HubLeaf<T> {
@@ -25,35 +27,76 @@ impl<T> Model for HubLeaf<T> {
 
     ghost Value = { LeafState T };
 
-    ghost view = { λ n. record { hub = n.hub; queue = n.member.queue; ending = n.member.ending; reached = n.member.reached; capacity = n.member.capacity; places = n.member.places } };
+    ghost view = { λ n. record { hub = n.hub; queue = n.member.queue; ending = n.member.ending; reached = n.member.reached; capacity = n.member.capacity; places = n.member.places; missed = n.missed; before = n.before } };
 
     ghost invariant = { λ n. n.member.gone ≡ false };
 }
 
 impl<T: Drop> HubLeaf<T> {
-    ghost use Rattle.std.specs.Prelude.{◌≡◌, false};
-    ghost use Rattle.rsx_hub.specs.Leaf.{member_of};
+    ghost use Rattle.std.specs.Prelude.{◌≡◌, ◌∷◌, [], false, length, IfSome, IfNone};
+    ghost use Rattle.rsx_hub.specs.Leaf.{LeafState, member_of};
 
-    /// The node that reads the hub with this number by this member, which has not left.
+    /// The node that reads the hub with this number by this member, which has not left. Nothing was sent by it yet.
     pub fn new(hub: u32, member: Member<T>) -> HubLeaf<T>
         requires { member.gone ≡ false }
         ensures hub { result.hub ≡ hub }
         ensures member { member_of result ≡ member }
+        ensures missed { result.missed ≡ member.reached }
+        ensures before { result.before ≡ length member.queue }
     {
-        HubLeaf { hub, member }
+        let missed = member.reached();
+        let before = member.len() as u64;
+        HubLeaf {
+            hub,
+            member,
+            missed,
+            before,
+        }
+    }
+
+    /// The node that reads what comes over a link as it would read the hub with this number, by this member, which has not left.
+    /// It takes the place of a node that sent `before` items.
+    pub fn of_link(hub: u32, member: Member<T>, before: u64) -> HubLeaf<T>
+        requires { member.gone ≡ false }
+        ensures hub { result.hub ≡ hub }
+        ensures member { member_of result ≡ member }
+        ensures missed { result.missed ≡ 0 }
+        ensures before { result.before ≡ before }
+    {
+        HubLeaf {
+            hub,
+            member,
+            missed: 0,
+            before,
+        }
+    }
+
+    /// How many items it holds.
+    pub fn len(&self) -> usize
+        ensures { result ≡ length self.now.queue }
+    {
+        self.member.len()
+    }
+
+    /// Takes out the oldest of the items that it holds, if there is one. All else stays. It takes no memory.
+    pub fn take(&mut self) -> Option<T>
+        ensures some { IfSome result (λ x. self.old ≡ record self.new { queue = x ∷ self.new.queue }) }
+        ensures none { IfNone result ((self.old.queue ≡ []) × (self.new ≡ self.old)) }
+    {
+        self.member.take()
     }
 }
 
 impl<T: Drop> Machine for HubLeaf<T> {
     type Item = T;
 
-    ghost use Rattle.std.specs.Prelude.{◌≡◌, ⊤, refl, Some, None, true, false, IfOk, IfErr, OnOk, OnErr};
+    ghost use Rattle.std.specs.Prelude.{◌≡◌, refl, Some, None, true, false, IfOk, IfErr, OnOk, OnErr};
     ghost use Rattle.rsx_types.specs.declared.note.Note.TheVariants.{Nothing};
     ghost use Rattle.rsx_sources.specs.Counts.{CountsStep};
     ghost use Rattle.rsx_sources.specs.Machine.{TakesIn};
     ghost use Rattle.rsx_sources.specs.Reading.{IsReadOn, IsResidualOf, takes_published};
     ghost use Rattle.rsx_sources.specs.Steps.{IsNotTaken};
-    ghost use Rattle.rsx_hub.specs.Leaf.{LeafState, leaf_comes_out, leaf_waiting, leaf_shown, leaf_popped, leaf_reads, leaf_rooms};
+    ghost use Rattle.rsx_hub.specs.Leaf.{LeafState, leaf_comes_out, leaf_waiting, leaf_shown, leaf_popped, leaf_reads, leaf_rooms, leaf_counted};
     ghost use Rattle.rsx_hub.specs.Laws.{leaf_shows, leaf_popped_alike, leaf_ends, leaf_ends_reading, leaf_hungry};
     ghost use Rattle.std.proofs.Common.{rules};
 
@@ -79,7 +122,7 @@ impl<T: Drop> Machine for HubLeaf<T> {
 
     ghost done = { λ n i. false };
 
-    ghost counted = { λ n taken sent. ⊤ };
+    ghost counted = { leaf_counted };
 
     ghost wanted = { λ n i a s. 0 };
 
@@ -172,7 +215,7 @@ impl<T: Drop> Machine for HubLeaf<T> {
     fn on_published(&mut self, signal: Signal<T>) -> Result<(), Signal<T>>
         ensures ok { OnOk result (IsReadOn leaf_comes_out leaf_reads self.old signal self.new) }
         ensures enabled { OnOk result (takes_published (leaf_reads self.old) (leaf_rooms self.old) signal ≡ true) }
-        ensures counts { OnOk result (CountsStep (λ n taken sent. ⊤) (λ n. false) (λ n i. false) self.old self.new) }
+        ensures counts { OnOk result (CountsStep leaf_counted (λ n. false) (λ n i. false) self.old self.new) }
         ensures refused { OnErr result (takes_published (leaf_reads self.old) (leaf_rooms self.old) signal ≡ false) }
         ensures err { IfErr result (λ s. s ≡ signal) }
         ensures same { OnErr result (self.new ≡ self.old) }

@@ -1,6 +1,6 @@
 //! One reader of a hub.
 
-ghost use Rattle.std.specs.Prelude.{◌≡◌, ◌+◌, ◌<◌, ◌≤◌, ◌↔◌, ◌∷◌, ◌++◌, [], true, false, length, IfOk, IfErr, OnOk, OnErr, IfSome, IsTrue, option_map, List, ℕ, max};
+ghost use Rattle.std.specs.Prelude.{◌≡◌, ◌+◌, ◌<◌, ◌≤◌, ◌↔◌, ◌∷◌, ◌++◌, [], true, false, length, IfOk, IfErr, OnOk, OnErr, IfSome, IfNone, IsTrue, option_map, List, ℕ, max};
 ghost use Rattle.rsx_types.specs.Stream.{Stream, signal_then};
 ghost use Rattle.rsx_sources.specs.Machine.{front_of};
 ghost use Rattle.rsx_hub.specs.Member.{MemberState, empty_member, GivesFirst, rest, is_reading, takes_items, takes, took, IsNextAt, offered, given, left, IsGiven, rest_before};
@@ -38,6 +38,17 @@ impl<T> Model for Member<T> {
 }
 
 impl<T: Drop> Member<T> {
+    /// A member that has taken in nothing, of what hasn't published anything yet. It has room for `capacity` items, 1 at least.
+    ///
+    /// # Errors
+    /// [`NoMemory`] where the growth for its queue was refused.
+    pub fn new(alloc: Global, capacity: u64) -> Result<Member<T>, NoMemory>
+        requires { 1 ≤ capacity }
+        ensures { IfOk result (λ m. m ≡ empty_member capacity 0 0) }
+    {
+        Member::empty(alloc, capacity, 0, 0)
+    }
+
     /// A member that has joined where the hub took in so many items, without those that a replay keeps.
     ///
     /// # Errors
@@ -160,6 +171,14 @@ impl<T: Drop> Member<T> {
             Some(item) => Some(Signal::Next(item)),
             None => self.take_ending(),
         }
+    }
+
+    /// Takes out the oldest item that waits, if there is one. All else stays.
+    pub(crate) fn take(&mut self) -> Option<T>
+        ensures some { IfSome result (λ x. self.old ≡ record self.new { queue = x ∷ self.new.queue }) }
+        ensures none { IfNone result ((self.old.queue ≡ []) × (self.new ≡ self.old)) }
+    {
+        self.queue.pop_front()
     }
 
     fn take_ending(&mut self) -> Option<Signal<T>>

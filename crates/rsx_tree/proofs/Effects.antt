@@ -8,7 +8,7 @@ use Rattle.rsx_sources.specs.declared.machine.Machine.{Ghosts as Machine}
 use Rattle.rsx_tree.specs.declared.edge.Edge.{Edge}
 use Rattle.rsx_tree.specs.declared.inputs.Inputs.{Inputs, End, More'}
 use Rattle.rsx_tree.specs.Edges.{edge_view, EdgeView, asked_up_to, changed_at, closed_if}
-use Rattle.rsx_tree.specs.Inputs.{Place, place, size, edges, notes_of, comes_in, out_of, beside_of, is_own, closed_row, closed_row_if, wanted_at, sent_edges}
+use Rattle.rsx_tree.specs.Inputs.{Place, place, size, edges, notes_of, comes_in, out_of, beside_of, is_own, closed_row, closed_row_if, wanted_at, sent_edges, with_edge_at}
 use Rattle.rsx_tree.specs.Tree.{ended_in}
 use Rattle.rsx_tree.specs.Changed.{Change, IsChanged, IsAskedOver, IsSentOver}
 use Rattle.rsx_tree.proofs.Changes.{chosen_first, chosen_second}
@@ -76,6 +76,8 @@ pub record IsRowAsked {M T : Type 0} (b : Machine M T) (t : Inputs M) (at : ℕ)
   pub there : Place M
   pub is : o ≡ Some there
   pub edges : edges t' ≡ changed_at (asked_up_to (wanted_at b there)) at (edges t)
+  pub edge : Edge
+  pub row : t' ≡ with_edge_at at edge t
   pub size : size t' ≡ size t
   pub notes : notes_of b t' ≡ notes_of b t
   pub value : (m : Meaning T) (hubs : List (Stream T)) (further : List Note) (pos : ℕ) → comes_in b m hubs further t' pos ≡ comes_in b m hubs further t pos
@@ -94,6 +96,8 @@ row_asked {M} {T} b ends r i asked sent (More' e n p below q beside) at r' t' ne
         there = record { receiver = r; input = i; asked = asked; sent = sent; edge = edge_view e; sender = n };
         is = refl;
         edges = ap (λ v. v ∷ (edges below ++ edges beside)) here.edge;
+        edge = x.e';
+        row = ap (λ k. More' x.e' k p below q beside) here.sender;
         size = refl;
         notes = ap (λ k. b.recorded k ∷ (notes_of b below ++ notes_of b beside)) here.sender;
         value = λ m hubs further pos. ap (λ o. beside_of o (comes_in b m hubs further beside (pos + 1 + size below))) (ap (λ z. out_of b m hubs z (comes_in b m hubs further below (pos + 1)) (slice_get further pos)) here.sender);
@@ -111,6 +115,8 @@ row_asked {M} {T} b ends r i asked sent (More' e n p below q beside) at r' t' ne
           there = rec.there;
           is = chosen_second (nat_eq at 0) _ _ (not_zero at x.above) ∙ (chosen_first (nat_le at (size below)) _ _ (le-leb at (size below) x.within) ∙ rec.is);
           edges = ap edges whole ∙ (ap (λ es. edge_view e ∷ (es ++ edges beside)) rec.edges ∙ (ap (λ es. edge_view e ∷ es) (sym (changed_left f (at - 1) (edges below) (edges beside) inside)) ∙ sym (not_first f at (edge_view e) (edges below ++ edges beside) x.above)));
+          edge = rec.edge;
+          row = whole ∙ (ap (λ u. More' e n p u q beside) rec.row ∙ sym (chosen_second (nat_eq at 0) _ _ (not_zero at x.above) ∙ chosen_first (nat_le at (size below)) _ _ (le-leb at (size below) x.within)));
           size = ap size whole ∙ ap (λ k. k + size beside + 1) rec.size;
           notes = ap (notes_of b) whole ∙ ap (λ l. b.recorded n ∷ (l ++ notes_of b beside)) rec.notes;
           value = λ m hubs further pos. ap (λ u. comes_in b m hubs further u pos) whole ∙ (ap (λ o. beside_of (out_of b m hubs n o (slice_get further pos)) (comes_in b m hubs further beside (pos + 1 + size x.mid))) (rec.value m hubs further (pos + 1))
@@ -126,6 +132,8 @@ row_asked {M} {T} b ends r i asked sent (More' e n p below q beside) at r' t' ne
           there = rec.there;
           is = chosen_second (nat_eq at 0) _ _ (not_zero at above) ∙ (chosen_second (nat_le at (size below)) _ _ (lt-leb at (size below) x.beyond) ∙ rec.is);
           edges = ap edges x.new_is ∙ (ap (λ es. edge_view e ∷ (edges below ++ es)) (rec.edges ∙ ap (λ k. changed_at f (at - 1 - k) (edges beside)) (sym len)) ∙ (ap (λ es. edge_view e ∷ es) (sym (changed_right f (at - 1) (edges below) (edges beside) behind)) ∙ sym (not_first f at (edge_view e) (edges below ++ edges beside) above)));
+          edge = rec.edge;
+          row = x.new_is ∙ (ap (λ u. More' e n p below q u) rec.row ∙ sym (chosen_second (nat_eq at 0) _ _ (not_zero at above) ∙ chosen_second (nat_le at (size below)) _ _ (lt-leb at (size below) x.beyond)));
           size = ap size x.new_is ∙ ap (λ k. size below + k + 1) rec.size;
           notes = ap (notes_of b) x.new_is ∙ ap (λ l. b.recorded n ∷ (notes_of b below ++ l)) rec.notes;
           value = λ m hubs further pos. ap (λ u. comes_in b m hubs further u pos) x.new_is ∙ ap (λ o. beside_of (out_of b m hubs n (comes_in b m hubs further below (pos + 1)) (slice_get further pos)) o) (rec.value m hubs further (pos + 1 + size below));

@@ -274,4 +274,6 @@ tree_handed b h s n n' t t' node row =
       balance = λ sent w. owner_balanced b n n' (sent_over t) (sent_over t') sent (IsRowBalanced b n 0 t) (IsRowBalanced b n' 0 t') stays rows.sent_is (row_balanced b h s n n' stays.counts.stays_done 0 t t' row) w;
       calls = λ a. ap (λ c. c || row_allocates b a t') (stays.calls a) ∙ ap (λ c. node_allocates b a n || c) (rows.calls a);
       reading = (node_goes b s (reads_hub h (b.reads n)) n n' node, row_goes b h s t t' row);
+      root = node;
+      below = row;
     }

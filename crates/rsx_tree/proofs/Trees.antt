@@ -51,7 +51,7 @@ pub can_asked : {M T : Type 0} (b : Machine M T) (r : M) (asked sent at : ℕ) (
 can_asked b r asked sent at t t' h = can_ask_found b _ (found (IsAskedOver b) (λ n. false) r 0 asked sent t at r t' h)
 
 pub asked_effect : {M T : Type 0} (b : Machine M T) (r : M) (asked sent at : ℕ) (t t' : Inputs M) → IsChanged (IsAskedOver b) (λ n. false) r 0 asked sent t at r t' → IsAskedAt b (node r t) at asked sent (node r t')
-asked_effect b r asked sent at t t' h = let k = row_asked b (λ n. false) r 0 asked sent t at r t' (λ n. refl) h in record { there = k.there; is = k.is; edges = k.edges }
+asked_effect b r asked sent at t t' h = let k = row_asked b (λ n. false) r 0 asked sent t at r t' (λ n. refl) h in record { there = k.there; is = k.is; edges = k.edges; edge = k.edge; tree = ap (node r) k.row }
 
 can_send_found : {M T : Type 0} (b : Machine M T) (m : Meaning T) (o : Option (Place M)) → Found (IsSentOver b m) o → can_send_in b m o ≡ true
 can_send_found b m o f = ap (can_send_in b m) f.is ∙ (ap (λ e. can_send_over b m f.there.receiver f.there.input e f.there.sender) f.edge_is ∙ f.made.can)

@@ -129,3 +129,6 @@ pub record IsHanded {M T : Type 0} (b : Machine M T) (h : ℕ) (s : Signal T) (o
   pub calls : (a : Allocates) → tree_allocates b a new ≡ tree_allocates b a old
   -- each node, behind an edge that isn't live, too, reads the hub that it read, or none any more
   pub reading : AllGoOn (readings b old) (readings b new)
+  -- each node that reads the hub behind live edges took the signal in, and each other node, and each edge, is as it was
+  pub root : IsNodeHanded b h s old.machine new.machine
+  pub below : IsRowHanded b h s old.inputs new.inputs

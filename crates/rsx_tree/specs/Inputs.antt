@@ -4,6 +4,7 @@ use Rattle.std.specs.Prelude.{◌≡◌, ℕ, ◌+◌, ◌-◌, Bool, true, fals
 use Rattle.rsx_sources.specs.Prelude.{Meaning, Allocates, unchosen, Stream, Note, incoming_of, front_of}
 use Rattle.rsx_sources.specs.declared.machine.Front.{Front}
 use Rattle.rsx_sources.specs.declared.machine.Machine.{Ghosts as Machine}
+use Rattle.rsx_tree.specs.declared.edge.Edge.{Edge}
 use Rattle.rsx_tree.specs.declared.inputs.Inputs.{Inputs, End, More'}
 use Rattle.rsx_tree.specs.Edges.{edge_view, EdgeView, can_ask_for, can_pass, closed_edge, closed_if, passed}
 
@@ -98,6 +99,14 @@ can_go takes e None = false
 can_go takes e (Some f) = takes f && can_pass e f
 
 -- ---- an Ask
+
+-- the row, where the edge `at` is this one; each node, and each other edge, is as it was
+abbrev pub with_edge_at : {M : Type 0} → ℕ → Edge → Inputs M → Inputs M
+with_edge_at at edge End = End
+with_edge_at at edge (More' e n p below q beside) =
+    if nat_eq at 0 then More' edge n p below q beside
+    else (if nat_le at (size below) then More' e n p (with_edge_at (at - 1) edge below) q beside
+    else More' e n p below q (with_edge_at (at - 1 - size below) edge beside))
 
 abbrev pub wanted_at : {M T : Type 0} → Machine M T → Place M → ℕ
 wanted_at b p = b.wanted p.receiver p.input p.asked p.sent

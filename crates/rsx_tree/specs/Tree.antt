@@ -11,7 +11,7 @@ use Rattle.rsx_tree.specs.Allocates.{IsAlike}
 use Rattle.rsx_tree.specs.Balance.{IsBalanced, IsBalancedAfter}
 use Rattle.rsx_tree.specs.Changed.{Hold, IsChanged, IsSentOver}
 use Rattle.rsx_tree.specs.Edges.{EdgeView, asked_up_to, changed_at, closed_if}
-use Rattle.rsx_tree.specs.Inputs.{Place, place, size, is_own, closed_row_if, comes_in, out_of, notes_of, edges as edges_in, can_ask_in, can_send_in, wanted_at, send_allocates_in, sent_edges, IsUnchosen as IsUnchosenIn}
+use Rattle.rsx_tree.specs.Inputs.{Place, place, size, is_own, closed_row_if, comes_in, out_of, notes_of, edges as edges_in, can_ask_in, can_send_in, wanted_at, send_allocates_in, sent_edges, with_edge_at, IsUnchosen as IsUnchosenIn}
 
 -- what still comes out of the tree whose root has the number `at`, where `hubs` is what is still published at each hub and
 -- `further` what each node of the whole tree still chooses; nothing where those choices don't fit
@@ -93,11 +93,17 @@ ended_in b r (More' e n p below q beside) at =
 abbrev pub ended_at : {M T : Type 0} → Machine M T → Node M → ℕ → Bool
 ended_at b t at = ended_in b t.machine t.inputs at
 
--- an Ask: what was asked of the edge rose to what its receiver wants, and no other edge changed
+-- the tree, where the edge `at` below its root is this one; each node, and each other edge, is as it was
+abbrev pub with_edge : {M : Type 0} → ℕ → Edge → Node M → Node M
+with_edge at edge t = record t { inputs = with_edge_at at edge t.inputs }
+
+-- an Ask: what was asked of the edge rose to what its receiver wants, and no other edge, and no node, changed
 pub record IsAskedAt {M T : Type 0} (b : Machine M T) (old : Node M) (at asked sent : ℕ) (new : Node M) : Type 0 where
   pub there : Place M
   pub is : place_of old at asked sent ≡ Some there
   pub edges : edges new ≡ changed_at (asked_up_to (wanted_at b there)) at (edges old)
+  pub edge : Edge
+  pub tree : new ≡ with_edge at edge old
 
 -- a Send: the offered signal went over the edge, and where its receiver ended by it, all edges below that are closed; no other
 -- edge, and no node but the two at its ends, changed

@@ -6,5 +6,5 @@ use Rattle.rsx_hub.proofs.leaf.HubLeafMachine.put_back.Goals as goal
 
 pub returns-in-Next : goal.returns-in-Next
 returns-in-Next g c before h =
-    put_back c.self.inside.hub c.self.inside.member c.put_back.new.self c.in-Next.item before c.self.invariant c.put_back.ensures.state
+    put_back c.self.inside.hub c.self.inside.missed c.self.inside.before c.self.inside.member c.put_back.new.self c.in-Next.item before c.self.invariant c.put_back.ensures.state
     (subst (λ n. leaf_popped before (Next c.in-Next.item) n) (sym c.self.view_is) (subst (λ s. leaf_popped before s c.args.self.now) c.in-Next.is h))
