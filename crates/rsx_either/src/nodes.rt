@@ -22,4 +22,6 @@ impl<A: Nodes, B: Nodes<Item = A::Item>> Nodes for EitherNode<A, B> {
     ghost rests = { λ m. elim [ Left x ↦ A.rests m x | Right y ↦ B.rests m y ] };
 
     ghost full = { λ m. elim [ Left x ↦ A.full m x | Right y ↦ B.full m y ] };
+
+    ghost local = { λ m. elim [ Left x ↦ A.local m x | Right y ↦ B.local m y ] };
 }

@@ -1,8 +1,8 @@
 -- A tree that was built over the trees of its inputs.
-use Rattle.std.proofs.Common.{◌≡◌, inr, ℕ, zero, suc, ◌+◌, ◌<◌, List, [], ◌∷◌, refl, ap, sym, ◌∙◌, subst, Option, Some, None, option_map, option_and_then, slice_get, Result, Ok, Err, Vec, Global}
+use Rattle.std.proofs.Common.{◌≡◌, inr, ℕ, zero, suc, ◌+◌, ◌<◌, List, [], ◌∷◌, length, arith, refl, ap, sym, ◌∙◌, subst, Option, Some, None, option_map, option_and_then, slice_get, Result, Ok, Err, Vec, Global}
 use Rattle.std.specs.Prelude.{ℤ, IfOk}
 use Rattle.rsx_sources.specs.Prelude.{Meaning, listed, range_items, NoMemory, Stream, Note, Nothing, Picks, Ended, HubId, Ending, Open, Done, Failed, Incoming, incoming_of, quiet as quiet_at, GivesItems, ItemsLeft, GivesRange, Reading, published_at}
-use Rattle.rsx_kinds.specs.Prelude.{AllUnrecorded, AreBegun, BeginsWith, Direct, Edge, End, Expr, HasTakenIn, HubState, Inputs, IsBuilt, LeafState, Live, Node, RangeNode, Source, SourceNode, StandAt, TreeNode, any_machine, counts_of, first_fault, first_wants, fold_out-Expr, fresh_edge, fresh_edges, fresh_wants, join, join_at, joins_now, leaf_reads, member_of, new_joins, outs-Hub, outs-Items, outs-Range, reading_of}
+use Rattle.rsx_kinds.specs.Prelude.{AllUnrecorded, AreBegun, BeginsWith, Direct, Edge, End, Expr, HasTakenIn, HubState, Inputs, IsBuilt, LeafState, Live, Node, RangeNode, Source, SourceNode, StandAt, TreeNode, any_machine, counts_of, first_fault, first_wants, fold_out-Expr, fresh_edge, fresh_edges, fresh_wants, join, join_at, joins_now, leaf_reads, member_of, new_joins, outs-Hub, outs-Items, outs-Range, reading_of, source_counted}
 use Rattle.rsx_hub.specs.Member.{MemberState, ReadsFromJoin, ending_taken, fresh_member, rest, without}
 use Rattle.rsx_model.specs.Eval.{environment, quiet, meant, joined_value, behind as missing}
 use Rattle.rsx_model.specs.declared.expr.Expr.TheVariants.{Items as ItemsOf, Range as RangeOf, Hub as HubOf}
@@ -30,11 +30,11 @@ abbrev pub node_of : {T : Type 0} → TreeNode T → Inputs (TreeNode T) → Nod
 node_of n r = record { machine = n; inputs = r }
 
 -- a source alone, whose value is that of the expression
-pub built_source : {T : Type 0} (m : Meaning T) (hubs : List (HubState T)) (e : Expr T) (n : SourceNode T) (t : Node (TreeNode T)) → t.machine ≡ Direct (Source n) → t.inputs ≡ End →
+pub built_source : {T : Type 0} (m : Meaning T) (hubs : List (HubState T)) (e : Expr T) (n : SourceNode T) (t : Node (TreeNode T)) → t.machine ≡ Direct (Source n) → t.inputs ≡ End → source_counted n [] 0 →
     ((whole : List (Stream T)) (joins : List ℕ) (leaf : ℕ) → AreBegun hubs whole → StandAt joins leaf (new_joins hubs e) → (v : Stream T) × ((inc : Incoming T) (k : Note) → inc.hubs ≡ whole → any_machine.comes_out m (Direct (Source n)) inc k ≡ quiet_at k v)
     × ((further : List Note) (at : ℕ) → (meant (environment m whole joins further) e).value at leaf ≡ quiet (slice_get further at) (Some v))) →
     IsReadAt (counts_of hubs) (any_machine.reads (Direct (Source n))) → (new_joins hubs e ≡ [] → IsReadAt [] (any_machine.reads (Direct (Source n)))) → fresh_edges e ≡ [] → fresh_wants e ≡ [] → IsBuilt m hubs e t
-built_source {T} m hubs e n t n_is r_is values read unread none nothing = record {
+built_source {T} m hubs e n t n_is r_is counts values read unread none nothing = record {
   value = λ whole joins further at leaf begun stand.
       let v = values whole joins leaf begun stand in
       ap (λ x. out_of any_machine m whole x (comes_in any_machine m whole further t.inputs (at + 1)) (slice_get further at)) n_is
@@ -60,7 +60,7 @@ built_source {T} m hubs e n t n_is r_is values read unread none nothing = record
   balance =
       let R : Inputs (TreeNode T) → Type 0 = λ r. IsOwnerBalanced any_machine t.machine (sent_over r) 0 (IsRowBalanced any_machine t.machine 0 r) in
       let N : TreeNode T → Type 0 = λ x. IsOwnerBalanced any_machine x [] 0 (Unit {0}) in
-      subst R (sym r_is) (subst N (sym n_is) (inr (refl, tt, tt)));
+      subst R (sym r_is) (subst N (sym n_is) (inr (refl, counts, tt)));
 }
 
 -- ---- items
@@ -71,7 +71,7 @@ fresh_Items {T} v = rw (fold_out-Expr, outs-Items) refl
 built_items : {T : Type 0} (m : Meaning T) (hubs : List (HubState T)) (e : Expr T) (v : Vec T Global) (items : List T) (n : ItemsLeft T) (t : Node (TreeNode T)) → e ≡ ItemsOf v → items ≡ v.items → GivesItems n items → t.machine ≡ Direct (Source (Items n)) → t.inputs ≡ End → IsBuilt m hubs e t
 built_items {T} m hubs e v items n t is all fresh n_is r_is =
     let P : Expr T → Type 0 = λ x. IsBuilt m hubs x t in
-    subst P (sym is) (built_source m hubs (ItemsOf v) (Items n) t n_is r_is
+    subst P (sym is) (built_source m hubs (ItemsOf v) (Items n) t n_is r_is tt
     (λ whole joins leaf begun stand. (listed v.items, (λ inc k same. fresh m inc k ∙ ap (λ l. quiet_at k (listed l)) all), (λ further at. value_Items (environment m whole joins further) v at leaf)))
     tt (λ bare. tt) (fresh_Items v) (wants_Items v))
 
@@ -89,7 +89,7 @@ fresh_Range T a k = rw (fold_out-Expr, outs-Range) refl
 built_range : {T : Type 0} (m : Meaning T) (hubs : List (HubState T)) (e : Expr T) (a : ℤ) (k : ℕ) (n : RangeNode T) (t : Node (TreeNode T)) → e ≡ RangeOf a k → GivesRange n a k → t.machine ≡ Direct (Source (Range n)) → t.inputs ≡ End → IsBuilt m hubs e t
 built_range {T} m hubs e a k n t is fresh n_is r_is =
     let P : Expr T → Type 0 = λ x. IsBuilt m hubs x t in
-    subst P (sym is) (built_source m hubs (RangeOf a k) (Range n) t n_is r_is
+    subst P (sym is) (built_source m hubs (RangeOf a k) (Range n) t n_is r_is tt
     (λ whole joins leaf begun stand. (listed (range_items m a k), (λ inc d same. fresh m inc d), (λ further at. value_Range (environment m whole joins further) a k at leaf)))
     tt (λ bare. tt) (fresh_Range T a k) (wants_Range T a k))
 
@@ -131,11 +131,18 @@ some_join e = cc
 fresh_Hub : (T : Type 0) (h : HubId) → fresh_edges {T = T} (HubOf h) ≡ []
 fresh_Hub T h = rw (fold_out-Expr, outs-Hub) refl
 
+-- nothing was sent by a leaf yet, and it holds what it began with
+leaf_begins : {T : Type 0} (n : LeafState T) (mem : MemberState T) → member_of n ≡ mem → n.missed ≡ mem.reached → n.before ≡ length mem.queue → source_counted (Hub n) [] 0
+leaf_begins n mem is missed before =
+    let reached : n.reached ≡ mem.reached = ap (λ k. k.reached) is in
+    let holds : length n.queue ≡ length mem.queue = ap (λ k. length k.queue) is in
+    omega (arith, missed, before, reached, holds)
+
 built_hub : {T : Type 0} (m : Meaning T) (hubs : List (HubState T)) (e : Expr T) (id : HubId) (h : HubState T) (mem : MemberState T) (n : LeafState T) (t : Node (TreeNode T)) → e ≡ HubOf id → slice_get hubs id.0 ≡ Some h → mem ≡ fresh_member h → ReadsFromJoin h mem →
-    n.hub ≡ id.0 → member_of n ≡ mem → t.machine ≡ Direct (Source (Hub n)) → t.inputs ≡ End → IsBuilt m hubs e t
-built_hub {T} m hubs e id h mem n t is there fresh from hub_is mem_is n_is r_is =
+    n.hub ≡ id.0 → member_of n ≡ mem → n.missed ≡ mem.reached → n.before ≡ length mem.queue → t.machine ≡ Direct (Source (Hub n)) → t.inputs ≡ End → IsBuilt m hubs e t
+built_hub {T} m hubs e id h mem n t is there fresh from hub_is mem_is missed before n_is r_is =
     let P : Expr T → Type 0 = λ x. IsBuilt m hubs x t in
-    subst P (sym is) (built_source m hubs (HubOf id) (Hub n) t n_is r_is values read (λ bare. absurd (some_join (sym (new_joins_Hub T hubs id) ∙ bare))) (fresh_Hub T id) (wants_Hub T id))
+    subst P (sym is) (built_source m hubs (HubOf id) (Hub n) t n_is r_is (leaf_begins n mem mem_is missed before) values read (λ bare. absurd (some_join (sym (new_joins_Hub T hubs id) ∙ bare))) (fresh_Hub T id) (wants_Hub T id))
   where
     values : (whole : List (Stream T)) (joins : List ℕ) (leaf : ℕ) → AreBegun hubs whole → StandAt joins leaf (new_joins hubs (HubOf id)) → (v : Stream T) × ((inc : Incoming T) (k : Note) → inc.hubs ≡ whole → any_machine.comes_out m (Direct (Source (Hub n))) inc k ≡ quiet_at k v)
         × ((further : List Note) (at : ℕ) → (meant (environment m whole joins further) (HubOf id)).value at leaf ≡ quiet (slice_get further at) (Some v))
@@ -161,9 +168,9 @@ built_hub {T} m hubs e id h mem n t is there fresh from hub_is mem_is n_is r_is 
 
 -- the same of a tree that was made unless memory ran out
 pub hub_made : {T : Type 0} (m : Meaning T) (hubs : List (HubState T)) (id : HubId) (h : HubState T) (mem : MemberState T) (n : LeafState T) (r : Result (Node (TreeNode T)) NoMemory) → slice_get hubs id.0 ≡ Some h → mem ≡ fresh_member h → ReadsFromJoin h mem →
-    n.hub ≡ id.0 → member_of n ≡ mem → IfOk r (λ t. t.machine ≡ Direct (Source (Hub n))) → IfOk r (λ t. t.inputs ≡ End) → IfOk r (λ t. IsBuilt m hubs (HubOf id) t)
-hub_made m hubs id h mem n (Ok t) there fresh from hub_is mem_is n_is r_is = built_hub m hubs (HubOf id) id h mem n t refl there fresh from hub_is mem_is n_is r_is
-hub_made m hubs id h mem n (Err x) there fresh from hub_is mem_is n_is r_is = tt
+    n.hub ≡ id.0 → member_of n ≡ mem → n.missed ≡ mem.reached → n.before ≡ length mem.queue → IfOk r (λ t. t.machine ≡ Direct (Source (Hub n))) → IfOk r (λ t. t.inputs ≡ End) → IfOk r (λ t. IsBuilt m hubs (HubOf id) t)
+hub_made m hubs id h mem n (Ok t) there fresh from hub_is mem_is missed before n_is r_is = built_hub m hubs (HubOf id) id h mem n t refl there fresh from hub_is mem_is missed before n_is r_is
+hub_made m hubs id h mem n (Err x) there fresh from hub_is mem_is missed before n_is r_is = tt
 
 -- ---- a fresh edge
 

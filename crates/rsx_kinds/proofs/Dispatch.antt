@@ -1,8 +1,8 @@
 -- A node of any kind moves as its kind does.
 use Rattle.std.specs.Prelude.{IfSome, ⊤}
-use Rattle.std.proofs.Common.{◌≡◌, ap, ℕ, false, Option, Some, None}
+use Rattle.std.proofs.Common.{◌≡◌, ap, refl, ℕ, false, Option, Some, None}
 use Rattle.rsx_sources.specs.Prelude.{Meaning, Nothing, Signal, Next, Complete, Error, CountsIn, CountsOut, CountsStep, IsItemOut, IsPassed, IsTakenIn, IsReadOn, IsPopped, ItemsLeft, items_comes_out, items_popped, items_waiting, range_comes_out, range_popped, range_waiting}
-use Rattle.rsx_kinds.specs.Prelude.{AnyNode, CountsItems, Declined, FlatMapNode, GroupByNode, IsGoing, IsPoppedGroup, IsPoppedWindow, Item, Kept, LeafState, Passed, PlainNode, RangeNode, SeveralNode, SourceNode, WindowNode, any_comes_out, any_counted, any_done, any_ended, any_popped, any_recorded, any_takes, any_waiting, flat_comes_out, flat_done, flat_ended, flat_popped, flat_recorded, flat_takes, flat_waiting, group_comes_out, group_counted, group_done, group_ended, group_recorded, group_takes, group_waiting, leaf_comes_out, leaf_popped, leaf_reads, leaf_waiting, plain_comes_out, plain_counted, plain_ended, plain_popped, plain_takes, plain_waiting, publish_comes_out, publish_counted, publish_ended, publish_popped, publish_takes, publish_waiting, several_comes_out, several_counted, several_done, several_ended, several_popped, several_recorded, several_takes, several_waiting, source_comes_out, source_popped, source_reads, source_waiting, window_comes_out, window_done, window_ended, window_takes, window_waiting}
+use Rattle.rsx_kinds.specs.Prelude.{AnyNode, CountsItems, Declined, FlatMapNode, GroupByNode, IsGoing, IsPoppedGroup, IsPoppedWindow, Item, Kept, LeafState, Passed, PlainNode, RangeNode, SeveralNode, SourceNode, WindowNode, any_comes_out, any_counted, any_done, any_ended, any_popped, any_recorded, any_takes, any_waiting, flat_comes_out, flat_done, flat_ended, flat_popped, flat_recorded, flat_takes, flat_waiting, group_comes_out, group_counted, group_done, group_ended, group_recorded, group_takes, group_waiting, leaf_comes_out, leaf_counted, leaf_popped, leaf_reads, leaf_waiting, plain_comes_out, plain_counted, plain_ended, plain_popped, plain_takes, plain_waiting, publish_comes_out, publish_counted, publish_ended, publish_popped, publish_takes, publish_waiting, several_comes_out, several_counted, several_done, several_ended, several_popped, several_recorded, several_takes, several_waiting, source_comes_out, source_counted, source_popped, source_reads, source_waiting, window_comes_out, window_done, window_ended, window_takes, window_waiting}
 use Rattle.rsx_merging.specs.declared.publish_on_node.PublishOnNode.{PublishOnNode}
 use Rattle.rsx_kinds.specs.declared.any_node.AnyNode.TheVariants.{Source, Plain, Several, PublishOn, Window, FlatMap, GroupBy}
 use Rattle.rsx_kinds.specs.declared.source_node.SourceNode.TheVariants.{Items, Range, Hub}
@@ -22,7 +22,7 @@ popped_hub m old new None h = (h.0, ap Hub h.1)
 popped_hub m old new (Some s) h = h
 
 abbrev pub IsOutSource : {T : Type 0} → Meaning T → SourceNode T → T → SourceNode T → Type 0
-IsOutSource m old x new = IsItemOut (source_comes_out m) (source_waiting m) source_popped (λ n. Nothing) (λ n taken sent. ⊤) (λ n. false) (λ n i. false) old x new
+IsOutSource m old x new = IsItemOut (source_comes_out m) (source_waiting m) source_popped (λ n. Nothing) source_counted (λ n. false) (λ n i. false) old x new
 
 out_items : {T : Type 0} (m : Meaning T) (old new : ItemsLeft T) (x : T) → IsItemOut (items_comes_out m) (items_waiting m) items_popped (λ n. Nothing) (λ n taken sent. ⊤) (λ n. false) (λ n i. false) old x new → IsOutSource m (Items old) x (Items new)
 out_items m old new x h = record { waited = h.waited; popped_out = h.popped_out; value = h.value; notes = h.notes; counts = h.counts }
@@ -30,7 +30,7 @@ out_items m old new x h = record { waited = h.waited; popped_out = h.popped_out;
 out_range : {T : Type 0} (m : Meaning T) (old new : RangeNode T) (x : T) → IsItemOut (range_comes_out m) (range_waiting m) range_popped (λ n. Nothing) (λ n taken sent. ⊤) (λ n. false) (λ n i. false) old x new → IsOutSource m (Range old) x (Range new)
 out_range m old new x h = record { waited = h.waited; popped_out = h.popped_out; value = h.value; notes = h.notes; counts = h.counts }
 
-out_hub : {T : Type 0} (m : Meaning T) (old new : LeafState T) (x : T) → IsItemOut (leaf_comes_out m) (leaf_waiting m) leaf_popped (λ n. Nothing) (λ n taken sent. ⊤) (λ n. false) (λ n i. false) old x new → IsOutSource m (Hub old) x (Hub new)
+out_hub : {T : Type 0} (m : Meaning T) (old new : LeafState T) (x : T) → IsItemOut (leaf_comes_out m) (leaf_waiting m) leaf_popped (λ n. Nothing) leaf_counted (λ n. false) (λ n i. false) old x new → IsOutSource m (Hub old) x (Hub new)
 out_hub m old new x h = record { waited = h.waited; popped_out = h.popped_out; value = h.value; notes = h.notes; counts = h.counts }
 
 pub item_out_items : {T : Type 0} (m : Meaning T) (old new : ItemsLeft T) (o : Option T) → IfSome o (λ x. IsItemOut (items_comes_out m) (items_waiting m) items_popped (λ n. Nothing) (λ n taken sent. ⊤) (λ n. false) (λ n i. false) old x new) → IfSome o (λ x. IsOutSource m (Items old) x (Items new))
@@ -41,9 +41,30 @@ pub item_out_range : {T : Type 0} (m : Meaning T) (old new : RangeNode T) (o : O
 item_out_range m old new None h = h
 item_out_range m old new (Some x) h = out_range m old new x h
 
-pub item_out_hub : {T : Type 0} (m : Meaning T) (old new : LeafState T) (o : Option T) → IfSome o (λ x. IsItemOut (leaf_comes_out m) (leaf_waiting m) leaf_popped (λ n. Nothing) (λ n taken sent. ⊤) (λ n. false) (λ n i. false) old x new) → IfSome o (λ x. IsOutSource m (Hub old) x (Hub new))
+pub item_out_hub : {T : Type 0} (m : Meaning T) (old new : LeafState T) (o : Option T) → IfSome o (λ x. IsItemOut (leaf_comes_out m) (leaf_waiting m) leaf_popped (λ n. Nothing) leaf_counted (λ n. false) (λ n i. false) old x new) → IfSome o (λ x. IsOutSource m (Hub old) x (Hub new))
 item_out_hub m old new None h = h
 item_out_hub m old new (Some x) h = out_hub m old new x h
+
+pub counted_items : {T : Type 0} (old new : ItemsLeft T) (o : Option (Signal T)) → CountsOut source_counted (λ n. false) (λ n i. false) (Items old) o (Items new)
+counted_items old new None = tt
+counted_items old new (Some (Next x)) = (refl, (λ taken sent c. c), (λ j d. d))
+counted_items old new (Some Complete) = tt
+counted_items old new (Some (Error c)) = tt
+
+pub counted_range : {T : Type 0} (old new : RangeNode T) (o : Option (Signal T)) → CountsOut source_counted (λ n. false) (λ n i. false) (Range old) o (Range new)
+counted_range old new None = tt
+counted_range old new (Some (Next x)) = (refl, (λ taken sent c. c), (λ j d. d))
+counted_range old new (Some Complete) = tt
+counted_range old new (Some (Error c)) = tt
+
+pub counted_hub : {T : Type 0} (old new : LeafState T) (o : Option (Signal T)) → CountsOut leaf_counted (λ n. false) (λ n i. false) old o new → CountsOut source_counted (λ n. false) (λ n i. false) (Hub old) o (Hub new)
+counted_hub old new None h = tt
+counted_hub old new (Some (Next x)) h = h
+counted_hub old new (Some Complete) h = tt
+counted_hub old new (Some (Error c)) h = tt
+
+pub stepped_hub : {T : Type 0} (old new : LeafState T) → CountsStep leaf_counted (λ n. false) (λ n i. false) old new → CountsStep source_counted (λ n. false) (λ n i. false) (Hub old) (Hub new)
+stepped_hub old new h = record { stays_ended = h.stays_ended; counts = h.counts; stays_done = h.stays_done }
 
 -- a signal that comes back
 pub returned_items : {T : Type 0} (before : SourceNode T) (s : Signal T) (n n' : ItemsLeft T) → source_popped before s (Items n) → ((b : ItemsLeft T) → items_popped b s n → n' ≡ b) → Items n' ≡ before
@@ -90,6 +111,15 @@ popped_flat_map m old new (Some s) h = h
 pub popped_group_by : {T : Type 0} (m : Meaning T) (old new : GroupByNode T) (o : Option (Signal T)) → IsPopped (group_comes_out m) IsPoppedGroup (group_waiting m old) old o new → IsPopped (any_comes_out m) any_popped (group_waiting m old) (GroupBy old) o (GroupBy new)
 popped_group_by m old new None h = (h.0, ap GroupBy h.1)
 popped_group_by m old new (Some s) h = h
+
+pub counted_source : {T : Type 0} (old new : SourceNode T) (o : Option (Signal T)) → CountsOut source_counted (λ n. false) (λ n i. false) old o new → CountsOut any_counted any_ended any_done (Source old) o (Source new)
+counted_source old new None h = tt
+counted_source old new (Some (Next x)) h = h
+counted_source old new (Some Complete) h = tt
+counted_source old new (Some (Error c)) h = tt
+
+pub stepped_source : {T : Type 0} (old new : SourceNode T) → CountsStep source_counted (λ n. false) (λ n i. false) old new → CountsStep any_counted any_ended any_done (Source old) (Source new)
+stepped_source old new h = record { stays_ended = h.stays_ended; counts = h.counts; stays_done = h.stays_done }
 
 pub counted_several : {T : Type 0} (old new : SeveralNode T) (o : Option (Signal T)) → CountsOut several_counted several_ended several_done old o new → CountsOut any_counted any_ended any_done (Several old) o (Several new)
 counted_several old new None h = tt
@@ -181,13 +211,13 @@ returned_group_by before s n n' h k = absurd h
 abbrev pub IsOutAny : {T : Type 0} → Meaning T → AnyNode T → T → AnyNode T → Type 0
 IsOutAny m old x new = IsItemOut (any_comes_out m) (any_waiting m) any_popped any_recorded any_counted any_ended any_done old x new
 
-out_source : {T : Type 0} (m : Meaning T) (old new : SourceNode T) (x : T) → IsItemOut (source_comes_out m) (source_waiting m) source_popped (λ n. Nothing) (λ n taken sent. ⊤) (λ n. false) (λ n i. false) old x new → IsOutAny m (Source old) x (Source new)
+out_source : {T : Type 0} (m : Meaning T) (old new : SourceNode T) (x : T) → IsItemOut (source_comes_out m) (source_waiting m) source_popped (λ n. Nothing) source_counted (λ n. false) (λ n i. false) old x new → IsOutAny m (Source old) x (Source new)
 out_source m old new x h = record { waited = h.waited; popped_out = h.popped_out; value = h.value; notes = h.notes; counts = h.counts }
 
 out_plain : {T : Type 0} (m : Meaning T) (old new : PlainNode T) (x : T) → IsItemOut (plain_comes_out m) (plain_waiting m) plain_popped (λ n. Nothing) plain_counted plain_ended (λ n i. false) old x new → IsOutAny m (Plain old) x (Plain new)
 out_plain m old new x h = record { waited = h.waited; popped_out = h.popped_out; value = h.value; notes = h.notes; counts = h.counts }
 
-pub item_out_source : {T : Type 0} (m : Meaning T) (old new : SourceNode T) (o : Option T) → IfSome o (λ x. IsItemOut (source_comes_out m) (source_waiting m) source_popped (λ n. Nothing) (λ n taken sent. ⊤) (λ n. false) (λ n i. false) old x new) → IfSome o (λ x. IsOutAny m (Source old) x (Source new))
+pub item_out_source : {T : Type 0} (m : Meaning T) (old new : SourceNode T) (o : Option T) → IfSome o (λ x. IsItemOut (source_comes_out m) (source_waiting m) source_popped (λ n. Nothing) source_counted (λ n. false) (λ n i. false) old x new) → IfSome o (λ x. IsOutAny m (Source old) x (Source new))
 item_out_source m old new None h = h
 item_out_source m old new (Some x) h = out_source m old new x h
 

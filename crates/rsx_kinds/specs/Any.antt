@@ -1,6 +1,6 @@
 -- A node of any kind: its meaning is that of its kind. A node of a tree is one of any kind, with the queue of its edge where that
 -- crosses to another region.
-use Rattle.std.specs.Prelude.{⊤, ℕ, Bool, true, false, List, Option, None}
+use Rattle.std.specs.Prelude.{ℕ, Bool, true, false, List, Option, None}
 use Rattle.rsx_sources.specs.Prelude.{Note, Nothing, Signal, Meaning, Allocates, Stream, Incoming, Reading}
 use Rattle.rsx_sources.specs.declared.machine.Front.{Front}
 use Rattle.rsx_sources.specs.declared.machine.Machine.{Ghosts as Machine}
@@ -12,7 +12,7 @@ use Rattle.rsx_merging.specs.PublishOn.{publish_comes_out, publish_waiting, publ
 use Rattle.rsx_window.specs.Window.{window_comes_out, window_waiting, window_shown, window_takes, window_ended, window_done, window_wanted, IsPoppedWindow, CountsItems}
 use Rattle.rsx_merging.specs.FlatMap.{flat_comes_out, flat_waiting, flat_shown, flat_takes, flat_picks, flat_recording, flat_recorded, flat_ended, flat_done, flat_wanted, flat_popped, IsGoing}
 use Rattle.rsx_grouping.specs.GroupBy.{group_comes_out, group_waiting, group_shown, group_takes, group_picks, group_recording, group_recorded, group_ended, group_done, group_counted, group_wanted, IsPoppedGroup}
-use Rattle.rsx_kinds.specs.Source.{source_comes_out, source_waiting, source_shown, source_popped, source_reads, source_rooms, source_pop_allocates}
+use Rattle.rsx_kinds.specs.Source.{source_comes_out, source_waiting, source_shown, source_popped, source_reads, source_counted, source_rooms, source_pop_allocates}
 use Rattle.rsx_kinds.specs.declared.any_node.AnyNode.{AnyNode}
 use Rattle.rsx_kinds.specs.declared.any_node.AnyNode.TheVariants.{Source, Plain, Several, PublishOn, Window, FlatMap, GroupBy}
 
@@ -121,9 +121,9 @@ any_done (Window n) i = window_done n i
 any_done (FlatMap n) i = flat_done n i
 any_done (GroupBy n) i = group_done n i
 
--- how many items came in and how many were sent; a source takes none in
+-- how many items came in and how many were sent
 abbrev pub any_counted : {T : Type 0} → AnyNode T → List ℕ → ℕ → Type 0
-any_counted (Source n) taken sent = ⊤
+any_counted (Source n) taken sent = source_counted n taken sent
 any_counted (Plain n) taken sent = plain_counted n taken sent
 any_counted (Several n) taken sent = several_counted n taken sent
 any_counted (PublishOn n) taken sent = publish_counted n taken sent

@@ -98,7 +98,7 @@ any_ending_waits m (GroupBy n) asked sent e none more = elim (group_ending_waits
 -- it isn't stuck
 pub any_hungry : {T : Type 0} (m : Meaning T) (n : AnyNode T) (taken : List ℕ) (asked sent : ℕ) → any_ended n ≡ false → any_counted n taken sent → any_waiting m n ≡ None → sent < asked → AreWithin taken →
     IsHungry any_takes any_picks any_rows any_done any_wanted any_reads n taken asked sent
-any_hungry m (Source n) taken asked sent still counted waits more within = elim (source_hungry m n taken asked sent refl tt waits more within) [
+any_hungry m (Source n) taken asked sent still counted waits more within = elim (source_hungry m n taken asked sent refl counted waits more within) [
   | inl k ↦ inl k
   | inr y ↦ elim y [
     | inl k ↦ inr (inl k)

@@ -3,9 +3,11 @@ pub mod Any
 pub mod Built
 pub mod ConcatRests
 pub mod Crossings
+pub mod Cutting
 pub mod Kind
 pub mod LatestRests
 pub mod Laws
+pub mod Local
 pub mod Made
 pub mod MergeRests
 pub mod OneInputRests

@@ -2,14 +2,14 @@
 pub use Rattle.rsx_grouping.specs.GroupBy.{GivesGroups, IsPoppedGroup, group_comes_out, group_counted, group_done, group_ended, group_recorded, group_takes, group_waiting, group_wanted}
 pub use Rattle.rsx_grouping.specs.declared.node.GroupByNode.{GroupByNode}
 pub use Rattle.rsx_hub.specs.Hub.{BeginsWith, HasTakenIn, HubState, join}
-pub use Rattle.rsx_hub.specs.Leaf.{LeafState, leaf_comes_out, leaf_popped, leaf_reads, leaf_waiting, member_of, reading_of}
+pub use Rattle.rsx_hub.specs.Leaf.{LeafState, leaf_comes_out, leaf_counted, leaf_popped, leaf_reads, leaf_waiting, member_of, reading_of}
 pub use Rattle.rsx_kinds.specs.Any.{TreeNode, any_comes_out, any_counted, any_done, any_ended, any_machine, any_popped, any_recorded, any_takes, any_waiting, kind_machine}
 pub use Rattle.rsx_kinds.specs.Built.{AllUnrecorded, AreBegun, AreBuilt, IsBuilt, IsBuiltOver, IsPlainOver, IsUnrecorded, StandAt, WantsOfEach, counts_of, first_wants, fresh_beside, fresh_edge, fresh_edges, fresh_wants, join_at, joins_now, new_joins, new_joins_of, prefetch_of, starts_ended, wants_beside}
 pub use Rattle.rsx_kinds.specs.Crossings.{ArePlaced, IsAlone, IsPlaced, IsPlacedOver, Placed, crossings, differ, fresh_crossings, is_crossing, opposite, placed, placed_beside, placed_here, placed_in}
 pub use Rattle.rsx_kinds.specs.Kind.{GivesKind, IsWithin, first_wanted, joined, recorded_first}
 pub use Rattle.rsx_kinds.specs.Made.{IsCrossed, IsFlatMap, IsGroupBy, IsInFront, IsOver, IsOverOne, IsPlain, IsPublishOn, IsQueuedRoot, IsSeveral, IsWindow}
 pub use Rattle.rsx_kinds.specs.Several.{several_comes_out, several_counted, several_done, several_ended, several_popped, several_recorded, several_takes, several_waiting, several_wanted}
-pub use Rattle.rsx_kinds.specs.Source.{source_comes_out, source_popped, source_reads, source_waiting}
+pub use Rattle.rsx_kinds.specs.Source.{source_comes_out, source_counted, source_popped, source_reads, source_waiting}
 pub use Rattle.rsx_kinds.specs.declared.any_node.AnyNode.{AnyNode}
 pub use Rattle.rsx_kinds.specs.declared.any_node.AnyNode.TheVariants.{FlatMap, GroupBy, Several, Source}
 pub use Rattle.rsx_kinds.specs.declared.kind.SeveralKind.{SeveralKind}

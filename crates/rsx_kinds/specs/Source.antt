@@ -1,8 +1,8 @@
 -- A source of any kind: its meaning is that of its kind.
-use Rattle.std.specs.Prelude.{Bool, false, Option, None}
+use Rattle.std.specs.Prelude.{⊤, ℕ, Bool, false, List, Option, None}
 use Rattle.rsx_sources.specs.Prelude.{Note, Signal, Meaning, Allocates, Stream, Incoming, Reading, items_comes_out, items_waiting, items_shown, items_popped, range_comes_out, range_waiting, range_shown, range_popped, range_pop_allocates}
 use Rattle.rsx_sources.specs.declared.machine.Front.{Front}
-use Rattle.rsx_hub.specs.Leaf.{leaf_comes_out, leaf_waiting, leaf_shown, leaf_popped, leaf_reads, leaf_rooms}
+use Rattle.rsx_hub.specs.Leaf.{leaf_comes_out, leaf_waiting, leaf_shown, leaf_popped, leaf_reads, leaf_rooms, leaf_counted}
 use Rattle.rsx_kinds.specs.declared.source_node.SourceNode.{SourceNode}
 use Rattle.rsx_kinds.specs.declared.source_node.SourceNode.TheVariants.{Items, Range, Hub}
 
@@ -30,6 +30,12 @@ source_popped (Items a) s (Items b) = items_popped a s b
 source_popped (Range a) s (Range b) = range_popped a s b
 source_popped (Hub a) s (Hub b) = leaf_popped a s b
 source_popped a s b = ⊥
+
+-- how many items were sent: of one that reads a hub, those that it had and those that came from there, without what it holds
+abbrev pub source_counted : {T : Type 0} → SourceNode T → List ℕ → ℕ → Type 0
+source_counted (Items n) taken sent = ⊤
+source_counted (Range n) taken sent = ⊤
+source_counted (Hub n) taken sent = leaf_counted n taken sent
 
 -- how far it got in the hub that it reads
 abbrev pub source_reads : {T : Type 0} → SourceNode T → Option Reading

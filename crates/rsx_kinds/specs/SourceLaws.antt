@@ -1,9 +1,9 @@
 -- A source of any kind keeps the laws of its kind.
-use Rattle.std.specs.Prelude.{◌≡◌, ⊤, ◌<◌, ℕ, true, false, List, Some, None, option_map, refl}
+use Rattle.std.specs.Prelude.{◌≡◌, ◌<◌, ℕ, true, false, List, Some, None, option_map, refl}
 use Rattle.std.proofs.Common.{inl, inr, arith}
 use Rattle.rsx_sources.specs.Prelude.{Note, Nothing, Signal, Meaning, unchosen, Stream, AreWithin, IsHungry, ends_input, Incoming, front_of, range_shows, StaysAlike}
 use Rattle.rsx_hub.specs.Laws.{leaf_shows, leaf_popped_alike, leaf_ends, leaf_ends_reading, leaf_hungry}
-use Rattle.rsx_kinds.specs.Source.{source_comes_out, source_waiting, source_shown, source_popped, source_reads, source_pop_allocates}
+use Rattle.rsx_kinds.specs.Source.{source_comes_out, source_waiting, source_shown, source_popped, source_reads, source_counted, source_pop_allocates}
 use Rattle.rsx_kinds.specs.declared.source_node.SourceNode.{SourceNode}
 use Rattle.rsx_kinds.specs.declared.source_node.SourceNode.TheVariants.{Items, Range, Hub}
 
@@ -47,7 +47,7 @@ never : false ≡ true → ⊥
 never e = cc
 
 -- where it offers nothing, it waits for its hub
-pub source_hungry : {T : Type 0} (m : Meaning T) (n : SourceNode T) (taken : List ℕ) (asked sent : ℕ) → false ≡ false → ⊤ → source_waiting m n ≡ None → sent < asked → AreWithin taken →
+pub source_hungry : {T : Type 0} (m : Meaning T) (n : SourceNode T) (taken : List ℕ) (asked sent : ℕ) → false ≡ false → source_counted n taken sent → source_waiting m n ≡ None → sent < asked → AreWithin taken →
     IsHungry (λ k i f. false) (λ k i a s. false) (λ k a s. false) (λ k i. false) (λ k i a s. 0) source_reads n taken asked sent
 source_hungry m (Items n) taken asked sent still counted none more within = cc
 source_hungry m (Range n) taken asked sent still counted none more within = cc

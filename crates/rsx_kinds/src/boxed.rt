@@ -6,6 +6,7 @@ use rsx_sources::{Front, Machine, NotMade, NotTaken, Passed};
 use rsx_types::{NoMemory, Note, Ops, Signal, StreamValue};
 use std::alloc::Global;
 use std::marker::Model;
+use std::mem;
 
 /// A node behind a pointer. To contracts it is the node.
 #[derive(Drop)]
@@ -37,6 +38,14 @@ impl<N: Drop> Boxed<N> {
         ensures { result.now ≡ self.now }
     {
         &self.node
+    }
+
+    /// Puts another node into the place, and hands out the one that was there. It takes no memory.
+    pub(crate) fn replace(&mut self, node: N) -> N
+        ensures out { result ≡ self.old }
+        ensures put { self.new ≡ node }
+    {
+        mem::replace(&mut *self.node, node)
     }
 
     /// The node, out of its place.

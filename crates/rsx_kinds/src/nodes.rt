@@ -7,6 +7,7 @@ use rsx_tree::Edge;
 
 impl<T: Drop> Nodes for TreeNode<T> {
     ghost use Rattle.rsx_kinds.specs.Crossings.{is_crossing};
+    ghost use Rattle.rsx_kinds.specs.Local.{any_local};
     ghost use Rattle.rsx_kinds.specs.Rests.{any_rests};
     ghost use Rattle.rsx_kinds.specs.Room.{any_full};
     ghost use Rattle.rsx_kinds.specs.Routes.{route_by};
@@ -28,4 +29,6 @@ impl<T: Drop> Nodes for TreeNode<T> {
     ghost rests = { any_rests };
 
     ghost full = { any_full };
+
+    ghost local = { any_local };
 }

@@ -21,13 +21,13 @@ pub enum SourceNode<T> {
 impl<T: Drop> Machine for SourceNode<T> {
     type Item = T;
 
-    ghost use Rattle.std.specs.Prelude.{◌≡◌, ⊤, true, false, IfOk, IfErr, IsOk, OnOk, OnErr, Some};
+    ghost use Rattle.std.specs.Prelude.{◌≡◌, true, false, IfOk, IfErr, IsOk, OnOk, OnErr, Some};
     ghost use Rattle.rsx_types.specs.declared.note.Note.TheVariants.{Nothing};
     ghost use Rattle.rsx_sources.specs.Counts.{CountsOut, CountsStep};
     ghost use Rattle.rsx_sources.specs.Machine.{TakesIn};
     ghost use Rattle.rsx_sources.specs.Reading.{IsReadOn, IsResidualOf, takes_published};
     ghost use Rattle.rsx_sources.specs.Steps.{IsPopped, IsNotTaken, AllocatesAlike, StaysAlike};
-    ghost use Rattle.rsx_kinds.specs.Source.{source_comes_out, source_waiting, source_shown, source_popped, source_reads, source_rooms, source_pop_allocates};
+    ghost use Rattle.rsx_kinds.specs.Source.{source_comes_out, source_waiting, source_shown, source_popped, source_counted, source_reads, source_rooms, source_pop_allocates};
     ghost use Rattle.rsx_kinds.specs.SourceLaws.{source_shows, source_popped_alike, source_ends, source_ends_reading, source_settles, source_hungry};
     ghost use Rattle.rsx_kinds.specs.declared.source_node.SourceNode.{SourceNode};
     ghost use Rattle.std.proofs.Common.{rules};
@@ -54,7 +54,7 @@ impl<T: Drop> Machine for SourceNode<T> {
 
     ghost done = { λ n i. false };
 
-    ghost counted = { λ n taken sent. ⊤ };
+    ghost counted = { source_counted };
 
     ghost wanted = { λ n i a s. 0 };
 
@@ -87,7 +87,7 @@ impl<T: Drop> Machine for SourceNode<T> {
     ) -> Result<Option<Signal<T>>, NoMemory>
         ensures ok { IfOk result (λ s.
             IsPopped (source_comes_out (O.meaning ops.now)) source_popped (source_waiting (O.meaning ops.now) self.old) self.old s self.new) }
-        ensures counts { IfOk result (λ s. CountsOut (λ n taken sent. ⊤) (λ n. false) (λ n i. false) self.old s self.new) }
+        ensures counts { IfOk result (λ s. CountsOut source_counted (λ n. false) (λ n i. false) self.old s self.new) }
         ensures err { OnErr result (self.new ≡ self.old) }
         ensures memory { source_pop_allocates (O.allocates ops.now) self.old ≡ false → IsOk result }
         ensures alike { StaysAlike source_reads source_pop_allocates (λ a n. false) (λ a n. false) self.old self.new }
@@ -165,7 +165,7 @@ impl<T: Drop> Machine for SourceNode<T> {
     fn on_published(&mut self, signal: Signal<T>) -> Result<(), Signal<T>>
         ensures ok { OnOk result (IsReadOn source_comes_out source_reads self.old signal self.new) }
         ensures enabled { OnOk result (takes_published (source_reads self.old) (source_rooms self.old) signal ≡ true) }
-        ensures counts { OnOk result (CountsStep (λ n taken sent. ⊤) (λ n. false) (λ n i. false) self.old self.new) }
+        ensures counts { OnOk result (CountsStep source_counted (λ n. false) (λ n i. false) self.old self.new) }
         ensures refused { OnErr result (takes_published (source_reads self.old) (source_rooms self.old) signal ≡ false) }
         ensures err { IfErr result (λ s. s ≡ signal) }
         ensures alike { AllocatesAlike source_pop_allocates (λ a n. false) (λ a n. false) self.old self.new }

@@ -3,7 +3,7 @@ use Rattle.std.specs.Prelude.{◌≡◌, ℕ, ◌+◌, ◌<◌, true, false, Lis
 use Rattle.std.proofs.Common.{inl, inr, sym, ap, ◌∙◌, subst, arith}
 use Rattle.std.specs.Option.{option_to_list}
 use Rattle.rsx_demand.specs.declared.TheConstants.{UNBOUNDED}
-use Rattle.rsx_sources.specs.Prelude.{Allocates, Note, Nothing, Open, Signal, Meaning, AreWithin, IsHungry, Incoming, Reading, ended_by, ends_input, is_nil, quiet}
+use Rattle.rsx_sources.specs.Prelude.{Allocates, Note, Nothing, Open, Signal, Meaning, Stream, AreWithin, IsHungry, Incoming, Reading, ended_by, ends_input, incoming_of, is_nil, quiet}
 use Rattle.rsx_sources.proofs.Endings.{ending_cuts, ending_first, ending_waits}
 use Rattle.rsx_tree.specs.Rests.{NothingComes}
 use Rattle.rsx_processor.specs.Node.{held, node_allocates, node_comes_out, node_counted, node_ended, node_popped, node_takes, node_wanted, processed}
@@ -68,3 +68,8 @@ pub node_rests : {P T : Type 0} (b : Processor P T) (m : Meaning T) → ((p : P)
 node_rests b m nothing more n taken asked sent inc counted none less within comes =
     let last : inc.first ≡ ended_by Open = comes 0 counted.0 (ap (λ l. slice_get l 0) counted.1) refl (λ f. ap (λ o. is_nil (option_to_list o)) none) (wants_more b more n taken asked sent counted none less within) in
     rw none (rw last (ap (λ l. Some (record { items = l; ending = Open })) (nothing n.processor)))
+
+-- what comes out of it depends on no hub
+pub node_local : {P T : Type 0} (b : Processor P T) (m : Meaning T) (n : ProcessorNode P T) (hubs others vs : List (Stream T)) (k : Note) → node_comes_out b m n (incoming_of hubs vs) k ≡ node_comes_out b m n (incoming_of others vs) k
+node_local b m n hubs others [] k = refl
+node_local b m n hubs others (v ∷ vs) k = refl

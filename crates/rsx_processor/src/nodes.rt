@@ -7,7 +7,7 @@ use rsx_tree::Edge;
 impl<P: Processor<Item = T>, T: Drop> Nodes for ProcessorNode<P, T> {
     ghost use Rattle.std.specs.Prelude.{false};
     ghost use Rattle.rsx_rooted.specs.declared.nodes.Route.TheVariants.{Straight};
-    ghost use Rattle.rsx_processor.specs.Laws.{node_rests, reads_nothing};
+    ghost use Rattle.rsx_processor.specs.Laws.{node_local, node_rests, reads_nothing};
 
     ghost route_by = { λ n state asked sent. Straight };
 
@@ -20,4 +20,6 @@ impl<P: Processor<Item = T>, T: Drop> Nodes for ProcessorNode<P, T> {
     ghost rests = { λ m n taken asked sent inc still counted none more within stuck comes behind. node_rests P.Processor.own m (P.nothing m) P.wants_more n taken asked sent inc counted none more within comes };
 
     ghost full = { λ m n r asked sent reads full less none more stuck. reads_nothing r reads };
+
+    ghost local = { λ m n hubs others vs k agree. node_local P.Processor.own m n hubs others vs k };
 }

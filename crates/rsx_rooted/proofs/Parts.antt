@@ -28,7 +28,7 @@ use Rattle.rsx_tree.proofs.Alike.{or_right, alike_still, alike_then, driven_alik
 use Rattle.rsx_tree.proofs.Drives.{chosen_run}
 use Rattle.rsx_tree.proofs.Runs.{gives_none, gives_on, gives_one, leads_silent}
 use Rattle.rsx_tree.specs.Runs.{Unlabelled}
-use Rattle.rsx_tree.proofs.Noted.{kept_chosen, picked_effect, picked_enabled, row_effect, row_enabled as row_made_enabled}
+use Rattle.rsx_tree.proofs.Noted.{picked_effect, picked_enabled, row_effect, row_enabled as row_made_enabled}
 use Rattle.rsx_tree.proofs.Changes.{chosen_second}
 use Rattle.rsx_rooted.proofs.Numbers.{above_zero, suc_minus}
 use Rattle.rsx_rooted.proofs.Signals.{IsOrderly-more, IsUnended-more, IsUnended-last, items_in-append, map_then-last}
@@ -65,9 +65,6 @@ put_out_chosen b m old new k balance root alike alive published e joins output h
       alone = rw root (λ l none. alike.1 [] (h.alone l none));
       closed = λ c. let was : old.root.state ≡ Closed = ap (λ r. r.state) (sym root) ∙ c in absurd (alive (h.closed was) (closed_dead old.root.state was));
     })
-
-pub put_out_kept : {M T : Type 0} (b : Machine M T) (m : Meaning T) (old new : Rooted M) → IsKept b m old.tree new.tree → ((sent : ℕ) → IsBalanced b old.tree sent → IsBalanced b new.tree sent) → new.root ≡ old.root → IsAlike b old.tree new.tree → (IsAllClosed old.tree → (old.root.state ≡ Live → ⊥) → ⊥) → IsPutOut b m old [] new
-put_out_kept b m old new k balance root alike alive = put_out_chosen b m old new (kept_chosen b m old.tree new.tree k) balance root alike alive
 
 passed_sent : {T : Type 0} (e : EdgeView) (s : Signal T) → (passed e (front_of s)).sent ≡ e.sent + length (items_in (s ∷ []))
 passed_sent e (Next x) = refl
@@ -217,8 +214,13 @@ sent_below_root {M = M} {T = T} b m old tree at z k =
 pub asked_below_root : {M T : Type 0} (b : Machine M T) (old : Rooted M) (tree : Node M) (at : ℕ) → 0 < at → IsAskedAt b old.tree (at - 1) old.root.demand.asked old.root.demand.sent tree → IsAsk b old at (record { tree = tree; root = old.root })
 asked_below_root b old tree at z k =
     let want : wanted_at b k.there ≡ want_at b old.tree (at - 1) old.root.demand.asked old.root.demand.sent = sym (ap (want_in b) k.is) in
-    asked_all (edge_view old.root) (edges old.tree) (edges tree) at (want_at b old.tree (at - 1) old.root.demand.asked old.root.demand.sent) old.root.demand.asked z
-    (k.edges ∙ ap (λ w. changed_at (asked_up_to w) (at - 1) (edges old.tree)) want)
+    record {
+      edges = asked_all (edge_view old.root) (edges old.tree) (edges tree) at (want_at b old.tree (at - 1) old.root.demand.asked old.root.demand.sent) old.root.demand.asked z
+          (k.edges ∙ ap (λ w. changed_at (asked_up_to w) (at - 1) (edges old.tree)) want);
+      edge = k.edge;
+      tree = k.tree;
+      root = refl;
+    }
 
 pub made_sent : {M T : Type 0} (b : Machine M T) (m : Meaning T) (old new : Rooted M) (s : Signal T) → IsLetGo b m old.tree s new.tree → can_pass (edge_view old.root) (front_of s) ≡ true → edge_view new.root ≡ passed (edge_view old.root) (front_of s) → IsMade b m (Send 0) old (s ∷ []) new
 made_sent b m old new s gone can view = record {
@@ -231,6 +233,8 @@ made_sent b m old new s gone can view = record {
   };
   stands = put_out_sent b m old new s gone can view;
   inside = λ none. cc;
+  chosen = λ none. cc;
+  balance = λ none. cc;
   asked = ap (λ v. v.asked) view ∙ passed_asked (edge_view old.root) s;
   unclosed = λ _ c. passed_open (edge_view old.root) s (pass_live (edge_view old.root) (front_of s) can) (sym (ap (λ v. v.state) view) ∙ c);
   alike = gone.alike;
@@ -278,12 +282,14 @@ moved_below {M = M} b k m old tree sink a =
       ]
     ]
 
--- what a call that makes a move gives
-pub made_inside : {M T : Type 0} (b : Machine M T) (m : Meaning T) (move : NodeMove) (old new : Rooted M) → IsEffect b m move old [] new → IsPutOut b m old [] new → new.root ≡ old.root → IsAlike b old.tree new.tree → IsMade b m move old [] new
-made_inside b m move old new effect stands root alike = record {
+-- what a call that makes a move inside the tree gives
+pub made_inside : {M T : Type 0} (b : Machine M T) (m : Meaning T) (move : NodeMove) (old new : Rooted M) → IsEffect b m move old [] new → IsChosen b m old.tree new.tree → ((sent : ℕ) → IsBalanced b old.tree sent → IsBalanced b new.tree sent) → (IsAllClosed old.tree → (old.root.state ≡ Live → ⊥) → ⊥) → new.root ≡ old.root → IsAlike b old.tree new.tree → IsMade b m move old [] new
+made_inside b m move old new effect chosen balance alive root alike = record {
   effect = effect;
-  stands = stands;
+  stands = put_out_chosen b m old new chosen balance root alike alive;
   inside = λ _. root;
+  chosen = λ _. chosen;
+  balance = λ _. balance;
   asked = ap (λ r. r.demand.asked) root;
   unclosed = λ h c. h (ap (λ r. r.state) (sym root) ∙ c);
   alike = alike;

@@ -1,6 +1,7 @@
 -- Definitions that contracts cite.
 pub mod Built
 pub mod Crossings
+pub mod Cutting
 pub mod Feeding
 pub mod Fetched
 pub mod Inboxes

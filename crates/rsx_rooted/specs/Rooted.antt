@@ -10,7 +10,8 @@ use Rattle.rsx_tree.specs.Prelude.{edge_view, EdgeView, passed, changed_at, aske
 use Rattle.rsx_sources.specs.declared.machine.Machine.{Ghosts as Machine}
 use Rattle.rsx_tree.specs.Runs.{Gives}
 use Rattle.rsx_rooted.specs.Output.{counts_in, has_room, items_in, IsUnended, IsOrderly, values_then}
-use Rattle.rsx_rooted.specs.Tree.{comes_out, notes, offers, can_ask, can_send, can_go, IsAllClosed, IsLetGo, edges, edges_after, want_at, front_at, ended_at, pop_allocates, send_allocates, step_allocates, tree_allocates, IsAlike, IsBalanced, can_pick, can_row, IsPickedAt, IsRowAt, IsSentAt}
+use Rattle.rsx_rooted.specs.Tree.{comes_out, notes, offers, can_ask, can_send, can_go, IsAllClosed, IsLetGo, edges, edges_after, want_at, front_at, ended_at, with_edge, pop_allocates, send_allocates, step_allocates, tree_allocates, IsAlike, IsBalanced, IsChosen, can_pick, can_row, IsPickedAt, IsRowAt, IsSentAt}
+use Rattle.rsx_tree.specs.declared.edge.Edge.{Edge}
 use Rattle.rsx_tree.specs.declared.edge.EdgeState.TheVariants.{Live, Closed, Ended}
 use Rattle.rsx_rooted.specs.declared.rooted.Rooted.{Rooted}
 use Rattle.rsx_rooted.specs.declared.sink.Sink.{Ghosts as Sink}
@@ -115,9 +116,13 @@ offered b m part at = if nat_eq at 0 then option_map front_of (offers b m part.t
 abbrev pub receiver_ended : {M T : Type 0} → Machine M T → Rooted M → ℕ → Bool
 receiver_ended b part at = if nat_eq at 0 then false else ended_at b part.tree (at - 1)
 
--- an Ask: what was asked of this edge is what its receiver wants, and no other edge changed
-abbrev pub IsAsk : {M T : Type 0} → Machine M T → Rooted M → ℕ → Rooted M → Type 0
-IsAsk b old at new = all_edges new ≡ changed_at (asked_up_to (wanted b old at)) at (all_edges old)
+-- an Ask: what was asked of this edge is what its receiver wants; no other edge, and no node, changed
+pub record IsAsk {M T : Type 0} (b : Machine M T) (old : Rooted M) (at : ℕ) (new : Rooted M) : Type 0 where
+  pub edges : all_edges new ≡ changed_at (asked_up_to (wanted b old at)) at (all_edges old)
+  -- the tree is what it was, but for this one edge
+  pub edge : Edge
+  pub tree : new.tree ≡ with_edge (at - 1) edge old.tree
+  pub root : new.root ≡ old.root
 
 -- what went over the root edge: the offered signal, where the Send went over it, and else nothing
 abbrev pub GoesOut : {M T : Type 0} → Machine M T → Meaning T → Rooted M → Bool → List (Signal T) → Type 0
@@ -172,8 +177,11 @@ IsPutOut {T = T} b m old out new =
 pub record IsMade {M T : Type 0} (b : Machine M T) (m : Meaning T) (move : NodeMove) (old : Rooted M) (out : List (Signal T)) (new : Rooted M) : Type 0 where
   pub effect : IsEffect b m move old out new
   pub stands : IsPutOut b m old out new
-  -- where nothing went over the root edge, that edge stays
+  -- where nothing went over the root edge, that edge stays, what still comes out stays, under what was chosen, and so do the
+  -- counts along the edges
   pub inside : out ≡ [] → new.root ≡ old.root
+  pub chosen : out ≡ [] → IsChosen b m old.tree new.tree
+  pub balance : out ≡ [] → (sent : ℕ) → IsBalanced b old.tree sent → IsBalanced b new.tree sent
   -- what was asked over the root edge stays, and it isn't closed by a move
   pub asked : new.root.demand.asked ≡ old.root.demand.asked
   pub unclosed : (old.root.state ≡ Closed → ⊥) → new.root.state ≡ Closed → ⊥

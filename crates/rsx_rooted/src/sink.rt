@@ -21,9 +21,10 @@ pub trait Sink<T> {
         ensures { result ≡ room self.now };
 
     /// Puts a signal behind those that stand in it, where it has room for one ([`Sink::has_room`]). Where it has none, the signal is
-    /// dropped.
+    /// dropped, and the sink stays as it was.
     fn put(&mut self, signal: Signal<T>)
-        ensures { room self.old ≡ true → signals self.new ≡ signals self.old ++ signal ∷ [] };
+        ensures put { room self.old ≡ true → signals self.new ≡ signals self.old ++ signal ∷ [] }
+        ensures full { room self.old ≡ false → self.new ≡ self.old };
 }
 
 impl<T: Drop> Sink<T> for SignalQueue<T> {
@@ -38,7 +39,8 @@ impl<T: Drop> Sink<T> for SignalQueue<T> {
 
     #[inline]
     fn put(&mut self, signal: Signal<T>)
-        ensures { has_room self.old ≡ true → self.new ≡ self.old ++ signal ∷ [] }
+        ensures put { has_room self.old ≡ true → self.new ≡ self.old ++ signal ∷ [] }
+        ensures full { has_room self.old ≡ false → self.new ≡ self.old }
     {
         if self.len() < CAPACITY {
             self.push(signal);
@@ -62,7 +64,8 @@ impl<T: Drop> Sink<T> for NoRoom {
 
     #[inline]
     fn put(&mut self, signal: Signal<T>)
-        ensures { false ≡ true → [] ≡ [] ++ signal ∷ [] }
+        ensures put { false ≡ true → [] ≡ [] ++ signal ∷ [] }
+        ensures full { false ≡ false → self.new ≡ self.old }
     {
         let _dropped = signal;
     }

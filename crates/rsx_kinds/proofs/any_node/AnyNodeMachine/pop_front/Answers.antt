@@ -1,10 +1,14 @@
 use Rattle.std.proofs.lemmas.Result.{IfOk-weaker}
-use Rattle.rsx_kinds.proofs.Dispatch.{popped_source, popped_several, popped_publish_on, popped_window, popped_flat_map, popped_group_by, counted_several, counted_publish_on, counted_window, counted_flat_map, counted_group_by}
+use Rattle.rsx_kinds.proofs.Dispatch.{popped_source, popped_several, popped_publish_on, popped_window, popped_flat_map, popped_group_by, counted_source, counted_several, counted_publish_on, counted_window, counted_flat_map, counted_group_by}
 use Rattle.rsx_kinds.proofs.any_node.AnyNodeMachine.pop_front.Goals as goal
 
 pub returns-in-Source-clause-ok : goal.returns-in-Source-clause-ok
 returns-in-Source-clause-ok g c =
     rw c.in-Source.is (IfOk-weaker c.pop_front.result _ _ (λ s. popped_source (g.O.Ops.meaning c.args.ops.now) c.in-Source.node c.pop_front.new.self s) c.pop_front.ensures.ok)
+
+pub returns-in-Source-clause-counts : goal.returns-in-Source-clause-counts
+returns-in-Source-clause-counts g c =
+    rw c.in-Source.is (IfOk-weaker c.pop_front.result _ _ (λ s. counted_source c.in-Source.node c.pop_front.new.self s) c.pop_front.ensures.counts)
 
 pub returns-in-Several-clause-ok : goal.returns-in-Several-clause-ok
 returns-in-Several-clause-ok g c =

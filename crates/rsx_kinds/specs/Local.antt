@@ -1,0 +1,92 @@
+-- What comes out of a node depends on no hub but the one that it reads; and what a cut of a tree asks of its nodes.
+use Rattle.std.specs.Prelude.{◌≡◌, ℕ, ◌+◌, false, List, [], ◌∷◌, ◌++◌, length, map, Some, None, refl}
+use Rattle.std.proofs.Common.{ap, sym, ◌∙◌}
+use Rattle.rsx_sources.specs.Prelude.{Meaning, Stream, Note, Nothing, Ending, Open, Done, Failed, Signal, Next, Reading, incoming_of, published_at, signals_then}
+use Rattle.rsx_hub.specs.Leaf.{LeafState, reading_of}
+use Rattle.rsx_queued.specs.declared.sender.Sender.TheVariants.{Direct, Crossing}
+use Rattle.rsx_cut.specs.Flow.{HoldsQueue, ReadsLink}
+use Rattle.rsx_cut.specs.Local.{AgreeAt, IsLocal}
+use Rattle.rsx_cut.proofs.Leaves.{crossing_holds, leaf_local, leaf_reads_link, sender_local}
+use Rattle.rsx_kinds.specs.Any.{TreeNode, any_machine, kind_machine}
+use Rattle.rsx_kinds.specs.Crossings.{is_crossing}
+use Rattle.rsx_kinds.specs.Cutting.{node_held, with_queue}
+use Rattle.rsx_kinds.specs.Several.{several_comes_out}
+use Rattle.rsx_kinds.specs.Source.{source_comes_out, source_reads}
+use Rattle.rsx_kinds.specs.declared.any_node.AnyNode.{AnyNode}
+use Rattle.rsx_kinds.specs.declared.any_node.AnyNode.TheVariants.{Source, Plain, Several, PublishOn, Window, FlatMap, GroupBy}
+use Rattle.rsx_kinds.specs.declared.several_node.SeveralNode.{SeveralNode}
+use Rattle.rsx_kinds.specs.declared.several_node.SeveralNode.TheVariants.{Concat, Merge, Zip, Latest}
+use Rattle.rsx_kinds.specs.declared.source_node.SourceNode.{SourceNode}
+use Rattle.rsx_kinds.specs.declared.source_node.SourceNode.TheVariants.{Items, Range, Hub}
+
+-- ---- a node depends on no other hub
+
+source_local : {T : Type 0} (m : Meaning T) (n : SourceNode T) (hubs others vs : List (Stream T)) (k : Note) → AgreeAt hubs others (source_reads n) → source_comes_out m n (incoming_of hubs vs) k ≡ source_comes_out m n (incoming_of others vs) k
+source_local m (Items n) hubs others vs k a = refl
+source_local m (Range n) hubs others vs k a = refl
+source_local m (Hub n) hubs others vs k a = leaf_local m n hubs others vs k a
+
+several_local : {T : Type 0} (m : Meaning T) (n : SeveralNode T) (hubs others vs : List (Stream T)) (k : Note) → several_comes_out m n (incoming_of hubs vs) k ≡ several_comes_out m n (incoming_of others vs) k
+several_local m (Concat n) hubs others [] k = refl
+several_local m (Concat n) hubs others (v ∷ vs) k = refl
+several_local m (Merge n) hubs others [] k = refl
+several_local m (Merge n) hubs others (v ∷ vs) k = refl
+several_local m (Zip n) hubs others [] k = refl
+several_local m (Zip n) hubs others (v ∷ vs) k = refl
+several_local m (Latest n) hubs others [] k = refl
+several_local m (Latest n) hubs others (v ∷ vs) k = refl
+
+kind_local : {T : Type 0} (m : Meaning T) → IsLocal kind_machine m
+kind_local m (Source n) hubs others vs k a = source_local m n hubs others vs k a
+kind_local m (Several n) hubs others vs k a = several_local m n hubs others vs k
+kind_local m (Plain n) hubs others [] k a = refl
+kind_local m (Plain n) hubs others (v ∷ vs) k a = refl
+kind_local m (PublishOn n) hubs others [] k a = refl
+kind_local m (PublishOn n) hubs others (v ∷ vs) k a = refl
+kind_local m (Window n) hubs others [] k a = refl
+kind_local m (Window n) hubs others (v ∷ vs) k a = refl
+kind_local m (FlatMap n) hubs others [] k a = refl
+kind_local m (FlatMap n) hubs others (v ∷ vs) k a = refl
+kind_local m (GroupBy n) hubs others [] k a = refl
+kind_local m (GroupBy n) hubs others (v ∷ vs) k a = refl
+
+pub any_local : {T : Type 0} (m : Meaning T) → IsLocal any_machine m
+any_local m = sender_local kind_machine m (kind_local m)
+
+-- ---- a queue is put at its edge
+
+pub any_holds : {T : Type 0} (m : Meaning T) (q : List T) (n : TreeNode T) → is_crossing n ≡ false → HoldsQueue any_machine m (with_queue q n) q n
+any_holds m q (Direct n) straight = record {
+  holds = record { out = λ inc k. crossing_holds kind_machine m (record { node = n; queue = q; tail = _ }) refl inc k; recorded = refl };
+  reads = refl;
+  ended = refl;
+  done = λ i. refl;
+  counted = λ taken sent c. c.1;
+  counts = λ taken sent c. (refl, c);
+}
+any_holds m q (Crossing x) straight = cc
+
+-- ---- it reads a link
+
+leaf_reads_on : {T : Type 0} (m : Meaning T) (n : LeafState T) (e : Ending) (items taken : List T) (others : List (Signal T)) (r : Reading) → n.ending ≡ e → Some n.queue ≡ Some items → reading_of e (record { hub = n.hub; reached = n.reached }) ≡ Some r → r.reached ≡ length taken →
+    (hubs : List (Stream T)) (v : Stream T) → published_at hubs r.hub ≡ signals_then (map Next taken ++ others) v → source_comes_out m (Hub n) (incoming_of hubs []) Nothing ≡ Some (signals_then (map Next items ++ others) v)
+leaf_reads_on {T} m n Open items taken others r none holds reads reached hubs v published =
+    let is : n.queue ≡ items = cc in
+    let hub_is : n.hub ≡ r.hub = cc in
+    let reached_is : n.reached ≡ r.reached = cc in
+    leaf_reads_link m n taken others none (reached_is ∙ reached) hubs v (ap (published_at hubs) hub_is ∙ published) ∙ ap (λ q. Some (signals_then (map Next q ++ others) v)) is
+leaf_reads_on m n Done items taken others r none holds reads reached hubs v published = cc
+leaf_reads_on m n (Failed c) items taken others r none holds reads reached hubs v published = cc
+
+pub any_reads_on : {T : Type 0} (m : Meaning T) (n : TreeNode T) (items taken : List T) (others : List (Signal T)) (r : Reading) → node_held n ≡ Some items → any_machine.reads n ≡ Some r → r.reached ≡ length taken →
+    ReadsLink any_machine m r.hub n (map Next taken ++ others) (map Next items ++ others)
+any_reads_on m (Direct (Source (Hub n))) items taken others r holds reads reached = record { out = λ hubs v p. leaf_reads_on m n n.ending items taken others r refl holds reads reached hubs v p; recorded = refl }
+any_reads_on m (Direct (Source (Items n))) items taken others r holds reads reached = cc
+any_reads_on m (Direct (Source (Range n))) items taken others r holds reads reached = cc
+any_reads_on m (Direct (Plain n)) items taken others r holds reads reached = cc
+any_reads_on m (Direct (Several n)) items taken others r holds reads reached = cc
+any_reads_on m (Direct (PublishOn n)) items taken others r holds reads reached = cc
+any_reads_on m (Direct (Window n)) items taken others r holds reads reached = cc
+any_reads_on m (Direct (FlatMap n)) items taken others r holds reads reached = cc
+any_reads_on m (Direct (GroupBy n)) items taken others r holds reads reached = cc
+any_reads_on m (Crossing x) items taken others r holds reads reached = cc
