@@ -59,7 +59,7 @@ next_count Done n = refl
 next_count (Failed c) n = refl
 
 -- the items that each hub published are counted on, until it ends
-handed_counts : {T : Type 0} (n : ℕ) (s : Signal T) (vs : List (Stream T)) → counts_in (with_signal_at n s vs) ≡ counts_after n s (counts_in vs)
+pub handed_counts : {T : Type 0} (n : ℕ) (s : Signal T) (vs : List (Stream T)) → counts_in (with_signal_at n s vs) ≡ counts_after n s (counts_in vs)
 handed_counts n (Next x) [] = refl
 handed_counts n Complete [] = refl
 handed_counts n (Error c) [] = refl
@@ -138,6 +138,8 @@ handed_part {T = T} b h s root old new live k = record {
   root = refl;
   notes = k.notes;
   calls = k.calls;
+  tree = λ _. k;
+  still = λ not. absurd (not (live_state root.state live));
 }
   where
     no_count : (h : ℕ) (s : Signal T) → counts_after h s [] ≡ []
@@ -167,6 +169,8 @@ handed_dead {T = T} b h s part dead = record {
   root = refl;
   notes = refl;
   calls = λ a. refl;
+  tree = λ l. absurd (closed_live part.root.state dead l);
+  still = λ _. refl;
 }
 
 -- ---- out of a list

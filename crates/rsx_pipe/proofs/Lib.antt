@@ -1,6 +1,9 @@
 -- Lemmas about parts.
 pub use Rattle.rsx_rooted.proofs.Rows
+pub mod Cuts
 pub mod Handing
 pub mod Parts
 pub mod Signals
+pub mod Swaps
+pub mod Times
 pub mod Trees

@@ -122,10 +122,10 @@ fresh_part b m hubs published e part taken is l s = record {
 
 -- ---- idle means delivered
 
-few_below : {M : Type 0} (part : Part M) → length (all_edges part) ≤ MOST_NODES → size part.tree.inputs < MOST_NODES
+pub few_below : {M : Type 0} (part : Part M) → length (all_edges part) ≤ MOST_NODES → size part.tree.inputs < MOST_NODES
 few_below part few = let len = length_edges part.tree.inputs in omega (arith, len, few)
 
-idle_tree : {M T : Type 0} (b : Machine M T) (m : Meaning T) (part : Part M) (room : Bool) → IsQuiet b m part room → length (all_edges part) ≤ MOST_NODES → IsIdle b m part.tree part.root.demand.asked part.root.demand.sent
+pub idle_tree : {M T : Type 0} (b : Machine M T) (m : Meaning T) (part : Part M) (room : Bool) → IsQuiet b m part room → length (all_edges part) ≤ MOST_NODES → IsIdle b m part.tree part.root.demand.asked part.root.demand.sent
 idle_tree {T = T} b m part room q few at lt = elim (cases_lt at (size part.tree.inputs)) [
   | inl w ↦
       let small : size part.tree.inputs < MOST_NODES = few_below part few in
@@ -144,7 +144,7 @@ idle_tree {T = T} b m part room q few at lt = elim (cases_lt at (size part.tree.
 ]
 
 -- no step of the root of a quiet part is enabled
-still_root : {M T : Type 0} (b : Machine M T) (m : Meaning T) (part : Part M) (room : Bool) → IsQuiet b m part room → IsStill b (station_of part.tree (edge_view part.root) 0)
+pub still_root : {M T : Type 0} (b : Machine M T) (m : Meaning T) (part : Part M) (room : Bool) → IsQuiet b m part room → IsStill b (station_of part.tree (edge_view part.root) 0)
 still_root b m part room q = ((λ input l. q (Pick 0 input) (omega arith, l)), q (Row 0) (omega arith))
 
 -- over a live root edge with room behind it, of which more is asked than went, nothing more comes

@@ -3,8 +3,11 @@ pub use Rattle.rsx_rooted.specs.Built
 pub use Rattle.rsx_rooted.specs.Crossings
 pub mod Code
 pub mod Crossing
+pub mod Cutting
 pub mod Feeding
 pub mod Fetched
+pub mod Joined
+pub mod Many
 pub mod Output
 pub mod Part
 pub mod Published

@@ -3,7 +3,7 @@
 pub use rsx_rooted::Pumped;
 use rsx_rooted::{Nodes, Rooted, Sink};
 use rsx_sources::NotMade;
-use rsx_tree::{Edge, EdgeState, Node, NodeMove};
+use rsx_tree::{Edge, EdgeState, Inputs, Node, NodeMove};
 use rsx_types::{NoMemory, Note, Ops, StreamValue};
 use std::alloc::Global;
 use std::marker::Model;
@@ -33,8 +33,20 @@ impl<N> Model for Part<N> {
     ghost view = { λ p. p.rooted };
 }
 
+// What asks nothing of the nodes costs a caller nothing to prove.
+impl<N> Part<N> {
+    ghost use Rattle.std.specs.Prelude.{◌≡◌};
+
+    /// The tree, with the edge from its root.
+    pub fn rooted(&self) -> &Rooted<N>
+        ensures { result.now ≡ self.now }
+    {
+        &self.rooted
+    }
+}
+
 impl<N: Nodes> Part<N> {
-    ghost use Rattle.std.specs.Prelude.{◌≡◌, ◌<◌, ℕ, List, [], true, false, OnOk, OnErr, IfOk, IfErr, IsOk, IfSome, IfNone, map};
+    ghost use Rattle.std.specs.Prelude.{◌≡◌, ◌<◌, ◌≤◌, ℕ, List, [], true, false, OnOk, OnErr, IfOk, IfErr, IsOk, IfSome, IfNone, map};
     ghost use Rattle.rsx_demand.specs.Demand.{saturating_total};
     ghost use Rattle.rsx_hub.specs.Hub.{HubState};
     ghost use Rattle.rsx_model.specs.declared.expr.Expr.{Expr};
@@ -44,7 +56,9 @@ impl<N: Nodes> Part<N> {
     ghost use Rattle.rsx_rooted.specs.Built.{IsBuilt, fresh_edge, new_joins};
     ghost use Rattle.rsx_pipe.specs.Published.{AreTaken};
     ghost use Rattle.rsx_tree.specs.Edges.{closed_view, edge_view};
-    ghost use Rattle.rsx_pipe.specs.Tree.{notes_of, IsAllClosed};
+    ghost use Rattle.rsx_tree.specs.Inputs.{size};
+    ghost use Rattle.rsx_tree.specs.Swapped.{with_sender};
+    ghost use Rattle.rsx_pipe.specs.Tree.{notes_of, IsAllClosed, IsAlike, IsKept};
     ghost use Rattle.rsx_pipe.specs.Fetched.{IsFetched};
     ghost use Rattle.rsx_tree.specs.Refusals.{OnlyNotEnabled};
     ghost use Rattle.rsx_pipe.specs.Part.{pump_allocates, PartStands, IsPutOut, IsMadeInto, IsPumped, IsQuiet, IsAwake, HasEnded, IsDelivered, IsPartResidual, make_allocates, all_edges, move_enabled, IsNumbered};
@@ -82,9 +96,26 @@ impl<N: Nodes> Part<N> {
         ensures root { self.new.root.state ≡ EdgeState.Live → ⊥ }
         ensures asked { self.new.root.demand.asked ≡ self.old.root.demand.asked }
         ensures notes { notes_of N.Machine self.new.tree ≡ notes_of N.Machine self.old.tree }
+
+        // What still comes out of the tree stays, and what its nodes read.
+        ensures kept { (m : Meaning N.Item) → IsKept N.Machine m self.old.tree self.new.tree }
+        ensures alike { IsAlike N.Machine self.old.tree self.new.tree }
     {
         self.rooted.root.close();
         self.rooted.tree.close();
+    }
+
+    /// Exchanges the sender over the edge `at` below the root, and the inputs below it, for these. Here 0 is the first edge below
+    /// the root, as in [`Node::swap_at`]; a [`NodeMove`] calls it 1. All edges but those that are exchanged stay, the root edge and
+    /// the edge `at` among them, and no memory is taken. Done again with what came out, the part is as it was. Where there is no
+    /// such edge nothing changes.
+    pub fn swap_at(&mut self, at: u32, sender: &mut N, below: &mut Inputs<N>)
+        ensures tree { self.new.tree ≡ with_sender at sender.old below.old self.old.tree }
+        ensures root { self.new.root ≡ self.old.root }
+        ensures out { at < size self.old.tree.inputs → self.old.tree ≡ with_sender at sender.new below.new self.old.tree }
+        ensures none { size self.old.tree.inputs ≤ at → (self.new ≡ self.old) × (sender.new ≡ sender.old) × (below.new ≡ below.old) }
+    {
+        self.rooted.tree.swap_at(at, sender, below);
     }
 
     /// Whether a move is enabled, where the root's signals go into `out`. The root's Ask never is: what is asked of

@@ -2,12 +2,13 @@
 
 use crate::part::Part;
 use rsx_rooted::Nodes;
+use rsx_tree::Edge;
 use rsx_types::Signal;
 
 impl<N: Nodes> Part<N> {
-    ghost use Rattle.std.specs.Prelude.{◌≡◌, min};
+    ghost use Rattle.std.specs.Prelude.{◌≡◌, min, option_copied};
     ghost use Rattle.rsx_tree.specs.Handed.{IsHandedOut};
-    ghost use Rattle.rsx_pipe.specs.Published.{readers, has_room_for, IsHanded};
+    ghost use Rattle.rsx_pipe.specs.Published.{reader_edge, readers, has_room_for, IsHanded};
 
     /// How many nodes of the part read the hub with this number, but at most `most`. With a root edge that isn't live none
     /// does.
@@ -17,6 +18,19 @@ impl<N: Nodes> Part<N> {
         match self.rooted.root.is_live() {
             true => self.rooted.tree.readers_up_to(hub, most),
             false => 0,
+        }
+    }
+
+    /// The edge over which the node sends that reads the hub with this number: the root edge, where the root itself reads it, and
+    /// else an edge below the root. Where several nodes read it, it is that of the first in pre-order. The edge need not be live,
+    /// and neither need those between it and the root; [`Part::readers_up_to`] counts the nodes that signals still reach. None where
+    /// no node reads the hub, as after it has ended.
+    pub fn reader_edge(&self, hub: u64) -> Option<&Edge>
+        ensures { option_copied result ≡ reader_edge N.Machine hub self.now }
+    {
+        match self.rooted.tree.machine.hub() {
+            Some(number) if number == hub => Some(&self.rooted.root),
+            _ => self.rooted.tree.reader_edge(hub),
         }
     }
 

@@ -1,0 +1,262 @@
+//! A part is cut at an edge that crosses to another region, and joined there again.
+
+ghost use Rattle.std.specs.Prelude.{◌≡◌, ◌++◌, min, Some, None, true, false, IfOk, IfErr, OnOk, OnErr, option_map};
+ghost use Rattle.rsx_pipe.specs.Cutting.{can_join_here, can_join_in, can_take_back, held_in, root_below, root_here, root_with, sender_at};
+ghost use Rattle.rsx_rooted.specs.Cutting.{items_of};
+ghost use Rattle.rsx_tree.specs.Edges.{edge_view};
+ghost use Rattle.rsx_tree.specs.Inputs.{size};
+ghost use Rattle.rsx_tree.specs.Swapped.{put_at};
+
+use crate::part::Part;
+use rsx_demand::Demand;
+use rsx_queued::{CAPACITY, ItemQueue};
+use rsx_rooted::{CrossingNodes, Rooted};
+use rsx_tree::{Edge, Inputs, Node};
+use std::mem;
+
+/// What was below an edge that a part was cut at.
+#[derive(Drop)]
+pub struct CutOff<N, T> {
+    /// The node over that edge, with all that is below it, as a part of its own. What was asked over the edge is asked of it, and
+    /// it sent what went over the edge and what was in the queue there.
+    pub part: Part<N>,
+    /// What was in the queue of that edge.
+    pub queue: ItemQueue<T>,
+}
+
+impl<N: CrossingNodes + Drop> Part<N> {
+    ghost use Rattle.rsx_pipe.specs.Cutting.{IsCut, can_join, joined, new_root};
+
+    /// Cuts the part at the edge `at`, 0 for that of its root. The node over that edge goes on, with all that is below it, as the
+    /// root of a part of its own, `reader` takes its place, and the queue of the edge is handed out. It takes no memory.
+    ///
+    /// An edge is cut where it has a queue with no ending in it, it and all edges above it are live, and what was sent over it
+    /// with what is in its queue was asked for.
+    ///
+    /// # Errors
+    /// `reader` comes back where the edge isn't one that is cut. Then nothing changed.
+    pub fn cut(&mut self, at: u32, reader: N) -> Result<CutOff<N, N::Item>, N>
+        ensures ok { IfOk result (λ c. IsCut N.Nodes.own N.CrossingNodes.own self.old at reader c.part c.queue self.new) }
+        ensures refused { OnErr result (new_root N.edge_queue self.old at ≡ None) }
+        ensures err { IfErr result (λ r. r ≡ reader) }
+        ensures same { OnErr result (self.new ≡ self.old) }
+    {
+        let root = self.rooted.root;
+        let tree = &mut self.rooted.tree;
+        if at == 0 {
+            return cut_here(&root, &mut tree.machine, &mut tree.inputs, reader);
+        }
+        if !root.is_live() {
+            return Err(reader);
+        }
+        cut_at(&mut tree.inputs, at - 1, reader)
+    }
+
+    /// Joins what was cut off at the edge `at` to the part again, with a queue at that edge. In the queue are what the reader there
+    /// holds, and then the items of `below.queue`. The reader is dropped. It takes no memory.
+    ///
+    /// # Errors
+    /// All comes back, and nothing changed, where there is no edge `at`, where its node isn't one that holds items
+    /// of the hub with this number and reads it still, where the queue has no room for all these items, and where the edge of
+    /// the root that is joined has a queue already.
+    pub fn rejoin(
+        &mut self,
+        at: u32,
+        hub: u64,
+        below: CutOff<N, N::Item>,
+    ) -> Result<(), CutOff<N, N::Item>>
+        ensures ok { OnOk result (self.new ≡ joined N.CrossingNodes.own self.old at below.part below.queue) }
+        ensures enabled { OnOk result (can_join N.Machine N.Nodes.own N.CrossingNodes.own self.old at hub below.part.tree.machine below.queue ≡ true) }
+        ensures refused { OnErr result (can_join N.Machine N.Nodes.own N.CrossingNodes.own self.old at hub below.part.tree.machine below.queue ≡ false) }
+        ensures err { IfErr result (λ c. c ≡ below) }
+        ensures same { OnErr result (self.new ≡ self.old) }
+    {
+        if below.part.rooted.tree.machine.is_crossing() {
+            return Err(below);
+        }
+        let tree = &mut self.rooted.tree;
+        if at == 0 {
+            return join_here(&mut tree.machine, &mut tree.inputs, hub, below);
+        }
+        join_at(&mut tree.inputs, at - 1, hub, below)
+    }
+}
+
+/// How many nodes a row has, but at most `most`.
+fn count_up_to<N>(row: &Inputs<N>, most: u32) -> u32
+    ensures { result ≡ min (size row.now) most }
+{
+    match row {
+        Inputs::End => 0,
+        Inputs::More(_, _, below, beside) => {
+            if most == 0 {
+                return 0;
+            }
+            let inside = count_up_to(below, most - 1);
+            let others = count_up_to(beside, most - 1 - inside);
+            inside + others + 1
+        }
+    }
+}
+
+/// The root edge of what is below this edge, where the node there has a queue that can go over a link.
+fn root_over<N: CrossingNodes>(edge: &Edge, node: &N) -> Option<Edge>
+    ensures { option_map edge_view result ≡ root_with (edge_view edge.now) (N.edge_queue node.now) }
+{
+    let items = node.queue_len()? as u64;
+    let Demand { asked, sent } = edge.demand;
+    if items > asked - sent {
+        return None;
+    }
+    let demand = Demand {
+        asked,
+        sent: sent + items,
+    };
+    Some(Edge {
+        demand,
+        state: edge.state,
+    })
+}
+
+/// Cuts a row at the edge `at`, where it can be cut there.
+fn cut_at<N: CrossingNodes>(
+    row: &mut Inputs<N>,
+    at: u32,
+    reader: N,
+) -> Result<CutOff<N, N::Item>, N>
+    ensures upper { OnOk result (row.new ≡ put_at at reader Inputs.End row.old) }
+    ensures whole { IfOk result (λ c. row.old ≡ put_at at (N.queued c.queue c.part.tree.machine) c.part.tree.inputs row.old) }
+    ensures edge { IfOk result (λ c. root_below N.edge_queue at row.old ≡ Some (edge_view c.part.root)) }
+    ensures straight { IfOk result (λ c. N.crosses c.part.tree.machine ≡ false) }
+    ensures refused { OnErr result (root_below N.edge_queue at row.old ≡ None) }
+    ensures err { IfErr result (λ r. r ≡ reader) }
+    ensures same { OnErr result (row.new ≡ row.old) }
+{
+    match row {
+        Inputs::End => Err(reader),
+        Inputs::More(edge, machine, under, beside) => {
+            if at == 0 {
+                return cut_here(edge, machine, under, reader);
+            }
+            let inside = count_up_to(under, at);
+            if at > inside {
+                return cut_at(beside, at - 1 - inside, reader);
+            }
+            if !edge.is_live() {
+                return Err(reader);
+            }
+            cut_at(under, at - 1, reader)
+        }
+    }
+}
+
+/// Cuts off a node with what is below it.
+fn cut_here<N: CrossingNodes>(
+    edge: &Edge,
+    machine: &mut N,
+    under: &mut Inputs<N>,
+    reader: N,
+) -> Result<CutOff<N, N::Item>, N>
+    ensures node { OnOk result (machine.new ≡ reader) }
+    ensures inputs { OnOk result (under.new ≡ Inputs.End) }
+    ensures whole { IfOk result (λ c. machine.old ≡ N.queued c.queue c.part.tree.machine) }
+    ensures below { IfOk result (λ c. under.old ≡ c.part.tree.inputs) }
+    ensures edge { IfOk result (λ c. root_here N.edge_queue edge.now machine.old ≡ Some (edge_view c.part.root)) }
+    ensures straight { IfOk result (λ c. N.crosses c.part.tree.machine ≡ false) }
+    ensures refused { OnErr result (root_here N.edge_queue edge.now machine.old ≡ None) }
+    ensures err { IfErr result (λ r. r ≡ reader) }
+    ensures machine { OnErr result (machine.new ≡ machine.old) }
+    ensures row { OnErr result (under.new ≡ under.old) }
+{
+    if !edge.is_live() {
+        return Err(reader);
+    }
+    let Some(root) = root_over(edge, machine) else {
+        return Err(reader);
+    };
+    let Some(queue) = machine.take_queue() else {
+        return Err(reader);
+    };
+    let tree = Node {
+        machine: mem::replace(machine, reader),
+        inputs: mem::replace(under, Inputs::End),
+    };
+    let part = Part {
+        rooted: Rooted { tree, root },
+    };
+    Ok(CutOff { part, queue })
+}
+
+/// Joins what was cut off to a row at the edge `at`, where it can be joined there. At the edge of its root there is no queue.
+fn join_at<N: CrossingNodes + Drop>(
+    row: &mut Inputs<N>,
+    at: u32,
+    hub: u64,
+    below: CutOff<N, N::Item>,
+) -> Result<(), CutOff<N, N::Item>>
+    requires { N.crosses below.part.tree.machine ≡ false }
+    ensures ok { OnOk result (row.new ≡ put_at at (N.queued (held_in N.CrossingNodes.own (sender_at at row.old) ++ below.queue) below.part.tree.machine) below.part.tree.inputs row.old) }
+    ensures enabled { OnOk result (can_join_in N.Machine N.CrossingNodes.own hub below.queue (sender_at at row.old) ≡ true) }
+    ensures refused { OnErr result (can_join_in N.Machine N.CrossingNodes.own hub below.queue (sender_at at row.old) ≡ false) }
+    ensures err { IfErr result (λ c. c ≡ below) }
+    ensures same { OnErr result (row.new ≡ row.old) }
+{
+    match row {
+        Inputs::End => Err(below),
+        Inputs::More(_, machine, under, beside) => {
+            if at == 0 {
+                return join_here(machine, under, hub, below);
+            }
+            let inside = count_up_to(under, at);
+            if at > inside {
+                return join_at(beside, at - 1 - inside, hub, below);
+            }
+            join_at(under, at - 1, hub, below)
+        }
+    }
+}
+
+/// Puts what was cut off in the place of a reader of this hub.
+fn join_here<N: CrossingNodes + Drop>(
+    machine: &mut N,
+    under: &mut Inputs<N>,
+    hub: u64,
+    below: CutOff<N, N::Item>,
+) -> Result<(), CutOff<N, N::Item>>
+    requires { N.crosses below.part.tree.machine ≡ false }
+    ensures node { OnOk result (machine.new ≡ N.queued (items_of (N.held machine.old) ++ below.queue) below.part.tree.machine) }
+    ensures inputs { OnOk result (under.new ≡ below.part.tree.inputs) }
+    ensures enabled { OnOk result (can_join_here N.Machine N.CrossingNodes.own hub below.queue machine.old under.old ≡ true) }
+    ensures refused { OnErr result (can_join_here N.Machine N.CrossingNodes.own hub below.queue machine.old under.old ≡ false) }
+    ensures err { IfErr result (λ c. c ≡ below) }
+    ensures machine { OnErr result (machine.new ≡ machine.old) }
+    ensures row { OnErr result (under.new ≡ under.old) }
+{
+    if !takes_back(machine, under, hub, below.queue.len()) {
+        return Err(below);
+    }
+    let CutOff { part, mut queue } = below;
+    let Node {
+        machine: node,
+        inputs,
+    } = part.rooted.tree;
+    let reader = mem::replace(machine, node);
+    reader.release(&mut queue);
+    // The node has no queue, so this one isn't handed back.
+    let _ = machine.put_queue(queue);
+    *under = inputs;
+    Ok(())
+}
+
+/// Whether the node is a reader of this hub alone, and a queue takes back what it holds and so many items.
+fn takes_back<N: CrossingNodes>(machine: &N, under: &Inputs<N>, hub: u64, items: usize) -> bool
+    ensures { result ≡ can_take_back N.Machine N.CrossingNodes.own hub items machine.now under.now }
+{
+    if !matches!(under, Inputs::End) || machine.hub() != Some(hub) {
+        return false;
+    }
+    match machine.held_len() {
+        Some(held) => held <= CAPACITY && items <= CAPACITY - held,
+        None => false,
+    }
+}

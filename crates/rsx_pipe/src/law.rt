@@ -1,0 +1,17 @@
+//! What is proved of parts that were cut and joined again, each as the contract of one function.
+
+ghost use Rattle.rsx_pipe.specs.Joined.{JoinsAfterMoves, JoinsAtOnce};
+
+use rsx_rooted::CrossingNodes;
+
+/// A part that is cut and joined at once, by [`Part::cut`](crate::Part::cut) and [`Part::rejoin`](crate::Part::rejoin), is as it was.
+pub fn joined_at_once<N: CrossingNodes>()
+    ensures { JoinsAtOnce N.Machine N.Nodes.own N.CrossingNodes.own }
+{}
+
+/// A part is cut, and the two parts make any moves on their own. Where they are joined again, with what the reader holds and what
+/// is left of what the lower one sent, what came out of the part that was cut is what went out of the upper one meanwhile, and then
+/// what comes out of the part that is joined; over all values of the hubs that begin with what was taken in.
+pub fn joined_after_moves<N: CrossingNodes>()
+    ensures { JoinsAfterMoves N.Machine N.Nodes.own N.CrossingNodes.own }
+{}
