@@ -20,13 +20,13 @@ use Rattle.rsx_graph_moves.specs.Pumped.{AreHubsQuiet, AreMade, IsAllQuiet, IsAn
 
 -- ---- one list of moves behind another
 
-made_on : {M T : Type 0} (mc : Machine M T) (kd : Nodes M T) (m : Meaning T) (a b c : Rows M T) (ds es : List (Made T)) → AreMade mc kd m a ds b → AreMade mc kd m b es c → AreMade mc kd m a (ds ++ es) c
+pub made_on : {M T : Type 0} (mc : Machine M T) (kd : Nodes M T) (m : Meaning T) (a b c : Rows M T) (ds es : List (Made T)) → AreMade mc kd m a ds b → AreMade mc kd m b es c → AreMade mc kd m a (ds ++ es) c
 made_on {M} {T} mc kd m a b c ds es x y = record {
   lead = leads_on (IsMoveMade mc kd m) a b c ds es x.lead y.lead;
   stands = λ h s. let P : History T → Type 0 = λ k. StandsFor mc m c k in subst P (sym (fold-append after_move h ds es)) (y.stands (after_moves h ds) (x.stands h s));
 }
 
-made_none : {M T : Type 0} (mc : Machine M T) (kd : Nodes M T) (m : Meaning T) (g : Rows M T) → AreMade mc kd m g [] g
+pub made_none : {M T : Type 0} (mc : Machine M T) (kd : Nodes M T) (m : Meaning T) (g : Rows M T) → AreMade mc kd m g [] g
 made_none mc kd m g = record { lead = refl; stands = λ h s. s }
 
 -- nothing changed behind them

@@ -3,4 +3,5 @@ pub mod Driving
 pub mod Keeping
 pub mod Named
 pub mod Serving
+pub mod Times
 pub mod Turns

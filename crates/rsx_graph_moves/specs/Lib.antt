@@ -1,4 +1,5 @@
 -- Definitions that contracts cite.
+pub mod Many
 pub mod Moves
 pub mod Pumped
 pub mod Rows

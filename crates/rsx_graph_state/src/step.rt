@@ -4,7 +4,7 @@ use crate::refusal::Refusal;
 use rsx_types::{HubId, Signal, SubId};
 
 /// What the call of a step answered.
-#[derive(Drop)]
+#[derive(Debug, Drop)]
 pub enum Answer<T> {
     /// A hub was made.
     Opened(HubId),

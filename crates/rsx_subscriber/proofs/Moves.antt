@@ -396,7 +396,7 @@ pumped_more {M} {T} mc kd m id n k s1 s2 s3 o1 o2 o3 a b =
 
 -- the effect of a move of a part
 worked_by : {M T : Type 0} (mc : Machine M T) (m : Meaning T) (step : NodeMove) (old new : Subscription M T) (out : List (Signal T)) → IsKeptBeside old new → new.queue ≡ old.queue ++ out → Part.IsEffect mc m step old.part out new.part → IsWorkedBy mc m (Some step) old new
-worked_by mc m (NodeAsk n) old new out r queued e = record { edges = e.1; queue = queued ∙ (ap (λ l. old.queue ++ l) e.0 ∙ append-nil old.queue); kept = r }
+worked_by mc m (NodeAsk n) old new out r queued e = record { part = e.1; queue = queued ∙ (ap (λ l. old.queue ++ l) e.0 ∙ append-nil old.queue); kept = r }
 worked_by mc m (NodeSend n) old new out r queued e = record { out = out; edges = e; queue = queued; kept = r }
 worked_by mc m (NodePick n input) old new out r queued e = record { part = e.1; queue = queued ∙ (ap (λ l. old.queue ++ l) e.0 ∙ append-nil old.queue); kept = r }
 worked_by mc m (NodeRow n) old new out r queued e = record { part = e.1; queue = queued ∙ (ap (λ l. old.queue ++ l) e.0 ∙ append-nil old.queue); kept = r }

@@ -223,7 +223,7 @@ pub closed_count : {M : Type 0} (old new : AnyPart M) → all_edges new ≡ map 
 closed_count old new e = ap length e ∙ length-map (all_edges old) closed_view
 
 pub effect_count : {M T : Type 0} (mc : Machine M T) (m : Meaning T) (move : NodeMove) (old new : AnyPart M) (out : List (Signal T)) → Part.IsEffect mc m move old out new → length (all_edges new) ≡ length (all_edges old)
-effect_count mc m (Ask n) old new out k = ap length k.1 ∙ changed_length (asked_up_to (Part.wanted mc old n)) n (all_edges old)
+effect_count mc m (Ask n) old new out k = ap length k.1.edges ∙ changed_length (asked_up_to (Part.wanted mc old n)) n (all_edges old)
 effect_count mc m (Send n) old new out k = ap length k.edges ∙ sent_length (Part.receiver_ended mc new n) k.front old n
 effect_count mc m (Pick n input) old new out k = ap suc (ap length k.1.tree.edges ∙ tree_stepped _ old.tree n)
 effect_count mc m (Row n) old new out k = ap suc (ap length k.1.tree.edges ∙ tree_stepped _ old.tree n)

@@ -10,3 +10,4 @@ pub mod Published
 pub mod Pumped
 pub mod Standing
 pub mod Stands
+pub mod Taken

@@ -136,9 +136,9 @@ pub record IsKeptBeside {M T : Type 0} (old new : Subscription M T) : Type 0 whe
   pub live : new.live ≡ old.live
   pub demand : new.demand ≡ old.demand
 
--- an Ask: what was asked of this edge is what its receiver wants, and nothing else changed
+-- an Ask: what was asked of this edge is what its receiver wants; no other edge, no node and nothing else changed
 pub record IsAsk {M T : Type 0} (mc : Machine M T) (old : Subscription M T) (at : ℕ) (new : Subscription M T) : Type 0 where
-  pub edges : Part.IsAsk mc old.part at new.part
+  pub part : Part.IsAsk mc old.part at new.part
   pub queue : new.queue ≡ old.queue
   pub kept : IsKeptBeside old new
 

@@ -1,15 +1,20 @@
 //! The signals that a graph delivered.
 
-ghost use Rattle.std.specs.Prelude.{◌≡◌, ◌∷◌, ◌++◌, [], ◌<◌, length, OnOk, OnErr, vec_capacity};
+ghost use Rattle.std.specs.Prelude.{◌≡◌, ◌∷◌, ◌++◌, [], ◌<◌, ◌^◌, length, OnOk, OnErr, vec_capacity};
+ghost use Rattle.std.specs.Iterator.Runs.{EveryRun, ItemsMapTo};
+ghost use Rattle.std.specs.Slice.Iter.{iter_rest, iter_steps};
+ghost use Rattle.rsx_types.specs.declared.names.SubId.{SubId as SubIdSpec};
+ghost use Rattle.rsx_types.specs.declared.signal.Signal.{Signal as SignalSpec};
 ghost use Rattle.rsx_subscriber.specs.Delivered.{IsFull};
 
 use rsx_types::{NoMemory, Signal, SubId};
 use std::alloc::Global;
 use std::marker::Model;
+use std::slice;
 
 /// The signals that a graph delivered, each with its subscriber, in their order. Contracts see the list of the signals,
 /// and for how many there is memory.
-#[derive(Drop)]
+#[derive(Debug, Drop)]
 pub struct Deliveries<T> {
     signals: Vec<(SubId, Signal<T>)>,
 }
@@ -56,6 +61,15 @@ impl<T: Drop> Deliveries<T> {
         self.signals.as_slice()
     }
 
+    /// The signals one after the other, each with its subscriber, in their order. A `for` goes over `&deliveries`, too.
+    pub fn iter(&self) -> slice::Iter<'_, (SubId, Signal<T>)>
+        ensures rest { iter_rest result ≡ self.now.signals }
+        ensures bound { length (iter_rest result) < 2 ^ 64 }
+        ensures runs { EveryRun (iter_steps {A = SubIdSpec × SignalSpec T}) (λ p. ItemsMapTo p (λ x. x.now) (iter_rest p.from)) }
+    {
+        self.signals.as_slice().iter()
+    }
+
     /// The list of the signals, with the memory for them. It takes no memory.
     pub fn into_vec(self) -> Vec<(SubId, Signal<T>)>
         ensures signals { result.items ≡ self.signals }
@@ -93,5 +107,18 @@ impl<T: Drop> Deliveries<T> {
         ensures { self.new.signals ≡ self.old.signals ++ (sub, signal) ∷ [] }
     {
         self.signals.push_reserved((sub, signal));
+    }
+}
+
+impl<'a, T: Drop> IntoIterator for &'a Deliveries<T> {
+    type Item = &'a (SubId, Signal<T>);
+
+    type IntoIter = slice::Iter<'a, (SubId, Signal<T>)>;
+
+    ghost into_iter_gives = { λ d it. (iter_rest it ≡ d.now.signals) × (length (iter_rest it) < 2 ^ 64)
+        × EveryRun (iter_steps {A = SubIdSpec × SignalSpec T}) (λ p. ItemsMapTo p (λ x. x.now) (iter_rest p.from)) };
+
+    fn into_iter(self) -> slice::Iter<'a, (SubId, Signal<T>)> {
+        self.iter()
     }
 }

@@ -2,6 +2,7 @@
 //! One subscription to an expression: its part, the queue behind it, and where it stands in the subscription table.
 //!
 //! - [`subscription`]: [`Subscription`], with its edits (request, cancel), its moves and `pump`.
+//! - [`taking`]: the Take of the root, whose signal goes into a list of deliveries.
 //! - [`naming`]: which move inside a tree a [`Move`](rsx_types::Move) of a graph names.
 //! - [`published`]: what a hub published is handed to the nodes of a subscription's part that read it.
 //! - [`deliveries`]: [`Deliveries`], the signals that were handed to subscribers.
@@ -9,8 +10,9 @@
 //!
 //! The definitions stand in `specs/`, apart from the code: `Past` (what has happened to a subscriber), `Stands` (what a
 //! subscription stands for, its enabled moves and their effect), `Moves` (the names of moves), `Edited` (what a request and a
-//! cancel change), `Standing` (where it stands in the table of `rsx_subscription`), `Begun`, `Pumped`, `Published`, and `Holds`
-//! (what holds of a subscriber whose subscription stands for its past). Those of parts, trees and edges are in the crates below.
+//! cancel change), `Standing` (where it stands in the table of `rsx_subscription`), `Begun`, `Pumped`, `Taken`, `Published`, and
+//! `Holds` (what holds of a subscriber whose subscription stands for its past). Those of parts, trees and edges are in the crates
+//! below.
 
 pub mod deliveries;
 pub mod naming;
@@ -18,6 +20,7 @@ pub mod published;
 pub mod replay;
 pub mod state;
 pub mod subscription;
+pub mod taking;
 
 pub use deliveries::Deliveries;
 pub use replay::equal_records_give_equal_values;

@@ -7,14 +7,16 @@ ghost use Rattle.rsx_subscription.specs.Table.{answer, asked_after, cell_of, sen
 ghost use Rattle.rsx_subscriber.specs.Standing.{input_of, is_delivery};
 
 use crate::deliveries::Deliveries;
-use crate::naming::{node_move, node_of};
+use crate::naming::{inside_node, name_of, node_move, node_of};
 use crate::state::SubscriptionState;
 use rsx_demand::Demand;
 use rsx_pipe::{EdgeState, Nodes, Part, Pumped, SignalQueue};
 use rsx_sources::NotMade;
 use rsx_subscription::{Effect, Input, State, step};
 use rsx_tree::Node;
-use rsx_types::{Cause, Ending, Move, NoMemory, Note, Ops, Signal, StreamValue, SubId};
+use rsx_types::{
+    Cause, Ending, Move, NoMemory, NodeId, Note, Ops, Signal, StreamValue, SubId, Tree,
+};
 use std::alloc::Global;
 
 /// One subscription of a graph.
@@ -109,6 +111,20 @@ impl<N, T> Subscription<N, T> {
     {
         self.demand.asked
     }
+
+    /// How many items the subscriber was delivered.
+    pub fn delivered(&self) -> u64
+        ensures { result ≡ self.now.demand.sent }
+    {
+        self.demand.sent
+    }
+
+    /// Its part.
+    pub fn part(&self) -> &Part<N>
+        ensures { result.now ≡ self.now.part }
+    {
+        &self.part
+    }
 }
 
 impl<N: Nodes<Item = T>, T: Drop> Subscription<N, T> {
@@ -122,7 +138,8 @@ impl<N: Nodes<Item = T>, T: Drop> Subscription<N, T> {
     ghost use Rattle.rsx_pipe.specs.Part.{all_edges, IsPutOut, pump_allocates};
     ghost use Rattle.rsx_pipe.specs.Tree.{notes_of, IsAllClosed};
     ghost use Rattle.rsx_subscriber.specs.Past.{subscribed, cancelled, requested, given, request_answer};
-    ghost use Rattle.rsx_subscriber.specs.Stands.{Stands, StandsAfter, standing_of, take_enabled, enabled_inside, inner_move, make_allocates, IsWorked, IsTake, IsStillOwed};
+    ghost use Rattle.rsx_subscriber.specs.Moves.{tree_of};
+    ghost use Rattle.rsx_subscriber.specs.Stands.{Stands, StandsAfter, standing_of, take_enabled, enabled_inside, inner_move, make_allocates, move_enabled_in, IsWorked, IsTake, IsStillOwed};
     ghost use Rattle.rsx_subscriber.specs.Delivered.{IsFull};
     ghost use Rattle.rsx_subscriber.specs.Edited.{IsRequested, IsCancelled};
     ghost use Rattle.rsx_subscriber.specs.Pumped.{IsPumped, SomePumped, HasPumped, HasPumpedPart, NothingTaken, IsRest, IsQuiet, IsAwake, Spent, moves_of};
@@ -207,7 +224,7 @@ impl<N: Nodes<Item = T>, T: Drop> Subscription<N, T> {
     }
 
     /// Whether the move Take of the root is enabled.
-    fn can_take(&self) -> bool
+    pub(crate) fn can_take(&self) -> bool
         ensures { result ≡ take_enabled self.now 0 }
     {
         if self.queue.len() == 0 {
@@ -475,6 +492,20 @@ impl<N: Nodes<Item = T>, T: Drop> Subscription<N, T> {
             return false;
         }
         self.part.is_idle(&self.queue)
+    }
+
+    /// The first enabled move of the subscription with this number: the Take of its root, or else one of its part, from the root
+    /// down. None where no move is enabled.
+    pub fn first_enabled(&self, id: SubId) -> Option<Move>
+        ensures some { (m : Meaning T) → IfSome result (λ step. (tree_of step ≡ Tree.Sub id) × (move_enabled_in N.Machine N.Nodes.own m self.now step ≡ true)) }
+        ensures none { (m : Meaning T) → IfNone result (IsQuiet N.Machine m self.now) }
+    {
+        if self.can_take() {
+            return Some(Move::Take(Tree::Sub(id), NodeId(0)));
+        }
+        let inside = self.part.first_enabled(&self.queue)?;
+        let route = self.part.route_below(inside_node(inside));
+        Some(name_of(Tree::Sub(id), inside, route))
     }
 
     /// What the nodes of its tree recorded, in pre-order.
