@@ -7,6 +7,10 @@ use Rattle.rsx_graph_state.specs.Prelude.{History, HubPast, Source, emitted, fed
 use Rattle.rsx_rooted.specs.Leaves.{HaveJoinedFrom, leaves_on}
 use Rattle.rsx_subscriber.specs.Prelude.{Expr, joins_now, leaf_joins, new_joins, AreTaken, IsTaken, IsPlaced, differ, region_of}
 use Rattle.rsx_pipe.proofs.Signals.{some_same}
+use Rattle.rsx_pipe.specs.Built.{fresh_edges}
+use Rattle.rsx_pipe.specs.Tree.{edges}
+use Rattle.rsx_tree.specs.Edges.{edge_view}
+use Rattle.rsx_graph_state.specs.Feeds.{begun_edge}
 use Rattle.rsx_graph_state.specs.declared.feed.Feed.{Feed}
 use Rattle.rsx_sources.specs.Prelude.{Meaning, Stream, ended_by, HubKind, Open}
 use Rattle.rsx_graph_calls.specs.Edits.{IsFedHubMade, NameHubs, fault_of, joins_in, with_fed_hub}
@@ -118,10 +122,10 @@ fed_made mc m k c e old pushed news feeds f h fine is j added named names stands
     let b = joined_behind k c e old.hubs pushed news fine is j in
     fed_behind mc m k c e old b.joined news feeds f h b.members b.behind added named names stands s
 
-pub fed_effect : {M T : Type 0} (kd : Nodes M T) (k : HubKind) (c : ℕ) (e : Expr T) (hubs pushed news : List (HubState T)) (fs feeds : List (Feed M)) (f : Feed M) → fault_of k c (length hubs) e ≡ None → pushed ≡ hubs ++ fresh_hub k c ∷ [] → HaveJoinedFrom 0 e pushed news → feeds ≡ fs ++ f ∷ [] → f.hub ≡ length hubs → IsPlaced kd.crosses e (differ 0 (region_of e)) f.part.tree → IsFedHubMade kd k c e hubs news fs feeds
-fed_effect kd k c e hubs pushed news fs feeds f fine is j added named placed =
+pub fed_effect : {M T : Type 0} (kd : Nodes M T) (k : HubKind) (c : ℕ) (e : Expr T) (hubs pushed news : List (HubState T)) (fs feeds : List (Feed M)) (f : Feed M) → fault_of k c (length hubs) e ≡ None → pushed ≡ hubs ++ fresh_hub k c ∷ [] → HaveJoinedFrom 0 e pushed news → feeds ≡ fs ++ f ∷ [] → f.hub ≡ length hubs → IsPlaced kd.crosses e (differ 0 (region_of e)) f.part.tree → edge_view f.part.root ≡ begun_edge → edges f.part.tree ≡ fresh_edges e → IsFedHubMade kd k c e hubs news fs feeds
+fed_effect kd k c e hubs pushed news fs feeds f fine is j added named placed root below =
     let b = joined_behind k c e hubs pushed news fine is j in
-    record { joined = b.joined; feed = f; members = b.members; behind = b.behind; placed = placed; named = named; added = added }
+    record { joined = b.joined; feed = f; members = b.members; behind = b.behind; placed = placed; named = named; edges = ap (λ x. x ∷ edges f.part.tree) root ∙ ap (λ es. begun_edge ∷ es) below; added = added }
 
 pub fed_named : {M T : Type 0} (k : HubKind) (c n : ℕ) (hubs pushed : List (HubState T)) (fs feeds : List (Feed M)) (f : Feed M) → pushed ≡ hubs ++ fresh_hub k c ∷ [] → n ≡ length pushed → feeds ≡ fs ++ f ∷ [] → f.hub ≡ length hubs → NameHubs (length hubs) fs → NameHubs n feeds
 fed_named {M} {T} k c n hubs pushed fs feeds f is count added named names =

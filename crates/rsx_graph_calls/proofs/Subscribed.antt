@@ -4,12 +4,14 @@ use Rattle.std.proofs.Common.{◌≡◌, ℕ, List, [], ◌∷◌, ◌++◌, map
 use Rattle.rsx_graph_state.specs.Prelude.{History, rows_of, Rows, StandsFor, HubState, join, Subscription, JoinsStand}
 use Rattle.rsx_graph_state.proofs.Graphs.{AllStand-push}
 use Rattle.rsx_graph_state.proofs.Joins.{map_last}
+use Rattle.rsx_graph_state.specs.declared.feed.Feed.{Feed}
 use Rattle.rsx_rooted.specs.Leaves.{HaveJoinedFrom}
 use Rattle.rsx_subscriber.specs.Prelude.{Expr, joins_now, leaf_joins, new_joins, AreTaken, region_of, subscribed, Stands}
 use Rattle.rsx_types.specs.Meaning.{Meaning}
 use Rattle.rsx_types.specs.Stream.{Stream}
 use Rattle.rsx_graph_calls.specs.Edits.{joins_in}
-use Rattle.rsx_graph_calls.specs.Regions.{RegionsStand, region_in}
+use Rattle.rsx_graph_calls.specs.Regions.{RegionLists, RegionsStand, region_in, senders_in, with_regions}
+use Rattle.rsx_graph_calls.specs.Senders.{senders_below}
 use Rattle.rsx_graph_calls.specs.Subscribing.{with_subscriber}
 use Rattle.rsx_graph_calls.proofs.Fed.{as_taken, hub_joined, members_count}
 
@@ -43,7 +45,12 @@ joins_made mc m e old joins news feed_joins h is s k =
       fed = k.fed;
     }
 
--- and so does its region, behind those of the others
-pub regions_made : {T : Type 0} (e : Expr T) (regions news : List ℕ) (h : History T) → news ≡ regions ++ region_of e ∷ [] → RegionsStand regions h → RegionsStand news (with_subscriber e h)
-regions_made e regions news h is k =
-    is ∙ (ap (λ l. l ++ region_of e ∷ []) k ∙ sym (map_last region_in h.pasts (subscribed e (joins_in h e))))
+-- and so do its regions, behind those of the others
+pub regions_made : {M T : Type 0} (e : Expr T) (feeds : List (Feed M)) (r news : RegionLists) (h : History T) → news ≡ with_regions e r → RegionsStand feeds r h → RegionsStand feeds news (with_subscriber e h)
+regions_made {M} {T} e feeds r news h is k =
+    let P : RegionLists → Type 0 = λ x. RegionsStand feeds x (with_subscriber e h) in
+    subst P (sym is) (record {
+      roots = ap (λ l. l ++ region_of e ∷ []) k.roots ∙ sym (map_last region_in h.pasts (subscribed e (joins_in h e)));
+      senders = ap (λ l. l ++ senders_below e ∷ []) k.senders ∙ sym (map_last senders_in h.pasts (subscribed e (joins_in h e)));
+      fed = k.fed;
+    })

@@ -2,10 +2,13 @@
 use Rattle.rsx_rooted.specs.declared.nodes.Nodes.{Ghosts as Nodes}
 use Rattle.std.specs.Prelude.{◌≡◌, ⊤, ◌⊎◌, ℕ, ◌<◌, ◌≤◌, true, false, if◌then◌else◌, List, [], ◌∷◌, ◌++◌, length, map, Option, Some, None}
 use Rattle.rsx_graph_state.specs.Prelude.{History, emitted, fed, HaveJoined, have_places, HubState, are_numbers, fresh_hub, join}
+use Rattle.rsx_graph_state.specs.Feeds.{begun_edge}
 use Rattle.rsx_graph_state.specs.declared.TheConstants.{MOST_HUBS}
 use Rattle.rsx_graph_state.specs.declared.refusal.Refusal.{Refusal}
 use Rattle.rsx_graph_state.specs.declared.refusal.Refusal.TheVariants.{TooMany, BadExpr, NoMemory}
 use Rattle.rsx_subscriber.specs.Prelude.{refusal, BadExpr as BadExprKind, Number, Expr, leaf_joins, IsPlaced, differ, region_of}
+use Rattle.rsx_pipe.specs.Built.{fresh_edges}
+use Rattle.rsx_pipe.specs.Part.{all_edges}
 use Rattle.rsx_graph_state.specs.declared.feed.Feed.{Feed}
 use Rattle.rsx_sources.specs.Prelude.{ended_by, HubKind, Open}
 
@@ -48,4 +51,7 @@ pub record IsFedHubMade {M T : Type 0} (kd : Nodes M T) (k : HubKind) (c : ℕ) 
   -- the edges of the feed have a queue just where they join two regions; a hub is in region 0
   pub placed : IsPlaced kd.crosses e (differ 0 (region_of e)) feed.part.tree
   pub named : feed.hub ≡ length hubs
+  -- as much as can be was asked over its root edge, over which nothing was sent; nothing was asked and nothing sent over the edges
+  -- below, and what a node that has put out its ending closes is closed
+  pub edges : all_edges feed.part ≡ begun_edge ∷ fresh_edges e
   pub added : fed_by ≡ feeds ++ feed ∷ []

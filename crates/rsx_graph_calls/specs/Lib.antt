@@ -4,5 +4,6 @@ pub mod Looks
 pub mod Publishes
 pub mod Regions
 pub mod Requests
+pub mod Senders
 pub mod Subscribing
 pub mod ToCome

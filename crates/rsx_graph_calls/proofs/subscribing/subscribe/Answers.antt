@@ -3,6 +3,8 @@ use Rattle.rsx_graph_state.proofs.Joins.{map_last}
 use Rattle.rsx_graph_state.specs.Moves.{rows_of}
 use Rattle.rsx_graph_calls.proofs.Subscribed.{joins_made, regions_made, subscribed_made}
 use Rattle.rsx_model.specs.Region.{region_of}
+use Rattle.rsx_graph_calls.specs.Regions.{regions_of}
+use Rattle.rsx_graph_calls.specs.Senders.{senders_below}
 use Rattle.rsx_graph_calls.proofs.subscribing.subscribe.Goals as goal
 
 pub returns-clause-stands : goal.returns-clause-stands
@@ -29,10 +31,16 @@ pub returns-clause-joins : goal.returns-clause-joins
 returns-clause-joins g c = λ m feeds feed_joins h s k.
     joins_made g.N.Machine m c.args.expr.now (rows_of c.args.hubs.now.items feeds c.args.subscriptions.now.items) (map (λ v. v.items) c.args.joins.now.items) (map (λ v. v.items) c.push_reserved-2.new.self.items) feed_joins h (returns-clause-missed g c) s k
 
+-- the region of the root, and those of the senders, stand behind the others
 pub returns-clause-placed : goal.returns-clause-placed
 returns-clause-placed g c =
-    let added : c.push_reserved-3.new.self.items ≡ c.args.regions.now.items ++ region_of c.args.expr.now ∷ [] = search rules in
-    added
+    let regions = c.args.regions.now in
+    let region : c.push_reserved-3.new.self.items ≡ regions.roots.items ++ region_of c.args.expr.now ∷ [] = search rules in
+    let senders : c.push_reserved-4.new.self.items ≡ regions.senders.items ++ c.in_ok-made.made.senders ∷ [] = search rules in
+    let all : map (λ v. v.items) c.push_reserved-4.new.self.items ≡ map (λ v. v.items) regions.senders.items ++ senders_below c.args.expr.now ∷ [] =
+    ap (map (λ v. v.items)) senders ∙ (map_last (λ v. v.items) regions.senders.items c.in_ok-made.made.senders ∙ ap (λ l. map (λ v. v.items) regions.senders.items ++ l ∷ []) c.in_ok-made.ensures.senders) in
+    let fed : map (λ v. v.items) c.prepare.new.regions.feed_senders.items ≡ map (λ v. v.items) regions.feed_senders.items = ap (map (λ v. v.items)) c.prepare.ensures.feed_senders in
+    λ i. record { roots = region i; senders = all i; feed_senders = fed i }
 
 pub returns-clause-regions : goal.returns-clause-regions
-returns-clause-regions g c = λ h k. regions_made c.args.expr.now c.args.regions.now.items c.push_reserved-3.new.self.items h (returns-clause-placed g c) k
+returns-clause-regions g c = λ feeds h k. regions_made c.args.expr.now feeds (regions_of c.args.regions.now) _ h (returns-clause-placed g c) k
