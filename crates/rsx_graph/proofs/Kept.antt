@@ -2,29 +2,32 @@
 use Rattle.rsx_kinds.specs.Any.{any_machine}
 use Rattle.rsx_kinds.specs.Routes.{tree_nodes}
 use Rattle.rsx_graph.proofs.Laws.{any_laws}
-use Rattle.rsx_graph.specs.Kinds.{IsMoved, StandsFor, IsSubscribed, HasEnded, HasPumped as RowsPumped, IsMoveMade, LeadTo, Rows, Subscription, Feed}
-use Rattle.std.proofs.Common.{◌≡◌, ℕ, ◌<◌, ◌≤◌, ℤ, zero, suc, pos, negsuc, true, ◌++◌, List, [], ◌∷◌, length, length-append, map, slice_get, Option, Some, Result, Ok, Err, IfErr, IfOk, OnOk, OnErr, refl, ap, sym, ◌∙◌, subst, arith}
+use Rattle.rsx_graph.specs.Kinds.{IsCancelledAt, IsMoved, IsRequestedAt, StandsFor, HasEnded, HasPumped as RowsPumped, IsMoveMade, LeadTo, Rows, Subscription, Feed}
+use Rattle.std.proofs.Common.{◌≡◌, ℕ, ◌<◌, ◌≤◌, ℤ, zero, suc, pos, negsuc, true, ◌++◌, List, [], ◌∷◌, length, map, slice_get, Option, Some, Result, Ok, Err, IfErr, IfOk, OnOk, OnErr, refl, ap, sym, ◌∙◌, subst, arith}
+use Rattle.std.proofs.lemmas.List.{length-map, length-set}
 use Rattle.std.proofs.lemmas.Option.{same_Some}
 use Rattle.rsx_graph_moves.proofs.Keeping.{KeepHubs, lead_keep, moved_keep}
 use Rattle.rsx_graph_moves.proofs.Serving.{rows_served}
 use Rattle.rsx_graph_moves.specs.Pumped.{Made, after_move, after_moves}
 use Rattle.rsx_tree.proofs.Runs.{leads_fold}
 use Rattle.rsx_graph_calls.proofs.Behind.{hub_behind}
-use Rattle.rsx_graph_calls.proofs.Kept.{joins_hub, joins_published, joins_same, kept_changed, kept_made}
+use Rattle.rsx_graph_calls.proofs.Kept.{joins_hub, joins_published, joins_same, kept_changed, kept_made, regions_hub, regions_published, regions_same}
 use Rattle.rsx_graph_calls.proofs.Names.{names_kept}
 use Rattle.rsx_graph_calls.proofs.Published.{emitted_stands, ended_stands}
 use Rattle.rsx_graph_calls.specs.Edits.{NameHubs, with_hub}
 use Rattle.rsx_graph_calls.specs.Publishes.{has_emitter, with_published}
 use Rattle.rsx_graph_state.specs.Hubs.{IsEmittedAt, IsEndedAt}
 use Rattle.rsx_graph_state.specs.Prelude.{fresh_hub, JoinsStand, History, with_made, rows_of, HubState, SubscriptionState}
-use Rattle.rsx_graph_calls.specs.Regions.{HasRegion, RegionsStand, region_in}
+use Rattle.rsx_graph_calls.specs.Regions.{HasRegion, RegionLists, RegionsStand, region_in, regions_of, senders_in}
+use Rattle.rsx_graph_calls.specs.declared.regions.Regions.{Regions}
 use Rattle.rsx_graph_calls.specs.Requests.{with_past}
+use Rattle.rsx_graph_calls.specs.Senders.{senders_below}
 use Rattle.rsx_graph_state.proofs.Graphs.{joins_kept}
-use Rattle.rsx_graph_state.specs.declared.TheConstants.{MOST_HUBS, MOST_SUBSCRIPTIONS}
+use Rattle.rsx_graph_state.specs.declared.TheConstants.{MOST_HUBS}
 use Rattle.rsx_graph_state.specs.declared.refusal.Refusal.{Refusal}
 use Rattle.rsx_graph_state.specs.declared.step.Pumped.{Pumped}
 use Rattle.rsx_graph_state.specs.declared.step.Pumped.TheVariants.{Idle}
-use Rattle.rsx_subscriber.specs.Prelude.{with_signal, Delivered, Expr, Past, requested, requested_in}
+use Rattle.rsx_subscriber.specs.Prelude.{with_signal, Delivered, Past, region_of, requested, requested_in}
 use Rattle.rsx_subscriber.specs.declared.state.SubscriptionState.TheVariants.{Open, Ended, Cancelled, Refused}
 use Rattle.rsx_sources.specs.Prelude.{Ending, HubId, HubKind, Meaning, Move, Next, Stream, SubId, Signal}
 use Rattle.rsx_graph.specs.Pumped.{HasPumped}
@@ -34,7 +37,7 @@ use Rattle.rsx_graph.specs.Steps.{no_history}
 use Rattle.rsx_graph.proofs.Reading.{hubs_quiet, rows_read}
 
 -- a graph of these rows, joins and regions
-abbrev pub state_with : {T : Type 0} → List (HubState T) → List (Feed T) → List (Subscription T) → List (List ℕ) → List (List ℕ) → List ℕ → GraphState T
+abbrev pub state_with : {T : Type 0} → List (HubState T) → List (Feed T) → List (Subscription T) → List (List ℕ) → List (List ℕ) → RegionLists → GraphState T
 state_with hubs feeds subs joins feed_joins regions = record { rows = rows_of hubs feeds subs; joins = joins; feed_joins = feed_joins; regions = regions }
 
 -- one that has just begun stands for nothing that has happened
@@ -42,7 +45,7 @@ pub begun : {T : Type 0} (m : Meaning T) → GraphStands m nothing no_history
 begun m = record {
   rows = record { taken = []; many = refl; each = refl; hub = λ i v s p a b c. cc; all = tt };
   joined = record { subs = refl; fed = λ i p e. cc };
-  placed = refl;
+  placed = record { roots = refl; senders = refl; fed = λ i p e. cc };
 }
 
 pub begun_from : {T : Type 0} (m : Meaning T) (g : GraphState T) → g ≡ nothing → GraphStands m g no_history
@@ -68,13 +71,17 @@ moved_joins m old new moves joins feed_joins h lead j =
 -- ---- the regions
 
 -- what subscribers did
-pub past_regions : {T : Type 0} (f : Past T → Past T) (i : SubId) (regions : List ℕ) (h : History T) → ((p : Past T) → region_in (f p) ≡ region_in p) → RegionsStand regions h → RegionsStand regions (with_past f i h)
-past_regions f i regions h keeps k = k ∙ sym (kept_changed region_in f keeps h.pasts i.0)
+pub past_regions : {T : Type 0} (f : Past T → Past T) (i : SubId) (feeds : List (Feed T)) (regions : RegionLists) (h : History T) → ((p : Past T) → (f p).expression ≡ p.expression) → RegionsStand feeds regions h → RegionsStand feeds regions (with_past f i h)
+past_regions f i feeds regions h keeps k = record {
+  roots = k.roots ∙ sym (kept_changed region_in f (λ p. ap region_of (keeps p)) h.pasts i.0);
+  senders = k.senders ∙ sym (kept_changed senders_in f (λ p. ap senders_below (keeps p)) h.pasts i.0);
+  fed = k.fed;
+}
 
-pub requested_region : {T : Type 0} (n : ℤ) (p : Past T) → region_in (requested n p) ≡ region_in p
-requested_region n p = by_state p.state n
+pub requested_expression : {T : Type 0} (n : ℤ) (p : Past T) → (requested n p).expression ≡ p.expression
+requested_expression n p = by_state p.state n
   where
-    by_state : (s : SubscriptionState) (n : ℤ) → region_in (requested_in s n p) ≡ region_in p
+    by_state : (s : SubscriptionState) (n : ℤ) → (requested_in s n p).expression ≡ p.expression
     by_state Open (pos zero) = refl
     by_state Open (pos (suc n)) = refl
     by_state Open (negsuc n) = refl
@@ -83,13 +90,14 @@ requested_region n p = by_state p.state n
     by_state Refused n = refl
 
 -- one move
-pub made_regions : {T : Type 0} (mv : Move) (o : Option (SubId × Signal T)) (s : Option (Signal T)) (regions : List ℕ) (h : History T) → RegionsStand regions h → RegionsStand regions (with_made mv o s h)
-made_regions mv o s regions h k = k ∙ sym (kept_made mv o s h).regions
+pub made_regions : {T : Type 0} (m : Meaning T) (mv : Move) (o : Option (SubId × Signal T)) (s : Option (Signal T)) (old new : Rows T) (regions : RegionLists) (h : History T) → IsMoved m mv old new o → RegionsStand old.feeds regions h → RegionsStand new.feeds regions (with_made mv o s h)
+made_regions m mv o s old new regions h effect k =
+    regions_same old.feeds new.feeds regions h (with_made mv o s h) (moved_keep any_machine tree_nodes m mv old new o effect) (kept_made mv o s h) k
 
 -- many
-pub moved_regions : {T : Type 0} (moves : List (Made T)) (regions : List ℕ) (h : History T) → RegionsStand regions h → RegionsStand regions (after_moves h moves)
-moved_regions [] regions h k = k
-moved_regions (d ∷ ds) regions h k = moved_regions ds regions (with_made d.move d.delivered d.fed h) (made_regions d.move d.delivered d.fed regions h k)
+pub moved_regions : {T : Type 0} (m : Meaning T) (old new : Rows T) (moves : List (Made T)) (regions : RegionLists) (h : History T) → LeadTo m old moves new → RegionsStand old.feeds regions h → RegionsStand new.feeds regions (after_moves h moves)
+moved_regions m old new moves regions h lead k =
+    leads_fold (IsMoveMade m) after_move (λ g x. RegionsStand g.feeds regions x) (λ a b d x made j. made_regions m d.move d.delivered d.fed a b regions x made.effect j) old new moves h lead k
 
 -- the region at one place
 got_region : {T : Type 0} (pasts : List (Past T)) (i r : ℕ) → slice_get (map region_in pasts) i ≡ Some r → HasRegion pasts i r
@@ -97,8 +105,8 @@ got_region [] i r e = cc
 got_region (p ∷ pasts) zero r e = (p, refl, sym (same_Some (region_in p) r e))
 got_region (p ∷ pasts) (suc i) r e = got_region pasts i r e
 
-pub region_there : {T : Type 0} (regions : List ℕ) (h : History T) (i r : ℕ) → slice_get regions i ≡ Some r → RegionsStand regions h → HasRegion h.pasts i r
-region_there regions h i r there k = got_region h.pasts i r (ap (λ l. slice_get l i) (sym k) ∙ there)
+pub region_there : {T : Type 0} (feeds : List (Feed T)) (regions : RegionLists) (h : History T) (i r : ℕ) → slice_get regions.roots i ≡ Some r → RegionsStand feeds regions h → HasRegion h.pasts i r
+region_there feeds regions h i r there k = got_region h.pasts i r (ap (λ l. slice_get l i) (sym k.roots) ∙ there)
 
 -- ---- the hubs that the feeds name
 
@@ -122,15 +130,22 @@ pub names_hub : {T A E : Type 0} (olds news : List (HubState T)) (feeds : List (
 names_hub olds news feeds (Ok a) made same names = made
 names_hub olds news feeds (Err e) made same names = names_on (length olds) (length news) feeds (ap length same) names
 
--- with one subscription more there are still no more than there may be
-pub few_subscribed : {T A E P X J K : Type 0} (r : Result A E) (e : Expr T) (olds news : List (Subscription T)) (hs gs : List X) (js ks : List J) (is os : List K) → (P → IsSubscribed e olds news) → OnOk r P →
-    OnErr r ((gs ≡ hs) × (news ≡ olds) × (ks ≡ js) × (os ≡ is)) → length olds < MOST_SUBSCRIPTIONS → length news ≤ MOST_SUBSCRIPTIONS
-few_subscribed (Ok a) e olds news hs gs js ks is os made p same less =
-    let k = made p in
-    let grown = ap length k.1 in
-    let both = length-append olds (k.0 ∷ []) in
-    omega (arith, grown, both, less)
-few_subscribed (Err x) e olds news hs gs js ks is os made p same less = let count = ap length same.1 in omega (arith, count, less)
+-- ---- as many as before
+
+-- with one feed more or with none, there are as many lists of senders as feeds
+pub feeds_sent : {A E F : Type 0} (P Q : Type 0) (r : Result A E) (olds news : List F) (old new : Regions) → OnOk r (length new.feed_senders.items ≡ length news) → OnErr r (P × (news ≡ olds) × Q × (regions_of new ≡ regions_of old)) → length old.feed_senders.items ≡ length olds → length new.feed_senders.items ≡ length news
+feeds_sent P Q (Ok a) olds news old new made same was = made
+feeds_sent P Q (Err e) olds news old new made same was =
+    sym (length-map new.feed_senders.items (λ v. v.items))
+    ∙ (ap (λ (x : RegionLists). length x.feed_senders) same.3 ∙ (length-map old.feed_senders.items (λ v. v.items) ∙ (was ∙ sym (ap length same.1))))
+
+pub cancelled_count : {T A E : Type 0} (i : ℕ) (olds news : List (Subscription T)) (r : Result A E) → OnOk r (IsCancelledAt i olds news) → OnErr r (news ≡ olds) → length news ≡ length olds
+cancelled_count i olds news (Ok a) effect same = ap length effect.others ∙ length-set olds i effect.new
+cancelled_count i olds news (Err e) effect same = ap length same
+
+pub requested_count : {T E : Type 0} (i : ℕ) (n : ℤ) (olds news : List (Subscription T)) (r : Result (Option (Signal T)) E) → IfOk r (λ o. IsRequestedAt i n olds news o) → OnErr r (news ≡ olds) → length news ≡ length olds
+requested_count i n olds news (Ok o) effect same = ap length effect.others ∙ length-set olds i effect.new
+requested_count i n olds news (Err e) effect same = ap length same
 
 -- ---- runs of moves
 
@@ -141,7 +156,7 @@ graph_pumped m budget old before result new after k = record {
   ends = k.1;
   lead = k.2.lead;
   same = (refl, refl, refl);
-  stands = λ h s. record { rows = k.2.stands h s.rows; joined = moved_joins m old.rows new k.0 old.joins old.feed_joins h k.2.lead s.joined; placed = moved_regions k.0 old.regions h s.placed };
+  stands = λ h s. record { rows = k.2.stands h s.rows; joined = moved_joins m old.rows new k.0 old.joins old.feed_joins h k.2.lead s.joined; placed = moved_regions m old.rows new k.0 old.regions h k.2.lead s.placed };
   output = k.3;
 }
 
@@ -196,7 +211,7 @@ pub emitted_graph : {T : Type 0} (m : Meaning T) (x : T) (i : HubId) (old : Grap
 emitted_graph m x i old hubs h effect known s = record {
   rows = emitted_stands any_machine m x i old.rows.hubs hubs old.rows.feeds old.rows.subs h effect known s.rows;
   joined = joins_published (Next x) i old.rows.feeds old.joins old.feed_joins h s.joined;
-  placed = s.placed;
+  placed = regions_published (Next x) i old.rows.feeds old.regions h s.placed;
 }
 
 -- a hub ended, by a signal that gives any stream this ending
@@ -205,7 +220,7 @@ pub ended_graph : {T : Type 0} (m : Meaning T) (sig : Signal T) (d : Ending) (i 
 ended_graph m sig d i old hubs h ends effect known s = record {
   rows = ended_stands any_machine m sig d i old.rows.hubs hubs old.rows.feeds old.rows.subs h ends effect known s.rows;
   joined = joins_published sig i old.rows.feeds old.joins old.feed_joins h s.joined;
-  placed = s.placed;
+  placed = regions_published sig i old.rows.feeds old.regions h s.placed;
 }
 
 -- there is a hub more, with an emitter
@@ -214,7 +229,7 @@ pub begun_hub : {T : Type 0} (m : Meaning T) (k : HubKind) (c : ℕ) (old : Grap
 begun_hub m k c old hubs h effect named s = record {
   rows = hub_behind any_machine m k c old.rows hubs h effect named s.rows;
   joined = joins_hub k old.rows.feeds old.joins old.feed_joins h s.joined;
-  placed = s.placed;
+  placed = regions_hub k old.rows.feeds old.regions h s.placed;
 }
 
 -- a move was made, unless it was refused
@@ -224,6 +239,6 @@ pub graph_made : {T : Type 0} (m : Meaning T) (mv : Move) (sent : Option (Signal
 graph_made m mv sent old new (Ok o) stands effect = λ h s. record {
   rows = stands h s.rows;
   joined = made_joins m mv o sent old.rows new old.joins old.feed_joins h effect s.joined;
-  placed = made_regions mv o sent old.regions h s.placed;
+  placed = made_regions m mv o sent old.rows new old.regions h effect s.placed;
 }
 graph_made m mv sent old new (Err e) stands effect = tt

@@ -4,13 +4,14 @@ use Rattle.std.specs.Prelude.{◌≡◌, ◌≢◌, ◌≤◌, ◌<◌, true, fa
 use Rattle.rsx_graph_moves.specs.Moves.{IsMakeRefusal}
 use Rattle.rsx_graph_calls.specs.Edits.{IsFedHubRefusal, fault_of}
 use Rattle.rsx_graph_calls.specs.Publishes.{IsCopyRefusal, IsEndRefusal, has_emitter}
+use Rattle.rsx_graph_calls.specs.Regions.{with_fed_regions, with_regions}
 use Rattle.rsx_graph_calls.specs.Subscribing.{IsSubscribeRefusal}
 use Rattle.rsx_graph_state.specs.Prelude.{History, HaveJoined, IsHubRefusal, IsSubscribeId, IsEmittedAt, IsEndedAt, are_numbers, fresh_hub}
 use Rattle.rsx_graph_state.specs.declared.TheConstants.{MOST_HUBS}
 use Rattle.rsx_graph_state.specs.declared.refusal.Refusal.TheVariants.{UnknownSub, NoMemory}
 use Rattle.rsx_graph_state.specs.declared.step.Answer.{Answer}
 use Rattle.rsx_graph_state.specs.declared.step.Answer.TheVariants.{Opened, Published, Subscribed, Requested, Cancelled as CancelTaken, Made, Refused as NotDone}
-use Rattle.rsx_subscriber.specs.Prelude.{new_joins, region_of, IsMadeAnswer}
+use Rattle.rsx_subscriber.specs.Prelude.{new_joins, IsMadeAnswer}
 use Rattle.rsx_sources.specs.Prelude.{Meaning, Allocates, User, Done, Failed, Signal}
 use Rattle.rsx_graph.specs.Stands.{AreJoinsSame, GraphStands, GraphState, IsAsideSame, IsRestSame}
 use Rattle.rsx_graph.specs.Steps.{AllBelong, all_extended}
@@ -28,7 +29,7 @@ abbrev pub IsDone : {T : Type 0} → Meaning T → Allocates → GraphState T �
 IsDone m a old (Subscribe e) (Subscribed i) new =
     IsSubscribeId (length old.rows.hubs) (length old.rows.subs) e i × IsSubscribed e old.rows.subs new.rows.subs × HaveJoined e old.rows.hubs new.rows.hubs
     × (new.rows.feeds ≡ old.rows.feeds) × (new.joins ≡ old.joins ++ new_joins old.rows.hubs e ∷ []) × (new.feed_joins ≡ old.feed_joins)
-    × (new.regions ≡ old.regions ++ region_of e ∷ [])
+    × (new.regions ≡ with_regions e old.regions)
 IsDone m a old (Subscribe e) (NotDone r) new = IsSubscribeRefusal e old.rows.hubs (length old.rows.subs) r × (new ≡ old)
 IsDone m a old (Request i n) (Requested o) new = IsRequestedAt i.0 n old.rows.subs new.rows.subs o × IsAsideSame old new
 IsDone m a old (Request i n) (NotDone r) new = (r ≡ UnknownSub) × (length old.rows.subs ≤ i.0) × (new ≡ old)
@@ -43,7 +44,7 @@ IsDone m a old (Hub k c) (NotDone r) new = IsHubRefusal k c (length old.rows.hub
 IsDone m a old (FeedHub k c e) (Opened i) new =
     (i.0 ≡ length old.rows.hubs) × (fault_of k c (length old.rows.hubs) e ≡ None) × (length old.rows.hubs < MOST_HUBS)
     × IsFedHubMade k c e old.rows.hubs new.rows.hubs old.rows.feeds new.rows.feeds × (new.rows.subs ≡ old.rows.subs) × (new.joins ≡ old.joins)
-    × (new.feed_joins ≡ old.feed_joins ++ new_joins old.rows.hubs e ∷ []) × (new.regions ≡ old.regions)
+    × (new.feed_joins ≡ old.feed_joins ++ new_joins old.rows.hubs e ∷ []) × (new.regions ≡ with_fed_regions e old.regions)
 IsDone m a old (FeedHub k c e) (NotDone r) new = IsFedHubRefusal k c e old.rows.hubs r × (new ≡ old)
 IsDone m a old (Emit i x) Published new = (has_emitter old.rows.hubs old.rows.feeds i.0 ≡ true) × IsEmittedAt i.0 x old.rows.hubs new.rows.hubs × IsRestSame old new
 IsDone m a old (Emit i x) (NotDone r) new = IsCopyRefusal old.rows.hubs old.rows.feeds i.0 r × (new ≡ old)

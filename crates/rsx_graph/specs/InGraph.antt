@@ -2,6 +2,7 @@
 use Rattle.rsx_graph.specs.Kinds.{IsMoved, drives_allocate, is_enabled, may_allocate, sent}
 use Rattle.std.specs.Prelude.{ℕ, Bool, List, map, Option, Result}
 use Rattle.rsx_graph_moves.specs.Moves.{IsMakeRefusal}
+use Rattle.rsx_graph_calls.specs.Regions.{regions_of}
 use Rattle.rsx_graph_state.specs.Prelude.{History, rows_of, Delivered}
 use Rattle.rsx_graph_state.specs.declared.refusal.Refusal.{Refusal}
 use Rattle.rsx_graph_state.specs.declared.step.Answer.{Answer}
@@ -22,7 +23,7 @@ state_of graph = record {
   rows = rows_of graph.hubs.items graph.feeds.items graph.subscriptions.items;
   joins = map (λ v. v.items) graph.joins.items;
   feed_joins = map (λ v. v.items) graph.feed_joins.items;
-  regions = graph.regions.items;
+  regions = regions_of graph.regions;
 }
 
 -- of each history for which the graph stands, this holds

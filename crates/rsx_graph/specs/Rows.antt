@@ -6,5 +6,6 @@ pub use Rattle.rsx_graph_state.specs.Stands.{feed_of}
 pub use Rattle.rsx_graph_moves.specs.Pumped.{Made, after_move, after_moves, delivered_by}
 pub use Rattle.rsx_graph_calls.specs.Edits.{NameHubs, joins_in, with_fed_hub, with_hub}
 pub use Rattle.rsx_graph_calls.specs.Publishes.{IsCopyRefusal, IsEmitRefusal, has_emitter, published_at, published_from, with_published}
+pub use Rattle.rsx_graph_calls.specs.Regions.{RegionLists, no_regions, regions_of}
 pub use Rattle.rsx_graph_calls.specs.Requests.{with_past}
 pub use Rattle.rsx_graph_calls.specs.Looks.{HasFedJoins, IsFeedLookRefusal}

@@ -4,26 +4,26 @@ use Rattle.std.specs.Prelude.{◌≡◌, ℕ, List, [], ◌∷◌}
 use Rattle.std.specs.Coded.{×_prop, Unit-prop, le_prop}
 use Rattle.rsx_graph_calls.specs.Edits.{NameHubs}
 use Rattle.rsx_graph_state.specs.Prelude.{JoinsStand, History}
-use Rattle.rsx_graph_calls.specs.Regions.{RegionsStand}
+use Rattle.rsx_graph_calls.specs.Regions.{RegionLists, RegionsStand, no_regions}
 use Rattle.rsx_types.specs.Meaning.{Meaning}
 
--- its hubs, feeds and subscriptions in rows, the joins of the leaves of each subscription and of each feed, and the region of each
--- subscription, in the same order
+-- its hubs, feeds and subscriptions in rows, the joins of the leaves of each subscription and of each feed, and the regions of the trees
+-- of both, in the same order
 pub record GraphState (T : Type 0) : Type 0 where
   pub rows : Rows T
   pub joins : List (List ℕ)
   pub feed_joins : List (List ℕ)
-  pub regions : List ℕ
+  pub regions : RegionLists
 
 -- a graph that has just begun
 abbrev pub nothing : {T : Type 0} → GraphState T
-nothing = record { rows = record { hubs = []; feeds = []; subs = [] }; joins = []; feed_joins = []; regions = [] }
+nothing = record { rows = record { hubs = []; feeds = []; subs = [] }; joins = []; feed_joins = []; regions = no_regions }
 
 -- a graph stands for a history: its rows do, and the joins and the regions that it keeps are those of the history
 pub record GraphStands {T : Type 0} (m : Meaning T) (g : GraphState T) (h : History T) : Type 0 where
   pub rows : StandsFor m g.rows h
   pub joined : JoinsStand g.rows.feeds g.joins g.feed_joins h
-  pub placed : RegionsStand g.regions h
+  pub placed : RegionsStand g.rows.feeds g.regions h
 
 -- whatever history the graph stands for, by it each live subscriber was served
 abbrev pub IsAllServed : {T : Type 0} → Meaning T → GraphState T → Type 0

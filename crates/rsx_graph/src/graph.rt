@@ -1,9 +1,8 @@
 //! A graph of hubs and subscriptions.
 
 ghost use Rattle.rsx_graph.specs.Kinds.{IsSubscribed, IsCancelledAt, IsRequestedAt, HasNotes, IsOwed};
-ghost use Rattle.std.specs.Prelude.{◌≡◌, ◌≢◌, ◌<◌, ◌≤◌, ◌++◌, ◌∷◌, [], length, OnOk, OnErr, IfOk, IfErr, IsOk, Some, true, false};
+ghost use Rattle.std.specs.Prelude.{◌≡◌, ◌≢◌, ◌<◌, ◌≤◌, ◌++◌, ◌∷◌, [], length, OnOk, OnErr, IfOk, IfErr, IsOk, Some, true, false, pos, min};
 ghost use Rattle.rsx_pipe.specs.Built.{new_joins};
-ghost use Rattle.rsx_model.specs.Region.{region_of};
 ghost use Rattle.rsx_subscriber.specs.Delivered.{IsFull};
 ghost use Rattle.rsx_subscriber.specs.Past.{cancelled, requested};
 ghost use Rattle.rsx_subscriber.specs.Stands.{IsMadeAnswer};
@@ -11,17 +10,19 @@ ghost use Rattle.rsx_graph_state.specs.Begun.{HaveJoined, have_places};
 ghost use Rattle.rsx_graph_state.specs.Answers.{HasAsked, IsLookRefusal, IsSubscribeId, state_at};
 ghost use Rattle.rsx_graph_state.specs.History.{with_made};
 ghost use Rattle.rsx_graph_calls.specs.Edits.{NameHubs};
-ghost use Rattle.rsx_graph_calls.specs.Regions.{HasRegion};
+ghost use Rattle.rsx_graph_calls.specs.Regions.{HasRegion, with_regions};
 ghost use Rattle.rsx_graph_calls.specs.Requests.{with_past};
 ghost use Rattle.rsx_graph_calls.specs.Subscribing.{IsSubscribeRefusal, with_subscriber};
 ghost use Rattle.rsx_graph_calls.specs.Looks.{HasTreeJoins, IsTreeLookRefusal};
 ghost use Rattle.rsx_graph.specs.Read.{IsAllRead};
 ghost use Rattle.rsx_graph.specs.Stands.{AreJoinsSame, GraphStands, IsAllServed, IsAsideSame, NameHubs-prop, nothing};
 ghost use Rattle.rsx_graph.specs.Steps.{Belongs, extended, no_history};
+ghost use Rattle.rsx_demand.specs.declared.TheConstants.{UNBOUNDED};
 ghost use Rattle.rsx_graph_state.specs.declared.TheConstants.{MOST_HUBS, MOST_SUBSCRIPTIONS};
 
 use crate::step::Step;
-use rsx_graph_calls::{admit, cancel, joins, notes, owed, request, subscribe};
+use rsx_demand::UNBOUNDED;
+use rsx_graph_calls::{Regions, admit, cancel, joins, notes, owed, request, subscribe};
 use rsx_graph_moves::{make, pump};
 use rsx_graph_state::{Answer, Feed, Pumped, Refusal};
 pub use rsx_graph_state::{MOST_HUBS, MOST_SUBSCRIPTIONS};
@@ -31,6 +32,7 @@ use rsx_model::Expr;
 use rsx_subscriber::{Deliveries, Subscription, SubscriptionState};
 use rsx_types::{Move, NoMemory, Note, Ops, Signal, StreamValue, SubId, Tree};
 use std::alloc::Global;
+use std::fmt;
 
 /// Hubs, some of them fed by expressions, and subscriptions to expressions, driven by edits and moves.
 #[derive(Drop)]
@@ -47,12 +49,15 @@ pub struct Graph<O: Ops> {
     pub(crate) subscriptions: Vec<Subscription<TreeNode<O::Item>, O::Item>>,
     /// The joins of each subscription's leaves that read a hub, from left to right.
     pub(crate) joins: Vec<Vec<u64>>,
-    /// The region of each subscription's expression.
-    pub(crate) regions: Vec<u8>,
+    /// The regions of the trees of the subscriptions and of the feeds.
+    pub(crate) regions: Regions,
     pub ghost few: { length subscriptions.items ≤ MOST_SUBSCRIPTIONS },
     pub ghost few_hubs: { length hubs.items ≤ MOST_HUBS },
     pub ghost named: { NameHubs (length hubs.items) feeds.items } by { NameHubs-prop (length hubs.items) feeds.items },
     pub ghost beside: { length feed_joins.items ≡ length feeds.items },
+    pub ghost sent: { length regions.feed_senders.items ≡ length feeds.items },
+    pub ghost joined: { length joins.items ≡ length subscriptions.items },
+    pub ghost rooted: { length regions.roots.items ≡ length subscriptions.items },
 }
 
 impl<O: Ops> Graph<O> {
@@ -72,7 +77,7 @@ impl<O: Ops> Graph<O> {
             feed_joins: Vec::new(alloc),
             subscriptions: Vec::new(alloc),
             joins: Vec::new(alloc),
-            regions: Vec::new(alloc),
+            regions: Regions::new(alloc),
         })
     }
 
@@ -92,7 +97,7 @@ impl<O: Ops> Graph<O> {
         ensures missed { OnOk result ((state_of self.new).joins ≡ (state_of self.old).joins ++ new_joins self.old.hubs.items expr.now ∷ []) }
         ensures feeds { self.new.feeds.items ≡ self.old.feeds.items }
         ensures feed_joins { self.new.feed_joins.items ≡ self.old.feed_joins.items }
-        ensures placed { OnOk result (self.new.regions.items ≡ self.old.regions.items ++ region_of expr.now ∷ []) }
+        ensures placed { OnOk result ((state_of self.new).regions ≡ with_regions expr.now (state_of self.old).regions) }
         ensures id { IfOk result (λ id. IsSubscribeId (length self.old.hubs.items) (length self.old.subscriptions.items) expr.now id) }
         ensures places { OnOk result (have_places 0 expr.now self.old.hubs.items ≡ true) }
         ensures err { IfErr result (λ r. IsSubscribeRefusal expr.now self.old.hubs.items (length self.old.subscriptions.items) r) }
@@ -137,8 +142,31 @@ impl<O: Ops> Graph<O> {
         cancel(&mut self.subscriptions, sub)
     }
 
-    /// Requests `n` items more, at most 2^63-1 in all (rules 3.8, 3.9 and 3.17). The signal is the error of a bad request,
-    /// which closes the subscription. Where the subscription isn't open, nothing happens. It takes no memory.
+    /// Requests so many items more, one at least, at most 2^63-1 in all (rules 3.8 and 3.17). Where the subscription isn't open,
+    /// nothing happens. It takes no memory.
+    ///
+    /// It is [`Graph::request`] of a number that can't be a bad request, so its answer has no error of one that might be overlooked.
+    ///
+    /// # Errors
+    /// G2 exactly where there is no such subscription; nothing changed.
+    pub fn request_items(&mut self, sub: SubId, items: u64) -> Result<(), Refusal>
+        requires some { 0 < items }
+        ensures ops { self.new.ops ≡ self.old.ops }
+        ensures aside { IsAsideSame (state_of self.old) (state_of self.new) }
+        ensures stands { OnOk result (StandsAfter (with_past (requested (pos (min items UNBOUNDED))) sub) self.old self.new) }
+        ensures err { IfErr result (λ r. (r ≡ Refusal.UnknownSub) × (length self.old.subscriptions.items ≤ sub.0)) }
+        ensures same { OnErr result (state_of self.new ≡ state_of self.old) }
+    {
+        let n = items.min(UNBOUNDED) as i64;
+        match self.request(sub, n) {
+            Ok(_) => Ok(()),
+            Err(why) => Err(why),
+        }
+    }
+
+    /// Requests `n` items more, at most 2^63-1 in all (rules 3.8, 3.9 and 3.17). The signal is the error of a bad request, one of 0
+    /// items or fewer, which closes the subscription: look at it, or call [`Graph::request_items`], which has none. Where the
+    /// subscription isn't open, nothing happens. It takes no memory.
     ///
     /// # Errors
     /// G2 exactly where there is no such subscription; nothing changed.
@@ -296,13 +324,13 @@ impl<O: Ops> Graph<O> {
     /// G2 exactly where there is no such subscription.
     pub fn region(&self, sub: SubId) -> Result<u8, Refusal>
         ensures region { IfOk result (λ r. IfStandsFor self.now (λ h. HasRegion h.pasts sub.0 r)) }
-        ensures err { IfErr result (λ r. (r ≡ Refusal.UnknownSub) × (length self.now.regions.items ≤ sub.0)) }
+        ensures err { IfErr result (λ r. (r ≡ Refusal.UnknownSub) × (length self.now.regions.roots.items ≤ sub.0)) }
     {
         let at = sub.0 as usize;
-        if at >= self.regions.len() {
+        if at >= self.regions.roots.len() {
             return Err(Refusal::UnknownSub);
         }
-        let region = &self.regions[at];
+        let region = &self.regions.roots[at];
         Ok(*region)
     }
 
@@ -416,5 +444,18 @@ impl<O: Ops> Graph<O> {
             answers.push_reserved(answer);
         }
         Ok(answers)
+    }
+}
+
+/// How many hubs, feeds and subscriptions there are, without what is in them.
+impl<O: Ops> fmt::Debug for Graph<O> {
+    fn fmt<W: fmt::Write>(&self, f: &mut fmt::Formatter<W>) -> fmt::Result {
+        let hubs = self.hubs.len();
+        let feeds = self.feeds.len();
+        let subscriptions = self.subscriptions.len();
+        write!(
+            f,
+            "Graph {{ hubs: {hubs}, feeds: {feeds}, subscriptions: {subscriptions} }}"
+        )
     }
 }

@@ -19,6 +19,7 @@ impl<O: Ops> Graph<O> {
     ghost use Rattle.rsx_graph_state.specs.Answers.{IsHubRefusal};
     ghost use Rattle.rsx_graph_state.specs.Hubs.{IsEmittedAt, IsEndedAt};
     ghost use Rattle.rsx_graph_calls.specs.Edits.{IsFedHubRefusal, fault_of, with_fed_hub, with_hub};
+    ghost use Rattle.rsx_graph_calls.specs.Regions.{with_fed_regions};
     ghost use Rattle.rsx_graph_calls.specs.Publishes.{IsCopyRefusal, IsEmitRefusal, IsEndRefusal, has_emitter, with_published};
     ghost use Rattle.rsx_graph.specs.InGraph.{StandsAfter, state_of};
     ghost use Rattle.rsx_graph.specs.Stands.{IsRestSame};
@@ -64,7 +65,7 @@ impl<O: Ops> Graph<O> {
         ensures missed { OnOk result ((state_of self.new).feed_joins ≡ (state_of self.old).feed_joins ++ new_joins self.old.hubs.items expr.now ∷ []) }
         ensures subscriptions { self.new.subscriptions.items ≡ self.old.subscriptions.items }
         ensures joins { self.new.joins.items ≡ self.old.joins.items }
-        ensures regions { self.new.regions.items ≡ self.old.regions.items }
+        ensures placed { OnOk result ((state_of self.new).regions ≡ with_fed_regions expr.now (state_of self.old).regions) }
         ensures id { IfOk result (λ id. (id.0 ≡ length self.old.hubs.items) × (fault_of kind capacity (length self.old.hubs.items) expr.now ≡ None) × (length self.old.hubs.items < MOST_HUBS)) }
         ensures err { IfErr result (λ r. IsFedHubRefusal kind capacity expr.now self.old.hubs.items r) }
         ensures same { OnErr result (state_of self.new ≡ state_of self.old) }
@@ -82,6 +83,7 @@ impl<O: Ops> Graph<O> {
             &mut self.hubs,
             &mut self.feeds,
             &mut self.feed_joins,
+            &mut self.regions,
             kind,
             capacity,
             expr,

@@ -4,7 +4,7 @@ use rsx_model::Expr;
 use rsx_types::{HubId, HubKind, Move, SubId};
 
 /// One edit or one move.
-#[derive(Drop)]
+#[derive(Debug, Drop)]
 pub enum Step<T> {
     /// A hub with an emitter, of this kind and capacity, is made.
     Hub(HubKind, u64),

@@ -2,7 +2,7 @@
 
 use anyhow::{Result, bail};
 use rsx_demo::{Demo, Val};
-use rsx_graph_calls::{admit, cancel, emit, owed, request, subscribe};
+use rsx_graph_calls::{Regions, admit, cancel, emit, owed, request, subscribe};
 use rsx_graph_moves::{make, pump};
 use rsx_graph_state::{Feed, MOST_HUBS, MOST_SUBSCRIPTIONS};
 use rsx_hub::Hub;
@@ -38,7 +38,7 @@ pub struct Rows<N> {
     feeds: Vec<Feed<N>>,
     subscriptions: Vec<Subscription<N, Val>>,
     joins: Vec<Vec<u64>>,
-    regions: Vec<u8>,
+    regions: Regions,
 }
 
 impl<N: Nodes<Item = Val> + Drop> Rows<N> {
@@ -49,7 +49,7 @@ impl<N: Nodes<Item = Val> + Drop> Rows<N> {
             feeds: Vec::new(alloc),
             subscriptions: Vec::new(alloc),
             joins: Vec::new(alloc),
-            regions: Vec::new(alloc),
+            regions: Regions::new(alloc),
         }
     }
 

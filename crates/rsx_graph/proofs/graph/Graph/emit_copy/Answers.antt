@@ -1,4 +1,5 @@
 use Rattle.std.proofs.Common.{map}
+use Rattle.rsx_graph_calls.specs.Regions.{regions_of}
 use Rattle.rsx_graph.proofs.Kept.{emitted_graph, on_both, on_err, state_with}
 use Rattle.rsx_graph.specs.InGraph.{state_of}
 use Rattle.rsx_graph.proofs.graph.Graph.emit_copy.Goals as goal
@@ -13,4 +14,4 @@ pub returns-clause-same : goal.returns-clause-same
 returns-clause-same g c =
     let graph = c.args.self.now in
     on_err c.emit_copy.result c.emit_copy.ensures.same
-    (λ same i. state_with (same i) graph.feeds.items graph.subscriptions.items (map (λ v. v.items) graph.joins.items) (map (λ v. v.items) graph.feed_joins.items) graph.regions.items)
+    (λ same i. state_with (same i) graph.feeds.items graph.subscriptions.items (map (λ v. v.items) graph.joins.items) (map (λ v. v.items) graph.feed_joins.items) (regions_of graph.regions))

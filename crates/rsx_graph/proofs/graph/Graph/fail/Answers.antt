@@ -1,4 +1,5 @@
 use Rattle.std.proofs.Common.{map, refl}
+use Rattle.rsx_graph_calls.specs.Regions.{regions_of}
 use Rattle.rsx_graph.proofs.Kept.{ended_graph, on_both, on_err, state_with}
 use Rattle.rsx_graph.specs.InGraph.{state_of}
 use Rattle.rsx_sources.specs.Prelude.{User, Error, Failed}
@@ -14,4 +15,4 @@ pub returns-clause-same : goal.returns-clause-same
 returns-clause-same g c =
     let graph = c.args.self.now in
     on_err c.fail.result c.fail.ensures.same
-    (λ same i. state_with (same i) graph.feeds.items graph.subscriptions.items (map (λ v. v.items) graph.joins.items) (map (λ v. v.items) graph.feed_joins.items) graph.regions.items)
+    (λ same i. state_with (same i) graph.feeds.items graph.subscriptions.items (map (λ v. v.items) graph.joins.items) (map (λ v. v.items) graph.feed_joins.items) (regions_of graph.regions))

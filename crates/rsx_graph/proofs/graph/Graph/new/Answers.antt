@@ -1,6 +1,8 @@
 use Rattle.rsx_graph.specs.Kinds.{Feed}
 use Rattle.std.proofs.Common.{length, map, List, ap, sym, ◌∙◌, subst, arith}
+use Rattle.std.proofs.lemmas.List.{length-map}
 use Rattle.rsx_graph_calls.specs.Edits.{NameHubs}
+use Rattle.rsx_graph_calls.specs.Regions.{RegionLists}
 use Rattle.rsx_graph.proofs.Kept.{begun_from, state_with}
 use Rattle.rsx_graph.proofs.graph.Graph.new.Goals as goal
 
@@ -14,12 +16,15 @@ invariant_of-result g c =
       few_hubs = omega (arith, hubs);
       named = subst P (sym c.new-2.ensures.items) tt;
       beside = ap length c.new-3.ensures.items ∙ sym (ap length c.new-2.ensures.items);
+      sent = sym (length-map c.new-6.result.feed_senders.items (λ v. v.items)) ∙ (ap (λ (r : RegionLists). length r.feed_senders) c.new-6.ensures ∙ sym (ap length c.new-2.ensures.items));
+      joined = ap length c.new-5.ensures.items ∙ sym (ap length c.new-4.ensures.items);
+      rooted = ap (λ (r : RegionLists). length r.roots) c.new-6.ensures ∙ sym (ap length c.new-4.ensures.items);
     }
 
 pub returns-clause-empty : goal.returns-clause-empty
-returns-clause-empty g c = λ i. state_with (c.new.ensures.items i) (c.new-2.ensures.items i) (c.new-4.ensures.items i) (map (λ v. v.items) (c.new-5.ensures.items i)) (map (λ v. v.items) (c.new-3.ensures.items i)) (c.new-6.ensures.items i)
+returns-clause-empty g c = λ i. state_with (c.new.ensures.items i) (c.new-2.ensures.items i) (c.new-4.ensures.items i) (map (λ v. v.items) (c.new-5.ensures.items i)) (map (λ v. v.items) (c.new-3.ensures.items i)) (c.new-6.ensures i)
 
 pub returns-clause-stands : goal.returns-clause-stands
 returns-clause-stands g c =
     begun_from (g.O.Ops.meaning c.args.ops) _
-    (λ i. state_with (c.new.ensures.items i) (c.new-2.ensures.items i) (c.new-4.ensures.items i) (map (λ v. v.items) (c.new-5.ensures.items i)) (map (λ v. v.items) (c.new-3.ensures.items i)) (c.new-6.ensures.items i))
+    (λ i. state_with (c.new.ensures.items i) (c.new-2.ensures.items i) (c.new-4.ensures.items i) (map (λ v. v.items) (c.new-5.ensures.items i)) (map (λ v. v.items) (c.new-3.ensures.items i)) (c.new-6.ensures i))

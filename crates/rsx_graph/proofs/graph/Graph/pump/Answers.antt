@@ -4,6 +4,15 @@ use Rattle.rsx_graph.proofs.Kept.{graph_pumped, idle_read, idle_served, names_pu
 use Rattle.rsx_graph.specs.InGraph.{state_of}
 use Rattle.rsx_graph.proofs.graph.Graph.pump.Goals as goal
 
+pub invariant_of-self-clause-sent : goal.invariant_of-self-clause-sent
+invariant_of-self-clause-sent g c = c.args.self.now.sent ∙ sym c.pump.ensures.feeds
+
+pub invariant_of-self-clause-joined : goal.invariant_of-self-clause-joined
+invariant_of-self-clause-joined g c = c.args.self.now.joined ∙ sym c.pump.ensures.subscriptions
+
+pub invariant_of-self-clause-rooted : goal.invariant_of-self-clause-rooted
+invariant_of-self-clause-rooted g c = c.args.self.now.rooted ∙ sym c.pump.ensures.subscriptions
+
 pub invariant_of-self-clause-named : goal.invariant_of-self-clause-named
 invariant_of-self-clause-named g c = names_pumped (g.O.Ops.meaning c.args.self.now.ops) c.args.budget (state_of c.args.self.now).rows (rows_of c.pump.new.hubs.items c.pump.new.feeds.items c.pump.new.subscriptions.items) c.args.out.now c.pump.new.out c.pump.result c.pump.ensures.pumped c.pump.ensures.hubs c.args.self.now.named
 

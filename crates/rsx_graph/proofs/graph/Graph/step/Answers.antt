@@ -135,7 +135,7 @@ returns-in-Err-feed_hub-clause-belongs g c = λ h s.
     rw c.in-FeedHub.is (new_feed_refused c.in-FeedHub.kind c.in-FeedHub.capacity _ c.args.self.now.hubs.items (length h.hubs) c.in-Err-feed_hub.why s.rows.many c.in-Err-feed_hub.ensures.err)
 
 pub returns-in-Ok-feed_hub-clause-done : goal.returns-in-Ok-feed_hub-clause-done
-returns-in-Ok-feed_hub-clause-done g c = let k = c.in-Ok-feed_hub.ensures in rw c.in-FeedHub.is (k.id.0, k.id.1, k.id.2, k.effect, c.feed_hub.ensures.subscriptions, ap (map (λ v. v.items)) c.feed_hub.ensures.joins, k.missed, c.feed_hub.ensures.regions)
+returns-in-Ok-feed_hub-clause-done g c = let k = c.in-Ok-feed_hub.ensures in rw c.in-FeedHub.is (k.id.0, k.id.1, k.id.2, k.effect, c.feed_hub.ensures.subscriptions, ap (map (λ v. v.items)) c.feed_hub.ensures.joins, k.missed, k.placed)
 
 pub returns-in-Err-feed_hub-clause-done : goal.returns-in-Err-feed_hub-clause-done
 returns-in-Err-feed_hub-clause-done g c = let k = c.in-Err-feed_hub.ensures in rw c.in-FeedHub.is (k.err, k.same)

@@ -1,15 +1,6 @@
-use Rattle.std.proofs.Common.{◌<◌, length, map, rules}
-use Rattle.rsx_graph_state.specs.declared.TheConstants.{MOST_SUBSCRIPTIONS}
-use Rattle.rsx_graph.proofs.Kept.{few_subscribed, names_on, state_with}
+use Rattle.std.proofs.Common.{length, map}
+use Rattle.rsx_graph.proofs.Kept.{names_on, state_with}
 use Rattle.rsx_graph.proofs.graph.Graph.subscribe.Goals as goal
-
-pub invariant_of-self-2-clause-few : goal.invariant_of-self-2-clause-few
-invariant_of-self-2-clause-few g c =
-    let fewer : length c.args.self.now.subscriptions.items < MOST_SUBSCRIPTIONS = search rules in
-    few_subscribed c.subscribe.result c.args.expr.now c.args.self.now.subscriptions.items c.subscribe.new.subscriptions.items
-    c.args.self.now.hubs.items c.subscribe.new.hubs.items c.args.self.now.joins.items c.subscribe.new.joins.items c.args.self.now.regions.items c.subscribe.new.regions.items
-    (λ k. k (g.O.Ops.meaning c.args.self.now.ops) (rw c.deref.ensures.value at c.in-Ok.ensures.built) c.in-Ok.ensures.placed)
-    c.subscribe.ensures.effect c.subscribe.ensures.same fewer
 
 pub invariant_of-self-2-clause-named : goal.invariant_of-self-2-clause-named
 invariant_of-self-2-clause-named g c = names_on (length c.args.self.now.hubs.items) (length c.subscribe.new.hubs.items) c.args.self.now.feeds.items c.subscribe.ensures.hubs c.args.self.now.named
@@ -20,7 +11,7 @@ returns-in-Ok-subscribe-clause-stands g c = λ h s.
     record {
       rows = c.in-Ok-subscribe.ensures.stands m c.args.self.now.feeds.items h (rw c.deref.ensures.value at c.in-Ok.ensures.built) s.rows;
       joined = c.in-Ok-subscribe.ensures.joins m c.args.self.now.feeds.items (map (λ v. v.items) c.args.self.now.feed_joins.items) h s.rows s.joined;
-      placed = c.in-Ok-subscribe.ensures.regions h s.placed;
+      placed = c.in-Ok-subscribe.ensures.regions c.args.self.now.feeds.items h s.placed;
     }
 
 pub returns-in-Ok-subscribe-clause-effect : goal.returns-in-Ok-subscribe-clause-effect
@@ -29,6 +20,9 @@ returns-in-Ok-subscribe-clause-effect g c =
 
 pub returns-in-Ok-subscribe-clause-missed : goal.returns-in-Ok-subscribe-clause-missed
 returns-in-Ok-subscribe-clause-missed g c = c.in-Ok-subscribe.ensures.missed
+
+pub returns-in-Ok-subscribe-clause-placed : goal.returns-in-Ok-subscribe-clause-placed
+returns-in-Ok-subscribe-clause-placed g c = c.in-Ok-subscribe.ensures.placed
 
 pub returns-in-Err-subscribe-clause-same : goal.returns-in-Err-subscribe-clause-same
 returns-in-Err-subscribe-clause-same g c =

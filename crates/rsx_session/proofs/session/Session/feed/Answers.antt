@@ -15,5 +15,5 @@ returns-in_err-hub-clause-leads c =
 pub returns-clause-leads : goal.returns-clause-leads
 returns-clause-leads c = λ h k.
     let ok = c.in_ok-hub.ensures in
-    made (step.FeedHub c.args.kind c.args.capacity c.args.expr) (did.Opened c.in_ok-hub.hub) c.args.self.now _ h k (ok.stands h k.graph) (ok.id.0, ok.id.1, ok.id.2, ok.effect, ok.subscriptions, ap (map (λ v. v.items)) ok.joins, ok.missed, ok.regions) (λ bad. cc)
+    made (step.FeedHub c.args.kind c.args.capacity c.args.expr) (did.Opened c.in_ok-hub.hub) c.args.self.now _ h k (ok.stands h k.graph) (ok.id.0, ok.id.1, ok.id.2, ok.effect, ok.subscriptions, ap (map (λ v. v.items)) ok.joins, ok.missed, ok.placed) (λ bad. cc)
     (feed_published c.args.kind c.args.expr h _ _ c.push_reserved.ensures.items (c.reserve.ensures.items ∙ k.published)) k.records refl refl

@@ -1,0 +1,14 @@
+use Rattle.std.proofs.Common.{refl}
+use Rattle.rsx_graph.proofs.graph.Graph.take_apart.Goals as goal
+
+pub returns-clause-pieces : goal.returns-clause-pieces
+returns-clause-pieces g c = record { ops = refl; hubs = refl; feeds = refl; feed_joins = refl; subs = refl; joins = refl; regions = refl }
+
+pub returns-clause-state : goal.returns-clause-state
+returns-clause-state g c = refl
+
+pub returns-clause-stands : goal.returns-clause-stands
+returns-clause-stands g c = λ h s. s
+
+pub returns-clause-only : goal.returns-clause-only
+returns-clause-only g c = λ h s. s
