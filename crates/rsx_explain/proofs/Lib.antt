@@ -1,0 +1,3 @@
+-- Lemmas.
+pub mod Idle
+pub mod Leaves
