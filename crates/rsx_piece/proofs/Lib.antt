@@ -1,0 +1,11 @@
+pub mod Asks
+pub mod Comes
+pub mod Edges
+pub mod Growth
+pub mod Handing
+pub mod Inlets
+pub mod Joinings
+pub mod Looks
+pub mod Openings
+pub mod Pieces
+pub mod Serves

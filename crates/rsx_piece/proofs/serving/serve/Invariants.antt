@@ -1,0 +1,20 @@
+use Rattle.std.proofs.Common.{List}
+use Rattle.rsx_types.specs.Stream.{Stream}
+use Rattle.rsx_types.specs.declared.signal.Signal.{Signal}
+use Rattle.rsx_tree.specs.declared.node.Node.{Node}
+use Rattle.rsx_link.specs.Ends.{SameUp}
+use Rattle.rsx_piece.specs.Inlet.{InletStands}
+use Rattle.rsx_piece.specs.Moves.{IsServed}
+use Rattle.rsx_piece.specs.Piece.{IsInStep, PieceStands}
+use Rattle.rsx_piece.specs.declared.inlet.Inlet.{Inlet}
+use Rattle.rsx_piece.proofs.serving.serve.Given as goal
+
+abbrev pub invariant-loop-made : goal.invariant-loop-made
+invariant-loop-made g l =
+    let m = g.O.Ops.meaning l.ops in record {
+      end : SameUp l.link l.fn.up l.up;
+      step : IsInStep l.part l.up;
+      served : IsServed g.N.Machine m l.made l.fn.part l.fn.up l.part l.up;
+      stands : (taken : List (Stream g.row.O-Item.Denot)) (old : Node g.row.N.Denot) (queued : List (Signal g.row.O-Item.Denot)) → PieceStands g.N.Machine m taken old queued l.fn.part l.fn.up → PieceStands g.N.Machine m taken old queued l.part l.up;
+      inlets : (taken : List (Stream g.row.O-Item.Denot)) (i : Inlet g.row.O-Item.Denot) → InletStands g.N.Machine taken l.fn.part i → InletStands g.N.Machine taken l.part i;
+    }

@@ -1,0 +1,28 @@
+-- Two pieces with a link between them, joined again.
+use Rattle.std.specs.Prelude.{◌≡◌, ℕ, true, List, [], ◌++◌, length, map, Some}
+use Rattle.rsx_sources.specs.Prelude.{Meaning, Next, Signal, Stream}
+use Rattle.rsx_sources.specs.declared.machine.Machine.{Ghosts as Machine}
+use Rattle.rsx_rooted.specs.declared.nodes.CrossingNodes.{Ghosts as CrossingNodes}
+use Rattle.rsx_rooted.specs.declared.nodes.Nodes.{Ghosts as Nodes}
+use Rattle.rsx_pipe.specs.Cutting.{IsCut, can_join, joined}
+use Rattle.rsx_pipe.specs.Joined.{HasReached}
+use Rattle.rsx_pipe.specs.Part.{Part}
+use Rattle.rsx_link.specs.Ends.{sent_signals}
+use Rattle.rsx_link.specs.declared.up.Up.{Up}
+use Rattle.rsx_cut.specs.Local.{ReadsNot}
+use Rattle.rsx_cut.specs.Regions.{Adds, Carries}
+use Rattle.rsx_piece.specs.Piece.{PieceStands}
+
+-- The part `old` was cut into two pieces, and both made any steps. Of what the lower one sent into the link, `taken` came to the reader,
+-- and the link holds `rest`. Where they are joined again, what came out of the whole part is what the upper one sent since, and then
+-- what comes out of the part that is joined.
+abbrev pub JoinsPieces : {M T : Type 0} → Machine M T → Nodes M T → CrossingNodes M T → Type 0
+JoinsPieces {M} {T} b nodes crossing =
+    (m : Meaning T) (old new upper below lower : Part M) (at k : ℕ) (reader : M) (queue rest taken : List T) (queued : List (Signal T)) (up between : Up T) (taken_above taken_below whole : List (Stream T)) →
+    IsCut nodes crossing old at reader below queue new → crossing.held reader ≡ Some [] → b.reads reader ≡ Some (record { hub = k; reached = 0 }) →
+    can_join b nodes crossing upper at k lower.tree.machine rest ≡ true → HasReached b upper at k (length taken) →
+    map Next taken ++ map Next rest ≡ sent_signals between →
+    ReadsNot b k old.tree → ReadsNot b k (joined crossing upper at lower rest).tree → ReadsNot b k below.tree →
+    Adds taken_above whole k (map Next taken) → Adds taken_below whole k [] →
+    PieceStands b m taken_above new.tree queued upper up → PieceStands b m taken_below below.tree (map Next queue) lower between →
+    (went : List (Signal T)) × (sent_signals up ≡ queued ++ went) × Carries b m whole old.tree (joined crossing upper at lower rest).tree went

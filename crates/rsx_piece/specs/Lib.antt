@@ -1,0 +1,5 @@
+-- Definitions that contracts cite.
+pub mod Inlet
+pub mod Joining
+pub mod Moves
+pub mod Piece

@@ -1,0 +1,67 @@
+-- A piece of a tree that was cut: a part whose root sends into a link, and whose nodes may read other links. What it stands for is said
+-- relative to its opening: what came out of it then is what went out since, and then what comes out now.
+use Rattle.std.specs.Prelude.{◌≡◌, ◌⊎◌, min, true, List, [], ◌∷◌, ◌++◌}
+use Rattle.rsx_demand.specs.declared.TheConstants.{UNBOUNDED}
+use Rattle.rsx_sources.specs.Prelude.{Meaning, Stream, Signal, ends_input}
+use Rattle.rsx_sources.specs.declared.machine.Machine.{Ghosts as Machine}
+use Rattle.rsx_tree.specs.declared.edge.EdgeState.TheVariants.{Live, Closed, Ended}
+use Rattle.rsx_tree.specs.declared.node.Node.{Node}
+use Rattle.rsx_tree.specs.Reads.{AllGoOn, IsTreeReadAt, readings}
+use Rattle.rsx_pipe.specs.Feeding.{IsSentOut}
+use Rattle.rsx_pipe.specs.Output.{IsUnended, counts_in}
+use Rattle.rsx_pipe.specs.Part.{Part}
+use Rattle.rsx_pipe.specs.Tree.{IsAllClosed, IsBalanced}
+use Rattle.rsx_link.specs.Ends.{items_sent, seen_total, sent_signals, up_steps}
+use Rattle.rsx_link.specs.Steps.{flags_of, has_cancel, has_refusal}
+use Rattle.rsx_link.specs.declared.up.Up.{Up}
+use Rattle.rsx_cut.specs.Regions.{Carries}
+
+-- the root edge of a part and the sending end of its link count alike
+pub record IsInStep {M T : Type 0} (part : Part M) (up : Up T) : Type 0 where
+  -- of an edge no more can be asked than 2^63 - 1
+  pub asked : part.root.demand.asked ≡ min UNBOUNDED (seen_total up)
+  pub sent : part.root.demand.sent ≡ items_sent up
+
+-- What a part is whose root edge is live. It gave `out` and no ending since its tree was `old`, where `taken` is what the hubs took in
+-- and what came over links, each from the opening on.
+pub record GoesOn {M T : Type 0} (b : Machine M T) (taken : List (Stream T)) (part : Part M) (out : List (Signal T)) : Type 0 where
+  pub unended : IsUnended out
+  pub balance : IsBalanced b part.tree part.root.demand.sent
+  pub reads : IsTreeReadAt b (counts_in taken) part.tree
+
+-- The last signal that it gave was an ending. The part as it was before that comes back where the signal is put back.
+pub record HasEnded {M T : Type 0} (b : Machine M T) (m : Meaning T) (taken : List (Stream T)) (old : Node M) (part : Part M) (out : List (Signal T)) : Type 0 where
+  pub before : Part M
+  pub rest : List (Signal T)
+  pub last : Signal T
+  pub all : out ≡ rest ++ last ∷ []
+  pub ends : ends_input last ≡ true
+  pub sent : IsSentOut b m before last part
+  pub live : before.root.state ≡ Live
+  pub on : GoesOn b taken before rest
+  pub flow : Carries b m taken old before.tree rest
+
+-- it was closed, because a flag of the link was seen
+pub record WasClosed {M T : Type 0} (part : Part M) (up : Up T) (out : List (Signal T)) : Type 0 where
+  pub unended : IsUnended out
+  pub edges : IsAllClosed part.tree
+  pub flag : (has_cancel (flags_of (up_steps up)) ≡ true) ⊎ (has_refusal (flags_of (up_steps up)) ≡ true)
+
+-- The equation of a piece. What was sent into its link is `queued`, which the queue of the cut edge held, and then what came out since
+-- its tree was `old`.
+pub record PieceStands {M T : Type 0} (b : Machine M T) (m : Meaning T) (taken : List (Stream T)) (old : Node M) (queued : List (Signal T)) (part : Part M) (up : Up T) : Type 0 where
+  pub out : List (Signal T)
+  pub sent : sent_signals up ≡ queued ++ out
+  pub flow : Carries b m taken old part.tree out
+  pub step : IsInStep part up
+  -- each node, behind an edge that isn't live, too, reads what it read, or nothing any more
+  pub reading : AllGoOn (readings b old) (readings b part.tree)
+  pub live : part.root.state ≡ Live → GoesOn b taken part out
+  pub ended : part.root.state ≡ Ended → HasEnded b m taken old part out
+  pub closed : part.root.state ≡ Closed → WasClosed part up out
+
+-- Such a part with such an end stands for what a piece stands for, since its tree is what it is.
+abbrev pub Opens : {M T : Type 0} → Machine M T → Type 0
+Opens {M} {T} b =
+    (m : Meaning T) (taken : List (Stream T)) (part : Part M) (up : Up T) → part.root.state ≡ Live → IsInStep part up → IsBalanced b part.tree part.root.demand.sent → IsTreeReadAt b (counts_in taken) part.tree →
+    PieceStands b m taken part.tree (sent_signals up) part up
