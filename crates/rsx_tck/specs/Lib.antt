@@ -5,3 +5,5 @@ pub mod Passes
 pub mod Laws
 pub mod Verdicts
 pub mod Report
+pub mod Purpose
+pub mod Explained

@@ -3,7 +3,8 @@
 //!
 //! A trace is a list of [`Stamped`] events, in the order in which they happened. Positions count from 0.
 //! [`parse_trace`] reads one from a text of either format, and [`print_trace`] writes one as text. [`judge`] says of one
-//! rule whether a trace keeps it, and [`report`] of all 43, which [`print_report`] writes as text.
+//! rule whether a trace keeps it, and [`report`] of all 43, which [`print_report`] writes as text, and [`print_explained`] with
+//! the event at which a rule is broken and the rule's sentence.
 //!
 //! Each rule that is judged is a [`pass`]: a state that goes over the events of one subscriber. [`flags`] has the passes
 //! that remember whether an event of some kind has stood, [`counts`] those that count items and requests, [`answers`]
@@ -12,14 +13,17 @@
 mod answers;
 mod both;
 mod counts;
+mod explain;
 mod flags;
 mod pass;
 mod print;
 mod reports;
 mod rule;
 mod running;
+mod sentence;
 mod workers;
 
+pub use explain::{Summary, print_explained};
 pub use print::print_report;
 pub use reports::{judge, report};
 pub use rsx_trace::{Event, Stamped, TraceRefusal, parse_trace, print_trace};
