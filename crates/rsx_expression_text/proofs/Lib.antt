@@ -1,0 +1,6 @@
+-- Lemmas of this crate.
+pub mod Back
+pub mod Put
+pub mod Shown
+pub mod Steps
+pub mod Words
