@@ -1,7 +1,9 @@
 #!/usr/bin/env bash
 # Runs each example and compares what it writes and how it ends with what is stored: its answers in NAME.answers, by
 # `rsx scratch` in NAME.scratch where that file is there, and in NAME.fault the line on standard error of an example that
-# ends with status 1. A trace NAME.trace has its report, by `rsx tck`, in NAME.report. Then it looks at what the launcher hands through.
+# ends with status 1, and in NAME.hint the line that `--explain` adds there. A trace NAME.trace has its report, by `rsx tck`, in
+# NAME.report, and by `rsx tck --explain` in NAME.explained where that file is there. Then it looks at what the launcher hands
+# through.
 set -uo pipefail
 
 here=$(cd "$(dirname "$(readlink -f "${BASH_SOURCE[0]}")")" && pwd)
@@ -44,6 +46,40 @@ is_row() {
     [[ $(<"$here/../crates/test_scripts/stdout") == *"$(echo "$2" && cat "$1" && echo answers && cat "$3" "$fault")"* ]]
 }
 
+# Whether a script that can't be read ends so where lines are explained: one line more on standard error.
+explains() {
+    ends_with 1 run --explain <"$1" && diff "$room/written" "${1%.rsx}.answers" &&
+        diff "$room/said" <(cat "${1%.rsx}.fault" "${1%.rsx}.hint")
+}
+
+# Whether a trace has this report, in which broken rules are explained.
+is_explained() {
+    ends_with 0 tck --explain <"$1" && diff "$room/written" "$2" && diff "$room/said" /dev/null
+}
+
+# Whether a script writes the same answers where it is recorded, and the judge finds no broken rule in the trace.
+is_recorded() {
+    local status=1
+    [[ -f ${1%.rsx}.fault ]] || status=0
+    ends_with "$status" run --trace "$room/trace" <"$1" && diff "$room/written" "${1%.rsx}.answers" &&
+        ends_with 0 tck <"$room/trace" && (($(wc -l <"$room/written") == 43)) && ! grep broken "$room/written"
+}
+
+# Whether a run whose trace can't be written ends as one whose answers can't.
+full_trace() {
+    ends_with 3 run --trace /dev/full <"$here/first.rsx" && diff "$room/said" <(echo 'rsx: read or write fault')
+}
+
+# Whether the sentences of the rules, of which there are 43, are those of the table in CONFORMANCE.
+same_sentences() {
+    local sentence count=0
+    while read -r sentence; do
+        grep -qF "| $sentence |" "$here/../docs/CONFORMANCE.md" || return
+        ((count += 1))
+    done < <(grep -oE '"[^"]+\."' "$here/../crates/rsx_tck/src/sentence.rt" | tr -d '"')
+    ((count == 43))
+}
+
 # Whether the program ends for want of memory where it may have 32 MiB, and has written what it had answered by then.
 ends_without_memory() (
     ulimit -v 32768
@@ -76,6 +112,7 @@ for script in "$here"/*.rsx; do
     name=$(basename "$script" .rsx)
     expect "$name" answers "$script" run "${script%.rsx}.answers"
     expect "$name among the rows" is_row "$script" run "${script%.rsx}.answers"
+    expect "$name, recorded" is_recorded "$script"
     if [[ -f ${script%.rsx}.scratch ]]; then
         expect "$name by scratch" answers "$script" scratch "${script%.rsx}.scratch"
         expect "$name by scratch among the rows" is_row "$script" scratch "${script%.rsx}.scratch"
@@ -85,7 +122,12 @@ for trace in "$here"/*.trace; do
     name=$(basename "$trace" .trace)
     expect "$name" answers "$trace" tck "${trace%.trace}.report"
     expect "$name among the rows" is_row "$trace" tck "${trace%.trace}.report"
+    if [[ -f ${trace%.trace}.explained ]]; then
+        expect "$name, explained" is_explained "$trace" "${trace%.trace}.explained"
+    fi
 done
+expect 'a line that is explained' explains "$here/unreadable.rsx"
+expect 'the sentences of the rules' same_sentences
 expect 'a command line without a mode' ends_with 2 </dev/null
 expect 'a command line that asks for help' ends_with 2 --help </dev/null
 expect 'an argument that is no text' ends_with 2 run $'\xff' </dev/null
@@ -94,6 +136,8 @@ expect 'a trace that is cut off' ends_with 1 tck <<<$'trace 1\nsubscribe 0'
 expect 'a trace of bytes that are no text' ends_with 1 tck <<<$'trace 1\nnext \xff\nend'
 expect 'a closed output' closed_output
 expect 'a full device' full_device
+expect 'a trace on a full device' full_trace
+expect 'a trace in no folder' ends_with 3 run --trace "$room/none/trace" </dev/null
 expect 'want of memory' ends_without_memory
 ln -s "$rsx" "$room/linked"
 expect 'a trial' trial

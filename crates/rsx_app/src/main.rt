@@ -3,16 +3,21 @@
 //!
 //! `rsx run` reads standard input, one command a line, and writes one answer for each to standard output. `rsx scratch`
 //! does the same, but shows a subscription by the value of its expression, evaluated from scratch. `rsx tck` reads
-//! expressions and traces, one after the other, and writes what each says of the rules, a line for each of the 43. Exit status
+//! expressions and traces, one after the other, and writes what each says of the rules, a line for each of the 43. With
+//! `--explain` it writes how many are held and broken, and explains those that are broken; each of the three then says what was
+//! expected in a line that can't be read. `rsx run --trace FILE` writes what happened to the subscriptions to a file. Exit status
 //! 0 where the input ended; 1 after a line that can't be read; 2 after a command line that is wrong or that asked for help; 3
 //! after a read or a write that failed; 4 where memory was wanted.
 
 use clap::error::ErrorKind;
-use rsx_drive::{drive, mode_of};
-use rsx_script::AppFault;
+use rsx_drive::{CommandLine, Style, command_line_of, drive, judge_input};
+use rsx_hints::{Reads, Remembering, hint};
+use rsx_recorder::Recording;
+use rsx_script::{AppFault, LineRefusal, Mode};
+use std::io::{IsTerminal, Read, Write};
 use std::process::ExitCode;
-use std::rt::Env;
-use std::{env, io};
+use std::rt::{Env, Files};
+use std::{env, fs, io};
 
 /// The exit status after a command line that was refused or that asked for help.
 const USAGE: u8 = 2;
@@ -27,10 +32,14 @@ fn words_of(rt: &(impl Env + AllocGlobal)) -> io::Result<Vec<String>> {
 }
 
 /// Runs the program, and answers with its exit status. What `clap` says goes to standard error, help too.
-fn run(rt: &(impl Input + Print + Eprint + AllocGlobal), words: &[String]) -> u8 {
+fn run(
+    rt: &(impl Input + Print + Eprint + Files + AllocGlobal),
+    words: &[String],
+    is_terminal: bool,
+) -> u8 {
     let alloc = rt.alloc();
-    let mode = match mode_of(alloc, words) {
-        Ok(mode) => mode,
+    let line = match command_line_of(alloc, words) {
+        Ok(line) => line,
         Err(error) if error.kind() == ErrorKind::OutOfMemory => {
             return complain(rt, AppFault::Memory);
         }
@@ -39,9 +48,92 @@ fn run(rt: &(impl Input + Print + Eprint + AllocGlobal), words: &[String]) -> u8
             return USAGE;
         }
     };
-    match drive(alloc, mode, &mut rt.reader(), &mut io::writer(rt)) {
+    answer(rt, &line, is_terminal)
+}
+
+/// Answers standard input as the command line says, and answers with the exit status.
+fn answer(
+    rt: &(impl Input + Print + Eprint + Files + AllocGlobal),
+    line: &CommandLine<'_>,
+    is_terminal: bool,
+) -> u8 {
+    let mut reader = Remembering::new(rt.alloc(), rt.reader());
+    let ended = match line.trace {
+        Some(path) => run_traced(rt, path, &mut reader),
+        None => answer_from(rt, line, &mut reader),
+    };
+    match ended {
         Ok(()) => 0,
-        Err(fault) => complain(rt, fault),
+        Err(fault) => {
+            let status = complain(rt, fault);
+            if line.explain || is_terminal {
+                explain(rt, line.mode, &reader, fault);
+            }
+            status
+        }
+    }
+}
+
+/// Answers what the reader gives.
+fn answer_from<R: Read>(
+    rt: &(impl Print + AllocGlobal),
+    line: &CommandLine<'_>,
+    reader: &mut R,
+) -> Result<(), AppFault> {
+    let alloc = rt.alloc();
+    let mut writer = io::writer(rt);
+    match line.mode {
+        Mode::Tck if line.explain => judge_input(alloc, Style::Explained, reader, &mut writer),
+        mode => drive(alloc, mode, reader, &mut writer),
+    }
+}
+
+/// Answers the script that the reader gives, and writes what happened to its subscriptions to a file, however the run ended. The
+/// file is made before the script is read. A fault of the run goes before one of the file.
+fn run_traced<R: Read>(
+    rt: &(impl Print + Files + AllocGlobal),
+    path: &str,
+    reader: &mut R,
+) -> Result<(), AppFault> {
+    let alloc = rt.alloc();
+    let Ok(mut file) = fs::create(rt, path) else {
+        return Err(AppFault::Io);
+    };
+    let mut recording = Recording::new(alloc, reader)?;
+    let ended = drive(alloc, Mode::Run, &mut recording, &mut io::writer(rt));
+    let trace = recording.trace()?;
+    match file.write_all(trace.as_bytes()) {
+        Ok(()) => ended,
+        Err(_) => match ended {
+            Ok(()) => Err(AppFault::Io),
+            Err(fault) => Err(fault),
+        },
+    }
+}
+
+/// Writes to standard error what was expected in the line that can't be read, where that is known.
+fn explain<R>(
+    rt: &(impl Eprint + AllocGlobal),
+    mode: Mode,
+    reader: &Remembering<R>,
+    fault: AppFault,
+) {
+    let (number, column) = match fault {
+        AppFault::Line(number, LineRefusal::Syntax(column)) => (number, column),
+        AppFault::Line(number, LineRefusal::UnknownName(column)) => (number, column),
+        _ => return,
+    };
+    let Some(bytes) = reader.line(number) else {
+        return;
+    };
+    let reads = match mode {
+        Mode::Run | Mode::Scratch => Reads::Command,
+        Mode::Tck => Reads::Judged,
+    };
+    if let Ok(text) = hint(rt.alloc(), reads, bytes, column) {
+        if !text.is_empty() {
+            let _ = eprintln!(rt; "rsx: expected there: {text}");
+        }
     }
 }
 
@@ -64,7 +156,7 @@ fn refuse(rt: &(impl Eprint + AllocGlobal), error: &io::Error) -> u8 {
 
 fn main(rt: HostRuntime) -> ExitCode {
     let status = match words_of(&rt) {
-        Ok(words) => run(&rt, &words),
+        Ok(words) => run(&rt, &words, rt.stderr().is_terminal()),
         Err(error) => refuse(&rt, &error),
     };
     ExitCode::from(status)

@@ -6,26 +6,34 @@ ghost use Rattle.std.specs.List.{position};
 ghost use Rattle.rsx_script.specs.Fault.{IsRunFault};
 ghost use Rattle.rsx_script.specs.Words.{is_written};
 ghost use Rattle.rsx_trace.specs.Texts.{lines};
-ghost use Rattle.rsx_tck.specs.Report.{IsReportText};
+ghost use Rattle.rsx_demand.specs.Demand.{saturating_total};
 ghost use Rattle.rsx_drive.specs.Answered.{Grows, IsStopped, Writes};
-ghost use Rattle.rsx_drive.specs.Judged.{AreJudged, IsRefusedAfter, StandsFor, begins_trace, judging, refusal_of};
+ghost use Rattle.rsx_drive.specs.Judged.{AreJudged, IsRefusedAfter, IsTraceAnswer, StandsFor, begins_trace, judging, number_behind, refusal_of};
 ghost use Rattle.rsx_drive.specs.JudgeLaws.{line_too_long, memory_wanted, memory_wanted_last};
+ghost use Rattle.rsx_drive.specs.declared.judge.Style.{Style};
+ghost use Rattle.rsx_drive.specs.declared.judge.Style.TheVariants.{Plain, Explained};
 
 use crate::expression::answer_expression;
-use crate::judge::InputJudge;
+use crate::judge::{InputJudge, Style};
+use crate::texts::report_text;
 use crate::{Answers, answer_lines};
+use rsx_demand::saturating_total;
 use rsx_script::{AppFault, LineRefusal, Word, Words};
-use rsx_tck::print_report;
 use rsx_trace::{BadLine, Progress, Stamped, TraceReader};
 use std::alloc::Global;
 use std::io::{Read, Write};
 
 /// Answers the expressions and the traces that the reader gives, in any order, until the input ends. An expression stands on a
 /// line of its own, in the language of scripts, over the functions of the demonstration; a trace of either format begins with a
-/// line whose first word is `trace`. Each is answered by 43 lines to the writer, one for each rule, as `1.1 held`,
-/// `1.1 broken at 6` or `1.2 not judged: permits`. Those of an expression say what its runs, which are made here, say of the
-/// rules, and none of them is broken; an expression that goes past a limit or reads a hub is answered by the one line
+/// line whose first word is `trace`. In the style `Plain` each is answered by 43 lines to the writer, one for each rule, as
+/// `1.1 held`, `1.1 broken at 6` or `1.2 not judged: permits`. Those of an expression say what its runs, which are made here, say
+/// of the rules, and none of them is broken; an expression that goes past a limit or reads a hub is answered by the one line
 /// `refused M1`. Lines outside a trace that are empty or spaces alone have no answer. A last line needs no newline.
+///
+/// In the style `Explained` each is answered by a line as `trace at line 3: 11 rules held, 2 broken` or
+/// `expression at line 1: 13 rules held, 0 broken`, with the number of its first line, at most 2^63-1. Of a trace two lines for
+/// each broken rule follow, with the event that breaks it and the rule's sentence ([`print_explained`](rsx_tck::print_explained)).
+/// An expression that isn't run is answered by the reason: `expression at line 1: refused M1, a number is out of its limit`.
 ///
 /// # Errors
 ///
@@ -36,21 +44,23 @@ use std::io::{Read, Write};
 /// has been answered then; after a fault of `Io` nothing more is written, and what was written begins these answers.
 pub fn judge_input<R: Read, W: Write>(
     alloc: Global,
+    style: Style,
     reader: &mut R,
     writer: &mut W,
 ) -> Result<(), AppFault>
     // The whole input is expressions, traces and blank lines, and their answers were written, and nothing else.
     ensures judged { OnOk result (IfSome (R.remaining reader.old) (λ input.
-        Writes (W.contents writer.old) (W.contents writer.new) (λ text. AreJudged (lines input) text))) }
+        Writes (W.contents writer.old) (W.contents writer.new) (λ text. AreJudged style (lines input) text))) }
     // The answers to what comes before the fault were written, and nothing else; where a read or a write failed, the last of
     // these answers may not have been written.
     ensures stopped { IfErr result (λ fault. IfSome (R.remaining reader.old) (λ input.
-        Writes (W.contents writer.old) (W.contents writer.new) (λ text. IsStopped IsRefusedAfter (lines input) text fault))) }
+        Writes (W.contents writer.old) (W.contents writer.new) (λ text. IsStopped (IsRefusedAfter style) (lines input) text fault))) }
     ensures fault { IfErr result IsRunFault }
 {
-    match answer_lines(alloc, InputJudge::new(), reader, writer) {
-        Ok(()) => Ok(()),
-        Err(fault) => Err(fault),
+    let judge = InputJudge::new(style);
+    match style {
+        Style::Plain => answer_lines(alloc, PlainInput { judge }, reader, writer),
+        Style::Explained => answer_lines(alloc, ExplainedInput { judge }, reader, writer),
     }
 }
 
@@ -86,13 +96,19 @@ fn refusal_of(bad: BadLine) -> LineRefusal
     }
 }
 
-/// Adds the report of a trace to the text.
-fn add_report(alloc: Global, trace: &[Stamped], out: &mut String) -> Result<(), LineRefusal>
-    ensures added { OnOk result (Grows (string_bytes out.old) (string_bytes out.new) (λ more. IsReportText trace.now more)) }
+/// Adds what answers a trace to the text, whose first line has this number.
+fn add_report(
+    alloc: Global,
+    style: Style,
+    number: u64,
+    trace: &[Stamped],
+    out: &mut String,
+) -> Result<(), LineRefusal>
+    ensures added { OnOk result (Grows (string_bytes out.old) (string_bytes out.new) (λ more. IsTraceAnswer style number trace.now more)) }
     ensures same { OnErr result (string_bytes out.new ≡ string_bytes out.old) }
     ensures memory { IfErr result (λ refusal. refusal ≡ LineRefusal.NoMemory) }
 {
-    let Ok(text) = print_report(alloc, trace) else {
+    let Ok(text) = report_text(alloc, style, number, trace) else {
         return Err(LineRefusal::NoMemory);
     };
     match out.push_str(text.as_str()) {
@@ -103,50 +119,98 @@ fn add_report(alloc: Global, trace: &[Stamped], out: &mut String) -> Result<(), 
 
 impl InputJudge {
     /// At the start of an input.
-    fn new() -> InputJudge
-        ensures { StandsFor result [] [] }
+    fn new(style: Style) -> InputJudge
+        ensures { StandsFor style result [] [] }
     {
-        InputJudge { reader: None }
+        InputJudge {
+            style,
+            lines: 0,
+            reader: None,
+            first: 0,
+        }
+    }
+
+    /// Takes in the next line.
+    ///
+    /// # Errors
+    ///
+    /// Why it can't be read, or `NoMemory`; the text is then as it was.
+    fn take_in(&mut self, alloc: Global, line: &[u8], out: &mut String) -> Result<(), LineRefusal>
+        requires small { length line.now ≤ 4096 }
+        ensures answered { OnOk result ((style : Style) (lines : List (List ℕ)) (text : List ℕ) → StandsFor style self.old lines text →
+            Grows (string_bytes out.old) (string_bytes out.new) (λ more. StandsFor style self.new (lines ++ line.now ∷ []) (text ++ more))) }
+        ensures refused { IfErr result (λ refusal. (style : Style) (lines : List (List ℕ)) (text : List ℕ) (others : List (List ℕ)) →
+            StandsFor style self.old lines text → IsRefusedAfter style lines text (line.now ∷ others) refusal) }
+        ensures same { OnErr result (string_bytes out.new ≡ string_bytes out.old) }
+    {
+        match self.reader.take() {
+            None => self.begin(alloc, line, out),
+            Some(reader) => self.go_on(alloc, reader, line, out),
+        }
+    }
+
+    /// Whether the input may end here.
+    ///
+    /// # Errors
+    ///
+    /// That it ends inside a trace.
+    fn finish(&self) -> Result<(), LineRefusal>
+        ensures ended { OnOk result ((style : Style) (lines : List (List ℕ)) (text : List ℕ) → StandsFor style self.now lines text → AreJudged style lines text) }
+        ensures refused { IfErr result (λ refusal. (style : Style) (lines : List (List ℕ)) (text : List ℕ) →
+            StandsFor style self.now lines text → IsRefusedAfter style lines text [] refusal) }
+    {
+        match self.reader {
+            None => Ok(()),
+            Some(_) => Err(LineRefusal::Syntax(1)),
+        }
     }
 
     /// Takes in a line that isn't in a trace: a blank one, the first of a trace, or an expression.
     fn begin(&mut self, alloc: Global, line: &[u8], out: &mut String) -> Result<(), LineRefusal>
         requires between { self.old.reader ≡ None }
         requires small { length line.now ≤ 4096 }
-        ensures answered { OnOk result ((lines : List (List ℕ)) (text : List ℕ) → StandsFor self.old lines text →
-            Grows (string_bytes out.old) (string_bytes out.new) (λ more. StandsFor self.new (lines ++ line.now ∷ []) (text ++ more))) }
-        ensures refused { IfErr result (λ refusal. (lines : List (List ℕ)) (text : List ℕ) (others : List (List ℕ)) →
-            StandsFor self.old lines text → IsRefusedAfter lines text (line.now ∷ others) refusal) }
+        ensures answered { OnOk result ((style : Style) (lines : List (List ℕ)) (text : List ℕ) → StandsFor style self.old lines text →
+            Grows (string_bytes out.old) (string_bytes out.new) (λ more. StandsFor style self.new (lines ++ line.now ∷ []) (text ++ more))) }
+        ensures refused { IfErr result (λ refusal. (style : Style) (lines : List (List ℕ)) (text : List ℕ) (others : List (List ℕ)) →
+            StandsFor style self.old lines text → IsRefusedAfter style lines text (line.now ∷ others) refusal) }
         ensures same { OnErr result (string_bytes out.new ≡ string_bytes out.old) }
     {
+        let number = saturating_total(self.lines, 1);
         if written_place(line).is_none() {
+            self.lines = number;
             return Ok(());
         }
         if begins_trace(line) {
-            return match self.begin_trace(alloc, line) {
+            return match self.begin_trace(alloc, number, line) {
                 Ok(()) => Ok(()),
                 Err(refusal) => Err(refusal),
             };
         }
-        match answer_expression(alloc, line, out) {
-            Ok(()) => Ok(()),
+        match answer_expression(alloc, self.style, number, line, out) {
+            Ok(()) => {
+                self.lines = number;
+                Ok(())
+            }
             Err(refusal) => Err(refusal),
         }
     }
 
-    /// Takes in the first line of a trace.
-    fn begin_trace(&mut self, alloc: Global, line: &[u8]) -> Result<(), LineRefusal>
+    /// Takes in the first line of a trace, which has this number.
+    fn begin_trace(&mut self, alloc: Global, number: u64, line: &[u8]) -> Result<(), LineRefusal>
         requires between { self.old.reader ≡ None }
+        requires numbered { number ≡ number_behind self.old.lines }
         requires begins { begins_trace line.now ≡ true }
         requires small { length line.now ≤ 4096 }
-        ensures answered { OnOk result ((lines : List (List ℕ)) (text : List ℕ) → StandsFor self.old lines text →
-            StandsFor self.new (lines ++ line.now ∷ []) (text ++ [])) }
-        ensures refused { IfErr result (λ refusal. (lines : List (List ℕ)) (text : List ℕ) (others : List (List ℕ)) →
-            StandsFor self.old lines text → IsRefusedAfter lines text (line.now ∷ others) refusal) }
+        ensures answered { OnOk result ((style : Style) (lines : List (List ℕ)) (text : List ℕ) → StandsFor style self.old lines text →
+            StandsFor style self.new (lines ++ line.now ∷ []) (text ++ [])) }
+        ensures refused { IfErr result (λ refusal. (style : Style) (lines : List (List ℕ)) (text : List ℕ) (others : List (List ℕ)) →
+            StandsFor style self.old lines text → IsRefusedAfter style lines text (line.now ∷ others) refusal) }
     {
         match TraceReader::new(alloc, line) {
             Ok(reader) => {
                 self.reader = Some(reader);
+                self.first = number;
+                self.lines = number;
                 Ok(())
             }
             Err(column) => Err(LineRefusal::Syntax(column)),
@@ -163,50 +227,85 @@ impl InputJudge {
     ) -> Result<(), LineRefusal>
         requires between { self.old.reader ≡ None }
         requires small { length line.now ≤ 4096 }
-        ensures answered { OnOk result ((lines : List (List ℕ)) (text : List ℕ) → StandsFor (judging reader) lines text →
-            Grows (string_bytes out.old) (string_bytes out.new) (λ more. StandsFor self.new (lines ++ line.now ∷ []) (text ++ more))) }
-        ensures refused { IfErr result (λ refusal. (lines : List (List ℕ)) (text : List ℕ) (others : List (List ℕ)) →
-            StandsFor (judging reader) lines text → IsRefusedAfter lines text (line.now ∷ others) refusal) }
+        ensures answered { OnOk result ((style : Style) (lines : List (List ℕ)) (text : List ℕ) → StandsFor style (judging self.old reader) lines text →
+            Grows (string_bytes out.old) (string_bytes out.new) (λ more. StandsFor style self.new (lines ++ line.now ∷ []) (text ++ more))) }
+        ensures refused { IfErr result (λ refusal. (style : Style) (lines : List (List ℕ)) (text : List ℕ) (others : List (List ℕ)) →
+            StandsFor style (judging self.old reader) lines text → IsRefusedAfter style lines text (line.now ∷ others) refusal) }
         ensures same { OnErr result (string_bytes out.new ≡ string_bytes out.old) }
     {
+        let number = saturating_total(self.lines, 1);
         match reader.take_in(line) {
             Ok(Progress::Open) => {
                 self.reader = Some(reader);
+                self.lines = number;
                 Ok(())
             }
-            Ok(Progress::Ended) => match add_report(alloc, reader.events(), out) {
-                Ok(()) => Ok(()),
-                Err(refusal) => Err(refusal),
-            },
+            Ok(Progress::Ended) => {
+                match add_report(alloc, self.style, self.first, reader.events(), out) {
+                    Ok(()) => {
+                        self.lines = number;
+                        Ok(())
+                    }
+                    Err(refusal) => Err(refusal),
+                }
+            }
             Err(bad) => Err(refusal_of(bad)),
         }
     }
 }
 
-impl Answers for InputJudge {
-    ghost stands = { StandsFor };
+/// An input that is answered by 43 lines for each expression and each trace.
+#[derive(Drop)]
+struct PlainInput {
+    judge: InputJudge,
+}
 
-    ghost ends = { AreJudged };
+impl Answers for PlainInput {
+    ghost stands = { λ input. StandsFor Plain input.judge };
 
-    ghost refuses = { IsRefusedAfter };
+    ghost ends = { AreJudged Plain };
+
+    ghost refuses = { IsRefusedAfter Plain };
 
     fn answer(&mut self, alloc: Global, line: &[u8], out: &mut String) -> Result<(), LineRefusal> {
-        match self.reader.take() {
-            None => self.begin(alloc, line, out),
-            Some(reader) => self.go_on(alloc, reader, line, out),
-        }
+        self.judge.take_in(alloc, line, out)
     }
 
     fn finish(&self) -> Result<(), LineRefusal> {
-        match self.reader {
-            None => Ok(()),
-            Some(_) => Err(LineRefusal::Syntax(1)),
-        }
+        self.judge.finish()
     }
 
-    ghost too_long = { line_too_long };
+    ghost too_long = { λ input. line_too_long Plain input.judge };
 
-    ghost wanting = { memory_wanted };
+    ghost wanting = { λ input. memory_wanted Plain input.judge };
 
-    ghost wanting_last = { memory_wanted_last };
+    ghost wanting_last = { memory_wanted_last Plain };
+}
+
+/// An input whose expressions and traces are answered with explanations.
+#[derive(Drop)]
+struct ExplainedInput {
+    judge: InputJudge,
+}
+
+impl Answers for ExplainedInput {
+    ghost stands = { λ input. StandsFor Explained input.judge };
+
+    ghost ends = { AreJudged Explained };
+
+    ghost refuses = { IsRefusedAfter Explained };
+
+    fn answer(&mut self, alloc: Global, line: &[u8], out: &mut String) -> Result<(), LineRefusal> {
+        self.judge.take_in(alloc, line, out)
+    }
+
+    fn finish(&self) -> Result<(), LineRefusal> {
+        self.judge.finish()
+    }
+
+    ghost too_long = { λ input. line_too_long Explained input.judge };
+
+    ghost wanting = { λ input. memory_wanted Explained input.judge };
+
+    ghost wanting_last = { memory_wanted_last Explained };
 }

@@ -33,9 +33,11 @@ mod modes;
 mod run;
 mod script;
 mod state;
+mod texts;
 
 pub use answers::Answers;
-pub use command_line::mode_of;
+pub use command_line::{CommandLine, command_line_of};
 pub use input::judge_input;
+pub use judge::Style;
 pub use modes::drive;
 pub use run::answer_lines;

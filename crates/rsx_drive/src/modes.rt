@@ -6,8 +6,8 @@ ghost use Rattle.rsx_trace.specs.Texts.{lines};
 ghost use Rattle.rsx_drive.specs.Answered.{IsStopped, Writes};
 ghost use Rattle.rsx_drive.specs.Modes.{IsAnsweredIn, IsStoppedIn};
 
-use crate::judge_input;
 use crate::script::answer_script;
+use crate::{Style, judge_input};
 use rsx_script::{AppFault, Mode};
 use rsx_session::View;
 use std::alloc::Global;
@@ -47,7 +47,7 @@ pub fn drive<R: Read, W: Write>(
     match mode {
         Mode::Run => answer_script(alloc, View::Received, reader, writer),
         Mode::Scratch => answer_script(alloc, View::FromScratch, reader, writer),
-        Mode::Tck => match judge_input(alloc, reader, writer) {
+        Mode::Tck => match judge_input(alloc, Style::Plain, reader, writer) {
             Ok(()) => Ok(()),
             Err(fault) => Err(fault),
         },

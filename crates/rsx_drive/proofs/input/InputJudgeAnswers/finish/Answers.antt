@@ -1,5 +1,0 @@
-use Rattle.rsx_drive.proofs.Parts.{end_refused}
-use Rattle.rsx_drive.proofs.input.InputJudgeAnswers.finish.Goals as goal
-
-pub returns-in-Some-clause-refused : goal.returns-in-Some-clause-refused
-returns-in-Some-clause-refused c = λ lines text s. end_refused c.args.self.now lines text c.in-Some.field-0 c.in-Some.is s
