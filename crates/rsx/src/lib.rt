@@ -4,6 +4,8 @@
 //! - Functions of the caller, as operators call them: [`Ops`], with [`Fault`] and [`NoMemory`].
 //! - Expressions of operators: [`Expr`] and [`Stage`], with the limits; [`check_expr`] says what is wrong with one ([`BadExpr`]),
 //!   and [`scratch`] evaluates one.
+//! - A builder of expressions, whose operators are methods: [`Flow`], [`Flux`], [`Stages`] and [`Inputs`]; the types of functions' numbers
+//!   ([`MapFn`], [`TestFn`], [`FoldFn`], [`KeyFn`], [`ExpandFn`]) and of other numbers ([`Prefetch`], [`Worker`], [`Concurrency`]).
 //! - A graph of hubs and subscriptions: [`Graph`], with its edits, moves and looks; [`Step`] and [`Answer`] for lists of
 //!   edits and moves, and [`replay`], which makes such a list from nothing.
 //! - What goes over an edge and what a subscriber got: [`Signal`], [`Ending`], [`Cause`], [`Deliveries`], [`StreamValue`].
@@ -12,9 +14,13 @@
 //! - Refusals: [`Refusal`], and [`NotEmitted`], which hands an item back.
 //! - Laws, each as the contract of a function that does nothing: [`headline`], [`idle_means_delivered`] and [`read_all`].
 //!
-//! Each name stands in the crate whose page describes it: `rsx_types`, `rsx_model` or `rsx_graph`. A program whose proofs speak
+//! Each name stands in the crate whose page describes it: `rsx_types`, `rsx_model`, `rsx_flow` or `rsx_graph`. A program whose proofs speak
 //! of graphs names those crates beside this one.
 
+pub use rsx_flow::{
+    Concurrency, ExpandFn, Flow, Flux, FoldFn, Inputs, KeyFn, MapFn, Prefetch, Stages, TestFn,
+    Worker,
+};
 pub use rsx_graph::{
     Answer, Deliveries, Graph, MOST_HUBS, MOST_SUBSCRIPTIONS, NotEmitted, Pumped, Refusal, Step,
     SubscriptionState, headline, idle_means_delivered, read_all, replay,

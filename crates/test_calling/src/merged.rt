@@ -21,7 +21,7 @@ pub fn run(rt: &HostRuntime) -> Result<()> {
     publish(alloc, &mut graph, near, 250, &mut out)?;
     publish(alloc, &mut graph, far, 1200, &mut out)?;
 
-    graph.request(sub, 2)?;
+    graph.request_items(sub, 2)?;
     graph.make(alloc, Move::Pick(tree, NodeId(0), 1))?;
     graph.pump(alloc, 1000, &mut out)?;
     received::print(rt, &out)?;

@@ -1,19 +1,19 @@
 //! Prices in cents, and the functions that operators call on them.
 
-use rsx::{Fault, NoMemory, Ops};
+use rsx::{ExpandFn, Fault, FoldFn, MapFn, NoMemory, Ops, TestFn};
 use std::alloc::Global;
 
 /// `map`: the price with 5.00 of postage. Fault 1 where the sum leaves the type.
-pub const WITH_POSTAGE: u16 = 1;
+pub const WITH_POSTAGE: MapFn = MapFn(1);
 
 /// `filter`: whether a price is below 20.00.
-pub const CHEAP: u16 = 1;
+pub const CHEAP: TestFn = TestFn(1);
 
 /// `scan`: the total with the next price. Fault 3 where it is above 50.00 or leaves the type.
-pub const WITHIN_BUDGET: u16 = 1;
+pub const WITHIN_BUDGET: FoldFn = FoldFn(1);
 
 /// `flatMap`: the price, and behind it 5.00 of postage.
-pub const PARTS: u16 = 1;
+pub const PARTS: ExpandFn = ExpandFn(1);
 
 /// The functions of this program. A function that isn't listed has fault 2.
 #[derive(Clone, Copy)]
@@ -43,7 +43,7 @@ impl Ops for Prices {
     ghost lawful = { λ o. record { map_fault = λ f x. Prim.search rules; test_fault = λ f x. Prim.search rules; fold_fault = λ f a x. Prim.search rules; key_fault = λ f x. Prim.search rules; expansion = λ f x. Prim.search rules } };
 
     fn map(&self, _alloc: Global, f: u16, x: &i64) -> Result<i64, Fault> {
-        if f != WITH_POSTAGE {
+        if f != WITH_POSTAGE.0 {
             return Err(Fault::Code(2));
         }
         match x.checked_add(500) {
@@ -53,7 +53,7 @@ impl Ops for Prices {
     }
 
     fn test(&self, f: u16, x: &i64) -> Result<bool, Fault> {
-        if f == CHEAP {
+        if f == CHEAP.0 {
             Ok(*x < 2000)
         } else {
             Err(Fault::Code(2))
@@ -61,7 +61,7 @@ impl Ops for Prices {
     }
 
     fn fold(&self, _alloc: Global, f: u16, acc: &i64, x: &i64) -> Result<i64, Fault> {
-        if f != WITHIN_BUDGET {
+        if f != WITHIN_BUDGET.0 {
             return Err(Fault::Code(2));
         }
         match acc.checked_add(*x) {
@@ -75,7 +75,7 @@ impl Ops for Prices {
     }
 
     fn expand(&self, alloc: Global, f: u16, x: &i64) -> Result<Vec<i64>, Fault> {
-        if f != PARTS {
+        if f != PARTS.0 {
             return Err(Fault::Code(2));
         }
         match vec![in alloc; *x, 500] {

@@ -3,7 +3,7 @@
 use crate::prices::{CHEAP, Prices};
 use crate::received;
 use anyhow::Result;
-use rsx::{Deliveries, Expr, Graph, HubId, HubKind, Refusal, Stage};
+use rsx::{Deliveries, Flow, Graph, HubId, HubKind, Refusal};
 use std::alloc::Global;
 
 /// Publishes a price, and drives the graph until it is idle.
@@ -26,9 +26,9 @@ pub fn run(rt: &HostRuntime) -> Result<()> {
     let alloc = rt.alloc();
     let mut graph = Graph::new(alloc, Prices)?;
     let hub = graph.hub(alloc, HubKind::Multicast, 16)?;
-    let cheap = Expr::Plain(Stage::Filter(CHEAP), Box::new(alloc, Expr::Hub(hub))?);
+    let cheap = Flow::new(alloc).hub(hub).filter(CHEAP).build()?;
     let sub = graph.subscribe(alloc, &cheap)?;
-    graph.request(sub, 9)?;
+    graph.request_items(sub, 9)?;
     let mut out = Deliveries::new(alloc);
     for price in [250, 3000, 1200] {
         publish(alloc, &mut graph, hub, price, &mut out)?;
