@@ -9,6 +9,10 @@ mod driven;
 #[cfg(test)]
 mod graphs;
 #[cfg(test)]
+mod peers;
+#[cfg(test)]
+mod recorded;
+#[cfg(test)]
 mod scripts;
 #[cfg(test)]
 mod texts;

@@ -33,8 +33,9 @@ type Row = (&'static [(&'static str, u32)], usize, &'static str, End);
 
 /// Blank lines have no answer, but they count; the last line needs no newline. A line of 4,096 bytes is read, and one of 4,097 is
 /// not, even where it is blank. Then the deepest expression that a graph takes, one that is deeper, and the deepest that fits a
-/// line. A graph has at most 64 hubs, and a hub at most 64 readers.
-const SCRIPTS: [Row; 10] = [
+/// line. A graph has at most 64 hubs, a hub at most 64 readers, and a graph at most 256 subscriptions; where it has them, a bad
+/// expression is refused for that first.
+const SCRIPTS: [Row; 11] = [
     (&[], 0, "", End::Whole),
     (
         &[("\n   \nsubscribe (items)\n\nasked 0", 1)],
@@ -88,6 +89,15 @@ const SCRIPTS: [Row; 10] = [
         &[("hub multicast 1\n", 1), ("subscribe (hub 0)\n", 66)],
         67,
         "sub 63\nrefused G5\nrefused G5\n",
+        End::Whole,
+    ),
+    (
+        &[
+            ("subscribe (items)\n", 257),
+            ("subscribe (merge 0 (items))\n", 1),
+        ],
+        258,
+        "sub 255\nrefused G5\nrefused G6\n",
         End::Whole,
     ),
 ];

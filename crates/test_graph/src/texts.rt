@@ -1,7 +1,7 @@
 //! The texts of faults, and command lines.
 
 use clap::error::ErrorKind;
-use rsx_drive::mode_of;
+use rsx_drive::command_line_of;
 use rsx_script::{AppFault, LineRefusal, Mode};
 use std::alloc::Global;
 use std::test::Fail;
@@ -38,10 +38,15 @@ fn texts(rt: HostRuntime) -> Result<(), Fail> {
 }
 
 /// Command lines, with their modes or what `clap` finds wrong.
-const COMMAND_LINES: [(&str, Result<Mode, ErrorKind>); 9] = [
+const COMMAND_LINES: [(&str, Result<Mode, ErrorKind>); 14] = [
     ("rsx run", Ok(Mode::Run)),
     ("rsx scratch", Ok(Mode::Scratch)),
     ("rsx tck", Ok(Mode::Tck)),
+    ("rsx tck --explain", Ok(Mode::Tck)),
+    ("rsx run --explain", Ok(Mode::Run)),
+    ("rsx run --trace trace.txt", Ok(Mode::Run)),
+    ("rsx tck --trace trace.txt", Err(ErrorKind::UnknownArgument)),
+    ("rsx --explain tck", Err(ErrorKind::UnknownArgument)),
     ("rsx tck --help", Err(ErrorKind::DisplayHelp)),
     ("rsx", Err(ErrorKind::MissingSubcommand)),
     ("rsx --help", Err(ErrorKind::DisplayHelp)),
@@ -61,8 +66,8 @@ fn words_of(alloc: Global, line: &str) -> Result<Vec<String>, Fail> {
 
 /// The mode of a command line, or what `clap` finds wrong.
 fn mode_or_error(alloc: Global, words: &[String]) -> Result<Mode, ErrorKind> {
-    match mode_of(alloc, words) {
-        Ok(mode) => Ok(mode),
+    match command_line_of(alloc, words) {
+        Ok(line) => Ok(line.mode),
         Err(error) => Err(error.kind()),
     }
 }

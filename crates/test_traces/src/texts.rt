@@ -33,6 +33,28 @@ fn prints_and_reads_events(rt: HostRuntime) -> Result<(), Fail> {
     Ok(())
 }
 
+/// A publisher that completes twice and then sends an item, each event by worker 0.
+#[test]
+fn prints_a_trace_of_one_worker(rt: HostRuntime) -> Result<(), Fail> {
+    let events = [
+        at(0, Event::Subscribe(0)),
+        at(0, Event::OnSubscribe(0)),
+        at(0, Event::Exit(0)),
+        at(0, Event::Complete(0)),
+        at(0, Event::Exit(0)),
+        at(0, Event::Complete(0)),
+        at(0, Event::Exit(0)),
+        at(0, Event::Next(0)),
+        at(0, Event::Exit(0)),
+    ];
+    let text = print_trace(rt.alloc(), &events)?;
+    assert_eq!(rt;
+        text.as_str(),
+        "trace 2\n0 subscribe 0\n0 on-subscribe 0\n0 exit 0\n0 complete 0\n0 exit 0\n0 complete 0\n0 exit 0\n0 next 0\n0 exit 0\nend\n"
+    );
+    Ok(())
+}
+
 #[test]
 fn reads_format_1(rt: HostRuntime) -> Result<(), Fail> {
     let events = parse_trace(
