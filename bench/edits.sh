@@ -4,9 +4,9 @@
 # Usage: bench/edits.sh [--since COMMIT] [NAME..]
 #   NAME..          tries the edits of these crates; without names, those of all crates that have a folder edits/
 #   --since COMMIT  of these crates, takes only those with a file that differs from that commit, or that it doesn't have
-# It works on a copy in a temporary folder, so nothing here is changed and the checkout may be worked in meanwhile. There `rt must-fail` begins with what
-# `rt check` kept of a crate and of those below it, here or in other checkouts on this machine, and proves the rest: so run `rt check` in a crate first. An
-# edit whose crate and whose crates below are as they were when it was tried before is not tried again.
+# It works on a copy in a temporary folder, so nothing here is changed and the checkout may be worked in meanwhile. There `rt must-fail` begins with the
+# libraries that `rt check` built of the crates below, in this checkout, and proves the rest: so run `rt check` in a crate first. A toolchain that keeps what
+# it proved beside itself takes it from there too, and doesn't try an edit again whose crate and whose crates below are as they were then.
 # It prints what each edit came to, and last 'N refused, M not refused, K bad or not tried'. The status is 0 where all were refused, 1 where one was not,
 # and 2 where it could not begin.
 set -uo pipefail
@@ -58,6 +58,10 @@ total=0
 if ((${#names[@]})); then
   # Sources alone: what was proved of them is found by `rt`, wherever it was kept.
   tar --anchored --no-wildcards-match-slash --exclude='crates/*/out' -cf - crates.txt HANDLES crates | tar -xf - -C "$room" || stop "the crates could not be copied"
+  # Libraries that are built: links to their files, which `rt` replaces and never writes to.
+  for it in crates/*/out/rlib; do
+    [[ -d $it ]] && mkdir -p "$room/${it%/rlib}" && { cp -al "$it" "$room/$it" 2>/dev/null || cp -a "$it" "$room/$it"; }
+  done
   for name in "${names[@]}"; do
     rm -rf "$room/crates/$name/must-fail"
     mv "$room/crates/$name/edits" "$room/crates/$name/must-fail" || exit 2
