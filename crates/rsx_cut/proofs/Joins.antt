@@ -9,7 +9,7 @@ use Rattle.rsx_tree.specs.Inputs.{size, comes_in, out_of, beside_of, through}
 use Rattle.rsx_tree.specs.Tree.{comes_out}
 use Rattle.rsx_tree.specs.Swapped.{put_at, with_sender}
 use Rattle.rsx_cut.specs.Splice.{IsSpliced}
-use Rattle.rsx_cut.specs.Flow.{AreFor, Holds, ReadsLink, AreLinked, Fill}
+use Rattle.rsx_cut.specs.Flow.{AreFor, Holds, HoldsOver, ReadsLink, AreLinked, Fill, as_root}
 use Rattle.rsx_cut.proofs.Puts.{AreSame, same_in, same_choices, put_here, put_below, put_beside}
 
 -- ---- signals in front
@@ -27,6 +27,10 @@ held_through b m hubs x n q h (Some vs) k = h.out (incoming_of hubs vs) k
 pub held_out : {M T : Type 0} (b : Machine M T) (m : Meaning T) (hubs : List (Stream T)) (x n : M) (q : List (Signal T)) → Holds b m x q n → (o : Option (List (Stream T))) (k : Option Note) → out_of b m hubs x o k ≡ option_map (signals_then q) (out_of b m hubs n o k)
 held_out b m hubs x n q h o None = refl
 held_out b m hubs x n q h o (Some k) = held_through b m hubs x n q h o k
+
+-- so does the tree with it at its root
+pub holds_over : {M T : Type 0} (b : Machine M T) (m : Meaning T) (x : M) (q : List (Signal T)) (t : Node M) → Holds b m x q t.machine → HoldsOver b m x q t
+holds_over b m x q t h = record { out = λ hubs g. held_out b m hubs x t.machine q h (comes_in b m hubs g t.inputs (0 + 1)) (slice_get g 0); recorded = h.recorded }
 
 -- ---- what comes out of the tree at the number c of another
 
@@ -96,7 +100,7 @@ none_tree b m hubs f x xs t at l none =
 
 -- over values of which the link's is what the other tree gives, the joined tree gives what the one with the reader does
 pub cut_same : {M T : Type 0} (b : Machine M T) (m : Meaning T) (hubs : List (Stream T)) (k at : ℕ) (upper low : Node M) (x leaf : M) (sent held : List (Signal T)) (whole above below : List Note) (v : Stream T) →
-    at < size upper.inputs → Holds b m x held low.machine → ReadsLink b m k leaf sent held → IsSpliced (0 + 1 + at) (size low.inputs + 1) whole above below → slice_get above (0 + 1 + at) ≡ Some Nothing →
+    at < size upper.inputs → HoldsOver b m x held low → ReadsLink b m k leaf sent held → IsSpliced (0 + 1 + at) (size low.inputs + 1) whole above below → slice_get above (0 + 1 + at) ≡ Some Nothing →
     comes_out b m hubs below low 0 ≡ Some v → published_at hubs k ≡ signals_then sent v →
     comes_out b m hubs whole (with_sender at x low.inputs upper) 0 ≡ comes_out b m hubs above (with_sender at leaf End upper) 0
 cut_same {M} {T} b m hubs k at upper low x leaf sent held whole above below v there h r s nothing value published =
@@ -104,8 +108,8 @@ cut_same {M} {T} b m hubs k at upper low x leaf sent held whole above below v th
       before = s.before;
       behind = λ i. ap (λ j. slice_get whole j) (wide (0 + 1 + at) (size low.inputs) i) ∙ (s.behind i ∙ ap (λ j. slice_get above j) (thin (0 + 1 + at) i));
       out =
-          held_out b m hubs x low.machine held h (comes_in b m hubs whole low.inputs (0 + 1 + at + 1)) (slice_get whole (0 + 1 + at))
-          ∙ (ap (option_map (signals_then held)) (lower_out b m hubs whole below (0 + 1 + at) low s.inside ∙ value)
+          lower_out b m hubs whole below (0 + 1 + at) (as_root x low) s.inside
+          ∙ (h.out hubs below ∙ ap (option_map (signals_then held)) value
           ∙ (sym (r.out hubs v published) ∙ ap (λ n. out_of b m hubs leaf (Some []) n) (sym nothing)));
     })
   where
@@ -117,19 +121,18 @@ cut_same {M} {T} b m hubs k at upper low x leaf sent held whole above below v th
 
 -- and where the other gives nothing, nothing comes out
 pub cut_none : {M T : Type 0} (b : Machine M T) (m : Meaning T) (hubs : List (Stream T)) (at : ℕ) (upper low : Node M) (x : M) (held : List (Signal T)) (whole above below : List Note) →
-    at < size upper.inputs → Holds b m x held low.machine → IsSpliced (0 + 1 + at) (size low.inputs + 1) whole above below → comes_out b m hubs below low 0 ≡ None →
+    at < size upper.inputs → HoldsOver b m x held low → IsSpliced (0 + 1 + at) (size low.inputs + 1) whole above below → comes_out b m hubs below low 0 ≡ None →
     comes_out b m hubs whole (with_sender at x low.inputs upper) 0 ≡ None
 cut_none b m hubs at upper low x held whole above below there h s value =
     none_tree b m hubs whole x low.inputs upper at there
-    (held_out b m hubs x low.machine held h (comes_in b m hubs whole low.inputs (0 + 1 + at + 1)) (slice_get whole (0 + 1 + at))
-    ∙ ap (option_map (signals_then held)) (lower_out b m hubs whole below (0 + 1 + at) low s.inside ∙ value))
+    (lower_out b m hubs whole below (0 + 1 + at) (as_root x low) s.inside ∙ (h.out hubs below ∙ ap (option_map (signals_then held)) value))
 
 -- ---- two regions with a link
 
 -- whatever moves were made in either region, the trees joined again give what the first whole gave, without what went out
 pub joined_value : {M T : Type 0} (b : Machine M T) (m : Meaning T) (FitsUpper FitsLower : List (Stream T) → Type 0) (k at : ℕ) (upper upper' lower lower' : Node M) (leaf leaf' x x' : M) (queued held out went : List (Signal T)) →
     (l : AreLinked b m FitsUpper FitsLower k at upper upper' lower lower' leaf leaf' queued held out went) →
-    Holds b m x queued lower.machine → Holds b m x' held lower'.machine →
+    HoldsOver b m x queued lower → HoldsOver b m x' held lower' →
     (whole whole' above below : List Note) →
     IsSpliced (0 + 1 + at) (size lower.inputs + 1) whole (l.above.choose above) (l.below.choose below) → slice_get (l.above.choose above) (0 + 1 + at) ≡ Some Nothing →
     IsSpliced (0 + 1 + at) (size lower'.inputs + 1) whole' above below → slice_get above (0 + 1 + at) ≡ Some Nothing →

@@ -48,7 +48,7 @@ sender_local b m local (Crossing n) hubs others vs k a = queued_local b m local 
 
 -- ---- a node that reads a link
 
-leaf_open : {T : Type 0} (m : Meaning T) (hubs : List (Stream T)) (n : LeafState T) (e : Ending) → n.ending ≡ e → leaf_comes_out m n (incoming_of hubs []) Nothing ≡ Some (items_then n.queue (behind false e (without n.reached (published_at hubs n.hub))))
+pub leaf_open : {T : Type 0} (m : Meaning T) (hubs : List (Stream T)) (n : LeafState T) (e : Ending) → n.ending ≡ e → leaf_comes_out m n (incoming_of hubs []) Nothing ≡ Some (items_then n.queue (behind false e (without n.reached (published_at hubs n.hub))))
 leaf_open m hubs n e o = ap (λ x. Some (items_then n.queue (behind false x (without n.reached (published_at hubs n.hub))))) o
 
 -- Of what the link's sender sent, `taken` came to the leaf, which holds the last of them; what the link holds comes next, and

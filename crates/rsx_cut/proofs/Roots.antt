@@ -3,21 +3,18 @@ use Rattle.std.proofs.Common.{◌≡◌, ℕ, ◌+◌, List, [], ◌∷◌, ◌+
 use Rattle.rsx_sources.specs.Prelude.{Meaning, notes_then, Stream, ended_by, signals_then, Note, Nothing, Open, Signal, incoming_of}
 use Rattle.rsx_sources.specs.declared.machine.Machine.{Ghosts as Machine}
 use Rattle.rsx_tree.specs.declared.node.Node.{Node}
-use Rattle.rsx_tree.specs.Inputs.{comes_in, out_of, notes_of}
+use Rattle.rsx_tree.specs.Inputs.{out_of, notes_of}
 use Rattle.rsx_tree.specs.Tree.{comes_out, notes}
-use Rattle.rsx_cut.specs.Flow.{AreFor, Flows, Holds, ReadsLink, Fill, as_root, alone}
-use Rattle.rsx_cut.proofs.Joins.{held_out, then_append}
+use Rattle.rsx_cut.specs.Flow.{AreFor, Flows, HoldsOver, ReadsLink, Fill, as_root, alone}
+use Rattle.rsx_cut.proofs.Joins.{then_append}
 use Rattle.rsx_cut.proofs.Splices.{still_nothing}
-
-held_root : {M T : Type 0} (b : Machine M T) (m : Meaning T) (hubs : List (Stream T)) (x : M) (q : List (Signal T)) (low : Node M) → Holds b m x q low.machine → (g : List Note) → comes_out b m hubs g (as_root x low) 0 ≡ option_map (signals_then q) (comes_out b m hubs g low 0)
-held_root b m hubs x q low h g = held_out b m hubs x low.machine q h (comes_in b m hubs g low.inputs (0 + 1)) (slice_get g 0)
 
 alone_out : {M T : Type 0} (b : Machine M T) (m : Meaning T) (hubs : List (Stream T)) (y : M) (g : List Note) → slice_get g 0 ≡ Some Nothing → comes_out b m hubs g (alone y) 0 ≡ b.comes_out m y (incoming_of hubs []) Nothing
 alone_out b m hubs y g e = ap (λ n. out_of b m hubs y (Some []) n) e
 
 pub joined_root : {M T : Type 0} (b : Machine M T) (m : Meaning T) (Fits FitsUpper FitsLower : List (Stream T) → Type 0) (k : ℕ) (lower lower' : Node M) (leaf leaf' x x' : M) (queued held out went : List (Signal T)) →
     ReadsLink b m k leaf queued queued → ReadsLink b m k leaf' (queued ++ out) held →
-    Flows b m FitsUpper (alone leaf) (alone leaf') went → Flows b m FitsLower lower lower' out → Holds b m x queued lower.machine → Holds b m x' held lower'.machine →
+    Flows b m FitsUpper (alone leaf) (alone leaf') went → Flows b m FitsLower lower lower' out → HoldsOver b m x queued lower → HoldsOver b m x' held lower' →
     ((hubs : List (Stream T)) → Fits hubs → (v : Stream T) → Fill b m FitsUpper FitsLower k hubs (signals_then (queued ++ out) v) (as_root x lower) (as_root x' lower') lower') →
     Flows b m Fits (as_root x lower) (as_root x' lower') went
 joined_root {M} {T} b m Fits FitsUpper FitsLower k lower lower' leaf leaf' x x' queued held out went reads reads' above below h h' fill =
@@ -42,9 +39,9 @@ joined_root {M} {T} b m Fits FitsUpper FitsLower k lower lower' leaf leaf' x x' 
         let n = fills (ended_by Open) in
         let now : comes_out b m n.others f lower' 0 ≡ None = sym (n.same_below f) ∙ e in
         n.same (below.choose f)
-        ∙ (held_root b m n.others x queued lower h (below.choose f)
+        ∙ (h.out n.others (below.choose f)
         ∙ (ap (option_map (signals_then queued)) (below.value n.others f n.fits_below len ∙ ap (option_map (signals_then out)) now)
-        ∙ ap (option_map (signals_then went)) (sym (n.same' f ∙ (held_root b m n.others x' held lower' h' f ∙ ap (option_map (signals_then held)) now)))))
+        ∙ ap (option_map (signals_then went)) (sym (n.same' f ∙ (h'.out n.others f ∙ ap (option_map (signals_then held)) now)))))
     by_value hubs f fills len g nothing over (Some v) e =
         let n = fills v in
         let others = n.others in
@@ -52,8 +49,8 @@ joined_root {M} {T} b m Fits FitsUpper FitsLower k lower lower' leaf leaf' x x' 
         let first : b.comes_out m leaf (incoming_of others []) Nothing ≡ Some (signals_then queued (signals_then out v)) = reads.out others (signals_then out v) (n.link ∙ then_append queued out v) in
         let last : b.comes_out m leaf' (incoming_of others []) Nothing ≡ Some (signals_then held v) = reads'.out others v n.link in
         n.same (below.choose f)
-        ∙ (held_root b m others x queued lower h (below.choose f)
+        ∙ (h.out others (below.choose f)
         ∙ (ap (option_map (signals_then queued)) (below.value others f n.fits_below len ∙ ap (option_map (signals_then out)) now)
         ∙ (sym (alone_out b m others leaf g nothing ∙ first)
         ∙ (over others n.fits_above
-        ∙ ap (option_map (signals_then went)) (alone_out b m others leaf' (Nothing ∷ []) refl ∙ (last ∙ sym (n.same' f ∙ (held_root b m others x' held lower' h' f ∙ ap (option_map (signals_then held)) now))))))))
+        ∙ ap (option_map (signals_then went)) (alone_out b m others leaf' (Nothing ∷ []) refl ∙ (last ∙ sym (n.same' f ∙ (h'.out others f ∙ ap (option_map (signals_then held)) now))))))))

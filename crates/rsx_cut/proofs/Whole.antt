@@ -11,7 +11,7 @@ use Rattle.rsx_tree.specs.Tree.{notes}
 use Rattle.rsx_tree.specs.Swapped.{put_at, with_sender}
 use Rattle.rsx_tree.proofs.Noted.{get_left, get_right, length_notes}
 use Rattle.rsx_cut.specs.Splice.{IsSpliced, splice, folded, lifted}
-use Rattle.rsx_cut.specs.Flow.{AreFor, Flows, Holds, AreLinked, Fill}
+use Rattle.rsx_cut.specs.Flow.{AreFor, Flows, HoldsOver, AreLinked, Fill}
 use Rattle.rsx_cut.proofs.Joins.{joined_value}
 use Rattle.rsx_cut.proofs.Puts.{put_here, put_below, put_beside, size_least}
 use Rattle.rsx_cut.proofs.Splices.{splice_back, lifted_length, folded_length, folded_at, splice_length, spliced, splice_left, splice_right, notes_splice, still_nothing}
@@ -116,7 +116,7 @@ tree_note b y t at h = ap (λ j. slice_get (notes b (with_sender at y End t)) j)
 
 pub joined : {M T : Type 0} (b : Machine M T) (m : Meaning T) (Fits FitsUpper FitsLower : List (Stream T) → Type 0) (k at : ℕ) (upper upper' lower lower' : Node M) (leaf leaf' x x' : M) (queued held out went : List (Signal T)) →
     AreLinked b m FitsUpper FitsLower k at upper upper' lower lower' leaf leaf' queued held out went →
-    Holds b m x queued lower.machine → Holds b m x' held lower'.machine →
+    HoldsOver b m x queued lower → HoldsOver b m x' held lower' →
     ((hubs : List (Stream T)) → Fits hubs → (v : Stream T) → Fill b m FitsUpper FitsLower k hubs (signals_then (queued ++ out) v) (with_sender at x lower.inputs upper) (with_sender at x' lower'.inputs upper') lower') →
     Flows b m Fits (with_sender at x lower.inputs upper) (with_sender at x' lower'.inputs upper') went
 joined {M} {T} b m Fits FitsUpper FitsLower k at upper upper' lower lower' leaf leaf' x x' queued held out went l h h' fill =

@@ -45,6 +45,11 @@ pub record HoldsQueue {M T : Type 0} (b : Machine M T) (m : Meaning T) (x : M) (
 abbrev pub as_root : {M : Type 0} → M → Node M → Node M
 as_root x t = record t { machine = x }
 
+-- the tree with the node x at its root gives these signals, and then what the tree gives; both roots recorded the same
+pub record HoldsOver {M T : Type 0} (b : Machine M T) (m : Meaning T) (x : M) (q : List (Signal T)) (t : Node M) : Type 0 where
+  pub out : (hubs : List (Stream T)) (further : List Note) → comes_out b m hubs further (as_root x t) 0 ≡ option_map (signals_then q) (comes_out b m hubs further t 0)
+  pub recorded : b.recorded x ≡ b.recorded t.machine
+
 abbrev pub alone : {M : Type 0} → M → Node M
 alone y = record { machine = y; inputs = End }
 

@@ -7,7 +7,7 @@ use Rattle.rsx_tree.specs.declared.inputs.Inputs.{Inputs, End}
 use Rattle.rsx_tree.specs.Inputs.{size}
 use Rattle.rsx_tree.specs.Tree.{comes_out, notes}
 use Rattle.rsx_tree.specs.Swapped.{with_sender}
-use Rattle.rsx_cut.specs.Flow.{AreFor, Flows, Holds, ReadsLink, alone, as_root}
+use Rattle.rsx_cut.specs.Flow.{AreFor, Flows, HoldsOver, ReadsLink, alone, as_root}
 use Rattle.rsx_cut.specs.Local.{Begins, IsLocal, ReadsNot, stream_of}
 
 -- `taken` is what the hubs took in, and what came over the links, each from the opening on: over all values that begin so, what came
@@ -27,8 +27,8 @@ pub record IsCutBetween {M T : Type 0} (b : Machine M T) (m : Meaning T) (k : â„
   pub sent : came ++ left â‰¡ queued ++ out
   pub leaf_is : ReadsLink b m k leaf queued queued
   pub leaf_is' : ReadsLink b m k leaf' (queued ++ out) held
-  pub holds : Holds b m x queued lower.machine
-  pub holds' : Holds b m x' held lower'.machine
+  pub holds : HoldsOver b m x queued lower
+  pub holds' : HoldsOver b m x' held lower'
   -- but for the reader no node reads the link
   pub free : ReadsNot b k whole
   pub free' : ReadsNot b k whole'

@@ -2,6 +2,7 @@
 use Rattle.std.proofs.Common.{◌≡◌, inl, inr, ℕ, ◌+◌, ◌-◌, ◌<◌, ◌≤◌, Bool, true, false, ◌&&◌, nat_eq, nat_le, List, [], ◌∷◌, ◌++◌, length, map, Option, Some, None, refl, ap, sym, ◌∙◌, subst, arith}
 use Rattle.std.specs.Prelude.{not, if◌then◌else◌}
 use Rattle.std.proofs.lemmas.Bool.{and_parts, cases_lt, le-leb, lt-leb}
+use Rattle.rsx_cut.proofs.Joins.{holds_over}
 use Rattle.rsx_cut.proofs.Puts.{put_again, put_below, put_beside, put_here, size_least}
 use Rattle.rsx_cut.proofs.Regions.{root_regions, two_regions}
 use Rattle.rsx_cut.specs.Flow.{HoldsQueue, ReadsLink}
@@ -114,7 +115,7 @@ place_below : {M : Type 0} (at : ℕ) (t : Node M) → 0 < at → place_at at t 
 place_below at t h = chosen_second (nat_eq at 0) _ _ (not_zero at h)
 
 -- there is such an edge
-abbrev IsThere : {M : Type 0} → ℕ → Node M → Type 0
+abbrev pub IsThere : {M : Type 0} → ℕ → Node M → Type 0
 IsThere at t = 0 < at → at - 1 < size t.inputs
 
 place_put : {M : Type 0} (at : ℕ) (x : M) (xs : Inputs M) (t : Node M) → IsThere at t → place_at at (with_node at x xs t) ≡ Some (record { node = x; below = xs })
@@ -123,7 +124,7 @@ place_put at x xs t there = elim (cases_lt 0 at) [
   | inl l ↦ ap (place_at at) (with_below at x xs t l) ∙ (place_below at (with_sender (at - 1) x xs t) l ∙ sender_put t.inputs (at - 1) x xs (there l))
 ]
 
-place_is : {M : Type 0} (at : ℕ) (p : Place M) (t : Node M) → place_at at t ≡ Some p → IsThere at t × (t ≡ with_node at p.node p.below t)
+pub place_is : {M : Type 0} (at : ℕ) (p : Place M) (t : Node M) → place_at at t ≡ Some p → IsThere at t × (t ≡ with_node at p.node p.below t)
 place_is {M} at p t h = elim (cases_lt 0 at) [
   | inr z ↦
       let here : at ≡ 0 = omega (arith, z) in
@@ -144,7 +145,7 @@ put_twice {M} at x y xs ys t there = elim (cases_lt 0 at) [
       ∙ sym (with_below at x xs t l)))
 ]
 
-cut_there : {M T : Type 0} (nodes : Nodes M T) (crossing : CrossingNodes M T) (old new below : Part M) (at : ℕ) (reader : M) (queue : List T) → IsCut nodes crossing old at reader below queue new → IsThere at old.tree
+pub cut_there : {M T : Type 0} (nodes : Nodes M T) (crossing : CrossingNodes M T) (old new below : Part M) (at : ℕ) (reader : M) (queue : List T) → IsCut nodes crossing old at reader below queue new → IsThere at old.tree
 cut_there nodes crossing old new below at reader queue c l =
     root_there crossing.edge_queue old.tree.inputs (at - 1) _ (nothing_else (is_live old.root.state) (root_below crossing.edge_queue (at - 1) old.tree.inputs) _ (sym (new_root_below crossing.edge_queue old at l) ∙ c.edge))
 
@@ -172,24 +173,24 @@ at_once {M} {T} b nodes crossing old new below at hub reader queue c none reads 
 
 -- ---- joined after moves
 
-ended_row : {M : Type 0} (t : Inputs M) → is_end t ≡ true → t ≡ End
+pub ended_row : {M : Type 0} (t : Inputs M) → is_end t ≡ true → t ≡ End
 ended_row End h = refl
 ended_row (More' e n p below q beside) h = cc
 
-holds_some : {T : Type 0} (o : Option (List T)) (k : ℕ) → fits_behind o k ≡ true → o ≡ Some (items_of o)
+pub holds_some : {T : Type 0} (o : Option (List T)) (k : ℕ) → fits_behind o k ≡ true → o ≡ Some (items_of o)
 holds_some None k h = cc
 holds_some (Some q) k h = refl
 
-is_false : (c : Bool) → not c ≡ true → c ≡ false
+pub is_false : (c : Bool) → not c ≡ true → c ≡ false
 is_false true h = cc
 is_false false h = refl
 
-next_append : {T : Type 0} (xs ys : List T) → map Next (xs ++ ys) ≡ map Next xs ++ map Next ys
+pub next_append : {T : Type 0} (xs ys : List T) → map Next (xs ++ ys) ≡ map Next xs ++ map Next ys
 next_append [] ys = refl
 next_append (x ∷ xs) ys = ap (λ l. Next x ∷ l) (next_append xs ys)
 
 -- two parts with a link between them, joined again
-joined_regions : {M T : Type 0} (b : Machine M T) (m : Meaning T) (upper upper' lower lower' : Node M) (leaf leaf' x x' : M) (k at : ℕ) (queued came left held out went : List (Signal T)) (taken_above taken_below whole : List (Stream T)) → IsLocal b m →
+pub joined_regions : {M T : Type 0} (b : Machine M T) (m : Meaning T) (upper upper' lower lower' : Node M) (leaf leaf' x x' : M) (k at : ℕ) (queued came left held out went : List (Signal T)) (taken_above taken_below whole : List (Stream T)) → IsLocal b m →
     IsThere at upper → IsThere at upper' →
     IsCutBetween b m k (with_node at x lower.inputs upper) (with_node at x' lower'.inputs upper') lower lower' leaf leaf' x x' queued came left held out → Adds taken_above whole k came → Adds taken_below whole k [] →
     Carries b m taken_above (with_node at leaf End upper) (with_node at leaf' End upper') went → Carries b m taken_below lower lower' out →
@@ -236,8 +237,8 @@ after_moves {M} {T} b nodes crossing local holds_law reads_on m old new upper be
       sent = sent;
       leaf_is = reads_on m reader [] [] (map Next queue) (record { hub = k; reached = 0 }) none reads refl;
       leaf_is' = subst H (sym (next_append items queue')) (subst S sent (reads_on m leaf items taken (map Next queue') (record { hub = k; reached = length taken }) held_is reached.reads refl));
-      holds = (holds_law m queue below.tree.machine c.straight).holds;
-      holds' = (holds_law m (items ++ queue') lower.tree.machine (is_false (nodes.crosses lower.tree.machine) parts.0)).holds;
+      holds = holds_over b m x (map Next queue) below.tree (holds_law m queue below.tree.machine c.straight).holds;
+      holds' = holds_over b m x' (map Next (items ++ queue')) lower.tree (holds_law m (items ++ queue') lower.tree.machine (is_false (nodes.crosses lower.tree.machine) parts.0)).holds;
       free = subst R c.whole free;
       free' = free';
       free_below = free_below;

@@ -11,4 +11,5 @@ pub mod Many
 pub mod Output
 pub mod Part
 pub mod Published
+pub mod Rejoined
 pub mod Tree

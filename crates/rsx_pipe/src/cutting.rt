@@ -1,7 +1,8 @@
 //! A part is cut at an edge that crosses to another region, and joined there again.
 
-ghost use Rattle.std.specs.Prelude.{◌≡◌, ◌++◌, min, Some, None, true, false, IfOk, IfErr, OnOk, OnErr, option_map};
-ghost use Rattle.rsx_pipe.specs.Cutting.{can_join_here, can_join_in, can_take_back, held_in, root_below, root_here, root_with, sender_at};
+ghost use Rattle.std.specs.Prelude.{◌≡◌, ◌++◌, min, length, Some, None, true, false, IfOk, IfErr, OnOk, OnErr, option_map};
+ghost use Rattle.rsx_pipe.specs.Cutting.{held_in, root_below, root_here, root_with, sender_at};
+ghost use Rattle.rsx_pipe.specs.Rejoined.{can_rejoin_here, can_rejoin_in};
 ghost use Rattle.rsx_rooted.specs.Cutting.{items_of};
 ghost use Rattle.rsx_tree.specs.Edges.{edge_view};
 ghost use Rattle.rsx_tree.specs.Inputs.{size};
@@ -20,12 +21,13 @@ pub struct CutOff<N, T> {
     /// The node over that edge, with all that is below it, as a part of its own. What was asked over the edge is asked of it, and
     /// it sent what went over the edge and what was in the queue there.
     pub part: Part<N>,
-    /// What was in the queue of that edge.
+    /// What was in the queue of that edge. Where it is joined again, the items that are left of what the part sent.
     pub queue: ItemQueue<T>,
 }
 
 impl<N: CrossingNodes + Drop> Part<N> {
-    ghost use Rattle.rsx_pipe.specs.Cutting.{IsCut, can_join, joined, new_root};
+    ghost use Rattle.rsx_pipe.specs.Cutting.{IsCut, joined, new_root};
+    ghost use Rattle.rsx_pipe.specs.Rejoined.{can_rejoin};
 
     /// Cuts the part at the edge `at`, 0 for that of its root. The node over that edge goes on, with all that is below it, as the
     /// root of a part of its own, `reader` takes its place, and the queue of the edge is handed out. It takes no memory.
@@ -55,10 +57,13 @@ impl<N: CrossingNodes + Drop> Part<N> {
     /// Joins what was cut off at the edge `at` to the part again, with a queue at that edge. In the queue are what the reader there
     /// holds, and then the items of `below.queue`. The reader is dropped. It takes no memory.
     ///
+    /// Where the lower part has sent its ending, this is put back into it first ([`Part::put_back`]), whether it came to the reader
+    /// or not.
+    ///
     /// # Errors
-    /// All comes back, and nothing changed, where there is no edge `at`, where its node isn't one that holds items
-    /// of the hub with this number and reads it still, where the queue has no room for all these items, and where the edge of
-    /// the root that is joined has a queue already.
+    /// All comes back, and nothing changed, where there is no edge `at`; where its node isn't one that reads the hub with this
+    /// number still, or that read a hub or a link to its end while `below.queue` is empty; where the queue has no room for all
+    /// these items; and where the edge of the root that is joined has a queue already.
     pub fn rejoin(
         &mut self,
         at: u32,
@@ -66,8 +71,8 @@ impl<N: CrossingNodes + Drop> Part<N> {
         below: CutOff<N, N::Item>,
     ) -> Result<(), CutOff<N, N::Item>>
         ensures ok { OnOk result (self.new ≡ joined N.CrossingNodes.own self.old at below.part below.queue) }
-        ensures enabled { OnOk result (can_join N.Machine N.Nodes.own N.CrossingNodes.own self.old at hub below.part.tree.machine below.queue ≡ true) }
-        ensures refused { OnErr result (can_join N.Machine N.Nodes.own N.CrossingNodes.own self.old at hub below.part.tree.machine below.queue ≡ false) }
+        ensures enabled { OnOk result (can_rejoin N.Machine N.Nodes.own N.CrossingNodes.own self.old at hub below.part.tree.machine below.queue ≡ true) }
+        ensures refused { OnErr result (can_rejoin N.Machine N.Nodes.own N.CrossingNodes.own self.old at hub below.part.tree.machine below.queue ≡ false) }
         ensures err { IfErr result (λ c. c ≡ below) }
         ensures same { OnErr result (self.new ≡ self.old) }
     {
@@ -196,8 +201,8 @@ fn join_at<N: CrossingNodes + Drop>(
 ) -> Result<(), CutOff<N, N::Item>>
     requires { N.crosses below.part.tree.machine ≡ false }
     ensures ok { OnOk result (row.new ≡ put_at at (N.queued (held_in N.CrossingNodes.own (sender_at at row.old) ++ below.queue) below.part.tree.machine) below.part.tree.inputs row.old) }
-    ensures enabled { OnOk result (can_join_in N.Machine N.CrossingNodes.own hub below.queue (sender_at at row.old) ≡ true) }
-    ensures refused { OnErr result (can_join_in N.Machine N.CrossingNodes.own hub below.queue (sender_at at row.old) ≡ false) }
+    ensures enabled { OnOk result (can_rejoin_in N.Machine N.CrossingNodes.own hub (length below.queue) (sender_at at row.old) ≡ true) }
+    ensures refused { OnErr result (can_rejoin_in N.Machine N.CrossingNodes.own hub (length below.queue) (sender_at at row.old) ≡ false) }
     ensures err { IfErr result (λ c. c ≡ below) }
     ensures same { OnErr result (row.new ≡ row.old) }
 {
@@ -216,7 +221,7 @@ fn join_at<N: CrossingNodes + Drop>(
     }
 }
 
-/// Puts what was cut off in the place of a reader of this hub.
+/// Puts what was cut off in the place of a reader.
 fn join_here<N: CrossingNodes + Drop>(
     machine: &mut N,
     under: &mut Inputs<N>,
@@ -226,8 +231,8 @@ fn join_here<N: CrossingNodes + Drop>(
     requires { N.crosses below.part.tree.machine ≡ false }
     ensures node { OnOk result (machine.new ≡ N.queued (items_of (N.held machine.old) ++ below.queue) below.part.tree.machine) }
     ensures inputs { OnOk result (under.new ≡ below.part.tree.inputs) }
-    ensures enabled { OnOk result (can_join_here N.Machine N.CrossingNodes.own hub below.queue machine.old under.old ≡ true) }
-    ensures refused { OnErr result (can_join_here N.Machine N.CrossingNodes.own hub below.queue machine.old under.old ≡ false) }
+    ensures enabled { OnOk result (can_rejoin_here N.Machine N.CrossingNodes.own hub (length below.queue) machine.old under.old ≡ true) }
+    ensures refused { OnErr result (can_rejoin_here N.Machine N.CrossingNodes.own hub (length below.queue) machine.old under.old ≡ false) }
     ensures err { IfErr result (λ c. c ≡ below) }
     ensures machine { OnErr result (machine.new ≡ machine.old) }
     ensures row { OnErr result (under.new ≡ under.old) }
@@ -248,11 +253,15 @@ fn join_here<N: CrossingNodes + Drop>(
     Ok(())
 }
 
-/// Whether the node is a reader of this hub alone, and a queue takes back what it holds and so many items.
+/// Whether nothing is below the node, whether so many items can come behind what it holds, and whether a queue takes all of that back.
 fn takes_back<N: CrossingNodes>(machine: &N, under: &Inputs<N>, hub: u64, items: usize) -> bool
-    ensures { result ≡ can_take_back N.Machine N.CrossingNodes.own hub items machine.now under.now }
+    ensures { result ≡ can_rejoin_here N.Machine N.CrossingNodes.own hub items machine.now under.now }
 {
-    if !matches!(under, Inputs::End) || machine.hub() != Some(hub) {
+    if !matches!(under, Inputs::End) {
+        return false;
+    }
+    let reads_still = machine.hub() == Some(hub);
+    if !reads_still && (items > 0 || !machine.has_read_to_end()) {
         return false;
     }
     match machine.held_len() {

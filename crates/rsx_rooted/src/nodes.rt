@@ -3,6 +3,7 @@
 ghost use Rattle.std.specs.Prelude.{◌≡◌, ℕ, Bool, List, Option};
 ghost use Rattle.rsx_tree.specs.declared.edge.EdgeState.{EdgeState as EdgeStateSpec};
 ghost use Rattle.rsx_rooted.specs.declared.nodes.Route.{Route as RouteSpec};
+ghost use Rattle.rsx_types.specs.declared.signal.Ending.{Ending as EndingSpec};
 
 use rsx_hub::Member;
 use rsx_queued::ItemQueue;
@@ -64,10 +65,13 @@ pub trait CrossingNodes: Nodes {
     /// The items that a node holds which reads a hub or a link, or did so until that had ended.
     ghost held: { Self → Option (List Self.Item) };
 
+    /// The ending that a node took in which read a hub or a link until that had ended.
+    ghost read_to: { Self → Option EndingSpec };
+
     ghost use Rattle.std.specs.Prelude.{◌≡◌, ◌+◌, ◌≤◌, ◌++◌, ℕ, List, length, map, true, false, None, Some, OnOk, OnErr, IfOk, IfErr, IfSome, IfNone, option_map};
     ghost use Rattle.rsx_cut.specs.Flow.{HoldsQueue, ReadsLink};
     ghost use Rattle.rsx_hub.specs.Member.{MemberState};
-    ghost use Rattle.rsx_rooted.specs.Cutting.{items_of};
+    ghost use Rattle.rsx_rooted.specs.Cutting.{endings, is_some, items_of};
     ghost use Rattle.rsx_sources.specs.Reading.{Reading};
     ghost use Rattle.rsx_types.specs.Meaning.{Meaning};
     ghost use Rattle.rsx_types.specs.declared.limits.TheConstants.{CAPACITY};
@@ -125,6 +129,10 @@ pub trait CrossingNodes: Nodes {
     fn held_len(&self) -> Option<usize>
         ensures { result ≡ option_map length (held self.now) };
 
+    /// Whether the node read a hub or a link, and took in its ending.
+    fn has_read_to_end(&self) -> bool
+        ensures { result ≡ is_some (read_to self.now) };
+
     /// Puts the items that the node holds in front of those in this queue, which has room for them; the node is dropped. Where it
     /// holds none, the queue stays as it is.
     fn release(self, queue: &mut ItemQueue<Self::Item>)
@@ -136,4 +144,10 @@ pub trait CrossingNodes: Nodes {
 
     /// Of all that a link carried, a reader that took in so many items gives out those that it holds, and then the others.
     ghost reads_on: { (m : Meaning Self.Item) (n : Self) (items taken : List Self.Item) (others : List (Signal Self.Item)) (r : Reading) → held n ≡ Some items → Self.reads n ≡ Some r → r.reached ≡ length taken → ReadsLink Self.Machine m r.hub n (map Next taken ++ others) (map Next items ++ others) };
+
+    /// One that took in the ending of a hub or a link gives out the items that it holds, and then that ending, whatever was sent.
+    ghost reads_ended: { (m : Meaning Self.Item) (n : Self) (items : List Self.Item) (e : EndingSpec) (k : ℕ) (sent : List (Signal Self.Item)) → held n ≡ Some items → read_to n ≡ Some e → ReadsLink Self.Machine m k n sent (map Next items ++ endings e) };
+
+    /// One that reads a hub or a link has taken in no ending of it.
+    ghost reads_still: { (n : Self) (r : Reading) → Self.reads n ≡ Some r → read_to n ≡ None };
 }
