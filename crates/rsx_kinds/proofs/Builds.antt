@@ -7,7 +7,7 @@ use Rattle.rsx_hub.specs.Member.{MemberState, ReadsFromJoin, ending_taken, fresh
 use Rattle.rsx_model.specs.Eval.{environment, quiet, meant, joined_value, behind as missing}
 use Rattle.rsx_model.specs.declared.expr.Expr.TheVariants.{Items as ItemsOf, Range as RangeOf, Hub as HubOf}
 use Rattle.rsx_model.proofs.Unfold.{value_Items, value_Range, value_Hub, hub_there}
-use Rattle.rsx_tree.specs.Prelude.{IsOwnerBalanced, IsRowBalanced, sent_over, edge_view, comes_in, out_of, notes_of, edges as edges_in, IsReadAt, IsTreeReadAt, count_before, comes_out, notes}
+use Rattle.rsx_tree.specs.Prelude.{IsOwnerBalanced, IsRowBalanced, sent_over, edge_view, comes_in, out_of, notes_of, edges as edges_in, IsReadAt, IsTreeReadAt, count_before}
 use Rattle.rsx_kinds.specs.declared.source_node.SourceNode.TheVariants.{Items, Range, Hub}
 use Rattle.rsx_rooted.proofs.Joined.{join_there}
 use Rattle.rsx_kinds.proofs.Wants.{wants_Hub, wants_Items, wants_Range}

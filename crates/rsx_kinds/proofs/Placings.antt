@@ -1,5 +1,5 @@
 -- Which edges of a tree that was made have a queue.
-use Rattle.std.proofs.Common.{◌≡◌, inl, inr, ℕ, Bool, true, false, ◌||◌, nat_eq, List, [], ◌∷◌, ◌++◌, map, refl, ap, sym, ◌∙◌, subst, arith, Option, Some, None, Result, Ok, Err, Box, Vec, Global}
+use Rattle.std.proofs.Common.{◌≡◌, inl, inr, ℕ, Bool, true, false, ◌||◌, nat_eq, List, [], ◌∷◌, ◌++◌, map, refl, ap, sym, ◌∙◌, subst, Option, Some, None, Result, Ok, Err, Box, Vec, Global}
 use Rattle.std.specs.Prelude.{IfOk, ℤ}
 use Rattle.std.proofs.lemmas.Bool.{eq-eqb}
 use Rattle.rsx_sources.specs.Prelude.{NoMemory, HubId, Stage}

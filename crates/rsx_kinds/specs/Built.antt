@@ -1,7 +1,7 @@
 -- A tree that was made for an expression.
-use Rattle.std.specs.Prelude.{◌≡◌, ℕ, ◌+◌, ◌<◌, List, [], ◌∷◌, ◌++◌, length, map, option_and_then, slice_get}
+use Rattle.std.specs.Prelude.{◌≡◌, ℕ, ◌+◌, ◌<◌, List, [], length, map, option_and_then, slice_get}
 use Rattle.std.proofs.Math.ListN.{replicate}
-use Rattle.rsx_hub.specs.Hub.{HubState, join}
+use Rattle.rsx_hub.specs.Hub.{HubState}
 use Rattle.rsx_model.specs.Eval.{environment, meant, in_order}
 use Rattle.rsx_model.specs.declared.expr.Expr.{Expr}
 use Rattle.rsx_sources.specs.Prelude.{Meaning, Stream, Note, Stage}

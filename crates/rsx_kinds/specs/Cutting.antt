@@ -1,6 +1,7 @@
 -- The queue of a node's edge, taken off it and put there again, and the node that reads a hub or a link.
 use Rattle.std.specs.Prelude.{ℕ, Bool, List, Option, Some, None}
-use Rattle.rsx_sources.specs.Prelude.{Reading}
+use Rattle.rsx_sources.specs.Prelude.{Ending, Open, Done, Failed, Reading}
+use Rattle.rsx_queued.specs.declared.sender.Sender.{Sender}
 use Rattle.rsx_queued.specs.declared.sender.Sender.TheVariants.{Direct, Crossing}
 use Rattle.rsx_queued.specs.declared.tail.Tail.{Tail}
 use Rattle.rsx_queued.specs.declared.tail.Tail.TheVariants.{Open as TailOpen, Completion, Failure, Taken}
@@ -18,12 +19,12 @@ unended (Failure c) q = None
 unended Taken q = None
 
 -- the items in the queue of a node's edge, where no ending is in the queue
-abbrev pub queue_of : {T : Type 0} → TreeNode T → Option (List T)
+abbrev pub queue_of : {M T : Type 0} → Sender M T → Option (List T)
 queue_of (Direct n) = None
 queue_of (Crossing x) = unended x.tail x.queue
 
 -- the node with a queue of these items at its edge, where the edge doesn't cross
-abbrev pub with_queue : {T : Type 0} → List T → TreeNode T → TreeNode T
+abbrev pub with_queue : {M T : Type 0} → List T → Sender M T → Sender M T
 with_queue q (Direct n) = Crossing (record { node = n; queue = q; tail = TailOpen })
 with_queue q (Crossing x) = Crossing x
 
@@ -45,6 +46,30 @@ kind_held (GroupBy n) = None
 abbrev pub node_held : {T : Type 0} → TreeNode T → Option (List T)
 node_held (Direct n) = kind_held n
 node_held (Crossing x) = None
+
+-- the ending that a node took in whose source is a hub
+abbrev pub taken_in : Ending → Option Ending
+taken_in Open = None
+taken_in Done = Some Done
+taken_in (Failed c) = Some (Failed c)
+
+abbrev pub source_read_to : {T : Type 0} → SourceNode T → Option Ending
+source_read_to (Items n) = None
+source_read_to (Range n) = None
+source_read_to (Hub n) = taken_in n.ending
+
+abbrev pub kind_read_to : {T : Type 0} → AnyNode T → Option Ending
+kind_read_to (Source n) = source_read_to n
+kind_read_to (Plain n) = None
+kind_read_to (Several n) = None
+kind_read_to (PublishOn n) = None
+kind_read_to (Window n) = None
+kind_read_to (FlatMap n) = None
+kind_read_to (GroupBy n) = None
+
+abbrev pub node_read_to : {T : Type 0} → TreeNode T → Option Ending
+node_read_to (Direct n) = kind_read_to n
+node_read_to (Crossing x) = None
 
 -- what a node of a tree reads, whether it has ended, and its counts
 abbrev pub node_reads : {T : Type 0} → TreeNode T → Option Reading

@@ -1,18 +1,19 @@
 -- What comes out of a node depends on no hub but the one that it reads; and what a cut of a tree asks of its nodes.
-use Rattle.std.specs.Prelude.{◌≡◌, ℕ, ◌+◌, false, List, [], ◌∷◌, ◌++◌, length, map, Some, None, refl}
+use Rattle.std.specs.Prelude.{◌≡◌, ℕ, false, List, [], ◌∷◌, ◌++◌, length, map, Some, None, refl}
 use Rattle.std.proofs.Common.{ap, sym, ◌∙◌}
-use Rattle.rsx_sources.specs.Prelude.{Meaning, Stream, Note, Nothing, Ending, Open, Done, Failed, Signal, Next, Reading, incoming_of, published_at, signals_then}
+use Rattle.rsx_sources.specs.Prelude.{Meaning, Stream, Note, Nothing, Ending, Open, Done, Failed, Signal, Next, Complete, Error, Reading, ended_by, incoming_of, published_at, signals_then}
 use Rattle.rsx_hub.specs.Leaf.{LeafState, reading_of}
 use Rattle.rsx_queued.specs.declared.sender.Sender.TheVariants.{Direct, Crossing}
 use Rattle.rsx_cut.specs.Flow.{HoldsQueue, ReadsLink}
 use Rattle.rsx_cut.specs.Local.{AgreeAt, IsLocal}
-use Rattle.rsx_cut.proofs.Leaves.{crossing_holds, leaf_local, leaf_reads_link, sender_local}
+use Rattle.rsx_cut.proofs.Joins.{then_append}
+use Rattle.rsx_cut.proofs.Leaves.{crossing_holds, items_signals, leaf_local, leaf_open, leaf_reads_link, sender_local}
 use Rattle.rsx_kinds.specs.Any.{TreeNode, any_machine, kind_machine}
 use Rattle.rsx_kinds.specs.Crossings.{is_crossing}
-use Rattle.rsx_kinds.specs.Cutting.{node_held, with_queue}
+use Rattle.rsx_rooted.specs.Cutting.{endings}
+use Rattle.rsx_kinds.specs.Cutting.{node_held, node_read_to, taken_in, with_queue}
 use Rattle.rsx_kinds.specs.Several.{several_comes_out}
 use Rattle.rsx_kinds.specs.Source.{source_comes_out, source_reads}
-use Rattle.rsx_kinds.specs.declared.any_node.AnyNode.{AnyNode}
 use Rattle.rsx_kinds.specs.declared.any_node.AnyNode.TheVariants.{Source, Plain, Several, PublishOn, Window, FlatMap, GroupBy}
 use Rattle.rsx_kinds.specs.declared.several_node.SeveralNode.{SeveralNode}
 use Rattle.rsx_kinds.specs.declared.several_node.SeveralNode.TheVariants.{Concat, Merge, Zip, Latest}
@@ -90,3 +91,50 @@ any_reads_on m (Direct (Window n)) items taken others r holds reads reached = cc
 any_reads_on m (Direct (FlatMap n)) items taken others r holds reads reached = cc
 any_reads_on m (Direct (GroupBy n)) items taken others r holds reads reached = cc
 any_reads_on m (Crossing x) items taken others r holds reads reached = cc
+
+-- ---- it read one to its end
+
+leaf_reads_ended : {T : Type 0} (m : Meaning T) (n : LeafState T) (x : Ending) (items : List T) (e : Ending) → n.ending ≡ x → Some n.queue ≡ Some items → taken_in x ≡ Some e → (hubs : List (Stream T)) (v : Stream T) →
+    source_comes_out m (Hub n) (incoming_of hubs []) Nothing ≡ Some (signals_then (map Next items ++ endings e) v)
+leaf_reads_ended m n Open items e is holds taken hubs v = cc
+leaf_reads_ended {T} m n Done items e is holds taken hubs v =
+    let queue : n.queue ≡ items = cc in
+    let ending : Done ≡ e = cc in
+    leaf_open m hubs n Done is
+    ∙ (ap Some (items_signals n.queue (ended_by Done) ∙ sym (then_append (map Next n.queue) (Complete ∷ []) v))
+    ∙ (ap (λ q. Some (signals_then (map Next q ++ Complete ∷ []) v)) queue ∙ ap (λ x. Some (signals_then (map Next items ++ endings x) v)) ending))
+leaf_reads_ended {T} m n (Failed c) items e is holds taken hubs v =
+    let queue : n.queue ≡ items = cc in
+    let ending : Failed c ≡ e = cc in
+    leaf_open m hubs n (Failed c) is
+    ∙ (ap Some (items_signals n.queue (ended_by (Failed c)) ∙ sym (then_append (map Next n.queue) (Error c ∷ []) v))
+    ∙ (ap (λ q. Some (signals_then (map Next q ++ Error c ∷ []) v)) queue ∙ ap (λ x. Some (signals_then (map Next items ++ endings x) v)) ending))
+
+pub any_reads_ended : {T : Type 0} (m : Meaning T) (n : TreeNode T) (items : List T) (e : Ending) (k : ℕ) (sent : List (Signal T)) → node_held n ≡ Some items → node_read_to n ≡ Some e → ReadsLink any_machine m k n sent (map Next items ++ endings e)
+any_reads_ended m (Direct (Source (Hub n))) items e k sent holds taken = record { out = λ hubs v p. leaf_reads_ended m n n.ending items e refl holds taken hubs v; recorded = refl }
+any_reads_ended m (Direct (Source (Items n))) items e k sent holds taken = cc
+any_reads_ended m (Direct (Source (Range n))) items e k sent holds taken = cc
+any_reads_ended m (Direct (Plain n)) items e k sent holds taken = cc
+any_reads_ended m (Direct (Several n)) items e k sent holds taken = cc
+any_reads_ended m (Direct (PublishOn n)) items e k sent holds taken = cc
+any_reads_ended m (Direct (Window n)) items e k sent holds taken = cc
+any_reads_ended m (Direct (FlatMap n)) items e k sent holds taken = cc
+any_reads_ended m (Direct (GroupBy n)) items e k sent holds taken = cc
+any_reads_ended m (Crossing x) items e k sent holds taken = cc
+
+leaf_reads_still : (x : Ending) (q r : Reading) → reading_of x q ≡ Some r → taken_in x ≡ None
+leaf_reads_still Open q r reads = refl
+leaf_reads_still Done q r reads = cc
+leaf_reads_still (Failed c) q r reads = cc
+
+pub any_reads_still : {T : Type 0} (n : TreeNode T) (r : Reading) → any_machine.reads n ≡ Some r → node_read_to n ≡ None
+any_reads_still (Direct (Source (Hub n))) r reads = leaf_reads_still n.ending _ r reads
+any_reads_still (Direct (Source (Items n))) r reads = refl
+any_reads_still (Direct (Source (Range n))) r reads = refl
+any_reads_still (Direct (Plain n)) r reads = refl
+any_reads_still (Direct (Several n)) r reads = refl
+any_reads_still (Direct (PublishOn n)) r reads = refl
+any_reads_still (Direct (Window n)) r reads = refl
+any_reads_still (Direct (FlatMap n)) r reads = refl
+any_reads_still (Direct (GroupBy n)) r reads = refl
+any_reads_still (Crossing x) r reads = refl

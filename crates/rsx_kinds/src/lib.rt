@@ -38,6 +38,7 @@
 
 pub mod any_node;
 mod boxed;
+mod crossing_nodes;
 pub mod kind;
 mod nodes;
 pub mod several_node;
