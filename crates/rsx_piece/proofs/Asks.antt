@@ -1,5 +1,5 @@
 -- What is asked of the link where the reader asked for more.
-use Rattle.std.proofs.Common.{◌≡◌, inl, ℕ, zero, suc, ◌+◌, ◌-◌, ◌<◌, ◌≤◌, min, Bool, true, List, ◌∷◌, refl, ap, sym, ◌∙◌, subst, arith, Option, Some, ℤ, pos, ◌^◌}
+use Rattle.std.proofs.Common.{◌≡◌, inl, ℕ, zero, suc, ◌-◌, ◌<◌, ◌≤◌, Bool, true, List, refl, ap, sym, ◌∙◌, subst, arith, Option, Some, ℤ, pos, ◌^◌}
 use Rattle.std.proofs.lemmas.Int.{to_z_pos}
 use mir.Syntax.{w64}
 use mir.Val.{to_z}
@@ -8,17 +8,18 @@ use Rattle.rsx_demand.specs.declared.TheConstants.{UNBOUNDED}
 use Rattle.rsx_sources.specs.Prelude.{Stream, Signal}
 use Rattle.rsx_sources.specs.declared.machine.Machine.{Ghosts as Machine}
 use Rattle.rsx_tree.specs.Edges.{is_live}
+use Rattle.rsx_tree.specs.Reads.{readings}
 use Rattle.rsx_tree.specs.declared.edge.Edge.{Edge}
 use Rattle.rsx_pipe.specs.Part.{Part}
 use Rattle.rsx_pipe.specs.Published.{reader_edge}
 use Rattle.rsx_link.specs.Ends.{Requests, asked_total, received_signals}
-use Rattle.rsx_link.specs.Signals.{request_of}
+use Rattle.rsx_link.specs.Signals.{items_in, request_of}
 use Rattle.rsx_link.specs.Steps.{asked_of}
 use Rattle.rsx_link.specs.declared.cancel.CancelSeat.{CancelSeat}
 use Rattle.rsx_link.specs.declared.down.Down.{Down}
 use Rattle.rsx_link.specs.declared.view.Step.{Step}
 use Rattle.rsx_cut.specs.Local.{stream_of}
-use Rattle.rsx_piece.specs.Inlet.{LinkStands}
+use Rattle.rsx_piece.specs.Inlet.{HaveReached, LinkStands}
 use Rattle.rsx_piece.specs.Moves.{IsAskedFor, IsAskedOver}
 
 asks_more : {T : Type 0} (k total : ℕ) (old new : List Step) (answer : Option (Signal T)) → k ≡ total - asked_of old → asked_of old < total → total ≤ UNBOUNDED → Requests (request_of (pos k)) old new answer → asked_of new ≡ total
@@ -47,6 +48,7 @@ pub link_asked : {M T : Type 0} (b : Machine M T) (taken : List (Stream T)) (p :
 link_asked b taken p h d d' c e received is all st = record {
   came = st.came ∙ ap (λ l. Some (stream_of l)) (sym received);
   one = st.one;
+  reached = let R : ℕ → Type 0 = λ n. HaveReached h n (readings b p.tree) in subst R (ap items_in (sym received)) st.reached;
   asked = λ x k. same_edge e x d' (is ∙ k) all;
   cancelled = st.cancelled;
 }

@@ -1,5 +1,5 @@
 -- The edge over which the reader of a link sends: no step of a piece takes back what was asked over it, or makes it live again.
-use Rattle.std.proofs.Common.{◌≡◌, ◌⊎◌, inl, inr, ℕ, zero, suc, ◌+◌, ◌<◌, ◌≤◌, Bool, true, false, nat_eq, if◌then◌else◌, List, [], ◌∷◌, ◌++◌, length, map, length-append, refl, ap, sym, ◌∙◌, subst, arith, Option, Some, None, option_map, slice_get}
+use Rattle.std.proofs.Common.{◌≡◌, inl, inr, ℕ, suc, ◌+◌, ◌≤◌, Bool, true, false, nat_eq, if◌then◌else◌, List, [], ◌∷◌, ◌++◌, length, map, length-append, refl, ap, sym, ◌∙◌, subst, arith, Option, Some, None, option_map, slice_get}
 use Rattle.std.specs.List.{AllZip}
 use Rattle.std.specs.Option.{option_or}
 use Rattle.rsx_sources.specs.Prelude.{Stream, Reading, reads_hub}
@@ -15,10 +15,11 @@ use Rattle.rsx_tree.specs.declared.inputs.Inputs.{Inputs, End, More'}
 use Rattle.rsx_pipe.specs.Part.{Part, all_edges}
 use Rattle.rsx_pipe.specs.Published.{reader_edge}
 use Rattle.rsx_link.specs.Ends.{asked_total, received_signals}
+use Rattle.rsx_link.specs.Signals.{items_in}
 use Rattle.rsx_link.specs.declared.cancel.CancelSeat.{CancelSeat}
 use Rattle.rsx_link.specs.declared.down.Down.{Down}
 use Rattle.rsx_cut.specs.Local.{stream_of}
-use Rattle.rsx_piece.specs.Inlet.{LinkStands, NoneReads, OneReads}
+use Rattle.rsx_piece.specs.Inlet.{HaveReached, LinkStands, NoneReads, OneReads}
 
 -- ---- the first edge whose node reads the hub, by the two lists in pre-order
 
@@ -193,9 +194,9 @@ edge_there None v h = cc
 edge_there (Some e) v h = (e, refl, let k : Some (edge_view e) ≡ Some v = h in cc)
 
 -- what a piece has of a link stands on where its part changed so
-pub link_kept : {M T : Type 0} (b : Machine M T) (taken taken' : List (Stream T)) (p p' : Part M) (h : ℕ) (d d' : Down T) (c : CancelSeat) → asked_total d' ≡ asked_total d → slice_get taken' h ≡ Some (stream_of (received_signals d')) → AllGoOn (readings b p.tree) (readings b p'.tree) → AllGrow (all_edges p) (all_edges p') →
+pub link_kept : {M T : Type 0} (b : Machine M T) (taken taken' : List (Stream T)) (p p' : Part M) (h : ℕ) (d d' : Down T) (c : CancelSeat) → asked_total d' ≡ asked_total d → slice_get taken' h ≡ Some (stream_of (received_signals d')) → HaveReached h (items_in (received_signals d')) (readings b p'.tree) → AllGoOn (readings b p.tree) (readings b p'.tree) → AllGrow (all_edges p) (all_edges p') →
     LinkStands b taken p h d c → LinkStands b taken' p' h d' c
-link_kept {M} {T} b taken taken' p p' h d d' c asked came goes grow st =
+link_kept {M} {T} b taken taken' p p' h d d' c asked came reached goes grow st =
     let was : (e : Edge) → reader_edge b h p' ≡ Some e → (w : Edge) × (reader_edge b h p ≡ Some w) × Grows (edge_view w) (edge_view e) = λ e is.
     let new : first_view h (readings b p'.tree) (all_edges p') ≡ Some (edge_view e) = sym (part_first b h p') ∙ ap (option_map edge_view) is in
     let g = first_grown h (readings b p.tree) (readings b p'.tree) (all_edges p) (all_edges p') (edge_view e) goes st.one grow new in
@@ -206,6 +207,7 @@ link_kept {M} {T} b taken taken' p p' h d d' c asked came goes grow st =
     record {
       came = came;
       one = one_goes h (readings b p.tree) (readings b p'.tree) goes st.one;
+      reached = reached;
       asked = λ e is. let w = was e is in less (asked_total d) w.0.demand.asked e.demand.asked (asked_total d') (st.asked w.0 w.1) w.2.asked asked;
       cancelled = λ e is many. let w = was e is in w.2.dead (st.cancelled w.0 w.1 many);
     }

@@ -15,7 +15,6 @@ use Rattle.rsx_tree.specs.Chosen.{ended_there, edges_after as stepped_after, ste
 use Rattle.rsx_tree.specs.Stepped.{station_of}
 use Rattle.rsx_tree.specs.Edges.{EdgeView, asked_up_to, can_ask_for, changed_at, closed_if, closed_view, edge_view, is_live, passed}
 use Rattle.rsx_tree.specs.Inputs.{Place, can_ask_in, edges, is_own, place, sent_edges, size, wanted_at}
-use Rattle.rsx_tree.specs.Reads.{readings}
 use Rattle.rsx_tree.specs.Tree.{place_of}
 use Rattle.rsx_tree.specs.declared.inputs.Inputs.{Inputs, End, More'}
 use Rattle.rsx_tree.specs.declared.look.NodeMove.{NodeMove}
@@ -28,7 +27,7 @@ use Rattle.rsx_link.specs.declared.cancel.CancelSeat.{CancelSeat}
 use Rattle.rsx_link.specs.declared.down.Down.{Down}
 use Rattle.rsx_piece.specs.Inlet.{LinkStands}
 use Rattle.rsx_piece.proofs.Edges.{AllGrow, Grows, all_grow_closed, all_grow_same, all_grow_then, grows_same}
-use Rattle.rsx_piece.proofs.Inlets.{go_from, grows_passed, kept_on}
+use Rattle.rsx_piece.proofs.Inlets.{grows_passed, kept_on}
 
 -- ---- lists of edges
 
@@ -174,4 +173,4 @@ pub link_worked : {M T : Type 0} (b : Machine M T) (m : Meaning T) (taken : List
 link_worked {M} {T} b m taken move p p' h d c out can made none st =
     let I : List (Signal T) → Type 0 = λ o. IsMade b m move p o p' in
     let k = subst I (sym none) made in
-    kept_on b taken p p' h d c (go_from (readings b p.tree) (readings b p'.tree) k.alike.2) (inside_grows b m move p p' can k) st
+    kept_on b taken p p' h d c k.alike.2 (inside_grows b m move p p' can k) st

@@ -6,7 +6,7 @@ use Rattle.rsx_sources.specs.declared.machine.Machine.{Ghosts as Machine}
 use Rattle.rsx_tree.specs.Edges.{is_live}
 use Rattle.rsx_tree.specs.Handed.{IsHandedOut, is_room_for, reader_at, readers_in, times}
 use Rattle.rsx_tree.specs.Handed as Tree
-use Rattle.rsx_tree.specs.Reads.{AllGoOn, IsReadAt, IsRowReadAt, IsTreeReadAt, readings}
+use Rattle.rsx_tree.specs.Reads.{IsReadAt, IsRowReadAt, IsTreeReadAt, readings}
 use Rattle.rsx_tree.specs.declared.edge.EdgeState.{EdgeState}
 use Rattle.rsx_tree.specs.declared.edge.EdgeState.TheVariants.{Live, Closed, Ended}
 use Rattle.rsx_tree.specs.declared.inputs.Inputs.{Inputs, End, More'}
@@ -110,7 +110,7 @@ stands_popped {M} {T} b m taken old queued p p' u h s came came' there more one 
       reading = all_go_on (readings b old) (readings b p.tree) (readings b p'.tree) st.reading handed.reading;
       live = λ _. record {
         unended = was.unended;
-        balance = let C : ℕ → Type 0 = λ c. IsBalanced b p'.tree c in subst C (ap (λ e. e.demand.sent) (sym k.root)) (handed.balance p.root.demand.sent was.balance);
+        balance = λ before all h. let C : ℕ → Type 0 = λ c. IsBalanced b p'.tree c in subst C (ap (λ e. e.demand.sent) (sym k.root)) (handed.balance p.root.demand.sent (was.balance before (all ∙ ap (λ e. e.demand.sent) k.root) h));
         reads = subst R (sym (handed_counts h s taken)) (handed.reads (counts_in taken) was.reads);
       };
       ended = λ e. let l = still in cc;

@@ -1,6 +1,10 @@
 pub mod Asks
+pub mod Balances
+pub mod Cancelling
 pub mod Comes
+pub mod Cutting
 pub mod Edges
+pub mod Givings
 pub mod Growth
 pub mod Handing
 pub mod Inlets
@@ -8,4 +12,8 @@ pub mod Joinings
 pub mod Looks
 pub mod Openings
 pub mod Pieces
+pub mod Places
+pub mod Reached
+pub mod Rejoining
 pub mod Serves
+pub mod Spliced

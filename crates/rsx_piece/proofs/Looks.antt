@@ -1,5 +1,5 @@
 -- A look at the link that goes out: what is asked of the root rises, and on a flag the part is closed.
-use Rattle.std.proofs.Common.{◌≡◌, ◌⊎◌, inl, inr, ℕ, ◌+◌, ◌-◌, ◌≤◌, min, Bool, true, false, ◌||◌, List, [], ◌∷◌, map, refl, ap, sym, ◌∙◌, subst, arith, Option}
+use Rattle.std.proofs.Common.{◌≡◌, ◌⊎◌, inl, inr, ℕ, ◌+◌, ◌-◌, ◌≤◌, min, Bool, true, false, ◌||◌, List, ◌∷◌, map, refl, ap, sym, ◌∙◌, subst, arith, Option}
 use Rattle.rsx_demand.specs.Demand.{saturating_total}
 use Rattle.rsx_demand.specs.declared.TheConstants.{UNBOUNDED}
 use Rattle.rsx_sources.specs.Prelude.{Meaning, Stream, Signal, Reading}
@@ -8,14 +8,13 @@ use Rattle.rsx_tree.specs.Allocates.{IsAlike}
 use Rattle.rsx_tree.specs.Edges.{EdgeView, closed_state, closed_view, edge_view}
 use Rattle.rsx_tree.specs.Reads.{AllGoOn, IsTreeReadAt, readings}
 use Rattle.rsx_tree.specs.Tree.{IsAllClosed, IsKept, edges}
-use Rattle.rsx_tree.specs.declared.edge.EdgeState.{EdgeState}
-use Rattle.rsx_tree.specs.declared.edge.EdgeState.TheVariants.{Live, Closed, Ended}
+use Rattle.rsx_tree.specs.declared.edge.EdgeState.TheVariants.{Live, Closed}
 use Rattle.rsx_tree.specs.declared.node.Node.{Node}
 use Rattle.rsx_tree.proofs.Noted.{kept_chosen}
 use Rattle.rsx_pipe.specs.Output.{counts_in}
 use Rattle.rsx_pipe.specs.Part.{Part, all_edges}
 use Rattle.rsx_pipe.specs.Tree.{IsBalanced}
-use Rattle.rsx_link.specs.Ends.{HasSentNothing, Looks, carried_up, items_sent, seen_total, sent_signals, up_steps}
+use Rattle.rsx_link.specs.Ends.{HasSentNothing, Looks, carried_up, seen_total, sent_signals, up_steps}
 use Rattle.rsx_link.specs.Signals.{items_in}
 use Rattle.rsx_link.specs.Steps.{flags_of, has_cancel, has_refusal, seen_of}
 use Rattle.rsx_link.specs.declared.link.Link.{Link}
@@ -62,7 +61,7 @@ stands_asked {M} {T} b m taken old queued p p' u u' live tree state sent step sa
       flow = subst C (sym tree) h.flow;
       step = step;
       reading = subst R (sym tree) h.reading;
-      live = λ _. record { unended = was.unended; balance = subst S (sym sent) (subst B (sym tree) was.balance); reads = subst A (sym tree) was.reads };
+      live = λ _. record { unended = was.unended; balance = λ before all k. subst S (sym sent) (subst B (sym tree) (was.balance before (all ∙ sent) k)); reads = subst A (sym tree) was.reads };
       ended = λ e. let l = still in cc;
       closed = λ e. let l = still in cc;
     }

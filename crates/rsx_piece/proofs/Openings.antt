@@ -1,8 +1,9 @@
 -- A piece at its opening.
-use Rattle.std.proofs.Common.{[], sym}
+use Rattle.std.proofs.Common.{◌≡◌, ℕ, [], sym, subst, arith}
 use Rattle.std.proofs.lemmas.List.{append-nil}
 use Rattle.rsx_sources.specs.declared.machine.Machine.{Ghosts as Machine}
 use Rattle.rsx_tree.specs.Reads.{readings}
+use Rattle.rsx_pipe.specs.Tree.{IsBalanced}
 use Rattle.rsx_link.specs.Ends.{sent_signals}
 use Rattle.rsx_cut.proofs.Moves.{flows_still}
 use Rattle.rsx_cut.specs.Local.{Begins}
@@ -10,13 +11,17 @@ use Rattle.rsx_piece.specs.Piece.{Opens}
 use Rattle.rsx_piece.proofs.Inlets.{go_same}
 
 pub opens : {M T : Type 0} (b : Machine M T) → Opens b
-opens b m taken part up live step balance reads = record {
+opens b m taken part up live step reads = record {
   out = [];
   sent = sym (append-nil (sent_signals up));
   flow = flows_still b m (Begins taken) part.tree;
   step = step;
   reading = go_same (readings b part.tree);
-  live = λ _. record { unended = tt; balance = balance; reads = reads };
+  live = λ _. record {
+    unended = tt;
+    balance = λ before is h. let same : before ≡ part.root.demand.sent = omega (arith, is) in let B : ℕ → Type 0 = λ k. IsBalanced b part.tree k in subst B same h;
+    reads = reads;
+  };
   ended = λ e. let l = live in cc;
   closed = λ e. let l = live in cc;
 }

@@ -1,13 +1,11 @@
 -- What a move inside the part, and a signal sent into the link, make of what a piece stands for.
-use Rattle.std.proofs.Common.{◌≡◌, ◌⊎◌, inl, inr, ℕ, ◌+◌, ◌<◌, ◌≤◌, min, Bool, true, false, ◌&&◌, nat_lt, List, [], ◌∷◌, ◌++◌, append_assoc, refl, ap, sym, ◌∙◌, subst, arith, Option, Some, None, option_map, Result, Ok, Err}
+use Rattle.std.proofs.Common.{◌≡◌, ◌⊎◌, inl, inr, ℕ, ◌+◌, ◌<◌, min, Bool, true, false, ◌&&◌, nat_lt, List, [], ◌∷◌, ◌++◌, append_assoc, refl, ap, sym, ◌∙◌, subst, arith, Option, Some, None}
 use Rattle.std.proofs.lemmas.Bool.Decides.{nat_tests}
-use Rattle.std.specs.Prelude.{OnOk, OnErr, IfOk}
 use Rattle.rsx_demand.specs.declared.TheConstants.{UNBOUNDED}
 use Rattle.rsx_sources.specs.Prelude.{Meaning, Stream, Signal, Next, Complete, Error, Reading, ends_input, front_of}
-use Rattle.rsx_sources.specs.Reading.{hub_of}
 use Rattle.rsx_sources.specs.declared.machine.Machine.{Ghosts as Machine}
 use Rattle.rsx_tree.specs.Edges.{EdgeView, can_pass, edge_view, is_live, passed}
-use Rattle.rsx_tree.specs.Reads.{AllGoOn, GoesOn, IsTreeReadAt, readings}
+use Rattle.rsx_tree.specs.Reads.{AllGoOn, GoesOn, readings}
 use Rattle.rsx_tree.specs.declared.edge.EdgeState.{EdgeState}
 use Rattle.rsx_tree.specs.declared.edge.EdgeState.TheVariants.{Live, Closed, Ended}
 use Rattle.rsx_tree.specs.declared.look.NodeMove.{NodeMove}
@@ -18,13 +16,13 @@ use Rattle.rsx_pipe.specs.Feeding.{IsMadeInside, IsSentOut}
 use Rattle.rsx_pipe.specs.Output.{IsUnended, counts_in}
 use Rattle.rsx_pipe.specs.Part.{IsMade, Part}
 use Rattle.rsx_pipe.specs.Tree.{IsBalanced, IsBalancedAfter, IsLetGo}
-use Rattle.rsx_link.specs.Ends.{MaySend, carried_up, items_sent, seen_total, sent_signals, up_steps}
-use Rattle.rsx_link.specs.Signals.{is_item, items_in}
+use Rattle.rsx_link.specs.Ends.{MaySend, carried_up, sent_signals, up_steps}
+use Rattle.rsx_link.specs.Signals.{items_in}
 use Rattle.rsx_link.specs.Steps.{flags_of, has_cancel, has_refusal, seen_of}
 use Rattle.rsx_link.specs.declared.up.Up.{Up}
 use Rattle.rsx_cut.proofs.Moves.{flows_chosen, flows_sent}
 use Rattle.rsx_cut.specs.Local.{Begins}
-use Rattle.rsx_piece.specs.Piece.{GoesOn as PartGoesOn, HasEnded, IsInStep, PieceStands, WasClosed}
+use Rattle.rsx_piece.specs.Piece.{GoesOn as PartGoesOn, IsInStep, PieceStands}
 
 -- ---- tests
 
@@ -91,7 +89,7 @@ may_send p u (Next x) i h item = let l = lit p.root.demand.sent p.root.demand.as
 may_send p u Complete i h item = cc
 may_send p u (Error c) i h item = cc
 
-items_more : {T : Type 0} (xs ys : List (Signal T)) → items_in (xs ++ ys) ≡ items_in xs + items_in ys
+pub items_more : {T : Type 0} (xs ys : List (Signal T)) → items_in (xs ++ ys) ≡ items_in xs + items_in ys
 items_more [] ys = none_plus (items_in ys)
   where
     none_plus : (k : ℕ) → k ≡ 0 + k
@@ -142,15 +140,22 @@ let_go {M} b m p s p' k =
     let L : Signal _ → Type 0 = λ x. IsLetGo b m p.tree x p'.tree in
     subst L (sym same) t.2
 
-on_sent : {M T : Type 0} (b : Machine M T) (m : Meaning T) (taken : List (Stream T)) (p p' : Part M) (out : List (Signal T)) (s : Signal T) (x : T) → s ≡ Next x → PartGoesOn b taken p out → IsLetGo b m p.tree s p'.tree → p'.root.demand.sent ≡ p.root.demand.sent + items_in (s ∷ []) → PartGoesOn b taken p' (out ++ s ∷ [])
-on_sent b m taken p p' out s x is was gone sent =
+-- the items that went out since the opening, with one signal more
+before_sent : {T : Type 0} (before was now : ℕ) (out : List (Signal T)) (s : Signal T) → before + items_in (out ++ s ∷ []) ≡ now → now ≡ was + items_in (s ∷ []) → before + items_in out ≡ was
+before_sent before was now out s all one = let more = items_more out (s ∷ []) in counts before was now (items_in out) (items_in (s ∷ [])) (items_in (out ++ s ∷ [])) all one more
+  where
+    counts : (b w n x y z : ℕ) → b + z ≡ n → n ≡ w + y → z ≡ x + y → b + x ≡ w
+    counts b w n x y z h1 h2 h3 = omega (arith, h1, h2, h3)
+
+on_sent : {M T : Type 0} (b : Machine M T) (m : Meaning T) (taken : List (Stream T)) (old : Node M) (p p' : Part M) (out : List (Signal T)) (s : Signal T) (x : T) → s ≡ Next x → PartGoesOn b taken old p out → IsLetGo b m p.tree s p'.tree → p'.root.demand.sent ≡ p.root.demand.sent + items_in (s ∷ []) → PartGoesOn b taken old p' (out ++ s ∷ [])
+on_sent b m taken old p p' out s x is was gone sent =
     let U : Signal _ → Type 0 = λ t. IsUnended (out ++ t ∷ []) in
     let B : Signal _ → Type 0 = λ t. IsBalancedAfter b t p'.tree p.root.demand.sent in
     let C : ℕ → Type 0 = λ c. IsBalanced b p'.tree c in
     let one : p'.root.demand.sent ≡ p.root.demand.sent + 1 = sent ∙ ap (λ t. p.root.demand.sent + items_in (t ∷ [])) is in
     record {
       unended = subst U (sym is) (IsUnended-more out x was.unended);
-      balance = subst C (sym one) (subst B is (gone.balance p.root.demand.sent was.balance));
+      balance = λ before all h. subst C (sym one) (subst B is (gone.balance p.root.demand.sent (was.balance before (before_sent before p.root.demand.sent p'.root.demand.sent out s all sent) h)));
       reads = gone.alike.1 (counts_in taken) was.reads;
     }
 
@@ -168,7 +173,7 @@ stands_sent {M} b m taken old queued p p' u u' s h k steps carried sent =
       flow = flows_sent b m (Begins taken) old p.tree p'.tree h.out s h.flow gone;
       step = in_step_sent b m p p' u u' s h.step k steps carried sent;
       reading = subst R (sym gone.alike.2) h.reading;
-      live = λ l. let x = passed_on (edge_view p.root) s live (sym state ∙ l) in on_sent b m taken p p' h.out s x.0 x.1 was gone count;
+      live = λ l. let x = passed_on (edge_view p.root) s live (sym state ∙ l) in on_sent b m taken old p p' h.out s x.0 x.1 was gone count;
       ended = λ e. record { before = p; rest = h.out; last = s; all = refl; ends = passed_last (edge_view p.root) s live (sym state ∙ e); sent = k; live = live; on = was; flow = h.flow };
       closed = λ c. absurd (passed_open (edge_view p.root) s live (sym state ∙ c));
     }
@@ -191,7 +196,11 @@ stands_made b m taken old queued step p p' u live h k =
       flow = flows_chosen b m (Begins taken) old p.tree p'.tree h.out h.flow (k.chosen refl);
       step = in_step_made b m step p p' u h.step k;
       reading = subst R (sym k.alike.2) h.reading;
-      live = λ _. record { unended = was.unended; balance = subst C (ap (λ e. e.demand.sent) (sym root)) (k.balance refl p.root.demand.sent was.balance); reads = k.alike.1 (counts_in taken) was.reads };
+      live = λ _. record {
+        unended = was.unended;
+        balance = λ before all h. subst C (ap (λ e. e.demand.sent) (sym root)) (k.balance refl p.root.demand.sent (was.balance before (all ∙ ap (λ e. e.demand.sent) root) h));
+        reads = k.alike.1 (counts_in taken) was.reads;
+      };
       ended = λ e. let s = still in cc;
       closed = λ e. let s = still in cc;
     }

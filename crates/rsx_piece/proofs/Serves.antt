@@ -1,5 +1,5 @@
 -- Many moves of a piece, one after the other.
-use Rattle.std.proofs.Common.{◌≡◌, ◌⊎◌, inl, inr, ℕ, zero, suc, ◌+◌, Bool, true, false, refl, sym, ◌∙◌, subst, arith, None, Result, Ok, Err}
+use Rattle.std.proofs.Common.{◌≡◌, ◌⊎◌, inl, inr, ℕ, zero, suc, ◌+◌, Bool, true, false, refl, ap, sym, ◌∙◌, subst, arith, None, Result, Ok, Err}
 use Rattle.std.specs.Prelude.{IfOk, OnErr}
 use Rattle.rsx_sources.specs.Prelude.{Meaning}
 use Rattle.rsx_sources.specs.declared.machine.Machine.{Ghosts as Machine}
@@ -53,6 +53,13 @@ step_still b m (Err e) p q p' u v k h = tt
 pub step_same : {M T E : Type 0} (b : Machine M T) (m : Meaning T) (r : Result Bool E) (p q p' : Part M) (u v : Up T) → HasKept b m p u q v → OnErr r (p' ≡ q) → OnErr r ((p' ≡ p) × (sent_signals v ≡ sent_signals u))
 step_same b m (Ok x) p q p' u v k h = tt
 step_same b m (Err e) p q p' u v k h = (h ∙ k.part, k.sent)
+
+-- of a piece that has ended nothing changes by two calls either
+pub after_then : {M T : Type 0} (p q q' : Part M) (u v v' : Up T) → ((p.root.state ≡ Live → ⊥) → (q ≡ p) × (sent_signals v ≡ sent_signals u)) → ((q.root.state ≡ Live → ⊥) → (q' ≡ q) × (sent_signals v' ≡ sent_signals v)) → (p.root.state ≡ Live → ⊥) → (q' ≡ p) × (sent_signals v' ≡ sent_signals u)
+after_then p q q' u v v' first second dead =
+    let a = first dead in
+    let c = second (λ l. dead (ap (λ x. x.root.state) (sym a.0) ∙ l)) in
+    (c.0 ∙ a.0, c.1 ∙ a.1)
 
 -- the same end, after two calls
 pub same_then : {T : Type 0} (l : Link T) (u v w : Up T) → SameUp l u v → SameUp l v w → SameUp l u w

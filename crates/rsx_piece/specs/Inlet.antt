@@ -1,5 +1,6 @@
 -- What a piece has of a link that comes in.
-use Rattle.std.specs.Prelude.{◌≡◌, ◌⊎◌, ⊤, ℕ, zero, suc, ◌<◌, ◌≤◌, true, false, List, [], ◌∷◌, Option, Some, slice_get}
+use Rattle.std.specs.Prelude.{◌≡◌, ◌⊎◌, ⊤, ℕ, zero, suc, ◌<◌, ◌≤◌, true, false, List, [], ◌∷◌, Option, Some, None, slice_get}
+use Rattle.std.specs.List.{AllByRecursion}
 use Rattle.rsx_sources.specs.Prelude.{Stream, Reading, reads_hub}
 use Rattle.rsx_sources.specs.declared.machine.Machine.{Ghosts as Machine}
 use Rattle.rsx_tree.specs.declared.edge.Edge.{Edge}
@@ -8,6 +9,7 @@ use Rattle.rsx_tree.specs.Reads.{readings}
 use Rattle.rsx_pipe.specs.Part.{Part}
 use Rattle.rsx_pipe.specs.Published.{reader_edge}
 use Rattle.rsx_link.specs.Ends.{IsCancelSeatOf, IsDownOf, asked_total, cancels_of, received_signals}
+use Rattle.rsx_link.specs.Signals.{items_in}
 use Rattle.rsx_link.specs.declared.cancel.CancelSeat.{CancelSeat}
 use Rattle.rsx_link.specs.declared.down.Down.{Down}
 use Rattle.rsx_link.specs.declared.link.Link.{Link}
@@ -43,12 +45,23 @@ abbrev pub OneReads : ℕ → List (Option Reading) → Type 0
 OneReads h [] = ⊤
 OneReads h (r ∷ rs) = ((reads_hub h r ≡ true) × NoneReads h rs) ⊎ ((reads_hub h r ≡ false) × OneReads h rs)
 
+-- where it reads the hub, it took in so many items of it
+abbrev pub IsReachedAt : ℕ → ℕ → Option Reading → Type 0
+IsReachedAt h count None = ⊤
+IsReachedAt h count (Some r) = r.hub ≡ h → r.reached ≡ count
+
+-- so it is of each of these
+abbrev pub HaveReached : ℕ → ℕ → List (Option Reading) → Type 0
+HaveReached h count rs = AllByRecursion (IsReachedAt h count) rs
+
 -- A link that comes in, of which the part's reader has this number, the piece this end, and this seat.
 pub record LinkStands {M T : Type 0} (b : Machine M T) (taken : List (Stream T)) (part : Part M) (hub : ℕ) (down : Down T) (closer : CancelSeat) : Type 0 where
   -- what came over it stands among what was taken in
   pub came : slice_get taken hub ≡ Some (stream_of (received_signals down))
   -- one node reads it, or none any more
   pub one : OneReads hub (readings b part.tree)
+  -- and that one took in as many items as came over it
+  pub reached : HaveReached hub (items_in (received_signals down)) (readings b part.tree)
   -- no more was asked of it than of the reader's edge, and it was cancelled only where that isn't live
   pub asked : (e : Edge) → reader_edge b hub part ≡ Some e → asked_total down ≤ e.demand.asked
   pub cancelled : (e : Edge) → reader_edge b hub part ≡ Some e → 0 < cancels_of closer → is_live e.state ≡ false

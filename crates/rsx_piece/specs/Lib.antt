@@ -1,5 +1,6 @@
 -- Definitions that contracts cite.
 pub mod Inlet
+pub mod Joined
 pub mod Joining
 pub mod Moves
 pub mod Piece

@@ -4,7 +4,7 @@ ghost use Rattle.std.specs.Prelude.{◌≡◌, ◌<◌, [], true};
 ghost use Rattle.rsx_link.specs.Ends.{cancels_of};
 
 use rsx_link::{CancelSeat, Down, Link};
-use rsx_pipe::{Nodes, Part};
+use rsx_pipe::{EdgeState, Nodes, Part};
 use rsx_types::{NoMemory, Signal};
 use std::alloc::Global;
 
@@ -63,7 +63,8 @@ impl<T: Drop> Inlet<T> {
     }
 
     /// Takes the oldest signal from the link and hands it to the node that reads the link, and answers whether it did. It takes one
-    /// only where that node has room for an item, so that nothing has ever to be put back into the link.
+    /// only where that node has room for an item, so that nothing has ever to be put back into the link. Where the root edge of the
+    /// part isn't live nothing changes.
     ///
     /// # Errors
     /// [`NoMemory`] where there was no room for the one signal and a growth was refused. Then nothing changed.
@@ -77,6 +78,7 @@ impl<T: Drop> Inlet<T> {
         ensures popped { IfOk result (λ b. b ≡ true → HasPopped N.Machine part.old self.old part.new self.new) }
         ensures left { IfOk result (λ b. b ≡ false → HasLeft N.Machine part.old self.old part.new self.new) }
         ensures same { OnErr result ((part.new ≡ part.old) × (self.new.down ≡ self.old.down)) }
+        ensures after { (part.old.root.state ≡ EdgeState.Live → ⊥) → (part.new ≡ part.old) × (self.new.down ≡ self.old.down) }
         ensures step { (up : UpSpec T) → IsInStep part.old up → IsInStep part.new up }
         ensures stands { (m : Meaning T) (taken : List (Stream T)) (old : Node N) (queued : List (SignalSpec T)) (up : UpSpec T) → HasCome taken self.old →
             PieceStands N.Machine m taken old queued part.old up → PieceStands N.Machine m (with_come self.new taken) old queued part.new up }

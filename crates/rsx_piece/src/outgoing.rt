@@ -36,6 +36,7 @@ pub fn look<N: Nodes<Item = T>, T: Drop>(
     ensures looked { (m : Meaning T) → IfSome result (λ f. IsLooked N.Machine m link.now f part.old up.old part.new up.new) }
     ensures live { IfSome result (λ f. part.old.root.state ≡ EdgeState.Live) }
     ensures none { IfNone result ((part.old.root.state ≡ EdgeState.Live → ⊥) × (part.new ≡ part.old) × (up.new ≡ up.old)) }
+    ensures after { (part.old.root.state ≡ EdgeState.Live → ⊥) → (part.new ≡ part.old) × (up.new ≡ up.old) }
     ensures stands { (m : Meaning T) (taken : List (Stream T)) (old : Node N) (queued : List (Signal T)) →
         PieceStands N.Machine m taken old queued part.old up.old → PieceStands N.Machine m taken old queued part.new up.new }
     ensures inlets { (taken : List (Stream T)) (i : InletSpec T) → InletStands N.Machine taken part.old i → InletStands N.Machine taken part.new i }
@@ -73,6 +74,7 @@ pub fn work<N: Nodes<Item = O::Item>, O: Ops>(
     ensures moved { IfOk result (λ b. b ≡ true → HasMoved N.Machine (O.meaning ops.now) part.old part.new) }
     ensures none { IfOk result (λ b. b ≡ false → (part.new ≡ part.old) × (part.old.root.state ≡ EdgeState.Live → IsQuietInside N.Machine (O.meaning ops.now) part.old)) }
     ensures same { OnErr result (part.new ≡ part.old) }
+    ensures after { (part.old.root.state ≡ EdgeState.Live → ⊥) → part.new ≡ part.old }
     ensures step { (up : UpSpec O.Item) → IsInStep part.old up → IsInStep part.new up }
     ensures stands { (taken : List (Stream O.Item)) (old : Node N) (queued : List (Signal O.Item)) (up : UpSpec O.Item) →
         PieceStands N.Machine (O.meaning ops.now) taken old queued part.old up → PieceStands N.Machine (O.meaning ops.now) taken old queued part.new up }
@@ -92,7 +94,7 @@ pub fn work<N: Nodes<Item = O::Item>, O: Ops>(
 }
 
 /// Sends the next signal of the root over the root edge, into the link, and answers whether it did: where the root edge carries a
-/// signal now and the link has room for it. An ending needs no demand (rule 1.1).
+/// signal now and the link has room for it. An ending needs no demand (rule 1.1). Over a root edge that isn't live nothing goes.
 ///
 /// # Errors
 /// [`NoMemory`] where a growth was refused. Then nothing was sent, and the part is as it was.
@@ -110,6 +112,7 @@ pub fn send<N: Nodes<Item = O::Item>, O: Ops>(
     ensures sent { IfOk result (λ b. b ≡ true → HasSent N.Machine (O.meaning ops.now) part.old up.old part.new up.new) }
     ensures kept { IfOk result (λ b. b ≡ false → HasKept N.Machine (O.meaning ops.now) part.old up.old part.new up.new) }
     ensures same { OnErr result ((part.new ≡ part.old) × (sent_signals up.new ≡ sent_signals up.old)) }
+    ensures after { (part.old.root.state ≡ EdgeState.Live → ⊥) → (part.new ≡ part.old) × (sent_signals up.new ≡ sent_signals up.old) }
     ensures stands { (taken : List (Stream O.Item)) (old : Node N) (queued : List (Signal O.Item)) →
         PieceStands N.Machine (O.meaning ops.now) taken old queued part.old up.old → PieceStands N.Machine (O.meaning ops.now) taken old queued part.new up.new }
     ensures inlets { (taken : List (Stream O.Item)) (i : InletSpec O.Item) → InletStands N.Machine taken part.old i → InletStands N.Machine taken part.new i }

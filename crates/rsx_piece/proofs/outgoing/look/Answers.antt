@@ -2,7 +2,7 @@ use Rattle.std.proofs.Common.{sym, ap, ◌∙◌}
 use Rattle.rsx_tree.specs.Edges.{is_live}
 use Rattle.rsx_link.specs.Ends.{up_steps}
 use Rattle.rsx_piece.proofs.Inlets.{link_closed, link_looked}
-use Rattle.rsx_piece.proofs.Looks.{Rose, looked_closed, looked_on, rose, stands_looked, stands_shut}
+use Rattle.rsx_piece.proofs.Looks.{looked_closed, looked_on, rose, stands_looked, stands_shut}
 use Rattle.rsx_piece.proofs.Pieces.{live_from}
 use Rattle.rsx_piece.proofs.outgoing.look.Goals as goal
 

@@ -1,11 +1,12 @@
 use Rattle.std.proofs.Common.{refl}
-use Rattle.rsx_piece.proofs.Serves.{same_then, served_more, served_none, served_same}
+use Rattle.rsx_piece.proofs.Serves.{after_then, same_then, served_more, served_none, served_same}
 use Rattle.rsx_piece.proofs.serving.serve.Goals as goal
 
 pub loop-made-init : goal.loop-made-init
 loop-made-init g c = record {
   end = (c.requires.end, refl, refl);
   step = c.requires.step;
+  after = λ dead. (refl, refl);
   served = served_none g.N.Machine (g.O.Ops.meaning c.args.ops.now) c.args.part.now c.args.up.now;
   stands = λ taken old queued h. h;
   inlets = λ taken i h. h;
@@ -17,6 +18,7 @@ loop-made-preserved g c =
     let s = c.in-Ok-true.ensures in record {
       end = same_then c.args.link.now c.args.up.now c.loop-made.up c.step.new.up i.end s.end;
       step = s.step;
+      after = after_then c.args.part.now c.loop-made.part c.step.new.part c.args.up.now c.loop-made.up c.step.new.up i.after s.after;
       served = served_more g.N.Machine (g.O.Ops.meaning c.args.ops.now) c.loop-made.made c.args.part.now c.args.up.now c.loop-made.part c.step.new.part c.loop-made.up c.step.new.up i.served (s.made c.in-Ok-true.field-0-test);
       stands = λ taken old queued h. s.stands taken old queued (i.stands taken old queued h);
       inlets = λ taken j h. s.inlets taken j (i.inlets taken j h);
@@ -47,3 +49,12 @@ returns-in-Err-clause-stands g c taken old queued h = c.in-Err.ensures.stands ta
 
 pub returns-in-Err-clause-inlets : goal.returns-in-Err-clause-inlets
 returns-in-Err-clause-inlets g c taken i h = c.in-Err.ensures.inlets taken i (c.loop-made.invariant.inlets taken i h)
+
+pub returns-in-Ok-false-clause-after : goal.returns-in-Ok-false-clause-after
+returns-in-Ok-false-clause-after g c = after_then c.args.part.now c.loop-made.part c.step.new.part c.args.up.now c.loop-made.up c.step.new.up c.loop-made.invariant.after c.step.ensures.after
+
+pub returns-in-Err-clause-after : goal.returns-in-Err-clause-after
+returns-in-Err-clause-after g c = after_then c.args.part.now c.loop-made.part c.step.new.part c.args.up.now c.loop-made.up c.step.new.up c.loop-made.invariant.after c.step.ensures.after
+
+pub returns-clause-after : goal.returns-clause-after
+returns-clause-after g c = c.loop-made.invariant.after

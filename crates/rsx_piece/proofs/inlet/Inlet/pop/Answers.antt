@@ -1,4 +1,4 @@
-use Rattle.std.proofs.Common.{refl, sym, ◌∙◌}
+use Rattle.std.proofs.Common.{refl, ◌∙◌}
 use Rattle.rsx_link.specs.Ends.{received_signals}
 use Rattle.rsx_piece.proofs.Handing.{in_step_handed, passed_one, stands_left, stands_popped}
 use Rattle.rsx_piece.proofs.Inlets.{link_beside, link_left, link_popped, link_still}
@@ -81,7 +81,7 @@ returns-clause-own g c taken h =
     let i = c.args.self.now in
     let done = passed_one g.N.Machine i.hub c.from-hub.result c.args.part.now c.hand.new.self c.push_reserved.new.self.items c.reserve.new.self.items c.hand.new.signals.items c.in-Some.signal c.readers_up_to.result c.has_room_for.result
     c.from-hub.ensures c.readers_up_to.ensures c.if-readers_up_to-ne1.false c.has_room_for.ensures c.if-not-has_room_for.false (c.reserve.ensures.items ∙ i.empty) c.push_reserved.ensures.items c.hand.ensures in
-    link_popped g.N.Machine taken c.args.part.now c.hand.new.self c.in-Some.signal i.hub i.down c.take.new.self i.closer c.in-Some.ensures.same.1 done.reader done.handed h
+    link_popped g.N.Machine taken c.args.part.now c.hand.new.self c.in-Some.signal i.hub i.down c.take.new.self i.closer c.in-Some.ensures.some.received c.in-Some.ensures.same.1 done.reader done.handed h
 
 pub returns-clause-others : goal.returns-clause-others
 returns-clause-others g c taken other apart come h =
