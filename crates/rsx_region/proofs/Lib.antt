@@ -1,0 +1,9 @@
+pub mod Ends
+pub mod Lists
+pub mod Places
+pub mod Regions
+pub mod Rests
+pub mod Runs
+pub mod Seen
+pub mod Singles
+pub mod Stands

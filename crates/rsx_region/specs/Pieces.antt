@@ -1,0 +1,63 @@
+-- A piece with the ends of its links, and what it stands for.
+use Rattle.std.specs.Prelude.{◌≡◌, ℕ, List, [], ◌∷◌, Some, map, replicate, slice_get}
+use Rattle.rsx_sources.specs.Prelude.{Meaning, Signal, Stream}
+use Rattle.rsx_sources.specs.declared.machine.Machine.{Ghosts as Machine}
+use Rattle.rsx_link.specs.Ends.{IsUpOf, received_signals, sent_signals}
+use Rattle.rsx_link.specs.declared.link.Link.{Link}
+use Rattle.rsx_cut.specs.Local.{stream_of}
+use Rattle.rsx_piece.specs.Inlet.{InletStands, IsInletOf, replaced_at}
+use Rattle.rsx_piece.specs.Piece.{IsInStep, PieceStands}
+use Rattle.rsx_region.specs.declared.piece.Incoming.{Incoming}
+use Rattle.rsx_region.specs.declared.piece.Piece.{Piece}
+
+-- there is a link with this number, and this holds of it
+abbrev pub IsAt : {T : Type 0} → List (Link T) → ℕ → (Link T → Type 0) → Type 0
+IsAt {T} links k P = (l : Link T) × (slice_get links k ≡ Some l) × P l
+
+-- this holds of each of them
+abbrev pub Each : {X : Type 0} → (X → Type 0) → List X → Type 0
+Each {X} P xs = (k : ℕ) (x : X) → slice_get xs k ≡ Some x → P x
+
+-- no number stands there twice
+abbrev pub AreApart : List ℕ → Type 0
+AreApart hs = (j k h : ℕ) → slice_get hs j ≡ Some h → slice_get hs k ≡ Some h → j ≡ k
+
+-- So many values: at each of these numbers the value of what came there, and elsewhere the value of which nothing came.
+abbrev pub taken_by : {A B : Type 0} → (B → A) → B → ℕ → List (ℕ × B) → List A
+taken_by f none n [] = replicate n (f none)
+taken_by f none n (c ∷ cs) = replaced_at c.0 (f c.1) (taken_by f none n cs)
+
+module _ {T : Type 0} where
+  -- the number under which a node of the piece reads a link
+  abbrev pub hub_of : Incoming T → ℕ
+  hub_of i = i.inlet.hub
+
+  -- that number, and what came over the link
+  abbrev pub came_of : Incoming T → ℕ × List (Signal T)
+  came_of i = (i.inlet.hub, received_signals i.inlet.down)
+
+  -- the number of the link, and the one under which it is read
+  abbrev pub numbers_of : Incoming T → ℕ × ℕ
+  numbers_of i = (i.link, i.inlet.hub)
+
+module _ {M T : Type 0} where
+  abbrev pub hubs_of : Piece M T → List ℕ
+  hubs_of p = map hub_of p.inlets.items
+
+  -- what hubs and links gave to the piece, where there are so many of both: its own links what came over them, all else nothing
+  abbrev pub taken_of : ℕ → Piece M T → List (Stream T)
+  taken_of n p = taken_by stream_of [] n (map came_of p.inlets.items)
+
+  -- each end is that of the link with its number, no two links are read under one number, and the root edge and its end count alike
+  pub record IsPieceOf (links : List (Link T)) (p : Piece M T) : Type 0 where
+    pub sends : IsAt links p.link (λ l. IsUpOf l p.up)
+    pub takes : Each (λ (i : Incoming T). IsAt links i.link (λ l. IsInletOf l i.inlet)) p.inlets.items
+    pub apart : AreApart (hubs_of p)
+    pub step : IsInStep p.part p.up
+
+  -- The equation of a piece since its opening, where there are so many hubs and links. What was sent is what was sent then, and what
+  -- came out since; each link that comes in stands as it should.
+  pub record StandsSince (b : Machine M T) (m : Meaning T) (n : ℕ) (opening p : Piece M T) : Type 0 where
+    pub links : (p.link ≡ opening.link) × (map numbers_of p.inlets.items ≡ map numbers_of opening.inlets.items)
+    pub part : PieceStands b m (taken_of n p) opening.part.tree (sent_signals opening.up) p.part p.up
+    pub ins : Each (λ (i : Incoming T). InletStands b (taken_of n p) p.part i.inlet) p.inlets.items

@@ -1,0 +1,25 @@
+#![tactic(auto)]
+//! Regions: the pieces of a graph that one thread at a time works on, each with the ends of its links.
+//!
+//! A tree that crosses to another region is cut there, and each piece of it sends into a [`Link`](rsx_link::Link), and reads others.
+//! A [`Piece`] has its part with those ends, so that [`Piece::serve`] can do all that there is to do for it, within a budget: it looks
+//! at the link that goes out, passes requests down the links that come in, takes signals from them, and makes moves.
+//!
+//! - [`piece`]: [`Piece`] and [`Incoming`].
+//! - [`step`]: [`Step`], by which contracts tell what was done.
+//! - [`serving`]: [`Piece::serve`], with its answer [`Served`].
+//!
+//! The definitions stand in `specs/`: `Pieces` (the ends of a piece, and what it stands for), `Steps` (what each step changes) and
+//! `Serving` (when a piece is at rest).
+
+pub mod opening;
+pub mod piece;
+pub mod region;
+pub mod serving;
+pub mod step;
+
+pub use opening::Opening;
+pub use piece::{Incoming, Piece};
+pub use region::Region;
+pub use serving::{Answer, Served};
+pub use step::Step;

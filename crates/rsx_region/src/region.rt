@@ -1,0 +1,120 @@
+//! The pieces that one holder of a gate at a time works on.
+
+ghost use Rattle.std.specs.Prelude.{◌≡◌, ◌+◌, ◌<◌, ◌≤◌, ℕ, List, length};
+ghost use Rattle.rsx_region.specs.Regions.{AreAtRest, ArePiecesOf, IsServedAt, RegionGoes, RegionStands};
+ghost use Rattle.rsx_region.specs.declared.piece.Piece.{Piece as PieceSpec};
+
+use crate::piece::Piece;
+use crate::serving::{Answer, Served, outcome};
+use rsx_link::Link;
+use rsx_pipe::Nodes;
+use rsx_types::Ops;
+use std::alloc::Global;
+
+/// A region: the pieces of a graph that one holder of a gate at a time works on.
+///
+/// Where a piece reads what another one of them sends, put it in front, so that what it asks for is seen in the same round.
+#[derive(Drop)]
+pub struct Region<N, T> {
+    /// The number of the region.
+    pub number: u8,
+    /// The pieces.
+    pub pieces: Vec<Piece<N, T>>,
+}
+
+impl<N: Nodes<Item = T>, T: Drop> Region<N, T> {
+    /// Serves the pieces one after the other by [`Piece::serve`], and again, until none of them makes a move or takes a signal, or
+    /// the budget is used up, which they share.
+    ///
+    /// After [`Answer::Budget`] call it again. After [`Answer::NoMemory`] what was done before stands, and it may be called again,
+    /// too.
+    pub fn serve<O: Ops<Item = T>>(
+        &mut self,
+        alloc: Global,
+        ops: &O,
+        links: &[Link<T>],
+        budget: u32,
+    ) -> Served
+        requires { ArePiecesOf links.now self.old.pieces.items }
+        ensures ends { ArePiecesOf links.now self.new.pieces.items }
+        ensures number { self.new.number ≡ self.old.number }
+        ensures run { RegionGoes N.Machine (O.meaning ops.now) links.now result.moves result.pops self.old.pieces.items self.new.pieces.items }
+        ensures most { result.moves + result.pops ≤ budget }
+        ensures budget { result.answer ≡ Answer.Budget → result.moves + result.pops ≡ budget }
+        ensures idle { result.answer ≡ Answer.Idle → AreAtRest N.Machine (O.meaning ops.now) self.new.pieces.items }
+        ensures stands { (n : ℕ) (opening : List (PieceSpec N T)) → RegionStands N.Machine (O.meaning ops.now) n opening self.old.pieces.items → RegionStands N.Machine (O.meaning ops.now) n opening self.new.pieces.items }
+    {
+        let mut moves = 0;
+        let mut pops = 0;
+        while moves + pops < budget {
+            let round = self.round(alloc, ops, links, budget - moves - pops);
+            moves += round.moves;
+            pops += round.pops;
+            match round.answer {
+                Answer::NoMemory => return outcome(Answer::NoMemory, moves, pops),
+                Answer::Idle => {
+                    if round.moves + round.pops == 0 {
+                        return outcome(Answer::Idle, moves, pops);
+                    }
+                }
+                Answer::Budget => {}
+            }
+        }
+        outcome(Answer::Budget, moves, pops)
+    }
+
+    /// Serves each piece once.
+    fn round<O: Ops<Item = T>>(
+        &mut self,
+        alloc: Global,
+        ops: &O,
+        links: &[Link<T>],
+        budget: u32,
+    ) -> Served
+        requires { ArePiecesOf links.now self.old.pieces.items }
+        ensures ends { ArePiecesOf links.now self.new.pieces.items }
+        ensures number { self.new.number ≡ self.old.number }
+        ensures run { RegionGoes N.Machine (O.meaning ops.now) links.now result.moves result.pops self.old.pieces.items self.new.pieces.items }
+        ensures most { result.moves + result.pops ≤ budget }
+        ensures budget { result.answer ≡ Answer.Budget → result.moves + result.pops ≡ budget }
+        ensures idle { result.answer ≡ Answer.Idle → AreAtRest N.Machine (O.meaning ops.now) self.new.pieces.items }
+        ensures stands { (n : ℕ) (opening : List (PieceSpec N T)) → RegionStands N.Machine (O.meaning ops.now) n opening self.old.pieces.items → RegionStands N.Machine (O.meaning ops.now) n opening self.new.pieces.items }
+    {
+        let mut moves = 0;
+        let mut pops = 0;
+        for at in 0..self.pieces.len() {
+            let one = self.serve_at(at, alloc, ops, links, budget - moves - pops);
+            moves += one.moves;
+            pops += one.pops;
+            match one.answer {
+                Answer::NoMemory => return outcome(Answer::NoMemory, moves, pops),
+                Answer::Budget => return outcome(Answer::Budget, moves, pops),
+                Answer::Idle => {}
+            }
+        }
+        outcome(Answer::Idle, moves, pops)
+    }
+
+    /// Serves the piece at this place.
+    fn serve_at<O: Ops<Item = T>>(
+        &mut self,
+        at: usize,
+        alloc: Global,
+        ops: &O,
+        links: &[Link<T>],
+        budget: u32,
+    ) -> Served
+        requires ends { ArePiecesOf links.now self.old.pieces.items }
+        requires there { at < length self.old.pieces.items }
+        ensures ends { ArePiecesOf links.now self.new.pieces.items }
+        ensures number { self.new.number ≡ self.old.number }
+        ensures run { RegionGoes N.Machine (O.meaning ops.now) links.now result.moves result.pops self.old.pieces.items self.new.pieces.items }
+        ensures most { result.moves + result.pops ≤ budget }
+        ensures budget { result.answer ≡ Answer.Budget → result.moves + result.pops ≡ budget }
+        ensures idle { result.answer ≡ Answer.Idle → IsServedAt N.Machine (O.meaning ops.now) at self.old.pieces.items self.new.pieces.items }
+        ensures count { length self.new.pieces.items ≡ length self.old.pieces.items }
+        ensures stands { (n : ℕ) (opening : List (PieceSpec N T)) → RegionStands N.Machine (O.meaning ops.now) n opening self.old.pieces.items → RegionStands N.Machine (O.meaning ops.now) n opening self.new.pieces.items }
+    {
+        self.pieces[at].serve(alloc, ops, links, budget)
+    }
+}

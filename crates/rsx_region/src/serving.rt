@@ -1,0 +1,190 @@
+//! A piece served under a budget.
+
+ghost use Rattle.std.specs.Prelude.{◌≡◌, ◌+◌, ◌≤◌, ℕ};
+ghost use Rattle.rsx_types.specs.Meaning.{Meaning};
+ghost use Rattle.rsx_region.specs.Pieces.{Each, IsPieceOf, StandsSince};
+ghost use Rattle.rsx_region.specs.Steps.{Goes};
+ghost use Rattle.rsx_region.specs.Serving.{AllPassedOn, HasLeftAll, HasRested, HasSeen, HasStayed, IsAtRest};
+ghost use Rattle.rsx_region.specs.declared.piece.Piece.{Piece as PieceSpec};
+
+use crate::piece::Piece;
+use rsx_link::Link;
+use rsx_pipe::{EdgeState, Nodes};
+use rsx_types::{NoMemory, Ops};
+use std::alloc::Global;
+
+/// Why a call ended.
+#[derive(Clone, Copy, Debug, PartialEq, Eq)]
+pub enum Answer {
+    /// Nothing is left to do, as far as the ends of the links know.
+    Idle,
+    /// The budget is used up. There may be more to do.
+    Budget,
+    /// A growth was refused. What was done before stands.
+    NoMemory,
+}
+
+/// What a call did.
+#[derive(Clone, Copy, Debug, PartialEq, Eq)]
+pub struct Served {
+    /// Why it ended.
+    pub answer: Answer,
+    /// How many moves it made.
+    pub moves: u32,
+    /// How many signals it took from links.
+    pub pops: u32,
+}
+
+impl<N: Nodes<Item = T>, T: Drop> Piece<N, T> {
+    /// Does what there is to do for the piece, until nothing is left or the budget is used up. It looks at the link that goes out,
+    /// passes requests and cancels down the links that come in, takes from each the signal that its reader has room for, and makes
+    /// the moves that are enabled; and so on, from the start. A signal that is taken from a link counts as a move does, so that
+    /// what one call does is bounded.
+    ///
+    /// Where it answers [`Answer::Idle`], the link that goes out was looked at, and all requests were passed on. After
+    /// [`Answer::Budget`] call it again. After [`Answer::NoMemory`] what was done before stands, and it may be called again, too. Of a
+    /// piece whose root edge isn't live nothing changes, but requests and cancels are passed on.
+    pub fn serve<O: Ops<Item = T>>(
+        &mut self,
+        alloc: Global,
+        ops: &O,
+        links: &[Link<T>],
+        budget: u32,
+    ) -> Served
+        requires { IsPieceOf links.now self.old }
+        ensures ends { IsPieceOf links.now self.new }
+        ensures run { Goes N.Machine (O.meaning ops.now) links.now result.moves result.pops self.old self.new }
+        ensures most { result.moves + result.pops ≤ budget }
+        ensures budget { result.answer ≡ Answer.Budget → result.moves + result.pops ≡ budget }
+        ensures idle { result.answer ≡ Answer.Idle → IsAtRest N.Machine (O.meaning ops.now) self.new }
+        ensures looked { result.answer ≡ Answer.Idle → self.new.part.root.state ≡ EdgeState.Live → HasSeen self.old self.new }
+        ensures still { (self.old.part.root.state ≡ EdgeState.Live → ⊥) → HasRested self.old self.new }
+        ensures stands { (n : ℕ) (opening : PieceSpec N T) → StandsSince N.Machine (O.meaning ops.now) n opening self.old → StandsSince N.Machine (O.meaning ops.now) n opening self.new }
+    {
+        let mut moves = 0;
+        let mut pops = 0;
+        while moves + pops < budget {
+            let turn = self.turn(alloc, ops, links, budget - moves - pops);
+            moves += turn.moves;
+            pops += turn.pops;
+            match turn.answer {
+                Answer::NoMemory => return outcome(Answer::NoMemory, moves, pops),
+                Answer::Idle => {
+                    if turn.moves + turn.pops == 0 {
+                        return outcome(Answer::Idle, moves, pops);
+                    }
+                }
+                Answer::Budget => {}
+            }
+        }
+        outcome(Answer::Budget, moves, pops)
+    }
+
+    /// A look, a request down each link, a signal from each, and then moves. Where nothing was taken and no move made, and it answers
+    /// [`Answer::Idle`], nothing is left to do.
+    fn turn<O: Ops<Item = T>>(
+        &mut self,
+        alloc: Global,
+        ops: &O,
+        links: &[Link<T>],
+        budget: u32,
+    ) -> Served
+        requires { IsPieceOf links.now self.old }
+        ensures ends { IsPieceOf links.now self.new }
+        ensures run { Goes N.Machine (O.meaning ops.now) links.now result.moves result.pops self.old self.new }
+        ensures most { result.moves + result.pops ≤ budget }
+        ensures budget { result.answer ≡ Answer.Budget → result.moves + result.pops ≡ budget }
+        ensures idle { result.answer ≡ Answer.Idle → result.moves + result.pops ≡ 0 → IsAtRest N.Machine (O.meaning ops.now) self.new }
+        ensures seen { result.answer ≡ Answer.Idle → result.moves + result.pops ≡ 0 → self.new.part.root.state ≡ EdgeState.Live → HasSeen self.old self.new }
+        ensures stands { (n : ℕ) (opening : PieceSpec N T) → StandsSince N.Machine (O.meaning ops.now) n opening self.old → StandsSince N.Machine (O.meaning ops.now) n opening self.new }
+    {
+        self.look(links);
+        self.ask_each(links);
+        let popped = self.pop_each(links, budget);
+        match popped.answer {
+            Answer::Idle => {
+                let made = self.move_on(alloc, ops, links, budget - popped.pops);
+                outcome(made.answer, made.moves, popped.pops)
+            }
+            Answer::Budget => popped,
+            Answer::NoMemory => popped,
+        }
+    }
+
+    /// Passes what was asked of each reader's edge down its link.
+    fn ask_each(&mut self, links: &[Link<T>])
+        requires { IsPieceOf links.now self.old }
+        ensures ends { IsPieceOf links.now self.new }
+        ensures run { (m : Meaning T) → Goes N.Machine m links.now 0 0 self.old self.new }
+        ensures asked { AllPassedOn N.Machine self.new }
+        ensures same { (self.new.part ≡ self.old.part) × (self.new.up ≡ self.old.up) }
+        ensures stands { (m : Meaning T) (n : ℕ) (opening : PieceSpec N T) → StandsSince N.Machine m n opening self.old → StandsSince N.Machine m n opening self.new }
+    {
+        for at in 0..self.inlets.len() {
+            self.ask_at(at, links);
+        }
+    }
+
+    /// Takes a signal from each link whose reader has room for one, but at most `budget`. Answers [`Answer::Idle`] where each was
+    /// tried.
+    fn pop_each(&mut self, links: &[Link<T>], budget: u32) -> Served
+        requires { IsPieceOf links.now self.old }
+        ensures ends { IsPieceOf links.now self.new }
+        ensures run { (m : Meaning T) → Goes N.Machine m links.now 0 result.pops self.old self.new }
+        ensures moves { result.moves ≡ 0 }
+        ensures most { result.pops ≤ budget }
+        ensures budget { result.answer ≡ Answer.Budget → result.pops ≡ budget }
+        ensures idle { result.answer ≡ Answer.Idle → result.pops ≡ 0 → HasLeftAll N.Machine self.old self.new }
+        ensures stands { (m : Meaning T) (n : ℕ) (opening : PieceSpec N T) → StandsSince N.Machine m n opening self.old → StandsSince N.Machine m n opening self.new }
+    {
+        let mut pops = 0;
+        for at in 0..self.inlets.len() {
+            if pops == budget {
+                return outcome(Answer::Budget, 0, pops);
+            }
+            match self.pop_at(at, links) {
+                Ok(popped) => pops += u32::from(popped),
+                Err(NoMemory) => return outcome(Answer::NoMemory, 0, pops),
+            }
+        }
+        outcome(Answer::Idle, 0, pops)
+    }
+
+    /// Makes moves until none is enabled, but at most `budget`.
+    fn move_on<O: Ops<Item = T>>(
+        &mut self,
+        alloc: Global,
+        ops: &O,
+        links: &[Link<T>],
+        budget: u32,
+    ) -> Served
+        requires { IsPieceOf links.now self.old }
+        ensures ends { IsPieceOf links.now self.new }
+        ensures run { Goes N.Machine (O.meaning ops.now) links.now result.moves 0 self.old self.new }
+        ensures pops { result.pops ≡ 0 }
+        ensures most { result.moves ≤ budget }
+        ensures budget { result.answer ≡ Answer.Budget → result.moves ≡ budget }
+        ensures idle { result.answer ≡ Answer.Idle → result.moves ≡ 0 → HasStayed N.Machine (O.meaning ops.now) self.old self.new }
+        ensures stands { (n : ℕ) (opening : PieceSpec N T) → StandsSince N.Machine (O.meaning ops.now) n opening self.old → StandsSince N.Machine (O.meaning ops.now) n opening self.new }
+    {
+        for moves in 0..budget {
+            match self.step(alloc, ops, links) {
+                Ok(true) => {}
+                Ok(false) => return outcome(Answer::Idle, moves, 0),
+                Err(NoMemory) => return outcome(Answer::NoMemory, moves, 0),
+            }
+        }
+        outcome(Answer::Budget, budget, 0)
+    }
+}
+
+/// So much was done.
+pub(crate) fn outcome(answer: Answer, moves: u32, pops: u32) -> Served
+    ensures { (result.answer ≡ answer) × (result.moves ≡ moves) × (result.pops ≡ pops) }
+{
+    Served {
+        answer,
+        moves,
+        pops,
+    }
+}
