@@ -1,0 +1,3 @@
+-- Definitions that contracts cite.
+pub mod Looks
+pub mod Texts

@@ -1,0 +1,35 @@
+-- The words for what the nodes of a tree do.
+use Rattle.std.specs.Prelude.{ℕ, ◌+◌, List, [], ◌∷◌, ◌++◌, Option, Some, None, codes}
+use Rattle.std.specs.Fmt.{decimal}
+use Rattle.rsx_waits.specs.declared.look.EdgeLook.{EdgeLook}
+use Rattle.rsx_waits.specs.declared.look.EdgeLook.TheVariants as edge
+use Rattle.rsx_waits.specs.declared.look.NodeLook.{NodeLook}
+use Rattle.rsx_waits.specs.declared.look.Offer.{Offer}
+use Rattle.rsx_waits.specs.declared.look.Offer.TheVariants as offer
+
+-- the number of a node, and of its receiver, where it has one
+abbrev pub head_text : ℕ → Option ℕ → List ℕ
+head_text node None = codes " | " ++ decimal node
+head_text node (Some receiver) = codes " | " ++ (decimal node ++ (codes " to " ++ decimal receiver))
+
+-- whether signals still go over its edge
+abbrev pub edge_text : EdgeLook → List ℕ
+edge_text edge.Live = codes ", live"
+edge_text edge.Ended = codes ", ended"
+edge_text edge.Closed = codes ", closed"
+
+-- what it offers
+abbrev pub offer_text : Offer → List ℕ
+offer_text offer.Nothing = []
+offer_text offer.Item = codes ", offers an item"
+offer_text offer.Completion = codes ", offers its completion"
+offer_text offer.Failure = codes ", offers a failure"
+
+-- a node with this number, and its edge
+abbrev pub look_text : ℕ → NodeLook → List ℕ
+look_text node look = head_text node look.receiver ++ (codes ": asked " ++ (decimal look.asked ++ (codes ", sent " ++ (decimal look.sent ++ (edge_text look.edge ++ offer_text look.offer)))))
+
+-- these nodes, of which the first has this number
+abbrev pub looks_text : ℕ → List NodeLook → List ℕ
+looks_text node [] = []
+looks_text node (look ∷ looks) = look_text node look ++ looks_text (node + 1) looks

@@ -1,0 +1,121 @@
+//! What the nodes of a tree do now.
+
+ghost use Rattle.std.specs.Fmt.{WritesOnOk};
+ghost use Rattle.rsx_waits.specs.Looks.{edge_text, head_text, look_text, looks_text, offer_text};
+
+use std::fmt;
+
+/// The nodes of a tree, in pre-order from 0.
+#[derive(Debug, Drop)]
+pub struct Picture {
+    /// The nodes. Each stands behind its receiver.
+    pub nodes: Vec<NodeLook>,
+}
+
+/// A node of a tree, with the edge over which it sends.
+#[derive(Clone, Copy, Debug, PartialEq, Eq)]
+pub struct NodeLook {
+    /// The number of the node to which it sends; none of the root.
+    pub receiver: Option<u64>,
+    /// How many items were asked of it.
+    pub asked: u64,
+    /// How many items it sent.
+    pub sent: u64,
+    /// Whether signals still go over its edge.
+    pub edge: EdgeLook,
+    /// What it offers.
+    pub offer: Offer,
+}
+
+/// Whether signals still go over an edge.
+#[derive(Clone, Copy, Debug, PartialEq, Eq)]
+pub enum EdgeLook {
+    /// They do.
+    Live,
+    /// The ending went over it.
+    Ended,
+    /// Its receiver closed it.
+    Closed,
+}
+
+/// What a node offers.
+#[derive(Clone, Copy, Debug, PartialEq, Eq)]
+pub enum Offer {
+    /// Nothing.
+    Nothing,
+    /// An item.
+    Item,
+    /// Its completion.
+    Completion,
+    /// A failure.
+    Failure,
+}
+
+/// Each node behind ` | `, as `1 to 0: asked 2, sent 1, live, offers an item`.
+impl fmt::Display for Picture {
+    ghost use Rattle.std.specs.Prelude.{Some};
+    ghost use Rattle.rsx_waits.specs.Looks.{looks_text};
+
+    ghost output = { λ picture. Some (looks_text 0 picture.nodes.items) };
+
+    fn fmt<W: fmt::Write>(&self, f: &mut fmt::Formatter<W>) -> fmt::Result {
+        write_looks(f, &self.nodes)
+    }
+}
+
+/// These nodes.
+fn write_looks<W: fmt::Write>(f: &mut fmt::Formatter<W>, looks: &[NodeLook]) -> fmt::Result
+    ensures { WritesOnOk W.write_str_gives f.old result (looks_text 0 looks.now) f.new }
+{
+    for (node, look) in looks.iter().enumerate() {
+        write_look(f, node, look)?;
+    }
+    Ok(())
+}
+
+/// A node with this number, and its edge.
+fn write_look<W: fmt::Write>(f: &mut fmt::Formatter<W>, node: usize, look: &NodeLook) -> fmt::Result
+    ensures { WritesOnOk W.write_str_gives f.old result (look_text node look.now) f.new }
+{
+    write_head(f, node, look.receiver)?;
+    write!(f, ": asked {}, sent {}", look.asked, look.sent)?;
+    write_edge(f, look.edge)?;
+    write_offer(f, look.offer)
+}
+
+/// The number of a node, and of its receiver, where it has one.
+fn write_head<W: fmt::Write>(
+    f: &mut fmt::Formatter<W>,
+    node: usize,
+    receiver: Option<u64>,
+) -> fmt::Result
+    ensures { WritesOnOk W.write_str_gives f.old result (head_text node receiver) f.new }
+{
+    match receiver {
+        Some(receiver) => write!(f, " | {node} to {receiver}"),
+        None => write!(f, " | {node}"),
+    }
+}
+
+/// Whether signals still go over an edge.
+fn write_edge<W: fmt::Write>(f: &mut fmt::Formatter<W>, edge: EdgeLook) -> fmt::Result
+    ensures { WritesOnOk W.write_str_gives f.old result (edge_text edge) f.new }
+{
+    match edge {
+        EdgeLook::Live => f.write_str(", live"),
+        EdgeLook::Ended => f.write_str(", ended"),
+        EdgeLook::Closed => f.write_str(", closed"),
+    }
+}
+
+/// What a node offers.
+fn write_offer<W: fmt::Write>(f: &mut fmt::Formatter<W>, offer: Offer) -> fmt::Result
+    ensures { WritesOnOk W.write_str_gives f.old result (offer_text offer) f.new }
+{
+    match offer {
+        Offer::Nothing => Ok(()),
+        Offer::Item => f.write_str(", offers an item"),
+        Offer::Completion => f.write_str(", offers its completion"),
+        Offer::Failure => f.write_str(", offers a failure"),
+    }
+}
