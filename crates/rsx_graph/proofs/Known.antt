@@ -5,15 +5,16 @@ use Rattle.std.proofs.Common.{◌≡◌, ℕ, zero, suc, ◌-◌, ◌<◌, Bool,
 use Rattle.rsx_graph_moves.specs.Moves as driving
 use Rattle.rsx_graph_moves.specs.Moves.{IsMakeRefusal}
 use Rattle.rsx_graph_calls.specs.Edits.{IsFedHubRefusal, fault_of}
-use Rattle.rsx_graph_calls.specs.Publishes.{IsCopyRefusal, IsEndRefusal, has_emitter}
+use Rattle.rsx_graph_calls.specs.Publishes.{IsEmitRefusal, IsEndRefusal, has_emitter}
 use Rattle.rsx_graph_calls.specs.Subscribing.{IsSubscribeRefusal}
-use Rattle.rsx_graph_state.specs.Prelude.{History, HubPast, Source, emitted, fed, IsFeedRefusal, has_feed, feed_of, IsAcceptRefusal, IsSubMoveRefusal, IsSubscribeId, HubState}
+use Rattle.rsx_graph_state.specs.Hubs.{IsEmittedAt, IsEndedAt}
+use Rattle.rsx_graph_state.specs.Prelude.{History, HubPast, Source, emitted, fed, IsFeedRefusal, has_feed, feed_of, IsAcceptRefusal, IsSubMoveRefusal, IsSubscribeId, HubState, is_open}
 use Rattle.rsx_graph_state.proofs.Graphs.{count_same, past_first, suc_less}
 use Rattle.rsx_graph_state.specs.declared.refusal.Refusal.{Refusal}
 use Rattle.rsx_graph_state.specs.declared.refusal.Refusal.TheVariants.{UnknownHub, UnknownSub, Ended, Full, TooMany, BadExpr, NotEnabled, NoMemory}
 use Rattle.rsx_subscriber.specs.Prelude.{refusal, Expr, NodeMove}
-use Rattle.rsx_sources.specs.Prelude.{Meaning, Stream, HubKind, Move, Ask, Send, Take, Pick, Row, Accept, SubId, Tree, Sub, Feed as FeedOf}
-use Rattle.rsx_graph.specs.Steps.{IsMoveRefusal, IsNewFeedRefusal, IsNewSubRefusal, IsOfKnown, IsPublishRefusal, IsTreeRefusal, is_emitted, is_emitter, is_fed, is_feed}
+use Rattle.rsx_sources.specs.Prelude.{Ending, Meaning, Stream, HubKind, Move, Ask, Send, Take, Pick, Row, Accept, SubId, Tree, Sub, Feed as FeedOf}
+use Rattle.rsx_graph.specs.Steps.{IsEndingRefusal, IsItemRefusal, IsMoveRefusal, IsNewFeedRefusal, IsNewSubRefusal, IsOfKnown, IsTreeRefusal, goes_on, is_emitted, is_emitter, is_emitting, is_fed, is_feed}
 
 -- ---- which hubs have emitters, and which have feeds
 
@@ -64,25 +65,53 @@ subs_there m g h s = count_same any_machine m s.taken g.subs h.pasts s.all
 
 -- ---- what is published
 
-pub copy_refused : {T : Type 0} (m : Meaning T) (g : Rows T) (h : History T) (i : ℕ) (r : Refusal) → StandsFor m g h → IsCopyRefusal g.hubs g.feeds i r → IsPublishRefusal h.hubs i r
-copy_refused m g h i UnknownHub s k = emits_there m g h i s ∙ k
-copy_refused m g h i UnknownSub s k = absurd k
-copy_refused m g h i Ended s k = emits_there m g h i s ∙ k.0
-copy_refused m g h i Full s k = emits_there m g h i s ∙ k.0
-copy_refused m g h i TooMany s k = emits_there m g h i s ∙ k.0
-copy_refused m g h i (BadExpr b) s k = absurd k
-copy_refused m g h i NotEnabled s k = absurd k
-copy_refused m g h i NoMemory s k = emits_there m g h i s ∙ k
+and_first : (a b : Bool) → a && b ≡ true → a ≡ true
+and_first true b e = refl
+and_first false b e = cc
 
-pub end_refused : {T : Type 0} (m : Meaning T) (g : Rows T) (h : History T) (i : ℕ) (r : Refusal) → StandsFor m g h → IsEndRefusal g.hubs g.feeds i r → IsPublishRefusal h.hubs i r
-end_refused m g h i UnknownHub s k = emits_there m g h i s ∙ k
-end_refused m g h i UnknownSub s k = absurd k
-end_refused m g h i Ended s k = emits_there m g h i s ∙ k.0
-end_refused m g h i Full s k = absurd k
-end_refused m g h i TooMany s k = absurd k
-end_refused m g h i (BadExpr b) s k = absurd k
-end_refused m g h i NotEnabled s k = absurd k
-end_refused m g h i NoMemory s k = absurd k
+-- a hub with an emitter that is there goes on as what was published there does
+pub goes_on_there : {T : Type 0} (m : Meaning T) (g : Rows T) (h : History T) (i : ℕ) (hub : HubState T) → StandsFor m g h → has_emitter g.hubs g.feeds i ≡ true → slice_get g.hubs i ≡ Some hub → is_emitting (slice_get h.hubs i) ≡ is_open hub.ending
+goes_on_there {T} m g h i hub s known there = by_past (slice_get h.hubs i) refl
+  where
+    by_source : (src : Source T) (v : Stream T) → SourceStands m g.feeds s.taken i v hub src → goes_on src ≡ is_open hub.ending
+    by_source (emitted w) v k = ap (λ x. is_open x.ending) k.1
+    by_source (fed x js) v k = let no : false ≡ true = sym (λ j. is_some (there j) && is_none (k.there j)) ∙ known in absurd cc
+
+    by_past : (o : Option (HubPast T)) → slice_get h.hubs i ≡ o → is_emitting o ≡ is_open hub.ending
+    by_past None e = let no : None ≡ Some hub = sym (none_too h.hubs g.hubs i s.many e) ∙ there in absurd cc
+    by_past (Some p) e =
+        let v = there_too h.hubs s.taken i p s.each e in
+        by_source p.source v.0 (s.hub i v.0 hub p v.1 there e).source
+
+-- where an item was accepted, and where a hub was ended
+
+pub emitted_goes_on : {T : Type 0} (m : Meaning T) (g : Rows T) (h : History T) (i : ℕ) (x : T) (news : List (HubState T)) → StandsFor m g h → has_emitter g.hubs g.feeds i ≡ true → IsEmittedAt i x g.hubs news → is_emitting (slice_get h.hubs i) ≡ true
+emitted_goes_on m g h i x news s known e = goes_on_there m g h i e.hub s known e.there ∙ and_first (is_open e.hub.ending) _ e.accepts
+
+pub ended_goes_on : {T : Type 0} (m : Meaning T) (g : Rows T) (h : History T) (i : ℕ) (d : Ending) (news : List (HubState T)) → StandsFor m g h → has_emitter g.hubs g.feeds i ≡ true → IsEndedAt i d g.hubs news → is_emitting (slice_get h.hubs i) ≡ true
+ended_goes_on m g h i d news s known e = goes_on_there m g h i e.hub s known e.there ∙ e.goes_on
+
+-- why an item is refused, and why an ending is
+
+pub item_refused : {T : Type 0} (m : Meaning T) (g : Rows T) (h : History T) (i : ℕ) (r : Refusal) → StandsFor m g h → IsEmitRefusal g.hubs g.feeds i r → IsItemRefusal h.hubs i r
+item_refused m g h i UnknownHub s k = emits_there m g h i s ∙ k
+item_refused m g h i UnknownSub s k = absurd k
+item_refused m g h i Ended s k = (emits_there m g h i s ∙ k.0, goes_on_there m g h i k.1.0 s k.0 k.1.1 ∙ k.1.2)
+item_refused m g h i Full s k = goes_on_there m g h i k.1.0 s k.0 k.1.1 ∙ k.1.2.0
+item_refused m g h i TooMany s k = goes_on_there m g h i k.1.0 s k.0 k.1.1 ∙ k.1.2.0
+item_refused m g h i (BadExpr b) s k = absurd k
+item_refused m g h i NotEnabled s k = absurd k
+item_refused m g h i NoMemory s k = absurd k
+
+pub ending_refused : {T : Type 0} (m : Meaning T) (g : Rows T) (h : History T) (i : ℕ) (r : Refusal) → StandsFor m g h → IsEndRefusal g.hubs g.feeds i r → IsEndingRefusal h.hubs i r
+ending_refused m g h i UnknownHub s k = emits_there m g h i s ∙ k
+ending_refused m g h i UnknownSub s k = absurd k
+ending_refused m g h i Ended s k = (emits_there m g h i s ∙ k.0, goes_on_there m g h i k.1.0 s k.0 k.1.1 ∙ k.1.2)
+ending_refused m g h i Full s k = absurd k
+ending_refused m g h i TooMany s k = absurd k
+ending_refused m g h i (BadExpr b) s k = absurd k
+ending_refused m g h i NotEnabled s k = absurd k
+ending_refused m g h i NoMemory s k = absurd k
 
 -- ---- new subscriptions and new feeds
 
@@ -125,10 +154,6 @@ move_refused m g h enabled (Take t n) r s k = tree_refused m g h enabled t r s k
 move_refused m g h enabled (Pick t n i) r s k = tree_refused m g h enabled t r s k
 move_refused m g h enabled (Row t n) r s k = tree_refused m g h enabled t r s k
 move_refused m g h enabled (Accept i) r s k = let P : ℕ → Type 0 = λ n. IsAcceptRefusal n enabled i.0 r in subst P s.many k
-
-and_first : (a b : Bool) → a && b ≡ true → a ≡ true
-and_first true b e = refl
-and_first false b e = cc
 
 within : {T : Type 0} (m : Meaning T) (subs : List (Subscription T)) (i : ℕ) (mv : Move) → enabled_at m subs i mv ≡ true → i < length subs
 within m [] i mv e = cc

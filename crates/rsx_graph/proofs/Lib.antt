@@ -5,3 +5,4 @@ pub mod Known
 pub mod Laws
 pub mod Reading
 pub mod Runs
+pub mod Times

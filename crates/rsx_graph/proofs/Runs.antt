@@ -1,8 +1,7 @@
 -- Lists of steps, one step after the other.
 use Rattle.rsx_kinds.specs.Any.{any_machine}
 use Rattle.rsx_graph.proofs.Laws.{any_laws}
-use Rattle.std.proofs.Common.{◌≡◌, ℕ, ◌+◌, ◌<◌, ◌≤◌, List, [], ◌∷◌, ◌++◌, length, get_or, take, Option, refl, ap, sym, ◌∙◌, subst}
-use Rattle.std.proofs.lemmas.List.{take_all, take_more}
+use Rattle.std.proofs.Common.{◌≡◌, List, [], ◌∷◌, ◌++◌, length, Option, refl, ap, sym, ◌∙◌, subst, arith, append-nil}
 use Rattle.rsx_graph_state.proofs.Values.{whole_holds}
 use Rattle.rsx_graph_state.specs.History.{History}
 use Rattle.rsx_graph_state.specs.declared.step.Answer.{Answer}
@@ -43,17 +42,15 @@ done_more m a old mid new [] (u ∷ rs) os s r k d = absurd k
 done_more m a old mid new (t ∷ ss) [] os s r k d = absurd k
 done_more m a old mid new (t ∷ ss) (u ∷ rs) [] s r k d = absurd k
 
-pub run_more : {T : Type 0} (m m' : Meaning T) (a a' : Allocates) (steps : List (Step T)) (i : ℕ) (s : Step T) (first before after : GraphState T) (answers answers' : List (Answer T)) (r : Answer T) →
-    m' ≡ m → a' ≡ a → i < length steps → s ≡ get_or steps i s → answers' ≡ answers ++ r ∷ [] →
-    HasRun m a first (take i steps) answers before →
+pub run_more : {T : Type 0} (m m' : Meaning T) (a a' : Allocates) (steps : List (Step T)) (s : Step T) (first before after : GraphState T) (answers answers' : List (Answer T)) (r : Answer T) →
+    m' ≡ m → a' ≡ a → answers' ≡ answers ++ r ∷ [] →
+    HasRun m a first steps answers before →
     ((h : History T) → GraphStands m' before h → GraphStands m' after (extended h s r (fed_by m' before s r))) →
     ((h : History T) → GraphStands m' before h → Belongs h s r) →
     IsDone m' a' before s r after →
-    HasRun m a first (take (i + 1) steps) answers' after
-run_more {T} m m' a a' steps i s first before after answers answers' r same alike lt at pushed k stands belongs done =
-    let taken : take (i + 1) steps ≡ take i steps ++ s ∷ [] = take_more steps i s lt ∙ ap (λ t. take i steps ++ t ∷ []) (sym at) in
-    let P : List (Step T) → Type 0 = λ l. HasRun m a first l answers' after in
-    let Q : List (Answer T) → Type 0 = λ l. HasRun m a first (take i steps ++ s ∷ []) l after in
+    HasRun m a first (steps ++ s ∷ []) answers' after
+run_more {T} m m' a a' steps s first before after answers answers' r same alike pushed k stands belongs done =
+    let Q : List (Answer T) → Type 0 = λ l. HasRun m a first (steps ++ s ∷ []) l after in
     let S : Meaning T → Type 0 = λ n. (h : History T) → GraphStands n before h → GraphStands n after (extended h s r (fed_by n before s r)) in
     let B : Meaning T → Type 0 = λ n. (h : History T) → GraphStands n before h → Belongs h s r in
     let D : Meaning T → Type 0 = λ n. IsDone n a' before s r after in
@@ -61,21 +58,22 @@ run_more {T} m m' a a' steps i s first before after answers answers' r same alik
     let stands' : (h : History T) → GraphStands m before h → GraphStands m after (extended h s r (fed_by m before s r)) = subst S same stands in
     let belongs' : (h : History T) → GraphStands m before h → Belongs h s r = subst B same belongs in
     let out = fed_by m before s r in
-    let grown : HasRun m a first (take i steps ++ s ∷ []) (answers ++ r ∷ []) after = record {
+    let grown : HasRun m a first (steps ++ s ∷ []) (answers ++ r ∷ []) after = record {
       sent = k.sent ++ out ∷ [];
-      done = done_more m a first before after (take i steps) answers k.sent s r k.done (subst E alike (subst D same done));
-      stands = λ h x. let G : History T → Type 0 = λ g. GraphStands m after g in subst G (sym (extended_more m a first before h (take i steps) answers k.sent s r out k.done)) (stands' (all_extended h (take i steps) answers k.sent) (k.stands h x));
-      belongs = λ h x. belong_more h (take i steps) answers k.sent s r out (k.belongs h x) (belongs' (all_extended h (take i steps) answers k.sent) (k.stands h x));
+      done = done_more m a first before after steps answers k.sent s r k.done (subst E alike (subst D same done));
+      stands = λ h x. let G : History T → Type 0 = λ g. GraphStands m after g in subst G (sym (extended_more m a first before h steps answers k.sent s r out k.done)) (stands' (all_extended h steps answers k.sent) (k.stands h x));
+      belongs = λ h x. belong_more h steps answers k.sent s r out (k.belongs h x) (belongs' (all_extended h steps answers k.sent) (k.stands h x));
     } in
-    subst P (sym taken) (subst Q (sym pushed) grown)
+    subst Q (sym pushed) grown
 
-pub run_all : {T : Type 0} (m : Meaning T) (a : Allocates) (steps items : List (Step T)) (i : ℕ) (first after : GraphState T) (answers : List (Answer T)) → items ≡ steps → length items ≤ i → HasRun m a first (take i items) answers after → HasRun m a first steps answers after
-run_all {T} m a steps items i first after answers e l r =
+pub run_all : {T : Type 0} (m : Meaning T) (a : Allocates) (steps done rest : List (Step T)) (first after : GraphState T) (answers : List (Answer T)) → done ++ rest ≡ steps → length rest ≡ 0 → HasRun m a first done answers after → HasRun m a first steps answers after
+run_all {T} m a steps done [] first after answers e none r =
     let P : List (Step T) → Type 0 = λ s. HasRun m a first s answers after in
-    subst P (take_all i items l ∙ e) r
+    subst P (sym (append-nil done) ∙ e) r
+run_all m a steps done (s ∷ rest) first after answers e none r = absurd (omega (arith, none))
 
-pub run_none : {T : Type 0} (m : Meaning T) (a : Allocates) (g : GraphState T) (steps : List (Step T)) (answers : List (Answer T)) → answers ≡ [] → HasRun m a g (take 0 steps) answers g
-run_none {T} m a g steps answers e =
+pub run_none : {T : Type 0} (m : Meaning T) (a : Allocates) (g : GraphState T) (answers : List (Answer T)) → answers ≡ [] → HasRun m a g [] answers g
+run_none {T} m a g answers e =
     let P : List (Answer T) → Type 0 = λ l. HasRun m a g [] l g in
     subst P (sym e) (record { sent = []; done = refl; stands = λ h k. k; belongs = λ h k. tt })
 

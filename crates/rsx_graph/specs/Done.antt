@@ -3,7 +3,7 @@ use Rattle.rsx_graph.specs.Kinds.{IsMoved, is_enabled, may_allocate, sent, IsFed
 use Rattle.std.specs.Prelude.{◌≡◌, ◌≢◌, ◌≤◌, ◌<◌, true, false, List, [], ◌∷◌, ◌++◌, length, Option, None}
 use Rattle.rsx_graph_moves.specs.Moves.{IsMakeRefusal}
 use Rattle.rsx_graph_calls.specs.Edits.{IsFedHubRefusal, fault_of}
-use Rattle.rsx_graph_calls.specs.Publishes.{IsCopyRefusal, IsEndRefusal, has_emitter}
+use Rattle.rsx_graph_calls.specs.Publishes.{IsEmitRefusal, IsEndRefusal, has_emitter}
 use Rattle.rsx_graph_calls.specs.Regions.{with_fed_regions, with_regions}
 use Rattle.rsx_graph_calls.specs.Subscribing.{IsSubscribeRefusal}
 use Rattle.rsx_graph_state.specs.Prelude.{History, HaveJoined, IsHubRefusal, IsSubscribeId, IsEmittedAt, IsEndedAt, are_numbers, fresh_hub}
@@ -47,7 +47,7 @@ IsDone m a old (FeedHub k c e) (Opened i) new =
     × (new.feed_joins ≡ old.feed_joins ++ new_joins old.rows.hubs e ∷ []) × (new.regions ≡ with_fed_regions e old.regions)
 IsDone m a old (FeedHub k c e) (NotDone r) new = IsFedHubRefusal k c e old.rows.hubs r × (new ≡ old)
 IsDone m a old (Emit i x) Published new = (has_emitter old.rows.hubs old.rows.feeds i.0 ≡ true) × IsEmittedAt i.0 x old.rows.hubs new.rows.hubs × IsRestSame old new
-IsDone m a old (Emit i x) (NotDone r) new = IsCopyRefusal old.rows.hubs old.rows.feeds i.0 r × (new ≡ old)
+IsDone m a old (Emit i x) (NotDone r) new = IsEmitRefusal old.rows.hubs old.rows.feeds i.0 r × (new ≡ old)
 IsDone m a old (Complete i) Published new = (has_emitter old.rows.hubs old.rows.feeds i.0 ≡ true) × IsEndedAt i.0 Done old.rows.hubs new.rows.hubs × IsRestSame old new
 IsDone m a old (Complete i) (NotDone r) new = IsEndRefusal old.rows.hubs old.rows.feeds i.0 r × (new ≡ old)
 IsDone m a old (Fail i n) Published new = (has_emitter old.rows.hubs old.rows.feeds i.0 ≡ true) × IsEndedAt i.0 (Failed (User n)) old.rows.hubs new.rows.hubs × IsRestSame old new

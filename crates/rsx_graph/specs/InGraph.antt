@@ -1,5 +1,5 @@
 -- The words of contracts on a whole graph: those of its hubs, feeds and subscriptions, under what the functions that it holds mean.
-use Rattle.rsx_graph.specs.Kinds.{IsMoved, drives_allocate, is_enabled, may_allocate, sent}
+use Rattle.rsx_graph.specs.Kinds.{IsMoved, IsNextRefused, drives_allocate, is_enabled, may_allocate, sent}
 use Rattle.std.specs.Prelude.{ℕ, Bool, List, map, Option, Result}
 use Rattle.rsx_graph_moves.specs.Moves.{IsMakeRefusal}
 use Rattle.rsx_graph_calls.specs.Regions.{regions_of}
@@ -10,6 +10,7 @@ use Rattle.rsx_graph_state.specs.declared.step.Pumped.{Pumped}
 use Rattle.rsx_sources.specs.Prelude.{Move, SubId, Signal}
 use Rattle.rsx_types.specs.declared.ops.Ops.{Ghosts as Ops}
 use Rattle.rsx_graph.specs.Done.{HasRun, IsDone, fed_by}
+use Rattle.rsx_graph.specs.Many.{HasMadeTimes}
 use Rattle.rsx_graph.specs.Pumped.{HasPumped}
 use Rattle.rsx_graph.specs.Stands.{GraphStands, GraphState}
 use Rattle.rsx_graph.specs.declared.graph.Graph.{Graph}
@@ -55,6 +56,17 @@ IsMadeIn {O} {T} {b} mv old new o = IsMoved (b.meaning old.ops) mv (state_of old
 -- why the move is refused
 abbrev pub IsRefusedIn : {O T : Type 0} {b : Ops O T} → Move → Graph O T b → Refusal → Type 0
 IsRefusedIn mv graph r = IsMakeRefusal (state_of graph).rows (enabled_in graph mv) mv r
+
+-- ---- one move, many times
+
+-- it was made so many times, one after the other
+abbrev pub HasMadeTimesIn : {O T : Type 0} {b : Ops O T} → Move → ℕ → Graph O T b → Delivered T → Graph O T b → Delivered T → Type 0
+HasMadeTimesIn {O} {T} {b} mv count old before new after =
+    HasMadeTimes (b.meaning old.ops) mv count (state_of old) before (state_of new) after
+
+-- why the next one is not made
+abbrev pub IsNextRefusedIn : {O T : Type 0} {b : Ops O T} → Move → Graph O T b → Delivered T → Refusal → Type 0
+IsNextRefusedIn {O} {T} {b} mv graph out why = IsNextRefused (b.meaning graph.ops) (b.allocates graph.ops) mv (state_of graph).rows out why
 
 -- ---- runs of moves
 

@@ -18,8 +18,13 @@ use Rattle.rsx_graph_state.specs.declared.feed.Feed as feed
 use Rattle.rsx_graph_state.specs.declared.refusal.Refusal.{Refusal}
 use Rattle.rsx_graph_state.specs.declared.step.Pumped.{Pumped}
 use Rattle.rsx_graph_moves.specs.Pumped.{Made}
+use Rattle.rsx_explain.specs.Explained as Explained
+use Rattle.rsx_explain.specs.Pictures as Pictures
+use Rattle.rsx_waits.specs.declared.look.NodeLook.{NodeLook}
+use Rattle.rsx_waits.specs.declared.wait.Wait.{Wait}
 use Rattle.rsx_graph_calls.specs.Edits as CallsEdits
 use Rattle.rsx_graph_calls.specs.Looks as CallsLooks
+use Rattle.rsx_graph_moves.specs.Many as MovesMany
 use Rattle.rsx_graph_moves.specs.Moves as MovesMoves
 use Rattle.rsx_graph_moves.specs.Pumped as MovesPumped
 use Rattle.rsx_graph_moves.specs.Served as MovesServed
@@ -242,6 +247,12 @@ name_in feed id step = MovesMoves.name_in tree_nodes feed id step
 abbrev pub sent : {T : Type 0} → Meaning T → Rows T → Move → Option (Signal T)
 sent m g mv = MovesMoves.sent any_machine tree_nodes m g mv
 
+abbrev pub IsMadeTimes : {T : Type 0} → (m : Meaning T) (mv : Move) (count : ℕ) (old : Rows T) (before : Delivered T) (new : Rows T) (after : Delivered T) → Type 0
+IsMadeTimes m mv count old before new after = MovesMany.IsMadeTimes any_machine tree_nodes m mv count old before new after
+
+abbrev pub IsNextRefused : {T : Type 0} → (m : Meaning T) (a : Allocates) (mv : Move) (g : Rows T) (out : Delivered T) (why : Refusal) → Type 0
+IsNextRefused m a mv g out why = MovesMany.IsNextRefused any_machine tree_nodes m a mv g out why
+
 abbrev pub AreHubsQuiet : {T : Type 0} → Meaning T → Rows T → ℕ → Type 0
 AreHubsQuiet m g n = MovesPumped.AreHubsQuiet any_machine m g n
 
@@ -279,3 +290,9 @@ HasNotes g tree notes = CallsLooks.HasNotes any_machine g tree notes
 
 abbrev pub IsOwed : {T : Type 0} → (m : Meaning T) (g : Rows T) (h : History T) (i : SubId) (v : Stream T) → Type 0
 IsOwed m g h i v = CallsLooks.IsOwed any_machine m g h i v
+
+abbrev pub IsWait : {T : Type 0} → Meaning T → Rows T → SubId → Wait → Type 0
+IsWait m g i wait = Explained.IsWait any_machine tree_nodes m g i wait
+
+abbrev pub HasLooks : {T : Type 0} → List (Subscription T) → SubId → List NodeLook → Type 0
+HasLooks subs i looks = Pictures.HasLooks any_machine subs i looks

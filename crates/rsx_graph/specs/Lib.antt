@@ -2,6 +2,7 @@
 pub mod Done
 pub mod InGraph
 pub mod Kinds
+pub mod Many
 pub mod Pieces
 pub mod Pumped
 pub mod Read

@@ -4,10 +4,10 @@ use Rattle.rsx_graph_calls.specs.Edits.{fault_of, with_fed_hub, with_hub}
 use Rattle.rsx_graph_calls.specs.Publishes.{with_published}
 use Rattle.rsx_graph_calls.specs.Requests.{with_past}
 use Rattle.rsx_graph_calls.specs.Subscribing.{with_subscriber}
-use Rattle.rsx_graph_state.specs.Prelude.{History, HubPast, Source, emitted, fed, with_made, IsFeedRefusal, IsAcceptRefusal, IsHubRefusal, IsSubMoveRefusal, IsSubscribeId, state_at, are_numbers, SubscriptionState}
+use Rattle.rsx_graph_state.specs.Prelude.{History, HubPast, Source, emitted, fed, with_made, IsFeedRefusal, IsAcceptRefusal, IsHubRefusal, IsSubMoveRefusal, IsSubscribeId, state_at, are_numbers, is_open, SubscriptionState}
 use Rattle.rsx_graph_state.specs.declared.TheConstants.{MOST_HUBS, MOST_SUBSCRIPTIONS}
 use Rattle.rsx_graph_state.specs.declared.refusal.Refusal.{Refusal}
-use Rattle.rsx_graph_state.specs.declared.refusal.Refusal.TheVariants.{UnknownHub, UnknownSub, TooMany, BadExpr, NoMemory}
+use Rattle.rsx_graph_state.specs.declared.refusal.Refusal.TheVariants.{UnknownHub, UnknownSub, Ended, Full, TooMany, BadExpr, NoMemory}
 use Rattle.rsx_graph_state.specs.declared.step.Answer.{Answer}
 use Rattle.rsx_graph_state.specs.declared.step.Answer.TheVariants.{Opened, Published, Subscribed, Requested, Cancelled as CancelTaken, Made, Refused as NotDone}
 use Rattle.rsx_subscriber.specs.Prelude.{refusal, Expr, cancelled, request_answer, requested, IsMadeAnswer}
@@ -45,6 +45,11 @@ abbrev pub is_emitter : {T : Type 0} → Source T → Bool
 is_emitter (emitted w) = true
 is_emitter (fed e js) = false
 
+-- of one with an emitter: it has not ended
+abbrev pub goes_on : {T : Type 0} → Source T → Bool
+goes_on (emitted w) = is_open w.ending
+goes_on (fed e js) = false
+
 abbrev pub is_feed : {T : Type 0} → Source T → Bool
 is_feed (emitted w) = false
 is_feed (fed e js) = true
@@ -54,6 +59,11 @@ abbrev pub is_emitted : {T : Type 0} → Option (HubPast T) → Bool
 is_emitted None = false
 is_emitted (Some p) = is_emitter p.source
 
+-- a hub is there, and has an emitter, which has not ended it
+abbrev pub is_emitting : {T : Type 0} → Option (HubPast T) → Bool
+is_emitting None = false
+is_emitting (Some p) = goes_on p.source
+
 -- a hub is there, and has a feed
 abbrev pub is_fed : {T : Type 0} → Option (HubPast T) → Bool
 is_fed None = false
@@ -61,10 +71,20 @@ is_fed (Some p) = is_feed p.source
 
 -- ---- which answers belong to a step
 
--- a call of a hub that isn't there or has a feed is refused for that, and only then
-abbrev pub IsPublishRefusal : {T : Type 0} → List (HubPast T) → ℕ → Refusal → Type 0
-IsPublishRefusal ps i UnknownHub = is_emitted (slice_get ps i) ≡ false
-IsPublishRefusal ps i r = is_emitted (slice_get ps i) ≡ true
+-- why an item is refused: a hub that isn't there or has a feed first, then one that has ended, and then one that has accepted as many
+-- items as it may, or whose inbox is full. It takes no memory
+abbrev pub IsItemRefusal : {T : Type 0} → List (HubPast T) → ℕ → Refusal → Type 0
+IsItemRefusal ps i UnknownHub = is_emitted (slice_get ps i) ≡ false
+IsItemRefusal ps i Ended = (is_emitted (slice_get ps i) ≡ true) × (is_emitting (slice_get ps i) ≡ false)
+IsItemRefusal ps i TooMany = is_emitting (slice_get ps i) ≡ true
+IsItemRefusal ps i Full = is_emitting (slice_get ps i) ≡ true
+IsItemRefusal ps i r = ⊥
+
+-- why an ending is
+abbrev pub IsEndingRefusal : {T : Type 0} → List (HubPast T) → ℕ → Refusal → Type 0
+IsEndingRefusal ps i UnknownHub = is_emitted (slice_get ps i) ≡ false
+IsEndingRefusal ps i Ended = (is_emitted (slice_get ps i) ≡ true) × (is_emitting (slice_get ps i) ≡ false)
+IsEndingRefusal ps i r = ⊥
 
 -- why a subscription is refused, where there are so many hubs and so many subscriptions: the expression first, then the limits (of
 -- subscriptions, and of a hub's members), and memory last
@@ -122,12 +142,12 @@ Belongs h (Hub k c) (Opened i) = (i.0 ≡ length h.hubs) × (are_numbers k c ≡
 Belongs h (Hub k c) (NotDone r) = IsHubRefusal k c (length h.hubs) r
 Belongs h (FeedHub k c e) (Opened i) = (i.0 ≡ length h.hubs) × (fault_of k c (length h.hubs) e ≡ None) × (length h.hubs < MOST_HUBS)
 Belongs h (FeedHub k c e) (NotDone r) = IsNewFeedRefusal k c e (length h.hubs) r
-Belongs h (Emit i x) Published = is_emitted (slice_get h.hubs i.0) ≡ true
-Belongs h (Emit i x) (NotDone r) = IsPublishRefusal h.hubs i.0 r
-Belongs h (Complete i) Published = is_emitted (slice_get h.hubs i.0) ≡ true
-Belongs h (Complete i) (NotDone r) = IsPublishRefusal h.hubs i.0 r
-Belongs h (Fail i n) Published = is_emitted (slice_get h.hubs i.0) ≡ true
-Belongs h (Fail i n) (NotDone r) = IsPublishRefusal h.hubs i.0 r
+Belongs h (Emit i x) Published = is_emitting (slice_get h.hubs i.0) ≡ true
+Belongs h (Emit i x) (NotDone r) = IsItemRefusal h.hubs i.0 r
+Belongs h (Complete i) Published = is_emitting (slice_get h.hubs i.0) ≡ true
+Belongs h (Complete i) (NotDone r) = IsEndingRefusal h.hubs i.0 r
+Belongs h (Fail i n) Published = is_emitting (slice_get h.hubs i.0) ≡ true
+Belongs h (Fail i n) (NotDone r) = IsEndingRefusal h.hubs i.0 r
 Belongs h s a = ⊥
 
 -- each answer belongs to its step

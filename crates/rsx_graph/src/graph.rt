@@ -367,63 +367,71 @@ impl<O: Ops> Graph<O> {
         Ok(subscription.standing())
     }
 
-    /// Makes one step, and answers what its call answers. A refused step comes in the cases of that call, and leaves all as
-    /// it was. Of an item that is emitted a copy is made.
-    pub fn step(&mut self, alloc: Global, step: &Step<O::Item>) -> Answer<O::Item>
+    /// Makes one step, and answers what its call answers. A refused step comes in the cases of that call, in their order and want
+    /// of memory last, and leaves all as it was. An item is handed to its hub as it is, so an [`Step::Emit`] is never refused for want
+    /// of memory; one that is refused is let go.
+    pub fn step(&mut self, alloc: Global, step: Step<O::Item>) -> Answer<O::Item>
         ensures ops { self.new.ops ≡ self.old.ops }
-        ensures stands { StandsAfter (λ h. extended h step.now result (fed_in self.old step.now result)) self.old self.new }
-        ensures belongs { IfStandsFor self.old (λ h. Belongs h step.now result) }
+        ensures stands { StandsAfter (λ h. extended h step result (fed_in self.old step result)) self.old self.new }
+        ensures belongs { IfStandsFor self.old (λ h. Belongs h step result) }
 
         // What was done, by the answer.
-        ensures done { IsDoneIn step.now result self.old self.new }
+        ensures done { IsDoneIn step result self.old self.new }
     {
         match step {
-            Step::Subscribe(expr) => match self.subscribe(alloc, expr) {
-                Ok(id) => Answer::Subscribed(id),
-                Err(why) => Answer::Refused(why),
-            },
-            Step::Request(sub, n) => match self.request(*sub, *n) {
+            // An expression is let go of before the answer is looked at, so in one place.
+            Step::Subscribe(expr) => {
+                let made = self.subscribe(alloc, &expr);
+                drop(expr);
+                match made {
+                    Ok(id) => Answer::Subscribed(id),
+                    Err(why) => Answer::Refused(why),
+                }
+            }
+            Step::Request(sub, n) => match self.request(sub, n) {
                 Ok(signal) => Answer::Requested(signal),
                 Err(why) => Answer::Refused(why),
             },
-            Step::Cancel(sub) => match self.cancel(*sub) {
+            Step::Cancel(sub) => match self.cancel(sub) {
                 Ok(()) => Answer::Cancelled,
                 Err(why) => Answer::Refused(why),
             },
-            Step::Make(what) => match self.make(alloc, *what) {
+            Step::Make(what) => match self.make(alloc, what) {
                 Ok(delivered) => Answer::Made(delivered),
                 Err(why) => Answer::Refused(why),
             },
-            Step::Hub(kind, capacity) => match self.hub(alloc, *kind, *capacity) {
+            Step::Hub(kind, capacity) => match self.hub(alloc, kind, capacity) {
                 Ok(id) => Answer::Opened(id),
                 Err(why) => Answer::Refused(why),
             },
             Step::FeedHub(kind, capacity, expr) => {
-                match self.feed_hub(alloc, *kind, *capacity, expr) {
+                let made = self.feed_hub(alloc, kind, capacity, &expr);
+                drop(expr);
+                match made {
                     Ok(id) => Answer::Opened(id),
                     Err(why) => Answer::Refused(why),
                 }
             }
-            Step::Emit(hub, item) => match self.emit_copy(alloc, *hub, item) {
+            Step::Emit(hub, item) => match self.emit(hub, item) {
+                Ok(()) => Answer::Published,
+                Err(back) => Answer::Refused(back.refusal),
+            },
+            Step::Complete(hub) => match self.complete(hub) {
                 Ok(()) => Answer::Published,
                 Err(why) => Answer::Refused(why),
             },
-            Step::Complete(hub) => match self.complete(*hub) {
-                Ok(()) => Answer::Published,
-                Err(why) => Answer::Refused(why),
-            },
-            Step::Fail(hub, number) => match self.fail(*hub, *number) {
+            Step::Fail(hub, number) => match self.fail(hub, number) {
                 Ok(()) => Answer::Published,
                 Err(why) => Answer::Refused(why),
             },
         }
     }
 
-    /// Makes the steps, in their order, refused ones included, and answers each. Room for all answers is made before the
-    /// first step.
+    /// Makes the steps, in their order, refused ones included, and answers each as [`Graph::step`] does. A refused step leaves all as
+    /// it was, and the next one is made. Room for all answers is made before the first step.
     ///
     /// # Errors
-    /// The steps come back where room for their answers was refused; none of them was made.
+    /// The steps come back where room for their answers was refused, and never where there are none; none of them was made.
     pub fn run(
         &mut self,
         alloc: Global,
@@ -434,12 +442,13 @@ impl<O: Ops> Graph<O> {
         // What was done, step by step, and what has happened by it.
         ensures ran { IfOk result (λ answers. HasRunIn steps.items answers.items self.old self.new) }
         ensures err { IfErr result (λ back. (back.items ≡ steps.items) × (state_of self.new ≡ state_of self.old)) }
+        ensures none { steps.items ≡ [] → IsOk result }
     {
         let mut answers = match Vec::with_capacity(alloc, steps.len()) {
             Ok(answers) => answers,
             Err(_) => return Err(steps),
         };
-        for step in &steps {
+        for step in steps {
             let answer = self.step(alloc, step);
             answers.push_reserved(answer);
         }

@@ -1,7 +1,7 @@
 //! The hubs of a graph: those that a program publishes to, and those that expressions feed.
 
 use crate::graph::Graph;
-use rsx_graph_calls::{NotEmitted, admit_fed, complete, emit, emit_copy, fail, feed_hub, hub};
+use rsx_graph_calls::{NotEmitted, admit_fed, complete, emit, fail, feed_hub, hub};
 use rsx_graph_state::{HUB_REGION, Refusal};
 use rsx_kinds::build_for;
 use rsx_model::Expr;
@@ -20,7 +20,7 @@ impl<O: Ops> Graph<O> {
     ghost use Rattle.rsx_graph_state.specs.Hubs.{IsEmittedAt, IsEndedAt};
     ghost use Rattle.rsx_graph_calls.specs.Edits.{IsFedHubRefusal, fault_of, with_fed_hub, with_hub};
     ghost use Rattle.rsx_graph_calls.specs.Regions.{with_fed_regions};
-    ghost use Rattle.rsx_graph_calls.specs.Publishes.{IsCopyRefusal, IsEmitRefusal, IsEndRefusal, has_emitter, with_published};
+    ghost use Rattle.rsx_graph_calls.specs.Publishes.{IsEmitRefusal, IsEndRefusal, has_emitter, with_published};
     ghost use Rattle.rsx_graph.specs.InGraph.{StandsAfter, state_of};
     ghost use Rattle.rsx_graph.specs.Stands.{IsRestSame};
     ghost use Rattle.rsx_graph_state.specs.declared.TheConstants.{MOST_HUBS};
@@ -112,25 +112,6 @@ impl<O: Ops> Graph<O> {
         ensures same { OnErr result (state_of self.new ≡ state_of self.old) }
     {
         emit(&mut self.hubs, &self.feeds, hub, item)
-    }
-
-    /// Publishes a copy of an item, as [`Graph::emit`] does; at a hub with an emitter want of memory for the copy is refused first.
-    pub(crate) fn emit_copy(
-        &mut self,
-        alloc: Global,
-        hub: HubId,
-        item: &O::Item,
-    ) -> Result<(), Refusal>
-        ensures ops { self.new.ops ≡ self.old.ops }
-        ensures stands { OnOk result (StandsAfter (with_published (Next item.now) hub) self.old self.new) }
-        ensures effect { OnOk result (IsEmittedAt hub.0 item.now self.old.hubs.items self.new.hubs.items) }
-        ensures known { OnOk result (has_emitter self.old.hubs.items self.old.feeds.items hub.0 ≡ true) }
-        ensures rest { IsRestSame (state_of self.old) (state_of self.new) }
-        ensures err { IfErr result (λ r. IsCopyRefusal self.old.hubs.items self.old.feeds.items hub.0 r) }
-        ensures same { OnErr result (state_of self.new ≡ state_of self.old) }
-    {
-        let ops = self.ops;
-        emit_copy(alloc, &ops, &mut self.hubs, &self.feeds, hub, item)
     }
 
     /// Completes a hub with an emitter: its completion waits behind the items of its inbox (rule 1.5). It takes no memory.

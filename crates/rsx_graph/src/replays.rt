@@ -1,6 +1,6 @@
 //! A list of steps from nothing.
 
-ghost use Rattle.std.specs.Prelude.{◌≡◌, IfOk, IfErr};
+ghost use Rattle.std.specs.Prelude.{◌≡◌, [], IfOk, IfErr, IsOk};
 ghost use Rattle.rsx_graph.specs.InGraph.{state_of};
 ghost use Rattle.rsx_graph.specs.Replayed.{IsReplayed};
 
@@ -19,7 +19,7 @@ use std::alloc::Global;
 /// Further calls of the graph go on from here: it stands for what has happened.
 ///
 /// # Errors
-/// The steps come back where the memory for their answers was refused; none of them was made.
+/// The steps come back where the memory for their answers was refused, and never where there are none; none of them was made.
 pub fn replay<O: Ops>(
     alloc: Global,
     ops: O,
@@ -28,6 +28,7 @@ pub fn replay<O: Ops>(
     ensures ops { IfOk result (λ r. r.0.ops ≡ ops) }
     ensures replayed { IfOk result (λ r. IsReplayed (O.meaning ops) (O.allocates ops) steps.items r.1.items (state_of r.0)) }
     ensures err { IfErr result (λ back. back.items ≡ steps.items) }
+    ensures none { steps.items ≡ [] → IsOk result }
 {
     let Ok(mut graph) = Graph::new(alloc, ops) else {
         return Err(steps);

@@ -6,11 +6,13 @@ use Rattle.rsx_values.specs.declared.limits.TheConstants.{MAIN}
 use Rattle.rsx_values.specs.Prelude.{Note, Nothing, Picks, Ended, User, Function, NonPositiveRequest, Ending, Open, Done as EndedDone, Failed}
 use Rattle.rsx_demo.specs.declared.val.Val.{Val}
 use Rattle.rsx_demo.specs.Texts.{item_text}
+use Rattle.rsx_waits.specs.Looks.{looks_text}
+use Rattle.rsx_waits.specs.Texts.{wait_text}
 use Rattle.rsx_script.specs.declared.print.Rest.{Rest}
 use Rattle.rsx_script.specs.declared.print.Rest.TheVariants.{Owed, Cancelled, Closed}
 use Rattle.rsx_script.specs.declared.print.Shown.{Shown as Received}
 use Rattle.rsx_script.specs.declared.print.Answer.{Answer}
-use Rattle.rsx_script.specs.declared.print.Answer.TheVariants.{Hub, Sub, Done, Idle, Budget, Shown, Value, Asked, Count, Joins, Choices, Equal, Different, Refused}
+use Rattle.rsx_script.specs.declared.print.Answer.TheVariants.{Hub, Sub, Done, Idle, Budget, Shown, Value, Asked, Count, Joins, Choices, Equal, Different, Waits, Drawn, Refused}
 
 -- each number behind a space
 abbrev pub numbers_text : List ℕ → List ℕ
@@ -78,6 +80,8 @@ answer_text (Joins joins) = codes "joins" ++ numbers_text joins.items
 answer_text (Choices notes) = codes "choices" ++ notes_text 0 notes.items
 answer_text Equal = codes "equal"
 answer_text Different = codes "different"
+answer_text (Waits wait) = codes "waits: " ++ wait_text wait
+answer_text (Drawn picture) = codes "tree" ++ looks_text 0 picture.nodes.items
 answer_text (Refused name) = codes "refused " ++ name.now
 
 -- what an answer is printed as

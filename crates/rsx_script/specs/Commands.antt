@@ -10,7 +10,7 @@ use Rattle.rsx_script.specs.Numbers.{u32_of, u64_of, signed_of}
 use Rattle.rsx_script.specs.Reading.{Left, line_of, ◌>>=◌, next_at, end_at, name_at, number_at}
 use Rattle.rsx_script.specs.Words.{Written, opening, closing, text, strange, nothing}
 use Rattle.rsx_script.specs.Expressions.{expression_at}
-use Rattle.rsx_script.specs.Orders.{Tree, Order, make_hub, feed_hub, emit, complete, fail, subscribe, request, cancel, pump, pick, show, asked, count, joins, choices, check}
+use Rattle.rsx_script.specs.Orders.{Tree, Order, make_hub, feed_hub, emit, complete, fail, subscribe, request, cancel, pump, pick, show, asked, count, joins, choices, check, why, draw}
 
 -- the number of a hub or of a subscription, alone
 abbrev pub with_one : (ℕ → Order) → Left → Result (Order × Left) LineRefusal
@@ -90,7 +90,9 @@ plain_command_at column name l =
     else (if bytes_eq name (codes "joins") then with_one joins l
     else (if bytes_eq name (codes "choices") then with_one choices l
     else (if bytes_eq name (codes "check") then with_one check l
-    else hub_command_at column name l)))))))))
+    else (if bytes_eq name (codes "why") then with_one why l
+    else (if bytes_eq name (codes "draw") then with_one draw l
+    else hub_command_at column name l)))))))))))
 
 -- the expression that is subscribed to, in a line of less than so many bytes
 abbrev pub with_expression : ℕ → Left → Result (Order × Left) LineRefusal

@@ -68,6 +68,8 @@ pub data Order : Type 0 where
   joins : ℕ → Order
   choices : ℕ → Order
   check : ℕ → Order
+  why : ℕ → Order
+  draw : ℕ → Order
 
 abbrev pub order_of : Command → Order
 order_of (asks.Hub kind capacity) = make_hub kind capacity
@@ -86,3 +88,5 @@ order_of (asks.Count s) = count s.0
 order_of (asks.Joins s) = joins s.0
 order_of (asks.Choices s) = choices s.0
 order_of (asks.Check s) = check s.0
+order_of (asks.Why s) = why s.0
+order_of (asks.Draw s) = draw s.0

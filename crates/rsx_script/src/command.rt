@@ -39,4 +39,8 @@ pub enum Command {
     Choices(SubId),
     /// `check S`
     Check(SubId),
+    /// `why S`
+    Why(SubId),
+    /// `draw S`
+    Draw(SubId),
 }

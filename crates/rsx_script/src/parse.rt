@@ -125,6 +125,8 @@ fn plain_command_of(column: u64, name: &str, words: &mut Words<'_>) -> Result<Co
         "joins" => Ok(Command::Joins(subscription(words)?)),
         "choices" => Ok(Command::Choices(subscription(words)?)),
         "check" => Ok(Command::Check(subscription(words)?)),
+        "why" => Ok(Command::Why(subscription(words)?)),
+        "draw" => Ok(Command::Draw(subscription(words)?)),
         _ => hub_command_of(column, name, words),
     }
 }

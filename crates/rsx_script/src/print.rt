@@ -7,6 +7,7 @@ ghost use Rattle.rsx_script.specs.Answers.{IsTextOf, numbers_text, picks_text, n
 use rsx_demo::Val;
 use rsx_types::{Cause, Ending, HubId, NoMemory, Note, StreamValue, SubId};
 use rsx_values::MAIN;
+use rsx_waits::{Picture, Wait};
 use std::alloc::Global;
 use std::fmt;
 
@@ -39,6 +40,10 @@ pub enum Answer<'a> {
     Equal,
     /// It is not.
     Different,
+    /// What a subscriber waits for.
+    Waits(Wait),
+    /// What the nodes of a subscription's tree do.
+    Drawn(Picture),
     /// The call was refused, by this name.
     Refused(&'static str),
 }
@@ -112,6 +117,8 @@ impl fmt::Display for Answer<'_> {
             }
             Answer::Equal => f.write_str("equal"),
             Answer::Different => f.write_str("different"),
+            Answer::Waits(wait) => write!(f, "waits: {wait}"),
+            Answer::Drawn(picture) => write!(f, "tree{picture}"),
             Answer::Refused(name) => write!(f, "refused {name}"),
         }
     }

@@ -1,5 +1,5 @@
 -- Lemmas about the calls of a session.
-use Rattle.rsx_session.specs.Prelude.{AllLead, Answer, Complete, Error, Feed, GraphStands, GraphState, History, HubPast, HubSource, IsCopyRefusal, IsEmitRefusal, IsRequestedAt, IsStepMade, IsTrouble, IsTroubleOf, Known, LeadsBy, Next, NonPositiveRequest, OnText, Record, Refusal, Session, SessionStands, Signal, Source, SubId, Subscription, Trouble, Val, any_machine, demo_allocates, demo_meaning, emitted, ended_by, ending_after, ending_by, extended, fed, feed_of, has_emitter, joins_in, known, published_at, published_from, seen, source_ended, source_of, source_with, source_without_last, sources_of, state_of, step_text, taken, with_delivery, with_fed_hub, with_hub}
+use Rattle.rsx_session.specs.Prelude.{AllLead, Answer, Complete, Error, Feed, GraphStands, GraphState, History, HubPast, HubSource, IsRequestedAt, IsStepMade, IsTrouble, IsTroubleOf, Known, LeadsBy, Next, NonPositiveRequest, OnText, Record, Refusal, Session, SessionStands, Signal, Source, SubId, Subscription, Trouble, Val, any_machine, demo_allocates, demo_meaning, emitted, ended_by, ending_after, ending_by, extended, fed, feed_of, has_emitter, joins_in, known, published_at, published_from, seen, source_ended, source_of, source_with, source_without_last, sources_of, state_of, step_text, taken, with_delivery, with_fed_hub, with_hub}
 use Rattle.std.proofs.Common.{◌≡◌, ◌≤◌, ◌<◌, ◌&&◌, true, false, ℕ, ℤ, pos, negsuc, zero, suc, List, [], ◌∷◌, ◌++◌, length, map, get_or, refl, ap, sym, subst, ◌∙◌, ◌-◌, arith, take, length-append, Option, Some, None, is_none, is_some, Result, Ok, Err, codes}
 use Rattle.std.proofs.Math.ListN.{set}
 use Rattle.std.specs.Result.{IsErr, IsErrAnd}
@@ -14,7 +14,6 @@ use Rattle.rsx_types.specs.declared.signal.Ending.TheVariants.{Open, Done, Faile
 use Rattle.rsx_graph_state.specs.Prelude.{HubState, SubscriptionState, changed, state_at}
 use Rattle.rsx_subscriber.specs.declared.state.SubscriptionState.TheVariants as state
 use Rattle.rsx_graph_state.proofs.Graphs.{state_there}
-use Rattle.rsx_graph_state.specs.declared.refusal.Refusal.TheVariants as refusal
 use Rattle.rsx_graph_state.specs.declared.refusal.Refusal.TheVariants.{NoMemory}
 use Rattle.rsx_graph_state.specs.declared.step.Answer.{Answer as Answered}
 use Rattle.rsx_graph_state.specs.declared.step.Answer.TheVariants as did
@@ -203,13 +202,3 @@ let_go vs i v more got after x lt at e g a =
     back : (w : HubSource) → source_without_last (source_with (Next x) w) ≡ w
     back (kept.Emitted w) = ap kept.Emitted (λ j. record { items = without_last w.items x j; ending = w.ending })
     back (kept.Fed e) = refl
-
-pub emit_refusal : (hubs : List (HubState Val)) (feeds : List (Feed Val)) (i : ℕ) (r : Refusal) → IsEmitRefusal hubs feeds i r → IsCopyRefusal hubs feeds i r
-emit_refusal hubs feeds i refusal.UnknownHub k = k
-emit_refusal hubs feeds i refusal.UnknownSub k = k
-emit_refusal hubs feeds i refusal.Ended k = k
-emit_refusal hubs feeds i refusal.Full k = k
-emit_refusal hubs feeds i refusal.TooMany k = k
-emit_refusal hubs feeds i (refusal.BadExpr b) k = k
-emit_refusal hubs feeds i refusal.NotEnabled k = k
-emit_refusal hubs feeds i refusal.NoMemory k = absurd k

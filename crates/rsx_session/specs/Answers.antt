@@ -5,7 +5,7 @@ use Rattle.rsx_script.specs.Answers.{IsTextOf}
 use Rattle.rsx_script.specs.declared.command.Command.{Command}
 use Rattle.rsx_script.specs.declared.command.Command.TheVariants as command
 use Rattle.rsx_script.specs.declared.print.Answer.{Answer}
-use Rattle.rsx_script.specs.declared.print.Answer.TheVariants.{Hub, Sub, Done, Idle, Budget, Shown, Value, Asked, Count, Joins, Choices, Equal, Different, Refused}
+use Rattle.rsx_script.specs.declared.print.Answer.TheVariants.{Hub, Sub, Done, Idle, Budget, Shown, Value, Asked, Count, Joins, Choices, Equal, Different, Waits, Drawn, Refused}
 use Rattle.rsx_session.specs.declared.session.View.{View}
 use Rattle.rsx_session.specs.declared.session.View.TheVariants.{Received, FromScratch}
 use Rattle.rsx_session.specs.declared.session.Trouble.{Trouble}
@@ -60,6 +60,14 @@ abbrev pub is_choices : Answer → Bool
 is_choices (Choices _) = true
 is_choices _ = false
 
+abbrev pub is_waits : Answer → Bool
+is_waits (Waits _) = true
+is_waits _ = false
+
+abbrev pub is_drawn : Answer → Bool
+is_drawn (Drawn _) = true
+is_drawn _ = false
+
 abbrev pub is_compared : Answer → Bool
 is_compared Equal = true
 is_compared Different = true
@@ -83,6 +91,8 @@ is_of view (command.Count sub) a = is_count a
 is_of view (command.Joins sub) a = is_joins a
 is_of view (command.Choices sub) a = is_choices a
 is_of view (command.Check sub) a = is_compared a
+is_of view (command.Why sub) a = is_waits a
+is_of view (command.Draw sub) a = is_drawn a
 
 -- the name of a refusal that a command can have: not that of want of memory, G8
 abbrev pub is_name : List ℕ → Bool

@@ -14,7 +14,7 @@ use Rattle.rsx_model.specs.declared.evaluate.ScratchRefusal.TheVariants as scrat
 use Rattle.rsx_graph_state.specs.Prelude.{SubscriptionState}
 use Rattle.rsx_subscriber.specs.declared.state.SubscriptionState.TheVariants as is
 use Rattle.rsx_graph_state.specs.Names.{name_codes}
-use Rattle.rsx_graph.specs.Rows.{AreValues, Feed, HasEnded, History, HubPast, IsOwed, LeadTo, Made, after_moves, fed, feed_of}
+use Rattle.rsx_graph.specs.Rows.{AreValues, Feed, HasEnded, History, HasLooks, HubPast, IsOwed, IsWait, LeadTo, Made, after_moves, fed, feed_of}
 use Rattle.rsx_graph.specs.Done.{IsDone, fed_by}
 use Rattle.rsx_graph.specs.Stands.{AreJoinsSame, GraphState, nothing}
 use Rattle.rsx_graph.specs.Steps.{extended, no_history}
@@ -28,6 +28,10 @@ use Rattle.rsx_graph.specs.declared.step.Step.TheVariants as step
 use Rattle.rsx_script.specs.declared.command.Command.{Command}
 use Rattle.rsx_script.specs.declared.command.Command.TheVariants as command
 use Rattle.rsx_script.specs.Answers.{notes_text, numbers_text, signals_text}
+use Rattle.rsx_waits.specs.Looks.{looks_text}
+use Rattle.rsx_waits.specs.Texts.{wait_text}
+use Rattle.rsx_waits.specs.declared.look.NodeLook.{NodeLook}
+use Rattle.rsx_waits.specs.declared.wait.Wait.{Wait}
 use Rattle.rsx_session.specs.Kept.{Known, ending_in, followed_by, seen}
 use Rattle.rsx_session.specs.declared.session.View.{View}
 use Rattle.rsx_session.specs.declared.session.View.TheVariants.{Received, FromScratch}
@@ -154,6 +158,16 @@ abbrev pub AreChoices : Place → SubId → List ℕ → Type 0
 AreChoices place sub text = OfSub place sub.0 text (λ past.
     (node : Subscription Val) × (slice_get place.graph.rows.subs sub.0 ≡ Some node) × (text ≡ codes "choices" ++ notes_text 0 (notes_of node.part.tree)))
 
+-- what it waits for
+abbrev pub IsExplained : Place → SubId → List ℕ → Type 0
+IsExplained place sub text = OfSub place sub.0 text (λ past.
+    (wait : Wait) × IsWait demo_meaning place.graph.rows sub wait × (text ≡ codes "waits: " ++ wait_text wait))
+
+-- what the nodes of its tree do
+abbrev pub IsDrawn : Place → SubId → List ℕ → Type 0
+IsDrawn place sub text = OfSub place sub.0 text (λ past.
+    (looks : List NodeLook) × HasLooks place.graph.rows.subs sub looks × (text ≡ codes "tree" ++ looks_text 0 looks))
+
 -- whether this, and what the graph owes it, is this value
 abbrev pub IsAllOf : Place → SubId → Known → Stream Val → Bool → Type 0
 IsAllOf place sub got v right =
@@ -200,3 +214,5 @@ IsAnswerTo view (command.Count sub) old text new = IsLook old new (IsCounted old
 IsAnswerTo view (command.Joins sub) old text new = IsLook old new (AreJoins old sub text)
 IsAnswerTo view (command.Choices sub) old text new = IsLook old new (AreChoices old sub text)
 IsAnswerTo view (command.Check sub) old text new = IsLook old new (IsChecked old sub text)
+IsAnswerTo view (command.Why sub) old text new = IsLook old new (IsExplained old sub text)
+IsAnswerTo view (command.Draw sub) old text new = IsLook old new (IsDrawn old sub text)

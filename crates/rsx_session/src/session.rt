@@ -7,8 +7,8 @@ ghost use Rattle.rsx_graph_state.specs.Answers.{changed};
 ghost use Rattle.rsx_subscriber.specs.Past.{IsPrefixOf};
 ghost use Rattle.rsx_session.specs.Sessions.{AllPumpTo, GrowsByLine, IsHubsTrouble, IsLineOf, IsNextTrouble, IsNextValue, LeadsAll, OnText, IsLookTrouble, IsRestOf, IsRightOf, IsScratchTrouble, IsTroubleOf, IsValueOf, Says, SessionStands, place_of};
 ghost use Rattle.rsx_session.specs.Kept.{all_taken, followed_by, known, taken};
-ghost use Rattle.rsx_session.specs.Places.{AreChoices, AreJoins, HaveValues, IsAsked, IsChecked, IsCounted, IsShown, IsValued, IsViewed};
-ghost use Rattle.rsx_session.specs.Answers.{IsAnswered, IsTrouble, is_asked, is_choices, is_count, is_joins, is_hub, is_sub, is_done, is_pumped, is_received, is_value, is_shown, is_compared};
+ghost use Rattle.rsx_session.specs.Places.{AreChoices, AreJoins, HaveValues, IsAsked, IsChecked, IsCounted, IsDrawn, IsExplained, IsShown, IsValued, IsViewed};
+ghost use Rattle.rsx_session.specs.Answers.{IsAnswered, IsTrouble, is_asked, is_choices, is_count, is_drawn, is_joins, is_waits, is_hub, is_sub, is_done, is_pumped, is_received, is_value, is_shown, is_compared};
 
 use crate::published::{HubSource, copied};
 use rsx_demo::{Demo, Val, is_same_val};
@@ -178,6 +178,8 @@ impl Session {
             Command::Joins(sub) => write(alloc, self.joins(alloc, sub), out),
             Command::Choices(sub) => write(alloc, self.choices(alloc, sub), out),
             Command::Check(sub) => write(alloc, self.check(alloc, sub), out),
+            Command::Why(sub) => write(alloc, self.why(sub), out),
+            Command::Draw(sub) => write(alloc, self.draw(alloc, sub), out),
         }
     }
 
@@ -406,6 +408,24 @@ impl Session {
         ensures err { IfErr result IsTrouble }
     {
         Ok(Answer::Choices(self.graph.notes(alloc, Tree::Sub(sub))?))
+    }
+
+    /// What a subscriber waits for.
+    fn why(&self, sub: SubId) -> Result<Answer<'_>, Trouble>
+        ensures answer { IfOk result (λ a. is_waits a ≡ true) }
+        ensures says { Says self.now result (λ place text. IsExplained place sub text) }
+        ensures err { IfErr result IsTrouble }
+    {
+        Ok(Answer::Waits(self.graph.explain(sub)?))
+    }
+
+    /// What the nodes of a subscription do.
+    fn draw(&self, alloc: Global, sub: SubId) -> Result<Answer<'_>, Trouble>
+        ensures answer { IfOk result (λ a. is_drawn a ≡ true) }
+        ensures says { Says self.now result (λ place text. IsDrawn place sub text) }
+        ensures err { IfErr result IsTrouble }
+    {
+        Ok(Answer::Drawn(self.graph.picture(alloc, sub)?))
     }
 
     /// What `show` answers of a subscription.

@@ -9,6 +9,8 @@ mod driven;
 #[cfg(test)]
 mod graphs;
 #[cfg(test)]
+mod many;
+#[cfg(test)]
 mod peers;
 #[cfg(test)]
 mod recorded;

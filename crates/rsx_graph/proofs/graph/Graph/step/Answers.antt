@@ -2,7 +2,7 @@ use Rattle.rsx_kinds.specs.Any.{any_machine}
 use Rattle.std.proofs.Common.{rules, length, map, ap, ◌∙◌, arith, w64}
 use Rattle.std.proofs.lemmas.Int.{to_z-of_z}
 use Rattle.rsx_graph.proofs.Kept.{unchanged}
-use Rattle.rsx_graph.proofs.Known.{copy_refused, emits_there, end_refused, fault_there, id_there, move_known, move_refused, new_feed_refused, subs_there, subscribe_refused}
+use Rattle.rsx_graph.proofs.Known.{emitted_goes_on, ended_goes_on, ending_refused, fault_there, id_there, item_refused, move_known, move_refused, new_feed_refused, subs_there, subscribe_refused}
 use Rattle.rsx_graph.specs.InGraph.{state_of}
 use Rattle.rsx_graph_state.proofs.Graphs.{state_there}
 use Rattle.rsx_graph_state.proofs.Publishes.{hub_refused}
@@ -24,7 +24,7 @@ returns-in-Err-clause-belongs g c = λ h s.
     rw c.in-Subscribe.is (subscribe_refused _ c.args.self.now.hubs.items _ _ _ c.in-Err.why s.rows.many (subs_there (g.O.Ops.meaning c.args.self.now.ops) (state_of c.args.self.now).rows h s.rows) c.in-Err.ensures.err)
 
 pub returns-in-Ok-clause-done : goal.returns-in-Ok-clause-done
-returns-in-Ok-clause-done g c = let k = c.in-Ok.ensures in rw c.in-Subscribe.is (k.id, k.effect, k.joined, c.subscribe.ensures.feeds, k.missed, ap (map (λ v. v.items)) c.subscribe.ensures.feed_joins, k.placed)
+returns-in-Ok-clause-done g c = let k = c.in-Ok.ensures in rw c.in-Subscribe.is (k.id, k.effect, k.joined, c.subscribe-made.ensures.feeds, k.missed, ap (map (λ v. v.items)) c.subscribe-made.ensures.feed_joins, k.placed)
 
 pub returns-in-Err-clause-done : goal.returns-in-Err-clause-done
 returns-in-Err-clause-done g c = let k = c.in-Err.ensures in rw c.in-Subscribe.is (k.err, k.same)
@@ -118,47 +118,47 @@ returns-in-Ok-hub-clause-done g c = let k = c.in-Ok-hub.ensures in rw c.in-Hub.i
 pub returns-in-Err-hub-clause-done : goal.returns-in-Err-hub-clause-done
 returns-in-Err-hub-clause-done g c = let k = c.in-Err-hub.ensures in rw c.in-Hub.is (k.err, k.same)
 
-pub returns-in-Ok-feed_hub-clause-stands : goal.returns-in-Ok-feed_hub-clause-stands
-returns-in-Ok-feed_hub-clause-stands g c = rw c.in-FeedHub.is c.in-Ok-feed_hub.ensures.stands
+pub returns-in-Ok-made-clause-stands : goal.returns-in-Ok-made-clause-stands
+returns-in-Ok-made-clause-stands g c = rw c.in-FeedHub.is c.in-Ok-made.ensures.stands
 
-pub returns-in-Err-feed_hub-clause-stands : goal.returns-in-Err-feed_hub-clause-stands
-returns-in-Err-feed_hub-clause-stands g c = rw c.in-FeedHub.is (unchanged (g.O.Ops.meaning c.args.self.now.ops) (state_of c.args.self.now) _ c.in-Err-feed_hub.ensures.same)
+pub returns-in-Err-made-clause-stands : goal.returns-in-Err-made-clause-stands
+returns-in-Err-made-clause-stands g c = rw c.in-FeedHub.is (unchanged (g.O.Ops.meaning c.args.self.now.ops) (state_of c.args.self.now) _ c.in-Err-made.ensures.same)
 
-pub returns-in-Ok-feed_hub-clause-belongs : goal.returns-in-Ok-feed_hub-clause-belongs
-returns-in-Ok-feed_hub-clause-belongs g c = λ h s.
-    let k = c.in-Ok-feed_hub.ensures.id in
+pub returns-in-Ok-made-clause-belongs : goal.returns-in-Ok-made-clause-belongs
+returns-in-Ok-made-clause-belongs g c = λ h s.
+    let k = c.in-Ok-made.ensures.id in
     let many = s.rows.many in
     rw c.in-FeedHub.is (k.0 ∙ many, fault_there c.in-FeedHub.kind c.in-FeedHub.capacity _ _ _ many ∙ k.1, omega (arith, many, k.2))
 
-pub returns-in-Err-feed_hub-clause-belongs : goal.returns-in-Err-feed_hub-clause-belongs
-returns-in-Err-feed_hub-clause-belongs g c = λ h s.
-    rw c.in-FeedHub.is (new_feed_refused c.in-FeedHub.kind c.in-FeedHub.capacity _ c.args.self.now.hubs.items (length h.hubs) c.in-Err-feed_hub.why s.rows.many c.in-Err-feed_hub.ensures.err)
+pub returns-in-Err-made-clause-belongs : goal.returns-in-Err-made-clause-belongs
+returns-in-Err-made-clause-belongs g c = λ h s.
+    rw c.in-FeedHub.is (new_feed_refused c.in-FeedHub.kind c.in-FeedHub.capacity _ c.args.self.now.hubs.items (length h.hubs) c.in-Err-made.why s.rows.many c.in-Err-made.ensures.err)
 
-pub returns-in-Ok-feed_hub-clause-done : goal.returns-in-Ok-feed_hub-clause-done
-returns-in-Ok-feed_hub-clause-done g c = let k = c.in-Ok-feed_hub.ensures in rw c.in-FeedHub.is (k.id.0, k.id.1, k.id.2, k.effect, c.feed_hub.ensures.subscriptions, ap (map (λ v. v.items)) c.feed_hub.ensures.joins, k.missed, k.placed)
+pub returns-in-Ok-made-clause-done : goal.returns-in-Ok-made-clause-done
+returns-in-Ok-made-clause-done g c = let k = c.in-Ok-made.ensures in rw c.in-FeedHub.is (k.id.0, k.id.1, k.id.2, k.effect, c.feed_hub-made.ensures.subscriptions, ap (map (λ v. v.items)) c.feed_hub-made.ensures.joins, k.missed, k.placed)
 
-pub returns-in-Err-feed_hub-clause-done : goal.returns-in-Err-feed_hub-clause-done
-returns-in-Err-feed_hub-clause-done g c = let k = c.in-Err-feed_hub.ensures in rw c.in-FeedHub.is (k.err, k.same)
+pub returns-in-Err-made-clause-done : goal.returns-in-Err-made-clause-done
+returns-in-Err-made-clause-done g c = let k = c.in-Err-made.ensures in rw c.in-FeedHub.is (k.err, k.same)
 
-pub returns-in-Ok-emit_copy-clause-stands : goal.returns-in-Ok-emit_copy-clause-stands
-returns-in-Ok-emit_copy-clause-stands g c = rw c.in-Emit.is c.in-Ok-emit_copy.ensures.stands
+pub returns-in-Ok-emit-clause-stands : goal.returns-in-Ok-emit-clause-stands
+returns-in-Ok-emit-clause-stands g c = rw c.in-Emit.is c.in-Ok-emit.ensures.stands
 
-pub returns-in-Err-emit_copy-clause-stands : goal.returns-in-Err-emit_copy-clause-stands
-returns-in-Err-emit_copy-clause-stands g c = rw c.in-Emit.is (unchanged (g.O.Ops.meaning c.args.self.now.ops) (state_of c.args.self.now) _ c.in-Err-emit_copy.ensures.same)
+pub returns-in-Err-emit-clause-stands : goal.returns-in-Err-emit-clause-stands
+returns-in-Err-emit-clause-stands g c = rw c.in-Emit.is (unchanged (g.O.Ops.meaning c.args.self.now.ops) (state_of c.args.self.now) _ c.in-Err-emit.ensures.same)
 
-pub returns-in-Ok-emit_copy-clause-belongs : goal.returns-in-Ok-emit_copy-clause-belongs
-returns-in-Ok-emit_copy-clause-belongs g c = λ h s.
-    rw c.in-Emit.is (emits_there (g.O.Ops.meaning c.args.self.now.ops) (state_of c.args.self.now).rows h c.in-Emit.hub.0 s.rows ∙ c.in-Ok-emit_copy.ensures.known)
+pub returns-in-Ok-emit-clause-belongs : goal.returns-in-Ok-emit-clause-belongs
+returns-in-Ok-emit-clause-belongs g c = λ h s.
+    rw c.in-Emit.is (emitted_goes_on (g.O.Ops.meaning c.args.self.now.ops) (state_of c.args.self.now).rows h c.in-Emit.hub.0 _ _ s.rows c.in-Ok-emit.ensures.known c.in-Ok-emit.ensures.effect)
 
-pub returns-in-Err-emit_copy-clause-belongs : goal.returns-in-Err-emit_copy-clause-belongs
-returns-in-Err-emit_copy-clause-belongs g c = λ h s.
-    rw c.in-Emit.is (copy_refused (g.O.Ops.meaning c.args.self.now.ops) (state_of c.args.self.now).rows h c.in-Emit.hub.0 c.in-Err-emit_copy.why s.rows c.in-Err-emit_copy.ensures.err)
+pub returns-in-Err-emit-clause-belongs : goal.returns-in-Err-emit-clause-belongs
+returns-in-Err-emit-clause-belongs g c = λ h s.
+    rw c.in-Emit.is (item_refused (g.O.Ops.meaning c.args.self.now.ops) (state_of c.args.self.now).rows h c.in-Emit.hub.0 c.in-Err-emit.back.refusal s.rows c.in-Err-emit.ensures.err)
 
-pub returns-in-Ok-emit_copy-clause-done : goal.returns-in-Ok-emit_copy-clause-done
-returns-in-Ok-emit_copy-clause-done g c = let k = c.in-Ok-emit_copy.ensures in rw c.in-Emit.is (k.known, k.effect, c.emit_copy.ensures.rest)
+pub returns-in-Ok-emit-clause-done : goal.returns-in-Ok-emit-clause-done
+returns-in-Ok-emit-clause-done g c = let k = c.in-Ok-emit.ensures in rw c.in-Emit.is (k.known, k.effect, c.emit.ensures.rest)
 
-pub returns-in-Err-emit_copy-clause-done : goal.returns-in-Err-emit_copy-clause-done
-returns-in-Err-emit_copy-clause-done g c = let k = c.in-Err-emit_copy.ensures in rw c.in-Emit.is (k.err, k.same)
+pub returns-in-Err-emit-clause-done : goal.returns-in-Err-emit-clause-done
+returns-in-Err-emit-clause-done g c = let k = c.in-Err-emit.ensures in rw c.in-Emit.is (k.err, k.same)
 
 pub returns-in-Ok-complete-clause-stands : goal.returns-in-Ok-complete-clause-stands
 returns-in-Ok-complete-clause-stands g c = rw c.in-Complete.is c.in-Ok-complete.ensures.stands
@@ -168,11 +168,11 @@ returns-in-Err-complete-clause-stands g c = rw c.in-Complete.is (unchanged (g.O.
 
 pub returns-in-Ok-complete-clause-belongs : goal.returns-in-Ok-complete-clause-belongs
 returns-in-Ok-complete-clause-belongs g c = λ h s.
-    rw c.in-Complete.is (emits_there (g.O.Ops.meaning c.args.self.now.ops) (state_of c.args.self.now).rows h c.in-Complete.hub.0 s.rows ∙ c.in-Ok-complete.ensures.known)
+    rw c.in-Complete.is (ended_goes_on (g.O.Ops.meaning c.args.self.now.ops) (state_of c.args.self.now).rows h c.in-Complete.hub.0 _ _ s.rows c.in-Ok-complete.ensures.known c.in-Ok-complete.ensures.effect)
 
 pub returns-in-Err-complete-clause-belongs : goal.returns-in-Err-complete-clause-belongs
 returns-in-Err-complete-clause-belongs g c = λ h s.
-    rw c.in-Complete.is (end_refused (g.O.Ops.meaning c.args.self.now.ops) (state_of c.args.self.now).rows h c.in-Complete.hub.0 c.in-Err-complete.why s.rows c.in-Err-complete.ensures.err)
+    rw c.in-Complete.is (ending_refused (g.O.Ops.meaning c.args.self.now.ops) (state_of c.args.self.now).rows h c.in-Complete.hub.0 c.in-Err-complete.why s.rows c.in-Err-complete.ensures.err)
 
 pub returns-in-Ok-complete-clause-done : goal.returns-in-Ok-complete-clause-done
 returns-in-Ok-complete-clause-done g c = let k = c.in-Ok-complete.ensures in rw c.in-Complete.is (k.known, k.effect, c.complete.ensures.rest)
@@ -188,11 +188,11 @@ returns-in-Err-fail-clause-stands g c = rw c.in-Fail.is (unchanged (g.O.Ops.mean
 
 pub returns-in-Ok-fail-clause-belongs : goal.returns-in-Ok-fail-clause-belongs
 returns-in-Ok-fail-clause-belongs g c = λ h s.
-    rw c.in-Fail.is (emits_there (g.O.Ops.meaning c.args.self.now.ops) (state_of c.args.self.now).rows h c.in-Fail.hub.0 s.rows ∙ c.in-Ok-fail.ensures.known)
+    rw c.in-Fail.is (ended_goes_on (g.O.Ops.meaning c.args.self.now.ops) (state_of c.args.self.now).rows h c.in-Fail.hub.0 _ _ s.rows c.in-Ok-fail.ensures.known c.in-Ok-fail.ensures.effect)
 
 pub returns-in-Err-fail-clause-belongs : goal.returns-in-Err-fail-clause-belongs
 returns-in-Err-fail-clause-belongs g c = λ h s.
-    rw c.in-Fail.is (end_refused (g.O.Ops.meaning c.args.self.now.ops) (state_of c.args.self.now).rows h c.in-Fail.hub.0 c.in-Err-fail.why s.rows c.in-Err-fail.ensures.err)
+    rw c.in-Fail.is (ending_refused (g.O.Ops.meaning c.args.self.now.ops) (state_of c.args.self.now).rows h c.in-Fail.hub.0 c.in-Err-fail.why s.rows c.in-Err-fail.ensures.err)
 
 pub returns-in-Ok-fail-clause-done : goal.returns-in-Ok-fail-clause-done
 returns-in-Ok-fail-clause-done g c = let k = c.in-Ok-fail.ensures in rw c.in-Fail.is (k.known, k.effect, c.fail.ensures.rest)

@@ -1,6 +1,6 @@
 use Rattle.std.proofs.Common.{rules, ℤ, w64, subst}
 use Rattle.std.proofs.lemmas.Int.{to_z-of_z}
-use Rattle.rsx_session.specs.Prelude.{AreChoices, AreJoins, IsAsked, IsChecked, IsCounted, IsViewed, LeadsAll, OnText}
+use Rattle.rsx_session.specs.Prelude.{AreChoices, AreJoins, IsAsked, IsChecked, IsCounted, IsDrawn, IsExplained, IsViewed, LeadsAll, OnText}
 use Rattle.rsx_script.specs.declared.command.Command.TheVariants as command
 use Rattle.rsx_session.proofs.Lines.{answered, looked, told}
 use Rattle.rsx_session.proofs.session.Session.answer.Goals as goal
@@ -106,3 +106,15 @@ returns-in-Check-clause-grows c = rw c.in-Check.is (answered c.check.result c.ar
 
 pub returns-in-Check-clause-leads : goal.returns-in-Check-clause-leads
 returns-in-Check-clause-leads c = rw c.in-Check.is (told c.check.result (command.Check c.in-Check.sub) c.args.self.now _ _ _ c.write-in-Check.result c.write-in-Check.ensures.grows (looked c.args.self.now c.check.result (λ place text. IsChecked place c.in-Check.sub text) c.check.ensures.says))
+
+pub returns-in-Why-clause-grows : goal.returns-in-Why-clause-grows
+returns-in-Why-clause-grows c = rw c.in-Why.is (answered c.why.result c.args.self.now.view (command.Why c.in-Why.sub) _ _ c.write-in-Why.result c.write-in-Why.ensures.grows c.why.ensures.answer c.why.ensures.err)
+
+pub returns-in-Why-clause-leads : goal.returns-in-Why-clause-leads
+returns-in-Why-clause-leads c = rw c.in-Why.is (told c.why.result (command.Why c.in-Why.sub) c.args.self.now _ _ _ c.write-in-Why.result c.write-in-Why.ensures.grows (looked c.args.self.now c.why.result (λ place text. IsExplained place c.in-Why.sub text) c.why.ensures.says))
+
+pub returns-in-Draw-clause-grows : goal.returns-in-Draw-clause-grows
+returns-in-Draw-clause-grows c = rw c.in-Draw.is (answered c.draw.result c.args.self.now.view (command.Draw c.in-Draw.sub) _ _ c.write-in-Draw.result c.write-in-Draw.ensures.grows c.draw.ensures.answer c.draw.ensures.err)
+
+pub returns-in-Draw-clause-leads : goal.returns-in-Draw-clause-leads
+returns-in-Draw-clause-leads c = rw c.in-Draw.is (told c.draw.result (command.Draw c.in-Draw.sub) c.args.self.now _ _ _ c.write-in-Draw.result c.write-in-Draw.ensures.grows (looked c.args.self.now c.draw.result (λ place text. IsDrawn place c.in-Draw.sub text) c.draw.ensures.says))

@@ -7,7 +7,7 @@ use Rattle.rsx_graph_state.specs.Hubs.{IsEmittedAt}
 use Rattle.rsx_graph_state.specs.declared.refusal.Refusal.TheVariants as unknown
 use Rattle.rsx_graph_state.specs.declared.step.Answer.TheVariants as did
 use Rattle.rsx_graph.specs.declared.step.Step.TheVariants as step
-use Rattle.rsx_session.proofs.Calls.{emit_refusal, hubs_count, let_go, made, none_emits, not_made, published_set}
+use Rattle.rsx_session.proofs.Calls.{hubs_count, let_go, made, none_emits, not_made, published_set}
 use Rattle.rsx_session.proofs.session.Session.emit.Goals as goal
 
 pub returns-then-at-len-clause-leads : goal.returns-then-at-len-clause-leads
@@ -38,4 +38,4 @@ returns-in-Err-clause-leads c =
     let number = to_z-of_z w64 c.args.number c.ranges.number in
     let C : ℤ → Type 0 = λ z. c.keep_item.new.self ≡ source_with (Next (Int z)) c.index_mut-source.result.now in
     let back = let_go s.published.items c.args.hub.0 c.index_mut-source.result.now c.keep_item.new.self c.index_mut-kept.result.now c.let_item_go.new.self (Int c.args.number) within (sym c.index_mut-source.ensures.value) (subst C number c.in_ok-keep_item.ensures.kept) c.index_mut-kept.ensures.value c.let_item_go.ensures in
-    not_made (step.Emit c.args.hub (Int c.args.number)) s _ c.in-Err.back.refusal (Err c.from-in-Err.result) (λ h o. refl) (λ h k. (emit_refusal s.graph.hubs.items s.graph.feeds.items c.args.hub.0 c.in-Err.back.refusal e.err, e.same)) e.same back refl refl refl (refl, c.from-in-Err.ensures)
+    not_made (step.Emit c.args.hub (Int c.args.number)) s _ c.in-Err.back.refusal (Err c.from-in-Err.result) (λ h o. refl) (λ h k. (e.err, e.same)) e.same back refl refl refl (refl, c.from-in-Err.ensures)
