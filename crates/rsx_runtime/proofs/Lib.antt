@@ -1,0 +1,3 @@
+pub mod Fits
+pub mod Gates
+pub mod Seats

@@ -1,0 +1,182 @@
+//! The regions with their gates, and how a thread works on one.
+
+ghost use Rattle.std.specs.Prelude.{◌≡◌, ◌<◌, [], IfErr, IfOk, Some, length, slice_get};
+ghost use Rattle.rsx_gate.specs.Machine.{founder};
+ghost use Rattle.rsx_gate.specs.Seats.{Holds, IsSeatOf, key_of};
+ghost use Rattle.rsx_region.specs.Pieces.{Each};
+ghost use Rattle.rsx_region.specs.Regions.{ArePiecesOf, RegionStands};
+ghost use Rattle.rsx_runtime.specs.Poking.{HasFitting, IsAmong, IsGateOf, Went};
+
+use crate::ROUNDS;
+use rsx_gate::{Gate, Seat};
+use rsx_link::Link;
+use rsx_pipe::Nodes;
+use rsx_region::{Answer, Opening, Region, Served};
+use rsx_types::Ops;
+use std::alloc::Global;
+use std::snapshot::Snapshot;
+
+/// The gate of a region.
+pub type RegionGate<N, T, O> = Gate<Region<N, T>, Opening<N, T, O>>;
+
+/// What a thread enters such a gate by.
+pub type RegionSeat<N, T, O> = Seat<Region<N, T>, Opening<N, T, O>>;
+
+/// What a poke came to.
+#[derive(Clone, Copy, Debug, PartialEq, Eq)]
+pub enum Poked {
+    /// Another seat had the region. A note is left for it, and it will look for work once more.
+    Noted,
+    /// All was done that there was to do, and no one poked the region since it was looked for.
+    Idle,
+    /// All was done that there was to do, and yet others poked the region again and again. Poke it again.
+    More,
+    /// The budget was used up. Poke it again.
+    Budget,
+    /// A growth was refused. What was done before stands.
+    NoMemory,
+}
+
+/// A graph whose regions are worked on by several threads. It is shared by reference.
+#[derive(Drop)]
+pub struct Live<N: Nodes<Item = T>, T: Drop, O: Ops<Item = T>> {
+    gates: Vec<RegionGate<N, T, O>>,
+    links: Vec<Link<T>>,
+    ops: O,
+    pub ghost opened: { Each (IsGateOf links.items ops) gates.items },
+}
+
+impl<N: Nodes<Item = T>, T: Drop, O: Ops<Item = T>> Live<N, T, O> {
+    /// A graph with these links, and no region yet.
+    pub fn new(alloc: Global, ops: O, links: Vec<Link<T>>) -> Live<N, T, O>
+        ensures { (result.gates.items ≡ []) × (result.links ≡ links) × (result.ops ≡ ops) }
+    {
+        Live {
+            gates: Vec::new(alloc),
+            links,
+            ops,
+        }
+    }
+
+    /// Adds a region, and answers the first seat of its gate. Its pieces are between the links of the graph, and `values` is how many
+    /// hubs and links there are, in all regions.
+    ///
+    /// # Errors
+    /// The region comes back as it was where there was no memory for its gate.
+    pub fn add(
+        &mut self,
+        alloc: Global,
+        values: u64,
+        region: Region<N, T>,
+    ) -> Result<RegionSeat<N, T, O>, Region<N, T>>
+        requires ends { ArePiecesOf self.old.links.items region.pieces.items }
+        requires stands { RegionStands N.Machine (O.meaning self.old.ops) values region.pieces.items region.pieces.items }
+        ensures ok { IfOk result (λ s. IsAmong self.new.gates.items (length self.old.gates.items) (λ g. IsSeatOf g s × (s.me.0 ≡ founder (key_of g)) × (key_of g).number ≡ region.number)) }
+        ensures err { IfErr result (λ r. (r ≡ region) × (self.new.gates.items ≡ self.old.gates.items)) }
+        ensures same { (self.new.links ≡ self.old.links) × (self.new.ops ≡ self.old.ops) }
+    {
+        if self.gates.reserve(1).is_err() {
+            return Err(region);
+        }
+        let opening = Opening {
+            number: region.number,
+            values,
+            ops: Snapshot::of(&self.ops),
+            pieces: Snapshot::of(&region.pieces),
+            links: Snapshot::of(&self.links),
+        };
+        let (gate, seat) = Gate::new(alloc, region, &opening)?;
+        self.gates.push_reserved(gate);
+        Ok(seat)
+    }
+
+    /// The gate of the region at this place.
+    pub fn gate(&self, region: u8) -> &RegionGate<N, T, O>
+        requires { region < length self.now.gates.items }
+        ensures { slice_get self.now.gates.items region ≡ Some result.now }
+    {
+        &self.gates[usize::from(region)]
+    }
+
+    /// Works on the region at this place, by a seat of its gate: where no other seat has the region, it is served by
+    /// [`Region::serve`] until nothing is left to do and no one poked it meanwhile, and at most [`ROUNDS`] times. The seat has no
+    /// pass before or after, and keeps its parts; it made just the steps that the answer tells of. No call waits.
+    pub fn poke(
+        &self,
+        alloc: Global,
+        region: u8,
+        seat: &mut RegionSeat<N, T, O>,
+        budget: u32,
+    ) -> Poked
+        requires { IsAmong self.now.gates.items region (λ g. IsSeatOf g seat.old) }
+        ensures seat { IsAmong self.now.gates.items region (λ g. IsSeatOf g seat.new) }
+        ensures parts { seat.new.me.0.parts ≡ seat.old.me.0.parts }
+        ensures steps { Went result seat.old.me.0.steps seat.new.me.0.steps }
+    {
+        visit(
+            alloc,
+            &self.ops,
+            self.gate(region),
+            &self.links,
+            seat,
+            budget,
+        )
+    }
+}
+
+/// The same of one gate.
+fn visit<N: Nodes<Item = T>, T: Drop, O: Ops<Item = T>>(
+    alloc: Global,
+    ops: &O,
+    gate: &RegionGate<N, T, O>,
+    links: &[Link<T>],
+    seat: &mut RegionSeat<N, T, O>,
+    budget: u32,
+) -> Poked
+    requires seat { IsSeatOf gate.now seat.old }
+    requires opened { IsGateOf links.now ops.now gate.now }
+    ensures seat { IsSeatOf gate.now seat.new }
+    ensures parts { seat.new.me.0.parts ≡ seat.old.me.0.parts }
+    ensures steps { Went result seat.old.me.0.steps seat.new.me.0.steps }
+{
+    if !gate.take(seat) {
+        return Poked::Noted;
+    }
+    for round in 0..ROUNDS {
+        gate.mark(seat);
+        match serve_held(alloc, ops, gate, links, seat, budget).answer {
+            Answer::Idle => {
+                if gate.try_leave(seat) {
+                    return Poked::Idle;
+                }
+            }
+            Answer::Budget => {
+                gate.release(seat);
+                return Poked::Budget;
+            }
+            Answer::NoMemory => {
+                gate.release(seat);
+                return Poked::NoMemory;
+            }
+        }
+    }
+    gate.release(seat);
+    Poked::More
+}
+
+/// Serves the region of a seat that has it. It fits before and after, and the seat makes no step.
+fn serve_held<N: Nodes<Item = T>, T: Drop, O: Ops<Item = T>>(
+    alloc: Global,
+    ops: &O,
+    gate: &RegionGate<N, T, O>,
+    links: &[Link<T>],
+    seat: &mut RegionSeat<N, T, O>,
+    budget: u32,
+) -> Served
+    requires opened { IsGateOf links.now ops.now gate.now }
+    requires holds { HasFitting N.Machine O.meaning gate.now (Holds gate.now seat.old) }
+    ensures holds { HasFitting N.Machine O.meaning gate.now (Holds gate.now seat.new) }
+    ensures same { seat.new.me.0 ≡ seat.old.me.0 }
+{
+    Gate::value_of(seat, gate).serve(alloc, ops, links, budget)
+}
