@@ -1,0 +1,2 @@
+-- Lemmas about feeds whose parts were cut.
+pub mod Names

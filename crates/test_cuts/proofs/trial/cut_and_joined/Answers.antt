@@ -1,0 +1,28 @@
+use Rattle.std.proofs.Common.{◌∙◌, ap, map, sym}
+use Rattle.std.proofs.lemmas.List.{with_items_is}
+use Rattle.test_cuts.proofs.Names.{as_many, names_kept}
+use Rattle.test_cuts.proofs.trial.cut_and_joined.Goals as goal
+
+pub invariant_of-pieces-clause-named : goal.invariant_of-pieces-clause-named
+invariant_of-pieces-clause-named c =
+    let old = c.take_apart-hubs.result in
+    let cut = c.in_ok-cut_feeds.ensures in
+    let is = with_items_is old.feeds c.cut_feeds.new.feeds (as_many _ _ cut ∙ c.deref_mut.ensures.len) in
+    let same = ap (map (λ f. f.hub)) is ∙ cut ∙ ap (map (λ f. f.hub)) c.deref_mut.ensures.value in
+    names_kept _ _ _ same old.named
+
+pub invariant_of-pieces-clause-beside : goal.invariant_of-pieces-clause-beside
+invariant_of-pieces-clause-beside c =
+    let old = c.take_apart-hubs.result in
+    let cut = c.in_ok-cut_feeds.ensures in
+    let is = with_items_is old.feeds c.cut_feeds.new.feeds (as_many _ _ cut ∙ c.deref_mut.ensures.len) in
+    let same = ap (map (λ f. f.hub)) is ∙ cut ∙ ap (map (λ f. f.hub)) c.deref_mut.ensures.value in
+    old.beside ∙ sym (as_many _ _ same)
+
+pub invariant_of-pieces-clause-sent : goal.invariant_of-pieces-clause-sent
+invariant_of-pieces-clause-sent c =
+    let old = c.take_apart-hubs.result in
+    let cut = c.in_ok-cut_feeds.ensures in
+    let is = with_items_is old.feeds c.cut_feeds.new.feeds (as_many _ _ cut ∙ c.deref_mut.ensures.len) in
+    let same = ap (map (λ f. f.hub)) is ∙ cut ∙ ap (map (λ f. f.hub)) c.deref_mut.ensures.value in
+    old.sent ∙ sym (as_many _ _ same)

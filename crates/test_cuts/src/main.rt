@@ -1,0 +1,52 @@
+#![tactic(auto)]
+//! Cuts the trees of a graph at edges that cross to another region, and joins them again.
+//!
+//! Of each expression two graphs are made, in which a hub is fed by it. The same is done to both, move by move. Before each move the
+//! second is taken apart, and the tree of each feed is cut at each edge where it can be cut, one after the other, and joined at once.
+//! Then the graph is put together again. After each move both have to be alike: what was delivered, what is still owed, and what was
+//! recorded.
+//!
+//! It writes a line for each expression, with what was done to it and whether the graphs were equal.
+
+mod cuts;
+mod trial;
+
+use crate::cuts::Tally;
+use crate::trial::compared;
+use anyhow::Result;
+
+/// The expressions. Of the hubs that they read the first is fed by another expression, and the second has an emitter.
+const EXPRESSIONS: [&'static str; 16] = [
+    "(publishOn 1 2 (range 1 6))",
+    "(publishOn 0 2 (publishOn 1 2 (range 1 6)))",
+    "(publishOn 1 2 (hub 0))",
+    "(publishOn 2 3 (map double (publishOn 1 2 (hub 1))))",
+    "(merge 2 (publishOn 1 2 (range 1 4)) (publishOn 2 2 (hub 1)) (hub 0))",
+    "(publishOn 3 4 (merge 2 (publishOn 1 2 (range 1 4)) (publishOn 3 2 (hub 0))))",
+    "(zip 2 (publishOn 1 2 (range 1 6)) (publishOn 2 1 (hub 1)))",
+    "(concat (publishOn 1 2 (items 7 8)) (publishOn 2 2 (hub 0)) (publishOn 1 1 (hub 1)))",
+    "(combineLatest 2 (publishOn 1 1 (hub 0)) (publishOn 2 2 (hub 1)))",
+    "(groupBy mod3 ((scan add 0)) (publishOn 1 2 (range 1 7)))",
+    "(publishOn 1 2 (groupBy mod3 ((map inc)) (publishOn 2 3 (hub 0))))",
+    "(flatMap upto 2 ((map double)) (publishOn 1 2 (range 1 3)))",
+    "(publishOn 1 3 (flatMap upto 1 () (publishOn 2 1 (hub 1))))",
+    "(window 2 ((scan add 0)) (publishOn 1 2 (hub 0)))",
+    "(publishOn 1 2 (take 3 (publishOn 2 2 (range 1 9))))",
+    "(publishOn 1 2 (map inc (publishOn 2 2 (items 1 9223372036854775807 3))))",
+];
+
+fn main(rt: HostRuntime) -> Result<()> {
+    for text in &EXPRESSIONS {
+        let Tally {
+            moves,
+            cuts,
+            items,
+            refusals,
+            joins,
+        } = compared(rt.alloc(), text)?;
+        println!(rt;
+            "{text}: {moves} moves, {cuts} cuts, {items} items in their queues, {refusals} joins refused, {joins} joins, equal"
+        )?;
+    }
+    Ok(())
+}
