@@ -78,6 +78,13 @@ impl<T: Drop> HubLeaf<T> {
         self.member.len()
     }
 
+    /// The ending of its hub, where it has taken that in; open as long as it hasn't.
+    pub fn ending(&self) -> Ending
+        ensures { result ≡ self.now.ending }
+    {
+        self.member.ending()
+    }
+
     /// Takes out the oldest of the items that it holds, if there is one. All else stays. It takes no memory.
     pub fn take(&mut self) -> Option<T>
         ensures some { IfSome result (λ x. self.old ≡ record self.new { queue = x ∷ self.new.queue }) }

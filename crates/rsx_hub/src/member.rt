@@ -233,6 +233,13 @@ impl<T: Drop> Member<T> {
         !self.gone
     }
 
+    /// The hub's ending, where that was taken in, whether it was given out or not; open as long as it wasn't.
+    pub fn ending(&self) -> Ending
+        ensures { result ≡ self.now.ending }
+    {
+        self.ending
+    }
+
     /// How far into the hub's value it got: how many of its items it took in or missed, counted from the hub's first.
     pub fn reached(&self) -> u64
         ensures reached { result ≡ self.now.reached }

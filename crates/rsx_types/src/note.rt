@@ -5,7 +5,7 @@ ghost use Rattle.std.specs.Prelude.{◌≡◌};
 use std::marker::Model;
 
 /// What one node recorded. The notes of a tree are a list, in pre-order of its nodes.
-#[derive(Drop)]
+#[derive(Debug, Drop)]
 pub enum Note {
     /// The node records nothing.
     Nothing,
@@ -16,7 +16,7 @@ pub enum Note {
 }
 
 /// The choices of one node, in their order. Contracts see a list of numbers.
-#[derive(Drop)]
+#[derive(Debug, Drop)]
 pub struct Choices {
     numbers: Vec<u64>,
 }
