@@ -18,8 +18,8 @@ use Rattle.rsx_graph_state.specs.declared.feed.Feed as feed
 use Rattle.rsx_graph_state.specs.declared.refusal.Refusal.{Refusal}
 use Rattle.rsx_graph_state.specs.declared.step.Pumped.{Pumped}
 use Rattle.rsx_graph_moves.specs.Pumped.{Made}
-use Rattle.rsx_explain.specs.Explained as Explained
-use Rattle.rsx_explain.specs.Pictures as Pictures
+use Rattle.rsx_graph_moves.specs.Explained as Explained
+use Rattle.rsx_graph_moves.specs.Pictures as Pictures
 use Rattle.rsx_waits.specs.declared.look.NodeLook.{NodeLook}
 use Rattle.rsx_waits.specs.declared.wait.Wait.{Wait}
 use Rattle.rsx_graph_calls.specs.Edits as CallsEdits

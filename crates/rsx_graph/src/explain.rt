@@ -1,7 +1,7 @@
 //! Why nothing comes, and what the nodes of a tree do.
 
 use crate::graph::Graph;
-use rsx_explain::{explain, picture};
+use rsx_graph_moves::{explain, picture};
 use rsx_graph_state::Refusal;
 use rsx_types::{Ops, SubId};
 use rsx_waits::{Picture, Wait};
@@ -11,7 +11,7 @@ impl<O: Ops> Graph<O> {
     ghost use Rattle.rsx_graph.specs.Kinds.{HasLooks, IsAllQuiet, IsWait, Subscription as SubscriptionOf};
     ghost use Rattle.std.specs.Prelude.{◌≡◌, ◌≤◌, Some, false, length, slice_get, IfOk, IfErr};
     ghost use Rattle.rsx_pipe.specs.Tree.{IsWithin};
-    ghost use Rattle.rsx_explain.specs.Explained.{is_for_pump};
+    ghost use Rattle.rsx_graph_moves.specs.Explained.{is_for_pump};
     ghost use Rattle.rsx_graph_state.specs.Answers.{IsLookRefusal};
     ghost use Rattle.rsx_graph.specs.InGraph.{IfStandsFor, state_of};
 

@@ -1,7 +1,14 @@
--- Lemmas about moves of rows with feeds.
+-- Lemmas about moves of rows with feeds, and about what a subscriber waits for.
 pub mod Driving
+pub mod Hubs
+pub mod Idle
 pub mod Keeping
+pub mod Lacking
+pub mod Leaves
 pub mod Named
+pub mod Opened
+pub mod Pictures
+pub mod Quiet
 pub mod Serving
 pub mod Times
 pub mod Turns

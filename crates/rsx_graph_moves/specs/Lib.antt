@@ -1,6 +1,11 @@
 -- Definitions that contracts cite.
+pub mod Explained
+pub mod Hubs
+pub mod Idle
 pub mod Many
 pub mod Moves
+pub mod Pictures
 pub mod Pumped
 pub mod Rows
 pub mod Served
+pub mod Waiting

@@ -1,8 +1,0 @@
--- Lemmas.
-pub mod Hubs
-pub mod Idle
-pub mod Lacking
-pub mod Leaves
-pub mod Opened
-pub mod Pictures
-pub mod Quiet

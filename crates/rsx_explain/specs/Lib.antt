@@ -1,6 +1,0 @@
--- Definitions that contracts cite.
-pub mod Explained
-pub mod Hubs
-pub mod Idle
-pub mod Pictures
-pub mod Waiting

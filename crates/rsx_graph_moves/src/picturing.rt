@@ -1,0 +1,108 @@
+//! What the nodes of a subscriber's tree do now.
+
+ghost use Rattle.std.specs.Prelude.{◌≡◌, ◌++◌, OnOk, IfOk, IfErr, Some, length};
+ghost use Rattle.rsx_graph_state.specs.Answers.{IsLookRefusal};
+ghost use Rattle.rsx_graph_moves.specs.Pictures.{HasLooks, edge_look, look, offer_of, row_looks, tree_looks};
+
+use rsx_graph_state::Refusal;
+use rsx_pipe::Nodes;
+use rsx_sources::{Front, Machine};
+use rsx_subscriber::Subscription;
+use rsx_tree::{Edge, EdgeState, Inputs, Node};
+use rsx_types::{NoMemory, SubId};
+use rsx_waits::{EdgeLook, NodeLook, Offer, Picture};
+use std::alloc::Global;
+
+/// What the nodes of the tree of the subscription with this number do now, in pre-order.
+///
+/// # Errors
+/// G2 exactly where there is no such subscription, and G8 where a growth was refused.
+pub fn picture<N: Nodes<Item = T>, T: Drop>(
+    alloc: Global,
+    subscriptions: &[Subscription<N, T>],
+    sub: SubId,
+) -> Result<Picture, Refusal>
+    ensures looks { IfOk result (λ picture. HasLooks N.Machine subscriptions.now sub picture.nodes.items) }
+    ensures err { IfErr result (λ r. IsLookRefusal (length subscriptions.now) sub r) }
+{
+    let at = sub.0 as usize;
+    if at >= subscriptions.len() {
+        return Err(Refusal::UnknownSub);
+    }
+    let rooted = subscriptions[at].part().rooted();
+    match looks_of(alloc, &rooted.root, &rooted.tree) {
+        Ok(nodes) => Ok(Picture { nodes }),
+        Err(NoMemory) => Err(Refusal::NoMemory),
+    }
+}
+
+/// What the nodes of a tree do, where this is its own edge.
+fn looks_of<M: Machine>(
+    alloc: Global,
+    root: &Edge,
+    tree: &Node<M>,
+) -> Result<Vec<NodeLook>, NoMemory>
+    ensures { IfOk result (λ looks. looks.items ≡ tree_looks M.Machine root.now tree.now) }
+{
+    let mut looks = Vec::new(alloc);
+    looks.push(look_at(None, root, &tree.machine))?;
+    add_row(&tree.inputs, 0, &mut looks)?;
+    Ok(looks)
+}
+
+/// Puts what the nodes of a row do, and those below them, behind `looks`, in pre-order. The row's receiver has this number.
+fn add_row<M: Machine>(
+    row: &Inputs<M>,
+    receiver: u64,
+    looks: &mut Vec<NodeLook>,
+) -> Result<(), NoMemory>
+    ensures { OnOk result (looks.new.items ≡ looks.old.items ++ row_looks M.Machine receiver (length looks.old.items) row.now) }
+{
+    match row {
+        Inputs::End => Ok(()),
+        Inputs::More(edge, machine, below, beside) => {
+            let node = looks.len() as u64;
+            looks.push(look_at(Some(receiver), edge, machine))?;
+            match add_row(below, node, looks) {
+                Ok(()) => add_row(beside, receiver, looks),
+                Err(NoMemory) => Err(NoMemory),
+            }
+        }
+    }
+}
+
+/// What one node does over its edge to this receiver.
+fn look_at<M: Machine>(receiver: Option<u64>, edge: &Edge, machine: &M) -> NodeLook
+    ensures { result ≡ look M.Machine receiver edge.now machine.now }
+{
+    NodeLook {
+        receiver,
+        asked: edge.demand.asked,
+        sent: edge.demand.sent,
+        edge: look_of_edge(edge.state),
+        offer: offered(machine.front()),
+    }
+}
+
+/// Whether signals still go over an edge.
+fn look_of_edge(state: EdgeState) -> EdgeLook
+    ensures { result ≡ edge_look state }
+{
+    match state {
+        EdgeState::Live => EdgeLook::Live,
+        EdgeState::Ended => EdgeLook::Ended,
+        EdgeState::Closed => EdgeLook::Closed,
+    }
+}
+
+/// What a node offers.
+fn offered(front: Option<Front>) -> Offer
+    ensures { result ≡ offer_of front }
+{
+    match front {
+        None => Offer::Nothing,
+        Some(Front::Item) => Offer::Item,
+        Some(Front::Completion) => Offer::Completion,
+        Some(Front::Failure(_)) => Offer::Failure,
+    }
+}
