@@ -1,11 +1,12 @@
 #![tactic(auto)]
-//! The program `rsx`: runs a script of commands over a graph of reactive streams, or judges expressions and traces.
+//! The program `rsx`: runs a script of commands over a graph of reactive streams, draws expressions, or judges expressions and
+//! traces.
 //!
 //! `rsx run` reads standard input, one command a line, and writes one answer for each to standard output. `rsx scratch`
-//! does the same, but shows a subscription by the value of its expression, evaluated from scratch. `rsx tck` reads
-//! expressions and traces, one after the other, and writes what each says of the rules, a line for each of the 43. With
-//! `--explain` it writes how many are held and broken, and explains those that are broken; each of the three then says what was
-//! expected in a line that can't be read. `rsx run --trace FILE` writes what happened to the subscriptions to a file. Exit status
+//! does the same, but shows a subscription by the value of its expression, evaluated from scratch. `rsx draw` reads
+//! expressions, one a line, and writes a line for each of their nodes. `rsx tck` reads expressions and traces, one after the
+//! other, and writes what each says of the rules, a line for each of the 43. With `--explain` it writes how many are held and
+//! broken, and explains those that are broken; each of the four then says what was expected in a line that can't be read. `rsx run --trace FILE` writes what happened to the subscriptions to a file. Exit status
 //! 0 where the input ended; 1 after a line that can't be read; 2 after a command line that is wrong or that asked for help; 3
 //! after a read or a write that failed; 4 where memory was wanted.
 
@@ -128,6 +129,7 @@ fn explain<R>(
     };
     let reads = match mode {
         Mode::Run | Mode::Scratch => Reads::Command,
+        Mode::Draw => Reads::Expression,
         Mode::Tck => Reads::Judged,
     };
     if let Ok(text) = hint(rt.alloc(), reads, bytes, column) {

@@ -1,5 +1,6 @@
 -- Definitions that contracts cite.
 pub mod Answered
+pub mod Drawings
 pub mod JudgeLaws
 pub mod Judged
 pub mod Laws

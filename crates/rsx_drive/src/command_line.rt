@@ -20,7 +20,7 @@ const TRACE: &str = "trace";
 const TRACED: &str =
     "Writes what happened to the subscriptions to FILE, as a trace that tck judges";
 
-/// What the help of a mode that answers scripts says of the option `--explain`.
+/// What the help of a mode that reads lines says of the option `--explain`.
 const EXPECTED: &str =
     "Says on standard error what was expected in a line that can't be read, as is done at a terminal";
 
@@ -31,6 +31,10 @@ const EXPLAINED: &str =
 /// What the help of a mode that answers scripts says of the input.
 const SCRIPT: &str =
     "Commands are read from standard input, one a line, and each is answered by one line on standard output. docs/SCRIPT.md describes them.";
+
+/// What the help of the mode that draws expressions says of the input.
+const DRAWN: &str =
+    "Expressions are read from standard input, one a line, and each is answered by a line for each of its nodes on standard output. docs/SCRIPT.md describes them.";
 
 /// What the help of the mode that judges expressions and traces says of the input.
 const JUDGED: &str =
@@ -72,7 +76,7 @@ pub fn command_line_of<'a>(alloc: Global, words: &'a [String]) -> Result<Command
         Some((_, options)) => (options.get_flag(EXPLAIN), options.get_str(TRACE)),
         None => (false, None),
     };
-    // `clap` lets no other word stand there than the names of the three subcommands.
+    // `clap` lets no other word stand there than the names of the four subcommands.
     match mode_in(words) {
         Some(mode) => Ok(CommandLine {
             mode,
@@ -107,6 +111,10 @@ fn program_of<'a>(alloc: Global) -> Result<Command<'a>, Error> {
         .about("The same, but shows values evaluated from scratch")
         .after_help(SCRIPT)
         .arg(explain(alloc, EXPECTED))?;
+    let draw = Command::new(alloc, "draw")
+        .about("Draws expressions")
+        .after_help(DRAWN)
+        .arg(explain(alloc, EXPECTED))?;
     let tck = Command::new(alloc, "tck")
         .about("Judges expressions and traces by the rules of Reactive Streams")
         .after_help(JUDGED)
@@ -114,13 +122,14 @@ fn program_of<'a>(alloc: Global) -> Result<Command<'a>, Error> {
     let program = Command::new(alloc, "rsx")
         .bin_name("rsx")?
         .about(
-            "Runs scripts over graphs of reactive streams, and judges expressions, and traces of publishers and subscribers",
+            "Runs scripts over graphs of reactive streams, draws expressions, and judges expressions, and traces of publishers and subscribers",
         )
         .after_help(STATUS)
         .disable_help_subcommand(true)
         .subcommand_required(true)
         .subcommand(run)?
         .subcommand(scratch)?
+        .subcommand(draw)?
         .subcommand(tck)?;
     Ok(program)
 }

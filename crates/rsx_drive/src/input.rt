@@ -65,7 +65,7 @@ pub fn judge_input<R: Read, W: Write>(
 }
 
 /// The place of the first byte that isn't the space.
-fn written_place(line: &[u8]) -> Option<usize>
+pub(crate) fn written_place(line: &[u8]) -> Option<usize>
     ensures { result ≡ position is_written line.now }
 {
     line.iter().position(|b| *b != b' ')

@@ -6,6 +6,7 @@ ghost use Rattle.rsx_trace.specs.Texts.{lines};
 ghost use Rattle.rsx_drive.specs.Answered.{IsStopped, Writes};
 ghost use Rattle.rsx_drive.specs.Modes.{IsAnsweredIn, IsStoppedIn};
 
+use crate::draw::draw_expressions;
 use crate::script::answer_script;
 use crate::{Style, judge_input};
 use rsx_script::{AppFault, Mode};
@@ -16,9 +17,9 @@ use std::io::{Read, Write};
 /// Does what the mode says with all that the reader gives, and writes the answers, until the input ends.
 ///
 /// In the modes `Run` and `Scratch` each line is answered by one: what the command that it asks for answers, where the lines
-/// before it left the graph; a line that is empty or spaces alone has no answer. In the mode `Tck` each expression and each
-/// trace is answered by 43 lines, one for each rule, and an expression that can't be run by the one line `refused M1`. A last
-/// line needs no newline.
+/// before it left the graph; a line that is empty or spaces alone has no answer. In the mode `Draw` each expression is answered by
+/// its drawing, a line for each node. In the mode `Tck` each expression and each trace is answered by 43 lines, one for each rule,
+/// and an expression that can't be run by the one line `refused M1`. A last line needs no newline.
 ///
 /// The answers so far are written as soon as they have 65,536 bytes, before each read, and at the end, also before an
 /// error of `Line` or `Memory`. So at most that many bytes and one answer wait to be written.
@@ -47,6 +48,7 @@ pub fn drive<R: Read, W: Write>(
     match mode {
         Mode::Run => answer_script(alloc, View::Received, reader, writer),
         Mode::Scratch => answer_script(alloc, View::FromScratch, reader, writer),
+        Mode::Draw => draw_expressions(alloc, reader, writer),
         Mode::Tck => match judge_input(alloc, Style::Plain, reader, writer) {
             Ok(()) => Ok(()),
             Err(fault) => Err(fault),

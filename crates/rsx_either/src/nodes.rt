@@ -3,6 +3,7 @@
 use crate::EitherNode;
 use rsx_rooted::{Nodes, Route};
 use rsx_tree::Edge;
+use rsx_waits::Operator;
 
 impl<A: Nodes, B: Nodes<Item = A::Item>> Nodes for EitherNode<A, B> {
     ghost use Rattle.rsx_either.specs.Either.{by_kind};
@@ -12,10 +13,19 @@ impl<A: Nodes, B: Nodes<Item = A::Item>> Nodes for EitherNode<A, B> {
 
     ghost crosses = { by_kind A.crosses B.crosses };
 
+    ghost operator_of = { by_kind A.operator_of B.operator_of };
+
     fn route(&self, edge: &Edge) -> Route {
         match self {
             EitherNode::Left(node) => node.route(edge),
             EitherNode::Right(node) => node.route(edge),
+        }
+    }
+
+    fn operator(&self) -> Operator {
+        match self {
+            EitherNode::Left(node) => node.operator(),
+            EitherNode::Right(node) => node.operator(),
         }
     }
 

@@ -1,7 +1,6 @@
 //! Expressions as lines.
 
 ghost use Rattle.std.specs.Fmt.{WritesOnOk};
-ghost use Rattle.rsx_script.specs.Answers.{items_text};
 ghost use Rattle.rsx_script.specs.Orders.{tree_of, trees_of};
 ghost use Rattle.rsx_expression_text.specs.Text.{stage_text, stages_text, tree_text, trees_text};
 ghost use Rattle.std.specs.Prelude.{map};
@@ -38,11 +37,7 @@ fn write_tree<W: fmt::Write>(f: &mut fmt::Formatter<W>, expr: &Expr<Val>) -> fmt
     ensures { WritesOnOk W.write_str_gives f.old result (tree_text (tree_of expr.now)) f.new }
 {
     match expr {
-        Expr::Items(items) => {
-            f.write_str("(items")?;
-            write_items(f, items)?;
-            f.write_str(")")
-        }
+        Expr::Items(items) => write!(f, "(items{})", Items(items)),
         Expr::Range(first, count) => write!(f, "(range {first} {count})"),
         Expr::Hub(hub) => write!(f, "(hub {})", hub.0),
         Expr::Plain(stage, below) => {
@@ -107,19 +102,28 @@ fn write_trees<W: fmt::Write>(f: &mut fmt::Formatter<W>, exprs: &[Expr<Val>]) ->
     Ok(())
 }
 
+/// The items of a list.
+#[derive(Clone, Copy)]
+pub(crate) struct Items<'e>(pub(crate) &'e [Val]);
+
 /// Each item behind a space.
-fn write_items<W: fmt::Write>(f: &mut fmt::Formatter<W>, items: &[Val]) -> fmt::Result
-    ensures { WritesOnOk W.write_str_gives f.old result (items_text items.now) f.new }
-{
-    for item in items {
-        write!(f, " {item}")?;
+impl fmt::Display for Items<'_> {
+    ghost use Rattle.std.specs.Prelude.{Some};
+    ghost use Rattle.rsx_script.specs.Answers.{items_text};
+
+    ghost output = { λ items. Some (items_text items.0.now) };
+
+    fn fmt<W: fmt::Write>(&self, f: &mut fmt::Formatter<W>) -> fmt::Result {
+        for item in self.0 {
+            write!(f, " {item}")?;
+        }
+        Ok(())
     }
-    Ok(())
 }
 
 /// A plain operator with its functions and numbers.
 #[derive(Clone, Copy)]
-struct OneStage<'e>(&'e Stage<Val>);
+pub(crate) struct OneStage<'e>(pub(crate) &'e Stage<Val>);
 
 impl fmt::Display for OneStage<'_> {
     ghost use Rattle.std.specs.Prelude.{Some};
@@ -141,7 +145,7 @@ impl fmt::Display for OneStage<'_> {
 
 /// The operators of a chain.
 #[derive(Clone, Copy)]
-struct Chain<'e>(&'e [Stage<Val>]);
+pub(crate) struct Chain<'e>(pub(crate) &'e [Stage<Val>]);
 
 /// Each operator in parentheses, with a space between them.
 impl fmt::Display for Chain<'_> {

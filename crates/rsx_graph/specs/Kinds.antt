@@ -295,4 +295,4 @@ abbrev pub IsWait : {T : Type 0} → Meaning T → Rows T → SubId → Wait →
 IsWait m g i wait = Explained.IsWait any_machine tree_nodes m g i wait
 
 abbrev pub HasLooks : {T : Type 0} → List (Subscription T) → SubId → List NodeLook → Type 0
-HasLooks subs i looks = Pictures.HasLooks any_machine subs i looks
+HasLooks subs i looks = Pictures.HasLooks any_machine tree_nodes subs i looks

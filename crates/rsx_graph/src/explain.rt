@@ -36,8 +36,8 @@ impl<O: Ops> Graph<O> {
         explain(&self.hubs, &self.feeds, &self.subscriptions, sub)
     }
 
-    /// What the nodes of a subscription's tree do now, in pre-order: what was asked of each and what it sent, whether signals still go
-    /// over its edge, and what it offers.
+    /// What the nodes of a subscription's tree do now, in pre-order: which operator each is, what was asked of it and what it sent,
+    /// whether signals still go over its edge, what it offers, and what it recorded last.
     ///
     /// # Errors
     /// G2 exactly where there is no such subscription, and G8 where a growth was refused.

@@ -1,6 +1,9 @@
 -- What the nodes of a tree do.
-use Rattle.std.specs.Prelude.{◌≡◌, ℕ, ◌+◌, List, [], ◌∷◌, ◌++◌, Option, Some, None, slice_get}
+use Rattle.std.specs.Prelude.{◌≡◌, ℕ, ◌+◌, ◌-◌, List, [], ◌∷◌, ◌++◌, length, Option, Some, None, slice_get}
 use Rattle.rsx_types.specs.declared.names.SubId.{SubId}
+use Rattle.rsx_types.specs.declared.note.Note.{Note}
+use Rattle.rsx_types.specs.declared.note.Note.TheVariants as note
+use Rattle.rsx_rooted.specs.declared.nodes.Nodes.{Ghosts as Nodes}
 use Rattle.rsx_sources.specs.declared.machine.Front.{Front}
 use Rattle.rsx_sources.specs.declared.machine.Front.TheVariants as front
 use Rattle.rsx_sources.specs.declared.machine.Machine.{Ghosts as Machine}
@@ -30,20 +33,26 @@ offer_of (Some front.Item) = offer.Item
 offer_of (Some front.Completion) = offer.Completion
 offer_of (Some (front.Failure c)) = offer.Failure
 
+-- what stands last in a record: a choice, or the input whose ending a zip took
+abbrev pub last_of : Note → Option ℕ
+last_of note.Nothing = None
+last_of (note.Picks choices) = slice_get choices (length choices - 1)
+last_of (note.Ended input) = input
+
 -- a node over its edge to this receiver
-abbrev pub look : {M T : Type 0} → Machine M T → Option ℕ → Edge → M → NodeLook
-look b receiver e n = record { receiver = receiver; asked = e.demand.asked; sent = e.demand.sent; edge = edge_look e.state; offer = offer_of (b.shown n) }
+abbrev pub look : {M T : Type 0} → Machine M T → Nodes M T → Option ℕ → Edge → M → NodeLook
+look b d receiver e n = record { operator = d.operator_of n; receiver = receiver; asked = e.demand.asked; sent = e.demand.sent; edge = edge_look e.state; offer = offer_of (b.shown n); last = last_of (b.recorded n) }
 
 -- the nodes of a row and those below them, in pre-order, where the first has the number `first`
-abbrev pub row_looks : {M T : Type 0} → Machine M T → ℕ → ℕ → Inputs M → List NodeLook
-row_looks b receiver first End = []
-row_looks b receiver first (More' e n p below q beside) =
-    look b (Some receiver) e n ∷ (row_looks b first (first + 1) below ++ row_looks b receiver (first + 1 + size below) beside)
+abbrev pub row_looks : {M T : Type 0} → Machine M T → Nodes M T → ℕ → ℕ → Inputs M → List NodeLook
+row_looks b d receiver first End = []
+row_looks b d receiver first (More' e n p below q beside) =
+    look b d (Some receiver) e n ∷ (row_looks b d first (first + 1) below ++ row_looks b d receiver (first + 1 + size below) beside)
 
 -- the nodes of a tree, whose root has the number 0 and this edge
-abbrev pub tree_looks : {M T : Type 0} → Machine M T → Edge → Node M → List NodeLook
-tree_looks b root t = look b None root t.machine ∷ row_looks b 0 1 t.inputs
+abbrev pub tree_looks : {M T : Type 0} → Machine M T → Nodes M T → Edge → Node M → List NodeLook
+tree_looks b d root t = look b d None root t.machine ∷ row_looks b d 0 1 t.inputs
 
 -- the subscription with this number is there, and its nodes do this
-abbrev pub HasLooks : {M T : Type 0} → Machine M T → List (Subscription M T) → SubId → List NodeLook → Type 0
-HasLooks {M} {T} b subs i looks = (s : Subscription M T) × (slice_get subs i.0 ≡ Some s) × (looks ≡ tree_looks b s.part.root s.part.tree)
+abbrev pub HasLooks : {M T : Type 0} → Machine M T → Nodes M T → List (Subscription M T) → SubId → List NodeLook → Type 0
+HasLooks {M} {T} b d subs i looks = (s : Subscription M T) × (slice_get subs i.0 ≡ Some s) × (looks ≡ tree_looks b d s.part.root s.part.tree)

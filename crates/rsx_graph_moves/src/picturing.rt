@@ -1,15 +1,15 @@
 //! What the nodes of a subscriber's tree do now.
 
-ghost use Rattle.std.specs.Prelude.{◌≡◌, ◌++◌, OnOk, IfOk, IfErr, Some, length};
+ghost use Rattle.std.specs.Prelude.{◌≡◌, ◌++◌, OnOk, IfOk, IfErr, Some, length, slice_get};
 ghost use Rattle.rsx_graph_state.specs.Answers.{IsLookRefusal};
-ghost use Rattle.rsx_graph_moves.specs.Pictures.{HasLooks, edge_look, look, offer_of, row_looks, tree_looks};
+ghost use Rattle.rsx_graph_moves.specs.Pictures.{HasLooks, edge_look, last_of, look, offer_of, row_looks, tree_looks};
 
 use rsx_graph_state::Refusal;
 use rsx_pipe::Nodes;
-use rsx_sources::{Front, Machine};
+use rsx_sources::Front;
 use rsx_subscriber::Subscription;
 use rsx_tree::{Edge, EdgeState, Inputs, Node};
-use rsx_types::{NoMemory, SubId};
+use rsx_types::{NoMemory, Note, SubId};
 use rsx_waits::{EdgeLook, NodeLook, Offer, Picture};
 use std::alloc::Global;
 
@@ -22,7 +22,7 @@ pub fn picture<N: Nodes<Item = T>, T: Drop>(
     subscriptions: &[Subscription<N, T>],
     sub: SubId,
 ) -> Result<Picture, Refusal>
-    ensures looks { IfOk result (λ picture. HasLooks N.Machine subscriptions.now sub picture.nodes.items) }
+    ensures looks { IfOk result (λ picture. HasLooks N.Machine N.Nodes subscriptions.now sub picture.nodes.items) }
     ensures err { IfErr result (λ r. IsLookRefusal (length subscriptions.now) sub r) }
 {
     let at = sub.0 as usize;
@@ -37,34 +37,37 @@ pub fn picture<N: Nodes<Item = T>, T: Drop>(
 }
 
 /// What the nodes of a tree do, where this is its own edge.
-fn looks_of<M: Machine>(
+fn looks_of<N: Nodes>(
     alloc: Global,
     root: &Edge,
-    tree: &Node<M>,
+    tree: &Node<N>,
 ) -> Result<Vec<NodeLook>, NoMemory>
-    ensures { IfOk result (λ looks. looks.items ≡ tree_looks M.Machine root.now tree.now) }
+    ensures { IfOk result (λ looks. looks.items ≡ tree_looks N.Machine N.Nodes root.now tree.now) }
 {
     let mut looks = Vec::new(alloc);
-    looks.push(look_at(None, root, &tree.machine))?;
-    add_row(&tree.inputs, 0, &mut looks)?;
+    let look = look_at(alloc, None, root, &tree.machine)?;
+    looks.push(look)?;
+    add_row(alloc, &tree.inputs, 0, &mut looks)?;
     Ok(looks)
 }
 
 /// Puts what the nodes of a row do, and those below them, behind `looks`, in pre-order. The row's receiver has this number.
-fn add_row<M: Machine>(
-    row: &Inputs<M>,
+fn add_row<N: Nodes>(
+    alloc: Global,
+    row: &Inputs<N>,
     receiver: u64,
     looks: &mut Vec<NodeLook>,
 ) -> Result<(), NoMemory>
-    ensures { OnOk result (looks.new.items ≡ looks.old.items ++ row_looks M.Machine receiver (length looks.old.items) row.now) }
+    ensures { OnOk result (looks.new.items ≡ looks.old.items ++ row_looks N.Machine N.Nodes receiver (length looks.old.items) row.now) }
 {
     match row {
         Inputs::End => Ok(()),
         Inputs::More(edge, machine, below, beside) => {
             let node = looks.len() as u64;
-            looks.push(look_at(Some(receiver), edge, machine))?;
-            match add_row(below, node, looks) {
-                Ok(()) => add_row(beside, receiver, looks),
+            let look = look_at(alloc, Some(receiver), edge, machine)?;
+            looks.push(look)?;
+            match add_row(alloc, below, node, looks) {
+                Ok(()) => add_row(alloc, beside, receiver, looks),
                 Err(NoMemory) => Err(NoMemory),
             }
         }
@@ -72,15 +75,35 @@ fn add_row<M: Machine>(
 }
 
 /// What one node does over its edge to this receiver.
-fn look_at<M: Machine>(receiver: Option<u64>, edge: &Edge, machine: &M) -> NodeLook
-    ensures { result ≡ look M.Machine receiver edge.now machine.now }
+fn look_at<N: Nodes>(
+    alloc: Global,
+    receiver: Option<u64>,
+    edge: &Edge,
+    machine: &N,
+) -> Result<NodeLook, NoMemory>
+    ensures { IfOk result (λ l. l ≡ look N.Machine N.Nodes receiver edge.now machine.now) }
 {
-    NodeLook {
+    let note = machine.note(alloc)?;
+    Ok(NodeLook {
+        operator: machine.operator(),
         receiver,
         asked: edge.demand.asked,
         sent: edge.demand.sent,
         edge: look_of_edge(edge.state),
         offer: offered(machine.front()),
+        last: last_of(&note),
+    })
+}
+
+/// What stands last in a record: a choice, or the input whose ending a `zip` took.
+fn last_of(note: &Note) -> Option<u64>
+    ensures { result ≡ last_of note.now }
+{
+    match note {
+        Note::Nothing => None,
+        Note::Picks(choices) => choices.as_slice().last().copied(),
+        Note::Ended(None) => None,
+        Note::Ended(Some(input)) => Some(*input as u64),
     }
 }
 

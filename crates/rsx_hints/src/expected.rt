@@ -12,6 +12,8 @@ use std::alloc::{AllocError, Global};
 pub enum Reads {
     /// A command of a script.
     Command,
+    /// An expression that stands alone.
+    Expression,
     /// An expression that stands alone, or a line of a trace. Of that only the first column is known.
     Judged,
 }
@@ -115,7 +117,7 @@ fn with_word(alloc: Global, begun: &[u8], word: &str) -> Result<Vec<u8>, AllocEr
 fn refusal_of(alloc: Global, reads: Reads, line: &[u8]) -> Option<LineRefusal> {
     match reads {
         Reads::Command => parse_line(alloc, line).err(),
-        Reads::Judged => parse_expression(alloc, line).err(),
+        Reads::Expression | Reads::Judged => parse_expression(alloc, line).err(),
     }
 }
 

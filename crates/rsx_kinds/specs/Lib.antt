@@ -11,6 +11,7 @@ pub mod Local
 pub mod Made
 pub mod MergeRests
 pub mod OneInputRests
+pub mod Operators
 pub mod Prelude
 pub mod QueuesRests
 pub mod Rests

@@ -6,6 +6,7 @@ use Rattle.rsx_kinds.specs.Any.{TreeNode, kind_machine}
 use Rattle.rsx_tree.specs.Prelude.{is_live}
 use Rattle.rsx_tree.specs.declared.edge.EdgeState.{EdgeState}
 use Rattle.rsx_kinds.specs.Crossings.{is_crossing}
+use Rattle.rsx_kinds.specs.Operators.{operator_of}
 use Rattle.rsx_rooted.specs.declared.nodes.Nodes.{Ghosts as Nodes}
 use Rattle.rsx_rooted.specs.declared.nodes.Route.{Route}
 use Rattle.rsx_rooted.specs.declared.nodes.Route.TheVariants.{Straight, Queued}
@@ -15,6 +16,6 @@ abbrev pub route_by : {T : Type 0} → TreeNode T → EdgeState → ℕ → ℕ 
 route_by (Direct n) state asked sent = Straight
 route_by (Crossing q) state asked sent = Queued (is_live state && can_transfer kind_machine q asked sent)
 
--- how the nodes of a tree join, and which of their edges cross
+-- how the nodes of a tree join, which of their edges cross, and which operators they are
 abbrev pub tree_nodes : {T : Type 0} → Nodes (TreeNode T) T
-tree_nodes = record { route_by = route_by; crosses = is_crossing }
+tree_nodes = record { route_by = route_by; crosses = is_crossing; operator_of = operator_of }

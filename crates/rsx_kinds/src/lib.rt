@@ -33,14 +33,16 @@
 //! The tree of an expression.
 //!
 //! [`build`] makes the nodes of an expression, each over those of its inputs. The definitions stand in `specs/`: `Built` has
-//! what a tree is that has just begun, `Crossings` which of its edges have a queue, and `Routes` how an edge joins its two ends.
-//! The nodes of a tree are a graph's [`Nodes`](rsx_rooted::Nodes); `Rests` and `Room` have the laws that this asks for.
+//! what a tree is that has just begun, `Crossings` which of its edges have a queue, `Operators` which operator a node is, and
+//! `Routes` how an edge joins its two ends. The nodes of a tree are a graph's [`Nodes`](rsx_rooted::Nodes); `Rests` and `Room`
+//! have the laws that this asks for.
 
 pub mod any_node;
 mod boxed;
 mod crossing_nodes;
 pub mod kind;
 mod nodes;
+mod operators;
 pub mod several_node;
 pub mod source_node;
 mod trees;

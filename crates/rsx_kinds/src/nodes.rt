@@ -1,13 +1,16 @@
 //! The nodes that there are, as those of a graph.
 
 use crate::TreeNode;
+use crate::operators::operator_of_any;
 use rsx_queued::Sender;
 use rsx_rooted::{Nodes, Route};
 use rsx_tree::Edge;
+use rsx_waits::Operator;
 
 impl<T: Drop> Nodes for TreeNode<T> {
     ghost use Rattle.rsx_kinds.specs.Crossings.{is_crossing};
     ghost use Rattle.rsx_kinds.specs.Local.{any_local};
+    ghost use Rattle.rsx_kinds.specs.Operators.{operator_of};
     ghost use Rattle.rsx_kinds.specs.Rests.{any_rests};
     ghost use Rattle.rsx_kinds.specs.Room.{any_full};
     ghost use Rattle.rsx_kinds.specs.Routes.{route_by};
@@ -16,6 +19,8 @@ impl<T: Drop> Nodes for TreeNode<T> {
 
     ghost crosses = { is_crossing };
 
+    ghost operator_of = { operator_of };
+
     fn route(&self, edge: &Edge) -> Route {
         match self.node() {
             Sender::Direct(_) => Route::Straight,
@@ -23,6 +28,13 @@ impl<T: Drop> Nodes for TreeNode<T> {
                 let can_send = queued.can_transfer(edge.demand.asked, edge.demand.sent);
                 Route::Queued(edge.is_live() && can_send)
             }
+        }
+    }
+
+    fn operator(&self) -> Operator {
+        match self.node() {
+            Sender::Direct(node) => operator_of_any(node),
+            Sender::Crossing(queued) => operator_of_any(&queued.node),
         }
     }
 

@@ -3,18 +3,26 @@
 use crate::{Processor, ProcessorNode};
 use rsx_rooted::{Nodes, Route};
 use rsx_tree::Edge;
+use rsx_waits::Operator;
 
 impl<P: Processor<Item = T>, T: Drop> Nodes for ProcessorNode<P, T> {
     ghost use Rattle.std.specs.Prelude.{false};
     ghost use Rattle.rsx_rooted.specs.declared.nodes.Route.TheVariants.{Straight};
     ghost use Rattle.rsx_processor.specs.Laws.{node_local, node_rests, reads_nothing};
+    ghost use Rattle.rsx_waits.specs.declared.operator.Operator.TheVariants.{Own};
 
     ghost route_by = { λ n state asked sent. Straight };
 
     ghost crosses = { λ n. false };
 
+    ghost operator_of = { λ n. Own };
+
     fn route(&self, edge: &Edge) -> Route {
         Route::Straight
+    }
+
+    fn operator(&self) -> Operator {
+        Operator::Own
     }
 
     ghost rests = { λ m n taken asked sent inc still counted none more within stuck comes behind. node_rests P.Processor.own m (P.nothing m) P.wants_more n taken asked sent inc counted none more within comes };

@@ -4,12 +4,14 @@ ghost use Rattle.std.specs.Prelude.{◌≡◌, ℕ, Bool, List, Option};
 ghost use Rattle.rsx_tree.specs.declared.edge.EdgeState.{EdgeState as EdgeStateSpec};
 ghost use Rattle.rsx_rooted.specs.declared.nodes.Route.{Route as RouteSpec};
 ghost use Rattle.rsx_types.specs.declared.signal.Ending.{Ending as EndingSpec};
+ghost use Rattle.rsx_waits.specs.declared.operator.Operator.{Operator as OperatorSpec};
 
 use rsx_hub::Member;
 use rsx_queued::ItemQueue;
 use rsx_sources::Machine;
 use rsx_tree::Edge;
 use rsx_types::NoMemory;
+use rsx_waits::Operator;
 use std::alloc::Global;
 
 /// How an edge joins its two ends.
@@ -30,6 +32,9 @@ pub trait Nodes: Machine {
     /// Whether the edge of a node crosses, and has a queue.
     ghost crosses: { Self → Bool };
 
+    /// Which operator a node is.
+    ghost operator_of: { Self → OperatorSpec };
+
     ghost use Rattle.std.specs.Prelude.{◌≡◌, ◌<◌, ℕ, false, None, Some};
     ghost use Rattle.rsx_hub.specs.declared.TheConstants.{MOST_ACCEPTED};
     ghost use Rattle.rsx_cut.specs.Local.{IsLocal};
@@ -40,6 +45,10 @@ pub trait Nodes: Machine {
     /// How the edge of this node joins its two ends.
     fn route(&self, edge: &Edge) -> Route
         ensures { result ≡ route_by self.now edge.now.state edge.now.demand.asked edge.now.demand.sent };
+
+    /// Which operator this node is.
+    fn operator(&self) -> Operator
+        ensures { result ≡ operator_of self.now };
 
     /// Where a node goes on, offers nothing though more is asked of it, can make no step, and nothing comes in where it waits for
     /// more, nothing comes out of it.

@@ -2,8 +2,8 @@
 use Rattle.std.specs.Prelude.{ℕ, List, Option, Some, None, codes, if◌then◌else◌}
 use Rattle.std.specs.Str.{bytes_eq}
 use Rattle.rsx_script.specs.declared.mode.Mode.{Mode}
-use Rattle.rsx_script.specs.declared.mode.Mode.TheVariants.{Run, Scratch, Tck}
+use Rattle.rsx_script.specs.declared.mode.Mode.TheVariants.{Run, Scratch, Draw, Tck}
 
 -- the mode with this name
 abbrev pub mode_of_name : List ℕ → Option Mode
-mode_of_name name = if bytes_eq name (codes "run") then Some Run else (if bytes_eq name (codes "scratch") then Some Scratch else (if bytes_eq name (codes "tck") then Some Tck else None))
+mode_of_name name = if bytes_eq name (codes "run") then Some Run else (if bytes_eq name (codes "scratch") then Some Scratch else (if bytes_eq name (codes "draw") then Some Draw else (if bytes_eq name (codes "tck") then Some Tck else None)))

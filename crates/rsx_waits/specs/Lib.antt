@@ -1,3 +1,4 @@
 -- Definitions that contracts cite.
 pub mod Looks
+pub mod Operators
 pub mod Texts

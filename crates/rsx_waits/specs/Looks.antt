@@ -6,11 +6,13 @@ use Rattle.rsx_waits.specs.declared.look.EdgeLook.TheVariants as edge
 use Rattle.rsx_waits.specs.declared.look.NodeLook.{NodeLook}
 use Rattle.rsx_waits.specs.declared.look.Offer.{Offer}
 use Rattle.rsx_waits.specs.declared.look.Offer.TheVariants as offer
+use Rattle.rsx_waits.specs.declared.operator.Operator.{Operator}
+use Rattle.rsx_waits.specs.Operators.{operator_text}
 
--- the number of a node, and of its receiver, where it has one
-abbrev pub head_text : ℕ → Option ℕ → List ℕ
-head_text node None = codes " | " ++ decimal node
-head_text node (Some receiver) = codes " | " ++ (decimal node ++ (codes " to " ++ decimal receiver))
+-- the number of a node with its operator, and the number of its receiver, where it has one
+abbrev pub head_text : ℕ → Operator → Option ℕ → List ℕ
+head_text node operator None = codes " | " ++ (decimal node ++ (codes " " ++ operator_text operator))
+head_text node operator (Some receiver) = codes " | " ++ (decimal node ++ (codes " " ++ (operator_text operator ++ (codes " to " ++ decimal receiver))))
 
 -- whether signals still go over its edge
 abbrev pub edge_text : EdgeLook → List ℕ
@@ -25,9 +27,14 @@ offer_text offer.Item = codes ", offers an item"
 offer_text offer.Completion = codes ", offers its completion"
 offer_text offer.Failure = codes ", offers a failure"
 
+-- what it recorded last, where it recorded anything
+abbrev pub last_text : Option ℕ → List ℕ
+last_text None = []
+last_text (Some last) = codes ", recorded " ++ (decimal last ++ codes " last")
+
 -- a node with this number, and its edge
 abbrev pub look_text : ℕ → NodeLook → List ℕ
-look_text node look = head_text node look.receiver ++ (codes ": asked " ++ (decimal look.asked ++ (codes ", sent " ++ (decimal look.sent ++ (edge_text look.edge ++ offer_text look.offer)))))
+look_text node look = head_text node look.operator look.receiver ++ (codes ": asked " ++ (decimal look.asked ++ (codes ", sent " ++ (decimal look.sent ++ (edge_text look.edge ++ (offer_text look.offer ++ last_text look.last))))))
 
 -- these nodes, of which the first has this number
 abbrev pub looks_text : ℕ → List NodeLook → List ℕ

@@ -2,12 +2,17 @@
 //! What a subscriber waits for and what the nodes of its tree do, with the words for it.
 //!
 //! - [`wait`]: [`Wait`], and [`HubWait`], why nothing comes from a hub. Each is printed in plain words.
-//! - [`look`]: [`Picture`], the nodes of a tree, each as a [`NodeLook`]: what was asked of it and sent, and what it offers.
+//! - [`operator`]: [`Operator`], which operator a node is. It is printed as the word that a script has for it.
+//! - [`look`]: [`Picture`], the nodes of a tree, each as a [`NodeLook`]: its operator, what was asked of it and sent, what it
+//!   offers, and what it recorded last.
 //!
-//! The definitions stand in `specs/`: `Texts` (the words for a wait) and `Looks` (those for a picture).
+//! The definitions stand in `specs/`: `Texts` (the words for a wait), `Operators` (those for operators) and `Looks` (those for a
+//! picture).
 
 pub mod look;
+pub mod operator;
 pub mod wait;
 
 pub use look::{EdgeLook, NodeLook, Offer, Picture};
+pub use operator::Operator;
 pub use wait::{HubWait, Wait};

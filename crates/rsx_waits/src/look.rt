@@ -1,8 +1,9 @@
 //! What the nodes of a tree do now.
 
 ghost use Rattle.std.specs.Fmt.{WritesOnOk};
-ghost use Rattle.rsx_waits.specs.Looks.{edge_text, head_text, look_text, looks_text, offer_text};
+ghost use Rattle.rsx_waits.specs.Looks.{edge_text, head_text, last_text, look_text, looks_text, offer_text};
 
+use crate::Operator;
 use std::fmt;
 
 /// The nodes of a tree, in pre-order from 0.
@@ -15,6 +16,8 @@ pub struct Picture {
 /// A node of a tree, with the edge over which it sends.
 #[derive(Clone, Copy, Debug, PartialEq, Eq)]
 pub struct NodeLook {
+    /// Which operator it is.
+    pub operator: Operator,
     /// The number of the node to which it sends; none of the root.
     pub receiver: Option<u64>,
     /// How many items were asked of it.
@@ -25,6 +28,9 @@ pub struct NodeLook {
     pub edge: EdgeLook,
     /// What it offers.
     pub offer: Offer,
+    /// What it recorded last: of a node that picks its last choice, the number of the input or the lane, and of a `zip` the input
+    /// whose ending it took. None where it recorded nothing.
+    pub last: Option<u64>,
 }
 
 /// Whether signals still go over an edge.
@@ -51,7 +57,7 @@ pub enum Offer {
     Failure,
 }
 
-/// Each node behind ` | `, as `1 to 0: asked 2, sent 1, live, offers an item`.
+/// Each node behind ` | `, as `1 map to 0: asked 2, sent 1, live, offers an item`.
 impl fmt::Display for Picture {
     ghost use Rattle.std.specs.Prelude.{Some};
     ghost use Rattle.rsx_waits.specs.Looks.{looks_text};
@@ -77,23 +83,25 @@ fn write_looks<W: fmt::Write>(f: &mut fmt::Formatter<W>, looks: &[NodeLook]) -> 
 fn write_look<W: fmt::Write>(f: &mut fmt::Formatter<W>, node: usize, look: &NodeLook) -> fmt::Result
     ensures { WritesOnOk W.write_str_gives f.old result (look_text node look.now) f.new }
 {
-    write_head(f, node, look.receiver)?;
+    write_head(f, node, look.operator, look.receiver)?;
     write!(f, ": asked {}, sent {}", look.asked, look.sent)?;
     write_edge(f, look.edge)?;
-    write_offer(f, look.offer)
+    write_offer(f, look.offer)?;
+    write_last(f, look.last)
 }
 
-/// The number of a node, and of its receiver, where it has one.
+/// The number of a node with its operator, and the number of its receiver, where it has one.
 fn write_head<W: fmt::Write>(
     f: &mut fmt::Formatter<W>,
     node: usize,
+    operator: Operator,
     receiver: Option<u64>,
 ) -> fmt::Result
-    ensures { WritesOnOk W.write_str_gives f.old result (head_text node receiver) f.new }
+    ensures { WritesOnOk W.write_str_gives f.old result (head_text node operator receiver) f.new }
 {
     match receiver {
-        Some(receiver) => write!(f, " | {node} to {receiver}"),
-        None => write!(f, " | {node}"),
+        Some(receiver) => write!(f, " | {node} {operator} to {receiver}"),
+        None => write!(f, " | {node} {operator}"),
     }
 }
 
@@ -117,5 +125,15 @@ fn write_offer<W: fmt::Write>(f: &mut fmt::Formatter<W>, offer: Offer) -> fmt::R
         Offer::Item => f.write_str(", offers an item"),
         Offer::Completion => f.write_str(", offers its completion"),
         Offer::Failure => f.write_str(", offers a failure"),
+    }
+}
+
+/// What a node recorded last, where it recorded anything.
+fn write_last<W: fmt::Write>(f: &mut fmt::Formatter<W>, last: Option<u64>) -> fmt::Result
+    ensures { WritesOnOk W.write_str_gives f.old result (last_text last) f.new }
+{
+    match last {
+        Some(last) => write!(f, ", recorded {last} last"),
+        None => Ok(()),
     }
 }

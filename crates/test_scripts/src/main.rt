@@ -2,7 +2,7 @@
 //! Runs scripts and traces, those of `examples/` first, and writes their answers. What it writes is stored beside it, and is
 //! a table of the script language and of reports.
 //!
-//! A line `run`, `scratch` or `tck` begins an input for the mode of that name, which goes on up to the next such line. The
+//! A line `run`, `scratch`, `draw` or `tck` begins an input for the mode of that name, which goes on up to the next such line. The
 //! input is written, then a line `answers`, its answers, and the line of the fault that ended it.
 
 use rsx_drive::drive;
@@ -18,6 +18,7 @@ fn write_row(rt: &(impl Print + AllocGlobal), mode: Mode, script: &str) -> io::R
     let heading = match mode {
         Mode::Run => "run\n",
         Mode::Scratch => "scratch\n",
+        Mode::Draw => "draw\n",
         Mode::Tck => "tck\n",
     };
     let mut out = io::writer(rt);

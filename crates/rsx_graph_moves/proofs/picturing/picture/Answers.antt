@@ -10,5 +10,5 @@ returns-in-Ok-clause-looks g c =
     let within : c.args.sub.0 < length subs = omega (arith, off) in (
       c.index-subscriptions-at.result,
       slice_get_read subs (length subs) c.args.sub.0 c.index-subscriptions-at.result refl within c.index-subscriptions-at.is,
-      c.in-Ok.ensures ∙ ap (λ r. tree_looks g.N.Machine r.root r.tree) (c.rooted-rooted.ensures ∙ c.part.ensures),
+      c.in-Ok.ensures ∙ ap (λ r. tree_looks g.N.Machine g.N.Nodes r.root r.tree) (c.rooted-rooted.ensures ∙ c.part.ensures),
     )
