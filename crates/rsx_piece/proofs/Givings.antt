@@ -40,15 +40,25 @@ no_items (Next x) k = cc
 no_items Complete k = refl
 no_items (Error c) k = refl
 
-pub gave_before : {M T : Type 0} (b : Machine M T) (m : Meaning T) (taken : List (Stream T)) (old : Node M) (queued : List (Signal T)) (part : Part M) (up : Up T) (out : List (Signal T)) → sent_signals up ≡ queued ++ out → part.root.demand.sent ≡ items_sent up → AllGoOn (readings b old) (readings b part.tree) →
-    HasEnded b m taken old part out → GaveBefore b m taken old queued part up
-gave_before {M} b m taken old queued part up out is step reading k =
+-- before an ending went over it, it counted what was sent before that
+pub count_before : {M T : Type 0} (b : Machine M T) (m : Meaning T) (taken : List (Stream T)) (old : Node M) (queued : List (Signal T)) (part : Part M) (up : Up T) (out : List (Signal T)) → sent_signals up ≡ queued ++ out → part.root.demand.sent ≡ items_sent up → (k : HasEnded b m taken old part out) →
+    carried_up up + items_in queued + items_in k.rest ≡ k.before.root.demand.sent
+count_before b m taken old queued part up out is step k =
     let all : sent_signals up ≡ (queued ++ k.rest) ++ k.last ∷ [] = is ∙ (ap (λ l. queued ++ l) k.all ∙ sym (append_assoc queued k.rest (k.last ∷ []))) in
-    let R : List (Option Reading) → Type 0 = λ l. AllGoOn (readings b old) l in
     let same : part.root.demand.sent ≡ k.before.root.demand.sent = ap (λ e. e.sent) k.sent.root ∙ ending_sent (edge_view k.before.root) k.last k.ends in
     let count = counted up part.root.demand.sent (queued ++ k.rest) (k.last ∷ []) step all in
     let none = no_items k.last k.ends in
     let rest = items_more queued k.rest in
+    sums (carried_up up) (items_in queued) (items_in k.rest) (items_in (queued ++ k.rest)) (items_in (k.last ∷ [])) part.root.demand.sent k.before.root.demand.sent count none rest same
+  where
+    sums : (c q o a l s t : ℕ) → c + a + l ≡ s → l ≡ 0 → a ≡ q + o → s ≡ t → c + q + o ≡ t
+    sums c q o a l s t h1 h2 h3 h4 = omega (arith, h1, h2, h3, h4)
+
+gave_before : {M T : Type 0} (b : Machine M T) (m : Meaning T) (taken : List (Stream T)) (old : Node M) (queued : List (Signal T)) (part : Part M) (up : Up T) (out : List (Signal T)) → sent_signals up ≡ queued ++ out → part.root.demand.sent ≡ items_sent up → AllGoOn (readings b old) (readings b part.tree) →
+    HasEnded b m taken old part out → GaveBefore b m taken old queued part up
+gave_before {M} b m taken old queued part up out is step reading k =
+    let all : sent_signals up ≡ (queued ++ k.rest) ++ k.last ∷ [] = is ∙ (ap (λ l. queued ++ l) k.all ∙ sym (append_assoc queued k.rest (k.last ∷ []))) in
+    let R : List (Option Reading) → Type 0 = λ l. AllGoOn (readings b old) l in
     record {
       before = k.before;
       out = k.rest;
@@ -58,11 +68,8 @@ gave_before {M} b m taken old queued part up out is step reading k =
       put_back = k.sent;
       live = k.live;
       given = record { flow = k.flow; reading = subst R (let_go b m k.before k.last part k.sent).alike.2 reading; on = λ _. k.on };
-      counted = sums (carried_up up) (items_in queued) (items_in k.rest) (items_in (queued ++ k.rest)) (items_in (k.last ∷ [])) part.root.demand.sent k.before.root.demand.sent count none rest same;
+      counted = count_before b m taken old queued part up out is step k;
     }
-  where
-    sums : (c q o a l s t : ℕ) → c + a + l ≡ s → l ≡ 0 → a ≡ q + o → s ≡ t → c + q + o ≡ t
-    sums c q o a l s t h1 h2 h3 h4 = omega (arith, h1, h2, h3, h4)
 
 pub gives_back : {M T : Type 0} (b : Machine M T) → GivesBack b
 gives_back b m taken old queued part up h = ((λ _. gave_all b m taken old queued part up h), (λ e. gave_before b m taken old queued part up h.out h.sent h.step.sent h.reading (h.ended e)))

@@ -38,7 +38,7 @@ use Rattle.rsx_piece.specs.Piece.{GoesOn, HasEnded, HasGiven, PieceStands, WasCl
 use Rattle.rsx_piece.specs.Whole.{AreShared, CountsOver, IsBelow, JoinsWhole, WasCut}
 use Rattle.rsx_piece.specs.declared.inlet.Inlet.{Inlet}
 use Rattle.rsx_piece.proofs.Cutting.{HoldsLaw, cut_live, live_there, readings_put}
-use Rattle.rsx_piece.proofs.Givings.{counted, gave_before}
+use Rattle.rsx_piece.proofs.Givings.{count_before, counted}
 use Rattle.rsx_piece.proofs.Joinings.{has_reached}
 use Rattle.rsx_piece.proofs.Pieces.{let_go}
 use Rattle.rsx_piece.proofs.Places.{live_below, live_beside, live_here, place_below, row_live_under, same_some, station_below, station_beside, station_here, station_under, with_below}
@@ -153,7 +153,7 @@ over_flow b nodes crossing holds after m old new below lower p at k before reade
     let none = apart b nodes crossing holds m old new p below lower at k reader queue w.cut w.free o.reading u.given.reading in
     let j = can_join_is b nodes crossing p at k lower.tree.machine rest o.can in
     let free = joined_reads_not b nodes crossing holds m p below lower at k j.place rest j.straight j.there j.alone none in
-    after m old new p below lower at k reader queue rest taken out given ta tb whole w.cut w.reader.held w.reader.reads o.can o.reached all w.free free none.now_below sh.above sh.below o.flow u.given.flow
+    after m old new p below lower at k reader queue rest taken out given ta tb whole w.cut w.reads.held w.reads.reads o.can o.reached all w.free free none.now_below sh.above sh.below o.flow u.given.flow
 
 over_reading : {M T : Type 0} (b : Machine M T) (nodes : Nodes M T) (crossing : CrossingNodes M T) → HoldsLaw b nodes crossing →
     (m : Meaning T) (old new below lower p : Part M) (at k before : ℕ) (reader : M) (s : Station M) (queue rest taken : List T) (out given : List (Signal T)) (ta tb whole : List (Stream T)) →
@@ -196,9 +196,9 @@ over_on b nodes crossing holds m old new below lower p at k before reader s queu
   unended = on.unended;
   balance = λ n count bal.
       let B : ℕ → Type 0 = λ j. IsBalanced b old.tree j in
-      joins_balanced b nodes crossing holds m old new p below lower at k before s.sent reader queue rest given out ta tb w.cut w.reader w.sent w.counted (subst B (same n (items_in given) old.root.demand.sent p.root.demand.sent count o.counted) bal) o.can on o.counted live
+      joins_balanced b nodes crossing holds m old new p below lower at k before s.sent reader queue rest given out ta tb w.cut w.reads w.sent w.counted (subst B (same n (items_in given) old.root.demand.sent p.root.demand.sent count o.counted) bal) o.can on o.counted live
       (λ l. u.given.on (u.goes_on (edge_live p at s pos o.there l))) u.counted o.opened (ap (option_map (λ t. t.sent)) o.there) o.all;
-  reads = joins_reading b nodes crossing holds m old new p below lower at k reader queue rest ta tb whole w.cut w.reader.reads w.free o.can o.reading u.given.reading o.agrees sh.same_below on.reads live (λ l. (u.given.on (u.goes_on (edge_live p at s pos o.there l))).reads);
+  reads = joins_reading b nodes crossing holds m old new p below lower at k reader queue rest ta tb whole w.cut w.reads.reads w.free o.can o.reading u.given.reading o.agrees sh.same_below on.reads live (λ l. (u.given.on (u.goes_on (edge_live p at s pos o.there l))).reads);
 }
   where
     same : (n i a z : ℕ) → n + i ≡ z → a + i ≡ z → n ≡ a
@@ -262,14 +262,13 @@ joins_whole {M} b nodes crossing holds after m old new upper below lower at k be
           let reads : readings b upper.tree ≡ readings b p.tree = gone.alike.2 in
           let R : List (Option Reading) → Type 0 = λ l. AllGoOn (readings b new.tree) l in
           let A : List (Option Reading) → Type 0 = λ l. AllOf (λ i. (i ≡ k → ⊥) → slice_get whole i ≡ slice_get ta i) l in
-          let gave = gave_before b m ta new.tree queued upper up above.out above.sent above.step.sent above.reading e in
           let q : IsOver b nodes crossing m old new lower p at k s rest taken e.rest ta whole = record {
             flow = e.flow;
             reading = subst R reads above.reading;
             there = station_under p at pos ∙ (ap (λ t. station t (at - 1)) inputs ∙ (sym (station_under upper at pos) ∙ there));
             can = ap (λ z. not (nodes.crosses lower.tree.machine) && can_join_in b crossing k rest z) place ∙ can;
             reached = record { place = reached.place; there = place ∙ reached.there; reads = reached.reads };
-            counted = ap (λ n. n + items_in e.rest) (sym count) ∙ gave.counted;
+            counted = ap (λ n. n + items_in e.rest) (sym count) ∙ count_before b m ta new.tree queued upper up above.out above.sent above.step.sent e;
             agrees = subst A reads sh.same_above;
             all = ap (λ z. s.sent + length (held_in crossing z ++ rest)) place ∙ counts.all;
             opened = counts.open_before p e.last e.sent;

@@ -25,7 +25,7 @@ use Rattle.rsx_piece.specs.declared.inlet.Inlet.{Inlet}
 -- A part was cut at the edge `at`, over which `before` items had gone. Its reader has the number k, which no node of the part reads.
 pub record WasCut {M T : Type 0} (b : Machine M T) (nodes : Nodes M T) (crossing : CrossingNodes M T) (old : Part M) (at k before : ℕ) (reader : M) (below : Part M) (queue : List T) (new : Part M) : Type 0 where
   pub cut : IsCut nodes crossing old at reader below queue new
-  pub reader : IsReader b crossing k before reader
+  pub reads : IsReader b crossing k before reader
   pub sent : sent_over_edge old at ≡ Some before
   pub counted : before + length queue ≡ below.root.demand.sent
   pub free : ReadsNot b k old.tree
