@@ -71,7 +71,7 @@ items_next [] = refl
 items_next (x ∷ xs) = let k = items_next xs in omega (arith, k)
 
 -- of a node of the upper piece that reads the link: how far it got
-node_reached : {M T : Type 0} (b : Machine M T) (upper : Part M) (at k : ℕ) (place : Place M) (taken : List T) (i : Inlet T) (takens : List (Stream T)) → place_at at upper.tree ≡ Some place → reads_hub k (b.reads place.node) ≡ true → InletStands b takens upper i → i.hub ≡ k → received_signals i.down ≡ map Next taken → b.reads place.node ≡ Some (record { hub = k; reached = length taken })
+pub node_reached : {M T : Type 0} (b : Machine M T) (upper : Part M) (at k : ℕ) (place : Place M) (taken : List T) (i : Inlet T) (takens : List (Stream T)) → place_at at upper.tree ≡ Some place → reads_hub k (b.reads place.node) ≡ true → InletStands b takens upper i → i.hub ≡ k → received_signals i.down ≡ map Next taken → b.reads place.node ≡ Some (record { hub = k; reached = length taken })
 node_reached b upper at k place taken i takens there reads st hub came =
     let R : ℕ → ℕ → Type 0 = λ h n. HaveReached h n (readings b upper.tree) in
     let count : items_in (received_signals i.down) ≡ length taken = ap items_in came ∙ items_next taken in

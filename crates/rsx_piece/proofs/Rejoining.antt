@@ -2,11 +2,12 @@
 use Rattle.std.proofs.Common.{◌≡◌, inl, inr, ℕ, ◌+◌, ◌-◌, true, false, List, ◌∷◌, ◌++◌, length, refl, ap, sym, ◌∙◌, subst, arith, Option, Some, None, slice_get}
 use Rattle.std.specs.Prelude.{not}
 use Rattle.std.proofs.lemmas.Bool.{and_parts, cases_lt}
-use Rattle.rsx_sources.specs.Prelude.{Meaning, Reading, reads_hub}
+use Rattle.rsx_sources.specs.Prelude.{Meaning, Reading, Signal, Stream, reads_hub}
 use Rattle.rsx_sources.specs.declared.machine.Machine.{Ghosts as Machine}
 use Rattle.rsx_rooted.specs.declared.nodes.CrossingNodes.{Ghosts as CrossingNodes}
 use Rattle.rsx_rooted.specs.declared.nodes.Nodes.{Ghosts as Nodes}
-use Rattle.rsx_tree.specs.Reads.{AllGoOn, IsReadAt, readings, row_readings}
+use Rattle.rsx_tree.specs.Reads.{AllGoOn, IsReadAt, IsTreeReadAt, readings, row_readings}
+use Rattle.rsx_tree.specs.declared.edge.EdgeState.TheVariants.{Live}
 use Rattle.rsx_tree.specs.declared.inputs.Inputs.{Inputs, End, More'}
 use Rattle.rsx_tree.specs.declared.node.Node.{Node}
 use Rattle.rsx_cut.proofs.Locals.{reads_not_on}
@@ -16,7 +17,9 @@ use Rattle.rsx_pipe.specs.Cutting.{IsCut, Place, can_join, can_join_in, held_in,
 use Rattle.rsx_pipe.specs.Output.{counts_in}
 use Rattle.rsx_pipe.specs.Part.{Part}
 use Rattle.rsx_pipe.specs.Tree.{IsBalanced}
-use Rattle.rsx_piece.specs.Joined.{JoinsBalanced, JoinsReading}
+use Rattle.rsx_link.specs.Signals.{items_in}
+use Rattle.rsx_piece.specs.Joined.{AgreesOn, IsReader, JoinsBalanced, JoinsReading, is_live_over, is_open_over, sent_over_edge}
+use Rattle.rsx_piece.specs.Piece.{GoesOn}
 use Rattle.rsx_piece.proofs.Balances.{put_balanced, queue_put}
 use Rattle.rsx_piece.proofs.Cutting.{HoldsLaw, IsNot, agreed, cut_live, cut_readings, cuts_balanced, live_there, put_reads, readings_put, tree_over}
 use Rattle.rsx_piece.proofs.Places.{IsThere, edge_station, is_false, place_below, place_here, same_some, with_below, with_here}
@@ -59,11 +62,16 @@ can_join_is {M} {T} b nodes crossing part at k lower rest h =
 
 -- ---- the counts
 
-pub joins_balanced : {M T : Type 0} (b : Machine M T) (nodes : Nodes M T) (crossing : CrossingNodes M T) → HoldsLaw b nodes crossing → JoinsBalanced b nodes crossing
-joins_balanced b nodes crossing holds m old new upper below lower at k before sent reader queue rest went out taken_above taken_below c rd count sum h can up count_up live low count_low opens at_edge all =
+-- where the node at the lower root has no queue
+pub balanced_over : {M T : Type 0} (b : Machine M T) (nodes : Nodes M T) (crossing : CrossingNodes M T) → HoldsLaw b nodes crossing →
+    (m : Meaning T) (old new upper below lower : Part M) (at k before sent : ℕ) (reader : M) (queue rest : List T) (went out : List (Signal T)) (taken_above taken_below : List (Stream T)) → nodes.crosses lower.tree.machine ≡ false →
+    IsCut nodes crossing old at reader below queue new → IsReader b crossing k before reader → sent_over_edge old at ≡ Some before → before + length queue ≡ below.root.demand.sent →
+    IsBalanced b old.tree old.root.demand.sent → GoesOn b taken_above new.tree upper went → old.root.demand.sent + items_in went ≡ upper.root.demand.sent → upper.root.state ≡ Live →
+    (is_live_over upper at ≡ true → GoesOn b taken_below below.tree lower out) → below.root.demand.sent + items_in out ≡ lower.root.demand.sent → (is_open_over b upper at ≡ true → is_open_over b old at ≡ true) →
+    sent_over_edge upper at ≡ Some sent → sent + length (held_in crossing (place_at at upper.tree) ++ rest) ≡ lower.root.demand.sent → IsBalanced b (joined crossing upper at lower rest).tree (joined crossing upper at lower rest).root.demand.sent
+balanced_over b nodes crossing holds m old new upper below lower at k before sent reader queue rest went out taken_above taken_below straight c rd count sum h up count_up live low count_low opens at_edge all =
     let items = held_in crossing (place_at at upper.tree) in
     let x = crossing.queued (items ++ rest) lower.tree.machine in
-    let straight = (can_join_is b nodes crossing upper at k lower.tree.machine rest can).straight in
     let cuts = cuts_balanced b nodes crossing holds m old new below at k before reader queue c rd count sum h in
     let root : new.root.demand.sent ≡ old.root.demand.sent = ap (λ p. p.root.demand.sent) c.upper in
     let N : ℕ → Type 0 = λ n. IsBalanced b new.tree n in
@@ -75,6 +83,10 @@ joins_balanced b nodes crossing holds m old new upper below lower at k before se
     queue_put b m x lower.tree.machine (items ++ rest) lower.tree.inputs t.sent (holds m (items ++ rest) lower.tree.machine straight)
     (subst L (sym counts) ((low on).balance below.root.demand.sent count_low (cuts.1 (opens clear))))
     ) live (up.balance old.root.demand.sent count_up (subst N root cuts.0))
+
+pub joins_balanced : {M T : Type 0} (b : Machine M T) (nodes : Nodes M T) (crossing : CrossingNodes M T) → HoldsLaw b nodes crossing → JoinsBalanced b nodes crossing
+joins_balanced b nodes crossing holds m old new upper below lower at k before sent reader queue rest went out taken_above taken_below c rd count sum h can up count_up live low count_low opens at_edge all =
+    balanced_over b nodes crossing holds m old new upper below lower at k before sent reader queue rest went out taken_above taken_below (can_join_is b nodes crossing upper at k lower.tree.machine rest can).straight c rd count sum h up count_up live low count_low opens at_edge all
 
 -- ---- what the nodes read
 
@@ -114,10 +126,13 @@ joined_reads_not {M} b nodes crossing holds m upper below lower at k place rest 
     let under : AllOf (IsNot k) low = (subst O (sym (holds m queue lower.tree.machine straight).reads) h.now_below.0, h.now_below.1) in
     subst A (sym (readings_put b at x leaf lower.tree.inputs upper.tree is.0)) (all_spliced (IsNot k) at low (readings b (with_node at leaf End upper.tree)) under (subst B tree h.above))
 
-pub joins_reading : {M T : Type 0} (b : Machine M T) (nodes : Nodes M T) (crossing : CrossingNodes M T) → HoldsLaw b nodes crossing → JoinsReading b nodes crossing
-joins_reading b nodes crossing holds m old new upper below lower at k reader queue rest taken_above taken_below whole c reads free can go_up go_low above under h live low =
+pub reading_over : {M T : Type 0} (b : Machine M T) (nodes : Nodes M T) (crossing : CrossingNodes M T) → HoldsLaw b nodes crossing →
+    (m : Meaning T) (old new upper below lower : Part M) (at k : ℕ) (reader : M) (queue rest : List T) (taken_above taken_below whole : List (Stream T)) → nodes.crosses lower.tree.machine ≡ false →
+    IsCut nodes crossing old at reader below queue new → ReadsNot b k old.tree → AllGoOn (readings b new.tree) (readings b upper.tree) → AllGoOn (readings b below.tree) (readings b lower.tree) →
+    AgreesOn b k taken_above whole upper.tree → AgreesOn b k taken_below whole lower.tree → IsTreeReadAt b (counts_in taken_above) upper.tree → upper.root.state ≡ Live → (is_live_over upper at ≡ true → IsTreeReadAt b (counts_in taken_below) lower.tree) →
+    IsTreeReadAt b (counts_in whole) (joined crossing upper at lower rest).tree
+reading_over b nodes crossing holds m old new upper below lower at k reader queue rest taken_above taken_below whole straight c free go_up go_low above under h live low =
     let none = apart b nodes crossing holds m old new upper below lower at k reader queue c free go_up go_low in
-    let straight = (can_join_is b nodes crossing upper at k lower.tree.machine rest can).straight in
     let items = held_in crossing (place_at at upper.tree) ++ rest in
     let x = crossing.queued items lower.tree.machine in
     let up = counts_in taken_above in
@@ -129,3 +144,7 @@ joins_reading b nodes crossing holds m old new upper below lower at k reader que
     put_reads b up all x lower.tree.inputs upper at same_up (λ on.
     let got = tree_over b down all lower.tree same_low (low on) in (subst R (sym (holds m items lower.tree.machine straight).reads) got.0, got.1)
     ) live h
+
+pub joins_reading : {M T : Type 0} (b : Machine M T) (nodes : Nodes M T) (crossing : CrossingNodes M T) → HoldsLaw b nodes crossing → JoinsReading b nodes crossing
+joins_reading b nodes crossing holds m old new upper below lower at k reader queue rest taken_above taken_below whole c reads free can go_up go_low above under h live low =
+    reading_over b nodes crossing holds m old new upper below lower at k reader queue rest taken_above taken_below whole (can_join_is b nodes crossing upper at k lower.tree.machine rest can).straight c free go_up go_low above under h live low

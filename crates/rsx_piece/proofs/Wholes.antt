@@ -20,10 +20,11 @@ use Rattle.rsx_tree.specs.declared.edge.EdgeState.{EdgeState}
 use Rattle.rsx_tree.specs.declared.edge.EdgeState.TheVariants.{Live, Closed, Ended}
 use Rattle.rsx_tree.specs.declared.inputs.Inputs.{Inputs, End, More'}
 use Rattle.rsx_tree.specs.declared.node.Node.{Node}
-use Rattle.rsx_pipe.specs.Cutting.{IsCut, Place, can_join, can_join_in, held_in, joined, place_at, sender_at, with_node}
+use Rattle.rsx_pipe.specs.Cutting.{IsCut, Place, can_join, can_join_in, held_in, is_end, joined, place_at, sender_at, with_node}
 use Rattle.rsx_pipe.specs.Feeding.{IsSentOut}
 use Rattle.rsx_pipe.specs.Joined.{HasReached, JoinsAfterMoves}
 use Rattle.rsx_pipe.specs.Part.{Part}
+use Rattle.rsx_pipe.specs.Rejoined.{HasTaken, JoinsAfterEnding, can_rejoin, can_rejoin_here, can_rejoin_in}
 use Rattle.rsx_pipe.specs.Tree.{IsAllClosed, IsBalanced}
 use Rattle.rsx_link.specs.Ends.{carried_up, received_signals}
 use Rattle.rsx_link.specs.Signals.{items_in}
@@ -35,14 +36,14 @@ use Rattle.rsx_cut.specs.Splice.{splice}
 use Rattle.rsx_piece.specs.Inlet.{InletStands}
 use Rattle.rsx_piece.specs.Joined.{AgreesOn, is_live_over, is_open_over, is_row_live, sent_over_edge}
 use Rattle.rsx_piece.specs.Piece.{GoesOn, HasEnded, HasGiven, PieceStands, WasClosed}
-use Rattle.rsx_piece.specs.Whole.{AreShared, CountsOver, IsBelow, JoinsWhole, WasCut}
+use Rattle.rsx_piece.specs.Whole.{AreShared, CountsOver, IsBelow, JoinsWhole, JoinsWholeEnded, WasCut}
 use Rattle.rsx_piece.specs.declared.inlet.Inlet.{Inlet}
 use Rattle.rsx_piece.proofs.Cutting.{HoldsLaw, cut_live, live_there, readings_put}
 use Rattle.rsx_piece.proofs.Givings.{count_before, counted}
-use Rattle.rsx_piece.proofs.Joinings.{has_reached}
+use Rattle.rsx_piece.proofs.Joinings.{has_reached, node_reached}
 use Rattle.rsx_piece.proofs.Pieces.{let_go}
-use Rattle.rsx_piece.proofs.Places.{live_below, live_beside, live_here, place_below, row_live_under, same_some, station_below, station_beside, station_here, station_under, with_below}
-use Rattle.rsx_piece.proofs.Rejoining.{CanJoin, apart, can_join_is, joined_reads_not, joins_balanced, joins_reading, place_is}
+use Rattle.rsx_piece.proofs.Places.{is_false, live_below, live_beside, live_here, place_below, row_live_under, same_some, station_below, station_beside, station_here, station_under, with_below}
+use Rattle.rsx_piece.proofs.Rejoining.{apart, balanced_over, can_join_is, ended_row, joined_reads_not, place_is, reading_over}
 
 -- ---- edges none of which is live
 
@@ -114,10 +115,10 @@ goes_spliced (suc c) low low' (u ∷ us) (u' ∷ us') h k = (k.0, goes_spliced c
 
 -- ---- a root that lets its ending go, over other inputs
 
-after_ending : {M T : Type 0} (b : Machine M T) (s : Signal T) (t : Node M) (sent : ℕ) → ends_input s ≡ true → IsBalancedAfter b s t sent
-after_ending b (Next x) t sent e = cc
-after_ending b Complete t sent e = tt
-after_ending b (Error c) t sent e = tt
+nothing_counted : {M T : Type 0} (b : Machine M T) (s : Signal T) (t : Node M) (sent : ℕ) → ends_input s ≡ true → IsBalancedAfter b s t sent
+nothing_counted b (Next x) t sent e = cc
+nothing_counted b Complete t sent e = tt
+nothing_counted b (Error c) t sent e = tt
 
 lets_go_over : {M T : Type 0} (b : Machine M T) (m : Meaning T) (n n' : M) (t u : Inputs M) (s : Signal T) → ends_input s ≡ true → IsLetGo b m (record { machine = n; inputs = t }) s (record { machine = n'; inputs = t }) → IsLetGo b m (record { machine = n; inputs = u }) s (record { machine = n'; inputs = u })
 lets_go_over b m n n' t u s e h = record {
@@ -127,54 +128,54 @@ lets_go_over b m n n' t u s e h = record {
   node = h.node;
   value = λ hubs further at. out_lets_go b m hubs n n' s h.lets_go (comes_in b m hubs further u (at + 1)) (slice_get further at);
   notes = let same : b.recorded n' ≡ b.recorded n = let k = h.notes in cc in ap (λ k. k ∷ notes_of b u) same;
-  balance = λ sent k. after_ending b s (record { machine = n'; inputs = u }) sent e;
+  balance = λ sent k. nothing_counted b s (record { machine = n'; inputs = u }) sent e;
   alike = popped_alike b n n' u h.node;
 }
 
 -- ---- a part over the edge, joined to the lower piece
 
 -- the upper piece, or what it was just before its ending, which gave these signals since the part was cut
-record IsOver {M T : Type 0} (b : Machine M T) (nodes : Nodes M T) (crossing : CrossingNodes M T) (m : Meaning T) (old new lower p : Part M) (at k : ℕ) (s : Station M) (rest taken : List T) (given : List (Signal T)) (ta whole : List (Stream T)) : Type 0 where
-  flow : Carries b m ta new.tree p.tree given
+record IsOver {M T : Type 0} (b : Machine M T) (nodes : Nodes M T) (crossing : CrossingNodes M T) (m : Meaning T) (old new lower p : Part M) (at k : ℕ) (s : Station M) (rest : List T) (given : List (Signal T)) (ta whole : List (Stream T)) : Type 0 where
   reading : AllGoOn (readings b new.tree) (readings b p.tree)
   there : station_of p.tree (edge_view p.root) at ≡ Some s
-  can : can_join b nodes crossing p at k lower.tree.machine rest ≡ true
-  reached : HasReached b p at k (length taken)
+  straight : nodes.crosses lower.tree.machine ≡ false
+  place : Place M
+  at_place : place_at at p.tree ≡ Some place
+  alone : place.below ≡ End
   counted : old.root.demand.sent + items_in given ≡ p.root.demand.sent
   agrees : AgreesOn b k ta whole p.tree
   all : s.sent + length (held_in crossing (place_at at p.tree) ++ rest) ≡ lower.root.demand.sent
   opened : is_open_over b p at ≡ true → is_open_over b old at ≡ true
+  joins : Carries b m whole old.tree (joined crossing p at lower rest).tree given
 
-over_flow : {M T : Type 0} (b : Machine M T) (nodes : Nodes M T) (crossing : CrossingNodes M T) → HoldsLaw b nodes crossing → JoinsAfterMoves b nodes crossing →
-    (m : Meaning T) (old new below lower p : Part M) (at k before : ℕ) (reader : M) (s : Station M) (queue rest taken : List T) (out given : List (Signal T)) (ta tb whole : List (Stream T)) (upper : Node M) →
-    WasCut b nodes crossing old at k before reader below queue new → IsBelow b m tb below lower out s → AreShared b k ta tb whole (map Next taken) upper lower.tree → map Next taken ++ map Next rest ≡ map Next queue ++ out →
-    IsOver b nodes crossing m old new lower p at k s rest taken given ta whole → Carries b m whole old.tree (joined crossing p at lower rest).tree given
-over_flow b nodes crossing holds after m old new below lower p at k before reader s queue rest taken out given ta tb whole upper w u sh all o =
-    let none = apart b nodes crossing holds m old new p below lower at k reader queue w.cut w.free o.reading u.given.reading in
-    let j = can_join_is b nodes crossing p at k lower.tree.machine rest o.can in
-    let free = joined_reads_not b nodes crossing holds m p below lower at k j.place rest j.straight j.there j.alone none in
-    after m old new p below lower at k reader queue rest taken out given ta tb whole w.cut w.reads.held w.reads.reads o.can o.reached all w.free free none.now_below sh.above sh.below o.flow u.given.flow
+-- no node of the part that is joined reads the link
+over_free : {M T : Type 0} (b : Machine M T) (nodes : Nodes M T) (crossing : CrossingNodes M T) → HoldsLaw b nodes crossing →
+    (m : Meaning T) (old new below lower p : Part M) (at k before : ℕ) (reader : M) (place : Place M) (queue rest : List T) → WasCut b nodes crossing old at k before reader below queue new →
+    nodes.crosses lower.tree.machine ≡ false → place_at at p.tree ≡ Some place → place.below ≡ End → AllGoOn (readings b new.tree) (readings b p.tree) → AllGoOn (readings b below.tree) (readings b lower.tree) →
+    ReadsNot b k lower.tree × ReadsNot b k (joined crossing p at lower rest).tree
+over_free b nodes crossing holds m old new below lower p at k before reader place queue rest w straight there alone go_up go_low =
+    let none = apart b nodes crossing holds m old new p below lower at k reader queue w.cut w.free go_up go_low in
+    (none.now_below, joined_reads_not b nodes crossing holds m p below lower at k place rest straight there alone none)
 
 over_reading : {M T : Type 0} (b : Machine M T) (nodes : Nodes M T) (crossing : CrossingNodes M T) → HoldsLaw b nodes crossing →
-    (m : Meaning T) (old new below lower p : Part M) (at k before : ℕ) (reader : M) (s : Station M) (queue rest taken : List T) (out given : List (Signal T)) (ta tb whole : List (Stream T)) →
+    (m : Meaning T) (old new below lower p : Part M) (at k before : ℕ) (reader : M) (s : Station M) (queue rest : List T) (out given : List (Signal T)) (ta tb whole : List (Stream T)) →
     WasCut b nodes crossing old at k before reader below queue new → IsBelow b m tb below lower out s →
-    IsOver b nodes crossing m old new lower p at k s rest taken given ta whole → AllGoOn (readings b old.tree) (readings b (joined crossing p at lower rest).tree)
-over_reading {M} b nodes crossing holds m old new below lower p at k before reader s queue rest taken out given ta tb whole w u o =
+    IsOver b nodes crossing m old new lower p at k s rest given ta whole → AllGoOn (readings b old.tree) (readings b (joined crossing p at lower rest).tree)
+over_reading {M} b nodes crossing holds m old new below lower p at k before reader s queue rest out given ta tb whole w u o =
     let c = w.cut in
     let x0 = crossing.queued queue below.tree.machine in
     let x1 = crossing.queued (held_in crossing (place_at at p.tree) ++ rest) lower.tree.machine in
     let there = live_there old at (cut_live nodes crossing old new below at reader queue c) in
-    let j = can_join_is b nodes crossing p at k lower.tree.machine rest o.can in
-    let is = place_is at j.place p.tree j.there in
-    let leaf = j.place.node in
-    let tree : p.tree ≡ with_node at leaf End p.tree = is.1 ∙ ap (λ r. with_node at leaf r p.tree) j.alone in
+    let is = place_is at o.place p.tree o.at_place in
+    let leaf = o.place.node in
+    let tree : p.tree ≡ with_node at leaf End p.tree = is.1 ∙ ap (λ r. with_node at leaf r p.tree) o.alone in
     let rows0 = row_readings b below.tree.inputs in
     let rows1 = row_readings b lower.tree.inputs in
     let top0 = readings b (with_node at reader End old.tree) in
     let top1 = readings b (with_node at leaf End p.tree) in
     let A0 : Option Reading → Type 0 = λ r. AllGoOn (r ∷ rows0) (readings b lower.tree) in
     let A1 : Option Reading → Type 0 = λ r. AllGoOn (b.reads x0 ∷ rows0) (r ∷ rows1) in
-    let low = subst A1 (sym (holds m (held_in crossing (place_at at p.tree) ++ rest) lower.tree.machine j.straight).reads) (subst A0 (sym (holds m queue below.tree.machine c.straight).reads) u.given.reading) in
+    let low = subst A1 (sym (holds m (held_in crossing (place_at at p.tree) ++ rest) lower.tree.machine o.straight).reads) (subst A0 (sym (holds m queue below.tree.machine c.straight).reads) u.given.reading) in
     let B0 : Node M → Type 0 = λ t. AllGoOn (readings b t) (readings b p.tree) in
     let B1 : Node M → Type 0 = λ t. AllGoOn top0 (readings b t) in
     let top = subst B1 tree (subst B0 (ap (λ q. q.tree) c.upper) o.reading) in
@@ -189,16 +190,16 @@ edge_live : {M : Type 0} (p : Part M) (at : ℕ) (s : Station M) → 0 < at → 
 edge_live p at s pos there h = live_station p.tree.inputs (at - 1) s (sym (station_under p at pos) ∙ there) (row_live_under p at pos h)
 
 over_on : {M T : Type 0} (b : Machine M T) (nodes : Nodes M T) (crossing : CrossingNodes M T) → HoldsLaw b nodes crossing →
-    (m : Meaning T) (old new below lower p : Part M) (at k before : ℕ) (reader : M) (s : Station M) (queue rest taken : List T) (out given : List (Signal T)) (ta tb whole : List (Stream T)) (upper : Node M) → 0 < at →
-    WasCut b nodes crossing old at k before reader below queue new → IsBelow b m tb below lower out s → AreShared b k ta tb whole (map Next taken) upper lower.tree →
-    IsOver b nodes crossing m old new lower p at k s rest taken given ta whole → p.root.state ≡ Live → GoesOn b ta new.tree p given → GoesOn b whole old.tree (joined crossing p at lower rest) given
-over_on b nodes crossing holds m old new below lower p at k before reader s queue rest taken out given ta tb whole upper pos w u sh o live on = record {
+    (m : Meaning T) (old new below lower p : Part M) (at k before : ℕ) (reader : M) (s : Station M) (queue rest : List T) (out given : List (Signal T)) (ta tb whole : List (Stream T)) → 0 < at →
+    WasCut b nodes crossing old at k before reader below queue new → IsBelow b m tb below lower out s → AgreesOn b k tb whole lower.tree →
+    IsOver b nodes crossing m old new lower p at k s rest given ta whole → p.root.state ≡ Live → GoesOn b ta new.tree p given → GoesOn b whole old.tree (joined crossing p at lower rest) given
+over_on b nodes crossing holds m old new below lower p at k before reader s queue rest out given ta tb whole pos w u same_below o live on = record {
   unended = on.unended;
   balance = λ n count bal.
       let B : ℕ → Type 0 = λ j. IsBalanced b old.tree j in
-      joins_balanced b nodes crossing holds m old new p below lower at k before s.sent reader queue rest given out ta tb w.cut w.reads w.sent w.counted (subst B (same n (items_in given) old.root.demand.sent p.root.demand.sent count o.counted) bal) o.can on o.counted live
+      balanced_over b nodes crossing holds m old new p below lower at k before s.sent reader queue rest given out ta tb o.straight w.cut w.reads w.sent w.counted (subst B (same n (items_in given) old.root.demand.sent p.root.demand.sent count o.counted) bal) on o.counted live
       (λ l. u.given.on (u.goes_on (edge_live p at s pos o.there l))) u.counted o.opened (ap (option_map (λ t. t.sent)) o.there) o.all;
-  reads = joins_reading b nodes crossing holds m old new p below lower at k reader queue rest ta tb whole w.cut w.reads.reads w.free o.can o.reading u.given.reading o.agrees sh.same_below on.reads live (λ l. (u.given.on (u.goes_on (edge_live p at s pos o.there l))).reads);
+  reads = reading_over b nodes crossing holds m old new p below lower at k reader queue rest ta tb whole o.straight w.cut w.free o.reading u.given.reading o.agrees same_below on.reads live (λ l. (u.given.on (u.goes_on (edge_live p at s pos o.there l))).reads);
 }
   where
     same : (n i a z : ℕ) → n + i ≡ z → a + i ≡ z → n ≡ a
@@ -229,49 +230,61 @@ over_gone {M} b m crossing p upper lower at rest s pos ends inputs place gone =
 
 -- ---- the joined part
 
-pub joins_whole : {M T : Type 0} (b : Machine M T) (nodes : Nodes M T) (crossing : CrossingNodes M T) → HoldsLaw b nodes crossing → JoinsAfterMoves b nodes crossing → JoinsWhole b nodes crossing
-joins_whole {M} b nodes crossing holds after m old new upper below lower at k before reader s queue rest taken queued out up inlet ta tb whole pos w count above there u can link hub came all sh counts =
-    let j = can_join_is b nodes crossing upper at k lower.tree.machine rest can in
-    let reached = has_reached b nodes upper at k lower.tree.machine taken inlet ta j link hub came in
+-- The part as it was before an ending that the upper piece sent: below the root it is the same.
+before_place : {M T : Type 0} (b : Machine M T) (m : Meaning T) (p upper : Part M) (s : Signal T) (at : ℕ) → 0 < at → IsSentOut b m p s upper → place_at at p.tree ≡ place_at at upper.tree
+before_place b m p upper s at pos h = place_below at p.tree pos ∙ (ap (sender_at (at - 1)) h.popped.1 ∙ sym (place_below at upper.tree pos))
+
+stands_over : {M T : Type 0} (b : Machine M T) (nodes : Nodes M T) (crossing : CrossingNodes M T) → HoldsLaw b nodes crossing →
+    (m : Meaning T) (old new upper below lower : Part M) (at k before : ℕ) (reader : M) (place : Place M) (s : Station M) (queue rest : List T) (queued out : List (Signal T)) (up : Up T) (ta tb whole : List (Stream T)) → 0 < at →
+    WasCut b nodes crossing old at k before reader below queue new → carried_up up + items_in queued ≡ old.root.demand.sent → (above : PieceStands b m ta new.tree queued upper up) → station_of upper.tree (edge_view upper.root) at ≡ Some s →
+    IsBelow b m tb below lower out s → nodes.crosses lower.tree.machine ≡ false → place_at at upper.tree ≡ Some place → place.below ≡ End → AgreesOn b k ta whole upper.tree → AgreesOn b k tb whole lower.tree → CountsOver b crossing m old upper at rest lower.root.demand.sent s →
+    -- what came out of the part that was cut, where the lower piece is joined to such a part
+    ((p : Part M) (given : List (Signal T)) → place_at at p.tree ≡ place_at at upper.tree → AllGoOn (readings b new.tree) (readings b p.tree) → Carries b m ta new.tree p.tree given → Carries b m whole old.tree (joined crossing p at lower rest).tree given) →
+    PieceStands b m whole old.tree queued (joined crossing upper at lower rest) up
+stands_over {M} b nodes crossing holds m old new upper below lower at k before reader place s queue rest queued out up ta tb whole pos w count above there u straight at_place alone same_above same_below counts joins =
     let spent : old.root.demand.sent + items_in above.out ≡ upper.root.demand.sent = ap (λ n. n + items_in above.out) (sym count) ∙ counted up upper.root.demand.sent queued above.out above.step.sent above.sent in
-    let o : IsOver b nodes crossing m old new lower upper at k s rest taken above.out ta whole = record {
-      flow = above.flow;
+    let o : IsOver b nodes crossing m old new lower upper at k s rest above.out ta whole = record {
       reading = above.reading;
       there = there;
-      can = can;
-      reached = reached;
+      straight = straight;
+      place = place;
+      at_place = at_place;
+      alone = alone;
       counted = spent;
-      agrees = sh.same_above;
+      agrees = same_above;
       all = counts.all;
       opened = counts.now_open;
+      joins = joins upper above.out refl above.reading above.flow;
     } in
-    let W : Node M = (joined crossing upper at lower rest).tree in
     record {
       out = above.out;
       sent = above.sent;
-      flow = over_flow b nodes crossing holds after m old new below lower upper at k before reader s queue rest taken out above.out ta tb whole upper.tree w u sh all o;
+      flow = o.joins;
       step = record { asked = above.step.asked; sent = above.step.sent };
-      reading = over_reading b nodes crossing holds m old new below lower upper at k before reader s queue rest taken out above.out ta tb whole w u o;
-      live = λ on. over_on b nodes crossing holds m old new below lower upper at k before reader s queue rest taken out above.out ta tb whole upper.tree pos w u sh o on (above.live on);
+      reading = over_reading b nodes crossing holds m old new below lower upper at k before reader s queue rest out above.out ta tb whole w u o;
+      live = λ on. over_on b nodes crossing holds m old new below lower upper at k before reader s queue rest out above.out ta tb whole pos w u same_below o on (above.live on);
       ended = λ over.
           let e = above.ended over in
           let p = e.before in
           let gone = let_go b m p e.last upper e.sent in
           let inputs : p.tree.inputs ≡ upper.tree.inputs = e.sent.popped.1 in
-          let place : place_at at p.tree ≡ place_at at upper.tree = place_below at p.tree pos ∙ (ap (sender_at (at - 1)) inputs ∙ sym (place_below at upper.tree pos)) in
+          let same = before_place b m p upper e.last at pos e.sent in
           let reads : readings b upper.tree ≡ readings b p.tree = gone.alike.2 in
           let R : List (Option Reading) → Type 0 = λ l. AllGoOn (readings b new.tree) l in
           let A : List (Option Reading) → Type 0 = λ l. AllOf (λ i. (i ≡ k → ⊥) → slice_get whole i ≡ slice_get ta i) l in
-          let q : IsOver b nodes crossing m old new lower p at k s rest taken e.rest ta whole = record {
-            flow = e.flow;
-            reading = subst R reads above.reading;
+          let go = subst R reads above.reading in
+          let q : IsOver b nodes crossing m old new lower p at k s rest e.rest ta whole = record {
+            reading = go;
             there = station_under p at pos ∙ (ap (λ t. station t (at - 1)) inputs ∙ (sym (station_under upper at pos) ∙ there));
-            can = ap (λ z. not (nodes.crosses lower.tree.machine) && can_join_in b crossing k rest z) place ∙ can;
-            reached = record { place = reached.place; there = place ∙ reached.there; reads = reached.reads };
+            straight = straight;
+            place = place;
+            at_place = same ∙ at_place;
+            alone = alone;
             counted = ap (λ n. n + items_in e.rest) (sym count) ∙ count_before b m ta new.tree queued upper up above.out above.sent above.step.sent e;
-            agrees = subst A reads sh.same_above;
-            all = ap (λ z. s.sent + length (held_in crossing z ++ rest)) place ∙ counts.all;
+            agrees = subst A reads same_above;
+            all = ap (λ z. s.sent + length (held_in crossing z ++ rest)) same ∙ counts.all;
             opened = counts.open_before p e.last e.sent;
+            joins = joins p e.rest same go e.flow;
           } in
           record {
             before = joined crossing p at lower rest;
@@ -279,10 +292,10 @@ joins_whole {M} b nodes crossing holds after m old new upper below lower at k be
             last = e.last;
             all = e.all;
             ends = e.ends;
-            sent = sent_out b m (joined crossing p at lower rest) (joined crossing upper at lower rest) e.last (over_gone b m crossing p upper lower at rest e.last pos e.ends inputs place gone) e.sent.can e.sent.root;
+            sent = sent_out b m (joined crossing p at lower rest) (joined crossing upper at lower rest) e.last (over_gone b m crossing p upper lower at rest e.last pos e.ends inputs same gone) e.sent.can e.sent.root;
             live = e.live;
-            on = over_on b nodes crossing holds m old new below lower p at k before reader s queue rest taken out e.rest ta tb whole upper.tree pos w u sh q e.live e.on;
-            flow = over_flow b nodes crossing holds after m old new below lower p at k before reader s queue rest taken out e.rest ta tb whole upper.tree w u sh all q;
+            on = over_on b nodes crossing holds m old new below lower p at k before reader s queue rest out e.rest ta tb whole pos w u same_below q e.live e.on;
+            flow = q.joins;
           };
       closed = λ shut.
           let c = above.closed shut in
@@ -295,3 +308,31 @@ joins_whole {M} b nodes crossing holds after m old new upper below lower at k be
             flag = c.flag;
           };
     }
+
+pub joins_whole : {M T : Type 0} (b : Machine M T) (nodes : Nodes M T) (crossing : CrossingNodes M T) → HoldsLaw b nodes crossing → JoinsAfterMoves b nodes crossing → JoinsWhole b nodes crossing
+joins_whole b nodes crossing holds after m old new upper below lower at k before reader s queue rest taken queued out up inlet ta tb whole pos w count above there u can link hub came all sh counts =
+    let j = can_join_is b nodes crossing upper at k lower.tree.machine rest can in
+    let reached = has_reached b nodes upper at k lower.tree.machine taken inlet ta j link hub came in
+    stands_over b nodes crossing holds m old new upper below lower at k before reader j.place s queue rest queued out up ta tb whole pos w count above there u j.straight j.there j.alone sh.same_above sh.same_below counts (λ p given same go flow.
+    let at_place = same ∙ j.there in
+    let free = over_free b nodes crossing holds m old new below lower p at k before reader j.place queue rest w j.straight at_place j.alone go u.given.reading in
+    let can_p : can_join b nodes crossing p at k lower.tree.machine rest ≡ true = ap (λ z. not (nodes.crosses lower.tree.machine) && can_join_in b crossing k rest z) same ∙ can in
+    let far : HasReached b p at k (length taken) = record { place = reached.place; there = same ∙ reached.there; reads = reached.reads } in
+    after m old new p below lower at k reader queue rest taken out given ta tb whole w.cut w.reads.held w.reads.reads can_p far all w.free free.1 free.0 sh.above sh.below flow u.given.flow)
+
+pub joins_whole_ended : {M T : Type 0} (b : Machine M T) (nodes : Nodes M T) (crossing : CrossingNodes M T) → HoldsLaw b nodes crossing → JoinsAfterEnding b nodes crossing → JoinsWholeEnded b nodes crossing
+joins_whole_ended {M} b nodes crossing holds after m old new upper below kept gone at k before reader place s queue items queued out left ending up inlet ta tb whole pos w count above there u lets carries can at_place link hub all left_is sh counts =
+    let parts = and_parts (not (nodes.crosses kept.tree.machine)) _ can in
+    let straight = is_false (nodes.crosses kept.tree.machine) parts.0 in
+    let can_here : can_rejoin_here b crossing k (length items) place.node place.below ≡ true = sym (ap (can_rejoin_in b crossing k (length items)) at_place) ∙ parts.1 in
+    let alone = ended_row place.below (and_parts (is_end place.below) _ can_here).0 in
+    let taken : HasTaken b crossing k (received_signals inlet.down) left items ending place.node = elim left_is [
+      | inl t ↦ inl (t.0, t.1, t.2, node_reached b upper at k place t.0 inlet ta at_place t.3 link hub t.1)
+      | inr t ↦ inr (t.0, t.1, t.2, t.3, t.4)
+    ] in
+    let A : List (Option Reading) → Type 0 = λ l. AllOf (λ i. i ≡ k → ⊥) l in
+    stands_over b nodes crossing holds m old new upper below kept at k before reader place s queue items queued out up ta tb whole pos w count above there u straight at_place alone sh.same_above sh.same_below counts (λ p given same go flow.
+    let there_p = same ∙ at_place in
+    let free = over_free b nodes crossing holds m old new below kept p at k before reader place queue items w straight there_p alone go u.given.reading in
+    let can_p : can_rejoin b nodes crossing p at k kept.tree.machine items ≡ true = ap (λ z. not (nodes.crosses kept.tree.machine) && can_rejoin_in b crossing k (length items) z) same ∙ can in
+    after m old new p below kept gone at k reader place queue items ending (received_signals inlet.down) left (out ++ ending ∷ []) given ta tb whole w.cut w.reads.held w.reads.reads can_p there_p taken all lets w.free free.1 (subst A (sym lets.alike.2) free.0) sh.above sh.below flow carries)

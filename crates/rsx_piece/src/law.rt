@@ -3,7 +3,7 @@
 ghost use Rattle.rsx_piece.specs.Joined.{CancelsDead, CutsBalanced, CutsReading, JoinsBalanced, JoinsReading};
 ghost use Rattle.rsx_piece.specs.Joining.{JoinsAgain, JoinsEnded, JoinsPieces};
 ghost use Rattle.rsx_piece.specs.Piece.{GivesBack, Opens};
-ghost use Rattle.rsx_piece.specs.Whole.{JoinsWhole};
+ghost use Rattle.rsx_piece.specs.Whole.{JoinsWhole, JoinsWholeEnded};
 
 use rsx_pipe::Nodes;
 use rsx_rooted::CrossingNodes;
@@ -80,12 +80,13 @@ pub fn cancels<N: Nodes>()
 
 /// Two pieces that are joined again, at an edge below the root of the upper one, are a piece: what is said of a piece is so of the joined
 /// part, since the part was cut, with the sending end of the upper one. So several edges of a part may be cut, one after the other, and
-/// joined in the reverse order.
+/// joined in the reverse order. Where the lower piece has sent its ending, that is put back first.
 ///
 /// Two things are asked for that no step tells: the joined edge counts what went over it, and a receiver over the edge that is open now
 /// was open as the part was cut.
 ///
 /// The function does nothing; its contract is the sentence.
 pub fn joins_whole<N: CrossingNodes>()
-    ensures { JoinsWhole N.Machine N.Nodes.own N.CrossingNodes.own }
+    ensures going_on { JoinsWhole N.Machine N.Nodes.own N.CrossingNodes.own }
+    ensures ended { JoinsWholeEnded N.Machine N.Nodes.own N.CrossingNodes.own }
 {}
