@@ -31,9 +31,12 @@ use Rattle.rsx_subscriber.specs.Prelude.{with_signal, Delivered, Past, region_of
 use Rattle.rsx_subscriber.specs.declared.state.SubscriptionState.TheVariants.{Open, Ended, Cancelled, Refused}
 use Rattle.rsx_sources.specs.Prelude.{Ending, HubId, HubKind, Meaning, Move, Next, Stream, SubId, Signal}
 use Rattle.rsx_graph.specs.Pumped.{HasPumped}
+use Rattle.rsx_graph.specs.Delivered.{IsAllDelivered}
 use Rattle.rsx_graph.specs.Read.{IsAllRead}
 use Rattle.rsx_graph.specs.Stands.{GraphStands, GraphState, IsAllServed, nothing}
 use Rattle.rsx_graph.specs.Steps.{no_history}
+use Rattle.rsx_graph.proofs.Delivered.{rows_delivered, taken_fewer, waits_for_one}
+use Rattle.rsx_graph.proofs.Limits.{emit_keeps, end_keeps, hub_keeps, move_keeps, moves_keep}
 use Rattle.rsx_graph.proofs.Reading.{hubs_quiet, rows_read}
 
 -- a graph of these rows, joins and regions
@@ -46,6 +49,7 @@ begun m = record {
   rows = record { taken = []; many = refl; each = refl; hub = λ i v s p a b c. cc; all = tt };
   joined = record { subs = refl; fed = λ i p e. cc };
   placed = record { roots = refl; senders = refl; fed = λ i p e. cc };
+  limits = record { accepted = tt; nodes = tt };
 }
 
 pub begun_from : {T : Type 0} (m : Meaning T) (g : GraphState T) → g ≡ nothing → GraphStands m g no_history
@@ -156,7 +160,7 @@ graph_pumped m budget old before result new after k = record {
   ends = k.1;
   lead = k.2.lead;
   same = (refl, refl, refl);
-  stands = λ h s. record { rows = k.2.stands h s.rows; joined = moved_joins m old.rows new k.0 old.joins old.feed_joins h k.2.lead s.joined; placed = moved_regions m old.rows new k.0 old.regions h k.2.lead s.placed };
+  stands = λ h s. record { rows = k.2.stands h s.rows; joined = moved_joins m old.rows new k.0 old.joins old.feed_joins h k.2.lead s.joined; placed = moved_regions m old.rows new k.0 old.regions h k.2.lead s.placed; limits = moves_keep m old.rows k.0 new k.2.lead s.limits };
   output = k.3;
 }
 
@@ -168,13 +172,22 @@ idle_served {T} m budget old new before after (Ok p) k = λ idle h s.
     rows_served any_machine tree_nodes any_laws m new h s.rows (subst P idle k.1).1
 idle_served m budget old new before after (Err e) k = tt
 
+-- each live subscriber got what it asked for, where no hub has two live members
+pub idle_delivered : {T : Type 0} (m : Meaning T) (budget : ℕ) (old : GraphState T) (new : Rows T) (before after : Delivered T) (r : Result Pumped Refusal) → length new.hubs ≤ MOST_HUBS → RowsPumped m budget old.rows before r new after →
+    IfOk r (λ p. p ≡ Idle → IsAllDelivered m (record { rows = new; joins = old.joins; feed_joins = old.feed_joins; regions = old.regions }))
+idle_delivered {T} m budget old new before after (Ok p) few k = λ idle h s one carried.
+    let P : Pumped → Type 0 = λ q. HasEnded m budget (length k.0) new (Ok q) in
+    rows_delivered m new h s.rows s.limits few (subst P idle k.1).1 (waits_for_one m new one) carried
+idle_delivered m budget old new before after (Err e) few k = tt
+
 -- and each node that reads a hub and is at rest has got all that was published there, where each hub in front of which a signal waits
 -- has one reader at most
 pub idle_read : {T : Type 0} (m : Meaning T) (budget : ℕ) (old : GraphState T) (new : Rows T) (before after : Delivered T) (r : Result Pumped Refusal) → length new.hubs ≤ MOST_HUBS → RowsPumped m budget old.rows before r new after →
     IfOk r (λ p. p ≡ Idle → IsAllRead m (record { rows = new; joins = old.joins; feed_joins = old.feed_joins; regions = old.regions }))
-idle_read {T} m budget old new before after (Ok p) few k = λ idle h s wait within.
+idle_read {T} m budget old new before after (Ok p) few k = λ idle h s wait carried.
     let P : Pumped → Type 0 = λ q. HasEnded m budget (length k.0) new (Ok q) in
-    rows_read m new h s.rows wait (hubs_quiet m new few (subst P idle k.1).1) within
+    let quiet = hubs_quiet m new few (subst P idle k.1).1 in
+    rows_read m new h s.rows wait (taken_fewer m new h s.rows s.limits.accepted quiet carried) quiet carried s.limits.nodes
 idle_read m budget old new before after (Err e) few k = tt
 
 -- ---- a refused call
@@ -212,6 +225,7 @@ emitted_graph m x i old hubs h effect known s = record {
   rows = emitted_stands any_machine m x i old.rows.hubs hubs old.rows.feeds old.rows.subs h effect known s.rows;
   joined = joins_published (Next x) i old.rows.feeds old.joins old.feed_joins h s.joined;
   placed = regions_published (Next x) i old.rows.feeds old.regions h s.placed;
+  limits = emit_keeps i.0 x old.rows.hubs hubs old.rows.feeds effect s.limits;
 }
 
 -- a hub ended, by a signal that gives any stream this ending
@@ -221,6 +235,7 @@ ended_graph m sig d i old hubs h ends effect known s = record {
   rows = ended_stands any_machine m sig d i old.rows.hubs hubs old.rows.feeds old.rows.subs h ends effect known s.rows;
   joined = joins_published sig i old.rows.feeds old.joins old.feed_joins h s.joined;
   placed = regions_published sig i old.rows.feeds old.regions h s.placed;
+  limits = end_keeps i.0 d old.rows.hubs hubs old.rows.feeds effect s.limits;
 }
 
 -- there is a hub more, with an emitter
@@ -230,6 +245,7 @@ begun_hub m k c old hubs h effect named s = record {
   rows = hub_behind any_machine m k c old.rows hubs h effect named s.rows;
   joined = joins_hub k old.rows.feeds old.joins old.feed_joins h s.joined;
   placed = regions_hub k old.rows.feeds old.regions h s.placed;
+  limits = hub_keeps k c old.rows.hubs hubs old.rows.feeds effect s.limits;
 }
 
 -- a move was made, unless it was refused
@@ -240,5 +256,6 @@ graph_made m mv sent old new (Ok o) stands effect = λ h s. record {
   rows = stands h s.rows;
   joined = made_joins m mv o sent old.rows new old.joins old.feed_joins h effect s.joined;
   placed = made_regions m mv o sent old.rows new old.regions h effect s.placed;
+  limits = move_keeps m mv old.rows new o effect s.limits;
 }
 graph_made m mv sent old new (Err e) stands effect = tt

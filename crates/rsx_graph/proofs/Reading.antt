@@ -5,7 +5,7 @@ use Rattle.rsx_graph.proofs.Laws.{any_laws}
 use Rattle.rsx_kinds.specs.Any.{any_machine}
 use Rattle.rsx_kinds.specs.Rests.{any_rests}
 use Rattle.rsx_kinds.specs.TreeLaws.{tree_ending_waits, tree_settles}
-use Rattle.rsx_graph.specs.Kinds.{IsPartQuiet, Part, AreHubsQuiet, IsAllQuiet, IsHubQuiet, name_in, AreValues, IsValue, accepts_at, accepts_in, feed_enabled, sends, sends_where, works, works_where, HubStands, IsFedBy, Rows, SourceStands, StandsFor, AllHaveRead, AllStand, all_have_room, can_accept, can_feed, Subscription, IsQuietInside, goes_out, inside_enabled, next_out, notes_of, route, HasReadAll, PartStands, Feed}
+use Rattle.rsx_graph.specs.Kinds.{IsPartQuiet, Part, AreHubsQuiet, IsAllQuiet, IsHubQuiet, name_in, all_readers, AreValues, IsValue, accepts_at, accepts_in, feed_enabled, sends, sends_where, works, works_where, HubStands, IsFedBy, Rows, SourceStands, StandsFor, AllHaveRead, AllStand, all_have_room, can_accept, can_feed, Subscription, IsQuietInside, goes_out, inside_enabled, next_out, notes_of, route, HasReadAll, PartStands, Feed}
 use Rattle.std.proofs.Common.{◌≡◌, ◌⊎◌, inl, inr, ℕ, zero, suc, ◌+◌, ◌<◌, ◌≤◌, min, Bool, true, false, ◌&&◌, ◌||◌, nat_eq, nat_le, if◌then◌else◌, List, [], ◌∷◌, ◌++◌, length, length-append, take, drop, map, slice_get, Option, Some, None, option_map, refl, sym, ap, ◌∙◌, subst, arith, append_assoc}
 use Rattle.std.specs.Option.{is_none, is_some}
 use Rattle.std.proofs.lemmas.Bool.Decides.{nat_tests}
@@ -16,7 +16,7 @@ use Rattle.rsx_graph_state.proofs.Named.{feed_named, is_number}
 use Rattle.rsx_graph_state.proofs.Values.{emitted_value, values_of}
 use Rattle.rsx_graph_state.specs.Prelude.{History, HubPast, Source, emitted, fed, has_feed, is_out, feed_of, HubState, hub_value, items_of, takes_signal, waiting, ending_taken, without, first_waiting, is_open, MOST_ACCEPTED, is_ready, takes_next}
 use Rattle.rsx_graph_state.specs.declared.TheConstants.{MOST_HUBS}
-use Rattle.rsx_subscriber.specs.Prelude.{Expr, carried, IsTaken, can_go, Past, EdgeState, Inputs, End, More', inside_node, NodeMove, Ask as NodeAsk, Send as NodeSend, Pick as NodePick, Row as NodeRow, Node}
+use Rattle.rsx_subscriber.specs.Prelude.{Expr, MOST_NODES, all_edges, carried, IsTaken, IsWithin, can_go, Past, EdgeState, Inputs, End, More', inside_node, NodeMove, Ask as NodeAsk, Send as NodeSend, Pick as NodePick, Row as NodeRow, Node}
 use Rattle.rsx_pipe.proofs.Handing.{none_value}
 use Rattle.rsx_pipe.proofs.Parts.{delivered}
 use Rattle.rsx_pipe.proofs.Signals.{some_same}
@@ -28,7 +28,8 @@ use Rattle.rsx_sources.specs.declared.machine.Machine.{Ghosts as Machine}
 use Rattle.rsx_tree.specs.Prelude.{EdgeView, edge_view, is_live, is_room_for, IsReadAt, IsRowReadAt, IsTreeReadAt, count_before, HasReadAll as HasNodeReadAll, HaveReadAll, TreeHasReadAll, offers}
 use Rattle.rsx_tree.specs.declared.edge.EdgeState.TheVariants.{Live, Ended, Closed}
 use Rattle.rsx_subscriber.proofs.Names.{numbered_name}
-use Rattle.rsx_graph.specs.Read.{AreFeedsWithin, HasOneReader, HaveAllRead, IsFeedWithin, WaitForOne, feed_waits, waits_at}
+use Rattle.rsx_graph.specs.Limits.{HaveCarriedFewer, HaveFewNodes}
+use Rattle.rsx_graph.specs.Read.{HaveAllRead, HaveTakenFewer, WaitForOne, feed_waits, waits_at}
 use Rattle.rsx_graph.proofs.Held.{AllOffer, AllOfferIn, IsHeld, Offers, PartOffers, feed_offers, sub_offers}
 
 -- ---- each node that reads a hub and is at rest has got all that was published there
@@ -112,6 +113,12 @@ emitted_whole s v w k none is waits = sym (inbox_empty s.inbox s.ending s.has_en
 
 -- ---- a hub with a feed took in its value
 
+-- no edge of a feed has carried 2^63-1 items, and each of its nodes has a number
+record IsFeedWithin {T : Type 0} (f : Feed T) : Type 0 where
+  root : f.part.root.demand.sent < UNBOUNDED
+  below : IsWithin f.part.tree
+  nodes : length (all_edges f.part) ≤ MOST_NODES
+
 -- such a feed has put out all that it can
 record IsDone {T : Type 0} (m : Meaning T) (f : Feed T) : Type 0 where
   quiet : IsQuietInside m f.part
@@ -128,7 +135,7 @@ part_quiet m part q none (NodeSend n) l = root_first (nat_eq n 0) (goes_out m pa
 part_quiet m part q none (NodePick n k) l = q (NodePick n k) l
 part_quiet m part q none (NodeRow n) l = q (NodeRow n) l
 
-signal_items : {T : Type 0} (xs : List T) (e : Ending) → items_in (map Next xs ++ ending_signals e) ≡ xs
+pub signal_items : {T : Type 0} (xs : List T) (e : Ending) → items_in (map Next xs ++ ending_signals e) ≡ xs
 signal_items [] Open = refl
 signal_items [] Done = refl
 signal_items [] (Failed c) = refl
@@ -183,12 +190,12 @@ fed_whole {T} m before more f e joins v u done st asked unclosed read value =
 
 -- ---- feeds and their hubs at rest
 
-feed_within : {T : Type 0} (fs : List (Feed T)) (i : ℕ) (f : Feed T) → AreFeedsWithin fs → feed_of fs i ≡ Some f → IsFeedWithin f
-feed_within [] i f w e = cc
-feed_within {T} (x ∷ fs) i f w e = by_test (λ q. feed_within fs i f w.1 q) (nat_eq x.hub i) e
+feed_within : {T : Type 0} (fs : List (Feed T)) (i : ℕ) (f : Feed T) → HaveCarriedFewer fs → HaveFewNodes fs → feed_of fs i ≡ Some f → IsFeedWithin f
+feed_within [] i f w n e = cc
+feed_within {T} (x ∷ fs) i f w n e = by_test (λ q. feed_within fs i f w.2 n.1 q) (nat_eq x.hub i) e
   where
     by_test : (feed_of fs i ≡ Some f → IsFeedWithin f) → (b : Bool) → (if b then Some x else feed_of fs i) ≡ Some f → IsFeedWithin f
-    by_test rest true e = let P : Feed T → Type 0 = λ y. IsFeedWithin y in subst P (some_same x f e) w.0
+    by_test rest true e = let P : Feed T → Type 0 = λ y. IsFeedWithin y in subst P (some_same x f e) (record { root = w.0; below = w.1; nodes = n.0 })
     by_test rest false e = rest e
 
 -- a feed stands somewhere among all
@@ -200,7 +207,7 @@ feed_place {T} (x ∷ fs) i f e = by_test (λ q. feed_place fs i f q) (nat_eq x.
     by_test rest true e = (zero, e)
     by_test rest false e = let k = rest e in (suc k.0, k.1)
 
-known_first : (b c : Bool) → b ≡ true → b && c ≡ false → c ≡ false
+pub known_first : (b c : Bool) → b ≡ true → b && c ≡ false → c ≡ false
 known_first true c t e = e
 known_first false c t e = cc
 
@@ -309,26 +316,28 @@ next_full {T} hub room o s is takes none = no_room s room (known_first (takes_si
 record IsAtRest {T : Type 0} (m : Meaning T) (g : Rows T) (h : History T) : Type 0 where
   stands : StandsFor m g h
   wait : WaitForOne m g
+  taken : HaveTakenFewer m g
   quiet : AreHubsQuiet m g (length g.hubs)
-  within : AreFeedsWithin g.feeds
+  carried : HaveCarriedFewer g.feeds
+  nodes : HaveFewNodes g.feeds
 
 -- what the hub with this number took in: it is held back behind that, and has not ended
 record IsHeldAt {T : Type 0} (g : Rows T) (i : ℕ) (v : Stream T) : Type 0 where
   held : IsHeld i (length v.items) g.feeds g.subs
   unended : v.ending ≡ Open
 
-hub_less : {A : Type 0} (xs : List A) (i : ℕ) (x : A) → slice_get xs i ≡ Some x → i < length xs
+pub hub_less : {A : Type 0} (xs : List A) (i : ℕ) (x : A) → slice_get xs i ≡ Some x → i < length xs
 hub_less [] i x e = cc
 hub_less (y ∷ xs) zero x e = omega arith
 hub_less (y ∷ xs) (suc i) x e = let more = hub_less xs i x e in omega (arith, more)
 
-held_at : {T : Type 0} (m : Meaning T) (g : Rows T) (i : ℕ) (v : Stream T) (s : HubState T) → IsTaken s v → HasOneReader g i s → all_have_room i g.feeds g.subs ≡ false → v.ending ≡ Open → IsHeldAt g i v
-held_at m g i v s taken one room o = record { held = record { room = room; one = one.one; less = subst (λ n. n < MOST_ACCEPTED) taken.taken.counted one.more }; unended = o }
+held_at : {T : Type 0} (m : Meaning T) (g : Rows T) (i : ℕ) (v : Stream T) (s : HubState T) → IsTaken s v → all_readers i g.feeds g.subs ≤ 1 → s.count < MOST_ACCEPTED → all_have_room i g.feeds g.subs ≡ false → v.ending ≡ Open → IsHeldAt g i v
+held_at m g i v s taken one less room o = record { held = record { room = room; one = one; less = subst (λ n. n < MOST_ACCEPTED) taken.taken.counted less }; unended = o }
 
 emitted_held : {T : Type 0} (m : Meaning T) (g : Rows T) (h : History T) (k : IsAtRest m g h) (i : ℕ) (v w : Stream T) (s : HubState T) (p : HubPast T) → HubStands m g.feeds k.stands.taken i v s p → slice_get g.hubs i ≡ Some s → SourceStands m g.feeds k.stands.taken i v s (emitted w) → waits_at m g i s ≡ true → IsHeldAt g i v
 emitted_held {T} m g h k i v w s p st there source waits =
     let inbox : is_some (waiting s) ≡ true = in_front (is_some (waiting s)) (feed_of g.feeds i) source.0 waits in
-    held_at m g i v s st.taken_in (k.wait i s there waits) (emitted_full m g i s there source.0 (k.quiet i (hub_less g.hubs i s there)).accept inbox) (inbox_open s.inbox s.ending s.has_ended v.ending st.ended st.taken_in.ending inbox)
+    held_at m g i v s st.taken_in (k.wait i s there waits) (k.taken i s there waits) (emitted_full m g i s there source.0 (k.quiet i (hub_less g.hubs i s there)).accept inbox) (inbox_open s.inbox s.ending s.has_ended v.ending st.ended st.taken_in.ending inbox)
   where
     in_front : (b : Bool) (o : Option (Feed T)) → o ≡ None → b || feed_waits m o ≡ true → b ≡ true
     in_front true o is e = refl
@@ -337,7 +346,7 @@ emitted_held {T} m g h k i v w s p st there source waits =
 
 fed_held : {T : Type 0} (m : Meaning T) (g : Rows T) (h : History T) (k : IsAtRest m g h) (i : ℕ) (v : Stream T) (s : HubState T) (p : HubPast T) (e : Expr T) (joins : List ℕ) → HubStands m g.feeds k.stands.taken i v s p → slice_get g.hubs i ≡ Some s → slice_get k.stands.taken i ≡ Some v → (source : IsFedBy m g.feeds k.stands.taken i s e joins) → goes_out m source.feed.part ≡ true → waits_at m g i s ≡ true → IsHeldAt g i v
 fed_held {T} m g h k i v s p e joins st there took source out waits =
-    let one = k.wait i s there waits in
+    let less = k.taken i s there waits in
     let quiet = k.quiet i (hub_less g.hubs i s there) in
     let here : source.feed.hub ≡ i = feed_named g.feeds i source.feed source.there in
     let going = carried_signal (edge_view source.feed.part.root) (offers any_machine m source.feed.part.tree) out in
@@ -345,11 +354,11 @@ fed_held {T} m g h k i v s p e joins st there took source out waits =
     let same : source.stands.value ≡ v = some_same source.stands.value v (sym source.stands.taken ∙ (ap (slice_get k.stands.taken) here ∙ took)) in
     let none_ended : v.ending ≡ Open = ap (λ x. x.ending) (sym same) ∙ unended_open source.stands.value.items source.stands.value.ending (source.stands.part.unended live) in
     let unended : s.ending ≡ Open = still_open s.ending s.has_ended v.ending st.taken_in.ending none_ended st.taken_in.closed source.unended in
-    let takes : takes_signal s going.0 ≡ true = takes_open s.ending s.inbox s.count going.0 unended source.empty one.more in
+    let takes : takes_signal s going.0 ≡ true = takes_open s.ending s.inbox s.count going.0 unended source.empty less in
     let root : sends m g i ≡ false = known_first (has_feed g i) (sends m g i) (has_known g i s source.feed there source.there) (quiet.feed (NodeSend 0) (omega arith)) in
     let full : can_feed m source.feed s g.feeds g.subs ≡ false = sym (ap (λ o. sends_where m g o (feed_of g.feeds i)) there ∙ ap (λ o. sends_where m g (Some s) o) source.there) ∙ root in
     let room : all_have_room source.feed.hub g.feeds g.subs ≡ false = next_full s (all_have_room source.feed.hub g.feeds g.subs) (next_out m source.feed.part) going.0 going.1 takes full in
-    held_at m g i v s st.taken_in one (ap (λ n. all_have_room n g.feeds g.subs) (sym here) ∙ room) none_ended
+    held_at m g i v s st.taken_in (k.wait i s there waits) less (ap (λ n. all_have_room n g.feeds g.subs) (sym here) ∙ room) none_ended
 
 -- ---- a hub that isn't held back took in its value
 
@@ -366,7 +375,7 @@ value_at {T} m feeds before (q ∷ ps) (v ∷ vs) (suc i) p k e =
     let Q : List (Stream T) → Type 0 = λ l. IsValue m feeds l p.source r.0 in
     (r.0, r.1, subst Q (append_assoc before (v ∷ []) (take i vs)) r.2)
 
-there_too : {A B : Type 0} (xs : List A) (ys : List B) (n : ℕ) (x : A) → length xs ≡ length ys → slice_get xs n ≡ Some x → (y : B) × (slice_get ys n ≡ Some y)
+pub there_too : {A B : Type 0} (xs : List A) (ys : List B) (n : ℕ) (x : A) → length xs ≡ length ys → slice_get xs n ≡ Some x → (y : B) × (slice_get ys n ≡ Some y)
 there_too [] ys n x l e = cc
 there_too (z ∷ xs) [] n x l e = absurd (omega (arith, l))
 there_too (z ∷ xs) (y ∷ ys) zero x l e = (y, refl)
@@ -440,7 +449,7 @@ fed_taken {T} m g h k rest i v s p e joins all there took source none value belo
     let got = feed_got m g taken published place.0 f place.1 (λ j w l q. below j w (subst (λ n. j < n) here l) q) source.stands.part.reads in
     let R : List (Stream T) → Type 0 = λ l. HasReadAll m l f.part in
     let S : Stream T → Type 0 = λ x. PartStands m (take f.hub taken) f.part e joins (signals x) in
-    let done : IsDone m f = record { quiet = feed_quiet m g i s f there source.there (k.quiet i (hub_less g.hubs i s there)); none = none; within = feed_within g.feeds i f k.within source.there } in
+    let done : IsDone m f = record { quiet = feed_quiet m g i s f there source.there (k.quiet i (hub_less g.hubs i s there)); none = none; within = feed_within g.feeds i f k.carried k.nodes source.there } in
     let is : evaluated m (values_then (take f.hub taken) (take f.hub rest)) joins e (notes_of f.part.tree) ≡ Some (published_then v u.0) = value (published_then v u.0) (values_then (take f.hub taken) (take f.hub rest)) u.1 (sym front ∙ ap (λ n. take n published) here) in
     let whole = fed_whole m (take f.hub taken) (take f.hub rest) f e joins v u.0 done (subst S same source.stands.part) source.stands.asked source.stands.unclosed (subst R front got) is in
     u.1 ∙ ap Some whole
@@ -508,7 +517,7 @@ same_value m feeds before (fed e joins) v w a b =
     let same : a.0 ≡ b.0 = some_same a.0 b.0 (sym a.1 ∙ b.1) in
     some_same v w (sym a.2 ∙ (ap (λ f. evaluated m before joins e (notes_of f.part.tree)) same ∙ b.2))
 
-same_values : {T : Type 0} (m : Meaning T) (feeds : List (Feed T)) (before : List (Stream T)) (ps : List (HubPast T)) (vs ws : List (Stream T)) → AreValues m feeds before ps vs → AreValues m feeds before ps ws → vs ≡ ws
+pub same_values : {T : Type 0} (m : Meaning T) (feeds : List (Feed T)) (before : List (Stream T)) (ps : List (HubPast T)) (vs ws : List (Stream T)) → AreValues m feeds before ps vs → AreValues m feeds before ps ws → vs ≡ ws
 same_values m feeds before [] vs ws a b = a ∙ sym b
 same_values m feeds before (p ∷ ps) [] ws a b = absurd a
 same_values m feeds before (p ∷ ps) (v ∷ vs) [] a b = absurd b
@@ -535,11 +544,11 @@ values_read {T} m g h k rest all = each_read m k.stands.taken (values_then k.sta
       | inr q ↦ inr q
     ]
 
-pub rows_read : {T : Type 0} (m : Meaning T) (g : Rows T) (h : History T) → StandsFor m g h → WaitForOne m g → AreHubsQuiet m g (length g.hubs) → AreFeedsWithin g.feeds → HaveAllRead m g h
-rows_read {T} m g h s wait quiet within published values =
+pub rows_read : {T : Type 0} (m : Meaning T) (g : Rows T) (h : History T) → StandsFor m g h → WaitForOne m g → HaveTakenFewer m g → AreHubsQuiet m g (length g.hubs) → HaveCarriedFewer g.feeds → HaveFewNodes g.feeds → HaveAllRead m g h
+rows_read {T} m g h s wait taken quiet carried nodes published values =
     let r = values_of any_machine any_laws m g h s in
     let P : List (Stream T) → Type 0 = λ l. AllHaveRead m l g.subs in
-    let k : IsAtRest m g h = record { stands = s; wait = wait; quiet = quiet; within = within } in
+    let k : IsAtRest m g h = record { stands = s; wait = wait; taken = taken; quiet = quiet; carried = carried; nodes = nodes } in
     subst P (same_values m g.feeds [] h.hubs (values_then s.taken r.rest) published r.values values) (values_read m g h k r.rest (record { many = r.many; values = r.values }))
 
 -- where no move is enabled at all, none of a hub is: each move of a feed has a name

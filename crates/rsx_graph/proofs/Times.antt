@@ -13,6 +13,7 @@ use Rattle.rsx_subscriber.specs.Prelude.{Delivered}
 use Rattle.rsx_sources.specs.Prelude.{Meaning, Move, Ask, Send, Take, Pick, Row, Accept}
 use Rattle.rsx_graph.specs.Many.{HasMadeTimes}
 use Rattle.rsx_graph.specs.Stands.{GraphState}
+use Rattle.rsx_graph.proofs.Limits.{moves_keep}
 use Rattle.rsx_graph.proofs.Kept.{moved_joins, moved_regions, names_moved, state_with}
 
 -- what the rows promise, of the graph
@@ -23,7 +24,7 @@ graph_times m mv old before (Ok k) new after x = record {
   named = x.named;
   lead = x.made.lead;
   same = (refl, refl, refl);
-  stands = λ h s. record { rows = x.made.stands h s.rows; joined = moved_joins m old.rows new x.moves old.joins old.feed_joins h x.made.lead s.joined; placed = moved_regions m old.rows new x.moves old.regions h x.made.lead s.placed };
+  stands = λ h s. record { rows = x.made.stands h s.rows; joined = moved_joins m old.rows new x.moves old.joins old.feed_joins h x.made.lead s.joined; placed = moved_regions m old.rows new x.moves old.regions h x.made.lead s.placed; limits = moves_keep m old.rows x.moves new x.made.lead s.limits };
   output = x.output;
 }
 graph_times m mv old before (Err e) new after x = tt

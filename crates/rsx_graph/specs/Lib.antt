@@ -1,7 +1,9 @@
 -- Definitions that contracts cite.
+pub mod Delivered
 pub mod Done
 pub mod InGraph
 pub mod Kinds
+pub mod Limits
 pub mod Many
 pub mod Pieces
 pub mod Pumped

@@ -1,10 +1,9 @@
 -- What the nodes that read hubs have got, where each hub in front of which a signal waits has one reader at most.
 use Rattle.rsx_graph.specs.Kinds.{AreValues, Rows, AllHaveRead, all_readers, goes_out, Feed}
-use Rattle.std.specs.Prelude.{◌≡◌, ⊤, ℕ, ◌<◌, ◌≤◌, Bool, true, false, ◌||◌, List, [], ◌∷◌, length, Option, Some, None, is_some, slice_get}
-use Rattle.rsx_demand.specs.declared.TheConstants.{UNBOUNDED}
+use Rattle.std.specs.Prelude.{◌≡◌, ℕ, ◌<◌, ◌≤◌, Bool, true, false, ◌||◌, List, [], Option, Some, None, is_some, slice_get}
 use Rattle.rsx_graph_state.specs.Prelude.{History, feed_of, HubState, waiting, MOST_ACCEPTED}
-use Rattle.rsx_subscriber.specs.Prelude.{MOST_NODES, all_edges, IsWithin}
 use Rattle.rsx_sources.specs.Prelude.{Meaning, Stream}
+use Rattle.rsx_graph.specs.Limits.{HaveCarriedFewer}
 use Rattle.rsx_graph.specs.Stands.{GraphStands, GraphState}
 
 -- ---- where a signal waits in front of a hub
@@ -18,25 +17,13 @@ feed_waits m (Some f) = goes_out m f.part
 abbrev pub waits_at : {T : Type 0} → Meaning T → Rows T → ℕ → HubState T → Bool
 waits_at m g i s = is_some (waiting s) || feed_waits m (feed_of g.feeds i)
 
--- one node at most reads a hub, of all subscriptions and feeds, and the hub has not taken in 2^63-1 items
-pub record HasOneReader {T : Type 0} (g : Rows T) (i : ℕ) (s : HubState T) : Type 0 where
-  pub one : all_readers i g.feeds g.subs ≤ 1
-  pub more : s.count < MOST_ACCEPTED
-
--- so it is with each hub in front of which a signal waits
+-- each hub in front of which a signal waits has one reader at most, of all nodes of the subscriptions and of the feeds
 abbrev pub WaitForOne : {T : Type 0} → Meaning T → Rows T → Type 0
-WaitForOne {T} m g = (i : ℕ) (s : HubState T) → slice_get g.hubs i ≡ Some s → waits_at m g i s ≡ true → HasOneReader g i s
+WaitForOne {T} m g = (i : ℕ) (s : HubState T) → slice_get g.hubs i ≡ Some s → waits_at m g i s ≡ true → all_readers i g.feeds g.subs ≤ 1
 
--- no edge of a feed has carried 2^63-1 items, and it has at most `MOST_NODES` nodes, as each has whose expression isn't refused
-pub record IsFeedWithin {T : Type 0} (f : Feed T) : Type 0 where
-  pub root : f.part.root.demand.sent < UNBOUNDED
-  pub below : IsWithin f.part.tree
-  pub nodes : length (all_edges f.part) ≤ MOST_NODES
-
--- so it is with each of these feeds
-abbrev pub AreFeedsWithin : {T : Type 0} → List (Feed T) → Type 0
-AreFeedsWithin [] = ⊤
-AreFeedsWithin (f ∷ fs) = IsFeedWithin f × AreFeedsWithin fs
+-- none of these hubs has taken in 2^63-1 items
+abbrev pub HaveTakenFewer : {T : Type 0} → Meaning T → Rows T → Type 0
+HaveTakenFewer {T} m g = (i : ℕ) (s : HubState T) → slice_get g.hubs i ≡ Some s → waits_at m g i s ≡ true → s.count < MOST_ACCEPTED
 
 -- ---- what is read
 
@@ -45,6 +32,7 @@ AreFeedsWithin (f ∷ fs) = IsFeedWithin f × AreFeedsWithin fs
 abbrev pub HaveAllRead : {T : Type 0} → Meaning T → Rows T → History T → Type 0
 HaveAllRead {T} m g h = (published : List (Stream T)) → AreValues m g.feeds [] h.hubs published → AllHaveRead m published g.subs
 
--- whatever history the graph stands for: by it each did, where each hub in front of which a signal waits has one reader at most
+-- whatever history the graph stands for: by it each did, where each hub in front of which a signal waits has one reader at most, as
+-- long as no edge of a feed has carried 2^63-1 items
 abbrev pub IsAllRead : {T : Type 0} → Meaning T → GraphState T → Type 0
-IsAllRead {T} m g = (h : History T) → GraphStands m g h → WaitForOne m g.rows → AreFeedsWithin g.rows.feeds → HaveAllRead m g.rows h
+IsAllRead {T} m g = (h : History T) → GraphStands m g h → WaitForOne m g.rows → HaveCarriedFewer g.rows.feeds → HaveAllRead m g.rows h

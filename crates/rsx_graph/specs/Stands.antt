@@ -6,6 +6,7 @@ use Rattle.rsx_graph_calls.specs.Edits.{NameHubs}
 use Rattle.rsx_graph_state.specs.Prelude.{JoinsStand, History}
 use Rattle.rsx_graph_calls.specs.Regions.{RegionLists, RegionsStand, no_regions}
 use Rattle.rsx_types.specs.Meaning.{Meaning}
+use Rattle.rsx_graph.specs.Limits.{KeepsLimits}
 
 -- its hubs, feeds and subscriptions in rows, the joins of the leaves of each subscription and of each feed, and the regions of the trees
 -- of both, in the same order
@@ -19,11 +20,12 @@ pub record GraphState (T : Type 0) : Type 0 where
 abbrev pub nothing : {T : Type 0} → GraphState T
 nothing = record { rows = record { hubs = []; feeds = []; subs = [] }; joins = []; feed_joins = []; regions = no_regions }
 
--- a graph stands for a history: its rows do, and the joins and the regions that it keeps are those of the history
+-- a graph stands for a history: its rows do, the joins and the regions that it keeps are those of the history, and it keeps its limits
 pub record GraphStands {T : Type 0} (m : Meaning T) (g : GraphState T) (h : History T) : Type 0 where
   pub rows : StandsFor m g.rows h
   pub joined : JoinsStand g.rows.feeds g.joins g.feed_joins h
   pub placed : RegionsStand g.rows.feeds g.regions h
+  pub limits : KeepsLimits g.rows.hubs g.rows.feeds
 
 -- whatever history the graph stands for, by it each live subscriber was served
 abbrev pub IsAllServed : {T : Type 0} → Meaning T → GraphState T → Type 0

@@ -14,6 +14,7 @@ ghost use Rattle.rsx_graph_calls.specs.Regions.{HasRegion, with_regions};
 ghost use Rattle.rsx_graph_calls.specs.Requests.{with_past};
 ghost use Rattle.rsx_graph_calls.specs.Subscribing.{IsSubscribeRefusal, with_subscriber};
 ghost use Rattle.rsx_graph_calls.specs.Looks.{HasTreeJoins, IsTreeLookRefusal};
+ghost use Rattle.rsx_graph.specs.Delivered.{IsAllDelivered};
 ghost use Rattle.rsx_graph.specs.Read.{IsAllRead};
 ghost use Rattle.rsx_graph.specs.Stands.{AreJoinsSame, GraphStands, IsAllServed, IsAsideSame, NameHubs-prop, nothing};
 ghost use Rattle.rsx_graph.specs.Steps.{Belongs, extended, no_history};
@@ -225,8 +226,8 @@ impl<O: Ops> Graph<O> {
     /// both hold it answers Idle. A hub that takes a signal in makes a move too, and so does each node of a hub's feed. What is
     /// delivered is put into `out`, behind what stands there.
     ///
-    /// Where it answers Idle and no hub in front of which a signal waits has two readers, each live subscriber got what it asked
-    /// for, over all that was published.
+    /// Where it answers Idle and no hub has two live readers, each live subscriber got what it asked for, over all that was
+    /// published, as long as no edge has carried 2^63 - 1 items.
     ///
     /// # Errors
     /// G8 where a growth was refused; the moves made before stand, and their deliveries are in `out`. Where no hub has a feed it
@@ -242,11 +243,15 @@ impl<O: Ops> Graph<O> {
         ensures ops { self.new.ops ≡ self.old.ops }
         ensures pumped { HasPumpedIn budget self.old out.old result self.new out.new }
 
-        // Idle means delivered.
+        // Idle means delivered: where no hub has two live members, each live subscriber got what it asked for, over all that was
+        // published.
+        ensures delivered { IfOk result (λ p. p ≡ Pumped.Idle → IsAllDelivered (O.meaning self.old.ops) (state_of self.new)) }
+
+        // Where a hub has several readers, each live subscriber did whose own nodes have got all that was published at the hubs
+        // that they read, or have a signal to offer.
         ensures served { IfOk result (λ p. p ≡ Pumped.Idle → IsAllServed (O.meaning self.old.ops) (state_of self.new)) }
 
-        // Where each hub in front of which a signal waits has one reader at most, each node that reads a hub has got all that was
-        // published there, or has a signal to offer.
+        // So have all nodes where each hub in front of which a signal waits has one reader at most.
         ensures read { IfOk result (λ p. p ≡ Pumped.Idle → IsAllRead (O.meaning self.old.ops) (state_of self.new)) }
 
         // Where no hub has a feed and no move may allocate, there is want of memory only for the list of deliveries.

@@ -9,12 +9,14 @@
 //! - [`pieces`]: [`Pieces`], of which a graph is made: `take_apart` and `put_together`.
 //! - [`replays`]: [`replay`], a list of steps from nothing, whose contract is the headline with no premise.
 //! - [`step`]: [`Step`], one edit or one move.
-//! - [`headline`], [`idle_means_delivered`] and [`read_all`]: what is proved of all graphs, each as the contract of one function.
+//! - [`headline`], [`all_delivered`], [`idle_means_delivered`] and [`read_all`]: what is proved of all graphs, each as the contract of
+//!   one function.
 //!
-//! The definitions stand in `specs/`: `Stands` (what a graph stands for), `Steps` (what has happened by steps with their answers),
-//! `Done` (what each step did), `Pumped`, `Many` (one move, made many times), `Read` (what is read of hubs), `Replayed`, `InGraph`,
-//! which puts them into words of a [`Graph`], and `Pieces`, which does so for [`Pieces`]. Those of rows of hubs, feeds and subscriptions are in `rsx_graph_state` and
-//! in the crates over it, those of one subscription in `rsx_subscriber`.
+//! The definitions stand in `specs/`: `Stands` (what a graph stands for), `Limits` (the limits that it keeps), `Steps` (what has
+//! happened by steps with their answers), `Done` (what each step did), `Pumped`, `Many` (one move, made many times), `Delivered`
+//! (idle means delivered), `Read` (what is read of hubs), `Replayed`, `InGraph`, which puts them into words of a [`Graph`], and
+//! `Pieces`, which does so for [`Pieces`]. Those of rows of hubs, feeds and subscriptions are in `rsx_graph_state` and in the crates
+//! over it, those of one subscription in `rsx_subscriber`.
 
 pub mod explain;
 pub mod graph;
@@ -26,7 +28,7 @@ pub mod replays;
 pub mod step;
 
 pub use graph::{Graph, MOST_HUBS, MOST_SUBSCRIPTIONS};
-pub use law::read_all;
+pub use law::{all_delivered, read_all};
 pub use pieces::Pieces;
 pub use replays::replay;
 pub use rsx_graph_calls::{NotEmitted, Regions};

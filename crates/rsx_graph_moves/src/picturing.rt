@@ -37,11 +37,7 @@ pub fn picture<N: Nodes<Item = T>, T: Drop>(
 }
 
 /// What the nodes of a tree do, where this is its own edge.
-fn looks_of<N: Nodes>(
-    alloc: Global,
-    root: &Edge,
-    tree: &Node<N>,
-) -> Result<Vec<NodeLook>, NoMemory>
+fn looks_of<N: Nodes>(alloc: Global, root: &Edge, tree: &Node<N>) -> Result<Vec<NodeLook>, NoMemory>
     ensures { IfOk result (λ looks. looks.items ≡ tree_looks N.Machine N.Nodes root.now tree.now) }
 {
     let mut looks = Vec::new(alloc);

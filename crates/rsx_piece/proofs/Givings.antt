@@ -13,7 +13,7 @@ use Rattle.rsx_piece.specs.Piece.{GaveAll, GaveBefore, GivesBack, HasEnded, Piec
 use Rattle.rsx_piece.proofs.Pieces.{items_more, let_go}
 
 -- the root edge counts what was sent
-counted : {T : Type 0} (up : Up T) (sent : ℕ) (queued out : List (Signal T)) → sent ≡ items_sent up → sent_signals up ≡ queued ++ out → carried_up up + items_in queued + items_in out ≡ sent
+pub counted : {T : Type 0} (up : Up T) (sent : ℕ) (queued out : List (Signal T)) → sent ≡ items_sent up → sent_signals up ≡ queued ++ out → carried_up up + items_in queued + items_in out ≡ sent
 counted up sent queued out step is =
     let all : items_in (sent_signals up) ≡ items_in queued + items_in out = ap items_in is ∙ items_more queued out in
     sums (carried_up up) (items_in queued) (items_in out) (items_in (sent_signals up)) sent step all
@@ -40,7 +40,7 @@ no_items (Next x) k = cc
 no_items Complete k = refl
 no_items (Error c) k = refl
 
-gave_before : {M T : Type 0} (b : Machine M T) (m : Meaning T) (taken : List (Stream T)) (old : Node M) (queued : List (Signal T)) (part : Part M) (up : Up T) (out : List (Signal T)) → sent_signals up ≡ queued ++ out → part.root.demand.sent ≡ items_sent up → AllGoOn (readings b old) (readings b part.tree) →
+pub gave_before : {M T : Type 0} (b : Machine M T) (m : Meaning T) (taken : List (Stream T)) (old : Node M) (queued : List (Signal T)) (part : Part M) (up : Up T) (out : List (Signal T)) → sent_signals up ≡ queued ++ out → part.root.demand.sent ≡ items_sent up → AllGoOn (readings b old) (readings b part.tree) →
     HasEnded b m taken old part out → GaveBefore b m taken old queued part up
 gave_before {M} b m taken old queued part up out is step reading k =
     let all : sent_signals up ≡ (queued ++ k.rest) ++ k.last ∷ [] = is ∙ (ap (λ l. queued ++ l) k.all ∙ sym (append_assoc queued k.rest (k.last ∷ []))) in

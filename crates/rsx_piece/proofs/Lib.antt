@@ -17,3 +17,4 @@ pub mod Reached
 pub mod Rejoining
 pub mod Serves
 pub mod Spliced
+pub mod Wholes

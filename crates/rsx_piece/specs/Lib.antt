@@ -4,3 +4,4 @@ pub mod Joined
 pub mod Joining
 pub mod Moves
 pub mod Piece
+pub mod Whole

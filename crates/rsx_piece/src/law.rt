@@ -3,6 +3,7 @@
 ghost use Rattle.rsx_piece.specs.Joined.{CancelsDead, CutsBalanced, CutsReading, JoinsBalanced, JoinsReading};
 ghost use Rattle.rsx_piece.specs.Joining.{JoinsAgain, JoinsEnded, JoinsPieces};
 ghost use Rattle.rsx_piece.specs.Piece.{GivesBack, Opens};
+ghost use Rattle.rsx_piece.specs.Whole.{JoinsWhole};
 
 use rsx_pipe::Nodes;
 use rsx_rooted::CrossingNodes;
@@ -75,4 +76,16 @@ pub fn rejoins<N: CrossingNodes>()
 /// The function does nothing; its contract is the sentence.
 pub fn cancels<N: Nodes>()
     ensures { CancelsDead N.Machine }
+{}
+
+/// Two pieces that are joined again, at an edge below the root of the upper one, are a piece: what is said of a piece is so of the joined
+/// part, since the part was cut, with the sending end of the upper one. So several edges of a part may be cut, one after the other, and
+/// joined in the reverse order.
+///
+/// Two things are asked for that no step tells: the joined edge counts what went over it, and a receiver over the edge that is open now
+/// was open as the part was cut.
+///
+/// The function does nothing; its contract is the sentence.
+pub fn joins_whole<N: CrossingNodes>()
+    ensures { JoinsWhole N.Machine N.Nodes.own N.CrossingNodes.own }
 {}

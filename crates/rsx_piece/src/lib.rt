@@ -10,11 +10,11 @@
 //! - [`outgoing`]: [`look`], [`work`] and [`send`], which a piece does at its root.
 //! - [`serving`]: [`serve`], many moves in a row, each as [`step`] makes one.
 //! - [`law`]: [`opens`], what a piece is at its opening; [`joins`], [`joins_again`] and [`joins_ended`], what two give that are joined
-//!   again; [`cuts`] and [`rejoins`], that the counts along the edges belong together through a cut and a join, and what the nodes have
+//!   again; [`joins_whole`], that these are a piece; [`cuts`] and [`rejoins`], that the counts along the edges belong together through a cut and a join, and what the nodes have
 //!   taken in; [`gives_back`], what a piece gave whose ending is put back; [`cancels`], where a link is cancelled.
 //! - [`inlet`]: [`Inlet`], what a piece has of a link that comes in, with [`Inlet::pop`] and [`Inlet::ask`].
 //!
-//! The definitions stand in `specs/`: `Piece` (what a piece stands for), `Joining` and `Joined` (what two are that are joined), `Inlet`
+//! The definitions stand in `specs/`: `Piece` (what a piece stands for), `Joining`, `Joined` and `Whole` (what two are that are joined), `Inlet`
 //! (what it has of a link that comes in) and `Moves` (what each call changes).
 
 pub mod inlet;
@@ -23,6 +23,8 @@ pub mod outgoing;
 pub mod serving;
 
 pub use inlet::Inlet;
-pub use law::{cancels, cuts, gives_back, joins, joins_again, joins_ended, opens, rejoins};
+pub use law::{
+    cancels, cuts, gives_back, joins, joins_again, joins_ended, joins_whole, opens, rejoins,
+};
 pub use outgoing::{look, send, work};
 pub use serving::{serve, step};

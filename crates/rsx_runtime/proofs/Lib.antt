@@ -1,3 +1,5 @@
+-- Lemmas.
 pub mod Fits
 pub mod Gates
 pub mod Seats
+pub mod Signals

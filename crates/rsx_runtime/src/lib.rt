@@ -5,13 +5,21 @@
 //! pokes it by [`Live::poke`]: where no other thread works on the region, this one does what there is to do there, and else leaves a
 //! note for the one that does. No call waits.
 //!
-//! So far a live graph has pieces and no hubs.
+//! A thread publishes at a hub by an [`Emitter`], and a subscriber requests, takes and cancels by a [`Tap`]; each is an end of a link
+//! of the graph.
 //!
-//! The definitions stand in `specs/Poking`.
+//! So far a live graph has pieces and no hubs, and nothing makes one of a graph: emitters and taps stand over any link.
+//!
+//! The definitions stand in `specs/`: `Poking` (what a poke does), `Emitting` and `Tapping` (what the calls of emitters and taps change),
+//! `Standing` (how a tap stands) and `Ordered` (nothing follows an ending).
 
+pub mod emitter;
 pub mod live;
+pub mod tap;
 
+pub use emitter::{Emitter, NotEnded};
 pub use live::{Live, Poked, RegionGate, RegionSeat};
+pub use tap::{Canceller, Tap, Tapped};
 
 /// How often a poke serves its region before it gives up the gate.
 pub const ROUNDS: u8 = 8;

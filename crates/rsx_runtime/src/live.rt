@@ -1,9 +1,9 @@
 //! The regions with their gates, and how a thread works on one.
 
-ghost use Rattle.std.specs.Prelude.{◌≡◌, ◌<◌, [], IfErr, IfOk, Some, length, slice_get};
+ghost use Rattle.std.specs.Prelude.{◌≡◌, ◌<◌, ⊤, [], IfErr, IfOk, Some, length, slice_get};
 ghost use Rattle.rsx_gate.specs.Machine.{founder};
 ghost use Rattle.rsx_gate.specs.Seats.{Holds, IsSeatOf, key_of};
-ghost use Rattle.rsx_region.specs.Pieces.{Each};
+ghost use Rattle.rsx_region.specs.Pieces.{Each, IsAt};
 ghost use Rattle.rsx_region.specs.Regions.{ArePiecesOf, RegionStands};
 ghost use Rattle.rsx_runtime.specs.Poking.{HasFitting, IsAmong, IsGateOf, Went};
 
@@ -96,6 +96,14 @@ impl<N: Nodes<Item = T>, T: Drop, O: Ops<Item = T>> Live<N, T, O> {
         ensures { slice_get self.now.gates.items region ≡ Some result.now }
     {
         &self.gates[usize::from(region)]
+    }
+
+    /// The link with this number.
+    pub(crate) fn link(&self, number: u32) -> &Link<T>
+        requires { IsAt self.now.links.items number (λ l. ⊤) }
+        ensures { slice_get self.now.links.items number ≡ Some result.now }
+    {
+        &self.links[number as usize]
     }
 
     /// Works on the region at this place, by a seat of its gate: where no other seat has the region, it is served by

@@ -3,6 +3,7 @@ pub mod Begun
 pub mod Delivered
 pub mod Edited
 pub mod Holds
+pub mod Lending
 pub mod Moves
 pub mod Past
 pub mod Prelude

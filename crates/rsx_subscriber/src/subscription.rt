@@ -87,6 +87,8 @@ impl<N: Nodes<Item = T> + Drop, T: Drop> Subscription<N, T> {
 // What needs no more of nodes than their type can be called at any of them, and costs a caller nothing to prove.
 impl<N, T> Subscription<N, T> {
     ghost use Rattle.std.specs.Prelude.{◌≡◌};
+    ghost use Rattle.std.specs.Borrow.{sem};
+    ghost use Rattle.rsx_subscriber.specs.Lending.{lends_part};
     ghost use Rattle.rsx_subscriber.specs.Stands.{standing_of};
 
     /// How the subscription stands.
@@ -124,6 +126,20 @@ impl<N, T> Subscription<N, T> {
         ensures { result.now ≡ self.now.part }
     {
         &self.part
+    }
+
+    /// Lends its part to be changed, for who cuts it in pieces and joins it again. When the borrow ends, the subscription has the part
+    /// that was left there, and nothing else of it changed: neither what is queued, nor where it stands, nor what it asked for and was
+    /// delivered.
+    ///
+    /// Whoever changes the part answers for what is said of a subscription in its other calls: that what was delivered, then what is
+    /// queued, and then what comes out of the part, is the value of its expression, under what its nodes recorded; and that of the root
+    /// edge as much is asked as the subscriber requested, and as much sent as was delivered and is queued.
+    pub fn part_mut(&mut self) -> &mut Part<N>
+        ensures* writes_back { sem 𝓛 (lends_part N.row T.row self.entry result) }
+        ensures value { result.now ≡ self.old.part }
+    {
+        &mut self.part
     }
 }
 

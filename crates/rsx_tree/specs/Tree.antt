@@ -7,7 +7,7 @@ use Rattle.rsx_tree.specs.declared.edge.Edge.{Edge}
 use Rattle.rsx_tree.specs.declared.edge.EdgeState.TheVariants.{Live}
 use Rattle.rsx_tree.specs.declared.inputs.Inputs.{Inputs, End, More'}
 use Rattle.rsx_tree.specs.declared.node.Node.{Node}
-use Rattle.rsx_tree.specs.Allocates.{IsAlike}
+use Rattle.rsx_tree.specs.Allocates.{IsAlike, IsNodeAlike}
 use Rattle.rsx_tree.specs.Balance.{IsBalanced, IsBalancedAfter}
 use Rattle.rsx_tree.specs.Changed.{Hold, IsChanged, IsSentOver}
 use Rattle.rsx_tree.specs.Edges.{EdgeView, asked_up_to, changed_at, closed_if}
@@ -56,8 +56,9 @@ pub record IsKept {M T : Type 0} (b : Machine M T) (m : Meaning T) (old new : No
 pub record IsLetGo {M T : Type 0} (b : Machine M T) (m : Meaning T) (old : Node M) (s : Signal T) (new : Node M) : Type 0 where
   pub offered : offers b m old ≡ Some s
   pub popped : popped b old s new
-  -- the signal came out of the root, whatever comes in below it
+  -- the signal came out of the root, whatever comes in below it, and the root's calls may allocate as before
   pub lets_go : LetsGo (b.comes_out m) old.machine s new.machine
+  pub node : IsNodeAlike b old.machine new.machine
   pub value : (hubs : List (Stream T)) (further : List Note) (at : ℕ) → comes_out b m hubs further old at ≡ option_map (signal_then s) (comes_out b m hubs further new at)
   pub notes : notes b new ≡ notes b old
   pub balance : (sent : ℕ) → IsBalanced b old sent → IsBalancedAfter b s new sent

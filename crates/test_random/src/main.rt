@@ -7,7 +7,11 @@
 //! received, and how many comparisons were equal, one for each subscriber after each move and each call. The numbers come from
 //! fixed seeds, so the lines are the same in every run. The first comparison that differs ends it with status 1 and a line
 //! that names the kind of tree, the seed and the step.
+//!
+//! Before that it writes what calls of a graph come to that are made again where memory is refused for them; with a word as its
+//! argument, this alone.
 
+mod memory;
 mod numbers;
 mod trees;
 mod trial;
@@ -17,6 +21,7 @@ use crate::trees::{KINDS, Kind, tree};
 use crate::trial::{Tally, Trial};
 use anyhow::{Result, bail};
 use std::alloc::Global;
+use std::env;
 
 /// How many trees are made of each kind.
 const TREES: u32 = 100;
@@ -56,6 +61,12 @@ fn try_kind(alloc: Global, name: &str, kind: Kind) -> Result<Tally> {
 }
 
 fn main(rt: HostRuntime) -> Result<()> {
+    let mut words = env::args(&rt)?.skip(1);
+    let has_word = words.next().is_some();
+    println!(rt; "{}", memory::report(rt.alloc())?)?;
+    if has_word {
+        return Ok(());
+    }
     for (name, kind) in &KINDS {
         let tally = try_kind(rt.alloc(), name, *kind)?;
         println!(rt;

@@ -3,7 +3,7 @@ use Rattle.rsx_sources.specs.declared.machine.Front.TheVariants.{Item, Completio
 use Rattle.rsx_graph_state.specs.Publishing.{all_have_room}
 use Rattle.rsx_hub.specs.Hub.{waiting}
 use Rattle.rsx_graph_moves.specs.Hubs.{IsFull}
-use Rattle.rsx_graph_moves.proofs.Hubs.{ending_ready, held_there, item_ready, nothing_there, ready_there}
+use Rattle.rsx_graph_moves.proofs.HubWaits.{ending_ready, held_there, item_ready, nothing_there, ready_there}
 use Rattle.rsx_graph_moves.proofs.hub.emitter_wait.Goals as goal
 
 pub returns-in-None : goal.returns-in-None

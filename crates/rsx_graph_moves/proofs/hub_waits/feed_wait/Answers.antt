@@ -5,7 +5,7 @@ use Rattle.rsx_graph_state.specs.Publishing.{all_have_room}
 use Rattle.rsx_graph_state.proofs.Places.{placed_feed}
 use Rattle.rsx_graph_moves.proofs.Named.{feeds_there}
 use Rattle.rsx_graph_moves.specs.Hubs.{IsFull}
-use Rattle.rsx_graph_moves.proofs.Hubs.{ended_there, feed_held_there, sent_there, silent_there, worked_there}
+use Rattle.rsx_graph_moves.proofs.HubWaits.{ended_there, feed_held_there, sent_there, silent_there, worked_there}
 use Rattle.rsx_graph_moves.proofs.hub.feed_wait.Goals as goal
 
 pub returns-in-Some : goal.returns-in-Some

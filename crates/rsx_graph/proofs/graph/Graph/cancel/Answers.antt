@@ -18,6 +18,7 @@ returns-clause-stands g c =
       rows = k (g.O.Ops.meaning graph.ops) graph.hubs.items graph.feeds.items h s.rows;
       joined = past_joins cancelled c.args.sub graph.feeds.items (map (λ v. v.items) graph.joins.items) (map (λ v. v.items) graph.feed_joins.items) h (λ p. refl) s.joined;
       placed = past_regions cancelled c.args.sub graph.feeds.items (regions_of graph.regions) h (λ p. refl) s.placed;
+      limits = s.limits;
     })
 
 pub returns-clause-same : goal.returns-clause-same

@@ -1,5 +1,6 @@
 use Rattle.std.proofs.Common.{map}
 use Rattle.rsx_graph.proofs.Kept.{feeds_sent, state_with}
+use Rattle.rsx_graph.proofs.Limits.{fed_hub_keeps}
 use Rattle.rsx_graph.proofs.graph.Graph.feed_hub.Goals as goal
 
 pub invariant_of-self-clause-sent : goal.invariant_of-self-clause-sent
@@ -13,6 +14,8 @@ returns-in-Ok-feed_hub-clause-stands g c = λ h s.
       rows = c.in-Ok-feed_hub.ensures.stands m graph.subscriptions.items h (rw c.deref.ensures.value at c.in-Ok.ensures.built) s.rows;
       joined = c.in-Ok-feed_hub.ensures.joins m graph.subscriptions.items (map (λ v. v.items) graph.joins.items) h s.rows s.joined;
       placed = c.in-Ok-feed_hub.ensures.regions m graph.subscriptions.items h s.rows s.placed;
+      limits = fed_hub_keeps c.args.kind c.args.capacity c.args.expr.now graph.hubs.items c.feed_hub.new.hubs.items graph.feeds.items c.feed_hub.new.feeds.items c.FINE
+      (c.in-Ok-feed_hub.ensures.effect m (rw c.deref.ensures.value at c.in-Ok.ensures.built) c.in-Ok.ensures.placed) s.limits;
     }
 
 pub returns-in-Ok-feed_hub-clause-effect : goal.returns-in-Ok-feed_hub-clause-effect

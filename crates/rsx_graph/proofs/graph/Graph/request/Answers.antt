@@ -20,6 +20,7 @@ returns-clause-stands g c =
       rows = k (g.O.Ops.meaning graph.ops) graph.hubs.items graph.feeds.items h s.rows;
       joined = past_joins (requested c.args.n) c.args.sub graph.feeds.items (map (λ v. v.items) graph.joins.items) (map (λ v. v.items) graph.feed_joins.items) h (requested_joins c.args.n) s.joined;
       placed = past_regions (requested c.args.n) c.args.sub graph.feeds.items (regions_of graph.regions) h (requested_expression c.args.n) s.placed;
+      limits = s.limits;
     })
 
 pub returns-clause-effect : goal.returns-clause-effect

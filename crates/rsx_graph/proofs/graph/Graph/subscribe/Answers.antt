@@ -1,5 +1,6 @@
 use Rattle.std.proofs.Common.{length, map}
 use Rattle.rsx_graph.proofs.Kept.{names_on, state_with}
+use Rattle.rsx_graph.proofs.Limits.{join_keeps}
 use Rattle.rsx_graph.proofs.graph.Graph.subscribe.Goals as goal
 
 pub invariant_of-self-2-clause-named : goal.invariant_of-self-2-clause-named
@@ -12,6 +13,7 @@ returns-in-Ok-subscribe-clause-stands g c = λ h s.
       rows = c.in-Ok-subscribe.ensures.stands m c.args.self.now.feeds.items h (rw c.deref.ensures.value at c.in-Ok.ensures.built) s.rows;
       joined = c.in-Ok-subscribe.ensures.joins m c.args.self.now.feeds.items (map (λ v. v.items) c.args.self.now.feed_joins.items) h s.rows s.joined;
       placed = c.in-Ok-subscribe.ensures.regions c.args.self.now.feeds.items h s.placed;
+      limits = join_keeps c.args.expr.now c.args.self.now.hubs.items c.subscribe.new.hubs.items c.args.self.now.feeds.items c.in-Ok-subscribe.ensures.joined s.limits;
     }
 
 pub returns-in-Ok-subscribe-clause-effect : goal.returns-in-Ok-subscribe-clause-effect

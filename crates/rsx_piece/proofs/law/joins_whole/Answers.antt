@@ -1,0 +1,6 @@
+use Rattle.rsx_pipe.proofs.Cuts.{after_moves}
+use Rattle.rsx_piece.proofs.Wholes.{joins_whole}
+use Rattle.rsx_piece.proofs.law.joins_whole.Goals as goal
+
+pub returns : goal.returns
+returns g c = joins_whole g.N.Machine g.N.Nodes g.N.CrossingNodes g.met.N.CrossingNodes.holds (after_moves g.N.Machine g.N.Nodes g.N.CrossingNodes g.met.N.Nodes.local g.met.N.CrossingNodes.holds g.met.N.CrossingNodes.reads_on)
