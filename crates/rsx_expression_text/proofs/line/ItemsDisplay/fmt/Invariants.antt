@@ -5,4 +5,4 @@ use Rattle.rsx_expression_text.proofs.line.ItemsDisplay.fmt.Given as goal
 
 abbrev pub invariant-loop-item : goal.invariant-loop-item
 invariant-loop-item g l =
-    IsPlainFormatter l.initial.f → HasWritten g.W.Write.write_str_gives l.initial.f (items_text (take l.item-index l.items)) l.f
+    IsPlainFormatter l.initial.f → HasWritten g.W.Write.write_str_gives l.initial.f (items_text (take l.item-index l.fn.self.0.now)) l.f
