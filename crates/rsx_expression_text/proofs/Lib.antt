@@ -1,5 +1,6 @@
 -- Lemmas of this crate.
 pub mod Back
+pub mod Drawings
 pub mod Put
 pub mod Shown
 pub mod Steps

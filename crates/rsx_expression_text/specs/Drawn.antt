@@ -1,5 +1,5 @@
 -- The drawing of an expression: its nodes in pre-order, each on a line of its own.
-use Rattle.std.specs.Prelude.{ℕ, zero, suc, ◌+◌, List, [], ◌∷◌, ◌++◌, codes}
+use Rattle.std.specs.Prelude.{ℕ, zero, suc, ◌+◌, List, [], ◌++◌, codes}
 use Rattle.std.specs.Fmt.{decimal, signed_decimal}
 use Rattle.rsx_demo.specs.declared.names.Role.TheVariants as for
 use Rattle.rsx_script.specs.Answers.{items_text}

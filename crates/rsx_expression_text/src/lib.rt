@@ -8,12 +8,12 @@
 //!
 //! The texts are defined in `specs/Text` and `specs/Drawn`, apart from what prints them.
 
-mod drawn;
+mod drawing;
 mod law;
 mod line;
 mod names;
 
-pub use drawn::drawn;
+pub use drawing::drawn;
 pub use law::reads_back;
 pub use line::Line;
 pub use names::function_name;

@@ -85,12 +85,7 @@ fn add_trees(
 }
 
 /// Adds the line of one node.
-fn add_row(
-    depth: usize,
-    number: usize,
-    expr: &Expr<Val>,
-    text: &mut String,
-) -> Result<(), NoMemory>
+fn add_row(depth: usize, number: usize, expr: &Expr<Val>, text: &mut String) -> Result<(), NoMemory>
     ensures added { OnOk result (string_bytes text.new ≡ string_bytes text.old ++ row_text depth number (tree_of expr.now)) }
     ensures longer { OnOk result (length (string_bytes text.old) < length (string_bytes text.new)) }
 {
