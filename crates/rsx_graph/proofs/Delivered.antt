@@ -4,7 +4,7 @@ use Rattle.rsx_kinds.specs.Any.{any_machine}
 use Rattle.rsx_kinds.specs.Routes.{tree_nodes}
 use Rattle.rsx_graph.proofs.Laws.{any_laws}
 use Rattle.rsx_graph.specs.Kinds.{AllHold, AreHubsQuiet, HubStands, IsAllQuiet, IsFedBy, Rows, SourceStands, StandsFor, AllHaveRead, Subscription, accepts_at, accepts_in, all_have_room, can_accept, Feed}
-use Rattle.std.proofs.Common.{◌≡◌, ℕ, zero, suc, ◌+◌, ◌<◌, ◌≤◌, Bool, true, false, ◌&&◌, ◌||◌, nat_eq, if◌then◌else◌, List, [], ◌∷◌, length, slice_get, Option, Some, None, refl, ap, sym, ◌∙◌, subst, arith, inl, inr}
+use Rattle.std.proofs.Common.{◌≡◌, ℕ, ◌+◌, ◌<◌, ◌≤◌, Bool, true, false, ◌&&◌, ◌||◌, nat_eq, if◌then◌else◌, List, [], ◌∷◌, length, slice_get, Option, Some, None, refl, ap, sym, ◌∙◌, subst, arith, inr}
 use Rattle.std.specs.Option.{is_none, is_some}
 use Rattle.rsx_demand.specs.declared.TheConstants.{UNBOUNDED}
 use Rattle.rsx_graph_moves.proofs.Serving.{rows_served}
@@ -12,7 +12,6 @@ use Rattle.rsx_graph_state.proofs.Named.{feed_named}
 use Rattle.rsx_graph_state.proofs.Values.{whole_holds}
 use Rattle.rsx_graph_state.specs.Prelude.{AllServed, History, HubPast, Source, emitted, fed, feed_of, HubState, waiting, first_waiting, is_ready, MOST_ACCEPTED}
 use Rattle.rsx_graph_state.specs.declared.TheConstants.{MOST_HUBS}
-use Rattle.rsx_hub.specs.Hub.{accepted_items}
 use Rattle.rsx_pipe.proofs.Signals.{some_same}
 use Rattle.rsx_pipe.specs.Output.{items_in}
 use Rattle.rsx_subscriber.specs.Prelude.{Expr, Past}

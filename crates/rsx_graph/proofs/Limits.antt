@@ -10,7 +10,7 @@ use Rattle.rsx_graph_moves.specs.Moves.{IsMovedInTree}
 use Rattle.rsx_graph_moves.specs.Pumped.{Made}
 use Rattle.rsx_graph_state.specs.Feeds.{IsFeedHanded}
 use Rattle.rsx_graph_state.specs.Hubs.{IsEmittedAt, IsEndedAt}
-use Rattle.rsx_graph_state.specs.Moves.{IsAcceptedAt, IsFedAt, IsFeedMoved, IsMadeInFeed, IsMovedBy, is_out}
+use Rattle.rsx_graph_state.specs.Moves.{IsAcceptedAt, IsFedAt, IsMadeInFeed, IsMovedBy, is_out}
 use Rattle.rsx_graph_state.specs.Prelude.{AllFeedsHanded, HaveJoined, MOST_ACCEPTED, fresh_hub}
 use Rattle.rsx_hub.specs.Hub.{HubState, accepted, accepted_items, accepts_items, are_numbers, emitted, ended_with, items_of, taken_in, takes_signal, waiting}
 use Rattle.rsx_hub.specs.Waiting.{first_waiting, is_open}

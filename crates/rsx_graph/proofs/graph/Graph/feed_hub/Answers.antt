@@ -14,8 +14,8 @@ returns-in-Ok-feed_hub-clause-stands g c = λ h s.
       rows = c.in-Ok-feed_hub.ensures.stands m graph.subscriptions.items h (rw c.deref.ensures.value at c.in-Ok.ensures.built) s.rows;
       joined = c.in-Ok-feed_hub.ensures.joins m graph.subscriptions.items (map (λ v. v.items) graph.joins.items) h s.rows s.joined;
       placed = c.in-Ok-feed_hub.ensures.regions m graph.subscriptions.items h s.rows s.placed;
-      limits = fed_hub_keeps c.args.kind c.args.capacity c.args.expr.now graph.hubs.items c.feed_hub.new.hubs.items graph.feeds.items c.feed_hub.new.feeds.items c.FINE
-      (c.in-Ok-feed_hub.ensures.effect m (rw c.deref.ensures.value at c.in-Ok.ensures.built) c.in-Ok.ensures.placed) s.limits;
+      limits = fed_hub_keeps c.args.kind c.args.capacity c.args.expr.now graph.hubs.items c.feed_hub.new.hubs.items graph.feeds.items c.feed_hub.new.feeds.items c.in_default.ensures.fine
+          (c.in-Ok-feed_hub.ensures.effect m (rw c.deref.ensures.value at c.in-Ok.ensures.built) c.in-Ok.ensures.placed) s.limits;
     }
 
 pub returns-in-Ok-feed_hub-clause-effect : goal.returns-in-Ok-feed_hub-clause-effect
