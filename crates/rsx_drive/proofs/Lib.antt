@@ -1,5 +1,6 @@
 -- Lemmas.
 pub mod Bytes
+pub mod Drawn
 pub mod Ending
 pub mod Lines
 pub mod Parts

@@ -38,9 +38,11 @@ fn texts(rt: HostRuntime) -> Result<(), Fail> {
 }
 
 /// Command lines, with their modes or what `clap` finds wrong.
-const COMMAND_LINES: [(&str, Result<Mode, ErrorKind>); 14] = [
+const COMMAND_LINES: [(&str, Result<Mode, ErrorKind>); 16] = [
     ("rsx run", Ok(Mode::Run)),
     ("rsx scratch", Ok(Mode::Scratch)),
+    ("rsx draw", Ok(Mode::Draw)),
+    ("rsx draw --explain", Ok(Mode::Draw)),
     ("rsx tck", Ok(Mode::Tck)),
     ("rsx tck --explain", Ok(Mode::Tck)),
     ("rsx run --explain", Ok(Mode::Run)),
