@@ -22,7 +22,7 @@ pub fn picture<N: Nodes<Item = T>, T: Drop>(
     subscriptions: &[Subscription<N, T>],
     sub: SubId,
 ) -> Result<Picture, Refusal>
-    ensures looks { IfOk result (λ picture. HasLooks N.Machine N.Nodes subscriptions.now sub picture.nodes.items) }
+    ensures looks { IfOk result (λ picture. HasLooks N.Machine N.Nodes.own subscriptions.now sub picture.nodes.items) }
     ensures err { IfErr result (λ r. IsLookRefusal (length subscriptions.now) sub r) }
 {
     let at = sub.0 as usize;
@@ -38,7 +38,7 @@ pub fn picture<N: Nodes<Item = T>, T: Drop>(
 
 /// What the nodes of a tree do, where this is its own edge.
 fn looks_of<N: Nodes>(alloc: Global, root: &Edge, tree: &Node<N>) -> Result<Vec<NodeLook>, NoMemory>
-    ensures { IfOk result (λ looks. looks.items ≡ tree_looks N.Machine N.Nodes root.now tree.now) }
+    ensures { IfOk result (λ looks. looks.items ≡ tree_looks N.Machine N.Nodes.own root.now tree.now) }
 {
     let mut looks = Vec::new(alloc);
     let look = look_at(alloc, None, root, &tree.machine)?;
@@ -54,7 +54,7 @@ fn add_row<N: Nodes>(
     receiver: u64,
     looks: &mut Vec<NodeLook>,
 ) -> Result<(), NoMemory>
-    ensures { OnOk result (looks.new.items ≡ looks.old.items ++ row_looks N.Machine N.Nodes receiver (length looks.old.items) row.now) }
+    ensures { OnOk result (looks.new.items ≡ looks.old.items ++ row_looks N.Machine N.Nodes.own receiver (length looks.old.items) row.now) }
 {
     match row {
         Inputs::End => Ok(()),
@@ -77,7 +77,7 @@ fn look_at<N: Nodes>(
     edge: &Edge,
     machine: &N,
 ) -> Result<NodeLook, NoMemory>
-    ensures { IfOk result (λ l. l ≡ look N.Machine N.Nodes receiver edge.now machine.now) }
+    ensures { IfOk result (λ l. l ≡ look N.Machine N.Nodes.own receiver edge.now machine.now) }
 {
     let note = machine.note(alloc)?;
     Ok(NodeLook {
