@@ -1,18 +1,15 @@
 #![tactic(auto)]
 //! Cuts the trees of a graph at edges that cross to another region, and joins them again.
 //!
-//! Of each expression two graphs are made, in which a hub is fed by it. The same is done to both, move by move. Before each move the
-//! second is taken apart, and the tree of each feed is cut at each edge where it can be cut, one after the other, and joined at once.
-//! Then the graph is put together again. After each move both have to be alike: what was delivered, what is still owed, and what was
-//! recorded.
-//!
-//! It writes a line for each expression, with what was done to it and whether the graphs were equal.
+//! Of each expression two graphs are made, in which a hub is fed by it, and in which it is subscribed to. The same is done to both, move
+//! by move. Before each move the second is taken apart, and the tree of each feed and of each subscription is cut at each edge where it
+//! can be cut, one after the other, and joined at once. Then the graph is put together again. After each move both have to be alike:
+//! what was delivered, what is still owed, and what was recorded. It writes a line for each expression, with what was done to it.
 
 mod cuts;
 mod trial;
 
-use crate::cuts::Tally;
-use crate::trial::compared;
+use crate::trial::{Compared, compare};
 use anyhow::Result;
 
 /// The expressions. Of the hubs that they read the first is fed by another expression, and the second has an emitter.
@@ -37,15 +34,17 @@ const EXPRESSIONS: [&'static str; 16] = [
 
 fn main(rt: HostRuntime) -> Result<()> {
     for text in &EXPRESSIONS {
-        let Tally {
-            moves,
-            cuts,
-            items,
-            refusals,
-            joins,
-        } = compared(rt.alloc(), text)?;
+        let Compared { moves, feeds, subs } = compare(rt.alloc(), text)?;
         println!(rt;
-            "{text}: {moves} moves, {cuts} cuts, {items} items in their queues, {refusals} joins refused, {joins} joins, equal"
+            "{text}: {moves} moves, equal; of feeds {} cuts with {} items queued, {} joins, {} refused; of subscriptions {} cuts with {} items queued, {} joins, {} refused",
+            feeds.cuts,
+            feeds.items,
+            feeds.joins,
+            feeds.refusals,
+            subs.cuts,
+            subs.items,
+            subs.joins,
+            subs.refusals
         )?;
     }
     Ok(())
