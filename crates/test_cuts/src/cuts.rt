@@ -1,11 +1,12 @@
-//! Cuts the parts of feeds at each edge where they can be cut, and joins them at once.
+//! Cuts the parts of feeds and of subscriptions at each edge where they can be cut, and joins them at once.
 
-ghost use Rattle.std.specs.Prelude.{◌≡◌, OnOk, map};
+ghost use Rattle.std.specs.Prelude.{◌≡◌, OnOk, length, map};
 
 use anyhow::{Result, bail};
 use rsx_graph_state::Feed;
 use rsx_hub::Member;
 use rsx_pipe::{CrossingNodes, CutOff, Part};
+use rsx_subscriber::Subscription;
 use std::alloc::Global;
 
 /// The number by which readers of a link name it. No hub of a graph has it.
@@ -17,11 +18,9 @@ const ROOM: u64 = 64;
 /// How many edges of a part are tried. No part has a node with a queue behind these.
 const EDGES: u32 = 8;
 
-/// What was done.
+/// What was done to parts.
 #[derive(Clone, Copy, Debug)]
 pub struct Tally {
-    /// Moves of a graph.
-    pub moves: u64,
     /// Cuts.
     pub cuts: u64,
     /// Items in the queues at the edges that were cut.
@@ -32,11 +31,52 @@ pub struct Tally {
     pub joins: u64,
 }
 
-/// Cuts the part of each feed at each of its first edges where it can be cut, and joins it at once.
+impl Tally {
+    /// Nothing was done.
+    pub fn new() -> Tally {
+        Tally {
+            cuts: 0,
+            items: 0,
+            refusals: 0,
+            joins: 0,
+        }
+    }
+}
+
+/// Cuts the part of each feed and of each subscription at each of its first edges where it can be cut, and joins it at once.
 ///
 /// # Errors
 /// Where a join is refused that shouldn't be, or isn't that should be, and for want of memory.
-pub fn cut_feeds<N: CrossingNodes + Drop>(
+pub fn cut_trees<N: CrossingNodes + Drop>(
+    alloc: Global,
+    feeds: &mut [Feed<N>],
+    subs: &mut [Subscription<N, N::Item>],
+    of_feeds: &mut Tally,
+    of_subs: &mut Tally,
+) -> Result<()>
+    ensures feeds { OnOk result (map (λ f. f.hub) feeds.new ≡ map (λ f. f.hub) feeds.old) }
+    ensures subs { OnOk result (length subs.new ≡ length subs.old) }
+{
+    cut_feeds(alloc, feeds, of_feeds)?;
+    cut_subscriptions(alloc, subs, of_subs)
+}
+
+/// Cuts the part of each subscription so.
+fn cut_subscriptions<N: CrossingNodes + Drop>(
+    alloc: Global,
+    subs: &mut [Subscription<N, N::Item>],
+    tally: &mut Tally,
+) -> Result<()>
+    ensures { OnOk result (length subs.new ≡ length subs.old) }
+{
+    for sub in subs.iter_mut() {
+        cut_part(alloc, sub.part_mut(), tally)?;
+    }
+    Ok(())
+}
+
+/// Cuts the part of each feed so.
+fn cut_feeds<N: CrossingNodes + Drop>(
     alloc: Global,
     feeds: &mut [Feed<N>],
     tally: &mut Tally,

@@ -1,6 +1,6 @@
 //! Two graphs of an expression, one of which is cut and joined before each move.
 
-use crate::cuts::{Tally, cut_feeds};
+use crate::cuts::{Tally, cut_trees};
 use anyhow::{Result, bail};
 use rsx_demo::{Demo, Val};
 use rsx_graph::{Deliveries, Graph, Pieces, Pumped};
@@ -25,7 +25,10 @@ const EMITTED: HubId = HubId(1);
 const OF_EXPRESSION: HubId = HubId(2);
 
 /// The subscription to what that hub publishes.
-const SUB: SubId = SubId(0);
+const TO_HUB: SubId = SubId(0);
+
+/// The subscription to the expression itself.
+const TO_EXPRESSION: SubId = SubId(1);
 
 /// The expression that feeds the first hub.
 const FIRST: &'static str = "(publishOn 1 2 (map inc (publishOn 2 2 (range 1 6))))";
@@ -33,17 +36,26 @@ const FIRST: &'static str = "(publishOn 1 2 (map inc (publishOn 2 2 (range 1 6))
 /// How many items may wait at a reader of a hub.
 const CAPACITY: u64 = 3;
 
+/// What was done to the second of two graphs.
+#[derive(Clone, Copy, Debug)]
+pub struct Compared {
+    /// How many moves it made.
+    pub moves: u64,
+    /// What was done to the parts of its feeds.
+    pub feeds: Tally,
+    /// What was done to the parts of its subscriptions.
+    pub subs: Tally,
+}
+
 /// Does the same to two graphs of an expression, of which the second is cut and joined before each move.
 ///
 /// # Errors
 /// Where they aren't alike after a move, and where the text isn't an expression.
-pub fn compared(alloc: Global, text: &str) -> Result<Tally> {
-    let mut tally = Tally {
+pub fn compare(alloc: Global, text: &str) -> Result<Compared> {
+    let mut tally = Compared {
         moves: 0,
-        cuts: 0,
-        items: 0,
-        refusals: 0,
-        joins: 0,
+        feeds: Tally::new(),
+        subs: Tally::new(),
     };
     let expr = parsed(alloc, text)?;
     let mut whole = graph_of(alloc, &expr)?;
@@ -64,35 +76,46 @@ pub fn compared(alloc: Global, text: &str) -> Result<Tally> {
 }
 
 /// The expression that this text is.
-fn parsed(alloc: Global, text: &str) -> Result<Expr<Val>> {
+///
+/// # Errors
+/// Where it isn't one.
+pub fn parsed(alloc: Global, text: &str) -> Result<Expr<Val>> {
     match parse_expression(alloc, text.as_bytes()) {
         Ok(expr) => Ok(expr),
         Err(why) => bail!("{text}: {why}"),
     }
 }
 
-/// A graph with a hub that this expression feeds, over two others, and with a subscription to what it publishes.
+/// A graph with a hub that this expression feeds, over two others, and with a subscription to what it publishes and another one to
+/// the expression itself.
 fn graph_of(alloc: Global, expr: &Expr<Val>) -> Result<Graph<Demo>> {
     let mut graph = Graph::new(alloc, Demo)?;
     graph.feed_hub(alloc, HubKind::Replay(2), CAPACITY, &parsed(alloc, FIRST)?)?;
     graph.hub(alloc, HubKind::Multicast, CAPACITY)?;
     graph.feed_hub(alloc, HubKind::Multicast, CAPACITY, expr)?;
     graph.subscribe(alloc, &Expr::Hub(OF_EXPRESSION))?;
+    graph.subscribe(alloc, expr)?;
     Ok(graph)
 }
 
-/// The same graph: taken apart, its feeds cut and joined, and put together again.
-fn cut_and_joined(alloc: Global, graph: Graph<Demo>, tally: &mut Tally) -> Result<Graph<Demo>> {
+/// The same graph: taken apart, its feeds and subscriptions cut and joined, and put together again.
+fn cut_and_joined(alloc: Global, graph: Graph<Demo>, tally: &mut Compared) -> Result<Graph<Demo>> {
     let Pieces {
         ops,
         hubs,
         mut feeds,
         feed_joins,
-        subs,
+        mut subs,
         joins,
         regions,
     } = graph.take_apart();
-    cut_feeds(alloc, &mut feeds, tally)?;
+    cut_trees(
+        alloc,
+        &mut feeds,
+        &mut subs,
+        &mut tally.feeds,
+        &mut tally.subs,
+    )?;
     let pieces = Pieces {
         ops,
         hubs,
@@ -118,7 +141,10 @@ fn advance(alloc: Global, graph: &mut Graph<Demo>, step: u32) -> Result<(Pumped,
 /// What is done to the graph before this move: items are requested and published, and at last all is completed.
 fn call(graph: &mut Graph<Demo>, step: u32) -> Result<()> {
     if step % 6 == 0 {
-        graph.request_items(SUB, 2)?;
+        graph.request_items(TO_HUB, 2)?;
+    }
+    if step % 9 == 4 {
+        graph.request_items(TO_EXPRESSION, 1)?;
     }
     if step % 8 == 3 {
         // Where the inbox is full, the number isn't published.
@@ -126,17 +152,25 @@ fn call(graph: &mut Graph<Demo>, step: u32) -> Result<()> {
     }
     if step == LAST_CALL {
         graph.complete(EMITTED)?;
-        graph.request_items(SUB, 1_000)?;
+        graph.request_items(TO_HUB, 1_000)?;
+        graph.request_items(TO_EXPRESSION, 1_000)?;
     }
     Ok(())
 }
 
 /// Whether the two graphs owe the same, and recorded the same.
 fn is_alike(alloc: Global, whole: &Graph<Demo>, cut: &Graph<Demo>) -> Result<bool> {
-    if whole.owed(alloc, SUB)? != cut.owed(alloc, SUB)? {
-        return Ok(false);
+    for sub in [TO_HUB, TO_EXPRESSION] {
+        if whole.owed(alloc, sub)? != cut.owed(alloc, sub)? {
+            return Ok(false);
+        }
     }
-    for tree in [Tree::Sub(SUB), Tree::Feed(FED), Tree::Feed(OF_EXPRESSION)] {
+    for tree in [
+        Tree::Sub(TO_HUB),
+        Tree::Sub(TO_EXPRESSION),
+        Tree::Feed(FED),
+        Tree::Feed(OF_EXPRESSION),
+    ] {
         if !are_same_notes(&whole.notes(alloc, tree)?, &cut.notes(alloc, tree)?) {
             return Ok(false);
         }
