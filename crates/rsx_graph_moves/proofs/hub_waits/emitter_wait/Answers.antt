@@ -4,7 +4,7 @@ use Rattle.rsx_graph_state.specs.Publishing.{all_have_room}
 use Rattle.rsx_hub.specs.Hub.{waiting}
 use Rattle.rsx_graph_moves.specs.Hubs.{IsFull}
 use Rattle.rsx_graph_moves.proofs.HubWaits.{ending_ready, held_there, item_ready, nothing_there, ready_there}
-use Rattle.rsx_graph_moves.proofs.hub.emitter_wait.Goals as goal
+use Rattle.rsx_graph_moves.proofs.hub_waits.emitter_wait.Goals as goal
 
 pub returns-in-None : goal.returns-in-None
 returns-in-None g c = λ m hubs there. nothing_there g.N.Machine g.N.Nodes m hubs c.args.feeds.now c.args.subscriptions.now c.args.hub c.args.state.now c.requires.unfed (sym c.in-None.is ∙ c.front.ensures)

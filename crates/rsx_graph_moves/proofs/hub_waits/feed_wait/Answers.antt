@@ -6,7 +6,7 @@ use Rattle.rsx_graph_state.proofs.Places.{placed_feed}
 use Rattle.rsx_graph_moves.proofs.Named.{feeds_there}
 use Rattle.rsx_graph_moves.specs.Hubs.{IsFull}
 use Rattle.rsx_graph_moves.proofs.HubWaits.{ended_there, feed_held_there, sent_there, silent_there, worked_there}
-use Rattle.rsx_graph_moves.proofs.hub.feed_wait.Goals as goal
+use Rattle.rsx_graph_moves.proofs.hub_waits.feed_wait.Goals as goal
 
 pub returns-in-Some : goal.returns-in-Some
 returns-in-Some g c = λ m hubs there.

@@ -4,7 +4,7 @@ use Rattle.std.proofs.lemmas.Option.{slice_get_read}
 use Rattle.rsx_graph_state.specs.Feeds.{has_room_at}
 use Rattle.rsx_graph_state.specs.Publishing.{feeds_have_room}
 use Rattle.rsx_graph_state.proofs.Handing.{every_next}
-use Rattle.rsx_graph_moves.proofs.hub.full_feed.Goals as goal
+use Rattle.rsx_graph_moves.proofs.hub_waits.full_feed.Goals as goal
 
 pub returns-then-not-has_room_for-clause-some : goal.returns-then-not-has_room_for-clause-some
 returns-then-not-has_room_for-clause-some g c =

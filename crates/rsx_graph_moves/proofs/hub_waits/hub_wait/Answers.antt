@@ -2,7 +2,7 @@ use Rattle.std.proofs.Common.{length, refl, arith}
 use Rattle.std.proofs.lemmas.Option.{slice_get_read}
 use Rattle.rsx_graph_state.proofs.Calls.{place_is}
 use Rattle.rsx_graph_state.proofs.Places.{feed_placed}
-use Rattle.rsx_graph_moves.proofs.hub.hub_wait.Goals as goal
+use Rattle.rsx_graph_moves.proofs.hub_waits.hub_wait.Goals as goal
 
 pub feed_wait-requires-clause-within : goal.feed_wait-requires-clause-within
 feed_wait-requires-clause-within g c =
