@@ -23,7 +23,7 @@ use crate::trial::{Compared, compare};
 use anyhow::Result;
 
 /// The expressions. Of the hubs that they read the first is fed by another expression, and the second has an emitter.
-const EXPRESSIONS: [&'static str; 16] = [
+const EXPRESSIONS: [&'static str; 23] = [
     "(publishOn 1 2 (range 1 6))",
     "(publishOn 0 2 (publishOn 1 2 (range 1 6)))",
     "(publishOn 1 2 (hub 0))",
@@ -40,6 +40,13 @@ const EXPRESSIONS: [&'static str; 16] = [
     "(window 2 ((scan add 0)) (publishOn 1 2 (hub 0)))",
     "(publishOn 1 2 (take 3 (publishOn 2 2 (range 1 9))))",
     "(publishOn 1 2 (map inc (publishOn 2 2 (items 1 9223372036854775807 3))))",
+    "(publishOn 1 4 (hub 0))",
+    "(publishOn 1 4 (range 1 9))",
+    "(publishOn 2 1 (range 1 5))",
+    "(publishOn 2 1024 (range 1 5))",
+    "(publishOn 15 1024 (items))",
+    "(publishOn 15 1 (zip 4 (publishOn 0 1024 (range 1 3)) (publishOn 1 2 (range 5 9))))",
+    "(buffer 10 (merge 8 (publishOn 1 8 (filter even (range 1 50))) (publishOn 0 8 (range 501 50))))",
 ];
 
 /// The expressions whose pieces are driven in turns. They read no hub.

@@ -10,7 +10,7 @@ use rsx_types::{HubId, HubKind, SubId, Tree};
 use std::alloc::Global;
 
 /// The most moves.
-const MOST_MOVES: u32 = 1_000;
+const MOST_MOVES: u32 = 10_000;
 
 /// After so many moves nothing is done to a graph but moves.
 const LAST_CALL: u32 = 60;
