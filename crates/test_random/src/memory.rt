@@ -33,8 +33,11 @@ const EDITS: u32 = 18;
 /// The first edit that publishes an item.
 const FIRST_ITEM: u32 = 12;
 
-/// How many moves one pump makes.
-const BUDGET: u32 = 40;
+/// No more moves than these are made until none is enabled.
+const MOST_MOVES: u32 = 2_000;
+
+/// No more than so many times two Sends are made.
+const MOST_SENDS: u32 = 40;
 
 /// Makes the calls, and answers what the graph owes at the end, what was recorded, and what was delivered.
 pub fn report(alloc: Global) -> Result<String> {
@@ -102,10 +105,10 @@ fn edit(alloc: Global, graph: &mut Graph<Demo>, number: u32) -> Result<()> {
     }
 }
 
-/// Makes moves until none is enabled. Those that were made before memory was refused stand.
+/// Makes moves one by one until none is enabled. One that memory is refused for is the next again, since nothing changed.
 fn pump(alloc: Global, graph: &mut Graph<Demo>, out: &mut Deliveries<Val>) -> Result<()> {
-    for round in 0..BUDGET {
-        match graph.pump(alloc, BUDGET, out) {
+    for round in 0..MOST_MOVES {
+        match graph.pump(alloc, 1, out) {
             Ok(Pumped::Idle) => return Ok(()),
             Ok(Pumped::Budget) | Err(Refusal::NoMemory) => {}
             Err(why) => bail!("a pump is refused: {why}"),
@@ -120,7 +123,7 @@ fn send_many(alloc: Global, graph: &mut Graph<Demo>, out: &mut Deliveries<Val>) 
     graph.request(sub, 5)?;
     let step = Move::Send(Tree::Sub(sub), NodeId(0));
     let mut sent = 0u32;
-    for round in 0..BUDGET {
+    for round in 0..MOST_SENDS {
         let before = looks(alloc, graph)?;
         match graph.make_many(alloc, step, 2, out) {
             Ok(count) => sent = sent.saturating_add(count),
