@@ -86,7 +86,7 @@ if [[ -x $rsx ]]; then
                     complain "growth $n of rsx $mode < $input: other lines"
                 fi
             done
-            echo "rsx $mode < $input: $growths growths, each ${step}th refused in a run of its own"
+            echo "rsx $mode < $input: $growths growths, one in $step refused, each in a run of its own"
         done
     done
 else
