@@ -72,7 +72,7 @@ leaf_local {T} m n hubs others vs k a =
     let R : List (Stream T) → Option (Stream T) = λ l. quiet k (rest (member_of n) (published_at l n.hub)) in
     ap R (hubs_in hubs vs) ∙ (ap (quiet k) (by_ending n.ending a) ∙ sym (ap R (hubs_in others vs)))
   where
-    by_ending : (e : Ending) → AgreeAt hubs others (reading_of e (record { hub = n.hub; reached = n.reached })) → items_then n.queue (behind false e (without n.reached (published_at hubs n.hub))) ≡ items_then n.queue (behind false e (without n.reached (published_at others n.hub)))
+    by_ending : (e : Ending) → AgreeAt hubs others (reading_of e (record { hub = n.hub; reached = n.reached; missed = n.missed; before = n.before })) → items_then n.queue (behind false e (without n.reached (published_at hubs n.hub))) ≡ items_then n.queue (behind false e (without n.reached (published_at others n.hub)))
     by_ending Open a = ap (λ w. items_then n.queue (without n.reached w)) a
     by_ending Done a = refl
     by_ending (Failed c) a = refl

@@ -1,7 +1,7 @@
 -- A tree gives the same over values of the hubs that agree on those that it reads; and what a run of it says of what it stands for.
 use Rattle.std.proofs.Common.{◌≡◌, inl, inr, ℕ, zero, suc, ◌+◌, List, [], ◌∷◌, ◌++◌, refl, ap, sym, ◌∙◌, subst, Option, Some, None, option_map, slice_get}
 use Rattle.rsx_sources.specs.Prelude.{Meaning, notes_then, Stream, item_then, signals, signals_then, Next, Complete, Error, Note, Signal, Reading, published_at}
-use Rattle.rsx_sources.specs.Reading.{hub_of}
+use Rattle.rsx_sources.specs.Reading.{origin_of}
 use Rattle.rsx_sources.specs.declared.machine.Machine.{Ghosts as Machine}
 use Rattle.rsx_tree.specs.declared.inputs.Inputs.{Inputs, End, More'}
 use Rattle.rsx_tree.specs.declared.node.Node.{Node}
@@ -50,8 +50,8 @@ reads_not_on P [] (n ∷ ns) h k = absurd h
 reads_not_on P (o ∷ os) [] h k = absurd h
 reads_not_on P (o ∷ os) (n ∷ ns) h k = (one o n h.0 k.0, reads_not_on P os ns h.1 k.1)
   where
-    same_hub : (r w : Reading) → Some (hub_of w) ≡ Some (hub_of r) → r.hub ≡ w.hub
-    same_hub r w e = cc
+    same_hub : (r w : Reading) → Some (origin_of w) ≡ Some (origin_of r) → r.hub ≡ w.hub
+    same_hub r w e = let same : origin_of w ≡ origin_of r = cc in ap (λ o. o.hub) (sym same)
 
     one : (o n : Option Reading) → GoesOn o n → IsOf P o → IsOf P n
     one o None g k = tt

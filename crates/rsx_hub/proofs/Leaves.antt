@@ -46,7 +46,7 @@ open_of false Open h = refl
 open_of false Done h = cc
 open_of false (Failed c) h = cc
 
-reads_after : {T : Type 0} (h a z : ℕ) (m : MemberState T) (s : Signal T) → m.ending ≡ Open → leaf_reads (leaf_of h a z (took m s)) ≡ reading_after s (record { hub = h; reached = m.reached })
+reads_after : {T : Type 0} (h a z : ℕ) (m : MemberState T) (s : Signal T) → m.ending ≡ Open → leaf_reads (leaf_of h a z (took m s)) ≡ reading_after s (record { hub = h; reached = m.reached; missed = a; before = z })
 reads_after h a z m (Next x) o = rw o refl
 reads_after h a z m Complete o = refl
 reads_after h a z m (Error c) o = refl
@@ -61,8 +61,8 @@ taken_on h a z m k s live can is value =
     let reads = takes_open m s can in
     let gone : k.gone ≡ false = ap (λ u. u.gone) is ∙ (gone_stays m s ∙ live) in
     record {
-      reading = record { hub = h; reached = m.reached };
-      read = reads_open m.gone m.ending (record { hub = h; reached = m.reached }) reads;
+      reading = record { hub = h; reached = m.reached; missed = a; before = z };
+      read = reads_open m.gone m.ending (record { hub = h; reached = m.reached; missed = a; before = z }) reads;
       reads_on = ap (λ u. leaf_reads (leaf_of h a z u)) is ∙ reads_after h a z m s (open_of m.gone m.ending reads);
       value = λ meaning inc further next.
           ap (λ u. quiet further (rest u (published_at inc.hubs h))) (member_is h a z k gone)
@@ -91,7 +91,7 @@ takes_is : {T : Type 0} (h a z : ℕ) (m : MemberState T) (s : Signal T) → m.g
 takes_is {T} h a z m s live l = by_signal s
   where
     reading : Reading
-    reading = record { hub = h; reached = m.reached }
+    reading = record { hub = h; reached = m.reached; missed = a; before = z }
 
     goes_on : is_reading m.gone m.ending ≡ is_open m.ending
     goes_on = ap (λ g. is_reading g m.ending) live
@@ -128,11 +128,11 @@ full_in (x ∷ q) n c less k none = cc
 pub leaf_full : {T : Type 0} (m : Meaning T) (n : LeafState T) (r : Reading) → leaf_reads n ≡ Some r → leaf_rooms n ≡ false → r.reached < MOST_ACCEPTED → leaf_waiting m n ≡ None → ⊥
 leaf_full {T} m n r reads full less none = by_ending n.ending reads full none
   where
-    reached_of : (h i : ℕ) (k : Reading) → Some (record { hub = h; reached = i }) ≡ Some k → i ≡ k.reached
-    reached_of h i k e = cc
+    reached_of : (h i a z : ℕ) (k : Reading) → Some (record { hub = h; reached = i; missed = a; before = z }) ≡ Some k → i ≡ k.reached
+    reached_of h i a z k e = cc
 
-    by_ending : (e : Ending) → reading_of e (record { hub = n.hub; reached = n.reached }) ≡ Some r → is_open e && ((is_nil n.queue || nat_lt (length n.queue) n.capacity) && nat_lt n.reached MOST_ACCEPTED) ≡ false → first_waiting n.queue e false ≡ None → ⊥
-    by_ending Open read k w = full_in n.queue n.reached n.capacity (subst (λ i. i < MOST_ACCEPTED) (sym (reached_of n.hub n.reached r read)) less) k w
+    by_ending : (e : Ending) → reading_of e (record { hub = n.hub; reached = n.reached; missed = n.missed; before = n.before }) ≡ Some r → is_open e && ((is_nil n.queue || nat_lt (length n.queue) n.capacity) && nat_lt n.reached MOST_ACCEPTED) ≡ false → first_waiting n.queue e false ≡ None → ⊥
+    by_ending Open read k w = full_in n.queue n.reached n.capacity (subst (λ i. i < MOST_ACCEPTED) (sym (reached_of n.hub n.reached n.missed n.before r read)) less) k w
     by_ending Done read k w = cc
     by_ending (Failed c) read k w = cc
 
@@ -148,10 +148,10 @@ published_past [] h e = refl
 published_past (w ∷ vs) zero e = absurd (omega arith)
 published_past (w ∷ vs) (suc h) e = published_past vs h (omega arith)
 
-behind_it : {T : Type 0} (e : Ending) (h n : ℕ) (inboxes hubs : List (Stream T)) (v : Stream T) → published_at inboxes h ≡ v → IsBehind (reading_of e (record { hub = h; reached = n })) inboxes hubs → behind false e (without n (published_at hubs h)) ≡ behind false e v
-behind_it Open h n inboxes hubs v is b = b ∙ is
-behind_it Done h n inboxes hubs v is b = refl
-behind_it (Failed c) h n inboxes hubs v is b = refl
+behind_it : {T : Type 0} (e : Ending) (h n a z : ℕ) (inboxes hubs : List (Stream T)) (v : Stream T) → published_at inboxes h ≡ v → IsBehind (reading_of e (record { hub = h; reached = n; missed = a; before = z })) inboxes hubs → behind false e (without n (published_at hubs h)) ≡ behind false e v
+behind_it Open h n a z inboxes hubs v is b = b ∙ is
+behind_it Done h n a z inboxes hubs v is b = refl
+behind_it (Failed c) h n a z inboxes hubs v is b = refl
 
 pub residual_is : {T E : Type 0} (meaning : Meaning T) (h a z : ℕ) (m : MemberState T) (inboxes incoming : List (Stream T)) (v : Stream T) (r : Result (Stream T) E) → m.gone ≡ false → published_at inboxes h ≡ v → IfOk r (λ u. u ≡ rest_before m v) →
     IfOk r (λ u. IsResidualOf (leaf_comes_out meaning) (λ n. Nothing) leaf_reads (leaf_of h a z m) inboxes incoming u)
@@ -161,7 +161,7 @@ residual_is {T} meaning h a z m inboxes incoming v r live is o = IfOk-weaker r (
     step u e hubs further b none =
         ap (λ k. quiet k (rest (member_of (leaf_of h a z m)) (published_at (incoming_of hubs incoming).hubs h))) none
         ∙ (ap (λ l. Some (rest (member_of (leaf_of h a z m)) (published_at l h))) (hubs_in hubs incoming)
-        ∙ ap Some (ap (items_then m.queue) (behind_it m.ending h m.reached inboxes hubs v is b) ∙ (ap (λ g. items_then m.queue (behind g m.ending v)) (sym live) ∙ sym e)))
+        ∙ ap Some (ap (items_then m.queue) (behind_it m.ending h m.reached a z inboxes hubs v is b) ∙ (ap (λ g. items_then m.queue (behind g m.ending v)) (sym live) ∙ sym e)))
 
 -- ---- counts
 

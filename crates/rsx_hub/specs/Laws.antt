@@ -17,7 +17,7 @@ pub leaf_shows : {T : Type 0} (m : Meaning T) (n : LeafState T) → leaf_shown n
 leaf_shows m n = shows_in n.queue n.ending
 
 reads_stay : {T : Type 0} (old : LeafState T) (s : Signal T) (new : LeafState T) → leaf_popped old s new → leaf_reads new ≡ leaf_reads old
-reads_stay old (Next x) new h = λ i. reading_of (h.1.gives i).ending (record { hub = sym h.0 i; reached = (h.1.gives i).reached })
+reads_stay old (Next x) new h = λ i. reading_of (h.1.gives i).ending (record { hub = sym h.0 i; reached = (h.1.gives i).reached; missed = sym h.2 i; before = sym h.3 i })
 reads_stay old Complete new h = ap leaf_reads h
 reads_stay old (Error c) new h = ap leaf_reads h
 
@@ -47,7 +47,7 @@ ends_reading_in (x ∷ xs) Open Complete r h e = cc
 ends_reading_in (x ∷ xs) Open (Error c) r h e = cc
 
 pub leaf_ends_reading : {T : Type 0} (m : Meaning T) (n : LeafState T) (s : Signal T) → leaf_waiting m n ≡ Some s → ends_input s ≡ true → leaf_reads n ≡ None
-leaf_ends_reading m n s w e = ends_reading_in n.queue n.ending s (record { hub = n.hub; reached = n.reached }) w e
+leaf_ends_reading m n s w e = ends_reading_in n.queue n.ending s (record { hub = n.hub; reached = n.reached; missed = n.missed; before = n.before }) w e
 
 -- where nothing waits, it waits for its hub
 waits_in : {T : Type 0} (q : List T) (e : Ending) (r : Reading) → first_waiting q e false ≡ None → reading_of e r ≡ Some r
@@ -59,4 +59,4 @@ waits_in (x ∷ xs) e r h = cc
 pub leaf_hungry : {T : Type 0} (m : Meaning T) (n : LeafState T) (taken : List ℕ) (asked sent : ℕ) → false ≡ false → leaf_counted n taken sent → leaf_waiting m n ≡ None → sent < asked → AreWithin taken →
     IsHungry (λ k i f. false) (λ k i a s. false) (λ k a s. false) (λ k i. false) (λ k i a s. 0) leaf_reads n taken asked sent
 leaf_hungry m n taken asked sent still counted none more within =
-    inr (inr (inr (record { hub = n.hub; reached = n.reached }, waits_in n.queue n.ending (record { hub = n.hub; reached = n.reached }) none)))
+    inr (inr (inr (record { hub = n.hub; reached = n.reached; missed = n.missed; before = n.before }, waits_in n.queue n.ending (record { hub = n.hub; reached = n.reached; missed = n.missed; before = n.before }) none)))

@@ -46,7 +46,7 @@ reading_of Done r = None
 reading_of (Failed c) r = None
 
 abbrev pub leaf_reads : {T : Type 0} → LeafState T → Option Reading
-leaf_reads n = reading_of n.ending (record { hub = n.hub; reached = n.reached })
+leaf_reads n = reading_of n.ending (record { hub = n.hub; reached = n.reached; missed = n.missed; before = n.before })
 
 -- it has room for an item where its member takes one in. That has a capacity of one at least, so while its queue is empty, only the
 -- most items that a member may take in can leave it without room

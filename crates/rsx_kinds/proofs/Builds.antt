@@ -163,7 +163,7 @@ built_hub {T} m hubs e id h mem n t is there fresh from hub_is mem_is missed bef
     read =
         let reached : n.reached ≡ h.count = ap (λ k. k.reached) (mem_is ∙ fresh) in
         let ending : n.ending ≡ ending_taken h.has_ended h.ending = ap (λ k. k.ending) (mem_is ∙ fresh) in
-        read_at (counts_of hubs) n.ending (record { hub = n.hub; reached = n.reached })
+        read_at (counts_of hubs) n.ending (record { hub = n.hub; reached = n.reached; missed = n.missed; before = n.before })
         (ap (slice_get (counts_of hubs)) hub_is ∙ (count_there hubs id.0 h there ∙ (ap (λ k. Some (count_before (ending_taken h.has_ended h.ending) k)) (sym reached) ∙ ap (λ e. Some (count_before e n.reached)) (sym ending))))
 
 -- the same of a tree that was made unless memory ran out

@@ -23,10 +23,24 @@ abbrev pub queue_of : {M T : Type 0} → Sender M T → Option (List T)
 queue_of (Direct n) = None
 queue_of (Crossing x) = unended x.tail x.queue
 
+-- the node with a queue of these items and this tail at its edge, where the edge doesn't cross
+abbrev pub with_tail : {M T : Type 0} → Tail → List T → Sender M T → Sender M T
+with_tail t q (Direct n) = Crossing (record { node = n; queue = q; tail = t })
+with_tail t q (Crossing x) = Crossing x
+
 -- the node with a queue of these items at its edge, where the edge doesn't cross
 abbrev pub with_queue : {M T : Type 0} → List T → Sender M T → Sender M T
-with_queue q (Direct n) = Crossing (record { node = n; queue = q; tail = TailOpen })
-with_queue q (Crossing x) = Crossing x
+with_queue q n = with_tail TailOpen q n
+
+-- the tail of a queue with this ending in it
+abbrev pub tail_of : Ending → Tail
+tail_of Open = TailOpen
+tail_of Done = Completion
+tail_of (Failed c) = Failure c
+
+-- the node with a queue of these items at its edge, and this ending behind them, where the edge doesn't cross
+abbrev pub with_ended_queue : {M T : Type 0} → Ending → List T → Sender M T → Sender M T
+with_ended_queue e q n = with_tail (tail_of e) q n
 
 -- the items that a node holds whose source is a hub
 abbrev pub source_held : {T : Type 0} → SourceNode T → Option (List T)

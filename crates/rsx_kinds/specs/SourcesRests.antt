@@ -17,7 +17,7 @@ leaf_in [] (Failed c) r after w none = cc
 leaf_in (x ∷ xs) e r after w none = cc
 
 leaf_rests : {T : Type 0} (m : Meaning T) (n : LeafState T) (inc : Incoming T) → leaf_waiting m n ≡ None → NothingBehind (leaf_reads n) inc.hubs → leaf_comes_out m n inc Nothing ≡ Some (ended_by Open)
-leaf_rests m n inc w none = ap Some (leaf_in n.queue n.ending (record { hub = n.hub; reached = n.reached }) (λ k. without k.reached (published_at inc.hubs k.hub)) w none)
+leaf_rests m n inc w none = ap Some (leaf_in n.queue n.ending (record { hub = n.hub; reached = n.reached; missed = n.missed; before = n.before }) (λ k. without k.reached (published_at inc.hubs k.hub)) w none)
 
 pub source_rests : {T : Type 0} (m : Meaning T) (n : SourceNode T) (inc : Incoming T) → source_waiting m n ≡ None → NothingBehind (source_reads n) inc.hubs → source_comes_out m n inc Nothing ≡ Some (ended_by Open)
 source_rests m (Items n) inc w none = cc

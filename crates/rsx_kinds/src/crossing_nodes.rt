@@ -2,7 +2,7 @@
 
 ghost use Rattle.std.specs.Prelude.{◌≡◌, ◌+◌, ◌≤◌, ◌++◌, length, true, false, IfSome, IfNone, IfErr, OnOk, OnErr};
 ghost use Rattle.rsx_kinds.specs.Crossings.{is_crossing};
-ghost use Rattle.rsx_kinds.specs.Cutting.{queue_of, with_queue};
+ghost use Rattle.rsx_kinds.specs.Cutting.{queue_of, tail_of, with_ended_queue, with_queue, with_tail};
 ghost use Rattle.rsx_types.specs.declared.limits.TheConstants.{CAPACITY};
 
 use crate::{AnyNode, Boxed, SourceNode, TreeNode};
@@ -10,19 +10,21 @@ use rsx_hub::{HubLeaf, Member};
 use rsx_queued::{ItemQueue, Queued, Sender, Tail};
 use rsx_rooted::CrossingNodes;
 use rsx_sources::{Machine, RangeNode};
-use rsx_types::NoMemory;
+use rsx_types::{Ending, NoMemory};
 use std::alloc::Global;
 
 impl<T: Drop> CrossingNodes for TreeNode<T> {
     ghost use Rattle.std.specs.Prelude.{◌≡◌, ◌+◌, ℕ, List, length, true, false, Some, IfOk, IfErr, OnOk, OnErr};
     ghost use Rattle.rsx_kinds.specs.Crossings.{is_crossing};
-    ghost use Rattle.rsx_kinds.specs.Cutting.{node_counted, node_ended, node_held, node_read_to, node_reads, queue_of, with_queue};
+    ghost use Rattle.rsx_kinds.specs.Cutting.{node_counted, node_ended, node_held, node_read_to, node_reads, queue_of, with_ended_queue, with_queue};
     ghost use Rattle.rsx_types.specs.declared.signal.Ending.TheVariants.{Open};
-    ghost use Rattle.rsx_kinds.specs.Local.{any_holds, any_reads_ended, any_reads_on, any_reads_still};
+    ghost use Rattle.rsx_kinds.specs.Local.{any_holds, any_holds_ending, any_reads_counted, any_reads_ended, any_reads_on, any_reads_still};
 
     ghost edge_queue = { queue_of };
 
     ghost queued = { with_queue };
+
+    ghost ended_queue = { with_ended_queue };
 
     ghost held = { node_held };
 
@@ -37,7 +39,7 @@ impl<T: Drop> CrossingNodes for TreeNode<T> {
         requires stays { member.gone ≡ false }
         requires open { member.ending ≡ Open }
         ensures held { IfOk result (λ n. node_held n ≡ Some member.queue) }
-        ensures reads { IfOk result (λ n. node_reads n ≡ Some (record { hub = hub; reached = member.reached })) }
+        ensures reads { IfOk result (λ n. node_reads n ≡ Some (record { hub = hub; reached = member.reached; missed = 0; before = before })) }
         ensures straight { IfOk result (λ n. is_crossing n ≡ false) }
         ensures goes_on { IfOk result (λ n. node_ended n ≡ false) }
         ensures counted { IfOk result (λ n. (taken : List ℕ) (sent : ℕ) → sent + length member.queue ≡ member.reached + before → node_counted n taken sent) }
@@ -77,7 +79,17 @@ impl<T: Drop> CrossingNodes for TreeNode<T> {
         ensures err { IfErr result (λ q. q ≡ queue) }
         ensures same { OnErr result (self.new ≡ self.old) }
     {
-        put_on(self, queue, stand_in())
+        put_on(self, queue, Tail::Open, stand_in())
+    }
+
+    fn put_ended_queue(&mut self, queue: ItemQueue<T>, ending: Ending) -> Result<(), ItemQueue<T>>
+        ensures ok { OnOk result (self.new ≡ with_ended_queue ending queue self.old) }
+        ensures enabled { OnOk result (is_crossing self.old ≡ false) }
+        ensures refused { OnErr result (is_crossing self.old ≡ true) }
+        ensures err { IfErr result (λ q. q ≡ queue) }
+        ensures same { OnErr result (self.new ≡ self.old) }
+    {
+        put_on(self, queue, tail_behind(ending), stand_in())
     }
 
     fn held_len(&self) -> Option<usize> {
@@ -87,10 +99,13 @@ impl<T: Drop> CrossingNodes for TreeNode<T> {
         }
     }
 
-    fn has_read_to_end(&self) -> bool {
+    fn read_ending(&self) -> Option<Ending> {
         match self.node() {
-            Sender::Direct(AnyNode::Source(SourceNode::Hub(leaf))) => leaf.hub().is_none(),
-            _ => false,
+            Sender::Direct(AnyNode::Source(SourceNode::Hub(leaf))) => match leaf.ending() {
+                Ending::Open => None,
+                ending => Some(ending),
+            },
+            _ => None,
         }
     }
 
@@ -102,9 +117,13 @@ impl<T: Drop> CrossingNodes for TreeNode<T> {
 
     ghost holds = { any_holds };
 
+    ghost holds_ending = { any_holds_ending };
+
     ghost reads_on = { any_reads_on };
 
     ghost reads_ended = { any_reads_ended };
+
+    ghost reads_counted = { any_reads_counted };
 
     ghost reads_still = { any_reads_still };
 }
@@ -139,13 +158,25 @@ fn take_off<M: Drop, T: Drop>(place: &mut Boxed<Sender<M, T>>, other: M) -> Opti
     }
 }
 
-/// Puts a queue at the edge of a node that has none. Meanwhile `other` stands in the node's place.
+/// The tail of a queue in which this ending is.
+fn tail_behind(ending: Ending) -> Tail
+    ensures { result ≡ tail_of ending }
+{
+    match ending {
+        Ending::Open => Tail::Open,
+        Ending::Done => Tail::Completion,
+        Ending::Failed(cause) => Tail::Failure(cause),
+    }
+}
+
+/// Puts a queue with this tail at the edge of a node that has none. Meanwhile `other` stands in the node's place.
 fn put_on<M: Drop, T: Drop>(
     place: &mut Boxed<Sender<M, T>>,
     queue: ItemQueue<T>,
+    tail: Tail,
     other: M,
 ) -> Result<(), ItemQueue<T>>
-    ensures ok { OnOk result (place.new ≡ with_queue queue place.old) }
+    ensures ok { OnOk result (place.new ≡ with_tail tail queue place.old) }
     ensures enabled { OnOk result (is_crossing place.old ≡ false) }
     ensures refused { OnErr result (is_crossing place.old ≡ true) }
     ensures err { IfErr result (λ q. q ≡ queue) }
@@ -153,11 +184,7 @@ fn put_on<M: Drop, T: Drop>(
 {
     match place.replace(Sender::Direct(other)) {
         Sender::Direct(node) => {
-            place.replace(Sender::Crossing(Queued {
-                node,
-                queue,
-                tail: Tail::Open,
-            }));
+            place.replace(Sender::Crossing(Queued { node, queue, tail }));
             Ok(())
         }
         crossing => {

@@ -12,14 +12,14 @@ use Rattle.rsx_tree.specs.Reads.{readings}
 use Rattle.rsx_tree.specs.declared.edge.Edge.{Edge}
 use Rattle.rsx_pipe.specs.Part.{Part}
 use Rattle.rsx_pipe.specs.Published.{reader_edge}
-use Rattle.rsx_link.specs.Ends.{Requests, asked_total, received_signals}
+use Rattle.rsx_link.specs.Ends.{Requests, asked_total, carried_down, received_signals}
 use Rattle.rsx_link.specs.Signals.{items_in, request_of}
 use Rattle.rsx_link.specs.Steps.{asked_of}
 use Rattle.rsx_link.specs.declared.cancel.CancelSeat.{CancelSeat}
 use Rattle.rsx_link.specs.declared.down.Down.{Down}
 use Rattle.rsx_link.specs.declared.view.Step.{Step}
 use Rattle.rsx_cut.specs.Local.{stream_of}
-use Rattle.rsx_piece.specs.Inlet.{HaveReached, LinkStands}
+use Rattle.rsx_piece.specs.Inlet.{HaveBegun, HaveReached, LinkStands}
 use Rattle.rsx_piece.specs.Moves.{IsAskedFor, IsAskedOver}
 
 asks_more : {T : Type 0} (k total : ℕ) (old new : List Step) (answer : Option (Signal T)) → k ≡ total - asked_of old → asked_of old < total → total ≤ UNBOUNDED → Requests (request_of (pos k)) old new answer → asked_of new ≡ total
@@ -44,11 +44,12 @@ asked_live {T} o e down down' seat is live all =
     let L : Bool → Type 0 = λ x. IsAskedOver x e down seat down' seat in
     subst O is (subst L (sym live) (inl all, refl))
 
-pub link_asked : {M T : Type 0} (b : Machine M T) (taken : List (Stream T)) (p : Part M) (h : ℕ) (d d' : Down T) (c : CancelSeat) (e : Edge) → received_signals d' ≡ received_signals d → Some e ≡ reader_edge b h p → asked_total d' ≡ e.demand.asked → LinkStands b taken p h d c → LinkStands b taken p h d' c
-link_asked b taken p h d d' c e received is all st = record {
+pub link_asked : {M T : Type 0} (b : Machine M T) (taken : List (Stream T)) (p : Part M) (h : ℕ) (d d' : Down T) (c : CancelSeat) (e : Edge) → received_signals d' ≡ received_signals d → carried_down d' ≡ carried_down d → Some e ≡ reader_edge b h p → asked_total d' ≡ e.demand.asked → LinkStands b taken p h d c → LinkStands b taken p h d' c
+link_asked b taken p h d d' c e received carried is all st = record {
   came = st.came ∙ ap (λ l. Some (stream_of l)) (sym received);
   one = st.one;
   reached = let R : ℕ → Type 0 = λ n. HaveReached h n (readings b p.tree) in subst R (ap items_in (sym received)) st.reached;
+  began = let R : ℕ → Type 0 = λ n. HaveBegun h n (readings b p.tree) in subst R (sym carried) st.began;
   asked = λ x k. same_edge e x d' (is ∙ k) all;
   cancelled = st.cancelled;
 }

@@ -17,7 +17,7 @@ use Rattle.rsx_cut.specs.Flow.{HoldsQueue}
 use Rattle.rsx_pipe.specs.Cutting.{Place, place_at, sender_at, with_node}
 use Rattle.rsx_pipe.specs.Part.{Part}
 use Rattle.rsx_pipe.specs.Tree.{IsBalanced}
-use Rattle.rsx_piece.specs.Joined.{is_live_over, is_open_over, is_row_live, is_row_open}
+use Rattle.rsx_piece.specs.Open.{is_live_over, is_open_over, is_row_live, is_row_open}
 use Rattle.rsx_piece.proofs.Places.{both, is_false, live_below, live_beside, live_here, live_root, live_under, not_from, open_below, open_beside, open_here, open_root, open_under, place_below, place_here, root_station, same_some, sender_below, sender_beside, sender_here, station_below, station_beside, station_here, station_root, station_under, with_below, with_here}
 
 -- ---- a row

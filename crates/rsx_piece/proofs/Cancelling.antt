@@ -14,7 +14,8 @@ use Rattle.rsx_pipe.specs.Cutting.{Place, place_at, sender_at}
 use Rattle.rsx_pipe.specs.Part.{Part}
 use Rattle.rsx_pipe.specs.Published.{reader_edge}
 use Rattle.rsx_piece.specs.Inlet.{NoneReads, OneReads}
-use Rattle.rsx_piece.specs.Joined.{CancelsDead, is_live_over, is_row_live}
+use Rattle.rsx_piece.specs.Joined.{CancelsDead}
+use Rattle.rsx_piece.specs.Open.{is_live_over, is_row_live}
 use Rattle.rsx_piece.proofs.Places.{live_below, live_beside, live_here, place_below, place_here, row_live_under, same_some, sender_below, sender_beside, sender_here}
 
 -- ---- lists of readings

@@ -23,7 +23,8 @@ use Rattle.rsx_pipe.specs.Cutting.{IsCut, Place, new_root, place_at, root_below,
 use Rattle.rsx_pipe.specs.Output.{counts_in}
 use Rattle.rsx_pipe.specs.Part.{Part}
 use Rattle.rsx_pipe.specs.Tree.{IsBalanced}
-use Rattle.rsx_piece.specs.Joined.{CutsBalanced, CutsReading, is_live_over, is_row_live}
+use Rattle.rsx_piece.specs.Joined.{CutsBalanced, CutsReading}
+use Rattle.rsx_piece.specs.Open.{is_live_over, is_row_live}
 use Rattle.rsx_piece.proofs.Balances.{put_balanced, queue_taken, under_balanced}
 use Rattle.rsx_piece.proofs.Pieces.{live_from}
 use Rattle.rsx_piece.proofs.Places.{IsThere, both, edge_station, live_below, live_beside, live_here, live_root, live_under, place_below, place_here, place_put, row_live_under, same_some, with_below, with_here}

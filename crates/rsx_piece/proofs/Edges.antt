@@ -3,6 +3,7 @@ use Rattle.std.proofs.Common.{◌≡◌, inl, inr, ℕ, suc, ◌+◌, ◌≤◌,
 use Rattle.std.specs.List.{AllZip}
 use Rattle.std.specs.Option.{option_or}
 use Rattle.rsx_sources.specs.Prelude.{Stream, Reading, reads_hub}
+use Rattle.rsx_sources.specs.Reading.{origin_of}
 use Rattle.rsx_sources.specs.declared.machine.Machine.{Ghosts as Machine}
 use Rattle.rsx_tree.specs.Edges.{EdgeView, closed_state, closed_view, edge_view, is_live}
 use Rattle.rsx_tree.specs.Handed.{reader_edge_in}
@@ -14,12 +15,12 @@ use Rattle.rsx_tree.specs.declared.edge.EdgeState.TheVariants.{Live, Closed, End
 use Rattle.rsx_tree.specs.declared.inputs.Inputs.{Inputs, End, More'}
 use Rattle.rsx_pipe.specs.Part.{Part, all_edges}
 use Rattle.rsx_pipe.specs.Published.{reader_edge}
-use Rattle.rsx_link.specs.Ends.{asked_total, received_signals}
+use Rattle.rsx_link.specs.Ends.{asked_total, carried_down, received_signals}
 use Rattle.rsx_link.specs.Signals.{items_in}
 use Rattle.rsx_link.specs.declared.cancel.CancelSeat.{CancelSeat}
 use Rattle.rsx_link.specs.declared.down.Down.{Down}
 use Rattle.rsx_cut.specs.Local.{stream_of}
-use Rattle.rsx_piece.specs.Inlet.{HaveReached, LinkStands, NoneReads, OneReads}
+use Rattle.rsx_piece.specs.Inlet.{HaveBegun, IsBegunAt, HaveReached, LinkStands, NoneReads, OneReads}
 
 -- ---- the first edge whose node reads the hub, by the two lists in pre-order
 
@@ -118,7 +119,7 @@ all_grow_then (e ∷ es) (f ∷ fs) (g ∷ gs) h k = (record { asked = more e.as
 reads_before : (h : ℕ) (r n : Option Reading) → GoesOn r n → reads_hub h n ≡ true → reads_hub h r ≡ true
 reads_before h r None g k = cc
 reads_before h None (Some w) g k = elim g [ inl e ↦ cc | inr e ↦ cc ]
-reads_before h (Some q) (Some w) g k = elim g [ inl e ↦ let same : w.hub ≡ q.hub = cc in ap (λ i. nat_eq i h) (sym same) ∙ k | inr e ↦ cc ]
+reads_before h (Some q) (Some w) g k = elim g [ inl e ↦ let same : origin_of w ≡ origin_of q = cc in ap (λ o. nat_eq o.hub h) (sym same) ∙ k | inr e ↦ cc ]
 
 no_reader : (h : ℕ) (r n : Option Reading) → GoesOn r n → reads_hub h r ≡ false → reads_hub h n ≡ false
 no_reader h r n g k = by_test (reads_hub h n) refl
@@ -149,6 +150,22 @@ one_goes h (r ∷ rs) (n ∷ ns) g k = elim k [
     by_test : (c : Bool) → reads_hub h n ≡ c → NoneReads h ns → OneReads h (n ∷ ns)
     by_test true e k = inl (e, k)
     by_test false e k = inr (e, none_one h ns k)
+
+begun_goes : (h z : ℕ) (rs ns : List (Option Reading)) → AllGoOn rs ns → HaveBegun h z rs → HaveBegun h z ns
+begun_goes h z [] [] g k = tt
+begun_goes h z [] (n ∷ ns) g k = absurd g
+begun_goes h z (r ∷ rs) [] g k = tt
+begun_goes h z (r ∷ rs) (n ∷ ns) g k = (one r n g.0 k.0, begun_goes h z rs ns g.1 k.1)
+  where
+    one : (r n : Option Reading) → GoesOn r n → IsBegunAt h z r → IsBegunAt h z n
+    one r None g k = tt
+    one None (Some w) g k = elim g [ inl e ↦ cc | inr e ↦ cc ]
+    one (Some q) (Some w) g k = elim g [
+      | inl e ↦
+          let same : origin_of w ≡ origin_of q = cc in
+          λ here. let was = k (ap (λ o. o.hub) (sym same) ∙ here) in (ap (λ o. o.missed) same ∙ was.0, ap (λ o. o.before) same ∙ was.1)
+      | inr e ↦ cc
+    ]
 
 pick_first : {A : Type 0} (c : Bool) (a : A) (o : Option A) → c ≡ true → (if c then Some a else o) ≡ Some a
 pick_first true a o e = refl
@@ -194,9 +211,9 @@ edge_there None v h = cc
 edge_there (Some e) v h = (e, refl, let k : Some (edge_view e) ≡ Some v = h in cc)
 
 -- what a piece has of a link stands on where its part changed so
-pub link_kept : {M T : Type 0} (b : Machine M T) (taken taken' : List (Stream T)) (p p' : Part M) (h : ℕ) (d d' : Down T) (c : CancelSeat) → asked_total d' ≡ asked_total d → slice_get taken' h ≡ Some (stream_of (received_signals d')) → HaveReached h (items_in (received_signals d')) (readings b p'.tree) → AllGoOn (readings b p.tree) (readings b p'.tree) → AllGrow (all_edges p) (all_edges p') →
+pub link_kept : {M T : Type 0} (b : Machine M T) (taken taken' : List (Stream T)) (p p' : Part M) (h : ℕ) (d d' : Down T) (c : CancelSeat) → asked_total d' ≡ asked_total d → carried_down d' ≡ carried_down d → slice_get taken' h ≡ Some (stream_of (received_signals d')) → HaveReached h (items_in (received_signals d')) (readings b p'.tree) → AllGoOn (readings b p.tree) (readings b p'.tree) → AllGrow (all_edges p) (all_edges p') →
     LinkStands b taken p h d c → LinkStands b taken' p' h d' c
-link_kept {M} {T} b taken taken' p p' h d d' c asked came reached goes grow st =
+link_kept {M} {T} b taken taken' p p' h d d' c asked carried came reached goes grow st =
     let was : (e : Edge) → reader_edge b h p' ≡ Some e → (w : Edge) × (reader_edge b h p ≡ Some w) × Grows (edge_view w) (edge_view e) = λ e is.
     let new : first_view h (readings b p'.tree) (all_edges p') ≡ Some (edge_view e) = sym (part_first b h p') ∙ ap (option_map edge_view) is in
     let g = first_grown h (readings b p.tree) (readings b p'.tree) (all_edges p) (all_edges p') (edge_view e) goes st.one grow new in
@@ -208,6 +225,7 @@ link_kept {M} {T} b taken taken' p p' h d d' c asked came reached goes grow st =
       came = came;
       one = one_goes h (readings b p.tree) (readings b p'.tree) goes st.one;
       reached = reached;
+      began = subst (λ z. HaveBegun h z (readings b p'.tree)) (sym carried) (begun_goes h (carried_down d) (readings b p.tree) (readings b p'.tree) goes st.began);
       asked = λ e is. let w = was e is in less (asked_total d) w.0.demand.asked e.demand.asked (asked_total d') (st.asked w.0 w.1) w.2.asked asked;
       cancelled = λ e is many. let w = was e is in w.2.dead (st.cancelled w.0 w.1 many);
     }

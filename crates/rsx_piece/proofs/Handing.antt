@@ -22,6 +22,7 @@ use Rattle.rsx_cut.specs.Local.{Begins, stream_of}
 use Rattle.rsx_piece.specs.Inlet.{replaced_at}
 use Rattle.rsx_piece.specs.Piece.{IsInStep, PieceStands}
 use Rattle.rsx_piece.proofs.Comes.{begins_next, counted_open, replaced_same, replaced_signal, stream_more}
+use Rattle.rsx_piece.proofs.Opened.{clear_then, handed_clear}
 use Rattle.rsx_piece.proofs.Pieces.{all_go_on}
 
 -- ---- a node that reads the hub counts how far it got
@@ -112,6 +113,7 @@ stands_popped {M} {T} b m taken old queued p p' u h s came came' there more one 
         unended = was.unended;
         balance = λ before all h. let C : ℕ → Type 0 = λ c. IsBalanced b p'.tree c in subst C (ap (λ e. e.demand.sent) (sym k.root)) (handed.balance p.root.demand.sent (was.balance before (all ∙ ap (λ e. e.demand.sent) k.root) h));
         reads = subst R (sym (handed_counts h s taken)) (handed.reads (counts_in taken) was.reads);
+        clear = clear_then b old p.tree p'.tree was.clear (handed_clear b h s p.tree p'.tree handed);
       };
       ended = λ e. let l = still in cc;
       closed = λ e. let l = still in cc;

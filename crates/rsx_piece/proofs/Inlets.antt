@@ -12,7 +12,7 @@ use Rattle.rsx_tree.specs.Reads.{AllGoOn, readings}
 use Rattle.rsx_pipe.specs.Feeding.{IsSentOut}
 use Rattle.rsx_pipe.specs.Part.{Part, all_edges}
 use Rattle.rsx_pipe.specs.Published.{IsHanded, readers}
-use Rattle.rsx_link.specs.Ends.{down_steps, received_signals, seen_total}
+use Rattle.rsx_link.specs.Ends.{carried_down, down_steps, received_signals, seen_total}
 use Rattle.rsx_link.specs.Signals.{items_in}
 use Rattle.rsx_link.specs.Steps.{asked_of}
 use Rattle.rsx_link.specs.declared.cancel.CancelSeat.{CancelSeat}
@@ -40,7 +40,7 @@ go_from rs ns same = let P : List (Option Reading) → Type 0 = λ l. AllGoOn rs
 pub kept_on : {M T : Type 0} (b : Machine M T) (taken : List (Stream T)) (p p' : Part M) (h : ℕ) (d : Down T) (c : CancelSeat) → readings b p'.tree ≡ readings b p.tree → AllGrow (all_edges p) (all_edges p') → LinkStands b taken p h d c → LinkStands b taken p' h d c
 kept_on b taken p p' h d c same grow st =
     let R : List (Option Reading) → Type 0 = λ l. HaveReached h (items_in (received_signals d)) l in
-    link_kept b taken taken p p' h d d c refl st.came (subst R (sym same) st.reached) (go_from (readings b p.tree) (readings b p'.tree) same) grow st
+    link_kept b taken taken p p' h d d c refl refl st.came (subst R (sym same) st.reached) (go_from (readings b p.tree) (readings b p'.tree) same) grow st
 
 -- ---- a look
 
@@ -79,20 +79,20 @@ link_sent b m taken p p' s h d c k st =
 -- ---- a signal that came
 
 -- of this link
-pub link_popped : {M T : Type 0} (b : Machine M T) (taken : List (Stream T)) (p p' : Part M) (s : Signal T) (h : ℕ) (d d' : Down T) (c : CancelSeat) → received_signals d' ≡ received_signals d ++ s ∷ [] → down_steps d' ≡ down_steps d → readers b h p ≡ 1 → IsHanded b h s p p' → LinkStands b taken p h d c → LinkStands b (replaced_at h (stream_of (received_signals d')) taken) p' h d' c
-link_popped b taken p p' s h d d' c more steps one k st =
+pub link_popped : {M T : Type 0} (b : Machine M T) (taken : List (Stream T)) (p p' : Part M) (s : Signal T) (h : ℕ) (d d' : Down T) (c : CancelSeat) → received_signals d' ≡ received_signals d ++ s ∷ [] → down_steps d' ≡ down_steps d → carried_down d' ≡ carried_down d → readers b h p ≡ 1 → IsHanded b h s p p' → LinkStands b taken p h d c → LinkStands b (replaced_at h (stream_of (received_signals d')) taken) p' h d' c
+link_popped b taken p p' s h d d' c more steps carried one k st =
     let live = read_live b h p one in
     let handed = k.tree live.0 in
     let R : ℕ → Type 0 = λ n. HaveReached h n (readings b p'.tree) in
     let count : items_in (received_signals d') ≡ items_in (received_signals d) + items_in (s ∷ []) = ap items_in more ∙ items_more (received_signals d) (s ∷ []) in
-    link_kept b taken (replaced_at h (stream_of (received_signals d')) taken) p p' h d d' c (ap asked_of steps) (replaced_there h (stream_of (received_signals d')) (stream_of (received_signals d)) taken st.came)
+    link_kept b taken (replaced_at h (stream_of (received_signals d')) taken) p p' h d d' c (ap asked_of steps) carried (replaced_there h (stream_of (received_signals d')) (stream_of (received_signals d)) taken st.came)
     (subst R (sym count) (tree_further b h (items_in (received_signals d)) s p.tree p'.tree live.1 st.one handed st.reached)) handed.reading (all_grow_from (all_edges p) (all_edges p') k.edges) st
 
 -- of another one
 pub link_beside : {M T : Type 0} (b : Machine M T) (taken : List (Stream T)) (p p' : Part M) (s : Signal T) (h j : ℕ) (came : List (Signal T)) (d : Down T) (c : CancelSeat) → (j ≡ h → ⊥) → readers b h p ≡ 1 → IsHanded b h s p p' → LinkStands b taken p j d c → LinkStands b (replaced_at h (stream_of came) taken) p' j d c
 link_beside b taken p p' s h j came d c apart one k st =
     let handed = k.tree (read_live b h p one).0 in
-    link_kept b taken (replaced_at h (stream_of came) taken) p p' j d d c refl (replaced_other h j (stream_of came) taken apart ∙ st.came) (tree_beside b h j (items_in (received_signals d)) s p.tree p'.tree apart handed st.reached) handed.reading (all_grow_from (all_edges p) (all_edges p') k.edges) st
+    link_kept b taken (replaced_at h (stream_of came) taken) p p' j d d c refl refl (replaced_other h j (stream_of came) taken apart ∙ st.came) (tree_beside b h j (items_in (received_signals d)) s p.tree p'.tree apart handed st.reached) handed.reading (all_grow_from (all_edges p) (all_edges p') k.edges) st
 
 -- where nothing came
 pub link_left : {M T : Type 0} (b : Machine M T) (taken : List (Stream T)) (p : Part M) (h j : ℕ) (came came' : List (Signal T)) (d : Down T) (c : CancelSeat) → came' ≡ came → slice_get taken h ≡ Some (stream_of came) → LinkStands b taken p j d c → LinkStands b (replaced_at h (stream_of came') taken) p j d c
@@ -101,8 +101,8 @@ link_left {M} {T} b taken p h j came came' d c same come st =
     let P : List (Stream T) → Type 0 = λ l. LinkStands b l p j d c in
     subst P (sym is) st
 
-pub link_still : {M T : Type 0} (b : Machine M T) (taken : List (Stream T)) (p : Part M) (h : ℕ) (d d' : Down T) (c : CancelSeat) → received_signals d' ≡ received_signals d → down_steps d' ≡ down_steps d → LinkStands b taken p h d c → LinkStands b (replaced_at h (stream_of (received_signals d')) taken) p h d' c
-link_still b taken p h d d' c same steps st =
+pub link_still : {M T : Type 0} (b : Machine M T) (taken : List (Stream T)) (p : Part M) (h : ℕ) (d d' : Down T) (c : CancelSeat) → received_signals d' ≡ received_signals d → down_steps d' ≡ down_steps d → carried_down d' ≡ carried_down d → LinkStands b taken p h d c → LinkStands b (replaced_at h (stream_of (received_signals d')) taken) p h d' c
+link_still b taken p h d d' c same steps carried st =
     link_left b taken p h h (received_signals d) (received_signals d') d' c same st.came
     (let R : ℕ → Type 0 = λ n. HaveReached h n (readings b p.tree) in
-    link_kept b taken taken p p h d d' c (ap asked_of steps) (st.came ∙ ap (λ l. Some (stream_of l)) (sym same)) (subst R (ap items_in (sym same)) st.reached) (go_same (readings b p.tree)) (all_grow_same (all_edges p)) st)
+    link_kept b taken taken p p h d d' c (ap asked_of steps) carried (st.came ∙ ap (λ l. Some (stream_of l)) (sym same)) (subst R (ap items_in (sym same)) st.reached) (go_same (readings b p.tree)) (all_grow_same (all_edges p)) st)

@@ -1,8 +1,7 @@
 -- Two pieces, joined again.
 use Rattle.std.proofs.Common.{◌≡◌, inl, inr, ℕ, ◌-◌, true, List, [], ◌∷◌, length, map, refl, ap, sym, ◌∙◌, subst, arith, Option, Some, None}
 use Rattle.std.specs.List.{AllByRecursion}
-use Rattle.std.specs.Prelude.{not}
-use Rattle.std.proofs.lemmas.Bool.{and_parts, cases_lt}
+use Rattle.std.proofs.lemmas.Bool.{cases_lt}
 use Rattle.rsx_sources.specs.Prelude.{Next, Reading, Stream, reads_hub}
 use Rattle.rsx_sources.specs.declared.machine.Machine.{Ghosts as Machine}
 use Rattle.rsx_rooted.specs.declared.nodes.CrossingNodes.{Ghosts as CrossingNodes}
@@ -11,10 +10,10 @@ use Rattle.rsx_tree.specs.Inputs.{size}
 use Rattle.rsx_tree.specs.Reads.{readings, row_readings}
 use Rattle.rsx_tree.specs.declared.inputs.Inputs.{Inputs, End, More'}
 use Rattle.rsx_tree.specs.declared.node.Node.{Node}
-use Rattle.rsx_pipe.specs.Cutting.{Place, is_end, place_at, sender_at}
+use Rattle.rsx_pipe.specs.Cutting.{Place, ReadsAt, place_at, sender_at}
 use Rattle.rsx_pipe.specs.Joined.{HasReached, JoinsAfterMoves}
 use Rattle.rsx_pipe.specs.Part.{Part}
-use Rattle.rsx_pipe.specs.Rejoined.{HasTaken, JoinsAfterEnding, can_rejoin_here, can_rejoin_in}
+use Rattle.rsx_pipe.specs.Rejoined.{JoinsAfterEnding}
 use Rattle.rsx_link.specs.Ends.{received_signals}
 use Rattle.rsx_link.specs.Signals.{items_in}
 use Rattle.rsx_cut.proofs.Locals.{reads_not_on}
@@ -24,9 +23,9 @@ use Rattle.rsx_piece.specs.Joining.{JoinsAgain, JoinsEnded, JoinsPieces}
 use Rattle.rsx_piece.specs.declared.inlet.Inlet.{Inlet}
 use Rattle.rsx_piece.proofs.Cutting.{HoldsLaw}
 use Rattle.rsx_piece.proofs.Pieces.{let_go}
-use Rattle.rsx_piece.proofs.Places.{is_false, place_below, place_here, same_some, sender_below, sender_beside, sender_here}
+use Rattle.rsx_piece.proofs.Places.{place_below, place_here, same_some, sender_below, sender_beside, sender_here}
 use Rattle.rsx_piece.proofs.Reached.{each_parts, eq_true}
-use Rattle.rsx_piece.proofs.Rejoining.{CanJoin, apart, can_join_is, ended_row, joined_reads_not}
+use Rattle.rsx_piece.proofs.Rejoining.{CanJoin, apart, can_join_is, joined_reads_not}
 
 pub joins_pieces : {M T : Type 0} (b : Machine M T) (nodes : Nodes M T) (crossing : CrossingNodes M T) → JoinsAfterMoves b nodes crossing → JoinsPieces b nodes crossing
 joins_pieces b nodes crossing law m old new upper below lower at k reader queue rest taken queued up between taken_above taken_below whole cut held reads can reached all free free' free_below adds none above under = (
@@ -51,7 +50,7 @@ row_each {M} b Q (More' e n p below q beside) at k place h = elim (cases_lt 0 at
   ]
 ]
 
-tree_each : {M T : Type 0} (b : Machine M T) (Q : Option Reading → Type 0) (t : Node M) (at : ℕ) (k : Place M) → place_at at t ≡ Some k → AllByRecursion Q (readings b t) → Q (b.reads k.node)
+pub tree_each : {M T : Type 0} (b : Machine M T) (Q : Option Reading → Type 0) (t : Node M) (at : ℕ) (k : Place M) → place_at at t ≡ Some k → AllByRecursion Q (readings b t) → Q (b.reads k.node)
 tree_each {M} b Q t at k place h = elim (cases_lt 0 at) [
   | inr z ↦
       let node : record { node = t.machine; below = t.inputs } ≡ k = same_some _ _ (sym (place_here at t (omega (arith, z))) ∙ place) in
@@ -60,18 +59,16 @@ tree_each {M} b Q t at k place h = elim (cases_lt 0 at) [
 ]
 
 -- what a node reads that reads the hub, and reached so much of it
-reading_is : (o : Option Reading) (h count : ℕ) → reads_hub h o ≡ true → IsReachedAt h count o → o ≡ Some (record { hub = h; reached = count })
+reading_is : (o : Option Reading) (h count : ℕ) → reads_hub h o ≡ true → IsReachedAt h count o → (r : Reading) × (o ≡ Some r) × (r.hub ≡ h) × (r.reached ≡ count)
 reading_is None h count k r = cc
-reading_is (Some x) h count k r =
-    let here : x.hub ≡ h = eq_true x.hub h k in
-    ap (λ i. Some (record { hub = i; reached = x.reached })) here ∙ ap (λ n. Some (record { hub = h; reached = n })) (r here)
+reading_is (Some x) h count k r = let here : x.hub ≡ h = eq_true x.hub h k in (x, refl, here, r here)
 
-items_next : {T : Type 0} (xs : List T) → items_in (map Next xs) ≡ length xs
+pub items_next : {T : Type 0} (xs : List T) → items_in (map Next xs) ≡ length xs
 items_next [] = refl
 items_next (x ∷ xs) = let k = items_next xs in omega (arith, k)
 
 -- of a node of the upper piece that reads the link: how far it got
-pub node_reached : {M T : Type 0} (b : Machine M T) (upper : Part M) (at k : ℕ) (place : Place M) (taken : List T) (i : Inlet T) (takens : List (Stream T)) → place_at at upper.tree ≡ Some place → reads_hub k (b.reads place.node) ≡ true → InletStands b takens upper i → i.hub ≡ k → received_signals i.down ≡ map Next taken → b.reads place.node ≡ Some (record { hub = k; reached = length taken })
+pub node_reached : {M T : Type 0} (b : Machine M T) (upper : Part M) (at k : ℕ) (place : Place M) (taken : List T) (i : Inlet T) (takens : List (Stream T)) → place_at at upper.tree ≡ Some place → reads_hub k (b.reads place.node) ≡ true → InletStands b takens upper i → i.hub ≡ k → received_signals i.down ≡ map Next taken → ReadsAt b k (length taken) place.node
 node_reached b upper at k place taken i takens there reads st hub came =
     let R : ℕ → ℕ → Type 0 = λ h n. HaveReached h n (readings b upper.tree) in
     let count : items_in (received_signals i.down) ≡ length taken = ap items_in came ∙ items_next taken in
@@ -103,24 +100,17 @@ joins_again b nodes crossing holds law m old new upper below lower at k reader q
 -- ---- where the lower piece has sent its ending
 
 pub joins_ended : {M T : Type 0} (b : Machine M T) (nodes : Nodes M T) (crossing : CrossingNodes M T) → HoldsLaw b nodes crossing → JoinsAfterEnding b nodes crossing → JoinsEnded b nodes crossing
-joins_ended {M} {T} b nodes crossing holds law m old new upper below lower at k reader place queue items queued left up between inlet taken_above taken_below whole cut held reads above under gave can there link hub all left_is free adds none =
-    let parts = and_parts (not (nodes.crosses gave.before.tree.machine)) _ can in
-    let straight = is_false (nodes.crosses gave.before.tree.machine) parts.0 in
-    let can_here : can_rejoin_here b crossing k (length items) place.node place.below ≡ true = sym (ap (can_rejoin_in b crossing k (length items)) there) ∙ parts.1 in
-    let alone = ended_row place.below (and_parts (is_end place.below) _ can_here).0 in
+joins_ended b nodes crossing holds law m old new upper below lower at k reader queue items taken queued up between inlet taken_above taken_below whole cut held reads above under gave can link hub came all free adds none =
+    let j = can_join_is b nodes crossing upper at k gave.before.tree.machine items can in
     let gone = let_go b m gave.before gave.last lower gave.put_back in
     let none_reads = apart b nodes crossing holds m old new upper below gave.before at k reader queue cut free above.reading gave.given.reading in
-    let free' = joined_reads_not b nodes crossing holds m upper below gave.before at k place items straight there alone none_reads in
-    let A : List (Option Reading) → Type 0 = λ l. AllOf (λ i. i ≡ k → ⊥) l in
-    let taken : HasTaken b crossing k (received_signals inlet.down) left items gave.last place.node = elim left_is [
-      | inl t ↦ inl (t.0, t.1, t.2, node_reached b upper at k place t.0 inlet taken_above there t.3 link hub t.1)
-      | inr t ↦ inr (t.0, t.1, t.2, t.3, t.4)
-    ] in (
+    let free' = joined_reads_not b nodes crossing holds m upper below gave.before at k j.place items j.straight j.there j.alone none_reads in
+    let reached = has_reached b nodes upper at k gave.before.tree.machine taken inlet taken_above j link hub came in
+    let A : List (Option Reading) → Type 0 = λ l. AllOf (λ i. i ≡ k → ⊥) l in (
       free',
       (
         above.out,
         above.sent,
-        law m old new upper below gave.before lower at k reader place queue items gave.last (received_signals inlet.down) left under.out above.out taken_above taken_below whole cut held reads can there taken (all ∙ under.sent) gone free free'
-            (subst A (sym gone.alike.2) none_reads.now_below) adds none above.flow under.flow,
+        law m old new upper below gave.before lower at k reader queue items taken gave.last under.out above.out taken_above taken_below whole cut held reads can reached (all ∙ under.sent) gone free free' (subst A (sym gone.alike.2) none_reads.now_below) adds none above.flow under.flow,
       ),
     )

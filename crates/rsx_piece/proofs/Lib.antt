@@ -1,7 +1,9 @@
 pub mod Asks
 pub mod Balances
 pub mod Cancelling
+pub mod Cleared
 pub mod Comes
+pub mod Counted
 pub mod Cutting
 pub mod Edges
 pub mod Givings
@@ -10,6 +12,7 @@ pub mod Handing
 pub mod Inlets
 pub mod Joinings
 pub mod Looks
+pub mod Opened
 pub mod Openings
 pub mod Pieces
 pub mod Places

@@ -25,6 +25,7 @@ use Rattle.rsx_cut.proofs.Moves.{flows_chosen}
 use Rattle.rsx_cut.specs.Local.{Begins}
 use Rattle.rsx_cut.specs.Regions.{Carries}
 use Rattle.rsx_piece.specs.Moves.{IsLooked}
+use Rattle.rsx_piece.specs.Open.{WasClear}
 use Rattle.rsx_piece.specs.Piece.{IsInStep, PieceStands}
 
 -- ---- what is asked
@@ -54,6 +55,7 @@ stands_asked {M} {T} b m taken old queued p p' u u' live tree state sent step sa
     let B : Node M → Type 0 = λ t. IsBalanced b t p.root.demand.sent in
     let S : ℕ → Type 0 = λ k. IsBalanced b p'.tree k in
     let A : Node M → Type 0 = λ t. IsTreeReadAt b (counts_in taken) t in
+    let W : Node M → Type 0 = λ t. WasClear b old t in
     let still : p'.root.state ≡ Live = state ∙ live in
     record {
       out = h.out;
@@ -61,7 +63,7 @@ stands_asked {M} {T} b m taken old queued p p' u u' live tree state sent step sa
       flow = subst C (sym tree) h.flow;
       step = step;
       reading = subst R (sym tree) h.reading;
-      live = λ _. record { unended = was.unended; balance = λ before all k. subst S (sym sent) (subst B (sym tree) (was.balance before (all ∙ sent) k)); reads = subst A (sym tree) was.reads };
+      live = λ _. record { unended = was.unended; balance = λ before all k. subst S (sym sent) (subst B (sym tree) (was.balance before (all ∙ sent) k)); reads = subst A (sym tree) was.reads; clear = subst W (sym tree) was.clear };
       ended = λ e. let l = still in cc;
       closed = λ e. let l = still in cc;
     }

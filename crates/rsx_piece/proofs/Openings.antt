@@ -9,6 +9,7 @@ use Rattle.rsx_cut.proofs.Moves.{flows_still}
 use Rattle.rsx_cut.specs.Local.{Begins}
 use Rattle.rsx_piece.specs.Piece.{Opens}
 use Rattle.rsx_piece.proofs.Inlets.{go_same}
+use Rattle.rsx_piece.proofs.Opened.{clear_still}
 
 pub opens : {M T : Type 0} (b : Machine M T) → Opens b
 opens b m taken part up live step reads = record {
@@ -21,6 +22,7 @@ opens b m taken part up live step reads = record {
     unended = tt;
     balance = λ before is h. let same : before ≡ part.root.demand.sent = omega (arith, is) in let B : ℕ → Type 0 = λ k. IsBalanced b part.tree k in subst B same h;
     reads = reads;
+    clear = clear_still b part.tree;
   };
   ended = λ e. let l = live in cc;
   closed = λ e. let l = live in cc;

@@ -22,6 +22,7 @@ use Rattle.rsx_link.specs.Steps.{flags_of, has_cancel, has_refusal, seen_of}
 use Rattle.rsx_link.specs.declared.up.Up.{Up}
 use Rattle.rsx_cut.proofs.Moves.{flows_chosen, flows_sent}
 use Rattle.rsx_cut.specs.Local.{Begins}
+use Rattle.rsx_piece.proofs.Opened.{clear_then, effect_clear, item_clear}
 use Rattle.rsx_piece.specs.Piece.{GoesOn as PartGoesOn, IsInStep, PieceStands}
 
 -- ---- tests
@@ -157,6 +158,7 @@ on_sent b m taken old p p' out s x is was gone sent =
       unended = subst U (sym is) (IsUnended-more out x was.unended);
       balance = λ before all h. subst C (sym one) (subst B is (gone.balance p.root.demand.sent (was.balance before (before_sent before p.root.demand.sent p'.root.demand.sent out s all sent) h)));
       reads = gone.alike.1 (counts_in taken) was.reads;
+      clear = clear_then b old p.tree p'.tree was.clear (item_clear b m p.tree s p'.tree x gone is);
     }
 
 pub stands_sent : {M T : Type 0} (b : Machine M T) (m : Meaning T) (taken : List (Stream T)) (old : Node M) (queued : List (Signal T)) (p p' : Part M) (u u' : Up T) (s : Signal T) → PieceStands b m taken old queued p u → IsSentOut b m p s p' → up_steps u' ≡ up_steps u → carried_up u' ≡ carried_up u → sent_signals u' ≡ sent_signals u ++ s ∷ [] → PieceStands b m taken old queued p' u'
@@ -200,6 +202,7 @@ stands_made b m taken old queued step p p' u live h k =
         unended = was.unended;
         balance = λ before all h. subst C (ap (λ e. e.demand.sent) (sym root)) (k.balance refl p.root.demand.sent (was.balance before (all ∙ ap (λ e. e.demand.sent) root) h));
         reads = k.alike.1 (counts_in taken) was.reads;
+        clear = clear_then b old p.tree p'.tree was.clear (effect_clear b m step p p' k.effect);
       };
       ended = λ e. let s = still in cc;
       closed = λ e. let s = still in cc;

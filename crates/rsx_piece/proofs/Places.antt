@@ -14,7 +14,8 @@ use Rattle.rsx_tree.specs.declared.node.Node.{Node}
 use Rattle.rsx_pipe.proofs.Cuts.{sender_put}
 use Rattle.rsx_pipe.specs.Cutting.{place_at, sender_at, with_node}
 use Rattle.rsx_pipe.specs.Part.{Part}
-use Rattle.rsx_piece.specs.Joined.{is_live_over, is_open_over, is_row_live, is_row_open, sent_over_edge}
+use Rattle.rsx_piece.specs.Joined.{sent_over_edge}
+use Rattle.rsx_piece.specs.Open.{is_live_over, is_open_over, is_row_live, is_row_open}
 
 -- ---- tests
 

@@ -6,6 +6,8 @@ use Rattle.rsx_sources.specs.Prelude.{Meaning, Reading, Signal, Stream, reads_hu
 use Rattle.rsx_sources.specs.declared.machine.Machine.{Ghosts as Machine}
 use Rattle.rsx_rooted.specs.declared.nodes.CrossingNodes.{Ghosts as CrossingNodes}
 use Rattle.rsx_rooted.specs.declared.nodes.Nodes.{Ghosts as Nodes}
+use Rattle.rsx_tree.specs.Edges.{edge_view}
+use Rattle.rsx_tree.specs.Stepped.{Station, station_of}
 use Rattle.rsx_tree.specs.Reads.{AllGoOn, IsReadAt, IsTreeReadAt, readings, row_readings}
 use Rattle.rsx_tree.specs.declared.edge.EdgeState.TheVariants.{Live}
 use Rattle.rsx_tree.specs.declared.inputs.Inputs.{Inputs, End, More'}
@@ -18,11 +20,14 @@ use Rattle.rsx_pipe.specs.Output.{counts_in}
 use Rattle.rsx_pipe.specs.Part.{Part}
 use Rattle.rsx_pipe.specs.Tree.{IsBalanced}
 use Rattle.rsx_link.specs.Signals.{items_in}
-use Rattle.rsx_piece.specs.Joined.{AgreesOn, IsReader, JoinsBalanced, JoinsReading, is_live_over, is_open_over, sent_over_edge}
+use Rattle.rsx_piece.specs.Joined.{AgreesOn, IsReader, JoinsReading, sent_over_edge}
+use Rattle.rsx_piece.specs.Open.{is_clear, is_live_over, is_open_over}
 use Rattle.rsx_piece.specs.Piece.{GoesOn}
 use Rattle.rsx_piece.proofs.Balances.{put_balanced, queue_put}
+use Rattle.rsx_piece.proofs.Cleared.{clear_put}
 use Rattle.rsx_piece.proofs.Cutting.{HoldsLaw, IsNot, agreed, cut_live, cut_readings, cuts_balanced, live_there, put_reads, readings_put, tree_over}
-use Rattle.rsx_piece.proofs.Places.{IsThere, edge_station, is_false, place_below, place_here, same_some, with_below, with_here}
+use Rattle.rsx_piece.proofs.Opened.{clear_both, clear_open}
+use Rattle.rsx_piece.proofs.Places.{IsThere, is_false, open_root, place_below, place_here, same_some, with_below, with_here}
 use Rattle.rsx_piece.proofs.Spliced.{AllBut, SameAt, all_of_both, all_spliced, but_goes, but_of_both}
 
 -- ---- the edge at which they are joined
@@ -62,31 +67,41 @@ can_join_is {M} {T} b nodes crossing part at k lower rest h =
 
 -- ---- the counts
 
+-- in the queue of the joined edge is what the reader holds and then these items; with them the edge counts so many
+abbrev pub CountsAll : {M T : Type 0} → CrossingNodes M T → Part M → ℕ → List T → ℕ → Station M → Type 0
+CountsAll crossing upper at rest count there = there.sent + length (held_in crossing (place_at at upper.tree) ++ rest) ≡ count
+
+-- where the edge at which a part was cut is clear in the upper piece as it was then, no receiver over it had ended or was done
+pub cut_open : {M T : Type 0} (b : Machine M T) (nodes : Nodes M T) (crossing : CrossingNodes M T) (old new below : Part M) (at : ℕ) (reader : M) (queue : List T) → IsCut nodes crossing old at reader below queue new → is_clear b new.tree at ≡ true → is_open_over b old at ≡ true
+cut_open {M} b nodes crossing old new below at reader queue c clear = elim (cases_lt 0 at) [
+  | inr z ↦ open_root b old at (omega (arith, z))
+  | inl pos ↦
+      let x = crossing.queued queue below.tree.machine in
+      let there = live_there old at (cut_live nodes crossing old new below at reader queue c) in
+      let whole = ap (λ t. is_clear b t at) c.whole ∙ clear_put b at at x reader below.tree.inputs old.tree pos there (omega arith) in
+      clear_open b old at (whole ∙ (ap (λ p. is_clear b p.tree at) (sym c.upper) ∙ clear))
+]
+
 -- where the node at the lower root has no queue
 pub balanced_over : {M T : Type 0} (b : Machine M T) (nodes : Nodes M T) (crossing : CrossingNodes M T) → HoldsLaw b nodes crossing →
-    (m : Meaning T) (old new upper below lower : Part M) (at k before sent : ℕ) (reader : M) (queue rest : List T) (went out : List (Signal T)) (taken_above taken_below : List (Stream T)) → nodes.crosses lower.tree.machine ≡ false →
+    (m : Meaning T) (old new upper below lower : Part M) (at k before : ℕ) (reader : M) (queue rest : List T) (went out : List (Signal T)) (taken_above taken_below : List (Stream T)) → nodes.crosses lower.tree.machine ≡ false →
     IsCut nodes crossing old at reader below queue new → IsReader b crossing k before reader → sent_over_edge old at ≡ Some before → before + length queue ≡ below.root.demand.sent →
     IsBalanced b old.tree old.root.demand.sent → GoesOn b taken_above new.tree upper went → old.root.demand.sent + items_in went ≡ upper.root.demand.sent → upper.root.state ≡ Live →
-    (is_live_over upper at ≡ true → GoesOn b taken_below below.tree lower out) → below.root.demand.sent + items_in out ≡ lower.root.demand.sent → (is_open_over b upper at ≡ true → is_open_over b old at ≡ true) →
-    sent_over_edge upper at ≡ Some sent → sent + length (held_in crossing (place_at at upper.tree) ++ rest) ≡ lower.root.demand.sent → IsBalanced b (joined crossing upper at lower rest).tree (joined crossing upper at lower rest).root.demand.sent
-balanced_over b nodes crossing holds m old new upper below lower at k before sent reader queue rest went out taken_above taken_below straight c rd count sum h up count_up live low count_low opens at_edge all =
+    (is_live_over upper at ≡ true → GoesOn b taken_below below.tree lower out) → below.root.demand.sent + items_in out ≡ lower.root.demand.sent →
+    ((s : Station M) → station_of upper.tree (edge_view upper.root) at ≡ Some s → is_open_over b upper at ≡ true → IsBalanced b upper.tree upper.root.demand.sent → CountsAll crossing upper at rest lower.root.demand.sent s) → IsBalanced b (joined crossing upper at lower rest).tree (joined crossing upper at lower rest).root.demand.sent
+balanced_over {M} b nodes crossing holds m old new upper below lower at k before reader queue rest went out taken_above taken_below straight c rd count sum h up count_up live low count_low all =
     let items = held_in crossing (place_at at upper.tree) in
     let x = crossing.queued (items ++ rest) lower.tree.machine in
     let cuts = cuts_balanced b nodes crossing holds m old new below at k before reader queue c rd count sum h in
     let root : new.root.demand.sent ≡ old.root.demand.sent = ap (λ p. p.root.demand.sent) c.upper in
     let N : ℕ → Type 0 = λ n. IsBalanced b new.tree n in
     let L : ℕ → Type 0 = λ n. IsBalanced b lower.tree n in
-    let s = edge_station upper at sent at_edge in
+    let bal = up.balance old.root.demand.sent count_up (subst N root cuts.0) in
     put_balanced b x lower.tree.inputs upper at (λ t is clear on.
-    let same : t.sent ≡ sent = ap (λ o. o.sent) (same_some _ _ (sym is ∙ s.1)) ∙ s.2 in
-    let counts : t.sent + length (items ++ rest) ≡ lower.root.demand.sent = ap (λ n. n + length (items ++ rest)) same ∙ all in
+    let opened = cut_open b nodes crossing old new below at reader queue c (up.clear at (clear_both b upper at clear on)) in
     queue_put b m x lower.tree.machine (items ++ rest) lower.tree.inputs t.sent (holds m (items ++ rest) lower.tree.machine straight)
-    (subst L (sym counts) ((low on).balance below.root.demand.sent count_low (cuts.1 (opens clear))))
-    ) live (up.balance old.root.demand.sent count_up (subst N root cuts.0))
-
-pub joins_balanced : {M T : Type 0} (b : Machine M T) (nodes : Nodes M T) (crossing : CrossingNodes M T) → HoldsLaw b nodes crossing → JoinsBalanced b nodes crossing
-joins_balanced b nodes crossing holds m old new upper below lower at k before sent reader queue rest went out taken_above taken_below c rd count sum h can up count_up live low count_low opens at_edge all =
-    balanced_over b nodes crossing holds m old new upper below lower at k before sent reader queue rest went out taken_above taken_below (can_join_is b nodes crossing upper at k lower.tree.machine rest can).straight c rd count sum h up count_up live low count_low opens at_edge all
+    (subst L (sym (all t is clear bal)) ((low on).balance below.root.demand.sent count_low (cuts.1 opened)))
+    ) live bal
 
 -- ---- what the nodes read
 
@@ -111,20 +126,22 @@ apart {M} b nodes crossing holds m old new upper below lower at k reader queue c
       now_below = reads_not_on (IsNot k) (readings b below.tree) (readings b lower.tree) go_low under;
     }
 
--- no node of the joined part reads it
-pub joined_reads_not : {M T : Type 0} (b : Machine M T) (nodes : Nodes M T) (crossing : CrossingNodes M T) → HoldsLaw b nodes crossing → (m : Meaning T) (upper below lower : Part M) (at k : ℕ) (place : Place M) (rest : List T) → nodes.crosses lower.tree.machine ≡ false → place_at at upper.tree ≡ Some place → place.below ≡ End → Apart b k at upper below lower → ReadsNot b k (joined crossing upper at lower rest).tree
-joined_reads_not {M} b nodes crossing holds m upper below lower at k place rest straight there alone h =
+-- no node of a part reads it in which such a node, with such inputs, takes the place of the reader
+pub put_reads_not : {M T : Type 0} (b : Machine M T) (k at : ℕ) (x : M) (xs : Inputs M) (place : Place M) (upper : Part M) → place_at at upper.tree ≡ Some place → place.below ≡ End → AllBut (IsNot k) at (readings b upper.tree) → AllOf (IsNot k) (b.reads x ∷ row_readings b xs) → ReadsNot b k (with_node at x xs upper.tree)
+put_reads_not {M} b k at x xs place upper there alone above low =
     let is = place_is at place upper.tree there in
     let leaf = place.node in
     let tree : upper.tree ≡ with_node at leaf End upper.tree = is.1 ∙ ap (λ r. with_node at leaf r upper.tree) alone in
-    let queue = held_in crossing (place_at at upper.tree) ++ rest in
-    let x = crossing.queued queue lower.tree.machine in
     let A : List (Option Reading) → Type 0 = λ l. AllOf (IsNot k) l in
     let B : Node M → Type 0 = λ t. AllBut (IsNot k) at (readings b t) in
+    subst A (sym (readings_put b at x leaf xs upper.tree is.0)) (all_spliced (IsNot k) at (b.reads x ∷ row_readings b xs) (readings b (with_node at leaf End upper.tree)) low (subst B tree above))
+
+-- none of the joined part does
+pub joined_reads_not : {M T : Type 0} (b : Machine M T) (nodes : Nodes M T) (crossing : CrossingNodes M T) → HoldsLaw b nodes crossing → (m : Meaning T) (upper below lower : Part M) (at k : ℕ) (place : Place M) (rest : List T) → nodes.crosses lower.tree.machine ≡ false → place_at at upper.tree ≡ Some place → place.below ≡ End → Apart b k at upper below lower → ReadsNot b k (joined crossing upper at lower rest).tree
+joined_reads_not {M} b nodes crossing holds m upper below lower at k place rest straight there alone h =
+    let queue = held_in crossing (place_at at upper.tree) ++ rest in
     let O : Option Reading → Type 0 = λ o. IsOf (IsNot k) o in
-    let low = b.reads x ∷ row_readings b lower.tree.inputs in
-    let under : AllOf (IsNot k) low = (subst O (sym (holds m queue lower.tree.machine straight).reads) h.now_below.0, h.now_below.1) in
-    subst A (sym (readings_put b at x leaf lower.tree.inputs upper.tree is.0)) (all_spliced (IsNot k) at low (readings b (with_node at leaf End upper.tree)) under (subst B tree h.above))
+    put_reads_not b k at (crossing.queued queue lower.tree.machine) lower.tree.inputs place upper there alone h.above (subst O (sym (holds m queue lower.tree.machine straight).reads) h.now_below.0, h.now_below.1)
 
 pub reading_over : {M T : Type 0} (b : Machine M T) (nodes : Nodes M T) (crossing : CrossingNodes M T) → HoldsLaw b nodes crossing →
     (m : Meaning T) (old new upper below lower : Part M) (at k : ℕ) (reader : M) (queue rest : List T) (taken_above taken_below whole : List (Stream T)) → nodes.crosses lower.tree.machine ≡ false →

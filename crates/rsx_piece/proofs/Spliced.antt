@@ -15,7 +15,7 @@ use Rattle.rsx_cut.proofs.Splices.{splice_left, splice_right}
 use Rattle.rsx_cut.specs.Local.{AllOf, IsOf}
 use Rattle.rsx_cut.specs.Splice.{splice}
 use Rattle.rsx_pipe.specs.Cutting.{Place, sender_at}
-use Rattle.rsx_piece.specs.Joined.{is_row_live}
+use Rattle.rsx_piece.specs.Open.{is_row_live}
 use Rattle.rsx_piece.proofs.Places.{both, live_below, live_beside, live_here, same_some, sender_below, sender_beside, sender_here}
 
 -- ---- all but one

@@ -1,49 +1,56 @@
 -- Two pieces that are joined again, as a piece.
-use Rattle.std.proofs.Common.{◌≡◌, inl, inr, ℕ, zero, suc, ◌+◌, ◌-◌, ◌<◌, ◌≤◌, true, false, List, [], ◌∷◌, ◌++◌, length, map, refl, ap, sym, ◌∙◌, subst, arith, Option, Some, None, option_map, slice_get}
+use Rattle.std.proofs.Common.{◌≡◌, inl, inr, ℕ, zero, suc, ◌+◌, ◌-◌, ◌<◌, true, false, List, [], ◌∷◌, ◌++◌, length, map, refl, ap, sym, ◌∙◌, subst, arith, Option, Some, None, slice_get}
 use Rattle.std.specs.Prelude.{not, ◌&&◌}
 use Rattle.std.proofs.lemmas.Bool.{and_parts, cases_lt}
-use Rattle.rsx_sources.specs.Prelude.{Meaning, Next, Complete, Error, Reading, Signal, Stream, ends_input}
+use Rattle.std.proofs.lemmas.List.{append-nil}
+use Rattle.rsx_sources.specs.Prelude.{Ending, LetsGo, Meaning, Next, Complete, Error, Reading, Signal, Stream, ends_input}
 use Rattle.rsx_sources.specs.declared.machine.Machine.{Ghosts as Machine}
 use Rattle.rsx_rooted.specs.declared.nodes.CrossingNodes.{Ghosts as CrossingNodes}
 use Rattle.rsx_rooted.specs.declared.nodes.Nodes.{Ghosts as Nodes}
 use Rattle.rsx_rooted.proofs.Sends.{sent_out}
 use Rattle.rsx_tree.proofs.Alike.{popped_alike}
 use Rattle.rsx_tree.proofs.Rows.{out_lets_go}
-use Rattle.rsx_tree.specs.Balance.{IsBalancedAfter}
+use Rattle.rsx_tree.specs.Balance.{IsBalancedAfter, IsOwnerBalanced, IsRowBalanced, sent_over}
 use Rattle.rsx_tree.specs.Edges.{EdgeView, edge_view, is_live}
 use Rattle.rsx_tree.specs.Inputs.{comes_in, edges, notes_of, size}
-use Rattle.rsx_tree.specs.Reads.{AllGoOn, readings, row_readings}
+use Rattle.rsx_tree.specs.Reads.{AllGoOn, IsReadAt, IsRowReadAt, readings, row_readings}
 use Rattle.rsx_tree.specs.Stepped.{Station, station, station_of}
 use Rattle.rsx_tree.specs.Swapped.{put_at}
-use Rattle.rsx_tree.specs.Tree.{IsLetGo, NoneLive, notes}
+use Rattle.rsx_tree.specs.Tree.{IsLetGo, NoneLive}
 use Rattle.rsx_tree.specs.declared.edge.EdgeState.{EdgeState}
 use Rattle.rsx_tree.specs.declared.edge.EdgeState.TheVariants.{Live, Closed, Ended}
 use Rattle.rsx_tree.specs.declared.inputs.Inputs.{Inputs, End, More'}
 use Rattle.rsx_tree.specs.declared.node.Node.{Node}
-use Rattle.rsx_pipe.specs.Cutting.{IsCut, Place, can_join, can_join_in, held_in, is_end, joined, place_at, sender_at, with_node}
-use Rattle.rsx_pipe.specs.Feeding.{IsSentOut}
+use Rattle.rsx_pipe.specs.Cutting.{Place, can_join, can_join_in, held_in, is_end, joined, place_at, sender_at, with_node}
+use Rattle.rsx_pipe.specs.Output.{counts_in}
 use Rattle.rsx_pipe.specs.Joined.{HasReached, JoinsAfterMoves}
 use Rattle.rsx_pipe.specs.Part.{Part}
-use Rattle.rsx_pipe.specs.Rejoined.{HasTaken, JoinsAfterEnding, can_rejoin, can_rejoin_here, can_rejoin_in}
+use Rattle.rsx_pipe.specs.Rejoined.{JoinsAfterEnding, JoinsAtEnd, can_end_here, can_put_in, can_rejoin_ended, ending_in, put_node}
+use Rattle.rsx_rooted.specs.Cutting.{HoldsEnding, ending_of, endings}
 use Rattle.rsx_pipe.specs.Tree.{IsAllClosed, IsBalanced}
-use Rattle.rsx_link.specs.Ends.{carried_up, received_signals}
+use Rattle.rsx_link.specs.Ends.{carried_up}
 use Rattle.rsx_link.specs.Signals.{items_in}
 use Rattle.rsx_link.specs.declared.up.Up.{Up}
 use Rattle.rsx_cut.proofs.Puts.{put_below, put_beside, put_here}
-use Rattle.rsx_cut.specs.Local.{AllOf, ReadsNot}
+use Rattle.rsx_cut.specs.Local.{AllOf, IsOf, ReadsNot}
 use Rattle.rsx_cut.specs.Regions.{Carries}
 use Rattle.rsx_cut.specs.Splice.{splice}
-use Rattle.rsx_piece.specs.Inlet.{InletStands}
-use Rattle.rsx_piece.specs.Joined.{AgreesOn, is_live_over, is_open_over, is_row_live, sent_over_edge}
-use Rattle.rsx_piece.specs.Piece.{GoesOn, HasEnded, HasGiven, PieceStands, WasClosed}
-use Rattle.rsx_piece.specs.Whole.{AreShared, CountsOver, IsBelow, JoinsWhole, JoinsWholeEnded, WasCut}
-use Rattle.rsx_piece.specs.declared.inlet.Inlet.{Inlet}
-use Rattle.rsx_piece.proofs.Cutting.{HoldsLaw, cut_live, live_there, readings_put}
+use Rattle.rsx_piece.specs.Joined.{AgreesOn}
+use Rattle.rsx_piece.specs.Open.{WasClear, is_clear, is_live_over, is_open_over, is_row_live}
+use Rattle.rsx_piece.specs.Piece.{GoesOn, PieceStands}
+use Rattle.rsx_piece.specs.Whole.{IsBelow, JoinsWhole, JoinsWholeAtEnd, JoinsWholeEnded, WasCut}
+use Rattle.rsx_piece.proofs.Balances.{put_balanced, queue_put}
+use Rattle.rsx_piece.proofs.Cleared.{clear_both_put, clear_live, clear_queue, clear_under}
+use Rattle.rsx_piece.proofs.Counted.{CountedLaw, can_held, counts_all, fresh, has_begun, items_all}
+use Rattle.rsx_piece.proofs.Cutting.{HoldsLaw, IsNot, agreed, cut_live, cuts_balanced, live_there, put_reads, readings_put, tree_over}
 use Rattle.rsx_piece.proofs.Givings.{count_before, counted}
-use Rattle.rsx_piece.proofs.Joinings.{has_reached, node_reached}
+use Rattle.rsx_piece.proofs.Inlets.{go_same}
+use Rattle.rsx_piece.proofs.Joinings.{node_reached}
+use Rattle.rsx_piece.proofs.Opened.{clear_both}
 use Rattle.rsx_piece.proofs.Pieces.{let_go}
-use Rattle.rsx_piece.proofs.Places.{is_false, live_below, live_beside, live_here, place_below, row_live_under, same_some, station_below, station_beside, station_here, station_under, with_below}
-use Rattle.rsx_piece.proofs.Rejoining.{apart, balanced_over, can_join_is, ended_row, joined_reads_not, place_is, reading_over}
+use Rattle.rsx_piece.proofs.Places.{IsThere, is_false, live_below, live_beside, live_here, place_below, row_live_under, same_some, station_below, station_beside, station_here, station_under, with_below}
+use Rattle.rsx_piece.proofs.Spliced.{SameAt, all_of_both, but_of_both, length_readings}
+use Rattle.rsx_piece.proofs.Rejoining.{CountsAll, apart, can_join_is, cut_open, ended_row, joined_reads_not, place_is, put_reads_not}
 
 -- ---- edges none of which is live
 
@@ -113,6 +120,12 @@ goes_spliced c low low' (u ∷ us) [] h k = absurd k
 goes_spliced zero low low' (u ∷ us) (u' ∷ us') h k = goes_both low low' us us' h k.1
 goes_spliced (suc c) low low' (u ∷ us) (u' ∷ us') h k = (k.0, goes_spliced c low low' us us' h k.1)
 
+same_length : (rs ns : List (Option Reading)) → AllGoOn rs ns → length rs ≡ length ns
+same_length [] [] h = refl
+same_length [] (n ∷ ns) h = absurd h
+same_length (r ∷ rs) [] h = absurd h
+same_length (r ∷ rs) (n ∷ ns) h = ap suc (same_length rs ns h.1)
+
 -- ---- a root that lets its ending go, over other inputs
 
 nothing_counted : {M T : Type 0} (b : Machine M T) (s : Signal T) (t : Node M) (sent : ℕ) → ends_input s ≡ true → IsBalancedAfter b s t sent
@@ -126,27 +139,201 @@ lets_go_over b m n n' t u s e h = record {
   popped = (h.popped.0, refl);
   lets_go = h.lets_go;
   node = h.node;
+  counts = h.counts;
   value = λ hubs further at. out_lets_go b m hubs n n' s h.lets_go (comes_in b m hubs further u (at + 1)) (slice_get further at);
   notes = let same : b.recorded n' ≡ b.recorded n = let k = h.notes in cc in ap (λ k. k ∷ notes_of b u) same;
   balance = λ sent k. nothing_counted b s (record { machine = n'; inputs = u }) sent e;
   alike = popped_alike b n n' u h.node;
 }
 
--- ---- a part over the edge, joined to the lower piece
+-- ---- another node over the edge, in the place of the reader
+
+-- the part with the node x, and these inputs below it, over the edge
+abbrev put_over : {M : Type 0} → ℕ → M → Inputs M → Part M → Part M
+put_over at x xs p = record p { tree = with_node at x xs p.tree }
+
+-- What is known of them: of the node that stood there as the part was cut, with the inputs `below`, they are what came of the lower piece. It
+-- is said of any part that is at the edge as the upper piece is.
+record Fills {M T : Type 0} (b : Machine M T) (m : Meaning T) (old new upper : Part M) (at : ℕ) (s : Station M) (ta whole : List (Stream T)) (x0 : M) (below : Inputs M) (x : M) (xs : Inputs M) : Type 0 where
+  goes : AllGoOn (b.reads x0 ∷ row_readings b below) (b.reads x ∷ row_readings b xs)
+  balanced : (p : Part M) → place_at at p.tree ≡ place_at at upper.tree → station_of p.tree (edge_view p.root) at ≡ Some s → is_open_over b p at ≡ true → is_live_over p at ≡ true → WasClear b new.tree p.tree → IsBalanced b p.tree p.root.demand.sent → IsBalanced b old.tree old.root.demand.sent → IsOwnerBalanced b x (sent_over xs) s.sent (IsRowBalanced b x 0 xs)
+  reads : is_live s.state ≡ true → IsReadAt (counts_in whole) (b.reads x) × IsRowReadAt b (counts_in whole) xs
+  clear : is_live s.state ≡ true → WasClear b (record { machine = x0; inputs = below }) (record { machine = x; inputs = xs })
+  shut : is_live s.state ≡ false → NoneLive (edges xs)
+  joins : (p : Part M) (given : List (Signal T)) → place_at at p.tree ≡ place_at at upper.tree → AllGoOn (readings b new.tree) (readings b p.tree) → Carries b m ta new.tree p.tree given → Carries b m whole old.tree (with_node at x xs p.tree) given
 
 -- the upper piece, or what it was just before its ending, which gave these signals since the part was cut
-record IsOver {M T : Type 0} (b : Machine M T) (nodes : Nodes M T) (crossing : CrossingNodes M T) (m : Meaning T) (old new lower p : Part M) (at k : ℕ) (s : Station M) (rest : List T) (given : List (Signal T)) (ta whole : List (Stream T)) : Type 0 where
+record IsOver {M T : Type 0} (b : Machine M T) (m : Meaning T) (old new upper p : Part M) (at k : ℕ) (s : Station M) (given : List (Signal T)) (ta whole : List (Stream T)) : Type 0 where
   reading : AllGoOn (readings b new.tree) (readings b p.tree)
   there : station_of p.tree (edge_view p.root) at ≡ Some s
-  straight : nodes.crosses lower.tree.machine ≡ false
-  place : Place M
-  at_place : place_at at p.tree ≡ Some place
-  alone : place.below ≡ End
+  same : place_at at p.tree ≡ place_at at upper.tree
   counted : old.root.demand.sent + items_in given ≡ p.root.demand.sent
   agrees : AgreesOn b k ta whole p.tree
-  all : s.sent + length (held_in crossing (place_at at p.tree) ++ rest) ≡ lower.root.demand.sent
-  opened : is_open_over b p at ≡ true → is_open_over b old at ≡ true
-  joins : Carries b m whole old.tree (joined crossing p at lower rest).tree given
+
+-- over a live edge its sender is live
+edge_live : {M : Type 0} (p : Part M) (at : ℕ) (s : Station M) → 0 < at → station_of p.tree (edge_view p.root) at ≡ Some s → is_live_over p at ≡ true → is_live s.state ≡ true
+edge_live p at s pos there h = live_station p.tree.inputs (at - 1) s (sym (station_under p at pos) ∙ there) (row_live_under p at pos h)
+
+module _ {M T : Type 0} (b : Machine M T) (nodes : Nodes M T) (crossing : CrossingNodes M T) (holds : HoldsLaw b nodes crossing) (m : Meaning T) (old new upper below : Part M) (at k before : ℕ) (reader : M) (place : Place M) (s : Station M) (queue : List T) (ta whole : List (Stream T)) (x : M) (xs : Inputs M) (pos : 0 < at) (w : WasCut b nodes crossing old at k before reader below queue new) (at_place : place_at at upper.tree ≡ Some place) (alone : place.below ≡ End) (f : Fills b m old new upper at s ta whole (crossing.queued queue below.tree.machine) below.tree.inputs x xs) where
+  -- the part with the reader
+  leaf_there : (p : Part M) → place_at at p.tree ≡ place_at at upper.tree → IsThere at p.tree × (p.tree ≡ with_node at place.node End p.tree)
+  leaf_there p same = let is = place_is at place p.tree (same ∙ at_place) in (is.0, is.1 ∙ ap (λ r. with_node at place.node r p.tree) alone)
+
+  cut_at : IsThere at old.tree
+  cut_at = live_there old at (cut_live nodes crossing old new below at reader queue w.cut)
+
+  filled_reading : (p : Part M) → place_at at p.tree ≡ place_at at upper.tree → AllGoOn (readings b new.tree) (readings b p.tree) → AllGoOn (readings b old.tree) (readings b (with_node at x xs p.tree))
+  filled_reading p same go =
+      let c = w.cut in
+      let x0 = crossing.queued queue below.tree.machine in
+      let is = leaf_there p same in
+      let rows0 = b.reads x0 ∷ row_readings b below.tree.inputs in
+      let rows1 = b.reads x ∷ row_readings b xs in
+      let top0 = readings b (with_node at reader End old.tree) in
+      let top1 = readings b (with_node at place.node End p.tree) in
+      let B0 : Node M → Type 0 = λ t. AllGoOn (readings b t) (readings b p.tree) in
+      let B1 : Node M → Type 0 = λ t. AllGoOn top0 (readings b t) in
+      let top = subst B1 is.1 (subst B0 (ap (λ q. q.tree) c.upper) go) in
+      let C0 : List (Option Reading) → Type 0 = λ l. AllGoOn l (splice at rows1 top1) in
+      let C1 : List (Option Reading) → Type 0 = λ l. AllGoOn (readings b old.tree) l in
+      subst C1 (sym (readings_put b at x place.node xs p.tree is.0)) (subst C0 (sym (ap (readings b) c.whole ∙ readings_put b at x0 reader below.tree.inputs old.tree cut_at)) (goes_spliced at rows0 rows1 top0 top1 f.goes top))
+
+  filled_clear : (p : Part M) → place_at at p.tree ≡ place_at at upper.tree → station_of p.tree (edge_view p.root) at ≡ Some s → p.root.state ≡ Live → WasClear b new.tree p.tree → WasClear b old.tree (with_node at x xs p.tree)
+  filled_clear p same there live was =
+      let c = w.cut in
+      let x0 = crossing.queued queue below.tree.machine in
+      let is = leaf_there p same in
+      let U : Node M → Type 0 = λ t. WasClear b t p.tree in
+      let V : Node M → Type 0 = λ t. WasClear b (with_node at reader End old.tree) t in
+      let O : Node M → Type 0 = λ t. WasClear b t (with_node at x xs p.tree) in
+      subst O (sym c.whole) (clear_both_put b at x0 reader x place.node below.tree.inputs xs old.tree p.tree pos cut_at is.0 (sym (length_readings b below.tree.inputs) ∙ (same_length (row_readings b below.tree.inputs) (row_readings b xs) f.goes.1 ∙ length_readings b xs))
+      (subst V is.1 (subst U (ap (λ q. q.tree) c.upper) was)) (λ clear. f.clear (edge_live p at s pos there (clear_live b p at pos (ap is_live live) (ap (λ t. is_clear b t at) is.1 ∙ clear)))))
+
+  filled_on : (p : Part M) (given : List (Signal T)) → IsOver b m old new upper p at k s given ta whole → p.root.state ≡ Live → GoesOn b ta new.tree p given → GoesOn b whole old.tree (put_over at x xs p) given
+  filled_on p given o live on =
+      let c = w.cut in
+      let up = counts_in ta in
+      let all = counts_in whole in
+      let none = (apart b nodes crossing holds m old new p below below at k reader queue c w.free o.reading (go_same (readings b below.tree))).above in
+      record {
+        unended = on.unended;
+        balance = λ n count bal.
+            let B : ℕ → Type 0 = λ j. IsBalanced b old.tree j in
+            let N : ℕ → Type 0 = λ j. IsBalanced b new.tree j in
+            let was = subst B (same n (items_in given) old.root.demand.sent p.root.demand.sent count o.counted) bal in
+            let cuts = cuts_balanced b nodes crossing holds m old new below at k before reader queue c w.reads w.sent w.counted was in
+            let now = on.balance old.root.demand.sent o.counted (subst N (ap (λ q. q.root.demand.sent) c.upper) cuts.0) in
+            put_balanced b x xs p at (λ t is open_still live_still.
+            let S : Station M → Type 0 = λ z. IsOwnerBalanced b x (sent_over xs) z.sent (IsRowBalanced b x 0 xs) in
+            subst S (same_some _ _ (sym o.there ∙ is)) (f.balanced p o.same o.there open_still live_still on.clear now was)
+            ) live now;
+        reads = put_reads b up all x xs p at (but_of_both (IsNot k) (λ i. IsNot k i → slice_get whole i ≡ slice_get ta i) (SameAt up all) (agreed k ta whole) at (readings b p.tree) none o.agrees) (λ l. f.reads (edge_live p at s pos o.there l)) live on.reads;
+        clear = filled_clear p o.same o.there live on.clear;
+      }
+    where
+      same : (n i a z : ℕ) → n + i ≡ z → a + i ≡ z → n ≡ a
+      same n i a z h1 h2 = omega (arith, h1, h2)
+
+  -- an ending that the upper piece lets go, it lets go over these inputs, too
+  filled_gone : (p : Part M) (last : Signal T) → ends_input last ≡ true → p.tree.inputs ≡ upper.tree.inputs → IsLetGo b m p.tree last upper.tree → IsLetGo b m (with_node at x xs p.tree) last (with_node at x xs upper.tree)
+  filled_gone p last ends inputs gone =
+      let u = put_at (at - 1) x xs upper.tree.inputs in
+      let n : Node M = record { machine = p.tree.machine; inputs = u } in
+      let n' : Node M = record { machine = upper.tree.machine; inputs = u } in
+      let G : Inputs M → Type 0 = λ i. IsLetGo b m (record { machine = p.tree.machine; inputs = i }) last upper.tree in
+      let over = lets_go_over b m p.tree.machine upper.tree.machine upper.tree.inputs u last ends (subst G inputs gone) in
+      let old_is : with_node at x xs p.tree ≡ n = with_below at x xs p.tree pos ∙ ap (λ i. let t : Node M = record { machine = p.tree.machine; inputs = put_at (at - 1) x xs i } in t) inputs in
+      let F : Node M → Type 0 = λ t. IsLetGo b m t last n' in
+      let H : Node M → Type 0 = λ t. IsLetGo b m (with_node at x xs p.tree) last t in
+      subst H (sym (with_below at x xs upper.tree pos)) (subst F (sym old_is) over)
+
+  -- the joined part is a piece
+  stands_filled : (queued : List (Signal T)) (up : Up T) → carried_up up + items_in queued ≡ old.root.demand.sent → PieceStands b m ta new.tree queued upper up → station_of upper.tree (edge_view upper.root) at ≡ Some s → AgreesOn b k ta whole upper.tree → PieceStands b m whole old.tree queued (put_over at x xs upper) up
+  stands_filled queued up count above there agrees =
+      let spent : old.root.demand.sent + items_in above.out ≡ upper.root.demand.sent = ap (λ n. n + items_in above.out) (sym count) ∙ counted up upper.root.demand.sent queued above.out above.step.sent above.sent in
+      let o : IsOver b m old new upper upper at k s above.out ta whole = record { reading = above.reading; there = there; same = refl; counted = spent; agrees = agrees } in
+      record {
+        out = above.out;
+        sent = above.sent;
+        flow = f.joins upper above.out refl above.reading above.flow;
+        step = record { asked = above.step.asked; sent = above.step.sent };
+        reading = filled_reading upper refl above.reading;
+        live = λ on. filled_on upper above.out o on (above.live on);
+        ended = λ over.
+            let e = above.ended over in
+            let p = e.before in
+            let gone = let_go b m p e.last upper e.sent in
+            let inputs : p.tree.inputs ≡ upper.tree.inputs = e.sent.popped.1 in
+            let same = place_below at p.tree pos ∙ (ap (sender_at (at - 1)) inputs ∙ sym (place_below at upper.tree pos)) in
+            let read : readings b upper.tree ≡ readings b p.tree = gone.alike.2 in
+            let R : List (Option Reading) → Type 0 = λ l. AllGoOn (readings b new.tree) l in
+            let A : List (Option Reading) → Type 0 = λ l. AllOf (λ i. (i ≡ k → ⊥) → slice_get whole i ≡ slice_get ta i) l in
+            let go = subst R read above.reading in
+            let q : IsOver b m old new upper p at k s e.rest ta whole = record {
+              reading = go;
+              there = station_under p at pos ∙ (ap (λ t. station t (at - 1)) inputs ∙ (sym (station_under upper at pos) ∙ there));
+              same = same;
+              counted = ap (λ n. n + items_in e.rest) (sym count) ∙ count_before b m ta new.tree queued upper up above.out above.sent above.step.sent e;
+              agrees = subst A read agrees;
+            } in
+            record {
+              before = put_over at x xs p;
+              rest = e.rest;
+              last = e.last;
+              all = e.all;
+              ends = e.ends;
+              sent = sent_out b m (put_over at x xs p) (put_over at x xs upper) e.last (filled_gone p e.last e.ends inputs gone) e.sent.can e.sent.root;
+              live = e.live;
+              on = filled_on p e.rest q e.live e.on;
+              flow = f.joins p e.rest same go e.flow;
+            };
+        closed = λ shut.
+            let c = above.closed shut in
+            let dead = none_station upper.tree.inputs (at - 1) s (sym (station_under upper at pos) ∙ there) c.edges in
+            let N : Node M → Type 0 = λ t. IsAllClosed t in
+            record { unended = c.unended; edges = subst N (sym (with_below at x xs upper.tree pos)) (none_put x xs upper.tree.inputs (at - 1) c.edges (f.shut dead)); flag = c.flag };
+      }
+
+-- ---- the lower piece, with a queue
+
+-- what the lower piece makes of the edge, as long as no ending is in the queue
+queue_fills : {M T : Type 0} (b : Machine M T) (nodes : Nodes M T) (crossing : CrossingNodes M T) → HoldsLaw b nodes crossing →
+    (m : Meaning T) (old new upper below lower : Part M) (at k before : ℕ) (reader : M) (place : Place M) (s : Station M) (queue rest : List T) (out : List (Signal T)) (ta tb whole : List (Stream T)) → 0 < at →
+    WasCut b nodes crossing old at k before reader below queue new → IsBelow b m tb below lower out s → nodes.crosses lower.tree.machine ≡ false → place_at at upper.tree ≡ Some place → place.below ≡ End → AgreesOn b k tb whole lower.tree → AllGoOn (readings b new.tree) (readings b upper.tree) →
+    ((p : Part M) → place_at at p.tree ≡ place_at at upper.tree → station_of p.tree (edge_view p.root) at ≡ Some s → is_open_over b p at ≡ true → IsBalanced b p.tree p.root.demand.sent → CountsAll crossing p at rest lower.root.demand.sent s) →
+    -- what came out of the part that was cut, where the lower piece is joined to such a part
+    ((p : Part M) (given : List (Signal T)) → place_at at p.tree ≡ place_at at upper.tree → AllGoOn (readings b new.tree) (readings b p.tree) → Carries b m ta new.tree p.tree given → Carries b m whole old.tree (joined crossing p at lower rest).tree given) →
+    Fills b m old new upper at s ta whole (crossing.queued queue below.tree.machine) below.tree.inputs (crossing.queued (held_in crossing (place_at at upper.tree) ++ rest) lower.tree.machine) lower.tree.inputs
+queue_fills {M} b nodes crossing holds m old new upper below lower at k before reader place s queue rest out ta tb whole pos w u straight at_place alone agrees go counts joins =
+    let c = w.cut in
+    let items = held_in crossing (place_at at upper.tree) ++ rest in
+    let x0 = crossing.queued queue below.tree.machine in
+    let x = crossing.queued items lower.tree.machine in
+    let rows0 = row_readings b below.tree.inputs in
+    let rows1 = row_readings b lower.tree.inputs in
+    let low = holds m queue below.tree.machine c.straight in
+    let now = holds m items lower.tree.machine straight in
+    let A0 : Option Reading → Type 0 = λ r. AllGoOn (r ∷ rows0) (readings b lower.tree) in
+    let A1 : Option Reading → Type 0 = λ r. AllGoOn (b.reads x0 ∷ rows0) (r ∷ rows1) in
+    let down = counts_in tb in
+    let all = counts_in whole in
+    let none = (apart b nodes crossing holds m old new upper below lower at k reader queue c w.free go u.given.reading).now_below in
+    let same = all_of_both (IsNot k) (λ i. IsNot k i → slice_get whole i ≡ slice_get tb i) (SameAt down all) (agreed k tb whole) (readings b lower.tree) none agrees in
+    let R : Option Reading → Type 0 = λ o. IsReadAt all o in
+    let L : ℕ → Type 0 = λ n. IsBalanced b lower.tree n in
+    record {
+      goes = subst A1 (sym now.reads) (subst A0 (sym low.reads) u.given.reading);
+      balanced = λ p same there open_still live_still clear bal was.
+          let edge = edge_live p at s pos there live_still in
+          let cuts = cuts_balanced b nodes crossing holds m old new below at k before reader queue c w.reads w.sent w.counted was in
+          let opened = cut_open b nodes crossing old new below at reader queue c (clear at (clear_both b p at open_still live_still)) in
+          queue_put b m x lower.tree.machine items lower.tree.inputs s.sent now
+          (subst L (sym (ap (λ z. s.sent + length (held_in crossing z ++ rest)) (sym same) ∙ counts p same there open_still bal)) ((u.given.on (u.goes_on edge)).balance below.root.demand.sent u.counted (cuts.1 opened)));
+      reads = λ l. let got = tree_over b down all lower.tree same (u.given.on (u.goes_on l)).reads in (subst R (sym now.reads) got.0, got.1);
+      clear = λ l j h. clear_queue b m x0 below.tree.machine queue below.tree.inputs j low ∙ (u.given.on (u.goes_on l)).clear j (sym (clear_queue b m x lower.tree.machine items lower.tree.inputs j now) ∙ h);
+      shut = u.closed;
+      joins = λ p given same go flow. let J : M → Type 0 = λ z. Carries b m whole old.tree (with_node at z lower.tree.inputs p.tree) given in subst J (ap (λ z. crossing.queued (held_in crossing z ++ rest) lower.tree.machine) same) (joins p given same go flow);
+    }
 
 -- no node of the part that is joined reads the link
 over_free : {M T : Type 0} (b : Machine M T) (nodes : Nodes M T) (crossing : CrossingNodes M T) → HoldsLaw b nodes crossing →
@@ -157,182 +344,94 @@ over_free b nodes crossing holds m old new below lower p at k before reader plac
     let none = apart b nodes crossing holds m old new p below lower at k reader queue w.cut w.free go_up go_low in
     (none.now_below, joined_reads_not b nodes crossing holds m p below lower at k place rest straight there alone none)
 
-over_reading : {M T : Type 0} (b : Machine M T) (nodes : Nodes M T) (crossing : CrossingNodes M T) → HoldsLaw b nodes crossing →
-    (m : Meaning T) (old new below lower p : Part M) (at k before : ℕ) (reader : M) (s : Station M) (queue rest : List T) (out given : List (Signal T)) (ta tb whole : List (Stream T)) →
-    WasCut b nodes crossing old at k before reader below queue new → IsBelow b m tb below lower out s →
-    IsOver b nodes crossing m old new lower p at k s rest given ta whole → AllGoOn (readings b old.tree) (readings b (joined crossing p at lower rest).tree)
-over_reading {M} b nodes crossing holds m old new below lower p at k before reader s queue rest out given ta tb whole w u o =
-    let c = w.cut in
-    let x0 = crossing.queued queue below.tree.machine in
-    let x1 = crossing.queued (held_in crossing (place_at at p.tree) ++ rest) lower.tree.machine in
-    let there = live_there old at (cut_live nodes crossing old new below at reader queue c) in
-    let is = place_is at o.place p.tree o.at_place in
-    let leaf = o.place.node in
-    let tree : p.tree ≡ with_node at leaf End p.tree = is.1 ∙ ap (λ r. with_node at leaf r p.tree) o.alone in
-    let rows0 = row_readings b below.tree.inputs in
-    let rows1 = row_readings b lower.tree.inputs in
-    let top0 = readings b (with_node at reader End old.tree) in
-    let top1 = readings b (with_node at leaf End p.tree) in
-    let A0 : Option Reading → Type 0 = λ r. AllGoOn (r ∷ rows0) (readings b lower.tree) in
-    let A1 : Option Reading → Type 0 = λ r. AllGoOn (b.reads x0 ∷ rows0) (r ∷ rows1) in
-    let low = subst A1 (sym (holds m (held_in crossing (place_at at p.tree) ++ rest) lower.tree.machine o.straight).reads) (subst A0 (sym (holds m queue below.tree.machine c.straight).reads) u.given.reading) in
-    let B0 : Node M → Type 0 = λ t. AllGoOn (readings b t) (readings b p.tree) in
-    let B1 : Node M → Type 0 = λ t. AllGoOn top0 (readings b t) in
-    let top = subst B1 tree (subst B0 (ap (λ q. q.tree) c.upper) o.reading) in
-    let from : readings b old.tree ≡ splice at (b.reads x0 ∷ rows0) top0 = ap (readings b) c.whole ∙ readings_put b at x0 reader below.tree.inputs old.tree there in
-    let to : readings b (joined crossing p at lower rest).tree ≡ splice at (b.reads x1 ∷ rows1) top1 = readings_put b at x1 leaf lower.tree.inputs p.tree is.0 in
-    let C0 : List (Option Reading) → Type 0 = λ l. AllGoOn l (splice at (b.reads x1 ∷ rows1) top1) in
-    let C1 : List (Option Reading) → Type 0 = λ l. AllGoOn (readings b old.tree) l in
-    subst C1 (sym to) (subst C0 (sym from) (goes_spliced at (b.reads x0 ∷ rows0) (b.reads x1 ∷ rows1) top0 top1 low top))
-
--- over a live edge its sender is live
-edge_live : {M : Type 0} (p : Part M) (at : ℕ) (s : Station M) → 0 < at → station_of p.tree (edge_view p.root) at ≡ Some s → is_live_over p at ≡ true → is_live s.state ≡ true
-edge_live p at s pos there h = live_station p.tree.inputs (at - 1) s (sym (station_under p at pos) ∙ there) (row_live_under p at pos h)
-
-over_on : {M T : Type 0} (b : Machine M T) (nodes : Nodes M T) (crossing : CrossingNodes M T) → HoldsLaw b nodes crossing →
-    (m : Meaning T) (old new below lower p : Part M) (at k before : ℕ) (reader : M) (s : Station M) (queue rest : List T) (out given : List (Signal T)) (ta tb whole : List (Stream T)) → 0 < at →
-    WasCut b nodes crossing old at k before reader below queue new → IsBelow b m tb below lower out s → AgreesOn b k tb whole lower.tree →
-    IsOver b nodes crossing m old new lower p at k s rest given ta whole → p.root.state ≡ Live → GoesOn b ta new.tree p given → GoesOn b whole old.tree (joined crossing p at lower rest) given
-over_on b nodes crossing holds m old new below lower p at k before reader s queue rest out given ta tb whole pos w u same_below o live on = record {
-  unended = on.unended;
-  balance = λ n count bal.
-      let B : ℕ → Type 0 = λ j. IsBalanced b old.tree j in
-      balanced_over b nodes crossing holds m old new p below lower at k before s.sent reader queue rest given out ta tb o.straight w.cut w.reads w.sent w.counted (subst B (same n (items_in given) old.root.demand.sent p.root.demand.sent count o.counted) bal) on o.counted live
-      (λ l. u.given.on (u.goes_on (edge_live p at s pos o.there l))) u.counted o.opened (ap (option_map (λ t. t.sent)) o.there) o.all;
-  reads = reading_over b nodes crossing holds m old new p below lower at k reader queue rest ta tb whole o.straight w.cut w.free o.reading u.given.reading o.agrees same_below on.reads live (λ l. (u.given.on (u.goes_on (edge_live p at s pos o.there l))).reads);
-}
-  where
-    same : (n i a z : ℕ) → n + i ≡ z → a + i ≡ z → n ≡ a
-    same n i a z h1 h2 = omega (arith, h1, h2)
-
--- ---- where the upper piece has sent its ending
-
--- its last signal is let go by the joined part, too
-over_gone : {M T : Type 0} (b : Machine M T) (m : Meaning T) (crossing : CrossingNodes M T) (p upper lower : Part M) (at : ℕ) (rest : List T) (s : Signal T) → 0 < at → ends_input s ≡ true → p.tree.inputs ≡ upper.tree.inputs → place_at at p.tree ≡ place_at at upper.tree →
-    IsLetGo b m p.tree s upper.tree → IsLetGo b m (joined crossing p at lower rest).tree s (joined crossing upper at lower rest).tree
-over_gone {M} b m crossing p upper lower at rest s pos ends inputs place gone =
-    let x = crossing.queued (held_in crossing (place_at at upper.tree) ++ rest) lower.tree.machine in
-    let y = crossing.queued (held_in crossing (place_at at p.tree) ++ rest) lower.tree.machine in
-    let u = put_at (at - 1) x lower.tree.inputs upper.tree.inputs in
-    let n : Node M = record { machine = p.tree.machine; inputs = u } in
-    let n' : Node M = record { machine = upper.tree.machine; inputs = u } in
-    let G : Inputs M → Type 0 = λ i. IsLetGo b m (record { machine = p.tree.machine; inputs = i }) s upper.tree in
-    let over = lets_go_over b m p.tree.machine upper.tree.machine upper.tree.inputs u s ends (subst G inputs gone) in
-    let first : y ≡ x = ap (λ o. crossing.queued (held_in crossing o ++ rest) lower.tree.machine) place in
-    let old_is : (joined crossing p at lower rest).tree ≡ n =
-    with_below at y lower.tree.inputs p.tree pos ∙ (ap (λ z. let t : Node M = record { machine = p.tree.machine; inputs = put_at (at - 1) z lower.tree.inputs p.tree.inputs } in t) first
-    ∙ ap (λ i. let t : Node M = record { machine = p.tree.machine; inputs = put_at (at - 1) x lower.tree.inputs i } in t) inputs)
-    in
-    let new_is : (joined crossing upper at lower rest).tree ≡ n' = with_below at x lower.tree.inputs upper.tree pos in
-    let F : Node M → Type 0 = λ t. IsLetGo b m t s n' in
-    let H : Node M → Type 0 = λ t. IsLetGo b m (joined crossing p at lower rest).tree s t in
-    subst H (sym new_is) (subst F (sym old_is) over)
-
--- ---- the joined part
-
--- The part as it was before an ending that the upper piece sent: below the root it is the same.
-before_place : {M T : Type 0} (b : Machine M T) (m : Meaning T) (p upper : Part M) (s : Signal T) (at : ℕ) → 0 < at → IsSentOut b m p s upper → place_at at p.tree ≡ place_at at upper.tree
-before_place b m p upper s at pos h = place_below at p.tree pos ∙ (ap (sender_at (at - 1)) h.popped.1 ∙ sym (place_below at upper.tree pos))
-
-stands_over : {M T : Type 0} (b : Machine M T) (nodes : Nodes M T) (crossing : CrossingNodes M T) → HoldsLaw b nodes crossing →
-    (m : Meaning T) (old new upper below lower : Part M) (at k before : ℕ) (reader : M) (place : Place M) (s : Station M) (queue rest : List T) (queued out : List (Signal T)) (up : Up T) (ta tb whole : List (Stream T)) → 0 < at →
-    WasCut b nodes crossing old at k before reader below queue new → carried_up up + items_in queued ≡ old.root.demand.sent → (above : PieceStands b m ta new.tree queued upper up) → station_of upper.tree (edge_view upper.root) at ≡ Some s →
-    IsBelow b m tb below lower out s → nodes.crosses lower.tree.machine ≡ false → place_at at upper.tree ≡ Some place → place.below ≡ End → AgreesOn b k ta whole upper.tree → AgreesOn b k tb whole lower.tree → CountsOver b crossing m old upper at rest lower.root.demand.sent s →
-    -- what came out of the part that was cut, where the lower piece is joined to such a part
-    ((p : Part M) (given : List (Signal T)) → place_at at p.tree ≡ place_at at upper.tree → AllGoOn (readings b new.tree) (readings b p.tree) → Carries b m ta new.tree p.tree given → Carries b m whole old.tree (joined crossing p at lower rest).tree given) →
-    PieceStands b m whole old.tree queued (joined crossing upper at lower rest) up
-stands_over {M} b nodes crossing holds m old new upper below lower at k before reader place s queue rest queued out up ta tb whole pos w count above there u straight at_place alone same_above same_below counts joins =
-    let spent : old.root.demand.sent + items_in above.out ≡ upper.root.demand.sent = ap (λ n. n + items_in above.out) (sym count) ∙ counted up upper.root.demand.sent queued above.out above.step.sent above.sent in
-    let o : IsOver b nodes crossing m old new lower upper at k s rest above.out ta whole = record {
-      reading = above.reading;
-      there = there;
-      straight = straight;
-      place = place;
-      at_place = at_place;
-      alone = alone;
-      counted = spent;
-      agrees = same_above;
-      all = counts.all;
-      opened = counts.now_open;
-      joins = joins upper above.out refl above.reading above.flow;
-    } in
-    record {
-      out = above.out;
-      sent = above.sent;
-      flow = o.joins;
-      step = record { asked = above.step.asked; sent = above.step.sent };
-      reading = over_reading b nodes crossing holds m old new below lower upper at k before reader s queue rest out above.out ta tb whole w u o;
-      live = λ on. over_on b nodes crossing holds m old new below lower upper at k before reader s queue rest out above.out ta tb whole pos w u same_below o on (above.live on);
-      ended = λ over.
-          let e = above.ended over in
-          let p = e.before in
-          let gone = let_go b m p e.last upper e.sent in
-          let inputs : p.tree.inputs ≡ upper.tree.inputs = e.sent.popped.1 in
-          let same = before_place b m p upper e.last at pos e.sent in
-          let reads : readings b upper.tree ≡ readings b p.tree = gone.alike.2 in
-          let R : List (Option Reading) → Type 0 = λ l. AllGoOn (readings b new.tree) l in
-          let A : List (Option Reading) → Type 0 = λ l. AllOf (λ i. (i ≡ k → ⊥) → slice_get whole i ≡ slice_get ta i) l in
-          let go = subst R reads above.reading in
-          let q : IsOver b nodes crossing m old new lower p at k s rest e.rest ta whole = record {
-            reading = go;
-            there = station_under p at pos ∙ (ap (λ t. station t (at - 1)) inputs ∙ (sym (station_under upper at pos) ∙ there));
-            straight = straight;
-            place = place;
-            at_place = same ∙ at_place;
-            alone = alone;
-            counted = ap (λ n. n + items_in e.rest) (sym count) ∙ count_before b m ta new.tree queued upper up above.out above.sent above.step.sent e;
-            agrees = subst A reads same_above;
-            all = ap (λ z. s.sent + length (held_in crossing z ++ rest)) same ∙ counts.all;
-            opened = counts.open_before p e.last e.sent;
-            joins = joins p e.rest same go e.flow;
-          } in
-          record {
-            before = joined crossing p at lower rest;
-            rest = e.rest;
-            last = e.last;
-            all = e.all;
-            ends = e.ends;
-            sent = sent_out b m (joined crossing p at lower rest) (joined crossing upper at lower rest) e.last (over_gone b m crossing p upper lower at rest e.last pos e.ends inputs same gone) e.sent.can e.sent.root;
-            live = e.live;
-            on = over_on b nodes crossing holds m old new below lower p at k before reader s queue rest out e.rest ta tb whole pos w u same_below q e.live e.on;
-            flow = q.joins;
-          };
-      closed = λ shut.
-          let c = above.closed shut in
-          let x = crossing.queued (held_in crossing (place_at at upper.tree) ++ rest) lower.tree.machine in
-          let dead = none_station upper.tree.inputs (at - 1) s (sym (station_under upper at pos) ∙ there) c.edges in
-          let N : Node M → Type 0 = λ t. IsAllClosed t in
-          record {
-            unended = c.unended;
-            edges = subst N (sym (with_below at x lower.tree.inputs upper.tree pos)) (none_put x lower.tree.inputs upper.tree.inputs (at - 1) c.edges (u.closed dead));
-            flag = c.flag;
-          };
-    }
-
-pub joins_whole : {M T : Type 0} (b : Machine M T) (nodes : Nodes M T) (crossing : CrossingNodes M T) → HoldsLaw b nodes crossing → JoinsAfterMoves b nodes crossing → JoinsWhole b nodes crossing
-joins_whole b nodes crossing holds after m old new upper below lower at k before reader s queue rest taken queued out up inlet ta tb whole pos w count above there u can link hub came all sh counts =
+pub joins_whole : {M T : Type 0} (b : Machine M T) (nodes : Nodes M T) (crossing : CrossingNodes M T) → HoldsLaw b nodes crossing → CountedLaw b crossing → JoinsAfterMoves b nodes crossing → JoinsWhole b nodes crossing
+joins_whole b nodes crossing holds law after m old new upper below lower at k before reader s queue rest taken queued out up inlet ta tb whole pos w count above there u can link hub carried came all sh =
     let j = can_join_is b nodes crossing upper at k lower.tree.machine rest can in
-    let reached = has_reached b nodes upper at k lower.tree.machine taken inlet ta j link hub came in
-    stands_over b nodes crossing holds m old new upper below lower at k before reader j.place s queue rest queued out up ta tb whole pos w count above there u j.straight j.there j.alone sh.same_above sh.same_below counts (λ p given same go flow.
+    let far = node_reached b upper at k j.place taken inlet ta j.there j.reads link hub came in
+    let held = can_held b nodes crossing upper at k lower.tree.machine rest j.place j.there can in
+    let began = has_begun b upper at k before j.place far.0 inlet ta j.there far.1 far.2 link hub carried in
+    let items = items_all taken rest queue out [] (ap (λ l. map Next taken ++ l) (append-nil (map Next rest)) ∙ (all ∙ ap (λ l. map Next queue ++ l) (sym (append-nil out)))) in
+    let fills = queue_fills b nodes crossing holds m old new upper below lower at k before reader j.place s queue rest out ta tb whole pos w u j.straight j.there j.alone sh.same_below above.reading (λ p same is clear bal.
+    counts_all b crossing law p at before (length taken) below.root.demand.sent lower.root.demand.sent j.place s far.0 rest queue out (same ∙ j.there) (held ∙ ap (λ z. Some (held_in crossing z)) (sym same)) far.1 far.3 began items w.counted u.counted is clear bal
+    ) (λ p given same go flow.
     let at_place = same ∙ j.there in
     let free = over_free b nodes crossing holds m old new below lower p at k before reader j.place queue rest w j.straight at_place j.alone go u.given.reading in
     let can_p : can_join b nodes crossing p at k lower.tree.machine rest ≡ true = ap (λ z. not (nodes.crosses lower.tree.machine) && can_join_in b crossing k rest z) same ∙ can in
-    let far : HasReached b p at k (length taken) = record { place = reached.place; there = same ∙ reached.there; reads = reached.reads } in
-    after m old new p below lower at k reader queue rest taken out given ta tb whole w.cut w.reads.held w.reads.reads can_p far all w.free free.1 free.0 sh.above sh.below flow u.given.flow)
+    let reached : HasReached b p at k (length taken) = record { place = j.place; there = at_place; reads = far } in
+    after m old new p below lower at k reader queue rest taken out given ta tb whole w.cut w.reads.held (fresh b crossing k before reader w.reads) can_p reached all w.free free.1 free.0 sh.above sh.below flow u.given.flow)
+    in
+    stands_filled b nodes crossing holds m old new upper below at k before reader j.place s queue ta whole (crossing.queued (held_in crossing (place_at at upper.tree) ++ rest) lower.tree.machine) lower.tree.inputs pos w j.there j.alone fills queued up count above there sh.same_above
 
-pub joins_whole_ended : {M T : Type 0} (b : Machine M T) (nodes : Nodes M T) (crossing : CrossingNodes M T) → HoldsLaw b nodes crossing → JoinsAfterEnding b nodes crossing → JoinsWholeEnded b nodes crossing
-joins_whole_ended {M} b nodes crossing holds after m old new upper below kept gone at k before reader place s queue items queued out left ending up inlet ta tb whole pos w count above there u lets carries can at_place link hub all left_is sh counts =
-    let parts = and_parts (not (nodes.crosses kept.tree.machine)) _ can in
-    let straight = is_false (nodes.crosses kept.tree.machine) parts.0 in
-    let can_here : can_rejoin_here b crossing k (length items) place.node place.below ≡ true = sym (ap (can_rejoin_in b crossing k (length items)) at_place) ∙ parts.1 in
-    let alone = ended_row place.below (and_parts (is_end place.below) _ can_here).0 in
-    let taken : HasTaken b crossing k (received_signals inlet.down) left items ending place.node = elim left_is [
-      | inl t ↦ inl (t.0, t.1, t.2, node_reached b upper at k place t.0 inlet ta at_place t.3 link hub t.1)
-      | inr t ↦ inr (t.0, t.1, t.2, t.3, t.4)
-    ] in
+-- ---- where the lower piece has sent its ending
+
+pub joins_whole_ended : {M T : Type 0} (b : Machine M T) (nodes : Nodes M T) (crossing : CrossingNodes M T) → HoldsLaw b nodes crossing → CountedLaw b crossing → JoinsAfterEnding b nodes crossing → JoinsWholeEnded b nodes crossing
+joins_whole_ended {M} b nodes crossing holds law after m old new upper below kept gone at k before reader s queue items taken queued out ending up inlet ta tb whole pos w count above there u lets carries can link hub carried came all sh =
+    let j = can_join_is b nodes crossing upper at k kept.tree.machine items can in
+    let far = node_reached b upper at k j.place taken inlet ta j.there j.reads link hub came in
+    let held = can_held b nodes crossing upper at k kept.tree.machine items j.place j.there can in
+    let began = has_begun b upper at k before j.place far.0 inlet ta j.there far.1 far.2 link hub carried in
+    let counts = items_all taken items queue out (ending ∷ []) all in
     let A : List (Option Reading) → Type 0 = λ l. AllOf (λ i. i ≡ k → ⊥) l in
-    stands_over b nodes crossing holds m old new upper below kept at k before reader place s queue items queued out up ta tb whole pos w count above there u straight at_place alone sh.same_above sh.same_below counts (λ p given same go flow.
-    let there_p = same ∙ at_place in
-    let free = over_free b nodes crossing holds m old new below kept p at k before reader place queue items w straight there_p alone go u.given.reading in
-    let can_p : can_rejoin b nodes crossing p at k kept.tree.machine items ≡ true = ap (λ z. not (nodes.crosses kept.tree.machine) && can_rejoin_in b crossing k (length items) z) same ∙ can in
-    after m old new p below kept gone at k reader place queue items ending (received_signals inlet.down) left (out ++ ending ∷ []) given ta tb whole w.cut w.reads.held w.reads.reads can_p there_p taken all lets w.free free.1 (subst A (sym lets.alike.2) free.0) sh.above sh.below flow carries)
+    let fills = queue_fills b nodes crossing holds m old new upper below kept at k before reader j.place s queue items out ta tb whole pos w u j.straight j.there j.alone sh.same_below above.reading (λ p same is clear bal.
+    counts_all b crossing law p at before (length taken) below.root.demand.sent kept.root.demand.sent j.place s far.0 items queue out (same ∙ j.there) (held ∙ ap (λ z. Some (held_in crossing z)) (sym same)) far.1 far.3 began counts w.counted u.counted is clear bal
+    ) (λ p given same go flow.
+    let at_place = same ∙ j.there in
+    let free = over_free b nodes crossing holds m old new below kept p at k before reader j.place queue items w j.straight at_place j.alone go u.given.reading in
+    let can_p : can_join b nodes crossing p at k kept.tree.machine items ≡ true = ap (λ z. not (nodes.crosses kept.tree.machine) && can_join_in b crossing k items z) same ∙ can in
+    let reached : HasReached b p at k (length taken) = record { place = j.place; there = at_place; reads = far } in
+    after m old new p below kept gone at k reader queue items taken ending (out ++ ending ∷ []) given ta tb whole w.cut w.reads.held (fresh b crossing k before reader w.reads) can_p reached all lets w.free free.1 (subst A (sym lets.alike.2) free.0) sh.above sh.below flow carries)
+    in
+    stands_filled b nodes crossing holds m old new upper below at k before reader j.place s queue ta whole (crossing.queued (held_in crossing (place_at at upper.tree) ++ items) kept.tree.machine) kept.tree.inputs pos w j.there j.alone fills queued up count above there sh.same_above
+
+-- below a node that has ended no edge is clear
+ended_clear : {M T : Type 0} (b : Machine M T) (t : Node M) (x : M) (xs : Inputs M) → b.ended x ≡ true → WasClear b t (record { machine = x; inputs = xs })
+ended_clear b t x xs ended j h = elim (cases_lt 0 j) [
+  | inr z ↦ let first : j ≡ 0 = omega (arith, z) in ap (is_clear b t) first
+  | inl l ↦ let parts = and_parts (not (b.ended x)) _ (sym (clear_under b (record { machine = x; inputs = xs }) j l) ∙ h) in let not_ended = is_false (b.ended x) parts.0 in cc
+]
+
+pub joins_whole_at_end : {M T : Type 0} (b : Machine M T) (nodes : Nodes M T) (crossing : CrossingNodes M T) → HoldsLaw b nodes crossing →
+    ((m : Meaning T) (e : Ending) (q : List T) (s : Signal T) (before n : M) → nodes.crosses n ≡ false → endings e ≡ s ∷ [] → b.waiting m before ≡ Some s → LetsGo (b.comes_out m) before s n → HoldsEnding b m (crossing.ended_queue e q n) (map Next q ++ s ∷ []) n) →
+    JoinsAtEnd b nodes crossing → JoinsWholeAtEnd b nodes crossing
+joins_whole_at_end {M} {T} b nodes crossing holds ends_law after m old new upper below kept gone at k before reader place s queue e came queued out ending up ta tb whole pos w count above there u lets carries can at_place read_to last all sh =
+    let parts = and_parts (not (nodes.crosses gone.tree.machine)) _ can in
+    let straight = is_false (nodes.crosses gone.tree.machine) parts.0 in
+    let can_here : can_end_here crossing 0 place.node place.below ≡ true = sym (ap (can_put_in b crossing None 0) at_place) ∙ parts.1 in
+    let alone = ended_row place.below (and_parts (is_end place.below) _ can_here).0 in
+    let held = held_in crossing (place_at at upper.tree) in
+    let x = put_node crossing None (place_at at upper.tree) [] gone.tree.machine in
+    let E : Ending → Type 0 = λ z. HoldsEnding b m (crossing.ended_queue z (held ++ []) gone.tree.machine) (map Next (held ++ []) ++ ending ∷ []) gone.tree.machine in
+    let over = subst E (sym (ap (ending_in crossing) at_place ∙ ap ending_of read_to)) (ends_law m e (held ++ []) ending kept.tree.machine gone.tree.machine straight last lets.offered lets.lets_go) in
+    let inputs : kept.tree.inputs ≡ gone.tree.inputs = lets.popped.1 in
+    let rows0 = row_readings b below.tree.inputs in
+    let x0 = crossing.queued queue below.tree.machine in
+    let none = apart b nodes crossing holds m old new upper below kept at k reader queue w.cut w.free above.reading u.given.reading in
+    let down = counts_in tb in
+    let whole_counts = counts_in whole in
+    let same = all_of_both (IsNot k) (λ i. IsNot k i → slice_get whole i ≡ slice_get tb i) (SameAt down whole_counts) (agreed k tb whole) (readings b kept.tree) none.now_below sh.same_below in
+    let G : Option Reading → Type 0 = λ r. AllGoOn (b.reads x0 ∷ rows0) (r ∷ row_readings b gone.tree.inputs) in
+    let I : Inputs M → Type 0 = λ r. AllGoOn rows0 (row_readings b r) in
+    let R : Option Reading → Type 0 = λ o. IsReadAt whole_counts o in
+    let D : Inputs M → Type 0 = λ r. IsRowReadAt b whole_counts r in
+    let N : Inputs M → Type 0 = λ r. NoneLive (edges r) in
+    let A : List (Option Reading) → Type 0 = λ l. AllOf (IsNot k) l in
+    let P : Option Reading → Type 0 = λ o. IsOf (IsNot k) o in
+    let gone_free : AllOf (IsNot k) (readings b gone.tree) = subst A (sym lets.alike.2) none.now_below in
+    let fills : Fills b m old new upper at s ta whole x0 below.tree.inputs x gone.tree.inputs = record {
+      goes = subst G (sym over.reads) (inr refl, subst I inputs u.given.reading.1);
+      balanced = λ p same there open_still live_still clear bal was. inl over.ended;
+      reads = λ l. (subst R (sym over.reads) tt, subst D inputs (tree_over b down whole_counts kept.tree same (u.given.on (u.goes_on l)).reads).1);
+      clear = λ l. ended_clear b (record { machine = x0; inputs = below.tree.inputs }) x gone.tree.inputs over.ended;
+      shut = λ d. subst N inputs (u.closed d);
+      joins = λ p given same go flow.
+          let there_p = same ∙ at_place in
+          let p_none = (apart b nodes crossing holds m old new p below kept at k reader queue w.cut w.free go u.given.reading).above in
+          let can_p : can_rejoin_ended b nodes crossing p at gone.tree.machine [] ≡ true = ap (λ z. not (nodes.crosses gone.tree.machine) && can_put_in b crossing None 0 z) same ∙ can in
+          let xp = put_node crossing None (place_at at p.tree) [] gone.tree.machine in
+          let x_is : xp ≡ x = ap (λ z. put_node crossing None z [] gone.tree.machine) same in
+          let free = put_reads_not b k at xp gone.tree.inputs place p there_p alone p_none (subst P (sym (ap b.reads x_is ∙ over.reads)) tt, gone_free.1) in
+          let J : M → Type 0 = λ z. Carries b m whole old.tree (with_node at z gone.tree.inputs p.tree) given in
+          subst J x_is
+          (after m old new p below kept gone at k reader place queue e ending came (out ++ ending ∷ []) given ta tb whole w.cut w.reads.held (fresh b crossing k before reader w.reads) can_p there_p read_to last all lets w.free free gone_free sh.above sh.below flow carries);
+    } in
+    stands_filled b nodes crossing holds m old new upper below at k before reader place s queue ta whole x gone.tree.inputs pos w at_place alone fills queued up count above there sh.same_above

@@ -8,7 +8,7 @@ use Rattle.rsx_tree.specs.Edges.{is_live}
 use Rattle.rsx_tree.specs.Reads.{readings}
 use Rattle.rsx_pipe.specs.Part.{Part}
 use Rattle.rsx_pipe.specs.Published.{reader_edge}
-use Rattle.rsx_link.specs.Ends.{IsCancelSeatOf, IsDownOf, asked_total, cancels_of, received_signals}
+use Rattle.rsx_link.specs.Ends.{IsCancelSeatOf, IsDownOf, asked_total, cancels_of, carried_down, received_signals}
 use Rattle.rsx_link.specs.Signals.{items_in}
 use Rattle.rsx_link.specs.declared.cancel.CancelSeat.{CancelSeat}
 use Rattle.rsx_link.specs.declared.down.Down.{Down}
@@ -54,6 +54,15 @@ IsReachedAt h count (Some r) = r.hub ≡ h → r.reached ≡ count
 abbrev pub HaveReached : ℕ → ℕ → List (Option Reading) → Type 0
 HaveReached h count rs = AllByRecursion (IsReachedAt h count) rs
 
+-- where it reads the hub, it missed nothing of it, and so many items were sent before
+abbrev pub IsBegunAt : ℕ → ℕ → Option Reading → Type 0
+IsBegunAt h before None = ⊤
+IsBegunAt h before (Some r) = r.hub ≡ h → (r.missed ≡ 0) × (r.before ≡ before)
+
+-- so it is of each of these
+abbrev pub HaveBegun : ℕ → ℕ → List (Option Reading) → Type 0
+HaveBegun h before rs = AllByRecursion (IsBegunAt h before) rs
+
 -- A link that comes in, of which the part's reader has this number, the piece this end, and this seat.
 pub record LinkStands {M T : Type 0} (b : Machine M T) (taken : List (Stream T)) (part : Part M) (hub : ℕ) (down : Down T) (closer : CancelSeat) : Type 0 where
   -- what came over it stands among what was taken in
@@ -62,6 +71,8 @@ pub record LinkStands {M T : Type 0} (b : Machine M T) (taken : List (Stream T))
   pub one : OneReads hub (readings b part.tree)
   -- and that one took in as many items as came over it
   pub reached : HaveReached hub (items_in (received_signals down)) (readings b part.tree)
+  -- its counts begin with what went over the edge before the link was made
+  pub began : HaveBegun hub (carried_down down) (readings b part.tree)
   -- no more was asked of it than of the reader's edge, and it was cancelled only where that isn't live
   pub asked : (e : Edge) → reader_edge b hub part ≡ Some e → asked_total down ≤ e.demand.asked
   pub cancelled : (e : Edge) → reader_edge b hub part ≡ Some e → 0 < cancels_of closer → is_live e.state ≡ false

@@ -1,53 +1,25 @@
 -- What a cut and a join owe of the counts along the edges, and of what the nodes read.
-use Rattle.std.specs.Prelude.{◌≡◌, ℕ, ◌+◌, ◌-◌, ◌<◌, Bool, true, false, not, ◌&&◌, nat_eq, nat_le, if◌then◌else◌, List, [], ◌++◌, length, Option, Some, option_map, slice_get}
-use Rattle.rsx_sources.specs.Prelude.{Meaning, Open, Signal, Stream, ended_by, reads_hub}
+use Rattle.std.specs.Prelude.{◌≡◌, ℕ, ◌+◌, ◌<◌, true, false, List, [], ◌++◌, length, map, Option, Some, option_map, slice_get}
+use Rattle.rsx_sources.specs.Prelude.{Meaning, Next, Open, Signal, Stream, ended_by, reads_hub}
 use Rattle.rsx_sources.specs.declared.machine.Machine.{Ghosts as Machine}
 use Rattle.rsx_rooted.specs.declared.nodes.CrossingNodes.{Ghosts as CrossingNodes}
 use Rattle.rsx_rooted.specs.declared.nodes.Nodes.{Ghosts as Nodes}
 use Rattle.rsx_tree.specs.declared.edge.EdgeState.TheVariants.{Live}
-use Rattle.rsx_tree.specs.declared.inputs.Inputs.{Inputs, End, More'}
 use Rattle.rsx_tree.specs.declared.node.Node.{Node}
-use Rattle.rsx_tree.specs.Edges.{edge_view, is_live}
-use Rattle.rsx_tree.specs.Inputs.{size}
+use Rattle.rsx_tree.specs.Edges.{edge_view}
 use Rattle.rsx_tree.specs.Reads.{AllGoOn, IsTreeReadAt, readings}
 use Rattle.rsx_tree.specs.Stepped.{station_of}
-use Rattle.rsx_pipe.specs.Cutting.{IsCut, Place, can_join, held_in, joined, place_at}
+use Rattle.rsx_pipe.specs.Cutting.{IsCut, Place, ReadsAt, can_join, joined, place_at}
 use Rattle.rsx_pipe.specs.Output.{counts_in}
 use Rattle.rsx_pipe.specs.Part.{Part}
 use Rattle.rsx_pipe.specs.Tree.{IsBalanced}
-use Rattle.rsx_link.specs.Ends.{cancels_of}
+use Rattle.rsx_link.specs.Ends.{cancels_of, carried_down, received_signals}
 use Rattle.rsx_link.specs.Signals.{items_in}
 use Rattle.rsx_cut.specs.Local.{AllOf, ReadsNot}
 use Rattle.rsx_piece.specs.Inlet.{InletStands}
+use Rattle.rsx_piece.specs.Open.{is_live_over, is_open_over}
 use Rattle.rsx_piece.specs.Piece.{GoesOn}
 use Rattle.rsx_piece.specs.declared.inlet.Inlet.{Inlet}
-
--- ---- what stands over an edge
-
--- No receiver over the edge `at` of a row, whose first edge is input `i` of its receiver, has ended, or is done with what comes from
--- there.
-abbrev pub is_row_open : {M T : Type 0} → Machine M T → M → ℕ → Inputs M → ℕ → Bool
-is_row_open b r i End at = false
-is_row_open b r i (More' e n p below q beside) at =
-    if nat_eq at 0 then not (b.done r i)
-    else (if nat_le at (size below) then not (b.done r i) && (not (b.ended n) && is_row_open b n 0 below (at - 1))
-    else is_row_open b r (i + 1) beside (at - 1 - size below))
-
--- the same of an edge of a part, 0 being that of its root, over which no receiver stands
-abbrev pub is_open_over : {M T : Type 0} → Machine M T → Part M → ℕ → Bool
-is_open_over b part at = if nat_eq at 0 then true else not (b.ended part.tree.machine) && is_row_open b part.tree.machine 0 part.tree.inputs (at - 1)
-
--- the edge `at` of a row, and each edge over it, is live
-abbrev pub is_row_live : {M : Type 0} → Inputs M → ℕ → Bool
-is_row_live End at = false
-is_row_live (More' e n p below q beside) at =
-    if nat_eq at 0 then is_live e.state
-    else (if nat_le at (size below) then is_live e.state && is_row_live below (at - 1)
-    else is_row_live beside (at - 1 - size below))
-
--- the same of an edge of a part
-abbrev pub is_live_over : {M : Type 0} → Part M → ℕ → Bool
-is_live_over part at = is_live part.root.state && (if nat_eq at 0 then true else is_row_live part.tree.inputs (at - 1))
 
 -- how many items went over the edge `at` of a part
 abbrev pub sent_over_edge : {M : Type 0} → Part M → ℕ → Option ℕ
@@ -58,7 +30,7 @@ sent_over_edge part at = option_map (λ s. s.sent) (station_of part.tree (edge_v
 -- the node reads what comes over the link `k`, of which nothing came yet, and goes on from so many items that were sent
 pub record IsReader {M T : Type 0} (b : Machine M T) (crossing : CrossingNodes M T) (k before : ℕ) (n : M) : Type 0 where
   pub held : crossing.held n ≡ Some []
-  pub reads : b.reads n ≡ Some (record { hub = k; reached = 0 })
+  pub reads : b.reads n ≡ Some (record { hub = k; reached = 0; missed = 0; before = before })
   pub goes_on : b.ended n ≡ false
   pub counted : (taken : List ℕ) → b.counted n taken before
 
@@ -87,27 +59,26 @@ CutsReading {M} {T} b nodes crossing =
 
 -- ---- two pieces are joined again
 
--- A part was cut into two, of which the upper one sent `went` and the lower one `out` since then, and no ending. Where the counts of
--- the whole belonged together, those of the joined part do. The joined edge counts what it had sent, and in its queue is what the reader
--- holds and then `rest`; with these that is what counts as sent by the lower piece. Over a live edge the lower piece goes on. And where
--- no receiver over the edge has ended or is done with it now, none had or was as the part was cut.
+-- A part was cut into two, of which the upper one sent `went` and the lower one `out` since then, and no ending. Of what was in the
+-- queue, and of `out`, `taken` came to the reader, by an end that began with what had gone over the edge. Over a live edge the lower piece
+-- goes on. Where the counts of the whole belonged together, those of the joined part do. In its queue is what the reader holds and then
+-- `rest`; with these the joined edge counts what the lower piece sent.
 abbrev pub JoinsBalanced : {M T : Type 0} → Machine M T → Nodes M T → CrossingNodes M T → Type 0
 JoinsBalanced {M} {T} b nodes crossing =
-    (m : Meaning T) (old new upper below lower : Part M) (at k before sent : ℕ) (reader : M) (queue rest : List T) (went out : List (Signal T)) (taken_above taken_below : List (Stream T)) →
+    (m : Meaning T) (old new upper below lower : Part M) (at k before : ℕ) (reader : M) (queue rest taken : List T) (went out : List (Signal T)) (inlet : Inlet T) (taken_above taken_below : List (Stream T)) →
     IsCut nodes crossing old at reader below queue new → IsReader b crossing k before reader → sent_over_edge old at ≡ Some before → before + length queue ≡ below.root.demand.sent →
     IsBalanced b old.tree old.root.demand.sent →
     can_join b nodes crossing upper at k lower.tree.machine rest ≡ true →
     GoesOn b taken_above new.tree upper went → old.root.demand.sent + items_in went ≡ upper.root.demand.sent → upper.root.state ≡ Live →
     (is_live_over upper at ≡ true → GoesOn b taken_below below.tree lower out) → below.root.demand.sent + items_in out ≡ lower.root.demand.sent →
-    (is_open_over b upper at ≡ true → is_open_over b old at ≡ true) →
-    sent_over_edge upper at ≡ Some sent → sent + length (held_in crossing (place_at at upper.tree) ++ rest) ≡ lower.root.demand.sent →
+    InletStands b taken_above upper inlet → inlet.hub ≡ k → carried_down inlet.down ≡ before → received_signals inlet.down ≡ map Next taken → map Next taken ++ map Next rest ≡ map Next queue ++ out →
     IsBalanced b (joined crossing upper at lower rest).tree (joined crossing upper at lower rest).root.demand.sent
 
 -- What the nodes of both pieces have taken in, those of the joined part have. That of the reader, which is dropped, doesn't matter.
 abbrev pub JoinsReading : {M T : Type 0} → Machine M T → Nodes M T → CrossingNodes M T → Type 0
 JoinsReading {M} {T} b nodes crossing =
     (m : Meaning T) (old new upper below lower : Part M) (at k : ℕ) (reader : M) (queue rest : List T) (taken_above taken_below whole : List (Stream T)) →
-    IsCut nodes crossing old at reader below queue new → b.reads reader ≡ Some (record { hub = k; reached = 0 }) → ReadsNot b k old.tree →
+    IsCut nodes crossing old at reader below queue new → ReadsAt b k 0 reader → ReadsNot b k old.tree →
     can_join b nodes crossing upper at k lower.tree.machine rest ≡ true →
     AllGoOn (readings b new.tree) (readings b upper.tree) → AllGoOn (readings b below.tree) (readings b lower.tree) →
     AgreesOn b k taken_above whole upper.tree → AgreesOn b k taken_below whole lower.tree →

@@ -1,14 +1,12 @@
 -- Two pieces with a link between them, joined again.
-use Rattle.std.specs.Prelude.{◌≡◌, ◌⊎◌, ℕ, true, List, [], ◌∷◌, ◌++◌, length, map, Some}
-use Rattle.rsx_sources.specs.Prelude.{Ending, Meaning, Next, Signal, Stream, reads_hub}
+use Rattle.std.specs.Prelude.{◌≡◌, ℕ, true, List, [], ◌∷◌, ◌++◌, length, map, Some}
+use Rattle.rsx_sources.specs.Prelude.{Meaning, Next, Signal, Stream}
 use Rattle.rsx_sources.specs.declared.machine.Machine.{Ghosts as Machine}
-use Rattle.rsx_rooted.specs.Cutting.{endings}
 use Rattle.rsx_rooted.specs.declared.nodes.CrossingNodes.{Ghosts as CrossingNodes}
 use Rattle.rsx_rooted.specs.declared.nodes.Nodes.{Ghosts as Nodes}
-use Rattle.rsx_pipe.specs.Cutting.{IsCut, Place, can_join, joined, place_at}
+use Rattle.rsx_pipe.specs.Cutting.{IsCut, ReadsAt, can_join, joined}
 use Rattle.rsx_pipe.specs.Joined.{HasReached}
 use Rattle.rsx_pipe.specs.Part.{Part}
-use Rattle.rsx_pipe.specs.Rejoined.{can_rejoin}
 use Rattle.rsx_link.specs.Ends.{received_signals, sent_signals}
 use Rattle.rsx_link.specs.declared.up.Up.{Up}
 use Rattle.rsx_cut.specs.Local.{ReadsNot}
@@ -23,7 +21,7 @@ use Rattle.rsx_piece.specs.declared.inlet.Inlet.{Inlet}
 abbrev pub JoinsPieces : {M T : Type 0} → Machine M T → Nodes M T → CrossingNodes M T → Type 0
 JoinsPieces {M} {T} b nodes crossing =
     (m : Meaning T) (old new upper below lower : Part M) (at k : ℕ) (reader : M) (queue rest taken : List T) (queued : List (Signal T)) (up between : Up T) (taken_above taken_below whole : List (Stream T)) →
-    IsCut nodes crossing old at reader below queue new → crossing.held reader ≡ Some [] → b.reads reader ≡ Some (record { hub = k; reached = 0 }) →
+    IsCut nodes crossing old at reader below queue new → crossing.held reader ≡ Some [] → ReadsAt b k 0 reader →
     can_join b nodes crossing upper at k lower.tree.machine rest ≡ true → HasReached b upper at k (length taken) →
     map Next taken ++ map Next rest ≡ sent_signals between →
     ReadsNot b k old.tree → ReadsNot b k (joined crossing upper at lower rest).tree → ReadsNot b k below.tree →
@@ -36,7 +34,7 @@ JoinsPieces {M} {T} b nodes crossing =
 abbrev pub JoinsAgain : {M T : Type 0} → Machine M T → Nodes M T → CrossingNodes M T → Type 0
 JoinsAgain {M} {T} b nodes crossing =
     (m : Meaning T) (old new upper below lower : Part M) (at k : ℕ) (reader : M) (queue rest taken : List T) (queued out : List (Signal T)) (up : Up T) (inlet : Inlet T) (taken_above taken_below whole : List (Stream T)) →
-    IsCut nodes crossing old at reader below queue new → crossing.held reader ≡ Some [] → b.reads reader ≡ Some (record { hub = k; reached = 0 }) →
+    IsCut nodes crossing old at reader below queue new → crossing.held reader ≡ Some [] → ReadsAt b k 0 reader →
     can_join b nodes crossing upper at k lower.tree.machine rest ≡ true → InletStands b taken_above upper inlet → inlet.hub ≡ k → received_signals inlet.down ≡ map Next taken →
     map Next taken ++ map Next rest ≡ map Next queue ++ out →
     ReadsNot b k old.tree → Adds taken_above whole k (map Next taken) → Adds taken_below whole k [] →
@@ -44,18 +42,16 @@ JoinsAgain {M} {T} b nodes crossing =
     ReadsNot b k lower.tree × ReadsNot b k (joined crossing upper at lower rest).tree
     × ((went : List (Signal T)) × (sent_signals up ≡ queued ++ went) × Carries b m whole old.tree (joined crossing upper at lower rest).tree went)
 
--- The lower piece has sent its ending, and that is put back. Of what it sent, all that the reader didn't take is `left`: these items and
--- the ending, where the reader reads the link still; or nothing, where that ending came to it.
+-- The lower piece has sent its ending, which didn't come to the reader, and that is put back. Of what it sent, these items and the ending are
+-- left.
 abbrev pub JoinsEnded : {M T : Type 0} → Machine M T → Nodes M T → CrossingNodes M T → Type 0
 JoinsEnded {M} {T} b nodes crossing =
-    (m : Meaning T) (old new upper below lower : Part M) (at k : ℕ) (reader : M) (place : Place M) (queue items : List T) (queued left : List (Signal T)) (up between : Up T) (inlet : Inlet T) (taken_above taken_below whole : List (Stream T)) →
-    IsCut nodes crossing old at reader below queue new → crossing.held reader ≡ Some [] → b.reads reader ≡ Some (record { hub = k; reached = 0 }) →
+    (m : Meaning T) (old new upper below lower : Part M) (at k : ℕ) (reader : M) (queue items taken : List T) (queued : List (Signal T)) (up between : Up T) (inlet : Inlet T) (taken_above taken_below whole : List (Stream T)) →
+    IsCut nodes crossing old at reader below queue new → crossing.held reader ≡ Some [] → ReadsAt b k 0 reader →
     PieceStands b m taken_above new.tree queued upper up → PieceStands b m taken_below below.tree (map Next queue) lower between →
     (gave : GaveBefore b m taken_below below.tree (map Next queue) lower between) →
-    can_rejoin b nodes crossing upper at k gave.before.tree.machine items ≡ true → place_at at upper.tree ≡ Some place →
-    InletStands b taken_above upper inlet → inlet.hub ≡ k → received_signals inlet.down ++ left ≡ sent_signals between →
-    (((taken : List T) × (received_signals inlet.down ≡ map Next taken) × (left ≡ map Next items ++ gave.last ∷ []) × (reads_hub k (b.reads place.node) ≡ true))
-    ⊎ ((e : Ending) × (crossing.read_to place.node ≡ Some e) × (endings e ≡ gave.last ∷ []) × (left ≡ []) × (items ≡ []))) →
-    ReadsNot b k old.tree → Adds taken_above whole k (received_signals inlet.down) → Adds taken_below whole k [] →
+    can_join b nodes crossing upper at k gave.before.tree.machine items ≡ true → InletStands b taken_above upper inlet → inlet.hub ≡ k → received_signals inlet.down ≡ map Next taken →
+    map Next taken ++ (map Next items ++ gave.last ∷ []) ≡ sent_signals between →
+    ReadsNot b k old.tree → Adds taken_above whole k (map Next taken) → Adds taken_below whole k [] →
     ReadsNot b k (joined crossing upper at gave.before items).tree
     × ((went : List (Signal T)) × (sent_signals up ≡ queued ++ went) × Carries b m whole old.tree (joined crossing upper at gave.before items).tree went)

@@ -16,6 +16,7 @@ use Rattle.rsx_link.specs.Signals.{items_in}
 use Rattle.rsx_link.specs.Steps.{flags_of, has_cancel, has_refusal}
 use Rattle.rsx_link.specs.declared.up.Up.{Up}
 use Rattle.rsx_cut.specs.Regions.{Carries}
+use Rattle.rsx_piece.specs.Open.{WasClear}
 
 -- the root edge of a part and the sending end of its link count alike
 pub record IsInStep {M T : Type 0} (part : Part M) (up : Up T) : Type 0 where
@@ -30,6 +31,8 @@ pub record GoesOn {M T : Type 0} (b : Machine M T) (taken : List (Stream T)) (ol
   -- where the counts in its tree belonged together then, with so many items sent, they do now
   pub balance : (before : ℕ) → before + items_in out ≡ part.root.demand.sent → IsBalanced b old before → IsBalanced b part.tree part.root.demand.sent
   pub reads : IsTreeReadAt b (counts_in taken) part.tree
+  -- an edge over which no receiver has ended or is done now, and which is live with all over it, was so then
+  pub clear : WasClear b old part.tree
 
 -- The last signal that it gave was an ending. The part as it was before that comes back where the signal is put back.
 pub record HasEnded {M T : Type 0} (b : Machine M T) (m : Meaning T) (taken : List (Stream T)) (old : Node M) (part : Part M) (out : List (Signal T)) : Type 0 where

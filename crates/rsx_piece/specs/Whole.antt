@@ -1,6 +1,6 @@
 -- Two pieces that are joined again are a piece, since the part was cut.
-use Rattle.std.specs.Prelude.{◌≡◌, ◌⊎◌, ℕ, ◌+◌, ◌<◌, true, false, List, [], ◌∷◌, ◌++◌, length, map, Some}
-use Rattle.rsx_sources.specs.Prelude.{Ending, Meaning, Next, Signal, Stream, reads_hub}
+use Rattle.std.specs.Prelude.{◌≡◌, ℕ, ◌+◌, ◌<◌, true, false, List, [], ◌∷◌, ◌++◌, length, map, Some}
+use Rattle.rsx_sources.specs.Prelude.{Ending, Meaning, Next, Signal, Stream}
 use Rattle.rsx_sources.specs.declared.machine.Machine.{Ghosts as Machine}
 use Rattle.rsx_rooted.specs.Cutting.{endings}
 use Rattle.rsx_rooted.specs.declared.nodes.CrossingNodes.{Ghosts as CrossingNodes}
@@ -9,18 +9,17 @@ use Rattle.rsx_tree.specs.declared.edge.EdgeState.TheVariants.{Live}
 use Rattle.rsx_tree.specs.declared.node.Node.{Node}
 use Rattle.rsx_tree.specs.Edges.{edge_view, is_live}
 use Rattle.rsx_tree.specs.Stepped.{Station, station_of}
-use Rattle.rsx_pipe.specs.Cutting.{IsCut, Place, can_join, held_in, joined, place_at}
-use Rattle.rsx_pipe.specs.Feeding.{IsSentOut}
+use Rattle.rsx_pipe.specs.Cutting.{IsCut, Place, can_join, joined, place_at}
 use Rattle.rsx_pipe.specs.Part.{Part}
-use Rattle.rsx_pipe.specs.Rejoined.{can_rejoin}
+use Rattle.rsx_pipe.specs.Rejoined.{can_rejoin_ended, joined_ended}
 use Rattle.rsx_pipe.specs.Tree.{IsAllClosed, IsLetGo}
-use Rattle.rsx_link.specs.Ends.{carried_up, received_signals}
+use Rattle.rsx_link.specs.Ends.{carried_down, carried_up, received_signals}
 use Rattle.rsx_link.specs.Signals.{items_in}
 use Rattle.rsx_link.specs.declared.up.Up.{Up}
 use Rattle.rsx_cut.specs.Local.{ReadsNot}
 use Rattle.rsx_cut.specs.Regions.{Adds, Carries}
 use Rattle.rsx_piece.specs.Inlet.{InletStands}
-use Rattle.rsx_piece.specs.Joined.{AgreesOn, IsReader, is_open_over, sent_over_edge}
+use Rattle.rsx_piece.specs.Joined.{AgreesOn, IsReader, sent_over_edge}
 use Rattle.rsx_piece.specs.Piece.{HasGiven, PieceStands}
 use Rattle.rsx_piece.specs.declared.inlet.Inlet.{Inlet}
 
@@ -47,13 +46,6 @@ pub record IsBelow {M T : Type 0} (b : Machine M T) (m : Meaning T) (taken : Lis
   pub goes_on : is_live there.state ≡ true → lower.root.state ≡ Live
   pub closed : is_live there.state ≡ false → IsAllClosed lower.tree
 
--- What no step of a piece tells: the joined edge counts what went over it; and a receiver over the edge that is open now, or was just
--- before the upper piece sent its ending, was open as the part was cut.
-pub record CountsOver {M T : Type 0} (b : Machine M T) (crossing : CrossingNodes M T) (m : Meaning T) (old upper : Part M) (at : ℕ) (rest : List T) (count : ℕ) (there : Station M) : Type 0 where
-  pub all : there.sent + length (held_in crossing (place_at at upper.tree) ++ rest) ≡ count
-  pub now_open : is_open_over b upper at ≡ true → is_open_over b old at ≡ true
-  pub open_before : (p : Part M) (s : Signal T) → IsSentOut b m p s upper → is_open_over b p at ≡ true → is_open_over b old at ≡ true
-
 -- Where two pieces are joined again at an edge below the root, the joined part is a piece with the sending end of the upper one: it gave
 -- what that sent, since the part was cut.
 abbrev pub JoinsWhole : {M T : Type 0} → Machine M T → Nodes M T → CrossingNodes M T → Type 0
@@ -62,22 +54,30 @@ JoinsWhole {M} {T} b nodes crossing =
     0 < at → WasCut b nodes crossing old at k before reader below queue new → carried_up up + items_in queued ≡ old.root.demand.sent →
     PieceStands b m taken_above new.tree queued upper up → station_of upper.tree (edge_view upper.root) at ≡ Some there → IsBelow b m taken_below below lower out there →
     can_join b nodes crossing upper at k lower.tree.machine rest ≡ true →
-    InletStands b taken_above upper inlet → inlet.hub ≡ k → received_signals inlet.down ≡ map Next taken → map Next taken ++ map Next rest ≡ map Next queue ++ out →
-    AreShared b k taken_above taken_below whole (map Next taken) upper.tree lower.tree → CountsOver b crossing m old upper at rest lower.root.demand.sent there →
+    InletStands b taken_above upper inlet → inlet.hub ≡ k → carried_down inlet.down ≡ before → received_signals inlet.down ≡ map Next taken → map Next taken ++ map Next rest ≡ map Next queue ++ out →
+    AreShared b k taken_above taken_below whole (map Next taken) upper.tree lower.tree →
     PieceStands b m whole old.tree queued (joined crossing upper at lower rest) up
 
--- The same where the lower piece has sent its ending, whether that came to the reader or not. That is put back: then the piece is `kept`,
--- and it was `gone` after it. Of all that was sent, `left` didn't come to the reader: these items and the ending, where it reads the link
--- still; or nothing, where the ending came to it.
+-- The same where the lower piece has sent its ending, and that didn't come to the reader. It is put back: then the piece is `kept`, and it
+-- was `gone` after it.
 abbrev pub JoinsWholeEnded : {M T : Type 0} → Machine M T → Nodes M T → CrossingNodes M T → Type 0
 JoinsWholeEnded {M} {T} b nodes crossing =
-    (m : Meaning T) (old new upper below kept gone : Part M) (at k before : ℕ) (reader : M) (place : Place M) (there : Station M) (queue items : List T) (queued out left : List (Signal T)) (ending : Signal T) (up : Up T) (inlet : Inlet T) (taken_above taken_below whole : List (Stream T)) →
+    (m : Meaning T) (old new upper below kept gone : Part M) (at k before : ℕ) (reader : M) (there : Station M) (queue items taken : List T) (queued out : List (Signal T)) (ending : Signal T) (up : Up T) (inlet : Inlet T) (taken_above taken_below whole : List (Stream T)) →
     0 < at → WasCut b nodes crossing old at k before reader below queue new → carried_up up + items_in queued ≡ old.root.demand.sent →
     PieceStands b m taken_above new.tree queued upper up → station_of upper.tree (edge_view upper.root) at ≡ Some there → IsBelow b m taken_below below kept out there →
     IsLetGo b m kept.tree ending gone.tree → Carries b m taken_below below.tree gone.tree (out ++ ending ∷ []) →
-    can_rejoin b nodes crossing upper at k kept.tree.machine items ≡ true → place_at at upper.tree ≡ Some place →
-    InletStands b taken_above upper inlet → inlet.hub ≡ k → received_signals inlet.down ++ left ≡ map Next queue ++ (out ++ ending ∷ []) →
-    (((taken : List T) × (received_signals inlet.down ≡ map Next taken) × (left ≡ map Next items ++ ending ∷ []) × (reads_hub k (b.reads place.node) ≡ true))
-    ⊎ ((e : Ending) × (crossing.read_to place.node ≡ Some e) × (endings e ≡ ending ∷ []) × (left ≡ []) × (items ≡ []))) →
-    AreShared b k taken_above taken_below whole (received_signals inlet.down) upper.tree kept.tree → CountsOver b crossing m old upper at items kept.root.demand.sent there →
+    can_join b nodes crossing upper at k kept.tree.machine items ≡ true →
+    InletStands b taken_above upper inlet → inlet.hub ≡ k → carried_down inlet.down ≡ before → received_signals inlet.down ≡ map Next taken → map Next taken ++ (map Next items ++ ending ∷ []) ≡ map Next queue ++ (out ++ ending ∷ []) →
+    AreShared b k taken_above taken_below whole (map Next taken) upper.tree kept.tree →
     PieceStands b m whole old.tree queued (joined crossing upper at kept items) up
+
+-- The same where that ending, `e`, came to the reader, and with it all that the lower piece sent. It is joined as it is after its ending.
+abbrev pub JoinsWholeAtEnd : {M T : Type 0} → Machine M T → Nodes M T → CrossingNodes M T → Type 0
+JoinsWholeAtEnd {M} {T} b nodes crossing =
+    (m : Meaning T) (old new upper below kept gone : Part M) (at k before : ℕ) (reader : M) (place : Place M) (there : Station M) (queue : List T) (e : Ending) (came queued out : List (Signal T)) (ending : Signal T) (up : Up T) (taken_above taken_below whole : List (Stream T)) →
+    0 < at → WasCut b nodes crossing old at k before reader below queue new → carried_up up + items_in queued ≡ old.root.demand.sent →
+    PieceStands b m taken_above new.tree queued upper up → station_of upper.tree (edge_view upper.root) at ≡ Some there → IsBelow b m taken_below below kept out there →
+    IsLetGo b m kept.tree ending gone.tree → Carries b m taken_below below.tree gone.tree (out ++ ending ∷ []) →
+    can_rejoin_ended b nodes crossing upper at gone.tree.machine [] ≡ true → place_at at upper.tree ≡ Some place → crossing.read_to place.node ≡ Some e → endings e ≡ ending ∷ [] →
+    came ≡ map Next queue ++ (out ++ ending ∷ []) → AreShared b k taken_above taken_below whole came upper.tree kept.tree →
+    PieceStands b m whole old.tree queued (joined_ended crossing upper at gone []) up

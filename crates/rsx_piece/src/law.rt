@@ -3,7 +3,7 @@
 ghost use Rattle.rsx_piece.specs.Joined.{CancelsDead, CutsBalanced, CutsReading, JoinsBalanced, JoinsReading};
 ghost use Rattle.rsx_piece.specs.Joining.{JoinsAgain, JoinsEnded, JoinsPieces};
 ghost use Rattle.rsx_piece.specs.Piece.{GivesBack, Opens};
-ghost use Rattle.rsx_piece.specs.Whole.{JoinsWhole, JoinsWholeEnded};
+ghost use Rattle.rsx_piece.specs.Whole.{JoinsWhole, JoinsWholeAtEnd, JoinsWholeEnded};
 
 use rsx_pipe::Nodes;
 use rsx_rooted::CrossingNodes;
@@ -35,7 +35,7 @@ pub fn joins_again<N: CrossingNodes>()
     ensures { JoinsAgain N.Machine N.Nodes.own N.CrossingNodes.own }
 {}
 
-/// The same where the lower piece has sent its ending, whether that came to the reader or not. It is put back, by
+/// The same where the lower piece has sent its ending, and that didn't come to the reader. It is put back, by
 /// [`Part::put_back`](rsx_pipe::Part::put_back), so that it stands behind the queue again.
 ///
 /// The function does nothing; its contract is the sentence.
@@ -80,13 +80,14 @@ pub fn cancels<N: Nodes>()
 
 /// Two pieces that are joined again, at an edge below the root of the upper one, are a piece: what is said of a piece is so of the joined
 /// part, since the part was cut, with the sending end of the upper one. So several edges of a part may be cut, one after the other, and
-/// joined in the reverse order. Where the lower piece has sent its ending, that is put back first.
+/// joined in the reverse order. The end of the link that the reader takes from began with what had gone over the edge before.
 ///
-/// Two things are asked for that no step tells: the joined edge counts what went over it, and a receiver over the edge that is open now
-/// was open as the part was cut.
+/// Where the lower piece has sent its ending, and that didn't come to the reader, it is put back first. Where it came to the reader, the
+/// pieces are joined as they are, by [`Part::rejoin_ended`](rsx_pipe::Part::rejoin_ended).
 ///
 /// The function does nothing; its contract is the sentence.
 pub fn joins_whole<N: CrossingNodes>()
     ensures going_on { JoinsWhole N.Machine N.Nodes.own N.CrossingNodes.own }
     ensures ended { JoinsWholeEnded N.Machine N.Nodes.own N.CrossingNodes.own }
+    ensures at_end { JoinsWholeAtEnd N.Machine N.Nodes.own N.CrossingNodes.own }
 {}

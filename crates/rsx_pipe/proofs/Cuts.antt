@@ -8,7 +8,7 @@ use Rattle.rsx_cut.proofs.Regions.{root_regions, two_regions}
 use Rattle.rsx_cut.specs.Flow.{HoldsQueue, ReadsLink}
 use Rattle.rsx_cut.specs.Local.{IsLocal, ReadsNot}
 use Rattle.rsx_cut.specs.Regions.{Adds, Carries, IsCutBetween}
-use Rattle.rsx_pipe.specs.Cutting.{IsCut, Place, can_join_in, can_take_back, fits_behind, held_in, is_end, new_root, place_at, root_below, sender_at, with_node}
+use Rattle.rsx_pipe.specs.Cutting.{IsCut, Place, ReadsAt, can_join_in, can_take_back, fits_behind, held_in, is_end, new_root, place_at, root_below, sender_at, with_node}
 use Rattle.rsx_pipe.specs.Joined.{HasReached, JoinsAfterMoves, JoinsAtOnce}
 use Rattle.rsx_pipe.specs.Part.{Part}
 use Rattle.rsx_rooted.specs.Cutting.{items_of}
@@ -211,6 +211,13 @@ joined_regions {M} {T} b m upper upper' lower lower' leaf leaf' x x' k at queued
         Carries b m taken_above (W leaf End upper) (W leaf' End upper') went → Carries b m taken_below lower lower' out →
         Carries b m whole (W x lower.inputs upper) (W x' lower'.inputs upper') went
 
+-- a reader of this hub that took in so many items gives those that it holds, and then what is published after them
+pub reads_at : {M T : Type 0} (b : Machine M T) (m : Meaning T) (crossing : CrossingNodes M T) →
+    ((n : M) (items taken : List T) (others : List (Signal T)) (r : Reading) → crossing.held n ≡ Some items → b.reads n ≡ Some r → r.reached ≡ length taken → ReadsLink b m r.hub n (map Next taken ++ others) (map Next items ++ others)) →
+    (k : ℕ) (n : M) (items taken : List T) (others : List (Signal T)) → crossing.held n ≡ Some items → ReadsAt b k (length taken) n → ReadsLink b m k n (map Next taken ++ others) (map Next items ++ others)
+reads_at b m crossing reads_on k n items taken others held reads =
+    subst (λ h. ReadsLink b m h n (map Next taken ++ others) (map Next items ++ others)) reads.2 (reads_on n items taken others reads.0 held reads.1 reads.3)
+
 pub after_moves : {M T : Type 0} (b : Machine M T) (nodes : Nodes M T) (crossing : CrossingNodes M T) → ((m : Meaning T) → IsLocal b m) →
     ((m : Meaning T) (q : List T) (n : M) → nodes.crosses n ≡ false → HoldsQueue b m (crossing.queued q n) q n) →
     ((m : Meaning T) (n : M) (items taken : List T) (others : List (Signal T)) (r : Reading) → crossing.held n ≡ Some items → b.reads n ≡ Some r → r.reached ≡ length taken → ReadsLink b m r.hub n (map Next taken ++ others) (map Next items ++ others)) →
@@ -235,8 +242,8 @@ after_moves {M} {T} b nodes crossing local holds_law reads_on m old new upper be
     let H : List (Signal T) → Type 0 = λ l. ReadsLink b m k leaf (map Next queue ++ out) l in
     let between : IsCutBetween b m k (with_node at x below.tree.inputs old.tree) (with_node at x' lower.tree.inputs upper.tree) below.tree lower.tree reader leaf x x' (map Next queue) (map Next taken) (map Next queue') (map Next (items ++ queue')) out = record {
       sent = sent;
-      leaf_is = reads_on m reader [] [] (map Next queue) (record { hub = k; reached = 0 }) none reads refl;
-      leaf_is' = subst H (sym (next_append items queue')) (subst S sent (reads_on m leaf items taken (map Next queue') (record { hub = k; reached = length taken }) held_is reached.reads refl));
+      leaf_is = reads_at b m crossing (reads_on m) k reader [] [] (map Next queue) none reads;
+      leaf_is' = subst H (sym (next_append items queue')) (subst S sent (reads_at b m crossing (reads_on m) k leaf items taken (map Next queue') held_is reached.reads));
       holds = holds_over b m x (map Next queue) below.tree (holds_law m queue below.tree.machine c.straight).holds;
       holds' = holds_over b m x' (map Next (items ++ queue')) lower.tree (holds_law m (items ++ queue') lower.tree.machine (is_false (nodes.crosses lower.tree.machine) parts.0)).holds;
       free = subst R c.whole free;

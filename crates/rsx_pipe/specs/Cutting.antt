@@ -1,6 +1,6 @@
 -- A part that is cut at an edge with a queue, and joined there again.
 use Rattle.std.specs.Prelude.{◌≡◌, ℕ, ◌+◌, ◌-◌, Bool, true, false, not, ◌&&◌, nat_eq, nat_le, if◌then◌else◌, List, [], ◌++◌, length, Option, Some, None}
-use Rattle.rsx_sources.specs.Prelude.{reads_hub}
+use Rattle.rsx_sources.specs.Prelude.{Reading, reads_hub}
 use Rattle.rsx_sources.specs.declared.machine.Machine.{Ghosts as Machine}
 use Rattle.rsx_rooted.specs.Cutting.{items_of}
 use Rattle.rsx_rooted.specs.declared.nodes.CrossingNodes.{Ghosts as CrossingNodes}
@@ -87,6 +87,10 @@ can_join_here b crossing hub queue n below = can_take_back b crossing hub (lengt
 abbrev pub can_join_in : {M T : Type 0} → Machine M T → CrossingNodes M T → ℕ → List T → Option (Place M) → Bool
 can_join_in b crossing hub queue None = false
 can_join_in b crossing hub queue (Some p) = can_join_here b crossing hub queue p.node p.below
+
+-- the node reads this hub, and took in so many items of it
+abbrev pub ReadsAt : {M T : Type 0} → Machine M T → ℕ → ℕ → M → Type 0
+ReadsAt b hub count n = (r : Reading) × (b.reads n ≡ Some r) × (r.hub ≡ hub) × (r.reached ≡ count)
 
 -- what it holds
 abbrev pub held_in : {M T : Type 0} → CrossingNodes M T → Option (Place M) → List T

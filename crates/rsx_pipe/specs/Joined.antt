@@ -7,7 +7,7 @@ use Rattle.rsx_rooted.specs.declared.nodes.Nodes.{Ghosts as Nodes}
 use Rattle.rsx_sources.specs.Prelude.{Meaning, Next, Signal, Stream, reads_hub}
 use Rattle.rsx_sources.specs.declared.machine.Machine.{Ghosts as Machine}
 use Rattle.rsx_types.specs.declared.limits.TheConstants.{CAPACITY}
-use Rattle.rsx_pipe.specs.Cutting.{IsCut, Place, can_join, joined, place_at}
+use Rattle.rsx_pipe.specs.Cutting.{IsCut, Place, ReadsAt, can_join, joined, place_at}
 use Rattle.rsx_pipe.specs.Part.{Part}
 
 -- a part that is cut is as it was, once it is joined again with what was in the queue; and that isn't refused
@@ -20,7 +20,7 @@ JoinsAtOnce {M} {T} b nodes crossing =
 pub record HasReached {M T : Type 0} (b : Machine M T) (part : Part M) (at hub count : ℕ) : Type 0 where
   pub place : Place M
   pub there : place_at at part.tree ≡ Some place
-  pub reads : b.reads place.node ≡ Some (record { hub = hub; reached = count })
+  pub reads : ReadsAt b hub count place.node
 
 -- A part `old` was cut, and both parts made any moves. Of what was in the queue, and what the lower part sent then, `taken` came to the
 -- reader, and `queue'` didn't. Where both are joined again, what came out of the part that was cut is what went out of the upper one
@@ -28,7 +28,7 @@ pub record HasReached {M T : Type 0} (b : Machine M T) (part : Part M) (at hub c
 abbrev pub JoinsAfterMoves : {M T : Type 0} → Machine M T → Nodes M T → CrossingNodes M T → Type 0
 JoinsAfterMoves {M} {T} b nodes crossing =
     (m : Meaning T) (old new upper below lower : Part M) (at k : ℕ) (reader : M) (queue queue' taken : List T) (out went : List (Signal T)) (taken_above taken_below whole : List (Stream T)) →
-    IsCut nodes crossing old at reader below queue new → crossing.held reader ≡ Some [] → b.reads reader ≡ Some (record { hub = k; reached = 0 }) →
+    IsCut nodes crossing old at reader below queue new → crossing.held reader ≡ Some [] → ReadsAt b k 0 reader →
     can_join b nodes crossing upper at k lower.tree.machine queue' ≡ true → HasReached b upper at k (length taken) →
     map Next taken ++ map Next queue' ≡ map Next queue ++ out →
     ReadsNot b k old.tree → ReadsNot b k (joined crossing upper at lower queue').tree → ReadsNot b k lower.tree →

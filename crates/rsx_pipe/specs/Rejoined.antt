@@ -1,59 +1,77 @@
--- A part that is joined to what was cut off, whether the lower part has sent its ending or not.
-use Rattle.std.specs.Prelude.{◌≡◌, ◌⊎◌, ℕ, Bool, true, false, not, ◌&&◌, ◌||◌, nat_eq, List, [], ◌∷◌, ◌++◌, length, map, Option, Some, None}
+-- A part that is joined to what was cut off, where the lower part has sent its ending.
+use Rattle.std.specs.Prelude.{◌≡◌, ℕ, Bool, true, false, not, ◌&&◌, nat_eq, List, [], ◌∷◌, ◌++◌, length, map, Option, Some, None}
 use Rattle.rsx_cut.specs.Local.{ReadsNot}
 use Rattle.rsx_cut.specs.Regions.{Adds, Carries}
-use Rattle.rsx_rooted.specs.Cutting.{endings, is_some}
+use Rattle.rsx_rooted.specs.Cutting.{ending_of, endings, is_some}
 use Rattle.rsx_rooted.specs.declared.nodes.CrossingNodes.{Ghosts as CrossingNodes}
 use Rattle.rsx_rooted.specs.declared.nodes.Nodes.{Ghosts as Nodes}
-use Rattle.rsx_sources.specs.Prelude.{Ending, Meaning, Next, Signal, Stream, reads_hub}
+use Rattle.rsx_sources.specs.Prelude.{Ending, Open, Meaning, Next, Signal, Stream}
 use Rattle.rsx_sources.specs.declared.machine.Machine.{Ghosts as Machine}
 use Rattle.rsx_tree.specs.declared.inputs.Inputs.{Inputs}
 use Rattle.rsx_tree.specs.Tree.{IsLetGo}
-use Rattle.rsx_pipe.specs.Cutting.{IsCut, Place, can_join, fits_behind, is_end, joined, place_at}
+use Rattle.rsx_pipe.specs.Cutting.{IsCut, Place, ReadsAt, can_join, can_take_back, fits_behind, held_in, is_end, joined, place_at, with_node}
+use Rattle.rsx_pipe.specs.Joined.{HasReached}
 use Rattle.rsx_pipe.specs.Part.{Part}
 
 -- ---- where it is joined
 
--- So many items can come behind what the node holds: it reads this hub still; or it read a hub or a link to its end, and there are none.
-abbrev pub goes_behind : {M T : Type 0} → Machine M T → CrossingNodes M T → ℕ → ℕ → M → Bool
-goes_behind b crossing hub count n = reads_hub hub (b.reads n) || (nat_eq count 0 && is_some (crossing.read_to n))
+-- the node read a hub or a link to its end, there is nothing below it, and no items are left
+abbrev pub can_end_here : {M T : Type 0} → CrossingNodes M T → ℕ → M → Inputs M → Bool
+can_end_here crossing count n below = is_end below && ((nat_eq count 0 && is_some (crossing.read_to n)) && fits_behind (crossing.held n) count)
 
--- there is nothing below the node, and a queue takes back what it holds and so many items
-abbrev pub can_rejoin_here : {M T : Type 0} → Machine M T → CrossingNodes M T → ℕ → ℕ → M → Inputs M → Bool
-can_rejoin_here b crossing hub count n below = is_end below && (goes_behind b crossing hub count n && fits_behind (crossing.held n) count)
+-- a node takes the place of one that reads the hub with this number, or, with none, of one that read to an end
+abbrev pub can_put_here : {M T : Type 0} → Machine M T → CrossingNodes M T → Option ℕ → ℕ → M → Inputs M → Bool
+can_put_here b crossing (Some hub) count n below = can_take_back b crossing hub count n below
+can_put_here b crossing None count n below = can_end_here crossing count n below
 
-abbrev pub can_rejoin_in : {M T : Type 0} → Machine M T → CrossingNodes M T → ℕ → ℕ → Option (Place M) → Bool
-can_rejoin_in b crossing hub count None = false
-can_rejoin_in b crossing hub count (Some p) = can_rejoin_here b crossing hub count p.node p.below
+abbrev pub can_put_in : {M T : Type 0} → Machine M T → CrossingNodes M T → Option ℕ → ℕ → Option (Place M) → Bool
+can_put_in b crossing from count None = false
+can_put_in b crossing from count (Some p) = can_put_here b crossing from count p.node p.below
 
--- whether the tree with this node at its root can be joined to a part at the edge `at`, where these items are left
-abbrev pub can_rejoin : {M T : Type 0} → Machine M T → Nodes M T → CrossingNodes M T → Part M → ℕ → ℕ → M → List T → Bool
-can_rejoin b nodes crossing part at hub node queue = not (nodes.crosses node) && can_rejoin_in b crossing hub (length queue) (place_at at part.tree)
+-- whether the tree with this node at its root can be joined to a part at the edge `at`, whose reader took in the ending, where these items
+-- are left
+abbrev pub can_rejoin_ended : {M T : Type 0} → Machine M T → Nodes M T → CrossingNodes M T → Part M → ℕ → M → List T → Bool
+can_rejoin_ended b nodes crossing part at node queue = not (nodes.crosses node) && can_put_in b crossing None (length queue) (place_at at part.tree)
+
+-- the ending that the node over the edge took in
+abbrev pub ending_in : {M T : Type 0} → CrossingNodes M T → Option (Place M) → Ending
+ending_in crossing None = Open
+ending_in crossing (Some p) = ending_of (crossing.read_to p.node)
+
+-- the node that is put there: with a queue of what the reader held and these items; or of what it held, and the ending that it took in
+abbrev pub put_node : {M T : Type 0} → CrossingNodes M T → Option ℕ → Option (Place M) → List T → M → M
+put_node crossing (Some hub) place queue n = crossing.queued (held_in crossing place ++ queue) n
+put_node crossing None place queue n = crossing.ended_queue (ending_in crossing place) (held_in crossing place ++ queue) n
+
+-- the part, where it was joined: at the edge is a queue again, of what the reader held, and the ending that it took in
+abbrev pub joined_ended : {M T : Type 0} → CrossingNodes M T → Part M → ℕ → Part M → List T → Part M
+joined_ended crossing part at below queue = record part { tree = with_node at (put_node crossing None (place_at at part.tree) queue below.tree.machine) below.tree.inputs part.tree }
 
 -- ---- what is proved of it
 
--- a reader that reads its hub still can be joined to
-abbrev pub RejoinsOpen : {M T : Type 0} → Machine M T → Nodes M T → CrossingNodes M T → Type 0
-RejoinsOpen {M} {T} b nodes crossing = (part : Part M) (at hub : ℕ) (node : M) (queue : List T) → can_join b nodes crossing part at hub node queue ≡ true → can_rejoin b nodes crossing part at hub node queue ≡ true
-
--- `came` is what came to the node: so many items of this hub, which it reads still, and of what was sent `items` and the ending are
--- left; or all of it, with this ending, and nothing is left
-abbrev pub HasTaken : {M T : Type 0} → Machine M T → CrossingNodes M T → ℕ → List (Signal T) → List (Signal T) → List T → Signal T → M → Type 0
-HasTaken {M} {T} b crossing hub came left items ending n =
-    ((taken : List T) × (came ≡ map Next taken) × (left ≡ map Next items ++ ending ∷ []) × (b.reads n ≡ Some (record { hub = hub; reached = length taken })))
-    ⊎ ((e : Ending) × (crossing.read_to n ≡ Some e) × (endings e ≡ ending ∷ []) × (left ≡ []) × (items ≡ []))
-
 -- A part `old` was cut, and both parts made any moves. The lower one has sent `out`, of which the last signal is its ending; before that
--- it was `lower`. Of what was in the queue, and of `out`, `came` came to the reader, and `left` is left. Where the part is joined to the
--- lower one as it was before its ending, what came out of the part that was cut is what went out of the upper one meanwhile, and then
--- what comes out of the part that is joined.
+-- it was `lower`. Of what was in the queue, and of `out`, `taken` came to the reader, and `items` and the ending are left. Where the part is
+-- joined to the lower one as it was before its ending, what came out of the part that was cut is what went out of the upper one meanwhile,
+-- and then what comes out of the part that is joined.
 abbrev pub JoinsAfterEnding : {M T : Type 0} → Machine M T → Nodes M T → CrossingNodes M T → Type 0
 JoinsAfterEnding {M} {T} b nodes crossing =
-    (m : Meaning T) (old new upper below lower ended : Part M) (at k : ℕ) (reader : M) (place : Place M) (queue items : List T) (ending : Signal T) (came left out went : List (Signal T)) (taken_above taken_below whole : List (Stream T)) →
-    IsCut nodes crossing old at reader below queue new → crossing.held reader ≡ Some [] → b.reads reader ≡ Some (record { hub = k; reached = 0 }) →
-    can_rejoin b nodes crossing upper at k lower.tree.machine items ≡ true → place_at at upper.tree ≡ Some place → HasTaken b crossing k came left items ending place.node →
-    came ++ left ≡ map Next queue ++ out → IsLetGo b m lower.tree ending ended.tree →
+    (m : Meaning T) (old new upper below lower ended : Part M) (at k : ℕ) (reader : M) (queue items taken : List T) (ending : Signal T) (out went : List (Signal T)) (taken_above taken_below whole : List (Stream T)) →
+    IsCut nodes crossing old at reader below queue new → crossing.held reader ≡ Some [] → ReadsAt b k 0 reader →
+    can_join b nodes crossing upper at k lower.tree.machine items ≡ true → HasReached b upper at k (length taken) →
+    map Next taken ++ (map Next items ++ ending ∷ []) ≡ map Next queue ++ out → IsLetGo b m lower.tree ending ended.tree →
     ReadsNot b k old.tree → ReadsNot b k (joined crossing upper at lower items).tree → ReadsNot b k ended.tree →
-    Adds taken_above whole k came → Adds taken_below whole k [] →
+    Adds taken_above whole k (map Next taken) → Adds taken_below whole k [] →
     Carries b m taken_above new.tree upper.tree went → Carries b m taken_below below.tree ended.tree out →
     Carries b m whole old.tree (joined crossing upper at lower items).tree went
+
+-- The same where all came to the reader, with the ending `e`. The part is joined to the lower one as it is after its ending.
+abbrev pub JoinsAtEnd : {M T : Type 0} → Machine M T → Nodes M T → CrossingNodes M T → Type 0
+JoinsAtEnd {M} {T} b nodes crossing =
+    (m : Meaning T) (old new upper below lower ended : Part M) (at k : ℕ) (reader : M) (place : Place M) (queue : List T) (e : Ending) (ending : Signal T) (came out went : List (Signal T)) (taken_above taken_below whole : List (Stream T)) →
+    IsCut nodes crossing old at reader below queue new → crossing.held reader ≡ Some [] → ReadsAt b k 0 reader →
+    can_rejoin_ended b nodes crossing upper at ended.tree.machine [] ≡ true → place_at at upper.tree ≡ Some place → crossing.read_to place.node ≡ Some e → endings e ≡ ending ∷ [] →
+    came ≡ map Next queue ++ out → IsLetGo b m lower.tree ending ended.tree →
+    ReadsNot b k old.tree → ReadsNot b k (joined_ended crossing upper at ended []).tree → ReadsNot b k ended.tree →
+    Adds taken_above whole k came → Adds taken_below whole k [] →
+    Carries b m taken_above new.tree upper.tree went → Carries b m taken_below below.tree ended.tree out →
+    Carries b m whole old.tree (joined_ended crossing upper at ended []).tree went

@@ -2,8 +2,7 @@
 
 ghost use Rattle.std.specs.Prelude.{◌≡◌, ◌++◌, min, length, Some, None, true, false, IfOk, IfErr, OnOk, OnErr, option_map};
 ghost use Rattle.rsx_pipe.specs.Cutting.{held_in, root_below, root_here, root_with, sender_at};
-ghost use Rattle.rsx_pipe.specs.Rejoined.{can_rejoin_here, can_rejoin_in};
-ghost use Rattle.rsx_rooted.specs.Cutting.{items_of};
+ghost use Rattle.rsx_pipe.specs.Rejoined.{can_put_here, can_put_in, put_node};
 ghost use Rattle.rsx_tree.specs.Edges.{edge_view};
 ghost use Rattle.rsx_tree.specs.Inputs.{size};
 ghost use Rattle.rsx_tree.specs.Swapped.{put_at};
@@ -26,8 +25,9 @@ pub struct CutOff<N, T> {
 }
 
 impl<N: CrossingNodes + Drop> Part<N> {
-    ghost use Rattle.rsx_pipe.specs.Cutting.{IsCut, joined, new_root};
-    ghost use Rattle.rsx_pipe.specs.Rejoined.{can_rejoin};
+    ghost use Rattle.std.specs.Prelude.{not, ◌&&◌, length};
+    ghost use Rattle.rsx_pipe.specs.Cutting.{IsCut, can_join, joined, new_root, place_at, with_node};
+    ghost use Rattle.rsx_pipe.specs.Rejoined.{can_put_in, can_rejoin_ended, joined_ended, put_node};
 
     /// Cuts the part at the edge `at`, 0 for that of its root. The node over that edge goes on, with all that is below it, as the
     /// root of a part of its own, `reader` takes its place, and the queue of the edge is handed out. It takes no memory.
@@ -57,13 +57,13 @@ impl<N: CrossingNodes + Drop> Part<N> {
     /// Joins what was cut off at the edge `at` to the part again, with a queue at that edge. In the queue are what the reader there
     /// holds, and then the items of `below.queue`. The reader is dropped. It takes no memory.
     ///
-    /// Where the lower part has sent its ending, this is put back into it first ([`Part::put_back`]), whether it came to the reader
-    /// or not.
+    /// Where the lower part has sent its ending, and that didn't come to the reader, it is put back into the lower part first
+    /// ([`Part::put_back`]).
     ///
     /// # Errors
     /// All comes back, and nothing changed, where there is no edge `at`; where its node isn't one that reads the hub with this
-    /// number still, or that read a hub or a link to its end while `below.queue` is empty; where the queue has no room for all
-    /// these items; and where the edge of the root that is joined has a queue already.
+    /// number still; where the queue has no room for all these items; and where the edge of the root that is joined has a queue
+    /// already.
     pub fn rejoin(
         &mut self,
         at: u32,
@@ -71,8 +71,46 @@ impl<N: CrossingNodes + Drop> Part<N> {
         below: CutOff<N, N::Item>,
     ) -> Result<(), CutOff<N, N::Item>>
         ensures ok { OnOk result (self.new ≡ joined N.CrossingNodes.own self.old at below.part below.queue) }
-        ensures enabled { OnOk result (can_rejoin N.Machine N.Nodes.own N.CrossingNodes.own self.old at hub below.part.tree.machine below.queue ≡ true) }
-        ensures refused { OnErr result (can_rejoin N.Machine N.Nodes.own N.CrossingNodes.own self.old at hub below.part.tree.machine below.queue ≡ false) }
+        ensures enabled { OnOk result (can_join N.Machine N.Nodes.own N.CrossingNodes.own self.old at hub below.part.tree.machine below.queue ≡ true) }
+        ensures refused { OnErr result (can_join N.Machine N.Nodes.own N.CrossingNodes.own self.old at hub below.part.tree.machine below.queue ≡ false) }
+        ensures err { IfErr result (λ c. c ≡ below) }
+        ensures same { OnErr result (self.new ≡ self.old) }
+    {
+        self.put_again(at, Some(hub), below)
+    }
+
+    /// Joins what was cut off at the edge `at` to the part again, where the reader there took in the ending of its link. In the queue at
+    /// that edge are what the reader holds, and then that ending. The reader is dropped. The lower part has sent its ending, and is joined
+    /// as it is. It takes no memory.
+    ///
+    /// # Errors
+    /// All comes back, and nothing changed, where there is no edge `at`; where its node isn't one that read a hub or a link to its end;
+    /// where items are left in `below.queue`; where the queue has no room for what the reader holds; and where the edge of the root that is
+    /// joined has a queue already.
+    pub fn rejoin_ended(
+        &mut self,
+        at: u32,
+        below: CutOff<N, N::Item>,
+    ) -> Result<(), CutOff<N, N::Item>>
+        ensures ok { OnOk result (self.new ≡ joined_ended N.CrossingNodes.own self.old at below.part below.queue) }
+        ensures enabled { OnOk result (can_rejoin_ended N.Machine N.Nodes.own N.CrossingNodes.own self.old at below.part.tree.machine below.queue ≡ true) }
+        ensures refused { OnErr result (can_rejoin_ended N.Machine N.Nodes.own N.CrossingNodes.own self.old at below.part.tree.machine below.queue ≡ false) }
+        ensures err { IfErr result (λ c. c ≡ below) }
+        ensures same { OnErr result (self.new ≡ self.old) }
+    {
+        self.put_again(at, None, below)
+    }
+
+    /// Puts what was cut off in the place of a reader of this hub, or, with none, of one that read to an end.
+    fn put_again(
+        &mut self,
+        at: u32,
+        from: Option<u64>,
+        below: CutOff<N, N::Item>,
+    ) -> Result<(), CutOff<N, N::Item>>
+        ensures ok { OnOk result (self.new ≡ record self.old { tree = with_node at (put_node N.CrossingNodes.own from (place_at at self.old.tree) below.queue below.part.tree.machine) below.part.tree.inputs self.old.tree }) }
+        ensures enabled { OnOk result ((not (N.crosses below.part.tree.machine) && can_put_in N.Machine N.CrossingNodes.own from (length below.queue) (place_at at self.old.tree)) ≡ true) }
+        ensures refused { OnErr result ((not (N.crosses below.part.tree.machine) && can_put_in N.Machine N.CrossingNodes.own from (length below.queue) (place_at at self.old.tree)) ≡ false) }
         ensures err { IfErr result (λ c. c ≡ below) }
         ensures same { OnErr result (self.new ≡ self.old) }
     {
@@ -81,9 +119,9 @@ impl<N: CrossingNodes + Drop> Part<N> {
         }
         let tree = &mut self.rooted.tree;
         if at == 0 {
-            return join_here(&mut tree.machine, &mut tree.inputs, hub, below);
+            return join_here(&mut tree.machine, &mut tree.inputs, from, below);
         }
-        join_at(&mut tree.inputs, at - 1, hub, below)
+        join_at(&mut tree.inputs, at - 1, from, below)
     }
 }
 
@@ -196,13 +234,13 @@ fn cut_here<N: CrossingNodes>(
 fn join_at<N: CrossingNodes + Drop>(
     row: &mut Inputs<N>,
     at: u32,
-    hub: u64,
+    from: Option<u64>,
     below: CutOff<N, N::Item>,
 ) -> Result<(), CutOff<N, N::Item>>
     requires { N.crosses below.part.tree.machine ≡ false }
-    ensures ok { OnOk result (row.new ≡ put_at at (N.queued (held_in N.CrossingNodes.own (sender_at at row.old) ++ below.queue) below.part.tree.machine) below.part.tree.inputs row.old) }
-    ensures enabled { OnOk result (can_rejoin_in N.Machine N.CrossingNodes.own hub (length below.queue) (sender_at at row.old) ≡ true) }
-    ensures refused { OnErr result (can_rejoin_in N.Machine N.CrossingNodes.own hub (length below.queue) (sender_at at row.old) ≡ false) }
+    ensures ok { OnOk result (row.new ≡ put_at at (put_node N.CrossingNodes.own from (sender_at at row.old) below.queue below.part.tree.machine) below.part.tree.inputs row.old) }
+    ensures enabled { OnOk result (can_put_in N.Machine N.CrossingNodes.own from (length below.queue) (sender_at at row.old) ≡ true) }
+    ensures refused { OnErr result (can_put_in N.Machine N.CrossingNodes.own from (length below.queue) (sender_at at row.old) ≡ false) }
     ensures err { IfErr result (λ c. c ≡ below) }
     ensures same { OnErr result (row.new ≡ row.old) }
 {
@@ -210,13 +248,13 @@ fn join_at<N: CrossingNodes + Drop>(
         Inputs::End => Err(below),
         Inputs::More(_, machine, under, beside) => {
             if at == 0 {
-                return join_here(machine, under, hub, below);
+                return join_here(machine, under, from, below);
             }
             let inside = count_up_to(under, at);
             if at > inside {
-                return join_at(beside, at - 1 - inside, hub, below);
+                return join_at(beside, at - 1 - inside, from, below);
             }
-            join_at(under, at - 1, hub, below)
+            join_at(under, at - 1, from, below)
         }
     }
 }
@@ -225,21 +263,22 @@ fn join_at<N: CrossingNodes + Drop>(
 fn join_here<N: CrossingNodes + Drop>(
     machine: &mut N,
     under: &mut Inputs<N>,
-    hub: u64,
+    from: Option<u64>,
     below: CutOff<N, N::Item>,
 ) -> Result<(), CutOff<N, N::Item>>
     requires { N.crosses below.part.tree.machine ≡ false }
-    ensures node { OnOk result (machine.new ≡ N.queued (items_of (N.held machine.old) ++ below.queue) below.part.tree.machine) }
+    ensures node { OnOk result (machine.new ≡ put_node N.CrossingNodes.own from (Some (record { node = machine.old; below = under.old })) below.queue below.part.tree.machine) }
     ensures inputs { OnOk result (under.new ≡ below.part.tree.inputs) }
-    ensures enabled { OnOk result (can_rejoin_here N.Machine N.CrossingNodes.own hub (length below.queue) machine.old under.old ≡ true) }
-    ensures refused { OnErr result (can_rejoin_here N.Machine N.CrossingNodes.own hub (length below.queue) machine.old under.old ≡ false) }
+    ensures enabled { OnOk result (can_put_here N.Machine N.CrossingNodes.own from (length below.queue) machine.old under.old ≡ true) }
+    ensures refused { OnErr result (can_put_here N.Machine N.CrossingNodes.own from (length below.queue) machine.old under.old ≡ false) }
     ensures err { IfErr result (λ c. c ≡ below) }
     ensures machine { OnErr result (machine.new ≡ machine.old) }
     ensures row { OnErr result (under.new ≡ under.old) }
 {
-    if !takes_back(machine, under, hub, below.queue.len()) {
+    if !takes_back(machine, under, from, below.queue.len()) {
         return Err(below);
     }
+    let ending = machine.read_ending();
     let CutOff { part, mut queue } = below;
     let Node {
         machine: node,
@@ -248,20 +287,31 @@ fn join_here<N: CrossingNodes + Drop>(
     let reader = mem::replace(machine, node);
     reader.release(&mut queue);
     // The node has no queue, so this one isn't handed back.
-    let _ = machine.put_queue(queue);
+    let _ = match (from, ending) {
+        (None, Some(ending)) => machine.put_ended_queue(queue, ending),
+        _ => machine.put_queue(queue),
+    };
     *under = inputs;
     Ok(())
 }
 
 /// Whether nothing is below the node, whether so many items can come behind what it holds, and whether a queue takes all of that back.
-fn takes_back<N: CrossingNodes>(machine: &N, under: &Inputs<N>, hub: u64, items: usize) -> bool
-    ensures { result ≡ can_rejoin_here N.Machine N.CrossingNodes.own hub items machine.now under.now }
+fn takes_back<N: CrossingNodes>(
+    machine: &N,
+    under: &Inputs<N>,
+    from: Option<u64>,
+    items: usize,
+) -> bool
+    ensures { result ≡ can_put_here N.Machine N.CrossingNodes.own from items machine.now under.now }
 {
     if !matches!(under, Inputs::End) {
         return false;
     }
-    let reads_still = machine.hub() == Some(hub);
-    if !reads_still && (items > 0 || !machine.has_read_to_end()) {
+    let goes_behind = match from {
+        Some(hub) => machine.hub() == Some(hub),
+        None => items == 0 && machine.read_ending().is_some(),
+    };
+    if !goes_behind {
         return false;
     }
     match machine.held_len() {

@@ -29,7 +29,7 @@ pub mod published;
 pub mod root;
 
 pub use cutting::CutOff;
-pub use law::{joined_after_ending, joined_after_moves, joined_at_once, rejoined_open};
+pub use law::{joined_after_ending, joined_after_moves, joined_at_end, joined_at_once};
 pub use many::MOST_AT_ONCE;
 pub use part::{Part, Pumped};
 pub use rsx_prefetch::SignalQueue;

@@ -10,7 +10,7 @@ use rsx_hub::Member;
 use rsx_queued::ItemQueue;
 use rsx_sources::Machine;
 use rsx_tree::Edge;
-use rsx_types::NoMemory;
+use rsx_types::{Ending, NoMemory};
 use rsx_waits::Operator;
 use std::alloc::Global;
 
@@ -71,16 +71,20 @@ pub trait CrossingNodes: Nodes {
     /// The node with a queue of these items at its edge.
     ghost queued: { List Self.Item → Self → Self };
 
+    /// The node with a queue of these items at its edge, and this ending behind them.
+    ghost ended_queue: { EndingSpec → List Self.Item → Self → Self };
+
     /// The items that a node holds which reads a hub or a link, or did so until that had ended.
     ghost held: { Self → Option (List Self.Item) };
 
     /// The ending that a node took in which read a hub or a link until that had ended.
     ghost read_to: { Self → Option EndingSpec };
 
-    ghost use Rattle.std.specs.Prelude.{◌≡◌, ◌+◌, ◌≤◌, ◌++◌, ℕ, List, length, map, true, false, None, Some, OnOk, OnErr, IfOk, IfErr, IfSome, IfNone, option_map};
+    ghost use Rattle.std.specs.Prelude.{◌≡◌, ◌+◌, ◌≤◌, ◌++◌, ◌∷◌, [], ℕ, List, length, map, true, false, None, Some, OnOk, OnErr, IfOk, IfErr, IfSome, IfNone, option_map};
     ghost use Rattle.rsx_cut.specs.Flow.{HoldsQueue, ReadsLink};
     ghost use Rattle.rsx_hub.specs.Member.{MemberState};
-    ghost use Rattle.rsx_rooted.specs.Cutting.{endings, is_some, items_of};
+    ghost use Rattle.rsx_rooted.specs.Cutting.{HoldsEnding, endings, items_of};
+    ghost use Rattle.rsx_sources.specs.Machine.{LetsGo};
     ghost use Rattle.rsx_sources.specs.Reading.{Reading};
     ghost use Rattle.rsx_types.specs.Meaning.{Meaning};
     ghost use Rattle.rsx_types.specs.declared.limits.TheConstants.{CAPACITY};
@@ -102,7 +106,7 @@ pub trait CrossingNodes: Nodes {
         requires stays { member.gone ≡ false }
         requires open { member.ending ≡ Open }
         ensures held { IfOk result (λ n. held n ≡ Some member.queue) }
-        ensures reads { IfOk result (λ n. Self.reads n ≡ Some (record { hub = hub; reached = member.reached })) }
+        ensures reads { IfOk result (λ n. Self.reads n ≡ Some (record { hub = hub; reached = member.reached; missed = 0; before = before })) }
         ensures straight { IfOk result (λ n. Self.crosses n ≡ false) }
         ensures goes_on { IfOk result (λ n. Self.ended n ≡ false) }
         ensures counted { IfOk result (λ n. (taken : List ℕ) (sent : ℕ) → sent + length member.queue ≡ member.reached + before → Self.counted n taken sent) };
@@ -134,13 +138,28 @@ pub trait CrossingNodes: Nodes {
         ensures err { IfErr result (λ q. q ≡ queue) }
         ensures same { OnErr result (self.new ≡ self.old) };
 
+    /// Puts this queue at the node's edge, with this ending behind its items, so that the edge crosses.
+    ///
+    /// # Errors
+    /// The queue comes back where the edge crosses already. Then nothing changed.
+    fn put_ended_queue(
+        &mut self,
+        queue: ItemQueue<Self::Item>,
+        ending: Ending,
+    ) -> Result<(), ItemQueue<Self::Item>>
+        ensures ok { OnOk result (self.new ≡ ended_queue ending queue self.old) }
+        ensures enabled { OnOk result (Self.crosses self.old ≡ false) }
+        ensures refused { OnErr result (Self.crosses self.old ≡ true) }
+        ensures err { IfErr result (λ q. q ≡ queue) }
+        ensures same { OnErr result (self.new ≡ self.old) };
+
     /// How many items the node holds, where it reads a hub or a link, or did so until that had ended; none of any other node.
     fn held_len(&self) -> Option<usize>
         ensures { result ≡ option_map length (held self.now) };
 
-    /// Whether the node read a hub or a link, and took in its ending.
-    fn has_read_to_end(&self) -> bool
-        ensures { result ≡ is_some (read_to self.now) };
+    /// The ending that the node took in, where it read a hub or a link until that had ended.
+    fn read_ending(&self) -> Option<Ending>
+        ensures { result ≡ read_to self.now };
 
     /// Puts the items that the node holds in front of those in this queue, which has room for them; the node is dropped. Where it
     /// holds none, the queue stays as it is.
@@ -151,11 +170,19 @@ pub trait CrossingNodes: Nodes {
     /// The items in the queue come out first; all else is as of the node without it.
     ghost holds: { (m : Meaning Self.Item) (q : List Self.Item) (n : Self) → Self.crosses n ≡ false → HoldsQueue Self.Machine m (queued q n) q n };
 
+    /// Where the node is what another one left that let its ending go, the items in the queue come out first, and then that ending. It has
+    /// ended, and reads nothing.
+    ghost holds_ending: { (m : Meaning Self.Item) (e : EndingSpec) (q : List Self.Item) (s : Signal Self.Item) (before n : Self) → Self.crosses n ≡ false → endings e ≡ s ∷ [] → Self.waiting m before ≡ Some s → LetsGo (Self.comes_out m) before s n →
+        HoldsEnding Self.Machine m (ended_queue e q n) (map Next q ++ s ∷ []) n };
+
     /// Of all that a link carried, a reader that took in so many items gives out those that it holds, and then the others.
     ghost reads_on: { (m : Meaning Self.Item) (n : Self) (items taken : List Self.Item) (others : List (Signal Self.Item)) (r : Reading) → held n ≡ Some items → Self.reads n ≡ Some r → r.reached ≡ length taken → ReadsLink Self.Machine m r.hub n (map Next taken ++ others) (map Next items ++ others) };
 
     /// One that took in the ending of a hub or a link gives out the items that it holds, and then that ending, whatever was sent.
     ghost reads_ended: { (m : Meaning Self.Item) (n : Self) (items : List Self.Item) (e : EndingSpec) (k : ℕ) (sent : List (Signal Self.Item)) → held n ≡ Some items → read_to n ≡ Some e → ReadsLink Self.Machine m k n sent (map Next items ++ endings e) };
+
+    /// One that reads a hub or a link goes on. What it missed, what it sent and what it holds is what it got to and what was sent before.
+    ghost reads_counted: { (n : Self) (items : List Self.Item) (r : Reading) → held n ≡ Some items → Self.reads n ≡ Some r → (Self.ended n ≡ false) × ((taken : List ℕ) (sent : ℕ) → Self.counted n taken sent → r.missed + sent + length items ≡ r.reached + r.before) };
 
     /// One that reads a hub or a link has taken in no ending of it.
     ghost reads_still: { (n : Self) (r : Reading) → Self.reads n ≡ Some r → read_to n ≡ None };

@@ -9,10 +9,14 @@ use Rattle.rsx_types.specs.Stream.{Stream, ended_by}
 use Rattle.rsx_types.specs.Notes.{note_then}
 use Rattle.rsx_sources.specs.Machine.{Incoming, incoming_of}
 
--- the hub that a node reads, and how far into its value the node got: how many of its items it took in or missed
+-- The hub that a node reads, and how far into its value the node got: how many of its items it took in or missed. The last two are what
+-- the node's counts begin with, and no call changes them: as it was made, it had missed so many items, and so many were sent already or in
+-- its queue.
 pub record Reading : Type 0 where
   pub hub : ℕ
   pub reached : ℕ
+  pub missed : ℕ
+  pub before : ℕ
 
 -- whether a node reads this hub
 abbrev pub reads_hub : ℕ → Option Reading → Bool
@@ -23,6 +27,15 @@ reads_hub h (Some r) = nat_eq r.hub h
 abbrev pub hub_of : Reading → ℕ
 hub_of r = r.hub
 
+-- what of a reading stays as the node reads on: all but how far it got
+pub record Origin : Type 0 where
+  pub hub : ℕ
+  pub missed : ℕ
+  pub before : ℕ
+
+abbrev pub origin_of : Reading → Origin
+origin_of r = record { hub = r.hub; missed = r.missed; before = r.before }
+
 -- whether a node takes in this signal of the hub that it reads: an ending needs no room
 abbrev pub takes_published : {T : Type 0} → Option Reading → Bool → Signal T → Bool
 takes_published None room s = false
@@ -32,7 +45,7 @@ takes_published (Some r) room (Error c) = true
 
 -- where it stands after that; after an ending it reads no more
 abbrev pub reading_after : {T : Type 0} → Signal T → Reading → Option Reading
-reading_after (Next x) r = Some (record { hub = r.hub; reached = r.reached + 1 })
+reading_after (Next x) r = Some (record { hub = r.hub; reached = r.reached + 1; missed = r.missed; before = r.before })
 reading_after Complete r = None
 reading_after (Error c) r = None
 

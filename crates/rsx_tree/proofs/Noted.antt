@@ -13,7 +13,7 @@ use Rattle.rsx_tree.specs.Changed.{Hold}
 use Rattle.rsx_tree.specs.Chosen.{noted_at, stepped_edges, edges_after, ended_there, IsChosen, IsPickedAt, IsRowAt}
 use Rattle.rsx_tree.specs.Edges.{EdgeView, edge_view, is_live, closed_if}
 use Rattle.rsx_tree.specs.Inputs.{size, edges, notes_of, comes_in, out_of, beside_of, closed_row_if}
-use Rattle.rsx_tree.specs.Stepped.{Step, IsStepped, IsSteppedAt, IsPickedHere, IsRecordedHere, IsRowMadeHere, Station, station, station_of, can_pick_in, can_row_in}
+use Rattle.rsx_tree.specs.Stepped.{Step, IsStepped, IsSteppedAt, IsPickedHere, IsRecordedHere, IsRowMadeHere, StaysOver, Station, station, station_of, can_pick_in, can_row_in}
 use Rattle.rsx_tree.specs.Tree.{notes, IsKept}
 use Rattle.rsx_tree.proofs.Balances.{step_balanced, root_balanced}
 use Rattle.rsx_tree.proofs.Changes.{chosen_first, chosen_second}
@@ -383,6 +383,7 @@ picked_effect b m i old e at new h =
       edges = k.edges;
       notes = k.notes;
       step = stepped_tree_as (IsPickedHere b m i) (IsRecordedHere b i) b.ended (λ n a s n' p. p.recorded) old e at new h;
+      over = stepped_tree_as (IsPickedHere b m i) (StaysOver b) b.ended (λ n a s n' p. record { ended = p.counts.stays_ended; done = p.counts.stays_done }) old e at new h;
     }
 
 pub picked_enabled : {M T : Type 0} (b : Machine M T) (m : Meaning T) (i : ℕ) (old : Node M) (e : EdgeView) (at : ℕ) (new : Node M) → IsSteppedAt (IsPickedHere b m i) b.ended old e at new → can_pick_in b i (station_of old e at) ≡ true
@@ -398,6 +399,7 @@ row_effect b m old e at new h =
       edges = k.edges;
       notes = k.notes ∙ noted_same at (notes b old);
       step = stepped_tree_as (IsRowMadeHere b m) b.rowed b.ended (λ n a s n' p. p.row) old e at new h;
+      over = stepped_tree_as (IsRowMadeHere b m) (StaysOver b) b.ended (λ n a s n' p. record { ended = p.counts.stays_ended; done = p.counts.stays_done }) old e at new h;
     }
 
 pub row_enabled : {M T : Type 0} (b : Machine M T) (m : Meaning T) (old : Node M) (e : EdgeView) (at : ℕ) (new : Node M) → IsSteppedAt (IsRowMadeHere b m) b.ended old e at new → can_row_in b (station_of old e at) ≡ true

@@ -4,7 +4,7 @@ use Rattle.std.proofs.lemmas.Bool.Decides.{nat_tests}
 use Rattle.std.proofs.Math.Nat.{zero-add}
 use Rattle.std.proofs.lemmas.Bool.{both_ways}
 use Rattle.rsx_sources.specs.Prelude.{Meaning, Allocates, Stream, Note, Signal, Next, Complete, Error, CountsStep, ends_input, incoming_of, Reading, IsNextAt, IsNextIn, published_at, reads_hub, reading_after, AllocatesAlike}
-use Rattle.rsx_sources.specs.Reading.{hub_of}
+use Rattle.rsx_sources.specs.Reading.{origin_of}
 use Rattle.rsx_sources.specs.declared.machine.Machine.{Ghosts as Machine}
 use Rattle.rsx_tree.specs.declared.inputs.Inputs.{Inputs, End, More'}
 use Rattle.rsx_tree.specs.Allocates.{node_allocates, row_allocates}
@@ -220,7 +220,7 @@ row_balanced {M} {T} b h s r r' done i (More' e n p below q beside) t' k w =
 
 -- what each node reads
 same_goes : (o n : Option Reading) → n ≡ o → GoesOn o n
-same_goes o n e = inl (ap (option_map hub_of) e)
+same_goes o n e = inl (ap (option_map origin_of) e)
 
 after_goes : {T : Type 0} (s : Signal T) (r : Reading) → GoesOn (Some r) (reading_after s r)
 after_goes (Next x) r = inl refl

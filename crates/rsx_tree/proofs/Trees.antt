@@ -112,6 +112,7 @@ popped_tree b m n n' t (Some s) h recorded counts alike = record {
   popped = (h.1, refl);
   lets_go = h.2;
   node = alike;
+  counts = counts;
   value = λ hubs further at. out_lets_go b m hubs n n' s h.2 (comes_in b m hubs further t (at + 1)) (slice_get further at);
   notes = ap (λ k. k ∷ notes_of b t) recorded;
   balance = λ sent k. tree_pop_balanced b n n' t s sent counts k;

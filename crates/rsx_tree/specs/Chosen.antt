@@ -6,7 +6,7 @@ use Rattle.rsx_tree.specs.declared.inputs.Inputs.{Inputs, End, More'}
 use Rattle.rsx_tree.specs.declared.node.Node.{Node}
 use Rattle.rsx_tree.specs.Edges.{EdgeView, edge_view, closed_if}
 use Rattle.rsx_tree.specs.Inputs.{size, tests, edges as edges_in}
-use Rattle.rsx_tree.specs.Stepped.{Station, station_of, IsRecordedHere, IsSteppedAt}
+use Rattle.rsx_tree.specs.Stepped.{Station, station_of, IsRecordedHere, IsSteppedAt, StaysOver}
 use Rattle.rsx_tree.specs.Tree.{comes_out, edges, notes}
 
 -- ---- notes
@@ -57,9 +57,11 @@ pub record IsPickedAt {M T : Type 0} (b : Machine M T) (old : Node M) (e : EdgeV
   pub edges : edges new ≡ edges_after (ended_there b (station_of new e at)) old at
   pub notes : notes b new ≡ recorded_at at (b.recording there.machine input) (notes b old)
   pub step : IsSteppedAt (IsRecordedHere b input) b.ended old e at new
+  pub over : IsSteppedAt (StaysOver b) b.ended old e at new
 
 -- all notes stay, and the row made of the node what it makes of such a node; no other node changed
 pub record IsRowAt {M T : Type 0} (b : Machine M T) (old : Node M) (e : EdgeView) (at : ℕ) (new : Node M) : Type 0 where
   pub edges : edges new ≡ edges_after (ended_there b (station_of new e at)) old at
   pub notes : notes b new ≡ notes b old
   pub step : IsSteppedAt b.rowed b.ended old e at new
+  pub over : IsSteppedAt (StaysOver b) b.ended old e at new

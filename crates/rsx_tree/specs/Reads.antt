@@ -3,7 +3,7 @@
 use Rattle.std.specs.Prelude.{◌≡◌, ◌⊎◌, ⊤, ℕ, false, List, [], ◌∷◌, ◌++◌, Option, Some, None, option_map, slice_get}
 use Rattle.std.specs.List.{AllZip}
 use Rattle.rsx_sources.specs.Prelude.{Ending, Open, Done, Failed, Reading}
-use Rattle.rsx_sources.specs.Reading.{hub_of}
+use Rattle.rsx_sources.specs.Reading.{origin_of}
 use Rattle.rsx_sources.specs.declared.machine.Machine.{Ghosts as Machine}
 use Rattle.rsx_tree.specs.declared.inputs.Inputs.{Inputs, End, More'}
 use Rattle.rsx_tree.specs.declared.node.Node.{Node}
@@ -41,9 +41,9 @@ row_readings b (More' e n p below q beside) = b.reads n ∷ (row_readings b belo
 abbrev pub readings : {M T : Type 0} → Machine M T → Node M → List (Option Reading)
 readings b t = b.reads t.machine ∷ row_readings b t.inputs
 
--- a node reads the hub that it read, or none any more
+-- a node reads the hub that it read, with the counts that it began with, or none any more
 abbrev pub GoesOn : Option Reading → Option Reading → Type 0
-GoesOn old new = (option_map hub_of new ≡ option_map hub_of old) ⊎ (new ≡ None)
+GoesOn old new = (option_map origin_of new ≡ option_map origin_of old) ⊎ (new ≡ None)
 
 -- so does each
 abbrev pub AllGoOn : List (Option Reading) → List (Option Reading) → Type 0

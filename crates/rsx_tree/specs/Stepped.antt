@@ -71,6 +71,11 @@ pub record IsRowMadeHere {M T : Type 0} (b : Machine M T) (m : Meaning T) (n : M
 abbrev pub IsRecordedHere : {M T : Type 0} → Machine M T → ℕ → Step M
 IsRecordedHere b i n asked sent n' = b.recorded n' ≡ note_then (b.recorded n) (b.recording n i)
 
+-- a step after which a node that had ended has, and an input that was done is
+pub record StaysOver {M T : Type 0} (b : Machine M T) (n : M) (asked sent : ℕ) (n' : M) : Type 0 where
+  pub ended : b.ended n ≡ true → b.ended n' ≡ true
+  pub done : (j : ℕ) → b.done n j ≡ true → b.done n' j ≡ true
+
 -- a pick of some input, or a row
 abbrev pub IsStepOf : {M T : Type 0} → Machine M T → Meaning T → Step M
 IsStepOf b m n asked sent n' = ((input : ℕ) × IsPickedHere b m input n asked sent n') ⊎ IsRowMadeHere b m n asked sent n'

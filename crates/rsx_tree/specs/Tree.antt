@@ -1,6 +1,6 @@
 -- One tree of nodes: what still comes out of it, what it recorded, and its moves.
 use Rattle.std.specs.Prelude.{◌≡◌, ℕ, ◌+◌, Bool, false, ◌&&◌, nat_eq, nat_le, if◌then◌else◌, ◌-◌, List, [], ◌∷◌, Option, Some, None, option_map, slice_get}
-use Rattle.rsx_sources.specs.Prelude.{Meaning, Allocates, unchosen, LetsGo, Stream, signal_then, Note, Signal, front_of}
+use Rattle.rsx_sources.specs.Prelude.{Meaning, Allocates, CountsOut, unchosen, LetsGo, Stream, signal_then, Note, Signal, front_of}
 use Rattle.rsx_sources.specs.declared.machine.Front.{Front}
 use Rattle.rsx_sources.specs.declared.machine.Machine.{Ghosts as Machine}
 use Rattle.rsx_tree.specs.declared.edge.Edge.{Edge}
@@ -59,6 +59,8 @@ pub record IsLetGo {M T : Type 0} (b : Machine M T) (m : Meaning T) (old : Node 
   -- the signal came out of the root, whatever comes in below it, and the root's calls may allocate as before
   pub lets_go : LetsGo (b.comes_out m) old.machine s new.machine
   pub node : IsNodeAlike b old.machine new.machine
+  -- an item counts as sent by it
+  pub counts : CountsOut b.counted b.ended b.done old.machine (Some s) new.machine
   pub value : (hubs : List (Stream T)) (further : List Note) (at : ℕ) → comes_out b m hubs further old at ≡ option_map (signal_then s) (comes_out b m hubs further new at)
   pub notes : notes b new ≡ notes b old
   pub balance : (sent : ℕ) → IsBalanced b old sent → IsBalancedAfter b s new sent

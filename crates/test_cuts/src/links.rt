@@ -125,7 +125,7 @@ impl<N: CrossingNodes<Item = T> + Drop, T: Drop> Lower<N, T> {
         Ok(())
     }
 
-    /// Closes the link. What remains in it is queued again, and an ending that was sent is put back.
+    /// Closes the link. What remains in it is queued again, and an ending that was sent and remains in it is put back.
     ///
     /// # Errors
     /// Where more remains than the queue has room for.
@@ -140,16 +140,17 @@ impl<N: CrossingNodes<Item = T> + Drop, T: Drop> Lower<N, T> {
             last,
         } = self;
         let has_ended = part.root_edge().state == EdgeState::Ended;
-        if has_ended {
-            put_back(&mut part, last)?;
-        }
         let hub = u64::from(inlet.hub);
         let closed = link.close(up, inlet.down, inlet.closer);
-        fill(&mut queue, closed.remaining)?;
+        let remains = fill(&mut queue, closed.remaining)?;
+        if remains {
+            put_back(&mut part, last)?;
+        }
         Ok(Loose {
             at,
             hub,
             has_ended,
+            has_come: has_ended && !remains,
             below: CutOff { part, queue },
         })
     }
@@ -175,6 +176,8 @@ pub struct Loose<N, T> {
     hub: u64,
     /// Whether it had sent its ending.
     has_ended: bool,
+    /// Whether that ending came to the piece above.
+    has_come: bool,
     /// The piece, with what remained in the link.
     below: CutOff<N, T>,
 }
@@ -189,8 +192,17 @@ impl<N: CrossingNodes<Item = T> + Drop, T: Drop> Loose<N, T> {
             at,
             hub,
             has_ended,
+            has_come,
             mut below,
         } = self;
+        if has_come {
+            // Below a piece that has ended nothing goes on.
+            below.part.close();
+            if above.rejoin_ended(at, below).is_err() {
+                bail!("the join at the edge {at} is refused")
+            }
+            return Ok(Fate::Ended);
+        }
         let is_closed = is_closed(above, hub);
         if is_closed {
             below.part.close();
@@ -313,8 +325,8 @@ fn put_back<N: Nodes>(part: &mut Part<N>, last: Option<Front>) -> Result<()> {
     Ok(())
 }
 
-/// Puts the items that remained in a link into the queue of the edge. An ending stands behind them at most.
-fn fill<T: Drop>(queue: &mut ItemQueue<T>, remaining: Remaining<T>) -> Result<()> {
+/// Puts the items that remained in a link into the queue of the edge. An ending stands behind them at most; answers whether one does.
+fn fill<T: Drop>(queue: &mut ItemQueue<T>, remaining: Remaining<T>) -> Result<bool> {
     let mut remaining = remaining;
     for _ in 0..=CAPACITY {
         match remaining.pop() {
@@ -324,12 +336,13 @@ fn fill<T: Drop>(queue: &mut ItemQueue<T>, remaining: Remaining<T>) -> Result<()
                 }
                 queue.push(item);
             }
-            _ => {
+            Some(_) => {
                 if !remaining.is_empty() {
                     bail!("a signal stands behind an ending")
                 }
-                return Ok(());
+                return Ok(true);
             }
+            None => return Ok(false),
         }
     }
     bail!("more remained than there is room for")

@@ -21,4 +21,4 @@ returns-then-asked-clause-stands g c taken h =
     let e = c.in-Some.edge.now in
     let is = c.in-Some.ensures ∙ ap (λ k. reader_edge g.N.Machine k c.args.part.now) c.from.ensures in
     let all = asks_all (c.asked-then-asked.result - c.asked-asked.result) e.demand.asked c.asked-asked.result (down_steps i.down) (down_steps c.ask.new.self) c.ask.result c.asked-asked.ensures (ap (λ k. k - c.asked-asked.result) c.asked-then-asked.ensures) (more c.asked-asked.result c.asked.result e.demand.asked c.if-asked.true c.asked.ensures) e.demand.bounded c.ask.ensures.asked in
-    link_asked g.N.Machine taken c.args.part.now i.hub i.down c.ask.new.self i.closer e c.ask.ensures.same.1 is all h
+    link_asked g.N.Machine taken c.args.part.now i.hub i.down c.ask.new.self i.closer e c.ask.ensures.same.1 c.ask.ensures.same.3 is all h

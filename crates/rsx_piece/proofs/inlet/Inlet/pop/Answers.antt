@@ -51,25 +51,25 @@ returns-clause-step g c up step =
     in_step_handed g.N.Machine i.hub c.in-Some.signal c.args.part.now c.hand.new.self up done.handed step
 
 pub returns-then-readers_up_to-ne1-clause-own : goal.returns-then-readers_up_to-ne1-clause-own
-returns-then-readers_up_to-ne1-clause-own g c taken h = let i = c.args.self.now in link_still g.N.Machine taken c.args.part.now i.hub i.down i.down i.closer refl refl h
+returns-then-readers_up_to-ne1-clause-own g c taken h = let i = c.args.self.now in link_still g.N.Machine taken c.args.part.now i.hub i.down i.down i.closer refl refl refl h
 
 pub returns-then-readers_up_to-ne1-clause-others : goal.returns-then-readers_up_to-ne1-clause-others
 returns-then-readers_up_to-ne1-clause-others g c taken other apart come h = let i = c.args.self.now in link_left g.N.Machine taken c.args.part.now i.hub other.hub (received_signals i.down) (received_signals i.down) other.down other.closer refl come h
 
 pub returns-then-not-has_room_for-clause-own : goal.returns-then-not-has_room_for-clause-own
-returns-then-not-has_room_for-clause-own g c taken h = let i = c.args.self.now in link_still g.N.Machine taken c.args.part.now i.hub i.down i.down i.closer refl refl h
+returns-then-not-has_room_for-clause-own g c taken h = let i = c.args.self.now in link_still g.N.Machine taken c.args.part.now i.hub i.down i.down i.closer refl refl refl h
 
 pub returns-then-not-has_room_for-clause-others : goal.returns-then-not-has_room_for-clause-others
 returns-then-not-has_room_for-clause-others g c taken other apart come h = let i = c.args.self.now in link_left g.N.Machine taken c.args.part.now i.hub other.hub (received_signals i.down) (received_signals i.down) other.down other.closer refl come h
 
 pub returns-in_err-reserve-clause-own : goal.returns-in_err-reserve-clause-own
-returns-in_err-reserve-clause-own g c taken h = let i = c.args.self.now in link_still g.N.Machine taken c.args.part.now i.hub i.down i.down i.closer refl refl h
+returns-in_err-reserve-clause-own g c taken h = let i = c.args.self.now in link_still g.N.Machine taken c.args.part.now i.hub i.down i.down i.closer refl refl refl h
 
 pub returns-in_err-reserve-clause-others : goal.returns-in_err-reserve-clause-others
 returns-in_err-reserve-clause-others g c taken other apart come h = let i = c.args.self.now in link_left g.N.Machine taken c.args.part.now i.hub other.hub (received_signals i.down) (received_signals i.down) other.down other.closer refl come h
 
 pub returns-in_default-clause-own : goal.returns-in_default-clause-own
-returns-in_default-clause-own g c taken h = let i = c.args.self.now in link_still g.N.Machine taken c.args.part.now i.hub i.down c.take.new.self i.closer c.in_default.ensures.none.received c.in_default.ensures.same.1 h
+returns-in_default-clause-own g c taken h = let i = c.args.self.now in link_still g.N.Machine taken c.args.part.now i.hub i.down c.take.new.self i.closer c.in_default.ensures.none.received c.in_default.ensures.same.1 c.in_default.ensures.same.2 h
 
 pub returns-in_default-clause-others : goal.returns-in_default-clause-others
 returns-in_default-clause-others g c taken other apart come h =
@@ -81,7 +81,7 @@ returns-clause-own g c taken h =
     let i = c.args.self.now in
     let done = passed_one g.N.Machine i.hub c.from-hub.result c.args.part.now c.hand.new.self c.push_reserved.new.self.items c.reserve.new.self.items c.hand.new.signals.items c.in-Some.signal c.readers_up_to.result c.has_room_for.result
     c.from-hub.ensures c.readers_up_to.ensures c.if-readers_up_to-ne1.false c.has_room_for.ensures c.if-not-has_room_for.false (c.reserve.ensures.items ∙ i.empty) c.push_reserved.ensures.items c.hand.ensures in
-    link_popped g.N.Machine taken c.args.part.now c.hand.new.self c.in-Some.signal i.hub i.down c.take.new.self i.closer c.in-Some.ensures.some.received c.in-Some.ensures.same.1 done.reader done.handed h
+    link_popped g.N.Machine taken c.args.part.now c.hand.new.self c.in-Some.signal i.hub i.down c.take.new.self i.closer c.in-Some.ensures.some.received c.in-Some.ensures.same.1 c.in-Some.ensures.same.2 done.reader done.handed h
 
 pub returns-clause-others : goal.returns-clause-others
 returns-clause-others g c taken other apart come h =
