@@ -6,9 +6,15 @@
 //! does the same, but shows a subscription by the value of its expression, evaluated from scratch. `rsx draw` reads
 //! expressions, one a line, and writes a line for each of their nodes. `rsx tck` reads expressions and traces, one after the
 //! other, and writes what each says of the rules, a line for each of the 43. With `--explain` it writes how many are held and
-//! broken, and explains those that are broken; each of the four then says what was expected in a line that can't be read. `rsx run --trace FILE` writes what happened to the subscriptions to a file. Exit status
-//! 0 where the input ended; 1 after a line that can't be read; 2 after a command line that is wrong or that asked for help; 3
-//! after a read or a write that failed; 4 where memory was wanted.
+//! broken, and explains those that are broken; each of the four then says what was expected in a line that can't be read.
+//! `rsx run --trace FILE` writes what happened to the subscriptions to a file. Exit status 0 where the input ended; 1 after a line
+//! that can't be read; 2 after a command line that is wrong or that asked for help; 3 after a read or a write that failed; 4 where
+//! memory was wanted.
+//!
+//! Where standard error is a terminal and standard input is none, each two seconds a line on standard error says how many lines were
+//! read.
+
+mod watching;
 
 use clap::error::ErrorKind;
 use rsx_drive::{CommandLine, Style, command_line_of, drive, judge_input};
@@ -17,11 +23,19 @@ use rsx_recorder::Recording;
 use rsx_script::{AppFault, LineRefusal, Mode};
 use std::io::{IsTerminal, Read, Write};
 use std::process::ExitCode;
-use std::rt::{Env, Files};
+use std::rt::{Clock, Env, Files};
 use std::{env, fs, io};
+use watching::Watching;
 
 /// The exit status after a command line that was refused or that asked for help.
 const USAGE: u8 = 2;
+
+/// Which ends of the program are a terminal.
+#[derive(Clone, Copy, Debug)]
+struct Terminal {
+    input: bool,
+    error: bool,
+}
 
 /// The words of the command line, the program's own first.
 fn words_of(rt: &(impl Env + AllocGlobal)) -> io::Result<Vec<String>> {
@@ -34,9 +48,9 @@ fn words_of(rt: &(impl Env + AllocGlobal)) -> io::Result<Vec<String>> {
 
 /// Runs the program, and answers with its exit status. What `clap` says goes to standard error, help too.
 fn run(
-    rt: &(impl Input + Print + Eprint + Files + AllocGlobal),
+    rt: &(impl Input + Print + Eprint + Files + Clock + AllocGlobal),
     words: &[String],
-    is_terminal: bool,
+    terminal: Terminal,
 ) -> u8 {
     let alloc = rt.alloc();
     let line = match command_line_of(alloc, words) {
@@ -49,16 +63,18 @@ fn run(
             return USAGE;
         }
     };
-    answer(rt, &line, is_terminal)
+    answer(rt, &line, terminal)
 }
 
 /// Answers standard input as the command line says, and answers with the exit status.
 fn answer(
-    rt: &(impl Input + Print + Eprint + Files + AllocGlobal),
+    rt: &(impl Input + Print + Eprint + Files + Clock + AllocGlobal),
     line: &CommandLine<'_>,
-    is_terminal: bool,
+    terminal: Terminal,
 ) -> u8 {
-    let mut reader = Remembering::new(rt.alloc(), rt.reader());
+    let speaks = terminal.error && !terminal.input;
+    let watched = Watching::new(rt, rt.reader(), speaks);
+    let mut reader = Remembering::new(rt.alloc(), watched);
     let ended = match line.trace {
         Some(path) => run_traced(rt, path, &mut reader),
         None => answer_from(rt, line, &mut reader),
@@ -67,7 +83,7 @@ fn answer(
         Ok(()) => 0,
         Err(fault) => {
             let status = complain(rt, fault);
-            if line.explain || is_terminal {
+            if line.explain || terminal.error {
                 explain(rt, line.mode, &reader, fault);
             }
             status
@@ -158,7 +174,13 @@ fn refuse(rt: &(impl Eprint + AllocGlobal), error: &io::Error) -> u8 {
 
 fn main(rt: HostRuntime) -> ExitCode {
     let status = match words_of(&rt) {
-        Ok(words) => run(&rt, &words, rt.stderr().is_terminal()),
+        Ok(words) => {
+            let terminal = Terminal {
+                input: rt.stdin().is_terminal(),
+                error: rt.stderr().is_terminal(),
+            };
+            run(&rt, &words, terminal)
+        }
         Err(error) => refuse(&rt, &error),
     };
     ExitCode::from(status)
