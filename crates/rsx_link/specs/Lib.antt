@@ -1,6 +1,9 @@
 pub mod Ends
 pub mod Link
 pub mod Parts
+pub mod PlacePlays
+pub mod PlaceSteps
+pub mod Places
 pub mod Plays
 pub mod Signals
 pub mod Steps
