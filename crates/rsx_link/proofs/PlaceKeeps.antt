@@ -1,14 +1,14 @@
 -- Each step on the places keeps their rule.
-use Rattle.std.proofs.Common.{◌≡◌, ◌≢◌, ℕ, zero, suc, ◌+◌, ◌%◌, ◌^◌, ◌<◌, ◌≤◌, Bool, true, false, not, ◌&&◌, is_some, cond, eqb, eq-eqb, ne_eqb, List, [], ◌∷◌, ◌++◌, get_or, length, set, Option, Some, None, IfSome, refl, sym, ap, ◌∙◌, subst, ◌⊎◌, ⊎_elim, arith}
+use Rattle.std.proofs.Common.{◌≡◌, ◌≢◌, ℕ, zero, suc, ◌+◌, ◌%◌, ◌^◌, ◌<◌, ◌≤◌, Bool, true, false, not, ◌&&◌, is_some, cond, eqb, eq-eqb, ne_eqb, List, [], ◌∷◌, ◌++◌, get_or, length, map, replicate, set, Option, Some, None, IfSome, refl, sym, ap, ◌∙◌, subst, ◌⊎◌, ⊎_elim, arith}
 use Rattle.std.proofs.lemmas.Bool.{lt-ltb, le-ltb}
-use Rattle.std.proofs.lemmas.List.{length-set}
+use Rattle.std.proofs.lemmas.List.{length-append, length-set}
 use Rattle.std.proofs.Math.Nat.{mod-eq_of_lt}
 use mathlib.Core.Logic.{dite}
 use mathlib.Core.Option.{some, none, some-injective, some-ne-none}
 use mathlib.Core.Option as maybe
 use native.Mathlib.Decide.{ℕ_discrete, dec_le}
 use lib.ListN.{get_elem?}
-use Rattle.atomic_table.specs.Table.{State, Me, step, keeps, takes, gives, Allows, Splits, Joins}
+use Rattle.atomic_table.specs.Table.{State, Me, step, keeps, takes, gives, Allows, Splits, Joins, opening}
 use Rattle.atomic_table.proofs.Lists.{at_set, at_snoc, set_else, set_again}
 use Rattle.rsx_link.specs.declared.place.Place.{Place}
 use Rattle.rsx_link.specs.declared.place.Place.TheVariants.{Free, Offered}
@@ -16,8 +16,8 @@ use Rattle.rsx_link.specs.declared.place.PlaceStep.{PlaceStep}
 use Rattle.rsx_link.specs.declared.place.PlaceStep.TheVariants.{Ticket, Offer, Miss, Collect}
 use Rattle.rsx_link.specs.declared.place.PlaceView.{PlaceView}
 use Rattle.rsx_link.specs.Link.{total}
-use Rattle.rsx_link.specs.PlaceSteps.{ticket_of, refusal_of, offers_at, collects_at, AllName, is_refused}
-use Rattle.rsx_link.specs.Places.{more, with_parts, newcomer, joined, spent, steps_of, count_in, tally, claims, Fits, Carries, IsPlace, Kept}
+use Rattle.rsx_link.specs.PlaceSteps.{ticket_of, refusal_of, number_of, offers_at, collects_at, AllName, is_refused}
+use Rattle.rsx_link.specs.Places.{founder, more, with_parts, newcomer, joined, spent, steps_of, count_in, tally, claims, Fits, Carries, IsPlace, Kept}
 use Rattle.rsx_link.specs.PlacePlays.{drew, offered, collected}
 use Rattle.rsx_link.proofs.PlaceCounts.{total_less, total_less_but, total_alone, all_name-append, all_none, steps_joined, count_joined, tally_step, tally_split, tally_join}
 use Rattle.rsx_link.proofs.Totals.{total-set, total-append, le-total}
@@ -37,6 +37,17 @@ ticket_itself P k = ap (λ b. cond b 1 0) (eq-eqb k k refl)
 
 ticket_other : (P : Type 0) (k n : ℕ) → k ≢ n → ticket_of {P = P} k (Ticket n) ≡ 0
 ticket_other P k n ne = ap (λ b. cond b 1 0) (ne_eqb n k (λ e. ne (sym e)))
+
+at_most_one : (a : Bool) → cond {A = ℕ} (a && true) 1 0 ≤ 1
+at_most_one true = omega arith
+at_most_one false = omega arith
+
+module _ {P : Type 0} where
+  itself : (k : ℕ) (p : P) → IfSome (cond (eqb k k) (Some p) None) (λ q. q ≡ p)
+  itself k p = subst (λ (b : Bool). IfSome (cond b (Some p) None) (λ q. q ≡ p)) (sym (eq-eqb k k refl)) refl
+
+  other : (k n : ℕ) (p : P) → k ≢ n → number_of (cond (eqb n k) (Some p) None) ≡ 0
+  other k n p ne = ap (λ (b : Bool). number_of {P = P} (cond b (Some p) None)) (ne_eqb n k (λ e. ne (sym e)))
 
 module _ {E P : Type 0} where
   -- each seat names p alone at the place k
@@ -225,3 +236,271 @@ module _ {E P : Type 0} where
       → count_in (refusal_of n) me.0 < me.0.parts → Allows (Kept ends) n id me 0 (λ y. (y + 1) % 2 ^ 64) (drew (step n 0 1 0 none) me)
   draws ends n id me e = subst (λ (n : ℕ). n < 4294967296 → me.0.ends ≡ Some ends → is_refused n me.0.steps ≡ false
       → count_in (refusal_of n) me.0 < me.0.parts → Allows (Kept ends) n id me 0 (λ y. (y + 1) % 2 ^ 64) (drew (step n 0 1 0 none) me)) (sym e) (draws_at ends id me)
+
+  -- the place at which a part is offered
+  offered_at : (ends : List E) (s : State (Place E P) (PlaceView E P)) (h : Kept ends s) (id : ℕ) (v : PlaceView E P) (k : ℕ) (p : P) (word : ℕ) (home : maybe.Option (Place E P))
+      → get_elem? s.views id ≡ some v → count_in (ticket_of k) v ≡ 1 → count_in (offers_at k) v ≡ 0 → IsPlace ends k h.counter s.views word home
+      → (k < h.counter) × IsPlace ends k h.counter (set s.views id (more v (Offer k p))) 1 (some (Offered p))
+  offered_at ends s h id v k p word home at has fresh place =
+      let some_drawn = le-total (count_in (ticket_of k)) s.views id v at in
+      let less = total_less_but (count_in (offers_at k)) (count_in (ticket_of k)) s.views id v at (λ o u e. (h.fits o u e).earned k) in
+      let lt : k < h.counter = dite (dec_le (suc k) h.counter) (λ b. b) (λ no. let undrawn = place.above (omega arith) in absurd (omega arith)) in
+      let one_drawn = place.below lt in
+      let word_is = place.offers in let most = place.collects in
+      let ts = tally_step (ticket_of k) s.views id v (Offer k p) at in
+      let os = tally_step (offers_at k) s.views id v (Offer k p) at in
+      let ds = tally_step (collects_at k) s.views id v (Offer k p) at in
+      let one : offers_at k (Offer k p) ≡ 1 = ap (λ b. number_of {P = P} (cond b (Some p) None)) (eq-eqb k k refl) in
+      let none_offered : tally (offers_at k) s.views ≡ 0 = omega arith in
+      let none_collected : tally (collects_at k) s.views ≡ 0 = omega arith in
+      let named : Named k p s.views = λ o u e.
+      let a = le-total (count_in (offers_at k)) s.views o u e in let b = le-total (count_in (collects_at k)) s.views o u e in
+      all_none k p (steps_of u) (omega arith) (omega arith) in
+      let own : AllName k p (Offer k p ∷ []) = ((itself k p, tt), tt) in (
+        lt,
+        record {
+          below = λ _. omega arith;
+          above = λ b. absurd (omega arith);
+          offers = omega arith;
+          once = omega arith;
+          collects = omega arith;
+          free = λ b. absurd (omega arith);
+          out = λ _ w. absurd (omega arith);
+          carries = λ _. (p, record {
+            names = named_step s.views id v (Offer k p) k p at own named;
+            waits = λ _. refl;
+            gone = λ e. absurd (omega arith);
+          });
+        },
+      )
+
+  offers_from : (ends : List E) (id : ℕ) (v : PlaceView E P) (k : ℕ) (p : P) → k < length ends → count_in (ticket_of k) v ≡ 1 → count_in (offers_at k) v ≡ 0
+      → Allows (Kept ends) (length ends) id (v, (k, Offered p) ∷ []) (suc k) (λ _. 1) (λ _. offered (step (length ends) (suc k) 1 0 none) (v, (k, Offered p) ∷ []) 1)
+  offers_from ends id v k p lt has fresh s h wide at _ =
+      let row = h.each k lt in
+      let here = offered_at ends s h id v k p row.0 row.1 at has fresh row.4 in
+      let its = h.fits id v at in (
+        more v (Offer k p),
+        gives,
+        tt,
+        after ends s h id v (Offer k p) h.counter (set h.flags k 1) (set s.words (suc k) 1) (set s.homes k (some (Offered p))) at (ap (λ ws. set ws (suc k) 1) h.words)
+            (λ j lt_j. dite (ℕ_discrete j k)
+            (λ e. subst (λ (i : ℕ). (word : ℕ) × (home : maybe.Option (Place E P)) × (get_elem? (set h.flags k 1) i ≡ some word) × (get_elem? (set s.homes k (some (Offered p))) i ≡ some home)
+                × IsPlace ends i h.counter (set s.views id (more v (Offer k p))) word home) (sym e)
+                (1, some (Offered p), set_at h.flags k 1 row.0 row.2, set_at s.homes k (some (Offered p)) row.1 row.3, here.1))
+            (λ ne. let its = h.each j lt_j in
+            (its.0, its.1, set_else h.flags k j 1 ne ∙ its.2, set_else s.homes k j (some (Offered p)) ne ∙ its.3,
+            stays_by ends j h.counter h.counter s.views id v (Offer k p) its.0 its.1 at (λ b. b) (λ b. b) refl (other j k p ne) refl its.4)))
+            (fits_step ends id v (Offer k p) its (λ _ _. refl)
+            (λ j. dite (ℕ_discrete j k)
+            (λ e. subst (λ (i : ℕ). offers_at i (Offer k p) + count_in (offers_at i) v ≤ ticket_of i (Offer k p) + count_in (ticket_of i) v) (sym e) (let one : offers_at k (Offer k p) ≡ 1 = ap (λ b. number_of {P = P} (cond b (Some p) None)) (eq-eqb k k refl) in omega arith))
+            (λ ne. let none : offers_at j (Offer k p) ≡ 0 = other j k p ne in let e = its.earned j in omega arith))
+            (let w = its.within in omega arith) (λ _ _. refl))
+            (let e = h.exceeds in omega arith)
+            (let e = claims_same (length ends) v (Offer k p) refl in omega arith),
+        (λ k' p' e.
+            let pair : (k, Offered p) ≡ (k', Offered p') = ap (λ (l : List (ℕ × Place E P)). get_or l 0 (k, Offered p)) e in
+            let one : k ≡ k' = ap (λ (x : ℕ × Place E P). x.0) pair in
+            let two : ◌≡◌ {A = Place E P} (Offered p) (Offered p') = ap (λ (x : ℕ × Place E P). x.1) pair in cc),
+      )
+
+  -- a part is offered
+  pub offers : (ends : List E) (n id : ℕ) (me : Me (Place E P) (PlaceView E P)) (k : ℕ) (p : P) → n ≡ length ends → me.1 ≡ (k, Offered p) ∷ [] → k < n → count_in (ticket_of k) me.0 ≡ 1 → count_in (offers_at k) me.0 ≡ 0
+      → Allows (Kept ends) n id me (suc k) (λ _. 1) (λ _. offered (step n (suc k) 1 0 none) me 1)
+  offers ends n id me k p count out = subst (λ (n : ℕ). k < n → count_in (ticket_of k) me.0 ≡ 1 → count_in (offers_at k) me.0 ≡ 0
+      → Allows (Kept ends) n id me (suc k) (λ _. 1) (λ _. offered (step n (suc k) 1 0 none) me 1)) (sym count)
+      (subst (λ (c : List (ℕ × Place E P)). k < length ends → count_in (ticket_of k) me.0 ≡ 1 → count_in (offers_at k) me.0 ≡ 0
+      → Allows (Kept ends) (length ends) id (me.0, c) (suc k) (λ _. 1) (λ _. offered (step (length ends) (suc k) 1 0 none) (me.0, c) 1)) (sym out) (offers_from ends id me.0 k p))
+
+  -- the place whose part is collected
+  collected_at : (ends : List E) (s : State (Place E P) (PlaceView E P)) (h : Kept ends s) (id : ℕ) (v : PlaceView E P) (k : ℕ) (word : ℕ) (home : maybe.Option (Place E P))
+      → get_elem? s.views id ≡ some v → tally (collects_at k) s.views ≡ 0 → word ≢ 0 → IsPlace ends k h.counter s.views word home
+      → (p : P) × (home ≡ some (Offered p)) × (word ≡ 1) × IsPlace ends k h.counter (set s.views id (more v (Collect k p))) word none
+  collected_at ends s h id v k word home at fresh full place =
+      let once = place.once in let word_is : word ≡ 1 = omega arith in
+      let carried = place.carries word_is in let p = carried.0 in let its = carried.1 in
+      let offers = place.offers in
+      let ts = tally_step (ticket_of k) s.views id v (Collect k p) at in
+      let os = tally_step (offers_at k) s.views id v (Collect k p) at in
+      let ds = tally_step (collects_at k) s.views id v (Collect k p) at in
+      let one : collects_at k (Collect k p) ≡ 1 = ap (λ b. number_of {P = P} (cond b (Some p) None)) (eq-eqb k k refl) in
+      let few = earned ends s h k in
+      let lt : k < h.counter = dite (dec_le (suc k) h.counter) (λ b. b) (λ no. let undrawn = place.above (omega arith) in absurd (omega arith)) in
+      let one_drawn = place.below lt in (
+        p,
+        its.waits fresh,
+        word_is,
+        record {
+          below = λ _. omega arith;
+          above = λ b. absurd (omega arith);
+          offers = omega arith;
+          once = once;
+          collects = omega arith;
+          free = λ b. absurd (omega arith);
+          out = λ _ _. refl;
+          carries = λ _. (p, record {
+            names = named_step s.views id v (Collect k p) k p at ((tt, itself k p), tt) its.names;
+            waits = λ e. absurd (omega arith);
+            gone = λ _. refl;
+          });
+        },
+      )
+
+  collects_from : (ends : List E) (me : Me (Place E P) (PlaceView E P)) (k : ℕ) → k < length ends → count_in (collects_at k) me.0 ≡ 0
+      → Allows (Kept ends) (length ends) 0 me (suc k) (λ y. y) (collected (step (length ends) (suc k) 0 0 none) me)
+  collects_from ends me k lt fresh s h wide at _ =
+      let v = me.0 in let row = h.each k lt in let its = h.fits 0 v at in
+      let found : ℕ = get_or s.words (suc k) 0 in
+      let is : found ≡ row.0 = ap (λ ws. get_or ws (suc k) 0) h.words ∙ word_at h.flags k row.0 row.2 in
+      let words : set s.words (suc k) found ≡ h.counter ∷ h.flags = ap (λ ws. set ws (suc k) found) h.words ∙ ap (λ w. h.counter ∷ set h.flags k w) is ∙ ap (λ l. h.counter ∷ l) (set_again h.flags k row.0 row.2) in
+      let none_collected : tally (collects_at k) s.views ≡ 0 = total_alone (count_in (collects_at k)) (λ _. 0) s.views 0 v at (λ j u e ne. (h.fits j u e).collects ne k) ∙ fresh in
+      dite (ℕ_discrete found 0)
+          (λ empty. (
+            more v (Miss k),
+            keeps,
+            tt,
+            after ends s h 0 v (Miss k) h.counter h.flags (set s.words (suc k) found) s.homes at words
+                (λ j lt_j. let its = h.each j lt_j in
+                (its.0, its.1, its.2, its.3, stays_by ends j h.counter h.counter s.views 0 v (Miss k) its.0 its.1 at (λ b. b) (λ b. b) refl refl refl its.4))
+                (fits_step ends 0 v (Miss k) its (λ _ _. refl) (λ j. let e = its.earned j in omega arith) (let w = its.within in omega arith) (λ _ _. refl))
+                (let e = h.exceeds in omega arith)
+                (let e = claims_same (length ends) v (Miss k) refl in omega arith),
+            (λ k' e. let same : k ≡ k' = omega arith in ((λ _. ap (λ (j : ℕ). (more v (Miss j), me.1)) same), (λ full. absurd (full empty)))),
+          ))
+          (λ full. let here = collected_at ends s h 0 v k row.0 row.1 at none_collected (λ e. full (is ∙ e)) row.4 in let p = here.0 in (
+            more v (Collect k p),
+            takes k (Offered p),
+            row.3 ∙ ap some here.1,
+            after ends s h 0 v (Collect k p) h.counter h.flags (set s.words (suc k) found) (set s.homes k none) at words
+                (λ j lt_j. dite (ℕ_discrete j k)
+                (λ e. subst (λ (i : ℕ). (word : ℕ) × (home : maybe.Option (Place E P)) × (get_elem? h.flags i ≡ some word) × (get_elem? (set s.homes k none) i ≡ some home)
+                    × IsPlace ends i h.counter (set s.views 0 (more v (Collect k p))) word home) (sym e) (row.0, none, row.2, set_at s.homes k none row.1 row.3, here.3))
+                (λ ne. let its = h.each j lt_j in
+                (its.0, its.1, its.2, set_else s.homes k j none ne ∙ its.3,
+                stays_by ends j h.counter h.counter s.views 0 v (Collect k p) its.0 its.1 at (λ b. b) (λ b. b) refl refl (other j k p ne) its.4)))
+                (fits_step ends 0 v (Collect k p) its (λ ne _. absurd (ne refl)) (λ j. let e = its.earned j in omega arith) (let w = its.within in omega arith) (λ _ _. refl))
+                (let e = h.exceeds in omega arith)
+                (let e = claims_same (length ends) v (Collect k p) refl in omega arith),
+            (λ k' e. let same : k ≡ k' = omega arith in ((λ empty. absurd (full empty)), (λ _. (p, ap (λ (j : ℕ). (more v (Collect j p), (j, Offered p) ∷ me.1)) same)))),
+          ))
+
+  -- the collector looks at a place that it has not collected from
+  pub collects : (ends : List E) (n id : ℕ) (me : Me (Place E P) (PlaceView E P)) (k : ℕ) → n ≡ length ends → id ≡ 0 → k < n → count_in (collects_at k) me.0 ≡ 0
+      → Allows (Kept ends) n id me (suc k) (λ y. y) (collected (step n (suc k) 0 0 none) me)
+  collects ends n id me k count first = subst (λ (n : ℕ). k < n → count_in (collects_at k) me.0 ≡ 0 → Allows (Kept ends) n id me (suc k) (λ y. y) (collected (step n (suc k) 0 0 none) me)) (sym count)
+      (subst (λ (i : ℕ). k < length ends → count_in (collects_at k) me.0 ≡ 0 → Allows (Kept ends) (length ends) i me (suc k) (λ y. y) (collected (step (length ends) (suc k) 0 0 none) me)) (sym first)
+      (collects_from ends me k))
+
+  -- a new seat, which has made no step, gets some of the parts; what stays is enough for the tickets that were drawn
+  pub splits : (ends : List E) (id : ℕ) (v : PlaceView E P) (m n : ℕ) → m + n ≡ v.parts → (m ≡ 0 → (k : ℕ) → count_in (ticket_of k) v ≡ 0)
+      → ((places : ℕ) → places ≡ length ends → count_in (refusal_of places) v ≤ m) → Splits (Kept ends) id v (with_parts v m) (newcomer v.ends n)
+  splits ends id v m n sum undrawn enough s h at =
+      let left = with_parts v m in let right : PlaceView E P = newcomer v.ends n in
+      let its = h.fits id v at in
+      let kept : Fits ends id left = record { knows = its.knows; collects = its.collects; earned = its.earned; within = enough (length ends) refl; idle = undrawn } in
+      let added : (o : ℕ) → Fits ends o right = λ o. record { knows = its.knows; collects = λ _ _. refl; earned = λ _. omega arith; within = omega arith; idle = λ _ _. refl } in
+      let views : List (PlaceView E P) = set s.views id left ++ right ∷ [] in record {
+        counter = h.counter;
+        flags = h.flags;
+        words = h.words;
+        each = λ k lt. let row = h.each k lt in (row.0, row.1, row.2, row.3, stays ends k h.counter h.counter s.views views row.0 row.1 (λ b. b) (λ b. b)
+            (tally_split (ticket_of k) s.views id v m n v.ends at) (tally_split (offers_at k) s.views id v m n v.ends at) (tally_split (collects_at k) s.views id v m n v.ends at)
+            (λ p named o u e. ⊎_elim
+            (λ t. ⊎_elim (λ r. subst (λ (z : PlaceView E P). AllName k p (steps_of z)) r.1 (named id v at)) (λ r. named o u r.1) (at_set s.views id o left u t))
+            (λ is. subst (λ (z : PlaceView E P). AllName k p (steps_of z)) is tt) (at_snoc (set s.views id left) right u o e)) row.4);
+        fits = λ o u e. ⊎_elim
+            (λ t. ⊎_elim (λ r. subst (λ (z : PlaceView E P). Fits ends o z) r.1 (subst (λ (i : ℕ). Fits ends i left) (sym r.0) kept)) (λ r. h.fits o u r.1) (at_set s.views id o left u t))
+            (λ is. subst (λ (z : PlaceView E P). Fits ends o z) is (added o)) (at_snoc (set s.views id left) right u o e);
+        exceeds = let same = tally_split (refusal_of (length ends)) s.views id v m n v.ends at in let e = h.exceeds in omega arith;
+        seats =
+            let one = total-set (claims (length ends)) s.views id v left at in
+            let two = total-append (claims (length ends)) (set s.views id left) (right ∷ []) in
+            let most = at_most_one (is_some v.ends) in
+            let same = length-set s.views id left in
+            let more = length-append (set s.views id left) (right ∷ []) in
+            let was = h.seats in omega arith;
+        parts =
+            let one = total-set (λ (u : PlaceView E P). u.parts) s.views id v left at in
+            let two = total-append (λ (u : PlaceView E P). u.parts) (set s.views id left) (right ∷ []) in
+            let was = h.parts in omega arith;
+      }
+
+  gone : (ends : List E) (o : ℕ) → Fits ends o (spent {E = E} {P = P})
+  gone ends o = record { knows = tt; collects = λ _ _. refl; earned = λ _. omega arith; within = omega arith; idle = λ _ _. refl }
+
+  -- a seat that takes another in, which has collected nothing, knows what both knew
+  pub joins : (ends : List E) (id : ℕ) (v : PlaceView E P) (other : ℕ) (w : PlaceView E P) → ((k : ℕ) → count_in (collects_at k) w ≡ 0) → Joins (Kept ends) id v other w (joined v w) spent
+  joins ends id v other w never s h at ne at' =
+      let both = joined v w in let views : List (PlaceView E P) = set s.views id both in
+      let was : get_elem? s.views other ≡ some w = sym (set_else s.views id other both ne) ∙ at' in
+      let mine = h.fits id v at in let its = h.fits other w was in let n = length ends in
+      let kept : Fits ends id both = record {
+        knows = mine.knows;
+        collects = λ z k. let sum = count_joined (collects_at k) v w in let a = mine.collects z k in let b = never k in omega arith;
+        earned = λ k. let one = count_joined (offers_at k) v w in let two = count_joined (ticket_of k) v w in let a = mine.earned k in let b = its.earned k in omega arith;
+        within = let sum = count_joined (refusal_of n) v w in let a = mine.within in let b = its.within in omega arith;
+        idle = λ z k. let sum = count_joined (ticket_of k) v w in let a = mine.idle (omega arith) k in let b = its.idle (omega arith) k in omega arith;
+      } in record {
+        counter = h.counter;
+        flags = h.flags;
+        words = h.words;
+        each = λ k lt. let row = h.each k lt in (row.0, row.1, row.2, row.3, stays ends k h.counter h.counter s.views (set views other spent) row.0 row.1 (λ b. b) (λ b. b)
+            (tally_join (ticket_of k) s.views id v other w at at') (tally_join (offers_at k) s.views id v other w at at') (tally_join (collects_at k) s.views id v other w at at')
+            (λ p named o u e. ⊎_elim
+            (λ t. subst (λ (z : PlaceView E P). AllName k p (steps_of z)) t.1 tt)
+            (λ t. ⊎_elim
+            (λ r. subst (λ (z : PlaceView E P). AllName k p (steps_of z)) r.1 (subst (AllName k p) (sym (steps_joined v w)) (all_name-append k p (steps_of v) (steps_of w) (named id v at) (named other w was))))
+            (λ r. named o u r.1) (at_set s.views id o both u t.1))
+            (at_set views other o spent u e)) row.4);
+        fits = λ o u e. ⊎_elim
+            (λ t. subst (λ (z : PlaceView E P). Fits ends o z) t.1 (gone ends o))
+            (λ t. ⊎_elim (λ r. subst (λ (z : PlaceView E P). Fits ends o z) r.1 (subst (λ (i : ℕ). Fits ends i both) (sym r.0) kept)) (λ r. h.fits o u r.1) (at_set s.views id o both u t.1))
+            (at_set views other o spent u e);
+        exceeds = let same = tally_join (refusal_of n) s.views id v other w at at' in let e = h.exceeds in omega arith;
+        seats =
+            let one = total-set (claims n) s.views id v both at in
+            let two = total-set (claims n) views other w spent at' in
+            let sum = count_joined (refusal_of n) v w in
+            let a = length-set s.views id both in let b = length-set views other spent in
+            let e = h.seats in omega arith;
+        parts =
+            let one = total-set (λ (u : PlaceView E P). u.parts) s.views id v both at in
+            let two = total-set (λ (u : PlaceView E P). u.parts) views other w spent at' in
+            let e = h.parts in omega arith;
+      }
+
+  frees : (ends : List E) (k : ℕ) → k < length ends → (e : E) × (get_elem? ends k ≡ some e) × (get_elem? (map (λ (x : Place E P). some x) (map Free ends)) k ≡ some (some (Free e)))
+  frees [] k lt = absurd (omega arith)
+  frees (e ∷ es) zero lt = (e, refl, refl)
+  frees (e ∷ es) (suc k) lt = frees es k (omega arith)
+
+  -- at the start no ticket was drawn, and all ends are at home
+  pub starts : (ends : List E) → Kept {E = E} {P = P} ends (opening (0 ∷ replicate (length ends) 0) (map Free ends) (founder ends))
+  starts ends = record {
+    counter = 0;
+    flags = replicate (length ends) 0;
+    words = refl;
+    each = λ k lt. let its = frees ends k lt in (0, some (Free its.0), zero_at (length ends) k lt, its.2, record {
+      below = λ b. absurd (omega arith);
+      above = λ _. refl;
+      offers = refl;
+      once = omega arith;
+      collects = omega arith;
+      free = λ _. (its.0, its.1, refl);
+      out = λ b. absurd (omega arith);
+      carries = λ b. absurd (omega arith);
+    });
+    fits = λ o v e. first o v e;
+    exceeds = omega arith;
+    seats = omega arith;
+    parts = omega arith;
+  }
+    where
+      zero_at : (n k : ℕ) → k < n → get_elem? {A = ℕ} (replicate n 0) k ≡ some 0
+      zero_at zero k lt = absurd (omega arith)
+      zero_at (suc n) zero lt = refl
+      zero_at (suc n) (suc k) lt = zero_at n k (omega arith)
+
+      first : (o : ℕ) (v : PlaceView E P) → get_elem? (founder ends ∷ []) o ≡ some v → Fits ends o v
+      first zero v e = subst (λ (z : PlaceView E P). Fits ends zero z) (some-injective _ _ e) (record { knows = refl; collects = λ _ _. refl; earned = λ _. omega arith; within = omega arith; idle = λ _ _. refl })
+      first (suc o) v e = absurd (some-ne-none v (sym e))

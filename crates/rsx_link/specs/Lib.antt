@@ -1,7 +1,9 @@
+pub mod Collected
 pub mod Ends
 pub mod Link
 pub mod Parts
 pub mod PlacePlays
+pub mod PlaceSeats
 pub mod PlaceSteps
 pub mod Places
 pub mod Plays

@@ -1,0 +1,62 @@
+-- What contracts see of the places and of their seats.
+use Rattle.std.specs.Prelude.{◌≡◌, ℕ, ◌<◌, ◌≤◌, true, false, List, [], ◌∷◌, Some, None, MatchBool, slice_get}
+use Rattle.rsx_link.specs.declared.place.Ends.{Ends}
+use Rattle.rsx_link.specs.declared.place.PlaceStep.{PlaceStep}
+use Rattle.rsx_link.specs.declared.place.PlaceStep.TheVariants.{Ticket, Offer, Collect}
+use Rattle.rsx_link.specs.declared.places.Collector.{Collector}
+use Rattle.rsx_link.specs.declared.places.NoPlace.{NoPlace}
+use Rattle.rsx_link.specs.declared.places.PlaceSeat.{PlaceSeat}
+use Rattle.rsx_link.specs.declared.places.Places.{Places}
+use Rattle.rsx_link.specs.PlaceSteps.{refusal_of, ticket_of, is_refused}
+use Rattle.rsx_link.specs.Places.{count_in}
+
+-- the part came back: the seat drew a ticket that names no place, now or before
+pub record IsTurnedAway {P : Type 0} (places : ℕ) (part : P) (old : List (PlaceStep P)) (back : NoPlace P) (new : List (PlaceStep P)) : Type 0 where
+  pub part_is : back.part ≡ part
+  pub refused : is_refused places new ≡ true
+  pub steps : MatchBool (is_refused places old) (new ≡ old) ((ticket : ℕ) × (places ≤ ticket) × (new ≡ Ticket ticket ∷ old))
+
+module _ {T P : Type 0} where
+  -- the ends that were made for the places, by their numbers
+  abbrev pub ends_of : Places T P → List (Ends T)
+  ends_of p = p.table.shared.key.value.items
+
+  -- how many places there are
+  abbrev pub places_in : Places T P → ℕ
+  places_in p = p.table.shared.table_id.slots
+
+  -- ---- the offering seats
+
+  abbrev pub place_steps : PlaceSeat T P → List (PlaceStep P)
+  place_steps s = s.seat.me.0.steps
+
+  -- the steps of the seats that were joined into this one
+  abbrev pub place_beside : PlaceSeat T P → List (List (PlaceStep P))
+  place_beside s = s.seat.me.0.beside
+
+  -- its parts of the right to draw tickets
+  abbrev pub place_parts : PlaceSeat T P → ℕ
+  place_parts s = s.seat.me.0.parts
+
+  -- how many of its tickets, and of those of the seats that were joined into it, name no place
+  abbrev pub place_refusals : PlaceSeat T P → ℕ
+  place_refusals s = count_in (refusal_of s.seat.table_id.slots) s.seat.me.0
+
+  abbrev pub IsPlaceSeatOf : Places T P → PlaceSeat T P → Type 0
+  IsPlaceSeatOf p s = (s.seat.table_id ≡ p.table.shared.table_id) × (s.seat.me.0.ends ≡ Some (ends_of p))
+
+  -- the part was put at the place that the ticket names, and these ends were made for it
+  pub record IsHandedOver (p : Places T P) (old : PlaceSeat T P) (part : P) (ticket : ℕ) (ends : Ends T) (new : List (PlaceStep P)) : Type 0 where
+    pub steps : new ≡ Offer ticket part ∷ Ticket ticket ∷ place_steps old
+    pub its : slice_get (ends_of p) ticket ≡ Some ends
+    -- neither the seat nor one that was joined into it had drawn it
+    pub first : count_in (ticket_of ticket) old.seat.me.0 ≡ 0
+    pub not_before : is_refused (places_in p) (place_steps old) ≡ false
+
+  -- ---- the collector
+
+  abbrev pub collector_steps : Collector T P → List (PlaceStep P)
+  collector_steps c = c.seat.me.0.steps
+
+  abbrev pub IsCollectorOf : Places T P → Collector T P → Type 0
+  IsCollectorOf p c = c.seat.table_id ≡ p.table.shared.table_id

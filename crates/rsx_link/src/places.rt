@@ -1,0 +1,117 @@
+//! The places for late subscriptions.
+
+ghost use Rattle.std.specs.Prelude.{◌≡◌, ℕ, suc, ◌+◌, ◌<◌, ◌≤◌, ◌^◌, cond, false, get_or, [], length};
+ghost use Rattle.std.specs.Vec.{vec_capacity};
+ghost use Rattle.rsx_link.specs.PlaceSteps.{collects_at, is_refused, offers_at, refusal_of, ticket_of};
+ghost use Rattle.rsx_link.specs.Places.{count_in};
+ghost use Rattle.rsx_link.specs.Collected.{is_collected};
+
+use crate::place::{Ends, Place, PlaceView};
+use crate::place_plays::{Collecting, CutPart, Drawing, GluePlaces, Offering};
+use crate::place_rule::PlaceRule;
+use atomic_table::Table;
+use std::alloc::Global;
+use std::snapshot::Snapshot;
+
+pub(crate) type Seat<T, P> = atomic_table::Seat<Place<Ends<T>, P>, PlaceView<Ends<T>, P>>;
+
+pub(crate) type PlaceTable<T, P> =
+    Table<Place<Ends<T>, P>, PlaceView<Ends<T>, P>, Snapshot<Vec<Ends<T>>>, PlaceRule, Global>;
+
+/// The word of the counter; behind it is a word for each place.
+const COUNTER: usize = 0;
+
+/// A row of places, at each of which the part of one late subscription can be put, and collected by another thread.
+///
+/// It stays where it is while it is used, and each call takes it by reference.
+#[derive(Drop)]
+pub struct Places<T, P> {
+    // Its key is the ends that were made for the places, which only contracts read.
+    pub(crate) table: PlaceTable<T, P>,
+    pub ghost sized: { (table.shared.table_id.words ≡ suc table.shared.table_id.slots) × (table.shared.table_id.slots ≡ length table.shared.key.value.items) × (table.shared.table_id.slots < 2 ^ 32) },
+}
+
+/// What a thread offers parts by. Several threads may each have one for the same places.
+#[derive(Drop)]
+pub struct PlaceSeat<T, P> {
+    pub(crate) seat: Seat<T, P>,
+    // It drew a ticket that names no place.
+    pub(crate) refused: bool,
+    pub ghost alone: { seat.me.1 ≡ [] },
+    pub ghost never_collects: { (k : ℕ) → count_in (collects_at k) seat.me.0 ≡ 0 },
+    pub ghost settled: { (k : ℕ) → k < seat.table_id.slots → count_in (offers_at k) seat.me.0 ≡ count_in (ticket_of k) seat.me.0 },
+    pub ghost tells: { refused ≡ is_refused seat.table_id.slots seat.me.0.steps },
+    pub ghost has_part: { count_in (refusal_of seat.table_id.slots) seat.me.0 + cond refused 0 1 ≤ seat.me.0.parts },
+}
+
+/// What parts are collected by. There is one for the places.
+#[derive(Drop)]
+pub struct Collector<T, P> {
+    pub(crate) seat: Seat<T, P>,
+    // The places that were collected from.
+    pub(crate) taken: Vec<bool>,
+    // An empty list with room for what is left at the places when they are closed.
+    pub(crate) left: Vec<Place<Ends<T>, P>>,
+    pub ghost only: { seat.id ≡ 0 },
+    pub ghost draws_none: { (seat.me.0.parts ≡ 0) × (seat.me.0.beside ≡ []) },
+    pub ghost counts: { length taken.items ≡ seat.table_id.slots },
+    pub ghost tells: { (k : ℕ) → k < length taken.items → get_or taken.items k false ≡ is_collected k seat.me.0.steps },
+    pub ghost room: { (left.items ≡ []) × (length taken.items ≤ vec_capacity left) },
+}
+
+/// The answer to an offer where no place was left.
+#[derive(Drop)]
+pub struct NoPlace<P> {
+    /// The part that was offered.
+    pub part: P,
+}
+
+impl<T, P> Places<T, P> {
+    ghost use Rattle.std.specs.Prelude.{IfOk, IfErr, IfSome, IfNone, ◌++◌, ◌∷◌, MatchBool};
+    ghost use Rattle.rsx_link.specs.PlaceSeats.{IsPlaceSeatOf, IsCollectorOf, IsHandedOver, IsTurnedAway, places_in, place_steps, place_beside, place_parts, place_refusals, collector_steps};
+    ghost use Rattle.rsx_link.specs.Collected.{missed_below};
+    ghost use Rattle.rsx_link.specs.PlacePlays.{drew, offered, collected};
+    ghost use Rattle.rsx_link.specs.declared.place.PlaceStep.TheVariants.{Collect, Miss};
+
+    /// Draws a ticket for the seat and puts the part at the place that it names, by two atomic steps. Answers the place's
+    /// number, and the ends that were made for just that place.
+    ///
+    /// # Errors
+    ///
+    /// [`NoPlace`] hands the part back, where no place was left. Such a seat draws no further ticket: tried again, it answers the
+    /// same and makes no step.
+    pub fn offer(
+        &self,
+        seat: &mut PlaceSeat<T, P>,
+        part: P,
+    ) -> Result<(u64, Ends<T>), NoPlace<P>>
+        requires { IsPlaceSeatOf self.now seat.old }
+        ensures same { IsPlaceSeatOf self.now seat.new × (place_beside seat.new ≡ place_beside seat.old) × (place_parts seat.new ≡ place_parts seat.old) }
+        ensures ok { IfOk result (λ r. IsHandedOver self.now seat.old part r.0 r.1 (place_steps seat.new)) }
+        ensures full { IfErr result (λ back. IsTurnedAway (places_in self.now) part (place_steps seat.old) back (place_steps seat.new)) }
+    {
+        if seat.refused {
+            return Err(NoPlace { part });
+        }
+        let ticket = self
+            .table
+            .shared
+            .fetch_add::<Drawing>(&mut seat.seat, COUNTER, 1);
+        if ticket >= self.table.slot_count() as u64 {
+            seat.refused = true;
+            return Err(NoPlace { part });
+        }
+        let at = ticket as usize;
+        let place = self
+            .table
+            .shared
+            .exchange(&mut seat.seat, at, Place::Offered(part));
+        self.table
+            .shared
+            .store::<Offering>(&mut seat.seat, at + 1, 1);
+        match place {
+            Place::Free(ends) => Ok((ticket, ends)),
+            Place::Offered(_) | Place::Taken => unreachable!(),
+        }
+    }
+}
