@@ -4,5 +4,7 @@ pub mod Items
 pub mod Keeps
 pub mod PlaceCounts
 pub mod PlaceKeeps
+pub mod PlaceOffers
+pub mod PlaceSlots
 pub mod Shares
 pub mod Totals

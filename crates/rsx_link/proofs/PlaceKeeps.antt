@@ -32,10 +32,10 @@ word_at [] i w e = absurd (some-ne-none w (sym e))
 word_at (x ∷ xs) zero w e = some-injective x w e
 word_at (x ∷ xs) (suc i) w e = word_at xs i w e
 
-ticket_itself : (P : Type 0) (k : ℕ) → ticket_of {P = P} k (Ticket k) ≡ 1
+pub ticket_itself : (P : Type 0) (k : ℕ) → ticket_of {P = P} k (Ticket k) ≡ 1
 ticket_itself P k = ap (λ b. cond b 1 0) (eq-eqb k k refl)
 
-ticket_other : (P : Type 0) (k n : ℕ) → k ≢ n → ticket_of {P = P} k (Ticket n) ≡ 0
+pub ticket_other : (P : Type 0) (k n : ℕ) → k ≢ n → ticket_of {P = P} k (Ticket n) ≡ 0
 ticket_other P k n ne = ap (λ b. cond b 1 0) (ne_eqb n k (λ e. ne (sym e)))
 
 at_most_one : (a : Bool) → cond {A = ℕ} (a && true) 1 0 ≤ 1
@@ -46,7 +46,7 @@ module _ {P : Type 0} where
   itself : (k : ℕ) (p : P) → IfSome (cond (eqb k k) (Some p) None) (λ q. q ≡ p)
   itself k p = subst (λ (b : Bool). IfSome (cond b (Some p) None) (λ q. q ≡ p)) (sym (eq-eqb k k refl)) refl
 
-  other : (k n : ℕ) (p : P) → k ≢ n → number_of (cond (eqb n k) (Some p) None) ≡ 0
+  pub other : (k n : ℕ) (p : P) → k ≢ n → number_of (cond (eqb n k) (Some p) None) ≡ 0
   other k n p ne = ap (λ (b : Bool). number_of {P = P} (cond b (Some p) None)) (ne_eqb n k (λ e. ne (sym e)))
 
 module _ {E P : Type 0} where
@@ -305,12 +305,15 @@ module _ {E P : Type 0} where
       )
 
   -- a part is offered
-  pub offers : (ends : List E) (n id : ℕ) (me : Me (Place E P) (PlaceView E P)) (k : ℕ) (p : P) → n ≡ length ends → me.1 ≡ (k, Offered p) ∷ [] → k < n → count_in (ticket_of k) me.0 ≡ 1 → count_in (offers_at k) me.0 ≡ 0
-      → Allows (Kept ends) n id me (suc k) (λ _. 1) (λ _. offered (step n (suc k) 1 0 none) me 1)
-  offers ends n id me k p count out = subst (λ (n : ℕ). k < n → count_in (ticket_of k) me.0 ≡ 1 → count_in (offers_at k) me.0 ≡ 0
-      → Allows (Kept ends) n id me (suc k) (λ _. 1) (λ _. offered (step n (suc k) 1 0 none) me 1)) (sym count)
+  pub offers : (ends : List E) (n id : ℕ) (me : Me (Place E P) (PlaceView E P)) (k word : ℕ) (p : P) → n ≡ length ends → word ≡ suc k → me.1 ≡ (k, Offered p) ∷ [] → k < n
+      → count_in (ticket_of k) me.0 ≡ 1 → count_in (offers_at k) me.0 ≡ 0 → Allows (Kept ends) n id me word (λ _. 1) (λ _. offered (step n word 1 0 none) me 1)
+  offers ends n id me k word p count is out = subst (λ (n : ℕ). k < n → count_in (ticket_of k) me.0 ≡ 1 → count_in (offers_at k) me.0 ≡ 0
+      → Allows (Kept ends) n id me word (λ _. 1) (λ _. offered (step n word 1 0 none) me 1)) (sym count)
       (subst (λ (c : List (ℕ × Place E P)). k < length ends → count_in (ticket_of k) me.0 ≡ 1 → count_in (offers_at k) me.0 ≡ 0
-      → Allows (Kept ends) (length ends) id (me.0, c) (suc k) (λ _. 1) (λ _. offered (step (length ends) (suc k) 1 0 none) (me.0, c) 1)) (sym out) (offers_from ends id me.0 k p))
+      → Allows (Kept ends) (length ends) id (me.0, c) word (λ _. 1) (λ _. offered (step (length ends) word 1 0 none) (me.0, c) 1)) (sym out)
+      (subst (λ (w : ℕ). k < length ends → count_in (ticket_of k) me.0 ≡ 1 → count_in (offers_at k) me.0 ≡ 0
+      → Allows (Kept ends) (length ends) id (me.0, (k, Offered p) ∷ []) w (λ _. 1) (λ _. offered (step (length ends) w 1 0 none) (me.0, (k, Offered p) ∷ []) 1)) (sym is)
+      (offers_from ends id me.0 k p)))
 
   -- the place whose part is collected
   collected_at : (ends : List E) (s : State (Place E P) (PlaceView E P)) (h : Kept ends s) (id : ℕ) (v : PlaceView E P) (k : ℕ) (word : ℕ) (home : maybe.Option (Place E P))
@@ -385,11 +388,12 @@ module _ {E P : Type 0} where
           ))
 
   -- the collector looks at a place that it has not collected from
-  pub collects : (ends : List E) (n id : ℕ) (me : Me (Place E P) (PlaceView E P)) (k : ℕ) → n ≡ length ends → id ≡ 0 → k < n → count_in (collects_at k) me.0 ≡ 0
-      → Allows (Kept ends) n id me (suc k) (λ y. y) (collected (step n (suc k) 0 0 none) me)
-  collects ends n id me k count first = subst (λ (n : ℕ). k < n → count_in (collects_at k) me.0 ≡ 0 → Allows (Kept ends) n id me (suc k) (λ y. y) (collected (step n (suc k) 0 0 none) me)) (sym count)
-      (subst (λ (i : ℕ). k < length ends → count_in (collects_at k) me.0 ≡ 0 → Allows (Kept ends) (length ends) i me (suc k) (λ y. y) (collected (step (length ends) (suc k) 0 0 none) me)) (sym first)
-      (collects_from ends me k))
+  pub collects : (ends : List E) (n id : ℕ) (me : Me (Place E P) (PlaceView E P)) (k word : ℕ) → n ≡ length ends → id ≡ 0 → word ≡ suc k → k < n → count_in (collects_at k) me.0 ≡ 0
+      → Allows (Kept ends) n id me word (λ y. y) (collected (step n word 0 0 none) me)
+  collects ends n id me k word count first is = subst (λ (n : ℕ). k < n → count_in (collects_at k) me.0 ≡ 0 → Allows (Kept ends) n id me word (λ y. y) (collected (step n word 0 0 none) me)) (sym count)
+      (subst (λ (i : ℕ). k < length ends → count_in (collects_at k) me.0 ≡ 0 → Allows (Kept ends) (length ends) i me word (λ y. y) (collected (step (length ends) word 0 0 none) me)) (sym first)
+      (subst (λ (w : ℕ). k < length ends → count_in (collects_at k) me.0 ≡ 0 → Allows (Kept ends) (length ends) 0 me w (λ y. y) (collected (step (length ends) w 0 0 none) me)) (sym is)
+      (collects_from ends me k)))
 
   -- a new seat, which has made no step, gets some of the parts; what stays is enough for the tickets that were drawn
   pub splits : (ends : List E) (id : ℕ) (v : PlaceView E P) (m n : ℕ) → m + n ≡ v.parts → (m ≡ 0 → (k : ℕ) → count_in (ticket_of k) v ≡ 0)

@@ -1,13 +1,20 @@
 -- What contracts see of the places and of their seats.
 use Rattle.std.specs.Prelude.{◌≡◌, ℕ, ◌<◌, ◌≤◌, true, false, List, [], ◌∷◌, Some, None, MatchBool, slice_get}
+use mathlib.Core.Option.{none}
+use Rattle.atomic_table.specs.Table.{Me, step}
+use Rattle.atomic_table.specs.declared.shared.Seat.{Seat}
 use Rattle.rsx_link.specs.declared.place.Ends.{Ends}
+use Rattle.rsx_link.specs.declared.place.Place.{Place}
+use Rattle.rsx_link.specs.declared.place.Place.TheVariants.{Free}
 use Rattle.rsx_link.specs.declared.place.PlaceStep.{PlaceStep}
 use Rattle.rsx_link.specs.declared.place.PlaceStep.TheVariants.{Ticket, Offer, Collect}
+use Rattle.rsx_link.specs.declared.place.PlaceView.{PlaceView}
 use Rattle.rsx_link.specs.declared.places.Collector.{Collector}
 use Rattle.rsx_link.specs.declared.places.NoPlace.{NoPlace}
 use Rattle.rsx_link.specs.declared.places.PlaceSeat.{PlaceSeat}
 use Rattle.rsx_link.specs.declared.places.Places.{Places}
-use Rattle.rsx_link.specs.PlaceSteps.{refusal_of, ticket_of, is_refused}
+use Rattle.rsx_link.specs.PlaceSteps.{collects_at, offers_at, refusal_of, ticket_of, is_refused}
+use Rattle.rsx_link.specs.PlacePlays.{drew}
 use Rattle.rsx_link.specs.Places.{count_in}
 
 -- the part came back: the seat drew a ticket that names no place, now or before
@@ -24,6 +31,28 @@ module _ {T P : Type 0} where
   -- how many places there are
   abbrev pub places_in : Places T P → ℕ
   places_in p = p.table.shared.table_id.slots
+
+  -- the same seat of the table
+  abbrev pub IsSeat : Seat (Place (Ends T) P) (PlaceView (Ends T) P) → Seat (Place (Ends T) P) (PlaceView (Ends T) P) → Type 0
+  IsSeat old new = (new.table_id ≡ old.table_id) × (new.id ≡ old.id)
+
+  -- who was not refused, and has a part of the right, may draw a ticket
+  abbrev pub MayDraw : Places T P → Seat (Place (Ends T) P) (PlaceView (Ends T) P) → Type 0
+  MayDraw p s = (s.table_id ≡ p.table.shared.table_id) × (s.me.0.ends ≡ Some (ends_of p)) × (is_refused (places_in p) s.me.0.steps ≡ false)
+      × (count_in (refusal_of (places_in p)) s.me.0 < s.me.0.parts)
+
+  -- who drew the ticket, and has the ends, may put a part in their place
+  abbrev pub MayPut : Places T P → Seat (Place (Ends T) P) (PlaceView (Ends T) P) → ℕ → Type 0
+  MayPut p s k = (s.table_id ≡ p.table.shared.table_id) × (k < places_in p) × ((e : Ends T) × (s.me.1 ≡ (k, Free e) ∷ []))
+      × (count_in (ticket_of k) s.me.0 ≡ 1) × (count_in (offers_at k) s.me.0 ≡ 0)
+
+  -- the collector may look at a place that it has not collected from
+  abbrev pub MayLook : Places T P → Seat (Place (Ends T) P) (PlaceView (Ends T) P) → ℕ → Type 0
+  MayLook p s k = (s.table_id ≡ p.table.shared.table_id) × (s.id ≡ 0) × (k < places_in p) × (count_in (collects_at k) s.me.0 ≡ 0)
+
+  -- what a ticket of so many places tells
+  abbrev pub Draws : ℕ → Me (Place (Ends T) P) (PlaceView (Ends T) P) → ℕ → Me (Place (Ends T) P) (PlaceView (Ends T) P) → Type 0
+  Draws places = drew (step places 0 1 0 none)
 
   -- ---- the offering seats
 

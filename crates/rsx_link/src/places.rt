@@ -70,7 +70,6 @@ impl<T, P> Places<T, P> {
     ghost use Rattle.std.specs.Prelude.{IfOk, IfErr, IfSome, IfNone, ◌++◌, ◌∷◌, MatchBool};
     ghost use Rattle.rsx_link.specs.PlaceSeats.{IsPlaceSeatOf, IsCollectorOf, IsHandedOver, IsTurnedAway, places_in, place_steps, place_beside, place_parts, place_refusals, collector_steps};
     ghost use Rattle.rsx_link.specs.Collected.{missed_below};
-    ghost use Rattle.rsx_link.specs.PlacePlays.{drew, offered, collected};
     ghost use Rattle.rsx_link.specs.declared.place.PlaceStep.TheVariants.{Collect, Miss};
 
     /// Draws a ticket for the seat and puts the part at the place that it names, by two atomic steps. Answers the place's
@@ -93,25 +92,58 @@ impl<T, P> Places<T, P> {
         if seat.refused {
             return Err(NoPlace { part });
         }
-        let ticket = self
-            .table
-            .shared
-            .fetch_add::<Drawing>(&mut seat.seat, COUNTER, 1);
+        let ticket = self.draw(&mut seat.seat);
         if ticket >= self.table.slot_count() as u64 {
             seat.refused = true;
             return Err(NoPlace { part });
         }
-        let at = ticket as usize;
-        let place = self
-            .table
-            .shared
-            .exchange(&mut seat.seat, at, Place::Offered(part));
-        self.table
-            .shared
-            .store::<Offering>(&mut seat.seat, at + 1, 1);
+        let ends = self.put(&mut seat.seat, ticket as usize, part);
+        Ok((ticket, ends))
+    }
+}
+
+impl<T, P> Places<T, P> {
+    ghost use Rattle.std.specs.Prelude.{IfSome, IfNone, Some, ◌∷◌};
+    ghost use Rattle.rsx_link.specs.Places.{more};
+    ghost use Rattle.rsx_link.specs.PlaceSeats.{IsSeat, Draws, MayDraw, MayPut, MayLook, places_in};
+    ghost use Rattle.rsx_link.specs.declared.place.Place.TheVariants.{Free, Taken};
+    ghost use Rattle.rsx_link.specs.declared.place.PlaceStep.TheVariants.{Offer, Miss, Collect};
+
+    /// One `fetch_add`, so that no two seats find the same number. The ends of the place that it names are out with the seat then.
+    fn draw(&self, seat: &mut Seat<T, P>) -> u64
+        requires { MayDraw self.now seat.old }
+        ensures { IsSeat seat.old seat.new × Draws (places_in self.now) seat.old.me result seat.new.me }
+    {
+        self.table.shared.fetch_add::<Drawing>(seat, COUNTER, 1)
+    }
+
+    /// Changes the ends for the part, and gives the place back by one store.
+    fn put(&self, seat: &mut Seat<T, P>, at: usize, part: P) -> Ends<T>
+        requires { MayPut self.now seat.old at }
+        ensures same { IsSeat seat.old seat.new }
+        ensures put { (seat.old.me.1 ≡ (at, Free result) ∷ []) × (seat.new.me ≡ (more seat.old.me.0 (Offer at part), [])) }
+    {
+        let place = self.table.shared.exchange(seat, at, Place::Offered(part));
+        self.table.shared.store::<Offering>(seat, at + 1, 1);
         match place {
-            Place::Free(ends) => Ok((ticket, ends)),
+            Place::Free(ends) => ends,
             Place::Offered(_) | Place::Taken => unreachable!(),
+        }
+    }
+
+    /// One load. Where a part was offered the place is out with the seat from then on, and the part is taken.
+    fn look(&self, seat: &mut Seat<T, P>, at: usize) -> Option<P>
+        requires { MayLook self.now seat.old at }
+        ensures same { IsSeat seat.old seat.new }
+        ensures some { IfSome result (λ part. seat.new.me ≡ (more seat.old.me.0 (Collect at part), (at, Taken) ∷ seat.old.me.1)) }
+        ensures none { IfNone result (seat.new.me ≡ (more seat.old.me.0 (Miss at), seat.old.me.1)) }
+    {
+        if self.table.shared.load::<Collecting>(seat, at + 1) == 0 {
+            return None;
+        }
+        match self.table.shared.exchange(seat, at, Place::Taken) {
+            Place::Offered(part) => Some(part),
+            Place::Free(_) | Place::Taken => unreachable!(),
         }
     }
 }
