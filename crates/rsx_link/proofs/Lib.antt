@@ -2,6 +2,7 @@ pub mod Closing
 pub mod Flags
 pub mod Items
 pub mod Keeps
+pub mod PlaceCollects
 pub mod PlaceCounts
 pub mod PlaceKeeps
 pub mod PlaceOffers

@@ -9,7 +9,11 @@ module _ {P : Type 0} where
   abbrev pub is_collected : ℕ → List (PlaceStep P) → Bool
   is_collected k steps = is_some (found_in (collect_of k) steps)
 
-  -- one look at each place below k that was not collected from, in their order, by which no part was found
+  -- the steps after a look at the place k, by which no part was found; a place that was collected from is not looked at
+  abbrev pub missed_at : ℕ → List (PlaceStep P) → List (PlaceStep P)
+  missed_at k steps = cond (is_collected k steps) steps (Miss k ∷ steps)
+
+  -- the same at each place below k, in their order
   abbrev pub missed_below : ℕ → List (PlaceStep P) → List (PlaceStep P)
   missed_below zero steps = steps
-  missed_below (suc k) steps = cond (is_collected k steps) (missed_below k steps) (Miss k ∷ missed_below k steps)
+  missed_below (suc k) steps = missed_at k (missed_below k steps)

@@ -14,6 +14,7 @@ use Rattle.rsx_link.specs.declared.places.NoPlace.{NoPlace}
 use Rattle.rsx_link.specs.declared.places.PlaceSeat.{PlaceSeat}
 use Rattle.rsx_link.specs.declared.places.Places.{Places}
 use Rattle.rsx_link.specs.PlaceSteps.{collects_at, offers_at, refusal_of, ticket_of, is_refused}
+use Rattle.rsx_link.specs.Collected.{is_collected, missed_below}
 use Rattle.rsx_link.specs.PlacePlays.{drew}
 use Rattle.rsx_link.specs.Places.{count_in}
 
@@ -22,6 +23,12 @@ pub record IsTurnedAway {P : Type 0} (places : ℕ) (part : P) (old : List (Plac
   pub part_is : back.part ≡ part
   pub refused : is_refused places new ≡ true
   pub steps : MatchBool (is_refused places old) (new ≡ old) ((ticket : ℕ) × (places ≤ ticket) × (new ≡ Ticket ticket ∷ old))
+
+-- the part of the place k, which was not collected from before, after looks at the places below it
+pub record IsCollected {P : Type 0} (places k : ℕ) (part : P) (old new : List (PlaceStep P)) : Type 0 where
+  pub within : k < places
+  pub once : is_collected k old ≡ false
+  pub steps : new ≡ Collect k part ∷ missed_below k old
 
 module _ {T P : Type 0} where
   -- the ends that were made for the places, by their numbers

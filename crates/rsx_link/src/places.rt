@@ -68,8 +68,8 @@ pub struct NoPlace<P> {
 
 impl<T, P> Places<T, P> {
     ghost use Rattle.std.specs.Prelude.{IfOk, IfErr, IfSome, IfNone, ◌++◌, ◌∷◌, MatchBool};
-    ghost use Rattle.rsx_link.specs.PlaceSeats.{IsPlaceSeatOf, IsCollectorOf, IsHandedOver, IsTurnedAway, places_in, place_steps, place_beside, place_parts, place_refusals, collector_steps};
-    ghost use Rattle.rsx_link.specs.Collected.{missed_below};
+    ghost use Rattle.rsx_link.specs.PlaceSeats.{IsPlaceSeatOf, IsCollectorOf, IsHandedOver, IsTurnedAway, IsCollected, places_in, place_steps, place_beside, place_parts, place_refusals, collector_steps};
+    ghost use Rattle.rsx_link.specs.Collected.{missed_at, missed_below};
     ghost use Rattle.rsx_link.specs.declared.place.PlaceStep.TheVariants.{Collect, Miss};
 
     /// Draws a ticket for the seat and puts the part at the place that it names, by two atomic steps. Answers the place's
@@ -99,6 +99,38 @@ impl<T, P> Places<T, P> {
         }
         let ends = self.put(&mut seat.seat, ticket as usize, part);
         Ok((ticket, ends))
+    }
+
+    /// Looks at the places that were not collected from, in their order, each by one load, until a part is found that was offered.
+    /// Answers that part with its place's number, or `None` where at none of them a part was found. A place is collected from once.
+    pub fn collect(&self, collector: &mut Collector<T, P>) -> Option<(u64, P)>
+        requires { IsCollectorOf self.now collector.old }
+        ensures same { IsCollectorOf self.now collector.new }
+        ensures some { IfSome result (λ r. IsCollected (places_in self.now) r.0 r.1 (collector_steps collector.old) (collector_steps collector.new)) }
+        ensures none { IfNone result (collector_steps collector.new ≡ missed_below (places_in self.now) (collector_steps collector.old)) }
+    {
+        for at in 0..collector.taken.len() {
+            if let Some(part) = self.collect_at(collector, at) {
+                return Some((at as u64, part));
+            }
+        }
+        None
+    }
+
+    /// The same at one place.
+    fn collect_at(&self, collector: &mut Collector<T, P>, at: usize) -> Option<P>
+        requires collector { IsCollectorOf self.now collector.old }
+        requires within { at < places_in self.now }
+        ensures same { IsCollectorOf self.now collector.new }
+        ensures some { IfSome result (λ part. (is_collected at (collector_steps collector.old) ≡ false) × (collector_steps collector.new ≡ Collect at part ∷ collector_steps collector.old)) }
+        ensures none { IfNone result (collector_steps collector.new ≡ missed_at at (collector_steps collector.old)) }
+    {
+        if collector.taken[at] {
+            return None;
+        }
+        let part = self.look(&mut collector.seat, at)?;
+        collector.taken[at] = true;
+        Some(part)
     }
 }
 
