@@ -1,5 +1,5 @@
 -- What an offering seat knows of itself, kept by each call.
-use Rattle.std.proofs.Common.{◌≡◌, ◌≢◌, ℕ, ◌+◌, ◌<◌, ◌≤◌, Bool, true, false, not, cond, eqb, eq-eqb, ne_eqb, List, [], ◌∷◌, Option, Some, None, IfSome, sym, ap, ◌∙◌, subst, arith}
+use Rattle.std.proofs.Common.{◌≡◌, ◌≢◌, ℕ, ◌+◌, ◌-◌, ◌<◌, ◌≤◌, Bool, true, false, not, cond, eqb, eq-eqb, ne_eqb, List, [], ◌∷◌, Option, Some, None, IfSome, sym, ap, ◌∙◌, subst, arith}
 use Rattle.std.proofs.lemmas.Bool.{lt-ltb, le-ltb}
 use Rattle.std.specs.Prelude.{slice_get}
 use mathlib.Core.Logic.{dite}
@@ -93,3 +93,46 @@ module _ {E P : Type 0} where
       let same : ◌≡◌ {A = Place E P} (Free e) (Free e') = same_slot c l [] k (Free e) (Free e') a b in
       let one : e ≡ e' = cc in
       got ends k e (subst (λ (z : Option (List E)). IfSome z (λ l. get_elem? l k ≡ some e)) known is) ∙ ap Some one
+
+  -- a seat that gave one part away, and the one that got it
+  pub sound_split : (places : ℕ) (v w : PlaceView E P) (r : Bool) → w ≡ with_parts v (v.parts - 1) → count_in (refusal_of places) v + 1 < v.parts → Sound places v r → Sound places w r
+  sound_split places v w r is some_more h = record {
+    never_collects = λ k. ap (count_in (collects_at k)) is ∙ h.never_collects k;
+    settled = λ k lt. ap (count_in (offers_at k)) is ∙ h.settled k lt ∙ sym (ap (count_in (ticket_of k)) is);
+    tells = h.tells ∙ sym (ap (λ (u : PlaceView E P). is_refused places u.steps) is);
+    has_part =
+        let e = ap (count_in (refusal_of places)) is in
+        let parts = ap (λ (u : PlaceView E P). u.parts) is in
+        let most = at_most r in omega arith;
+  }
+    where
+      at_most : (b : Bool) → cond {A = ℕ} b 0 1 ≤ 1
+      at_most true = omega arith
+      at_most false = omega arith
+
+  pub sound_new : (places : ℕ) (ends : Option (List E)) (n : ℕ) (w : PlaceView E P) → w ≡ newcomer ends n → 0 < n → Sound places w false
+  sound_new places ends n w is some_part = record {
+    never_collects = λ k. ap (count_in (collects_at k)) is;
+    settled = λ k lt. ap (count_in (offers_at k)) is ∙ sym (ap (count_in (ticket_of k)) is);
+    tells = sym (ap (λ (u : PlaceView E P). is_refused places u.steps) is);
+    has_part = let e = ap (count_in (refusal_of places)) is in let parts = ap (λ (u : PlaceView E P). u.parts) is in omega arith;
+  }
+
+  -- a seat that took another in
+  pub sound_joined : (places : ℕ) (v w u : PlaceView E P) (r q : Bool) → u ≡ joined v w → Sound places v r → Sound places w q → Sound places u r
+  sound_joined places v w u r q is h g = record {
+    never_collects = λ k. let e = ap (count_in (collects_at k)) is in let sum = count_joined (collects_at k) v w in let a = h.never_collects k in let b = g.never_collects k in omega arith;
+    settled = λ k lt.
+        let one = ap (count_in (offers_at k)) is in let two = ap (count_in (ticket_of k)) is in
+        let sum = count_joined (offers_at k) v w in let sum' = count_joined (ticket_of k) v w in
+        let a = h.settled k lt in let b = g.settled k lt in omega arith;
+    tells = h.tells ∙ sym (ap (λ (z : PlaceView E P). is_refused places z.steps) is);
+    has_part =
+        let e = ap (count_in (refusal_of places)) is in let sum = count_joined (refusal_of places) v w in
+        let parts = ap (λ (z : PlaceView E P). z.parts) is in
+        let a = h.has_part in let b = g.has_part in omega arith;
+  }
+
+  -- what a seat may give away
+  pub may_split : (slots places : ℕ) (v : PlaceView E P) → slots ≡ places → count_in (refusal_of slots) v + 1 < v.parts → count_in (refusal_of places) v ≤ v.parts - 1
+  may_split slots places v e has = subst (λ (n : ℕ). count_in (refusal_of n) v ≤ v.parts - 1) e (omega arith)

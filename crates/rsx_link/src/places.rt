@@ -101,6 +101,35 @@ impl<T, P> Places<T, P> {
         Ok((ticket, ends))
     }
 
+    /// Makes a further seat, which has made no step, for another thread. It gets one of the seat's parts of the right to draw tickets;
+    /// enough must be left for the tickets without a place that were drawn, and for one more.
+    pub fn split(&self, seat: &mut PlaceSeat<T, P>) -> PlaceSeat<T, P>
+        requires seat { IsPlaceSeatOf self.now seat.old }
+        requires parts { place_refusals seat.old + 1 < place_parts seat.old }
+        ensures same { IsPlaceSeatOf self.now seat.new × (place_steps seat.new ≡ place_steps seat.old) × (place_beside seat.new ≡ place_beside seat.old) }
+        ensures new { IsPlaceSeatOf self.now result × (place_steps result ≡ []) × (place_beside result ≡ []) }
+        ensures parts { (place_parts result ≡ 1) × (place_parts seat.new + 1 ≡ place_parts seat.old) }
+    {
+        let other = self.table.shared.split_seat::<CutPart>(&mut seat.seat);
+        PlaceSeat {
+            seat: other,
+            refused: false,
+        }
+    }
+
+    /// Takes another seat in: its steps stand beside this one's from now on, and its parts are added.
+    pub fn join(&self, seat: &mut PlaceSeat<T, P>, other: PlaceSeat<T, P>)
+        requires seat { IsPlaceSeatOf self.now seat.old }
+        requires other { IsPlaceSeatOf self.now other }
+        ensures same { IsPlaceSeatOf self.now seat.new × (place_steps seat.new ≡ place_steps seat.old) }
+        ensures beside { place_beside seat.new ≡ place_beside seat.old ++ place_steps other ∷ place_beside other }
+        ensures parts { place_parts seat.new ≡ place_parts seat.old + place_parts other }
+    {
+        self.table
+            .shared
+            .join_seat::<GluePlaces>(&mut seat.seat, other.seat);
+    }
+
     /// Looks at the places that were not collected from, in their order, each by one load, until a part is found that was offered.
     /// Answers that part with its place's number, or `None` where at none of them a part was found. A place is collected from once.
     pub fn collect(&self, collector: &mut Collector<T, P>) -> Option<(u64, P)>
