@@ -479,8 +479,8 @@ module _ {E P : Type 0} where
   frees (e ∷ es) (suc k) lt = frees es k (omega arith)
 
   -- at the start no ticket was drawn, and all ends are at home
-  pub starts : (ends : List E) → Kept {E = E} {P = P} ends (opening (0 ∷ replicate (length ends) 0) (map Free ends) (founder ends))
-  starts ends = record {
+  starts_with : (ends : List E) → Kept {E = E} {P = P} ends (opening (0 ∷ replicate (length ends) 0) (map Free ends) (founder ends))
+  starts_with ends = record {
     counter = 0;
     flags = replicate (length ends) 0;
     words = refl;
@@ -508,3 +508,7 @@ module _ {E P : Type 0} where
       first : (o : ℕ) (v : PlaceView E P) → get_elem? (founder ends ∷ []) o ≡ some v → Fits ends o v
       first zero v e = subst (λ (z : PlaceView E P). Fits ends zero z) (some-injective _ _ e) (record { knows = refl; collects = λ _ _. refl; earned = λ _. omega arith; within = omega arith; idle = λ _ _. refl })
       first (suc o) v e = absurd (some-ne-none v (sym e))
+
+  pub starts : (ends : List E) (n : ℕ) (words : List ℕ) (slots : List (Place E P)) → n ≡ length ends → words ≡ 0 ∷ replicate n 0 → slots ≡ map Free ends → Kept ends (opening words slots (founder ends))
+  starts ends n words slots count zeros frees = subst (λ (ws : List ℕ). Kept {E = E} {P = P} ends (opening ws slots (founder ends))) (sym (zeros ∙ ap (λ k. 0 ∷ replicate k 0) count))
+      (subst (λ (xs : List (Place E P)). Kept ends (opening (0 ∷ replicate (length ends) 0) xs (founder ends))) (sym frees) (starts_with ends))

@@ -1,11 +1,11 @@
 -- The slots that a seat of the places has.
-use Rattle.std.proofs.Common.{◌≡◌, ℕ, zero, suc, List, [], ◌∷◌, get_or, Some, sym, ap, ◌∙◌}
+use Rattle.std.proofs.Common.{◌≡◌, ℕ, zero, suc, List, [], ◌∷◌, ◌++◌, map, drop, get_or, Some, refl, sym, ap, ◌∙◌}
 use Rattle.std.specs.Prelude.{slice_get}
 use mathlib.Core.Option.{some, some-injective, some-ne-none}
 use lib.ListN.{get_elem?}
 use Rattle.atomic_table.specs.Table.{Me, rest}
 use Rattle.rsx_link.specs.declared.place.Place.{Place}
-use Rattle.rsx_link.specs.declared.place.Place.TheVariants.{Offered, Taken}
+use Rattle.rsx_link.specs.declared.place.Place.TheVariants.{Free, Offered, Taken}
 use Rattle.rsx_link.specs.declared.place.PlaceStep.TheVariants.{Collect}
 use Rattle.rsx_link.specs.declared.place.PlaceView.{PlaceView}
 use Rattle.rsx_link.specs.Places.{more}
@@ -35,3 +35,20 @@ module _ {E P : Type 0} where
       now ∙ ap (λ (u : PlaceView E P). (u, (k, Taken) ∷ rest m.1)) (ap (λ (z : Me (Place E P) (PlaceView E P)). z.0) told)
       ∙ ap (λ (r : List (ℕ × Place E P)). (more v (Collect k p), (k, Taken) ∷ r)) (ap rest here)
       ∙ ap (λ (r : P). (more v (Collect k r), (k, Taken) ∷ l)) parts
+
+  -- what stands among free places is free
+  pub free_among : (all : List E) (s t : List (Place E P)) (x : Place E P) → s ++ x ∷ t ≡ map Free all → (e : E) × (x ≡ Free e)
+  free_among [] [] t x e = absurd (cc)
+  free_among [] (y ∷ s) t x e = absurd (cc)
+  free_among (a ∷ all) [] t x e = (a, ap (λ (l : List (Place E P)). get_or l 0 x) e)
+  free_among (a ∷ all) (y ∷ s) t x e = free_among all s t x (ap (drop 1) e)
+
+  -- free places have one list of ends
+  pub same_frees : (xs ys : List E) → ◌≡◌ {A = List (Place E P)} (map Free xs) (map Free ys) → xs ≡ ys
+  same_frees [] [] e = refl
+  same_frees [] (y ∷ ys) e = absurd (cc)
+  same_frees (x ∷ xs) [] e = absurd (cc)
+  same_frees (x ∷ xs) (y ∷ ys) e =
+      let one : ◌≡◌ {A = Place E P} (Free x) (Free y) = ap (λ (l : List (Place E P)). get_or l 0 (Free x)) e in
+      let head : x ≡ y = cc in
+      ap (λ z. z ∷ xs) head ∙ ap (λ l. y ∷ l) (same_frees xs ys (ap (drop 1) e))

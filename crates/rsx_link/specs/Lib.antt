@@ -6,6 +6,8 @@ pub mod PlacePlays
 pub mod PlaceSeats
 pub mod PlaceSteps
 pub mod Places
+pub mod Room
 pub mod Plays
 pub mod Signals
 pub mod Steps
+pub mod TakenOut

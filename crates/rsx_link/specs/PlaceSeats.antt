@@ -1,5 +1,5 @@
 -- What contracts see of the places and of their seats.
-use Rattle.std.specs.Prelude.{◌≡◌, ℕ, ◌<◌, ◌≤◌, true, false, List, [], ◌∷◌, Some, None, MatchBool, slice_get}
+use Rattle.std.specs.Prelude.{◌≡◌, ℕ, ◌<◌, ◌≤◌, true, false, List, [], ◌∷◌, length, Some, None, MatchBool, slice_get}
 use mathlib.Core.Option.{none}
 use Rattle.atomic_table.specs.Table.{Me, step}
 use Rattle.atomic_table.specs.declared.shared.Seat.{Seat}
@@ -16,7 +16,7 @@ use Rattle.rsx_link.specs.declared.places.Places.{Places}
 use Rattle.rsx_link.specs.PlaceSteps.{collects_at, offers_at, refusal_of, ticket_of, is_refused}
 use Rattle.rsx_link.specs.Collected.{is_collected, missed_below}
 use Rattle.rsx_link.specs.PlacePlays.{drew}
-use Rattle.rsx_link.specs.Places.{count_in}
+use Rattle.rsx_link.specs.Places.{all_parts, count_in}
 
 -- the part came back: the seat drew a ticket that names no place, now or before
 pub record IsTurnedAway {P : Type 0} (places : ℕ) (part : P) (old : List (PlaceStep P)) (back : NoPlace P) (new : List (PlaceStep P)) : Type 0 where
@@ -96,3 +96,11 @@ module _ {T P : Type 0} where
 
   abbrev pub IsCollectorOf : Places T P → Collector T P → Type 0
   IsCollectorOf p c = c.seat.table_id ≡ p.table.shared.table_id
+
+  -- ---- all together
+
+  -- nothing was drawn, offered or collected
+  pub record AreBegun (ends : List (Ends T)) (p : Places T P) (c : Collector T P) (s : PlaceSeat T P) : Type 0 where
+    pub its : (ends_of p ≡ ends) × (places_in p ≡ length ends)
+    pub collector : IsCollectorOf p c × (collector_steps c ≡ [])
+    pub seat : IsPlaceSeatOf p s × (place_steps s ≡ []) × (place_beside s ≡ []) × (place_parts s ≡ all_parts)

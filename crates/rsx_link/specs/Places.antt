@@ -1,5 +1,5 @@
 -- The rule of the places: the counter of tickets, a word for each place, what is at home, and what the seats know of them.
-use Rattle.std.specs.Prelude.{◌≡◌, ◌≢◌, ℕ, suc, ◌+◌, ◌<◌, ◌≤◌, Bool, cond, not, nat_eq, ◌&&◌, is_some, List, [], ◌∷◌, ◌++◌, length, Option, Some, None, IfSome}
+use Rattle.std.specs.Prelude.{◌≡◌, ◌≢◌, ℕ, suc, ◌+◌, ◌^◌, ◌<◌, ◌≤◌, Bool, cond, not, nat_eq, ◌&&◌, is_some, List, [], ◌∷◌, ◌++◌, length, Option, Some, None, IfSome}
 use mathlib.Core.Option.{some, none}
 use mathlib.Core.Option as maybe
 use lib.ListN.{get_elem?}
@@ -14,6 +14,10 @@ use Rattle.rsx_link.specs.PlaceSteps.{ticket_of, refusal_of, offers_at, collects
 -- the parts of the right to draw tickets
 abbrev pub all_parts : ℕ
 all_parts = 4294967296
+
+-- a table of so many words and slots has a place for each of the ends, and a word for it beside the counter
+abbrev pub IsSized : {E : Type 0} → ℕ → ℕ → List E → Type 0
+IsSized words slots ends = (words ≡ suc slots) × (slots ≡ length ends) × (slots < 2 ^ 32)
 
 module _ {E P : Type 0} where
   abbrev pub view : Option (List E) → ℕ → List (PlaceStep P) → List (List (PlaceStep P)) → PlaceView E P

@@ -69,6 +69,7 @@ mod down;
 mod link;
 mod place;
 mod place_plays;
+mod place_room;
 mod place_rule;
 mod places;
 mod plays;

@@ -3,13 +3,14 @@
 ghost use Rattle.std.specs.Prelude.{◌≡◌, ℕ, suc, ◌+◌, ◌<◌, ◌≤◌, ◌^◌, cond, false, get_or, [], length};
 ghost use Rattle.std.specs.Vec.{vec_capacity};
 ghost use Rattle.rsx_link.specs.PlaceSteps.{collects_at, is_refused, offers_at, refusal_of, ticket_of};
-ghost use Rattle.rsx_link.specs.Places.{count_in};
+ghost use Rattle.rsx_link.specs.Places.{IsSized, count_in};
 ghost use Rattle.rsx_link.specs.Collected.{is_collected};
 
 use crate::place::{Ends, Place, PlaceView};
-use crate::place_plays::{Collecting, CutPart, Drawing, GluePlaces, Offering};
+use crate::place_plays::{Collecting, CutPart, Drawing, GiveParts, GluePlaces, Offering};
+use crate::place_room::{Room, lay, put_back};
 use crate::place_rule::PlaceRule;
-use atomic_table::Table;
+use atomic_table::{Refused, Table};
 use std::alloc::Global;
 use std::snapshot::Snapshot;
 
@@ -28,7 +29,7 @@ const COUNTER: usize = 0;
 pub struct Places<T, P> {
     // Its key is the ends that were made for the places, which only contracts read.
     pub(crate) table: PlaceTable<T, P>,
-    pub ghost sized: { (table.shared.table_id.words ≡ suc table.shared.table_id.slots) × (table.shared.table_id.slots ≡ length table.shared.key.value.items) × (table.shared.table_id.slots < 2 ^ 32) },
+    pub ghost sized: { IsSized table.shared.table_id.words table.shared.table_id.slots table.shared.key.value.items },
 }
 
 /// What a thread offers parts by. Several threads may each have one for the same places.
@@ -64,6 +65,45 @@ pub struct Collector<T, P> {
 pub struct NoPlace<P> {
     /// The part that was offered.
     pub part: P,
+}
+
+impl<T: Drop, P: Drop> Places<T, P> {
+    ghost use Rattle.std.specs.Prelude.{IfOk, IfErr};
+    ghost use Rattle.rsx_link.specs.PlaceSeats.{AreBegun};
+
+    /// Makes a place for each of the ends, in their order, with the one collector and the first offering seat, which has all parts
+    /// of the right to draw tickets. All memory that the places ever use is taken here.
+    ///
+    /// # Errors
+    ///
+    /// The ends come back as they were where there was no memory.
+    pub fn new(
+        alloc: Global,
+        mut ends: Vec<Ends<T>>,
+    ) -> Result<(Places<T, P>, Collector<T, P>, PlaceSeat<T, P>), Vec<Ends<T>>>
+        requires few { length ends.items < 2 ^ 32 }
+        ensures ok { IfOk result (λ r. AreBegun ends.items r.0 r.1 r.2) }
+        ensures err { IfErr result (λ back. back.items ≡ ends.items) }
+    {
+        let Ok(room) = Room::new(alloc, ends.len()) else {
+            return Err(ends);
+        };
+        let Room {
+            words,
+            taken,
+            mut slots,
+            left,
+        } = room;
+        let key = Snapshot::of(&ends);
+        lay(&mut ends, &mut slots);
+        match Table::new(alloc, words.as_slice(), slots, &key) {
+            Ok((table, seat)) => Ok(Places::begin(table, seat, taken, left)),
+            Err(Refused { slots }) => {
+                put_back(slots, &mut ends, &key);
+                Err(ends)
+            }
+        }
+    }
 }
 
 impl<T, P> Places<T, P> {
@@ -164,11 +204,33 @@ impl<T, P> Places<T, P> {
 }
 
 impl<T, P> Places<T, P> {
-    ghost use Rattle.std.specs.Prelude.{IfSome, IfNone, Some, ◌∷◌};
-    ghost use Rattle.rsx_link.specs.Places.{more};
-    ghost use Rattle.rsx_link.specs.PlaceSeats.{IsSeat, Draws, MayDraw, MayPut, MayLook, places_in};
+    ghost use Rattle.std.specs.Prelude.{IfSome, IfNone, ◌∷◌, replicate};
+    ghost use Rattle.rsx_link.specs.Places.{founder, more};
+    ghost use Rattle.rsx_link.specs.PlaceSeats.{AreBegun, IsSeat, Draws, MayDraw, MayPut, MayLook, places_in};
     ghost use Rattle.rsx_link.specs.declared.place.Place.TheVariants.{Free, Taken};
     ghost use Rattle.rsx_link.specs.declared.place.PlaceStep.TheVariants.{Offer, Miss, Collect};
+
+    /// The first seat collects, and gives all parts to a new one.
+    fn begin(
+        table: PlaceTable<T, P>,
+        mut seat: Seat<T, P>,
+        taken: Vec<bool>,
+        left: Vec<Place<Ends<T>, P>>,
+    ) -> (Places<T, P>, Collector<T, P>, PlaceSeat<T, P>)
+        requires table { IsSized table.shared.table_id.words table.shared.table_id.slots table.shared.key.value.items }
+        requires seat { (seat.table_id ≡ table.shared.table_id) × (seat.id ≡ 0) × (seat.me ≡ (founder table.shared.key.value.items, [])) }
+        requires taken { taken.items ≡ replicate table.shared.table_id.slots false }
+        requires left { (left.items ≡ []) × (length taken.items ≤ vec_capacity left) }
+        ensures { AreBegun table.shared.key.value.items result.0 result.1 result.2 }
+    {
+        let other = table.shared.split_seat::<GiveParts>(&mut seat);
+        let collector = Collector { seat, taken, left };
+        let first = PlaceSeat {
+            seat: other,
+            refused: false,
+        };
+        (Places { table }, collector, first)
+    }
 
     /// One `fetch_add`, so that no two seats find the same number. The ends of the place that it names are out with the seat then.
     fn draw(&self, seat: &mut Seat<T, P>) -> u64
