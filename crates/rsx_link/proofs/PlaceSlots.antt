@@ -1,6 +1,9 @@
 -- The slots that a seat of the places has.
-use Rattle.std.proofs.Common.{◌≡◌, ℕ, zero, suc, List, [], ◌∷◌, ◌++◌, map, drop, get_or, Some, refl, sym, ap, ◌∙◌}
+use Rattle.std.proofs.Common.{◌≡◌, ℕ, zero, suc, ◌+◌, ◌<◌, Bool, false, cond, List, [], ◌∷◌, ◌++◌, length, map, drop, set, get_or, Some, refl, sym, ap, ◌∙◌, subst, arith}
 use Rattle.std.specs.Prelude.{slice_get}
+use Rattle.std.proofs.lemmas.List.{length-append}
+use mathlib.Core.Logic.{dite}
+use native.Mathlib.Decide.{ℕ_discrete}
 use mathlib.Core.Option.{some, some-injective, some-ne-none}
 use lib.ListN.{get_elem?}
 use Rattle.atomic_table.specs.Table.{Me, rest}
@@ -9,6 +12,7 @@ use Rattle.rsx_link.specs.declared.place.Place.TheVariants.{Free, Offered, Taken
 use Rattle.rsx_link.specs.declared.place.PlaceStep.TheVariants.{Collect}
 use Rattle.rsx_link.specs.declared.place.PlaceView.{PlaceView}
 use Rattle.rsx_link.specs.Places.{more}
+use Rattle.rsx_link.specs.TakenOut.{IsTakenBelow}
 
 -- the slot in front, and what is behind it
 pub front : {S : Type 0} (c l : List (ℕ × S)) (a : ℕ × S) → c ≡ a ∷ l → c ≡ a ∷ rest c
@@ -22,6 +26,32 @@ pub got : {A : Type 0} (l : List A) (i : ℕ) (a : A) → get_elem? l i ≡ some
 got [] i a e = absurd (some-ne-none a (sym e))
 got (x ∷ xs) zero a e = ap Some (some-injective x a e)
 got (x ∷ xs) (suc i) a e = got xs i a e
+
+longer : {A : Type 0} (l m : List A) (i : ℕ) (a : A) → slice_get l i ≡ Some a → slice_get (l ++ m) i ≡ Some a
+longer [] m i a e = absurd (cc)
+longer (x ∷ xs) m zero a e = e
+longer (x ∷ xs) m (suc i) a e = longer xs m i a e
+
+last : {A : Type 0} (l : List A) (a : A) (n : ℕ) → length l ≡ n → slice_get (l ++ a ∷ []) n ≡ Some a
+last [] a zero e = refl
+last [] a (suc n) e = absurd (omega arith)
+last (x ∷ xs) a zero e = absurd (omega arith)
+last (x ∷ xs) a (suc n) e = last xs a n (omega arith)
+
+-- an element by its index, whatever is given where there is none
+by_index : {A : Type 0} (l : List A) (i : ℕ) (a d : A) → get_elem? l i ≡ some a → get_or l i d ≡ a
+by_index [] i a d e = absurd (some-ne-none a (sym e))
+by_index (x ∷ xs) zero a d e = some-injective x a e
+by_index (x ∷ xs) (suc i) a d e = by_index xs i a d e
+
+-- a place that was emptied is empty
+pub emptied : (l : List Bool) (i k : ℕ) → k ≡ i → get_or (set l i false) k false ≡ false
+emptied l i k e = ap (λ (j : ℕ). get_or (set l i false) j false) e ∙ here l i
+  where
+    here : (l : List Bool) (i : ℕ) → get_or (set l i false) i false ≡ false
+    here [] i = refl
+    here (x ∷ xs) zero = refl
+    here (x ∷ xs) (suc i) = here xs i
 
 module _ {E P : Type 0} where
   -- the part that the slot holds is the one that was collected
@@ -52,3 +82,14 @@ module _ {E P : Type 0} where
       let one : ◌≡◌ {A = Place E P} (Free x) (Free y) = ap (λ (l : List (Place E P)). get_or l 0 (Free x)) e in
       let head : x ≡ y = cc in
       ap (λ z. z ∷ xs) head ∙ ap (λ l. y ∷ l) (same_frees xs ys (ap (drop 1) e))
+
+  -- one place more was taken out
+  pub taken_more : (n : ℕ) (taken : List Bool) (places left more : List (Place E P)) (b : Bool) (x y : Place E P) → IsTakenBelow n taken places left → get_elem? places n ≡ some x
+      → get_or taken n false ≡ b → y ≡ cond b Taken x → more ≡ left ++ y ∷ [] → IsTakenBelow (n + 1) taken places more
+  taken_more n taken places left more b x y h at is chosen pushed = (
+    ap length pushed ∙ length-append left (y ∷ []) ∙ (let e = h.0 in omega arith),
+    (λ k lt. dite (ℕ_discrete k n)
+    (λ e. subst (λ (i : ℕ). slice_get more i ≡ Some (cond (get_or taken i false) Taken (get_or places i Taken))) (sym e)
+        (ap (λ l. slice_get l n) pushed ∙ last left y n h.0 ∙ ap Some (chosen ∙ ap (λ c. cond c Taken x) (sym is) ∙ ap (λ z. cond (get_or taken n false) Taken z) (sym (by_index places n x Taken at)))))
+    (λ ne. ap (λ l. slice_get l k) pushed ∙ longer left (y ∷ []) k _ (h.1 k (omega arith)))),
+  )

@@ -1,10 +1,10 @@
 //! The memory of the places, and how the ends that were made for them are put there.
 
-ghost use Rattle.std.specs.Prelude.{◌≡◌, ℕ, ◌≤◌, ◌<◌, ◌^◌, IfOk, [], length, map};
+ghost use Rattle.std.specs.Prelude.{◌≡◌, ℕ, ◌≤◌, ◌<◌, ◌^◌, IfOk, [], cond, length, map};
 ghost use Rattle.std.specs.Vec.{vec_capacity};
 ghost use Rattle.std.specs.Slots.{IsFull, slots_items, slots_len};
 ghost use Rattle.rsx_link.specs.TakenOut.{IsTakenOut};
-ghost use Rattle.rsx_link.specs.declared.place.Place.TheVariants.{Free};
+ghost use Rattle.rsx_link.specs.declared.place.Place.TheVariants.{Free, Taken};
 
 use crate::place::Place;
 use atomic_table::Closed;
@@ -82,6 +82,13 @@ pub(crate) fn put_back<E, P>(
     ends.reverse();
 }
 
+/// What is left of a place.
+fn unless_taken<E: Drop, P: Drop>(place: Place<E, P>, taken: bool) -> Place<E, P>
+    ensures { result ≡ cond taken Taken place }
+{
+    if taken { Place::Taken } else { place }
+}
+
 /// Takes what is left out of a table that no thread shares any more: of each place that was collected from it is [`Place::Taken`].
 pub(crate) fn take_out<E: Drop, P: Drop>(
     mut closed: Closed<Place<E, P>, Global>,
@@ -94,11 +101,7 @@ pub(crate) fn take_out<E: Drop, P: Drop>(
 {
     for at in 0..taken.len() {
         let place = closed.take(at);
-        if taken[at] {
-            left.push_reserved(Place::Taken);
-        } else {
-            left.push_reserved(place);
-        }
+        left.push_reserved(unless_taken(place, taken[at]));
     }
     closed.free();
     left
