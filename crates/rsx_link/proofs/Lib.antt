@@ -2,9 +2,11 @@ pub mod Closing
 pub mod Flags
 pub mod Items
 pub mod Keeps
+pub mod PlaceClosing
 pub mod PlaceCollects
 pub mod PlaceCounts
 pub mod PlaceKeeps
+pub mod PlaceLeft
 pub mod PlaceOffers
 pub mod PlaceSlots
 pub mod Shares

@@ -147,7 +147,7 @@ module _ {E P : Type 0} where
       let all = h.parts in omega arith
 
   -- as many were offered as tickets were drawn, at most
-  earned : (ends : List E) (s : State (Place E P) (PlaceView E P)) (h : Kept ends s) (k : ℕ) → tally (offers_at k) s.views ≤ tally (ticket_of k) s.views
+  pub earned : (ends : List E) (s : State (Place E P) (PlaceView E P)) (h : Kept ends s) (k : ℕ) → tally (offers_at k) s.views ≤ tally (ticket_of k) s.views
   earned ends s h k = total_less (count_in (offers_at k)) (count_in (ticket_of k)) s.views (λ o v e. (h.fits o v e).earned k)
 
   -- what the ticket says, where it names a place

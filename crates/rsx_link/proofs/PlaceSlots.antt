@@ -39,7 +39,7 @@ last (x ∷ xs) a zero e = absurd (omega arith)
 last (x ∷ xs) a (suc n) e = last xs a n (omega arith)
 
 -- an element by its index, whatever is given where there is none
-by_index : {A : Type 0} (l : List A) (i : ℕ) (a d : A) → get_elem? l i ≡ some a → get_or l i d ≡ a
+pub by_index : {A : Type 0} (l : List A) (i : ℕ) (a d : A) → get_elem? l i ≡ some a → get_or l i d ≡ a
 by_index [] i a d e = absurd (some-ne-none a (sym e))
 by_index (x ∷ xs) zero a d e = some-injective x a e
 by_index (x ∷ xs) (suc i) a d e = by_index xs i a d e

@@ -1,11 +1,11 @@
 -- What contracts see of the places and of their seats.
-use Rattle.std.specs.Prelude.{◌≡◌, ℕ, ◌<◌, ◌≤◌, true, false, List, [], ◌∷◌, length, Some, None, MatchBool, slice_get}
+use Rattle.std.specs.Prelude.{◌≡◌, ℕ, ◌<◌, ◌≤◌, true, false, List, [], ◌∷◌, length, Option, Some, None, IfSome, IfNone, MatchBool, slice_get}
 use mathlib.Core.Option.{none}
 use Rattle.atomic_table.specs.Table.{Me, step}
 use Rattle.atomic_table.specs.declared.shared.Seat.{Seat}
 use Rattle.rsx_link.specs.declared.place.Ends.{Ends}
 use Rattle.rsx_link.specs.declared.place.Place.{Place}
-use Rattle.rsx_link.specs.declared.place.Place.TheVariants.{Free}
+use Rattle.rsx_link.specs.declared.place.Place.TheVariants.{Free, Offered, Taken}
 use Rattle.rsx_link.specs.declared.place.PlaceStep.{PlaceStep}
 use Rattle.rsx_link.specs.declared.place.PlaceStep.TheVariants.{Ticket, Offer, Collect}
 use Rattle.rsx_link.specs.declared.place.PlaceView.{PlaceView}
@@ -13,10 +13,10 @@ use Rattle.rsx_link.specs.declared.places.Collector.{Collector}
 use Rattle.rsx_link.specs.declared.places.NoPlace.{NoPlace}
 use Rattle.rsx_link.specs.declared.places.PlaceSeat.{PlaceSeat}
 use Rattle.rsx_link.specs.declared.places.Places.{Places}
-use Rattle.rsx_link.specs.PlaceSteps.{collects_at, offers_at, refusal_of, ticket_of, is_refused}
+use Rattle.rsx_link.specs.PlaceSteps.{collect_of, collects_at, offer_of, offers_at, refusal_of, ticket_of, found_in, is_refused}
 use Rattle.rsx_link.specs.Collected.{is_collected, missed_below}
 use Rattle.rsx_link.specs.PlacePlays.{drew}
-use Rattle.rsx_link.specs.Places.{all_parts, count_in}
+use Rattle.rsx_link.specs.Places.{all_parts, count_in, steps_of}
 
 -- the part came back: the seat drew a ticket that names no place, now or before
 pub record IsTurnedAway {P : Type 0} (places : ℕ) (part : P) (old : List (PlaceStep P)) (back : NoPlace P) (new : List (PlaceStep P)) : Type 0 where
@@ -104,3 +104,24 @@ module _ {T P : Type 0} where
     pub its : (ends_of p ≡ ends) × (places_in p ≡ length ends)
     pub collector : IsCollectorOf p c × (collector_steps c ≡ [])
     pub seat : IsPlaceSeatOf p s × (place_steps s ≡ []) × (place_beside s ≡ []) × (place_parts s ≡ all_parts)
+
+  -- the part that the seat offered at the place k, or one that was joined into it
+  abbrev pub offered_at : ℕ → PlaceSeat T P → Option P
+  offered_at k s = found_in (offer_of k) (steps_of s.seat.me.0)
+
+  -- the part that was collected from there
+  abbrev pub collected_at : ℕ → Collector T P → Option P
+  collected_at k c = found_in (collect_of k) (collector_steps c)
+
+  -- all seats are in this one
+  abbrev pub HasAllParts : PlaceSeat T P → Type 0
+  HasAllParts s = all_parts ≤ place_parts s
+
+  -- what is left at the place k
+  pub record IsLeft (p : Places T P) (c : Collector T P) (s : PlaceSeat T P) (k : ℕ) (left : List (Place (Ends T) P)) : Type 0 where
+    pub taken : IfSome (collected_at k c) (λ part. slice_get left k ≡ Some Taken)
+    pub offered : IfNone (collected_at k c) (IfSome (offered_at k s) (λ part. slice_get left k ≡ Some (Offered part)))
+    pub free : HasAllParts s → IfNone (offered_at k s) ((e : Ends T) × (slice_get (ends_of p) k ≡ Some e) × (slice_get left k ≡ Some (Free e)))
+    -- what was collected is what was offered
+    pub same : IfSome (collected_at k c) (λ part. IfSome (offered_at k s) (λ other. other ≡ part))
+    pub earned : HasAllParts s → IfSome (collected_at k c) (λ part. offered_at k s ≡ Some part)

@@ -8,7 +8,7 @@ ghost use Rattle.rsx_link.specs.Collected.{is_collected};
 
 use crate::place::{Ends, Place, PlaceView};
 use crate::place_plays::{Collecting, CutPart, Drawing, GiveParts, GluePlaces, Offering};
-use crate::place_room::{Room, lay, put_back};
+use crate::place_room::{Room, lay, put_back, take_out};
 use crate::place_rule::PlaceRule;
 use atomic_table::{Refused, Table};
 use std::alloc::Global;
@@ -54,7 +54,8 @@ pub struct Collector<T, P> {
     // An empty list with room for what is left at the places when they are closed.
     pub(crate) left: Vec<Place<Ends<T>, P>>,
     pub ghost only: { seat.id ≡ 0 },
-    pub ghost draws_none: { (seat.me.0.parts ≡ 0) × (seat.me.0.beside ≡ []) },
+    pub ghost alone: { seat.me.0.beside ≡ [] },
+    pub ghost draws_none: { (k : ℕ) → (count_in (ticket_of k) seat.me.0 ≡ 0) × (count_in (offers_at k) seat.me.0 ≡ 0) },
     pub ghost counts: { length taken.items ≡ seat.table_id.slots },
     pub ghost tells: { (k : ℕ) → k < length taken.items → get_or taken.items k false ≡ is_collected k seat.me.0.steps },
     pub ghost room: { (left.items ≡ []) × (length taken.items ≤ vec_capacity left) },
@@ -69,7 +70,7 @@ pub struct NoPlace<P> {
 
 impl<T: Drop, P: Drop> Places<T, P> {
     ghost use Rattle.std.specs.Prelude.{IfOk, IfErr};
-    ghost use Rattle.rsx_link.specs.PlaceSeats.{AreBegun};
+    ghost use Rattle.rsx_link.specs.PlaceSeats.{AreBegun, IsCollectorOf, IsLeft, IsPlaceSeatOf, places_in};
 
     /// Makes a place for each of the ends, in their order, with the one collector and the first offering seat, which has all parts
     /// of the right to draw tickets. All memory that the places ever use is taken here.
@@ -103,6 +104,35 @@ impl<T: Drop, P: Drop> Places<T, P> {
                 Err(ends)
             }
         }
+    }
+
+    /// Takes the collector and a seat back, and answers what is left, by the numbers of the places: [`Place::Taken`] where a part was
+    /// collected, the part where one was offered and not collected, and else the ends, which were never handed out.
+    ///
+    /// That a place is not known to the seat, and so was not offered by another, is sure only where the seat has all parts of the right
+    /// to draw tickets, because all other seats were joined into it.
+    pub fn close(
+        self,
+        collector: Collector<T, P>,
+        seat: PlaceSeat<T, P>,
+    ) -> Vec<Place<Ends<T>, P>>
+        requires collector { IsCollectorOf self collector }
+        requires seat { IsPlaceSeatOf self seat }
+        ensures count { length result.items ≡ places_in self }
+        ensures left { (k : ℕ) → k < places_in self → IsLeft self collector seat k result.items }
+    {
+        let Places { table } = self;
+        let Collector {
+            seat: mut own,
+            taken,
+            left,
+        } = collector;
+        let PlaceSeat {
+            seat: other,
+            refused: _,
+        } = seat;
+        table.shared.join_seat::<GluePlaces>(&mut own, other);
+        take_out(table.close_with(own), taken.as_slice(), left)
     }
 }
 
@@ -197,9 +227,13 @@ impl<T, P> Places<T, P> {
         if collector.taken[at] {
             return None;
         }
-        let part = self.look(&mut collector.seat, at)?;
-        collector.taken[at] = true;
-        Some(part)
+        match self.look(&mut collector.seat, at) {
+            Some(part) => {
+                collector.taken[at] = true;
+                Some(part)
+            }
+            None => None,
+        }
     }
 }
 
