@@ -1,8 +1,7 @@
 -- What is left at the places, once the collector's seat and the offering seats are one.
-use Rattle.std.proofs.Common.{◌≡◌, ℕ, zero, suc, ◌+◌, ◌<◌, ◌≤◌, Bool, true, false, is_some, List, [], ◌∷◌, ◌++◌, length, Option, Some, None, IfSome, refl, sym, ap, ◌∙◌, subst, arith}
+use Rattle.std.proofs.Common.{◌≡◌, ℕ, ◌+◌, ◌<◌, ◌≤◌, List, [], ◌∷◌, ◌++◌, length, Option, Some, None, IfSome, refl, sym, ap, ◌∙◌, subst, arith}
 use mathlib.Core.Logic.{dite}
 use mathlib.Core.Option.{some}
-use mathlib.Core.Option as maybe
 use native.Mathlib.Decide.{dec_le}
 use lib.ListN.{get_elem?}
 use Rattle.atomic_table.specs.Table.{State, Final, Seen}
@@ -12,7 +11,7 @@ use Rattle.rsx_link.specs.declared.place.PlaceStep.{PlaceStep}
 use Rattle.rsx_link.specs.declared.place.PlaceView.{PlaceView}
 use Rattle.rsx_link.specs.Link.{total}
 use Rattle.rsx_link.specs.PlaceSteps.{ticket_of, offer_of, collect_of, offers_at, collects_at, number_of, or_else, found_in, AllName}
-use Rattle.rsx_link.specs.Places.{all_parts, joined, steps_of, count_in, tally, Fits, IsPlace, Kept}
+use Rattle.rsx_link.specs.Places.{all_parts, joined, steps_of, count_in, tally, Kept}
 use Rattle.rsx_link.proofs.PlaceCounts.{total_alone, total_only, steps_joined, count_joined}
 use Rattle.rsx_link.proofs.PlaceKeeps.{earned}
 use Rattle.rsx_link.proofs.Totals.{le-total}

@@ -1,5 +1,5 @@
 -- What the collector knows of itself, kept by each look.
-use Rattle.std.proofs.Common.{◌≡◌, ◌≢◌, ℕ, zero, suc, ◌+◌, ◌<◌, Bool, true, false, is_some, cond, eqb, eq-eqb, ne_eqb, List, [], ◌∷◌, ◌++◌, get_or, length, set, Option, Some, None, refl, sym, ap, ◌∙◌, subst, arith}
+use Rattle.std.proofs.Common.{◌≡◌, ℕ, zero, suc, ◌<◌, Bool, true, false, is_some, cond, eq-eqb, ne_eqb, List, [], ◌∷◌, ◌++◌, get_or, length, set, Option, Some, None, refl, sym, ap, ◌∙◌, arith}
 use Rattle.std.proofs.lemmas.List.{length-set, get_or-set_same, get_or-set_other}
 use mathlib.Core.Logic.{dite}
 use native.Mathlib.Decide.{ℕ_discrete}
@@ -9,7 +9,7 @@ use Rattle.rsx_link.specs.declared.place.PlaceView.{PlaceView}
 use Rattle.rsx_link.specs.Link.{total}
 use Rattle.rsx_link.specs.PlaceSteps.{ticket_of, offers_at, collect_of, collects_at, found_in, number_of, or_else, flat}
 use Rattle.rsx_link.specs.Places.{more, count_in}
-use Rattle.rsx_link.specs.Collected.{is_collected, missed_at, missed_below}
+use Rattle.rsx_link.specs.Collected.{is_collected, missed_below}
 
 module _ {P : Type 0} where
   collected_miss : (j k : ℕ) (b : Bool) (steps : List (PlaceStep P)) → is_collected j (cond b steps (Miss k ∷ steps)) ≡ is_collected j steps

@@ -1,5 +1,5 @@
 -- Each step on the places keeps their rule.
-use Rattle.std.proofs.Common.{◌≡◌, ◌≢◌, ℕ, zero, suc, ◌+◌, ◌%◌, ◌^◌, ◌<◌, ◌≤◌, Bool, true, false, not, ◌&&◌, is_some, cond, eqb, eq-eqb, ne_eqb, List, [], ◌∷◌, ◌++◌, get_or, length, map, replicate, set, Option, Some, None, IfSome, refl, sym, ap, ◌∙◌, subst, ◌⊎◌, ⊎_elim, arith}
+use Rattle.std.proofs.Common.{◌≡◌, ◌≢◌, ℕ, zero, suc, ◌+◌, ◌%◌, ◌^◌, ◌<◌, ◌≤◌, Bool, true, false, not, ◌&&◌, is_some, cond, eqb, eq-eqb, ne_eqb, List, [], ◌∷◌, ◌++◌, get_or, length, map, replicate, set, Option, Some, None, IfSome, refl, sym, ap, ◌∙◌, subst, ⊎_elim, arith}
 use Rattle.std.proofs.lemmas.Bool.{lt-ltb, le-ltb}
 use Rattle.std.proofs.lemmas.List.{length-append, length-set}
 use Rattle.std.proofs.Math.Nat.{mod-eq_of_lt}
@@ -17,7 +17,7 @@ use Rattle.rsx_link.specs.declared.place.PlaceStep.TheVariants.{Ticket, Offer, M
 use Rattle.rsx_link.specs.declared.place.PlaceView.{PlaceView}
 use Rattle.rsx_link.specs.Link.{total}
 use Rattle.rsx_link.specs.PlaceSteps.{ticket_of, refusal_of, number_of, offers_at, collects_at, AllName, is_refused}
-use Rattle.rsx_link.specs.Places.{founder, more, with_parts, newcomer, joined, spent, steps_of, count_in, tally, claims, Fits, Carries, IsPlace, Kept}
+use Rattle.rsx_link.specs.Places.{founder, more, with_parts, newcomer, joined, spent, steps_of, count_in, tally, claims, Fits, IsPlace, Kept}
 use Rattle.rsx_link.specs.PlacePlays.{drew, offered, collected}
 use Rattle.rsx_link.proofs.PlaceCounts.{total_less, total_less_but, total_alone, all_name-append, all_none, steps_joined, count_joined, tally_step, tally_split, tally_join}
 use Rattle.rsx_link.proofs.Totals.{total-set, total-append, le-total}
@@ -70,11 +70,14 @@ module _ {E P : Type 0} where
     collects = let e = h.collects in omega arith;
     free = λ b. h.free (le b);
     out = λ b. h.out (lt b);
-    carries = λ w. let carried = h.carries w in let p = carried.0 in let its = carried.1 in (p, record {
-      names = names p its.names;
-      waits = λ e. its.waits (sym d ∙ e);
-      gone = λ e. its.gone (sym d ∙ e);
-    });
+    carries = λ w. let carried = h.carries w in let p = carried.0 in let its = carried.1 in (
+      p,
+      record {
+        names = names p its.names;
+        waits = λ e. its.waits (sym d ∙ e);
+        gone = λ e. its.gone (sym d ∙ e);
+      },
+    );
   }
 
   -- a step that leaves the place k as it was
@@ -86,7 +89,7 @@ module _ {E P : Type 0} where
       let os = tally_step (offers_at k) views id v x at in
       let ds = tally_step (collects_at k) views id v x at in
       stays ends k c c' views (set views id (more v x)) word home lt le (omega arith) (omega arith) (omega arith)
-          (λ p. named_step views id v x k p at (all_none k p (x ∷ []) (omega arith) (omega arith))) h
+      (λ p. named_step views id v x k p at (all_none k p (x ∷ []) (omega arith) (omega arith))) h
 
   -- a seat knows one step more
   fits_step : (ends : List E) (id : ℕ) (v : PlaceView E P) (x : PlaceStep P) → Fits ends id v → (id ≢ 0 → (k : ℕ) → collects_at k x ≡ 0)
@@ -121,7 +124,7 @@ module _ {E P : Type 0} where
   after : (ends : List E) (s : State (Place E P) (PlaceView E P)) (h : Kept ends s) (id : ℕ) (v : PlaceView E P) (x : PlaceStep P)
       (counter : ℕ) (flags words : List ℕ) (homes : List (maybe.Option (Place E P))) → get_elem? s.views id ≡ some v → words ≡ counter ∷ flags
       → ((k : ℕ) → k < length ends → (word : ℕ) × (home : maybe.Option (Place E P)) × (get_elem? flags k ≡ some word) × (get_elem? homes k ≡ some home)
-          × IsPlace ends k counter (set s.views id (more v x)) word home)
+      × IsPlace ends k counter (set s.views id (more v x)) word home)
       → Fits ends id (more v x)
       → counter ≤ length ends + (refusal_of (length ends) x + tally (refusal_of (length ends)) s.views)
       → claims (length ends) (more v x) ≤ claims (length ends) v
@@ -161,7 +164,7 @@ module _ {E P : Type 0} where
   -- the place whose ticket is drawn
   drawn : (ends : List E) (s : State (Place E P) (PlaceView E P)) (h : Kept ends s) (id : ℕ) (v : PlaceView E P) (k : ℕ) → get_elem? s.views id ≡ some v → k < length ends → h.counter ≤ k
       → (word : ℕ) × (home : maybe.Option (Place E P)) × (get_elem? h.flags k ≡ some word) × (get_elem? (set s.homes k none) k ≡ some home)
-          × IsPlace ends k (suc k) (set s.views id (more v (Ticket k))) word home
+      × IsPlace ends k (suc k) (set s.views id (more v (Ticket k))) word home
   drawn ends s h id v k at lt le =
       let row = h.each k lt in let place = row.4 in
       let none_drawn = place.above le in let few = earned ends s h k in
@@ -197,40 +200,50 @@ module _ {E P : Type 0} where
       let words : set s.words 0 ((found + 1) % 2 ^ 64) ≡ suc found ∷ h.flags = ap (λ ws. set ws 0 ((found + 1) % 2 ^ 64)) h.words ∙ ap (λ z. z ∷ h.flags) next in
       let its = h.fits id v at in
       dite (dec_le (suc found) n)
-          (λ lt. let free = free_there ends s h found lt (omega arith) in
-          let names : refusal_of {P = P} n (Ticket found) ≡ 0 = ap (λ b. cond b 0 1) (lt-ltb found n lt) in
-          let mine = le-total (count_in (ticket_of found)) s.views id v at in
-          let offered_here = le-total (count_in (offers_at found)) s.views id v at in
-          let none_drawn = free.3 in let none_offered = free.4 in (
-            more v (Ticket found),
-            takes found (Free free.0),
-            free.2,
-            after ends s h id v (Ticket found) (suc found) h.flags (set s.words 0 ((found + 1) % 2 ^ 64)) (set s.homes found none) at words
-                (λ k lt_k. dite (ℕ_discrete k found)
-                (λ e. subst (λ (j : ℕ). (word : ℕ) × (home : maybe.Option (Place E P)) × (get_elem? h.flags j ≡ some word) × (get_elem? (set s.homes found none) j ≡ some home)
-                    × IsPlace ends j (suc found) (set s.views id (more v (Ticket found))) word home) (sym e) (drawn ends s h id v found at lt (omega arith)))
-                (λ ne. let row = h.each k lt_k in
-                (row.0, row.1, row.2, set_else s.homes found k none ne ∙ row.3, stays_by ends k h.counter (suc found) s.views id v (Ticket found) row.0 row.1 at
-                    (λ b. let off = ne in omega arith) (λ b. omega arith) (ticket_other P k found ne) refl refl row.4)))
-                (fits_step ends id v (Ticket found) its (λ _ _. refl) (λ k. let e = its.earned k in omega arith) (let w = its.within in omega arith) (λ none_left. absurd (omega arith)))
-                (omega arith)
-                (let e = claims_same n v (Ticket found) names in omega arith),
-            (refl, (λ _. (free.0, refl, subst (λ (z : Option (List E)). IfSome z (λ l. get_elem? l found ≡ some free.0)) (sym knows) free.1, omega arith, omega arith)), (λ le. absurd (omega arith))),
-          ))
-          (λ no. let beyond : n ≤ found = omega arith in
-          let names : refusal_of {P = P} n (Ticket found) ≡ 1 = ap (λ b. cond b 0 1) (le-ltb found n beyond) in (
-            more v (Ticket found),
-            keeps,
-            tt,
-            after ends s h id v (Ticket found) (suc found) h.flags (set s.words 0 ((found + 1) % 2 ^ 64)) s.homes at words
-                (λ k lt_k. let row = h.each k lt_k in
-                (row.0, row.1, row.2, row.3, stays_by ends k h.counter (suc found) s.views id v (Ticket found) row.0 row.1 at
-                    (λ b. omega arith) (λ b. omega arith) (ticket_other P k found (λ e. absurd (omega arith))) refl refl row.4))
-                (fits_step ends id v (Ticket found) its (λ _ _. refl) (λ k. let e = its.earned k in omega arith) (omega arith) (λ none_left. absurd (omega arith)))
-                (omega arith)
-                (claims_refused n v found ends names knows fresh),
-            (refl, (λ lt. absurd (omega arith)), (λ _. refl)),
-          ))
+      (λ lt. let free = free_there ends s h found lt (omega arith) in
+      let names : refusal_of {P = P} n (Ticket found) ≡ 0 = ap (λ b. cond b 0 1) (lt-ltb found n lt) in
+      let mine = le-total (count_in (ticket_of found)) s.views id v at in
+      let offered_here = le-total (count_in (offers_at found)) s.views id v at in
+      let none_drawn = free.3 in let none_offered = free.4 in (
+        more v (Ticket found),
+        takes found (Free free.0),
+        free.2,
+        after ends s h id v (Ticket found) (suc found) h.flags (set s.words 0 ((found + 1) % 2 ^ 64)) (set s.homes found none) at words
+            (λ k lt_k. dite (ℕ_discrete k found)
+            (λ e. subst (λ (j : ℕ). (word : ℕ) × (home : maybe.Option (Place E P)) × (get_elem? h.flags j ≡ some word) × (get_elem? (set s.homes found none) j ≡ some home)
+            × IsPlace ends j (suc found) (set s.views id (more v (Ticket found))) word home) (sym e) (drawn ends s h id v found at lt (omega arith)))
+            (λ ne. let row = h.each k lt_k in (
+              row.0,
+              row.1,
+              row.2,
+              set_else s.homes found k none ne ∙ row.3,
+              stays_by ends k h.counter (suc found) s.views id v (Ticket found) row.0 row.1 at
+                  (λ b. let off = ne in omega arith) (λ b. omega arith) (ticket_other P k found ne) refl refl row.4,
+            )))
+            (fits_step ends id v (Ticket found) its (λ _ _. refl) (λ k. let e = its.earned k in omega arith) (let w = its.within in omega arith) (λ none_left. absurd (omega arith)))
+            (omega arith)
+            (let e = claims_same n v (Ticket found) names in omega arith),
+        (refl, (λ _. (free.0, refl, subst (λ (z : Option (List E)). IfSome z (λ l. get_elem? l found ≡ some free.0)) (sym knows) free.1, omega arith, omega arith)), (λ le. absurd (omega arith))),
+      ))
+      (λ no. let beyond : n ≤ found = omega arith in
+      let names : refusal_of {P = P} n (Ticket found) ≡ 1 = ap (λ b. cond b 0 1) (le-ltb found n beyond) in (
+        more v (Ticket found),
+        keeps,
+        tt,
+        after ends s h id v (Ticket found) (suc found) h.flags (set s.words 0 ((found + 1) % 2 ^ 64)) s.homes at words
+            (λ k lt_k. let row = h.each k lt_k in (
+              row.0,
+              row.1,
+              row.2,
+              row.3,
+              stays_by ends k h.counter (suc found) s.views id v (Ticket found) row.0 row.1 at
+                  (λ b. omega arith) (λ b. omega arith) (ticket_other P k found (λ e. absurd (omega arith))) refl refl row.4,
+            ))
+            (fits_step ends id v (Ticket found) its (λ _ _. refl) (λ k. let e = its.earned k in omega arith) (omega arith) (λ none_left. absurd (omega arith)))
+            (omega arith)
+            (claims_refused n v found ends names knows fresh),
+        (refl, (λ lt. absurd (omega arith)), (λ _. refl)),
+      ))
 
   pub draws : (ends : List E) (n id : ℕ) (me : Me (Place E P) (PlaceView E P)) → n ≡ length ends → n < 4294967296 → me.0.ends ≡ Some ends → is_refused n me.0.steps ≡ false
       → count_in (refusal_of n) me.0 < me.0.parts → Allows (Kept ends) n id me 0 (λ y. (y + 1) % 2 ^ 64) (drew (step n 0 1 0 none) me)
@@ -266,11 +279,14 @@ module _ {E P : Type 0} where
           collects = omega arith;
           free = λ b. absurd (omega arith);
           out = λ _ w. absurd (omega arith);
-          carries = λ _. (p, record {
-            names = named_step s.views id v (Offer k p) k p at own named;
-            waits = λ _. refl;
-            gone = λ e. absurd (omega arith);
-          });
+          carries = λ _. (
+            p,
+            record {
+              names = named_step s.views id v (Offer k p) k p at own named;
+              waits = λ _. refl;
+              gone = λ e. absurd (omega arith);
+            },
+          );
         },
       )
 
@@ -286,11 +302,15 @@ module _ {E P : Type 0} where
         after ends s h id v (Offer k p) h.counter (set h.flags k 1) (set s.words (suc k) 1) (set s.homes k (some (Offered p))) at (ap (λ ws. set ws (suc k) 1) h.words)
             (λ j lt_j. dite (ℕ_discrete j k)
             (λ e. subst (λ (i : ℕ). (word : ℕ) × (home : maybe.Option (Place E P)) × (get_elem? (set h.flags k 1) i ≡ some word) × (get_elem? (set s.homes k (some (Offered p))) i ≡ some home)
-                × IsPlace ends i h.counter (set s.views id (more v (Offer k p))) word home) (sym e)
-                (1, some (Offered p), set_at h.flags k 1 row.0 row.2, set_at s.homes k (some (Offered p)) row.1 row.3, here.1))
-            (λ ne. let its = h.each j lt_j in
-            (its.0, its.1, set_else h.flags k j 1 ne ∙ its.2, set_else s.homes k j (some (Offered p)) ne ∙ its.3,
-            stays_by ends j h.counter h.counter s.views id v (Offer k p) its.0 its.1 at (λ b. b) (λ b. b) refl (other j k p ne) refl its.4)))
+            × IsPlace ends i h.counter (set s.views id (more v (Offer k p))) word home) (sym e)
+            (1, some (Offered p), set_at h.flags k 1 row.0 row.2, set_at s.homes k (some (Offered p)) row.1 row.3, here.1))
+            (λ ne. let its = h.each j lt_j in (
+              its.0,
+              its.1,
+              set_else h.flags k j 1 ne ∙ its.2,
+              set_else s.homes k j (some (Offered p)) ne ∙ its.3,
+              stays_by ends j h.counter h.counter s.views id v (Offer k p) its.0 its.1 at (λ b. b) (λ b. b) refl (other j k p ne) refl its.4,
+            )))
             (fits_step ends id v (Offer k p) its (λ _ _. refl)
             (λ j. dite (ℕ_discrete j k)
             (λ e. subst (λ (i : ℕ). offers_at i (Offer k p) + count_in (offers_at i) v ≤ ticket_of i (Offer k p) + count_in (ticket_of i) v) (sym e) (let one : offers_at k (Offer k p) ≡ 1 = ap (λ b. number_of {P = P} (cond b (Some p) None)) (eq-eqb k k refl) in omega arith))
@@ -341,11 +361,14 @@ module _ {E P : Type 0} where
           collects = omega arith;
           free = λ b. absurd (omega arith);
           out = λ _ _. refl;
-          carries = λ _. (p, record {
-            names = named_step s.views id v (Collect k p) k p at ((tt, itself k p), tt) its.names;
-            waits = λ e. absurd (omega arith);
-            gone = λ _. refl;
-          });
+          carries = λ _. (
+            p,
+            record {
+              names = named_step s.views id v (Collect k p) k p at ((tt, itself k p), tt) its.names;
+              waits = λ e. absurd (omega arith);
+              gone = λ _. refl;
+            },
+          );
         },
       )
 
@@ -358,34 +381,38 @@ module _ {E P : Type 0} where
       let words : set s.words (suc k) found ≡ h.counter ∷ h.flags = ap (λ ws. set ws (suc k) found) h.words ∙ ap (λ w. h.counter ∷ set h.flags k w) is ∙ ap (λ l. h.counter ∷ l) (set_again h.flags k row.0 row.2) in
       let none_collected : tally (collects_at k) s.views ≡ 0 = total_alone (count_in (collects_at k)) (λ _. 0) s.views 0 v at (λ j u e ne. (h.fits j u e).collects ne k) ∙ fresh in
       dite (ℕ_discrete found 0)
-          (λ empty. (
-            more v (Miss k),
-            keeps,
-            tt,
-            after ends s h 0 v (Miss k) h.counter h.flags (set s.words (suc k) found) s.homes at words
-                (λ j lt_j. let its = h.each j lt_j in
-                (its.0, its.1, its.2, its.3, stays_by ends j h.counter h.counter s.views 0 v (Miss k) its.0 its.1 at (λ b. b) (λ b. b) refl refl refl its.4))
-                (fits_step ends 0 v (Miss k) its (λ _ _. refl) (λ j. let e = its.earned j in omega arith) (let w = its.within in omega arith) (λ _ _. refl))
-                (let e = h.exceeds in omega arith)
-                (let e = claims_same (length ends) v (Miss k) refl in omega arith),
-            (λ k' e. let same : k ≡ k' = omega arith in ((λ _. ap (λ (j : ℕ). (more v (Miss j), me.1)) same), (λ full. absurd (full empty)))),
-          ))
-          (λ full. let here = collected_at ends s h 0 v k row.0 row.1 at none_collected (λ e. full (is ∙ e)) row.4 in let p = here.0 in (
-            more v (Collect k p),
-            takes k (Offered p),
-            row.3 ∙ ap some here.1,
-            after ends s h 0 v (Collect k p) h.counter h.flags (set s.words (suc k) found) (set s.homes k none) at words
-                (λ j lt_j. dite (ℕ_discrete j k)
-                (λ e. subst (λ (i : ℕ). (word : ℕ) × (home : maybe.Option (Place E P)) × (get_elem? h.flags i ≡ some word) × (get_elem? (set s.homes k none) i ≡ some home)
-                    × IsPlace ends i h.counter (set s.views 0 (more v (Collect k p))) word home) (sym e) (row.0, none, row.2, set_at s.homes k none row.1 row.3, here.3))
-                (λ ne. let its = h.each j lt_j in
-                (its.0, its.1, its.2, set_else s.homes k j none ne ∙ its.3,
-                stays_by ends j h.counter h.counter s.views 0 v (Collect k p) its.0 its.1 at (λ b. b) (λ b. b) refl refl (other j k p ne) its.4)))
-                (fits_step ends 0 v (Collect k p) its (λ ne _. absurd (ne refl)) (λ j. let e = its.earned j in omega arith) (let w = its.within in omega arith) (λ _ _. refl))
-                (let e = h.exceeds in omega arith)
-                (let e = claims_same (length ends) v (Collect k p) refl in omega arith),
-            (λ k' e. let same : k ≡ k' = omega arith in ((λ empty. absurd (full empty)), (λ _. (p, ap (λ (j : ℕ). (more v (Collect j p), (j, Offered p) ∷ me.1)) same)))),
-          ))
+      (λ empty. (
+        more v (Miss k),
+        keeps,
+        tt,
+        after ends s h 0 v (Miss k) h.counter h.flags (set s.words (suc k) found) s.homes at words
+            (λ j lt_j. let its = h.each j lt_j in
+            (its.0, its.1, its.2, its.3, stays_by ends j h.counter h.counter s.views 0 v (Miss k) its.0 its.1 at (λ b. b) (λ b. b) refl refl refl its.4))
+            (fits_step ends 0 v (Miss k) its (λ _ _. refl) (λ j. let e = its.earned j in omega arith) (let w = its.within in omega arith) (λ _ _. refl))
+            (let e = h.exceeds in omega arith)
+            (let e = claims_same (length ends) v (Miss k) refl in omega arith),
+        (λ k' e. let same : k ≡ k' = omega arith in ((λ _. ap (λ (j : ℕ). (more v (Miss j), me.1)) same), (λ full. absurd (full empty)))),
+      ))
+      (λ full. let here = collected_at ends s h 0 v k row.0 row.1 at none_collected (λ e. full (is ∙ e)) row.4 in let p = here.0 in (
+        more v (Collect k p),
+        takes k (Offered p),
+        row.3 ∙ ap some here.1,
+        after ends s h 0 v (Collect k p) h.counter h.flags (set s.words (suc k) found) (set s.homes k none) at words
+            (λ j lt_j. dite (ℕ_discrete j k)
+            (λ e. subst (λ (i : ℕ). (word : ℕ) × (home : maybe.Option (Place E P)) × (get_elem? h.flags i ≡ some word) × (get_elem? (set s.homes k none) i ≡ some home)
+            × IsPlace ends i h.counter (set s.views 0 (more v (Collect k p))) word home) (sym e) (row.0, none, row.2, set_at s.homes k none row.1 row.3, here.3))
+            (λ ne. let its = h.each j lt_j in (
+              its.0,
+              its.1,
+              its.2,
+              set_else s.homes k j none ne ∙ its.3,
+              stays_by ends j h.counter h.counter s.views 0 v (Collect k p) its.0 its.1 at (λ b. b) (λ b. b) refl refl (other j k p ne) its.4,
+            )))
+            (fits_step ends 0 v (Collect k p) its (λ ne _. absurd (ne refl)) (λ j. let e = its.earned j in omega arith) (let w = its.within in omega arith) (λ _ _. refl))
+            (let e = h.exceeds in omega arith)
+            (let e = claims_same (length ends) v (Collect k p) refl in omega arith),
+        (λ k' e. let same : k ≡ k' = omega arith in ((λ empty. absurd (full empty)), (λ _. (p, ap (λ (j : ℕ). (more v (Collect j p), (j, Offered p) ∷ me.1)) same)))),
+      ))
 
   -- the collector looks at a place that it has not collected from
   pub collects : (ends : List E) (n id : ℕ) (me : Me (Place E P) (PlaceView E P)) (k word : ℕ) → n ≡ length ends → id ≡ 0 → word ≡ suc k → k < n → count_in (collects_at k) me.0 ≡ 0
@@ -407,11 +434,17 @@ module _ {E P : Type 0} where
         counter = h.counter;
         flags = h.flags;
         words = h.words;
-        each = λ k lt. let row = h.each k lt in (row.0, row.1, row.2, row.3, stays ends k h.counter h.counter s.views views row.0 row.1 (λ b. b) (λ b. b)
-            (tally_split (ticket_of k) s.views id v m n v.ends at) (tally_split (offers_at k) s.views id v m n v.ends at) (tally_split (collects_at k) s.views id v m n v.ends at)
-            (λ p named o u e. ⊎_elim
-            (λ t. ⊎_elim (λ r. subst (λ (z : PlaceView E P). AllName k p (steps_of z)) r.1 (named id v at)) (λ r. named o u r.1) (at_set s.views id o left u t))
-            (λ is. subst (λ (z : PlaceView E P). AllName k p (steps_of z)) is tt) (at_snoc (set s.views id left) right u o e)) row.4);
+        each = λ k lt. let row = h.each k lt in (
+          row.0,
+          row.1,
+          row.2,
+          row.3,
+          stays ends k h.counter h.counter s.views views row.0 row.1 (λ b. b) (λ b. b)
+              (tally_split (ticket_of k) s.views id v m n v.ends at) (tally_split (offers_at k) s.views id v m n v.ends at) (tally_split (collects_at k) s.views id v m n v.ends at)
+              (λ p named o u e. ⊎_elim
+              (λ t. ⊎_elim (λ r. subst (λ (z : PlaceView E P). AllName k p (steps_of z)) r.1 (named id v at)) (λ r. named o u r.1) (at_set s.views id o left u t))
+              (λ is. subst (λ (z : PlaceView E P). AllName k p (steps_of z)) is tt) (at_snoc (set s.views id left) right u o e)) row.4,
+        );
         fits = λ o u e. ⊎_elim
             (λ t. ⊎_elim (λ r. subst (λ (z : PlaceView E P). Fits ends o z) r.1 (subst (λ (i : ℕ). Fits ends i left) (sym r.0) kept)) (λ r. h.fits o u r.1) (at_set s.views id o left u t))
             (λ is. subst (λ (z : PlaceView E P). Fits ends o z) is (added o)) (at_snoc (set s.views id left) right u o e);
@@ -448,14 +481,20 @@ module _ {E P : Type 0} where
         counter = h.counter;
         flags = h.flags;
         words = h.words;
-        each = λ k lt. let row = h.each k lt in (row.0, row.1, row.2, row.3, stays ends k h.counter h.counter s.views (set views other spent) row.0 row.1 (λ b. b) (λ b. b)
-            (tally_join (ticket_of k) s.views id v other w at at') (tally_join (offers_at k) s.views id v other w at at') (tally_join (collects_at k) s.views id v other w at at')
-            (λ p named o u e. ⊎_elim
-            (λ t. subst (λ (z : PlaceView E P). AllName k p (steps_of z)) t.1 tt)
-            (λ t. ⊎_elim
-            (λ r. subst (λ (z : PlaceView E P). AllName k p (steps_of z)) r.1 (subst (AllName k p) (sym (steps_joined v w)) (all_name-append k p (steps_of v) (steps_of w) (named id v at) (named other w was))))
-            (λ r. named o u r.1) (at_set s.views id o both u t.1))
-            (at_set views other o spent u e)) row.4);
+        each = λ k lt. let row = h.each k lt in (
+          row.0,
+          row.1,
+          row.2,
+          row.3,
+          stays ends k h.counter h.counter s.views (set views other spent) row.0 row.1 (λ b. b) (λ b. b)
+              (tally_join (ticket_of k) s.views id v other w at at') (tally_join (offers_at k) s.views id v other w at at') (tally_join (collects_at k) s.views id v other w at at')
+              (λ p named o u e. ⊎_elim
+              (λ t. subst (λ (z : PlaceView E P). AllName k p (steps_of z)) t.1 tt)
+              (λ t. ⊎_elim
+              (λ r. subst (λ (z : PlaceView E P). AllName k p (steps_of z)) r.1 (subst (AllName k p) (sym (steps_joined v w)) (all_name-append k p (steps_of v) (steps_of w) (named id v at) (named other w was))))
+              (λ r. named o u r.1) (at_set s.views id o both u t.1))
+              (at_set views other o spent u e)) row.4,
+        );
         fits = λ o u e. ⊎_elim
             (λ t. subst (λ (z : PlaceView E P). Fits ends o z) t.1 (gone ends o))
             (λ t. ⊎_elim (λ r. subst (λ (z : PlaceView E P). Fits ends o z) r.1 (subst (λ (i : ℕ). Fits ends i both) (sym r.0) kept)) (λ r. h.fits o u r.1) (at_set s.views id o both u t.1))
@@ -484,16 +523,22 @@ module _ {E P : Type 0} where
     counter = 0;
     flags = replicate (length ends) 0;
     words = refl;
-    each = λ k lt. let its = frees ends k lt in (0, some (Free its.0), zero_at (length ends) k lt, its.2, record {
-      below = λ b. absurd (omega arith);
-      above = λ _. refl;
-      offers = refl;
-      once = omega arith;
-      collects = omega arith;
-      free = λ _. (its.0, its.1, refl);
-      out = λ b. absurd (omega arith);
-      carries = λ b. absurd (omega arith);
-    });
+    each = λ k lt. let its = frees ends k lt in (
+      0,
+      some (Free its.0),
+      zero_at (length ends) k lt,
+      its.2,
+      record {
+        below = λ b. absurd (omega arith);
+        above = λ _. refl;
+        offers = refl;
+        once = omega arith;
+        collects = omega arith;
+        free = λ _. (its.0, its.1, refl);
+        out = λ b. absurd (omega arith);
+        carries = λ b. absurd (omega arith);
+      },
+    );
     fits = λ o v e. first o v e;
     exceeds = omega arith;
     seats = omega arith;

@@ -1,5 +1,5 @@
 -- What the list of what is left says of one place.
-use Rattle.std.proofs.Common.{◌≡◌, ℕ, ◌<◌, ◌≤◌, Bool, true, false, is_some, cond, List, [], ◌++◌, get_or, Option, Some, None, IfSome, IfNone, refl, sym, ap, ◌∙◌, subst, arith}
+use Rattle.std.proofs.Common.{◌≡◌, ℕ, Bool, true, false, is_some, cond, List, ◌++◌, get_or, Option, Some, None, IfSome, IfNone, refl, ap, ◌∙◌, arith}
 use Rattle.std.specs.Prelude.{slice_get}
 use Rattle.std.proofs.lemmas.List.{append-nil}
 use mathlib.Core.Option.{some}
@@ -14,7 +14,7 @@ use Rattle.rsx_link.specs.declared.places.Places.{Places}
 use Rattle.rsx_link.specs.PlaceSteps.{collect_of, collects_at, found_in, flat}
 use Rattle.rsx_link.specs.Places.{count_in, steps_of}
 use Rattle.rsx_link.specs.Collected.{is_collected}
-use Rattle.rsx_link.specs.PlaceSeats.{IsLeft, ends_of, collected_at, offered_at, collector_steps, HasAllParts}
+use Rattle.rsx_link.specs.PlaceSeats.{IsLeft, ends_of, collected_at, offered_at, collector_steps}
 use Rattle.rsx_link.proofs.PlaceCollects.{not_collected}
 use Rattle.rsx_link.proofs.PlaceClosing.{LeavesAt, counts_found, earned_by}
 use Rattle.rsx_link.proofs.PlaceSlots.{by_index, got}

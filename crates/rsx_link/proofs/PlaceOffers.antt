@@ -1,5 +1,5 @@
 -- What an offering seat knows of itself, kept by each call.
-use Rattle.std.proofs.Common.{◌≡◌, ◌≢◌, ℕ, ◌+◌, ◌-◌, ◌<◌, ◌≤◌, Bool, true, false, not, cond, eqb, eq-eqb, ne_eqb, List, [], ◌∷◌, Option, Some, None, IfSome, sym, ap, ◌∙◌, subst, arith}
+use Rattle.std.proofs.Common.{◌≡◌, ℕ, ◌+◌, ◌-◌, ◌<◌, ◌≤◌, Bool, true, false, not, cond, eqb, eq-eqb, ne_eqb, List, [], ◌∷◌, Option, Some, None, IfSome, sym, ap, ◌∙◌, subst, arith}
 use Rattle.std.proofs.lemmas.Bool.{lt-ltb, le-ltb}
 use Rattle.std.specs.Prelude.{slice_get}
 use mathlib.Core.Logic.{dite}
@@ -11,6 +11,7 @@ use Rattle.rsx_link.specs.declared.place.Place.TheVariants.{Free}
 use Rattle.rsx_link.specs.declared.place.PlaceStep.{PlaceStep}
 use Rattle.rsx_link.specs.declared.place.PlaceStep.TheVariants.{Ticket, Offer}
 use Rattle.rsx_link.specs.declared.place.PlaceView.{PlaceView}
+use Rattle.rsx_link.specs.declared.places.PlaceSeat.{PlaceSeat}
 use Rattle.rsx_link.specs.Link.{total}
 use Rattle.rsx_link.specs.PlaceSteps.{ticket_of, refusal_of, offers_at, collects_at, number_of, is_refused}
 use Rattle.rsx_link.specs.Places.{more, with_parts, newcomer, joined, count_in}
@@ -110,14 +111,6 @@ module _ {E P : Type 0} where
       at_most true = omega arith
       at_most false = omega arith
 
-  pub sound_new : (places : ℕ) (ends : Option (List E)) (n : ℕ) (w : PlaceView E P) → w ≡ newcomer ends n → 0 < n → Sound places w false
-  sound_new places ends n w is some_part = record {
-    never_collects = λ k. ap (count_in (collects_at k)) is;
-    settled = λ k lt. ap (count_in (offers_at k)) is ∙ sym (ap (count_in (ticket_of k)) is);
-    tells = sym (ap (λ (u : PlaceView E P). is_refused places u.steps) is);
-    has_part = let e = ap (count_in (refusal_of places)) is in let parts = ap (λ (u : PlaceView E P). u.parts) is in omega arith;
-  }
-
   -- a seat that took another in
   pub sound_joined : (places : ℕ) (v w u : PlaceView E P) (r q : Bool) → u ≡ joined v w → Sound places v r → Sound places w q → Sound places u r
   sound_joined places v w u r q is h g = record {
@@ -136,3 +129,7 @@ module _ {E P : Type 0} where
   -- what a seat may give away
   pub may_split : (slots places : ℕ) (v : PlaceView E P) → slots ≡ places → count_in (refusal_of slots) v + 1 < v.parts → count_in (refusal_of places) v ≤ v.parts - 1
   may_split slots places v e has = subst (λ (n : ℕ). count_in (refusal_of n) v ≤ v.parts - 1) e (omega arith)
+
+-- what a seat of the places knows of itself
+pub sound_of : {T P : Type 0} (s : PlaceSeat T P) → Sound s.seat.table_id.slots s.seat.me.0 s.refused
+sound_of s = record { never_collects = s.never_collects; settled = s.settled; tells = s.tells; has_part = s.has_part }

@@ -1,5 +1,5 @@
 -- The slots that a seat of the places has.
-use Rattle.std.proofs.Common.{◌≡◌, ℕ, zero, suc, ◌+◌, ◌<◌, Bool, false, cond, List, [], ◌∷◌, ◌++◌, length, map, drop, set, get_or, Some, refl, sym, ap, ◌∙◌, subst, arith}
+use Rattle.std.proofs.Common.{◌≡◌, ℕ, zero, suc, ◌+◌, Bool, false, cond, List, [], ◌∷◌, ◌++◌, length, map, drop, set, get_or, Some, refl, sym, ap, ◌∙◌, subst, arith}
 use Rattle.std.specs.Prelude.{slice_get}
 use Rattle.std.proofs.lemmas.List.{length-append}
 use mathlib.Core.Logic.{dite}
@@ -89,7 +89,7 @@ module _ {E P : Type 0} where
   taken_more n taken places left more b x y h at is chosen pushed = (
     ap length pushed ∙ length-append left (y ∷ []) ∙ (let e = h.0 in omega arith),
     (λ k lt. dite (ℕ_discrete k n)
-    (λ e. subst (λ (i : ℕ). slice_get more i ≡ Some (cond (get_or taken i false) Taken (get_or places i Taken))) (sym e)
+        (λ e. subst (λ (i : ℕ). slice_get more i ≡ Some (cond (get_or taken i false) Taken (get_or places i Taken))) (sym e)
         (ap (λ l. slice_get l n) pushed ∙ last left y n h.0 ∙ ap Some (chosen ∙ ap (λ c. cond c Taken x) (sym is) ∙ ap (λ z. cond (get_or taken n false) Taken z) (sym (by_index places n x Taken at)))))
-    (λ ne. ap (λ l. slice_get l k) pushed ∙ longer left (y ∷ []) k _ (h.1 k (omega arith)))),
+        (λ ne. ap (λ l. slice_get l k) pushed ∙ longer left (y ∷ []) k _ (h.1 k (omega arith)))),
   )

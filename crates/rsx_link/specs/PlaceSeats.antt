@@ -1,5 +1,5 @@
 -- What contracts see of the places and of their seats.
-use Rattle.std.specs.Prelude.{◌≡◌, ℕ, ◌<◌, ◌≤◌, true, false, List, [], ◌∷◌, length, Option, Some, None, IfSome, IfNone, MatchBool, slice_get}
+use Rattle.std.specs.Prelude.{◌≡◌, ℕ, ◌<◌, ◌≤◌, true, false, List, [], ◌∷◌, length, Option, Some, IfSome, IfNone, MatchBool, slice_get}
 use mathlib.Core.Option.{none}
 use Rattle.atomic_table.specs.Table.{Me, step}
 use Rattle.atomic_table.specs.declared.shared.Seat.{Seat}

@@ -1,5 +1,5 @@
 -- The rule of the places: the counter of tickets, a word for each place, what is at home, and what the seats know of them.
-use Rattle.std.specs.Prelude.{◌≡◌, ◌≢◌, ℕ, suc, ◌+◌, ◌^◌, ◌<◌, ◌≤◌, Bool, cond, not, nat_eq, ◌&&◌, is_some, List, [], ◌∷◌, ◌++◌, length, Option, Some, None, IfSome}
+use Rattle.std.specs.Prelude.{◌≡◌, ◌≢◌, ℕ, suc, ◌+◌, ◌^◌, ◌<◌, ◌≤◌, cond, not, ◌&&◌, is_some, List, [], ◌∷◌, ◌++◌, length, Option, Some, None, IfSome}
 use mathlib.Core.Option.{some, none}
 use mathlib.Core.Option as maybe
 use lib.ListN.{get_elem?}

@@ -61,11 +61,7 @@ pub(crate) fn lay<E, P>(ends: &mut Vec<E>, slots: &mut Vec<Place<E, P>>)
 }
 
 /// Puts them back into that list, which they were in when the snapshot was taken.
-pub(crate) fn put_back<E, P>(
-    mut slots: Vec<Place<E, P>>,
-    ends: &mut Vec<E>,
-    all: &Snapshot<Vec<E>>,
-)
+pub(crate) fn put_back<E, P>(mut slots: Vec<Place<E, P>>, ends: &mut Vec<E>, all: &Snapshot<Vec<E>>)
     requires free { slots.items ≡ map Free all.now.value.items }
     requires empty { ends.old.items ≡ [] }
     requires room { length all.now.value.items ≤ vec_capacity ends.old }

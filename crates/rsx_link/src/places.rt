@@ -16,8 +16,13 @@ use std::snapshot::Snapshot;
 
 pub(crate) type Seat<T, P> = atomic_table::Seat<Place<Ends<T>, P>, PlaceView<Ends<T>, P>>;
 
-pub(crate) type PlaceTable<T, P> =
-    Table<Place<Ends<T>, P>, PlaceView<Ends<T>, P>, Snapshot<Vec<Ends<T>>>, PlaceRule, Global>;
+pub(crate) type PlaceTable<T, P> = Table<
+    Place<Ends<T>, P>,
+    PlaceView<Ends<T>, P>,
+    Snapshot<Vec<Ends<T>>>,
+    PlaceRule,
+    Global,
+>;
 
 /// The word of the counter; behind it is a word for each place.
 const COUNTER: usize = 0;
@@ -111,11 +116,7 @@ impl<T: Drop, P: Drop> Places<T, P> {
     ///
     /// That a place is not known to the seat, and so was not offered by another, is sure only where the seat has all parts of the right
     /// to draw tickets, because all other seats were joined into it.
-    pub fn close(
-        self,
-        collector: Collector<T, P>,
-        seat: PlaceSeat<T, P>,
-    ) -> Vec<Place<Ends<T>, P>>
+    pub fn close(self, collector: Collector<T, P>, seat: PlaceSeat<T, P>) -> Vec<Place<Ends<T>, P>>
         requires collector { IsCollectorOf self collector }
         requires seat { IsPlaceSeatOf self seat }
         ensures count { length result.items ≡ places_in self }
@@ -149,11 +150,7 @@ impl<T, P> Places<T, P> {
     ///
     /// [`NoPlace`] hands the part back, where no place was left. Such a seat draws no further ticket: tried again, it answers the
     /// same and makes no step.
-    pub fn offer(
-        &self,
-        seat: &mut PlaceSeat<T, P>,
-        part: P,
-    ) -> Result<(u64, Ends<T>), NoPlace<P>>
+    pub fn offer(&self, seat: &mut PlaceSeat<T, P>, part: P) -> Result<(u64, Ends<T>), NoPlace<P>>
         requires { IsPlaceSeatOf self.now seat.old }
         ensures same { IsPlaceSeatOf self.now seat.new × (place_beside seat.new ≡ place_beside seat.old) × (place_parts seat.new ≡ place_parts seat.old) }
         ensures ok { IfOk result (λ r. IsHandedOver self.now seat.old part r.0 r.1 (place_steps seat.new)) }

@@ -1,4 +1,4 @@
-use Rattle.std.proofs.Common.{◌≡◌, ◌∷◌, ◌++◌, [], length, map, reverse, sym, ap, ◌∙◌, ⊎_elim}
+use Rattle.std.proofs.Common.{◌≡◌, ◌∷◌, ◌++◌, [], map, reverse, sym, ap, ◌∙◌, ⊎_elim}
 use Rattle.std.proofs.lemmas.List.{append_assoc, nil_from_length}
 use Rattle.rsx_link.specs.declared.place.Place.TheVariants.{Free}
 use Rattle.rsx_link.proofs.PlaceSlots.{free_among, same_frees}

@@ -1,4 +1,4 @@
-use Rattle.std.proofs.Common.{◌≡◌, false, get_or, set, refl, sym, ap, ◌∙◌, subst, rules, arith}
+use Rattle.std.proofs.Common.{false, get_or, refl, sym, ap, ◌∙◌, rules, arith}
 use Rattle.std.proofs.lemmas.List.{get_or-set_other}
 use mathlib.Core.Logic.{dite}
 use native.Mathlib.Decide.{ℕ_discrete}

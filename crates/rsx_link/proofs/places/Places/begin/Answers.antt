@@ -1,4 +1,4 @@
-use Rattle.std.proofs.Common.{◌≡◌, ap, sym, ◌∙◌, arith}
+use Rattle.std.proofs.Common.{◌≡◌, ap, arith}
 use Rattle.rsx_link.specs.PlaceSteps.{ticket_of, refusal_of}
 use Rattle.rsx_link.specs.Places.{founder, count_in}
 use Rattle.rsx_link.proofs.PlaceKeeps.{splits}

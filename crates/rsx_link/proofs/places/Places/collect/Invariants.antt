@@ -1,4 +1,4 @@
-use Rattle.std.proofs.Common.{◌≡◌, length}
+use Rattle.std.proofs.Common.{◌≡◌}
 use Rattle.rsx_link.specs.PlaceSeats.{IsCollectorOf, places_in, collector_steps}
 use Rattle.rsx_link.specs.Collected.{missed_below}
 use Rattle.rsx_link.proofs.places.Places.collect.Given as goal

@@ -1,4 +1,4 @@
-use Rattle.std.proofs.Common.{◌≡◌, ap, sym, ◌∙◌, ⊎_elim, arith}
+use Rattle.std.proofs.Common.{◌≡◌, ap, ◌∙◌, ⊎_elim, arith}
 use Rattle.rsx_link.specs.declared.place.Place.TheVariants.{Offered}
 use Rattle.rsx_link.proofs.PlaceKeeps.{collects}
 use Rattle.rsx_link.proofs.PlaceSlots.{front, same_slot, took}

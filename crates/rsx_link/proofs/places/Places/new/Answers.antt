@@ -1,4 +1,4 @@
-use Rattle.std.proofs.Common.{◌≡◌, ap, sym, ◌∙◌, map, length}
+use Rattle.std.proofs.Common.{ap, sym, ◌∙◌, map, length}
 use Rattle.rsx_link.specs.declared.place.Place.TheVariants.{Free}
 use Rattle.rsx_link.proofs.PlaceKeeps.{starts}
 use Rattle.rsx_link.proofs.places.Places.new.Goals as goal

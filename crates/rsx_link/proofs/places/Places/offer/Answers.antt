@@ -1,21 +1,21 @@
-use Rattle.std.proofs.Common.{◌≡◌, true, ◌<◌, ◌∷◌, ap, sym, ◌∙◌, subst, arith}
+use Rattle.std.proofs.Common.{true, ◌<◌, ◌∷◌, ap, sym, ◌∙◌, subst, arith}
 use Rattle.atomic_table.specs.Seated.{TableId}
 use Rattle.rsx_link.specs.declared.place.Place.TheVariants.{Free}
 use Rattle.rsx_link.specs.declared.place.PlaceStep.TheVariants.{Offer}
-use Rattle.rsx_link.proofs.PlaceOffers.{Sound, sound_refused, sound_offered, may_draw, new_ticket, new_place, its_ends}
+use Rattle.rsx_link.proofs.PlaceOffers.{Sound, sound_of, sound_refused, sound_offered, may_draw, new_ticket, new_place, its_ends}
 use Rattle.rsx_link.proofs.places.Places.offer.Goals as goal
 
 pub draw-ticket-requires : goal.draw-ticket-requires
 draw-ticket-requires g c =
     let was = c.args.seat.now in
-    let old : Sound was.seat.table_id.slots was.seat.me.0 was.refused = record { never_collects = was.never_collects; settled = was.settled; tells = was.tells; has_part = was.has_part } in
+    let old = sound_of was in
     let may = may_draw _ _ _ _ (ap (λ (z : TableId). z.slots) c.requires.0) c.if-seat.false old in
     (c.requires.0, c.requires.1, may.0, may.1)
 
 pub invariant_of-seat : goal.invariant_of-seat
 invariant_of-seat g c =
     let was = c.args.seat.now in
-    let old : Sound was.seat.table_id.slots was.seat.me.0 was.refused = record { never_collects = was.never_collects; settled = was.settled; tells = was.tells; has_part = was.has_part } in
+    let old = sound_of was in
     let slots = ap (λ (z : TableId). z.slots) c.requires.0 in
     let ticket = c.draw-ticket.ensures.1 in
     let new = sound_refused was.seat.table_id.slots c.draw-ticket.result _ _ was.refused c.if-seat.false (omega arith) ticket.0 old in
@@ -30,13 +30,18 @@ invariant_of-seat g c =
 pub put-ends-requires : goal.put-ends-requires
 put-ends-requires g c =
     let lt : c.draw-ticket.result < c.args.self.now.table.shared.table_id.slots = omega arith in
-    let told = c.draw-ticket.ensures.1.1 lt in (c.draw-ticket.ensures.0.0 ∙ c.requires.0, lt, (told.0, told.1 ∙ ap (λ l. (c.draw-ticket.result, Free told.0) ∷ l) c.args.seat.now.alone),
-    new_ticket _ _ _ c.draw-ticket.ensures.1.0 told.3, new_place _ _ _ c.draw-ticket.ensures.1.0 told.4)
+    let told = c.draw-ticket.ensures.1.1 lt in (
+      c.draw-ticket.ensures.0.0 ∙ c.requires.0,
+      lt,
+      (told.0, told.1 ∙ ap (λ l. (c.draw-ticket.result, Free told.0) ∷ l) c.args.seat.now.alone),
+      new_ticket _ _ _ c.draw-ticket.ensures.1.0 told.3,
+      new_place _ _ _ c.draw-ticket.ensures.1.0 told.4,
+    )
 
 pub invariant_of-seat-2 : goal.invariant_of-seat-2
 invariant_of-seat-2 g c =
     let was = c.args.seat.now in
-    let old : Sound was.seat.table_id.slots was.seat.me.0 was.refused = record { never_collects = was.never_collects; settled = was.settled; tells = was.tells; has_part = was.has_part } in
+    let old = sound_of was in
     let slots = ap (λ (z : TableId). z.slots) c.requires.0 in
     let put = c.put-ends.ensures.put.1 in
     let new = sound_offered was.seat.table_id.slots c.draw-ticket.result c.args.part _ _ _ was.refused (omega arith) c.draw-ticket.ensures.1.0 (ap (λ m. m.0) put) old in
@@ -51,7 +56,7 @@ invariant_of-seat-2 g c =
 pub returns-clause-ok : goal.returns-clause-ok
 returns-clause-ok g c =
     let was = c.args.seat.now in
-    let old : Sound was.seat.table_id.slots was.seat.me.0 was.refused = record { never_collects = was.never_collects; settled = was.settled; tells = was.tells; has_part = was.has_part } in
+    let old = sound_of was in
     let lt : c.draw-ticket.result < c.args.self.now.table.shared.table_id.slots = omega arith in
     let told = c.draw-ticket.ensures.1.1 lt in
     let put = c.put-ends.ensures.put in record {

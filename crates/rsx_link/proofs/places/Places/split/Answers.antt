@@ -1,7 +1,7 @@
-use Rattle.std.proofs.Common.{◌≡◌, false, ap, sym, ◌∙◌, subst, arith}
+use Rattle.std.proofs.Common.{ap, sym, ◌∙◌, subst, arith}
 use Rattle.atomic_table.specs.Seated.{TableId}
 use Rattle.rsx_link.proofs.PlaceKeeps.{splits}
-use Rattle.rsx_link.proofs.PlaceOffers.{Sound, sound_split, sound_new, may_split}
+use Rattle.rsx_link.proofs.PlaceOffers.{Sound, sound_of, sound_split, may_split}
 use Rattle.rsx_link.proofs.places.Places.split.Goals as goal
 
 pub split_seat-other-requires : goal.split_seat-other-requires
@@ -12,7 +12,7 @@ split_seat-other-requires g c =
 pub invariant_of-seat : goal.invariant_of-seat
 invariant_of-seat g c =
     let was = c.args.seat.now in
-    let old : Sound was.seat.table_id.slots was.seat.me.0 was.refused = record { never_collects = was.never_collects; settled = was.settled; tells = was.tells; has_part = was.has_part } in
+    let old = sound_of was in
     let cut = c.split_seat-other.ensures in
     let new = sound_split was.seat.table_id.slots _ _ was.refused (ap (λ m. m.0) cut.2) c.requires.parts old in
     let now = subst (λ (z : TableId). Sound z.slots c.split_seat-other.new.seat.me.0 was.refused) (sym cut.0) new in record {
