@@ -74,8 +74,9 @@ pub struct NoPlace<P> {
 }
 
 impl<T: Drop, P: Drop> Places<T, P> {
-    ghost use Rattle.std.specs.Prelude.{IfOk, IfErr};
-    ghost use Rattle.rsx_link.specs.PlaceSeats.{AreBegun, IsCollectorOf, IsLeft, IsPlaceSeatOf, places_in};
+    ghost use Rattle.std.specs.Prelude.{IfOk, IfErr, IfSome, IfNone, ◌++◌, ◌∷◌};
+    ghost use Rattle.rsx_link.specs.PlaceSeats.{AreBegun, IsPlaceSeatOf, IsCollectorOf, IsHandedOver, IsTurnedAway, IsCollected, IsLeft, places_in, place_steps, place_beside, place_parts, place_refusals, collector_steps};
+    ghost use Rattle.rsx_link.specs.Collected.{missed_below};
 
     /// Makes a place for each of the ends, in their order, with the one collector and the first offering seat, which has all parts
     /// of the right to draw tickets. All memory that the places ever use is taken here.
@@ -111,63 +112,6 @@ impl<T: Drop, P: Drop> Places<T, P> {
         }
     }
 
-    /// Takes the collector and a seat back, and answers what is left, by the numbers of the places: [`Place::Taken`] where a part was
-    /// collected, the part where one was offered and not collected, and else the ends, which were never handed out.
-    ///
-    /// That a place is not known to the seat, and so was not offered by another, is sure only where the seat has all parts of the right
-    /// to draw tickets, because all other seats were joined into it.
-    pub fn close(self, collector: Collector<T, P>, seat: PlaceSeat<T, P>) -> Vec<Place<Ends<T>, P>>
-        requires collector { IsCollectorOf self collector }
-        requires seat { IsPlaceSeatOf self seat }
-        ensures count { length result.items ≡ places_in self }
-        ensures left { (k : ℕ) → k < places_in self → IsLeft self collector seat k result.items }
-    {
-        let Places { table } = self;
-        let Collector {
-            seat: mut own,
-            taken,
-            left,
-        } = collector;
-        let PlaceSeat {
-            seat: other,
-            refused: _,
-        } = seat;
-        table.shared.join_seat::<GluePlaces>(&mut own, other);
-        take_out(table.close_with(own), taken.as_slice(), left)
-    }
-}
-
-impl<T, P> Places<T, P> {
-    ghost use Rattle.std.specs.Prelude.{IfOk, IfErr, IfSome, IfNone, ◌++◌, ◌∷◌, MatchBool};
-    ghost use Rattle.rsx_link.specs.PlaceSeats.{IsPlaceSeatOf, IsCollectorOf, IsHandedOver, IsTurnedAway, IsCollected, places_in, place_steps, place_beside, place_parts, place_refusals, collector_steps};
-    ghost use Rattle.rsx_link.specs.Collected.{missed_at, missed_below};
-    ghost use Rattle.rsx_link.specs.declared.place.PlaceStep.TheVariants.{Collect, Miss};
-
-    /// Draws a ticket for the seat and puts the part at the place that it names, by two atomic steps. Answers the place's
-    /// number, and the ends that were made for just that place.
-    ///
-    /// # Errors
-    ///
-    /// [`NoPlace`] hands the part back, where no place was left. Such a seat draws no further ticket: tried again, it answers the
-    /// same and makes no step.
-    pub fn offer(&self, seat: &mut PlaceSeat<T, P>, part: P) -> Result<(u64, Ends<T>), NoPlace<P>>
-        requires { IsPlaceSeatOf self.now seat.old }
-        ensures same { IsPlaceSeatOf self.now seat.new × (place_beside seat.new ≡ place_beside seat.old) × (place_parts seat.new ≡ place_parts seat.old) }
-        ensures ok { IfOk result (λ r. IsHandedOver self.now seat.old part r.0 r.1 (place_steps seat.new)) }
-        ensures full { IfErr result (λ back. IsTurnedAway (places_in self.now) part (place_steps seat.old) back (place_steps seat.new)) }
-    {
-        if seat.refused {
-            return Err(NoPlace { part });
-        }
-        let ticket = self.draw(&mut seat.seat);
-        if ticket >= self.table.slot_count() as u64 {
-            seat.refused = true;
-            return Err(NoPlace { part });
-        }
-        let ends = self.put(&mut seat.seat, ticket as usize, part);
-        Ok((ticket, ends))
-    }
-
     /// Makes a further seat, which has made no step, for another thread. It gets one of the seat's parts of the right to draw tickets;
     /// enough must be left for the tickets without a place that were drawn, and for one more.
     pub fn split(&self, seat: &mut PlaceSeat<T, P>) -> PlaceSeat<T, P>
@@ -197,6 +141,31 @@ impl<T, P> Places<T, P> {
             .join_seat::<GluePlaces>(&mut seat.seat, other.seat);
     }
 
+    /// Draws a ticket for the seat and puts the part at the place that it names, by two atomic steps. Answers the place's
+    /// number, and the ends that were made for just that place.
+    ///
+    /// # Errors
+    ///
+    /// [`NoPlace`] hands the part back, where no place was left. Such a seat draws no further ticket: tried again, it answers the
+    /// same and makes no step.
+    pub fn offer(&self, seat: &mut PlaceSeat<T, P>, part: P) -> Result<(u64, Ends<T>), NoPlace<P>>
+        requires { IsPlaceSeatOf self.now seat.old }
+        ensures same { IsPlaceSeatOf self.now seat.new × (place_beside seat.new ≡ place_beside seat.old) × (place_parts seat.new ≡ place_parts seat.old) }
+        ensures ok { IfOk result (λ r. IsHandedOver self.now seat.old part r.0 r.1 (place_steps seat.new)) }
+        ensures full { IfErr result (λ back. IsTurnedAway (places_in self.now) part (place_steps seat.old) back (place_steps seat.new)) }
+    {
+        if seat.refused {
+            return Err(NoPlace { part });
+        }
+        let ticket = self.draw(&mut seat.seat);
+        if ticket >= self.table.slot_count() as u64 {
+            seat.refused = true;
+            return Err(NoPlace { part });
+        }
+        let ends = self.put(&mut seat.seat, ticket as usize, part);
+        Ok((ticket, ends))
+    }
+
     /// Looks at the places that were not collected from, in their order, each by one load, until a part is found that was offered.
     /// Answers that part with its place's number, or `None` where at none of them a part was found. A place is collected from once.
     pub fn collect(&self, collector: &mut Collector<T, P>) -> Option<(u64, P)>
@@ -213,31 +182,37 @@ impl<T, P> Places<T, P> {
         None
     }
 
-    /// The same at one place.
-    fn collect_at(&self, collector: &mut Collector<T, P>, at: usize) -> Option<P>
-        requires collector { IsCollectorOf self.now collector.old }
-        requires within { at < places_in self.now }
-        ensures same { IsCollectorOf self.now collector.new }
-        ensures some { IfSome result (λ part. (is_collected at (collector_steps collector.old) ≡ false) × (collector_steps collector.new ≡ Collect at part ∷ collector_steps collector.old)) }
-        ensures none { IfNone result (collector_steps collector.new ≡ missed_at at (collector_steps collector.old)) }
+    /// Takes the collector and a seat back, and answers what is left, by the numbers of the places: [`Place::Taken`] where a part was
+    /// collected, the part where one was offered and not collected, and else the ends, which were never handed out.
+    ///
+    /// That a place is not known to the seat, and so was not offered by another, is sure only where the seat has all parts of the right
+    /// to draw tickets, because all other seats were joined into it.
+    pub fn close(self, collector: Collector<T, P>, seat: PlaceSeat<T, P>) -> Vec<Place<Ends<T>, P>>
+        requires collector { IsCollectorOf self collector }
+        requires seat { IsPlaceSeatOf self seat }
+        ensures count { length result.items ≡ places_in self }
+        ensures left { (k : ℕ) → k < places_in self → IsLeft self collector seat k result.items }
     {
-        if collector.taken[at] {
-            return None;
-        }
-        match self.look(&mut collector.seat, at) {
-            Some(part) => {
-                collector.taken[at] = true;
-                Some(part)
-            }
-            None => None,
-        }
+        let Places { table } = self;
+        let Collector {
+            seat: mut own,
+            taken,
+            left,
+        } = collector;
+        let PlaceSeat {
+            seat: other,
+            refused: _,
+        } = seat;
+        table.shared.join_seat::<GluePlaces>(&mut own, other);
+        take_out(table.close_with(own), taken.as_slice(), left)
     }
 }
 
 impl<T, P> Places<T, P> {
     ghost use Rattle.std.specs.Prelude.{IfSome, IfNone, ◌∷◌, replicate};
     ghost use Rattle.rsx_link.specs.Places.{founder, more};
-    ghost use Rattle.rsx_link.specs.PlaceSeats.{AreBegun, IsSeat, Draws, MayDraw, MayPut, MayLook, places_in};
+    ghost use Rattle.rsx_link.specs.Collected.{missed_at};
+    ghost use Rattle.rsx_link.specs.PlaceSeats.{AreBegun, IsCollectorOf, IsSeat, Draws, MayDraw, MayPut, MayLook, places_in, collector_steps};
     ghost use Rattle.rsx_link.specs.declared.place.Place.TheVariants.{Free, Taken};
     ghost use Rattle.rsx_link.specs.declared.place.PlaceStep.TheVariants.{Offer, Miss, Collect};
 
@@ -261,6 +236,26 @@ impl<T, P> Places<T, P> {
             refused: false,
         };
         (Places { table }, collector, first)
+    }
+
+    /// The same at one place.
+    fn collect_at(&self, collector: &mut Collector<T, P>, at: usize) -> Option<P>
+        requires collector { IsCollectorOf self.now collector.old }
+        requires within { at < places_in self.now }
+        ensures same { IsCollectorOf self.now collector.new }
+        ensures some { IfSome result (λ part. (is_collected at (collector_steps collector.old) ≡ false) × (collector_steps collector.new ≡ Collect at part ∷ collector_steps collector.old)) }
+        ensures none { IfNone result (collector_steps collector.new ≡ missed_at at (collector_steps collector.old)) }
+    {
+        if collector.taken[at] {
+            return None;
+        }
+        match self.look(&mut collector.seat, at) {
+            Some(part) => {
+                collector.taken[at] = true;
+                Some(part)
+            }
+            None => None,
+        }
     }
 
     /// One `fetch_add`, so that no two seats find the same number. The ends of the place that it names are out with the seat then.
