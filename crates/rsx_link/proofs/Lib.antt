@@ -8,6 +8,7 @@ pub mod PlaceCounts
 pub mod PlaceKeeps
 pub mod PlaceLeft
 pub mod PlaceOffers
+pub mod PlaceRuled
 pub mod PlaceSlots
 pub mod Shares
 pub mod Totals

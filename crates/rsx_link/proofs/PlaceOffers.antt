@@ -14,7 +14,7 @@ use Rattle.rsx_link.specs.declared.place.PlaceView.{PlaceView}
 use Rattle.rsx_link.specs.declared.places.PlaceSeat.{PlaceSeat}
 use Rattle.rsx_link.specs.Link.{total}
 use Rattle.rsx_link.specs.PlaceSteps.{ticket_of, refusal_of, offers_at, collects_at, number_of, is_refused}
-use Rattle.rsx_link.specs.Places.{more, with_parts, newcomer, joined, count_in}
+use Rattle.rsx_link.specs.Places.{more, with_parts, joined, count_in}
 use Rattle.rsx_link.proofs.PlaceCounts.{count_joined}
 use Rattle.rsx_link.proofs.PlaceKeeps.{ticket_itself, ticket_other, other}
 use Rattle.rsx_link.proofs.PlaceSlots.{got, same_slot}

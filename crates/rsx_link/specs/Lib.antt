@@ -2,6 +2,7 @@ pub mod Collected
 pub mod Ends
 pub mod Link
 pub mod Parts
+pub mod PlaceLaws
 pub mod PlacePlays
 pub mod PlaceSeats
 pub mod PlaceSteps

@@ -57,10 +57,35 @@
 //! sides there: the right to cancel is one whole, each [`CancelSeat::split`] halves it and each [`CancelSeat::join`]
 //! puts it together, and with the whole in hand the flag is set exactly where one of these seats cancelled.
 //!
+//! # Places for late subscriptions
+//!
+//! A subscription that is made while other threads run needs a link whose sending end another thread has already. So
+//! links are made beforehand, and [`Places`] keep their receiving ends and rights to cancel ([`Ends`]), one pair at each
+//! place. They are a table of their own: a counter of tickets, and a word for each place.
+//!
+//! | step | seat | how |
+//! |---|---|---|
+//! | ticket | [`PlaceSeat`] | `fetch_add` of 1 on the counter, which takes the ends out of the place with the number that it found |
+//! | offer | [`PlaceSeat`] | the part is put there in their place, and a `store` of 1 on the place's word gives it back |
+//! | collect | [`Collector`] | a `load` of a place's word, which takes the part where it found 1 |
+//!
+//! [`Places::offer`] makes the first two, and [`Places::collect`] the third at each place that was not collected from. No
+//! call waits, and none takes memory once [`Places::new`] has made the places. Where the number names no place the offer
+//! answers [`NoPlace`] and hands the part back. A ticket can't be given back, so such a seat draws no other: the counter
+//! stays far below the end of its range.
+//!
+//! The rule in `specs/Places.antt` ties all seats to the words and to what is at home. A number that names a place is drawn
+//! by one seat where it is below the counter, and by none else; the word of a place is 1 just where a part was offered
+//! there, and then that part is at home until it is collected, once. The functions `each_ticket_once`,
+//! `no_more_refusals_than_seats`, `offered_is_at_home` and `collected_is_offered` say so, each by its contract alone. Each
+//! call adds just its own steps to its seat. At [`Places::close`] all is in one thread again, and each place gives back
+//! what is left there.
+//!
 //! # What is not proved
 //!
 //! That a signal arrives, or how soon; and that a queue which is called empty, or full, was so, which tests show. No
-//! clause compares two ends while they are in different threads.
+//! clause compares two ends while they are in different threads. Nor is it said that a part which was offered is ever
+//! collected.
 #![tactic(auto)]
 
 mod cancel;
@@ -68,6 +93,7 @@ mod closed;
 mod down;
 mod link;
 mod place;
+mod place_laws;
 mod place_plays;
 mod place_room;
 mod place_rule;
@@ -83,6 +109,9 @@ pub use closed::{Closed, Remaining};
 pub use down::Down;
 pub use link::Link;
 pub use place::{Ends, Place, PlaceStep, PlaceView};
+pub use place_laws::{
+    collected_is_offered, each_ticket_once, no_more_refusals_than_seats, offered_is_at_home,
+};
 pub use place_rule::PlaceRule;
 pub use places::{Collector, NoPlace, PlaceSeat, Places};
 pub use rule::Rule;
