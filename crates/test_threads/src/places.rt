@@ -1,7 +1,7 @@
 //! Places that two threads offer parts at, and a third collects from. Which thread gets which place depends on the schedule,
 //! and what is collected does not.
 
-ghost use Rattle.std.specs.Prelude.{◌≡◌, ◌<◌, ◌^◌, ◌×◌, IfOk, length};
+ghost use Rattle.std.specs.Prelude.{◌≡◌, ◌<◌, ◌^◌, IfOk, length};
 ghost use Rattle.std.specs.Thread.{IsSync};
 ghost use Rattle.rsx_link.specs.PlaceSeats.{IsCollectorOf, IsPlaceSeatOf};
 
@@ -133,7 +133,10 @@ fn one_thread_fills_them(rt: HostRuntime) -> Result<(), Fail> {
     assert_eq!(rt; (first, second, third), (Ok(0), Ok(1), Ok(2)));
     assert_eq!(rt; collected, Some((0, 10)));
     assert_eq!(rt; (full, again, full_too), (Err(13), Err(14), Err(15)));
-    assert_eq!(rt; (start, middle), (Some(Left::Taken), Some(Left::Offered(11))));
+    assert_eq!(rt;
+        (start, middle),
+        (Some(Left::Taken), Some(Left::Offered(11)))
+    );
     assert_eq!(rt; last, Some(Left::Offered(12)));
     assert_eq!(rt; left.is_empty(), true);
     Ok(())
@@ -153,7 +156,10 @@ fn what_nobody_offered_at_comes_back(rt: HostRuntime) -> Result<(), Fail> {
     let last = left.pop().map(left_of);
     let start = left.pop().map(left_of);
     assert_eq!(rt; first, Ok(0));
-    assert_eq!(rt; (start, last), (Some(Left::Offered(7)), Some(Left::Free(1))));
+    assert_eq!(rt;
+        (start, last),
+        (Some(Left::Offered(7)), Some(Left::Free(1)))
+    );
     Ok(())
 }
 
@@ -196,7 +202,11 @@ fn offer_by_two<R: Threads + Sync>(
     );
     mine = seat;
     places.join(&mut mine, other);
-    (first.wrapping_add(second), sum, places.close(collector, mine))
+    (
+        first.wrapping_add(second),
+        sum,
+        places.close(collector, mine),
+    )
 }
 
 #[test]
