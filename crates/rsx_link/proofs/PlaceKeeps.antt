@@ -1,7 +1,7 @@
 -- Each step on the places keeps their rule.
 use Rattle.std.proofs.Common.{◌≡◌, ◌≢◌, ℕ, zero, suc, ◌+◌, ◌%◌, ◌^◌, ◌<◌, ◌≤◌, Bool, true, false, not, ◌&&◌, is_some, cond, eqb, eq-eqb, ne_eqb, List, [], ◌∷◌, ◌++◌, get_or, length, map, replicate, set, Option, Some, None, IfSome, refl, sym, ap, ◌∙◌, subst, ⊎_elim, arith}
 use Rattle.std.proofs.lemmas.Bool.{lt-ltb, le-ltb}
-use Rattle.std.proofs.lemmas.List.{length-append, length-set}
+use Rattle.std.proofs.lemmas.List.{length-append, length-map, length-replicate, length-set}
 use Rattle.std.proofs.Math.Nat.{mod-eq_of_lt}
 use mathlib.Core.Logic.{dite}
 use mathlib.Core.Option.{some, none, some-injective, some-ne-none}
@@ -17,7 +17,7 @@ use Rattle.rsx_link.specs.declared.place.PlaceStep.TheVariants.{Ticket, Offer, M
 use Rattle.rsx_link.specs.declared.place.PlaceView.{PlaceView}
 use Rattle.rsx_link.specs.Link.{total}
 use Rattle.rsx_link.specs.PlaceSteps.{ticket_of, refusal_of, number_of, offers_at, collects_at, AllName, is_refused}
-use Rattle.rsx_link.specs.Places.{founder, more, with_parts, newcomer, joined, spent, steps_of, count_in, tally, claims, Fits, IsPlace, Kept}
+use Rattle.rsx_link.specs.Places.{IsSized, founder, more, with_parts, newcomer, joined, spent, steps_of, count_in, tally, claims, Fits, IsPlace, Kept}
 use Rattle.rsx_link.specs.PlacePlays.{drew, offered, collected}
 use Rattle.rsx_link.proofs.PlaceCounts.{total_less, total_less_but, total_alone, all_name-append, all_none, steps_joined, count_joined, tally_step, tally_split, tally_join}
 use Rattle.rsx_link.proofs.Totals.{total-set, total-append, le-total}
@@ -557,3 +557,9 @@ module _ {E P : Type 0} where
   pub starts : (ends : List E) (n : ℕ) (words : List ℕ) (slots : List (Place E P)) → n ≡ length ends → words ≡ 0 ∷ replicate n 0 → slots ≡ map Free ends → Kept ends (opening words slots (founder ends))
   starts ends n words slots count zeros frees = subst (λ (ws : List ℕ). Kept {E = E} {P = P} ends (opening ws slots (founder ends))) (sym (zeros ∙ ap (λ k. 0 ∷ replicate k 0) count))
       (subst (λ (xs : List (Place E P)). Kept ends (opening (0 ∷ replicate (length ends) 0) xs (founder ends))) (sym frees) (starts_with ends))
+
+  pub sized : (ends : List E) (n w k : ℕ) (words : List ℕ) (slots : List (Place E P)) → n ≡ length ends → words ≡ 0 ∷ replicate n 0 → slots ≡ map Free ends → w ≡ length words → k ≡ length slots → n < 4294967296
+      → IsSized w k ends × (k ≡ n)
+  sized ends n w k words slots count zeros all_free words_are slots_are few =
+      let one = ap length zeros in let two : length (replicate {A = ℕ} n 0) ≡ n = length-replicate n 0 in
+      let three = ap length all_free in let four : length {A = Place E P} (map Free ends) ≡ length ends = length-map ends _ in ((omega arith, omega arith, omega arith), omega arith)
