@@ -1,14 +1,16 @@
 -- A region that fits its key, over the links and with the functions of the graph.
-use Rattle.std.proofs.Common.{◌≡◌, ℕ, List, sym, subst, ◌∙◌}
+use Rattle.std.proofs.Common.{◌≡◌, ℕ, List, [], ◌∷◌, refl, ap, sym, subst, ◌∙◌}
 use Rattle.rsx_sources.specs.Prelude.{Meaning}
 use Rattle.rsx_sources.specs.declared.machine.Machine.{Ghosts as Machine}
 use Rattle.rsx_link.specs.declared.link.Link.{Link}
 use Rattle.rsx_gate.specs.declared.gate.Gate.{Gate}
-use Rattle.rsx_gate.specs.Seats.{key_of}
+use Rattle.rsx_gate.specs.Seats.{Holds, key_of, seat_with_value}
 use Rattle.rsx_region.specs.Regions.{ArePiecesOf, RegionFits, RegionStands}
 use Rattle.rsx_region.specs.declared.opening.Opening.{Opening}
 use Rattle.rsx_region.specs.declared.piece.Piece.{Piece}
 use Rattle.rsx_region.specs.declared.region.Region.{Region}
+use Rattle.rsx_region.specs.declared.serving.Served.{Served}
+use Rattle.rsx_runtime.specs.Passing.{HasServed, IsServed, SeatOf}
 use Rattle.rsx_runtime.specs.Poking.{Fits, HasFitting, IsGateOf}
 
 fits_here : {M T O : Type 0} (b : Machine M T) (meaning : O → Meaning T) (key : Opening M T O) (links : List (Link T)) (ops : O) (r : Region M T) → key.links.value.items ≡ links → key.ops.value ≡ ops →
@@ -37,15 +39,21 @@ held_ends {M} {T} {O} b meaning g links ops P r opened h value =
     (fits_here b meaning (key_of g) links ops r opened.0 opened.1 (subst F (value h.0 h.1) h.2)).ends
 
 -- what it came to fits, where each piece stands on
-pub held_fits : {M T O : Type 0} (b : Machine M T) (meaning : O → Meaning T) (g : Gate (Region M T) (Opening M T O)) (links : List (Link T)) (ops : O) (P Q : Region M T → Type 0) (r s : Region M T) → IsGateOf links ops g →
-    HasFitting b meaning g P → ((x : Region M T) → P x → x ≡ r) → s.number ≡ r.number → ArePiecesOf links s.pieces.items →
-    ((n : ℕ) (opening : List (Piece M T)) → RegionStands b (meaning ops) n opening r.pieces.items → RegionStands b (meaning ops) n opening s.pieces.items) → Q s → HasFitting b meaning g Q
-held_fits {M} {T} {O} b meaning g links ops P Q r s opened h value number ends stands q =
+pub held_served : {M T O : Type 0} (b : Machine M T) (meaning : O → Meaning T) (g : Gate (Region M T) (Opening M T O)) (links : List (Link T)) (ops : O) (budget : ℕ) (answer : Served) (old new : SeatOf M T O) (r s : Region M T) → IsGateOf links ops g →
+    HasFitting b meaning g (Holds g old) → ((x : Region M T) → Holds g old x → x ≡ r) → new ≡ seat_with_value old s → ArePiecesOf links s.pieces.items →
+    ((n : ℕ) (opening : List (Piece M T)) → RegionStands b (meaning ops) n opening r.pieces.items → RegionStands b (meaning ops) n opening s.pieces.items) → IsServed b (meaning ops) links budget answer r s →
+    HasServed b meaning ops links budget answer g old new × HasFitting b meaning g (Holds g new)
+held_served {M} {T} {O} b meaning g links ops budget answer old new r s opened h value put ends stands served =
     let F : Region M T → Type 0 = λ x. Fits b meaning (key_of g) x in
     let key = key_of g in
-    let here = fits_here b meaning key links ops r opened.0 opened.1 (subst F (value h.0 h.1) h.2) in
-    let next = fits_served b (meaning ops) key.number key.values key.pieces.value.items links r s number ends (stands key.values key.pieces.value.items) here in
-    (s, q, fits_there b meaning key links ops s opened.0 opened.1 next)
+    let there = value h.0 h.1 in
+    let here = fits_here b meaning key links ops r opened.0 opened.1 (subst F there h.2) in
+    let next = fits_served b (meaning ops) key.number key.values key.pieces.value.items links r s served.number ends (stands key.values key.pieces.value.items) here in
+    let fits = fits_there b meaning key links ops s opened.0 opened.1 next in
+    let H : SeatOf M T O → Type 0 = λ x. Holds g x s in
+    let holds : Holds g new s = subst H (sym put) (h.1.0, refl, h.1.2, h.1.3, h.1.4) in
+    let held : Holds g old r = (h.1.0, h.1.1 ∙ ap (λ x. (0, x) ∷ []) there, h.1.2, h.1.3, h.1.4) in
+    (record { was = r; is = s; held = held; holds = holds; fits = fits; steps = ap (λ (x : SeatOf M T O). x.me.0) put; served = served }, (s, holds, fits))
 
 -- so it is of a new gate's region
 pub first_fits : {M T O : Type 0} (b : Machine M T) (meaning : O → Meaning T) (key : Opening M T O) (links : List (Link T)) (ops : O) (n : ℕ) (r : Region M T) → key.number ≡ r.number → key.values ≡ n → key.ops.value ≡ ops →

@@ -7,7 +7,7 @@ use Rattle.rsx_gate.specs.Seats.{key_of}
 use Rattle.rsx_region.specs.Pieces.{Each}
 use Rattle.rsx_region.specs.declared.opening.Opening.{Opening}
 use Rattle.rsx_region.specs.declared.region.Region.{Region}
-use Rattle.rsx_runtime.specs.Poking.{IsGateOf}
+use Rattle.rsx_runtime.specs.Poking.{IsAmong, IsGateOf}
 
 -- what holds of each and of one more holds of each where that one is put behind them
 pub each_pushed : {X : Type 0} (P : X → Type 0) (xs : List X) (x : X) → Each P xs → P x → Each P (xs ++ x ∷ [])
@@ -40,3 +40,7 @@ pub opened_by : {M T O : Type 0} (links : List (Link T)) (ops : O) (g : Gate (Re
 opened_by {M} {T} {O} links ops g key same ends functions =
     let K : Opening M T O → Type 0 = λ k. (k.links.value.items ≡ links) × (k.ops.value ≡ ops) in
     subst K (sym same) (ends, functions)
+
+-- what holds of the one with this number holds of whatever stands there
+pub of_this : {X : Type 0} (P : X → Type 0) (xs : List X) (k : ℕ) (y : X) → slice_get xs k ≡ Some y → IsAmong xs k P → P y
+of_this P xs k y at h = let same : h.0 ≡ y = cc in subst P same h.2

@@ -8,8 +8,8 @@ use Rattle.rsx_types.specs.declared.signal.Cause.TheVariants.{NonPositiveRequest
 use Rattle.rsx_link.specs.Ends.{Requests}
 use Rattle.rsx_link.specs.Signals.{request_of}
 use Rattle.rsx_link.specs.declared.view.Step.{Step}
-use Rattle.rsx_runtime.specs.Ordered.{is_none, is_orderly, is_unended}
-use Rattle.rsx_runtime.specs.Standing.{asks, error_of, gives, given_by, is_over, signals_of, taken_state}
+use Rattle.rsx_runtime.specs.Ordered.{is_orderly, is_unended}
+use Rattle.rsx_runtime.specs.Standing.{asks, gives, given_by, is_over, taken_state}
 use Rattle.rsx_runtime.specs.declared.tap.Tapped.{Tapped}
 use Rattle.rsx_runtime.specs.declared.tap.Tapped.TheVariants.{Open, Cancelled, Refused, Over}
 

@@ -15,10 +15,12 @@
 
 pub mod emitter;
 pub mod live;
+pub mod pass;
 pub mod tap;
 
 pub use emitter::{Emitter, NotEnded};
 pub use live::{Live, Poked, RegionGate, RegionSeat};
+pub use pass::{RegionLeft, RegionPass};
 pub use tap::{Canceller, Tap, Tapped};
 
 /// How often a poke serves its region before it gives up the gate.

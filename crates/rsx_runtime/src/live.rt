@@ -1,10 +1,11 @@
 //! The regions with their gates, and how a thread works on one.
 
-ghost use Rattle.std.specs.Prelude.{◌≡◌, ◌<◌, ⊤, [], IfErr, IfOk, Some, length, slice_get};
+ghost use Rattle.std.specs.Prelude.{◌≡◌, ◌<◌, ⊤, [], IfErr, IfOk, MatchBool, Some, length, slice_get};
 ghost use Rattle.rsx_gate.specs.Machine.{founder};
-ghost use Rattle.rsx_gate.specs.Seats.{Holds, IsSeatOf, key_of};
+ghost use Rattle.rsx_gate.specs.Seats.{Holds, IsGone, IsMissed, IsSeatOf, Marked, key_of};
 ghost use Rattle.rsx_region.specs.Pieces.{Each, IsAt};
 ghost use Rattle.rsx_region.specs.Regions.{ArePiecesOf, RegionStands};
+ghost use Rattle.rsx_runtime.specs.Passing.{HasServed};
 ghost use Rattle.rsx_runtime.specs.Poking.{HasFitting, IsAmong, IsGateOf, Went};
 
 use crate::ROUNDS;
@@ -151,10 +152,10 @@ fn visit<N: Nodes<Item = T>, T: Drop, O: Ops<Item = T>>(
         return Poked::Noted;
     }
     for round in 0..ROUNDS {
-        gate.mark(seat);
+        mark_held(gate, seat);
         match serve_held(alloc, ops, gate, links, seat, budget).answer {
             Answer::Idle => {
-                if gate.try_leave(seat) {
+                if leave_held(gate, seat) {
                     return Poked::Idle;
                 }
             }
@@ -172,6 +173,52 @@ fn visit<N: Nodes<Item = T>, T: Drop, O: Ops<Item = T>>(
     Poked::More
 }
 
+impl<N: Nodes<Item = T>, T: Drop, O: Ops<Item = T>> Live<N, T, O> {
+    /// Serves the region at this place by a seat that has it.
+    pub(crate) fn serve_seat(
+        &self,
+        alloc: Global,
+        region: u8,
+        seat: &mut RegionSeat<N, T, O>,
+        budget: u32,
+    ) -> Served
+        requires { IsAmong self.now.gates.items region (λ g. HasFitting N.Machine O.meaning g (Holds g seat.old)) }
+        ensures { IsAmong self.now.gates.items region (λ g. HasServed N.Machine O.meaning self.now.ops self.now.links.items budget result g seat.old seat.new) }
+    {
+        serve_held(
+            alloc,
+            &self.ops,
+            self.gate(region),
+            &self.links,
+            seat,
+            budget,
+        )
+    }
+}
+
+/// The mark of a seat that has the region. It keeps it.
+pub(crate) fn mark_held<N: Nodes<Item = T>, T: Drop, O: Ops<Item = T>>(
+    gate: &RegionGate<N, T, O>,
+    seat: &mut RegionSeat<N, T, O>,
+)
+    requires { HasFitting N.Machine O.meaning gate.now (Holds gate.now seat.old) }
+    ensures holds { HasFitting N.Machine O.meaning gate.now (Holds gate.now seat.new) }
+    ensures marked { Marked seat.old seat.new }
+{
+    gate.mark(seat);
+}
+
+/// The leave of such a seat, and whether the region is free now. Else the seat keeps it.
+pub(crate) fn leave_held<N: Nodes<Item = T>, T: Drop, O: Ops<Item = T>>(
+    gate: &RegionGate<N, T, O>,
+    seat: &mut RegionSeat<N, T, O>,
+) -> bool
+    requires { HasFitting N.Machine O.meaning gate.now (Holds gate.now seat.old) }
+    ensures { MatchBool result (IsGone gate.now seat.old seat.new) (IsMissed seat.old seat.new × HasFitting N.Machine O.meaning gate.now (Holds gate.now seat.new)) }
+{
+    gate.try_leave(seat)
+}
+
 /// Serves the region of a seat that has it. It fits before and after, and the seat makes no step.
 fn serve_held<N: Nodes<Item = T>, T: Drop, O: Ops<Item = T>>(
     alloc: Global,
@@ -183,8 +230,7 @@ fn serve_held<N: Nodes<Item = T>, T: Drop, O: Ops<Item = T>>(
 ) -> Served
     requires opened { IsGateOf links.now ops.now gate.now }
     requires holds { HasFitting N.Machine O.meaning gate.now (Holds gate.now seat.old) }
-    ensures holds { HasFitting N.Machine O.meaning gate.now (Holds gate.now seat.new) }
-    ensures same { seat.new.me.0 ≡ seat.old.me.0 }
+    ensures { HasServed N.Machine O.meaning ops.now links.now budget result gate.now seat.old seat.new × HasFitting N.Machine O.meaning gate.now (Holds gate.now seat.new) }
 {
     Gate::value_of(seat, gate).serve(alloc, ops, links, budget)
 }
