@@ -1,5 +1,7 @@
 -- Lemmas.
 pub mod Fits
 pub mod Gates
+pub mod Parkers
+pub mod Rests
 pub mod Seats
 pub mod Signals

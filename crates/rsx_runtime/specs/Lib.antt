@@ -3,5 +3,7 @@ pub mod Emitting
 pub mod Ordered
 pub mod Passing
 pub mod Poking
+pub mod Resting
 pub mod Standing
 pub mod Tapping
+pub mod Tokens

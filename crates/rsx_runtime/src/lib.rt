@@ -15,13 +15,26 @@
 
 pub mod emitter;
 pub mod live;
+pub mod park;
 pub mod pass;
+pub mod rest;
 pub mod tap;
+pub mod tokens;
+pub mod worker;
 
 pub use emitter::{Emitter, NotEnded};
 pub use live::{Live, Poked, RegionGate, RegionSeat};
+pub use park::{Bell, ParkRest, Rouser};
 pub use pass::{RegionLeft, RegionPass};
+pub use rest::{Rest, Rested};
 pub use tap::{Canceller, Tap, Tapped};
+pub use worker::work;
 
 /// How often a poke serves its region before it gives up the gate.
 pub const ROUNDS: u8 = 8;
+
+/// How many moves and signals from links a poke of a worker may count before it ends.
+pub const BUDGET: u32 = 1_024;
+
+/// How many workers there may be.
+pub const MOST_WORKERS: u8 = 16;

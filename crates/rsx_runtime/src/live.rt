@@ -1,6 +1,6 @@
 //! The regions with their gates, and how a thread works on one.
 
-ghost use Rattle.std.specs.Prelude.{◌≡◌, ◌<◌, ⊤, [], IfErr, IfOk, MatchBool, Some, length, slice_get};
+ghost use Rattle.std.specs.Prelude.{◌≡◌, ◌<◌, ◌||◌, nat_lt, ⊤, [], IfErr, IfOk, MatchBool, Some, length, slice_get};
 ghost use Rattle.rsx_gate.specs.Machine.{founder};
 ghost use Rattle.rsx_gate.specs.Seats.{Holds, IsGone, IsMissed, IsSeatOf, Marked, key_of};
 ghost use Rattle.rsx_region.specs.Pieces.{Each, IsAt};
@@ -36,6 +36,15 @@ pub enum Poked {
     Budget,
     /// A growth was refused. What was done before stands.
     NoMemory,
+}
+
+/// What a visit of a region came to.
+#[derive(Clone, Copy)]
+pub(crate) struct Visited {
+    /// What a poke answers.
+    pub(crate) poked: Poked,
+    /// Whether it made a move or took a signal from a link.
+    pub(crate) busy: bool,
 }
 
 /// A graph whose regions are worked on by several threads. It is shared by reference.
@@ -122,6 +131,22 @@ impl<N: Nodes<Item = T>, T: Drop, O: Ops<Item = T>> Live<N, T, O> {
         ensures parts { seat.new.me.0.parts ≡ seat.old.me.0.parts }
         ensures steps { Went result seat.old.me.0.steps seat.new.me.0.steps }
     {
+        self.visit(alloc, region, seat, budget).poked
+    }
+
+    /// A poke that says whether it was busy.
+    pub(crate) fn visit(
+        &self,
+        alloc: Global,
+        region: u8,
+        seat: &mut RegionSeat<N, T, O>,
+        budget: u32,
+    ) -> Visited
+        requires { IsAmong self.now.gates.items region (λ g. IsSeatOf g seat.old) }
+        ensures seat { IsAmong self.now.gates.items region (λ g. IsSeatOf g seat.new) }
+        ensures parts { seat.new.me.0.parts ≡ seat.old.me.0.parts }
+        ensures steps { Went result.poked seat.old.me.0.steps seat.new.me.0.steps }
+    {
         visit(
             alloc,
             &self.ops,
@@ -141,36 +166,61 @@ fn visit<N: Nodes<Item = T>, T: Drop, O: Ops<Item = T>>(
     links: &[Link<T>],
     seat: &mut RegionSeat<N, T, O>,
     budget: u32,
-) -> Poked
+) -> Visited
     requires seat { IsSeatOf gate.now seat.old }
     requires opened { IsGateOf links.now ops.now gate.now }
     ensures seat { IsSeatOf gate.now seat.new }
     ensures parts { seat.new.me.0.parts ≡ seat.old.me.0.parts }
-    ensures steps { Went result seat.old.me.0.steps seat.new.me.0.steps }
+    ensures steps { Went result.poked seat.old.me.0.steps seat.new.me.0.steps }
 {
+    let mut busy = false;
     if !gate.take(seat) {
-        return Poked::Noted;
+        return Visited {
+            poked: Poked::Noted,
+            busy,
+        };
     }
     for round in 0..ROUNDS {
         mark_held(gate, seat);
-        match serve_held(alloc, ops, gate, links, seat, budget).answer {
+        let served = serve_held(alloc, ops, gate, links, seat, budget);
+        busy |= is_busy(served);
+        match served.answer {
             Answer::Idle => {
                 if leave_held(gate, seat) {
-                    return Poked::Idle;
+                    return Visited {
+                        poked: Poked::Idle,
+                        busy,
+                    };
                 }
             }
             Answer::Budget => {
                 gate.release(seat);
-                return Poked::Budget;
+                return Visited {
+                    poked: Poked::Budget,
+                    busy,
+                };
             }
             Answer::NoMemory => {
                 gate.release(seat);
-                return Poked::NoMemory;
+                return Visited {
+                    poked: Poked::NoMemory,
+                    busy,
+                };
             }
         }
     }
     gate.release(seat);
-    Poked::More
+    Visited {
+        poked: Poked::More,
+        busy,
+    }
+}
+
+/// Whether it made a move or took a signal.
+fn is_busy(served: Served) -> bool
+    ensures { result ≡ (nat_lt 0 served.moves || nat_lt 0 served.pops) }
+{
+    served.moves > 0 || served.pops > 0
 }
 
 impl<N: Nodes<Item = T>, T: Drop, O: Ops<Item = T>> Live<N, T, O> {

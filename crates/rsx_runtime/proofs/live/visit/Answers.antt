@@ -7,7 +7,7 @@ pub loop-round-preserved : goal.loop-round-preserved
 loop-round-preserved g c =
     let m = c.mark_held.ensures.marked.0 in
     let l = c.if-leave_held.ensures in
-    let view = round_view c.loop-round.seat.me.0 c.mark_held.new.seat.me.0 c.serve_held.new.seat.me.0 c.leave_held.new.seat.me.0 m.0 m.2.2 c.serve_held.ensures.0.steps l.0.0.2 in record {
+    let view = round_view c.loop-round.seat.me.0 c.mark_held.new.seat.me.0 c.serve_held-served.new.seat.me.0 c.leave_held.new.seat.me.0 m.0 m.2.2 c.serve_held-served.ensures.0.steps l.0.0.2 in record {
       parts = ap (λ (v : View _). v.parts) view ∙ c.loop-round.invariant.parts;
       steps = round_steps c.loop-round.round c.take.new.seat.me.0.steps c.loop-round.seat.me.0.steps c.leave_held.new.seat.me.0.steps m.0 m.1 c.loop-round.invariant.steps (ap (λ (v : View _). v.steps) view);
       holds = l.1;
