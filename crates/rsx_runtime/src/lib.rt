@@ -3,14 +3,20 @@
 //!
 //! [`Live`] has a gate for each region, and the links between the regions. A thread has a seat for each region that it works on, and
 //! pokes it by [`Live::poke`]: where no other thread works on the region, this one does what there is to do there, and else leaves a
-//! note for the one that does. No call waits.
+//! note for the one that does. By [`Live::enter`] it gets the pass of a region, with which it makes the same steps one by one
+//! ([`RegionPass`]).
+//!
+//! [`work`] is the loop of a worker: it pokes one region again and again, and rests where nothing is left to do. [`ParkRest`] rests on
+//! a parker, and a [`Rouser`] rouses and stops such workers from other threads. Only
+//! [`work`] and the rest of a [`ParkRest`] wait.
 //!
 //! A thread publishes at a hub by an [`Emitter`], and a subscriber requests, takes and cancels by a [`Tap`]; each is an end of a link
 //! of the graph.
 //!
 //! So far a live graph has pieces and no hubs, and nothing makes one of a graph: emitters and taps stand over any link.
 //!
-//! The definitions stand in `specs/`: `Poking` (what a poke does), `Emitting` and `Tapping` (what the calls of emitters and taps change),
+//! The definitions stand in `specs/`: `Poking` (what a poke does), `Passing` (what the calls of a pass change), `Resting` and `Tokens`
+//! (parkers with their tokens, and who is roused), `Emitting` and `Tapping` (what the calls of emitters and taps change),
 //! `Standing` (how a tap stands) and `Ordered` (nothing follows an ending).
 
 pub mod emitter;
@@ -24,7 +30,7 @@ pub mod worker;
 
 pub use emitter::{Emitter, NotEnded};
 pub use live::{Live, Poked, RegionGate, RegionSeat};
-pub use park::{Bell, ParkRest, Rouser};
+pub use park::{ParkRest, Rouser};
 pub use pass::{RegionLeft, RegionPass};
 pub use rest::{Rest, Rested};
 pub use tap::{Canceller, Tap, Tapped};

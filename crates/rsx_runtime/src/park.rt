@@ -172,8 +172,6 @@ impl Rest for ParkRest {
     ghost use Rattle.rsx_runtime.specs.Resting.{AreRung, tokens_of};
     ghost use Rattle.rsx_runtime.specs.Tokens.{tokens};
 
-    ghost rests = { λ r. (tokens_of r).taken };
-
     /// It returns only with the token of the worker's parker taken.
     fn rest<R: Wait>(&mut self, rt: &R) -> Rested
         ensures taken { tokens_of self.new ≡ tokens (tokens_of self.old).rings (tokens_of self.old).given ((tokens_of self.old).taken + 1) }

@@ -1,7 +1,5 @@
 //! How a worker rests.
 
-ghost use Rattle.std.specs.Prelude.{◌≡◌, ◌+◌, ℕ};
-
 use std::sync::Wait;
 
 /// What comes after a rest.
@@ -15,14 +13,9 @@ pub enum Rested {
 
 /// How a worker rests between two pokes, and rouses others.
 pub trait Rest {
-    /// How often it has rested.
-    ghost rests: { Self → ℕ };
-
     /// Rests until someone rouses it, which may have been before, and says whether the worker goes on.
-    fn rest<R: Wait>(&mut self, rt: &R) -> Rested
-        ensures { rests self.new ≡ rests self.old + 1 };
+    fn rest<R: Wait>(&mut self, rt: &R) -> Rested;
 
     /// Rouses the workers whose bits are set: worker w by the bit of 2^w.
-    fn rouse(&mut self, mask: u16)
-        ensures { rests self.new ≡ rests self.old };
+    fn rouse(&mut self, mask: u16);
 }
