@@ -7,8 +7,7 @@
 //! ([`RegionPass`]).
 //!
 //! [`work`] is the loop of a worker: it pokes one region again and again, and rests where nothing is left to do. [`ParkRest`] rests on
-//! a parker, and a [`Rouser`] rouses and stops such workers from other threads. Only
-//! [`work`] and the rest of a [`ParkRest`] wait.
+//! a parker, and a [`Rouser`] rouses and stops such workers from other threads. Only `work` and the rest of a `ParkRest` wait.
 //!
 //! A thread publishes at a hub by an [`Emitter`], and a subscriber requests, takes and cancels by a [`Tap`]; each is an end of a link
 //! of the graph.

