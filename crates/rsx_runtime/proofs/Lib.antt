@@ -5,3 +5,4 @@ pub mod Parkers
 pub mod Rests
 pub mod Seats
 pub mod Signals
+pub mod Stops

@@ -5,5 +5,6 @@ pub mod Passing
 pub mod Poking
 pub mod Resting
 pub mod Standing
+pub mod Stopping
 pub mod Tapping
 pub mod Tokens

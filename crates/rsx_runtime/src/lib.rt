@@ -9,20 +9,23 @@
 //! [`work`] is the loop of a worker: it pokes one region again and again, and rests where nothing is left to do. [`ParkRest`] rests on
 //! a parker, and a [`Rouser`] rouses and stops such workers from other threads. Only `work` and the rest of a `ParkRest` wait.
 //!
+//! By [`Live::stop`] the gates end, and the regions come back.
+//!
 //! A thread publishes at a hub by an [`Emitter`], and a subscriber requests, takes and cancels by a [`Tap`]; each is an end of a link
 //! of the graph.
 //!
 //! So far a live graph has pieces and no hubs, and nothing makes one of a graph: emitters and taps stand over any link.
 //!
 //! The definitions stand in `specs/`: `Poking` (what a poke does), `Passing` (what the calls of a pass change), `Resting` and `Tokens`
-//! (parkers with their tokens, and who is roused), `Emitting` and `Tapping` (what the calls of emitters and taps change),
-//! `Standing` (how a tap stands) and `Ordered` (nothing follows an ending).
+//! (parkers with their tokens, and who is roused), `Stopping` (the regions that come back), `Emitting` and `Tapping` (what the calls of
+//! emitters and taps change), `Standing` (how a tap stands) and `Ordered` (nothing follows an ending).
 
 pub mod emitter;
 pub mod live;
 pub mod park;
 pub mod pass;
 pub mod rest;
+pub mod stopping;
 pub mod tap;
 pub mod tokens;
 pub mod worker;
@@ -32,6 +35,7 @@ pub use live::{Live, Poked, RegionGate, RegionSeat};
 pub use park::{ParkRest, Rouser};
 pub use pass::{RegionLeft, RegionPass};
 pub use rest::{Rest, Rested};
+pub use stopping::Stopped;
 pub use tap::{Canceller, Tap, Tapped};
 pub use worker::work;
 

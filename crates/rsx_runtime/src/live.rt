@@ -50,9 +50,9 @@ pub(crate) struct Visited {
 /// A graph whose regions are worked on by several threads. It is shared by reference.
 #[derive(Drop)]
 pub struct Live<N: Nodes<Item = T>, T: Drop, O: Ops<Item = T>> {
-    gates: Vec<RegionGate<N, T, O>>,
-    links: Vec<Link<T>>,
-    ops: O,
+    pub(crate) gates: Vec<RegionGate<N, T, O>>,
+    pub(crate) links: Vec<Link<T>>,
+    pub(crate) ops: O,
     pub ghost opened: { Each (IsGateOf links.items ops) gates.items },
 }
 
