@@ -3,7 +3,7 @@ use Rattle.std.proofs.Common.{◌≡◌, ℕ, zero, suc, ◌+◌, true, false, L
 use mathlib.Core.Option.{some}
 use lib.ListN.{get_elem?}
 use Rattle.crossbeam_utils.specs.Register.{Admits, Turns, TurnsAt}
-use Rattle.rsx_runtime.specs.Tokens.{AreTaken, Rings, Takes, tokens, total}
+use Rattle.rsx_runtime.specs.Tokens.{AreTaken, Unparks, Takes, tokens, total}
 use Rattle.rsx_runtime.specs.declared.tokens.Tokens.{Tokens}
 
 total_new : (f : Tokens → ℕ) (vs : List Tokens) (w : Tokens) → total f (vs ++ w ∷ []) ≡ total f vs + f w
@@ -18,18 +18,18 @@ total_set f (x ∷ vs) (suc at) v w there = let rest = total_set f vs at v w the
 pub admits : Admits AreTaken (tokens 0 0 0)
 admits token views h = let g = total_new (λ v. v.given) views (tokens 0 0 0) in let t = total_new (λ v. v.taken) views (tokens 0 0 0) in omega (arith, g, t, h)
 
-pub rings : (id : ℕ) (v : Tokens) → Turns AreTaken id v (λ _. true) Rings
-rings id v true views h at =
-    let w = tokens (v.rings + 1) v.given v.taken in
+pub unparks : (id : ℕ) (v : Tokens) → Turns AreTaken id v (λ _. true) Unparks
+unparks id v true views h at =
+    let w = tokens (v.unparks + 1) v.given v.taken in
     let g = total_set (λ u. u.given) views id v w at in
     let t = total_set (λ u. u.taken) views id v w at in (w, omega (arith, g, t, h), refl)
-rings id v false views h at =
-    let w = tokens (v.rings + 1) (v.given + 1) v.taken in
+unparks id v false views h at =
+    let w = tokens (v.unparks + 1) (v.given + 1) v.taken in
     let g = total_set (λ u. u.given) views id v w at in
     let t = total_set (λ u. u.taken) views id v w at in (w, omega (arith, g, t, h), refl)
 
 pub takes : (id : ℕ) (v : Tokens) → TurnsAt AreTaken id v true false Takes
 takes id v views h at =
-    let w = tokens v.rings v.given (v.taken + 1) in
+    let w = tokens v.unparks v.given (v.taken + 1) in
     let g = total_set (λ u. u.given) views id v w at in
     let t = total_set (λ u. u.taken) views id v w at in (w, omega (arith, g, t, h), (refl, refl, refl))

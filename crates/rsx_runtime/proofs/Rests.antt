@@ -3,7 +3,7 @@ use Rattle.std.proofs.Common.{◌≡◌, ℕ, zero, suc, ◌+◌, List, [], ◌�
 use Rattle.rsx_runtime.specs.Resting.{AreAlike, AreRests, AreRestsOn, parker_in, parker_of}
 use Rattle.rsx_runtime.specs.Tokens.{tokens}
 use Rattle.crossbeam_utils.specs.Token.{parker_view}
-use Rattle.rsx_runtime.specs.declared.park.Bell.{Bell}
+use Rattle.rsx_runtime.specs.declared.park.WorkerUnparker.{WorkerUnparker}
 use Rattle.rsx_runtime.specs.declared.park.OwnParker.{OwnParker}
 use Rattle.rsx_runtime.specs.declared.park.ParkRest.{ParkRest}
 
@@ -21,12 +21,12 @@ length_pushed : {A : Type 0} (xs : List A) (x : A) → length (xs ++ x ∷ []) �
 length_pushed [] x = refl
 length_pushed (w ∷ xs) x = let k = length_pushed xs x in omega (arith, k)
 
-pub rests_pushed : (bells : List Bell) (own : List OwnParker) (rests : List ParkRest) (o : OwnParker) (r : ParkRest) → AreRestsOn bells own rests → r.own ≡ o → AreAlike bells r.rouser.bells.items → AreRestsOn bells (own ++ o ∷ []) (rests ++ r ∷ [])
-rests_pushed bells own rests o r h is alike =
+pub rests_pushed : (unparkers : List WorkerUnparker) (own : List OwnParker) (rests : List ParkRest) (o : OwnParker) (r : ParkRest) → AreRestsOn unparkers own rests → r.own ≡ o → AreAlike unparkers r.rouser.unparkers.items → AreRestsOn unparkers (own ++ o ∷ []) (rests ++ r ∷ [])
+rests_pushed unparkers own rests o r h is alike =
     let n = length_pushed own o in
     let m = length_pushed rests r in
     let s = h.count in
-    record { count = omega (arith, n, m, s); each = pushed_both (λ (x : OwnParker) (y : ParkRest). (y.own ≡ x) × AreAlike bells y.rouser.bells.items) own rests o r h.count h.each (is, alike) }
+    record { count = omega (arith, n, m, s); each = pushed_both (λ (x : OwnParker) (y : ParkRest). (y.own ≡ x) × AreAlike unparkers y.rouser.unparkers.items) own rests o r h.count h.each (is, alike) }
 
 pub moved_on : {A : Type 0} (xs rest left all : List A) (x : A) → rest ≡ x ∷ left → xs ++ rest ≡ all → (xs ++ x ∷ []) ++ left ≡ all
 moved_on [] rest left all x e h = sym e ∙ h
@@ -40,27 +40,27 @@ there (u ∷ us) [] k y same e = cc
 there (u ∷ us) (v ∷ vs) zero y same e = (u, refl)
 there (u ∷ us) (v ∷ vs) (suc k) y same e = let less : length us ≡ length vs = omega (arith, same) in there us vs k y less e
 
--- so many workers' own parkers, which took no token yet, and a bell for each
-pub record AreOwn (count : ℕ) (bells : List Bell) (own : List OwnParker) : Type 0 where
+-- so many workers' own parkers, which took no token yet, and an unparker for each
+pub record AreOwn (count : ℕ) (unparkers : List WorkerUnparker) (own : List OwnParker) : Type 0 where
   pub workers : length own ≡ count
-  pub bells_too : length bells ≡ count
-  pub each : (k : ℕ) (b : Bell) (o : OwnParker) → slice_get bells k ≡ Some b → slice_get own k ≡ Some o → (parker_in o ≡ parker_of b) × (parker_view o.pass ≡ tokens 0 0 0)
+  pub unparkers_too : length unparkers ≡ count
+  pub each : (k : ℕ) (b : WorkerUnparker) (o : OwnParker) → slice_get unparkers k ≡ Some b → slice_get own k ≡ Some o → (parker_in o ≡ parker_of b) × (parker_view o.pass ≡ tokens 0 0 0)
 
-pub own_pushed : (count : ℕ) (bells : List Bell) (own : List OwnParker) (b : Bell) (o : OwnParker) → AreOwn count bells own → parker_in o ≡ parker_of b → parker_view o.pass ≡ tokens 0 0 0 → AreOwn (count + 1) (bells ++ b ∷ []) (own ++ o ∷ [])
-own_pushed count bells own b o h same fresh =
+pub own_pushed : (count : ℕ) (unparkers : List WorkerUnparker) (own : List OwnParker) (b : WorkerUnparker) (o : OwnParker) → AreOwn count unparkers own → parker_in o ≡ parker_of b → parker_view o.pass ≡ tokens 0 0 0 → AreOwn (count + 1) (unparkers ++ b ∷ []) (own ++ o ∷ [])
+own_pushed count unparkers own b o h same fresh =
     let n = length_pushed own o in
-    let m = length_pushed bells b in
+    let m = length_pushed unparkers b in
     let w = h.workers in
-    let t = h.bells_too in
-    let both : length own ≡ length bells = w ∙ sym t in
-    record { workers = omega (arith, n, w); bells_too = omega (arith, m, t); each = pushed_both (λ (x : Bell) (y : OwnParker). (parker_in y ≡ parker_of x) × (parker_view y.pass ≡ tokens 0 0 0)) bells own b o both h.each (same, fresh) }
+    let t = h.unparkers_too in
+    let both : length own ≡ length unparkers = w ∙ sym t in
+    record { workers = omega (arith, n, w); unparkers_too = omega (arith, m, t); each = pushed_both (λ (x : WorkerUnparker) (y : OwnParker). (parker_in y ≡ parker_of x) × (parker_view y.pass ≡ tokens 0 0 0)) unparkers own b o both h.each (same, fresh) }
 
-pub own_rests : (count : ℕ) (bells : List Bell) (own : List OwnParker) (rests : List ParkRest) → AreOwn count bells own → AreRestsOn bells own rests → AreRests count bells rests
-own_rests count bells own rests h on = record {
+pub own_rests : (count : ℕ) (unparkers : List WorkerUnparker) (own : List OwnParker) (rests : List ParkRest) → AreOwn count unparkers own → AreRestsOn unparkers own rests → AreRests count unparkers rests
+own_rests count unparkers own rests h on = record {
   workers = on.count ∙ h.workers;
-  bells_too = h.bells_too;
+  unparkers_too = h.unparkers_too;
   each = λ k b r e f. (
-      let o = there own bells k b (h.workers ∙ sym h.bells_too) e in
+      let o = there own unparkers k b (h.workers ∙ sym h.unparkers_too) e in
       let at = on.each k o.0 r o.1 f in
       let is = h.each k b o.0 e o.1 in
       (ap parker_in at.0 ∙ is.0, ap (λ (x : OwnParker). parker_view x.pass) at.0 ∙ is.1, at.1)

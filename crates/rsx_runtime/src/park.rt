@@ -5,7 +5,7 @@ ghost use Rattle.std.specs.Arc.{arc_value};
 ghost use Rattle.rsx_runtime.specs.declared.TheConstants.{MOST_WORKERS};
 
 use crate::rest::{Rest, Rested};
-use crate::tokens::{Ring, Take, TokenRule, Tokens};
+use crate::tokens::{Take, TokenRule, Tokens, Unpark};
 use crossbeam_utils::sync::parker::{Pass, RuledParker, RuledUnparker};
 use std::alloc::{AllocError, Global};
 use std::sync::atomic::{AtomicBool, Ordering};
@@ -13,61 +13,61 @@ use std::sync::{Arc, Wait};
 
 /// What rouses one worker: it gives the worker's parker its token, unless that is there already.
 #[derive(Drop)]
-pub struct Bell {
+pub struct WorkerUnparker {
     unparker: RuledUnparker<Tokens, TokenRule>,
     pass: Pass<Tokens>,
     ghost own: { pass.table_id ≡ (arc_value unparker.state).shared.table_id },
 }
 
-impl Bell {
+impl WorkerUnparker {
     ghost use Rattle.std.specs.Prelude.{◌+◌, IfOk};
-    ghost use Rattle.rsx_runtime.specs.Resting.{parker_of, rung};
+    ghost use Rattle.rsx_runtime.specs.Resting.{parker_of, unparked};
 
-    // A bell that has not been rung, for the parker of this unparker.
-    fn new(unparker: &RuledUnparker<Tokens, TokenRule>) -> Result<Bell, AllocError>
-        ensures { IfOk result (λ b. (parker_of b ≡ (arc_value unparker.now.state).shared.table_id) × (rung b ≡ 0)) }
+    // One that was not used yet, for the parker of this unparker.
+    fn new(unparker: &RuledUnparker<Tokens, TokenRule>) -> Result<WorkerUnparker, AllocError>
+        ensures { IfOk result (λ b. (parker_of b ≡ (arc_value unparker.now.state).shared.table_id) × (unparked b ≡ 0)) }
     {
         let unparker = unparker.clone()?;
         let pass = unparker.pass();
-        Ok(Bell { unparker, pass })
+        Ok(WorkerUnparker { unparker, pass })
     }
 
-    // Rings it once.
-    fn ring(&mut self)
-        ensures rung { rung self.new ≡ rung self.old + 1 }
+    // Gives the token once.
+    fn unpark(&mut self)
+        ensures unparked { unparked self.new ≡ unparked self.old + 1 }
         ensures same { parker_of self.new ≡ parker_of self.old }
     {
-        self.unparker.unpark_as::<Ring>(&mut self.pass);
+        self.unparker.unpark_as::<Unpark>(&mut self.pass);
     }
 }
 
 /// Rouses workers, and stops them. Each thread has one of its own.
 #[derive(Drop)]
 pub struct Rouser {
-    bells: Vec<Bell>,
+    unparkers: Vec<WorkerUnparker>,
     stopped: Arc<AtomicBool, Global>,
-    ghost few: { length bells.items ≤ MOST_WORKERS },
+    ghost few: { length unparkers.items ≤ MOST_WORKERS },
 }
 
 impl Rouser {
     ghost use Rattle.std.specs.Prelude.{IfOk};
-    ghost use Rattle.rsx_runtime.specs.Resting.{AreAlike, AreRung};
+    ghost use Rattle.rsx_runtime.specs.Resting.{AreAlike, AreUnparked};
 
     /// Rouses the workers whose bits are set: worker w by the bit of 2^w. Each of them ends its rest, or has none the next time. A bit
     /// of no worker rouses nobody.
     pub fn rouse(&mut self, mask: u16)
-        ensures { AreRung mask self.old.bells.items self.new.bells.items }
+        ensures { AreUnparked mask self.old.unparkers.items self.new.unparkers.items }
     {
-        for worker in 0..self.bells.len() {
+        for worker in 0..self.unparkers.len() {
             if (u64::from(mask) >> worker) % 2 == 1 {
-                self.bells[worker].ring();
+                self.unparkers[worker].unpark();
             }
         }
     }
 
     /// Rouses all workers, and each of them stops after its rest.
     pub fn stop(&mut self)
-        ensures { AreRung 65535 self.old.bells.items self.new.bells.items }
+        ensures { AreUnparked 65535 self.old.unparkers.items self.new.unparkers.items }
     {
         self.stopped.store(true, Ordering::SeqCst);
         self.rouse(u16::MAX);
@@ -78,14 +78,14 @@ impl Rouser {
     /// # Errors
     /// Where there was no memory for it.
     pub fn another(&self, alloc: Global) -> Result<Rouser, AllocError>
-        ensures { IfOk result (λ r. AreAlike self.now.bells.items r.bells.items) }
+        ensures { IfOk result (λ r. AreAlike self.now.unparkers.items r.unparkers.items) }
     {
-        let mut bells = Vec::new(alloc);
-        for worker in 0..self.bells.len() {
-            bells.push(Bell::new(&self.bells[worker].unparker)?)?;
+        let mut unparkers = Vec::new(alloc);
+        for worker in 0..self.unparkers.len() {
+            unparkers.push(WorkerUnparker::new(&self.unparkers[worker].unparker)?)?;
         }
         Ok(Rouser {
-            bells,
+            unparkers,
             stopped: Arc::try_clone(&self.stopped)?,
         })
     }
@@ -130,18 +130,18 @@ impl ParkRest {
     /// Where there was no memory for them.
     pub fn all(alloc: Global, workers: u8) -> Result<(Rouser, Vec<ParkRest>), AllocError>
         requires { workers ≤ MOST_WORKERS }
-        ensures { IfOk result (λ r. AreRests workers r.0.bells.items r.1.items) }
+        ensures { IfOk result (λ r. AreRests workers r.0.unparkers.items r.1.items) }
     {
         let mut parkers = Vec::new(alloc);
-        let mut bells = Vec::new(alloc);
+        let mut unparkers = Vec::new(alloc);
         for _ in 0..workers {
             let own = OwnParker::new(alloc)?;
-            let bell = Bell::new(own.parker.unparker())?;
-            bells.push(bell)?;
+            let unparker = WorkerUnparker::new(own.parker.unparker())?;
+            unparkers.push(unparker)?;
             parkers.push(own)?;
         }
         let rouser = Rouser {
-            bells,
+            unparkers,
             stopped: Arc::new(alloc, AtomicBool::new(false))?,
         };
         let rests = ParkRest::on(alloc, &rouser, parkers)?;
@@ -154,7 +154,7 @@ impl ParkRest {
         rouser: &Rouser,
         parkers: Vec<OwnParker>,
     ) -> Result<Vec<ParkRest>, AllocError>
-        ensures { IfOk result (λ r. AreRestsOn rouser.now.bells.items parkers.items r.items) }
+        ensures { IfOk result (λ r. AreRestsOn rouser.now.unparkers.items parkers.items r.items) }
     {
         let mut rests = Vec::new(alloc);
         for own in parkers {
@@ -169,12 +169,12 @@ impl ParkRest {
 
 impl Rest for ParkRest {
     ghost use Rattle.std.specs.Prelude.{◌+◌};
-    ghost use Rattle.rsx_runtime.specs.Resting.{AreRung, tokens_of};
+    ghost use Rattle.rsx_runtime.specs.Resting.{AreUnparked, tokens_of};
     ghost use Rattle.rsx_runtime.specs.Tokens.{tokens};
 
     /// It returns only with the token of the worker's parker taken.
     fn rest<R: Wait>(&mut self, rt: &R) -> Rested
-        ensures taken { tokens_of self.new ≡ tokens (tokens_of self.old).rings (tokens_of self.old).given ((tokens_of self.old).taken + 1) }
+        ensures taken { tokens_of self.new ≡ tokens (tokens_of self.old).unparks (tokens_of self.old).given ((tokens_of self.old).taken + 1) }
         ensures same { self.new.rouser ≡ self.old.rouser }
     {
         let own = &mut self.own;
@@ -187,7 +187,7 @@ impl Rest for ParkRest {
     }
 
     fn rouse(&mut self, mask: u16)
-        ensures rung { AreRung mask self.old.rouser.bells.items self.new.rouser.bells.items }
+        ensures unparked { AreUnparked mask self.old.rouser.unparkers.items self.new.rouser.unparkers.items }
         ensures same { self.new.own ≡ self.old.own }
     {
         self.rouser.rouse(mask);

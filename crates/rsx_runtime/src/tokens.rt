@@ -1,14 +1,14 @@
 //! What is known of a parker's token.
 
-ghost use Rattle.rsx_runtime.specs.Tokens.{AreTaken, Rings, Takes, tokens};
+ghost use Rattle.rsx_runtime.specs.Tokens.{AreTaken, Takes, Unparks, tokens};
 
 use crossbeam_utils::rule::{Outcome, Protocol};
 
 /// What a pass of a parker knows. No value of it is made.
 pub struct Tokens {
-    /// How often it rang.
-    pub rings: u64,
-    /// How often a ring gave a token, since none was there.
+    /// How often it unparked.
+    pub unparks: u64,
+    /// How often an unpark gave a token, since none was there.
     pub given: u64,
     /// How often it took the token.
     pub taken: u64,
@@ -23,11 +23,11 @@ impl Protocol<bool, Tokens> for TokenRule {
     ghost first = { tokens 0 0 0 };
 }
 
-/// What a ring tells.
-pub(crate) struct Ring;
+/// What an unpark tells.
+pub(crate) struct Unpark;
 
-impl Outcome<bool, Tokens> for Ring {
-    ghost then = { Rings };
+impl Outcome<bool, Tokens> for Unpark {
+    ghost then = { Unparks };
 }
 
 /// What a park tells.

@@ -7,8 +7,8 @@ use Rattle.rsx_runtime.proofs.park.ParkRest.on.Goals as goal
 pub loop-own-preserved : goal.loop-own-preserved
 loop-own-preserved c =
     let h = c.loop-own.invariant in
-    let bells = c.args.rouser.now.bells.items in
+    let unparkers = c.args.rouser.now.unparkers.items in
     let own = c.loop-own.yielded ++ c.in-Some.own ∷ [] in record {
       all = moved_on c.loop-own.yielded c.loop-own.own-iterator.rest.items c.next.new.self.rest.items c.args.parkers.items c.in-Some.own c.in-Some.ensures.steps.0 h.all;
-      rests = subst (λ rests. AreRestsOn bells own rests) (sym {A = List ParkRest} c.in_ok-push.ensures.items) (rests_pushed bells c.loop-own.yielded c.loop-own.rests.items c.in-Some.own _ h.rests refl c.in_ok-another.ensures);
+      rests = subst (λ rests. AreRestsOn unparkers own rests) (sym {A = List ParkRest} c.in_ok-push.ensures.items) (rests_pushed unparkers c.loop-own.yielded c.loop-own.rests.items c.in-Some.own _ h.rests refl c.in_ok-another.ensures);
     }

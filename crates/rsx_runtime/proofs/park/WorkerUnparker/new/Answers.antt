@@ -1,5 +1,5 @@
 use Rattle.rsx_runtime.proofs.Parkers.{admits}
-use Rattle.rsx_runtime.proofs.park.Bell.new.Goals as goal
+use Rattle.rsx_runtime.proofs.park.WorkerUnparker.new.Goals as goal
 
 pub pass-pass-requires : goal.pass-pass-requires
 pass-pass-requires c = admits
