@@ -14,8 +14,8 @@ use Rattle.rsx_combining.specs.Inputs.{or_nothing, left, lefts, is_item, ending_
 use Rattle.rsx_combining.specs.Zip.{ZipState, recorded_ending, behind_ending, zip_of, zip_comes_out, zip_waiting, zip_takes, zip_picks, zip_rows, zip_recorded, zip_ended, zip_done, IsZipCounted, zip_wanted, zip_popped, zip_step_allocates}
 
 -- what leaves it leaves the inputs as they are
-pub zip_popped_alike : {T : Type 0} (old : ZipState T) (s : Signal T) (new : ZipState T) → zip_popped old s new → StaysAlike (λ n. None) (λ a n. false) (λ a n. false) zip_step_allocates old new
-zip_popped_alike old s new h = (refl, λ a. (refl, refl, refl))
+pub zip_popped_alike : {T : Type 0} (old : ZipState T) (s : Signal T) (new : ZipState T) → zip_popped old s new → StaysAlike (λ n. None) (λ n. false) (λ a n. false) (λ a n. false) zip_step_allocates old new
+zip_popped_alike old s new h = (refl, (refl, λ a. (refl, refl, refl)))
 
 -- ---- what comes in no longer matters
 

@@ -164,6 +164,8 @@ impl<T: Drop> Machine for ZipNode<T> {
 
     ghost rooms = { λ n. false };
 
+    ghost crosses = { λ n. false };
+
     ghost pop_allocates = { λ a n. false };
 
     ghost signal_allocates = { λ a n. false };

@@ -35,6 +35,7 @@ either a b = record {
   popped = λ old s new. OfOneKind (λ x y. a.popped x s y) (λ x y. b.popped x s y) old new;
   reads = by_kind a.reads b.reads;
   rooms = by_kind a.rooms b.rooms;
+  crosses = by_kind a.crosses b.crosses;
   pop_allocates = λ m. by_kind (a.pop_allocates m) (b.pop_allocates m);
   signal_allocates = λ m. by_kind (a.signal_allocates m) (b.signal_allocates m);
   step_allocates = λ m. by_kind (a.step_allocates m) (b.step_allocates m);

@@ -21,7 +21,7 @@ impl<A: Machine, B: Machine<Item = A::Item>> Machine for EitherNode<A, B> {
     ghost use Rattle.rsx_sources.specs.Counts.{CountsIn, CountsStep};
     ghost use Rattle.rsx_sources.specs.Machine.{TakesIn, front_of};
     ghost use Rattle.rsx_sources.specs.Reading.{IsReadOn, takes_published};
-    ghost use Rattle.rsx_sources.specs.Steps.{AllocatesAlike, IsNotTaken, StaysAlike};
+    ghost use Rattle.rsx_sources.specs.Steps.{IsSameKind, IsNotTaken, StaysAlike};
     ghost use Rattle.rsx_either.specs.Either.{either, left_hungry, right_hungry};
     ghost use Rattle.rsx_either.specs.declared.either.EitherNode.{EitherNode};
     ghost use Rattle.rsx_either.specs.declared.either.EitherNode.TheVariants.{Left, Right};
@@ -57,6 +57,8 @@ impl<A: Machine, B: Machine<Item = A::Item>> Machine for EitherNode<A, B> {
     ghost reads = { (either A.Machine B.Machine).reads };
 
     ghost rooms = { (either A.Machine B.Machine).rooms };
+
+    ghost crosses = { (either A.Machine B.Machine).crosses };
 
     ghost pop_allocates = { (either A.Machine B.Machine).pop_allocates };
 
@@ -121,7 +123,7 @@ impl<A: Machine, B: Machine<Item = A::Item>> Machine for EitherNode<A, B> {
         ensures counts { OnOk result (CountsIn (either A.Machine B.Machine).counted (either A.Machine B.Machine).ended (either A.Machine B.Machine).done self.old input signal self.new) }
         ensures err { IfErr result (IsNotTaken ((either A.Machine B.Machine).takes self.old input (front_of signal)) signal) }
         ensures memory { (either A.Machine B.Machine).signal_allocates (O.allocates ops.now) self.old ≡ false → IfErr result (λ e. e ≡ NotTaken.Busy signal) }
-        ensures alike { StaysAlike (either A.Machine B.Machine).reads (either A.Machine B.Machine).pop_allocates (either A.Machine B.Machine).signal_allocates (either A.Machine B.Machine).step_allocates self.old self.new }
+        ensures alike { StaysAlike (either A.Machine B.Machine).reads (either A.Machine B.Machine).crosses (either A.Machine B.Machine).pop_allocates (either A.Machine B.Machine).signal_allocates (either A.Machine B.Machine).step_allocates self.old self.new }
         ensures same { OnErr result (self.new ≡ self.old) }
     {
         match self {
@@ -173,7 +175,7 @@ impl<A: Machine, B: Machine<Item = A::Item>> Machine for EitherNode<A, B> {
         ensures counts { OnOk result (CountsStep (either A.Machine B.Machine).counted (either A.Machine B.Machine).ended (either A.Machine B.Machine).done self.old self.new) }
         ensures refused { OnErr result (takes_published ((either A.Machine B.Machine).reads self.old) ((either A.Machine B.Machine).rooms self.old) signal ≡ false) }
         ensures err { IfErr result (λ s. s ≡ signal) }
-        ensures alike { AllocatesAlike (either A.Machine B.Machine).pop_allocates (either A.Machine B.Machine).signal_allocates (either A.Machine B.Machine).step_allocates self.old self.new }
+        ensures alike { IsSameKind (either A.Machine B.Machine).crosses (either A.Machine B.Machine).pop_allocates (either A.Machine B.Machine).signal_allocates (either A.Machine B.Machine).step_allocates self.old self.new }
         ensures same { OnErr result (self.new ≡ self.old) }
     {
         match self {

@@ -11,8 +11,6 @@ impl<A: Nodes, B: Nodes<Item = A::Item>> Nodes for EitherNode<A, B> {
 
     ghost route_by = { by_kind A.route_by B.route_by };
 
-    ghost crosses = { by_kind A.crosses B.crosses };
-
     ghost operator_of = { by_kind A.operator_of B.operator_of };
 
     fn route(&self, edge: &Edge) -> Route {

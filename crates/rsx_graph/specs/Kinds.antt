@@ -103,7 +103,7 @@ readers n part = Published.readers any_machine n part
 -- ---- of a subscription
 
 abbrev pub IsFresh : {T : Type 0} → (e : Expr T) (sub : Subscription T) → Type 0
-IsFresh e sub = SubBegun.IsFresh tree_nodes e sub
+IsFresh e sub = SubBegun.IsFresh any_machine e sub
 
 abbrev pub IsCancelled : {T : Type 0} → SubscriptionState → Subscription T → Subscription T → Type 0
 IsCancelled state old new = SubEdited.IsCancelled any_machine state old new
@@ -126,7 +126,7 @@ move_enabled_in m sub mv = SubStands.move_enabled_in any_machine tree_nodes m su
 -- ---- of rows
 
 abbrev pub IsSubscribed : {T : Type 0} → Expr T → List (Subscription T) → List (Subscription T) → Type 0
-IsSubscribed e subs subs' = RowsBegun.IsSubscribed tree_nodes e subs subs'
+IsSubscribed e subs subs' = RowsBegun.IsSubscribed any_machine e subs subs'
 
 abbrev pub has_room_at : {T : Type 0} → ℕ → Feed T → Bool
 has_room_at n feed = RowsFeeds.has_room_at any_machine n feed
@@ -280,7 +280,7 @@ IsServed m g h = MovesServed.IsServed any_machine m g h
 -- ---- of calls
 
 abbrev pub IsFedHubMade : {T : Type 0} → (k : HubKind) (c : ℕ) (e : Expr T) (hubs news : List (HubState T)) (feeds fed_by : List (Feed T)) → Type 0
-IsFedHubMade k c e hubs news feeds fed_by = CallsEdits.IsFedHubMade tree_nodes k c e hubs news feeds fed_by
+IsFedHubMade k c e hubs news feeds fed_by = CallsEdits.IsFedHubMade any_machine k c e hubs news feeds fed_by
 
 abbrev pub HasFeedNotes : {T : Type 0} → (g : Rows T) (h : ℕ) (ns : List Note) → Type 0
 HasFeedNotes g h ns = CallsLooks.HasFeedNotes any_machine g h ns

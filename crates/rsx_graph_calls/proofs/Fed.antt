@@ -1,6 +1,5 @@
 -- A hub with a feed comes behind the others, whose values stay.
 use Rattle.rsx_sources.specs.declared.machine.Machine.{Ghosts as Machine}
-use Rattle.rsx_rooted.specs.declared.nodes.Nodes.{Ghosts as Nodes}
 use Rattle.std.proofs.Common.{◌≡◌, ℕ, zero, suc, ◌+◌, nat_eq, if◌then◌else◌, List, [], ◌∷◌, ◌++◌, length, map, slice_get, Some, None, refl, ap, sym, ◌∙◌, subst, arith}
 use Rattle.rsx_graph_state.proofs.Named.{is_number, other_number}
 use Rattle.rsx_graph_state.specs.Prelude.{History, HubPast, Source, emitted, fed, rows_of, HubStands, HubsStand, Rows, SourceStands, StandsFor, feed_of, HubState, fresh_hub, join, with_members, FeedStands}
@@ -122,8 +121,8 @@ fed_made mc m k c e old pushed news feeds f h fine is j added named names stands
     let b = joined_behind k c e old.hubs pushed news fine is j in
     fed_behind mc m k c e old b.joined news feeds f h b.members b.behind added named names stands s
 
-pub fed_effect : {M T : Type 0} (kd : Nodes M T) (k : HubKind) (c : ℕ) (e : Expr T) (hubs pushed news : List (HubState T)) (fs feeds : List (Feed M)) (f : Feed M) → fault_of k c (length hubs) e ≡ None → pushed ≡ hubs ++ fresh_hub k c ∷ [] → HaveJoinedFrom 0 e pushed news → feeds ≡ fs ++ f ∷ [] → f.hub ≡ length hubs → IsPlaced kd.crosses e (differ 0 (region_of e)) f.part.tree → edge_view f.part.root ≡ begun_edge → edges f.part.tree ≡ fresh_edges e → IsFedHubMade kd k c e hubs news fs feeds
-fed_effect kd k c e hubs pushed news fs feeds f fine is j added named placed root below =
+pub fed_effect : {M T : Type 0} (mc : Machine M T) (k : HubKind) (c : ℕ) (e : Expr T) (hubs pushed news : List (HubState T)) (fs feeds : List (Feed M)) (f : Feed M) → fault_of k c (length hubs) e ≡ None → pushed ≡ hubs ++ fresh_hub k c ∷ [] → HaveJoinedFrom 0 e pushed news → feeds ≡ fs ++ f ∷ [] → f.hub ≡ length hubs → IsPlaced mc.crosses e (differ 0 (region_of e)) f.part.tree → edge_view f.part.root ≡ begun_edge → edges f.part.tree ≡ fresh_edges e → IsFedHubMade mc k c e hubs news fs feeds
+fed_effect mc k c e hubs pushed news fs feeds f fine is j added named placed root below =
     let b = joined_behind k c e hubs pushed news fine is j in
     record { joined = b.joined; feed = f; members = b.members; behind = b.behind; placed = placed; named = named; edges = ap (λ x. x ∷ edges f.part.tree) root ∙ ap (λ es. begun_edge ∷ es) below; added = added }
 

@@ -1,5 +1,5 @@
 -- The edits of a graph with feeds: what has happened by each, and why it is refused.
-use Rattle.rsx_rooted.specs.declared.nodes.Nodes.{Ghosts as Nodes}
+use Rattle.rsx_sources.specs.declared.machine.Machine.{Ghosts as Machine}
 use Rattle.std.specs.Prelude.{◌≡◌, ⊤, ◌⊎◌, ℕ, ◌<◌, ◌≤◌, true, false, if◌then◌else◌, List, [], ◌∷◌, ◌++◌, length, map, Option, Some, None}
 use Rattle.rsx_graph_state.specs.Prelude.{History, emitted, fed, HaveJoined, have_places, HubState, are_numbers, fresh_hub, join}
 use Rattle.rsx_graph_state.specs.Feeds.{begun_edge}
@@ -43,13 +43,13 @@ IsFedHubRefusal k c e hubs NoMemory = (fault_of k c (length hubs) e ≡ None) ×
 IsFedHubRefusal k c e hubs r = ⊥
 
 -- a hub with a feed stands behind the others, which the leaves of the feed joined, and the feed behind the other feeds
-pub record IsFedHubMade {M T : Type 0} (kd : Nodes M T) (k : HubKind) (c : ℕ) (e : Expr T) (hubs news : List (HubState T)) (feeds fed_by : List (Feed M)) : Type 0 where
+pub record IsFedHubMade {M T : Type 0} (mc : Machine M T) (k : HubKind) (c : ℕ) (e : Expr T) (hubs news : List (HubState T)) (feeds fed_by : List (Feed M)) : Type 0 where
   pub joined : List (HubState T)
   pub feed : Feed M
   pub members : HaveJoined e hubs joined
   pub behind : news ≡ joined ++ fresh_hub k c ∷ []
   -- the edges of the feed have a queue just where they join two regions; a hub is in region 0
-  pub placed : IsPlaced kd.crosses e (differ 0 (region_of e)) feed.part.tree
+  pub placed : IsPlaced mc.crosses e (differ 0 (region_of e)) feed.part.tree
   pub named : feed.hub ≡ length hubs
   -- as much as can be was asked over its root edge, over which nothing was sent; nothing was asked and nothing sent over the edges
   -- below, and what a node that has put out its ending closes is closed

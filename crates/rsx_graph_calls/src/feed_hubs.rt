@@ -107,7 +107,7 @@ pub fn feed_hub<N: Nodes<Item = T> + Drop, T: Drop>(
         StandsFor N.Machine m (rows_of hubs.new.items feeds.new.items subscriptions) (with_fed_hub kind expr.now h)) }
     ensures effect { OnOk result ((m : Meaning T) → IsBuilt N.Machine m hubs.old.items expr.now tree →
         IsPlaced N.crosses expr.now (differ 0 (region_of expr.now)) tree →
-        IsFedHubMade N.Nodes.own kind capacity expr.now hubs.old.items hubs.new.items feeds.old.items feeds.new.items) }
+        IsFedHubMade N.Machine kind capacity expr.now hubs.old.items hubs.new.items feeds.old.items feeds.new.items) }
     ensures missed { OnOk result (map (λ v. v.items) joins.new.items ≡ map (λ v. v.items) joins.old.items ++ new_joins hubs.old.items expr.now ∷ []) }
 
     // The joins that are kept go on being those of the history.

@@ -92,7 +92,7 @@ pub fn subscribe<N: Nodes<Item = T> + Drop, T: Drop>(
         StandsFor N.Machine m (rows_of hubs.old.items feeds subscriptions.old.items) h →
         StandsFor N.Machine m (rows_of hubs.new.items feeds subscriptions.new.items) (with_subscriber expr.now h)) }
     ensures effect { OnOk result ((m : Meaning T) → IsBuilt N.Machine m hubs.old.items expr.now tree →
-        IsPlaced N.crosses expr.now false tree → IsSubscribed N.Nodes.own expr.now subscriptions.old.items subscriptions.new.items) }
+        IsPlaced N.crosses expr.now false tree → IsSubscribed N.Machine expr.now subscriptions.old.items subscriptions.new.items) }
     ensures joined { OnOk result (HaveJoined expr.now hubs.old.items hubs.new.items) }
     ensures missed { OnOk result (map (λ v. v.items) joins.new.items ≡ map (λ v. v.items) joins.old.items ++ new_joins hubs.old.items expr.now ∷ []) }
 
@@ -149,7 +149,7 @@ fn prepare<N: Nodes<Item = T> + Drop, T: Drop>(
         refusal (length hubs) e ≡ None → IsBuilt N.Machine m hubs e tree → AreTaken hubs published →
         Stands N.Machine m published p.subscription (subscribed e (new_joins hubs e))) }
     ensures fresh { IfOk result (λ p. (m : Meaning T) (hubs : List (HubState T)) (e : ExprOf T) →
-        IsBuilt N.Machine m hubs e tree → IsPlaced N.crosses e false tree → IsFresh N.Nodes.own e p.subscription) }
+        IsBuilt N.Machine m hubs e tree → IsPlaced N.crosses e false tree → IsFresh N.Machine e p.subscription) }
     ensures missed { IfOk result (λ p. p.joins.items ≡ new_joins hubs.now.items expr.now) }
     ensures senders { IfOk result (λ p. p.senders.items ≡ senders_below expr.now) }
 {

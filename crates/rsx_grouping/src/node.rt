@@ -266,6 +266,8 @@ impl<T: Drop> Machine for GroupByNode<T> {
 
     ghost rooms = { λ n. false };
 
+    ghost crosses = { λ n. false };
+
     ghost pop_allocates = { λ a n. false };
 
     ghost signal_allocates = { λ a n. true };
@@ -488,7 +490,7 @@ impl<T: Drop> Machine for GroupByNode<T> {
 
     ghost shows = { λ m n. refl };
 
-    ghost popped_alike = { λ old s new h. (refl, λ a. (refl, refl, refl)) };
+    ghost popped_alike = { λ old s new h. (refl, (refl, λ a. (refl, refl, refl))) };
 
     ghost drops = { group_drops };
 

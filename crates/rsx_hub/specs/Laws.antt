@@ -22,8 +22,8 @@ reads_stay old Complete new h = ap leaf_reads h
 reads_stay old (Error c) new h = ap leaf_reads h
 
 -- what leaves it leaves how far it got as it is
-pub leaf_popped_alike : {T : Type 0} (old : LeafState T) (s : Signal T) (new : LeafState T) → leaf_popped old s new → StaysAlike leaf_reads (λ a n. false) (λ a n. false) (λ a n. false) old new
-leaf_popped_alike old s new h = (reads_stay old s new h, λ a. (refl, refl, refl))
+pub leaf_popped_alike : {T : Type 0} (old : LeafState T) (s : Signal T) (new : LeafState T) → leaf_popped old s new → StaysAlike leaf_reads (λ n. false) (λ a n. false) (λ a n. false) (λ a n. false) old new
+leaf_popped_alike old s new h = (reads_stay old s new h, (refl, λ a. (refl, refl, refl)))
 
 -- once it offers the hub's ending, what is published doesn't matter
 ends_in : {T : Type 0} (q : List T) (e : Ending) (s : Signal T) (v w : Stream T) → first_waiting q e false ≡ Some s → ends_input s ≡ true → items_then q (behind false e v) ≡ items_then q (behind false e w)

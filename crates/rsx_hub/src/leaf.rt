@@ -139,6 +139,8 @@ impl<T: Drop> Machine for HubLeaf<T> {
 
     ghost rooms = { leaf_rooms };
 
+    ghost crosses = { λ n. false };
+
     ghost pop_allocates = { λ a n. false };
 
     ghost signal_allocates = { λ a n. false };

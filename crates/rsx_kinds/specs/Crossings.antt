@@ -2,18 +2,12 @@
 use Rattle.std.specs.Prelude.{◌≡◌, ℕ, Bool, true, false, List, map, None}
 use Rattle.rsx_model.specs.declared.expr.Expr.{Expr}
 use Rattle.rsx_model.specs.Region.{region_from, region_of}
-use Rattle.rsx_queued.specs.declared.sender.Sender.{Sender}
-use Rattle.rsx_queued.specs.declared.sender.Sender.TheVariants.{Direct, Crossing}
 use Rattle.rsx_kinds.specs.Any.{TreeNode}
 use Rattle.rsx_tree.specs.declared.inputs.Inputs.{Inputs, End}
 use Rattle.rsx_tree.specs.declared.node.Node.{Node}
 use Rattle.rsx_rooted.specs.Crossings as OfAny
+pub use Rattle.rsx_queued.specs.Sender.{is_crossing}
 pub use Rattle.rsx_rooted.specs.Crossings.{Placed, differ, fresh_crossings, opposite, placed, placed_beside, placed_here, placed_in}
-
--- whether a node has the queue of its edge
-abbrev pub is_crossing : {M T : Type 0} → Sender M T → Bool
-is_crossing (Direct n) = false
-is_crossing (Crossing n) = true
 
 -- whether each node of a row has, in pre-order
 abbrev pub crossings : {T : Type 0} → Inputs (TreeNode T) → List Bool

@@ -24,14 +24,14 @@ any_shows m (FlatMap n) = refl
 any_shows m (GroupBy n) = refl
 
 -- what may allocate stays as a signal is taken out, and so does how far it got in its hub
-pub any_popped_alike : {T : Type 0} (old : AnyNode T) (s : Signal T) (new : AnyNode T) → any_popped old s new → StaysAlike any_reads any_pop_allocates any_signal_allocates any_step_allocates old new
-any_popped_alike (Source n) s (Source k) h = let stays = source_popped_alike n s k h in (stays.0, λ a. ((stays.1 a).0, refl, refl))
+pub any_popped_alike : {T : Type 0} (old : AnyNode T) (s : Signal T) (new : AnyNode T) → any_popped old s new → StaysAlike any_reads (λ n. false) any_pop_allocates any_signal_allocates any_step_allocates old new
+any_popped_alike (Source n) s (Source k) h = let stays = source_popped_alike n s k h in (stays.0, (refl, λ a. ((stays.1.1 a).0, refl, refl)))
 any_popped_alike (Plain n) s (Plain k) h = plain_popped_alike n s k h
 any_popped_alike (Several n) s (Several k) h = several_popped_alike n s k h
-any_popped_alike (PublishOn n) s (PublishOn k) h = (refl, λ a. (refl, refl, refl))
-any_popped_alike (Window n) s (Window k) h = (refl, λ a. (refl, refl, refl))
-any_popped_alike (FlatMap n) s (FlatMap k) h = (refl, λ a. (refl, refl, refl))
-any_popped_alike (GroupBy n) s (GroupBy k) h = (refl, λ a. (refl, refl, refl))
+any_popped_alike (PublishOn n) s (PublishOn k) h = (refl, (refl, λ a. (refl, refl, refl)))
+any_popped_alike (Window n) s (Window k) h = (refl, (refl, λ a. (refl, refl, refl)))
+any_popped_alike (FlatMap n) s (FlatMap k) h = (refl, (refl, λ a. (refl, refl, refl)))
+any_popped_alike (GroupBy n) s (GroupBy k) h = (refl, (refl, λ a. (refl, refl, refl)))
 any_popped_alike n s k h = absurd h
 
 -- what comes in no longer matters once it has ended

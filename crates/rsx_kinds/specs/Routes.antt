@@ -18,4 +18,4 @@ route_by (Crossing q) state asked sent = Queued (is_live state && can_transfer k
 
 -- how the nodes of a tree join, which of their edges cross, and which operators they are
 abbrev pub tree_nodes : {T : Type 0} → Nodes (TreeNode T) T
-tree_nodes = record { route_by = route_by; crosses = is_crossing; operator_of = operator_of }
+tree_nodes = record { route_by = route_by; operator_of = operator_of }

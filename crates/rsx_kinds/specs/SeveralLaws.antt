@@ -18,13 +18,13 @@ several_shows m (Zip n) = refl
 several_shows m (Latest n) = refl
 
 -- what may allocate stays as a signal is taken out
-pub several_popped_alike : {T : Type 0} (old : SeveralNode T) (s : Signal T) (new : SeveralNode T) → several_popped old s new → StaysAlike (λ n. None) (λ a n. false) (λ a n. false) several_step_allocates old new
-several_popped_alike (Concat n) s (Concat k) h = (refl, λ a. (refl, refl, refl))
+pub several_popped_alike : {T : Type 0} (old : SeveralNode T) (s : Signal T) (new : SeveralNode T) → several_popped old s new → StaysAlike (λ n. None) (λ n. false) (λ a n. false) (λ a n. false) several_step_allocates old new
+several_popped_alike (Concat n) s (Concat k) h = (refl, (refl, λ a. (refl, refl, refl)))
 several_popped_alike (Concat n) s (Merge k) h = absurd h
 several_popped_alike (Concat n) s (Zip k) h = absurd h
 several_popped_alike (Concat n) s (Latest k) h = absurd h
 several_popped_alike (Merge n) s (Concat k) h = absurd h
-several_popped_alike (Merge n) s (Merge k) h = (refl, λ a. (refl, refl, refl))
+several_popped_alike (Merge n) s (Merge k) h = (refl, (refl, λ a. (refl, refl, refl)))
 several_popped_alike (Merge n) s (Zip k) h = absurd h
 several_popped_alike (Merge n) s (Latest k) h = absurd h
 several_popped_alike (Zip n) s (Concat k) h = absurd h
@@ -34,7 +34,7 @@ several_popped_alike (Zip n) s (Latest k) h = absurd h
 several_popped_alike (Latest n) s (Concat k) h = absurd h
 several_popped_alike (Latest n) s (Merge k) h = absurd h
 several_popped_alike (Latest n) s (Zip k) h = absurd h
-several_popped_alike (Latest n) s (Latest k) h = (refl, λ a. (refl, refl, refl))
+several_popped_alike (Latest n) s (Latest k) h = (refl, (refl, λ a. (refl, refl, refl)))
 
 -- what comes in no longer matters once it has ended
 pub several_drops : {T : Type 0} (m : Meaning T) (n : SeveralNode T) (inc other : Incoming T) (further : Note) → several_ended n ≡ true → several_comes_out m n inc further ≡ several_comes_out m n other further

@@ -14,12 +14,12 @@ source_shows m (Range n) = range_shows m n
 source_shows m (Hub n) = leaf_shows m n
 
 -- what may allocate stays as a signal is taken out, and so does how far it got in its hub
-pub source_popped_alike : {T : Type 0} (old : SourceNode T) (s : Signal T) (new : SourceNode T) → source_popped old s new → StaysAlike source_reads source_pop_allocates (λ a n. false) (λ a n. false) old new
-source_popped_alike (Items n) s (Items k) h = (refl, λ a. (refl, refl, refl))
+pub source_popped_alike : {T : Type 0} (old : SourceNode T) (s : Signal T) (new : SourceNode T) → source_popped old s new → StaysAlike source_reads (λ n. false) source_pop_allocates (λ a n. false) (λ a n. false) old new
+source_popped_alike (Items n) s (Items k) h = (refl, (refl, λ a. (refl, refl, refl)))
 source_popped_alike (Items n) s (Range k) h = absurd h
 source_popped_alike (Items n) s (Hub k) h = absurd h
 source_popped_alike (Range n) s (Items k) h = absurd h
-source_popped_alike (Range n) s (Range k) h = (refl, λ a. (refl, refl, refl))
+source_popped_alike (Range n) s (Range k) h = (refl, (refl, λ a. (refl, refl, refl)))
 source_popped_alike (Range n) s (Hub k) h = absurd h
 source_popped_alike (Hub n) s (Items k) h = absurd h
 source_popped_alike (Hub n) s (Range k) h = absurd h

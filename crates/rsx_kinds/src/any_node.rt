@@ -39,7 +39,7 @@ impl<T: Drop> Machine for AnyNode<T> {
     ghost use Rattle.rsx_sources.specs.Counts.{CountsIn, CountsOut, CountsStep};
     ghost use Rattle.rsx_sources.specs.Machine.{TakesIn, front_of};
     ghost use Rattle.rsx_sources.specs.Reading.{IsReadOn, IsResidualOf, takes_published};
-    ghost use Rattle.rsx_sources.specs.Steps.{IsPopped, IsNotTaken, AllocatesAlike, StaysAlike};
+    ghost use Rattle.rsx_sources.specs.Steps.{IsPopped, IsNotTaken, IsSameKind, StaysAlike};
     ghost use Rattle.rsx_kinds.specs.Any.{any_comes_out, any_waiting, any_shown, any_takes, any_picks, any_rows, any_rowed, any_recording, any_recorded, any_ended, any_done, any_counted, any_wanted, any_popped, any_reads, any_rooms, any_pop_allocates, any_signal_allocates, any_step_allocates};
     ghost use Rattle.rsx_kinds.specs.Laws.{any_shows, any_drops, any_ends, any_ends_reading, any_done_drops, any_settles, any_ending_waits, any_hungry, any_popped_alike};
     ghost use Rattle.rsx_kinds.specs.declared.any_node.AnyNode.{AnyNode};
@@ -76,6 +76,8 @@ impl<T: Drop> Machine for AnyNode<T> {
 
     ghost rooms = { any_rooms };
 
+    ghost crosses = { λ n. false };
+
     ghost pop_allocates = { any_pop_allocates };
 
     ghost signal_allocates = { any_signal_allocates };
@@ -107,7 +109,7 @@ impl<T: Drop> Machine for AnyNode<T> {
         ensures counts { IfOk result (λ s. CountsOut any_counted any_ended any_done self.old s self.new) }
         ensures err { OnErr result (self.new ≡ self.old) }
         ensures memory { any_pop_allocates (O.allocates ops.now) self.old ≡ false → IsOk result }
-        ensures alike { StaysAlike any_reads any_pop_allocates any_signal_allocates any_step_allocates self.old self.new }
+        ensures alike { StaysAlike any_reads (λ n. false) any_pop_allocates any_signal_allocates any_step_allocates self.old self.new }
     {
         match self {
             AnyNode::Source(node) => node.pop_front(alloc, ops),
@@ -174,7 +176,7 @@ impl<T: Drop> Machine for AnyNode<T> {
         ensures counts { OnOk result (CountsIn any_counted any_ended any_done self.old input signal self.new) }
         ensures err { IfErr result (IsNotTaken (any_takes self.old input (front_of signal)) signal) }
         ensures memory { any_signal_allocates (O.allocates ops.now) self.old ≡ false → IfErr result (λ e. e ≡ NotTaken.Busy signal) }
-        ensures alike { StaysAlike any_reads any_pop_allocates any_signal_allocates any_step_allocates self.old self.new }
+        ensures alike { StaysAlike any_reads (λ n. false) any_pop_allocates any_signal_allocates any_step_allocates self.old self.new }
         ensures same { OnErr result (self.new ≡ self.old) }
     {
         match self {
@@ -245,7 +247,7 @@ impl<T: Drop> Machine for AnyNode<T> {
         ensures counts { OnOk result (CountsStep any_counted any_ended any_done self.old self.new) }
         ensures refused { OnErr result (takes_published (any_reads self.old) (any_rooms self.old) signal ≡ false) }
         ensures err { IfErr result (λ s. s ≡ signal) }
-        ensures alike { AllocatesAlike any_pop_allocates any_signal_allocates any_step_allocates self.old self.new }
+        ensures alike { IsSameKind (λ n. false) any_pop_allocates any_signal_allocates any_step_allocates self.old self.new }
         ensures same { OnErr result (self.new ≡ self.old) }
     {
         match self {

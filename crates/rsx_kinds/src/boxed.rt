@@ -63,7 +63,7 @@ impl<N: Machine> Machine for Boxed<N> {
     ghost use Rattle.rsx_sources.specs.Counts.{CountsIn, CountsStep};
     ghost use Rattle.rsx_sources.specs.Machine.{TakesIn, front_of};
     ghost use Rattle.rsx_sources.specs.Reading.{IsReadOn, takes_published};
-    ghost use Rattle.rsx_sources.specs.Steps.{AllocatesAlike, IsNotTaken, StaysAlike};
+    ghost use Rattle.rsx_sources.specs.Steps.{IsSameKind, IsNotTaken, StaysAlike};
 
     ghost comes_out = { N.comes_out };
 
@@ -96,6 +96,8 @@ impl<N: Machine> Machine for Boxed<N> {
     ghost reads = { N.reads };
 
     ghost rooms = { N.rooms };
+
+    ghost crosses = { N.crosses };
 
     ghost pop_allocates = { N.pop_allocates };
 
@@ -147,7 +149,7 @@ impl<N: Machine> Machine for Boxed<N> {
         ensures counts { OnOk result (CountsIn N.counted N.ended N.done self.old input signal self.new) }
         ensures err { IfErr result (IsNotTaken (N.takes self.old input (front_of signal)) signal) }
         ensures memory { N.signal_allocates (O.allocates ops.now) self.old ≡ false → IfErr result (λ e. e ≡ NotTaken.Busy signal) }
-        ensures alike { StaysAlike N.reads N.pop_allocates N.signal_allocates N.step_allocates self.old self.new }
+        ensures alike { StaysAlike N.reads N.crosses N.pop_allocates N.signal_allocates N.step_allocates self.old self.new }
         ensures same { OnErr result (self.new ≡ self.old) }
     {
         self.node.on_signal(alloc, ops, input, signal)
@@ -188,7 +190,7 @@ impl<N: Machine> Machine for Boxed<N> {
         ensures counts { OnOk result (CountsStep N.counted N.ended N.done self.old self.new) }
         ensures refused { OnErr result (takes_published (N.reads self.old) (N.rooms self.old) signal ≡ false) }
         ensures err { IfErr result (λ s. s ≡ signal) }
-        ensures alike { AllocatesAlike N.pop_allocates N.signal_allocates N.step_allocates self.old self.new }
+        ensures alike { IsSameKind N.crosses N.pop_allocates N.signal_allocates N.step_allocates self.old self.new }
         ensures same { OnErr result (self.new ≡ self.old) }
     {
         self.node.on_published(signal)

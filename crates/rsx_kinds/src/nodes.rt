@@ -17,8 +17,6 @@ impl<T: Drop> Nodes for TreeNode<T> {
 
     ghost route_by = { route_by };
 
-    ghost crosses = { is_crossing };
-
     ghost operator_of = { operator_of };
 
     fn route(&self, edge: &Edge) -> Route {

@@ -104,6 +104,8 @@ impl<T: Drop> Machine for SeveralNode<T> {
 
     ghost rooms = { λ n. false };
 
+    ghost crosses = { λ n. false };
+
     ghost pop_allocates = { λ a n. false };
 
     ghost signal_allocates = { λ a n. false };
@@ -179,7 +181,7 @@ impl<T: Drop> Machine for SeveralNode<T> {
         ensures counts { OnOk result (CountsIn several_counted several_ended several_done self.old input signal self.new) }
         ensures err { IfErr result (IsNotTaken (several_takes self.old input (front_of signal)) signal) }
         ensures memory { IfErr result (λ e. e ≡ NotTaken.Busy signal) }
-        ensures alike { StaysAlike (λ n. None) (λ a n. false) (λ a n. false) several_step_allocates self.old self.new }
+        ensures alike { StaysAlike (λ n. None) (λ n. false) (λ a n. false) (λ a n. false) several_step_allocates self.old self.new }
         ensures same { OnErr result (self.new ≡ self.old) }
     {
         match self {

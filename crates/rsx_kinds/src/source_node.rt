@@ -26,7 +26,7 @@ impl<T: Drop> Machine for SourceNode<T> {
     ghost use Rattle.rsx_sources.specs.Counts.{CountsOut, CountsStep};
     ghost use Rattle.rsx_sources.specs.Machine.{TakesIn};
     ghost use Rattle.rsx_sources.specs.Reading.{IsReadOn, IsResidualOf, takes_published};
-    ghost use Rattle.rsx_sources.specs.Steps.{IsPopped, IsNotTaken, AllocatesAlike, StaysAlike};
+    ghost use Rattle.rsx_sources.specs.Steps.{IsPopped, IsNotTaken, IsSameKind, StaysAlike};
     ghost use Rattle.rsx_kinds.specs.Source.{source_comes_out, source_waiting, source_shown, source_popped, source_counted, source_reads, source_rooms, source_pop_allocates};
     ghost use Rattle.rsx_kinds.specs.SourceLaws.{source_shows, source_popped_alike, source_ends, source_ends_reading, source_settles, source_hungry};
     ghost use Rattle.rsx_kinds.specs.declared.source_node.SourceNode.{SourceNode};
@@ -64,6 +64,8 @@ impl<T: Drop> Machine for SourceNode<T> {
 
     ghost rooms = { source_rooms };
 
+    ghost crosses = { λ n. false };
+
     ghost pop_allocates = { source_pop_allocates };
 
     ghost signal_allocates = { λ a n. false };
@@ -90,7 +92,7 @@ impl<T: Drop> Machine for SourceNode<T> {
         ensures counts { IfOk result (λ s. CountsOut source_counted (λ n. false) (λ n i. false) self.old s self.new) }
         ensures err { OnErr result (self.new ≡ self.old) }
         ensures memory { source_pop_allocates (O.allocates ops.now) self.old ≡ false → IsOk result }
-        ensures alike { StaysAlike source_reads source_pop_allocates (λ a n. false) (λ a n. false) self.old self.new }
+        ensures alike { StaysAlike source_reads (λ n. false) source_pop_allocates (λ a n. false) (λ a n. false) self.old self.new }
     {
         match self {
             SourceNode::Items(node) => node.pop_front(alloc, ops),
@@ -168,7 +170,7 @@ impl<T: Drop> Machine for SourceNode<T> {
         ensures counts { OnOk result (CountsStep source_counted (λ n. false) (λ n i. false) self.old self.new) }
         ensures refused { OnErr result (takes_published (source_reads self.old) (source_rooms self.old) signal ≡ false) }
         ensures err { IfErr result (λ s. s ≡ signal) }
-        ensures alike { AllocatesAlike source_pop_allocates (λ a n. false) (λ a n. false) self.old self.new }
+        ensures alike { IsSameKind (λ n. false) source_pop_allocates (λ a n. false) (λ a n. false) self.old self.new }
         ensures same { OnErr result (self.new ≡ self.old) }
     {
         match self {

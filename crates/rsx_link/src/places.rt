@@ -238,7 +238,7 @@ impl<T, P> Places<T, P> {
         (Places { table }, collector, first)
     }
 
-    /// The same at one place.
+    /// Looks at one place, where it was not collected from.
     fn collect_at(&self, collector: &mut Collector<T, P>, at: usize) -> Option<P>
         requires collector { IsCollectorOf self.now collector.old }
         requires within { at < places_in self.now }

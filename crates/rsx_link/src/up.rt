@@ -44,7 +44,7 @@ pub struct Up<T> {
 }
 
 impl<T> Up<T> {
-    ghost use Rattle.std.specs.Prelude.{◌<◌, ◌-◌, [], ◌∷◌, ◌++◌, OnOk, IfErr, IsOk, IsTrue, ◌↔◌};
+    ghost use Rattle.std.specs.Prelude.{◌<◌, ◌+◌, ◌-◌, [], ◌∷◌, ◌++◌, OnOk, IfErr, IsOk, IsTrue, ◌↔◌};
     ghost use Rattle.rsx_link.specs.Ends.{IsUpOf, up_steps, sent_signals, free_slots, items_sent, seen_total, MaySend, Looks, SameUp, HasSentNothing, ComesBack};
 
     /// Reads the total that was asked for, and then the flags, each by one load.
@@ -86,7 +86,7 @@ impl<T> Up<T> {
     /// Puts a signal into the queue, behind all that were sent before.
     ///
     /// The caller sees to it that an item is sent only while [`Up::room`] is not 0 (rule 1.1). An ending needs no
-    /// demand.
+    /// demand. It takes one place of those that the end knows to be free.
     ///
     /// # Errors
     ///
@@ -98,6 +98,7 @@ impl<T> Up<T> {
         ensures ok { OnOk result (sent_signals self.new ≡ sent_signals self.old ++ signal ∷ []) }
         ensures full { IfErr result (λ back. ComesBack self.old self.new signal back) }
         ensures succeeds { 0 < free_slots self.old → IsOk result }
+        ensures room { OnOk result (free_slots self.old ≤ free_slots self.new + 1) }
     {
         let _ = link;
         let is_item = is_item(&signal);

@@ -106,6 +106,8 @@ impl<T: Drop> Machine for PublishOnNode<T> {
 
     ghost rooms = { λ n. false };
 
+    ghost crosses = { λ n. false };
+
     ghost pop_allocates = { λ a n. false };
 
     ghost signal_allocates = { λ a n. false };
@@ -294,7 +296,7 @@ impl<T: Drop> Machine for PublishOnNode<T> {
 
     ghost shows = { λ m n. refl };
 
-    ghost popped_alike = { λ old s new h. (refl, λ a. (refl, refl, refl)) };
+    ghost popped_alike = { λ old s new h. (refl, (refl, λ a. (refl, refl, refl))) };
 
     ghost drops = { publish_drops };
 

@@ -6,7 +6,6 @@ use Rattle.std.proofs.lemmas.List.{append-nil, length-append}
 use Rattle.rsx_sources.specs.Prelude.{Next, Reading, Signal, Stream, reads_hub}
 use Rattle.rsx_sources.specs.declared.machine.Machine.{Ghosts as Machine}
 use Rattle.rsx_rooted.specs.declared.nodes.CrossingNodes.{Ghosts as CrossingNodes}
-use Rattle.rsx_rooted.specs.declared.nodes.Nodes.{Ghosts as Nodes}
 use Rattle.rsx_tree.specs.Balance.{sent_over}
 use Rattle.rsx_tree.specs.Edges.{edge_view}
 use Rattle.rsx_tree.specs.Stepped.{Station, station_of}
@@ -37,9 +36,9 @@ pub fresh : {M T : Type 0} (b : Machine M T) (crossing : CrossingNodes M T) (k b
 fresh b crossing k before n h = (record { hub = k; reached = 0; missed = 0; before = before }, h.reads, refl, refl)
 
 -- what the node over the edge holds that can be joined to
-pub can_held : {M T : Type 0} (b : Machine M T) (nodes : Nodes M T) (crossing : CrossingNodes M T) (part : Part M) (at k : ℕ) (lower : M) (rest : List T) (place : Place M) → place_at at part.tree ≡ Some place → can_join b nodes crossing part at k lower rest ≡ true → crossing.held place.node ≡ Some (held_in crossing (place_at at part.tree))
-can_held b nodes crossing part at k lower rest place there can =
-    let parts = and_parts (not (nodes.crosses lower)) _ can in
+pub can_held : {M T : Type 0} (b : Machine M T) (crossing : CrossingNodes M T) (part : Part M) (at k : ℕ) (lower : M) (rest : List T) (place : Place M) → place_at at part.tree ≡ Some place → can_join b crossing part at k lower rest ≡ true → crossing.held place.node ≡ Some (held_in crossing (place_at at part.tree))
+can_held b crossing part at k lower rest place there can =
+    let parts = and_parts (not (b.crosses lower)) _ can in
     let here : can_join_here b crossing k rest place.node place.below ≡ true = sym (ap (can_join_in b crossing k rest) there) ∙ parts.1 in
     let last = and_parts (is_end place.below) _ here in
     holds_some (crossing.held place.node) (length rest) (and_parts (reads_hub k (b.reads place.node)) _ last.1).1 ∙ ap Some (sym (ap (held_in crossing) there))
@@ -76,12 +75,12 @@ items_all taken rest queue out last h =
     let z = items_next queue in
     omega (arith, e, a, c, d, f, x, y, z)
 
-pub joins_balanced : {M T : Type 0} (b : Machine M T) (nodes : Nodes M T) (crossing : CrossingNodes M T) → HoldsLaw b nodes crossing → CountedLaw b crossing → JoinsBalanced b nodes crossing
-joins_balanced b nodes crossing holds law m old new upper below lower at k before reader queue rest taken went out inlet ta tb c rd count sum h can up count_up live low count_low link hub carried came all =
-    let j = can_join_is b nodes crossing upper at k lower.tree.machine rest can in
+pub joins_balanced : {M T : Type 0} (b : Machine M T) (crossing : CrossingNodes M T) → HoldsLaw b crossing → CountedLaw b crossing → JoinsBalanced b crossing
+joins_balanced b crossing holds law m old new upper below lower at k before reader queue rest taken went out inlet ta tb c rd count sum h can up count_up live low count_low link hub carried came all =
+    let j = can_join_is b crossing upper at k lower.tree.machine rest can in
     let far = node_reached b upper at k j.place taken inlet ta j.there j.reads link hub came in
-    let held = can_held b nodes crossing upper at k lower.tree.machine rest j.place j.there can in
+    let held = can_held b crossing upper at k lower.tree.machine rest j.place j.there can in
     let began = has_begun b upper at k before j.place far.0 inlet ta j.there far.1 far.2 link hub carried in
-    balanced_over b nodes crossing holds m old new upper below lower at k before reader queue rest went out ta tb j.straight c rd count sum h up count_up live low count_low (λ s is clear bal.
+    balanced_over b crossing holds m old new upper below lower at k before reader queue rest went out ta tb j.straight c rd count sum h up count_up live low count_low (λ s is clear bal.
     counts_all b crossing law upper at before (length taken) below.root.demand.sent lower.root.demand.sent j.place s far.0 rest queue out j.there held far.1 far.3 began
     (items_all taken rest queue out [] (ap (λ l. map Next taken ++ l) (append-nil (map Next rest)) ∙ (all ∙ ap (λ l. map Next queue ++ l) (sym (append-nil out))))) sum count_low is clear bal)

@@ -6,7 +6,6 @@ use Rattle.rsx_types.proofs.Numbers.{not_zero}
 use Rattle.rsx_sources.specs.Prelude.{Meaning, Reading, Stream}
 use Rattle.rsx_sources.specs.declared.machine.Machine.{Ghosts as Machine}
 use Rattle.rsx_rooted.specs.declared.nodes.CrossingNodes.{Ghosts as CrossingNodes}
-use Rattle.rsx_rooted.specs.declared.nodes.Nodes.{Ghosts as Nodes}
 use Rattle.rsx_tree.proofs.Changes.{chosen_first, chosen_second}
 use Rattle.rsx_tree.specs.Edges.{EdgeView, edge_view, is_live}
 use Rattle.rsx_tree.specs.Inputs.{size}
@@ -62,8 +61,8 @@ new_root_live queue part at x h = elim (cases_lt 0 at) [
       live_under part at l k.0 (row_cut_live queue part.tree.inputs (at - 1) x k.1)
 ]
 
-pub cut_live : {M T : Type 0} (nodes : Nodes M T) (crossing : CrossingNodes M T) (old new below : Part M) (at : ℕ) (reader : M) (queue : List T) → IsCut nodes crossing old at reader below queue new → is_live_over old at ≡ true
-cut_live nodes crossing old new below at reader queue c = new_root_live crossing.edge_queue old at (edge_view below.root) c.edge
+pub cut_live : {M T : Type 0} (b : Machine M T) (crossing : CrossingNodes M T) (old new below : Part M) (at : ℕ) (reader : M) (queue : List T) → IsCut b crossing old at reader below queue new → is_live_over old at ≡ true
+cut_live b crossing old new below at reader queue c = new_root_live crossing.edge_queue old at (edge_view below.root) c.edge
 
 row_live_there : {M : Type 0} (t : Inputs M) (at : ℕ) → is_row_live t at ≡ true → at < size t
 row_live_there End at h = cc
@@ -84,12 +83,12 @@ root_of_live part at h = live_from part.root.state (is_live part.root.state) ref
 -- ---- the counts
 
 -- the law of a node with a queue
-abbrev pub HoldsLaw : {M T : Type 0} → Machine M T → Nodes M T → CrossingNodes M T → Type 0
-HoldsLaw {M} {T} b nodes crossing = (m : Meaning T) (q : List T) (n : M) → nodes.crosses n ≡ false → HoldsQueue b m (crossing.queued q n) q n
+abbrev pub HoldsLaw : {M T : Type 0} → Machine M T → CrossingNodes M T → Type 0
+HoldsLaw {M} {T} b crossing = (m : Meaning T) (q : List T) (n : M) → b.crosses n ≡ false → HoldsQueue b m (crossing.queued q n) q n
 
-pub cuts_balanced : {M T : Type 0} (b : Machine M T) (nodes : Nodes M T) (crossing : CrossingNodes M T) → HoldsLaw b nodes crossing → CutsBalanced b nodes crossing
-cuts_balanced {M} {T} b nodes crossing holds m old new below at k before reader queue c rd count sum h =
-    let live = cut_live nodes crossing old new below at reader queue c in
+pub cuts_balanced : {M T : Type 0} (b : Machine M T) (crossing : CrossingNodes M T) → HoldsLaw b crossing → CutsBalanced b crossing
+cuts_balanced {M} {T} b crossing holds m old new below at k before reader queue c rd count sum h =
+    let live = cut_live b crossing old new below at reader queue c in
     let s = edge_station old at before count in
     let x = crossing.queued queue below.tree.machine in
     let there = live_there old at live in
@@ -191,9 +190,9 @@ under_reads {M} b counts part at k place live h = elim (cases_lt 0 at) [
   | inl l ↦ row_under_reads b counts part.tree.inputs (at - 1) k (sym (place_below at part.tree l) ∙ place) (row_live_under part at l live) h.1
 ]
 
-pub cuts_reading : {M T : Type 0} (b : Machine M T) (nodes : Nodes M T) (crossing : CrossingNodes M T) → HoldsLaw b nodes crossing → CutsReading b nodes crossing
-cuts_reading {M} {T} b nodes crossing holds m old new below at k before reader queue whole taken_above taken_below c rd free open_still above under h =
-    let live = cut_live nodes crossing old new below at reader queue c in
+pub cuts_reading : {M T : Type 0} (b : Machine M T) (crossing : CrossingNodes M T) → HoldsLaw b crossing → CutsReading b crossing
+cuts_reading {M} {T} b crossing holds m old new below at k before reader queue whole taken_above taken_below c rd free open_still above under h =
+    let live = cut_live b crossing old new below at reader queue c in
     let there = live_there old at live in
     let x = crossing.queued queue below.tree.machine in
     let place : place_at at old.tree ≡ Some (record { node = x; below = below.tree.inputs }) = ap (place_at at) c.whole ∙ place_put at x below.tree.inputs old.tree there in

@@ -25,7 +25,7 @@ gave_all : {M T : Type 0} (b : Machine M T) (m : Meaning T) (taken : List (Strea
 gave_all b m taken old queued part up h = record {
   out = h.out;
   sent = h.sent;
-  given = record { flow = h.flow; reading = h.reading; on = h.live };
+  given = record { flow = h.flow; reading = h.reading; crosses = h.crosses; on = h.live };
   counted = counted up part.root.demand.sent queued h.out h.step.sent h.sent;
 }
 
@@ -54,11 +54,12 @@ count_before b m taken old queued part up out is step k =
     sums : (c q o a l s t : ℕ) → c + a + l ≡ s → l ≡ 0 → a ≡ q + o → s ≡ t → c + q + o ≡ t
     sums c q o a l s t h1 h2 h3 h4 = omega (arith, h1, h2, h3, h4)
 
-gave_before : {M T : Type 0} (b : Machine M T) (m : Meaning T) (taken : List (Stream T)) (old : Node M) (queued : List (Signal T)) (part : Part M) (up : Up T) (out : List (Signal T)) → sent_signals up ≡ queued ++ out → part.root.demand.sent ≡ items_sent up → AllGoOn (readings b old) (readings b part.tree) →
+gave_before : {M T : Type 0} (b : Machine M T) (m : Meaning T) (taken : List (Stream T)) (old : Node M) (queued : List (Signal T)) (part : Part M) (up : Up T) (out : List (Signal T)) → sent_signals up ≡ queued ++ out → part.root.demand.sent ≡ items_sent up → AllGoOn (readings b old) (readings b part.tree) → b.crosses part.tree.machine ≡ b.crosses old.machine →
     HasEnded b m taken old part out → GaveBefore b m taken old queued part up
-gave_before {M} b m taken old queued part up out is step reading k =
+gave_before {M} b m taken old queued part up out is step reading crosses k =
     let all : sent_signals up ≡ (queued ++ k.rest) ++ k.last ∷ [] = is ∙ (ap (λ l. queued ++ l) k.all ∙ sym (append_assoc queued k.rest (k.last ∷ []))) in
     let R : List (Option Reading) → Type 0 = λ l. AllGoOn (readings b old) l in
+    let gone = let_go b m k.before k.last part k.sent in
     record {
       before = k.before;
       out = k.rest;
@@ -67,9 +68,9 @@ gave_before {M} b m taken old queued part up out is step reading k =
       ends = k.ends;
       put_back = k.sent;
       live = k.live;
-      given = record { flow = k.flow; reading = subst R (let_go b m k.before k.last part k.sent).alike.2 reading; on = λ _. k.on };
+      given = record { flow = k.flow; reading = subst R gone.alike.2 reading; crosses = sym gone.alike.3 ∙ crosses; on = λ _. k.on };
       counted = count_before b m taken old queued part up out is step k;
     }
 
 pub gives_back : {M T : Type 0} (b : Machine M T) → GivesBack b
-gives_back b m taken old queued part up h = ((λ _. gave_all b m taken old queued part up h), (λ e. gave_before b m taken old queued part up h.out h.sent h.step.sent h.reading (h.ended e)))
+gives_back b m taken old queued part up h = ((λ _. gave_all b m taken old queued part up h), (λ e. gave_before b m taken old queued part up h.out h.sent h.step.sent h.reading h.crosses (h.ended e)))

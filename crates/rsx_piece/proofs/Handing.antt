@@ -4,7 +4,7 @@ use Rattle.std.proofs.lemmas.Bool.Decides.{nat_tests}
 use Rattle.rsx_sources.specs.Prelude.{Meaning, Stream, Signal, Next, Complete, Error, Reading, reads_hub}
 use Rattle.rsx_sources.specs.declared.machine.Machine.{Ghosts as Machine}
 use Rattle.rsx_tree.specs.Edges.{is_live}
-use Rattle.rsx_tree.specs.Handed.{IsHandedOut, is_room_for, reader_at, readers_in, times}
+use Rattle.rsx_tree.specs.Handed.{IsHandedOut, IsTakenWhere, is_room_for, reader_at, readers_in, times}
 use Rattle.rsx_tree.specs.Handed as Tree
 use Rattle.rsx_tree.specs.Reads.{IsReadAt, IsRowReadAt, IsTreeReadAt, readings}
 use Rattle.rsx_tree.specs.declared.edge.EdgeState.{EdgeState}
@@ -88,6 +88,11 @@ read_live b h p one = by_state p.root.state one
     by_state Ended k = cc
     by_state Closed k = cc
 
+-- a node that is handed a signal crosses where it did
+handed_crosses : {M T : Type 0} (b : Machine M T) (s : Signal T) (reads : Bool) (n n' : M) → IsTakenWhere b s reads n n' → b.crosses n' ≡ b.crosses n
+handed_crosses b s true n n' h = h.calls.0
+handed_crosses b s false n n' h = ap b.crosses h
+
 pub in_step_handed : {M T : Type 0} (b : Machine M T) (h : ℕ) (s : Signal T) (p p' : Part M) (u : Up T) → IsHanded b h s p p' → IsInStep p u → IsInStep p' u
 in_step_handed b h s p p' u k i = record { asked = ap (λ e. e.demand.asked) k.root ∙ i.asked; sent = ap (λ e. e.demand.sent) k.root ∙ i.sent }
 
@@ -109,6 +114,7 @@ stands_popped {M} {T} b m taken old queued p p' u h s came came' there more one 
       flow = flows_handed b m (Begins taken) (Begins (with_signal_at h s taken)) old p.tree p'.tree st.out h s (counts_in taken) st.flow was.reads (begins_next h s taken (stream_of came) there goes_on) handed;
       step = in_step_handed b h s p p' u k st.step;
       reading = all_go_on (readings b old) (readings b p.tree) (readings b p'.tree) st.reading handed.reading;
+      crosses = handed_crosses b s (reads_hub h (b.reads p.tree.machine)) p.tree.machine p'.tree.machine handed.root ∙ st.crosses;
       live = λ _. record {
         unended = was.unended;
         balance = λ before all h. let C : ℕ → Type 0 = λ c. IsBalanced b p'.tree c in subst C (ap (λ e. e.demand.sent) (sym k.root)) (handed.balance p.root.demand.sent (was.balance before (all ∙ ap (λ e. e.demand.sent) k.root) h));

@@ -5,7 +5,6 @@ use Rattle.std.proofs.lemmas.Bool.{cases_lt}
 use Rattle.rsx_sources.specs.Prelude.{Next, Reading, Stream, reads_hub}
 use Rattle.rsx_sources.specs.declared.machine.Machine.{Ghosts as Machine}
 use Rattle.rsx_rooted.specs.declared.nodes.CrossingNodes.{Ghosts as CrossingNodes}
-use Rattle.rsx_rooted.specs.declared.nodes.Nodes.{Ghosts as Nodes}
 use Rattle.rsx_tree.specs.Inputs.{size}
 use Rattle.rsx_tree.specs.Reads.{readings, row_readings}
 use Rattle.rsx_tree.specs.declared.inputs.Inputs.{Inputs, End, More'}
@@ -27,8 +26,8 @@ use Rattle.rsx_piece.proofs.Places.{place_below, place_here, same_some, sender_b
 use Rattle.rsx_piece.proofs.Reached.{each_parts, eq_true}
 use Rattle.rsx_piece.proofs.Rejoining.{CanJoin, apart, can_join_is, joined_reads_not}
 
-pub joins_pieces : {M T : Type 0} (b : Machine M T) (nodes : Nodes M T) (crossing : CrossingNodes M T) → JoinsAfterMoves b nodes crossing → JoinsPieces b nodes crossing
-joins_pieces b nodes crossing law m old new upper below lower at k reader queue rest taken queued up between taken_above taken_below whole cut held reads can reached all free free' free_below adds none above under = (
+pub joins_pieces : {M T : Type 0} (b : Machine M T) (crossing : CrossingNodes M T) → JoinsAfterMoves b crossing → JoinsPieces b crossing
+joins_pieces b crossing law m old new upper below lower at k reader queue rest taken queued up between taken_above taken_below whole cut held reads can reached all free free' free_below adds none above under = (
   above.out,
   above.sent,
   law m old new upper below lower at k reader queue rest taken under.out above.out taken_above taken_below whole cut held reads can reached (all ∙ under.sent) free free'
@@ -75,19 +74,19 @@ node_reached b upper at k place taken i takens there reads st hub came =
     let all = subst (λ h. R h (length taken)) hub (subst (R i.hub) count st.reached) in
     reading_is (b.reads place.node) k (length taken) reads (tree_each b (IsReachedAt k (length taken)) upper.tree at place there all)
 
-pub has_reached : {M T : Type 0} (b : Machine M T) (nodes : Nodes M T) (upper : Part M) (at k : ℕ) (lower : M) (taken : List T) (i : Inlet T) (takens : List (Stream T)) → CanJoin b nodes upper at k lower → InletStands b takens upper i → i.hub ≡ k → received_signals i.down ≡ map Next taken → HasReached b upper at k (length taken)
-has_reached b nodes upper at k lower taken i takens j st hub came = record {
+pub has_reached : {M T : Type 0} (b : Machine M T) (upper : Part M) (at k : ℕ) (lower : M) (taken : List T) (i : Inlet T) (takens : List (Stream T)) → CanJoin b upper at k lower → InletStands b takens upper i → i.hub ≡ k → received_signals i.down ≡ map Next taken → HasReached b upper at k (length taken)
+has_reached b upper at k lower taken i takens j st hub came = record {
   place = j.place;
   there = j.there;
   reads = node_reached b upper at k j.place taken i takens j.there j.reads st hub came;
 }
 
-pub joins_again : {M T : Type 0} (b : Machine M T) (nodes : Nodes M T) (crossing : CrossingNodes M T) → HoldsLaw b nodes crossing → JoinsAfterMoves b nodes crossing → JoinsAgain b nodes crossing
-joins_again b nodes crossing holds law m old new upper below lower at k reader queue rest taken queued out up inlet taken_above taken_below whole cut held reads can link hub came all free adds none above under =
-    let none_reads = apart b nodes crossing holds m old new upper below lower at k reader queue cut free above.reading under.reading in
-    let j = can_join_is b nodes crossing upper at k lower.tree.machine rest can in
-    let free' = joined_reads_not b nodes crossing holds m upper below lower at k j.place rest j.straight j.there j.alone none_reads in
-    let reached = has_reached b nodes upper at k lower.tree.machine taken inlet taken_above j link hub came in (
+pub joins_again : {M T : Type 0} (b : Machine M T) (crossing : CrossingNodes M T) → HoldsLaw b crossing → JoinsAfterMoves b crossing → JoinsAgain b crossing
+joins_again b crossing holds law m old new upper below lower at k reader queue rest taken queued out up inlet taken_above taken_below whole cut held reads can link hub came all free adds none above under =
+    let none_reads = apart b crossing holds m old new upper below lower at k reader queue cut free above.reading under.reading in
+    let j = can_join_is b crossing upper at k lower.tree.machine rest can in
+    let free' = joined_reads_not b crossing holds m upper below lower at k j.place rest j.straight j.there j.alone none_reads in
+    let reached = has_reached b upper at k lower.tree.machine taken inlet taken_above j link hub came in (
       none_reads.now_below,
       free',
       (
@@ -99,13 +98,13 @@ joins_again b nodes crossing holds law m old new upper below lower at k reader q
 
 -- ---- where the lower piece has sent its ending
 
-pub joins_ended : {M T : Type 0} (b : Machine M T) (nodes : Nodes M T) (crossing : CrossingNodes M T) → HoldsLaw b nodes crossing → JoinsAfterEnding b nodes crossing → JoinsEnded b nodes crossing
-joins_ended b nodes crossing holds law m old new upper below lower at k reader queue items taken queued up between inlet taken_above taken_below whole cut held reads above under gave can link hub came all free adds none =
-    let j = can_join_is b nodes crossing upper at k gave.before.tree.machine items can in
+pub joins_ended : {M T : Type 0} (b : Machine M T) (crossing : CrossingNodes M T) → HoldsLaw b crossing → JoinsAfterEnding b crossing → JoinsEnded b crossing
+joins_ended b crossing holds law m old new upper below lower at k reader queue items taken queued up between inlet taken_above taken_below whole cut held reads above under gave can link hub came all free adds none =
+    let j = can_join_is b crossing upper at k gave.before.tree.machine items can in
     let gone = let_go b m gave.before gave.last lower gave.put_back in
-    let none_reads = apart b nodes crossing holds m old new upper below gave.before at k reader queue cut free above.reading gave.given.reading in
-    let free' = joined_reads_not b nodes crossing holds m upper below gave.before at k j.place items j.straight j.there j.alone none_reads in
-    let reached = has_reached b nodes upper at k gave.before.tree.machine taken inlet taken_above j link hub came in
+    let none_reads = apart b crossing holds m old new upper below gave.before at k reader queue cut free above.reading gave.given.reading in
+    let free' = joined_reads_not b crossing holds m upper below gave.before at k j.place items j.straight j.there j.alone none_reads in
+    let reached = has_reached b upper at k gave.before.tree.machine taken inlet taken_above j link hub came in
     let A : List (Option Reading) → Type 0 = λ l. AllOf (λ i. i ≡ k → ⊥) l in (
       free',
       (

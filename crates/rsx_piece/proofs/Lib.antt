@@ -6,6 +6,7 @@ pub mod Comes
 pub mod Counted
 pub mod Cutting
 pub mod Edges
+pub mod Ended
 pub mod Givings
 pub mod Growth
 pub mod Handing

@@ -63,6 +63,7 @@ stands_asked {M} {T} b m taken old queued p p' u u' live tree state sent step sa
       flow = subst C (sym tree) h.flow;
       step = step;
       reading = subst R (sym tree) h.reading;
+      crosses = ap (λ t. b.crosses t.machine) tree ∙ h.crosses;
       live = λ _. record { unended = was.unended; balance = λ before all k. subst S (sym sent) (subst B (sym tree) (was.balance before (all ∙ sent) k)); reads = subst A (sym tree) was.reads; clear = subst W (sym tree) was.clear };
       ended = λ e. let l = still in cc;
       closed = λ e. let l = still in cc;
@@ -105,6 +106,7 @@ stands_closed b m taken old queued p p' u u' live shut kept alike none step same
       flow = flows_chosen b m (Begins taken) old p.tree p'.tree h.out h.flow (kept_chosen b m p.tree p'.tree kept);
       step = step;
       reading = subst R (sym alike.2) h.reading;
+      crosses = alike.3 ∙ h.crosses;
       live = λ e. cc;
       ended = λ e. cc;
       closed = λ _. record { unended = was.unended; edges = none; flag = flag };

@@ -1,5 +1,5 @@
 -- A piece at its opening.
-use Rattle.std.proofs.Common.{◌≡◌, ℕ, [], sym, subst, arith}
+use Rattle.std.proofs.Common.{◌≡◌, ℕ, [], refl, sym, subst, arith}
 use Rattle.std.proofs.lemmas.List.{append-nil}
 use Rattle.rsx_sources.specs.declared.machine.Machine.{Ghosts as Machine}
 use Rattle.rsx_tree.specs.Reads.{readings}
@@ -18,6 +18,7 @@ opens b m taken part up live step reads = record {
   flow = flows_still b m (Begins taken) part.tree;
   step = step;
   reading = go_same (readings b part.tree);
+  crosses = refl;
   live = λ _. record {
     unended = tt;
     balance = λ before is h. let same : before ≡ part.root.demand.sent = omega (arith, is) in let B : ℕ → Type 0 = λ k. IsBalanced b part.tree k in subst B same h;

@@ -77,6 +77,7 @@ stands_same b m taken old queued p u u' h steps carried sent = record {
   flow = h.flow;
   step = in_step_same p u u' h.step steps carried sent;
   reading = h.reading;
+  crosses = h.crosses;
   live = h.live;
   ended = h.ended;
   closed = λ c. let w = h.closed c in record { unended = w.unended; edges = w.edges; flag = let F : List _ → Type 0 = λ l. (has_cancel (flags_of l) ≡ true) ⊎ (has_refusal (flags_of l) ≡ true) in subst F (sym steps) w.flag };
@@ -175,6 +176,7 @@ stands_sent {M} b m taken old queued p p' u u' s h k steps carried sent =
       flow = flows_sent b m (Begins taken) old p.tree p'.tree h.out s h.flow gone;
       step = in_step_sent b m p p' u u' s h.step k steps carried sent;
       reading = subst R (sym gone.alike.2) h.reading;
+      crosses = gone.alike.3 ∙ h.crosses;
       live = λ l. let x = passed_on (edge_view p.root) s live (sym state ∙ l) in on_sent b m taken old p p' h.out s x.0 x.1 was gone count;
       ended = λ e. record { before = p; rest = h.out; last = s; all = refl; ends = passed_last (edge_view p.root) s live (sym state ∙ e); sent = k; live = live; on = was; flow = h.flow };
       closed = λ c. absurd (passed_open (edge_view p.root) s live (sym state ∙ c));
@@ -198,6 +200,7 @@ stands_made b m taken old queued step p p' u live h k =
       flow = flows_chosen b m (Begins taken) old p.tree p'.tree h.out h.flow (k.chosen refl);
       step = in_step_made b m step p p' u h.step k;
       reading = subst R (sym k.alike.2) h.reading;
+      crosses = k.alike.3 ∙ h.crosses;
       live = λ _. record {
         unended = was.unended;
         balance = λ before all h. subst C (ap (λ e. e.demand.sent) (sym root)) (k.balance refl p.root.demand.sent (was.balance before (all ∙ ap (λ e. e.demand.sent) root) h));

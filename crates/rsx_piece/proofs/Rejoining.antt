@@ -5,7 +5,6 @@ use Rattle.std.proofs.lemmas.Bool.{and_parts, cases_lt}
 use Rattle.rsx_sources.specs.Prelude.{Meaning, Reading, Signal, Stream, reads_hub}
 use Rattle.rsx_sources.specs.declared.machine.Machine.{Ghosts as Machine}
 use Rattle.rsx_rooted.specs.declared.nodes.CrossingNodes.{Ghosts as CrossingNodes}
-use Rattle.rsx_rooted.specs.declared.nodes.Nodes.{Ghosts as Nodes}
 use Rattle.rsx_tree.specs.Edges.{edge_view}
 use Rattle.rsx_tree.specs.Stepped.{Station, station_of}
 use Rattle.rsx_tree.specs.Reads.{AllGoOn, IsReadAt, IsTreeReadAt, readings, row_readings}
@@ -44,8 +43,8 @@ place_is {M} at k t h = elim (cases_lt 0 at) [
 ]
 
 -- what a join that isn't refused says of the edge
-pub record CanJoin {M T : Type 0} (b : Machine M T) (nodes : Nodes M T) (part : Part M) (at k : ℕ) (lower : M) : Type 0 where
-  pub straight : nodes.crosses lower ≡ false
+pub record CanJoin {M T : Type 0} (b : Machine M T) (part : Part M) (at k : ℕ) (lower : M) : Type 0 where
+  pub straight : b.crosses lower ≡ false
   pub place : Place M
   pub there : place_at at part.tree ≡ Some place
   pub alone : place.below ≡ End
@@ -55,11 +54,11 @@ pub ended_row : {M : Type 0} (t : Inputs M) → is_end t ≡ true → t ≡ End
 ended_row End h = refl
 ended_row (More' e n p below q beside) h = cc
 
-pub can_join_is : {M T : Type 0} (b : Machine M T) (nodes : Nodes M T) (crossing : CrossingNodes M T) (part : Part M) (at k : ℕ) (lower : M) (rest : List T) → can_join b nodes crossing part at k lower rest ≡ true → CanJoin b nodes part at k lower
-can_join_is {M} {T} b nodes crossing part at k lower rest h =
-    let parts = and_parts (not (nodes.crosses lower)) _ h in by_place (place_at at part.tree) refl parts.1 (is_false (nodes.crosses lower) parts.0)
+pub can_join_is : {M T : Type 0} (b : Machine M T) (crossing : CrossingNodes M T) (part : Part M) (at k : ℕ) (lower : M) (rest : List T) → can_join b crossing part at k lower rest ≡ true → CanJoin b part at k lower
+can_join_is {M} {T} b crossing part at k lower rest h =
+    let parts = and_parts (not (b.crosses lower)) _ h in by_place (place_at at part.tree) refl parts.1 (is_false (b.crosses lower) parts.0)
   where
-    by_place : (o : Option (Place M)) → place_at at part.tree ≡ o → can_join_in b crossing k rest o ≡ true → nodes.crosses lower ≡ false → CanJoin b nodes part at k lower
+    by_place : (o : Option (Place M)) → place_at at part.tree ≡ o → can_join_in b crossing k rest o ≡ true → b.crosses lower ≡ false → CanJoin b part at k lower
     by_place None is can straight = cc
     by_place (Some p) is can straight =
         let first = and_parts (is_end p.below) _ can in
@@ -72,33 +71,33 @@ abbrev pub CountsAll : {M T : Type 0} → CrossingNodes M T → Part M → ℕ �
 CountsAll crossing upper at rest count there = there.sent + length (held_in crossing (place_at at upper.tree) ++ rest) ≡ count
 
 -- where the edge at which a part was cut is clear in the upper piece as it was then, no receiver over it had ended or was done
-pub cut_open : {M T : Type 0} (b : Machine M T) (nodes : Nodes M T) (crossing : CrossingNodes M T) (old new below : Part M) (at : ℕ) (reader : M) (queue : List T) → IsCut nodes crossing old at reader below queue new → is_clear b new.tree at ≡ true → is_open_over b old at ≡ true
-cut_open {M} b nodes crossing old new below at reader queue c clear = elim (cases_lt 0 at) [
+pub cut_open : {M T : Type 0} (b : Machine M T) (crossing : CrossingNodes M T) (old new below : Part M) (at : ℕ) (reader : M) (queue : List T) → IsCut b crossing old at reader below queue new → is_clear b new.tree at ≡ true → is_open_over b old at ≡ true
+cut_open {M} b crossing old new below at reader queue c clear = elim (cases_lt 0 at) [
   | inr z ↦ open_root b old at (omega (arith, z))
   | inl pos ↦
       let x = crossing.queued queue below.tree.machine in
-      let there = live_there old at (cut_live nodes crossing old new below at reader queue c) in
+      let there = live_there old at (cut_live b crossing old new below at reader queue c) in
       let whole = ap (λ t. is_clear b t at) c.whole ∙ clear_put b at at x reader below.tree.inputs old.tree pos there (omega arith) in
       clear_open b old at (whole ∙ (ap (λ p. is_clear b p.tree at) (sym c.upper) ∙ clear))
 ]
 
 -- where the node at the lower root has no queue
-pub balanced_over : {M T : Type 0} (b : Machine M T) (nodes : Nodes M T) (crossing : CrossingNodes M T) → HoldsLaw b nodes crossing →
-    (m : Meaning T) (old new upper below lower : Part M) (at k before : ℕ) (reader : M) (queue rest : List T) (went out : List (Signal T)) (taken_above taken_below : List (Stream T)) → nodes.crosses lower.tree.machine ≡ false →
-    IsCut nodes crossing old at reader below queue new → IsReader b crossing k before reader → sent_over_edge old at ≡ Some before → before + length queue ≡ below.root.demand.sent →
+pub balanced_over : {M T : Type 0} (b : Machine M T) (crossing : CrossingNodes M T) → HoldsLaw b crossing →
+    (m : Meaning T) (old new upper below lower : Part M) (at k before : ℕ) (reader : M) (queue rest : List T) (went out : List (Signal T)) (taken_above taken_below : List (Stream T)) → b.crosses lower.tree.machine ≡ false →
+    IsCut b crossing old at reader below queue new → IsReader b crossing k before reader → sent_over_edge old at ≡ Some before → before + length queue ≡ below.root.demand.sent →
     IsBalanced b old.tree old.root.demand.sent → GoesOn b taken_above new.tree upper went → old.root.demand.sent + items_in went ≡ upper.root.demand.sent → upper.root.state ≡ Live →
     (is_live_over upper at ≡ true → GoesOn b taken_below below.tree lower out) → below.root.demand.sent + items_in out ≡ lower.root.demand.sent →
     ((s : Station M) → station_of upper.tree (edge_view upper.root) at ≡ Some s → is_open_over b upper at ≡ true → IsBalanced b upper.tree upper.root.demand.sent → CountsAll crossing upper at rest lower.root.demand.sent s) → IsBalanced b (joined crossing upper at lower rest).tree (joined crossing upper at lower rest).root.demand.sent
-balanced_over {M} b nodes crossing holds m old new upper below lower at k before reader queue rest went out taken_above taken_below straight c rd count sum h up count_up live low count_low all =
+balanced_over {M} b crossing holds m old new upper below lower at k before reader queue rest went out taken_above taken_below straight c rd count sum h up count_up live low count_low all =
     let items = held_in crossing (place_at at upper.tree) in
     let x = crossing.queued (items ++ rest) lower.tree.machine in
-    let cuts = cuts_balanced b nodes crossing holds m old new below at k before reader queue c rd count sum h in
+    let cuts = cuts_balanced b crossing holds m old new below at k before reader queue c rd count sum h in
     let root : new.root.demand.sent ≡ old.root.demand.sent = ap (λ p. p.root.demand.sent) c.upper in
     let N : ℕ → Type 0 = λ n. IsBalanced b new.tree n in
     let L : ℕ → Type 0 = λ n. IsBalanced b lower.tree n in
     let bal = up.balance old.root.demand.sent count_up (subst N root cuts.0) in
     put_balanced b x lower.tree.inputs upper at (λ t is clear on.
-    let opened = cut_open b nodes crossing old new below at reader queue c (up.clear at (clear_both b upper at clear on)) in
+    let opened = cut_open b crossing old new below at reader queue c (up.clear at (clear_both b upper at clear on)) in
     queue_put b m x lower.tree.machine (items ++ rest) lower.tree.inputs t.sent (holds m (items ++ rest) lower.tree.machine straight)
     (subst L (sym (all t is clear bal)) ((low on).balance below.root.demand.sent count_low (cuts.1 opened)))
     ) live bal
@@ -111,10 +110,10 @@ pub record Apart {M T : Type 0} (b : Machine M T) (k at : ℕ) (upper below lowe
   pub then_below : ReadsNot b k below.tree
   pub now_below : ReadsNot b k lower.tree
 
-pub apart : {M T : Type 0} (b : Machine M T) (nodes : Nodes M T) (crossing : CrossingNodes M T) → HoldsLaw b nodes crossing → (m : Meaning T) (old new upper below lower : Part M) (at k : ℕ) (reader : M) (queue : List T) → IsCut nodes crossing old at reader below queue new → ReadsNot b k old.tree →
+pub apart : {M T : Type 0} (b : Machine M T) (crossing : CrossingNodes M T) → HoldsLaw b crossing → (m : Meaning T) (old new upper below lower : Part M) (at k : ℕ) (reader : M) (queue : List T) → IsCut b crossing old at reader below queue new → ReadsNot b k old.tree →
     AllGoOn (readings b new.tree) (readings b upper.tree) → AllGoOn (readings b below.tree) (readings b lower.tree) → Apart b k at upper below lower
-apart {M} b nodes crossing holds m old new upper below lower at k reader queue c free go_up go_low =
-    let there = live_there old at (cut_live nodes crossing old new below at reader queue c) in
+apart {M} b crossing holds m old new upper below lower at k reader queue c free go_up go_low =
+    let there = live_there old at (cut_live b crossing old new below at reader queue c) in
     let x = crossing.queued queue below.tree.machine in
     let none = cut_readings b (IsNot k) at x reader below.tree.inputs old.tree there c.whole free in
     let B : Node M → Type 0 = λ t. AllBut (IsNot k) at (readings b t) in
@@ -137,19 +136,19 @@ put_reads_not {M} b k at x xs place upper there alone above low =
     subst A (sym (readings_put b at x leaf xs upper.tree is.0)) (all_spliced (IsNot k) at (b.reads x ∷ row_readings b xs) (readings b (with_node at leaf End upper.tree)) low (subst B tree above))
 
 -- none of the joined part does
-pub joined_reads_not : {M T : Type 0} (b : Machine M T) (nodes : Nodes M T) (crossing : CrossingNodes M T) → HoldsLaw b nodes crossing → (m : Meaning T) (upper below lower : Part M) (at k : ℕ) (place : Place M) (rest : List T) → nodes.crosses lower.tree.machine ≡ false → place_at at upper.tree ≡ Some place → place.below ≡ End → Apart b k at upper below lower → ReadsNot b k (joined crossing upper at lower rest).tree
-joined_reads_not {M} b nodes crossing holds m upper below lower at k place rest straight there alone h =
+pub joined_reads_not : {M T : Type 0} (b : Machine M T) (crossing : CrossingNodes M T) → HoldsLaw b crossing → (m : Meaning T) (upper below lower : Part M) (at k : ℕ) (place : Place M) (rest : List T) → b.crosses lower.tree.machine ≡ false → place_at at upper.tree ≡ Some place → place.below ≡ End → Apart b k at upper below lower → ReadsNot b k (joined crossing upper at lower rest).tree
+joined_reads_not {M} b crossing holds m upper below lower at k place rest straight there alone h =
     let queue = held_in crossing (place_at at upper.tree) ++ rest in
     let O : Option Reading → Type 0 = λ o. IsOf (IsNot k) o in
     put_reads_not b k at (crossing.queued queue lower.tree.machine) lower.tree.inputs place upper there alone h.above (subst O (sym (holds m queue lower.tree.machine straight).reads) h.now_below.0, h.now_below.1)
 
-pub reading_over : {M T : Type 0} (b : Machine M T) (nodes : Nodes M T) (crossing : CrossingNodes M T) → HoldsLaw b nodes crossing →
-    (m : Meaning T) (old new upper below lower : Part M) (at k : ℕ) (reader : M) (queue rest : List T) (taken_above taken_below whole : List (Stream T)) → nodes.crosses lower.tree.machine ≡ false →
-    IsCut nodes crossing old at reader below queue new → ReadsNot b k old.tree → AllGoOn (readings b new.tree) (readings b upper.tree) → AllGoOn (readings b below.tree) (readings b lower.tree) →
+pub reading_over : {M T : Type 0} (b : Machine M T) (crossing : CrossingNodes M T) → HoldsLaw b crossing →
+    (m : Meaning T) (old new upper below lower : Part M) (at k : ℕ) (reader : M) (queue rest : List T) (taken_above taken_below whole : List (Stream T)) → b.crosses lower.tree.machine ≡ false →
+    IsCut b crossing old at reader below queue new → ReadsNot b k old.tree → AllGoOn (readings b new.tree) (readings b upper.tree) → AllGoOn (readings b below.tree) (readings b lower.tree) →
     AgreesOn b k taken_above whole upper.tree → AgreesOn b k taken_below whole lower.tree → IsTreeReadAt b (counts_in taken_above) upper.tree → upper.root.state ≡ Live → (is_live_over upper at ≡ true → IsTreeReadAt b (counts_in taken_below) lower.tree) →
     IsTreeReadAt b (counts_in whole) (joined crossing upper at lower rest).tree
-reading_over b nodes crossing holds m old new upper below lower at k reader queue rest taken_above taken_below whole straight c free go_up go_low above under h live low =
-    let none = apart b nodes crossing holds m old new upper below lower at k reader queue c free go_up go_low in
+reading_over b crossing holds m old new upper below lower at k reader queue rest taken_above taken_below whole straight c free go_up go_low above under h live low =
+    let none = apart b crossing holds m old new upper below lower at k reader queue c free go_up go_low in
     let items = held_in crossing (place_at at upper.tree) ++ rest in
     let x = crossing.queued items lower.tree.machine in
     let up = counts_in taken_above in
@@ -162,6 +161,6 @@ reading_over b nodes crossing holds m old new upper below lower at k reader queu
     let got = tree_over b down all lower.tree same_low (low on) in (subst R (sym (holds m items lower.tree.machine straight).reads) got.0, got.1)
     ) live h
 
-pub joins_reading : {M T : Type 0} (b : Machine M T) (nodes : Nodes M T) (crossing : CrossingNodes M T) → HoldsLaw b nodes crossing → JoinsReading b nodes crossing
-joins_reading b nodes crossing holds m old new upper below lower at k reader queue rest taken_above taken_below whole c reads free can go_up go_low above under h live low =
-    reading_over b nodes crossing holds m old new upper below lower at k reader queue rest taken_above taken_below whole (can_join_is b nodes crossing upper at k lower.tree.machine rest can).straight c free go_up go_low above under h live low
+pub joins_reading : {M T : Type 0} (b : Machine M T) (crossing : CrossingNodes M T) → HoldsLaw b crossing → JoinsReading b crossing
+joins_reading b crossing holds m old new upper below lower at k reader queue rest taken_above taken_below whole c reads free can go_up go_low above under h live low =
+    reading_over b crossing holds m old new upper below lower at k reader queue rest taken_above taken_below whole (can_join_is b crossing upper at k lower.tree.machine rest can).straight c free go_up go_low above under h live low

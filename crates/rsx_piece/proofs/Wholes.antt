@@ -6,7 +6,6 @@ use Rattle.std.proofs.lemmas.List.{append-nil}
 use Rattle.rsx_sources.specs.Prelude.{Ending, LetsGo, Meaning, Next, Complete, Error, Reading, Signal, Stream, ends_input}
 use Rattle.rsx_sources.specs.declared.machine.Machine.{Ghosts as Machine}
 use Rattle.rsx_rooted.specs.declared.nodes.CrossingNodes.{Ghosts as CrossingNodes}
-use Rattle.rsx_rooted.specs.declared.nodes.Nodes.{Ghosts as Nodes}
 use Rattle.rsx_rooted.proofs.Sends.{sent_out}
 use Rattle.rsx_tree.proofs.Alike.{popped_alike}
 use Rattle.rsx_tree.proofs.Rows.{out_lets_go}
@@ -133,7 +132,7 @@ nothing_counted b (Next x) t sent e = cc
 nothing_counted b Complete t sent e = tt
 nothing_counted b (Error c) t sent e = tt
 
-lets_go_over : {M T : Type 0} (b : Machine M T) (m : Meaning T) (n n' : M) (t u : Inputs M) (s : Signal T) → ends_input s ≡ true → IsLetGo b m (record { machine = n; inputs = t }) s (record { machine = n'; inputs = t }) → IsLetGo b m (record { machine = n; inputs = u }) s (record { machine = n'; inputs = u })
+pub lets_go_over : {M T : Type 0} (b : Machine M T) (m : Meaning T) (n n' : M) (t u : Inputs M) (s : Signal T) → ends_input s ≡ true → IsLetGo b m (record { machine = n; inputs = t }) s (record { machine = n'; inputs = t }) → IsLetGo b m (record { machine = n; inputs = u }) s (record { machine = n'; inputs = u })
 lets_go_over b m n n' t u s e h = record {
   offered = h.offered;
   popped = (h.popped.0, refl);
@@ -174,13 +173,13 @@ record IsOver {M T : Type 0} (b : Machine M T) (m : Meaning T) (old new upper p 
 edge_live : {M : Type 0} (p : Part M) (at : ℕ) (s : Station M) → 0 < at → station_of p.tree (edge_view p.root) at ≡ Some s → is_live_over p at ≡ true → is_live s.state ≡ true
 edge_live p at s pos there h = live_station p.tree.inputs (at - 1) s (sym (station_under p at pos) ∙ there) (row_live_under p at pos h)
 
-module _ {M T : Type 0} (b : Machine M T) (nodes : Nodes M T) (crossing : CrossingNodes M T) (holds : HoldsLaw b nodes crossing) (m : Meaning T) (old new upper below : Part M) (at k before : ℕ) (reader : M) (place : Place M) (s : Station M) (queue : List T) (ta whole : List (Stream T)) (x : M) (xs : Inputs M) (pos : 0 < at) (w : WasCut b nodes crossing old at k before reader below queue new) (at_place : place_at at upper.tree ≡ Some place) (alone : place.below ≡ End) (f : Fills b m old new upper at s ta whole (crossing.queued queue below.tree.machine) below.tree.inputs x xs) where
+module _ {M T : Type 0} (b : Machine M T) (crossing : CrossingNodes M T) (holds : HoldsLaw b crossing) (m : Meaning T) (old new upper below : Part M) (at k before : ℕ) (reader : M) (place : Place M) (s : Station M) (queue : List T) (ta whole : List (Stream T)) (x : M) (xs : Inputs M) (pos : 0 < at) (w : WasCut b crossing old at k before reader below queue new) (at_place : place_at at upper.tree ≡ Some place) (alone : place.below ≡ End) (f : Fills b m old new upper at s ta whole (crossing.queued queue below.tree.machine) below.tree.inputs x xs) where
   -- the part with the reader
   leaf_there : (p : Part M) → place_at at p.tree ≡ place_at at upper.tree → IsThere at p.tree × (p.tree ≡ with_node at place.node End p.tree)
   leaf_there p same = let is = place_is at place p.tree (same ∙ at_place) in (is.0, is.1 ∙ ap (λ r. with_node at place.node r p.tree) alone)
 
   cut_at : IsThere at old.tree
-  cut_at = live_there old at (cut_live nodes crossing old new below at reader queue w.cut)
+  cut_at = live_there old at (cut_live b crossing old new below at reader queue w.cut)
 
   filled_reading : (p : Part M) → place_at at p.tree ≡ place_at at upper.tree → AllGoOn (readings b new.tree) (readings b p.tree) → AllGoOn (readings b old.tree) (readings b (with_node at x xs p.tree))
   filled_reading p same go =
@@ -214,14 +213,14 @@ module _ {M T : Type 0} (b : Machine M T) (nodes : Nodes M T) (crossing : Crossi
       let c = w.cut in
       let up = counts_in ta in
       let all = counts_in whole in
-      let none = (apart b nodes crossing holds m old new p below below at k reader queue c w.free o.reading (go_same (readings b below.tree))).above in
+      let none = (apart b crossing holds m old new p below below at k reader queue c w.free o.reading (go_same (readings b below.tree))).above in
       record {
         unended = on.unended;
         balance = λ n count bal.
             let B : ℕ → Type 0 = λ j. IsBalanced b old.tree j in
             let N : ℕ → Type 0 = λ j. IsBalanced b new.tree j in
             let was = subst B (same n (items_in given) old.root.demand.sent p.root.demand.sent count o.counted) bal in
-            let cuts = cuts_balanced b nodes crossing holds m old new below at k before reader queue c w.reads w.sent w.counted was in
+            let cuts = cuts_balanced b crossing holds m old new below at k before reader queue c w.reads w.sent w.counted was in
             let now = on.balance old.root.demand.sent o.counted (subst N (ap (λ q. q.root.demand.sent) c.upper) cuts.0) in
             put_balanced b x xs p at (λ t is open_still live_still.
             let S : Station M → Type 0 = λ z. IsOwnerBalanced b x (sent_over xs) z.sent (IsRowBalanced b x 0 xs) in
@@ -258,6 +257,7 @@ module _ {M T : Type 0} (b : Machine M T) (nodes : Nodes M T) (crossing : Crossi
         flow = f.joins upper above.out refl above.reading above.flow;
         step = record { asked = above.step.asked; sent = above.step.sent };
         reading = filled_reading upper refl above.reading;
+        crosses = ap (λ t. b.crosses t.machine) (with_below at x xs upper.tree pos) ∙ (above.crosses ∙ (ap (λ q. b.crosses q.tree.machine) w.cut.upper ∙ ap (λ t. b.crosses t.machine) (with_below at reader End old.tree pos)));
         live = λ on. filled_on upper above.out o on (above.live on);
         ended = λ over.
             let e = above.ended over in
@@ -297,14 +297,14 @@ module _ {M T : Type 0} (b : Machine M T) (nodes : Nodes M T) (crossing : Crossi
 -- ---- the lower piece, with a queue
 
 -- what the lower piece makes of the edge, as long as no ending is in the queue
-queue_fills : {M T : Type 0} (b : Machine M T) (nodes : Nodes M T) (crossing : CrossingNodes M T) → HoldsLaw b nodes crossing →
+queue_fills : {M T : Type 0} (b : Machine M T) (crossing : CrossingNodes M T) → HoldsLaw b crossing →
     (m : Meaning T) (old new upper below lower : Part M) (at k before : ℕ) (reader : M) (place : Place M) (s : Station M) (queue rest : List T) (out : List (Signal T)) (ta tb whole : List (Stream T)) → 0 < at →
-    WasCut b nodes crossing old at k before reader below queue new → IsBelow b m tb below lower out s → nodes.crosses lower.tree.machine ≡ false → place_at at upper.tree ≡ Some place → place.below ≡ End → AgreesOn b k tb whole lower.tree → AllGoOn (readings b new.tree) (readings b upper.tree) →
+    WasCut b crossing old at k before reader below queue new → IsBelow b m tb below lower out s → b.crosses lower.tree.machine ≡ false → place_at at upper.tree ≡ Some place → place.below ≡ End → AgreesOn b k tb whole lower.tree → AllGoOn (readings b new.tree) (readings b upper.tree) →
     ((p : Part M) → place_at at p.tree ≡ place_at at upper.tree → station_of p.tree (edge_view p.root) at ≡ Some s → is_open_over b p at ≡ true → IsBalanced b p.tree p.root.demand.sent → CountsAll crossing p at rest lower.root.demand.sent s) →
     -- what came out of the part that was cut, where the lower piece is joined to such a part
     ((p : Part M) (given : List (Signal T)) → place_at at p.tree ≡ place_at at upper.tree → AllGoOn (readings b new.tree) (readings b p.tree) → Carries b m ta new.tree p.tree given → Carries b m whole old.tree (joined crossing p at lower rest).tree given) →
     Fills b m old new upper at s ta whole (crossing.queued queue below.tree.machine) below.tree.inputs (crossing.queued (held_in crossing (place_at at upper.tree) ++ rest) lower.tree.machine) lower.tree.inputs
-queue_fills {M} b nodes crossing holds m old new upper below lower at k before reader place s queue rest out ta tb whole pos w u straight at_place alone agrees go counts joins =
+queue_fills {M} b crossing holds m old new upper below lower at k before reader place s queue rest out ta tb whole pos w u straight at_place alone agrees go counts joins =
     let c = w.cut in
     let items = held_in crossing (place_at at upper.tree) ++ rest in
     let x0 = crossing.queued queue below.tree.machine in
@@ -317,71 +317,71 @@ queue_fills {M} b nodes crossing holds m old new upper below lower at k before r
     let A1 : Option Reading → Type 0 = λ r. AllGoOn (b.reads x0 ∷ rows0) (r ∷ rows1) in
     let down = counts_in tb in
     let all = counts_in whole in
-    let none = (apart b nodes crossing holds m old new upper below lower at k reader queue c w.free go u.given.reading).now_below in
+    let none = (apart b crossing holds m old new upper below lower at k reader queue c w.free go u.reading).now_below in
     let same = all_of_both (IsNot k) (λ i. IsNot k i → slice_get whole i ≡ slice_get tb i) (SameAt down all) (agreed k tb whole) (readings b lower.tree) none agrees in
     let R : Option Reading → Type 0 = λ o. IsReadAt all o in
     let L : ℕ → Type 0 = λ n. IsBalanced b lower.tree n in
     record {
-      goes = subst A1 (sym now.reads) (subst A0 (sym low.reads) u.given.reading);
+      goes = subst A1 (sym now.reads) (subst A0 (sym low.reads) u.reading);
       balanced = λ p same there open_still live_still clear bal was.
           let edge = edge_live p at s pos there live_still in
-          let cuts = cuts_balanced b nodes crossing holds m old new below at k before reader queue c w.reads w.sent w.counted was in
-          let opened = cut_open b nodes crossing old new below at reader queue c (clear at (clear_both b p at open_still live_still)) in
+          let cuts = cuts_balanced b crossing holds m old new below at k before reader queue c w.reads w.sent w.counted was in
+          let opened = cut_open b crossing old new below at reader queue c (clear at (clear_both b p at open_still live_still)) in
           queue_put b m x lower.tree.machine items lower.tree.inputs s.sent now
-          (subst L (sym (ap (λ z. s.sent + length (held_in crossing z ++ rest)) (sym same) ∙ counts p same there open_still bal)) ((u.given.on (u.goes_on edge)).balance below.root.demand.sent u.counted (cuts.1 opened)));
-      reads = λ l. let got = tree_over b down all lower.tree same (u.given.on (u.goes_on l)).reads in (subst R (sym now.reads) got.0, got.1);
-      clear = λ l j h. clear_queue b m x0 below.tree.machine queue below.tree.inputs j low ∙ (u.given.on (u.goes_on l)).clear j (sym (clear_queue b m x lower.tree.machine items lower.tree.inputs j now) ∙ h);
+          (subst L (sym (ap (λ z. s.sent + length (held_in crossing z ++ rest)) (sym same) ∙ counts p same there open_still bal)) ((u.goes_on edge).balance below.root.demand.sent u.counted (cuts.1 opened)));
+      reads = λ l. let got = tree_over b down all lower.tree same (u.goes_on l).reads in (subst R (sym now.reads) got.0, got.1);
+      clear = λ l j h. clear_queue b m x0 below.tree.machine queue below.tree.inputs j low ∙ (u.goes_on l).clear j (sym (clear_queue b m x lower.tree.machine items lower.tree.inputs j now) ∙ h);
       shut = u.closed;
       joins = λ p given same go flow. let J : M → Type 0 = λ z. Carries b m whole old.tree (with_node at z lower.tree.inputs p.tree) given in subst J (ap (λ z. crossing.queued (held_in crossing z ++ rest) lower.tree.machine) same) (joins p given same go flow);
     }
 
 -- no node of the part that is joined reads the link
-over_free : {M T : Type 0} (b : Machine M T) (nodes : Nodes M T) (crossing : CrossingNodes M T) → HoldsLaw b nodes crossing →
-    (m : Meaning T) (old new below lower p : Part M) (at k before : ℕ) (reader : M) (place : Place M) (queue rest : List T) → WasCut b nodes crossing old at k before reader below queue new →
-    nodes.crosses lower.tree.machine ≡ false → place_at at p.tree ≡ Some place → place.below ≡ End → AllGoOn (readings b new.tree) (readings b p.tree) → AllGoOn (readings b below.tree) (readings b lower.tree) →
+over_free : {M T : Type 0} (b : Machine M T) (crossing : CrossingNodes M T) → HoldsLaw b crossing →
+    (m : Meaning T) (old new below lower p : Part M) (at k before : ℕ) (reader : M) (place : Place M) (queue rest : List T) → WasCut b crossing old at k before reader below queue new →
+    b.crosses lower.tree.machine ≡ false → place_at at p.tree ≡ Some place → place.below ≡ End → AllGoOn (readings b new.tree) (readings b p.tree) → AllGoOn (readings b below.tree) (readings b lower.tree) →
     ReadsNot b k lower.tree × ReadsNot b k (joined crossing p at lower rest).tree
-over_free b nodes crossing holds m old new below lower p at k before reader place queue rest w straight there alone go_up go_low =
-    let none = apart b nodes crossing holds m old new p below lower at k reader queue w.cut w.free go_up go_low in
-    (none.now_below, joined_reads_not b nodes crossing holds m p below lower at k place rest straight there alone none)
+over_free b crossing holds m old new below lower p at k before reader place queue rest w straight there alone go_up go_low =
+    let none = apart b crossing holds m old new p below lower at k reader queue w.cut w.free go_up go_low in
+    (none.now_below, joined_reads_not b crossing holds m p below lower at k place rest straight there alone none)
 
-pub joins_whole : {M T : Type 0} (b : Machine M T) (nodes : Nodes M T) (crossing : CrossingNodes M T) → HoldsLaw b nodes crossing → CountedLaw b crossing → JoinsAfterMoves b nodes crossing → JoinsWhole b nodes crossing
-joins_whole b nodes crossing holds law after m old new upper below lower at k before reader s queue rest taken queued out up inlet ta tb whole pos w count above there u can link hub carried came all sh =
-    let j = can_join_is b nodes crossing upper at k lower.tree.machine rest can in
+pub joins_whole : {M T : Type 0} (b : Machine M T) (crossing : CrossingNodes M T) → HoldsLaw b crossing → CountedLaw b crossing → JoinsAfterMoves b crossing → JoinsWhole b crossing
+joins_whole b crossing holds law after m old new upper below lower at k before reader s queue rest taken queued out up inlet ta tb whole pos w count above there u can link hub carried came all sh =
+    let j = can_join_is b crossing upper at k lower.tree.machine rest can in
     let far = node_reached b upper at k j.place taken inlet ta j.there j.reads link hub came in
-    let held = can_held b nodes crossing upper at k lower.tree.machine rest j.place j.there can in
+    let held = can_held b crossing upper at k lower.tree.machine rest j.place j.there can in
     let began = has_begun b upper at k before j.place far.0 inlet ta j.there far.1 far.2 link hub carried in
     let items = items_all taken rest queue out [] (ap (λ l. map Next taken ++ l) (append-nil (map Next rest)) ∙ (all ∙ ap (λ l. map Next queue ++ l) (sym (append-nil out)))) in
-    let fills = queue_fills b nodes crossing holds m old new upper below lower at k before reader j.place s queue rest out ta tb whole pos w u j.straight j.there j.alone sh.same_below above.reading (λ p same is clear bal.
+    let fills = queue_fills b crossing holds m old new upper below lower at k before reader j.place s queue rest out ta tb whole pos w u j.straight j.there j.alone sh.same_below above.reading (λ p same is clear bal.
     counts_all b crossing law p at before (length taken) below.root.demand.sent lower.root.demand.sent j.place s far.0 rest queue out (same ∙ j.there) (held ∙ ap (λ z. Some (held_in crossing z)) (sym same)) far.1 far.3 began items w.counted u.counted is clear bal
     ) (λ p given same go flow.
     let at_place = same ∙ j.there in
-    let free = over_free b nodes crossing holds m old new below lower p at k before reader j.place queue rest w j.straight at_place j.alone go u.given.reading in
-    let can_p : can_join b nodes crossing p at k lower.tree.machine rest ≡ true = ap (λ z. not (nodes.crosses lower.tree.machine) && can_join_in b crossing k rest z) same ∙ can in
+    let free = over_free b crossing holds m old new below lower p at k before reader j.place queue rest w j.straight at_place j.alone go u.reading in
+    let can_p : can_join b crossing p at k lower.tree.machine rest ≡ true = ap (λ z. not (b.crosses lower.tree.machine) && can_join_in b crossing k rest z) same ∙ can in
     let reached : HasReached b p at k (length taken) = record { place = j.place; there = at_place; reads = far } in
-    after m old new p below lower at k reader queue rest taken out given ta tb whole w.cut w.reads.held (fresh b crossing k before reader w.reads) can_p reached all w.free free.1 free.0 sh.above sh.below flow u.given.flow)
+    after m old new p below lower at k reader queue rest taken out given ta tb whole w.cut w.reads.held (fresh b crossing k before reader w.reads) can_p reached all w.free free.1 free.0 sh.above sh.below flow u.flow)
     in
-    stands_filled b nodes crossing holds m old new upper below at k before reader j.place s queue ta whole (crossing.queued (held_in crossing (place_at at upper.tree) ++ rest) lower.tree.machine) lower.tree.inputs pos w j.there j.alone fills queued up count above there sh.same_above
+    stands_filled b crossing holds m old new upper below at k before reader j.place s queue ta whole (crossing.queued (held_in crossing (place_at at upper.tree) ++ rest) lower.tree.machine) lower.tree.inputs pos w j.there j.alone fills queued up count above there sh.same_above
 
 -- ---- where the lower piece has sent its ending
 
-pub joins_whole_ended : {M T : Type 0} (b : Machine M T) (nodes : Nodes M T) (crossing : CrossingNodes M T) → HoldsLaw b nodes crossing → CountedLaw b crossing → JoinsAfterEnding b nodes crossing → JoinsWholeEnded b nodes crossing
-joins_whole_ended {M} b nodes crossing holds law after m old new upper below kept gone at k before reader s queue items taken queued out ending up inlet ta tb whole pos w count above there u lets carries can link hub carried came all sh =
-    let j = can_join_is b nodes crossing upper at k kept.tree.machine items can in
+pub joins_whole_ended : {M T : Type 0} (b : Machine M T) (crossing : CrossingNodes M T) → HoldsLaw b crossing → CountedLaw b crossing → JoinsAfterEnding b crossing → JoinsWholeEnded b crossing
+joins_whole_ended {M} b crossing holds law after m old new upper below kept gone at k before reader s queue items taken queued out ending up inlet ta tb whole pos w count above there u lets carries can link hub carried came all sh =
+    let j = can_join_is b crossing upper at k kept.tree.machine items can in
     let far = node_reached b upper at k j.place taken inlet ta j.there j.reads link hub came in
-    let held = can_held b nodes crossing upper at k kept.tree.machine items j.place j.there can in
+    let held = can_held b crossing upper at k kept.tree.machine items j.place j.there can in
     let began = has_begun b upper at k before j.place far.0 inlet ta j.there far.1 far.2 link hub carried in
     let counts = items_all taken items queue out (ending ∷ []) all in
     let A : List (Option Reading) → Type 0 = λ l. AllOf (λ i. i ≡ k → ⊥) l in
-    let fills = queue_fills b nodes crossing holds m old new upper below kept at k before reader j.place s queue items out ta tb whole pos w u j.straight j.there j.alone sh.same_below above.reading (λ p same is clear bal.
+    let fills = queue_fills b crossing holds m old new upper below kept at k before reader j.place s queue items out ta tb whole pos w u j.straight j.there j.alone sh.same_below above.reading (λ p same is clear bal.
     counts_all b crossing law p at before (length taken) below.root.demand.sent kept.root.demand.sent j.place s far.0 items queue out (same ∙ j.there) (held ∙ ap (λ z. Some (held_in crossing z)) (sym same)) far.1 far.3 began counts w.counted u.counted is clear bal
     ) (λ p given same go flow.
     let at_place = same ∙ j.there in
-    let free = over_free b nodes crossing holds m old new below kept p at k before reader j.place queue items w j.straight at_place j.alone go u.given.reading in
-    let can_p : can_join b nodes crossing p at k kept.tree.machine items ≡ true = ap (λ z. not (nodes.crosses kept.tree.machine) && can_join_in b crossing k items z) same ∙ can in
+    let free = over_free b crossing holds m old new below kept p at k before reader j.place queue items w j.straight at_place j.alone go u.reading in
+    let can_p : can_join b crossing p at k kept.tree.machine items ≡ true = ap (λ z. not (b.crosses kept.tree.machine) && can_join_in b crossing k items z) same ∙ can in
     let reached : HasReached b p at k (length taken) = record { place = j.place; there = at_place; reads = far } in
     after m old new p below kept gone at k reader queue items taken ending (out ++ ending ∷ []) given ta tb whole w.cut w.reads.held (fresh b crossing k before reader w.reads) can_p reached all lets w.free free.1 (subst A (sym lets.alike.2) free.0) sh.above sh.below flow carries)
     in
-    stands_filled b nodes crossing holds m old new upper below at k before reader j.place s queue ta whole (crossing.queued (held_in crossing (place_at at upper.tree) ++ items) kept.tree.machine) kept.tree.inputs pos w j.there j.alone fills queued up count above there sh.same_above
+    stands_filled b crossing holds m old new upper below at k before reader j.place s queue ta whole (crossing.queued (held_in crossing (place_at at upper.tree) ++ items) kept.tree.machine) kept.tree.inputs pos w j.there j.alone fills queued up count above there sh.same_above
 
 -- below a node that has ended no edge is clear
 ended_clear : {M T : Type 0} (b : Machine M T) (t : Node M) (x : M) (xs : Inputs M) → b.ended x ≡ true → WasClear b t (record { machine = x; inputs = xs })
@@ -390,12 +390,12 @@ ended_clear b t x xs ended j h = elim (cases_lt 0 j) [
   | inl l ↦ let parts = and_parts (not (b.ended x)) _ (sym (clear_under b (record { machine = x; inputs = xs }) j l) ∙ h) in let not_ended = is_false (b.ended x) parts.0 in cc
 ]
 
-pub joins_whole_at_end : {M T : Type 0} (b : Machine M T) (nodes : Nodes M T) (crossing : CrossingNodes M T) → HoldsLaw b nodes crossing →
-    ((m : Meaning T) (e : Ending) (q : List T) (s : Signal T) (before n : M) → nodes.crosses n ≡ false → endings e ≡ s ∷ [] → b.waiting m before ≡ Some s → LetsGo (b.comes_out m) before s n → HoldsEnding b m (crossing.ended_queue e q n) (map Next q ++ s ∷ []) n) →
-    JoinsAtEnd b nodes crossing → JoinsWholeAtEnd b nodes crossing
-joins_whole_at_end {M} {T} b nodes crossing holds ends_law after m old new upper below kept gone at k before reader place s queue e came queued out ending up ta tb whole pos w count above there u lets carries can at_place read_to last all sh =
-    let parts = and_parts (not (nodes.crosses gone.tree.machine)) _ can in
-    let straight = is_false (nodes.crosses gone.tree.machine) parts.0 in
+pub joins_whole_at_end : {M T : Type 0} (b : Machine M T) (crossing : CrossingNodes M T) → HoldsLaw b crossing →
+    ((m : Meaning T) (e : Ending) (q : List T) (s : Signal T) (before n : M) → b.crosses n ≡ false → endings e ≡ s ∷ [] → b.waiting m before ≡ Some s → LetsGo (b.comes_out m) before s n → HoldsEnding b m (crossing.ended_queue e q n) (map Next q ++ s ∷ []) n) →
+    JoinsAtEnd b crossing → JoinsWholeAtEnd b crossing
+joins_whole_at_end {M} {T} b crossing holds ends_law after m old new upper below kept gone at k before reader place s queue e came queued out ending up ta tb whole pos w count above there u lets carries can at_place read_to last all sh =
+    let parts = and_parts (not (b.crosses gone.tree.machine)) _ can in
+    let straight = is_false (b.crosses gone.tree.machine) parts.0 in
     let can_here : can_end_here crossing 0 place.node place.below ≡ true = sym (ap (can_put_in b crossing None 0) at_place) ∙ parts.1 in
     let alone = ended_row place.below (and_parts (is_end place.below) _ can_here).0 in
     let held = held_in crossing (place_at at upper.tree) in
@@ -405,7 +405,7 @@ joins_whole_at_end {M} {T} b nodes crossing holds ends_law after m old new upper
     let inputs : kept.tree.inputs ≡ gone.tree.inputs = lets.popped.1 in
     let rows0 = row_readings b below.tree.inputs in
     let x0 = crossing.queued queue below.tree.machine in
-    let none = apart b nodes crossing holds m old new upper below kept at k reader queue w.cut w.free above.reading u.given.reading in
+    let none = apart b crossing holds m old new upper below kept at k reader queue w.cut w.free above.reading u.reading in
     let down = counts_in tb in
     let whole_counts = counts_in whole in
     let same = all_of_both (IsNot k) (λ i. IsNot k i → slice_get whole i ≡ slice_get tb i) (SameAt down whole_counts) (agreed k tb whole) (readings b kept.tree) none.now_below sh.same_below in
@@ -418,15 +418,15 @@ joins_whole_at_end {M} {T} b nodes crossing holds ends_law after m old new upper
     let P : Option Reading → Type 0 = λ o. IsOf (IsNot k) o in
     let gone_free : AllOf (IsNot k) (readings b gone.tree) = subst A (sym lets.alike.2) none.now_below in
     let fills : Fills b m old new upper at s ta whole x0 below.tree.inputs x gone.tree.inputs = record {
-      goes = subst G (sym over.reads) (inr refl, subst I inputs u.given.reading.1);
+      goes = subst G (sym over.reads) (inr refl, subst I inputs u.reading.1);
       balanced = λ p same there open_still live_still clear bal was. inl over.ended;
-      reads = λ l. (subst R (sym over.reads) tt, subst D inputs (tree_over b down whole_counts kept.tree same (u.given.on (u.goes_on l)).reads).1);
+      reads = λ l. (subst R (sym over.reads) tt, subst D inputs (tree_over b down whole_counts kept.tree same (u.goes_on l).reads).1);
       clear = λ l. ended_clear b (record { machine = x0; inputs = below.tree.inputs }) x gone.tree.inputs over.ended;
       shut = λ d. subst N inputs (u.closed d);
       joins = λ p given same go flow.
           let there_p = same ∙ at_place in
-          let p_none = (apart b nodes crossing holds m old new p below kept at k reader queue w.cut w.free go u.given.reading).above in
-          let can_p : can_rejoin_ended b nodes crossing p at gone.tree.machine [] ≡ true = ap (λ z. not (nodes.crosses gone.tree.machine) && can_put_in b crossing None 0 z) same ∙ can in
+          let p_none = (apart b crossing holds m old new p below kept at k reader queue w.cut w.free go u.reading).above in
+          let can_p : can_rejoin_ended b crossing p at gone.tree.machine [] ≡ true = ap (λ z. not (b.crosses gone.tree.machine) && can_put_in b crossing None 0 z) same ∙ can in
           let xp = put_node crossing None (place_at at p.tree) [] gone.tree.machine in
           let x_is : xp ≡ x = ap (λ z. put_node crossing None z [] gone.tree.machine) same in
           let free = put_reads_not b k at xp gone.tree.inputs place p there_p alone p_none (subst P (sym (ap b.reads x_is ∙ over.reads)) tt, gone_free.1) in
@@ -434,4 +434,4 @@ joins_whole_at_end {M} {T} b nodes crossing holds ends_law after m old new upper
           subst J x_is
           (after m old new p below kept gone at k reader place queue e ending came (out ++ ending ∷ []) given ta tb whole w.cut w.reads.held (fresh b crossing k before reader w.reads) can_p there_p read_to last all lets w.free free gone_free sh.above sh.below flow carries);
     } in
-    stands_filled b nodes crossing holds m old new upper below at k before reader place s queue ta whole x gone.tree.inputs pos w at_place alone fills queued up count above there sh.same_above
+    stands_filled b crossing holds m old new upper below at k before reader place s queue ta whole x gone.tree.inputs pos w at_place alone fills queued up count above there sh.same_above

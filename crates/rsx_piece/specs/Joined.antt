@@ -3,7 +3,6 @@ use Rattle.std.specs.Prelude.{◌≡◌, ℕ, ◌+◌, ◌<◌, true, false, Lis
 use Rattle.rsx_sources.specs.Prelude.{Meaning, Next, Open, Signal, Stream, ended_by, reads_hub}
 use Rattle.rsx_sources.specs.declared.machine.Machine.{Ghosts as Machine}
 use Rattle.rsx_rooted.specs.declared.nodes.CrossingNodes.{Ghosts as CrossingNodes}
-use Rattle.rsx_rooted.specs.declared.nodes.Nodes.{Ghosts as Nodes}
 use Rattle.rsx_tree.specs.declared.edge.EdgeState.TheVariants.{Live}
 use Rattle.rsx_tree.specs.declared.node.Node.{Node}
 use Rattle.rsx_tree.specs.Edges.{edge_view}
@@ -37,10 +36,10 @@ pub record IsReader {M T : Type 0} (b : Machine M T) (crossing : CrossingNodes M
 -- Where the counts of the whole belong together, those of the upper piece do, and those of the lower one, as long as no receiver over
 -- the edge has ended or is done with it. The edge had sent `before` items, and with those of its queue that is what counts as sent by
 -- the lower piece.
-abbrev pub CutsBalanced : {M T : Type 0} → Machine M T → Nodes M T → CrossingNodes M T → Type 0
-CutsBalanced {M} {T} b nodes crossing =
+abbrev pub CutsBalanced : {M T : Type 0} → Machine M T → CrossingNodes M T → Type 0
+CutsBalanced {M} {T} b crossing =
     (m : Meaning T) (old new below : Part M) (at k before : ℕ) (reader : M) (queue : List T) →
-    IsCut nodes crossing old at reader below queue new → IsReader b crossing k before reader → sent_over_edge old at ≡ Some before → before + length queue ≡ below.root.demand.sent →
+    IsCut b crossing old at reader below queue new → IsReader b crossing k before reader → sent_over_edge old at ≡ Some before → before + length queue ≡ below.root.demand.sent →
     IsBalanced b old.tree old.root.demand.sent →
     IsBalanced b new.tree new.root.demand.sent × (is_open_over b old at ≡ true → IsBalanced b below.tree below.root.demand.sent)
 
@@ -49,10 +48,10 @@ abbrev pub AgreesOn : {M T : Type 0} → Machine M T → ℕ → List (Stream T)
 AgreesOn b k taken others t = AllOf (λ i. (i ≡ k → ⊥) → slice_get others i ≡ slice_get taken i) (readings b t)
 
 -- What the nodes of the whole have taken in, those of both pieces have. Nothing came over the link yet.
-abbrev pub CutsReading : {M T : Type 0} → Machine M T → Nodes M T → CrossingNodes M T → Type 0
-CutsReading {M} {T} b nodes crossing =
+abbrev pub CutsReading : {M T : Type 0} → Machine M T → CrossingNodes M T → Type 0
+CutsReading {M} {T} b crossing =
     (m : Meaning T) (old new below : Part M) (at k before : ℕ) (reader : M) (queue : List T) (whole taken_above taken_below : List (Stream T)) →
-    IsCut nodes crossing old at reader below queue new → IsReader b crossing k before reader → ReadsNot b k old.tree →
+    IsCut b crossing old at reader below queue new → IsReader b crossing k before reader → ReadsNot b k old.tree →
     slice_get taken_above k ≡ Some (ended_by Open) → AgreesOn b k whole taken_above old.tree → AgreesOn b k whole taken_below old.tree →
     IsTreeReadAt b (counts_in whole) old.tree →
     IsTreeReadAt b (counts_in taken_above) new.tree × IsTreeReadAt b (counts_in taken_below) below.tree
@@ -63,23 +62,23 @@ CutsReading {M} {T} b nodes crossing =
 -- queue, and of `out`, `taken` came to the reader, by an end that began with what had gone over the edge. Over a live edge the lower piece
 -- goes on. Where the counts of the whole belonged together, those of the joined part do. In its queue is what the reader holds and then
 -- `rest`; with these the joined edge counts what the lower piece sent.
-abbrev pub JoinsBalanced : {M T : Type 0} → Machine M T → Nodes M T → CrossingNodes M T → Type 0
-JoinsBalanced {M} {T} b nodes crossing =
+abbrev pub JoinsBalanced : {M T : Type 0} → Machine M T → CrossingNodes M T → Type 0
+JoinsBalanced {M} {T} b crossing =
     (m : Meaning T) (old new upper below lower : Part M) (at k before : ℕ) (reader : M) (queue rest taken : List T) (went out : List (Signal T)) (inlet : Inlet T) (taken_above taken_below : List (Stream T)) →
-    IsCut nodes crossing old at reader below queue new → IsReader b crossing k before reader → sent_over_edge old at ≡ Some before → before + length queue ≡ below.root.demand.sent →
+    IsCut b crossing old at reader below queue new → IsReader b crossing k before reader → sent_over_edge old at ≡ Some before → before + length queue ≡ below.root.demand.sent →
     IsBalanced b old.tree old.root.demand.sent →
-    can_join b nodes crossing upper at k lower.tree.machine rest ≡ true →
+    can_join b crossing upper at k lower.tree.machine rest ≡ true →
     GoesOn b taken_above new.tree upper went → old.root.demand.sent + items_in went ≡ upper.root.demand.sent → upper.root.state ≡ Live →
     (is_live_over upper at ≡ true → GoesOn b taken_below below.tree lower out) → below.root.demand.sent + items_in out ≡ lower.root.demand.sent →
     InletStands b taken_above upper inlet → inlet.hub ≡ k → carried_down inlet.down ≡ before → received_signals inlet.down ≡ map Next taken → map Next taken ++ map Next rest ≡ map Next queue ++ out →
     IsBalanced b (joined crossing upper at lower rest).tree (joined crossing upper at lower rest).root.demand.sent
 
 -- What the nodes of both pieces have taken in, those of the joined part have. That of the reader, which is dropped, doesn't matter.
-abbrev pub JoinsReading : {M T : Type 0} → Machine M T → Nodes M T → CrossingNodes M T → Type 0
-JoinsReading {M} {T} b nodes crossing =
+abbrev pub JoinsReading : {M T : Type 0} → Machine M T → CrossingNodes M T → Type 0
+JoinsReading {M} {T} b crossing =
     (m : Meaning T) (old new upper below lower : Part M) (at k : ℕ) (reader : M) (queue rest : List T) (taken_above taken_below whole : List (Stream T)) →
-    IsCut nodes crossing old at reader below queue new → ReadsAt b k 0 reader → ReadsNot b k old.tree →
-    can_join b nodes crossing upper at k lower.tree.machine rest ≡ true →
+    IsCut b crossing old at reader below queue new → ReadsAt b k 0 reader → ReadsNot b k old.tree →
+    can_join b crossing upper at k lower.tree.machine rest ≡ true →
     AllGoOn (readings b new.tree) (readings b upper.tree) → AllGoOn (readings b below.tree) (readings b lower.tree) →
     AgreesOn b k taken_above whole upper.tree → AgreesOn b k taken_below whole lower.tree →
     IsTreeReadAt b (counts_in taken_above) upper.tree → upper.root.state ≡ Live →

@@ -1,4 +1,5 @@
 -- Definitions that contracts cite.
+pub mod Endings
 pub mod Inlet
 pub mod Joined
 pub mod Joining

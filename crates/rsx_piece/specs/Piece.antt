@@ -61,6 +61,8 @@ pub record PieceStands {M T : Type 0} (b : Machine M T) (m : Meaning T) (taken :
   pub step : IsInStep part up
   -- each node, behind an edge that isn't live, too, reads what it read, or nothing any more
   pub reading : AllGoOn (readings b old) (readings b part.tree)
+  -- the edge of its root has a queue if it had one
+  pub crosses : b.crosses part.tree.machine ≡ b.crosses old.machine
   pub live : part.root.state ≡ Live → GoesOn b taken old part out
   pub ended : part.root.state ≡ Ended → HasEnded b m taken old part out
   pub closed : part.root.state ≡ Closed → WasClosed part up out
@@ -70,6 +72,7 @@ pub record PieceStands {M T : Type 0} (b : Machine M T) (m : Meaning T) (taken :
 pub record HasGiven {M T : Type 0} (b : Machine M T) (m : Meaning T) (taken : List (Stream T)) (old : Node M) (part : Part M) (out : List (Signal T)) : Type 0 where
   pub flow : Carries b m taken old part.tree out
   pub reading : AllGoOn (readings b old) (readings b part.tree)
+  pub crosses : b.crosses part.tree.machine ≡ b.crosses old.machine
   pub on : part.root.state ≡ Live → GoesOn b taken old part out
 
 -- A piece that has sent no ending gave what it sent. The root edge counts that, and what was sent before.

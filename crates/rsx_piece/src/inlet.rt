@@ -1,11 +1,13 @@
 //! What a piece has of a link that comes in.
 
-ghost use Rattle.std.specs.Prelude.{◌≡◌, ◌<◌, [], true};
-ghost use Rattle.rsx_link.specs.Ends.{cancels_of};
+ghost use Rattle.std.specs.Prelude.{◌≡◌, ◌<◌, ◌∷◌, ◌++◌, [], List, true};
+ghost use Rattle.rsx_link.specs.Ends.{cancels_of, received_signals};
+ghost use Rattle.rsx_piece.specs.Endings.{first_ending};
+ghost use Rattle.rsx_types.specs.declared.signal.Signal.{Signal as SignalSpec};
 
 use rsx_link::{CancelSeat, Down, Link};
 use rsx_pipe::{EdgeState, Nodes, Part};
-use rsx_types::{NoMemory, Signal};
+use rsx_types::{Ending, NoMemory, Signal};
 use std::alloc::Global;
 
 /// What a piece has of a link that comes in: the receiving end, and the seat that cancels the link.
@@ -17,19 +19,35 @@ pub struct Inlet<T> {
     pub down: Down<T>,
     /// The seat that cancels the link.
     pub closer: CancelSeat,
+    /// The ending that was taken from the link, if one was.
+    pub ended: Option<Ending>,
     // The one signal that is handed on stands here in between.
     hand: Vec<Signal<T>>,
     // Whether the link was cancelled by this seat here.
     cancelled: bool,
     pub ghost empty: { hand.items ≡ [] },
     pub ghost told: { cancelled ≡ true → 0 < cancels_of closer },
+    pub ghost over: { ended ≡ first_ending (received_signals down) },
+}
+
+/// The first ending among some signals and this one behind them, where `ended` is the first among those.
+fn ended_by<T>(ended: Option<Ending>, signal: &Signal<T>) -> Option<Ending>
+    ensures { (before : List (SignalSpec T)) → ended ≡ first_ending before → result ≡ first_ending (before ++ signal.now ∷ []) }
+{
+    match ended {
+        Some(ending) => Some(ending),
+        None => match signal {
+            Signal::Next(_) => None,
+            Signal::Complete => Some(Ending::Done),
+            Signal::Error(cause) => Some(Ending::Failed(*cause)),
+        },
+    }
 }
 
 impl<T: Drop> Inlet<T> {
     ghost use Rattle.std.specs.Prelude.{List, false, OnErr, IfOk};
     ghost use Rattle.rsx_types.specs.Meaning.{Meaning};
     ghost use Rattle.rsx_types.specs.Stream.{Stream};
-    ghost use Rattle.rsx_types.specs.declared.signal.Signal.{Signal as SignalSpec};
     ghost use Rattle.rsx_tree.specs.declared.node.Node.{Node};
     ghost use Rattle.rsx_pipe.specs.Published.{reader_edge};
     ghost use Rattle.rsx_link.specs.Ends.{IsDownOf};
@@ -39,8 +57,8 @@ impl<T: Drop> Inlet<T> {
     ghost use Rattle.rsx_piece.specs.Piece.{IsInStep, PieceStands};
     ghost use Rattle.rsx_piece.specs.declared.inlet.Inlet.{Inlet as InletSpec};
 
-    /// Of the link with these ends, which a node of the piece reads under the number `hub`. Room for the signal that is handed on is
-    /// made here.
+    /// Of the link with these ends, which a node of the piece reads under the number `hub`. Nothing was taken from the link yet. Room for
+    /// the signal that is handed on is made here.
     ///
     /// # Errors
     /// [`NoMemory`] where there was none for that.
@@ -50,6 +68,7 @@ impl<T: Drop> Inlet<T> {
         down: Down<T>,
         closer: CancelSeat,
     ) -> Result<Inlet<T>, NoMemory>
+        requires { received_signals down ≡ [] }
         ensures { IfOk result (λ i. (i.hub ≡ hub) × (i.down ≡ down) × (i.closer ≡ closer)) }
     {
         let hand = Vec::with_capacity(alloc, 1)?;
@@ -57,9 +76,17 @@ impl<T: Drop> Inlet<T> {
             hub,
             down,
             closer,
+            ended: None,
             hand,
             cancelled: false,
         })
+    }
+
+    /// The two ends of the link.
+    pub fn into_ends(self) -> (Down<T>, CancelSeat)
+        ensures { (result.0 ≡ self.down) × (result.1 ≡ self.closer) }
+    {
+        (self.down, self.closer)
     }
 
     /// Takes the oldest signal from the link and hands it to the node that reads the link, and answers whether it did. It takes one
@@ -97,6 +124,7 @@ impl<T: Drop> Inlet<T> {
         let Some(signal) = self.down.take(link) else {
             return Ok(false);
         };
+        self.ended = ended_by(self.ended, &signal);
         self.hand.push_reserved(signal);
         part.hand(hub, &mut self.hand);
         Ok(true)

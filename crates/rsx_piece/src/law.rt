@@ -23,7 +23,7 @@ pub fn opens<N: Nodes>()
 ///
 /// The function does nothing; its contract is the sentence.
 pub fn joins<N: CrossingNodes>()
-    ensures { JoinsPieces N.Machine N.Nodes.own N.CrossingNodes.own }
+    ensures { JoinsPieces N.Machine N.CrossingNodes.own }
 {}
 
 /// The same of the two pieces with less to know of them. No node of the whole reads the link; then only the reader does, and none
@@ -32,7 +32,7 @@ pub fn joins<N: CrossingNodes>()
 ///
 /// The function does nothing; its contract is the sentence.
 pub fn joins_again<N: CrossingNodes>()
-    ensures { JoinsAgain N.Machine N.Nodes.own N.CrossingNodes.own }
+    ensures { JoinsAgain N.Machine N.CrossingNodes.own }
 {}
 
 /// The same where the lower piece has sent its ending, and that didn't come to the reader. It is put back, by
@@ -40,7 +40,7 @@ pub fn joins_again<N: CrossingNodes>()
 ///
 /// The function does nothing; its contract is the sentence.
 pub fn joins_ended<N: CrossingNodes>()
-    ensures { JoinsEnded N.Machine N.Nodes.own N.CrossingNodes.own }
+    ensures { JoinsEnded N.Machine N.CrossingNodes.own }
 {}
 
 /// A piece gave what it sent into its link. Where the last of that was its ending, the part is as it was before where that is put
@@ -57,8 +57,8 @@ pub fn gives_back<N: Nodes>()
 ///
 /// The function does nothing; its contract is the sentence.
 pub fn cuts<N: CrossingNodes>()
-    ensures balance { CutsBalanced N.Machine N.Nodes.own N.CrossingNodes.own }
-    ensures reading { CutsReading N.Machine N.Nodes.own N.CrossingNodes.own }
+    ensures balance { CutsBalanced N.Machine N.CrossingNodes.own }
+    ensures reading { CutsReading N.Machine N.CrossingNodes.own }
 {}
 
 /// Two pieces are joined again, by [`Part::rejoin`](rsx_pipe::Part::rejoin). Where the counts along the edges of the whole belonged
@@ -66,8 +66,8 @@ pub fn cuts<N: CrossingNodes>()
 ///
 /// The function does nothing; its contract is the sentence.
 pub fn rejoins<N: CrossingNodes>()
-    ensures balance { JoinsBalanced N.Machine N.Nodes.own N.CrossingNodes.own }
-    ensures reading { JoinsReading N.Machine N.Nodes.own N.CrossingNodes.own }
+    ensures balance { JoinsBalanced N.Machine N.CrossingNodes.own }
+    ensures reading { JoinsReading N.Machine N.CrossingNodes.own }
 {}
 
 /// A link is cancelled from its reader's side only where the reader's edge isn't live ([`Inlet::ask`](crate::Inlet::ask)). So a lower
@@ -87,7 +87,7 @@ pub fn cancels<N: Nodes>()
 ///
 /// The function does nothing; its contract is the sentence.
 pub fn joins_whole<N: CrossingNodes>()
-    ensures going_on { JoinsWhole N.Machine N.Nodes.own N.CrossingNodes.own }
-    ensures ended { JoinsWholeEnded N.Machine N.Nodes.own N.CrossingNodes.own }
-    ensures at_end { JoinsWholeAtEnd N.Machine N.Nodes.own N.CrossingNodes.own }
+    ensures going_on { JoinsWhole N.Machine N.CrossingNodes.own }
+    ensures ended { JoinsWholeEnded N.Machine N.CrossingNodes.own }
+    ensures at_end { JoinsWholeAtEnd N.Machine N.CrossingNodes.own }
 {}

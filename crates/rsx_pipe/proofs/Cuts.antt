@@ -13,7 +13,6 @@ use Rattle.rsx_pipe.specs.Joined.{HasReached, JoinsAfterMoves, JoinsAtOnce}
 use Rattle.rsx_pipe.specs.Part.{Part}
 use Rattle.rsx_rooted.specs.Cutting.{items_of}
 use Rattle.rsx_rooted.specs.declared.nodes.CrossingNodes.{Ghosts as CrossingNodes}
-use Rattle.rsx_rooted.specs.declared.nodes.Nodes.{Ghosts as Nodes}
 use Rattle.rsx_sources.specs.Prelude.{Meaning, Next, Reading, Signal, Stream, reads_hub}
 use Rattle.rsx_sources.specs.declared.machine.Machine.{Ghosts as Machine}
 use Rattle.rsx_tree.proofs.Changes.{chosen_first, chosen_second}
@@ -145,8 +144,8 @@ put_twice {M} at x y xs ys t there = elim (cases_lt 0 at) [
       ∙ sym (with_below at x xs t l)))
 ]
 
-pub cut_there : {M T : Type 0} (nodes : Nodes M T) (crossing : CrossingNodes M T) (old new below : Part M) (at : ℕ) (reader : M) (queue : List T) → IsCut nodes crossing old at reader below queue new → IsThere at old.tree
-cut_there nodes crossing old new below at reader queue c l =
+pub cut_there : {M T : Type 0} (b : Machine M T) (crossing : CrossingNodes M T) (old new below : Part M) (at : ℕ) (reader : M) (queue : List T) → IsCut b crossing old at reader below queue new → IsThere at old.tree
+cut_there b crossing old new below at reader queue c l =
     root_there crossing.edge_queue old.tree.inputs (at - 1) _ (nothing_else (is_live old.root.state) (root_below crossing.edge_queue (at - 1) old.tree.inputs) _ (sym (new_root_below crossing.edge_queue old at l) ∙ c.edge))
 
 -- ---- joined at once
@@ -154,9 +153,9 @@ cut_there nodes crossing old new below at reader queue c l =
 fits_empty : (k : ℕ) → k ≤ CAPACITY → nat_le (0 + k) CAPACITY ≡ true
 fits_empty k h = le-leb (0 + k) CAPACITY (omega (arith, h))
 
-pub at_once : {M T : Type 0} (b : Machine M T) (nodes : Nodes M T) (crossing : CrossingNodes M T) → JoinsAtOnce b nodes crossing
-at_once {M} {T} b nodes crossing old new below at hub reader queue c none reads few =
-    let there = cut_there nodes crossing old new below at reader queue c in
+pub at_once : {M T : Type 0} (b : Machine M T) (crossing : CrossingNodes M T) → JoinsAtOnce b crossing
+at_once {M} {T} b crossing old new below at hub reader queue c none reads few =
+    let there = cut_there b crossing old new below at reader queue c in
     let upper : new.tree ≡ with_node at reader End old.tree = ap (λ p. p.tree) c.upper in
     let place : place_at at new.tree ≡ Some (record { node = reader; below = End }) = ap (place_at at) upper ∙ place_put at reader End old.tree there in
     let x = crossing.queued queue below.tree.machine in
@@ -218,13 +217,13 @@ pub reads_at : {M T : Type 0} (b : Machine M T) (m : Meaning T) (crossing : Cros
 reads_at b m crossing reads_on k n items taken others held reads =
     subst (λ h. ReadsLink b m h n (map Next taken ++ others) (map Next items ++ others)) reads.2 (reads_on n items taken others reads.0 held reads.1 reads.3)
 
-pub after_moves : {M T : Type 0} (b : Machine M T) (nodes : Nodes M T) (crossing : CrossingNodes M T) → ((m : Meaning T) → IsLocal b m) →
-    ((m : Meaning T) (q : List T) (n : M) → nodes.crosses n ≡ false → HoldsQueue b m (crossing.queued q n) q n) →
+pub after_moves : {M T : Type 0} (b : Machine M T) (crossing : CrossingNodes M T) → ((m : Meaning T) → IsLocal b m) →
+    ((m : Meaning T) (q : List T) (n : M) → b.crosses n ≡ false → HoldsQueue b m (crossing.queued q n) q n) →
     ((m : Meaning T) (n : M) (items taken : List T) (others : List (Signal T)) (r : Reading) → crossing.held n ≡ Some items → b.reads n ≡ Some r → r.reached ≡ length taken → ReadsLink b m r.hub n (map Next taken ++ others) (map Next items ++ others)) →
-    JoinsAfterMoves b nodes crossing
-after_moves {M} {T} b nodes crossing local holds_law reads_on m old new upper below lower at k reader queue queue' taken out went taken_above taken_below whole c none reads can reached sent free free' free_below adds nothing above under =
-    let there = cut_there nodes crossing old new below at reader queue c in
-    let parts = and_parts (not (nodes.crosses lower.tree.machine)) _ can in
+    JoinsAfterMoves b crossing
+after_moves {M} {T} b crossing local holds_law reads_on m old new upper below lower at k reader queue queue' taken out went taken_above taken_below whole c none reads can reached sent free free' free_below adds nothing above under =
+    let there = cut_there b crossing old new below at reader queue c in
+    let parts = and_parts (not (b.crosses lower.tree.machine)) _ can in
     let here = reached.place in
     let can_here : can_take_back b crossing k (length queue') here.node here.below ≡ true = sym (ap (can_join_in b crossing k queue') reached.there) ∙ parts.1 in
     let last = and_parts (is_end here.below) _ can_here in
@@ -245,7 +244,7 @@ after_moves {M} {T} b nodes crossing local holds_law reads_on m old new upper be
       leaf_is = reads_at b m crossing (reads_on m) k reader [] [] (map Next queue) none reads;
       leaf_is' = subst H (sym (next_append items queue')) (subst S sent (reads_at b m crossing (reads_on m) k leaf items taken (map Next queue') held_is reached.reads));
       holds = holds_over b m x (map Next queue) below.tree (holds_law m queue below.tree.machine c.straight).holds;
-      holds' = holds_over b m x' (map Next (items ++ queue')) lower.tree (holds_law m (items ++ queue') lower.tree.machine (is_false (nodes.crosses lower.tree.machine) parts.0)).holds;
+      holds' = holds_over b m x' (map Next (items ++ queue')) lower.tree (holds_law m (items ++ queue') lower.tree.machine (is_false (b.crosses lower.tree.machine) parts.0)).holds;
       free = subst R c.whole free;
       free' = free';
       free_below = free_below;

@@ -13,7 +13,6 @@ use Rattle.rsx_pipe.specs.Part.{Part}
 use Rattle.rsx_pipe.specs.Rejoined.{JoinsAfterEnding, JoinsAtEnd, can_end_here, can_put_in, ending_in, put_node}
 use Rattle.rsx_rooted.specs.Cutting.{HoldsEnding, ending_of, endings, is_some}
 use Rattle.rsx_rooted.specs.declared.nodes.CrossingNodes.{Ghosts as CrossingNodes}
-use Rattle.rsx_rooted.specs.declared.nodes.Nodes.{Ghosts as Nodes}
 use Rattle.rsx_sources.specs.Prelude.{Ending, LetsGo, Meaning, Next, Reading, Signal, Stream, reads_hub, signal_then, signals_then}
 use Rattle.rsx_sources.specs.declared.machine.Machine.{Ghosts as Machine}
 use Rattle.rsx_tree.specs.Tree.{IsLetGo, comes_out}
@@ -39,14 +38,14 @@ let_go_over {M} {T} b m x q s old new h l =
     behind q None = refl
     behind q (Some v) = ap Some (sym (then_append q (s ∷ []) v))
 
-pub after_ending : {M T : Type 0} (b : Machine M T) (nodes : Nodes M T) (crossing : CrossingNodes M T) → ((m : Meaning T) → IsLocal b m) →
-    ((m : Meaning T) (q : List T) (n : M) → nodes.crosses n ≡ false → HoldsQueue b m (crossing.queued q n) q n) →
+pub after_ending : {M T : Type 0} (b : Machine M T) (crossing : CrossingNodes M T) → ((m : Meaning T) → IsLocal b m) →
+    ((m : Meaning T) (q : List T) (n : M) → b.crosses n ≡ false → HoldsQueue b m (crossing.queued q n) q n) →
     ((m : Meaning T) (n : M) (items taken : List T) (others : List (Signal T)) (r : Reading) → crossing.held n ≡ Some items → b.reads n ≡ Some r → r.reached ≡ length taken → ReadsLink b m r.hub n (map Next taken ++ others) (map Next items ++ others)) →
-    JoinsAfterEnding b nodes crossing
-after_ending {M} {T} b nodes crossing local holds_law reads_on m old new upper below lower ended at k reader queue items taken ending out went taken_above taken_below whole c none reads can reached sent gone free free' free_below adds nothing above under =
-    let there = cut_there nodes crossing old new below at reader queue c in
-    let parts = and_parts (not (nodes.crosses lower.tree.machine)) _ can in
-    let straight = is_false (nodes.crosses lower.tree.machine) parts.0 in
+    JoinsAfterEnding b crossing
+after_ending {M} {T} b crossing local holds_law reads_on m old new upper below lower ended at k reader queue items taken ending out went taken_above taken_below whole c none reads can reached sent gone free free' free_below adds nothing above under =
+    let there = cut_there b crossing old new below at reader queue c in
+    let parts = and_parts (not (b.crosses lower.tree.machine)) _ can in
+    let straight = is_false (b.crosses lower.tree.machine) parts.0 in
     let place = reached.place in
     let can_here : can_take_back b crossing k (length items) place.node place.below ≡ true = sym (ap (can_join_in b crossing k items) reached.there) ∙ parts.1 in
     let last = and_parts (is_end place.below) _ can_here in
@@ -84,16 +83,16 @@ after_ending {M} {T} b nodes crossing local holds_law reads_on m old new upper b
 
 -- ---- where the ending came to the reader
 
-pub at_end : {M T : Type 0} (b : Machine M T) (nodes : Nodes M T) (crossing : CrossingNodes M T) → ((m : Meaning T) → IsLocal b m) →
-    ((m : Meaning T) (q : List T) (n : M) → nodes.crosses n ≡ false → HoldsQueue b m (crossing.queued q n) q n) →
-    ((m : Meaning T) (e : Ending) (q : List T) (s : Signal T) (before n : M) → nodes.crosses n ≡ false → endings e ≡ s ∷ [] → b.waiting m before ≡ Some s → LetsGo (b.comes_out m) before s n → HoldsEnding b m (crossing.ended_queue e q n) (map Next q ++ s ∷ []) n) →
+pub at_end : {M T : Type 0} (b : Machine M T) (crossing : CrossingNodes M T) → ((m : Meaning T) → IsLocal b m) →
+    ((m : Meaning T) (q : List T) (n : M) → b.crosses n ≡ false → HoldsQueue b m (crossing.queued q n) q n) →
+    ((m : Meaning T) (e : Ending) (q : List T) (s : Signal T) (before n : M) → b.crosses n ≡ false → endings e ≡ s ∷ [] → b.waiting m before ≡ Some s → LetsGo (b.comes_out m) before s n → HoldsEnding b m (crossing.ended_queue e q n) (map Next q ++ s ∷ []) n) →
     ((m : Meaning T) (n : M) (items taken : List T) (others : List (Signal T)) (r : Reading) → crossing.held n ≡ Some items → b.reads n ≡ Some r → r.reached ≡ length taken → ReadsLink b m r.hub n (map Next taken ++ others) (map Next items ++ others)) →
     ((m : Meaning T) (n : M) (items : List T) (e : Ending) (k : ℕ) (sent : List (Signal T)) → crossing.held n ≡ Some items → crossing.read_to n ≡ Some e → ReadsLink b m k n sent (map Next items ++ endings e)) →
-    JoinsAtEnd b nodes crossing
-at_end {M} {T} b nodes crossing local holds_law ends_law reads_on reads_ended m old new upper below lower ended at k reader place queue e ending came out went taken_above taken_below whole c none reads can there_is read_to last all gone free free' free_below adds nothing above under =
-    let there = cut_there nodes crossing old new below at reader queue c in
-    let parts = and_parts (not (nodes.crosses ended.tree.machine)) _ can in
-    let straight = is_false (nodes.crosses ended.tree.machine) parts.0 in
+    JoinsAtEnd b crossing
+at_end {M} {T} b crossing local holds_law ends_law reads_on reads_ended m old new upper below lower ended at k reader place queue e ending came out went taken_above taken_below whole c none reads can there_is read_to last all gone free free' free_below adds nothing above under =
+    let there = cut_there b crossing old new below at reader queue c in
+    let parts = and_parts (not (b.crosses ended.tree.machine)) _ can in
+    let straight = is_false (b.crosses ended.tree.machine) parts.0 in
     let can_here : can_end_here crossing 0 place.node place.below ≡ true = sym (ap (can_put_in b crossing None 0) there_is) ∙ parts.1 in
     let first = and_parts (is_end place.below) _ can_here in
     let rest = and_parts (is_some (crossing.read_to place.node)) _ first.1 in

@@ -4,8 +4,12 @@ use Rattle.rsx_rooted.specs.declared.nodes.Nodes.{Ghosts as Nodes}
 use Rattle.rsx_rooted.specs.declared.nodes.Route.{Route}
 use Rattle.rsx_rooted.specs.declared.nodes.Route.TheVariants.{Straight}
 use Rattle.rsx_tree.specs.declared.edge.EdgeState.{EdgeState}
-use Rattle.rsx_tree.specs.Prelude.{edge_view, Station, station_of}
+use Rattle.rsx_tree.specs.Prelude.{EdgeView, edge_view, Station, station_of}
 use Rattle.rsx_pipe.specs.Part.{Part}
+
+-- the edge over which a node sends
+abbrev pub edge_over : {M : Type 0} → Station M → EdgeView
+edge_over s = record { asked = s.asked; sent = s.sent; state = s.state }
 
 abbrev pub route_in : {M : Type 0} → (M → EdgeState → ℕ → ℕ → Route) → Option (Station M) → Route
 route_in by None = Straight

@@ -4,7 +4,6 @@ use Rattle.rsx_sources.specs.Prelude.{Reading, reads_hub}
 use Rattle.rsx_sources.specs.declared.machine.Machine.{Ghosts as Machine}
 use Rattle.rsx_rooted.specs.Cutting.{items_of}
 use Rattle.rsx_rooted.specs.declared.nodes.CrossingNodes.{Ghosts as CrossingNodes}
-use Rattle.rsx_rooted.specs.declared.nodes.Nodes.{Ghosts as Nodes}
 use Rattle.rsx_tree.specs.declared.edge.Edge.{Edge}
 use Rattle.rsx_tree.specs.declared.inputs.Inputs.{Inputs, End, More'}
 use Rattle.rsx_tree.specs.declared.node.Node.{Node}
@@ -44,9 +43,9 @@ abbrev pub with_node : {M : Type 0} → ℕ → M → Inputs M → Node M → No
 with_node at x below t = if nat_eq at 0 then record { machine = x; inputs = below } else with_sender (at - 1) x below t
 
 -- the first part is the second where the tree `below`, with a queue of these items at its root, takes the place of the node `reader`
-pub record IsCut {M T : Type 0} (nodes : Nodes M T) (crossing : CrossingNodes M T) (old : Part M) (at : ℕ) (reader : M) (below : Part M) (queue : List T) (new : Part M) : Type 0 where
+pub record IsCut {M T : Type 0} (b : Machine M T) (crossing : CrossingNodes M T) (old : Part M) (at : ℕ) (reader : M) (below : Part M) (queue : List T) (new : Part M) : Type 0 where
   pub edge : new_root crossing.edge_queue old at ≡ Some (edge_view below.root)
-  pub straight : nodes.crosses below.tree.machine ≡ false
+  pub straight : b.crosses below.tree.machine ≡ false
   pub whole : old.tree ≡ with_node at (crossing.queued queue below.tree.machine) below.tree.inputs old.tree
   pub upper : new ≡ record old { tree = with_node at reader End old.tree }
 
@@ -98,8 +97,8 @@ held_in crossing None = []
 held_in crossing (Some p) = items_of (crossing.held p.node)
 
 -- whether the tree with this node at its root can be joined to a part at the edge `at`
-abbrev pub can_join : {M T : Type 0} → Machine M T → Nodes M T → CrossingNodes M T → Part M → ℕ → ℕ → M → List T → Bool
-can_join b nodes crossing part at hub node queue = not (nodes.crosses node) && can_join_in b crossing hub queue (place_at at part.tree)
+abbrev pub can_join : {M T : Type 0} → Machine M T → CrossingNodes M T → Part M → ℕ → ℕ → M → List T → Bool
+can_join b crossing part at hub node queue = not (b.crosses node) && can_join_in b crossing hub queue (place_at at part.tree)
 
 -- the part, where it was joined: at the edge is a queue again, of what the reader held and then these items
 abbrev pub joined : {M T : Type 0} → CrossingNodes M T → Part M → ℕ → Part M → List T → Part M

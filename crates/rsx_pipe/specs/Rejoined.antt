@@ -4,7 +4,6 @@ use Rattle.rsx_cut.specs.Local.{ReadsNot}
 use Rattle.rsx_cut.specs.Regions.{Adds, Carries}
 use Rattle.rsx_rooted.specs.Cutting.{ending_of, endings, is_some}
 use Rattle.rsx_rooted.specs.declared.nodes.CrossingNodes.{Ghosts as CrossingNodes}
-use Rattle.rsx_rooted.specs.declared.nodes.Nodes.{Ghosts as Nodes}
 use Rattle.rsx_sources.specs.Prelude.{Ending, Open, Meaning, Next, Signal, Stream}
 use Rattle.rsx_sources.specs.declared.machine.Machine.{Ghosts as Machine}
 use Rattle.rsx_tree.specs.declared.inputs.Inputs.{Inputs}
@@ -30,13 +29,18 @@ can_put_in b crossing from count (Some p) = can_put_here b crossing from count p
 
 -- whether the tree with this node at its root can be joined to a part at the edge `at`, whose reader took in the ending, where these items
 -- are left
-abbrev pub can_rejoin_ended : {M T : Type 0} → Machine M T → Nodes M T → CrossingNodes M T → Part M → ℕ → M → List T → Bool
-can_rejoin_ended b nodes crossing part at node queue = not (nodes.crosses node) && can_put_in b crossing None (length queue) (place_at at part.tree)
+abbrev pub can_rejoin_ended : {M T : Type 0} → Machine M T → CrossingNodes M T → Part M → ℕ → M → List T → Bool
+can_rejoin_ended b crossing part at node queue = not (b.crosses node) && can_put_in b crossing None (length queue) (place_at at part.tree)
 
 -- the ending that the node over the edge took in
 abbrev pub ending_in : {M T : Type 0} → CrossingNodes M T → Option (Place M) → Ending
 ending_in crossing None = Open
 ending_in crossing (Some p) = ending_of (crossing.read_to p.node)
+
+-- the same, where it took one in
+abbrev pub read_at : {M T : Type 0} → CrossingNodes M T → Option (Place M) → Option Ending
+read_at crossing None = None
+read_at crossing (Some p) = crossing.read_to p.node
 
 -- the node that is put there: with a queue of what the reader held and these items; or of what it held, and the ending that it took in
 abbrev pub put_node : {M T : Type 0} → CrossingNodes M T → Option ℕ → Option (Place M) → List T → M → M
@@ -53,11 +57,11 @@ joined_ended crossing part at below queue = record part { tree = with_node at (p
 -- it was `lower`. Of what was in the queue, and of `out`, `taken` came to the reader, and `items` and the ending are left. Where the part is
 -- joined to the lower one as it was before its ending, what came out of the part that was cut is what went out of the upper one meanwhile,
 -- and then what comes out of the part that is joined.
-abbrev pub JoinsAfterEnding : {M T : Type 0} → Machine M T → Nodes M T → CrossingNodes M T → Type 0
-JoinsAfterEnding {M} {T} b nodes crossing =
+abbrev pub JoinsAfterEnding : {M T : Type 0} → Machine M T → CrossingNodes M T → Type 0
+JoinsAfterEnding {M} {T} b crossing =
     (m : Meaning T) (old new upper below lower ended : Part M) (at k : ℕ) (reader : M) (queue items taken : List T) (ending : Signal T) (out went : List (Signal T)) (taken_above taken_below whole : List (Stream T)) →
-    IsCut nodes crossing old at reader below queue new → crossing.held reader ≡ Some [] → ReadsAt b k 0 reader →
-    can_join b nodes crossing upper at k lower.tree.machine items ≡ true → HasReached b upper at k (length taken) →
+    IsCut b crossing old at reader below queue new → crossing.held reader ≡ Some [] → ReadsAt b k 0 reader →
+    can_join b crossing upper at k lower.tree.machine items ≡ true → HasReached b upper at k (length taken) →
     map Next taken ++ (map Next items ++ ending ∷ []) ≡ map Next queue ++ out → IsLetGo b m lower.tree ending ended.tree →
     ReadsNot b k old.tree → ReadsNot b k (joined crossing upper at lower items).tree → ReadsNot b k ended.tree →
     Adds taken_above whole k (map Next taken) → Adds taken_below whole k [] →
@@ -65,11 +69,11 @@ JoinsAfterEnding {M} {T} b nodes crossing =
     Carries b m whole old.tree (joined crossing upper at lower items).tree went
 
 -- The same where all came to the reader, with the ending `e`. The part is joined to the lower one as it is after its ending.
-abbrev pub JoinsAtEnd : {M T : Type 0} → Machine M T → Nodes M T → CrossingNodes M T → Type 0
-JoinsAtEnd {M} {T} b nodes crossing =
+abbrev pub JoinsAtEnd : {M T : Type 0} → Machine M T → CrossingNodes M T → Type 0
+JoinsAtEnd {M} {T} b crossing =
     (m : Meaning T) (old new upper below lower ended : Part M) (at k : ℕ) (reader : M) (place : Place M) (queue : List T) (e : Ending) (ending : Signal T) (came out went : List (Signal T)) (taken_above taken_below whole : List (Stream T)) →
-    IsCut nodes crossing old at reader below queue new → crossing.held reader ≡ Some [] → ReadsAt b k 0 reader →
-    can_rejoin_ended b nodes crossing upper at ended.tree.machine [] ≡ true → place_at at upper.tree ≡ Some place → crossing.read_to place.node ≡ Some e → endings e ≡ ending ∷ [] →
+    IsCut b crossing old at reader below queue new → crossing.held reader ≡ Some [] → ReadsAt b k 0 reader →
+    can_rejoin_ended b crossing upper at ended.tree.machine [] ≡ true → place_at at upper.tree ≡ Some place → crossing.read_to place.node ≡ Some e → endings e ≡ ending ∷ [] →
     came ≡ map Next queue ++ out → IsLetGo b m lower.tree ending ended.tree →
     ReadsNot b k old.tree → ReadsNot b k (joined_ended crossing upper at ended []).tree → ReadsNot b k ended.tree →
     Adds taken_above whole k came → Adds taken_below whole k [] →

@@ -1,6 +1,6 @@
 //! A part is cut at an edge that crosses to another region, and joined there again.
 
-ghost use Rattle.std.specs.Prelude.{◌≡◌, ◌++◌, min, length, Some, None, true, false, IfOk, IfErr, OnOk, OnErr, option_map};
+ghost use Rattle.std.specs.Prelude.{◌≡◌, ◌++◌, min, length, Some, None, true, false, IfOk, IfErr, IfSome, IfNone, OnOk, OnErr, option_map};
 ghost use Rattle.rsx_pipe.specs.Cutting.{held_in, root_below, root_here, root_with, sender_at};
 ghost use Rattle.rsx_pipe.specs.Rejoined.{can_put_here, can_put_in, put_node};
 ghost use Rattle.rsx_tree.specs.Edges.{edge_view};
@@ -12,6 +12,7 @@ use rsx_demand::Demand;
 use rsx_queued::{CAPACITY, ItemQueue};
 use rsx_rooted::{CrossingNodes, Rooted};
 use rsx_tree::{Edge, Inputs, Node};
+use rsx_types::Ending;
 use std::mem;
 
 /// What was below an edge that a part was cut at.
@@ -27,7 +28,7 @@ pub struct CutOff<N, T> {
 impl<N: CrossingNodes + Drop> Part<N> {
     ghost use Rattle.std.specs.Prelude.{not, ◌&&◌, length};
     ghost use Rattle.rsx_pipe.specs.Cutting.{IsCut, can_join, joined, new_root, place_at, with_node};
-    ghost use Rattle.rsx_pipe.specs.Rejoined.{can_put_in, can_rejoin_ended, joined_ended, put_node};
+    ghost use Rattle.rsx_pipe.specs.Rejoined.{can_put_in, can_rejoin_ended, joined_ended, put_node, read_at};
 
     /// Cuts the part at the edge `at`, 0 for that of its root. The node over that edge goes on, with all that is below it, as the
     /// root of a part of its own, `reader` takes its place, and the queue of the edge is handed out. It takes no memory.
@@ -38,7 +39,7 @@ impl<N: CrossingNodes + Drop> Part<N> {
     /// # Errors
     /// `reader` comes back where the edge isn't one that is cut. Then nothing changed.
     pub fn cut(&mut self, at: u32, reader: N) -> Result<CutOff<N, N::Item>, N>
-        ensures ok { IfOk result (λ c. IsCut N.Nodes.own N.CrossingNodes.own self.old at reader c.part c.queue self.new) }
+        ensures ok { IfOk result (λ c. IsCut N.Machine N.CrossingNodes.own self.old at reader c.part c.queue self.new) }
         ensures refused { OnErr result (new_root N.edge_queue self.old at ≡ None) }
         ensures err { IfErr result (λ r. r ≡ reader) }
         ensures same { OnErr result (self.new ≡ self.old) }
@@ -71,8 +72,8 @@ impl<N: CrossingNodes + Drop> Part<N> {
         below: CutOff<N, N::Item>,
     ) -> Result<(), CutOff<N, N::Item>>
         ensures ok { OnOk result (self.new ≡ joined N.CrossingNodes.own self.old at below.part below.queue) }
-        ensures enabled { OnOk result (can_join N.Machine N.Nodes.own N.CrossingNodes.own self.old at hub below.part.tree.machine below.queue ≡ true) }
-        ensures refused { OnErr result (can_join N.Machine N.Nodes.own N.CrossingNodes.own self.old at hub below.part.tree.machine below.queue ≡ false) }
+        ensures enabled { OnOk result (can_join N.Machine N.CrossingNodes.own self.old at hub below.part.tree.machine below.queue ≡ true) }
+        ensures refused { OnErr result (can_join N.Machine N.CrossingNodes.own self.old at hub below.part.tree.machine below.queue ≡ false) }
         ensures err { IfErr result (λ c. c ≡ below) }
         ensures same { OnErr result (self.new ≡ self.old) }
     {
@@ -93,12 +94,51 @@ impl<N: CrossingNodes + Drop> Part<N> {
         below: CutOff<N, N::Item>,
     ) -> Result<(), CutOff<N, N::Item>>
         ensures ok { OnOk result (self.new ≡ joined_ended N.CrossingNodes.own self.old at below.part below.queue) }
-        ensures enabled { OnOk result (can_rejoin_ended N.Machine N.Nodes.own N.CrossingNodes.own self.old at below.part.tree.machine below.queue ≡ true) }
-        ensures refused { OnErr result (can_rejoin_ended N.Machine N.Nodes.own N.CrossingNodes.own self.old at below.part.tree.machine below.queue ≡ false) }
+        ensures enabled { OnOk result (can_rejoin_ended N.Machine N.CrossingNodes.own self.old at below.part.tree.machine below.queue ≡ true) }
+        ensures refused { OnErr result (can_rejoin_ended N.Machine N.CrossingNodes.own self.old at below.part.tree.machine below.queue ≡ false) }
         ensures err { IfErr result (λ c. c ≡ below) }
         ensures same { OnErr result (self.new ≡ self.old) }
     {
         self.put_again(at, None, below)
+    }
+
+    /// Whether the edge of the root has a queue of its own, as that of a node that sends to another region.
+    pub fn is_crossing(&self) -> bool
+        ensures { result ≡ N.crosses self.now.tree.machine }
+    {
+        self.rooted.tree.machine.is_crossing()
+    }
+
+    /// Whether what was cut off at the edge `at` can be joined there, with so many items in its queue: by [`Part::rejoin`] where the
+    /// reader of this hub is there still, and by [`Part::rejoin_ended`], with no number, where one is there that read to an end. The root
+    /// of what is joined must have no queue at its edge.
+    pub fn takes_back(&self, at: u32, hub: Option<u64>, items: usize) -> bool
+        ensures { result ≡ can_put_in N.Machine N.CrossingNodes.own hub items (place_at at self.now.tree) }
+    {
+        match self.place(at) {
+            Some((machine, under)) => takes_back(machine, under, hub, items),
+            None => false,
+        }
+    }
+
+    /// The ending that the node took in which sends over the edge `at`, where it read a hub or a link until that had ended.
+    pub fn read_ending(&self, at: u32) -> Option<Ending>
+        ensures { result ≡ read_at N.CrossingNodes.own (place_at at self.now.tree) }
+    {
+        let (machine, _) = self.place(at)?;
+        machine.read_ending()
+    }
+
+    /// The node that sends over the edge `at`, with what is below it.
+    fn place(&self, at: u32) -> Option<(&N, &Inputs<N>)>
+        ensures some { IfSome result (λ p. place_at at self.now.tree ≡ Some (record { node = p.0.now; below = p.1.now })) }
+        ensures none { IfNone result (place_at at self.now.tree ≡ None) }
+    {
+        let tree = &self.rooted.tree;
+        if at == 0 {
+            return Some((&tree.machine, &tree.inputs));
+        }
+        place_in(&tree.inputs, at - 1)
     }
 
     /// Puts what was cut off in the place of a reader of this hub, or, with none, of one that read to an end.
@@ -114,7 +154,7 @@ impl<N: CrossingNodes + Drop> Part<N> {
         ensures err { IfErr result (λ c. c ≡ below) }
         ensures same { OnErr result (self.new ≡ self.old) }
     {
-        if below.part.rooted.tree.machine.is_crossing() {
+        if below.part.is_crossing() {
             return Err(below);
         }
         let tree = &mut self.rooted.tree;
@@ -122,6 +162,26 @@ impl<N: CrossingNodes + Drop> Part<N> {
             return join_here(&mut tree.machine, &mut tree.inputs, from, below);
         }
         join_at(&mut tree.inputs, at - 1, from, below)
+    }
+}
+
+/// The node of a row that sends over the edge `at`, with what is below it.
+fn place_in<N>(row: &Inputs<N>, at: u32) -> Option<(&N, &Inputs<N>)>
+    ensures some { IfSome result (λ p. sender_at at row.now ≡ Some (record { node = p.0.now; below = p.1.now })) }
+    ensures none { IfNone result (sender_at at row.now ≡ None) }
+{
+    match row {
+        Inputs::End => None,
+        Inputs::More(_, machine, under, beside) => {
+            if at == 0 {
+                return Some((machine, under));
+            }
+            let inside = count_up_to(under, at);
+            if at > inside {
+                return place_in(beside, at - 1 - inside);
+            }
+            place_in(under, at - 1)
+        }
     }
 }
 

@@ -12,12 +12,10 @@
 //!
 //! The definitions stand in `specs/`, apart from the code: `Part` (what a part stands for, which of its moves are enabled,
 //! what they change, and what is delivered where it is idle), `Tree` (what `rsx_tree` says of the tree of a part), `Output`
-//! (what has gone out, and what was published), `Crossing` (which edges go through a queue), `Cutting` (where a part is
-//! cut and joined), `Joined` (what is proved of that), `Published` (what the hubs took in
-//! and handed on) and `Feeding` (what goes out into the hands of the caller, and the moves inside a tree).
-//! (what has gone out, and what was published), `Crossing` (which edges go through a queue), `Published` (what the hubs took in
-//! and handed on), `Feeding` (what goes out into the hands of the caller, and the moves inside a tree) and `Many` (one move, made
-//! many times).
+//! (what has gone out, and what was published), `Crossing` (the edges of a part, and which go through a queue), `Cutting` and
+//! `Rejoined` (where a part is cut and joined), `Joined` (what is proved of that), `Published` (what the hubs took in and handed
+//! on), `Feeding` (what goes out into the hands of the caller, and the moves inside a tree) and `Many` (one move, made many
+//! times).
 
 pub mod crossing;
 pub mod cutting;

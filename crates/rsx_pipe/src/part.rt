@@ -56,7 +56,7 @@ impl<N: Nodes> Part<N> {
     ghost use Rattle.rsx_rooted.specs.Built.{IsBuilt, fresh_edge, new_joins};
     ghost use Rattle.rsx_pipe.specs.Published.{AreTaken};
     ghost use Rattle.rsx_tree.specs.Edges.{closed_view, edge_view};
-    ghost use Rattle.rsx_tree.specs.Inputs.{size};
+    ghost use Rattle.rsx_tree.specs.Inputs.{closed_row, size};
     ghost use Rattle.rsx_tree.specs.Swapped.{with_sender};
     ghost use Rattle.rsx_pipe.specs.Tree.{notes_of, IsAllClosed, IsAlike, IsKept};
     ghost use Rattle.rsx_pipe.specs.Fetched.{IsFetched};
@@ -92,6 +92,7 @@ impl<N: Nodes> Part<N> {
     pub fn close(&mut self)
         ensures stands { (m : Meaning N.Item) → IsPutOut N.Machine m self.old [] self.new }
         ensures edges { all_edges self.new ≡ map closed_view (all_edges self.old) }
+        ensures all { self.new.tree ≡ record self.old.tree { inputs = closed_row self.old.tree.inputs } }
         ensures closed { IsAllClosed self.new.tree }
         ensures root { self.new.root.state ≡ EdgeState.Live → ⊥ }
         ensures asked { self.new.root.demand.asked ≡ self.old.root.demand.asked }

@@ -9,8 +9,8 @@ use Rattle.rsx_plain.specs.Operators.{wants_more}
 use Rattle.rsx_plain.specs.declared.node.PlainNode.{PlainNode}
 
 -- what leaves the slot leaves what may allocate as it is, and it reads no hub
-pub plain_popped_alike : {T : Type 0} (old : PlainNode T) (s : Signal T) (new : PlainNode T) → plain_popped old s new → StaysAlike (λ n. None) (λ a n. false) plain_allocates (λ a n. false) old new
-plain_popped_alike old s new h = (refl, λ a. (refl, ap (allocates_from a) (sym h.1), refl))
+pub plain_popped_alike : {T : Type 0} (old : PlainNode T) (s : Signal T) (new : PlainNode T) → plain_popped old s new → StaysAlike (λ n. None) (λ n. false) (λ a n. false) plain_allocates (λ a n. false) old new
+plain_popped_alike old s new h = (refl, (refl, λ a. (refl, ap (allocates_from a) (sym h.1), refl)))
 
 -- an ending in the slot cuts off whatever comes in
 pub plain_drops : {T : Type 0} (m : Meaning T) (n : PlainNode T) (inc other : Incoming T) (further : Note) → plain_ended n ≡ true → plain_comes_out m n inc further ≡ plain_comes_out m n other further

@@ -97,6 +97,8 @@ impl<T: Drop> Machine for PlainNode<T> {
 
     ghost rooms = { λ n. false };
 
+    ghost crosses = { λ n. false };
+
     ghost pop_allocates = { λ a n. false };
 
     ghost signal_allocates = { plain_allocates };

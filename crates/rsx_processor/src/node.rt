@@ -100,6 +100,8 @@ impl<P: Processor<Item = T>, T: Drop> Machine for ProcessorNode<P, T> {
 
     ghost rooms = { λ n. false };
 
+    ghost crosses = { λ n. false };
+
     ghost pop_allocates = { λ a n. false };
 
     ghost signal_allocates = { node_allocates P.Processor };
@@ -266,7 +268,7 @@ impl<P: Processor<Item = T>, T: Drop> Machine for ProcessorNode<P, T> {
 
     ghost shows = { λ m n. refl };
 
-    ghost popped_alike = { λ old s new h. (refl, λ a. (refl, node_alike P.Processor.own old s new h a, refl)) };
+    ghost popped_alike = { λ old s new h. (refl, (refl, λ a. (refl, node_alike P.Processor.own old s new h a, refl))) };
 
     ghost drops = { λ m n inc other further e. node_drops P.Processor.own m n inc other further e };
 

@@ -13,8 +13,6 @@ impl<P: Processor<Item = T>, T: Drop> Nodes for ProcessorNode<P, T> {
 
     ghost route_by = { λ n state asked sent. Straight };
 
-    ghost crosses = { λ n. false };
-
     ghost operator_of = { λ n. Own };
 
     fn route(&self, edge: &Edge) -> Route {

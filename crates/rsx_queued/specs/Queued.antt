@@ -145,4 +145,4 @@ QueuedCountsStep b old new = CountsStep (queued_counted b) (queued_ended b) (que
 
 -- it got as far in the hub that it reads, and the same of its calls may allocate; taking a signal out never does
 abbrev pub QueuedAlike : {M T : Type 0} → Machine M T → Queued M T → Queued M T → Type 0
-QueuedAlike b old new = StaysAlike (queued_reads b) (λ a n. false) (queued_allocates b) (queued_step_allocates b) old new
+QueuedAlike b old new = StaysAlike (queued_reads b) (λ n. true) (λ a n. false) (queued_allocates b) (queued_step_allocates b) old new

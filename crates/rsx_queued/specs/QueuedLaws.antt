@@ -80,7 +80,7 @@ reads_stay b old (Error c) new h = ap (λ t. reads_in t (b.reads new.node)) h.4 
 pub queued_popped_alike : {M T : Type 0} (b : Machine M T) (old : Queued M T) (s : Signal T) (new : Queued M T) → queued_popped old s new → QueuedAlike b old new
 queued_popped_alike b old s new h =
     let same = sym (node_stays old s new h) in
-    (reads_stay b old s new h, λ a. (refl, ap (b.signal_allocates a) same, ap (λ n. b.pop_allocates a n || b.step_allocates a n) same))
+    (reads_stay b old s new h, (refl, λ a. (refl, ap (b.signal_allocates a) same, ap (λ n. b.pop_allocates a n || b.step_allocates a n) same)))
 
 abbrev pub DoneDrops : {M T : Type 0} → Machine M T → Meaning T → Type 0
 DoneDrops {M} {T} b m = (n : M) (hubs before after : List (Stream T)) (v w : Stream T) (further : Note) → b.done n (length before) ≡ true → b.comes_out m n (incoming_of hubs (before ++ v ∷ after)) further ≡ b.comes_out m n (incoming_of hubs (before ++ w ∷ after)) further

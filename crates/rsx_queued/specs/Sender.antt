@@ -1,7 +1,7 @@
 -- A node whose edge crosses to another region or doesn't.
-use Rattle.std.specs.Prelude.{◌≡◌, ℕ, ◌<◌, Bool, true, false, List, Option, Some, None, option_map, ◌∷◌, ◌++◌, length}
+use Rattle.std.specs.Prelude.{◌≡◌, ℕ, ◌<◌, Bool, true, false, List, Option, Some, None, option_map, ◌∷◌, ◌++◌, length, refl}
 use Rattle.std.proofs.Common.{inl, inr}
-use Rattle.rsx_sources.specs.Prelude.{Note, Signal, Meaning, Allocates, unchosen, Stream, AreWithin, CountsIn, CountsStep, CanStep, IsHungry, ends_input, Incoming, front_of, incoming_of, AllocatesAlike, StaysAlike, Reading, takes_published}
+use Rattle.rsx_sources.specs.Prelude.{Note, Signal, Meaning, Allocates, unchosen, Stream, AreWithin, CountsIn, CountsStep, CanStep, IsHungry, ends_input, Incoming, front_of, incoming_of, IsSameKind, StaysAlike, Reading, takes_published}
 use Rattle.rsx_sources.specs.declared.machine.Front.{Front}
 use Rattle.rsx_sources.specs.declared.machine.Machine.{Ghosts as Machine}
 use Rattle.rsx_queued.specs.declared.sender.Sender.{Sender}
@@ -78,6 +78,11 @@ abbrev pub sender_rooms : {M T : Type 0} → Machine M T → Sender M T → Bool
 sender_rooms b (Direct n) = b.rooms n
 sender_rooms b (Crossing n) = queued_rooms b n
 
+-- whether its edge crosses, and has a queue
+abbrev pub is_crossing : {M T : Type 0} → Sender M T → Bool
+is_crossing (Direct n) = false
+is_crossing (Crossing n) = true
+
 abbrev pub sender_pop_allocates : {M T : Type 0} → Machine M T → Allocates → Sender M T → Bool
 sender_pop_allocates b a (Direct n) = b.pop_allocates a n
 sender_pop_allocates b a (Crossing n) = false
@@ -104,13 +109,13 @@ sender_takes_published b n s = takes_published (sender_reads b n) (sender_rooms 
 abbrev pub SenderCountsStep : {M T : Type 0} → Machine M T → Sender M T → Sender M T → Type 0
 SenderCountsStep b old new = CountsStep (sender_counted b) (sender_ended b) (sender_done b) old new
 
--- the same of its calls may allocate
-abbrev pub SenderAllocatesAlike : {M T : Type 0} → Machine M T → Sender M T → Sender M T → Type 0
-SenderAllocatesAlike b old new = AllocatesAlike (sender_pop_allocates b) (sender_signal_allocates b) (sender_step_allocates b) old new
+-- its edge crosses where it did, and the same of its calls may allocate
+abbrev pub SenderSameKind : {M T : Type 0} → Machine M T → Sender M T → Sender M T → Type 0
+SenderSameKind b old new = IsSameKind is_crossing (sender_pop_allocates b) (sender_signal_allocates b) (sender_step_allocates b) old new
 
--- it got as far in the hub that it reads, and the same of its calls may allocate
+-- it got as far in the hub that it reads, and the same holds of it
 abbrev pub SenderAlike : {M T : Type 0} → Machine M T → Sender M T → Sender M T → Type 0
-SenderAlike b old new = StaysAlike (sender_reads b) (sender_pop_allocates b) (sender_signal_allocates b) (sender_step_allocates b) old new
+SenderAlike b old new = StaysAlike (sender_reads b) is_crossing (sender_pop_allocates b) (sender_signal_allocates b) (sender_step_allocates b) old new
 
 -- ---- and so it keeps their laws
 
@@ -119,10 +124,10 @@ sender_shows b m shows (Direct n) = shows n
 sender_shows b m shows (Crossing n) = queued_shows m n
 
 abbrev pub IsAlike : {M T : Type 0} → Machine M T → Type 0
-IsAlike {M} {T} b = (old : M) (s : Signal T) (new : M) → b.popped old s new → StaysAlike b.reads b.pop_allocates b.signal_allocates b.step_allocates old new
+IsAlike {M} {T} b = (old : M) (s : Signal T) (new : M) → b.popped old s new → StaysAlike b.reads b.crosses b.pop_allocates b.signal_allocates b.step_allocates old new
 
 pub sender_alike : {M T : Type 0} (b : Machine M T) → IsAlike b → (old : Sender M T) (s : Signal T) (new : Sender M T) → sender_popped b old s new → SenderAlike b old new
-sender_alike b alike (Direct x) s (Direct y) h = alike x s y h
+sender_alike b alike (Direct x) s (Direct y) h = let stays = alike x s y h in (stays.0, (refl, stays.1.1))
 sender_alike b alike (Crossing x) s (Crossing y) h = queued_popped_alike b x s y h
 sender_alike b alike (Direct x) s (Crossing y) h = absurd h
 sender_alike b alike (Crossing x) s (Direct y) h = absurd h

@@ -87,7 +87,7 @@ impl<M: Machine<Item = T>, T: Drop> Machine for Queued<M, T> {
     ghost use Rattle.rsx_queued.specs.Queued.{queued_comes_out, queued_waiting, queued_shown, queued_takes, queued_picks, queued_rows, queued_ended, queued_done, queued_counted, queued_wanted, queued_popped, queued_takes_published, queued_allocates, queued_step_allocates, can_transfer, QueuedCountsIn, QueuedCountsStep, QueuedAlike, queued_reads, queued_rooms};
     ghost use Rattle.rsx_queued.specs.declared.queued.Queued.{Queued};
     ghost use Rattle.rsx_sources.specs.Machine.{TakesIn, Keeps, front_of};
-    ghost use Rattle.rsx_sources.specs.Steps.{IsNotTaken, IsNotMade, AllocatesAlike, StaysAlike};
+    ghost use Rattle.rsx_sources.specs.Steps.{IsNotTaken, IsNotMade, IsSameKind, StaysAlike};
     ghost use Rattle.rsx_queued.specs.Transfer.{IsQueueKept, IsQueuedRow, IsTransferred};
     ghost use Rattle.rsx_sources.specs.Reading.{IsReadOn, takes_published};
     ghost use Rattle.std.specs.Prelude.{◌≡◌, true, false, IsOk, OnOk, OnErr, IfErr};
@@ -123,6 +123,8 @@ impl<M: Machine<Item = T>, T: Drop> Machine for Queued<M, T> {
     ghost reads = { queued_reads M.Machine };
 
     ghost rooms = { queued_rooms M.Machine };
+
+    ghost crosses = { λ n. true };
 
     ghost pop_allocates = { λ a n. false };
 
@@ -236,7 +238,7 @@ impl<M: Machine<Item = T>, T: Drop> Machine for Queued<M, T> {
         ensures counts { OnOk result (QueuedCountsStep M.Machine self.old self.new) }
         ensures refused { OnErr result (queued_takes_published M.Machine self.old signal ≡ false) }
         ensures err { IfErr result (λ s. s ≡ signal) }
-        ensures alike { AllocatesAlike (λ a n. false) (queued_allocates M.Machine) (queued_step_allocates M.Machine) self.old self.new }
+        ensures alike { IsSameKind (λ n. true) (λ a n. false) (queued_allocates M.Machine) (queued_step_allocates M.Machine) self.old self.new }
         ensures same { OnErr result (self.new ≡ self.old) }
     {
         if !self.tail.is_open() {

@@ -19,10 +19,10 @@ pub enum Sender<M, T> {
 impl<M: Machine<Item = T>, T: Drop> Machine for Sender<M, T> {
     type Item = T;
 
-    ghost use Rattle.rsx_queued.specs.Sender.{sender_comes_out, sender_waiting, sender_shown, sender_takes, sender_picks, sender_rows, sender_rowed, sender_recording, sender_recorded, sender_ended, sender_done, sender_counted, sender_wanted, sender_popped, sender_pop_allocates, sender_signal_allocates, sender_step_allocates, sender_shows, sender_alike, sender_drops, sender_ends, sender_settles, sender_ending_waits, sender_hungry, SenderCountsIn, SenderCountsStep, SenderAlike, SenderAllocatesAlike, sender_reads, sender_rooms, sender_takes_published, sender_ends_reading, sender_done_drops};
+    ghost use Rattle.rsx_queued.specs.Sender.{is_crossing, sender_comes_out, sender_waiting, sender_shown, sender_takes, sender_picks, sender_rows, sender_rowed, sender_recording, sender_recorded, sender_ended, sender_done, sender_counted, sender_wanted, sender_popped, sender_pop_allocates, sender_signal_allocates, sender_step_allocates, sender_shows, sender_alike, sender_drops, sender_ends, sender_settles, sender_ending_waits, sender_hungry, SenderCountsIn, SenderCountsStep, SenderAlike, SenderSameKind, sender_reads, sender_rooms, sender_takes_published, sender_ends_reading, sender_done_drops};
     ghost use Rattle.rsx_queued.specs.declared.sender.Sender.{Sender};
     ghost use Rattle.rsx_sources.specs.Machine.{TakesIn, front_of};
-    ghost use Rattle.rsx_sources.specs.Steps.{IsNotTaken, AllocatesAlike, StaysAlike};
+    ghost use Rattle.rsx_sources.specs.Steps.{IsNotTaken, IsSameKind, StaysAlike};
     ghost use Rattle.rsx_sources.specs.Counts.{CountsIn, CountsStep};
     ghost use Rattle.rsx_sources.specs.Reading.{IsReadOn, takes_published};
     ghost use Rattle.std.specs.Prelude.{◌≡◌, true, false, OnOk, OnErr, IfErr};
@@ -58,6 +58,8 @@ impl<M: Machine<Item = T>, T: Drop> Machine for Sender<M, T> {
     ghost reads = { sender_reads M.Machine };
 
     ghost rooms = { sender_rooms M.Machine };
+
+    ghost crosses = { is_crossing };
 
     ghost pop_allocates = { sender_pop_allocates M.Machine };
 
@@ -170,7 +172,7 @@ impl<M: Machine<Item = T>, T: Drop> Machine for Sender<M, T> {
         ensures counts { OnOk result (SenderCountsStep M.Machine self.old self.new) }
         ensures refused { OnErr result (sender_takes_published M.Machine self.old signal ≡ false) }
         ensures err { IfErr result (λ s. s ≡ signal) }
-        ensures alike { SenderAllocatesAlike M.Machine self.old self.new }
+        ensures alike { SenderSameKind M.Machine self.old self.new }
         ensures same { OnErr result (self.new ≡ self.old) }
     {
         match self {

@@ -29,9 +29,6 @@ pub trait Nodes: Machine {
     /// How the edge of a node joins its two ends, where it has this state, and so much was asked and sent over it.
     ghost route_by: { Self → EdgeStateSpec → ℕ → ℕ → RouteSpec };
 
-    /// Whether the edge of a node crosses, and has a queue.
-    ghost crosses: { Self → Bool };
-
     /// Which operator a node is.
     ghost operator_of: { Self → OperatorSpec };
 

@@ -8,7 +8,7 @@ pub use Rattle.rsx_sources.specs.Passed.{IsItemOut, IsPassed, IsRowDone, IsRowOu
 pub use Rattle.rsx_sources.specs.Range.{GivesRange, range_comes_out, range_pop_allocates, range_popped, range_shown, range_shows, range_waiting}
 pub use Rattle.rsx_sources.specs.Reading.{IsBehind, IsNextAt, IsNextIn, IsReadOn, IsResidualOf, Reading, published_at, reading_after, reads_hub, takes_published}
 pub use Rattle.rsx_sources.specs.Slot.{is_nil}
-pub use Rattle.rsx_sources.specs.Steps.{AllocatesAlike, IsNotMade, IsPopped, StaysAlike}
+pub use Rattle.rsx_sources.specs.Steps.{IsSameKind, IsNotMade, IsPopped, StaysAlike}
 pub use Rattle.rsx_types.specs.Meaning.{Allocates, Meaning}
 pub use Rattle.rsx_types.specs.Notes.{note_then, notes_then, unchosen}
 pub use Rattle.rsx_types.specs.Plain.{accumulated_then, buffered_items, chained, distinct_items, filtered_items, last_list, listed, mapped_items, new_key_then, plain, range_items, scanned_items, taken_items}

@@ -16,13 +16,13 @@ abbrev pub IsPopped : {T S : Type 0} → (S → Incoming T → Note → Option (
 IsPopped comes_out popped w old None new = (w ≡ None) × (new ≡ old)
 IsPopped comes_out popped w old (Some s) new = (w ≡ Some s) × popped old s new × LetsGo comes_out old s new
 
--- the same calls may allocate
-abbrev pub AllocatesAlike : {S : Type 0} → (Allocates → S → Bool) → (Allocates → S → Bool) → (Allocates → S → Bool) → S → S → Type 0
-AllocatesAlike pops signals steps old new = (a : Allocates) → (pops a new ≡ pops a old) × (signals a new ≡ signals a old) × (steps a new ≡ steps a old)
+-- its edge crosses where it did, and the same calls may allocate
+abbrev pub IsSameKind : {S : Type 0} → (S → Bool) → (Allocates → S → Bool) → (Allocates → S → Bool) → (Allocates → S → Bool) → S → S → Type 0
+IsSameKind crosses pops signals steps old new = (crosses new ≡ crosses old) × ((a : Allocates) → (pops a new ≡ pops a old) × (signals a new ≡ signals a old) × (steps a new ≡ steps a old))
 
--- what it has taken in of the hub that it reads stays, and the same calls may allocate
-abbrev pub StaysAlike : {S : Type 0} → (S → Option Reading) → (Allocates → S → Bool) → (Allocates → S → Bool) → (Allocates → S → Bool) → S → S → Type 0
-StaysAlike reads pops signals steps old new = (reads new ≡ reads old) × AllocatesAlike pops signals steps old new
+-- what it has taken in of the hub that it reads stays, and so does what no call of a node changes
+abbrev pub StaysAlike : {S : Type 0} → (S → Option Reading) → (S → Bool) → (Allocates → S → Bool) → (Allocates → S → Bool) → (Allocates → S → Bool) → S → S → Type 0
+StaysAlike reads crosses pops signals steps old new = (reads new ≡ reads old) × IsSameKind crosses pops signals steps old new
 
 -- the signal came back, and the node was busy exactly where it says so
 abbrev pub IsNotTaken : {T : Type 0} → Bool → Signal T → NotTaken T → Type 0

@@ -94,6 +94,8 @@ impl<T: Drop> Machine for ItemsNode<T> {
 
     ghost rooms = { λ n. false };
 
+    ghost crosses = { λ n. false };
+
     ghost pop_allocates = { λ a n. false };
 
     ghost signal_allocates = { λ a n. false };
@@ -241,7 +243,7 @@ impl<T: Drop> Machine for ItemsNode<T> {
 
     ghost shows = { λ m n. refl };
 
-    ghost popped_alike = { λ old s new h. (refl, λ a. (refl, refl, refl)) };
+    ghost popped_alike = { λ old s new h. (refl, (refl, λ a. (refl, refl, refl))) };
 
     ghost drops = { λ m n inc other further e. Prim.search rules };
 

@@ -110,6 +110,9 @@ pub trait Machine {
     /// Whether it has room for an item of that hub.
     ghost rooms: { Self → Bool };
 
+    /// Whether the edge of the node crosses to another region, and has a queue, which belongs to the node.
+    ghost crosses: { Self → Bool };
+
     /// Whether taking the offered signal out may allocate, where these of the caller's functions may.
     ghost pop_allocates: { Allocates → Self → Bool };
 
@@ -125,7 +128,7 @@ pub trait Machine {
     ghost use Rattle.rsx_sources.specs.Machine.{IsComposed, Keeps, TakesIn, Records, front_of, incoming_of};
     ghost use Rattle.rsx_sources.specs.Passed.{IsItemOut, IsPassed, IsRowOut};
     ghost use Rattle.rsx_sources.specs.Reading.{IsReadOn, IsResidualOf, takes_published, hub_of};
-    ghost use Rattle.rsx_sources.specs.Steps.{AllocatesAlike, StaysAlike, IsPopped, IsNotTaken, IsNotMade};
+    ghost use Rattle.rsx_sources.specs.Steps.{IsSameKind, StaysAlike, IsPopped, IsNotTaken, IsNotMade};
 
     /// Which signal is offered, if one is: the first signal that still comes out.
     fn front(&self) -> Option<Front>
@@ -145,7 +148,7 @@ pub trait Machine {
         ensures counts { IfOk result (λ s. CountsOut counted ended done self.old s self.new) }
         ensures err { OnErr result (self.new ≡ self.old) }
         ensures memory { pop_allocates (O.allocates ops.now) self.old ≡ false → IsOk result }
-        ensures alike { StaysAlike reads pop_allocates signal_allocates step_allocates self.old self.new };
+        ensures alike { StaysAlike reads crosses pop_allocates signal_allocates step_allocates self.old self.new };
 
     /// Puts the signal back that was popped last. Then the node is as it was before that.
     fn put_back(&mut self, signal: Signal<Self::Item>)
@@ -174,7 +177,7 @@ pub trait Machine {
         ensures counts { OnOk result (CountsIn counted ended done self.old input signal self.new) }
         ensures err { IfErr result (IsNotTaken (takes self.old input (front_of signal)) signal) }
         ensures memory { signal_allocates (O.allocates ops.now) self.old ≡ false → IfErr result (λ e. e ≡ NotTaken.Busy signal) }
-        ensures alike { StaysAlike reads pop_allocates signal_allocates step_allocates self.old self.new }
+        ensures alike { StaysAlike reads crosses pop_allocates signal_allocates step_allocates self.old self.new }
         ensures same { OnErr result (self.new ≡ self.old) };
 
     /// Takes the offered item out, as `pop_front` does. Where it answers nothing the node is unchanged, and `pop_front`
@@ -183,7 +186,7 @@ pub trait Machine {
         ensures some { IfSome result (λ x.
             IsItemOut (comes_out (O.meaning ops.now)) (waiting (O.meaning ops.now))
             popped recorded counted ended done self.old x self.new) }
-        ensures alike { StaysAlike reads pop_allocates signal_allocates step_allocates self.old self.new }
+        ensures alike { StaysAlike reads crosses pop_allocates signal_allocates step_allocates self.old self.new }
         ensures none { IfNone result (self.new ≡ self.old) };
 
     /// Takes an item of an input in, as `on_signal` does, and takes the item out that the node puts out for it, as
@@ -199,7 +202,7 @@ pub trait Machine {
     ) -> Passed<Self::Item>
         ensures passed { IsPassed (comes_out (O.meaning ops.now)) (waiting (O.meaning ops.now))
             takes popped recorded counted ended done self.old input item result self.new }
-        ensures alike { StaysAlike reads pop_allocates signal_allocates step_allocates self.old self.new };
+        ensures alike { StaysAlike reads crosses pop_allocates signal_allocates step_allocates self.old self.new };
 
     /// The number of the hub that the node reads, as long as it takes that hub's signals in.
     fn hub(&self) -> Option<u64>
@@ -218,7 +221,7 @@ pub trait Machine {
         ensures counts { OnOk result (CountsStep counted ended done self.old self.new) }
         ensures refused { OnErr result (takes_published (reads self.old) (rooms self.old) signal ≡ false) }
         ensures err { IfErr result (λ s. s ≡ signal) }
-        ensures alike { AllocatesAlike pop_allocates signal_allocates step_allocates self.old self.new }
+        ensures alike { IsSameKind crosses pop_allocates signal_allocates step_allocates self.old self.new }
         ensures same { OnErr result (self.new ≡ self.old) };
 
     /// Whether an input can be picked, where `asked` is asked of the node and it sent `sent` items.
@@ -246,7 +249,7 @@ pub trait Machine {
         ensures counts { OnOk result (CountsStep counted ended done self.old self.new) }
         ensures err { IfErr result (IsNotMade (picks self.old input asked sent)) }
         ensures memory { step_allocates (O.allocates ops.now) self.old ≡ false → IfErr result (λ e. e ≡ NotMade.NotEnabled) }
-        ensures alike { StaysAlike reads pop_allocates signal_allocates step_allocates self.old self.new }
+        ensures alike { StaysAlike reads crosses pop_allocates signal_allocates step_allocates self.old self.new }
         ensures same { OnErr result (self.new ≡ self.old) };
 
     /// Whether a row can be made, where `asked` is asked of the node and it sent `sent` items.
@@ -268,7 +271,7 @@ pub trait Machine {
         ensures counts { OnOk result (CountsStep counted ended done self.old self.new) }
         ensures err { IfErr result (IsNotMade (rows self.old asked sent)) }
         ensures memory { step_allocates (O.allocates ops.now) self.old ≡ false → IfErr result (λ e. e ≡ NotMade.NotEnabled) }
-        ensures alike { StaysAlike reads pop_allocates signal_allocates step_allocates self.old self.new }
+        ensures alike { StaysAlike reads crosses pop_allocates signal_allocates step_allocates self.old self.new }
         ensures same { OnErr result (self.new ≡ self.old) };
 
     /// Makes a row, as `on_row` does, and takes the item out that the node then offers, as `pop_item` does; the item doesn't
@@ -283,7 +286,7 @@ pub trait Machine {
     ) -> Option<Self::Item>
         ensures out { IsRowOut (comes_out (O.meaning ops.now)) (waiting (O.meaning ops.now))
             rows rowed popped recorded counted ended done self.old asked sent result self.new }
-        ensures alike { StaysAlike reads pop_allocates signal_allocates step_allocates self.old self.new }
+        ensures alike { StaysAlike reads crosses pop_allocates signal_allocates step_allocates self.old self.new }
     {
         None
     }
@@ -310,9 +313,9 @@ pub trait Machine {
     /// What is shown is the signal that waits, whatever the caller's functions mean.
     ghost shows: { (m : Meaning Self.Item) (n : Self) → shown n ≡ option_map front_of (waiting m n) };
 
-    /// Taking the offered signal out, and putting it back, leaves what may allocate as it is, and how far the node got in its
-    /// hub. No call changes what may allocate, so of a node none of whose calls may at the start, none ever may.
-    ghost popped_alike: { (old : Self) (s : Signal Self.Item) (new : Self) → popped old s new → StaysAlike reads pop_allocates signal_allocates step_allocates old new };
+    /// Taking the offered signal out, and putting it back, leaves how far the node got in its hub as it is, and what no call
+    /// changes: whether its edge crosses, and what may allocate. So of a node none of whose calls may at the start, none ever may.
+    ghost popped_alike: { (old : Self) (s : Signal Self.Item) (new : Self) → popped old s new → StaysAlike reads crosses pop_allocates signal_allocates step_allocates old new };
 
     /// What comes in no longer matters to a node that has ended.
     ghost drops: { (m : Meaning Self.Item) (n : Self) (inc other : Incoming Self.Item) (further : Note) → ended n ≡ true → comes_out m n inc further ≡ comes_out m n other further };

@@ -101,6 +101,8 @@ impl<T: Drop> Machine for RangeNode<T> {
 
     ghost rooms = { λ n. false };
 
+    ghost crosses = { λ n. false };
+
     ghost pop_allocates = { range_pop_allocates };
 
     ghost signal_allocates = { λ a n. false };
@@ -258,7 +260,7 @@ impl<T: Drop> Machine for RangeNode<T> {
 
     ghost shows = { range_shows };
 
-    ghost popped_alike = { λ old s new h. (refl, λ a. (refl, refl, refl)) };
+    ghost popped_alike = { λ old s new h. (refl, (refl, λ a. (refl, refl, refl))) };
 
     ghost drops = { λ m n inc other further e. Prim.search rules };
 

@@ -1,6 +1,5 @@
 -- A subscription that has just begun stands for its past.
 use Rattle.rsx_sources.specs.declared.machine.Machine.{Ghosts as Machine}
-use Rattle.rsx_rooted.specs.declared.nodes.Nodes.{Ghosts as Nodes}
 use Rattle.std.proofs.Common.{◌≡◌, ℕ, suc, List, [], ◌∷◌, length, true, false, None, sym, ap, ◌∙◌, subst}
 use Rattle.rsx_demand.specs.declared.Demand.{Demand}
 use Rattle.rsx_model.specs.Check.{refusal}
@@ -62,8 +61,8 @@ stands_fresh {M} {T} mc m hubs published e sub ok taken b root below q f =
     not_closed : Live ≡ Closed → ⊥
     not_closed c = cc
 
-pub fresh_sub : {M T : Type 0} (kd : Nodes M T) (m : Meaning T) (e : Expr T) (sub : Subscription M T) → edge_view sub.part.root ≡ fresh_edge → edges sub.part.tree ≡ fresh_edges e → IsPlaced kd.crosses e false sub.part.tree → sub.queue ≡ [] → IsBegun sub → IsFresh kd e sub
-fresh_sub kd m e sub root below placed q f = record {
+pub fresh_sub : {M T : Type 0} (mc : Machine M T) (m : Meaning T) (e : Expr T) (sub : Subscription M T) → edge_view sub.part.root ≡ fresh_edge → edges sub.part.tree ≡ fresh_edges e → IsPlaced mc.crosses e false sub.part.tree → sub.queue ≡ [] → IsBegun sub → IsFresh mc e sub
+fresh_sub mc m e sub root below placed q f = record {
   edges = ap (λ v. v ∷ edges sub.part.tree) root ∙ ap (λ es. fresh_edge ∷ es) below;
   placed = placed;
   queue = q;

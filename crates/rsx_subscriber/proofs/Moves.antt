@@ -368,7 +368,7 @@ pumped_one mc kd m id old new o o' s e can took k = record {
   output = e;
   moves = gives_one (IsMoved mc kd m id) option_to_list old new (Some (id, s)) (record { move = delivery id; tree = refl; enabled = delivery_enabled mc kd m id old true can; effect = took; answer = (s, refl) });
   stands = k;
-  alike = (λ a. ap (Part.pump_allocates mc a) took.part, λ counts h. subst (λ p. IsTreeReadAt mc counts p.tree) (sym took.part) h, ap (λ p. readings mc p.tree) took.part);
+  alike = (λ a. ap (Part.pump_allocates mc a) took.part, λ counts h. subst (λ p. IsTreeReadAt mc counts p.tree) (sym took.part) h, ap (λ p. readings mc p.tree) took.part, ap (λ p. mc.crosses p.tree.machine) took.part);
 }
 
 pub given_all-append : {T : Type 0} (a b : List (Signal T)) (p : Past T) → given_all (a ++ b) p ≡ given_all b (given_all a p)

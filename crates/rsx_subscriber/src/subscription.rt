@@ -64,7 +64,7 @@ impl<N: Nodes<Item = T> + Drop, T: Drop> Subscription<N, T> {
             refusal (length hubs) e ≡ None → IsBuilt N.Machine m hubs e tree → AreTaken hubs published →
             Stands N.Machine m published s (subscribed e (new_joins hubs e))) }
         ensures fresh { IfOk result (λ s. (m : Meaning T) (hubs : List (HubState T)) (e : Expr T) →
-            IsBuilt N.Machine m hubs e tree → IsPlaced N.crosses e false tree → IsFresh N.Nodes.own e s) }
+            IsBuilt N.Machine m hubs e tree → IsPlaced N.crosses e false tree → IsFresh N.Machine e s) }
         ensures tree { IfOk result (λ s. s.part.tree ≡ tree) }
         ensures root { IfOk result (λ s. edge_view s.part.root ≡ fresh_edge) }
     {

@@ -28,18 +28,18 @@ or_right false y h = h
 or_right true y h = cc
 
 pub alike_same : {M T : Type 0} (b : Machine M T) (n n' : M) → n' ≡ n → IsNodeAlike b n n'
-alike_same b n n' h = (ap b.reads h, λ a. (ap (b.pop_allocates a) h, ap (b.signal_allocates a) h, ap (b.step_allocates a) h))
+alike_same b n n' h = (ap b.reads h, (ap b.crosses h, λ a. (ap (b.pop_allocates a) h, ap (b.signal_allocates a) h, ap (b.step_allocates a) h)))
 
 pub node_alike : {M T : Type 0} (b : Machine M T) (n n' : M) → IsNodeAlike b n n' → (a : Allocates) → node_allocates b a n' ≡ node_allocates b a n
 node_alike b n n' h a =
-    let k = h.1 a in
+    let k = h.1.1 a in
     ap (λ c. c || (b.signal_allocates a n' || b.step_allocates a n')) k.0
     ∙ (ap (λ c. b.pop_allocates a n || (c || b.step_allocates a n')) k.1
     ∙ ap (λ c. b.pop_allocates a n || (b.signal_allocates a n || c)) k.2)
 
 -- from a node to another and on to a third
 pub alike_before : {M T : Type 0} (b : Machine M T) (n k n' : M) → IsNodeAlike b n n' → IsNodeAlike b k n' → IsNodeAlike b n k
-alike_before b n k n' whole last = (sym last.0 ∙ whole.0, λ a. let w = whole.1 a in let l = last.1 a in (sym l.0 ∙ w.0, sym l.1 ∙ w.1, sym l.2 ∙ w.2))
+alike_before b n k n' whole last = (sym last.0 ∙ whole.0, (sym last.1.0 ∙ whole.1.0, λ a. let w = whole.1.1 a in let l = last.1.1 a in (sym l.0 ∙ w.0, sym l.1 ∙ w.1, sym l.2 ∙ w.2)))
 
 -- ---- a row
 
@@ -88,6 +88,17 @@ changed_alike b P alike ends r i asked sent (More' e n p below q beside) at r' t
   ]
 ]
 
+-- the edge of the receiver crosses where it did
+pub changed_crosses : {M T : Type 0} (b : Machine M T) (P : Change M) → IsAlikeChange b P → (ends : M → Bool) (r : M) (i asked sent : ℕ) (t : Inputs M) (at : ℕ) (r' : M) (t' : Inputs M) → IsChanged P ends r i asked sent t at r' t' → b.crosses r' ≡ b.crosses r
+changed_crosses b P alike ends r i asked sent End at r' t' h = absurd h
+changed_crosses b P alike ends r i asked sent (More' e n p below q beside) at r' t' h = elim h [
+  | inl x ↦ (alike r i asked sent e n r' x.e' x.n' x.made).0.1.0
+  | inr y ↦ elim y [
+    | inl x ↦ ap b.crosses x.receiver
+    | inr x ↦ changed_crosses b P alike ends r (i + 1) asked sent beside (at - 1 - size below) r' x.beside' x.made
+  ]
+]
+
 -- what a step does to its node
 abbrev pub IsAlikeStep : {M T : Type 0} → Machine M T → Step M → Type 0
 IsAlikeStep {M} b P = (n : M) (asked sent : ℕ) (n' : M) → P n asked sent n' → IsNodeAlike b n n'
@@ -131,6 +142,15 @@ made_alike b m steps r i asked sent t at ends r' t' h a = elim h [
   ]
 ]
 
+pub made_crosses : {M T : Type 0} (b : Machine M T) (m : Meaning T) (steps : Bool) (r : M) (i asked sent : ℕ) (t : Inputs M) (at : ℕ) (ends : Bool) (r' : M) (t' : Inputs M) → IsMade b m steps r i asked sent t at ends r' t' → b.crosses r' ≡ b.crosses r
+made_crosses b m steps r i asked sent t at ends r' t' h = elim h [
+  | inl x ↦ changed_crosses b (IsAskedOver b) (asked_over b) (λ n. false) r i asked sent t at r' t' x.made
+  | inr y ↦ elim y [
+    | inl x ↦ changed_crosses b (IsSentOver b m) (sent_over b m) b.ended r i asked sent t at r' t' (x.made asked sent)
+    | inr z ↦ ap b.crosses z.1.receiver
+  ]
+]
+
 pub run_alike : {M T : Type 0} (b : Machine M T) (m : Meaning T) (steps : Bool) (k i asked sent : ℕ) (r : M) (t : Inputs M) (r' : M) (t' : Inputs M) → IsRowRun b m steps k i asked sent r t r' t' → (a : Allocates) → over_allocates b a r' t' ≡ over_allocates b a r t
 run_alike {M} b m steps k i asked sent r t r' t' h a =
     leads_by_keep (IsRowStep b m steps i asked sent) (λ (x : M × Inputs M). over_allocates b a x.0 x.1 ≡ over_allocates b a r t) (λ x y s e. made_alike b m steps x.0 i asked sent x.1 s.0 false y.0 y.1 s.1 a ∙ e) k (r, t) (r', t') h refl
@@ -154,24 +174,26 @@ reads_made b m steps r i asked sent t at ends r' t' h =
 abbrev node : {M : Type 0} → M → Inputs M → Node M
 node r t = record { machine = r; inputs = t }
 
--- the same calls of the nodes may allocate, and they got as far
-pub tree_alike : {M T : Type 0} (b : Machine M T) (r r' : M) (t t' : Inputs M) → ((a : Allocates) → over_allocates b a r' t' ≡ over_allocates b a r t) → ReadsOn b r r' t t' → IsAlike b (node r t) (node r' t')
-tree_alike b r r' t t' calls reads = let k = tree_reads b r r' t t' reads in (calls, k.0, k.1)
+-- the same calls of the nodes may allocate, they got as far, and the root's edge crosses where it did
+pub tree_alike : {M T : Type 0} (b : Machine M T) (r r' : M) (t t' : Inputs M) → ((a : Allocates) → over_allocates b a r' t' ≡ over_allocates b a r t) → ReadsOn b r r' t t' → b.crosses r' ≡ b.crosses r → IsAlike b (node r t) (node r' t')
+tree_alike b r r' t t' calls reads crosses = let k = tree_reads b r r' t t' reads in (calls, k.0, k.1, crosses)
 
 pub popped_alike : {M T : Type 0} (b : Machine M T) (r r' : M) (t : Inputs M) → IsNodeAlike b r r' → IsAlike b (node r t) (node r' t)
-popped_alike b r r' t alike = tree_alike b r r' t t (λ a. over_alike b a r r' t t (node_alike b r r' alike a) refl) (alike.0, λ counts g. g, refl)
+popped_alike b r r' t alike = tree_alike b r r' t t (λ a. over_alike b a r r' t t (node_alike b r r' alike a) refl) (alike.0, λ counts g. g, refl) alike.1.0
 
 -- an Ask, and a Send, by which all edges may be closed
 pub asked_alike : {M T : Type 0} (b : Machine M T) (r r' : M) (asked sent at : ℕ) (t t' : Inputs M) → IsAskedIn b r 0 asked sent t at r' t' → IsAlike b (node r t) (node r' t')
 asked_alike b r r' asked sent at t t' made =
     tree_alike b r r' t t' (λ a. let k = changed_alike b (IsAskedOver b) (asked_over b) (λ n. false) r 0 asked sent t at r' t' made a in over_alike b a r r' t t' k.0 k.1)
     (changed_reads b (IsAskedOver b) (reads_change b (IsAskedOver b) (asked_over b)) (λ n. false) r 0 asked sent t at r' t' made)
+    (changed_crosses b (IsAskedOver b) (asked_over b) (λ n. false) r 0 asked sent t at r' t' made)
 
 pub sent_alike : {M T : Type 0} (b : Machine M T) (m : Meaning T) (r r' : M) (at : ℕ) (t mid t' : Inputs M) (c : Bool) → IsChanged (IsSentOver b m) b.ended r 0 0 0 t at r' mid → t' ≡ closed_row_if c mid → IsAlike b (node r t) (node r' t')
 sent_alike {M} b m r r' at t mid t' c made row =
     let R : Inputs M → Type 0 = λ u. ReadsOn b r r' t u in
     tree_alike b r r' t t' (λ a. let k = changed_alike b (IsSentOver b m) (sent_over b m) b.ended r 0 0 0 t at r' mid made a in over_alike b a r r' t t' k.0 (ap (row_allocates b a) row ∙ (row_closed_if b a c mid ∙ k.1)))
     (subst R (sym row) (reads_closed_if b r r' t mid c (changed_reads b (IsSentOver b m) (reads_change b (IsSentOver b m) (sent_over b m)) b.ended r 0 0 0 t at r' mid made)))
+    (changed_crosses b (IsSentOver b m) (sent_over b m) b.ended r 0 0 0 t at r' mid made)
 
 tree_stepped_allocates : {M T : Type 0} (b : Machine M T) (P : Step M) → IsAlikeStep b P → (ends : M → Bool) (old : Node M) (e : EdgeView) (at : ℕ) (new : Node M) → IsSteppedAt P ends old e at new → (a : Allocates) → tree_allocates b a new ≡ tree_allocates b a old
 tree_stepped_allocates b P alike ends old e zero new h a =
@@ -179,14 +201,18 @@ tree_stepped_allocates b P alike ends old e zero new h a =
 tree_stepped_allocates b P alike ends old e (suc at) new h a =
     over_alike b a old.machine new.machine old.inputs new.inputs (ap (node_allocates b a) h.machine) (stepped_alike b P alike ends old.inputs at new.inputs h.made a)
 
+tree_stepped_crosses : {M T : Type 0} (b : Machine M T) (P : Step M) → IsAlikeStep b P → (ends : M → Bool) (old : Node M) (e : EdgeView) (at : ℕ) (new : Node M) → IsSteppedAt P ends old e at new → b.crosses new.machine ≡ b.crosses old.machine
+tree_stepped_crosses b P alike ends old e zero new h = (alike old.machine e.asked e.sent new.machine h.made).1.0
+tree_stepped_crosses b P alike ends old e (suc at) new h = ap b.crosses h.machine
+
 pub tree_stepped_alike : {M T : Type 0} (b : Machine M T) (P : Step M) → IsAlikeStep b P → (ends : M → Bool) (old : Node M) (e : EdgeView) (at : ℕ) (new : Node M) → IsSteppedAt P ends old e at new → IsAlike b old new
-tree_stepped_alike b P alike ends old e at new h = tree_alike b old.machine new.machine old.inputs new.inputs (tree_stepped_allocates b P alike ends old e at new h) (tree_stepped_reads b P (reads_step b P alike) ends old e at new h)
+tree_stepped_alike b P alike ends old e at new h = tree_alike b old.machine new.machine old.inputs new.inputs (tree_stepped_allocates b P alike ends old e at new h) (tree_stepped_reads b P (reads_step b P alike) ends old e at new h) (tree_stepped_crosses b P alike ends old e at new h)
 
 pub alike_still : {M T : Type 0} (b : Machine M T) (t : Node M) → IsAlike b t t
-alike_still b t = (λ a. refl, λ counts r. r, refl)
+alike_still b t = (λ a. refl, λ counts r. r, refl, refl)
 
 pub alike_then : {M T : Type 0} (b : Machine M T) (old mid new : Node M) → IsAlike b old mid → IsAlike b mid new → IsAlike b old new
-alike_then b old mid new h k = (λ a. k.0 a ∙ h.0 a, λ counts r. k.1 counts (h.1 counts r), k.2 ∙ h.2)
+alike_then b old mid new h k = (λ a. k.0 a ∙ h.0 a, λ counts r. k.1 counts (h.1 counts r), k.2 ∙ h.2, k.3 ∙ h.3)
 
 pub driven_alike : {M T : Type 0} (b : Machine M T) (m : Meaning T) (steps : Bool) (k : ℕ) (old : Node M) (asked sent : ℕ) (new : Node M) → IsDriven b m steps k old asked sent new → IsAlike b old new
 driven_alike {M} b m steps k old asked sent new h =

@@ -21,7 +21,7 @@ use Rattle.rsx_tree.proofs.Noted.{pick_notes, row_notes, step_noted, picked_note
 use Rattle.rsx_tree.proofs.Trees.{node, kept_asked, can_asked, asked_effect, kept_sent, can_sent, sent_effect}
 use Rattle.rsx_tree.specs.Balance.{IsBalanced}
 use Rattle.rsx_tree.proofs.Balances.{tree_ask_balanced, tree_send_balanced}
-use Rattle.rsx_tree.proofs.Alike.{closed_alike, made_alike, reads_made, reads_closed_if, tree_alike}
+use Rattle.rsx_tree.proofs.Alike.{closed_alike, made_alike, made_crosses, reads_made, reads_closed_if, tree_alike}
 use Rattle.rsx_tree.proofs.Rows.{size_sent}
 use Rattle.rsx_tree.proofs.Runs.{leads_by_keep, leads_by_lift, leads_by_on}
 use Rattle.rsx_tree.proofs.Effects.{row_asked}
@@ -450,7 +450,7 @@ advanced {M} b m steps r r' asked sent at ends t mid h = elim h [
         kept = λ _. kept;
         chosen = kept_chosen b m (node r t) (node r mid) kept;
         balance = λ s k. tree_ask_balanced b r asked sent t at mid s made k;
-        alike = tree_alike b r r t mid (λ a. made_alike b m steps r 0 asked sent t at false r mid (inl (record { made = made; stays = refl })) a) (reads_made b m steps r 0 asked sent t at false r mid (inl (record { made = made; stays = refl })));
+        alike = tree_alike b r r t mid (λ a. made_alike b m steps r 0 asked sent t at false r mid (inl (record { made = made; stays = refl })) a) (reads_made b m steps r 0 asked sent t at false r mid (inl (record { made = made; stays = refl }))) refl;
       }))
   | inr y ↦ elim y [
     | inl x ↦
@@ -461,7 +461,7 @@ advanced {M} b m steps r r' asked sent at ends t mid h = elim h [
           kept = λ _. kept;
           chosen = kept_chosen b m (node r t) (node r' (closed_row_if ends mid)) kept;
           balance = λ s k. tree_send_balanced b m r r' 0 0 t at mid (closed_row_if ends mid) s (x.made 0 0) (ap (λ c. closed_row_if c mid) x.ends_is) k;
-          alike = tree_alike b r r' t (closed_row_if ends mid) (λ a. closed_alike b a r' ends mid ∙ made_alike b m steps r 0 asked sent t at ends r' mid (inr (inl x)) a) (reads_closed_if b r r' t mid ends (reads_made b m steps r 0 asked sent t at ends r' mid (inr (inl x))));
+          alike = tree_alike b r r' t (closed_row_if ends mid) (λ a. closed_alike b a r' ends mid ∙ made_alike b m steps r 0 asked sent t at ends r' mid (inr (inl x)) a) (reads_closed_if b r r' t mid ends (reads_made b m steps r 0 asked sent t at ends r' mid (inr (inl x)))) (made_crosses b m steps r 0 asked sent t at ends r' mid (inr (inl x)));
         }
     | inr z ↦
         let C : Bool → Type 0 = λ c. IsAdvanced b m steps (node r t) asked sent (node r' (closed_row_if c mid)) in
@@ -473,7 +473,7 @@ advanced {M} b m steps r r' asked sent at ends t mid h = elim h [
           kept = λ f. absurd (both_ways steps f z.0);
           chosen = both.0;
           balance = both.1;
-          alike = tree_alike b r r t mid (λ a. made_alike b m steps r 0 asked sent t at false r mid (inr (inr (z.0, record { made = z.1.made; receiver = refl; stays = refl }))) a) (reads_made b m steps r 0 asked sent t at false r mid (inr (inr (z.0, record { made = z.1.made; receiver = refl; stays = refl }))));
+          alike = tree_alike b r r t mid (λ a. made_alike b m steps r 0 asked sent t at false r mid (inr (inr (z.0, record { made = z.1.made; receiver = refl; stays = refl }))) a) (reads_made b m steps r 0 asked sent t at false r mid (inr (inr (z.0, record { made = z.1.made; receiver = refl; stays = refl })))) refl;
         }))
   ]
 ]

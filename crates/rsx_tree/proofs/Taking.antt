@@ -3,7 +3,7 @@ use Rattle.std.proofs.Common.{◌≡◌, ◌⊎◌, inl, inr, ℕ, zero, suc, �
 use Rattle.std.proofs.lemmas.Bool.Decides.{nat_tests}
 use Rattle.std.proofs.Math.Nat.{zero-add}
 use Rattle.std.proofs.lemmas.Bool.{both_ways}
-use Rattle.rsx_sources.specs.Prelude.{Meaning, Allocates, Stream, Note, Signal, Next, Complete, Error, CountsStep, ends_input, incoming_of, Reading, IsNextAt, IsNextIn, published_at, reads_hub, reading_after, AllocatesAlike}
+use Rattle.rsx_sources.specs.Prelude.{Meaning, Allocates, Stream, Note, Signal, Next, Complete, Error, CountsStep, ends_input, incoming_of, Reading, IsNextAt, IsNextIn, published_at, reads_hub, reading_after, IsSameKind}
 use Rattle.rsx_sources.specs.Reading.{origin_of}
 use Rattle.rsx_sources.specs.declared.machine.Machine.{Ghosts as Machine}
 use Rattle.rsx_tree.specs.declared.inputs.Inputs.{Inputs, End, More'}
@@ -23,9 +23,9 @@ pub record Stays {M T : Type 0} (b : Machine M T) (n n' : M) : Type 0 where
   pub counts : CountsStep b.counted b.ended b.done n n'
   pub calls : (a : Allocates) → node_allocates b a n' ≡ node_allocates b a n
 
-calls_stay : {M T : Type 0} (b : Machine M T) (n n' : M) → AllocatesAlike b.pop_allocates b.signal_allocates b.step_allocates n n' → (a : Allocates) → node_allocates b a n' ≡ node_allocates b a n
+calls_stay : {M T : Type 0} (b : Machine M T) (n n' : M) → IsSameKind b.crosses b.pop_allocates b.signal_allocates b.step_allocates n n' → (a : Allocates) → node_allocates b a n' ≡ node_allocates b a n
 calls_stay b n n' h a =
-    let k = h a in
+    let k = h.1 a in
     ap (λ c. c || (b.signal_allocates a n' || b.step_allocates a n')) k.0
     ∙ (ap (λ c. b.pop_allocates a n || (c || b.step_allocates a n')) k.1
     ∙ ap (λ c. b.pop_allocates a n || (b.signal_allocates a n || c)) k.2)

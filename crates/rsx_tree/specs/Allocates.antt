@@ -1,5 +1,5 @@
--- What no move of a tree changes: which calls of its nodes may allocate, where these of the caller's functions may, and how far
--- the nodes got in the hubs that they read.
+-- What no move of a tree changes: which calls of its nodes may allocate, where these of the caller's functions may, how far the nodes
+-- got in the hubs that they read, and whether the edge of its root crosses.
 use Rattle.std.specs.Prelude.{◌≡◌, ℕ, Bool, false, ◌||◌, List, Option}
 use Rattle.rsx_sources.specs.Prelude.{Allocates, StaysAlike}
 use Rattle.rsx_sources.specs.declared.machine.Machine.{Ghosts as Machine}
@@ -28,14 +28,16 @@ over_allocates b a r t = node_allocates b a r || row_allocates b a t
 abbrev pub tree_allocates : {M T : Type 0} → Machine M T → Allocates → Node M → Bool
 tree_allocates b a t = over_allocates b a t.machine t.inputs
 
--- the same calls of a node may, and it got as far in the hub that it reads
+-- the same calls of a node may, its edge crosses where it did, and it got as far in the hub that it reads
 abbrev pub IsNodeAlike : {M T : Type 0} → Machine M T → M → M → Type 0
-IsNodeAlike b old new = StaysAlike b.reads b.pop_allocates b.signal_allocates b.step_allocates old new
+IsNodeAlike b old new = StaysAlike b.reads b.crosses b.pop_allocates b.signal_allocates b.step_allocates old new
 
 -- where no call of a tree's nodes may, none may later, whatever the caller's functions; the nodes that read a hub got as
--- far in it, or are behind an edge that isn't live any more; and each node reads what it read, behind such an edge, too
+-- far in it, or are behind an edge that isn't live any more; each node reads what it read, behind such an edge, too; and the
+-- edge of the root crosses where it did
 abbrev pub IsAlike : {M T : Type 0} → Machine M T → Node M → Node M → Type 0
 IsAlike b old new =
     ((a : Allocates) → tree_allocates b a new ≡ tree_allocates b a old)
     × ((counts : List (Option ℕ)) → IsTreeReadAt b counts old → IsTreeReadAt b counts new)
     × (readings b new ≡ readings b old)
+    × (b.crosses new.machine ≡ b.crosses old.machine)

@@ -1,7 +1,7 @@
 -- Handing a signal of a hub to the nodes of a tree that read it.
 use Rattle.std.specs.Prelude.{◌≡◌, ℕ, zero, suc, ◌+◌, Bool, true, false, ◌&&◌, if◌then◌else◌, List, [], ◌∷◌, Option, Some, None, option_map, slice_get}
 use Rattle.std.specs.Option.{option_or}
-use Rattle.rsx_sources.specs.Prelude.{Meaning, Allocates, Stream, Note, Signal, Next, Complete, Error, CountsStep, ends_input, IsNextAt, IsReadOn, published_at, reads_hub, AllocatesAlike}
+use Rattle.rsx_sources.specs.Prelude.{Meaning, Allocates, Stream, Note, Signal, Next, Complete, Error, CountsStep, ends_input, IsNextAt, IsReadOn, published_at, reads_hub, IsSameKind}
 use Rattle.rsx_sources.specs.declared.machine.Machine.{Ghosts as Machine}
 use Rattle.rsx_tree.specs.declared.edge.Edge.{Edge}
 use Rattle.rsx_tree.specs.declared.inputs.Inputs.{Inputs, End, More'}
@@ -69,7 +69,7 @@ pub record IsTakenBy {M T : Type 0} (b : Machine M T) (s : Signal T) (n n' : M) 
   pub on : IsReadOn b.comes_out b.reads n s n'
   pub recorded : b.recorded n' ≡ b.recorded n
   pub counts : CountsStep b.counted b.ended b.done n n'
-  pub calls : AllocatesAlike b.pop_allocates b.signal_allocates b.step_allocates n n'
+  pub calls : IsSameKind b.crosses b.pop_allocates b.signal_allocates b.step_allocates n n'
 
 abbrev pub IsTakenWhere : {M T : Type 0} → Machine M T → Signal T → Bool → M → M → Type 0
 IsTakenWhere b s true n n' = IsTakenBy b s n n'

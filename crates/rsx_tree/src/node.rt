@@ -33,6 +33,7 @@ impl<M: Machine> Node<M> {
     ghost use Rattle.rsx_tree.specs.Chosen.{IsChosen, IsPickedAt, IsRowAt};
     ghost use Rattle.rsx_tree.specs.Look.{IsEnabledAt};
     ghost use Rattle.rsx_tree.specs.Tree.{notes, edges, offers, popped, IsPopped, IsKept, IsAllClosed, can_ask, can_send, send_allocates, IsAskedAt, IsSentAt};
+    ghost use Rattle.rsx_tree.specs.Inputs.{closed_row};
     ghost use Rattle.rsx_tree.specs.Refusals.{IsNotEnabled, OnlyNotEnabled};
     ghost use Rattle.rsx_tree.specs.Residual.{IsTreeResidual};
 
@@ -76,6 +77,7 @@ impl<M: Machine> Node<M> {
         ensures notes { notes M.Machine self.new ≡ notes M.Machine self.old }
         ensures closed { IsAllClosed self.new }
         ensures edges { edges self.new ≡ map closed_view (edges self.old) }
+        ensures all { self.new ≡ record self.old { inputs = closed_row self.old.inputs } }
         ensures alike { IsAlike M.Machine self.old self.new }
     {
         self.inputs.close();

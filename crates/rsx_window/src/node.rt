@@ -125,6 +125,8 @@ impl<T: Drop> Machine for WindowNode<T> {
 
     ghost rooms = { λ n. false };
 
+    ghost crosses = { λ n. false };
+
     ghost pop_allocates = { λ a n. false };
 
     ghost signal_allocates = { λ a n. true };
@@ -353,7 +355,7 @@ impl<T: Drop> Machine for WindowNode<T> {
 
     ghost shows = { λ m n. refl };
 
-    ghost popped_alike = { λ old s new h. (refl, λ a. (refl, refl, refl)) };
+    ghost popped_alike = { λ old s new h. (refl, (refl, λ a. (refl, refl, refl))) };
 
     ghost drops = { window_drops };
 

@@ -11,4 +11,4 @@ returns-clause-built g c = λ m hubs e built.
 pub returns-clause-placed : goal.returns-clause-placed
 returns-clause-placed g c = λ e crosses placed.
     let row : IsLeftRow c.args.tree.inputs c.in_ok-inputs.inputs = search rules in
-    placed_of_either g.A.Nodes.crosses g.B.Nodes.crosses c.args.tree _ (refl, row) e crosses placed
+    placed_of_either g.A.Machine.crosses g.B.Machine.crosses c.args.tree _ (refl, row) e crosses placed

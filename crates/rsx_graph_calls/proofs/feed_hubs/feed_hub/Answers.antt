@@ -38,7 +38,7 @@ returns-clause-effect g c = λ m built placed.
     let fine = c.requires.fine in
     let pushed : c.push_reserved.new.self.items ≡ c.args.hubs.now.items ++ fresh_hub c.args.kind c.args.capacity ∷ [] = search rules in
     let added : c.push_reserved-2.new.self.items ≡ c.args.feeds.now.items ++ c.in_ok-made.made.feed ∷ [] = search rules in
-    fed_effect g.N.Nodes c.args.kind c.args.capacity c.args.expr.now c.args.hubs.now.items c.push_reserved.new.self.items c.count_in.new.hubs.items c.args.feeds.now.items c.push_reserved-2.new.self.items c.in_ok-made.made.feed fine pushed c.count_in.ensures.joined added c.in_ok-made.ensures.named (subst (λ t. IsPlaced g.N.Nodes.crosses c.args.expr.now (differ 0 (region_of c.args.expr.now)) t) (sym c.in_ok-made.ensures.tree) placed)
+    fed_effect g.N.Machine c.args.kind c.args.capacity c.args.expr.now c.args.hubs.now.items c.push_reserved.new.self.items c.count_in.new.hubs.items c.args.feeds.now.items c.push_reserved-2.new.self.items c.in_ok-made.made.feed fine pushed c.count_in.ensures.joined added c.in_ok-made.ensures.named (subst (λ t. IsPlaced g.N.Machine.crosses c.args.expr.now (differ 0 (region_of c.args.expr.now)) t) (sym c.in_ok-made.ensures.tree) placed)
     c.in_ok-made.ensures.root (ap edges c.in_ok-made.ensures.tree ∙ built.edges)
 
 pub returns-clause-beside : goal.returns-clause-beside

@@ -3,4 +3,4 @@ use Rattle.rsx_piece.proofs.Joinings.{joins_pieces}
 use Rattle.rsx_piece.proofs.law.joins.Goals as goal
 
 pub returns : goal.returns
-returns g c = joins_pieces g.N.Machine g.N.Nodes g.N.CrossingNodes (after_moves g.N.Machine g.N.Nodes g.N.CrossingNodes g.met.N.Nodes.local g.met.N.CrossingNodes.holds g.met.N.CrossingNodes.reads_on)
+returns g c = joins_pieces g.N.Machine g.N.CrossingNodes (after_moves g.N.Machine g.N.CrossingNodes g.met.N.Nodes.local g.met.N.CrossingNodes.holds g.met.N.CrossingNodes.reads_on)

@@ -6,14 +6,14 @@ use Rattle.rsx_piece.proofs.law.joins_whole.Goals as goal
 pub returns-clause-going_on : goal.returns-clause-going_on
 returns-clause-going_on g c =
     let n = g.met.N.CrossingNodes in
-    joins_whole g.N.Machine g.N.Nodes g.N.CrossingNodes n.holds n.reads_counted (after_moves g.N.Machine g.N.Nodes g.N.CrossingNodes g.met.N.Nodes.local n.holds n.reads_on)
+    joins_whole g.N.Machine g.N.CrossingNodes n.holds n.reads_counted (after_moves g.N.Machine g.N.CrossingNodes g.met.N.Nodes.local n.holds n.reads_on)
 
 pub returns-clause-ended : goal.returns-clause-ended
 returns-clause-ended g c =
     let n = g.met.N.CrossingNodes in
-    joins_whole_ended g.N.Machine g.N.Nodes g.N.CrossingNodes n.holds n.reads_counted (after_ending g.N.Machine g.N.Nodes g.N.CrossingNodes g.met.N.Nodes.local n.holds n.reads_on)
+    joins_whole_ended g.N.Machine g.N.CrossingNodes n.holds n.reads_counted (after_ending g.N.Machine g.N.CrossingNodes g.met.N.Nodes.local n.holds n.reads_on)
 
 pub returns-clause-at_end : goal.returns-clause-at_end
 returns-clause-at_end g c =
     let n = g.met.N.CrossingNodes in
-    joins_whole_at_end g.N.Machine g.N.Nodes g.N.CrossingNodes n.holds n.holds_ending (at_end g.N.Machine g.N.Nodes g.N.CrossingNodes g.met.N.Nodes.local n.holds n.holds_ending n.reads_on n.reads_ended)
+    joins_whole_at_end g.N.Machine g.N.CrossingNodes n.holds n.holds_ending (at_end g.N.Machine g.N.CrossingNodes g.met.N.Nodes.local n.holds n.holds_ending n.reads_on n.reads_ended)

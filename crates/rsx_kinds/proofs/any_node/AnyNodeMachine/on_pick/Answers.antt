@@ -22,7 +22,7 @@ returns-in-FlatMap g c = rw c.in-FlatMap.is (record {
   counts = on_ok_weaker c.on_pick-in-FlatMap.result (stepped_flat_map c.in-FlatMap.node c.on_pick-in-FlatMap.new.self) c.on_pick-in-FlatMap.ensures.counts;
   err = c.on_pick-in-FlatMap.ensures.err;
   memory = λ e. cc;
-  alike = (refl, λ a. (refl, refl, refl));
+  alike = (refl, (refl, λ a. (refl, refl, refl)));
   same = on_err_weaker c.on_pick-in-FlatMap.result (λ e. ap FlatMap e) c.on_pick-in-FlatMap.ensures.same;
 })
 
@@ -35,6 +35,6 @@ returns-in-GroupBy g c = rw c.in-GroupBy.is (record {
   counts = on_ok_weaker c.on_pick-in-GroupBy.result (stepped_group_by c.in-GroupBy.node c.on_pick-in-GroupBy.new.self) c.on_pick-in-GroupBy.ensures.counts;
   err = c.on_pick-in-GroupBy.ensures.err;
   memory = λ e. cc;
-  alike = (refl, λ a. (refl, refl, refl));
+  alike = (refl, (refl, λ a. (refl, refl, refl)));
   same = on_err_weaker c.on_pick-in-GroupBy.result (λ e. ap GroupBy e) c.on_pick-in-GroupBy.ensures.same;
 })

@@ -24,7 +24,7 @@ returns-in-PublishOn g c = rw c.in-PublishOn.is (record {
   counts = on_ok_weaker c.on_signal-in-PublishOn.result (taken_publish_on c.in-PublishOn.node c.on_signal-in-PublishOn.new.self c.args.input c.args.signal) c.on_signal-in-PublishOn.ensures.counts;
   err = c.on_signal-in-PublishOn.ensures.err;
   memory = λ e. c.on_signal-in-PublishOn.ensures.memory;
-  alike = (refl, λ a. (refl, refl, refl));
+  alike = (refl, (refl, λ a. (refl, refl, refl)));
   same = on_err_weaker c.on_signal-in-PublishOn.result (λ e. ap PublishOn e) c.on_signal-in-PublishOn.ensures.same;
 })
 
@@ -36,7 +36,7 @@ returns-in-Window g c = rw c.in-Window.is (record {
   counts = on_ok_weaker c.on_signal-in-Window.result (taken_window c.in-Window.node c.on_signal-in-Window.new.self c.args.input c.args.signal) c.on_signal-in-Window.ensures.counts;
   err = c.on_signal-in-Window.ensures.err;
   memory = λ e. cc;
-  alike = (refl, λ a. (refl, refl, refl));
+  alike = (refl, (refl, λ a. (refl, refl, refl)));
   same = on_err_weaker c.on_signal-in-Window.result (λ e. ap Window e) c.on_signal-in-Window.ensures.same;
 })
 
@@ -48,7 +48,7 @@ returns-in-FlatMap g c = rw c.in-FlatMap.is (record {
   counts = on_ok_weaker c.on_signal-in-FlatMap.result (taken_flat_map c.in-FlatMap.node c.on_signal-in-FlatMap.new.self c.args.input c.args.signal) c.on_signal-in-FlatMap.ensures.counts;
   err = c.on_signal-in-FlatMap.ensures.err;
   memory = λ e. cc;
-  alike = (refl, λ a. (refl, refl, refl));
+  alike = (refl, (refl, λ a. (refl, refl, refl)));
   same = on_err_weaker c.on_signal-in-FlatMap.result (λ e. ap FlatMap e) c.on_signal-in-FlatMap.ensures.same;
 })
 
@@ -60,6 +60,6 @@ returns-in-GroupBy g c = rw c.in-GroupBy.is (record {
   counts = on_ok_weaker c.on_signal-in-GroupBy.result (taken_group_by c.in-GroupBy.node c.on_signal-in-GroupBy.new.self c.args.input c.args.signal) c.on_signal-in-GroupBy.ensures.counts;
   err = c.on_signal-in-GroupBy.ensures.err;
   memory = λ e. cc;
-  alike = (refl, λ a. (refl, refl, refl));
+  alike = (refl, (refl, λ a. (refl, refl, refl)));
   same = on_err_weaker c.on_signal-in-GroupBy.result (λ e. ap GroupBy e) c.on_signal-in-GroupBy.ensures.same;
 })

@@ -12,7 +12,7 @@ returns-in-Concat g c = rw c.in-Concat.is (record {
   counts = on_ok_weaker c.on_signal.result (taken_concat c.in-Concat.node c.on_signal.new.self c.args.input c.args.signal) c.on_signal.ensures.counts;
   err = c.on_signal.ensures.err;
   memory = c.on_signal.ensures.memory;
-  alike = (refl, λ a. (refl, refl, refl));
+  alike = (refl, (refl, λ a. (refl, refl, refl)));
   same = on_err_weaker c.on_signal.result (λ e. ap Concat e) c.on_signal.ensures.same;
 })
 
@@ -24,7 +24,7 @@ returns-in-Merge g c = rw c.in-Merge.is (record {
   counts = on_ok_weaker c.on_signal-in-Merge.result (taken_merge c.in-Merge.node c.on_signal-in-Merge.new.self c.args.input c.args.signal) c.on_signal-in-Merge.ensures.counts;
   err = c.on_signal-in-Merge.ensures.err;
   memory = c.on_signal-in-Merge.ensures.memory;
-  alike = (refl, λ a. (refl, refl, refl));
+  alike = (refl, (refl, λ a. (refl, refl, refl)));
   same = on_err_weaker c.on_signal-in-Merge.result (λ e. ap Merge e) c.on_signal-in-Merge.ensures.same;
 })
 
@@ -36,7 +36,7 @@ returns-in-Zip g c = rw c.in-Zip.is (record {
   counts = on_ok_weaker c.on_signal-in-Zip.result (taken_zip c.in-Zip.node c.on_signal-in-Zip.new.self c.args.input c.args.signal) c.on_signal-in-Zip.ensures.counts;
   err = c.on_signal-in-Zip.ensures.err;
   memory = c.on_signal-in-Zip.ensures.memory;
-  alike = (refl, λ a. (refl, refl, refl));
+  alike = (refl, (refl, λ a. (refl, refl, refl)));
   same = on_err_weaker c.on_signal-in-Zip.result (λ e. ap Zip e) c.on_signal-in-Zip.ensures.same;
 })
 
@@ -48,6 +48,6 @@ returns-in-Latest g c = rw c.in-Latest.is (record {
   counts = on_ok_weaker c.on_signal-in-Latest.result (taken_latest c.in-Latest.node c.on_signal-in-Latest.new.self c.args.input c.args.signal) c.on_signal-in-Latest.ensures.counts;
   err = c.on_signal-in-Latest.ensures.err;
   memory = c.on_signal-in-Latest.ensures.memory;
-  alike = (refl, λ a. (refl, refl, refl));
+  alike = (refl, (refl, λ a. (refl, refl, refl)));
   same = on_err_weaker c.on_signal-in-Latest.result (λ e. ap Latest e) c.on_signal-in-Latest.ensures.same;
 })

@@ -1,5 +1,6 @@
-use Rattle.std.proofs.Common.{refl, ◌∙◌}
+use Rattle.std.proofs.Common.{refl, ap, sym, ◌∙◌}
 use Rattle.rsx_link.specs.Ends.{received_signals}
+use Rattle.rsx_piece.specs.Endings.{first_ending}
 use Rattle.rsx_piece.proofs.Handing.{in_step_handed, passed_one, stands_left, stands_popped}
 use Rattle.rsx_piece.proofs.Inlets.{link_beside, link_left, link_popped, link_still}
 use Rattle.rsx_piece.proofs.inlet.Inlet.pop.Goals as goal
@@ -89,3 +90,6 @@ returns-clause-others g c taken other apart come h =
     let done = passed_one g.N.Machine i.hub c.from-hub.result c.args.part.now c.hand.new.self c.push_reserved.new.self.items c.reserve.new.self.items c.hand.new.signals.items c.in-Some.signal c.readers_up_to.result c.has_room_for.result
     c.from-hub.ensures c.readers_up_to.ensures c.if-readers_up_to-ne1.false c.has_room_for.ensures c.if-not-has_room_for.false (c.reserve.ensures.items ∙ i.empty) c.push_reserved.ensures.items c.hand.ensures in
     link_beside g.N.Machine taken c.args.part.now c.hand.new.self c.in-Some.signal i.hub other.hub (received_signals c.take.new.self) other.down other.closer apart done.reader done.handed h
+
+pub invariant_of-self-2-clause-over : goal.invariant_of-self-2-clause-over
+invariant_of-self-2-clause-over g c = c.ended_by-self.ensures (received_signals c.args.self.now.down) c.args.self.now.over ∙ sym (ap first_ending c.in-Some.ensures.some.received)

@@ -16,4 +16,4 @@ returns-clause-fresh g c = λ m hubs e built placed.
     let t = c.step.ensures in
     let d = c.new-demand.ensures in
     let part = c.new-part.ensures in
-    fresh_sub g.N.Nodes m e _ part.root (ap edges part.tree ∙ built.edges) (subst (λ t. IsPlaced g.N.Nodes.crosses e false t) (sym part.tree) placed) c.in_ok-queue.ensures (begun _ c.new-demand.result d.asked d.sent t.state refl t.asked t.sent)
+    fresh_sub g.N.Machine m e _ part.root (ap edges part.tree ∙ built.edges) (subst (λ t. IsPlaced g.N.Machine.crosses e false t) (sym part.tree) placed) c.in_ok-queue.ensures (begun _ c.new-demand.result d.asked d.sent t.state refl t.asked t.sent)

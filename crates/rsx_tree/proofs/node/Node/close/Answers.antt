@@ -28,4 +28,5 @@ returns-clause-alike g c = (
   λ a. over_alike g.M.Machine a c.args.self.now.machine c.args.self.now.machine c.args.self.now.inputs c.close.new.self refl (ap (row_allocates g.M.Machine a) c.close.ensures ∙ row_closed g.M.Machine a c.args.self.now.inputs),
   λ counts h. (h.0, subst (λ t. IsRowReadAt g.M.Machine counts t) (sym c.close.ensures) (closed_reads g.M.Machine counts c.args.self.now.inputs)),
   ap (λ t. g.M.Machine.reads c.args.self.now.machine ∷ row_readings g.M.Machine t) c.close.ensures ∙ ap (λ l. g.M.Machine.reads c.args.self.now.machine ∷ l) (shut_readings g.M.Machine true c.args.self.now.inputs),
+  refl,
 )
