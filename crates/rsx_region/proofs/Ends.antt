@@ -1,11 +1,11 @@
 -- The ends of a piece stay those of its links.
-use Rattle.std.proofs.Common.{◌≡◌, ℕ, List, [], ◌∷◌, map, refl, sym, ap, ◌∙◌, subst, Some, slice_get, slice_set}
+use Rattle.std.proofs.Common.{◌≡◌, ℕ, List, map, sym, ap, ◌∙◌, subst, Some, slice_get}
 use Rattle.rsx_link.specs.Ends.{IsUpOf}
 use Rattle.rsx_link.specs.declared.link.Link.{Link}
 use Rattle.rsx_link.specs.declared.up.Up.{Up}
 use Rattle.rsx_piece.specs.Inlet.{IsInletOf}
 use Rattle.rsx_piece.specs.Piece.{IsInStep}
-use Rattle.rsx_region.specs.Pieces.{AreApart, Each, IsAt, IsPieceOf, hub_of, hubs_of}
+use Rattle.rsx_region.specs.Pieces.{AreApart, Each, IsAt, IsPieceOf, hub_of}
 use Rattle.rsx_region.specs.Steps.{OneChanged, SameInlets}
 use Rattle.rsx_region.specs.declared.piece.Incoming.{Incoming}
 use Rattle.rsx_region.specs.declared.piece.Piece.{Piece}

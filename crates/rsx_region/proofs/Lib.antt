@@ -1,9 +1,16 @@
+pub mod Beside
+pub mod Between
+pub mod Cuts
 pub mod Ends
+pub mod Halving
+pub mod Joins
 pub mod Lists
+pub mod Opened
 pub mod Places
 pub mod Regions
 pub mod Rests
 pub mod Runs
 pub mod Seen
+pub mod Shares
 pub mod Singles
 pub mod Stands

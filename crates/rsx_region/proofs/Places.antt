@@ -1,5 +1,5 @@
 -- One link of a piece, at its place.
-use Rattle.std.proofs.Common.{◌≡◌, ℕ, ◌<◌, List, length, refl, sym, ap, ◌∙◌, subst, Some, slice_get, slice_index_or}
+use Rattle.std.proofs.Common.{◌≡◌, ℕ, ◌<◌, List, length, refl, sym, subst, Some, slice_get, slice_index_or}
 use Rattle.std.proofs.lemmas.Option.{slice_get_read}
 use Rattle.rsx_link.specs.Ends.{IsCancelSeatOf}
 use Rattle.rsx_link.specs.declared.cancel.CancelSeat.{CancelSeat}

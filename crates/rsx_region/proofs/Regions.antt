@@ -1,12 +1,12 @@
 -- Many pieces, of which one was served.
-use Rattle.std.proofs.Common.{◌≡◌, inl, inr, ℕ, ◌+◌, List, [], ◌∷◌, ◌++◌, length, refl, sym, ap, ◌∙◌, subst, Some, slice_get, slice_set}
+use Rattle.std.proofs.Common.{◌≡◌, inl, inr, ℕ, ◌+◌, List, [], ◌∷◌, ◌++◌, refl, sym, ap, ◌∙◌, subst, Some, slice_get, slice_set}
 use Rattle.std.proofs.lemmas.List.{length-set}
 use Rattle.rsx_sources.specs.Prelude.{Meaning}
 use Rattle.rsx_sources.specs.declared.machine.Machine.{Ghosts as Machine}
 use Rattle.rsx_tree.specs.Runs.{Leads}
 use Rattle.rsx_tree.proofs.Runs.{leads_on}
 use Rattle.rsx_link.specs.declared.link.Link.{Link}
-use Rattle.rsx_region.specs.Pieces.{Each, IsPieceOf, StandsSince}
+use Rattle.rsx_region.specs.Pieces.{IsPieceOf, StandsSince}
 use Rattle.rsx_region.specs.Regions.{ArePiecesOf, IsServedAt, IsStepOfOne, RegionGoes, RegionStands}
 use Rattle.rsx_region.specs.Serving.{EachBefore, IsAtRest}
 use Rattle.rsx_region.specs.Steps.{Goes, IsStep, moves_in, pops_in}

@@ -8,16 +8,16 @@ use Rattle.rsx_tree.specs.declared.edge.Edge.{Edge}
 use Rattle.rsx_tree.specs.Edges.{is_live}
 use Rattle.rsx_pipe.specs.Part.{Part}
 use Rattle.rsx_pipe.specs.Published.{has_room_for, readers, reader_edge}
-use Rattle.rsx_link.specs.Ends.{Waits, TakesNone, asked_total, cancels_of, down_steps, queued, received_signals, sent_signals, up_steps}
+use Rattle.rsx_link.specs.Ends.{Waits, asked_total, cancels_of, down_steps, queued, received_signals, sent_signals, up_steps}
 use Rattle.rsx_link.specs.Steps.{asked_of}
 use Rattle.rsx_link.specs.declared.view.Step.{Step as LinkStep}
 use Rattle.rsx_link.specs.declared.cancel.CancelSeat.{CancelSeat}
 use Rattle.rsx_link.specs.declared.down.Down.{Down}
-use Rattle.rsx_piece.specs.Moves.{HasLeft, IsAskedFor, IsAskedOver, IsIdle}
+use Rattle.rsx_piece.specs.Moves.{HasLeft, IsAskedFor, IsAskedOver}
 use Rattle.rsx_piece.specs.declared.inlet.Inlet.{Inlet}
-use Rattle.rsx_region.specs.Pieces.{Each, hub_of}
+use Rattle.rsx_region.specs.Pieces.{Each}
 use Rattle.rsx_region.specs.Serving.{AllPassedOn, CanNotPop, EachBefore, HasLeftAll, HasLeftBefore, HasLeftOne, HasPassedOn, HasStayed, IsAtRest, IsPassedOn, IsPassedOver}
-use Rattle.rsx_region.specs.Steps.{HasTried, OneChanged, SameInlets, Shown, shown}
+use Rattle.rsx_region.specs.Steps.{HasTried, OneChanged, Shown, shown}
 use Rattle.rsx_region.specs.declared.piece.Incoming.{Incoming}
 use Rattle.rsx_region.specs.declared.piece.Piece.{Piece}
 use Rattle.rsx_region.proofs.Lists.{each_shown, map_same, set_cases}

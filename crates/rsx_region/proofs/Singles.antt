@@ -1,5 +1,5 @@
 -- The single steps of a piece.
-use Rattle.std.proofs.Common.{◌≡◌, inl, ℕ, ◌&&◌, nat_lt, if◌then◌else◌, Bool, true, false, List, map, refl, sym, ap, ◌∙◌, subst, Option, Some, None, Result, Ok, Err, slice_get, slice_set}
+use Rattle.std.proofs.Common.{◌≡◌, inl, ℕ, ◌&&◌, nat_lt, if◌then◌else◌, Bool, true, false, List, map, refl, sym, ap, subst, Option, Some, None, Result, Ok, Err, slice_get}
 use Rattle.std.specs.Prelude.{IfNone, IfOk, IfSome, OnErr}
 use Rattle.rsx_sources.specs.Prelude.{Meaning, Signal, front_of}
 use Rattle.rsx_sources.specs.declared.machine.Front.{Front}
@@ -12,11 +12,12 @@ use Rattle.rsx_rooted.specs.Feeding.{carried}
 use Rattle.rsx_rooted.specs.Tree.{offers}
 use Rattle.rsx_pipe.specs.Part.{Part}
 use Rattle.rsx_pipe.specs.Published.{reader_edge}
-use Rattle.rsx_link.specs.Ends.{SameUp, down_steps, received_signals, sent_signals}
+use Rattle.rsx_link.specs.Ends.{SameUp, carried_up, received_signals, sent_signals}
 use Rattle.rsx_link.specs.declared.link.Link.{Link}
 use Rattle.rsx_link.specs.declared.up.Found.{Found}
+use Rattle.rsx_link.specs.declared.up.Up.{Up}
 use Rattle.rsx_piece.specs.Moves.{HasLeft, HasPopped, HasStepped, IsAskedFor, IsLooked, IsStill, KeepsInlet, SameInlet}
-use Rattle.rsx_region.specs.Serving.{CanNotPop, HasLeftOne, HasPassedOn, HasStayed, IsPassedOn}
+use Rattle.rsx_region.specs.Serving.{HasLeftOne, HasPassedOn, HasStayed, IsPassedOn}
 use Rattle.rsx_region.specs.Steps.{Goes, HasTried, OneChanged, SameInlets, done, shown}
 use Rattle.rsx_region.specs.declared.piece.Incoming.{Incoming}
 use Rattle.rsx_region.specs.declared.piece.Piece.{Piece}
@@ -28,6 +29,11 @@ pub looked_goes : {M T : Type 0} (b : Machine M T) (m : Meaning T) (links : List
     IfSome o (λ f. IsLooked b m l f p.part p.up new.part new.up) → IfSome o (λ f. p.part.root.state ≡ Live) → IfNone o ((p.part.root.state ≡ Live → ⊥) × (new.part ≡ p.part) × (new.up ≡ p.up)) → Goes b m links 0 0 p new
 looked_goes b m links p new l (Some f) there same looked live none = goes_one b m links Look 0 0 p new refl refl (record { out = l; there = there; live = live; found = f; looked = looked; others = same })
 looked_goes b m links p new l None there same looked live none = goes_one b m links Try 0 0 p new refl refl (record { part = none.1; link = same.0; sent = ap sent_signals none.2; looks = ap (λ u. u.seat.me.0.steps) none.2; ins = ap (map shown) same.1 })
+
+-- a look leaves how many items had gone over the edge before the link was made
+pub looked_carried : {M T : Type 0} (b : Machine M T) (m : Meaning T) (l : Link T) (part part' : Part M) (up up' : Up T) (o : Option Found) → IfSome o (λ f. IsLooked b m l f part up part' up') → IfNone o ((part.root.state ≡ Live → ⊥) × (part' ≡ part) × (up' ≡ up)) → carried_up up' ≡ carried_up up
+looked_carried b m l part part' up up' (Some f) looked none = looked.end.3
+looked_carried b m l part part' up up' None looked none = ap carried_up none.2
 
 pub asked_goes : {M T : Type 0} (b : Machine M T) (m : Meaning T) (links : List (Link T)) (p new : Piece M T) (l : Link T) (at : ℕ) (was is : Incoming T) → OneChanged at was is p new → new.part ≡ p.part → KeepsInlet l was.inlet is.inlet →
     IsAskedFor (reader_edge b was.inlet.hub p.part) was.inlet.down was.inlet.closer is.inlet.down is.inlet.closer → Goes b m links 0 0 p new

@@ -1,10 +1,10 @@
 -- A piece stands on for what it stood for.
-use Rattle.std.proofs.Common.{◌≡◌, ℕ, List, [], ◌∷◌, map, refl, sym, ap, ◌∙◌, subst, inl, inr, Some, slice_get, slice_set}
+use Rattle.std.proofs.Common.{◌≡◌, ℕ, List, [], ◌∷◌, map, refl, sym, ap, ◌∙◌, subst, inl, inr}
 use Rattle.rsx_sources.specs.Prelude.{Meaning, Signal, Stream}
 use Rattle.rsx_sources.specs.declared.machine.Machine.{Ghosts as Machine}
 use Rattle.rsx_tree.specs.declared.node.Node.{Node}
 use Rattle.rsx_pipe.specs.Part.{Part}
-use Rattle.rsx_link.specs.Ends.{received_signals, sent_signals}
+use Rattle.rsx_link.specs.Ends.{carried_down, carried_up, received_signals, sent_signals}
 use Rattle.rsx_link.specs.declared.up.Up.{Up}
 use Rattle.rsx_cut.specs.Local.{stream_of}
 use Rattle.rsx_piece.specs.Inlet.{HasCome, InletStands, with_come}
@@ -20,22 +20,23 @@ use Rattle.rsx_region.proofs.Lists.{apart_at, each_set, get_map, map_same, map_s
 taken_from : {M T : Type 0} (n : ℕ) (p new : Piece M T) → map came_of new.inlets.items ≡ map came_of p.inlets.items → taken_of n new ≡ taken_of n p
 taken_from n p new same = ap (taken_by stream_of [] n) same
 
-pub stands_root : {M T : Type 0} (b : Machine M T) (m : Meaning T) (n : ℕ) (opening p new : Piece M T) → SameInlets p new →
+pub stands_root : {M T : Type 0} (b : Machine M T) (m : Meaning T) (n : ℕ) (opening p new : Piece M T) → SameInlets p new → carried_up new.up ≡ carried_up p.up →
     ((taken : List (Stream T)) (old : Node M) (queued : List (Signal T)) → PieceStands b m taken old queued p.part p.up → PieceStands b m taken old queued new.part new.up) →
     ((taken : List (Stream T)) (i : Inlet T) → InletStands b taken p.part i → InletStands b taken new.part i) → StandsSince b m n opening p → StandsSince b m n opening new
-stands_root {M} {T} b m n opening p new same stands inlets h =
+stands_root {M} {T} b m n opening p new same carried stands inlets h =
     let taken : taken_of n new ≡ taken_of n p = taken_from n p new (ap (map came_of) same.1) in
     let S : List (Stream T) → Type 0 = λ t. PieceStands b m t opening.part.tree (sent_signals opening.up) new.part new.up in
     let I : List (Stream T) → Type 0 = λ t. Each (λ (i : Incoming T). InletStands b t new.part i.inlet) new.inlets.items in
     let E : List (Incoming T) → Type 0 = λ is. Each (λ (i : Incoming T). InletStands b (taken_of n p) new.part i.inlet) is in
     record {
       links = (same.0 ∙ h.links.0, ap (map numbers_of) same.1 ∙ h.links.1);
+      carried = carried ∙ h.carried;
       part = subst S (sym taken) (stands (taken_of n p) opening.part.tree (sent_signals opening.up) h.part);
       ins = subst I (sym taken) (subst E (sym same.1) (λ k x at. inlets (taken_of n p) x.inlet (h.ins k x at)));
     }
 
-numbers_same : {T : Type 0} (was is : Incoming T) → is.link ≡ was.link → is.inlet.hub ≡ was.inlet.hub → numbers_of is ≡ numbers_of was
-numbers_same was is e h = cc
+numbers_same : {T : Type 0} (was is : Incoming T) → is.link ≡ was.link → is.inlet.hub ≡ was.inlet.hub → carried_down is.inlet.down ≡ carried_down was.inlet.down → numbers_of is ≡ numbers_of was
+numbers_same was is e h c = cc
 
 pub stands_asked : {M T : Type 0} (b : Machine M T) (m : Meaning T) (n : ℕ) (opening p new : Piece M T) (at : ℕ) (was is : Incoming T) → OneChanged at was is p new → new.part ≡ p.part → received_signals is.inlet.down ≡ received_signals was.inlet.down →
     ((taken : List (Stream T)) → InletStands b taken p.part was.inlet → InletStands b taken p.part is.inlet) → StandsSince b m n opening p → StandsSince b m n opening new
@@ -51,7 +52,8 @@ stands_asked {M} {T} b m n opening p new at was is c part came stands h =
     let R : Part M → Type 0 = λ q. Each (λ (i : Incoming T). InletStands b (taken_of n p) q i.inlet) new.inlets.items in
     let P : Incoming T → Type 0 = λ i. InletStands b (taken_of n p) p.part i.inlet in
     record {
-      links = (c.link ∙ h.links.0, ap (map numbers_of) c.put ∙ map_same numbers_of items at was is c.there (numbers_same was is c.number c.hub) ∙ h.links.1);
+      links = (c.link ∙ h.links.0, ap (map numbers_of) c.put ∙ map_same numbers_of items at was is c.there (numbers_same was is c.number c.hub c.carried) ∙ h.links.1);
+      carried = ap carried_up c.up ∙ h.carried;
       part = subst S (sym taken) (subst Q (sym part) (subst U (sym c.up) h.part));
       ins = subst I (sym taken) (subst R (sym part) (subst (Each P) (sym c.put) (each_set P items at is (stands (taken_of n p) (h.ins at was c.there)) h.ins)));
     }
@@ -80,7 +82,8 @@ stands_popped {M} {T} b m n opening p new at was is c apart stands own others h 
     let I : List (Stream T) → Type 0 = λ t. Each (λ (i : Incoming T). InletStands b t new.part i.inlet) new.inlets.items in
     let P : Incoming T → Type 0 = λ i. InletStands b (with_come is.inlet before) new.part i.inlet in
     record {
-      links = (c.link ∙ h.links.0, ap (map numbers_of) c.put ∙ map_same numbers_of items at was is c.there (numbers_same was is c.number c.hub) ∙ h.links.1);
+      links = (c.link ∙ h.links.0, ap (map numbers_of) c.put ∙ map_same numbers_of items at was is c.there (numbers_same was is c.number c.hub c.carried) ∙ h.links.1);
+      carried = ap carried_up c.up ∙ h.carried;
       part = subst S (sym taken) (subst U (sym c.up) (stands before opening.part.tree (sent_signals opening.up) p.up come h.part));
       ins = subst I (sym taken) (subst (Each P) (sym c.put) (λ k x there. elim (set_cases items at k is x there) [
         | inl s ↦ subst P (sym s.1) (own before (h.ins at was c.there))

@@ -1,4 +1,7 @@
 -- Definitions that contracts cite.
+pub mod Cuts
+pub mod Halves
+pub mod Joins
 pub mod Pieces
 pub mod Regions
 pub mod Serving

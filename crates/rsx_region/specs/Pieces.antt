@@ -2,7 +2,7 @@
 use Rattle.std.specs.Prelude.{◌≡◌, ℕ, List, [], ◌∷◌, Some, map, replicate, slice_get}
 use Rattle.rsx_sources.specs.Prelude.{Meaning, Signal, Stream}
 use Rattle.rsx_sources.specs.declared.machine.Machine.{Ghosts as Machine}
-use Rattle.rsx_link.specs.Ends.{IsUpOf, received_signals, sent_signals}
+use Rattle.rsx_link.specs.Ends.{IsUpOf, carried_down, carried_up, received_signals, sent_signals}
 use Rattle.rsx_link.specs.declared.link.Link.{Link}
 use Rattle.rsx_cut.specs.Local.{stream_of}
 use Rattle.rsx_piece.specs.Inlet.{InletStands, IsInletOf, replaced_at}
@@ -36,9 +36,9 @@ module _ {T : Type 0} where
   abbrev pub came_of : Incoming T → ℕ × List (Signal T)
   came_of i = (i.inlet.hub, received_signals i.inlet.down)
 
-  -- the number of the link, and the one under which it is read
-  abbrev pub numbers_of : Incoming T → ℕ × ℕ
-  numbers_of i = (i.link, i.inlet.hub)
+  -- the number of the link, the one under which it is read, and how many items had gone over its edge before the link was made
+  abbrev pub numbers_of : Incoming T → ℕ × ℕ × ℕ
+  numbers_of i = (i.link, i.inlet.hub, carried_down i.inlet.down)
 
 module _ {M T : Type 0} where
   abbrev pub hubs_of : Piece M T → List ℕ
@@ -56,8 +56,9 @@ module _ {M T : Type 0} where
     pub step : IsInStep p.part p.up
 
   -- The equation of a piece since its opening, where there are so many hubs and links. What was sent is what was sent then, and what
-  -- came out since; each link that comes in stands as it should.
+  -- came out since; each link that comes in stands as it should. What no step changes is as it was.
   pub record StandsSince (b : Machine M T) (m : Meaning T) (n : ℕ) (opening p : Piece M T) : Type 0 where
     pub links : (p.link ≡ opening.link) × (map numbers_of p.inlets.items ≡ map numbers_of opening.inlets.items)
+    pub carried : carried_up p.up ≡ carried_up opening.up
     pub part : PieceStands b m (taken_of n p) opening.part.tree (sent_signals opening.up) p.part p.up
     pub ins : Each (λ (i : Incoming T). InletStands b (taken_of n p) p.part i.inlet) p.inlets.items

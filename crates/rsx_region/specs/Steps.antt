@@ -5,7 +5,7 @@ use Rattle.rsx_sources.specs.declared.machine.Machine.{Ghosts as Machine}
 use Rattle.rsx_tree.specs.declared.edge.EdgeState.TheVariants.{Live}
 use Rattle.rsx_tree.specs.Runs.{Leads}
 use Rattle.rsx_pipe.specs.Published.{reader_edge}
-use Rattle.rsx_link.specs.Ends.{down_steps, received_signals, sent_signals, up_steps}
+use Rattle.rsx_link.specs.Ends.{carried_down, down_steps, received_signals, sent_signals, up_steps}
 use Rattle.rsx_link.specs.declared.cancel.CancelSeat.{CancelSeat}
 use Rattle.rsx_link.specs.declared.link.Link.{Link}
 use Rattle.rsx_link.specs.declared.up.Found.{Found}
@@ -67,6 +67,7 @@ module _ {M T : Type 0} where
     pub put : new.inlets.items ≡ slice_set old.inlets.items at is
     pub number : is.link ≡ was.link
     pub hub : is.inlet.hub ≡ was.inlet.hub
+    pub carried : carried_down is.inlet.down ≡ carried_down was.inlet.down
     pub link : new.link ≡ old.link
     pub up : new.up ≡ old.up
 

@@ -5,6 +5,8 @@
 //! A [`Piece`] has its part with those ends, so that [`Piece::serve`] can do all that there is to do for it, within a budget: it looks
 //! at the link that goes out, passes requests down the links that come in, takes signals from them, and makes moves.
 //!
+//! - [`cutting`]: a piece is cut in two.
+//! - [`halves`]: [`Below`], what was cut off a piece, and how it is joined to it again.
 //! - [`piece`]: [`Piece`] and [`Incoming`].
 //! - [`step`]: [`Step`], by which contracts tell what was done.
 //! - [`serving`]: [`Piece::serve`], with its answer [`Served`].
@@ -12,12 +14,16 @@
 //! The definitions stand in `specs/`: `Pieces` (the ends of a piece, and what it stands for), `Steps` (what each step changes) and
 //! `Serving` (when a piece is at rest).
 
+pub mod cutting;
+pub mod halves;
 pub mod opening;
 pub mod piece;
 pub mod region;
 pub mod serving;
 pub mod step;
 
+pub use cutting::NotCut;
+pub use halves::{Below, LINK_PLACES};
 pub use opening::Opening;
 pub use piece::{Incoming, Piece};
 pub use region::Region;

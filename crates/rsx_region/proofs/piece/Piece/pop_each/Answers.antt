@@ -1,4 +1,4 @@
-use Rattle.std.proofs.Common.{◌≡◌, ◌≤◌, ◌+◌, length, refl, sym, ap, ◌∙◌, arith}
+use Rattle.std.proofs.Common.{◌≤◌, ◌+◌, length, refl, sym, ap, ◌∙◌, arith}
 use Rattle.rsx_region.proofs.Rests.{left_all, left_more}
 use Rattle.rsx_region.proofs.Runs.{byte_cond, goes_then, none_of, one_more, plus_none}
 use Rattle.rsx_region.proofs.piece.Piece.pop_each.Goals as goal

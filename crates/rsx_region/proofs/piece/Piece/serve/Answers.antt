@@ -1,4 +1,4 @@
-use Rattle.std.proofs.Common.{◌≡◌, ◌+◌, ◌≤◌, refl, sym, ◌∙◌, arith}
+use Rattle.std.proofs.Common.{refl, sym, arith}
 use Rattle.rsx_region.proofs.Runs.{goes_then}
 use Rattle.rsx_region.proofs.Seen.{rested, seen_after}
 use Rattle.rsx_region.proofs.piece.Piece.serve.Goals as goal

@@ -1,4 +1,4 @@
-use Rattle.std.proofs.Common.{◌≡◌, ◌+◌, ◌-◌, ◌≤◌, ℕ}
+use Rattle.std.proofs.Common.{◌+◌, ◌-◌, ◌≤◌, ℕ}
 use Rattle.rsx_region.specs.Pieces.{IsPieceOf, StandsSince}
 use Rattle.rsx_region.specs.Steps.{Goes}
 use Rattle.rsx_region.specs.declared.piece.Piece.{Piece}

@@ -1,4 +1,4 @@
-use Rattle.std.proofs.Common.{◌≡◌, ◌+◌, refl, sym, ◌∙◌, arith}
+use Rattle.std.proofs.Common.{◌≡◌, refl, sym, ◌∙◌, arith}
 use Rattle.rsx_region.proofs.Rests.{rests}
 use Rattle.rsx_region.proofs.Runs.{goes_as, goes_then, goes_three, none_plus, plus_none}
 use Rattle.rsx_region.proofs.Seen.{turn_seen}

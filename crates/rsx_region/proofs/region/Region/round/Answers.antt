@@ -1,4 +1,4 @@
-use Rattle.std.proofs.Common.{◌≡◌, ◌+◌, ◌≤◌, length, refl, sym, ◌∙◌, arith}
+use Rattle.std.proofs.Common.{◌≤◌, length, refl, sym, ◌∙◌, arith}
 use Rattle.rsx_region.specs.Serving.{IsAtRest}
 use Rattle.rsx_region.proofs.Regions.{region_goes_then, rests_more}
 use Rattle.rsx_region.proofs.Rests.{before_all}

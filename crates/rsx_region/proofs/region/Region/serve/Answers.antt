@@ -1,4 +1,4 @@
-use Rattle.std.proofs.Common.{◌≡◌, ◌+◌, ◌≤◌, refl, sym, ◌∙◌, arith}
+use Rattle.std.proofs.Common.{refl, sym, ◌∙◌, arith}
 use Rattle.rsx_region.proofs.Regions.{region_goes_then}
 use Rattle.rsx_region.proofs.region.Region.serve.Goals as goal
 

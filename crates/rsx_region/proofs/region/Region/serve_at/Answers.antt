@@ -1,5 +1,4 @@
-use Rattle.std.proofs.Common.{◌≡◌, ◌<◌, refl, length}
-use Rattle.std.proofs.lemmas.List.{length-set}
+use Rattle.std.proofs.Common.{refl, length}
 use Rattle.std.proofs.lemmas.Option.{slice_get_read}
 use Rattle.rsx_region.proofs.Regions.{pieces_one, region_goes_one, region_stands_one}
 use Rattle.rsx_region.proofs.region.Region.serve_at.Goals as goal
