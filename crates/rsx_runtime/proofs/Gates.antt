@@ -1,5 +1,5 @@
 -- The gates of a live graph, by their places.
-use Rattle.std.proofs.Common.{◌≡◌, ℕ, zero, suc, ◌+◌, ◌<◌, ◌≤◌, false, List, [], ◌∷◌, ◌++◌, length, Some, slice_get, refl, subst, sym, ap, ◌∙◌, arith}
+use Rattle.std.proofs.Common.{◌≡◌, ℕ, zero, suc, ◌+◌, ◌<◌, ◌≤◌, false, List, [], ◌∷◌, ◌++◌, Some, slice_get, subst, sym, ap, ◌∙◌, arith}
 use Rattle.std.specs.Prelude.{Err, Ok, OnOk, Result, is_err}
 use Rattle.rsx_link.specs.declared.link.Link.{Link}
 use Rattle.rsx_gate.specs.declared.gate.Gate.{Gate}
@@ -16,16 +16,8 @@ each_pushed P [] x all h (suc k) y at = cc
 each_pushed P (w ∷ xs) x all h zero y at = all 0 y at
 each_pushed P (w ∷ xs) x all h (suc k) y at = each_pushed P xs x (λ j z e. all (suc j) z e) h k y at
 
--- that one stands at its end
-pub pushed_there : {X : Type 0} (xs : List X) (x : X) → slice_get (xs ++ x ∷ []) (length xs) ≡ Some x
-pushed_there [] x = refl
-pushed_there (w ∷ xs) x = pushed_there xs x
-
 pub each_same : {X : Type 0} (P : X → Type 0) (xs ys : List X) → ys ≡ xs → Each P xs → Each P ys
 each_same {X} P xs ys e all = let E : List X → Type 0 = λ l. Each P l in subst E (sym e) all
-
-pub there_same : {X : Type 0} (xs ys : List X) (x : X) → ys ≡ xs ++ x ∷ [] → slice_get ys (length xs) ≡ Some x
-there_same {X} xs ys x e = let E : List X → Type 0 = λ l. slice_get l (length xs) ≡ Some x in subst E (sym e) (pushed_there xs x)
 
 pub pushed_onto : {X : Type 0} (old room new : List X) (x : X) → new ≡ room ++ x ∷ [] → room ≡ old → new ≡ old ++ x ∷ []
 pushed_onto {X} old room new x e same = e ∙ ap (λ (l : List X). l ++ x ∷ []) same

@@ -1,5 +1,5 @@
 -- The regions of a live graph, and what a poke adds to its seat's steps, the newest of which stands first.
-use Rattle.std.specs.Prelude.{◌≡◌, ◌<◌, ℕ, zero, suc, List, ◌∷◌, Some, slice_get}
+use Rattle.std.specs.Prelude.{◌≡◌, ◌<◌, ℕ, zero, suc, List, [], ◌∷◌, ◌++◌, Some, slice_get}
 use Rattle.rsx_link.specs.declared.link.Link.{Link}
 use Rattle.rsx_gate.specs.declared.gate.Gate.{Gate}
 use Rattle.rsx_gate.specs.declared.view.Step.{Step}
@@ -43,6 +43,10 @@ Fits b meaning key r = RegionFits b (meaning key.ops.value) key.number key.value
 -- so much holds of some region, and that fits the gate's key
 abbrev pub HasFitting : {M T O : Type 0} → Machine M T → (O → Meaning T) → Gate (Region M T) (Opening M T O) → (Region M T → Type 0) → Type 0
 HasFitting {M} {T} b meaning g P = (r : Region M T) × P r × Fits b meaning (key_of g) r
+
+-- one more stands behind the others, and this holds of it
+abbrev pub IsAdded : {X : Type 0} → List X → List X → (X → Type 0) → Type 0
+IsAdded {X} old new P = (x : X) × (new ≡ old ++ x ∷ []) × P x
 
 -- there is one with this number, and this holds of it
 abbrev pub IsAmong : {X : Type 0} → List X → ℕ → (X → Type 0) → Type 0

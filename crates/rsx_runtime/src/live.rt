@@ -6,7 +6,7 @@ ghost use Rattle.rsx_gate.specs.Seats.{Holds, IsGone, IsMissed, IsSeatOf, Marked
 ghost use Rattle.rsx_region.specs.Pieces.{Each, IsAt};
 ghost use Rattle.rsx_region.specs.Regions.{ArePiecesOf, RegionStands};
 ghost use Rattle.rsx_runtime.specs.Passing.{HasServed};
-ghost use Rattle.rsx_runtime.specs.Poking.{HasFitting, IsAmong, IsGateOf, Went};
+ghost use Rattle.rsx_runtime.specs.Poking.{HasFitting, IsAdded, IsAmong, IsGateOf, Went};
 
 use crate::ROUNDS;
 use rsx_gate::{Gate, Seat};
@@ -68,8 +68,8 @@ impl<N: Nodes<Item = T>, T: Drop, O: Ops<Item = T>> Live<N, T, O> {
         }
     }
 
-    /// Adds a region, and answers the first seat of its gate. Its pieces are between the links of the graph, and `values` is how many
-    /// hubs and links there are, in all regions.
+    /// Adds a region behind the others, and answers the first seat of its gate. Its pieces are between the links of the graph, and
+    /// `values` is how many hubs and links there are, in all regions.
     ///
     /// # Errors
     /// The region comes back as it was where there was no memory for its gate.
@@ -81,7 +81,7 @@ impl<N: Nodes<Item = T>, T: Drop, O: Ops<Item = T>> Live<N, T, O> {
     ) -> Result<RegionSeat<N, T, O>, Region<N, T>>
         requires ends { ArePiecesOf self.old.links.items region.pieces.items }
         requires stands { RegionStands N.Machine (O.meaning self.old.ops) values region.pieces.items region.pieces.items }
-        ensures ok { IfOk result (λ s. IsAmong self.new.gates.items (length self.old.gates.items) (λ g. IsSeatOf g s × (s.me.0 ≡ founder (key_of g)) × (key_of g).number ≡ region.number)) }
+        ensures ok { IfOk result (λ s. IsAdded self.old.gates.items self.new.gates.items (λ g. IsSeatOf g s × (s.me.0 ≡ founder (key_of g)) × (key_of g).number ≡ region.number)) }
         ensures err { IfErr result (λ r. (r ≡ region) × (self.new.gates.items ≡ self.old.gates.items)) }
         ensures same { (self.new.links ≡ self.old.links) × (self.new.ops ≡ self.old.ops) }
     {

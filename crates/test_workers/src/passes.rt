@@ -1,6 +1,7 @@
 //! The pass of a region on one thread, and of two seats.
 
-ghost use Rattle.std.specs.Prelude.{◌≡◌, IfSome};
+ghost use Rattle.std.specs.Prelude.{◌≡◌, ◌≤◌, [], ◌∷◌, IfSome};
+ghost use Rattle.std.specs.List.{AllZip};
 ghost use Rattle.rsx_gate.specs.Machine.{all_parts};
 ghost use Rattle.rsx_gate.specs.Seats.{IsSeatOf};
 ghost use Rattle.rsx_runtime.specs.Poking.{IsAmong};
@@ -23,7 +24,8 @@ pub(crate) type DemoSeat = RegionSeat<DemoNode, Val, Demo>;
 
 // A graph of one region, which has no pieces. At `None` there was no memory.
 pub(crate) fn one_region(alloc: Global) -> Option<(DemoLive, DemoSeat)>
-    ensures { IfSome result (λ r. IsAmong r.0.gates.items 0 (λ g. IsSeatOf g r.1) × (r.1.me.0.parts ≡ all_parts)) }
+    ensures first { IfSome result (λ r. IsAmong r.0.gates.items 0 (λ g. IsSeatOf g r.1) × (r.1.me.0.parts ≡ all_parts)) }
+    ensures only { IfSome result (λ r. AllZip (λ g s. IsSeatOf g s × (all_parts ≤ s.me.0.parts)) r.0.gates.items (r.1 ∷ [])) }
 {
     let mut live = Live::new(alloc, Demo, Vec::new(alloc));
     let region = Region {
@@ -123,6 +125,19 @@ fn pokes(alloc: Global, budget: u32) -> Option<Poked> {
     Some(live.poke(alloc, 0, &mut seat, budget))
 }
 
+// How many regions come back where the only seat ends the gate.
+fn stops(alloc: Global) -> Option<usize> {
+    let (live, seat) = one_region(alloc)?;
+    let Ok(mut seats) = Vec::with_capacity(alloc, 1) else {
+        return None;
+    };
+    seats.push_reserved(seat);
+    match live.stop(alloc, seats) {
+        Ok(stopped) => Some(stopped.regions.len()),
+        Err(_) => None,
+    }
+}
+
 #[test]
 fn an_enter_is_noted_while_another_seat_has_the_pass(rt: HostRuntime) -> Result<(), Fail> {
     assert_eq!(rt;
@@ -139,5 +154,11 @@ fn a_serve_uses_its_budget_up_or_answers_idle(rt: HostRuntime) -> Result<(), Fai
     assert_eq!(rt; serves(rt.alloc(), 10), Some(Answer::Idle));
     assert_eq!(rt; pokes(rt.alloc(), 0), Some(Poked::Budget));
     assert_eq!(rt; pokes(rt.alloc(), 10), Some(Poked::Idle));
+    Ok(())
+}
+
+#[test]
+fn the_regions_come_back_where_their_gates_end(rt: HostRuntime) -> Result<(), Fail> {
+    assert_eq!(rt; stops(rt.alloc()), Some(1));
     Ok(())
 }

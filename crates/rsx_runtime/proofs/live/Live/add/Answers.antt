@@ -4,7 +4,7 @@ use Rattle.rsx_gate.specs.Machine.{founder}
 use Rattle.rsx_region.specs.declared.opening.Opening.{Opening}
 use Rattle.rsx_runtime.specs.Poking.{IsGateOf}
 use Rattle.rsx_runtime.proofs.Fits.{first_fits}
-use Rattle.rsx_runtime.proofs.Gates.{each_pushed, each_same, opened_by, pushed_onto, room_for, there_same}
+use Rattle.rsx_runtime.proofs.Gates.{each_pushed, each_same, opened_by, pushed_onto, room_for}
 use Rattle.rsx_runtime.proofs.live.Live.add.Goals as goal
 
 pub invariant_of-self : goal.invariant_of-self
@@ -40,5 +40,5 @@ pub returns-clause-ok : goal.returns-clause-ok
 returns-clause-ok g c =
     let gate = c.in_ok-gate.gate in
     let h = c.in_ok-gate.ensures.ok in
-    let there = there_same c.args.self.now.gates.items c.push_reserved.new.self.items gate (pushed_onto c.args.self.now.gates.items c.reserve.new.self.items c.push_reserved.new.self.items gate c.push_reserved.ensures.items c.reserve.ensures.items) in
-    (gate, there, (h.1, h.2 ∙ ap founder (sym h.0), ap (λ (k : Opening _ _ _). k.number) h.0))
+    let added = pushed_onto c.args.self.now.gates.items c.reserve.new.self.items c.push_reserved.new.self.items gate c.push_reserved.ensures.items c.reserve.ensures.items in
+    (gate, added, (h.1, h.2 ∙ ap founder (sym h.0), ap (λ (k : Opening _ _ _). k.number) h.0))
