@@ -1,5 +1,5 @@
 -- The ends of the halves of a piece as it was cut.
-use Rattle.std.proofs.Common.{◌≡◌, ◌⊎◌, inl, inr, ℕ, zero, suc, ◌+◌, min, List, [], ◌∷◌, ◌++◌, length, map, refl, ap, sym, ◌∙◌, subst, Some, slice_get}
+use Rattle.std.proofs.Common.{◌≡◌, ◌⊎◌, inl, inr, ℕ, zero, suc, ◌+◌, ◌<◌, min, arith, List, [], ◌∷◌, ◌++◌, length, map, refl, ap, sym, ◌∙◌, subst, Some, slice_get}
 use Rattle.rsx_demand.specs.declared.TheConstants.{UNBOUNDED}
 use Rattle.rsx_tree.specs.declared.edge.Edge.{Edge}
 use Rattle.rsx_sources.specs.declared.machine.Machine.{Ghosts as Machine}
@@ -11,7 +11,7 @@ use Rattle.rsx_link.specs.declared.up.Up.{Up}
 use Rattle.rsx_piece.specs.Inlet.{IsInletOf}
 use Rattle.rsx_piece.proofs.Joinings.{items_next}
 use Rattle.rsx_piece.proofs.Places.{same_some}
-use Rattle.rsx_region.specs.Joins.{IsCutFrom}
+use Rattle.rsx_region.specs.Joins.{HasNoOther, IsCutFrom, IsJoinedBy}
 use Rattle.rsx_region.specs.Pieces.{AreApart, Each, IsAt, IsPieceOf, hub_of, hubs_of}
 use Rattle.rsx_region.specs.Halves.{Halves}
 use Rattle.rsx_region.specs.declared.piece.Incoming.{Incoming}
@@ -86,3 +86,30 @@ between {M} {T} b crossing was h edge number link links cut begun ends comes sen
         };
       },
     )
+
+-- what is behind a smaller number is there without the last
+still_there : {A : Type 0} (xs : List A) (y : A) (k : ℕ) → k < length xs → slice_get (xs ++ y ∷ []) k ≡ slice_get xs k
+still_there [] y k less = absurd (let l = less in omega (arith, l))
+still_there (w ∷ xs) y zero less = refl
+still_there (w ∷ xs) y (suc k) less = still_there xs y k (let l = less in omega (arith, l))
+
+back_at : {T : Type 0} (links : List (Link T)) (l : Link T) (k : ℕ) (P : Link T → Type 0) → k < length links → IsAt (links ++ l ∷ []) k P → IsAt links k P
+back_at links l k P less h = (h.0, sym (still_there links l k less) ∙ h.1, h.2)
+
+-- the ends of the joined piece are those of the other links
+pub ends_back : {M T : Type 0} (upper p : Piece M T) (link : Link T) (links : List (Link T)) → IsJoinedBy upper p → IsPieceOf (links ++ link ∷ []) upper → HasNoOther (length links) p → IsPieceOf links p
+ends_back {M} {T} upper p link links j w none =
+    let more = links ++ link ∷ [] in
+    let U : Up T → Type 0 = λ u. IsAt more upper.link (λ l. IsUpOf l u) in
+    let N : ℕ → Type 0 = λ k. IsAt more k (λ l. IsUpOf l p.up) in
+    let hubs : hubs_of upper ≡ hubs_of p ++ hub_of j.last ∷ [] = ap (map hub_of) j.ins ∙ map_append hub_of p.inlets.items (j.last ∷ []) in
+    let here : (k h : ℕ) → slice_get (hubs_of p) k ≡ Some h → slice_get (hubs_of upper) k ≡ Some h = λ k h at. ap (λ l. slice_get l k) hubs ∙ front_there (hubs_of p) (hub_of j.last) k h at in
+    record {
+      sends = back_at links link p.link (λ l. IsUpOf l p.up) none.sends (subst N (sym j.link) (subst U (sym j.up) w.sends));
+      takes = λ k i at. back_at links link i.link (λ l. IsInletOf l i.inlet) (none.comes k i at) (w.takes k i (ap (λ l. slice_get l k) j.ins ∙ front_there p.inlets.items j.last k i at));
+      apart = λ k n h at_k at_n. w.apart k n h (here k h at_k) (here n h at_n);
+      step = record {
+        asked = ap (λ (e : Edge). e.demand.asked) j.root ∙ (w.step.asked ∙ ap (λ u. min UNBOUNDED (seen_total u)) (sym j.up));
+        sent = ap (λ (e : Edge). e.demand.sent) j.root ∙ (w.step.sent ∙ ap items_sent (sym j.up));
+      };
+    }

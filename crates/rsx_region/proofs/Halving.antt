@@ -129,6 +129,15 @@ put_ended b crossing part new below at queue r none takes ok bad straight =
     let can_queue = ap (can_rejoin_ended b crossing part at below.tree.machine) none ∙ can in
     (can, on_ok r (can_rejoin_ended b crossing part at below.tree.machine queue) (new ≡ joined_ended crossing part at below queue) ok bad can_queue ∙ ap (joined_ended crossing part at below) none)
 
+-- a join keeps the root edge, whether it is refused or not
+pub same_root : {M T E : Type 0} (crossing : CrossingNodes M T) (part new below : Part M) (at : ℕ) (queue : List T) (r : Result Unit E) → OnOk r (new ≡ joined crossing part at below queue) → OnErr r (new ≡ part) → new.root ≡ part.root
+same_root crossing part new below at queue (Ok x) ok bad = ap (λ (p : Part _). p.root) ok
+same_root crossing part new below at queue (Err x) ok bad = ap (λ (p : Part _). p.root) bad
+
+pub same_root_ended : {M T E : Type 0} (crossing : CrossingNodes M T) (part new below : Part M) (at : ℕ) (queue : List T) (r : Result Unit E) → OnOk r (new ≡ joined_ended crossing part at below queue) → OnErr r (new ≡ part) → new.root ≡ part.root
+same_root_ended crossing part new below at queue (Ok x) ok bad = ap (λ (p : Part _). p.root) ok
+same_root_ended crossing part new below at queue (Err x) ok bad = ap (λ (p : Part _). p.root) bad
+
 -- ---- the last link that comes in
 
 get_last : {A : Type 0} (xs : List A) (x : A) → slice_get (xs ++ x ∷ []) (length xs) ≡ Some x

@@ -74,6 +74,11 @@ module _ {M T : Type 0} where
     pub over : lower.root.state ≡ Ended
     pub takes : can_put_in b crossing None 0 (place_at at part.tree) ≡ true
 
+  -- all its links have smaller numbers than this
+  pub record HasNoOther (count : ℕ) (p : Piece M T) : Type 0 where
+    pub sends : p.link < count
+    pub comes : Each (λ (i : Incoming T). i.link < count) p.inlets.items
+
   -- ---- what it is joined to
 
   -- all edges of the part were closed, and nothing else changed
@@ -122,9 +127,10 @@ module _ {M T : Type 0} where
     pub all : received_signals last.inlet.down ++ remaining ≡ sent_signals lower.up
     pub put : b.crosses below.tree.machine ≡ false → (can_rejoin_ended b crossing part at below.tree.machine [] ≡ true) × (new ≡ joined_ended crossing part at below [])
 
-  -- the piece sends where the upper half did, and but for the last all links that came into that come into it
+  -- the piece sends where the upper half did, over the same root edge, and but for the last all links that came into that come into it
   pub record IsJoinedBy (upper p : Piece M T) : Type 0 where
     pub last : Incoming T
     pub ins : upper.inlets.items ≡ p.inlets.items ++ last ∷ []
     pub link : p.link ≡ upper.link
     pub up : p.up ≡ upper.up
+    pub root : p.part.root ≡ upper.part.root

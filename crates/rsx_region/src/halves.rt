@@ -1,12 +1,13 @@
 //! What was cut off a piece is joined to it again.
 
 ghost use Rattle.std.specs.Prelude.{◌≡◌, ◌+◌, ◌≤◌, ◌<◌, ◌∷◌, ◌++◌, ℕ, List, [], length, map, true, false, None, Some, IfErr, IfNone, IfOk, IfSome, OnErr, OnOk};
+ghost use Rattle.rsx_link.specs.declared.link.Link.{Link as LinkSpec};
 ghost use Rattle.rsx_link.specs.Ends.{AreEnds, capacity_of};
 ghost use Rattle.rsx_pipe.specs.Cutting.{place_at};
 ghost use Rattle.rsx_pipe.specs.Rejoined.{can_put_in};
 ghost use Rattle.rsx_region.specs.Halves.{AreHalves, Halves, halves_of};
-ghost use Rattle.rsx_region.specs.Joins.{CanEnd, CanGoOn, HaveGone, IsCutFrom, IsJoinedBy, IsJoinedEnded, IsJoinedGoing, IsPutBack, IsShutUnless};
-ghost use Rattle.rsx_region.specs.Pieces.{StandsSince, hub_of};
+ghost use Rattle.rsx_region.specs.Joins.{CanEnd, CanGoOn, HasNoOther, HaveGone, IsCutFrom, IsJoinedBy, IsJoinedEnded, IsJoinedGoing, IsPutBack, IsShutUnless};
+ghost use Rattle.rsx_region.specs.Pieces.{IsPieceOf, StandsSince, hub_of};
 ghost use Rattle.rsx_region.specs.declared.halves.TheConstants.{LINK_PLACES};
 ghost use Rattle.rsx_region.specs.declared.piece.Incoming.{Incoming as IncomingSpec};
 ghost use Rattle.rsx_region.specs.declared.piece.Piece.{Piece as PieceSpec};
@@ -50,6 +51,7 @@ impl<N: CrossingNodes<Item = T> + Drop, T: Drop> Piece<N, T> {
     pub fn join(&mut self, below: Below<N, T>) -> Result<(), Below<N, T>>
         requires { AreHalves self.old below }
         ensures joined { OnOk result (IsJoinedBy self.old self.new) }
+        ensures ends { OnOk result ((links : List (LinkSpec T)) → IsPieceOf (links ++ below.link ∷ []) self.old → HasNoOther (length links) self.new → IsPieceOf links self.new) }
         ensures stands { OnOk result ((m : Meaning T) (n : ℕ) (was : PieceSpec N T) (opening : Halves N T) →
             IsCutFrom N.Machine N.CrossingNodes.own was opening → HaveGone N.Machine m n opening (halves_of self.old below) → StandsSince N.Machine m n was was → StandsSince N.Machine m n was self.new) }
         ensures err { IfErr result (λ b. b ≡ below) }
@@ -184,7 +186,8 @@ fn join_going<N: CrossingNodes<Item = T> + Drop, T: Drop>(
     requires small { capacity_of below.link ≤ LINK_PLACES }
     requires empty { below.queue ≡ [] }
     requires can { CanGoOn N.Machine N.CrossingNodes.own part.old below.at last below.piece.part }
-    ensures { IsJoinedGoing N.Machine N.CrossingNodes.own part.old below.at last below.piece part.new }
+    ensures put { IsJoinedGoing N.Machine N.CrossingNodes.own part.old below.at last below.piece part.new }
+    ensures root { part.new.root ≡ part.old.root }
 {
     let Below {
         piece,
@@ -209,7 +212,8 @@ fn join_ended<N: CrossingNodes<Item = T> + Drop, T: Drop>(
     requires ends { AreEnds below.link below.piece.up last.inlet.down last.inlet.closer }
     requires empty { below.queue ≡ [] }
     requires can { CanEnd N.Machine N.CrossingNodes.own part.old below.at last below.piece.part }
-    ensures { IsJoinedEnded N.Machine N.CrossingNodes.own part.old below.at last below.piece part.new }
+    ensures put { IsJoinedEnded N.Machine N.CrossingNodes.own part.old below.at last below.piece part.new }
+    ensures root { part.new.root ≡ part.old.root }
 {
     let Below {
         piece,
@@ -258,7 +262,8 @@ fn put_back<N: CrossingNodes<Item = T> + Drop, T: Drop>(
     requires few { length remaining ≤ LINK_PLACES }
     requires empty { queue ≡ [] }
     requires takes { can_put_in N.Machine N.CrossingNodes.own (Some hub) LINK_PLACES (place_at at part.old.tree) ≡ true }
-    ensures { IsPutBack N.Machine N.CrossingNodes.own part.old at hub remaining below part.new }
+    ensures put { IsPutBack N.Machine N.CrossingNodes.own part.old at hub remaining below part.new }
+    ensures root { part.new.root ≡ part.old.root }
 {
     let mut remaining = remaining;
     let mut queue = queue;
