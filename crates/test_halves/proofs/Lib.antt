@@ -1,0 +1,2 @@
+-- Lemmas about a piece that is cut and joined.
+pub mod Fitting

@@ -1,0 +1,5 @@
+use Rattle.test_halves.specs.Run.{Fits}
+use Rattle.test_halves.proofs.driven.take_turns.Given as goal
+
+abbrev pub invariant-loop : goal.invariant-loop
+invariant-loop g l = Fits l.run

@@ -1,0 +1,3 @@
+-- Definitions that contracts cite.
+pub mod Last
+pub mod Run
