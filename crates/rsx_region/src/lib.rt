@@ -5,14 +5,17 @@
 //! A [`Piece`] has its part with those ends, so that [`Piece::serve`] can do all that there is to do for it, within a budget: it looks
 //! at the link that goes out, passes requests down the links that come in, takes signals from them, and makes moves.
 //!
-//! - [`cutting`]: a piece is cut in two.
-//! - [`halves`]: [`Below`], what was cut off a piece, and how it is joined to it again.
+//! - [`cutting`]: [`Piece::cut`], by which a piece is cut in two.
+//! - [`halves`]: [`Below`], what was cut off a piece, and [`Piece::join`], by which it is joined to it again.
+//! - [`opening`]: [`Opening`], what a region began with.
 //! - [`piece`]: [`Piece`] and [`Incoming`].
+//! - [`region`]: [`Region`], the pieces of a region.
 //! - [`step`]: [`Step`], by which contracts tell what was done.
 //! - [`serving`]: [`Piece::serve`], with its answer [`Served`].
 //!
-//! The definitions stand in `specs/`: `Pieces` (the ends of a piece, and what it stands for), `Steps` (what each step changes) and
-//! `Serving` (when a piece is at rest).
+//! The definitions stand in `specs/`: `Pieces` (the ends of a piece, and what it stands for), `Steps` (what each step changes),
+//! `Serving` (when a piece is at rest), `Cuts` (how a piece is cut), `Halves` (both halves), `Joins` (when they can be joined,
+//! and to what) and `Regions` (the same of all pieces of a region).
 
 pub mod cutting;
 pub mod halves;
