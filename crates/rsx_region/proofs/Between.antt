@@ -4,6 +4,7 @@ use Rattle.rsx_demand.specs.declared.TheConstants.{UNBOUNDED}
 use Rattle.rsx_tree.specs.declared.edge.Edge.{Edge}
 use Rattle.rsx_sources.specs.declared.machine.Machine.{Ghosts as Machine}
 use Rattle.rsx_rooted.specs.declared.nodes.CrossingNodes.{Ghosts as CrossingNodes}
+use Rattle.rsx_types.proofs.Lists.{slice_get_behind}
 use Rattle.rsx_link.specs.Ends.{AreEnds, IsUpOf, carried_up, items_sent, seen_total}
 use Rattle.rsx_link.specs.Signals.{items_in}
 use Rattle.rsx_link.specs.declared.link.Link.{Link}
@@ -24,16 +25,12 @@ front_there [] y k x e = cc
 front_there (w ∷ xs) y zero x e = e
 front_there (w ∷ xs) y (suc k) x e = front_there xs y k x e
 
-end_there : {A : Type 0} (xs : List A) (y : A) → slice_get (xs ++ y ∷ []) (length xs) ≡ Some y
-end_there [] y = refl
-end_there (w ∷ xs) y = end_there xs y
-
 -- a link that was there is there still
 still_at : {T : Type 0} (links : List (Link T)) (l : Link T) (k : ℕ) (P : Link T → Type 0) → IsAt links k P → IsAt (links ++ l ∷ []) k P
 still_at links l k P h = (h.0, front_there links l k h.0 h.1, h.2)
 
 new_at : {T : Type 0} (links : List (Link T)) (l : Link T) (k : ℕ) (P : Link T → Type 0) → k ≡ length links → P l → IsAt (links ++ l ∷ []) k P
-new_at links l k P is h = (l, ap (slice_get (links ++ l ∷ [])) is ∙ end_there links l, h)
+new_at links l k P is h = (l, ap (slice_get (links ++ l ∷ [])) is ∙ slice_get_behind links l [], h)
 
 -- one number more, which is none of the others
 snoc_cases : (hs : List ℕ) (x j h : ℕ) → slice_get (hs ++ x ∷ []) j ≡ Some h → (slice_get hs j ≡ Some h) ⊎ ((j ≡ length hs) × (h ≡ x))

@@ -3,6 +3,7 @@ use Rattle.std.proofs.Common.{◌≡◌, ℕ, zero, suc, ◌+◌, ◌-◌, ◌<�
 use Rattle.std.proofs.lemmas.Bool.{and_parts}
 use Rattle.std.proofs.lemmas.Bool.Decides.{nat_tests}
 use Rattle.std.specs.Prelude.{not, ◌&&◌, OnErr, OnOk, is_some, option_map}
+use Rattle.rsx_types.proofs.Lists.{slice_get_behind}
 use Rattle.rsx_sources.specs.Prelude.{CAPACITY, Ending, Next, Signal, reads_hub}
 use Rattle.rsx_sources.specs.declared.machine.Machine.{Ghosts as Machine}
 use Rattle.rsx_rooted.specs.declared.nodes.CrossingNodes.{Ghosts as CrossingNodes}
@@ -140,10 +141,6 @@ same_root_ended crossing part new below at queue (Err x) ok bad = ap (λ (p : Pa
 
 -- ---- the last link that comes in
 
-get_last : {A : Type 0} (xs : List A) (x : A) → slice_get (xs ++ x ∷ []) (length xs) ≡ Some x
-get_last [] x = refl
-get_last (y ∷ xs) x = get_last xs x
-
 one_longer : {A : Type 0} (xs : List A) (x : A) → length (xs ++ x ∷ []) ≡ length xs + 1
 one_longer [] x = refl
 one_longer (y ∷ xs) x = let k = one_longer xs x in omega (arith, k)
@@ -152,5 +149,5 @@ one_longer (y ∷ xs) x = let k = one_longer xs x in omega (arith, k)
 pub last_is : {A : Type 0} (all rest : List A) (x y : A) (o : Option A) → all ≡ rest ++ x ∷ [] → o ≡ slice_get all (length all - 1) → o ≡ Some y → y ≡ x
 last_is all rest x y o is found here =
     let size : length all - 1 ≡ length rest = let l = ap length is in let k = one_longer rest x in omega (arith, l, k) in
-    let there : slice_get all (length all - 1) ≡ Some x = ap (slice_get all) size ∙ (ap (λ l. slice_get l (length rest)) is ∙ get_last rest x) in
+    let there : slice_get all (length all - 1) ≡ Some x = ap (slice_get all) size ∙ (ap (λ l. slice_get l (length rest)) is ∙ slice_get_behind rest x []) in
     let both : Some y ≡ Some x = sym here ∙ (found ∙ there) in cc
