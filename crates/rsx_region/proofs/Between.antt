@@ -20,7 +20,8 @@ use Rattle.rsx_region.specs.declared.piece.Piece.{Piece}
 use Rattle.rsx_region.proofs.Opened.{IsBegun, capped, each_more}
 use Rattle.rsx_region.proofs.Shares.{map_append}
 
-front_there : {A : Type 0} (xs : List A) (y : A) (k : ℕ) (x : A) → slice_get xs k ≡ Some x → slice_get (xs ++ y ∷ []) k ≡ Some x
+-- what was there is there still
+pub front_there : {A : Type 0} (xs : List A) (y : A) (k : ℕ) (x : A) → slice_get xs k ≡ Some x → slice_get (xs ++ y ∷ []) k ≡ Some x
 front_there [] y k x e = cc
 front_there (w ∷ xs) y zero x e = e
 front_there (w ∷ xs) y (suc k) x e = front_there xs y k x e

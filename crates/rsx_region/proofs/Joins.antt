@@ -53,7 +53,7 @@ no_end : {A B : Type 0} (f : A → B) (ys : List A) (y : A) → [] ≡ map f (ys
 no_end f [] y e = cc
 no_end f (z ∷ ys) y e = cc
 
-snoc_parts : {A B : Type 0} (f : A → B) (xs ys : List A) (x y : A) → map f (xs ++ x ∷ []) ≡ map f (ys ++ y ∷ []) → (map f xs ≡ map f ys) × (f x ≡ f y)
+pub snoc_parts : {A B : Type 0} (f : A → B) (xs ys : List A) (x y : A) → map f (xs ++ x ∷ []) ≡ map f (ys ++ y ∷ []) → (map f xs ≡ map f ys) × (f x ≡ f y)
 snoc_parts f [] [] x y e = let first : f x ≡ f y = cc in (refl, first)
 snoc_parts f [] (w ∷ ys) x y e = let rest : [] ≡ map f (ys ++ y ∷ []) = cc in absurd (no_end f ys y rest)
 snoc_parts f (w ∷ xs) [] x y e = let rest : map f (xs ++ x ∷ []) ≡ [] = cc in absurd (no_end f xs x (sym rest))

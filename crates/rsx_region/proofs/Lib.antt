@@ -7,6 +7,7 @@ pub mod Joins
 pub mod Lists
 pub mod Opened
 pub mod Places
+pub mod Refusals
 pub mod Regions
 pub mod Rests
 pub mod Runs

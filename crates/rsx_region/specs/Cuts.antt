@@ -1,10 +1,13 @@
 -- How a piece is cut.
-use Rattle.std.specs.Prelude.{◌≡◌, ◌+◌, ◌≤◌, ℕ, List, [], ◌∷◌, ◌++◌, length, Some}
+use Rattle.std.specs.Prelude.{◌≡◌, ◌⊎◌, ◌+◌, ◌≤◌, ℕ, List, [], ◌∷◌, ◌++◌, length, Some, None, option_map}
 use Rattle.rsx_sources.specs.declared.machine.Machine.{Ghosts as Machine}
 use Rattle.rsx_rooted.specs.declared.nodes.CrossingNodes.{Ghosts as CrossingNodes}
 use Rattle.rsx_tree.specs.declared.edge.Edge.{Edge}
 use Rattle.rsx_tree.specs.declared.edge.EdgeState.TheVariants.{Live}
-use Rattle.rsx_pipe.specs.Cutting.{IsCut}
+use Rattle.rsx_tree.specs.Edges.{edge_view}
+use Rattle.rsx_tree.specs.Stepped.{station_of}
+use Rattle.rsx_pipe.specs.Crossing.{edge_over}
+use Rattle.rsx_pipe.specs.Cutting.{IsCut, new_root}
 use Rattle.rsx_pipe.specs.Part.{Part}
 use Rattle.rsx_pipe.specs.Published.{reader_edge}
 use Rattle.rsx_link.specs.Ends.{AreOpened, received_signals}
@@ -56,6 +59,14 @@ module _ {M T : Type 0} where
     pub opened : AreOpened LINK_PLACES edge.demand.asked edge.demand.sent link up inlet.down inlet.closer
     pub hub : inlet.hub ≡ read
 
+  -- no link comes into the piece, and the edge of its root is live
+  pub record IsWhole (p : Piece M T) : Type 0 where
+    pub none : p.inlets.items ≡ []
+    pub live : p.part.root.state ≡ Live
+
+  abbrev pub AreWhole : List (Piece M T) → Type 0
+  AreWhole ps = Each IsWhole ps
+
   -- nothing came over a link that comes into it
   abbrev pub HasTakenNothing : Piece M T → Type 0
   HasTakenNothing p = Each (λ (i : Incoming T). received_signals i.inlet.down ≡ []) p.inlets.items
@@ -77,3 +88,23 @@ module _ {M T : Type 0} where
     pub cut : IsCut b crossing old at reader part queue new
     pub asks : AsksAsMuch b hub edge new
     pub fits : FitsBelow b edge inlets part (length queue)
+
+  -- The part isn't one that is cut at this edge, or what would be cut off doesn't fit.
+  abbrev pub CannotFit : Machine M T → CrossingNodes M T → Part M → ℕ → ℕ → M → Edge → List (Incoming T) → Type 0
+  CannotFit b crossing old at hub reader edge inlets =
+      (new_root crossing.edge_queue old at ≡ None)
+      ⊎ ((part : Part M) × (queue : List T) × (new : Part M) × IsCut b crossing old at reader part queue new × (AsksAsMuch b hub edge new → FitsBelow b edge inlets part (length queue) → ⊥))
+
+  -- so it is with a reader of this link, which counts on from what went over that edge
+  pub record DoesNotFit (b : Machine M T) (crossing : CrossingNodes M T) (p : Piece M T) (at hub : ℕ) : Type 0 where
+    pub edge : Edge
+    pub is : option_map edge_over (station_of p.part.tree (edge_view p.part.root) at) ≡ Some (edge_view edge)
+    pub reader : M
+    pub reads : IsReader b crossing hub edge.demand.sent reader
+    pub cannot : CannotFit b crossing p.part at hub reader edge p.inlets.items
+
+  -- Why a piece isn't cut there: there is no such edge; it is the edge of the root; the number is in use; or it doesn't fit.
+  abbrev pub StaysWhole : Machine M T → CrossingNodes M T → Piece M T → ℕ → ℕ → Type 0
+  StaysWhole b crossing p at hub =
+      (station_of p.part.tree (edge_view p.part.root) at ≡ None) ⊎ ((at ≡ 0)
+      ⊎ ((NoneReadsIn b hub p.part → NoneHasNumber hub p.inlets.items → ⊥) ⊎ DoesNotFit b crossing p at hub))

@@ -74,6 +74,11 @@ module _ {M T : Type 0} where
     pub over : lower.root.state ≡ Ended
     pub takes : can_put_in b crossing None 0 (place_at at part.tree) ≡ true
 
+  -- neither is so of the last link
+  abbrev pub CannotJoin : Machine M T → CrossingNodes M T → Part M → ℕ → List (Incoming T) → Part M → Type 0
+  CannotJoin b crossing part at inlets lower =
+      (others : List (Incoming T)) (last : Incoming T) → inlets ≡ others ++ last ∷ [] → (CanGoOn b crossing part at last lower → ⊥) × (CanEnd b crossing part at last lower → ⊥)
+
   -- all its links have smaller numbers than this
   pub record HasNoOther (count : ℕ) (p : Piece M T) : Type 0 where
     pub sends : p.link < count

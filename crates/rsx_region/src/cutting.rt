@@ -4,7 +4,7 @@ ghost use Rattle.std.specs.Prelude.{◌≡◌, ◌+◌, ◌<◌, ◌≤◌, ◌�
 ghost use Rattle.rsx_link.specs.declared.link.Link.{Link as LinkSpec};
 ghost use Rattle.rsx_link.specs.Ends.{IsUpOf, SameUp, free_slots, items_sent, seen_total, sent_signals};
 ghost use Rattle.rsx_piece.specs.Joined.{IsReader};
-ghost use Rattle.rsx_region.specs.Cuts.{AsksAsMuch, FitsBelow, HasNumbers, HasTakenNothing, IsCutOff, IsMadeFor, NoneReadsIn, NoneHasNumber, ReadsNone, SamePiece};
+ghost use Rattle.rsx_region.specs.Cuts.{AsksAsMuch, CannotFit, FitsBelow, HasNumbers, HasTakenNothing, IsCutOff, IsMadeFor, NoneReadsIn, NoneHasNumber, ReadsNone, SamePiece, StaysWhole};
 ghost use Rattle.rsx_region.specs.Halves.{AreHalves, halves_of};
 ghost use Rattle.rsx_region.specs.Joins.{IsCutFrom};
 ghost use Rattle.rsx_region.specs.Pieces.{IsPieceOf, StandsSince};
@@ -69,6 +69,8 @@ impl<N: CrossingNodes<Item = T> + Drop, T: Drop> Piece<N, T> {
             IsPieceOf (links ++ b.link ∷ []) self.new × IsPieceOf (links ++ b.link ∷ []) b.piece) }
         ensures stands { IfOk result (λ b. (m : Meaning T) (n : ℕ) → hub < n → HasTakenNothing self.old → StandsSince N.Machine m n self.old self.old →
             StandsSince N.Machine m n self.new self.new × StandsSince N.Machine m n b.piece b.piece) }
+        ensures fresh { IfOk result (λ b. HasTakenNothing self.old → HasTakenNothing self.new × HasTakenNothing b.piece) }
+        ensures whole { IfErr result (λ e. e ≡ NotCut.Whole → StaysWhole N.Machine N.CrossingNodes.own self.old at hub) }
         ensures same { OnErr result (SamePiece self.old self.new) }
     {
         let Some(edge) = self.part.edge(at) else {
@@ -112,7 +114,8 @@ impl<N: CrossingNodes<Item = T> + Drop, T: Drop> Piece<N, T> {
 
     /// Whether no node of the piece reads a hub or a link with this number, and none that comes in has it.
     fn is_unread(&self, hub: u32) -> bool
-        ensures { result ≡ true → NoneReadsIn N.Machine hub self.now.part × NoneHasNumber hub self.now.inlets.items }
+        ensures free { result ≡ true → NoneReadsIn N.Machine hub self.now.part × NoneHasNumber hub self.now.inlets.items }
+        ensures used { result ≡ false → NoneReadsIn N.Machine hub self.now.part → NoneHasNumber hub self.now.inlets.items → ⊥ }
     {
         is_read_by_none(hub, &self.part) && has_no_number(hub, &self.inlets)
     }
@@ -120,7 +123,8 @@ impl<N: CrossingNodes<Item = T> + Drop, T: Drop> Piece<N, T> {
 
 /// Whether no link that comes in is read under this number.
 fn has_no_number<T>(hub: u32, inlets: &[Incoming<T>]) -> bool
-    ensures { result ≡ true → NoneHasNumber hub inlets.now }
+    ensures free { result ≡ true → NoneHasNumber hub inlets.now }
+    ensures used { result ≡ false → NoneHasNumber hub inlets.now → ⊥ }
 {
     let Some((first, others)) = inlets.split_first() else {
         return true;
@@ -130,7 +134,8 @@ fn has_no_number<T>(hub: u32, inlets: &[Incoming<T>]) -> bool
 
 /// Whether no node of the part reads one of these links.
 fn reads_none<N: CrossingNodes<Item = T>, T: Drop>(part: &Part<N>, inlets: &[Incoming<T>]) -> bool
-    ensures { result ≡ true → ReadsNone N.Machine inlets.now part.now }
+    ensures free { result ≡ true → ReadsNone N.Machine inlets.now part.now }
+    ensures used { result ≡ false → ReadsNone N.Machine inlets.now part.now → ⊥ }
 {
     let Some((first, others)) = inlets.split_first() else {
         return true;
@@ -140,7 +145,8 @@ fn reads_none<N: CrossingNodes<Item = T>, T: Drop>(part: &Part<N>, inlets: &[Inc
 
 /// Whether no node of the part reads the hub or the link with this number.
 fn is_read_by_none<N: CrossingNodes>(hub: u32, part: &Part<N>) -> bool
-    ensures { result ≡ true → NoneReadsIn N.Machine hub part.now }
+    ensures free { result ≡ true → NoneReadsIn N.Machine hub part.now }
+    ensures used { result ≡ false → NoneReadsIn N.Machine hub part.now → ⊥ }
 {
     match part.reader_edge(u64::from(hub)) {
         Some(_) => false,
@@ -180,6 +186,7 @@ fn cut_part<N: CrossingNodes<Item = T> + Drop, T: Drop>(
     requires { IsReader N.Machine N.CrossingNodes.own hub edge.demand.sent reader }
     ensures some { IfSome result (λ c. IsCutOff N.Machine N.CrossingNodes.own part.old at hub reader edge inlets.now c.part c.queue part.new) }
     ensures none { IfNone result (part.new ≡ part.old) }
+    ensures whole { IfNone result (CannotFit N.Machine N.CrossingNodes.own part.old at hub reader edge inlets.now) }
 {
     let Ok(below) = part.cut(at, reader) else {
         return None;
@@ -201,7 +208,8 @@ fn fits_below<N: CrossingNodes<Item = T> + Drop, T: Drop>(
     edge: Edge,
     inlets: &[Incoming<T>],
 ) -> bool
-    ensures { result ≡ true → FitsBelow N.Machine edge inlets.now part.now count }
+    ensures fits { result ≡ true → FitsBelow N.Machine edge inlets.now part.now count }
+    ensures other { result ≡ false → FitsBelow N.Machine edge inlets.now part.now count → ⊥ }
 {
     let root = part.root_edge();
     if !root.is_live() || count > LINK_PLACES || root.demand.asked != edge.demand.asked {
@@ -212,7 +220,8 @@ fn fits_below<N: CrossingNodes<Item = T> + Drop, T: Drop>(
 
 /// Whether as much is asked over the edge of the node that reads the hub or the link with this number as over that edge.
 fn asks_as_much<N: CrossingNodes>(part: &Part<N>, hub: u64, edge: Edge) -> bool
-    ensures { result ≡ true → AsksAsMuch N.Machine hub edge part.now }
+    ensures asks { result ≡ true → AsksAsMuch N.Machine hub edge part.now }
+    ensures less { result ≡ false → AsksAsMuch N.Machine hub edge part.now → ⊥ }
 {
     match part.reader_edge(hub) {
         Some(reader) => edge.demand.asked <= reader.demand.asked,

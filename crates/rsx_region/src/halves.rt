@@ -6,7 +6,7 @@ ghost use Rattle.rsx_link.specs.Ends.{AreEnds, capacity_of};
 ghost use Rattle.rsx_pipe.specs.Cutting.{place_at};
 ghost use Rattle.rsx_pipe.specs.Rejoined.{can_put_in};
 ghost use Rattle.rsx_region.specs.Halves.{AreHalves, Halves, halves_of};
-ghost use Rattle.rsx_region.specs.Joins.{CanEnd, CanGoOn, HasNoOther, HaveGone, IsCutFrom, IsJoinedBy, IsJoinedEnded, IsJoinedGoing, IsPutBack, IsShutUnless};
+ghost use Rattle.rsx_region.specs.Joins.{CanEnd, CanGoOn, CannotJoin, HasNoOther, HaveGone, IsCutFrom, IsJoinedBy, IsJoinedEnded, IsJoinedGoing, IsPutBack, IsShutUnless};
 ghost use Rattle.rsx_region.specs.Pieces.{IsPieceOf, StandsSince, hub_of};
 ghost use Rattle.rsx_region.specs.declared.halves.TheConstants.{LINK_PLACES};
 ghost use Rattle.rsx_region.specs.declared.piece.Incoming.{Incoming as IncomingSpec};
@@ -54,6 +54,7 @@ impl<N: CrossingNodes<Item = T> + Drop, T: Drop> Piece<N, T> {
         ensures ends { OnOk result ((links : List (LinkSpec T)) → IsPieceOf (links ++ below.link ∷ []) self.old → HasNoOther (length links) self.new → IsPieceOf links self.new) }
         ensures stands { OnOk result ((m : Meaning T) (n : ℕ) (was : PieceSpec N T) (opening : Halves N T) →
             IsCutFrom N.Machine N.CrossingNodes.own was opening → HaveGone N.Machine m n opening (halves_of self.old below) → StandsSince N.Machine m n was was → StandsSince N.Machine m n was self.new) }
+        ensures refused { OnErr result (CannotJoin N.Machine N.CrossingNodes.own self.old.part below.at self.old.inlets.items below.piece.part) }
         ensures err { IfErr result (λ b. b ≡ below) }
         ensures same { OnErr result (self.new ≡ self.old) }
     {
@@ -80,6 +81,7 @@ fn way<N: CrossingNodes<Item = T> + Drop, T: Drop>(
 ) -> Option<bool>
     ensures going { IfSome result (λ goes_on. (others : List (IncomingSpec T)) (last : IncomingSpec T) → inlets.now ≡ others ++ last ∷ [] → goes_on ≡ true → CanGoOn N.Machine N.CrossingNodes.own part.now at last lower.now) }
     ensures ended { IfSome result (λ goes_on. (others : List (IncomingSpec T)) (last : IncomingSpec T) → inlets.now ≡ others ++ last ∷ [] → goes_on ≡ false → CanEnd N.Machine N.CrossingNodes.own part.now at last lower.now) }
+    ensures none { IfNone result (CannotJoin N.Machine N.CrossingNodes.own part.now at inlets.now lower.now) }
 {
     let Some(last) = inlets.last() else {
         return None;
@@ -100,7 +102,8 @@ fn can_go_on<N: CrossingNodes<Item = T> + Drop, T: Drop>(
     last: &Incoming<T>,
     lower: &Part<N>,
 ) -> bool
-    ensures { result ≡ true → CanGoOn N.Machine N.CrossingNodes.own part.now at last.now lower.now }
+    ensures yes { result ≡ true → CanGoOn N.Machine N.CrossingNodes.own part.now at last.now lower.now }
+    ensures no { result ≡ false → CanGoOn N.Machine N.CrossingNodes.own part.now at last.now lower.now → ⊥ }
 {
     let Some(reader) = part.edge(at) else {
         return false;
@@ -114,7 +117,8 @@ fn can_go_on<N: CrossingNodes<Item = T> + Drop, T: Drop>(
 
 /// Whether a part with this root edge can be joined over this edge where no ending came over the link.
 fn may_go_on(reader: Edge, root: Edge) -> bool
-    ensures { result ≡ true → is_live reader.state ≡ true → root.state ≡ EdgeState.Closed → ⊥ }
+    ensures yes { result ≡ true → is_live reader.state ≡ true → root.state ≡ EdgeState.Closed → ⊥ }
+    ensures no { result ≡ false → (is_live reader.state ≡ true) × (root.state ≡ EdgeState.Closed) }
 {
     match root.state {
         EdgeState::Closed => !reader.is_live(),
@@ -129,7 +133,8 @@ fn can_end<N: CrossingNodes<Item = T> + Drop, T: Drop>(
     last: &Incoming<T>,
     lower: &Part<N>,
 ) -> bool
-    ensures { result ≡ true → CanEnd N.Machine N.CrossingNodes.own part.now at last.now lower.now }
+    ensures yes { result ≡ true → CanEnd N.Machine N.CrossingNodes.own part.now at last.now lower.now }
+    ensures no { result ≡ false → CanEnd N.Machine N.CrossingNodes.own part.now at last.now lower.now → ⊥ }
 {
     let Some(ending) = last.inlet.ended else {
         return false;
@@ -148,7 +153,8 @@ fn can_end<N: CrossingNodes<Item = T> + Drop, T: Drop>(
 
 /// Whether both endings are the same.
 fn is_same(one: Ending, other: Ending) -> bool
-    ensures { result ≡ true → one ≡ other }
+    ensures yes { result ≡ true → one ≡ other }
+    ensures no { result ≡ false → one ≡ other → ⊥ }
 {
     match (one, other) {
         (Ending::Open, Ending::Open) | (Ending::Done, Ending::Done) => true,
@@ -159,7 +165,8 @@ fn is_same(one: Ending, other: Ending) -> bool
 
 /// Whether both causes are the same.
 fn is_same_cause(one: Cause, other: Cause) -> bool
-    ensures { result ≡ true → one ≡ other }
+    ensures yes { result ≡ true → one ≡ other }
+    ensures no { result ≡ false → one ≡ other → ⊥ }
 {
     match (one, other) {
         (Cause::User(one), Cause::User(other)) => one == other,
@@ -171,7 +178,8 @@ fn is_same_cause(one: Cause, other: Cause) -> bool
 
 /// Whether an ending went over this edge.
 fn has_ended(edge: Edge) -> bool
-    ensures { result ≡ true → edge.state ≡ EdgeState.Ended }
+    ensures yes { result ≡ true → edge.state ≡ EdgeState.Ended }
+    ensures no { result ≡ false → edge.state ≡ EdgeState.Ended → ⊥ }
 {
     matches!(edge.state, EdgeState::Ended)
 }

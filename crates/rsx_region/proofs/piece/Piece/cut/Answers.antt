@@ -1,14 +1,17 @@
-use Rattle.std.proofs.Common.{◌<◌, ℕ, List, [], ◌∷◌, ◌++◌, map, ap, subst, sym, ◌∙◌, refl, arith}
+use Rattle.std.proofs.Common.{◌≡◌, ◌<◌, ℕ, List, [], ◌∷◌, ◌++◌, map, ap, subst, sym, ◌∙◌, refl, arith, inr}
+use Rattle.std.specs.Prelude.{option_map}
 use Rattle.rsx_sources.specs.Prelude.{Next}
-use Rattle.rsx_link.specs.Ends.{cancel_beside}
+use Rattle.rsx_tree.specs.Edges.{edge_view}
+use Rattle.rsx_link.specs.Ends.{cancel_beside, received_signals}
 use Rattle.rsx_link.specs.Link.{total}
 use Rattle.rsx_link.specs.Steps.{asked_of, cancel_count, seen_of}
 use Rattle.rsx_piece.specs.Joined.{IsReader}
-use Rattle.rsx_region.specs.Cuts.{AsksAsMuch, NoneHasNumber, NoneReadsIn, ReadsNone}
+use Rattle.rsx_region.specs.Cuts.{AsksAsMuch, CannotFit, NoneHasNumber, NoneReadsIn, ReadsNone}
+use Rattle.rsx_region.specs.Pieces.{Each}
 use Rattle.rsx_region.specs.declared.piece.Incoming.{Incoming}
 use Rattle.rsx_region.proofs.Between.{between}
 use Rattle.rsx_region.proofs.Cuts.{positive, pushed_onto, sent_over}
-use Rattle.rsx_region.proofs.Opened.{both_stand}
+use Rattle.rsx_region.proofs.Opened.{both_stand, each_more}
 use Rattle.rsx_region.proofs.piece.Piece.cut.Goals as goal
 
 pub returns-clause-fit : goal.returns-clause-fit
@@ -30,7 +33,7 @@ returns-clause-cut g c =
     let made = c.in-Ok.ensures in
     let opened = made.opened in
     let off = c.in-Some-cut_part.ensures.some in
-    let unread = c.is_unread.ensures c.if-not-is_unread.false in
+    let unread = c.is_unread.ensures.free c.if-not-is_unread.false in
     let lower = c.in-Some-cut_part.below.part in
     let R : ℕ → Type 0 = λ h. IsReader b g.N.CrossingNodes h c.in-Some.edge.demand.sent c.in-Ok.made.reader in
     let F : ℕ → Type 0 = λ h. NoneReadsIn b h c.args.self.now.part in
@@ -98,3 +101,25 @@ returns-clause-ends g c = λ links last w.
       uncancelled = ap (λ s. total cancel_count (s ∷ cancel_beside c.in-Ok.made.inlet.closer)) opened.cancel.1 ∙ ap (λ l. total cancel_count ([] ∷ l)) opened.cancel.2;
       as_much = subst A (c.from-hub.ensures ∙ sym made.hub) off.asks;
     }) (c.send_all.ensures.same.0, opened.down.0, opened.cancel.0) refl refl last w
+
+pub returns-clause-fresh : goal.returns-clause-fresh
+returns-clause-fresh g c = λ nothing.
+    let N : Incoming _ → Type 0 = λ i. received_signals i.inlet.down ≡ [] in
+    let E : List (Incoming _) → Type 0 = λ is. Each N is in
+    let ins = pushed_onto c.push_reserved.new.self.items c.reserve.new.self.items c.args.self.now.inlets.items _ c.push_reserved.ensures.items c.reserve.ensures.items in
+    (subst E (sym ins) (each_more N c.args.self.now.inlets.items _ nothing c.in-Ok.ensures.opened.down.3), subst E (sym c.new.ensures.items) (λ k i at. cc))
+
+pub returns-in_default-cut_part-clause-whole : goal.returns-in_default-cut_part-clause-whole
+returns-in_default-cut_part-clause-whole g c = λ _.
+    let b = g.N.Machine in
+    let made = c.in-Ok.ensures in
+    let R : ℕ → Type 0 = λ h. IsReader b g.N.CrossingNodes h c.in-Some.edge.demand.sent c.in-Ok.made.reader in
+    let C : ℕ → Type 0 = λ h. CannotFit b g.N.CrossingNodes c.args.self.now.part c.args.at h c.in-Ok.made.reader c.in-Some.edge c.args.self.now.inlets.items in
+    let L : List (Incoming _) → Type 0 = λ l. CannotFit b g.N.CrossingNodes c.args.self.now.part c.args.at c.from-hub.result c.in-Ok.made.reader c.in-Some.edge l in
+    inr (inr (inr (record {
+      edge = c.in-Some.edge;
+      is = sym c.edge.ensures ∙ ap (option_map edge_view) c.in-Some.is;
+      reader = c.in-Ok.made.reader;
+      reads = made.reads;
+      cannot = subst C c.from-hub.ensures (subst L (c.deref.ensures.value ∙ c.reserve.ensures.items) c.in_default-cut_part.ensures.whole);
+    })))
