@@ -14,4 +14,5 @@ pub mod Runs
 pub mod Seen
 pub mod Shares
 pub mod Singles
+pub mod Stages
 pub mod Stands

@@ -6,3 +6,4 @@ pub mod Pieces
 pub mod Regions
 pub mod Serving
 pub mod Steps
+pub mod Trees

@@ -12,10 +12,12 @@
 //! - [`region`]: [`Region`], the pieces of a region.
 //! - [`step`]: [`Step`], by which contracts tell what was done.
 //! - [`serving`]: [`Piece::serve`], with its answer [`Served`].
+//! - [`trees`]: [`CutTrees`], trees that are cut at one edge after the other, and joined again.
 //!
 //! The definitions stand in `specs/`: `Pieces` (the ends of a piece, and what it stands for), `Steps` (what each step changes),
 //! `Serving` (when a piece is at rest), `Cuts` (how a piece is cut), `Halves` (both halves), `Joins` (when they can be joined,
-//! and to what) and `Regions` (the same of all pieces of a region).
+//! and to what), `Regions` (the same of all pieces of a region) and
+//! `Trees` (what trees were before they were cut at many edges).
 
 pub mod cutting;
 pub mod halves;
@@ -24,6 +26,7 @@ pub mod piece;
 pub mod region;
 pub mod serving;
 pub mod step;
+pub mod trees;
 
 pub use cutting::NotCut;
 pub use halves::{Below, LINK_PLACES};
@@ -32,3 +35,4 @@ pub use piece::{Incoming, Piece};
 pub use region::Region;
 pub use serving::{Answer, Served};
 pub use step::Step;
+pub use trees::{CutEdge, CutTrees, NotJoined};

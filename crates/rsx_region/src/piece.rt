@@ -1,7 +1,11 @@
 //! A piece with the ends of its links, and its single steps.
 
-ghost use Rattle.std.specs.Prelude.{◌≡◌, ◌<◌, ℕ, false, Some, IfOk, ⊤, length, slice_get};
+ghost use Rattle.std.specs.Prelude.{◌≡◌, ◌<◌, ℕ, List, [], false, Some, IfOk, ⊤, length, slice_get};
 ghost use Rattle.rsx_types.specs.Meaning.{Meaning};
+ghost use Rattle.rsx_link.specs.Ends.{IsUpOf};
+ghost use Rattle.rsx_link.specs.declared.link.Link.{Link as LinkSpec};
+ghost use Rattle.rsx_piece.specs.Piece.{IsInStep};
+ghost use Rattle.rsx_tree.specs.Reads.{IsTreeReadAt};
 ghost use Rattle.rsx_region.specs.Pieces.{IsAt, IsPieceOf, StandsSince};
 ghost use Rattle.rsx_region.specs.Steps.{Goes, done};
 ghost use Rattle.rsx_region.specs.Serving.{HasLeftOne, HasPassedOn, HasSeen, HasStayed};
@@ -44,6 +48,21 @@ fn link_at<T>(links: &[Link<T>], number: u32) -> &Link<T>
 }
 
 impl<N: Nodes<Item = T>, T: Drop> Piece<N, T> {
+    /// A piece into which no link comes. Where the edge of its root is live and none of its nodes reads a hub or a link, it stands for what
+    /// it begins with.
+    pub fn new(alloc: Global, part: Part<N>, link: u32, up: Up<T>) -> Piece<N, T>
+        ensures made { (result.part ≡ part) × (result.link ≡ link) × (result.up ≡ up) × (result.inlets.items ≡ []) }
+        ensures ends { (links : List (LinkSpec T)) → IsAt links link (λ l. IsUpOf l up) → IsInStep part up → IsPieceOf links result }
+        ensures stands { (m : Meaning T) (n : ℕ) → part.root.state ≡ EdgeState.Live → IsInStep part up → IsTreeReadAt N.Machine [] part.tree → StandsSince N.Machine m n result result }
+    {
+        Piece {
+            part,
+            link,
+            up,
+            inlets: Vec::new(alloc),
+        }
+    }
+
     /// Looks at the link that goes out.
     pub(crate) fn look(&mut self, links: &[Link<T>])
         requires { IsPieceOf links.now self.old }
