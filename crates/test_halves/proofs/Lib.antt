@@ -1,2 +1,2 @@
--- Lemmas about a piece that is cut and joined.
+-- Lemmas about trees that are cut and joined.
 pub mod Fitting

@@ -1,3 +1,2 @@
 -- Definitions that contracts cite.
-pub mod Last
 pub mod Run

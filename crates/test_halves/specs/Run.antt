@@ -1,14 +1,24 @@
--- A piece and what was cut off it, with their links and the subscriber.
-use Rattle.std.specs.Prelude.{◌≡◌, ◌≤◌, IfSome, Some, slice_get}
-use Rattle.rsx_link.specs.Ends.{IsDownOf, capacity_of}
-use Rattle.rsx_link.specs.declared.link.Link.{Link}
-use Rattle.rsx_region.specs.Pieces.{IsAt, IsPieceOf}
-use Rattle.rsx_region.specs.declared.halves.TheConstants.{LINK_PLACES}
+-- Trees that are cut and joined again, with the subscriber of what they send.
+use Rattle.std.specs.Prelude.{ℕ}
+use Rattle.rsx_sources.specs.Prelude.{Meaning}
+use Rattle.rsx_sources.specs.declared.machine.Machine.{Ghosts as Machine}
+use Rattle.rsx_rooted.specs.declared.nodes.CrossingNodes.{Ghosts as CrossingNodes}
+use Rattle.rsx_link.specs.Ends.{IsDownOf}
+use Rattle.rsx_region.specs.Pieces.{IsAt}
+use Rattle.rsx_region.specs.Trees.{AreCutFrom, HaveGoneSince, Stage}
 use Rattle.test_halves.specs.declared.run.Run.{Run}
+use Rattle.test_halves.specs.declared.run.TheConstants.{LINKS}
 
--- Each end is that of the link with its number, and the subscriber has that of link 0. Link 1 is as small as one between two halves.
-pub record Fits {M T : Type 0} (r : Run M T) : Type 0 where
-  pub ends : IsPieceOf r.links.items r.upper
-  pub below : IfSome r.lower (λ l. IsPieceOf r.links.items l.piece)
-  pub reads : IsAt r.links.items 0 (λ l. IsDownOf l r.down)
-  pub small : (l : Link T) → slice_get r.links.items 1 ≡ Some l → capacity_of l ≤ LINK_PLACES
+module _ {M T O : Type 0} where
+  -- the trees were cut, and nothing was done since; the subscriber has the receiving end of link 0, which was there before
+  pub record WasCut (b : Machine M T) (crossing : CrossingNodes M T) (meaning : O → Meaning T) (r : Run M T O) : Type 0 where
+    pub whole : Stage M T
+    pub from : AreCutFrom b crossing (meaning r.ops) LINKS whole r.trees
+    pub reads : IsAt whole.links 0 (λ l. IsDownOf l r.down)
+
+  -- each piece stands for what it stood for when the trees had been cut
+  pub record Fits (b : Machine M T) (crossing : CrossingNodes M T) (meaning : O → Meaning T) (r : Run M T O) : Type 0 where
+    pub whole : Stage M T
+    pub opening : Stage M T
+    pub since : HaveGoneSince b crossing (meaning r.ops) LINKS whole opening r.trees
+    pub reads : IsAt whole.links 0 (λ l. IsDownOf l r.down)

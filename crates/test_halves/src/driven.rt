@@ -9,7 +9,7 @@ use rsx_pipe::CrossingNodes;
 use rsx_types::{Ops, Signal};
 use std::alloc::Global;
 
-/// How many turns are made while a piece is in halves.
+/// How many turns are made while the tree is cut.
 const TURNS: u32 = 60;
 
 /// How many turns are made at most until all has come.
@@ -24,51 +24,47 @@ const ALL: i64 = 1_000;
 /// For want of memory.
 pub fn take_turns<N: CrossingNodes<Item = T> + Drop, O: Ops<Item = T>, T: Drop>(
     alloc: Global,
-    ops: &O,
-    run: &mut Run<N, T>,
+    run: &mut Run<N, T, O>,
     numbers: &mut Numbers,
     received: &mut Vec<Signal<T>>,
 ) -> Result<()>
-    requires { Fits run.old }
-    ensures { Fits run.new }
+    requires { Fits N.Machine N.CrossingNodes.own O.meaning run.old }
+    ensures { Fits N.Machine N.CrossingNodes.own O.meaning run.new }
 {
     for _ in 0..TURNS {
-        take_turn(alloc, ops, run, numbers, received)?;
+        take_turn(alloc, run, numbers, received)?;
     }
     Ok(())
 }
 
-/// Asks, takes a signal, or serves a half.
+/// Asks, takes a signal, or serves a piece.
 fn take_turn<N: CrossingNodes<Item = T> + Drop, O: Ops<Item = T>, T: Drop>(
     alloc: Global,
-    ops: &O,
-    run: &mut Run<N, T>,
+    run: &mut Run<N, T, O>,
     numbers: &mut Numbers,
     received: &mut Vec<Signal<T>>,
 ) -> Result<()>
-    requires { Fits run.old }
-    ensures { Fits run.new }
+    requires { Fits N.Machine N.CrossingNodes.own O.meaning run.old }
+    ensures { Fits N.Machine N.CrossingNodes.own O.meaning run.new }
 {
     match numbers.below(8) {
         0 => run.ask(1 + i64::from(numbers.below(3))),
         1 => take(run, received)?,
-        2..=4 => {
-            run.serve(alloc, ops, numbers.below(4))?;
-        }
         _ => {
-            run.serve_lower(alloc, ops, numbers.below(4))?;
+            let at = numbers.below(run.pieces()) as usize;
+            run.serve(alloc, at, numbers.below(4))?;
         }
     }
     Ok(())
 }
 
 /// Takes a signal, if one came.
-fn take<N: CrossingNodes<Item = T> + Drop, T: Drop>(
-    run: &mut Run<N, T>,
+fn take<N: CrossingNodes<Item = T> + Drop, O: Ops<Item = T>, T: Drop>(
+    run: &mut Run<N, T, O>,
     received: &mut Vec<Signal<T>>,
 ) -> Result<()>
-    requires { Fits run.old }
-    ensures { Fits run.new }
+    requires { Fits N.Machine N.CrossingNodes.own O.meaning run.old }
+    ensures { Fits N.Machine N.CrossingNodes.own O.meaning run.new }
 {
     if let Some(signal) = run.take() {
         received.push(signal)?;
@@ -82,17 +78,16 @@ fn take<N: CrossingNodes<Item = T> + Drop, T: Drop>(
 /// For want of memory, and where there is no end of it.
 pub fn finish<N: CrossingNodes<Item = T> + Drop, O: Ops<Item = T>, T: Drop>(
     alloc: Global,
-    ops: &O,
-    run: &mut Run<N, T>,
+    run: &mut Run<N, T, O>,
     received: &mut Vec<Signal<T>>,
 ) -> Result<()>
-    requires { Fits run.old }
-    ensures { Fits run.new }
+    requires { Fits N.Machine N.CrossingNodes.own O.meaning run.old }
+    ensures { Fits N.Machine N.CrossingNodes.own O.meaning run.new }
 {
     run.ask(ALL);
     for _ in 0..MOST_TURNS {
         let before = received.len();
-        let has_more = run.serve(alloc, ops, 8)?;
+        let has_more = run.serve(alloc, 0, 8)?;
         take(run, received)?;
         take(run, received)?;
         if !has_more && received.len() == before {
