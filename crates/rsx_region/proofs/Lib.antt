@@ -10,6 +10,7 @@ pub mod Places
 pub mod Refusals
 pub mod Regions
 pub mod Rests
+pub mod Rows
 pub mod Runs
 pub mod Seen
 pub mod Shares

@@ -5,5 +5,6 @@ pub mod Joins
 pub mod Pieces
 pub mod Regions
 pub mod Serving
+pub mod Spread
 pub mod Steps
 pub mod Trees

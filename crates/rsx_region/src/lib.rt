@@ -12,12 +12,13 @@
 //! - [`region`]: [`Region`], the pieces of a region.
 //! - [`step`]: [`Step`], by which contracts tell what was done.
 //! - [`serving`]: [`Piece::serve`], with its answer [`Served`].
+//! - [`spreading`]: [`spread`] and [`gather`], by which pieces are put into regions and taken out again.
 //! - [`trees`]: [`CutTrees`], trees that are cut at one edge after the other, and joined again.
 //!
 //! The definitions stand in `specs/`: `Pieces` (the ends of a piece, and what it stands for), `Steps` (what each step changes),
 //! `Serving` (when a piece is at rest), `Cuts` (how a piece is cut), `Halves` (both halves), `Joins` (when they can be joined,
-//! and to what), `Regions` (the same of all pieces of a region) and
-//! `Trees` (what trees were before they were cut at many edges).
+//! and to what), `Regions` (the same of all pieces of a region), `Trees` (what trees were before they were cut at many edges) and `Spread`
+//! (pieces that were put into regions).
 
 pub mod cutting;
 pub mod halves;
@@ -25,6 +26,7 @@ pub mod opening;
 pub mod piece;
 pub mod region;
 pub mod serving;
+pub mod spreading;
 pub mod step;
 pub mod trees;
 
@@ -34,5 +36,6 @@ pub use opening::Opening;
 pub use piece::{Incoming, Piece};
 pub use region::Region;
 pub use serving::{Answer, Served};
+pub use spreading::{gather, spread};
 pub use step::Step;
 pub use trees::{CutEdge, CutTrees, NotJoined};
