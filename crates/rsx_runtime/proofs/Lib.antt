@@ -1,4 +1,5 @@
 -- Lemmas.
+pub mod Backs
 pub mod Fits
 pub mod Gates
 pub mod Parkers

@@ -9,7 +9,7 @@
 //! [`work`] is the loop of a worker: it pokes one region again and again, and rests where nothing is left to do. [`ParkRest`] rests on
 //! a parker, and a [`Rouser`] rouses and stops such workers from other threads. Only `work` and the rest of a `ParkRest` wait.
 //!
-//! By [`Live::stop`] the gates end, and the regions come back.
+//! By [`Live::stop`] the gates end, and the regions come back. By [`Live::close`] they come back as the trees that were cut.
 //!
 //! A thread publishes at a hub by an [`Emitter`], and a subscriber requests, takes and cancels by a [`Tap`]; each is an end of a link
 //! of the graph.
@@ -17,9 +17,10 @@
 //! So far a live graph has pieces and no hubs, and nothing makes one of a graph: emitters and taps stand over any link.
 //!
 //! The definitions stand in `specs/`: `Poking` (what a poke does), `Passing` (what the calls of a pass change), `Resting` and `Tokens`
-//! (parkers with their tokens, and who is roused), `Stopping` (the regions that come back), `Emitting` and `Tapping` (what the calls of
+//! (parkers with their tokens, and who is roused), `Stopping` (the regions that come back), `Closing` (trees that were cut, with their pieces in regions), `Emitting` and `Tapping` (what the calls of
 //! emitters and taps change), `Standing` (how a tap stands) and `Ordered` (nothing follows an ending).
 
+pub mod closing;
 pub mod emitter;
 pub mod live;
 pub mod park;
@@ -30,6 +31,7 @@ pub mod tap;
 pub mod tokens;
 pub mod worker;
 
+pub use closing::Plan;
 pub use emitter::{Emitter, NotEnded};
 pub use live::{Live, Poked, RegionGate, RegionSeat};
 pub use park::{ParkRest, Rouser};

@@ -57,7 +57,7 @@ impl<N: Nodes<Item = T> + Drop, T: Drop, O: Ops<Item = T>> Live<N, T, O> {
 }
 
 /// Ends these gates, and puts their regions behind others, for which there is room. It calls itself once for each gate.
-fn end_each<N: Nodes<Item = T> + Drop, T: Drop, O: Ops<Item = T>>(
+pub(crate) fn end_each<N: Nodes<Item = T> + Drop, T: Drop, O: Ops<Item = T>>(
     gates: Vec<RegionGate<N, T, O>>,
     seats: Vec<RegionSeat<N, T, O>>,
     regions: Vec<Region<N, T>>,
