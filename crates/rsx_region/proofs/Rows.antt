@@ -15,6 +15,7 @@ use Rattle.rsx_region.specs.declared.piece.Piece.{Piece}
 use Rattle.rsx_region.specs.declared.region.Region.{Region}
 use Rattle.rsx_region.proofs.Between.{front_there}
 use Rattle.rsx_region.proofs.Lists.{get_map, map_same, map_set, set_again, set_cases, set_same, set_there}
+use Rattle.rsx_region.proofs.Opened.{each_more}
 use Rattle.rsx_region.proofs.Stages.{both_same, none_counted, one_longer, there_of}
 
 nothing_there : {A : Type 0} (k : ℕ) (x : A) → slice_get [] k ≡ Some x → ⊥
@@ -67,6 +68,20 @@ each_in {A} P base (p ∷ ps) xs rows h all =
     of : (x : A) (others : List A) → P x → Each P others → Each P (x ∷ others)
     of x others one rest zero y at = subst P (same_some x y at) one
     of x others one rest (suc k) y at = rest k y at
+
+-- what is so of each element is so of each in the rows, where it is of those that were there
+pub rows_each : {A : Type 0} (P : A → Type 0) (base : List (List A)) (ps : List ℕ) (xs : List A) (rows : List (List A)) → AreIn base ps xs rows → Each (λ (r : List A). Each P r) base → Each P xs → Each (λ (r : List A). Each P r) rows
+rows_each {A} P base [] xs rows h old all = let E : List (List A) → Type 0 = λ l. Each (λ (r : List A). Each P r) l in subst E (sym h.1) old
+rows_each {A} P base (p ∷ ps) xs rows h old all =
+    let E : List A → Type 0 = λ l. Each P l in
+    let both : Each P (h.0 ∷ h.1) = subst E h.3 all in
+    let rest = rows_each P base ps h.1 h.2 h.4 old (λ k x at. both (suc k) x at) in
+    let put = h.5 in
+    let R : List (List A) → Type 0 = λ l. Each (λ (r : List A). Each P r) l in
+    subst R (sym put.put) (λ k r at. elim (set_cases h.2 p k (put.row ++ h.0 ∷ []) r at) [
+      | inl s ↦ subst (λ (l : List A). Each P l) (sym s.1) (each_more P put.row h.0 (rest p put.row put.there) (both 0 h.0 refl))
+      | inr s ↦ rest k r s.1
+    ])
 
 -- the first piece was taken out
 pub gathered_first : {A : Type 0} (base : List (List A)) (places others : List ℕ) (place : ℕ) (xs : List A) (rows new : List (List A)) (row : List A) (x : A) → places ≡ place ∷ others → AreIn base places xs rows → slice_get rows place ≡ Some (row ++ x ∷ []) → new ≡ slice_set rows place row →

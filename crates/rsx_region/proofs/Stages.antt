@@ -183,6 +183,17 @@ self_stage {M} {T} s = record {
   each = λ k p q at_p at_q. subst (λ (r : Piece M T). SamePiece p r) (same_some p q (sym at_p ∙ at_q)) (self_same p);
 }
 
+-- what stands for the same pieces stands for these
+pub stand_same : {M T : Type 0} (b : Machine M T) (m : Meaning T) (n : ℕ) (old new : Stage M T) (now : List (Piece M T)) → SameStage old new → RegionStands b m n new.pieces now → RegionStands b m n old.pieces now
+stand_same b m n old new now s w = record {
+  count = w.count ∙ s.count;
+  each = λ k o p first at.
+      let within = slice_get_within old.pieces k o first in
+      let c = s.count in
+      let mid = there_of new.pieces k (omega (arith, within, c)) in
+      same_since b m n mid.0 o p p (turned o mid.0 (s.each k o mid.0 first mid.1)) (self_same p) (w.each k mid.0 p mid.1 at);
+}
+
 -- ---- a cut
 
 more_links : {M T : Type 0} (links : List (Link T)) (l : Link T) (p : Piece M T) → IsPieceOf links p → IsPieceOf (links ++ l ∷ []) p

@@ -16,6 +16,7 @@ use Rattle.rsx_region.specs.declared.piece.Piece.{Piece}
 use Rattle.rsx_region.specs.declared.region.Region.{Region}
 use Rattle.rsx_region.specs.declared.trees.CutTrees.{CutTrees}
 use Rattle.rsx_region.proofs.Rows.{StandIn, each_in, stand_in}
+use Rattle.rsx_region.proofs.Stages.{stand_same}
 use Rattle.rsx_runtime.specs.Closing.{IsLiveOf, opened_with}
 use Rattle.rsx_runtime.specs.Poking.{Fits, IsGateOf}
 use Rattle.rsx_runtime.specs.Stopping.{HaveFitting}
@@ -42,7 +43,7 @@ module _ {M T O : Type 0} (b : Machine M T) (meaning : O → Meaning T) (links :
   one_ends : (g : TheGate) (r : Region M T) → IsOf g → Fits b meaning (key_of g) r → ArePiecesOf links r.pieces.items
   one_ends g r is fits = subst (λ (ls : List (Link T)). ArePiecesOf ls r.pieces.items) is.0.0 fits.ends
 
-  more_rows : (was is : List (Piece M T)) (opening now : List (List (Piece M T))) → RegionStands b (meaning ops) n was is → RowsStand b (meaning ops) n opening now → RowsStand b (meaning ops) n (was ∷ opening) (is ∷ now)
+  pub more_rows : (was is : List (Piece M T)) (opening now : List (List (Piece M T))) → RegionStands b (meaning ops) n was is → RowsStand b (meaning ops) n opening now → RowsStand b (meaning ops) n (was ∷ opening) (is ∷ now)
   more_rows was is opening now one rest = record { count = ap suc rest.count; each = of }
     where
       of : (k : ℕ) (p q : List (Piece M T)) → slice_get (was ∷ opening) k ≡ Some p → slice_get (is ∷ now) k ≡ Some q → RegionStands b (meaning ops) n p q
@@ -79,8 +80,8 @@ module _ {M T O : Type 0} (b : Machine M T) (crossing : CrossingNodes M T) (mean
   known : Each (IsOf b meaning live.links.items live.ops n) live.gates.items
   known k g at = (live.opened k g at, is.values k g at)
 
-  pub stand : StandIn b (meaning live.ops) n plan.places.items is.opening.pieces (rows_of regions)
-  stand = stand_in b (meaning live.ops) n is.base plan.places.items is.opening.pieces (map opened_with live.gates.items) (rows_of regions) is.spread (rows_stand b meaning live.links.items live.ops n live.gates.items regions known fit)
+  pub stand : StandIn b (meaning live.ops) n plan.places.items is.begun.pieces (rows_of regions)
+  stand = stand_in b (meaning live.ops) n is.base plan.places.items is.begun.pieces (map opened_with live.gates.items) (rows_of regions) is.spread (rows_stand b meaning live.links.items live.ops n live.gates.items regions known fit)
 
   pub come_back : (t : CutTrees M T) → t.pieces.items ≡ stand.pieces → t.links ≡ live.links → t.edges ≡ plan.edges → (opening : Stage M T) × HaveGoneSince b crossing (meaning live.ops) n whole opening t
   come_back t pieces links edges =
@@ -93,8 +94,8 @@ module _ {M T O : Type 0} (b : Machine M T) (crossing : CrossingNodes M T) (mean
         is.opening,
         record {
           run = subst N (sym (ap (λ v. names_of v.items) edges)) is.run;
-          links = ap (λ v. v.items) links ∙ is.links;
+          links = ap (λ v. v.items) links ∙ (is.links ∙ is.same.links);
           ends = subst L (sym (ap (λ v. v.items) links)) (subst P (sym pieces) ends);
-          stands = subst R (sym pieces) stand.stand;
+          stands = subst R (sym pieces) (stand_same b (meaning live.ops) n is.opening is.begun stand.pieces is.same stand.stand);
         },
       )

@@ -1,5 +1,6 @@
 -- Lemmas.
 pub mod Backs
+pub mod Begins
 pub mod Fits
 pub mod Gates
 pub mod Parkers

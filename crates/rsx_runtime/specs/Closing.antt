@@ -8,7 +8,7 @@ use Rattle.rsx_gate.specs.declared.gate.Gate.{Gate}
 use Rattle.rsx_gate.specs.Seats.{key_of}
 use Rattle.rsx_region.specs.Pieces.{Each}
 use Rattle.rsx_region.specs.Spread.{AreIn}
-use Rattle.rsx_region.specs.Trees.{IsCutThere, Stage, names_of}
+use Rattle.rsx_region.specs.Trees.{IsCutThere, SameStage, Stage, names_of}
 use Rattle.rsx_region.specs.declared.opening.Opening.{Opening}
 use Rattle.rsx_region.specs.declared.piece.Piece.{Piece}
 use Rattle.rsx_region.specs.declared.region.Region.{Region}
@@ -20,14 +20,16 @@ module _ {M T O : Type 0} where
   abbrev pub opened_with : Gate (Region M T) (Opening M T O) → List (Piece M T)
   opened_with g = (key_of g).pieces.value.items
 
-  -- Trees were cut at the edges of the plan, one after the other, and `opening` is what they were after that. Each piece was put into the
-  -- region at its place, whose gate was opened with those pieces, where there are so many hubs and links.
+  -- Trees were cut at the edges of the plan, one after the other, and `opening` is what they were after that. Each of the same pieces was
+  -- put into the region at its place, whose gate was opened with those pieces, where there are so many hubs and links.
   pub record IsLiveOf (b : Machine M T) (crossing : CrossingNodes M T) (meaning : O → Meaning T) (n : ℕ) (whole : Stage M T) (live : Live M T O) (plan : Plan M T) : Type 0 where
     pub opening : Stage M T
     pub run : Leads (IsCutThere b crossing (meaning live.ops) n) whole (names_of plan.edges.items) opening
-    pub links : live.links.items ≡ opening.links
+    pub begun : Stage M T
+    pub same : SameStage opening begun
+    pub links : live.links.items ≡ begun.links
     pub base : List (List (Piece M T))
-    pub spread : AreIn base plan.places.items opening.pieces (map opened_with live.gates.items)
+    pub spread : AreIn base plan.places.items begun.pieces (map opened_with live.gates.items)
     pub values : Each (λ (g : Gate (Region M T) (Opening M T O)). (key_of g).values ≡ n) live.gates.items
 
   -- so it is of some trees

@@ -1,4 +1,5 @@
 -- Definitions that contracts cite.
+pub mod Beginning
 pub mod Closing
 pub mod Emitting
 pub mod Ordered

@@ -20,6 +20,7 @@
 //! (parkers with their tokens, and who is roused), `Stopping` (the regions that come back), `Closing` (trees that were cut, with their pieces in regions), `Emitting` and `Tapping` (what the calls of
 //! emitters and taps change), `Standing` (how a tap stands) and `Ordered` (nothing follows an ending).
 
+pub mod beginning;
 pub mod closing;
 pub mod emitter;
 pub mod live;
@@ -31,6 +32,7 @@ pub mod tap;
 pub mod tokens;
 pub mod worker;
 
+pub use beginning::Begun;
 pub use closing::Plan;
 pub use emitter::{Emitter, NotEnded};
 pub use live::{Live, Poked, RegionGate, RegionSeat};

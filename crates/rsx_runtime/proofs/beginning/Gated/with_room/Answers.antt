@@ -1,0 +1,19 @@
+use Rattle.std.proofs.Common.{◌≡◌, ◌∷◌, ◌++◌, [], arith}
+use Rattle.rsx_region.specs.declared.region.Region.{Region}
+use Rattle.rsx_runtime.proofs.Begins.{one_more}
+use Rattle.rsx_runtime.proofs.Gates.{each_pushed, each_same}
+use Rattle.rsx_runtime.proofs.beginning.Gated.with_room.Goals as goal
+
+pub loop-number-preserved : goal.loop-number-preserved
+loop-number-preserved g c =
+    let old = c.loop-number.regions.items in
+    let P : Region _ _ → Type 0 = λ r. r.pieces.items ≡ [] in
+    let l = one_more c.push_reserved.new.self.items old _ c.push_reserved.ensures.items in
+    let i = c.loop-number.invariant.count in
+    let r = c.loop-number.invariant.room in
+    let k = c.push_reserved.ensures.capacity in
+    record {
+      count = omega (arith, l, i);
+      empty = each_same P (old ++ _ ∷ []) c.push_reserved.new.self.items c.push_reserved.ensures.items (each_pushed P old _ c.loop-number.invariant.empty c.new.ensures.items);
+      room = omega (arith, r, k);
+    }
