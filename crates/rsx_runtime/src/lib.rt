@@ -9,7 +9,8 @@
 //! [`work`] is the loop of a worker: it pokes one region again and again, and rests where nothing is left to do. [`ParkRest`] rests on
 //! a parker, and a [`Rouser`] rouses and stops such workers from other threads. Only `work` and the rest of a `ParkRest` wait.
 //!
-//! By [`Live::stop`] the gates end, and the regions come back. By [`Live::close`] they come back as the trees that were cut.
+//! [`Live::begin`] puts the pieces of trees that were cut into regions, and opens a gate for each. By [`Live::close`] the gates end, and
+//! the trees come back; by [`Live::stop`] the regions do.
 //!
 //! A thread publishes at a hub by an [`Emitter`], and a subscriber requests, takes and cancels by a [`Tap`]; each is an end of a link
 //! of the graph.
@@ -17,8 +18,9 @@
 //! So far a live graph has pieces and no hubs, and nothing makes one of a graph: emitters and taps stand over any link.
 //!
 //! The definitions stand in `specs/`: `Poking` (what a poke does), `Passing` (what the calls of a pass change), `Resting` and `Tokens`
-//! (parkers with their tokens, and who is roused), `Stopping` (the regions that come back), `Closing` (trees that were cut, with their pieces in regions), `Emitting` and `Tapping` (what the calls of
-//! emitters and taps change), `Standing` (how a tap stands) and `Ordered` (nothing follows an ending).
+//! (parkers with their tokens, and who is roused), `Beginning` (the gates that are made), `Closing` (trees that were cut, with their
+//! pieces in regions), `Stopping` (the regions that come back), `Emitting` and `Tapping` (what the calls of emitters and taps change),
+//! `Standing` (how a tap stands) and `Ordered` (nothing follows an ending).
 
 pub mod beginning;
 pub mod closing;

@@ -1,2 +1,3 @@
 -- Lemmas about trees that are cut and joined.
 pub mod Fitting
+pub mod Sides

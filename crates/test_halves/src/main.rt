@@ -2,12 +2,13 @@
 //! Cuts trees at many edges, serves the pieces in turns that have no pattern, and joins them again.
 //!
 //! Of each expression a tree is made, which sends into a link to a subscriber. It is cut at some of its edges, and so is what was cut off.
-//! Then the subscriber asks for items and takes signals, and the pieces are served, as a seed tells. Last the pieces are joined, and the
-//! tree is served to its end. What came to the subscriber has to be what an uncut tree of the expression gives; so the expressions are
+//! The pieces go live: they are put into regions behind gates, poked in turns, and taken out again. Then the subscriber asks for items
+//! and takes signals, and the pieces are served, as a seed tells. Last the pieces are joined, and the tree is served to its end. What came to the subscriber has to be what an uncut tree of the expression gives; so the expressions are
 //! such that give the same however they are served. It writes a line for each expression. The first join that is refused and the first
 //! comparison that differs end the program with status 1.
 
 mod driven;
+mod living;
 mod numbers;
 mod run;
 mod trial;

@@ -3,6 +3,7 @@
 ghost use Rattle.std.specs.Prelude.{◌≡◌, [], IfOk};
 ghost use Rattle.rsx_tree.specs.Reads.{IsTreeReadAt};
 
+use crate::living::live;
 use crate::numbers::Numbers;
 use anyhow::{Result, bail};
 use rsx_link::{Down, Link};
@@ -24,9 +25,9 @@ const EDGES: u32 = 6;
 /// The pieces of a tree, with all links and the subscriber.
 #[derive(Drop)]
 pub struct Run<N, T, O> {
-    trees: CutTrees<N, T>,
-    down: Down<T>,
-    ops: O,
+    pub(crate) trees: CutTrees<N, T>,
+    pub(crate) down: Down<T>,
+    pub(crate) ops: O,
 }
 
 impl<N: CrossingNodes<Item = T> + Drop, T: Drop, O: Ops<Item = T>> Run<N, T, O> {
@@ -89,19 +90,23 @@ impl<N: CrossingNodes<Item = T> + Drop, T: Drop, O: Ops<Item = T>> Run<N, T, O> 
         }
     }
 
-    /// Cuts the tree, where it is whole, at edges of each of its pieces, as the numbers tell, and answers at how many.
+    /// Cuts the tree, where it is whole, at edges of each of its pieces, as the numbers tell, and lets them go live. Answers at how many
+    /// edges.
     ///
     /// # Errors
     /// For want of memory.
-    pub fn cut(&mut self, alloc: Global, numbers: &mut Numbers) -> Result<usize>
-        requires { Fits N.Machine N.CrossingNodes.own O.meaning self.old }
-        ensures { Fits N.Machine N.CrossingNodes.own O.meaning self.new }
+    pub fn cut(self, alloc: Global, numbers: &mut Numbers) -> Result<(Run<N, T, O>, usize)>
+        requires { Fits N.Machine N.CrossingNodes.own O.meaning self }
+        ensures { IfOk result (λ r. Fits N.Machine N.CrossingNodes.own O.meaning r.0) }
     {
-        if !self.trees.are_whole() {
-            return Ok(0);
+        let mut run = self;
+        if !run.trees.are_whole() {
+            return Ok((run, 0));
         }
-        self.cut_each(alloc, numbers)?;
-        Ok(self.trees.edges.len())
+        run.cut_each(alloc, numbers)?;
+        let count = run.trees.edges.len();
+        let run = live(alloc, run, numbers)?;
+        Ok((run, count))
     }
 
     /// Cuts each piece. What was cut off is a piece, too, and comes later.

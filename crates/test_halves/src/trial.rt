@@ -72,7 +72,7 @@ fn try_once(alloc: Global, expr: &Expr<Val>, seed: u32, whole: &[Signal<Val>]) -
     let mut run = Run::begun(alloc, Demo, tree)?;
     run.ask(1 + i64::from(numbers.below(3)));
     run.serve(alloc, 0, numbers.below(16))?;
-    let edges = run.cut(alloc, &mut numbers)?;
+    let (mut run, edges) = run.cut(alloc, &mut numbers)?;
     take_turns(alloc, &mut run, &mut numbers, &mut received)?;
     run.join()?;
     finish(alloc, &mut run, &mut received)?;
