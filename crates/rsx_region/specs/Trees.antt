@@ -1,12 +1,12 @@
 -- Trees that are cut at one edge after the other.
-use Rattle.std.specs.Prelude.{◌≡◌, ◌≤◌, ℕ, List, [], ◌∷◌, ◌++◌, Some, length, map, slice_get, slice_set}
+use Rattle.std.specs.Prelude.{◌≡◌, ◌⊎◌, ◌≤◌, ◌^◌, ℕ, List, [], ◌∷◌, ◌++◌, Some, length, map, slice_get, slice_set}
 use Rattle.rsx_sources.specs.Prelude.{Meaning}
 use Rattle.rsx_sources.specs.declared.machine.Machine.{Ghosts as Machine}
 use Rattle.rsx_rooted.specs.declared.nodes.CrossingNodes.{Ghosts as CrossingNodes}
 use Rattle.rsx_tree.specs.Runs.{Leads}
 use Rattle.rsx_link.specs.Ends.{capacity_of}
 use Rattle.rsx_link.specs.declared.link.Link.{Link}
-use Rattle.rsx_region.specs.Cuts.{HasTakenNothing, SamePiece}
+use Rattle.rsx_region.specs.Cuts.{HasTakenNothing, SamePiece, StaysWhole}
 use Rattle.rsx_region.specs.Joins.{CannotJoin, IsCutFrom}
 use Rattle.rsx_region.specs.Pieces.{Each, StandsSince, hub_of}
 use Rattle.rsx_region.specs.Regions.{ArePiecesOf, RegionStands}
@@ -94,6 +94,10 @@ module _ {M T : Type 0} where
     pub links : t.links.items ≡ opening.links
     pub ends : ArePiecesOf t.links.items t.pieces.items
     pub stands : RegionStands b m n opening.pieces t.pieces.items
+
+  -- Why the piece at this place isn't cut there: there are as many links as there are numbers, or the piece itself isn't cut.
+  abbrev pub StaysWholeAt : Machine M T → CrossingNodes M T → CutTrees M T → ℕ → ℕ → ℕ → Type 0
+  StaysWholeAt b crossing t place at hub = (2 ^ 32 ≤ length t.links.items) ⊎ ((p : Piece M T) × (slice_get t.pieces.items place ≡ Some p) × StaysWhole b crossing p at hub)
 
   -- at the last edge it can't be joined
   abbrev pub LastCannotJoin : Machine M T → CrossingNodes M T → CutTrees M T → Type 0

@@ -1,6 +1,6 @@
 //! Trees are cut at one edge after the other, and joined again.
 
-ghost use Rattle.std.specs.Prelude.{◌≡◌, ◌+◌, ◌<◌, ◌≤◌, ◌∷◌, ◌++◌, ℕ, [], true, false, length, OnErr, OnOk};
+ghost use Rattle.std.specs.Prelude.{◌≡◌, ◌+◌, ◌<◌, ◌≤◌, ◌∷◌, ◌++◌, ℕ, [], true, false, length, IfErr, OnErr, OnOk};
 ghost use Rattle.std.specs.Vec.{vec_capacity};
 ghost use Rattle.rsx_types.specs.Meaning.{Meaning};
 ghost use Rattle.rsx_region.specs.Cuts.{AreWhole, IsWhole};
@@ -47,7 +47,7 @@ pub struct CutTrees<N, T> {
 pub struct NotJoined;
 
 impl<N: CrossingNodes<Item = T> + Drop, T: Drop> CutTrees<N, T> {
-    ghost use Rattle.rsx_region.specs.Trees.{AreCutFrom, CanBeJoined, HaveGoneSince, IsOneCut, IsOpen, IsReadUnder, LastCannotJoin, SameStage, Stage, names_of, stage_of};
+    ghost use Rattle.rsx_region.specs.Trees.{AreCutFrom, CanBeJoined, HaveGoneSince, IsOneCut, IsOpen, IsReadUnder, LastCannotJoin, SameStage, Stage, StaysWholeAt, names_of, stage_of};
 
     /// Trees none of which is cut. Each piece has one.
     pub fn new(alloc: Global, pieces: Vec<Piece<N, T>>, links: Vec<Link<T>>) -> CutTrees<N, T>
@@ -102,6 +102,7 @@ impl<N: CrossingNodes<Item = T> + Drop, T: Drop> CutTrees<N, T> {
         ensures hub { OnOk result (IsReadUnder hub above self.new.pieces.items) }
         ensures named { OnOk result (names_of self.new.edges.items ≡ names_of self.old.edges.items ++ record { above = above; at = at } ∷ []) }
         ensures from { (m : Meaning T) (n : ℕ) (whole : Stage N T) → hub < n → AreCutFrom N.Machine N.CrossingNodes.own m n whole self.old → AreCutFrom N.Machine N.CrossingNodes.own m n whole self.new }
+        ensures whole { IfErr result (λ e. e ≡ NotCut.Whole → StaysWholeAt N.Machine N.CrossingNodes.own self.old above at hub) }
         ensures same { OnErr result (SameStage (stage_of self.old) (stage_of self.new) × (names_of self.new.edges.items ≡ names_of self.old.edges.items)) }
     {
         let Ok(number) = u32::try_from(self.links.len()) else {
@@ -110,9 +111,13 @@ impl<N: CrossingNodes<Item = T> + Drop, T: Drop> CutTrees<N, T> {
         if !self.has_room() {
             return Err(NotCut::NoMemory);
         }
-        let made = self.pieces[above].cut(alloc, at, number, hub)?;
-        self.put_behind(above, made);
-        Ok(())
+        match self.pieces[above].cut(alloc, at, number, hub) {
+            Ok(made) => {
+                self.put_behind(above, made);
+                Ok(())
+            }
+            Err(why) => Err(why),
+        }
     }
 
     /// Whether there is room for what one cut more makes, which it takes.
