@@ -1,4 +1,5 @@
 -- Definitions that contracts cite.
+pub mod Apart
 pub mod Begun
 pub mod Delivered
 pub mod Edited

@@ -28,14 +28,14 @@ pub struct Subscription<N, T> {
     /// put into the queue.
     pub(crate) part: Part<N>,
     /// The signals on the root edge, at most `rsx_types::CAPACITY`.
-    queue: SignalQueue<T>,
+    pub(crate) queue: SignalQueue<T>,
     /// Where the subscription stands in the table. It is opened before anything else happens (rule 1.9).
-    state: State,
+    pub(crate) state: State,
     /// The subscriber's own demand: asked is what it requested, sent the items that it was delivered (rule 1.1).
-    demand: Demand,
+    pub(crate) demand: Demand,
     /// Whether the subscriber takes part still: it neither cancelled while it was open nor made a bad request then. The
     /// table has one state for a bad request and for an error of the expression, and this tells them apart.
-    live: bool,
+    pub(crate) live: bool,
     pub ghost opened: { state ≡ Fresh → ⊥ },
 }
 
