@@ -1,10 +1,11 @@
 -- Lists of signals in which nothing follows an ending.
-use Rattle.std.proofs.Common.{◌≡◌, inl, inr, ℕ, Bool, true, false, nat_eq, nat_lt, cond, arith, List, [], ◌∷◌, ◌++◌, refl, ap, sym, ◌∙◌, subst, Result, Ok, Err, OnOk, IfErr, Option, Some, None}
+use Rattle.std.proofs.Common.{◌≡◌, inl, inr, ℕ, Bool, true, false, nat_eq, nat_lt, cond, not, arith, List, [], ◌∷◌, ◌++◌, refl, ap, sym, ◌∙◌, subst, Result, Ok, Err, OnOk, IfErr, Option, Some, None}
 use Rattle.std.proofs.lemmas.Bool.Decides.{nat_tests}
 use Rattle.std.specs.Prelude.{◌⊎◌, ℤ, pos, negsuc, zero, suc, int_lt}
 use Rattle.rsx_types.specs.declared.signal.Signal.{Signal}
 use Rattle.rsx_types.specs.declared.signal.Signal.TheVariants.{Next, Complete, Error}
 use Rattle.rsx_types.specs.declared.signal.Cause.TheVariants.{NonPositiveRequest}
+use Rattle.rsx_sources.specs.Counts.{ends_input}
 use Rattle.rsx_link.specs.Ends.{Requests}
 use Rattle.rsx_link.specs.Signals.{request_of}
 use Rattle.rsx_link.specs.declared.view.Step.{Step}
@@ -90,6 +91,18 @@ module _ {T : Type 0} where
       let O : List (Signal T) → Type 0 = λ l. is_orderly l ≡ true in
       let same : given_by now error ≡ was ++ s ∷ [] = ap (given_by now) none ∙ (nothing_behind now ∙ e) in
       subst O (sym same) (orderly_then was s k)
+
+  -- whether the last signal was an ending is whether there is one
+  ends_all : (ss : List (Signal T)) (s : Signal T) → is_unended ss ≡ true → ends_input s ≡ not (is_unended (ss ++ s ∷ []))
+  ends_all [] (Next x) h = refl
+  ends_all [] Complete h = refl
+  ends_all [] (Error e) h = refl
+  ends_all (Next y ∷ ss) s h = ends_all ss s h
+  ends_all (Complete ∷ ss) s h = cc
+  ends_all (Error e ∷ ss) s h = cc
+
+  pub told_now : (was now : List (Signal T)) (s : Signal T) → now ≡ was ++ s ∷ [] → is_unended was ≡ true → ends_input s ≡ not (is_unended now)
+  told_now was now s e k = ends_all was s k ∙ ap (λ l. not (is_unended l)) (sym e)
 
   -- ---- a request
 

@@ -42,7 +42,7 @@ pub use park::{ParkRest, Rouser};
 pub use pass::{RegionLeft, RegionPass};
 pub use rest::{Rest, Rested};
 pub use stopping::Stopped;
-pub use tap::{Canceller, Tap, Tapped};
+pub use tap::{Canceller, Tap, TapEnds, Tapped};
 pub use worker::work;
 
 /// How often a poke serves its region before it gives up the gate.

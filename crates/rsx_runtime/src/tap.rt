@@ -1,7 +1,8 @@
 //! The tap of a subscription of a live graph.
 
-ghost use Rattle.std.specs.Prelude.{◌≡◌, false, true};
+ghost use Rattle.std.specs.Prelude.{◌≡◌, false, not, true};
 ghost use Rattle.rsx_link.specs.Ends.{received_signals};
+ghost use Rattle.rsx_sources.specs.Counts.{ends_input};
 ghost use Rattle.rsx_runtime.specs.Ordered.{is_orderly, is_unended};
 ghost use Rattle.rsx_runtime.specs.Standing.{asks, gives, given_by, is_over, taken_state};
 
@@ -38,15 +39,31 @@ pub struct Tap<T> {
     state: Tapped,
     // Whether it gave the error of a bad request.
     error: bool,
+    // Whether it gave the ending of its expression.
+    ended: bool,
     // How many cancellers were made of it.
     cancellers: u64,
     pub ghost open: { is_over state ≡ false → (is_unended (received_signals down) ≡ true) × (error ≡ false) },
     pub ghost orderly: { is_orderly (given_by (received_signals down) error) ≡ true },
+    pub ghost told: { ended ≡ not (is_unended (received_signals down)) },
+}
+
+/// What a tap is made of, for who closes its link.
+#[derive(Drop)]
+pub struct TapEnds<T> {
+    /// The receiving end of its link.
+    pub down: Down<T>,
+    /// Its seat, by which the link is cancelled.
+    pub seat: CancelSeat,
+    /// Whether it gave the error of a bad request.
+    pub error: bool,
+    /// Whether it gave the ending of its expression.
+    pub ended: bool,
 }
 
 impl<T: Drop> Tap<T> {
     ghost use Rattle.std.specs.Prelude.{◌≡◌, ◌≤◌, ◌+◌, ◌-◌, ◌^◌, ◌∷◌, ◌++◌, min, [], IfNone, IfSome, None};
-    ghost use Rattle.rsx_link.specs.Ends.{AreHalves, Cancels, IsCancelSeatOf, KeepsSteps, Requests, Waits, asked_total, cancel_beside, cancel_steps, down_steps, items_taken, queued};
+    ghost use Rattle.rsx_link.specs.Ends.{AreHalves, Cancels, IsCancelSeatOf, KeepsSteps, Requests, Waits, asked_total, cancel_beside, cancel_parts, cancel_steps, down_steps, items_taken, queued};
     ghost use Rattle.rsx_link.specs.Signals.{request_of};
     ghost use Rattle.rsx_region.specs.Pieces.{IsAt};
     ghost use Rattle.rsx_runtime.specs.Standing.{cancelled_state, opened_state, requested_state, signals_of};
@@ -72,7 +89,21 @@ impl<T: Drop> Tap<T> {
             seat,
             state,
             error: false,
+            ended: false,
             cancellers: 0,
+        }
+    }
+
+    /// Its ends, and what it gave last. It takes no memory.
+    pub fn into_ends(self) -> TapEnds<T>
+        ensures ends { (result.down ≡ self.down) × (result.seat ≡ self.seat) × (result.error ≡ self.error) }
+        ensures ended { result.ended ≡ not (is_unended (received_signals self.down)) }
+    {
+        TapEnds {
+            down: self.down,
+            seat: self.seat,
+            error: self.error,
+            ended: self.ended,
         }
     }
 
@@ -148,6 +179,22 @@ impl<T: Drop> Tap<T> {
         self.canceller_over(live.link(self.link))
     }
 
+    /// Takes a canceller of its link back, so that its steps stand beside those of the tap. Whoever has taken all of them back knows at
+    /// the end whether the subscription was cancelled.
+    pub fn take_back<N: Nodes<Item = T>, O: Ops<Item = T>>(
+        &mut self,
+        live: &Live<N, T, O>,
+        canceller: Canceller,
+    )
+        requires { IsAt live.now.links.items self.old.link (λ l. IsTapOf l self.old × IsCancelSeatOf l canceller.seat) }
+        ensures end { IsAt live.now.links.items self.old.link (λ l. IsTapOf l self.new) }
+        ensures beside { (cancel_steps self.new.seat ≡ cancel_steps self.old.seat) × (cancel_beside self.new.seat ≡ cancel_beside self.old.seat ++ (cancel_steps canceller.seat ∷ cancel_beside canceller.seat)) }
+        ensures parts { cancel_parts self.new.seat ≡ cancel_parts self.old.seat ++ cancel_parts canceller.seat }
+        ensures same { (self.new.sub ≡ self.old.sub) × (self.new.link ≡ self.old.link) × (self.new.down ≡ self.old.down) × (self.new.state ≡ self.old.state) × (given self.new ≡ given self.old) }
+    {
+        self.take_back_over(live.link(self.link), canceller.seat);
+    }
+
     /// Cancels the subscription (rule 3.5). What waits in the queue may still be taken (rule 2.8). After an ending, after another call of
     /// it, and where the subscription wasn't open as the graph went live, it does nothing (rule 3.7).
     pub fn cancel<N: Nodes<Item = T>, O: Ops<Item = T>>(&mut self, live: &Live<N, T, O>)
@@ -174,6 +221,7 @@ impl<T: Drop> Tap<T> {
             return None;
         }
         let signal = self.down.take(link)?;
+        self.ended = is_ending(&signal);
         self.state = state_after(&signal, self.state);
         Some(signal)
     }
@@ -225,6 +273,17 @@ impl<T: Drop> Tap<T> {
         }
     }
 
+    /// Takes the seat of a canceller back, over its link.
+    fn take_back_over(&mut self, link: &Link<T>, seat: CancelSeat)
+        requires { IsTapOf link.now self.old × IsCancelSeatOf link.now seat }
+        ensures end { IsTapOf link.now self.new }
+        ensures beside { (cancel_steps self.new.seat ≡ cancel_steps self.old.seat) × (cancel_beside self.new.seat ≡ cancel_beside self.old.seat ++ (cancel_steps seat ∷ cancel_beside seat)) }
+        ensures parts { cancel_parts self.new.seat ≡ cancel_parts self.old.seat ++ cancel_parts seat }
+        ensures same { (self.new.sub ≡ self.old.sub) × (self.new.link ≡ self.old.link) × (self.new.down ≡ self.old.down) × (self.new.state ≡ self.old.state) × (given self.new ≡ given self.old) }
+    {
+        self.seat.join(link, seat);
+    }
+
     /// Cancels, over its link.
     fn cancel_over(&mut self, link: &Link<T>)
         requires { IsTapOf link.now self.old }
@@ -260,6 +319,13 @@ fn is_asking(state: Tapped) -> bool
     ensures { result ≡ asks state }
 {
     matches!(state, Tapped::Open | Tapped::Refused)
+}
+
+/// Whether the signal is an ending.
+fn is_ending<T>(signal: &Signal<T>) -> bool
+    ensures { result ≡ ends_input signal.now }
+{
+    !matches!(signal, Signal::Next(_))
 }
 
 /// How a tap stands that gave this signal, and stood so before.

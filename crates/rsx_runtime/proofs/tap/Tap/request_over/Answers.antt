@@ -1,4 +1,5 @@
-use Rattle.std.proofs.Common.{◌∙◌, ◌++◌, sym, ap}
+use Rattle.std.proofs.Common.{◌∙◌, ◌++◌, not, sym, ap}
+use Rattle.rsx_runtime.specs.Ordered.{is_unended}
 use Rattle.rsx_runtime.specs.Standing.{given_by, signals_of}
 use Rattle.rsx_link.specs.Ends.{received_signals}
 use Rattle.rsx_runtime.proofs.Signals.{asking_goes_on, bad_answer, bad_request, error_orderly, given_error, given_same, good_answer, good_request}
@@ -13,7 +14,7 @@ returns-then-n-gt0-clause-given g c =
 pub invariant_of-self-in-Some : goal.invariant_of-self-in-Some
 invariant_of-self-in-Some g c =
     let was = c.args.self.now.«open» (asking_goes_on c.args.self.now.state (sym c.is_asking.ensures ∙ c.if-not-is_asking.false)) in
-    record { «open» = λ e. cc; orderly = error_orderly _ _ c.ask-answer.ensures.same.1 was.0 }
+    record { «open» = λ e. cc; orderly = error_orderly _ _ c.ask-answer.ensures.same.1 was.0; told = c.args.self.now.told ∙ ap (λ l. not (is_unended l)) (sym c.ask-answer.ensures.same.1) }
 
 pub returns-in-Some-clause-given : goal.returns-in-Some-clause-given
 returns-in-Some-clause-given g c =
