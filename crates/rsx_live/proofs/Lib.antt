@@ -1,0 +1,11 @@
+-- Lemmas.
+pub mod Again
+pub mod Back
+pub mod Closings
+pub mod Counts
+pub mod Graphs
+pub mod Opens
+pub mod Parts
+pub mod Ready
+pub mod Returns
+pub mod Sending

@@ -1,0 +1,39 @@
+use Rattle.std.proofs.Common.{refl}
+use Rattle.rsx_live.proofs.Counts.{as_many, is_number, more_than, one_more}
+use Rattle.rsx_live.proofs.cutting.try_cut.Goals as goal
+
+pub returns-in_default-clause-more : goal.returns-in_default-clause-more
+returns-in_default-clause-more g c = as_many _ _ refl
+
+pub returns-in_default-clause-count : goal.returns-in_default-clause-count
+returns-in_default-clause-count g c = refl
+
+pub returns-in_default-clause-from : goal.returns-in_default-clause-from
+returns-in_default-clause-from g c = λ m n whole most w. w
+
+pub cut-requires : goal.cut-requires
+cut-requires g c = c.requires
+
+pub returns-in-Ok-cut-clause-count : goal.returns-in-Ok-cut-clause-count
+returns-in-Ok-cut-clause-count g c = one_more c.args.trees.now.pieces.items c.cut.new.self.pieces.items c.args.above _ _ c.in-Ok-cut.ensures.cut.pieces
+
+pub returns-in-Ok-cut-clause-more : goal.returns-in-Ok-cut-clause-more
+returns-in-Ok-cut-clause-more g c = more_than _ _ (one_more c.args.trees.now.pieces.items c.cut.new.self.pieces.items c.args.above _ _ c.in-Ok-cut.ensures.cut.pieces)
+
+pub returns-in-Ok-cut-clause-from : goal.returns-in-Ok-cut-clause-from
+returns-in-Ok-cut-clause-from g c = λ m n whole most w. c.cut.ensures.from m n whole (is_number c.in-Ok.hub c.len.result n c.in-Ok.ensures most) w
+
+pub returns-in-Err-Whole-clause-count : goal.returns-in-Err-Whole-clause-count
+returns-in-Err-Whole-clause-count g c = c.in-Err-Whole.ensures.same.0.count
+
+pub returns-in-Err-Whole-clause-more : goal.returns-in-Err-Whole-clause-more
+returns-in-Err-Whole-clause-more g c = as_many _ _ c.in-Err-Whole.ensures.same.0.count
+
+pub returns-in-Err-Whole-clause-from : goal.returns-in-Err-Whole-clause-from
+returns-in-Err-Whole-clause-from g c = λ m n whole most w. c.cut.ensures.from m n whole (is_number c.in-Ok.hub c.len.result n c.in-Ok.ensures most) w
+
+pub returns-in-Err-NoMemory-clause-more : goal.returns-in-Err-NoMemory-clause-more
+returns-in-Err-NoMemory-clause-more g c = as_many _ _ c.in-Err-NoMemory.ensures.same.0.count
+
+pub returns-in-Err-NoMemory-clause-from : goal.returns-in-Err-NoMemory-clause-from
+returns-in-Err-NoMemory-clause-from g c = λ m n whole most w. c.cut.ensures.from m n whole (is_number c.in-Ok.hub c.len.result n c.in-Ok.ensures most) w

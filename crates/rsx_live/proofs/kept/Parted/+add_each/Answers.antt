@@ -1,0 +1,23 @@
+use Rattle.std.proofs.Common.{rules, length}
+use Rattle.std.specs.Vec.Iter.{into_iter_items, into_iter_len}
+use Rattle.rsx_live.proofs.Sending.{len_left, more_parted, none_parted, room_for_more, room_left_over, took_first, took_none}
+use Rattle.rsx_live.proofs.kept.Parted.+add_each.Goals as goal
+
+pub returns-in_default : goal.returns-in_default
+returns-in_default g t c = none_parted g.N.Machine (into_iter_items c.args.subs.now) c.args.self.now (took_none (into_iter_items c.args.subs.now) (into_iter_len c.args.subs.now) c.requires.len c.in_default.ensures.cases.0)
+
+pub add-requires : goal.add-requires
+add-requires g t c = room_left_over (into_iter_items c.args.subs.now) (into_iter_items c.next.new.self) c.in-Some.sub c.args.self.now (took_first _ _ c.next.result c.in-Some.sub c.next.ensures.items c.in-Some.is) c.requires.room
+
+pub add_each-requires : goal.add_each-requires
+add_each-requires g t c κs within =
+    let subs = into_iter_items c.args.subs.now in
+    let rest = into_iter_items c.next.new.self in
+    let first = took_first subs rest c.next.result c.in-Some.sub c.next.ensures.items c.in-Some.is in
+    (search rules, (search rules, (search rules, (c.add.ensures.room (length rest) (room_for_more subs rest c.in-Some.sub c.args.self.now first c.requires.room), len_left subs rest c.in-Some.sub _ _ first c.requires.len c.in-Some.ensures.cases.1))))
+
+pub returns : goal.returns
+returns g t c =
+    let subs = into_iter_items c.args.subs.now in
+    let rest = into_iter_items c.next.new.self in
+    more_parted g.N.Machine subs c.in-Some.sub rest c.args.self.now c.add.new.self c.add_each.new.self (took_first subs rest c.next.result c.in-Some.sub c.next.ensures.items c.in-Some.is) c.add.ensures.parted c.add_each.ensures
