@@ -5,6 +5,7 @@ use Rattle.rsx_demand.specs.declared.TheConstants.{UNBOUNDED}
 use Rattle.rsx_sources.specs.Prelude.{Complete, Error, Meaning, Next, Signal, Stream}
 use Rattle.rsx_sources.specs.declared.machine.Machine.{Ghosts as Machine}
 use Rattle.rsx_tree.specs.declared.edge.EdgeState.TheVariants.{Closed}
+use Rattle.rsx_rooted.proofs.Signals.{IsUnended-front, items_in-append}
 use Rattle.rsx_pipe.specs.Output.{IsOrderly, IsPrefixOf, IsUnended, items_in}
 use Rattle.rsx_pipe.specs.Part.{Part, PartStands, all_edges}
 use Rattle.rsx_link.specs.Ends.{asked_total, carried_down, carried_up, received_signals, seen_total, sent_signals}
@@ -28,7 +29,7 @@ use Rattle.rsx_subscriber.specs.declared.subscription.Subscription.{Subscription
 use Rattle.rsx_subscriber.proofs.Values.{notes_count}
 use Rattle.rsx_live.specs.Outgoing.{IsOutOf}
 use Rattle.rsx_live.specs.Returning.{IsBackOf, IsPutInto, lived, lived_state}
-use Rattle.rsx_live.proofs.Parts.{counted_items, items_both, orderly_both, part_again, unended_behind, unended_both}
+use Rattle.rsx_live.proofs.Parts.{counted_items, orderly_both, part_again, unended_behind, unended_both}
 
 -- ---- signals
 
@@ -53,12 +54,6 @@ is_orderly_so [] h = tt
 is_orderly_so (Next x ∷ ss) h = is_orderly_so ss h
 is_orderly_so (Complete ∷ ss) h = none_so ss h
 is_orderly_so (Error c ∷ ss) h = none_so ss h
-
-unended_front : {T : Type 0} (ss ts : List (Signal T)) → IsUnended (ss ++ ts) → IsUnended ss
-unended_front [] ts h = tt
-unended_front (Next x ∷ ss) ts h = unended_front ss ts h
-unended_front (Complete ∷ ss) ts h = absurd h
-unended_front (Error c ∷ ss) ts h = absurd h
 
 no_items : {T : Type 0} (error : Bool) → items_in (error_of {T = T} error) ≡ []
 no_items false = refl
@@ -179,15 +174,15 @@ module _ {M T : Type 0} (b : Machine M T) (m : Meaning T) (n number : ℕ) (was 
 
   items_now : items_in (past.received ++ given tap) ≡ items_in past.received ++ items_in received
   items_now =
-      items_both past.received (given tap)
-      ∙ ap (λ l. items_in past.received ++ l) (items_both received (error_of tap.error) ∙ (ap (λ l. items_in received ++ l) (no_items tap.error) ∙ append-nil (items_in received)))
+      items_in-append past.received (given tap)
+      ∙ ap (λ l. items_in past.received ++ l) (items_in-append received (error_of tap.error) ∙ (ap (λ l. items_in received ++ l) (no_items tap.error) ∙ append-nil (items_in received)))
 
   begun_now : IsPrefixOf (items_in (past.received ++ given tap)) (items_in output)
   begun_now = (
     items_in back.remaining,
     ap (λ l. l ++ items_in back.remaining) items_now
         ∙ (append_assoc (items_in past.received) (items_in received) (items_in back.remaining)
-        ∙ (ap (λ l. items_in past.received ++ l) (sym (items_both received back.remaining)) ∙ (sym (items_both past.received (received ++ back.remaining)) ∙ ap items_in all_out))),
+        ∙ (ap (λ l. items_in past.received ++ l) (sym (items_in-append received back.remaining)) ∙ (sym (items_in-append past.received (received ++ back.remaining)) ∙ ap items_in all_out))),
   )
 
   waits_now : standing_of sub ≡ Open → IsUnended (past.received ++ given tap)
@@ -198,7 +193,7 @@ module _ {M T : Type 0} (b : Machine M T) (m : Meaning T) (n number : ℕ) (was 
   got_now : standing_of sub ≡ Ended → IsUnended (past.received ++ given tap) → ⊥
   got_now is u =
       let k = ended_means tap.error unended stopped (sym stands_so ∙ is) in
-      is_ended_so received k (unended_front received (error_of tap.error) (unended_behind past.received (given tap) u))
+      is_ended_so received k (IsUnended-front received (error_of tap.error) (unended_behind past.received (given tap) u))
 
   asked_now : sub.part.root.demand.asked ≡ asked_total tap.down
   asked_now =
@@ -217,7 +212,7 @@ module _ {M T : Type 0} (b : Machine M T) (m : Meaning T) (n number : ℕ) (was 
       let flag : stopped ≡ true = elim shut.flag [ inl f ↦ back.cancel_seen f | inr f ↦ back.refusal_seen f ] in
       let over : unended ≡ false = stopped_means tap.error unended stopped (subst IsLive stands_so live) flag in
       let sent : IsUnended (received ++ back.remaining) = subst IsUnended (sym (back.signals ∙ stands_piece.sent)) (unended_both was.queue p_out unended_queue shut.unended) in
-      is_ended_so received over (unended_front received back.remaining sent)
+      is_ended_so received over (IsUnended-front received back.remaining sent)
 
   shape_now : length (all_edges sub.part) ≡ length (all_edges was.part)
   shape_now = back.shape ∙ (sym (notes_count b piece.part.tree) ∙ (stands_piece.flow.nodes ∙ notes_count b was.part.tree))

@@ -1,5 +1,6 @@
 -- Pieces that were made of the parts of subscriptions can be cut.
-use Rattle.std.proofs.Common.{◌≡◌, inl, inr, ℕ, zero, suc, List, [], ◌∷◌, ◌++◌, length, map, refl, ap, sym, ◌∙◌, subst, Some, slice_get}
+use Rattle.std.proofs.Common.{◌≡◌, inl, inr, ℕ, zero, suc, List, [], ◌∷◌, ◌++◌, length, map, refl, ap, sym, ◌∙◌, subst, append_assoc, Some, slice_get}
+use Rattle.rsx_types.proofs.Lists.{slice_get_behind}
 use Rattle.rsx_sources.specs.Prelude.{Meaning}
 use Rattle.rsx_sources.specs.declared.machine.Machine.{Ghosts as Machine}
 use Rattle.rsx_tree.specs.declared.edge.EdgeState.TheVariants.{Live}
@@ -59,15 +60,6 @@ ends_first {M} {T} b k s p l all out at =
 
 -- ---- all of them
 
--- what stands behind others
-pub behind : {X : Type 0} (pre xs : List X) (x : X) → slice_get (pre ++ x ∷ xs) (length pre) ≡ Some x
-behind [] xs x = refl
-behind (p ∷ pre) xs x = behind pre xs x
-
-moved : {X : Type 0} (pre xs : List X) (x : X) → (pre ++ x ∷ []) ++ xs ≡ pre ++ x ∷ xs
-moved [] xs x = refl
-moved (p ∷ pre) xs x = ap (λ l. p ∷ l) (moved pre xs x)
-
 one_longer : {X : Type 0} (pre : List X) (x : X) → length (pre ++ x ∷ []) ≡ suc (length pre)
 one_longer [] x = refl
 one_longer (p ∷ pre) x = ap suc (one_longer pre x)
@@ -96,8 +88,8 @@ module _ {M T : Type 0} (b : Machine M T) (m : Meaning T) (n : ℕ) where
     | inr h ↦ (
         let g = h.0 in
         let rest : AreFirst ((pre ++ g.link ∷ []) ++ g.links) g.pieces = are_first subs (pre ++ g.link ∷ []) (suc k) g.others g.pieces g.links g.taps (one_longer pre g.link ∙ ap suc len) h.1 in
-        let all : (pre ++ g.link ∷ []) ++ g.links ≡ pre ++ ls = moved pre g.links g.link ∙ ap (λ l. pre ++ l) (sym g.link_first) in
-        let there : slice_get (pre ++ ls) k ≡ Some g.link = ap (λ l. slice_get (pre ++ l) k) g.link_first ∙ (ap (slice_get (pre ++ g.link ∷ g.links)) (sym len) ∙ behind pre g.links g.link) in
+        let all : (pre ++ g.link ∷ []) ++ g.links ≡ pre ++ ls = append_assoc pre (g.link ∷ []) g.links ∙ ap (λ l. pre ++ l) (sym g.link_first) in
+        let there : slice_get (pre ++ ls) k ≡ Some g.link = ap (λ l. slice_get (pre ++ l) k) g.link_first ∙ (ap (slice_get (pre ++ g.link ∷ g.links)) (sym len) ∙ slice_get_behind pre g.link g.links) in
         let E : List (Link T) → Type 0 = λ l. ArePiecesOf l g.pieces in
         let P : List (Piece M T) → Type 0 = λ l. AreFirst (pre ++ ls) l in
         subst P (sym g.piece_first) (record {

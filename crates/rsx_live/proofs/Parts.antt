@@ -9,6 +9,7 @@ use Rattle.rsx_tree.specs.declared.inputs.Inputs.{Inputs, End, More'}
 use Rattle.rsx_tree.specs.declared.node.Node.{Node}
 use Rattle.rsx_tree.specs.Reads.{IsReadAt, IsRowReadAt, IsTreeReadAt, readings, row_readings}
 use Rattle.rsx_tree.specs.Tree.{comes_out, notes}
+use Rattle.rsx_rooted.proofs.Signals.{IsOrderly-more, items_in-append}
 use Rattle.rsx_pipe.specs.Output.{IsOrderly, IsUnended, counts_in, items_in, values_then}
 use Rattle.rsx_pipe.specs.Part.{Part, PartStands, evaluated}
 use Rattle.rsx_pipe.specs.Tree.{IsBalanced}
@@ -55,12 +56,6 @@ ends_list (Next y ∷ ss) s e h = ends_list ss s e h
 ends_list (Complete ∷ ss) s e h = h
 ends_list (Error c ∷ ss) s e h = h
 
-pub items_both : {T : Type 0} (ss ts : List (Signal T)) → items_in (ss ++ ts) ≡ items_in ss ++ items_in ts
-items_both [] ts = refl
-items_both (Next x ∷ ss) ts = ap (λ l. x ∷ l) (items_both ss ts)
-items_both (Complete ∷ ss) ts = items_both ss ts
-items_both (Error c ∷ ss) ts = items_both ss ts
-
 -- a link counts the items that are in the list
 one_more : (n : ℕ) → suc n ≡ 1 + n
 one_more n = omega arith
@@ -76,7 +71,7 @@ counted_items (Error c ∷ ss) = none_more (counted_in ss) ∙ counted_items ss
 
 pub counted_both : {T : Type 0} (ss ts : List (Signal T)) → counted_in (ss ++ ts) ≡ counted_in ss + counted_in ts
 counted_both ss ts =
-    counted_items (ss ++ ts) ∙ (ap length (items_both ss ts) ∙ (length-append (items_in ss) (items_in ts)
+    counted_items (ss ++ ts) ∙ (ap length (items_in-append ss ts) ∙ (length-append (items_in ss) (items_in ts)
     ∙ (ap (λ k. k + length (items_in ts)) (sym (counted_items ss)) ∙ ap (λ k. counted_in ss + k) (sym (counted_items ts)))))
 
 -- ---- values of hubs from which nothing came
@@ -148,20 +143,12 @@ module _ {M T : Type 0} (b : Machine M T) (m : Meaning T) (published : List (Str
   orderly_out : (s : EdgeState) → part.root.state ≡ s → IsOrderly p.out
   orderly_out Live is = unended_orderly p.out (p.live is).unended
   orderly_out Closed is = unended_orderly p.out (p.closed is).unended
-  orderly_out Ended is =
-      let h = p.ended is in
-      let last : IsOrderly (h.last ∷ []) = last_orderly h.last in
-      subst IsOrderly (sym h.all) (orderly_both h.rest (h.last ∷ []) h.on.unended last)
-    where
-      last_orderly : (s : Signal T) → IsOrderly (s ∷ [])
-      last_orderly (Next x) = tt
-      last_orderly Complete = refl
-      last_orderly (Error c) = refl
+  orderly_out Ended is = let h = p.ended is in subst IsOrderly (sym h.all) (IsOrderly-more h.rest h.last h.on.unended)
 
   -- all items that went over the root edge are counted
   sent_all : length (items_in (output ++ p.out)) ≡ part.root.demand.sent
   sent_all =
-      ap length (items_both output p.out) ∙ (length-append (items_in output) (items_in p.out)
+      ap length (items_in-append output p.out) ∙ (length-append (items_in output) (items_in p.out)
       ∙ (ap (λ k. k + length (items_in p.out)) old.counted ∙ (ap (λ k. was.root.demand.sent + k) (sym (counted_items p.out))
       ∙ (ap (λ k. k + counted_in p.out) (sym counts) ∙ (plus (carried_up up) (counted_in queued) (counted_in p.out)
       ∙ (ap (λ k. carried_up up + k) (sym (counted_both queued p.out)) ∙ (ap (λ ss. carried_up up + counted_in ss) (sym p.sent) ∙ sym p.step.sent)))))))

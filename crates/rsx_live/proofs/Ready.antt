@@ -1,5 +1,5 @@
 -- Pieces that went on can come back, with the taps of their links.
-use Rattle.std.proofs.Common.{◌≡◌, inl, inr, ℕ, zero, suc, ◌+◌, List, [], ◌∷◌, ◌++◌, length, refl, ap, sym, ◌∙◌, subst, arith, Some, slice_get}
+use Rattle.std.proofs.Common.{◌≡◌, inl, inr, ℕ, suc, ◌+◌, List, [], ◌∷◌, length, refl, ap, sym, ◌∙◌, subst, arith, Some, slice_get}
 use Rattle.std.specs.List.{AllZip}
 use Rattle.rsx_sources.specs.Prelude.{Meaning}
 use Rattle.rsx_sources.specs.declared.machine.Machine.{Ghosts as Machine}
@@ -11,6 +11,7 @@ use Rattle.rsx_region.specs.Pieces.{IsPieceOf, StandsSince}
 use Rattle.rsx_region.specs.Regions.{ArePiecesOf}
 use Rattle.rsx_region.specs.Trees.{EdgeName, IsCutThere, Stage}
 use Rattle.rsx_region.specs.declared.piece.Piece.{Piece}
+use Rattle.rsx_region.proofs.Between.{front_there}
 use Rattle.rsx_runtime.specs.Tapping.{IsTapOf}
 use Rattle.rsx_runtime.specs.declared.tap.Tap.{Tap}
 use Rattle.rsx_subscriber.specs.declared.subscription.Subscription.{Subscription}
@@ -39,11 +40,6 @@ tail_ahead {X} all k x xs zs e h j y at =
 pub all_ahead : {X : Type 0} (xs : List X) → Ahead xs 0 xs
 all_ahead xs j x at = let same : 0 + j ≡ j = omega arith in ap (slice_get xs) same ∙ at
 
-more_there : {X : Type 0} (xs : List X) (y : X) (j : ℕ) (x : X) → slice_get xs j ≡ Some x → slice_get (xs ++ y ∷ []) j ≡ Some x
-more_there [] y j x at = cc
-more_there (w ∷ xs) y zero x at = at
-more_there (w ∷ xs) y (suc j) x at = more_there xs y j x at
-
 one_there : {X : Type 0} (xs : List X) (i : ℕ) (x y : X) → slice_get xs i ≡ Some x → slice_get xs i ≡ Some y → x ≡ y
 one_there xs i x y p q = let e : Some x ≡ Some y = sym p ∙ q in cc
 
@@ -63,7 +59,7 @@ module _ {M T : Type 0} (b : Machine M T) (crossing : CrossingNodes M T) (m : Me
   links_ahead whole (name ∷ names) opening run j l at =
       let cut = run.1 in
       let before : slice_get cut.before.links j ≡ Some l = ap (λ ls. slice_get ls j) cut.same.links ∙ at in
-      let after : slice_get run.0.links j ≡ Some l = ap (λ ls. slice_get ls j) cut.cut.links ∙ more_there cut.before.links cut.cut.link j l before in
+      let after : slice_get run.0.links j ≡ Some l = ap (λ ls. slice_get ls j) cut.cut.links ∙ front_there cut.before.links cut.cut.link j l before in
       links_ahead run.0 names opening run.2 j l after
 
 -- ---- all of them

@@ -56,10 +56,6 @@ put_nothing {M} {T} b m old new h published e joins output stands =
 pub took_first : {X : Type 0} (old new : List X) (o : Option X) (x : X) → old ≡ option_to_list o ++ new → o ≡ Some x → old ≡ x ∷ new
 took_first {X} old new o x all is = all ∙ ap (λ (z : Option X). option_to_list z ++ new) is
 
-pub took_none : {X : Type 0} (xs : List X) (len : ℕ) → len ≡ length xs → len ≡ 0 → xs ≡ []
-took_none [] len e z = refl
-took_none (x ∷ xs) len e z = absurd (omega (arith, e, z))
-
 pub len_left : {X : Type 0} (all rest : List X) (x : X) (len len' : ℕ) → all ≡ x ∷ rest → len ≡ length all → len' + 1 ≡ len → len' ≡ length rest
 len_left all rest x len len' e size one =
     let k : length all ≡ suc (length rest) = ap length e in

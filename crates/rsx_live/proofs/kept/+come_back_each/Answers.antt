@@ -1,12 +1,13 @@
 use Rattle.std.proofs.Common.{rules, length, ◌∷◌, ◌++◌, [], sym, ap, ◌∙◌, append_assoc, append-nil}
 use Rattle.std.specs.Vec.Iter.{into_iter_items, into_iter_len}
 use Rattle.rsx_live.proofs.Returns.{can_first, can_others, more_back, none_back}
-use Rattle.rsx_live.proofs.Sending.{len_left, room_for_rest, took_first, took_none}
+use Rattle.rsx_region.proofs.Stages.{none_counted}
+use Rattle.rsx_live.proofs.Sending.{len_left, room_for_rest, took_first}
 use Rattle.rsx_live.proofs.kept.+come_back_each.Goals as goal
 
 pub returns-in_default : goal.returns-in_default
 returns-in_default g t c =
-    let none = took_none (into_iter_items c.args.kept.now) (into_iter_len c.args.kept.now) c.requires.len c.in_default.ensures.cases.0 in
+    let none = none_counted (into_iter_items c.args.kept.now) (into_iter_len c.args.kept.now) c.requires.len c.in_default.ensures.cases.0 in
     ([], none_back g.N.Machine (into_iter_items c.args.kept.now) (into_iter_items c.args.pieces.now) (into_iter_items c.args.links.now) (into_iter_items c.args.taps.now) none c.requires.can, sym (append-nil c.args.subs.now.items))
 
 pub come_back_one-sub-requires : goal.come_back_one-sub-requires

@@ -1,10 +1,11 @@
 use Rattle.std.proofs.Common.{rules, length}
 use Rattle.std.specs.Vec.Iter.{into_iter_items, into_iter_len}
-use Rattle.rsx_live.proofs.Sending.{len_left, more_parted, none_parted, room_for_more, room_left_over, took_first, took_none}
+use Rattle.rsx_region.proofs.Stages.{none_counted}
+use Rattle.rsx_live.proofs.Sending.{len_left, more_parted, none_parted, room_for_more, room_left_over, took_first}
 use Rattle.rsx_live.proofs.kept.Parted.+add_each.Goals as goal
 
 pub returns-in_default : goal.returns-in_default
-returns-in_default g t c = none_parted g.N.Machine (into_iter_items c.args.subs.now) c.args.self.now (took_none (into_iter_items c.args.subs.now) (into_iter_len c.args.subs.now) c.requires.len c.in_default.ensures.cases.0)
+returns-in_default g t c = none_parted g.N.Machine (into_iter_items c.args.subs.now) c.args.self.now (none_counted (into_iter_items c.args.subs.now) (into_iter_len c.args.subs.now) c.requires.len c.in_default.ensures.cases.0)
 
 pub add-requires : goal.add-requires
 add-requires g t c = room_left_over (into_iter_items c.args.subs.now) (into_iter_items c.next.new.self) c.in-Some.sub c.args.self.now (took_first _ _ c.next.result c.in-Some.sub c.next.ensures.items c.in-Some.is) c.requires.room
