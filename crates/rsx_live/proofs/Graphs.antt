@@ -20,15 +20,16 @@ use Rattle.rsx_graph.specs.declared.pieces.Pieces.{Pieces}
 use Rattle.rsx_model.specs.Region.{region_of}
 use Rattle.rsx_subscriber.specs.Past.{Past}
 use Rattle.rsx_subscriber.specs.declared.subscription.Subscription.{Subscription}
-use Rattle.rsx_live.specs.Graphs.{IsTogether, lived_history}
+use Rattle.rsx_live.specs.Graphs.{IsLiveGraphOf, IsTogether, any_crossing, lived_history}
 use Rattle.rsx_live.specs.Kept.{all_lived}
-use Rattle.rsx_live.specs.Lives.{StandAs}
+use Rattle.rsx_live.specs.Lives.{IsLiveFor, StandAs}
 use Rattle.rsx_live.specs.Returning.{lived}
 use Rattle.rsx_live.specs.Workers.{HaveRegions}
 use Rattle.rsx_graph_calls.specs.declared.regions.Regions.{Regions}
 use Rattle.rsx_region.specs.Pieces.{Each}
 use Rattle.std.proofs.lemmas.Bool.Decides.{nat_tests}
 use Rattle.rsx_live.specs.declared.graph.GraphRest.{GraphRest}
+use Rattle.rsx_live.specs.declared.graph.LiveGraph.{LiveGraph}
 use Rattle.rsx_live.specs.declared.kept.Kept.{Kept}
 use Rattle.rsx_live.specs.declared.kept.Kept.TheVariants.{Away, Here}
 
@@ -116,6 +117,14 @@ module _ {O T : Type 0} {b : Ops O T} where
     joins = sym (joins ∙ are.joins);
     regions = sym (regions ∙ are.regions);
   }
+
+  pub gone_live : (graph : Graph O T b) (p : Pieces O T b) (live : LiveGraph O T b) → IsTogether p.ops p.subs.items live.rest graph → live.subs.live.ops ≡ p.ops → IsLiveFor any_machine any_crossing b.meaning p.subs.items live.subs → IsLiveGraphOf graph live
+  gone_live graph p live w ops is =
+      let P : List (Subscription (TreeNode T) T) → Type 0 = λ l. IsLiveFor any_machine any_crossing b.meaning l live.subs in
+      record {
+        subs = subst P (sym w.subscriptions) is;
+        rest = record { functions = w.functions ∙ sym ops; subscriptions = refl; hubs = w.hubs; feeds = w.feeds; feed_joins = w.feed_joins; joins = w.joins; regions = w.regions };
+      }
 
   pub other_functions : (ops o : O) (now : List (Subscription (TreeNode T) T)) (rest : GraphRest O T b) (g : Graph O T b) → o ≡ ops → IsTogether o now rest g → IsTogether ops now rest g
   other_functions ops o now rest g same is = subst (λ (f : O). IsTogether f now rest g) same is

@@ -9,3 +9,4 @@ pub mod Parts
 pub mod Ready
 pub mod Returns
 pub mod Sending
+pub mod Starts

@@ -5,4 +5,5 @@ pub mod Kept
 pub mod Lives
 pub mod Outgoing
 pub mod Returning
+pub mod Starts
 pub mod Workers

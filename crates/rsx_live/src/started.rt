@@ -1,0 +1,182 @@
+//! One thread drives a live graph.
+
+ghost use Rattle.std.specs.Prelude.{◌≡◌, ◌<◌, ◌≤◌, length, IfNone, IfSome};
+ghost use Rattle.std.specs.List.{AllZip};
+ghost use Rattle.rsx_gate.specs.Machine.{all_parts};
+ghost use Rattle.rsx_gate.specs.Seats.{IsSeatOf};
+ghost use Rattle.rsx_region.specs.Pieces.{IsAt};
+ghost use Rattle.rsx_runtime.specs.Poking.{IsAmong, Went};
+ghost use Rattle.rsx_runtime.specs.Tapping.{IsTapOf, KeepsTap};
+ghost use Rattle.rsx_live.specs.Starts.{ChangesAt, HasNoTap, TapCancels, TapRequests, Takes};
+
+use crate::graph::StartedGraph;
+use rsx_graph::Graph;
+use rsx_pipe::Nodes;
+use rsx_region::NotJoined;
+use rsx_runtime::{Live, Poked, RegionSeat, Tap};
+use rsx_types::{Ops, Signal, SubId};
+use std::alloc::Global;
+
+/// One thread may drive the graph by these calls alone. None of them waits, and but for [`StartedGraph::poke`] none takes memory.
+impl<O: Ops> StartedGraph<O> {
+    ghost use Rattle.std.specs.Prelude.{◌≡◌, ◌<◌, ◌≤◌, ◌⊎◌, length, IfNone, IfOk, IfSome, None};
+    ghost use Rattle.rsx_runtime.specs.Poking.{Went};
+    ghost use Rattle.rsx_live.specs.Graphs.{GraphBack};
+    ghost use Rattle.rsx_live.specs.Starts.{ChangesAt, HasNoTap, IsStarted, StaysStarted, TapCancels, TapChanges, TapRequests, Takes};
+
+    /// How many regions there are.
+    pub fn regions(&self) -> u8
+        requires { IsStarted self.now }
+        ensures { result ≡ length self.now.seats.items }
+    {
+        self.seats.len() as u8
+    }
+
+    /// How many subscriptions have a tap.
+    pub fn tapped(&self) -> usize
+        ensures { result ≡ length self.now.taps.items }
+    {
+        self.taps.len()
+    }
+
+    /// Works on the region with this number, as [`Live::poke`] does, by its seat. Where there is no such region it does nothing, and
+    /// there is no answer.
+    pub fn poke(&mut self, alloc: Global, region: u8, budget: u32) -> Option<Poked>
+        requires { IsStarted self.old }
+        ensures started { StaysStarted self.old self.new }
+        ensures same { (self.new.live ≡ self.old.live) × (self.new.taps ≡ self.old.taps) }
+        ensures some { IfSome result (λ p. ChangesAt region self.old.seats.items self.new.seats.items (λ was now. Went p was.me.0.steps now.me.0.steps)) }
+        ensures none { IfNone result ((length self.old.seats.items ≤ region) × (self.new ≡ self.old)) }
+    {
+        let place = usize::from(region);
+        if place >= self.seats.len() {
+            return None;
+        }
+        Some(poke_at(alloc, self.live.live(), &mut self.seats, region, budget))
+    }
+
+    /// Takes the next signal that was delivered to this subscription, if one waits, as [`Tap::take`] does. A subscription that has no tap
+    /// gets nothing before the close.
+    pub fn take(&mut self, sub: SubId) -> Option<Signal<O::Item>>
+        requires { IsStarted self.old }
+        ensures started { StaysStarted self.old self.new }
+        ensures same { (self.new.live ≡ self.old.live) × (self.new.seats ≡ self.old.seats) }
+        ensures took { HasNoTap sub self.old.taps.items ⊎ TapChanges sub self.old.taps.items self.new.taps.items (Takes result) }
+        ensures none { HasNoTap sub self.old.taps.items → (result ≡ None) × (self.new ≡ self.old) }
+    {
+        let Some(place) = place_of(&self.taps, sub) else {
+            return None;
+        };
+        take_at(self.live.live(), &mut self.taps, place)
+    }
+
+    /// Requests so many items more for this subscription, as [`Tap::request`] does: a request of 0 or less is answered by its error. Where
+    /// it has no tap, nothing happens.
+    pub fn request(&mut self, sub: SubId, n: i64) -> Option<Signal<O::Item>>
+        requires { IsStarted self.old }
+        ensures started { StaysStarted self.old self.new }
+        ensures same { (self.new.live ≡ self.old.live) × (self.new.seats ≡ self.old.seats) }
+        ensures requested { HasNoTap sub self.old.taps.items ⊎ TapChanges sub self.old.taps.items self.new.taps.items (TapRequests n result) }
+        ensures none { HasNoTap sub self.old.taps.items → (result ≡ None) × (self.new ≡ self.old) }
+    {
+        let Some(place) = place_of(&self.taps, sub) else {
+            return None;
+        };
+        request_at(self.live.live(), &mut self.taps, place, n)
+    }
+
+    /// Cancels this subscription, as [`Tap::cancel`] does. Where it has no tap, nothing happens.
+    pub fn cancel(&mut self, sub: SubId)
+        requires { IsStarted self.old }
+        ensures started { StaysStarted self.old self.new }
+        ensures same { (self.new.live ≡ self.old.live) × (self.new.seats ≡ self.old.seats) }
+        ensures cancelled { HasNoTap sub self.old.taps.items ⊎ TapChanges sub self.old.taps.items self.new.taps.items TapCancels }
+        ensures none { HasNoTap sub self.old.taps.items → self.new ≡ self.old }
+    {
+        let Some(place) = place_of(&self.taps, sub) else {
+            return;
+        };
+        cancel_at(self.live.live(), &mut self.taps, place);
+    }
+
+    /// Ends the regions, and makes a graph again, as [`LiveGraph::close`](crate::LiveGraph::close) does.
+    ///
+    /// # Errors
+    /// Where pieces can't be joined, which is not proved never to come, and no test met it. Nothing comes back then.
+    pub fn close(self) -> Result<Graph<O>, NotJoined>
+        requires { IsStarted self }
+        ensures { IfOk result (GraphBack self.live self.taps.items) }
+    {
+        let StartedGraph { live, taps, seats } = self;
+        live.close(taps, seats)
+    }
+}
+
+/// The place of a tap of this subscription.
+fn place_of<T: Drop>(taps: &[Tap<T>], sub: SubId) -> Option<usize>
+    ensures some { IfSome result (λ place. IsAmong taps.now place (λ t. t.sub ≡ sub)) }
+    ensures none { IfNone result (HasNoTap sub taps.now) }
+{
+    for (place, tap) in taps.iter().enumerate() {
+        if tap.sub() == sub {
+            return Some(place);
+        }
+    }
+    None
+}
+
+/// Works on the region with this number by its seat.
+fn poke_at<N: Nodes<Item = T>, T: Drop, O: Ops<Item = T>>(
+    alloc: Global,
+    live: &Live<N, T, O>,
+    seats: &mut Vec<RegionSeat<N, T, O>>,
+    region: u8,
+    budget: u32,
+) -> Poked
+    requires seats { AllZip (λ g s. IsSeatOf g s × (all_parts ≤ s.me.0.parts)) live.now.gates.items seats.old.items }
+    requires there { region < length seats.old.items }
+    ensures seats { AllZip (λ g s. IsSeatOf g s × (all_parts ≤ s.me.0.parts)) live.now.gates.items seats.new.items }
+    ensures went { ChangesAt region seats.old.items seats.new.items (λ was now. Went result was.me.0.steps now.me.0.steps) }
+{
+    live.poke(alloc, region, &mut seats[usize::from(region)], budget)
+}
+
+/// Takes the next signal by the tap at this place.
+fn take_at<N: Nodes<Item = T>, T: Drop, O: Ops<Item = T>>(
+    live: &Live<N, T, O>,
+    taps: &mut Vec<Tap<T>>,
+    place: usize,
+) -> Option<Signal<T>>
+    requires { IsAmong taps.old.items place (λ t. IsAt live.now.links.items t.link (λ l. IsTapOf l t)) }
+    ensures { ChangesAt place taps.old.items taps.new.items (λ was now. IsAt live.now.links.items was.link (λ l. KeepsTap l was now) × Takes result was now) }
+{
+    let tap = &mut taps[place];
+    tap.take(live)
+}
+
+/// Requests so many items more by the tap at this place.
+fn request_at<N: Nodes<Item = T>, T: Drop, O: Ops<Item = T>>(
+    live: &Live<N, T, O>,
+    taps: &mut Vec<Tap<T>>,
+    place: usize,
+    n: i64,
+) -> Option<Signal<T>>
+    requires { IsAmong taps.old.items place (λ t. IsAt live.now.links.items t.link (λ l. IsTapOf l t)) }
+    ensures { ChangesAt place taps.old.items taps.new.items (λ was now. IsAt live.now.links.items was.link (λ l. KeepsTap l was now) × TapRequests n result was now) }
+{
+    let tap = &mut taps[place];
+    tap.request(live, n)
+}
+
+/// Cancels by the tap at this place.
+fn cancel_at<N: Nodes<Item = T>, T: Drop, O: Ops<Item = T>>(
+    live: &Live<N, T, O>,
+    taps: &mut Vec<Tap<T>>,
+    place: usize,
+)
+    requires { IsAmong taps.old.items place (λ t. IsAt live.now.links.items t.link (λ l. IsTapOf l t)) }
+    ensures { ChangesAt place taps.old.items taps.new.items (λ was now. IsAt live.now.links.items was.link (λ l. KeepsTap l was now) × TapCancels was now) }
+{
+    let tap = &mut taps[place];
+    tap.cancel(live);
+}
