@@ -70,7 +70,7 @@ pub enum NotStarted<O: Ops> {
 }
 
 impl<O: Ops> LiveGraph<O> {
-    ghost use Rattle.rsx_live.specs.Graphs.{ComesBack, GraphBack, IsLiveGraph, IsLiveGraphOf};
+    ghost use Rattle.rsx_live.specs.Graphs.{ComesBack, GraphBack, IsLiveGraph};
     ghost use Rattle.rsx_live.specs.Starts.{IsStartedOf};
     ghost use Rattle.rsx_live.specs.Workers.{HaveRegions};
 
@@ -85,11 +85,9 @@ impl<O: Ops> LiveGraph<O> {
         graph: Graph<O>,
         workers: u8,
     ) -> Result<StartedGraph<O>, NotStarted<O>>
-        ensures live { IfOk result (λ s. IsLiveGraphOf graph s.live) }
-        ensures taps { IfOk result (λ s. AreTapsFrom s.live.subs.live.links.items 0 s.live.subs.kept.items s.taps.items) }
-        ensures seats { IfOk result (λ s. AllZip (λ g x. IsSeatOf g x × (all_parts ≤ x.me.0.parts)) s.live.subs.live.gates.items s.seats.items × (length s.live.subs.live.gates.items ≡ workers)) }
-        ensures workers { IfOk result (λ s. HaveRegions workers graph.regions) }
         ensures started { IfOk result (IsStartedOf graph) }
+        ensures gates { IfOk result (λ s. length s.live.subs.live.gates.items ≡ workers) }
+        ensures workers { IfOk result (λ s. HaveRegions workers graph.regions) }
         ensures err { IfErr result (ComesBack workers graph) }
     {
         let pieces = graph.take_apart();
