@@ -43,7 +43,8 @@ impl<O: Ops> StartedGraph<O> {
     /// there is no answer.
     pub fn poke(&mut self, alloc: Global, region: u8, budget: u32) -> Option<Poked>
         requires { IsStarted self.old }
-        ensures started { StaysStarted self.old self.new }
+        ensures started { IsStarted self.new }
+        ensures stays { StaysStarted self.old self.new }
         ensures same { (self.new.live ≡ self.old.live) × (self.new.taps ≡ self.old.taps) }
         ensures some { IfSome result (λ p. ChangesAt region self.old.seats.items self.new.seats.items (λ was now. Went p was.me.0.steps now.me.0.steps)) }
         ensures none { IfNone result ((length self.old.seats.items ≤ region) × (self.new ≡ self.old)) }
@@ -59,7 +60,8 @@ impl<O: Ops> StartedGraph<O> {
     /// gets nothing before the close.
     pub fn take(&mut self, sub: SubId) -> Option<Signal<O::Item>>
         requires { IsStarted self.old }
-        ensures started { StaysStarted self.old self.new }
+        ensures started { IsStarted self.new }
+        ensures stays { StaysStarted self.old self.new }
         ensures same { (self.new.live ≡ self.old.live) × (self.new.seats ≡ self.old.seats) }
         ensures took { HasNoTap sub self.old.taps.items ⊎ TapChanges sub self.old.taps.items self.new.taps.items (Takes result) }
         ensures none { HasNoTap sub self.old.taps.items → (result ≡ None) × (self.new ≡ self.old) }
@@ -74,7 +76,8 @@ impl<O: Ops> StartedGraph<O> {
     /// it has no tap, nothing happens.
     pub fn request(&mut self, sub: SubId, n: i64) -> Option<Signal<O::Item>>
         requires { IsStarted self.old }
-        ensures started { StaysStarted self.old self.new }
+        ensures started { IsStarted self.new }
+        ensures stays { StaysStarted self.old self.new }
         ensures same { (self.new.live ≡ self.old.live) × (self.new.seats ≡ self.old.seats) }
         ensures requested { HasNoTap sub self.old.taps.items ⊎ TapChanges sub self.old.taps.items self.new.taps.items (TapRequests n result) }
         ensures none { HasNoTap sub self.old.taps.items → (result ≡ None) × (self.new ≡ self.old) }
@@ -88,7 +91,8 @@ impl<O: Ops> StartedGraph<O> {
     /// Cancels this subscription, as [`Tap::cancel`] does. Where it has no tap, nothing happens.
     pub fn cancel(&mut self, sub: SubId)
         requires { IsStarted self.old }
-        ensures started { StaysStarted self.old self.new }
+        ensures started { IsStarted self.new }
+        ensures stays { StaysStarted self.old self.new }
         ensures same { (self.new.live ≡ self.old.live) × (self.new.seats ≡ self.old.seats) }
         ensures cancelled { HasNoTap sub self.old.taps.items ⊎ TapChanges sub self.old.taps.items self.new.taps.items TapCancels }
         ensures none { HasNoTap sub self.old.taps.items → self.new ≡ self.old }

@@ -18,7 +18,8 @@ returns g c =
     let named = named_in c.args.sub c.deref.result.now s.taps.items place c.deref.ensures.value c.in-Some.ensures.some in
     let ch = changes_in c.live.result.now s.live.subs.live c.live.ensures place s.taps.items (TapCancels) new c.cancel_at.ensures in
     record {
-      started = λ graph is. taps_started graph s _ refl is place (TapCancels) is.seats is.few ch;
+      started = record { graph = c.requires.graph; is = taps_started c.requires.graph s _ refl c.requires.is place (TapCancels) c.requires.is.seats c.requires.is.few ch };
+      stays = λ graph is. taps_started graph s _ refl is place (TapCancels) is.seats is.few ch;
       same = (refl, refl);
       cancelled = inr (tap_changed c.args.sub s.taps.items new place (TapCancels) _ named ch);
       none = λ no. absurd (has_tap c.args.sub s.taps.items place named no);

@@ -18,7 +18,8 @@ returns g c =
     let named = named_in c.args.sub c.deref.result.now s.taps.items place c.deref.ensures.value c.in-Some.ensures.some in
     let ch = changes_in c.live.result.now s.live.subs.live c.live.ensures place s.taps.items _ new c.request_at.ensures in
     record {
-      started = λ graph is. taps_started graph s _ refl is place _ is.seats is.few ch;
+      started = record { graph = c.requires.graph; is = taps_started c.requires.graph s _ refl c.requires.is place _ c.requires.is.seats c.requires.is.few ch };
+      stays = λ graph is. taps_started graph s _ refl is place _ is.seats is.few ch;
       same = (refl, refl);
       requested = inr (requests_changed _ c.args.n c.request_at.result c.args.sub s.taps.items new (to_z-of_z w64 c.args.n c.ranges.n) (tap_changed c.args.sub s.taps.items new place _ _ named ch));
       none = λ no. absurd (has_tap c.args.sub s.taps.items place named no);

@@ -18,7 +18,8 @@ returns g c =
     let named = named_in c.args.sub c.deref.result.now s.taps.items place c.deref.ensures.value c.in-Some.ensures.some in
     let ch = changes_in c.live.result.now s.live.subs.live c.live.ensures place s.taps.items (Takes c.take_at.result) new c.take_at.ensures in
     record {
-      started = λ graph is. taps_started graph s _ refl is place (Takes c.take_at.result) is.seats is.few ch;
+      started = record { graph = c.requires.graph; is = taps_started c.requires.graph s _ refl c.requires.is place (Takes c.take_at.result) c.requires.is.seats c.requires.is.few ch };
+      stays = λ graph is. taps_started graph s _ refl is place (Takes c.take_at.result) is.seats is.few ch;
       same = (refl, refl);
       took = inr (tap_changed c.args.sub s.taps.items new place (Takes c.take_at.result) _ named ch);
       none = λ no. absurd (has_tap c.args.sub s.taps.items place named no);

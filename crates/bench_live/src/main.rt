@@ -1,0 +1,152 @@
+//! Times a graph that is live beside one that is not, on one thread.
+//!
+//! `bench_live WAY COUNT` sends the numbers from 1 to COUNT, items of the demonstration, through a `publishOn` with a prefetch of 64, which
+//! is in another region. WAY is `queue` (the graph is pumped, and the edge between the regions has its queue) or `link` (the graph goes
+//! live, and its two regions are poked in turns, each with a large budget).
+//!
+//! It prints how many items came and their sum, and no time, so that its output is the same in every run: `bench/live.sh` counts its
+//! instructions.
+#![tactic(auto)]
+
+ghost use Rattle.rsx_live.specs.Starts.{IsStarted};
+
+use anyhow::{Result, bail};
+use rsx_demo::{Demo, Val};
+use rsx_graph::{Deliveries, Graph, Pumped};
+use rsx_live::{LiveGraph, StartedGraph};
+use rsx_script::parse_expression;
+use rsx_types::{Signal, SubId};
+use std::alloc::Global;
+use std::env;
+
+/// The budget of a pump, and of a poke.
+const BUDGET: u32 = 65_536;
+
+/// More items than any run has.
+const ALL: i64 = 1_000_000_000;
+
+/// What came.
+#[derive(Clone, Copy, Debug)]
+struct Sum {
+    items: u64,
+    sum: i64,
+    ended: bool,
+}
+
+impl Sum {
+    /// Takes in what was delivered.
+    fn add_all(&mut self, deliveries: &Deliveries<Val>) {
+        for (_, signal) in deliveries.as_slice() {
+            self.add(signal);
+        }
+    }
+
+    /// Takes in a signal.
+    fn add(&mut self, signal: &Signal<Val>) {
+        match signal {
+            Signal::Next(Val::Int(n)) => {
+                self.items = self.items.wrapping_add(1);
+                self.sum = self.sum.wrapping_add(*n);
+            }
+            Signal::Next(Val::List(_)) => {}
+            Signal::Complete | Signal::Error(_) => self.ended = true,
+        }
+    }
+}
+
+/// A graph with a subscription that has asked for all.
+fn subscribed(alloc: Global, count: u64) -> Result<(Graph<Demo>, SubId)> {
+    let text = format!(in alloc; "(publishOn 1 64 (range 1 {count}))")?;
+    let Ok(expr) = parse_expression(alloc, text.as_bytes()) else {
+        bail!("it is no expression")
+    };
+    let Ok(mut graph) = Graph::new(alloc, Demo) else {
+        bail!("refused")
+    };
+    let Ok(sub) = graph.subscribe(alloc, &expr) else {
+        bail!("refused")
+    };
+    let _ = graph.request(sub, ALL);
+    Ok((graph, sub))
+}
+
+/// What comes where the graph is pumped.
+fn pumped(alloc: Global, count: u64) -> Result<Sum> {
+    let (mut graph, _) = subscribed(alloc, count)?;
+    let mut out = Deliveries::new(alloc);
+    let mut sum = Sum {
+        items: 0,
+        sum: 0,
+        ended: false,
+    };
+    for _ in 0..u64::MAX {
+        let pumped = graph.pump(alloc, BUDGET, &mut out);
+        sum.add_all(&out);
+        out.clear();
+        match pumped {
+            Ok(Pumped::Budget) => {}
+            _ => break,
+        }
+    }
+    Ok(sum)
+}
+
+/// What comes where the graph is live, and its regions are poked in turns. The lower one comes first.
+fn lived(alloc: Global, count: u64) -> Result<Sum> {
+    let (graph, sub) = subscribed(alloc, count)?;
+    let Ok(mut started) = LiveGraph::go_live(alloc, graph, 2) else {
+        bail!("it didn't go live")
+    };
+    let mut sum = Sum {
+        items: 0,
+        sum: 0,
+        ended: false,
+    };
+    for _ in 0..u64::MAX {
+        if sum.ended {
+            break;
+        }
+        poke_both(alloc, &mut started);
+        take_all(&mut started, sub, &mut sum);
+    }
+    let Ok(_) = started.close() else {
+        bail!("it didn't come back")
+    };
+    Ok(sum)
+}
+
+/// Pokes the two regions.
+fn poke_both(alloc: Global, started: &mut StartedGraph<Demo>)
+    requires { IsStarted started.old }
+    ensures { IsStarted started.new }
+{
+    let _ = started.poke(alloc, 0, BUDGET);
+    let _ = started.poke(alloc, 1, BUDGET);
+}
+
+/// Takes all that waits.
+fn take_all(started: &mut StartedGraph<Demo>, sub: SubId, sum: &mut Sum)
+    requires { IsStarted started.old }
+    ensures { IsStarted started.new }
+{
+    for _ in 0..BUDGET {
+        match started.take(sub) {
+            Some(signal) => sum.add(&signal),
+            None => break,
+        }
+    }
+}
+
+fn main(rt: HostRuntime) -> Result<()> {
+    let mut words = env::args(&rt)?.skip(1);
+    let (Some(way), Some(count)) = (words.next(), words.next()) else {
+        bail!("wanted: WAY COUNT")
+    };
+    let count = count.as_str().parse::<u64>().unwrap_or(0);
+    let sum = match way.as_str() {
+        "queue" => pumped(rt.alloc(), count)?,
+        _ => lived(rt.alloc(), count)?,
+    };
+    println!(rt; "{} items, sum {}", sum.items, sum.sum)?;
+    Ok(())
+}
