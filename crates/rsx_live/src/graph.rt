@@ -137,6 +137,13 @@ impl<O: Ops> LiveGraph<O> {
         self.subs.live()
     }
 
+    /// At how many edges its trees were cut, in all.
+    pub fn cuts(&self) -> usize
+        ensures { result ≡ length self.now.subs.plan.edges.items }
+    {
+        self.subs.cuts()
+    }
+
     /// Ends the regions, and makes a graph again. Whatever all threads did, in any order, it stands for what the graph stood for that went
     /// live, with what the taps gave: each of their subscribers received that, asked for what its tap asked for, is refused where that
     /// gave the error of a bad request, has ended where it gave an ending, and is cancelled where a flag of its link was set. There are

@@ -40,6 +40,13 @@ impl<N: CrossingNodes<Item = T> + Drop, T: Drop, O: Ops<Item = T>> LiveSubscript
         &self.live
     }
 
+    /// At how many edges the trees were cut, in all.
+    pub fn cuts(&self) -> usize
+        ensures { result ≡ length self.now.plan.edges.items }
+    {
+        self.plan.edges.len()
+    }
+
     /// Ends the regions, and makes subscriptions again of their pieces. Whatever all threads did, in any order, each stands for what it
     /// stood for as it went live, with what its tap gave. There is the tap of each subscription that has one, and one seat for each
     /// region, which has all parts, both in their orders. It takes no memory.

@@ -1,3 +1,0 @@
--- Lemmas about trees that are cut and joined.
-pub mod Fitting
-pub mod Sides

@@ -1,0 +1,202 @@
+//! Graphs that are driven, live and not.
+
+ghost use Rattle.std.specs.Prelude.{IfOk};
+ghost use Rattle.rsx_live.specs.Starts.{IsStarted};
+
+use crate::numbers::Numbers;
+use anyhow::{Result, bail};
+use rsx_graph::{Deliveries, Graph, Pumped};
+use rsx_live::{LiveGraph, NotStarted, StartedGraph};
+use rsx_model::Expr;
+use rsx_types::{Ops, Signal, SubId};
+use std::alloc::Global;
+
+/// How many workers there are. It is enough for all expressions.
+pub const WORKERS: u8 = 5;
+
+/// How many turns are made while a graph is live.
+const TURNS: u32 = 60;
+
+/// More moves than any graph makes.
+const MOST_MOVES: u32 = 100_000;
+
+/// More items than any expression gives.
+const ALL: i64 = 1_000;
+
+/// What was received, by which subscription.
+pub type Log<T> = Vec<(SubId, Signal<T>)>;
+
+/// What is done now and then beside requests, takes and pokes.
+#[derive(Clone, Copy, Debug)]
+pub enum Extra {
+    /// Nothing.
+    Nothing,
+    /// A cancel.
+    Cancel,
+    /// A request of 0.
+    BadRequest,
+}
+
+/// A graph that came back.
+#[derive(Drop)]
+pub struct Back<O: Ops> {
+    /// The graph.
+    pub graph: Graph<O>,
+    /// How many taps there were.
+    pub taps: usize,
+    /// At how many edges it was cut.
+    pub edges: usize,
+}
+
+/// A graph with so many subscriptions to this expression, of each of which some items were requested, after some moves. What was
+/// delivered is put behind what was received.
+///
+/// # Errors
+/// For want of memory.
+pub fn begin<O: Ops>(
+    alloc: Global,
+    ops: O,
+    expr: &Expr<O::Item>,
+    subs: u32,
+    numbers: &mut Numbers,
+    received: &mut Log<O::Item>,
+) -> Result<Graph<O>> {
+    let mut graph = Graph::new(alloc, ops)?;
+    for _ in 0..subs {
+        let sub = graph.subscribe(alloc, expr)?;
+        graph.request(sub, i64::from(numbers.below(4)) + 1)?;
+    }
+    pump(alloc, &mut graph, numbers.below(24), received)?;
+    Ok(graph)
+}
+
+/// Makes at most so many moves, puts what was delivered behind what was received, and answers whether none is left to make.
+fn pump<O: Ops>(
+    alloc: Global,
+    graph: &mut Graph<O>,
+    budget: u32,
+    received: &mut Log<O::Item>,
+) -> Result<bool> {
+    let mut deliveries = Deliveries::new(alloc);
+    let pumped = graph.pump(alloc, budget, &mut deliveries)?;
+    for delivery in deliveries.into_vec() {
+        received.push(delivery)?;
+    }
+    Ok(matches!(pumped, Pumped::Idle))
+}
+
+/// Requests all of each subscription, and makes all moves.
+///
+/// # Errors
+/// For want of memory, and where there is no end of it.
+pub fn finish<O: Ops>(
+    alloc: Global,
+    graph: &mut Graph<O>,
+    subs: u32,
+    received: &mut Log<O::Item>,
+) -> Result<()> {
+    for number in 0..subs {
+        graph.request(SubId(number), ALL)?;
+    }
+    if !pump(alloc, graph, MOST_MOVES, received)? {
+        bail!("there is no end of it")
+    }
+    Ok(())
+}
+
+/// The graph goes live, is driven in turns, and comes back. What its taps gave is put behind what was received.
+///
+/// # Errors
+/// For want of memory, where there are too few workers, and where a join is refused.
+pub fn live<O: Ops>(
+    alloc: Global,
+    graph: Graph<O>,
+    subs: u32,
+    extra: Extra,
+    numbers: &mut Numbers,
+    received: &mut Log<O::Item>,
+) -> Result<Back<O>> {
+    let mut started = start(alloc, graph)?;
+    let taps = started.tapped();
+    let edges = started.live.cuts();
+    take_turns(alloc, &mut started, subs, extra, numbers, received)?;
+    match started.close() {
+        Ok(graph) => Ok(Back { graph, taps, edges }),
+        Err(_) => bail!("a join is refused"),
+    }
+}
+
+/// The graph goes live.
+fn start<O: Ops>(alloc: Global, graph: Graph<O>) -> Result<StartedGraph<O>>
+    ensures { IfOk result (λ s. IsStarted s) }
+{
+    match LiveGraph::go_live(alloc, graph, WORKERS) {
+        Ok(started) => Ok(started),
+        Err(NotStarted::TooFewWorkers(_)) => bail!("there are too few workers"),
+        Err(NotStarted::NoMemory(_)) => bail!("there is no memory"),
+        Err(NotStarted::NotJoined) => bail!("a join is refused"),
+    }
+}
+
+/// Makes the turns.
+fn take_turns<O: Ops>(
+    alloc: Global,
+    started: &mut StartedGraph<O>,
+    subs: u32,
+    extra: Extra,
+    numbers: &mut Numbers,
+    received: &mut Log<O::Item>,
+) -> Result<()>
+    requires { IsStarted started.old }
+    ensures { IsStarted started.new }
+{
+    for _ in 0..TURNS {
+        let sub = SubId(numbers.below(subs));
+        if let Some(signal) = take_turn(alloc, started, sub, extra, numbers) {
+            received.push((sub, signal))?;
+        }
+    }
+    Ok(())
+}
+
+/// Pokes a region, takes or requests, or now and then something else. Answers what that gave to the subscription.
+fn take_turn<O: Ops>(
+    alloc: Global,
+    started: &mut StartedGraph<O>,
+    sub: SubId,
+    extra: Extra,
+    numbers: &mut Numbers,
+) -> Option<Signal<O::Item>>
+    requires { IsStarted started.old }
+    ensures { IsStarted started.new }
+{
+    match numbers.below(32) {
+        0 => do_extra(started, sub, extra),
+        1..=5 => started.request(sub, i64::from(numbers.below(3)) + 1),
+        6..=12 => started.take(sub),
+        _ => {
+            let region = u8::try_from(numbers.below(u32::from(WORKERS))).unwrap_or(0);
+            let _ = started.poke(alloc, region, numbers.below(12));
+            None
+        }
+    }
+}
+
+/// Does what is done now and then.
+fn do_extra<O: Ops>(
+    started: &mut StartedGraph<O>,
+    sub: SubId,
+    extra: Extra,
+) -> Option<Signal<O::Item>>
+    requires { IsStarted started.old }
+    ensures { IsStarted started.new }
+{
+    match extra {
+        Extra::Nothing => None,
+        Extra::Cancel => {
+            started.cancel(sub);
+            None
+        }
+        Extra::BadRequest => started.request(sub, 0),
+    }
+}

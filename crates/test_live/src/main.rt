@@ -1,0 +1,60 @@
+#![tactic(auto)]
+//! Graphs go live, are driven in turns that have no pattern, and come back.
+//!
+//! Of each expression, and each seed, a graph is made with one or two subscriptions to it, and some moves are made. Then it goes live: its
+//! trees are cut at their edges that cross, and the pieces are put into the regions of workers. One thread pokes these, takes, requests
+//! and, in some runs, cancels or makes a bad request. Then the graph is closed, and goes on to its end. What each subscriber received
+//! before, while it was live and after, with what the graph still owes, has to be the value of the expression, evaluated from scratch
+//! under what the nodes recorded: right after the close, and at the end. What one received that cancelled or made a bad request has to be
+//! the beginning of that value.
+//!
+//! It writes a line for each expression: how many runs there were and, in all of them, at how many edges they were cut, how many signals
+//! were received, and how many of these taps gave. The first comparison that differs, and the first join that is refused, end the program
+//! with status 1.
+
+mod compared;
+mod driven;
+mod numbers;
+mod trial;
+
+use crate::trial::{Tried, try_refused, try_seeds};
+use anyhow::Result;
+
+/// The expressions. Each has an edge that crosses. The last four choose between what they have to put out.
+const EXPRESSIONS: [&'static str; 16] = [
+    "(publishOn 1 2 (range 1 6))",
+    "(publishOn 0 2 (publishOn 1 2 (range 1 9)))",
+    "(publishOn 1 3 (map double (publishOn 2 2 (filter even (range 1 9)))))",
+    "(zip 2 (publishOn 1 2 (range 1 6)) (publishOn 2 1 (items 7 8 9)))",
+    "(concat (publishOn 1 2 (items 7 8)) (publishOn 2 2 (range 1 5)))",
+    "(groupBy mod3 ((scan add 0)) (publishOn 1 2 (range 1 9)))",
+    "(window 2 ((scan add 0)) (publishOn 1 2 (range 1 7)))",
+    "(take 3 (publishOn 1 4 (range 1 9)))",
+    "(publishOn 1 2 (take 3 (publishOn 2 4 (range 1 20))))",
+    "(publishOn 1 2 (publishOn 2 2 (publishOn 3 2 (publishOn 4 2 (range 1 9)))))",
+    "(zip 2 (publishOn 1 2 (publishOn 2 2 (range 1 6))) (concat (publishOn 2 1 (publishOn 1 2 (items 7 8))) (publishOn 1 2 (range 1 5))))",
+    "(publishOn 1 2 (map inc (publishOn 2 2 (items 1 9223372036854775807 3))))",
+    "(merge 2 (publishOn 1 2 (range 1 6)) (publishOn 2 2 (items 7 8 9)))",
+    "(combineLatest 2 (publishOn 1 2 (range 1 5)) (publishOn 2 1 (items 7 8 9)))",
+    "(flatMap upto 2 ((map double)) (publishOn 1 2 (range 1 4)))",
+    "(groupBy mod3 ((scan add 0)) (merge 2 (publishOn 1 2 (range 1 9)) (publishOn 2 2 (items 4 5 6))))",
+];
+
+fn main(rt: HostRuntime) -> Result<()> {
+    for text in &EXPRESSIONS {
+        let Tried {
+            runs,
+            taps,
+            edges,
+            given,
+            signals,
+        } = try_seeds(rt.alloc(), text)?;
+        println!(rt;
+            "{text}: {runs} runs, cut at {edges} edges, {given} of {signals} signals by {taps} taps, equal"
+        )?;
+    }
+    let text = EXPRESSIONS[0];
+    let signals = try_refused(rt.alloc(), text)?;
+    println!(rt; "{text}: refused with too few workers, {signals} signals, equal")?;
+    Ok(())
+}
