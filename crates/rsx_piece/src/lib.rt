@@ -7,7 +7,7 @@
 //! sent into the link, a signal taken from a link that comes in and handed on, and a request passed on down such a link. What a piece
 //! stands for is told relative to its opening, as what went out since then, and each call keeps it.
 //!
-//! - [`outgoing`]: [`look`], [`work`] and [`send`], which a piece does at its root.
+//! - [`outgoing`]: [`look`], [`work`] and [`send`], which a piece does at its root, and [`work_at`], a move inside that is named.
 //! - [`serving`]: [`serve`], many moves in a row, each as [`step`] makes one.
 //! - [`law`]: [`opens`], what a piece is at its opening; [`joins`], [`joins_again`] and [`joins_ended`], what two give that are joined
 //!   again; [`joins_whole`], that these are a piece; [`cuts`] and [`rejoins`], that the counts along the edges belong together through a cut and a join, and what the nodes have
@@ -26,5 +26,5 @@ pub use inlet::Inlet;
 pub use law::{
     cancels, cuts, gives_back, joins, joins_again, joins_ended, joins_whole, opens, rejoins,
 };
-pub use outgoing::{look, send, work};
+pub use outgoing::{look, send, work, work_at};
 pub use serving::{serve, step};

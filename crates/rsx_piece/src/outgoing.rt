@@ -5,7 +5,7 @@ ghost use Rattle.rsx_types.specs.Meaning.{Meaning};
 ghost use Rattle.rsx_types.specs.Stream.{Stream};
 ghost use Rattle.rsx_types.specs.declared.signal.Signal.{Signal};
 ghost use Rattle.rsx_tree.specs.declared.node.Node.{Node};
-ghost use Rattle.rsx_pipe.specs.Feeding.{IsQuietInside};
+ghost use Rattle.rsx_pipe.specs.Feeding.{IsMadeInside, IsQuietInside, inside_enabled};
 ghost use Rattle.rsx_link.specs.Ends.{IsUpOf, SameUp, sent_signals};
 ghost use Rattle.rsx_link.specs.declared.up.Up.{Up as UpSpec};
 ghost use Rattle.rsx_piece.specs.Inlet.{InletStands};
@@ -14,7 +14,7 @@ ghost use Rattle.rsx_piece.specs.Piece.{IsInStep, PieceStands};
 ghost use Rattle.rsx_piece.specs.declared.inlet.Inlet.{Inlet as InletSpec};
 
 use rsx_link::{Found, Link, Up};
-use rsx_pipe::{EdgeState, NoRoom, Nodes, Part};
+use rsx_pipe::{EdgeState, NoRoom, NodeMove, Nodes, Part};
 use rsx_sources::NotMade;
 use rsx_types::{NoMemory, Ops};
 use std::alloc::Global;
@@ -80,12 +80,37 @@ pub fn work<N: Nodes<Item = O::Item>, O: Ops>(
         PieceStands N.Machine (O.meaning ops.now) taken old queued part.old up → PieceStands N.Machine (O.meaning ops.now) taken old queued part.new up }
     ensures inlets { (taken : List (Stream O.Item)) (i : InletSpec O.Item) → InletStands N.Machine taken part.old i → InletStands N.Machine taken part.new i }
 {
-    if !part.root_edge().is_live() {
-        return Ok(false);
-    }
     let Some(step) = part.first_enabled(&NoRoom) else {
         return Ok(false);
     };
+    work_at(alloc, ops, part, step)
+}
+
+/// Makes this move inside the part, where it is enabled, and answers whether it did. Of a piece whose root edge isn't live nothing
+/// changes, and it answers that there was none.
+///
+/// # Errors
+/// [`NoMemory`] where a growth was refused. Then nothing changed.
+#[inline]
+pub fn work_at<N: Nodes<Item = O::Item>, O: Ops>(
+    alloc: Global,
+    ops: &O,
+    part: &mut Part<N>,
+    step: NodeMove,
+) -> Result<bool, NoMemory>
+    ensures moved { IfOk result (λ b. b ≡ true → HasMoved N.Machine (O.meaning ops.now) part.old part.new) }
+    ensures made { IfOk result (λ b. b ≡ true → (inside_enabled N.Machine (O.meaning ops.now) part.old step ≡ true) × IsMadeInside N.Machine (O.meaning ops.now) step part.old part.new) }
+    ensures none { IfOk result (λ b. b ≡ false → (part.new ≡ part.old) × (part.old.root.state ≡ EdgeState.Live → inside_enabled N.Machine (O.meaning ops.now) part.old step ≡ false)) }
+    ensures same { OnErr result (part.new ≡ part.old) }
+    ensures after { (part.old.root.state ≡ EdgeState.Live → ⊥) → part.new ≡ part.old }
+    ensures step { (up : UpSpec O.Item) → IsInStep part.old up → IsInStep part.new up }
+    ensures stands { (taken : List (Stream O.Item)) (old : Node N) (queued : List (Signal O.Item)) (up : UpSpec O.Item) →
+        PieceStands N.Machine (O.meaning ops.now) taken old queued part.old up → PieceStands N.Machine (O.meaning ops.now) taken old queued part.new up }
+    ensures inlets { (taken : List (Stream O.Item)) (i : InletSpec O.Item) → InletStands N.Machine taken part.old i → InletStands N.Machine taken part.new i }
+{
+    if !part.root_edge().is_live() {
+        return Ok(false);
+    }
     match part.make(alloc, ops, step, &mut NoRoom) {
         Ok(()) => Ok(true),
         Err(NotMade::NoMemory) => Err(NoMemory),
@@ -117,9 +142,6 @@ pub fn send<N: Nodes<Item = O::Item>, O: Ops>(
         PieceStands N.Machine (O.meaning ops.now) taken old queued part.old up.old → PieceStands N.Machine (O.meaning ops.now) taken old queued part.new up.new }
     ensures inlets { (taken : List (Stream O.Item)) (i : InletSpec O.Item) → InletStands N.Machine taken part.old i → InletStands N.Machine taken part.new i }
 {
-    let Some(_) = part.next_out() else {
-        return Ok(false);
-    };
     if !up.has_room(link) {
         return Ok(false);
     }
