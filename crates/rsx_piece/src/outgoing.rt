@@ -100,6 +100,7 @@ pub fn work_at<N: Nodes<Item = O::Item>, O: Ops>(
 ) -> Result<bool, NoMemory>
     ensures moved { IfOk result (λ b. b ≡ true → HasMoved N.Machine (O.meaning ops.now) part.old part.new) }
     ensures made { IfOk result (λ b. b ≡ true → (inside_enabled N.Machine (O.meaning ops.now) part.old step ≡ true) × IsMadeInside N.Machine (O.meaning ops.now) step part.old part.new) }
+    ensures live { IfOk result (λ b. b ≡ true → part.old.root.state ≡ EdgeState.Live) }
     ensures none { IfOk result (λ b. b ≡ false → (part.new ≡ part.old) × (part.old.root.state ≡ EdgeState.Live → inside_enabled N.Machine (O.meaning ops.now) part.old step ≡ false)) }
     ensures same { OnErr result (part.new ≡ part.old) }
     ensures after { (part.old.root.state ≡ EdgeState.Live → ⊥) → part.new ≡ part.old }

@@ -1,5 +1,5 @@
 -- The single steps of a piece.
-use Rattle.std.proofs.Common.{◌≡◌, inl, ℕ, ◌&&◌, nat_lt, if◌then◌else◌, Bool, true, false, List, map, refl, sym, ap, subst, Option, Some, None, Result, Ok, Err, slice_get}
+use Rattle.std.proofs.Common.{◌≡◌, inl, inr, ℕ, ◌&&◌, nat_lt, if◌then◌else◌, Bool, true, false, List, map, refl, sym, ap, subst, Option, Some, None, Result, Ok, Err, slice_get}
 use Rattle.std.specs.Prelude.{IfNone, IfOk, IfSome, OnErr}
 use Rattle.rsx_sources.specs.Prelude.{Meaning, Signal, front_of}
 use Rattle.rsx_sources.specs.declared.machine.Front.{Front}
@@ -8,15 +8,16 @@ use Rattle.rsx_sources.specs.declared.machine.Machine.{Ghosts as Machine}
 use Rattle.rsx_tree.specs.declared.edge.EdgeState.{EdgeState}
 use Rattle.rsx_tree.specs.declared.edge.EdgeState.TheVariants.{Live, Ended, Closed}
 use Rattle.rsx_tree.specs.Edges.{EdgeView, can_pass, edge_view, is_live}
+use Rattle.rsx_tree.proofs.Shut.{pass_live}
 use Rattle.rsx_rooted.specs.Feeding.{carried}
 use Rattle.rsx_rooted.specs.Tree.{offers}
 use Rattle.rsx_pipe.specs.Part.{Part}
 use Rattle.rsx_pipe.specs.Published.{reader_edge}
-use Rattle.rsx_link.specs.Ends.{SameUp, carried_up, received_signals, sent_signals}
+use Rattle.rsx_link.specs.Ends.{SameUp, carried_up, received_signals, sent_signals, up_steps}
 use Rattle.rsx_link.specs.declared.link.Link.{Link}
 use Rattle.rsx_link.specs.declared.up.Found.{Found}
 use Rattle.rsx_link.specs.declared.up.Up.{Up}
-use Rattle.rsx_piece.specs.Moves.{HasLeft, HasPopped, HasStepped, IsAskedFor, IsLooked, IsStill, KeepsInlet, SameInlet}
+use Rattle.rsx_piece.specs.Moves.{HasKept, HasLeft, HasMoved, HasPopped, HasSent, HasStepped, IsAskedFor, IsLooked, IsStill, KeepsInlet, SameInlet}
 use Rattle.rsx_region.specs.Serving.{HasLeftOne, HasPassedOn, HasStayed, IsPassedOn}
 use Rattle.rsx_region.specs.Steps.{Goes, HasTried, OneChanged, SameInlets, done, shown}
 use Rattle.rsx_region.specs.declared.piece.Incoming.{Incoming}
@@ -75,6 +76,20 @@ pub stepped_stayed : {M T E : Type 0} (b : Machine M T) (m : Meaning T) (p new :
     IfOk r (λ x. x ≡ false → IsStill b m p.part p.up new.part new.up) → IfOk r (λ x. x ≡ false → HasStayed b m p new)
 stepped_stayed b m p new l (Ok x) same up still = λ e. let h = still e in record { tried = tried_root l p new same up h.0 h.1; others = same; idle = h.2 }
 stepped_stayed b m p new l (Err e) same up still = tt
+
+-- a Send over the root edge, which is live where a signal goes over it
+pub sent_goes : {M T E : Type 0} (b : Machine M T) (m : Meaning T) (links : List (Link T)) (p new : Piece M T) (l : Link T) (r : Result Bool E) → SameInlets p new → SameUp l p.up new.up →
+    IfOk r (λ x. x ≡ true → HasSent b m p.part p.up new.part new.up) → IfOk r (λ x. x ≡ false → HasKept b m p.part p.up new.part new.up) → OnErr r ((new.part ≡ p.part) × (sent_signals new.up ≡ sent_signals p.up)) → Goes b m links (done r) 0 p new
+sent_goes b m links p new l (Ok true) same up sent kept err = let h = sent refl in goes_one b m links Move 1 0 p new refl refl (record { live = pass_live (edge_view p.part.root) (front_of h.signal) h.out.can; stepped = inl h; looks = up.1; others = same })
+sent_goes b m links p new l (Ok false) same up sent kept err = let h = kept refl in goes_one b m links Try 0 0 p new refl refl (tried_root l p new same up h.part h.sent)
+sent_goes b m links p new l (Err e) same up sent kept err = goes_one b m links Try 0 0 p new refl refl (tried_root l p new same up err.0 err.1)
+
+-- a named move inside, which is made only while the root edge is live
+pub moved_goes : {M T E : Type 0} (X : Type 0) (b : Machine M T) (m : Meaning T) (links : List (Link T)) (p new : Piece M T) (r : Result Bool E) → SameInlets p new → new.up ≡ p.up → IfOk r (λ x. x ≡ true → HasMoved b m p.part new.part) → IfOk r (λ x. x ≡ true → p.part.root.state ≡ Live) →
+    IfOk r (λ x. x ≡ false → (new.part ≡ p.part) × X) → OnErr r (new.part ≡ p.part) → Goes b m links (done r) 0 p new
+moved_goes X b m links p new (Ok true) same up moved live none err = goes_one b m links Move 1 0 p new refl refl (record { live = live refl; stepped = inr (moved refl, ap sent_signals up); looks = ap up_steps up; others = same })
+moved_goes X b m links p new (Ok false) same up moved live none err = let h = none refl in goes_one b m links Try 0 0 p new refl refl (record { part = h.0; link = same.0; sent = ap sent_signals up; looks = ap up_steps up; ins = ap (map shown) same.1 })
+moved_goes X b m links p new (Err e) same up moved live none err = goes_one b m links Try 0 0 p new refl refl (record { part = err; link = same.0; sent = ap sent_signals up; looks = ap up_steps up; ins = ap (map shown) same.1 })
 
 -- ---- a piece whose root edge isn't live
 

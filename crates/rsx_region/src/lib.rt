@@ -6,6 +6,7 @@
 //! at the link that goes out, passes requests down the links that come in, takes signals from them, and makes moves.
 //!
 //! - [`cutting`]: [`Piece::cut`], by which a piece is cut in two.
+//! - [`flowing`]: items that go through a piece one after the other.
 //! - [`halves`]: [`Below`], what was cut off a piece, and [`Piece::join`], by which it is joined to it again.
 //! - [`opening`]: [`Opening`], what a region began with.
 //! - [`piece`]: [`Piece`] and [`Incoming`].
@@ -21,6 +22,7 @@
 //! (pieces that were put into regions).
 
 pub mod cutting;
+pub mod flowing;
 pub mod halves;
 pub mod opening;
 pub mod piece;

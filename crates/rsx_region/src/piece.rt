@@ -12,8 +12,8 @@ ghost use Rattle.rsx_region.specs.Serving.{HasLeftOne, HasPassedOn, HasSeen, Has
 ghost use Rattle.rsx_region.specs.declared.piece.Piece.{Piece as PieceSpec};
 
 use rsx_link::{Link, Up};
-use rsx_piece::{Inlet, look, step};
-use rsx_pipe::{EdgeState, Nodes, Part};
+use rsx_piece::{Inlet, look, send, step, work_at};
+use rsx_pipe::{EdgeState, NodeMove, Nodes, Part};
 use rsx_types::{NoMemory, Ops};
 use std::alloc::Global;
 
@@ -128,5 +128,48 @@ impl<N: Nodes<Item = T>, T: Drop> Piece<N, T> {
         }
         let link = link_at(links, self.link);
         step(alloc, ops, &mut self.part, &mut self.up, link)
+    }
+
+    /// Makes the Send over the root edge, into the link that goes out, where it is enabled, and answers whether it did.
+    ///
+    /// # Errors
+    /// [`NoMemory`] where a growth was refused. Then it wasn't made.
+    #[inline]
+    pub(crate) fn send_out<O: Ops<Item = T>>(
+        &mut self,
+        alloc: Global,
+        ops: &O,
+        links: &[Link<T>],
+    ) -> Result<bool, NoMemory>
+        requires { IsPieceOf links.now self.old }
+        ensures ends { IsPieceOf links.now self.new }
+        ensures run { Goes N.Machine (O.meaning ops.now) links.now (done result) 0 self.old self.new }
+        ensures stands { (n : ℕ) (opening : PieceSpec N T) → StandsSince N.Machine (O.meaning ops.now) n opening self.old → StandsSince N.Machine (O.meaning ops.now) n opening self.new }
+    {
+        let link = link_at(links, self.link);
+        send(alloc, ops, &mut self.part, &mut self.up, link)
+    }
+
+    /// Makes the Send over this edge inside the part, where it is enabled, and answers whether it did. Of a piece whose root edge isn't live
+    /// nothing changes.
+    ///
+    /// # Errors
+    /// [`NoMemory`] where a growth was refused. Then it wasn't made.
+    #[inline]
+    pub(crate) fn send_inside<O: Ops<Item = T>>(
+        &mut self,
+        alloc: Global,
+        ops: &O,
+        links: &[Link<T>],
+        at: u32,
+    ) -> Result<bool, NoMemory>
+        requires { IsPieceOf links.now self.old }
+        ensures ends { IsPieceOf links.now self.new }
+        ensures run { Goes N.Machine (O.meaning ops.now) links.now (done result) 0 self.old self.new }
+        ensures stands { (n : ℕ) (opening : PieceSpec N T) → StandsSince N.Machine (O.meaning ops.now) n opening self.old → StandsSince N.Machine (O.meaning ops.now) n opening self.new }
+    {
+        // The links are named by the contract alone.
+        let _ = links;
+        work_at(alloc, ops, &mut self.part, NodeMove::Send(at))
     }
 }

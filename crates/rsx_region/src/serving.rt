@@ -38,8 +38,9 @@ pub struct Served {
 impl<N: Nodes<Item = T>, T: Drop> Piece<N, T> {
     /// Does what there is to do for the piece, until nothing is left or the budget is used up. It looks at the link that goes out,
     /// passes requests and cancels down the links that come in, takes from each the signal that its reader has room for, and makes
-    /// the moves that are enabled; and so on, from the start. A signal that is taken from a link counts as a move does, so that
-    /// what one call does is bounded.
+    /// the moves that are enabled; and so on, from the start. Between that it lets items go through, one after the other, as long as
+    /// they go the way that a search found. A signal that is taken from a link counts as a move does, so that what one call does is
+    /// bounded.
     ///
     /// Where it answers [`Answer::Idle`], the link that goes out was looked at, and all requests were passed on. After
     /// [`Answer::Budget`] call it again. After [`Answer::NoMemory`] what was done before stands, and it may be called again, too. Of a
@@ -64,7 +65,7 @@ impl<N: Nodes<Item = T>, T: Drop> Piece<N, T> {
         let mut moves = 0;
         let mut pops = 0;
         while moves + pops < budget {
-            let turn = self.turn(alloc, ops, links, budget - moves - pops);
+            let turn = self.advance(alloc, ops, links, budget - moves - pops);
             moves += turn.moves;
             pops += turn.pops;
             match turn.answer {
@@ -78,6 +79,35 @@ impl<N: Nodes<Item = T>, T: Drop> Piece<N, T> {
             }
         }
         outcome(Answer::Budget, moves, pops)
+    }
+
+    /// Items that go through, and where none does a turn.
+    fn advance<O: Ops<Item = T>>(
+        &mut self,
+        alloc: Global,
+        ops: &O,
+        links: &[Link<T>],
+        budget: u32,
+    ) -> Served
+        requires { IsPieceOf links.now self.old }
+        ensures ends { IsPieceOf links.now self.new }
+        ensures run { Goes N.Machine (O.meaning ops.now) links.now result.moves result.pops self.old self.new }
+        ensures most { result.moves + result.pops ≤ budget }
+        ensures budget { result.answer ≡ Answer.Budget → result.moves + result.pops ≡ budget }
+        ensures idle { result.answer ≡ Answer.Idle → result.moves + result.pops ≡ 0 → IsAtRest N.Machine (O.meaning ops.now) self.new }
+        ensures seen { result.answer ≡ Answer.Idle → result.moves + result.pops ≡ 0 → self.new.part.root.state ≡ EdgeState.Live → HasSeen self.old self.new }
+        ensures stands { (n : ℕ) (opening : PieceSpec N T) → StandsSince N.Machine (O.meaning ops.now) n opening self.old → StandsSince N.Machine (O.meaning ops.now) n opening self.new }
+    {
+        let flowed = self.flow(alloc, ops, links, budget);
+        match flowed.answer {
+            Answer::Idle => {
+                if flowed.moves + flowed.pops > 0 {
+                    return flowed;
+                }
+                self.turn(alloc, ops, links, budget)
+            }
+            Answer::Budget | Answer::NoMemory => flowed,
+        }
     }
 
     /// A look, a request down each link, a signal from each, and then moves. Where nothing was taken and no move made, and it answers
@@ -127,7 +157,7 @@ impl<N: Nodes<Item = T>, T: Drop> Piece<N, T> {
 
     /// Takes a signal from each link whose reader has room for one, but at most `budget`. Answers [`Answer::Idle`] where each was
     /// tried.
-    fn pop_each(&mut self, links: &[Link<T>], budget: u32) -> Served
+    pub(crate) fn pop_each(&mut self, links: &[Link<T>], budget: u32) -> Served
         requires { IsPieceOf links.now self.old }
         ensures ends { IsPieceOf links.now self.new }
         ensures run { (m : Meaning T) → Goes N.Machine m links.now 0 result.pops self.old self.new }

@@ -14,3 +14,6 @@ pub returns-in-Ok-clause-inlets : goal.returns-in-Ok-clause-inlets
 returns-in-Ok-clause-inlets g c taken i h =
     let made = c.in-Ok.ensures.made in
     link_worked g.N.Machine (g.O.Ops.meaning c.args.ops.now) taken c.args.step c.args.part.now c.make.new.self i.hub i.down i.closer made.0 c.in-Ok.ensures.enabled made.1 made.2 h
+
+pub returns-in-Ok-clause-live : goal.returns-in-Ok-clause-live
+returns-in-Ok-clause-live g c _ = live_from c.args.part.now.root.state c.is_live.result (c.is_live.ensures ∙ ap (λ e. is_live e.state) c.root_edge.ensures) c.if-not-is_live.false
