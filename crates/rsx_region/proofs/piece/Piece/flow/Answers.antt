@@ -1,4 +1,4 @@
-use Rattle.std.proofs.Common.{◌≡◌, ◌+◌, refl, sym, ap, ◌∙◌, arith}
+use Rattle.std.proofs.Common.{refl, sym, arith}
 use Rattle.rsx_region.proofs.Runs.{goes_as, goes_then, none_plus}
 use Rattle.rsx_region.proofs.piece.Piece.flow.Goals as goal
 

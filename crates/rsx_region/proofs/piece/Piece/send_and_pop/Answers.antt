@@ -1,4 +1,4 @@
-use Rattle.std.proofs.Common.{◌+◌, refl, sym, ap, ◌∙◌}
+use Rattle.std.proofs.Common.{◌+◌, sym, ap, ◌∙◌}
 use Rattle.rsx_region.proofs.Runs.{byte_cond, goes_then, none_plus, plus_none}
 use Rattle.rsx_region.proofs.piece.Piece.send_and_pop.Goals as goal
 
