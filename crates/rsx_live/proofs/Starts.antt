@@ -1,5 +1,5 @@
 -- Taps and seats of which one changes.
-use Rattle.std.proofs.Common.{◌≡◌, ℕ, zero, suc, ◌<◌, ◌≤◌, List, [], ◌∷◌, length, Some, refl, ap, sym, ◌∙◌, subst, ℤ, Option, slice_get, slice_index_or, slice_set, arith}
+use Rattle.std.proofs.Common.{◌≡◌, ℕ, zero, suc, ◌<◌, ◌≤◌, List, [], ◌∷◌, length, Some, refl, ap, sym, ◌∙◌, subst, ℤ, Option, slice_get, slice_index_or, slice_set, arith, Vec, Global}
 use Rattle.std.proofs.lemmas.Option.{slice_get_read, slice_get_within}
 use Rattle.std.proofs.lemmas.Slice.Zip.{AllZip-long}
 use Rattle.std.specs.List.{AllZip}
@@ -9,6 +9,7 @@ use Rattle.rsx_types.specs.declared.signal.Signal.{Signal}
 use Rattle.rsx_gate.specs.Machine.{all_parts}
 use Rattle.rsx_gate.specs.Seats.{IsSeatOf}
 use Rattle.rsx_graph.specs.declared.graph.Graph.{Graph}
+use Rattle.rsx_kinds.specs.Any.{TreeNode}
 use Rattle.rsx_link.specs.Ends.{carried_down}
 use Rattle.rsx_link.specs.declared.link.Link.{Link}
 use Rattle.rsx_piece.proofs.Places.{same_some}
@@ -20,7 +21,7 @@ use Rattle.rsx_runtime.specs.declared.TheConstants.{MOST_WORKERS}
 use Rattle.rsx_runtime.specs.declared.tap.Tap.{Tap}
 use Rattle.rsx_live.specs.Graphs.{IsLiveGraphOf}
 use Rattle.rsx_live.specs.Kept.{AreTapsFrom}
-use Rattle.rsx_live.specs.Starts.{ChangesAt, HasNoTap, IsStartedOf, TapChanges, TapRequests}
+use Rattle.rsx_live.specs.Starts.{ChangesAt, HasNoTap, IsStarted, IsStartedOf, StaysStarted, TapChanges, TapRequests}
 use Rattle.rsx_live.specs.declared.graph.LiveGraph.{LiveGraph}
 use Rattle.rsx_live.specs.declared.graph.StartedGraph.{StartedGraph}
 use Rattle.rsx_live.specs.declared.kept.Kept.{Kept}
@@ -156,6 +157,50 @@ module _ {N T O : Type 0} (live was : Live N T O) (same : live ≡ was) (place :
 -- the tap at a place is over its link
 pub tap_ready : {O T : Type 0} {b : Ops O T} (graph : Graph O T b) (s : StartedGraph O T b) (is : IsStartedOf graph s) (sub : SubId) (place : ℕ) → IsAmong s.taps.items place (λ t. t.sub ≡ sub) → IsAmong s.taps.items place (λ t. IsAt s.live.subs.live.links.items t.link (λ l. IsTapOf l t))
 tap_ready graph s is sub place named = (named.0, named.1, tap_over s.live.subs.live.links.items s.live.subs.kept.items 0 s.taps.items place named.0 is.taps named.1)
+
+-- ---- a call of one tap
+
+-- the tap that was read at a place, of taps each of which is over its link
+module _ {T : Type 0} (links : List (Link T)) (taps : List (Tap T)) (place : ℕ) (tap : Tap T) (among : IsAmong taps place (λ t. IsAt links t.link (λ l. IsTapOf l t))) (read : tap ≡ slice_index_or taps place tap) where
+  there : slice_get taps place ≡ Some tap
+  there = read_at (λ t. IsAt links t.link (λ l. IsTapOf l t)) taps place tap among read
+
+  -- it is over its link
+  pub over_link : IsAt links tap.link (λ l. IsTapOf l tap)
+  over_link = so_at (λ t. IsAt links t.link (λ l. IsTapOf l t)) taps place tap among there
+
+  -- it alone changed
+  pub tap_moved : (next : Tap T) (did : Tap T → Tap T → Type 0) → IsAt links tap.link (λ l. KeepsTap l tap next) → did tap next → ChangesAt place taps (slice_set taps place next) (λ x y. IsAt links x.link (λ l. KeepsTap l x y) × did x y)
+  tap_moved next did keeps done = record { was = tap; now = next; there = there; put = refl; done = (keeps, done) }
+
+-- what a call of the tap of one subscription did to all
+pub record TapDid {O T : Type 0} {b : Ops O T} (sub : SubId) (s t : StartedGraph O T b) (did : Tap T → Tap T → Type 0) : Type 0 where
+  pub started : IsStarted t
+  pub stays : StaysStarted s t
+  pub same : (t.live ≡ s.live) × (t.seats ≡ s.seats)
+  pub changed : TapChanges sub s.taps.items t.taps.items did
+  pub has : HasNoTap sub s.taps.items → ⊥
+
+-- the tap of a subscription was found at a place, with the taps and the live graph seen through references
+module _ {O T : Type 0} {b : Ops O T} (sub : SubId) (s : StartedGraph O T b) (place : ℕ) (seen : List (Tap T)) (live : Live (TreeNode T) T O) (is : IsStarted s) (taps : seen ≡ s.taps.items) (same : live ≡ s.live.subs.live) (found : IsAmong seen place (λ t. t.sub ≡ sub)) where
+  named : IsAmong s.taps.items place (λ t. t.sub ≡ sub)
+  named = named_in sub seen s.taps.items place taps found
+
+  -- it is over its link
+  pub tap_found : IsAmong s.taps.items place (λ t. IsAt live.links.items t.link (λ l. IsTapOf l t))
+  tap_found = ready_in live s.live.subs.live same place s.taps.items (tap_ready is.graph s is.is sub place named)
+
+  pub tap_did : (now : Vec (Tap T) Global) (did : Tap T → Tap T → Type 0) → ChangesAt place s.taps.items now.items (λ x y. IsAt live.links.items x.link (λ l. KeepsTap l x y) × did x y) → TapDid sub s (record s { taps = now }) did
+  tap_did now did changes =
+      let ch = changes_in live s.live.subs.live same place s.taps.items did now.items changes in
+      let t : StartedGraph O T b = record s { taps = now } in
+      record {
+        started = record { graph = is.graph; is = taps_started is.graph s t refl is.is place did is.is.seats is.is.few ch };
+        stays = λ graph i. taps_started graph s t refl i place did i.seats i.few ch;
+        same = (refl, refl);
+        changed = tap_changed sub s.taps.items now.items place did (λ x y. IsAt s.live.subs.live.links.items x.link (λ l. KeepsTap l x y)) named ch;
+        has = has_tap sub s.taps.items place named;
+      }
 
 -- what has gone live so
 pub started_of : {O T : Type 0} {b : Ops O T} (graph : Graph O T b) (s : StartedGraph O T b) (workers : ℕ) → IsLiveGraphOf graph s.live → AreTapsFrom s.live.subs.live.links.items 0 s.live.subs.kept.items s.taps.items →
