@@ -1,9 +1,10 @@
 -- Subscriptions that were live come back.
 use Rattle.std.specs.Prelude.{IfErr, IfOk}
-use Rattle.std.proofs.Common.{◌≡◌, inl, inr, ℕ, suc, ◌+◌, ◌||◌, Bool, true, false, List, [], ◌∷◌, ◌++◌, length, refl, ap, sym, ◌∙◌, subst, append-nil, arith, Some, slice_get, ◌≤◌, ◌^◌, Vec, Global, Result, Ok, Err}
+use Rattle.std.proofs.Common.{◌≡◌, inl, inr, ℕ, suc, ◌+◌, ◌||◌, Bool, true, false, List, [], ◌∷◌, ◌++◌, length, refl, ap, sym, ◌∙◌, subst, append-nil, arith, Some, slice_get, ◌<◌, ◌≤◌, ◌^◌, Vec, Global, Result, Ok, Err}
 use Rattle.rsx_sources.specs.Prelude.{Meaning, Signal, Stream}
 use Rattle.rsx_sources.specs.declared.machine.Machine.{Ghosts as Machine}
 use Rattle.rsx_rooted.specs.declared.nodes.CrossingNodes.{Ghosts as CrossingNodes}
+use Rattle.rsx_tree.specs.Runs.{Leads}
 use Rattle.rsx_link.specs.Ends.{asked_total, cancel_parts, cancels_of, down_steps, received_signals}
 use Rattle.rsx_link.specs.Link.{is_positive}
 use Rattle.rsx_link.specs.Parts.{IsWhole}
@@ -11,7 +12,7 @@ use Rattle.rsx_link.specs.Steps.{is_refused}
 use Rattle.rsx_link.specs.declared.link.Link.{Link}
 use Rattle.rsx_region.specs.Pieces.{StandsSince}
 use Rattle.rsx_region.specs.Regions.{ArePiecesOf}
-use Rattle.rsx_region.specs.Trees.{AreCutFrom, HaveGoneSince, IsOpen, Stage, names_of, stage_of}
+use Rattle.rsx_region.specs.Trees.{AreCutFrom, EdgeName, HaveGoneSince, IsCutThere, IsOpen, LastCannotJoin, Stage, names_of, stage_of}
 use Rattle.rsx_region.specs.declared.piece.Piece.{Piece}
 use Rattle.rsx_region.specs.declared.trees.CutTrees.{CutTrees}
 use Rattle.rsx_region.proofs.Stages.{since_from}
@@ -28,13 +29,16 @@ use Rattle.rsx_subscriber.specs.Stands.{Stands, standing_of}
 use Rattle.rsx_subscriber.specs.declared.state.SubscriptionState.TheVariants.{Open}
 use Rattle.rsx_subscriber.specs.declared.subscription.Subscription.{Subscription}
 use Rattle.rsx_live.specs.Kept.{AreBack, AreOut, AreTapsFrom, CameBack, Goes, WereStopped, all_lived}
-use Rattle.rsx_live.specs.Lives.{AreCutOut, ComeBack, HaveGoneOut, StandAs, most_numbers}
+use Rattle.rsx_live.specs.Cutting.{AreAllSwept}
+use Rattle.rsx_live.specs.Lives.{AreAllCut, AreCutOut, AreNotJoined, ComeBack, HaveGoneOut, IsLiveFor, StandAs, most_numbers}
+use Rattle.rsx_live.specs.declared.lives.LiveSubscriptions.{LiveSubscriptions}
 use Rattle.rsx_live.specs.Outgoing.{IsFresh}
 use Rattle.rsx_live.specs.Returning.{WasStopped, lived, lived_state, tapped_state}
 use Rattle.rsx_live.specs.declared.going.NotLive.{NotLive}
-use Rattle.rsx_live.specs.declared.going.NotLive.TheVariants.{NoMemory}
+use Rattle.rsx_live.specs.declared.going.NotLive.TheVariants.{NoMemory, NotJoined}
 use Rattle.rsx_live.specs.declared.kept.Kept.{Kept}
 use Rattle.rsx_live.specs.declared.kept.Kept.TheVariants.{Away}
+use Rattle.rsx_live.specs.declared.kept.Parted.{Parted}
 use Rattle.rsx_live.proofs.Opens.{out_open}
 use Rattle.rsx_live.proofs.Ready.{Ahead, all_ahead, head_ahead, links_ahead, ready, tail_ahead, zip_of}
 
@@ -119,11 +123,31 @@ module _ {M T : Type 0} (b : Machine M T) (m : Meaning T) where
       let A : List (Past T) → Type 0 = λ l. AllStand b m published now l in
       subst A (all_same subs 0 ks g.pieces g.links taps came.flags published pasts g.out came.stopped st) (came.stands m most_numbers 0 subs (given_ready crossing subs ks taps trees joined g since) published pasts st)
 
+  -- where a join was refused
+  pub joined_not : (crossing : CrossingNodes M T) (subs : List (Subscription M T)) (ks : List (Kept M T)) (taps : List (Tap T)) (trees joined : CutTrees M T) → HaveGoneOut b crossing m subs ks taps trees →
+      ((whole opening : Stage M T) → HaveGoneSince b crossing m most_numbers whole opening trees → (before : Stage M T) × HaveGoneSince b crossing m most_numbers whole before joined) → (0 < length joined.edges.items) × LastCannotJoin b crossing joined → AreNotJoined b crossing m subs ks
+  joined_not crossing subs ks taps trees joined g since refused =
+      let s = since (record { pieces = g.pieces; links = g.links }) g.opening g.since in
+      record {
+        taps = taps;
+        trees = joined;
+        gone = record { pieces = g.pieces; links = g.links; out = g.out; opening = s.0; since = s.1 };
+        left = refused.0;
+        cannot = refused.1;
+      }
+
   -- trees that were cut, with nothing done since
   pub gone_of : (crossing : CrossingNodes M T) (subs : List (Subscription M T)) (ks : List (Kept M T)) (taps : List (Tap T)) (trees : CutTrees M T) → AreCutOut b crossing m subs ks taps trees → HaveGoneOut b crossing m subs ks taps trees
   gone_of crossing subs ks taps trees c =
       let s = since_from b crossing m most_numbers (record { pieces = c.pieces; links = c.links }) trees c.cut in
       record { pieces = c.pieces; links = c.links; out = c.out; opening = s.0; since = s.1 }
+
+-- trees with no edge left are whole again
+pub none_left : {M T : Type 0} (b : Machine M T) (crossing : CrossingNodes M T) (m : Meaning T) (n : ℕ) (whole : Stage M T) (t : CutTrees M T) → t.edges.items ≡ [] → (before : Stage M T) × HaveGoneSince b crossing m n whole before t → HaveGoneSince b crossing m n whole whole t
+none_left {M} {T} b crossing m n whole t none since =
+    let names : names_of t.edges.items ≡ [] = ap names_of none in
+    let same : since.0 ≡ whole = subst (λ (l : List EdgeName). Leads (IsCutThere b crossing m n) whole l since.0) names since.1.run in
+    subst (λ (s : Stage M T). HaveGoneSince b crossing m n whole s t) same since.1
 
 -- ---- live ones
 
@@ -132,6 +156,17 @@ module _ {M T O : Type 0} (b : Machine M T) (crossing : CrossingNodes M T) (mean
   pub live_ahead : (whole : Stage M T) (live : Live M T O) (plan : Plan M T) → IsLiveOf b crossing meaning most_numbers whole live plan → (j : ℕ) (l : Link T) → slice_get whole.links j ≡ Some l → slice_get live.links.items j ≡ Some l
   live_ahead whole live plan is j l at =
       ap (λ ls. slice_get ls j) (is.links ∙ is.same.links) ∙ links_ahead b crossing (meaning live.ops) most_numbers whole (names_of plan.edges.items) is.opening is.run j l at
+
+  -- where a join was refused of what came back
+  pub live_not : (subs : List (Subscription M T)) (s : LiveSubscriptions M T O) (is : IsLiveFor b crossing meaning subs s) (trees : CutTrees M T) → (opening : Stage M T) × HaveGoneSince b crossing (meaning s.live.ops) most_numbers (record { pieces = is.pieces; links = is.links }) opening trees →
+      (0 < length trees.edges.items) × LastCannotJoin b crossing trees → AreNotJoined b crossing (meaning s.live.ops) subs s.kept.items
+  live_not subs s is trees since refused = record {
+    taps = is.taps;
+    trees = trees;
+    gone = record { pieces = is.pieces; links = is.links; out = is.out; opening = since.0; since = since.1 };
+    left = refused.0;
+    cannot = refused.1;
+  }
 
   -- the taps that were made are over them
   pub taps_live : (subs : List (Subscription M T)) (ks : List (Kept M T)) (taps : List (Tap T)) (pieces : List (Piece M T)) (links : List (Link T)) (live : Live M T O) (plan : Plan M T) → AreOut b 0 subs ks pieces links taps →
@@ -172,6 +207,27 @@ module _ {M T : Type 0} (b : Machine M T) (crossing : CrossingNodes M T) (m : Me
     | inr h ↦ (ap length h.0.tap_first ∙ (ap suc (as_many_taps subs (suc k) h.0.others h.0.pieces h.0.links h.0.taps h.1) ∙ sym (ap length h.0.piece_first)))
   ]
 
+-- they are cut at all edges
+pub all_cut : {M T : Type 0} (b : Machine M T) (crossing : CrossingNodes M T) (subs : List (Subscription M T)) (p : Parted M T) (ks : Vec (Kept M T) Global) (all : Vec (Link T) Global) (first now : CutTrees M T) (count : ℕ) (senders : List (Vec ℕ Global)) (roots : List ℕ) (taps : List (Tap T)) (places : List ℕ) →
+    AreOut b 0 subs p.kept.items p.pieces.items p.links.items p.taps.items → ks ≡ p.kept → (first.pieces ≡ p.pieces) × (first.links ≡ p.links) × (first.edges.items ≡ []) → taps ≡ p.taps.items → AreAllSwept b crossing count senders roots taps first now places → all ≡ now.links → AreAllCut b crossing subs ks.items all.items
+all_cut {M} {T} b crossing subs p ks all first now count senders roots taps places out kept made same swept links =
+    let K : Vec (Kept M T) Global → Type 0 = λ v. AreOut b 0 subs v.items first.pieces.items first.links.items p.taps.items in
+    let L : Vec (Link T) Global → Type 0 = λ v. AreOut b 0 subs p.kept.items first.pieces.items v.items p.taps.items in
+    let P : Vec (Piece M T) Global → Type 0 = λ v. AreOut b 0 subs p.kept.items v.items p.links.items p.taps.items in
+    record {
+      first = first;
+      now = now;
+      taps = p.taps.items;
+      out = subst K (sym kept) (subst L (sym made.1) (subst P (sym made.0) out));
+      none = made.2;
+      count = count;
+      senders = senders;
+      roots = roots;
+      places = places;
+      swept = subst (λ (l : List (Tap T)). AreAllSwept b crossing count senders roots l first now places) same swept;
+      links = ap (λ (v : Vec (Link T) Global). v.items) links;
+    }
+
 -- ---- where it is refused
 
 pub ok_also : {A E : Type 0} (r : Result A E) (P Q : A → Type 0) → ((x : A) → P x → Q x) → IfOk r P → IfOk r Q
@@ -190,9 +246,13 @@ module _ {M T O : Type 0} (b : Machine M T) (crossing : CrossingNodes M T) (mean
       let s = since (record { pieces = c.pieces; links = c.links }) c.cut in
       subst (λ (f : O). HaveGoneOut b crossing (meaning f) subs ks ts back) (sym same) (record { pieces = c.pieces; links = c.links; out = c.out; opening = s.0; since = s.1 })
 
-  pub refused_back : (ops o : O) (subs : List (Subscription M T)) (r : NotLive M T O) → o ≡ ops → ComeBack b meaning o subs r → ComeBack b meaning ops subs r
-  refused_back ops o subs r same h = subst (λ (f : O). ComeBack b meaning f subs r) same h
+  pub refused_back : (ops o : O) (subs : List (Subscription M T)) (r : NotLive M T O) → o ≡ ops → ComeBack b crossing meaning o subs r → ComeBack b crossing meaning ops subs r
+  refused_back ops o subs r same h = subst (λ (f : O). ComeBack b crossing meaning f subs r) same h
 
   -- what comes back where a growth was refused
-  pub come_of : (ops o : O) (subs : List (Subscription M T)) (now : Vec (Subscription M T) Global) (r : NotLive M T O) → r ≡ NoMemory o now → ComeBack b meaning ops subs r → (o ≡ ops) × (length now.items ≡ length subs) × StandAs b (meaning ops) subs now.items
-  come_of ops o subs now r same h = subst (λ (x : NotLive M T O). ComeBack b meaning ops subs x) same h
+  pub come_of : (ops o : O) (subs : List (Subscription M T)) (now : Vec (Subscription M T) Global) (r : NotLive M T O) → r ≡ NoMemory o now → ComeBack b crossing meaning ops subs r → (o ≡ ops) × (length now.items ≡ length subs) × StandAs b (meaning ops) subs now.items
+  come_of ops o subs now r same h = subst (λ (x : NotLive M T O). ComeBack b crossing meaning ops subs x) same h
+
+  -- where a join was refused
+  pub not_joined_of : (ops : O) (subs : List (Subscription M T)) (r : NotLive M T O) → r ≡ NotJoined → ComeBack b crossing meaning ops subs r → (ks : List (Kept M T)) × AreNotJoined b crossing (meaning ops) subs ks
+  not_joined_of ops subs r same h = subst (λ (x : NotLive M T O). ComeBack b crossing meaning ops subs x) same h

@@ -1,7 +1,8 @@
 -- How many pieces and links there are at a cut.
-use Rattle.std.proofs.Common.{◌≡◌, Bool, true, false, if◌then◌else◌, Result, Ok, Err, sym, ◌∙◌, ℕ, ◌+◌, ◌<◌, ◌≤◌, ◌^◌, List, [], ◌∷◌, ◌++◌, length, slice_set, ap, arith, length-append}
+use Rattle.std.proofs.Common.{◌≡◌, Bool, true, false, if◌then◌else◌, Result, Ok, Err, sym, ◌∙◌, ℕ, ◌+◌, ◌<◌, ◌≤◌, ◌^◌, List, [], ◌∷◌, ◌++◌, length, slice_set, ap, arith, length-append, nat_eq}
+use Rattle.std.proofs.lemmas.Bool.Decides.{nat_tests}
 use Rattle.std.proofs.lemmas.List.{length-set}
-use Rattle.std.specs.Prelude.{IfOk, IsErr, OnOk}
+use Rattle.std.specs.Prelude.{IfOk, IsErr, OnErr, OnOk}
 
 pub one_more : {A : Type 0} (ps new : List A) (k : ℕ) (x y : A) → new ≡ slice_set ps k x ++ y ∷ [] → length new ≡ length ps + 1
 one_more ps new k x y e =
@@ -38,3 +39,14 @@ on_none (Err e) P h = tt
 pub if_none : {A E : Type 0} (r : Result A E) (P : A → Type 0) → IsErr r → IfOk r P
 if_none (Ok v) P h = let e : false ≡ true = h in cc
 if_none (Err e) P h = tt
+
+pub on_err : {A E : Type 0} (r : Result A E) (P : Type 0) → P → OnErr r P
+on_err (Ok v) P h = tt
+on_err (Err e) P h = h
+
+pub on_err_also : {A E : Type 0} (r : Result A E) (P Q : Type 0) → P → OnErr r Q → OnErr r (P × Q)
+on_err_also (Ok v) P Q p q = tt
+on_err_also (Err e) P Q p q = (p, q)
+
+pub some_left : {A : Type 0} (es : List A) (n : ℕ) → n ≡ length es → nat_eq n 0 ≡ false → 0 < length es
+some_left es n size e = grind (arith, nat_tests, size, e)

@@ -1,10 +1,11 @@
 -- A graph whose subscriptions were live.
-use Rattle.std.proofs.Common.{◌≡◌, ℕ, suc, ◌<◌, nat_lt, arith, false, length, Bool, List, [], ◌∷◌, map, refl, ap, sym, ◌∙◌, subst}
+use Rattle.std.proofs.Common.{◌≡◌, ℕ, suc, ◌<◌, nat_lt, arith, false, length, Bool, List, [], ◌∷◌, map, refl, ap, sym, ◌∙◌, subst, Vec, Global}
 use Rattle.rsx_types.specs.Meaning.{Meaning}
 use Rattle.rsx_types.specs.declared.ops.Ops.{Ghosts as Ops}
 use Rattle.rsx_sources.specs.Prelude.{Stream}
 use Rattle.rsx_kinds.specs.Any.{TreeNode, any_machine}
 use Rattle.rsx_runtime.specs.declared.tap.Tap.{Tap}
+use Rattle.rsx_link.specs.declared.link.Link.{Link}
 use Rattle.rsx_graph_calls.specs.Regions.{RegionLists, region_in, regions_of, senders_in}
 use Rattle.rsx_graph_calls.specs.Senders.{senders_below}
 use Rattle.rsx_hub.specs.Hub.{HubState}
@@ -22,7 +23,10 @@ use Rattle.rsx_subscriber.specs.Past.{Past}
 use Rattle.rsx_subscriber.specs.declared.subscription.Subscription.{Subscription}
 use Rattle.rsx_live.specs.Graphs.{IsLiveGraphOf, IsTogether, any_crossing, lived_history}
 use Rattle.rsx_live.specs.Kept.{all_lived}
-use Rattle.rsx_live.specs.Lives.{IsLiveFor, StandAs}
+use Rattle.rsx_live.specs.Lives.{AreAllCut, AreNotJoined, ComeBack, IsLiveFor, StandAs}
+use Rattle.rsx_live.specs.declared.going.NotLive.{NotLive}
+use Rattle.rsx_live.specs.declared.going.NotLive.TheVariants.{NotJoined}
+use Rattle.rsx_live.proofs.Closings.{not_joined_of}
 use Rattle.rsx_live.specs.Returning.{lived}
 use Rattle.rsx_live.specs.Workers.{HaveRegions}
 use Rattle.rsx_graph_calls.specs.declared.regions.Regions.{Regions}
@@ -139,6 +143,20 @@ module _ {O T : Type 0} {b : Ops O T} where
     λ h st. graph_same graph g rest p.ops p.subs.items now h was (other_functions p.ops o now rest g back.0 is)
         (λ published pasts all. back.2 published pasts (subst (λ (l : List (Subscription (TreeNode T) T)). AllStand any_machine (b.meaning p.ops) published l pasts) was.subscriptions all)) st,
   )
+
+  -- the trees of its own subscriptions were cut
+  pub cut_live : (graph : Graph O T b) (p : Pieces O T b) (ks : List (Kept (TreeNode T) T)) (links : List (Link T)) → ArePiecesOf graph p → AreAllCut any_machine any_crossing p.subs.items ks links → AreAllCut any_machine any_crossing graph.subscriptions.items ks links
+  cut_live graph p ks links are cut = subst (λ (v : Vec (Subscription (TreeNode T) T) Global). AreAllCut any_machine any_crossing v.items ks links) are.subs cut
+
+  -- where pieces could not be joined then
+  pub none_back : (graph : Graph O T b) (p : Pieces O T b) (workers : ℕ) (r : NotLive (TreeNode T) T O) → ArePiecesOf graph p → HaveRegions workers p.regions → r ≡ NotJoined → ComeBack any_machine any_crossing b.meaning p.ops p.subs.items r →
+      HaveRegions workers graph.regions × ((ks : List (Kept (TreeNode T) T)) × AreNotJoined any_machine any_crossing (b.meaning graph.ops) graph.subscriptions.items ks)
+  none_back graph p workers r are regions same back =
+      let A : O → Type 0 = λ o. (ks : List (Kept (TreeNode T) T)) × AreNotJoined any_machine any_crossing (b.meaning o) p.subs.items ks in
+      let B : Vec (Subscription (TreeNode T) T) Global → Type 0 = λ v. (ks : List (Kept (TreeNode T) T)) × AreNotJoined any_machine any_crossing (b.meaning graph.ops) v.items ks in (
+        subst (λ (r' : Regions). HaveRegions workers r') are.regions regions,
+        subst B are.subs (subst A are.ops (not_joined_of any_machine any_crossing b.meaning p.ops p.subs.items r same back)),
+      )
 
 -- ---- whether there are enough workers
 

@@ -10,3 +10,5 @@ pub mod Ready
 pub mod Returns
 pub mod Sending
 pub mod Starts
+pub mod Staying
+pub mod Sweeps

@@ -1,5 +1,5 @@
 -- A part that went on as a piece stands for what it stood for, with what it sent.
-use Rattle.std.proofs.Common.{◌≡◌, inr, ℕ, zero, suc, ◌+◌, true, List, [], ◌∷◌, ◌++◌, length, replicate, refl, ap, sym, ◌∙◌, subst, Option, Some, None, option_map, slice_get, length-append, arith}
+use Rattle.std.proofs.Common.{◌≡◌, inr, ℕ, zero, suc, ◌+◌, Bool, true, false, not, is_some, List, [], ◌∷◌, ◌++◌, length, replicate, refl, ap, sym, ◌∙◌, subst, Option, Some, None, option_map, slice_get, length-append, arith}
 use Rattle.rsx_model.specs.declared.expr.Expr.{Expr}
 use Rattle.rsx_sources.specs.Prelude.{Complete, Error, Meaning, Next, Note, Reading, Signal, Stream, ends_input, notes_then, published_at, signals, signals_then}
 use Rattle.rsx_sources.specs.declared.machine.Machine.{Ghosts as Machine}
@@ -14,7 +14,7 @@ use Rattle.rsx_pipe.specs.Output.{IsOrderly, IsUnended, counts_in, items_in, val
 use Rattle.rsx_pipe.specs.Part.{Part, PartStands, evaluated}
 use Rattle.rsx_pipe.specs.Tree.{IsBalanced}
 use Rattle.rsx_cut.specs.Flow.{AreFor, Flows}
-use Rattle.rsx_cut.specs.Local.{Begins, stream_of}
+use Rattle.rsx_cut.specs.Local.{Begins, IsOf, stream_of}
 use Rattle.rsx_cut.proofs.Locals.{flows_stands, reads_not_on}
 use Rattle.rsx_link.specs.Ends.{carried_up}
 use Rattle.rsx_link.specs.Signals.{items_in as counted_in}
@@ -95,6 +95,18 @@ read_at_none counts (Some r) rs h = absurd h.0
 parts_of : (xs ys : List (Option Reading)) → NoneRead (xs ++ ys) → NoneRead xs × NoneRead ys
 parts_of [] ys h = (tt, h)
 parts_of (x ∷ xs) ys h = let k = parts_of xs ys h.1 in ((h.0, k.0), k.1)
+
+-- what is so of a row is so of its first node, of what is below that, and of what is beside it
+pub row_parts : (all xs ys : List (Option Reading)) (r : Option Reading) → all ≡ r ∷ (xs ++ ys) → NoneRead all → IsOf (λ i. ⊥) r × NoneRead xs × NoneRead ys
+row_parts all xs ys r is none =
+    let h : NoneRead (r ∷ (xs ++ ys)) = subst (λ (l : List (Option Reading)). NoneRead l) is none in
+    let both = parts_of xs ys h.1 in
+    (h.0, both.0, both.1)
+
+-- where a node says that it reads one, it does
+pub reads_one : (r : Option Reading) (o : Option ℕ) (none : Bool) → o ≡ option_map (λ (x : Reading). x.hub) r → is_some o ≡ not none → none ≡ false → IsOf (λ i. ⊥) r → ⊥
+reads_one None o none is some not_none h = let k : false ≡ true = sym (ap is_some is) ∙ (some ∙ ap not not_none) in cc
+reads_one (Some r) o none is some not_none h = h
 
 row_unread : {M T : Type 0} (b : Machine M T) (counts : List (Option ℕ)) (row : Inputs M) → NoneRead (row_readings b row) → IsRowReadAt b counts row
 row_unread b counts End h = tt

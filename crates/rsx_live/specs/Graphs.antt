@@ -1,5 +1,5 @@
 -- Graphs that are live.
-use Rattle.std.specs.Prelude.{◌≡◌, ⊤, ℕ, Bool, List}
+use Rattle.std.specs.Prelude.{◌≡◌, ℕ, Bool, List}
 use Rattle.rsx_types.specs.declared.ops.Ops.{Ghosts as Ops}
 use Rattle.rsx_kinds.specs.Any.{TreeNode, any_machine}
 use Rattle.rsx_kinds.specs.Cutting.{node_held, node_read_to, queue_of, with_ended_queue, with_queue}
@@ -11,7 +11,7 @@ use Rattle.rsx_graph.specs.Stands.{GraphStands}
 use Rattle.rsx_graph.specs.declared.graph.Graph.{Graph}
 use Rattle.rsx_subscriber.specs.declared.subscription.Subscription.{Subscription}
 use Rattle.rsx_live.specs.Kept.{WereStopped, all_lived}
-use Rattle.rsx_live.specs.Lives.{IsLiveFor}
+use Rattle.rsx_live.specs.Lives.{AreNotJoined, IsLiveFor}
 use Rattle.rsx_live.specs.Workers.{HaveRegions}
 use Rattle.rsx_live.specs.declared.graph.GraphRest.{GraphRest}
 use Rattle.rsx_live.specs.declared.graph.LiveGraph.{LiveGraph}
@@ -56,9 +56,13 @@ module _ {O T : Type 0} {b : Ops O T} where
     pub functions : g.ops ≡ live.subs.live.ops
     pub stands : (graph : Graph O T b) → IsLiveGraphOf graph live → (h : History T) → GraphStands (b.meaning graph.ops) (state_of graph) h → GraphStands (b.meaning g.ops) (state_of g) (lived_history live.subs.kept.items ts flags h)
 
+  -- no graph comes back, since some pieces can't be joined: so it is of each that went live so
+  abbrev pub IsNotJoined : LiveGraph O T b → Type 0
+  IsNotJoined live = (graph : Graph O T b) → IsLiveGraphOf graph live → AreNotJoined any_machine any_crossing (b.meaning live.subs.live.ops) graph.subscriptions.items live.subs.kept.items
+
   -- The graph comes back as it was, where there are too few workers; where a growth was refused it stands for what it stood for. But where
   -- a join was refused nothing comes back.
   abbrev pub ComesBack : ℕ → Graph O T b → NotStarted O T b → Type 0
   ComesBack workers graph (TooFewWorkers g) = (HaveRegions workers graph.regions → ⊥) × (g.ops ≡ graph.ops) × (state_of g ≡ state_of graph)
   ComesBack workers graph (NoMemory g) = HaveRegions workers graph.regions × (g.ops ≡ graph.ops) × ((h : History T) → GraphStands (b.meaning graph.ops) (state_of graph) h → GraphStands (b.meaning g.ops) (state_of g) h)
-  ComesBack workers graph NotJoined = ⊤
+  ComesBack workers graph NotJoined = HaveRegions workers graph.regions × ((ks : List (Kept (TreeNode T) T)) × AreNotJoined any_machine any_crossing (b.meaning graph.ops) graph.subscriptions.items ks)

@@ -1,5 +1,5 @@
 -- Subscriptions of which some have pieces in place of their parts.
-use Rattle.std.specs.Prelude.{◌≡◌, ◌⊎◌, ⊤, ◌+◌, ◌≤◌, ℕ, suc, Bool, List, [], ◌∷◌, ◌++◌, length}
+use Rattle.std.specs.Prelude.{◌≡◌, ◌⊎◌, ⊤, ◌+◌, ◌≤◌, ℕ, suc, Bool, false, List, [], ◌∷◌, ◌++◌, length}
 use Rattle.std.specs.Vec.{vec_capacity}
 use Rattle.rsx_sources.specs.Prelude.{Meaning, Signal, Stream}
 use Rattle.rsx_types.specs.declared.limits.TheConstants.{CAPACITY}
@@ -13,7 +13,7 @@ use Rattle.rsx_runtime.specs.declared.tap.Tap.{Tap}
 use Rattle.rsx_graph_state.specs.Subscriptions.{AllStand}
 use Rattle.rsx_subscriber.specs.Past.{Past}
 use Rattle.rsx_subscriber.specs.declared.subscription.Subscription.{Subscription}
-use Rattle.rsx_live.specs.Outgoing.{IsFresh, IsOutOf, IsTapFor}
+use Rattle.rsx_live.specs.Outgoing.{IsFresh, IsOutOf, IsTapFor, MayGoOut}
 use Rattle.rsx_live.specs.Returning.{StandsFor, WasStopped, lived}
 use Rattle.rsx_live.specs.declared.kept.Kept.{Kept}
 use Rattle.rsx_live.specs.declared.kept.Kept.TheVariants.{Away, Here}
@@ -58,6 +58,21 @@ module _ {M T : Type 0} where
   AreOut b k (s ∷ ss) ks ps ls ts =
       ((h : Stays s ks) × AreOut b k ss h.others ps ls ts)
       ⊎ ((h : Goes b k s ks ps ls ts) × AreOut b (suc k) ss h.others h.pieces h.links h.taps)
+
+  -- one that stays as it is may not go out
+  abbrev pub MustStay : Machine M T → Kept M T → Type 0
+  MustStay b (Here s) = MayGoOut b s → ⊥
+  MustStay b (Away q n) = ⊤
+
+  -- so it is with each
+  abbrev pub AllMustStay : Machine M T → List (Kept M T) → Type 0
+  AllMustStay b [] = ⊤
+  AllMustStay b (k ∷ ks) = MustStay b k × AllMustStay b ks
+
+  -- where that was so, it is so of what came behind them, too, unless one stays for want of memory or of a number
+  pub record StaysOnly (b : Machine M T) (old new : Parted M T) : Type 0 where
+    pub before : new.refused ≡ false → old.refused ≡ false
+    pub stay : new.refused ≡ false → AllMustStay b old.kept.items → AllMustStay b new.kept.items
 
   -- there is room for what so many subscriptions become
   pub record HasRoomFor (count : ℕ) (p : Parted M T) : Type 0 where

@@ -1,4 +1,5 @@
 -- Definitions that contracts cite.
+pub mod Cursors
 pub mod Cutting
 pub mod Graphs
 pub mod Kept

@@ -1,10 +1,11 @@
 -- Subscriptions that are live.
-use Rattle.std.specs.Prelude.{◌≡◌, ⊤, ◌^◌, ℕ, Bool, List, length}
+use Rattle.std.specs.Prelude.{◌≡◌, ◌<◌, ◌^◌, ℕ, Bool, List, [], length}
+use Rattle.std.proofs.Common.{Vec, Global}
 use Rattle.rsx_sources.specs.Prelude.{Meaning, Stream}
 use Rattle.rsx_sources.specs.declared.machine.Machine.{Ghosts as Machine}
 use Rattle.rsx_rooted.specs.declared.nodes.CrossingNodes.{Ghosts as CrossingNodes}
 use Rattle.rsx_link.specs.declared.link.Link.{Link}
-use Rattle.rsx_region.specs.Trees.{AreCutFrom, HaveGoneSince, Stage}
+use Rattle.rsx_region.specs.Trees.{AreCutFrom, HaveGoneSince, LastCannotJoin, Stage}
 use Rattle.rsx_region.specs.declared.piece.Piece.{Piece}
 use Rattle.rsx_region.specs.declared.trees.CutTrees.{CutTrees}
 use Rattle.rsx_runtime.specs.Closing.{IsLiveOf}
@@ -12,6 +13,7 @@ use Rattle.rsx_runtime.specs.declared.tap.Tap.{Tap}
 use Rattle.rsx_graph_state.specs.Subscriptions.{AllStand}
 use Rattle.rsx_subscriber.specs.Past.{Past}
 use Rattle.rsx_subscriber.specs.declared.subscription.Subscription.{Subscription}
+use Rattle.rsx_live.specs.Cutting.{AreAllSwept}
 use Rattle.rsx_live.specs.Kept.{AreOut, WereStopped, all_lived}
 use Rattle.rsx_live.specs.declared.kept.Kept.{Kept}
 use Rattle.rsx_live.specs.declared.going.NotLive.{NotLive}
@@ -38,6 +40,29 @@ module _ {M T : Type 0} where
     pub out : AreOut b 0 subs ks pieces links ts
     pub cut : AreCutFrom b crossing m most_numbers (record { pieces = pieces; links = links }) trees
 
+  -- So many links there are where the trees of the pieces that these subscriptions became, none of which was cut before, are cut at all
+  -- edges at which they can be.
+  pub record AreAllCut (b : Machine M T) (crossing : CrossingNodes M T) (subs : List (Subscription M T)) (ks : List (Kept M T)) (all : List (Link T)) : Type 0 where
+    pub first : CutTrees M T
+    pub now : CutTrees M T
+    pub taps : List (Tap T)
+    pub out : AreOut b 0 subs ks first.pieces.items first.links.items taps
+    pub none : first.edges.items ≡ []
+    pub count : ℕ
+    pub senders : List (Vec ℕ Global)
+    pub roots : List ℕ
+    pub places : List ℕ
+    pub swept : AreAllSwept b crossing count senders roots taps first now places
+    pub links : all ≡ now.links.items
+
+  -- Of the pieces that these subscriptions became, some can't be joined: some edge is left, and a join was refused at the last.
+  pub record AreNotJoined (b : Machine M T) (crossing : CrossingNodes M T) (m : Meaning T) (subs : List (Subscription M T)) (ks : List (Kept M T)) : Type 0 where
+    pub taps : List (Tap T)
+    pub trees : CutTrees M T
+    pub gone : HaveGoneOut b crossing m subs ks taps trees
+    pub left : 0 < length trees.edges.items
+    pub cannot : LastCannotJoin b crossing trees
+
   -- those stand for what these stood for
   abbrev pub StandAs : Machine M T → Meaning T → List (Subscription M T) → List (Subscription M T) → Type 0
   StandAs b m was now = (published : List (Stream T)) (pasts : List (Past T)) → AllStand b m published was pasts → AllStand b m published now pasts
@@ -63,6 +88,6 @@ module _ {M T O : Type 0} where
     pub stands : (subs : List (Subscription M T)) → IsLiveFor b crossing meaning subs s → (published : List (Stream T)) (pasts : List (Past T)) → AllStand b (meaning s.live.ops) published subs pasts → AllStand b (meaning s.live.ops) published now (all_lived s.kept.items ts flags pasts)
 
   -- They come back, with the functions; each stands for what it stood for. But where a join was refused nothing comes back.
-  abbrev pub ComeBack : Machine M T → (O → Meaning T) → O → List (Subscription M T) → NotLive M T O → Type 0
-  ComeBack b meaning ops subs (NoMemory o now) = (o ≡ ops) × (length now.items ≡ length subs) × StandAs b (meaning ops) subs now.items
-  ComeBack b meaning ops subs NotJoined = ⊤
+  abbrev pub ComeBack : Machine M T → CrossingNodes M T → (O → Meaning T) → O → List (Subscription M T) → NotLive M T O → Type 0
+  ComeBack b crossing meaning ops subs (NoMemory o now) = (o ≡ ops) × (length now.items ≡ length subs) × StandAs b (meaning ops) subs now.items
+  ComeBack b crossing meaning ops subs NotJoined = (ks : List (Kept M T)) × AreNotJoined b crossing (meaning ops) subs ks

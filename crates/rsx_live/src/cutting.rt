@@ -1,12 +1,14 @@
 //! Trees are cut into pieces, each of which is in one region.
 
-ghost use Rattle.std.specs.Prelude.{◌≡◌, ◌+◌, ◌<◌, ◌≤◌, ◌^◌, ℕ, if◌then◌else◌, length, IfOk, OnOk};
+ghost use Rattle.std.specs.Prelude.{◌≡◌, ◌+◌, ◌<◌, ◌≤◌, ◌^◌, ◌++◌, ◌∷◌, [], ℕ, List, Some, false, true, if◌then◌else◌, length, map, slice_get, IfOk, OnOk};
 ghost use Rattle.rsx_types.specs.Meaning.{Meaning};
 ghost use Rattle.rsx_region.specs.Pieces.{Each};
-ghost use Rattle.rsx_region.specs.Trees.{AreCutFrom, Stage};
-ghost use Rattle.rsx_live.specs.Cutting.{AreCutStill};
+ghost use Rattle.rsx_region.specs.Trees.{AreCutFrom, IsOneCut, IsReadUnder, SameStage, Stage, StaysWholeAt, stage_of};
+ghost use Rattle.rsx_live.specs.Cursors.{first_of, region_in, root_at, root_in};
+ghost use Rattle.rsx_live.specs.Cutting.{AreAllSwept, AreCutStill, CountsCrossing, IsCutOrWhole, IsSwept, crosses_at, sweep_of};
+ghost use Rattle.rsx_region.specs.declared.piece.Piece.{Piece as PieceSpec};
 
-use rsx_pipe::CrossingNodes;
+use rsx_pipe::{CrossingNodes, Part};
 use rsx_region::{CutTrees, NotCut, Piece};
 use rsx_runtime::Tap;
 use rsx_types::NoMemory;
@@ -22,8 +24,12 @@ struct Cursor {
 }
 
 impl Cursor {
+    ghost use Rattle.rsx_live.specs.Cursors.{passed_by, sender_at};
+
     /// The region of the sender there, 0 where there is none.
-    fn region(self, senders: &[Vec<u8>]) -> u8 {
+    fn region(self, senders: &[Vec<u8>]) -> u8
+        ensures { result ≡ sender_at senders.now self }
+    {
         let Some(regions) = senders.get(self.tree) else {
             return 0;
         };
@@ -31,7 +37,9 @@ impl Cursor {
     }
 
     /// The place behind so many senders more.
-    fn behind(self, count: usize) -> Cursor {
+    fn behind(self, count: usize) -> Cursor
+        ensures { result ≡ passed_by count self }
+    {
         Cursor {
             tree: self.tree,
             passed: self.passed.saturating_add(count),
@@ -64,6 +72,8 @@ impl Placed {
         requires { 0 < count }
         ensures count { IfOk result (λ p. p.count ≡ count) }
         ensures beside { IfOk result (λ p. length p.places.items ≡ length taps.now) }
+        ensures places { IfOk result (λ p. p.places.items ≡ map (root_in count roots.now) taps.now) }
+        ensures cursors { IfOk result (λ p. p.cursors.items ≡ map first_of taps.now) }
     {
         let mut placed = Placed {
             count,
@@ -72,8 +82,7 @@ impl Placed {
         };
         for place in 0..taps.len() {
             let tree = taps[place].sub().0 as usize;
-            let root = roots.get(tree).copied().unwrap_or(0);
-            placed.push(root, Cursor { tree, passed: 0 })?;
+            placed.push(root_region(roots, tree), Cursor { tree, passed: 0 })?;
         }
         Ok(placed)
     }
@@ -82,6 +91,8 @@ impl Placed {
     fn push(&mut self, region: u8, cursor: Cursor) -> Result<(), NoMemory>
         ensures count { self.new.count ≡ self.old.count }
         ensures beside { OnOk result (length self.new.places.items ≡ length self.old.places.items + 1) }
+        ensures places { OnOk result (self.new.places.items ≡ self.old.places.items ++ region_in self.old.count region ∷ []) }
+        ensures cursors { OnOk result (self.new.cursors.items ≡ self.old.cursors.items ++ cursor ∷ []) }
     {
         let place = region_there(region, self.count);
         self.places.reserve(1)?;
@@ -94,6 +105,7 @@ impl Placed {
     /// Where the senders of the piece at this place begin.
     fn cursor(&self, at: usize) -> Cursor
         requires { at < length self.now.places.items }
+        ensures { slice_get self.now.cursors.items at ≡ Some result }
     {
         self.cursors[at]
     }
@@ -112,10 +124,18 @@ impl Placed {
     }
 }
 
+/// The region of the root of the tree with this number, 0 where there is none.
+fn root_region(roots: &[u8], tree: usize) -> u8
+    ensures { result ≡ root_at roots.now tree }
+{
+    roots.get(tree).copied().unwrap_or(0)
+}
+
 /// This region, or region 0 where there aren't so many.
 fn region_there(region: u8, count: u8) -> u8
     requires { 0 < count }
-    ensures { result < count }
+    ensures there { result < count }
+    ensures is { result ≡ region_in count region }
 {
     if region < count { region } else { 0 }
 }
@@ -141,6 +161,7 @@ pub fn cut_all<N: CrossingNodes<Item = T> + Drop, T: Drop>(
     requires some { 0 < count }
     requires taps { length taps.now ≡ length trees.old.pieces.items }
     ensures places { IfOk result (λ v. (length v.items ≡ length trees.new.pieces.items) × Each (λ p. p < count) v.items) }
+    ensures cut { IfOk result (λ v. AreAllSwept N.Machine N.CrossingNodes.own count senders.now roots.now taps.now trees.old trees.new v.items) }
     ensures from { (m : Meaning T) (n : ℕ) (whole : Stage N T) → 2 ^ 32 ≤ n → AreCutFrom N.Machine N.CrossingNodes.own m n whole trees.old → AreCutFrom N.Machine N.CrossingNodes.own m n whole trees.new }
 {
     let mut placed = Placed::of_taps(alloc, taps, roots, count)?;
@@ -165,11 +186,12 @@ fn cut_piece<N: CrossingNodes<Item = T> + Drop, T: Drop>(
     requires beside { length placed.old.places.items ≡ length trees.old.pieces.items }
     ensures beside { OnOk result (length placed.new.places.items ≡ length trees.new.pieces.items) }
     ensures count { placed.new.count ≡ placed.old.count }
+    ensures cut { OnOk result (IsSwept N.Machine N.CrossingNodes.own placed.old.count senders.now above (sweep_of trees.old placed.old.places placed.old.cursors) (sweep_of trees.new placed.new.places placed.new.cursors)) }
     ensures from { AreCutStill N.Machine N.CrossingNodes.own trees.old trees.new }
 {
     let mut cursor = placed.cursor(above);
     for at in 0..u32::MAX {
-        let Some(crosses) = edge_crosses(&trees.pieces[above], at) else {
+        let Some(crosses) = edge_crosses(&trees.pieces[above].part, at) else {
             break;
         };
         if crosses {
@@ -198,6 +220,7 @@ fn cut_at<N: CrossingNodes<Item = T> + Drop, T: Drop>(
     ensures there { above < length trees.new.pieces.items }
     ensures beside { OnOk result (length placed.new.places.items ≡ length trees.new.pieces.items) }
     ensures count { placed.new.count ≡ placed.old.count }
+    ensures cut { IfOk result (λ below. IsCutOrWhole N.Machine N.CrossingNodes.own above at (region_in placed.old.count region) cursor below (sweep_of trees.old placed.old.places placed.old.cursors) (sweep_of trees.new placed.new.places placed.new.cursors)) }
     ensures from { AreCutStill N.Machine N.CrossingNodes.own trees.old trees.new }
 {
     if !try_cut(alloc, trees, above, at)? {
@@ -217,6 +240,8 @@ fn try_cut<N: CrossingNodes<Item = T> + Drop, T: Drop>(
     requires { above < length trees.old.pieces.items }
     ensures more { length trees.old.pieces.items ≤ length trees.new.pieces.items }
     ensures count { IfOk result (λ cut. length trees.new.pieces.items ≡ (if cut then length trees.old.pieces.items + 1 else length trees.old.pieces.items)) }
+    ensures cut { IfOk result (λ cut. cut ≡ true → IsOneCut N.Machine N.CrossingNodes.own (stage_of trees.old) above at (stage_of trees.new) × IsReadUnder (length trees.old.links.items) above trees.new.pieces.items) }
+    ensures whole { IfOk result (λ cut. cut ≡ false → StaysWholeAt N.Machine N.CrossingNodes.own trees.old above at (length trees.old.links.items) × SameStage (stage_of trees.old) (stage_of trees.new)) }
     ensures from { AreCutStill N.Machine N.CrossingNodes.own trees.old trees.new }
 {
     let Ok(hub) = u32::try_from(trees.links.len()) else {
@@ -229,32 +254,34 @@ fn try_cut<N: CrossingNodes<Item = T> + Drop, T: Drop>(
     }
 }
 
-/// Whether the edge of the piece with this number crosses; none where it has fewer edges.
-fn edge_crosses<N: CrossingNodes<Item = T> + Drop, T: Drop>(
-    piece: &Piece<N, T>,
-    at: u32,
-) -> Option<bool> {
-    let rooted = piece.part.rooted();
+/// Whether the edge of the part with this number crosses; none where it has fewer edges.
+fn edge_crosses<N: CrossingNodes<Item = T> + Drop, T: Drop>(part: &Part<N>, at: u32) -> Option<bool>
+    ensures { result ≡ crosses_at N.Machine part.now at }
+{
+    let rooted = part.rooted();
     let (_, node) = rooted.tree.node(&rooted.root, at)?;
     Some(node.is_crossing())
 }
 
 /// How many edges of the last piece cross.
-fn count_last<N: CrossingNodes<Item = T> + Drop, T: Drop>(pieces: &[Piece<N, T>]) -> usize {
-    match pieces.last() {
-        Some(piece) => count_crossing(piece),
-        None => 0,
-    }
+fn count_last<N: CrossingNodes<Item = T> + Drop, T: Drop>(pieces: &[Piece<N, T>]) -> usize
+    requires { 0 < length pieces.now }
+    ensures { (others : List (PieceSpec N T)) × (last : PieceSpec N T) × (pieces.now ≡ others ++ last ∷ []) × CountsCrossing N.Machine last.part result }
+{
+    count_crossing(&pieces[pieces.len() - 1].part)
 }
 
-/// How many edges of the piece cross.
-fn count_crossing<N: CrossingNodes<Item = T> + Drop, T: Drop>(piece: &Piece<N, T>) -> usize {
+/// How many edges of the part cross.
+fn count_crossing<N: CrossingNodes<Item = T> + Drop, T: Drop>(part: &Part<N>) -> usize
+    ensures { CountsCrossing N.Machine part.now result }
+{
     let mut count = 0;
     for at in 0..u32::MAX {
-        match edge_crosses(piece, at) {
-            Some(true) => count += 1,
-            Some(false) => {}
-            None => break,
+        let Some(crosses) = edge_crosses(part, at) else {
+            break;
+        };
+        if crosses {
+            count += 1;
         }
     }
     count

@@ -1,18 +1,18 @@
 //! Subscriptions go live.
 
-ghost use Rattle.std.specs.Prelude.{◌≡◌, ◌<◌, ◌≤◌, List, [], length, IfErr, IfOk};
+ghost use Rattle.std.specs.Prelude.{◌≡◌, ◌<◌, ◌≤◌, List, [], false, length, IfErr, IfOk};
 ghost use Rattle.std.specs.List.{AllZip};
 ghost use Rattle.std.specs.Vec.{vec_capacity};
 ghost use Rattle.rsx_gate.specs.Machine.{all_parts};
 ghost use Rattle.rsx_gate.specs.Seats.{IsSeatOf};
-ghost use Rattle.rsx_live.specs.Kept.{AreOut, AreTapsFrom};
-ghost use Rattle.rsx_live.specs.Lives.{AreCutOut, ComeBack, HaveGoneOut, IsLiveFor};
+ghost use Rattle.rsx_live.specs.Kept.{AllMustStay, AreOut, AreTapsFrom};
+ghost use Rattle.rsx_live.specs.Lives.{AreAllCut, AreCutOut, ComeBack, HaveGoneOut, IsLiveFor};
 ghost use Rattle.rsx_region.specs.Pieces.{Each};
 ghost use Rattle.rsx_subscriber.specs.declared.subscription.Subscription.{Subscription as SubscriptionSpec};
 
 use crate::cutting::cut_all;
 use crate::kept::{Kept, Parted};
-use crate::lives::{LiveSubscriptions, come_back_all};
+use crate::lives::{LiveSubscriptions, come_back_all, join_trees};
 use rsx_pipe::{CrossingNodes, Nodes};
 use rsx_region::CutTrees;
 use rsx_runtime::{Begun, Live, RegionSeat, Tap};
@@ -37,9 +37,9 @@ pub struct Started<N: Nodes<Item = T>, T: Drop, O: Ops<Item = T>> {
 /// Subscriptions did not go live.
 #[derive(Drop)]
 pub enum NotLive<N, T, O> {
-    /// A growth was refused. They come back, with the functions.
+    /// A growth was refused, or there are more than 2^32 subscriptions. They come back, with the functions.
     NoMemory(O, Vec<Subscription<N, T>>),
-    /// A growth was refused, and then pieces could not be joined, which is not proved never to come, and no test met it.
+    /// The same, and then pieces could not be joined, which is not proved never to come, and no test met it. Nothing comes back.
     NotJoined,
 }
 
@@ -55,12 +55,14 @@ struct Rest<N, T> {
 }
 
 /// Puts the parts of subscriptions into so many regions, where their roots and the senders of their crossing edges are, each of which has
-/// a gate. A part goes there whose subscription is open, whose root has not ended, and which reads no hub; the others stay as they are
-/// until the close. `roots` has the region of each root, and `senders` of each tree those of the senders over its edges below the root
+/// a gate. A part goes there exactly where its subscription is open, its root has not ended, and it reads no hub
+/// ([`go_out`](crate::go_out) says of each); the others stay as they are until the close. `roots` has the region of each root, and `senders` of each tree those of the senders over its edges below the root
 /// that cross, in pre-order; a region that isn't there counts as region 0. [`LiveSubscriptions::close`] undoes it.
 ///
 /// # Errors
-/// [`NotLive::NoMemory`] where a growth was refused. The subscriptions come back, and stand for what they stood for.
+/// [`NotLive::NoMemory`] where a growth was refused, or there are more than 2^32 subscriptions. They come back, and stand for what they
+/// stood for. [`NotLive::NotJoined`] in place of it only where pieces that were cut can't be joined again
+/// ([`CutTrees::join_all`](rsx_region::CutTrees::join_all)). Nothing comes back then.
 pub fn go_live<N: CrossingNodes<Item = T> + Drop, T: Drop, O: Ops<Item = T>>(
     alloc: Global,
     ops: O,
@@ -74,7 +76,9 @@ pub fn go_live<N: CrossingNodes<Item = T> + Drop, T: Drop, O: Ops<Item = T>>(
     ensures taps { IfOk result (λ s. AreTapsFrom s.live.live.links.items 0 s.live.kept.items s.taps.items) }
     ensures seats { IfOk result (λ s. AllZip (λ g x. IsSeatOf g x × (all_parts ≤ x.me.0.parts)) s.live.live.gates.items s.seats.items) }
     ensures gates { IfOk result (λ s. (length s.live.live.gates.items ≡ workers) × (s.live.live.ops ≡ ops) × (length s.live.kept.items ≡ length subs.items)) }
-    ensures err { IfErr result (λ e. ComeBack N.Machine O.meaning ops subs.items e) }
+    ensures stay { IfOk result (λ s. AllMustStay N.Machine s.live.kept.items) }
+    ensures cut { IfOk result (λ s. AreAllCut N.Machine N.CrossingNodes.own subs.items s.live.kept.items s.live.live.links.items) }
+    ensures err { IfErr result (λ e. ComeBack N.Machine N.CrossingNodes.own O.meaning ops subs.items e) }
 {
     let Ok(room) = Vec::with_capacity(alloc, subs.len()) else {
         return Err(NotLive::NoMemory(ops, subs));
@@ -103,7 +107,9 @@ fn part_live<N: CrossingNodes<Item = T> + Drop, T: Drop, O: Ops<Item = T>>(
     ensures taps { IfOk result (λ s. AreTapsFrom s.live.live.links.items 0 s.live.kept.items s.taps.items) }
     ensures seats { IfOk result (λ s. AllZip (λ g x. IsSeatOf g x × (all_parts ≤ x.me.0.parts)) s.live.live.gates.items s.seats.items) }
     ensures gates { IfOk result (λ s. (length s.live.live.gates.items ≡ workers) × (s.live.live.ops ≡ ops) × (s.live.kept ≡ parted.kept)) }
-    ensures err { IfErr result (λ e. (subs : List (SubscriptionSpec N T)) → AreOut N.Machine 0 subs parted.kept.items parted.pieces.items parted.links.items parted.taps.items → ComeBack N.Machine O.meaning ops subs e) }
+    ensures stay { IfOk result (λ s. (parted.refused ≡ false → AllMustStay N.Machine parted.kept.items) → AllMustStay N.Machine s.live.kept.items) }
+    ensures cut { IfOk result (λ s. (subs : List (SubscriptionSpec N T)) → AreOut N.Machine 0 subs parted.kept.items parted.pieces.items parted.links.items parted.taps.items → AreAllCut N.Machine N.CrossingNodes.own subs s.live.kept.items s.live.live.links.items) }
+    ensures err { IfErr result (λ e. (subs : List (SubscriptionSpec N T)) → AreOut N.Machine 0 subs parted.kept.items parted.pieces.items parted.links.items parted.taps.items → ComeBack N.Machine N.CrossingNodes.own O.meaning ops subs e) }
 {
     let Parted {
         pieces,
@@ -144,8 +150,8 @@ fn begin<N: CrossingNodes<Item = T> + Drop, T: Drop, O: Ops<Item = T>>(
     ensures live { IfOk result (λ s. (subs : List (SubscriptionSpec N T)) → AreCutOut N.Machine N.CrossingNodes.own (O.meaning ops) subs rest.kept.items rest.taps.items trees → IsLiveFor N.Machine N.CrossingNodes.own O.meaning subs s.live) }
     ensures taps { IfOk result (λ s. AreTapsFrom s.live.live.links.items 0 s.live.kept.items s.taps.items) }
     ensures seats { IfOk result (λ s. AllZip (λ g x. IsSeatOf g x × (all_parts ≤ x.me.0.parts)) s.live.live.gates.items s.seats.items) }
-    ensures gates { IfOk result (λ s. (length s.live.live.gates.items ≡ workers) × (s.live.live.ops ≡ ops) × (s.live.kept ≡ rest.kept)) }
-    ensures err { IfErr result (λ e. (subs : List (SubscriptionSpec N T)) → AreCutOut N.Machine N.CrossingNodes.own (O.meaning ops) subs rest.kept.items rest.taps.items trees → ComeBack N.Machine O.meaning ops subs e) }
+    ensures gates { IfOk result (λ s. (length s.live.live.gates.items ≡ workers) × (s.live.live.ops ≡ ops) × (s.live.kept ≡ rest.kept) × (s.live.live.links ≡ trees.links)) }
+    ensures err { IfErr result (λ e. (subs : List (SubscriptionSpec N T)) → AreCutOut N.Machine N.CrossingNodes.own (O.meaning ops) subs rest.kept.items rest.taps.items trees → ComeBack N.Machine N.CrossingNodes.own O.meaning ops subs e) }
 {
     match Live::begin(alloc, ops, trees, places, workers, NUMBERS) {
         Ok(Begun { live, seats, plan }) => {
@@ -169,11 +175,11 @@ fn give_back<N: CrossingNodes<Item = T> + Drop, T: Drop, O: Ops<Item = T>>(
     rest: Rest<N, T>,
 ) -> NotLive<N, T, O>
     requires { (subs : List (SubscriptionSpec N T)) × HaveGoneOut N.Machine N.CrossingNodes.own (O.meaning ops) subs rest.kept.items rest.taps.items trees }
-    ensures { (subs : List (SubscriptionSpec N T)) → HaveGoneOut N.Machine N.CrossingNodes.own (O.meaning ops) subs rest.kept.items rest.taps.items trees → ComeBack N.Machine O.meaning ops subs result }
+    ensures { (subs : List (SubscriptionSpec N T)) → HaveGoneOut N.Machine N.CrossingNodes.own (O.meaning ops) subs rest.kept.items rest.taps.items trees → ComeBack N.Machine N.CrossingNodes.own O.meaning ops subs result }
 {
     let mut trees = trees;
     let Rest { taps, kept, room } = rest;
-    match trees.join_all() {
+    match join_trees(&mut trees) {
         Ok(()) => NotLive::NoMemory(ops, come_back_all(trees, taps, kept, room)),
         Err(_) => NotLive::NotJoined,
     }

@@ -1,13 +1,14 @@
 //! A graph goes live, and comes back.
 
-ghost use Rattle.std.specs.Prelude.{◌≡◌, ◌<◌, ◌≤◌, [], length, IfErr, IfOk};
+ghost use Rattle.std.specs.Prelude.{◌≡◌, ◌<◌, ◌≤◌, [], length, IfErr, IfOk, OnErr};
 ghost use Rattle.std.specs.List.{AllZip};
 ghost use Rattle.rsx_gate.specs.Machine.{all_parts};
 ghost use Rattle.rsx_gate.specs.Seats.{IsSeatOf};
 ghost use Rattle.rsx_graph.specs.Stands.{NameHubs-prop};
 ghost use Rattle.rsx_graph_calls.specs.Edits.{NameHubs};
 ghost use Rattle.rsx_graph_state.specs.declared.TheConstants.{MOST_HUBS, MOST_SUBSCRIPTIONS};
-ghost use Rattle.rsx_live.specs.Kept.{AreTapsFrom};
+ghost use Rattle.rsx_kinds.specs.Any.{any_machine};
+ghost use Rattle.rsx_live.specs.Kept.{AllMustStay, AreTapsFrom};
 
 use crate::going::{NotLive, Started, go_live};
 use crate::lives::LiveSubscriptions;
@@ -65,21 +66,26 @@ pub enum NotStarted<O: Ops> {
     TooFewWorkers(Graph<O>),
     /// A growth was refused. The graph comes back, and stands for what it stood for.
     NoMemory(Graph<O>),
-    /// A growth was refused, and then pieces could not be joined, which is not proved never to come, and no test met it.
+    /// A growth was refused, and then pieces could not be joined, which is not proved never to come, and no test met it. No graph comes
+    /// back.
     NotJoined,
 }
 
 impl<O: Ops> LiveGraph<O> {
-    ghost use Rattle.rsx_live.specs.Graphs.{ComesBack, GraphBack, IsLiveGraph};
+    ghost use Rattle.rsx_live.specs.Graphs.{ComesBack, GraphBack, IsLiveGraph, IsNotJoined, any_crossing};
+    ghost use Rattle.rsx_live.specs.Lives.{AreAllCut};
     ghost use Rattle.rsx_live.specs.Starts.{IsStartedOf};
     ghost use Rattle.rsx_live.specs.Workers.{HaveRegions};
 
     /// Puts the parts of a graph's subscriptions into `workers` regions, each behind a gate: where its root and the senders of its crossing
-    /// edges are, as the expressions tell. [`LiveGraph::close`] gives the graph back.
+    /// edges are, as the expressions tell. That is the part of each that is open, whose root has not ended, and which reads no hub
+    /// ([`go_out`](crate::go_out) says of each); the others stay as they are. [`LiveGraph::close`] gives the graph back.
     ///
     /// # Errors
-    /// [`NotStarted::TooFewWorkers`] exactly where there are none or more than [`MOST_WORKERS`](rsx_runtime::MOST_WORKERS), or some region isn't below that number,
-    /// else [`NotStarted::NoMemory`] where a growth was refused.
+    /// [`NotStarted::TooFewWorkers`] exactly where there are none or more than [`MOST_WORKERS`](rsx_runtime::MOST_WORKERS), or some region
+    /// isn't below that number, else [`NotStarted::NoMemory`] where a growth was refused. [`NotStarted::NotJoined`] in place of that only
+    /// where pieces that were cut can't be joined again ([`CutTrees::join_all`](rsx_region::CutTrees::join_all)): this is not proved never
+    /// to come, and no test met it. No graph comes back then.
     pub fn go_live(
         alloc: Global,
         graph: Graph<O>,
@@ -88,6 +94,8 @@ impl<O: Ops> LiveGraph<O> {
         ensures started { IfOk result (IsStartedOf graph) }
         ensures gates { IfOk result (λ s. length s.live.subs.live.gates.items ≡ workers) }
         ensures workers { IfOk result (λ s. HaveRegions workers graph.regions) }
+        ensures stay { IfOk result (λ s. AllMustStay any_machine s.live.subs.kept.items) }
+        ensures cut { IfOk result (λ s. AreAllCut any_machine any_crossing graph.subscriptions.items s.live.subs.kept.items s.live.subs.live.links.items) }
         ensures err { IfErr result (ComesBack workers graph) }
     {
         let pieces = graph.take_apart();
@@ -150,8 +158,8 @@ impl<O: Ops> LiveGraph<O> {
     /// the taps and the seats that [`LiveGraph::go_live`] gave, each seat with all parts. It takes no memory.
     ///
     /// # Errors
-    /// Where pieces can't be joined, which [`Piece::join`](rsx_region::Piece::join) says of: this is not proved never to come, and no
-    /// test met it. Nothing comes back then.
+    /// Only where pieces can't be joined, which [`Piece::join`](rsx_region::Piece::join) says of: this is not proved never to come, and
+    /// no test met it. Nothing comes back then.
     pub fn close(
         self,
         taps: Vec<Tap<O::Item>>,
@@ -161,6 +169,7 @@ impl<O: Ops> LiveGraph<O> {
         requires taps { AreTapsFrom self.subs.live.links.items 0 self.subs.kept.items taps.items }
         requires seats { AllZip (λ g s. IsSeatOf g s × (all_parts ≤ s.me.0.parts)) self.subs.live.gates.items seats.items }
         ensures back { IfOk result (GraphBack self taps.items) }
+        ensures err { OnErr result (IsNotJoined self) }
     {
         let LiveGraph { subs, rest } = self;
         let (subs, ops) = subs.close(taps, seats)?;

@@ -1,6 +1,6 @@
 //! Subscriptions of which some have pieces in place of their parts.
 
-ghost use Rattle.std.specs.Prelude.{◌≡◌, ◌+◌, ◌≤◌, ◌++◌, ◌∷◌, [], List, ℕ, length, IfErr, IfOk};
+ghost use Rattle.std.specs.Prelude.{◌≡◌, ◌+◌, ◌≤◌, ◌++◌, ◌∷◌, [], false, List, ℕ, length, IfErr, IfOk};
 ghost use Rattle.std.specs.Vec.{vec_capacity};
 ghost use Rattle.std.specs.Vec.Iter.{into_iter_items, into_iter_len};
 ghost use Rattle.rsx_live.specs.Kept.{CameBack, CameFirst, CanComeBack, CanComeFirst};
@@ -37,12 +37,12 @@ pub struct Parted<N, T> {
     pub taps: Vec<Tap<T>>,
     /// What is kept of each subscription, in the order of their numbers.
     pub kept: Vec<Kept<N, T>>,
-    /// Whether one stays as it is for want of memory.
+    /// Whether one stays as it is for want of memory or of a number.
     pub refused: bool,
 }
 
 impl<N: Nodes<Item = T> + Drop, T: Drop> Parted<N, T> {
-    ghost use Rattle.rsx_live.specs.Kept.{AreOut, ArePartedBy, HasMore, HasRoomFor};
+    ghost use Rattle.rsx_live.specs.Kept.{AllMustStay, AreOut, ArePartedBy, HasMore, HasRoomFor, StaysOnly};
     ghost use Rattle.rsx_live.specs.declared.kept.Kept.{Kept as KeptSpec};
 
     /// Makes pieces of the parts of subscriptions, where that can be ([`go_out`]). They come in the order of their numbers.
@@ -54,6 +54,7 @@ impl<N: Nodes<Item = T> + Drop, T: Drop> Parted<N, T> {
         subs: Vec<Subscription<N, T>>,
     ) -> Result<Parted<N, T>, Vec<Subscription<N, T>>>
         ensures ok { IfOk result (λ p. AreOut N.Machine 0 subs.items p.kept.items p.pieces.items p.links.items p.taps.items) }
+        ensures stay { IfOk result (λ p. p.refused ≡ false → AllMustStay N.Machine p.kept.items) }
         ensures err { IfErr result (λ back. back ≡ subs) }
     {
         let Ok(mut parted) = Parted::with_room(alloc, subs.len()) else {
@@ -81,7 +82,8 @@ impl<N: Nodes<Item = T> + Drop, T: Drop> Parted<N, T> {
     fn add_each(&mut self, alloc: Global, subs: &mut IntoIter<Subscription<N, T>>)
         requires room { HasRoomFor (length (into_iter_items subs.old)) self.old }
         requires len { into_iter_len subs.old ≡ length (into_iter_items subs.old) }
-        ensures { ArePartedBy N.Machine (into_iter_items subs.old) self.old self.new }
+        ensures parted { ArePartedBy N.Machine (into_iter_items subs.old) self.old self.new }
+        ensures stay { StaysOnly N.Machine self.old self.new }
     {
         let Some(sub) = subs.next() else {
             return;
@@ -94,12 +96,14 @@ impl<N: Nodes<Item = T> + Drop, T: Drop> Parted<N, T> {
     fn add(&mut self, alloc: Global, sub: Subscription<N, T>)
         requires { HasRoomFor 1 self.old }
         ensures parted { ArePartedBy N.Machine (sub ∷ []) self.old self.new }
+        ensures stay { StaysOnly N.Machine self.old self.new }
         ensures room { (count : ℕ) → HasRoomFor (count + 1) self.old → HasRoomFor count self.new }
     {
         let (Ok(id), Ok(link)) = (
             u32::try_from(self.kept.len()),
             u32::try_from(self.links.len()),
         ) else {
+            self.refused = true;
             self.kept.push_reserved(Kept::Here(sub));
             return;
         };
@@ -117,6 +121,7 @@ impl<N: Nodes<Item = T> + Drop, T: Drop> Parted<N, T> {
     fn put(&mut self, out: Outgoing<N, T>, delivered: u64)
         requires { HasRoomFor 1 self.old }
         ensures more { HasMore self.old (KeptSpec.Away out.queue delivered ∷ []) (out.piece ∷ []) (out.link ∷ []) (out.tap ∷ []) self.new }
+        ensures refused { self.new.refused ≡ self.old.refused }
         ensures room { (count : ℕ) → HasRoomFor (count + 1) self.old → HasRoomFor count self.new }
     {
         let Outgoing {

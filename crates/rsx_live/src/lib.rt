@@ -10,8 +10,10 @@
 //! - [`returning`]: [`come_back`], by which the piece becomes the part of a subscription again.
 //! - [`started`]: the calls of [`StartedGraph`] by which one thread drives a live graph.
 //!
-//! The definitions stand in `specs/`: `Cutting` (trees that are cut, and nothing was done since), `Graphs` (graphs that are live, and come back), `Kept` (subscriptions that are parted, and come back), `Lives` (subscriptions that are live), `Outgoing` (a subscription whose part became a piece), `Returning` (what the subscription stands
-//! for that comes back), `Starts` (a live graph with its taps and seats) and `Workers` (how many workers are enough).
+//! The definitions stand in `specs/`: `Cutting` (trees that are cut, and nothing was done since), `Graphs` (graphs that are live, and come
+//! back), `Kept` (subscriptions that are parted, and come back), `Lives` (subscriptions that are live), `Outgoing` (a subscription whose
+//! part became a piece), `Returning` (what the subscription stands for that comes back), `Starts` (a live graph with its taps and seats)
+//! and `Workers` (how many workers are enough).
 
 pub mod cutting;
 pub mod going;

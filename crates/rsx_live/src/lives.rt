@@ -1,11 +1,14 @@
 //! Subscriptions that are live come back.
 
-ghost use Rattle.std.specs.Prelude.{◌≡◌, ◌+◌, ◌≤◌, [], length, IfOk};
+ghost use Rattle.std.specs.Prelude.{◌≡◌, ◌+◌, ◌<◌, ◌≤◌, ℕ, List, [], length, IfOk, OnErr, OnOk};
 ghost use Rattle.std.specs.List.{AllZip};
 ghost use Rattle.std.specs.Vec.{vec_capacity};
 ghost use Rattle.rsx_gate.specs.Machine.{all_parts};
 ghost use Rattle.rsx_gate.specs.Seats.{IsSeatOf};
 ghost use Rattle.rsx_live.specs.Kept.{AreTapsFrom, CameBack, CanComeBack};
+ghost use Rattle.rsx_region.specs.Trees.{CanBeJoined, HaveGoneSince, LastCannotJoin, Stage};
+ghost use Rattle.rsx_subscriber.specs.declared.subscription.Subscription.{Subscription as SubscriptionSpec};
+ghost use Rattle.rsx_types.specs.Meaning.{Meaning};
 
 use crate::kept::{Kept, come_back_each};
 use rsx_pipe::{CrossingNodes, Nodes};
@@ -31,7 +34,7 @@ pub struct LiveSubscriptions<N: Nodes<Item = T>, T: Drop, O: Ops<Item = T>> {
 }
 
 impl<N: CrossingNodes<Item = T> + Drop, T: Drop, O: Ops<Item = T>> LiveSubscriptions<N, T, O> {
-    ghost use Rattle.rsx_live.specs.Lives.{CameBackFrom, IsLive};
+    ghost use Rattle.rsx_live.specs.Lives.{AreNotJoined, CameBackFrom, IsLive, IsLiveFor};
 
     /// The regions with their gates, and the links, by which threads poke, request, take and cancel.
     pub fn live(&self) -> &Live<N, T, O>
@@ -52,8 +55,8 @@ impl<N: CrossingNodes<Item = T> + Drop, T: Drop, O: Ops<Item = T>> LiveSubscript
     /// region, which has all parts, both in their orders. It takes no memory.
     ///
     /// # Errors
-    /// Where pieces can't be joined, which [`Piece::join`](rsx_region::Piece::join) says of: this is not proved never to come, and no
-    /// test met it. Nothing comes back then.
+    /// Only where pieces can't be joined, which [`Piece::join`](rsx_region::Piece::join) says of: this is not proved never to come, and
+    /// no test met it. Nothing comes back then.
     pub fn close(
         self,
         taps: Vec<Tap<T>>,
@@ -65,6 +68,7 @@ impl<N: CrossingNodes<Item = T> + Drop, T: Drop, O: Ops<Item = T>> LiveSubscript
         ensures back { IfOk result (λ r. CameBackFrom N.Machine N.CrossingNodes.own O.meaning self taps.items r.0.items) }
         ensures count { IfOk result (λ r. length r.0.items ≡ length self.kept.items) }
         ensures ops { IfOk result (λ r. r.1 ≡ self.live.ops) }
+        ensures err { OnErr result ((subs : List (SubscriptionSpec N T)) → IsLiveFor N.Machine N.CrossingNodes.own O.meaning subs self → AreNotJoined N.Machine N.CrossingNodes.own (O.meaning self.live.ops) subs self.kept.items) }
     {
         let LiveSubscriptions {
             live,
@@ -73,9 +77,26 @@ impl<N: CrossingNodes<Item = T> + Drop, T: Drop, O: Ops<Item = T>> LiveSubscript
             room,
         } = self;
         let (mut trees, ops) = live.close(seats, plan);
-        trees.join_all()?;
+        join_trees(&mut trees)?;
         Ok((come_back_all(trees, taps, kept, room), ops))
     }
+}
+
+/// Joins trees at all edges, by [`CutTrees::join_all`]. Where that is refused an edge is left, at which they can't be joined.
+pub(crate) fn join_trees<N: CrossingNodes<Item = T> + Drop, T: Drop>(
+    trees: &mut CutTrees<N, T>,
+) -> Result<(), NotJoined>
+    requires { CanBeJoined N.Machine N.CrossingNodes.own trees.old }
+    ensures whole { OnOk result ((m : Meaning T) (n : ℕ) (whole opening : Stage N T) → HaveGoneSince N.Machine N.CrossingNodes.own m n whole opening trees.old → HaveGoneSince N.Machine N.CrossingNodes.own m n whole whole trees.new) }
+    ensures refused { OnErr result ((0 < length trees.new.edges.items) × LastCannotJoin N.Machine N.CrossingNodes.own trees.new) }
+    ensures since { (m : Meaning T) (n : ℕ) (whole opening : Stage N T) → HaveGoneSince N.Machine N.CrossingNodes.own m n whole opening trees.old → (before : Stage N T) × HaveGoneSince N.Machine N.CrossingNodes.own m n whole before trees.new }
+{
+    let joined = trees.join_all();
+    // With no edge left, they are joined.
+    if trees.edges.is_empty() {
+        return Ok(());
+    }
+    joined
 }
 
 /// Makes subscriptions again of what was kept of them, of trees that are not cut, and of the taps, in a list that has room for them.

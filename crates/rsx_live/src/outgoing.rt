@@ -1,6 +1,6 @@
 //! The part of a subscription becomes a piece, which sends into a link.
 
-ghost use Rattle.std.specs.Prelude.{◌≡◌, ◌+◌, ◌-◌, ◌<◌, ◌≤◌, ◌++◌, ◌∷◌, [], drop, length, true, IfErr, IfOk};
+ghost use Rattle.std.specs.Prelude.{◌≡◌, ◌+◌, ◌-◌, ◌<◌, ◌≤◌, ◌++◌, ◌∷◌, [], drop, false, length, true, IfErr, IfOk};
 ghost use Rattle.rsx_link.specs.Ends.{IsUpOf, MaySend, SameUp, free_slots, items_sent, seen_total, sent_signals};
 ghost use Rattle.rsx_link.specs.Signals.{items_in};
 ghost use Rattle.rsx_live.specs.Outgoing.{CountsOn, IsFresh, IsOutOf, IsTapFor, MayGoOut};
@@ -31,7 +31,7 @@ pub struct Outgoing<N, T> {
 /// Why a subscription stays as it is.
 #[derive(Clone, Copy, Debug, PartialEq, Eq)]
 pub enum Stay {
-    /// It isn't open, or its root has ended, or some node of it reads a hub.
+    /// It isn't open, or its root edge isn't live or counts otherwise than its subscriber, or some node of it reads a hub.
     Whole,
     /// A growth was refused.
     NoMemory,
@@ -42,8 +42,9 @@ pub enum Stay {
 /// [`come_back`](crate::come_back) undoes it.
 ///
 /// # Errors
-/// The subscription comes back as it was, with the first of these reasons: [`Stay::Whole`] where it isn't open, where its root edge isn't
-/// live, and where some node reads a hub; [`Stay::NoMemory`] where a growth was refused.
+/// The subscription comes back as it was, with the first of these reasons: [`Stay::Whole`] exactly where it isn't open, where its root
+/// edge isn't live or counts otherwise than its subscriber with its queue, and where some node reads a hub; [`Stay::NoMemory`] where a
+/// growth was refused.
 pub fn go_out<N: Nodes<Item = T> + Drop, T: Drop>(
     alloc: Global,
     sub: Subscription<N, T>,
@@ -55,6 +56,8 @@ pub fn go_out<N: Nodes<Item = T> + Drop, T: Drop>(
     ensures fresh { IfOk result (λ o. IsFresh sub o.tap) }
     ensures queue { IfOk result (λ o. o.queue ≡ []) }
     ensures err { IfErr result (λ e. e.0 ≡ sub) }
+    ensures whole { IfErr result (λ e. e.1 ≡ Stay.Whole → MayGoOut N.Machine sub → ⊥) }
+    ensures memory { IfErr result (λ e. e.1 ≡ Stay.NoMemory → MayGoOut N.Machine sub) }
 {
     if !may_go_out(&sub) {
         return Err((sub, Stay::Whole));
@@ -82,7 +85,8 @@ pub fn go_out<N: Nodes<Item = T> + Drop, T: Drop>(
 
 /// Whether a link can count on from where the subscription is, and its part can go on as a piece.
 fn may_go_out<N: Nodes<Item = T> + Drop, T: Drop>(sub: &Subscription<N, T>) -> bool
-    ensures { result ≡ true → MayGoOut N.Machine sub.now }
+    ensures yes { result ≡ true → MayGoOut N.Machine sub.now }
+    ensures no { result ≡ false → MayGoOut N.Machine sub.now → ⊥ }
 {
     if !matches!(sub.standing(), SubscriptionState::Open) || !counts_on(sub) {
         return false;
@@ -92,7 +96,8 @@ fn may_go_out<N: Nodes<Item = T> + Drop, T: Drop>(sub: &Subscription<N, T>) -> b
 
 /// Whether the root edge is live, and as much was asked and sent over it as the link will count.
 fn counts_on<N: Nodes<Item = T> + Drop, T: Drop>(sub: &Subscription<N, T>) -> bool
-    ensures { result ≡ true → CountsOn sub.now }
+    ensures yes { result ≡ true → CountsOn sub.now }
+    ensures no { result ≡ false → CountsOn sub.now → ⊥ }
 {
     let root = sub.part().root_edge();
     let queue = sub.queue();

@@ -19,9 +19,9 @@ use std::alloc::Global;
 
 /// One thread may drive the graph by these calls alone. None of them waits, and but for [`StartedGraph::poke`] none takes memory.
 impl<O: Ops> StartedGraph<O> {
-    ghost use Rattle.std.specs.Prelude.{◌≡◌, ◌<◌, ◌≤◌, ◌⊎◌, length, IfNone, IfOk, IfSome, None};
+    ghost use Rattle.std.specs.Prelude.{◌≡◌, ◌<◌, ◌≤◌, ◌⊎◌, length, IfNone, IfOk, IfSome, None, OnErr};
     ghost use Rattle.rsx_runtime.specs.Poking.{Went};
-    ghost use Rattle.rsx_live.specs.Graphs.{GraphBack};
+    ghost use Rattle.rsx_live.specs.Graphs.{GraphBack, IsNotJoined};
     ghost use Rattle.rsx_live.specs.Starts.{ChangesAt, HasNoTap, IsStarted, StaysStarted, TapCancels, TapChanges, TapRequests, Takes};
 
     /// How many regions there are.
@@ -106,10 +106,11 @@ impl<O: Ops> StartedGraph<O> {
     /// Ends the regions, and makes a graph again, as [`LiveGraph::close`](crate::LiveGraph::close) does.
     ///
     /// # Errors
-    /// Where pieces can't be joined, which is not proved never to come, and no test met it. Nothing comes back then.
+    /// Only where pieces can't be joined, which is not proved never to come, and no test met it. Nothing comes back then.
     pub fn close(self) -> Result<Graph<O>, NotJoined>
         requires { IsStarted self }
-        ensures { IfOk result (GraphBack self.live self.taps.items) }
+        ensures back { IfOk result (GraphBack self.live self.taps.items) }
+        ensures err { OnErr result (IsNotJoined self.live) }
     {
         let StartedGraph { live, taps, seats } = self;
         live.close(taps, seats)

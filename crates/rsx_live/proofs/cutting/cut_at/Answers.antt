@@ -1,5 +1,5 @@
-use Rattle.std.proofs.Common.{refl}
-use Rattle.rsx_live.proofs.Counts.{beside_cut, beside_whole, on_none, still_below}
+use Rattle.std.proofs.Common.{inl, inr, refl, sym, ◌∙◌}
+use Rattle.rsx_live.proofs.Counts.{beside_cut, beside_whole, if_none, on_none, still_below}
 use Rattle.rsx_live.proofs.cutting.cut_at.Goals as goal
 
 pub try_cut-requires : goal.try_cut-requires
@@ -52,3 +52,20 @@ returns-in_err-push-clause-beside g c = on_none c.from_residual-in_err-push.resu
 
 pub returns-clause-beside : goal.returns-clause-beside
 returns-clause-beside g c = beside_cut _ _ _ _ c.in_ok-try_cut.field-0 c.requires.beside c.in_ok-try_cut.ensures.count c.if-not-branch.false c.in_ok-push.ensures.beside
+
+pub returns-in_err-try_cut-clause-cut : goal.returns-in_err-try_cut-clause-cut
+returns-in_err-try_cut-clause-cut g c = if_none c.from_residual.result _ c.from_residual.ensures.0
+
+pub returns-then-not-branch-clause-cut : goal.returns-then-not-branch-clause-cut
+returns-then-not-branch-clause-cut g c =
+    let left = c.in_ok-try_cut.ensures.whole c.if-not-branch.true in
+    inr (record { whole = left.0; same = left.1; placed = refl; begins = refl; none = refl })
+
+pub returns-in_err-push-clause-cut : goal.returns-in_err-push-clause-cut
+returns-in_err-push-clause-cut g c = if_none c.from_residual-in_err-push.result _ c.from_residual-in_err-push.ensures.0
+
+pub returns-clause-cut : goal.returns-clause-cut
+returns-clause-cut g c =
+    let cut = c.in_ok-try_cut.ensures.cut c.if-not-branch.false in
+    let last = c.count_last.ensures in
+    inl (record { cut = cut.0; hub = cut.1; placed = c.in_ok-push.ensures.places; begins = c.in_ok-push.ensures.cursors; counts = (last.0, last.1, sym c.deref.ensures.value ∙ last.2, last.3) })

@@ -1,5 +1,8 @@
-use Rattle.std.proofs.Common.{refl}
+use Rattle.std.proofs.Common.{ℕ, inl, refl, subst, ◌∙◌}
+use Rattle.rsx_region.specs.Trees.{IsReadUnder, StaysWholeAt, stage_of}
+use Rattle.rsx_region.proofs.Stages.{self_stage}
 use Rattle.rsx_live.proofs.Counts.{as_many, is_number, more_than, one_more}
+use Rattle.rsx_live.proofs.Sweeps.{at_least}
 use Rattle.rsx_live.proofs.cutting.try_cut.Goals as goal
 
 pub returns-in_default-clause-more : goal.returns-in_default-clause-more
@@ -37,3 +40,12 @@ returns-in-Err-NoMemory-clause-more g c = as_many _ _ c.in-Err-NoMemory.ensures.
 
 pub returns-in-Err-NoMemory-clause-from : goal.returns-in-Err-NoMemory-clause-from
 returns-in-Err-NoMemory-clause-from g c = λ m n whole most w. c.cut.ensures.from m n whole (is_number c.in-Ok.hub c.len.result n c.in-Ok.ensures most) w
+
+pub returns-in_default-clause-whole : goal.returns-in_default-clause-whole
+returns-in_default-clause-whole g c = λ is. (inl (at_least c.len.result _ c.in_default.ensures (c.len.ensures ∙ c.args.trees.now.links.ok.0)), self_stage (stage_of c.args.trees.now))
+
+pub returns-in-Ok-cut-clause-cut : goal.returns-in-Ok-cut-clause-cut
+returns-in-Ok-cut-clause-cut g c = λ is. (c.in-Ok-cut.ensures.cut, subst (λ (k : ℕ). IsReadUnder k c.args.above c.cut.new.self.pieces.items) (c.in-Ok.ensures.1 ∙ (c.len.ensures ∙ c.args.trees.now.links.ok.0)) c.in-Ok-cut.ensures.hub)
+
+pub returns-in-Err-Whole-clause-whole : goal.returns-in-Err-Whole-clause-whole
+returns-in-Err-Whole-clause-whole g c = λ is. (subst (λ (k : ℕ). StaysWholeAt g.N.Machine g.N.CrossingNodes c.args.trees.now c.args.above c.args.at k) (c.in-Ok.ensures.1 ∙ (c.len.ensures ∙ c.args.trees.now.links.ok.0)) (c.in-Err-Whole.ensures.whole c.in-Err-Whole.field-0-is), c.in-Err-Whole.ensures.same.0)

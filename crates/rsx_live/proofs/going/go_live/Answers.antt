@@ -21,3 +21,9 @@ returns-in-Ok-of-clause-gates g c =
 
 pub returns-in-Ok-of-clause-err : goal.returns-in-Ok-of-clause-err
 returns-in-Ok-of-clause-err g c = err_also c.part_live.result _ _ (λ e h. h c.args.subs.items c.in-Ok-of.ensures.ok) c.part_live.ensures.err
+
+pub returns-in-Ok-of-clause-stay : goal.returns-in-Ok-of-clause-stay
+returns-in-Ok-of-clause-stay g c = ok_also c.part_live.result _ _ (λ s h. h c.in-Ok-of.ensures.stay) c.part_live.ensures.stay
+
+pub returns-in-Ok-of-clause-cut : goal.returns-in-Ok-of-clause-cut
+returns-in-Ok-of-clause-cut g c = ok_also c.part_live.result _ _ (λ s h. h c.args.subs.items c.in-Ok-of.ensures.ok) c.part_live.ensures.cut

@@ -2,7 +2,7 @@ use Rattle.std.proofs.Common.{◌∙◌, arith, refl, sym}
 use Rattle.rsx_kinds.specs.Any.{any_machine}
 use Rattle.rsx_live.specs.Graphs.{any_crossing}
 use Rattle.rsx_live.proofs.Closings.{come_of}
-use Rattle.rsx_live.proofs.Graphs.{given_back, gone_live, pieces_together}
+use Rattle.rsx_live.proofs.Graphs.{cut_live, given_back, gone_live, none_back, pieces_together}
 use Rattle.rsx_live.proofs.Starts.{started_of}
 use Rattle.rsx_live.proofs.graph.LiveGraph.go_live.Goals as goal
 
@@ -31,3 +31,9 @@ returns-in-Ok-clause-started g c =
     let p = c.take_apart-pieces.result in
     let together = pieces_together c.args.graph p _ c.take_apart-pieces.ensures.pieces refl refl refl refl refl in
     started_of c.args.graph _ c.args.workers (gone_live c.args.graph p _ together gates.1 c.in-Ok.ensures.live) c.in-Ok.ensures.taps c.in-Ok.ensures.seats gates.0 regions.most
+
+pub returns-in-Err-NotJoined-clause-err : goal.returns-in-Err-NotJoined-clause-err
+returns-in-Err-NotJoined-clause-err g c = none_back c.args.graph c.take_apart-pieces.result c.args.workers c.in-Err-NotJoined.field-0 c.take_apart-pieces.ensures.pieces (c.has_regions.ensures.yes c.if-not-has_regions.false) c.in-Err-NotJoined.field-0-is c.in-Err-NotJoined.ensures.err
+
+pub returns-in-Ok-clause-cut : goal.returns-in-Ok-clause-cut
+returns-in-Ok-clause-cut g c = cut_live c.args.graph c.take_apart-pieces.result _ _ c.take_apart-pieces.ensures.pieces c.in-Ok.ensures.cut
