@@ -3,6 +3,7 @@ pub mod Answers
 pub mod Commands
 pub mod Expressions
 pub mod Fault
+pub mod Live
 pub mod Modes
 pub mod Numbers
 pub mod Orders

@@ -27,6 +27,8 @@
 //! The language of scripts: what a line asks for, and the text of answers.
 //!
 //! - [`parse_line`]: a line's command, with its words, numbers, names and expressions; [`Command`]: what commands there are.
+//! - [`parse_live_line`]: the same of a script whose graph may go live; [`LiveCommand`]: its commands, and [`LiveAnswer`]: what those of
+//!   its own answer.
 //! - [`LineRefusal`]: why a line can't be read.
 //! - [`print`]: what each command answers, as text.
 //! - [`mode`]: what the program does with its input; [`fault`]: what ends that before the input does.
@@ -36,6 +38,7 @@
 mod command;
 mod expression;
 pub mod fault;
+mod live;
 pub mod mode;
 pub mod numbers;
 mod parse;
@@ -44,7 +47,8 @@ pub mod words;
 
 pub use command::Command;
 pub use fault::AppFault;
-pub use mode::{Mode, mode_named};
+pub use live::{LiveAnswer, LiveCommand, parse_live_line};
+pub use mode::{Mode, Subcommand, mode_named, subcommand_named};
 pub use numbers::{number_i64, number_u8, number_u32, number_u64};
 pub use parse::{MOST_BYTES, parse_expression, parse_line};
 pub use print::{Answer, Rest, Shown};

@@ -19,7 +19,7 @@ use std::alloc::Global;
 pub const MOST_BYTES: usize = 4096;
 
 /// Whether a line has more bytes than it may have.
-fn is_too_long(line: &[u8]) -> bool
+pub(crate) fn is_too_long(line: &[u8]) -> bool
     ensures { result ≡ nat_lt 4096 (length line.now) }
 {
     line.len() > MOST_BYTES
@@ -81,7 +81,7 @@ fn command_in(alloc: Global, words: &mut Words<'_>) -> Result<Option<Command>, L
 
 /// The command with this name, which stands at this column.
 #[tactic(auto, unfolding(crate::specs::Commands::command_at))]
-fn command_of(
+pub(crate) fn command_of(
     alloc: Global,
     column: u64,
     name: &str,
@@ -206,7 +206,7 @@ pub(crate) fn hub(words: &mut Words<'_>) -> Result<HubId, LineRefusal>
 }
 
 /// The number of a subscription.
-fn subscription(words: &mut Words<'_>) -> Result<SubId, LineRefusal>
+pub(crate) fn subscription(words: &mut Words<'_>) -> Result<SubId, LineRefusal>
     ensures { Gives (λ s. (s.0, left words.new)) result (number_at u32_of (left words.old)) }
 {
     Ok(SubId(words.u32()?))
