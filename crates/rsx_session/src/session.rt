@@ -26,7 +26,7 @@ const SLICE: u32 = 65_536;
 
 /// What a run knows of a subscription.
 #[derive(Drop)]
-struct Record {
+pub(crate) struct Record {
     expr: Expr<Val>,
     received: Vec<Val>,
     /// The ending that was received, or `Open`.
@@ -35,7 +35,7 @@ struct Record {
 
 /// Why a command has no answer of its own.
 #[derive(Drop)]
-enum Trouble {
+pub enum Trouble {
     /// A call was refused, by this name.
     Refused(&'static str),
     /// A growth was refused.
@@ -106,14 +106,14 @@ pub enum View {
 /// A graph with what each of its hubs publishes, and what each of its subscribers received.
 #[derive(Drop)]
 pub struct Session {
-    view: View,
-    graph: Graph<Demo>,
+    pub(crate) view: View,
+    pub(crate) graph: Graph<Demo>,
     /// What the hubs publish, in the order of their ids.
-    published: Vec<HubSource>,
+    pub(crate) published: Vec<HubSource>,
     /// The subscriptions, in the order of their ids.
-    records: Vec<Record>,
+    pub(crate) records: Vec<Record>,
     /// The list that deliveries are put into. It is empty between calls, and its memory is used again.
-    spare: Vec<(SubId, Signal<Val>)>,
+    pub(crate) spare: Vec<(SubId, Signal<Val>)>,
 }
 
 impl Session {
@@ -231,7 +231,16 @@ impl Session {
     }
 
     /// Publishes an item. It is kept first, since that alone may want memory, and let go where the hub refuses it.
-    fn emit(&mut self, alloc: Global, hub: HubId, number: i64) -> Result<Answer<'static>, Trouble>
+    ///
+    /// # Errors
+    ///
+    /// The graph's refusal, or want of memory.
+    pub fn emit(
+        &mut self,
+        alloc: Global,
+        hub: HubId,
+        number: i64,
+    ) -> Result<Answer<'static>, Trouble>
         ensures answer { IfOk result (λ a. is_done a ≡ true) }
         ensures leads { OnText result (λ text. LeadsAll (Command.Emit hub number) self.old text self.new) }
         ensures err { IfErr result IsTrouble }
@@ -253,7 +262,11 @@ impl Session {
     }
 
     /// Completes a hub.
-    fn complete(&mut self, alloc: Global, hub: HubId) -> Result<Answer<'static>, Trouble>
+    ///
+    /// # Errors
+    ///
+    /// As [`Session::emit`].
+    pub fn complete(&mut self, alloc: Global, hub: HubId) -> Result<Answer<'static>, Trouble>
         ensures answer { IfOk result (λ a. is_done a ≡ true) }
         ensures leads { OnText result (λ text. LeadsAll (Command.Complete hub) self.old text self.new) }
         ensures err { IfErr result IsTrouble }
@@ -269,7 +282,16 @@ impl Session {
     }
 
     /// Fails a hub with this number.
-    fn fail(&mut self, alloc: Global, hub: HubId, number: u32) -> Result<Answer<'static>, Trouble>
+    ///
+    /// # Errors
+    ///
+    /// As [`Session::emit`].
+    pub fn fail(
+        &mut self,
+        alloc: Global,
+        hub: HubId,
+        number: u32,
+    ) -> Result<Answer<'static>, Trouble>
         ensures answer { IfOk result (λ a. is_done a ≡ true) }
         ensures leads { OnText result (λ text. LeadsAll (Command.Fail hub number) self.old text self.new) }
         ensures err { IfErr result IsTrouble }
@@ -596,7 +618,11 @@ fn write(alloc: Global, done: Result<Answer<'_>, Trouble>, out: &mut String) -> 
 
 /// Takes in a signal to a subscriber; where there is none, nothing.
 #[inline]
-fn take_in(records: &mut Vec<Record>, sub: SubId, signal: Signal<Val>) -> Result<(), Trouble>
+pub(crate) fn take_in(
+    records: &mut Vec<Record>,
+    sub: SubId,
+    signal: Signal<Val>,
+) -> Result<(), Trouble>
     ensures taken { OnOk result (map known records.new.items ≡ changed (taken signal) (map known records.old.items) sub.0) }
     ensures err { IfErr result (λ t. t ≡ Trouble.Memory) }
 {
