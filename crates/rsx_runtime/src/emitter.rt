@@ -128,8 +128,11 @@ impl<T: Drop> Emitter<T> {
         self.fail_over(live.link(self.link), number)
     }
 
-    /// Publishes an item, over its link.
-    fn emit_over(&mut self, link: &Link<T>, item: T) -> Result<(), Rejected<T>>
+    /// Publishes an item as [`Emitter::emit`] does, over its link.
+    ///
+    /// # Errors
+    /// As of [`Emitter::emit`].
+    pub fn emit_over(&mut self, link: &Link<T>, item: T) -> Result<(), Rejected<T>>
         requires { IsUpOf link.now self.old.up }
         ensures end { KeepsEmitter link.now self.old self.new }
         ensures ok { OnOk result (sent_signals self.new.up ≡ sent_signals self.old.up ++ Next item ∷ []) }
@@ -153,8 +156,11 @@ impl<T: Drop> Emitter<T> {
         }
     }
 
-    /// Completes the hub, over its link.
-    fn complete_over(&mut self, link: &Link<T>) -> Result<(), NotEnded>
+    /// Completes the hub as [`Emitter::complete`] does, over its link.
+    ///
+    /// # Errors
+    /// As of [`Emitter::complete`].
+    pub fn complete_over(&mut self, link: &Link<T>) -> Result<(), NotEnded>
         requires { IsUpOf link.now self.old.up }
         ensures end { KeepsEmitter link.now self.old self.new }
         ensures ok { OnOk result ((sent_signals self.new.up ≡ sent_signals self.old.up ++ Complete ∷ []) × (self.new.ended ≡ true)) }
@@ -175,8 +181,11 @@ impl<T: Drop> Emitter<T> {
         }
     }
 
-    /// Fails the hub with this number, over its link.
-    fn fail_over(&mut self, link: &Link<T>, number: u32) -> Result<(), NotEnded>
+    /// Fails the hub with this number as [`Emitter::fail`] does, over its link.
+    ///
+    /// # Errors
+    /// As of [`Emitter::complete`].
+    pub fn fail_over(&mut self, link: &Link<T>, number: u32) -> Result<(), NotEnded>
         requires { IsUpOf link.now self.old.up }
         ensures end { KeepsEmitter link.now self.old self.new }
         ensures ok { OnOk result ((sent_signals self.new.up ≡ sent_signals self.old.up ++ Error (User number) ∷ []) × (self.new.ended ≡ true)) }

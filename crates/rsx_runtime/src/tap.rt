@@ -208,8 +208,8 @@ impl<T: Drop> Tap<T> {
         self.cancel_over(live.link(self.link))
     }
 
-    /// Takes the next signal, over its link.
-    fn take_over(&mut self, link: &Link<T>) -> Option<Signal<T>>
+    /// Takes the next signal that was delivered, if one waits, as [`Tap::take`] does, over its link.
+    pub fn take_over(&mut self, link: &Link<T>) -> Option<Signal<T>>
         requires { IsTapOf link.now self.old }
         ensures end { KeepsTap link.now self.old self.new × SameSeat self.old self.new × (down_steps self.new.down ≡ down_steps self.old.down) }
         ensures some { IfSome result (λ s. (gives self.old.state ≡ true) × (given self.new ≡ given self.old ++ s ∷ []) × (self.new.state ≡ taken_state s self.old.state)) }
@@ -226,8 +226,8 @@ impl<T: Drop> Tap<T> {
         Some(signal)
     }
 
-    /// Requests so many items more, over its link.
-    fn request_over(&mut self, link: &Link<T>, n: i64) -> Option<Signal<T>>
+    /// Requests so many items more as [`Tap::request`] does, over its link.
+    pub fn request_over(&mut self, link: &Link<T>, n: i64) -> Option<Signal<T>>
         requires { IsTapOf link.now self.old }
         ensures end { KeepsTap link.now self.old self.new × SameSeat self.old self.new }
         ensures asked { asks self.old.state ≡ true → Requests (request_of n) (down_steps self.old.down) (down_steps self.new.down) result }
@@ -255,8 +255,8 @@ impl<T: Drop> Tap<T> {
         }
     }
 
-    /// Makes a further seat by which the subscription is cancelled, over its link.
-    fn canceller_over(&mut self, link: &Link<T>) -> Canceller
+    /// Makes a further seat by which the subscription is cancelled, as [`Tap::canceller`] does, over its link.
+    pub fn canceller_over(&mut self, link: &Link<T>) -> Canceller
         requires { IsTapOf link.now self.old }
         ensures end { KeepsSteps link.now self.old.seat self.new.seat × IsCancelSeatOf link.now result.seat }
         ensures new { (result.sub ≡ self.old.sub) × (result.link ≡ self.old.link) × (cancel_steps result.seat ≡ []) × (cancel_beside result.seat ≡ []) }
@@ -273,8 +273,8 @@ impl<T: Drop> Tap<T> {
         }
     }
 
-    /// Takes the seat of a canceller back, over its link.
-    fn take_back_over(&mut self, link: &Link<T>, seat: CancelSeat)
+    /// Takes the seat of a canceller back as [`Tap::take_back`] does, over its link.
+    pub fn take_back_over(&mut self, link: &Link<T>, seat: CancelSeat)
         requires { IsTapOf link.now self.old × IsCancelSeatOf link.now seat }
         ensures end { IsTapOf link.now self.new }
         ensures beside { (cancel_steps self.new.seat ≡ cancel_steps self.old.seat) × (cancel_beside self.new.seat ≡ cancel_beside self.old.seat ++ (cancel_steps seat ∷ cancel_beside seat)) }
@@ -284,8 +284,8 @@ impl<T: Drop> Tap<T> {
         self.seat.join(link, seat);
     }
 
-    /// Cancels, over its link.
-    fn cancel_over(&mut self, link: &Link<T>)
+    /// Cancels as [`Tap::cancel`] does, over its link.
+    pub fn cancel_over(&mut self, link: &Link<T>)
         requires { IsTapOf link.now self.old }
         ensures end { KeepsTap link.now self.old self.new × (self.new.down ≡ self.old.down) × (self.new.cancellers ≡ self.old.cancellers) }
         ensures cancelled { asks self.old.state ≡ true → Cancels self.old.seat (cancel_steps self.new.seat) }
@@ -366,5 +366,14 @@ impl Canceller {
         ensures cancelled { Cancels self.old.seat (cancel_steps self.new.seat) }
     {
         self.seat.cancel(live.link(self.link));
+    }
+
+    /// Cancels the subscription as [`Canceller::cancel`] does, over its link.
+    pub fn cancel_over<T>(&mut self, link: &Link<T>)
+        requires { IsCancelSeatOf link.now self.old.seat }
+        ensures end { KeepsParts link.now self.old.seat self.new.seat × (self.new.sub ≡ self.old.sub) × (self.new.link ≡ self.old.link) }
+        ensures cancelled { Cancels self.old.seat (cancel_steps self.new.seat) }
+    {
+        self.seat.cancel(link);
     }
 }
