@@ -63,6 +63,20 @@ impl<T: Drop> Emitter<T> {
         self.hub
     }
 
+    /// The number of its link.
+    pub fn link(&self) -> u32
+        ensures { result ≡ self.now.link }
+    {
+        self.link
+    }
+
+    /// Its end, for who closes its link. It takes no memory.
+    pub fn into_end(self) -> Up<T>
+        ensures { result ≡ self.up }
+    {
+        self.up
+    }
+
     /// Publishes an item at the hub. It waits in the emitter's queue until the hub's region is worked on. No call waits, and none takes
     /// memory.
     ///

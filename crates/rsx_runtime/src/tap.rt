@@ -114,6 +114,13 @@ impl<T: Drop> Tap<T> {
         self.sub
     }
 
+    /// The number of its link.
+    pub fn link(&self) -> u32
+        ensures { result ≡ self.now.link }
+    {
+        self.link
+    }
+
     /// How the subscription stands, as far as the tap knows.
     pub fn state(&self) -> Tapped
         ensures { result ≡ self.now.state }
@@ -192,7 +199,7 @@ impl<T: Drop> Tap<T> {
         ensures parts { cancel_parts self.new.seat ≡ cancel_parts self.old.seat ++ cancel_parts canceller.seat }
         ensures same { (self.new.sub ≡ self.old.sub) × (self.new.link ≡ self.old.link) × (self.new.down ≡ self.old.down) × (self.new.state ≡ self.old.state) × (given self.new ≡ given self.old) }
     {
-        self.take_back_over(live.link(self.link), canceller.seat);
+        self.take_back_over(live.link(self.link), canceller);
     }
 
     /// Cancels the subscription (rule 3.5). What waits in the queue may still be taken (rule 2.8). After an ending, after another call of
@@ -273,15 +280,15 @@ impl<T: Drop> Tap<T> {
         }
     }
 
-    /// Takes the seat of a canceller back as [`Tap::take_back`] does, over its link.
-    pub fn take_back_over(&mut self, link: &Link<T>, seat: CancelSeat)
-        requires { IsTapOf link.now self.old × IsCancelSeatOf link.now seat }
+    /// Takes a canceller of its link back as [`Tap::take_back`] does, over its link.
+    pub fn take_back_over(&mut self, link: &Link<T>, canceller: Canceller)
+        requires { IsTapOf link.now self.old × IsCancelSeatOf link.now canceller.seat }
         ensures end { IsTapOf link.now self.new }
-        ensures beside { (cancel_steps self.new.seat ≡ cancel_steps self.old.seat) × (cancel_beside self.new.seat ≡ cancel_beside self.old.seat ++ (cancel_steps seat ∷ cancel_beside seat)) }
-        ensures parts { cancel_parts self.new.seat ≡ cancel_parts self.old.seat ++ cancel_parts seat }
+        ensures beside { (cancel_steps self.new.seat ≡ cancel_steps self.old.seat) × (cancel_beside self.new.seat ≡ cancel_beside self.old.seat ++ (cancel_steps canceller.seat ∷ cancel_beside canceller.seat)) }
+        ensures parts { cancel_parts self.new.seat ≡ cancel_parts self.old.seat ++ cancel_parts canceller.seat }
         ensures same { (self.new.sub ≡ self.old.sub) × (self.new.link ≡ self.old.link) × (self.new.down ≡ self.old.down) × (self.new.state ≡ self.old.state) × (given self.new ≡ given self.old) }
     {
-        self.seat.join(link, seat);
+        self.seat.join(link, canceller.seat);
     }
 
     /// Cancels as [`Tap::cancel`] does, over its link.
@@ -357,6 +364,13 @@ impl Canceller {
         ensures { result ≡ self.now.sub }
     {
         self.sub
+    }
+
+    /// The number of its link.
+    pub fn link(&self) -> u32
+        ensures { result ≡ self.now.link }
+    {
+        self.link
     }
 
     /// Cancels the subscription (rule 3.5). To cancel again changes nothing (rule 3.7). No call waits, and none takes memory.
