@@ -1,0 +1,16 @@
+use Rattle.std.proofs.Common.{ap, refl, sym, ◌∙◌}
+use Rattle.rsx_serialized.proofs.Goes.{goes_same}
+use Rattle.rsx_serialized.proofs.Regions.{pump_step}
+use Rattle.rsx_serialized.proofs.region.GraphRegion.move_on.Goals as goal
+
+pub returns-then-not-is_empty-clause-goes : goal.returns-then-not-is_empty-clause-goes
+returns-then-not-is_empty-clause-goes g c = goes_same (g.O.Ops.meaning c.args.self.now.graph.ops) c.args.self.now
+
+pub returns-in-Ok-Idle-clause-goes : goal.returns-in-Ok-Idle-clause-goes
+returns-in-Ok-Idle-clause-goes g c = pump_step _ c.args.self.now _ c.from_vec-out.result c.pump-pumped.new.out c.pump-pumped.result c.pump-pumped.ensures.pumped c.pump-pumped.ensures.ops (c.from_vec-out.ensures.signals ∙ ap (λ v. v.items) c.replace.ensures.value) (sym c.into_vec.ensures.signals) refl refl
+
+pub returns-in-Ok-Budget-clause-goes : goal.returns-in-Ok-Budget-clause-goes
+returns-in-Ok-Budget-clause-goes g c = pump_step _ c.args.self.now _ c.from_vec-out.result c.pump-pumped.new.out c.pump-pumped.result c.pump-pumped.ensures.pumped c.pump-pumped.ensures.ops (c.from_vec-out.ensures.signals ∙ ap (λ v. v.items) c.replace.ensures.value) (sym c.into_vec.ensures.signals) refl refl
+
+pub returns-in-Err-clause-goes : goal.returns-in-Err-clause-goes
+returns-in-Err-clause-goes g c = pump_step _ c.args.self.now _ c.from_vec-out.result c.pump-pumped.new.out c.pump-pumped.result c.pump-pumped.ensures.pumped c.pump-pumped.ensures.ops (c.from_vec-out.ensures.signals ∙ ap (λ v. v.items) c.replace.ensures.value) (sym c.into_vec.ensures.signals) refl refl

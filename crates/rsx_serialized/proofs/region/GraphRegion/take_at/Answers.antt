@@ -1,0 +1,9 @@
+use Rattle.std.proofs.Common.{refl}
+use Rattle.rsx_serialized.proofs.Regions.{inlet_at, inlet_only, take_step}
+use Rattle.rsx_serialized.proofs.region.GraphRegion.take_at.Goals as goal
+
+pub returns-clause-goes : goal.returns-clause-goes
+returns-clause-goes g c =
+    let is = c.args.self.now.inlets.items in
+    take_step c.args.links.now c.args.self.now _ c.args.at c.index_mut.result.now c.take_next.new.inlet c.requires.ends c.take_next.ensures.ops c.take_next.ensures.joins c.take_next.ensures.takes refl refl refl (inlet_at is c.args.at c.index_mut.result.now c.requires.there c.index_mut.ensures.value)
+    (inlet_only c.args.links.now.emitters.items is c.args.at c.index.result.now c.take_next.new.inlet c.requires.ends.inlets c.requires.there c.index.ensures c.take_next.ensures.end)

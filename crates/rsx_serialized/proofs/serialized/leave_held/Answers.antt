@@ -1,0 +1,7 @@
+use Rattle.std.proofs.Common.{refl}
+use Rattle.rsx_runtime.proofs.Seats.{where_missed}
+use Rattle.rsx_serialized.proofs.Gates.{seat_kept}
+use Rattle.rsx_serialized.proofs.serialized.leave_held.Goals as goal
+
+pub returns : goal.returns
+returns g c = where_missed _ _ _ c.try_leave.result (λ m. (m, seat_kept c.args.gate.now _ c.args.seat.now c.try_leave.new.seat m.0 m.1 (λ b. refl) c.requires)) c.try_leave.ensures

@@ -1,0 +1,10 @@
+-- Definitions that contracts cite.
+pub mod Calls
+pub mod Ends
+pub mod Events
+pub mod Gates
+pub mod Opened
+pub mod Regions
+pub mod Sending
+pub mod Since
+pub mod Told

@@ -1,0 +1,67 @@
+-- A graph between its links.
+use Rattle.std.specs.Prelude.{◌≡◌, ◌++◌, ℕ, List, length, Some, slice_get}
+use Rattle.rsx_types.specs.Meaning.{Meaning}
+use Rattle.rsx_types.specs.declared.names.SubId.{SubId}
+use Rattle.rsx_types.specs.declared.ops.Ops.{Ghosts as Ops}
+use Rattle.rsx_types.specs.declared.signal.Signal.{Signal}
+use Rattle.rsx_link.specs.Ends.{IsDownOf, IsUpOf, received_signals}
+use Rattle.rsx_link.specs.declared.link.Link.{Link}
+use Rattle.rsx_graph.specs.InGraph.{state_of}
+use Rattle.rsx_graph.specs.Rows.{History}
+use Rattle.rsx_graph.specs.Stands.{GraphStands, GraphState}
+use Rattle.rsx_serialized.specs.Ends.{Beside, InletGoes, IsPassedOn, OutletGoes, held}
+use Rattle.rsx_serialized.specs.Events.{Event, after_events}
+use Rattle.rsx_serialized.specs.Told.{publishes}
+use Rattle.rsx_serialized.specs.declared.ends.FromEmitter.{FromEmitter}
+use Rattle.rsx_serialized.specs.declared.ends.ToTap.{ToTap}
+use Rattle.rsx_serialized.specs.declared.region.GraphRegion.{GraphRegion}
+use Rattle.rsx_serialized.specs.declared.region.Links.{Links}
+
+module _ {T : Type 0} where
+  -- each end that takes from an emitter is that of the link at its place, and no two publish at one hub
+  pub record AreInletsOf (links : List (Link T)) (inlets : List (FromEmitter T)) : Type 0 where
+    pub ends : Beside (λ k l (i : FromEmitter T). IsDownOf l i.down) links inlets
+    pub apart : (j k : ℕ) (a b : FromEmitter T) → slice_get inlets j ≡ Some a → slice_get inlets k ≡ Some b → a.hub.0 ≡ b.hub.0 → j ≡ k
+
+  -- each end that sends to a tap is that of the link at its place, and what was asked for was passed on
+  abbrev pub AreOutletsOf : List (Link T) → List (ToTap T) → Type 0
+  AreOutletsOf links outlets = Beside (λ k l (o : ToTap T). IsUpOf l o.up × IsPassedOn o) links outlets
+
+  -- of each history for which a graph stood before, it stands now for that history with these things
+  abbrev pub StandsSince : Meaning T → List (Event T) → GraphState T → GraphState T → Type 0
+  StandsSince m es old new = (h : History T) → GraphStands m old h → GraphStands m new (after_events h es)
+
+  -- the ends that send, with what waits to be sent: these things have happened to the subscribers
+  abbrev pub OutletsGo : List (Event T) → List (SubId × Signal T) → List (SubId × Signal T) → List (ToTap T) → List (ToTap T) → Type 0
+  OutletsGo es before after old new = Beside (λ k. OutletGoes k es before after) old new
+
+  -- signals that came over an emitter's link were published at its hub, but for one that waits
+  pub record TakesIn (m : Meaning T) (before : GraphState T) (old : FromEmitter T) (after : GraphState T) (new : FromEmitter T) : Type 0 where
+    pub signals : List (Signal T)
+    pub stands : StandsSince m (publishes old.hub signals) before after
+    pub hub : new.hub ≡ old.hub
+    pub came : List (Signal T)
+    pub received : received_signals new.down ≡ received_signals old.down ++ came
+    pub published : held old ++ came ≡ signals ++ held new
+
+module _ {O T : Type 0} {b : Ops O T} where
+  -- the ends are those of the links, and there is one that sends for each subscription
+  pub record AreEndsOf (links : Links T) (r : GraphRegion O T b) : Type 0 where
+    pub inlets : AreInletsOf links.emitters.items r.inlets.items
+    pub outlets : AreOutletsOf links.taps.items r.outlets.items
+    pub subs : length r.outlets.items ≡ length (state_of r.graph).joins
+
+  -- these things have happened to a graph, between its links
+  pub record GoesBy (m : Meaning T) (es : List (Event T)) (old new : GraphRegion O T b) : Type 0 where
+    pub ops : new.graph.ops ≡ old.graph.ops
+    pub stands : StandsSince m es (state_of old.graph) (state_of new.graph)
+    pub inlets : Beside (λ k. InletGoes es) old.inlets.items new.inlets.items
+    pub outlets : OutletsGo es old.pending.items new.pending.items old.outlets.items new.outlets.items
+
+  -- some have
+  abbrev pub Goes : Meaning T → GraphRegion O T b → GraphRegion O T b → Type 0
+  Goes m old new = (es : List (Event T)) × GoesBy m es old new
+
+  -- the region goes on between its links
+  abbrev pub GoesOn : Links T → GraphRegion O T b → GraphRegion O T b → Type 0
+  GoesOn links old new = AreEndsOf links new × Goes (b.meaning old.graph.ops) old new

@@ -1,0 +1,118 @@
+//! The ends of links that the holder of a graph has.
+
+ghost use Rattle.std.specs.Prelude.{◌≡◌, ◌||◌};
+ghost use Rattle.rsx_types.specs.declared.signal.Signal.{Signal as SignalSpec};
+
+use rsx_demand::UNBOUNDED;
+use rsx_link::{Down, Found, Link, Up};
+use rsx_types::{HubId, Signal};
+
+/// The receiving end of an emitter's link.
+#[derive(Drop)]
+pub struct FromEmitter<T> {
+    /// The hub at which is published what comes.
+    pub hub: HubId,
+    /// The end.
+    pub down: Down<T>,
+    /// A signal that was taken, and for which the hub had no room yet.
+    pub waiting: Option<Signal<T>>,
+}
+
+/// The sending end of a tap's link.
+#[derive(Drop)]
+pub struct ToTap<T> {
+    /// The end.
+    pub up: Up<T>,
+    /// The items that the subscription was asked for in all.
+    pub asked: u64,
+}
+
+/// What a look at a tap's link found.
+#[derive(Clone, Copy)]
+pub(crate) struct Looked {
+    /// How many items more are asked for.
+    pub(crate) items: u64,
+    /// Whether a flag is set: the tap or a canceller cancelled, or the tap made a bad request.
+    pub(crate) stopped: bool,
+}
+
+impl<T: Drop> FromEmitter<T> {
+    ghost use Rattle.std.specs.Prelude.{◌≡◌, IfNone, IfSome, None};
+    ghost use Rattle.rsx_link.specs.Ends.{IsDownOf, received_signals};
+    ghost use Rattle.rsx_serialized.specs.Ends.{Gives};
+
+    /// The signal that comes next: the one that waits, or else the oldest of the link. It is no more in the end's hands.
+    pub(crate) fn next(&mut self, link: &Link<T>) -> Option<Signal<T>>
+        requires { IsDownOf link.now self.old.down }
+        ensures end { IsDownOf link.now self.new.down }
+        ensures some { IfSome result (λ s. Gives self.old s self.new) }
+        ensures none { IfNone result ((self.new.hub ≡ self.old.hub) × (received_signals self.new.down ≡ received_signals self.old.down) × (self.new.waiting ≡ self.old.waiting)) }
+    {
+        match self.waiting.take() {
+            Some(signal) => Some(signal),
+            None => self.down.take(link),
+        }
+    }
+}
+
+impl<T: Drop> ToTap<T> {
+    ghost use Rattle.std.specs.Prelude.{◌≡◌, ◌≤◌, ◌<◌, ◌+◌, ◌∷◌, ◌++◌, [], true};
+    ghost use Rattle.rsx_link.specs.Ends.{IsUpOf, MaySend, SameUp, carried_up, free_slots, sent_signals};
+    ghost use Rattle.rsx_link.specs.Signals.{is_item as is_item_signal};
+    ghost use Rattle.rsx_demand.specs.declared.TheConstants.{UNBOUNDED as MOST};
+    ghost use Rattle.rsx_serialized.specs.Ends.{IsPassedOn, is_flagged};
+
+    /// Looks at the link: how many items more are asked for, which then counts as passed on, and whether a flag is set.
+    pub(crate) fn look(&mut self, link: &Link<T>) -> Looked
+        requires end { IsUpOf link.now self.old.up }
+        requires passed { IsPassedOn self.old }
+        ensures end { IsUpOf link.now self.new.up }
+        ensures passed { IsPassedOn self.new }
+        ensures items { self.new.asked ≡ self.old.asked + result.items }
+        ensures most { self.new.asked ≤ MOST }
+        ensures stopped { result.stopped ≡ is_flagged self.new.up }
+        ensures stays { is_flagged self.old.up ≡ true → is_flagged self.new.up ≡ true }
+        ensures same { (sent_signals self.new.up ≡ sent_signals self.old.up) × (carried_up self.new.up ≡ carried_up self.old.up) }
+    {
+        let found = self.up.look(link);
+        let total = UNBOUNDED.min(found.asked);
+        let items = total - self.asked;
+        self.asked = total;
+        Looked {
+            items,
+            stopped: is_flag(found),
+        }
+    }
+
+    /// Whether the link takes a signal now: an item only where one is asked for.
+    pub(crate) fn has_room(&mut self, link: &Link<T>, item: bool) -> bool
+        requires { IsUpOf link.now self.old.up }
+        ensures same { SameUp link.now self.old.up self.new.up × (sent_signals self.new.up ≡ sent_signals self.old.up) × (self.new.asked ≡ self.old.asked) }
+        ensures room { result ≡ true → 0 < free_slots self.new.up }
+        ensures may { result ≡ true → (s : SignalSpec T) → is_item_signal s ≡ item → MaySend self.new.up s }
+    {
+        if item && self.up.room() == 0 {
+            return false;
+        }
+        self.up.has_room(link)
+    }
+
+    /// Sends a signal, for which there is room.
+    pub(crate) fn send(&mut self, link: &Link<T>, signal: Signal<T>)
+        requires end { IsUpOf link.now self.old.up }
+        requires room { 0 < free_slots self.old.up }
+        requires may { MaySend self.old.up signal }
+        ensures same { SameUp link.now self.old.up self.new.up × (self.new.asked ≡ self.old.asked) }
+        ensures sent { sent_signals self.new.up ≡ sent_signals self.old.up ++ signal ∷ [] }
+    {
+        // It doesn't come back.
+        let _ = self.up.send(link, signal);
+    }
+}
+
+/// Whether a flag is set.
+fn is_flag(found: Found) -> bool
+    ensures { result ≡ (found.cancelled || found.refused) }
+{
+    found.cancelled || found.refused
+}

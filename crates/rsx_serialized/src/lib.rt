@@ -1,0 +1,32 @@
+#![tactic(auto)]
+//! A whole graph, hubs and feeds included, that many threads publish to, request from, take from and cancel, while one of them at a time
+//! moves it.
+//!
+//! - [`ends`]: [`FromEmitter`] and [`ToTap`], the ends of links that the graph's holder has: what comes from emitters, and what goes to
+//!   taps.
+//! - [`region`]: [`GraphRegion`], the graph between its links, and [`GraphRegion::serve`], by which its holder moves it.
+//! - [`calls`]: the calls of [`SerializedGraph`] by which threads publish, request, take and cancel.
+//! - [`opening`]: [`Opening`], what the gate of a graph keeps.
+//! - [`serialized`]: [`SerializedGraph`], the graph behind its gate: [`SerializedGraph::new`], [`SerializedGraph::poke`], by which a thread
+//!   works on it, and [`SerializedGraph::stop`], by which it comes back.
+//!
+//! A subscriber that asked for more than it takes holds the whole graph up: while what was delivered to it finds no room in the queue of
+//! its link, nothing is moved.
+//!
+//! The definitions stand in `specs/`: `Events` (what has happened to a graph, call by call), `Told` (what its holder tells it), `Ends`
+//! (what the ends have passed on), `Sending` (the signal that was delivered first is sent), `Regions` (a graph between its links), `Since` (what
+//! has happened to its hubs and subscribers), `Gates` (a graph behind its gate), `Opened` (it is put there, and comes back) and `Calls` (the
+//! link of an emitter or a tap).
+
+pub mod calls;
+pub mod ends;
+pub mod opening;
+mod publishing;
+pub mod region;
+mod sending;
+pub mod serialized;
+
+pub use ends::{FromEmitter, ToTap};
+pub use opening::Opening;
+pub use region::{GraphRegion, Links, Served};
+pub use serialized::{GraphGate, GraphSeat, SerializedGraph};

@@ -1,0 +1,186 @@
+//! A graph between its links, which one holder at a time moves.
+
+ghost use Rattle.std.specs.Prelude.{◌≡◌, ◌<◌, length, true};
+ghost use Rattle.rsx_serialized.specs.Regions.{AreEndsOf, GoesOn};
+
+use crate::ends::{FromEmitter, ToTap};
+use crate::publishing::{ask, stop, take_next};
+use crate::sending::{first_sub, send_first};
+use rsx_graph::{Deliveries, Graph, Pumped};
+use rsx_link::Link;
+use rsx_types::{NoMemory, Ops, Signal, SubId};
+use std::alloc::Global;
+use std::mem;
+
+/// How many moves are made before the taps and the emitters are looked at again.
+pub const SLICE: u32 = 64;
+
+/// The links of a graph: one for each emitter, and one for each subscription.
+#[derive(Drop)]
+pub struct Links<T> {
+    /// Those of the emitters.
+    pub emitters: Vec<Link<T>>,
+    /// Those of the taps, in the order of the subscriptions.
+    pub taps: Vec<Link<T>>,
+}
+
+/// A graph, with the ends of its links that its holder has.
+#[derive(Drop)]
+pub struct GraphRegion<O: Ops> {
+    /// The graph.
+    pub graph: Graph<O>,
+    /// The receiving ends of the emitters' links.
+    pub inlets: Vec<FromEmitter<O::Item>>,
+    /// The sending ends of the taps' links, in the order of the subscriptions.
+    pub outlets: Vec<ToTap<O::Item>>,
+    /// What the graph delivered and was not sent yet, in its order.
+    pub pending: Vec<(SubId, Signal<O::Item>)>,
+}
+
+/// How a serve ended.
+#[derive(Clone, Copy, Debug, PartialEq, Eq)]
+pub enum Served {
+    /// Nothing is left to do, as far as the ends know: what waits to be sent finds no room at its tap, or else nothing waits, no move is
+    /// enabled, and no emitter's signal can be published.
+    Idle,
+    /// The budget was used up.
+    Budget,
+    /// A growth was refused. What was done before stands.
+    NoMemory,
+}
+
+impl<O: Ops> GraphRegion<O> {
+    ghost use Rattle.std.specs.Prelude.{◌≡◌, ◌<◌, length};
+    ghost use Rattle.rsx_graph.specs.InGraph.{state_of};
+    ghost use Rattle.rsx_serialized.specs.Regions.{AreEndsOf, Goes, GoesOn};
+
+    /// Moves the graph between its links: what was delivered is sent to the taps, what they asked for is requested, subscriptions whose
+    /// taps cancelled or made a bad request are cancelled, what emitters sent is published, and moves are made while no delivery waits. It
+    /// does so in rounds, at most `budget` of them, until nothing is left to do. A round makes at most [`SLICE`] moves, and publishes at
+    /// most one signal of each emitter.
+    ///
+    /// These things have then happened to the graph, and nothing else: of each emitter's link what was taken from it is published, but for
+    /// the one signal that waits; to each tap was sent what was delivered to its subscriber, but for what waits.
+    pub fn serve(&mut self, alloc: Global, links: &Links<O::Item>, budget: u32) -> Served
+        requires { AreEndsOf links.now self.old }
+        ensures { GoesOn links.now self.old self.new }
+    {
+        for _round in 0..budget {
+            match self.round(alloc, links) {
+                Ok(true) => {}
+                Ok(false) => return Served::Idle,
+                Err(NoMemory) => return Served::NoMemory,
+            }
+        }
+        Served::Budget
+    }
+
+    /// One round, and whether something was done by which more may be left to do.
+    fn round(&mut self, alloc: Global, links: &Links<O::Item>) -> Result<bool, NoMemory>
+        requires { AreEndsOf links.now self.old }
+        ensures { GoesOn links.now self.old self.new }
+    {
+        self.look(links);
+        let moved = self.move_on(alloc)?;
+        let sent = self.send_out(links);
+        let taken = self.take_in(links);
+        Ok(moved || sent || taken)
+    }
+
+    /// Looks at the links of all taps, and passes on what is asked for.
+    fn look(&mut self, links: &Links<O::Item>)
+        requires { AreEndsOf links.now self.old }
+        ensures { GoesOn links.now self.old self.new }
+    {
+        for at in 0..self.outlets.len() {
+            self.look_at(at, links);
+        }
+    }
+
+    /// Looks at the link of one tap: requests what is asked for, and cancels where a flag is set.
+    fn look_at(&mut self, at: usize, links: &Links<O::Item>)
+        requires ends { AreEndsOf links.now self.old }
+        requires there { at < length self.old.outlets.items }
+        ensures goes { GoesOn links.now self.old self.new }
+        ensures count { length self.new.outlets.items ≡ length self.old.outlets.items }
+    {
+        let looked = self.outlets[at].look(&links.taps[at]);
+        let sub = SubId(at as u32);
+        ask(&mut self.graph, sub, looked.items);
+        stop(&mut self.graph, sub, looked.stopped);
+    }
+
+    /// Makes moves, where nothing waits to be sent, and whether the budget of a slice was used up.
+    ///
+    /// # Errors
+    /// [`NoMemory`] where a growth was refused. What was done before stands.
+    fn move_on(&mut self, alloc: Global) -> Result<bool, NoMemory>
+        ensures goes { Goes (O.meaning self.old.graph.ops) self.old self.new }
+        ensures same { (self.new.inlets ≡ self.old.inlets) × (self.new.outlets ≡ self.old.outlets) × ((state_of self.new.graph).joins ≡ (state_of self.old.graph).joins) }
+    {
+        if !self.pending.is_empty() {
+            return Ok(false);
+        }
+        let mut out = Deliveries::from_vec(mem::replace(&mut self.pending, Vec::new(alloc)));
+        let pumped = self.graph.pump(alloc, SLICE, &mut out);
+        self.pending = out.into_vec();
+        match pumped {
+            Ok(Pumped::Idle) => Ok(false),
+            Ok(Pumped::Budget) => Ok(true),
+            Err(_) => Err(NoMemory),
+        }
+    }
+
+    /// Sends what waits, from the front, until a link takes no more, and whether something was sent.
+    fn send_out(&mut self, links: &Links<O::Item>) -> bool
+        requires { AreEndsOf links.now self.old }
+        ensures { GoesOn links.now self.old self.new }
+    {
+        let mut sent = false;
+        for _signal in 0..self.pending.len() {
+            if !self.send_one(links) {
+                return sent;
+            }
+            sent = true;
+        }
+        sent
+    }
+
+    /// Sends the signal in front, if one waits and its link takes it, and whether it did.
+    fn send_one(&mut self, links: &Links<O::Item>) -> bool
+        requires { AreEndsOf links.now self.old }
+        ensures { GoesOn links.now self.old self.new }
+    {
+        let at = match first_sub(&self.pending) {
+            None => return false,
+            Some(at) => at,
+        };
+        if at >= self.outlets.len() {
+            // Nothing is delivered to a subscription that isn't there.
+            return false;
+        }
+        send_first(&mut self.pending, &mut self.outlets[at], &links.taps[at])
+    }
+
+    /// Publishes the next signal of each emitter, where its hub takes it, and whether one was published.
+    fn take_in(&mut self, links: &Links<O::Item>) -> bool
+        requires { AreEndsOf links.now self.old }
+        ensures { GoesOn links.now self.old self.new }
+    {
+        let mut taken = false;
+        for at in 0..self.inlets.len() {
+            taken |= self.take_at(at, links);
+        }
+        taken
+    }
+
+    /// Publishes the next signal of one emitter, where there is one and the hub takes it, and whether one was published.
+    fn take_at(&mut self, at: usize, links: &Links<O::Item>) -> bool
+        requires ends { AreEndsOf links.now self.old }
+        requires there { at < length self.old.inlets.items }
+        ensures goes { GoesOn links.now self.old self.new }
+        ensures count { length self.new.inlets.items ≡ length self.old.inlets.items }
+    {
+        take_next(&mut self.graph, &mut self.inlets[at], &links.emitters[at])
+    }
+}

@@ -1,0 +1,48 @@
+//! The signal that was delivered first is sent to its tap.
+
+ghost use Rattle.std.specs.Prelude.{◌≡◌, ◌<◌, IfNone, IfSome, [], length};
+ghost use Rattle.rsx_link.specs.Ends.{IsUpOf};
+ghost use Rattle.rsx_link.specs.Signals.{is_item as is_item_signal};
+ghost use Rattle.rsx_serialized.specs.Sending.{IsFirstFor, IsOffered, SendsFirst};
+
+use crate::ends::ToTap;
+use rsx_link::Link;
+use rsx_types::{Signal, SubId};
+
+/// The number of the subscription to which the first of these goes, if there is one.
+pub(crate) fn first_sub<T>(pending: &[(SubId, Signal<T>)]) -> Option<usize>
+    ensures some { IfSome result (λ n. IsFirstFor n pending.now) }
+    ensures none { IfNone result (length pending.now ≡ 0) }
+{
+    if pending.is_empty() {
+        return None;
+    }
+    Some(pending[0].0.0 as usize)
+}
+
+/// Sends the first of these to its tap, where that takes it, and whether it did.
+pub(crate) fn send_first<T: Drop>(
+    pending: &mut Vec<(SubId, Signal<T>)>,
+    outlet: &mut ToTap<T>,
+    link: &Link<T>,
+) -> bool
+    requires end { IsUpOf link.now outlet.old.up }
+    requires some { 0 < length pending.old.items }
+    ensures kept { IsOffered link.now outlet.old outlet.new }
+    ensures sent { SendsFirst result pending.old.items pending.new.items outlet.old outlet.new }
+{
+    let item = is_item(&pending[0].1);
+    if !outlet.has_room(link, item) {
+        return false;
+    }
+    let (_, signal) = pending.remove(0);
+    outlet.send(link, signal);
+    true
+}
+
+/// Whether the signal is an item.
+fn is_item<T>(signal: &Signal<T>) -> bool
+    ensures { result ≡ is_item_signal signal.now }
+{
+    matches!(signal, Signal::Next(_))
+}
