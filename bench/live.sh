@@ -1,12 +1,12 @@
 #!/usr/bin/env bash
 # Measures a graph that is live beside one that is not, on one thread: the instructions an item through a `publishOn`, over the queue of the
 # edge and over a link (between 10,000 and 110,000 items, by valgrind).
-# First build crates/bench_live (rt run makes crates/bench_live/out/bench_live).
+# First build crates/test_live (rt run makes crates/test_live/out/test_live).
 #
 # usage: bench/live.sh
 set -euo pipefail
 cd "$(dirname "$0")/.."
-program=${PROGRAM:-crates/bench_live/out/bench_live}
+program=${PROGRAM:-crates/test_live/out/test_live}
 log=$(mktemp)
 trap 'rm -f "$log"' EXIT
 

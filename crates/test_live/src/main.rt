@@ -11,14 +11,20 @@
 //! It writes a line for each expression: how many runs there were and, in all of them, at how many edges they were cut, how many signals
 //! were received, and how many of these taps gave. The first comparison that differs, and the first join that is refused, end the program
 //! with status 1.
+//!
+//! `test_live WAY COUNT` does none of that: it sends so many numbers through a graph, and prints how many items came and their sum, and no
+//! time, so that `bench/live.sh` counts its instructions. WAY is `queue`, where the graph is pumped, or `link`, where it is live.
 
 mod compared;
 mod driven;
 mod numbers;
+mod timed;
 mod trial;
 
+use crate::timed::{lived, pumped};
 use crate::trial::{Tried, try_refused, try_seeds};
 use anyhow::Result;
+use std::env;
 
 /// The expressions. Each has an edge that crosses. The last four choose between what they have to put out.
 const EXPRESSIONS: [&'static str; 16] = [
@@ -40,7 +46,8 @@ const EXPRESSIONS: [&'static str; 16] = [
     "(groupBy mod3 ((scan add 0)) (merge 2 (publishOn 1 2 (range 1 9)) (publishOn 2 2 (items 4 5 6))))",
 ];
 
-fn main(rt: HostRuntime) -> Result<()> {
+/// Tries all expressions, and writes a line for each.
+fn try_all(rt: &(impl Print + AllocGlobal)) -> Result<()> {
     for text in &EXPRESSIONS {
         let Tried {
             runs,
@@ -57,4 +64,23 @@ fn main(rt: HostRuntime) -> Result<()> {
     let signals = try_refused(rt.alloc(), text)?;
     println!(rt; "{text}: refused with too few workers, {signals} signals, equal")?;
     Ok(())
+}
+
+/// Sends so many numbers through a graph that is pumped, or that is live.
+fn time(rt: &(impl Print + AllocGlobal), way: &str, count: &str) -> Result<()> {
+    let count = count.parse::<u64>().unwrap_or(0);
+    let sum = match way {
+        "queue" => pumped(rt.alloc(), count)?,
+        _ => lived(rt.alloc(), count)?,
+    };
+    println!(rt; "{} items, sum {}", sum.items, sum.sum)?;
+    Ok(())
+}
+
+fn main(rt: HostRuntime) -> Result<()> {
+    let mut words = env::args(&rt)?.skip(1);
+    match (words.next(), words.next()) {
+        (Some(way), Some(count)) => time(&rt, way.as_str(), count.as_str()),
+        _ => try_all(&rt),
+    }
 }

@@ -1,5 +1,5 @@
 use Rattle.rsx_live.specs.Starts.{IsStarted}
-use Rattle.bench_live.proofs.take_all.Given as goal
+use Rattle.test_live.proofs.timed.lived.Given as goal
 
 abbrev pub invariant-loop : goal.invariant-loop
 invariant-loop l = IsStarted l.started

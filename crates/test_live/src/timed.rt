@@ -1,12 +1,8 @@
 //! Times a graph that is live beside one that is not, on one thread.
 //!
-//! `bench_live WAY COUNT` sends the numbers from 1 to COUNT, items of the demonstration, through a `publishOn` with a prefetch of 64, which
-//! is in another region. WAY is `queue` (the graph is pumped, and the edge between the regions has its queue) or `link` (the graph goes
-//! live, and its two regions are poked in turns, each with a large budget).
-//!
-//! It prints how many items came and their sum, and no time, so that its output is the same in every run: `bench/live.sh` counts its
-//! instructions.
-#![tactic(auto)]
+//! The numbers from 1 on, items of the demonstration, go through a `publishOn` with a prefetch of 64, which is in another region: where the
+//! graph is pumped the edge between the regions has its queue, and where it goes live there is a link, and its two regions are poked in
+//! turns, each with a large budget.
 
 ghost use Rattle.rsx_live.specs.Starts.{IsStarted};
 
@@ -17,7 +13,6 @@ use rsx_live::{LiveGraph, StartedGraph};
 use rsx_script::parse_expression;
 use rsx_types::{Signal, SubId};
 use std::alloc::Global;
-use std::env;
 
 /// The budget of a pump, and of a poke.
 const BUDGET: u32 = 65_536;
@@ -27,9 +22,11 @@ const ALL: i64 = 1_000_000_000;
 
 /// What came.
 #[derive(Clone, Copy, Debug)]
-struct Sum {
-    items: u64,
-    sum: i64,
+pub struct Sum {
+    /// How many items.
+    pub items: u64,
+    /// What they come to.
+    pub sum: i64,
     ended: bool,
 }
 
@@ -71,7 +68,7 @@ fn subscribed(alloc: Global, count: u64) -> Result<(Graph<Demo>, SubId)> {
 }
 
 /// What comes where the graph is pumped.
-fn pumped(alloc: Global, count: u64) -> Result<Sum> {
+pub fn pumped(alloc: Global, count: u64) -> Result<Sum> {
     let (mut graph, _) = subscribed(alloc, count)?;
     let mut out = Deliveries::new(alloc);
     let mut sum = Sum {
@@ -92,7 +89,7 @@ fn pumped(alloc: Global, count: u64) -> Result<Sum> {
 }
 
 /// What comes where the graph is live, and its regions are poked in turns. The lower one comes first.
-fn lived(alloc: Global, count: u64) -> Result<Sum> {
+pub fn lived(alloc: Global, count: u64) -> Result<Sum> {
     let (graph, sub) = subscribed(alloc, count)?;
     let Ok(mut started) = LiveGraph::go_live(alloc, graph, 2) else {
         bail!("it didn't go live")
@@ -135,18 +132,4 @@ fn take_all(started: &mut StartedGraph<Demo>, sub: SubId, sum: &mut Sum)
             None => break,
         }
     }
-}
-
-fn main(rt: HostRuntime) -> Result<()> {
-    let mut words = env::args(&rt)?.skip(1);
-    let (Some(way), Some(count)) = (words.next(), words.next()) else {
-        bail!("wanted: WAY COUNT")
-    };
-    let count = count.as_str().parse::<u64>().unwrap_or(0);
-    let sum = match way.as_str() {
-        "queue" => pumped(rt.alloc(), count)?,
-        _ => lived(rt.alloc(), count)?,
-    };
-    println!(rt; "{} items, sum {}", sum.items, sum.sum)?;
-    Ok(())
 }
