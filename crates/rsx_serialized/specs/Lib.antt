@@ -4,6 +4,7 @@ pub mod Ends
 pub mod Events
 pub mod Gates
 pub mod Opened
+pub mod Opens
 pub mod Regions
 pub mod Sending
 pub mod Since

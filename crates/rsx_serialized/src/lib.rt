@@ -6,6 +6,7 @@
 //!   taps.
 //! - [`region`]: [`GraphRegion`], the graph between its links, and [`GraphRegion::serve`], by which its holder moves it.
 //! - [`calls`]: the calls of [`SerializedGraph`] by which threads publish, request, take and cancel.
+//! - [`links`]: [`EmitterLink`] and [`TapLink`], a link with both of its ends.
 //! - [`opening`]: [`Opening`], what the gate of a graph keeps.
 //! - [`serialized`]: [`SerializedGraph`], the graph behind its gate: [`SerializedGraph::new`], [`SerializedGraph::poke`], by which a thread
 //!   works on it, and [`SerializedGraph::stop`], by which it comes back.
@@ -14,12 +15,13 @@
 //! its link, nothing is moved.
 //!
 //! The definitions stand in `specs/`: `Events` (what has happened to a graph, call by call), `Told` (what its holder tells it), `Ends`
-//! (what the ends have passed on), `Sending` (the signal that was delivered first is sent), `Regions` (a graph between its links), `Since` (what
+//! (what the ends have passed on), `Opens` (links as they are opened), `Sending` (the signal that was delivered first is sent), `Regions` (a graph between its links), `Since` (what
 //! has happened to its hubs and subscribers), `Gates` (a graph behind its gate), `Opened` (it is put there, and comes back) and `Calls` (the
 //! link of an emitter or a tap).
 
 pub mod calls;
 pub mod ends;
+pub mod links;
 pub mod opening;
 mod publishing;
 pub mod region;
@@ -27,6 +29,7 @@ mod sending;
 pub mod serialized;
 
 pub use ends::{FromEmitter, ToTap};
+pub use links::{EmitterLink, TapLink};
 pub use opening::Opening;
 pub use region::{GraphRegion, Links, Served};
 pub use serialized::{GraphGate, GraphSeat, SerializedGraph};
