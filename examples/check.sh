@@ -1,6 +1,6 @@
 #!/usr/bin/env bash
-# Runs each example and compares what it writes and how it ends with what is stored: its answers in NAME.answers, by
-# `rsx scratch` in NAME.scratch where that file is there, and in NAME.fault the line on standard error of an example that
+# Runs each example and compares what it writes and how it ends with what is stored: its answers in NAME.answers, that of
+# live.rsx by `rsx live`, by `rsx scratch` in NAME.scratch where that file is there, and in NAME.fault the line on standard error of an example that
 # ends with status 1, and in NAME.hint the line that `--explain` adds there. A trace NAME.trace has its report, by `rsx tck`, in
 # NAME.report, and by `rsx tck --explain` in NAME.explained where that file is there. Then it looks at what the launcher hands
 # through.
@@ -44,6 +44,11 @@ is_row() {
     local fault=${1%.rsx}.fault
     [[ -f $fault && $2 == run ]] || fault=/dev/null
     [[ $(<"$here/../crates/test_scripts/stdout") == *"$(echo "$2" && cat "$1" && echo answers && cat "$3" "$fault")"* ]]
+}
+
+# Whether the script that goes live, and its answers, are what the gate runs the program on.
+is_run_by_the_gate() {
+    diff "$here/live.rsx" "$here/../crates/rsx_app/stdin" && diff "$here/live.answers" "$here/../crates/rsx_app/stdout"
 }
 
 # Whether a script that can't be read ends so where lines are explained: one line more on standard error.
@@ -110,6 +115,7 @@ trial() {
 
 for script in "$here"/*.rsx; do
     name=$(basename "$script" .rsx)
+    [[ $name == live ]] && continue
     expect "$name" answers "$script" run "${script%.rsx}.answers"
     expect "$name among the rows" is_row "$script" run "${script%.rsx}.answers"
     expect "$name, recorded" is_recorded "$script"
@@ -118,6 +124,10 @@ for script in "$here"/*.rsx; do
         expect "$name by scratch among the rows" is_row "$script" scratch "${script%.rsx}.scratch"
     fi
 done
+expect 'live' answers "$here/live.rsx" live "$here/live.answers"
+expect 'live, as the gate runs it' is_run_by_the_gate
+expect 'live, a command of a graph that is not' ends_with 1 live <<<close
+expect 'live, a command that is not known while it is' ends_with 1 live <<<$'live 1\npump 1'
 for trace in "$here"/*.trace; do
     name=$(basename "$trace" .trace)
     expect "$name" answers "$trace" tck "${trace%.trace}.report"

@@ -4,9 +4,10 @@
 //!
 //! `rsx run` reads standard input, one command a line, and writes one answer for each to standard output. `rsx scratch`
 //! does the same, but shows a subscription by the value of its expression, evaluated from scratch. `rsx draw` reads
-//! expressions, one a line, and writes a line for each of their nodes. `rsx tck` reads expressions and traces, one after the
+//! expressions, one a line, and writes a line for each of their nodes. `rsx live` answers scripts as `rsx run` does, and their graph may
+//! go live and come back. `rsx tck` reads expressions and traces, one after the
 //! other, and writes what each says of the rules, a line for each of the 43. With `--explain` it writes how many are held and
-//! broken, and explains those that are broken; each of the four then says what was expected in a line that can't be read.
+//! broken, and explains those that are broken; each of them but `live` then says what was expected in a line that can't be read.
 //! `rsx run --trace FILE` writes what happened to the subscriptions to a file. Exit status 0 where the input ended; 1 after a line
 //! that can't be read; 2 after a command line that is wrong or that asked for help; 3 after a read or a write that failed; 4 where
 //! memory was wanted.
@@ -14,13 +15,17 @@
 //! Where standard error is a terminal and standard input is none, each two seconds a line on standard error says how many lines were
 //! read.
 
+mod emitters;
+mod live;
+mod serving;
 mod watching;
 
+use crate::live::answer_live;
 use clap::error::ErrorKind;
 use rsx_drive::{CommandLine, Style, command_line_of, drive, judge_input};
 use rsx_hints::{Reads, Remembering, hint};
 use rsx_recorder::Recording;
-use rsx_script::{AppFault, LineRefusal, Mode};
+use rsx_script::{AppFault, LineRefusal, Mode, Subcommand};
 use std::io::{IsTerminal, Read, Write};
 use std::process::ExitCode;
 use std::rt::{Clock, Env, Files};
@@ -84,7 +89,7 @@ fn answer(
         Err(fault) => {
             let status = complain(rt, fault);
             if line.explain || terminal.error {
-                explain(rt, line.mode, &reader, fault);
+                explain(rt, line.subcommand, &reader, fault);
             }
             status
         }
@@ -99,9 +104,12 @@ fn answer_from<R: Read>(
 ) -> Result<(), AppFault> {
     let alloc = rt.alloc();
     let mut writer = io::writer(rt);
-    match line.mode {
-        Mode::Tck if line.explain => judge_input(alloc, Style::Explained, reader, &mut writer),
-        mode => drive(alloc, mode, reader, &mut writer),
+    match line.subcommand {
+        Subcommand::Live => answer_live(alloc, reader, &mut writer),
+        Subcommand::Mode(Mode::Tck) if line.explain => {
+            judge_input(alloc, Style::Explained, reader, &mut writer)
+        }
+        Subcommand::Mode(mode) => drive(alloc, mode, reader, &mut writer),
     }
 }
 
@@ -131,7 +139,7 @@ fn run_traced<R: Read>(
 /// Writes to standard error what was expected in the line that can't be read, where that is known.
 fn explain<R>(
     rt: &(impl Eprint + AllocGlobal),
-    mode: Mode,
+    subcommand: Subcommand,
     reader: &Remembering<R>,
     fault: AppFault,
 ) {
@@ -143,10 +151,12 @@ fn explain<R>(
     let Some(bytes) = reader.line(number) else {
         return;
     };
-    let reads = match mode {
-        Mode::Run | Mode::Scratch => Reads::Command,
-        Mode::Draw => Reads::Expression,
-        Mode::Tck => Reads::Judged,
+    let reads = match subcommand {
+        Subcommand::Mode(Mode::Run | Mode::Scratch) => Reads::Command,
+        Subcommand::Mode(Mode::Draw) => Reads::Expression,
+        Subcommand::Mode(Mode::Tck) => Reads::Judged,
+        // What a line of a live script may say depends on whether its graph is live, which the line doesn't tell.
+        Subcommand::Live => return,
     };
     if let Ok(text) = hint(rt.alloc(), reads, bytes, column) {
         if !text.is_empty() {

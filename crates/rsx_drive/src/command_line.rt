@@ -1,13 +1,13 @@
 //! The command line of the program `rsx`: what `clap` makes of the words.
 //!
-//! Proved of it is which mode a command line that is taken gives. Which command lines are taken is tested.
+//! Proved of it is which subcommand a command line that is taken gives. Which command lines are taken is tested.
 
 ghost use Rattle.std.specs.Prelude.{◌≡◌, IfOk, Some, option_and_then, slice_get, string_bytes};
-ghost use Rattle.rsx_script.specs.Modes.{mode_of_name};
+ghost use Rattle.rsx_script.specs.Modes.{subcommand_of_name};
 
 use clap::error::ErrorKind;
 use clap::{Arg, ArgAction, Command, Error};
-use rsx_script::{Mode, mode_named};
+use rsx_script::{Subcommand, subcommand_named};
 use std::alloc::Global;
 
 /// The option by which answers are explained.
@@ -32,6 +32,10 @@ const EXPLAINED: &str =
 const SCRIPT: &str =
     "Commands are read from standard input, one a line, and each is answered by one line on standard output. docs/SCRIPT.md describes them.";
 
+/// What the help of the subcommand whose graphs may go live says of the input.
+const LIVE: &str =
+    "Commands are read from standard input, one a line, and each is answered by one line on standard output; live, take and close are among them. docs/SCRIPT.md describes them.";
+
 /// What the help of the mode that draws expressions says of the input.
 const DRAWN: &str =
     "Expressions are read from standard input, one a line, and each is answered by a line for each of its nodes on standard output. docs/SCRIPT.md describes them.";
@@ -48,38 +52,40 @@ const STATUS: &str =
 #[derive(Drop)]
 pub struct CommandLine<'a> {
     /// What is done with the input.
-    pub mode: Mode,
+    pub subcommand: Subcommand,
     /// Whether answers of `tck`, and lines that can't be read, are explained (`--explain`).
     pub explain: bool,
     /// The file to which the trace of a run goes (`--trace FILE`).
     pub trace: Option<&'a str>,
 }
 
-/// The mode that the second of these words names.
-fn mode_in(words: &[String]) -> Option<Mode>
-    ensures { result ≡ option_and_then (λ word. mode_of_name (string_bytes word)) (slice_get words.now 1) }
+/// The subcommand that the second of these words names.
+fn subcommand_in(words: &[String]) -> Option<Subcommand>
+    ensures { result ≡ option_and_then (λ word. subcommand_of_name (string_bytes word)) (slice_get words.now 1) }
 {
-    words.get(1).and_then(|word| mode_named(word.as_str()))
+    words
+        .get(1)
+        .and_then(|word| subcommand_named(word.as_str()))
 }
 
-/// What the command line asks for: the mode that its second word names, with what the options behind it ask for. Its first word
+/// What the command line asks for: the subcommand that its second word names, with what the options behind it ask for. Its first word
 /// is the program's own.
 ///
 /// # Errors
 ///
 /// What `clap` says of a command line that is wrong, or that asks for help.
 pub fn command_line_of<'a>(alloc: Global, words: &'a [String]) -> Result<CommandLine<'a>, Error>
-    ensures { IfOk result (λ line. option_and_then (λ word. mode_of_name (string_bytes word)) (slice_get words.now 1) ≡ Some line.mode) }
+    ensures { IfOk result (λ line. option_and_then (λ word. subcommand_of_name (string_bytes word)) (slice_get words.now 1) ≡ Some line.subcommand) }
 {
     let matches = program_of(alloc)?.try_get_matches_from(words)?;
     let (explain, trace) = match matches.subcommand() {
         Some((_, options)) => (options.get_flag(EXPLAIN), options.get_str(TRACE)),
         None => (false, None),
     };
-    // `clap` lets no other word stand there than the names of the four subcommands.
-    match mode_in(words) {
-        Some(mode) => Ok(CommandLine {
-            mode,
+    // `clap` lets no other word stand there than the names of the five subcommands.
+    match subcommand_in(words) {
+        Some(subcommand) => Ok(CommandLine {
+            subcommand,
             explain,
             trace,
         }),
@@ -119,6 +125,9 @@ fn program_of<'a>(alloc: Global) -> Result<Command<'a>, Error> {
         .about("Judges expressions and traces by the rules of Reactive Streams")
         .after_help(JUDGED)
         .arg(explain(alloc, EXPLAINED))?;
+    let live = Command::new(alloc, "live")
+        .about("Answers each command of a script whose graph may go live and come back")
+        .after_help(LIVE);
     let program = Command::new(alloc, "rsx")
         .bin_name("rsx")?
         .about(
@@ -130,6 +139,7 @@ fn program_of<'a>(alloc: Global) -> Result<Command<'a>, Error> {
         .subcommand(run)?
         .subcommand(scratch)?
         .subcommand(draw)?
-        .subcommand(tck)?;
+        .subcommand(tck)?
+        .subcommand(live)?;
     Ok(program)
 }

@@ -42,3 +42,6 @@ pub use input::judge_input;
 pub use judge::Style;
 pub use modes::drive;
 pub use run::answer_lines;
+
+// What `tck` answers of an expression is had by these.
+pub use rsx_verify::{VerifyRefusal, verify};

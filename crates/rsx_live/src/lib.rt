@@ -33,3 +33,6 @@ pub use kept::{Kept, Parted};
 pub use lives::LiveSubscriptions;
 pub use outgoing::{Outgoing, Stay, go_out};
 pub use returning::come_back;
+
+// What the calls of a live graph answer, and the taps of its subscriptions.
+pub use rsx_runtime::{Poked, Tap};

@@ -2,7 +2,7 @@
 
 use clap::error::ErrorKind;
 use rsx_drive::command_line_of;
-use rsx_script::{AppFault, LineRefusal, Mode};
+use rsx_script::{AppFault, LineRefusal, Mode, Subcommand};
 use std::alloc::Global;
 use std::test::Fail;
 
@@ -37,16 +37,22 @@ fn texts(rt: HostRuntime) -> Result<(), Fail> {
     Ok(())
 }
 
-/// Command lines, with their modes or what `clap` finds wrong.
-const COMMAND_LINES: [(&str, Result<Mode, ErrorKind>); 16] = [
-    ("rsx run", Ok(Mode::Run)),
-    ("rsx scratch", Ok(Mode::Scratch)),
-    ("rsx draw", Ok(Mode::Draw)),
-    ("rsx draw --explain", Ok(Mode::Draw)),
-    ("rsx tck", Ok(Mode::Tck)),
-    ("rsx tck --explain", Ok(Mode::Tck)),
-    ("rsx run --explain", Ok(Mode::Run)),
-    ("rsx run --trace trace.txt", Ok(Mode::Run)),
+/// Command lines, with their subcommands or what `clap` finds wrong.
+const COMMAND_LINES: [(&str, Result<Subcommand, ErrorKind>); 19] = [
+    ("rsx run", Ok(Subcommand::Mode(Mode::Run))),
+    ("rsx scratch", Ok(Subcommand::Mode(Mode::Scratch))),
+    ("rsx draw", Ok(Subcommand::Mode(Mode::Draw))),
+    ("rsx draw --explain", Ok(Subcommand::Mode(Mode::Draw))),
+    ("rsx tck", Ok(Subcommand::Mode(Mode::Tck))),
+    ("rsx tck --explain", Ok(Subcommand::Mode(Mode::Tck))),
+    ("rsx run --explain", Ok(Subcommand::Mode(Mode::Run))),
+    ("rsx run --trace trace.txt", Ok(Subcommand::Mode(Mode::Run))),
+    ("rsx live", Ok(Subcommand::Live)),
+    ("rsx live --explain", Err(ErrorKind::UnknownArgument)),
+    (
+        "rsx live --trace trace.txt",
+        Err(ErrorKind::UnknownArgument),
+    ),
     ("rsx tck --trace trace.txt", Err(ErrorKind::UnknownArgument)),
     ("rsx --explain tck", Err(ErrorKind::UnknownArgument)),
     ("rsx tck --help", Err(ErrorKind::DisplayHelp)),
@@ -66,19 +72,23 @@ fn words_of(alloc: Global, line: &str) -> Result<Vec<String>, Fail> {
     Ok(words)
 }
 
-/// The mode of a command line, or what `clap` finds wrong.
-fn mode_or_error(alloc: Global, words: &[String]) -> Result<Mode, ErrorKind> {
+/// The subcommand of a command line, or what `clap` finds wrong.
+fn subcommand_or_error(alloc: Global, words: &[String]) -> Result<Subcommand, ErrorKind> {
     match command_line_of(alloc, words) {
-        Ok(line) => Ok(line.mode),
+        Ok(line) => Ok(line.subcommand),
         Err(error) => Err(error.kind()),
     }
 }
 
 #[test]
 fn command_lines(rt: HostRuntime) -> Result<(), Fail> {
-    for (line, mode) in &COMMAND_LINES {
+    for (line, subcommand) in &COMMAND_LINES {
         let words = words_of(rt.alloc(), line)?;
-        assert_eq!(rt; mode_or_error(rt.alloc(), &words), *mode, "{line}");
+        assert_eq!(rt;
+            subcommand_or_error(rt.alloc(), &words),
+            *subcommand,
+            "{line}"
+        );
     }
     Ok(())
 }

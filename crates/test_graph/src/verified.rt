@@ -1,10 +1,10 @@
 //! Expressions that are run and judged.
 
 use rsx_demo::{Demo, Val};
+use rsx_drive::{VerifyRefusal, verify};
 use rsx_model::Expr;
 use rsx_tck::Verdict;
 use rsx_types::{Fault, NoMemory, Ops};
-use rsx_verify::{VerifyRefusal, verify};
 use std::alloc::Global;
 
 /// The functions of the demonstration, where no number of a range finds memory.
