@@ -1,0 +1,6 @@
+-- Definitions that contracts cite.
+pub mod Delayed
+pub mod MergeDelay
+pub mod MergeDelayLaws
+pub mod Rest
+pub mod Worked

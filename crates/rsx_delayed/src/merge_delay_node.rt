@@ -1,0 +1,368 @@
+//! The merge of several inputs that delays their failures.
+
+ghost use Rattle.std.specs.Prelude.{◌≡◌, ℕ, true, Option, Some, None};
+ghost use Rattle.rsx_types.specs.declared.signal.Cause.{Cause as CauseSpec};
+ghost use Rattle.rsx_queued.specs.Output.{first_output, is_empty};
+ghost use Rattle.rsx_delayed.specs.Delayed.{first_cause};
+ghost use Rattle.rsx_delayed.specs.MergeDelay.{last_signal};
+
+use crate::remaining::{ValuesLeft, all_values, first_cause};
+use rsx_queued::{
+    InFront, Output, QueuedInput, are_gone, credits_at, first_output, front_at, front_of, takes_at,
+};
+use rsx_sources::{Front, Machine, NotMade, NotTaken, Passed};
+use rsx_types::{Cause, NoMemory, Note, Ops, Signal, StreamValue};
+use rsx_values::{Record, Run};
+use std::alloc::Global;
+
+/// The items of its inputs, in the order in which they are picked, whatever fails. A failure that is picked ends its input alone:
+/// it puts nothing out, and the other inputs go on. Once the endings of all inputs were picked it fails with the failure that was
+/// picked first, or completes where none was.
+///
+/// Any order is right. [`next_pick`](Machine::next_pick) names the lowest-numbered input that can be picked, so that choices of
+/// the same input stand together; a pick that is one more of the last run takes no memory.
+#[derive(Drop)]
+pub struct MergeDelayNode<T> {
+    /// What came in at each input and was not picked yet.
+    pub inputs: Vec<QueuedInput<T>>,
+    /// What it has put out and its receiver has not taken yet.
+    pub output: Output<T>,
+    /// The choices made.
+    pub choices: Record,
+    /// The failure that was picked first, if one was.
+    pub kept: Option<Cause>,
+}
+
+/// The ending once all inputs have ended, where this failure was picked first.
+fn last_signal<T: Drop>(kept: Option<Cause>) -> Signal<T>
+    ensures { result ≡ last_signal kept }
+{
+    match kept {
+        None => Signal::Complete,
+        Some(cause) => Signal::Error(cause),
+    }
+}
+
+impl<T: Drop> MergeDelayNode<T> {
+    ghost use Rattle.std.specs.Prelude.{◌≤◌, List, [], ◌∷◌, IfOk};
+    ghost use Rattle.std.proofs.Math.ListN.{replicate};
+    ghost use Rattle.rsx_types.specs.Meaning.{Meaning};
+    ghost use Rattle.rsx_types.specs.declared.note.Note.{Note as NoteSpec};
+    ghost use Rattle.rsx_sources.specs.Machine.{Incoming};
+    ghost use Rattle.rsx_prefetch.specs.declared.TheConstants.{LARGEST};
+    ghost use Rattle.rsx_queued.specs.Input.{fresh_input};
+    ghost use Rattle.rsx_queued.specs.Values.{first_values};
+    ghost use Rattle.rsx_queued.specs.Inputs.{are_gone, picked};
+    ghost use Rattle.rsx_delayed.specs.Delayed.{merge_delay};
+    ghost use Rattle.rsx_delayed.specs.MergeDelay.{delayed_comes_out, delayed_counted, ending_out};
+
+    /// The merge of so many inputs, each with a queue of this capacity, 1 to [`LARGEST`](rsx_prefetch::LARGEST). That of no inputs
+    /// completes at once.
+    ///
+    /// # Errors
+    /// [`NoMemory`] where a growth was refused.
+    #[tactic(auto, using(std::proofs::lemmas::List::replicate_more))]
+    pub fn new(alloc: Global, inputs: u32, capacity: usize) -> Result<MergeDelayNode<T>, NoMemory>
+        requires positive { 1 ≤ capacity }
+        requires within { capacity ≤ LARGEST }
+        ensures fresh { IfOk result (λ n. (m : Meaning T) (inc : Incoming T) (further : NoteSpec) →
+            delayed_comes_out m n inc further ≡ picked further (λ cs. merge_delay cs (first_values inputs (inc.first ∷ inc.others)))) }
+        ensures counted { IfOk result (λ n. 1 ≤ inputs → delayed_counted n (replicate inputs 0) 0) }
+        ensures inputs { IfOk result (λ n. n.inputs.items ≡ replicate inputs (fresh_input capacity)) }
+        ensures output { IfOk result (λ n. n.output ≡ first_output inputs) }
+        ensures choices { IfOk result (λ n. n.choices ≡ []) }
+        ensures kept { IfOk result (λ n. n.kept ≡ None) }
+    {
+        let mut row = Vec::new(alloc);
+        for _ in 0..inputs {
+            row.push(QueuedInput::new(alloc, capacity)?)?;
+        }
+        Ok(MergeDelayNode {
+            inputs: row,
+            output: first_output(inputs),
+            choices: Record::new(alloc),
+            kept: None,
+        })
+    }
+
+    /// The choices made, as runs. It takes no memory.
+    pub fn records(&self) -> &[Run]
+        ensures { result.now ≡ self.now.choices }
+    {
+        self.choices.runs()
+    }
+
+    /// The ending of an input was picked: where it was the last, the ending of the merge is put out. Nothing waits.
+    fn end_input(&mut self)
+        requires { is_empty self.old.output ≡ true }
+        ensures output { self.new.output ≡ ending_out (are_gone self.old.inputs.items) self.old.kept }
+        ensures inputs { self.new.inputs ≡ self.old.inputs }
+        ensures choices { self.new.choices ≡ self.old.choices }
+        ensures kept { self.new.kept ≡ self.old.kept }
+    {
+        if are_gone(self.inputs.as_slice()) {
+            self.output.put(last_signal(self.kept));
+        }
+    }
+}
+
+impl<T: Drop> Machine for MergeDelayNode<T> {
+    type Item = T;
+
+    ghost use Rattle.std.specs.Prelude.{◌≡◌, true, false, refl, None, IfOk, IfErr, IsOk, OnOk, OnErr};
+    ghost use Rattle.rsx_types.specs.Notes.{note_then};
+    ghost use Rattle.rsx_sources.specs.Counts.{CountsIn, CountsOut, CountsStep};
+    ghost use Rattle.rsx_sources.specs.Machine.{TakesIn, Records, IsComposed, front_of};
+    ghost use Rattle.rsx_sources.specs.Reading.{IsReadOn, IsResidualOf};
+    ghost use Rattle.rsx_sources.specs.Steps.{IsPopped, IsNotTaken, IsNotMade};
+    ghost use Rattle.rsx_values.specs.Record.{joins_last};
+    ghost use Rattle.rsx_delayed.specs.MergeDelayLaws.{delayed_drops, delayed_ends, delayed_done_drops, delayed_settles, delayed_ending_waits, delayed_hungry};
+    ghost use Rattle.rsx_delayed.specs.MergeDelay.{delayed_comes_out, delayed_waiting, delayed_shown, delayed_takes, delayed_picks, delayed_recording, delayed_recorded, delayed_ended, delayed_done, delayed_counted, delayed_wanted, delayed_popped};
+    ghost use Rattle.rsx_delayed.specs.declared.merge_delay_node.MergeDelayNode.{MergeDelayNode};
+
+    ghost comes_out = { delayed_comes_out };
+
+    ghost waiting = { delayed_waiting };
+
+    ghost shown = { delayed_shown };
+
+    ghost takes = { delayed_takes };
+
+    ghost picks = { delayed_picks };
+
+    ghost rows = { λ n a s. false };
+
+    ghost rowed = { λ n a s k. ⊥ };
+
+    ghost recording = { delayed_recording };
+
+    ghost recorded = { delayed_recorded };
+
+    ghost ended = { delayed_ended };
+
+    ghost done = { delayed_done };
+
+    ghost counted = { delayed_counted };
+
+    ghost wanted = { delayed_wanted };
+
+    ghost popped = { delayed_popped };
+
+    ghost reads = { λ n. None };
+
+    ghost rooms = { λ n. false };
+
+    ghost crosses = { λ n. false };
+
+    ghost pop_allocates = { λ a n. false };
+
+    ghost signal_allocates = { λ a n. false };
+
+    ghost step_allocates = { λ a n. true };
+
+    fn front(&self) -> Option<Front> {
+        self.output.front()
+    }
+
+    fn pop_front<O: Ops<Item = T>>(
+        &mut self,
+        alloc: Global,
+        ops: &O,
+    ) -> Result<Option<Signal<T>>, NoMemory>
+        ensures ok { IfOk result (λ s.
+            IsPopped (delayed_comes_out (O.meaning ops.now)) delayed_popped (delayed_waiting (O.meaning ops.now) self.old) self.old s self.new) }
+        ensures recorded { delayed_recorded self.new ≡ delayed_recorded self.old }
+        ensures counts { IfOk result (λ s. CountsOut delayed_counted delayed_ended delayed_done self.old s self.new) }
+        ensures err { OnErr result (self.new ≡ self.old) }
+        ensures memory { IsOk result }
+    {
+        Ok(self.output.pop())
+    }
+
+    fn put_back(&mut self, signal: Signal<T>)
+        ensures { (before : MergeDelayNode T) → delayed_popped before signal self.old → self.new ≡ before }
+    {
+        self.output.put_back(signal);
+    }
+
+    fn has_ended(&self) -> bool {
+        self.output.has_ending()
+    }
+
+    fn can_take(&self, input: u64, front: Front) -> bool {
+        takes_at(self.inputs.as_slice(), input, front)
+    }
+
+    fn on_signal<O: Ops<Item = T>>(
+        &mut self,
+        alloc: Global,
+        ops: &O,
+        input: u64,
+        signal: Signal<T>,
+    ) -> Result<(), NotTaken<T>>
+        ensures ok { OnOk result (TakesIn (delayed_comes_out (O.meaning ops.now)) self.old input signal self.new) }
+        ensures enabled { OnOk result (delayed_takes self.old input (front_of signal) ≡ true) }
+        ensures recorded { delayed_recorded self.new ≡ delayed_recorded self.old }
+        ensures counts { OnOk result (CountsIn delayed_counted delayed_ended delayed_done self.old input signal self.new) }
+        ensures err { IfErr result (IsNotTaken (delayed_takes self.old input (front_of signal)) signal) }
+        ensures memory { IfErr result (λ e. e ≡ NotTaken.Busy signal) }
+        ensures same { OnErr result (self.new ≡ self.old) }
+    {
+        if !self.can_take(input, front_of(&signal)) {
+            return Err(NotTaken::Busy(signal));
+        }
+        self.inputs[input as usize].put(signal);
+        Ok(())
+    }
+
+    fn pop_item<O: Ops<Item = T>>(&mut self, alloc: Global, ops: &O) -> Option<T> {
+        self.output.pop_item()
+    }
+
+    fn pass<O: Ops<Item = T>>(&mut self, alloc: Global, ops: &O, input: u64, item: T) -> Passed<T> {
+        if self.has_ended() || !self.can_take(input, Front::Item) {
+            return Passed::Declined(item);
+        }
+        self.inputs[input as usize].put(Signal::Next(item));
+        Passed::Kept
+    }
+
+    fn hub(&self) -> Option<u64> {
+        None
+    }
+
+    fn has_room(&self) -> bool {
+        false
+    }
+
+    fn on_published(&mut self, signal: Signal<T>) -> Result<(), Signal<T>>
+        ensures ok { OnOk result (IsReadOn delayed_comes_out (λ n. None) self.old signal self.new) }
+        ensures enabled { OnOk result (false ≡ true) }
+        ensures recorded { delayed_recorded self.new ≡ delayed_recorded self.old }
+        ensures counts { OnOk result (CountsStep delayed_counted delayed_ended delayed_done self.old self.new) }
+        ensures err { IfErr result (λ s. s ≡ signal) }
+        ensures same { OnErr result (self.new ≡ self.old) }
+    {
+        Err(signal)
+    }
+
+    fn can_pick(&self, input: u64, asked: u64, sent: u64) -> bool {
+        if !self.output.is_empty() {
+            return false;
+        }
+        match front_at(self.inputs.as_slice(), input) {
+            Some(Front::Item) => sent < asked,
+            Some(Front::Completion) | Some(Front::Failure(_)) => true,
+            None => false,
+        }
+    }
+
+    fn next_pick(&self, asked: u64, sent: u64) -> Option<u64> {
+        for at in 0..self.inputs.len() {
+            if self.can_pick(at as u64, asked, sent) {
+                return Some(at as u64);
+            }
+        }
+        None
+    }
+
+    fn on_pick<O: Ops<Item = T>>(
+        &mut self,
+        alloc: Global,
+        ops: &O,
+        input: u64,
+        asked: u64,
+        sent: u64,
+    ) -> Result<(), NotMade>
+        ensures ok { OnOk result (Records (delayed_comes_out (O.meaning ops.now)) self.old (delayed_recording self.old input) self.new) }
+        ensures enabled { OnOk result (delayed_picks self.old input asked sent ≡ true) }
+        ensures recorded { OnOk result (delayed_recorded self.new ≡ note_then (delayed_recorded self.old) (delayed_recording self.old input)) }
+        ensures composes { OnOk result (IsComposed (delayed_recorded self.old) (delayed_recording self.old input)) }
+        ensures counts { OnOk result (CountsStep delayed_counted delayed_ended delayed_done self.old self.new) }
+        ensures err { IfErr result (IsNotMade (delayed_picks self.old input asked sent)) }
+        ensures same { OnErr result (self.new ≡ self.old) }
+        // A pick that is one more of the last run takes no memory.
+        ensures joined { joins_last self.old.choices input ≡ true → IfErr result (λ e. e ≡ NotMade.NotEnabled) }
+    {
+        if !self.can_pick(input, asked, sent) {
+            return Err(NotMade::NotEnabled);
+        }
+        if let Err(_) = self.choices.push(input) {
+            return Err(NotMade::NoMemory);
+        }
+        match self.inputs[input as usize].take() {
+            Some(Signal::Next(item)) => {
+                self.output.put(Signal::Next(item));
+                Ok(())
+            }
+            Some(Signal::Complete) => {
+                self.end_input();
+                Ok(())
+            }
+            Some(Signal::Error(cause)) => {
+                // The other inputs go on, and the failure waits for them.
+                self.kept = first_cause(self.kept, cause);
+                self.end_input();
+                Ok(())
+            }
+            None => unreachable!(),
+        }
+    }
+
+    fn can_row(&self, asked: u64, sent: u64) -> bool {
+        false
+    }
+
+    fn on_row<O: Ops<Item = T>>(
+        &mut self,
+        alloc: Global,
+        ops: &O,
+        asked: u64,
+        sent: u64,
+    ) -> Result<(), NotMade> {
+        Err(NotMade::NotEnabled)
+    }
+
+    fn want(&self, input: u64, asked: u64, sent: u64) -> u64 {
+        credits_at(self.inputs.as_slice(), input)
+    }
+
+    fn note(&self, alloc: Global) -> Result<Note, NoMemory> {
+        let choices = self.choices.choices(alloc)?;
+        Ok(Note::Picks(choices))
+    }
+
+    fn residual<O: Ops<Item = T>>(
+        &self,
+        alloc: Global,
+        ops: &O,
+        inboxes: &[StreamValue<T>],
+        incoming: &[StreamValue<T>],
+    ) -> Result<StreamValue<T>, NoMemory>
+        ensures { IfOk result (λ v.
+            IsResidualOf (delayed_comes_out (O.meaning ops.now)) delayed_recorded (λ n. None) self.now inboxes.now incoming.now v) }
+    {
+        let mut left = Vec::new(alloc);
+        left.push_values(alloc, ops, self.inputs.as_slice(), incoming)?;
+        let rest = all_values(alloc, self.kept, left)?;
+        self.output.in_front(alloc, ops, rest)
+    }
+
+    ghost shows = { λ m n. refl };
+
+    ghost popped_alike = { λ old s new h. (refl, (refl, λ a. (refl, refl, refl))) };
+
+    ghost drops = { delayed_drops };
+
+    ghost ends = { delayed_ends };
+
+    ghost done_drops = { delayed_done_drops };
+
+    ghost ends_reading = { λ m n s w e. refl };
+
+    ghost settles = { delayed_settles };
+
+    ghost ending_waits = { delayed_ending_waits };
+
+    ghost hungry = { delayed_hungry };
+}
