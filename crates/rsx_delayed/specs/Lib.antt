@@ -2,5 +2,6 @@
 pub mod Delayed
 pub mod MergeDelay
 pub mod MergeDelayLaws
+pub mod Muted
 pub mod Rest
 pub mod Worked

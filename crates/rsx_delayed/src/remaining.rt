@@ -133,7 +133,7 @@ pub(crate) fn all_values<T: Drop>(
 }
 
 /// The ending of a merge of which so many inputs have not ended, and of which this failure was taken first.
-fn ending_behind(left: usize, first: Option<Cause>) -> Ending
+pub(crate) fn ending_behind(left: usize, first: Option<Cause>) -> Ending
     ensures { result ≡ ending_behind left first }
 {
     if left > 0 {
