@@ -3,13 +3,13 @@
 # items, the instructions an item (between 10,000 and 110,000 items, where valgrind is installed) and the nanoseconds an
 # item (the least of many runs), and at the end the peak memory of runs of 10,000 to 10,000,000 items.
 # Beside the first paths, where rustc is installed, the instructions an item of bench/nodes.rs: the same in plain Rust.
-# First build crates/bench_graph (rt run makes crates/bench_graph/out/bench_graph); the cases are described at
-# the head of its src/main.rt.
+# First build crates/test_random (rt run makes crates/test_random/out/test_random); the cases are described at the head of
+# its src/timed.rt.
 #
 # usage: bench/graph.sh [ROUNDS]
 set -euo pipefail
 cd "$(dirname "$0")/.."
-program=${PROGRAM:-crates/bench_graph/out/bench_graph}
+program=${PROGRAM:-crates/test_random/out/test_random}
 rounds=${1:-40}
 budget=65536
 log=$(mktemp)

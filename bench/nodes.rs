@@ -1,4 +1,4 @@
-//! The first paths of `bench_graph` in plain Rust, by hand: nodes behind trait objects, each with what was asked of it
+//! The first cases of `graph.sh` in plain Rust, by hand: nodes behind trait objects, each with what was asked of it
 //! and what it sent, and a subscriber that takes what it asked for. Nothing is counted in moves and nothing is proved.
 //!
 //! usage: nodes CASE COUNT ROUNDS, where CASE is range, map, filter, half or single

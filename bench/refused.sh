@@ -6,7 +6,7 @@
 #    recorded and how leaves joined has to be as before the refused call, and the same call has to answer then as in a run without it.
 # 2. `rsx run`, `scratch` and `tck` over the files of examples/: for each N the program has to end with status 0, or with 4 for want of
 #    memory, and what it wrote before the first refusal has to be what it writes without it.
-# 3. Items through `map`, `filter` and `publishOn` (`bench_graph`): each growth after the first 100 items is refused, and 10,000 more have
+# 3. Items through `map`, `filter` and `publishOn` (`test_random` with five words): each growth after the first 100 items is refused, and 10,000 more have
 #    to arrive.
 #
 # It takes the programs from where `rt run` builds them, crates/NAME/out/NAME, or from the folder PROGRAMS.
@@ -94,13 +94,12 @@ else
 fi
 
 # 3
-bench=$(program bench_graph)
-if [[ -x $bench ]]; then
+if [[ -x $calls ]]; then
     for items in numbers values; do
         for name in map filter publish; do
-            run REFUSE=0 /dev/null "$bench" "$items" "$name" 100 64 1
+            run REFUSE=0 /dev/null "$calls" "$items" "$name" 100 64 1
             first=$(cat "$room/growths")
-            run "REFUSE_BEHIND=$first" /dev/null "$bench" "$items" "$name" 10100 64 1
+            run "REFUSE_BEHIND=$first" /dev/null "$calls" "$items" "$name" 10100 64 1
             if ((status == 0)) && grep -q '^10100 items' "$room/out"; then
                 echo "$name over $items: 10,100 items arrived, no growth after the first 100"
             else
@@ -109,7 +108,7 @@ if [[ -x $bench ]]; then
         done
     done
 else
-    echo "bench_graph isn't built" >&2
+    echo "items through operators: $calls isn't built" >&2
 fi
 
 echo "$runs runs, $wrong wrong"

@@ -9,14 +9,20 @@
 //! that names the kind of tree, the seed and the step.
 //!
 //! Before that it writes what calls of a graph come to that are made again where memory is refused for them; with a word as its
-//! argument, this alone.
+//! argument, this alone. Last it writes how many items come of some cases that `bench/graph.sh` times, and their sum; with five
+//! words it times such a case and does nothing else ([`timed`]).
 
+mod cases;
+mod integers;
 mod memory;
 mod numbers;
+mod timed;
 mod trees;
 mod trial;
 
+use crate::memory::report;
 use crate::numbers::Numbers;
+use crate::timed::{summed, time};
 use crate::trees::{KINDS, Kind, tree};
 use crate::trial::{Tally, Trial};
 use anyhow::{Result, bail};
@@ -28,6 +34,16 @@ const TREES: u32 = 100;
 
 /// How many steps are tried with each tree.
 const STEPS: u32 = 4_000;
+
+/// The timed cases that are summed: the items, and the case. What they come to is known without a graph.
+const CASES: [(&'static str, &'static str); 6] = [
+    ("numbers", "filter"),
+    ("numbers", "half"),
+    ("numbers", "concat"),
+    ("values", "filter"),
+    ("values", "buffer"),
+    ("values", "fan8"),
+];
 
 /// Tries the steps of this seed over a tree of this kind, and counts them. Answers the step after which a comparison differs,
 /// if any does.
@@ -60,13 +76,18 @@ fn try_kind(alloc: Global, name: &str, kind: Kind) -> Result<Tally> {
     Ok(tally)
 }
 
-fn main(rt: HostRuntime) -> Result<()> {
-    let mut words = env::args(&rt)?.skip(1);
-    let has_word = words.next().is_some();
-    println!(rt; "{}", memory::report(rt.alloc())?)?;
-    if has_word {
-        return Ok(());
+/// Writes how many items come of some timed cases, and their sum.
+fn sum_cases(rt: &(impl Print + AllocGlobal)) -> Result<()> {
+    for (items, case) in &CASES {
+        let sum = summed(rt.alloc(), items, case, 1_000, 64)?;
+        println!(rt; "{items}, {case}: {} items, sum {}", sum.items, sum.sum)?;
     }
+    Ok(())
+}
+
+/// Does all but the timing.
+fn try_all(rt: &(impl Print + AllocGlobal)) -> Result<()> {
+    println!(rt; "{}", report(rt.alloc())?)?;
     for (name, kind) in &KINDS {
         let tally = try_kind(rt.alloc(), name, *kind)?;
         println!(rt;
@@ -74,5 +95,30 @@ fn main(rt: HostRuntime) -> Result<()> {
             tally.moves, tally.received, tally.equal
         )?;
     }
-    Ok(())
+    sum_cases(rt)
+}
+
+/// The number of an argument, or this one where it is left out.
+fn number(word: Option<String>, otherwise: u64) -> u64 {
+    match word {
+        Some(word) => word.as_str().parse::<u64>().unwrap_or(otherwise),
+        None => otherwise,
+    }
+}
+
+fn main(rt: HostRuntime) -> Result<()> {
+    let mut words = env::args(&rt)?.skip(1);
+    match (words.next(), words.next()) {
+        (Some(items), Some(case)) => {
+            let count = number(words.next(), 100_000);
+            let budget = number(words.next(), 65_536).min(u64::from(u32::MAX)) as u32;
+            let rounds = number(words.next(), 1);
+            time(&rt, items.as_str(), case.as_str(), count, budget, rounds)
+        }
+        (Some(_), None) => {
+            println!(rt; "{}", report(rt.alloc())?)?;
+            Ok(())
+        }
+        (None, _) => try_all(&rt),
+    }
 }

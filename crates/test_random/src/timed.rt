@@ -1,33 +1,26 @@
-//! Times graphs through the library, without a script.
+//! Times graphs, without a script. With five words the program does this alone: ITEMS CASE COUNT BUDGET ROUNDS.
 //!
-//! `bench_graph ITEMS CASE COUNT BUDGET ROUNDS` pumps an expression over the numbers from 1 to COUNT to its end, with
-//! so much of a budget in each call, and does so ROUNDS times. Where COUNT is more than a million, it pumps an expression
-//! over the numbers from 1 on for each million of them, one after the other. ITEMS is `numbers` (64-bit integers) or
-//! `values` (the items of the demonstration). CASE is `range`; `map` (doubles); `filter` (the even ones of the doubled);
-//! `half` (the doubled of the even ones); `single` (as `filter`, each item asked for and pumped by itself); `buffer` (lists
-//! of 10); `scan` (as many as there are of the totals); `keys3` and `keys` (distinct, with three keys and with a key for
-//! each number); `concat`, `merge`, `zip` and `latest` (of two ranges, each to a half of COUNT, with a prefetch of 64);
-//! `publish` (a `publishOn` with a prefetch of 64); `window` (of 10), `group` (a `groupBy` with three keys) and, of the items of
-//! the demonstration, `flat` (a `flatMap` of each number twice, four lanes at a time), each with an empty chain;
-//! `fan1`, `fan8` and `fan64` (the numbers published to a hub, 64 before each pump, with so many readers that have asked for
-//! all).
+//! It pumps an expression over the numbers from 1 to COUNT to its end, with so much of a budget in each call, and does so ROUNDS times.
+//! Where COUNT is more than a million, it pumps an expression over the numbers from 1 on for each million of them, one after the other.
+//! ITEMS is `numbers` (64-bit integers) or `values` (the items of the demonstration). CASE is `range`; `map` (doubles); `filter` (the
+//! even ones of the doubled); `half` (the doubled of the even ones); `single` (as `filter`, each item asked for and pumped by itself);
+//! `buffer` (lists of 10); `scan` (as many as there are of the totals); `keys3` and `keys` (distinct, with three keys and with a key for
+//! each number); `concat`, `merge`, `zip` and `latest` (of two ranges, each to a half of COUNT, with a prefetch of 64); `publish` (a
+//! `publishOn` with a prefetch of 64); `window` (of 10), `group` (a `groupBy` with three keys) and, of the items of the demonstration,
+//! `flat` (a `flatMap` of each number twice, four lanes at a time), each with an empty chain; `fan1`, `fan8` and `fan64` (the numbers
+//! published to a hub, 64 before each pump, with so many readers that have asked for all).
 //!
-//! How many items came and their sum go to standard output, which is the same in every run, and the least time to
-//! standard error.
-#![tactic(auto)]
-
-mod cases;
-mod numbers;
+//! How many items came and their sum go to standard output, which is the same in every run, and the least time to standard error.
 
 use crate::cases::expression;
-use crate::numbers::Numbers;
+use crate::integers::Integers;
 use anyhow::{Result, bail};
 use rsx_demo::{Demo, Val};
 use rsx_graph::{Deliveries, Graph, Pumped};
 use rsx_model::Expr;
 use rsx_types::{HubKind, Ops, Signal, SubId};
 use std::alloc::Global;
-use std::env;
+use std::rt::Clock;
 use std::time::Instant;
 
 /// The longest range of an expression.
@@ -58,9 +51,11 @@ impl Weight for i64 {
 
 /// What was delivered.
 #[derive(Clone, Copy, Debug)]
-struct Sum {
-    items: u64,
-    sum: i64,
+pub struct Sum {
+    /// How many items.
+    pub items: u64,
+    /// What they come to.
+    pub sum: i64,
 }
 
 impl Sum {
@@ -180,31 +175,35 @@ where
     Ok(sum)
 }
 
-/// The number of an argument, or this one where it is left out.
-fn number(word: Option<String>, otherwise: u64) -> u64 {
-    match word {
-        Some(word) => word.as_str().parse::<u64>().unwrap_or(otherwise),
-        None => otherwise,
+/// How many items come, and their sum.
+///
+/// # Errors
+/// For want of memory, and where there is no such case.
+pub fn summed(alloc: Global, items: &str, case: &str, count: u64, budget: u32) -> Result<Sum> {
+    match items {
+        "numbers" => run(alloc, Integers, case, count, budget),
+        _ => run(alloc, Demo, case, count, budget),
     }
 }
 
-fn main(rt: HostRuntime) -> Result<()> {
-    let mut words = env::args(&rt)?.skip(1);
-    let (Some(items), Some(case)) = (words.next(), words.next()) else {
-        bail!("wanted: ITEMS CASE COUNT BUDGET ROUNDS")
-    };
-    let count = number(words.next(), 100_000);
-    let budget = number(words.next(), 65_536).min(u64::from(u32::MAX)) as u32;
-    let rounds = number(words.next(), 1);
+/// Does so many rounds, and writes what came to standard output and the least time to standard error.
+///
+/// # Errors
+/// As of [`summed`], and where there is no clock or nothing can be written.
+pub fn time(
+    rt: &(impl Print + Eprint + Clock + AllocGlobal),
+    items: &str,
+    case: &str,
+    count: u64,
+    budget: u32,
+    rounds: u64,
+) -> Result<()> {
     let mut least = u128::MAX;
     let mut sum = Sum { items: 0, sum: 0 };
     for _ in 0..rounds {
-        let start = Instant::now(&rt)?;
-        sum = match items.as_str() {
-            "numbers" => run(rt.alloc(), Numbers, case.as_str(), count, budget)?,
-            _ => run(rt.alloc(), Demo, case.as_str(), count, budget)?,
-        };
-        least = least.min(start.elapsed(&rt)?.as_nanos());
+        let start = Instant::now(rt)?;
+        sum = summed(rt.alloc(), items, case, count, budget)?;
+        least = least.min(start.elapsed(rt)?.as_nanos());
     }
     println!(rt; "{} items, sum {}", sum.items, sum.sum)?;
     eprintln!(rt; "{} ns", least)?;

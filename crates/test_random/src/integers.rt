@@ -12,16 +12,16 @@ const UNLISTED: u32 = 4;
 /// 3, `key` 2 the number's 64 bits, and the item of a list is its first number. Faults: 1 where a sum leaves the type, 4
 /// for a function that isn't listed.
 #[derive(Clone, Copy)]
-pub struct Numbers;
+pub struct Integers;
 
-impl Ops for Numbers {
+impl Ops for Integers {
     type Item = i64;
 
     ghost use Rattle.std.specs.Prelude.{Ok, Err, Result, ℤ, ℕ, pos, ◌+ℤ◌, ◌%◌, ◌==◌, ◌∷◌, [], if◌then◌else◌, unsigned_abs};
     ghost use Rattle.std.specs.Int.{int_rem_euclid, cast_unsigned, w64};
     ghost use Rattle.std.proofs.Common.{rules};
     ghost use Rattle.rsx_types.specs.Meaning.{none_allocates};
-    ghost use Rattle.bench_graph.specs.Numbers.{first_of, sum_of};
+    ghost use Rattle.test_random.specs.Integers.{first_of, sum_of};
 
     ghost meaning = { λ o. record {
       mapped = λ f x. if f == 2 then sum_of x x else Err 4;

@@ -1,2 +1,2 @@
 -- Definitions that contracts cite.
-pub mod Numbers
+pub mod Integers

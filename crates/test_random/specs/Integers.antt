@@ -1,4 +1,4 @@
--- What the functions of numbers answer.
+-- What the functions of integers answer.
 use Rattle.std.specs.Prelude.{ℕ, ℤ, pos, ◌+ℤ◌, List, [], ◌∷◌, Result, Ok, Err, if◌then◌else◌}
 use Rattle.rsx_demo.specs.Demo.{fits_i64}
 

@@ -1,4 +1,4 @@
-//! What is measured: an expression over a range, and how it is asked for.
+//! What is timed: an expression over a range.
 
 use anyhow::{Result, bail};
 use rsx_model::Expr;
