@@ -32,4 +32,5 @@ pub use ends::{FromEmitter, ToTap};
 pub use links::{EmitterLink, TapLink};
 pub use opening::Opening;
 pub use region::{GraphRegion, Links, Served};
+pub use rsx_runtime::{Emitter, Tap};
 pub use serialized::{GraphGate, GraphSeat, SerializedGraph};

@@ -1,2 +1,3 @@
 -- Definitions that contracts cite.
+pub mod Driven
 pub mod Integers

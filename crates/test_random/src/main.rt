@@ -9,19 +9,25 @@
 //! that names the kind of tree, the seed and the step.
 //!
 //! Before that it writes what calls of a graph come to that are made again where memory is refused for them; with a word as its
-//! argument, this alone. Last it writes how many items come of some cases that `bench/graph.sh` times, and their sum; with five
-//! words it times such a case and does nothing else ([`timed`]).
+//! argument, this alone. Then it drives graphs behind a gate ([`serialized`]), and writes a line of counts. Last it writes how many
+//! items come of some cases that `bench/graph.sh` times, and their sum; with five words it times such a case and does nothing else
+//! ([`timed`]).
 
 mod cases;
+mod driven;
 mod integers;
 mod memory;
 mod numbers;
+mod opened;
+mod plans;
+mod serialized;
 mod timed;
 mod trees;
 mod trial;
 
 use crate::memory::report;
 use crate::numbers::Numbers;
+use crate::serialized::try_runs;
 use crate::timed::{summed, time};
 use crate::trees::{KINDS, Kind, tree};
 use crate::trial::{Tally, Trial};
@@ -95,6 +101,11 @@ fn try_all(rt: &(impl Print + AllocGlobal)) -> Result<()> {
             tally.moves, tally.received, tally.equal
         )?;
     }
+    let done = try_runs(rt.alloc())?;
+    println!(rt;
+        "graphs behind a gate: {} runs, {} signals sent by {} emitters, {} of {} signals given by {} taps, equal",
+        done.runs, done.sent, done.emitters, done.given, done.received, done.taps
+    )?;
     sum_cases(rt)
 }
 

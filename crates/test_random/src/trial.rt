@@ -28,7 +28,7 @@ const MOST_INPUTS: u32 = 3;
 const MOST_LANES: u32 = 12;
 
 /// Signals in their order, each with the number of the hub that it was published at, or of the subscriber that received it.
-type Log = Vec<(u32, Signal<Val>)>;
+pub type Log = Vec<(u32, Signal<Val>)>;
 
 /// How many moves were made, how many signals were received, and how many comparisons were equal.
 #[derive(Clone, Copy)]
@@ -215,7 +215,14 @@ fn any_input(numbers: &mut Numbers, has_lanes: bool) -> u64 {
 }
 
 /// The items and the ending of the signals with this number.
-fn value_in(alloc: Global, log: &[(u32, Signal<Val>)], number: u32) -> Result<StreamValue<Val>> {
+///
+/// # Errors
+/// For want of memory.
+pub fn value_in(
+    alloc: Global,
+    log: &[(u32, Signal<Val>)],
+    number: u32,
+) -> Result<StreamValue<Val>> {
     let mut items = Vec::new(alloc);
     let mut ending = Ending::Open;
     for (at, signal) in log {
@@ -240,7 +247,10 @@ fn hub_values(alloc: Global, published: &[(u32, Signal<Val>)]) -> Result<Vec<Str
 }
 
 /// The value of a subscriber's expression from scratch, over these values of the hubs.
-fn from_scratch(
+///
+/// # Errors
+/// For want of memory, and where there is no such subscriber.
+pub fn from_scratch(
     alloc: Global,
     graph: &Graph<Demo>,
     sub: SubId,
@@ -254,7 +264,10 @@ fn from_scratch(
 
 /// Whether what a subscriber received, with what it is owed behind it, is this value; or, where it cancelled, whether what it
 /// received is the beginning of the value.
-fn agrees(
+///
+/// # Errors
+/// For want of memory, and where there is no such subscriber.
+pub fn agrees(
     alloc: Global,
     graph: &Graph<Demo>,
     sub: SubId,
@@ -262,17 +275,25 @@ fn agrees(
     value: StreamValue<Val>,
 ) -> Result<bool> {
     if graph.standing(sub)? == SubscriptionState::Cancelled {
-        let received = received.into_items();
-        let mut beginning = value.into_items();
-        beginning.truncate(received.len());
-        return Ok(received == beginning);
+        return Ok(begins(received, value));
     }
     let owed = graph.owed(alloc, sub)?;
     Ok(joined(received, owed)? == value)
 }
 
+/// Whether what was received is the beginning of this value.
+pub fn begins(received: StreamValue<Val>, value: StreamValue<Val>) -> bool {
+    let received = received.into_items();
+    let mut beginning = value.into_items();
+    beginning.truncate(received.len());
+    received == beginning
+}
+
 /// A value, and behind it another, which is empty and open where the first has an ending.
-fn joined(first: StreamValue<Val>, second: StreamValue<Val>) -> Result<StreamValue<Val>> {
+///
+/// # Errors
+/// For want of memory.
+pub fn joined(first: StreamValue<Val>, second: StreamValue<Val>) -> Result<StreamValue<Val>> {
     let ending = match first.ending() {
         Ending::Open => second.ending(),
         ending => ending,

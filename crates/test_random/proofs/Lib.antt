@@ -1,0 +1,3 @@
+-- Lemmas about the ends of links.
+pub mod Along
+pub mod Opens
