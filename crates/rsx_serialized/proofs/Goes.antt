@@ -14,14 +14,14 @@ use Rattle.rsx_graph.specs.Stands.{GraphStands, GraphState}
 use Rattle.rsx_link.specs.Ends.{carried_up, received_signals, sent_signals}
 use Rattle.rsx_serialized.specs.Ends.{InletGoes, OutletGoes, held, is_flagged}
 use Rattle.rsx_serialized.specs.Events.{Event, after_event, after_events, asked_by, asked_in, given_by, given_in, published_by, published_in, signals_for, stopped_by, stopped_in}
-use Rattle.rsx_serialized.specs.Regions.{AreEndsOf, Goes, GoesOn, StandsSince}
+use Rattle.rsx_serialized.specs.Regions.{AreEndsOf, Goes, GoesBy, GoesOn, StandsSince}
 use Rattle.rsx_serialized.specs.declared.ends.FromEmitter.{FromEmitter}
 use Rattle.rsx_serialized.specs.declared.ends.ToTap.{ToTap}
 use Rattle.rsx_serialized.specs.declared.region.GraphRegion.{GraphRegion}
 use Rattle.rsx_serialized.specs.declared.region.Links.{Links}
 use Rattle.rsx_serialized.proofs.Lists.{beside_on, beside_same, lists_on}
 
-or_on : (a b c : Bool) → a || (b || c) ≡ (a || b) || c
+pub or_on : (a b c : Bool) → a || (b || c) ≡ (a || b) || c
 or_on true b c = refl
 or_on false b c = refl
 
@@ -80,27 +80,29 @@ outlet_same k pending a b s c n f = record {
 }
 
 module _ {O T : Type 0} {b : Ops O T} where
+  pub goes_by_on : (m : Meaning T) (es fs : List (Event T)) (x y z : GraphRegion O T b) → GoesBy m es x y → GoesBy m fs y z → GoesBy m (es ++ fs) x z
+  goes_by_on m es fs x y z f g = record {
+    ops = g.ops ∙ f.ops;
+    stands = stands_on m es fs (state_of x.graph) (state_of y.graph) (state_of z.graph) f.stands g.stands;
+    inlets = beside_on (λ k. InletGoes es) (λ k. InletGoes fs) (λ k. InletGoes (es ++ fs)) x.inlets.items y.inlets.items z.inlets.items (λ k a c d. inlet_on es fs a c d) f.inlets g.inlets;
+    outlets = beside_on (λ k. OutletGoes k es x.pending.items y.pending.items) (λ k. OutletGoes k fs y.pending.items z.pending.items) (λ k. OutletGoes k (es ++ fs) x.pending.items z.pending.items) x.outlets.items y.outlets.items z.outlets.items (λ k a c d. outlet_on k es fs x.pending.items y.pending.items z.pending.items a c d) f.outlets g.outlets;
+    known = λ h. g.known (f.known h);
+  }
+
+  pub goes_by_same : (m : Meaning T) (x : GraphRegion O T b) → GoesBy m [] x x
+  goes_by_same m x = record {
+    ops = refl;
+    stands = λ h k. k;
+    inlets = beside_same (λ k. InletGoes []) x.inlets.items (λ k i e. inlet_same i i refl refl refl);
+    outlets = beside_same (λ k. OutletGoes k [] x.pending.items x.pending.items) x.outlets.items (λ k o e. outlet_same k x.pending.items o o refl refl refl (λ h. h));
+    known = λ h. h;
+  }
+
   pub goes_on : (m : Meaning T) (x y z : GraphRegion O T b) → Goes m x y → Goes m y z → Goes m x z
-  goes_on m x y z (es, f) (fs, g) = (
-    es ++ fs,
-    record {
-      ops = g.ops ∙ f.ops;
-      stands = stands_on m es fs (state_of x.graph) (state_of y.graph) (state_of z.graph) f.stands g.stands;
-      inlets = beside_on (λ k. InletGoes es) (λ k. InletGoes fs) (λ k. InletGoes (es ++ fs)) x.inlets.items y.inlets.items z.inlets.items (λ k a c d. inlet_on es fs a c d) f.inlets g.inlets;
-      outlets = beside_on (λ k. OutletGoes k es x.pending.items y.pending.items) (λ k. OutletGoes k fs y.pending.items z.pending.items) (λ k. OutletGoes k (es ++ fs) x.pending.items z.pending.items) x.outlets.items y.outlets.items z.outlets.items (λ k a c d. outlet_on k es fs x.pending.items y.pending.items z.pending.items a c d) f.outlets g.outlets;
-    },
-  )
+  goes_on m x y z (es, f) (fs, g) = (es ++ fs, goes_by_on m es fs x y z f g)
 
   pub goes_same : (m : Meaning T) (x : GraphRegion O T b) → Goes m x x
-  goes_same m x = (
-    [],
-    record {
-      ops = refl;
-      stands = λ h k. k;
-      inlets = beside_same (λ k. InletGoes []) x.inlets.items (λ k i e. inlet_same i i refl refl refl);
-      outlets = beside_same (λ k. OutletGoes k [] x.pending.items x.pending.items) x.outlets.items (λ k o e. outlet_same k x.pending.items o o refl refl refl (λ h. h));
-    },
-  )
+  goes_same m x = ([], goes_by_same m x)
 
   -- between its links
   pub region_on : (links : Links T) (x y z : GraphRegion O T b) → GoesOn links x y → GoesOn links y z → GoesOn links x z
@@ -110,3 +112,6 @@ module _ {O T : Type 0} {b : Ops O T} where
 
   pub region_same : (links : Links T) (x : GraphRegion O T b) → AreEndsOf links x → GoesOn links x x
   region_same links x e = (e, goes_same (b.meaning x.graph.ops) x)
+
+  pub both_go : (links : Links T) (es : List (Event T)) (x y : GraphRegion O T b) → AreEndsOf links y × GoesBy (b.meaning x.graph.ops) es x y → GoesOn links x y
+  both_go links es x y (e, f) = (e, (es, f))

@@ -1,10 +1,12 @@
 -- Lemmas.
 pub mod Gates
 pub mod Goes
+pub mod Known
 pub mod Lists
 pub mod Numbers
 pub mod Opens
 pub mod Regions
+pub mod Resting
 pub mod Since
 pub mod Steps
 pub mod Telling

@@ -20,13 +20,14 @@ use Rattle.rsx_link.specs.declared.link.Link.{Link}
 use Rattle.rsx_subscriber.specs.Delivered.{Delivered}
 use Rattle.rsx_serialized.specs.Ends.{Beside, InletGoes, IsPassedOn, OutletGoes, held, is_flagged}
 use Rattle.rsx_serialized.specs.Events.{Event, asked_in, given_in, moved, published_in, signal_for, signals_for, stopped_in}
-use Rattle.rsx_serialized.specs.Regions.{AreEndsOf, AreInletsOf, AreOutletsOf, Goes, GoesOn, OutletsGo, StandsSince, TakesIn}
+use Rattle.rsx_serialized.specs.Regions.{AreEndsOf, AreFor, AreInletsOf, AreOutletsOf, Goes, GoesBy, GoesOn, OutletsGo, StandsSince, TakesIn}
 use Rattle.rsx_serialized.specs.Sending.{IsFirstFor, IsOffered, SendsFirst}
 use Rattle.rsx_serialized.specs.Told.{publishes}
 use Rattle.rsx_serialized.specs.declared.ends.FromEmitter.{FromEmitter}
 use Rattle.rsx_serialized.specs.declared.ends.ToTap.{ToTap}
 use Rattle.rsx_serialized.specs.declared.region.GraphRegion.{GraphRegion}
 use Rattle.rsx_serialized.specs.declared.region.Links.{Links}
+use Rattle.rsx_serialized.proofs.Known.{as_many, for_all, moves_for}
 use Rattle.rsx_serialized.proofs.Lists.{beside_same, beside_set, set_cases}
 use Rattle.rsx_serialized.proofs.Steps.{moves_after, moves_asked, moves_given, moves_published, moves_stopped, publishes_asked, publishes_elsewhere, publishes_given, publishes_here, publishes_stopped, sent_elsewhere, sent_here, told, told_asked, told_given, told_others, told_published, told_stopped}
 
@@ -108,36 +109,41 @@ module _ {T : Type 0} where
 
 module _ {O T : Type 0} {b : Ops O T} where
   -- a step that changes one end that sends
-  pub outlet_step : (links : Links T) (es : List (Event T)) (r s : GraphRegion O T b) (at : ℕ) (o p : ToTap T) → AreEndsOf links r → s.graph.ops ≡ r.graph.ops → (state_of s.graph).joins ≡ (state_of r.graph).joins → StandsSince (b.meaning r.graph.ops) es (state_of r.graph) (state_of s.graph) →
+  outlet_goes : (links : Links T) (es : List (Event T)) (r s : GraphRegion O T b) (at : ℕ) (o p : ToTap T) → AreEndsOf links r → s.graph.ops ≡ r.graph.ops → (state_of s.graph).joins ≡ (state_of r.graph).joins → StandsSince (b.meaning r.graph.ops) es (state_of r.graph) (state_of s.graph) →
       s.inlets.items ≡ r.inlets.items → s.outlets.items ≡ slice_set r.outlets.items at p → slice_get r.outlets.items at ≡ Some o → ((l : Link T) → slice_get links.taps.items at ≡ Some l → IsUpOf l p.up × IsPassedOn p) →
-      ((k : ℕ) → published_in k es ≡ []) → OutletGoes at es r.pending.items s.pending.items o p → ((k : ℕ) (a : ToTap T) → (k ≡ at → ⊥) → slice_get r.outlets.items k ≡ Some a → OutletGoes k es r.pending.items s.pending.items a a) → GoesOn links r s
-  outlet_step links es r s at o p ends ops joins stands ins outs there up none here others = (
+      ((k : ℕ) → published_in k es ≡ []) → OutletGoes at es r.pending.items s.pending.items o p → ((k : ℕ) (a : ToTap T) → (k ≡ at → ⊥) → slice_get r.outlets.items k ≡ Some a → OutletGoes k es r.pending.items s.pending.items a a) → ((n : ℕ) → AreFor n r.pending.items → AreFor n s.pending.items) → AreEndsOf links s × GoesBy (b.meaning r.graph.ops) es r s
+  outlet_goes links es r s at o p ends ops joins stands ins outs there up none here others known = (
     record {
       inlets = subst (λ (l : List (FromEmitter T)). AreInletsOf links.emitters.items l) (sym ins) ends.inlets;
       outlets = subst (λ (l : List (ToTap T)). AreOutletsOf links.taps.items l) (sym outs) (outlets_of_set links.taps.items r.outlets.items at p up ends.outlets);
       subs = ap length outs ∙ (length-set r.outlets.items at p ∙ (ends.subs ∙ ap length (sym joins)));
     },
-    (
-      es,
-      record {
-        ops = ops;
-        stands = stands;
-        inlets = subst (λ (l : List (FromEmitter T)). Beside (λ k. InletGoes es) r.inlets.items l) (sym ins) (pump_inlets es r.inlets.items none);
-        outlets = subst (λ (l : List (ToTap T)). OutletsGo es r.pending.items s.pending.items r.outlets.items l) (sym outs) (outlets_set es r.pending.items s.pending.items r.outlets.items at o p there here others);
-      },
-    ),
+    record {
+      ops = ops;
+      stands = stands;
+      inlets = subst (λ (l : List (FromEmitter T)). Beside (λ k. InletGoes es) r.inlets.items l) (sym ins) (pump_inlets es r.inlets.items none);
+      outlets = subst (λ (l : List (ToTap T)). OutletsGo es r.pending.items s.pending.items r.outlets.items l) (sym outs) (outlets_set es r.pending.items s.pending.items r.outlets.items at o p there here others);
+      known = λ h. subst (λ (n : ℕ). AreFor n s.pending.items) (ap length (sym joins)) (known (length (state_of r.graph).joins) h);
+    },
   )
+
+  outlet_step : (links : Links T) (es : List (Event T)) (r s : GraphRegion O T b) (at : ℕ) (o p : ToTap T) → AreEndsOf links r → s.graph.ops ≡ r.graph.ops → (state_of s.graph).joins ≡ (state_of r.graph).joins → StandsSince (b.meaning r.graph.ops) es (state_of r.graph) (state_of s.graph) →
+      s.inlets.items ≡ r.inlets.items → s.outlets.items ≡ slice_set r.outlets.items at p → slice_get r.outlets.items at ≡ Some o → ((l : Link T) → slice_get links.taps.items at ≡ Some l → IsUpOf l p.up × IsPassedOn p) →
+      ((k : ℕ) → published_in k es ≡ []) → OutletGoes at es r.pending.items s.pending.items o p → ((k : ℕ) (a : ToTap T) → (k ≡ at → ⊥) → slice_get r.outlets.items k ≡ Some a → OutletGoes k es r.pending.items s.pending.items a a) → ((n : ℕ) → AreFor n r.pending.items → AreFor n s.pending.items) → GoesOn links r s
+  outlet_step links es r s at o p ends ops joins stands ins outs there up none here others known =
+      let h = outlet_goes links es r s at o p ends ops joins stands ins outs there up none here others known in
+      (h.0, (es, h.1))
 
   -- a tap was looked at, and the graph was told of it
   pub look_step : (links : Links T) (r s : GraphRegion O T b) (at n : ℕ) (flag : Bool) (i : SubId) (o p : ToTap T) → AreEndsOf links r → s.graph.ops ≡ r.graph.ops → (state_of s.graph).joins ≡ (state_of r.graph).joins → StandsSince (b.meaning r.graph.ops) (told i n flag) (state_of r.graph) (state_of s.graph) →
       s.inlets.items ≡ r.inlets.items → s.outlets.items ≡ slice_set r.outlets.items at p → s.pending.items ≡ r.pending.items → slice_get r.outlets.items at ≡ Some o → ((l : Link T) → slice_get links.taps.items at ≡ Some l → IsUpOf l p.up × IsPassedOn p) →
-      i.0 ≡ at → p.asked ≡ o.asked + n → p.asked ≤ UNBOUNDED → flag ≡ is_flagged p.up → (is_flagged o.up ≡ true → is_flagged p.up ≡ true) → sent_signals p.up ≡ sent_signals o.up → carried_up p.up ≡ carried_up o.up → GoesOn links r s
+      i.0 ≡ at → p.asked ≡ o.asked + n → p.asked ≤ UNBOUNDED → flag ≡ is_flagged p.up → (is_flagged o.up ≡ true → is_flagged p.up ≡ true) → sent_signals p.up ≡ sent_signals o.up → carried_up p.up ≡ carried_up o.up → AreEndsOf links s × GoesBy (b.meaning r.graph.ops) (told i n flag) r s
   look_step links r s at n flag i o p ends ops joins stands ins outs waits there up is asked most stopped stays sent carried =
       let es : List (Event T) = told i n flag in
       let most' : o.asked + n ≤ UNBOUNDED = subst (λ (x : ℕ). x ≤ UNBOUNDED) asked most in
       let got : (k : ℕ) → signals_for k r.pending.items ++ given_in k es ≡ signals_for k s.pending.items = λ k. ap (λ l. signals_for k r.pending.items ++ l) (told_given T i n flag k) ∙ (append-nil (signals_for k r.pending.items) ∙ ap (signals_for k) (sym waits)) in
       let total : asked_in at o.asked es ≡ o.asked + n = subst (λ (x : ℕ). asked_in x o.asked es ≡ o.asked + n) is (told_asked T i n flag o.asked most') in
-      outlet_step links es r s at o p ends ops joins stands ins outs there up (λ k. told_published T i n flag k)
+      outlet_goes links es r s at o p ends ops joins stands ins outs there up (λ k. told_published T i n flag k)
       (record {
         carried = carried;
         sent = [];
@@ -148,6 +154,7 @@ module _ {O T : Type 0} {b : Ops O T} where
         stopped = λ h. sym stopped ∙ (told_stopped T i n flag at h).1;
       })
       (λ k a apart e. outlet_still k es r.pending.items s.pending.items a (got k) (told_others T i n flag k a.asked (λ h. apart (sym h ∙ is))) (λ h. apart (sym (told_stopped T i n flag k h).0 ∙ is)))
+      (λ k h. subst (λ (l : List (SubId × Signal T)). AreFor k l) (sym waits) h)
 
   -- an end that sends was asked whether it has room
   pub room_step : (links : Links T) (r s : GraphRegion O T b) (at : ℕ) (o p : ToTap T) → AreEndsOf links r → s.graph ≡ r.graph → s.inlets.items ≡ r.inlets.items → s.outlets.items ≡ slice_set r.outlets.items at p → s.pending.items ≡ r.pending.items → slice_get r.outlets.items at ≡ Some o → ((l : Link T) → slice_get links.taps.items at ≡ Some l → IsUpOf l p.up × IsPassedOn p) →
@@ -166,6 +173,7 @@ module _ {O T : Type 0} {b : Ops O T} where
         stopped = λ h. cc;
       })
       (λ k a apart e. outlet_still k [] r.pending.items s.pending.items a (got k) refl (λ h. cc))
+      (λ k h. subst (λ (l : List (SubId × Signal T)). AreFor k l) (sym waits) h)
 
   -- the signal in front was sent to its tap
   pub send_step : (links : Links T) (r s : GraphRegion O T b) (at : ℕ) (d : SubId × Signal T) (o p : ToTap T) → AreEndsOf links r → s.graph ≡ r.graph → s.inlets.items ≡ r.inlets.items → s.outlets.items ≡ slice_set r.outlets.items at p → r.pending.items ≡ d ∷ s.pending.items → slice_get r.outlets.items at ≡ Some o → ((l : Link T) → slice_get links.taps.items at ≡ Some l → IsUpOf l p.up × IsPassedOn p) →
@@ -183,6 +191,7 @@ module _ {O T : Type 0} {b : Ops O T} where
         stopped = λ h. cc;
       })
       (λ k a apart e. outlet_still k [] r.pending.items s.pending.items a (append-nil (signals_for k r.pending.items) ∙ (ap (signals_for k) waits ∙ sent_elsewhere d s.pending.items k (λ h. apart (sym h ∙ is)))) refl (λ h. cc))
+      (λ k h. (subst (λ (l : List (SubId × Signal T)). AreFor k l) waits h).1)
 
   -- what came of an emitter was published
   pub take_step : (links : Links T) (r s : GraphRegion O T b) (at : ℕ) (i j : FromEmitter T) → AreEndsOf links r → s.graph.ops ≡ r.graph.ops → (state_of s.graph).joins ≡ (state_of r.graph).joins → TakesIn (b.meaning r.graph.ops) (state_of r.graph) i (state_of s.graph) j →
@@ -218,6 +227,7 @@ module _ {O T : Type 0} {b : Ops O T} where
                 (beside_same (λ k x y. x ≡ y) is (λ k x e. refl)));
             outlets = subst (λ (l : List (ToTap T)). OutletsGo es r.pending.items s.pending.items r.outlets.items l) (sym outs)
                 (beside_same (λ k. OutletGoes k es r.pending.items s.pending.items) r.outlets.items (λ k a e. outlet_still k es r.pending.items s.pending.items a (got k) (publishes_asked i.hub t.signals k a.asked) (λ h. no_stop k h)));
+            known = λ h. subst (λ (l : List (SubId × Signal T)). AreFor (length (state_of s.graph).joins) l) (sym waits) (subst (λ (n : ℕ). AreFor n r.pending.items) (ap length (sym joins)) h);
           },
         ),
       )
@@ -245,6 +255,7 @@ module _ {O T : Type 0} {b : Ops O T} where
           inlets = subst (λ (l : List (FromEmitter T)). Beside (λ k. InletGoes es) r.inlets.items l) (ap (λ v. v.items) (sym ins)) (pump_inlets es r.inlets.items (λ k. moves_published h.moves k));
           outlets = subst (λ (l : List (ToTap T)). OutletsGo es r.pending.items s.pending.items r.outlets.items l) (ap (λ v. v.items) (sym outs))
               (beside_same (λ k. OutletGoes k es r.pending.items s.pending.items) r.outlets.items (λ k a e. outlet_still k es r.pending.items s.pending.items a (got k) (moves_asked h.moves k a.asked) (λ x. no_stop h.moves k x)));
+          known = λ x. subst (λ (n : ℕ). AreFor n s.pending.items) (ap length (sym h.same.0)) (subst (λ (l : List (SubId × Signal T)). AreFor (length (state_of r.graph).joins) l) (sym all) (for_all (length (state_of r.graph).joins) r.pending.items (delivered_by h.moves) x (moves_for m (length (state_of r.graph).joins) (state_of r.graph).rows (state_of s.graph).rows h.moves (as_many r.graph) h.lead)));
         },
       )
     where

@@ -101,11 +101,20 @@ or_none : (b : Bool) → (b || false) ≡ true → b ≡ true
 or_none true e = refl
 or_none false e = cc
 
+or_true : (b : Bool) → b ≡ true → (b || false) ≡ true
+or_true true e = refl
+or_true false e = cc
+
 pub told_stopped : (T : Type 0) (i : SubId) (n : ℕ) (s : Bool) (k : ℕ) → stopped_in k (told {T = T} i n s) ≡ true → (i.0 ≡ k) × (s ≡ true)
 told_stopped T i zero true k e = (eqb-true i.0 k (or_none (nat_eq i.0 k) e), refl)
 told_stopped T i zero false k e = cc
 told_stopped T i (suc n) true k e = (eqb-true i.0 k (or_none (nat_eq i.0 k) e), refl)
 told_stopped T i (suc n) false k e = cc
+
+pub told_stops : (T : Type 0) (i : SubId) (n : ℕ) (s : Bool) (k : ℕ) → i.0 ≡ k → s ≡ true → stopped_in k (told {T = T} i n s) ≡ true
+told_stops T i zero true k e h = or_true (nat_eq i.0 k) (eq-eqb i.0 k e)
+told_stops T i (suc n) true k e h = or_true (nat_eq i.0 k) (eq-eqb i.0 k e)
+told_stops T i n false k e h = cc
 
 -- ---- what is published
 

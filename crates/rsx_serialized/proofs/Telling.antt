@@ -1,5 +1,5 @@
 -- What is told of a subscriber, and what is taken of an emitter.
-use Rattle.std.proofs.Common.{◌≡◌, ℕ, zero, suc, pos, ◌<◌, ◌≤◌, min, Bool, true, false, [], ◌∷◌, ◌++◌, length, ap, sym, ◌∙◌, subst, arith, Result, Ok, Err, OnOk, IfErr}
+use Rattle.std.proofs.Common.{◌≡◌, ℕ, zero, suc, pos, ◌<◌, ◌≤◌, min, Bool, true, false, [], ◌∷◌, ◌++◌, length, ap, sym, ◌∙◌, subst, arith, Some, Result, Ok, Err, OnOk, IfErr}
 use Rattle.std.specs.Option.{option_to_list}
 use Rattle.std.proofs.lemmas.List.{append-nil, length-map}
 use Rattle.rsx_demand.specs.declared.TheConstants.{UNBOUNDED}
@@ -70,4 +70,15 @@ module _ {T : Type 0} where
     came = g.came;
     received = g.received;
     published = g.next ∙ ap (λ o. (s ∷ []) ++ option_to_list o) (sym g.none);
+  }
+
+  -- a signal came, and waits
+  pub takes_back : (m : Meaning T) (before after : GraphState T) (old new : FromEmitter T) (s back : Signal T) → Gives old s new → back ≡ s → after ≡ before → TakesIn m before old after (record new { waiting = Some back })
+  takes_back m before after old new s back g same still = record {
+    signals = [];
+    stands = λ h k. subst (λ (x : GraphState T). GraphStands m x h) (sym still) k;
+    hub = g.hub;
+    came = g.came;
+    received = g.received;
+    published = g.next ∙ ap (λ (x : Signal T). x ∷ []) (sym same);
   }

@@ -6,6 +6,7 @@ pub mod Gates
 pub mod Opened
 pub mod Opens
 pub mod Regions
+pub mod Resting
 pub mod Sending
 pub mod Since
 pub mod Told

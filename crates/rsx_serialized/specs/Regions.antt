@@ -1,5 +1,5 @@
 -- A graph between its links.
-use Rattle.std.specs.Prelude.{◌≡◌, ◌++◌, ℕ, List, length, Some, slice_get}
+use Rattle.std.specs.Prelude.{◌≡◌, ⊤, ◌++◌, ℕ, ◌<◌, List, [], ◌∷◌, length, Some, slice_get}
 use Rattle.rsx_types.specs.Meaning.{Meaning}
 use Rattle.rsx_types.specs.declared.names.SubId.{SubId}
 use Rattle.rsx_types.specs.declared.ops.Ops.{Ghosts as Ops}
@@ -35,6 +35,11 @@ module _ {T : Type 0} where
   abbrev pub OutletsGo : List (Event T) → List (SubId × Signal T) → List (SubId × Signal T) → List (ToTap T) → List (ToTap T) → Type 0
   OutletsGo es before after old new = Beside (λ k. OutletGoes k es before after) old new
 
+  -- each of these goes to one of so many subscriptions
+  abbrev pub AreFor : ℕ → List (SubId × Signal T) → Type 0
+  AreFor n [] = ⊤
+  AreFor n (d ∷ ds) = (d.0.0 < n) × AreFor n ds
+
   -- signals that came over an emitter's link were published at its hub, but for one that waits
   pub record TakesIn (m : Meaning T) (before : GraphState T) (old : FromEmitter T) (after : GraphState T) (new : FromEmitter T) : Type 0 where
     pub signals : List (Signal T)
@@ -57,6 +62,8 @@ module _ {O T : Type 0} {b : Ops O T} where
     pub stands : StandsSince m es (state_of old.graph) (state_of new.graph)
     pub inlets : Beside (λ k. InletGoes es) old.inlets.items new.inlets.items
     pub outlets : OutletsGo es old.pending.items new.pending.items old.outlets.items new.outlets.items
+    -- each signal that waits goes to a subscription that is there, where that was so
+    pub known : AreFor (length (state_of old.graph).joins) old.pending.items → AreFor (length (state_of new.graph).joins) new.pending.items
 
   -- some have
   abbrev pub Goes : Meaning T → GraphRegion O T b → GraphRegion O T b → Type 0

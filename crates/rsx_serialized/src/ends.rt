@@ -38,7 +38,7 @@ pub(crate) struct Looked {
 
 impl<T: Drop> FromEmitter<T> {
     ghost use Rattle.std.specs.Prelude.{◌≡◌, IfNone, IfSome, None};
-    ghost use Rattle.rsx_link.specs.Ends.{IsDownOf, received_signals};
+    ghost use Rattle.rsx_link.specs.Ends.{IsDownOf, TakesNone};
     ghost use Rattle.rsx_serialized.specs.Ends.{Gives};
 
     /// The signal that comes next: the one that waits, or else the oldest of the link. It is no more in the end's hands.
@@ -46,7 +46,7 @@ impl<T: Drop> FromEmitter<T> {
         requires { IsDownOf link.now self.old.down }
         ensures end { IsDownOf link.now self.new.down }
         ensures some { IfSome result (λ s. Gives self.old s self.new) }
-        ensures none { IfNone result ((self.new.hub ≡ self.old.hub) × (received_signals self.new.down ≡ received_signals self.old.down) × (self.new.waiting ≡ self.old.waiting)) }
+        ensures none { IfNone result ((self.new.hub ≡ self.old.hub) × (self.old.waiting ≡ None) × (self.new.waiting ≡ None) × TakesNone self.old.down self.new.down) }
     {
         match self.waiting.take() {
             Some(signal) => Some(signal),
@@ -56,11 +56,12 @@ impl<T: Drop> FromEmitter<T> {
 }
 
 impl<T: Drop> ToTap<T> {
-    ghost use Rattle.std.specs.Prelude.{◌≡◌, ◌≤◌, ◌<◌, ◌+◌, ◌∷◌, ◌++◌, [], true};
-    ghost use Rattle.rsx_link.specs.Ends.{IsUpOf, MaySend, SameUp, carried_up, free_slots, sent_signals};
+    ghost use Rattle.std.specs.Prelude.{◌≡◌, ◌≤◌, ◌<◌, ◌+◌, ◌∷◌, ◌++◌, [], false, true};
+    ghost use Rattle.rsx_link.specs.Ends.{IsUpOf, MaySend, SameUp, carried_up, free_slots, sent_signals, up_steps};
     ghost use Rattle.rsx_link.specs.Signals.{is_item as is_item_signal};
     ghost use Rattle.rsx_demand.specs.declared.TheConstants.{UNBOUNDED as MOST};
     ghost use Rattle.rsx_serialized.specs.Ends.{IsPassedOn, is_flagged};
+    ghost use Rattle.rsx_serialized.specs.Resting.{HasNoRoom, IsLook};
 
     /// Looks at the link: how many items more are asked for, which then counts as passed on, and whether a flag is set.
     pub(crate) fn look(&mut self, link: &Link<T>) -> Looked
@@ -72,6 +73,7 @@ impl<T: Drop> ToTap<T> {
         ensures most { self.new.asked ≤ MOST }
         ensures stopped { result.stopped ≡ is_flagged self.new.up }
         ensures stays { is_flagged self.old.up ≡ true → is_flagged self.new.up ≡ true }
+        ensures looked { IsLook (up_steps self.old.up) (up_steps self.new.up) }
         ensures same { (sent_signals self.new.up ≡ sent_signals self.old.up) × (carried_up self.new.up ≡ carried_up self.old.up) }
     {
         let found = self.up.look(link);
@@ -89,6 +91,7 @@ impl<T: Drop> ToTap<T> {
         requires { IsUpOf link.now self.old.up }
         ensures same { SameUp link.now self.old.up self.new.up × (sent_signals self.new.up ≡ sent_signals self.old.up) × (self.new.asked ≡ self.old.asked) }
         ensures room { result ≡ true → 0 < free_slots self.new.up }
+        ensures none { result ≡ false → HasNoRoom item self.new }
         ensures may { result ≡ true → (s : SignalSpec T) → is_item_signal s ≡ item → MaySend self.new.up s }
     {
         if item && self.up.room() == 0 {

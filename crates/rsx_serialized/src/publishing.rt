@@ -1,11 +1,12 @@
 //! What comes over the links is passed on to the graph.
 
-ghost use Rattle.std.specs.Prelude.{◌≡◌, ◌<◌, ◌≤◌, IfErr, OnErr, OnOk, length};
+ghost use Rattle.std.specs.Prelude.{◌≡◌, ◌<◌, ◌≤◌, IfErr, OnErr, OnOk, false, length};
 ghost use Rattle.rsx_demand.specs.declared.TheConstants.{UNBOUNDED};
 ghost use Rattle.rsx_graph.specs.InGraph.{StandsAfter, state_of};
 ghost use Rattle.rsx_graph.specs.Rows.{with_published};
 ghost use Rattle.rsx_link.specs.Ends.{IsDownOf};
 ghost use Rattle.rsx_serialized.specs.Regions.{StandsSince, TakesIn};
+ghost use Rattle.rsx_serialized.specs.Resting.{IsNotTaken, IsTakenIn};
 ghost use Rattle.rsx_serialized.specs.Told.{asks, stops};
 
 use crate::ends::FromEmitter;
@@ -26,6 +27,7 @@ pub(crate) fn publish<O: Ops>(
     ensures stands { OnOk result (StandsAfter (with_published signal hub) graph.old graph.new) }
     ensures joins { (state_of graph.new).joins ≡ (state_of graph.old).joins }
     ensures err { IfErr result (λ s. s ≡ signal) }
+    ensures refused { IfErr result (λ s. IsNotTaken (state_of graph.old) hub s) }
     ensures same { OnErr result (state_of graph.new ≡ state_of graph.old) }
 {
     match signal {
@@ -57,6 +59,7 @@ pub(crate) fn take_next<O: Ops>(
     ensures ops { graph.new.ops ≡ graph.old.ops }
     ensures joins { (state_of graph.new).joins ≡ (state_of graph.old).joins }
     ensures takes { TakesIn (O.meaning graph.old.ops) (state_of graph.old) inlet.old (state_of graph.new) inlet.new }
+    ensures rests { result ≡ false → (state_of graph.new ≡ state_of graph.old) × IsTakenIn (state_of graph.new) inlet.new }
 {
     let signal = match inlet.next(link) {
         None => return false,

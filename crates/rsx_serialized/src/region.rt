@@ -40,8 +40,8 @@ pub struct GraphRegion<O: Ops> {
 /// How a serve ended.
 #[derive(Clone, Copy, Debug, PartialEq, Eq)]
 pub enum Served {
-    /// Nothing is left to do, as far as the ends know: what waits to be sent finds no room at its tap, or else nothing waits, no move is
-    /// enabled, and no emitter's signal can be published.
+    /// Nothing is left to do, as far as the ends know. What waits to be sent finds no room at its tap; where nothing waits no move of the
+    /// graph is enabled. No signal of an emitter can be published: its link has none, or its hub doesn't take the one that waits.
     Idle,
     /// The budget was used up.
     Budget,
@@ -50,9 +50,10 @@ pub enum Served {
 }
 
 impl<O: Ops> GraphRegion<O> {
-    ghost use Rattle.std.specs.Prelude.{◌≡◌, ◌<◌, length};
+    ghost use Rattle.std.specs.Prelude.{◌≡◌, ◌<◌, IfOk, [], false, length};
     ghost use Rattle.rsx_graph.specs.InGraph.{state_of};
     ghost use Rattle.rsx_serialized.specs.Regions.{AreEndsOf, Goes, GoesOn};
+    ghost use Rattle.rsx_serialized.specs.Resting.{AreStill, HasLeftAll, HasLeftOne, HasSeenAll, HasSeenOne, HasSentNone, IsAtRest, IsQuiet};
 
     /// Moves the graph between its links: what was delivered is sent to the taps, what they asked for is requested, subscriptions whose
     /// taps cancelled or made a bad request are cancelled, what emitters sent is published, and moves are made while no delivery waits. It
@@ -61,9 +62,18 @@ impl<O: Ops> GraphRegion<O> {
     ///
     /// These things have then happened to the graph, and nothing else: of each emitter's link what was taken from it is published, but for
     /// the one signal that waits; to each tap was sent what was delivered to its subscriber, but for what waits.
+    ///
+    /// After [`Served::Budget`] call it again. After [`Served::NoMemory`] it may be called again, too.
     pub fn serve(&mut self, alloc: Global, links: &Links<O::Item>, budget: u32) -> Served
         requires { AreEndsOf links.now self.old }
-        ensures { GoesOn links.now self.old self.new }
+        ensures goes { GoesOn links.now self.old self.new }
+
+        // Nothing is left to do then, as far as the ends know.
+        ensures idle { result ≡ Served.Idle → IsAtRest self.new }
+
+        // Each tap was looked at, and each subscription was cancelled of which a flag was seen.
+        ensures looked { 0 < budget → HasSeenAll (O.meaning self.old.graph.ops) self.old self.new }
+        ensures none { budget ≡ 0 → (result ≡ Served.Budget) × (self.new ≡ self.old) }
     {
         for _round in 0..budget {
             match self.round(alloc, links) {
@@ -78,7 +88,9 @@ impl<O: Ops> GraphRegion<O> {
     /// One round, and whether something was done by which more may be left to do.
     fn round(&mut self, alloc: Global, links: &Links<O::Item>) -> Result<bool, NoMemory>
         requires { AreEndsOf links.now self.old }
-        ensures { GoesOn links.now self.old self.new }
+        ensures goes { GoesOn links.now self.old self.new }
+        ensures idle { IfOk result (λ done. done ≡ false → IsAtRest self.new) }
+        ensures looked { HasSeenAll (O.meaning self.old.graph.ops) self.old self.new }
     {
         self.look(links);
         let moved = self.move_on(alloc)?;
@@ -90,7 +102,8 @@ impl<O: Ops> GraphRegion<O> {
     /// Looks at the links of all taps, and passes on what is asked for.
     fn look(&mut self, links: &Links<O::Item>)
         requires { AreEndsOf links.now self.old }
-        ensures { GoesOn links.now self.old self.new }
+        ensures goes { GoesOn links.now self.old self.new }
+        ensures looked { HasSeenAll (O.meaning self.old.graph.ops) self.old self.new }
     {
         for at in 0..self.outlets.len() {
             self.look_at(at, links);
@@ -102,6 +115,7 @@ impl<O: Ops> GraphRegion<O> {
         requires ends { AreEndsOf links.now self.old }
         requires there { at < length self.old.outlets.items }
         ensures goes { GoesOn links.now self.old self.new }
+        ensures looked { HasSeenOne (O.meaning self.old.graph.ops) at self.old self.new }
         ensures count { length self.new.outlets.items ≡ length self.old.outlets.items }
     {
         let looked = self.outlets[at].look(&links.taps[at]);
@@ -116,6 +130,7 @@ impl<O: Ops> GraphRegion<O> {
     /// [`NoMemory`] where a growth was refused. What was done before stands.
     fn move_on(&mut self, alloc: Global) -> Result<bool, NoMemory>
         ensures goes { Goes (O.meaning self.old.graph.ops) self.old self.new }
+        ensures idle { IfOk result (λ moved. moved ≡ false → self.new.pending.items ≡ [] → IsQuiet self.new) }
         ensures same { (self.new.inlets ≡ self.old.inlets) × (self.new.outlets ≡ self.old.outlets) × ((state_of self.new.graph).joins ≡ (state_of self.old.graph).joins) }
     {
         if !self.pending.is_empty() {
@@ -134,7 +149,10 @@ impl<O: Ops> GraphRegion<O> {
     /// Sends what waits, from the front, until a link takes no more, and whether something was sent.
     fn send_out(&mut self, links: &Links<O::Item>) -> bool
         requires { AreEndsOf links.now self.old }
-        ensures { GoesOn links.now self.old self.new }
+        ensures goes { GoesOn links.now self.old self.new }
+        ensures none { result ≡ false → HasSentNone self.old self.new }
+        ensures still { AreStill self.old.outlets.items self.new.outlets.items }
+        ensures same { self.new.graph ≡ self.old.graph }
     {
         let mut sent = false;
         for _signal in 0..self.pending.len() {
@@ -149,7 +167,10 @@ impl<O: Ops> GraphRegion<O> {
     /// Sends the signal in front, if one waits and its link takes it, and whether it did.
     fn send_one(&mut self, links: &Links<O::Item>) -> bool
         requires { AreEndsOf links.now self.old }
-        ensures { GoesOn links.now self.old self.new }
+        ensures goes { GoesOn links.now self.old self.new }
+        ensures none { result ≡ false → HasSentNone self.old self.new }
+        ensures still { AreStill self.old.outlets.items self.new.outlets.items }
+        ensures same { self.new.graph ≡ self.old.graph }
     {
         let at = match first_sub(&self.pending) {
             None => return false,
@@ -165,7 +186,9 @@ impl<O: Ops> GraphRegion<O> {
     /// Publishes the next signal of each emitter, where its hub takes it, and whether one was published.
     fn take_in(&mut self, links: &Links<O::Item>) -> bool
         requires { AreEndsOf links.now self.old }
-        ensures { GoesOn links.now self.old self.new }
+        ensures goes { GoesOn links.now self.old self.new }
+        ensures none { result ≡ false → HasLeftAll self.old self.new }
+        ensures aside { (self.new.pending ≡ self.old.pending) × (self.new.outlets ≡ self.old.outlets) }
     {
         let mut taken = false;
         for at in 0..self.inlets.len() {
@@ -179,6 +202,8 @@ impl<O: Ops> GraphRegion<O> {
         requires ends { AreEndsOf links.now self.old }
         requires there { at < length self.old.inlets.items }
         ensures goes { GoesOn links.now self.old self.new }
+        ensures none { result ≡ false → HasLeftOne at self.old self.new }
+        ensures aside { (self.new.pending ≡ self.old.pending) × (self.new.outlets ≡ self.old.outlets) }
         ensures count { length self.new.inlets.items ≡ length self.old.inlets.items }
     {
         take_next(&mut self.graph, &mut self.inlets[at], &links.emitters[at])

@@ -1,8 +1,9 @@
 //! The signal that was delivered first is sent to its tap.
 
-ghost use Rattle.std.specs.Prelude.{◌≡◌, ◌<◌, IfNone, IfSome, [], length};
+ghost use Rattle.std.specs.Prelude.{◌≡◌, ◌<◌, IfNone, IfSome, [], false, length};
 ghost use Rattle.rsx_link.specs.Ends.{IsUpOf};
 ghost use Rattle.rsx_link.specs.Signals.{is_item as is_item_signal};
+ghost use Rattle.rsx_serialized.specs.Resting.{FindsNoRoom};
 ghost use Rattle.rsx_serialized.specs.Sending.{IsFirstFor, IsOffered, SendsFirst};
 
 use crate::ends::ToTap;
@@ -30,6 +31,7 @@ pub(crate) fn send_first<T: Drop>(
     requires some { 0 < length pending.old.items }
     ensures kept { IsOffered link.now outlet.old outlet.new }
     ensures sent { SendsFirst result pending.old.items pending.new.items outlet.old outlet.new }
+    ensures full { result ≡ false → FindsNoRoom pending.new.items outlet.new }
 {
     let item = is_item(&pending[0].1);
     if !outlet.has_room(link, item) {

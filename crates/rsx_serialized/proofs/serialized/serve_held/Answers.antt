@@ -7,4 +7,4 @@ pub serve-requires-after_bounds : goal.serve-requires-after_bounds
 serve-requires-after_bounds g c κs within = held_ends c.args.gate.now c.args.links.now (Holds c.args.gate.now c.args.seat.now) c.value_of.result.now c.requires.opened c.requires.holds c.value_of.ensures.value
 
 pub returns-clause-holds : goal.returns-clause-holds
-returns-clause-holds g c = held_served c.args.gate.now c.args.links.now c.args.seat.now (seat_with_value c.args.seat.now c.serve.new.self) c.value_of.result.now c.serve.new.self c.requires.opened c.requires.holds c.value_of.ensures.value refl c.serve.ensures
+returns-clause-holds g c = held_served c.args.gate.now c.args.links.now c.args.seat.now (seat_with_value c.args.seat.now c.serve.new.self) c.value_of.result.now c.serve.new.self c.requires.opened c.requires.holds c.value_of.ensures.value refl c.serve.ensures.goes

@@ -1,14 +1,32 @@
+use Rattle.std.proofs.Common.{refl, arith}
 use Rattle.rsx_serialized.proofs.Goes.{region_on, region_same}
+use Rattle.rsx_serialized.proofs.Resting.{seen_rounds}
 use Rattle.rsx_serialized.proofs.region.GraphRegion.serve.Goals as goal
 
 pub loop-round-init : goal.loop-round-init
-loop-round-init g c = region_same c.args.links.now c.args.self.now c.requires
+loop-round-init g c = record { goes = region_same c.args.links.now c.args.self.now c.requires; first = λ e. refl; looked = λ some. absurd (omega (arith, some)) }
 
-pub returns-in-Ok-false : goal.returns-in-Ok-false
-returns-in-Ok-false g c = region_on c.args.links.now c.args.self.now c.loop-round.self c.round.new.self c.loop-round.invariant c.round.ensures
+pub returns-in-Ok-false-clause-goes : goal.returns-in-Ok-false-clause-goes
+returns-in-Ok-false-clause-goes g c = region_on c.args.links.now c.args.self.now c.loop-round.self c.round.new.self c.loop-round.invariant.goes c.round.ensures.goes
 
-pub returns-in-Err : goal.returns-in-Err
-returns-in-Err g c = region_on c.args.links.now c.args.self.now c.loop-round.self c.round.new.self c.loop-round.invariant c.round.ensures
+pub returns-in-Ok-false-clause-looked : goal.returns-in-Ok-false-clause-looked
+returns-in-Ok-false-clause-looked g c some = seen_rounds c.loop-round._round c.args.self.now c.loop-round.self c.round.new.self c.loop-round.invariant.first c.loop-round.invariant.looked c.round.ensures.looked
+
+pub returns-in-Err-clause-goes : goal.returns-in-Err-clause-goes
+returns-in-Err-clause-goes g c = region_on c.args.links.now c.args.self.now c.loop-round.self c.round.new.self c.loop-round.invariant.goes c.round.ensures.goes
+
+pub returns-in-Err-clause-looked : goal.returns-in-Err-clause-looked
+returns-in-Err-clause-looked g c some = seen_rounds c.loop-round._round c.args.self.now c.loop-round.self c.round.new.self c.loop-round.invariant.first c.loop-round.invariant.looked c.round.ensures.looked
 
 pub loop-round-preserved : goal.loop-round-preserved
-loop-round-preserved g c = region_on c.args.links.now c.args.self.now c.loop-round.self c.round.new.self c.loop-round.invariant c.round.ensures
+loop-round-preserved g c = record {
+  goes = region_on c.args.links.now c.args.self.now c.loop-round.self c.round.new.self c.loop-round.invariant.goes c.round.ensures.goes;
+  first = λ e. absurd (omega (arith, e));
+  looked = λ some. seen_rounds c.loop-round._round c.args.self.now c.loop-round.self c.round.new.self c.loop-round.invariant.first c.loop-round.invariant.looked c.round.ensures.looked;
+}
+
+pub returns-clause-looked : goal.returns-clause-looked
+returns-clause-looked g c some = c.loop-round.invariant.looked (omega (arith, some, c.loop-round-test.false))
+
+pub returns-clause-none : goal.returns-clause-none
+returns-clause-none g c e = (refl, c.loop-round.invariant.first (omega (arith, e, c.loop-round.auto._round-end)))

@@ -7,3 +7,6 @@ returns-clause-goes g c =
     let is = c.args.self.now.inlets.items in
     take_step c.args.links.now c.args.self.now _ c.args.at c.index_mut.result.now c.take_next.new.inlet c.requires.ends c.take_next.ensures.ops c.take_next.ensures.joins c.take_next.ensures.takes refl refl refl (inlet_at is c.args.at c.index_mut.result.now c.requires.there c.index_mut.ensures.value)
     (inlet_only c.args.links.now.emitters.items is c.args.at c.index.result.now c.take_next.new.inlet c.requires.ends.inlets c.requires.there c.index.ensures c.take_next.ensures.end)
+
+pub returns-clause-none : goal.returns-clause-none
+returns-clause-none g c e = let rests = c.take_next.ensures.rests e in record { inlet = c.take_next.new.inlet; put = refl; same = rests.0; left = rests.1 }
