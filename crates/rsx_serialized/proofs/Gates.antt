@@ -10,6 +10,7 @@ use Rattle.rsx_gate.specs.declared.view.View.{View}
 use Rattle.rsx_runtime.proofs.Seats.{view_kept}
 use Rattle.rsx_serialized.specs.Gates.{Fits, HasFitting}
 use Rattle.rsx_serialized.specs.Regions.{AreEndsOf, GoesOn}
+use Rattle.rsx_serialized.specs.Resting.{IsAtRest}
 use Rattle.rsx_serialized.specs.declared.opening.Opening.{Opening}
 use Rattle.rsx_serialized.specs.declared.region.GraphRegion.{GraphRegion}
 use Rattle.rsx_serialized.specs.declared.region.Links.{Links}
@@ -32,15 +33,30 @@ module _ {O T : Type 0} {b : Ops O T} where
       subst L opened (subst R (value h.0 h.1) h.2.0)
 
   -- what it came to fits
-  pub held_served : (g : Gate (GraphRegion O T b) (Opening O T b)) (links : Links T) (old new : Seat (GraphRegion O T b) (View (Opening O T b))) (r s : GraphRegion O T b) → (key_of g).links.value ≡ links → HasFitting g (Holds g old) → ((x : GraphRegion O T b) → Holds g old x → x ≡ r) → new ≡ seat_with_value old s → GoesOn links r s → HasFitting g (Holds g new)
-  held_served g links old new r s opened h value put goes =
+  held_now : (g : Gate (GraphRegion O T b) (Opening O T b)) (links : Links T) (old new : Seat (GraphRegion O T b) (View (Opening O T b))) (r s : GraphRegion O T b) → (key_of g).links.value ≡ links → HasFitting g (Holds g old) → ((x : GraphRegion O T b) → Holds g old x → x ≡ r) → new ≡ seat_with_value old s → GoesOn links r s → Holds g new s × Fits (key_of g) s
+  held_now g links old new r s opened h value put goes =
       let key = key_of g in
       let F : GraphRegion O T b → Type 0 = λ x. Fits key x in
       let here : GoesOn key.links.value key.region.value r = subst F (value h.0 h.1) h.2 in
       let L : Links T → Type 0 = λ l. GoesOn l r s in
       let next : GoesOn key.links.value r s = subst L (sym opened) goes in
       let H : Seat (GraphRegion O T b) (View (Opening O T b)) → Type 0 = λ x. Holds g x s in
-      (s, subst H (sym put) (h.1.0, refl, h.1.2, h.1.3, h.1.4), region_on key.links.value key.region.value r s here next)
+      (subst H (sym put) (h.1.0, refl, h.1.2, h.1.3, h.1.4), region_on key.links.value key.region.value r s here next)
+
+  pub held_served : (g : Gate (GraphRegion O T b) (Opening O T b)) (links : Links T) (old new : Seat (GraphRegion O T b) (View (Opening O T b))) (r s : GraphRegion O T b) → (key_of g).links.value ≡ links → HasFitting g (Holds g old) → ((x : GraphRegion O T b) → Holds g old x → x ≡ r) → new ≡ seat_with_value old s → GoesOn links r s → HasFitting g (Holds g new)
+  held_served g links old new r s opened h value put goes =
+      let n = held_now g links old new r s opened h value put goes in
+      (s, n.0, n.1)
+
+  -- and rests, where it did
+  pub held_rests : (g : Gate (GraphRegion O T b) (Opening O T b)) (links : Links T) (old new : Seat (GraphRegion O T b) (View (Opening O T b))) (r s : GraphRegion O T b) → (key_of g).links.value ≡ links → HasFitting g (Holds g old) → ((x : GraphRegion O T b) → Holds g old x → x ≡ r) → new ≡ seat_with_value old s → GoesOn links r s → IsAtRest s →
+      HasFitting g (λ x. Holds g new x × IsAtRest x)
+  held_rests g links old new r s opened h value put goes rests =
+      let n = held_now g links old new r s opened h value put goes in
+      (s, (n.0, rests), n.1)
+
+  pub held_still : (g : Gate (GraphRegion O T b) (Opening O T b)) (P Q : GraphRegion O T b → Type 0) → HasFitting g (λ x. P x × Q x) → HasFitting g P
+  held_still g P Q h = (h.0, h.1.0, h.2)
 
   -- so it is of a new gate's graph
   pub first_fits : (key : Opening O T b) (links : Links T) (r : GraphRegion O T b) → key.links.value ≡ links → key.region.value ≡ r → AreEndsOf links r → Fits key r

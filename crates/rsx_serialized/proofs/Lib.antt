@@ -7,6 +7,7 @@ pub mod Numbers
 pub mod Opens
 pub mod Regions
 pub mod Resting
+pub mod Rounds
 pub mod Since
 pub mod Steps
 pub mod Telling

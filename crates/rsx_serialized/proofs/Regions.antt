@@ -194,9 +194,9 @@ module _ {O T : Type 0} {b : Ops O T} where
       (λ k h. (subst (λ (l : List (SubId × Signal T)). AreFor k l) waits h).1)
 
   -- what came of an emitter was published
-  pub take_step : (links : Links T) (r s : GraphRegion O T b) (at : ℕ) (i j : FromEmitter T) → AreEndsOf links r → s.graph.ops ≡ r.graph.ops → (state_of s.graph).joins ≡ (state_of r.graph).joins → TakesIn (b.meaning r.graph.ops) (state_of r.graph) i (state_of s.graph) j →
-      s.outlets.items ≡ r.outlets.items → s.pending.items ≡ r.pending.items → s.inlets.items ≡ slice_set r.inlets.items at j → slice_get r.inlets.items at ≡ Some i → ((l : Link T) → slice_get links.emitters.items at ≡ Some l → IsDownOf l j.down) → GoesOn links r s
-  take_step links r s at i j ends ops joins t outs waits ins there down =
+  pub take_step : (links : Links T) (r s : GraphRegion O T b) (at : ℕ) (taken : Bool) (i j : FromEmitter T) → AreEndsOf links r → s.graph.ops ≡ r.graph.ops → (state_of s.graph).joins ≡ (state_of r.graph).joins → (t : TakesIn taken (b.meaning r.graph.ops) (state_of r.graph) i (state_of s.graph) j) →
+      s.outlets.items ≡ r.outlets.items → s.pending.items ≡ r.pending.items → s.inlets.items ≡ slice_set r.inlets.items at j → slice_get r.inlets.items at ≡ Some i → ((l : Link T) → slice_get links.emitters.items at ≡ Some l → IsDownOf l j.down) → AreEndsOf links s × GoesBy (b.meaning r.graph.ops) (publishes i.hub t.signals) r s
+  take_step links r s at taken i j ends ops joins t outs waits ins there down =
       let es : List (Event T) = publishes i.hub t.signals in
       let P : ℕ → Link T → FromEmitter T → Type 0 = λ k l a. IsDownOf l a.down in
       let is = r.inlets.items in
@@ -215,21 +215,18 @@ module _ {O T : Type 0} {b : Ops O T} where
           outlets = subst (λ (l : List (ToTap T)). AreOutletsOf links.taps.items l) (sym outs) ends.outlets;
           subs = ap length outs ∙ (ends.subs ∙ ap length (sym joins));
         },
-        (
-          es,
-          record {
-            ops = ops;
-            stands = t.stands;
-            inlets = subst (λ (l : List (FromEmitter T)). Beside (λ k. InletGoes es) is l) (sym ins)
-                (beside_set (λ k x y. x ≡ y) (λ k. InletGoes es) is is at j
-                (λ x e. let same : i ≡ x = cc in subst (λ (a : FromEmitter T). InletGoes es a j) same here)
-                (λ k x y apart e f same. subst (λ (a : FromEmitter T). InletGoes es x a) same (inlet_still es x (publishes_elsewhere i.hub t.signals x.hub.0 (λ h. apart (ends.inlets.apart k at x i e there (sym h))))))
-                (beside_same (λ k x y. x ≡ y) is (λ k x e. refl)));
-            outlets = subst (λ (l : List (ToTap T)). OutletsGo es r.pending.items s.pending.items r.outlets.items l) (sym outs)
-                (beside_same (λ k. OutletGoes k es r.pending.items s.pending.items) r.outlets.items (λ k a e. outlet_still k es r.pending.items s.pending.items a (got k) (publishes_asked i.hub t.signals k a.asked) (λ h. no_stop k h)));
-            known = λ h. subst (λ (l : List (SubId × Signal T)). AreFor (length (state_of s.graph).joins) l) (sym waits) (subst (λ (n : ℕ). AreFor n r.pending.items) (ap length (sym joins)) h);
-          },
-        ),
+        record {
+          ops = ops;
+          stands = t.stands;
+          inlets = subst (λ (l : List (FromEmitter T)). Beside (λ k. InletGoes es) is l) (sym ins)
+              (beside_set (λ k x y. x ≡ y) (λ k. InletGoes es) is is at j
+              (λ x e. let same : i ≡ x = cc in subst (λ (a : FromEmitter T). InletGoes es a j) same here)
+              (λ k x y apart e f same. subst (λ (a : FromEmitter T). InletGoes es x a) same (inlet_still es x (publishes_elsewhere i.hub t.signals x.hub.0 (λ h. apart (ends.inlets.apart k at x i e there (sym h))))))
+              (beside_same (λ k x y. x ≡ y) is (λ k x e. refl)));
+          outlets = subst (λ (l : List (ToTap T)). OutletsGo es r.pending.items s.pending.items r.outlets.items l) (sym outs)
+              (beside_same (λ k. OutletGoes k es r.pending.items s.pending.items) r.outlets.items (λ k a e. outlet_still k es r.pending.items s.pending.items a (got k) (publishes_asked i.hub t.signals k a.asked) (λ h. no_stop k h)));
+          known = λ h. subst (λ (l : List (SubId × Signal T)). AreFor (length (state_of s.graph).joins) l) (sym waits) (subst (λ (n : ℕ). AreFor n r.pending.items) (ap length (sym joins)) h);
+        },
       )
     where
       no_stop : (k : ℕ) → stopped_in k (publishes i.hub t.signals) ≡ true → ⊥
@@ -242,22 +239,19 @@ module _ {O T : Type 0} {b : Ops O T} where
       ]
 
   -- moves were made
-  pub pump_step : (budget : ℕ) (r s : GraphRegion O T b) (before after : Delivered T) (result : Result Pumped Refusal) → HasPumpedIn budget r.graph before result s.graph after → s.graph.ops ≡ r.graph.ops → before.signals ≡ r.pending.items → after.signals ≡ s.pending.items → s.inlets ≡ r.inlets → s.outlets ≡ r.outlets → Goes (b.meaning r.graph.ops) r s
+  pub pump_step : (budget : ℕ) (r s : GraphRegion O T b) (before after : Delivered T) (result : Result Pumped Refusal) → (h : HasPumpedIn budget r.graph before result s.graph after) → s.graph.ops ≡ r.graph.ops → before.signals ≡ r.pending.items → after.signals ≡ s.pending.items → s.inlets ≡ r.inlets → s.outlets ≡ r.outlets → GoesBy (b.meaning r.graph.ops) (map moved h.moves) r s
   pump_step budget r s before after result h ops first last ins outs =
       let m = b.meaning r.graph.ops in
       let es : List (Event T) = map moved h.moves in
       let all : s.pending.items ≡ r.pending.items ++ delivered_by h.moves = sym last ∙ (h.output ∙ ap (λ l. l ++ delivered_by h.moves) first) in
-      let got : (k : ℕ) → signals_for k r.pending.items ++ given_in k es ≡ signals_for k s.pending.items = λ k. ap (λ l. signals_for k r.pending.items ++ l) (moves_given m (state_of r.graph).rows (state_of s.graph).rows h.moves k h.lead) ∙ (sym (flat_map-append (signal_for k) r.pending.items (delivered_by h.moves)) ∙ ap (signals_for k) (sym all)) in (
-        es,
-        record {
-          ops = ops;
-          stands = λ x k. subst (λ (y : History T). GraphStands m (state_of s.graph) y) (sym (moves_after x h.moves)) (h.stands x k);
-          inlets = subst (λ (l : List (FromEmitter T)). Beside (λ k. InletGoes es) r.inlets.items l) (ap (λ v. v.items) (sym ins)) (pump_inlets es r.inlets.items (λ k. moves_published h.moves k));
-          outlets = subst (λ (l : List (ToTap T)). OutletsGo es r.pending.items s.pending.items r.outlets.items l) (ap (λ v. v.items) (sym outs))
-              (beside_same (λ k. OutletGoes k es r.pending.items s.pending.items) r.outlets.items (λ k a e. outlet_still k es r.pending.items s.pending.items a (got k) (moves_asked h.moves k a.asked) (λ x. no_stop h.moves k x)));
-          known = λ x. subst (λ (n : ℕ). AreFor n s.pending.items) (ap length (sym h.same.0)) (subst (λ (l : List (SubId × Signal T)). AreFor (length (state_of r.graph).joins) l) (sym all) (for_all (length (state_of r.graph).joins) r.pending.items (delivered_by h.moves) x (moves_for m (length (state_of r.graph).joins) (state_of r.graph).rows (state_of s.graph).rows h.moves (as_many r.graph) h.lead)));
-        },
-      )
+      let got : (k : ℕ) → signals_for k r.pending.items ++ given_in k es ≡ signals_for k s.pending.items = λ k. ap (λ l. signals_for k r.pending.items ++ l) (moves_given m (state_of r.graph).rows (state_of s.graph).rows h.moves k h.lead) ∙ (sym (flat_map-append (signal_for k) r.pending.items (delivered_by h.moves)) ∙ ap (signals_for k) (sym all)) in record {
+        ops = ops;
+        stands = λ x k. subst (λ (y : History T). GraphStands m (state_of s.graph) y) (sym (moves_after x h.moves)) (h.stands x k);
+        inlets = subst (λ (l : List (FromEmitter T)). Beside (λ k. InletGoes es) r.inlets.items l) (ap (λ v. v.items) (sym ins)) (pump_inlets es r.inlets.items (λ k. moves_published h.moves k));
+        outlets = subst (λ (l : List (ToTap T)). OutletsGo es r.pending.items s.pending.items r.outlets.items l) (ap (λ v. v.items) (sym outs))
+            (beside_same (λ k. OutletGoes k es r.pending.items s.pending.items) r.outlets.items (λ k a e. outlet_still k es r.pending.items s.pending.items a (got k) (moves_asked h.moves k a.asked) (λ x. no_stop h.moves k x)));
+        known = λ x. subst (λ (n : ℕ). AreFor n s.pending.items) (ap length (sym h.same.0)) (subst (λ (l : List (SubId × Signal T)). AreFor (length (state_of r.graph).joins) l) (sym all) (for_all (length (state_of r.graph).joins) r.pending.items (delivered_by h.moves) x (moves_for m (length (state_of r.graph).joins) (state_of r.graph).rows (state_of s.graph).rows h.moves (as_many r.graph) h.lead)));
+      }
     where
       no_stop : (ds : List (Made T)) (k : ℕ) → stopped_in k (map moved ds) ≡ true → ⊥
       no_stop ds k e = let none = moves_stopped ds k in let bad : true ≡ false = sym e ∙ none in cc

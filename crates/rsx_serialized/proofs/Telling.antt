@@ -51,7 +51,7 @@ module _ {O T : Type 0} {b : Ops O T} where
 
 module _ {T : Type 0} where
   -- nothing came
-  pub takes_none : (m : Meaning T) (g : GraphState T) (old new : FromEmitter T) → new.hub ≡ old.hub → received_signals new.down ≡ received_signals old.down → new.waiting ≡ old.waiting → TakesIn m g old g new
+  pub takes_none : (m : Meaning T) (g : GraphState T) (old new : FromEmitter T) → new.hub ≡ old.hub → received_signals new.down ≡ received_signals old.down → new.waiting ≡ old.waiting → TakesIn false m g old g new
   takes_none m g old new hub same waits = record {
     signals = [];
     stands = λ h k. k;
@@ -59,10 +59,11 @@ module _ {T : Type 0} where
     came = [];
     received = same ∙ sym (append-nil (received_signals old.down));
     published = append-nil (held old) ∙ ap (λ o. option_to_list o) (sym waits);
+    some = λ e. cc;
   }
 
   -- a signal came, and was published
-  pub takes_one : (m : Meaning T) (before after : GraphState T) (old new : FromEmitter T) (s : Signal T) → Gives old s new → ((h : History T) → GraphStands m before h → GraphStands m after (with_published s new.hub h)) → TakesIn m before old after new
+  pub takes_one : (m : Meaning T) (before after : GraphState T) (old new : FromEmitter T) (s : Signal T) → Gives old s new → ((h : History T) → GraphStands m before h → GraphStands m after (with_published s new.hub h)) → TakesIn true m before old after new
   takes_one m before after old new s g stands = record {
     signals = s ∷ [];
     stands = λ h k. subst (λ i. GraphStands m after (with_published s i h)) g.hub (stands h k);
@@ -70,10 +71,11 @@ module _ {T : Type 0} where
     came = g.came;
     received = g.received;
     published = g.next ∙ ap (λ o. (s ∷ []) ++ option_to_list o) (sym g.none);
+    some = λ e. omega arith;
   }
 
   -- a signal came, and waits
-  pub takes_back : (m : Meaning T) (before after : GraphState T) (old new : FromEmitter T) (s back : Signal T) → Gives old s new → back ≡ s → after ≡ before → TakesIn m before old after (record new { waiting = Some back })
+  pub takes_back : (m : Meaning T) (before after : GraphState T) (old new : FromEmitter T) (s back : Signal T) → Gives old s new → back ≡ s → after ≡ before → TakesIn false m before old after (record new { waiting = Some back })
   takes_back m before after old new s back g same still = record {
     signals = [];
     stands = λ h k. subst (λ (x : GraphState T). GraphStands m x h) (sym still) k;
@@ -81,4 +83,5 @@ module _ {T : Type 0} where
     came = g.came;
     received = g.received;
     published = g.next ∙ ap (λ (x : Signal T). x ∷ []) (sym same);
+    some = λ e. cc;
   }

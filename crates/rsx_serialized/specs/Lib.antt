@@ -7,6 +7,7 @@ pub mod Opened
 pub mod Opens
 pub mod Regions
 pub mod Resting
+pub mod Rounds
 pub mod Sending
 pub mod Since
 pub mod Told

@@ -1,5 +1,5 @@
 -- A graph between its links.
-use Rattle.std.specs.Prelude.{◌≡◌, ⊤, ◌++◌, ℕ, ◌<◌, List, [], ◌∷◌, length, Some, slice_get}
+use Rattle.std.specs.Prelude.{◌≡◌, ⊤, ◌++◌, ℕ, Bool, true, ◌<◌, List, [], ◌∷◌, length, Some, slice_get}
 use Rattle.rsx_types.specs.Meaning.{Meaning}
 use Rattle.rsx_types.specs.declared.names.SubId.{SubId}
 use Rattle.rsx_types.specs.declared.ops.Ops.{Ghosts as Ops}
@@ -40,14 +40,15 @@ module _ {T : Type 0} where
   AreFor n [] = ⊤
   AreFor n (d ∷ ds) = (d.0.0 < n) × AreFor n ds
 
-  -- signals that came over an emitter's link were published at its hub, but for one that waits
-  pub record TakesIn (m : Meaning T) (before : GraphState T) (old : FromEmitter T) (after : GraphState T) (new : FromEmitter T) : Type 0 where
+  -- signals that came over an emitter's link were published at its hub, but for one that waits; and some were, where this says so
+  pub record TakesIn (taken : Bool) (m : Meaning T) (before : GraphState T) (old : FromEmitter T) (after : GraphState T) (new : FromEmitter T) : Type 0 where
     pub signals : List (Signal T)
     pub stands : StandsSince m (publishes old.hub signals) before after
     pub hub : new.hub ≡ old.hub
     pub came : List (Signal T)
     pub received : received_signals new.down ≡ received_signals old.down ++ came
     pub published : held old ++ came ≡ signals ++ held new
+    pub some : taken ≡ true → 0 < length signals
 
 module _ {O T : Type 0} {b : Ops O T} where
   -- the ends are those of the links, and there is one that sends for each subscription

@@ -1,6 +1,6 @@
 -- When nothing is left to do for a graph between its links, and what its single steps say of that.
 use Rattle.std.specs.Prelude.{◌≡◌, ◌⊎◌, ⊤, ℕ, ◌<◌, ◌≤◌, Bool, true, List, [], ◌∷◌, ◌++◌, Option, Some, None, slice_get, slice_set}
-use Rattle.rsx_types.specs.Meaning.{Meaning}
+use Rattle.rsx_types.specs.Meaning.{Allocates, Meaning}
 use Rattle.rsx_types.specs.declared.names.HubId.{HubId}
 use Rattle.rsx_types.specs.declared.names.SubId.{SubId}
 use Rattle.rsx_types.specs.declared.ops.Ops.{Ghosts as Ops}
@@ -11,11 +11,15 @@ use Rattle.rsx_link.specs.Ends.{Waits, free_slots, items_sent, queued, seen_tota
 use Rattle.rsx_link.specs.Signals.{is_item}
 use Rattle.rsx_link.specs.declared.view.Step.{Step}
 use Rattle.rsx_link.specs.declared.view.Step.TheVariants.{SeeAsked, SeeFlags}
+use Rattle.rsx_graph.specs.Done.{IsDone}
 use Rattle.rsx_graph.specs.InGraph.{state_of}
 use Rattle.rsx_graph.specs.Kinds.{IsAllQuiet}
 use Rattle.rsx_graph.specs.Stands.{GraphState}
-use Rattle.rsx_graph_calls.specs.Publishes.{IsEmitRefusal, IsEndRefusal}
+use Rattle.rsx_graph.specs.declared.step.Step.{Step as GraphStep}
+use Rattle.rsx_graph.specs.declared.step.Step.TheVariants as step
+use Rattle.rsx_graph.specs.Rows.{IsEmitRefusal}
 use Rattle.rsx_graph_state.specs.declared.refusal.Refusal.{Refusal}
+use Rattle.rsx_graph_state.specs.declared.step.Answer.TheVariants.{Refused}
 use Rattle.rsx_serialized.specs.Ends.{Beside, is_flagged}
 use Rattle.rsx_serialized.specs.Events.{Event, stopped_in}
 use Rattle.rsx_serialized.specs.Regions.{GoesBy}
@@ -72,12 +76,16 @@ module _ {T : Type 0} where
 
   -- ---- what comes from an emitter
 
+  -- the graph refuses this step as it is, for some reason that is one for the step
+  abbrev pub IsRefused : GraphState T → GraphStep T → Type 0
+  IsRefused g s = (why : Refusal) × ((m : Meaning T) (a : Allocates) → IsDone m a g s (Refused why) g)
+
   -- The hub doesn't take the signal, for this reason: it isn't there or has a feed, it has ended, its inbox is full, or it has accepted as
   -- many items as it may. An error that no emitter sends no hub takes.
   abbrev pub IsNotTaken : GraphState T → HubId → Signal T → Type 0
   IsNotTaken g hub (Next x) = (why : Refusal) × IsEmitRefusal g.rows.hubs g.rows.feeds hub.0 why
-  IsNotTaken g hub Complete = (why : Refusal) × IsEndRefusal g.rows.hubs g.rows.feeds hub.0 why
-  IsNotTaken g hub (Error (User n)) = (why : Refusal) × IsEndRefusal g.rows.hubs g.rows.feeds hub.0 why
+  IsNotTaken g hub Complete = IsRefused g (step.Complete hub)
+  IsNotTaken g hub (Error (User n)) = IsRefused g (step.Fail hub n)
   IsNotTaken g hub (Error cause) = ⊤
 
   -- the signal that waits isn't taken; where none does, the link has none for the end, as far as it knows

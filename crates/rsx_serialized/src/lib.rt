@@ -16,7 +16,7 @@
 //!
 //! The definitions stand in `specs/`: `Events` (what has happened to a graph, call by call), `Told` (what its holder tells it), `Ends`
 //! (what the ends have passed on), `Opens` (links as they are opened), `Sending` (the signal that was delivered first is sent), `Regions` (a graph between its links), `Resting` (when
-//! nothing is left to do for it), `Since` (what has happened to its hubs and subscribers), `Gates` (a graph behind its gate), `Opened` (it is put there, and comes back) and `Calls` (the
+//! nothing is left to do for it), `Rounds` (rounds in which something was done), `Since` (what has happened to its hubs and subscribers), `Gates` (a graph behind its gate), `Opened` (it is put there, and comes back) and `Calls` (the
 //! link of an emitter or a tap).
 
 pub mod calls;

@@ -58,7 +58,7 @@ pub(crate) fn take_next<O: Ops>(
     ensures end { IsDownOf link.now inlet.new.down }
     ensures ops { graph.new.ops ≡ graph.old.ops }
     ensures joins { (state_of graph.new).joins ≡ (state_of graph.old).joins }
-    ensures takes { TakesIn (O.meaning graph.old.ops) (state_of graph.old) inlet.old (state_of graph.new) inlet.new }
+    ensures takes { TakesIn result (O.meaning graph.old.ops) (state_of graph.old) inlet.old (state_of graph.new) inlet.new }
     ensures rests { result ≡ false → (state_of graph.new ≡ state_of graph.old) × IsTakenIn (state_of graph.new) inlet.new }
 {
     let signal = match inlet.next(link) {

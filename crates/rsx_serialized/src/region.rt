@@ -50,10 +50,11 @@ pub enum Served {
 }
 
 impl<O: Ops> GraphRegion<O> {
-    ghost use Rattle.std.specs.Prelude.{◌≡◌, ◌<◌, IfOk, [], false, length};
+    ghost use Rattle.std.specs.Prelude.{◌≡◌, ◌<◌, IfOk, [], false, length, true};
     ghost use Rattle.rsx_graph.specs.InGraph.{state_of};
     ghost use Rattle.rsx_serialized.specs.Regions.{AreEndsOf, Goes, GoesOn};
     ghost use Rattle.rsx_serialized.specs.Resting.{AreStill, HasLeftAll, HasLeftOne, HasSeenAll, HasSeenOne, HasSentNone, IsAtRest, IsQuiet};
+    ghost use Rattle.rsx_serialized.specs.Rounds.{AreRounds, IsBusy};
 
     /// Moves the graph between its links: what was delivered is sent to the taps, what they asked for is requested, subscriptions whose
     /// taps cancelled or made a bad request are cancelled, what emitters sent is published, and moves are made while no delivery waits. It
@@ -73,6 +74,9 @@ impl<O: Ops> GraphRegion<O> {
 
         // Each tap was looked at, and each subscription was cancelled of which a flag was seen.
         ensures looked { 0 < budget → HasSeenAll (O.meaning self.old.graph.ops) self.old self.new }
+
+        // So many rounds were made, and something was done in each.
+        ensures budget { result ≡ Served.Budget → AreRounds (O.meaning self.old.graph.ops) budget self.old self.new }
         ensures none { budget ≡ 0 → (result ≡ Served.Budget) × (self.new ≡ self.old) }
     {
         for _round in 0..budget {
@@ -90,13 +94,14 @@ impl<O: Ops> GraphRegion<O> {
         requires { AreEndsOf links.now self.old }
         ensures goes { GoesOn links.now self.old self.new }
         ensures idle { IfOk result (λ done. done ≡ false → IsAtRest self.new) }
+        ensures busy { IfOk result (λ done. done ≡ true → IsBusy (O.meaning self.old.graph.ops) self.old self.new) }
         ensures looked { HasSeenAll (O.meaning self.old.graph.ops) self.old self.new }
     {
         self.look(links);
         let moved = self.move_on(alloc)?;
         let sent = self.send_out(links);
         let taken = self.take_in(links);
-        Ok(moved || sent || taken)
+        Ok(moved | sent | taken)
     }
 
     /// Looks at the links of all taps, and passes on what is asked for.
@@ -131,6 +136,7 @@ impl<O: Ops> GraphRegion<O> {
     fn move_on(&mut self, alloc: Global) -> Result<bool, NoMemory>
         ensures goes { Goes (O.meaning self.old.graph.ops) self.old self.new }
         ensures idle { IfOk result (λ moved. moved ≡ false → self.new.pending.items ≡ [] → IsQuiet self.new) }
+        ensures busy { IfOk result (λ moved. moved ≡ true → IsBusy (O.meaning self.old.graph.ops) self.old self.new) }
         ensures same { (self.new.inlets ≡ self.old.inlets) × (self.new.outlets ≡ self.old.outlets) × ((state_of self.new.graph).joins ≡ (state_of self.old.graph).joins) }
     {
         if !self.pending.is_empty() {
@@ -151,6 +157,7 @@ impl<O: Ops> GraphRegion<O> {
         requires { AreEndsOf links.now self.old }
         ensures goes { GoesOn links.now self.old self.new }
         ensures none { result ≡ false → HasSentNone self.old self.new }
+        ensures busy { result ≡ true → IsBusy (O.meaning self.old.graph.ops) self.old self.new }
         ensures still { AreStill self.old.outlets.items self.new.outlets.items }
         ensures same { self.new.graph ≡ self.old.graph }
     {
@@ -169,6 +176,7 @@ impl<O: Ops> GraphRegion<O> {
         requires { AreEndsOf links.now self.old }
         ensures goes { GoesOn links.now self.old self.new }
         ensures none { result ≡ false → HasSentNone self.old self.new }
+        ensures busy { result ≡ true → IsBusy (O.meaning self.old.graph.ops) self.old self.new }
         ensures still { AreStill self.old.outlets.items self.new.outlets.items }
         ensures same { self.new.graph ≡ self.old.graph }
     {
@@ -188,6 +196,7 @@ impl<O: Ops> GraphRegion<O> {
         requires { AreEndsOf links.now self.old }
         ensures goes { GoesOn links.now self.old self.new }
         ensures none { result ≡ false → HasLeftAll self.old self.new }
+        ensures busy { result ≡ true → IsBusy (O.meaning self.old.graph.ops) self.old self.new }
         ensures aside { (self.new.pending ≡ self.old.pending) × (self.new.outlets ≡ self.old.outlets) }
     {
         let mut taken = false;
@@ -203,6 +212,7 @@ impl<O: Ops> GraphRegion<O> {
         requires there { at < length self.old.inlets.items }
         ensures goes { GoesOn links.now self.old self.new }
         ensures none { result ≡ false → HasLeftOne at self.old self.new }
+        ensures busy { result ≡ true → IsBusy (O.meaning self.old.graph.ops) self.old self.new }
         ensures aside { (self.new.pending ≡ self.old.pending) × (self.new.outlets ≡ self.old.outlets) }
         ensures count { length self.new.inlets.items ≡ length self.old.inlets.items }
     {

@@ -4,6 +4,7 @@ ghost use Rattle.std.specs.Prelude.{◌≡◌, ◌<◌, MatchBool};
 ghost use Rattle.rsx_gate.specs.Seats.{Holds, IsGone, IsMissed, IsSeatOf, Marked, key_of};
 ghost use Rattle.rsx_runtime.specs.Poking.{Went};
 ghost use Rattle.rsx_serialized.specs.Gates.{HasFitting};
+ghost use Rattle.rsx_serialized.specs.Resting.{IsAtRest};
 
 use crate::opening::Opening;
 use crate::region::{GraphRegion, Links, Served};
@@ -137,9 +138,9 @@ fn mark_held<O: Ops>(gate: &GraphGate<O>, seat: &mut GraphSeat<O>)
     gate.mark(seat);
 }
 
-/// The leave of such a seat, and whether the graph is free now. Else the seat keeps it.
+/// The leave of such a seat, for whose graph nothing is left to do, and whether the graph is free now. Else the seat keeps it.
 fn leave_held<O: Ops>(gate: &GraphGate<O>, seat: &mut GraphSeat<O>) -> bool
-    requires { HasFitting gate.now (Holds gate.now seat.old) }
+    requires { HasFitting gate.now (λ r. Holds gate.now seat.old r × IsAtRest r) }
     ensures { MatchBool result (IsGone gate.now seat.old seat.new) (IsMissed seat.old seat.new × HasFitting gate.now (Holds gate.now seat.new)) }
 {
     gate.try_leave(seat)
@@ -156,6 +157,7 @@ fn serve_held<O: Ops>(
     requires opened { (key_of gate.now).links.value ≡ links.now }
     requires holds { HasFitting gate.now (Holds gate.now seat.old) }
     ensures holds { HasFitting gate.now (Holds gate.now seat.new) }
+    ensures rests { result ≡ Served.Idle → HasFitting gate.now (λ r. Holds gate.now seat.new r × IsAtRest r) }
     ensures steps { seat.new.me.0 ≡ seat.old.me.0 }
 {
     Gate::value_of(seat, gate).serve(alloc, links, budget)

@@ -18,3 +18,6 @@ pub returns-clause-steps : goal.returns-clause-steps
 returns-clause-steps g c =
     let all : c.loop-round.round ≡ 8 = omega (arith, c.loop-round.auto.round-end, c.loop-round-test.false) in
     (c.loop-round.round, c.release-2.ensures.0.0, c.loop-round.seat.me.0.steps, search rules, search rules, all, search rules)
+
+pub leave_held-requires-after_bounds : goal.leave_held-requires-after_bounds
+leave_held-requires-after_bounds g c κs within = c.serve_held.ensures.rests c.in-Idle.is

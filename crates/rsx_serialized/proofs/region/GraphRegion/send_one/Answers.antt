@@ -3,6 +3,7 @@ use Rattle.rsx_serialized.specs.Sending.{IsFirstFor}
 use Rattle.rsx_serialized.proofs.Goes.{region_same}
 use Rattle.rsx_serialized.proofs.Regions.{first_some, outlet_at, outlet_there, sends_step}
 use Rattle.rsx_serialized.proofs.Resting.{far_held, full_held, none_held, sent_none, still_same, still_set}
+use Rattle.rsx_serialized.proofs.Rounds.{busy_sent, sent_one, set_there}
 use Rattle.rsx_serialized.proofs.region.GraphRegion.send_one.Goals as goal
 
 pub returns-in-None-clause-goes : goal.returns-in-None-clause-goes
@@ -45,3 +46,11 @@ returns-clause-none g c e =
 
 pub returns-clause-still : goal.returns-clause-still
 returns-clause-still g c = still_set c.args.self.now.outlets.items c.in-Some.at c.index_mut.result.now c.send_first.new.outlet (outlet_at c.args.self.now.outlets.items c.in-Some.at c.index_mut.result.now (search rules) c.index_mut.ensures.value) c.send_first.ensures.kept.steps
+
+pub returns-clause-busy : goal.returns-clause-busy
+returns-clause-busy g c e =
+    let os = c.args.self.now.outlets.items in
+    let there = outlet_at os c.in-Some.at c.index_mut.result.now (search rules) c.index_mut.ensures.value in
+    busy_sent c.args.links.now c.args.self.now _
+    (sends_step c.args.links.now c.args.self.now _ c.in-Some.at c.send_first.result c.index.result.now c.index_mut.result.now c.send_first.new.outlet c.requires (search rules) c.index.ensures c.index_mut.ensures.value refl refl refl (subst (λ ds. IsFirstFor c.in-Some.at ds) c.deref.ensures.value c.in-Some.ensures.some) c.send_first.ensures.kept c.send_first.ensures.sent)
+    (sent_one c.send_first.result c.args.self.now.pending.items c.send_first.new.pending.items os c.in-Some.at c.index_mut.result.now c.send_first.new.outlet there (set_there os c.in-Some.at c.index_mut.result.now c.send_first.new.outlet there) c.send_first.ensures.sent e)

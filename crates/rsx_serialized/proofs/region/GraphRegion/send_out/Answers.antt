@@ -2,10 +2,11 @@ use Rattle.std.proofs.Common.{◌≡◌, length, refl, rules, sym, ◌∙◌, su
 use Rattle.rsx_serialized.specs.Resting.{HasSentNone}
 use Rattle.rsx_serialized.proofs.Goes.{region_on, region_same}
 use Rattle.rsx_serialized.proofs.Resting.{none_held, still_on, still_same}
+use Rattle.rsx_serialized.proofs.Rounds.{busy_then, then_busy}
 use Rattle.rsx_serialized.proofs.region.GraphRegion.send_out.Goals as goal
 
 pub loop-signal-init : goal.loop-signal-init
-loop-signal-init g c = record { goes = region_same c.args.links.now c.args.self.now c.requires; still = still_same c.args.self.now.outlets.items; same = refl; none = λ e. (refl, refl); count = search rules }
+loop-signal-init g c = record { goes = region_same c.args.links.now c.args.self.now c.requires; still = still_same c.args.self.now.outlets.items; same = refl; none = λ e. (refl, refl); busy = λ e. cc; count = search rules }
 
 pub returns-then-not-send_one-clause-goes : goal.returns-then-not-send_one-clause-goes
 returns-then-not-send_one-clause-goes g c = region_on c.args.links.now c.args.self.now c.loop-signal.self c.send_one.new.self c.loop-signal.invariant.goes c.send_one.ensures.goes
@@ -27,6 +28,7 @@ loop-signal-preserved g c = record {
   still = still_on c.args.self.now.outlets.items c.loop-signal.self.outlets.items c.send_one.new.self.outlets.items c.loop-signal.invariant.still c.send_one.ensures.still;
   same = c.send_one.ensures.same ∙ c.loop-signal.invariant.same;
   none = λ e. cc;
+  busy = λ e. then_busy c.args.self.now c.loop-signal.self c.send_one.new.self c.loop-signal.invariant.goes.1 (c.send_one.ensures.busy (search rules));
   count = c.loop-signal.invariant.count;
 }
 
@@ -38,3 +40,6 @@ returns-clause-none g c e =
     let empty : length c.args.self.now.pending.items ≡ 0 = omega (arith, count, first, c.loop-signal-test.false) in
     let none : HasSentNone c.args.self.now c.args.self.now = record { pending = refl; held = none_held c.args.self.now.pending.items c.args.self.now.outlets.items empty } in
     subst (λ r. HasSentNone c.args.self.now r) (sym start.1) none
+
+pub returns-then-not-send_one-clause-busy : goal.returns-then-not-send_one-clause-busy
+returns-then-not-send_one-clause-busy g c e = busy_then c.args.self.now c.loop-signal.self c.send_one.new.self (c.loop-signal.invariant.busy e) c.send_one.ensures.goes.1

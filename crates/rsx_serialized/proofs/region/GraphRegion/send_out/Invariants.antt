@@ -1,6 +1,7 @@
-use Rattle.std.proofs.Common.{◌≡◌, false, length}
+use Rattle.std.proofs.Common.{◌≡◌, false, length, true}
 use Rattle.rsx_serialized.specs.Regions.{GoesOn}
 use Rattle.rsx_serialized.specs.Resting.{AreStill}
+use Rattle.rsx_serialized.specs.Rounds.{IsBusy}
 use Rattle.rsx_serialized.proofs.region.GraphRegion.send_out.Given as goal
 
 abbrev pub invariant-loop-signal : goal.invariant-loop-signal
@@ -9,5 +10,6 @@ invariant-loop-signal g l = record {
   still : AreStill l.fn.self.outlets.items l.self.outlets.items;
   same : l.self.graph ≡ l.fn.self.graph;
   none : l.sent ≡ false → (l._signal ≡ 0) × (l.self ≡ l.fn.self);
+  busy : l.sent ≡ true → IsBusy (g.O.Ops.meaning l.fn.self.graph.ops) l.fn.self l.self;
   count : l._signal-end ≡ length l.fn.self.pending.items;
 }
