@@ -127,7 +127,10 @@ pub fn live<O: Ops>(
 }
 
 /// The graph goes live.
-fn start<O: Ops>(alloc: Global, graph: Graph<O>) -> Result<StartedGraph<O>>
+///
+/// # Errors
+/// For want of memory, where there are too few workers, and where a join is refused.
+pub fn start<O: Ops>(alloc: Global, graph: Graph<O>) -> Result<StartedGraph<O>>
     ensures { IfOk result (λ s. IsStarted s) }
 {
     match LiveGraph::go_live(alloc, graph, WORKERS) {

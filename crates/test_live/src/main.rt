@@ -9,22 +9,30 @@
 //! the beginning of that value.
 //!
 //! It writes a line for each expression: how many runs there were and, in all of them, at how many edges they were cut, how many signals
-//! were received, and how many of these taps gave. The first comparison that differs, and the first join that is refused, end the program
+//! were received, and how many of these taps gave. Then each expression goes live twice more, with its regions served on threads. The first comparison that differs, and the first join that is refused, end the program
 //! with status 1.
 //!
 //! `test_live WAY COUNT` does none of that: it sends so many numbers through a graph, and prints how many items came and their sum, and no
-//! time, so that `bench/live.sh` counts its instructions. WAY is `queue`, where the graph is pumped, or `link`, where it is live.
+//! time, so that `bench/live.sh` counts its instructions. WAY is `queue`, where the graph is pumped, or `link`, where it is live. With one
+//! word, as `test_live threads`, only the runs on threads are made.
 
 mod compared;
 mod driven;
 mod numbers;
+mod serving;
+mod tapping;
+mod threaded;
 mod timed;
 mod trial;
 
+use crate::threaded::try_on_threads;
 use crate::timed::{lived, pumped};
 use crate::trial::{Tried, try_refused, try_seeds};
 use anyhow::Result;
 use std::env;
+use std::sync::Wait;
+use std::thread::Threads;
+use std::time::Clock;
 
 /// The expressions. Each has an edge that crosses. The last four choose between what they have to put out.
 const EXPRESSIONS: [&'static str; 16] = [
@@ -66,6 +74,18 @@ fn try_all(rt: &(impl Print + AllocGlobal)) -> Result<()> {
     Ok(())
 }
 
+/// Tries all expressions on threads, with items requested in two ways, and writes a line for each.
+fn try_all_on_threads<R: Print + AllocGlobal + Threads + Wait + Sync + Clock>(
+    rt: &R,
+) -> Result<()> {
+    for text in &EXPRESSIONS {
+        try_on_threads(rt, rt.alloc(), text, [(0, 1), (1, 2)])?;
+        try_on_threads(rt, rt.alloc(), text, [(1, 5), (0, 3)])?;
+        println!(rt; "{text}: twice on threads, equal")?;
+    }
+    Ok(())
+}
+
 /// Sends so many numbers through a graph that is pumped, or that is live.
 fn time(rt: &(impl Print + AllocGlobal), way: &str, count: &str) -> Result<()> {
     let count = count.parse::<u64>().unwrap_or(0);
@@ -81,6 +101,10 @@ fn main(rt: HostRuntime) -> Result<()> {
     let mut words = env::args(&rt)?.skip(1);
     match (words.next(), words.next()) {
         (Some(way), Some(count)) => time(&rt, way.as_str(), count.as_str()),
-        _ => try_all(&rt),
+        (Some(_), None) => try_all_on_threads(&rt),
+        _ => {
+            try_all(&rt)?;
+            try_all_on_threads(&rt)
+        }
     }
 }

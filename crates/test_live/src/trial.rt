@@ -51,7 +51,10 @@ pub fn try_seeds(alloc: Global, text: &str) -> Result<Tried> {
 }
 
 /// The expression that this text is.
-fn parsed(alloc: Global, text: &str) -> Result<Expr<Val>> {
+///
+/// # Errors
+/// Where it isn't one.
+pub fn parsed(alloc: Global, text: &str) -> Result<Expr<Val>> {
     match parse_expression(alloc, text.as_bytes()) {
         Ok(expr) => Ok(expr),
         Err(why) => bail!("{text}: {why}"),

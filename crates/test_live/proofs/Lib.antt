@@ -1,0 +1,3 @@
+-- Lemmas.
+pub mod Crosses
+pub mod Started

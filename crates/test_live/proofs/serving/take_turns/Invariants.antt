@@ -1,0 +1,5 @@
+use Rattle.test_live.specs.Taps.{AreTapsOf}
+use Rattle.test_live.proofs.serving.take_turns.Given as goal
+
+abbrev pub invariant-loop : goal.invariant-loop
+invariant-loop g l = AreTapsOf l.graph l.taps.items

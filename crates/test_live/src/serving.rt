@@ -1,0 +1,191 @@
+//! The regions of a live graph are served on threads, while the calling thread requests and takes.
+
+ghost use Rattle.std.specs.Prelude.{◌≡◌, ◌≤◌, length, IfOk};
+ghost use Rattle.std.specs.List.{AllZip};
+ghost use Rattle.rsx_gate.specs.Machine.{all_parts};
+ghost use Rattle.rsx_gate.specs.Seats.{IsSeatOf};
+ghost use Rattle.rsx_workers.below.rsx_runtime.specs.declared.TheConstants.{MOST_WORKERS};
+ghost use Rattle.rsx_live.specs.Starts.{IsStarted};
+ghost use Rattle.test_live.specs.Taps.{AreTapsOf};
+
+use crate::driven::Log;
+use crate::tapping::{request_at, sub_at, take_at};
+use anyhow::{Result, bail};
+use rsx_demo::{Demo, Val};
+use rsx_kinds::TreeNode;
+use rsx_live::{LiveGraph, StartedGraph, Tap};
+use rsx_types::{Ops, Signal};
+use rsx_workers::{Parkers, RegionSeat, Rouser, Served, serve_on_threads};
+use std::alloc::Global;
+use std::sync::Wait;
+use std::thread;
+use std::thread::Threads;
+use std::time::{Clock, Duration};
+
+/// More turns than any graph needs. With a pause in each in which nothing comes, they take some seconds.
+const TURNS: u32 = 100_000;
+
+/// How long such a pause is, in microseconds.
+const PAUSE: u64 = 100;
+
+/// More items than any expression gives.
+const ALL: u32 = 1_000;
+
+/// Which subscriptions request in a turn, one after the other, by the places of their taps, and how many items each.
+pub type Requests = [(usize, i64); 2];
+
+/// What the calling thread has once all is taken.
+#[derive(Drop)]
+struct Taken<T> {
+    taps: Vec<Tap<T>>,
+    received: Log<T>,
+    outcome: Result<()>,
+}
+
+/// What comes back from the regions and from the calling thread.
+type Back = Served<TreeNode<Val>, Val, Demo, Taken<Val>>;
+
+/// Serves the regions on threads until all is taken.
+///
+/// # Errors
+/// For want of memory, and where a subscription doesn't end.
+pub fn serve<R: Threads + Wait + Sync + Clock>(
+    rt: &R,
+    alloc: Global,
+    started: StartedGraph<Demo>,
+    requests: Requests,
+) -> Result<(StartedGraph<Demo>, Log<Val>)>
+    requires { IsStarted started }
+    ensures { IfOk result (λ r. IsStarted r.0) }
+{
+    let StartedGraph { live, taps, seats } = started;
+    let back = serve_regions(rt, alloc, &live, &live, taps, seats, requests)?;
+    put_together(live, back)
+}
+
+/// The live graph with its taps and seats again, and what was received.
+fn put_together(live: LiveGraph<Demo>, back: Back) -> Result<(StartedGraph<Demo>, Log<Val>)>
+    ensures { IfOk result (λ r. (r.0.live ≡ live) × (r.0.taps ≡ back.answer.taps) × (r.0.seats ≡ back.seats)) }
+{
+    let Served { seats, answer } = back;
+    let Taken {
+        taps,
+        received,
+        outcome,
+    } = answer;
+    outcome?;
+    Ok((StartedGraph { live, taps, seats }, received))
+}
+
+/// Serves the regions of this graph on threads until all is taken, by these taps and seats. It is borrowed twice: by the calling thread,
+/// and by the workers.
+fn serve_regions<R: Threads + Wait + Sync + Clock>(
+    rt: &R,
+    alloc: Global,
+    graph: &LiveGraph<Demo>,
+    served: &LiveGraph<Demo>,
+    taps: Vec<Tap<Val>>,
+    seats: Vec<RegionSeat<TreeNode<Val>, Val, Demo>>,
+    requests: Requests,
+) -> Result<Back>
+    requires same { served.now ≡ graph.now }
+    requires taps { AreTapsOf graph.now taps.items }
+    requires seats { AllZip (λ g s. IsSeatOf g s × (all_parts ≤ s.me.0.parts)) served.now.subs.live.gates.items seats.items }
+    requires few { length seats.items ≤ MOST_WORKERS }
+    ensures taps { IfOk result (λ b. AreTapsOf graph.now b.answer.taps.items) }
+    ensures seats { IfOk result (λ b. AllZip (λ g s. IsSeatOf g s × (all_parts ≤ s.me.0.parts)) served.now.subs.live.gates.items b.seats.items) }
+{
+    let parkers = Parkers::new(alloc, seats.len() as u8)?;
+    let main = |rouser: &mut Rouser| -> Taken<Val>
+        requires { AreTapsOf graph.now taps.items }
+        ensures { AreTapsOf graph.entry.now result.taps.items }
+    { take_all(rt, alloc, graph, taps, requests, rouser) };
+    Ok(serve_on_threads(rt, alloc, served.live(), seats, parkers, main))
+}
+
+/// Requests and takes, in turns, until all subscriptions have ended.
+fn take_all<R: Clock, O: Ops>(
+    rt: &R,
+    alloc: Global,
+    graph: &LiveGraph<O>,
+    mut taps: Vec<Tap<O::Item>>,
+    requests: Requests,
+    rouser: &mut Rouser,
+) -> Taken<O::Item>
+    requires { AreTapsOf graph.now taps.items }
+    ensures { AreTapsOf graph.now result.taps.items }
+{
+    let mut received = Vec::new(alloc);
+    let outcome = take_turns(rt, graph, &mut taps, requests, rouser, &mut received);
+    Taken {
+        taps,
+        received,
+        outcome,
+    }
+}
+
+/// Makes the turns, each with a pause where nothing came in it.
+fn take_turns<R: Clock, O: Ops>(
+    rt: &R,
+    graph: &LiveGraph<O>,
+    taps: &mut Vec<Tap<O::Item>>,
+    requests: Requests,
+    rouser: &mut Rouser,
+    received: &mut Log<O::Item>,
+) -> Result<()>
+    requires { AreTapsOf graph.now taps.old.items }
+    ensures { AreTapsOf graph.now taps.new.items }
+{
+    for _ in 0..TURNS {
+        let before = received.len();
+        take_turn(graph, taps, requests[0], rouser, received)?;
+        take_turn(graph, taps, requests[1], rouser, received)?;
+        if endings(received) >= taps.len() {
+            return Ok(());
+        }
+        if received.len() == before {
+            thread::sleep(rt, Duration::from_micros(PAUSE));
+        }
+    }
+    bail!("a subscription hasn't ended")
+}
+
+/// How many endings were received.
+fn endings<T>(received: &Log<T>) -> usize {
+    let mut count = 0usize;
+    for (_, signal) in received {
+        if !matches!(signal, Signal::Next(_)) {
+            count = count.saturating_add(1);
+        }
+    }
+    count
+}
+
+/// Requests so many items by the tap at a place, rouses the workers, and takes what waits. The workers are roused in each turn, since one
+/// that only passes a request on rouses nobody.
+fn take_turn<O: Ops>(
+    graph: &LiveGraph<O>,
+    taps: &mut Vec<Tap<O::Item>>,
+    request: (usize, i64),
+    rouser: &mut Rouser,
+    received: &mut Log<O::Item>,
+) -> Result<()>
+    requires { AreTapsOf graph.now taps.old.items }
+    ensures { AreTapsOf graph.now taps.new.items }
+{
+    let (place, n) = request;
+    let Some(sub) = sub_at(taps, place) else {
+        bail!("a subscription has no tap")
+    };
+    if let Some(signal) = request_at(graph, taps, place, n) {
+        received.push((sub, signal))?;
+    }
+    rouser.rouse(u16::MAX);
+    for _ in 0..ALL {
+        match take_at(graph, taps, place) {
+            Some(signal) => received.push((sub, signal))?,
+            None => break,
+        }
+    }
+    Ok(())
+}
