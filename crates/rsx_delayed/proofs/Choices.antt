@@ -10,7 +10,7 @@ use Rattle.rsx_types.specs.Stream.{Stream, item_then, ending_signals}
 use Rattle.rsx_values.specs.Pick.{InputLeft, Taken, is_failure, next_here, next_of, numbered, rest_of, up_to_failure}
 use Rattle.rsx_values.specs.Merge.{merge, merge_inputs, merged}
 use Rattle.rsx_values.proofs.OneChoice.{merge_step, next_length}
-use Rattle.rsx_delayed.specs.Delayed.{NoneFails, all_of, fails, first_cause, merge_delay, merge_delayed_inputs, merged_delayed, pick_all, rest_of_all, taken_first}
+use Rattle.rsx_values.specs.Delayed.{NoneFails, all_of, fails, first_cause, merge_delay, merge_delayed_inputs, merged_delayed, pick_all, rest_of_all, taken_first}
 
 -- ---- one choice
 

@@ -6,7 +6,7 @@ use Rattle.rsx_queued.proofs.Changed.{fresh_left}
 use Rattle.rsx_queued.specs.declared.input.QueuedInput.{QueuedInput}
 use Rattle.rsx_queued.specs.declared.output.Output.{Output}
 use Rattle.rsx_queued.specs.Prelude.{fresh_input, first_output, output_then, first_values, inputs_left, picked, picked_same}
-use Rattle.rsx_delayed.specs.Delayed.{merge_delay, merge_delayed_inputs}
+use Rattle.rsx_values.specs.Delayed.{merge_delay, merge_delayed_inputs}
 use Rattle.rsx_delayed.specs.MergeDelay.{delayed_of}
 
 -- one of no inputs completes, and nothing can be chosen

@@ -1,7 +1,6 @@
 -- Lemmas about a merge that delays failures.
 pub mod Choices
 pub mod Fresh
-pub mod Muted
 pub mod Picked
 pub mod Rests
 pub mod Taken

@@ -15,7 +15,7 @@ use Rattle.rsx_queued.proofs.Picks.{unequal, next_first, next_beside, none_left}
 use Rattle.rsx_values.specs.Pick.{InputLeft, next_of}
 use Rattle.rsx_merging.proofs.Chosen.{IsPick}
 use Rattle.rsx_delayed.proofs.Choices.{delayed_step}
-use Rattle.rsx_delayed.specs.Delayed.{first_cause, merge_delayed_inputs}
+use Rattle.rsx_values.specs.Delayed.{first_cause, merge_delayed_inputs}
 use Rattle.rsx_delayed.specs.declared.merge_delay_node.MergeDelayNode.{MergeDelayNode}
 use Rattle.rsx_delayed.specs.MergeDelay.{delayed_behind, delayed_counted, delayed_done, delayed_ended, delayed_of, ending_out, last_signal}
 

@@ -7,7 +7,7 @@ use Rattle.rsx_queued.proofs.Picks.{none_more, padded}
 use Rattle.rsx_queued.specs.declared.input.QueuedInput.{QueuedInput}
 use Rattle.rsx_queued.specs.declared.output.Output.{Output}
 use Rattle.rsx_queued.specs.Prelude.{head_of, here, inputs_left, output_then, still, tail_of}
-use Rattle.rsx_delayed.specs.Delayed.{all_of, merge_delay, merge_delayed_inputs, merged_delayed, rest_of_all}
+use Rattle.rsx_values.specs.Delayed.{all_of, merge_delay, merge_delayed_inputs, merged_delayed, rest_of_all}
 use Rattle.rsx_delayed.specs.MergeDelay.{delayed_behind, delayed_of}
 use Rattle.rsx_delayed.specs.Rest.{all_values, kept_behind, left_behind, value_before, values_left}
 

@@ -10,7 +10,7 @@ use Rattle.rsx_queued.specs.declared.output.Output.TheVariants.{Empty, Waiting}
 use Rattle.rsx_values.specs.Pick.{InputLeft}
 use Rattle.rsx_values.specs.Record.{written}
 use Rattle.rsx_merging.specs.Merge.{IsGoing}
-use Rattle.rsx_delayed.specs.Delayed.{merge_delayed_inputs}
+use Rattle.rsx_values.specs.Delayed.{merge_delayed_inputs}
 use Rattle.rsx_delayed.specs.declared.merge_delay_node.MergeDelayNode.{MergeDelayNode}
 
 -- what was put out, and then the merge of these inputs under the further choices; behind an ending nothing can be chosen

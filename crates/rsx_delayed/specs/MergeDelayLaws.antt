@@ -6,7 +6,7 @@ use Rattle.rsx_queued.specs.Prelude.{inputs_left, has_ending, offers_ending, end
 use Rattle.rsx_queued.specs.declared.output.Output.{Output}
 use Rattle.rsx_queued.proofs.Wanting.{HasNext, Scanned, scan}
 use Rattle.rsx_values.specs.Pick.{InputLeft}
-use Rattle.rsx_delayed.specs.Delayed.{merge_delayed_inputs}
+use Rattle.rsx_values.specs.Delayed.{merge_delayed_inputs}
 use Rattle.rsx_delayed.specs.declared.merge_delay_node.MergeDelayNode.{MergeDelayNode}
 use Rattle.rsx_delayed.specs.MergeDelay.{delayed_behind, delayed_comes_out, delayed_waiting, delayed_takes, delayed_picks, delayed_ended, delayed_done, delayed_counted, delayed_wanted, delayed_recorded}
 

@@ -1,9 +1,9 @@
 -- What a merge that delays failures still gives where nothing more is chosen.
-use Rattle.std.specs.Prelude.{ℕ, ◌-◌, nat_eq, if◌then◌else◌, List, [], ◌∷◌, Option, Some, None}
+use Rattle.std.specs.Prelude.{ℕ, ◌-◌, List, [], ◌∷◌, Option, Some, None}
 use Rattle.rsx_sources.specs.Prelude.{Cause, Ending, Open, Done, Failed, Stream, ended_by, items_then}
 use Rattle.rsx_queued.specs.declared.input.QueuedInput.{QueuedInput}
 use Rattle.rsx_queued.specs.Prelude.{still, head_of, tail_of}
-use Rattle.rsx_delayed.specs.Delayed.{first_cause, ending_of}
+use Rattle.rsx_values.specs.Delayed.{ending_behind, first_cause}
 
 -- how many of so many inputs have not ended behind one with this ending
 abbrev pub left_behind : ℕ → Ending → ℕ
@@ -16,10 +16,6 @@ abbrev pub kept_behind : Option Cause → Ending → Option Cause
 kept_behind kept Open = kept
 kept_behind kept Done = kept
 kept_behind kept (Failed c) = first_cause kept c
-
--- the ending behind all, where so many have not ended and this failure is the first
-abbrev pub ending_behind : ℕ → Option Cause → Ending
-ending_behind left kept = if nat_eq left 0 then ending_of kept else Open
 
 -- one value behind the other: their items, and the ending, where so many inputs have not ended and this failure was taken first
 abbrev pub all_values : {T : Type 0} → ℕ → Option Cause → List (Stream T) → Stream T

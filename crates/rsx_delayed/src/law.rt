@@ -6,9 +6,9 @@ ghost use Rattle.rsx_types.specs.declared.signal.Cause.{Cause};
 ghost use Rattle.rsx_types.specs.declared.signal.Signal.{Signal};
 ghost use Rattle.rsx_values.specs.Merge.{merge};
 ghost use Rattle.rsx_values.specs.Pick.{InputLeft, next_of};
-ghost use Rattle.rsx_delayed.specs.Delayed.{NoneFails, merge_delay, merge_delayed_inputs, taken_first};
+ghost use Rattle.rsx_values.specs.Delayed.{NoneFails, merge_delay, merge_delayed_inputs, taken_first};
 ghost use Rattle.rsx_delayed.specs.Rest.{all_values};
-ghost use Rattle.rsx_delayed.specs.Worked.{EndsItsInput, FailsChosen, FailsFirst, FailsLast, GoesOn, StaysOpen};
+ghost use Rattle.rsx_values.specs.WorkedDelayed.{EndsItsInput, FailsChosen, FailsFirst, FailsLast, GoesOn, StaysOpen};
 
 /// Of values of which none fails it is the merge, under the same choices.
 pub fn same_as_merge<T: Drop>()

@@ -16,7 +16,5 @@
 pub mod law;
 pub mod merge_delay_node;
 mod remaining;
-pub mod whole_values;
 
 pub use merge_delay_node::MergeDelayNode;
-pub use whole_values::merge_delay;

@@ -3,16 +3,16 @@
 ghost use Rattle.std.specs.Prelude.{◌≡◌, ℕ, true, Option, Some, None};
 ghost use Rattle.rsx_types.specs.declared.signal.Cause.{Cause as CauseSpec};
 ghost use Rattle.rsx_queued.specs.Output.{first_output, is_empty};
-ghost use Rattle.rsx_delayed.specs.Delayed.{first_cause};
+ghost use Rattle.rsx_values.specs.Delayed.{first_cause};
 ghost use Rattle.rsx_delayed.specs.MergeDelay.{last_signal};
 
-use crate::remaining::{ValuesLeft, all_values, first_cause};
+use crate::remaining::{ValuesLeft, all_values};
 use rsx_queued::{
     InFront, Output, QueuedInput, are_gone, credits_at, first_output, front_at, front_of, takes_at,
 };
 use rsx_sources::{Front, Machine, NotMade, NotTaken, Passed};
 use rsx_types::{Cause, NoMemory, Note, Ops, Signal, StreamValue};
-use rsx_values::{Record, Run};
+use rsx_values::{Record, Run, first_cause};
 use std::alloc::Global;
 
 /// The items of its inputs, in the order in which they are picked, whatever fails. A failure that is picked ends its input alone:
@@ -53,7 +53,7 @@ impl<T: Drop> MergeDelayNode<T> {
     ghost use Rattle.rsx_queued.specs.Input.{fresh_input};
     ghost use Rattle.rsx_queued.specs.Values.{first_values};
     ghost use Rattle.rsx_queued.specs.Inputs.{are_gone, picked};
-    ghost use Rattle.rsx_delayed.specs.Delayed.{merge_delay};
+    ghost use Rattle.rsx_values.specs.Delayed.{merge_delay};
     ghost use Rattle.rsx_delayed.specs.MergeDelay.{delayed_comes_out, delayed_counted, ending_out};
 
     /// The merge of so many inputs, each with a queue of this capacity, 1 to [`LARGEST`](rsx_prefetch::LARGEST). That of no inputs

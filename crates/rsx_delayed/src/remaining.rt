@@ -2,22 +2,12 @@
 
 ghost use Rattle.std.specs.Prelude.{◌≡◌, List, length, IfOk};
 ghost use Rattle.rsx_types.specs.Stream.{Stream};
-ghost use Rattle.rsx_delayed.specs.Delayed.{first_cause};
-ghost use Rattle.rsx_delayed.specs.Rest.{all_values, ending_behind};
+ghost use Rattle.rsx_delayed.specs.Rest.{all_values};
 
 use rsx_queued::{QueuedInput, Remaining};
 use rsx_types::{Cause, Ending, NoMemory, Ops, StreamValue};
+use rsx_values::{ending_behind, first_cause};
 use std::alloc::Global;
-
-/// The failure that was taken first, after one with this cause was taken.
-pub(crate) fn first_cause(kept: Option<Cause>, cause: Cause) -> Option<Cause>
-    ensures { result ≡ first_cause kept cause }
-{
-    match kept {
-        None => Some(cause),
-        Some(first) => Some(first),
-    }
-}
 
 /// What still comes out of inputs whose endings were not taken out.
 pub(crate) trait ValuesLeft<T: Drop> {
@@ -130,17 +120,4 @@ pub(crate) fn all_values<T: Drop>(
         all.append(&mut items)?;
     }
     Ok(StreamValue::new(all, ending_behind(left, first)))
-}
-
-/// The ending of a merge of which so many inputs have not ended, and of which this failure was taken first.
-pub(crate) fn ending_behind(left: usize, first: Option<Cause>) -> Ending
-    ensures { result ≡ ending_behind left first }
-{
-    if left > 0 {
-        return Ending::Open;
-    }
-    match first {
-        None => Ending::Done,
-        Some(cause) => Ending::Failed(cause),
-    }
 }

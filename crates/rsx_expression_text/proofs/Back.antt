@@ -13,7 +13,7 @@ use Rattle.rsx_script.specs.declared.words.LineRefusal.TheVariants.{TooLong}
 use Rattle.rsx_script.specs.Words.{column_of, is_separator}
 use Rattle.rsx_script.specs.Numbers.{u8_of, u32_of, u64_of, signed_of}
 use Rattle.rsx_script.specs.Reading.{Left, ◌>>=◌, left_at, name_at, number_at, opening_at, closing_at, is_opening_next}
-use Rattle.rsx_script.specs.Orders.{Tree, Trees, items, range, hub, plain, concat, merge, zip, latest, group, window, flat, on, none, first}
+use Rattle.rsx_script.specs.Orders.{Tree, Trees, items, range, hub, plain, concat, merge, merge_delay, zip, latest, group, window, flat, on, none, first}
 use Rattle.rsx_script.specs.Expressions.{stage_at, range_at, hub_at, group_at, window_at, flat_at, on_at, one_input_at, over_one_at, operator_at, expression_at, inputs_at}
 use Rattle.rsx_script.specs.Commands.{expression_of_line, alone_at}
 use Rattle.rsx_script.proofs.Runs.{is_opening_at}
@@ -109,6 +109,7 @@ begins (hub h) end r = is_opening_at end 40 _ refl
 begins (plain g t) end r = is_opening_at end 40 _ refl
 begins (concat ts) end r = is_opening_at end 40 _ refl
 begins (merge p ts) end r = is_opening_at end 40 _ refl
+begins (merge_delay p ts) end r = is_opening_at end 40 _ refl
 begins (zip p ts) end r = is_opening_at end 40 _ refl
 begins (latest p ts) end r = is_opening_at end 40 _ refl
 begins (group f gs t) end r = is_opening_at end 40 _ refl
@@ -140,6 +141,11 @@ merge_is : (read : Reader) (most column p end : ℕ) (ts : Trees) (r : List ℕ)
     → operator_at read most column (codes "merge") (left_at end (32 ∷ (decimal p ++ (32 ∷ r)))) ≡ Ok (merge p ts, after)
 unfolding operator_at
 merge_is read most column p end ts r after k h = rw (u64_is p end 32 r k refl) (rw h refl)
+
+merge_delay_is : (read : Reader) (most column p end : ℕ) (ts : Trees) (r : List ℕ) (after : Left) → p < 2 ^ 64 → inputs_at read most (left_at end (32 ∷ r)) ≡ Ok (ts, after)
+    → operator_at read most column (codes "mergeDelayError") (left_at end (32 ∷ (decimal p ++ (32 ∷ r)))) ≡ Ok (merge_delay p ts, after)
+unfolding operator_at
+merge_delay_is read most column p end ts r after k h = rw (u64_is p end 32 r k refl) (rw h refl)
 
 zip_is : (read : Reader) (most column p end : ℕ) (ts : Trees) (r : List ℕ) (after : Left) → p < 2 ^ 64 → inputs_at read most (left_at end (32 ∷ r)) ≡ Ok (ts, after)
     → operator_at read most column (codes "zip") (left_at end (32 ∷ (decimal p ++ (32 ∷ r)))) ≡ Ok (zip p ts, after)
@@ -230,6 +236,13 @@ merge_front p (first t ts) most end r s h k =
     several_case most end (codes "merge") (decimal p ++ put_trees (first t ts) (41 ∷ r)) (merge p (first t ts)) (left_at end r) (word_of (codes "merge") refl)
     (merge_is (expression_at most) most _ p end (first t ts) (put_tree t (put_trees ts (41 ∷ r))) (left_at end r) s k)
 
+merge_delay_front : (p : ℕ) (ts : Trees) (most end : ℕ) (r : List ℕ) → p < 2 ^ 64 → AreLines ts → inputs_at (expression_at most) most (left_at end (put_trees ts (41 ∷ r))) ≡ Ok (ts, left_at end r)
+    → expression_at (suc most) (left_at end (codes "(mergeDelayError " ++ (decimal p ++ put_trees ts (41 ∷ r)))) ≡ Ok (merge_delay p ts, left_at end r)
+merge_delay_front p none most end r s h k = absurd h
+merge_delay_front p (first t ts) most end r s h k =
+    several_case most end (codes "mergeDelayError") (decimal p ++ put_trees (first t ts) (41 ∷ r)) (merge_delay p (first t ts)) (left_at end r) (word_of (codes "mergeDelayError") refl)
+    (merge_delay_is (expression_at most) most _ p end (first t ts) (put_tree t (put_trees ts (41 ∷ r))) (left_at end r) s k)
+
 zip_front : (p : ℕ) (ts : Trees) (most end : ℕ) (r : List ℕ) → p < 2 ^ 64 → AreLines ts → inputs_at (expression_at most) most (left_at end (put_trees ts (41 ∷ r))) ≡ Ok (ts, left_at end r)
     → expression_at (suc most) (left_at end (codes "(zip " ++ (decimal p ++ put_trees ts (41 ∷ r)))) ≡ Ok (zip p ts, left_at end r)
 zip_front p none most end r s h k = absurd h
@@ -251,6 +264,7 @@ some_weight (hub h) = omega arith
 some_weight (plain g t) = omega arith
 some_weight (concat ts) = omega arith
 some_weight (merge p ts) = omega arith
+some_weight (merge_delay p ts) = omega arith
 some_weight (zip p ts) = omega arith
 some_weight (latest p ts) = omega arith
 some_weight (group f gs t) = omega arith
@@ -272,6 +286,7 @@ mutual
       (tree_is t most end (41 ∷ r) h.1 (omega arith))
   tree_is (concat ts) most end r h k = concat_front ts most end r h (trees_are ts most most end r h (omega arith) (omega arith))
   tree_is (merge p ts) most end r h k = merge_front p ts most end r h.0 h.1 (trees_are ts most most end r h.1 (omega arith) (omega arith))
+  tree_is (merge_delay p ts) most end r h k = merge_delay_front p ts most end r h.0 h.1 (trees_are ts most most end r h.1 (omega arith) (omega arith))
   tree_is (zip p ts) most end r h k = zip_front p ts most end r h.0 h.1 (trees_are ts most most end r h.1 (omega arith) (omega arith))
   tree_is (latest p ts) most end r h k = latest_front p ts most end r h.0 h.1 (trees_are ts most most end r h.1 (omega arith) (omega arith))
   tree_is (group f gs t) zero end r h k = absurd (omega (arith, some_weight t))

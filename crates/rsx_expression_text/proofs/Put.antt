@@ -10,7 +10,7 @@ use Rattle.rsx_demo.specs.declared.val.Val.{Val}
 use Rattle.rsx_demo.specs.declared.names.Role.TheVariants as for
 use Rattle.rsx_demo.specs.Texts.{item_text}
 use Rattle.rsx_script.specs.Answers.{items_text}
-use Rattle.rsx_script.specs.Orders.{Tree, Trees, items, range, hub, plain, concat, merge, zip, latest, group, window, flat, on, none, first}
+use Rattle.rsx_script.specs.Orders.{Tree, Trees, items, range, hub, plain, concat, merge, merge_delay, zip, latest, group, window, flat, on, none, first}
 use Rattle.rsx_expression_text.specs.Names.{function_text}
 use Rattle.rsx_expression_text.specs.Text.{stage_text, stages_text, chain_text, tree_text, trees_text}
 
@@ -57,6 +57,7 @@ abbrev mutual
   put_tree (plain g t) r = 40 ∷ put_stage g (32 ∷ put_tree t (41 ∷ r))
   put_tree (concat ts) r = codes "(concat" ++ put_trees ts (41 ∷ r)
   put_tree (merge p ts) r = codes "(merge " ++ (decimal p ++ put_trees ts (41 ∷ r))
+  put_tree (merge_delay p ts) r = codes "(mergeDelayError " ++ (decimal p ++ put_trees ts (41 ∷ r))
   put_tree (zip p ts) r = codes "(zip " ++ (decimal p ++ put_trees ts (41 ∷ r))
   put_tree (latest p ts) r = codes "(combineLatest " ++ (decimal p ++ put_trees ts (41 ∷ r))
   put_tree (group f gs t) r = codes "(groupBy " ++ (function_text for.Key f ++ (32 ∷ put_chain gs (32 ∷ put_tree t (41 ∷ r))))
@@ -126,6 +127,7 @@ mutual
   tree_put (plain g t) r = ap (λ l. 40 ∷ l) (stage_put g (32 ∷ put_tree t (41 ∷ r)) ∙ two_put (stage_text g) (32 ∷ (tree_text t ++ (41 ∷ []))) _ r (ap (λ l. 32 ∷ l) (closed_put t r (tree_put t (41 ∷ r)))))
   tree_put (concat ts) r = ap (λ l. codes "(concat" ++ l) (all_put ts r (trees_put ts (41 ∷ r)))
   tree_put (merge p ts) r = ap (λ l. codes "(merge " ++ l) (two_put (decimal p) (trees_text ts ++ (41 ∷ [])) _ r (all_put ts r (trees_put ts (41 ∷ r))))
+  tree_put (merge_delay p ts) r = ap (λ l. codes "(mergeDelayError " ++ l) (two_put (decimal p) (trees_text ts ++ (41 ∷ [])) _ r (all_put ts r (trees_put ts (41 ∷ r))))
   tree_put (zip p ts) r = ap (λ l. codes "(zip " ++ l) (two_put (decimal p) (trees_text ts ++ (41 ∷ [])) _ r (all_put ts r (trees_put ts (41 ∷ r))))
   tree_put (latest p ts) r = ap (λ l. codes "(combineLatest " ++ l) (two_put (decimal p) (trees_text ts ++ (41 ∷ [])) _ r (all_put ts r (trees_put ts (41 ∷ r))))
   tree_put (group f gs t) r = ap (λ l. codes "(groupBy " ++ l) (two_put (function_text for.Key f) (32 ∷ (chain_text gs ++ (32 ∷ (tree_text t ++ (41 ∷ []))))) _ r (over_put gs t r (tree_put t (41 ∷ r))))
@@ -148,6 +150,7 @@ abbrev mutual
   weight (plain g t) = 1 + weight t
   weight (concat ts) = 1 + weights ts
   weight (merge p ts) = 1 + weights ts
+  weight (merge_delay p ts) = 1 + weights ts
   weight (zip p ts) = 1 + weights ts
   weight (latest p ts) = 1 + weights ts
   weight (group f gs t) = 2 + (length gs + weight t)
@@ -193,6 +196,7 @@ mutual
   weight_len (plain g t) r = omega (arith, stage_len g (32 ∷ put_tree t (41 ∷ r)), weight_len t (41 ∷ r))
   weight_len (concat ts) r = omega (arith, weights_len ts (41 ∷ r))
   weight_len (merge p ts) r = omega (arith, behind_len (decimal p) (put_trees ts (41 ∷ r)), weights_len ts (41 ∷ r))
+  weight_len (merge_delay p ts) r = omega (arith, behind_len (decimal p) (put_trees ts (41 ∷ r)), weights_len ts (41 ∷ r))
   weight_len (zip p ts) r = omega (arith, behind_len (decimal p) (put_trees ts (41 ∷ r)), weights_len ts (41 ∷ r))
   weight_len (latest p ts) r = omega (arith, behind_len (decimal p) (put_trees ts (41 ∷ r)), weights_len ts (41 ∷ r))
   weight_len (group f gs t) r = omega (arith, behind_len (function_text for.Key f) (32 ∷ put_chain gs (32 ∷ put_tree t (41 ∷ r))), chain_len gs (32 ∷ put_tree t (41 ∷ r)), weight_len t (41 ∷ r))

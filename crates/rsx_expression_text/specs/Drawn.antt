@@ -3,7 +3,7 @@ use Rattle.std.specs.Prelude.{ℕ, zero, suc, ◌+◌, List, [], ◌++◌, codes
 use Rattle.std.specs.Fmt.{decimal, signed_decimal}
 use Rattle.rsx_demo.specs.declared.names.Role.TheVariants as for
 use Rattle.rsx_script.specs.Answers.{items_text}
-use Rattle.rsx_script.specs.Orders.{Tree, Trees, items, range, hub, plain, concat, merge, zip, latest, group, window, flat, on, none, first}
+use Rattle.rsx_script.specs.Orders.{Tree, Trees, items, range, hub, plain, concat, merge, merge_delay, zip, latest, group, window, flat, on, none, first}
 use Rattle.rsx_expression_text.specs.Names.{function_text}
 use Rattle.rsx_expression_text.specs.Text.{chain_text, stage_text}
 
@@ -15,6 +15,7 @@ operator_text (hub h) = codes "hub " ++ decimal h
 operator_text (plain g t) = stage_text g
 operator_text (concat ts) = codes "concat"
 operator_text (merge p ts) = codes "merge " ++ decimal p
+operator_text (merge_delay p ts) = codes "mergeDelayError " ++ decimal p
 operator_text (zip p ts) = codes "zip " ++ decimal p
 operator_text (latest p ts) = codes "combineLatest " ++ decimal p
 operator_text (group f gs t) = codes "groupBy " ++ (function_text for.Key f ++ (codes " " ++ chain_text gs))
@@ -40,6 +41,7 @@ abbrev mutual
   nodes (plain g t) = 1 + nodes t
   nodes (concat ts) = 1 + all_nodes ts
   nodes (merge p ts) = 1 + all_nodes ts
+  nodes (merge_delay p ts) = 1 + all_nodes ts
   nodes (zip p ts) = 1 + all_nodes ts
   nodes (latest p ts) = 1 + all_nodes ts
   nodes (group f gs t) = 1 + nodes t
@@ -60,6 +62,7 @@ abbrev mutual
   rows_text depth number (plain g t) = row_text depth number (plain g t) ++ rows_text (depth + 1) (number + 1) t
   rows_text depth number (concat ts) = row_text depth number (concat ts) ++ all_rows_text (depth + 1) (number + 1) ts
   rows_text depth number (merge p ts) = row_text depth number (merge p ts) ++ all_rows_text (depth + 1) (number + 1) ts
+  rows_text depth number (merge_delay p ts) = row_text depth number (merge_delay p ts) ++ all_rows_text (depth + 1) (number + 1) ts
   rows_text depth number (zip p ts) = row_text depth number (zip p ts) ++ all_rows_text (depth + 1) (number + 1) ts
   rows_text depth number (latest p ts) = row_text depth number (latest p ts) ++ all_rows_text (depth + 1) (number + 1) ts
   rows_text depth number (group f gs t) = row_text depth number (group f gs t) ++ rows_text (depth + 1) (number + 1) t

@@ -10,7 +10,7 @@ use Rattle.rsx_demo.specs.declared.names.Role.TheVariants as for
 use Rattle.rsx_demo.specs.Texts.{item_text}
 use Rattle.rsx_script.specs.Commands.{expression_of_line}
 use Rattle.rsx_script.specs.Answers.{items_text}
-use Rattle.rsx_script.specs.Orders.{Tree, Trees, items, range, hub, plain, concat, merge, zip, latest, group, window, flat, on, none, first}
+use Rattle.rsx_script.specs.Orders.{Tree, Trees, items, range, hub, plain, concat, merge, merge_delay, zip, latest, group, window, flat, on, none, first}
 use Rattle.rsx_expression_text.specs.Names.{name_of, function_text}
 
 -- a plain operator, without its parentheses and its input
@@ -40,6 +40,7 @@ abbrev mutual
   tree_text (plain g t) = codes "(" ++ (stage_text g ++ (codes " " ++ (tree_text t ++ codes ")")))
   tree_text (concat ts) = codes "(concat" ++ (trees_text ts ++ codes ")")
   tree_text (merge p ts) = codes "(merge " ++ (decimal p ++ (trees_text ts ++ codes ")"))
+  tree_text (merge_delay p ts) = codes "(mergeDelayError " ++ (decimal p ++ (trees_text ts ++ codes ")"))
   tree_text (zip p ts) = codes "(zip " ++ (decimal p ++ (trees_text ts ++ codes ")"))
   tree_text (latest p ts) = codes "(combineLatest " ++ (decimal p ++ (trees_text ts ++ codes ")"))
   tree_text (group f gs t) = codes "(groupBy " ++ (function_text for.Key f ++ (codes " " ++ (chain_text gs ++ (codes " " ++ (tree_text t ++ codes ")")))))
@@ -89,6 +90,7 @@ abbrev mutual
   IsLine (plain g t) = IsLineStage g × IsLine t
   IsLine (concat ts) = AreLines ts
   IsLine (merge p ts) = (p < 2 ^ 64) × AreLines ts
+  IsLine (merge_delay p ts) = (p < 2 ^ 64) × AreLines ts
   IsLine (zip p ts) = (p < 2 ^ 64) × AreLines ts
   IsLine (latest p ts) = (p < 2 ^ 64) × AreLines ts
   IsLine (group f gs t) = IsSome (name_of for.Key f) × AreLineStages gs × IsLine t

@@ -54,6 +54,7 @@ fn add_tree(
         Expr::Plain(_, below) => add_tree(depth + 1, number + 1, below, text),
         Expr::Concat(inputs) => add_trees(depth + 1, number + 1, inputs, text),
         Expr::Merge(_, inputs) => add_trees(depth + 1, number + 1, inputs, text),
+        Expr::MergeDelay(_, inputs) => add_trees(depth + 1, number + 1, inputs, text),
         Expr::Zip(_, inputs) => add_trees(depth + 1, number + 1, inputs, text),
         Expr::Latest(_, inputs) => add_trees(depth + 1, number + 1, inputs, text),
         Expr::Group(_, _, below) => add_tree(depth + 1, number + 1, below, text),
@@ -133,6 +134,7 @@ impl fmt::Display for Operator<'_> {
             Expr::Plain(stage, _) => write!(f, "{}", OneStage(stage)),
             Expr::Concat(_) => f.write_str("concat"),
             Expr::Merge(prefetch, _) => write!(f, "merge {prefetch}"),
+            Expr::MergeDelay(prefetch, _) => write!(f, "mergeDelayError {prefetch}"),
             Expr::Zip(prefetch, _) => write!(f, "zip {prefetch}"),
             Expr::Latest(prefetch, _) => write!(f, "combineLatest {prefetch}"),
             Expr::Group(key, stages, _) => {

@@ -55,6 +55,11 @@ fn write_tree<W: fmt::Write>(f: &mut fmt::Formatter<W>, expr: &Expr<Val>) -> fmt
             write_trees(f, inputs)?;
             f.write_str(")")
         }
+        Expr::MergeDelay(prefetch, inputs) => {
+            write!(f, "(mergeDelayError {prefetch}")?;
+            write_trees(f, inputs)?;
+            f.write_str(")")
+        }
         Expr::Zip(prefetch, inputs) => {
             write!(f, "(zip {prefetch}")?;
             write_trees(f, inputs)?;

@@ -5,7 +5,7 @@ use Rattle.rsx_types.specs.declared.names.HubId.{HubId}
 use Rattle.rsx_types.specs.declared.stage.Stage.{Stage}
 use Rattle.rsx_types.specs.declared.fault.NoMemory.{NoMemory}
 use Rattle.rsx_model.specs.declared.expr.Expr.{Expr}
-use Rattle.rsx_model.specs.declared.expr.Expr.TheOpen.{Expr-F, Items, Range, Hub, Plain, Concat, Merge, Zip, Latest, Group, Window, Flat, On}
+use Rattle.rsx_model.specs.declared.expr.Expr.TheOpen.{Expr-F, Items, Range, Hub, Plain, Concat, Merge, MergeDelay, Zip, Latest, Group, Window, Flat, On}
 use Rattle.rsx_model.specs.declared.expr.Expr.TheViews.{out-Expr}
 
 -- an operator with its numbers and what it stands over, without where that lies in memory
@@ -16,6 +16,7 @@ pub data Root (T A : Type 0) : Type 0 where
   plain : Stage T → A → Root T A
   concat : List A → Root T A
   merge : ℕ → List A → Root T A
+  merge_delay : ℕ → List A → Root T A
   zip : ℕ → List A → Root T A
   latest : ℕ → List A → Root T A
   group : ℕ → List (Stage T) → A → Root T A
@@ -30,6 +31,7 @@ root_of (Hub h) = hub h
 root_of (Plain g b) = plain g b.value
 root_of (Concat v) = concat v.items
 root_of (Merge p v) = merge p v.items
+root_of (MergeDelay p v) = merge_delay p v.items
 root_of (Zip p v) = zip p v.items
 root_of (Latest p v) = latest p v.items
 root_of (Group f gs b) = group f gs.items b.value

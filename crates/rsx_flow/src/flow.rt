@@ -2,7 +2,7 @@
 
 ghost use Rattle.std.specs.Prelude.{◌≡◌, Some, IsSomeAnd, map};
 ghost use Rattle.rsx_flow.specs.Built.{built};
-ghost use Rattle.rsx_flow.specs.Flow.{IfMade, Makes, Unwraps, all_of, made_of, made_items, root, items as of_items, range as of_range, hub as of_hub, concat as of_concat, merge as of_merge, zip as of_zip, latest as of_latest};
+ghost use Rattle.rsx_flow.specs.Flow.{IfMade, Makes, Unwraps, all_of, made_of, made_items, root, items as of_items, range as of_range, hub as of_hub, concat as of_concat, merge as of_merge, merge_delay as of_merge_delay, zip as of_zip, latest as of_latest};
 
 use crate::flux::Flux;
 use crate::inputs::Inputs;
@@ -76,6 +76,16 @@ impl Flow {
         )
     }
 
+    /// As [`merge`](Flow::merge), but a failure ends its input alone: the first one taken goes out once all inputs have ended.
+    pub fn merge_delay_error<T: Drop, I: Inputs<T>>(self, prefetch: Prefetch, inputs: I) -> Flux<T>
+        ensures { Makes (of_merge_delay prefetch.0) (all_of (I.inputs inputs)) (built result) }
+    {
+        Flux::new(
+            self.alloc,
+            merge_delay_of(prefetch.0, exprs_of(self.alloc, inputs)),
+        )
+    }
+
     /// Rows of one item of each input, by `Ops::row`, as long as all have one.
     pub fn zip<T: Drop, I: Inputs<T>>(self, prefetch: Prefetch, inputs: I) -> Flux<T>
         ensures { Makes (of_zip prefetch.0) (all_of (I.inputs inputs)) (built result) }
@@ -135,6 +145,16 @@ fn merge_of<T: Drop>(
     ensures { Makes (of_merge prefetch) (made_items inputs) (made_of result) }
 {
     Ok(Expr::Merge(prefetch, inputs?))
+}
+
+/// A `mergeDelayError` of these.
+fn merge_delay_of<T: Drop>(
+    prefetch: u64,
+    inputs: Result<Vec<Expr<T>>, NoMemory>,
+) -> Result<Expr<T>, NoMemory>
+    ensures { Makes (of_merge_delay prefetch) (made_items inputs) (made_of result) }
+{
+    Ok(Expr::MergeDelay(prefetch, inputs?))
 }
 
 /// A `zip` of these.

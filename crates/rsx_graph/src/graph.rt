@@ -232,8 +232,8 @@ impl<O: Ops> Graph<O> {
     /// # Errors
     /// G8 where a growth was refused; the moves made before stand, and their deliveries are in `out`. Where no hub has a feed it
     /// comes only where `out` has no room for one signal more, where a signal waits in the inbox of a hub, or where some node of a
-    /// subscription's tree may allocate: a `buffer`, a `distinct`, a `window`, a `merge`, a `combineLatest`, a `flatMap` or a
-    /// `groupBy`, or a node that calls a function of the caller's whose [`Ops`] says that it may (`allocates`).
+    /// subscription's tree may allocate: a `buffer`, a `distinct`, a `window`, a `merge`, a `mergeDelayError`, a `combineLatest`, a
+    /// `flatMap` or a `groupBy`, or a node that calls a function of the caller's whose [`Ops`] says that it may (`allocates`).
     pub fn pump(
         &mut self,
         alloc: Global,

@@ -33,7 +33,7 @@ const NUMBERS: [(&str, &str); 4] = [
 ];
 
 /// The other words that are tried.
-const WORDS: [&str; 51] = [
+const WORDS: [&str; 52] = [
     "(",
     ")",
     "m",
@@ -69,6 +69,7 @@ const WORDS: [&str; 51] = [
     "merge",
     "zip",
     "combineLatest",
+    "mergeDelayError",
     "groupBy",
     "window",
     "flatMap",

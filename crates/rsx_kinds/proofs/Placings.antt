@@ -5,7 +5,7 @@ use Rattle.std.proofs.lemmas.Bool.{eq-eqb}
 use Rattle.rsx_sources.specs.Prelude.{NoMemory, HubId, Stage}
 use Rattle.rsx_kinds.specs.Prelude.{AnyNode, ArePlaced, End, Expr, Expr-F, Inputs, IsAlone, IsCrossed, IsInFront, IsOverOne, IsPlaced, IsPlacedOver, IsPlainOver, More', Node, Placed, TreeNode, children, crossings, differ, fold_out-Expr, fresh_crossings, is_crossing, map-Expr, opposite, placed, placed_beside, placed_here, placed_in, plain_ended, region_from, region_of, worker_here}
 use Rattle.rsx_model.specs.declared.expr.Expr.TheOpen as layer
-use Rattle.rsx_model.specs.declared.expr.Expr.TheViews.{Plain as PlainOf, Concat as ConcatOf, Merge as MergeOf, Zip as ZipOf, Latest as LatestOf, Group as GroupOf, Window as WindowOf, Flat as FlatOf, On as OnOf, out-Expr, outs-Items, outs-Range, outs-Hub, outs-Plain, outs-Concat, outs-Merge, outs-Zip, outs-Latest, outs-Group, outs-Window, outs-Flat, outs-On}
+use Rattle.rsx_model.specs.declared.expr.Expr.TheViews.{Plain as PlainOf, Concat as ConcatOf, Merge as MergeOf, MergeDelay as MergeDelayOf, Zip as ZipOf, Latest as LatestOf, Group as GroupOf, Window as WindowOf, Flat as FlatOf, On as OnOf, out-Expr, outs-Items, outs-Range, outs-Hub, outs-Plain, outs-Concat, outs-Merge, outs-MergeDelay, outs-Zip, outs-Latest, outs-Group, outs-Window, outs-Flat, outs-On}
 use Rattle.rsx_model.specs.declared.expr.Expr.TheVariants.{Items as ItemsOf, Range as RangeOf, Hub as HubOf}
 use Rattle.rsx_model.proofs.Unfold.{Each, by_children, children-map}
 use Rattle.rsx_tree.specs.Prelude.{closed_row, closed_row_if, IsJoined}
@@ -171,6 +171,9 @@ placed_Concat e v items r is all o = several_if e items r (worker_is e (ConcatOf
 
 pub placed_Merge : {T E : Type 0} (e : Expr T) (p : ℕ) (v : Vec (Expr T) Global) (items : List (Expr T)) (r : Result (Node (TreeNode T)) E) → e ≡ MergeOf p v → items ≡ v.items → IfOk r (λ t. IsPlacedOver items t) → IfOk r (λ t. IsPlaced e false t)
 placed_Merge e p v items r is all o = several_if e items r (worker_is e (MergeOf p v) None is (rw (outs-Merge) refl)) (kids_are e (MergeOf p v) items is (rw (outs-Merge) (sym all))) o
+
+pub placed_MergeDelay : {T E : Type 0} (e : Expr T) (p : ℕ) (v : Vec (Expr T) Global) (items : List (Expr T)) (r : Result (Node (TreeNode T)) E) → e ≡ MergeDelayOf p v → items ≡ v.items → IfOk r (λ t. IsPlacedOver items t) → IfOk r (λ t. IsPlaced e false t)
+placed_MergeDelay e p v items r is all o = several_if e items r (worker_is e (MergeDelayOf p v) None is (rw (outs-MergeDelay) refl)) (kids_are e (MergeDelayOf p v) items is (rw (outs-MergeDelay) (sym all))) o
 
 pub placed_Zip : {T E : Type 0} (e : Expr T) (p : ℕ) (v : Vec (Expr T) Global) (items : List (Expr T)) (r : Result (Node (TreeNode T)) E) → e ≡ ZipOf p v → items ≡ v.items → IfOk r (λ t. IsPlacedOver items t) → IfOk r (λ t. IsPlaced e false t)
 placed_Zip e p v items r is all o = several_if e items r (worker_is e (ZipOf p v) None is (rw (outs-Zip) refl)) (kids_are e (ZipOf p v) items is (rw (outs-Zip) (sym all))) o

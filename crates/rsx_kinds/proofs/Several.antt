@@ -3,16 +3,16 @@ use Rattle.std.proofs.Common.{◌≡◌, inr, ℕ, zero, suc, ◌+◌, ◌*◌, 
 use Rattle.std.specs.Prelude.{IfOk}
 use Rattle.std.proofs.Math.ListN.{replicate}
 use Rattle.rsx_sources.specs.Prelude.{Meaning, Stream, Note, Nothing, Picks, Ended, incoming_of}
-use Rattle.rsx_values.specs.Prelude.{concat, merge, combine_latest, zip}
+use Rattle.rsx_values.specs.Prelude.{concat, merge, merge_delay, combine_latest, zip}
 use Rattle.rsx_queued.specs.Values.{first_values}
 use Rattle.rsx_kinds.specs.Prelude.{AreBuilt, Direct, Expr, GivesKind, HubState, Inputs, IsBuilt, IsBuiltOver, IsUnrecorded, IsWithin, MOST_INPUTS, MOST_PREFETCH, Meant, Node, Several, SeveralKind, SeveralNode, StandAt, TreeNode, any_machine, ended_by_record, environment, first_fault, first_of, first_wanted, fresh_beside, fresh_edges, fresh_wants, in_order, inputs_fit, joined, meant, new_joins, new_joins_of, nodes, out_of, prefetch_fits, queued_fault, recorded_first, several_counted, several_ended, several_recorded, several_wanted, sum_of, unless, wants_beside}
-use Rattle.rsx_model.specs.declared.expr.Expr.TheViews.{Concat as ConcatOf, Merge as MergeOf, Zip as ZipOf, Latest as LatestOf, outs-Concat, outs-Merge, outs-Zip, outs-Latest}
+use Rattle.rsx_model.specs.declared.expr.Expr.TheViews.{Concat as ConcatOf, Merge as MergeOf, MergeDelay as MergeDelayOf, Zip as ZipOf, Latest as LatestOf, outs-Concat, outs-Merge, outs-MergeDelay, outs-Zip, outs-Latest}
 use Rattle.rsx_model.specs.declared.check.BadExpr.TheVariants.{Inputs as TooManyInputs, Number}
-use Rattle.rsx_model.proofs.Unfold.{fault_Concat, fault_Merge, fault_Zip, fault_Latest, nodes_Concat, nodes_Merge, nodes_Zip, nodes_Latest, or_none, value_Concat, value_Merge, value_Zip, value_Latest}
+use Rattle.rsx_model.proofs.Unfold.{fault_Concat, fault_Merge, fault_MergeDelay, fault_Zip, fault_Latest, nodes_Concat, nodes_Merge, nodes_MergeDelay, nodes_Zip, nodes_Latest, or_none, value_Concat, value_Merge, value_MergeDelay, value_Zip, value_Latest}
 use Rattle.rsx_prefetch.specs.declared.TheConstants.{LARGEST}
 use Rattle.std.proofs.lemmas.Bool.Decides.{nat_tests}
 use Rattle.std.proofs.lemmas.List.{length-map}
-use Rattle.rsx_kinds.specs.declared.kind.SeveralKind.TheVariants.{Concat, Merge, Zip, Latest}
+use Rattle.rsx_kinds.specs.declared.kind.SeveralKind.TheVariants.{Concat, Merge, MergeDelay, Zip, Latest}
 use Rattle.rsx_tree.proofs.Rows.{then_same}
 use Rattle.rsx_kinds.proofs.NodeValues.{picked_value, quiet_value}
 use Rattle.rsx_rooted.proofs.Rows.{fresh_edges_out, leaf_joins_out}
@@ -61,8 +61,11 @@ out_several m hubs n kind count fresh some (Some vs) lengths note =
 unrecorded_first : (kind : SeveralKind) → IsUnrecorded (recorded_first kind)
 unrecorded_first Concat k = refl
 unrecorded_first (Merge p) Nothing = refl
+unrecorded_first (MergeDelay p) Nothing = refl
 unrecorded_first (Merge p) (Picks cs) = refl
+unrecorded_first (MergeDelay p) (Picks cs) = refl
 unrecorded_first (Merge p) (Ended o) = refl
+unrecorded_first (MergeDelay p) (Ended o) = refl
 unrecorded_first (Zip p) Nothing = refl
 unrecorded_first (Zip p) (Picks cs) = refl
 unrecorded_first (Zip p) (Ended None) = refl
@@ -155,8 +158,20 @@ over_merge m hubs p v = record {
   wants_are = rw (fresh_wants_out, outs-Merge) refl;
 }
 
+over_merge_delay : {T : Type 0} (m : Meaning T) (hubs : List (HubState T)) (p : ℕ) (v : Listed T) → IsOver m hubs (MergeDelay p) v.items (MergeDelayOf p v)
+over_merge_delay m hubs p v = record {
+  value = λ whole joins further at leaf.
+      value_MergeDelay (environment m whole joins further) p v at leaf ∙ picked_value merge_delay (in_order (map (meant (environment m whole joins further)) v.items) (at + 1) leaf) (slice_get further at);
+  joins_are = rw (leaf_joins_out, outs-MergeDelay) refl;
+  edges_are = rw (fresh_edges_out, outs-MergeDelay) refl;
+  wants_are = rw (fresh_wants_out, outs-MergeDelay) refl;
+}
+
 pub built_merge : {T E : Type 0} (m : Meaning T) (hubs : List (HubState T)) (e : Expr T) (p : ℕ) (v : Listed T) (items : List (Expr T)) (r : Result (Node (TreeNode T)) E) → e ≡ MergeOf p v → items ≡ v.items → IfOk r (λ t. IsBuiltOver m hubs (Merge p) items t) → IfOk r (λ t. IsBuilt m hubs e t)
 built_merge m hubs e p v items r is all w = if_built m hubs (Merge p) v.items items (MergeOf p v) e r is all (over_merge m hubs p v) w
+
+pub built_merge_delay : {T E : Type 0} (m : Meaning T) (hubs : List (HubState T)) (e : Expr T) (p : ℕ) (v : Listed T) (items : List (Expr T)) (r : Result (Node (TreeNode T)) E) → e ≡ MergeDelayOf p v → items ≡ v.items → IfOk r (λ t. IsBuiltOver m hubs (MergeDelay p) items t) → IfOk r (λ t. IsBuilt m hubs e t)
+built_merge_delay m hubs e p v items r is all w = if_built m hubs (MergeDelay p) v.items items (MergeDelayOf p v) e r is all (over_merge_delay m hubs p v) w
 
 over_zip : {T : Type 0} (m : Meaning T) (hubs : List (HubState T)) (p : ℕ) (v : Listed T) → IsOver m hubs (Zip p) v.items (ZipOf p v)
 over_zip m hubs p v = record {
@@ -224,6 +239,14 @@ limits_Merge {T} hubs e p v items is all h =
     let n = nodes_Merge p v in
     let L : List (Expr T) → Type 0 = λ l. IsLimited hubs (Merge p) e l in
     subst L (sym all) (record { few = q.0; within = q.1; faultless = f.1; smaller = smaller_node e (MergeOf p v) v.items is n })
+
+pub limits_MergeDelay : {T : Type 0} (hubs : ℕ) (e : Expr T) (p : ℕ) (v : Listed T) (items : List (Expr T)) → e ≡ MergeDelayOf p v → items ≡ v.items → first_fault hubs e ≡ None → IsLimited hubs (MergeDelay p) e items
+limits_MergeDelay {T} hubs e p v items is all h =
+    let f = fault_MergeDelay hubs p v (ap (first_fault hubs) (sym is) ∙ h) in
+    let q = queued_limits hubs p v.items f.0 in
+    let n = nodes_MergeDelay p v in
+    let L : List (Expr T) → Type 0 = λ l. IsLimited hubs (MergeDelay p) e l in
+    subst L (sym all) (record { few = q.0; within = q.1; faultless = f.1; smaller = smaller_node e (MergeDelayOf p v) v.items is n })
 
 pub limits_Zip : {T : Type 0} (hubs : ℕ) (e : Expr T) (p : ℕ) (v : Listed T) (items : List (Expr T)) → e ≡ ZipOf p v → items ≡ v.items → first_fault hubs e ≡ None → IsLimited hubs (Zip p) e items
 limits_Zip {T} hubs e p v items is all h =

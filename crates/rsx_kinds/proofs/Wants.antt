@@ -10,7 +10,7 @@ use Rattle.rsx_model.specs.declared.expr.Expr.TheOpen as layer
 use Rattle.rsx_model.specs.declared.expr.Expr.TheViews.{Plain, Group, Window, Flat, On, out-Expr, outs-Items, outs-Range, outs-Hub, outs-Plain, outs-Group, outs-Window, outs-Flat, outs-On}
 use Rattle.rsx_model.specs.declared.expr.Expr.TheVariants.{Items, Range, Hub}
 use Rattle.rsx_model.proofs.Unfold.{children-map}
-use Rattle.rsx_kinds.specs.declared.kind.SeveralKind.TheVariants.{Concat, Merge, Zip, Latest}
+use Rattle.rsx_kinds.specs.declared.kind.SeveralKind.TheVariants.{Concat, Merge, MergeDelay, Zip, Latest}
 
 -- ---- of a tree
 
@@ -48,6 +48,7 @@ first_wanted_each : (kind : SeveralKind) (i : ℕ) → first_wanted kind i 0 ≡
 first_wanted_each Concat zero = refl
 first_wanted_each Concat (suc i) = refl
 first_wanted_each (Merge p) i = refl
+first_wanted_each (MergeDelay p) i = refl
 first_wanted_each (Zip p) i = refl
 first_wanted_each (Latest p) i = refl
 

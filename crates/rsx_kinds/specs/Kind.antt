@@ -2,11 +2,11 @@
 use Rattle.std.specs.Prelude.{◌≡◌, ⊤, ℕ, zero, suc, ◌≤◌, List, [], ◌∷◌, Option, None}
 use Rattle.rsx_sources.specs.Prelude.{Note, Nothing, Picks, Ended, Meaning, Stream, Incoming, quiet}
 use Rattle.rsx_prefetch.specs.declared.TheConstants.{LARGEST}
-use Rattle.rsx_values.specs.Prelude.{concat, merge, combine_latest, zip}
+use Rattle.rsx_values.specs.Prelude.{concat, merge, merge_delay, combine_latest, zip}
 use Rattle.rsx_queued.specs.Prelude.{picked, first_values}
 use Rattle.rsx_combining.specs.Zip.{recorded_ending}
 use Rattle.rsx_kinds.specs.declared.kind.SeveralKind.{SeveralKind}
-use Rattle.rsx_kinds.specs.declared.kind.SeveralKind.TheVariants.{Concat, Merge, Zip, Latest}
+use Rattle.rsx_kinds.specs.declared.kind.SeveralKind.TheVariants.{Concat, Merge, MergeDelay, Zip, Latest}
 use Rattle.rsx_kinds.specs.declared.several_node.SeveralNode.{SeveralNode}
 use Rattle.rsx_kinds.specs.Several.{several_comes_out}
 
@@ -14,6 +14,7 @@ use Rattle.rsx_kinds.specs.Several.{several_comes_out}
 abbrev pub IsWithin : SeveralKind → Type 0
 IsWithin Concat = ⊤
 IsWithin (Merge p) = (1 ≤ p) × (p ≤ LARGEST)
+IsWithin (MergeDelay p) = (1 ≤ p) × (p ≤ LARGEST)
 IsWithin (Zip p) = (1 ≤ p) × (p ≤ LARGEST)
 IsWithin (Latest p) = (1 ≤ p) × (p ≤ LARGEST)
 
@@ -21,6 +22,7 @@ IsWithin (Latest p) = (1 ≤ p) × (p ≤ LARGEST)
 abbrev pub joined : {T : Type 0} → Meaning T → SeveralKind → Note → List (Stream T) → Option (Stream T)
 joined m Concat k vs = quiet k (concat vs)
 joined m (Merge p) k vs = picked k (λ cs. merge cs vs)
+joined m (MergeDelay p) k vs = picked k (λ cs. merge_delay cs vs)
 joined m (Zip p) k vs = recorded_ending k (λ o. zip m.row_of o vs)
 joined m (Latest p) k vs = picked k (λ cs. combine_latest m.row_of cs vs)
 
@@ -34,6 +36,7 @@ GivesKind {T} n kind inputs =
 abbrev pub recorded_first : SeveralKind → Note
 recorded_first Concat = Nothing
 recorded_first (Merge p) = Picks []
+recorded_first (MergeDelay p) = Picks []
 recorded_first (Zip p) = Ended None
 recorded_first (Latest p) = Picks []
 
@@ -42,5 +45,6 @@ abbrev pub first_wanted : SeveralKind → ℕ → ℕ → ℕ
 first_wanted Concat zero asked = asked
 first_wanted Concat (suc i) asked = 0
 first_wanted (Merge p) i asked = p
+first_wanted (MergeDelay p) i asked = p
 first_wanted (Zip p) i asked = p
 first_wanted (Latest p) i asked = p

@@ -20,7 +20,7 @@ use Rattle.rsx_kinds.specs.Several.{several_comes_out}
 use Rattle.rsx_kinds.specs.Source.{source_comes_out, source_reads}
 use Rattle.rsx_kinds.specs.declared.any_node.AnyNode.TheVariants.{Source, Plain, Several, PublishOn, Window, FlatMap, GroupBy}
 use Rattle.rsx_kinds.specs.declared.several_node.SeveralNode.{SeveralNode}
-use Rattle.rsx_kinds.specs.declared.several_node.SeveralNode.TheVariants.{Concat, Merge, Zip, Latest}
+use Rattle.rsx_kinds.specs.declared.several_node.SeveralNode.TheVariants.{Concat, Merge, MergeDelay, Zip, Latest}
 use Rattle.rsx_kinds.specs.declared.source_node.SourceNode.{SourceNode}
 use Rattle.rsx_kinds.specs.declared.source_node.SourceNode.TheVariants.{Items, Range, Hub}
 
@@ -35,7 +35,9 @@ several_local : {T : Type 0} (m : Meaning T) (n : SeveralNode T) (hubs others vs
 several_local m (Concat n) hubs others [] k = refl
 several_local m (Concat n) hubs others (v ∷ vs) k = refl
 several_local m (Merge n) hubs others [] k = refl
+several_local m (MergeDelay n) hubs others [] k = refl
 several_local m (Merge n) hubs others (v ∷ vs) k = refl
+several_local m (MergeDelay n) hubs others (v ∷ vs) k = refl
 several_local m (Zip n) hubs others [] k = refl
 several_local m (Zip n) hubs others (v ∷ vs) k = refl
 several_local m (Latest n) hubs others [] k = refl

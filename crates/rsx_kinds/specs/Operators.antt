@@ -31,6 +31,7 @@ plain_operator (plain.Distinct f k r) = operator.Distinct
 abbrev pub several_operator : {T : Type 0} → SeveralNode T → Operator
 several_operator (several.Concat n) = operator.Concat
 several_operator (several.Merge n) = operator.Merge
+several_operator (several.MergeDelay n) = operator.MergeDelay
 several_operator (several.Zip n) = operator.Zip
 several_operator (several.Latest n) = operator.CombineLatest
 

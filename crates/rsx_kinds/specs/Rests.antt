@@ -3,7 +3,7 @@ use Rattle.std.proofs.Common.{◌≡◌, ℕ, ◌<◌, false, List, ◌∷◌, S
 use Rattle.rsx_sources.specs.Prelude.{Open, Meaning, unchosen, ended_by, AreWithin, Incoming}
 use Rattle.rsx_kinds.specs.Several.{several_comes_out, several_counted, several_done, several_ended, several_picks, several_recorded, several_rows, several_takes, several_waiting, several_wanted}
 use Rattle.rsx_kinds.specs.declared.several_node.SeveralNode.{SeveralNode}
-use Rattle.rsx_kinds.specs.declared.several_node.SeveralNode.TheVariants.{Concat, Merge, Zip, Latest}
+use Rattle.rsx_kinds.specs.declared.several_node.SeveralNode.TheVariants.{Concat, Merge, MergeDelay, Zip, Latest}
 use Rattle.rsx_merging.proofs.Rests.{flat_rests}
 use Rattle.rsx_grouping.proofs.Rests.{group_rests}
 use Rattle.rsx_kinds.specs.Any.{TreeNode, any_machine, kind_machine}
@@ -12,7 +12,7 @@ use Rattle.rsx_kinds.specs.declared.any_node.AnyNode.{AnyNode}
 use Rattle.rsx_kinds.specs.declared.any_node.AnyNode.TheVariants.{Source, Plain, Several, PublishOn, Window, FlatMap, GroupBy}
 use Rattle.rsx_kinds.specs.ConcatRests.{concat_rests}
 use Rattle.rsx_kinds.specs.LatestRests.{latest_rests}
-use Rattle.rsx_kinds.specs.MergeRests.{merge_rests}
+use Rattle.rsx_kinds.specs.MergeRests.{merge_delay_rests, merge_rests}
 use Rattle.rsx_kinds.specs.OneInputRests.{plain_rests, publish_rests, window_rests}
 use Rattle.rsx_kinds.specs.SenderRests.{sender_rests}
 use Rattle.rsx_kinds.specs.SourcesRests.{source_rests}
@@ -23,6 +23,7 @@ several_rests : {T : Type 0} (m : Meaning T) (n : SeveralNode T) (taken : List �
     IsStuck several_picks several_rows n asked sent → NothingComes several_takes several_done several_wanted n taken asked sent (inc.first ∷ inc.others) → several_comes_out m n inc (unchosen (several_recorded n)) ≡ Some (ended_by Open)
 several_rests m (Concat n) taken asked sent inc still counted waits more within stuck none = concat_rests m n taken asked sent inc still counted waits more within none
 several_rests m (Merge n) taken asked sent inc still counted waits more within stuck none = merge_rests m n taken asked sent inc counted waits more within stuck.0 none
+several_rests m (MergeDelay n) taken asked sent inc still counted waits more within stuck none = merge_delay_rests m n taken asked sent inc counted waits more within stuck.0 none
 several_rests m (Zip n) taken asked sent inc still counted waits more within stuck none = zip_rests m n taken asked sent inc counted waits more within stuck.0 stuck.1 none
 several_rests m (Latest n) taken asked sent inc still counted waits more within stuck none = latest_rests m n taken asked sent inc counted waits more within stuck.0 none
 

@@ -8,6 +8,8 @@ pub enum SeveralKind {
     Concat,
     /// The items of all inputs, as they are picked.
     Merge(u64),
+    /// The same, but a failure ends its input alone.
+    MergeDelay(u64),
     /// Rows of one item of each input.
     Zip(u64),
     /// Rows of the latest items of the inputs.

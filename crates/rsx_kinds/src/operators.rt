@@ -67,6 +67,7 @@ fn operator_of_several<T: Drop>(node: &SeveralNode<T>) -> Operator
     match node {
         SeveralNode::Concat(_) => Operator::Concat,
         SeveralNode::Merge(_) => Operator::Merge,
+        SeveralNode::MergeDelay(_) => Operator::MergeDelay,
         SeveralNode::Zip(_) => Operator::Zip,
         SeveralNode::Latest(_) => Operator::CombineLatest,
     }

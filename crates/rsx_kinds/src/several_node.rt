@@ -4,6 +4,7 @@ ghost use Rattle.std.specs.Prelude.{◌≡◌};
 
 use crate::kind::SeveralKind;
 use rsx_combining::{CombineLatestNode, ZipNode};
+use rsx_delayed::MergeDelayNode;
 use rsx_merging::{ConcatNode, MergeNode};
 use rsx_sources::{Front, Machine, NotMade, NotTaken, Passed};
 use rsx_types::{NoMemory, Note, Ops, Signal, StreamValue};
@@ -16,6 +17,8 @@ pub enum SeveralNode<T> {
     Concat(ConcatNode<T>),
     /// The items of all inputs, as they are picked.
     Merge(MergeNode<T>),
+    /// The same, but a failure ends its input alone.
+    MergeDelay(MergeDelayNode<T>),
     /// Rows of one item of each input.
     Zip(ZipNode<T>),
     /// Rows of the latest items of the inputs.
@@ -46,6 +49,10 @@ impl<T: Drop> SeveralNode<T> {
             SeveralKind::Merge(prefetch) => {
                 let node = MergeNode::new(alloc, inputs, prefetch as usize)?;
                 Ok(SeveralNode::Merge(node))
+            }
+            SeveralKind::MergeDelay(prefetch) => {
+                let node = MergeDelayNode::new(alloc, inputs, prefetch as usize)?;
+                Ok(SeveralNode::MergeDelay(node))
             }
             SeveralKind::Zip(prefetch) => {
                 let node = ZipNode::new(alloc, inputs, prefetch as usize)?;
@@ -117,6 +124,7 @@ impl<T: Drop> Machine for SeveralNode<T> {
         match self {
             SeveralNode::Concat(node) => node.front(),
             SeveralNode::Merge(node) => node.front(),
+            SeveralNode::MergeDelay(node) => node.front(),
             SeveralNode::Zip(node) => node.front(),
             SeveralNode::Latest(node) => node.front(),
         }
@@ -131,6 +139,7 @@ impl<T: Drop> Machine for SeveralNode<T> {
         match self {
             SeveralNode::Concat(node) => node.pop_front(alloc, ops),
             SeveralNode::Merge(node) => node.pop_front(alloc, ops),
+            SeveralNode::MergeDelay(node) => node.pop_front(alloc, ops),
             SeveralNode::Zip(node) => node.pop_front(alloc, ops),
             SeveralNode::Latest(node) => node.pop_front(alloc, ops),
         }
@@ -142,6 +151,7 @@ impl<T: Drop> Machine for SeveralNode<T> {
         match self {
             SeveralNode::Concat(node) => node.put_back(signal),
             SeveralNode::Merge(node) => node.put_back(signal),
+            SeveralNode::MergeDelay(node) => node.put_back(signal),
             SeveralNode::Zip(node) => node.put_back(signal),
             SeveralNode::Latest(node) => node.put_back(signal),
         }
@@ -152,6 +162,7 @@ impl<T: Drop> Machine for SeveralNode<T> {
         match self {
             SeveralNode::Concat(node) => node.has_ended(),
             SeveralNode::Merge(node) => node.has_ended(),
+            SeveralNode::MergeDelay(node) => node.has_ended(),
             SeveralNode::Zip(node) => node.has_ended(),
             SeveralNode::Latest(node) => node.has_ended(),
         }
@@ -162,6 +173,7 @@ impl<T: Drop> Machine for SeveralNode<T> {
         match self {
             SeveralNode::Concat(node) => node.can_take(input, front),
             SeveralNode::Merge(node) => node.can_take(input, front),
+            SeveralNode::MergeDelay(node) => node.can_take(input, front),
             SeveralNode::Zip(node) => node.can_take(input, front),
             SeveralNode::Latest(node) => node.can_take(input, front),
         }
@@ -187,6 +199,7 @@ impl<T: Drop> Machine for SeveralNode<T> {
         match self {
             SeveralNode::Concat(node) => node.on_signal(alloc, ops, input, signal),
             SeveralNode::Merge(node) => node.on_signal(alloc, ops, input, signal),
+            SeveralNode::MergeDelay(node) => node.on_signal(alloc, ops, input, signal),
             SeveralNode::Zip(node) => node.on_signal(alloc, ops, input, signal),
             SeveralNode::Latest(node) => node.on_signal(alloc, ops, input, signal),
         }
@@ -197,6 +210,7 @@ impl<T: Drop> Machine for SeveralNode<T> {
         match self {
             SeveralNode::Concat(node) => node.pop_item(alloc, ops),
             SeveralNode::Merge(node) => node.pop_item(alloc, ops),
+            SeveralNode::MergeDelay(node) => node.pop_item(alloc, ops),
             SeveralNode::Zip(node) => node.pop_item(alloc, ops),
             SeveralNode::Latest(node) => node.pop_item(alloc, ops),
         }
@@ -207,6 +221,7 @@ impl<T: Drop> Machine for SeveralNode<T> {
         match self {
             SeveralNode::Concat(node) => node.pass(alloc, ops, input, item),
             SeveralNode::Merge(node) => node.pass(alloc, ops, input, item),
+            SeveralNode::MergeDelay(node) => node.pass(alloc, ops, input, item),
             SeveralNode::Zip(node) => node.pass(alloc, ops, input, item),
             SeveralNode::Latest(node) => node.pass(alloc, ops, input, item),
         }
@@ -234,6 +249,7 @@ impl<T: Drop> Machine for SeveralNode<T> {
         match self {
             SeveralNode::Concat(_) => false,
             SeveralNode::Merge(node) => node.can_pick(input, asked, sent),
+            SeveralNode::MergeDelay(node) => node.can_pick(input, asked, sent),
             SeveralNode::Zip(node) => node.can_pick(input, asked, sent),
             SeveralNode::Latest(node) => node.can_pick(input, asked, sent),
         }
@@ -244,6 +260,7 @@ impl<T: Drop> Machine for SeveralNode<T> {
         match self {
             SeveralNode::Concat(_) => None,
             SeveralNode::Merge(node) => node.next_pick(asked, sent),
+            SeveralNode::MergeDelay(node) => node.next_pick(asked, sent),
             SeveralNode::Zip(node) => node.next_pick(asked, sent),
             SeveralNode::Latest(node) => node.next_pick(asked, sent),
         }
@@ -260,6 +277,7 @@ impl<T: Drop> Machine for SeveralNode<T> {
         match self {
             SeveralNode::Concat(_) => Err(NotMade::NotEnabled),
             SeveralNode::Merge(node) => node.on_pick(alloc, ops, input, asked, sent),
+            SeveralNode::MergeDelay(node) => node.on_pick(alloc, ops, input, asked, sent),
             SeveralNode::Zip(node) => node.on_pick(alloc, ops, input, asked, sent),
             SeveralNode::Latest(node) => node.on_pick(alloc, ops, input, asked, sent),
         }
@@ -269,7 +287,8 @@ impl<T: Drop> Machine for SeveralNode<T> {
     fn can_row(&self, asked: u64, sent: u64) -> bool {
         match self {
             SeveralNode::Zip(node) => node.can_row(asked, sent),
-            SeveralNode::Concat(_) | SeveralNode::Merge(_) | SeveralNode::Latest(_) => false,
+            SeveralNode::Concat(_) | SeveralNode::Merge(_) => false,
+            SeveralNode::MergeDelay(_) | SeveralNode::Latest(_) => false,
         }
     }
 
@@ -283,9 +302,8 @@ impl<T: Drop> Machine for SeveralNode<T> {
     ) -> Result<(), NotMade> {
         match self {
             SeveralNode::Zip(node) => node.on_row(alloc, ops, asked, sent),
-            SeveralNode::Concat(_) | SeveralNode::Merge(_) | SeveralNode::Latest(_) => {
-                Err(NotMade::NotEnabled)
-            }
+            SeveralNode::Concat(_) | SeveralNode::Merge(_) => Err(NotMade::NotEnabled),
+            SeveralNode::MergeDelay(_) | SeveralNode::Latest(_) => Err(NotMade::NotEnabled),
         }
     }
 
@@ -294,6 +312,7 @@ impl<T: Drop> Machine for SeveralNode<T> {
         match self {
             SeveralNode::Concat(node) => node.want(input, asked, sent),
             SeveralNode::Merge(node) => node.want(input, asked, sent),
+            SeveralNode::MergeDelay(node) => node.want(input, asked, sent),
             SeveralNode::Zip(node) => node.want(input, asked, sent),
             SeveralNode::Latest(node) => node.want(input, asked, sent),
         }
@@ -303,6 +322,7 @@ impl<T: Drop> Machine for SeveralNode<T> {
         match self {
             SeveralNode::Concat(_) => Ok(Note::Nothing),
             SeveralNode::Merge(node) => node.note(alloc),
+            SeveralNode::MergeDelay(node) => node.note(alloc),
             SeveralNode::Zip(node) => node.note(alloc),
             SeveralNode::Latest(node) => node.note(alloc),
         }
@@ -321,6 +341,7 @@ impl<T: Drop> Machine for SeveralNode<T> {
         match self {
             SeveralNode::Concat(node) => node.residual(alloc, ops, inboxes, incoming),
             SeveralNode::Merge(node) => node.residual(alloc, ops, inboxes, incoming),
+            SeveralNode::MergeDelay(node) => node.residual(alloc, ops, inboxes, incoming),
             SeveralNode::Zip(node) => node.residual(alloc, ops, inboxes, incoming),
             SeveralNode::Latest(node) => node.residual(alloc, ops, inboxes, incoming),
         }

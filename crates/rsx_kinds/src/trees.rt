@@ -56,6 +56,9 @@ pub fn build<O: Ops>(
         Expr::Merge(prefetch, inputs) => {
             build_over(alloc, ops, SeveralKind::Merge(*prefetch), inputs, hubs)
         }
+        Expr::MergeDelay(prefetch, inputs) => {
+            build_over(alloc, ops, SeveralKind::MergeDelay(*prefetch), inputs, hubs)
+        }
         Expr::Zip(prefetch, inputs) => {
             build_over(alloc, ops, SeveralKind::Zip(*prefetch), inputs, hubs)
         }

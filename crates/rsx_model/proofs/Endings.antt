@@ -1,6 +1,8 @@
 -- How operators over several inputs end: never by the failure of a bad request, where no input ends so.
 use Rattle.std.proofs.Common.{◌≢◌, ℕ, zero, suc, ◌+◌, ◌-◌, Bool, true, false, nat_eq, if◌then◌else◌, List, [], ◌∷◌, ◌++◌, map, Option, Some, None, option_map, option_and_then, slice_get, slice_set}
 use Rattle.rsx_values.specs.Prelude.{NonPositiveRequest, Ending, Open, Done, Failed, Signal, Next, Complete, Error, Stream, ending_signals, concat, unless_open, merge, merged, taken_ending, main_input, merged_lanes, InputLeft, Taken, numbered, is_failure, left_after, next_here, next_of, up_to_failure, rest_of, no_more, chosen_before, pick, all_latest, row_first, stops, behind_first, unless_chosen, walk, none_yet, combine_latest, items_of, shortest, ends_after, first_ending, ending_after, zip_ending, zip_rows, zip}
+use Rattle.rsx_types.specs.declared.signal.Cause.{Cause}
+use Rattle.rsx_values.specs.Delayed.{all_of, delayed_ending, ending_of, first_cause, goes_on, merge_delay, merged_delayed, pick_all, rest_of_all}
 use Rattle.rsx_model.specs.Eval.{Meant, in_order}
 use Rattle.rsx_model.proofs.Unfold.{Each}
 
@@ -153,6 +155,55 @@ merged_fine left (Some ts) h = taken_fine left ts h
 pub merge_values_fine : {T : Type 0} (cs : List ℕ) (o : Option (List (Stream T))) → FineValues o → AllFine (option_and_then (merge cs) o)
 merge_values_fine cs None h = tt
 merge_values_fine cs (Some vs) h = merged_fine _ (pick cs (numbered 0 vs)) (pick_fine cs (numbered 0 vs) (numbered_fine 0 vs h))
+
+-- ---- the merge that delays failures
+
+all_of_fine : {T : Type 0} (n : ℕ) (ss : List (Signal T)) (rest : List (Taken T)) → Each (λ (x : Signal T). FineSignal x) ss → FineTaken rest → FineTaken (all_of n ss rest)
+all_of_fine n [] rest h hs = hs
+all_of_fine n (s ∷ ss) rest h hs = (h.0, all_of_fine n ss rest h.1 hs)
+
+all_fine : {T : Type 0} (is : List (InputLeft T)) → FineLeft is → FineTaken (rest_of_all is)
+all_fine [] h = tt
+all_fine (i ∷ is) h = all_of_fine i.0 i.1 (rest_of_all is) h.0 (all_fine is h.1)
+
+goes_on_fine : {T : Type 0} (c : ℕ) (o : Option (Signal T × List (InputLeft T))) (rest : List (InputLeft T) → Option (List (Taken T))) → FineNext o → ((is : List (InputLeft T)) → FineLeft is → FinePick (rest is)) → FinePick (goes_on c o rest)
+goes_on_fine c None rest h more = tt
+goes_on_fine c (Some (s, is)) rest h more = first_fine c s (rest is) h.0 (more is h.1)
+
+pick_all_fine : {T : Type 0} (cs : List ℕ) (is : List (InputLeft T)) → FineLeft is → FinePick (pick_all cs is)
+pick_all_fine [] is h = all_fine is h
+pick_all_fine (c ∷ cs) is h = goes_on_fine c (next_of c is) (λ js. pick_all cs js) (next_fine c is h) (λ js k. pick_all_fine cs js k)
+
+-- the failure that was taken first, if one was
+abbrev FineKept : Option Cause → Type 0
+FineKept None = Unit {0}
+FineKept (Some c) = Fine (Failed c)
+
+first_cause_fine : (kept : Option Cause) (c : Cause) → FineKept kept → Fine (Failed c) → FineKept (first_cause kept c)
+first_cause_fine None c h k = k
+first_cause_fine (Some d) c h k = h
+
+kept_fine : (kept : Option Cause) → FineKept kept → Fine (ending_of kept)
+kept_fine None h = λ p. cc
+kept_fine (Some c) h = h
+
+held_fine : (b : Bool) (kept : Option Cause) → FineKept kept → Fine (if b then ending_of kept else Open)
+held_fine true kept h = kept_fine kept h
+held_fine false kept h = λ p. cc
+
+delayed_fine : {T : Type 0} (left : ℕ) (kept : Option Cause) (ts : List (Taken T)) → FineKept kept → FineTaken ts → Fine (delayed_ending left kept ts)
+delayed_fine left kept [] k h = held_fine (nat_eq left 0) kept k
+delayed_fine left kept ((n, Next x) ∷ ts) k h = delayed_fine left kept ts k h.1
+delayed_fine left kept ((n, Complete) ∷ ts) k h = delayed_fine (left - 1) kept ts k h.1
+delayed_fine left kept ((n, Error c) ∷ ts) k h = delayed_fine (left - 1) (first_cause kept c) ts (first_cause_fine kept c k h.0) h.1
+
+merged_delayed_fine : {T : Type 0} (left : ℕ) (o : Option (List (Taken T))) → FinePick o → AllFine (option_map (merged_delayed left None) o)
+merged_delayed_fine left None h = tt
+merged_delayed_fine left (Some ts) h = delayed_fine left None ts tt h
+
+pub merge_delay_values_fine : {T : Type 0} (cs : List ℕ) (o : Option (List (Stream T))) → FineValues o → AllFine (option_and_then (merge_delay cs) o)
+merge_delay_values_fine cs None h = tt
+merge_delay_values_fine cs (Some vs) h = merged_delayed_fine _ (pick_all cs (numbered 0 vs)) (pick_all_fine cs (numbered 0 vs) (numbered_fine 0 vs h))
 
 -- ---- lanes and Main
 

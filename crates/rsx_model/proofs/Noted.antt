@@ -3,7 +3,7 @@
 use Rattle.std.proofs.Common.{◌≡◌, ◌∙◌, ℕ, suc, ◌+◌, Bool, true, if◌then◌else◌, List, [], ◌∷◌, length, map, drop, Option, Some, None, option_map, option_and_then, slice_get, refl, sym, ap, arith}
 use Rattle.std.proofs.lemmas.Option.{slice_get_within, get_or_from_slice_get}
 use Rattle.std.proofs.Math.Seq.{drop-cons, drop-length}
-use Rattle.rsx_values.specs.Prelude.{merge, flat_map, group_by, combine_latest, zip, Note, Nothing, Picks, Ended, Stream}
+use Rattle.rsx_values.specs.Prelude.{merge, merge_delay, flat_map, group_by, combine_latest, zip, Note, Nothing, Picks, Ended, Stream}
 use Rattle.rsx_model.specs.declared.expr.Expr.{Expr}
 use Rattle.rsx_model.specs.declared.expr.Expr.TheOpen.{Expr-F}
 use Rattle.rsx_model.specs.declared.expr.Expr.TheOpen as layer
@@ -21,6 +21,7 @@ is_of_kind-map h (layer.Hub k) n = refl
 is_of_kind-map h (layer.Plain g b) n = refl
 is_of_kind-map h (layer.Concat v) n = refl
 is_of_kind-map h (layer.Merge p v) n = refl
+is_of_kind-map h (layer.MergeDelay p v) n = refl
 is_of_kind-map h (layer.Zip p v) n = refl
 is_of_kind-map h (layer.Latest p v) n = refl
 is_of_kind-map h (layer.Group f gs b) n = refl
@@ -90,6 +91,7 @@ node_shown w (layer.Concat v) at leaf s h =
     let vs = of_map _ (in_order v.items (at + 1) leaf) s q.3 in
     (q.0, q.1, q.2, (vs.0, vs.1))
 node_shown w (layer.Merge p v) at leaf s h = of_chosen (slice_get w.notes at) merge (in_order v.items (at + 1) leaf) s h
+node_shown w (layer.MergeDelay p v) at leaf s h = of_chosen (slice_get w.notes at) merge_delay (in_order v.items (at + 1) leaf) s h
 node_shown w (layer.Zip p v) at leaf s h = of_record (slice_get w.notes at) (zip w.meaning.row_of) (in_order v.items (at + 1) leaf) s h
 node_shown w (layer.Group f gs b) at leaf s h =
     let q = of_chosen (slice_get w.notes at) (group_by w.meaning f gs.items) (b.value.value (at + 1) leaf) s h in

@@ -2,7 +2,7 @@
 use Rattle.std.proofs.Common.{◌≡◌, ℕ, ℤ, ◌+◌, ◌<◌, ◌≤◌, List, [], ◌∷◌, length, get_or, map, nat_le, nat_lt, Option, Some, None, option_map, option_and_then, slice_get, Vec, Global, Box, refl, sym, ap, subst, ◌∙◌, arith}
 use Rattle.std.proofs.lemmas.List.{length-map}
 use Rattle.std.proofs.lemmas.Option.{slice_get-get_or}
-use Rattle.rsx_values.specs.Prelude.{plain, listed, range_items, Stream, Stage, MOST_ITEMS, concat, merge, flat_map, group_by, window, combine_latest, zip, HubId}
+use Rattle.rsx_values.specs.Prelude.{plain, listed, range_items, Stream, Stage, MOST_ITEMS, concat, merge, merge_delay, flat_map, group_by, window, combine_latest, zip, HubId}
 use Rattle.rsx_model.specs.declared.check.TheConstants.{MOST_DEPTH, MOST_NODES}
 use Rattle.rsx_model.specs.declared.check.BadExpr.{BadExpr}
 use Rattle.rsx_model.specs.declared.check.BadExpr.TheVariants.{Depth, Nodes, Inputs, Number, Hub as NoSuchHub, Length}
@@ -11,7 +11,7 @@ use Rattle.rsx_model.specs.declared.expr.Expr.TheOpen.{Expr-F}
 use Rattle.rsx_model.specs.declared.expr.Expr.TheOpen as layer
 use Rattle.rsx_model.specs.declared.expr.Expr.TheFolds.{map-Expr, fold_out-Expr, ind-Expr}
 use Rattle.rsx_model.specs.declared.expr.Expr.TheVariants.{Items, Range, Hub}
-use Rattle.rsx_model.specs.declared.expr.Expr.TheViews.{Plain, Concat, Merge, Zip, Latest, Group, Window, Flat, On, outs-Items, outs-Range, outs-Hub, outs-Plain, outs-Concat, outs-Merge, outs-Zip, outs-Latest, outs-Group, outs-Window, outs-Flat, outs-On, rolls-Items, rolls-Range, rolls-Hub, rolls-Plain, rolls-Concat, rolls-Merge, rolls-Zip, rolls-Latest, rolls-Group, rolls-Window, rolls-Flat, rolls-On, roll-out-Expr, out-Expr, roll-Expr, out-roll-Expr}
+use Rattle.rsx_model.specs.declared.expr.Expr.TheViews.{Plain, Concat, Merge, MergeDelay, Zip, Latest, Group, Window, Flat, On, outs-Items, outs-Range, outs-Hub, outs-Plain, outs-Concat, outs-Merge, outs-MergeDelay, outs-Zip, outs-Latest, outs-Group, outs-Window, outs-Flat, outs-On, rolls-Items, rolls-Range, rolls-Hub, rolls-Plain, rolls-Concat, rolls-Merge, rolls-MergeDelay, rolls-Zip, rolls-Latest, rolls-Group, rolls-Window, rolls-Flat, rolls-On, roll-out-Expr, out-Expr, roll-Expr, out-roll-Expr}
 use Rattle.rsx_model.specs.Shape.{children, leaf_here, sum_of, max_of, nodes, depth, leaves}
 use Rattle.rsx_model.specs.Check.{own_fault, queued_fault, window_fault, chain_fault, flat_fault, or_else, first_of, first_fault, unless, range_fits, stage_fits, inputs_fit, worker_fits, refusal}
 use Rattle.rsx_model.specs.Eval.{Environment, Meant, quiet, chosen, ended_by_record, behind, joined_value, in_order, node_value, node_meant, meant}
@@ -25,6 +25,7 @@ own_fault-map hubs h (layer.Hub k) = refl
 own_fault-map hubs h (layer.Plain g b) = refl
 own_fault-map hubs h (layer.Concat v) = ap (λ n. unless (inputs_fit n) Inputs) (length-map v.items h)
 own_fault-map hubs h (layer.Merge p v) = ap (queued_fault p) (length-map v.items h)
+own_fault-map hubs h (layer.MergeDelay p v) = ap (queued_fault p) (length-map v.items h)
 own_fault-map hubs h (layer.Zip p v) = ap (queued_fault p) (length-map v.items h)
 own_fault-map hubs h (layer.Latest p v) = ap (queued_fault p) (length-map v.items h)
 own_fault-map hubs h (layer.Group f gs b) = refl
@@ -39,6 +40,7 @@ leaf_here-map h (layer.Hub k) = refl
 leaf_here-map h (layer.Plain g b) = refl
 leaf_here-map h (layer.Concat v) = refl
 leaf_here-map h (layer.Merge p v) = refl
+leaf_here-map h (layer.MergeDelay p v) = refl
 leaf_here-map h (layer.Zip p v) = refl
 leaf_here-map h (layer.Latest p v) = refl
 leaf_here-map h (layer.Group f gs b) = refl
@@ -54,6 +56,7 @@ children-map h (layer.Hub k) = refl
 children-map h (layer.Plain g b) = refl
 children-map h (layer.Concat v) = refl
 children-map h (layer.Merge p v) = refl
+children-map h (layer.MergeDelay p v) = refl
 children-map h (layer.Zip p v) = refl
 children-map h (layer.Latest p v) = refl
 children-map h (layer.Group f gs b) = refl
@@ -129,6 +132,9 @@ nodes_Concat v = rw (nodes_out, outs-Concat) refl
 pub nodes_Merge : {T : Type 0} (p : ℕ) (v : Several T) → nodes (Merge p v) ≡ 1 + sum_of (map nodes v.items)
 nodes_Merge p v = rw (nodes_out, outs-Merge) refl
 
+pub nodes_MergeDelay : {T : Type 0} (p : ℕ) (v : Several T) → nodes (MergeDelay p v) ≡ 1 + sum_of (map nodes v.items)
+nodes_MergeDelay p v = rw (nodes_out, outs-MergeDelay) refl
+
 pub nodes_Zip : {T : Type 0} (p : ℕ) (v : Several T) → nodes (Zip p v) ≡ 1 + sum_of (map nodes v.items)
 nodes_Zip p v = rw (nodes_out, outs-Zip) refl
 
@@ -149,6 +155,9 @@ first_fault_Concat hubs v = rw (fault_out, outs-Concat) refl
 
 pub first_fault_Merge : {T : Type 0} (hubs p : ℕ) (v : Several T) → first_fault hubs (Merge p v) ≡ or_else (queued_fault p (length v.items)) (first_of (map (first_fault hubs) v.items))
 first_fault_Merge hubs p v = rw (fault_out, outs-Merge) refl
+
+pub first_fault_MergeDelay : {T : Type 0} (hubs p : ℕ) (v : Several T) → first_fault hubs (MergeDelay p v) ≡ or_else (queued_fault p (length v.items)) (first_of (map (first_fault hubs) v.items))
+first_fault_MergeDelay hubs p v = rw (fault_out, outs-MergeDelay) refl
 
 pub first_fault_Zip : {T : Type 0} (hubs p : ℕ) (v : Several T) → first_fault hubs (Zip p v) ≡ or_else (queued_fault p (length v.items)) (first_of (map (first_fault hubs) v.items))
 first_fault_Zip hubs p v = rw (fault_out, outs-Zip) refl
@@ -179,6 +188,9 @@ value_Concat w v at leaf = rw (value_out, outs-Concat) refl
 
 pub value_Merge : {T : Type 0} (w : Environment T) (p : ℕ) (v : Several T) (at leaf : ℕ) → (meant w (Merge p v)).value at leaf ≡ chosen (slice_get w.notes at) (λ cs. option_and_then (merge cs) (in_order (map (meant w) v.items) (at + 1) leaf))
 value_Merge w p v at leaf = rw (value_out, outs-Merge) refl
+
+pub value_MergeDelay : {T : Type 0} (w : Environment T) (p : ℕ) (v : Several T) (at leaf : ℕ) → (meant w (MergeDelay p v)).value at leaf ≡ chosen (slice_get w.notes at) (λ cs. option_and_then (merge_delay cs) (in_order (map (meant w) v.items) (at + 1) leaf))
+value_MergeDelay w p v at leaf = rw (value_out, outs-MergeDelay) refl
 
 pub value_Zip : {T : Type 0} (w : Environment T) (p : ℕ) (v : Several T) (at leaf : ℕ) → (meant w (Zip p v)).value at leaf ≡ ended_by_record (slice_get w.notes at) (λ i. option_and_then (zip w.meaning.row_of i) (in_order (map (meant w) v.items) (at + 1) leaf))
 value_Zip w p v at leaf = rw (value_out, outs-Zip) refl
@@ -219,6 +231,7 @@ leaf_here-le (layer.Hub h) = omega arith
 leaf_here-le (layer.Plain g b) = omega arith
 leaf_here-le (layer.Concat v) = omega arith
 leaf_here-le (layer.Merge p v) = omega arith
+leaf_here-le (layer.MergeDelay p v) = omega arith
 leaf_here-le (layer.Zip p v) = omega arith
 leaf_here-le (layer.Latest p v) = omega arith
 leaf_here-le (layer.Group f gs b) = omega arith
@@ -312,6 +325,9 @@ fault_Concat hubs v h = or_none _ _ (sym (first_fault_Concat hubs v) ∙ h)
 
 pub fault_Merge : {T : Type 0} (hubs p : ℕ) (v : Several T) → first_fault hubs (Merge p v) ≡ None → (queued_fault p (length v.items) ≡ None) × (first_of (map (first_fault hubs) v.items) ≡ None)
 fault_Merge hubs p v h = or_none _ _ (sym (first_fault_Merge hubs p v) ∙ h)
+
+pub fault_MergeDelay : {T : Type 0} (hubs p : ℕ) (v : Several T) → first_fault hubs (MergeDelay p v) ≡ None → (queued_fault p (length v.items) ≡ None) × (first_of (map (first_fault hubs) v.items) ≡ None)
+fault_MergeDelay hubs p v h = or_none _ _ (sym (first_fault_MergeDelay hubs p v) ∙ h)
 
 pub fault_Zip : {T : Type 0} (hubs p : ℕ) (v : Several T) → first_fault hubs (Zip p v) ≡ None → (queued_fault p (length v.items) ≡ None) × (first_of (map (first_fault hubs) v.items) ≡ None)
 fault_Zip hubs p v h = or_none _ _ (sym (first_fault_Zip hubs p v) ∙ h)

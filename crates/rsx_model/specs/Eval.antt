@@ -3,9 +3,9 @@ use Rattle.std.specs.Prelude.{ℕ, ◌+◌, List, [], ◌∷◌, map, drop, Opti
 pub use Rattle.rsx_types.specs.Stream.{Stream}
 pub use Rattle.rsx_types.specs.Meaning.{Meaning}
 pub use Rattle.rsx_types.specs.Plain.{plain, listed, range_items}
-use Rattle.rsx_values.specs.Prelude.{concat, merge, flat_map, group_by, window, combine_latest, zip, Note, Nothing, Picks, Ended}
+use Rattle.rsx_values.specs.Prelude.{concat, merge, merge_delay, flat_map, group_by, window, combine_latest, zip, Note, Nothing, Picks, Ended}
 use Rattle.rsx_model.specs.declared.expr.Expr.{Expr}
-use Rattle.rsx_model.specs.declared.expr.Expr.TheOpen.{Expr-F, Items, Range, Hub, Plain, Concat, Merge, Zip, Latest, Group, Window, Flat, On}
+use Rattle.rsx_model.specs.declared.expr.Expr.TheOpen.{Expr-F, Items, Range, Hub, Plain, Concat, Merge, MergeDelay, Zip, Latest, Group, Window, Flat, On}
 use Rattle.rsx_model.specs.declared.expr.Expr.TheFolds.{fold-Expr}
 use Rattle.rsx_model.specs.Shape.{children, sum_of, leaf_here}
 
@@ -71,6 +71,8 @@ node_value w (Plain g b) at leaf =
 node_value w (Concat v) at leaf = quiet (slice_get w.notes at) (option_map concat (in_order v.items (at + 1) leaf))
 node_value w (Merge p v) at leaf =
     chosen (slice_get w.notes at) (λ cs. option_and_then (merge cs) (in_order v.items (at + 1) leaf))
+node_value w (MergeDelay p v) at leaf =
+    chosen (slice_get w.notes at) (λ cs. option_and_then (merge_delay cs) (in_order v.items (at + 1) leaf))
 node_value w (Zip p v) at leaf =
     ended_by_record (slice_get w.notes at) (λ i. option_and_then (zip w.meaning.row_of i) (in_order v.items (at + 1) leaf))
 node_value w (Latest p v) at leaf =

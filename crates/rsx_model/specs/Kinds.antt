@@ -2,7 +2,7 @@
 use Rattle.std.specs.Prelude.{◌≡◌, Bool, true, false, if◌then◌else◌, List, [], ◌∷◌, Option, Some, None, option_and_then}
 use Rattle.rsx_values.specs.Prelude.{Note, Nothing, Picks, Ended}
 use Rattle.rsx_model.specs.declared.expr.Expr.{Expr}
-use Rattle.rsx_model.specs.declared.expr.Expr.TheOpen.{Expr-F, Items, Range, Hub, Plain, Concat, Merge, Zip, Latest, Group, Window, Flat, On}
+use Rattle.rsx_model.specs.declared.expr.Expr.TheOpen.{Expr-F, Items, Range, Hub, Plain, Concat, Merge, MergeDelay, Zip, Latest, Group, Window, Flat, On}
 use Rattle.rsx_model.specs.declared.expr.Expr.TheFolds.{fold-Expr}
 use Rattle.rsx_model.specs.Shape.{children}
 
@@ -29,6 +29,7 @@ is_of_kind (Hub h) n = is_nothing n
 is_of_kind (Plain g b) n = is_nothing n
 is_of_kind (Concat v) n = is_nothing n
 is_of_kind (Merge p v) n = is_picks n
+is_of_kind (MergeDelay p v) n = is_picks n
 is_of_kind (Zip p v) n = is_ended n
 is_of_kind (Latest p v) n = is_picks n
 is_of_kind (Group f gs b) n = is_picks n

@@ -2,7 +2,7 @@
 use Rattle.std.specs.Prelude.{ℕ, List, [], ◌∷◌, Option, Some, None}
 use Rattle.rsx_model.specs.Shape.{children}
 use Rattle.rsx_model.specs.declared.expr.Expr.{Expr}
-use Rattle.rsx_model.specs.declared.expr.Expr.TheOpen.{Expr-F, Items, Range, Hub, Plain, Concat, Merge, Zip, Latest, Group, Window, Flat, On}
+use Rattle.rsx_model.specs.declared.expr.Expr.TheOpen.{Expr-F, Items, Range, Hub, Plain, Concat, Merge, MergeDelay, Zip, Latest, Group, Window, Flat, On}
 use Rattle.rsx_model.specs.declared.expr.Expr.TheFolds.{fold-Expr}
 
 -- the worker that a node names
@@ -13,6 +13,7 @@ worker_here (Hub h) = None
 worker_here (Plain g b) = None
 worker_here (Concat v) = None
 worker_here (Merge p v) = None
+worker_here (MergeDelay p v) = None
 worker_here (Zip p v) = None
 worker_here (Latest p v) = None
 worker_here (Group f gs b) = None

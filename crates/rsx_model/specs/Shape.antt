@@ -1,7 +1,7 @@
 -- The size of an expression.
 use Rattle.std.specs.Prelude.{ℕ, ◌+◌, max, List, [], ◌∷◌}
 use Rattle.rsx_model.specs.declared.expr.Expr.{Expr}
-use Rattle.rsx_model.specs.declared.expr.Expr.TheOpen.{Expr-F, Items, Range, Hub, Plain, Concat, Merge, Zip, Latest, Group, Window, Flat, On}
+use Rattle.rsx_model.specs.declared.expr.Expr.TheOpen.{Expr-F, Items, Range, Hub, Plain, Concat, Merge, MergeDelay, Zip, Latest, Group, Window, Flat, On}
 use Rattle.rsx_model.specs.declared.expr.Expr.TheFolds.{fold-Expr}
 use Rattle.rsx_model.specs.declared.expr.Below.{Below}
 use Rattle.rsx_model.specs.declared.expr.Below.TheVariants.{One, Inputs}
@@ -14,6 +14,7 @@ children (Hub h) = []
 children (Plain g b) = b.value ∷ []
 children (Concat v) = v.items
 children (Merge p v) = v.items
+children (MergeDelay p v) = v.items
 children (Zip p v) = v.items
 children (Latest p v) = v.items
 children (Group f gs b) = b.value ∷ []
@@ -52,6 +53,7 @@ leaf_here (Hub h) = 1
 leaf_here (Plain g b) = 0
 leaf_here (Concat v) = 0
 leaf_here (Merge p v) = 0
+leaf_here (MergeDelay p v) = 0
 leaf_here (Zip p v) = 0
 leaf_here (Latest p v) = 0
 leaf_here (Group f gs b) = 0

@@ -190,7 +190,7 @@ fn own_leaf<T>(expr: &Expr<T>) -> u64
         Expr::Items(_) | Expr::Range(_, _) => 0,
         Expr::Hub(_) => 1,
         Expr::Plain(_, _) | Expr::Concat(_) => 0,
-        Expr::Merge(_, _) | Expr::Zip(_, _) | Expr::Latest(_, _) => 0,
+        Expr::Merge(_, _) | Expr::MergeDelay(_, _) | Expr::Zip(_, _) | Expr::Latest(_, _) => 0,
         Expr::Group(_, _, _) | Expr::Window(_, _, _) | Expr::Flat(_, _, _, _) => 0,
         Expr::On(_, _, _) => 0,
     }
@@ -236,6 +236,7 @@ fn own_fault_of<T>(expr: &Expr<T>, hubs: u64) -> Option<BadExpr>
         Expr::Plain(stage, _) => unless_ok(is_stage(stage), BadExpr::Number),
         Expr::Concat(inputs) => unless_ok(is_input_count(inputs.len()), BadExpr::Inputs),
         Expr::Merge(prefetch, inputs) => queued_fault_of(*prefetch, inputs.len()),
+        Expr::MergeDelay(prefetch, inputs) => queued_fault_of(*prefetch, inputs.len()),
         Expr::Zip(prefetch, inputs) => queued_fault_of(*prefetch, inputs.len()),
         Expr::Latest(prefetch, inputs) => queued_fault_of(*prefetch, inputs.len()),
         Expr::Group(_, stages, _) => chain_fault_of(stages),

@@ -12,7 +12,7 @@ ghost use Rattle.rsx_model.specs.Answer.{Gives, GivesAll, IsScratch, alone, name
 
 use crate::kinds::are_noted;
 use crate::lanes::{flat_of, group_of, window_of};
-use crate::several::{concat_of, latest_of, merge_of, zip_of};
+use crate::several::{concat_of, latest_of, merge_delay_of, merge_of, zip_of};
 use crate::{
     BadExpr, Below, Expr, MOST_COUNT, MOST_NODES, below_of, leaves_of, nodes_of, refusal_of,
 };
@@ -210,6 +210,7 @@ fn node_value_of<O: Ops>(
         Expr::Plain(stage, _) => if_quiet(note, plain_of(alloc, ops, stage, values)),
         Expr::Concat(_) => if_quiet(note, concat_of(alloc, values)),
         Expr::Merge(_, _) => merge_of(alloc, note, values),
+        Expr::MergeDelay(_, _) => merge_delay_of(alloc, note, values),
         Expr::Zip(_, _) => zip_of(alloc, ops, note, values),
         Expr::Latest(_, _) => latest_of(alloc, ops, note, values),
         Expr::Group(f, stages, _) => group_of(alloc, ops, *f, stages, note, values),

@@ -30,6 +30,8 @@ pub enum Expr<T> {
     /// The items of all inputs, in an order that is chosen while they come and recorded. The number is the prefetch, how many
     /// items of each input are asked for in advance: 1 to 1,024.
     Merge(u64, Vec<Expr<T>>),
+    /// As `Merge`, but a failure ends its input alone (`mergeDelayError`): the first one taken goes out once all inputs have ended.
+    MergeDelay(u64, Vec<Expr<T>>),
     /// Rows of one item of each input, as long as all have one. The number is the prefetch, as for `Merge`.
     Zip(u64, Vec<Expr<T>>),
     /// A row of the latest items of the inputs at each item, once every input has had one; the order of the items is chosen and
@@ -71,6 +73,7 @@ pub fn below_of<T>(expr: &Expr<T>) -> Below<'_, T>
         Expr::Plain(_, below) => Below::One(below),
         Expr::Concat(inputs) => Below::Inputs(inputs),
         Expr::Merge(_, inputs) => Below::Inputs(inputs),
+        Expr::MergeDelay(_, inputs) => Below::Inputs(inputs),
         Expr::Zip(_, inputs) => Below::Inputs(inputs),
         Expr::Latest(_, inputs) => Below::Inputs(inputs),
         Expr::Group(_, _, below) => Below::One(below),

@@ -53,7 +53,8 @@ fn records<T>(expr: &Expr<T>, note: &Note) -> bool
         Expr::Items(_) | Expr::Range(_, _) | Expr::Hub(_) | Expr::Plain(_, _) | Expr::Concat(_) => {
             matches!(note, Note::Nothing)
         }
-        Expr::Merge(_, _) | Expr::Latest(_, _) => matches!(note, Note::Picks(_)),
+        Expr::Merge(_, _) | Expr::MergeDelay(_, _) => matches!(note, Note::Picks(_)),
+        Expr::Latest(_, _) => matches!(note, Note::Picks(_)),
         Expr::Group(_, _, _) | Expr::Flat(_, _, _, _) => matches!(note, Note::Picks(_)),
         Expr::Zip(_, _) => matches!(note, Note::Ended(_)),
         Expr::Window(_, _, _) | Expr::On(_, _, _) => matches!(note, Note::Nothing),

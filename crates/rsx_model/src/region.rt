@@ -31,7 +31,8 @@ fn own_worker<T>(expr: &Expr<T>) -> Option<u8>
         Expr::On(worker, _, _) => Some(*worker),
         Expr::Items(_) | Expr::Range(_, _) | Expr::Hub(_) => None,
         Expr::Plain(_, _) | Expr::Concat(_) => None,
-        Expr::Merge(_, _) | Expr::Zip(_, _) | Expr::Latest(_, _) => None,
+        Expr::Merge(_, _) | Expr::MergeDelay(_, _) => None,
+        Expr::Zip(_, _) | Expr::Latest(_, _) => None,
         Expr::Group(_, _, _) | Expr::Window(_, _, _) | Expr::Flat(_, _, _, _) => None,
     }
 }

@@ -3,6 +3,7 @@
 ghost use Rattle.std.specs.Prelude.{◌≡◌, List, Option, Some, IfOk, option_map, option_and_then};
 ghost use Rattle.rsx_types.specs.Stream.{Stream};
 ghost use Rattle.rsx_values.specs.Concat.{concat};
+ghost use Rattle.rsx_values.specs.Delayed.{merge_delay};
 ghost use Rattle.rsx_values.specs.Merge.{merge};
 ghost use Rattle.rsx_values.specs.Pick.{numbered};
 ghost use Rattle.rsx_values.specs.Latest.{combine_latest, none_yet};
@@ -12,7 +13,7 @@ ghost use Rattle.rsx_model.specs.Answer.{Gives, GivesAll};
 
 use crate::evaluate::Trouble;
 use rsx_types::{NoMemory, Note, Ops, StreamValue};
-use rsx_values::{Input, Latest, Zip, concat, merge};
+use rsx_values::{Input, Latest, Zip, concat, merge, merge_delay};
 use std::alloc::Global;
 
 /// The value of `concat` over the values of its inputs.
@@ -35,6 +36,21 @@ pub(crate) fn merge_of<T: Drop>(
 {
     match note {
         Note::Picks(choices) => if_valid(merge(alloc, values?, choices.as_slice())?),
+        Note::Nothing => Err(Trouble::BadNotes),
+        Note::Ended(_) => Err(Trouble::BadNotes),
+    }
+}
+
+/// The value of `mergeDelayError` over the values of its inputs, by the choices that were recorded; any other record is out of place.
+pub(crate) fn merge_delay_of<T: Drop>(
+    alloc: Global,
+    note: &Note,
+    values: Result<Vec<StreamValue<T>>, Trouble>,
+) -> Result<StreamValue<T>, Trouble>
+    ensures { (o : Option (List (Stream T))) → GivesAll values o → Gives result (chosen (Some note.now) (λ cs. option_and_then (merge_delay cs) o)) }
+{
+    match note {
+        Note::Picks(choices) => if_valid(merge_delay(alloc, values?, choices.as_slice())?),
         Note::Nothing => Err(Trouble::BadNotes),
         Note::Ended(_) => Err(Trouble::BadNotes),
     }

@@ -8,8 +8,8 @@ use Rattle.rsx_model.specs.declared.expr.Expr.{Expr}
 use Rattle.rsx_model.specs.declared.expr.Expr.TheOpen.{Expr-F}
 use Rattle.rsx_model.specs.declared.expr.Expr.TheOpen as layer
 use Rattle.rsx_model.specs.declared.expr.Expr.TheFolds.{map-Expr, fold_out-Expr}
-use Rattle.rsx_model.specs.declared.expr.Expr.TheVariants.{Concat, Merge, Zip, Latest, Items, Range, Hub}
-use Rattle.rsx_model.specs.declared.expr.Expr.TheViews.{outs-Concat, outs-Merge, outs-Zip, outs-Latest, out-Expr, Plain, Window, On}
+use Rattle.rsx_model.specs.declared.expr.Expr.TheVariants.{Concat, Merge, MergeDelay, Zip, Latest, Items, Range, Hub}
+use Rattle.rsx_model.specs.declared.expr.Expr.TheViews.{outs-Concat, outs-Merge, outs-MergeDelay, outs-Zip, outs-Latest, out-Expr, Plain, Window, On}
 use Rattle.rsx_model.specs.Shape.{children, nodes, sum_of}
 use Rattle.rsx_model.proofs.Unfold.{Each, by_children, children-map, nodes_out}
 use Rattle.rsx_rooted.specs.Leaves.{leaves_on, reads_here}
@@ -34,6 +34,9 @@ leaves_Concat n v = rw (leaves_out, outs-Concat) (omega arith)
 pub leaves_Merge : {T : Type 0} (n p : ℕ) (v : Several T) → leaves_on n (Merge p v) ≡ sum_of (map (leaves_on n) v.items)
 leaves_Merge n p v = rw (leaves_out, outs-Merge) (omega arith)
 
+pub leaves_MergeDelay : {T : Type 0} (n p : ℕ) (v : Several T) → leaves_on n (MergeDelay p v) ≡ sum_of (map (leaves_on n) v.items)
+leaves_MergeDelay n p v = rw (leaves_out, outs-MergeDelay) (omega arith)
+
 pub leaves_Zip : {T : Type 0} (n p : ℕ) (v : Several T) → leaves_on n (Zip p v) ≡ sum_of (map (leaves_on n) v.items)
 leaves_Zip n p v = rw (leaves_out, outs-Zip) (omega arith)
 
@@ -57,6 +60,7 @@ reads_le n (layer.Hub h) = by_test (nat_eq h.0 n)
 reads_le n (layer.Plain g b) = omega arith
 reads_le n (layer.Concat v) = omega arith
 reads_le n (layer.Merge p v) = omega arith
+reads_le n (layer.MergeDelay p v) = omega arith
 reads_le n (layer.Zip p v) = omega arith
 reads_le n (layer.Latest p v) = omega arith
 reads_le n (layer.Group f gs b) = omega arith

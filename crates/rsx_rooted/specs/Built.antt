@@ -6,7 +6,7 @@ use Rattle.rsx_model.specs.Eval.{environment, meant}
 use Rattle.rsx_model.specs.Shape.{children}
 use Rattle.rsx_model.specs.declared.expr.Expr.{Expr}
 use Rattle.rsx_model.specs.declared.expr.Expr.TheFolds.{fold-Expr}
-use Rattle.rsx_model.specs.declared.expr.Expr.TheOpen.{Expr-F, Items, Range, Hub, Concat, Merge, Zip, Latest, Group, Window, Flat, On}
+use Rattle.rsx_model.specs.declared.expr.Expr.TheOpen.{Expr-F, Items, Range, Hub, Concat, Merge, MergeDelay, Zip, Latest, Group, Window, Flat, On}
 use Rattle.rsx_model.specs.declared.expr.Expr.TheOpen as layer
 use Rattle.rsx_types.specs.Meaning.{Meaning}
 use Rattle.rsx_types.specs.Notes.{note_then}
@@ -48,6 +48,7 @@ begins_ended (Hub h) = false
 begins_ended (layer.Plain g b) = starts_ended g
 begins_ended (Concat v) = false
 begins_ended (Merge p v) = false
+begins_ended (MergeDelay p v) = false
 begins_ended (Zip p v) = false
 begins_ended (Latest p v) = false
 begins_ended (Group f gs b) = false
@@ -84,6 +85,7 @@ prefetch_of (Hub h) = 0
 prefetch_of (layer.Plain g b) = 0
 prefetch_of (Concat v) = 0
 prefetch_of (Merge p v) = p
+prefetch_of (MergeDelay p v) = p
 prefetch_of (Zip p v) = p
 prefetch_of (Latest p v) = p
 prefetch_of (Group f gs b) = 0
@@ -130,6 +132,7 @@ join_here js (Hub h) = join_at js h.0 ∷ []
 join_here js (layer.Plain g b) = []
 join_here js (Concat v) = []
 join_here js (Merge p v) = []
+join_here js (MergeDelay p v) = []
 join_here js (Zip p v) = []
 join_here js (Latest p v) = []
 join_here js (Group f gs b) = []

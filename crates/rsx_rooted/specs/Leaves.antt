@@ -5,7 +5,7 @@ use Rattle.rsx_hub.specs.declared.TheConstants.{MOST_MEMBERS}
 use Rattle.rsx_model.specs.Shape.{children, sum_of}
 use Rattle.rsx_model.specs.declared.expr.Expr.{Expr}
 use Rattle.rsx_model.specs.declared.expr.Expr.TheFolds.{fold-Expr}
-use Rattle.rsx_model.specs.declared.expr.Expr.TheOpen.{Expr-F, Items, Range, Hub, Plain, Concat, Merge, Zip, Latest, Group, Window, Flat, On}
+use Rattle.rsx_model.specs.declared.expr.Expr.TheOpen.{Expr-F, Items, Range, Hub, Plain, Concat, Merge, MergeDelay, Zip, Latest, Group, Window, Flat, On}
 
 -- 1 if the node reads the hub with this number
 abbrev pub reads_here : {T A : Type 0} → ℕ → Expr-F T A → ℕ
@@ -15,6 +15,7 @@ reads_here n (Hub h) = if nat_eq h.0 n then 1 else 0
 reads_here n (Plain g b) = 0
 reads_here n (Concat v) = 0
 reads_here n (Merge p v) = 0
+reads_here n (MergeDelay p v) = 0
 reads_here n (Zip p v) = 0
 reads_here n (Latest p v) = 0
 reads_here n (Group f gs b) = 0

@@ -48,6 +48,7 @@ fn add_joins<T: Drop>(expr: &Expr<T>, hubs: &[Hub<T>], joins: &mut Vec<u64>) -> 
         Expr::Plain(_, input) => add_joins(input, hubs, joins),
         Expr::Concat(inputs) => add_joins_of(inputs, hubs, joins),
         Expr::Merge(_, inputs) => add_joins_of(inputs, hubs, joins),
+        Expr::MergeDelay(_, inputs) => add_joins_of(inputs, hubs, joins),
         Expr::Zip(_, inputs) => add_joins_of(inputs, hubs, joins),
         Expr::Latest(_, inputs) => add_joins_of(inputs, hubs, joins),
         Expr::Group(_, _, input) => add_joins(input, hubs, joins),

@@ -23,6 +23,7 @@ fn leaves_on<T>(expr: &Expr<T>, hub: u32) -> u64
         Expr::Plain(_, input) => leaves_on(input, hub),
         Expr::Concat(inputs) => leaves_on_all(inputs, hub),
         Expr::Merge(_, inputs) => leaves_on_all(inputs, hub),
+        Expr::MergeDelay(_, inputs) => leaves_on_all(inputs, hub),
         Expr::Zip(_, inputs) => leaves_on_all(inputs, hub),
         Expr::Latest(_, inputs) => leaves_on_all(inputs, hub),
         Expr::Group(_, _, input) => leaves_on(input, hub),

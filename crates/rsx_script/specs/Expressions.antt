@@ -15,7 +15,7 @@ use Rattle.rsx_script.specs.Numbers.{u8_of, u32_of, u64_of, signed_of}
 use Rattle.rsx_script.specs.Reading.{Left, ◌>>=◌, next_at, opening_at, closing_at, name_at, number_at, is_opening_next}
 use Rattle.rsx_script.specs.declared.expression.OneInput.{OneInput}
 use Rattle.rsx_script.specs.declared.expression.OneInput.TheVariants as one
-use Rattle.rsx_script.specs.Orders.{Tree, Trees, items, range, hub, plain, concat, merge, zip, latest, group, window, flat, on, none, first}
+use Rattle.rsx_script.specs.Orders.{Tree, Trees, items, range, hub, plain, concat, merge, merge_delay, zip, latest, group, window, flat, on, none, first}
 
 -- the name of a function of this use, which has a number
 unfoldable pub function_at : Role → Left → Result (ℕ × Left) LineRefusal
@@ -230,7 +230,8 @@ operator_at read most column name l =
     else (if bytes_eq name (codes "merge") then of_prefetch merge read most l
     else (if bytes_eq name (codes "zip") then of_prefetch zip read most l
     else (if bytes_eq name (codes "combineLatest") then of_prefetch latest read most l
-    else over_one_at read most column name l))))))
+    else (if bytes_eq name (codes "mergeDelayError") then of_prefetch merge_delay read most l
+    else over_one_at read most column name l)))))))
 
 -- An expression, where less operators stand one in the other than is said first; in a line there are less of them than bytes.
 unfoldable pub expression_at : ℕ → Left → Result (Tree × Left) LineRefusal

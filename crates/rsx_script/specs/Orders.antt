@@ -3,7 +3,7 @@ use Rattle.std.specs.Prelude.{ℕ, ℤ, List, [], ◌∷◌}
 use Rattle.rsx_values.specs.Prelude.{HubKind, Stage}
 use Rattle.rsx_demo.specs.declared.val.Val.{Val}
 use Rattle.rsx_model.specs.declared.expr.Expr.{Expr}
-use Rattle.rsx_model.specs.declared.expr.Expr.TheOpen.{Expr-F, Items, Range, Hub, Plain, Concat, Merge, Zip, Latest, Group, Window, Flat, On}
+use Rattle.rsx_model.specs.declared.expr.Expr.TheOpen.{Expr-F, Items, Range, Hub, Plain, Concat, Merge, MergeDelay, Zip, Latest, Group, Window, Flat, On}
 use Rattle.rsx_model.specs.declared.expr.Expr.TheFolds.{fold-Expr}
 use Rattle.rsx_script.specs.declared.command.Command.{Command}
 use Rattle.rsx_script.specs.declared.command.Command.TheVariants as asks
@@ -17,6 +17,7 @@ mutual
     plain : Stage Val → Tree → Tree
     concat : Trees → Tree
     merge : ℕ → Trees → Tree
+    merge_delay : ℕ → Trees → Tree
     zip : ℕ → Trees → Tree
     latest : ℕ → Trees → Tree
     group : ℕ → List (Stage Val) → Tree → Tree
@@ -40,6 +41,7 @@ node_of (Hub h) = hub h.0
 node_of (Plain g b) = plain g b.value
 node_of (Concat v) = concat (trees_of v.items)
 node_of (Merge p v) = merge p (trees_of v.items)
+node_of (MergeDelay p v) = merge_delay p (trees_of v.items)
 node_of (Zip p v) = zip p (trees_of v.items)
 node_of (Latest p v) = latest p (trees_of v.items)
 node_of (Group f gs b) = group f gs.items b.value

@@ -55,6 +55,10 @@ fn operator(
             let prefetch = words.u64()?;
             Ok(Expr::Latest(prefetch, inputs(alloc, words)?))
         }
+        "mergeDelayError" => {
+            let prefetch = words.u64()?;
+            Ok(Expr::MergeDelay(prefetch, inputs(alloc, words)?))
+        }
         _ => over_one(alloc, column, name, words),
     }
 }

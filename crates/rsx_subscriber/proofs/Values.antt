@@ -97,6 +97,7 @@ own_more n k more (layer.Hub i) h = below_more i.0 n k (known i.0 n h) more
 own_more n k more (layer.Plain g b) h = h
 own_more n k more (layer.Concat v) h = h
 own_more n k more (layer.Merge p v) h = h
+own_more n k more (layer.MergeDelay p v) h = h
 own_more n k more (layer.Zip p v) h = h
 own_more n k more (layer.Latest p v) h = h
 own_more n k more (layer.Group f gs b) h = h

@@ -15,13 +15,14 @@
 //! A node that takes its inputs' signals in an order of its own records which input it took each from. [`Record`] keeps
 //! these choices as runs. [`pick`] takes the signals of whole stream values in a recorded order, [`merge`] is what a `merge`
 //! of them gives, and [`concat`] what a `concat` does. These know nothing of nodes, queues and demand: they evaluate from
-//! scratch.
+//! scratch. [`merge_delay`] is `mergeDelayError`, a merge in which a failure ends its input alone and goes out behind all
+//! others; its definition is in `specs/Delayed`.
 //!
 //! # zip and combineLatest
 //!
 //! Stream values joined into one: `zip` and `combineLatest` over whole values, as the slow evaluator applies them.
 //!
-//! The definitions stand in `specs/Zip` and `specs/Latest`; `specs/Worked` has cases that were worked by hand.
+//! The definitions stand in `specs/Zip` and `specs/Latest`; `specs/WorkedJoins` has cases that were worked by hand.
 //!
 //! # window, flatMap and groupBy
 //!
@@ -36,6 +37,7 @@
 //! `Worked` has cases worked by hand.
 
 pub mod concatenation;
+pub mod delaying;
 pub mod flat;
 pub mod group;
 pub mod joining_law;
@@ -51,6 +53,7 @@ pub mod rows;
 pub mod windowing;
 
 pub use concatenation::concat;
+pub use delaying::{ending_behind, first_cause, merge_delay};
 pub use flat::flat_map;
 pub use group::group_by;
 pub use latest::Latest;

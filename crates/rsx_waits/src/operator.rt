@@ -29,6 +29,8 @@ pub enum Operator {
     Concat,
     /// `merge`: the items of all inputs, as they are picked.
     Merge,
+    /// `mergeDelayError`: the same, but a failure ends its input alone.
+    MergeDelay,
     /// `zip`: rows of one item of each input.
     Zip,
     /// `combineLatest`: rows of the latest items of the inputs.
@@ -64,6 +66,7 @@ impl fmt::Display for Operator {
             Operator::Window => f.write_str("window"),
             Operator::Concat => f.write_str("concat"),
             Operator::Merge => f.write_str("merge"),
+            Operator::MergeDelay => f.write_str("mergeDelayError"),
             Operator::Zip => f.write_str("zip"),
             Operator::CombineLatest => f.write_str("combineLatest"),
             Operator::GroupBy => f.write_str("groupBy"),

@@ -42,6 +42,8 @@ pub enum Queued {
     Concat,
     /// The items of all inputs.
     Merge,
+    /// The same, where a failure ends its input alone.
+    MergeDelay,
     /// Rows of one item of each input.
     Zip,
     /// Rows of the latest items.
@@ -75,7 +77,7 @@ pub enum Kind {
 }
 
 /// All kinds of nodes, each with the name that a script has for it.
-pub const KINDS: [(&'static str, Kind); 17] = [
+pub const KINDS: [(&'static str, Kind); 18] = [
     ("items", Kind::Leaf(Leaf::Items)),
     ("range", Kind::Leaf(Leaf::Range)),
     ("hub", Kind::Leaf(Leaf::Hub)),
@@ -87,6 +89,7 @@ pub const KINDS: [(&'static str, Kind); 17] = [
     ("distinct", Kind::Plain(Plain::Distinct)),
     ("concat", Kind::Queued(Queued::Concat)),
     ("merge", Kind::Queued(Queued::Merge)),
+    ("mergeDelayError", Kind::Queued(Queued::MergeDelay)),
     ("zip", Kind::Queued(Queued::Zip)),
     ("combineLatest", Kind::Queued(Queued::CombineLatest)),
     ("publishOn", Kind::Queued(Queued::PublishOn)),
@@ -158,11 +161,12 @@ fn any_plain(numbers: &mut Numbers) -> Plain {
 
 /// A kind of operator with queues.
 fn any_queued(numbers: &mut Numbers) -> Queued {
-    match numbers.below(5) {
+    match numbers.below(6) {
         0 => Queued::Concat,
         1 => Queued::Merge,
-        2 => Queued::Zip,
-        3 => Queued::CombineLatest,
+        2 => Queued::MergeDelay,
+        3 => Queued::Zip,
+        4 => Queued::CombineLatest,
         _ => Queued::PublishOn,
     }
 }
@@ -222,6 +226,7 @@ fn queued_over(
     match operator {
         Queued::Concat => Ok(Expr::Concat(inputs(alloc, numbers, below)?)),
         Queued::Merge => Ok(Expr::Merge(prefetch, inputs(alloc, numbers, below)?)),
+        Queued::MergeDelay => Ok(Expr::MergeDelay(prefetch, inputs(alloc, numbers, below)?)),
         Queued::Zip => Ok(Expr::Zip(prefetch, inputs(alloc, numbers, below)?)),
         Queued::CombineLatest => Ok(Expr::Latest(prefetch, inputs(alloc, numbers, below)?)),
         Queued::PublishOn => Ok(Expr::On(1, prefetch, Box::new(alloc, below)?)),

@@ -8,10 +8,10 @@ use Rattle.rsx_kinds.proofs.Crossings.{crossed_built, crossed_if}
 use Rattle.rsx_kinds.proofs.FlatMaps.{flat_if}
 use Rattle.rsx_kinds.proofs.GroupBys.{group_if}
 use Rattle.rsx_kinds.proofs.Made.{in_front_built, several_over}
-use Rattle.rsx_kinds.proofs.Placings.{crossed_placed, in_front_placed, placed_Concat, placed_Flat, placed_Group, placed_Hub, placed_Items, placed_Latest, placed_Merge, placed_On, placed_Plain, placed_Range, placed_Window, placed_Zip, placed_crossed}
+use Rattle.rsx_kinds.proofs.Placings.{crossed_placed, in_front_placed, placed_Concat, placed_Flat, placed_Group, placed_Hub, placed_Items, placed_Latest, placed_Merge, placed_MergeDelay, placed_On, placed_Plain, placed_Range, placed_Window, placed_Zip, placed_crossed}
 use Rattle.rsx_kinds.proofs.PublishOn.{publish_on_if}
 use Rattle.rsx_kinds.proofs.Rows.{split}
-use Rattle.rsx_kinds.proofs.Several.{built_concat, built_latest, built_merge, built_zip, limits_Concat, limits_Latest, limits_Merge, limits_Zip}
+use Rattle.rsx_kinds.proofs.Several.{built_concat, built_latest, built_merge, built_merge_delay, built_zip, limits_Concat, limits_Latest, limits_Merge, limits_MergeDelay, limits_Zip}
 use Rattle.rsx_kinds.proofs.Windows.{window_if}
 use Rattle.rsx_kinds.proofs.trees.+trees.Goals as goal
 use mir.Syntax.{w64}
@@ -52,9 +52,18 @@ pub build-returns-in-Merge-clause-built : goal.build-returns-in-Merge-clause-bui
 build-returns-in-Merge-clause-built g t c =
     built_merge (g.O.Ops.meaning c.args.ops.now) c.args.hubs.now c.args.expr.now c.in-Merge.prefetch c.in-Merge.inputs c.deref-in-Merge.result.now c.build_over-in-Merge.result c.in-Merge.is c.deref-in-Merge.ensures.value c.build_over-in-Merge.ensures.built
 
+pub build-returns-in-MergeDelay-clause-built : goal.build-returns-in-MergeDelay-clause-built
+build-returns-in-MergeDelay-clause-built g t c =
+    built_merge_delay (g.O.Ops.meaning c.args.ops.now) c.args.hubs.now c.args.expr.now c.in-MergeDelay.prefetch c.in-MergeDelay.inputs c.deref-in-MergeDelay.result.now c.build_over-in-MergeDelay.result c.in-MergeDelay.is c.deref-in-MergeDelay.ensures.value c.build_over-in-MergeDelay.ensures.built
+
 pub build-build_over-requires-in-Merge : goal.build-build_over-requires-in-Merge
 build-build_over-requires-in-Merge g t c κs within =
     let l = limits_Merge (length c.args.hubs.now) c.args.expr.now c.in-Merge.prefetch c.in-Merge.inputs c.deref-in-Merge.result.now c.in-Merge.is c.deref-in-Merge.ensures.value c.requires in
+    (search (rules, l.smaller), (search rules, (search rules, (search rules, (search rules, (search rules, (l.within, (l.few.some, (l.few.most, l.faultless)))))))))
+
+pub build-build_over-requires-in-MergeDelay : goal.build-build_over-requires-in-MergeDelay
+build-build_over-requires-in-MergeDelay g t c κs within =
+    let l = limits_MergeDelay (length c.args.hubs.now) c.args.expr.now c.in-MergeDelay.prefetch c.in-MergeDelay.inputs c.deref-in-MergeDelay.result.now c.in-MergeDelay.is c.deref-in-MergeDelay.ensures.value c.requires in
     (search (rules, l.smaller), (search rules, (search rules, (search rules, (search rules, (search rules, (l.within, (l.few.some, (l.few.most, l.faultless)))))))))
 
 pub build-returns-in-Zip-clause-built : goal.build-returns-in-Zip-clause-built
@@ -143,6 +152,10 @@ build-returns-in-Concat-clause-placed g t c = placed_Concat c.args.expr.now c.in
 pub build-returns-in-Merge-clause-placed : goal.build-returns-in-Merge-clause-placed
 build-returns-in-Merge-clause-placed g t c =
     placed_Merge c.args.expr.now c.in-Merge.prefetch c.in-Merge.inputs c.deref-in-Merge.result.now c.build_over-in-Merge.result c.in-Merge.is c.deref-in-Merge.ensures.value c.build_over-in-Merge.ensures.placed
+
+pub build-returns-in-MergeDelay-clause-placed : goal.build-returns-in-MergeDelay-clause-placed
+build-returns-in-MergeDelay-clause-placed g t c =
+    placed_MergeDelay c.args.expr.now c.in-MergeDelay.prefetch c.in-MergeDelay.inputs c.deref-in-MergeDelay.result.now c.build_over-in-MergeDelay.result c.in-MergeDelay.is c.deref-in-MergeDelay.ensures.value c.build_over-in-MergeDelay.ensures.placed
 
 pub build-returns-in-Zip-clause-placed : goal.build-returns-in-Zip-clause-placed
 build-returns-in-Zip-clause-placed g t c =

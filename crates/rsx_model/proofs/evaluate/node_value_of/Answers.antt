@@ -3,11 +3,11 @@ use Rattle.std.proofs.lemmas.Int.{to_z-of_z}
 use Rattle.std.proofs.lemmas.Option.{slice_get_read}
 use mir.Val.{SFits}
 use mir.Syntax.{w64}
-use Rattle.rsx_model.specs.declared.expr.Expr.TheViews.{outs-Items, outs-Range, outs-Hub, outs-Plain, outs-Concat, outs-Merge, outs-Zip, outs-Latest, outs-Group, outs-Window, outs-Flat, outs-On}
+use Rattle.rsx_model.specs.declared.expr.Expr.TheViews.{outs-Items, outs-Range, outs-Hub, outs-Plain, outs-Concat, outs-Merge, outs-MergeDelay, outs-Zip, outs-Latest, outs-Group, outs-Window, outs-Flat, outs-On}
 use Rattle.rsx_model.specs.Check.{first_fault}
 use Rattle.rsx_model.specs.Eval.{environment, meant}
 use Rattle.rsx_model.specs.Shape.{leaves}
-use Rattle.rsx_model.proofs.Unfold.{value_out, value_Concat, value_Merge, value_Zip, value_Latest, leaves_Hub, hub_there, joined_there}
+use Rattle.rsx_model.proofs.Unfold.{value_out, value_Concat, value_Merge, value_MergeDelay, value_Zip, value_Latest, leaves_Hub, hub_there, joined_there}
 use Rattle.rsx_model.proofs.evaluate.node_value_of.Goals as goal
 
 pub returns-in-Items : goal.returns-in-Items
@@ -49,6 +49,12 @@ returns-in-Merge g c =
     let note : slice_get c.args.notes.now c.args.at ≡ Some c.index-notes-at.result = slice_get_read c.args.notes.now (length c.args.notes.now) c.args.at c.index-notes-at.result refl c.requires.noted c.index-notes-at.is in
     let below = rw (c.in-Merge.is, outs-Merge) at c.requires.below in
     rw (c.in-Merge.is, value_Merge, note) (c.merge_of.ensures _ below)
+
+pub returns-in-MergeDelay : goal.returns-in-MergeDelay
+returns-in-MergeDelay g c =
+    let note : slice_get c.args.notes.now c.args.at ≡ Some c.index-notes-at.result = slice_get_read c.args.notes.now (length c.args.notes.now) c.args.at c.index-notes-at.result refl c.requires.noted c.index-notes-at.is in
+    let below = rw (c.in-MergeDelay.is, outs-MergeDelay) at c.requires.below in
+    rw (c.in-MergeDelay.is, value_MergeDelay, note) (c.merge_delay_of.ensures _ below)
 
 pub returns-in-Zip : goal.returns-in-Zip
 returns-in-Zip g c =

@@ -1,6 +1,6 @@
 use Rattle.std.proofs.Common.{arith}
 use Rattle.rsx_rooted.specs.Leaves.{leaves_on}
-use Rattle.rsx_rooted.proofs.Leaves.{all_leaves_le, leaves_Concat, leaves_Merge, leaves_Zip, leaves_Latest, sum_front}
+use Rattle.rsx_rooted.proofs.Leaves.{all_leaves_le, leaves_Concat, leaves_Merge, leaves_MergeDelay, leaves_Zip, leaves_Latest, sum_front}
 use Rattle.rsx_rooted.proofs.places.+leaves.Goals as goal
 
 pub leaves_on-returns-in-Concat : goal.leaves_on-returns-in-Concat
@@ -8,6 +8,9 @@ leaves_on-returns-in-Concat g t c = rw (c.in-Concat.is, leaves_Concat c.args.hub
 
 pub leaves_on-returns-in-Merge : goal.leaves_on-returns-in-Merge
 leaves_on-returns-in-Merge g t c = rw (c.in-Merge.is, leaves_Merge c.args.hub, ← c.deref-in-Merge.ensures.value) c.leaves_on_all-in-Merge.ensures
+
+pub leaves_on-returns-in-MergeDelay : goal.leaves_on-returns-in-MergeDelay
+leaves_on-returns-in-MergeDelay g t c = rw (c.in-MergeDelay.is, leaves_MergeDelay c.args.hub, ← c.deref-in-MergeDelay.ensures.value) c.leaves_on_all-in-MergeDelay.ensures
 
 pub leaves_on-returns-in-Zip : goal.leaves_on-returns-in-Zip
 leaves_on-returns-in-Zip g t c = rw (c.in-Zip.is, leaves_Zip c.args.hub, ← c.deref-in-Zip.ensures.value) c.leaves_on_all-in-Zip.ensures

@@ -20,6 +20,19 @@ returns-in_ok-node-in-Merge g c =
       wanted = λ i asked lt. asks n.inputs.items c.args.inputs c.in-Merge.prefetch within.1 w.inputs i lt;
     })
 
+pub returns-in_ok-node-in-MergeDelay : goal.returns-in_ok-node-in-MergeDelay
+returns-in_ok-node-in-MergeDelay g c =
+    let within = rw c.in-MergeDelay.is at c.requires in
+    let n = c.in_ok-node-in-MergeDelay.node in
+    let w = c.in_ok-node-in-MergeDelay.ensures in
+    rw c.in-MergeDelay.is (record {
+      fresh = λ m inc further. w.fresh m inc further;
+      recorded = ap (λ l. Picks (written l)) w.choices;
+      ended = λ some. goes_on_first n.output c.args.inputs w.output some;
+      counted = w.counted;
+      wanted = λ i asked lt. asks n.inputs.items c.args.inputs c.in-MergeDelay.prefetch within.1 w.inputs i lt;
+    })
+
 pub returns-in_ok-node-in-Zip : goal.returns-in_ok-node-in-Zip
 returns-in_ok-node-in-Zip g c =
     let within = rw c.in-Zip.is at c.requires in

@@ -6,6 +6,9 @@ returns-in-Concat g c = record { shown = rw c.in-Concat.is c.front.ensures.shown
 pub returns-in-Merge : goal.returns-in-Merge
 returns-in-Merge g c = record { shown = rw c.in-Merge.is c.front-in-Merge.ensures.shown; first = λ m. rw c.in-Merge.is (c.front-in-Merge.ensures.first m) }
 
+pub returns-in-MergeDelay : goal.returns-in-MergeDelay
+returns-in-MergeDelay g c = record { shown = rw c.in-MergeDelay.is c.front-in-MergeDelay.ensures.shown; first = λ m. rw c.in-MergeDelay.is (c.front-in-MergeDelay.ensures.first m) }
+
 pub returns-in-Zip : goal.returns-in-Zip
 returns-in-Zip g c = record { shown = rw c.in-Zip.is c.front-in-Zip.ensures.shown; first = λ m. rw c.in-Zip.is (c.front-in-Zip.ensures.first m) }
 

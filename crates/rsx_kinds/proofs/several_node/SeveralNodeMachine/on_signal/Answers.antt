@@ -1,7 +1,7 @@
 use Rattle.std.proofs.Common.{ap, refl}
 use Rattle.std.proofs.lemmas.Result.{on_ok_weaker, on_err_weaker}
-use Rattle.rsx_kinds.proofs.SeveralDispatch.{taken_concat, taken_merge, taken_zip, taken_latest}
-use Rattle.rsx_kinds.specs.declared.several_node.SeveralNode.TheVariants.{Concat, Merge, Zip, Latest}
+use Rattle.rsx_kinds.proofs.SeveralDispatch.{taken_concat, taken_merge, taken_merge_delay, taken_zip, taken_latest}
+use Rattle.rsx_kinds.specs.declared.several_node.SeveralNode.TheVariants.{Concat, Merge, MergeDelay, Zip, Latest}
 use Rattle.rsx_kinds.proofs.several_node.SeveralNodeMachine.on_signal.Goals as goal
 
 pub returns-in-Concat : goal.returns-in-Concat
@@ -26,6 +26,18 @@ returns-in-Merge g c = rw c.in-Merge.is (record {
   memory = c.on_signal-in-Merge.ensures.memory;
   alike = (refl, (refl, λ a. (refl, refl, refl)));
   same = on_err_weaker c.on_signal-in-Merge.result (λ e. ap Merge e) c.on_signal-in-Merge.ensures.same;
+})
+
+pub returns-in-MergeDelay : goal.returns-in-MergeDelay
+returns-in-MergeDelay g c = rw c.in-MergeDelay.is (record {
+  ok = c.on_signal-in-MergeDelay.ensures.ok;
+  enabled = c.on_signal-in-MergeDelay.ensures.enabled;
+  recorded = c.on_signal-in-MergeDelay.ensures.recorded;
+  counts = on_ok_weaker c.on_signal-in-MergeDelay.result (taken_merge_delay c.in-MergeDelay.node c.on_signal-in-MergeDelay.new.self c.args.input c.args.signal) c.on_signal-in-MergeDelay.ensures.counts;
+  err = c.on_signal-in-MergeDelay.ensures.err;
+  memory = c.on_signal-in-MergeDelay.ensures.memory;
+  alike = (refl, (refl, λ a. (refl, refl, refl)));
+  same = on_err_weaker c.on_signal-in-MergeDelay.result (λ e. ap MergeDelay e) c.on_signal-in-MergeDelay.ensures.same;
 })
 
 pub returns-in-Zip : goal.returns-in-Zip

@@ -1,6 +1,6 @@
 use Rattle.std.proofs.Common.{subst}
 use Rattle.rsx_kinds.specs.Prelude.{SeveralNode, several_popped}
-use Rattle.rsx_kinds.proofs.SeveralDispatch.{returned_concat, returned_merge, returned_zip, returned_latest}
+use Rattle.rsx_kinds.proofs.SeveralDispatch.{returned_concat, returned_merge, returned_merge_delay, returned_zip, returned_latest}
 use Rattle.rsx_kinds.proofs.several_node.SeveralNodeMachine.put_back.Goals as goal
 
 pub returns-in-Concat : goal.returns-in-Concat
@@ -12,6 +12,11 @@ pub returns-in-Merge : goal.returns-in-Merge
 returns-in-Merge g c = λ before h.
     let P : SeveralNode _ → Type 0 = λ t. several_popped before c.args.signal t in
     returned_merge before c.args.signal c.in-Merge.node c.put_back-in-Merge.new.self (subst P c.in-Merge.is h) c.put_back-in-Merge.ensures
+
+pub returns-in-MergeDelay : goal.returns-in-MergeDelay
+returns-in-MergeDelay g c = λ before h.
+    let P : SeveralNode _ → Type 0 = λ t. several_popped before c.args.signal t in
+    returned_merge_delay before c.args.signal c.in-MergeDelay.node c.put_back-in-MergeDelay.new.self (subst P c.in-MergeDelay.is h) c.put_back-in-MergeDelay.ensures
 
 pub returns-in-Zip : goal.returns-in-Zip
 returns-in-Zip g c = λ before h.

@@ -4,7 +4,7 @@ use Rattle.rsx_types.specs.declared.signal.Cause.TheVariants.{User}
 use Rattle.rsx_types.specs.declared.signal.Ending.{Ending}
 use Rattle.rsx_types.specs.declared.signal.Ending.TheVariants.{Open, Done, Failed}
 use Rattle.rsx_types.specs.Stream.{Stream}
-use Rattle.rsx_delayed.specs.Delayed.{merge_delay}
+use Rattle.rsx_values.specs.Delayed.{merge_delay}
 
 abbrev pub stream : List ℕ → Ending → Stream ℕ
 stream xs e = record { items = xs; ending = e }

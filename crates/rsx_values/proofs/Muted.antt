@@ -8,8 +8,8 @@ use Rattle.rsx_types.specs.declared.signal.Signal.{Signal}
 use Rattle.rsx_types.specs.declared.signal.Signal.TheVariants.{Next, Complete, Error}
 use Rattle.rsx_types.specs.Stream.{Stream, ending_signals, signals}
 use Rattle.rsx_values.specs.Pick.{InputLeft, Taken, chosen_before, next_here, next_of, numbered, pick, rest_of, up_to_failure}
-use Rattle.rsx_delayed.specs.Delayed.{all_of, merge_delay, merged_delayed, pick_all, rest_of_all}
-use Rattle.rsx_delayed.specs.Muted.{all_back, all_muted, endings, signal_back, without_failure}
+use Rattle.rsx_values.specs.Delayed.{all_of, merge_delay, merged_delayed, pick_all, rest_of_all}
+use Rattle.rsx_values.specs.Muted.{all_back, all_muted, endings, signal_back, without_failure}
 
 abbrev mute : {T : Type 0} → Signal T → Signal T
 mute (Next x) = Next x

@@ -2,12 +2,11 @@
 
 ghost use Rattle.std.specs.Prelude.{◌≡◌, List, length, None, IfOk};
 ghost use Rattle.rsx_types.specs.Stream.{Stream};
-ghost use Rattle.rsx_delayed.specs.Delayed.{merge_delay, merged_delayed};
-ghost use Rattle.rsx_delayed.specs.Muted.{all_back, signal_back, without_failure};
+ghost use Rattle.rsx_values.specs.Delayed.{ending_behind, first_cause, merge_delay, merged_delayed};
+ghost use Rattle.rsx_values.specs.Muted.{all_back, signal_back, without_failure};
 
-use crate::remaining::{ending_behind, first_cause};
-use rsx_types::{Ending, NoMemory, Signal, StreamValue};
-use rsx_values::{Input, pick};
+use crate::picking::{Input, pick};
+use rsx_types::{Cause, Ending, NoMemory, Signal, StreamValue};
 use std::alloc::Global;
 
 /// The merge of the values under these choices, where the first value has the number 0: all items of the pick, in which choices
@@ -89,4 +88,27 @@ fn merged_back<T: Drop>(
         }
     }
     Ok(StreamValue::new(items, ending_behind(left, kept)))
+}
+
+/// The failure that was taken first, after one with this cause was taken.
+pub fn first_cause(kept: Option<Cause>, cause: Cause) -> Option<Cause>
+    ensures { result ≡ first_cause kept cause }
+{
+    match kept {
+        None => Some(cause),
+        Some(first) => Some(first),
+    }
+}
+
+/// The ending of a merge of which so many inputs have not ended, and of which this failure was taken first.
+pub fn ending_behind(left: usize, first: Option<Cause>) -> Ending
+    ensures { result ≡ ending_behind left first }
+{
+    if left > 0 {
+        return Ending::Open;
+    }
+    match first {
+        None => Ending::Done,
+        Some(cause) => Ending::Failed(cause),
+    }
 }

@@ -1,8 +1,8 @@
 use Rattle.std.proofs.Common.{◌≡◌, ◌++◌, length}
 use Rattle.std.specs.Vec.Iter.{into_iter_items}
 use Rattle.rsx_values.specs.Pick.{numbered}
-use Rattle.rsx_delayed.specs.Muted.{all_muted, endings}
-use Rattle.rsx_delayed.proofs.whole_values.merge_delay.Given as goal
+use Rattle.rsx_values.specs.Muted.{all_muted, endings}
+use Rattle.rsx_values.proofs.delaying.merge_delay.Given as goal
 
 abbrev pub invariant-loop-value : goal.invariant-loop-value
 invariant-loop-value g l = record {

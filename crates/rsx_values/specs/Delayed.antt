@@ -43,6 +43,10 @@ abbrev pub ending_of : Option Cause → Ending
 ending_of None = Done
 ending_of (Some c) = Failed c
 
+-- how it ends where so many inputs have not ended and this failure is the first
+abbrev pub ending_behind : ℕ → Option Cause → Ending
+ending_behind left kept = if nat_eq left 0 then ending_of kept else Open
+
 -- the items of a pick
 abbrev pub items_taken : {T : Type 0} → List (Taken T) → List T
 items_taken [] = []
@@ -53,7 +57,7 @@ items_taken ((n, Error c) ∷ ts) = items_taken ts
 -- the ending of a pick of inputs of which so many have not ended, where this failure was taken first so far: open unless the
 -- endings of all were taken
 abbrev pub delayed_ending : {T : Type 0} → ℕ → Option Cause → List (Taken T) → Ending
-delayed_ending left kept [] = if nat_eq left 0 then ending_of kept else Open
+delayed_ending left kept [] = ending_behind left kept
 delayed_ending left kept ((n, Next x) ∷ ts) = delayed_ending left kept ts
 delayed_ending left kept ((n, Complete) ∷ ts) = delayed_ending (left - 1) kept ts
 delayed_ending left kept ((n, Error c) ∷ ts) = delayed_ending (left - 1) (first_cause kept c) ts

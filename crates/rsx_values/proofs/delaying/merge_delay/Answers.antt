@@ -1,10 +1,10 @@
 use Rattle.std.proofs.Common.{◌≡◌, length, Some, None, option_map, sym, ap, ◌∙◌, arith}
 use Rattle.std.proofs.lemmas.Grind.{common_steps}
 use Rattle.rsx_values.specs.Pick.{numbered, pick}
-use Rattle.rsx_delayed.specs.Delayed.{merged_delayed}
-use Rattle.rsx_delayed.specs.Muted.{all_back, all_muted, endings}
-use Rattle.rsx_delayed.proofs.Muted.{evaluated}
-use Rattle.rsx_delayed.proofs.whole_values.merge_delay.Goals as goal
+use Rattle.rsx_values.specs.Delayed.{merged_delayed}
+use Rattle.rsx_values.specs.Muted.{all_back, all_muted, endings}
+use Rattle.rsx_values.proofs.Muted.{evaluated}
+use Rattle.rsx_values.proofs.delaying.merge_delay.Goals as goal
 
 pub returns-in-Some-2 : goal.returns-in-Some-2
 returns-in-Some-2 g c =
