@@ -112,8 +112,8 @@ impl<M: Machine> Rooted<M> {
     /// # Errors
     /// [`NotMade::NotEnabled`] exactly where the move isn't enabled, and [`NotMade::NoMemory`] where a growth was refused. Then
     /// nothing changed. An Ask doesn't allocate. A Send may where the node that takes the signal in is a `buffer`, `distinct`,
-    /// `window`, `groupBy` or `flatMap`; a pick or a row where its node is a `merge`, `combineLatest`, `groupBy` or `flatMap`; and
-    /// each where a node calls a function of the caller's that may.
+    /// `window`, `groupBy` or `flatMap`; a pick or a row where its node is a `merge`, `mergeDelayError`, `combineLatest`, `groupBy`
+    /// or `flatMap`; and each where a node calls a function of the caller's that may.
     pub fn make<O: Ops<Item = M::Item>, S: Sink<M::Item>>(
         &mut self,
         alloc: Global,
@@ -365,8 +365,8 @@ impl<M: Machine> Rooted<M> {
     ///
     /// # Errors
     /// [`NoMemory`] where a growth was refused; the moves made before stand. It comes only where some node of the tree may
-    /// allocate: a `buffer`, `distinct`, `window`, `groupBy`, `flatMap`, `merge` or `combineLatest`, or a node that calls a function
-    /// of the caller's whose [`Ops`] says that it may (`allocates`).
+    /// allocate: a `buffer`, `distinct`, `window`, `groupBy`, `flatMap`, `merge`, `mergeDelayError` or `combineLatest`, or a node that
+    /// calls a function of the caller's whose [`Ops`] says that it may (`allocates`).
     pub fn pump<O: Ops<Item = M::Item>, S: Sink<M::Item>>(
         &mut self,
         alloc: Global,
