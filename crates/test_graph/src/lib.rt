@@ -5,6 +5,8 @@
 #[cfg(test)]
 mod crossings;
 #[cfg(test)]
+mod delayed;
+#[cfg(test)]
 mod driven;
 #[cfg(test)]
 mod graphs;
