@@ -1,6 +1,6 @@
 //! Scripts whose subscriptions are recorded, and what the judge says of the traces.
 
-use rsx_recorder::Recording;
+use rsx_session::Recording;
 use rsx_tck::{Verdict, parse_trace, report};
 use std::alloc::Global;
 use std::io;

@@ -1,7 +1,7 @@
 //! Writing events down.
 
 ghost use Rattle.std.specs.Prelude.{◌≡◌, ◌≤◌, ◌∷◌, ◌++◌, [], All, OnOk};
-ghost use Rattle.rsx_recorder.specs.Recorded.{beginning, delivery, event_of, stamped};
+ghost use Rattle.rsx_session.specs.Recorded.{beginning, delivery, event_of, stamped};
 
 use rsx_trace::{Event, Stamped};
 use rsx_types::{NoMemory, Signal, SubId};
