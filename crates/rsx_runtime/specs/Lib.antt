@@ -6,6 +6,7 @@ pub mod Ordered
 pub mod Passing
 pub mod Poking
 pub mod Resting
+pub mod Seated
 pub mod Standing
 pub mod Stopping
 pub mod Tapping

@@ -7,7 +7,11 @@
 //! ([`RegionPass`]).
 //!
 //! [`work`] is the loop of a worker: it pokes one region again and again, and rests where nothing is left to do. [`ParkRest`] rests on
-//! a parker, and a [`Rouser`] rouses and stops such workers from other threads. Only `work` and the rest of a `ParkRest` wait.
+//! a parker, and a [`Rouser`] rouses and stops such workers from other threads.
+//!
+//! [`serve_on_threads`] gives each region of a [`Live`] such a worker, which rests on a parker ([`Parkers`]), starts a thread for each,
+//! and runs `main` on the calling thread meanwhile. As `main` returns all workers are stopped, and once they have ended all seats come
+//! back, so that the graph may be closed. Only `serve_on_threads`, `work` and the rest of a `ParkRest` wait.
 //!
 //! [`Live::begin`] puts the pieces of trees that were cut into regions, and opens a gate for each. By [`Live::close`] the gates end, and
 //! the trees come back; by [`Live::stop`] the regions do.
@@ -20,17 +24,20 @@
 //! The definitions stand in `specs/`: `Poking` (what a poke does), `Passing` (what the calls of a pass change), `Resting` and `Tokens`
 //! (parkers with their tokens, and who is roused), `Beginning` (the gates that are made), `Closing` (trees that were cut, with their
 //! pieces in regions), `Stopping` (the regions that come back), `Emitting` and `Tapping` (what the calls of emitters and taps change),
-//! `Standing` (how a tap stands) and `Ordered` (nothing follows an ending).
+//! `Standing` (how a tap stands), `Ordered` (nothing follows an ending) and `Seated` (seats at their places).
 
 pub mod beginning;
 pub mod closing;
+mod each;
 pub mod emitter;
 pub mod live;
 pub mod park;
+pub mod parkers;
 pub mod pass;
 pub mod rest;
 pub mod stopping;
 pub mod tap;
+pub mod threads;
 pub mod tokens;
 pub mod worker;
 
@@ -39,10 +46,12 @@ pub use closing::Plan;
 pub use emitter::{Emitter, NotEnded};
 pub use live::{Live, Poked, RegionGate, RegionSeat};
 pub use park::{ParkRest, Rouser};
+pub use parkers::Parkers;
 pub use pass::{RegionLeft, RegionPass};
 pub use rest::{Rest, Rested};
 pub use stopping::Stopped;
 pub use tap::{Canceller, Tap, TapEnds, Tapped};
+pub use threads::{Served, serve_on_threads};
 pub use worker::work;
 
 /// How often a poke serves its region before it gives up the gate.

@@ -4,7 +4,7 @@ ghost use Rattle.std.specs.Prelude.{◌≡◌, ◌≤◌, length, IfOk};
 ghost use Rattle.std.specs.List.{AllZip};
 ghost use Rattle.rsx_gate.specs.Machine.{all_parts};
 ghost use Rattle.rsx_gate.specs.Seats.{IsSeatOf};
-ghost use Rattle.rsx_workers.below.rsx_runtime.specs.declared.TheConstants.{MOST_WORKERS};
+ghost use Rattle.rsx_runtime.specs.declared.TheConstants.{MOST_WORKERS};
 ghost use Rattle.rsx_live.specs.Starts.{IsStarted};
 ghost use Rattle.test_live.specs.Taps.{AreTapsOf};
 
@@ -14,8 +14,8 @@ use anyhow::{Result, bail};
 use rsx_demo::{Demo, Val};
 use rsx_kinds::TreeNode;
 use rsx_live::{LiveGraph, StartedGraph, Tap};
+use rsx_runtime::{Parkers, RegionSeat, Rouser, Served, serve_on_threads};
 use rsx_types::{Ops, Signal};
-use rsx_workers::{Parkers, RegionSeat, Rouser, Served, serve_on_threads};
 use std::alloc::Global;
 use std::sync::Wait;
 use std::thread;

@@ -1,5 +1,5 @@
 use Rattle.crossbeam_utils.specs.Token.{parker_view}
-use Rattle.rsx_runtime.proofs.Parkers.{takes}
+use Rattle.rsx_runtime.proofs.Parking.{takes}
 use Rattle.rsx_runtime.proofs.park.ParkRestRest.rest.Goals as goal
 
 pub park_as-requires-clause-rule : goal.park_as-requires-clause-rule

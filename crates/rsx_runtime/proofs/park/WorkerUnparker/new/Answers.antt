@@ -1,4 +1,4 @@
-use Rattle.rsx_runtime.proofs.Parkers.{admits}
+use Rattle.rsx_runtime.proofs.Parking.{admits}
 use Rattle.rsx_runtime.proofs.park.WorkerUnparker.new.Goals as goal
 
 pub pass-pass-requires : goal.pass-pass-requires

@@ -3,7 +3,7 @@
 ghost use Rattle.std.specs.Prelude.{◌≡◌, ◌≤◌, length, IfOk};
 ghost use Rattle.rsx_runtime.specs.declared.TheConstants.{MOST_WORKERS};
 
-use rsx_runtime::{ParkRest, Rouser};
+use crate::park::{ParkRest, Rouser};
 use std::alloc::{AllocError, Global};
 
 /// A parker for each of some workers, and what rouses and stops them.

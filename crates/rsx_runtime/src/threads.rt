@@ -10,9 +10,12 @@ ghost use Rattle.rsx_runtime.specs.declared.TheConstants.{MOST_WORKERS};
 ghost use Rattle.rsx_runtime.specs.declared.park.Rouser.{Rouser as RouserSpec};
 
 use crate::each::serve_each;
+use crate::live::{Live, RegionSeat};
+use crate::park::{ParkRest, Rouser};
 use crate::parkers::Parkers;
+use crate::rest::Rest;
+use crate::worker::work;
 use rsx_pipe::Nodes;
-use rsx_runtime::{Live, ParkRest, RegionSeat, Rest, Rouser, work};
 use rsx_types::Ops;
 use std::alloc::Global;
 use std::sync::Wait;
@@ -45,7 +48,7 @@ fn worked<R: Wait, N: Nodes<Item = T>, T: Drop, O: Ops<Item = T>, W: Rest + Drop
 }
 
 /// Serves each region by a worker on a thread of its own, and runs `main` on the calling thread meanwhile. There is a seat for each
-/// gate, in their order, each with all parts, and no more than [`MOST_WORKERS`](rsx_runtime::MOST_WORKERS), and a parker for each.
+/// gate, in their order, each with all parts, and no more than [`MOST_WORKERS`](crate::MOST_WORKERS), and a parker for each.
 ///
 /// Worker w works on region w by [`work`], and rests on a parker of its own. `main` is given what rouses the workers: it does so after a
 /// request or a cancel, and again and again while it waits, since a worker that only passes a request on rouses nobody. As it returns, the

@@ -1,7 +1,7 @@
 use Rattle.std.proofs.Common.{◌≡◌, length, rules}
 use denote.Param.Send.{sendable}
-use Rattle.rsx_workers.proofs.Seated.{may_front, may_last, served_too}
-use Rattle.rsx_workers.proofs.each.+fn-serve_each-join+arg3+serve_each.Goals as goal
+use Rattle.rsx_runtime.proofs.Seated.{may_front, may_last, served_too}
+use Rattle.rsx_runtime.proofs.each.+fn-serve_each-join+arg3+serve_each.Goals as goal
 
 pub join-seat-requires-after_bounds : goal.join-seat-requires-after_bounds
 join-seat-requires-after_bounds g t c κs within =

@@ -3,7 +3,7 @@ use Rattle.std.proofs.Common.{◌≡◌, ◌⊎◌, inl, inr, ℕ, zero, suc, �
 use Rattle.std.proofs.lemmas.Option.{slice_get_within}
 use Rattle.std.specs.Fn.{Shared}
 use Rattle.std.specs.List.{AllZip}
-use Rattle.rsx_workers.specs.Seated.{HaveServed, MayServe}
+use Rattle.rsx_runtime.specs.Seated.{HaveServed, MayServe}
 
 module _ {S : Type 0} where
   -- what stands behind the others

@@ -6,14 +6,14 @@ use denote.Param.Send.{IsSend, IsSync, recorded_sync, sendable, struct_sync}
 use Rattle.std.proofs.Crossing.{crosses}
 use Rattle.std.specs.declared.clone.Clone.{Ghosts as Clone}
 use Rattle.rsx_types.specs.declared.ops.Ops.{Ghosts as Ops}
-use Rattle.rsx_pipe.below.rsx_sources.specs.declared.machine.Machine.{Ghosts as Machine}
-use Rattle.rsx_pipe.below.rsx_tree.proofs.inputs.Inputs.TheLaws.TheKnot as Inputs
+use Rattle.rsx_sources.specs.declared.machine.Machine.{Ghosts as Machine}
+use Rattle.rsx_tree.proofs.inputs.Inputs.TheLaws.TheKnot as Inputs
 use Rattle.rsx_pipe.specs.declared.Nodes.{Ghosts as Nodes}
 use Rattle.rsx_gate.proofs.gate.Gate.TheSendSync as Gate
-use Rattle.rsx_runtime.below.rsx_link.proofs.link.Link.TheSendSync as Link
-use Rattle.rsx_runtime.below.rsx_piece.proofs.inlet.Inlet.TheSendSync as Inlet
-use Rattle.rsx_runtime.below.rsx_link.proofs.up.Up.TheSendSync as Up
-use Rattle.rsx_runtime.below.rsx_region.specs.contracts.region.Region as Region
+use Rattle.rsx_link.proofs.link.Link.TheSendSync as Link
+use Rattle.rsx_piece.proofs.inlet.Inlet.TheSendSync as Inlet
+use Rattle.rsx_link.proofs.up.Up.TheSendSync as Up
+use Rattle.rsx_region.specs.contracts.region.Region as Region
 use Rattle.rsx_runtime.specs.contracts.live.Live as Live
 
 region : (N T : RattleType) → IsSend N → IsSend T → IsSend (Region.the_row N T)

@@ -3,9 +3,9 @@ use denote.Param.Send.{sendable}
 use Rattle.std.proofs.Crossing.{crosses}
 use Rattle.rsx_gate.specs.Machine.{all_parts}
 use Rattle.rsx_gate.specs.Seats.{IsSeatOf}
-use Rattle.rsx_workers.proofs.Crosses.{live}
-use Rattle.rsx_workers.proofs.Seated.{gates_at, same_there, zip_kept}
-use Rattle.rsx_workers.proofs.threads.serve_on_threads.Goals as goal
+use Rattle.rsx_runtime.proofs.Crosses.{live}
+use Rattle.rsx_runtime.proofs.Seated.{gates_at, same_there, zip_kept}
+use Rattle.rsx_runtime.proofs.threads.serve_on_threads.Goals as goal
 
 pub serve_each-seats-requires-clause-seats : goal.serve_each-seats-requires-clause-seats
 serve_each-seats-requires-clause-seats g c κs within k s w at =

@@ -5,9 +5,9 @@ ghost use Rattle.std.specs.Fn.{FnOnceReturnsAtMut};
 ghost use Rattle.std.specs.Thread.{IsSend, IsSync};
 ghost use Rattle.std.specs.Vec.{vec_capacity};
 ghost use Rattle.rsx_runtime.specs.declared.park.Rouser.{Rouser as RouserSpec};
-ghost use Rattle.rsx_workers.specs.Seated.{HaveServed, MayServe};
+ghost use Rattle.rsx_runtime.specs.Seated.{HaveServed, MayServe};
 
-use rsx_runtime::Rouser;
+use crate::park::Rouser;
 use std::sync::Wait;
 use std::thread;
 use std::thread::Threads;
