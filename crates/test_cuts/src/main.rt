@@ -4,21 +4,12 @@
 //! Of each expression two graphs are made, in which a hub is fed by it, and in which it is subscribed to. The same is done to both, move
 //! by move. Before each move the second is taken apart, and the tree of each feed and of each subscription is cut at each edge where it
 //! can be cut, one after the other, and joined at once. Then the graph is put together again. After each move both have to be alike:
-//! what was delivered, what is still owed, and what was recorded. It writes a line for each expression, with what was done to it.
-//!
-//! Other expressions are subscribed to, driven for a while, and cut at one edge or two. With links between them the pieces go on in turns
-//! that have no pattern, and then they are joined again. What was received, followed by what is still owed, has to be the value of the
-//! expression from scratch, at once, and again when all was requested and the graph is idle. It writes a line for each expression here,
-//! too. The first comparison that differs ends the program with status 1.
+//! what was delivered, what is still owed, and what was recorded. It writes a line for each expression, with what was done to it. The
+//! first comparison that differs ends the program with status 1.
 
 mod cuts;
-mod driven;
-mod links;
-mod numbers;
-mod pieces;
 mod trial;
 
-use crate::driven::{Driven, drive_seeds};
 use crate::trial::{Compared, compare};
 use anyhow::Result;
 
@@ -49,27 +40,6 @@ const EXPRESSIONS: [&'static str; 23] = [
     "(buffer 10 (merge 8 (publishOn 1 8 (filter even (range 1 50))) (publishOn 0 8 (range 501 50))))",
 ];
 
-/// The expressions whose pieces are driven in turns. They read no hub.
-const DRIVEN: [&'static str; 17] = [
-    "(publishOn 1 2 (range 1 6))",
-    "(publishOn 0 2 (publishOn 1 2 (range 1 9)))",
-    "(publishOn 1 3 (map double (publishOn 2 2 (filter even (range 1 9)))))",
-    "(merge 2 (publishOn 1 2 (range 1 5)) (publishOn 2 3 (range 11 5)))",
-    "(zip 2 (publishOn 1 2 (range 1 6)) (publishOn 2 1 (items 7 8 9)))",
-    "(concat (publishOn 1 2 (items 7 8)) (publishOn 2 2 (range 1 5)))",
-    "(combineLatest 2 (publishOn 1 1 (range 1 4)) (publishOn 2 2 (range 5 3)))",
-    "(groupBy mod3 ((scan add 0)) (publishOn 1 2 (range 1 9)))",
-    "(publishOn 1 2 (groupBy mod3 ((map inc)) (publishOn 2 3 (range 1 9))))",
-    "(flatMap upto 2 ((map double)) (publishOn 1 2 (range 1 4)))",
-    "(publishOn 2 2 (flatMap upto 1 () (publishOn 1 1 (range 1 4))))",
-    "(window 2 ((scan add 0)) (publishOn 1 2 (range 1 7)))",
-    "(take 3 (publishOn 1 4 (range 1 9)))",
-    "(publishOn 1 2 (take 3 (publishOn 2 4 (range 1 20))))",
-    "(publishOn 1 2 (map inc (publishOn 2 2 (items 1 9223372036854775807 3))))",
-    "(merge 2 (publishOn 1 2 (map inc (items 5 9223372036854775807 6))) (publishOn 2 2 (range 1 9)))",
-    "(publishOn 1 4 (take 5 (publishOn 2 2 (items 3))))",
-];
-
 fn main(rt: HostRuntime) -> Result<()> {
     for text in &EXPRESSIONS {
         let Compared { moves, feeds, subs } = compare(rt.alloc(), text)?;
@@ -83,13 +53,6 @@ fn main(rt: HostRuntime) -> Result<()> {
             subs.items,
             subs.joins,
             subs.refusals
-        )?;
-    }
-    for text in &DRIVEN {
-        let Driven { seeds, steps, done } = drive_seeds(rt.alloc(), text)?;
-        println!(rt;
-            "{text}: {seeds} seeds, {steps} steps in turns, {} signals over links, {} pieces, of which {} had ended and {} had been closed, equal",
-            done.signals, done.cuts, done.ended, done.closed
         )?;
     }
     Ok(())

@@ -34,8 +34,8 @@ use std::sync::Wait;
 use std::thread::Threads;
 use std::time::Clock;
 
-/// The expressions. Each has an edge that crosses. The last four choose between what they have to put out.
-const EXPRESSIONS: [&'static str; 16] = [
+/// The expressions. Each has an edge that crosses. The last eight choose between what they have to put out.
+const EXPRESSIONS: [&'static str; 21] = [
     "(publishOn 1 2 (range 1 6))",
     "(publishOn 0 2 (publishOn 1 2 (range 1 9)))",
     "(publishOn 1 3 (map double (publishOn 2 2 (filter even (range 1 9)))))",
@@ -48,9 +48,14 @@ const EXPRESSIONS: [&'static str; 16] = [
     "(publishOn 1 2 (publishOn 2 2 (publishOn 3 2 (publishOn 4 2 (range 1 9)))))",
     "(zip 2 (publishOn 1 2 (publishOn 2 2 (range 1 6))) (concat (publishOn 2 1 (publishOn 1 2 (items 7 8))) (publishOn 1 2 (range 1 5))))",
     "(publishOn 1 2 (map inc (publishOn 2 2 (items 1 9223372036854775807 3))))",
+    "(publishOn 1 4 (take 5 (publishOn 2 2 (items 3))))",
     "(merge 2 (publishOn 1 2 (range 1 6)) (publishOn 2 2 (items 7 8 9)))",
+    "(merge 2 (publishOn 1 2 (map inc (items 5 9223372036854775807 6))) (publishOn 2 2 (range 1 9)))",
+    "(mergeDelayError 2 (publishOn 1 2 (map inc (items 5 9223372036854775807 6))) (publishOn 2 2 (range 1 9)))",
     "(combineLatest 2 (publishOn 1 2 (range 1 5)) (publishOn 2 1 (items 7 8 9)))",
     "(flatMap upto 2 ((map double)) (publishOn 1 2 (range 1 4)))",
+    "(publishOn 2 2 (flatMap upto 1 () (publishOn 1 1 (range 1 4))))",
+    "(publishOn 1 2 (groupBy mod3 ((map inc)) (publishOn 2 3 (range 1 9))))",
     "(groupBy mod3 ((scan add 0)) (merge 2 (publishOn 1 2 (range 1 9)) (publishOn 2 2 (items 4 5 6))))",
 ];
 
