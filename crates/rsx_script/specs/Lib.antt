@@ -1,6 +1,7 @@
 -- Definitions that contracts cite.
 pub mod Answers
 pub mod Commands
+pub mod Expected
 pub mod Expressions
 pub mod Fault
 pub mod Live

@@ -34,8 +34,17 @@
 //! - [`mode`]: what the program does with its input; [`fault`]: what ends that before the input does.
 //!
 //! Proved is the text of each answer, and what each line asks for.
+//!
+//! # Hints
+//!
+//! What could have stood in a line that can't be read, in the place of its first wrong word.
+//!
+//! - [`hint`]: what was expected there, as text. Words are tried one by one: a word is expected where the line up to there goes on
+//!   with it, as the language has it.
+//! - [`Remembering`]: a reader that keeps the lines of the last read, among which is the line that ended a run.
 
 mod command;
+mod expected;
 mod expression;
 pub mod fault;
 mod live;
@@ -43,13 +52,16 @@ pub mod mode;
 pub mod numbers;
 mod parse;
 pub mod print;
+mod remembering;
 pub mod words;
 
 pub use command::Command;
+pub use expected::{Reads, hint};
 pub use fault::AppFault;
 pub use live::{LiveAnswer, LiveCommand, parse_live_line};
 pub use mode::{Mode, Subcommand, mode_named, subcommand_named};
 pub use numbers::{number_i64, number_u8, number_u32, number_u64};
 pub use parse::{MOST_BYTES, parse_expression, parse_line};
 pub use print::{Answer, Rest, Shown};
+pub use remembering::Remembering;
 pub use words::{LineRefusal, Word, Words};

@@ -1,9 +1,10 @@
 //! What is expected behind the beginning of a line.
 
 ghost use Rattle.std.specs.Prelude.{◌≡◌, ◌+◌, ◌++◌, ◌∷◌, length, IfOk};
-ghost use Rattle.rsx_hints.specs.Expected.{goes_past, tried};
+ghost use Rattle.rsx_script.specs.Expected.{goes_past, tried};
 
-use rsx_script::{LineRefusal, parse_expression, parse_line};
+use crate::parse::{parse_expression, parse_line};
+use crate::words::LineRefusal;
 use rsx_types::NoMemory;
 use std::alloc::{AllocError, Global};
 
