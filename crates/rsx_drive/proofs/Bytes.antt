@@ -7,9 +7,9 @@ use Rattle.rsx_script.specs.declared.fault.AppFault.{AppFault}
 use Rattle.rsx_script.specs.declared.fault.AppFault.TheVariants.{Line, Io, Memory}
 use Rattle.rsx_script.specs.declared.words.LineRefusal.{LineRefusal}
 use Rattle.rsx_script.specs.declared.words.LineRefusal.TheVariants.{TooLong, NoMemory}
-use Rattle.rsx_trace.specs.Texts.{lines}
-use Rattle.rsx_trace.proofs.Lines.{newline, no_line, only_line, some_line}
-use Rattle.rsx_trace.proofs.Traces.{IsClean, IsClean-append, clean_step, clean_again, line_and_rest}
+use Rattle.rsx_tck.specs.Texts.{lines}
+use Rattle.rsx_tck.proofs.Lines.{newline, no_line, only_line, some_line}
+use Rattle.rsx_tck.proofs.Traces.{IsClean, IsClean-append, clean_step, clean_again, line_and_rest}
 use Rattle.rsx_drive.specs.Answered.{Begins, IsCut, IsRefused, IsStopped, Refuses, Writes}
 use Rattle.rsx_drive.specs.Taken.{IsAt, Stands}
 

@@ -6,7 +6,7 @@ use Rattle.std.proofs.KnownBytes.{Appends-trans}
 use Rattle.rsx_script.specs.declared.fault.AppFault.{AppFault}
 use Rattle.rsx_script.specs.declared.fault.AppFault.TheVariants.{Io}
 use Rattle.rsx_script.specs.declared.words.LineRefusal.TheVariants.{NoMemory}
-use Rattle.rsx_trace.specs.Texts.{lines}
+use Rattle.rsx_tck.specs.Texts.{lines}
 use Rattle.rsx_drive.specs.Answered.{Begins, IsStopped, Refuses, Writes}
 use Rattle.rsx_drive.proofs.Bytes.{cut_at_end, cut_at_last}
 

@@ -5,14 +5,14 @@ use Rattle.std.specs.Option.{is_some}
 use Rattle.std.proofs.lemmas.List.{append-nil, length-append}
 use Rattle.rsx_script.specs.declared.words.LineRefusal.{LineRefusal}
 use Rattle.rsx_script.specs.declared.words.LineRefusal.TheVariants.{Syntax, NoMemory}
-use Rattle.rsx_trace.specs.declared.event.Stamped.{Stamped}
-use Rattle.rsx_trace.specs.declared.reader.BadLine.{BadLine}
-use Rattle.rsx_trace.specs.declared.reader.BadLine.TheVariants.{At}
-use Rattle.rsx_trace.specs.declared.reader.BadLine.TheVariants as bad
-use Rattle.rsx_trace.specs.declared.reader.TraceReader.{TraceReader}
-use Rattle.rsx_trace.specs.Grammar.{AreTrace}
-use Rattle.rsx_trace.specs.Opening.{HasTaken, IsWrongLast, NamesWrongLast}
-use Rattle.rsx_trace.proofs.Openings.{lacks_end}
+use Rattle.rsx_tck.specs.declared.event.Stamped.{Stamped}
+use Rattle.rsx_tck.specs.declared.reader.BadLine.{BadLine}
+use Rattle.rsx_tck.specs.declared.reader.BadLine.TheVariants.{At}
+use Rattle.rsx_tck.specs.declared.reader.BadLine.TheVariants as bad
+use Rattle.rsx_tck.specs.declared.reader.TraceReader.{TraceReader}
+use Rattle.rsx_tck.specs.Grammar.{AreTrace}
+use Rattle.rsx_tck.specs.Opening.{HasTaken, IsWrongLast, NamesWrongLast}
+use Rattle.rsx_tck.proofs.Openings.{lacks_end}
 use Rattle.rsx_demand.specs.declared.TheConstants.{UNBOUNDED}
 use Rattle.rsx_script.specs.Commands.{expression_of_line}
 use Rattle.rsx_drive.specs.declared.judge.InputJudge.{InputJudge}

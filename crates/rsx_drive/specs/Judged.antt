@@ -8,13 +8,13 @@ use Rattle.rsx_script.specs.declared.words.LineRefusal.TheVariants.{Syntax, TooL
 use Rattle.rsx_script.specs.Reading.{Left, line_of, next_at}
 use Rattle.rsx_script.specs.Words.{Written, is_written}
 use Rattle.rsx_script.specs.Words as written
-use Rattle.rsx_trace.specs.declared.event.Stamped.{Stamped}
-use Rattle.rsx_trace.specs.declared.reader.BadLine.{BadLine}
-use Rattle.rsx_trace.specs.declared.reader.BadLine.TheVariants.{At}
-use Rattle.rsx_trace.specs.declared.reader.BadLine.TheVariants as bad
-use Rattle.rsx_trace.specs.declared.reader.TraceReader.{TraceReader}
-use Rattle.rsx_trace.specs.Grammar.{AreTrace}
-use Rattle.rsx_trace.specs.Opening.{HasTaken, IsWrongLast, LacksEnd}
+use Rattle.rsx_tck.specs.declared.event.Stamped.{Stamped}
+use Rattle.rsx_tck.specs.declared.reader.BadLine.{BadLine}
+use Rattle.rsx_tck.specs.declared.reader.BadLine.TheVariants.{At}
+use Rattle.rsx_tck.specs.declared.reader.BadLine.TheVariants as bad
+use Rattle.rsx_tck.specs.declared.reader.TraceReader.{TraceReader}
+use Rattle.rsx_tck.specs.Grammar.{AreTrace}
+use Rattle.rsx_tck.specs.Opening.{HasTaken, IsWrongLast, LacksEnd}
 use Rattle.rsx_demand.specs.Demand.{saturating_total}
 use Rattle.rsx_demand.specs.declared.TheConstants.{UNBOUNDED}
 use Rattle.rsx_tck.specs.Explained.{IsExplainedText, is_broken, is_held, summary_text}

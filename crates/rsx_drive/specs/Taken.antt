@@ -6,7 +6,7 @@ use Rattle.rsx_script.specs.declared.fault.AppFault.{AppFault}
 use Rattle.rsx_script.specs.declared.fault.AppFault.TheVariants.{Line, Memory}
 use Rattle.rsx_script.specs.declared.words.LineRefusal.{LineRefusal}
 use Rattle.rsx_script.specs.declared.words.LineRefusal.TheVariants.{Syntax, UnknownName, TooLong, NoMemory}
-use Rattle.rsx_trace.specs.Texts.{lines}
+use Rattle.rsx_tck.specs.Texts.{lines}
 use Rattle.rsx_drive.specs.declared.state.Run.{Run}
 
 -- what answers lines, as far as it stands for them

@@ -4,7 +4,7 @@ ghost use Rattle.std.specs.Prelude.{◌≡◌, [], ◌++◌, ◌∷◌, ℕ, Lis
 ghost use Rattle.std.specs.String.{string_bytes};
 ghost use Rattle.rsx_script.specs.Fault.{IsRunFault};
 ghost use Rattle.rsx_script.specs.Orders.{tree_of};
-ghost use Rattle.rsx_trace.specs.Texts.{lines};
+ghost use Rattle.rsx_tck.specs.Texts.{lines};
 ghost use Rattle.rsx_expression_text.specs.Drawn.{drawn_text};
 ghost use Rattle.rsx_drive.specs.Answered.{Grows, IsStopped, Writes};
 ghost use Rattle.rsx_drive.specs.Drawings.{AreDrawn, IsDrawingStopped, IsDrawn, IsUndrawn, line_too_long, memory_wanted, memory_wanted_last};

@@ -5,7 +5,7 @@ ghost use Rattle.std.specs.String.{string_bytes};
 ghost use Rattle.std.specs.List.{position};
 ghost use Rattle.rsx_script.specs.Fault.{IsRunFault};
 ghost use Rattle.rsx_script.specs.Words.{is_written};
-ghost use Rattle.rsx_trace.specs.Texts.{lines};
+ghost use Rattle.rsx_tck.specs.Texts.{lines};
 ghost use Rattle.rsx_demand.specs.Demand.{saturating_total};
 ghost use Rattle.rsx_drive.specs.Answered.{Grows, IsStopped, Writes};
 ghost use Rattle.rsx_drive.specs.Judged.{AreJudged, IsRefusedAfter, IsTraceAnswer, StandsFor, begins_trace, judging, number_behind, refusal_of};
@@ -19,7 +19,7 @@ use crate::texts::report_text;
 use crate::{Answers, answer_lines};
 use rsx_demand::saturating_total;
 use rsx_script::{AppFault, LineRefusal, Word, Words};
-use rsx_trace::{BadLine, Progress, Stamped, TraceReader};
+use rsx_tck::{BadLine, Progress, Stamped, TraceReader};
 use std::alloc::Global;
 use std::io::{Read, Write};
 

@@ -1,6 +1,6 @@
 //! What is kept of an input of expressions and traces between two lines.
 
-use rsx_trace::TraceReader;
+use rsx_tck::TraceReader;
 
 /// How expressions and traces are answered.
 #[derive(Clone, Copy, Debug, PartialEq, Eq)]

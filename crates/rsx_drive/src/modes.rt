@@ -2,7 +2,7 @@
 
 ghost use Rattle.std.specs.Prelude.{IfSome, OnOk, IfErr};
 ghost use Rattle.rsx_script.specs.Fault.{IsRunFault};
-ghost use Rattle.rsx_trace.specs.Texts.{lines};
+ghost use Rattle.rsx_tck.specs.Texts.{lines};
 ghost use Rattle.rsx_drive.specs.Answered.{IsStopped, Writes};
 ghost use Rattle.rsx_drive.specs.Modes.{IsAnsweredIn, IsStoppedIn};
 

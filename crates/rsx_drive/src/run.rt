@@ -5,7 +5,7 @@ ghost use Rattle.std.specs.String.{string_bytes};
 ghost use Rattle.std.specs.Io.KnownBytes.{Appends};
 ghost use Rattle.rsx_script.specs.declared.fault.AppFault.TheVariants.{Io, Memory};
 ghost use Rattle.rsx_script.specs.Fault.{IsRunFault};
-ghost use Rattle.rsx_trace.specs.Texts.{lines};
+ghost use Rattle.rsx_tck.specs.Texts.{lines};
 ghost use Rattle.rsx_drive.specs.Answered.{Begins, IsStopped, Writes};
 ghost use Rattle.rsx_drive.specs.Taken.{HasTaken, fault_of};
 

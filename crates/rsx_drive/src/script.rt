@@ -3,7 +3,7 @@
 ghost use Rattle.std.specs.Prelude.{◌≡◌, ℕ, List, [], ◌∷◌, ◌++◌, IfSome, OnOk, OnErr, IfErr};
 ghost use Rattle.std.specs.String.{string_bytes};
 ghost use Rattle.rsx_script.specs.Fault.{IsRunFault};
-ghost use Rattle.rsx_trace.specs.Texts.{lines};
+ghost use Rattle.rsx_tck.specs.Texts.{lines};
 ghost use Rattle.rsx_drive.specs.Answered.{Grows, IsStopped, Writes};
 ghost use Rattle.rsx_session.specs.declared.session.View.TheVariants.{Received, FromScratch};
 ghost use Rattle.rsx_drive.specs.Laws.{line_too_long, memory_wanted, memory_wanted_last};

@@ -3,7 +3,7 @@
 ghost use Rattle.std.specs.Prelude.{◌≡◌, ◌≤◌, ◌∷◌, ◌++◌, [], All, OnOk};
 ghost use Rattle.rsx_session.specs.Recorded.{beginning, delivery, event_of, stamped};
 
-use rsx_trace::{Event, Stamped};
+use rsx_tck::{Event, Stamped};
 use rsx_types::{NoMemory, Signal, SubId};
 
 /// The largest number of a worker.

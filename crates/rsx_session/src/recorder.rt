@@ -7,7 +7,7 @@ use rsx_demo::{Demo, Val};
 use rsx_graph::{Deliveries, Graph, Pumped, Refusal};
 use rsx_model::Expr;
 use rsx_script::Command;
-use rsx_trace::{Event, Stamped};
+use rsx_tck::{Event, Stamped};
 use rsx_types::{Move, NoMemory, Signal, SubId, Tree};
 use std::alloc::Global;
 

@@ -2,7 +2,7 @@
 
 use crate::recorder::Recorder;
 use rsx_script::{LineRefusal, MOST_BYTES, parse_line};
-use rsx_trace::print_trace;
+use rsx_tck::print_trace;
 use rsx_types::NoMemory;
 use std::alloc::Global;
 use std::io;

@@ -2,7 +2,7 @@
 use Rattle.std.proofs.Common.{◌≡◌, ℕ, suc, ◌+◌, ◌<◌, List, [], ◌∷◌, ◌++◌, length, take, get_or, sym, subst, ◌∙◌, ap, add-one}
 use Rattle.std.proofs.Math.Seq.{take-suc}
 use borrow.Author.Count.{below_more}
-use Rattle.rsx_trace.specs.declared.event.Stamped.{Stamped}
+use Rattle.rsx_tck.specs.declared.event.Stamped.{Stamped}
 use Rattle.rsx_tck.specs.Passes.{KeepsThrough}
 
 -- what holds of the events read and one more holds of one more of the first events

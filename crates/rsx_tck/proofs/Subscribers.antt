@@ -4,9 +4,9 @@ use Rattle.std.specs.Prelude.{if◌then◌else◌, MatchOption, unwrap_or}
 use Rattle.std.proofs.Math.Seq.{take-suc}
 use Rattle.std.proofs.lemmas.Bool.{ltb-true, ltb-false, cases_order, cases_lt}
 use Rattle.std.proofs.lemmas.Option.{slice_get-get_or}
-use Rattle.rsx_trace.specs.declared.event.Event.TheVariants.{Subscribe}
-use Rattle.rsx_trace.specs.declared.event.Stamped.{Stamped}
-use Rattle.rsx_trace.specs.Events.{subscriber_of}
+use Rattle.rsx_tck.specs.declared.event.Event.TheVariants.{Subscribe}
+use Rattle.rsx_tck.specs.declared.event.Stamped.{Stamped}
+use Rattle.rsx_tck.specs.Events.{subscriber_of}
 use Rattle.rsx_tck.specs.Passes.{KeepsThrough, IsFirstBreach, BeginsAt, least_from, IsJudged}
 use Rattle.rsx_tck.specs.Laws.Positions.{slice_get-cases}
 

@@ -1,7 +1,7 @@
 -- The sentences of the twelve rules, together.
 use Rattle.std.proofs.Common.{◌≡◌, ℕ, suc, List, length, take, sym, subst, Option, Some, None}
 use Rattle.std.specs.Prelude.{MatchOption}
-use Rattle.rsx_trace.specs.declared.event.Stamped.{Stamped}
+use Rattle.rsx_tck.specs.declared.event.Stamped.{Stamped}
 use Rattle.rsx_tck.specs.declared.rule.Rule.{Rule}
 use Rattle.rsx_tck.specs.declared.rule.Rule.TheVariants as rule
 use Rattle.rsx_tck.specs.Sentences.{Sentence}

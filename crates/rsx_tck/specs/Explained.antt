@@ -3,8 +3,8 @@ use Rattle.std.specs.Prelude.{◌≡◌, ℕ, Bool, true, false, List, [], ◌++
 use Rattle.std.specs.Fmt.{decimal}
 use Rattle.std.specs.List.{flat_map}
 use Rattle.rsx_demand.specs.Demand.{saturating_total}
-use Rattle.rsx_trace.specs.declared.event.Stamped.{Stamped}
-use Rattle.rsx_trace.specs.Format.{event_text}
+use Rattle.rsx_tck.specs.declared.event.Stamped.{Stamped}
+use Rattle.rsx_tck.specs.Format.{event_text}
 use Rattle.rsx_tck.specs.declared.explain.Summary.{Summary}
 use Rattle.rsx_tck.specs.declared.rule.Rule.{Rule}
 use Rattle.rsx_tck.specs.declared.rule.Verdict.{Verdict}

@@ -7,3 +7,12 @@ pub mod Verdicts
 pub mod Report
 pub mod Purpose
 pub mod Explained
+pub mod Events
+pub mod Format
+pub mod Texts
+pub mod Grammar
+pub mod FirstWrong
+pub mod Reading
+pub mod Gives
+pub mod RefusalText
+pub mod Opening

@@ -1,11 +1,11 @@
 -- What a pass over a trace knows of the events that it has read, and what its steps promise.
 use Rattle.std.specs.Prelude.{◌≢◌, ◌&&◌, ◌==◌, Option, Some, None, if◌then◌else◌, ◌≡◌, ℕ, suc, ◌<◌, ◌≤◌, ⊤, min, nat_lt, slice_get, Bool, true, false, List, [], ◌∷◌, ◌++◌, length, take, slice_index_or, IsTrue, MatchBool, ◌↔◌}
-use Rattle.rsx_trace.specs.declared.event.Stamped.{Stamped}
+use Rattle.rsx_tck.specs.declared.event.Stamped.{Stamped}
 use Rattle.rsx_tck.specs.declared.pass.Effect.{Effect}
 use Rattle.rsx_tck.specs.declared.pass.Effect.TheVariants.{Nothing, Breaks}
 use Rattle.rsx_tck.specs.declared.answers.BadRequest.{BadRequest}
 use Rattle.rsx_tck.specs.declared.answers.BadRequest.TheVariants.{NotYet, Unanswered, Settled}
-use Rattle.rsx_trace.specs.Events.{subscriber_of, of, of_on, is_signal, is_ending, is_exit, is_on_subscribe, is_cancel_or_ending, is_cancel_new}
+use Rattle.rsx_tck.specs.Events.{subscriber_of, of, of_on, is_signal, is_ending, is_exit, is_on_subscribe, is_cancel_or_ending, is_cancel_new}
 use Rattle.rsx_tck.specs.Sentences.{At, NoneBefore, IsUnwanted}
 
 abbrev pub is_breach : Effect → Bool

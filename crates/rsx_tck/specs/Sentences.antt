@@ -1,10 +1,10 @@
 -- What the judged rules say of a trace, for one subscriber s. Positions count from 0.
 use Rattle.std.specs.Prelude.{◌≡◌, ℕ, ◌+◌, ◌<◌, ◌≤◌, Bool, List, [], ◌∷◌, length, take, Some, slice_get, IsTrue, min, sum_by, count_by, ◌==◌, if◌then◌else◌}
 use Rattle.rsx_demand.specs.declared.TheConstants.{UNBOUNDED}
-use Rattle.rsx_trace.specs.declared.event.Stamped.{Stamped}
+use Rattle.rsx_tck.specs.declared.event.Stamped.{Stamped}
 use Rattle.rsx_tck.specs.declared.rule.Rule.{Rule}
 use Rattle.rsx_tck.specs.declared.rule.Rule.TheVariants as rule
-use Rattle.rsx_trace.specs.Events.{of, of_on, subscriber_of, requested, is_subscribe, is_on_subscribe, is_next, is_ending, is_next_or_ending, is_signal, is_exit, is_positive_request, is_bad_request, is_cancel, is_cancel_new, is_request_or_cancel, is_cancel_or_ending, is_bad_request_error}
+use Rattle.rsx_tck.specs.Events.{of, of_on, subscriber_of, requested, is_subscribe, is_on_subscribe, is_next, is_ending, is_next_or_ending, is_signal, is_exit, is_positive_request, is_bad_request, is_cancel, is_cancel_new, is_request_or_cancel, is_cancel_or_ending, is_bad_request_error}
 
 -- at position i of the trace stands a p
 abbrev pub At : (Stamped → Bool) → List Stamped → ℕ → Type 0

@@ -1,6 +1,6 @@
 -- When a verdict is right.
 use Rattle.std.specs.Prelude.{◌≡◌, ℕ, suc, ◌<◌, List, length, take, slice_get, Some, None}
-use Rattle.rsx_trace.specs.declared.event.Stamped.{Stamped}
+use Rattle.rsx_tck.specs.declared.event.Stamped.{Stamped}
 use Rattle.rsx_tck.specs.declared.rule.Rule.{Rule}
 use Rattle.rsx_tck.specs.declared.rule.Verdict.{Verdict}
 use Rattle.rsx_tck.specs.declared.rule.Verdict.TheVariants.{Held, Broken, NotJudged}

@@ -2,14 +2,14 @@
 
 ghost use Rattle.std.specs.Prelude.{◌≡◌, ◌&&◌, not};
 ghost use Rattle.rsx_tck.specs.declared.rule.Rule.TheVariants as rule;
-ghost use Rattle.rsx_trace.specs.Events.{is_bad_request, is_bad_request_error, is_cancel_or_ending, is_ending, of};
+ghost use Rattle.rsx_tck.specs.Events.{is_bad_request, is_bad_request_error, is_cancel_or_ending, is_ending, of};
 ghost use Rattle.rsx_tck.specs.Sentences.{Keeps};
 ghost use Rattle.rsx_tck.specs.Passes.{KnowsAnswer, is_breach, is_unanswered, next_answer};
 ghost use Rattle.rsx_tck.specs.Laws.Answering.{answered-none, answered-other, knows_answer-other};
 
+use crate::event::{Event, Stamped};
 use crate::pass::{Effect, Pass};
 use rsx_rules::rules;
-use rsx_trace::{Event, Stamped};
 use rsx_types::Cause;
 
 /// Rule 3.9: a request of 0 or less is answered by `onError`.

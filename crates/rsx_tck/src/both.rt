@@ -3,9 +3,9 @@
 ghost use Rattle.std.specs.Prelude.{◌≡◌, ◌||◌};
 ghost use Rattle.rsx_tck.specs.Passes.{is_breach};
 
+use crate::event::Stamped;
 use crate::pass::{Effect, Pass};
 use rsx_rules::rules;
-use rsx_trace::Stamped;
 
 /// Two rules in one pass: what breaks either breaks this.
 #[derive(Drop)]

@@ -3,15 +3,15 @@
 ghost use Rattle.std.specs.Prelude.{◌≡◌, ◌+◌, ◌≤◌, ◌&&◌, ◌||◌, ◌==◌, false, cond, if◌then◌else◌};
 ghost use Rattle.rsx_demand.specs.Demand.{saturating_total};
 ghost use Rattle.rsx_tck.specs.declared.rule.Rule.TheVariants as rule;
-ghost use Rattle.rsx_trace.specs.Events.{is_cancel, is_next, of, requested};
+ghost use Rattle.rsx_tck.specs.Events.{is_cancel, is_next, of, requested};
 ghost use Rattle.rsx_tck.specs.Sentences.{Keeps, before_cancel, items_in, requests_in};
 ghost use Rattle.rsx_tck.specs.Passes.{Tells, is_breach};
 ghost use Rattle.rsx_tck.specs.Laws.Counting.{before_cancel-other, counted-other, counted_before_cancel-other, each-none, requested-other};
 
+use crate::event::{Event, Stamped};
 use crate::pass::{Effect, Pass};
 use rsx_demand::{Demand, saturating_total};
 use rsx_rules::rules;
-use rsx_trace::{Event, Stamped};
 
 /// Rule 1.1: no more items come than were requested.
 #[derive(Clone, Copy)]

@@ -5,10 +5,10 @@ ghost use Rattle.std.specs.String.{string_bytes};
 ghost use Rattle.rsx_demand.specs.Demand.{saturating_total};
 ghost use Rattle.rsx_tck.specs.Explained.{IsExplainedText, breach_text, breaches_text, event_there, is_broken, is_held, summary_of, summary_text};
 
+use crate::event::Stamped;
 use crate::reports::report;
 use crate::rule::{Rule, Verdict};
 use rsx_demand::saturating_total;
-use rsx_trace::Stamped;
 use rsx_types::NoMemory;
 use std::alloc::Global;
 

@@ -1,15 +1,15 @@
 //! The passes that remember one thing: whether an event of some kind has stood.
 
 ghost use Rattle.std.specs.Prelude.{◌≡◌, ◌&&◌, ◌||◌, not, Bool};
-ghost use Rattle.rsx_trace.specs.declared.event.Event.{Event};
-ghost use Rattle.rsx_trace.specs.Events.{is_bad_request, is_bad_request_error, is_ending, is_next, is_next_or_ending, is_on_subscribe, is_positive_request, is_signal, is_subscribe, of};
+ghost use Rattle.rsx_tck.specs.declared.event.Event.{Event};
+ghost use Rattle.rsx_tck.specs.Events.{is_bad_request, is_bad_request_error, is_ending, is_next, is_next_or_ending, is_on_subscribe, is_positive_request, is_signal, is_subscribe, of};
 ghost use Rattle.rsx_tck.specs.Sentences as sentence;
 ghost use Rattle.rsx_tck.specs.Passes.{Tells, is_breach};
 ghost use Rattle.rsx_tck.specs.Laws.Following.{each_after-none, each_after-other, none_after-none, none_after-other, tells-other};
 
+use crate::event::{Event, Stamped};
 use crate::pass::{Effect, Pass};
 use rsx_rules::rules;
-use rsx_trace::{Event, Stamped};
 use rsx_types::Cause;
 use std::marker::PhantomData;
 

@@ -2,11 +2,11 @@
 //! event that breaks the rule.
 
 ghost use Rattle.std.specs.Prelude.{◌≡◌, ◌≢◌, ℕ, List, [], ◌∷◌, ◌++◌, length, MatchOption};
-ghost use Rattle.rsx_trace.specs.declared.event.Stamped.{Stamped};
-ghost use Rattle.rsx_trace.specs.Events.{subscriber_of};
+ghost use Rattle.rsx_tck.specs.declared.event.Stamped.{Stamped};
+ghost use Rattle.rsx_tck.specs.Events.{subscriber_of};
 ghost use Rattle.rsx_tck.specs.Passes.{Judges, KeepsThrough, IsFirstBreach};
 
-use rsx_trace::{Event, Stamped};
+use crate::event::{Event, Stamped};
 
 /// What an event does to a rule.
 #[derive(Clone, Copy, Debug, PartialEq, Eq)]

@@ -4,8 +4,8 @@ ghost use Rattle.std.specs.Prelude.{◌≡◌, IfOk};
 ghost use Rattle.std.specs.String.{string_bytes};
 ghost use Rattle.rsx_tck.specs.Report.{IsReportText};
 
+use crate::event::Stamped;
 use crate::reports::report;
-use rsx_trace::Stamped;
 use rsx_types::NoMemory;
 use std::alloc::Global;
 

@@ -1,8 +1,8 @@
 //! The verdict on a rule, over all subscribers of a trace.
 
 ghost use Rattle.std.specs.Prelude.{◌≡◌, ℕ, List, length, MatchOption};
-ghost use Rattle.rsx_trace.specs.declared.event.Stamped.{Stamped};
-ghost use Rattle.rsx_trace.specs.Events.{subscriber_of};
+ghost use Rattle.rsx_tck.specs.declared.event.Stamped.{Stamped};
+ghost use Rattle.rsx_tck.specs.Events.{subscriber_of};
 ghost use Rattle.rsx_tck.specs.Verdicts.{AllKeep, IsReport, Judged};
 ghost use Rattle.rsx_tck.specs.Passes.{BeginsAt, IsFirstBreach, KeepsThrough, least_from};
 
@@ -13,10 +13,10 @@ use crate::flags::{
     BadRequestFirst, NothingAfterEnding, OnSubscribeFirst, OneOnSubscribe, OneSubscribe,
     RequestFirst,
 };
+use crate::event::Stamped;
 use crate::pass::{Pass, first_breach};
 use crate::rule::{Rule, Verdict};
 use crate::running::{NoCallInEnding, OneSignalAtATime, SecondRefused};
-use rsx_trace::Stamped;
 
 /// The least subscriber from `from` on, of those so far and one more.
 fn lesser_from(from: u64, subscriber: u32, least: Option<u32>) -> Option<u32>

@@ -2,17 +2,17 @@
 
 ghost use Rattle.std.specs.Prelude.{◌≡◌, ◌&&◌, ◌||◌, not, is_some};
 ghost use Rattle.rsx_tck.specs.declared.rule.Rule.TheVariants as rule;
-ghost use Rattle.rsx_trace.specs.Events.{is_cancel_new, is_cancel_or_ending, is_ending, is_exit, is_on_subscribe, is_request_or_cancel, is_signal};
+ghost use Rattle.rsx_tck.specs.Events.{is_cancel_new, is_cancel_or_ending, is_ending, is_exit, is_on_subscribe, is_request_or_cancel, is_signal};
 ghost use Rattle.rsx_tck.specs.Sentences.{Keeps};
 ghost use Rattle.rsx_tck.specs.Passes.{KnowsEndings, KnowsUnrefused, KnowsSignal, is_breach, next_signal};
 ghost use Rattle.rsx_tck.specs.Laws.Running.{apart-none, apart-other, knows_signal-other};
 ghost use Rattle.rsx_tck.specs.Laws.Working.{knows_endings-other, quiet-none, quiet-other};
 ghost use Rattle.rsx_tck.specs.Laws.Refusing.{knows_unrefused-other, refuses-none, refuses-other};
 
+use crate::event::{Event, Stamped};
 use crate::pass::{Effect, Pass};
 use crate::workers::Workers;
 use rsx_rules::rules;
-use rsx_trace::{Event, Stamped};
 
 /// Rule 1.3: no signal begins while another is in progress.
 #[derive(Clone, Copy)]

@@ -19,7 +19,7 @@ use Rattle.rsx_subscriber.specs.Prelude.{environment, Expr, region_of, Past, giv
 use Rattle.rsx_model.proofs.Laws.{never_a_bad_request_law}
 use Rattle.rsx_graph_state.specs.Prelude.{Ended, changed, History, HubPast, Source, accepted_at, emitted, fed, sent_at, with_made, with_moved}
 use Rattle.rsx_graph_state.proofs.Values.{whole_holds}
-use Rattle.rsx_trace.specs.declared.event.Event.TheVariants as event
+use Rattle.rsx_tck.specs.declared.event.Event.TheVariants as event
 use Rattle.rsx_verify.specs.declared.act.Act.TheVariants.{Request, Cancel, Pump}
 use Rattle.rsx_tree.proofs.Runs.{leads_add}
 use Rattle.rsx_verify.proofs.Moving.{FitsAt, Steps, after_given, at_set, beside_set, clean_parts, IsElsewhere, lead_steps, moves_past, other_delivery, steps_come, to, to_on, to_other}

@@ -5,7 +5,7 @@ use Rattle.std.proofs.lemmas.Bool.{cases_Bool, ne_eqb}
 use Rattle.std.proofs.lemmas.List.Sums.{sum_by-cons}
 use Rattle.rsx_demand.specs.declared.TheConstants.{UNBOUNDED}
 use Rattle.rsx_verify.specs.Prelude.{AtEachPosition, Event, Nothing, Stamped, Tells, before_cancel, is_cancel, is_next, items_in, of, requested, requests_in, subscriber_of, tells-none}
-use Rattle.rsx_trace.specs.declared.event.Event.TheVariants.{Subscribe, OnSubscribe, Next, Complete, Error, Exit, Request, Cancel}
+use Rattle.rsx_tck.specs.declared.event.Event.TheVariants.{Subscribe, OnSubscribe, Next, Complete, Error, Exit, Request, Cancel}
 use Rattle.rsx_tck.specs.Laws.Counting.{before_cancel-other, before_cancel-step, counted_before_cancel-other, each-none, requests_before_cancel}
 use Rattle.rsx_verify.proofs.Progress.{Phase, Progress, at, fresh, subscribed, receiving, running, refusing, ending, over, after, May, IsKeptBy}
 

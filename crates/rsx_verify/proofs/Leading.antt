@@ -4,7 +4,7 @@ use Rattle.std.proofs.Common.{◌≡◌, ℕ, ◌+◌, ◌<◌, ◌≤◌, List,
 use Rattle.std.proofs.lemmas.List.{append-nil, flat_map_more, map-append, take_all, take_more}
 use Rattle.rsx_subscriber.specs.Prelude.{Expr, cancelled, requested}
 use Rattle.rsx_graph_state.specs.Prelude.{HaveJoined, History}
-use Rattle.rsx_trace.specs.declared.event.Event.TheVariants as event
+use Rattle.rsx_tck.specs.declared.event.Event.TheVariants as event
 use Rattle.rsx_graph_calls.specs.Requests.{with_past}
 use Rattle.rsx_verify.specs.declared.act.Act.TheVariants.{Request}
 use Rattle.rsx_tree.proofs.Runs.{leads_on}

@@ -3,7 +3,7 @@ use Rattle.std.proofs.Common.{◌≡◌, ◌≢◌, ℕ, zero, suc, pos, negsuc,
 use Rattle.std.proofs.lemmas.Bool.{and_parts, and_right, ne_eqb}
 use Rattle.rsx_types.specs.declared.signal.Cause.{Cause}
 use Rattle.rsx_verify.specs.Prelude.{EachAfter, Event, NonPositiveRequest, NoneAfter, Stamped, Stands, at-new, at-none, each_after-more, each_after-none, each_after-other, is_bad_request, is_bad_request_error, is_ending, is_next, is_next_or_ending, is_on_subscribe, is_positive_request, is_signal, is_subscribe, none_after-more, none_after-none, none_after-other, of, of-other, of-same, stands-cases, stands-old, subscriber_of}
-use Rattle.rsx_trace.specs.declared.event.Event.TheVariants.{Subscribe, OnSubscribe, Next, Complete, Error, Exit, Request, Cancel}
+use Rattle.rsx_tck.specs.declared.event.Event.TheVariants.{Subscribe, OnSubscribe, Next, Complete, Error, Exit, Request, Cancel}
 use Rattle.rsx_verify.proofs.Progress.{Progress, at, fresh, subscribed, receiving, running, refusing, ending, over, after, May, IsKeptBy}
 
 -- an event on this worker

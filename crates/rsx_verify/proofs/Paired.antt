@@ -5,7 +5,7 @@ use Rattle.std.proofs.lemmas.Bool.{eq-eqb}
 use Rattle.std.proofs.lemmas.List.{append-nil}
 use Rattle.rsx_verify.specs.Prelude.{Act, Acted, GraphState, IsActed, IsActedAs, IsFollowed, Meaning, Signal, Stamped, SubId, answered, beginning, deliveries, delivery, is_exit, is_signal, of, of-other, stamped, subscriber_of}
 use Rattle.rsx_types.specs.declared.signal.Signal.TheVariants.{Next, Complete, Error}
-use Rattle.rsx_trace.specs.declared.event.Event.TheVariants as event
+use Rattle.rsx_tck.specs.declared.event.Event.TheVariants as event
 use Rattle.rsx_verify.specs.declared.act.Act.TheVariants.{Request, Cancel, Pump}
 use Rattle.std.specs.List.{flat_map}
 use Rattle.rsx_tree.proofs.Runs.{leads_add}

@@ -2,7 +2,7 @@
 use Rattle.std.proofs.Common.{◌≡◌, ◌≢◌, ℕ, ℤ, ◌⊎◌, inl, inr, zero, suc, pos, negsuc, ◌+◌, ◌<◌, List, [], ◌∷◌, ◌++◌, take, sym, subst, append_assoc}
 use Rattle.std.proofs.lemmas.List.{append-nil}
 use Rattle.rsx_verify.specs.Prelude.{Event, NonPositiveRequest, Stamped, saturating_total, subscriber_of}
-use Rattle.rsx_trace.specs.declared.event.Event.TheVariants.{Subscribe, OnSubscribe, Next, Complete, Error, Exit, Request, Cancel, CancelNew}
+use Rattle.rsx_tck.specs.declared.event.Event.TheVariants.{Subscribe, OnSubscribe, Next, Complete, Error, Exit, Request, Cancel, CancelNew}
 
 -- what comes next: nothing has happened; OnSubscribe; the Exit of OnSubscribe or of an item; any signal; the error of a bad
 -- request; the Exit of an ending; nothing any more

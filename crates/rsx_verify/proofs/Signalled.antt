@@ -3,7 +3,7 @@ use Rattle.std.proofs.Common.{◌≡◌, ◌≢◌, ℕ, zero, suc, pos, negsuc,
 use Rattle.std.specs.Prelude.{if◌then◌else◌, is_some}
 use Rattle.std.proofs.lemmas.Bool.{eq-eqb}
 use Rattle.rsx_verify.specs.Prelude.{Event, FirstIs, IsOpen, KnowsAnswer, KnowsSignal, Nothing, Stamped, is_bad_request, is_bad_request_error, is_cancel_or_ending, is_ending, is_exit, is_request_or_cancel, is_signal, is_unanswered, next_answer, next_signal, of, of-other, of-same, of_on, subscriber_of}
-use Rattle.rsx_trace.specs.declared.event.Event.TheVariants.{Subscribe, OnSubscribe, Next, Complete, Error, Exit, Request, Cancel}
+use Rattle.rsx_tck.specs.declared.event.Event.TheVariants.{Subscribe, OnSubscribe, Next, Complete, Error, Exit, Request, Cancel}
 use Rattle.rsx_tck.specs.declared.answers.BadRequest.{BadRequest}
 use Rattle.rsx_tck.specs.declared.answers.BadRequest.TheVariants.{NotYet, Unanswered, Settled}
 use Rattle.rsx_tck.specs.Laws.Answering.{answer-step, answered-none, answered-other, knows_answer-none, knows_answer-other}

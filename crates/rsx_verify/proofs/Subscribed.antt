@@ -13,7 +13,7 @@ use Rattle.rsx_subscription.specs.declared.Refusal.TheVariants.{Overrun}
 use Rattle.rsx_subscriber.specs.Prelude.{IsShut, request_answer, delivers, input_of, is_delivery, standing, IsKeptBeside, IsTake, standing_of}
 use Rattle.rsx_graph_state.specs.Prelude.{SubscriptionState}
 use Rattle.rsx_subscriber.specs.declared.state.SubscriptionState.TheVariants.{Open, Ended, Cancelled, Refused}
-use Rattle.rsx_trace.specs.declared.event.Event.TheVariants as event
+use Rattle.rsx_tck.specs.declared.event.Event.TheVariants as event
 use Rattle.rsx_verify.proofs.Progress.{Progress, at, receiving, running, refusing, ending, over, after, May, Goes, GoesOn}
 
 -- no signal is the error of a bad request

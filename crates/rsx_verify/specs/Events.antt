@@ -1,9 +1,9 @@
 -- How what happens to subscriptions is recorded.
 use Rattle.std.specs.Prelude.{ℕ, List, [], ◌∷◌, Option, Some, None}
 use Rattle.std.specs.List.{flat_map}
-use Rattle.rsx_trace.specs.declared.event.Event.{Event}
-use Rattle.rsx_trace.specs.declared.event.Event.TheVariants as event
-use Rattle.rsx_trace.specs.declared.event.Stamped.{Stamped}
+use Rattle.rsx_tck.specs.declared.event.Event.{Event}
+use Rattle.rsx_tck.specs.declared.event.Event.TheVariants as event
+use Rattle.rsx_tck.specs.declared.event.Stamped.{Stamped}
 use Rattle.rsx_types.specs.declared.names.SubId.{SubId}
 use Rattle.rsx_types.specs.declared.signal.Signal.{Signal}
 use Rattle.rsx_types.specs.declared.signal.Signal.TheVariants.{Next, Complete, Error}

@@ -1,6 +1,6 @@
 -- Rules that a run keeps.
 use Rattle.std.specs.Prelude.{ℕ, List, take}
-use Rattle.rsx_trace.specs.declared.event.Stamped.{Stamped}
+use Rattle.rsx_tck.specs.declared.event.Stamped.{Stamped}
 use Rattle.rsx_tck.specs.declared.rule.Rule.{Rule}
 use Rattle.rsx_tck.specs.Verdicts.{AllKeep}
 

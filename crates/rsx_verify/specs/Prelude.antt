@@ -15,9 +15,9 @@ pub use Rattle.rsx_tck.specs.Rule.{all_rules}
 pub use Rattle.rsx_tck.specs.Sentences.{AtEachPosition, EachAfter, FirstIs, NoneAfter, RefusesUnwanted, Sentence, before_cancel, items_in, requests_in}
 pub use Rattle.rsx_tck.specs.declared.pass.Effect.TheVariants.{Nothing}
 pub use Rattle.rsx_tck.specs.declared.rule.Rule.{Rule}
-pub use Rattle.rsx_trace.specs.Events.{is_bad_request, is_bad_request_error, is_cancel, is_cancel_or_ending, is_ending, is_exit, is_next, is_next_or_ending, is_on_subscribe, is_positive_request, is_request_or_cancel, is_signal, is_subscribe, of, of_on, requested, subscriber_of}
-pub use Rattle.rsx_trace.specs.declared.event.Event.{Event}
-pub use Rattle.rsx_trace.specs.declared.event.Stamped.{Stamped}
+pub use Rattle.rsx_tck.specs.Events.{is_bad_request, is_bad_request_error, is_cancel, is_cancel_or_ending, is_ending, is_exit, is_next, is_next_or_ending, is_on_subscribe, is_positive_request, is_request_or_cancel, is_signal, is_subscribe, of, of_on, requested, subscriber_of}
+pub use Rattle.rsx_tck.specs.declared.event.Event.{Event}
+pub use Rattle.rsx_tck.specs.declared.event.Stamped.{Stamped}
 pub use Rattle.rsx_types.specs.Meaning.{Meaning}
 pub use Rattle.rsx_types.specs.declared.names.HubKind.TheVariants.{Multicast}
 pub use Rattle.rsx_types.specs.declared.names.Move.{Move}

@@ -2,8 +2,8 @@
 use Rattle.rsx_graph.specs.Kinds.{Subscription, IsSubscribed, IsCancelledAt, IsRequestedAt, HasEnded, LeadTo, IsFedHubMade}
 use Rattle.std.specs.Prelude.{◌≡◌, ◌⊎◌, ℕ, ℤ, ◌≤◌, List, [], ◌∷◌, ◌++◌, length, map, Option, Ok}
 use Rattle.std.specs.List.{flat_map}
-use Rattle.rsx_trace.specs.declared.event.Event.TheVariants as event
-use Rattle.rsx_trace.specs.declared.event.Stamped.{Stamped}
+use Rattle.rsx_tck.specs.declared.event.Event.TheVariants as event
+use Rattle.rsx_tck.specs.declared.event.Stamped.{Stamped}
 use Rattle.rsx_types.specs.Meaning.{Meaning}
 use Rattle.rsx_types.specs.declared.names.HubKind.TheVariants.{Multicast}
 use Rattle.rsx_types.specs.declared.names.SubId.{SubId}

@@ -4,7 +4,7 @@ ghost use Rattle.std.specs.Prelude.{◌≡◌, ◌++◌, List, None, IfOk, IfErr
 ghost use Rattle.rsx_graph.specs.InGraph.{state_of};
 ghost use Rattle.rsx_model.specs.Check.{refusal};
 ghost use Rattle.rsx_model.specs.Region.{region_of};
-ghost use Rattle.rsx_trace.specs.declared.event.Stamped.{Stamped};
+ghost use Rattle.rsx_tck.specs.declared.event.Stamped.{Stamped};
 ghost use Rattle.rsx_verify.specs.Events.{beginning};
 ghost use Rattle.rsx_verify.specs.Kept.{AreKept};
 ghost use Rattle.rsx_verify.specs.Refusals.{IsVerifyRefusal};

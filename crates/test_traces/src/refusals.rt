@@ -1,6 +1,6 @@
 //! Texts that are no traces.
 
-use rsx_trace::{TraceRefusal, parse_trace};
+use rsx_tck::{TraceRefusal, parse_trace};
 
 /// Texts that are no traces, and the line and the column of the first wrong word.
 const REFUSED: [(&str, u64, u64); 42] = [

@@ -2,7 +2,7 @@
 
 ghost use Rattle.std.specs.Prelude.{◌≡◌};
 
-use rsx_trace::{Event, Stamped, TraceRefusal, parse_trace, print_trace};
+use rsx_tck::{Event, Stamped, TraceRefusal, parse_trace, print_trace};
 use rsx_types::Cause;
 use std::test::Fail;
 

@@ -1,13 +1,13 @@
 -- The sentence on bad requests and their answers.
 use Rattle.std.proofs.Common.{◌≡◌, ◌≢◌, ℕ, ◌<◌, ◌⊎◌, inl, inr, Bool, true, false, not, ◌&&◌, ◌||◌, List, [], ◌∷◌, ◌++◌, length, refl, sym, ap, ◌∙◌, subst, arith, IsTrue}
 use Rattle.std.proofs.Math.Bool.{or-true}
-use Rattle.rsx_trace.specs.declared.event.Event.{Event}
-use Rattle.rsx_trace.specs.declared.event.Event.TheVariants.{Subscribe, OnSubscribe, Next, Complete, Error, Exit, Request, Cancel, CancelNew}
-use Rattle.rsx_trace.specs.declared.event.Stamped.{Stamped}
+use Rattle.rsx_tck.specs.declared.event.Event.{Event}
+use Rattle.rsx_tck.specs.declared.event.Event.TheVariants.{Subscribe, OnSubscribe, Next, Complete, Error, Exit, Request, Cancel, CancelNew}
+use Rattle.rsx_tck.specs.declared.event.Stamped.{Stamped}
 use Rattle.rsx_tck.specs.declared.pass.Effect.{Effect}
 use Rattle.rsx_tck.specs.declared.answers.BadRequest.{BadRequest}
 use Rattle.rsx_tck.specs.declared.answers.BadRequest.TheVariants.{NotYet, Unanswered, Settled}
-use Rattle.rsx_trace.specs.Events.{of, subscriber_of, is_cancel, is_bad_request, is_cancel_or_ending, is_ending, is_bad_request_error}
+use Rattle.rsx_tck.specs.Events.{of, subscriber_of, is_cancel, is_bad_request, is_cancel_or_ending, is_ending, is_bad_request_error}
 use Rattle.rsx_tck.specs.Sentences.{At, NoneBefore, FirstIs}
 use Rattle.rsx_tck.specs.Passes.{Stands, Judges, is_breach, IsUnanswered, KnowsAnswer, next_answer, is_unanswered}
 use Rattle.rsx_tck.specs.Laws.Positions.{at-none, at-below, at-old, at-new, at-cases, at-back, at-here, at-last, stands-cases, stands-old, of-same, of-other, match_bool}

@@ -6,11 +6,11 @@ use Rattle.std.proofs.lemmas.Bool.{eq-eqb, ne_eqb, and_parts, cases_Bool, cases_
 use Rattle.std.proofs.lemmas.List.{take-append-le}
 use Rattle.std.proofs.lemmas.List.Sums.{sum_by-append}
 use Rattle.rsx_demand.specs.declared.TheConstants.{UNBOUNDED}
-use Rattle.rsx_trace.specs.declared.event.Event.{Event}
-use Rattle.rsx_trace.specs.declared.event.Event.TheVariants.{Subscribe, OnSubscribe, Next, Complete, Error, Exit, Request, Cancel, CancelNew}
-use Rattle.rsx_trace.specs.declared.event.Stamped.{Stamped}
+use Rattle.rsx_tck.specs.declared.event.Event.{Event}
+use Rattle.rsx_tck.specs.declared.event.Event.TheVariants.{Subscribe, OnSubscribe, Next, Complete, Error, Exit, Request, Cancel, CancelNew}
+use Rattle.rsx_tck.specs.declared.event.Stamped.{Stamped}
 use Rattle.rsx_tck.specs.declared.pass.Effect.{Effect}
-use Rattle.rsx_trace.specs.Events.{of, subscriber_of, requested, is_next, is_cancel}
+use Rattle.rsx_tck.specs.Events.{of, subscriber_of, requested, is_next, is_cancel}
 use Rattle.rsx_tck.specs.Sentences.{AtEachPosition, items_in, requests_in, before_cancel}
 use Rattle.rsx_tck.specs.Passes.{Stands, Tells, Judges, is_breach}
 use Rattle.rsx_tck.specs.Laws.Following.{tells-same, tells-other}

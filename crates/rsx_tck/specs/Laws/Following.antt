@@ -2,10 +2,10 @@
 use Rattle.std.proofs.Common.{◌≡◌, ◌≢◌, ℕ, ◌<◌, inl, inr, Bool, true, false, not, ◌&&◌, ◌||◌, List, [], ◌∷◌, ◌++◌, length, refl, sym, ap, ◌∙◌, arith, IsTrue}
 use Rattle.std.proofs.Math.Bool.{or-true}
 use Rattle.std.proofs.lemmas.Bool.{and_parts, and_from, or_cases, not-true}
-use Rattle.rsx_trace.specs.declared.event.Event.{Event}
-use Rattle.rsx_trace.specs.declared.event.Stamped.{Stamped}
+use Rattle.rsx_tck.specs.declared.event.Event.{Event}
+use Rattle.rsx_tck.specs.declared.event.Stamped.{Stamped}
 use Rattle.rsx_tck.specs.declared.pass.Effect.{Effect}
-use Rattle.rsx_trace.specs.Events.{of, subscriber_of}
+use Rattle.rsx_tck.specs.Events.{of, subscriber_of}
 use Rattle.rsx_tck.specs.Sentences.{NoneAfter, EachAfter}
 use Rattle.rsx_tck.specs.Passes.{Stands, Tells, Judges, is_breach}
 use Rattle.rsx_tck.specs.Laws.Positions.{at-none, at-below, at-old, at-new, at-cases, at-back, of-same, of-other, match_bool}

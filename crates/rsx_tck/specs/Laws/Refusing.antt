@@ -4,9 +4,9 @@ use Rattle.std.specs.Prelude.{◌↔◌}
 use Rattle.std.proofs.Math.Bool.{or-true}
 use Rattle.std.proofs.Math.Nat.{zero-lt-suc}
 use Rattle.std.proofs.lemmas.Bool.{and_parts, and_from, or_cases, not-true, cases_Bool}
-use Rattle.rsx_trace.specs.declared.event.Stamped.{Stamped}
+use Rattle.rsx_tck.specs.declared.event.Stamped.{Stamped}
 use Rattle.rsx_tck.specs.declared.pass.Effect.{Effect}
-use Rattle.rsx_trace.specs.Events.{of, of_on, subscriber_of, is_on_subscribe, is_cancel_or_ending, is_exit, is_cancel_new}
+use Rattle.rsx_tck.specs.Events.{of, of_on, subscriber_of, is_on_subscribe, is_cancel_or_ending, is_exit, is_cancel_new}
 use Rattle.rsx_tck.specs.Sentences.{At, SomeBefore, NoneBefore, IsUnwanted, RefusesUnwanted}
 use Rattle.rsx_tck.specs.Passes.{Judges, is_breach, Stands, Tells, TellsWorkers, IsUnrefused, KnowsUnrefused}
 use Rattle.rsx_tck.specs.Laws.Positions.{at-none, at-below, at-old, at-new, at-cases, at-back, at-last, of-same, of-other, match_bool}

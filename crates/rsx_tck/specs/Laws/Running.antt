@@ -3,11 +3,11 @@ use Rattle.std.proofs.Common.{◌≡◌, ◌≢◌, ℕ, ◌⊎◌, inl, inr, Bo
 use Rattle.std.specs.Prelude.{is_some, if◌then◌else◌}
 use Rattle.std.proofs.Math.Bool.{and-true}
 use Rattle.std.proofs.lemmas.Bool.{and_left, and_right, cases_eq, eq-eqb, ne_eqb, eqb-true}
-use Rattle.rsx_trace.specs.declared.event.Event.{Event}
-use Rattle.rsx_trace.specs.declared.event.Event.TheVariants.{Subscribe, OnSubscribe, Next, Complete, Error, Exit, Request, Cancel, CancelNew}
-use Rattle.rsx_trace.specs.declared.event.Stamped.{Stamped}
+use Rattle.rsx_tck.specs.declared.event.Event.{Event}
+use Rattle.rsx_tck.specs.declared.event.Event.TheVariants.{Subscribe, OnSubscribe, Next, Complete, Error, Exit, Request, Cancel, CancelNew}
+use Rattle.rsx_tck.specs.declared.event.Stamped.{Stamped}
 use Rattle.rsx_tck.specs.declared.pass.Effect.{Effect}
-use Rattle.rsx_trace.specs.Events.{of, of_on, subscriber_of, is_signal, is_exit}
+use Rattle.rsx_tck.specs.Events.{of, of_on, subscriber_of, is_signal, is_exit}
 use Rattle.rsx_tck.specs.Sentences.{NoneUntil}
 use Rattle.rsx_tck.specs.Passes.{Judges, is_breach, IsOpen, KnowsSignal, next_signal}
 use Rattle.rsx_tck.specs.Laws.Positions.{at-none, at-below, at-old, at-new, at-cases, at-back, at-last, of-same, of-other, match_bool}

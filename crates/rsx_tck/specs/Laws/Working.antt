@@ -3,10 +3,10 @@ use Rattle.std.proofs.Common.{◌≡◌, ◌≢◌, ℕ, ◌<◌, inl, inr, Bool
 use Rattle.std.specs.Prelude.{◌↔◌}
 use Rattle.std.proofs.lemmas.List.{get_or-set_same, get_or-set_other, length-set}
 use Rattle.std.proofs.lemmas.Bool.{and_parts, and_from, cases_eq, eqb-true}
-use Rattle.rsx_trace.specs.declared.event.Event.{Event}
-use Rattle.rsx_trace.specs.declared.event.Stamped.{Stamped}
+use Rattle.rsx_tck.specs.declared.event.Event.{Event}
+use Rattle.rsx_tck.specs.declared.event.Stamped.{Stamped}
 use Rattle.rsx_tck.specs.declared.pass.Effect.{Effect}
-use Rattle.rsx_trace.specs.Events.{of, of_on, subscriber_of, is_ending, is_exit, is_request_or_cancel}
+use Rattle.rsx_tck.specs.Events.{of, of_on, subscriber_of, is_ending, is_exit, is_request_or_cancel}
 use Rattle.rsx_tck.specs.Sentences.{NoneUntil}
 use Rattle.rsx_tck.specs.Passes.{Judges, is_breach, IsOpen, TellsWorkers, KnowsEndings}
 use Rattle.rsx_tck.specs.Laws.Positions.{of-same, of-other, match_bool}

@@ -1,7 +1,7 @@
 use Rattle.std.proofs.Common.{[], ◌++◌, refl, subst, sym}
 use Rattle.std.specs.String.{string_bytes}
 use Rattle.rsx_script.specs.Fault.{IsRunFault}
-use Rattle.rsx_trace.specs.Texts.{lines}
+use Rattle.rsx_tck.specs.Texts.{lines}
 use Rattle.rsx_drive.specs.Answered.{IsStopped, Writes}
 use Rattle.rsx_drive.proofs.Bytes.{at_start}
 use Rattle.rsx_drive.proofs.Ending.{last_failed, stop_early, stop_failed}

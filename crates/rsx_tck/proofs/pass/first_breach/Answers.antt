@@ -1,7 +1,7 @@
 use Rattle.std.proofs.Common.{◌≢◌, ℕ, List, ◌∙◌, sym, take, get_or, arith}
-use Rattle.rsx_trace.specs.declared.event.Event.TheVariants.{Subscribe}
-use Rattle.rsx_trace.specs.declared.event.Stamped.{Stamped}
-use Rattle.rsx_trace.specs.Events.{subscriber_of}
+use Rattle.rsx_tck.specs.declared.event.Event.TheVariants.{Subscribe}
+use Rattle.rsx_tck.specs.declared.event.Stamped.{Stamped}
+use Rattle.rsx_tck.specs.Events.{subscriber_of}
 use Rattle.rsx_tck.proofs.Prefixes.{shorter, going-on}
 use Rattle.rsx_tck.proofs.pass.first_breach.Goals as goal
 use Rattle.rsx_tck.proofs.pass.first_breach.Goals.{then-subscriber+in-Nothing, else-subscriber}

@@ -1,7 +1,7 @@
 use Rattle.std.proofs.Common.{ℕ, ◌++◌, ◌∷◌, [], Option, take, get_or, subst, sym, ap, ◌∙◌}
 use Rattle.std.proofs.lemmas.List.{take_all}
-use Rattle.rsx_trace.specs.declared.event.Event.TheVariants.{Subscribe}
-use Rattle.rsx_trace.specs.declared.event.Stamped.{Stamped}
+use Rattle.rsx_tck.specs.declared.event.Event.TheVariants.{Subscribe}
+use Rattle.rsx_tck.specs.declared.event.Stamped.{Stamped}
 use Rattle.rsx_tck.specs.Passes.{BeginsAt, least_from}
 use Rattle.rsx_tck.proofs.Prefixes.{longer}
 use Rattle.rsx_tck.proofs.Subscribers.{begins_at-more}

@@ -1,7 +1,7 @@
 use Rattle.std.proofs.Common.{[], ◌∷◌, ◌++◌, refl, sym, subst}
 use Rattle.std.specs.String.{string_bytes}
 use Rattle.std.proofs.lemmas.List.{append-nil}
-use Rattle.rsx_trace.specs.Opening.{HasCome}
+use Rattle.rsx_tck.specs.Opening.{HasCome}
 use Rattle.rsx_drive.specs.Judged.{IsRefusedAfter, IsTraceAnswer, judging}
 use Rattle.rsx_drive.proofs.Parts.{event_stands, end_stands, bad_refused}
 use Rattle.rsx_drive.proofs.judge.InputJudge.go_on.Goals as goal

@@ -2,7 +2,7 @@ use Rattle.std.proofs.Common.{◌++◌, take, ap, subst, sym, append_assoc, arit
 use Rattle.std.specs.String.{string_bytes}
 use Rattle.std.proofs.lemmas.List.{length-take}
 use Rattle.std.proofs.KnownBytes.{Consumes-trans, Appends-trans}
-use Rattle.rsx_trace.specs.Texts.{lines}
+use Rattle.rsx_tck.specs.Texts.{lines}
 use Rattle.rsx_drive.specs.Answered.{IsCut, IsStopped, Writes}
 use Rattle.rsx_drive.specs.Taken.{HasTaken}
 use Rattle.rsx_drive.proofs.Bytes.{reading_failed}

@@ -1,8 +1,8 @@
 use Rattle.std.proofs.Common.{◌≡◌, false, subst, sym, arith, [], ◌∷◌, ◌++◌}
 use Rattle.std.specs.String.{string_bytes}
 use Rattle.std.proofs.lemmas.Bool.Decides.{nat_tests}
-use Rattle.rsx_trace.specs.Texts.{lines}
-use Rattle.rsx_trace.proofs.Lines.{newline}
+use Rattle.rsx_tck.specs.Texts.{lines}
+use Rattle.rsx_tck.proofs.Lines.{newline}
 use Rattle.rsx_drive.specs.Answered.{IsStopped}
 use Rattle.rsx_drive.specs.Taken.{HasTaken}
 use Rattle.rsx_drive.proofs.Bytes.{line_ends, ended_lines, byte_too_many}

@@ -2,7 +2,7 @@ use Rattle.std.proofs.Common.{◌+◌, suc, [], ◌∷◌, ◌++◌, get_or, tak
 use Rattle.std.specs.String.{string_bytes}
 use Rattle.std.proofs.lemmas.List.{take_all}
 use Rattle.std.proofs.KnownBytes.{Appends-trans}
-use Rattle.rsx_trace.specs.Texts.{lines}
+use Rattle.rsx_tck.specs.Texts.{lines}
 use Rattle.rsx_drive.specs.Answered.{IsStopped}
 use Rattle.rsx_drive.specs.Taken.{HasTaken}
 use Rattle.rsx_drive.proofs.Writing.{one_more, whole_again}

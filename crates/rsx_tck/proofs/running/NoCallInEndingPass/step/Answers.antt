@@ -1,5 +1,5 @@
 use Rattle.std.proofs.Common.{◌∙◌, ap, ◌&&◌, ◌||◌, not}
-use Rattle.rsx_trace.specs.Events.{is_ending, is_exit, is_request_or_cancel}
+use Rattle.rsx_tck.specs.Events.{is_ending, is_exit, is_request_or_cancel}
 use Rattle.rsx_tck.specs.Laws.Working.{ending-step}
 use Rattle.rsx_tck.proofs.running.NoCallInEndingPass.step.Goals as goal
 

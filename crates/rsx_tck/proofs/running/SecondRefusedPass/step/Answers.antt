@@ -1,5 +1,5 @@
 use Rattle.std.proofs.Common.{◌∙◌, ap, ◌&&◌, ◌||◌, not}
-use Rattle.rsx_trace.specs.Events.{is_on_subscribe, is_cancel_new, is_exit}
+use Rattle.rsx_tck.specs.Events.{is_on_subscribe, is_cancel_new, is_exit}
 use Rattle.rsx_tck.specs.Laws.Refusing.{unrefused-step}
 use Rattle.rsx_tck.proofs.running.SecondRefusedPass.step.Goals as goal
 

@@ -1,5 +1,0 @@
-use Rattle.std.proofs.Common.{rules}
-use Rattle.rsx_trace.proofs.print.EventDisplay.fmt.Goals as goal
-
-pub returns-in-CancelNew-clause-writes : goal.returns-in-CancelNew-clause-writes
-returns-in-CancelNew-clause-writes g c = search rules
