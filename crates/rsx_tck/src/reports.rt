@@ -9,11 +9,11 @@ ghost use Rattle.rsx_tck.specs.Passes.{BeginsAt, IsFirstBreach, KeepsThrough, le
 use crate::answers::BadRequest;
 use crate::both::Both;
 use crate::counts::{NoMoreAfterCancel, NoMoreThanRequested};
+use crate::event::Stamped;
 use crate::flags::{
     BadRequestFirst, NothingAfterEnding, OnSubscribeFirst, OneOnSubscribe, OneSubscribe,
     RequestFirst,
 };
-use crate::event::Stamped;
 use crate::pass::{Pass, first_breach};
 use crate::rule::{Rule, Verdict};
 use crate::running::{NoCallInEnding, OneSignalAtATime, SecondRefused};
