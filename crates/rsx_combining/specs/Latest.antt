@@ -7,7 +7,7 @@ use Rattle.rsx_values.specs.Prelude.{written, all_latest, is_itemless, combine, 
 use Rattle.rsx_queued.specs.declared.input.QueuedInput.{QueuedInput}
 use Rattle.rsx_queued.specs.declared.output.Output.{Output}
 use Rattle.rsx_queued.specs.declared.output.Output.TheVariants.{Waiting}
-use Rattle.rsx_queued.specs.Prelude.{without, next_signal, next_signal_at, takes_at, credits_at, done_at, are_gone, AreCounted, inputs_left, picked, out_signal, is_empty, has_ending, is_over, output_then, IsOut, first_values}
+use Rattle.rsx_queued.specs.Prelude.{without, next_signal, next_signal_at, takes_at, credits_at, waiting_at, done_at, are_gone, AreCounted, inputs_left, picked, out_signal, is_empty, has_ending, is_over, output_then, IsOut, first_values}
 
 -- the inputs, the latest item of each, what the node has put out, and the choices made
 pub record LatestState (T : Type 0) : Type 0 where
@@ -112,6 +112,10 @@ pub record IsLatestCounted {T : Type 0} (n : LatestState T) (taken : List ℕ) (
 
 abbrev pub latest_wanted : {T : Type 0} → LatestState T → ℕ → ℕ → ℕ → ℕ
 latest_wanted n i asked sent = credits_at (slice_get n.inputs i)
+
+-- how many signals of an input wait to be picked
+abbrev pub latest_queued : {T : Type 0} → LatestState T → ℕ → Option ℕ
+latest_queued n i = waiting_at (slice_get n.inputs i)
 
 abbrev pub latest_popped : {T : Type 0} → LatestState T → Signal T → LatestState T → Type 0
 latest_popped old s new = IsOut old.output s new.output × (new.inputs ≡ old.inputs) × (new.latest ≡ old.latest) × (new.choices ≡ old.choices)

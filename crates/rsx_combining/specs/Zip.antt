@@ -6,7 +6,7 @@ use Rattle.rsx_sources.specs.declared.machine.Front.{Front}
 use Rattle.rsx_queued.specs.declared.input.QueuedInput.{QueuedInput}
 use Rattle.rsx_queued.specs.declared.output.Output.{Output}
 use Rattle.rsx_queued.specs.declared.output.Output.TheVariants.{Empty, Waiting}
-use Rattle.rsx_queued.specs.Prelude.{out_signal, is_empty, has_ending, is_over, output_then, IsOut, takes_at, credits_at, done_at, first_values}
+use Rattle.rsx_queued.specs.Prelude.{out_signal, is_empty, has_ending, is_over, output_then, IsOut, takes_at, credits_at, waiting_at, done_at, first_values}
 use Rattle.rsx_values.specs.Zip.{zip}
 use Rattle.rsx_combining.specs.Inputs.{lefts, ending_at, all_have_items, all_shortened, AllCounted}
 
@@ -93,6 +93,10 @@ pub record IsZipCounted {T : Type 0} (n : ZipState T) (taken : List ℕ) (sent :
 
 abbrev pub zip_wanted : {T : Type 0} → ZipState T → ℕ → ℕ → ℕ → ℕ
 zip_wanted n i asked sent = credits_at (slice_get n.inputs i)
+
+-- how many signals of an input wait
+abbrev pub zip_queued : {T : Type 0} → ZipState T → ℕ → Option ℕ
+zip_queued n i = waiting_at (slice_get n.inputs i)
 
 abbrev pub zip_popped : {T : Type 0} → ZipState T → Signal T → ZipState T → Type 0
 zip_popped old s new = IsOut old.output s new.output × (new.inputs ≡ old.inputs) × (new.chosen ≡ old.chosen)

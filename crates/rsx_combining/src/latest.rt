@@ -10,7 +10,7 @@ use crate::given::LatestRow;
 use rsx_prefetch::LARGEST;
 use rsx_queued::{
     InFront, Output, QueuedInput, ToPick, are_gone, credits_at, first_output, front_at, front_of,
-    takes_at,
+    takes_at, waiting_at,
 };
 use rsx_sources::{Front, Machine, NotMade, NotTaken, Passed};
 use rsx_types::{NoMemory, Note, Ops, Signal, StreamValue};
@@ -76,7 +76,7 @@ impl<T: Drop> CombineLatestNode<T> {
     ghost use Rattle.rsx_queued.specs.Input.{fresh_input};
     ghost use Rattle.rsx_queued.specs.Inputs.{are_gone};
     ghost use Rattle.rsx_queued.specs.Output.{is_empty};
-    ghost use Rattle.rsx_combining.specs.Latest.{GivesLatest, IsLatestCounted, after_pick};
+    ghost use Rattle.rsx_combining.specs.Latest.{GivesLatest, IsLatestCounted, after_pick, latest_queued};
 
     /// The combineLatest of so many inputs, each with a queue for so many items, 1 to [`LARGEST`]. That of no inputs completes
     /// at once.
@@ -112,6 +112,13 @@ impl<T: Drop> CombineLatestNode<T> {
             choices: Record::new(alloc),
             row,
         })
+    }
+
+    /// How many signals of this input wait to be picked, its ending too. None where there is no such input.
+    pub fn queued_at(&self, input: u64) -> Option<u64>
+        ensures { result ≡ latest_queued self.now input }
+    {
+        waiting_at(self.inputs.as_slice(), input)
     }
 
     /// The choices made, as runs. It takes no memory.

@@ -7,7 +7,7 @@ ghost use Rattle.rsx_combining.specs.Inputs.{all_have_items, ending_only};
 use crate::row::Gathered;
 use crate::values::ToCome;
 use rsx_prefetch::LARGEST;
-use rsx_queued::{InFront, Output, QueuedInput, credits_at, front_of, takes_at};
+use rsx_queued::{InFront, Output, QueuedInput, credits_at, front_of, takes_at, waiting_at};
 use rsx_sources::{Front, Machine, NotMade, NotTaken, Passed};
 use rsx_types::{NoMemory, Note, Ops, Signal, StreamValue};
 use rsx_values::Zip;
@@ -70,7 +70,7 @@ impl<T: Drop> ZipNode<T> {
     ghost use Rattle.rsx_queued.specs.Input.{fresh_input};
     ghost use Rattle.std.proofs.Math.ListN.{replicate};
     ghost use Rattle.rsx_combining.specs.Inputs.{ending_at};
-    ghost use Rattle.rsx_combining.specs.Zip.{GivesZip, IsZipCounted, may_end};
+    ghost use Rattle.rsx_combining.specs.Zip.{GivesZip, IsZipCounted, may_end, zip_queued};
 
     /// The zip of so many inputs, each with a queue for so many items, 1 to [`LARGEST`].
     ///
@@ -97,6 +97,13 @@ impl<T: Drop> ZipNode<T> {
             chosen: None,
             row,
         })
+    }
+
+    /// How many signals of this input wait, its ending too. None where there is no such input.
+    pub fn queued_at(&self, input: u64) -> Option<u64>
+        ensures { result ≡ zip_queued self.now input }
+    {
+        waiting_at(self.inputs.as_slice(), input)
     }
 
     /// Whether nothing waits in the out slot, and no ending was taken.

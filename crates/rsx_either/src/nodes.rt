@@ -13,6 +13,8 @@ impl<A: Nodes, B: Nodes<Item = A::Item>> Nodes for EitherNode<A, B> {
 
     ghost operator_of = { by_kind A.operator_of B.operator_of };
 
+    ghost queued_of = { by_kind A.queued_of B.queued_of };
+
     fn route(&self, edge: &Edge) -> Route {
         match self {
             EitherNode::Left(node) => node.route(edge),
@@ -24,6 +26,13 @@ impl<A: Nodes, B: Nodes<Item = A::Item>> Nodes for EitherNode<A, B> {
         match self {
             EitherNode::Left(node) => node.operator(),
             EitherNode::Right(node) => node.operator(),
+        }
+    }
+
+    fn queued_at(&self, input: u64) -> Option<u64> {
+        match self {
+            EitherNode::Left(node) => node.queued_at(input),
+            EitherNode::Right(node) => node.queued_at(input),
         }
     }
 

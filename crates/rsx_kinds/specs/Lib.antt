@@ -13,6 +13,7 @@ pub mod MergeRests
 pub mod OneInputRests
 pub mod Operators
 pub mod Prelude
+pub mod Queues
 pub mod QueuesRests
 pub mod Rests
 pub mod Room

@@ -33,8 +33,8 @@
 //! The tree of an expression.
 //!
 //! [`build`] makes the nodes of an expression, each over those of its inputs. The definitions stand in `specs/`: `Built` has
-//! what a tree is that has just begun, `Crossings` which of its edges have a queue, `Operators` which operator a node is, and
-//! `Routes` how an edge joins its two ends. The nodes of a tree are a graph's [`Nodes`](rsx_rooted::Nodes); `Rests` and `Room`
+//! what a tree is that has just begun, `Crossings` which of its edges have a queue, `Operators` which operator a node is, `Queues`
+//! how many signals wait in a node's queues, and `Routes` how an edge joins its two ends. The nodes of a tree are a graph's [`Nodes`](rsx_rooted::Nodes); `Rests` and `Room`
 //! have the laws that this asks for.
 
 pub mod any_node;
@@ -43,6 +43,7 @@ mod crossing_nodes;
 pub mod kind;
 mod nodes;
 mod operators;
+mod queues;
 pub mod several_node;
 pub mod source_node;
 mod trees;

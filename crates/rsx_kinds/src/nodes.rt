@@ -2,6 +2,7 @@
 
 use crate::TreeNode;
 use crate::operators::operator_of_any;
+use crate::queues::queued_at_any;
 use rsx_queued::Sender;
 use rsx_rooted::{Nodes, Route};
 use rsx_tree::Edge;
@@ -11,6 +12,7 @@ impl<T: Drop> Nodes for TreeNode<T> {
     ghost use Rattle.rsx_kinds.specs.Crossings.{is_crossing};
     ghost use Rattle.rsx_kinds.specs.Local.{any_local};
     ghost use Rattle.rsx_kinds.specs.Operators.{operator_of};
+    ghost use Rattle.rsx_kinds.specs.Queues.{queued_of};
     ghost use Rattle.rsx_kinds.specs.Rests.{any_rests};
     ghost use Rattle.rsx_kinds.specs.Room.{any_full};
     ghost use Rattle.rsx_kinds.specs.Routes.{route_by};
@@ -18,6 +20,8 @@ impl<T: Drop> Nodes for TreeNode<T> {
     ghost route_by = { route_by };
 
     ghost operator_of = { operator_of };
+
+    ghost queued_of = { queued_of };
 
     fn route(&self, edge: &Edge) -> Route {
         match self.node() {
@@ -33,6 +37,13 @@ impl<T: Drop> Nodes for TreeNode<T> {
         match self.node() {
             Sender::Direct(node) => operator_of_any(node),
             Sender::Crossing(queued) => operator_of_any(&queued.node),
+        }
+    }
+
+    fn queued_at(&self, input: u64) -> Option<u64> {
+        match self.node() {
+            Sender::Direct(node) => queued_at_any(node, input),
+            Sender::Crossing(queued) => queued_at_any(&queued.node, input),
         }
     }
 

@@ -2,7 +2,7 @@
 use Rattle.std.specs.Prelude.{◌≡◌, ℕ, ◌≤◌, ◌^◌, Bool, false, ◌&&◌, List, [], ◌∷◌, length, slice_get, Option, option_map}
 use Rattle.rsx_sources.specs.Prelude.{Note, Picks, Signal, Meaning, Stream, Incoming, front_of}
 use Rattle.rsx_sources.specs.declared.machine.Front.{Front}
-use Rattle.rsx_queued.specs.Prelude.{may_go, takes_at, next_signal_at, credits_at, done_at, are_gone, AreCounted, inputs_left, merge_behind, out_signal, is_empty, is_over, has_ending, IsOut}
+use Rattle.rsx_queued.specs.Prelude.{may_go, takes_at, next_signal_at, credits_at, waiting_at, done_at, are_gone, AreCounted, inputs_left, merge_behind, out_signal, is_empty, is_over, has_ending, IsOut}
 use Rattle.rsx_queued.specs.declared.input.QueuedInput.{QueuedInput}
 use Rattle.rsx_queued.specs.declared.output.Output.{Output}
 use Rattle.rsx_values.specs.Record.{written}
@@ -52,6 +52,10 @@ merge_counted n taken sent = IsGoing n.output n.inputs.items taken
 
 abbrev pub merge_wanted : {T : Type 0} → MergeNode T → ℕ → ℕ → ℕ → ℕ
 merge_wanted n i asked sent = credits_at (slice_get n.inputs.items i)
+
+-- how many signals of an input wait to be picked
+abbrev pub merge_queued : {T : Type 0} → MergeNode T → ℕ → Option ℕ
+merge_queued n i = waiting_at (slice_get n.inputs.items i)
 
 abbrev pub merge_popped : {T : Type 0} → MergeNode T → Signal T → MergeNode T → Type 0
 merge_popped old s new = IsOut old.output s new.output × (old.inputs ≡ new.inputs) × (old.choices ≡ new.choices)

@@ -5,7 +5,7 @@ use Rattle.rsx_sources.specs.declared.machine.Front.{Front}
 use Rattle.rsx_prefetch.specs.Credits.{credits}
 use Rattle.rsx_prefetch.specs.Queue.{queue}
 use Rattle.rsx_queued.specs.declared.tail.Tail.TheVariants.{Open, Completion, Failure}
-use Rattle.rsx_queued.specs.Prelude.{ended_in, still, takes, next_signal, has_room_for}
+use Rattle.rsx_queued.specs.Prelude.{ended_in, still, takes, next_signal, waiting_count, has_room_for}
 use Rattle.rsx_queued.specs.declared.input.QueuedInput.{QueuedInput}
 use Rattle.rsx_merging.specs.declared.publish_on_node.PublishOnNode.{PublishOnNode}
 
@@ -43,6 +43,10 @@ publish_ended n = ended_in n.input.tail false
 -- the credits of the queue: each item that was sent was taken out of it
 abbrev pub publish_wanted : {T : Type 0} → PublishOnNode T → ℕ → ℕ → ℕ → ℕ
 publish_wanted n i asked sent = if i == 0 then credits n.input.queue.capacity sent else 0
+
+-- how many signals of the one input wait
+abbrev pub publish_queued : {T : Type 0} → PublishOnNode T → ℕ → Option ℕ
+publish_queued n i = if i == 0 then Some (waiting_count n.input) else None
 
 -- with this signal in front of what is offered
 abbrev pub restored : {T : Type 0} → Signal T → QueuedInput T → QueuedInput T

@@ -5,7 +5,7 @@ ghost use Rattle.rsx_queued.specs.Output.{first_output};
 
 use rsx_queued::{
     InFront, Output, QueuedInput, ToPick, are_gone, credits_at, first_output, front_at, front_of,
-    takes_at,
+    takes_at, waiting_at,
 };
 use rsx_sources::{Front, Machine, NotMade, NotTaken, Passed};
 use rsx_types::{NoMemory, Note, Ops, Signal, StreamValue};
@@ -38,7 +38,7 @@ impl<T: Drop> MergeNode<T> {
     ghost use Rattle.rsx_queued.specs.Input.{fresh_input};
     ghost use Rattle.rsx_queued.specs.Values.{first_values};
     ghost use Rattle.rsx_queued.specs.Inputs.{picked};
-    ghost use Rattle.rsx_merging.specs.Merge.{merge_comes_out, merge_counted};
+    ghost use Rattle.rsx_merging.specs.Merge.{merge_comes_out, merge_counted, merge_queued};
 
     /// The merge of so many inputs, each with a queue of this capacity, 1 to [`LARGEST`](rsx_prefetch::LARGEST). That of no inputs
     /// completes at once.
@@ -65,6 +65,13 @@ impl<T: Drop> MergeNode<T> {
             output: first_output(inputs),
             choices: Record::new(alloc),
         })
+    }
+
+    /// How many signals of this input wait to be picked, its ending too. None where there is no such input.
+    pub fn queued_at(&self, input: u64) -> Option<u64>
+        ensures { result ≡ merge_queued self.now input }
+    {
+        waiting_at(self.inputs.as_slice(), input)
     }
 
     /// The choices made, as runs. It takes no memory.

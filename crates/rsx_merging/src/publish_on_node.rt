@@ -40,7 +40,7 @@ impl<T: Drop> PublishOnNode<T> {
     ghost use Rattle.rsx_sources.specs.Machine.{Incoming, quiet};
     ghost use Rattle.rsx_prefetch.specs.declared.TheConstants.{LARGEST};
     ghost use Rattle.rsx_queued.specs.Input.{fresh_input};
-    ghost use Rattle.rsx_merging.specs.PublishOn.{publish_comes_out, publish_counted};
+    ghost use Rattle.rsx_merging.specs.PublishOn.{publish_comes_out, publish_counted, publish_queued};
 
     /// The identity over a queue of this capacity, 1 to [`LARGEST`](rsx_prefetch::LARGEST).
     ///
@@ -56,6 +56,17 @@ impl<T: Drop> PublishOnNode<T> {
     {
         let input = QueuedInput::new(alloc, capacity)?;
         Ok(PublishOnNode { input })
+    }
+
+    /// How many signals of its one input wait, its ending too. None of another input.
+    pub fn queued_at(&self, input: u64) -> Option<u64>
+        ensures { result ≡ publish_queued self.now input }
+    {
+        if input == 0 {
+            Some(self.input.waiting())
+        } else {
+            None
+        }
     }
 }
 

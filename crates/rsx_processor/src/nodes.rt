@@ -6,7 +6,7 @@ use rsx_tree::Edge;
 use rsx_waits::Operator;
 
 impl<P: Processor<Item = T>, T: Drop> Nodes for ProcessorNode<P, T> {
-    ghost use Rattle.std.specs.Prelude.{false};
+    ghost use Rattle.std.specs.Prelude.{false, None};
     ghost use Rattle.rsx_rooted.specs.declared.nodes.Route.TheVariants.{Straight};
     ghost use Rattle.rsx_processor.specs.Laws.{node_local, node_rests, reads_nothing};
     ghost use Rattle.rsx_waits.specs.declared.operator.Operator.TheVariants.{Own};
@@ -15,12 +15,18 @@ impl<P: Processor<Item = T>, T: Drop> Nodes for ProcessorNode<P, T> {
 
     ghost operator_of = { λ n. Own };
 
+    ghost queued_of = { λ n input. None };
+
     fn route(&self, edge: &Edge) -> Route {
         Route::Straight
     }
 
     fn operator(&self) -> Operator {
         Operator::Own
+    }
+
+    fn queued_at(&self, input: u64) -> Option<u64> {
+        None
     }
 
     ghost rests = { λ m n taken asked sent inc still counted none more within stuck comes behind. node_rests P.Processor.own m (P.nothing m) P.wants_more n taken asked sent inc counted none more within comes };

@@ -1,5 +1,5 @@
 -- What a queue holds: items, and the ending behind them.
-use Rattle.std.specs.Prelude.{Bool, true, false, List, [], ◌∷◌, ◌++◌, map, Option, Some, None}
+use Rattle.std.specs.Prelude.{ℕ, Bool, true, false, List, [], ◌∷◌, ◌++◌, map, Option, Some, None}
 use Rattle.rsx_sources.specs.Prelude.{Done, Failed, Signal, Next, Complete, Error, Stream, ended_by, items_then, Incoming, incoming_of}
 use Rattle.rsx_sources.specs.declared.machine.Front.{Front}
 use Rattle.rsx_sources.specs.declared.machine.Front.TheVariants.{Item, Completion as CompletionFront, Failure as FailureFront}
@@ -26,6 +26,13 @@ tail_front Open = None
 tail_front Completion = Some CompletionFront
 tail_front (Failure c) = Some (FailureFront c)
 tail_front Taken = None
+
+-- how many endings wait
+abbrev pub tail_count : Tail → ℕ
+tail_count Open = 0
+tail_count Completion = 1
+tail_count (Failure c) = 1
+tail_count Taken = 0
 
 -- after the ending that waits was taken
 abbrev pub tail_taken : Tail → Tail

@@ -9,7 +9,7 @@ use Rattle.rsx_prefetch.specs.Credits.{credits}
 use Rattle.rsx_prefetch.specs.Queue.{Queue, queue}
 use Rattle.rsx_queued.specs.declared.tail.Tail.{Tail}
 use Rattle.rsx_queued.specs.declared.tail.Tail.TheVariants.{Open, Completion, Failure, Taken}
-use Rattle.rsx_queued.specs.Held.{is_open, held_then, first_held}
+use Rattle.rsx_queued.specs.Held.{is_open, tail_count, held_then, first_held}
 use Rattle.rsx_queued.specs.declared.input.QueuedInput.{QueuedInput}
 
 -- nothing once the ending was taken out
@@ -37,6 +37,10 @@ is_gone q = is_taken q.tail
 -- the next signal
 abbrev pub next_signal : {T : Type 0} → QueuedInput T → Option (Signal T)
 next_signal q = unless_taken q.tail (first_held q.queue.items q.tail)
+
+-- how many signals wait: the items of the queue, and the ending behind them
+abbrev pub waiting_count : {T : Type 0} → QueuedInput T → ℕ
+waiting_count q = length q.queue.items + tail_count q.tail
 
 -- an ending needs no room
 abbrev pub has_room_for : {T : Type 0} → Queue T → Front → Bool

@@ -5,7 +5,7 @@ use Rattle.rsx_sources.specs.declared.machine.Front.{Front}
 use Rattle.rsx_queued.specs.Queued.{is_ended}
 use Rattle.rsx_values.specs.Pick.{InputLeft}
 use Rattle.rsx_queued.specs.declared.input.QueuedInput.{QueuedInput}
-use Rattle.rsx_queued.specs.Input.{still, takes, is_gone, next_signal, input_credits, IsCounted}
+use Rattle.rsx_queued.specs.Input.{still, takes, is_gone, next_signal, waiting_count, input_credits, IsCounted}
 use Rattle.rsx_queued.specs.Values.{head_of, tail_of}
 
 -- ---- the input with a number, if there is one
@@ -24,6 +24,11 @@ next_signal_at (Some q) = next_signal q
 abbrev pub credits_at : {T : Type 0} → Option (QueuedInput T) → ℕ
 credits_at None = 0
 credits_at (Some q) = input_credits q
+
+-- how many signals wait there
+abbrev pub waiting_at : {T : Type 0} → Option (QueuedInput T) → Option ℕ
+waiting_at None = None
+waiting_at (Some q) = Some (waiting_count q)
 
 -- whether its ending came in
 abbrev pub done_at : {T : Type 0} → Option (QueuedInput T) → Bool

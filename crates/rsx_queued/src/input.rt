@@ -4,7 +4,7 @@ ghost use Rattle.std.specs.Prelude.{◌≡◌, ◌≤◌, ℕ, List, Option, Som
 ghost use Rattle.rsx_types.specs.Stream.{Stream, signal_then};
 ghost use Rattle.rsx_sources.specs.Machine.{front_of};
 ghost use Rattle.rsx_prefetch.specs.declared.TheConstants.{LARGEST};
-ghost use Rattle.rsx_queued.specs.Input.{fresh_input, still, takes, is_gone, next_signal, with_signal, without, Gives, input_credits};
+ghost use Rattle.rsx_queued.specs.Input.{fresh_input, still, takes, is_gone, next_signal, waiting_count, with_signal, without, Gives, input_credits};
 
 use crate::Tail;
 use rsx_prefetch::{LARGEST, Prefetch};
@@ -76,6 +76,20 @@ impl<T: Drop> QueuedInput<T> {
             return Some(Front::Item);
         }
         self.tail.front()
+    }
+
+    /// How many signals wait: the items that came in and were not taken out yet, and the ending, where it came in and was not taken
+    /// out.
+    pub fn waiting(&self) -> u64
+        ensures { result ≡ waiting_count self.now }
+    {
+        // So there is a number for one more.
+        prove!(self.queue.capacity() <= LARGEST);
+        let items = self.queue.len() as u64;
+        match self.tail {
+            Tail::Completion | Tail::Failure(_) => items + 1,
+            Tail::Open | Tail::Taken => items,
+        }
     }
 
     /// How many items are to be asked of the input in all, so that each finds room.

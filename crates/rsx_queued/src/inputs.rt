@@ -4,7 +4,7 @@ ghost use Rattle.std.specs.Prelude.{◌≡◌, ◌<◌, ◌+◌, ◌^◌, ◌++�
 ghost use Rattle.rsx_values.specs.Pick.{InputLeft};
 ghost use Rattle.rsx_sources.specs.Machine.{front_of};
 ghost use Rattle.rsx_queued.specs.Input.{still};
-ghost use Rattle.rsx_queued.specs.Inputs.{takes_at, next_signal_at, credits_at, are_gone, here, inputs_left};
+ghost use Rattle.rsx_queued.specs.Inputs.{takes_at, next_signal_at, credits_at, waiting_at, are_gone, here, inputs_left};
 
 use crate::input::{QueuedInput, Remaining};
 use rsx_sources::Front;
@@ -39,6 +39,16 @@ pub fn credits_at<T: Drop>(inputs: &[QueuedInput<T>], input: u64) -> u64
     match inputs.get(input as usize) {
         Some(queued) => queued.credits(),
         None => 0,
+    }
+}
+
+/// How many signals wait at the input with this number, its ending too. None where there is no such input.
+pub fn waiting_at<T: Drop>(inputs: &[QueuedInput<T>], input: u64) -> Option<u64>
+    ensures { result ≡ waiting_at (slice_get inputs.now input) }
+{
+    match inputs.get(input as usize) {
+        Some(queued) => Some(queued.waiting()),
+        None => None,
     }
 }
 

@@ -7,8 +7,8 @@
 //!
 //! A [`QueuedInput`] is one input: what came in there and was not taken out yet, an ending too. It says how much may be asked
 //! of the input, so an item always finds room. An [`Output`] is what such a node has put out: one signal at a time, and
-//! nothing behind an ending. [`takes_at`], [`front_at`], [`credits_at`] and [`are_gone`] speak of the inputs in a row, and
-//! [`ToPick`] makes whole stream values of them, from which a node evaluates what still comes out of it.
+//! nothing behind an ending. [`takes_at`], [`front_at`], [`credits_at`], [`waiting_at`] and [`are_gone`] speak of the inputs in a
+//! row, and [`ToPick`] makes whole stream values of them, from which a node evaluates what still comes out of it.
 //!
 //! # Edges between two regions
 //!
@@ -29,7 +29,7 @@ pub mod sender;
 pub mod tail;
 
 pub use input::{QueuedInput, Remaining};
-pub use inputs::{ToPick, are_gone, credits_at, front_at, takes_at};
+pub use inputs::{ToPick, are_gone, credits_at, front_at, takes_at, waiting_at};
 pub use item_queue::ItemQueue;
 pub use law::edge;
 pub use output::{Output, first_output, front_of};

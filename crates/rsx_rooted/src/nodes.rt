@@ -32,6 +32,9 @@ pub trait Nodes: Machine {
     /// Which operator a node is.
     ghost operator_of: { Self → OperatorSpec };
 
+    /// How many signals of an input wait in the node's queue for it. None where it has no such queue.
+    ghost queued_of: { Self → ℕ → Option ℕ };
+
     ghost use Rattle.std.specs.Prelude.{◌≡◌, ◌<◌, ℕ, false, None, Some};
     ghost use Rattle.rsx_hub.specs.declared.TheConstants.{MOST_ACCEPTED};
     ghost use Rattle.rsx_cut.specs.Local.{IsLocal};
@@ -46,6 +49,11 @@ pub trait Nodes: Machine {
     /// Which operator this node is.
     fn operator(&self) -> Operator
         ensures { result ≡ operator_of self.now };
+
+    /// How many signals of this input wait in this node's queue for it, the input's ending too: they came in over the edge from the
+    /// input, and were not taken out yet. None where the node has no queue for such an input.
+    fn queued_at(&self, input: u64) -> Option<u64>
+        ensures { result ≡ queued_of self.now input };
 
     /// Where a node goes on, offers nothing though more is asked of it, can make no step, and nothing comes in where it waits for
     /// more, nothing comes out of it.

@@ -20,6 +20,11 @@ edge_text edge.Live = codes ", live"
 edge_text edge.Ended = codes ", ended"
 edge_text edge.Closed = codes ", closed"
 
+-- how many signals that came over its edge wait in its receiver's queue, where that has one
+abbrev pub queued_text : Option ℕ → List ℕ
+queued_text None = []
+queued_text (Some count) = codes ", " ++ (decimal count ++ codes " queued")
+
 -- what it offers
 abbrev pub offer_text : Offer → List ℕ
 offer_text offer.Nothing = []
@@ -34,7 +39,7 @@ last_text (Some last) = codes ", recorded " ++ (decimal last ++ codes " last")
 
 -- a node with this number, and its edge
 abbrev pub look_text : ℕ → NodeLook → List ℕ
-look_text node look = head_text node look.operator look.receiver ++ (codes ": asked " ++ (decimal look.asked ++ (codes ", sent " ++ (decimal look.sent ++ (edge_text look.edge ++ (offer_text look.offer ++ last_text look.last))))))
+look_text node look = head_text node look.operator look.receiver ++ (codes ": asked " ++ (decimal look.asked ++ (codes ", sent " ++ (decimal look.sent ++ (edge_text look.edge ++ (queued_text look.queued ++ (offer_text look.offer ++ last_text look.last)))))))
 
 -- these nodes, of which the first has this number
 abbrev pub looks_text : ℕ → List NodeLook → List ℕ

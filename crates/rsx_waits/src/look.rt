@@ -1,7 +1,7 @@
 //! What the nodes of a tree do now.
 
 ghost use Rattle.std.specs.Fmt.{WritesOnOk};
-ghost use Rattle.rsx_waits.specs.Looks.{edge_text, head_text, last_text, look_text, looks_text, offer_text};
+ghost use Rattle.rsx_waits.specs.Looks.{edge_text, head_text, last_text, look_text, looks_text, offer_text, queued_text};
 
 use crate::Operator;
 use std::fmt;
@@ -26,6 +26,9 @@ pub struct NodeLook {
     pub sent: u64,
     /// Whether signals still go over its edge.
     pub edge: EdgeLook,
+    /// How many signals that came over its edge wait in its receiver's queue for them, its ending too. None where the receiver has no
+    /// such queue, and none of the root.
+    pub queued: Option<u64>,
     /// What it offers.
     pub offer: Offer,
     /// What it recorded last: of a node that picks its last choice, the number of the input or the lane, and of a `zip` the input
@@ -57,7 +60,7 @@ pub enum Offer {
     Failure,
 }
 
-/// Each node behind ` | `, as `1 map to 0: asked 2, sent 1, live, offers an item`.
+/// Each node behind ` | `, as `1 map to 0: asked 2, sent 1, live, 1 queued, offers an item`.
 impl fmt::Display for Picture {
     ghost use Rattle.std.specs.Prelude.{Some};
     ghost use Rattle.rsx_waits.specs.Looks.{looks_text};
@@ -86,6 +89,7 @@ fn write_look<W: fmt::Write>(f: &mut fmt::Formatter<W>, node: usize, look: &Node
     write_head(f, node, look.operator, look.receiver)?;
     write!(f, ": asked {}, sent {}", look.asked, look.sent)?;
     write_edge(f, look.edge)?;
+    write_queued(f, look.queued)?;
     write_offer(f, look.offer)?;
     write_last(f, look.last)
 }
@@ -113,6 +117,16 @@ fn write_edge<W: fmt::Write>(f: &mut fmt::Formatter<W>, edge: EdgeLook) -> fmt::
         EdgeLook::Live => f.write_str(", live"),
         EdgeLook::Ended => f.write_str(", ended"),
         EdgeLook::Closed => f.write_str(", closed"),
+    }
+}
+
+/// How many signals wait in a receiver's queue, where it has one.
+fn write_queued<W: fmt::Write>(f: &mut fmt::Formatter<W>, queued: Option<u64>) -> fmt::Result
+    ensures { WritesOnOk W.write_str_gives f.old result (queued_text queued) f.new }
+{
+    match queued {
+        Some(queued) => write!(f, ", {queued} queued"),
+        None => Ok(()),
     }
 }
 
