@@ -3,7 +3,7 @@
 use Rattle.std.specs.Prelude.{◌≡◌, ℕ, Bool, true, false, ◌&&◌, List, [], ◌∷◌, slice_get, Option, Some, None, option_map}
 use Rattle.rsx_sources.specs.Prelude.{Note, Picks, Cause, Signal, Complete, Error, Meaning, Stream, Incoming, front_of}
 use Rattle.rsx_sources.specs.declared.machine.Front.{Front}
-use Rattle.rsx_queued.specs.Prelude.{may_go, takes_at, next_signal_at, credits_at, done_at, inputs_left, picked, out_signal, is_empty, has_ending, output_then, IsOut}
+use Rattle.rsx_queued.specs.Prelude.{may_go, takes_at, next_signal_at, credits_at, waiting_at, done_at, inputs_left, picked, out_signal, is_empty, has_ending, output_then, IsOut}
 use Rattle.rsx_queued.specs.declared.input.QueuedInput.{QueuedInput}
 use Rattle.rsx_queued.specs.declared.output.Output.{Output}
 use Rattle.rsx_queued.specs.declared.output.Output.TheVariants.{Empty, Waiting}
@@ -53,6 +53,10 @@ delayed_counted n taken sent = IsGoing n.output n.inputs.items taken
 
 abbrev pub delayed_wanted : {T : Type 0} → MergeDelayNode T → ℕ → ℕ → ℕ → ℕ
 delayed_wanted n i asked sent = credits_at (slice_get n.inputs.items i)
+
+-- how many signals of an input wait to be picked
+abbrev pub delayed_queued : {T : Type 0} → MergeDelayNode T → ℕ → Option ℕ
+delayed_queued n i = waiting_at (slice_get n.inputs.items i)
 
 abbrev pub delayed_popped : {T : Type 0} → MergeDelayNode T → Signal T → MergeDelayNode T → Type 0
 delayed_popped old s new = IsOut old.output s new.output × (old.inputs ≡ new.inputs) × (old.choices ≡ new.choices) × (old.kept ≡ new.kept)

@@ -9,6 +9,7 @@ ghost use Rattle.rsx_delayed.specs.MergeDelay.{last_signal};
 use crate::remaining::{ValuesLeft, all_values};
 use rsx_queued::{
     InFront, Output, QueuedInput, are_gone, credits_at, first_output, front_at, front_of, takes_at,
+    waiting_at,
 };
 use rsx_sources::{Front, Machine, NotMade, NotTaken, Passed};
 use rsx_types::{Cause, NoMemory, Note, Ops, Signal, StreamValue};
@@ -54,7 +55,7 @@ impl<T: Drop> MergeDelayNode<T> {
     ghost use Rattle.rsx_queued.specs.Values.{first_values};
     ghost use Rattle.rsx_queued.specs.Inputs.{are_gone, picked};
     ghost use Rattle.rsx_values.specs.Delayed.{merge_delay};
-    ghost use Rattle.rsx_delayed.specs.MergeDelay.{delayed_comes_out, delayed_counted, ending_out};
+    ghost use Rattle.rsx_delayed.specs.MergeDelay.{delayed_comes_out, delayed_counted, delayed_queued, ending_out};
 
     /// The merge of so many inputs, each with a queue of this capacity, 1 to [`LARGEST`](rsx_prefetch::LARGEST). That of no inputs
     /// completes at once.
@@ -83,6 +84,13 @@ impl<T: Drop> MergeDelayNode<T> {
             choices: Record::new(alloc),
             kept: None,
         })
+    }
+
+    /// How many signals of this input wait to be picked, its ending too. None where there is no such input.
+    pub fn queued_at(&self, input: u64) -> Option<u64>
+        ensures { result ≡ delayed_queued self.now input }
+    {
+        waiting_at(self.inputs.as_slice(), input)
     }
 
     /// The choices made, as runs. It takes no memory.

@@ -3,6 +3,7 @@
 use Rattle.std.specs.Prelude.{ℕ, Option, None}
 use Rattle.rsx_combining.specs.Latest.{latest_queued}
 use Rattle.rsx_combining.specs.Zip.{zip_queued}
+use Rattle.rsx_delayed.specs.MergeDelay.{delayed_queued}
 use Rattle.rsx_kinds.specs.Any.{TreeNode}
 use Rattle.rsx_kinds.specs.declared.any_node.AnyNode.{AnyNode}
 use Rattle.rsx_kinds.specs.declared.any_node.AnyNode.TheVariants as any
@@ -16,6 +17,7 @@ use Rattle.rsx_queued.specs.declared.sender.Sender.TheVariants.{Direct, Crossing
 abbrev pub several_queued : {T : Type 0} → SeveralNode T → ℕ → Option ℕ
 several_queued (several.Concat n) i = None
 several_queued (several.Merge n) i = merge_queued n i
+several_queued (several.MergeDelay n) i = delayed_queued n i
 several_queued (several.Zip n) i = zip_queued n i
 several_queued (several.Latest n) i = latest_queued n i
 

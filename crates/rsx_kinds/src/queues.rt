@@ -27,6 +27,7 @@ fn queued_at_several<T: Drop>(node: &SeveralNode<T>, input: u64) -> Option<u64>
     match node {
         SeveralNode::Concat(_) => None,
         SeveralNode::Merge(node) => node.queued_at(input),
+        SeveralNode::MergeDelay(node) => node.queued_at(input),
         SeveralNode::Zip(node) => node.queued_at(input),
         SeveralNode::Latest(node) => node.queued_at(input),
     }

@@ -10,7 +10,7 @@ pub mod KindWords
 pub mod Events
 pub mod Traces
 pub mod Sound
-pub mod Workers
+pub mod WorkersRead
 pub mod Continuing
 pub mod Parts
 pub mod WrongWords

@@ -2,7 +2,7 @@ use Rattle.std.proofs.Common.{subst}
 use Rattle.rsx_tck.specs.Gives.{GivesTrace}
 use Rattle.rsx_tck.proofs.Traces.{trace_again}
 use Rattle.rsx_tck.proofs.Sound.{read_is_trace}
-use Rattle.rsx_tck.proofs.Workers.{read_workers}
+use Rattle.rsx_tck.proofs.WorkersRead.{read_workers}
 use Rattle.rsx_tck.proofs.WrongLines.{place_is_read, refusal_names}
 use Rattle.rsx_tck.proofs.read.parse_trace.Goals as goal
 
