@@ -1,10 +1,12 @@
--- The words for what a subscriber waits for.
+-- The words for what a subscriber waits for, and for what the feed of a hub waits for.
 use Rattle.std.specs.Prelude.{ℕ, List, ◌++◌, codes}
 use Rattle.std.specs.Fmt.{decimal}
 use Rattle.rsx_types.specs.declared.names.Move.{Move}
 use Rattle.rsx_types.specs.declared.names.Move.TheVariants as move
 use Rattle.rsx_types.specs.declared.names.Tree.{Tree}
 use Rattle.rsx_types.specs.declared.names.Tree.TheVariants as tree
+use Rattle.rsx_waits.specs.declared.wait.FeedWait.{FeedWait}
+use Rattle.rsx_waits.specs.declared.wait.FeedWait.TheVariants as feed_wait
 use Rattle.rsx_waits.specs.declared.wait.HubWait.{HubWait}
 use Rattle.rsx_waits.specs.declared.wait.HubWait.TheVariants as hub_wait
 use Rattle.rsx_waits.specs.declared.wait.Wait.{Wait}
@@ -39,6 +41,18 @@ hub_wait_text hub_wait.Feed = codes "its feed has nothing for it"
 hub_wait_text (hub_wait.Enabled step) = enabled_text step
 hub_wait_text (hub_wait.HeldBy t) = codes "held back by " ++ tree_text t
 
+-- that a node waits for a hub, and why nothing comes from there
+abbrev pub at_hub_text : ℕ → ℕ → HubWait → List ℕ
+at_hub_text node hub why = codes "node " ++ (decimal node ++ (codes " for hub " ++ (decimal hub ++ (codes ", " ++ hub_wait_text why))))
+
+-- what the feed of a hub waits for
+abbrev pub feed_wait_text : FeedWait → List ℕ
+feed_wait_text feed_wait.Ended = codes "nothing, its ending went into the hub"
+feed_wait_text (feed_wait.Enabled step) = enabled_text step
+feed_wait_text (feed_wait.HeldBy t) = codes "room for an item, held back by " ++ tree_text t
+feed_wait_text (feed_wait.Hub node hub why) = at_hub_text node.0 hub.0 why
+feed_wait_text feed_wait.Unknown = codes "nothing that is known"
+
 -- what a subscriber waits for
 abbrev pub wait_text : Wait → List ℕ
 wait_text wait.Ended = codes "nothing, it received the ending"
@@ -46,5 +60,5 @@ wait_text wait.Cancelled = codes "nothing, it cancelled"
 wait_text wait.Refused = codes "nothing, a bad request closed it"
 wait_text (wait.Enabled step) = enabled_text step
 wait_text (wait.Request count) = codes "a request, it received all " ++ (decimal count ++ codes " that it asked for")
-wait_text (wait.Hub node hub why) = codes "node " ++ (decimal node.0 ++ (codes " for hub " ++ (decimal hub.0 ++ (codes ", " ++ hub_wait_text why))))
+wait_text (wait.Hub node hub why) = at_hub_text node.0 hub.0 why
 wait_text wait.Unknown = codes "nothing that is known"

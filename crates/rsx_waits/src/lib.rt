@@ -1,7 +1,8 @@
 #![tactic(auto)]
 //! What a subscriber waits for and what the nodes of its tree do, with the words for it.
 //!
-//! - [`wait`]: [`Wait`], and [`HubWait`], why nothing comes from a hub. Each is printed in plain words.
+//! - [`wait`]: [`Wait`], what a subscriber waits for, [`FeedWait`], what the feed of a hub waits for, and [`HubWait`], why nothing
+//!   comes from a hub. Each is printed in plain words.
 //! - [`operator`]: [`Operator`], which operator a node is. It is printed as the word that a script has for it.
 //! - [`look`]: [`Picture`], the nodes of a tree, each as a [`NodeLook`]: its operator, what was asked of it and sent, what it
 //!   offers, and what it recorded last.
@@ -15,4 +16,4 @@ pub mod wait;
 
 pub use look::{EdgeLook, NodeLook, Offer, Picture};
 pub use operator::Operator;
-pub use wait::{HubWait, Wait};
+pub use wait::{FeedWait, HubWait, Wait};

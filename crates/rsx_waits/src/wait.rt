@@ -1,7 +1,7 @@
-//! What a subscriber waits for.
+//! What a subscriber waits for, and what the feed of a hub waits for.
 
 ghost use Rattle.std.specs.Fmt.{WritesOnOk};
-ghost use Rattle.rsx_waits.specs.Texts.{enabled_text, in_tree_text, tree_text};
+ghost use Rattle.rsx_waits.specs.Texts.{at_hub_text, enabled_text, in_tree_text, tree_text};
 
 use rsx_types::{HubId, Move, NodeId, Tree};
 use std::fmt;
@@ -19,6 +19,21 @@ pub enum Wait {
     Enabled(Move),
     /// For a request: it asked for so many items in all, and received as many.
     Request(u64),
+    /// This node of its tree has nothing to offer and waits for the hub that it reads, and here is why nothing comes from there.
+    Hub(NodeId, HubId, HubWait),
+    /// For nothing that is known. That is so only where an edge of its tree has carried 2^63-1 items.
+    Unknown,
+}
+
+/// What the feed of a hub waits for.
+#[derive(Clone, Copy, Debug, PartialEq, Eq)]
+pub enum FeedWait {
+    /// For nothing: its ending went into the hub.
+    Ended,
+    /// For this move of its own tree, which is enabled, and which a pump makes.
+    Enabled(Move),
+    /// For room: it has an item for its hub, and a node of this tree, which reads the hub, has no room for it.
+    HeldBy(Tree),
     /// This node of its tree has nothing to offer and waits for the hub that it reads, and here is why nothing comes from there.
     Hub(NodeId, HubId, HubWait),
     /// For nothing that is known. That is so only where an edge of its tree has carried 2^63-1 items.
@@ -54,8 +69,28 @@ impl fmt::Display for Wait {
                 f,
                 "a request, it received all {count} that it asked for"
             ),
-            Wait::Hub(node, hub, why) => write!(f, "node {} for hub {}, {why}", node.0, hub.0),
+            Wait::Hub(node, hub, why) => write_at_hub(f, *node, *hub, *why),
             Wait::Unknown => f.write_str("nothing that is known"),
+        }
+    }
+}
+
+impl fmt::Display for FeedWait {
+    ghost use Rattle.std.specs.Prelude.{Some};
+    ghost use Rattle.rsx_waits.specs.Texts.{feed_wait_text};
+
+    ghost output = { λ wait. Some (feed_wait_text wait) };
+
+    fn fmt<W: fmt::Write>(&self, f: &mut fmt::Formatter<W>) -> fmt::Result {
+        match self {
+            FeedWait::Ended => f.write_str("nothing, its ending went into the hub"),
+            FeedWait::Enabled(step) => write_enabled(f, *step),
+            FeedWait::HeldBy(tree) => {
+                f.write_str("room for an item, held back by ")?;
+                write_tree(f, *tree)
+            }
+            FeedWait::Hub(node, hub, why) => write_at_hub(f, *node, *hub, *why),
+            FeedWait::Unknown => f.write_str("nothing that is known"),
         }
     }
 }
@@ -77,6 +112,18 @@ impl fmt::Display for HubWait {
             }
         }
     }
+}
+
+/// That a node waits for a hub, and why nothing comes from there.
+fn write_at_hub<W: fmt::Write>(
+    f: &mut fmt::Formatter<W>,
+    node: NodeId,
+    hub: HubId,
+    why: HubWait,
+) -> fmt::Result
+    ensures { WritesOnOk W.write_str_gives f.old result (at_hub_text node.0 hub.0 why) f.new }
+{
+    write!(f, "node {} for hub {}, {why}", node.0, hub.0)
 }
 
 /// That a pump makes a move, which is enabled.
