@@ -1,6 +1,5 @@
 -- Subscriptions that were live come back.
-use Rattle.std.specs.Prelude.{IfErr, IfOk}
-use Rattle.std.proofs.Common.{◌≡◌, inl, inr, ℕ, suc, ◌+◌, ◌||◌, Bool, true, false, List, [], ◌∷◌, ◌++◌, length, refl, ap, sym, ◌∙◌, subst, append-nil, arith, Some, slice_get, ◌<◌, ◌≤◌, ◌^◌, Vec, Global, Result, Ok, Err}
+use Rattle.std.proofs.Common.{◌≡◌, inl, inr, ℕ, suc, ◌+◌, ◌||◌, Bool, true, false, List, [], ◌∷◌, ◌++◌, length, refl, ap, sym, ◌∙◌, subst, append-nil, arith, Some, slice_get, ◌<◌, ◌≤◌, ◌^◌, Vec, Global}
 use Rattle.rsx_sources.specs.Prelude.{Meaning, Signal, Stream}
 use Rattle.rsx_sources.specs.declared.machine.Machine.{Ghosts as Machine}
 use Rattle.rsx_rooted.specs.declared.nodes.CrossingNodes.{Ghosts as CrossingNodes}
@@ -227,16 +226,6 @@ all_cut {M} {T} b crossing subs p ks all first now count senders roots taps plac
       swept = subst (λ (l : List (Tap T)). AreAllSwept b crossing count senders roots l first now places) same swept;
       links = ap (λ (v : Vec (Link T) Global). v.items) links;
     }
-
--- ---- where it is refused
-
-pub ok_also : {A E : Type 0} (r : Result A E) (P Q : A → Type 0) → ((x : A) → P x → Q x) → IfOk r P → IfOk r Q
-ok_also (Ok x) P Q f h = f x h
-ok_also (Err e) P Q f h = tt
-
-pub err_also : {A E : Type 0} (r : Result A E) (P Q : E → Type 0) → ((e : E) → P e → Q e) → IfErr r P → IfErr r Q
-err_also (Ok x) P Q f h = tt
-err_also (Err e) P Q f h = f e h
 
 module _ {M T O : Type 0} (b : Machine M T) (crossing : CrossingNodes M T) (meaning : O → Meaning T) where
   -- the trees and the functions that come back

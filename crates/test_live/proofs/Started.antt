@@ -1,5 +1,5 @@
 -- A live graph is put together again with taps and seats that came back from threads.
-use Rattle.std.proofs.Common.{◌≡◌, ◌≤◌, Result, Ok, Err, IfOk, arith, length, subst, sym}
+use Rattle.std.proofs.Common.{◌≡◌, ◌≤◌, arith, length, subst, sym}
 use Rattle.std.specs.List.{AllZip}
 use Rattle.std.proofs.lemmas.Slice.Zip.{AllZip-long}
 use Rattle.rsx_types.specs.declared.ops.Ops.{Ghosts as Ops}
@@ -10,11 +10,6 @@ use Rattle.rsx_live.specs.Starts.{IsStarted}
 use Rattle.rsx_live.specs.declared.graph.LiveGraph.{LiveGraph}
 use Rattle.rsx_live.specs.declared.graph.StartedGraph.{StartedGraph}
 use Rattle.test_live.specs.Taps.{AreTapsOf}
-
--- what is so of what a call answers follows from what the call says of it
-pub answered : {A E : Type 0} {P Q : A → Type 0} (r : Result A E) → IfOk r P → ((x : A) → P x → Q x) → IfOk r Q
-answered (Ok x) p f = f x p
-answered (Err e) p f = tt
 
 -- it has started still, where its taps are those of the graph, and its seats those of the regions, each with all parts
 pub again : {O T : Type 0} {b : Ops O T} (old new same : StartedGraph O T b) → IsStarted old → (new.live ≡ old.live) × (new.taps ≡ same.taps) × (new.seats ≡ same.seats) → AreTapsOf old.live same.taps.items →

@@ -1,8 +1,10 @@
-use Rattle.test_live.proofs.Started.{again, answered}
+use Rattle.std.proofs.lemmas.Result.{IfOk-weaker}
+use Rattle.test_live.proofs.Started.{again}
 use Rattle.test_live.proofs.serving.serve.Goals as goal
 
 pub returns : goal.returns
 returns g c =
     let back = c.in_ok-back.back in
-    answered c.put_together.result c.put_together.ensures
+    IfOk-weaker c.put_together.result _ _
     (λ r is. again c.args.started r.0 (record { live = c.args.started.live; taps = back.answer.taps; seats = back.seats }) c.requires is c.in_ok-back.ensures.taps c.in_ok-back.ensures.seats)
+    c.put_together.ensures
