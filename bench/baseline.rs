@@ -1,4 +1,4 @@
-//! What `bench_link` does, in plain Rust: a ring for one sender and one receiver, a word for the total of items
+//! What `bench_parts link` does, in plain Rust: a ring for one sender and one receiver, a word for the total of items
 //! asked for, and a word of flags. All steps are sequentially consistent, as those of the link are.
 use std::cell::UnsafeCell;
 use std::mem::MaybeUninit;

@@ -2,7 +2,7 @@
 # Nanoseconds a signal over a link whose queue has room for 64, between two threads, beside plain Rust.
 #
 # usage: bench/link.sh PROGRAM [COUNT]
-# PROGRAM is the built crates/bench_link. Each figure is the best of forty short runs, less the best run of no
+# PROGRAM is the built crates/bench_parts. Each figure is the best of forty short runs, less the best run of no
 # signal, so that a busy machine disturbs it little.
 set -eu
 program=$1
@@ -29,13 +29,18 @@ best_of() {
     echo "$best"
 }
 
+# prints what a signal takes by this program with these words, under the name that stands first
+measure() {
+    name=$1
+    shift
+    none=$(best_of "$@" $mode 0)
+    all=$(best_of "$@" $mode "$signals")
+    awk -v m=$mode -v n="$name" -v t=$((all - none)) -v c="$signals" 'BEGIN { printf "%-9s %-18s %7.1f ns a signal\n", m, n, t / c }'
+}
+
 for mode in batches single lockstep; do
     signals=$count
     if [ $mode = lockstep ]; then signals=$((count / 20)); fi
-    for what in "$program" "$baseline"; do
-        none=$(best_of "$what" $mode 0)
-        all=$(best_of "$what" $mode "$signals")
-        name=$(basename "$what")
-        awk -v m=$mode -v n="$name" -v t=$((all - none)) -v c="$signals" 'BEGIN { printf "%-9s %-18s %7.1f ns a signal\n", m, n, t / c }'
-    done
+    measure "$(basename "$program")" "$program" link
+    measure baseline "$baseline"
 done

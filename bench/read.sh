@@ -1,11 +1,11 @@
 #!/bin/sh
 # Nanoseconds an event that a trace takes as text: to take the bytes in from a file, to read them as a trace, and to judge it
 # by all rules. The text is that of bench/million_events.sh, of four subscribers.
-# The least of five runs counts, for each part. First build crates/bench_tck (rt run makes
-# crates/bench_tck/out/bench_tck).
+# The least of five runs counts, for each part. First build crates/bench_parts (rt run makes
+# crates/bench_parts/out/bench_parts).
 set -eu
 cd "$(dirname "$0")/.."
-program=crates/bench_tck/out/bench_tck
+program=crates/bench_parts/out/bench_parts
 folder=$(mktemp -d)
 trap 'rm -r "$folder"' EXIT
 
@@ -14,7 +14,7 @@ for events in 100000 1000000; do
     sh bench/million_events.sh "$events" > "$folder/trace"
     : > "$folder/times"
     for _ in 1 2 3 4 5; do
-        answer=$("$program" read < "$folder/trace" 2>> "$folder/times")
+        answer=$("$program" tck read < "$folder/trace" 2>> "$folder/times")
         if [ "$answer" != "$events events, 0 rules broken" ]; then
             echo "unexpected answer: $answer" >&2
             exit 1

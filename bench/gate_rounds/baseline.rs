@@ -1,5 +1,5 @@
 // The gate's three atomic steps in plain Rust: a swap to 2, a swap to 1 and a compare-exchange from 1 to 0, with an addition between them.
-// It reads the number of rounds from the standard input, as the program bench_gate does, and writes the count.
+// It reads the number of rounds from the standard input, as the program bench_parts does, and writes the count.
 use std::cell::UnsafeCell;
 use std::hint::black_box;
 use std::io;

@@ -1,6 +1,4 @@
-//! One seat enters a gate, adds one, marks and leaves, as many times as the first line of the input says. It prints the count.
-//! `bench/gate_rounds.sh` takes its time.
-#![tactic(auto)]
+//! One seat enters a gate, adds one, marks and leaves, again and again.
 
 ghost use Rattle.rsx_gate.specs.Seats.{IsSeatOf};
 
@@ -17,12 +15,8 @@ fn visit_often(gate: &Gate<Count, u64>, seat: &mut Seat<Count, u64>, times: u64)
     }
 }
 
-fn main(rt: HostRuntime) -> Result<()> {
-    let mut line = String::new(rt.alloc());
-    rt.read_line(&mut line)?;
-    let Ok(times) = line.trim().parse::<u64>() else {
-        bail!("the first line is no number of rounds");
-    };
+/// Makes so many rounds, and prints the count.
+pub fn make_rounds(rt: &HostRuntime, times: u64) -> Result<()> {
     let Ok((gate, mut seat)) = Gate::new(rt.alloc(), Count(0), &0u64) else {
         bail!("out of memory");
     };

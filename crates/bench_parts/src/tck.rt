@@ -1,17 +1,8 @@
-//! Times reading a trace and reporting on it.
-//!
-//! `bench_tck read` reads a trace as text from standard input, of either format, and judges it by every rule.
-//! `bench_tck EVENTS SUBSCRIBERS` judges a trace in memory that breaks no rule: a million events without the first
-//! argument, and of four subscribers without the second.
-//!
-//! The number of events and of broken rules goes to standard output, which is the same in every run, and the times to
-//! standard error.
-#![tactic(auto)]
+//! Traces are read and judged.
 
-use anyhow::{Context, Result};
+use anyhow::Result;
 use rsx_tck::{Event, Rule, Stamped, Verdict, parse_trace, report};
 use std::alloc::{AllocError, Global};
-use std::env;
 use std::io::Read;
 use std::time::Instant;
 
@@ -56,7 +47,7 @@ fn judge_all(rt: &HostRuntime, trace: &[Stamped]) -> Result<u128> {
 }
 
 /// Times a trace that is read as text from standard input.
-fn read_and_judge(rt: &HostRuntime) -> Result<()> {
+pub fn read_and_judge(rt: &HostRuntime) -> Result<()> {
     let start = Instant::now(rt)?;
     let mut text = Vec::new(rt.alloc());
     rt.reader().read_to_end(&mut text)?;
@@ -72,26 +63,10 @@ fn read_and_judge(rt: &HostRuntime) -> Result<()> {
     Ok(())
 }
 
-fn main(rt: HostRuntime) -> Result<()> {
-    let mut arguments = env::args(&rt)?;
-    let _program = arguments.next();
-    let events = match arguments.next() {
-        Some(text) if text.as_str() == "read" => return read_and_judge(&rt),
-        Some(text) => text
-            .as_str()
-            .parse::<u32>()
-            .context("the number of events")?,
-        None => 1_000_000,
-    };
-    let subscribers = match arguments.next() {
-        Some(text) => text
-            .as_str()
-            .parse::<u32>()
-            .context("the number of subscribers")?,
-        None => 4,
-    };
+/// Times a trace in memory that breaks no rule.
+pub fn judge_in_memory(rt: &HostRuntime, events: u32, subscribers: u32) -> Result<()> {
     let trace = quiet_trace(rt.alloc(), events, subscribers)?;
-    let nanoseconds = judge_all(&rt, &trace)?;
+    let nanoseconds = judge_all(rt, &trace)?;
     eprintln!(rt; "{nanoseconds} ns for {events} events of {subscribers} subscribers")?;
     Ok(())
 }

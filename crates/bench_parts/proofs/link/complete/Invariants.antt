@@ -1,5 +1,5 @@
 use Rattle.rsx_link.specs.Ends.{IsUpOf}
-use Rattle.bench_link.proofs.complete.Given as goal
+use Rattle.bench_parts.proofs.link.complete.Given as goal
 
 abbrev pub invariant-loop : goal.invariant-loop
 invariant-loop l = IsUpOf l.link l.up

@@ -1,13 +1,4 @@
 //! The two ends of a link in threads of their own: one sends the numbers from 0 up, the other takes them.
-//!
-//! `bench_link MODE COUNT` sends COUNT numbers over a link whose queue has room for 64, and prints how many came
-//! in order. Further pairs of MODE and COUNT are further runs, each over a link of its own. MODE is `batches` (48 items
-//! are asked for at a time, as a prefetch of 64 does, and the sending end looks once it has sent all that it saw),
-//! `single` (each item taken is asked for again, and the sending end looks before each) or `lockstep` (one item is asked
-//! for at a time, so that each waits for the one before it).
-//!
-//! It prints no time, so that its output is the same in every run: `bench/link.sh` takes the time of it.
-#![tactic(auto)]
 
 ghost use Rattle.std.specs.Prelude.{◌≡◌};
 ghost use Rattle.rsx_link.specs.Ends.{IsDownOf, IsUpOf};
@@ -16,8 +7,8 @@ use anyhow::bail;
 use rsx_link::{Down, Link, Up};
 use rsx_types::{NoMemory, Signal};
 use std::alloc::Global;
+use std::thread;
 use std::thread::{Threads, join};
-use std::{env, thread};
 
 /// How the two ends use the link.
 #[derive(Clone, Copy, Debug, PartialEq, Eq)]
@@ -111,12 +102,15 @@ fn take_numbers(link: &Link<u64>, mut down: Down<u64>, mode: Mode) -> (Down<u64>
     (down, in_order)
 }
 
-// What came of one run.
+/// What came of one run.
 #[derive(Clone, Copy, Debug, PartialEq, Eq)]
-struct Outcome {
-    in_order: u64,
-    taken: u64,
-    remaining: usize,
+pub struct Outcome {
+    /// How many numbers came in order from 0 up.
+    pub in_order: u64,
+    /// How many items were taken.
+    pub taken: u64,
+    /// How many signals remained in the queue.
+    pub remaining: usize,
 }
 
 fn run<R: Threads + Sync>(
@@ -157,23 +151,18 @@ fn mode_of(name: &str) -> Option<Mode> {
     }
 }
 
-fn main(rt: HostRuntime) -> anyhow::Result<()> {
-    let mut words = env::args(&rt)?.skip(1);
-    for _ in 0..u64::MAX {
-        let Some(word) = words.next() else {
-            break;
-        };
-        let count = words
-            .next()
-            .and_then(|word| word.as_str().parse::<u64>().ok());
-        let (Some(mode), Some(count)) = (mode_of(word.as_str()), count) else {
-            bail!("usage: bench_link [batches|single|lockstep COUNT]..");
-        };
-        let outcome = run(&rt, rt.alloc(), mode, count)?;
-        println!(rt;
-            "{} in order, {} taken, {} remaining",
-            outcome.in_order, outcome.taken, outcome.remaining
-        )?;
-    }
-    Ok(())
+/// Sends so many numbers over a link whose queue has room for 64, in the mode of that name, and says what came of it.
+///
+/// # Errors
+/// Where no mode has that name, and where there was no memory for the link.
+pub fn send_over<R: Threads + Sync>(
+    rt: &R,
+    alloc: Global,
+    name: &str,
+    count: u64,
+) -> anyhow::Result<Outcome> {
+    let Some(mode) = mode_of(name) else {
+        bail!("a link is used in batches, single or lockstep");
+    };
+    Ok(run(rt, alloc, mode, count)?)
 }
