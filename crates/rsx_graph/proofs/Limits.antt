@@ -2,16 +2,18 @@
 use Rattle.rsx_kinds.specs.Any.{any_machine}
 use Rattle.rsx_kinds.specs.Routes.{tree_nodes}
 use Rattle.rsx_graph.specs.Kinds.{IsMoved, IsMovedInFeed, IsMoveMade, LeadTo, Rows, feed_move, Feed, IsFedHubMade}
-use Rattle.std.proofs.Common.{◌≡◌, ℕ, zero, suc, ◌+◌, ◌<◌, ◌≤◌, Bool, true, false, ◌&&◌, nat_le, nat_lt, List, [], ◌∷◌, ◌++◌, drop, length, length-append, slice_get, if◌then◌else◌, Option, Some, None, refl, ap, sym, ◌∙◌, subst, arith}
+use Rattle.std.proofs.Common.{◌≡◌, ℕ, zero, suc, ◌+◌, ◌<◌, ◌≤◌, Bool, true, false, ◌&&◌, nat_eq, nat_le, nat_lt, List, [], ◌∷◌, ◌++◌, drop, length, length-append, slice_get, if◌then◌else◌, Option, Some, None, refl, ap, sym, ◌∙◌, subst, arith}
 use Rattle.std.proofs.Math.ListN.{set}
 use Rattle.std.proofs.lemmas.Bool.Decides.{nat_tests}
+use Rattle.rsx_demand.specs.declared.TheConstants.{UNBOUNDED}
 use Rattle.rsx_graph_calls.specs.Edits.{fault_of}
+use Rattle.rsx_graph_moves.specs.FeedWaits.{IsFeedBounded}
 use Rattle.rsx_graph_moves.specs.Moves.{IsMovedInTree}
 use Rattle.rsx_graph_moves.specs.Pumped.{Made}
 use Rattle.rsx_graph_state.specs.Feeds.{IsFeedHanded}
 use Rattle.rsx_graph_state.specs.Hubs.{IsEmittedAt, IsEndedAt}
 use Rattle.rsx_graph_state.specs.Moves.{IsAcceptedAt, IsFedAt, IsMadeInFeed, IsMovedBy, is_out}
-use Rattle.rsx_graph_state.specs.Prelude.{AllFeedsHanded, HaveJoined, MOST_ACCEPTED, fresh_hub}
+use Rattle.rsx_graph_state.specs.Prelude.{AllFeedsHanded, HaveJoined, MOST_ACCEPTED, feed_of, fresh_hub}
 use Rattle.rsx_hub.specs.Hub.{HubState, accepted, accepted_items, accepts_items, are_numbers, emitted, ended_with, items_of, taken_in, takes_signal, waiting}
 use Rattle.rsx_hub.specs.Waiting.{first_waiting, is_open}
 use Rattle.rsx_model.proofs.Unfold.{sound}
@@ -22,7 +24,7 @@ use Rattle.rsx_rooted.proofs.Rows.{length_fresh}
 use Rattle.rsx_rooted.specs.Leaves.{HaveJoinedFrom}
 use Rattle.rsx_sources.specs.Prelude.{is_nil, Ending, Open, Done, Failed, HubKind, Meaning, Move, Ask, Send, Take, Pick, Row, Accept, SubId, Tree, Sub, Feed as FeedOf, Signal, Next, Complete, Error}
 use Rattle.rsx_subscriber.proofs.Values.{effect_count}
-use Rattle.rsx_subscriber.specs.Prelude.{Expr, MOST_NODES, Number, all_edges, NodeMove, Send as NodeSend}
+use Rattle.rsx_subscriber.specs.Prelude.{Expr, IsWithin, MOST_NODES, Number, all_edges, NodeMove, Send as NodeSend}
 use Rattle.rsx_tree.proofs.Runs.{leads_keep}
 use Rattle.rsx_graph.specs.Limits.{HaveAcceptedFew, HaveFewNodes, KeepsLimits}
 
@@ -125,6 +127,15 @@ nodes_got : {T : Type 0} (fs : List (Feed T)) (i : ℕ) (f : Feed T) → HaveFew
 nodes_got [] i f k e = cc
 nodes_got {T} (x ∷ xs) zero f k e = let P : Feed T → Type 0 = λ y. length (all_edges y.part) ≤ MOST_NODES in subst P (some_same x f e) k.0
 nodes_got (x ∷ xs) (suc i) f k e = nodes_got xs i f k.1 e
+
+-- a feed of which no edge has carried 2^63-1 items
+pub feed_bounded : {T : Type 0} (fs : List (Feed T)) (i : ℕ) (f : Feed T) → HaveFewNodes fs → feed_of fs i ≡ Some f → f.part.root.demand.sent < UNBOUNDED → IsWithin f.part.tree → IsFeedBounded f
+feed_bounded [] i f k e l w = cc
+feed_bounded {T} (x ∷ fs) i f k e l w = by_test (λ q. feed_bounded fs i f k.1 q l w) (nat_eq x.hub i) e
+  where
+    by_test : (feed_of fs i ≡ Some f → IsFeedBounded f) → (b : Bool) → (if b then Some x else feed_of fs i) ≡ Some f → IsFeedBounded f
+    by_test rest true e = let P : Feed T → Type 0 = λ y. length (all_edges y.part) ≤ MOST_NODES in record { fewer = l; within = w; few = subst P (some_same x f e) k.0 }
+    by_test rest false e = rest e
 
 nodes_set : {T : Type 0} (fs : List (Feed T)) (i : ℕ) (f : Feed T) → HaveFewNodes fs → length (all_edges f.part) ≤ MOST_NODES → HaveFewNodes (set fs i f)
 nodes_set [] i f k l = tt

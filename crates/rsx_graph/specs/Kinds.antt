@@ -19,8 +19,10 @@ use Rattle.rsx_graph_state.specs.declared.refusal.Refusal.{Refusal}
 use Rattle.rsx_graph_state.specs.declared.step.Pumped.{Pumped}
 use Rattle.rsx_graph_moves.specs.Pumped.{Made}
 use Rattle.rsx_graph_moves.specs.Explained as Explained
+use Rattle.rsx_graph_moves.specs.FeedWaits as FeedWaits
 use Rattle.rsx_graph_moves.specs.Pictures as Pictures
 use Rattle.rsx_waits.specs.declared.look.NodeLook.{NodeLook}
+use Rattle.rsx_waits.specs.declared.wait.FeedWait.{FeedWait}
 use Rattle.rsx_waits.specs.declared.wait.Wait.{Wait}
 use Rattle.rsx_graph_calls.specs.Edits as CallsEdits
 use Rattle.rsx_graph_calls.specs.Looks as CallsLooks
@@ -293,6 +295,9 @@ IsOwed m g h i v = CallsLooks.IsOwed any_machine m g h i v
 
 abbrev pub IsWait : {T : Type 0} → Meaning T → Rows T → SubId → Wait → Type 0
 IsWait m g i wait = Explained.IsWait any_machine tree_nodes m g i wait
+
+abbrev pub IsFeedWait : {T : Type 0} → Meaning T → Rows T → HubId → FeedWait → Type 0
+IsFeedWait m g h wait = FeedWaits.IsFeedWait any_machine tree_nodes m g h wait
 
 abbrev pub HasLooks : {T : Type 0} → List (Subscription T) → SubId → List NodeLook → Type 0
 HasLooks subs i looks = Pictures.HasLooks any_machine tree_nodes subs i looks

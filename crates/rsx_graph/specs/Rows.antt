@@ -1,5 +1,5 @@
 -- What is said of the rows of a graph, passed on to those who speak of whole graphs.
-pub use Rattle.rsx_graph.specs.Kinds.{Feed, AreValues, IsValue, Rows, SourceStands, HasEnded, IsMoveMade, LeadTo, HasFeedNotes, IsOwed, IsWait, HasLooks}
+pub use Rattle.rsx_graph.specs.Kinds.{Feed, AreValues, IsValue, Rows, SourceStands, HasEnded, IsMoveMade, LeadTo, HasFeedNotes, IsFeedWait, IsOwed, IsWait, HasLooks}
 pub use Rattle.rsx_graph_state.specs.History.{History, HubPast, Source, accepted_at, emitted, fed, sent_at, with_delivery, with_made, with_moved, with_sent}
 pub use Rattle.rsx_graph_state.specs.Moves.{has_feed}
 pub use Rattle.rsx_graph_state.specs.Stands.{feed_of}

@@ -1,17 +1,21 @@
 //! Why nothing comes, and what the nodes of a tree do.
 
 use crate::graph::Graph;
-use rsx_graph_moves::{explain, picture};
+use rsx_graph_moves::{explain, explain_feed, picture};
 use rsx_graph_state::Refusal;
-use rsx_types::{Ops, SubId};
-use rsx_waits::{Picture, Wait};
+use rsx_types::{HubId, Ops, SubId};
+use rsx_waits::{FeedWait, Picture, Wait};
 use std::alloc::Global;
 
 impl<O: Ops> Graph<O> {
-    ghost use Rattle.rsx_graph.specs.Kinds.{HasLooks, IsAllQuiet, IsWait, Subscription as SubscriptionOf};
-    ghost use Rattle.std.specs.Prelude.{◌≡◌, ◌≤◌, Some, false, length, slice_get, IfOk, IfErr};
+    ghost use Rattle.rsx_graph.specs.Kinds.{Feed as FeedOf, HasLooks, IsAllQuiet, IsFeedWait, IsWait, Subscription as SubscriptionOf};
+    ghost use Rattle.std.specs.Prelude.{◌≡◌, ◌<◌, ◌≤◌, Some, false, length, slice_get, IfOk, IfErr};
     ghost use Rattle.rsx_pipe.specs.Tree.{IsWithin};
+    ghost use Rattle.rsx_demand.specs.declared.TheConstants.{UNBOUNDED};
     ghost use Rattle.rsx_graph_moves.specs.Explained.{is_for_pump};
+    ghost use Rattle.rsx_graph_moves.specs.FeedWaits.{is_feed_for_pump};
+    ghost use Rattle.rsx_graph_state.specs.Moves.{has_feed};
+    ghost use Rattle.rsx_graph_state.specs.Stands.{feed_of};
     ghost use Rattle.rsx_graph_state.specs.Answers.{IsLookRefusal};
     ghost use Rattle.rsx_graph.specs.InGraph.{IfStandsFor, state_of};
 
@@ -34,6 +38,28 @@ impl<O: Ops> Graph<O> {
         ensures err { IfErr result (λ r. (r ≡ Refusal.UnknownSub) × (length self.now.subscriptions.items ≤ sub.0)) }
     {
         explain(&self.hubs, &self.feeds, &self.subscriptions, sub)
+    }
+
+    /// What the feed of a hub waits for first: a move of the feed that is enabled, else room for its item at a node that reads the hub,
+    /// else nothing, where its ending went into the hub, else a hub that a node of its tree reads, with why nothing comes from there.
+    /// That hub was made before this one. It takes no memory.
+    ///
+    /// Where [`Graph::explain`] answers that nothing comes from a hub since its feed has nothing for it, this says why. Where no move
+    /// of the graph is enabled it names none. [`FeedWait::Unknown`] comes only where an edge of the feed has carried 2^63-1 items.
+    ///
+    /// # Errors
+    /// G1 exactly for a hub that isn't there or has no feed.
+    pub fn explain_feed(&self, hub: HubId) -> Result<FeedWait, Refusal>
+        ensures waits { IfOk result (λ wait. IsFeedWait (O.meaning self.now.ops) (state_of self.now).rows hub wait) }
+
+        // Where no move is enabled, it isn't a pump that is waited for.
+        ensures idle { IsAllQuiet (O.meaning self.now.ops) (state_of self.now).rows → IfOk result (λ wait. is_feed_for_pump wait ≡ false) }
+
+        // As long as no edge of the feed has carried 2^63-1 items, it is known for what it waits.
+        ensures known { IfStandsFor self.now (λ h. (f : FeedOf O.Item) → feed_of self.now.feeds.items hub.0 ≡ Some f → f.part.root.demand.sent < UNBOUNDED → IsWithin f.part.tree → IfOk result (λ wait. wait ≡ FeedWait.Unknown → ⊥)) }
+        ensures err { IfErr result (λ r. (r ≡ Refusal.UnknownHub) × (has_feed (state_of self.now).rows hub.0 ≡ false)) }
+    {
+        explain_feed(&self.hubs, &self.feeds, &self.subscriptions, hub)
     }
 
     /// What the nodes of a subscription's tree do now, in pre-order: which operator each is, what was asked of it and what it sent,

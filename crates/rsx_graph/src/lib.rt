@@ -2,7 +2,8 @@
 //! Graphs of hubs and of subscriptions to expressions, driven by edits (a new hub, what is published there, subscribe, request,
 //! cancel) and moves (Ask, Send, Take, Pick, Row, Accept).
 //!
-//! - [`explain`]: `explain`, what a subscriber waits for, and `picture`, what the nodes of its tree do.
+//! - [`explain`]: `explain`, what a subscriber waits for, `explain_feed`, what the feed of a hub waits for, and `picture`, what the
+//!   nodes of a subscriber's tree do.
 //! - [`graph`]: [`Graph`], with every edit and look of a subscription, and every move; `run` makes a list of steps.
 //! - [`hubs`]: its hubs: `hub`, `feed_hub`, `emit`, `complete` and `fail`.
 //! - [`many`]: `make_many`, one move made many times.
@@ -36,5 +37,5 @@ pub use rsx_graph_moves::idle_means_delivered;
 pub use rsx_graph_state::{Answer, Pumped, Refusal, headline, refusal};
 pub use rsx_pipe::MOST_AT_ONCE;
 pub use rsx_subscriber::{Deliveries, Subscription, SubscriptionState};
-pub use rsx_waits::{EdgeLook, HubWait, NodeLook, Offer, Picture, Wait};
+pub use rsx_waits::{EdgeLook, FeedWait, HubWait, NodeLook, Offer, Picture, Wait};
 pub use step::Step;

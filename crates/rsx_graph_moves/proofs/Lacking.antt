@@ -95,7 +95,7 @@ got_within [] i x e = cc
 got_within (y ∷ xs) zero x e = omega arith
 got_within (y ∷ xs) (suc i) x e = let k = got_within xs i x e in omega (arith, k)
 
-counted_all : {A B : Type 0} (f : A → B) (xs : List A) → length (map f xs) ≡ length xs
+pub counted_all : {A B : Type 0} (f : A → B) (xs : List A) → length (map f xs) ≡ length xs
 counted_all f [] = refl
 counted_all f (x ∷ xs) = ap suc (counted_all f xs)
 
@@ -131,7 +131,7 @@ row_within {M} b counts (More' e n p below q beside) at hub r w = elim w [
       | inr k ↦ go k
     ]
 
-tree_within : {M T : Type 0} (b : Machine M T) (counts : List (Option ℕ)) (root : Edge) (t : Node M) (at hub : ℕ) → IsTreeReadAt b counts t → Waits b root t at hub → hub < length counts
+pub tree_within : {M T : Type 0} (b : Machine M T) (counts : List (Option ℕ)) (root : Edge) (t : Node M) (at hub : ℕ) → IsTreeReadAt b counts t → Waits b root t at hub → hub < length counts
 tree_within b counts root t zero hub r w = read_within b counts t.machine hub (b.reads t.machine) refl w.1 r.0
 tree_within b counts root t (suc at) hub r w = row_within b counts t.inputs at hub r.1 w.1
 

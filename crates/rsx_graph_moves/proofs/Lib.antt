@@ -1,5 +1,6 @@
 -- Lemmas about moves of rows with feeds, and about what a subscriber waits for.
 pub mod Driving
+pub mod FeedWaits
 pub mod HubWaits
 pub mod Idle
 pub mod Keeping

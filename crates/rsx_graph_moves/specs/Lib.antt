@@ -1,5 +1,6 @@
 -- Definitions that contracts cite.
 pub mod Explained
+pub mod FeedWaits
 pub mod Hubs
 pub mod Idle
 pub mod Many

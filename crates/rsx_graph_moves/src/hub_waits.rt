@@ -61,8 +61,8 @@ fn emitter_wait<N: Nodes<Item = T>, T: Drop>(
     }
 }
 
-/// The same of a hub that has the feed with this index.
-fn feed_wait<N: Nodes<Item = T>, T: Drop>(
+/// The same of a hub that has the feed with this index. It is never [`HubWait::Nothing`].
+pub(crate) fn feed_wait<N: Nodes<Item = T>, T: Drop>(
     state: &Hub<T>,
     feeds: &[Feed<N>],
     subscriptions: &[Subscription<N, T>],

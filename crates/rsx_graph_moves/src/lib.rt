@@ -1,6 +1,6 @@
 #![tactic(auto)]
 //! Moves over the rows of hubs, feeds and subscriptions of a graph: one of them, or as many as a budget allows; and what a subscriber
-//! waits for where none is enabled.
+//! or the feed of a hub waits for where none is enabled.
 //!
 //! # Subscriptions
 //!
@@ -21,16 +21,18 @@
 //! # Why nothing comes
 //!
 //! - [`explaining`]: [`explain`], what a subscriber waits for first.
+//! - [`feed_waits`]: [`explain_feed`], what the feed of a hub waits for first.
 //! - [`leaf`]: [`waiting_leaf`], the first node of a tree that waits for the hub that it reads, over nodes of any kind.
 //! - [`picturing`]: [`picture`], what the nodes of a subscriber's tree do.
 //!
 //! The definitions stand in `specs/`: `Moves` (when a move is enabled, what it changes, and why it is refused), `Many` (one
 //! move, made many times), `Pumped` (many moves, one after the other) and `Served` (what was got where no move is enabled);
 //! `Waiting` (which node of a tree waits for which hub), `Idle` (an idle tree of which more is asked than it sent: some node of it
-//! waits for a hub), `Hubs` (why nothing comes from a hub), `Explained` (what a subscriber waits for) and `Pictures` (what the nodes
-//! of a tree do).
+//! waits for a hub), `Hubs` (why nothing comes from a hub), `Explained` (what a subscriber waits for), `FeedWaits` (what the feed of a
+//! hub waits for) and `Pictures` (what the nodes of a tree do).
 
 pub mod explaining;
+pub mod feed_waits;
 mod hub_waits;
 mod hubs;
 pub mod law;
@@ -43,6 +45,7 @@ pub mod subscriptions;
 pub mod trees;
 
 pub use explaining::explain;
+pub use feed_waits::explain_feed;
 pub use law::{feeds_keep_their_hubs, idle_means_delivered};
 pub use leaf::{WaitingLeaf, waiting_leaf};
 pub use many::make_many;

@@ -7,12 +7,12 @@ use Rattle.rsx_values.specs.Prelude.{Note, Nothing, Picks, Ended, User, Function
 use Rattle.rsx_demo.specs.declared.val.Val.{Val}
 use Rattle.rsx_demo.specs.Texts.{item_text}
 use Rattle.rsx_waits.specs.Looks.{looks_text}
-use Rattle.rsx_waits.specs.Texts.{wait_text}
+use Rattle.rsx_waits.specs.Texts.{feed_wait_text, wait_text}
 use Rattle.rsx_script.specs.declared.print.Rest.{Rest}
 use Rattle.rsx_script.specs.declared.print.Rest.TheVariants.{Owed, Cancelled, Closed}
 use Rattle.rsx_script.specs.declared.print.Shown.{Shown as Received}
 use Rattle.rsx_script.specs.declared.print.Answer.{Answer}
-use Rattle.rsx_script.specs.declared.print.Answer.TheVariants.{Hub, Sub, Done, Idle, Budget, Shown, Value, Asked, Count, Joins, Choices, Equal, Different, Waits, Drawn, Refused}
+use Rattle.rsx_script.specs.declared.print.Answer.TheVariants.{Hub, Sub, Done, Idle, Budget, Shown, Value, Asked, Count, Joins, Choices, Equal, Different, Waits, FeedWaits, Drawn, Refused}
 
 -- each number behind a space
 abbrev pub numbers_text : List ℕ → List ℕ
@@ -81,6 +81,7 @@ answer_text (Choices notes) = codes "choices" ++ notes_text 0 notes.items
 answer_text Equal = codes "equal"
 answer_text Different = codes "different"
 answer_text (Waits wait) = codes "waits: " ++ wait_text wait
+answer_text (FeedWaits wait) = codes "waits: " ++ feed_wait_text wait
 answer_text (Drawn picture) = codes "tree" ++ looks_text 0 picture.nodes.items
 answer_text (Refused name) = codes "refused " ++ name.now
 

@@ -10,7 +10,7 @@ use Rattle.rsx_script.specs.Numbers.{u32_of, u64_of, signed_of}
 use Rattle.rsx_script.specs.Reading.{Left, line_of, ◌>>=◌, next_at, end_at, name_at, number_at}
 use Rattle.rsx_script.specs.Words.{Written, opening, closing, text, strange, nothing}
 use Rattle.rsx_script.specs.Expressions.{expression_at}
-use Rattle.rsx_script.specs.Orders.{Tree, Order, make_hub, feed_hub, emit, complete, fail, subscribe, request, cancel, pump, pick, show, asked, count, joins, choices, check, why, draw}
+use Rattle.rsx_script.specs.Orders.{Tree, Order, make_hub, feed_hub, emit, complete, fail, subscribe, request, cancel, pump, pick, show, asked, count, joins, choices, check, why, why_feed, draw}
 
 -- the number of a hub or of a subscription, alone
 abbrev pub with_one : (ℕ → Order) → Left → Result (Order × Left) LineRefusal
@@ -48,6 +48,17 @@ pick_at l = do
   node ← number_at u32_of s.1
   input ← input_at node.1
   Ok (pick s.0 node.0 input.0, input.1)
+
+-- a subscription, or behind `feed` a hub
+abbrev pub why_named : ℕ → List ℕ → Left → Result (Order × Left) LineRefusal
+why_named column name l =
+    if bytes_eq name (codes "feed") then with_one why_feed l
+    else (ok_or (u32_of name) (Syntax column) >>= λ n. Ok (why n, l))
+
+unfoldable pub why_at : Left → Result (Order × Left) LineRefusal
+why_at l = do
+  word ← name_at l
+  why_named word.0.0 word.0.1 word.1
 
 -- the kind of a hub, with the number of items that a `replay` keeps
 abbrev pub kind_named : ℕ → List ℕ → Left → Result (HubKind × Left) LineRefusal
@@ -90,7 +101,7 @@ plain_command_at column name l =
     else (if bytes_eq name (codes "joins") then with_one joins l
     else (if bytes_eq name (codes "choices") then with_one choices l
     else (if bytes_eq name (codes "check") then with_one check l
-    else (if bytes_eq name (codes "why") then with_one why l
+    else (if bytes_eq name (codes "why") then why_at l
     else (if bytes_eq name (codes "draw") then with_one draw l
     else hub_command_at column name l)))))))))))
 

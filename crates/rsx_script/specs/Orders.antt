@@ -71,6 +71,7 @@ pub data Order : Type 0 where
   choices : ℕ → Order
   check : ℕ → Order
   why : ℕ → Order
+  why_feed : ℕ → Order
   draw : ℕ → Order
 
 abbrev pub order_of : Command → Order
@@ -91,4 +92,5 @@ order_of (asks.Joins s) = joins s.0
 order_of (asks.Choices s) = choices s.0
 order_of (asks.Check s) = check s.0
 order_of (asks.Why s) = why s.0
+order_of (asks.WhyFeed h) = why_feed h.0
 order_of (asks.Draw s) = draw s.0

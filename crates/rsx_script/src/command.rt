@@ -41,6 +41,8 @@ pub enum Command {
     Check(SubId),
     /// `why S`
     Why(SubId),
+    /// `why feed H`
+    WhyFeed(HubId),
     /// `draw S`
     Draw(SubId),
 }

@@ -4,11 +4,11 @@ ghost use Rattle.std.specs.Prelude.{◌≡◌, ◌<◌, ◌≤◌, ℕ, length, 
 ghost use Rattle.rsx_script.specs.Numbers.{u32_of};
 ghost use Rattle.rsx_script.specs.Reading.{Gives, GivesInMemory, left, bytes_left, number_at};
 ghost use Rattle.rsx_script.specs.Orders.{order_of, tree_of};
-ghost use Rattle.rsx_script.specs.Commands.{input_of, input_at, pick_at, feed_at, hub_kind_at, hub_command_at, plain_command_at, command_at, line_at, meaning_of_line, expression_of_line};
+ghost use Rattle.rsx_script.specs.Commands.{input_of, input_at, pick_at, why_at, feed_at, hub_kind_at, hub_command_at, plain_command_at, command_at, line_at, meaning_of_line, expression_of_line};
 
 use crate::command::Command;
 use crate::expression::expression;
-use crate::{LineRefusal, Word, Words, number_u64};
+use crate::{LineRefusal, Word, Words, number_u32, number_u64};
 use rsx_demo::Val;
 use rsx_model::Expr;
 use rsx_types::{HubId, HubKind, NodeId, SubId};
@@ -125,7 +125,7 @@ fn plain_command_of(column: u64, name: &str, words: &mut Words<'_>) -> Result<Co
         "joins" => Ok(Command::Joins(subscription(words)?)),
         "choices" => Ok(Command::Choices(subscription(words)?)),
         "check" => Ok(Command::Check(subscription(words)?)),
-        "why" => Ok(Command::Why(subscription(words)?)),
+        "why" => why(words),
         "draw" => Ok(Command::Draw(subscription(words)?)),
         _ => hub_command_of(column, name, words),
     }
@@ -162,6 +162,21 @@ fn pick(words: &mut Words<'_>) -> Result<Command, LineRefusal>
     let sub = subscription(words)?;
     let node = NodeId(words.u32()?);
     Ok(Command::Pick(sub, node, input(words)?))
+}
+
+/// What is to be explained: a subscription by its number, or behind `feed` the feed of a hub by the number of the hub.
+#[tactic(auto, unfolding(crate::specs::Commands::why_at))]
+fn why(words: &mut Words<'_>) -> Result<Command, LineRefusal>
+    ensures { Gives (λ x. (order_of x, left words.new)) result (why_at (left words.old)) }
+{
+    let (column, word) = words.name()?;
+    match word {
+        "feed" => Ok(Command::WhyFeed(hub(words)?)),
+        _ => {
+            let number = number_u32(word).ok_or(LineRefusal::Syntax(column))?;
+            Ok(Command::Why(SubId(number)))
+        }
+    }
 }
 
 /// The input of a pick: its number, or `m` for Main.

@@ -7,7 +7,7 @@ ghost use Rattle.rsx_script.specs.Answers.{IsTextOf, numbers_text, picks_text, n
 use rsx_demo::Val;
 use rsx_types::{Cause, Ending, HubId, NoMemory, Note, StreamValue, SubId};
 use rsx_values::MAIN;
-use rsx_waits::{Picture, Wait};
+use rsx_waits::{FeedWait, Picture, Wait};
 use std::alloc::Global;
 use std::fmt;
 
@@ -42,6 +42,8 @@ pub enum Answer<'a> {
     Different,
     /// What a subscriber waits for.
     Waits(Wait),
+    /// What the feed of a hub waits for.
+    FeedWaits(FeedWait),
     /// What the nodes of a subscription's tree do.
     Drawn(Picture),
     /// The call was refused, by this name.
@@ -118,6 +120,7 @@ impl fmt::Display for Answer<'_> {
             Answer::Equal => f.write_str("equal"),
             Answer::Different => f.write_str("different"),
             Answer::Waits(wait) => write!(f, "waits: {wait}"),
+            Answer::FeedWaits(wait) => write!(f, "waits: {wait}"),
             Answer::Drawn(picture) => write!(f, "tree{picture}"),
             Answer::Refused(name) => write!(f, "refused {name}"),
         }

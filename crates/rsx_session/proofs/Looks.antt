@@ -1,12 +1,14 @@
 -- Lemmas about looks at a session.
-use Rattle.rsx_session.specs.Prelude.{Answer, HasNotesAt, HaveValues, History, IsEvaluated, IsEvaluatedOver, IsHubsTrouble, IsLookTrouble, IsOwed, IsRest, IsRestOf, IsScratchTrouble, IsShown, IsTrouble, IsTroubleOf, IsValueAt, IsValueOf, IsValued, Note, OfSub, OnText, Place, Record, Refusal, Says, Session, SessionStands, Stream, SubId, Trouble, Val, any_machine, demo_meaning, known, notes_of, place_of, rest_text, seen, signals_text, state_of}
+use Rattle.rsx_session.specs.Prelude.{Answer, HasNotesAt, HaveValues, History, IsEvaluated, IsEvaluatedOver, IsFeedExplained, IsHubsTrouble, IsLookTrouble, IsOwed, IsRest, IsRestOf, IsScratchTrouble, IsShown, IsTrouble, IsTroubleOf, IsValueAt, IsValueOf, IsValued, Note, OfSub, OnText, Place, Record, Refusal, Says, Session, SessionStands, Stream, SubId, Trouble, Val, any_machine, demo_meaning, has_feed, known, notes_of, place_of, rest_text, seen, signals_text, state_of}
 use Rattle.std.proofs.Common.{◌≡◌, ◌⊎◌, ◌≤◌, true, false, ℕ, zero, suc, List, [], ◌∷◌, ◌++◌, length, map, refl, ap, sym, subst, ◌∙◌, arith, Some, Result, Ok, Err, slice_get, inl, inr, codes}
 use Rattle.std.specs.Result.{IfErr, IsErr, IsErrAnd}
 use Rattle.rsx_subscriber.specs.Prelude.{environment, Expr, IsScratch, ScratchRefusal, Past}
 use Rattle.std.proofs.lemmas.List.{length-map}
 use Rattle.std.proofs.lemmas.Option.{slice_get_within}
 use Rattle.rsx_graph_state.specs.Prelude.{HasAsked, HasJoins, IsLookRefusal, state_at, SubscriptionState}
+use Rattle.rsx_graph_state.specs.Names.{name_codes}
 use Rattle.rsx_graph_state.specs.declared.refusal.Refusal.TheVariants as refusal
+use Rattle.rsx_types.specs.declared.names.HubId.{HubId}
 use Rattle.rsx_graph_state.proofs.Graphs.{count_same}
 use Rattle.rsx_script.specs.declared.print.Rest.{Rest}
 use Rattle.rsx_script.specs.declared.print.Rest.TheVariants as rest
@@ -66,6 +68,13 @@ look_err s count i r (Err (trouble.Refused name)) P c k e = λ h st. let got = l
 pub unknown_err : (s : Session) (count : ℕ) (i : SubId) (r : Refusal) (result : Result Answer Trouble) (P : Place → List ℕ → Past Val → Type 0) → ((h : History Val) → SessionStands s h → count ≡ length h.pasts) → r ≡ refusal.UnknownSub → count ≤ i.0 →
     IsErr result × IsErrAnd result (λ t. IsTrouble t × IsTroubleOf r t) → Says s result (λ place text. OfSub place i.0 text (P place text))
 unknown_err s count i r result P c e k = let L : Refusal → Type 0 = λ q. IsLookRefusal count i q in look_err s count i r result P c (subst L (sym e) k)
+
+-- a look at a feed that isn't there
+pub feed_err : (s : Session) (hub : HubId) (r : Refusal) (result : Result Answer Trouble) → r ≡ refusal.UnknownHub → has_feed (state_of s.graph).rows hub.0 ≡ false →
+    IsErr result × IsErrAnd result (λ t. IsTrouble t × IsTroubleOf r t) → Says s result (λ place text. IsFeedExplained place hub text)
+feed_err s hub r (Ok a) is none e = let bad : false ≡ true = e.0 in absurd cc
+feed_err s hub r (Err trouble.Memory) is none e = tt
+feed_err s hub r (Err (trouble.Refused name)) is none e = λ h st. inr (none, ap (λ n. codes "refused " ++ n) (e.1.1.1 ∙ ap name_codes is))
 
 pub state_there : (ps : List (Past Val)) (i : ℕ) (st : SubscriptionState) → state_at ps i ≡ Some st → (past : Past Val) × (slice_get ps i ≡ Some past) × (past.state ≡ st)
 state_there [] i st e = cc

@@ -5,7 +5,7 @@ use Rattle.rsx_script.specs.Answers.{IsTextOf}
 use Rattle.rsx_script.specs.declared.command.Command.{Command}
 use Rattle.rsx_script.specs.declared.command.Command.TheVariants as command
 use Rattle.rsx_script.specs.declared.print.Answer.{Answer}
-use Rattle.rsx_script.specs.declared.print.Answer.TheVariants.{Hub, Sub, Done, Idle, Budget, Shown, Value, Asked, Count, Joins, Choices, Equal, Different, Waits, Drawn, Refused}
+use Rattle.rsx_script.specs.declared.print.Answer.TheVariants.{Hub, Sub, Done, Idle, Budget, Shown, Value, Asked, Count, Joins, Choices, Equal, Different, Waits, FeedWaits, Drawn, Refused}
 use Rattle.rsx_session.specs.declared.session.View.{View}
 use Rattle.rsx_session.specs.declared.session.View.TheVariants.{Received, FromScratch}
 use Rattle.rsx_session.specs.declared.session.Trouble.{Trouble}
@@ -64,6 +64,10 @@ abbrev pub is_waits : Answer → Bool
 is_waits (Waits _) = true
 is_waits _ = false
 
+abbrev pub is_feed_waits : Answer → Bool
+is_feed_waits (FeedWaits _) = true
+is_feed_waits _ = false
+
 abbrev pub is_drawn : Answer → Bool
 is_drawn (Drawn _) = true
 is_drawn _ = false
@@ -92,6 +96,7 @@ is_of view (command.Joins sub) a = is_joins a
 is_of view (command.Choices sub) a = is_choices a
 is_of view (command.Check sub) a = is_compared a
 is_of view (command.Why sub) a = is_waits a
+is_of view (command.WhyFeed hub) a = is_feed_waits a
 is_of view (command.Draw sub) a = is_drawn a
 
 -- the name of a refusal that a command can have: not that of want of memory, G8

@@ -4,6 +4,7 @@ use Rattle.std.specs.Prelude.{◌≡◌, ◌⊎◌, ℕ, ◌≤◌, Bool, true, 
 use Rattle.std.specs.Fmt.{decimal}
 use Rattle.rsx_types.specs.Stream.{Stream}
 use Rattle.rsx_types.specs.declared.names.Move.TheVariants.{Pick}
+use Rattle.rsx_types.specs.declared.names.HubId.{HubId}
 use Rattle.rsx_types.specs.declared.names.SubId.{SubId}
 use Rattle.rsx_types.specs.declared.names.Tree.TheVariants.{Sub}
 use Rattle.rsx_demo.specs.Demo.{demo_meaning, demo_allocates}
@@ -14,7 +15,7 @@ use Rattle.rsx_model.specs.declared.evaluate.ScratchRefusal.TheVariants as scrat
 use Rattle.rsx_graph_state.specs.Prelude.{SubscriptionState}
 use Rattle.rsx_subscriber.specs.declared.state.SubscriptionState.TheVariants as is
 use Rattle.rsx_graph_state.specs.Names.{name_codes}
-use Rattle.rsx_graph.specs.Rows.{AreValues, Feed, HasEnded, History, HasLooks, HubPast, IsOwed, IsWait, LeadTo, Made, after_moves, fed, feed_of}
+use Rattle.rsx_graph.specs.Rows.{AreValues, Feed, HasEnded, History, HasLooks, HubPast, IsFeedWait, IsOwed, IsWait, LeadTo, Made, after_moves, fed, feed_of, has_feed}
 use Rattle.rsx_graph.specs.Done.{IsDone, fed_by}
 use Rattle.rsx_graph.specs.Stands.{AreJoinsSame, GraphState, nothing}
 use Rattle.rsx_graph.specs.Steps.{extended, no_history}
@@ -29,8 +30,9 @@ use Rattle.rsx_script.specs.declared.command.Command.{Command}
 use Rattle.rsx_script.specs.declared.command.Command.TheVariants as command
 use Rattle.rsx_script.specs.Answers.{notes_text, numbers_text, signals_text}
 use Rattle.rsx_waits.specs.Looks.{looks_text}
-use Rattle.rsx_waits.specs.Texts.{wait_text}
+use Rattle.rsx_waits.specs.Texts.{feed_wait_text, wait_text}
 use Rattle.rsx_waits.specs.declared.look.NodeLook.{NodeLook}
+use Rattle.rsx_waits.specs.declared.wait.FeedWait.{FeedWait}
 use Rattle.rsx_waits.specs.declared.wait.Wait.{Wait}
 use Rattle.rsx_session.specs.Kept.{Known, ending_in, followed_by, seen}
 use Rattle.rsx_session.specs.declared.session.View.{View}
@@ -163,6 +165,11 @@ abbrev pub IsExplained : Place → SubId → List ℕ → Type 0
 IsExplained place sub text = OfSub place sub.0 text (λ past.
     (wait : Wait) × IsWait demo_meaning place.graph.rows sub wait × (text ≡ codes "waits: " ++ wait_text wait))
 
+-- what the feed of a hub waits for; where the hub isn't there or has no feed, the look is refused
+abbrev pub IsFeedExplained : Place → HubId → List ℕ → Type 0
+IsFeedExplained place hub text =
+    ((wait : FeedWait) × IsFeedWait demo_meaning place.graph.rows hub wait × (text ≡ codes "waits: " ++ feed_wait_text wait)) ⊎ ((has_feed place.graph.rows hub.0 ≡ false) × (text ≡ codes "refused G1"))
+
 -- what the nodes of its tree do
 abbrev pub IsDrawn : Place → SubId → List ℕ → Type 0
 IsDrawn place sub text = OfSub place sub.0 text (λ past.
@@ -215,4 +222,5 @@ IsAnswerTo view (command.Joins sub) old text new = IsLook old new (AreJoins old 
 IsAnswerTo view (command.Choices sub) old text new = IsLook old new (AreChoices old sub text)
 IsAnswerTo view (command.Check sub) old text new = IsLook old new (IsChecked old sub text)
 IsAnswerTo view (command.Why sub) old text new = IsLook old new (IsExplained old sub text)
+IsAnswerTo view (command.WhyFeed hub) old text new = IsLook old new (IsFeedExplained old hub text)
 IsAnswerTo view (command.Draw sub) old text new = IsLook old new (IsDrawn old sub text)

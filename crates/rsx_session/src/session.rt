@@ -7,8 +7,8 @@ ghost use Rattle.rsx_graph_state.specs.Answers.{changed};
 ghost use Rattle.rsx_subscriber.specs.Past.{IsPrefixOf};
 ghost use Rattle.rsx_session.specs.Sessions.{AllPumpTo, GrowsByLine, IsHubsTrouble, IsLineOf, IsNextTrouble, IsNextValue, LeadsAll, OnText, IsLookTrouble, IsRestOf, IsRightOf, IsScratchTrouble, IsTroubleOf, IsValueOf, Says, SessionStands, place_of};
 ghost use Rattle.rsx_session.specs.Kept.{all_taken, followed_by, known, taken};
-ghost use Rattle.rsx_session.specs.Places.{AreChoices, AreJoins, HaveValues, IsAsked, IsChecked, IsCounted, IsDrawn, IsExplained, IsShown, IsValued, IsViewed};
-ghost use Rattle.rsx_session.specs.Answers.{IsAnswered, IsTrouble, is_asked, is_choices, is_count, is_drawn, is_joins, is_waits, is_hub, is_sub, is_done, is_pumped, is_received, is_value, is_shown, is_compared};
+ghost use Rattle.rsx_session.specs.Places.{AreChoices, AreJoins, HaveValues, IsAsked, IsChecked, IsCounted, IsDrawn, IsExplained, IsFeedExplained, IsShown, IsValued, IsViewed};
+ghost use Rattle.rsx_session.specs.Answers.{IsAnswered, IsTrouble, is_asked, is_choices, is_count, is_drawn, is_joins, is_waits, is_feed_waits, is_hub, is_sub, is_done, is_pumped, is_received, is_value, is_shown, is_compared};
 
 use crate::published::{HubSource, copied};
 use rsx_demo::{Demo, Val, is_same_val};
@@ -179,6 +179,7 @@ impl Session {
             Command::Choices(sub) => write(alloc, self.choices(alloc, sub), out),
             Command::Check(sub) => write(alloc, self.check(alloc, sub), out),
             Command::Why(sub) => write(alloc, self.why(sub), out),
+            Command::WhyFeed(hub) => write(alloc, self.why_feed(hub), out),
             Command::Draw(sub) => write(alloc, self.draw(alloc, sub), out),
         }
     }
@@ -439,6 +440,15 @@ impl Session {
         ensures err { IfErr result IsTrouble }
     {
         Ok(Answer::Waits(self.graph.explain(sub)?))
+    }
+
+    /// What the feed of a hub waits for.
+    fn why_feed(&self, hub: HubId) -> Result<Answer<'_>, Trouble>
+        ensures answer { IfOk result (λ a. is_feed_waits a ≡ true) }
+        ensures says { Says self.now result (λ place text. IsFeedExplained place hub text) }
+        ensures err { IfErr result IsTrouble }
+    {
+        Ok(Answer::FeedWaits(self.graph.explain_feed(hub)?))
     }
 
     /// What the nodes of a subscription do.

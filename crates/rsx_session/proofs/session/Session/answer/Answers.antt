@@ -1,6 +1,6 @@
 use Rattle.std.proofs.Common.{rules, ℤ, w64, subst}
 use Rattle.std.proofs.lemmas.Int.{to_z-of_z}
-use Rattle.rsx_session.specs.Prelude.{AreChoices, AreJoins, IsAsked, IsChecked, IsCounted, IsDrawn, IsExplained, IsViewed, LeadsAll, OnText}
+use Rattle.rsx_session.specs.Prelude.{AreChoices, AreJoins, IsAsked, IsChecked, IsCounted, IsDrawn, IsExplained, IsFeedExplained, IsViewed, LeadsAll, OnText}
 use Rattle.rsx_script.specs.declared.command.Command.TheVariants as command
 use Rattle.rsx_session.proofs.Lines.{answered, looked, told}
 use Rattle.rsx_session.proofs.session.Session.answer.Goals as goal
@@ -112,6 +112,12 @@ returns-in-Why-clause-grows c = rw c.in-Why.is (answered c.why.result c.args.sel
 
 pub returns-in-Why-clause-leads : goal.returns-in-Why-clause-leads
 returns-in-Why-clause-leads c = rw c.in-Why.is (told c.why.result (command.Why c.in-Why.sub) c.args.self.now _ _ _ c.write-in-Why.result c.write-in-Why.ensures.grows (looked c.args.self.now c.why.result (λ place text. IsExplained place c.in-Why.sub text) c.why.ensures.says))
+
+pub returns-in-WhyFeed-clause-grows : goal.returns-in-WhyFeed-clause-grows
+returns-in-WhyFeed-clause-grows c = rw c.in-WhyFeed.is (answered c.why_feed.result c.args.self.now.view (command.WhyFeed c.in-WhyFeed.hub) _ _ c.write-in-WhyFeed.result c.write-in-WhyFeed.ensures.grows c.why_feed.ensures.answer c.why_feed.ensures.err)
+
+pub returns-in-WhyFeed-clause-leads : goal.returns-in-WhyFeed-clause-leads
+returns-in-WhyFeed-clause-leads c = rw c.in-WhyFeed.is (told c.why_feed.result (command.WhyFeed c.in-WhyFeed.hub) c.args.self.now _ _ _ c.write-in-WhyFeed.result c.write-in-WhyFeed.ensures.grows (looked c.args.self.now c.why_feed.result (λ place text. IsFeedExplained place c.in-WhyFeed.hub text) c.why_feed.ensures.says))
 
 pub returns-in-Draw-clause-grows : goal.returns-in-Draw-clause-grows
 returns-in-Draw-clause-grows c = rw c.in-Draw.is (answered c.draw.result c.args.self.now.view (command.Draw c.in-Draw.sub) _ _ c.write-in-Draw.result c.write-in-Draw.ensures.grows c.draw.ensures.answer c.draw.ensures.err)
