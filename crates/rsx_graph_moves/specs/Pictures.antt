@@ -39,19 +39,20 @@ last_of note.Nothing = None
 last_of (note.Picks choices) = slice_get choices (length choices - 1)
 last_of (note.Ended input) = input
 
--- a node over its edge to this receiver
-abbrev pub look : {M T : Type 0} → Machine M T → Nodes M T → Option ℕ → Edge → M → NodeLook
-look b d receiver e n = record { operator = d.operator_of n; receiver = receiver; asked = e.demand.asked; sent = e.demand.sent; edge = edge_look e.state; offer = offer_of (b.shown n); last = last_of (b.recorded n) }
+-- a node over its edge to this receiver, in whose queue for it so many signals wait
+abbrev pub look : {M T : Type 0} → Machine M T → Nodes M T → Option ℕ → Option ℕ → Edge → M → NodeLook
+look b d receiver queued e n = record { operator = d.operator_of n; receiver = receiver; asked = e.demand.asked; sent = e.demand.sent; edge = edge_look e.state; queued = queued; offer = offer_of (b.shown n); last = last_of (b.recorded n) }
 
--- the nodes of a row and those below them, in pre-order, where the first has the number `first`
-abbrev pub row_looks : {M T : Type 0} → Machine M T → Nodes M T → ℕ → ℕ → Inputs M → List NodeLook
-row_looks b d receiver first End = []
-row_looks b d receiver first (More' e n p below q beside) =
-    look b d (Some receiver) e n ∷ (row_looks b d first (first + 1) below ++ row_looks b d receiver (first + 1 + size below) beside)
+-- the nodes of a row and those below them, in pre-order, where the first has the number `first`; it is the input with the number
+-- `input` of the receiver r
+abbrev pub row_looks : {M T : Type 0} → Machine M T → Nodes M T → M → ℕ → ℕ → ℕ → Inputs M → List NodeLook
+row_looks b d r receiver input first End = []
+row_looks b d r receiver input first (More' e n p below q beside) =
+    look b d (Some receiver) (d.queued_of r input) e n ∷ (row_looks b d n first 0 (first + 1) below ++ row_looks b d r receiver (input + 1) (first + 1 + size below) beside)
 
 -- the nodes of a tree, whose root has the number 0 and this edge
 abbrev pub tree_looks : {M T : Type 0} → Machine M T → Nodes M T → Edge → Node M → List NodeLook
-tree_looks b d root t = look b d None root t.machine ∷ row_looks b d 0 1 t.inputs
+tree_looks b d root t = look b d None None root t.machine ∷ row_looks b d t.machine 0 0 1 t.inputs
 
 -- the subscription with this number is there, and its nodes do this
 abbrev pub HasLooks : {M T : Type 0} → Machine M T → Nodes M T → List (Subscription M T) → SubId → List NodeLook → Type 0

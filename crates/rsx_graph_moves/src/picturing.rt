@@ -1,6 +1,6 @@
 //! What the nodes of a subscriber's tree do now.
 
-ghost use Rattle.std.specs.Prelude.{◌≡◌, ◌++◌, OnOk, IfOk, IfErr, Some, length, slice_get};
+ghost use Rattle.std.specs.Prelude.{◌≡◌, ◌++◌, ◌≤◌, OnOk, IfOk, IfErr, Some, length, slice_get};
 ghost use Rattle.rsx_graph_state.specs.Answers.{IsLookRefusal};
 ghost use Rattle.rsx_graph_moves.specs.Pictures.{HasLooks, edge_look, last_of, look, offer_of, row_looks, tree_looks};
 
@@ -41,43 +41,49 @@ fn looks_of<N: Nodes>(alloc: Global, root: &Edge, tree: &Node<N>) -> Result<Vec<
     ensures { IfOk result (λ looks. looks.items ≡ tree_looks N.Machine N.Nodes.own root.now tree.now) }
 {
     let mut looks = Vec::new(alloc);
-    let look = look_at(alloc, None, root, &tree.machine)?;
+    let look = look_at(alloc, None, None, root, &tree.machine)?;
     looks.push(look)?;
-    add_row(alloc, &tree.inputs, 0, &mut looks)?;
+    add_row(alloc, &tree.inputs, &tree.machine, 0, 0, &mut looks)?;
     Ok(looks)
 }
 
-/// Puts what the nodes of a row do, and those below them, behind `looks`, in pre-order. The row's receiver has this number.
+/// Puts what the nodes of a row do, and those below them, behind `looks`, in pre-order. The row's receiver is this node, and has this
+/// number; the first node of the row is its input with the number `input`, and at least as many looks as that stand there.
 fn add_row<N: Nodes>(
     alloc: Global,
     row: &Inputs<N>,
+    machine: &N,
     receiver: u64,
+    input: u64,
     looks: &mut Vec<NodeLook>,
 ) -> Result<(), NoMemory>
-    ensures { OnOk result (looks.new.items ≡ looks.old.items ++ row_looks N.Machine N.Nodes.own receiver (length looks.old.items) row.now) }
+    requires { input ≤ length looks.old.items }
+    ensures { OnOk result (looks.new.items ≡ looks.old.items ++ row_looks N.Machine N.Nodes.own machine.now receiver input (length looks.old.items) row.now) }
 {
     match row {
         Inputs::End => Ok(()),
-        Inputs::More(edge, machine, below, beside) => {
+        Inputs::More(edge, sender, below, beside) => {
             let node = looks.len() as u64;
-            let look = look_at(alloc, Some(receiver), edge, machine)?;
+            let queued = machine.queued_at(input);
+            let look = look_at(alloc, Some(receiver), queued, edge, sender)?;
             looks.push(look)?;
-            match add_row(alloc, below, node, looks) {
-                Ok(()) => add_row(alloc, beside, receiver, looks),
+            match add_row(alloc, below, sender, node, 0, looks) {
+                Ok(()) => add_row(alloc, beside, machine, receiver, input + 1, looks),
                 Err(NoMemory) => Err(NoMemory),
             }
         }
     }
 }
 
-/// What one node does over its edge to this receiver.
+/// What one node does over its edge to this receiver, in whose queue for it so many signals wait.
 fn look_at<N: Nodes>(
     alloc: Global,
     receiver: Option<u64>,
+    queued: Option<u64>,
     edge: &Edge,
     machine: &N,
 ) -> Result<NodeLook, NoMemory>
-    ensures { IfOk result (λ l. l ≡ look N.Machine N.Nodes.own receiver edge.now machine.now) }
+    ensures { IfOk result (λ l. l ≡ look N.Machine N.Nodes.own receiver queued edge.now machine.now) }
 {
     let note = machine.note(alloc)?;
     Ok(NodeLook {
@@ -86,6 +92,7 @@ fn look_at<N: Nodes>(
         asked: edge.demand.asked,
         sent: edge.demand.sent,
         edge: look_of_edge(edge.state),
+        queued,
         offer: offered(machine.front()),
         last: last_of(&note),
     })
