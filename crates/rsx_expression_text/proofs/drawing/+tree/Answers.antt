@@ -1,10 +1,28 @@
 use Rattle.std.proofs.Common.{◌≡◌, ◌+◌, map, refl, arith}
 use Rattle.std.specs.String.{string_bytes}
-use Rattle.rsx_model.specs.declared.expr.Expr.TheViews.{outs-Latest, outs-Group, outs-Window, outs-Flat, outs-On}
-use Rattle.rsx_script.specs.Orders.{tree_of, trees_of, latest, group, window, flat, on}
+use Rattle.rsx_model.specs.declared.expr.Expr.TheViews.{outs-MergeDelay, outs-Zip, outs-Latest, outs-Group, outs-Window, outs-Flat, outs-On}
+use Rattle.rsx_script.specs.Orders.{tree_of, trees_of, merge_delay, zip, latest, group, window, flat, on}
 use Rattle.rsx_expression_text.specs.Drawn.{all_rows_text, row_text, rows_text}
 use Rattle.rsx_expression_text.proofs.Drawings.{nodes_more, put_on, rows_more, tree_out}
 use Rattle.rsx_expression_text.proofs.drawing.+tree.Goals as goal
+
+pub add_tree-returns-in-MergeDelay-clause-added : goal.add_tree-returns-in-MergeDelay-clause-added
+add_tree-returns-in-MergeDelay-clause-added t c =
+    let d = c.args.depth in
+    let n = c.args.number in
+    let expr = tree_of c.args.expr.now in
+    let shape : tree_of c.args.expr.now ≡ merge_delay c.in-MergeDelay.field-0 (trees_of (map tree_of c.in-MergeDelay.inputs.items)) = rw c.in-MergeDelay.is (rw (tree_out, outs-MergeDelay) refl) in
+    put_on c.add_trees-in-MergeDelay.result (string_bytes c.args.text.now) (string_bytes c.add_row.new.text) (string_bytes c.add_trees-in-MergeDelay.new.text) (row_text d n expr) (all_rows_text (d + 1) (n + 1) (trees_of (map tree_of c.deref-in-MergeDelay.result.now))) (rows_text d n expr)
+    c.in_ok-add_row.ensures.added (rw (shape, c.deref-in-MergeDelay.ensures.value) refl) c.add_trees-in-MergeDelay.ensures.added
+
+pub add_tree-returns-in-Zip-clause-added : goal.add_tree-returns-in-Zip-clause-added
+add_tree-returns-in-Zip-clause-added t c =
+    let d = c.args.depth in
+    let n = c.args.number in
+    let expr = tree_of c.args.expr.now in
+    let shape : tree_of c.args.expr.now ≡ zip c.in-Zip.field-0 (trees_of (map tree_of c.in-Zip.inputs.items)) = rw c.in-Zip.is (rw (tree_out, outs-Zip) refl) in
+    put_on c.add_trees-in-Zip.result (string_bytes c.args.text.now) (string_bytes c.add_row.new.text) (string_bytes c.add_trees-in-Zip.new.text) (row_text d n expr) (all_rows_text (d + 1) (n + 1) (trees_of (map tree_of c.deref-in-Zip.result.now))) (rows_text d n expr)
+    c.in_ok-add_row.ensures.added (rw (shape, c.deref-in-Zip.ensures.value) refl) c.add_trees-in-Zip.ensures.added
 
 pub add_tree-returns-in-Latest-clause-added : goal.add_tree-returns-in-Latest-clause-added
 add_tree-returns-in-Latest-clause-added t c =
