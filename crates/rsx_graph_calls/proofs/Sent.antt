@@ -1,14 +1,15 @@
 -- The senders of an expression's edges that cross: node by node, and how many they are.
-use Rattle.std.proofs.Common.{◌≡◌, ℕ, ◌+◌, ◌<◌, Bool, true, false, if◌then◌else◌, List, [], ◌∷◌, ◌++◌, length, map, drop, Option, Result, Ok, Err, OnOk, refl, ap, sym, ◌∙◌, append_assoc, length-append, arith}
+use Rattle.std.proofs.Common.{◌≡◌, ℕ, zero, suc, ◌+◌, ◌*◌, ◌<◌, ◌≤◌, Bool, true, false, if◌then◌else◌, List, [], ◌∷◌, ◌++◌, length, map, drop, get_or, Option, Result, Ok, Err, OnOk, refl, ap, sym, ◌∙◌, append_assoc, length-append, arith}
 use Rattle.std.proofs.lemmas.List.{append-nil}
 use Rattle.rsx_model.proofs.Unfold.{Each, by_children, children-map}
 use Rattle.rsx_model.specs.Region.{region_from, region_of, worker_here}
-use Rattle.rsx_model.specs.Shape.{children}
+use Rattle.rsx_model.specs.Shape.{children, nodes, sum_of}
 use Rattle.rsx_model.specs.declared.expr.Expr.{Expr}
 use Rattle.rsx_model.specs.declared.expr.Expr.TheFolds.{fold-Expr, fold_out-Expr, map-Expr}
 use Rattle.rsx_model.specs.declared.expr.Expr.TheOpen.{Expr-F}
 use Rattle.rsx_model.specs.declared.expr.Expr.TheOpen as layer
 use Rattle.rsx_model.specs.declared.expr.Expr.TheViews.{out-Expr}
+use Rattle.rsx_rooted.proofs.Leaves.{sum_front}
 use Rattle.rsx_rooted.specs.Crossings.{Placed, crossings, differ, placed, placed_beside, placed_in}
 use Rattle.rsx_tree.specs.declared.node.Node.{Node}
 use Rattle.rsx_graph_calls.specs.Senders.{HaveOneEach, Sending, all_senders, how_many, sender_over, senders_beside, senders_into, sending, sending_in}
@@ -145,3 +146,17 @@ one_each crosses r e t = λ p.
     let below : how_many (crossings crosses t.inputs) ≡ length (sending e).senders = ap how_many p.below ∙ as_many e in
     let all = length-append (sender_over r (region_of e)) (sending e).senders in
     omega (arith, root, here, below, all)
+
+-- ---- how far the walk goes down
+
+dropped_le : {A : Type 0} (f : A → ℕ) (i : ℕ) (xs : List A) → sum_of (map f (drop i xs)) ≤ sum_of (map f xs)
+dropped_le f zero xs = omega arith
+dropped_le f (suc i) [] = omega arith
+dropped_le f (suc i) (x ∷ xs) = let others = dropped_le f i xs in omega arith
+
+-- an expression of several has no more nodes than they have together
+pub input_smaller : {T : Type 0} (es : List (Expr T)) (i : ℕ) (e : Expr T) → i < length es → e ≡ get_or es i e → 2 * nodes e < 2 * sum_of (map nodes es) + 1
+input_smaller es i e within is =
+    let here = sum_front nodes es i e within is in
+    let others = dropped_le nodes i es in
+    omega arith

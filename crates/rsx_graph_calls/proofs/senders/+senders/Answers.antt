@@ -1,7 +1,7 @@
-use Rattle.std.proofs.Common.{◌∷◌, [], ◌∙◌, ap, sym}
+use Rattle.std.proofs.Common.{◌∷◌, [], ◌∙◌, ap, rules, sym}
 use Rattle.rsx_model.specs.Shape.{listed_below}
 use Rattle.rsx_types.proofs.Lists.{drop_read}
-use Rattle.rsx_graph_calls.proofs.Sent.{added_all, added_next, added_one_below, on_ok}
+use Rattle.rsx_graph_calls.proofs.Sent.{added_all, added_next, added_one_below, input_smaller, on_ok}
 use Rattle.rsx_graph_calls.proofs.senders.+senders.Goals as goal
 
 pub add_senders-returns-in-One : goal.add_senders-returns-in-One
@@ -18,3 +18,6 @@ pub add_all_senders-loop-input-preserved : goal.add_all_senders-loop-input-prese
 add_all_senders-loop-input-preserved g t c =
     let here = drop_read c.args.inputs.now c.loop-input.input-index c.input-item.result c.loop-input-test.true c.input-item.is in
     added_next c.loop-input.senders.items c.add_senders.new.senders.items _ c.args.receiver c.args.inputs.now c.loop-input.input-index c.input-item.result here c.loop-input.invariant c.in_ok-add_senders.ensures
+
+pub add_all_senders-add_senders-requires : goal.add_all_senders-add_senders-requires
+add_all_senders-add_senders-requires g t c κs within = (search (rules, input_smaller c.args.inputs.now c.loop-input.input-index c.input-item.result c.loop-input-test.true c.input-item.is), search rules)
