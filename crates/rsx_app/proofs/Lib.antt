@@ -1,0 +1,2 @@
+-- Lemmas about expressions.
+pub mod Smaller
