@@ -20,3 +20,9 @@ pump 100
 show 1
 choices 1
 check 1
+subscribe (flatMapDelayError twice 1 ((map inc)) (items 9223372036854775807 4))
+request 2 9
+pump 1000
+show 2
+choices 2
+check 2

@@ -8,8 +8,13 @@ use Rattle.rsx_types.specs.declared.signal.Signal.{Signal}
 use Rattle.rsx_types.specs.declared.signal.Signal.TheVariants.{Next, Complete, Error}
 use Rattle.rsx_types.specs.Stream.{Stream, item_then, ending_signals}
 use Rattle.rsx_values.specs.Pick.{InputLeft, Taken, is_failure, next_here, next_of, numbered, rest_of, up_to_failure}
+use Rattle.rsx_types.specs.declared.stage.Stage.{Stage}
+use Rattle.rsx_types.specs.Meaning.{Meaning}
+use Rattle.rsx_values.specs.Flat.{expanded_items, flat_lane, flat_map}
+use Rattle.rsx_values.specs.Lanes.{lanes_and_main, main_input}
 use Rattle.rsx_values.specs.Merge.{merge, merge_inputs, merged}
 use Rattle.rsx_values.proofs.OneChoice.{merge_step, next_length}
+use Rattle.rsx_values.specs.Flat.{flat_map_delay}
 use Rattle.rsx_values.specs.Delayed.{NoneFails, all_of, fails, first_cause, merge_delay, merge_delayed_inputs, merged_delayed, pick_all, rest_of_all, taken_first}
 
 -- ---- one choice
@@ -104,3 +109,17 @@ inputs_same {T} (c ∷ cs) is h = by_next (next_of c is) refl (sound_next c is h
 
 pub same_as_merge : {T : Type 0} (cs : List ℕ) (vs : List (Stream T)) → NoneFails vs → merge_delay cs vs ≡ merge cs vs
 same_as_merge cs vs h = inputs_same cs (numbered 0 vs) (sound_inputs 0 vs h)
+
+-- ---- lanes of which none fails
+
+sound_behind : {T : Type 0} (is js : List (InputLeft T)) → NoneFailing is → NoneFailing js → NoneFailing (is ++ js)
+sound_behind [] js h k = k
+sound_behind (i ∷ is) js h k = (h.0, sound_behind is js h.1 k)
+
+pub same_as_flat_map : {T : Type 0} (m : Meaning T) (f : ℕ) (gs : List (Stage T)) (cs : List ℕ) (v : Stream T) →
+    let lists = expanded_items (m.expanded f) v.items v.ending in
+    NoneFails (map (flat_lane m gs) lists.items) → fails lists.ending ≡ false → flat_map_delay m f gs cs v ≡ flat_map m f gs cs v
+same_as_flat_map m f gs cs v lanes main =
+    let lists = expanded_items (m.expanded f) v.items v.ending in
+    let vs = map (flat_lane m gs) lists.items in
+    inputs_same cs (lanes_and_main vs lists.ending) (sound_behind (numbered 0 vs) (main_input lists.ending) (sound_inputs 0 vs lanes) (sound_signals [] lists.ending main, tt))

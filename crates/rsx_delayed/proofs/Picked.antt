@@ -38,7 +38,7 @@ taken_next {T} out qs i s old new p vs =
 -- ---- the value
 
 -- an item is put out
-item_chosen : {T : Type 0} (out out' : Output T) (kept : Option Cause) (is js : List (InputLeft T)) (i : ℕ) (x : T) → out ≡ Empty → out' ≡ Waiting (Next x) → next_of i is ≡ Some (Next x, js) →
+pub item_chosen : {T : Type 0} (out out' : Output T) (kept : Option Cause) (is js : List (InputLeft T)) (i : ℕ) (x : T) → out ≡ Empty → out' ≡ Waiting (Next x) → next_of i is ≡ Some (Next x, js) →
     (further : Note) → delayed_behind out' kept js further ≡ delayed_behind out kept is (note_then (Picks (i ∷ [])) further)
 item_chosen out out' kept is js i x empty put next Nothing = refl
 item_chosen out out' kept is js i x empty put next (Ended o) = refl
@@ -60,7 +60,7 @@ ending_then false kept cs js none = refl
 ending_then true kept cs js none = last_then kept cs (merge_delayed_inputs kept cs js) ∙ ap (merge_delayed_inputs kept cs) (sym (none refl))
 
 -- the ending of an input puts nothing out, or the ending where it was the last; where it is the first failure, it is kept
-ending_chosen : {T : Type 0} (out out' : Output T) (kept now : Option Cause) (is js : List (InputLeft T)) (i : ℕ) (b : Bool) → out ≡ Empty → out' ≡ ending_out b now → (b ≡ true → js ≡ []) →
+pub ending_chosen : {T : Type 0} (out out' : Output T) (kept now : Option Cause) (is js : List (InputLeft T)) (i : ℕ) (b : Bool) → out ≡ Empty → out' ≡ ending_out b now → (b ≡ true → js ≡ []) →
     ((cs : List ℕ) → merge_delayed_inputs kept (i ∷ cs) is ≡ merge_delayed_inputs now cs js) →
     (further : Note) → delayed_behind out' now js further ≡ delayed_behind out kept is (note_then (Picks (i ∷ [])) further)
 ending_chosen out out' kept now is js i b empty put none step Nothing = refl
@@ -136,7 +136,7 @@ item_counts old new i x q p k ins out =
     let here_still : is_gone p ≡ false = ap is_gone k.state ∙ not_gone_by q.tail q.queue.items (Next x) k.signal in
     going_on old new i (Next x) q p k ins (ap is_over out) (not_gone_at old.inputs.items i p k.there here_still)
 
-last_ends : (T : Type 0) (kept : Option Cause) → has_ending (Waiting (last_signal {T = T} kept)) ≡ true
+pub last_ends : (T : Type 0) (kept : Option Cause) → has_ending (Waiting (last_signal {T = T} kept)) ≡ true
 last_ends T None = refl
 last_ends T (Some c) = refl
 

@@ -12,7 +12,7 @@ use Rattle.rsx_delayed.specs.MergeDelay.{delayed_behind, delayed_of}
 use Rattle.rsx_delayed.specs.Rest.{all_values, kept_behind, left_behind, value_before, values_left}
 
 -- all of a value, and then the others
-value_taken : {T : Type 0} (n left : ℕ) (kept : Option Cause) (xs : List T) (e : Ending) (rest : List (Taken T)) →
+pub value_taken : {T : Type 0} (n left : ℕ) (kept : Option Cause) (xs : List T) (e : Ending) (rest : List (Taken T)) →
     merged_delayed left kept (all_of n (map Next xs ++ ending_signals e) rest) ≡ items_then xs (merged_delayed (left_behind left e) (kept_behind kept e) rest)
 value_taken n left kept [] Open rest = refl
 value_taken n left kept [] Done rest = refl

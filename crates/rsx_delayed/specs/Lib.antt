@@ -1,4 +1,8 @@
 -- Definitions that contracts cite.
+pub mod FlatDelayed
+pub mod FlatMapDelay
+pub mod FlatMapDelayLaws
+pub mod FlatWorked
 pub mod MergeDelay
 pub mod MergeDelayLaws
 pub mod Rest

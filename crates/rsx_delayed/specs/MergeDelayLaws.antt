@@ -13,7 +13,7 @@ use Rattle.rsx_delayed.specs.MergeDelay.{delayed_behind, delayed_comes_out, dela
 -- ---- once it has ended, what comes in doesn't matter
 
 -- an ending that waits cuts off the inputs
-cut_off : {T : Type 0} (out : Output T) (kept : Option Cause) (is js : List (InputLeft T)) (further : Note) → has_ending out ≡ true → delayed_behind out kept is further ≡ delayed_behind out kept js further
+pub cut_off : {T : Type 0} (out : Output T) (kept : Option Cause) (is js : List (InputLeft T)) (further : Note) → has_ending out ≡ true → delayed_behind out kept is further ≡ delayed_behind out kept js further
 cut_off out kept is js further e =
     picked_same further (λ cs. output_then out (merge_delayed_inputs kept cs is) (merge_delayed_inputs None cs [])) (λ cs. output_then out (merge_delayed_inputs kept cs js) (merge_delayed_inputs None cs []))
     (λ cs. ended_out out (merge_delayed_inputs kept cs is) (merge_delayed_inputs kept cs js) (merge_delayed_inputs None cs []) e)

@@ -1,5 +1,7 @@
 #![tactic(auto)]
-//! The node `mergeDelayError`: the merge of several inputs that delays their failures.
+//! The nodes `mergeDelayError` and `flatMapDelayError`: the merge of several inputs, and `flatMap`, that delay failures.
+//!
+//! # mergeDelayError
 //!
 //! It is `merge` but for failures. A failure that is picked ends its input alone. It puts nothing out, the other inputs go on,
 //! and choices may follow it. Once the endings of all inputs were picked, the failure that was picked first goes out, or the
@@ -8,9 +10,23 @@
 //! [`MergeDelayNode`] takes the signals of its inputs in an order that is chosen while it runs, and records that order: under the
 //! recorded choices what comes out of it is `merge_delay` of what comes in. That is the definition in `specs/Delayed` of
 //! `rsx_values`; `law` says what it comes to. `specs/MergeDelay` describes the node, and `specs/MergeDelayLaws` has its laws.
+//!
+//! # flatMapDelayError
+//!
+//! It is `flatMap` but for failures. A failure that is picked ends its lane alone, and Main's failure, a fault of the expansion too,
+//! ends Main alone. Once the endings of all lanes and of Main were picked, the failure that was picked first goes out, or the
+//! completion where none was.
+//!
+//! [`FlatMapDelayNode`] holds what the node `flatMap` holds, and the failure that was picked first. The definition is
+//! `flat_map_delay` in `specs/Flat` of `rsx_values`; `flat_law` says what it comes to. `specs/FlatMapDelay` describes the node, and
+//! `specs/FlatMapDelayLaws` has its laws.
 
+mod flat;
+pub mod flat_law;
+pub mod flat_map_delay_node;
 pub mod law;
 pub mod merge_delay_node;
 mod remaining;
 
+pub use flat_map_delay_node::FlatMapDelayNode;
 pub use merge_delay_node::MergeDelayNode;

@@ -35,7 +35,7 @@ pub struct MergeDelayNode<T> {
 }
 
 /// The ending once all inputs have ended, where this failure was picked first.
-fn last_signal<T: Drop>(kept: Option<Cause>) -> Signal<T>
+pub(crate) fn last_signal<T: Drop>(kept: Option<Cause>) -> Signal<T>
     ensures { result ≡ last_signal kept }
 {
     match kept {

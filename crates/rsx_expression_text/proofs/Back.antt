@@ -13,8 +13,8 @@ use Rattle.rsx_script.specs.declared.words.LineRefusal.TheVariants.{TooLong}
 use Rattle.rsx_script.specs.Words.{column_of, is_separator}
 use Rattle.rsx_script.specs.Numbers.{u8_of, u32_of, u64_of, signed_of}
 use Rattle.rsx_script.specs.Reading.{Left, ◌>>=◌, left_at, name_at, number_at, opening_at, closing_at, is_opening_next}
-use Rattle.rsx_script.specs.Orders.{Tree, Trees, items, range, hub, plain, concat, merge, merge_delay, zip, latest, group, window, flat, on, none, first}
-use Rattle.rsx_script.specs.Expressions.{stage_at, range_at, hub_at, group_at, window_at, flat_at, on_at, one_input_at, over_one_at, operator_at, expression_at, inputs_at}
+use Rattle.rsx_script.specs.Orders.{Tree, Trees, items, range, hub, plain, concat, merge, merge_delay, zip, latest, group, window, flat, flat_delay, on, none, first}
+use Rattle.rsx_script.specs.Expressions.{stage_at, range_at, hub_at, group_at, window_at, flat_at, flat_delay_at, on_at, one_input_at, over_one_at, operator_at, expression_at, inputs_at}
 use Rattle.rsx_script.specs.Commands.{expression_of_line, alone_at}
 use Rattle.rsx_script.proofs.Runs.{is_opening_at}
 use Rattle.rsx_expression_text.specs.Names.{name_of, function_text}
@@ -62,6 +62,13 @@ flat_is : (f c : ℕ) (gs : List (Stage Val)) (most end : ℕ) (r : List ℕ) �
     → flat_at most (left_at end (32 ∷ (function_text for.Expand f ++ (32 ∷ (decimal c ++ (32 ∷ put_chain gs r)))))) ≡ Ok (flat f c gs, left_at end r)
 unfolding flat_at
 flat_is f c gs most end r h j k l =
+    rw (function_is for.Expand f end 32 (decimal c ++ (32 ∷ put_chain gs r)) h refl)
+    (rw (u64_is c end 32 (put_chain gs r) j refl) (rw (chain_is gs most end r k l) refl))
+
+flat_delay_is : (f c : ℕ) (gs : List (Stage Val)) (most end : ℕ) (r : List ℕ) → IsSome (name_of for.Expand f) → c < 2 ^ 64 → AreLineStages gs → length gs < most
+    → flat_delay_at most (left_at end (32 ∷ (function_text for.Expand f ++ (32 ∷ (decimal c ++ (32 ∷ put_chain gs r)))))) ≡ Ok (flat_delay f c gs, left_at end r)
+unfolding flat_delay_at
+flat_delay_is f c gs most end r h j k l =
     rw (function_is for.Expand f end 32 (decimal c ++ (32 ∷ put_chain gs r)) h refl)
     (rw (u64_is c end 32 (put_chain gs r) j refl) (rw (chain_is gs most end r k l) refl))
 
@@ -115,6 +122,7 @@ begins (latest p ts) end r = is_opening_at end 40 _ refl
 begins (group f gs t) end r = is_opening_at end 40 _ refl
 begins (window n gs t) end r = is_opening_at end 40 _ refl
 begins (flat f c gs t) end r = is_opening_at end 40 _ refl
+begins (flat_delay f c gs t) end r = is_opening_at end 40 _ refl
 begins (on k p t) end r = is_opening_at end 40 _ refl
 
 -- the last input, and one with others behind it
@@ -183,6 +191,10 @@ flat_case : (read : Reader) (most column : ℕ) (l : Left) → operator_at read 
 unfolding operator_at
 flat_case read most column l = refl
 
+flat_delay_case : (read : Reader) (most column : ℕ) (l : Left) → operator_at read most column (codes "flatMapDelayError") l ≡ over_one_at read most column (codes "flatMapDelayError") l
+unfolding operator_at
+flat_delay_case read most column l = refl
+
 on_case : (read : Reader) (most column : ℕ) (l : Left) → operator_at read most column (codes "publishOn") l ≡ over_one_at read most column (codes "publishOn") l
 unfolding operator_at
 on_case read most column l = refl
@@ -198,6 +210,10 @@ is_window most column l = refl
 is_flat : (most column : ℕ) (l : Left) → one_input_at most column (codes "flatMap") l ≡ flat_at most l
 unfolding one_input_at
 is_flat most column l = refl
+
+is_flat_delay : (most column : ℕ) (l : Left) → one_input_at most column (codes "flatMapDelayError") l ≡ flat_delay_at most l
+unfolding one_input_at
+is_flat_delay most column l = refl
 
 is_on : (most column : ℕ) (l : Left) → one_input_at most column (codes "publishOn") l ≡ on_at l
 unfolding one_input_at
@@ -270,6 +286,7 @@ some_weight (latest p ts) = omega arith
 some_weight (group f gs t) = omega arith
 some_weight (window n gs t) = omega arith
 some_weight (flat f c gs t) = omega arith
+some_weight (flat_delay f c gs t) = omega arith
 some_weight (on k p t) = omega arith
 
 mutual
@@ -306,6 +323,12 @@ mutual
       over_case (suc most) end 32 0 (codes "flatMap") (function_text for.Expand f ++ (32 ∷ (decimal c ++ (32 ∷ put_chain gs (32 ∷ put_tree t (41 ∷ r)))))) (flat f c gs) t r (word_of (codes "flatMap") refl) refl
       (flat_case (expression_at (suc most)) (suc most) _ _)
       (is_flat (suc most) _ _ ∙ flat_is f c gs (suc most) end (32 ∷ put_tree t (41 ∷ r)) h.0 h.1 h.2 (omega arith))
+      (tree_is t most end (41 ∷ r) h.3 (omega arith))
+  tree_is (flat_delay f c gs t) zero end r h k = absurd (omega (arith, some_weight t))
+  tree_is (flat_delay f c gs t) (suc most) end r h k =
+      over_case (suc most) end 32 0 (codes "flatMapDelayError") (function_text for.Expand f ++ (32 ∷ (decimal c ++ (32 ∷ put_chain gs (32 ∷ put_tree t (41 ∷ r)))))) (flat_delay f c gs) t r (word_of (codes "flatMapDelayError") refl) refl
+      (flat_delay_case (expression_at (suc most)) (suc most) _ _)
+      (is_flat_delay (suc most) _ _ ∙ flat_delay_is f c gs (suc most) end (32 ∷ put_tree t (41 ∷ r)) h.0 h.1 h.2 (omega arith))
       (tree_is t most end (41 ∷ r) h.3 (omega arith))
   tree_is (on i p t) zero end r h k = absurd (omega (arith, some_weight t))
   tree_is (on i p t) (suc most) end r h k =

@@ -3,7 +3,7 @@ use Rattle.std.specs.Prelude.{ℕ, zero, suc, ◌+◌, List, [], ◌++◌, codes
 use Rattle.std.specs.Fmt.{decimal, signed_decimal}
 use Rattle.rsx_demo.specs.declared.names.Role.TheVariants as for
 use Rattle.rsx_script.specs.Answers.{items_text}
-use Rattle.rsx_script.specs.Orders.{Tree, Trees, items, range, hub, plain, concat, merge, merge_delay, zip, latest, group, window, flat, on, none, first}
+use Rattle.rsx_script.specs.Orders.{Tree, Trees, items, range, hub, plain, concat, merge, merge_delay, zip, latest, group, window, flat, flat_delay, on, none, first}
 use Rattle.rsx_expression_text.specs.Names.{function_text}
 use Rattle.rsx_expression_text.specs.Text.{chain_text, stage_text}
 
@@ -21,6 +21,7 @@ operator_text (latest p ts) = codes "combineLatest " ++ decimal p
 operator_text (group f gs t) = codes "groupBy " ++ (function_text for.Key f ++ (codes " " ++ chain_text gs))
 operator_text (window n gs t) = codes "window " ++ (decimal n ++ (codes " " ++ chain_text gs))
 operator_text (flat f c gs t) = codes "flatMap " ++ (function_text for.Expand f ++ (codes " " ++ (decimal c ++ (codes " " ++ chain_text gs))))
+operator_text (flat_delay f c gs t) = codes "flatMapDelayError " ++ (function_text for.Expand f ++ (codes " " ++ (decimal c ++ (codes " " ++ chain_text gs))))
 operator_text (on k p t) = codes "publishOn " ++ (decimal k ++ (codes " " ++ decimal p))
 
 -- two spaces for each level
@@ -47,6 +48,7 @@ abbrev mutual
   nodes (group f gs t) = 1 + nodes t
   nodes (window n gs t) = 1 + nodes t
   nodes (flat f c gs t) = 1 + nodes t
+  nodes (flat_delay f c gs t) = 1 + nodes t
   nodes (on k p t) = 1 + nodes t
 
   pub all_nodes : Trees → ℕ
@@ -68,6 +70,7 @@ abbrev mutual
   rows_text depth number (group f gs t) = row_text depth number (group f gs t) ++ rows_text (depth + 1) (number + 1) t
   rows_text depth number (window n gs t) = row_text depth number (window n gs t) ++ rows_text (depth + 1) (number + 1) t
   rows_text depth number (flat f c gs t) = row_text depth number (flat f c gs t) ++ rows_text (depth + 1) (number + 1) t
+  rows_text depth number (flat_delay f c gs t) = row_text depth number (flat_delay f c gs t) ++ rows_text (depth + 1) (number + 1) t
   rows_text depth number (on k p t) = row_text depth number (on k p t) ++ rows_text (depth + 1) (number + 1) t
 
   pub all_rows_text : ℕ → ℕ → Trees → List ℕ

@@ -10,7 +10,7 @@ use Rattle.rsx_demo.specs.declared.names.Role.TheVariants as for
 use Rattle.rsx_demo.specs.Texts.{item_text}
 use Rattle.rsx_script.specs.Commands.{expression_of_line}
 use Rattle.rsx_script.specs.Answers.{items_text}
-use Rattle.rsx_script.specs.Orders.{Tree, Trees, items, range, hub, plain, concat, merge, merge_delay, zip, latest, group, window, flat, on, none, first}
+use Rattle.rsx_script.specs.Orders.{Tree, Trees, items, range, hub, plain, concat, merge, merge_delay, zip, latest, group, window, flat, flat_delay, on, none, first}
 use Rattle.rsx_expression_text.specs.Names.{name_of, function_text}
 
 -- a plain operator, without its parentheses and its input
@@ -46,6 +46,7 @@ abbrev mutual
   tree_text (group f gs t) = codes "(groupBy " ++ (function_text for.Key f ++ (codes " " ++ (chain_text gs ++ (codes " " ++ (tree_text t ++ codes ")")))))
   tree_text (window n gs t) = codes "(window " ++ (decimal n ++ (codes " " ++ (chain_text gs ++ (codes " " ++ (tree_text t ++ codes ")")))))
   tree_text (flat f c gs t) = codes "(flatMap " ++ (function_text for.Expand f ++ (codes " " ++ (decimal c ++ (codes " " ++ (chain_text gs ++ (codes " " ++ (tree_text t ++ codes ")")))))))
+  tree_text (flat_delay f c gs t) = codes "(flatMapDelayError " ++ (function_text for.Expand f ++ (codes " " ++ (decimal c ++ (codes " " ++ (chain_text gs ++ (codes " " ++ (tree_text t ++ codes ")")))))))
   tree_text (on k p t) = codes "(publishOn " ++ (decimal k ++ (codes " " ++ (decimal p ++ (codes " " ++ (tree_text t ++ codes ")")))))
 
   pub trees_text : Trees → List ℕ
@@ -96,6 +97,7 @@ abbrev mutual
   IsLine (group f gs t) = IsSome (name_of for.Key f) × AreLineStages gs × IsLine t
   IsLine (window n gs t) = (n < 2 ^ 64) × AreLineStages gs × IsLine t
   IsLine (flat f c gs t) = IsSome (name_of for.Expand f) × (c < 2 ^ 64) × AreLineStages gs × IsLine t
+  IsLine (flat_delay f c gs t) = IsSome (name_of for.Expand f) × (c < 2 ^ 64) × AreLineStages gs × IsLine t
   IsLine (on k p t) = (k < 2 ^ 8) × (p < 2 ^ 64) × IsLine t
 
   pub AreLines : Trees → Type 0

@@ -60,6 +60,7 @@ fn add_tree(
         Expr::Group(_, _, below) => add_tree(depth + 1, number + 1, below, text),
         Expr::Window(_, _, below) => add_tree(depth + 1, number + 1, below, text),
         Expr::Flat(_, _, _, below) => add_tree(depth + 1, number + 1, below, text),
+        Expr::FlatDelay(_, _, _, below) => add_tree(depth + 1, number + 1, below, text),
         Expr::On(_, _, below) => add_tree(depth + 1, number + 1, below, text),
     }
 }
@@ -145,6 +146,14 @@ impl fmt::Display for Operator<'_> {
             Expr::Flat(expand, concurrency, stages, _) => {
                 let expand = Named(Role::Expand, *expand);
                 write!(f, "flatMap {expand} {concurrency} ({})", Chain(stages))
+            }
+            Expr::FlatDelay(expand, concurrency, stages, _) => {
+                let expand = Named(Role::Expand, *expand);
+                write!(
+                    f,
+                    "flatMapDelayError {expand} {concurrency} ({})",
+                    Chain(stages)
+                )
             }
             Expr::On(worker, prefetch, _) => write!(f, "publishOn {worker} {prefetch}"),
         }

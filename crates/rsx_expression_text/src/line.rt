@@ -87,6 +87,16 @@ fn write_tree<W: fmt::Write>(f: &mut fmt::Formatter<W>, expr: &Expr<Val>) -> fmt
             write_tree(f, below)?;
             f.write_str(")")
         }
+        Expr::FlatDelay(expand, concurrency, stages, below) => {
+            let expand = Named(Role::Expand, *expand);
+            write!(
+                f,
+                "(flatMapDelayError {expand} {concurrency} ({}) ",
+                Chain(stages)
+            )?;
+            write_tree(f, below)?;
+            f.write_str(")")
+        }
         Expr::On(worker, prefetch, below) => {
             write!(f, "(publishOn {worker} {prefetch} ")?;
             write_tree(f, below)?;

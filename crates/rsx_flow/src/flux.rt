@@ -4,7 +4,7 @@ ghost use Rattle.std.specs.Prelude.{◌≡◌, [], Some, None, MatchResult};
 ghost use Rattle.rsx_flow.specs.declared.stages.Stages.{Stages as StagesSpec};
 ghost use Rattle.rsx_types.specs.declared.stage.Stage.TheVariants.{Map, Filter, Take, Scan, Buffer, Distinct};
 ghost use Rattle.rsx_flow.specs.Built.{built, chain};
-ghost use Rattle.rsx_flow.specs.Flow.{IsBoxed, Makes, both, boxed_of, made_of, stages_of, plain as over_plain, group as over_group, window as over_window, flat as over_flat, on as over_on};
+ghost use Rattle.rsx_flow.specs.Flow.{IsBoxed, Makes, both, boxed_of, made_of, stages_of, plain as over_plain, group as over_group, window as over_window, flat as over_flat, flat_delay as over_flat_delay, on as over_on};
 
 use crate::names::{Concurrency, ExpandFn, FoldFn, KeyFn, MapFn, Prefetch, TestFn, Worker};
 use crate::stages::Stages;
@@ -117,6 +117,25 @@ impl<T: Drop> Flux<T> {
         Flux::new(alloc, flat_of(self.boxed(), f.0, concurrency.0, stages))
     }
 
+    /// As [`flat_map`](Flux::flat_map), but a failure ends its list alone: the first one taken goes out once all lists and the input
+    /// have ended.
+    pub fn flat_map_delay_error<F: FnOnce(Stages<T>) -> Stages<T>>(
+        self,
+        f: ExpandFn,
+        concurrency: Concurrency,
+        lane: F,
+    ) -> Flux<T>
+        requires { F.IsAlwaysCallable lane }
+        ensures { (first lanes : StagesSpec T) × (chain first ≡ Some []) × F.post lane first lanes × Makes (λ p. over_flat_delay f.0 concurrency.0 p.1 p.0) (both (built self) (chain lanes)) (built result) }
+    {
+        let alloc = self.alloc;
+        let stages = lane(Stages::new(alloc)).into_vec();
+        Flux::new(
+            alloc,
+            flat_delay_of(self.boxed(), f.0, concurrency.0, stages),
+        )
+    }
+
     /// The same items from a queue of this room; the worker of this number is to serve what stands over it.
     pub fn publish_on(self, worker: Worker, prefetch: Prefetch) -> Flux<T>
         ensures { Makes (over_on worker.0 prefetch.0) (built self) (built result) }
@@ -184,6 +203,18 @@ fn flat_of<T: Drop>(
     ensures { Makes (λ p. over_flat expand concurrency p.1 p.0) (both (boxed_of below) (stages_of stages)) (made_of result) }
 {
     Ok(Expr::Flat(expand, concurrency, stages?, below?))
+}
+
+/// A `flatMapDelayError` over what was built.
+fn flat_delay_of<T: Drop>(
+    below: Result<Box<Expr<T>>, NoMemory>,
+    expand: u16,
+    concurrency: u64,
+    stages: Result<Vec<Stage<T>>, NoMemory>,
+) -> Result<Expr<T>, NoMemory>
+    ensures { Makes (λ p. over_flat_delay expand concurrency p.1 p.0) (both (boxed_of below) (stages_of stages)) (made_of result) }
+{
+    Ok(Expr::FlatDelay(expand, concurrency, stages?, below?))
 }
 
 /// A `publishOn` over what was built.

@@ -23,6 +23,7 @@ reads_here-map n h (layer.Latest p v) = refl
 reads_here-map n h (layer.Group f gs b) = refl
 reads_here-map n h (layer.Window k gs b) = refl
 reads_here-map n h (layer.Flat f c gs b) = refl
+reads_here-map n h (layer.FlatDelay f c gs b) = refl
 reads_here-map n h (layer.On k p b) = refl
 
 leaves_out : {T : Type 0} (n : ℕ) (e : Expr T) → leaves_on n e ≡ reads_here n (out-Expr T e) + sum_of (map (leaves_on n) (children (out-Expr T e)))
@@ -58,6 +59,7 @@ own_none n (layer.Latest p v) h = refl
 own_none n (layer.Group f gs b) h = refl
 own_none n (layer.Window k gs b) h = refl
 own_none n (layer.Flat f c gs b) h = refl
+own_none n (layer.FlatDelay f c gs b) h = refl
 own_none n (layer.On w p b) h = refl
 
 all_none : {T : Type 0} (n : ℕ) (es : List (Expr T)) → Each (λ e. first_fault n e ≡ None → leaves_on n e ≡ 0) es → first_of (map (first_fault n) es) ≡ None → sum_of (map (leaves_on n) es) ≡ 0

@@ -2,9 +2,9 @@
 use Rattle.std.specs.Prelude.{IfSome, ⊤}
 use Rattle.std.proofs.Common.{◌≡◌, ap, refl, ℕ, false, Option, Some, None}
 use Rattle.rsx_sources.specs.Prelude.{Meaning, Nothing, Signal, Next, Complete, Error, CountsIn, CountsOut, CountsStep, IsItemOut, IsPassed, IsTakenIn, IsReadOn, IsPopped, ItemsLeft, items_comes_out, items_popped, items_waiting, range_comes_out, range_popped, range_waiting}
-use Rattle.rsx_kinds.specs.Prelude.{AnyNode, CountsItems, Declined, FlatMapNode, GroupByNode, IsGoing, IsPoppedGroup, IsPoppedWindow, Item, Kept, LeafState, Passed, PlainNode, RangeNode, SeveralNode, SourceNode, WindowNode, any_comes_out, any_counted, any_done, any_ended, any_popped, any_recorded, any_takes, any_waiting, flat_comes_out, flat_done, flat_ended, flat_popped, flat_recorded, flat_takes, flat_waiting, group_comes_out, group_counted, group_done, group_ended, group_recorded, group_takes, group_waiting, leaf_comes_out, leaf_counted, leaf_popped, leaf_reads, leaf_waiting, plain_comes_out, plain_counted, plain_ended, plain_popped, plain_takes, plain_waiting, publish_comes_out, publish_counted, publish_ended, publish_popped, publish_takes, publish_waiting, several_comes_out, several_counted, several_done, several_ended, several_popped, several_recorded, several_takes, several_waiting, source_comes_out, source_counted, source_popped, source_reads, source_waiting, window_comes_out, window_done, window_ended, window_takes, window_waiting}
+use Rattle.rsx_kinds.specs.Prelude.{AnyNode, CountsItems, Declined, FlatMapDelayNode, FlatMapNode, GroupByNode, IsGoing, IsPoppedGroup, IsPoppedWindow, Item, Kept, LeafState, Passed, PlainNode, RangeNode, SeveralNode, SourceNode, WindowNode, any_comes_out, any_counted, any_done, any_ended, any_popped, any_recorded, any_takes, any_waiting, flat_comes_out, flat_delay_comes_out, flat_delay_counted, flat_delay_done, flat_delay_ended, flat_delay_popped, flat_delay_recorded, flat_delay_takes, flat_delay_waiting, flat_done, flat_ended, flat_popped, flat_recorded, flat_takes, flat_waiting, group_comes_out, group_counted, group_done, group_ended, group_recorded, group_takes, group_waiting, leaf_comes_out, leaf_counted, leaf_popped, leaf_reads, leaf_waiting, plain_comes_out, plain_counted, plain_ended, plain_popped, plain_takes, plain_waiting, publish_comes_out, publish_counted, publish_ended, publish_popped, publish_takes, publish_waiting, several_comes_out, several_counted, several_done, several_ended, several_popped, several_recorded, several_takes, several_waiting, source_comes_out, source_counted, source_popped, source_reads, source_waiting, window_comes_out, window_done, window_ended, window_takes, window_waiting}
 use Rattle.rsx_merging.specs.declared.publish_on_node.PublishOnNode.{PublishOnNode}
-use Rattle.rsx_kinds.specs.declared.any_node.AnyNode.TheVariants.{Source, Plain, Several, PublishOn, Window, FlatMap, GroupBy}
+use Rattle.rsx_kinds.specs.declared.any_node.AnyNode.TheVariants.{Source, Plain, Several, PublishOn, Window, FlatMap, FlatMapDelay, GroupBy}
 use Rattle.rsx_kinds.specs.declared.source_node.SourceNode.TheVariants.{Items, Range, Hub}
 
 -- ---- a source
@@ -108,6 +108,10 @@ pub popped_flat_map : {T : Type 0} (m : Meaning T) (old new : FlatMapNode T) (o 
 popped_flat_map m old new None h = (h.0, ap FlatMap h.1)
 popped_flat_map m old new (Some s) h = h
 
+pub popped_flat_map_delay : {T : Type 0} (m : Meaning T) (old new : FlatMapDelayNode T) (o : Option (Signal T)) → IsPopped (flat_delay_comes_out m) flat_delay_popped (flat_delay_waiting m old) old o new → IsPopped (any_comes_out m) any_popped (flat_delay_waiting m old) (FlatMapDelay old) o (FlatMapDelay new)
+popped_flat_map_delay m old new None h = (h.0, ap FlatMapDelay h.1)
+popped_flat_map_delay m old new (Some s) h = h
+
 pub popped_group_by : {T : Type 0} (m : Meaning T) (old new : GroupByNode T) (o : Option (Signal T)) → IsPopped (group_comes_out m) IsPoppedGroup (group_waiting m old) old o new → IsPopped (any_comes_out m) any_popped (group_waiting m old) (GroupBy old) o (GroupBy new)
 popped_group_by m old new None h = (h.0, ap GroupBy h.1)
 popped_group_by m old new (Some s) h = h
@@ -145,6 +149,12 @@ counted_flat_map old new (Some (Next x)) h = h
 counted_flat_map old new (Some Complete) h = tt
 counted_flat_map old new (Some (Error c)) h = tt
 
+pub counted_flat_map_delay : {T : Type 0} (old new : FlatMapDelayNode T) (o : Option (Signal T)) → CountsOut flat_delay_counted flat_delay_ended flat_delay_done old o new → CountsOut any_counted any_ended any_done (FlatMapDelay old) o (FlatMapDelay new)
+counted_flat_map_delay old new None h = tt
+counted_flat_map_delay old new (Some (Next x)) h = h
+counted_flat_map_delay old new (Some Complete) h = tt
+counted_flat_map_delay old new (Some (Error c)) h = tt
+
 pub counted_group_by : {T : Type 0} (old new : GroupByNode T) (o : Option (Signal T)) → CountsOut group_counted group_ended group_done old o new → CountsOut any_counted any_ended any_done (GroupBy old) o (GroupBy new)
 counted_group_by old new None h = tt
 counted_group_by old new (Some (Next x)) h = h
@@ -166,6 +176,9 @@ taken_window old new i s h = record { stays_ended = h.stays_ended; counts = h.co
 pub taken_flat_map : {T : Type 0} (old new : FlatMapNode T) (i : ℕ) (s : Signal T) → CountsIn IsGoing flat_ended flat_done old i s new → CountsIn any_counted any_ended any_done (FlatMap old) i s (FlatMap new)
 taken_flat_map old new i s h = record { stays_ended = h.stays_ended; counts = h.counts; stays_done = h.stays_done; is_done = h.is_done }
 
+pub taken_flat_map_delay : {T : Type 0} (old new : FlatMapDelayNode T) (i : ℕ) (s : Signal T) → CountsIn flat_delay_counted flat_delay_ended flat_delay_done old i s new → CountsIn any_counted any_ended any_done (FlatMapDelay old) i s (FlatMapDelay new)
+taken_flat_map_delay old new i s h = record { stays_ended = h.stays_ended; counts = h.counts; stays_done = h.stays_done; is_done = h.is_done }
+
 pub taken_group_by : {T : Type 0} (old new : GroupByNode T) (i : ℕ) (s : Signal T) → CountsIn group_counted group_ended group_done old i s new → CountsIn any_counted any_ended any_done (GroupBy old) i s (GroupBy new)
 taken_group_by old new i s h = record { stays_ended = h.stays_ended; counts = h.counts; stays_done = h.stays_done; is_done = h.is_done }
 
@@ -174,6 +187,9 @@ stepped_several old new h = record { stays_ended = h.stays_ended; counts = h.cou
 
 pub stepped_flat_map : {T : Type 0} (old new : FlatMapNode T) → CountsStep IsGoing flat_ended flat_done old new → CountsStep any_counted any_ended any_done (FlatMap old) (FlatMap new)
 stepped_flat_map old new h = record { stays_ended = h.stays_ended; counts = h.counts; stays_done = h.stays_done }
+
+pub stepped_flat_map_delay : {T : Type 0} (old new : FlatMapDelayNode T) → CountsStep flat_delay_counted flat_delay_ended flat_delay_done old new → CountsStep any_counted any_ended any_done (FlatMapDelay old) (FlatMapDelay new)
+stepped_flat_map_delay old new h = record { stays_ended = h.stays_ended; counts = h.counts; stays_done = h.stays_done }
 
 pub stepped_group_by : {T : Type 0} (old new : GroupByNode T) → CountsStep group_counted group_ended group_done old new → CountsStep any_counted any_ended any_done (GroupBy old) (GroupBy new)
 stepped_group_by old new h = record { stays_ended = h.stays_ended; counts = h.counts; stays_done = h.stays_done }
@@ -201,6 +217,10 @@ returned_window before s n n' h k = absurd h
 pub returned_flat_map : {T : Type 0} (before : AnyNode T) (s : Signal T) (n n' : FlatMapNode T) → any_popped before s (FlatMap n) → ((b : FlatMapNode T) → flat_popped b s n → n' ≡ b) → FlatMap n' ≡ before
 returned_flat_map (FlatMap a) s n n' h k = ap FlatMap (k a h)
 returned_flat_map before s n n' h k = absurd h
+
+pub returned_flat_map_delay : {T : Type 0} (before : AnyNode T) (s : Signal T) (n n' : FlatMapDelayNode T) → any_popped before s (FlatMapDelay n) → ((b : FlatMapDelayNode T) → flat_delay_popped b s n → n' ≡ b) → FlatMapDelay n' ≡ before
+returned_flat_map_delay (FlatMapDelay a) s n n' h k = ap FlatMapDelay (k a h)
+returned_flat_map_delay before s n n' h k = absurd h
 
 pub returned_group_by : {T : Type 0} (before : AnyNode T) (s : Signal T) (n n' : GroupByNode T) → any_popped before s (GroupBy n) → ((b : GroupByNode T) → IsPoppedGroup b s n → n' ≡ b) → GroupBy n' ≡ before
 returned_group_by (GroupBy a) s n n' h k = ap GroupBy (k a h)
@@ -281,6 +301,10 @@ pub item_out_flat_map : {T : Type 0} (m : Meaning T) (old new : FlatMapNode T) (
 item_out_flat_map m old new None h = h
 item_out_flat_map m old new (Some x) h = record { waited = h.waited; popped_out = h.popped_out; value = h.value; notes = h.notes; counts = h.counts }
 
+pub item_out_flat_map_delay : {T : Type 0} (m : Meaning T) (old new : FlatMapDelayNode T) (o : Option T) → IfSome o (λ x. IsItemOut (flat_delay_comes_out m) (flat_delay_waiting m) flat_delay_popped flat_delay_recorded flat_delay_counted flat_delay_ended flat_delay_done old x new) → IfSome o (λ x. IsOutAny m (FlatMapDelay old) x (FlatMapDelay new))
+item_out_flat_map_delay m old new None h = h
+item_out_flat_map_delay m old new (Some x) h = record { waited = h.waited; popped_out = h.popped_out; value = h.value; notes = h.notes; counts = h.counts }
+
 pub item_out_group_by : {T : Type 0} (m : Meaning T) (old new : GroupByNode T) (o : Option T) → IfSome o (λ x. IsItemOut (group_comes_out m) (group_waiting m) IsPoppedGroup group_recorded group_counted group_ended group_done old x new) → IfSome o (λ x. IsOutAny m (GroupBy old) x (GroupBy new))
 item_out_group_by m old new None h = h
 item_out_group_by m old new (Some x) h = record { waited = h.waited; popped_out = h.popped_out; value = h.value; notes = h.notes; counts = h.counts }
@@ -288,6 +312,10 @@ item_out_group_by m old new (Some x) h = record { waited = h.waited; popped_out 
 in_flat_map : {T : Type 0} (m : Meaning T) (old new : FlatMapNode T) (i : ℕ) (s : Signal T) → IsTakenIn (flat_comes_out m) flat_takes flat_recorded IsGoing flat_ended flat_done old i s new →
     IsTakenIn (any_comes_out m) any_takes any_recorded any_counted any_ended any_done (FlatMap old) i s (FlatMap new)
 in_flat_map m old new i s h = record { enabled = h.enabled; value = h.value; notes = h.notes; counts = taken_flat_map old new i s h.counts; goes_on = h.goes_on }
+
+in_flat_map_delay : {T : Type 0} (m : Meaning T) (old new : FlatMapDelayNode T) (i : ℕ) (s : Signal T) → IsTakenIn (flat_delay_comes_out m) flat_delay_takes flat_delay_recorded flat_delay_counted flat_delay_ended flat_delay_done old i s new →
+    IsTakenIn (any_comes_out m) any_takes any_recorded any_counted any_ended any_done (FlatMapDelay old) i s (FlatMapDelay new)
+in_flat_map_delay m old new i s h = record { enabled = h.enabled; value = h.value; notes = h.notes; counts = taken_flat_map_delay old new i s h.counts; goes_on = h.goes_on }
 
 in_group_by : {T : Type 0} (m : Meaning T) (old new : GroupByNode T) (i : ℕ) (s : Signal T) → IsTakenIn (group_comes_out m) (λ n j f. group_takes n j) group_recorded group_counted group_ended group_done old i s new →
     IsTakenIn (any_comes_out m) any_takes any_recorded any_counted any_ended any_done (GroupBy old) i s (GroupBy new)
@@ -298,6 +326,12 @@ pub passed_flat_map : {T : Type 0} (m : Meaning T) (old new : FlatMapNode T) (i 
 passed_flat_map m old new i x (Item y) h = (FlatMap h.0, in_flat_map m old h.0 i (Next x) h.1, item_out_flat_map m h.0 new (Some y) h.2)
 passed_flat_map m old new i x Kept h = in_flat_map m old new i (Next x) h
 passed_flat_map m old new i x (Declined y) h = (h.0, ap FlatMap h.1)
+
+pub passed_flat_map_delay : {T : Type 0} (m : Meaning T) (old new : FlatMapDelayNode T) (i : ℕ) (x : T) (r : Passed T) → IsPassed (flat_delay_comes_out m) (flat_delay_waiting m) flat_delay_takes flat_delay_popped flat_delay_recorded flat_delay_counted flat_delay_ended flat_delay_done old i x r new →
+    IsPassed (any_comes_out m) (any_waiting m) any_takes any_popped any_recorded any_counted any_ended any_done (FlatMapDelay old) i x r (FlatMapDelay new)
+passed_flat_map_delay m old new i x (Item y) h = (FlatMapDelay h.0, in_flat_map_delay m old h.0 i (Next x) h.1, item_out_flat_map_delay m h.0 new (Some y) h.2)
+passed_flat_map_delay m old new i x Kept h = in_flat_map_delay m old new i (Next x) h
+passed_flat_map_delay m old new i x (Declined y) h = (h.0, ap FlatMapDelay h.1)
 
 pub passed_group_by : {T : Type 0} (m : Meaning T) (old new : GroupByNode T) (i : ℕ) (x : T) (r : Passed T) → IsPassed (group_comes_out m) (group_waiting m) (λ n j f. group_takes n j) IsPoppedGroup group_recorded group_counted group_ended group_done old i x r new →
     IsPassed (any_comes_out m) (any_waiting m) any_takes any_popped any_recorded any_counted any_ended any_done (GroupBy old) i x r (GroupBy new)

@@ -4,6 +4,7 @@
 pub mod Builds
 pub mod Crossings
 pub mod Dispatch
+pub mod FlatMapDelays
 pub mod FlatMaps
 pub mod Fresh
 pub mod GroupBys

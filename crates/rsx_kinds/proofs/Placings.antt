@@ -5,7 +5,7 @@ use Rattle.std.proofs.lemmas.Bool.{eq-eqb}
 use Rattle.rsx_sources.specs.Prelude.{NoMemory, HubId, Stage}
 use Rattle.rsx_kinds.specs.Prelude.{AnyNode, ArePlaced, End, Expr, Expr-F, Inputs, IsAlone, IsCrossed, IsInFront, IsOverOne, IsPlaced, IsPlacedOver, IsPlainOver, More', Node, Placed, TreeNode, children, crossings, differ, fold_out-Expr, fresh_crossings, is_crossing, map-Expr, opposite, placed, placed_beside, placed_here, placed_in, plain_ended, region_from, region_of, worker_here}
 use Rattle.rsx_model.specs.declared.expr.Expr.TheOpen as layer
-use Rattle.rsx_model.specs.declared.expr.Expr.TheViews.{Plain as PlainOf, Concat as ConcatOf, Merge as MergeOf, MergeDelay as MergeDelayOf, Zip as ZipOf, Latest as LatestOf, Group as GroupOf, Window as WindowOf, Flat as FlatOf, On as OnOf, out-Expr, outs-Items, outs-Range, outs-Hub, outs-Plain, outs-Concat, outs-Merge, outs-MergeDelay, outs-Zip, outs-Latest, outs-Group, outs-Window, outs-Flat, outs-On}
+use Rattle.rsx_model.specs.declared.expr.Expr.TheViews.{Plain as PlainOf, Concat as ConcatOf, Merge as MergeOf, MergeDelay as MergeDelayOf, Zip as ZipOf, Latest as LatestOf, Group as GroupOf, Window as WindowOf, Flat as FlatOf, FlatDelay as FlatDelayOf, On as OnOf, out-Expr, outs-Items, outs-Range, outs-Hub, outs-Plain, outs-Concat, outs-Merge, outs-MergeDelay, outs-Zip, outs-Latest, outs-Group, outs-Window, outs-Flat, outs-FlatDelay, outs-On}
 use Rattle.rsx_model.specs.declared.expr.Expr.TheVariants.{Items as ItemsOf, Range as RangeOf, Hub as HubOf}
 use Rattle.rsx_model.proofs.Unfold.{Each, by_children, children-map}
 use Rattle.rsx_tree.specs.Prelude.{closed_row, closed_row_if, IsJoined}
@@ -148,6 +148,11 @@ pub placed_Flat : {T : Type 0} (e : Expr T) (f c : ℕ) (gs : Vec (Stage T) Glob
     e ≡ FlatOf f c gs box → input ≡ box.value → IsPlaced input false below → IfOk r (λ t. IsOverOne made below t) → IfOk r (λ t. IsPlaced e false t)
 placed_Flat e f c gs box input made below r is in_box w o =
     one_if e box.value input made below r (worker_is e (FlatOf f c gs box) None is (rw (outs-Flat) refl)) (kids_are e (FlatOf f c gs box) (box.value ∷ []) is (rw (outs-Flat) refl)) in_box w o
+
+pub placed_FlatDelay : {T : Type 0} (e : Expr T) (f c : ℕ) (gs : Vec (Stage T) Global) (box : Box (Expr T) Global) (input : Expr T) (made : Result (AnyNode T) NoMemory) (below : Node (TreeNode T)) (r : Result (Node (TreeNode T)) NoMemory) →
+    e ≡ FlatDelayOf f c gs box → input ≡ box.value → IsPlaced input false below → IfOk r (λ t. IsOverOne made below t) → IfOk r (λ t. IsPlaced e false t)
+placed_FlatDelay e f c gs box input made below r is in_box w o =
+    one_if e box.value input made below r (worker_is e (FlatDelayOf f c gs box) None is (rw (outs-FlatDelay) refl)) (kids_are e (FlatDelayOf f c gs box) (box.value ∷ []) is (rw (outs-FlatDelay) refl)) in_box w o
 
 -- the tree of the input of a `publishOn` has a queue where its region isn't that of the worker
 pub placed_On : {T : Type 0} (e : Expr T) (k p : ℕ) (box : Box (Expr T) Global) (input : Expr T) (made : Result (AnyNode T) NoMemory) (below : Node (TreeNode T)) (r : Result (Node (TreeNode T)) NoMemory) →

@@ -5,9 +5,9 @@ use Rattle.std.specs.Prelude.{ℤ}
 use Rattle.std.proofs.lemmas.List.{append-nil}
 use Rattle.rsx_sources.specs.Prelude.{HubId, Stage}
 use Rattle.rsx_sources.specs.declared.machine.Machine.{Ghosts as Machine}
-use Rattle.rsx_kinds.specs.Prelude.{CountsItems, Direct, End, Expr, Expr-F, FlatMapNode, GroupByNode, Inputs, MOST_CONCURRENCY, More', Several, SeveralKind, SeveralNode, WantsOfEach, WindowNode, any_machine, children, closed_row, closed_row_if, first_wanted, first_wants, flat_wanted, fold_out-Expr, fresh_wants, group_counted, group_wanted, map-Expr, prefetch_of, several_wanted, wants_beside, window_wanted}
+use Rattle.rsx_kinds.specs.Prelude.{CountsItems, Direct, End, Expr, Expr-F, FlatMapDelayNode, FlatMapNode, GroupByNode, Inputs, MOST_CONCURRENCY, More', Several, SeveralKind, SeveralNode, WantsOfEach, WindowNode, any_machine, children, closed_row, closed_row_if, first_wanted, first_wants, flat_delay_wanted, flat_wanted, fold_out-Expr, fresh_wants, group_counted, group_wanted, map-Expr, prefetch_of, several_wanted, wants_beside, window_wanted}
 use Rattle.rsx_model.specs.declared.expr.Expr.TheOpen as layer
-use Rattle.rsx_model.specs.declared.expr.Expr.TheViews.{Plain, Group, Window, Flat, On, out-Expr, outs-Items, outs-Range, outs-Hub, outs-Plain, outs-Group, outs-Window, outs-Flat, outs-On}
+use Rattle.rsx_model.specs.declared.expr.Expr.TheViews.{Plain, Group, Window, Flat, FlatDelay, On, out-Expr, outs-Items, outs-Range, outs-Hub, outs-Plain, outs-Group, outs-Window, outs-Flat, outs-FlatDelay, outs-On}
 use Rattle.rsx_model.specs.declared.expr.Expr.TheVariants.{Items, Range, Hub}
 use Rattle.rsx_model.proofs.Unfold.{children-map}
 use Rattle.rsx_kinds.specs.declared.kind.SeveralKind.TheVariants.{Concat, Merge, MergeDelay, Zip, Latest}
@@ -42,6 +42,10 @@ group_wants n counted =
 -- a fresh `flatMap` wants as many items as its concurrency says
 pub flat_wants : {T : Type 0} (n : FlatMapNode T) (c : ℕ) → n.concurrency ≡ c → n.next ≡ 0 → c ≤ MOST_CONCURRENCY → flat_wanted n 0 0 0 ≡ c
 flat_wants n c is next le = omega arith
+
+-- a fresh `flatMapDelayError` wants as many items as its concurrency says
+pub flat_delay_wants : {T : Type 0} (n : FlatMapDelayNode T) (c : ℕ) → n.flat.concurrency ≡ c → n.flat.next ≡ 0 → c ≤ MOST_CONCURRENCY → flat_delay_wanted n 0 0 0 ≡ c
+flat_delay_wants n c is next le = omega arith
 
 -- a fresh node of several inputs wants of each what it wants of its first
 first_wanted_each : (kind : SeveralKind) (i : ℕ) → first_wanted kind i 0 ≡ first_wanted kind 0 0
@@ -88,6 +92,9 @@ wants_Group {T} f gs b = rw (fold_out-Expr, outs-Group) (ap (λ l. 0 ∷ l) (app
 
 pub wants_Flat : {T : Type 0} (f c : ℕ) (gs : Vec (Stage T) Global) (b : Box (Expr T) Global) → fresh_wants (Flat f c gs b) ≡ c ∷ fresh_wants b.value
 wants_Flat {T} f c gs b = rw (fold_out-Expr, outs-Flat) (ap (λ l. c ∷ l) (append-nil (fresh_wants b.value)))
+
+pub wants_FlatDelay : {T : Type 0} (f c : ℕ) (gs : Vec (Stage T) Global) (b : Box (Expr T) Global) → fresh_wants (FlatDelay f c gs b) ≡ c ∷ fresh_wants b.value
+wants_FlatDelay {T} f c gs b = rw (fold_out-Expr, outs-FlatDelay) (ap (λ l. c ∷ l) (append-nil (fresh_wants b.value)))
 
 pub wants_On : {T : Type 0} (k p : ℕ) (b : Box (Expr T) Global) → fresh_wants (On k p b) ≡ p ∷ fresh_wants b.value
 wants_On {T} k p b = rw (fold_out-Expr, outs-On) (ap (λ l. p ∷ l) (append-nil (fresh_wants b.value)))

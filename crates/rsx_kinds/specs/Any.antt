@@ -10,11 +10,12 @@ use Rattle.rsx_plain.specs.Node.{plain_comes_out, plain_waiting, plain_shown, pl
 use Rattle.rsx_kinds.specs.Several.{several_comes_out, several_waiting, several_shown, several_takes, several_picks, several_rows, several_rowed, several_recording, several_recorded, several_ended, several_done, several_counted, several_wanted, several_popped, several_step_allocates}
 use Rattle.rsx_merging.specs.PublishOn.{publish_comes_out, publish_waiting, publish_shown, publish_popped, publish_takes, publish_wanted, publish_ended, publish_counted}
 use Rattle.rsx_window.specs.Window.{window_comes_out, window_waiting, window_shown, window_takes, window_ended, window_done, window_wanted, IsPoppedWindow, CountsItems}
+use Rattle.rsx_delayed.specs.FlatMapDelay.{flat_delay_comes_out, flat_delay_waiting, flat_delay_shown, flat_delay_takes, flat_delay_picks, flat_delay_recording, flat_delay_recorded, flat_delay_ended, flat_delay_done, flat_delay_counted, flat_delay_wanted, flat_delay_popped}
 use Rattle.rsx_merging.specs.FlatMap.{flat_comes_out, flat_waiting, flat_shown, flat_takes, flat_picks, flat_recording, flat_recorded, flat_ended, flat_done, flat_wanted, flat_popped, IsGoing}
 use Rattle.rsx_grouping.specs.GroupBy.{group_comes_out, group_waiting, group_shown, group_takes, group_picks, group_recording, group_recorded, group_ended, group_done, group_counted, group_wanted, IsPoppedGroup}
 use Rattle.rsx_kinds.specs.Source.{source_comes_out, source_waiting, source_shown, source_popped, source_reads, source_counted, source_rooms, source_pop_allocates}
 use Rattle.rsx_kinds.specs.declared.any_node.AnyNode.{AnyNode}
-use Rattle.rsx_kinds.specs.declared.any_node.AnyNode.TheVariants.{Source, Plain, Several, PublishOn, Window, FlatMap, GroupBy}
+use Rattle.rsx_kinds.specs.declared.any_node.AnyNode.TheVariants.{Source, Plain, Several, PublishOn, Window, FlatMap, FlatMapDelay, GroupBy}
 
 -- what still comes out
 abbrev pub any_comes_out : {T : Type 0} → Meaning T → AnyNode T → Incoming T → Note → Option (Stream T)
@@ -24,6 +25,7 @@ any_comes_out m (Several n) inc k = several_comes_out m n inc k
 any_comes_out m (PublishOn n) inc k = publish_comes_out m n inc k
 any_comes_out m (Window n) inc k = window_comes_out m n inc k
 any_comes_out m (FlatMap n) inc k = flat_comes_out m n inc k
+any_comes_out m (FlatMapDelay n) inc k = flat_delay_comes_out m n inc k
 any_comes_out m (GroupBy n) inc k = group_comes_out m n inc k
 
 -- the signal that waits
@@ -34,6 +36,7 @@ any_waiting m (Several n) = several_waiting m n
 any_waiting m (PublishOn n) = publish_waiting m n
 any_waiting m (Window n) = window_waiting m n
 any_waiting m (FlatMap n) = flat_waiting m n
+any_waiting m (FlatMapDelay n) = flat_delay_waiting m n
 any_waiting m (GroupBy n) = group_waiting m n
 
 -- which signal that is
@@ -44,6 +47,7 @@ any_shown (Several n) = several_shown n
 any_shown (PublishOn n) = publish_shown n
 any_shown (Window n) = window_shown n
 any_shown (FlatMap n) = flat_shown n
+any_shown (FlatMapDelay n) = flat_delay_shown n
 any_shown (GroupBy n) = group_shown n
 
 -- whether such a signal of an input can be taken; a source has no input
@@ -54,6 +58,7 @@ any_takes (Several n) i f = several_takes n i f
 any_takes (PublishOn n) i f = publish_takes n i f
 any_takes (Window n) i f = window_takes n i
 any_takes (FlatMap n) i f = flat_takes n i f
+any_takes (FlatMapDelay n) i f = flat_delay_takes n i f
 any_takes (GroupBy n) i f = group_takes n i
 
 -- whether an input can be picked; only a node of several inputs, and one of lanes, picks one
@@ -64,6 +69,7 @@ any_picks (Several n) i asked sent = several_picks n i asked sent
 any_picks (PublishOn n) i asked sent = false
 any_picks (Window n) i asked sent = false
 any_picks (FlatMap n) i asked sent = flat_picks n i asked sent
+any_picks (FlatMapDelay n) i asked sent = flat_delay_picks n i asked sent
 any_picks (GroupBy n) i asked sent = group_picks n i asked sent
 
 -- whether a row can be made
@@ -74,6 +80,7 @@ any_rows (Several n) asked sent = several_rows n asked sent
 any_rows (PublishOn n) asked sent = false
 any_rows (Window n) asked sent = false
 any_rows (FlatMap n) asked sent = false
+any_rows (FlatMapDelay n) asked sent = false
 any_rows (GroupBy n) asked sent = false
 
 -- what a row makes of it
@@ -89,6 +96,7 @@ any_recording (Several n) i = several_recording n i
 any_recording (PublishOn n) i = Nothing
 any_recording (Window n) i = Nothing
 any_recording (FlatMap n) i = flat_recording n i
+any_recording (FlatMapDelay n) i = flat_delay_recording n i
 any_recording (GroupBy n) i = group_recording n i
 
 -- what it recorded
@@ -99,6 +107,7 @@ any_recorded (Several n) = several_recorded n
 any_recorded (PublishOn n) = Nothing
 any_recorded (Window n) = Nothing
 any_recorded (FlatMap n) = flat_recorded n
+any_recorded (FlatMapDelay n) = flat_delay_recorded n
 any_recorded (GroupBy n) = group_recorded n
 
 -- whether its ending was put out
@@ -109,6 +118,7 @@ any_ended (Several n) = several_ended n
 any_ended (PublishOn n) = publish_ended n
 any_ended (Window n) = window_ended n
 any_ended (FlatMap n) = flat_ended n
+any_ended (FlatMapDelay n) = flat_delay_ended n
 any_ended (GroupBy n) = group_ended n
 
 -- whether it took the completion of an input and goes on; a plain operator and `publishOn` end by it
@@ -119,6 +129,7 @@ any_done (Several n) i = several_done n i
 any_done (PublishOn n) i = false
 any_done (Window n) i = window_done n i
 any_done (FlatMap n) i = flat_done n i
+any_done (FlatMapDelay n) i = flat_delay_done n i
 any_done (GroupBy n) i = group_done n i
 
 -- how many items came in and how many were sent
@@ -129,6 +140,7 @@ any_counted (Several n) taken sent = several_counted n taken sent
 any_counted (PublishOn n) taken sent = publish_counted n taken sent
 any_counted (Window n) taken sent = CountsItems n taken sent
 any_counted (FlatMap n) taken sent = IsGoing n taken sent
+any_counted (FlatMapDelay n) taken sent = flat_delay_counted n taken sent
 any_counted (GroupBy n) taken sent = group_counted n taken sent
 
 -- what is to be asked of an input
@@ -139,6 +151,7 @@ any_wanted (Several n) i a s = several_wanted n i a s
 any_wanted (PublishOn n) i a s = publish_wanted n i a s
 any_wanted (Window n) i a s = window_wanted n i a s
 any_wanted (FlatMap n) i a s = flat_wanted n i a s
+any_wanted (FlatMapDelay n) i a s = flat_delay_wanted n i a s
 any_wanted (GroupBy n) i a s = group_wanted n i a s
 
 -- the second is the first without the signal that it offered
@@ -149,6 +162,7 @@ any_popped (Several a) s (Several b) = several_popped a s b
 any_popped (PublishOn a) s (PublishOn b) = publish_popped a s b
 any_popped (Window a) s (Window b) = IsPoppedWindow a s b
 any_popped (FlatMap a) s (FlatMap b) = flat_popped a s b
+any_popped (FlatMapDelay a) s (FlatMapDelay b) = flat_delay_popped a s b
 any_popped (GroupBy a) s (GroupBy b) = IsPoppedGroup a s b
 any_popped a s b = ⊥
 
@@ -160,6 +174,7 @@ any_reads (Several n) = None
 any_reads (PublishOn n) = None
 any_reads (Window n) = None
 any_reads (FlatMap n) = None
+any_reads (FlatMapDelay n) = None
 any_reads (GroupBy n) = None
 
 -- whether it has room for an item of that hub
@@ -170,6 +185,7 @@ any_rooms (Several n) = false
 any_rooms (PublishOn n) = false
 any_rooms (Window n) = false
 any_rooms (FlatMap n) = false
+any_rooms (FlatMapDelay n) = false
 any_rooms (GroupBy n) = false
 
 -- whether taking the offered signal out may allocate
@@ -180,6 +196,7 @@ any_pop_allocates a (Several n) = false
 any_pop_allocates a (PublishOn n) = false
 any_pop_allocates a (Window n) = false
 any_pop_allocates a (FlatMap n) = false
+any_pop_allocates a (FlatMapDelay n) = false
 any_pop_allocates a (GroupBy n) = false
 
 -- whether taking a signal in may allocate
@@ -190,6 +207,7 @@ any_signal_allocates a (Several n) = false
 any_signal_allocates a (PublishOn n) = false
 any_signal_allocates a (Window n) = true
 any_signal_allocates a (FlatMap n) = true
+any_signal_allocates a (FlatMapDelay n) = true
 any_signal_allocates a (GroupBy n) = true
 
 -- whether a pick or a row may allocate
@@ -200,6 +218,7 @@ any_step_allocates a (Several n) = several_step_allocates a n
 any_step_allocates a (PublishOn n) = false
 any_step_allocates a (Window n) = false
 any_step_allocates a (FlatMap n) = true
+any_step_allocates a (FlatMapDelay n) = true
 any_step_allocates a (GroupBy n) = true
 
 -- the meaning of all kinds together

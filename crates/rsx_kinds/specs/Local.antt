@@ -18,7 +18,7 @@ use Rattle.rsx_queued.specs.Queued.{ended_in, reads_in}
 use Rattle.rsx_queued.specs.Sender.{sender_ends}
 use Rattle.rsx_kinds.specs.Several.{several_comes_out}
 use Rattle.rsx_kinds.specs.Source.{source_comes_out, source_reads}
-use Rattle.rsx_kinds.specs.declared.any_node.AnyNode.TheVariants.{Source, Plain, Several, PublishOn, Window, FlatMap, GroupBy}
+use Rattle.rsx_kinds.specs.declared.any_node.AnyNode.TheVariants.{Source, Plain, Several, PublishOn, Window, FlatMap, FlatMapDelay, GroupBy}
 use Rattle.rsx_kinds.specs.declared.several_node.SeveralNode.{SeveralNode}
 use Rattle.rsx_kinds.specs.declared.several_node.SeveralNode.TheVariants.{Concat, Merge, MergeDelay, Zip, Latest}
 use Rattle.rsx_kinds.specs.declared.source_node.SourceNode.{SourceNode}
@@ -53,7 +53,9 @@ kind_local m (PublishOn n) hubs others (v ∷ vs) k a = refl
 kind_local m (Window n) hubs others [] k a = refl
 kind_local m (Window n) hubs others (v ∷ vs) k a = refl
 kind_local m (FlatMap n) hubs others [] k a = refl
+kind_local m (FlatMapDelay n) hubs others [] k a = refl
 kind_local m (FlatMap n) hubs others (v ∷ vs) k a = refl
+kind_local m (FlatMapDelay n) hubs others (v ∷ vs) k a = refl
 kind_local m (GroupBy n) hubs others [] k a = refl
 kind_local m (GroupBy n) hubs others (v ∷ vs) k a = refl
 
@@ -142,6 +144,7 @@ any_reads_on m (Direct (Several n)) items taken others r holds reads reached = c
 any_reads_on m (Direct (PublishOn n)) items taken others r holds reads reached = cc
 any_reads_on m (Direct (Window n)) items taken others r holds reads reached = cc
 any_reads_on m (Direct (FlatMap n)) items taken others r holds reads reached = cc
+any_reads_on m (Direct (FlatMapDelay n)) items taken others r holds reads reached = cc
 any_reads_on m (Direct (GroupBy n)) items taken others r holds reads reached = cc
 any_reads_on m (Crossing x) items taken others r holds reads reached = cc
 
@@ -172,6 +175,7 @@ any_reads_ended m (Direct (Several n)) items e k sent holds taken = cc
 any_reads_ended m (Direct (PublishOn n)) items e k sent holds taken = cc
 any_reads_ended m (Direct (Window n)) items e k sent holds taken = cc
 any_reads_ended m (Direct (FlatMap n)) items e k sent holds taken = cc
+any_reads_ended m (Direct (FlatMapDelay n)) items e k sent holds taken = cc
 any_reads_ended m (Direct (GroupBy n)) items e k sent holds taken = cc
 any_reads_ended m (Crossing x) items e k sent holds taken = cc
 
@@ -198,6 +202,7 @@ any_reads_counted (Direct (Several n)) items r holds reads = cc
 any_reads_counted (Direct (PublishOn n)) items r holds reads = cc
 any_reads_counted (Direct (Window n)) items r holds reads = cc
 any_reads_counted (Direct (FlatMap n)) items r holds reads = cc
+any_reads_counted (Direct (FlatMapDelay n)) items r holds reads = cc
 any_reads_counted (Direct (GroupBy n)) items r holds reads = cc
 any_reads_counted (Crossing x) items r holds reads = cc
 
@@ -215,5 +220,6 @@ any_reads_still (Direct (Several n)) r reads = refl
 any_reads_still (Direct (PublishOn n)) r reads = refl
 any_reads_still (Direct (Window n)) r reads = refl
 any_reads_still (Direct (FlatMap n)) r reads = refl
+any_reads_still (Direct (FlatMapDelay n)) r reads = refl
 any_reads_still (Direct (GroupBy n)) r reads = refl
 any_reads_still (Crossing x) r reads = refl

@@ -15,6 +15,8 @@ use Rattle.rsx_merging.specs.declared.publish_on_node.PublishOnNode.{PublishOnNo
 use Rattle.rsx_window.specs.Window.{GivesWindows, CountsItems}
 use Rattle.rsx_window.specs.declared.node.WindowNode.{WindowNode}
 use Rattle.rsx_queued.specs.declared.output.Output.TheVariants.{Empty}
+use Rattle.rsx_delayed.specs.FlatMapDelay.{GivesFlatMapDelay, flat_delay_counted}
+use Rattle.rsx_delayed.specs.declared.flat_map_delay_node.FlatMapDelayNode.{FlatMapDelayNode}
 use Rattle.rsx_merging.specs.FlatMap.{GivesFlatMap, IsGoing}
 use Rattle.rsx_merging.specs.declared.flat_map_node.FlatMapNode.{FlatMapNode}
 use Rattle.rsx_grouping.specs.GroupBy.{GivesGroups, group_counted, group_ended}
@@ -28,7 +30,7 @@ use Rattle.rsx_queued.specs.declared.tail.Tail.TheVariants.{Open}
 use Rattle.rsx_kinds.specs.Any.{TreeNode}
 use Rattle.rsx_kinds.specs.Crossings.{is_crossing}
 use Rattle.rsx_kinds.specs.declared.any_node.AnyNode.{AnyNode}
-use Rattle.rsx_kinds.specs.declared.any_node.AnyNode.TheVariants.{Plain, Several, PublishOn, Window, FlatMap, GroupBy}
+use Rattle.rsx_kinds.specs.declared.any_node.AnyNode.TheVariants.{Plain, Several, PublishOn, Window, FlatMap, FlatMapDelay, GroupBy}
 
 -- a fresh plain operator as a node of any kind
 pub record IsPlain {T : Type 0} (g : Stage T) (n : AnyNode T) : Type 0 where
@@ -83,6 +85,17 @@ pub record IsFlatMap {T : Type 0} (f concurrency : ℕ) (gs : List (Stage T)) (n
   pub choices : node.choices ≡ []
   pub next : node.next ≡ 0
   pub nothing : node.output ≡ Empty
+
+-- a fresh `flatMapDelayError` as a node of any kind
+pub record IsFlatMapDelay {T : Type 0} (f concurrency : ℕ) (gs : List (Stage T)) (n : AnyNode T) : Type 0 where
+  pub node : FlatMapDelayNode T
+  pub is : n ≡ FlatMapDelay node
+  pub fresh : GivesFlatMapDelay node f gs
+  pub counted : 1 ≤ concurrency → flat_delay_counted node (0 ∷ []) 0
+  pub at_most : node.flat.concurrency ≡ concurrency
+  pub choices : node.flat.choices ≡ []
+  pub next : node.flat.next ≡ 0
+  pub nothing : node.flat.output ≡ Empty
 
 -- the tree of the node that was made, over this row
 pub record IsOver {T : Type 0} (made : Result (AnyNode T) NoMemory) (row : Inputs (TreeNode T)) (has_ended : Bool) (t : Node (TreeNode T)) : Type 0 where

@@ -43,6 +43,7 @@ any_operator (any.Several n) = several_operator n
 any_operator (any.PublishOn n) = operator.PublishOn
 any_operator (any.Window n) = operator.Window
 any_operator (any.FlatMap n) = operator.FlatMap
+any_operator (any.FlatMapDelay n) = operator.FlatMapDelay
 any_operator (any.GroupBy n) = operator.GroupBy
 
 -- which operator a node of a tree is, with the queue of its edge or without

@@ -29,6 +29,7 @@ any_queued (any.Several n) i = several_queued n i
 any_queued (any.PublishOn n) i = publish_queued n i
 any_queued (any.Window n) i = None
 any_queued (any.FlatMap n) i = None
+any_queued (any.FlatMapDelay n) i = None
 any_queued (any.GroupBy n) i = None
 
 -- in a node of a tree; the queue of its edge is for what it sends, and no input's

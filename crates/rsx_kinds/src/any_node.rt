@@ -4,6 +4,7 @@ ghost use Rattle.std.specs.Prelude.{◌≡◌};
 
 use crate::SeveralNode;
 use crate::source_node::SourceNode;
+use rsx_delayed::FlatMapDelayNode;
 use rsx_grouping::GroupByNode;
 use rsx_merging::{FlatMapNode, PublishOnNode};
 use rsx_plain::PlainNode;
@@ -27,6 +28,8 @@ pub enum AnyNode<T> {
     Window(WindowNode<T>),
     /// `flatMap`: each item of its one input made a lane of its own, and the lanes merged.
     FlatMap(FlatMapNode<T>),
+    /// `flatMapDelayError`: the same, but a failure ends its lane alone.
+    FlatMapDelay(FlatMapDelayNode<T>),
     /// `groupBy`: its one input in lanes by key, each through a chain of its own, and the lanes merged.
     GroupBy(GroupByNode<T>),
 }
@@ -93,6 +96,7 @@ impl<T: Drop> Machine for AnyNode<T> {
             AnyNode::PublishOn(node) => node.front(),
             AnyNode::Window(node) => node.front(),
             AnyNode::FlatMap(node) => node.front(),
+            AnyNode::FlatMapDelay(node) => node.front(),
             AnyNode::GroupBy(node) => node.front(),
         }
     }
@@ -118,6 +122,7 @@ impl<T: Drop> Machine for AnyNode<T> {
             AnyNode::PublishOn(node) => node.pop_front(alloc, ops),
             AnyNode::Window(node) => node.pop_front(alloc, ops),
             AnyNode::FlatMap(node) => node.pop_front(alloc, ops),
+            AnyNode::FlatMapDelay(node) => node.pop_front(alloc, ops),
             AnyNode::GroupBy(node) => node.pop_front(alloc, ops),
         }
     }
@@ -132,6 +137,7 @@ impl<T: Drop> Machine for AnyNode<T> {
             AnyNode::PublishOn(node) => node.put_back(signal),
             AnyNode::Window(node) => node.put_back(signal),
             AnyNode::FlatMap(node) => node.put_back(signal),
+            AnyNode::FlatMapDelay(node) => node.put_back(signal),
             AnyNode::GroupBy(node) => node.put_back(signal),
         }
     }
@@ -145,6 +151,7 @@ impl<T: Drop> Machine for AnyNode<T> {
             AnyNode::PublishOn(node) => node.has_ended(),
             AnyNode::Window(node) => node.has_ended(),
             AnyNode::FlatMap(node) => node.has_ended(),
+            AnyNode::FlatMapDelay(node) => node.has_ended(),
             AnyNode::GroupBy(node) => node.has_ended(),
         }
     }
@@ -158,6 +165,7 @@ impl<T: Drop> Machine for AnyNode<T> {
             AnyNode::PublishOn(node) => node.can_take(input, front),
             AnyNode::Window(node) => node.can_take(input, front),
             AnyNode::FlatMap(node) => node.can_take(input, front),
+            AnyNode::FlatMapDelay(node) => node.can_take(input, front),
             AnyNode::GroupBy(node) => node.can_take(input, front),
         }
     }
@@ -186,6 +194,7 @@ impl<T: Drop> Machine for AnyNode<T> {
             AnyNode::PublishOn(node) => node.on_signal(alloc, ops, input, signal),
             AnyNode::Window(node) => node.on_signal(alloc, ops, input, signal),
             AnyNode::FlatMap(node) => node.on_signal(alloc, ops, input, signal),
+            AnyNode::FlatMapDelay(node) => node.on_signal(alloc, ops, input, signal),
             AnyNode::GroupBy(node) => node.on_signal(alloc, ops, input, signal),
         }
     }
@@ -199,6 +208,7 @@ impl<T: Drop> Machine for AnyNode<T> {
             AnyNode::PublishOn(node) => node.pop_item(alloc, ops),
             AnyNode::Window(node) => node.pop_item(alloc, ops),
             AnyNode::FlatMap(node) => node.pop_item(alloc, ops),
+            AnyNode::FlatMapDelay(node) => node.pop_item(alloc, ops),
             AnyNode::GroupBy(node) => node.pop_item(alloc, ops),
         }
     }
@@ -212,6 +222,7 @@ impl<T: Drop> Machine for AnyNode<T> {
             AnyNode::PublishOn(node) => node.pass(alloc, ops, input, item),
             AnyNode::Window(node) => node.pass(alloc, ops, input, item),
             AnyNode::FlatMap(node) => node.pass(alloc, ops, input, item),
+            AnyNode::FlatMapDelay(node) => node.pass(alloc, ops, input, item),
             AnyNode::GroupBy(node) => node.pass(alloc, ops, input, item),
         }
     }
@@ -224,6 +235,7 @@ impl<T: Drop> Machine for AnyNode<T> {
             AnyNode::PublishOn(node) => node.hub(),
             AnyNode::Window(node) => node.hub(),
             AnyNode::FlatMap(node) => node.hub(),
+            AnyNode::FlatMapDelay(node) => node.hub(),
             AnyNode::GroupBy(node) => node.hub(),
         }
     }
@@ -236,6 +248,7 @@ impl<T: Drop> Machine for AnyNode<T> {
             AnyNode::PublishOn(node) => node.has_room(),
             AnyNode::Window(node) => node.has_room(),
             AnyNode::FlatMap(node) => node.has_room(),
+            AnyNode::FlatMapDelay(node) => node.has_room(),
             AnyNode::GroupBy(node) => node.has_room(),
         }
     }
@@ -257,6 +270,7 @@ impl<T: Drop> Machine for AnyNode<T> {
             AnyNode::PublishOn(node) => node.on_published(signal),
             AnyNode::Window(node) => node.on_published(signal),
             AnyNode::FlatMap(node) => node.on_published(signal),
+            AnyNode::FlatMapDelay(node) => node.on_published(signal),
             AnyNode::GroupBy(node) => node.on_published(signal),
         }
     }
@@ -268,6 +282,7 @@ impl<T: Drop> Machine for AnyNode<T> {
                 false,
             AnyNode::Several(node) => node.can_pick(input, asked, sent),
             AnyNode::FlatMap(node) => node.can_pick(input, asked, sent),
+            AnyNode::FlatMapDelay(node) => node.can_pick(input, asked, sent),
             AnyNode::GroupBy(node) => node.can_pick(input, asked, sent),
         }
     }
@@ -279,6 +294,7 @@ impl<T: Drop> Machine for AnyNode<T> {
                 None,
             AnyNode::Several(node) => node.next_pick(asked, sent),
             AnyNode::FlatMap(node) => node.next_pick(asked, sent),
+            AnyNode::FlatMapDelay(node) => node.next_pick(asked, sent),
             AnyNode::GroupBy(node) => node.next_pick(asked, sent),
         }
     }
@@ -296,6 +312,7 @@ impl<T: Drop> Machine for AnyNode<T> {
                 Err(NotMade::NotEnabled),
             AnyNode::Several(node) => node.on_pick(alloc, ops, input, asked, sent),
             AnyNode::FlatMap(node) => node.on_pick(alloc, ops, input, asked, sent),
+            AnyNode::FlatMapDelay(node) => node.on_pick(alloc, ops, input, asked, sent),
             AnyNode::GroupBy(node) => node.on_pick(alloc, ops, input, asked, sent),
         }
     }
@@ -308,6 +325,7 @@ impl<T: Drop> Machine for AnyNode<T> {
             | AnyNode::PublishOn(_)
             | AnyNode::Window(_)
             | AnyNode::FlatMap(_)
+            | AnyNode::FlatMapDelay(_)
             | AnyNode::GroupBy(_) => false,
             AnyNode::Several(node) => node.can_row(asked, sent),
         }
@@ -327,6 +345,7 @@ impl<T: Drop> Machine for AnyNode<T> {
             | AnyNode::PublishOn(_)
             | AnyNode::Window(_)
             | AnyNode::FlatMap(_)
+            | AnyNode::FlatMapDelay(_)
             | AnyNode::GroupBy(_) => Err(NotMade::NotEnabled),
             AnyNode::Several(node) => node.on_row(alloc, ops, asked, sent),
         }
@@ -341,6 +360,7 @@ impl<T: Drop> Machine for AnyNode<T> {
             AnyNode::PublishOn(node) => node.want(input, asked, sent),
             AnyNode::Window(node) => node.want(input, asked, sent),
             AnyNode::FlatMap(node) => node.want(input, asked, sent),
+            AnyNode::FlatMapDelay(node) => node.want(input, asked, sent),
             AnyNode::GroupBy(node) => node.want(input, asked, sent),
         }
     }
@@ -351,6 +371,7 @@ impl<T: Drop> Machine for AnyNode<T> {
                 Ok(Note::Nothing),
             AnyNode::Several(node) => node.note(alloc),
             AnyNode::FlatMap(node) => node.note(alloc),
+            AnyNode::FlatMapDelay(node) => node.note(alloc),
             AnyNode::GroupBy(node) => node.note(alloc),
         }
     }
@@ -372,6 +393,7 @@ impl<T: Drop> Machine for AnyNode<T> {
             AnyNode::PublishOn(node) => node.residual(alloc, ops, inboxes, incoming),
             AnyNode::Window(node) => node.residual(alloc, ops, inboxes, incoming),
             AnyNode::FlatMap(node) => node.residual(alloc, ops, inboxes, incoming),
+            AnyNode::FlatMapDelay(node) => node.residual(alloc, ops, inboxes, incoming),
             AnyNode::GroupBy(node) => node.residual(alloc, ops, inboxes, incoming),
         }
     }

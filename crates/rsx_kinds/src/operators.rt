@@ -18,6 +18,7 @@ pub(crate) fn operator_of_any<T: Drop>(node: &AnyNode<T>) -> Operator
         AnyNode::PublishOn(_) => Operator::PublishOn,
         AnyNode::Window(_) => Operator::Window,
         AnyNode::FlatMap(_) => Operator::FlatMap,
+        AnyNode::FlatMapDelay(_) => Operator::FlatMapDelay,
         AnyNode::GroupBy(_) => Operator::GroupBy,
     }
 }

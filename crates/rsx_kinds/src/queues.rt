@@ -16,6 +16,7 @@ pub(crate) fn queued_at_any<T: Drop>(node: &AnyNode<T>, input: u64) -> Option<u6
         | AnyNode::Plain(_)
         | AnyNode::Window(_)
         | AnyNode::FlatMap(_)
+        | AnyNode::FlatMapDelay(_)
         | AnyNode::GroupBy(_) => None,
     }
 }

@@ -8,10 +8,11 @@ ghost use Rattle.rsx_model.specs.declared.expr.Expr.TheVariants.{Items as ItemsO
 ghost use Rattle.rsx_kinds.specs.Built.{IsBuilt, AreBuilt, IsBuiltOver, IsPlainOver, starts_ended};
 ghost use Rattle.rsx_model.specs.Region.{region_of};
 ghost use Rattle.rsx_kinds.specs.Crossings.{ArePlaced, IsAlone, IsPlaced, IsPlacedOver, differ};
-ghost use Rattle.rsx_kinds.specs.Made.{IsCrossed, IsFlatMap, IsGroupBy, IsInFront, IsOver, IsOverOne, IsPlain, IsPublishOn, IsSeveral, IsWindow};
+ghost use Rattle.rsx_kinds.specs.Made.{IsCrossed, IsFlatMap, IsFlatMapDelay, IsGroupBy, IsInFront, IsOver, IsOverOne, IsPlain, IsPublishOn, IsSeveral, IsWindow};
 ghost use Rattle.rsx_kinds.specs.Kind.{IsWithin};
 
 use crate::{AnyNode, Boxed, SeveralKind, SeveralNode, SourceNode, TreeNode};
+use rsx_delayed::FlatMapDelayNode;
 use rsx_grouping::GroupByNode;
 use rsx_hub::{Hub, HubLeaf};
 use rsx_merging::{FlatMapNode, PublishOnNode};
@@ -78,6 +79,14 @@ pub fn build<O: Ops>(
             over_one(
                 alloc,
                 flat_map(alloc, ops, *function, *concurrency, stages),
+                below,
+            )
+        }
+        Expr::FlatDelay(function, concurrency, stages, input) => {
+            let below = build(alloc, ops, input, hubs)?;
+            over_one(
+                alloc,
+                flat_map_delay(alloc, ops, *function, *concurrency, stages),
                 below,
             )
         }
@@ -265,6 +274,21 @@ fn flat_map<O: Ops>(
     let copies = copy_stages(alloc, ops, stages)?;
     let node = FlatMapNode::new(alloc, function, concurrency, copies);
     Ok(AnyNode::FlatMap(node))
+}
+
+/// A `flatMapDelayError` as a node of any kind.
+fn flat_map_delay<O: Ops>(
+    alloc: Global,
+    ops: &O,
+    function: u16,
+    concurrency: u64,
+    stages: &[Stage<O::Item>],
+) -> Result<AnyNode<O::Item>, NoMemory>
+    ensures { IfOk result (λ n. IsFlatMapDelay function concurrency stages.now n) }
+{
+    let copies = copy_stages(alloc, ops, stages)?;
+    let node = FlatMapDelayNode::new(alloc, function, concurrency, copies);
+    Ok(AnyNode::FlatMapDelay(node))
 }
 
 /// A node of several inputs as a node of any kind.

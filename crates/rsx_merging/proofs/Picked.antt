@@ -45,7 +45,7 @@ pub completion_picked : {T : Type 0} (m : Meaning T) (n : FlatMapNode T) (i : �
 unfolding coming
 completion_picked m n i js choices p inc = completion_chosen n.output n.output (left_of m n inc.first) (js ++ coming m n inc.first) i p.empty p.empty (taken_next m n i Complete js inc.first p)
 
-none_left : {T : Type 0} (js is : List (InputLeft T)) (closed : Bool) → closed ≡ true → is_nil js ≡ true → js ++ unless_closed closed is ≡ []
+pub none_left : {T : Type 0} (js is : List (InputLeft T)) (closed : Bool) → closed ≡ true → is_nil js ≡ true → js ++ unless_closed closed is ≡ []
 none_left [] is true c e = refl
 none_left [] is false c e = cc
 none_left (j ∷ js) is closed c e = cc
@@ -93,7 +93,7 @@ gives_some {T} n i asked sent o js picks taken is =
 -- ---- the counts
 
 -- the lanes that are left have their endings, and behind an item there is one
-abbrev StaysWhole : {T : Type 0} → Option (Signal T × List (InputLeft T)) → Type 0
+abbrev pub StaysWhole : {T : Type 0} → Option (Signal T × List (InputLeft T)) → Type 0
 StaysWhole None = ⊤
 StaysWhole (Some (Next x, js)) = AreWhole js × (is_nil js ≡ false)
 StaysWhole (Some (Complete, js)) = AreWhole js
@@ -111,7 +111,7 @@ beside_whole i (Some (Next x, js)) h k = ((h.0, h.1, k.0), refl)
 beside_whole i (Some (Complete, js)) h k = (h.0, h.1, k)
 beside_whole i (Some (Error c, js)) h k = (h.0, h.1, k)
 
-stays_whole : {T : Type 0} (c : ℕ) (is : List (InputLeft T)) → AreWhole is → StaysWhole (next_of c is)
+pub stays_whole : {T : Type 0} (c : ℕ) (is : List (InputLeft T)) → AreWhole is → StaysWhole (next_of c is)
 stays_whole c [] h = tt
 stays_whole {T} c (i ∷ is) h = by_test (nat_eq c i.0) (stays_whole c is h.2)
   where

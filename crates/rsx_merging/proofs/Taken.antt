@@ -17,7 +17,7 @@ use Rattle.rsx_plain.proofs.Ended.{signals_end}
 
 -- ---- the value
 
-lane_left : {T : Type 0} (m : Meaning T) (f : ℕ) (gs : List (Stage T)) (lanes : List (InputLeft T)) (n : ℕ) (closed : Bool) (x : T) (v w : Stream T) → closed ≡ false → lane_answer m f gs x ≡ Ok v →
+pub lane_left : {T : Type 0} (m : Meaning T) (f : ℕ) (gs : List (Stage T)) (lanes : List (InputLeft T)) (n : ℕ) (closed : Bool) (x : T) (v w : Stream T) → closed ≡ false → lane_answer m f gs x ≡ Ok v →
     lanes_left m f gs (lanes ++ (n, signals v) ∷ []) (n + 1) closed w ≡ lanes_left m f gs lanes n closed (item_then x w)
 lane_left m f gs lanes n closed x v w open_still h =
     rw open_still (append_assoc lanes ((n, signals v) ∷ []) (lanes_to_come m f gs (n + 1) w)
@@ -31,7 +31,7 @@ lane_comes_in m old new i s x v first item open_still answer is inc further =
     ∙ ap (λ l. merge_behind old.output l further) (lane_left m old.expansion.function old.expansion.stages.items old.lanes old.next old.closed x v inc.first open_still answer)
     ∙ sym (λ j. flat_comes_out m old (in_front (first j) (item j) inc) further)
 
-main_left : {T : Type 0} (m : Meaning T) (f : ℕ) (gs : List (Stage T)) (lanes : List (InputLeft T)) (n : ℕ) (closed : Bool) (e : Ending) (v w : Stream T) → closed ≡ false → lanes_to_come m f gs n w ≡ main_input e →
+pub main_left : {T : Type 0} (m : Meaning T) (f : ℕ) (gs : List (Stage T)) (lanes : List (InputLeft T)) (n : ℕ) (closed : Bool) (e : Ending) (v w : Stream T) → closed ≡ false → lanes_to_come m f gs n w ≡ main_input e →
     lanes_left m f gs (lanes ++ main_input e) n true v ≡ lanes_left m f gs lanes n closed w
 main_left m f gs lanes n closed e v w open_still h = rw open_still (append-nil (lanes ++ main_input e) ∙ ap (λ is. lanes ++ is) (sym h))
 

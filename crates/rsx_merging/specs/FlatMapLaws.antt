@@ -23,7 +23,7 @@ flat_ends m n s inc other further w e = flat_drops m n inc other further (offers
 
 -- ---- nor does what comes in behind the ending of the input
 
-closed_left : {A : Type 0} (closed : Bool) (is js : List A) → closed ≡ true → unless_closed closed is ≡ unless_closed closed js
+pub closed_left : {A : Type 0} (closed : Bool) (is js : List A) → closed ≡ true → unless_closed closed is ≡ unless_closed closed js
 closed_left true is js e = refl
 closed_left false is js e = cc
 

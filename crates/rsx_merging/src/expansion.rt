@@ -46,7 +46,7 @@ fn push_main<T: Drop>(
 }
 
 /// What an expansion makes of items.
-pub(crate) trait Expanding<T: Drop> {
+pub trait Expanding<T: Drop> {
     ghost function: { Self → ℕ };
 
     ghost stages: { Self → List (StageSpec T) };

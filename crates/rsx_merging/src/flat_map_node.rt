@@ -78,7 +78,7 @@ impl<T: Drop> FlatMapNode<T> {
     }
 
     /// Whether the completions of all lanes and of Main were picked.
-    fn is_gone(&self) -> bool
+    pub fn is_gone(&self) -> bool
         ensures { result ≡ (self.now.closed && is_nil self.now.lanes) }
     {
         self.closed && self.lanes.is_empty()
@@ -86,7 +86,10 @@ impl<T: Drop> FlatMapNode<T> {
 
     /// Puts a lane of this value behind the others. No lane has the number of Main: where that would be next, the lane is refused as
     /// for want of memory.
-    fn add_lane(&mut self, value: StreamValue<T>) -> Result<(), NoMemory>
+    ///
+    /// # Errors
+    /// [`NoMemory`] where the growth was refused, or no number is left. Nothing has changed.
+    pub fn add_lane(&mut self, value: StreamValue<T>) -> Result<(), NoMemory>
         ensures ok { OnOk result (self.new ≡ with_lane self.old value) }
         ensures number { OnOk result (self.old.next < MAIN) }
         ensures err { OnErr result (self.new ≡ self.old) }
@@ -100,7 +103,10 @@ impl<T: Drop> FlatMapNode<T> {
     }
 
     /// Puts Main behind the lanes: the input has this ending.
-    fn close(&mut self, alloc: Global, ending: Ending) -> Result<(), NoMemory>
+    ///
+    /// # Errors
+    /// [`NoMemory`] where the growth was refused. Nothing has changed.
+    pub fn close(&mut self, alloc: Global, ending: Ending) -> Result<(), NoMemory>
         ensures ok { OnOk result (self.new ≡ with_main self.old ending) }
         ensures err { OnErr result (self.new ≡ self.old) }
     {

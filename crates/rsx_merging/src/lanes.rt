@@ -27,7 +27,7 @@ pub(crate) fn may_take(front: Option<Front>, items: bool) -> bool
 
 /// A lane, or Main: its number, and the signals that it has left. Contracts see a pair of these.
 #[derive(Drop)]
-pub(crate) struct Lane<T> {
+pub struct Lane<T> {
     number: u64,
     // The items that are left, the last one first.
     reversed: Vec<T>,
@@ -51,7 +51,7 @@ impl<T: Drop> Lane<T> {
     ghost use Rattle.rsx_sources.specs.Machine.{front_of};
 
     /// The lane with this number and the signals of this value: its items, and then its ending. It takes no memory.
-    pub(crate) fn new(number: u64, value: StreamValue<T>) -> Lane<T>
+    pub fn new(number: u64, value: StreamValue<T>) -> Lane<T>
         ensures { result ≡ (number, signals value) }
     {
         let ending = value.ending();
@@ -62,6 +62,20 @@ impl<T: Drop> Lane<T> {
             reversed,
             ending,
         }
+    }
+
+    /// The signals that it has left, as a value. It takes no memory.
+    pub fn into_value(self) -> StreamValue<T>
+        ensures { signals result ≡ self.1 }
+    {
+        let Lane {
+            number: _,
+            reversed,
+            ending,
+        } = self;
+        let mut items = reversed;
+        items.reverse();
+        StreamValue::new(items, ending)
     }
 
     /// The number by which a choice names the lane.
@@ -126,7 +140,7 @@ impl<T: Drop> Lanes<T> {
     ghost use Rattle.rsx_merging.specs.Lanes.{next_front, may_take, IsPlaceOf};
 
     /// No lanes. It takes no memory.
-    pub(crate) fn new(alloc: Global) -> Lanes<T>
+    pub fn new(alloc: Global) -> Lanes<T>
         ensures { result ≡ [] }
     {
         Lanes {
@@ -148,6 +162,13 @@ impl<T: Drop> Lanes<T> {
         self.list.is_empty()
     }
 
+    /// The lanes one by one, in their order. It takes no memory.
+    pub fn into_lanes(self) -> Vec<Lane<T>>
+        ensures { result.items ≡ self }
+    {
+        self.list
+    }
+
     /// Lets all lanes go.
     pub(crate) fn clear(&mut self)
         ensures { self.new ≡ [] }
@@ -159,7 +180,7 @@ impl<T: Drop> Lanes<T> {
     ///
     /// # Errors
     /// [`NoMemory`] where the growth was refused. Nothing has changed.
-    pub(crate) fn push(&mut self, lane: Lane<T>) -> Result<(), NoMemory>
+    pub fn push(&mut self, lane: Lane<T>) -> Result<(), NoMemory>
         ensures ok { OnOk result (self.new ≡ self.old ++ lane ∷ []) }
         ensures err { OnErr result (self.new ≡ self.old) }
     {
@@ -204,7 +225,7 @@ impl<T: Drop> Lanes<T> {
     }
 
     /// Takes the next signal of the lane with this number, if there is one. A lane whose ending was taken is gone.
-    pub(crate) fn take(&mut self, number: u64) -> Option<Signal<T>>
+    pub fn take(&mut self, number: u64) -> Option<Signal<T>>
         ensures { TakesNext number self.old result self.new }
     {
         match self.place_of(number) {
@@ -228,11 +249,18 @@ impl<T: Drop> Lanes<T> {
     }
 }
 
-/// Lanes as the inputs of a pick.
-pub(crate) trait CopyingLanes<T: Drop> {
+/// Copies of lanes.
+pub trait CopyingLanes<T: Drop> {
     ghost lanes: { Self → List (InputLeft T) };
 
-    /// Puts copies of the lanes behind the inputs that are there.
+    /// The same lanes once more.
+    ///
+    /// # Errors
+    /// [`NoMemory`] where a growth was refused, in `Ops::copy` too.
+    fn copied<O: Ops<Item = T>>(&self, alloc: Global, ops: &O) -> Result<Lanes<T>, NoMemory>
+        ensures { IfOk result (λ l. l ≡ lanes self.now) };
+
+    /// Puts copies of the lanes, as the inputs of a pick, behind the inputs that are there.
     ///
     /// # Errors
     /// [`NoMemory`] where a growth was refused, in `Ops::copy` too.
@@ -245,11 +273,19 @@ pub(crate) trait CopyingLanes<T: Drop> {
         ensures { OnOk result (inputs.new.items ≡ inputs.old.items ++ lanes self.now) };
 }
 
-/// A lane as an input of a pick.
+/// Copies of a lane.
 trait CopyingLane<T: Drop> {
     ghost lane: { Self → InputLeft T };
 
-    /// A copy of the lane.
+    /// A copy of the signals that the lane has left.
+    fn copied_value<O: Ops<Item = T>>(
+        &self,
+        alloc: Global,
+        ops: &O,
+    ) -> Result<StreamValue<T>, NoMemory>
+        ensures { IfOk result (λ v. signals v ≡ (lane self.now).1) };
+
+    /// A copy of the lane, as an input of a pick.
     fn copied<O: Ops<Item = T>>(&self, alloc: Global, ops: &O) -> Result<Input<T>, NoMemory>
         ensures { IfOk result (λ i. i ≡ lane self.now) };
 }
@@ -257,20 +293,42 @@ trait CopyingLane<T: Drop> {
 impl<T: Drop> CopyingLane<T> for Lane<T> {
     ghost lane = { λ l. l };
 
-    fn copied<O: Ops<Item = T>>(&self, alloc: Global, ops: &O) -> Result<Input<T>, NoMemory>
-        ensures { IfOk result (λ i. i ≡ self.now) }
+    fn copied_value<O: Ops<Item = T>>(
+        &self,
+        alloc: Global,
+        ops: &O,
+    ) -> Result<StreamValue<T>, NoMemory>
+        ensures { IfOk result (λ v. signals v ≡ self.now.1) }
     {
         let mut items = Vec::new(alloc);
         for at in (0..self.reversed.len()).rev() {
             let copy = ops.copy(alloc, &self.reversed[at])?;
             items.push(copy)?;
         }
-        Input::new(alloc, self.number, StreamValue::new(items, self.ending))
+        Ok(StreamValue::new(items, self.ending))
+    }
+
+    fn copied<O: Ops<Item = T>>(&self, alloc: Global, ops: &O) -> Result<Input<T>, NoMemory>
+        ensures { IfOk result (λ i. i ≡ self.now) }
+    {
+        let value = self.copied_value(alloc, ops)?;
+        Input::new(alloc, self.number, value)
     }
 }
 
 impl<T: Drop> CopyingLanes<T> for Lanes<T> {
     ghost lanes = { λ l. l };
+
+    fn copied<O: Ops<Item = T>>(&self, alloc: Global, ops: &O) -> Result<Lanes<T>, NoMemory>
+        ensures { IfOk result (λ l. l ≡ self.now) }
+    {
+        let mut copy = Lanes::new(alloc);
+        for at in 0..self.list.len() {
+            let value = self.list[at].copied_value(alloc, ops)?;
+            copy.push(Lane::new(self.list[at].number(), value))?;
+        }
+        Ok(copy)
+    }
 
     fn copy_lanes<O: Ops<Item = T>>(
         &self,

@@ -40,8 +40,8 @@ pub mod merge_node;
 pub mod publish_on_node;
 
 pub use concat_node::ConcatNode;
-pub use expansion::Expansion;
+pub use expansion::{Expanding, Expansion};
 pub use flat_map_node::FlatMapNode;
-pub use lanes::Lanes;
+pub use lanes::{CopyingLanes, Lane, Lanes};
 pub use merge_node::MergeNode;
 pub use publish_on_node::PublishOnNode;

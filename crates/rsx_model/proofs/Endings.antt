@@ -1,6 +1,6 @@
 -- How operators over several inputs end: never by the failure of a bad request, where no input ends so.
 use Rattle.std.proofs.Common.{◌≢◌, ℕ, zero, suc, ◌+◌, ◌-◌, Bool, true, false, nat_eq, if◌then◌else◌, List, [], ◌∷◌, ◌++◌, map, Option, Some, None, option_map, option_and_then, slice_get, slice_set}
-use Rattle.rsx_values.specs.Prelude.{NonPositiveRequest, Ending, Open, Done, Failed, Signal, Next, Complete, Error, Stream, ending_signals, concat, unless_open, merge, merged, taken_ending, main_input, merged_lanes, InputLeft, Taken, numbered, is_failure, left_after, next_here, next_of, up_to_failure, rest_of, no_more, chosen_before, pick, all_latest, row_first, stops, behind_first, unless_chosen, walk, none_yet, combine_latest, items_of, shortest, ends_after, first_ending, ending_after, zip_ending, zip_rows, zip}
+use Rattle.rsx_values.specs.Prelude.{NonPositiveRequest, Ending, Open, Done, Failed, Signal, Next, Complete, Error, Stream, ending_signals, concat, unless_open, merge, merged, taken_ending, main_input, merged_lanes, merged_lanes_delay, InputLeft, Taken, numbered, is_failure, left_after, next_here, next_of, up_to_failure, rest_of, no_more, chosen_before, pick, all_latest, row_first, stops, behind_first, unless_chosen, walk, none_yet, combine_latest, items_of, shortest, ends_after, first_ending, ending_after, zip_ending, zip_rows, zip}
 use Rattle.rsx_types.specs.declared.signal.Cause.{Cause}
 use Rattle.rsx_values.specs.Delayed.{all_of, delayed_ending, ending_of, first_cause, goes_on, merge_delay, merged_delayed, pick_all, rest_of_all}
 use Rattle.rsx_model.specs.Eval.{Meant, in_order}
@@ -213,6 +213,9 @@ main_fine {T} n (v ∷ vs) e hs h = (items_fine v.items (ending_signals v.ending
 
 pub merged_lanes_fine : {T : Type 0} (cs : List ℕ) (vs : List (Stream T)) (e : Ending) → Each (λ (v : Stream T). Fine v.ending) vs → Fine e → AllFine (merged_lanes cs vs e)
 merged_lanes_fine cs vs e hs h = merged_fine _ (pick cs (numbered 0 vs ++ main_input e)) (pick_fine cs (numbered 0 vs ++ main_input e) (main_fine 0 vs e hs h))
+
+pub merged_lanes_delay_fine : {T : Type 0} (cs : List ℕ) (vs : List (Stream T)) (e : Ending) → Each (λ (v : Stream T). Fine v.ending) vs → Fine e → AllFine (merged_lanes_delay cs vs e)
+merged_lanes_delay_fine cs vs e hs h = merged_delayed_fine _ (pick_all cs (numbered 0 vs ++ main_input e)) (pick_all_fine cs (numbered 0 vs ++ main_input e) (main_fine 0 vs e hs h))
 
 -- ---- combineLatest
 

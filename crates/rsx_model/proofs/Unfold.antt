@@ -2,7 +2,7 @@
 use Rattle.std.proofs.Common.{◌≡◌, ℕ, ℤ, ◌+◌, ◌<◌, ◌≤◌, List, [], ◌∷◌, length, get_or, map, nat_le, nat_lt, Option, Some, None, option_map, option_and_then, slice_get, Vec, Global, Box, refl, sym, ap, subst, ◌∙◌, arith}
 use Rattle.std.proofs.lemmas.List.{length-map}
 use Rattle.std.proofs.lemmas.Option.{slice_get-get_or}
-use Rattle.rsx_values.specs.Prelude.{plain, listed, range_items, Stream, Stage, MOST_ITEMS, concat, merge, merge_delay, flat_map, group_by, window, combine_latest, zip, HubId}
+use Rattle.rsx_values.specs.Prelude.{plain, listed, range_items, Stream, Stage, MOST_ITEMS, concat, merge, merge_delay, flat_map, flat_map_delay, group_by, window, combine_latest, zip, HubId}
 use Rattle.rsx_model.specs.declared.check.TheConstants.{MOST_DEPTH, MOST_NODES}
 use Rattle.rsx_model.specs.declared.check.BadExpr.{BadExpr}
 use Rattle.rsx_model.specs.declared.check.BadExpr.TheVariants.{Depth, Nodes, Inputs, Number, Hub as NoSuchHub, Length}
@@ -11,7 +11,7 @@ use Rattle.rsx_model.specs.declared.expr.Expr.TheOpen.{Expr-F}
 use Rattle.rsx_model.specs.declared.expr.Expr.TheOpen as layer
 use Rattle.rsx_model.specs.declared.expr.Expr.TheFolds.{map-Expr, fold_out-Expr, ind-Expr}
 use Rattle.rsx_model.specs.declared.expr.Expr.TheVariants.{Items, Range, Hub}
-use Rattle.rsx_model.specs.declared.expr.Expr.TheViews.{Plain, Concat, Merge, MergeDelay, Zip, Latest, Group, Window, Flat, On, outs-Items, outs-Range, outs-Hub, outs-Plain, outs-Concat, outs-Merge, outs-MergeDelay, outs-Zip, outs-Latest, outs-Group, outs-Window, outs-Flat, outs-On, rolls-Items, rolls-Range, rolls-Hub, rolls-Plain, rolls-Concat, rolls-Merge, rolls-MergeDelay, rolls-Zip, rolls-Latest, rolls-Group, rolls-Window, rolls-Flat, rolls-On, roll-out-Expr, out-Expr, roll-Expr, out-roll-Expr}
+use Rattle.rsx_model.specs.declared.expr.Expr.TheViews.{Plain, Concat, Merge, MergeDelay, Zip, Latest, Group, Window, Flat, FlatDelay, On, outs-Items, outs-Range, outs-Hub, outs-Plain, outs-Concat, outs-Merge, outs-MergeDelay, outs-Zip, outs-Latest, outs-Group, outs-Window, outs-Flat, outs-FlatDelay, outs-On, rolls-Items, rolls-Range, rolls-Hub, rolls-Plain, rolls-Concat, rolls-Merge, rolls-MergeDelay, rolls-Zip, rolls-Latest, rolls-Group, rolls-Window, rolls-Flat, rolls-FlatDelay, rolls-On, roll-out-Expr, out-Expr, roll-Expr, out-roll-Expr}
 use Rattle.rsx_model.specs.Shape.{children, leaf_here, sum_of, max_of, nodes, depth, leaves}
 use Rattle.rsx_model.specs.Check.{own_fault, queued_fault, window_fault, chain_fault, flat_fault, or_else, first_of, first_fault, unless, range_fits, stage_fits, inputs_fit, worker_fits, refusal}
 use Rattle.rsx_model.specs.Eval.{Environment, Meant, quiet, chosen, ended_by_record, behind, joined_value, in_order, node_value, node_meant, meant}
@@ -31,6 +31,7 @@ own_fault-map hubs h (layer.Latest p v) = ap (queued_fault p) (length-map v.item
 own_fault-map hubs h (layer.Group f gs b) = refl
 own_fault-map hubs h (layer.Window n gs b) = refl
 own_fault-map hubs h (layer.Flat f c gs b) = refl
+own_fault-map hubs h (layer.FlatDelay f c gs b) = refl
 own_fault-map hubs h (layer.On k p b) = refl
 
 leaf_here-map : {T A B : Type 0} (h : A → B) (x : Expr-F T A) → leaf_here (map-Expr T A B h x) ≡ leaf_here x
@@ -46,6 +47,7 @@ leaf_here-map h (layer.Latest p v) = refl
 leaf_here-map h (layer.Group f gs b) = refl
 leaf_here-map h (layer.Window n gs b) = refl
 leaf_here-map h (layer.Flat f c gs b) = refl
+leaf_here-map h (layer.FlatDelay f c gs b) = refl
 leaf_here-map h (layer.On k p b) = refl
 
 -- the children's answers
@@ -62,6 +64,7 @@ children-map h (layer.Latest p v) = refl
 children-map h (layer.Group f gs b) = refl
 children-map h (layer.Window n gs b) = refl
 children-map h (layer.Flat f c gs b) = refl
+children-map h (layer.FlatDelay f c gs b) = refl
 children-map h (layer.On k p b) = refl
 
 pub nodes_out : {T : Type 0} (e : Expr T) → nodes e ≡ 1 + sum_of (map nodes (children (out-Expr T e)))
@@ -168,6 +171,9 @@ first_fault_Latest hubs p v = rw (fault_out, outs-Latest) refl
 pub first_fault_Flat : {T : Type 0} (hubs f c : ℕ) (gs : Stages T) (b : Below T) → first_fault hubs (Flat f c gs b) ≡ or_else (flat_fault c gs.items) (first_fault hubs b.value)
 first_fault_Flat hubs f c gs b = rw (fault_out, outs-Flat) (ap (or_else (flat_fault c gs.items)) (or_else-nothing _))
 
+pub first_fault_FlatDelay : {T : Type 0} (hubs f c : ℕ) (gs : Stages T) (b : Below T) → first_fault hubs (FlatDelay f c gs b) ≡ or_else (flat_fault c gs.items) (first_fault hubs b.value)
+first_fault_FlatDelay hubs f c gs b = rw (fault_out, outs-FlatDelay) (ap (or_else (flat_fault c gs.items)) (or_else-nothing _))
+
 pub first_fault_On : {T : Type 0} (hubs k p : ℕ) (b : Below T) → first_fault hubs (On k p b) ≡ or_else (unless (worker_fits k p) Number) (first_fault hubs b.value)
 first_fault_On hubs k p b = rw (fault_out, outs-On) (ap (or_else (unless (worker_fits k p) Number)) (or_else-nothing _))
 
@@ -207,6 +213,9 @@ value_Window w n gs b at leaf = rw (value_out, outs-Window) refl
 pub value_Flat : {T : Type 0} (w : Environment T) (f c : ℕ) (gs : Stages T) (b : Below T) (at leaf : ℕ) → (meant w (Flat f c gs b)).value at leaf ≡ chosen (slice_get w.notes at) (λ cs. option_and_then (flat_map w.meaning f gs.items cs) ((meant w b.value).value (at + 1) leaf))
 value_Flat w f c gs b at leaf = rw (value_out, outs-Flat) refl
 
+pub value_FlatDelay : {T : Type 0} (w : Environment T) (f c : ℕ) (gs : Stages T) (b : Below T) (at leaf : ℕ) → (meant w (FlatDelay f c gs b)).value at leaf ≡ chosen (slice_get w.notes at) (λ cs. option_and_then (flat_map_delay w.meaning f gs.items cs) ((meant w b.value).value (at + 1) leaf))
+value_FlatDelay w f c gs b at leaf = rw (value_out, outs-FlatDelay) refl
+
 pub value_On : {T : Type 0} (w : Environment T) (k p : ℕ) (b : Below T) (at leaf : ℕ) → (meant w (On k p b)).value at leaf ≡ quiet (slice_get w.notes at) ((meant w b.value).value (at + 1) leaf)
 value_On w k p b at leaf = rw (value_out, outs-On) refl
 
@@ -237,6 +246,7 @@ leaf_here-le (layer.Latest p v) = omega arith
 leaf_here-le (layer.Group f gs b) = omega arith
 leaf_here-le (layer.Window n gs b) = omega arith
 leaf_here-le (layer.Flat f c gs b) = omega arith
+leaf_here-le (layer.FlatDelay f c gs b) = omega arith
 leaf_here-le (layer.On k p b) = omega arith
 
 pub leaves_le_nodes : {T : Type 0} (e : Expr T) → leaves e ≤ nodes e
@@ -309,6 +319,9 @@ joined_there w hub leaf v is within = rw (slice_get-get_or w.joins leaf 0 within
 -- the same of what stands under a `flatMap`, with a concurrency and a chain within their limits
 pub fault_Flat : {T : Type 0} (hubs f c : ℕ) (gs : Stages T) (b : Below T) → first_fault hubs (Flat f c gs b) ≡ None → (flat_fault c gs.items ≡ None) × (first_fault hubs b.value ≡ None)
 fault_Flat hubs f c gs b h = or_none _ _ (sym (first_fault_Flat hubs f c gs b) ∙ h)
+
+pub fault_FlatDelay : {T : Type 0} (hubs f c : ℕ) (gs : Stages T) (b : Below T) → first_fault hubs (FlatDelay f c gs b) ≡ None → (flat_fault c gs.items ≡ None) × (first_fault hubs b.value ≡ None)
+fault_FlatDelay hubs f c gs b h = or_none _ _ (sym (first_fault_FlatDelay hubs f c gs b) ∙ h)
 
 -- the same of what stands under a `publishOn`, of a worker and a prefetch within their limits
 pub fault_On : {T : Type 0} (hubs k p : ℕ) (b : Below T) → first_fault hubs (On k p b) ≡ None → (unless (worker_fits k p) Number ≡ None) × (first_fault hubs b.value ≡ None)

@@ -192,7 +192,7 @@ fn own_leaf<T>(expr: &Expr<T>) -> u64
         Expr::Plain(_, _) | Expr::Concat(_) => 0,
         Expr::Merge(_, _) | Expr::MergeDelay(_, _) | Expr::Zip(_, _) | Expr::Latest(_, _) => 0,
         Expr::Group(_, _, _) | Expr::Window(_, _, _) | Expr::Flat(_, _, _, _) => 0,
-        Expr::On(_, _, _) => 0,
+        Expr::FlatDelay(_, _, _, _) | Expr::On(_, _, _) => 0,
     }
 }
 
@@ -242,6 +242,7 @@ fn own_fault_of<T>(expr: &Expr<T>, hubs: u64) -> Option<BadExpr>
         Expr::Group(_, stages, _) => chain_fault_of(stages),
         Expr::Window(size, stages, _) => window_fault_of(*size, stages),
         Expr::Flat(_, concurrency, stages, _) => flat_fault_of(*concurrency, stages),
+        Expr::FlatDelay(_, concurrency, stages, _) => flat_fault_of(*concurrency, stages),
         Expr::On(worker, prefetch, _) => unless_ok(is_worker(*worker, *prefetch), BadExpr::Number),
     }
 }

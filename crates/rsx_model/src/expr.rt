@@ -48,6 +48,9 @@ pub enum Expr<T> {
     /// plain operators; the order among the lists is chosen and recorded. The second number is the concurrency, how many of the lists
     /// are there at a time: 1 to 64.
     Flat(u16, u64, Vec<Stage<T>>, Box<Expr<T>>),
+    /// As `Flat`, but a failure ends its list alone (`flatMapDelayError`): the first one taken goes out once all lists and the input
+    /// have ended.
+    FlatDelay(u16, u64, Vec<Stage<T>>, Box<Expr<T>>),
     /// What is below it, unchanged, from a queue (`publishOn`). The first number is that of the worker that is to serve what
     /// stands over it, 0 to 15; it changes no value. The second is the prefetch, the room of the queue, as for `Merge`.
     On(u8, u64, Box<Expr<T>>),
@@ -79,6 +82,7 @@ pub fn below_of<T>(expr: &Expr<T>) -> Below<'_, T>
         Expr::Group(_, _, below) => Below::One(below),
         Expr::Window(_, _, below) => Below::One(below),
         Expr::Flat(_, _, _, below) => Below::One(below),
+        Expr::FlatDelay(_, _, _, below) => Below::One(below),
         Expr::On(_, _, below) => Below::One(below),
     }
 }

@@ -2,7 +2,7 @@
 
 ghost use Rattle.std.specs.Prelude.{Option, Some, option_map, option_and_then};
 ghost use Rattle.rsx_types.specs.Stream.{Stream};
-ghost use Rattle.rsx_values.specs.Flat.{flat_map};
+ghost use Rattle.rsx_values.specs.Flat.{flat_map, flat_map_delay};
 ghost use Rattle.rsx_values.specs.Group.{group_by};
 ghost use Rattle.rsx_values.specs.Window.{window};
 ghost use Rattle.rsx_model.specs.Eval.{chosen};
@@ -11,7 +11,7 @@ ghost use Rattle.rsx_model.specs.Answer.{Gives, GivesAll, alone};
 use crate::evaluate::{Trouble, only_of};
 use crate::several::if_valid;
 use rsx_types::{Note, Ops, Stage, StreamValue};
-use rsx_values::{flat_map, group_by, window};
+use rsx_values::{flat_map, flat_map_delay, group_by, window};
 use std::alloc::Global;
 
 /// The value of `groupBy` over the value of its only input, by the choices that were recorded; any other record is out of place.
@@ -66,6 +66,28 @@ pub(crate) fn flat_of<O: Ops>(
         Note::Picks(choices) => {
             let input = only_of(values)?;
             if_valid(flat_map(alloc, ops, f, stages, choices.as_slice(), input)?)
+        }
+        Note::Nothing => Err(Trouble::BadNotes),
+        Note::Ended(_) => Err(Trouble::BadNotes),
+    }
+}
+
+/// The value of `flatMapDelayError` over the value of its only input, by the choices that were recorded; any other record is out of place.
+pub(crate) fn flat_delay_of<O: Ops>(
+    alloc: Global,
+    ops: &O,
+    f: u16,
+    stages: &[Stage<O::Item>],
+    note: &Note,
+    values: Result<Vec<StreamValue<O::Item>>, Trouble>,
+) -> Result<StreamValue<O::Item>, Trouble>
+    ensures { (o : Option (Stream O.Item)) → GivesAll values (alone o) →
+        Gives result (chosen (Some note.now) (λ cs. option_and_then (flat_map_delay (O.meaning ops.now) f stages.now cs) o)) }
+{
+    match note {
+        Note::Picks(choices) => {
+            let input = only_of(values)?;
+            if_valid(flat_map_delay(alloc, ops, f, stages, choices.as_slice(), input)?)
         }
         Note::Nothing => Err(Trouble::BadNotes),
         Note::Ended(_) => Err(Trouble::BadNotes),

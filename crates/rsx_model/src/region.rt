@@ -33,6 +33,7 @@ fn own_worker<T>(expr: &Expr<T>) -> Option<u8>
         Expr::Plain(_, _) | Expr::Concat(_) => None,
         Expr::Merge(_, _) | Expr::MergeDelay(_, _) => None,
         Expr::Zip(_, _) | Expr::Latest(_, _) => None,
-        Expr::Group(_, _, _) | Expr::Window(_, _, _) | Expr::Flat(_, _, _, _) => None,
+        Expr::Group(_, _, _) | Expr::Window(_, _, _) => None,
+        Expr::Flat(_, _, _, _) | Expr::FlatDelay(_, _, _, _) => None,
     }
 }

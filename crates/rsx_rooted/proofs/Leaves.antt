@@ -66,6 +66,7 @@ reads_le n (layer.Latest p v) = omega arith
 reads_le n (layer.Group f gs b) = omega arith
 reads_le n (layer.Window k gs b) = omega arith
 reads_le n (layer.Flat f c gs b) = omega arith
+reads_le n (layer.FlatDelay f c gs b) = omega arith
 reads_le n (layer.On k p b) = omega arith
 
 pub leaves_le : {T : Type 0} (n : ℕ) (e : Expr T) → leaves_on n e ≤ nodes e

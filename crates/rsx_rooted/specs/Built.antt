@@ -6,7 +6,7 @@ use Rattle.rsx_model.specs.Eval.{environment, meant}
 use Rattle.rsx_model.specs.Shape.{children}
 use Rattle.rsx_model.specs.declared.expr.Expr.{Expr}
 use Rattle.rsx_model.specs.declared.expr.Expr.TheFolds.{fold-Expr}
-use Rattle.rsx_model.specs.declared.expr.Expr.TheOpen.{Expr-F, Items, Range, Hub, Concat, Merge, MergeDelay, Zip, Latest, Group, Window, Flat, On}
+use Rattle.rsx_model.specs.declared.expr.Expr.TheOpen.{Expr-F, Items, Range, Hub, Concat, Merge, MergeDelay, Zip, Latest, Group, Window, Flat, FlatDelay, On}
 use Rattle.rsx_model.specs.declared.expr.Expr.TheOpen as layer
 use Rattle.rsx_types.specs.Meaning.{Meaning}
 use Rattle.rsx_types.specs.Notes.{note_then}
@@ -54,6 +54,7 @@ begins_ended (Latest p v) = false
 begins_ended (Group f gs b) = false
 begins_ended (Window n gs b) = false
 begins_ended (Flat f c gs b) = false
+begins_ended (FlatDelay f c gs b) = false
 begins_ended (On k p b) = false
 
 -- an edge for each input, with those below it
@@ -91,6 +92,7 @@ prefetch_of (Latest p v) = p
 prefetch_of (Group f gs b) = 0
 prefetch_of (Window n gs b) = 0
 prefetch_of (Flat f c gs b) = c
+prefetch_of (FlatDelay f c gs b) = c
 prefetch_of (On k p b) = p
 
 -- the same number for each input, with those below it
@@ -138,6 +140,7 @@ join_here js (Latest p v) = []
 join_here js (Group f gs b) = []
 join_here js (Window n gs b) = []
 join_here js (Flat f c gs b) = []
+join_here js (FlatDelay f c gs b) = []
 join_here js (On k p b) = []
 
 -- lists one behind the other

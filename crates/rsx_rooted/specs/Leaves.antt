@@ -5,7 +5,7 @@ use Rattle.rsx_hub.specs.declared.TheConstants.{MOST_MEMBERS}
 use Rattle.rsx_model.specs.Shape.{children, sum_of}
 use Rattle.rsx_model.specs.declared.expr.Expr.{Expr}
 use Rattle.rsx_model.specs.declared.expr.Expr.TheFolds.{fold-Expr}
-use Rattle.rsx_model.specs.declared.expr.Expr.TheOpen.{Expr-F, Items, Range, Hub, Plain, Concat, Merge, MergeDelay, Zip, Latest, Group, Window, Flat, On}
+use Rattle.rsx_model.specs.declared.expr.Expr.TheOpen.{Expr-F, Items, Range, Hub, Plain, Concat, Merge, MergeDelay, Zip, Latest, Group, Window, Flat, FlatDelay, On}
 
 -- 1 if the node reads the hub with this number
 abbrev pub reads_here : {T A : Type 0} → ℕ → Expr-F T A → ℕ
@@ -21,6 +21,7 @@ reads_here n (Latest p v) = 0
 reads_here n (Group f gs b) = 0
 reads_here n (Window k gs b) = 0
 reads_here n (Flat f c gs b) = 0
+reads_here n (FlatDelay f c gs b) = 0
 reads_here n (On k p b) = 0
 
 -- how many leaves of an expression read the hub with this number

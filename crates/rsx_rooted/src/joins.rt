@@ -54,6 +54,7 @@ fn add_joins<T: Drop>(expr: &Expr<T>, hubs: &[Hub<T>], joins: &mut Vec<u64>) -> 
         Expr::Group(_, _, input) => add_joins(input, hubs, joins),
         Expr::Window(_, _, input) => add_joins(input, hubs, joins),
         Expr::Flat(_, _, _, input) => add_joins(input, hubs, joins),
+        Expr::FlatDelay(_, _, _, input) => add_joins(input, hubs, joins),
         Expr::On(_, _, input) => add_joins(input, hubs, joins),
     }
 }

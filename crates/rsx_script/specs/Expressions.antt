@@ -15,7 +15,7 @@ use Rattle.rsx_script.specs.Numbers.{u8_of, u32_of, u64_of, signed_of}
 use Rattle.rsx_script.specs.Reading.{Left, ◌>>=◌, next_at, opening_at, closing_at, name_at, number_at, is_opening_next}
 use Rattle.rsx_script.specs.declared.expression.OneInput.{OneInput}
 use Rattle.rsx_script.specs.declared.expression.OneInput.TheVariants as one
-use Rattle.rsx_script.specs.Orders.{Tree, Trees, items, range, hub, plain, concat, merge, merge_delay, zip, latest, group, window, flat, on, none, first}
+use Rattle.rsx_script.specs.Orders.{Tree, Trees, items, range, hub, plain, concat, merge, merge_delay, zip, latest, group, window, flat, flat_delay, on, none, first}
 
 -- the name of a function of this use, which has a number
 unfoldable pub function_at : Role → Left → Result (ℕ × Left) LineRefusal
@@ -155,6 +155,7 @@ node_over (one.Plain g) = plain g
 node_over (one.GroupBy f gs) = group f gs.items
 node_over (one.Window n gs) = window n gs.items
 node_over (one.FlatMap f c gs) = flat f c gs.items
+node_over (one.FlatMapDelay f c gs) = flat_delay f c gs.items
 node_over (one.PublishOn k p) = on k p
 
 -- a plain operator
@@ -185,6 +186,13 @@ flat_at most l = do
   gs ← chain_at most c.1
   Ok (flat f.0 c.0 gs.0, gs.1)
 
+unfoldable pub flat_delay_at : ℕ → Left → Result ((Tree → Tree) × Left) LineRefusal
+flat_delay_at most l = do
+  f ← function_at for.Expand l
+  c ← number_at u64_of f.1
+  gs ← chain_at most c.1
+  Ok (flat_delay f.0 c.0 gs.0, gs.1)
+
 -- a worker, and a prefetch
 unfoldable pub on_at : Left → Result ((Tree → Tree) × Left) LineRefusal
 on_at l = do
@@ -199,7 +207,8 @@ one_input_at most column name l =
     else (if bytes_eq name (codes "window") then window_at most l
     else (if bytes_eq name (codes "flatMap") then flat_at most l
     else (if bytes_eq name (codes "publishOn") then on_at l
-    else of_stage column name l)))
+    else (if bytes_eq name (codes "flatMapDelayError") then flat_delay_at most l
+    else of_stage column name l))))
 
 -- such an operator, and then its input
 unfoldable pub over_one_at : (Left → Result (Tree × Left) LineRefusal) → ℕ → ℕ → List ℕ → Left → Result (Tree × Left) LineRefusal

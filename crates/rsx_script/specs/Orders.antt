@@ -3,7 +3,7 @@ use Rattle.std.specs.Prelude.{ℕ, ℤ, List, [], ◌∷◌}
 use Rattle.rsx_values.specs.Prelude.{HubKind, Stage}
 use Rattle.rsx_demo.specs.declared.val.Val.{Val}
 use Rattle.rsx_model.specs.declared.expr.Expr.{Expr}
-use Rattle.rsx_model.specs.declared.expr.Expr.TheOpen.{Expr-F, Items, Range, Hub, Plain, Concat, Merge, MergeDelay, Zip, Latest, Group, Window, Flat, On}
+use Rattle.rsx_model.specs.declared.expr.Expr.TheOpen.{Expr-F, Items, Range, Hub, Plain, Concat, Merge, MergeDelay, Zip, Latest, Group, Window, Flat, FlatDelay, On}
 use Rattle.rsx_model.specs.declared.expr.Expr.TheFolds.{fold-Expr}
 use Rattle.rsx_script.specs.declared.command.Command.{Command}
 use Rattle.rsx_script.specs.declared.command.Command.TheVariants as asks
@@ -23,6 +23,7 @@ mutual
     group : ℕ → List (Stage Val) → Tree → Tree
     window : ℕ → List (Stage Val) → Tree → Tree
     flat : ℕ → ℕ → List (Stage Val) → Tree → Tree
+    flat_delay : ℕ → ℕ → List (Stage Val) → Tree → Tree
     on : ℕ → ℕ → Tree → Tree
 
   pub data Trees : Type 0 where
@@ -47,6 +48,7 @@ node_of (Latest p v) = latest p (trees_of v.items)
 node_of (Group f gs b) = group f gs.items b.value
 node_of (Window n gs b) = window n gs.items b.value
 node_of (Flat f c gs b) = flat f c gs.items b.value
+node_of (FlatDelay f c gs b) = flat_delay f c gs.items b.value
 node_of (On k p b) = on k p b.value
 
 abbrev pub tree_of : Expr Val → Tree

@@ -34,7 +34,7 @@ const NUMBERS: [(&str, &str); 4] = [
 ];
 
 /// The other words that are tried.
-const WORDS: [&str; 52] = [
+const WORDS: [&str; 53] = [
     "(",
     ")",
     "m",
@@ -74,6 +74,7 @@ const WORDS: [&str; 52] = [
     "groupBy",
     "window",
     "flatMap",
+    "flatMapDelayError",
     "publishOn",
     "inc",
     "double",

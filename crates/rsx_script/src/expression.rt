@@ -3,7 +3,7 @@
 ghost use Rattle.std.specs.Prelude.{◌≡◌, ◌<◌, ◌≤◌, ℕ, IfOk, IfSome, OnOk, map};
 ghost use Rattle.rsx_script.specs.Reading.{Gives, GivesInMemory, left, bytes_left};
 ghost use Rattle.rsx_script.specs.Orders.{tree_of, trees_of};
-ghost use Rattle.rsx_script.specs.Expressions.{function_at, stage_at, opened_stage_at, chain_stage_at, stages_at, chain_at, item_at, items_at, range_at, hub_at, inputs_at, node_over, group_at, window_at, flat_at, on_at, one_input_at, over_one_at, operator_at, expression_at};
+ghost use Rattle.rsx_script.specs.Expressions.{function_at, stage_at, opened_stage_at, chain_stage_at, stages_at, chain_at, item_at, items_at, range_at, hub_at, inputs_at, node_over, group_at, window_at, flat_at, flat_delay_at, on_at, one_input_at, over_one_at, operator_at, expression_at};
 
 use crate::parse::hub;
 use crate::{LineRefusal, Word, Words, number_i64};
@@ -109,6 +109,8 @@ pub(crate) enum OneInput {
     Window(u64, Vec<Stage<Val>>),
     /// `flatMap`: the number of the function that expands, the concurrency, and the chain.
     FlatMap(u16, u64, Vec<Stage<Val>>),
+    /// `flatMapDelayError`: the same.
+    FlatMapDelay(u16, u64, Vec<Stage<Val>>),
     /// `publishOn`: the worker, and the prefetch.
     PublishOn(u8, u64),
 }
@@ -124,6 +126,9 @@ impl OneInput {
             OneInput::Window(size, stages) => Expr::Window(size, stages, input),
             OneInput::FlatMap(expand, concurrency, stages) => {
                 Expr::Flat(expand, concurrency, stages, input)
+            }
+            OneInput::FlatMapDelay(expand, concurrency, stages) => {
+                Expr::FlatDelay(expand, concurrency, stages, input)
             }
             OneInput::PublishOn(worker, prefetch) => Expr::On(worker, prefetch, input),
         }
@@ -146,6 +151,7 @@ fn one_input(
         "window" => window(alloc, words),
         "flatMap" => flat_map(alloc, words),
         "publishOn" => publish_on(words),
+        "flatMapDelayError" => flat_map_delay(alloc, words),
         _ => Ok(OneInput::Plain(stage(column, name, words)?)),
     }
 }
@@ -182,6 +188,18 @@ fn flat_map(alloc: Global, words: &mut Words<'_>) -> Result<OneInput, LineRefusa
     let concurrency = words.u64()?;
     let stages = chain(alloc, words)?;
     Ok(OneInput::FlatMap(expand, concurrency, stages))
+}
+
+/// The function, the concurrency and the chain of a `flatMapDelayError`.
+#[tactic(auto, unfolding(crate::specs::Expressions::flat_delay_at))]
+fn flat_map_delay(alloc: Global, words: &mut Words<'_>) -> Result<OneInput, LineRefusal>
+    ensures word { (n : ℕ) → bytes_left words.old < n → GivesInMemory (λ o. (node_over o, left words.new)) result (flat_delay_at n (left words.old)) }
+    ensures most { bytes_left words.new ≤ bytes_left words.old }
+{
+    let expand = function(words, Role::Expand)?;
+    let concurrency = words.u64()?;
+    let stages = chain(alloc, words)?;
+    Ok(OneInput::FlatMapDelay(expand, concurrency, stages))
 }
 
 /// The worker and the prefetch of a `publishOn`.

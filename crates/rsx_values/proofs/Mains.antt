@@ -8,8 +8,8 @@ use Rattle.rsx_values.specs.declared.limits.TheConstants.{MAIN}
 use Rattle.rsx_types.specs.declared.stage.Stage.{Stage}
 use Rattle.rsx_types.specs.Meaning.{Meaning}
 use Rattle.rsx_types.specs.Plain.{chained, listed}
-use Rattle.rsx_values.specs.Flat.{IsExpanded, expanded_items, flat_lane, flat_map}
-use Rattle.rsx_values.specs.Lanes.{lanes_and_main, merged_lanes}
+use Rattle.rsx_values.specs.Flat.{IsExpanded, expanded_items, flat_lane, flat_map, flat_map_delay}
+use Rattle.rsx_values.specs.Lanes.{lanes_and_main, merged_lanes, merged_lanes_delay}
 
 -- no lane is left, and Main stands behind the others
 pub main_last : {T : Type 0} (inputs all : List (InputLeft T)) (lanes rest : List (Stream T)) (main : Stream T) (e : Ending) →
@@ -31,3 +31,10 @@ flat_is m f gs cs v values lanes e x is =
     let lists = expanded_items (m.expanded f) v.items v.ending in
     ap (λ l. merged_lanes cs l e) (is ∙ ap (map (chained m gs)) x.0 ∙ listed_lanes m gs lists.items)
     ∙ ap (merged_lanes cs (map (flat_lane m gs) lists.items)) x.1
+
+pub flat_delay_is : {T : Type 0} (m : Meaning T) (f : ℕ) (gs : List (Stage T)) (cs : List ℕ) (v : Stream T) (values lanes : List (Stream T)) (e : Ending) →
+    IsExpanded (expanded_items (m.expanded f) v.items v.ending) values e → lanes ≡ map (chained m gs) values → merged_lanes_delay cs lanes e ≡ flat_map_delay m f gs cs v
+flat_delay_is m f gs cs v values lanes e x is =
+    let lists = expanded_items (m.expanded f) v.items v.ending in
+    ap (λ l. merged_lanes_delay cs l e) (is ∙ ap (map (chained m gs)) x.0 ∙ listed_lanes m gs lists.items)
+    ∙ ap (merged_lanes_delay cs (map (flat_lane m gs) lists.items)) x.1

@@ -7,7 +7,6 @@ pub mod Group
 pub mod Lanes
 pub mod Latest
 pub mod Merge
-pub mod Muted
 pub mod Pick
 pub mod Prelude
 pub mod Record

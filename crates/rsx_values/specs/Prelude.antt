@@ -17,9 +17,9 @@ pub use Rattle.rsx_types.specs.declared.stage.Stage.{Stage}
 pub use Rattle.rsx_types.specs.declared.stage.Stage.TheVariants.{Buffer, Distinct, Filter, Map, Scan, Take}
 pub use Rattle.rsx_values.specs.Concat.{concat, unless_open, value_then}
 pub use Rattle.rsx_values.specs.Delayed.{merge_delay, merge_delayed_inputs}
-pub use Rattle.rsx_values.specs.Flat.{expanded_items, flat_lane, flat_map, list_then}
+pub use Rattle.rsx_values.specs.Flat.{expanded_items, flat_lane, flat_map, flat_map_delay, list_then}
 pub use Rattle.rsx_values.specs.Group.{first_seen, group_by, group_lane, group_lanes, keyed_items, keyed_then, keys_after, lane_ending, of_key, placed, see, tagged_items}
-pub use Rattle.rsx_values.specs.Lanes.{main_input, merged_lanes}
+pub use Rattle.rsx_values.specs.Lanes.{main_input, merged_lanes, merged_lanes_delay}
 pub use Rattle.rsx_values.specs.Latest.{all_latest, behind_first, combine, combine_latest, is_itemless, none_yet, row_first, stops, unless_chosen, walk}
 pub use Rattle.rsx_values.specs.Merge.{merge, merge_inputs, merged, taken_ending}
 pub use Rattle.rsx_values.specs.Pick.{InputLeft, Taken, chosen_before, is_failure, left_after, next_here, next_of, no_more, numbered, pick, rest_of, up_to_failure}

@@ -1,11 +1,9 @@
 //! The merge that delays failures, of whole stream values under recorded choices.
 
-ghost use Rattle.std.specs.Prelude.{◌≡◌, List, length, None, IfOk};
-ghost use Rattle.rsx_types.specs.Stream.{Stream};
-ghost use Rattle.rsx_values.specs.Delayed.{ending_behind, first_cause, merge_delay, merged_delayed};
-ghost use Rattle.rsx_values.specs.Muted.{all_back, signal_back, without_failure};
+ghost use Rattle.std.specs.Prelude.{◌≡◌, None, IfOk};
+ghost use Rattle.rsx_values.specs.Delayed.{ending_behind, first_cause, merge_delay, merge_delayed_inputs, merged_delayed};
 
-use crate::picking::{Input, pick};
+use crate::picking::{Input, pick_all};
 use rsx_types::{Cause, Ending, NoMemory, Signal, StreamValue};
 use std::alloc::Global;
 
@@ -24,61 +22,48 @@ pub fn merge_delay<T: Drop>(
 ) -> Result<Option<StreamValue<T>>, NoMemory>
     ensures { IfOk result (λ o. o ≡ merge_delay choices.now values.items) }
 {
-    // A pick ends at a failure. So it is made with a completion in the place of each failure, and the failures are put back then.
-    let mut endings = Vec::new(alloc);
     let mut inputs = Vec::new(alloc);
     for value in values {
         let number = inputs.len() as u64;
-        let ending = value.ending();
-        let muted = StreamValue::new(value.into_items(), without_failure(ending));
-        endings.push(ending)?;
-        inputs.push(Input::new(alloc, number, muted)?)?;
+        inputs.push(Input::new(alloc, number, value)?)?;
     }
-    match pick(alloc, inputs, choices)? {
+    merge_delay_inputs(alloc, inputs, choices)
+}
+
+/// The same of inputs that have numbers of their own.
+///
+/// # Errors
+/// [`NoMemory`] where a growth was refused.
+pub fn merge_delay_inputs<T: Drop>(
+    alloc: Global,
+    inputs: Vec<Input<T>>,
+    choices: &[u64],
+) -> Result<Option<StreamValue<T>>, NoMemory>
+    ensures { IfOk result (λ o. o ≡ merge_delayed_inputs None choices.now inputs.items) }
+{
+    let left = inputs.len();
+    match pick_all(alloc, inputs, choices)? {
         Some(taken) => {
-            let value = merged_back(alloc, endings.as_slice(), taken)?;
+            let value = merged_of(alloc, left, taken)?;
             Ok(Some(value))
         }
         None => Ok(None),
     }
 }
 
-/// A completion in the place of a failure.
-fn without_failure(ending: Ending) -> Ending
-    ensures { result ≡ without_failure ending }
-{
-    match ending {
-        Ending::Open => Ending::Open,
-        Ending::Done | Ending::Failed(_) => Ending::Done,
-    }
-}
-
-/// A signal that was taken of the value with this number, where the values have these endings, with the failure put back.
-fn signal_back<T: Drop>(endings: &[Ending], number: u64, signal: Signal<T>) -> Signal<T>
-    ensures { result ≡ signal_back endings.now number signal }
-{
-    match signal {
-        Signal::Complete => match endings.get(number as usize) {
-            Some(Ending::Failed(cause)) => Signal::Error(*cause),
-            Some(Ending::Open) | Some(Ending::Done) | None => Signal::Complete,
-        },
-        other => other,
-    }
-}
-
-/// The merge of what was taken of values with these endings, with the failures put back.
-fn merged_back<T: Drop>(
+/// The items of a pick with its ending, where so many inputs had not ended.
+fn merged_of<T: Drop>(
     alloc: Global,
-    endings: &[Ending],
+    left: usize,
     taken: Vec<(u64, Signal<T>)>,
 ) -> Result<StreamValue<T>, NoMemory>
-    ensures { IfOk result (λ v. v ≡ merged_delayed (length endings.now) None (all_back endings.now taken.items)) }
+    ensures { IfOk result (λ v. v ≡ merged_delayed left None taken.items) }
 {
-    let mut left = endings.len();
+    let mut left = left;
     let mut kept = None;
     let mut items = Vec::new(alloc);
-    for (number, signal) in taken {
-        match signal_back(endings, number, signal) {
+    for (_, signal) in taken {
+        match signal {
             Signal::Next(item) => items.push(item)?,
             Signal::Complete => left = left.saturating_sub(1),
             Signal::Error(cause) => {

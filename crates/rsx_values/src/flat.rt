@@ -2,9 +2,9 @@
 
 ghost use Rattle.std.specs.Prelude.{◌≡◌, IfOk, map};
 ghost use Rattle.rsx_types.specs.Plain.{listed};
-ghost use Rattle.rsx_values.specs.Flat.{IsExpanded, expanded_items, flat_map};
+ghost use Rattle.rsx_values.specs.Flat.{IsExpanded, expanded_items, flat_map, flat_map_delay};
 
-use crate::lanes::{chain_each, merge_lanes};
+use crate::lanes::{chain_each, merge_lanes, merge_lanes_delay};
 use rsx_types::{Cause, Ending, Fault, NoMemory, Ops, Stage, StreamValue};
 use std::alloc::Global;
 
@@ -39,6 +39,30 @@ pub fn flat_map<O: Ops>(
     let Expanded { values, ending } = expand_each(alloc, ops, f, input.items(), ending)?;
     let lanes = chain_each(alloc, ops, stages, values)?;
     merge_lanes(alloc, lanes, ending, choices)
+}
+
+/// The value that `flatMapDelayError` gives: as [`flat_map`], but a failure ends its lane alone, and choices may follow it. The
+/// value is open unless the endings of all lanes and of [`MAIN`](crate::MAIN) were taken; then it failed at the failure that was
+/// taken first, and is done where there was none. A fault of `f` is the failure of Main, and no item behind it has a lane.
+///
+/// The answer is none where the choices don't fit: one of them finds no signal.
+///
+/// # Errors
+/// [`NoMemory`] where a growth was refused, in a function of the caller too.
+pub fn flat_map_delay<O: Ops>(
+    alloc: Global,
+    ops: &O,
+    f: u16,
+    stages: &[Stage<O::Item>],
+    choices: &[u64],
+    input: StreamValue<O::Item>,
+) -> Result<Option<StreamValue<O::Item>>, NoMemory>
+    ensures { IfOk result (λ o. o ≡ flat_map_delay (O.meaning ops.now) f stages.now choices.now input) }
+{
+    let ending = input.ending();
+    let Expanded { values, ending } = expand_each(alloc, ops, f, input.items(), ending)?;
+    let lanes = chain_each(alloc, ops, stages, values)?;
+    merge_lanes_delay(alloc, lanes, ending, choices)
 }
 
 /// What each item is expanded to, up to the first fault.

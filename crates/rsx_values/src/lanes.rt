@@ -2,10 +2,10 @@
 
 ghost use Rattle.std.specs.Prelude.{◌≡◌, IfOk, map};
 ghost use Rattle.rsx_types.specs.Plain.{chained};
-ghost use Rattle.rsx_values.specs.Lanes.{merged_lanes};
+ghost use Rattle.rsx_values.specs.Lanes.{lanes_and_main, merged_lanes, merged_lanes_delay};
 
 use crate::limits::MAIN;
-use crate::{Input, apply, merge_inputs};
+use crate::{Input, apply, merge_delay_inputs, merge_inputs};
 use rsx_types::{Ending, NoMemory, Ops, Stage, StreamValue};
 use std::alloc::Global;
 
@@ -41,6 +41,24 @@ pub(crate) fn chain_each<O: Ops>(
     Ok(values)
 }
 
+/// The lanes, numbered from 0 on, and Main, which has this ending, as the inputs of a pick.
+fn lane_inputs<T: Drop>(
+    alloc: Global,
+    lanes: Vec<StreamValue<T>>,
+    ending: Ending,
+) -> Result<Vec<Input<T>>, NoMemory>
+    ensures { IfOk result (λ v. v.items ≡ lanes_and_main lanes.items ending) }
+{
+    let mut inputs = Vec::new(alloc);
+    for lane in lanes {
+        let number = inputs.len() as u64;
+        inputs.push(Input::new(alloc, number, lane)?)?;
+    }
+    let main = StreamValue::new(Vec::new(alloc), ending);
+    inputs.push(Input::new(alloc, MAIN, main)?)?;
+    Ok(inputs)
+}
+
 /// The merge of the lanes and Main under these choices. The answer is none where they don't fit.
 pub(crate) fn merge_lanes<T: Drop>(
     alloc: Global,
@@ -50,12 +68,17 @@ pub(crate) fn merge_lanes<T: Drop>(
 ) -> Result<Option<StreamValue<T>>, NoMemory>
     ensures { IfOk result (λ o. o ≡ merged_lanes choices.now lanes.items ending) }
 {
-    let mut inputs = Vec::new(alloc);
-    for lane in lanes {
-        let number = inputs.len() as u64;
-        inputs.push(Input::new(alloc, number, lane)?)?;
-    }
-    let main = StreamValue::new(Vec::new(alloc), ending);
-    inputs.push(Input::new(alloc, MAIN, main)?)?;
-    merge_inputs(alloc, inputs, choices)
+    merge_inputs(alloc, lane_inputs(alloc, lanes, ending)?, choices)
+}
+
+/// The same where failures are delayed.
+pub(crate) fn merge_lanes_delay<T: Drop>(
+    alloc: Global,
+    lanes: Vec<StreamValue<T>>,
+    ending: Ending,
+    choices: &[u64],
+) -> Result<Option<StreamValue<T>>, NoMemory>
+    ensures { IfOk result (λ o. o ≡ merged_lanes_delay choices.now lanes.items ending) }
+{
+    merge_delay_inputs(alloc, lane_inputs(alloc, lanes, ending)?, choices)
 }

@@ -53,8 +53,8 @@ pub mod rows;
 pub mod windowing;
 
 pub use concatenation::concat;
-pub use delaying::{ending_behind, first_cause, merge_delay};
-pub use flat::flat_map;
+pub use delaying::{ending_behind, first_cause, merge_delay, merge_delay_inputs};
+pub use flat::{flat_map, flat_map_delay};
 pub use group::group_by;
 pub use latest::Latest;
 pub use limits::{MAIN, MOST_KEYS, TOO_MANY_KEYS};

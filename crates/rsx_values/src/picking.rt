@@ -3,6 +3,7 @@
 ghost use Rattle.std.specs.Prelude.{◌≡◌, ◌<◌, ◌++◌, length, IfOk, OnOk, List, slice_index_or, option_map};
 ghost use Rattle.rsx_types.specs.Stream.{signals};
 ghost use Rattle.rsx_values.specs.Pick.{InputLeft, Taken, is_failure, pick, rest_of, up_to_failure};
+ghost use Rattle.rsx_values.specs.Delayed.{all_of, pick_all, rest_of_all};
 ghost use Rattle.rsx_values.specs.Steps.{TakesAt, TakesNext, unless_failed};
 
 use rsx_types::{Ending, NoMemory, Signal, StreamValue};
@@ -146,4 +147,56 @@ fn drain<T: Drop>(input: Input<T>, out: &mut Vec<(u64, Signal<T>)>) -> Result<bo
         }
     }
     Ok(false)
+}
+
+/// The signals that are taken, each with the number of its input, where choices may follow a failure: those of the choices in
+/// their order, and then all that is left, input by input.
+///
+/// The answer is none where the choices don't fit: one of them finds no signal.
+///
+/// # Errors
+/// [`NoMemory`] where a growth was refused.
+pub(crate) fn pick_all<T: Drop>(
+    alloc: Global,
+    mut inputs: Vec<Input<T>>,
+    choices: &[u64],
+) -> Result<Option<Vec<(u64, Signal<T>)>>, NoMemory>
+    ensures { IfOk result (λ o. option_map (λ v. v.items) o ≡ pick_all choices.now inputs.items) }
+{
+    let mut out = Vec::new(alloc);
+    for choice in choices {
+        match take_next(&mut inputs, *choice) {
+            None => return Ok(None),
+            Some(signal) => out.push((*choice, signal))?,
+        }
+    }
+    take_each(inputs, &mut out)?;
+    Ok(Some(out))
+}
+
+/// Takes all that is left, whatever fails.
+fn take_each<T: Drop>(
+    inputs: Vec<Input<T>>,
+    out: &mut Vec<(u64, Signal<T>)>,
+) -> Result<(), NoMemory>
+    ensures { OnOk result (out.new.items ≡ out.old.items ++ rest_of_all inputs.items) }
+{
+    for input in inputs {
+        take_all(input, out)?;
+    }
+    Ok(())
+}
+
+/// Takes an input's signals.
+fn take_all<T: Drop>(input: Input<T>, out: &mut Vec<(u64, Signal<T>)>) -> Result<(), NoMemory>
+    ensures { OnOk result ((rest : List (Taken T)) → out.old.items ++ all_of input.0 input.1 rest ≡ out.new.items ++ rest) }
+{
+    let Input {
+        number,
+        mut signals,
+    } = input;
+    while let Some(signal) = signals.pop_front() {
+        out.push((number, signal))?;
+    }
+    Ok(())
 }

@@ -39,6 +39,8 @@ pub enum Operator {
     GroupBy,
     /// `flatMap`: each item made a lane of its own, and the lanes merged.
     FlatMap,
+    /// `flatMapDelayError`: the same, but a failure ends its lane alone.
+    FlatMapDelay,
     /// `publishOn`: the input, on another worker.
     PublishOn,
     /// An operator of a caller's own.
@@ -71,6 +73,7 @@ impl fmt::Display for Operator {
             Operator::CombineLatest => f.write_str("combineLatest"),
             Operator::GroupBy => f.write_str("groupBy"),
             Operator::FlatMap => f.write_str("flatMap"),
+            Operator::FlatMapDelay => f.write_str("flatMapDelayError"),
             Operator::PublishOn => f.write_str("publishOn"),
             Operator::Own => f.write_str("operator"),
         }

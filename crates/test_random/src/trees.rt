@@ -61,6 +61,8 @@ pub enum Laned {
     GroupBy,
     /// What each item is expanded to.
     FlatMap,
+    /// The same, where a failure ends its lane alone.
+    FlatMapDelay,
 }
 
 /// A kind of node.
@@ -77,7 +79,7 @@ pub enum Kind {
 }
 
 /// All kinds of nodes, each with the name that a script has for it.
-pub const KINDS: [(&'static str, Kind); 18] = [
+pub const KINDS: [(&'static str, Kind); 19] = [
     ("items", Kind::Leaf(Leaf::Items)),
     ("range", Kind::Leaf(Leaf::Range)),
     ("hub", Kind::Leaf(Leaf::Hub)),
@@ -96,6 +98,7 @@ pub const KINDS: [(&'static str, Kind); 18] = [
     ("window", Kind::Laned(Laned::Window)),
     ("groupBy", Kind::Laned(Laned::GroupBy)),
     ("flatMap", Kind::Laned(Laned::FlatMap)),
+    ("flatMapDelayError", Kind::Laned(Laned::FlatMapDelay)),
 ];
 
 /// A node of this kind over leaves that may have plain operators over them, with up to two operators of any kind over it.
@@ -252,6 +255,7 @@ fn laned_over(
         Laned::Window => Ok(Expr::Window(count, stages, below)),
         Laned::GroupBy => Ok(Expr::Group(function, stages, below)),
         Laned::FlatMap => Ok(Expr::Flat(function, count, stages, below)),
+        Laned::FlatMapDelay => Ok(Expr::FlatDelay(function, count, stages, below)),
     }
 }
 

@@ -1,7 +1,7 @@
 use Rattle.std.proofs.Common.{◌≡◌, ◌+◌, map, refl, arith}
 use Rattle.std.specs.String.{string_bytes}
-use Rattle.rsx_model.specs.declared.expr.Expr.TheViews.{outs-MergeDelay, outs-Zip, outs-Latest, outs-Group, outs-Window, outs-Flat, outs-On}
-use Rattle.rsx_script.specs.Orders.{tree_of, trees_of, merge_delay, zip, latest, group, window, flat, on}
+use Rattle.rsx_model.specs.declared.expr.Expr.TheViews.{outs-MergeDelay, outs-Zip, outs-Latest, outs-Group, outs-Window, outs-Flat, outs-FlatDelay, outs-On}
+use Rattle.rsx_script.specs.Orders.{tree_of, trees_of, merge_delay, zip, latest, group, window, flat, flat_delay, on}
 use Rattle.rsx_expression_text.specs.Drawn.{all_rows_text, row_text, rows_text}
 use Rattle.rsx_expression_text.proofs.Drawings.{nodes_more, put_on, rows_more, tree_out}
 use Rattle.rsx_expression_text.proofs.drawing.+tree.Goals as goal
@@ -59,6 +59,15 @@ add_tree-returns-in-Flat-clause-added t c =
     let shape : tree_of c.args.expr.now ≡ flat c.in-Flat.field-0 c.in-Flat.field-1 c.in-Flat.field-2.items (tree_of c.in-Flat.below.value) = rw c.in-Flat.is (rw (tree_out, outs-Flat) refl) in
     put_on c.add_tree-in-Flat.result (string_bytes c.args.text.now) (string_bytes c.add_row.new.text) (string_bytes c.add_tree-in-Flat.new.text) (row_text d n expr) (rows_text (d + 1) (n + 1) (tree_of c.deref-in-Flat.result.now)) (rows_text d n expr)
     c.in_ok-add_row.ensures.added (rw (shape, c.deref-in-Flat.ensures) refl) c.add_tree-in-Flat.ensures.added
+
+pub add_tree-returns-in-FlatDelay-clause-added : goal.add_tree-returns-in-FlatDelay-clause-added
+add_tree-returns-in-FlatDelay-clause-added t c =
+    let d = c.args.depth in
+    let n = c.args.number in
+    let expr = tree_of c.args.expr.now in
+    let shape : tree_of c.args.expr.now ≡ flat_delay c.in-FlatDelay.field-0 c.in-FlatDelay.field-1 c.in-FlatDelay.field-2.items (tree_of c.in-FlatDelay.below.value) = rw c.in-FlatDelay.is (rw (tree_out, outs-FlatDelay) refl) in
+    put_on c.add_tree-in-FlatDelay.result (string_bytes c.args.text.now) (string_bytes c.add_row.new.text) (string_bytes c.add_tree-in-FlatDelay.new.text) (row_text d n expr) (rows_text (d + 1) (n + 1) (tree_of c.deref-in-FlatDelay.result.now)) (rows_text d n expr)
+    c.in_ok-add_row.ensures.added (rw (shape, c.deref-in-FlatDelay.ensures) refl) c.add_tree-in-FlatDelay.ensures.added
 
 pub add_tree-returns-in-On-clause-added : goal.add_tree-returns-in-On-clause-added
 add_tree-returns-in-On-clause-added t c =

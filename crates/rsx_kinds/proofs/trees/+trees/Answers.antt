@@ -5,10 +5,11 @@ use Rattle.std.proofs.lemmas.Int.{to_z-of_z}
 use Rattle.rsx_kinds.proofs.Builds.{hub_read, items_if, leaf_if, range_if}
 use Rattle.rsx_kinds.proofs.Plains.{plain_if}
 use Rattle.rsx_kinds.proofs.Crossings.{crossed_built, crossed_if}
+use Rattle.rsx_kinds.proofs.FlatMapDelays.{flat_delay_if}
 use Rattle.rsx_kinds.proofs.FlatMaps.{flat_if}
 use Rattle.rsx_kinds.proofs.GroupBys.{group_if}
 use Rattle.rsx_kinds.proofs.Made.{in_front_built, several_over}
-use Rattle.rsx_kinds.proofs.Placings.{crossed_placed, in_front_placed, placed_Concat, placed_Flat, placed_Group, placed_Hub, placed_Items, placed_Latest, placed_Merge, placed_MergeDelay, placed_On, placed_Plain, placed_Range, placed_Window, placed_Zip, placed_crossed}
+use Rattle.rsx_kinds.proofs.Placings.{crossed_placed, in_front_placed, placed_Concat, placed_Flat, placed_FlatDelay, placed_Group, placed_Hub, placed_Items, placed_Latest, placed_Merge, placed_MergeDelay, placed_On, placed_Plain, placed_Range, placed_Window, placed_Zip, placed_crossed}
 use Rattle.rsx_kinds.proofs.PublishOn.{publish_on_if}
 use Rattle.rsx_kinds.proofs.Rows.{split}
 use Rattle.rsx_kinds.proofs.Several.{built_concat, built_latest, built_merge, built_merge_delay, built_zip, limits_Concat, limits_Latest, limits_Merge, limits_MergeDelay, limits_Zip}
@@ -99,6 +100,11 @@ build-returns-in_ok-below-in-Flat-clause-built g t c =
     flat_if (g.O.Ops.meaning c.args.ops.now) c.args.hubs.now (length c.args.hubs.now) c.args.expr.now c.in-Flat.function c.in-Flat.concurrency c.in-Flat.stages c.deref-in-Flat-2.result.now c.in-Flat.input c.deref-in-Flat.result.now c.in_ok-below-in-Flat.below c.flat_map.result c.over_one-in-Flat.result
     c.in-Flat.is c.deref-in-Flat-2.ensures.value c.deref-in-Flat.ensures c.requires c.in_ok-below-in-Flat.ensures.built c.flat_map.ensures c.over_one-in-Flat.ensures
 
+pub build-returns-in_ok-below-in-FlatDelay-clause-built : goal.build-returns-in_ok-below-in-FlatDelay-clause-built
+build-returns-in_ok-below-in-FlatDelay-clause-built g t c =
+    flat_delay_if (g.O.Ops.meaning c.args.ops.now) c.args.hubs.now (length c.args.hubs.now) c.args.expr.now c.in-FlatDelay.function c.in-FlatDelay.concurrency c.in-FlatDelay.stages c.deref-in-FlatDelay-2.result.now c.in-FlatDelay.input c.deref-in-FlatDelay.result.now c.in_ok-below-in-FlatDelay.below c.flat_map_delay.result c.over_one-in-FlatDelay.result
+    c.in-FlatDelay.is c.deref-in-FlatDelay-2.ensures.value c.deref-in-FlatDelay.ensures c.requires c.in_ok-below-in-FlatDelay.ensures.built c.flat_map_delay.ensures c.over_one-in-FlatDelay.ensures
+
 pub build-returns-in_ok-below-in-On-clause-built : goal.build-returns-in_ok-below-in-On-clause-built
 build-returns-in_ok-below-in-On-clause-built g t c =
     let m = g.O.Ops.meaning c.args.ops.now in
@@ -179,6 +185,11 @@ pub build-returns-in_ok-below-in-Flat-clause-placed : goal.build-returns-in_ok-b
 build-returns-in_ok-below-in-Flat-clause-placed g t c =
     placed_Flat c.args.expr.now c.in-Flat.function c.in-Flat.concurrency c.in-Flat.stages c.in-Flat.input c.deref-in-Flat.result.now c.flat_map.result c.in_ok-below-in-Flat.below c.over_one-in-Flat.result
     c.in-Flat.is c.deref-in-Flat.ensures c.in_ok-below-in-Flat.ensures.placed c.over_one-in-Flat.ensures
+
+pub build-returns-in_ok-below-in-FlatDelay-clause-placed : goal.build-returns-in_ok-below-in-FlatDelay-clause-placed
+build-returns-in_ok-below-in-FlatDelay-clause-placed g t c =
+    placed_FlatDelay c.args.expr.now c.in-FlatDelay.function c.in-FlatDelay.concurrency c.in-FlatDelay.stages c.in-FlatDelay.input c.deref-in-FlatDelay.result.now c.flat_map_delay.result c.in_ok-below-in-FlatDelay.below c.over_one-in-FlatDelay.result
+    c.in-FlatDelay.is c.deref-in-FlatDelay.ensures c.in_ok-below-in-FlatDelay.ensures.placed c.over_one-in-FlatDelay.ensures
 
 pub build-returns-in_ok-below-in-On-clause-placed : goal.build-returns-in_ok-below-in-On-clause-placed
 build-returns-in_ok-below-in-On-clause-placed g t c =

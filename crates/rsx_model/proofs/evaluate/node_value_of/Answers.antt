@@ -3,7 +3,7 @@ use Rattle.std.proofs.lemmas.Int.{to_z-of_z}
 use Rattle.std.proofs.lemmas.Option.{slice_get_read}
 use mir.Val.{SFits}
 use mir.Syntax.{w64}
-use Rattle.rsx_model.specs.declared.expr.Expr.TheViews.{outs-Items, outs-Range, outs-Hub, outs-Plain, outs-Concat, outs-Merge, outs-MergeDelay, outs-Zip, outs-Latest, outs-Group, outs-Window, outs-Flat, outs-On}
+use Rattle.rsx_model.specs.declared.expr.Expr.TheViews.{outs-Items, outs-Range, outs-Hub, outs-Plain, outs-Concat, outs-Merge, outs-MergeDelay, outs-Zip, outs-Latest, outs-Group, outs-Window, outs-Flat, outs-FlatDelay, outs-On}
 use Rattle.rsx_model.specs.Check.{first_fault}
 use Rattle.rsx_model.specs.Eval.{environment, meant}
 use Rattle.rsx_model.specs.Shape.{leaves}
@@ -88,6 +88,13 @@ returns-in-Flat g c =
     let note : slice_get c.args.notes.now c.args.at ≡ Some c.index-notes-at.result = slice_get_read c.args.notes.now (length c.args.notes.now) c.args.at c.index-notes-at.result refl c.requires.noted c.index-notes-at.is in
     let below = rw (c.in-Flat.is, outs-Flat) at c.requires.below in
     rw (value_out, c.in-Flat.is, outs-Flat, note, ← c.deref-in-Flat.ensures.value) (c.flat_of.ensures ((meant w c.in-Flat.field-3.value).value (c.args.at + 1) c.args.leaf) below)
+
+pub returns-in-FlatDelay : goal.returns-in-FlatDelay
+returns-in-FlatDelay g c =
+    let w = environment (g.O.Ops.meaning c.args.ops.now) c.args.hubs.now c.args.joins.now c.args.notes.now in
+    let note : slice_get c.args.notes.now c.args.at ≡ Some c.index-notes-at.result = slice_get_read c.args.notes.now (length c.args.notes.now) c.args.at c.index-notes-at.result refl c.requires.noted c.index-notes-at.is in
+    let below = rw (c.in-FlatDelay.is, outs-FlatDelay) at c.requires.below in
+    rw (value_out, c.in-FlatDelay.is, outs-FlatDelay, note, ← c.deref-in-FlatDelay.ensures.value) (c.flat_delay_of.ensures ((meant w c.in-FlatDelay.field-3.value).value (c.args.at + 1) c.args.leaf) below)
 
 pub returns-in-On : goal.returns-in-On
 returns-in-On g c =

@@ -18,5 +18,8 @@ returns-in-Window g c = record { shown = rw c.in-Window.is c.front-in-Window.ens
 pub returns-in-FlatMap : goal.returns-in-FlatMap
 returns-in-FlatMap g c = record { shown = rw c.in-FlatMap.is c.front-in-FlatMap.ensures.shown; first = λ m. rw c.in-FlatMap.is (c.front-in-FlatMap.ensures.first m) }
 
+pub returns-in-FlatMapDelay : goal.returns-in-FlatMapDelay
+returns-in-FlatMapDelay g c = record { shown = rw c.in-FlatMapDelay.is c.front-in-FlatMapDelay.ensures.shown; first = λ m. rw c.in-FlatMapDelay.is (c.front-in-FlatMapDelay.ensures.first m) }
+
 pub returns-in-GroupBy : goal.returns-in-GroupBy
 returns-in-GroupBy g c = record { shown = rw c.in-GroupBy.is c.front-in-GroupBy.ensures.shown; first = λ m. rw c.in-GroupBy.is (c.front-in-GroupBy.ensures.first m) }

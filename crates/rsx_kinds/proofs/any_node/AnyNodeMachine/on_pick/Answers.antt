@@ -1,7 +1,7 @@
 use Rattle.std.proofs.Common.{ap, refl}
 use Rattle.std.proofs.lemmas.Result.{on_ok_weaker, on_err_weaker}
-use Rattle.rsx_kinds.specs.declared.any_node.AnyNode.TheVariants.{Several, FlatMap, GroupBy}
-use Rattle.rsx_kinds.proofs.Dispatch.{stepped_several, stepped_flat_map, stepped_group_by}
+use Rattle.rsx_kinds.specs.declared.any_node.AnyNode.TheVariants.{Several, FlatMap, FlatMapDelay, GroupBy}
+use Rattle.rsx_kinds.proofs.Dispatch.{stepped_several, stepped_flat_map, stepped_flat_map_delay, stepped_group_by}
 use Rattle.rsx_kinds.proofs.any_node.AnyNodeMachine.on_pick.Goals as goal
 
 pub returns-in-Several-clause-ok : goal.returns-in-Several-clause-ok
@@ -24,6 +24,19 @@ returns-in-FlatMap g c = rw c.in-FlatMap.is (record {
   memory = λ e. cc;
   alike = (refl, (refl, λ a. (refl, refl, refl)));
   same = on_err_weaker c.on_pick-in-FlatMap.result (λ e. ap FlatMap e) c.on_pick-in-FlatMap.ensures.same;
+})
+
+pub returns-in-FlatMapDelay : goal.returns-in-FlatMapDelay
+returns-in-FlatMapDelay g c = rw c.in-FlatMapDelay.is (record {
+  ok = c.on_pick-in-FlatMapDelay.ensures.ok;
+  enabled = c.on_pick-in-FlatMapDelay.ensures.enabled;
+  recorded = c.on_pick-in-FlatMapDelay.ensures.recorded;
+  composes = c.on_pick-in-FlatMapDelay.ensures.composes;
+  counts = on_ok_weaker c.on_pick-in-FlatMapDelay.result (stepped_flat_map_delay c.in-FlatMapDelay.node c.on_pick-in-FlatMapDelay.new.self) c.on_pick-in-FlatMapDelay.ensures.counts;
+  err = c.on_pick-in-FlatMapDelay.ensures.err;
+  memory = λ e. cc;
+  alike = (refl, (refl, λ a. (refl, refl, refl)));
+  same = on_err_weaker c.on_pick-in-FlatMapDelay.result (λ e. ap FlatMapDelay e) c.on_pick-in-FlatMapDelay.ensures.same;
 })
 
 pub returns-in-GroupBy : goal.returns-in-GroupBy

@@ -1,7 +1,7 @@
 use Rattle.std.proofs.Common.{ap, refl}
 use Rattle.std.proofs.lemmas.Result.{on_ok_weaker, on_err_weaker}
-use Rattle.rsx_kinds.specs.declared.any_node.AnyNode.TheVariants.{Several, PublishOn, Window, FlatMap, GroupBy}
-use Rattle.rsx_kinds.proofs.Dispatch.{taken_several, taken_publish_on, taken_window, taken_flat_map, taken_group_by}
+use Rattle.rsx_kinds.specs.declared.any_node.AnyNode.TheVariants.{Several, PublishOn, Window, FlatMap, FlatMapDelay, GroupBy}
+use Rattle.rsx_kinds.proofs.Dispatch.{taken_several, taken_publish_on, taken_window, taken_flat_map, taken_flat_map_delay, taken_group_by}
 use Rattle.rsx_kinds.proofs.any_node.AnyNodeMachine.on_signal.Goals as goal
 
 pub returns-in-Several : goal.returns-in-Several
@@ -50,6 +50,18 @@ returns-in-FlatMap g c = rw c.in-FlatMap.is (record {
   memory = λ e. cc;
   alike = (refl, (refl, λ a. (refl, refl, refl)));
   same = on_err_weaker c.on_signal-in-FlatMap.result (λ e. ap FlatMap e) c.on_signal-in-FlatMap.ensures.same;
+})
+
+pub returns-in-FlatMapDelay : goal.returns-in-FlatMapDelay
+returns-in-FlatMapDelay g c = rw c.in-FlatMapDelay.is (record {
+  ok = c.on_signal-in-FlatMapDelay.ensures.ok;
+  enabled = c.on_signal-in-FlatMapDelay.ensures.enabled;
+  recorded = c.on_signal-in-FlatMapDelay.ensures.recorded;
+  counts = on_ok_weaker c.on_signal-in-FlatMapDelay.result (taken_flat_map_delay c.in-FlatMapDelay.node c.on_signal-in-FlatMapDelay.new.self c.args.input c.args.signal) c.on_signal-in-FlatMapDelay.ensures.counts;
+  err = c.on_signal-in-FlatMapDelay.ensures.err;
+  memory = λ e. cc;
+  alike = (refl, (refl, λ a. (refl, refl, refl)));
+  same = on_err_weaker c.on_signal-in-FlatMapDelay.result (λ e. ap FlatMapDelay e) c.on_signal-in-FlatMapDelay.ensures.same;
 })
 
 pub returns-in-GroupBy : goal.returns-in-GroupBy

@@ -1,4 +1,4 @@
-use Rattle.rsx_kinds.proofs.Dispatch.{passed_plain, passed_several, passed_publish_on, passed_window, passed_flat_map, passed_group_by}
+use Rattle.rsx_kinds.proofs.Dispatch.{passed_plain, passed_several, passed_publish_on, passed_window, passed_flat_map, passed_flat_map_delay, passed_group_by}
 use Rattle.rsx_kinds.proofs.any_node.AnyNodeMachine.pass.Goals as goal
 
 pub returns-in-Plain-clause-passed : goal.returns-in-Plain-clause-passed
@@ -20,6 +20,10 @@ returns-in-Window-clause-passed g c =
 pub returns-in-FlatMap-clause-passed : goal.returns-in-FlatMap-clause-passed
 returns-in-FlatMap-clause-passed g c =
     rw c.in-FlatMap.is (passed_flat_map (g.O.Ops.meaning c.args.ops.now) c.in-FlatMap.node c.pass-in-FlatMap.new.self c.args.input c.args.item c.pass-in-FlatMap.result c.pass-in-FlatMap.ensures.passed)
+
+pub returns-in-FlatMapDelay-clause-passed : goal.returns-in-FlatMapDelay-clause-passed
+returns-in-FlatMapDelay-clause-passed g c =
+    rw c.in-FlatMapDelay.is (passed_flat_map_delay (g.O.Ops.meaning c.args.ops.now) c.in-FlatMapDelay.node c.pass-in-FlatMapDelay.new.self c.args.input c.args.item c.pass-in-FlatMapDelay.result c.pass-in-FlatMapDelay.ensures.passed)
 
 pub returns-in-GroupBy-clause-passed : goal.returns-in-GroupBy-clause-passed
 returns-in-GroupBy-clause-passed g c =

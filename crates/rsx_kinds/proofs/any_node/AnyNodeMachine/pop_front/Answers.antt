@@ -1,5 +1,5 @@
 use Rattle.std.proofs.lemmas.Result.{IfOk-weaker}
-use Rattle.rsx_kinds.proofs.Dispatch.{popped_source, popped_several, popped_publish_on, popped_window, popped_flat_map, popped_group_by, counted_source, counted_several, counted_publish_on, counted_window, counted_flat_map, counted_group_by}
+use Rattle.rsx_kinds.proofs.Dispatch.{popped_source, popped_several, popped_publish_on, popped_window, popped_flat_map, popped_flat_map_delay, popped_group_by, counted_source, counted_several, counted_publish_on, counted_window, counted_flat_map, counted_flat_map_delay, counted_group_by}
 use Rattle.rsx_kinds.proofs.any_node.AnyNodeMachine.pop_front.Goals as goal
 
 pub returns-in-Source-clause-ok : goal.returns-in-Source-clause-ok
@@ -38,9 +38,17 @@ pub returns-in-FlatMap-clause-ok : goal.returns-in-FlatMap-clause-ok
 returns-in-FlatMap-clause-ok g c =
     rw c.in-FlatMap.is (IfOk-weaker c.pop_front-in-FlatMap.result _ _ (λ s. popped_flat_map (g.O.Ops.meaning c.args.ops.now) c.in-FlatMap.node c.pop_front-in-FlatMap.new.self s) c.pop_front-in-FlatMap.ensures.ok)
 
+pub returns-in-FlatMapDelay-clause-ok : goal.returns-in-FlatMapDelay-clause-ok
+returns-in-FlatMapDelay-clause-ok g c =
+    rw c.in-FlatMapDelay.is (IfOk-weaker c.pop_front-in-FlatMapDelay.result _ _ (λ s. popped_flat_map_delay (g.O.Ops.meaning c.args.ops.now) c.in-FlatMapDelay.node c.pop_front-in-FlatMapDelay.new.self s) c.pop_front-in-FlatMapDelay.ensures.ok)
+
 pub returns-in-FlatMap-clause-counts : goal.returns-in-FlatMap-clause-counts
 returns-in-FlatMap-clause-counts g c =
     rw c.in-FlatMap.is (IfOk-weaker c.pop_front-in-FlatMap.result _ _ (λ s. counted_flat_map c.in-FlatMap.node c.pop_front-in-FlatMap.new.self s) c.pop_front-in-FlatMap.ensures.counts)
+
+pub returns-in-FlatMapDelay-clause-counts : goal.returns-in-FlatMapDelay-clause-counts
+returns-in-FlatMapDelay-clause-counts g c =
+    rw c.in-FlatMapDelay.is (IfOk-weaker c.pop_front-in-FlatMapDelay.result _ _ (λ s. counted_flat_map_delay c.in-FlatMapDelay.node c.pop_front-in-FlatMapDelay.new.self s) c.pop_front-in-FlatMapDelay.ensures.counts)
 
 pub returns-in-GroupBy-clause-ok : goal.returns-in-GroupBy-clause-ok
 returns-in-GroupBy-clause-ok g c =

@@ -15,5 +15,8 @@ returns-in-Window g c = rw c.in-Window.is c.residual-in-Window.ensures
 pub returns-in-FlatMap : goal.returns-in-FlatMap
 returns-in-FlatMap g c = rw c.in-FlatMap.is c.residual-in-FlatMap.ensures
 
+pub returns-in-FlatMapDelay : goal.returns-in-FlatMapDelay
+returns-in-FlatMapDelay g c = rw c.in-FlatMapDelay.is c.residual-in-FlatMapDelay.ensures
+
 pub returns-in-GroupBy : goal.returns-in-GroupBy
 returns-in-GroupBy g c = rw c.in-GroupBy.is c.residual-in-GroupBy.ensures

@@ -1,8 +1,7 @@
 use Rattle.std.proofs.Common.{◌≡◌, ◌∷◌, ◌++◌, [], ◌∙◌, ap, rules, length, arith}
 use Rattle.std.specs.Vec.Iter.{into_iter_items}
-use Rattle.rsx_values.specs.Lanes.{lanes_and_main}
 use Rattle.rsx_values.proofs.Mains.{main_last}
-use Rattle.rsx_values.proofs.lanes.merge_lanes.Goals as goal
+use Rattle.rsx_values.proofs.lanes.lane_inputs.Goals as goal
 
 pub returns : goal.returns
 returns g c =
@@ -11,5 +10,4 @@ returns g c =
     let no_items : c.new-main.result.items ≡ [] = search rules in
     let ends : c.new-main.result.ending ≡ c.args.ending = search rules in
     let pushed = c.in_ok-push-2.ensures.items ∙ ap (λ i. c.loop-lane.inputs.items ++ i ∷ []) c.in_ok-new-2.ensures in
-    let all : c.push-2.new.self.items ≡ lanes_and_main c.args.lanes.items c.args.ending = main_last c.loop-lane.inputs.items c.push-2.new.self.items c.args.lanes.items rest c.new-main.result c.args.ending c.loop-lane.invariant none no_items ends pushed in
-    rw all at c.merge_inputs.ensures
+    main_last c.loop-lane.inputs.items c.push-2.new.self.items c.args.lanes.items rest c.new-main.result c.args.ending c.loop-lane.invariant none no_items ends pushed

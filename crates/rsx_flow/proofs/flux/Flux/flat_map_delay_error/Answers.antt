@@ -1,0 +1,6 @@
+use Rattle.rsx_flow.proofs.Makes.{over_both}
+use Rattle.rsx_flow.proofs.flux.Flux.flat_map_delay_error.Goals as goal
+
+pub returns : goal.returns
+returns g c =
+    (c.new.result, c.lane.result, c.new.ensures, c.lane.ensures, over_both _ _ _ _ _ _ _ c.boxed.ensures c.into_vec-stages.ensures c.flat_delay_of.ensures c.new-2.ensures)
