@@ -4,13 +4,13 @@ use Rattle.std.proofs.Common.{ap, sym, ◌∙◌}
 use Rattle.rsx_sources.specs.Prelude.{Meaning, Stream, Note, Nothing, Ending, Open, Done, Failed, Signal, Next, Complete, Error, LetsGo, Reading, ended_by, ends_input, incoming_of, published_at, signal_then, signals_then}
 use Rattle.rsx_hub.specs.Leaf.{LeafState, reading_of}
 use Rattle.rsx_queued.specs.declared.sender.Sender.TheVariants.{Direct, Crossing}
-use Rattle.rsx_cut.specs.Flow.{HoldsQueue, ReadsLink}
-use Rattle.rsx_cut.specs.Local.{AgreeAt, IsLocal}
-use Rattle.rsx_cut.proofs.Joins.{then_append}
-use Rattle.rsx_cut.proofs.Leaves.{crossing_holds, items_signals, leaf_local, leaf_open, leaf_reads_link, sender_local}
+use Rattle.rsx_rooted.specs.Flow.{HoldsQueue, ReadsLink}
+use Rattle.rsx_rooted.specs.Local.{AgreeAt, IsLocal}
+use Rattle.rsx_rooted.proofs.Linked.{then_append}
+use Rattle.rsx_rooted.proofs.CutNodes.{crossing_holds, items_signals, leaf_local, leaf_open, leaf_reads_link, sender_local}
+use Rattle.rsx_rooted.specs.Cutting.{HoldsEnding, endings}
 use Rattle.rsx_kinds.specs.Any.{TreeNode, any_machine, kind_machine}
 use Rattle.rsx_kinds.specs.Crossings.{is_crossing}
-use Rattle.rsx_rooted.specs.Cutting.{HoldsEnding, endings}
 use Rattle.rsx_kinds.specs.Cutting.{node_held, node_read_to, tail_of, taken_in, with_ended_queue, with_queue}
 use Rattle.rsx_kinds.specs.Laws.{any_ends}
 use Rattle.rsx_queued.specs.Held.{comes_in_at, held_then}

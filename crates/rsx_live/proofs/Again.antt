@@ -6,12 +6,12 @@ use Rattle.rsx_sources.specs.Prelude.{Complete, Error, Meaning, Next, Signal, St
 use Rattle.rsx_sources.specs.declared.machine.Machine.{Ghosts as Machine}
 use Rattle.rsx_tree.specs.declared.edge.EdgeState.TheVariants.{Closed}
 use Rattle.rsx_rooted.proofs.Signals.{IsUnended-front, items_in-append}
+use Rattle.rsx_rooted.specs.Local.{stream_of}
 use Rattle.rsx_pipe.specs.Output.{IsOrderly, IsPrefixOf, IsUnended, items_in}
 use Rattle.rsx_pipe.specs.Part.{Part, PartStands, all_edges}
 use Rattle.rsx_link.specs.Ends.{asked_total, carried_down, carried_up, received_signals, seen_total, sent_signals}
 use Rattle.rsx_link.specs.Signals.{items_in as counted_in}
 use Rattle.rsx_link.specs.declared.link.Link.{Link}
-use Rattle.rsx_cut.specs.Local.{stream_of}
 use Rattle.rsx_piece.specs.Piece.{PieceStands}
 use Rattle.rsx_region.specs.Pieces.{StandsSince, came_of, numbers_of, taken_by, taken_of}
 use Rattle.rsx_region.specs.declared.piece.Incoming.{Incoming}

@@ -10,12 +10,12 @@ use Rattle.rsx_tree.specs.declared.node.Node.{Node}
 use Rattle.rsx_tree.specs.Reads.{IsReadAt, IsRowReadAt, IsTreeReadAt, readings, row_readings}
 use Rattle.rsx_tree.specs.Tree.{comes_out, notes}
 use Rattle.rsx_rooted.proofs.Signals.{IsOrderly-more, items_in-append}
+use Rattle.rsx_rooted.specs.Flow.{AreFor, Flows}
+use Rattle.rsx_rooted.specs.Local.{Begins, IsOf, stream_of}
+use Rattle.rsx_rooted.proofs.Locals.{flows_stands, reads_not_on}
 use Rattle.rsx_pipe.specs.Output.{IsOrderly, IsUnended, counts_in, items_in, values_then}
 use Rattle.rsx_pipe.specs.Part.{Part, PartStands, evaluated}
 use Rattle.rsx_pipe.specs.Tree.{IsBalanced}
-use Rattle.rsx_cut.specs.Flow.{AreFor, Flows}
-use Rattle.rsx_cut.specs.Local.{Begins, IsOf, stream_of}
-use Rattle.rsx_cut.proofs.Locals.{flows_stands, reads_not_on}
 use Rattle.rsx_link.specs.Ends.{carried_up}
 use Rattle.rsx_link.specs.Signals.{items_in as counted_in}
 use Rattle.rsx_link.specs.declared.up.Up.{Up}

@@ -6,7 +6,7 @@ use Rattle.rsx_sources.specs.declared.machine.Machine.{Ghosts as Machine}
 use Rattle.rsx_tree.specs.declared.edge.EdgeState.TheVariants.{Live}
 use Rattle.rsx_tree.specs.declared.node.Node.{Node}
 use Rattle.rsx_tree.specs.Reads.{readings}
-use Rattle.rsx_cut.specs.Local.{AllOf}
+use Rattle.rsx_rooted.specs.Local.{AllOf}
 use Rattle.rsx_link.specs.Ends.{IsUpOf, asked_total, cancel_parts, cancels_of, capacity_of, carried_down, carried_up, down_steps, sent_signals}
 use Rattle.rsx_link.specs.Signals.{items_in}
 use Rattle.rsx_link.specs.Steps.{is_refused}

@@ -18,7 +18,7 @@ use Rattle.rsx_link.specs.Steps.{asked_of}
 use Rattle.rsx_link.specs.declared.cancel.CancelSeat.{CancelSeat}
 use Rattle.rsx_link.specs.declared.down.Down.{Down}
 use Rattle.rsx_link.specs.declared.view.Step.{Step}
-use Rattle.rsx_cut.specs.Local.{stream_of}
+use Rattle.rsx_rooted.specs.Local.{stream_of}
 use Rattle.rsx_piece.specs.Inlet.{HaveBegun, HaveReached, LinkStands}
 use Rattle.rsx_piece.specs.Moves.{IsAskedFor, IsAskedOver}
 

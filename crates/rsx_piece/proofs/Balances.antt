@@ -12,8 +12,8 @@ use Rattle.rsx_tree.specs.Swapped.{put_at}
 use Rattle.rsx_tree.specs.declared.edge.EdgeState.TheVariants.{Live}
 use Rattle.rsx_tree.specs.declared.inputs.Inputs.{Inputs, End, More'}
 use Rattle.rsx_tree.specs.declared.node.Node.{Node}
-use Rattle.rsx_cut.proofs.Puts.{put_below, put_beside, put_here}
-use Rattle.rsx_cut.specs.Flow.{HoldsQueue}
+use Rattle.rsx_rooted.proofs.Puts.{put_below, put_beside, put_here}
+use Rattle.rsx_rooted.specs.Flow.{HoldsQueue}
 use Rattle.rsx_pipe.specs.Cutting.{Place, place_at, sender_at, with_node}
 use Rattle.rsx_pipe.specs.Part.{Part}
 use Rattle.rsx_pipe.specs.Tree.{IsBalanced}

@@ -11,8 +11,8 @@ use Rattle.rsx_tree.specs.Inputs.{size}
 use Rattle.rsx_tree.specs.Swapped.{put_at}
 use Rattle.rsx_tree.specs.declared.inputs.Inputs.{Inputs, End, More'}
 use Rattle.rsx_tree.specs.declared.node.Node.{Node}
-use Rattle.rsx_cut.proofs.Puts.{put_below, put_beside, put_here, size_least, size_put}
-use Rattle.rsx_cut.specs.Flow.{HoldsQueue}
+use Rattle.rsx_rooted.proofs.Puts.{put_below, put_beside, put_here, size_least, size_put}
+use Rattle.rsx_rooted.specs.Flow.{HoldsQueue}
 use Rattle.rsx_pipe.specs.Cutting.{with_node}
 use Rattle.rsx_pipe.specs.Part.{Part}
 use Rattle.rsx_piece.specs.Open.{WasClear, is_clear, is_live_over, is_row_clear, is_row_live}

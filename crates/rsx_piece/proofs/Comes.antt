@@ -7,9 +7,9 @@ use Rattle.rsx_sources.specs.Prelude.{Stream, Ending, Open, Done, Failed, Signal
 use Rattle.rsx_tree.specs.Handed.{IsNextOf}
 use Rattle.rsx_tree.specs.Reads.{count_before}
 use Rattle.rsx_pipe.specs.Output.{counts_in, with_signal, with_signal_at}
-use Rattle.rsx_cut.proofs.Joins.{then_append}
-use Rattle.rsx_cut.proofs.Leaves.{items_signals}
-use Rattle.rsx_cut.specs.Local.{Begins, stream_of}
+use Rattle.rsx_rooted.proofs.Linked.{then_append}
+use Rattle.rsx_rooted.proofs.CutNodes.{items_signals}
+use Rattle.rsx_rooted.specs.Local.{Begins, stream_of}
 use Rattle.rsx_piece.specs.Inlet.{replaced_at}
 
 -- ---- what came

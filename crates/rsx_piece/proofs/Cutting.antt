@@ -6,6 +6,10 @@ use Rattle.rsx_types.proofs.Numbers.{not_zero}
 use Rattle.rsx_sources.specs.Prelude.{Meaning, Reading, Stream}
 use Rattle.rsx_sources.specs.declared.machine.Machine.{Ghosts as Machine}
 use Rattle.rsx_rooted.specs.declared.nodes.CrossingNodes.{Ghosts as CrossingNodes}
+use Rattle.rsx_rooted.proofs.Puts.{size_least}
+use Rattle.rsx_rooted.specs.Flow.{HoldsQueue}
+use Rattle.rsx_rooted.specs.Local.{AllOf}
+use Rattle.rsx_rooted.specs.Splice.{splice}
 use Rattle.rsx_tree.proofs.Changes.{chosen_first, chosen_second}
 use Rattle.rsx_tree.specs.Edges.{EdgeView, edge_view, is_live}
 use Rattle.rsx_tree.specs.Inputs.{size}
@@ -14,10 +18,6 @@ use Rattle.rsx_tree.specs.Swapped.{put_at}
 use Rattle.rsx_tree.specs.declared.edge.EdgeState.TheVariants.{Live}
 use Rattle.rsx_tree.specs.declared.inputs.Inputs.{Inputs, End, More'}
 use Rattle.rsx_tree.specs.declared.node.Node.{Node}
-use Rattle.rsx_cut.proofs.Puts.{size_least}
-use Rattle.rsx_cut.specs.Flow.{HoldsQueue}
-use Rattle.rsx_cut.specs.Local.{AllOf}
-use Rattle.rsx_cut.specs.Splice.{splice}
 use Rattle.rsx_pipe.specs.Cutting.{IsCut, Place, new_root, place_at, root_below, with_node}
 use Rattle.rsx_pipe.specs.Output.{counts_in}
 use Rattle.rsx_pipe.specs.Part.{Part}

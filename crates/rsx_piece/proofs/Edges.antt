@@ -19,7 +19,7 @@ use Rattle.rsx_link.specs.Ends.{asked_total, carried_down, received_signals}
 use Rattle.rsx_link.specs.Signals.{items_in}
 use Rattle.rsx_link.specs.declared.cancel.CancelSeat.{CancelSeat}
 use Rattle.rsx_link.specs.declared.down.Down.{Down}
-use Rattle.rsx_cut.specs.Local.{stream_of}
+use Rattle.rsx_rooted.specs.Local.{stream_of}
 use Rattle.rsx_piece.specs.Inlet.{HaveBegun, IsBegunAt, HaveReached, LinkStands, NoneReads, OneReads}
 
 -- ---- the first edge whose node reads the hub, by the two lists in pre-order

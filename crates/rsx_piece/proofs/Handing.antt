@@ -17,8 +17,8 @@ use Rattle.rsx_pipe.specs.Part.{Part}
 use Rattle.rsx_pipe.specs.Published.{IsHanded, has_room_for, readers}
 use Rattle.rsx_pipe.specs.Tree.{IsBalanced}
 use Rattle.rsx_link.specs.declared.up.Up.{Up}
-use Rattle.rsx_cut.proofs.Moves.{flows_handed}
-use Rattle.rsx_cut.specs.Local.{Begins, stream_of}
+use Rattle.rsx_rooted.proofs.Moves.{flows_handed}
+use Rattle.rsx_rooted.specs.Local.{Begins, stream_of}
 use Rattle.rsx_piece.specs.Inlet.{replaced_at}
 use Rattle.rsx_piece.specs.Piece.{IsInStep, PieceStands}
 use Rattle.rsx_piece.proofs.Comes.{begins_next, counted_open, replaced_same, replaced_signal, stream_more}

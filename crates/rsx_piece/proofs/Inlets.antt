@@ -19,7 +19,7 @@ use Rattle.rsx_link.specs.declared.cancel.CancelSeat.{CancelSeat}
 use Rattle.rsx_link.specs.declared.down.Down.{Down}
 use Rattle.rsx_link.specs.declared.up.Found.{Found}
 use Rattle.rsx_link.specs.declared.up.Up.{Up}
-use Rattle.rsx_cut.specs.Local.{stream_of}
+use Rattle.rsx_rooted.specs.Local.{stream_of}
 use Rattle.rsx_piece.specs.Inlet.{HaveReached, LinkStands, replaced_at}
 use Rattle.rsx_piece.specs.Piece.{IsInStep}
 use Rattle.rsx_piece.proofs.Comes.{replaced_other, replaced_same, replaced_there}

@@ -5,6 +5,8 @@ use Rattle.std.proofs.lemmas.Bool.{cases_lt}
 use Rattle.rsx_sources.specs.Prelude.{Next, Reading, Stream, reads_hub}
 use Rattle.rsx_sources.specs.declared.machine.Machine.{Ghosts as Machine}
 use Rattle.rsx_rooted.specs.declared.nodes.CrossingNodes.{Ghosts as CrossingNodes}
+use Rattle.rsx_rooted.proofs.Locals.{reads_not_on}
+use Rattle.rsx_rooted.specs.Local.{AllOf}
 use Rattle.rsx_tree.specs.Inputs.{size}
 use Rattle.rsx_tree.specs.Reads.{readings, row_readings}
 use Rattle.rsx_tree.specs.declared.inputs.Inputs.{Inputs, End, More'}
@@ -15,8 +17,6 @@ use Rattle.rsx_pipe.specs.Part.{Part}
 use Rattle.rsx_pipe.specs.Rejoined.{JoinsAfterEnding}
 use Rattle.rsx_link.specs.Ends.{received_signals}
 use Rattle.rsx_link.specs.Signals.{items_in}
-use Rattle.rsx_cut.proofs.Locals.{reads_not_on}
-use Rattle.rsx_cut.specs.Local.{AllOf}
 use Rattle.rsx_piece.specs.Inlet.{HaveReached, InletStands, IsReachedAt}
 use Rattle.rsx_piece.specs.Joining.{JoinsAgain, JoinsEnded, JoinsPieces}
 use Rattle.rsx_piece.specs.declared.inlet.Inlet.{Inlet}

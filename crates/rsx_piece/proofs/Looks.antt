@@ -21,9 +21,9 @@ use Rattle.rsx_link.specs.declared.link.Link.{Link}
 use Rattle.rsx_link.specs.declared.up.Found.{Found}
 use Rattle.rsx_link.specs.declared.up.Up.{Up}
 use Rattle.rsx_link.specs.declared.view.Step.{Step}
-use Rattle.rsx_cut.proofs.Moves.{flows_chosen}
-use Rattle.rsx_cut.specs.Local.{Begins}
-use Rattle.rsx_cut.specs.Regions.{Carries}
+use Rattle.rsx_rooted.proofs.Moves.{flows_chosen}
+use Rattle.rsx_rooted.specs.Local.{Begins}
+use Rattle.rsx_rooted.specs.Regions.{Carries}
 use Rattle.rsx_piece.specs.Moves.{IsLooked}
 use Rattle.rsx_piece.specs.Open.{WasClear}
 use Rattle.rsx_piece.specs.Piece.{IsInStep, PieceStands}

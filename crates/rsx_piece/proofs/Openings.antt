@@ -5,8 +5,8 @@ use Rattle.rsx_sources.specs.declared.machine.Machine.{Ghosts as Machine}
 use Rattle.rsx_tree.specs.Reads.{readings}
 use Rattle.rsx_pipe.specs.Tree.{IsBalanced}
 use Rattle.rsx_link.specs.Ends.{sent_signals}
-use Rattle.rsx_cut.proofs.Moves.{flows_still}
-use Rattle.rsx_cut.specs.Local.{Begins}
+use Rattle.rsx_rooted.proofs.Moves.{flows_still}
+use Rattle.rsx_rooted.specs.Local.{Begins}
 use Rattle.rsx_piece.specs.Piece.{Opens}
 use Rattle.rsx_piece.proofs.Inlets.{go_same}
 use Rattle.rsx_piece.proofs.Opened.{clear_still}

@@ -12,6 +12,8 @@ use Rattle.rsx_tree.specs.declared.look.NodeMove.{NodeMove}
 use Rattle.rsx_tree.specs.declared.node.Node.{Node}
 use Rattle.rsx_tree.proofs.Shut.{pass_live}
 use Rattle.rsx_rooted.proofs.Signals.{IsUnended-more}
+use Rattle.rsx_rooted.proofs.Moves.{flows_chosen, flows_sent}
+use Rattle.rsx_rooted.specs.Local.{Begins}
 use Rattle.rsx_pipe.specs.Feeding.{IsMadeInside, IsSentOut}
 use Rattle.rsx_pipe.specs.Output.{IsUnended, counts_in}
 use Rattle.rsx_pipe.specs.Part.{IsMade, Part}
@@ -20,8 +22,6 @@ use Rattle.rsx_link.specs.Ends.{MaySend, carried_up, sent_signals, up_steps}
 use Rattle.rsx_link.specs.Signals.{items_in}
 use Rattle.rsx_link.specs.Steps.{flags_of, has_cancel, has_refusal, seen_of}
 use Rattle.rsx_link.specs.declared.up.Up.{Up}
-use Rattle.rsx_cut.proofs.Moves.{flows_chosen, flows_sent}
-use Rattle.rsx_cut.specs.Local.{Begins}
 use Rattle.rsx_piece.proofs.Opened.{clear_then, effect_clear, item_clear}
 use Rattle.rsx_piece.specs.Piece.{GoesOn as PartGoesOn, IsInStep, PieceStands}
 

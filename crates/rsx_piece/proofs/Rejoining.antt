@@ -5,14 +5,14 @@ use Rattle.std.proofs.lemmas.Bool.{and_parts, cases_lt}
 use Rattle.rsx_sources.specs.Prelude.{Meaning, Reading, Signal, Stream, reads_hub}
 use Rattle.rsx_sources.specs.declared.machine.Machine.{Ghosts as Machine}
 use Rattle.rsx_rooted.specs.declared.nodes.CrossingNodes.{Ghosts as CrossingNodes}
+use Rattle.rsx_rooted.proofs.Locals.{reads_not_on}
+use Rattle.rsx_rooted.specs.Local.{AllOf, IsOf, ReadsNot}
 use Rattle.rsx_tree.specs.Edges.{edge_view}
 use Rattle.rsx_tree.specs.Stepped.{Station, station_of}
 use Rattle.rsx_tree.specs.Reads.{AllGoOn, IsReadAt, IsTreeReadAt, readings, row_readings}
 use Rattle.rsx_tree.specs.declared.edge.EdgeState.TheVariants.{Live}
 use Rattle.rsx_tree.specs.declared.inputs.Inputs.{Inputs, End, More'}
 use Rattle.rsx_tree.specs.declared.node.Node.{Node}
-use Rattle.rsx_cut.proofs.Locals.{reads_not_on}
-use Rattle.rsx_cut.specs.Local.{AllOf, IsOf, ReadsNot}
 use Rattle.rsx_pipe.proofs.Cuts.{sender_is}
 use Rattle.rsx_pipe.specs.Cutting.{IsCut, Place, can_join, can_join_in, held_in, is_end, joined, place_at, with_node}
 use Rattle.rsx_pipe.specs.Output.{counts_in}

@@ -9,11 +9,11 @@ use Rattle.rsx_tree.specs.Inputs.{size}
 use Rattle.rsx_tree.specs.Reads.{AllGoOn, IsReadAt, IsRowReadAt, row_readings}
 use Rattle.rsx_tree.specs.Swapped.{put_at}
 use Rattle.rsx_tree.specs.declared.inputs.Inputs.{Inputs, End, More'}
-use Rattle.rsx_cut.proofs.Locals.{reads_not_on}
-use Rattle.rsx_cut.proofs.Puts.{put_below, put_beside, put_here, size_least}
-use Rattle.rsx_cut.proofs.Splices.{splice_left, splice_right}
-use Rattle.rsx_cut.specs.Local.{AllOf, IsOf}
-use Rattle.rsx_cut.specs.Splice.{splice}
+use Rattle.rsx_rooted.proofs.Locals.{reads_not_on}
+use Rattle.rsx_rooted.proofs.Puts.{put_below, put_beside, put_here, size_least}
+use Rattle.rsx_rooted.proofs.Splices.{splice_left, splice_right}
+use Rattle.rsx_rooted.specs.Local.{AllOf, IsOf}
+use Rattle.rsx_rooted.specs.Splice.{splice}
 use Rattle.rsx_pipe.specs.Cutting.{Place, sender_at}
 use Rattle.rsx_piece.specs.Open.{is_row_live}
 use Rattle.rsx_piece.proofs.Places.{both, live_below, live_beside, live_here, same_some, sender_below, sender_beside, sender_here}

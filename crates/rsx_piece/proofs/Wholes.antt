@@ -7,6 +7,11 @@ use Rattle.rsx_sources.specs.Prelude.{Ending, LetsGo, Meaning, Next, Complete, E
 use Rattle.rsx_sources.specs.declared.machine.Machine.{Ghosts as Machine}
 use Rattle.rsx_rooted.specs.declared.nodes.CrossingNodes.{Ghosts as CrossingNodes}
 use Rattle.rsx_rooted.proofs.Sends.{sent_out}
+use Rattle.rsx_rooted.specs.Cutting.{HoldsEnding, ending_of, endings}
+use Rattle.rsx_rooted.proofs.Puts.{put_below, put_beside, put_here}
+use Rattle.rsx_rooted.specs.Local.{AllOf, IsOf, ReadsNot}
+use Rattle.rsx_rooted.specs.Regions.{Carries}
+use Rattle.rsx_rooted.specs.Splice.{splice}
 use Rattle.rsx_tree.proofs.Alike.{popped_alike}
 use Rattle.rsx_tree.proofs.Rows.{out_lets_go}
 use Rattle.rsx_tree.specs.Balance.{IsBalancedAfter, IsOwnerBalanced, IsRowBalanced, sent_over}
@@ -25,15 +30,10 @@ use Rattle.rsx_pipe.specs.Output.{counts_in}
 use Rattle.rsx_pipe.specs.Joined.{HasReached, JoinsAfterMoves}
 use Rattle.rsx_pipe.specs.Part.{Part}
 use Rattle.rsx_pipe.specs.Rejoined.{JoinsAfterEnding, JoinsAtEnd, can_end_here, can_put_in, can_rejoin_ended, ending_in, put_node}
-use Rattle.rsx_rooted.specs.Cutting.{HoldsEnding, ending_of, endings}
 use Rattle.rsx_pipe.specs.Tree.{IsAllClosed, IsBalanced}
 use Rattle.rsx_link.specs.Ends.{carried_up}
 use Rattle.rsx_link.specs.Signals.{items_in}
 use Rattle.rsx_link.specs.declared.up.Up.{Up}
-use Rattle.rsx_cut.proofs.Puts.{put_below, put_beside, put_here}
-use Rattle.rsx_cut.specs.Local.{AllOf, IsOf, ReadsNot}
-use Rattle.rsx_cut.specs.Regions.{Carries}
-use Rattle.rsx_cut.specs.Splice.{splice}
 use Rattle.rsx_piece.specs.Joined.{AgreesOn}
 use Rattle.rsx_piece.specs.Open.{WasClear, is_clear, is_live_over, is_open_over, is_row_live}
 use Rattle.rsx_piece.specs.Piece.{GoesOn, PieceStands}

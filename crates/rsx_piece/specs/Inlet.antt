@@ -13,7 +13,7 @@ use Rattle.rsx_link.specs.Signals.{items_in}
 use Rattle.rsx_link.specs.declared.cancel.CancelSeat.{CancelSeat}
 use Rattle.rsx_link.specs.declared.down.Down.{Down}
 use Rattle.rsx_link.specs.declared.link.Link.{Link}
-use Rattle.rsx_cut.specs.Local.{stream_of}
+use Rattle.rsx_rooted.specs.Local.{stream_of}
 use Rattle.rsx_piece.specs.declared.inlet.Inlet.{Inlet}
 
 -- the list with this as its element n, where it has one

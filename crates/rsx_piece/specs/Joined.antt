@@ -3,6 +3,7 @@ use Rattle.std.specs.Prelude.{◌≡◌, ℕ, ◌+◌, ◌<◌, true, false, Lis
 use Rattle.rsx_sources.specs.Prelude.{Meaning, Next, Open, Signal, Stream, ended_by, reads_hub}
 use Rattle.rsx_sources.specs.declared.machine.Machine.{Ghosts as Machine}
 use Rattle.rsx_rooted.specs.declared.nodes.CrossingNodes.{Ghosts as CrossingNodes}
+use Rattle.rsx_rooted.specs.Local.{AllOf, ReadsNot}
 use Rattle.rsx_tree.specs.declared.edge.EdgeState.TheVariants.{Live}
 use Rattle.rsx_tree.specs.declared.node.Node.{Node}
 use Rattle.rsx_tree.specs.Edges.{edge_view}
@@ -14,7 +15,6 @@ use Rattle.rsx_pipe.specs.Part.{Part}
 use Rattle.rsx_pipe.specs.Tree.{IsBalanced}
 use Rattle.rsx_link.specs.Ends.{cancels_of, carried_down, received_signals}
 use Rattle.rsx_link.specs.Signals.{items_in}
-use Rattle.rsx_cut.specs.Local.{AllOf, ReadsNot}
 use Rattle.rsx_piece.specs.Inlet.{InletStands}
 use Rattle.rsx_piece.specs.Open.{is_live_over, is_open_over}
 use Rattle.rsx_piece.specs.Piece.{GoesOn}

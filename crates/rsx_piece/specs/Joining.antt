@@ -3,13 +3,13 @@ use Rattle.std.specs.Prelude.{◌≡◌, ℕ, true, List, [], ◌∷◌, ◌++�
 use Rattle.rsx_sources.specs.Prelude.{Meaning, Next, Signal, Stream}
 use Rattle.rsx_sources.specs.declared.machine.Machine.{Ghosts as Machine}
 use Rattle.rsx_rooted.specs.declared.nodes.CrossingNodes.{Ghosts as CrossingNodes}
+use Rattle.rsx_rooted.specs.Local.{ReadsNot}
+use Rattle.rsx_rooted.specs.Regions.{Adds, Carries}
 use Rattle.rsx_pipe.specs.Cutting.{IsCut, ReadsAt, can_join, joined}
 use Rattle.rsx_pipe.specs.Joined.{HasReached}
 use Rattle.rsx_pipe.specs.Part.{Part}
 use Rattle.rsx_link.specs.Ends.{received_signals, sent_signals}
 use Rattle.rsx_link.specs.declared.up.Up.{Up}
-use Rattle.rsx_cut.specs.Local.{ReadsNot}
-use Rattle.rsx_cut.specs.Regions.{Adds, Carries}
 use Rattle.rsx_piece.specs.Inlet.{InletStands}
 use Rattle.rsx_piece.specs.Piece.{GaveBefore, HasGiven, PieceStands}
 use Rattle.rsx_piece.specs.declared.inlet.Inlet.{Inlet}

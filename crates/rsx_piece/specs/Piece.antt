@@ -15,7 +15,7 @@ use Rattle.rsx_link.specs.Ends.{carried_up, items_sent, seen_total, sent_signals
 use Rattle.rsx_link.specs.Signals.{items_in}
 use Rattle.rsx_link.specs.Steps.{flags_of, has_cancel, has_refusal}
 use Rattle.rsx_link.specs.declared.up.Up.{Up}
-use Rattle.rsx_cut.specs.Regions.{Carries}
+use Rattle.rsx_rooted.specs.Regions.{Carries}
 use Rattle.rsx_piece.specs.Open.{WasClear}
 
 -- the root edge of a part and the sending end of its link count alike

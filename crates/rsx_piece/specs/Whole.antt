@@ -4,6 +4,8 @@ use Rattle.rsx_sources.specs.Prelude.{Ending, Meaning, Next, Signal, Stream}
 use Rattle.rsx_sources.specs.declared.machine.Machine.{Ghosts as Machine}
 use Rattle.rsx_rooted.specs.Cutting.{endings}
 use Rattle.rsx_rooted.specs.declared.nodes.CrossingNodes.{Ghosts as CrossingNodes}
+use Rattle.rsx_rooted.specs.Local.{ReadsNot}
+use Rattle.rsx_rooted.specs.Regions.{Adds, Carries}
 use Rattle.rsx_tree.specs.declared.node.Node.{Node}
 use Rattle.rsx_tree.specs.Edges.{edge_view, is_live}
 use Rattle.rsx_tree.specs.Reads.{AllGoOn, readings}
@@ -15,8 +17,6 @@ use Rattle.rsx_pipe.specs.Tree.{IsAllClosed, IsLetGo}
 use Rattle.rsx_link.specs.Ends.{carried_down, carried_up, received_signals}
 use Rattle.rsx_link.specs.Signals.{items_in}
 use Rattle.rsx_link.specs.declared.up.Up.{Up}
-use Rattle.rsx_cut.specs.Local.{ReadsNot}
-use Rattle.rsx_cut.specs.Regions.{Adds, Carries}
 use Rattle.rsx_piece.specs.Inlet.{InletStands}
 use Rattle.rsx_piece.specs.Joined.{AgreesOn, IsReader, sent_over_edge}
 use Rattle.rsx_piece.specs.Piece.{GoesOn, PieceStands}

@@ -2,17 +2,17 @@
 use Rattle.std.proofs.Common.{◌≡◌, inl, inr, ℕ, ◌+◌, ◌-◌, ◌<◌, ◌≤◌, Bool, true, false, ◌&&◌, nat_eq, nat_le, List, [], ◌∷◌, ◌++◌, length, map, Option, Some, None, refl, ap, sym, ◌∙◌, subst, arith}
 use Rattle.std.specs.Prelude.{not, if◌then◌else◌}
 use Rattle.std.proofs.lemmas.Bool.{and_parts, cases_lt, le-leb, lt-leb}
-use Rattle.rsx_cut.proofs.Joins.{holds_over}
-use Rattle.rsx_cut.proofs.Puts.{put_again, put_below, put_beside, put_here, size_least}
-use Rattle.rsx_cut.proofs.Regions.{root_regions, two_regions}
-use Rattle.rsx_cut.specs.Flow.{HoldsQueue, ReadsLink}
-use Rattle.rsx_cut.specs.Local.{IsLocal, ReadsNot}
-use Rattle.rsx_cut.specs.Regions.{Adds, Carries, IsCutBetween}
+use Rattle.rsx_rooted.proofs.Linked.{holds_over}
+use Rattle.rsx_rooted.proofs.Puts.{put_again, put_below, put_beside, put_here, size_least}
+use Rattle.rsx_rooted.proofs.Regions.{root_regions, two_regions}
+use Rattle.rsx_rooted.specs.Flow.{HoldsQueue, ReadsLink}
+use Rattle.rsx_rooted.specs.Local.{IsLocal, ReadsNot}
+use Rattle.rsx_rooted.specs.Regions.{Adds, Carries, IsCutBetween}
+use Rattle.rsx_rooted.specs.Cutting.{items_of}
+use Rattle.rsx_rooted.specs.declared.nodes.CrossingNodes.{Ghosts as CrossingNodes}
 use Rattle.rsx_pipe.specs.Cutting.{IsCut, Place, ReadsAt, can_join_in, can_take_back, fits_behind, held_in, is_end, new_root, place_at, root_below, sender_at, with_node}
 use Rattle.rsx_pipe.specs.Joined.{HasReached, JoinsAfterMoves, JoinsAtOnce}
 use Rattle.rsx_pipe.specs.Part.{Part}
-use Rattle.rsx_rooted.specs.Cutting.{items_of}
-use Rattle.rsx_rooted.specs.declared.nodes.CrossingNodes.{Ghosts as CrossingNodes}
 use Rattle.rsx_sources.specs.Prelude.{Meaning, Next, Reading, Signal, Stream, reads_hub}
 use Rattle.rsx_sources.specs.declared.machine.Machine.{Ghosts as Machine}
 use Rattle.rsx_tree.proofs.Changes.{chosen_first, chosen_second}

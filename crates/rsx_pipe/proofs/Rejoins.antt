@@ -3,16 +3,16 @@ use Rattle.std.proofs.Common.{◌≡◌, ℕ, true, false, List, [], ◌∷◌, 
 use Rattle.std.specs.Prelude.{not}
 use Rattle.std.proofs.lemmas.Bool.{and_parts}
 use Rattle.std.proofs.lemmas.List.{append-nil}
-use Rattle.rsx_cut.proofs.Joins.{holds_over, then_append}
-use Rattle.rsx_cut.specs.Flow.{Holds, HoldsOver, HoldsQueue, ReadsLink, as_root}
-use Rattle.rsx_cut.specs.Local.{IsLocal, ReadsNot}
-use Rattle.rsx_cut.specs.Regions.{Carries, IsCutBetween}
+use Rattle.rsx_rooted.proofs.Linked.{holds_over, then_append}
+use Rattle.rsx_rooted.specs.Flow.{Holds, HoldsOver, HoldsQueue, ReadsLink, as_root}
+use Rattle.rsx_rooted.specs.Local.{IsLocal, ReadsNot}
+use Rattle.rsx_rooted.specs.Regions.{Carries, IsCutBetween}
+use Rattle.rsx_rooted.specs.Cutting.{HoldsEnding, ending_of, endings, is_some}
+use Rattle.rsx_rooted.specs.declared.nodes.CrossingNodes.{Ghosts as CrossingNodes}
 use Rattle.rsx_pipe.proofs.Cuts.{cut_there, ended_row, holds_some, is_false, joined_regions, next_append, place_is, reads_at}
 use Rattle.rsx_pipe.specs.Cutting.{can_join_in, can_take_back, held_in, is_end, place_at, with_node}
 use Rattle.rsx_pipe.specs.Part.{Part}
 use Rattle.rsx_pipe.specs.Rejoined.{JoinsAfterEnding, JoinsAtEnd, can_end_here, can_put_in, ending_in, put_node}
-use Rattle.rsx_rooted.specs.Cutting.{HoldsEnding, ending_of, endings, is_some}
-use Rattle.rsx_rooted.specs.declared.nodes.CrossingNodes.{Ghosts as CrossingNodes}
 use Rattle.rsx_sources.specs.Prelude.{Ending, LetsGo, Meaning, Next, Reading, Signal, Stream, reads_hub, signal_then, signals_then}
 use Rattle.rsx_sources.specs.declared.machine.Machine.{Ghosts as Machine}
 use Rattle.rsx_tree.specs.Tree.{IsLetGo, comes_out}

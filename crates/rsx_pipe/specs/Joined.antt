@@ -1,7 +1,7 @@
 -- What is proved of a part that was cut and joined again.
 use Rattle.std.specs.Prelude.{◌≡◌, ℕ, ◌≤◌, true, List, [], ◌++◌, length, map, Some}
-use Rattle.rsx_cut.specs.Local.{ReadsNot}
-use Rattle.rsx_cut.specs.Regions.{Adds, Carries}
+use Rattle.rsx_rooted.specs.Local.{ReadsNot}
+use Rattle.rsx_rooted.specs.Regions.{Adds, Carries}
 use Rattle.rsx_rooted.specs.declared.nodes.CrossingNodes.{Ghosts as CrossingNodes}
 use Rattle.rsx_sources.specs.Prelude.{Meaning, Next, Signal, Stream, reads_hub}
 use Rattle.rsx_sources.specs.declared.machine.Machine.{Ghosts as Machine}

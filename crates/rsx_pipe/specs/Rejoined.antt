@@ -1,7 +1,7 @@
 -- A part that is joined to what was cut off, where the lower part has sent its ending.
 use Rattle.std.specs.Prelude.{◌≡◌, ℕ, Bool, true, false, not, ◌&&◌, nat_eq, List, [], ◌∷◌, ◌++◌, length, map, Option, Some, None}
-use Rattle.rsx_cut.specs.Local.{ReadsNot}
-use Rattle.rsx_cut.specs.Regions.{Adds, Carries}
+use Rattle.rsx_rooted.specs.Local.{ReadsNot}
+use Rattle.rsx_rooted.specs.Regions.{Adds, Carries}
 use Rattle.rsx_rooted.specs.Cutting.{ending_of, endings, is_some}
 use Rattle.rsx_rooted.specs.declared.nodes.CrossingNodes.{Ghosts as CrossingNodes}
 use Rattle.rsx_sources.specs.Prelude.{Ending, Open, Meaning, Next, Signal, Stream}

@@ -19,9 +19,9 @@ use Rattle.rsx_link.specs.Ends.{carried_down, received_signals}
 use Rattle.rsx_link.specs.Signals.{items_in}
 use Rattle.rsx_link.specs.declared.cancel.CancelSeat.{CancelSeat}
 use Rattle.rsx_link.specs.declared.down.Down.{Down}
-use Rattle.rsx_cut.proofs.Puts.{put_below, put_beside, put_here}
-use Rattle.rsx_cut.specs.Local.{AllOf}
-use Rattle.rsx_cut.specs.Splice.{splice}
+use Rattle.rsx_rooted.proofs.Puts.{put_below, put_beside, put_here}
+use Rattle.rsx_rooted.specs.Local.{AllOf}
+use Rattle.rsx_rooted.specs.Splice.{splice}
 use Rattle.rsx_piece.specs.Inlet.{HaveBegun, HaveReached, IsBegunAt, IsReachedAt, LinkStands, NoneReads, OneReads}
 use Rattle.rsx_piece.proofs.Cutting.{readings_put}
 use Rattle.rsx_piece.proofs.Places.{place_below, same_some, sender_below, sender_beside, sender_here, with_below}

@@ -6,6 +6,7 @@ use Rattle.std.proofs.lemmas.Bool.Decides.{nat_tests}
 use Rattle.rsx_sources.specs.Prelude.{CAPACITY, Next, Reading, reads_hub}
 use Rattle.rsx_sources.specs.declared.machine.Machine.{Ghosts as Machine}
 use Rattle.rsx_rooted.specs.declared.nodes.CrossingNodes.{Ghosts as CrossingNodes}
+use Rattle.rsx_rooted.specs.Local.{AllOf}
 use Rattle.rsx_tree.specs.Edges.{EdgeView, edge_view}
 use Rattle.rsx_tree.specs.Handed.{reader_edge_in}
 use Rattle.rsx_tree.specs.Reads.{readings, row_readings}
@@ -24,7 +25,6 @@ use Rattle.rsx_link.specs.declared.cancel.CancelSeat.{CancelSeat}
 use Rattle.rsx_link.specs.declared.down.Down.{Down}
 use Rattle.rsx_link.specs.declared.link.Link.{Link}
 use Rattle.rsx_link.specs.declared.up.Up.{Up}
-use Rattle.rsx_cut.specs.Local.{AllOf}
 use Rattle.rsx_piece.specs.Inlet.{NoneReads}
 use Rattle.rsx_piece.specs.Joined.{IsReader, sent_over_edge}
 use Rattle.rsx_piece.proofs.Pieces.{items_more}

@@ -6,6 +6,8 @@ use Rattle.rsx_sources.specs.declared.machine.Machine.{Ghosts as Machine}
 use Rattle.rsx_rooted.proofs.Sends.{sent_out}
 use Rattle.rsx_rooted.specs.Cutting.{HoldsEnding, ending_of, endings}
 use Rattle.rsx_rooted.specs.declared.nodes.CrossingNodes.{Ghosts as CrossingNodes}
+use Rattle.rsx_rooted.proofs.Moves.{flows_chosen, flows_sent}
+use Rattle.rsx_rooted.specs.Local.{AllOf, Begins, ReadsNot, stream_of}
 use Rattle.rsx_tree.proofs.Noted.{kept_chosen}
 use Rattle.rsx_tree.proofs.Readings.{shut_readings}
 use Rattle.rsx_tree.proofs.Trees.{kept_closed}
@@ -25,8 +27,6 @@ use Rattle.rsx_pipe.specs.Part.{Part}
 use Rattle.rsx_pipe.specs.Rejoined.{can_end_here, can_put_in, ending_in, put_node, read_at}
 use Rattle.rsx_link.specs.Ends.{carried_down, carried_up, received_signals, sent_signals}
 use Rattle.rsx_link.specs.Signals.{items_in}
-use Rattle.rsx_cut.proofs.Moves.{flows_chosen, flows_sent}
-use Rattle.rsx_cut.specs.Local.{AllOf, Begins, ReadsNot, stream_of}
 use Rattle.rsx_piece.specs.Inlet.{InletStands}
 use Rattle.rsx_piece.specs.Piece.{PieceStands}
 use Rattle.rsx_piece.specs.Whole.{AreShared, IsBelow, JoinsWhole, JoinsWholeAtEnd, JoinsWholeEnded, WasCut}

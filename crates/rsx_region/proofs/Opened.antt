@@ -5,6 +5,9 @@ use Rattle.rsx_demand.specs.declared.TheConstants.{UNBOUNDED}
 use Rattle.rsx_sources.specs.Prelude.{Meaning, Reading, Stream, reads_hub}
 use Rattle.rsx_sources.specs.declared.machine.Machine.{Ghosts as Machine}
 use Rattle.rsx_rooted.specs.declared.nodes.CrossingNodes.{Ghosts as CrossingNodes}
+use Rattle.rsx_rooted.proofs.Puts.{put_again}
+use Rattle.rsx_rooted.specs.Local.{AllOf, ReadsNot, stream_of}
+use Rattle.rsx_rooted.specs.Splice.{splice}
 use Rattle.rsx_tree.specs.Handed.{reader_edge_in}
 use Rattle.rsx_tree.specs.Reads.{IsTreeReadAt, readings, row_readings}
 use Rattle.rsx_tree.specs.Swapped.{put_at}
@@ -20,9 +23,6 @@ use Rattle.rsx_pipe.specs.Output.{counts_in}
 use Rattle.rsx_pipe.specs.Published.{reader_edge}
 use Rattle.rsx_link.specs.Ends.{asked_total, cancels_of, carried_down, carried_up, items_sent, received_signals, seen_total}
 use Rattle.rsx_link.specs.Signals.{items_in}
-use Rattle.rsx_cut.proofs.Puts.{put_again}
-use Rattle.rsx_cut.specs.Local.{AllOf, ReadsNot, stream_of}
-use Rattle.rsx_cut.specs.Splice.{splice}
 use Rattle.rsx_piece.specs.Inlet.{HaveBegun, HaveReached, InletStands, IsBegunAt, IsReachedAt, NoneReads, OneReads, replaced_at}
 use Rattle.rsx_piece.specs.Joined.{AgreesOn}
 use Rattle.rsx_piece.proofs.Cutting.{HoldsLaw, cut_live, cuts_reading, live_there, readings_put, root_of_live}

@@ -6,7 +6,7 @@ use Rattle.rsx_sources.specs.declared.machine.Machine.{Ghosts as Machine}
 use Rattle.rsx_tree.specs.Reads.{AllGoOn, GoesOn, readings}
 use Rattle.rsx_tree.specs.declared.node.Node.{Node}
 use Rattle.rsx_link.specs.Ends.{received_signals}
-use Rattle.rsx_cut.specs.Local.{AllOf, IsOf, ReadsNot, stream_of}
+use Rattle.rsx_rooted.specs.Local.{AllOf, IsOf, ReadsNot, stream_of}
 use Rattle.rsx_piece.specs.Inlet.{replaced_at}
 use Rattle.rsx_piece.specs.Whole.{AreShared}
 use Rattle.rsx_piece.proofs.Places.{same_some}

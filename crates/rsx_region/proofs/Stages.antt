@@ -7,6 +7,7 @@ use Rattle.rsx_demand.specs.declared.TheConstants.{UNBOUNDED}
 use Rattle.rsx_sources.specs.Prelude.{Meaning, Reading, Stream}
 use Rattle.rsx_sources.specs.declared.machine.Machine.{Ghosts as Machine}
 use Rattle.rsx_rooted.specs.declared.nodes.CrossingNodes.{Ghosts as CrossingNodes}
+use Rattle.rsx_rooted.specs.Local.{stream_of}
 use Rattle.rsx_types.proofs.Lists.{slice_get_behind}
 use Rattle.rsx_tree.specs.Runs.{Leads}
 use Rattle.rsx_tree.specs.Edges.{is_live}
@@ -20,7 +21,6 @@ use Rattle.rsx_pipe.specs.Part.{Part}
 use Rattle.rsx_link.specs.Ends.{IsUpOf, capacity_of, carried_up, items_sent, received_signals, seen_total, sent_signals}
 use Rattle.rsx_link.specs.declared.link.Link.{Link}
 use Rattle.rsx_link.specs.declared.up.Up.{Up}
-use Rattle.rsx_cut.specs.Local.{stream_of}
 use Rattle.rsx_piece.specs.Inlet.{InletStands, IsInletOf}
 use Rattle.rsx_piece.specs.Piece.{IsInStep, PieceStands}
 use Rattle.rsx_piece.proofs.Openings.{opens}

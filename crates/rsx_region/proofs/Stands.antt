@@ -6,7 +6,7 @@ use Rattle.rsx_tree.specs.declared.node.Node.{Node}
 use Rattle.rsx_pipe.specs.Part.{Part}
 use Rattle.rsx_link.specs.Ends.{carried_down, carried_up, received_signals, sent_signals}
 use Rattle.rsx_link.specs.declared.up.Up.{Up}
-use Rattle.rsx_cut.specs.Local.{stream_of}
+use Rattle.rsx_rooted.specs.Local.{stream_of}
 use Rattle.rsx_piece.specs.Inlet.{HasCome, InletStands, with_come}
 use Rattle.rsx_piece.specs.Piece.{PieceStands}
 use Rattle.rsx_piece.specs.declared.inlet.Inlet.{Inlet}

@@ -3,6 +3,7 @@ use Rattle.std.specs.Prelude.{◌≡◌, ◌⊎◌, ◌<◌, ℕ, true, false, B
 use Rattle.rsx_sources.specs.Prelude.{Ending, Meaning, Next, Signal, ends_input}
 use Rattle.rsx_sources.specs.declared.machine.Machine.{Ghosts as Machine}
 use Rattle.rsx_rooted.specs.declared.nodes.CrossingNodes.{Ghosts as CrossingNodes}
+use Rattle.rsx_rooted.specs.Local.{ReadsNot}
 use Rattle.rsx_tree.specs.declared.edge.EdgeState.TheVariants.{Closed, Ended}
 use Rattle.rsx_tree.specs.Edges.{closed_view, edge_view, is_live}
 use Rattle.rsx_tree.specs.Inputs.{closed_row}
@@ -13,7 +14,6 @@ use Rattle.rsx_pipe.specs.Part.{Part, all_edges}
 use Rattle.rsx_pipe.specs.Rejoined.{can_put_in, can_rejoin_ended, joined_ended, read_at}
 use Rattle.rsx_pipe.specs.Tree.{IsAllClosed, IsAlike, IsKept}
 use Rattle.rsx_link.specs.Ends.{carried_down, carried_up, received_signals, sent_signals}
-use Rattle.rsx_cut.specs.Local.{ReadsNot}
 use Rattle.rsx_piece.specs.Whole.{WasCut}
 use Rattle.rsx_region.specs.Pieces.{Each, StandsSince, hub_of}
 use Rattle.rsx_region.specs.Halves.{Halves}

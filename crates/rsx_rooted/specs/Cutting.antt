@@ -1,6 +1,6 @@
 -- What a cut and a join read off the nodes of a tree.
 use Rattle.std.specs.Prelude.{◌≡◌, Bool, true, false, List, [], ◌∷◌, Option, Some, None}
-use Rattle.rsx_cut.specs.Flow.{Holds}
+use Rattle.rsx_rooted.specs.Flow.{Holds}
 use Rattle.rsx_sources.specs.Prelude.{Meaning, Ending, Open, Done, Failed, Signal, Complete, Error}
 use Rattle.rsx_sources.specs.declared.machine.Machine.{Ghosts as Machine}
 

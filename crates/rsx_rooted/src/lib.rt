@@ -1,5 +1,6 @@
 #![tactic(auto)]
-//! Trees of nodes of any kind, each with the edge from its root, and what a graph asks of their nodes.
+//! Trees of nodes of any kind, each with the edge from its root, and what a graph asks of their nodes; and a tree that is cut at
+//! one of its edges, and joined again.
 //!
 //! - [`nodes`]: [`Nodes`], what a graph asks of its nodes. Its contracts are all that the crates above know of them. And
 //!   [`CrossingNodes`], what a cut of a tree at an edge asks of them besides.
@@ -8,21 +9,30 @@
 //! - [`rooted`]: [`Rooted`], a tree with the edge from its root: every move of it, as a [`NodeMove`], `fetch` and `pump`.
 //! - [`feeding`]: signals go over the root edge into the hands of the caller.
 //! - [`sink`]: [`Sink`], what takes the signals that go over a root edge.
+//! - [`law`]: [`put_again`], [`two_regions`], [`root_regions`] and [`stands_on`], what a cut and a join come to.
+//!
+//! [`Node::swap_at`](rsx_tree::Node::swap_at) cuts a tree, and joins it again. The node over the edge, with all below it, goes on
+//! as a tree of its own, and in its place stands a node that reads what comes over a link as it would read a hub. Whatever moves
+//! either tree makes, the two that are joined again give what the whole tree gave, without what went out of it meanwhile. That is
+//! stated in `law` of nodes of any kind that keep the laws of [`Machine`](rsx_sources::Machine).
 //!
 //! What is proved here is proved of all kinds of nodes at once. The definitions stand in `specs/`, apart from the code: `Rooted`
 //! (what a tree stands for, which of its moves are enabled, and what they change), `Fetched` (an item that is pulled through
 //! it), `Feeding` (what goes out into the hands of the caller), `Tree` (what `rsx_tree` says of the tree), `Output`
 //! (what has gone out, and what was published), `Built` (what a tree is that has just begun), `Crossings` (which of its edges
-//! have a queue), `Cutting` (what a cut reads off a tree), and `Leaves` and `Inboxes` (the places that leaves take at hubs, and what waits in front of these).
+//! have a queue), `Cutting` (what a cut reads off a tree), `Flow`, `Local`, `Splice` and `Regions` (the words in which the laws of
+//! cut and join are stated), and `Leaves` and `Inboxes` (the places that leaves take at hubs, and what waits in front of these).
 
 pub mod feeding;
 pub mod joins;
+pub mod law;
 pub mod nodes;
 pub mod places;
 pub mod rooted;
 pub mod sink;
 
 pub use joins::joins_of;
+pub use law::{put_again, root_regions, stands_on, two_regions};
 pub use nodes::{CrossingNodes, Nodes, Route};
 pub use places::{count_in, have_places};
 pub use rooted::{Pumped, Rooted};

@@ -37,7 +37,7 @@ pub trait Nodes: Machine {
 
     ghost use Rattle.std.specs.Prelude.{◌≡◌, ◌<◌, ℕ, false, None, Some};
     ghost use Rattle.rsx_hub.specs.declared.TheConstants.{MOST_ACCEPTED};
-    ghost use Rattle.rsx_cut.specs.Local.{IsLocal};
+    ghost use Rattle.rsx_rooted.specs.Local.{IsLocal};
     ghost use Rattle.rsx_sources.specs.Reading.{Reading};
     ghost use Rattle.rsx_tree.specs.Rests.{IsStuck, Rests};
     ghost use Rattle.rsx_types.specs.Meaning.{Meaning};
@@ -86,9 +86,9 @@ pub trait CrossingNodes: Nodes {
     ghost read_to: { Self → Option EndingSpec };
 
     ghost use Rattle.std.specs.Prelude.{◌≡◌, ◌+◌, ◌≤◌, ◌++◌, ◌∷◌, [], ℕ, List, length, map, true, false, None, Some, OnOk, OnErr, IfOk, IfErr, IfSome, IfNone, option_map};
-    ghost use Rattle.rsx_cut.specs.Flow.{HoldsQueue, ReadsLink};
     ghost use Rattle.rsx_hub.specs.Member.{MemberState};
     ghost use Rattle.rsx_rooted.specs.Cutting.{HoldsEnding, endings, items_of};
+    ghost use Rattle.rsx_rooted.specs.Flow.{HoldsQueue, ReadsLink};
     ghost use Rattle.rsx_sources.specs.Machine.{LetsGo};
     ghost use Rattle.rsx_sources.specs.Reading.{Reading};
     ghost use Rattle.rsx_types.specs.Meaning.{Meaning};

@@ -5,9 +5,9 @@ use Rattle.rsx_sources.specs.declared.machine.Machine.{Ghosts as Machine}
 use Rattle.rsx_tree.specs.declared.node.Node.{Node}
 use Rattle.rsx_tree.specs.Inputs.{out_of, notes_of}
 use Rattle.rsx_tree.specs.Tree.{comes_out, notes}
-use Rattle.rsx_cut.specs.Flow.{AreFor, Flows, HoldsOver, ReadsLink, Fill, as_root, alone}
-use Rattle.rsx_cut.proofs.Joins.{then_append}
-use Rattle.rsx_cut.proofs.Splices.{still_nothing}
+use Rattle.rsx_rooted.specs.Flow.{AreFor, Flows, HoldsOver, ReadsLink, Fill, as_root, alone}
+use Rattle.rsx_rooted.proofs.Linked.{then_append}
+use Rattle.rsx_rooted.proofs.Splices.{still_nothing}
 
 alone_out : {M T : Type 0} (b : Machine M T) (m : Meaning T) (hubs : List (Stream T)) (y : M) (g : List Note) → slice_get g 0 ≡ Some Nothing → comes_out b m hubs g (alone y) 0 ≡ b.comes_out m y (incoming_of hubs []) Nothing
 alone_out b m hubs y g e = ap (λ n. out_of b m hubs y (Some []) n) e

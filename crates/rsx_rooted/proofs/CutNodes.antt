@@ -15,8 +15,8 @@ use Rattle.rsx_queued.specs.declared.sender.Sender.{Sender}
 use Rattle.rsx_queued.specs.declared.sender.Sender.TheVariants.{Direct, Crossing}
 use Rattle.rsx_queued.specs.declared.tail.Tail.{Tail}
 use Rattle.rsx_queued.specs.declared.tail.Tail.TheVariants.{Open as TailOpen, Completion, Failure, Taken}
-use Rattle.rsx_cut.specs.Local.{AgreeAt, IsLocal}
-use Rattle.rsx_cut.proofs.Joins.{then_append}
+use Rattle.rsx_rooted.specs.Local.{AgreeAt, IsLocal}
+use Rattle.rsx_rooted.proofs.Linked.{then_append}
 
 pub items_signals : {T : Type 0} (q : List T) (v : Stream T) → items_then q v ≡ signals_then (map Next q) v
 items_signals [] v = refl

@@ -8,9 +8,9 @@ use Rattle.rsx_tree.specs.declared.node.Node.{Node}
 use Rattle.rsx_tree.specs.Inputs.{size, comes_in, out_of, beside_of, through}
 use Rattle.rsx_tree.specs.Reads.{AllGoOn, GoesOn, readings, row_readings}
 use Rattle.rsx_tree.specs.Tree.{comes_out, notes}
-use Rattle.rsx_cut.specs.Flow.{AreFor, Flows, IsSameOver}
-use Rattle.rsx_cut.specs.Local.{AgreeAt, AgreeOn, AllOf, IsLocal, IsOf, ReadsNot, filled, stream_of}
-use Rattle.rsx_cut.proofs.Joins.{then_append}
+use Rattle.rsx_rooted.specs.Flow.{AreFor, Flows, IsSameOver}
+use Rattle.rsx_rooted.specs.Local.{AgreeAt, AgreeOn, AllOf, IsLocal, IsOf, ReadsNot, filled, stream_of}
+use Rattle.rsx_rooted.proofs.Linked.{then_append}
 
 agree : {T : Type 0} (P : ℕ → Type 0) (hubs others : List (Stream T)) (o : Option Reading) → AgreeOn P hubs others → IsOf P o → AgreeAt hubs others o
 agree P hubs others None a k = tt

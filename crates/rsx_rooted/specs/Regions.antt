@@ -7,8 +7,8 @@ use Rattle.rsx_tree.specs.declared.inputs.Inputs.{Inputs, End}
 use Rattle.rsx_tree.specs.Inputs.{size}
 use Rattle.rsx_tree.specs.Tree.{comes_out, notes}
 use Rattle.rsx_tree.specs.Swapped.{with_sender}
-use Rattle.rsx_cut.specs.Flow.{AreFor, Flows, HoldsOver, ReadsLink, alone, as_root}
-use Rattle.rsx_cut.specs.Local.{Begins, IsLocal, ReadsNot, stream_of}
+use Rattle.rsx_rooted.specs.Flow.{AreFor, Flows, HoldsOver, ReadsLink, alone, as_root}
+use Rattle.rsx_rooted.specs.Local.{Begins, IsLocal, ReadsNot, stream_of}
 
 -- `taken` is what the hubs took in, and what came over the links, each from the opening on: over all values that begin so, what came
 -- out of the first tree is what went out, and then what comes out of the second

@@ -5,7 +5,7 @@ use Rattle.std.proofs.lemmas.Option.{slice_get-get_or}
 use Rattle.std.proofs.Math.Nat.{zero-add}
 use Rattle.rsx_sources.specs.Prelude.{note_then, notes_then, Note, Nothing, Picks, Ended}
 use Rattle.rsx_tree.proofs.Noted.{get_left, get_right}
-use Rattle.rsx_cut.specs.Splice.{IsSpliced, splice, folded, lifted}
+use Rattle.rsx_rooted.specs.Splice.{IsSpliced, splice, folded, lifted}
 
 -- ---- cut, and spliced again
 

@@ -10,11 +10,11 @@ use Rattle.rsx_tree.specs.Inputs.{size, notes_of}
 use Rattle.rsx_tree.specs.Tree.{notes}
 use Rattle.rsx_tree.specs.Swapped.{put_at, with_sender}
 use Rattle.rsx_tree.proofs.Noted.{get_left, get_right, length_notes}
-use Rattle.rsx_cut.specs.Splice.{IsSpliced, splice, folded, lifted}
-use Rattle.rsx_cut.specs.Flow.{AreFor, Flows, HoldsOver, AreLinked, Fill}
-use Rattle.rsx_cut.proofs.Joins.{joined_value}
-use Rattle.rsx_cut.proofs.Puts.{put_here, put_below, put_beside, size_least}
-use Rattle.rsx_cut.proofs.Splices.{splice_back, lifted_length, folded_length, folded_at, splice_length, spliced, splice_left, splice_right, notes_splice, still_nothing}
+use Rattle.rsx_rooted.specs.Splice.{IsSpliced, splice, folded, lifted}
+use Rattle.rsx_rooted.specs.Flow.{AreFor, Flows, HoldsOver, AreLinked, Fill}
+use Rattle.rsx_rooted.proofs.Linked.{joined_value}
+use Rattle.rsx_rooted.proofs.Puts.{put_here, put_below, put_beside, size_least}
+use Rattle.rsx_rooted.proofs.Splices.{splice_back, lifted_length, folded_length, folded_at, splice_length, spliced, splice_left, splice_right, notes_splice, still_nothing}
 
 -- ---- notes of a row
 

@@ -8,9 +8,9 @@ use Rattle.rsx_tree.specs.declared.node.Node.{Node}
 use Rattle.rsx_tree.specs.Inputs.{size, comes_in, out_of, beside_of, through}
 use Rattle.rsx_tree.specs.Tree.{comes_out}
 use Rattle.rsx_tree.specs.Swapped.{put_at, with_sender}
-use Rattle.rsx_cut.specs.Splice.{IsSpliced}
-use Rattle.rsx_cut.specs.Flow.{AreFor, Holds, HoldsOver, ReadsLink, AreLinked, Fill, as_root}
-use Rattle.rsx_cut.proofs.Puts.{AreSame, same_in, same_choices, put_here, put_below, put_beside}
+use Rattle.rsx_rooted.specs.Splice.{IsSpliced}
+use Rattle.rsx_rooted.specs.Flow.{AreFor, Holds, HoldsOver, ReadsLink, AreLinked, Fill, as_root}
+use Rattle.rsx_rooted.proofs.Puts.{AreSame, same_in, same_choices, put_here, put_below, put_beside}
 
 -- ---- signals in front
 

@@ -5,14 +5,14 @@ use Rattle.rsx_sources.specs.Prelude.{Meaning, Stream, signals, signals_then, Si
 use Rattle.rsx_sources.specs.declared.machine.Machine.{Ghosts as Machine}
 use Rattle.rsx_tree.specs.declared.node.Node.{Node}
 use Rattle.rsx_tree.specs.Swapped.{with_sender}
-use Rattle.rsx_cut.specs.Flow.{Fill, as_root}
-use Rattle.rsx_cut.specs.Local.{Begins, IsLocal, filled, stream_of}
-use Rattle.rsx_cut.specs.Regions.{Adds, IsCutBetween, JoinsRegions, JoinsRoot, PutsAgain, StandsOn}
-use Rattle.rsx_cut.proofs.Joins.{then_append}
-use Rattle.rsx_cut.proofs.Locals.{filled_there, filled_other, filled_same, flows_stands, stream_then}
-use Rattle.rsx_cut.proofs.Puts.{put_again}
-use Rattle.rsx_cut.proofs.Roots.{joined_root}
-use Rattle.rsx_cut.proofs.Whole.{joined}
+use Rattle.rsx_rooted.specs.Flow.{Fill, as_root}
+use Rattle.rsx_rooted.specs.Local.{Begins, IsLocal, filled, stream_of}
+use Rattle.rsx_rooted.specs.Regions.{Adds, IsCutBetween, JoinsRegions, JoinsRoot, PutsAgain, StandsOn}
+use Rattle.rsx_rooted.proofs.Linked.{then_append}
+use Rattle.rsx_rooted.proofs.Locals.{filled_there, filled_other, filled_same, flows_stands, stream_then}
+use Rattle.rsx_rooted.proofs.Puts.{put_again}
+use Rattle.rsx_rooted.proofs.Roots.{joined_root}
+use Rattle.rsx_rooted.proofs.Whole.{joined}
 
 -- the values of the hubs with the link's, where that begins with what came over the link
 pub begins_filled : {T : Type 0} (taken whole : List (Stream T)) (k : ℕ) (came : List (Signal T)) (v : Stream T) (hubs : List (Stream T)) → Adds taken whole k came → Begins whole hubs → Begins taken (filled k (signals_then came v) hubs)

@@ -7,8 +7,8 @@ use Rattle.rsx_tree.specs.Chosen.{IsChosen}
 use Rattle.rsx_tree.specs.Handed.{IsHanded, IsNextOf}
 use Rattle.rsx_tree.specs.Reads.{IsTreeReadAt}
 use Rattle.rsx_tree.specs.Tree.{comes_out, notes, IsLetGo}
-use Rattle.rsx_cut.specs.Flow.{AreFor, Flows}
-use Rattle.rsx_cut.proofs.Joins.{then_append}
+use Rattle.rsx_rooted.specs.Flow.{AreFor, Flows}
+use Rattle.rsx_rooted.proofs.Linked.{then_append}
 
 map_same : {A : Type 0} (o : Option (Stream A)) → o ≡ option_map (signals_then []) o
 map_same None = refl

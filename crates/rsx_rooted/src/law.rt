@@ -1,6 +1,6 @@
 //! What is proved of trees that were cut and joined again, each as the contract of one function.
 
-ghost use Rattle.rsx_cut.specs.Regions.{JoinsRegions, JoinsRoot, PutsAgain, StandsOn};
+ghost use Rattle.rsx_rooted.specs.Regions.{JoinsRegions, JoinsRoot, PutsAgain, StandsOn};
 
 use rsx_sources::Machine;
 

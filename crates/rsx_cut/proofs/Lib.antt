@@ -1,9 +1,0 @@
-pub mod Joins
-pub mod Leaves
-pub mod Locals
-pub mod Moves
-pub mod Puts
-pub mod Regions
-pub mod Roots
-pub mod Splices
-pub mod Whole

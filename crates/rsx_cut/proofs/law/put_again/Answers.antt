@@ -1,5 +1,0 @@
-use Rattle.rsx_cut.proofs.Regions.{put_again_tree}
-use Rattle.rsx_cut.proofs.law.put_again.Goals as goal
-
-pub returns : goal.returns
-returns g c = put_again_tree

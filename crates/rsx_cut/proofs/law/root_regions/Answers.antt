@@ -1,5 +1,0 @@
-use Rattle.rsx_cut.proofs.Regions.{root_regions}
-use Rattle.rsx_cut.proofs.law.root_regions.Goals as goal
-
-pub returns : goal.returns
-returns g c = root_regions g.M.Machine

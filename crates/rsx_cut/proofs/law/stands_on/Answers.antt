@@ -1,5 +1,0 @@
-use Rattle.rsx_cut.proofs.Regions.{stands_on}
-use Rattle.rsx_cut.proofs.law.stands_on.Goals as goal
-
-pub returns : goal.returns
-returns g c = stands_on g.M.Machine
