@@ -1,2 +1,4 @@
--- Lemmas about an operator with its out slot.
+-- Lemmas about an operator with its out slot, and about nodes of either kind and their trees.
+pub mod Kept
+pub mod Passed
 pub mod Taken

@@ -1,5 +1,5 @@
-use Rattle.rsx_either.proofs.Passed.{left_passed, right_passed}
-use Rattle.rsx_either.proofs.either.EitherNodeMachine.pass.Goals as goal
+use Rattle.rsx_processor.proofs.Passed.{left_passed, right_passed}
+use Rattle.rsx_processor.proofs.either.EitherNodeMachine.pass.Goals as goal
 
 pub returns-in-Left-clause-passed : goal.returns-in-Left-clause-passed
 returns-in-Left-clause-passed g c =

@@ -11,10 +11,10 @@ use Rattle.rsx_tree.specs.Inputs.{comes_in, edges, notes_of, size}
 use Rattle.rsx_tree.specs.Reads.{IsRowReadAt}
 use Rattle.rsx_tree.specs.declared.inputs.Inputs.{Inputs, End, More'}
 use Rattle.rsx_tree.specs.declared.node.Node.{Node}
-use Rattle.rsx_either.specs.Either.{by_kind, either}
-use Rattle.rsx_either.specs.Trees.{IsLeft, IsLeftRow}
-use Rattle.rsx_either.specs.declared.either.EitherNode.{EitherNode}
-use Rattle.rsx_either.specs.declared.either.EitherNode.TheVariants.{Left}
+use Rattle.rsx_processor.specs.Either.{by_kind, either}
+use Rattle.rsx_processor.specs.Trees.{IsLeft, IsLeftRow}
+use Rattle.rsx_processor.specs.declared.either.EitherNode.{EitherNode}
+use Rattle.rsx_processor.specs.declared.either.EitherNode.TheVariants.{Left}
 
 same_size : {A B : Type 0} (r : Inputs A) (s : Inputs (EitherNode A B)) → IsLeftRow r s → size s ≡ size r
 same_size End End h = refl

@@ -4,8 +4,8 @@ use Rattle.rsx_sources.specs.Prelude.{IsItemOut, IsPassed, IsRowDone, IsRowOut, 
 use Rattle.rsx_sources.specs.declared.machine.Machine.{Ghosts as Machine}
 use Rattle.rsx_sources.specs.declared.machine.Passed.{Passed}
 use Rattle.rsx_sources.specs.declared.machine.Passed.TheVariants.{Item, Kept, Declined}
-use Rattle.rsx_either.specs.Either.{either}
-use Rattle.rsx_either.specs.declared.either.EitherNode.TheVariants.{Left, Right}
+use Rattle.rsx_processor.specs.Either.{either}
+use Rattle.rsx_processor.specs.declared.either.EitherNode.TheVariants.{Left, Right}
 
 -- what is said of one machine's item
 abbrev IsIn : {M T : Type 0} → Machine M T → Meaning T → M → ℕ → T → M → Type 0

@@ -3,8 +3,8 @@ use Rattle.std.specs.Prelude.{ℕ, List}
 use Rattle.std.proofs.Common.{inl, inr}
 use Rattle.rsx_sources.specs.Counts.{IsHungry}
 use Rattle.rsx_sources.specs.declared.machine.Machine.{Ghosts as Machine}
-use Rattle.rsx_either.specs.declared.either.EitherNode.{EitherNode}
-use Rattle.rsx_either.specs.declared.either.EitherNode.TheVariants.{Left, Right}
+use Rattle.rsx_processor.specs.declared.either.EitherNode.{EitherNode}
+use Rattle.rsx_processor.specs.declared.either.EitherNode.TheVariants.{Left, Right}
 
 -- what is said of a node by what is said of each kind
 abbrev pub by_kind {ℓ} : {A B : Type 0} {R : Type ℓ} → (A → R) → (B → R) → EitherNode A B → R

@@ -1,4 +1,4 @@
-use Rattle.rsx_either.proofs.either.EitherNodeMachine.residual.Goals as goal
+use Rattle.rsx_processor.proofs.either.EitherNodeMachine.residual.Goals as goal
 
 pub returns-in-Left : goal.returns-in-Left
 returns-in-Left g c = rw c.in-Left.is c.residual.ensures

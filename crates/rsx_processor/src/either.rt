@@ -22,9 +22,9 @@ impl<A: Machine, B: Machine<Item = A::Item>> Machine for EitherNode<A, B> {
     ghost use Rattle.rsx_sources.specs.Machine.{TakesIn, front_of};
     ghost use Rattle.rsx_sources.specs.Reading.{IsReadOn, takes_published};
     ghost use Rattle.rsx_sources.specs.Steps.{IsSameKind, IsNotTaken, StaysAlike};
-    ghost use Rattle.rsx_either.specs.Either.{either, left_hungry, right_hungry};
-    ghost use Rattle.rsx_either.specs.declared.either.EitherNode.{EitherNode};
-    ghost use Rattle.rsx_either.specs.declared.either.EitherNode.TheVariants.{Left, Right};
+    ghost use Rattle.rsx_processor.specs.Either.{either, left_hungry, right_hungry};
+    ghost use Rattle.rsx_processor.specs.declared.either.EitherNode.{EitherNode};
+    ghost use Rattle.rsx_processor.specs.declared.either.EitherNode.TheVariants.{Left, Right};
 
     ghost comes_out = { (either A.Machine B.Machine).comes_out };
 

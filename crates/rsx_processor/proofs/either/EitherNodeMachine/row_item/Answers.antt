@@ -1,5 +1,5 @@
-use Rattle.rsx_either.proofs.Passed.{left_row_out, right_row_out}
-use Rattle.rsx_either.proofs.either.EitherNodeMachine.row_item.Goals as goal
+use Rattle.rsx_processor.proofs.Passed.{left_row_out, right_row_out}
+use Rattle.rsx_processor.proofs.either.EitherNodeMachine.row_item.Goals as goal
 
 pub returns-in-Left-clause-out : goal.returns-in-Left-clause-out
 returns-in-Left-clause-out g c =

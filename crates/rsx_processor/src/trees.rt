@@ -6,8 +6,8 @@ ghost use Rattle.rsx_model.specs.declared.expr.Expr.{Expr};
 ghost use Rattle.rsx_rooted.specs.Built.{IsBuilt};
 ghost use Rattle.rsx_rooted.specs.Crossings.{IsPlaced};
 ghost use Rattle.rsx_types.specs.Meaning.{Meaning};
-ghost use Rattle.rsx_either.specs.Either.{by_kind, either};
-ghost use Rattle.rsx_either.specs.Trees.{IsLeft, IsLeftRow};
+ghost use Rattle.rsx_processor.specs.Either.{by_kind, either};
+ghost use Rattle.rsx_processor.specs.Trees.{IsLeft, IsLeftRow};
 
 use crate::EitherNode;
 use rsx_rooted::Nodes;

@@ -2,8 +2,8 @@
 use Rattle.std.specs.Prelude.{◌≡◌, ⊤}
 use Rattle.rsx_tree.specs.declared.inputs.Inputs.{Inputs, End, More'}
 use Rattle.rsx_tree.specs.declared.node.Node.{Node}
-use Rattle.rsx_either.specs.declared.either.EitherNode.{EitherNode}
-use Rattle.rsx_either.specs.declared.either.EitherNode.TheVariants.{Left}
+use Rattle.rsx_processor.specs.declared.either.EitherNode.{EitherNode}
+use Rattle.rsx_processor.specs.declared.either.EitherNode.TheVariants.{Left}
 
 -- each node of the second row is that of the first, and so is its edge
 abbrev pub IsLeftRow : {A B : Type 0} → Inputs A → Inputs (EitherNode A B) → Type 0

@@ -1,4 +1,4 @@
-use Rattle.rsx_either.proofs.either.EitherNodeMachine.next_pick.Goals as goal
+use Rattle.rsx_processor.proofs.either.EitherNodeMachine.next_pick.Goals as goal
 
 pub returns-in-Left-clause-none : goal.returns-in-Left-clause-none
 returns-in-Left-clause-none g c = rw c.in-Left.is c.next_pick.ensures.none

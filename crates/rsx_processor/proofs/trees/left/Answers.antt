@@ -1,7 +1,7 @@
 use Rattle.std.proofs.Common.{refl, rules}
-use Rattle.rsx_either.specs.Trees.{IsLeftRow}
-use Rattle.rsx_either.proofs.Kept.{built_of_either, placed_of_either}
-use Rattle.rsx_either.proofs.trees.left.Goals as goal
+use Rattle.rsx_processor.specs.Trees.{IsLeftRow}
+use Rattle.rsx_processor.proofs.Kept.{built_of_either, placed_of_either}
+use Rattle.rsx_processor.proofs.trees.left.Goals as goal
 
 pub returns-clause-built : goal.returns-clause-built
 returns-clause-built g c = λ m hubs e built.

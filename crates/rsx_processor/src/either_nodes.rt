@@ -6,8 +6,8 @@ use rsx_tree::Edge;
 use rsx_waits::Operator;
 
 impl<A: Nodes, B: Nodes<Item = A::Item>> Nodes for EitherNode<A, B> {
-    ghost use Rattle.rsx_either.specs.Either.{by_kind};
-    ghost use Rattle.rsx_either.specs.declared.either.EitherNode.TheVariants.{Left, Right};
+    ghost use Rattle.rsx_processor.specs.Either.{by_kind};
+    ghost use Rattle.rsx_processor.specs.declared.either.EitherNode.TheVariants.{Left, Right};
 
     ghost route_by = { by_kind A.route_by B.route_by };
 

@@ -1,3 +1,0 @@
--- Definitions that contracts cite.
-pub mod Either
-pub mod Trees
