@@ -1,5 +1,5 @@
 use Rattle.std.specs.String.{string_bytes}
-use Rattle.rsx_drive.proofs.Drawn.{drawn_on}
+use Rattle.rsx_drive.proofs.DrawnLines.{drawn_on}
 use Rattle.rsx_drive.proofs.draw.DrawingAnswers.answer.Goals as goal
 
 pub returns-clause-answered : goal.returns-clause-answered
