@@ -12,7 +12,7 @@ use Rattle.rsx_pipe.specs.Part.{Part, PartStands, all_edges}
 use Rattle.rsx_link.specs.Ends.{asked_total, carried_down, carried_up, received_signals, seen_total, sent_signals}
 use Rattle.rsx_link.specs.Signals.{items_in as counted_in}
 use Rattle.rsx_link.specs.declared.link.Link.{Link}
-use Rattle.rsx_piece.specs.Piece.{PieceStands}
+use Rattle.rsx_region.specs.Piece.{PieceStands}
 use Rattle.rsx_region.specs.Pieces.{StandsSince, came_of, numbers_of, taken_by, taken_of}
 use Rattle.rsx_region.specs.declared.piece.Incoming.{Incoming}
 use Rattle.rsx_region.specs.declared.piece.Piece.{Piece}

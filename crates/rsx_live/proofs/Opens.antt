@@ -8,8 +8,8 @@ use Rattle.rsx_pipe.specs.Output.{counts_in}
 use Rattle.rsx_pipe.specs.Part.{Part}
 use Rattle.rsx_link.specs.Ends.{IsUpOf, received_signals}
 use Rattle.rsx_link.specs.declared.link.Link.{Link}
-use Rattle.rsx_piece.specs.Inlet.{InletStands, IsInletOf}
-use Rattle.rsx_piece.proofs.Openings.{opens}
+use Rattle.rsx_region.specs.Inlet.{InletStands, IsInletOf}
+use Rattle.rsx_region.proofs.Openings.{opens}
 use Rattle.rsx_region.specs.Cuts.{HasTakenNothing}
 use Rattle.rsx_region.specs.Pieces.{AreApart, Each, IsAt, IsPieceOf, StandsSince, hub_of, taken_of}
 use Rattle.rsx_region.specs.Regions.{ArePiecesOf}

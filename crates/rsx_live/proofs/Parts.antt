@@ -19,7 +19,7 @@ use Rattle.rsx_pipe.specs.Tree.{IsBalanced}
 use Rattle.rsx_link.specs.Ends.{carried_up}
 use Rattle.rsx_link.specs.Signals.{items_in as counted_in}
 use Rattle.rsx_link.specs.declared.up.Up.{Up}
-use Rattle.rsx_piece.specs.Piece.{PieceStands}
+use Rattle.rsx_region.specs.Piece.{PieceStands}
 use Rattle.rsx_live.specs.Outgoing.{NoneRead, ReadsNothing}
 
 -- ---- signals

@@ -12,7 +12,7 @@ use Rattle.rsx_graph.specs.declared.graph.Graph.{Graph}
 use Rattle.rsx_kinds.specs.Any.{TreeNode}
 use Rattle.rsx_link.specs.Ends.{carried_down}
 use Rattle.rsx_link.specs.declared.link.Link.{Link}
-use Rattle.rsx_piece.proofs.Places.{same_some}
+use Rattle.rsx_region.proofs.EdgePlaces.{same_some}
 use Rattle.rsx_region.specs.Pieces.{IsAt}
 use Rattle.rsx_runtime.specs.Poking.{IsAmong}
 use Rattle.rsx_runtime.specs.Tapping.{IsTapOf, KeepsTap}

@@ -11,7 +11,7 @@ use Rattle.rsx_link.specs.Ends.{IsUpOf, asked_total, cancel_parts, cancels_of, c
 use Rattle.rsx_link.specs.Signals.{items_in}
 use Rattle.rsx_link.specs.Steps.{is_refused}
 use Rattle.rsx_link.specs.declared.link.Link.{Link}
-use Rattle.rsx_piece.specs.Piece.{IsInStep}
+use Rattle.rsx_region.specs.Piece.{IsInStep}
 use Rattle.rsx_region.specs.declared.piece.Piece.{Piece}
 use Rattle.rsx_runtime.specs.Tapping.{IsTapOf, given}
 use Rattle.rsx_runtime.specs.declared.tap.Tap.{Tap}

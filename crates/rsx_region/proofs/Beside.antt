@@ -22,11 +22,11 @@ use Rattle.rsx_link.specs.declared.down.Down.{Down}
 use Rattle.rsx_rooted.proofs.Puts.{put_below, put_beside, put_here}
 use Rattle.rsx_rooted.specs.Local.{AllOf}
 use Rattle.rsx_rooted.specs.Splice.{splice}
-use Rattle.rsx_piece.specs.Inlet.{HaveBegun, HaveReached, IsBegunAt, IsReachedAt, LinkStands, NoneReads, OneReads}
-use Rattle.rsx_piece.proofs.Cutting.{readings_put}
-use Rattle.rsx_piece.proofs.Places.{place_below, same_some, sender_below, sender_beside, sender_here, with_below}
-use Rattle.rsx_piece.proofs.Rejoining.{place_is}
-use Rattle.rsx_piece.proofs.Spliced.{length_readings}
+use Rattle.rsx_region.specs.Inlet.{HaveBegun, HaveReached, IsBegunAt, IsReachedAt, LinkStands, NoneReads, OneReads}
+use Rattle.rsx_region.proofs.CutParts.{readings_put}
+use Rattle.rsx_region.proofs.EdgePlaces.{place_below, same_some, sender_below, sender_beside, sender_here, with_below}
+use Rattle.rsx_region.proofs.Rejoining.{place_is}
+use Rattle.rsx_region.proofs.Spliced.{length_readings}
 
 -- ---- who reads a hub
 

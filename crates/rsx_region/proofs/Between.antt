@@ -9,9 +9,9 @@ use Rattle.rsx_link.specs.Ends.{AreEnds, IsUpOf, carried_up, items_sent, seen_to
 use Rattle.rsx_link.specs.Signals.{items_in}
 use Rattle.rsx_link.specs.declared.link.Link.{Link}
 use Rattle.rsx_link.specs.declared.up.Up.{Up}
-use Rattle.rsx_piece.specs.Inlet.{IsInletOf}
-use Rattle.rsx_piece.proofs.Joinings.{items_next}
-use Rattle.rsx_piece.proofs.Places.{same_some}
+use Rattle.rsx_region.specs.Inlet.{IsInletOf}
+use Rattle.rsx_region.proofs.Joinings.{items_next}
+use Rattle.rsx_region.proofs.EdgePlaces.{same_some}
 use Rattle.rsx_region.specs.Joins.{HasNoOther, IsCutFrom, IsJoinedBy}
 use Rattle.rsx_region.specs.Pieces.{AreApart, Each, IsAt, IsPieceOf, hub_of, hubs_of}
 use Rattle.rsx_region.specs.Halves.{Halves}

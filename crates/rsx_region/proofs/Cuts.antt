@@ -25,10 +25,10 @@ use Rattle.rsx_link.specs.declared.cancel.CancelSeat.{CancelSeat}
 use Rattle.rsx_link.specs.declared.down.Down.{Down}
 use Rattle.rsx_link.specs.declared.link.Link.{Link}
 use Rattle.rsx_link.specs.declared.up.Up.{Up}
-use Rattle.rsx_piece.specs.Inlet.{NoneReads}
-use Rattle.rsx_piece.specs.Joined.{IsReader, sent_over_edge}
-use Rattle.rsx_piece.proofs.Pieces.{items_more}
-use Rattle.rsx_piece.proofs.Places.{same_some}
+use Rattle.rsx_region.specs.Inlet.{NoneReads}
+use Rattle.rsx_region.specs.Joined.{IsReader, sent_over_edge}
+use Rattle.rsx_region.proofs.Pieces.{items_more}
+use Rattle.rsx_region.proofs.EdgePlaces.{same_some}
 use Rattle.rsx_region.specs.Cuts.{NoneReadsIn, ReadsNone}
 use Rattle.rsx_region.specs.Pieces.{hub_of}
 use Rattle.rsx_region.specs.declared.piece.Incoming.{Incoming}

@@ -3,8 +3,8 @@ use Rattle.std.proofs.Common.{◌≡◌, ℕ, List, map, sym, ap, ◌∙◌, sub
 use Rattle.rsx_link.specs.Ends.{IsUpOf}
 use Rattle.rsx_link.specs.declared.link.Link.{Link}
 use Rattle.rsx_link.specs.declared.up.Up.{Up}
-use Rattle.rsx_piece.specs.Inlet.{IsInletOf}
-use Rattle.rsx_piece.specs.Piece.{IsInStep}
+use Rattle.rsx_region.specs.Inlet.{IsInletOf}
+use Rattle.rsx_region.specs.Piece.{IsInStep}
 use Rattle.rsx_region.specs.Pieces.{AreApart, Each, IsAt, IsPieceOf, hub_of}
 use Rattle.rsx_region.specs.Steps.{OneChanged, SameInlets}
 use Rattle.rsx_region.specs.declared.piece.Incoming.{Incoming}

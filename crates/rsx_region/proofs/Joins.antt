@@ -27,17 +27,17 @@ use Rattle.rsx_pipe.specs.Part.{Part}
 use Rattle.rsx_pipe.specs.Rejoined.{can_end_here, can_put_in, ending_in, put_node, read_at}
 use Rattle.rsx_link.specs.Ends.{carried_down, carried_up, received_signals, sent_signals}
 use Rattle.rsx_link.specs.Signals.{items_in}
-use Rattle.rsx_piece.specs.Inlet.{InletStands}
-use Rattle.rsx_piece.specs.Piece.{PieceStands}
-use Rattle.rsx_piece.specs.Whole.{AreShared, IsBelow, JoinsWhole, JoinsWholeAtEnd, JoinsWholeEnded, WasCut}
-use Rattle.rsx_piece.proofs.Cutting.{HoldsLaw}
-use Rattle.rsx_piece.proofs.Ended.{ended_at, none_ended}
-use Rattle.rsx_piece.proofs.Givings.{gives_back}
-use Rattle.rsx_piece.proofs.Joinings.{items_next}
-use Rattle.rsx_piece.proofs.Pieces.{let_go}
-use Rattle.rsx_piece.proofs.Places.{same_some}
-use Rattle.rsx_piece.proofs.Rejoining.{can_join_is, ended_row}
-use Rattle.rsx_piece.proofs.Wholes.{lets_go_over}
+use Rattle.rsx_region.specs.Inlet.{InletStands}
+use Rattle.rsx_region.specs.Piece.{PieceStands}
+use Rattle.rsx_region.specs.Whole.{AreShared, IsBelow, JoinsWhole, JoinsWholeAtEnd, JoinsWholeEnded, WasCut}
+use Rattle.rsx_region.proofs.CutParts.{HoldsLaw}
+use Rattle.rsx_region.proofs.Ended.{ended_at, none_ended}
+use Rattle.rsx_region.proofs.Givings.{gives_back}
+use Rattle.rsx_region.proofs.Joinings.{items_next}
+use Rattle.rsx_region.proofs.Pieces.{let_go}
+use Rattle.rsx_region.proofs.EdgePlaces.{same_some}
+use Rattle.rsx_region.proofs.Rejoining.{can_join_is, ended_row}
+use Rattle.rsx_region.proofs.Wholes.{lets_go_over}
 use Rattle.rsx_region.specs.Joins.{CanEnd, CanGoOn, HaveGone, IsCutFrom, IsJoinedBy, IsJoinedEnded, IsJoinedGoing, IsPutAt, IsShut, IsShutUnless}
 use Rattle.rsx_region.specs.Pieces.{Each, StandsSince, came_of, hub_of, numbers_of, taken_by, taken_of}
 use Rattle.rsx_region.specs.Halves.{Halves}

@@ -1,6 +1,6 @@
 -- Lists of which one element changes.
 use Rattle.std.proofs.Common.{◌≡◌, ◌⊎◌, inl, inr, ℕ, zero, suc, List, [], ◌∷◌, map, refl, ap, sym, ◌∙◌, subst, Some, slice_get, slice_set}
-use Rattle.rsx_piece.specs.Inlet.{replaced_at}
+use Rattle.rsx_region.specs.Inlet.{replaced_at}
 use Rattle.rsx_region.specs.Pieces.{AreApart, Each, taken_by}
 
 -- what stands in the list where one element was set

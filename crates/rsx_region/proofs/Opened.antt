@@ -23,12 +23,12 @@ use Rattle.rsx_pipe.specs.Output.{counts_in}
 use Rattle.rsx_pipe.specs.Published.{reader_edge}
 use Rattle.rsx_link.specs.Ends.{asked_total, cancels_of, carried_down, carried_up, items_sent, received_signals, seen_total}
 use Rattle.rsx_link.specs.Signals.{items_in}
-use Rattle.rsx_piece.specs.Inlet.{HaveBegun, HaveReached, InletStands, IsBegunAt, IsReachedAt, NoneReads, OneReads, replaced_at}
-use Rattle.rsx_piece.specs.Joined.{AgreesOn}
-use Rattle.rsx_piece.proofs.Cutting.{HoldsLaw, cut_live, cuts_reading, live_there, readings_put, root_of_live}
-use Rattle.rsx_piece.proofs.Joinings.{items_next}
-use Rattle.rsx_piece.proofs.Openings.{opens}
-use Rattle.rsx_piece.proofs.Places.{IsThere, place_below, same_some, with_below}
+use Rattle.rsx_region.specs.Inlet.{HaveBegun, HaveReached, InletStands, IsBegunAt, IsReachedAt, NoneReads, OneReads, replaced_at}
+use Rattle.rsx_region.specs.Joined.{AgreesOn}
+use Rattle.rsx_region.proofs.CutParts.{HoldsLaw, cut_live, cuts_reading, live_there, readings_put, root_of_live}
+use Rattle.rsx_region.proofs.Joinings.{items_next}
+use Rattle.rsx_region.proofs.Openings.{opens}
+use Rattle.rsx_region.proofs.EdgePlaces.{IsThere, place_below, same_some, with_below}
 use Rattle.rsx_region.specs.Cuts.{AsksAsMuch, HasTakenNothing}
 use Rattle.rsx_region.specs.Joins.{IsCutFrom}
 use Rattle.rsx_region.specs.Pieces.{Each, StandsSince, came_of, hub_of, taken_by, taken_of}

@@ -4,9 +4,9 @@ use Rattle.std.proofs.lemmas.Option.{slice_get_read}
 use Rattle.rsx_link.specs.Ends.{IsCancelSeatOf}
 use Rattle.rsx_link.specs.declared.cancel.CancelSeat.{CancelSeat}
 use Rattle.rsx_link.specs.declared.link.Link.{Link}
-use Rattle.rsx_piece.specs.Inlet.{IsInletOf}
-use Rattle.rsx_piece.specs.Moves.{SameInlet}
-use Rattle.rsx_piece.specs.declared.inlet.Inlet.{Inlet}
+use Rattle.rsx_region.specs.Inlet.{IsInletOf}
+use Rattle.rsx_region.specs.Moves.{SameInlet}
+use Rattle.rsx_region.specs.declared.inlet.Inlet.{Inlet}
 use Rattle.rsx_region.specs.Pieces.{IsAt, IsPieceOf}
 use Rattle.rsx_region.specs.declared.piece.Incoming.{Incoming}
 use Rattle.rsx_region.specs.declared.piece.Piece.{Piece}

@@ -13,8 +13,8 @@ use Rattle.rsx_link.specs.Steps.{asked_of}
 use Rattle.rsx_link.specs.declared.view.Step.{Step as LinkStep}
 use Rattle.rsx_link.specs.declared.cancel.CancelSeat.{CancelSeat}
 use Rattle.rsx_link.specs.declared.down.Down.{Down}
-use Rattle.rsx_piece.specs.Moves.{HasLeft, IsAskedFor, IsAskedOver}
-use Rattle.rsx_piece.specs.declared.inlet.Inlet.{Inlet}
+use Rattle.rsx_region.specs.Moves.{HasLeft, IsAskedFor, IsAskedOver}
+use Rattle.rsx_region.specs.declared.inlet.Inlet.{Inlet}
 use Rattle.rsx_region.specs.Pieces.{Each}
 use Rattle.rsx_region.specs.Serving.{AllPassedOn, CanNotPop, EachBefore, HasLeftAll, HasLeftBefore, HasLeftOne, HasPassedOn, HasStayed, IsAtRest, IsPassedOn, IsPassedOver}
 use Rattle.rsx_region.specs.Steps.{HasTried, OneChanged, Shown, shown}

@@ -7,7 +7,7 @@ use Rattle.std.specs.Prelude.{IfErr, IfNone, IfSome, MatchOption, OnOk}
 use Rattle.rsx_types.proofs.Lists.{slice_get_behind}
 use Rattle.rsx_sources.specs.Prelude.{Meaning}
 use Rattle.rsx_sources.specs.declared.machine.Machine.{Ghosts as Machine}
-use Rattle.rsx_piece.proofs.Places.{same_some}
+use Rattle.rsx_region.proofs.EdgePlaces.{same_some}
 use Rattle.rsx_region.specs.Pieces.{Each, StandsSince}
 use Rattle.rsx_region.specs.Regions.{RegionStands}
 use Rattle.rsx_region.specs.Spread.{AreIn, IsPut, RowsStand, numbers_in, rows_of}

@@ -11,8 +11,8 @@ use Rattle.rsx_link.specs.declared.link.Link.{Link}
 use Rattle.rsx_link.specs.declared.up.Found.{Found}
 use Rattle.rsx_link.specs.declared.view.Step.{Step as LinkStep}
 use Rattle.rsx_link.specs.declared.view.Step.TheVariants.{SeeAsked, SeeFlags}
-use Rattle.rsx_piece.specs.Moves.{IsLooked}
-use Rattle.rsx_piece.proofs.Handing.{read_live}
+use Rattle.rsx_region.specs.Moves.{IsLooked}
+use Rattle.rsx_region.proofs.Handing.{read_live}
 use Rattle.rsx_region.specs.Pieces.{came_of}
 use Rattle.rsx_region.specs.Serving.{HasLeftAll, HasRested, HasSeen, HasStayed}
 use Rattle.rsx_region.specs.Steps.{Goes, IsStep, Shown, shown}

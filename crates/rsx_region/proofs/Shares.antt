@@ -7,9 +7,9 @@ use Rattle.rsx_tree.specs.Reads.{AllGoOn, GoesOn, readings}
 use Rattle.rsx_tree.specs.declared.node.Node.{Node}
 use Rattle.rsx_link.specs.Ends.{received_signals}
 use Rattle.rsx_rooted.specs.Local.{AllOf, IsOf, ReadsNot, stream_of}
-use Rattle.rsx_piece.specs.Inlet.{replaced_at}
-use Rattle.rsx_piece.specs.Whole.{AreShared}
-use Rattle.rsx_piece.proofs.Places.{same_some}
+use Rattle.rsx_region.specs.Inlet.{replaced_at}
+use Rattle.rsx_region.specs.Whole.{AreShared}
+use Rattle.rsx_region.proofs.EdgePlaces.{same_some}
 use Rattle.rsx_region.specs.Pieces.{Each, came_of, hub_of, taken_by}
 use Rattle.rsx_region.specs.declared.piece.Incoming.{Incoming}
 

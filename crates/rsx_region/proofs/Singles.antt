@@ -17,7 +17,7 @@ use Rattle.rsx_link.specs.Ends.{SameUp, carried_up, received_signals, sent_signa
 use Rattle.rsx_link.specs.declared.link.Link.{Link}
 use Rattle.rsx_link.specs.declared.up.Found.{Found}
 use Rattle.rsx_link.specs.declared.up.Up.{Up}
-use Rattle.rsx_piece.specs.Moves.{HasKept, HasLeft, HasMoved, HasPopped, HasSent, HasStepped, IsAskedFor, IsLooked, IsStill, KeepsInlet, SameInlet}
+use Rattle.rsx_region.specs.Moves.{HasKept, HasLeft, HasMoved, HasPopped, HasSent, HasStepped, IsAskedFor, IsLooked, IsStill, KeepsInlet, SameInlet}
 use Rattle.rsx_region.specs.Serving.{HasLeftOne, HasPassedOn, HasStayed, IsPassedOn}
 use Rattle.rsx_region.specs.Steps.{Goes, HasTried, OneChanged, SameInlets, done, shown}
 use Rattle.rsx_region.specs.declared.piece.Incoming.{Incoming}

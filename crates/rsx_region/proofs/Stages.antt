@@ -21,10 +21,10 @@ use Rattle.rsx_pipe.specs.Part.{Part}
 use Rattle.rsx_link.specs.Ends.{IsUpOf, capacity_of, carried_up, items_sent, received_signals, seen_total, sent_signals}
 use Rattle.rsx_link.specs.declared.link.Link.{Link}
 use Rattle.rsx_link.specs.declared.up.Up.{Up}
-use Rattle.rsx_piece.specs.Inlet.{InletStands, IsInletOf}
-use Rattle.rsx_piece.specs.Piece.{IsInStep, PieceStands}
-use Rattle.rsx_piece.proofs.Openings.{opens}
-use Rattle.rsx_piece.proofs.Places.{same_some}
+use Rattle.rsx_region.specs.Inlet.{InletStands, IsInletOf}
+use Rattle.rsx_region.specs.Piece.{IsInStep, PieceStands}
+use Rattle.rsx_region.proofs.Openings.{opens}
+use Rattle.rsx_region.proofs.EdgePlaces.{same_some}
 use Rattle.rsx_region.specs.Cuts.{AreWhole, HasNumbers, HasTakenNothing, IsWhole, SamePiece}
 use Rattle.rsx_region.specs.Halves.{AreHalves}
 use Rattle.rsx_region.specs.Joins.{CannotJoin, HasNoOther, IsCutFrom, IsJoinedBy}

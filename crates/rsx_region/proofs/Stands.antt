@@ -7,9 +7,9 @@ use Rattle.rsx_pipe.specs.Part.{Part}
 use Rattle.rsx_link.specs.Ends.{carried_down, carried_up, received_signals, sent_signals}
 use Rattle.rsx_link.specs.declared.up.Up.{Up}
 use Rattle.rsx_rooted.specs.Local.{stream_of}
-use Rattle.rsx_piece.specs.Inlet.{HasCome, InletStands, with_come}
-use Rattle.rsx_piece.specs.Piece.{PieceStands}
-use Rattle.rsx_piece.specs.declared.inlet.Inlet.{Inlet}
+use Rattle.rsx_region.specs.Inlet.{HasCome, InletStands, with_come}
+use Rattle.rsx_region.specs.Piece.{PieceStands}
+use Rattle.rsx_region.specs.declared.inlet.Inlet.{Inlet}
 use Rattle.rsx_region.specs.Pieces.{AreApart, Each, StandsSince, came_of, hub_of, hubs_of, numbers_of, taken_by, taken_of}
 use Rattle.rsx_region.specs.Steps.{OneChanged, SameInlets}
 use Rattle.rsx_region.specs.declared.piece.Incoming.{Incoming}

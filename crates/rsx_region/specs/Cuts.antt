@@ -14,8 +14,8 @@ use Rattle.rsx_pipe.specs.Published.{reader_edge}
 use Rattle.rsx_link.specs.Ends.{AreOpened, received_signals}
 use Rattle.rsx_link.specs.declared.link.Link.{Link}
 use Rattle.rsx_link.specs.declared.up.Up.{Up}
-use Rattle.rsx_piece.specs.Joined.{IsReader}
-use Rattle.rsx_piece.specs.declared.inlet.Inlet.{Inlet}
+use Rattle.rsx_region.specs.Joined.{IsReader}
+use Rattle.rsx_region.specs.declared.inlet.Inlet.{Inlet}
 use Rattle.rsx_region.specs.Pieces.{Each, hub_of}
 use Rattle.rsx_region.specs.declared.halves.Below.{Below}
 use Rattle.rsx_region.specs.declared.halves.TheConstants.{LINK_PLACES}

@@ -14,7 +14,7 @@ use Rattle.rsx_pipe.specs.Part.{Part, all_edges}
 use Rattle.rsx_pipe.specs.Rejoined.{can_put_in, can_rejoin_ended, joined_ended, read_at}
 use Rattle.rsx_pipe.specs.Tree.{IsAllClosed, IsAlike, IsKept}
 use Rattle.rsx_link.specs.Ends.{carried_down, carried_up, received_signals, sent_signals}
-use Rattle.rsx_piece.specs.Whole.{WasCut}
+use Rattle.rsx_region.specs.Whole.{WasCut}
 use Rattle.rsx_region.specs.Pieces.{Each, StandsSince, hub_of}
 use Rattle.rsx_region.specs.Halves.{Halves}
 use Rattle.rsx_region.specs.declared.halves.TheConstants.{LINK_PLACES}

@@ -5,8 +5,8 @@ use Rattle.rsx_sources.specs.declared.machine.Machine.{Ghosts as Machine}
 use Rattle.rsx_link.specs.Ends.{IsUpOf, carried_down, carried_up, received_signals, sent_signals}
 use Rattle.rsx_link.specs.declared.link.Link.{Link}
 use Rattle.rsx_rooted.specs.Local.{stream_of}
-use Rattle.rsx_piece.specs.Inlet.{InletStands, IsInletOf, replaced_at}
-use Rattle.rsx_piece.specs.Piece.{IsInStep, PieceStands}
+use Rattle.rsx_region.specs.Inlet.{InletStands, IsInletOf, replaced_at}
+use Rattle.rsx_region.specs.Piece.{IsInStep, PieceStands}
 use Rattle.rsx_region.specs.declared.piece.Incoming.{Incoming}
 use Rattle.rsx_region.specs.declared.piece.Piece.{Piece}
 

@@ -9,8 +9,8 @@ use Rattle.rsx_pipe.specs.Published.{has_room_for, reader_edge, readers}
 use Rattle.rsx_link.specs.Ends.{Waits, asked_total, cancels_of, queued, sent_signals, up_steps}
 use Rattle.rsx_link.specs.declared.view.Step.{Step as LinkStep}
 use Rattle.rsx_link.specs.declared.view.Step.TheVariants.{SeeAsked, SeeFlags}
-use Rattle.rsx_piece.specs.Moves.{IsIdle}
-use Rattle.rsx_piece.specs.declared.inlet.Inlet.{Inlet}
+use Rattle.rsx_region.specs.Moves.{IsIdle}
+use Rattle.rsx_region.specs.declared.inlet.Inlet.{Inlet}
 use Rattle.rsx_region.specs.Pieces.{Each, came_of}
 use Rattle.rsx_region.specs.Steps.{HasTried, SameInlets}
 use Rattle.rsx_region.specs.declared.piece.Incoming.{Incoming}

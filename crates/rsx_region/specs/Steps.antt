@@ -10,7 +10,7 @@ use Rattle.rsx_link.specs.declared.cancel.CancelSeat.{CancelSeat}
 use Rattle.rsx_link.specs.declared.link.Link.{Link}
 use Rattle.rsx_link.specs.declared.up.Found.{Found}
 use Rattle.rsx_link.specs.declared.view.Step.{Step as LinkStep}
-use Rattle.rsx_piece.specs.Moves.{HasPopped, HasStepped, IsAskedFor, IsLooked}
+use Rattle.rsx_region.specs.Moves.{HasPopped, HasStepped, IsAskedFor, IsLooked}
 use Rattle.rsx_region.specs.declared.piece.Incoming.{Incoming}
 use Rattle.rsx_region.specs.declared.piece.Piece.{Piece}
 use Rattle.rsx_region.specs.declared.step.Step.{Step}

@@ -3,7 +3,7 @@
 ghost use Rattle.std.specs.Prelude.{◌≡◌, ◌+◌, ◌<◌, ◌≤◌, ◌∷◌, ◌++◌, ℕ, List, [], length, map, true, false, None, Some, IfErr, IfNone, IfOk, IfSome, OnErr};
 ghost use Rattle.rsx_link.specs.declared.link.Link.{Link as LinkSpec};
 ghost use Rattle.rsx_link.specs.Ends.{IsUpOf, SameUp, free_slots, items_sent, seen_total, sent_signals};
-ghost use Rattle.rsx_piece.specs.Joined.{IsReader};
+ghost use Rattle.rsx_region.specs.Joined.{IsReader};
 ghost use Rattle.rsx_region.specs.Cuts.{AsksAsMuch, CannotFit, FitsBelow, HasNumbers, HasTakenNothing, IsCutOff, IsMadeFor, NoneReadsIn, NoneHasNumber, ReadsNone, SamePiece, StaysWhole};
 ghost use Rattle.rsx_region.specs.Halves.{AreHalves, halves_of};
 ghost use Rattle.rsx_region.specs.Joins.{IsCutFrom};
@@ -12,10 +12,10 @@ ghost use Rattle.rsx_types.specs.Meaning.{Meaning};
 ghost use Rattle.rsx_types.specs.declared.signal.Signal.TheVariants.{Next};
 
 use crate::halves::{Below, LINK_PLACES};
+use crate::inlet::Inlet;
 use crate::piece::{Incoming, Piece};
 use rsx_hub::Member;
 use rsx_link::{Link, Up};
-use rsx_piece::Inlet;
 use rsx_pipe::{CrossingNodes, CutOff, Edge, Part};
 use rsx_queued::ItemQueue;
 use rsx_types::{NoMemory, Signal};

@@ -4,15 +4,17 @@ ghost use Rattle.std.specs.Prelude.{◌≡◌, ◌<◌, ℕ, List, [], false, So
 ghost use Rattle.rsx_types.specs.Meaning.{Meaning};
 ghost use Rattle.rsx_link.specs.Ends.{IsUpOf};
 ghost use Rattle.rsx_link.specs.declared.link.Link.{Link as LinkSpec};
-ghost use Rattle.rsx_piece.specs.Piece.{IsInStep};
 ghost use Rattle.rsx_tree.specs.Reads.{IsTreeReadAt};
+ghost use Rattle.rsx_region.specs.Piece.{IsInStep};
 ghost use Rattle.rsx_region.specs.Pieces.{IsAt, IsPieceOf, StandsSince};
 ghost use Rattle.rsx_region.specs.Steps.{Goes, done};
 ghost use Rattle.rsx_region.specs.Serving.{HasLeftOne, HasPassedOn, HasSeen, HasStayed};
 ghost use Rattle.rsx_region.specs.declared.piece.Piece.{Piece as PieceSpec};
 
+use crate::inlet::Inlet;
+use crate::outgoing::{look, send, work_at};
+use crate::part_steps::step;
 use rsx_link::{Link, Up};
-use rsx_piece::{Inlet, look, send, step, work_at};
 use rsx_pipe::{EdgeState, NodeMove, Nodes, Part};
 use rsx_types::{NoMemory, Ops};
 use std::alloc::Global;

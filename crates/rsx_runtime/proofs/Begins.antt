@@ -13,7 +13,7 @@ use Rattle.rsx_region.specs.declared.trees.CutTrees.{CutTrees}
 use Rattle.rsx_region.proofs.Lists.{get_map}
 use Rattle.rsx_region.proofs.Rows.{StandIn, each_in, rows_each, stand_in}
 use Rattle.rsx_region.proofs.Stages.{stand_same}
-use Rattle.rsx_piece.proofs.Places.{same_some}
+use Rattle.rsx_region.proofs.EdgePlaces.{same_some}
 use Rattle.rsx_tree.specs.Runs.{Leads}
 use Rattle.rsx_rooted.specs.declared.nodes.CrossingNodes.{Ghosts as CrossingNodes}
 use Rattle.rsx_runtime.specs.Closing.{opened_with}

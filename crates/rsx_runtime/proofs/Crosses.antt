@@ -11,8 +11,8 @@ use Rattle.rsx_tree.proofs.inputs.Inputs.TheLaws.TheKnot as Inputs
 use Rattle.rsx_pipe.specs.declared.Nodes.{Ghosts as Nodes}
 use Rattle.rsx_gate.proofs.gate.Gate.TheSendSync as Gate
 use Rattle.rsx_link.proofs.link.Link.TheSendSync as Link
-use Rattle.rsx_piece.proofs.inlet.Inlet.TheSendSync as Inlet
 use Rattle.rsx_link.proofs.up.Up.TheSendSync as Up
+use Rattle.rsx_region.proofs.inlet.Inlet.TheSendSync as Inlet
 use Rattle.rsx_region.specs.contracts.region.Region as Region
 use Rattle.rsx_runtime.specs.contracts.live.Live as Live
 

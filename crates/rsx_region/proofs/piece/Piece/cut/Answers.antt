@@ -5,7 +5,7 @@ use Rattle.rsx_tree.specs.Edges.{edge_view}
 use Rattle.rsx_link.specs.Ends.{cancel_beside, received_signals}
 use Rattle.rsx_link.specs.Link.{total}
 use Rattle.rsx_link.specs.Steps.{asked_of, cancel_count, seen_of}
-use Rattle.rsx_piece.specs.Joined.{IsReader}
+use Rattle.rsx_region.specs.Joined.{IsReader}
 use Rattle.rsx_region.specs.Cuts.{AsksAsMuch, CannotFit, NoneHasNumber, NoneReadsIn, ReadsNone}
 use Rattle.rsx_region.specs.Pieces.{Each}
 use Rattle.rsx_region.specs.declared.piece.Incoming.{Incoming}

@@ -1,7 +1,7 @@
 use Rattle.std.proofs.Common.{◌≡◌, ◌∷◌, ◌++◌, [], refl, ap, subst, sym, ◌∙◌}
 use Rattle.rsx_pipe.proofs.Cuts.{after_moves}
 use Rattle.rsx_pipe.proofs.Rejoins.{after_ending, at_end}
-use Rattle.rsx_piece.proofs.Wholes.{joins_whole, joins_whole_at_end, joins_whole_ended}
+use Rattle.rsx_region.proofs.Wholes.{joins_whole, joins_whole_at_end, joins_whole_ended}
 use Rattle.rsx_region.specs.Halves.{halves_of}
 use Rattle.rsx_region.specs.Joins.{IsJoinedBy, IsJoinedEnded, IsJoinedGoing}
 use Rattle.rsx_region.specs.declared.piece.Piece.{Piece}

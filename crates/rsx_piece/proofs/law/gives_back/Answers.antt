@@ -1,5 +1,0 @@
-use Rattle.rsx_piece.proofs.Givings.{gives_back}
-use Rattle.rsx_piece.proofs.law.gives_back.Goals as goal
-
-pub returns : goal.returns
-returns g c = gives_back g.N.Machine
